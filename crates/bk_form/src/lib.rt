@@ -1,0 +1,4 @@
+// Formulas of the B Method: their operators, types and trees.
+#![tactic(auto)]
+
+pub mod operator;

@@ -1,0 +1,2 @@
+// Values.
+#![tactic(auto)]
