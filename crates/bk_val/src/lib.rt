@@ -1,2 +1,0 @@
-// Values.
-#![tactic(auto)]
