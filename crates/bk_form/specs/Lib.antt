@@ -1,1 +1,9 @@
 pub mod Formula
+pub mod OperatorCodes
+pub mod FormulaCodes
+pub mod TypeView
+pub mod TypeFalls
+pub mod TypeShown
+pub mod FormView
+pub mod FormFalls
+pub mod FormShown
