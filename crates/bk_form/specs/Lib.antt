@@ -7,3 +7,5 @@ pub mod TypeShown
 pub mod FormView
 pub mod FormFalls
 pub mod FormShown
+pub mod Table
+pub mod TableCodes
