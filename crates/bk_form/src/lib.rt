@@ -3,8 +3,10 @@
 
 pub mod form;
 pub mod operator;
+pub mod table;
 pub mod ty;
 
 pub use form::{Form, Part, View};
 pub use operator::{BinOp, Domain, UnOp};
+pub use table::VarTable;
 pub use ty::{Ty, TyView};
