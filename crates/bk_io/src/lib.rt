@@ -1,10 +1,16 @@
 //! Devices that give and take bytes: shelves of named files and sinks, each with a written meaning that contracts see.
 #![tactic(auto)]
 
+mod mem_shelf;
+mod mem_sink;
+mod schedule;
 mod shelf;
 mod sink;
+mod store;
 mod text;
 
+pub use mem_shelf::{MemShelf, SureShelf};
+pub use mem_sink::{MemSink, SureSink};
 pub use shelf::{Fetch, Shelf};
 pub use sink::{Sink, SinkFault};
 pub use text::{Memory, Text};
