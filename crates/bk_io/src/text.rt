@@ -1,5 +1,9 @@
 // Bytes that own their memory, and the error of want of memory.
 ghost use Rattle.std.specs.Prelude.{◌≡◌, ◌↔◌, IfOk, IsTrue, ℕ, List};
+ghost use Rattle.std.specs.Prelude.{nat_eq};
+ghost use Rattle.std.specs.Cmp.Lexicographic.{pointwise};
+ghost use Rattle.std.specs.Cmp.{partial_equiv_from_equiv};
+ghost use Rattle.std.proofs.lemmas.Cmp.{nat_list_eq_equiv};
 ghost use Rattle.bk_io.specs.Bytes.{AreBytes};
 
 use std::alloc::{AllocError, AllocFailed, Global};
@@ -77,9 +81,9 @@ impl Text {
 }
 
 impl PartialEq for Text {
-    ghost eq = { ? };
+    ghost eq = { pointwise nat_eq };
 
-    ghost laws = { ? };
+    ghost laws = { partial_equiv_from_equiv nat_list_eq_equiv };
 
     fn eq(&self, other: &Text) -> bool {
         self.equal(other)
@@ -87,5 +91,5 @@ impl PartialEq for Text {
 }
 
 impl Eq for Text {
-    ghost laws = { ? };
+    ghost laws = { nat_list_eq_equiv };
 }

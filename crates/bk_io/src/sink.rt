@@ -1,0 +1,59 @@
+// Where bytes go: what a put answers, and what it means.
+ghost use Rattle.std.specs.Prelude.{◌≡◌, ◌++◌, ℕ, List, Option, take, OnErr, IfOk};
+ghost use Rattle.std.specs.Option.{option_map};
+ghost use Rattle.bk_io.specs.Counts.{HasCause};
+ghost use Rattle.bk_io.specs.Pieces.{IsTaken};
+ghost use Rattle.bk_io.specs.declared.sink.SinkFault.TheVariants.{Memory};
+
+use crate::text;
+use std::alloc::{AllocError, AllocFailed};
+use thiserror::Error;
+
+/// Why a piece was not taken.
+#[derive(Clone, Copy, Debug, PartialEq, Eq, Error)]
+pub enum SinkFault {
+    #[error("the output could not be written")]
+    Failed,
+    #[error("out of memory")]
+    Memory,
+}
+
+impl From<AllocError> for SinkFault {
+    ghost from_gives = { λ _ e. e ≡ Memory };
+
+    fn from(_: AllocError) -> Self {
+        SinkFault::Memory
+    }
+}
+
+impl<T: Drop> From<AllocFailed<T>> for SinkFault {
+    ghost from_gives = { λ _ e. e ≡ Memory };
+
+    fn from(_: AllocFailed<T>) -> Self {
+        SinkFault::Memory
+    }
+}
+
+impl From<text::Memory> for SinkFault {
+    ghost from_gives = { λ _ e. e ≡ Memory };
+
+    fn from(_: text::Memory) -> Self {
+        SinkFault::Memory
+    }
+}
+
+/// A place for bytes in order. A sink in memory tells contracts its bytes; one over a stream tells none.
+pub trait Sink {
+    /// All bytes taken so far, in order, where they are told.
+    ghost written: { Self → Option (List ℕ) };
+
+    /// How often writing has failed.
+    ghost faults: { Self → ℕ };
+
+    /// Takes the first bytes of a piece, and answers how many.
+    fn put(&mut self, piece: &[u8]) -> Result<usize, SinkFault>
+        ensures taken { IfOk result (IsTaken piece.now) }
+        ensures ok { IfOk result (λ n. written self.new ≡ option_map (λ old. old ++ take n piece.now) (written self.old)) }
+        ensures err { OnErr result (written self.new ≡ written self.old) }
+        ensures failed { HasCause SinkFault.Failed (faults self.old) (faults self.new) result };
+}
