@@ -9,3 +9,4 @@ pub mod FormFalls
 pub mod FormShown
 pub mod Table
 pub mod TableCodes
+pub mod ArrayTable
