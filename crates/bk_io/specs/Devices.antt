@@ -1,5 +1,5 @@
 -- What contracts see of the devices in memory.
-use Rattle.std.specs.Prelude.{ℕ, List, List, String, Vec}
+use Rattle.std.specs.Prelude.{ℕ, List}
 use Rattle.bk_io.specs.Files.{Files, files_of}
 use Rattle.bk_io.specs.declared.schedule.Schedule.{Schedule}
 use Rattle.bk_io.specs.declared.mem_shelf.MemShelf.{MemShelf}
