@@ -10,3 +10,10 @@ pub mod FormShown
 pub mod Table
 pub mod TableCodes
 pub mod ArrayTable
+pub mod Search
+pub mod Role
+pub mod Operators
+pub mod Environment
+pub mod Meaning
+pub mod Replacement
+pub mod Laws

@@ -3,6 +3,7 @@
 
 pub mod arrays;
 pub mod form;
+pub mod laws;
 pub mod operator;
 pub mod table;
 pub mod token;
