@@ -10,6 +10,7 @@ use Rattle.bk_form.specs.Search.{Finder, IsSearch, is_nobody, no_choice}
 use Rattle.bk_form.specs.Environment.{Environment, under}
 use Rattle.bk_form.specs.Role.{quantifier_role, binary_role, element_type}
 use Rattle.bk_form.specs.Operators.{elements, first_of, passes, covers, is_partial_function, is_injective, is_in_binary, binary_value, binary_truth}
+use Rattle.bk_form.specs.Laws.{IsClassical, IsIndependent}
 use Rattle.bk_form.specs.Meaning.{Meaning, meaning, meanings, truth, of_truth, type_in, unary_meaning, binary_meaning, comprehension_meaning, lambda_meaning, range_types}
 use Rattle.bk_form.specs.declared.operator.UnOp.TheVariants.{Not}
 use Rattle.bk_form.specs.declared.operator.BinOp.{BinOp}
@@ -169,3 +170,21 @@ not_some find law e ts p =
     let r : List MathValue → Bool = λ vs. are_of_types (set_size e.table) ts vs && not (not (truth find (under e ts vs) p)) in
     let same : q ≡ r = λ i vs. are_of_types (set_size e.table) ts vs && sym (not_not (truth find (under e ts vs) p)) i in
     not_not (no_choice find q) ∙ no_choice-same find find law law q r same
+
+pub classical : IsClassical
+classical = record {
+  excluded_middle = excluded_middle;
+  not_not = λ find e p. not_not (truth find e p);
+  not_and = not_and;
+  not_or = not_or;
+  implies_or = λ find e p q. refl;
+  not_all = λ find e ts p. refl;
+  not_some = not_some;
+}
+
+pub independent : IsIndependent
+independent = record {
+  values = λ f g l m e p. ap (λ (x : Meaning). x.value) (meaning-same f g l m e p);
+  truths = λ f g l m e p. ap (λ (x : Meaning). x.truth) (meaning-same f g l m e p);
+  domains = λ f g l m e v p. ap (λ (x : Meaning). x.contains v) (meaning-same f g l m e p);
+}

@@ -18,7 +18,8 @@ use Rattle.bk_form.specs.declared.operator.Domain.{Domain}
 use Rattle.bk_form.specs.declared.operator.Domain.TheVariants.{Bool as Booleans, Enum}
 use Rattle.bk_form.proofs.Members.{Has, Has-map-then, Has-filter-then, Has-flat_map-then, elements-then, and-true, and-both}
 use Rattle.bk_form.proofs.Roles.{if_holds-gives, if_predicate-gives, if_value-gives, meaning-role, meanings-role, types-push}
-use Rattle.bk_form.proofs.Givers.{quantifier-gives}
+use Rattle.bk_form.proofs.Givers.{quantifier-gives, value-meaning}
+use Rattle.bk_form.specs.Laws.{IsSoundTyping}
 use Rattle.bk_form.proofs.Listed.{gives-same, Lists, ListedRoles, gives-listed}
 use Rattle.bk_form.proofs.Typed.{Of, OfRole, set-of, elements-of, unary-of, binary-of}
 
@@ -228,3 +229,9 @@ module _ (find : Finder) where
   -- by the typing of the formula
   pub typed-value : (e : Environment) → IsWellFormed e.table → IsTyped e → (f : Formula) (t : ValueType) → role e.table (bound_types e) f ≡ gives t → is_value_of (set_size e.table) t (value find e f) ≡ true
   typed-value e w h f t r = value-of e w h f t (meaning-role find e f ∙ r)
+
+pub sound_typing : IsSoundTyping
+sound_typing = record {
+  typed = typed-value;
+  members = λ find e f t r v. ap (λ (m : Meaning). m.contains v) (value-meaning find e f t (meaning-role find e f ∙ r));
+}

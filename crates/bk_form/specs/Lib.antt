@@ -16,4 +16,5 @@ pub mod Operators
 pub mod Environment
 pub mod Meaning
 pub mod Replacement
+pub mod Defined
 pub mod Laws

@@ -1,16 +1,56 @@
 //! Laws of the meaning of formulas. Each is the contract of a function that does nothing.
 
-ghost use Rattle.std.specs.Prelude.{◌≡◌, ◌↔◌, true};
-ghost use Rattle.bk_form.specs.Laws.{AllMeans, SomeMeans};
+ghost use Rattle.bk_form.specs.Laws.{AllMeans, SomeMeans, IsIndependent, IsClassical, IsSoundTyping, ReplacementMeans, ComprehensionHas, LambdaHas, IntervalHas, TotalMeans, OntoMeans, NoTotalFunction, Examples};
 
-/// A universal predicate is true exactly where its body is for every choice of values of the types.
-pub fn all_means()
-    ensures { AllMeans }
+/// What the quantifiers say.
+pub fn quantifiers()
+    ensures all { AllMeans }
+    ensures some { SomeMeans }
 {
 }
 
-/// An existential predicate is true exactly where there is a choice of values of the types for which its body is.
-pub fn some_means()
-    ensures { SomeMeans }
+/// Two searches give every formula the same meaning.
+pub fn search_is_free()
+    ensures { IsIndependent }
+{
+}
+
+/// The laws of classical logic.
+pub fn classical_logic()
+    ensures { IsClassical }
+{
+}
+
+/// A formula that gives a type has a value of it.
+pub fn typing_is_sound()
+    ensures { IsSoundTyping }
+{
+}
+
+/// What a formula means once terms stand in place of its variables.
+pub fn replacement_means()
+    ensures { ReplacementMeans }
+{
+}
+
+/// The members of comprehensions, lambdas and intervals.
+pub fn members()
+    ensures comprehension { ComprehensionHas }
+    ensures lambda { LambdaHas }
+    ensures interval { IntervalHas }
+{
+}
+
+/// What is total and what is onto.
+pub fn arrows()
+    ensures total { TotalMeans }
+    ensures onto { OntoMeans }
+    ensures infinite { NoTotalFunction }
+{
+}
+
+/// Small cases, to be checked by hand.
+pub fn examples()
+    ensures { Examples }
 {
 }
