@@ -27,6 +27,32 @@ fn a_shelf_over_real_files(rt: HostRuntime) -> Result<(), Fail> {
     Ok(())
 }
 
+#[test]
+fn a_file_of_several_pieces(rt: HostRuntime) -> Result<(), Fail> {
+    let alloc = rt.alloc();
+    let long = vec![in alloc; b'x'; 5000]?;
+    fs::write(&rt, "long", long.as_slice())?;
+    let mut shelf = FileShelf::new(&rt);
+    let mut into = Vec::new(alloc);
+    assert_eq!(rt; shelf.fetch("long", 5000, &mut into), Ok(()));
+    assert_eq!(rt; into, long);
+    assert_eq!(rt; shelf.fetch("long", 4999, &mut into), Err(Fetch::TooLong));
+    assert_eq!(rt; into, long);
+    Ok(())
+}
+
+#[test]
+fn a_text_is_put_whole(rt: HostRuntime) -> Result<(), Fail> {
+    let alloc = rt.alloc();
+    let mut sink = MemSink::new(alloc, 8, 3, vec![in alloc; 3]?)?;
+    assert_eq!(rt; put_all(&mut sink, b"sets"), Ok(()));
+    assert_eq!(rt; put_all(&mut sink, b"end"), Err(SinkFault::Failed));
+    assert_eq!(rt; sink.written(), b"sets".as_slice());
+    let mut out = StdSink::new(&rt);
+    assert_eq!(rt; put_all(&mut out, b"put whole\n"), Ok(()));
+    Ok(())
+}
+
 fn two_files(alloc: Global) -> Result<Vec<(String, Vec<u8>)>, Fail> {
     Ok(vec![in alloc;
         (String::from_str(alloc, "Main")?, b"MACHINE".to_vec(alloc)?),
