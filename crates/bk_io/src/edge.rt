@@ -1,6 +1,9 @@
 // The edge to the system: a shelf over its files and a sink over its standard output. They tell no bytes.
-ghost use Rattle.std.specs.Prelude.{◌≡◌, ◌+◌, None, take, length, vec_len, OnOk};
+ghost use Rattle.std.specs.Prelude.{◌≡◌, ◌≢◌, None, take, length, OnOk, OnErr, IfOk};
+ghost use Rattle.bk_io.specs.Counts.{CountsCalls, HasCause};
+ghost use Rattle.bk_io.specs.Edge.{file_faults, file_absences, std_faults};
 ghost use Rattle.bk_io.specs.Files.{GainsUpTo};
+ghost use Rattle.bk_io.specs.Pieces.{IsTaken};
 
 use crate::{Fetch, Shelf, Sink, SinkFault};
 use std::fs::File;
@@ -12,14 +15,17 @@ const PIECE: usize = 4096;
 
 /// The system's files. A name is a path from the working directory.
 #[derive(Drop)]
-pub struct FileShelf<'a, R: Files> {
+pub struct FileShelf<'a, R> {
     rt: &'a R,
     faults: u64,
     absences: u64,
 }
 
-impl<'a, R: Files> FileShelf<'a, R> {
-    pub fn new(rt: &'a R) -> Self {
+impl<'a, R> FileShelf<'a, R> {
+    pub fn new(rt: &'a R) -> Self
+        ensures faults { file_faults result ≡ 0 }
+        ensures absences { file_absences result ≡ 0 }
+    {
         FileShelf {
             rt,
             faults: 0,
@@ -38,12 +44,7 @@ fn refusal(error: &io::Error) -> Fetch {
 
 // After an error some bytes may stand at the end of `into`.
 #[tactic(auto, using(crate::proofs::Gains::gains_from_front))]
-fn read_file<R: Files>(
-    rt: &R,
-    name: &str,
-    max: usize,
-    into: &mut Vec<u8>,
-) -> Result<(), Fetch>
+fn read_file<R: Files>(rt: &R, name: &str, max: usize, into: &mut Vec<u8>) -> Result<(), Fetch>
     ensures kept { take (length into.old.items) into.new.items ≡ into.old.items }
     ensures ok { OnOk result (GainsUpTo max into.old.items into.new.items) }
 {
@@ -53,9 +54,7 @@ fn read_file<R: Files>(
     loop {
         // One byte more than may come tells a longer file.
         let room = left.saturating_add(1).min(PIECE);
-        let count = file
-            .read(&mut piece[..room])
-            .map_err(|_| Fetch::Failed)?;
+        let count = file.read(&mut piece[..room]).map_err(|_| Fetch::Failed)?;
         if count == 0 {
             return Ok(());
         }
@@ -70,11 +69,18 @@ fn read_file<R: Files>(
 impl<R: Files> Shelf for FileShelf<'_, R> {
     ghost files = { λ _. None };
 
-    ghost faults = { λ shelf. shelf.faults };
+    ghost faults = { file_faults };
 
-    ghost absences = { λ shelf. shelf.absences };
+    ghost absences = { file_absences };
 
-    fn fetch(&mut self, name: &str, max: usize, into: &mut Vec<u8>) -> Result<(), Fetch> {
+    fn fetch(&mut self, name: &str, max: usize, into: &mut Vec<u8>) -> Result<(), Fetch>
+        ensures failed { HasCause Fetch.Failed (file_faults self.old) (file_faults self.new) result }
+        ensures missing { HasCause Fetch.Missing (file_absences self.old) (file_absences self.new) result }
+        ensures ok { OnOk result (GainsUpTo max into.old.items into.new.items) }
+        ensures err { OnErr result (into.new.items ≡ into.old.items) }
+        ensures faults { CountsCalls Fetch.Failed (file_faults self.old) (file_faults self.new) result }
+        ensures absences { CountsCalls Fetch.Missing (file_absences self.old) (file_absences self.new) result }
+    {
         let start = into.len();
         let answer = read_file(self.rt, name, max, into);
         if answer.is_err() {
@@ -91,13 +97,15 @@ impl<R: Files> Shelf for FileShelf<'_, R> {
 
 /// Standard output. What is put is written at once, in order.
 #[derive(Drop)]
-pub struct StdSink<'a, P: Print> {
+pub struct StdSink<'a, P> {
     out: &'a P,
     faults: u64,
 }
 
-impl<'a, P: Print> StdSink<'a, P> {
-    pub fn new(out: &'a P) -> Self {
+impl<'a, P> StdSink<'a, P> {
+    pub fn new(out: &'a P) -> Self
+        ensures { std_faults result ≡ 0 }
+    {
         StdSink { out, faults: 0 }
     }
 }
@@ -105,9 +113,14 @@ impl<'a, P: Print> StdSink<'a, P> {
 impl<P: Print> Sink for StdSink<'_, P> {
     ghost written = { λ _. None };
 
-    ghost faults = { λ sink. sink.faults };
+    ghost faults = { std_faults };
 
-    fn put(&mut self, piece: &[u8]) -> Result<usize, SinkFault> {
+    fn put(&mut self, piece: &[u8]) -> Result<usize, SinkFault>
+        ensures taken { IfOk result (IsTaken piece.now) }
+        ensures failed { HasCause SinkFault.Failed (std_faults self.old) (std_faults self.new) result }
+        ensures faults { CountsCalls SinkFault.Failed (std_faults self.old) (std_faults self.new) result }
+        ensures no_memory { result ≢ Err SinkFault.Memory }
+    {
         match self.out.write_some(piece) {
             Ok(count) if count > 0 || piece.is_empty() => Ok(count),
             // A stream that takes nothing has failed.

@@ -1,7 +1,7 @@
 // Shelves over files in memory.
-ghost use Rattle.std.specs.Prelude.{◌≡◌, ◌≢◌, ◌↔◌, ◌+◌, ◌-◌, ◌^◌, ◌<◌, ◌≤◌, All, Contains, Option, Some, OnOk, OnErr, IfSome};
+ghost use Rattle.std.specs.Prelude.{◌≡◌, ◌≢◌, ◌↔◌, ◌+◌, ◌-◌, ◌^◌, ◌<◌, ◌≤◌, All, Contains, Option, Some, OnOk, OnErr, IfSome, IsTrue};
 ghost use Rattle.std.specs.Option.{option_copied};
-ghost use Rattle.bk_io.specs.Counts.{counted, HasCause, Rose};
+ghost use Rattle.bk_io.specs.Counts.{counted, CountsCalls, HasCause, Rose};
 ghost use Rattle.bk_io.specs.Files.{Files, files_of, file_named, HasDistinctNames, GainsUpTo, AnswersFile};
 ghost use Rattle.bk_io.specs.Devices.{shelf_files, shelf_failing, shelf_calls, shelf_faults, shelf_absences, sure_files, sure_absences};
 
@@ -17,6 +17,20 @@ fn find_file<'a>(files: &'a [(String, Vec<u8>)], name: &str) -> Option<&'a [u8]>
         }
     }
     None
+}
+
+/// Whether no two of the files have one name, as a shelf asks.
+pub fn have_distinct_names(files: &[(String, Vec<u8>)]) -> bool
+    ensures { IsTrue result ↔ HasDistinctNames (files_of files.now) }
+{
+    let mut rest = files;
+    while let Some((file, others)) = rest.split_first() {
+        if find_file(others, file.0.as_str()).is_some() {
+            return false;
+        }
+        rest = others;
+    }
+    true
 }
 
 // A fetch that does not fail.
@@ -83,6 +97,10 @@ impl Shelf for MemShelf {
         // The calls that are to fail do, and no others.
         ensures scheduled { (result ≡ Err Fetch.Failed) ↔ Contains (shelf_failing self.old) (shelf_calls self.old + 1) }
         ensures calls { shelf_calls self.new ≡ counted (shelf_calls self.old) }
+        ensures faults { CountsCalls Fetch.Failed (shelf_faults self.old) (shelf_faults self.new) result }
+        ensures absences { CountsCalls Fetch.Missing (shelf_absences self.old) (shelf_absences self.new) result }
+        // So the count of faults rises with a failed call alone.
+        ensures rises { Rose (shelf_faults self.old) (shelf_faults self.new) ↔ (result ≡ Err Fetch.Failed) }
         ensures failing { shelf_failing self.new ≡ shelf_failing self.old }
     {
         if self.schedule.fails() {
@@ -121,7 +139,15 @@ impl Shelf for SureShelf {
 
     ghost absences = { sure_absences };
 
-    fn fetch(&mut self, name: &str, max: usize, into: &mut Vec<u8>) -> Result<(), Fetch> {
+    fn fetch(&mut self, name: &str, max: usize, into: &mut Vec<u8>) -> Result<(), Fetch>
+        ensures same_files { sure_files self.new ≡ sure_files self.old }
+        ensures missing { HasCause Fetch.Missing (sure_absences self.old) (sure_absences self.new) result }
+        ensures err { OnErr result (into.new.items ≡ into.old.items) }
+        // No fault rises.
+        ensures told { AnswersFile (file_named (sure_files self.old) name.now) max ⊥ into.old.items into.new.items result }
+        ensures never_fails { result ≢ Err Fetch.Failed }
+        ensures absences { CountsCalls Fetch.Missing (sure_absences self.old) (sure_absences self.new) result }
+    {
         let answer = append_file(&self.files, name, max, into);
         if answer == Err(Fetch::Missing) {
             self.absences = self.absences.saturating_add(1);

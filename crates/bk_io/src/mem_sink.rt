@@ -1,6 +1,6 @@
 // Sinks over bytes in memory.
 ghost use Rattle.std.specs.Prelude.{◌≡◌, ◌↔◌, ◌+◌, ◌-◌, ◌^◌, ◌<◌, ◌≤◌, ◌++◌, [], All, Contains, Some, min, length, take, vec_len, vec_capacity, OnOk, OnErr, IfOk, IfErr};
-ghost use Rattle.bk_io.specs.Counts.{counted, HasCause};
+ghost use Rattle.bk_io.specs.Counts.{counted, CountsCalls, HasCause, Rose};
 ghost use Rattle.bk_io.specs.Pieces.{IsTaken};
 
 use crate::schedule::Schedule;
@@ -71,6 +71,9 @@ impl Sink for MemSink {
         ensures memory { result ≡ Err SinkFault.Memory →
             sink_room self.old < length (sink_written self.old) + min (sink_step self.old) (length piece.now) }
         ensures calls { sink_calls self.new ≡ counted (sink_calls self.old) }
+        ensures faults { CountsCalls SinkFault.Failed (sink_faults self.old) (sink_faults self.new) result }
+        // So the count of faults rises with a failed put alone.
+        ensures rises { Rose (sink_faults self.old) (sink_faults self.new) ↔ (result ≡ Err SinkFault.Failed) }
         ensures same_failing { sink_failing self.new ≡ sink_failing self.old }
         ensures same_step { sink_step self.new ≡ sink_step self.old }
         ensures same_room { sink_room self.new ≡ sink_room self.old }
