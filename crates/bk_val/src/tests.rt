@@ -130,9 +130,9 @@ fn nests(rt: HostRuntime) -> Result<(), Fail> {
     assert!(rt; ValSet::new(alloc).is_empty());
     for (i, value) in set.as_slice().iter().enumerate() {
         assert!(rt; i < rising.len() && *value == rising[i], "at {i}");
-        is_well_formed(value);
+        value_is_well_formed(value);
     }
-    are_well_formed(set.as_slice());
+    values_are_well_formed(set.as_slice());
     Ok(())
 }
 
