@@ -21,12 +21,14 @@ pub fn rising_is_sorted()
 
 /// Sets with the same elements are equal.
 pub fn sets_are_their_members()
-    ensures { (xs ys : List MathValue) → IsStrictlySorted xs → IsStrictlySorted ys → ((q : MathValue) → has xs q ≡ has ys q) → xs ≡ ys }
+    ensures { (xs ys : List MathValue) → IsStrictlySorted xs → IsStrictlySorted ys →
+        ((q : MathValue) → has xs q ≡ has ys q) → xs ≡ ys }
 {}
 
 /// The domain of a relation holds the first parts of its pairs.
 pub fn domain_holds_first_parts()
-    ensures { (r : List MathValue) (x : MathValue) → (in_domain r x ≡ true) ↔ ((y : MathValue) × (has r (pair x y) ≡ true)) }
+    ensures { (r : List MathValue) (x : MathValue) →
+        (in_domain r x ≡ true) ↔ ((y : MathValue) × (has r (pair x y) ≡ true)) }
 {}
 
 /// What stands for an undefined value of each type.
@@ -40,12 +42,14 @@ pub fn base_values()
 
 /// The base of each type is a value of the type, where every enumerated set has an element.
 pub fn base_is_value()
-    ensures { (sizes : ℕ → ℕ) → ((n : ℕ) → 0 < sizes n) → (t : ValueType) → is_value_of sizes t (base_of t) ≡ true }
+    ensures { (sizes : ℕ → ℕ) → ((n : ℕ) → 0 < sizes n) →
+        (t : ValueType) → is_value_of sizes t (base_of t) ≡ true }
 {}
 
 /// Division rounds toward zero.
 pub fn division_rounds_toward_zero()
-    ensures rest { (a b : ℤ) → b ≢ pos 0 → (r : ℤ) × ((quotient_of a b *ℤ b +ℤ r ≡ a) × (nat_abs r < nat_abs b)) }
+    ensures rest { (a b : ℤ) → b ≢ pos 0 →
+        (r : ℤ) × ((quotient_of a b *ℤ b +ℤ r ≡ a) × (nat_abs r < nat_abs b)) }
     ensures magnitude { (a b : ℤ) → b ≢ pos 0 → nat_abs (quotient_of a b) ≡ nat_abs a / nat_abs b }
 {}
 
