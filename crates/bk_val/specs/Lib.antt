@@ -1,4 +1,5 @@
 pub mod CmpLaws
+pub mod Number
 pub mod Sets
 pub mod Value
 pub mod ValueFalls

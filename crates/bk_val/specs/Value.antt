@@ -1,5 +1,5 @@
 -- The mathematical values, their order and the sets of them.
-use Rattle.std.specs.Prelude.{◌≡◌, ℕ, ◌+◌, ◌^◌, ℤ, pos, neg_ℤ, Bool, true, false, ◌&&◌, nat_lt, int_le, int_lt, List, [], ◌∷◌, refl}
+use Rattle.std.specs.Prelude.{◌≡◌, ℕ, ◌+◌, ◌^◌, ℤ, pos, negsuc, Bool, true, false, ◌&&◌, nat_lt, List, [], ◌∷◌, refl}
 use Rattle.std.specs.Ordering.{nat_cmp, int_cmp, bool_cmp, ordering_then}
 use Rattle.std.specs.declared.cmp.Ordering.{Ordering}
 use Rattle.std.specs.declared.cmp.Ordering.TheVariants.{Less, Equal, Greater}
@@ -22,16 +22,19 @@ mutual
     none : MathValues
     more : MathValue → MathValues → MathValues
 
+-- the elements as a list
 abbrev pub list_of : MathValues → List MathValue
 list_of none = []
 list_of (more x xs) = x ∷ list_of xs
 
+-- a list as the elements of a set
 abbrev pub values_of : List MathValue → MathValues
 values_of [] = none
 values_of (x ∷ xs) = more x (values_of xs)
 
 abbrev mutual
-  -- numbers come first, then truth values, elements, pairs and sets
+  -- the one order of values: numbers come first, then truth values, elements, pairs and sets; false is
+  -- below true, elements go by their set and then their place, pairs by the first part and then the second
   pub value_cmp : MathValue → MathValue → Ordering
   value_cmp (int a) (int b) = int_cmp a b
   value_cmp (int a) _ = Less
@@ -74,11 +77,16 @@ abbrev pub is_rising : MathValues → Bool
 is_rising none = true
 is_rising (more v vs) = rises_from v vs
 
+-- whether a whole number lies in i128, from -2 ^ 127 to 2 ^ 127 - 1; `negsuc n` is -n - 1
+abbrev pub fits_i128 : ℤ → Bool
+fits_i128 (pos n) = nat_lt n (2 ^ 127)
+fits_i128 (negsuc n) = nat_lt n (2 ^ 127)
+
 abbrev mutual
   -- whether the program's values can hold it: each number lies in i128, each number of an element
   -- in u32, and each set at every depth rises
   pub is_storable : MathValue → Bool
-  is_storable (int z) = int_le (neg_ℤ (pos (2 ^ 127))) z && int_lt z (pos (2 ^ 127))
+  is_storable (int z) = fits_i128 z
   is_storable (bool b) = true
   is_storable (elem s i) = nat_lt s (2 ^ 32) && nat_lt i (2 ^ 32)
   is_storable (pair a b) = is_storable a && is_storable b
@@ -89,8 +97,13 @@ abbrev mutual
   are_storable none = true
   are_storable (more v vs) = is_storable v && are_storable vs
 
+-- the list is that of the elements of a set that can be held
+abbrev pub IsStoredSet : List MathValue → Type 0
+IsStoredSet xs = is_storable (set (values_of xs)) ≡ true
+
 -- ---- how large a value is, which falls on the way to its parts
 abbrev mutual
+  -- the weight of a value is more than those of its parts
   pub weight : MathValue → ℕ
   weight (int z) = 1
   weight (bool b) = 1
@@ -98,10 +111,12 @@ abbrev mutual
   weight (pair a b) = weight a + weight b + 1
   weight (set s) = weights s + 1
 
+  -- the weight of the elements of a set
   pub weights : MathValues → ℕ
   weights none = 0
   weights (more x xs) = weight x + weights xs + 1
 
+-- the weight of a list of values
 abbrev pub list_weight : List MathValue → ℕ
 list_weight [] = 0
 list_weight (x ∷ xs) = weight x + list_weight xs + 1
@@ -141,5 +156,6 @@ mutual
       cc (code_of-inj x y p, codes_of-inj xs ys q)
   codes_of-inj _ _ e = cc
 
+-- a value is told by its code
 abbrev pub value_code : Coded MathValue
 value_code = record { code = code_of; inj = code_of-inj }
