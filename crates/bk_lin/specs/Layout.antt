@@ -1,0 +1,24 @@
+-- How the work area holds the facts of the lines: one after another, each as its constant and then its coefficients.
+use Rattle.std.specs.Prelude.{◌≡◌, ℕ, ◌+◌, ◌*◌, ℤ, pos, Bool, List, [], ◌∷◌, ◌++◌, map, take, drop, length, All}
+use Rattle.std.specs.List.{range_with_len}
+use Rattle.bk_lin.specs.declared.fact.Fact.{Fact}
+use Rattle.bk_lin.specs.Inequality.{Inequality, zero_of}
+use Rattle.bk_lin.specs.Certificate.{inequalities}
+
+-- the fact that a piece of the work area holds
+abbrev pub held_in : List ℤ → Inequality
+held_in [] = zero_of 0
+held_in (constant ∷ coefs) = record { coefs = coefs; constant = constant }
+
+-- the fact of line k + 1, where each takes `size` numbers
+abbrev pub held_at : ℕ → List ℤ → ℕ → Inequality
+held_at size made k = held_in (take size (drop (k * size) made))
+
+-- the given facts, and those of so many lines
+abbrev pub standing_of : List Fact → ℕ → ℕ → List ℤ → List Inequality
+standing_of given size lines made = inequalities given ++ map (held_at size made) (range_with_len 0 lines)
+
+-- each fact has a coefficient less than the numbers it takes, and the lines' facts fill their part of the work area
+pub record IsLaidOut (given : List Fact) (size lines : ℕ) (made : List ℤ) : Type 0 where
+  pub given_width : All (λ f. length f.coefs.items + 1 ≡ size) given
+  pub made_length : length made ≡ lines * size
