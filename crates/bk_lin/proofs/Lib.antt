@@ -1,3 +1,4 @@
 pub mod Whole
 pub mod Sound
 pub mod Held
+pub mod Adding

@@ -66,6 +66,6 @@ abbrev pub is_i128 : ℤ → Bool
 is_i128 (pos n) = nat_lt n (2 ^ 127)
 is_i128 (negsuc n) = nat_lt n (2 ^ 127)
 
--- each coefficient and the constant is an i128
+-- the constant and each coefficient is an i128
 abbrev pub is_narrow : Inequality → Bool
-is_narrow p = list_all is_i128 p.coefs && is_i128 p.constant
+is_narrow p = is_i128 p.constant && list_all is_i128 p.coefs

@@ -5,6 +5,10 @@ use Rattle.bk_lin.specs.declared.fact.Fact.{Fact}
 use Rattle.bk_lin.specs.Inequality.{Inequality, zero_of}
 use Rattle.bk_lin.specs.Certificate.{inequalities}
 
+-- a fact that the code reads
+abbrev pub shown : List ℤ → ℤ → Inequality
+shown coefs constant = record { coefs = coefs; constant = constant }
+
 -- the fact that a piece of the work area holds
 abbrev pub held_in : List ℤ → Inequality
 held_in [] = zero_of 0

@@ -1,8 +1,8 @@
 //! The facts that stand before a line: the given ones, and those of the lines before it.
 
-ghost use Rattle.std.specs.Prelude.{◌≡◌, ◌≤◌, ◌<◌, ◌+◌, ◌↔◌, IsTrue, length};
+ghost use Rattle.std.specs.Prelude.{◌≡◌, ◌≤◌, ◌<◌, ◌+◌, ◌↔◌, ◌∷◌, IsTrue, length, slice_index_or, pos};
 ghost use Rattle.bk_lin.specs.Certificate.{is_number, fact_at};
-ghost use Rattle.bk_lin.specs.Layout.{standing_of, held_at, held_in, IsLaidOut};
+ghost use Rattle.bk_lin.specs.Layout.{shown, standing_of, held_at, held_in, IsLaidOut};
 
 use crate::fact::Fact;
 
@@ -11,6 +11,16 @@ use crate::fact::Fact;
 pub struct Row<'a> {
     pub coefs: &'a [i128],
     pub constant: i128,
+}
+
+impl Row<'_> {
+    /// The constant at 0, and coefficient k at k + 1.
+    pub fn entry(&self, k: usize) -> i128
+        requires { k < length self.now.coefs.now + 1 }
+        ensures { result ≡ slice_index_or (self.now.constant ∷ self.now.coefs.now) k (pos 0) }
+    {
+        if k == 0 { self.constant } else { self.coefs[k - 1] }
+    }
 }
 
 /// The facts of lines lie one after another in `made`, `size` numbers each: the constant, then the coefficients.
@@ -37,7 +47,7 @@ impl<'a> Standing<'a> {
         requires laid_out { IsLaidOut self.now.given.now self.now.size self.now.lines self.now.made.now }
         requires has_constant { 0 < self.now.size }
         requires stands { IsTrue (is_number (standing_of self.now.given.now self.now.size self.now.lines self.now.made.now) number) }
-        ensures fact { record { coefs = result.coefs.now; constant = result.constant } ≡ fact_at (standing_of self.now.given.now self.now.size self.now.lines self.now.made.now) number }
+        ensures fact { shown result.coefs.now result.constant ≡ fact_at (standing_of self.now.given.now self.now.size self.now.lines self.now.made.now) number }
         ensures width { length result.coefs.now + 1 ≡ self.now.size }
     {
         let index = number as usize - 1;
@@ -53,7 +63,7 @@ impl<'a> Standing<'a> {
         requires laid_out { IsLaidOut self.now.given.now self.now.size self.now.lines self.now.made.now }
         requires made { line < self.now.lines }
         requires has_constant { 0 < self.now.size }
-        ensures fact { record { coefs = result.coefs.now; constant = result.constant } ≡ held_at self.now.size self.now.made.now line }
+        ensures fact { shown result.coefs.now result.constant ≡ held_at self.now.size self.now.made.now line }
         ensures width { length result.coefs.now + 1 ≡ self.now.size }
     {
         let start = line * self.size;
@@ -63,7 +73,7 @@ impl<'a> Standing<'a> {
 
 fn read_row(held: &[i128]) -> Row<'_>
     requires { 0 < length held.now }
-    ensures fact { record { coefs = result.coefs.now; constant = result.constant } ≡ held_in held.now }
+    ensures fact { shown result.coefs.now result.constant ≡ held_in held.now }
     ensures width { length result.coefs.now + 1 ≡ length held.now }
 {
     Row { coefs: &held[1..], constant: held[0] }
