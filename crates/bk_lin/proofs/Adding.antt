@@ -18,12 +18,13 @@ added m sums coefs = sum_of_coefs sums (map (λ c. m *ℤ c) coefs)
 abbrev pub all_fit : ℤ → List ℤ → List ℤ → Bool
 all_fit m sums coefs = list_all is_i128 (map (λ c. m *ℤ c) coefs) && list_all is_i128 (added m sums coefs)
 
-both_heads : (p q r s : Bool) → (p && r) ≡ true → ((p && q) && (r && s)) ≡ (q && s)
+-- tests of two lists, where both heads pass, or one fails
+pub both_heads : (p q r s : Bool) → (p && r) ≡ true → ((p && q) && (r && s)) ≡ (q && s)
 both_heads true q true s h = refl
 both_heads true q false s h = cc
 both_heads false q r s h = cc
 
-a_head_fails : (p q r s : Bool) → (p && r) ≡ false → ((p && q) && (r && s)) ≡ false
+pub a_head_fails : (p q r s : Bool) → (p && r) ≡ false → ((p && q) && (r && s)) ≡ false
 a_head_fails true true true s h = cc
 a_head_fails true false true s h = refl
 a_head_fails true true false s h = refl

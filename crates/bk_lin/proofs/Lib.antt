@@ -2,3 +2,4 @@ pub mod Whole
 pub mod Sound
 pub mod Held
 pub mod Adding
+pub mod Summing

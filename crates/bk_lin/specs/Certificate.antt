@@ -33,29 +33,41 @@ fact_at standing n = slice_index_or standing (n - 1) (zero_of 0)
 abbrev pub multiples_of : List Inequality → List (ℤ × ℕ) → List Inequality
 multiples_of standing parts = map (λ (p : ℤ × ℕ). times p.0 (fact_at standing p.1)) parts
 
+-- the sum of multiples, from the zero fact
+abbrev pub sum_fact : ℕ → List Inequality → List (ℤ × ℕ) → Inequality
+sum_fact width standing parts = plus_all (zero_of width) (multiples_of standing parts)
+
 -- the fact that a line makes
 abbrev pub line_fact : ℕ → List Inequality → Line → Inequality
-line_fact width standing (Sum parts) = plus_all (zero_of width) (multiples_of standing parts.items)
+line_fact width standing (Sum parts) = sum_fact width standing parts.items
 line_fact width standing (Div n d) = quotient_of (fact_at standing n) d
 
 -- each product and each partial sum, left to right, is within the code's numbers
 abbrev pub sums_fit : ℕ → List Inequality → Bool
 sums_fit width products = list_all is_narrow products && list_all is_narrow (partial_sums (zero_of width) products)
 
--- what is wrong with the line of a number: the numbers of facts come first, then the signs, the division, the widths
-abbrev pub line_fault : ℕ → ℕ → List Inequality → Line → Option CertFault
-line_fault width number standing (Sum parts) =
-  if list_all (λ (p : ℤ × ℕ). is_number standing p.1) parts.items
-  then if list_all (λ (p : ℤ × ℕ). int_le (pos 0) p.0) parts.items
-    then if sums_fit width (multiples_of standing parts.items) then None else Some (TooWide number)
+-- what is wrong with a sum that is the line of a number: the numbers of facts come first, then the signs, the widths
+abbrev pub sum_fault : ℕ → ℕ → List Inequality → List (ℤ × ℕ) → Option CertFault
+sum_fault width number standing parts =
+  if list_all (λ (p : ℤ × ℕ). is_number standing p.1) parts
+  then if list_all (λ (p : ℤ × ℕ). int_le (pos 0) p.0) parts
+    then if sums_fit width (multiples_of standing parts) then None else Some (TooWide number)
     else Some (Negative number)
   else Some (BadLine number)
-line_fault width number standing (Div n d) =
+
+-- what is wrong with a division: the fact's number comes first, then the divisor's sign, then that it divides each coefficient
+abbrev pub quotient_fault : ℕ → List Inequality → ℕ → ℤ → Option CertFault
+quotient_fault number standing n d =
   if is_number standing n
   then if int_le (pos 1) d
     then if is_divisible d (fact_at standing n) then None else Some (BadLine number)
     else Some (Negative number)
   else Some (BadLine number)
+
+-- what is wrong with the line of a number
+abbrev pub line_fault : ℕ → ℕ → List Inequality → Line → Option CertFault
+line_fault width number standing (Sum parts) = sum_fault width number standing parts.items
+line_fault width number standing (Div n d) = quotient_fault number standing n d
 
 -- the given facts, followed by the fact of each line
 abbrev pub facts_after : ℕ → List Inequality → List Line → List Inequality

@@ -1,7 +1,8 @@
 -- How the work area holds the facts of the lines: one after another, each as its constant and then its coefficients.
-use Rattle.std.specs.Prelude.{◌≡◌, ℕ, ◌+◌, ◌*◌, ℤ, pos, Bool, List, [], ◌∷◌, ◌++◌, map, take, drop, length, All}
+use Rattle.std.specs.Prelude.{◌≡◌, ℕ, ◌+◌, ◌*◌, ◌^◌, ◌<◌, ℤ, pos, Bool, List, [], ◌∷◌, ◌++◌, map, take, drop, length, All}
 use Rattle.std.specs.List.{range_with_len}
 use Rattle.bk_lin.specs.declared.fact.Fact.{Fact}
+use Rattle.bk_lin.specs.declared.standing.Standing.{Standing}
 use Rattle.bk_lin.specs.Inequality.{Inequality, zero_of}
 use Rattle.bk_lin.specs.Certificate.{inequalities}
 
@@ -22,7 +23,13 @@ held_at size made k = held_in (take size (drop (k * size) made))
 abbrev pub standing_of : List Fact → ℕ → ℕ → List ℤ → List Inequality
 standing_of given size lines made = inequalities given ++ map (held_at size made) (range_with_len 0 lines)
 
+-- the facts that stand before a line
+abbrev pub facts_of : Standing → List Inequality
+facts_of s = standing_of s.given.now s.size s.lines s.made.now
+
 -- each fact has a coefficient less than the numbers it takes, and the lines' facts fill their part of the work area
-pub record IsLaidOut (given : List Fact) (size lines : ℕ) (made : List ℤ) : Type 0 where
-  pub given_width : All (λ f. length f.coefs.items + 1 ≡ size) given
-  pub made_length : length made ≡ lines * size
+pub record IsLaidOut (s : Standing) : Type 0 where
+  pub has_constant : 0 < s.size
+  pub given_width : All (λ f. length f.coefs.items + 1 ≡ s.size) s.given.now
+  pub made_length : length s.made.now ≡ s.lines * s.size
+  pub is_countable : s.lines + 1 < 2 ^ 64

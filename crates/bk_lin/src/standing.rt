@@ -2,7 +2,7 @@
 
 ghost use Rattle.std.specs.Prelude.{◌≡◌, ◌≤◌, ◌<◌, ◌+◌, ◌↔◌, ◌∷◌, IsTrue, length, slice_index_or, pos};
 ghost use Rattle.bk_lin.specs.Certificate.{is_number, fact_at};
-ghost use Rattle.bk_lin.specs.Layout.{shown, standing_of, held_at, held_in, IsLaidOut};
+ghost use Rattle.bk_lin.specs.Layout.{shown, facts_of, held_at, held_in, IsLaidOut};
 
 use crate::fact::Fact;
 
@@ -35,7 +35,7 @@ pub struct Standing<'a> {
 impl<'a> Standing<'a> {
     /// Whether a fact of this number, from 1, stands.
     pub fn has(&self, number: u32) -> bool
-        ensures { result ≡ is_number (standing_of self.now.given.now self.now.size self.now.lines self.now.made.now) number }
+        ensures { result ≡ is_number (facts_of self.now) number }
     {
         let number = number as usize;
         let given = self.given.len();
@@ -44,10 +44,9 @@ impl<'a> Standing<'a> {
 
     /// The fact of a number that stands.
     pub fn row(&self, number: u32) -> Row<'a>
-        requires laid_out { IsLaidOut self.now.given.now self.now.size self.now.lines self.now.made.now }
-        requires has_constant { 0 < self.now.size }
-        requires stands { IsTrue (is_number (standing_of self.now.given.now self.now.size self.now.lines self.now.made.now) number) }
-        ensures fact { shown result.coefs.now result.constant ≡ fact_at (standing_of self.now.given.now self.now.size self.now.lines self.now.made.now) number }
+        requires laid_out { IsLaidOut self.now }
+        requires stands { IsTrue (is_number (facts_of self.now) number) }
+        ensures fact { shown result.coefs.now result.constant ≡ fact_at (facts_of self.now) number }
         ensures width { length result.coefs.now + 1 ≡ self.now.size }
     {
         let index = number as usize - 1;
@@ -60,9 +59,8 @@ impl<'a> Standing<'a> {
 
     /// The fact of one of the lines, counted from 0.
     fn row_of_line(&self, line: usize) -> Row<'a>
-        requires laid_out { IsLaidOut self.now.given.now self.now.size self.now.lines self.now.made.now }
+        requires laid_out { IsLaidOut self.now }
         requires made { line < self.now.lines }
-        requires has_constant { 0 < self.now.size }
         ensures fact { shown result.coefs.now result.constant ≡ held_at self.now.size self.now.made.now line }
         ensures width { length result.coefs.now + 1 ≡ self.now.size }
     {
