@@ -3,3 +3,5 @@ pub mod Sound
 pub mod Held
 pub mod Adding
 pub mod Summing
+pub mod Lines
+pub mod Verdict

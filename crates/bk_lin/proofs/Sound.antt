@@ -117,7 +117,7 @@ IsTrueOf-get_or x [] k h = IsTrueOf-zero_of x 0
 IsTrueOf-get_or x (p ∷ ps) zero h = All-head (IsTrueOf x) p ps h
 IsTrueOf-get_or x (p ∷ ps) (suc k) h = IsTrueOf-get_or x ps k (All-tail (IsTrueOf x) p ps h)
 
-IsTrueOf-fact_at : (x : ℕ → ℤ) (standing : List Inequality) (n : ℕ) → All (IsTrueOf x) standing → IsTrueOf x (fact_at standing n)
+pub IsTrueOf-fact_at : (x : ℕ → ℤ) (standing : List Inequality) (n : ℕ) → All (IsTrueOf x) standing → IsTrueOf x (fact_at standing n)
 IsTrueOf-fact_at x standing n h = IsTrueOf-get_or x standing (n - 1) h
 
 int_le-true : (a b : ℤ) → int_le a b ≡ true → a ≤ℤ b

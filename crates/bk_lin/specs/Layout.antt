@@ -1,7 +1,9 @@
 -- How the work area holds the facts of the lines: one after another, each as its constant and then its coefficients.
-use Rattle.std.specs.Prelude.{◌≡◌, ℕ, ◌+◌, ◌*◌, ◌^◌, ◌<◌, ℤ, pos, Bool, List, [], ◌∷◌, ◌++◌, map, take, drop, length, All}
+use Rattle.std.specs.Prelude.{◌≡◌, ℕ, ◌+◌, ◌*◌, ◌<◌, ℤ, pos, Bool, List, [], ◌∷◌, ◌++◌, map, take, drop, length, All}
 use Rattle.std.specs.List.{range_with_len}
 use Rattle.bk_lin.specs.declared.fact.Fact.{Fact}
+use Rattle.bk_lin.specs.declared.fact.CertFault.{CertFault}
+use Rattle.bk_lin.specs.declared.fact.CertFault.TheVariants.{BadLine, Negative, TooWide, NotClosed}
 use Rattle.bk_lin.specs.declared.standing.Standing.{Standing}
 use Rattle.bk_lin.specs.Inequality.{Inequality, zero_of}
 use Rattle.bk_lin.specs.Certificate.{inequalities}
@@ -32,4 +34,10 @@ pub record IsLaidOut (s : Standing) : Type 0 where
   pub has_constant : 0 < s.size
   pub given_width : All (λ f. length f.coefs.items + 1 ≡ s.size) s.given.now
   pub made_length : length s.made.now ≡ s.lines * s.size
-  pub is_countable : s.lines + 1 < 2 ^ 64
+
+-- the line that a fault names, and 0 where it names none
+abbrev pub number_of : CertFault → ℕ
+number_of (BadLine k) = k
+number_of (Negative k) = k
+number_of (TooWide k) = k
+number_of NotClosed = 0

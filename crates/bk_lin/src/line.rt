@@ -1,6 +1,6 @@
 //! The fact that one line of a certificate makes.
 
-ghost use Rattle.std.specs.Prelude.{◌≡◌, ◌-◌, ◌+◌, ◌↔◌, ◌≤ℤ◌, ℕ, ℤ, pos, int_le, length, IsTrue, IsSome, MatchResult, OnOk, OnSome};
+ghost use Rattle.std.specs.Prelude.{◌≡◌, ◌-◌, ◌+◌, ◌^◌, ◌<◌, ◌↔◌, ◌≤ℤ◌, ℕ, ℤ, pos, int_le, length, IsTrue, IsSome, MatchResult, OnOk, OnSome};
 ghost use Rattle.std.specs.Int.{int_rem_euclid};
 ghost use Rattle.std.specs.List.{list_all};
 ghost use Rattle.std.specs.Ordering.{int_eq};
@@ -15,6 +15,7 @@ use crate::standing::{Row, Standing};
 /// Writes the line's fact into `target`, which is open where the line has a fault.
 pub fn make_fact(standing: &Standing, line: &Line, target: &mut [i128]) -> Result<(), CertFault>
     requires laid_out { IsLaidOut standing.now }
+    requires countable { standing.now.lines + 1 < 2 ^ 64 }
     requires room { length target.old ≡ standing.now.size }
     ensures fault { let fault = line_fault (standing.now.size - 1) (standing.now.lines + 1) (facts_of standing.now) line.now in MatchResult result (λ _. fault ≡ None) (λ e. fault ≡ Some e) }
     ensures made { OnOk result (held_in target.new ≡ line_fact (standing.now.size - 1) (facts_of standing.now) line.now) }
@@ -27,6 +28,7 @@ pub fn make_fact(standing: &Standing, line: &Line, target: &mut [i128]) -> Resul
 
 fn make_sum(standing: &Standing, parts: &[(i128, u32)], target: &mut [i128]) -> Result<(), CertFault>
     requires laid_out { IsLaidOut standing.now }
+    requires countable { standing.now.lines + 1 < 2 ^ 64 }
     requires room { length target.old ≡ standing.now.size }
     ensures fault { let fault = sum_fault (standing.now.size - 1) (standing.now.lines + 1) (facts_of standing.now) parts.now in MatchResult result (λ _. fault ≡ None) (λ e. fault ≡ Some e) }
     ensures made { OnOk result (held_in target.new ≡ sum_fact (standing.now.size - 1) (facts_of standing.now) parts.now) }
@@ -70,6 +72,7 @@ fn sum_up(standing: &Standing, parts: &[(i128, u32)], target: &mut [i128]) -> Op
 
 fn make_quotient(standing: &Standing, fact: u32, by: i128, target: &mut [i128]) -> Result<(), CertFault>
     requires laid_out { IsLaidOut standing.now }
+    requires countable { standing.now.lines + 1 < 2 ^ 64 }
     requires room { length target.old ≡ standing.now.size }
     ensures fault { let fault = quotient_fault (standing.now.lines + 1) (facts_of standing.now) fact by in MatchResult result (λ _. fault ≡ None) (λ e. fault ≡ Some e) }
     ensures made { OnOk result (held_in target.new ≡ quotient_of (fact_at (facts_of standing.now) fact) by) }

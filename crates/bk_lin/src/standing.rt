@@ -2,6 +2,7 @@
 
 ghost use Rattle.std.specs.Prelude.{◌≡◌, ◌≤◌, ◌<◌, ◌+◌, ◌↔◌, ◌∷◌, IsTrue, length, slice_index_or, pos};
 ghost use Rattle.bk_lin.specs.Certificate.{is_number, fact_at};
+ghost use Rattle.bk_lin.specs.Inequality.{IsContradiction};
 ghost use Rattle.bk_lin.specs.Layout.{shown, facts_of, held_at, held_in, IsLaidOut};
 
 use crate::fact::Fact;
@@ -20,6 +21,13 @@ impl Row<'_> {
         ensures { result ≡ slice_index_or (self.now.constant ∷ self.now.coefs.now) k (pos 0) }
     {
         if k == 0 { self.constant } else { self.coefs[k - 1] }
+    }
+
+    /// No coefficient but 0, and a negative constant.
+    pub fn is_contradiction(&self) -> bool
+        ensures { IsTrue result ↔ IsContradiction (shown self.now.coefs.now self.now.constant) }
+    {
+        self.constant < 0 && self.coefs.iter().all(|coef| *coef == 0)
     }
 }
 
@@ -58,7 +66,7 @@ impl<'a> Standing<'a> {
     }
 
     /// The fact of one of the lines, counted from 0.
-    fn row_of_line(&self, line: usize) -> Row<'a>
+    pub fn row_of_line(&self, line: usize) -> Row<'a>
         requires laid_out { IsLaidOut self.now }
         requires made { line < self.now.lines }
         ensures fact { shown result.coefs.now result.constant ≡ held_at self.now.size self.now.made.now line }
