@@ -56,3 +56,8 @@ standing_of-more given size n made =
 
 pub held_at-next : (size n : ℕ) (made rest : List ℤ) → length made ≡ n * size → held_at size (made ++ rest) n ≡ held_in (take size rest)
 held_at-next size n made rest h = ap (λ xs. held_in (take size xs)) (drop_at made rest (n * size) h)
+
+pub last_fact : (given : List Fact) (size lines : ℕ) (made : List ℤ) → 0 < lines → fact_at (standing_of given size lines made) (length given + lines) ≡ held_at size made (lines - 1)
+last_fact given size lines made h =
+  let place : length given + lines - 1 - length given ≡ lines - 1 = omega arith in
+  fact_at-line given size lines made (length given + lines) (omega arith) (omega arith) ∙ ap (λ k. held_at size made k) place

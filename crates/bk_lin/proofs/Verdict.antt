@@ -1,5 +1,5 @@
 -- What each answer of the check says of the certificate.
-use Rattle.std.proofs.Common.{◌≡◌, ℕ, ℤ, ◌+◌, ◌<◌, ◌↔◌, List, length, All, Result, Ok, Err, IsOk, OnOk, None, refl, ap, sym, subst, arith}
+use Rattle.std.proofs.Common.{◌≡◌, ℕ, ℤ, ◌+◌, ◌<◌, ◌↔◌, List, length, All, Result, Ok, Err, IsOk, OnOk, IsErrAnd, None, refl, ap, sym, subst, arith}
 use Rattle.bk_lin.specs.declared.fact.Fact.{Fact}
 use Rattle.bk_lin.specs.declared.fact.Line.{Line}
 use Rattle.bk_lin.specs.declared.fact.CertFault.{CertFault}
@@ -72,3 +72,11 @@ at_open facts cert right unclosed = record {
   not_closed = (λ _. (right, unclosed), λ _. refl);
   sound = tt
 }
+
+pub at_empty : (facts : List Fact) (cert : List Line) → length cert ≡ 0 → IsAnswer facts cert (Err NotClosed)
+at_empty facts cert h = at_open facts cert (λ k l. absurd (omega arith)) (λ closed. absurd (omega (arith, closed.0)))
+
+-- the answer that `?` passes on
+pub at_passed_on : (facts : List Fact) (cert : List Line) (r : Answer) (e : CertFault) → IsErrAnd r (λ x. x ≡ e) → IsFirstFault facts cert (number_of e) e → IsAnswer facts cert r
+at_passed_on facts cert (Ok v) e h p = absurd h
+at_passed_on facts cert (Err x) e h p = at_fault facts cert x (subst (λ f. IsFirstFault facts cert (number_of f) f) (sym h) p)
