@@ -39,7 +39,8 @@ pub fn check(facts: &[Fact], cert: &[Line], work: &mut [i128]) -> Result<(), Cer
     }
 }
 
-fn width(facts: &[Fact]) -> usize
+/// How many coefficients each fact has.
+pub fn width(facts: &[Fact]) -> usize
     ensures { result ≡ width_of facts.now }
 {
     match facts {
