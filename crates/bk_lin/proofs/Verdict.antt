@@ -1,5 +1,5 @@
 -- What each answer of the check says of the certificate.
-use Rattle.std.proofs.Common.{◌≡◌, ℕ, ℤ, ◌+◌, ◌<◌, ◌↔◌, List, length, All, Result, Ok, Err, IsOk, OnOk, IsErrAnd, None, refl, ap, sym, subst, arith}
+use Rattle.std.proofs.Common.{◌≡◌, ℕ, ℤ, ◌↔◌, List, length, All, Result, Ok, Err, IsOk, OnOk, IsErrAnd, refl, ap, sym, subst, arith}
 use Rattle.bk_lin.specs.declared.fact.Fact.{Fact}
 use Rattle.bk_lin.specs.declared.fact.Line.{Line}
 use Rattle.bk_lin.specs.declared.fact.CertFault.{CertFault}
@@ -32,13 +32,14 @@ not_ok_and_err : (v : Unit {0}) (f : CertFault) (r s : Answer) → r ≡ Ok v �
 not_ok_and_err v f r s h k l = cc
 
 fault_iff : (facts : List Fact) (cert : List Line) (e f : CertFault) → IsFirstFault facts cert (number_of e) e → let r : Answer = Err e in let s : Answer = Err f in (r ≡ s) ↔ IsFirstFault facts cert (number_of f) f
-fault_iff facts cert e f p =
-  ( λ h. subst (λ g. IsFirstFault facts cert (number_of g) g) (err_same e f _ _ refl refl h) p
-  , λ q. ap (λ g. Err g) (first_fault_is_one facts cert (number_of e) (number_of f) e f p q) )
+fault_iff facts cert e f p = (
+  λ h. subst (λ g. IsFirstFault facts cert (number_of g) g) (err_same e f _ _ refl refl h) p,
+  λ q. ap (λ g. Err g) (first_fault_is_one facts cert (number_of e) (number_of f) e f p q),
+)
 
 not_closed_is_no_fault : (facts : List Fact) (cert : List Line) (e : CertFault) → IsFirstFault facts cert (number_of e) e → e ≡ NotClosed → ⊥
 not_closed_is_no_fault facts cert e p h =
-  let q = subst (λ g. IsFirstFault facts cert (number_of g) g) h p in omega (arith, q.is_line)
+    let q = subst (λ g. IsFirstFault facts cert (number_of g) g) h p in omega (arith, q.is_line)
 
 pub at_fault : (facts : List Fact) (cert : List Line) (e : CertFault) → IsFirstFault facts cert (number_of e) e → IsAnswer facts cert (Err e)
 at_fault facts cert e p = record {
@@ -47,7 +48,7 @@ at_fault facts cert e p = record {
   negative = λ k. fault_iff facts cert e (Negative k) p;
   too_wide = λ k. fault_iff facts cert e (TooWide k) p;
   not_closed = (λ h. absurd (not_closed_is_no_fault facts cert e p (err_same e NotClosed _ _ refl refl h)), λ h. absurd (first_fault_is_not_right facts cert (number_of e) e p h.0));
-  sound = tt
+  sound = tt;
 }
 
 pub at_closed : (facts : List Fact) (cert : List Line) → IsRight facts cert → IsClosed facts cert → IsAnswer facts cert (Ok tt)
@@ -57,7 +58,7 @@ at_closed facts cert right closed = record {
   negative = λ k. (λ h. absurd (not_ok_and_err tt (Negative k) _ _ refl refl h), λ p. absurd (first_fault_is_not_right facts cert k (Negative k) p right));
   too_wide = λ k. (λ h. absurd (not_ok_and_err tt (TooWide k) _ _ refl refl h), λ p. absurd (first_fault_is_not_right facts cert k (TooWide k) p right));
   not_closed = (λ h. absurd (not_ok_and_err tt NotClosed _ _ refl refl h), λ h. absurd (h.1 closed));
-  sound = accepted_is_contradictory facts cert right closed
+  sound = accepted_is_contradictory facts cert right closed;
 }
 
 other_fault : (e : CertFault) (f : CertFault) (r s : Answer) → r ≡ Err e → s ≡ Err f → (e ≡ f → ⊥) → r ≡ s → ⊥
@@ -70,7 +71,7 @@ at_open facts cert right unclosed = record {
   negative = λ k. (λ h. absurd (other_fault NotClosed (Negative k) _ _ refl refl (λ e. cc) h), λ p. absurd (first_fault_is_not_right facts cert k (Negative k) p right));
   too_wide = λ k. (λ h. absurd (other_fault NotClosed (TooWide k) _ _ refl refl (λ e. cc) h), λ p. absurd (first_fault_is_not_right facts cert k (TooWide k) p right));
   not_closed = (λ _. (right, unclosed), λ _. refl);
-  sound = tt
+  sound = tt;
 }
 
 pub at_empty : (facts : List Fact) (cert : List Line) → length cert ≡ 0 → IsAnswer facts cert (Err NotClosed)

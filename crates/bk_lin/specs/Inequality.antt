@@ -1,5 +1,5 @@
 -- Linear inequalities over whole numbers without bound (Schrijver, Theory of Linear and Integer Programming).
-use Rattle.std.specs.Prelude.{◌≡◌, ℕ, suc, ◌^◌, ℤ, pos, negsuc, ◌+ℤ◌, ◌*ℤ◌, ◌≤ℤ◌, ◌<ℤ◌, Bool, true, ◌&&◌, List, [], ◌∷◌, map, replicate, All, fold, nat_lt}
+use Rattle.std.specs.Prelude.{◌≡◌, ℕ, suc, ◌^◌, ℤ, pos, negsuc, ◌+ℤ◌, ◌*ℤ◌, ◌≤ℤ◌, ◌<ℤ◌, Bool, ◌&&◌, List, [], ◌∷◌, map, replicate, All, nat_lt}
 use Rattle.std.specs.List.{list_all}
 use Rattle.std.specs.Int.{int_div_euclid, int_rem_euclid}
 use Rattle.std.specs.Ordering.{int_eq}
@@ -58,7 +58,7 @@ is_divisible d p = list_all (λ c. int_eq (int_rem_euclid c d) (pos 0)) p.coefs
 abbrev pub quotient_of : Inequality → ℤ → Inequality
 quotient_of p d = record {
   coefs = map (λ c. int_div_euclid c d) p.coefs;
-  constant = int_div_euclid p.constant d
+  constant = int_div_euclid p.constant d;
 }
 
 -- from -2^127 to 2^127 - 1

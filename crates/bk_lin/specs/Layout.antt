@@ -1,5 +1,5 @@
 -- How the work area holds the facts of the lines: one after another, each as its constant and then its coefficients.
-use Rattle.std.specs.Prelude.{◌≡◌, ℕ, ◌+◌, ◌*◌, ◌<◌, ℤ, pos, Bool, List, [], ◌∷◌, ◌++◌, map, take, drop, length, All}
+use Rattle.std.specs.Prelude.{◌≡◌, ℕ, ◌+◌, ◌*◌, ◌<◌, ℤ, List, [], ◌∷◌, ◌++◌, map, take, drop, length, All}
 use Rattle.std.specs.List.{range_with_len}
 use Rattle.bk_lin.specs.declared.fact.Fact.{Fact}
 use Rattle.bk_lin.specs.declared.fact.CertFault.{CertFault}

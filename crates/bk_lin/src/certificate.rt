@@ -31,7 +31,12 @@ pub fn check(facts: &[Fact], cert: &[Line], work: &mut [i128]) -> Result<(), Cer
     }
     let size = width(facts) + 1;
     make_facts(facts, size, cert, work)?;
-    let standing = Standing { given: facts, size, lines: cert.len(), made: work };
+    let standing = Standing {
+        given: facts,
+        size,
+        lines: cert.len(),
+        made: work,
+    };
     if standing.row_of_line(cert.len() - 1).is_contradiction() {
         Ok(())
     } else {
@@ -50,7 +55,12 @@ pub fn width(facts: &[Fact]) -> usize
 }
 
 /// Writes the fact of each line, up to the first that has a fault.
-fn make_facts(facts: &[Fact], size: usize, cert: &[Line], work: &mut [i128]) -> Result<(), CertFault>
+fn make_facts(
+    facts: &[Fact],
+    size: usize,
+    cert: &[Line],
+    work: &mut [i128],
+) -> Result<(), CertFault>
     requires size { size ≡ width_of facts.now + 1 }
     requires one_width { All (λ f. length f.coefs.items ≡ width_of facts.now) facts.now }
     requires room { length work.old ≡ size * length cert.now }
@@ -65,7 +75,13 @@ fn make_facts(facts: &[Fact], size: usize, cert: &[Line], work: &mut [i128]) -> 
 }
 
 /// Writes the fact of the line at an index after those of the lines before it.
-fn make_line(facts: &[Fact], size: usize, index: usize, line: &Line, work: &mut [i128]) -> Result<(), CertFault>
+fn make_line(
+    facts: &[Fact],
+    size: usize,
+    index: usize,
+    line: &Line,
+    work: &mut [i128],
+) -> Result<(), CertFault>
     requires size { size ≡ width_of facts.now + 1 }
     requires one_width { All (λ f. length f.coefs.items ≡ width_of facts.now) facts.now }
     requires countable { index + 1 < 2 ^ 64 }
@@ -79,7 +95,14 @@ fn make_line(facts: &[Fact], size: usize, index: usize, line: &Line, work: &mut 
 }
 
 /// Writes the fact of the line at an index to the front of `rest`, where `made` holds those of the lines before it.
-fn make_next(facts: &[Fact], size: usize, index: usize, line: &Line, made: &[i128], rest: &mut [i128]) -> Result<(), CertFault>
+fn make_next(
+    facts: &[Fact],
+    size: usize,
+    index: usize,
+    line: &Line,
+    made: &[i128],
+    rest: &mut [i128],
+) -> Result<(), CertFault>
     requires size { size ≡ width_of facts.now + 1 }
     requires one_width { All (λ f. length f.coefs.items ≡ width_of facts.now) facts.now }
     requires made_length { length made.now ≡ index * size }
@@ -88,6 +111,11 @@ fn make_next(facts: &[Fact], size: usize, index: usize, line: &Line, made: &[i12
     ensures fault { let fault = line_fault (width_of facts.now) (index + 1) (standing_of facts.now size index made.now) line.now in MatchResult result (λ _. fault ≡ None) (λ e. fault ≡ Some e) }
     ensures made { OnOk result (held_in (take size rest.new) ≡ line_fact (width_of facts.now) (standing_of facts.now size index made.now) line.now) }
 {
-    let standing = Standing { given: facts, size, lines: index, made };
+    let standing = Standing {
+        given: facts,
+        size,
+        lines: index,
+        made,
+    };
     make_fact(&standing, line, &mut rest[..size])
 }

@@ -26,7 +26,11 @@ pub fn make_fact(standing: &Standing, line: &Line, target: &mut [i128]) -> Resul
     }
 }
 
-fn make_sum(standing: &Standing, parts: &[(i128, u32)], target: &mut [i128]) -> Result<(), CertFault>
+fn make_sum(
+    standing: &Standing,
+    parts: &[(i128, u32)],
+    target: &mut [i128],
+) -> Result<(), CertFault>
     requires laid_out { IsLaidOut standing.now }
     requires countable { standing.now.lines + 1 < 2 ^ 64 }
     requires room { length target.old ≡ standing.now.size }
@@ -70,7 +74,12 @@ fn sum_up(standing: &Standing, parts: &[(i128, u32)], target: &mut [i128]) -> Op
     Some(())
 }
 
-fn make_quotient(standing: &Standing, fact: u32, by: i128, target: &mut [i128]) -> Result<(), CertFault>
+fn make_quotient(
+    standing: &Standing,
+    fact: u32,
+    by: i128,
+    target: &mut [i128],
+) -> Result<(), CertFault>
     requires laid_out { IsLaidOut standing.now }
     requires countable { standing.now.lines + 1 < 2 ^ 64 }
     requires room { length target.old ≡ standing.now.size }

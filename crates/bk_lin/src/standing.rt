@@ -20,7 +20,11 @@ impl Row<'_> {
         requires { k < length self.now.coefs.now + 1 }
         ensures { result ≡ slice_index_or (self.now.constant ∷ self.now.coefs.now) k (pos 0) }
     {
-        if k == 0 { self.constant } else { self.coefs[k - 1] }
+        if k == 0 {
+            self.constant
+        } else {
+            self.coefs[k - 1]
+        }
     }
 
     /// No coefficient but 0, and a negative constant.
@@ -60,7 +64,10 @@ impl<'a> Standing<'a> {
         let index = number as usize - 1;
         if index < self.given.len() {
             let fact = &self.given[index];
-            return Row { coefs: fact.coefs.as_slice(), constant: fact.constant };
+            return Row {
+                coefs: fact.coefs.as_slice(),
+                constant: fact.constant,
+            };
         }
         self.row_of_line(index - self.given.len())
     }
@@ -82,5 +89,8 @@ fn read_row(held: &[i128]) -> Row<'_>
     ensures fact { shown result.coefs.now result.constant ≡ held_in held.now }
     ensures width { length result.coefs.now + 1 ≡ length held.now }
 {
-    Row { coefs: &held[1..], constant: held[0] }
+    Row {
+        coefs: &held[1..],
+        constant: held[0],
+    }
 }

@@ -1,4 +1,4 @@
-use Rattle.std.proofs.Common.{◌≤◌, ◌<◌, length, sym, arith}
+use Rattle.std.proofs.Common.{sym, arith}
 use Rattle.bk_lin.proofs.Held.{number_of_line}
 use Rattle.bk_lin.proofs.standing.Standing.has.Goals as goal
 
