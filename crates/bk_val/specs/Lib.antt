@@ -1,0 +1,8 @@
+pub mod CmpLaws
+pub mod Number
+pub mod Sets
+pub mod Value
+pub mod ValueFalls
+pub mod ValueOf
+pub mod ValueType
+pub mod Weights
