@@ -1,20 +1,20 @@
 -- What is in comprehensions, intervals and arrows.
-use Rattle.std.proofs.Common.{◌≡◌, ◌↔◌, ◌⊎◌, inl, inr, ℕ, zero, suc, ◌+◌, ◌<◌, ◌≤◌, ℤ, pos, negsuc, ◌+ℤ◌, ◌-ℤ◌, ◌≤ℤ◌, List, [], ◌∷◌, map, refl, sym, ◌∙◌, ap, subst, Bool, true, false, not, ◌&&◌, arith}
+use Rattle.std.proofs.Common.{◌≡◌, ◌↔◌, ◌⊎◌, inl, inr, ℕ, zero, suc, ◌+◌, ◌<◌, ℤ, pos, negsuc, ◌+ℤ◌, ◌-ℤ◌, ◌≤ℤ◌, List, [], ◌∷◌, map, refl, sym, ◌∙◌, ap, subst, Bool, true, false, not, ◌&&◌, arith}
 use Rattle.std.specs.Prelude.{int_le}
 use Rattle.std.specs.List.{filter}
 use Rattle.std.proofs.lemmas.Int.{ints}
-use Rattle.bk_val.specs.Value.{MathValue, int, bool, elem, pair, set}
+use Rattle.bk_val.specs.Value.{MathValue, int, pair}
 use Rattle.bk_val.specs.ValueType.{ValueType, int_type, is_value_of, are_of_types}
 use Rattle.bk_val.specs.Sets.{has, second_of}
 use Rattle.bk_form.specs.Table.{set_size}
 use Rattle.bk_form.specs.Formula.{Formula, named, binary, comprehension, lambda, Formulas}
-use Rattle.bk_form.specs.Search.{Finder, IsSearch, no_choice}
+use Rattle.bk_form.specs.Search.{Finder, IsSearch}
 use Rattle.bk_form.specs.Environment.{Environment, bound_types, under}
 use Rattle.bk_form.specs.Role.{Role, role, element_type}
 use Rattle.bk_form.specs.Operators.{elements, first_part, numbers_from, count_of, interval, set_value, covers, passes, tuple_of, choices, is_element, number_in}
-use Rattle.bk_form.specs.Meaning.{Meaning, meaning, meanings, value, truth, within, range_types, chosen}
+use Rattle.bk_form.specs.Meaning.{meaning, meanings, value, truth, within, range_types}
 use Rattle.bk_form.specs.Defined.{IsChoice, InRanges}
-use Rattle.bk_form.specs.declared.operator.BinOp.TheVariants.{Range, PartialFunctions, TotalFunctions, PartialSurjections}
+use Rattle.bk_form.specs.declared.operator.BinOp.TheVariants.{PartialFunctions, TotalFunctions, PartialSurjections}
 use Rattle.bk_form.specs.declared.operator.Domain.TheVariants.{Natural}
 use Rattle.bk_form.proofs.Members.{both_ways, and-true, and-both, Has, has-then, has-if, Has-map-then, Has-map-if, Has-filter-then, Has-filter-if, Has-flat_map-then, Has-flat_map-if, element-set_value}
 use Rattle.bk_form.specs.Laws.{TakesOneOfEach, ChoicesAre, IntervalHas}
