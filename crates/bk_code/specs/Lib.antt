@@ -1,0 +1,5 @@
+pub mod Numbers
+pub mod Step
+pub mod Run
+pub mod Session
+pub mod Checks
