@@ -1,5 +1,5 @@
 -- What the loader checks of an image: its numbers, and the depth of the stack at each place.
-use Rattle.std.specs.Prelude.{◌≡◌, ℕ, suc, ◌+◌, ◌-◌, ◌<◌, ◌≤◌, ◌^◌, ◌⊎◌, ℤ, pos, ◌+ℤ◌, ◌-ℤ◌, List, length, All, slice_get, slice_index, Some}
+use Rattle.std.specs.Prelude.{◌≡◌, ℕ, ◌+◌, ◌-◌, ◌<◌, ◌≤◌, ◌^◌, ◌⊎◌, ℤ, pos, ◌+ℤ◌, ◌-ℤ◌, List, length, All, slice_get, slice_index, Some}
 use Rattle.bk_code.specs.declared.image.Image.{Image}
 use Rattle.bk_code.specs.declared.image.OpEntry.{OpEntry}
 use Rattle.bk_code.specs.declared.image.Parameter.{Parameter}
@@ -62,7 +62,7 @@ pub record IsNumbered (image : Image) : Type 0 where
   pub cells : image.cells ≤ 1000000
   pub ops : All (IsGoodEntry image) image.ops
   pub insts : (at : ℕ) (inst : Inst) → slice_get image.code at ≡ Some inst → IsGoodInst image at inst
-  pub last : (at : ℕ) (inst : Inst) → slice_get image.code at ≡ Some inst → suc at ≡ length image.code → IsLeaving inst
+  pub last : (at : ℕ) (inst : Inst) → slice_get image.code at ≡ Some inst → at + 1 ≡ length image.code → IsLeaving inst
   pub some : 0 < length image.code
   pub countable : length image.code < 2 ^ 32
 
@@ -92,9 +92,9 @@ pushes _ = 1
 -- control may go from an instruction at a place to this one
 abbrev pub FlowsTo : Inst → ℕ → ℕ → Type 0
 FlowsTo (Jump distance) at to = pos to ≡ pos at +ℤ distance
-FlowsTo (JumpZero distance) at to = (to ≡ suc at) ⊎ (pos to ≡ pos at +ℤ distance)
+FlowsTo (JumpZero distance) at to = (to ≡ at + 1) ⊎ (pos to ≡ pos at +ℤ distance)
 FlowsTo Ret at to = ⊥
-FlowsTo _ at to = to ≡ suc at
+FlowsTo _ at to = to ≡ at + 1
 
 -- the stack is empty at the end of a call
 abbrev pub IsEmptyAtEnd : Inst → ℕ → Type 0

@@ -3,3 +3,4 @@ pub mod Step
 pub mod Run
 pub mod Session
 pub mod Checks
+pub mod Laws

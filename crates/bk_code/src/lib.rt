@@ -4,6 +4,7 @@
 mod error;
 mod image;
 mod instruction;
+mod laws;
 mod list;
 
 pub use error::Memory;
@@ -12,4 +13,8 @@ pub use image::{
     Parameters,
 };
 pub use instruction::{Inst, Trap};
+pub use laws::{checked_images_are_safe, ends_are_exact, ends_are_unique, ends_stay, pushes_store};
 pub use list::Sequence;
+
+#[cfg(test)]
+mod tests;
