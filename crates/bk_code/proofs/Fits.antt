@@ -1,6 +1,6 @@
 -- A step of a checked image from a configuration that fits is never stuck, and leads to one that fits.
-use Rattle.std.proofs.Common.{◌≡◌, ◌≢◌, ℕ, suc, ◌+◌, ◌-◌, ◌<◌, ◌≤◌, ◌⊎◌, inl, inr, Bool, true, false, refl, sym, ◌∙◌, ap, subst, arith, ℤ, pos, ◌≤ℤ◌, ◌<ℤ◌, List, [], ◌∷◌, length, Option, Some, None, Result, Ok, Err, get_or}
-use Rattle.std.specs.Prelude.{◌&&◌, negsuc, ◌+ℤ◌, ◌-ℤ◌, ◌*ℤ◌, neg_ℤ, int_le, int_lt, nat_lt, unsigned_abs, if◌then◌else◌, All, slice_get, slice_set, slice_index}
+use Rattle.std.proofs.Common.{◌≡◌, ◌≢◌, ℕ, ◌+◌, ◌-◌, ◌<◌, ◌≤◌, inl, inr, Bool, true, false, refl, sym, ◌∙◌, arith, ℤ, pos, ◌≤ℤ◌, ◌<ℤ◌, List, [], ◌∷◌, length, Some, Result, Ok, Err, get_or}
+use Rattle.std.specs.Prelude.{negsuc, ◌+ℤ◌, ◌-ℤ◌, ◌*ℤ◌, neg_ℤ, int_le, int_lt, unsigned_abs, if◌then◌else◌, All, slice_get, slice_set, slice_index}
 use Rattle.std.specs.Ordering.{int_eq}
 use Rattle.std.proofs.Math.ListN.{length-set}
 use Rattle.std.proofs.lemmas.Int.{ints}
@@ -13,8 +13,8 @@ use Rattle.bk_code.specs.declared.instruction.Inst.TheVariants.{Push, Load, Stor
 use Rattle.bk_code.specs.declared.instruction.Trap.{Trap}
 use Rattle.bk_code.specs.declared.instruction.Trap.TheVariants.{Index}
 use Rattle.bk_code.specs.Numbers.{int_max, IsWithin, bounded, quotient, remainder, truth_number}
-use Rattle.bk_code.specs.Step.{Config, Outcome, GoesOn, Returns, Traps, Stuck, next, calculated, loaded, stored, jumped, is_index, element_cell, row, executed, step}
-use Rattle.bk_code.specs.Checks.{IsGoodInst, IsArray, IsTarget, IsLeaving, IsNumbered, IsDepths, IsFitting, pops, pushes, FlowsTo}
+use Rattle.bk_code.specs.Step.{Config, Outcome, GoesOn, Returns, Traps, Stuck, next, calculated, loaded, stored, jumped, is_index, element_cell, row, step}
+use Rattle.bk_code.specs.Checks.{IsGoodInst, IsTarget, IsLeaving, IsNumbered, IsDepths, IsFitting, pops, pushes, FlowsTo}
 use Rattle.bk_code.proofs.Ranges.{GivesWithin, bounded_within, quotient_within, remainder_within, within-truth_number}
 
 -- what an instruction leads to is not stuck, and fits where it goes on

@@ -1,12 +1,12 @@
 -- Which results lie within the range.
-use Rattle.std.proofs.Common.{◌≡◌, ℕ, zero, suc, ◌+◌, ◌≤◌, ◌<◌, ◌/◌, ◌%◌, Bool, true, false, refl, arith, ℤ, pos, ◌≤ℤ◌, Result, Ok, Err, subst, sym, ◌∙◌}
+use Rattle.std.proofs.Common.{◌≡◌, ℕ, zero, suc, ◌≤◌, ◌/◌, ◌%◌, Bool, true, false, refl, arith, ℤ, pos, Result, Ok, Err}
 use Rattle.std.specs.Prelude.{◌&&◌, negsuc, neg_ℤ, int_le, int_div, int_rem, unsigned_abs, if◌then◌else◌}
 use Rattle.std.specs.Ordering.{int_eq}
 use Rattle.std.proofs.lemmas.Int.{ints}
 use Rattle.std.proofs.Math.Nat.{div-le_self, mod-le}
 use Rattle.bk_code.specs.declared.instruction.Trap.{Trap}
 use Rattle.bk_code.specs.declared.instruction.Trap.TheVariants.{DivZero, ModRange}
-use Rattle.bk_code.specs.Numbers.{IsWithin, is_within, bounded, quotient, remainder, truth_number}
+use Rattle.bk_code.specs.Numbers.{IsWithin, bounded, quotient, remainder, truth_number}
 
 pub within_from_abs : (m : ℕ) (n : ℤ) → unsigned_abs n ≤ m → IsWithin (pos m) n
 within_from_abs m (pos n) h = (omega (arith, ints), omega (arith, ints))

@@ -1,14 +1,12 @@
 -- Steps one after another: they lead to one configuration, and a call has one end.
-use Rattle.std.proofs.Common.{◌≡◌, ◌≢◌, ◌↔◌, ℕ, zero, suc, ◌+◌, ◌<◌, ◌≤◌, ◌⊎◌, inl, inr, refl, sym, ◌∙◌, ap, subst, arith, List, ◌∷◌, length, Some, ℤ}
-use Rattle.std.specs.Prelude.{slice_get, slice_set}
+use Rattle.std.proofs.Common.{◌≡◌, ℕ, zero, suc, ◌+◌, ◌<◌, ◌≤◌, inl, inr, refl, sym, ◌∙◌, ap, subst, arith, List, ◌∷◌, length}
 use Rattle.std.proofs.Math.Nat.{eq-or-lt_of_le}
 use Rattle.std.proofs.lemmas.Bool.{lt-ltb}
 use Rattle.std.proofs.lemmas.Bool.{cases_lt}
 use Rattle.bk_code.specs.declared.image.Image.{Image}
-use Rattle.bk_code.specs.declared.instruction.Inst.TheVariants.{Push, Store, Ret}
 use Rattle.bk_code.specs.declared.instruction.Trap.{Trap}
-use Rattle.bk_code.specs.Step.{Config, Outcome, GoesOn, Returns, Traps, Stuck, executed, row, step}
-use Rattle.bk_code.specs.Run.{End, Done, Trapped, OutOfFuel, Leads, ReturnsAfter, Ends}
+use Rattle.bk_code.specs.Step.{Config, Outcome, GoesOn, Returns, Traps, Stuck, step}
+use Rattle.bk_code.specs.Run.{End, Done, Trapped, OutOfFuel, Leads, Ends}
 use Rattle.bk_code.specs.Checks.{IsNumbered, IsDepths, IsFitting}
 use Rattle.bk_code.specs.Laws.{StoresPushed, EndsAtReturn, IsOutOfFuelBelow, IsTrapOutOfFuel, StaysDone, StaysTrapped, HasOneEnd, IsNeverStuck, KeepsFitting, HasSomeEnd}
 use Rattle.bk_code.proofs.Fits.{IsSafe, step_safe}
@@ -47,8 +45,8 @@ leads_first image zero n c e le q = (c, refl)
 leads_first image (suc m) zero c e le q = absurd (omega arith)
 leads_first image (suc m) (suc n) c e le q =
     elim (eq-or-lt_of_le {n = suc m} {m = suc n} le) [
-      inl same ↦ (e, subst (λ k. Leads image k c e) (sym same) q)
-    | inr below ↦ leads_first image (suc m) n c q.0 (omega arith) q.1
+      | inl same ↦ (e, subst (λ k. Leads image k c e) (sym same) q)
+      | inr below ↦ leads_first image (suc m) n c q.0 (omega arith) q.1
     ]
 
 -- where more steps go on, the next one does
@@ -57,8 +55,8 @@ goes_on_at image m zero c d e lt p q = absurd (omega arith)
 goes_on_at image m (suc n) c d e lt p q =
     let le : m ≤ n = omega arith in
     elim (eq-or-lt_of_le {n = m} {m = n} le) [
-      inl same ↦ (e, ap (step image) (one_place image n c d q.0 (subst (λ k. Leads image k c d) same p) q.1) ∙ q.2)
-    | inr below ↦ goes_on_at image m n c d q.0 below p q.1
+      | inl same ↦ (e, ap (step image) (one_place image n c d q.0 (subst (λ k. Leads image k c d) same p) q.1) ∙ q.2)
+      | inr below ↦ goes_on_at image m n c d q.0 below p q.1
     ]
 
 -- no step from here goes on
@@ -68,8 +66,8 @@ Stops image d = (f : Config) → step image d ≡ GoesOn f → ⊥
 pub not_further : (image : Image) (m n : ℕ) (c d e : Config) → Leads image m c d → Stops image d → Leads image n c e → n ≤ m
 not_further image m n c d e p stop q =
     elim (cases_lt m n) [
-      inl lt ↦ (let more = goes_on_at image m n c d e lt p q in absurd (stop more.0 more.1))
-    | inr ge ↦ ge
+      | inl lt ↦ (let more = goes_on_at image m n c d e lt p q in absurd (stop more.0 more.1))
+      | inr ge ↦ ge
     ]
 
 -- a call stops after one number of steps, at one configuration
@@ -124,9 +122,10 @@ one_end image fuel c OutOfFuel OutOfFuel d g p q = (refl, one_place image fuel c
 
 pub out_of_fuel_below : IsOutOfFuelBelow
 out_of_fuel_below image fuel zero c d h = absurd h
-out_of_fuel_below image fuel (suc n) c d h =
-    (λ out. omega (arith, not_further image n fuel c d out.0 h.0 (returned image d h.1) out.1),
-     λ below. leads_first image fuel n c d (omega arith) h.0)
+out_of_fuel_below image fuel (suc n) c d h = (
+  λ out. omega (arith, not_further image n fuel c d out.0 h.0 (returned image d h.1) out.1),
+  λ below. leads_first image fuel n c d (omega arith) h.0,
+)
 
 pub trap_out_of_fuel : IsTrapOutOfFuel
 trap_out_of_fuel image fuel c d kind leads is =

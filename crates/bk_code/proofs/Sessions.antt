@@ -1,20 +1,18 @@
 -- Calls start at configurations that fit; a session tells one thing, and of a checked image it tells something.
-use Rattle.std.proofs.Common.{◌≡◌, ◌≢◌, ℕ, zero, suc, ◌+◌, ◌<◌, ◌≤◌, ◌⊎◌, inl, inr, refl, sym, ◌∙◌, ap, subst, arith, List, [], ◌∷◌, length, Option, Some, None, ℤ, pos, get_or}
-use Rattle.std.specs.Prelude.{All, replicate, slice_get, slice_set, slice_index}
+use Rattle.std.proofs.Common.{◌≡◌, ℕ, ◌<◌, inl, inr, refl, sym, ◌∙◌, ap, subst, arith, List, [], ◌∷◌, length, Some, ℤ, pos, get_or}
+use Rattle.std.specs.Prelude.{All, slice_get, slice_set, slice_index}
 use Rattle.std.proofs.Math.ListN.{length-set, length-replicate}
 use Rattle.std.proofs.lemmas.Bool.{cases_lt}
 use Rattle.std.proofs.lemmas.Option.{slice_get-get_or, slice_get_past}
 use Rattle.std.proofs.lemmas.List.Elements.{All-nil, All-head, All-tail, All-get_or, All-set, All-replicate}
 use Rattle.bk_code.specs.declared.image.Image.{Image}
-use Rattle.bk_code.specs.declared.image.OpEntry.{OpEntry}
 use Rattle.bk_code.specs.declared.image.Parameter.{Parameter}
-use Rattle.bk_code.specs.declared.instruction.Trap.{Trap}
 use Rattle.bk_code.specs.Numbers.{int_max, IsWithin}
 use Rattle.bk_code.specs.Step.{Config}
-use Rattle.bk_code.specs.Run.{End, Done, Trapped, OutOfFuel, Ends}
-use Rattle.bk_code.specs.Session.{placed, call_start, first_start, Request, Told, given_out, Tells, Answers, Continues, Session}
+use Rattle.bk_code.specs.Run.{End, Done, Trapped, OutOfFuel}
+use Rattle.bk_code.specs.Session.{placed, call_start, first_start, Request, Told, given_out, Tells, Continues}
 use Rattle.bk_code.specs.Checks.{IsNumbered, IsDepths, IsFitting, IsGoodEntry}
-use Rattle.bk_code.specs.Laws.{IsCallable, AreCells, IsRequest, IsFirstFitting, IsCallFitting, HasOneSession, HasSomeSession}
+use Rattle.bk_code.specs.Laws.{AreCells, IsRequest, IsFirstFitting, IsCallFitting, HasOneSession, HasSomeSession}
 use Rattle.bk_code.proofs.Ranges.{within_from_abs}
 use Rattle.bk_code.proofs.Runs.{one_end, has_some_end}
 
@@ -33,8 +31,8 @@ All-placed P (input ∷ inputs) (n ∷ args) cells given kept =
 pub stands : {X : Type 0} (xs : List X) (i : ℕ) (x : X) → slice_get xs i ≡ Some x → i < length xs
 stands xs i x is =
     elim (cases_lt i (length xs)) [
-      inl below ↦ below
-    | inr past ↦ (let none = slice_get_past xs i past in cc)
+      | inl below ↦ below
+      | inr past ↦ (let none = slice_get_past xs i past in cc)
     ]
 
 -- what holds of each element holds of one that is got
@@ -84,7 +82,7 @@ continues image depths fuel (Done n) cells [] numbered deep kept asked = ([], tt
 continues image depths fuel (Done n) cells (request ∷ requests) numbered deep kept asked =
     let r = All-head (IsRequest image) request requests asked in
     let h = has_told image depths fuel r.entry.outputs (call_start r.entry request.args cells) numbered deep
-          (call_fitting image depths request.op r.entry request.args cells numbered deep r.named r.callable kept) in
+    (call_fitting image depths request.op r.entry request.args cells numbered deep r.named r.callable kept) in
     let rest = continues image depths fuel h.told.end h.told.cells requests numbered deep h.kept (All-tail (IsRequest image) request requests asked) in
     (h.told ∷ rest.0, (record { entry = r.entry; named = r.named; counted = r.callable.counted; call = h.tells }, rest.1))
 continues image depths fuel (Trapped kind place n) cells requests numbered deep kept asked = ([], tt)
@@ -120,9 +118,9 @@ one_more_told image fuel (Done n) cells (r ∷ rs) (t ∷ ts) [] p q = absurd q
 one_more_told image fuel (Done n) cells (r ∷ rs) (t ∷ ts) (u ∷ us) p q =
     let entries : p.0.entry ≡ q.0.entry = (let a = p.0.named in let b = q.0.named in let e : Some p.0.entry ≡ Some q.0.entry = sym a ∙ b in cc) in
     let first : t ≡ u = one_told image fuel p.0.entry.outputs (call_start p.0.entry r.args cells) t u p.0.call
-          (subst (λ e. Tells image fuel e.outputs (call_start e r.args cells) u) (sym entries) q.0.call) in
+    (subst (λ e. Tells image fuel e.outputs (call_start e r.args cells) u) (sym entries) q.0.call) in
     let rest : ts ≡ us = one_more_told image fuel t.end t.cells rs ts us p.1
-          (subst (λ v. Continues image fuel v.end v.cells rs us) (sym first) q.1) in
+    (subst (λ v. Continues image fuel v.end v.cells rs us) (sym first) q.1) in
     cc
 one_more_told image fuel (Trapped kind place n) cells rs [] [] p q = refl
 one_more_told image fuel (Trapped kind place n) cells rs (t ∷ ts) us p q = absurd p
@@ -137,5 +135,5 @@ one_session image fuel requests (t ∷ ts) [] p q = absurd q
 one_session image fuel requests (t ∷ ts) (u ∷ us) p q =
     let first : t ≡ u = one_told image fuel [] (first_start image) t u p.0 q.0 in
     let rest : ts ≡ us = one_more_told image fuel t.end t.cells requests ts us p.1
-          (subst (λ v. Continues image fuel v.end v.cells requests us) (sym first) q.1) in
+    (subst (λ v. Continues image fuel v.end v.cells requests us) (sym first) q.1) in
     cc
