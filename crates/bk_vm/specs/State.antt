@@ -12,10 +12,12 @@ pub record State : Type 0 where
   pub started : Bool
   pub stopped : Bool
 
--- the image passes the loader's checks, and the cells are as many as it says, with numbers within the range
-pub record IsMachine (image : Image) (cells : List ℤ) : Type 0 where
+-- the image passes the loader's checks, the cells are as many as it says, with numbers within the range, and each is 0 before
+-- the initialisation
+pub record IsMachine (image : Image) (cells : List ℤ) (started : Bool) : Type 0 where
   pub checked : IsChecked image
   pub kept : AreCells image cells
+  pub untouched : started ≡ false → cells ≡ replicate image.cells (pos 0)
 
 -- a machine before its initialisation: each cell is 0
 abbrev pub fresh : Image → State

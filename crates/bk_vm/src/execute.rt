@@ -135,3 +135,107 @@ fn target(place: usize, distance: i32) -> usize
 {
     (place as i64 + i64::from(distance)) as usize
 }
+
+// Pushes an element of an array, whose index is on the stack.
+fn load_element(place: usize, stack: &mut Stack, cells: &[i64], base: u32, low: i64, count: u32) -> Flow
+    requires place { place < 2 ^ 32 }
+    requires enough { 1 ≤ length stack.old }
+    requires room { length stack.old ≤ 1000 }
+    requires range { All IsInRange stack.old }
+    requires low { IsInRange low }
+    requires array { base + count ≤ length cells.now }
+    ensures outcome { outcome_of result stack.new cells.now ≡ table.row (pos 2147483647) (Inst.ALoad base low count) place stack.old cells.now }
+{
+    let index = take_one(stack);
+    match element(base, low, count, index) {
+        Some(cell) => settle(place, stack, Ok(cells[cell])),
+        None => Flow::Trapped(Trap::Index),
+    }
+}
+
+// Writes an element of an array, whose index and number are on the stack.
+fn store_element(place: usize, stack: &mut Stack, cells: &mut [i64], base: u32, low: i64, count: u32) -> Flow
+    requires place { place < 2 ^ 32 }
+    requires enough { 2 ≤ length stack.old }
+    requires range { All IsInRange stack.old }
+    requires low { IsInRange low }
+    requires array { base + count ≤ length cells.old }
+    ensures outcome { outcome_of result stack.new cells.new ≡ table.row (pos 2147483647) (Inst.AStore base low count) place stack.old cells.old }
+    ensures kept { KeepsAtEnd result cells.old cells.new }
+{
+    let (index, number) = take_two(stack);
+    match element(base, low, count, index) {
+        Some(cell) => {
+            cells[cell] = number;
+            Flow::Next(place + 1)
+        }
+        None => Flow::Trapped(Trap::Index),
+    }
+}
+
+// Executes an instruction at a place.
+fn execute(image: &Image, inst: Inst, place: usize, stack: &mut Stack, cells: &mut [i64]) -> Flow
+    requires place { place < 2 ^ 32 }
+    requires executable { IsExecutable image.now place inst stack.old cells.old }
+    ensures outcome { outcome_of result stack.new cells.new ≡ table.row (int_max image.now) inst place stack.old cells.old }
+    ensures kept { KeepsAtEnd result cells.old cells.new }
+{
+    match inst {
+        Inst::Push(number) => settle(place, stack, Ok(number)),
+        Inst::Load(slot) => settle(place, stack, Ok(cells[slot as usize])),
+        Inst::Store(slot) => {
+            cells[slot as usize] = take_one(stack);
+            Flow::Next(place + 1)
+        }
+        Inst::ALoad { base, low, count } => load_element(place, stack, cells, base, low, count),
+        Inst::AStore { base, low, count } => store_element(place, stack, cells, base, low, count),
+        Inst::Jump(distance) => Flow::Next(target(place, distance)),
+        Inst::JumpZero(distance) => {
+            if take_one(stack) == 0 {
+                Flow::Next(target(place, distance))
+            } else {
+                Flow::Next(place + 1)
+            }
+        }
+        Inst::Ret => Flow::Return,
+        _ => compute(inst, place, stack),
+    }
+}
+
+// One step of the code from a place.
+fn step(image: &Image, place: usize, stack: &mut Stack, cells: &mut [i64]) -> Flow
+    requires ready { IsReady image.now (standing place stack.old cells.old) }
+    ensures outcome { outcome_of result stack.new cells.new ≡ table.step image.now (standing place stack.old cells.old) }
+    ensures kept { KeepsAtEnd result cells.old cells.new }
+    ensures ready { IsReadyAfter image.now result stack.new cells.new }
+{
+    let inst = image.code.as_slice()[place];
+    execute(image, inst, place, stack, cells)
+}
+
+/// Runs the code from a place until it returns, traps or is out of fuel.
+pub fn run(image: &Image, start: usize, stack: &mut Stack, cells: &mut [i64], fuel: u64) -> CallEnd
+    requires ready { IsReady image.now (standing start stack.old cells.old) }
+    ensures ends { EndsWith image.now fuel (standing start stack.old cells.old) result cells.new }
+    ensures kept { AreCells image.now cells.new }
+{
+    let mut place = start;
+    let mut steps = 0;
+    while steps < fuel {
+        match step(image, place, stack, cells) {
+            Flow::Next(next) => {
+                place = next;
+                steps += 1;
+            }
+            Flow::Return => return CallEnd::Done { steps: steps + 1 },
+            Flow::Trapped(kind) => {
+                return CallEnd::Trap {
+                    kind,
+                    at: place as u32,
+                    steps,
+                };
+            }
+        }
+    }
+    CallEnd::OutOfFuel
+}

@@ -1,14 +1,18 @@
 //! A machine with its cells.
-ghost use Rattle.std.specs.Prelude.{◌≡◌, IfOk, ℤ, List};
-ghost use Rattle.bk_vm.specs.State.{fresh};
+ghost use Rattle.std.specs.Prelude.{◌≡◌, ◌<◌, ◌↔◌, IfOk, IsTrue, ℤ, List, All, length, true, false};
 ghost use Rattle.bk_code.specs.Checks.{IsChecked};
+ghost use Rattle.bk_code.specs.Session.{first_start, placed, outputs_of};
+ghost use Rattle.bk_vm.specs.Ends.{EndsWith, CallEndsWith, is_stop};
+ghost use Rattle.bk_vm.specs.State.{fresh, TakesCall};
 
+use crate::CallEnd;
+use crate::execute::run;
 use crate::stack::Stack;
-use bk_code::{Image, Memory};
+use bk_code::{Image, Memory, Parameter};
 use std::alloc::Global;
 use std::marker::Model;
 
-/// A machine.
+/// A machine that runs the code of one image. Its cells stay as they are between calls. Only `new` takes memory.
 #[derive(Debug, Drop)]
 pub struct Machine {
     image: Image,
@@ -25,11 +29,11 @@ impl Model for Machine {
 
     ghost view = { λ m. record { image = m.image; cells = m.cells.items; started = m.started; stopped = m.stopped } };
 
-    ghost invariant = { λ m. IsMachine m.image m.cells.items };
+    ghost invariant = { λ m. IsMachine m.image m.cells.items m.started };
 }
 
 impl Machine {
-    /// A machine for this image before its initialisation, each cell 0.
+    /// A machine for this image before its initialisation.
     pub fn new(alloc: Global, image: Image) -> Result<Machine, Memory>
         requires { IsChecked image }
         ensures { IfOk result (λ m. m ≡ fresh image) }
@@ -45,14 +49,54 @@ impl Machine {
         })
     }
 
+    /// Runs the initialisation, with so many steps at most.
+    pub fn start(&mut self, fuel: u64) -> CallEnd
+        requires { self.old.started ≡ false }
+        ensures ends { EndsWith self.old.image fuel (first_start self.old.image) result self.new.cells }
+        ensures image { self.new.image ≡ self.old.image }
+        ensures started { self.new.started ≡ true }
+        ensures stopped { self.new.stopped ≡ is_stop result }
+    {
+        self.stack.clear();
+        let end = run(&self.image, 0, &mut self.stack, &mut self.cells, fuel);
+        self.started = true;
+        self.stopped = !matches!(end, CallEnd::Done { .. });
+        end
+    }
+
+    /// Calls an operation by its number from 0 in the image, with so many steps at most. The outputs are written where
+    /// the call is done, and else left alone.
+    pub fn call(&mut self, op: u32, args: &[i64], outs: &mut [i64], fuel: u64) -> CallEnd
+        requires started { self.old.started ≡ true }
+        requires runs { self.old.stopped ≡ false }
+        requires takes { TakesCall self.old.image op args.now (length outs.old) }
+        ensures ends { CallEndsWith self.old.image op args.now fuel self.old.cells outs.old result self.new.cells outs.new }
+        ensures image { self.new.image ≡ self.old.image }
+        ensures started { self.new.started ≡ true }
+        ensures stopped { self.new.stopped ≡ is_stop result }
+    {
+        let image = &self.image;
+        let entry = &image.ops.as_slice()[op as usize];
+        place_arguments(entry.inputs.as_slice(), args, &mut self.cells);
+        self.stack.clear();
+        let end = run(image, entry.start as usize, &mut self.stack, &mut self.cells, fuel);
+        match end {
+            CallEnd::Done { .. } => give_outputs(entry.outputs.as_slice(), &self.cells, outs),
+            _ => self.stopped = true,
+        }
+        end
+    }
+
+    /// Whether the initialisation has run.
     pub fn is_started(&self) -> bool
-        ensures { result ≡ self.now.started }
+        ensures { IsTrue result ↔ (self.now.started ≡ true) }
     {
         self.started
     }
 
+    /// Whether a trap or want of fuel has stopped the machine.
     pub fn is_stopped(&self) -> bool
-        ensures { result ≡ self.now.stopped }
+        ensures { IsTrue result ↔ (self.now.stopped ≡ true) }
     {
         self.stopped
     }
@@ -62,5 +106,27 @@ impl Machine {
         ensures { result.now ≡ self.now.image }
     {
         &self.image
+    }
+}
+
+// Puts the arguments into the input slots in order.
+fn place_arguments(inputs: &[Parameter], args: &[i64], cells: &mut [i64])
+    requires counted { length args.now ≡ length inputs.now }
+    requires slots { All (λ input. input.slot < length cells.old) inputs.now }
+    ensures { cells.new ≡ placed inputs.now args.now cells.old }
+{
+    for (i, input) in inputs.iter().enumerate() {
+        cells[input.slot as usize] = args[i];
+    }
+}
+
+// Writes the numbers of the output slots in order.
+fn give_outputs(outputs: &[Parameter], cells: &[i64], outs: &mut [i64])
+    requires counted { length outs.old ≡ length outputs.now }
+    requires slots { All (λ output. output.slot < length cells.now) outputs.now }
+    ensures { outs.new ≡ outputs_of outputs.now cells.now }
+{
+    for (i, output) in outputs.iter().enumerate() {
+        outs[i] = cells[output.slot as usize];
     }
 }
