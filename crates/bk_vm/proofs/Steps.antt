@@ -1,5 +1,5 @@
 -- From the checks of an image to the execution of one instruction, and from steps to a call's end.
-use Rattle.std.proofs.Common.{◌≡◌, ℕ, zero, suc, ◌+◌, ◌-◌, ◌<◌, ◌≤◌, ◌⊎◌, inl, inr, refl, sym, ◌∙◌, ap, subst, arith, Bool, true, false, List, ◌∷◌, length, get_or, Some, None, Ok, ℤ, pos, add-one}
+use Rattle.std.proofs.Common.{◌≡◌, ℕ, ◌+◌, ◌-◌, ◌<◌, ◌≤◌, ◌⊎◌, inl, inr, refl, sym, subst, arith, Bool, true, false, List, ◌∷◌, length, get_or, Some, None, Ok, ℤ, pos, add-one}
 use Rattle.std.specs.Prelude.{slice_get, slice_index, if◌then◌else◌}
 use Rattle.std.proofs.lemmas.Option.{slice_get-get_or}
 use Rattle.bk_code.specs.declared.image.Image.{Image}
@@ -8,15 +8,15 @@ use Rattle.bk_code.specs.declared.instruction.Inst.TheVariants.{Push, Load, Stor
 use Rattle.bk_code.specs.declared.instruction.Trap.{Trap}
 use Rattle.bk_code.specs.Numbers.{int_max}
 use Rattle.bk_code.specs.Step.{Config, GoesOn, Returns, Traps, calculated, is_index, element_cell, row, step}
-use Rattle.bk_code.specs.Run.{Leads, Ends}
-use Rattle.bk_code.specs.Checks.{IsNumbered, IsDepths, IsFitting, IsLeaving, FlowsTo, pops, pushes}
+use Rattle.bk_code.specs.Run.{Leads}
+use Rattle.bk_code.specs.Checks.{IsLeaving, FlowsTo, pops, pushes}
 use Rattle.bk_code.specs.Laws.{AreCells}
 use Rattle.bk_code.proofs.Runs.{keeps_fitting}
 use Rattle.bk_vm.specs.declared.end.CallEnd.TheVariants.{Done, Trap as TrapEnd, OutOfFuel}
 use Rattle.bk_vm.specs.declared.execute.Flow.{Flow}
 use Rattle.bk_vm.specs.declared.execute.Flow.TheVariants.{Next, Return, Trapped}
 use Rattle.bk_vm.specs.Ends.{EndsWith}
-use Rattle.bk_vm.specs.Flows.{outcome_of, KeepsAtEnd, standing, IsExecutable, IsReady, IsReadyAfter}
+use Rattle.bk_vm.specs.Flows.{outcome_of, standing, IsExecutable, IsReady, IsReadyAfter}
 
 -- an instruction that pushes more than it pops goes on to the next place
 grows : (inst : Inst) (at : ℕ) → (pushes inst ≤ pops inst) ⊎ (FlowsTo inst at (at + 1) × (IsLeaving inst → ⊥))

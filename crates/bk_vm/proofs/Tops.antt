@@ -1,5 +1,5 @@
 -- The numbers on a stack after a write above its top.
-use Rattle.std.proofs.Common.{◌≡◌, ℕ, zero, suc, ◌+◌, ◌<◌, ◌≤◌, refl, sym, ◌∙◌, ap, arith, List, [], ◌∷◌, length, get_or, set, ℤ, pos, add-one, get_or-set_same, get_or-set_other}
+use Rattle.std.proofs.Common.{◌≡◌, ℕ, zero, suc, ◌+◌, ◌<◌, ◌≤◌, refl, ap, arith, List, ◌∷◌, length, get_or, set, ℤ, pos, add-one, get_or-set_same, get_or-set_other}
 use Rattle.bk_vm.specs.Depth.{tops}
 
 pub length-tops : (depth : ℕ) (numbers : List ℤ) → length (tops depth numbers) ≡ depth

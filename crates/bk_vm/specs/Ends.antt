@@ -5,7 +5,7 @@ use Rattle.bk_code.specs.declared.image.OpEntry.{OpEntry}
 use Rattle.bk_code.specs.declared.image.Parameter.{Parameter}
 use Rattle.bk_code.specs.Step.{Config}
 use Rattle.bk_code.specs.Run.{End, Done, Trapped, OutOfFuel, Ends}
-use Rattle.bk_code.specs.Session.{call_start, first_start, outputs_of}
+use Rattle.bk_code.specs.Session.{call_start, outputs_of}
 use Rattle.bk_vm.specs.declared.end.CallEnd.{CallEnd}
 use Rattle.bk_vm.specs.declared.end.CallEnd.TheVariants.{Done as DoneEnd, Trap as TrapEnd, OutOfFuel as OutOfFuelEnd}
 

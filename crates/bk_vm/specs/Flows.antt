@@ -3,8 +3,8 @@ use Rattle.std.specs.Prelude.{◌≡◌, ℕ, ◌+◌, ◌-◌, ◌≤◌, ℤ, 
 use Rattle.bk_code.specs.declared.image.Image.{Image}
 use Rattle.bk_code.specs.declared.instruction.Inst.{Inst}
 use Rattle.bk_code.specs.declared.instruction.Inst.TheVariants.{Add, Sub, Mul, Div, Mod, Neg, Eq, Lt, Le, Not}
-use Rattle.bk_code.specs.Numbers.{int_max, IsWithin}
-use Rattle.bk_code.specs.Step.{Config, Outcome, GoesOn, Returns, Traps, next}
+use Rattle.bk_code.specs.Numbers.{IsWithin}
+use Rattle.bk_code.specs.Step.{Config, Outcome, Returns, Traps, next}
 use Rattle.bk_code.specs.Checks.{IsNumbered, IsDepths, IsFitting, IsGoodInst, pops, pushes}
 use Rattle.bk_code.specs.Laws.{AreCells}
 use Rattle.bk_vm.specs.declared.execute.Flow.{Flow}

@@ -16,3 +16,15 @@ pub enum CallEnd {
     /// As many steps as there was fuel, and the call goes on.
     OutOfFuel,
 }
+
+impl CallEnd {
+    ghost use Rattle.std.specs.Prelude.{◌≡◌};
+    ghost use Rattle.bk_vm.specs.Ends.{is_stop};
+
+    /// Whether the machine is stopped after it.
+    pub fn is_stop(self) -> bool
+        ensures { result ≡ is_stop self }
+    {
+        !matches!(self, CallEnd::Done { .. })
+    }
+}

@@ -5,6 +5,7 @@ mod arithmetic;
 mod end;
 mod execute;
 mod machine;
+mod operation;
 mod stack;
 
 pub use end::CallEnd;

@@ -1,14 +1,16 @@
 //! A machine with its cells.
-ghost use Rattle.std.specs.Prelude.{◌≡◌, ◌<◌, ◌↔◌, IfOk, IsTrue, ℤ, List, All, length, true, false};
+ghost use Rattle.std.specs.Prelude.{◌≡◌, ◌↔◌, IfOk, IsTrue, length, true, false};
 ghost use Rattle.bk_code.specs.Checks.{IsChecked};
-ghost use Rattle.bk_code.specs.Session.{first_start, placed, outputs_of};
+ghost use Rattle.bk_code.specs.Laws.{AreCells};
+ghost use Rattle.bk_code.specs.Session.{first_start};
 ghost use Rattle.bk_vm.specs.Ends.{EndsWith, CallEndsWith, is_stop};
-ghost use Rattle.bk_vm.specs.State.{fresh, TakesCall};
+ghost use Rattle.bk_vm.specs.State.{fresh, IsMachine, TakesCall};
 
 use crate::CallEnd;
 use crate::execute::run;
+use crate::operation::run_operation;
 use crate::stack::Stack;
-use bk_code::{Image, Memory, Parameter};
+use bk_code::{Image, Memory};
 use std::alloc::Global;
 use std::marker::Model;
 
@@ -56,11 +58,12 @@ impl Machine {
         ensures image { self.new.image ≡ self.old.image }
         ensures started { self.new.started ≡ true }
         ensures stopped { self.new.stopped ≡ is_stop result }
+        ensures cells { AreCells self.new.image self.new.cells }
     {
         self.stack.clear();
         let end = run(&self.image, 0, &mut self.stack, &mut self.cells, fuel);
         self.started = true;
-        self.stopped = !matches!(end, CallEnd::Done { .. });
+        self.stopped = end.is_stop();
         end
     }
 
@@ -74,16 +77,10 @@ impl Machine {
         ensures image { self.new.image ≡ self.old.image }
         ensures started { self.new.started ≡ true }
         ensures stopped { self.new.stopped ≡ is_stop result }
+        ensures cells { AreCells self.new.image self.new.cells }
     {
-        let image = &self.image;
-        let entry = &image.ops.as_slice()[op as usize];
-        place_arguments(entry.inputs.as_slice(), args, &mut self.cells);
-        self.stack.clear();
-        let end = run(image, entry.start as usize, &mut self.stack, &mut self.cells, fuel);
-        match end {
-            CallEnd::Done { .. } => give_outputs(entry.outputs.as_slice(), &self.cells, outs),
-            _ => self.stopped = true,
-        }
+        let end = run_operation(&self.image, op, args, outs, &mut self.stack, &mut self.cells, fuel);
+        self.stopped = end.is_stop();
         end
     }
 
@@ -103,30 +100,10 @@ impl Machine {
 
     /// The image that was given to `new`.
     pub fn image(&self) -> &Image
-        ensures { result.now ≡ self.now.image }
+        ensures image { result.now ≡ self.now.image }
+        ensures whole { IsMachine self.now.image self.now.cells self.now.started }
     {
         &self.image
     }
 }
 
-// Puts the arguments into the input slots in order.
-fn place_arguments(inputs: &[Parameter], args: &[i64], cells: &mut [i64])
-    requires counted { length args.now ≡ length inputs.now }
-    requires slots { All (λ input. input.slot < length cells.old) inputs.now }
-    ensures { cells.new ≡ placed inputs.now args.now cells.old }
-{
-    for (i, input) in inputs.iter().enumerate() {
-        cells[input.slot as usize] = args[i];
-    }
-}
-
-// Writes the numbers of the output slots in order.
-fn give_outputs(outputs: &[Parameter], cells: &[i64], outs: &mut [i64])
-    requires counted { length outs.old ≡ length outputs.now }
-    requires slots { All (λ output. output.slot < length cells.now) outputs.now }
-    ensures { outs.new ≡ outputs_of outputs.now cells.now }
-{
-    for (i, output) in outputs.iter().enumerate() {
-        outs[i] = cells[output.slot as usize];
-    }
-}

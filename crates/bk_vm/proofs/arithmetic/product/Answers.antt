@@ -1,4 +1,4 @@
-use Rattle.std.proofs.Common.{to_z, of_z, w64, ◌≡◌, arith, ◌*ℤ◌, FitsSigned, lit<}
+use Rattle.std.proofs.Common.{w64, ◌*ℤ◌, FitsSigned, lit<}
 use Rattle.std.proofs.lemmas.Int.{to_z-of_z, fits_signed_mul}
 use Rattle.bk_code.proofs.Ranges.{abs_from_within}
 use Rattle.bk_vm.proofs.arithmetic.product.Goals as goal

@@ -1,4 +1,4 @@
-use Rattle.std.proofs.Common.{◌≡◌, ◌<◌, ◌∙◌, sym, arith, rules, length, get_or, pos, FitsSigned, w64}
+use Rattle.std.proofs.Common.{◌<◌, ◌∙◌, sym, arith, rules, length, get_or, pos, FitsSigned, w64}
 use Rattle.std.proofs.lemmas.Int.{to_z-of_z}
 use Rattle.bk_vm.proofs.Steps.{row-ALoad}
 use Rattle.bk_vm.proofs.execute.load_element.Goals as goal

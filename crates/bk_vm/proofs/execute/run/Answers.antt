@@ -1,4 +1,4 @@
-use Rattle.std.proofs.Common.{◌≡◌, arith}
+use Rattle.std.proofs.Common.{arith}
 use Rattle.bk_vm.specs.Flows.{standing}
 use Rattle.bk_vm.proofs.Steps.{done_ends, fuel_ends}
 use Rattle.bk_vm.proofs.execute.run.Goals as goal

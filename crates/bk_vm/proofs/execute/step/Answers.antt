@@ -1,5 +1,4 @@
-use Rattle.std.proofs.Common.{◌≡◌, ◌∙◌, sym, ap, Some, List, length, pos, get_or}
-use Rattle.std.specs.Prelude.{slice_get}
+use Rattle.std.proofs.Common.{◌∙◌, sym, pos, get_or}
 use Rattle.std.proofs.lemmas.Option.{slice_get-get_or}
 use Rattle.bk_code.specs.declared.instruction.Inst.TheVariants.{Push}
 use Rattle.bk_vm.proofs.Steps.{executable, step_is, ready_after}

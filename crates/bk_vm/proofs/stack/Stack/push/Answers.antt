@@ -1,6 +1,5 @@
-use Rattle.std.proofs.Common.{to_z, of_z, w64, ◌≡◌, arith, ◌∙◌, ap, sym, ◌∷◌}
+use Rattle.std.proofs.Common.{arith}
 use Rattle.std.proofs.lemmas.Int.{to_z-of_z}
-use Rattle.bk_vm.specs.Depth.{tops}
 use Rattle.bk_vm.proofs.Tops.{tops-push, length-tops}
 use Rattle.bk_vm.proofs.stack.Stack.push.Goals as goal
 

@@ -1,6 +1,6 @@
 use Rattle.std.proofs.Common.{◌≡◌, drop, length}
 use Rattle.bk_code.specs.Session.{placed}
-use Rattle.bk_vm.proofs.machine.place_arguments.Given as goal
+use Rattle.bk_vm.proofs.operation.place_arguments.Given as goal
 
 abbrev pub invariant-loop-i : goal.invariant-loop-i
 invariant-loop-i l = record {
