@@ -1,0 +1,6 @@
+pub mod Ranges
+pub mod Fits
+pub mod Runs
+pub mod Sessions
+pub mod CellValues
+pub mod DeadCode

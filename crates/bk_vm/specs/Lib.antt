@@ -1,0 +1,6 @@
+pub mod State
+pub mod Ends
+pub mod Flows
+pub mod Depth
+pub mod Places
+pub mod Sessions

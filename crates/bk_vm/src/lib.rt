@@ -1,0 +1,19 @@
+//! A machine that runs the code of an image that passes the loader's checks.
+#![tactic(auto)]
+
+mod arithmetic;
+mod end;
+mod execute;
+mod laws;
+mod machine;
+mod operation;
+mod stack;
+
+pub use end::CallEnd;
+pub use laws::calls_make_a_session;
+pub use machine::Machine;
+
+#[cfg(test)]
+mod checker;
+#[cfg(test)]
+mod tests;
