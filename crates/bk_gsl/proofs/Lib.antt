@@ -1,0 +1,3 @@
+pub mod Examples
+pub mod Runs
+pub mod States
