@@ -1,0 +1,6 @@
+//! Developments: a machine, its chain of refinements and at most one implementation.
+#![tactic(auto)]
+
+pub mod kind;
+
+pub use kind::{Home, Kind};
