@@ -31,9 +31,6 @@ abbrev pub type_in : Role → ValueType
 type_in (gives t) = t
 type_in _ = bool_type
 
-abbrev pub variable_meaning : Table → Role → MathValue → Meaning
-variable_meaning table r v = of_value r v
-
 abbrev pub bound_meaning : Table → Option Binding → Meaning
 bound_meaning table None = of_truth untyped false
 bound_meaning table (Some b) = of_value (bound_role table (Some b.0)) b.1

@@ -2,6 +2,7 @@
 
 ghost use Rattle.std.specs.Prelude.{◌≡◌, ◌<◌, ◌≤◌, ◌^◌, IfOk, IsTrue, ◌↔◌};
 ghost use Rattle.bk_form.specs.Formula.{formula_size, formula_height, formulas_size, formulas_height, formulas_of};
+ghost use Rattle.bk_form.specs.Storable.{is_storable, are_storable, has_storable_parts};
 ghost use Rattle.bk_form.specs.FormView.{made};
 ghost use Rattle.bk_form.specs.FormShown.{shown};
 
@@ -73,11 +74,11 @@ impl Model for Form {
 
     ghost coded = { coded_formula };
 
-    ghost use Rattle.bk_form.specs.FormView.{made, IsCounted};
+    ghost use Rattle.bk_form.specs.FormView.{made, IsStored};
 
     ghost view = { λ f. made f.shared.value.part };
 
-    ghost invariant = { IsCounted };
+    ghost invariant = { IsStored };
 
     ghost size = { formula_size };
 
@@ -115,6 +116,7 @@ impl Form {
     {
         let nodes = part.nodes();
         let height = part.height();
+        part.has_storable_parts();
         let counted = Counted {
             nodes,
             height,
@@ -138,6 +140,23 @@ impl Form {
         ensures { result ≡ formula_height self.now }
     {
         self.shared.height
+    }
+
+    /// Its numbers fit those of the program. It does nothing: callers learn it of the mathematical formula.
+    pub fn is_storable(&self)
+        ensures { IsTrue (is_storable self.now) }
+    {
+        let _ = &self.shared;
+    }
+
+    /// The same of each formula.
+    #[tactic(auto, using(crate::proofs::StorableLists::one_more_storable))]
+    pub fn are_storable(forms: &[Form])
+        ensures { IsTrue (are_storable (formulas_of forms.now)) }
+    {
+        for form in forms {
+            form.is_storable();
+        }
     }
 
     /// What it is, and its parts.
@@ -275,6 +294,38 @@ impl Part {
                 largest_depth(ranges).max(body.depth().max(value.depth())) + 1
             }
             _ => 1,
+        }
+    }
+
+    // The parts can be held: it does nothing.
+    fn has_storable_parts(&self)
+        ensures { IsTrue (has_storable_parts (made self.now)) }
+    {
+        match self {
+            Part::Empty(ty) => ty.is_storable(),
+            Part::Un(_, operand) => operand.is_storable(),
+            Part::Bin(_, left, right) => {
+                left.is_storable();
+                right.is_storable();
+            }
+            Part::All(types, body) => {
+                Ty::are_storable(types);
+                body.is_storable();
+            }
+            Part::Some(types, body) => {
+                Ty::are_storable(types);
+                body.is_storable();
+            }
+            Part::Compr(ranges, body) => {
+                Form::are_storable(ranges);
+                body.is_storable();
+            }
+            Part::Lam(ranges, body, value) => {
+                Form::are_storable(ranges);
+                body.is_storable();
+                value.is_storable();
+            }
+            _ => {}
         }
     }
 }
