@@ -1,0 +1,36 @@
+//! Laws of the definitions, as contracts of functions that do nothing.
+ghost use Rattle.bk_code.specs.Laws.{StoresPushed, EndsAtReturn, IsOutOfFuelBelow, IsTrapOutOfFuel, StaysDone, StaysTrapped, HasOneEnd, IsNeverStuck, KeepsFitting, HasSomeEnd, IsFirstFitting, IsCallFitting, HasOneSession, HasSomeSession};
+
+/// A Push with a Store behind it writes a cell and leaves the stack alone.
+pub fn pushes_store()
+    ensures { StoresPushed }
+{}
+
+/// A call ends with the step of its first Ret, for want of fuel before it, and a trap takes no step.
+pub fn ends_are_exact()
+    ensures at_return { EndsAtReturn }
+    ensures out_of_fuel { IsOutOfFuelBelow }
+    ensures trap { IsTrapOutOfFuel }
+{}
+
+/// More fuel changes no end but that for want of fuel.
+pub fn ends_stay()
+    ensures done { StaysDone }
+    ensures trapped { StaysTrapped }
+{}
+
+/// A call has one end at most, and a session tells one thing at most.
+pub fn ends_are_unique()
+    ensures end { HasOneEnd }
+    ensures session { HasOneSession }
+{}
+
+/// A checked image is never stuck: its calls end and its sessions tell something, whatever the fuel.
+pub fn checked_images_are_safe()
+    ensures never_stuck { IsNeverStuck }
+    ensures keeps { KeepsFitting }
+    ensures first_start { IsFirstFitting }
+    ensures call_start { IsCallFitting }
+    ensures end { HasSomeEnd }
+    ensures session { HasSomeSession }
+{}
