@@ -1,22 +1,23 @@
 -- What is in comprehensions, intervals and arrows.
-use Rattle.std.proofs.Common.{◌≡◌, ◌↔◌, ◌⊎◌, inl, inr, ℕ, zero, suc, ◌+◌, ◌<◌, ◌≤◌, ℤ, pos, negsuc, ◌+ℤ◌, ◌-ℤ◌, ◌≤ℤ◌, List, [], ◌∷◌, map, refl, sym, ◌∙◌, ap, subst, Bool, true, false, not, ◌&&◌, arith}
+use Rattle.std.proofs.Common.{◌≡◌, ◌↔◌, ◌⊎◌, inl, inr, ℕ, zero, suc, ◌+◌, ◌<◌, ℤ, pos, negsuc, ◌+ℤ◌, ◌-ℤ◌, ◌≤ℤ◌, List, [], ◌∷◌, map, refl, sym, ◌∙◌, ap, subst, Bool, true, false, not, ◌&&◌, arith}
 use Rattle.std.specs.Prelude.{int_le}
 use Rattle.std.specs.List.{filter}
 use Rattle.std.proofs.lemmas.Int.{ints}
-use Rattle.bk_val.specs.Value.{MathValue, int, bool, elem, pair, set}
+use Rattle.bk_val.specs.Value.{MathValue, int, pair}
 use Rattle.bk_val.specs.ValueType.{ValueType, int_type, is_value_of, are_of_types}
 use Rattle.bk_val.specs.Sets.{has, second_of}
 use Rattle.bk_form.specs.Table.{set_size}
 use Rattle.bk_form.specs.Formula.{Formula, named, binary, comprehension, lambda, Formulas}
-use Rattle.bk_form.specs.Search.{Finder, IsSearch, no_choice}
+use Rattle.bk_form.specs.Search.{Finder, IsSearch}
 use Rattle.bk_form.specs.Environment.{Environment, bound_types, under}
 use Rattle.bk_form.specs.Role.{Role, role, element_type}
-use Rattle.bk_form.specs.Operators.{elements, first_of, numbers_from, count_of, interval, set_value, covers, passes, tuple_of, choices, is_element, number_in}
-use Rattle.bk_form.specs.Meaning.{Meaning, meaning, meanings, value, truth, within, range_types, chosen}
+use Rattle.bk_form.specs.Operators.{elements, first_part, numbers_from, count_of, interval, set_value, covers, passes, tuple_of, choices, is_element, number_in}
+use Rattle.bk_form.specs.Meaning.{meaning, meanings, value, truth, within, range_types}
 use Rattle.bk_form.specs.Defined.{IsChoice, InRanges}
-use Rattle.bk_form.specs.declared.operator.BinOp.TheVariants.{Range, PartialFunctions, TotalFunctions, PartialSurjections}
+use Rattle.bk_form.specs.declared.operator.BinOp.TheVariants.{PartialFunctions, TotalFunctions, PartialSurjections}
 use Rattle.bk_form.specs.declared.operator.Domain.TheVariants.{Natural}
-use Rattle.bk_form.proofs.Members.{both_ways, and-true, and-both, Has, has-then, has-if, Has-map-then, Has-map-if, Has-filter-then, Has-filter-if, element-set_value}
+use Rattle.bk_form.proofs.Members.{both_ways, and-true, and-both, Has, has-then, has-if, Has-map-then, Has-map-if, Has-filter-then, Has-filter-if, Has-flat_map-then, Has-flat_map-if, element-set_value}
+use Rattle.bk_form.specs.Laws.{TakesOneOfEach, ChoicesAre, IntervalHas}
 use Rattle.bk_form.proofs.Roles.{meaning-role}
 use Rattle.bk_form.proofs.Truth.{no_choice-then, no_choice-if}
 
@@ -56,6 +57,28 @@ module _ (find : Finder) (e : Environment) (rs : Formulas) where
 
   pub lambda-has : (p q : Formula) (v : MathValue) → (within find e v (lambda rs p q) ≡ true) ↔ ((vs : List MathValue) × InRanges find e rs vs × (truth find (inner vs) p ≡ true) × (v ≡ pair (tuple_of vs) (value find (inner vs) q)))
   lambda-has p q v = results-have p (λ vs. pair (tuple_of vs) (value find (inner vs) q)) v
+
+-- ---- choices
+choices-then : (ws vs : List MathValue) → Has vs (choices ws) → TakesOneOfEach ws vs
+choices-then [] [] h = tt
+choices-then [] (v ∷ vs) (inl h) = absurd (cc)
+choices-then [] (v ∷ vs) (inr h) = absurd h
+choices-then (w ∷ ws) [] h = let k = Has-flat_map-then (λ v. map (λ vs. v ∷ vs) (choices ws)) [] (elements w) h in let m = Has-map-then (λ vs. k.0 ∷ vs) [] (choices ws) k.2 in absurd (cc)
+choices-then (w ∷ ws) (v ∷ vs) h =
+    let k = Has-flat_map-then (λ v. map (λ vs. v ∷ vs) (choices ws)) (v ∷ vs) (elements w) h in
+    let m = Has-map-then (λ vs. k.0 ∷ vs) (v ∷ vs) (choices ws) k.2 in
+    let e : v ≡ k.0 = cc in
+    let d : vs ≡ m.0 = cc in
+    (has-if v (elements w) (subst (λ x. Has x (elements w)) (sym e) k.1), choices-then ws vs (subst (λ x. Has x (choices ws)) (sym d) m.1))
+
+choices-if : (ws vs : List MathValue) → TakesOneOfEach ws vs → Has vs (choices ws)
+choices-if [] [] h = inl refl
+choices-if [] (v ∷ vs) h = absurd h
+choices-if (w ∷ ws) [] h = absurd h
+choices-if (w ∷ ws) (v ∷ vs) h = Has-flat_map-if (λ v. map (λ vs. v ∷ vs) (choices ws)) (v ∷ vs) (elements w) v (has-then v (elements w) h.0) (Has-map-if (λ vs. v ∷ vs) (v ∷ vs) (choices ws) vs (choices-if ws vs h.1) refl)
+
+pub choices-are : ChoicesAre
+choices-are ws vs = ((λ h. choices-then ws vs (choice-has (choices ws) vs h)), (λ h. has-choice (choices ws) vs (choices-if ws vs h)))
 
 -- ---- intervals
 int_le-then : (x y : ℤ) → int_le x y ≡ true → x ≤ℤ y
@@ -148,11 +171,11 @@ covers-true find law sizes t in_a xs =
         longer false b = refl
 
 module _ (find : Finder) (law : IsSearch find) (e : Environment) (a b : Formula) (f : MathValue) where
-  pub total-means : (within find e f (binary TotalFunctions a b) ≡ true) ↔ ((within find e f (binary PartialFunctions a b) ≡ true) × ((v : MathValue) → is_value_of (set_size e.table) (element_type (meaning find e a).role) v ≡ true → within find e v a ≡ true → has (map first_of (elements f)) v ≡ true))
+  pub total-means : (within find e f (binary TotalFunctions a b) ≡ true) ↔ ((within find e f (binary PartialFunctions a b) ≡ true) × ((v : MathValue) → is_value_of (set_size e.table) (element_type (meaning find e a).role) v ≡ true → within find e v a ≡ true → has (map first_part (elements f)) v ≡ true))
   total-means =
       let partial = within find e f (binary PartialFunctions a b) in
-      let all = covers find (set_size e.table) (element_type (meaning find e a).role) (meaning find e a).contains (map first_of (elements f)) in
-      let c = covers-true find law (set_size e.table) (element_type (meaning find e a).role) (meaning find e a).contains (map first_of (elements f)) in (
+      let all = covers find (set_size e.table) (element_type (meaning find e a).role) (meaning find e a).contains (map first_part (elements f)) in
+      let c = covers-true find law (set_size e.table) (element_type (meaning find e a).role) (meaning find e a).contains (map first_part (elements f)) in (
         (λ h. let k = and-both partial all h in (k.0, c.0 k.1)),
         (λ k. and-true partial all k.0 (c.1 k.1)),
       )
@@ -197,18 +220,24 @@ and-false true b h = h
 and-false false b h = refl
 
 pub no-total-function : (find : Finder) → IsSearch find → (e : Environment) (b : Formula) (f : MathValue) → within find e f (binary TotalFunctions (named Natural) b) ≡ false
-no-total-function find law e b f = and-false (within find e f (binary PartialFunctions (named Natural) b)) (covers find (set_size e.table) int_type (meaning find e (named Natural)).contains (map first_of (elements f))) (natural-not-covered find law (set_size e.table) (map first_of (elements f)) (meaning find e (named Natural)).contains (λ n. non_negative n))
+no-total-function find law e b f = and-false (within find e f (binary PartialFunctions (named Natural) b)) (covers find (set_size e.table) int_type (meaning find e (named Natural)).contains (map first_part (elements f))) (natural-not-covered find law (set_size e.table) (map first_part (elements f)) (meaning find e (named Natural)).contains (λ n. non_negative n))
   where
     non_negative : (n : ℕ) → int_le (pos 0) (pos n) ≡ true
     non_negative n = int_le-if (pos 0) (pos n) (omega (arith, ints))
 
 -- ---- the same, with the roles of the formulas
-pub total-role : (find : Finder) → IsSearch find → (e : Environment) (a b : Formula) (f : MathValue) → (within find e f (binary TotalFunctions a b) ≡ true) ↔ ((within find e f (binary PartialFunctions a b) ≡ true) × ((v : MathValue) → is_value_of (set_size e.table) (element_type (role e.table (bound_types e) a)) v ≡ true → within find e v a ≡ true → has (map first_of (elements f)) v ≡ true))
+pub total-role : (find : Finder) → IsSearch find → (e : Environment) (a b : Formula) (f : MathValue) → (within find e f (binary TotalFunctions a b) ≡ true) ↔ ((within find e f (binary PartialFunctions a b) ≡ true) × ((v : MathValue) → is_value_of (set_size e.table) (element_type (role e.table (bound_types e) a)) v ≡ true → within find e v a ≡ true → has (map first_part (elements f)) v ≡ true))
 total-role find law e a b f =
-    let P : Role → Type 0 = λ r. (within find e f (binary TotalFunctions a b) ≡ true) ↔ ((within find e f (binary PartialFunctions a b) ≡ true) × ((v : MathValue) → is_value_of (set_size e.table) (element_type r) v ≡ true → within find e v a ≡ true → has (map first_of (elements f)) v ≡ true)) in
+    let P : Role → Type 0 = λ r. (within find e f (binary TotalFunctions a b) ≡ true) ↔ ((within find e f (binary PartialFunctions a b) ≡ true) × ((v : MathValue) → is_value_of (set_size e.table) (element_type r) v ≡ true → within find e v a ≡ true → has (map first_part (elements f)) v ≡ true)) in
     subst P (meaning-role find e a) (total-means find law e a b f)
 
 pub onto-role : (find : Finder) → IsSearch find → (e : Environment) (a b : Formula) (f : MathValue) → (within find e f (binary PartialSurjections a b) ≡ true) ↔ ((within find e f (binary PartialFunctions a b) ≡ true) × ((v : MathValue) → is_value_of (set_size e.table) (element_type (role e.table (bound_types e) b)) v ≡ true → within find e v b ≡ true → has (map second_of (elements f)) v ≡ true))
 onto-role find law e a b f =
     let P : Role → Type 0 = λ r. (within find e f (binary PartialSurjections a b) ≡ true) ↔ ((within find e f (binary PartialFunctions a b) ≡ true) × ((v : MathValue) → is_value_of (set_size e.table) (element_type r) v ≡ true → within find e v b ≡ true → has (map second_of (elements f)) v ≡ true)) in
     subst P (meaning-role find e b) (onto-means find law e a b f)
+
+pub interval-members : IntervalHas
+interval-members = record {
+  numbers = λ find e a b z. interval-has (number_in (value find e a)) (number_in (value find e b)) z;
+  others = λ find e a b v h. interval-only (number_in (value find e a)) (number_in (value find e b)) v h;
+}

@@ -1,18 +1,18 @@
 -- A formula that gives a type gives one whose sets the table lists.
-use Rattle.std.proofs.Common.{◌≡◌, ℕ, nat_lt, List, [], ◌∷◌, map, refl, sym, ◌∙◌, ap, subst, Bool, true, false, ◌&&◌}
+use Rattle.std.proofs.Common.{◌≡◌, ℕ, nat_lt, List, [], ◌∷◌, refl, sym, ◌∙◌, subst, true, ◌&&◌}
 use Rattle.std.specs.Prelude.{Option, Some, None, slice_get}
 use Rattle.bk_val.specs.ValueType.{ValueType, int_type, bool_type, enum_type, pair_type, set_type}
 use Rattle.bk_form.specs.Table.{Table, lists_type, set_size, variable_type}
 use Rattle.bk_form.specs.Formula.{Formula, variable, bound, literal, truth_value, element, empty_set, named, btrue, bfalse, unary, binary, for_all, for_some, comprehension, lambda, Formulas, no_formulas, formula_and}
-use Rattle.bk_form.specs.Role.{Role, gives, ranges_over, predicate, untyped, if_holds, if_predicate, if_number, if_value, if_set, if_relation, if_domain, same_type, given_by, bound_role, empty_role, element_role, named_role, role, roles, unary_role, binary_role, numbers_role, sets_role, product_role, domain_part_role, range_part_role, override_role, pair_role, image_role, application_role, composition_role, all_listed, push, gives_set, each_gives_set, are_ranges, element_type, element_types, tuple_type_onto, tuple_type}
+use Rattle.bk_form.specs.Role.{Role, gives, predicate, if_holds, if_predicate, if_number, if_value, if_set, if_relation, same_type, given_by, bound_role, empty_role, element_role, named_role, role, roles, unary_role, binary_role, numbers_role, sets_role, product_role, domain_part_role, range_part_role, override_role, pair_role, image_role, application_role, composition_role, bind, gives_set, each_gives_set, are_ranges, element_type, element_types, tuple_type_onto, tuple_type}
 use Rattle.bk_form.specs.declared.operator.UnOp.{UnOp}
 use Rattle.bk_form.specs.declared.operator.UnOp.TheVariants.{Not, BoolOf, Neg, Card, Min, Max, Dom, Ran, Id, Inverse, Single, Pow, Pow1}
 use Rattle.bk_form.specs.declared.operator.BinOp.{BinOp}
 use Rattle.bk_form.specs.declared.operator.BinOp.TheVariants.{And, Or, Imp, Iff, Eq, Lt, Le, In, Relations, PartialFunctions, TotalFunctions, PartialInjections, TotalInjections, PartialSurjections, TotalSurjections, Bijections, Union, Inter, Minus, Times, DomRes, RanRes, DomSub, RanSub, Over, Maps, Range, Add, Sub, Mul, Div, Mod, Power, Image, Apply, Comp}
 use Rattle.bk_form.specs.declared.operator.Domain.{Domain}
-use Rattle.bk_form.specs.declared.operator.Domain.TheVariants.{Integer, Natural, Natural1, Bool as Booleans, Enum}
+use Rattle.bk_form.specs.declared.operator.Domain.TheVariants.{Bool as Booleans, Enum}
 use Rattle.bk_form.proofs.Members.{and-true, and-both}
-use Rattle.bk_form.proofs.Roles.{if_holds-gives, if_predicate-gives, if_number-gives, if_value-gives, if_set-gives, if_relation-gives, if_domain-gives}
+use Rattle.bk_form.proofs.Roles.{if_holds-gives, if_predicate-gives, if_number-gives, if_value-gives, if_set-gives, if_relation-gives}
 use Rattle.bk_form.proofs.Givers.{connective-gives, comparison-gives, equality-gives, membership-gives, arrow-gives, power-gives, quantifier-gives, product-gives}
 
 pub gives-same : (t u : ValueType) → gives t ≡ gives u → t ≡ u
@@ -196,20 +196,20 @@ module _ (table : Table) where
       gives-listed around bfalse t h = absurd (cc)
       gives-listed around (unary o a) t h = unary-listed o (role table around a) (gives-listed around a) t h
       gives-listed around (binary o a b) t h = binary-listed o (role table around a) (role table around b) (gives-listed around a) (gives-listed around b) t h
-      gives-listed around (for_all ts p) t h = absurd (quantifier-gives table ts (role table (push ts around) p) t h)
-      gives-listed around (for_some ts p) t h = absurd (quantifier-gives table ts (role table (push ts around) p) t h)
+      gives-listed around (for_all ts p) t h = absurd (quantifier-gives table ts (role table (bind ts around) p) t h)
+      gives-listed around (for_some ts p) t h = absurd (quantifier-gives table ts (role table (bind ts around) p) t h)
       gives-listed around (comprehension rs p) t h =
           let ts = element_types (roles table around rs) in
-          let k = if_holds-gives (are_ranges (roles table around rs)) (if_predicate (gives (set_type (tuple_type ts))) (role table (push ts around) p)) t h in
-          let m = if_predicate-gives (gives (set_type (tuple_type ts))) (role table (push ts around) p) t k.1 in
+          let k = if_holds-gives (are_ranges (roles table around rs)) (if_predicate (gives (set_type (tuple_type ts))) (role table (bind ts around) p)) t h in
+          let m = if_predicate-gives (gives (set_type (tuple_type ts))) (role table (bind ts around) p) t k.1 in
           as_given (set_type (tuple_type ts)) t m.1 (tuple-listed (roles table around rs) (each-listed around rs) k.0)
       gives-listed around (lambda rs p v) t h =
           let ts = element_types (roles table around rs) in
-          let image = role table (push ts around) v in
-          let k = if_holds-gives (are_ranges (roles table around rs)) (if_predicate (if_value (λ u. gives (set_type (pair_type (tuple_type ts) u))) image) (role table (push ts around) p)) t h in
-          let m = if_predicate-gives (if_value (λ u. gives (set_type (pair_type (tuple_type ts) u))) image) (role table (push ts around) p) t k.1 in
+          let image = role table (bind ts around) v in
+          let k = if_holds-gives (are_ranges (roles table around rs)) (if_predicate (if_value (λ u. gives (set_type (pair_type (tuple_type ts) u))) image) (role table (bind ts around) p)) t h in
+          let m = if_predicate-gives (if_value (λ u. gives (set_type (pair_type (tuple_type ts) u))) image) (role table (bind ts around) p) t k.1 in
           let n = if_value-gives (λ u. gives (set_type (pair_type (tuple_type ts) u))) image t m.1 in
-          as_given (set_type (pair_type (tuple_type ts) n.0)) t n.2 (and-true (lists_type table (tuple_type ts)) (lists_type table n.0) (tuple-listed (roles table around rs) (each-listed around rs) k.0) (gives-listed (push ts around) v n.0 n.1))
+          as_given (set_type (pair_type (tuple_type ts) n.0)) t n.2 (and-true (lists_type table (tuple_type ts)) (lists_type table n.0) (tuple-listed (roles table around rs) (each-listed around rs) k.0) (gives-listed (bind ts around) v n.0 n.1))
 
       each-listed : (around : List ValueType) (fs : Formulas) → ListedRoles (roles table around fs)
       each-listed around no_formulas = tt

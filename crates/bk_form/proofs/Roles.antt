@@ -1,13 +1,13 @@
 -- What the operands of a formula are, where it gives a type; and that a formula's meaning has its role.
-use Rattle.std.proofs.Common.{◌≡◌, ℕ, zero, suc, List, [], ◌∷◌, map, refl, sym, ◌∙◌, ap, Bool, true, false, ◌&&◌}
-use Rattle.std.specs.Prelude.{Option, Some, None, slice_get}
+use Rattle.std.proofs.Common.{◌≡◌, ℕ, zero, suc, List, [], ◌∷◌, map, refl, ◌∙◌, ap, Bool, true, false, ◌&&◌}
+use Rattle.std.specs.Prelude.{slice_get}
 use Rattle.bk_val.specs.Value.{MathValue}
 use Rattle.bk_val.specs.ValueType.{ValueType, int_type, bool_type, enum_type, pair_type, set_type, base_of}
 use Rattle.bk_form.specs.Table.{Table}
-use Rattle.bk_form.specs.Formula.{Formula, variable, bound, unary, binary, for_all, for_some, comprehension, lambda, Formulas, no_formulas, formula_and}
+use Rattle.bk_form.specs.Formula.{Formula, bound, unary, binary, for_all, for_some, comprehension, lambda, Formulas, no_formulas, formula_and}
 use Rattle.bk_form.specs.Search.{Finder}
 use Rattle.bk_form.specs.Environment.{Environment, Binding, bindings, bound_types, under}
-use Rattle.bk_form.specs.Role.{Role, gives, ranges_over, predicate, untyped, if_holds, if_predicate, if_number, if_value, if_set, if_relation, if_domain, same_type, push, role, roles, unary_role, binary_role, bound_role, quantifier_role, comprehension_role, lambda_role, element_type, element_types}
+use Rattle.bk_form.specs.Role.{Role, gives, ranges_over, predicate, if_holds, if_predicate, if_number, if_value, if_set, if_relation, if_domain, same_type, bind, role, roles, unary_role, binary_role, bound_role, quantifier_role, comprehension_role, lambda_role, element_types}
 use Rattle.bk_form.specs.Meaning.{meaning, meanings, roles_of, range_types, bound_meaning}
 use Rattle.std.proofs.lemmas.Bool.Decides.{nat_tests}
 use Rattle.std.proofs.Common.{arith, nat_eq}
@@ -67,10 +67,10 @@ same_type-then _ _ h = absurd (cc)
 types_of : List Binding → List ValueType
 types_of bs = map (λ b. b.0) bs
 
-pub types-push : (ts : List ValueType) (vs : List MathValue) (bs : List Binding) → map (λ b. b.0) (push (bindings ts vs) bs) ≡ push ts (map (λ b. b.0) bs)
-types-push [] vs bs = refl
-types-push (t ∷ ts) [] bs = types-push ts [] ((t, base_of t) ∷ bs)
-types-push (t ∷ ts) (v ∷ vs) bs = types-push ts vs ((t, v) ∷ bs)
+pub types-bind : (ts : List ValueType) (vs : List MathValue) (bs : List Binding) → map (λ b. b.0) (bind (bindings ts vs) bs) ≡ bind ts (map (λ b. b.0) bs)
+types-bind [] vs bs = refl
+types-bind (t ∷ ts) [] bs = types-bind ts [] ((t, base_of t) ∷ bs)
+types-bind (t ∷ ts) (v ∷ vs) bs = types-bind ts vs ((t, v) ∷ bs)
 
 role-bound : (table : Table) (bs : List Binding) (n : ℕ) → (bound_meaning table (slice_get bs n)).role ≡ bound_role table (slice_get (map (λ b. b.0) bs) n)
 role-bound table [] zero = refl
@@ -84,17 +84,17 @@ module _ (find : Finder) where
     meaning-role e (bound n) = role-bound e.table e.bound n
     meaning-role e (unary o a) = λ i. unary_role o (meaning-role e a i)
     meaning-role e (binary o a b) = λ i. binary_role o (meaning-role e a i) (meaning-role e b i)
-    meaning-role e (for_all ts p) = ap (quantifier_role e.table ts) (meaning-role (under e ts []) p ∙ ap (λ bs. role e.table bs p) (types-push ts [] e.bound))
-    meaning-role e (for_some ts p) = ap (quantifier_role e.table ts) (meaning-role (under e ts []) p ∙ ap (λ bs. role e.table bs p) (types-push ts [] e.bound))
+    meaning-role e (for_all ts p) = ap (quantifier_role e.table ts) (meaning-role (under e ts []) p ∙ ap (λ bs. role e.table bs p) (types-bind ts [] e.bound))
+    meaning-role e (for_some ts p) = ap (quantifier_role e.table ts) (meaning-role (under e ts []) p ∙ ap (λ bs. role e.table bs p) (types-bind ts [] e.bound))
     meaning-role e (comprehension rs p) =
         let ts = range_types (meanings find e rs) in
         let r = meanings-role e rs in
-        let inner = meaning-role (under e ts []) p ∙ ap (λ bs. role e.table bs p) (types-push ts [] e.bound ∙ ap (λ x. push (element_types x) (bound_types e)) r) in
+        let inner = meaning-role (under e ts []) p ∙ ap (λ bs. role e.table bs p) (types-bind ts [] e.bound ∙ ap (λ x. bind (element_types x) (bound_types e)) r) in
         λ i. comprehension_role (r i) (inner i)
     meaning-role e (lambda rs p v) =
         let ts = range_types (meanings find e rs) in
         let r = meanings-role e rs in
-        let around = types-push ts [] e.bound ∙ ap (λ x. push (element_types x) (bound_types e)) r in
+        let around = types-bind ts [] e.bound ∙ ap (λ x. bind (element_types x) (bound_types e)) r in
         let body = meaning-role (under e ts []) p ∙ ap (λ bs. role e.table bs p) around in
         let image = meaning-role (under e ts []) v ∙ ap (λ bs. role e.table bs v) around in
         λ i. lambda_role (r i) (body i) (image i)

@@ -1,15 +1,15 @@
 -- The truth of connectives and quantifiers.
 use Rattle.std.proofs.Common.{◌≡◌, ◌↔◌, ℕ, List, [], ◌∷◌, map, refl, sym, ◌∙◌, ap, Bool, true, false, not, ◌&&◌, ◌||◌}
-use Rattle.std.specs.Prelude.{Option, Some, None}
+use Rattle.std.specs.Prelude.{Option, Some, None, is_none}
 use Rattle.bk_val.specs.Value.{MathValue}
 use Rattle.bk_val.specs.ValueType.{ValueType, are_of_types, base_of}
 use Rattle.bk_val.specs.Sets.{has, second_of}
 use Rattle.bk_form.specs.Table.{set_size}
 use Rattle.bk_form.specs.Formula.{Formula, unary, binary, for_all, for_some, comprehension, lambda, Formulas, no_formulas, formula_and}
-use Rattle.bk_form.specs.Search.{Finder, IsSearch, is_nobody, no_choice}
+use Rattle.bk_form.specs.Search.{Finder, IsSearch, no_choice}
 use Rattle.bk_form.specs.Environment.{Environment, under}
 use Rattle.bk_form.specs.Role.{quantifier_role, binary_role, element_type}
-use Rattle.bk_form.specs.Operators.{elements, first_of, passes, covers, is_partial_function, is_injective, is_in_binary, binary_value, binary_truth}
+use Rattle.bk_form.specs.Operators.{elements, first_part, passes, covers, is_partial_function, is_injective, is_in_binary, binary_value, binary_truth}
 use Rattle.bk_form.specs.Laws.{IsClassical, IsIndependent}
 use Rattle.bk_form.specs.Meaning.{Meaning, meaning, meanings, truth, of_truth, type_in, unary_meaning, binary_meaning, comprehension_meaning, lambda_meaning, range_types}
 use Rattle.bk_form.specs.declared.operator.UnOp.TheVariants.{Not}
@@ -20,14 +20,14 @@ module _ (find : Finder) (law : IsSearch find) (test : List MathValue → Bool) 
   pub no_choice-then : no_choice find test ≡ true → (vs : List MathValue) → test vs ≡ false
   no_choice-then = by_answer (find test) refl
     where
-      by_answer : (o : Option (List MathValue)) → find test ≡ o → is_nobody o ≡ true → (vs : List MathValue) → test vs ≡ false
+      by_answer : (o : Option (List MathValue)) → find test ≡ o → is_none o ≡ true → (vs : List MathValue) → test vs ≡ false
       by_answer None e h = law.none test e
       by_answer (Some ws) e h = absurd (cc)
 
   pub some_choice-then : no_choice find test ≡ false → (vs : List MathValue) × (test vs ≡ true)
   some_choice-then = by_answer (find test) refl
     where
-      by_answer : (o : Option (List MathValue)) → find test ≡ o → is_nobody o ≡ false → (vs : List MathValue) × (test vs ≡ true)
+      by_answer : (o : Option (List MathValue)) → find test ≡ o → is_none o ≡ false → (vs : List MathValue) × (test vs ≡ true)
       by_answer None e h = absurd (cc)
       by_answer (Some ws) e h = (ws, law.found test ws e)
 
@@ -103,11 +103,11 @@ module _ (f g : Finder) (l : IsSearch f) (m : IsSearch g) where
   covers-same sizes t in_a xs = let test : List MathValue → Bool = λ vs. are_of_types sizes (t ∷ []) vs && passes (λ v. in_a v && not (has xs v)) vs in no_choice-same f g l m test test refl
 
   binary-same : (sizes : ℕ → ℕ) (t u : ValueType) (o : BinOp) (in_a in_b : MathValue → Bool) (w v : MathValue) → is_in_binary f sizes t u o in_a in_b w v ≡ is_in_binary g sizes t u o in_a in_b w v
-  binary-same sizes t u TotalFunctions in_a in_b w v = λ i. is_partial_function in_a in_b v && covers-same sizes t in_a (map first_of (elements v)) i
-  binary-same sizes t u TotalInjections in_a in_b w v = λ i. is_partial_function in_a in_b v && is_injective (elements v) && covers-same sizes t in_a (map first_of (elements v)) i
+  binary-same sizes t u TotalFunctions in_a in_b w v = λ i. is_partial_function in_a in_b v && covers-same sizes t in_a (map first_part (elements v)) i
+  binary-same sizes t u TotalInjections in_a in_b w v = λ i. is_partial_function in_a in_b v && is_injective (elements v) && covers-same sizes t in_a (map first_part (elements v)) i
   binary-same sizes t u PartialSurjections in_a in_b w v = λ i. is_partial_function in_a in_b v && covers-same sizes u in_b (map second_of (elements v)) i
-  binary-same sizes t u TotalSurjections in_a in_b w v = λ i. is_partial_function in_a in_b v && covers-same sizes t in_a (map first_of (elements v)) i && covers-same sizes u in_b (map second_of (elements v)) i
-  binary-same sizes t u Bijections in_a in_b w v = λ i. is_partial_function in_a in_b v && is_injective (elements v) && covers-same sizes t in_a (map first_of (elements v)) i && covers-same sizes u in_b (map second_of (elements v)) i
+  binary-same sizes t u TotalSurjections in_a in_b w v = λ i. is_partial_function in_a in_b v && covers-same sizes t in_a (map first_part (elements v)) i && covers-same sizes u in_b (map second_of (elements v)) i
+  binary-same sizes t u Bijections in_a in_b w v = λ i. is_partial_function in_a in_b v && is_injective (elements v) && covers-same sizes t in_a (map first_part (elements v)) i && covers-same sizes u in_b (map second_of (elements v)) i
   binary-same sizes t u _ in_a in_b w v = refl
 
   binary_meaning-same : (sizes : ℕ → ℕ) (o : BinOp) (a b : Meaning) → binary_meaning f sizes o a b ≡ binary_meaning g sizes o a b

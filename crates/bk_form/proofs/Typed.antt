@@ -1,23 +1,20 @@
 -- The operators on values of their types give values of the types that they give.
-use Rattle.std.proofs.Common.{◌≡◌, ◌⊎◌, inl, inr, ℕ, zero, suc, ℤ, pos, ◌+ℤ◌, ◌-ℤ◌, List, [], ◌∷◌, map, refl, sym, ◌∙◌, ap, subst, Bool, true, false, not, ◌&&◌, ◌||◌, nat_eq, nat_lt, arith, cond}
+use Rattle.std.proofs.Common.{◌≡◌, ◌⊎◌, inl, inr, ℕ, zero, suc, ℤ, pos, ◌+ℤ◌, ◌-ℤ◌, List, [], ◌∷◌, map, refl, sym, ap, subst, Bool, true, not, ◌&&◌}
 use Rattle.std.specs.Prelude.{Option, Some, None, unwrap_or}
-use Rattle.std.specs.List.{filter, flat_map, AllByRecursion}
+use Rattle.std.specs.List.{filter, AllByRecursion}
 use Rattle.std.specs.List.Sorted.{IsStrictlySortedBy}
-use Rattle.std.specs.declared.cmp.Ordering.{Ordering}
 use Rattle.std.specs.declared.cmp.Ordering.TheVariants.{Less}
-use Rattle.std.proofs.lemmas.Bool.Decides.{nat_tests}
-use Rattle.bk_val.specs.Value.{MathValue, MathValues, int, bool, elem, pair, set, none, more, list_of, values_of, value_cmp, IsStrictlySorted, is_below, rises_from, is_rising}
-use Rattle.bk_val.specs.ValueType.{ValueType, int_type, bool_type, enum_type, pair_type, set_type, base_of, is_value_of, are_values_of, are_of_types}
-use Rattle.bk_val.specs.Sets.{has, set_of, union_of, inter_of, minus_of, second_of, seconds_of, first_passes, in_domain, begins_outside, overridden_of, image_of, only_element, apply_of}
+use Rattle.bk_val.specs.Value.{MathValue, MathValues, int, bool, pair, set, none, more, list_of, values_of, value_cmp, IsStrictlySorted, is_below, rises_from, is_rising}
+use Rattle.bk_val.specs.ValueType.{ValueType, int_type, bool_type, pair_type, set_type, is_value_of, are_values_of}
+use Rattle.bk_val.specs.Sets.{has, set_of, union_of, inter_of, minus_of, second_of, seconds_of, first_passes, begins_outside, overridden_of, image_of, only_element, apply_of}
 use Rattle.bk_val.proofs.Elements.{sorted_set_of}
-use Rattle.bk_form.specs.Table.{Table, lists_type, set_size}
-use Rattle.bk_form.specs.Role.{Role, gives, predicate, if_holds, if_predicate, if_number, if_value, if_set, if_relation, same_type, unary_role, binary_role, numbers_role, sets_role, product_role, domain_part_role, range_part_role, override_role, pair_role, image_role, application_role, composition_role, element_type, element_types, tuple_type_onto, tuple_type, each_gives_set, gives_set, are_ranges}
-use Rattle.bk_form.specs.Operators.{elements, set_value, is_element, is_equal, first_of, swapped, number_in, numbers_from, count_of, interval, pairs_of, begins_with, composed, unary_value, binary_value, tuple_onto, tuple_of, choices, elements_from, named_value}
+use Rattle.bk_form.specs.Role.{Role, gives, predicate, if_holds, if_number, if_value, if_set, if_relation, same_type, unary_role, binary_role, numbers_role, sets_role, product_role, domain_part_role, range_part_role, override_role, pair_role, image_role, application_role, composition_role}
+use Rattle.bk_form.specs.Operators.{elements, set_value, is_element, is_equal, first_part, swapped, number_in, numbers_from, count_of, interval, pairs_of, begins_with, composed, unary_value, binary_value}
 use Rattle.bk_form.specs.declared.operator.UnOp.{UnOp}
 use Rattle.bk_form.specs.declared.operator.UnOp.TheVariants.{Not, BoolOf, Neg, Card, Min, Max, Dom, Ran, Id, Inverse, Single, Pow, Pow1}
 use Rattle.bk_form.specs.declared.operator.BinOp.{BinOp}
 use Rattle.bk_form.specs.declared.operator.BinOp.TheVariants.{And, Or, Imp, Iff, Eq, Lt, Le, In, Relations, PartialFunctions, TotalFunctions, PartialInjections, TotalInjections, PartialSurjections, TotalSurjections, Bijections, Union, Inter, Minus, Times, DomRes, RanRes, DomSub, RanSub, Over, Maps, Range, Add, Sub, Mul, Div, Mod, Power, Image, Apply, Comp}
-use Rattle.bk_form.proofs.Members.{Has, has-then, has-if, Has-map-then, Has-filter-then, Has-flat_map-then, Has-set_of, Has-union_of, pairs-then, elements-then, and-true, and-both}
+use Rattle.bk_form.proofs.Members.{Has, Has-map-then, Has-filter-then, Has-flat_map-then, Has-set_of, Has-union_of, pairs-then, and-true, and-both}
 use Rattle.bk_form.proofs.Roles.{if_holds-gives, if_predicate-gives, if_number-gives, if_value-gives, if_set-gives, if_relation-gives, same_type-then}
 use Rattle.bk_form.proofs.Givers.{connective-gives, comparison-gives, equality-gives, membership-gives, arrow-gives, power-gives, product-gives}
 use Rattle.bk_form.proofs.Listed.{gives-same}
@@ -53,7 +50,7 @@ module _ (sizes : ℕ → ℕ) where
   elements-of t (set ws) v h k = all-has t ws v (and-both (are_values_of sizes t ws) (is_rising ws) h).0 k
   elements-of t _ v h k = absurd k
 
-  pub first-of : (t u : ValueType) (v : MathValue) → Of (pair_type t u) v → Of t (first_of v)
+  pub first-of : (t u : ValueType) (v : MathValue) → Of (pair_type t u) v → Of t (first_part v)
   first-of t u (pair v w) h = (and-both (is_value_of sizes t v) (is_value_of sizes u w) h).0
   first-of t u _ h = absurd (cc)
 
@@ -95,7 +92,7 @@ module _ (sizes : ℕ → ℕ) where
   unary-of Card r v b f t h = let k = if_set-gives (λ u. gives int_type) r t h in as_type int_type t (unary_value Card v b) k.2 refl
   unary-of Min r v b f t h = let k = if_set-gives (λ u. if_holds (same_type u int_type) (gives int_type)) r t h in let m = if_holds-gives (same_type k.0 int_type) (gives int_type) t k.2 in as_type int_type t (unary_value Min v b) m.1 refl
   unary-of Max r v b f t h = let k = if_set-gives (λ u. if_holds (same_type u int_type) (gives int_type)) r t h in let m = if_holds-gives (same_type k.0 int_type) (gives int_type) t k.2 in as_type int_type t (unary_value Max v b) m.1 refl
-  unary-of Dom r v b f t h = let k = if_relation-gives (λ u w. gives (set_type u)) r t h in as_type (set_type k.first) t (unary_value Dom v b) k.result (mapped-of (pair_type k.first k.second) k.first first_of v (first-of k.first k.second) (f (set_type (pair_type k.first k.second)) k.operand))
+  unary-of Dom r v b f t h = let k = if_relation-gives (λ u w. gives (set_type u)) r t h in as_type (set_type k.first) t (unary_value Dom v b) k.result (mapped-of (pair_type k.first k.second) k.first first_part v (first-of k.first k.second) (f (set_type (pair_type k.first k.second)) k.operand))
   unary-of Ran r v b f t h = let k = if_relation-gives (λ u w. gives (set_type w)) r t h in as_type (set_type k.second) t (unary_value Ran v b) k.result (mapped-of (pair_type k.first k.second) k.second second_of v (second-of k.first k.second) (f (set_type (pair_type k.first k.second)) k.operand))
   unary-of Id r v b f t h = let k = if_set-gives (λ u. gives (set_type (pair_type u u))) r t h in as_type (set_type (pair_type k.0 k.0)) t (unary_value Id v b) k.2 (mapped-of k.0 (pair_type k.0 k.0) (λ x. pair x x) v (λ x o. pair-of k.0 k.0 x x o o) (f (set_type k.0) k.1))
   unary-of Inverse r v b f t h = let k = if_relation-gives (λ u w. gives (set_type (pair_type w u))) r t h in as_type (set_type (pair_type k.second k.first)) t (unary_value Inverse v b) k.result (mapped-of (pair_type k.first k.second) (pair_type k.second k.first) swapped v (swapped-of k.first k.second) (f (set_type (pair_type k.first k.second)) k.operand))
@@ -196,9 +193,9 @@ module _ (sizes : ℕ → ℕ) where
       let m = if_holds-gives (same_type k.second n.first) (gives (set_type (pair_type k.first n.second))) t n.result in
       as_type (set_type (pair_type k.first n.second)) t (set_value (composed (elements v) (elements w))) m.1
       (set-of (pair_type k.first n.second) (composed (elements v) (elements w)) (λ x o.
-      let p = Has-flat_map-then (λ p. map (λ q. pair (first_of p) (second_of q)) (filter (begins_with (second_of p)) (elements w))) x (elements v) o in
-      let q = Has-map-then (λ q. pair (first_of p.0) (second_of q)) x (filter (begins_with (second_of p.0)) (elements w)) p.2 in
-      subst (Of (pair_type k.first n.second)) (sym q.2) (pair-of k.first n.second (first_of p.0) (second_of q.0)
+      let p = Has-flat_map-then (λ p. map (λ q. pair (first_part p) (second_of q)) (filter (begins_with (second_of p)) (elements w))) x (elements v) o in
+      let q = Has-map-then (λ q. pair (first_part p.0) (second_of q)) x (filter (begins_with (second_of p.0)) (elements w)) p.2 in
+      subst (Of (pair_type k.first n.second)) (sym q.2) (pair-of k.first n.second (first_part p.0) (second_of q.0)
       (first-of k.first k.second p.0 (elements-of (pair_type k.first k.second) v p.0 (f (set_type (pair_type k.first k.second)) k.operand) p.1))
       (second-of n.first n.second q.0 (elements-of (pair_type n.first n.second) w q.0 (g (set_type (pair_type n.first n.second)) n.operand) (Has-filter-then (begins_with (second_of p.0)) q.0 (elements w) q.1).0)))))
 
@@ -231,9 +228,9 @@ module _ (sizes : ℕ → ℕ) where
   binary-of Inter a b base v w t f g i h = sets-result a b v w (inter_of (elements v) (elements w)) t f g (λ x o. inl (Has-filter-then (has (elements w)) x (elements v) o).0) h
   binary-of Minus a b base v w t f g i h = sets-result a b v w (minus_of (elements v) (elements w)) t f g (λ x o. inl (Has-filter-then (λ y. not (has (elements w) y)) x (elements v) o).0) h
   binary-of Times a b base v w t f g i h = product-result a b v w t f g h
-  binary-of DomRes a b base v w t f g i h = domain_part-result b a w (λ p. is_element (first_of p) v) t g h
+  binary-of DomRes a b base v w t f g i h = domain_part-result b a w (λ p. is_element (first_part p) v) t g h
   binary-of RanRes a b base v w t f g i h = range_part-result a b v (λ p. is_element (second_of p) w) t f h
-  binary-of DomSub a b base v w t f g i h = domain_part-result b a w (λ p. not (is_element (first_of p) v)) t g h
+  binary-of DomSub a b base v w t f g i h = domain_part-result b a w (λ p. not (is_element (first_part p) v)) t g h
   binary-of RanSub a b base v w t f g i h = range_part-result a b v (λ p. not (is_element (second_of p) w)) t f h
   binary-of Over a b base v w t f g i h = override-result a b v w t f g h
   binary-of Maps a b base v w t f g i h = pair-result a b v w t f g h

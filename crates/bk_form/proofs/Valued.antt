@@ -1,9 +1,8 @@
 -- A formula that gives a type has a value of it in every typed environment.
-use Rattle.std.proofs.Common.{◌≡◌, ◌⊎◌, inl, inr, ℕ, zero, suc, ◌+◌, ◌<◌, ◌≤◌, List, [], ◌∷◌, length, map, refl, sym, ◌∙◌, ap, subst, Bool, true, false, ◌&&◌, nat_eq, nat_lt, arith, rules}
+use Rattle.std.proofs.Common.{◌≡◌, inl, inr, ℕ, zero, suc, ◌+◌, ◌<◌, List, [], ◌∷◌, length, map, refl, sym, ◌∙◌, ap, subst, Bool, true, false, nat_eq, nat_lt, arith, rules}
 use Rattle.std.specs.Prelude.{Option, Some, None, slice_get, All, IsTrue}
 use Rattle.std.specs.Option.{option_map, option_map_or}
 use Rattle.std.proofs.lemmas.List.Elements.{All-head, All-tail}
-use Rattle.std.specs.List.{filter, flat_map}
 use Rattle.std.proofs.lemmas.Bool.Decides.{nat_tests}
 use Rattle.bk_val.specs.Value.{MathValue, int, bool, elem, pair, set, none}
 use Rattle.bk_val.specs.ValueType.{ValueType, int_type, bool_type, enum_type, pair_type, set_type, base_of, is_value_of, are_of_types}
@@ -11,16 +10,16 @@ use Rattle.bk_form.specs.Table.{Table, SetEntry, VariableEntry, set_size, variab
 use Rattle.bk_form.specs.Formula.{Formula, variable, bound, literal, truth_value, element, empty_set, named, btrue, bfalse, unary, binary, for_all, for_some, comprehension, lambda, Formulas, no_formulas, formula_and}
 use Rattle.bk_form.specs.Search.{Finder}
 use Rattle.bk_form.specs.Environment.{Environment, Binding, bindings, bound_types, under, all_typed, IsTyped}
-use Rattle.bk_form.specs.Role.{Role, gives, predicate, if_holds, if_predicate, if_value, given_by, bound_role, empty_role, element_role, named_role, role, binary_role, push, gives_set, each_gives_set, are_ranges, element_type, element_types, tuple_type_onto, tuple_type}
+use Rattle.bk_form.specs.Role.{Role, gives, if_predicate, if_value, given_by, empty_role, element_role, named_role, role, binary_role, bind, gives_set, each_gives_set, are_ranges, element_type, tuple_type_onto, tuple_type}
 use Rattle.bk_form.specs.Operators.{elements, set_value, elements_from, named_value, tuple_onto, tuple_of, choices}
 use Rattle.bk_form.specs.Meaning.{Meaning, meaning, meanings, value, truth, bound_meaning, type_in, roles_of, range_types, chosen}
 use Rattle.bk_form.specs.declared.operator.Domain.{Domain}
 use Rattle.bk_form.specs.declared.operator.Domain.TheVariants.{Bool as Booleans, Enum}
 use Rattle.bk_form.proofs.Members.{Has, Has-map-then, Has-filter-then, Has-flat_map-then, elements-then, and-true, and-both}
-use Rattle.bk_form.proofs.Roles.{if_holds-gives, if_predicate-gives, if_value-gives, meaning-role, meanings-role, types-push}
+use Rattle.bk_form.proofs.Roles.{if_holds-gives, if_predicate-gives, if_value-gives, meaning-role, types-bind}
 use Rattle.bk_form.proofs.Givers.{quantifier-gives, value-meaning}
 use Rattle.bk_form.specs.Laws.{IsSoundTyping}
-use Rattle.bk_form.proofs.Listed.{gives-same, Lists, ListedRoles, gives-listed}
+use Rattle.bk_form.proofs.Listed.{gives-same, Lists, gives-listed}
 use Rattle.bk_form.proofs.Typed.{Of, OfRole, set-of, elements-of, unary-of, binary-of}
 
 nat_eq-self : (n : ℕ) → nat_eq n n ≡ true
@@ -82,13 +81,13 @@ element-lists table s i h =
     below i n h = grind (arith, nat_tests)
 
 -- ---- bound numbers
-typed-push : (sizes : ℕ → ℕ) (ts : List ValueType) (vs : List MathValue) (bs : List Binding) → are_of_types sizes ts vs ≡ true → all_typed sizes bs ≡ true → all_typed sizes (push (bindings ts vs) bs) ≡ true
-typed-push sizes [] vs bs h k = k
-typed-push sizes (t ∷ ts) [] bs h k = absurd (cc)
-typed-push sizes (t ∷ ts) (v ∷ vs) bs h k = let m = and-both (is_value_of sizes t v) (are_of_types sizes ts vs) h in typed-push sizes ts vs ((t, v) ∷ bs) m.1 (and-true (is_value_of sizes t v) (all_typed sizes bs) m.0 k)
+typed-bind : (sizes : ℕ → ℕ) (ts : List ValueType) (vs : List MathValue) (bs : List Binding) → are_of_types sizes ts vs ≡ true → all_typed sizes bs ≡ true → all_typed sizes (bind (bindings ts vs) bs) ≡ true
+typed-bind sizes [] vs bs h k = k
+typed-bind sizes (t ∷ ts) [] bs h k = absurd (cc)
+typed-bind sizes (t ∷ ts) (v ∷ vs) bs h k = let m = and-both (is_value_of sizes t v) (are_of_types sizes ts vs) h in typed-bind sizes ts vs ((t, v) ∷ bs) m.1 (and-true (is_value_of sizes t v) (all_typed sizes bs) m.0 k)
 
 pub under-typed : (e : Environment) (ts : List ValueType) (vs : List MathValue) → IsTyped e → are_of_types (set_size e.table) ts vs ≡ true → IsTyped (under e ts vs)
-under-typed e ts vs h o = record { variables = h.variables; bound_numbers = typed-push (set_size e.table) ts vs e.bound o h.bound_numbers }
+under-typed e ts vs h o = record { variables = h.variables; bound_numbers = typed-bind (set_size e.table) ts vs e.bound o h.bound_numbers }
 
 bound-of : (table : Table) (bs : List Binding) (n : ℕ) → all_typed (set_size table) bs ≡ true → OfRole (set_size table) (bound_meaning table (slice_get bs n)).role (bound_meaning table (slice_get bs n)).value
 bound-of table [] zero h t r = absurd (cc)
@@ -213,7 +212,7 @@ module _ (find : Finder) where
         let n = if_value-gives (λ u. gives (set_type (pair_type (tuple_type ts) u))) (image []).role t m.1 in
         let of_range = choices-of (set_size e.table) ms (values-of e w h rs) (ranges-give (roles_of ms) k.0) in
         let result : List MathValue → MathValue = λ vs. pair (tuple_of vs) (image vs).value in
-        let image_role = λ (vs : List MathValue). meaning-role find (under e ts vs) v ∙ ap (λ bs. role e.table bs v) (types-push ts vs e.bound ∙ sym (types-push ts [] e.bound)) ∙ sym (meaning-role find (under e ts []) v) ∙ n.1 in
+        let image_role = λ (vs : List MathValue). meaning-role find (under e ts vs) v ∙ ap (λ bs. role e.table bs v) (types-bind ts vs e.bound ∙ sym (types-bind ts [] e.bound)) ∙ sym (meaning-role find (under e ts []) v) ∙ n.1 in
         subst (λ x. Of (set_size e.table) x (set_value (map result (chosen ms body)))) (gives-same (set_type (pair_type (tuple_type ts) n.0)) t n.2)
         (set-of (set_size e.table) (pair_type (tuple_type ts) n.0) (map result (chosen ms body)) (λ z o.
         let x = Has-map-then result z (chosen ms body) o in
@@ -232,6 +231,7 @@ module _ (find : Finder) where
 
 pub sound_typing : IsSoundTyping
 sound_typing = record {
+  base = base-of;
   typed = typed-value;
   members = λ find e f t r v. ap (λ (m : Meaning). m.contains v) (value-meaning find e f t (meaning-role find e f ∙ r));
 }

@@ -1,9 +1,9 @@
 -- What variables and bound numbers stand for.
 use Rattle.std.specs.Prelude.{◌≡◌, ℕ, Bool, true, ◌&&◌, List, [], ◌∷◌, map, Some}
 use Rattle.bk_val.specs.Value.{MathValue}
-use Rattle.bk_val.specs.ValueType.{ValueType, is_value_of, are_of_types, base_of}
+use Rattle.bk_val.specs.ValueType.{ValueType, is_value_of, base_of}
 use Rattle.bk_form.specs.Table.{Table, set_size, variable_type}
-use Rattle.bk_form.specs.Role.{push}
+use Rattle.bk_form.specs.Role.{bind}
 
 -- a value for each variable, by its number
 abbrev pub State : Type 0
@@ -32,7 +32,7 @@ bindings (t ∷ ts) (v ∷ vs) = (t, v) ∷ bindings ts vs
 
 -- the environment under a binder of these types, at these values
 abbrev pub under : Environment → List ValueType → List MathValue → Environment
-under e ts vs = record e { bound = push (bindings ts vs) e.bound }
+under e ts vs = record e { bound = bind (bindings ts vs) e.bound }
 
 abbrev pub all_typed : (ℕ → ℕ) → List Binding → Bool
 all_typed sizes [] = true

@@ -10,7 +10,7 @@ mutual
   pub data Formula : Type 0 where
     -- the variable of this number
     variable : ℕ → Formula
-    -- a bound variable, counted outward from the innermost one
+    -- a bound variable, counted outward from the innermost one; the last of a binder's variables is the innermost
     bound : ℕ → Formula
     -- a whole number
     literal : ℤ → Formula
@@ -34,7 +34,7 @@ mutual
     for_all : List ValueType → Formula → Formula
     -- the body holds for some values of these types
     for_some : List ValueType → Formula → Formula
-    -- the elements of the ranges for which the body holds
+    -- the elements of the ranges for which the body holds, several as pairs to the left; the ranges stand outside the binder
     comprehension : Formulas → Formula → Formula
     -- the function from the elements of the ranges for which the body holds to the value
     lambda : Formulas → Formula → Formula → Formula

@@ -1,20 +1,20 @@
 -- Laws of the meaning of formulas, as statements. Each is the contract of a public function.
-use Rattle.std.specs.Prelude.{◌≡◌, ◌↔◌, ◌⊎◌, ℕ, ℤ, pos, negsuc, int_le, Bool, true, false, ◌&&◌, List, map}
+use Rattle.std.specs.Prelude.{◌≡◌, ◌↔◌, ℕ, ℤ, pos, negsuc, int_le, Bool, true, false, ◌&&◌, List, [], ◌∷◌, map}
 use Rattle.bk_val.specs.Value.{MathValue, int, bool, pair, set, none, more}
-use Rattle.bk_val.specs.ValueType.{ValueType, int_type, set_type, is_value_of, are_of_types}
+use Rattle.bk_val.specs.ValueType.{ValueType, int_type, set_type, base_of, is_value_of, are_of_types}
 use Rattle.bk_val.specs.Sets.{has, second_of}
-use Rattle.bk_form.specs.Table.{set_size, IsWellFormed}
-use Rattle.bk_form.specs.Formula.{Formula, bound, literal, truth_value, empty_set, named, unary, binary, for_all, for_some, comprehension, lambda, Formulas, no_formulas, formula_and}
+use Rattle.bk_form.specs.Table.{Table, set_size, lists_type, IsWellFormed}
+use Rattle.bk_form.specs.Formula.{Formula, variable, bound, literal, truth_value, empty_set, named, btrue, unary, binary, for_all, for_some, comprehension, lambda, Formulas, no_formulas, formula_and}
 use Rattle.bk_form.specs.Search.{Finder, IsSearch}
 use Rattle.bk_form.specs.Environment.{Environment, bound_types, under, IsTyped}
 use Rattle.bk_form.specs.Role.{role, gives, element_type}
-use Rattle.bk_form.specs.Operators.{elements, first_of, tuple_of}
+use Rattle.bk_form.specs.Operators.{elements, first_part, tuple_of, choices, number_in}
 use Rattle.bk_form.specs.Meaning.{meaning, meanings, value, truth, within, range_types}
-use Rattle.bk_form.specs.Defined.{InRanges}
+use Rattle.bk_form.specs.Defined.{IsChoice, InRanges, Defined, Fits}
 use Rattle.bk_form.specs.Replacement.{replaced, IsReplacement, after_replacement}
-use Rattle.bk_form.specs.declared.operator.UnOp.TheVariants.{Not, Max, Single}
-use Rattle.bk_form.specs.declared.operator.BinOp.TheVariants.{And, Or, Imp, Lt, In, PartialFunctions, TotalFunctions, PartialSurjections, Union, Times, Maps, Range, Div, Mod, Apply}
-use Rattle.bk_form.specs.declared.operator.Domain.TheVariants.{Natural, Bool as Booleans}
+use Rattle.bk_form.specs.declared.operator.UnOp.TheVariants.{Not, Card, Max, Single, Pow, Pow1}
+use Rattle.bk_form.specs.declared.operator.BinOp.TheVariants.{And, Or, Imp, Eq, Lt, In, PartialFunctions, TotalFunctions, PartialInjections, PartialSurjections, Union, Times, DomRes, DomSub, Over, Maps, Range, Add, Mul, Div, Mod, Power, Image, Apply, Comp}
+use Rattle.bk_form.specs.declared.operator.Domain.TheVariants.{Integer, Natural, Bool as Booleans}
 
 -- ---- quantifiers
 -- a universal predicate is true exactly where its body is for every choice of values of the types
@@ -42,8 +42,10 @@ pub record IsClassical : Type 0 where
   pub not_some : (find : Finder) → IsSearch find → (e : Environment) (ts : List ValueType) (p : Formula) → truth find e (unary Not (for_some ts p)) ≡ truth find e (for_all ts (unary Not p))
 
 -- ---- types and replacement
--- in a typed environment a formula that gives a type has a value of it, and the values within it are the elements of that value
+-- the base value of a listed type is a value of it; in a typed environment a formula that gives a type has a value of it, and
+-- the values within it are the elements of that value
 pub record IsSoundTyping : Type 0 where
+  pub base : (table : Table) → IsWellFormed table → (t : ValueType) → lists_type table t ≡ true → is_value_of (set_size table) t (base_of t) ≡ true
   pub typed : (find : Finder) (e : Environment) → IsWellFormed e.table → IsTyped e → (f : Formula) (t : ValueType) → role e.table (bound_types e) f ≡ gives t → is_value_of (set_size e.table) t (value find e f) ≡ true
   pub members : (find : Finder) (e : Environment) (f : Formula) (t : ValueType) → role e.table (bound_types e) f ≡ gives t → (v : MathValue) → within find e v f ≡ has (elements (value find e f)) v
 
@@ -61,13 +63,14 @@ ComprehensionHas = (find : Finder) (e : Environment) (rs : Formulas) (p : Formul
 abbrev pub LambdaHas : Type 0
 LambdaHas = (find : Finder) (e : Environment) (rs : Formulas) (p q : Formula) (v : MathValue) → (within find e v (lambda rs p q) ≡ true) ↔ ((vs : List MathValue) × InRanges find e rs vs × (truth find (under e (range_types (meanings find e rs)) vs) p ≡ true) × (v ≡ pair (tuple_of vs) (value find (under e (range_types (meanings find e rs)) vs) q)))
 
--- a number is in an interval exactly where it lies between its ends
-abbrev pub IntervalHas : Type 0
-IntervalHas = (find : Finder) (e : Environment) (a b z : ℤ) → within find e (int z) (binary Range (literal a) (literal b)) ≡ (int_le a z && int_le z b)
+-- an interval has exactly the numbers between its ends
+pub record IntervalHas : Type 0 where
+  pub numbers : (find : Finder) (e : Environment) (a b : Formula) (z : ℤ) → within find e (int z) (binary Range a b) ≡ (int_le (number_in (value find e a)) z && int_le z (number_in (value find e b)))
+  pub others : (find : Finder) (e : Environment) (a b : Formula) (v : MathValue) → within find e v (binary Range a b) ≡ true → (z : ℤ) × (v ≡ int z)
 
 -- a total function is a partial one in whose domain every value of the type is that is within A
 abbrev pub TotalMeans : Type 0
-TotalMeans = (find : Finder) → IsSearch find → (e : Environment) (a b : Formula) (f : MathValue) → (within find e f (binary TotalFunctions a b) ≡ true) ↔ ((within find e f (binary PartialFunctions a b) ≡ true) × ((v : MathValue) → is_value_of (set_size e.table) (element_type (role e.table (bound_types e) a)) v ≡ true → within find e v a ≡ true → has (map first_of (elements f)) v ≡ true))
+TotalMeans = (find : Finder) → IsSearch find → (e : Environment) (a b : Formula) (f : MathValue) → (within find e f (binary TotalFunctions a b) ≡ true) ↔ ((within find e f (binary PartialFunctions a b) ≡ true) × ((v : MathValue) → is_value_of (set_size e.table) (element_type (role e.table (bound_types e) a)) v ≡ true → within find e v a ≡ true → has (map first_part (elements f)) v ≡ true))
 
 -- a partial surjection is a partial function in whose range every value of the type is that is within B
 abbrev pub OntoMeans : Type 0
@@ -77,13 +80,40 @@ OntoMeans = (find : Finder) → IsSearch find → (e : Environment) (a b : Formu
 abbrev pub NoTotalFunction : Type 0
 NoTotalFunction = (find : Finder) → IsSearch find → (e : Environment) (b : Formula) (f : MathValue) → within find e f (binary TotalFunctions (named Natural) b) ≡ false
 
+-- the choices from some sets are the lists that take one element of each, in order
+abbrev pub TakesOneOfEach : List MathValue → List MathValue → Type 0
+TakesOneOfEach [] [] = Unit {0}
+TakesOneOfEach (w ∷ ws) (v ∷ vs) = (has (elements w) v ≡ true) × TakesOneOfEach ws vs
+TakesOneOfEach _ _ = ⊥
+
+abbrev pub ChoicesAre : Type 0
+ChoicesAre = (ws vs : List MathValue) → IsChoice (choices ws) vs ↔ TakesOneOfEach ws vs
+
 -- ---- small cases, to be checked by hand
-abbrev pub n : ℤ → Formula
-n z = literal z
+abbrev pub number : ℤ → Formula
+number z = literal z
 
 -- {a |-> b}
 abbrev pub single_pair : ℤ → ℤ → Formula
-single_pair a b = unary Single (binary Maps (n a) (n b))
+single_pair a b = unary Single (binary Maps (number a) (number b))
+
+-- a .. b
+abbrev pub from_to : ℤ → ℤ → Formula
+from_to a b = binary Range (number a) (number b)
+
+-- {1 |-> 2, 3 |-> 2}
+abbrev pub two_pairs : Formula
+two_pairs = binary Union (single_pair (pos 1) (pos 2)) (single_pair (pos 3) (pos 2))
+
+abbrev pub int_pair : ℕ → ℕ → MathValue
+int_pair a b = pair (int (pos a)) (int (pos b))
+
+-- the set of one or two values
+abbrev pub one : MathValue → MathValue
+one v = set (more v none)
+
+abbrev pub two : MathValue → MathValue → MathValue
+two v w = set (more v (more w none))
 
 abbrev pub HasValue : Formula → MathValue → Type 0
 HasValue f v = (find : Finder) (e : Environment) → value find e f ≡ v
@@ -93,24 +123,62 @@ HasTruth f b = (find : Finder) (e : Environment) → truth find e f ≡ b
 
 pub record Examples : Type 0 where
   -- 0 .. -1 is empty
-  pub empty_interval : HasValue (binary Range (n (pos 0)) (n (negsuc 0))) (set none)
+  pub empty_interval : HasValue (from_to (pos 0) (negsuc 0)) (set none)
   -- {3 |-> 7}(3) is 7
-  pub applied : HasValue (binary Apply (single_pair (pos 3) (pos 7)) (n (pos 3))) (int (pos 7))
+  pub applied : HasValue (binary Apply (single_pair (pos 3) (pos 7)) (number (pos 3))) (int (pos 7))
   -- {3 |-> 7}(4) is the base value 0
-  pub applied_outside : HasValue (binary Apply (single_pair (pos 3) (pos 7)) (n (pos 4))) (int (pos 0))
+  pub applied_outside : HasValue (binary Apply (single_pair (pos 3) (pos 7)) (number (pos 4))) (int (pos 0))
   -- ({3 |-> 7} \/ {3 |-> 8})(3) is 0: two pairs begin with 3
-  pub applied_twice : HasValue (binary Apply (binary Union (single_pair (pos 3) (pos 7)) (single_pair (pos 3) (pos 8))) (n (pos 3))) (int (pos 0))
+  pub applied_twice : HasValue (binary Apply (binary Union (single_pair (pos 3) (pos 7)) (single_pair (pos 3) (pos 8))) (number (pos 3))) (int (pos 0))
   -- {x | x : 1 .. 4 & 2 < x} is {3, 4}
-  pub chosen : HasValue (comprehension (formula_and (binary Range (n (pos 1)) (n (pos 4))) no_formulas) (binary Lt (n (pos 2)) (bound 0))) (set (more (int (pos 3)) (more (int (pos 4)) none)))
+  pub chosen : HasValue (comprehension (formula_and (from_to (pos 1) (pos 4)) no_formulas) (binary Lt (number (pos 2)) (bound 0))) (two (int (pos 3)) (int (pos 4)))
+  -- {x, y | x : 1 .. 2 & y : BOOL & x = 2} is {2 |-> FALSE, 2 |-> TRUE}: x is the outer one
+  pub chosen_pairs : HasValue (comprehension (formula_and (from_to (pos 1) (pos 2)) (formula_and (named Booleans) no_formulas)) (binary Eq (bound 1) (number (pos 2)))) (two (pair (int (pos 2)) (bool false)) (pair (int (pos 2)) (bool true)))
+  -- %x.(x : 1 .. 2 | x * x) is {1 |-> 1, 2 |-> 4}
+  pub squares : HasValue (lambda (formula_and (from_to (pos 1) (pos 2)) no_formulas) btrue (binary Mul (bound 0) (bound 0))) (two (int_pair 1 1) (int_pair 2 4))
   -- -7 / 2 is -3
-  pub divided : HasValue (binary Div (n (negsuc 6)) (n (pos 2))) (int (negsuc 2))
+  pub divided : HasValue (binary Div (number (negsuc 6)) (number (pos 2))) (int (negsuc 2))
   -- 7 / 0 is 0
-  pub divided_by_zero : HasValue (binary Div (n (pos 7)) (n (pos 0))) (int (pos 0))
+  pub divided_by_zero : HasValue (binary Div (number (pos 7)) (number (pos 0))) (int (pos 0))
   -- -1 mod 3 is 0
-  pub remainder_outside : HasValue (binary Mod (n (negsuc 0)) (n (pos 3))) (int (pos 0))
+  pub remainder_outside : HasValue (binary Mod (number (negsuc 0)) (number (pos 3))) (int (pos 0))
+  -- 2 ** -1 is 0
+  pub power_outside : HasValue (binary Power (number (pos 2)) (number (negsuc 0))) (int (pos 0))
   -- max of the empty set is 0
   pub greatest_of_none : HasValue (unary Max (empty_set (set_type int_type))) (int (pos 0))
+  -- card(1 .. 3) is 3
+  pub counted : HasValue (unary Card (from_to (pos 1) (pos 3))) (int (pos 3))
+  -- {1 |-> 2, 3 |-> 2}[{3}] is {2}
+  pub image : HasValue (binary Image two_pairs (unary Single (number (pos 3)))) (one (int (pos 2)))
+  -- ({1 |-> 2} ; {2 |-> 5}) is {1 |-> 5}
+  pub composed : HasValue (binary Comp (single_pair (pos 1) (pos 2)) (single_pair (pos 2) (pos 5))) (one (int_pair 1 5))
+  -- {1 |-> 2} <+ {1 |-> 5} is {1 |-> 5}
+  pub overridden : HasValue (binary Over (single_pair (pos 1) (pos 2)) (single_pair (pos 1) (pos 5))) (one (int_pair 1 5))
+  -- {3} <| {1 |-> 2, 3 |-> 2} is {3 |-> 2}, and {3} <<| takes it away
+  pub restricted : HasValue (binary DomRes (unary Single (number (pos 3))) two_pairs) (one (int_pair 3 2))
+  pub subtracted : HasValue (binary DomSub (unary Single (number (pos 3))) two_pairs) (one (int_pair 1 2))
   -- BOOL * (1 .. 1) is {FALSE |-> 1, TRUE |-> 1}
-  pub product : HasValue (binary Times (named Booleans) (binary Range (n (pos 1)) (n (pos 1)))) (set (more (pair (bool false) (int (pos 1))) (more (pair (bool true) (int (pos 1))) none)))
+  pub product : HasValue (binary Times (named Booleans) (from_to (pos 1) (pos 1))) (two (pair (bool false) (int (pos 1))) (pair (bool true) (int (pos 1))))
   -- 5 |-> TRUE : NATURAL * BOOL
-  pub product_of_domains : HasTruth (binary In (binary Maps (n (pos 5)) (truth_value true)) (binary Times (named Natural) (named Booleans))) true
+  pub product_of_domains : HasTruth (binary In (binary Maps (number (pos 5)) (truth_value true)) (binary Times (named Natural) (named Booleans))) true
+  -- {} : POW(INTEGER) and not {} : POW1(INTEGER)
+  pub power_set : HasTruth (binary In (empty_set (set_type int_type)) (unary Pow (named Integer))) true
+  pub power_set_without_empty : HasTruth (binary In (empty_set (set_type int_type)) (unary Pow1 (named Integer))) false
+  -- {1 |-> 2, 3 |-> 2} is a partial function, but no injection
+  pub partial : HasTruth (binary In two_pairs (binary PartialFunctions (named Natural) (named Natural))) true
+  pub not_injective : HasTruth (binary In two_pairs (binary PartialInjections (named Natural) (named Natural))) false
+
+-- x = 0 or 1 / x = 1, with x the variable 0
+abbrev pub zero_or_quotient : Formula
+zero_or_quotient = binary Or (binary Eq (variable 0) (number (pos 0))) (binary Eq (binary Div (number (pos 1)) (variable 0)) (number (pos 1)))
+
+-- 1 / x = 1 or x = 0
+abbrev pub quotient_or_zero : Formula
+quotient_or_zero = binary Or (binary Eq (binary Div (number (pos 1)) (variable 0)) (number (pos 1))) (binary Eq (variable 0) (number (pos 0)))
+
+-- definedness goes from left to right, and a sum past MAXINT does not fit
+pub record DefinedExamples : Type 0 where
+  pub left_first : (find : Finder) (e : Environment) → e.state 0 ≡ int (pos 0) → Defined find e zero_or_quotient
+  pub left_undefined : (find : Finder) (e : Environment) → e.state 0 ≡ int (pos 0) → Defined find e quotient_or_zero → ⊥
+  pub fits : (find : Finder) (e : Environment) → Fits find e (record { max = pos 10; rows = [] }) (binary Add (number (pos 9)) (number (pos 1)))
+  pub too_large : (find : Finder) (e : Environment) → Fits find e (record { max = pos 10; rows = [] }) (binary Add (number (pos 9)) (number (pos 2))) → ⊥

@@ -1,4 +1,5 @@
 pub mod Formula
+pub mod Storable
 pub mod OperatorCodes
 pub mod FormulaCodes
 pub mod TypeView

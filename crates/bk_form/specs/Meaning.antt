@@ -2,7 +2,7 @@
 use Rattle.std.specs.Prelude.{ℕ, Bool, true, false, not, ◌&&◌, List, [], ◌∷◌, map, Option, Some, None, slice_get}
 use Rattle.std.specs.List.{filter}
 use Rattle.bk_val.specs.Value.{MathValue, int, bool, elem, pair, set, none}
-use Rattle.bk_val.specs.ValueType.{ValueType, bool_type, set_type, enum_type, int_type, are_of_types, base_of}
+use Rattle.bk_val.specs.ValueType.{ValueType, bool_type, int_type, are_of_types, base_of}
 use Rattle.bk_form.specs.Table.{Table, set_size, variable_type}
 use Rattle.bk_form.specs.Search.{Finder, no_choice}
 use Rattle.bk_form.specs.Environment.{Environment, Binding, under}
@@ -30,9 +30,6 @@ of_truth r b = record { role = r; value = bool false; truth = b; contains = λ w
 abbrev pub type_in : Role → ValueType
 type_in (gives t) = t
 type_in _ = bool_type
-
-abbrev pub variable_meaning : Table → Role → MathValue → Meaning
-variable_meaning table r v = of_value r v
 
 abbrev pub bound_meaning : Table → Option Binding → Meaning
 bound_meaning table None = of_truth untyped false

@@ -1,10 +1,10 @@
 -- The operators on values, and the tests of domains, as in set theory. Outside its domain an operator gives the base value.
-use Rattle.std.specs.Prelude.{ℕ, zero, suc, ◌+◌, nat_eq, nat_lt, ℤ, pos, negsuc, ◌+ℤ◌, ◌-ℤ◌, ◌*ℤ◌, int_lt, int_le, Bool, true, false, not, ◌&&◌, ◌||◌, cond, List, [], ◌∷◌, length, map, Option, Some, None, unwrap_or}
-use Rattle.std.specs.List.{filter, list_all, list_any, flat_map}
+use Rattle.std.specs.Prelude.{ℕ, zero, suc, nat_eq, nat_lt, ℤ, pos, negsuc, ◌+ℤ◌, ◌-ℤ◌, ◌*ℤ◌, int_lt, int_le, Bool, true, false, not, ◌&&◌, ◌||◌, cond, List, [], ◌∷◌, length, map, unwrap_or}
+use Rattle.std.specs.List.{filter, list_all, flat_map}
 use Rattle.std.specs.Ordering.{eq_by_cmp}
-use Rattle.bk_val.specs.Value.{MathValue, MathValues, int, bool, elem, pair, set, none, more, list_of, values_of, value_cmp}
-use Rattle.bk_val.specs.ValueType.{ValueType, bool_type, is_value_of, are_of_types, base_of}
-use Rattle.bk_val.specs.Sets.{has, union_of, inter_of, minus_of, set_of, second_of, in_domain, overridden_of, image_of, apply_of}
+use Rattle.bk_val.specs.Value.{MathValue, int, bool, elem, pair, set, none, list_of, values_of, value_cmp}
+use Rattle.bk_val.specs.ValueType.{ValueType, are_of_types}
+use Rattle.bk_val.specs.Sets.{has, union_of, inter_of, minus_of, set_of, second_of, overridden_of, image_of, apply_of}
 use Rattle.bk_val.specs.Number.{quotient_of, remainder_of, power_of}
 use Rattle.bk_form.specs.Search.{Finder, no_choice}
 use Rattle.bk_form.specs.declared.operator.UnOp.{UnOp}
@@ -31,9 +31,9 @@ set_value vs = set (values_of (set_of vs))
 abbrev pub is_element : MathValue → MathValue → Bool
 is_element v w = has (elements w) v
 
-abbrev pub first_of : MathValue → MathValue
-first_of (pair v w) = v
-first_of v = v
+abbrev pub first_part : MathValue → MathValue
+first_part (pair v w) = v
+first_part v = v
 
 abbrev pub swapped : MathValue → MathValue
 swapped (pair v w) = pair w v
@@ -78,15 +78,15 @@ abbrev pub pairs_of : List MathValue → List MathValue → List MathValue
 pairs_of xs ys = flat_map (λ x. map (pair x) ys) xs
 
 abbrev pub begins_with : MathValue → MathValue → Bool
-begins_with v p = is_equal v (first_of p)
+begins_with v p = is_equal v (first_part p)
 
 -- the pairs of r and s that meet in the middle, joined
 abbrev pub composed : List MathValue → List MathValue → List MathValue
-composed r s = flat_map (λ p. map (λ q. pair (first_of p) (second_of q)) (filter (begins_with (second_of p)) s)) r
+composed r s = flat_map (λ p. map (λ q. pair (first_part p) (second_of q)) (filter (begins_with (second_of p)) s)) r
 
 -- pairs that begin alike are the same
 abbrev pub is_function : List MathValue → Bool
-is_function r = list_all (λ p. list_all (λ q. not (is_equal (first_of p) (first_of q)) || is_equal p q) r) r
+is_function r = list_all (λ p. list_all (λ q. not (is_equal (first_part p) (first_part q)) || is_equal p q) r) r
 
 -- pairs that end alike are the same
 abbrev pub is_injective : List MathValue → Bool
@@ -99,22 +99,22 @@ unary_value Neg v truth = int (pos 0 -ℤ number_in v)
 unary_value Card v truth = int (pos (length (elements v)))
 unary_value Min v truth = int (extreme smaller (elements v))
 unary_value Max v truth = int (extreme larger (elements v))
-unary_value Dom v truth = set_value (map first_of (elements v))
+unary_value Dom v truth = set_value (map first_part (elements v))
 unary_value Ran v truth = set_value (map second_of (elements v))
 unary_value Id v truth = set_value (map (λ x. pair x x) (elements v))
 unary_value Inverse v truth = set_value (map swapped (elements v))
 unary_value Single v truth = set_value (v ∷ [])
 unary_value _ v truth = set none
 
--- base is the value of a function where exactly one pair does not begin with the argument
+-- base is the value of an application unless exactly one pair of the function begins with the argument
 abbrev pub binary_value : BinOp → MathValue → MathValue → MathValue → MathValue
 binary_value Union base v w = set_value (union_of (elements v) (elements w))
 binary_value Inter base v w = set_value (inter_of (elements v) (elements w))
 binary_value Minus base v w = set_value (minus_of (elements v) (elements w))
 binary_value Times base v w = set_value (pairs_of (elements v) (elements w))
-binary_value DomRes base v w = set_value (filter (λ p. is_element (first_of p) v) (elements w))
+binary_value DomRes base v w = set_value (filter (λ p. is_element (first_part p) v) (elements w))
 binary_value RanRes base v w = set_value (filter (λ p. is_element (second_of p) w) (elements v))
-binary_value DomSub base v w = set_value (filter (λ p. not (is_element (first_of p) v)) (elements w))
+binary_value DomSub base v w = set_value (filter (λ p. not (is_element (first_part p) v)) (elements w))
 binary_value RanSub base v w = set_value (filter (λ p. not (is_element (second_of p) w)) (elements v))
 binary_value Over base v w = set_value (overridden_of (elements v) (elements w))
 binary_value Maps base v w = pair v w
@@ -172,8 +172,8 @@ is_in_named sizes _ _ = false
 
 -- a set each of whose elements is in the domain
 abbrev pub is_subset : (MathValue → Bool) → MathValue → Bool
-is_subset in_domain (set vs) = list_all in_domain (list_of vs)
-is_subset in_domain _ = false
+is_subset in_a (set vs) = list_all in_a (list_of vs)
+is_subset in_a _ = false
 
 abbrev pub is_empty : MathValue → Bool
 is_empty (set none) = true
@@ -212,12 +212,12 @@ abbrev pub is_in_binary : Finder → (ℕ → ℕ) → ValueType → ValueType �
 is_in_binary find sizes t u Times in_a in_b value v = is_pair_of in_a in_b v
 is_in_binary find sizes t u Relations in_a in_b value v = is_relation in_a in_b v
 is_in_binary find sizes t u PartialFunctions in_a in_b value v = is_partial_function in_a in_b v
-is_in_binary find sizes t u TotalFunctions in_a in_b value v = is_partial_function in_a in_b v && covers find sizes t in_a (map first_of (elements v))
+is_in_binary find sizes t u TotalFunctions in_a in_b value v = is_partial_function in_a in_b v && covers find sizes t in_a (map first_part (elements v))
 is_in_binary find sizes t u PartialInjections in_a in_b value v = is_partial_function in_a in_b v && is_injective (elements v)
-is_in_binary find sizes t u TotalInjections in_a in_b value v = is_partial_function in_a in_b v && is_injective (elements v) && covers find sizes t in_a (map first_of (elements v))
+is_in_binary find sizes t u TotalInjections in_a in_b value v = is_partial_function in_a in_b v && is_injective (elements v) && covers find sizes t in_a (map first_part (elements v))
 is_in_binary find sizes t u PartialSurjections in_a in_b value v = is_partial_function in_a in_b v && covers find sizes u in_b (map second_of (elements v))
-is_in_binary find sizes t u TotalSurjections in_a in_b value v = is_partial_function in_a in_b v && covers find sizes t in_a (map first_of (elements v)) && covers find sizes u in_b (map second_of (elements v))
-is_in_binary find sizes t u Bijections in_a in_b value v = is_partial_function in_a in_b v && is_injective (elements v) && covers find sizes t in_a (map first_of (elements v)) && covers find sizes u in_b (map second_of (elements v))
+is_in_binary find sizes t u TotalSurjections in_a in_b value v = is_partial_function in_a in_b v && covers find sizes t in_a (map first_part (elements v)) && covers find sizes u in_b (map second_of (elements v))
+is_in_binary find sizes t u Bijections in_a in_b value v = is_partial_function in_a in_b v && is_injective (elements v) && covers find sizes t in_a (map first_part (elements v)) && covers find sizes u in_b (map second_of (elements v))
 is_in_binary find sizes t u _ in_a in_b value v = is_element v value
 
 -- ---- binders

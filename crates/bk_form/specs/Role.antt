@@ -8,7 +8,7 @@ use Rattle.bk_form.specs.declared.operator.UnOp.TheVariants.{Not, BoolOf, Neg, C
 use Rattle.bk_form.specs.declared.operator.BinOp.{BinOp}
 use Rattle.bk_form.specs.declared.operator.BinOp.TheVariants.{And, Or, Imp, Iff, Eq, Lt, Le, In, Relations, PartialFunctions, TotalFunctions, PartialInjections, TotalInjections, PartialSurjections, TotalSurjections, Bijections, Union, Inter, Minus, Times, DomRes, RanRes, DomSub, RanSub, Over, Maps, Range, Add, Sub, Mul, Div, Mod, Power, Image, Apply, Comp}
 use Rattle.bk_form.specs.declared.operator.Domain.{Domain}
-use Rattle.bk_form.specs.declared.operator.Domain.TheVariants.{Integer, Natural, Natural1, Bool as Booleans, Enum}
+use Rattle.bk_form.specs.declared.operator.Domain.TheVariants.{Bool as Booleans, Enum}
 
 -- What a formula stands for: a value of the type that it gives, a domain that is no value and ranges over a type, a predicate, or nothing.
 pub data Role : Type 0 where
@@ -196,9 +196,9 @@ all_listed table [] = true
 all_listed table (t ∷ ts) = lists_type table t && all_listed table ts
 
 -- the bound variables of a list go in front of those around them, the last one innermost
-abbrev pub push : {A : Type 0} → List A → List A → List A
-push [] around = around
-push (x ∷ xs) around = push xs (x ∷ around)
+abbrev pub bind : {A : Type 0} → List A → List A → List A
+bind [] around = around
+bind (x ∷ xs) around = bind xs (x ∷ around)
 
 abbrev pub gives_set : Role → Bool
 gives_set (gives (set_type t)) = true
@@ -254,10 +254,10 @@ abbrev mutual
   role table around bfalse = predicate
   role table around (unary o a) = unary_role o (role table around a)
   role table around (binary o a b) = binary_role o (role table around a) (role table around b)
-  role table around (for_all ts p) = quantifier_role table ts (role table (push ts around) p)
-  role table around (for_some ts p) = quantifier_role table ts (role table (push ts around) p)
-  role table around (comprehension rs p) = comprehension_role (roles table around rs) (role table (push (element_types (roles table around rs)) around) p)
-  role table around (lambda rs p v) = lambda_role (roles table around rs) (role table (push (element_types (roles table around rs)) around) p) (role table (push (element_types (roles table around rs)) around) v)
+  role table around (for_all ts p) = quantifier_role table ts (role table (bind ts around) p)
+  role table around (for_some ts p) = quantifier_role table ts (role table (bind ts around) p)
+  role table around (comprehension rs p) = comprehension_role (roles table around rs) (role table (bind (element_types (roles table around rs)) around) p)
+  role table around (lambda rs p v) = lambda_role (roles table around rs) (role table (bind (element_types (roles table around rs)) around) p) (role table (bind (element_types (roles table around rs)) around) v)
 
   pub roles : Table → List ValueType → Formulas → List Role
   roles table around no_formulas = []

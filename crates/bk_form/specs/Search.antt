@@ -1,8 +1,8 @@
 -- A search over tests, by which the truth of a quantifier is a truth value.
-use Rattle.std.specs.Prelude.{◌≡◌, Bool, true, false, List, Option, Some, None}
+use Rattle.std.specs.Prelude.{◌≡◌, Bool, true, false, List, Option, Some, None, is_none}
 use Rattle.bk_val.specs.Value.{MathValue}
 
--- For each test on lists of values, a list of values or none.
+-- A finder answers each test on lists of values with a list of values or with none.
 abbrev pub Finder : Type 0
 Finder = (List MathValue → Bool) → Option (List MathValue)
 
@@ -12,10 +12,6 @@ pub record IsSearch (find : Finder) : Type 0 where
   pub found : (test : List MathValue → Bool) (vs : List MathValue) → find test ≡ Some vs → test vs ≡ true
   pub none : (test : List MathValue → Bool) → find test ≡ None → (vs : List MathValue) → test vs ≡ false
 
-abbrev pub is_nobody : Option (List MathValue) → Bool
-is_nobody None = true
-is_nobody (Some vs) = false
-
 -- whether no list of values passes the test
 abbrev pub no_choice : Finder → (List MathValue → Bool) → Bool
-no_choice find test = is_nobody (find test)
+no_choice find test = is_none (find test)

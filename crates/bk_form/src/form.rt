@@ -2,6 +2,7 @@
 
 ghost use Rattle.std.specs.Prelude.{◌≡◌, ◌<◌, ◌≤◌, ◌^◌, IfOk, IsTrue, ◌↔◌};
 ghost use Rattle.bk_form.specs.Formula.{formula_size, formula_height, formulas_size, formulas_height, formulas_of};
+ghost use Rattle.bk_form.specs.Storable.{is_storable, are_storable, has_storable_parts};
 ghost use Rattle.bk_form.specs.FormView.{made};
 ghost use Rattle.bk_form.specs.FormShown.{shown};
 
@@ -73,11 +74,11 @@ impl Model for Form {
 
     ghost coded = { coded_formula };
 
-    ghost use Rattle.bk_form.specs.FormView.{made, IsCounted};
+    ghost use Rattle.bk_form.specs.FormView.{made, IsStored};
 
     ghost view = { λ f. made f.shared.value.part };
 
-    ghost invariant = { IsCounted };
+    ghost invariant = { IsStored };
 
     ghost size = { formula_size };
 
@@ -115,6 +116,7 @@ impl Form {
     {
         let nodes = part.nodes();
         let height = part.height();
+        part.numbers_of_parts_fit();
         let counted = Counted {
             nodes,
             height,
@@ -138,6 +140,23 @@ impl Form {
         ensures { result ≡ formula_height self.now }
     {
         self.shared.height
+    }
+
+    /// Its numbers fit those of the program. It does nothing: callers learn this of the mathematical formula.
+    pub fn numbers_fit(&self)
+        ensures { IsTrue (is_storable self.now) }
+    {
+        let _ = &self.shared;
+    }
+
+    /// The numbers of each formula fit those of the program.
+    #[tactic(auto, using(crate::proofs::StorableLists::one_more_storable))]
+    pub fn all_numbers_fit(forms: &[Form])
+        ensures { IsTrue (are_storable (formulas_of forms.now)) }
+    {
+        for form in forms {
+            form.numbers_fit();
+        }
     }
 
     /// What it is, and its parts.
@@ -275,6 +294,38 @@ impl Part {
                 largest_depth(ranges).max(body.depth().max(value.depth())) + 1
             }
             _ => 1,
+        }
+    }
+
+    // The numbers of its parts fit those of the program. It does nothing.
+    fn numbers_of_parts_fit(&self)
+        ensures { IsTrue (has_storable_parts (made self.now)) }
+    {
+        match self {
+            Part::Empty(ty) => ty.numbers_fit(),
+            Part::Un(_, operand) => operand.numbers_fit(),
+            Part::Bin(_, left, right) => {
+                left.numbers_fit();
+                right.numbers_fit();
+            }
+            Part::All(types, body) => {
+                Ty::all_numbers_fit(types);
+                body.numbers_fit();
+            }
+            Part::Some(types, body) => {
+                Ty::all_numbers_fit(types);
+                body.numbers_fit();
+            }
+            Part::Compr(ranges, body) => {
+                Form::all_numbers_fit(ranges);
+                body.numbers_fit();
+            }
+            Part::Lam(ranges, body, value) => {
+                Form::all_numbers_fit(ranges);
+                body.numbers_fit();
+                value.numbers_fit();
+            }
+            _ => {}
         }
     }
 }

@@ -1,6 +1,6 @@
 //! Laws of the meaning of formulas. Each is the contract of a function that does nothing.
 
-ghost use Rattle.bk_form.specs.Laws.{AllMeans, SomeMeans, IsIndependent, IsClassical, IsSoundTyping, ReplacementMeans, ComprehensionHas, LambdaHas, IntervalHas, TotalMeans, OntoMeans, NoTotalFunction, Examples};
+ghost use Rattle.bk_form.specs.Laws.{AllMeans, SomeMeans, IsIndependent, IsClassical, IsSoundTyping, ReplacementMeans, ComprehensionHas, LambdaHas, IntervalHas, TotalMeans, OntoMeans, NoTotalFunction, ChoicesAre, Examples, DefinedExamples};
 
 /// What the quantifiers say.
 pub fn quantifiers()
@@ -33,11 +33,12 @@ pub fn replacement_means()
 {
 }
 
-/// The members of comprehensions, lambdas and intervals.
+/// The members of comprehensions, lambdas and intervals, and the choices from some ranges.
 pub fn members()
     ensures comprehension { ComprehensionHas }
     ensures lambda { LambdaHas }
     ensures interval { IntervalHas }
+    ensures choices { ChoicesAre }
 {
 }
 
@@ -51,6 +52,7 @@ pub fn arrows()
 
 /// Small cases, to be checked by hand.
 pub fn examples()
-    ensures { Examples }
+    ensures meaning { Examples }
+    ensures defined { DefinedExamples }
 {
 }

@@ -15,3 +15,6 @@ pub use operator::{BinOp, Domain, UnOp};
 pub use table::VarTable;
 pub use token::{Token, TokenKind};
 pub use ty::{Ty, TyView};
+
+#[cfg(test)]
+mod tests;

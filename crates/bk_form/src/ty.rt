@@ -2,6 +2,7 @@
 
 ghost use Rattle.std.specs.Prelude.{◌≡◌, IfOk, IsTrue, ◌↔◌};
 ghost use Rattle.bk_val.specs.ValueType.{int_type, bool_type, enum_type, pair_type, set_type};
+ghost use Rattle.bk_form.specs.Storable.{is_storable_type, are_storable_types};
 ghost use Rattle.bk_form.specs.TypeShown.{shown_type};
 
 use bk_io::Memory;
@@ -27,6 +28,8 @@ enum TyNode {
 }
 
 impl Model for Ty {
+    ghost use Rattle.std.specs.Prelude.{IsTrue};
+    ghost use Rattle.bk_form.specs.Storable.{is_storable_type};
     ghost use Rattle.bk_val.specs.ValueType.{ValueType, coded_type, type_size};
 
     ghost Value = { ValueType };
@@ -36,6 +39,8 @@ impl Model for Ty {
     ghost use Rattle.bk_form.specs.TypeView.{type_view};
 
     ghost view = { λ t. type_view t.node };
+
+    ghost invariant = { λ t. IsTrue (is_storable_type (type_view t.node)) };
 
     ghost size = { type_size };
 
@@ -87,6 +92,8 @@ impl Ty {
     pub fn pair(alloc: Global, left: Ty, right: Ty) -> Result<Ty, Memory>
         ensures { IfOk result (λ t. t ≡ pair_type left right) }
     {
+        left.numbers_fit();
+        right.numbers_fit();
         Ok(Ty {
             node: TyNode::Pair(Rc::new(alloc, left)?, Rc::new(alloc, right)?),
         })
@@ -96,9 +103,27 @@ impl Ty {
     pub fn set(alloc: Global, elements: Ty) -> Result<Ty, Memory>
         ensures { IfOk result (λ t. t ≡ set_type elements) }
     {
+        elements.numbers_fit();
         Ok(Ty {
             node: TyNode::Set(Rc::new(alloc, elements)?),
         })
+    }
+
+    /// Its enumerated sets have numbers of 32 bits. It does nothing: callers learn this of the mathematical type.
+    pub fn numbers_fit(&self)
+        ensures { IsTrue (is_storable_type self.now) }
+    {
+        let _ = &self.node;
+    }
+
+    #[tactic(auto, using(crate::proofs::StorableLists::one_more_storable))]
+    /// The enumerated sets of each type have numbers of 32 bits.
+    pub fn all_numbers_fit(types: &[Ty])
+        ensures { IsTrue (are_storable_types types.now) }
+    {
+        for ty in types {
+            ty.numbers_fit();
+        }
     }
 
     /// What it is, and its parts. It takes no memory.

@@ -1,5 +1,5 @@
 -- A list that gained bytes at its end.
-use Rattle.std.proofs.Common.{◌≡◌, ℕ, ◌+◌, ◌-◌, ◌≤◌, List, ◌++◌, take, drop, length, sym, ◌∙◌, ap, arith, subst}
+use Rattle.std.proofs.Common.{◌≡◌, ℕ, ◌+◌, ◌≤◌, List, ◌++◌, take, drop, length, sym, ◌∙◌, ap, arith}
 use Rattle.std.proofs.lemmas.List.{take-append-drop, length-drop}
 use Rattle.bk_io.specs.Files.{GainsUpTo}
 

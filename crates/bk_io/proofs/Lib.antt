@@ -1,1 +1,2 @@
 mod Gains
+mod Written

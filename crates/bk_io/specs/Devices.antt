@@ -1,7 +1,6 @@
 -- What contracts see of the devices in memory.
 use Rattle.std.specs.Prelude.{ℕ, List}
 use Rattle.bk_io.specs.Files.{Files, files_of}
-use Rattle.bk_io.specs.declared.schedule.Schedule.{Schedule}
 use Rattle.bk_io.specs.declared.mem_shelf.MemShelf.{MemShelf}
 use Rattle.bk_io.specs.declared.mem_shelf.SureShelf.{SureShelf}
 use Rattle.bk_io.specs.declared.mem_sink.MemSink.{MemSink}

@@ -1,8 +1,7 @@
 -- Files by name, and what a shelf answers of one.
-use Rattle.std.specs.Prelude.{◌≡◌, ℕ, ◌<◌, ◌≤◌, ◌⊎◌, List, ◌++◌, length, map, nat_eq, Option, Some, None, Result, Err, OnOk, String, string_bytes, Vec}
-use Rattle.std.specs.List.{IsDistinct}
+use Rattle.std.specs.Prelude.{◌≡◌, ℕ, ◌<◌, ◌≤◌, ◌⊎◌, List, [], ◌∷◌, ◌++◌, length, map, nat_eq, Option, Some, None, Result, Err, OnOk, String, string_bytes, Vec}
 use Rattle.std.specs.Cmp.Lexicographic.{pointwise}
-use Rattle.std.specs.Map.{lookup, keys_of}
+use Rattle.std.specs.Map.{lookup}
 use Rattle.std.specs.declared.alloc.Global.{Global}
 use Rattle.bk_io.specs.declared.shelf.Fetch.{Fetch}
 use Rattle.bk_io.specs.declared.shelf.Fetch.TheVariants.{Missing, TooLong, Memory}
@@ -15,9 +14,10 @@ Files = List (List ℕ × List ℕ)
 abbrev pub file_named : Files → List ℕ → Option (List ℕ)
 file_named files name = lookup (pointwise nat_eq name) files
 
--- no two files have one name
+-- no two files have one name: each file's name is none of those after it
 abbrev pub HasDistinctNames : Files → Type 0
-HasDistinctNames files = IsDistinct (pointwise nat_eq) (keys_of files)
+HasDistinctNames [] = Unit {0}
+HasDistinctNames (file ∷ files) = (file_named files file.0 ≡ None) × HasDistinctNames files
 
 -- the files that a program's list holds
 abbrev pub files_of : List (String Global × Vec ℕ Global) → Files

@@ -44,12 +44,7 @@ fn refusal(error: &io::Error) -> Fetch {
 
 // After an error some bytes may stand at the end of `into`.
 #[tactic(auto, using(crate::proofs::Gains::gains_from_front))]
-fn read_file<R: Files>(
-    rt: &R,
-    name: &str,
-    max: usize,
-    into: &mut Vec<u8>,
-) -> Result<(), Fetch>
+fn read_file<R: Files>(rt: &R, name: &str, max: usize, into: &mut Vec<u8>) -> Result<(), Fetch>
     ensures kept { take (length into.old.items) into.new.items ≡ into.old.items }
     ensures ok { OnOk result (GainsUpTo max into.old.items into.new.items) }
 {
@@ -59,9 +54,7 @@ fn read_file<R: Files>(
     loop {
         // One byte more than may come tells a longer file.
         let room = left.saturating_add(1).min(PIECE);
-        let count = file
-            .read(&mut piece[..room])
-            .map_err(|_| Fetch::Failed)?;
+        let count = file.read(&mut piece[..room]).map_err(|_| Fetch::Failed)?;
         if count == 0 {
             return Ok(());
         }

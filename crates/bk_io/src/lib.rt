@@ -11,8 +11,11 @@ mod store;
 mod text;
 
 pub use edge::{FileShelf, StdSink};
-pub use mem_shelf::{MemShelf, SureShelf};
+pub use mem_shelf::{MemShelf, SureShelf, have_distinct_names};
 pub use mem_sink::{MemSink, SureSink};
 pub use shelf::{Fetch, Shelf};
-pub use sink::{Sink, SinkFault};
+pub use sink::{Sink, SinkFault, put_all};
 pub use text::{Memory, Text};
+
+#[cfg(test)]
+mod tests;

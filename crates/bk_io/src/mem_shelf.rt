@@ -1,5 +1,5 @@
 // Shelves over files in memory.
-ghost use Rattle.std.specs.Prelude.{◌≡◌, ◌≢◌, ◌↔◌, ◌+◌, ◌-◌, ◌^◌, ◌<◌, ◌≤◌, All, Contains, Option, Some, OnOk, OnErr, IfSome};
+ghost use Rattle.std.specs.Prelude.{◌≡◌, ◌≢◌, ◌↔◌, ◌+◌, ◌-◌, ◌^◌, ◌<◌, ◌≤◌, All, Contains, Option, Some, OnOk, OnErr, IfSome, IsTrue};
 ghost use Rattle.std.specs.Option.{option_copied};
 ghost use Rattle.bk_io.specs.Counts.{counted, CountsCalls, HasCause, Rose};
 ghost use Rattle.bk_io.specs.Files.{Files, files_of, file_named, HasDistinctNames, GainsUpTo, AnswersFile};
@@ -17,6 +17,20 @@ fn find_file<'a>(files: &'a [(String, Vec<u8>)], name: &str) -> Option<&'a [u8]>
         }
     }
     None
+}
+
+/// Whether no two of the files have one name, as a shelf asks.
+pub fn have_distinct_names(files: &[(String, Vec<u8>)]) -> bool
+    ensures { IsTrue result ↔ HasDistinctNames (files_of files.now) }
+{
+    let mut rest = files;
+    while let Some((file, others)) = rest.split_first() {
+        if find_file(others, file.0.as_str()).is_some() {
+            return false;
+        }
+        rest = others;
+    }
+    true
 }
 
 // A fetch that does not fail.

@@ -3,7 +3,7 @@ ghost use Rattle.std.specs.Prelude.{◌≡◌, ◌↔◌, ◌+◌, ◌-◌, ◌^
 ghost use Rattle.bk_io.specs.Counts.{counted};
 
 #[derive(Debug, Drop)]
-pub struct Schedule {
+pub(crate) struct Schedule {
     failing: Vec<u64>,
     calls: u64,
     faults: u64,
@@ -14,7 +14,7 @@ pub struct Schedule {
 }
 
 impl Schedule {
-    pub fn new(failing: Vec<u64>) -> Schedule
+    pub(crate) fn new(failing: Vec<u64>) -> Schedule
         requires { All (λ n. n < 2 ^ 64 - 1) failing.items }
         ensures failing { result.failing.items ≡ failing.items }
         ensures calls { result.calls ≡ 0 }
@@ -28,7 +28,7 @@ impl Schedule {
     }
 
     // Counts one more call, and answers whether it is to fail.
-    pub fn fails(&mut self) -> bool
+    pub(crate) fn fails(&mut self) -> bool
         ensures fails { IsTrue result ↔ Contains self.old.failing.items (self.old.calls + 1) }
         ensures failing { self.new.failing.items ≡ self.old.failing.items }
         ensures calls { self.new.calls ≡ counted self.old.calls }

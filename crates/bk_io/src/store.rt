@@ -6,14 +6,14 @@ use std::alloc::Global;
 
 // Bytes with memory for the first `room` of them.
 #[derive(Debug, Drop)]
-pub struct Store {
+pub(crate) struct Store {
     bytes: Vec<u8>,
     room: usize,
     ghost reserved: { room ≤ vec_capacity bytes },
 }
 
 impl Store {
-    pub fn new(alloc: Global, room: usize) -> Result<Store, Memory>
+    pub(crate) fn new(alloc: Global, room: usize) -> Result<Store, Memory>
         ensures bytes { IfOk result (λ store. store.bytes.items ≡ []) }
         ensures room { IfOk result (λ store. store.room ≡ room) }
     {
@@ -23,7 +23,7 @@ impl Store {
         })
     }
 
-    pub fn append(&mut self, piece: &[u8]) -> Result<(), Memory>
+    pub(crate) fn append(&mut self, piece: &[u8]) -> Result<(), Memory>
         ensures ok { OnOk result (self.new.bytes.items ≡ self.old.bytes.items ++ piece.now) }
         ensures err { OnErr result (self.new.bytes.items ≡ self.old.bytes.items) }
         ensures full { OnErr result (self.old.room < length (self.old.bytes.items ++ piece.now)) }
@@ -33,7 +33,7 @@ impl Store {
         Ok(())
     }
 
-    pub fn bytes(&self) -> &[u8]
+    pub(crate) fn bytes(&self) -> &[u8]
         ensures { result.now ≡ self.now.bytes.items }
     {
         &self.bytes

@@ -1,8 +1,10 @@
 -- Which high powers fit 128 bits.
-use Rattle.std.proofs.Common.{◌≡◌, ℕ, zero, suc, ◌^◌, ◌%◌, ◌<◌, ◌≤◌, Bool, true, false, cond, ◌⊎◌, inl, inr, refl, arith, add-one, FitsSigned, ℤ, pos, ◌≤ℤ◌, ◌<ℤ◌, of_z}
-use lib.IntN.{negsuc, neg_ℤ}
+use Rattle.std.proofs.Common.{◌≡◌, ℕ, zero, suc, ◌+◌, ◌*◌, not, sym, ap, ◌^◌, ◌%◌, ◌<◌, ◌≤◌, Bool, true, false, cond, ◌⊎◌, inl, inr, refl, arith, add-one, FitsSigned, ℤ, pos, ◌≤ℤ◌, ◌<ℤ◌, of_z}
+use lib.IntN.{negsuc, neg_ℤ, ◌*ℤ◌, pos-*ℤ-pos, pos-*ℤ-negsuc, negsuc-*ℤ-negsuc}
+use Rattle.std.proofs.lemmas.Bool.Decides.{nat_tests}
 use Rattle.std.proofs.lemmas.Int.{ints}
 use Rattle.std.proofs.lemmas.Grind.{pow_more}
+use Rattle.std.proofs.Math.Nat.{pow-zero}
 use Rattle.std.proofs.lemmas.Bool.{eq-eqb, ne_eqb}
 use Rattle.std.proofs.Math.Nat.{pow-le-pow_left, pow-le-pow_right}
 use Rattle.std.specs.Prelude.{◌==◌, int_rem}
@@ -49,3 +51,27 @@ low_power (pos zero) (pos n) h p q = rw (zero_pow n (omega (arith, ints)))
 low_power (pos (suc m)) (pos n) h p q = let e : m ≡ 0 = omega (arith, ints) in rw (e, one_pow n)
 low_power (negsuc m) b h p q = absurd (omega (arith, ints))
 low_power (pos m) (negsuc n) h p q = absurd (omega (arith, ints))
+
+-- ---- powers by their factors
+pub power_of-zero : (a : ℤ) → power_of a (pos 0) ≡ pos 1
+power_of-zero (pos a) = ap pos (pow-zero a)
+power_of-zero (negsuc a) = ap pos (pow-zero (suc a))
+
+pub power_of-negative : (a b : ℤ) → b <ℤ pos 0 → power_of a b ≡ pos 0
+power_of-negative a (pos n) h = absurd (omega (arith, ints))
+power_of-negative a (negsuc n) h = refl
+
+neg_times : (y a : ℕ) → pos (y * suc a) ≡ neg_ℤ (pos y) *ℤ negsuc a
+neg_times zero a = let e : 0 * suc a ≡ 0 = omega arith in rw e
+neg_times (suc y) a = sym (negsuc-*ℤ-negsuc y a)
+
+at_parity : (b c : Bool) (y a : ℕ) → c ≡ not b → cond c (pos (y * suc a)) (neg_ℤ (pos (y * suc a))) ≡ cond b (pos y) (neg_ℤ (pos y)) *ℤ negsuc a
+at_parity true c y a e = rw e (sym (pos-*ℤ-negsuc y a))
+at_parity false c y a e = rw e (neg_times y a)
+
+next_parity : (n : ℕ) → ((n + 1) % 2 == 0) ≡ not (n % 2 == 0)
+next_parity n = grind (arith, nat_tests)
+
+pub power_of-more : (a : ℤ) (n : ℕ) → power_of a (pos (n + 1)) ≡ power_of a (pos n) *ℤ a
+power_of-more (pos a) n = rw (pow_more a n) (sym (pos-*ℤ-pos (a ^ n) a))
+power_of-more (negsuc a) n = rw (pow_more (suc a) n) (at_parity (n % 2 == 0) ((n + 1) % 2 == 0) (suc a ^ n) a (next_parity n))

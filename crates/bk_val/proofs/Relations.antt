@@ -3,17 +3,16 @@ use Rattle.std.proofs.Common.{◌≡◌, ℕ, ◌+◌, ◌<◌, Bool, true, fals
 use Rattle.std.specs.Prelude.{map, Option, Some, None, is_some}
 use Rattle.std.specs.Option.{option_to_list}
 use Rattle.std.specs.Ordering.{eq_by_cmp, ordering_then}
-use Rattle.std.specs.declared.cmp.Ordering.{Ordering}
-use Rattle.std.specs.declared.cmp.Ordering.TheVariants.{Less, Equal, Greater}
-use Rattle.std.specs.List.{filter, list_any}
+use Rattle.std.specs.declared.cmp.Ordering.TheVariants.{Less, Equal}
+use Rattle.std.specs.List.{filter}
 use Rattle.std.specs.List.Sorted.{IsStrictlySortedBy}
 use Rattle.std.proofs.lemmas.Bool.{or_cases, or_left, or_right, cond_both}
 use Rattle.std.proofs.lemmas.List.{map-append, take-append-drop}
 use Rattle.std.proofs.lemmas.List.Elements.{filter-append}
-use Rattle.bk_val.specs.Value.{MathValue, int, bool, elem, pair, set, value_cmp, IsStrictlySorted}
+use Rattle.bk_val.specs.Value.{MathValue, pair, value_cmp, IsStrictlySorted}
 use Rattle.bk_val.specs.Sets.{has, seconds_of, second_of, first_passes, in_domain, begins_outside, overridden_of, image_of, apply_of, only_element, IsImage, IsOnlyValue}
 use Rattle.bk_val.specs.CmpLaws.{value_cmp-self, value_eq-self, same_value}
-use Rattle.bk_val.proofs.SortedLists.{Below, sorted_nil}
+use Rattle.bk_val.proofs.SortedLists.{Below}
 use Rattle.bk_val.proofs.Elements.{has-first, has-filter, has-set_of, has-union_of}
 
 -- what equality answers for x

@@ -1,5 +1,5 @@
 -- Which lists are those of the elements of a set that can be held.
-use Rattle.std.proofs.Common.{◌≡◌, ℕ, ◌<◌, ◌≤◌, ◌^◌, ℤ, pos, Bool, true, false, ◌&&◌, cond, List, [], ◌∷◌, take, length, refl, sym, ◌∙◌, ap, arith, FitsSigned}
+use Rattle.std.proofs.Common.{◌≡◌, ℕ, ◌<◌, ◌≤◌, ◌^◌, ℤ, pos, Bool, true, List, [], ◌∷◌, take, length, refl, ap, arith, FitsSigned}
 use lib.IntN.{negsuc}
 use Rattle.std.specs.Int.{w128}
 use Rattle.std.proofs.lemmas.Bool.{and_parts, and_from, lt-ltb, cond_both}
@@ -9,9 +9,9 @@ use Rattle.std.specs.declared.cmp.Ordering.{Ordering}
 use Rattle.std.specs.declared.cmp.Ordering.TheVariants.{Less, Equal, Greater}
 use Rattle.std.specs.List.{AllByRecursion, filter}
 use Rattle.std.specs.List.Sorted.{IsStrictlySortedBy}
-use Rattle.bk_val.specs.Value.{MathValue, int, elem, pair, set, value_cmp, values_of, is_below, rises_from, is_rising, is_storable, are_storable, IsStrictlySorted, IsStoredSet}
-use Rattle.bk_val.specs.Sets.{union_of, set_of, first_passes, seconds_of}
-use Rattle.bk_val.proofs.SortedLists.{Below, below_all, sorted_nil, sorted_union_of, all_union_of}
+use Rattle.bk_val.specs.Value.{MathValue, int, elem, pair, value_cmp, values_of, is_below, rises_from, is_rising, is_storable, are_storable, IsStrictlySorted, IsStoredSet}
+use Rattle.bk_val.specs.Sets.{union_of, set_of}
+use Rattle.bk_val.proofs.SortedLists.{Below, below_all, sorted_union_of, all_union_of}
 use Rattle.bk_val.proofs.Elements.{all_set_of, sorted_set_of}
 
 -- ---- single values

@@ -103,6 +103,7 @@ IsStoredSet xs = is_storable (set (values_of xs)) ≡ true
 
 -- ---- how large a value is, which falls on the way to its parts
 abbrev mutual
+  -- the weight of a value is more than those of its parts
   pub weight : MathValue → ℕ
   weight (int z) = 1
   weight (bool b) = 1
@@ -110,10 +111,12 @@ abbrev mutual
   weight (pair a b) = weight a + weight b + 1
   weight (set s) = weights s + 1
 
+  -- the weight of the elements of a set
   pub weights : MathValues → ℕ
   weights none = 0
   weights (more x xs) = weight x + weights xs + 1
 
+-- the weight of a list of values
 abbrev pub list_weight : List MathValue → ℕ
 list_weight [] = 0
 list_weight (x ∷ xs) = weight x + list_weight xs + 1
@@ -153,5 +156,6 @@ mutual
       cc (code_of-inj x y p, codes_of-inj xs ys q)
   codes_of-inj _ _ e = cc
 
+-- a value is told by its code
 abbrev pub value_code : Coded MathValue
 value_code = record { code = code_of; inj = code_of-inj }

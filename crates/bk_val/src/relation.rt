@@ -14,7 +14,8 @@ use std::alloc::Global;
 /// `s` does.
 pub fn overridden(alloc: Global, r: &ValSet, s: &ValSet) -> Result<ValSet, Memory>
     ensures exact { IfOk result (λ t. t ≡ overridden_of r.now s.now) }
-    ensures pairs { IfOk result (λ t. (x y : MathValue) → has t (pair x y) ≡ ((has r.now (pair x y) && not (in_domain s.now x)) || has s.now (pair x y))) }
+    ensures pairs { IfOk result (λ t. (x y : MathValue) →
+        has t (pair x y) ≡ ((has r.now (pair x y) && not (in_domain s.now x)) || has s.now (pair x y))) }
 {
     let kept = outside_domain(alloc, r, s)?;
     union(alloc, &kept, s)

@@ -1,6 +1,6 @@
 //! Membership, union, intersection and difference of sets.
 
-ghost use Rattle.std.specs.Prelude.{◌≡◌, ◌↔◌, ◌||◌, ◌&&◌, not, IsTrue, IfOk, OnOk, Contains, ◌++◌, if◌then◌else◌};
+ghost use Rattle.std.specs.Prelude.{◌≡◌, ◌↔◌, ◌||◌, ◌&&◌, not, IsTrue, IfOk, OnOk, Contains, ◌++◌, filter, if◌then◌else◌};
 ghost use Rattle.bk_val.specs.Value.{MathValue};
 ghost use Rattle.bk_val.specs.Sets.{union_of, inter_of, minus_of, has};
 
@@ -62,13 +62,7 @@ pub fn inter(alloc: Global, a: &ValSet, b: &ValSet) -> Result<ValSet, Memory>
     ensures exact { IfOk result (λ s. s ≡ inter_of a.now b.now) }
     ensures members { IfOk result (λ s. (q : MathValue) → has s q ≡ (has a.now q && has b.now q)) }
 {
-    let mut items = Vec::new(alloc);
-    for x in &a.items {
-        if contains(b, x) {
-            items.push(x.copy(alloc)?)?;
-        }
-    }
-    Ok(ValSet { items })
+    selected(alloc, a, b, true)
 }
 
 /// The elements of the first set that the second lacks.
@@ -76,9 +70,16 @@ pub fn minus(alloc: Global, a: &ValSet, b: &ValSet) -> Result<ValSet, Memory>
     ensures exact { IfOk result (λ s. s ≡ minus_of a.now b.now) }
     ensures members { IfOk result (λ s. (q : MathValue) → has s q ≡ (has a.now q && not (has b.now q))) }
 {
+    selected(alloc, a, b, false)
+}
+
+/// The elements of `a` that `b` has, or those that it lacks.
+fn selected(alloc: Global, a: &ValSet, b: &ValSet, present: bool) -> Result<ValSet, Memory>
+    ensures { IfOk result (λ s. s ≡ filter (λ x. if present then has b.now x else not (has b.now x)) a.now) }
+{
     let mut items = Vec::new(alloc);
     for x in &a.items {
-        if !contains(b, x) {
+        if contains(b, x) == present {
             items.push(x.copy(alloc)?)?;
         }
     }

@@ -1,9 +1,10 @@
 use super::*;
+use std::alloc::Global;
 use std::test::Fail;
 
 // The value of a call that had memory.
-fn made<T: Drop>(result: Result<T, Memory>) -> Result<T, Fail> {
-    Ok(result.ok().ok_or("memory")?)
+fn made<T: Drop>(outcome: Result<T, Memory>) -> Result<T, Fail> {
+    Ok(outcome.ok().ok_or("memory")?)
 }
 
 fn numbers(alloc: Global, items: &[i128]) -> Result<ValSet, Fail> {
@@ -69,13 +70,29 @@ fn applies(rt: HostRuntime) -> Result<(), Fail> {
 #[test]
 fn relates(rt: HostRuntime) -> Result<(), Fail> {
     let alloc = rt.alloc();
-    let over = made(overridden(alloc, &relation(alloc, &[(1, 5)])?, &relation(alloc, &[(1, 6)])?))?;
+    let over = made(overridden(
+        alloc,
+        &relation(alloc, &[(1, 5)])?,
+        &relation(alloc, &[(1, 6)])?,
+    ))?;
     assert!(rt; same(&over, &relation(alloc, &[(1, 6)])?));
-    let over = made(overridden(alloc, &relation(alloc, &[(1, 5), (2, 5), (2, 7)])?, &relation(alloc, &[(1, 6), (3, 0)])?))?;
+    let over = made(overridden(
+        alloc,
+        &relation(alloc, &[(1, 5), (2, 5), (2, 7)])?,
+        &relation(alloc, &[(1, 6), (3, 0)])?,
+    ))?;
     assert!(rt; same(&over, &relation(alloc, &[(1, 6), (2, 5), (2, 7), (3, 0)])?));
-    let images = made(image(alloc, &relation(alloc, &[(1, 5), (2, 5)])?, &numbers(alloc, &[1, 2])?))?;
+    let images = made(image(
+        alloc,
+        &relation(alloc, &[(1, 5), (2, 5)])?,
+        &numbers(alloc, &[1, 2])?,
+    ))?;
     assert!(rt; same(&images, &numbers(alloc, &[5])?));
-    let images = made(image(alloc, &relation(alloc, &[(1, 9), (2, 8), (3, 7)])?, &numbers(alloc, &[1, 3, 4])?))?;
+    let images = made(image(
+        alloc,
+        &relation(alloc, &[(1, 9), (2, 8), (3, 7)])?,
+        &numbers(alloc, &[1, 3, 4])?,
+    ))?;
     assert!(rt; same(&images, &numbers(alloc, &[7, 9])?));
     Ok(())
 }
@@ -93,7 +110,7 @@ fn nests(rt: HostRuntime) -> Result<(), Fail> {
     assert!(rt; !contains(&family, &Val::set(numbers(alloc, &[1])?)));
     assert!(rt; same(&family, &made(family.copy(alloc))?));
 
-    // Every kind of value, in the order of values.
+    // Every kind of value, the greatest first.
     let mut kinds = Vec::new(alloc);
     kinds.push(Val::set(family))?;
     kinds.push(made(Val::pair(alloc, Val::boolean(false), Val::element(0, 1)))?)?;
@@ -108,17 +125,14 @@ fn nests(rt: HostRuntime) -> Result<(), Fail> {
     for kind in kinds.iter().rev() {
         rising.push(made(kind.copy(alloc))?)?;
     }
-    rising.swap(6, 7);
-    rising.swap(5, 6);
-    rising.swap(6, 7);
     let set = ValSet::from_items(kinds);
     assert!(rt; !set.is_empty());
     assert!(rt; ValSet::new(alloc).is_empty());
     for (i, value) in set.as_slice().iter().enumerate() {
         assert!(rt; i < rising.len() && *value == rising[i], "at {i}");
-        is_well_formed(value);
+        value_is_well_formed(value);
     }
-    are_well_formed(set.as_slice());
+    values_are_well_formed(set.as_slice());
     Ok(())
 }
 

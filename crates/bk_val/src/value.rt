@@ -118,8 +118,8 @@ impl Val {
     pub fn pair(alloc: Global, first: Val, second: Val) -> Result<Val, Memory>
         ensures { IfOk result (λ p. p ≡ pair first second) }
     {
-        is_well_formed(&first);
-        is_well_formed(&second);
+        value_is_well_formed(&first);
+        value_is_well_formed(&second);
         let first = Box::new(alloc, first)?;
         let second = Box::new(alloc, second)?;
         Ok(Val {
@@ -153,7 +153,7 @@ impl ValSet {
         ensures exact { result ≡ set_of items.items }
         ensures members { (q : MathValue) → has result q ≡ has items.items q }
     {
-        are_well_formed(&items);
+        values_are_well_formed(&items);
         items.sort_unstable();
         items.dedup();
         ValSet { items }
@@ -183,19 +183,19 @@ impl ValSet {
     }
 }
 
-/// Every value is well formed: its numbers are in range, and its sets are sorted at every depth.
-pub fn is_well_formed(value: &Val)
+/// A law: every value is well formed. Its numbers are in range, and its sets are sorted at every depth.
+pub fn value_is_well_formed(value: &Val)
     ensures { is_storable value.now ≡ true }
 {
     let _ = &value.node;
 }
 
-/// Every value of a list is well formed.
-pub fn are_well_formed(values: &[Val])
+/// A law: every value of a list is well formed.
+pub fn values_are_well_formed(values: &[Val])
     ensures { are_storable (values_of values.now) ≡ true }
 {
     for value in values {
-        is_well_formed(value);
+        value_is_well_formed(value);
     }
 }
 

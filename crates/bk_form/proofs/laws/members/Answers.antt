@@ -1,4 +1,4 @@
-use Rattle.bk_form.proofs.Domains.{comprehension-has, lambda-has, interval-has}
+use Rattle.bk_form.proofs.Domains.{comprehension-has, lambda-has, interval-members, choices-are}
 use Rattle.bk_form.proofs.laws.members.Goals as goal
 
 pub returns-clause-comprehension : goal.returns-clause-comprehension
@@ -8,4 +8,7 @@ pub returns-clause-lambda : goal.returns-clause-lambda
 returns-clause-lambda c = lambda-has
 
 pub returns-clause-interval : goal.returns-clause-interval
-returns-clause-interval c find e a b z = interval-has a b z
+returns-clause-interval c = interval-members
+
+pub returns-clause-choices : goal.returns-clause-choices
+returns-clause-choices c = choices-are

@@ -1,4 +1,4 @@
-use Rattle.std.proofs.Common.{◌≡◌, ◌+◌, take, length, ℕ}
+use Rattle.std.proofs.Common.{◌≡◌, ◌+◌, take, length}
 use Rattle.bk_io.proofs.edge.read_file.Given as goal
 
 -- what was there still begins the list, and what is left counts down from what may come

@@ -1,6 +1,6 @@
-use Rattle.std.proofs.Common.{◌≡◌, ◌∙◌, ap}
+use Rattle.std.proofs.Common.{◌∙◌, ap}
 use Rattle.std.proofs.lemmas.Result.{IfOk-weaker}
-use Rattle.bk_val.specs.Value.{MathValue, pair}
+use Rattle.bk_val.specs.Value.{pair}
 use Rattle.bk_val.specs.Sets.{has, union_of}
 use Rattle.bk_val.proofs.Relations.{overridden_of-pairs}
 use Rattle.bk_val.proofs.relation.overridden.Goals as goal

@@ -1,6 +1,5 @@
 use Rattle.std.proofs.Common.{◌≡◌, ◌∙◌, ap}
 use Rattle.std.specs.Ordering.{eq_by_cmp}
-use Rattle.std.specs.List.{dedup}
 use Rattle.std.proofs.lemmas.List.Filters.{dedup_is}
 use Rattle.bk_val.specs.Value.{value_cmp}
 use Rattle.bk_val.specs.Sets.{has, set_of}
@@ -13,7 +12,7 @@ left : (c : After-dedup) → c.dedup.new.self.items ≡ set_of c.args.items.item
 left c = dedup_is (eq_by_cmp value_cmp) _ _ c.dedup.ensures.filtered ∙ deduped_is _ _ c.sort_unstable.ensures.permutation c.sort_unstable.ensures.sorted
 
 pub invariant_of-result : goal.invariant_of-result
-invariant_of-result c = rw (left c) (stored_set-set_of c.args.items.items (rw c.deref.ensures.value at c.are_well_formed.ensures))
+invariant_of-result c = rw (left c) (stored_set-set_of c.args.items.items (rw c.deref.ensures.value at c.values_are_well_formed.ensures))
 
 pub returns-clause-exact : goal.returns-clause-exact
 returns-clause-exact c = left c
