@@ -46,9 +46,9 @@ module _ (find : Finder) (e : Environment) (rs : Formulas) where
       let test : List MathValue → Bool = λ vs. truth find (inner vs) p in
       let kept = map f (filter test all) in (
         (λ h.
-          let m = Has-map-then f v (filter test all) (has-then v kept (sym (element-set_value kept v) ∙ h)) in
-          let k = Has-filter-then test m.0 all m.1 in
-          (m.0, has-choice all m.0 k.0, k.1, m.2)),
+            let m = Has-map-then f v (filter test all) (has-then v kept (sym (element-set_value kept v) ∙ h)) in
+            let k = Has-filter-then test m.0 all m.1 in
+            (m.0, has-choice all m.0 k.0, k.1, m.2)),
         (λ w. element-set_value kept v ∙ has-if v kept (Has-map-if f v (filter test all) w.0 (Has-filter-if test w.0 all (choice-has all w.0 w.1) w.2) w.3)),
       )
 
@@ -119,18 +119,18 @@ interval-has a b z =
     let n = count_of d in
     element-set_value (numbers_from a n) (int z)
     ∙ both_ways (has (numbers_from a n) (int z)) (int_le a z && int_le z b)
-      (λ h.
-      let k = numbers-then n a z (has-then (int z) (numbers_from a n) h) in
-      let l = k.0 in
-      let m = k.1 in
-      let g = count-le d (z -ℤ a) (omega (arith, ints)) (omega (arith, ints)) in
-      and-true (int_le a z) (int_le z b) (int_le-if a z l) (int_le-if z b (omega (arith, ints))))
-      (λ h.
-      let w = and-both (int_le a z) (int_le z b) h in
-      let l = int_le-then a z w.0 in
-      let m = int_le-then z b w.1 in
-      let e = count-is d (z -ℤ a) (omega (arith, ints)) (omega (arith, ints)) in
-      has-if (int z) (numbers_from a n) (numbers-if n a z l (omega (arith, ints))))
+    (λ h.
+    let k = numbers-then n a z (has-then (int z) (numbers_from a n) h) in
+    let l = k.0 in
+    let m = k.1 in
+    let g = count-le d (z -ℤ a) (omega (arith, ints)) (omega (arith, ints)) in
+    and-true (int_le a z) (int_le z b) (int_le-if a z l) (int_le-if z b (omega (arith, ints))))
+    (λ h.
+    let w = and-both (int_le a z) (int_le z b) h in
+    let l = int_le-then a z w.0 in
+    let m = int_le-then z b w.1 in
+    let e = count-is d (z -ℤ a) (omega (arith, ints)) (omega (arith, ints)) in
+    has-if (int z) (numbers_from a n) (numbers-if n a z l (omega (arith, ints))))
 
 -- nothing else is
 pub interval-only : (a b : ℤ) (v : MathValue) → is_element v (interval a b) ≡ true → (z : ℤ) × (v ≡ int z)

@@ -105,7 +105,7 @@ binary-value find sizes Times m n t f g h =
     let a = f (set_type k.first) k.left in
     let b = g (set_type k.second) k.right in
     let same : (v : MathValue) → is_pair_of m.contains n.contains v ≡ is_element v (set_value (pairs_of (elements m.value) (elements n.value))) =
-        λ v. (λ i. is_pair_of ((a i).contains) ((b i).contains) v) ∙ product-has (elements m.value) (elements n.value) v ∙ sym (element-set_value (pairs_of (elements m.value) (elements n.value)) v) in
+    λ v. (λ i. is_pair_of ((a i).contains) ((b i).contains) v) ∙ product-has (elements m.value) (elements n.value) v ∙ sym (element-set_value (pairs_of (elements m.value) (elements n.value)) v) in
     λ i. record { role = h i; value = set_value (pairs_of (elements m.value) (elements n.value)); truth = false; contains = λ v. same v i }
 binary-value find sizes o m n t f g h = ap (λ r. of_value r (binary_meaning find sizes o m n).value) h
 
