@@ -5,3 +5,5 @@ pub mod Layout
 pub mod Facts
 pub mod Machine
 pub mod Claims
+pub mod Counter
+pub mod Laws

@@ -2,5 +2,6 @@
 #![tactic(auto)]
 
 pub mod kind;
+pub mod laws;
 
 pub use kind::{Home, Kind};

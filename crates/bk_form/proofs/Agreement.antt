@@ -1,5 +1,5 @@
 -- What a formula means turns only on the bound numbers that stand in it.
-use Rattle.std.proofs.Common.{◌≡◌, ℕ, zero, suc, ◌+◌, ◌<◌, List, [], ◌∷◌, length, map, refl, ap, subst, arith}
+use Rattle.std.proofs.Common.{◌≡◌, ℕ, zero, suc, ◌+◌, ◌<◌, List, [], ◌∷◌, length, refl, ap, subst, arith}
 use Rattle.std.specs.Prelude.{slice_get}
 use Rattle.bk_val.specs.Value.{MathValue}
 use Rattle.bk_val.specs.ValueType.{ValueType, base_of}
@@ -9,7 +9,7 @@ use Rattle.bk_form.specs.Search.{Finder}
 use Rattle.bk_form.specs.Environment.{Environment, Binding, bindings}
 use Rattle.bk_form.specs.Role.{bind}
 use Rattle.bk_form.specs.Replacement.{count, IsClosed, AreClosed}
-use Rattle.bk_form.specs.Meaning.{Meaning, meaning, meanings, bound_meaning, unary_meaning, binary_meaning, all_meaning, some_meaning, comprehension_meaning, lambda_meaning, range_types}
+use Rattle.bk_form.specs.Meaning.{meaning, meanings, bound_meaning, unary_meaning, binary_meaning, all_meaning, some_meaning, comprehension_meaning, lambda_meaning, range_types}
 
 -- the innermost n bound numbers stand for the same
 pub record Agree (n : ℕ) (a b : List Binding) : Type 0 where

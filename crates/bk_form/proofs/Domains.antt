@@ -1,20 +1,20 @@
 -- What is in comprehensions, intervals and arrows.
-use Rattle.std.proofs.Common.{◌≡◌, ◌↔◌, ◌⊎◌, inl, inr, ℕ, zero, suc, ◌+◌, ◌<◌, ◌≤◌, ℤ, pos, negsuc, ◌+ℤ◌, ◌-ℤ◌, ◌≤ℤ◌, List, [], ◌∷◌, map, refl, sym, ◌∙◌, ap, subst, Bool, true, false, not, ◌&&◌, arith}
+use Rattle.std.proofs.Common.{◌≡◌, ◌↔◌, ◌⊎◌, inl, inr, ℕ, zero, suc, ◌+◌, ◌<◌, ℤ, pos, negsuc, ◌+ℤ◌, ◌-ℤ◌, ◌≤ℤ◌, List, [], ◌∷◌, map, refl, sym, ◌∙◌, ap, subst, Bool, true, false, not, ◌&&◌, arith}
 use Rattle.std.specs.Prelude.{int_le}
 use Rattle.std.specs.List.{filter}
 use Rattle.std.proofs.lemmas.Int.{ints}
-use Rattle.bk_val.specs.Value.{MathValue, int, bool, elem, pair, set}
+use Rattle.bk_val.specs.Value.{MathValue, int, pair}
 use Rattle.bk_val.specs.ValueType.{ValueType, int_type, is_value_of, are_of_types}
 use Rattle.bk_val.specs.Sets.{has, second_of}
 use Rattle.bk_form.specs.Table.{set_size}
 use Rattle.bk_form.specs.Formula.{Formula, named, binary, comprehension, lambda, Formulas}
-use Rattle.bk_form.specs.Search.{Finder, IsSearch, no_choice}
+use Rattle.bk_form.specs.Search.{Finder, IsSearch}
 use Rattle.bk_form.specs.Environment.{Environment, bound_types, under}
 use Rattle.bk_form.specs.Role.{Role, role, element_type}
 use Rattle.bk_form.specs.Operators.{elements, first_part, numbers_from, count_of, interval, set_value, covers, passes, tuple_of, choices, is_element, number_in}
-use Rattle.bk_form.specs.Meaning.{Meaning, meaning, meanings, value, truth, within, range_types, chosen}
+use Rattle.bk_form.specs.Meaning.{meaning, meanings, value, truth, within, range_types}
 use Rattle.bk_form.specs.Defined.{IsChoice, InRanges}
-use Rattle.bk_form.specs.declared.operator.BinOp.TheVariants.{Range, PartialFunctions, TotalFunctions, PartialSurjections}
+use Rattle.bk_form.specs.declared.operator.BinOp.TheVariants.{PartialFunctions, TotalFunctions, PartialSurjections}
 use Rattle.bk_form.specs.declared.operator.Domain.TheVariants.{Natural}
 use Rattle.bk_form.proofs.Members.{both_ways, and-true, and-both, Has, has-then, has-if, Has-map-then, Has-map-if, Has-filter-then, Has-filter-if, Has-flat_map-then, Has-flat_map-if, element-set_value}
 use Rattle.bk_form.specs.Laws.{TakesOneOfEach, ChoicesAre, IntervalHas}
@@ -46,9 +46,9 @@ module _ (find : Finder) (e : Environment) (rs : Formulas) where
       let test : List MathValue → Bool = λ vs. truth find (inner vs) p in
       let kept = map f (filter test all) in (
         (λ h.
-          let m = Has-map-then f v (filter test all) (has-then v kept (sym (element-set_value kept v) ∙ h)) in
-          let k = Has-filter-then test m.0 all m.1 in
-          (m.0, has-choice all m.0 k.0, k.1, m.2)),
+            let m = Has-map-then f v (filter test all) (has-then v kept (sym (element-set_value kept v) ∙ h)) in
+            let k = Has-filter-then test m.0 all m.1 in
+            (m.0, has-choice all m.0 k.0, k.1, m.2)),
         (λ w. element-set_value kept v ∙ has-if v kept (Has-map-if f v (filter test all) w.0 (Has-filter-if test w.0 all (choice-has all w.0 w.1) w.2) w.3)),
       )
 
@@ -119,18 +119,18 @@ interval-has a b z =
     let n = count_of d in
     element-set_value (numbers_from a n) (int z)
     ∙ both_ways (has (numbers_from a n) (int z)) (int_le a z && int_le z b)
-      (λ h.
-      let k = numbers-then n a z (has-then (int z) (numbers_from a n) h) in
-      let l = k.0 in
-      let m = k.1 in
-      let g = count-le d (z -ℤ a) (omega (arith, ints)) (omega (arith, ints)) in
-      and-true (int_le a z) (int_le z b) (int_le-if a z l) (int_le-if z b (omega (arith, ints))))
-      (λ h.
-      let w = and-both (int_le a z) (int_le z b) h in
-      let l = int_le-then a z w.0 in
-      let m = int_le-then z b w.1 in
-      let e = count-is d (z -ℤ a) (omega (arith, ints)) (omega (arith, ints)) in
-      has-if (int z) (numbers_from a n) (numbers-if n a z l (omega (arith, ints))))
+    (λ h.
+    let k = numbers-then n a z (has-then (int z) (numbers_from a n) h) in
+    let l = k.0 in
+    let m = k.1 in
+    let g = count-le d (z -ℤ a) (omega (arith, ints)) (omega (arith, ints)) in
+    and-true (int_le a z) (int_le z b) (int_le-if a z l) (int_le-if z b (omega (arith, ints))))
+    (λ h.
+    let w = and-both (int_le a z) (int_le z b) h in
+    let l = int_le-then a z w.0 in
+    let m = int_le-then z b w.1 in
+    let e = count-is d (z -ℤ a) (omega (arith, ints)) (omega (arith, ints)) in
+    has-if (int z) (numbers_from a n) (numbers-if n a z l (omega (arith, ints))))
 
 -- nothing else is
 pub interval-only : (a b : ℤ) (v : MathValue) → is_element v (interval a b) ≡ true → (z : ℤ) × (v ≡ int z)

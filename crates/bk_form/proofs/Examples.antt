@@ -1,7 +1,6 @@
 -- Meanings that compute, to be checked by hand.
 use Rattle.std.proofs.Common.{◌≡◌, refl, sym, ◌∙◌, ap, pos, true, false, not}
 use Rattle.bk_val.specs.Value.{int}
-use Rattle.bk_form.specs.Environment.{Environment}
 use Rattle.bk_form.specs.Operators.{is_equal}
 use Rattle.bk_form.specs.Laws.{Examples, DefinedExamples}
 

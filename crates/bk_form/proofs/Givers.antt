@@ -1,21 +1,21 @@
 -- A formula that gives a type means no more than its value.
-use Rattle.std.proofs.Common.{◌≡◌, ◌⊎◌, inl, inr, ℕ, List, [], refl, sym, ◌∙◌, ap, Bool, true, false}
+use Rattle.std.proofs.Common.{◌≡◌, ◌⊎◌, inl, inr, ℕ, List, [], refl, sym, ◌∙◌, ap, false}
 use Rattle.std.specs.Prelude.{Option, Some, None, slice_get}
-use Rattle.bk_val.specs.Value.{MathValue, bool, elem, int, set, none}
-use Rattle.bk_val.specs.ValueType.{ValueType, int_type, bool_type, pair_type, set_type, base_of}
-use Rattle.bk_form.specs.Table.{Table, set_size, lists_type, variable_type}
-use Rattle.bk_form.specs.Formula.{Formula, variable, bound, literal, truth_value, element, empty_set, named, btrue, bfalse, unary, binary, for_all, for_some, comprehension, lambda}
+use Rattle.bk_val.specs.Value.{MathValue}
+use Rattle.bk_val.specs.ValueType.{ValueType, pair_type, set_type}
+use Rattle.bk_form.specs.Table.{Table, set_size}
+use Rattle.bk_form.specs.Formula.{Formula, bound, named, btrue, bfalse, unary, binary, for_all, for_some}
 use Rattle.bk_form.specs.Search.{Finder}
 use Rattle.bk_form.specs.Environment.{Environment, Binding, under}
-use Rattle.bk_form.specs.Role.{Role, gives, ranges_over, predicate, untyped, if_holds, if_predicate, if_number, if_value, if_domain, same_type, product_role, named_role, connective_role, numbers_role, equality_role, membership_role, arrow_role, unary_role, binary_role, quantifier_role, all_listed}
-use Rattle.bk_form.specs.Operators.{elements, pairs_of, is_pair_of, is_element, set_value, named_value, is_in_named, binary_value, is_in_binary}
-use Rattle.bk_form.specs.Meaning.{Meaning, meaning, meanings, value, of_value, of_truth, bound_meaning, named_meaning, unary_meaning, binary_meaning, range_types}
+use Rattle.bk_form.specs.Role.{Role, gives, ranges_over, predicate, if_holds, if_predicate, if_number, if_value, if_domain, same_type, product_role, named_role, connective_role, numbers_role, equality_role, membership_role, arrow_role, unary_role, binary_role, quantifier_role, all_listed}
+use Rattle.bk_form.specs.Operators.{elements, pairs_of, is_pair_of, is_element, set_value, named_value}
+use Rattle.bk_form.specs.Meaning.{Meaning, meaning, value, of_value, bound_meaning, named_meaning, unary_meaning, binary_meaning}
 use Rattle.bk_form.specs.declared.operator.UnOp.{UnOp}
 use Rattle.bk_form.specs.declared.operator.UnOp.TheVariants.{Not, Pow, Pow1}
 use Rattle.bk_form.specs.declared.operator.BinOp.{BinOp}
 use Rattle.bk_form.specs.declared.operator.BinOp.TheVariants.{And, Or, Imp, Iff, Eq, Lt, Le, In, Relations, PartialFunctions, TotalFunctions, PartialInjections, TotalInjections, PartialSurjections, TotalSurjections, Bijections, Times}
 use Rattle.bk_form.specs.declared.operator.Domain.{Domain}
-use Rattle.bk_form.specs.declared.operator.Domain.TheVariants.{Integer, Natural, Natural1, Bool as Booleans, Enum}
+use Rattle.bk_form.specs.declared.operator.Domain.TheVariants.{Bool as Booleans, Enum}
 use Rattle.bk_form.proofs.Members.{element-set_value, product-has, named-has}
 use Rattle.bk_form.proofs.Roles.{if_holds-gives, if_predicate-gives, if_number-gives, if_value-gives, if_domain-gives}
 
@@ -105,7 +105,7 @@ binary-value find sizes Times m n t f g h =
     let a = f (set_type k.first) k.left in
     let b = g (set_type k.second) k.right in
     let same : (v : MathValue) → is_pair_of m.contains n.contains v ≡ is_element v (set_value (pairs_of (elements m.value) (elements n.value))) =
-        λ v. (λ i. is_pair_of ((a i).contains) ((b i).contains) v) ∙ product-has (elements m.value) (elements n.value) v ∙ sym (element-set_value (pairs_of (elements m.value) (elements n.value)) v) in
+    λ v. (λ i. is_pair_of ((a i).contains) ((b i).contains) v) ∙ product-has (elements m.value) (elements n.value) v ∙ sym (element-set_value (pairs_of (elements m.value) (elements n.value)) v) in
     λ i. record { role = h i; value = set_value (pairs_of (elements m.value) (elements n.value)); truth = false; contains = λ v. same v i }
 binary-value find sizes o m n t f g h = ap (λ r. of_value r (binary_meaning find sizes o m n).value) h
 

@@ -1,13 +1,13 @@
 -- What stands in lists and in sets.
-use Rattle.std.proofs.Common.{◌≡◌, ◌⊎◌, inl, inr, ℕ, zero, suc, ◌+◌, ◌<◌, ◌≤◌, List, [], ◌∷◌, ◌++◌, map, refl, sym, ◌∙◌, ap, subst, Bool, true, false, not, cond, ◌&&◌, ◌||◌, arith, nat_eq, nat_lt}
+use Rattle.std.proofs.Common.{◌≡◌, ◌⊎◌, inl, inr, ℕ, zero, suc, ◌+◌, ◌<◌, ◌≤◌, List, [], ◌∷◌, ◌++◌, map, refl, sym, ◌∙◌, ap, subst, Bool, true, false, cond, ◌&&◌, ◌||◌, arith, nat_eq, nat_lt}
 use Rattle.std.specs.List.{filter, flat_map}
 use Rattle.std.specs.Ordering.{eq_by_cmp}
 use Rattle.std.proofs.lemmas.Bool.Decides.{nat_tests}
-use Rattle.bk_val.specs.Value.{MathValue, MathValues, int, bool, elem, pair, set, none, more, list_of, values_of, value_cmp}
+use Rattle.bk_val.specs.Value.{MathValue, int, bool, elem, pair, set, list_of, values_of, value_cmp}
 use Rattle.bk_val.specs.Sets.{has, set_of, union_of}
 use Rattle.bk_val.specs.CmpLaws.{same_value, value_eq-self}
 use Rattle.bk_val.proofs.Elements.{has-set_of, has-union_of}
-use Rattle.bk_form.specs.Operators.{is_element, is_equal, set_value, pairs_of, is_pair_of, elements, elements_from, named_value, is_in_named}
+use Rattle.bk_form.specs.Operators.{is_element, set_value, pairs_of, is_pair_of, elements_from, named_value, is_in_named}
 use Rattle.bk_form.specs.declared.operator.Domain.{Domain}
 use Rattle.bk_form.specs.declared.operator.Domain.TheVariants.{Integer, Natural, Natural1, Bool as Booleans, Enum}
 

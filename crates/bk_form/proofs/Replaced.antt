@@ -1,13 +1,12 @@
 -- What a formula means once variables are replaced.
-use Rattle.std.proofs.Common.{◌≡◌, ◌⊎◌, inl, inr, ℕ, List, [], ◌∷◌, refl, sym, ◌∙◌, ap}
+use Rattle.std.proofs.Common.{◌≡◌, ◌⊎◌, inl, inr, ℕ, [], ◌∷◌, refl, sym, ◌∙◌, ap}
 use Rattle.std.specs.Prelude.{Some}
-use Rattle.bk_val.specs.Value.{MathValue}
 use Rattle.bk_val.specs.ValueType.{ValueType}
 use Rattle.bk_form.specs.Table.{set_size, variable_type}
 use Rattle.bk_form.specs.Formula.{Formula, variable, unary, binary, for_all, for_some, comprehension, lambda, Formulas, no_formulas, formula_and}
 use Rattle.bk_form.specs.Search.{Finder}
 use Rattle.bk_form.specs.Environment.{Environment, under}
-use Rattle.bk_form.specs.Role.{gives, given_by}
+use Rattle.bk_form.specs.Role.{given_by}
 use Rattle.bk_form.specs.Replacement.{replaced, all_replaced, IsReplacement, GivesType, after_replacement}
 use Rattle.bk_form.specs.Meaning.{meaning, meanings, value, of_value, unary_meaning, binary_meaning, all_meaning, some_meaning, comprehension_meaning, lambda_meaning, range_types}
 use Rattle.bk_form.proofs.Agreement.{meaning-closed}

@@ -1,13 +1,13 @@
 -- What the operands of a formula are, where it gives a type; and that a formula's meaning has its role.
-use Rattle.std.proofs.Common.{◌≡◌, ℕ, zero, suc, List, [], ◌∷◌, map, refl, sym, ◌∙◌, ap, Bool, true, false, ◌&&◌}
-use Rattle.std.specs.Prelude.{Option, Some, None, slice_get}
+use Rattle.std.proofs.Common.{◌≡◌, ℕ, zero, suc, List, [], ◌∷◌, map, refl, ◌∙◌, ap, Bool, true, false, ◌&&◌}
+use Rattle.std.specs.Prelude.{slice_get}
 use Rattle.bk_val.specs.Value.{MathValue}
 use Rattle.bk_val.specs.ValueType.{ValueType, int_type, bool_type, enum_type, pair_type, set_type, base_of}
 use Rattle.bk_form.specs.Table.{Table}
-use Rattle.bk_form.specs.Formula.{Formula, variable, bound, unary, binary, for_all, for_some, comprehension, lambda, Formulas, no_formulas, formula_and}
+use Rattle.bk_form.specs.Formula.{Formula, bound, unary, binary, for_all, for_some, comprehension, lambda, Formulas, no_formulas, formula_and}
 use Rattle.bk_form.specs.Search.{Finder}
 use Rattle.bk_form.specs.Environment.{Environment, Binding, bindings, bound_types, under}
-use Rattle.bk_form.specs.Role.{Role, gives, ranges_over, predicate, untyped, if_holds, if_predicate, if_number, if_value, if_set, if_relation, if_domain, same_type, bind, role, roles, unary_role, binary_role, bound_role, quantifier_role, comprehension_role, lambda_role, element_type, element_types}
+use Rattle.bk_form.specs.Role.{Role, gives, ranges_over, predicate, if_holds, if_predicate, if_number, if_value, if_set, if_relation, if_domain, same_type, bind, role, roles, unary_role, binary_role, bound_role, quantifier_role, comprehension_role, lambda_role, element_types}
 use Rattle.bk_form.specs.Meaning.{meaning, meanings, roles_of, range_types, bound_meaning}
 use Rattle.std.proofs.lemmas.Bool.Decides.{nat_tests}
 use Rattle.std.proofs.Common.{arith, nat_eq}

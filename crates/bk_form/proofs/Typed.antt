@@ -1,23 +1,20 @@
 -- The operators on values of their types give values of the types that they give.
-use Rattle.std.proofs.Common.{◌≡◌, ◌⊎◌, inl, inr, ℕ, zero, suc, ℤ, pos, ◌+ℤ◌, ◌-ℤ◌, List, [], ◌∷◌, map, refl, sym, ◌∙◌, ap, subst, Bool, true, false, not, ◌&&◌, ◌||◌, nat_eq, nat_lt, arith, cond}
+use Rattle.std.proofs.Common.{◌≡◌, ◌⊎◌, inl, inr, ℕ, zero, suc, ℤ, pos, ◌+ℤ◌, ◌-ℤ◌, List, [], ◌∷◌, map, refl, sym, ap, subst, Bool, true, not, ◌&&◌}
 use Rattle.std.specs.Prelude.{Option, Some, None, unwrap_or}
-use Rattle.std.specs.List.{filter, flat_map, AllByRecursion}
+use Rattle.std.specs.List.{filter, AllByRecursion}
 use Rattle.std.specs.List.Sorted.{IsStrictlySortedBy}
-use Rattle.std.specs.declared.cmp.Ordering.{Ordering}
 use Rattle.std.specs.declared.cmp.Ordering.TheVariants.{Less}
-use Rattle.std.proofs.lemmas.Bool.Decides.{nat_tests}
-use Rattle.bk_val.specs.Value.{MathValue, MathValues, int, bool, elem, pair, set, none, more, list_of, values_of, value_cmp, IsStrictlySorted, is_below, rises_from, is_rising}
-use Rattle.bk_val.specs.ValueType.{ValueType, int_type, bool_type, enum_type, pair_type, set_type, base_of, is_value_of, are_values_of, are_of_types}
-use Rattle.bk_val.specs.Sets.{has, set_of, union_of, inter_of, minus_of, second_of, seconds_of, first_passes, in_domain, begins_outside, overridden_of, image_of, only_element, apply_of}
+use Rattle.bk_val.specs.Value.{MathValue, MathValues, int, bool, pair, set, none, more, list_of, values_of, value_cmp, IsStrictlySorted, is_below, rises_from, is_rising}
+use Rattle.bk_val.specs.ValueType.{ValueType, int_type, bool_type, pair_type, set_type, is_value_of, are_values_of}
+use Rattle.bk_val.specs.Sets.{has, set_of, union_of, inter_of, minus_of, second_of, seconds_of, first_passes, begins_outside, overridden_of, image_of, only_element, apply_of}
 use Rattle.bk_val.proofs.Elements.{sorted_set_of}
-use Rattle.bk_form.specs.Table.{Table, lists_type, set_size}
-use Rattle.bk_form.specs.Role.{Role, gives, predicate, if_holds, if_predicate, if_number, if_value, if_set, if_relation, same_type, unary_role, binary_role, numbers_role, sets_role, product_role, domain_part_role, range_part_role, override_role, pair_role, image_role, application_role, composition_role, element_type, element_types, tuple_type_onto, tuple_type, each_gives_set, gives_set, are_ranges}
-use Rattle.bk_form.specs.Operators.{elements, set_value, is_element, is_equal, first_part, swapped, number_in, numbers_from, count_of, interval, pairs_of, begins_with, composed, unary_value, binary_value, tuple_onto, tuple_of, choices, elements_from, named_value}
+use Rattle.bk_form.specs.Role.{Role, gives, predicate, if_holds, if_number, if_value, if_set, if_relation, same_type, unary_role, binary_role, numbers_role, sets_role, product_role, domain_part_role, range_part_role, override_role, pair_role, image_role, application_role, composition_role}
+use Rattle.bk_form.specs.Operators.{elements, set_value, is_element, is_equal, first_part, swapped, number_in, numbers_from, count_of, interval, pairs_of, begins_with, composed, unary_value, binary_value}
 use Rattle.bk_form.specs.declared.operator.UnOp.{UnOp}
 use Rattle.bk_form.specs.declared.operator.UnOp.TheVariants.{Not, BoolOf, Neg, Card, Min, Max, Dom, Ran, Id, Inverse, Single, Pow, Pow1}
 use Rattle.bk_form.specs.declared.operator.BinOp.{BinOp}
 use Rattle.bk_form.specs.declared.operator.BinOp.TheVariants.{And, Or, Imp, Iff, Eq, Lt, Le, In, Relations, PartialFunctions, TotalFunctions, PartialInjections, TotalInjections, PartialSurjections, TotalSurjections, Bijections, Union, Inter, Minus, Times, DomRes, RanRes, DomSub, RanSub, Over, Maps, Range, Add, Sub, Mul, Div, Mod, Power, Image, Apply, Comp}
-use Rattle.bk_form.proofs.Members.{Has, has-then, has-if, Has-map-then, Has-filter-then, Has-flat_map-then, Has-set_of, Has-union_of, pairs-then, elements-then, and-true, and-both}
+use Rattle.bk_form.proofs.Members.{Has, Has-map-then, Has-filter-then, Has-flat_map-then, Has-set_of, Has-union_of, pairs-then, and-true, and-both}
 use Rattle.bk_form.proofs.Roles.{if_holds-gives, if_predicate-gives, if_number-gives, if_value-gives, if_set-gives, if_relation-gives, same_type-then}
 use Rattle.bk_form.proofs.Givers.{connective-gives, comparison-gives, equality-gives, membership-gives, arrow-gives, power-gives, product-gives}
 use Rattle.bk_form.proofs.Listed.{gives-same}

@@ -1,9 +1,8 @@
 -- A formula that gives a type has a value of it in every typed environment.
-use Rattle.std.proofs.Common.{◌≡◌, ◌⊎◌, inl, inr, ℕ, zero, suc, ◌+◌, ◌<◌, ◌≤◌, List, [], ◌∷◌, length, map, refl, sym, ◌∙◌, ap, subst, Bool, true, false, ◌&&◌, nat_eq, nat_lt, arith, rules}
+use Rattle.std.proofs.Common.{◌≡◌, inl, inr, ℕ, zero, suc, ◌+◌, ◌<◌, List, [], ◌∷◌, length, map, refl, sym, ◌∙◌, ap, subst, Bool, true, false, nat_eq, nat_lt, arith, rules}
 use Rattle.std.specs.Prelude.{Option, Some, None, slice_get, All, IsTrue}
 use Rattle.std.specs.Option.{option_map, option_map_or}
 use Rattle.std.proofs.lemmas.List.Elements.{All-head, All-tail}
-use Rattle.std.specs.List.{filter, flat_map}
 use Rattle.std.proofs.lemmas.Bool.Decides.{nat_tests}
 use Rattle.bk_val.specs.Value.{MathValue, int, bool, elem, pair, set, none}
 use Rattle.bk_val.specs.ValueType.{ValueType, int_type, bool_type, enum_type, pair_type, set_type, base_of, is_value_of, are_of_types}
@@ -11,16 +10,16 @@ use Rattle.bk_form.specs.Table.{Table, SetEntry, VariableEntry, set_size, variab
 use Rattle.bk_form.specs.Formula.{Formula, variable, bound, literal, truth_value, element, empty_set, named, btrue, bfalse, unary, binary, for_all, for_some, comprehension, lambda, Formulas, no_formulas, formula_and}
 use Rattle.bk_form.specs.Search.{Finder}
 use Rattle.bk_form.specs.Environment.{Environment, Binding, bindings, bound_types, under, all_typed, IsTyped}
-use Rattle.bk_form.specs.Role.{Role, gives, predicate, if_holds, if_predicate, if_value, given_by, bound_role, empty_role, element_role, named_role, role, binary_role, bind, gives_set, each_gives_set, are_ranges, element_type, element_types, tuple_type_onto, tuple_type}
+use Rattle.bk_form.specs.Role.{Role, gives, if_predicate, if_value, given_by, empty_role, element_role, named_role, role, binary_role, bind, gives_set, each_gives_set, are_ranges, element_type, tuple_type_onto, tuple_type}
 use Rattle.bk_form.specs.Operators.{elements, set_value, elements_from, named_value, tuple_onto, tuple_of, choices}
 use Rattle.bk_form.specs.Meaning.{Meaning, meaning, meanings, value, truth, bound_meaning, type_in, roles_of, range_types, chosen}
 use Rattle.bk_form.specs.declared.operator.Domain.{Domain}
 use Rattle.bk_form.specs.declared.operator.Domain.TheVariants.{Bool as Booleans, Enum}
 use Rattle.bk_form.proofs.Members.{Has, Has-map-then, Has-filter-then, Has-flat_map-then, elements-then, and-true, and-both}
-use Rattle.bk_form.proofs.Roles.{if_holds-gives, if_predicate-gives, if_value-gives, meaning-role, meanings-role, types-bind}
+use Rattle.bk_form.proofs.Roles.{if_holds-gives, if_predicate-gives, if_value-gives, meaning-role, types-bind}
 use Rattle.bk_form.proofs.Givers.{quantifier-gives, value-meaning}
 use Rattle.bk_form.specs.Laws.{IsSoundTyping}
-use Rattle.bk_form.proofs.Listed.{gives-same, Lists, ListedRoles, gives-listed}
+use Rattle.bk_form.proofs.Listed.{gives-same, Lists, gives-listed}
 use Rattle.bk_form.proofs.Typed.{Of, OfRole, set-of, elements-of, unary-of, binary-of}
 
 nat_eq-self : (n : ℕ) → nat_eq n n ≡ true

@@ -1,7 +1,7 @@
 -- Formulas in which each operator that is met is inside its domain, read from left to right; and executed expressions whose numbers stay within MININT .. MAXINT.
-use Rattle.std.specs.Prelude.{◌≡◌, ◌⊎◌, ℕ, ℤ, pos, ◌-ℤ◌, Bool, true, false, not, ◌&&◌, int_lt, int_le, List, [], ◌∷◌, map, Option, Some, None}
+use Rattle.std.specs.Prelude.{◌≡◌, ◌⊎◌, ℤ, pos, ◌-ℤ◌, Bool, true, false, not, ◌&&◌, int_lt, int_le, List, [], ◌∷◌, map, Option, Some, None}
 use Rattle.bk_val.specs.Value.{MathValue, int}
-use Rattle.bk_val.specs.ValueType.{ValueType, are_of_types}
+use Rattle.bk_val.specs.ValueType.{are_of_types}
 use Rattle.bk_val.specs.Sets.{has}
 use Rattle.bk_form.specs.Table.{set_size}
 use Rattle.bk_form.specs.ArrayTable.{ArrayTable, row_of}
@@ -9,7 +9,7 @@ use Rattle.bk_form.specs.Formula.{Formula, variable, unary, binary, for_all, for
 use Rattle.bk_form.specs.Search.{Finder}
 use Rattle.bk_form.specs.Environment.{Environment, under}
 use Rattle.bk_form.specs.Operators.{elements, is_function, first_part, number_in, is_equal, choices}
-use Rattle.bk_form.specs.Meaning.{meaning, meanings, value, truth, range_types}
+use Rattle.bk_form.specs.Meaning.{meanings, value, truth, range_types}
 use Rattle.bk_form.specs.declared.operator.UnOp.{UnOp}
 use Rattle.bk_form.specs.declared.operator.UnOp.TheVariants.{Min, Max}
 use Rattle.bk_form.specs.declared.operator.BinOp.{BinOp}

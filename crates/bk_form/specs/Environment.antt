@@ -1,7 +1,7 @@
 -- What variables and bound numbers stand for.
 use Rattle.std.specs.Prelude.{◌≡◌, ℕ, Bool, true, ◌&&◌, List, [], ◌∷◌, map, Some}
 use Rattle.bk_val.specs.Value.{MathValue}
-use Rattle.bk_val.specs.ValueType.{ValueType, is_value_of, are_of_types, base_of}
+use Rattle.bk_val.specs.ValueType.{ValueType, is_value_of, base_of}
 use Rattle.bk_form.specs.Table.{Table, set_size, variable_type}
 use Rattle.bk_form.specs.Role.{bind}
 

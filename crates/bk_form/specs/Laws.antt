@@ -8,7 +8,7 @@ use Rattle.bk_form.specs.Formula.{Formula, variable, bound, literal, truth_value
 use Rattle.bk_form.specs.Search.{Finder, IsSearch}
 use Rattle.bk_form.specs.Environment.{Environment, bound_types, under, IsTyped}
 use Rattle.bk_form.specs.Role.{role, gives, element_type}
-use Rattle.bk_form.specs.Operators.{elements, first_part, tuple_of, choices, is_element, interval, number_in}
+use Rattle.bk_form.specs.Operators.{elements, first_part, tuple_of, choices, number_in}
 use Rattle.bk_form.specs.Meaning.{meaning, meanings, value, truth, within, range_types}
 use Rattle.bk_form.specs.Defined.{IsChoice, InRanges, Defined, Fits}
 use Rattle.bk_form.specs.Replacement.{replaced, IsReplacement, after_replacement}

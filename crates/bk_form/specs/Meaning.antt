@@ -2,7 +2,7 @@
 use Rattle.std.specs.Prelude.{ℕ, Bool, true, false, not, ◌&&◌, List, [], ◌∷◌, map, Option, Some, None, slice_get}
 use Rattle.std.specs.List.{filter}
 use Rattle.bk_val.specs.Value.{MathValue, int, bool, elem, pair, set, none}
-use Rattle.bk_val.specs.ValueType.{ValueType, bool_type, set_type, enum_type, int_type, are_of_types, base_of}
+use Rattle.bk_val.specs.ValueType.{ValueType, bool_type, int_type, are_of_types, base_of}
 use Rattle.bk_form.specs.Table.{Table, set_size, variable_type}
 use Rattle.bk_form.specs.Search.{Finder, no_choice}
 use Rattle.bk_form.specs.Environment.{Environment, Binding, under}

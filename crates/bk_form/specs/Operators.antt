@@ -1,9 +1,9 @@
 -- The operators on values, and the tests of domains, as in set theory. Outside its domain an operator gives the base value.
-use Rattle.std.specs.Prelude.{ℕ, zero, suc, ◌+◌, nat_eq, nat_lt, ℤ, pos, negsuc, ◌+ℤ◌, ◌-ℤ◌, ◌*ℤ◌, int_lt, int_le, Bool, true, false, not, ◌&&◌, ◌||◌, cond, List, [], ◌∷◌, length, map, Option, Some, None, unwrap_or}
-use Rattle.std.specs.List.{filter, list_all, list_any, flat_map}
+use Rattle.std.specs.Prelude.{ℕ, zero, suc, nat_eq, nat_lt, ℤ, pos, negsuc, ◌+ℤ◌, ◌-ℤ◌, ◌*ℤ◌, int_lt, int_le, Bool, true, false, not, ◌&&◌, ◌||◌, cond, List, [], ◌∷◌, length, map, unwrap_or}
+use Rattle.std.specs.List.{filter, list_all, flat_map}
 use Rattle.std.specs.Ordering.{eq_by_cmp}
-use Rattle.bk_val.specs.Value.{MathValue, MathValues, int, bool, elem, pair, set, none, more, list_of, values_of, value_cmp}
-use Rattle.bk_val.specs.ValueType.{ValueType, bool_type, is_value_of, are_of_types, base_of}
+use Rattle.bk_val.specs.Value.{MathValue, int, bool, elem, pair, set, none, list_of, values_of, value_cmp}
+use Rattle.bk_val.specs.ValueType.{ValueType, are_of_types}
 use Rattle.bk_val.specs.Sets.{has, union_of, inter_of, minus_of, set_of, second_of, overridden_of, image_of, apply_of}
 use Rattle.bk_val.specs.Number.{quotient_of, remainder_of, power_of}
 use Rattle.bk_form.specs.Search.{Finder, no_choice}

@@ -8,7 +8,7 @@ use Rattle.bk_form.specs.declared.operator.UnOp.TheVariants.{Not, BoolOf, Neg, C
 use Rattle.bk_form.specs.declared.operator.BinOp.{BinOp}
 use Rattle.bk_form.specs.declared.operator.BinOp.TheVariants.{And, Or, Imp, Iff, Eq, Lt, Le, In, Relations, PartialFunctions, TotalFunctions, PartialInjections, TotalInjections, PartialSurjections, TotalSurjections, Bijections, Union, Inter, Minus, Times, DomRes, RanRes, DomSub, RanSub, Over, Maps, Range, Add, Sub, Mul, Div, Mod, Power, Image, Apply, Comp}
 use Rattle.bk_form.specs.declared.operator.Domain.{Domain}
-use Rattle.bk_form.specs.declared.operator.Domain.TheVariants.{Integer, Natural, Natural1, Bool as Booleans, Enum}
+use Rattle.bk_form.specs.declared.operator.Domain.TheVariants.{Bool as Booleans, Enum}
 
 -- What a formula stands for: a value of the type that it gives, a domain that is no value and ranges over a type, a predicate, or nothing.
 pub data Role : Type 0 where

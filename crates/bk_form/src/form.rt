@@ -116,7 +116,7 @@ impl Form {
     {
         let nodes = part.nodes();
         let height = part.height();
-        part.has_storable_parts();
+        part.numbers_of_parts_fit();
         let counted = Counted {
             nodes,
             height,
@@ -142,20 +142,20 @@ impl Form {
         self.shared.height
     }
 
-    /// Its numbers fit those of the program. It does nothing: callers learn it of the mathematical formula.
-    pub fn is_storable(&self)
+    /// Its numbers fit those of the program. It does nothing: callers learn this of the mathematical formula.
+    pub fn numbers_fit(&self)
         ensures { IsTrue (is_storable self.now) }
     {
         let _ = &self.shared;
     }
 
-    /// The same of each formula.
+    /// The numbers of each formula fit those of the program.
     #[tactic(auto, using(crate::proofs::StorableLists::one_more_storable))]
-    pub fn are_storable(forms: &[Form])
+    pub fn all_numbers_fit(forms: &[Form])
         ensures { IsTrue (are_storable (formulas_of forms.now)) }
     {
         for form in forms {
-            form.is_storable();
+            form.numbers_fit();
         }
     }
 
@@ -297,33 +297,33 @@ impl Part {
         }
     }
 
-    // The parts can be held: it does nothing.
-    fn has_storable_parts(&self)
+    // The numbers of its parts fit those of the program. It does nothing.
+    fn numbers_of_parts_fit(&self)
         ensures { IsTrue (has_storable_parts (made self.now)) }
     {
         match self {
-            Part::Empty(ty) => ty.is_storable(),
-            Part::Un(_, operand) => operand.is_storable(),
+            Part::Empty(ty) => ty.numbers_fit(),
+            Part::Un(_, operand) => operand.numbers_fit(),
             Part::Bin(_, left, right) => {
-                left.is_storable();
-                right.is_storable();
+                left.numbers_fit();
+                right.numbers_fit();
             }
             Part::All(types, body) => {
-                Ty::are_storable(types);
-                body.is_storable();
+                Ty::all_numbers_fit(types);
+                body.numbers_fit();
             }
             Part::Some(types, body) => {
-                Ty::are_storable(types);
-                body.is_storable();
+                Ty::all_numbers_fit(types);
+                body.numbers_fit();
             }
             Part::Compr(ranges, body) => {
-                Form::are_storable(ranges);
-                body.is_storable();
+                Form::all_numbers_fit(ranges);
+                body.numbers_fit();
             }
             Part::Lam(ranges, body, value) => {
-                Form::are_storable(ranges);
-                body.is_storable();
-                value.is_storable();
+                Form::all_numbers_fit(ranges);
+                body.numbers_fit();
+                value.numbers_fit();
             }
             _ => {}
         }

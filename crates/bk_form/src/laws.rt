@@ -6,32 +6,27 @@ ghost use Rattle.bk_form.specs.Laws.{AllMeans, SomeMeans, IsIndependent, IsClass
 pub fn quantifiers()
     ensures all { AllMeans }
     ensures some { SomeMeans }
-{
-}
+{}
 
 /// Two searches give every formula the same meaning.
 pub fn search_is_free()
     ensures { IsIndependent }
-{
-}
+{}
 
 /// The laws of classical logic.
 pub fn classical_logic()
     ensures { IsClassical }
-{
-}
+{}
 
 /// A formula that gives a type has a value of it.
 pub fn typing_is_sound()
     ensures { IsSoundTyping }
-{
-}
+{}
 
 /// What a formula means once terms stand in place of its variables.
 pub fn replacement_means()
     ensures { ReplacementMeans }
-{
-}
+{}
 
 /// The members of comprehensions, lambdas and intervals, and the choices from some ranges.
 pub fn members()
@@ -39,20 +34,17 @@ pub fn members()
     ensures lambda { LambdaHas }
     ensures interval { IntervalHas }
     ensures choices { ChoicesAre }
-{
-}
+{}
 
 /// What is total and what is onto.
 pub fn arrows()
     ensures total { TotalMeans }
     ensures onto { OntoMeans }
     ensures infinite { NoTotalFunction }
-{
-}
+{}
 
 /// Small cases, to be checked by hand.
 pub fn examples()
     ensures meaning { Examples }
     ensures defined { DefinedExamples }
-{
-}
+{}

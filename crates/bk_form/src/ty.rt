@@ -92,8 +92,8 @@ impl Ty {
     pub fn pair(alloc: Global, left: Ty, right: Ty) -> Result<Ty, Memory>
         ensures { IfOk result (λ t. t ≡ pair_type left right) }
     {
-        left.is_storable();
-        right.is_storable();
+        left.numbers_fit();
+        right.numbers_fit();
         Ok(Ty {
             node: TyNode::Pair(Rc::new(alloc, left)?, Rc::new(alloc, right)?),
         })
@@ -103,26 +103,26 @@ impl Ty {
     pub fn set(alloc: Global, elements: Ty) -> Result<Ty, Memory>
         ensures { IfOk result (λ t. t ≡ set_type elements) }
     {
-        elements.is_storable();
+        elements.numbers_fit();
         Ok(Ty {
             node: TyNode::Set(Rc::new(alloc, elements)?),
         })
     }
 
-    /// Its enumerated sets have numbers of 32 bits. It does nothing: callers learn it of the mathematical type.
-    pub fn is_storable(&self)
+    /// Its enumerated sets have numbers of 32 bits. It does nothing: callers learn this of the mathematical type.
+    pub fn numbers_fit(&self)
         ensures { IsTrue (is_storable_type self.now) }
     {
         let _ = &self.node;
     }
 
     #[tactic(auto, using(crate::proofs::StorableLists::one_more_storable))]
-    /// The same of each type.
-    pub fn are_storable(types: &[Ty])
+    /// The enumerated sets of each type have numbers of 32 bits.
+    pub fn all_numbers_fit(types: &[Ty])
         ensures { IsTrue (are_storable_types types.now) }
     {
         for ty in types {
-            ty.is_storable();
+            ty.numbers_fit();
         }
     }
 

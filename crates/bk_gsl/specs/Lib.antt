@@ -6,3 +6,8 @@ pub mod Clean
 pub mod Flat
 pub mod Typed
 pub mod Laws
+pub mod SubSize
+pub mod SubCodes
+pub mod SubView
+pub mod SubFalls
+pub mod Reads

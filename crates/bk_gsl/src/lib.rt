@@ -2,3 +2,11 @@
 #![tactic(auto)]
 
 pub mod laws;
+pub mod substitution;
+pub mod variables;
+
+pub use substitution::{Sub, SubNode};
+pub use variables::{reads, writes};
+
+#[cfg(test)]
+mod tests;

@@ -1,0 +1,3 @@
+pub mod Inequality
+pub mod Certificate
+pub mod Layout

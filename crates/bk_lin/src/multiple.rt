@@ -1,0 +1,27 @@
+//! Adds a multiple of one fact to another.
+
+ghost use Rattle.std.specs.Prelude.{◌≡◌, ◌+◌, ◌↔◌, ◌*ℤ◌, ◌+ℤ◌, ◌&&◌, IsTrue, IsSome, OnSome, length};
+ghost use Rattle.std.specs.Option.{SomeIff};
+ghost use Rattle.bk_lin.specs.Inequality.{is_i128, times, plus, is_narrow};
+ghost use Rattle.bk_lin.specs.Layout.{held_in, shown};
+
+use crate::standing::Row;
+
+/// Adds the multiple to the fact that `target` holds; none where a product or a sum is too wide, and then `target` is open.
+pub fn add_multiple(target: &mut [i128], multiplier: i128, row: Row) -> Option<()>
+    requires { length target.old ≡ length row.coefs.now + 1 }
+    ensures narrow { let product = times multiplier (shown row.entry.coefs.now row.entry.constant) in IsSome result ↔ IsTrue (is_narrow product && is_narrow (plus (held_in target.old) product)) }
+    ensures added { OnSome result (held_in target.new ≡ plus (held_in target.old) (times multiplier (shown row.entry.coefs.now row.entry.constant))) }
+{
+    for (k, sum) in target.iter_mut().enumerate() {
+        *sum = add_product(*sum, multiplier, row.entry(k))?;
+    }
+    Some(())
+}
+
+fn add_product(sum: i128, multiplier: i128, entry: i128) -> Option<i128>
+    ensures { SomeIff result (IsTrue (is_i128 (multiplier *ℤ entry) && is_i128 (sum +ℤ multiplier *ℤ entry))) (sum +ℤ multiplier *ℤ entry) }
+{
+    let product = multiplier.checked_mul(entry)?;
+    sum.checked_add(product)
+}
