@@ -2,3 +2,4 @@ pub mod Ranges
 pub mod Fits
 pub mod Runs
 pub mod Sessions
+pub mod CellValues

@@ -4,3 +4,4 @@ pub mod Run
 pub mod Session
 pub mod Checks
 pub mod Laws
+pub mod CellValues

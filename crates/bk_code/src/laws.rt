@@ -1,4 +1,5 @@
 //! Laws of the definitions, as contracts of functions that do nothing.
+ghost use Rattle.bk_code.specs.CellValues.{StandsForOne};
 ghost use Rattle.bk_code.specs.Laws.{StoresPushed, EndsAtReturn, IsOutOfFuelBelow, IsTrapOutOfFuel, StaysDone, StaysTrapped, HasOneEnd, IsNeverStuck, KeepsFitting, HasSomeEnd, IsFirstFitting, IsCallFitting, HasOneSession, HasSomeSession};
 
 /// A Push with a Store behind it writes a cell and leaves the stack alone.
@@ -33,4 +34,9 @@ pub fn checked_images_are_safe()
     ensures call_start { IsCallFitting }
     ensures end { HasSomeEnd }
     ensures session { HasSomeSession }
+{}
+
+/// A number in a cell stands for one value of the cell's kind.
+pub fn numbers_stand_for_values()
+    ensures { StandsForOne }
 {}

@@ -13,7 +13,10 @@ pub use image::{
     Parameters,
 };
 pub use instruction::{Inst, Trap};
-pub use laws::{checked_images_are_safe, ends_are_exact, ends_are_unique, ends_stay, pushes_store};
+pub use laws::{
+    checked_images_are_safe, ends_are_exact, ends_are_unique, ends_stay, numbers_stand_for_values,
+    pushes_store,
+};
 pub use list::Sequence;
 
 #[cfg(test)]

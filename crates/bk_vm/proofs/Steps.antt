@@ -1,0 +1,130 @@
+-- From the checks of an image to the execution of one instruction, and from steps to a call's end.
+use Rattle.std.proofs.Common.{◌≡◌, ℕ, ◌+◌, ◌-◌, ◌<◌, ◌≤◌, ◌⊎◌, inl, inr, refl, sym, subst, arith, Bool, true, false, List, ◌∷◌, length, get_or, Some, None, Ok, ℤ, pos, add-one}
+use Rattle.std.specs.Prelude.{slice_get, slice_index, if◌then◌else◌}
+use Rattle.std.proofs.lemmas.Option.{slice_get-get_or}
+use Rattle.bk_code.specs.declared.image.Image.{Image}
+use Rattle.bk_code.specs.declared.instruction.Inst.{Inst}
+use Rattle.bk_code.specs.declared.instruction.Inst.TheVariants.{Push, Load, Store, ALoad, AStore, Add, Sub, Mul, Div, Mod, Neg, Eq, Lt, Le, Not, Jump, JumpZero, Ret}
+use Rattle.bk_code.specs.declared.instruction.Trap.{Trap}
+use Rattle.bk_code.specs.Numbers.{int_max}
+use Rattle.bk_code.specs.Step.{Config, GoesOn, Returns, Traps, calculated, is_index, element_cell, row, step}
+use Rattle.bk_code.specs.Run.{Leads}
+use Rattle.bk_code.specs.Checks.{IsLeaving, FlowsTo, pops, pushes}
+use Rattle.bk_code.specs.Laws.{AreCells}
+use Rattle.bk_code.proofs.Runs.{keeps_fitting}
+use Rattle.bk_vm.specs.declared.end.CallEnd.TheVariants.{Done, Trap as TrapEnd, OutOfFuel}
+use Rattle.bk_vm.specs.declared.execute.Flow.{Flow}
+use Rattle.bk_vm.specs.declared.execute.Flow.TheVariants.{Next, Return, Trapped}
+use Rattle.bk_vm.specs.Ends.{EndsWith}
+use Rattle.bk_vm.specs.Flows.{outcome_of, standing, IsExecutable, IsReady, IsReadyAfter}
+
+-- an instruction that pushes more than it pops goes on to the next place
+grows : (inst : Inst) (at : ℕ) → (pushes inst ≤ pops inst) ⊎ (FlowsTo inst at (at + 1) × (IsLeaving inst → ⊥))
+grows (Push n) at = inr (refl, λ l. l)
+grows (Load slot) at = inr (refl, λ l. l)
+grows (Store slot) at = inl (omega arith)
+grows (ALoad base low count) at = inl (omega arith)
+grows (AStore base low count) at = inl (omega arith)
+grows Add at = inl (omega arith)
+grows Sub at = inl (omega arith)
+grows Mul at = inl (omega arith)
+grows Div at = inl (omega arith)
+grows Mod at = inl (omega arith)
+grows Neg at = inl (omega arith)
+grows Eq at = inl (omega arith)
+grows Lt at = inl (omega arith)
+grows Le at = inl (omega arith)
+grows Not at = inl (omega arith)
+grows (Jump distance) at = inl (omega arith)
+grows (JumpZero distance) at = inl (omega arith)
+grows Ret at = inl (omega arith)
+
+-- the stack has room for what an instruction pushes
+room : (image : Image) (place : ℕ) (stack cells : List ℤ) (inst : Inst) → (h : IsReady image (standing place stack cells)) →
+    slice_get image.code place ≡ Some inst → length stack - pops inst + pushes inst ≤ 1000
+room image place stack cells inst h is =
+    let deep : length stack ≡ slice_index h.depths place = h.fits.deep in
+    let limit : slice_index h.depths place ≤ 1000 = h.deep.limit place h.fits.place in
+    let enough : pops inst ≤ slice_index h.depths place = h.deep.enough place inst is in
+    elim (grows inst place) [
+      inl less ↦ omega arith
+    | inr more ↦ (
+        let here : place < length image.code = h.fits.place in
+        let not_last : place + 1 ≡ length image.code → ⊥ = λ e. more.1 (h.numbered.last place inst is e) in
+        let stands : place + 1 < length image.code = omega arith in
+        let next : slice_index h.depths (place + 1) ≤ 1000 = h.deep.limit (place + 1) stands in
+        let flows = h.deep.flows place (place + 1) inst is more.0 in
+        omega arith)
+    ]
+
+pub executable : (image : Image) (place : ℕ) (stack cells : List ℤ) (inst : Inst) → IsReady image (standing place stack cells) →
+    slice_get image.code place ≡ Some inst → IsExecutable image place inst stack cells
+executable image place stack cells inst h is =
+    let deep : length stack ≡ slice_index h.depths place = h.fits.deep in
+    let limit : slice_index h.depths place ≤ 1000 = h.deep.limit place h.fits.place in
+    let pop : pops inst ≤ slice_index h.depths place = h.deep.enough place inst is in
+    record {
+      operands = h.numbered.insts place inst is;
+      enough = omega arith;
+      deep = omega arith;
+      room = room image place stack cells inst h is;
+      range = h.fits.stack;
+      kept = record { many = h.fits.many; range = h.fits.cells };
+    }
+
+-- a step is the row of the instruction at its place
+pub step_is : (image : Image) (place : ℕ) (stack cells : List ℤ) (inst : Inst) → slice_get image.code place ≡ Some inst →
+    step image (standing place stack cells) ≡ row (int_max image) inst place stack cells
+step_is image place stack cells inst is = rw is refl
+
+pub ready_after : (image : Image) (place : ℕ) (stack cells : List ℤ) (flow : Flow) (new written : List ℤ) → IsReady image (standing place stack cells) →
+    outcome_of flow new written ≡ step image (standing place stack cells) → IsReadyAfter image flow new written
+ready_after image place stack cells (Next to) new written h is = record {
+  numbered = h.numbered;
+  depths = h.depths;
+  deep = h.deep;
+  fits = keeps_fitting image h.depths (standing place stack cells) (standing to new written) h.numbered h.deep h.fits (sym is);
+}
+ready_after image place stack cells Return new written h is = tt
+ready_after image place stack cells (Trapped kind) new written h is = tt
+
+pub leads_more : (image : Image) (n : ℕ) (c d e : Config) → Leads image n c d → GoesOn e ≡ step image d → Leads image (n + 1) c e
+leads_more image n c d e leads is = rw add-one (d, leads, sym is)
+
+pub done_ends : (image : Image) (fuel n : ℕ) (c : Config) (place : ℕ) (stack cells after : List ℤ) → n < fuel → Leads image n c (standing place stack cells) →
+    Returns ≡ step image (standing place stack cells) → after ≡ cells → EndsWith image fuel c (Done (n + 1)) after
+done_ends image fuel n c place stack cells after below leads is left =
+    rw add-one (record { last = standing place stack cells; ends = (omega arith, (leads, sym is)); left = left })
+
+pub trap_ends : (image : Image) (fuel n : ℕ) (c : Config) (place : ℕ) (stack cells after : List ℤ) (kind : Trap) → n < fuel → Leads image n c (standing place stack cells) →
+    Traps kind ≡ step image (standing place stack cells) → after ≡ cells → EndsWith image fuel c (TrapEnd kind place n) after
+trap_ends image fuel n c place stack cells after kind below leads is left =
+    record { last = standing place stack cells; ends = (below, leads, sym is, refl); left = left }
+
+pub fuel_ends : (image : Image) (fuel n : ℕ) (c : Config) (place : ℕ) (stack cells : List ℤ) → n ≤ fuel → fuel ≤ n → Leads image n c (standing place stack cells) →
+    EndsWith image fuel c OutOfFuel cells
+fuel_ends image fuel n c place stack cells le ge leads =
+    let same : n ≡ fuel = omega arith in
+    record { last = standing place stack cells; ends = subst (λ k. Leads image k c (standing place stack cells)) same leads; left = refl }
+
+-- the cells at a configuration that fits are those of the image
+pub ready_cells : (image : Image) (place : ℕ) (stack cells : List ℤ) → IsReady image (standing place stack cells) → AreCells image cells
+ready_cells image place stack cells h = record { many = h.fits.many; range = h.fits.cells }
+
+pub kept_cells : (image : Image) (place : ℕ) (stack cells after : List ℤ) → IsReady image (standing place stack cells) → after ≡ cells → AreCells image after
+kept_cells image place stack cells after h same = subst (AreCells image) (sym same) (ready_cells image place stack cells h)
+
+-- an element that is found has its index in the array
+pub found : (t : Bool) (x cell : ℕ) → (if t then Some x else None) ≡ Some cell → (t ≡ true) × (x ≡ cell)
+found true x cell is = (refl, cc)
+found false x cell is = absurd cc
+
+-- the row of an ALoad whose index is in the array
+pub row-ALoad : (max : ℤ) (base : ℕ) (low : ℤ) (count : ℕ) (i : ℤ) (at cell : ℕ) (stack rest cells : List ℤ) → stack ≡ i ∷ rest →
+    (if is_index low count i then Some (element_cell base low i) else None) ≡ Some cell → cell < length cells →
+    row max (ALoad base low count) at stack cells ≡ calculated (at + 1) rest cells (Ok (get_or cells cell (pos 0)))
+row-ALoad max base low count i at cell stack rest cells taken is stands =
+    let parts = found (is_index low count i) (element_cell base low i) cell is in
+    let index = parts.0 in
+    let same = parts.1 in
+    rw (taken, index, same, slice_get-get_or cells cell (pos 0) stands) refl

@@ -1,0 +1,14 @@
+use Rattle.std.proofs.Common.{◌-◌, ◌≤◌}
+use Rattle.bk_code.specs.Run.{Leads}
+use Rattle.bk_vm.specs.Flows.{standing, IsReady}
+use Rattle.bk_vm.proofs.execute.run.Given as goal
+
+abbrev pub invariant-loop-steps : goal.invariant-loop-steps
+invariant-loop-steps l = record {
+  within : l.steps ≤ l.fuel;
+  leads : Leads l.image l.steps (standing l.fn.start l.fn.stack l.fn.cells) (standing l.place l.stack l.cells);
+  ready : IsReady l.image (standing l.place l.stack l.cells);
+}
+
+abbrev pub decreases-loop-steps : goal.decreases-loop-steps
+decreases-loop-steps l = l.fuel - l.steps

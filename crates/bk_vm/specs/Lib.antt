@@ -1,0 +1,4 @@
+pub mod State
+pub mod Ends
+pub mod Flows
+pub mod Depth
