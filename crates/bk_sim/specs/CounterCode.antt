@@ -1,0 +1,28 @@
+-- Code of the counter whose setmax stores a number.
+use Rattle.std.specs.Prelude.{ℕ, pos, List, [], ◌∷◌}
+use Rattle.bk_code.specs.declared.image.Image.{Image}
+use Rattle.bk_code.specs.declared.image.OpEntry.{OpEntry}
+use Rattle.bk_code.specs.declared.image.Parameter.{Parameter}
+use Rattle.bk_code.specs.declared.image.CellKind.TheVariants.{Integer}
+use Rattle.bk_code.specs.declared.instruction.Inst.{Inst}
+use Rattle.bk_code.specs.declared.instruction.Inst.TheVariants.{Push, Load, Store, Ret}
+
+-- n of the implementation is in cell 0, and the output of get in cell 1
+abbrev pub entry_at : List ℕ → ℕ → List Parameter → OpEntry
+entry_at name place outputs = record { name = name; start = place; inputs = []; outputs = outputs }
+
+abbrev pub setmax_entry : OpEntry
+setmax_entry = entry_at (2 ∷ []) 6 []
+
+-- push a number, store it in cell 0, return
+abbrev pub storing : ℕ → List Inst → List Inst
+storing n rest = Push (pos n) ∷ Store 0 ∷ Ret ∷ rest
+
+-- setmax stores this number
+abbrev pub counter_code : ℕ → Image
+counter_code n = record {
+  cells = 2;
+  sets = [];
+  ops = entry_at (1 ∷ []) 3 [] ∷ setmax_entry ∷ entry_at (3 ∷ []) 9 (record { kind = Integer; slot = 1 } ∷ []) ∷ [];
+  code = storing 0 (storing 0 (storing n (Load 0 ∷ Store 1 ∷ Ret ∷ [])));
+}
