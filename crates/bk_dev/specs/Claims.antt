@@ -58,7 +58,7 @@ pub record CarriesFlat (find : Finder) (dev : Development) (j : ℕ) : Type 0 wh
   pub operations : (o : ℕ) → o < length dev.heads → (e : State) → IsTypedState dev.table e → AreTrue find dev.table e (unasserted_hypotheses dev (suc j) o) →
       Establishes find dev (suc j) (whole (body_at dev (suc j) o)) e (Answered find dev (suc j) (body_at dev j o).sub (body_at dev (suc j) o).outputs (body_at dev j o).outputs)
 
--- the whole body of a level ends, is clean, and from each of its results the body above has one in which the levels join
+-- level suc j carries level j: each of its whole bodies ends, is clean, and from each of its results the body above has one in which the levels join
 abbrev pub Carries : Finder → Development → ℕ → Type 0
 Carries find dev j = CarriesFlat find (flattened dev) j
 

@@ -1,7 +1,7 @@
 -- A counter and its implementation, to be checked by hand: reset sets n to 0, setmax to 10, get answers n.
 use Rattle.std.specs.Prelude.{ℕ, pos, List, [], ◌∷◌}
 use Rattle.bk_val.specs.ValueType.{int_type}
-use Rattle.bk_form.specs.Table.{Table}
+use Rattle.bk_form.specs.Table.{Table, VariableEntry}
 use Rattle.bk_form.specs.Formula.{Formula, variable, literal, binary, btrue, bfalse}
 use Rattle.bk_form.specs.declared.operator.BinOp.TheVariants.{In, Range}
 use Rattle.bk_gsl.specs.Substitution.{assign}
@@ -11,12 +11,32 @@ use Rattle.bk_dev.specs.declared.kind.Home.TheVariants.{Variable, Inner}
 use Rattle.bk_dev.specs.Development.{Head, Body, Level, Development}
 use Rattle.bk_dev.specs.Machine.{Call}
 
--- n of the machine, n of the implementation, and the output r of each
+-- a number of a level, whose text is its name, a dollar sign and the level
+abbrev pub number_at : ℕ → ℕ → VariableEntry
+number_at name level = record { text = name ∷ 36 ∷ level ∷ []; of_type = int_type }
+
+-- n$0 of the machine, n$1 of the implementation, and their outputs r$0 and r$1
 abbrev pub counter_table : Table
 counter_table = record {
   sets = [];
-  variables = record { text = 110 ∷ []; of_type = int_type } ∷ record { text = 110 ∷ []; of_type = int_type } ∷ record { text = 114 ∷ []; of_type = int_type } ∷ record { text = 114 ∷ []; of_type = int_type } ∷ [];
+  variables = number_at 110 48 ∷ number_at 110 49 ∷ number_at 114 48 ∷ number_at 114 49 ∷ [];
 }
+
+-- Counter, Counter_i, reset, setmax and get
+abbrev pub machine_name : List ℕ
+machine_name = 67 ∷ 111 ∷ 117 ∷ 110 ∷ 116 ∷ 101 ∷ 114 ∷ []
+
+abbrev pub implementation_name : List ℕ
+implementation_name = 67 ∷ 111 ∷ 117 ∷ 110 ∷ 116 ∷ 101 ∷ 114 ∷ 95 ∷ 105 ∷ []
+
+abbrev pub reset_name : List ℕ
+reset_name = 114 ∷ 101 ∷ 115 ∷ 101 ∷ 116 ∷ []
+
+abbrev pub setmax_name : List ℕ
+setmax_name = 115 ∷ 101 ∷ 116 ∷ 109 ∷ 97 ∷ 120 ∷ []
+
+abbrev pub get_name : List ℕ
+get_name = 103 ∷ 101 ∷ 116 ∷ []
 
 -- an operation with this precondition that sets variable x
 abbrev pub setting : Formula → ℕ → Formula → Body
@@ -42,8 +62,8 @@ counter_with condition = record {
   table = counter_table;
   homes = Variable 0 ∷ Variable 1 ∷ Inner 0 ∷ Inner 1 ∷ [];
   sets = [];
-  heads = record { name = 1 ∷ []; inputs = []; outputs = 0 } ∷ record { name = 2 ∷ []; inputs = []; outputs = 0 } ∷ record { name = 3 ∷ []; inputs = []; outputs = 1 } ∷ [];
-  levels = counter_level condition (1 ∷ []) Machine 0 2 [] ∷ counter_level btrue (2 ∷ []) Implementation 1 3 ((1, 0) ∷ []) ∷ [];
+  heads = record { name = reset_name; inputs = []; outputs = 0 } ∷ record { name = setmax_name; inputs = []; outputs = 0 } ∷ record { name = get_name; inputs = []; outputs = 1 } ∷ [];
+  levels = counter_level condition machine_name Machine 0 2 [] ∷ counter_level btrue implementation_name Implementation 1 3 ((1, 0) ∷ []) ∷ [];
   values = [];
 }
 

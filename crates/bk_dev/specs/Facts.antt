@@ -1,5 +1,5 @@
 -- What holds of every development: its numbers name entries, its formulas type, and names stay where they may stand.
-use Rattle.std.specs.Prelude.{◌≡◌, ◌⊎◌, ◌<◌, ◌≤◌, ℕ, suc, ◌+◌, nat_eq, Bool, true, false, not, ◌||◌, List, [], ◌∷◌, ◌++◌, length, map, Option, Some, None}
+use Rattle.std.specs.Prelude.{◌≡◌, ◌⊎◌, ◌<◌, ◌≤◌, ℕ, suc, ◌+◌, nat_eq, pos, ◌-ℤ◌, ◌≤ℤ◌, Bool, true, false, not, ◌||◌, List, [], ◌∷◌, ◌++◌, length, map, Option, Some, None}
 use Rattle.std.specs.List.{slice_get, flat_map}
 use Rattle.bk_val.specs.ValueType.{ValueType, int_type}
 use Rattle.bk_form.specs.Table.{Table, variable_type, IsWellFormed}
@@ -9,12 +9,12 @@ use Rattle.bk_form.specs.Replacement.{occurs, IsClosed}
 use Rattle.bk_gsl.specs.Substitution.{Substitution, skip, assign, pre, guard, choice, if_else, any, seq, par, assert, becomes_such, loop}
 use Rattle.bk_gsl.specs.State.{among, firsts}
 use Rattle.bk_gsl.specs.Writes.{written}
-use Rattle.bk_gsl.specs.Typed.{IsPredicate, GivesType, Types}
+use Rattle.bk_gsl.specs.Typed.{IsPredicate, IsTerm, Types}
 use Rattle.bk_dev.specs.declared.kind.Kind.{Kind}
 use Rattle.bk_dev.specs.declared.kind.Kind.TheVariants.{Machine, Refinement, Implementation}
 use Rattle.bk_dev.specs.declared.kind.Home.{Home}
 use Rattle.bk_dev.specs.declared.kind.Home.TheVariants.{Constant, Input, Variable, Inner}
-use Rattle.bk_dev.specs.Development.{Head, Body, Level, Development, level_at, body_of, last, inputs_of, is_implementation, is_complete}
+use Rattle.bk_dev.specs.Development.{Head, Body, Level, Development, int_max, level_at, body_of, last, inputs_of, is_implementation, is_complete}
 
 -- ---- homes
 abbrev pub is_constant : Option Home → Bool
@@ -100,7 +100,7 @@ abbrev pub IsGuard : Substitution → Type 0
 IsGuard (guard p s) = Unit {0}
 IsGuard _ = ⊥
 
--- sequencing and loops stand below the machine, loops in implementations alone, and locals without a guard as sequencing does
+-- sequencing and VAR (locals whose body is no guard) stand below the machine, loops in implementations alone
 abbrev pub MaySequence : Kind → Type 0
 MaySequence Machine = ⊥
 MaySequence _ = Unit {0}
@@ -109,7 +109,7 @@ abbrev pub MayLoop : Kind → Type 0
 MayLoop Implementation = Unit {0}
 MayLoop _ = ⊥
 
--- inside || there is neither
+-- inside || there is no sequencing, no VAR and no loop
 abbrev pub IsUnordered : Substitution → Type 0
 IsUnordered (pre p s) = IsUnordered s
 IsUnordered (guard p s) = IsUnordered s
@@ -161,13 +161,25 @@ pub record IsSubOf (dev : Development) (k : ℕ) (inputs outputs : List ℕ) (s 
   pub shape : MayStandIn (level_at dev k).kind s
   pub binds_inner : AllAre (λ n. is_inner_of k (home_of dev n)) (binders s)
 
-pub record IsBodyOf (dev : Development) (k : ℕ) (head : Head) (b : Body) : Type 0 where
+-- two variables of one type
+abbrev pub AreAlike : Table → ℕ → ℕ → Type 0
+AreAlike table x y = (t : ValueType) × (variable_type table x ≡ Some t) × (variable_type table y ≡ Some t)
+
+-- as many, each with one of its type
+abbrev pub AllAlike : Table → List ℕ → List ℕ → Type 0
+AllAlike table [] [] = Unit {0}
+AllAlike table (x ∷ xs) (y ∷ ys) = AreAlike table x y × AllAlike table xs ys
+AllAlike table _ _ = ⊥
+
+-- an operation's body at level k, whose outputs have the types of those of the machine's body
+pub record IsBodyOf (dev : Development) (k : ℕ) (head : Head) (machine b : Body) : Type 0 where
   pub condition : IsPredicate dev.table b.condition
   pub condition_names : Names (names_own dev k head.inputs b.outputs) b.condition
   pub sub : IsSubOf dev k head.inputs b.outputs b.sub
   pub outputs : AllAre (λ n. is_inner_of k (home_of dev n)) b.outputs
   pub distinct_outputs : AreDistinct b.outputs
   pub as_many_outputs : length b.outputs ≡ head.outputs
+  pub output_types : AllAlike dev.table b.outputs machine.outputs
 
 -- a predicate of level k that names what its invariant may
 pub record IsStated (dev : Development) (k : ℕ) (p : Formula) : Type 0 where
@@ -178,17 +190,17 @@ pub record IsStated (dev : Development) (k : ℕ) (p : Formula) : Type 0 where
 pub record IsLink (dev : Development) (k : ℕ) (p : ℕ × ℕ) : Type 0 where
   pub below : is_variable_of k (home_of dev p.0) ≡ true
   pub above : (j : ℕ) × (k ≡ suc j) × (is_variable_of j (home_of dev p.1) ≡ true)
-  pub alike : (t : ValueType) × (variable_type dev.table p.0 ≡ Some t) × (variable_type dev.table p.1 ≡ Some t)
+  pub alike : AreAlike dev.table p.0 p.1
 
 abbrev pub Each : {A : Type 0} → (A → Type 0) → List A → Type 0
 Each P [] = Unit {0}
 Each P (x ∷ xs) = P x × Each P xs
 
--- each header with its body
-abbrev pub EachBody : Development → ℕ → List Head → List Body → Type 0
-EachBody dev k [] [] = Unit {0}
-EachBody dev k (h ∷ hs) (b ∷ bs) = IsBodyOf dev k h b × EachBody dev k hs bs
-EachBody dev k _ _ = ⊥
+-- each header with the machine's body and the level's
+abbrev pub EachBody : Development → ℕ → List Head → List Body → List Body → Type 0
+EachBody dev k [] [] [] = Unit {0}
+EachBody dev k (h ∷ hs) (m ∷ ms) (b ∷ bs) = IsBodyOf dev k h m b × EachBody dev k hs ms bs
+EachBody dev k _ _ _ = ⊥
 
 -- the machine comes first, and only the last may be an implementation
 abbrev pub IsKindAt : Development → ℕ → Kind → Type 0
@@ -199,6 +211,8 @@ IsKindAt dev k Implementation = (0 < k) × (k ≡ last dev)
 pub record IsLevelOf (dev : Development) (k : ℕ) (l : Level) : Type 0 where
   pub kind : IsKindAt dev k l.kind
   pub vars : AllAre (λ n. is_variable_of k (home_of dev n)) l.vars
+  -- and no other variable is at home there
+  pub all : (n : ℕ) → is_variable_of k (home_of dev n) ≡ true → among l.vars n ≡ true
   pub distinct : AreDistinct l.vars
   pub properties : IsPredicate dev.table l.properties
   pub properties_names : Names (names_constants dev) l.properties
@@ -206,29 +220,29 @@ pub record IsLevelOf (dev : Development) (k : ℕ) (l : Level) : Type 0 where
   pub assertions : Each (IsStated dev k) l.assertions
   pub links : Each (IsLink dev k) l.links
   pub init : IsSubOf dev k [] [] l.init
-  pub bodies : EachBody dev k dev.heads l.bodies
+  pub bodies : EachBody dev k dev.heads (level_at dev 0).bodies l.bodies
 
 abbrev pub EachLevel : Development → ℕ → List Level → Type 0
 EachLevel dev k [] = Unit {0}
 EachLevel dev k (l ∷ ls) = IsLevelOf dev k l × EachLevel dev (suc k) ls
 
--- an operation's inputs are its own, and differ
+-- an operation's inputs are inputs, and differ
 pub record IsHeadOf (dev : Development) (h : Head) : Type 0 where
   pub inputs : AllAre (λ n. is_input (home_of dev n)) h.inputs
   pub distinct : AreDistinct h.inputs
 
--- a literal, TRUE, FALSE or an element
-abbrev pub IsLiteral : Formula → Type 0
-IsLiteral (literal z) = Unit {0}
-IsLiteral (truth_value b) = Unit {0}
-IsLiteral (element s i) = Unit {0}
-IsLiteral _ = ⊥
+-- a literal within INT, TRUE, FALSE or an element
+abbrev pub IsLiteral : Development → Formula → Type 0
+IsLiteral dev (literal z) = ((pos 0 -ℤ int_max dev) ≤ℤ z) × (z ≤ℤ int_max dev)
+IsLiteral dev (truth_value b) = Unit {0}
+IsLiteral dev (element s i) = Unit {0}
+IsLiteral dev _ = ⊥
 
 -- a value of a constant, of its type
 pub record IsValue (dev : Development) (p : ℕ × Formula) : Type 0 where
   pub constant : is_constant (home_of dev p.0) ≡ true
-  pub is_literal : IsLiteral p.1
-  pub of_type : (t : ValueType) × (variable_type dev.table p.0 ≡ Some t) × GivesType dev.table t p.1
+  pub is_literal : IsLiteral dev p.1
+  pub of_type : (t : ValueType) × (variable_type dev.table p.0 ≡ Some t) × IsTerm dev.table t p.1
 
 -- where there is an implementation each constant has one value, and else none
 abbrev pub HasItsValues : Development → Bool → Type 0

@@ -1,8 +1,10 @@
 -- A development whose substitutions are flat: each || is rewritten by copies, over one table with all copies.
-use Rattle.std.specs.Prelude.{ℕ, ◌+◌, List, [], ◌∷◌, ◌++◌, length}
+use Rattle.std.specs.Prelude.{ℕ, suc, ◌+◌, replicate, List, [], ◌∷◌, ◌++◌, length}
 use Rattle.std.specs.List.{slice_get, filter_map}
 use Rattle.bk_gsl.specs.Substitution.{Substitution}
 use Rattle.bk_gsl.specs.Flat.{copied, flat_from}
+use Rattle.bk_dev.specs.declared.kind.Home.{Home}
+use Rattle.bk_dev.specs.declared.kind.Home.TheVariants.{Inner}
 use Rattle.bk_dev.specs.Development.{Body, Level, Development}
 
 -- the variables that are copied in bodies one after another
@@ -29,10 +31,15 @@ abbrev pub flat_levels : ℕ → List Level → List Level
 flat_levels k [] = []
 flat_levels k (l ∷ ls) = flat_level k l ∷ flat_levels (k + length (copied_in_level l)) ls
 
--- each copy has the entry of the variable that it copies
+-- a copy is inner to the level in which it stands
+abbrev pub copy_homes : ℕ → List Level → List Home
+copy_homes k [] = []
+copy_homes k (l ∷ ls) = replicate (length (copied_in_level l)) (Inner k) ++ copy_homes (suc k) ls
+
+-- each copy has the name and the type of the variable that it copies
 abbrev pub flattened : Development → Development
 flattened dev = record dev {
   table = record dev.table { variables = dev.table.variables ++ filter_map (slice_get dev.table.variables) (copied_in_levels dev.levels) };
-  homes = dev.homes ++ filter_map (slice_get dev.homes) (copied_in_levels dev.levels);
+  homes = dev.homes ++ copy_homes 0 dev.levels;
   levels = flat_levels (length dev.table.variables) dev.levels;
 }

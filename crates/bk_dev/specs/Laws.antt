@@ -2,8 +2,13 @@
 use Rattle.std.specs.Prelude.{◌≡◌, ◌↔◌, pos, List, [], ◌∷◌}
 use Rattle.bk_val.specs.Value.{MathValue, int}
 use Rattle.bk_form.specs.Search.{Finder}
+use Rattle.bk_dev.specs.Facts.{IsDevelopment}
 use Rattle.bk_dev.specs.Machine.{Abstract, Reach, Legal}
 use Rattle.bk_dev.specs.Counter.{counter, forbidden, setmax, get}
+
+-- the counter is a development
+abbrev pub CounterIsDevelopment : Type 0
+CounterIsDevelopment = IsDevelopment counter
 
 -- after setmax the counter is at 10 and at no other number
 abbrev pub ReachesTen : Type 0

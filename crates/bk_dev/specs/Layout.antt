@@ -1,16 +1,18 @@
 -- The arrays of an implementation, and the cells that its variables have.
-use Rattle.std.specs.Prelude.{ℕ, zero, suc, ◌+◌, nat_eq, ℤ, pos, negsuc, ◌+ℤ◌, ◌-ℤ◌, Bool, true, false, ◌&&◌, cond, List, [], ◌∷◌, ◌++◌, map, Option, Some, None}
-use Rattle.std.specs.List.{flat_map, filter_map}
+use Rattle.std.specs.Prelude.{ℕ, zero, suc, ◌+◌, nat_eq, ℤ, pos, negsuc, ◌+ℤ◌, ◌-ℤ◌, Bool, true, false, not, ◌&&◌, cond, int_le, List, [], ◌∷◌, ◌++◌, map, Option, Some, None}
+use Rattle.std.specs.List.{flat_map, filter_map, filter, list_all}
 use Rattle.bk_val.specs.ValueType.{ValueType, int_type, bool_type, enum_type, pair_type, set_type}
 use Rattle.bk_form.specs.Table.{Table, set_size, variable_type}
-use Rattle.bk_form.specs.Formula.{Formula, variable, literal, unary, binary, named}
+use Rattle.bk_form.specs.Formula.{Formula, variable, literal, empty_set, unary, binary, named}
+use Rattle.bk_form.specs.Replacement.{occurs}
 use Rattle.bk_form.specs.ArrayTable.{ArrayTable, row_of}
 use Rattle.bk_form.specs.Operators.{count_of}
-use Rattle.bk_form.specs.declared.operator.BinOp.TheVariants.{And, Eq, In, TotalFunctions, Range}
+use Rattle.bk_form.specs.declared.operator.BinOp.TheVariants.{And, Eq, In, TotalFunctions, Range, Union, Inter, Minus}
 use Rattle.bk_form.specs.declared.operator.Domain.TheVariants.{Bool as Booleans, Enum}
 use Rattle.bk_form.specs.declared.arrays.ArrayRow.{ArrayRow}
 use Rattle.bk_form.specs.declared.arrays.ArrayDomain.{ArrayDomain}
 use Rattle.bk_form.specs.declared.arrays.ArrayDomain.TheVariants.{Interval, Bool as OfBooleans, Set as OfElements}
+use Rattle.bk_gsl.specs.State.{among, firsts}
 use Rattle.bk_gsl.specs.Substitution.{Substitution, pre, guard, choice, if_else, any, seq, par, assert, loop}
 use Rattle.bk_dev.specs.Development.{Head, Body, Level, Development, int_max, level_at, last, inputs_of}
 use Rattle.bk_dev.specs.Hypotheses.{conjuncts}
@@ -31,10 +33,36 @@ abbrev pub or_next : Clue → Clue → Clue
 or_next silent c = c
 or_next c _ = c
 
--- the first conjunct that says something
-abbrev pub first_clue : ℕ → List Formula → Clue
-first_clue x [] = silent
-first_clue x (p ∷ ps) = or_next (clue_of x p) (first_clue x ps)
+-- the variable that a conjunct x : D or x = E speaks of
+abbrev pub spoken_of : Formula → List ℕ
+spoken_of (binary In (variable y) d) = y ∷ []
+spoken_of (binary Eq (variable y) t) = y ∷ []
+spoken_of p = []
+
+abbrev pub right_side : Formula → Formula
+right_side (binary o a b) = b
+right_side p = p
+
+-- {} has no type of its own, and sets that are made of it alone have none
+abbrev pub is_empty : Formula → Bool
+is_empty (empty_set t) = true
+is_empty (binary Union a b) = is_empty a && is_empty b
+is_empty (binary Inter a b) = is_empty a && is_empty b
+is_empty (binary Minus a b) = is_empty a && is_empty b
+is_empty f = false
+
+-- its right side has a type where these variables have none
+abbrev pub is_typing : List ℕ → Formula → Bool
+is_typing typeless p = list_all (λ n. not (occurs n (right_side p))) typeless && not (is_empty (right_side p))
+
+-- the first conjunct that gives the variable a type says what it is; each such conjunct gives its variable a type for those after it
+abbrev pub first_clue : ℕ → List ℕ → List Formula → Clue
+first_clue x typeless [] = silent
+first_clue x typeless (p ∷ ps) = cond (is_typing typeless p) (or_next (clue_of x p) (first_clue x (filter (λ n. not (among (spoken_of p) n)) typeless) ps)) (first_clue x typeless ps)
+
+-- the level's variables that have no type from above
+abbrev pub untyped : Level → List ℕ
+untyped l = filter (λ x. not (among (firsts l.links) x)) l.vars
 
 -- the variable of the level above that it is linked to
 abbrev pub linked_to : ℕ → List (ℕ × ℕ) → Option ℕ
@@ -43,7 +71,7 @@ linked_to x (p ∷ ps) = cond (nat_eq x p.0) (Some p.1) (linked_to x ps)
 
 -- its own level's invariant decides, and where that is silent the nearest above under the same name; the last level comes first
 abbrev pub typing_clue : Option ℕ → List Level → Clue
-typing_clue (Some x) (l ∷ above) = or_next (first_clue x (conjuncts l.invariant)) (typing_clue (linked_to x l.links) above)
+typing_clue (Some x) (l ∷ above) = or_next (first_clue x (untyped l) (conjuncts l.invariant)) (typing_clue (linked_to x l.links) above)
 typing_clue _ _ = silent
 
 abbrev pub literal_of : Formula → Option ℤ
@@ -60,24 +88,35 @@ bound_of values (literal z) = Some z
 bound_of values (variable c) = constant_bound c values
 bound_of values _ = None
 
-abbrev pub interval_of : Option ℤ → Option ℤ → Option ArrayDomain
-interval_of (Some a) (Some b) = Some (Interval a b)
-interval_of _ _ = None
+-- an interval that is not empty, with both bounds within INT
+abbrev pub interval_of : ℤ → Option ℤ → Option ℤ → Option ArrayDomain
+interval_of max (Some a) (Some b) = cond (int_le (pos 0 -ℤ max) a && int_le a b && int_le b max) (Some (Interval a b)) None
+interval_of max _ _ = None
 
-abbrev pub indices_of : List (ℕ × Formula) → Formula → Option ArrayDomain
-indices_of values (binary Range a b) = interval_of (bound_of values a) (bound_of values b)
-indices_of values (named Booleans) = Some OfBooleans
-indices_of values (named (Enum n)) = Some (OfElements n)
-indices_of values _ = None
+abbrev pub indices_of : ℤ → List (ℕ × Formula) → Formula → Option ArrayDomain
+indices_of max values (binary Range a b) = interval_of max (bound_of values a) (bound_of values b)
+indices_of max values (named Booleans) = Some OfBooleans
+indices_of max values (named (Enum n)) = Some (OfElements n)
+indices_of max values _ = None
+
+abbrev pub is_scalar : ValueType → Bool
+is_scalar (pair_type t u) = false
+is_scalar (set_type t) = false
+is_scalar _ = true
+
+-- a function to scalars
+abbrev pub has_scalars : Option ValueType → Bool
+has_scalars (Some (set_type (pair_type t u))) = is_scalar u
+has_scalars _ = false
 
 abbrev pub array_row : ℕ → Option ArrayDomain → Option ArrayRow
 array_row x (Some d) = Some (record { var = x; domain = d })
 array_row x None = None
 
--- f : a..b --> D, f : BOOL --> D or f : S --> D
-abbrev pub row_by : List (ℕ × Formula) → ℕ → Clue → Option ArrayRow
-row_by values x (in_domain (binary TotalFunctions d e)) = array_row x (indices_of values d)
-row_by values x _ = None
+-- f : a..b --> D, f : BOOL --> D or f : S --> D, with scalars in D
+abbrev pub row_by : Development → ℕ → Clue → Option ArrayRow
+row_by dev x (in_domain (binary TotalFunctions d e)) = cond (has_scalars (variable_type dev.table x)) (array_row x (indices_of (int_max dev) dev.values d)) None
+row_by dev x _ = None
 
 abbrev pub reversed : List Level → List Level → List Level
 reversed [] done = done
@@ -85,7 +124,7 @@ reversed (l ∷ ls) done = reversed ls (l ∷ done)
 
 -- the arrays among the last level's variables, in their order
 abbrev pub arrays_of : Development → ArrayTable
-arrays_of dev = record { max = int_max dev; rows = filter_map (λ x. row_by dev.values x (typing_clue (Some x) (reversed dev.levels []))) (level_at dev (last dev)).vars }
+arrays_of dev = record { max = int_max dev; rows = filter_map (λ x. row_by dev x (typing_clue (Some x) (reversed dev.levels []))) (level_at dev (last dev)).vars }
 
 -- ---- cells
 -- how many indices a domain has

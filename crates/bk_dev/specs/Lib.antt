@@ -1,4 +1,5 @@
 pub mod Development
+pub mod DevelopmentCodes
 pub mod Flattened
 pub mod Hypotheses
 pub mod Layout

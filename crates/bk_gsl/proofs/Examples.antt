@@ -12,7 +12,7 @@ use Rattle.bk_form.specs.Operators.{number_in}
 use Rattle.bk_gsl.specs.Substitution.{Substitution, skip, assign, pre, any}
 use Rattle.bk_gsl.specs.State.{holds, with_values, among, over}
 use Rattle.bk_gsl.specs.Run.{Runs, Ends, Turns, Bounded, assigned}
-use Rattle.bk_gsl.specs.Laws.{PreconditionMeans, swap, Swaps, PutsBack, count_down, CountsDown, Stands}
+use Rattle.bk_gsl.specs.Laws.{PreconditionMeans, swap, Swaps, PutsBack, count_down, CountsDown, NeverEnds}
 use Rattle.bk_gsl.proofs.States.{over-at, nat_eq-self}
 
 pub precondition-means : PreconditionMeans
@@ -22,8 +22,13 @@ precondition-means = record {
 }
 
 pub swaps : Swaps
-swaps find table e f q =
-    (ap (λ x. x 0) q.4 ∙ ap (λ x. x 0) q.2, ap (λ x. x 1) q.4 ∙ ap (λ x. x 1) q.3)
+swaps = record {
+  runs = λ find table e.
+      let g = assigned find table ((0, variable 1) ∷ []) e in
+      let h = assigned find table ((1, variable 0) ∷ []) e in
+      (over (among (0 ∷ [])) g h, (g, h, refl, refl, refl));
+  values = λ find table e f q. (ap (λ x. x 0) q.4 ∙ ap (λ x. x 0) q.2, ap (λ x. x 1) q.4 ∙ ap (λ x. x 1) q.3);
+}
 
 pub puts-back : PutsBack
 puts-back find table z s e f q = ap (λ x. x z) q.2.2 ∙ over-at (among (z ∷ [])) e q.2.0 z (here z)
@@ -77,5 +82,5 @@ module _ (find : Finder) (table : Table) where
 pub counts-down : CountsDown
 counts-down = record { ends = λ find table e z h. ends-from find table e z h; runs = λ find table e f n h q. leaves-zero find table q.0 e f n h q.1 }
 
-pub stands : Stands
-stands find table e q = never find table q.0 e q.1
+pub never-ends : NeverEnds
+never-ends find table e q = never find table q.0 e q.1

@@ -55,19 +55,15 @@ rises-in_order [] = tt
 rises-in_order (x ∷ xs) = rises-inserted x (in_order xs) (rises-in_order xs)
 
 -- ---- a rising list is known by its members
+any_is : (xs : List ℕ) (x : ℕ) → list_any (nat_eq x) xs ≡ among xs x
+any_is [] x = refl
+any_is (y ∷ ys) x = ap (λ b. nat_eq x y || b) (any_is ys x)
+
 among-Contains : (xs : List ℕ) (x : ℕ) → Contains xs x → among xs x ≡ true
 among-Contains xs x c = sym (any_is xs x) ∙ list_any-from_Contains nat_eq_equiv x xs c
-  where
-    any_is : (ys : List ℕ) (y : ℕ) → list_any (nat_eq y) ys ≡ among ys y
-    any_is [] y = refl
-    any_is (z ∷ zs) y = ap (λ b. nat_eq y z || b) (any_is zs y)
 
 Contains-among : (xs : List ℕ) (x : ℕ) → among xs x ≡ true → Contains xs x
 Contains-among xs x h = Contains-from_any nat_eq-same x xs (any_is xs x ∙ h)
-  where
-    any_is : (ys : List ℕ) (y : ℕ) → list_any (nat_eq y) ys ≡ among ys y
-    any_is [] y = refl
-    any_is (z ∷ zs) y = ap (λ b. nat_eq y z || b) (any_is zs y)
 
 not_self : (x y : ℕ) → nat_cmp x y ≡ Less → nat_eq x y ≡ false
 not_self x y h = by_test (nat_lt x y) (nat_eq x y) refl refl h

@@ -1,5 +1,5 @@
 -- The rewriting of || by copies: S || T becomes @c.(c = x ==> (S ; T with c for x)), with x the variables that S writes.
-use Rattle.std.specs.Prelude.{ℕ, suc, ◌+◌, List, [], ◌∷◌, ◌++◌, length, map, Option, Some, None}
+use Rattle.std.specs.Prelude.{ℕ, suc, ◌+◌, nat_eq, cond, List, [], ◌∷◌, ◌++◌, length, map, Option, Some, None}
 use Rattle.std.specs.List.{slice_get, filter_map}
 use Rattle.bk_form.specs.Table.{Table, VariableEntry}
 use Rattle.bk_form.specs.Formula.{Formula, variable, binary}
@@ -8,7 +8,6 @@ use Rattle.bk_form.specs.declared.operator.BinOp.TheVariants.{And, Eq}
 use Rattle.bk_gsl.specs.Substitution.{Substitution, skip, assign, pre, guard, choice, if_else, any, seq, par, assert, becomes_such, loop}
 use Rattle.bk_gsl.specs.State.{firsts}
 use Rattle.bk_gsl.specs.Writes.{writes}
-use Rattle.bk_gsl.specs.Run.{old_of}
 
 -- one variable in place of another in a formula
 abbrev pub renamed : (ℕ → ℕ) → Formula → Formula
@@ -18,7 +17,7 @@ abbrev pub renamed_terms : (ℕ → ℕ) → List (ℕ × Formula) → List (ℕ
 renamed_terms by [] = []
 renamed_terms by (p ∷ ps) = (p.0, renamed by p.1) ∷ renamed_terms by ps
 
--- one variable in place of another where it is read
+-- one variable in place of another where it is read, in a substitution that neither writes nor binds the variables that are replaced
 abbrev pub reading : (ℕ → ℕ) → Substitution → Substitution
 reading by skip = skip
 reading by (assign ps) = assign (renamed_terms by ps)
@@ -38,6 +37,10 @@ abbrev pub copies_from : ℕ → List ℕ → List (ℕ × ℕ)
 copies_from k [] = []
 copies_from k (x ∷ xs) = (k, x) ∷ copies_from (suc k) xs
 
+-- the copy of a variable, and the variable itself where it has none
+abbrev pub copy_of : List (ℕ × ℕ) → ℕ → ℕ
+copy_of [] n = n
+copy_of (p ∷ ps) n = cond (nat_eq n p.1) p.0 (copy_of ps n)
 
 abbrev pub equation : ℕ × ℕ → Formula
 equation p = binary Eq (variable p.0) (variable p.1)
@@ -50,7 +53,7 @@ equations_onto f (p ∷ ps) = equations_onto (binary And f (equation p)) ps
 -- the two sides one after the other, the second reading the copies; where the first writes nothing there are none
 abbrev pub by_copies : List (ℕ × ℕ) → Substitution → Substitution → Substitution
 by_copies [] s t = seq s t
-by_copies (p ∷ ps) s t = any (firsts (p ∷ ps)) (guard (equations_onto (equation p) ps) (seq s (reading (old_of (p ∷ ps)) t)))
+by_copies (p ∷ ps) s t = any (firsts (p ∷ ps)) (guard (equations_onto (equation p) ps) (seq s (reading (copy_of (p ∷ ps)) t)))
 
 -- the variables that are copied, in the order of their copies' numbers
 abbrev pub copied : Substitution → List ℕ

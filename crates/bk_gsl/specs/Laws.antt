@@ -30,9 +30,10 @@ pub record PreconditionMeans : Type 0 where
 abbrev pub swap : ℕ → ℕ → Substitution
 swap x y = par (assign ((x, variable y) ∷ [])) (assign ((y, variable x) ∷ []))
 
--- it swaps the two values
-abbrev pub Swaps : Type 0
-Swaps = (find : Finder) (table : Table) (e f : State) → Runs find table (swap 0 1) e f → (f 0 ≡ e 1) × (f 1 ≡ e 0)
+-- it runs from everywhere, and swaps the two values
+pub record Swaps : Type 0 where
+  pub runs : (find : Finder) (table : Table) (e : State) → (f : State) × Runs find table (swap 0 1) e f
+  pub values : (find : Finder) (table : Table) (e f : State) → Runs find table (swap 0 1) e f → (f 0 ≡ e 1) × (f 1 ≡ e 0)
 
 -- a local variable has its old value after the run
 abbrev pub PutsBack : Type 0
@@ -48,5 +49,5 @@ pub record CountsDown : Type 0 where
   pub runs : (find : Finder) (table : Table) (e f : State) (n : ℕ) → e 0 ≡ int (pos n) → Runs find table count_down e f → f 0 ≡ int (pos 0)
 
 -- WHILE btrue DO skip END ends from nowhere
-abbrev pub Stands : Type 0
-Stands = (find : Finder) (table : Table) (e : State) → Ends find table (loop btrue skip btrue (literal (pos 0))) e → ⊥
+abbrev pub NeverEnds : Type 0
+NeverEnds = (find : Finder) (table : Table) (e : State) → Ends find table (loop btrue skip btrue (literal (pos 0))) e → ⊥

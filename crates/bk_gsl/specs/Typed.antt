@@ -10,8 +10,9 @@ use Rattle.bk_gsl.specs.Substitution.{Substitution, skip, assign, pre, guard, ch
 abbrev pub IsPredicate : Table → Formula → Type 0
 IsPredicate table p = role table [] p ≡ predicate
 
-abbrev pub GivesType : Table → ValueType → Formula → Type 0
-GivesType table t f = role table [] f ≡ gives t
+-- a term that gives this type, with no loose bound number
+abbrev pub IsTerm : Table → ValueType → Formula → Type 0
+IsTerm table t f = role table [] f ≡ gives t
 
 -- the table lists the variable
 abbrev pub IsListed : Table → ℕ → Type 0
@@ -24,7 +25,7 @@ AreListed table (n ∷ ns) = IsListed table n × AreListed table ns
 -- each term gives its variable's type
 abbrev pub AreTypedTerms : Table → List (ℕ × Formula) → Type 0
 AreTypedTerms table [] = Unit {0}
-AreTypedTerms table (p ∷ ps) = ((t : ValueType) × (variable_type table p.0 ≡ Some t) × GivesType table t p.1) × AreTypedTerms table ps
+AreTypedTerms table (p ∷ ps) = ((t : ValueType) × (variable_type table p.0 ≡ Some t) × IsTerm table t p.1) × AreTypedTerms table ps
 
 -- each number for an old value has its variable's type
 abbrev pub AreTypedPairs : Table → List (ℕ × ℕ) → Type 0
@@ -44,4 +45,4 @@ Types table (seq s t) = Types table s × Types table t
 Types table (par s t) = Types table s × Types table t
 Types table (assert p s) = IsPredicate table p × Types table s
 Types table (becomes_such xs p) = AreTypedPairs table xs × IsPredicate table p
-Types table (loop p s i v) = IsPredicate table p × Types table s × IsPredicate table i × GivesType table int_type v
+Types table (loop p s i v) = IsPredicate table p × Types table s × IsPredicate table i × IsTerm table int_type v

@@ -5,7 +5,7 @@ use Rattle.bk_form.specs.Formula.{Formula}
 use Rattle.bk_gsl.specs.Substitution.{Substitution, skip, assign, pre, guard, choice, if_else, any, seq, par, assert, becomes_such, loop}
 use Rattle.bk_gsl.specs.State.{among, firsts}
 
--- each variable that stands on the left of an assignment, without those that the substitution itself binds
+-- each variable that stands on the left of an assignment or of x :(P), without those that a binder round it binds
 abbrev pub written : Substitution → List ℕ
 written skip = []
 written (assign ps) = firsts ps
