@@ -3,3 +3,4 @@ pub mod Fits
 pub mod Runs
 pub mod Sessions
 pub mod CellValues
+pub mod DeadCode

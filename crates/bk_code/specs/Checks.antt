@@ -1,5 +1,5 @@
 -- What the loader checks of an image: its numbers, and the depth of the stack at each place.
-use Rattle.std.specs.Prelude.{◌≡◌, ℕ, ◌+◌, ◌-◌, ◌<◌, ◌≤◌, ◌^◌, ◌⊎◌, ℤ, pos, ◌+ℤ◌, ◌-ℤ◌, List, length, All, slice_get, slice_index, Some}
+use Rattle.std.specs.Prelude.{◌≡◌, ℕ, zero, suc, ◌+◌, ◌-◌, ◌<◌, ◌≤◌, ◌^◌, ◌⊎◌, ℤ, pos, ◌+ℤ◌, ◌-ℤ◌, List, length, All, slice_get, slice_index, Some}
 use Rattle.bk_code.specs.declared.image.Image.{Image}
 use Rattle.bk_code.specs.declared.image.OpEntry.{OpEntry}
 use Rattle.bk_code.specs.declared.image.Parameter.{Parameter}
@@ -112,11 +112,37 @@ pub record IsDepths (image : Image) (depths : List ℕ) : Type 0 where
   pub flows : (at to : ℕ) (inst : Inst) → slice_get image.code at ≡ Some inst → FlowsTo inst at to → slice_index depths to ≡ slice_index depths at - pops inst + pushes inst
   pub returned : (at : ℕ) (inst : Inst) → slice_get image.code at ≡ Some inst → IsEmptyAtEnd inst (slice_index depths at)
 
--- the image passes the loader's checks
+-- the image's numbers are in their ranges, and its places have depths: no step of it is stuck
 pub record IsChecked (image : Image) : Type 0 where
   pub numbered : IsNumbered image
   pub depths : List ℕ
   pub fitting : IsDepths image depths
+
+-- ---- where nothing says the depth
+-- control may go from the instruction at a place to another place
+abbrev pub Passes : Image → ℕ → ℕ → Type 0
+Passes image at to = (inst : Inst) × (slice_get image.code at ≡ Some inst) × FlowsTo inst at to
+
+-- through one instruction, and so many more
+abbrev pub LeadsThrough : Image → ℕ → ℕ → ℕ → Type 0
+LeadsThrough image zero at to = Passes image at to
+LeadsThrough image (suc n) at to = (mid : ℕ) × LeadsThrough image n at mid × Passes image mid to
+
+-- the depth of the place is 0 from the start: it is the first, an operation starts there, or nothing goes there
+abbrev pub IsRoot : Image → ℕ → Type 0
+IsRoot image at = (at ≡ 0) ⊎ ((k : ℕ) × (entry : OpEntry) × (slice_get image.ops k ≡ Some entry) × (entry.start ≡ at)) ⊎ ((from : ℕ) → Passes image from at → ⊥)
+
+-- neither such a place nor a smaller one leads to it
+abbrev pub IsOpen : Image → ℕ → Type 0
+IsOpen image at = (from n : ℕ) → (IsRoot image from ⊎ (from < at)) → LeadsThrough image n from at → ⊥
+
+-- the image passes the loader's checks: the depth is 0 also at each place that nothing reaches, and at the smallest of
+-- the places whose depths follow from each other alone
+pub record IsLoadable (image : Image) : Type 0 where
+  pub numbered : IsNumbered image
+  pub depths : List ℕ
+  pub fitting : IsDepths image depths
+  pub rest : (at : ℕ) → at < length image.code → IsOpen image at → slice_index depths at ≡ 0
 
 -- a configuration fits an image with these depths: a place of the code, the place's depth of the stack, and the image's
 -- number of cells, with all numbers within the range

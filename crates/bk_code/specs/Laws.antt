@@ -1,5 +1,5 @@
 -- What holds of steps, ends and sessions.
-use Rattle.std.specs.Prelude.{◌≡◌, ◌≢◌, ◌↔◌, ℕ, suc, ◌+◌, ◌<◌, ◌≤◌, ℤ, List, length, All, Some, slice_get, slice_set}
+use Rattle.std.specs.Prelude.{◌≡◌, ◌≢◌, ◌↔◌, ℕ, suc, ◌+◌, ◌<◌, ◌≤◌, ℤ, List, [], ◌∷◌, length, All, Some, slice_get, slice_set}
 use Rattle.bk_code.specs.declared.image.Image.{Image}
 use Rattle.bk_code.specs.declared.image.OpEntry.{OpEntry}
 use Rattle.bk_code.specs.declared.instruction.Inst.TheVariants.{Push, Store, Ret}
@@ -8,7 +8,7 @@ use Rattle.bk_code.specs.Numbers.{int_max, IsWithin}
 use Rattle.bk_code.specs.Step.{Config, GoesOn, Traps, Stuck, step}
 use Rattle.bk_code.specs.Run.{End, Done, Trapped, OutOfFuel, Leads, ReturnsAfter, Ends}
 use Rattle.bk_code.specs.Session.{Request, Told, call_start, first_start, Session}
-use Rattle.bk_code.specs.Checks.{IsNumbered, IsDepths, IsFitting}
+use Rattle.bk_code.specs.Checks.{IsNumbered, IsDepths, IsChecked, IsLoadable, IsFitting}
 
 -- a number that is pushed and then stored goes to its cell, and the stack is as before
 abbrev pub StoresPushed : Type 0
@@ -113,3 +113,14 @@ abbrev pub HasSomeSession : Type 0
 HasSomeSession =
     (image : Image) (depths : List ℕ) (fuel : ℕ) (requests : List Request) → IsNumbered image → IsDepths image depths →
     All (IsRequest image) requests → (tolds : List Told) × Session image fuel requests tolds
+
+-- what the loader accepts is never stuck
+abbrev pub LoadableIsChecked : Type 0
+LoadableIsChecked = (image : Image) → IsLoadable image → IsChecked image
+
+-- an instruction that nothing reaches, and that would pop a number which is not there
+abbrev pub dead_store : Image
+dead_store = record { cells = 1; sets = []; ops = []; code = Ret ∷ Store 0 ∷ Ret ∷ [] }
+
+abbrev pub RefusesDeadStore : Type 0
+RefusesDeadStore = IsLoadable dead_store → ⊥

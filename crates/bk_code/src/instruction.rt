@@ -25,7 +25,7 @@ pub enum Inst {
     Ret,
 }
 
-/// Why an instruction can't be executed.
+/// Why an instruction stops the call.
 #[derive(Clone, Copy, PartialEq, Eq, Debug)]
 pub enum Trap {
     Overflow,

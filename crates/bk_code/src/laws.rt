@@ -1,6 +1,6 @@
 //! Laws of the definitions, as contracts of functions that do nothing.
 ghost use Rattle.bk_code.specs.CellValues.{StandsForOne};
-ghost use Rattle.bk_code.specs.Laws.{StoresPushed, EndsAtReturn, IsOutOfFuelBelow, IsTrapOutOfFuel, StaysDone, StaysTrapped, HasOneEnd, IsNeverStuck, KeepsFitting, HasSomeEnd, IsFirstFitting, IsCallFitting, HasOneSession, HasSomeSession};
+ghost use Rattle.bk_code.specs.Laws.{StoresPushed, EndsAtReturn, IsOutOfFuelBelow, IsTrapOutOfFuel, StaysDone, StaysTrapped, HasOneEnd, IsNeverStuck, KeepsFitting, HasSomeEnd, IsFirstFitting, IsCallFitting, HasOneSession, HasSomeSession, LoadableIsChecked, RefusesDeadStore};
 
 /// A Push with a Store behind it writes a cell and leaves the stack alone.
 pub fn pushes_store()
@@ -39,4 +39,10 @@ pub fn checked_images_are_safe()
 /// A number in a cell stands for one value of the cell's kind.
 pub fn numbers_stand_for_values()
     ensures { StandsForOne }
+{}
+
+/// What the loader accepts is checked, and in code that nothing reaches it asks for depths too.
+pub fn loader_checks()
+    ensures checked { LoadableIsChecked }
+    ensures dead_code { RefusesDeadStore }
 {}

@@ -1,3 +1,4 @@
 pub mod Tops
 pub mod Steps
 pub mod Calls
+pub mod Checked

@@ -47,14 +47,14 @@ room image place stack cells inst h is =
     let limit : slice_index h.depths place ≤ 1000 = h.deep.limit place h.fits.place in
     let enough : pops inst ≤ slice_index h.depths place = h.deep.enough place inst is in
     elim (grows inst place) [
-      inl less ↦ omega arith
-    | inr more ↦ (
-        let here : place < length image.code = h.fits.place in
-        let not_last : place + 1 ≡ length image.code → ⊥ = λ e. more.1 (h.numbered.last place inst is e) in
-        let stands : place + 1 < length image.code = omega arith in
-        let next : slice_index h.depths (place + 1) ≤ 1000 = h.deep.limit (place + 1) stands in
-        let flows = h.deep.flows place (place + 1) inst is more.0 in
-        omega arith)
+      | inl less ↦ omega arith
+      | inr more ↦ (
+          let here : place < length image.code = h.fits.place in
+          let not_last : place + 1 ≡ length image.code → ⊥ = λ e. more.1 (h.numbered.last place inst is e) in
+          let stands : place + 1 < length image.code = omega arith in
+          let next : slice_index h.depths (place + 1) ≤ 1000 = h.deep.limit (place + 1) stands in
+          let flows = h.deep.flows place (place + 1) inst is more.0 in
+          omega arith)
     ]
 
 pub executable : (image : Image) (place : ℕ) (stack cells : List ℤ) (inst : Inst) → IsReady image (standing place stack cells) →

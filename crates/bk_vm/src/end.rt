@@ -8,11 +8,7 @@ pub enum CallEnd {
     /// The step with this number was a Ret, the first one.
     Done { steps: u64 },
     /// After so many steps the instruction at the place `at` trapped. It is no step.
-    Trap {
-        kind: Trap,
-        at: u32,
-        steps: u64,
-    },
+    Trap { kind: Trap, at: u32, steps: u64 },
     /// As many steps as there was fuel, and the call goes on.
     OutOfFuel,
 }

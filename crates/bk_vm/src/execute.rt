@@ -137,7 +137,14 @@ fn target(place: usize, distance: i32) -> usize
 }
 
 // Pushes an element of an array, whose index is on the stack.
-fn load_element(place: usize, stack: &mut Stack, cells: &[i64], base: u32, low: i64, count: u32) -> Flow
+fn load_element(
+    place: usize,
+    stack: &mut Stack,
+    cells: &[i64],
+    base: u32,
+    low: i64,
+    count: u32,
+) -> Flow
     requires place { place < 2 ^ 32 }
     requires enough { 1 ≤ length stack.old }
     requires room { length stack.old ≤ 1000 }
@@ -154,7 +161,14 @@ fn load_element(place: usize, stack: &mut Stack, cells: &[i64], base: u32, low: 
 }
 
 // Writes an element of an array, whose index and number are on the stack.
-fn store_element(place: usize, stack: &mut Stack, cells: &mut [i64], base: u32, low: i64, count: u32) -> Flow
+fn store_element(
+    place: usize,
+    stack: &mut Stack,
+    cells: &mut [i64],
+    base: u32,
+    low: i64,
+    count: u32,
+) -> Flow
     requires place { place < 2 ^ 32 }
     requires enough { 2 ≤ length stack.old }
     requires range { All IsInRange stack.old }

@@ -10,3 +10,8 @@ mod stack;
 
 pub use end::CallEnd;
 pub use machine::Machine;
+
+#[cfg(test)]
+mod checker;
+#[cfg(test)]
+mod tests;

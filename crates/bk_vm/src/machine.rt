@@ -79,7 +79,15 @@ impl Machine {
         ensures stopped { self.new.stopped ≡ is_stop result }
         ensures cells { AreCells self.new.image self.new.cells }
     {
-        let end = run_operation(&self.image, op, args, outs, &mut self.stack, &mut self.cells, fuel);
+        let end = run_operation(
+            &self.image,
+            op,
+            args,
+            outs,
+            &mut self.stack,
+            &mut self.cells,
+            fuel,
+        );
         self.stopped = end.is_stop();
         end
     }
@@ -106,4 +114,3 @@ impl Machine {
         &self.image
     }
 }
-

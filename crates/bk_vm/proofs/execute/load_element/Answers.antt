@@ -14,6 +14,6 @@ returns-in-Some c =
     let stands : c.in-Some.cell < length c.args.cells.now = omega (arith, e.within) in
     record {
       outcome = settled ∙
-        sym (row-ALoad (pos 2147483647) c.args.base c.args.low c.args.count c.take_one-index.result c.args.place c.in-Some.cell
-             c.args.stack.now c.take_one-index.new.stack c.args.cells.now c.take_one-index.ensures.taken (sym is) stands)
+          sym (row-ALoad (pos 2147483647) c.args.base c.args.low c.args.count c.take_one-index.result c.args.place c.in-Some.cell
+          c.args.stack.now c.take_one-index.new.stack c.args.cells.now c.take_one-index.ensures.taken (sym is) stands);
     }
