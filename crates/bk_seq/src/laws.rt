@@ -7,5 +7,4 @@ pub fn validity()
     ensures assumed { IsAssumed }
     ensures weakens { Weakens }
     ensures contradicts { Contradicts }
-{
-}
+{}

@@ -28,11 +28,11 @@ config n stack cells = record { place = n; stack = stack; cells = cells }
 
 -- the initialisation leaves 0 in both cells
 begun : IsBegun nine 3 zeros
-begun = (3, config 2 [] zeros, (omega (arith), (config 1 (pos 0 ∷ []) zeros, (config 0 [] zeros, refl, refl), refl), refl), refl)
+begun = (3, config 2 [] zeros, (omega (arith), ((config 1 (pos 0 ∷ []) zeros, (config 0 [] zeros, refl, refl), refl), refl)), refl)
 
 -- setmax leaves 9
 stores-nine : Ends nine 3 (started setmax_entry setmax zeros) (Done 3) (config 8 [] (pos 9 ∷ pos 0 ∷ []))
-stores-nine = (omega (arith), (config 7 (pos 9 ∷ []) zeros, (config 6 [] zeros, refl, refl), refl), refl)
+stores-nine = (omega (arith), ((config 7 (pos 9 ∷ []) zeros, (config 6 [] zeros, refl, refl), refl), refl))
 
 is_call : IsCall counter setmax
 is_call = record { op = omega (arith); types = refl; range = refl }

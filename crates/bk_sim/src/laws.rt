@@ -4,6 +4,5 @@ ghost use Rattle.bk_sim.specs.Laws.{NineDoesNotFollow};
 
 /// A counter, to be checked by hand.
 pub fn counter()
-    ensures nine { NineDoesNotFollow }
-{
-}
+    ensures { NineDoesNotFollow }
+{}
