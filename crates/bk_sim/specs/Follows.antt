@@ -54,18 +54,38 @@ IsBegun image fuel l = (n : ℕ) × (d : Config) × Ends image fuel (first_start
 abbrev pub HasOperations : Development → Image → Type 0
 HasOperations dev image = (o : ℕ) → o < length dev.heads → (entry : OpEntry) × IsEntry image o entry × (length entry.inputs ≡ length (inputs_of dev o)) × (length entry.outputs ≡ length (body_at dev 0 o).outputs)
 
--- the code follows the machine, with every fuel and for every list of calls, up to the first whose precondition may be false
+-- the initialisation does not trap, ends with some fuel, and leaves cells that are linked to a state in which the machine opens
+abbrev pub OpensWell : Finder → Development → Image → Type 0
+OpensWell find dev image = (fuel : ℕ) → GoesWell image fuel (first_start image) (λ m. (a : Abstract) × Opens find dev a × Linked find dev a m)
+
+-- with some fuel a call is done
+abbrev pub IsDone : Image → Config → Type 0
+IsDone image start = (fuel : ℕ) × (n : ℕ) × (d : Config) × Ends image fuel start (Done n) d
+
+-- the machine has a step with the call's replies to a state that is linked to the cells
+abbrev pub IsStep : Finder → Development → Call → OpEntry → Abstract → List ℤ → Type 0
+IsStep find dev c entry a k = (b : Abstract) × Steps find dev c a (replies dev c.op entry.outputs k) b × Linked find dev b k
+
+-- from each linked pair in which the precondition is true, a call is done with some fuel, traps with none, and is a step
+abbrev pub CallsGoWell : Finder → Development → Image → Type 0
+CallsGoWell find dev image = (a : Abstract) (m : List ℤ) (c : Call) (entry : OpEntry) → Linked find dev a m → IsCall dev c → Pre find dev c a → IsEntry image c.op entry →
+    IsDone image (started entry c m) × ((fuel : ℕ) → GoesWell image fuel (started entry c m) (IsStep find dev c entry a))
+
+-- the machine reaches a state by these calls, with these replies and then the call's, that is linked to the cells
+abbrev pub IsReached : Finder → Development → List Call → Call → List (List MathValue) → OpEntry → List ℤ → Type 0
+IsReached find dev cs c outs entry k = (a : Abstract) × Reach find dev (cs ++ c ∷ []) (outs ++ replies dev c.op entry.outputs k ∷ []) a × Linked find dev a k
+
+-- after calls cs that are done, a call c, where all calls up to it and with it are legal, does not trap, ends with some fuel, and
+-- leaves cells that are linked to a state which the machine reaches with these replies
+abbrev pub SessionsGoWell : Finder → Development → Image → Type 0
+SessionsGoWell find dev image = (fuel : ℕ) (l m : List ℤ) (cs : List Call) (c : Call) (outs : List (List MathValue)) (entry : OpEntry) →
+    IsBegun image fuel l → AreCalls dev cs → IsCall dev c → AreDone dev image fuel l cs outs m → Legal find dev (cs ++ c ∷ []) outs → IsEntry image c.op entry →
+    GoesWell image fuel (started entry c m) (IsReached find dev cs c outs entry)
+
+-- the code follows the machine: with every fuel and for every list of calls, up to the first whose precondition may be false,
+-- and call by call
 pub record Follows (find : Finder) (dev : Development) (image : Image) : Type 0 where
   pub operations : HasOperations dev image
-  -- the initialisation does not trap, ends with some fuel, and leaves cells that are linked to a state in which the machine opens
-  pub opening : (fuel : ℕ) → GoesWell image fuel (first_start image) (λ m. (a : Abstract) × Opens find dev a × Linked find dev a m)
-  -- after calls cs that are done, a call c for which all calls are legal does not trap, ends with some fuel, and leaves cells
-  -- that are linked to a state which the machine reaches with these replies
-  pub session : (fuel : ℕ) (l m : List ℤ) (cs : List Call) (c : Call) (outs : List (List MathValue)) (entry : OpEntry) →
-      IsBegun image fuel l → AreCalls dev cs → IsCall dev c → AreDone dev image fuel l cs outs m → Legal find dev (cs ++ c ∷ []) outs → IsEntry image c.op entry →
-      GoesWell image fuel (started entry c m) (λ k. (a : Abstract) × Reach find dev (cs ++ c ∷ []) (outs ++ replies dev c.op entry.outputs k ∷ []) a × Linked find dev a k)
-  -- from each linked pair in which the precondition is true, a call is done with some fuel and traps with none, and the machine
-  -- has a step with its replies to a state that is linked to the cells
-  pub local : (a : Abstract) (m : List ℤ) (c : Call) (entry : OpEntry) → Linked find dev a m → IsCall dev c → Pre find dev c a → IsEntry image c.op entry →
-      ((fuel : ℕ) × (n : ℕ) × (d : Config) × Ends image fuel (started entry c m) (Done n) d)
-      × ((fuel : ℕ) → GoesWell image fuel (started entry c m) (λ k. (b : Abstract) × Steps find dev c a (replies dev c.op entry.outputs k) b × Linked find dev b k))
+  pub opening : OpensWell find dev image
+  pub session : SessionsGoWell find dev image
+  pub local : CallsGoWell find dev image
