@@ -16,7 +16,7 @@ use Rattle.bk_dev.specs.Counter.{counter_table, counter_with, counter, forbidden
 use Rattle.bk_dev.specs.Laws.{ReachesTen, AnswersTen, LegalWhere}
 
 -- a state of numbers is typed
-numbers-typed : (e : State) → ((n : ℕ) → is_value_of (set_size counter_table) int_type (e n) ≡ true) → IsTypedState counter_table e
+pub numbers-typed : (e : State) → ((n : ℕ) → is_value_of (set_size counter_table) int_type (e n) ≡ true) → IsTypedState counter_table e
 numbers-typed e h = record { typed = at }
   where
     same : (t : ValueType) (n : ℕ) → Some int_type ≡ Some t → is_value_of (set_size counter_table) t (e n) ≡ true
@@ -30,10 +30,10 @@ numbers-typed e h = record { typed = at }
     at (suc (suc (suc (suc n)))) t q = absurd (cc)
 
 -- every variable has this number
-all_at : ℕ → State
+pub all_at : ℕ → State
 all_at k n = int (pos k)
 
-all-typed : (k : ℕ) → IsTypedState counter_table (all_at k)
+pub all-typed : (k : ℕ) → IsTypedState counter_table (all_at k)
 unfolding all_at
 all-typed k = numbers-typed (all_at k) (λ n. refl)
 
@@ -42,7 +42,7 @@ abbrev at_ten : State
 at_ten n = with_value (all_at 0) 0 (int (pos 10)) n
 
 module _ (find : Finder) (condition : Formula) where
-  opens-at-zero : Opens find (counter_with condition) (int (pos 0) ∷ [])
+  pub opens-at-zero : Opens find (counter_with condition) (int (pos 0) ∷ [])
   unfolding all_at
   opens-at-zero = (all_at 0, assigned find counter_table ((0, literal (pos 0)) ∷ []) (all_at 0), all-typed 0, tt, refl, refl)
 
