@@ -1,5 +1,5 @@
 -- The arrays of an implementation, and the cells that its variables have.
-use Rattle.std.specs.Prelude.{ℕ, zero, suc, ◌+◌, nat_eq, ℤ, pos, negsuc, ◌+ℤ◌, ◌-ℤ◌, Bool, true, false, not, ◌&&◌, cond, int_le, List, [], ◌∷◌, ◌++◌, map, Option, Some, None}
+use Rattle.std.specs.Prelude.{ℕ, zero, suc, ◌+◌, nat_eq, ℤ, pos, negsuc, ◌+ℤ◌, ◌-ℤ◌, Bool, true, false, not, ◌&&◌, ◌||◌, cond, int_le, List, [], ◌∷◌, ◌++◌, map, Option, Some, None}
 use Rattle.std.specs.List.{flat_map, filter_map, filter, list_all}
 use Rattle.bk_val.specs.ValueType.{ValueType, int_type, bool_type, enum_type, pair_type, set_type}
 use Rattle.bk_form.specs.Table.{Table, set_size, variable_type}
@@ -7,7 +7,8 @@ use Rattle.bk_form.specs.Formula.{Formula, variable, literal, empty_set, unary, 
 use Rattle.bk_form.specs.Replacement.{occurs}
 use Rattle.bk_form.specs.ArrayTable.{ArrayTable, row_of}
 use Rattle.bk_form.specs.Operators.{count_of}
-use Rattle.bk_form.specs.declared.operator.BinOp.TheVariants.{And, Eq, In, TotalFunctions, Range, Union, Inter, Minus}
+use Rattle.bk_form.specs.declared.operator.BinOp.TheVariants.{And, Eq, In, TotalFunctions, Range, Union, Inter, Minus, Over, Maps}
+use Rattle.bk_form.specs.declared.operator.UnOp.TheVariants.{Single}
 use Rattle.bk_form.specs.declared.operator.Domain.TheVariants.{Bool as Booleans, Enum}
 use Rattle.bk_form.specs.declared.arrays.ArrayRow.{ArrayRow}
 use Rattle.bk_form.specs.declared.arrays.ArrayDomain.{ArrayDomain}
@@ -43,17 +44,20 @@ abbrev pub right_side : Formula → Formula
 right_side (binary o a b) = b
 right_side p = p
 
--- {} has no type of its own, and sets that are made of it alone have none
-abbrev pub is_empty : Formula → Bool
-is_empty (empty_set t) = true
-is_empty (binary Union a b) = is_empty a && is_empty b
-is_empty (binary Inter a b) = is_empty a && is_empty b
-is_empty (binary Minus a b) = is_empty a && is_empty b
-is_empty f = false
+-- {} has no type of its own, and sets and pairs that are made of it have none
+abbrev pub lacks_type : Formula → Bool
+lacks_type (empty_set t) = true
+lacks_type (binary Union a b) = lacks_type a && lacks_type b
+lacks_type (binary Inter a b) = lacks_type a && lacks_type b
+lacks_type (binary Minus a b) = lacks_type a && lacks_type b
+lacks_type (binary Over a b) = lacks_type a && lacks_type b
+lacks_type (unary Single a) = lacks_type a
+lacks_type (binary Maps a b) = lacks_type a || lacks_type b
+lacks_type f = false
 
 -- its right side has a type where these variables have none
 abbrev pub is_typing : List ℕ → Formula → Bool
-is_typing typeless p = list_all (λ n. not (occurs n (right_side p))) typeless && not (is_empty (right_side p))
+is_typing typeless p = list_all (λ n. not (occurs n (right_side p))) typeless && not (lacks_type (right_side p))
 
 -- the first conjunct that gives the variable a type says what it is; each such conjunct gives its variable a type for those after it
 abbrev pub first_clue : ℕ → List ℕ → List Formula → Clue
