@@ -57,13 +57,16 @@ asked op = record { op = op; args = [] }
 
 module _ (find : Finder) where
   linked-to : (e : State) (n : ℕ) (r : ℤ) → IsTypedState counter_table e → AreOfKinds counter (1 ∷ 3 ∷ []) (pos n ∷ r ∷ []) → AreTrue find counter_table (both n e) (joinings_of counter 2) → Linked find counter (int (pos n) ∷ []) (pos n ∷ r ∷ [])
-  linked-to e n r t kinds joined = (both n e, record {
-    typed = with_value-typed counter_table (with_value e 0 (int (pos n))) (with_value-typed counter_table e t 0 (int (pos n)) refl) 1 (int (pos n)) refl;
-    values = tt;
-    abstract_state = refl;
-    cells = record { kinds = kinds; variables = refl };
-    joined = joined;
-  })
+  linked-to e n r t kinds joined = (
+    both n e,
+    record {
+      typed = with_value-typed counter_table (with_value e 0 (int (pos n))) (with_value-typed counter_table e t 0 (int (pos n)) refl) 1 (int (pos n)) refl;
+      values = tt;
+      abstract_state = refl;
+      cells = record { kinds = kinds; variables = refl };
+      joined = joined;
+    },
+  )
 
   opening : OpensWell find counter ten
   opening fuel =
@@ -97,14 +100,20 @@ module _ (find : Finder) where
       sym (same_value (l.0 1) (l.0 0) l.1.joined.1.1.0) ∙ below
 
   gets : (a : Abstract) (z r : ℤ) → Linked find counter a (z ∷ r ∷ []) → GoesOn a (z ∷ r ∷ []) (asked 2) get_entry
-  gets a z r l = goes-on a (z ∷ r ∷ []) (asked 2) get_entry (config 11 [] (z ∷ z ∷ [])) ((config 10 (z ∷ []) (z ∷ r ∷ []), (config 9 [] (z ∷ r ∷ []), refl, refl), refl), refl)
-      (a, (l.0, assigned find counter_table ((2, variable 0) ∷ []) l.0, gives a (z ∷ r ∷ []) 2 refl l, refl, ap (λ v. v ∷ []) (first-cell a z r l), l.1.abstract_state), (l.0, record {
+  gets a z r l = goes-on a (z ∷ r ∷ []) (asked 2) get_entry (config 11 [] (z ∷ z ∷ [])) ((config 10 (z ∷ []) (z ∷ r ∷ []), (config 9 [] (z ∷ r ∷ []), refl, refl), refl), refl) (
+    a,
+    (l.0, assigned find counter_table ((2, variable 0) ∷ []) l.0, gives a (z ∷ r ∷ []) 2 refl l, refl, ap (λ v. v ∷ []) (first-cell a z r l), l.1.abstract_state),
+    (
+      l.0,
+      record {
         typed = l.1.typed;
         values = tt;
         abstract_state = l.1.abstract_state;
         cells = record { kinds = (refl, l.1.cells.kinds.1, (refl, l.1.cells.kinds.1, tt)); variables = l.1.cells.variables };
         joined = l.1.joined;
-      }))
+      },
+    ),
+  )
 
   by_op : (a : Abstract) (z r : ℤ) (op : ℕ) (args : List MathValue) (entry : OpEntry) → Linked find counter a (z ∷ r ∷ []) → IsCall counter (record { op = op; args = args }) → IsEntry ten op entry → GoesOn a (z ∷ r ∷ []) (record { op = op; args = args }) entry
   by_op a z r zero [] entry l is e = let k : reset_entry ≡ entry = cc in subst (λ x. GoesOn a (z ∷ r ∷ []) (asked 0) x) k (resets a z r l)

@@ -8,7 +8,7 @@ use Rattle.bk_code.specs.declared.image.CellKind.TheVariants.{Integer}
 use Rattle.bk_code.specs.declared.instruction.Inst.{Inst}
 use Rattle.bk_code.specs.declared.instruction.Inst.TheVariants.{Push, Load, Store, Ret}
 
--- n of the implementation is in cell 0, and the output of get in cell 1
+-- an operation without inputs
 abbrev pub entry_at : List ℕ → ℕ → List Parameter → OpEntry
 entry_at name place outputs = record { name = name; start = place; inputs = []; outputs = outputs }
 
@@ -25,7 +25,7 @@ get_entry = entry_at get_name 9 (record { kind = Integer; slot = 1 } ∷ [])
 abbrev pub storing : ℕ → List Inst → List Inst
 storing n rest = Push (pos n) ∷ Store 0 ∷ Ret ∷ rest
 
--- setmax stores this number
+-- setmax stores this number; n of the implementation is in cell 0, and the output of get in cell 1
 abbrev pub counter_code : ℕ → Image
 counter_code n = record {
   cells = 2;
