@@ -1,0 +1,67 @@
+-- What the obligations of a development say: the machine keeps its invariant, and each level carries the one above.
+use Rattle.std.specs.Prelude.{◌≡◌, ◌<◌, ◌≤◌, ℕ, suc, true, cond, List, [], ◌∷◌, ◌++◌, length, map, take, Option, Some, None}
+use Rattle.bk_form.specs.ArrayTable.{ArrayTable}
+use Rattle.bk_form.specs.Formula.{Formula}
+use Rattle.bk_form.specs.Search.{Finder}
+use Rattle.bk_form.specs.Environment.{State}
+use Rattle.bk_form.specs.Defined.{Defined}
+use Rattle.bk_gsl.specs.Substitution.{Substitution}
+use Rattle.bk_gsl.specs.State.{at_state, holds, IsTypedState}
+use Rattle.bk_gsl.specs.Run.{Runs, Ends}
+use Rattle.bk_gsl.specs.Clean.{Clean}
+use Rattle.bk_dev.specs.Development.{Body, Level, Development, level_at, body_at, last, is_implementation, whole}
+use Rattle.bk_dev.specs.Flattened.{flattened}
+use Rattle.bk_dev.specs.Hypotheses.{AreTrue, conjuncts, link_equation, properties_of, joining, init_hypotheses, unasserted_hypotheses}
+use Rattle.bk_dev.specs.Layout.{arrays_of}
+use Rattle.bk_dev.specs.Machine.{HasValues}
+
+-- in an implementation executed expressions fit the machine
+abbrev pub arrays_at : Development → ℕ → Option ArrayTable
+arrays_at dev k = cond (is_implementation (level_at dev k)) (Some (arrays_of dev)) None
+
+-- it ends, is clean, and each of its results has P
+pub record Establishes (find : Finder) (dev : Development) (k : ℕ) (s : Substitution) (e : State) (P : State → Type 0) : Type 0 where
+  pub ends : Ends find dev.table s e
+  pub clean : Clean find dev.table (arrays_at dev k) s e
+  pub results : (f : State) → Runs find dev.table s e f → P f
+
+-- of a development whose substitutions are flat
+pub record KeepsFlat (find : Finder) (dev : Development) : Type 0 where
+  pub init : (e : State) → IsTypedState dev.table e → AreTrue find dev.table e (init_hypotheses dev 0) →
+      Establishes find dev 0 (level_at dev 0).init e (λ f. holds find dev.table f (level_at dev 0).invariant ≡ true)
+  pub conditions : (o : ℕ) → o < length dev.heads → (e : State) → IsTypedState dev.table e → AreTrue find dev.table e (properties_of dev 1) → holds find dev.table e (level_at dev 0).invariant ≡ true →
+      Defined find (at_state dev.table e) (body_at dev 0 o).condition
+  pub operations : (o : ℕ) → o < length dev.heads → (e : State) → IsTypedState dev.table e → AreTrue find dev.table e (properties_of dev 1) → holds find dev.table e (level_at dev 0).invariant ≡ true → holds find dev.table e (body_at dev 0 o).condition ≡ true →
+      Establishes find dev 0 (body_at dev 0 o).sub e (λ f. holds find dev.table f (level_at dev 0).invariant ≡ true)
+
+-- the machine's initialisation and operations keep its invariant
+abbrev pub Keeps : Finder → Development → Type 0
+Keeps find dev = KeepsFlat find (flattened dev)
+
+-- each output with the one above
+abbrev pub beside : List ℕ → List ℕ → List (ℕ × ℕ)
+beside (n ∷ ns) (m ∷ ms) = (n, m) ∷ beside ns ms
+beside _ _ = []
+
+-- the invariant and the links of level k, and the outputs of the two levels are equal
+abbrev pub JoinsAt : Finder → Development → ℕ → List ℕ → List ℕ → State → Type 0
+JoinsAt find dev k outputs above e = AreTrue find dev.table e (joining (level_at dev k) ++ map link_equation (beside outputs above))
+
+-- each result of the lower substitution can be answered by the upper one
+abbrev pub Answered : Finder → Development → ℕ → Substitution → List ℕ → List ℕ → State → Type 0
+Answered find dev k upper outputs above f = (g : State) × Runs find dev.table upper f g × JoinsAt find dev k outputs above g
+
+-- of a development whose substitutions are flat; level suc j carries level j
+pub record CarriesFlat (find : Finder) (dev : Development) (j : ℕ) : Type 0 where
+  pub init : (e : State) → IsTypedState dev.table e → AreTrue find dev.table e (init_hypotheses dev (suc j)) →
+      Establishes find dev (suc j) (level_at dev (suc j)).init e (Answered find dev (suc j) (level_at dev j).init [] [])
+  pub operations : (o : ℕ) → o < length dev.heads → (e : State) → IsTypedState dev.table e → AreTrue find dev.table e (unasserted_hypotheses dev (suc j) o) →
+      Establishes find dev (suc j) (whole (body_at dev (suc j) o)) e (Answered find dev (suc j) (body_at dev j o).sub (body_at dev (suc j) o).outputs (body_at dev j o).outputs)
+
+-- level suc j carries level j: each of its whole bodies ends, is clean, and from each of its results the body above has one in which the levels join
+abbrev pub Carries : Finder → Development → ℕ → Type 0
+Carries find dev j = CarriesFlat find (flattened dev) j
+
+-- the constants' values meet all properties
+abbrev pub ValuesMeet : Finder → Development → Type 0
+ValuesMeet find dev = (e : State) → IsTypedState dev.table e → HasValues find dev e → AreTrue find dev.table e (properties_of dev (length dev.levels))

@@ -1,0 +1,93 @@
+-- A development: a machine, its chain of refinements and at most one implementation (B-Book, Theory of Abstract Machines and Refinement).
+use Rattle.std.specs.Prelude.{ℕ, ◌-◌, ℤ, pos, Bool, true, false, cond, List, [], ◌∷◌, length, slice_index_or}
+use Rattle.bk_form.specs.Table.{Table, SetEntry}
+use Rattle.bk_form.specs.Formula.{Formula, btrue}
+use Rattle.bk_gsl.specs.Substitution.{Substitution, skip, pre}
+use Rattle.bk_dev.specs.declared.kind.Kind.{Kind}
+use Rattle.bk_dev.specs.declared.kind.Kind.TheVariants.{Refinement, Implementation}
+use Rattle.bk_dev.specs.declared.kind.Home.{Home}
+
+-- an operation's header, the same at every level
+pub record Head : Type 0 where
+  pub name : List ℕ
+  pub inputs : List ℕ
+  -- how many outputs it has
+  pub outputs : ℕ
+
+-- an operation at one level: its outermost precondition, which is btrue where there is none, and the rest
+pub record Body : Type 0 where
+  pub condition : Formula
+  pub sub : Substitution
+  pub outputs : List ℕ
+
+-- a component
+pub record Level : Type 0 where
+  pub name : List ℕ
+  pub kind : Kind
+  pub vars : List ℕ
+  pub properties : Formula
+  pub invariant : Formula
+  -- a variable of this level, and the one of the level above that stands under its name
+  pub links : List (ℕ × ℕ)
+  pub assertions : List Formula
+  pub init : Substitution
+  -- in the order of the headers
+  pub bodies : List Body
+
+pub record Development : Type 0 where
+  pub table : Table
+  -- where each variable of the table is at home
+  pub homes : List Home
+  pub sets : List SetEntry
+  pub heads : List Head
+  -- the machine first
+  pub levels : List Level
+  -- the constants' values, in the order of the VALUES clause
+  pub values : List (ℕ × Formula)
+
+-- MAXINT; MININT is its negation
+abbrev pub int_max : Development → ℤ
+int_max dev = pos 2147483647
+
+abbrev pub blank_body : Body
+blank_body = record { condition = btrue; sub = skip; outputs = [] }
+
+abbrev pub blank_level : Level
+blank_level = record { name = []; kind = Refinement; vars = []; properties = btrue; invariant = btrue; links = []; assertions = []; init = skip; bodies = [] }
+
+-- the level of this number, 0 being the machine's
+abbrev pub level_at : Development → ℕ → Level
+level_at dev k = slice_index_or dev.levels k blank_level
+
+abbrev pub body_of : Level → ℕ → Body
+body_of l o = slice_index_or l.bodies o blank_body
+
+-- operation o at level k
+abbrev pub body_at : Development → ℕ → ℕ → Body
+body_at dev k o = body_of (level_at dev k) o
+
+abbrev pub inputs_of : Development → ℕ → List ℕ
+inputs_of dev o = (slice_index_or dev.heads o (record { name = []; inputs = []; outputs = 0 })).inputs
+
+-- the number of the last level
+abbrev pub last : Development → ℕ
+last dev = length dev.levels - 1
+
+abbrev pub is_implementing : Kind → Bool
+is_implementing Implementation = true
+is_implementing _ = false
+
+abbrev pub is_implementation : Level → Bool
+is_implementation l = is_implementing l.kind
+
+-- whether the last level is an implementation
+abbrev pub is_complete : Development → Bool
+is_complete dev = is_implementation (level_at dev (last dev))
+
+abbrev pub is_btrue : Formula → Bool
+is_btrue btrue = true
+is_btrue _ = false
+
+-- the whole body, with its outermost precondition where there is one
+abbrev pub whole : Body → Substitution
+whole b = cond (is_btrue b.condition) b.sub (pre b.condition b.sub)

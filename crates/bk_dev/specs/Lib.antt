@@ -1,0 +1,10 @@
+pub mod Development
+pub mod DevelopmentCodes
+pub mod Flattened
+pub mod Hypotheses
+pub mod Layout
+pub mod Facts
+pub mod Machine
+pub mod Claims
+pub mod Counter
+pub mod Laws

@@ -1,0 +1,4 @@
+pub mod Examples
+pub mod Runs
+pub mod States
+pub mod Ordered

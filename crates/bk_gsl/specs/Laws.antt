@@ -1,0 +1,53 @@
+-- Laws of substitutions, as statements.
+use Rattle.std.specs.Prelude.{◌≡◌, ◌↔◌, ℕ, ℤ, pos, true, false, List, [], ◌∷◌, Some, None}
+use Rattle.bk_val.specs.Value.{MathValue, int}
+use Rattle.bk_val.specs.ValueType.{int_type}
+use Rattle.bk_form.specs.Table.{Table, variable_type, IsWellFormed}
+use Rattle.bk_form.specs.Formula.{Formula, variable, literal, binary, btrue}
+use Rattle.bk_form.specs.Search.{Finder}
+use Rattle.bk_form.specs.Environment.{State}
+use Rattle.bk_form.specs.declared.operator.BinOp.TheVariants.{Lt, Sub, Add}
+use Rattle.bk_gsl.specs.Substitution.{Substitution, skip, assign, pre, any, par, loop}
+use Rattle.bk_gsl.specs.State.{holds, IsTypedState, among}
+use Rattle.bk_gsl.specs.Writes.{writes}
+use Rattle.bk_gsl.specs.Run.{Runs, Ends}
+use Rattle.bk_gsl.specs.Typed.{Types}
+
+-- outside what it writes a run changes nothing
+abbrev pub ChangesOnlyWrites : Type 0
+ChangesOnlyWrites = (find : Finder) (table : Table) (s : Substitution) (e f : State) → Runs find table s e f → (n : ℕ) → among (writes s) n ≡ false → f n ≡ e n
+
+-- a run from a typed state ends in a typed state
+abbrev pub KeepsTypes : Type 0
+KeepsTypes = (find : Finder) (table : Table) → IsWellFormed table → (s : Substitution) → Types table s → (e f : State) → IsTypedState table e → Runs find table s e f → IsTypedState table f
+
+-- a precondition changes no run, and nothing ends where it is false
+pub record PreconditionMeans : Type 0 where
+  pub runs : (find : Finder) (table : Table) (p : Formula) (s : Substitution) (e f : State) → Runs find table (pre p s) e f ↔ Runs find table s e f
+  pub ends : (find : Finder) (table : Table) (p : Formula) (s : Substitution) (e : State) → holds find table e p ≡ false → Ends find table (pre p s) e → ⊥
+
+-- x := y || y := x
+abbrev pub swap : ℕ → ℕ → Substitution
+swap x y = par (assign ((x, variable y) ∷ [])) (assign ((y, variable x) ∷ []))
+
+-- it runs from everywhere, and swaps the two values
+pub record Swaps : Type 0 where
+  pub runs : (find : Finder) (table : Table) (e : State) → (f : State) × Runs find table (swap 0 1) e f
+  pub values : (find : Finder) (table : Table) (e f : State) → Runs find table (swap 0 1) e f → (f 0 ≡ e 1) × (f 1 ≡ e 0)
+
+-- a local variable has its old value after the run
+abbrev pub PutsBack : Type 0
+PutsBack = (find : Finder) (table : Table) (z : ℕ) (s : Substitution) (e f : State) → Runs find table (any (z ∷ []) s) e f → f z ≡ e z
+
+-- WHILE 0 < x0 DO x0 := x0 - 1 END
+abbrev pub count_down : Substitution
+count_down = loop (binary Lt (literal (pos 0)) (variable 0)) (assign ((0, binary Sub (variable 0) (literal (pos 1))) ∷ [])) btrue (variable 0)
+
+-- it ends from every number, and leaves 0 from one that is not negative
+pub record CountsDown : Type 0 where
+  pub ends : (find : Finder) (table : Table) (e : State) (z : ℤ) → e 0 ≡ int z → Ends find table count_down e
+  pub runs : (find : Finder) (table : Table) (e f : State) (n : ℕ) → e 0 ≡ int (pos n) → Runs find table count_down e f → f 0 ≡ int (pos 0)
+
+-- WHILE btrue DO skip END ends from nowhere
+abbrev pub NeverEnds : Type 0
+NeverEnds = (find : Finder) (table : Table) (e : State) → Ends find table (loop btrue skip btrue (literal (pos 0))) e → ⊥

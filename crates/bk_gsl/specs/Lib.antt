@@ -1,0 +1,13 @@
+pub mod Substitution
+pub mod State
+pub mod Writes
+pub mod Run
+pub mod Clean
+pub mod Flat
+pub mod Typed
+pub mod Laws
+pub mod SubSize
+pub mod SubCodes
+pub mod SubView
+pub mod SubFalls
+pub mod Reads

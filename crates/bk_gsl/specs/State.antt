@@ -1,0 +1,54 @@
+-- States: a value for each variable, by its number.
+use Rattle.std.specs.Prelude.{◌≡◌, ℕ, nat_eq, Bool, true, false, ◌||◌, cond, List, [], ◌∷◌, map, Some, unwrap_or}
+use Rattle.bk_val.specs.Value.{MathValue}
+use Rattle.bk_val.specs.ValueType.{ValueType, bool_type, is_value_of, are_of_types}
+use Rattle.bk_form.specs.Table.{Table, set_size, variable_type}
+use Rattle.bk_form.specs.Formula.{Formula}
+use Rattle.bk_form.specs.Search.{Finder}
+use Rattle.bk_form.specs.Environment.{Environment, State}
+use Rattle.bk_form.specs.Meaning.{value, truth}
+
+-- what formulas see in a state
+abbrev pub at_state : Table → State → Environment
+at_state table e = record { table = table; state = e; bound = [] }
+
+-- whether a predicate is true in a state
+abbrev pub holds : Finder → Table → State → Formula → Bool
+holds find table e p = truth find (at_state table e) p
+
+-- the value of an expression in a state
+abbrev pub value_at : Finder → Table → State → Formula → MathValue
+value_at find table e f = value find (at_state table e) f
+
+-- each variable of the table has a value of its type
+pub record IsTypedState (table : Table) (e : State) : Type 0 where
+  pub typed : (n : ℕ) (t : ValueType) → variable_type table n ≡ Some t → is_value_of (set_size table) t (e n) ≡ true
+
+-- the type of a variable; that of one which the table does not list does not matter
+abbrev pub declared_type : Table → ℕ → ValueType
+declared_type table n = unwrap_or (variable_type table n) bool_type
+
+-- one value of its type for each of the variables
+abbrev pub are_values_for : Table → List ℕ → List MathValue → Bool
+are_values_for table zs vs = are_of_types (set_size table) (map (declared_type table) zs) vs
+
+abbrev pub with_value : State → ℕ → MathValue → State
+with_value e z v n = cond (nat_eq n z) v (e n)
+
+-- the state with these values for these variables
+abbrev pub with_values : State → List ℕ → List MathValue → State
+with_values e [] vs = e
+with_values e (z ∷ zs) [] = e
+with_values e (z ∷ zs) (v ∷ vs) = with_values (with_value e z v) zs vs
+
+abbrev pub among : List ℕ → ℕ → Bool
+among [] n = false
+among (z ∷ zs) n = nat_eq n z || among zs n
+
+-- d where the test passes, and e elsewhere
+abbrev pub over : (ℕ → Bool) → State → State → State
+over at d e n = cond (at n) (d n) (e n)
+
+abbrev pub firsts : {A : Type 0} → List (ℕ × A) → List ℕ
+firsts [] = []
+firsts (p ∷ ps) = p.0 ∷ firsts ps

@@ -1,0 +1,18 @@
+-- Laws of validity, as statements.
+use Rattle.std.specs.Prelude.{◌≡◌, List, [], ◌∷◌}
+use Rattle.bk_form.specs.Table.{Table}
+use Rattle.bk_form.specs.Formula.{Formula, bfalse, unary}
+use Rattle.bk_form.specs.declared.operator.UnOp.TheVariants.{Not}
+use Rattle.bk_seq.specs.Valid.{IsValid}
+
+-- a goal that is the first hypothesis
+abbrev pub IsAssumed : Type 0
+IsAssumed = (table : Table) (p : Formula) (hyps : List Formula) → IsValid table (p ∷ hyps) p
+
+-- a further hypothesis keeps a sequent valid
+abbrev pub Weakens : Type 0
+Weakens = (table : Table) (p goal : Formula) (hyps : List Formula) → IsValid table hyps goal → IsValid table (p ∷ hyps) goal
+
+-- where the negated goal leads to what is never true, the goal holds
+abbrev pub Contradicts : Type 0
+Contradicts = (table : Table) (goal : Formula) (hyps : List Formula) → IsValid table (unary Not goal ∷ hyps) bfalse → IsValid table hyps goal

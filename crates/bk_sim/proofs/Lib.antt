@@ -1,0 +1,4 @@
+pub mod Nine
+pub mod Chain
+pub mod Ends
+pub mod Ten

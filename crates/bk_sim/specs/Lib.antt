@@ -1,0 +1,4 @@
+pub mod Shows
+pub mod Follows
+pub mod CounterCode
+pub mod Laws

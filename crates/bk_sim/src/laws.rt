@@ -1,0 +1,14 @@
+//! What follows a machine, and what does not. Each law is the contract of a function that does nothing.
+
+ghost use Rattle.bk_sim.specs.Laws.{CallsDecide, TenFollows, NineDoesNotFollow};
+
+/// Code follows a machine where it opens well and each call goes well.
+pub fn calls_decide()
+    ensures { CallsDecide }
+{}
+
+/// A counter, to be checked by hand.
+pub fn counter()
+    ensures ten { TenFollows }
+    ensures nine { NineDoesNotFollow }
+{}
