@@ -3,3 +3,4 @@ pub mod Ends
 pub mod Flows
 pub mod Depth
 pub mod Places
+pub mod Sessions

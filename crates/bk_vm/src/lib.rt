@@ -4,11 +4,13 @@
 mod arithmetic;
 mod end;
 mod execute;
+mod laws;
 mod machine;
 mod operation;
 mod stack;
 
 pub use end::CallEnd;
+pub use laws::calls_make_a_session;
 pub use machine::Machine;
 
 #[cfg(test)]
