@@ -1,16 +1,16 @@
 -- The counter is a development.
-use Rattle.std.proofs.Common.{◌≡◌, ◌<◌, ◌^◌, ◌||◌, ℕ, zero, suc, pos, List, [], ◌∷◌, length, refl, sym, ◌∙◌, ap, subst, Bool, true, false, All, IsTrue, arith}
-use Rattle.std.specs.Prelude.{nat_eq, Option, Some, None, slice_index_or}
+use Rattle.std.proofs.Common.{◌≡◌, ◌||◌, ℕ, zero, suc, pos, List, [], ◌∷◌, refl, sym, ap, subst, Bool, true, false, All, IsTrue, arith}
+use Rattle.std.specs.Prelude.{nat_eq, Some}
 use Rattle.bk_val.specs.ValueType.{int_type}
 use Rattle.bk_form.specs.Table.{variable_type, lists_type, IsWellFormed}
-use Rattle.bk_form.specs.Formula.{Formula, variable, literal, binary, btrue}
+use Rattle.bk_form.specs.Formula.{variable, literal, binary, btrue}
 use Rattle.bk_form.specs.declared.operator.BinOp.TheVariants.{In, Range}
-use Rattle.bk_gsl.specs.Substitution.{Substitution, assign}
+use Rattle.bk_gsl.specs.Substitution.{assign}
 use Rattle.bk_gsl.specs.State.{among}
 use Rattle.bk_gsl.proofs.States.{nat_eq-same}
-use Rattle.bk_dev.specs.Development.{Head, Body, Level, Development, level_at, body_at}
+use Rattle.bk_dev.specs.Development.{Body, level_at, body_at}
 use Rattle.bk_gsl.specs.Typed.{IsTerm}
-use Rattle.bk_dev.specs.Facts.{AllAlike, is_constant, is_variable_of, is_inner_of, home_of, Names, names_constants, names_joined, names_own, writes_own, IsSubOf, IsBodyOf, IsStated, IsLevelOf, IsHeadOf, IsDevelopment}
+use Rattle.bk_dev.specs.Facts.{AllAlike, is_constant, is_variable_of, is_inner_of, home_of, Names, names_constants, names_joined, names_own, writes_own, IsSubOf, IsBodyOf, IsLevelOf, IsHeadOf, IsDevelopment}
 use Rattle.bk_dev.specs.Counter.{reset_name, setmax_name, get_name, counter_table, setting, counter}
 
 -- ---- what formulas name

@@ -1,6 +1,6 @@
 -- What the counter reaches.
-use Rattle.std.proofs.Common.{◌≡◌, ◌↔◌, ℕ, zero, suc, pos, List, [], ◌∷◌, map, refl, sym, ◌∙◌, ap, subst, Bool, true, false}
-use Rattle.std.specs.Prelude.{Option, Some, None}
+use Rattle.std.proofs.Common.{◌≡◌, ◌↔◌, ℕ, zero, suc, pos, List, [], ◌∷◌, map, refl, sym, ◌∙◌, ap, subst, true, false}
+use Rattle.std.specs.Prelude.{Some}
 use Rattle.bk_val.specs.Value.{MathValue, int}
 use Rattle.bk_val.specs.ValueType.{ValueType, int_type, is_value_of}
 use Rattle.bk_form.specs.Table.{set_size, variable_type}
@@ -9,10 +9,10 @@ use Rattle.bk_form.specs.Search.{Finder}
 use Rattle.bk_form.specs.Environment.{State}
 use Rattle.bk_gsl.proofs.States.{with_value-typed}
 use Rattle.bk_gsl.specs.State.{IsTypedState, with_value}
-use Rattle.bk_gsl.specs.Run.{assigned, Runs}
-use Rattle.bk_dev.specs.Development.{Development, inputs_of}
-use Rattle.bk_dev.specs.Machine.{Abstract, Call, Opens, Gives, Steps, After, Reach, Legal}
-use Rattle.bk_dev.specs.Counter.{counter_table, counter_with, counter, forbidden, setmax, get}
+use Rattle.bk_gsl.specs.Run.{assigned}
+use Rattle.bk_dev.specs.Development.{inputs_of}
+use Rattle.bk_dev.specs.Machine.{Abstract, Call, Opens, Gives, Steps, Reach}
+use Rattle.bk_dev.specs.Counter.{counter_table, counter_with, counter, setmax, get}
 use Rattle.bk_dev.specs.Laws.{ReachesTen, AnswersTen, LegalWhere}
 
 -- a state of numbers is typed

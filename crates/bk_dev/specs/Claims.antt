@@ -1,7 +1,6 @@
 -- What the obligations of a development say: the machine keeps its invariant, and each level carries the one above.
-use Rattle.std.specs.Prelude.{◌≡◌, ◌<◌, ◌≤◌, ℕ, suc, true, cond, List, [], ◌∷◌, ◌++◌, length, map, take, Option, Some, None}
+use Rattle.std.specs.Prelude.{◌≡◌, ◌<◌, ℕ, suc, true, cond, List, [], ◌∷◌, ◌++◌, length, map, Option, Some, None}
 use Rattle.bk_form.specs.ArrayTable.{ArrayTable}
-use Rattle.bk_form.specs.Formula.{Formula}
 use Rattle.bk_form.specs.Search.{Finder}
 use Rattle.bk_form.specs.Environment.{State}
 use Rattle.bk_form.specs.Defined.{Defined}
@@ -9,9 +8,9 @@ use Rattle.bk_gsl.specs.Substitution.{Substitution}
 use Rattle.bk_gsl.specs.State.{at_state, holds, IsTypedState}
 use Rattle.bk_gsl.specs.Run.{Runs, Ends}
 use Rattle.bk_gsl.specs.Clean.{Clean}
-use Rattle.bk_dev.specs.Development.{Body, Level, Development, level_at, body_at, last, is_implementation, whole}
+use Rattle.bk_dev.specs.Development.{Development, level_at, body_at, is_implementation, whole}
 use Rattle.bk_dev.specs.Flattened.{flattened}
-use Rattle.bk_dev.specs.Hypotheses.{AreTrue, conjuncts, link_equation, properties_of, joining, init_hypotheses, unasserted_hypotheses}
+use Rattle.bk_dev.specs.Hypotheses.{AreTrue, link_equation, properties_of, joining, init_hypotheses, unasserted_hypotheses}
 use Rattle.bk_dev.specs.Layout.{arrays_of}
 use Rattle.bk_dev.specs.Machine.{HasValues}
 

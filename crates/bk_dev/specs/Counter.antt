@@ -8,7 +8,7 @@ use Rattle.bk_gsl.specs.Substitution.{assign}
 use Rattle.bk_dev.specs.declared.kind.Kind.{Kind}
 use Rattle.bk_dev.specs.declared.kind.Kind.TheVariants.{Machine, Implementation}
 use Rattle.bk_dev.specs.declared.kind.Home.TheVariants.{Variable, Inner}
-use Rattle.bk_dev.specs.Development.{Head, Body, Level, Development}
+use Rattle.bk_dev.specs.Development.{Body, Level, Development}
 use Rattle.bk_dev.specs.Machine.{Call}
 
 -- a number of a level, whose text is its name, a dollar sign and the level

@@ -1,5 +1,5 @@
 -- A development: a machine, its chain of refinements and at most one implementation (B-Book, Theory of Abstract Machines and Refinement).
-use Rattle.std.specs.Prelude.{ℕ, ◌-◌, ℤ, pos, Bool, true, false, cond, List, [], ◌∷◌, length, slice_index_or}
+use Rattle.std.specs.Prelude.{ℕ, ◌-◌, ℤ, pos, Bool, true, false, cond, List, [], length, slice_index_or}
 use Rattle.bk_form.specs.Table.{Table, SetEntry}
 use Rattle.bk_form.specs.Formula.{Formula, btrue}
 use Rattle.bk_gsl.specs.Substitution.{Substitution, skip, pre}

@@ -1,10 +1,9 @@
 -- What holds of every development: its numbers name entries, its formulas type, and names stay where they may stand.
-use Rattle.std.specs.Prelude.{◌≡◌, ◌⊎◌, ◌<◌, ◌≤◌, ℕ, suc, ◌+◌, nat_eq, pos, ◌-ℤ◌, ◌≤ℤ◌, Bool, true, false, not, ◌||◌, List, [], ◌∷◌, ◌++◌, length, map, Option, Some, None}
+use Rattle.std.specs.Prelude.{◌≡◌, ◌⊎◌, ◌<◌, ℕ, suc, nat_eq, pos, ◌-ℤ◌, ◌≤ℤ◌, Bool, true, false, not, ◌||◌, List, [], ◌∷◌, ◌++◌, length, Option, Some}
 use Rattle.std.specs.List.{slice_get, flat_map}
-use Rattle.bk_val.specs.ValueType.{ValueType, int_type}
+use Rattle.bk_val.specs.ValueType.{ValueType}
 use Rattle.bk_form.specs.Table.{Table, variable_type, IsWellFormed}
 use Rattle.bk_form.specs.Formula.{Formula, literal, truth_value, element}
-use Rattle.bk_form.specs.Role.{role, gives, predicate}
 use Rattle.bk_form.specs.Replacement.{occurs, IsClosed}
 use Rattle.bk_gsl.specs.Substitution.{Substitution, skip, assign, pre, guard, choice, if_else, any, seq, par, assert, becomes_such, loop}
 use Rattle.bk_gsl.specs.State.{among, firsts}
@@ -14,7 +13,7 @@ use Rattle.bk_dev.specs.declared.kind.Kind.{Kind}
 use Rattle.bk_dev.specs.declared.kind.Kind.TheVariants.{Machine, Refinement, Implementation}
 use Rattle.bk_dev.specs.declared.kind.Home.{Home}
 use Rattle.bk_dev.specs.declared.kind.Home.TheVariants.{Constant, Input, Variable, Inner}
-use Rattle.bk_dev.specs.Development.{Head, Body, Level, Development, int_max, level_at, body_of, last, inputs_of, is_implementation, is_complete}
+use Rattle.bk_dev.specs.Development.{Head, Body, Level, Development, int_max, level_at, last, is_complete}
 
 -- ---- homes
 abbrev pub is_constant : Option Home → Bool

@@ -1,7 +1,6 @@
 -- A development whose substitutions are flat: each || is rewritten by copies, over one table with all copies.
 use Rattle.std.specs.Prelude.{ℕ, suc, ◌+◌, replicate, List, [], ◌∷◌, ◌++◌, length}
 use Rattle.std.specs.List.{slice_get, filter_map}
-use Rattle.bk_gsl.specs.Substitution.{Substitution}
 use Rattle.bk_gsl.specs.Flat.{copied, flat_from}
 use Rattle.bk_dev.specs.declared.kind.Home.{Home}
 use Rattle.bk_dev.specs.declared.kind.Home.TheVariants.{Inner}

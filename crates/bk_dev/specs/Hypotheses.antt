@@ -1,5 +1,5 @@
 -- The hypotheses of the obligations of a development.
-use Rattle.std.specs.Prelude.{◌≡◌, ℕ, zero, suc, ℤ, pos, ◌-ℤ◌, Bool, true, false, cond, List, [], ◌∷◌, ◌++◌, map, take, Option, Some, None}
+use Rattle.std.specs.Prelude.{◌≡◌, ℕ, zero, suc, pos, ◌-ℤ◌, Bool, true, false, cond, List, [], ◌∷◌, ◌++◌, map, take, Option, Some}
 use Rattle.std.specs.List.{filter, flat_map}
 use Rattle.bk_val.specs.ValueType.{ValueType, int_type}
 use Rattle.bk_form.specs.Table.{Table, variable_type}
@@ -8,7 +8,7 @@ use Rattle.bk_form.specs.Search.{Finder}
 use Rattle.bk_form.specs.Environment.{State}
 use Rattle.bk_form.specs.declared.operator.BinOp.TheVariants.{And, Eq, In, Range}
 use Rattle.bk_gsl.specs.State.{holds}
-use Rattle.bk_dev.specs.Development.{Body, Level, Development, int_max, level_at, body_of, body_at, inputs_of, is_implementation}
+use Rattle.bk_dev.specs.Development.{Level, Development, int_max, level_at, body_of, inputs_of, is_implementation}
 
 -- the parts of a conjunction, from left to right, without btrue
 abbrev pub conjuncts : Formula → List Formula

@@ -1,13 +1,13 @@
 -- The arrays of an implementation, and the cells that its variables have.
-use Rattle.std.specs.Prelude.{ℕ, zero, suc, ◌+◌, nat_eq, ℤ, pos, negsuc, ◌+ℤ◌, ◌-ℤ◌, Bool, true, false, not, ◌&&◌, ◌||◌, cond, int_le, List, [], ◌∷◌, ◌++◌, map, Option, Some, None}
-use Rattle.std.specs.List.{flat_map, filter_map, filter, list_all}
-use Rattle.bk_val.specs.ValueType.{ValueType, int_type, bool_type, enum_type, pair_type, set_type}
+use Rattle.std.specs.Prelude.{ℕ, ◌+◌, nat_eq, ℤ, pos, ◌+ℤ◌, ◌-ℤ◌, Bool, true, false, not, ◌&&◌, ◌||◌, cond, int_le, List, [], ◌∷◌, ◌++◌, Option, Some, None}
+use Rattle.std.specs.List.{filter_map, filter, list_all}
+use Rattle.bk_val.specs.ValueType.{ValueType, pair_type, set_type}
 use Rattle.bk_form.specs.Table.{Table, set_size, variable_type}
 use Rattle.bk_form.specs.Formula.{Formula, variable, literal, empty_set, unary, binary, named}
 use Rattle.bk_form.specs.Replacement.{occurs}
 use Rattle.bk_form.specs.ArrayTable.{ArrayTable, row_of}
 use Rattle.bk_form.specs.Operators.{count_of}
-use Rattle.bk_form.specs.declared.operator.BinOp.TheVariants.{And, Eq, In, TotalFunctions, Range, Union, Inter, Minus, Over, Maps}
+use Rattle.bk_form.specs.declared.operator.BinOp.TheVariants.{Eq, In, TotalFunctions, Range, Union, Inter, Minus, Over, Maps}
 use Rattle.bk_form.specs.declared.operator.UnOp.TheVariants.{Single}
 use Rattle.bk_form.specs.declared.operator.Domain.TheVariants.{Bool as Booleans, Enum}
 use Rattle.bk_form.specs.declared.arrays.ArrayRow.{ArrayRow}
@@ -15,7 +15,7 @@ use Rattle.bk_form.specs.declared.arrays.ArrayDomain.{ArrayDomain}
 use Rattle.bk_form.specs.declared.arrays.ArrayDomain.TheVariants.{Interval, Bool as OfBooleans, Set as OfElements}
 use Rattle.bk_gsl.specs.State.{among, firsts}
 use Rattle.bk_gsl.specs.Substitution.{Substitution, pre, guard, choice, if_else, any, seq, par, assert, loop}
-use Rattle.bk_dev.specs.Development.{Head, Body, Level, Development, int_max, level_at, last, inputs_of}
+use Rattle.bk_dev.specs.Development.{Head, Body, Level, Development, int_max, level_at, last}
 use Rattle.bk_dev.specs.Hypotheses.{conjuncts}
 
 -- ---- which variables are arrays

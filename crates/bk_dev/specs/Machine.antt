@@ -1,5 +1,5 @@
 -- The abstract machine: its states, its steps, what is reached by calls and replies, and which calls are legal (B-Book, Abstract Machines).
-use Rattle.std.specs.Prelude.{◌≡◌, ◌<◌, ℕ, ℤ, pos, ◌-ℤ◌, Bool, true, ◌&&◌, int_le, List, [], ◌∷◌, map, length}
+use Rattle.std.specs.Prelude.{◌≡◌, ◌<◌, ℕ, pos, ◌-ℤ◌, Bool, true, ◌&&◌, int_le, List, [], ◌∷◌, map, length}
 use Rattle.bk_val.specs.Value.{MathValue, int}
 use Rattle.bk_form.specs.Search.{Finder}
 use Rattle.bk_form.specs.Environment.{State}

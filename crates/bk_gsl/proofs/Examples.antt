@@ -1,18 +1,18 @@
 -- Small cases.
-use Rattle.std.proofs.Common.{◌≡◌, ◌↔◌, ◌⊎◌, inl, inr, ℕ, zero, suc, ◌+◌, ℤ, pos, negsuc, ◌+ℤ◌, ◌-ℤ◌, List, [], ◌∷◌, refl, sym, ◌∙◌, ap, subst, Bool, true, false, cond, ◌||◌, nat_eq, arith}
+use Rattle.std.proofs.Common.{◌≡◌, inl, inr, ℕ, zero, suc, ℤ, pos, negsuc, ◌-ℤ◌, [], ◌∷◌, refl, sym, ◌∙◌, ap, true, false, ◌||◌, nat_eq, arith}
 use Rattle.std.specs.Prelude.{int_lt}
 use Rattle.std.proofs.lemmas.Int.{ints}
-use Rattle.bk_val.specs.Value.{MathValue, int}
+use Rattle.bk_val.specs.Value.{int}
 use Rattle.bk_form.specs.Table.{Table}
 use Rattle.bk_form.specs.Formula.{Formula, variable, literal, binary, btrue}
 use Rattle.bk_form.specs.declared.operator.BinOp.TheVariants.{Lt, Sub}
 use Rattle.bk_form.specs.Search.{Finder}
 use Rattle.bk_form.specs.Environment.{State}
 use Rattle.bk_form.specs.Operators.{number_in}
-use Rattle.bk_gsl.specs.Substitution.{Substitution, skip, assign, pre, any}
-use Rattle.bk_gsl.specs.State.{holds, with_values, among, over}
+use Rattle.bk_gsl.specs.Substitution.{Substitution, skip, assign}
+use Rattle.bk_gsl.specs.State.{holds, among, over}
 use Rattle.bk_gsl.specs.Run.{Runs, Ends, Turns, Bounded, assigned}
-use Rattle.bk_gsl.specs.Laws.{PreconditionMeans, swap, Swaps, PutsBack, count_down, CountsDown, NeverEnds}
+use Rattle.bk_gsl.specs.Laws.{PreconditionMeans, Swaps, PutsBack, count_down, CountsDown, NeverEnds}
 use Rattle.bk_gsl.proofs.States.{over-at, nat_eq-self}
 
 pub precondition-means : PreconditionMeans

@@ -1,21 +1,18 @@
 -- What a run leaves alone, and the types of the variables after it.
-use Rattle.std.proofs.Common.{◌≡◌, ◌⊎◌, inl, inr, ℕ, zero, suc, List, [], ◌∷◌, map, refl, sym, ◌∙◌, ap, subst, Bool, true, false, cond, nat_eq}
-use Rattle.std.specs.Prelude.{Option, Some, None}
-use Rattle.bk_val.specs.Value.{MathValue}
+use Rattle.std.proofs.Common.{◌≡◌, inl, inr, ℕ, zero, suc, List, [], ◌∷◌, refl, sym, ◌∙◌, ap, subst, Bool, true, false, cond, nat_eq}
+use Rattle.std.specs.Prelude.{Some}
 use Rattle.bk_val.specs.ValueType.{ValueType, is_value_of}
 use Rattle.bk_form.specs.Table.{Table, set_size, variable_type, IsWellFormed}
 use Rattle.bk_form.specs.Formula.{Formula, variable}
 use Rattle.bk_form.specs.Search.{Finder}
 use Rattle.bk_form.specs.Environment.{State, IsTyped}
-use Rattle.bk_form.specs.Role.{given_by, gives}
-use Rattle.bk_form.specs.Meaning.{value}
 use Rattle.bk_form.proofs.Valued.{typed-value}
 use Rattle.bk_gsl.specs.Substitution.{Substitution, skip, assign, pre, guard, choice, if_else, any, seq, par, assert, becomes_such, loop}
-use Rattle.bk_gsl.specs.State.{at_state, holds, value_at, IsTypedState, with_values, among, over, firsts}
+use Rattle.bk_gsl.specs.State.{at_state, holds, value_at, IsTypedState, with_values, among, firsts}
 use Rattle.bk_gsl.specs.Writes.{written, writes}
-use Rattle.bk_gsl.specs.Run.{looked_up, assigned, Turns, Runs}
+use Rattle.bk_gsl.specs.Run.{looked_up, Turns, Runs}
 use Rattle.bk_gsl.specs.Typed.{AreTypedTerms, Types}
-use Rattle.bk_gsl.proofs.States.{cases, clash, or-false, nat_eq-same, over-at, over-off, with_values-out, with_values-typed, over-typed, among-both, among-without, among-in_order}
+use Rattle.bk_gsl.proofs.States.{cases, or-false, nat_eq-same, over-at, over-off, with_values-out, with_values-typed, over-typed, among-both, among-without, among-in_order}
 
 pub looked_up-out : (ps : List (ℕ × Formula)) (n : ℕ) → among (firsts ps) n ≡ false → looked_up ps n ≡ variable n
 looked_up-out [] n h = refl

@@ -1,14 +1,14 @@
 -- States, and what is put into them.
-use Rattle.std.proofs.Common.{◌≡◌, ◌⊎◌, inl, inr, ℕ, List, [], ◌∷◌, ◌++◌, map, refl, sym, ◌∙◌, ap, subst, Bool, true, false, not, cond, ◌&&◌, ◌||◌, arith, nat_eq, nat_lt}
-use Rattle.std.specs.Prelude.{Option, Some, None, unwrap_or}
+use Rattle.std.proofs.Common.{◌≡◌, ◌⊎◌, inl, inr, ℕ, List, [], ◌∷◌, ◌++◌, refl, sym, ◌∙◌, ap, subst, Bool, true, false, not, cond, ◌||◌, arith, nat_eq, nat_lt}
+use Rattle.std.specs.Prelude.{Some, unwrap_or}
 use Rattle.std.specs.List.{filter}
 use Rattle.std.proofs.lemmas.Bool.Decides.{nat_tests}
 use Rattle.bk_val.specs.Value.{MathValue}
-use Rattle.bk_val.specs.ValueType.{ValueType, bool_type, is_value_of, are_of_types}
+use Rattle.bk_val.specs.ValueType.{ValueType, bool_type, is_value_of}
 use Rattle.bk_form.specs.Table.{Table, set_size, variable_type}
 use Rattle.bk_form.specs.Environment.{State}
-use Rattle.bk_form.proofs.Members.{and-both, and-true, or-cases}
-use Rattle.bk_gsl.specs.State.{IsTypedState, declared_type, are_values_for, with_value, with_values, among, over, firsts}
+use Rattle.bk_form.proofs.Members.{and-both}
+use Rattle.bk_gsl.specs.State.{IsTypedState, declared_type, are_values_for, with_value, with_values, among, over}
 use Rattle.bk_gsl.specs.Writes.{inserted, in_order}
 
 pub cases : (b : Bool) → (b ≡ true) ⊎ (b ≡ false)

@@ -1,7 +1,7 @@
 -- The rewriting of || by copies: S || T becomes @c.(c = x ==> (S ; T with c for x)), with x the variables that S writes.
-use Rattle.std.specs.Prelude.{ℕ, suc, ◌+◌, nat_eq, cond, List, [], ◌∷◌, ◌++◌, length, map, Option, Some, None}
+use Rattle.std.specs.Prelude.{ℕ, suc, ◌+◌, nat_eq, cond, List, [], ◌∷◌, ◌++◌, length}
 use Rattle.std.specs.List.{slice_get, filter_map}
-use Rattle.bk_form.specs.Table.{Table, VariableEntry}
+use Rattle.bk_form.specs.Table.{Table}
 use Rattle.bk_form.specs.Formula.{Formula, variable, binary}
 use Rattle.bk_form.specs.Replacement.{replaced}
 use Rattle.bk_form.specs.declared.operator.BinOp.TheVariants.{And, Eq}

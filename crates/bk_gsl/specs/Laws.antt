@@ -1,12 +1,11 @@
 -- Laws of substitutions, as statements.
-use Rattle.std.specs.Prelude.{◌≡◌, ◌↔◌, ℕ, ℤ, pos, true, false, List, [], ◌∷◌, Some, None}
-use Rattle.bk_val.specs.Value.{MathValue, int}
-use Rattle.bk_val.specs.ValueType.{int_type}
-use Rattle.bk_form.specs.Table.{Table, variable_type, IsWellFormed}
+use Rattle.std.specs.Prelude.{◌≡◌, ◌↔◌, ℕ, ℤ, pos, false, [], ◌∷◌}
+use Rattle.bk_val.specs.Value.{int}
+use Rattle.bk_form.specs.Table.{Table, IsWellFormed}
 use Rattle.bk_form.specs.Formula.{Formula, variable, literal, binary, btrue}
 use Rattle.bk_form.specs.Search.{Finder}
 use Rattle.bk_form.specs.Environment.{State}
-use Rattle.bk_form.specs.declared.operator.BinOp.TheVariants.{Lt, Sub, Add}
+use Rattle.bk_form.specs.declared.operator.BinOp.TheVariants.{Lt, Sub}
 use Rattle.bk_gsl.specs.Substitution.{Substitution, skip, assign, pre, any, par, loop}
 use Rattle.bk_gsl.specs.State.{holds, IsTypedState, among}
 use Rattle.bk_gsl.specs.Writes.{writes}

@@ -1,7 +1,6 @@
 -- The variables that a substitution writes.
-use Rattle.std.specs.Prelude.{ℕ, nat_eq, nat_lt, Bool, not, cond, List, [], ◌∷◌, ◌++◌}
+use Rattle.std.specs.Prelude.{ℕ, nat_eq, nat_lt, not, cond, List, [], ◌∷◌, ◌++◌}
 use Rattle.std.specs.List.{filter}
-use Rattle.bk_form.specs.Formula.{Formula}
 use Rattle.bk_gsl.specs.Substitution.{Substitution, skip, assign, pre, guard, choice, if_else, any, seq, par, assert, becomes_such, loop}
 use Rattle.bk_gsl.specs.State.{among, firsts}
 

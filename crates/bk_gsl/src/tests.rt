@@ -1,3 +1,6 @@
+ghost use Rattle.std.specs.Prelude.{◌≡◌, IfOk};
+ghost use Rattle.bk_form.specs.Formula.{variable};
+
 use super::*;
 use bk_form::{BinOp, Form, Part};
 use bk_io::Memory;
@@ -9,8 +12,10 @@ fn made<T: Drop>(outcome: Result<T, Memory>) -> Result<T, Fail> {
     Ok(outcome.ok().ok_or("memory")?)
 }
 
-fn variable(alloc: Global, number: u32) -> Result<Form, Fail> {
-    made(Form::make(alloc, Part::Var(number)))
+fn variable(alloc: Global, number: u32) -> Result<Form, Fail>
+    ensures { IfOk result (λ f. f ≡ variable number) }
+{
+    Ok(Form::make(alloc, Part::Var(number)).ok().ok_or("memory")?)
 }
 
 // x := y

@@ -1,5 +1,5 @@
 -- Laws of validity, as statements.
-use Rattle.std.specs.Prelude.{◌≡◌, List, [], ◌∷◌}
+use Rattle.std.specs.Prelude.{List, ◌∷◌}
 use Rattle.bk_form.specs.Table.{Table}
 use Rattle.bk_form.specs.Formula.{Formula, bfalse, unary}
 use Rattle.bk_form.specs.declared.operator.UnOp.TheVariants.{Not}

@@ -1,5 +1,5 @@
 -- Sessions, from calls one by one.
-use Rattle.std.proofs.Common.{◌≡◌, ℕ, ℤ, List, [], ◌∷◌, ◌++◌, sym, subst}
+use Rattle.std.proofs.Common.{ℕ, ℤ, List, [], ◌∷◌, ◌++◌, sym, subst}
 use Rattle.bk_val.specs.Value.{MathValue}
 use Rattle.bk_form.specs.Search.{Finder}
 use Rattle.bk_dev.specs.Development.{Development}
@@ -7,9 +7,9 @@ use Rattle.bk_dev.specs.Machine.{Abstract, Opens, Call, IsCall, AreCalls, Steps,
 use Rattle.bk_code.specs.declared.image.Image.{Image}
 use Rattle.bk_code.specs.declared.image.OpEntry.{OpEntry}
 use Rattle.bk_code.specs.Step.{Config}
-use Rattle.bk_code.specs.Run.{End, Done, Trapped, OutOfFuel, Ends}
+use Rattle.bk_code.specs.Run.{End, Done, Trapped, OutOfFuel}
 use Rattle.bk_sim.specs.Shows.{Linked}
-use Rattle.bk_sim.specs.Follows.{IsEntry, replies, started, IsGood, GoesWell, AreDone, IsStep, HasOperations, OpensWell, CallsGoWell, SessionsGoWell, Follows}
+use Rattle.bk_sim.specs.Follows.{IsEntry, replies, started, IsGood, GoesWell, AreDone, IsStep, OpensWell, CallsGoWell, SessionsGoWell}
 use Rattle.bk_sim.specs.Laws.{CallsDecide}
 
 -- what holds of the cells may be weakened

@@ -1,5 +1,5 @@
 -- Calls that are done.
-use Rattle.std.proofs.Common.{◌≡◌, ◌<◌, ◌≤◌, ℕ, suc, ◌+◌, ℤ, List, sym, subst, arith}
+use Rattle.std.proofs.Common.{◌≡◌, ℕ, suc, ◌+◌, ℤ, List, sym, subst, arith}
 use Rattle.bk_code.specs.declared.image.Image.{Image}
 use Rattle.bk_code.specs.Step.{Config}
 use Rattle.bk_code.specs.Run.{End, Done, Trapped, OutOfFuel, ReturnsAfter, Ends}

@@ -1,19 +1,16 @@
 -- Code of the counter that stores 9 for 10 does not follow.
-use Rattle.std.proofs.Common.{◌≡◌, ◌≤◌, ℕ, ℤ, pos, List, [], ◌∷◌, map, refl, sym, ◌∙◌, subst, Bool, true, false, arith}
-use Rattle.std.specs.Prelude.{Some}
-use Rattle.bk_val.specs.Value.{MathValue, int}
+use Rattle.std.proofs.Common.{◌≡◌, ℕ, ℤ, pos, List, [], ◌∷◌, refl, ◌∙◌, subst, true, false, arith}
+use Rattle.bk_val.specs.Value.{int}
 use Rattle.bk_form.specs.Operators.{is_equal}
 use Rattle.bk_form.specs.Search.{Finder}
-use Rattle.bk_form.specs.Environment.{State}
-use Rattle.bk_dev.specs.Machine.{Abstract, Call, IsCall, Legal}
+use Rattle.bk_dev.specs.Machine.{Abstract, IsCall, Legal}
 use Rattle.bk_dev.specs.Counter.{counter, setmax}
 use Rattle.bk_dev.proofs.Counting.{reaches-ten}
 use Rattle.bk_code.specs.declared.image.Image.{Image}
 use Rattle.bk_code.specs.Step.{Config}
 use Rattle.bk_code.specs.Run.{Done, Ends}
-use Rattle.bk_code.specs.Session.{first_start}
-use Rattle.bk_sim.specs.Shows.{Linked, IsLinkedBy}
-use Rattle.bk_sim.specs.Follows.{Follows, IsBegun, started}
+use Rattle.bk_sim.specs.Shows.{Linked}
+use Rattle.bk_sim.specs.Follows.{IsBegun, started}
 use Rattle.bk_sim.specs.CounterCode.{counter_code, setmax_entry}
 use Rattle.bk_sim.specs.Laws.{NineDoesNotFollow}
 

@@ -1,27 +1,25 @@
 -- The counter's own code follows it.
-use Rattle.std.proofs.Common.{◌≡◌, ◌<◌, ◌≤◌, ℕ, zero, suc, ℤ, pos, List, [], ◌∷◌, map, length, refl, sym, ◌∙◌, ap, subst, Bool, true, false, arith}
-use Rattle.std.specs.Prelude.{Option, Some, None}
+use Rattle.std.proofs.Common.{◌≡◌, ℕ, zero, suc, ℤ, pos, List, [], ◌∷◌, map, refl, sym, ◌∙◌, ap, subst, true, false, arith}
 use Rattle.bk_val.specs.Value.{MathValue, int}
 use Rattle.bk_val.specs.CmpLaws.{same_value}
 use Rattle.bk_form.specs.Formula.{variable, literal, btrue}
 use Rattle.bk_form.specs.Search.{Finder}
 use Rattle.bk_form.specs.Environment.{State}
-use Rattle.bk_form.specs.Operators.{is_equal}
 use Rattle.bk_gsl.specs.State.{IsTypedState, with_value}
 use Rattle.bk_gsl.specs.Run.{assigned}
 use Rattle.bk_gsl.proofs.States.{with_value-typed}
 use Rattle.bk_dev.specs.Development.{inputs_of}
 use Rattle.bk_dev.specs.Hypotheses.{AreTrue, joinings_of}
 use Rattle.bk_dev.specs.Machine.{Abstract, Opens, Call, IsCall, Gives}
-use Rattle.bk_dev.specs.Counter.{counter_table, counter, setmax}
+use Rattle.bk_dev.specs.Counter.{counter_table, counter}
 use Rattle.bk_dev.proofs.Counting.{numbers-typed, opens-at-zero}
 use Rattle.bk_code.specs.declared.image.Image.{Image}
 use Rattle.bk_code.specs.declared.image.OpEntry.{OpEntry}
 use Rattle.bk_code.specs.Step.{Config}
-use Rattle.bk_code.specs.Run.{Done, ReturnsAfter}
+use Rattle.bk_code.specs.Run.{ReturnsAfter}
 use Rattle.bk_code.specs.Session.{first_start}
-use Rattle.bk_sim.specs.Shows.{AreOfKinds, Shows, Linked, IsLinkedBy}
-use Rattle.bk_sim.specs.Follows.{IsEntry, started, GoesWell, IsDone, IsStep, HasOperations, OpensWell, CallsGoWell, Follows}
+use Rattle.bk_sim.specs.Shows.{AreOfKinds, Linked}
+use Rattle.bk_sim.specs.Follows.{IsEntry, started, GoesWell, IsDone, IsStep, HasOperations, OpensWell, CallsGoWell}
 use Rattle.bk_sim.specs.CounterCode.{counter_code, reset_entry, setmax_entry, get_entry}
 use Rattle.bk_sim.specs.Laws.{TenFollows}
 use Rattle.bk_sim.proofs.Chain.{calls_decide}
