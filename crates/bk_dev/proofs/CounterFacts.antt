@@ -130,8 +130,8 @@ no_constant (suc (suc (suc (suc n)))) h = absurd (cc)
 head-facts : (name : List ℕ) (outputs : ℕ) → IsHeadOf counter (record { name = name; inputs = []; outputs = outputs })
 head-facts name outputs = record { inputs = tt; distinct = tt }
 
-pub counter-facts : IsDevelopment counter
-counter-facts = record {
+pub counter_facts : IsDevelopment counter
+counter_facts = record {
   some_level = omega (arith);
   table = table-facts;
   sets = refl;

@@ -7,3 +7,6 @@ pub mod laws;
 
 pub use development::{Body, Development, EnumSet, Level, OpHead};
 pub use kind::{Home, Kind};
+
+#[cfg(test)]
+mod tests;
