@@ -1,0 +1,14 @@
+//! What small developments and substitutions are translated to. Each law is the contract of a function that does nothing.
+
+ghost use Rattle.bk_gen.specs.Laws.{CounterCode, TestsCode, LoopCode};
+
+/// A counter, to be checked by hand.
+pub fn counter()
+    ensures { CounterCode }
+{}
+
+/// Tests and loops, to be checked by hand.
+pub fn small_cases()
+    ensures tests { TestsCode }
+    ensures repeats { LoopCode }
+{}
