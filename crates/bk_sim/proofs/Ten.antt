@@ -1,4 +1,4 @@
--- The counter's own code follows it.
+-- The counter's translation follows it.
 use Rattle.std.proofs.Common.{◌≡◌, ℕ, zero, suc, ℤ, pos, List, [], ◌∷◌, map, refl, sym, ◌∙◌, ap, subst, true, false, arith}
 use Rattle.bk_val.specs.Value.{MathValue, int}
 use Rattle.bk_val.specs.CmpLaws.{same_value}
@@ -21,7 +21,7 @@ use Rattle.bk_code.specs.Session.{first_start}
 use Rattle.bk_sim.specs.Shows.{AreOfKinds, Linked}
 use Rattle.bk_sim.specs.Follows.{IsEntry, started, GoesWell, IsDone, IsStep, HasOperations, OpensWell, CallsGoWell}
 use Rattle.bk_sim.specs.CounterCode.{counter_code, reset_entry, setmax_entry, get_entry}
-use Rattle.bk_sim.specs.Laws.{TenFollows}
+use Rattle.bk_sim.specs.Laws.{TranslationFollows}
 use Rattle.bk_sim.proofs.Chain.{calls_decide}
 use Rattle.bk_sim.proofs.Ends.{done-well}
 
@@ -128,5 +128,5 @@ module _ (find : Finder) where
       let q = two m l.1.cells.kinds in
       subst (λ x. Linked find counter a x → GoesOn a x c entry) (sym q.2) (λ k. by_op a q.0 q.1 c.op c.args entry k is e) l
 
-pub ten_follows : TenFollows
-ten_follows find = calls_decide find counter ten operations (opening find) (calls find)
+pub translation_follows : TranslationFollows
+translation_follows find = calls_decide find counter ten operations (opening find) (calls find)

@@ -1,6 +1,6 @@
 //! What follows a machine, and what does not. Each law is the contract of a function that does nothing.
 
-ghost use Rattle.bk_sim.specs.Laws.{CallsDecide, TenFollows, NineDoesNotFollow};
+ghost use Rattle.bk_sim.specs.Laws.{CallsDecide, TranslationFollows, NineDoesNotFollow};
 
 /// Code follows a machine where it opens well and each call goes well.
 pub fn calls_decide()
@@ -9,6 +9,6 @@ pub fn calls_decide()
 
 /// A counter, to be checked by hand.
 pub fn counter()
-    ensures ten { TenFollows }
+    ensures translation { TranslationFollows }
     ensures nine { NineDoesNotFollow }
 {}
