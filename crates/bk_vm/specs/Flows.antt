@@ -53,7 +53,7 @@ pub record IsExecutable (image : Image) (place : ℕ) (inst : Inst) (stack cells
   pub range : All IsInRange stack
   pub kept : AreCells image cells
 
--- a configuration fits an image that passes the loader's checks
+-- a configuration fits a checked image
 pub record IsReady (image : Image) (c : Config) : Type 0 where
   pub numbered : IsNumbered image
   pub depths : List ℕ

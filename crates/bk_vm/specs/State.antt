@@ -12,7 +12,7 @@ pub record State : Type 0 where
   pub started : Bool
   pub stopped : Bool
 
--- the image passes the loader's checks, the cells are as many as it says, with numbers within the range, and each is 0 before
+-- the image is checked, the cells are as many as it says, with numbers within the range, and each is 0 before
 -- the initialisation
 pub record IsMachine (image : Image) (cells : List ℤ) (started : Bool) : Type 0 where
   pub checked : IsChecked image

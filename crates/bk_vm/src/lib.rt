@@ -1,4 +1,4 @@
-//! A machine that runs the code of an image that passes the loader's checks.
+//! A machine that runs the code of a checked image.
 #![tactic(auto)]
 
 mod arithmetic;
