@@ -19,7 +19,7 @@ use Rattle.bk_code.specs.declared.image.Parameter.{Parameter}
 use Rattle.bk_code.specs.declared.image.CellKind.{CellKind}
 use Rattle.bk_code.specs.declared.image.CellKind.TheVariants.{Integer, Bool as BoolKind, Set}
 use Rattle.bk_code.specs.declared.instruction.Inst.{Inst}
-use Rattle.bk_code.specs.declared.instruction.Inst.TheVariants.{Push, Load, Store, ALoad, AStore, Add, Sub, Mul, Div, Mod, Neg, Eq, Lt, Le, Not as Negate, Jump, JumpZero, Ret}
+use Rattle.bk_code.specs.declared.instruction.Inst.TheVariants.{Push, Load, Store, ALoad, AStore, Add, Sub, Mul, Div, Mod, Neg, Eq, Lt, Le, Not as Invert, Jump, JumpZero, Ret}
 use Rattle.bk_code.specs.Numbers.{truth_number}
 
 -- ---- expressions and conditions
@@ -49,11 +49,11 @@ load_element dev f None = []
 abbrev pub store_element : Development → ℕ → ArrayRow → List Inst
 store_element dev f row = AStore (cell_of dev f) (least_index row.domain) (cells_of dev f) ∷ []
 
--- what an executed formula leaves on the stack: its number, 0 or 1 for a condition
+-- the code that leaves an executed formula's number on the stack, 0 or 1 for a condition
 abbrev pub value_code : Development → Formula → List Inst
 value_code dev (variable x) = name_code dev x dev.values
 value_code dev (unary Minus a) = value_code dev a ++ Neg ∷ []
-value_code dev (unary Not p) = value_code dev p ++ Negate ∷ []
+value_code dev (unary Not p) = value_code dev p ++ Invert ∷ []
 value_code dev (unary BoolOf p) = value_code dev p
 value_code dev (binary Plus a b) = value_code dev a ++ value_code dev b ++ Add ∷ []
 value_code dev (binary Less a b) = value_code dev a ++ value_code dev b ++ Sub ∷ []
@@ -69,7 +69,7 @@ value_code dev (binary Apply (variable f) e) = value_code dev e ++ load_element 
 value_code dev f = Push (literal_number f) ∷ []
 
 -- ---- substitutions
--- the value in each cell from this one on, as many as n
+-- the code that puts the value into n cells, from this one on
 abbrev pub fill : List Inst → ℕ → ℕ → List Inst
 fill value cell zero = []
 fill value cell (suc n) = value ++ Store cell ∷ fill value (cell + 1) n
