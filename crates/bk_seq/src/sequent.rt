@@ -6,7 +6,7 @@ use bk_form::Form;
 use bk_io::Memory;
 use std::alloc::Global;
 
-/// A goal under hypotheses. Its formulas have no loose bound number.
+/// A goal under hypotheses, none of them with a loose bound number: whoever makes a sequent sees to that.
 #[derive(Drop)]
 pub struct Sequent {
     pub hyps: Vec<Form>,
