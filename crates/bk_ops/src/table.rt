@@ -2,7 +2,8 @@
 
 ghost use Rattle.std.specs.Prelude.{◌≡◌, map};
 ghost use Rattle.std.specs.List.{range_with_len};
-ghost use Rattle.bk_ops.specs.Rows.{TextsDiffer, number_of};
+ghost use Rattle.bk_ops.specs.Rows.{TextsDiffer, number_of, text_of};
+ghost use Rattle.bk_ops.specs.Words.{word_texts};
 
 use crate::row::{NO_OPERATOR, OpRow};
 use crate::{sign, word};
@@ -91,6 +92,7 @@ pub fn signs() -> [OpRow; 57]
 /// The words: those of clauses, those of formulas, and those that are reserved.
 pub fn words() -> [OpRow; 95]
     ensures texts { TextsDiffer result }
+    ensures words { map text_of result ≡ word_texts }
     ensures numbers { map number_of result ≡ range_with_len 57 95 }
 {
     [

@@ -1,0 +1,3 @@
+pub mod Lexis
+pub mod Spelling
+pub mod Reading

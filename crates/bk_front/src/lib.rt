@@ -1,0 +1,6 @@
+//! The texts of a project, read as a development. So far a project has the first form: a machine with one variable, and its
+//! implementation.
+#![tactic(auto)]
+
+mod component;
+mod token;
