@@ -1,3 +1,6 @@
 pub mod Lexis
 pub mod Spelling
 pub mod Reading
+pub mod ProjectFile
+pub mod Refusals
+pub mod Trims

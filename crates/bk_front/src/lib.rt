@@ -3,4 +3,9 @@
 #![tactic(auto)]
 
 mod component;
+mod project_file;
+mod refusal;
 mod token;
+
+pub use project_file::{LineKind, ProjectLine, lines};
+pub use refusal::Refusal;
