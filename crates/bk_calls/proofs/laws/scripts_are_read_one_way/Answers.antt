@@ -1,0 +1,8 @@
+use Rattle.bk_calls.proofs.Scripts.{has_one_script, is_script_without_fault}
+use Rattle.bk_calls.proofs.laws.scripts_are_read_one_way.Goals as goal
+
+pub returns-clause-one : goal.returns-clause-one
+returns-clause-one c = has_one_script
+
+pub returns-clause-some : goal.returns-clause-some
+returns-clause-some c = is_script_without_fault

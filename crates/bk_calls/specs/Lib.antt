@@ -1,0 +1,5 @@
+pub mod Script
+pub mod Reading
+pub mod Outcome
+pub mod Transcript
+pub mod Laws

@@ -1,0 +1,282 @@
+use crate::checker::{are_outputs, has_no_inputs};
+use crate::{Call, CallsFault, calls, closing, reply, steps};
+use bk_code::{
+    CellKind, Code, ElemNames, Image, Inst, NameText, NameTexts, OpEntries, OpEntry, Parameter,
+    Parameters, Trap,
+};
+use bk_vm::CallEnd;
+use std::alloc::{AllocError, Global};
+use std::test::Fail;
+
+fn name(alloc: Global, text: &[u8]) -> Result<NameText, AllocError> {
+    Ok(NameText::from_vec(Vec::from_slice(alloc, text)?))
+}
+
+fn operation(
+    alloc: Global,
+    text: &[u8],
+    start: u32,
+    outputs: &[Parameter],
+) -> Result<OpEntry, AllocError> {
+    Ok(OpEntry {
+        name: name(alloc, text)?,
+        start,
+        inputs: Parameters::from_vec(Vec::new(alloc)),
+        outputs: Parameters::from_vec(Vec::from_slice(alloc, outputs)?),
+    })
+}
+
+fn output(kind: CellKind) -> Parameter {
+    Parameter { kind, slot: 1 }
+}
+
+// A counter's code.
+fn counter(alloc: Global) -> Result<Image, AllocError> {
+    let reset = operation(alloc, b"reset", 3, &[])?;
+    let setmax = operation(alloc, b"setmax", 6, &[])?;
+    let get = operation(alloc, b"get", 9, &[output(CellKind::Integer)])?;
+    let code = vec![in alloc;
+        Inst::Push(0),
+        Inst::Store(0),
+        Inst::Ret,
+        Inst::Push(0),
+        Inst::Store(0),
+        Inst::Ret,
+        Inst::Push(10),
+        Inst::Store(0),
+        Inst::Ret,
+        Inst::Load(0),
+        Inst::Store(1),
+        Inst::Ret,
+    ]?;
+    Ok(Image {
+        cells: 2,
+        sets: ElemNames::from_vec(Vec::new(alloc)),
+        ops: OpEntries::from_vec(vec![in alloc; reset, setmax, get]?),
+        code: Code::from_vec(code),
+    })
+}
+
+// Operations that do nothing, the last two of which have one name, over a set with two elements.
+fn samples(alloc: Global) -> Result<Image, AllocError> {
+    let inc = operation(alloc, b"inc", 0, &[])?;
+    let fill = operation(alloc, b"fill", 0, &[output(CellKind::Set(0))])?;
+    let kinds = [
+        output(CellKind::Integer),
+        output(CellKind::Bool),
+        output(CellKind::Set(0)),
+    ];
+    let show = operation(alloc, b"show", 0, &kinds)?;
+    let again = operation(alloc, b"inc", 0, &[output(CellKind::Set(1))])?;
+    let colours = vec![in alloc; name(alloc, b"red")?, name(alloc, b"green")?]?;
+    Ok(Image {
+        cells: 2,
+        sets: ElemNames::from_vec(vec![in alloc; NameTexts::from_vec(colours)]?),
+        ops: OpEntries::from_vec(vec![in alloc; inc, fill, show, again]?),
+        code: Code::from_vec(vec![in alloc; Inst::Ret]?),
+    })
+}
+
+#[tactic(auto, using(crate::proofs::Lines::lines_within))]
+fn read(alloc: Global, text: &[u8], image: &Image) -> Result<Result<Vec<Call>, CallsFault>, Fail> {
+    if text.len() > 1000 || image.ops.as_slice().len() > 1000 || !has_no_inputs(image) {
+        return Err(Fail::from("the script or the image"));
+    }
+    Ok(calls(alloc, text, image))
+}
+
+// Whether these are calls of those operations, without arguments.
+fn are_calls_of(calls: &[Call], ops: &[u32]) -> bool {
+    if calls.len() != ops.len() {
+        return false;
+    }
+    for (i, call) in calls.iter().enumerate() {
+        if call.op != ops[i] || !call.args.as_slice().is_empty() {
+            return false;
+        }
+    }
+    true
+}
+
+#[test]
+fn reads_scripts(rt: HostRuntime) -> Result<(), Fail> {
+    let alloc = rt.alloc();
+    let image = counter(alloc)?;
+    let cases: [(&[u8], &[u32]); 9] = [
+        // a text and the operations that it calls
+        (b"setmax\nget\n", &[1, 2]),
+        (b"  get ( )\r\n# x\n\nreset", &[2, 0]),
+        (b"", &[]),
+        (b"\n\r\n#get\n", &[]),
+        (b"get", &[2]),
+        (b"get\r\nget\r\n", &[2, 2]),
+        (b"reset()\n", &[0]),
+        (b"   reset   (   )   \n", &[0]),
+        (b"#\n# (5)\nsetmax ()", &[1]),
+    ];
+    for (text, ops) in cases {
+        let found = read(alloc, text, &image)?.ok().ok_or("a script")?;
+        assert!(rt; are_calls_of(&found, ops));
+    }
+    Ok(())
+}
+
+#[test]
+fn means_the_first_of_a_name(rt: HostRuntime) -> Result<(), Fail> {
+    let alloc = rt.alloc();
+    let image = samples(alloc)?;
+    let found = read(alloc, b"show\ninc\n", &image)?.ok().ok_or("a script")?;
+    assert!(rt; are_calls_of(&found, &[2, 0]));
+    Ok(())
+}
+
+#[test]
+fn tells_the_first_line_at_fault(rt: HostRuntime) -> Result<(), Fail> {
+    let alloc = rt.alloc();
+    let image = counter(alloc)?;
+    let cases: [(&[u8], u32); 14] = [
+        // a text and the number of its first line at fault
+        (b"get\nnope\n", 2),
+        (b"get\nnope\nneither", 2),
+        (b"get(", 1),
+        (b"get(5)", 1),
+        (b"get x", 1),
+        (b"get)", 1),
+        (b"get()()", 1),
+        (b"()", 1),
+        (b" \n", 1),
+        (b"# x\n\n\xFF\n", 3),
+        (b"\n #x", 2),
+        (b"get\t", 1),
+        (b"get\r", 1),
+        (b"Get", 1),
+    ];
+    for (text, number) in cases {
+        let fault = read(alloc, text, &image)?.err();
+        assert!(rt; fault == Some(CallsFault::Line(number)));
+    }
+    Ok(())
+}
+
+fn answer(
+    alloc: Global,
+    op: Option<u32>,
+    end: CallEnd,
+    outs: &[i64],
+    image: &Image,
+) -> Result<Vec<u8>, Fail> {
+    if !are_outputs(image, op, outs) {
+        return Err(Fail::from("the outputs"));
+    }
+    Ok(reply(alloc, op, &end, outs, image).ok().ok_or("memory")?)
+}
+
+const DONE: CallEnd = CallEnd::Done { steps: 3 };
+
+fn trap(kind: Trap) -> CallEnd {
+    CallEnd::Trap {
+        kind,
+        at: 5,
+        steps: 2,
+    }
+}
+
+#[test]
+fn replies_for_the_counter(rt: HostRuntime) -> Result<(), Fail> {
+    let alloc = rt.alloc();
+    let image = counter(alloc)?;
+    let cases: [(Option<u32>, CallEnd, &[i64], &[u8]); 9] = [
+        // what is called, how it ends, the outputs and the line
+        (Some(1), DONE, &[], b"setmax\n"),
+        (Some(2), DONE, &[10], b"get = 10\n"),
+        (Some(2), DONE, &[-2147483647], b"get = -2147483647\n"),
+        (
+            Some(2),
+            trap(Trap::Overflow),
+            &[10],
+            b"get trapped Overflow at 5\n",
+        ),
+        (Some(2), CallEnd::OutOfFuel, &[10], b"get out of fuel\n"),
+        (None, DONE, &[], b""),
+        (
+            None,
+            CallEnd::OutOfFuel,
+            &[],
+            b"initialisation out of fuel\n",
+        ),
+        (
+            None,
+            trap(Trap::ModRange),
+            &[],
+            b"initialisation trapped ModRange at 5\n",
+        ),
+        (
+            Some(0),
+            CallEnd::Trap {
+                kind: Trap::DivZero,
+                at: 0,
+                steps: 0,
+            },
+            &[],
+            b"reset trapped DivZero at 0\n",
+        ),
+    ];
+    for (op, end, outs, line) in cases {
+        let found = answer(alloc, op, end, outs, &image)?;
+        assert!(rt; found.as_slice() == line);
+    }
+    Ok(())
+}
+
+#[test]
+fn replies_with_values_of_each_kind(rt: HostRuntime) -> Result<(), Fail> {
+    let alloc = rt.alloc();
+    let image = samples(alloc)?;
+    let cases: [(Option<u32>, CallEnd, &[i64], &[u8]); 10] = [
+        // what is called, how it ends, the outputs and the line
+        (
+            Some(0),
+            trap(Trap::Overflow),
+            &[],
+            b"inc trapped Overflow at 5\n",
+        ),
+        (Some(0), trap(Trap::Index), &[], b"inc trapped Index at 5\n"),
+        (Some(1), CallEnd::OutOfFuel, &[1], b"fill out of fuel\n"),
+        (Some(1), DONE, &[0], b"fill = red\n"),
+        (Some(1), DONE, &[1], b"fill = green\n"),
+        (Some(1), DONE, &[2], b"fill = 2\n"),
+        (Some(1), DONE, &[-1], b"fill = -1\n"),
+        (Some(2), DONE, &[0, 0, 1], b"show = 0, FALSE, green\n"),
+        (Some(2), DONE, &[-3, 1, 2], b"show = -3, TRUE, 2\n"),
+        (Some(2), DONE, &[7, 2, 0], b"show = 7, 2, red\n"),
+    ];
+    for (op, end, outs, line) in cases {
+        let found = answer(alloc, op, end, outs, &image)?;
+        assert!(rt; found.as_slice() == line);
+    }
+    let found = answer(alloc, Some(3), DONE, &[0], &image)?;
+    assert!(rt; found.as_slice() == b"inc = 0\n".as_slice());
+    Ok(())
+}
+
+#[test]
+fn closes_with_calls_and_steps(rt: HostRuntime) -> Result<(), Fail> {
+    let cases: [(u64, u64, &[u8]); 3] = [
+        // the numbers and the line
+        (2, 9, b"end 2 calls, 9 steps\n"),
+        (0, 0, b"end 0 calls, 0 steps\n"),
+        (
+            1,
+            18446744073709551615,
+            b"end 1 calls, 18446744073709551615 steps\n",
+        ),
+    ];
+    for (calls, steps, line) in cases {
+        let found = closing(rt.alloc(), calls, steps).ok().ok_or("memory")?;
+        assert!(rt; found.as_slice() == line);
+    }
+    assert_eq!(rt; steps(&DONE, 7), 3);
+    assert_eq!(rt; steps(&trap(Trap::Index), 7), 2);
+    assert_eq!(rt; steps(&CallEnd::OutOfFuel, 7), 7);
+    Ok(())
+}
