@@ -3,4 +3,6 @@
 #![tactic(auto)]
 
 mod component;
+pub mod laws;
+mod lexer;
 mod token;
