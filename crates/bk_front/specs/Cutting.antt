@@ -10,13 +10,13 @@ abbrev pub begins : (ℕ → Bool) → List ℕ → Bool
 begins passes [] = false
 begins passes (c ∷ cs) = passes c
 
--- the characters that pass, as far as they go, and the rest
+-- the text is cut into a run, which is its first characters as far as they pass, and the rest
 pub record IsRun (passes : ℕ → Bool) (text run rest : List ℕ) : Type 0 where
   pub splits : text ≡ run ++ rest
   pub all : list_all passes run ≡ true
   pub ends : begins passes rest ≡ false
 
--- a run that is not empty where the text's first character is such as a run may begin with
+-- such a run, where the text's first character starts one
 pub record IsFirstRun (starts passes : ℕ → Bool) (text run rest : List ℕ) : Type 0 where
   pub first : begins starts text ≡ true
   pub cut : IsRun passes text run rest

@@ -1,6 +1,6 @@
 // The tokens of a text.
 
-ghost use Rattle.std.specs.Prelude.{◌≡◌, ◌≢◌, ◌≤◌, ◌++◌, false, IfOk, IsTrue, MatchOption, SomeIff, length, take_while};
+ghost use Rattle.std.specs.Prelude.{◌≡◌, ◌≢◌, ◌≤◌, ◌++◌, false, IfOk, IsTrue, MatchOption, SomeIff, ℕ, List, length, take_while};
 ghost use Rattle.std.specs.List.{list_all};
 ghost use Rattle.std.specs.Option.{option_map};
 ghost use Rattle.bk_front.specs.Lexis.{is_blank, is_digit, is_letter, goes_on, numeral_from, sign_text, BeginsWith, IsSmallToken, Cuts};
@@ -31,7 +31,7 @@ pub(crate) fn tokens(alloc: Global, text: &[u8]) -> Result<Option<Vec<Token>>, M
 
 /// The text without the blanks in front.
 fn after_blanks(text: &[u8]) -> &[u8]
-    ensures { (blanks : _) × IsRun is_blank text.now blanks result.now }
+    ensures { (blanks : List ℕ) × IsRun is_blank text.now blanks result.now }
 {
     let (_, rest) = text.split_at(blanks_in_front(text));
     rest
@@ -43,7 +43,7 @@ fn blanks_in_front(text: &[u8]) -> usize
     text.iter().take_while(|c| is_blank(**c)).count()
 }
 
-/// The token that the text begins with, and the rest.
+/// The token that the text begins with, and the rest. None where it begins with none, or with a number above MAXINT.
 fn first_token(alloc: Global, text: &[u8]) -> Result<Option<(Token, &[u8])>, Memory>
     ensures { IfOk result (λ found. MatchOption found (BeginsWithNone text.now) (λ pair. BeginsWith pair.0 text.now pair.1.now × IsSmallToken pair.0)) }
 {
@@ -60,6 +60,7 @@ fn first_token(alloc: Global, text: &[u8]) -> Result<Option<(Token, &[u8])>, Mem
     Ok(first_sign(text).map(|(sign, rest)| (Token::Sign(sign), rest)))
 }
 
+/// The identifier that the text begins with, and the rest.
 fn first_identifier(text: &[u8]) -> Option<(&[u8], &[u8])>
     ensures { MatchOption result (begins is_letter text.now ≡ false) (λ pair. IsFirstRun is_letter goes_on text.now pair.0.now pair.1.now) }
 {
@@ -75,6 +76,7 @@ fn identifier_length(text: &[u8]) -> usize
     text.iter().take_while(|c| goes_on(**c)).count()
 }
 
+/// The digits that the text begins with, and the rest.
 fn first_numeral(text: &[u8]) -> Option<(&[u8], &[u8])>
     ensures { MatchOption result (begins is_digit text.now ≡ false) (λ pair. IsFirstRun is_digit is_digit text.now pair.0.now pair.1.now) }
 {
@@ -126,11 +128,12 @@ fn first_sign(text: &[u8]) -> Option<(Sign, &[u8])>
 
 /// What stands behind the sign, where the text begins with it.
 fn behind_sign(text: &[u8], sign: Sign) -> Option<&[u8]>
-    ensures { MatchOption result ((rest : _) → text.now ≢ sign_text sign ++ rest) (λ rest. text.now ≡ sign_text sign ++ rest.now) }
+    ensures { MatchOption result ((rest : List ℕ) → text.now ≢ sign_text sign ++ rest) (λ rest. text.now ≡ sign_text sign ++ rest.now) }
 {
     text.strip_prefix(sign_text(sign))
 }
 
+/// How the sign is written.
 fn sign_text(sign: Sign) -> &'static [u8]
     ensures { result.now ≡ sign_text sign }
 {

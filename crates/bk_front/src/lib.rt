@@ -5,4 +5,6 @@
 mod component;
 pub mod laws;
 mod lexer;
+#[cfg(test)]
+mod lexer_tests;
 mod token;
