@@ -1,2 +1,5 @@
 pub mod ProjectFiles
 pub mod Trimming
+pub mod Cutting
+pub mod CuttingParts
+pub mod CuttingLoop

@@ -1,5 +1,5 @@
 -- The tokens of the first form, and how a text is cut into them (the signs and words are those of the B Language Reference Manual).
-use Rattle.std.specs.Prelude.{◌≡◌, ℕ, ◌+◌, ◌-◌, ◌*◌, ◌≤◌, Bool, false, ◌&&◌, ◌||◌, nat_eq, nat_le, IsTrue, List, [], ◌∷◌, ◌++◌, length, codes}
+use Rattle.std.specs.Prelude.{◌≡◌, ℕ, ◌+◌, ◌-◌, ◌*◌, ◌≤◌, Bool, false, ◌&&◌, ◌||◌, nat_eq, nat_le, IsTrue, List, [], ◌∷◌, ◌++◌, length, All, Option, Some, None, codes}
 use Rattle.std.specs.List.{list_all}
 use Rattle.bk_front.specs.declared.token.Token.{Token}
 use Rattle.bk_front.specs.declared.token.Token.TheVariants.{Word, Number, Sign as Signed}
@@ -65,3 +65,15 @@ AreTokens text [] = IsTrue (list_all is_blank text)
 AreTokens text (token ∷ tokens) =
     (blanks rest after : List ℕ) × (text ≡ blanks ++ rest) × IsTrue (list_all is_blank blanks) ×
     BeginsWith token rest after × AreTokens after tokens
+
+-- ---- what the program reads
+-- a number is at most MAXINT
+abbrev pub IsSmallToken : Token → Type 0
+IsSmallToken (Word name) = Unit {0}
+IsSmallToken (Number n) = n ≤ 2147483647
+IsSmallToken (Signed s) = Unit {0}
+
+-- the tokens of the text, or none where it has none or one of them is a greater number
+abbrev pub Cuts : List ℕ → Option (List Token) → Type 0
+Cuts text (Some tokens) = AreTokens text tokens × All IsSmallToken tokens
+Cuts text None = (tokens : List Token) → AreTokens text tokens → All IsSmallToken tokens → ⊥

@@ -5,6 +5,10 @@
 mod component;
 mod project_file;
 mod refusal;
+pub mod laws;
+mod lexer;
+#[cfg(test)]
+mod lexer_tests;
 mod token;
 
 pub use project_file::{LineKind, ProjectLine, lines};

@@ -1,0 +1,8 @@
+//! Laws of texts. Each is the contract of a function that does nothing.
+
+ghost use Rattle.bk_front.specs.Laws.{HasOneCut};
+
+/// What holds of the tokens of a text.
+pub fn texts()
+    ensures tokens { HasOneCut }
+{}
