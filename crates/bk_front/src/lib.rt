@@ -3,4 +3,8 @@
 #![tactic(auto)]
 
 mod component;
+pub mod laws;
+mod parser;
+mod reader;
+mod rules;
 mod token;
