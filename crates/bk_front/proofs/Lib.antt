@@ -3,3 +3,9 @@ pub mod Trimming
 pub mod Cutting
 pub mod CuttingParts
 pub mod CuttingLoop
+pub mod ParsingSound
+pub mod ParsingLoop
+pub mod Naming
+pub mod ParsingComplete
+pub mod RulesDecide
+pub mod Spelled

@@ -6,3 +6,5 @@ pub mod ProjectFile
 pub mod Refusals
 pub mod Trims
 pub mod Laws
+pub mod Parsing
+pub mod Rules

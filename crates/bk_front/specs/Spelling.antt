@@ -51,7 +51,7 @@ component_tokens c =
 
 -- ---- what holds of a component
 -- an identifier that is no word of the notation
-abbrev pub is_name : List ℕ → Bool
+unfoldable pub is_name : List ℕ → Bool
 is_name text = is_identifier text && not (list_any (bytes_eq text) word_texts)
 
 -- at most MAXINT
@@ -84,6 +84,15 @@ pub record IsComponent (c : Component) : Type 0 where
   pub few : length c.operations ≤ 100
   pub operations : All (IsOperation c.variable) c.operations
   pub distinct : AllPairs (λ a b. a ≢ b) (map (λ o. o.name) c.operations)
+
+-- the tokens spell this component, or none if it is None
+abbrev pub Spells : List Token → Option Component → Type 0
+Spells tokens (Some c) = (tokens ≡ component_tokens c) × IsComponent c
+Spells tokens None = (c : Component) → IsComponent c → tokens ≢ component_tokens c
+
+-- tokens spell at most one component
+abbrev pub SpellAtMostOne : Type 0
+SpellAtMostOne = (c d : Component) → IsComponent c → IsComponent d → component_tokens c ≡ component_tokens d → c ≡ d
 
 -- the text is that of the component
 pub record IsTextOf (text : List ℕ) (c : Component) : Type 0 where

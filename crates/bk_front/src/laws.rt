@@ -1,8 +1,14 @@
 //! Laws of texts. Each is the contract of a function that does nothing.
 
 ghost use Rattle.bk_front.specs.Laws.{HasOneCut};
+ghost use Rattle.bk_front.specs.Spelling.{SpellAtMostOne};
 
 /// What holds of the tokens of a text.
 pub fn texts()
     ensures tokens { HasOneCut }
+{}
+
+/// What tokens spell.
+pub fn spelling()
+    ensures components { SpellAtMostOne }
 {}

@@ -9,6 +9,10 @@ pub mod laws;
 mod lexer;
 #[cfg(test)]
 mod lexer_tests;
+pub mod laws;
+mod parser;
+mod reader;
+mod rules;
 mod token;
 
 pub use project_file::{LineKind, ProjectLine, lines};
