@@ -3,4 +3,7 @@
 #![tactic(auto)]
 
 mod component;
+mod development;
+pub mod laws;
+mod pair;
 mod token;

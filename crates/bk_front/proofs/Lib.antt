@@ -1,0 +1,4 @@
+pub mod Homes
+pub mod Headers
+pub mod Developments
+pub mod FirstForms

@@ -1,0 +1,14 @@
+-- What holds of the developments that are read, as statements.
+use Rattle.bk_dev.specs.Facts.{IsDevelopment}
+use Rattle.bk_front.specs.declared.component.Component.{Component}
+use Rattle.bk_front.specs.Spelling.{IsComponent, ArePair}
+use Rattle.bk_front.specs.Reading.{development_of}
+use Rattle.bk_front.specs.FirstForm.{IsFirstForm}
+
+-- a machine and its implementation are a development
+abbrev pub PairIsDevelopment : Type 0
+PairIsDevelopment = (m i : Component) → IsComponent m → IsComponent i → ArePair m i → IsDevelopment (development_of m i)
+
+-- it has the first form
+abbrev pub PairHasFirstForm : Type 0
+PairHasFirstForm = (m i : Component) → IsComponent m → IsComponent i → ArePair m i → IsFirstForm (development_of m i)
