@@ -9,3 +9,7 @@ pub mod Naming
 pub mod ParsingComplete
 pub mod RulesDecide
 pub mod Spelled
+pub mod Homes
+pub mod Headers
+pub mod Developments
+pub mod FirstForms

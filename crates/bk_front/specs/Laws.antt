@@ -1,8 +1,21 @@
--- Laws of texts, as statements.
+-- What holds of texts and of what they are read as, as statements.
 use Rattle.std.specs.Prelude.{◌≡◌, ℕ, List}
+use Rattle.bk_dev.specs.Facts.{IsDevelopment}
 use Rattle.bk_front.specs.declared.token.Token.{Token}
+use Rattle.bk_front.specs.declared.component.Component.{Component}
 use Rattle.bk_front.specs.Lexis.{AreTokens}
+use Rattle.bk_front.specs.Spelling.{IsComponent, ArePair}
+use Rattle.bk_front.specs.Reading.{development_of}
+use Rattle.bk_front.specs.FirstForm.{IsFirstForm}
 
 -- a text has at most one list of tokens
 abbrev pub HasOneCut : Type 0
 HasOneCut = (text : List ℕ) (ts us : List Token) → AreTokens text ts → AreTokens text us → ts ≡ us
+
+-- a machine and its implementation are a development
+abbrev pub PairIsDevelopment : Type 0
+PairIsDevelopment = (m i : Component) → IsComponent m → IsComponent i → ArePair m i → IsDevelopment (development_of m i)
+
+-- it has the first form
+abbrev pub PairHasFirstForm : Type 0
+PairHasFirstForm = (m i : Component) → IsComponent m → IsComponent i → ArePair m i → IsFirstForm (development_of m i)

@@ -8,3 +8,4 @@ pub mod Trims
 pub mod Laws
 pub mod Parsing
 pub mod Rules
+pub mod FirstForm

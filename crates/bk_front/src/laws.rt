@@ -1,6 +1,6 @@
 //! Laws of texts. Each is the contract of a function that does nothing.
 
-ghost use Rattle.bk_front.specs.Laws.{HasOneCut};
+ghost use Rattle.bk_front.specs.Laws.{HasOneCut, PairIsDevelopment, PairHasFirstForm};
 ghost use Rattle.bk_front.specs.Spelling.{SpellAtMostOne};
 
 /// What holds of the tokens of a text.
@@ -11,4 +11,10 @@ pub fn texts()
 /// What tokens spell.
 pub fn spelling()
     ensures components { SpellAtMostOne }
+{}
+
+/// A machine of the first form and its implementation, as one development.
+pub fn first_form()
+    ensures is_development { PairIsDevelopment }
+    ensures has_first_form { PairHasFirstForm }
 {}

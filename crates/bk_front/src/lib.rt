@@ -3,17 +3,19 @@
 #![tactic(auto)]
 
 mod component;
-mod project_file;
-mod refusal;
+mod development;
 pub mod laws;
 mod lexer;
-#[cfg(test)]
-mod lexer_tests;
-pub mod laws;
+mod pair;
 mod parser;
+mod project_file;
 mod reader;
+mod refusal;
 mod rules;
 mod token;
 
 pub use project_file::{LineKind, ProjectLine, lines};
 pub use refusal::Refusal;
+
+#[cfg(test)]
+mod lexer_tests;
