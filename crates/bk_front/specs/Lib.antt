@@ -9,3 +9,4 @@ pub mod Laws
 pub mod Parsing
 pub mod Rules
 pub mod FirstForm
+pub mod Project

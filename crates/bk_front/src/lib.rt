@@ -8,12 +8,14 @@ pub mod laws;
 mod lexer;
 mod pair;
 mod parser;
+mod reading;
 mod project_file;
 mod reader;
 mod refusal;
 mod rules;
 mod token;
 
+pub use reading::project;
 pub use project_file::{LineKind, ProjectLine, lines};
 pub use refusal::Refusal;
 
