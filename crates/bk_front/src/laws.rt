@@ -1,8 +1,8 @@
-//! Laws of the first form. Each is the contract of a function that does nothing.
+//! Laws of texts. Each is the contract of a function that does nothing.
 
 ghost use Rattle.bk_front.specs.Spelling.{SpellAtMostOne};
 
-/// What a text says.
-pub fn spelling()
+/// What tokens spell.
+pub fn spellings()
     ensures components { SpellAtMostOne }
 {}
