@@ -19,7 +19,6 @@ missing text (row ∷ rows) = by (bytes_eq text (text_of row)) (missing text row
     by false e = e
 
 pub is_name_if : (text : List ℕ) (rows : List OpRow) (b : Bool) → is_identifier text ≡ true → map text_of rows ≡ word_texts → is_some (op_of rows text) ≡ not b → b ≡ is_name text
-unfolding is_name
 is_name_if text rows b e h n =
     not_twice b ∙ ap not (sym n ∙ missing text rows ∙ ap (λ (texts : List (List ℕ)). list_any (bytes_eq text) texts) h) ∙ rw e refl
   where
@@ -28,5 +27,4 @@ is_name_if text rows b e h n =
     not_twice false = refl
 
 pub is_no_name_if : (text : List ℕ) → is_identifier text ≡ false → is_name text ≡ false
-unfolding is_name
 is_no_name_if text e = rw e refl

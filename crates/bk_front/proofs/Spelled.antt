@@ -10,7 +10,6 @@ use Rattle.bk_front.proofs.ParsingComplete.{shape_complete}
 use Rattle.bk_front.proofs.RulesDecide.{is_component-decides}
 
 not_skip : (v : List ℕ) → is_name v ≡ true → v ≢ codes "skip"
-unfolding is_name
 not_skip v h e = true≢false (sym h ∙ ap is_name e)
 
 complete : (c : Component) → IsComponent c → shape_of (component_tokens c) ≡ Some c

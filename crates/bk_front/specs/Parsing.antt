@@ -1,4 +1,5 @@
--- The reader of components, as functions from a list of tokens to what stands at its front and what follows.
+-- How the program reads the tokens of a component: what stands at the front, and what follows. Only the contracts of private
+-- functions name these; what a component's tokens are, Spelling says.
 use Rattle.std.specs.Prelude.{ℕ, zero, suc, Bool, true, false, nat_eq, if◌then◌else◌, List, [], ◌∷◌, ◌++◌, length, Option, Some, None, codes}
 use Rattle.std.specs.Option.{option_and_then, option_map}
 use Rattle.std.specs.Str.{bytes_eq}
@@ -13,6 +14,7 @@ use Rattle.bk_front.specs.declared.component.Action.TheVariants.{Skip, Set, Answ
 use Rattle.bk_front.specs.declared.component.RightSide.{RightSide}
 use Rattle.bk_front.specs.declared.component.RightSide.TheVariants.{Constant, Variable}
 
+-- what follows of the value, if there is one
 infixl 10 ◌>>=◌
 abbrev pub ◌>>=◌ : {A B : Type 0} → Option A → (A → Option B) → Option B
 o >>= f = option_and_then f o
@@ -37,6 +39,7 @@ after_word w (Word t ∷ ts) = if bytes_eq t w then Some ts else None
 after_word w (Number n ∷ ts) = None
 after_word w (Signed s ∷ ts) = None
 
+-- the number of a sign
 abbrev pub place : Sign → ℕ
 place Member = 0
 place Interval = 1
@@ -52,8 +55,8 @@ after_sign s (Word t ∷ ts) = None
 after_sign s (Number n ∷ ts) = None
 after_sign s (Signed t ∷ ts) = if nat_eq (place t) (place s) then Some ts else None
 
--- ---- the parts of a component with variable v
--- the component's name, that of the machine that it refines, and what follows
+-- ---- the parts of a component with variable v; the last part of each value is what follows
+-- the name of a machine
 unfoldable pub machine_head_of : List Token → Option (List ℕ × List Token)
 machine_head_of ts = do
   after ← after_word (codes "MACHINE") ts
@@ -61,6 +64,7 @@ machine_head_of ts = do
   rest ← after_word (codes "VARIABLES") name.1
   Some (name.0, rest)
 
+-- the name of an implementation, and that of the machine that it refines
 unfoldable pub implementation_head_of : List Token → Option (List ℕ × List ℕ × List Token)
 implementation_head_of ts = do
   after ← after_word (codes "IMPLEMENTATION") ts
@@ -98,13 +102,13 @@ start_of v ts = do
   assign ← after_sign Assign target
   number_of assign
 
--- a right side
 abbrev pub either_side : List ℕ → List Token → Option (ℕ × List Token) → Option (RightSide × List Token)
 either_side v ts (Some n) = Some (Constant n.0, n.1)
 either_side v ts None = do
   rest ← after_word v ts
   Some (Variable, rest)
 
+-- a right side
 unfoldable pub side_of : List ℕ → List Token → Option (RightSide × List Token)
 side_of v ts = either_side v ts (number_of ts)
 
@@ -115,7 +119,6 @@ assigned_of v target ts = do
   assign ← after_sign Assign after
   side_of v assign
 
--- the output, if there is one, and the name of an operation
 abbrev pub either_header : List ℕ → List Token → Option (List Token) → Option (Option (List ℕ) × List ℕ × List Token)
 either_header first ts (Some after) = do
   name ← word_of after
@@ -125,18 +128,19 @@ either_header first ts None = do
   rest ← after_sign Equal ts
   Some (None, first, rest)
 
+-- the output, if there is one, and the name of an operation
 unfoldable pub header_of : List Token → Option (Option (List ℕ) × List ℕ × List Token)
 header_of ts = do
   first ← word_of ts
   either_header first.0 first.1 (after_sign Outputs first.1)
 
--- what an operation without an output does
 abbrev pub either_effect : List ℕ → List Token → Option (List Token) → Option (Action × List Token)
 either_effect v ts (Some rest) = Some (Skip, rest)
 either_effect v ts None = do
   side ← assigned_of v v ts
   Some (Set side.0, side.1)
 
+-- what an operation without an output does
 unfoldable pub effect_of : List ℕ → List Token → Option (Action × List Token)
 effect_of v ts = either_effect v ts (after_word (codes "skip") ts)
 
@@ -152,7 +156,6 @@ operation_of v ts = do
   action ← action_of v header.0 header.2
   Some (record { name = header.1; action = action.0 }, action.1)
 
--- at most n further operations, each behind a semicolon
 abbrev pub either_further : (List Token → Option (List Operation × List Token)) → List ℕ → List Token → Option (List Token) → Option (List Operation × List Token)
 either_further later v ts (Some more) = do
   next ← operation_of v more
@@ -160,6 +163,7 @@ either_further later v ts (Some more) = do
   Some (next.0 ∷ os.0, os.1)
 either_further later v ts None = Some ([], ts)
 
+-- at most n further operations, each behind a semicolon
 unfoldable pub further_of : ℕ → List ℕ → List Token → Option (List Operation × List Token)
 further_of zero v ts = Some ([], ts)
 further_of (suc n) v ts = either_further (further_of n v) v ts (after_sign Semicolon ts)
@@ -192,15 +196,17 @@ opening_of ts = do
   rest ← after_word (codes "OPERATIONS") start.1
   Some (record { name = head.0; refines = head.1; variable = variable.0; low = interval.0; high = interval.1; start = start.0 }, rest)
 
--- whether END alone is left
+-- whether there is a list, and it is empty
 abbrev pub is_nothing : Option (List Token) → Bool
 is_nothing None = false
 is_nothing (Some []) = true
 is_nothing (Some (t ∷ ts)) = false
 
+-- whether END alone is left
 unfoldable pub is_end : List Token → Bool
 is_end ts = is_nothing (after_word (codes "END") ts)
 
+-- the component with these operations
 abbrev pub closed : Opening → List Operation → Component
 closed o os = record { name = o.name; refines = o.refines; variable = o.variable; low = o.low; high = o.high; start = o.start; operations = os }
 

@@ -1,4 +1,4 @@
--- What holds of a component, as tests.
+-- What holds of a component, as tests. Only the contracts of private functions name these; Spelling has the facts.
 use Rattle.std.specs.Prelude.{ℕ, Bool, true, ◌&&◌, not, nat_le, List, [], ◌∷◌, length, Option, Some, None}
 use Rattle.std.specs.List.{list_any, list_all}
 use Rattle.std.specs.Str.{bytes_eq}

@@ -51,7 +51,7 @@ component_tokens c =
 
 -- ---- what holds of a component
 -- an identifier that is no word of the notation
-unfoldable pub is_name : List ℕ → Bool
+abbrev pub is_name : List ℕ → Bool
 is_name text = is_identifier text && not (list_any (bytes_eq text) word_texts)
 
 -- at most MAXINT

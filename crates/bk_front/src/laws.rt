@@ -9,7 +9,7 @@ pub fn texts()
 {}
 
 /// What tokens spell.
-pub fn spelling()
+pub fn spellings()
     ensures components { SpellAtMostOne }
 {}
 

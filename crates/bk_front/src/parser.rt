@@ -166,3 +166,6 @@ pub(crate) fn component(alloc: Global, tokens: &[Token]) -> Result<Option<Compon
     }
     Ok(Some(component))
 }
+
+#[cfg(test)]
+mod tests;

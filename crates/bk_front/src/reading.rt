@@ -8,7 +8,7 @@ ghost use Rattle.bk_front.specs.Project.{ReadsComponent, ReadsMachine, text_at, 
 
 use crate::component::Component;
 use crate::development::development;
-use crate::laws::{first_form, spelling, texts};
+use crate::laws::{first_form, spellings, texts};
 use crate::lexer::tokens;
 use crate::pair::are_pair;
 use crate::parser::component;
@@ -71,7 +71,7 @@ fn component_in(alloc: Global, text: &[u8]) -> Result<Option<Component>, Memory>
     ensures { IfOk result (ReadsComponent text.now) }
 {
     texts();
-    spelling();
+    spellings();
     let Some(tokens) = tokens(alloc, text)? else {
         return Ok(None);
     };

@@ -13,6 +13,11 @@ use crate::component::{Action, Component, Operation, RightSide};
 use bk_io::Text;
 use bk_ops::OpRow;
 
+/// MAXINT.
+const GREATEST_NUMBER: u32 = 2_147_483_647;
+
+const MOST_OPERATIONS: usize = 100;
+
 fn is_letter(byte: u8) -> bool
     ensures { result ≡ is_letter byte }
 {
@@ -40,7 +45,7 @@ fn is_identifier(text: &[u8]) -> bool
     is_letter(*first) && all_go_on(rest)
 }
 
-// The words of the notation.
+/// The words of the notation.
 #[derive(Drop)]
 struct Notation {
     words: [OpRow; 95],
@@ -54,7 +59,7 @@ impl Notation {
         }
     }
 
-    // Whether the text is an identifier and none of the words.
+    /// Whether the text is an identifier and none of the words.
     #[tactic(auto, using(crate::proofs::Naming::is_name_if, crate::proofs::Naming::is_no_name_if))]
     fn is_name(&self, text: &Text) -> bool
         ensures { result ≡ is_name text.now }
@@ -64,10 +69,11 @@ impl Notation {
     }
 }
 
+/// Whether a constant may be so great.
 fn is_small(number: u32) -> bool
     ensures { result ≡ is_small number }
 {
-    number <= 2_147_483_647
+    number <= GREATEST_NUMBER
 }
 
 #[tactic(auto, unfolding(crate::specs::Rules::is_side))]
@@ -134,12 +140,13 @@ fn all_are_operations(notation: &Notation, variable: &Text, operations: &[Operat
 fn are_operations(notation: &Notation, variable: &Text, operations: &[Operation]) -> bool
     ensures { result ≡ are_operations variable.now operations.now }
 {
-    1 <= operations.len()
-        && operations.len() <= 100
+    !operations.is_empty()
+        && operations.len() <= MOST_OPERATIONS
         && all_are_operations(notation, variable, operations)
         && have_distinct_names(operations)
 }
 
+/// Whether the names, the numbers and the operations may stand in a component.
 #[tactic(auto, unfolding(crate::specs::Rules::is_component))]
 pub(crate) fn is_component(component: &Component) -> bool
     ensures { result ≡ is_component component.now }
