@@ -1,4 +1,5 @@
 pub mod Homes
 pub mod Headers
+pub mod CounterFacts
 pub mod Developments
 pub mod FirstForms
