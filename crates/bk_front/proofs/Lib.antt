@@ -11,5 +11,6 @@ pub mod RulesDecide
 pub mod Spelled
 pub mod Homes
 pub mod Headers
+pub mod CounterFacts
 pub mod Developments
 pub mod FirstForms

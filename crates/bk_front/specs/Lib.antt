@@ -5,8 +5,9 @@ pub mod Reading
 pub mod ProjectFile
 pub mod Refusals
 pub mod Trims
+pub mod Counter
+pub mod FirstForm
 pub mod Laws
 pub mod Parsing
 pub mod Rules
-pub mod FirstForm
 pub mod Project

@@ -38,6 +38,14 @@ fn becomes(alloc: Global, x: u32, term: Form) -> Result<Sub, Memory>
     Ok(Sub::assign(terms))
 }
 
+// x := side, in a component whose variable has this number
+fn assignment(alloc: Global, x: u32, variable: u32, side: RightSide) -> Result<Sub, Memory>
+    ensures { IfOk result (λ s. s ≡ assign ((x, side_of variable side) ∷ [])) }
+{
+    let term = right_side(alloc, variable, side)?;
+    becomes(alloc, x, term)
+}
+
 // What an operation does, where its output has this number.
 fn body(alloc: Global, variable: u32, output: u32, action: &Action) -> Result<Body, Memory>
     ensures { IfOk result (λ b. b ≡ body_of variable output action.now) }
@@ -51,21 +59,13 @@ fn body(alloc: Global, variable: u32, output: u32, action: &Action) -> Result<Bo
             outputs,
         }),
         Action::Set(side) => {
-            let term = right_side(alloc, variable, *side)?;
-            Ok(Body {
-                pre,
-                sub: becomes(alloc, variable, term)?,
-                outputs,
-            })
+            let sub = assignment(alloc, variable, variable, *side)?;
+            Ok(Body { pre, sub, outputs })
         }
         Action::Answer(_, side) => {
-            let term = right_side(alloc, variable, *side)?;
+            let sub = assignment(alloc, output, variable, *side)?;
             outputs.push(output)?;
-            Ok(Body {
-                pre,
-                sub: becomes(alloc, output, term)?,
-                outputs,
-            })
+            Ok(Body { pre, sub, outputs })
         }
     }
 }

@@ -4,6 +4,8 @@
 
 mod component;
 mod development;
+#[cfg(test)]
+mod development_tests;
 pub mod laws;
 mod lexer;
 mod pair;
