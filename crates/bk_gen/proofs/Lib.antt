@@ -1,0 +1,4 @@
+pub mod Plain
+pub mod Loadable
+pub mod Named
+pub mod Images
