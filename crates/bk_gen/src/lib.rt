@@ -9,3 +9,6 @@ mod statement;
 
 pub use error::GenFault;
 pub use image::translate;
+
+#[cfg(test)]
+mod tests;
