@@ -1,2 +1,4 @@
 pub mod Translation
+pub mod Simple
+pub mod Plain
 pub mod Laws

@@ -1,6 +1,8 @@
 //! What small developments and substitutions are translated to. Each law is the contract of a function that does nothing.
 
+ghost use Rattle.bk_dev.specs.Counter.{counter};
 ghost use Rattle.bk_gen.specs.Laws.{CounterCode, TestsCode, LoopCode};
+ghost use Rattle.bk_gen.specs.Simple.{IsSimple};
 
 /// A counter, to be checked by hand.
 pub fn counter()
@@ -11,4 +13,9 @@ pub fn counter()
 pub fn small_cases()
     ensures tests { TestsCode }
     ensures repeats { LoopCode }
+{}
+
+/// The counter is one of the developments that are translated so far.
+pub fn simple_counter()
+    ensures { IsSimple counter }
 {}
