@@ -1,10 +1,9 @@
 -- What a machine and its implementation are read as has the first form.
-use Rattle.std.proofs.Common.{◌≡◌, ℕ, ◌+◌, ◌≤◌, pos, ◌-ℤ◌, ◌≤ℤ◌, List, [], ◌∷◌, length, map, refl, All, arith}
+use Rattle.std.proofs.Common.{◌≡◌, ℕ, ◌+◌, ◌≤◌, pos, neg_ℤ, ◌≤ℤ◌, List, [], ◌∷◌, length, map, refl, All, arith}
 use Rattle.std.specs.Prelude.{codes}
 use Rattle.std.proofs.lemmas.Int.{ints}
 use Rattle.std.proofs.lemmas.List.Elements.{All-append, All-head, All-tail, All-cons, All-nil}
 use Rattle.bk_val.specs.ValueType.{int_type}
-use Rattle.bk_dev.specs.Development.{Development}
 use Rattle.bk_front.specs.declared.component.Component.{Component}
 use Rattle.bk_front.specs.declared.component.Operation.{Operation}
 use Rattle.bk_front.specs.declared.component.Action.{Action}
@@ -13,27 +12,28 @@ use Rattle.bk_front.specs.declared.component.RightSide.{RightSide}
 use Rattle.bk_front.specs.declared.component.RightSide.TheVariants.{Constant, Variable}
 use Rattle.bk_front.specs.Spelling.{IsSide, IsAction, IsOperation, IsComponent, ArePair}
 use Rattle.bk_front.specs.Reading.{output_in, outputs_in, side_of, body_of, bodies_of, head_of, lower_variable, variables_of, development_of}
-use Rattle.bk_front.specs.FirstForm.{IsSimpleTerm, IsSimpleSub, IsFirstForm}
+use Rattle.bk_gen.specs.Simple.{IsSimpleTerm, IsSimpleStatement}
+use Rattle.bk_front.specs.FirstForm.{IsFirstForm}
 use Rattle.bk_front.proofs.Homes.{all-ints}
 
-small-number : (n : ℕ) → n ≤ 2147483647 → ((pos 0 -ℤ pos 2147483647) ≤ℤ pos n) × (pos n ≤ℤ pos 2147483647)
+small-number : (n : ℕ) → n ≤ 2147483647 → (neg_ℤ (pos 2147483647) ≤ℤ pos n) × (pos n ≤ℤ pos 2147483647)
 small-number n h = (omega (arith, ints), omega (arith, ints))
 
-module _ (dev : Development) (x : ℕ) where
-  side-simple : (e : RightSide) → IsSide e → IsSimpleTerm dev (side_of x e)
+module _ (x : ℕ) where
+  side-simple : (e : RightSide) → IsSide e → IsSimpleTerm (pos 2147483647) (side_of x e)
   side-simple (Constant n) h = small-number n h
   side-simple Variable h = tt
 
-  body-simple : (name : List ℕ) (r : ℕ) (a : Action) → IsAction name a → IsSimpleSub dev (body_of x r a).sub
+  body-simple : (name : List ℕ) (r : ℕ) (a : Action) → IsAction name a → IsSimpleStatement (pos 2147483647) (body_of x r a).sub
   body-simple name r Skip h = tt
   body-simple name r (Set e) h = side-simple e h
   body-simple name r (Answer t e) h = side-simple e h.2
 
-  bodies-simple : (name : List ℕ) (r : ℕ) (os : List Operation) → All (IsOperation name) os → All (λ b. IsSimpleSub dev b.sub) (bodies_of x r os)
-  bodies-simple name r [] a = All-nil (λ b. IsSimpleSub dev b.sub)
+  bodies-simple : (name : List ℕ) (r : ℕ) (os : List Operation) → All (IsOperation name) os → All (λ b. IsSimpleStatement (pos 2147483647) b.sub) (bodies_of x r os)
+  bodies-simple name r [] a = All-nil (λ b. IsSimpleStatement (pos 2147483647) b.sub)
   bodies-simple name r (o ∷ os) a =
       let next = r + length (output_in o.action) in
-      All-cons (λ b. IsSimpleSub dev b.sub) (body_of x r o.action) (bodies_of x next os)
+      All-cons (λ b. IsSimpleStatement (pos 2147483647) b.sub) (body_of x r o.action) (bodies_of x next os)
       (body-simple name r o.action (All-head (IsOperation name) o os a).action)
       (bodies-simple name next os (All-tail (IsOperation name) o os a))
 
@@ -43,11 +43,13 @@ no-inputs (o ∷ os) = All-cons (λ h. h.inputs ≡ []) (head_of o) (map head_of
 
 pub first_form : (m i : Component) → IsComponent m → IsComponent i → ArePair m i → IsFirstForm (development_of m i)
 first_form m i c d p = record {
-  complete = refl;
-  sets = refl;
-  values = refl;
-  ints = All-append (λ v. v.of_type ≡ int_type) (variables_of (codes "$0") m) (variables_of (codes "$1") i) (all-ints (codes "$0") (m.variable ∷ outputs_in m.operations)) (all-ints (codes "$1") (i.variable ∷ outputs_in i.operations));
+  simple = record {
+    complete = refl;
+    no_sets = refl;
+    no_values = refl;
+    whole_numbers = All-append (λ v. v.of_type ≡ int_type) (variables_of (codes "$0") m) (variables_of (codes "$1") i) (all-ints (codes "$0") (m.variable ∷ outputs_in m.operations)) (all-ints (codes "$1") (i.variable ∷ outputs_in i.operations));
+    init = small-number i.start d.start;
+    bodies = bodies-simple (lower_variable m) i.variable (lower_variable m + 1) i.operations d.operations;
+  };
   inputs = no-inputs m.operations;
-  init = small-number i.start d.start;
-  bodies = bodies-simple (development_of m i) (lower_variable m) i.variable (lower_variable m + 1) i.operations d.operations;
 }

@@ -14,3 +14,4 @@ pub mod Headers
 pub mod CounterFacts
 pub mod Developments
 pub mod FirstForms
+pub mod Readings

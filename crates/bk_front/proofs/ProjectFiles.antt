@@ -1,8 +1,7 @@
 -- When a project file is not of the first form.
-use Rattle.std.proofs.Common.{◌≡◌, ◌≢◌, ℕ, List, [], ◌∷◌, codes, refl, sym, ◌∙◌, ap}
+use Rattle.std.proofs.Common.{◌≡◌, ◌≢◌, ℕ, List, [], ◌∷◌, codes, sym, ◌∙◌, ap}
 use Rattle.bk_lines.specs.Lines.{kept_lines}
-use Rattle.bk_front.specs.ProjectFile.{IsLine, NamesFiles, IsNoProject, first_or}
-
+use Rattle.bk_front.specs.ProjectFile.{IsLine, IsNoProject}
 
 abbrev first_line : List (List ℕ) → List ℕ
 first_line [] = []

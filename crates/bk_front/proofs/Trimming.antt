@@ -1,5 +1,5 @@
 -- Spaces at the ends of a text, and the file name of a project line.
-use Rattle.std.proofs.Common.{◌≡◌, ◌≢◌, ◌<◌, ◌≤◌, ◌+◌, ◌-◌, ℕ, zero, suc, Bool, true, false, ◌&&◌, nat_eq, cond,  List, [], ◌∷◌, ◌++◌, length, take, drop, replicate, slice_index_or, refl, sym, true≢false, ◌∙◌, ap, arith}
+use Rattle.std.proofs.Common.{◌≡◌, ◌≢◌, ◌<◌, ◌+◌, ◌-◌, ℕ, zero, suc, Bool, true, false, ◌&&◌, nat_eq, cond, List, [], ◌∷◌, ◌++◌, length, take, drop, replicate, slice_index_or, refl, sym, true≢false, ◌∙◌, ap, arith}
 use Rattle.std.specs.Str.{IsUtf8}
 use Rattle.std.proofs.lemmas.Bool.{ne_eqb, eqb-true, eqb-false}
 use Rattle.std.proofs.lemmas.Grind.{take_at_read}
@@ -7,7 +7,7 @@ use Rattle.std.proofs.lemmas.List.{take_all, append_cancel_left, take-append-dro
 use Rattle.std.proofs.Math.Seq.{take-append_seam}
 use Rattle.std.specs.Cmp.Lexicographic.{pointwise, bytes_decides}
 use Rattle.bk_front.specs.Trims.{trim_front, trim_back, is_empty}
-use Rattle.bk_front.specs.ProjectFile.{first_or, last_or, IsFileName, IsLine}
+use Rattle.bk_front.specs.ProjectFile.{first_or, last_or, IsLine}
 
 front_of : (k : ℕ) (xs : List ℕ) → trim_front (replicate k 32 ++ xs) ≡ trim_front xs
 front_of zero xs = refl
@@ -41,6 +41,7 @@ last_at (c ∷ x ∷ xs) d e h = last_at (x ∷ xs) d e (omega arith) ∙ ap (λ
   where
     short : length (x ∷ xs) - 1 ≡ length xs
     short = omega arith
+
     long : suc (length xs) ≡ length (c ∷ x ∷ xs) - 1
     long = omega arith
 

@@ -5,7 +5,8 @@ use Rattle.bk_front.specs.declared.token.Token.{Token}
 use Rattle.bk_front.specs.declared.component.Component.{Component}
 use Rattle.bk_front.specs.Lexis.{AreTokens}
 use Rattle.bk_front.specs.Spelling.{IsComponent, ArePair}
-use Rattle.bk_front.specs.Reading.{development_of}
+use Rattle.bk_dev.specs.Development.{Development}
+use Rattle.bk_front.specs.Reading.{development_of, Reads}
 use Rattle.bk_front.specs.FirstForm.{IsFirstForm}
 
 -- a text has at most one list of tokens
@@ -19,3 +20,7 @@ PairIsDevelopment = (m i : Component) → IsComponent m → IsComponent i → Ar
 -- it has the first form
 abbrev pub PairHasFirstForm : Type 0
 PairHasFirstForm = (m i : Component) → IsComponent m → IsComponent i → ArePair m i → IsFirstForm (development_of m i)
+
+-- two texts read as at most one development
+abbrev pub ReadAtMostOne : Type 0
+ReadAtMostOne = (above below : List ℕ) (dev other : Development) → Reads above below dev → Reads above below other → dev ≡ other

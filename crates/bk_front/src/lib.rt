@@ -10,15 +10,15 @@ pub mod laws;
 mod lexer;
 mod pair;
 mod parser;
-mod reading;
 mod project_file;
 mod reader;
+mod reading;
 mod refusal;
 mod rules;
 mod token;
 
-pub use reading::project;
 pub use project_file::{LineKind, ProjectLine, lines};
+pub use reading::project;
 pub use refusal::Refusal;
 
 #[cfg(test)]

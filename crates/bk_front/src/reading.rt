@@ -40,6 +40,8 @@ fn pair(alloc: Global, above: &[u8], below: &[u8]) -> Result<Development, Refusa
     ensures err { IfErr result (IsRefusal above.now below.now) }
 {
     first_form();
+    texts();
+    spellings();
     let Some(machine) = machine_in(alloc, above)? else {
         return Err(Refusal::not_built(1));
     };
@@ -57,6 +59,8 @@ fn pair(alloc: Global, above: &[u8], below: &[u8]) -> Result<Development, Refusa
 fn machine_in(alloc: Global, text: &[u8]) -> Result<Option<Component>, Memory>
     ensures { IfOk result (ReadsMachine text.now) }
 {
+    texts();
+    spellings();
     let Some(machine) = component_in(alloc, text)? else {
         return Ok(None);
     };
