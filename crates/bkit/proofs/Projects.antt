@@ -1,0 +1,130 @@
+-- What the files of a project tell.
+use Rattle.std.proofs.Common.{◌≡◌, ℕ, suc, ◌+◌, ◌<◌, ◌≤◌, List, [], ◌∷◌, length, map, All, filter, Option, Some, None, refl, sym, ◌∙◌, ap, subst, arith, Bool, true, false, not, cond}
+use Rattle.std.specs.List.{AllZip}
+use Rattle.std.specs.Str.Lines.{lines}
+use Rattle.std.proofs.lemmas.List.{length-map}
+use Rattle.std.proofs.lemmas.List.Elements.{All-nil, All-cons, All-head, All-tail}
+use Rattle.bk_io.specs.Files.{Files}
+use Rattle.bk_code.specs.declared.image.Image.{Image}
+use Rattle.bk_code.specs.Session.{Request}
+use Rattle.bk_dev.specs.Development.{Head, Body, Development, level_at, last}
+use Rattle.bk_gen.specs.Translation.{translation, entries, init_code, operation_code}
+use Rattle.bk_front.specs.declared.project_file.ProjectLine.{ProjectLine}
+use Rattle.bk_front.specs.ProjectFile.{IsFileName, NamesFiles, AreProjectLines}
+use Rattle.bk_front.specs.Reading.{Reads}
+use Rattle.bk_front.specs.FirstForm.{IsFirstForm}
+use Rattle.bk_calls.specs.Script.{IsScript, AsksFor, is_skipped, call_lines, HasNoInputs}
+use Rattle.bk_calls.proofs.Lines.{lines_within}
+use Rattle.bk_io.specs.Pieces.{written_with}
+use Rattle.bk_code.specs.Session.{Session}
+use Rattle.bk_calls.specs.Transcript.{transcript}
+use Rattle.bkit.specs.declared.status.Status.{Status}
+use Rattle.bkit.specs.Session.{fuel, Plays}
+use Rattle.bkit.specs.Run.{AreRunWords, WritesRun, IsTold, component_lines, AreComponentLines, ReadsProject, ReadsCalls, ReadsProgram}
+
+pub component_lines_of : (text : List ℕ) (ls : List ProjectLine) → AreProjectLines text ls → AreComponentLines ls
+component_lines_of text ls h = record {
+  machine = h.machine;
+  implementation = h.implementation;
+  are = h.are;
+  machine_name = h.names.machine_line.is_name;
+  implementation_name = h.names.implementation_line.is_name;
+}
+
+abbrev first_name : List ProjectLine → List ℕ
+first_name [] = []
+first_name (l ∷ ls) = l.name
+
+abbrev second_name : List ProjectLine → List ℕ
+second_name (l ∷ m ∷ ms) = m.name
+second_name _ = []
+
+names_of : (text : List ℕ) (ls : List ProjectLine) (a b : List ℕ) → AreProjectLines text ls → ls ≡ component_lines a b → NamesFiles text a b
+names_of text ls a b h e =
+    subst (λ x. NamesFiles text x b) (ap first_name (sym h.are ∙ e)) (subst (NamesFiles text h.machine) (ap second_name (sym h.are ∙ e)) h.names)
+
+pub reads_project : (files : Files) (project text a b above below : List ℕ) (ls : List ProjectLine) (dev : Development) →
+    IsTold files project text → AreProjectLines text ls → ls ≡ component_lines a b → IsTold files a above → IsTold files b below → Reads above below dev →
+    ReadsProject files project dev
+reads_project files project text a b above below ls dev told are e machine implementation reads = record {
+  text = text;
+  told = told;
+  machine = a;
+  implementation = b;
+  names = names_of text ls a b are e;
+  machine_text = above;
+  machine_told = machine;
+  implementation_text = below;
+  implementation_told = implementation;
+  reads = reads;
+}
+
+-- ---- the translation
+no_inputs : (dev : Development) (place : ℕ) (hs : List Head) (bs : List Body) → All (λ h. h.inputs ≡ []) hs → All (λ e. e.inputs ≡ []) (entries dev place hs bs)
+no_inputs dev place (h ∷ hs) (b ∷ bs) a =
+    All-cons (λ e. e.inputs ≡ []) _ (entries dev (place + length (operation_code dev b)) hs bs) (rw (All-head (λ h. h.inputs ≡ []) h hs a) refl)
+      (no_inputs dev (place + length (operation_code dev b)) hs bs (All-tail (λ h. h.inputs ≡ []) h hs a))
+no_inputs dev place [] bs a = All-nil (λ e. e.inputs ≡ [])
+no_inputs dev place (h ∷ hs) [] a = All-nil (λ e. e.inputs ≡ [])
+
+pub has_no_inputs : (dev : Development) (image : Image) → IsFirstForm dev → image ≡ translation dev → HasNoInputs image
+has_no_inputs dev image form e = subst HasNoInputs (sym e) (no_inputs dev (length (init_code dev)) dev.heads (level_at dev (last dev)).bodies form.inputs)
+
+entries_within : (dev : Development) (place : ℕ) (hs : List Head) (bs : List Body) → length (entries dev place hs bs) ≤ length hs
+entries_within dev place (h ∷ hs) (b ∷ bs) = omega (arith, entries_within dev (place + length (operation_code dev b)) hs bs)
+entries_within dev place [] bs = omega arith
+entries_within dev place (h ∷ hs) [] = omega arith
+
+pub few_operations : (dev : Development) (image : Image) → length dev.heads ≤ 100 → image ≡ translation dev → length image.ops < 4294967296
+few_operations dev image few e = rw e (omega (arith, few, entries_within dev (length (init_code dev)) dev.heads (level_at dev (last dev)).bodies))
+
+-- ---- the script
+as_long : (image : Image) (ls : List (List ℕ)) (rs : List Request) → AllZip (AsksFor image) ls rs → length ls ≡ length rs
+as_long image [] [] h = refl
+as_long image (l ∷ ls) (r ∷ rs) h = ap suc (as_long image ls rs h.1)
+as_long image [] (r ∷ rs) h = absurd h
+as_long image (l ∷ ls) [] h = absurd h
+
+kept : (b : Bool) (l : List ℕ) (ls : List (List ℕ)) (n : ℕ) → length ls ≤ n → length (cond b (l ∷ ls) ls) ≤ n + 1
+kept true l ls n h = omega (arith, h)
+kept false l ls n h = omega (arith, h)
+
+filtered : (p : List ℕ → Bool) (ls : List (List ℕ)) → length (filter p ls) ≤ length ls
+filtered p [] = omega arith
+filtered p (l ∷ ls) = omega (arith, kept (p l) l (filter p ls) (length ls) (filtered p ls))
+
+pub few_requests : (image : Image) (text : List ℕ) (requests : List Request) → IsScript image text requests → length (lines text) < 4294967296 → length requests < 4294967296
+few_requests image text requests script few = omega (arith, few, as_long image (call_lines text) requests script, filtered (λ line. not (is_skipped line)) (lines text))
+
+pub few_lines : (text : List ℕ) → length text ≤ 16777216 → length (lines text) < 4294967296
+few_lines text h = omega (arith, h, lines_within text)
+
+pub reads_program : (files : Files) (project calls text : List ℕ) (dev : Development) (image : Image) (requests : List Request) →
+    ReadsProject files project dev → image ≡ translation dev → IsTold files calls text → IsScript image text requests → ReadsProgram files project calls image requests
+reads_program files project calls text dev image requests reads e told script = record {
+  dev = dev;
+  reads = reads;
+  translated = e;
+  asks = record { text = text; told = told; script = subst (λ x. IsScript x text requests) e script };
+}
+
+-- ---- the run
+pub writes_run : (files : Files) (words : List (List ℕ)) (project calls : List ℕ) (image : Image) (requests : List Request) (status : Status) (old : List ℕ) (before after : Option (List ℕ)) →
+    AreRunWords words project calls → ReadsProgram files project calls image requests → Plays image requests status before after → before ≡ Some old → WritesRun files words old after status
+writes_run files words project calls image requests status old before after are r p e = record {
+  text = transcript image fuel requests p.tolds;
+  run = record {
+    project = project;
+    calls = calls;
+    are_words = are;
+    dev = r.dev;
+    reads = r.reads;
+    requests = requests;
+    asks = r.asks;
+    tolds = p.tolds;
+    session = subst (λ x. Session x fuel requests p.tolds) r.translated p.session;
+    transcript_is = ap (λ x. transcript x fuel requests p.tolds) r.translated;
+    last = p.last;
+  };
+  appended = p.written ∙ ap (λ w. written_with w (transcript image fuel requests p.tolds)) e;
+}

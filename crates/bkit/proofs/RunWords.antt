@@ -1,0 +1,28 @@
+-- The words of a run.
+use Rattle.std.proofs.Common.{◌≡◌, ◌≢◌, ℕ, ◌<◌, ◌≤◌, List, [], ◌∷◌, length, map, false, slice_index_or, refl, sym, ◌∙◌, ap, arith, codes, String, Global}
+use Rattle.std.specs.Prelude.{string_bytes}
+use Rattle.std.proofs.lemmas.Bool.{ne_eqb}
+use Rattle.bkit.specs.Run.{is_option, AreRunWords}
+
+abbrev pub Text : Type 0
+Text = String Global
+
+three : (words : List Text) (v p q : Text) → 3 ≤ length words → length words < 4 → v ≡ slice_index_or words 0 v → p ≡ slice_index_or words 1 p → q ≡ slice_index_or words 2 q → words ≡ v ∷ p ∷ q ∷ []
+three [] v p q many few i j k = absurd (omega (arith, many))
+three (x ∷ []) v p q many few i j k = absurd (omega (arith, many))
+three (x ∷ y ∷ []) v p q many few i j k = absurd (omega (arith, many))
+three (x ∷ y ∷ z ∷ []) v p q many few i j k = ap (λ a. a ∷ y ∷ z ∷ []) (sym i) ∙ ap (λ b. v ∷ b ∷ z ∷ []) (sym j) ∙ ap (λ c. v ∷ p ∷ c ∷ []) (sym k)
+three (x ∷ y ∷ z ∷ w ∷ more) v p q many few i j k = absurd (omega (arith, few))
+
+plain : (xs : List ℕ) → ((rest : List ℕ) → xs ≢ 45 ∷ rest) → is_option xs ≡ false
+plain [] h = refl
+plain (c ∷ cs) h = ne_eqb c 45 (λ e. h cs (ap (λ x. x ∷ cs) e))
+
+pub run_words : (words : List Text) (v p q : Text) (a b : List ℕ) → 3 ≤ length words → length words < 4 → v ≡ slice_index_or words 0 v → p ≡ slice_index_or words 1 p → q ≡ slice_index_or words 2 q →
+    string_bytes v ≡ codes "run" → a ≡ string_bytes p → b ≡ string_bytes q → ((rest : List ℕ) → string_bytes p ≢ 45 ∷ rest) → ((rest : List ℕ) → string_bytes q ≢ 45 ∷ rest) →
+    AreRunWords (map string_bytes words) a b
+run_words words v p q a b many few i j k verb e f g h = record {
+  are = ap (map string_bytes) (three words v p q many few i j k) ∙ ap (λ x. x ∷ string_bytes p ∷ string_bytes q ∷ []) verb ∙ ap (λ x. codes "run" ∷ x ∷ string_bytes q ∷ []) (sym e) ∙ ap (λ x. codes "run" ∷ a ∷ x ∷ []) (sym f);
+  project_plain = ap is_option e ∙ plain (string_bytes p) g;
+  calls_plain = ap is_option f ∙ plain (string_bytes q) h;
+}

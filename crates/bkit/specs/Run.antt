@@ -1,0 +1,99 @@
+-- What `bkit run` does, as the told files have it.
+use Rattle.std.specs.Prelude.{◌≡◌, ℕ, ◌++◌, Bool, true, false, nat_eq, List, [], ◌∷◌, Option, Some, None, codes}
+use Rattle.bk_io.specs.Files.{Files, file_named}
+use Rattle.bk_code.specs.declared.image.Image.{Image}
+use Rattle.bk_code.specs.Session.{Request, Told, Session}
+use Rattle.bk_dev.specs.Development.{Development}
+use Rattle.bk_gen.specs.Translation.{translation}
+use Rattle.bk_front.specs.declared.project_file.ProjectLine.{ProjectLine}
+use Rattle.bk_front.specs.declared.project_file.LineKind.TheVariants.{Machine, Implementation}
+use Rattle.bk_front.specs.ProjectFile.{IsFileName, NamesFiles}
+use Rattle.bk_front.specs.Reading.{Reads}
+use Rattle.bk_calls.specs.Script.{IsScript}
+use Rattle.bk_calls.specs.Transcript.{transcript}
+use Rattle.bkit.specs.declared.status.Status.{Status}
+use Rattle.bkit.specs.declared.status.Status.TheVariants.{Done, Trapped, OutOfFuel}
+use Rattle.bkit.specs.Session.{fuel, session_status}
+
+-- ---- words
+-- whether a word begins with -, as an option does
+abbrev pub is_option : List ℕ → Bool
+is_option [] = false
+is_option (c ∷ cs) = nat_eq c 45
+
+-- the words are `run`, a project file and a call script
+pub record AreRunWords (words : List (List ℕ)) (project calls : List ℕ) : Type 0 where
+  pub are : words ≡ codes "run" ∷ project ∷ calls ∷ []
+  pub project_plain : is_option project ≡ false
+  pub calls_plain : is_option calls ≡ false
+
+-- ---- the project
+-- the files tell this text under the name
+abbrev pub IsTold : Files → List ℕ → List ℕ → Type 0
+IsTold files name text = file_named files name ≡ Some text
+
+-- the lines of a project of a machine's file and an implementation's
+abbrev pub component_lines : List ℕ → List ℕ → List ProjectLine
+component_lines machine implementation = record { kind = Machine; name = machine } ∷ record { kind = Implementation; name = implementation } ∷ []
+
+pub record AreComponentLines (project_lines : List ProjectLine) : Type 0 where
+  pub machine : List ℕ
+  pub implementation : List ℕ
+  pub are : project_lines ≡ component_lines machine implementation
+  pub machine_name : IsFileName machine
+  pub implementation_name : IsFileName implementation
+
+-- the texts that the files tell under the names in the project file read as the development
+pub record ReadsProject (files : Files) (project : List ℕ) (dev : Development) : Type 0 where
+  pub text : List ℕ
+  pub told : IsTold files project text
+  pub machine : List ℕ
+  pub implementation : List ℕ
+  pub names : NamesFiles text machine implementation
+  pub machine_text : List ℕ
+  pub machine_told : IsTold files machine machine_text
+  pub implementation_text : List ℕ
+  pub implementation_told : IsTold files implementation implementation_text
+  pub reads : Reads machine_text implementation_text dev
+
+-- the call script that the files tell asks for these calls of the image
+pub record ReadsCalls (files : Files) (calls : List ℕ) (image : Image) (requests : List Request) : Type 0 where
+  pub text : List ℕ
+  pub told : IsTold files calls text
+  pub script : IsScript image text requests
+
+-- the image is the translation of the development that the project reads as, and the script asks for these calls of it
+pub record ReadsProgram (files : Files) (project calls : List ℕ) (image : Image) (requests : List Request) : Type 0 where
+  pub dev : Development
+  pub reads : ReadsProject files project dev
+  pub translated : image ≡ translation dev
+  pub asks : ReadsCalls files calls (translation dev) requests
+
+-- ---- the run
+-- a session was begun
+abbrev pub IsExecuted : Status → Type 0
+IsExecuted Done = Unit {0}
+IsExecuted Trapped = Unit {0}
+IsExecuted OutOfFuel = Unit {0}
+IsExecuted _ = ⊥
+
+-- the text is the transcript of the session, over the called operations, of the translation of the development that the
+-- project reads as; the status is that of the session's last end
+pub record IsRun (files : Files) (words : List (List ℕ)) (text : List ℕ) (status : Status) : Type 0 where
+  pub project : List ℕ
+  pub calls : List ℕ
+  pub are_words : AreRunWords words project calls
+  pub dev : Development
+  pub reads : ReadsProject files project dev
+  pub requests : List Request
+  pub asks : ReadsCalls files calls (translation dev) requests
+  pub tolds : List Told
+  pub session : Session (translation dev) fuel requests tolds
+  pub transcript_is : text ≡ transcript (translation dev) fuel requests tolds
+  pub last : status ≡ session_status tolds
+
+-- what was written is what had been written, and then the text of the run
+pub record WritesRun (files : Files) (words : List (List ℕ)) (old : List ℕ) (new : Option (List ℕ)) (status : Status) : Type 0 where
+  pub text : List ℕ
+  pub run : IsRun files words text status
+  pub appended : new ≡ Some (old ++ text)

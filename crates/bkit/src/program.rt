@@ -1,0 +1,110 @@
+//! The program over any shelf and any sink.
+
+ghost use Rattle.std.specs.Prelude.{◌≡◌, ◌<◌, ◌^◌, ℕ, List, All, length, map, Some, IfOk, MatchOption, string_bytes};
+ghost use Rattle.bk_io.specs.Files.{Files};
+ghost use Rattle.bk_code.specs.Checks.{IsChecked};
+ghost use Rattle.bk_code.specs.Laws.{IsRequest};
+ghost use Rattle.bk_calls.specs.Script.{request_of};
+ghost use Rattle.bkit.specs.Run.{AreRunWords, ReadsProgram, IsExecuted, WritesRun};
+
+use crate::files::{fetch, read_development};
+use crate::session::play;
+use crate::status::Status;
+use crate::stop::Stop;
+use bk_calls::{Call, CallsFault, calls};
+use bk_code::Image;
+use bk_gen::{GenFault, translate};
+use bk_io::{Shelf, Sink};
+use std::alloc::Global;
+
+/// The number of the limit of instructions.
+const LIMIT_OF_CODE: u8 = 9;
+
+/// The number of the limit of memory cells.
+const LIMIT_OF_CELLS: u8 = 10;
+
+// What a run executes.
+#[derive(Drop)]
+struct Program {
+    image: Image,
+    calls: Vec<Call>,
+}
+
+/// Does what the words ask for. `run PROJECT CALLS` reads the project's file and the component files that it names,
+/// translates the implementation, and plays the calls of the script; it writes the session's transcript.
+///
+/// The words are those of the command line without the program's name.
+pub fn bkit<H: Shelf, K: Sink>(
+    alloc: Global,
+    words: &[String],
+    shelf: &mut H,
+    out: &mut K,
+) -> Status
+    ensures run { IsExecuted result → (files : Files) → (old : List ℕ) → H.files shelf.old ≡ Some files → K.written out.old ≡ Some old →
+        WritesRun files (map string_bytes words.now) old (K.written out.new) result }
+{
+    match run(alloc, words, shelf, out) {
+        Ok(status) => status,
+        Err(stop) => stop.report(alloc, out),
+    }
+}
+
+fn run<H: Shelf, K: Sink>(
+    alloc: Global,
+    words: &[String],
+    shelf: &mut H,
+    out: &mut K,
+) -> Result<Status, Stop>
+    ensures { IfOk result (λ status. (files : Files) → (old : List ℕ) → H.files shelf.old ≡ Some files → K.written out.old ≡ Some old →
+        WritesRun files (map string_bytes words.now) old (K.written out.new) status) }
+{
+    let (project, calls) = run_words(words).ok_or(Stop::Usage)?;
+    let program = read_program(alloc, project, calls, shelf)?;
+    let status = play(alloc, program.image, &program.calls, out)?;
+    Ok(status)
+}
+
+// The project file and the call script that the words name.
+fn run_words(words: &[String]) -> Option<(&str, &str)>
+    ensures { MatchOption result ((project calls : List ℕ) → AreRunWords (map string_bytes words.now) project calls → ⊥)
+        (λ names. AreRunWords (map string_bytes words.now) names.0.now names.1.now) }
+{
+    let [verb, project, calls] = words else {
+        return None;
+    };
+    if verb.as_str() != "run" || project.starts_with('-') || calls.starts_with('-') {
+        return None;
+    }
+    Some((project.as_str(), calls.as_str()))
+}
+
+// The code of a project's implementation, and the calls that a script asks for.
+fn read_program<H: Shelf>(
+    alloc: Global,
+    project: &str,
+    script: &str,
+    shelf: &mut H,
+) -> Result<Program, Stop>
+    ensures told { IfOk result (λ p. (files : Files) → H.files shelf.old ≡ Some files → ReadsProgram files project.now script.now p.image (map request_of p.calls.items)) }
+    ensures checked { IfOk result (λ p. IsChecked p.image) }
+    ensures requests { IfOk result (λ p. All (IsRequest p.image) (map request_of p.calls.items)) }
+    ensures few { IfOk result (λ p. length p.calls.items < 2 ^ 32) }
+{
+    let development = read_development(alloc, project, shelf)?;
+    let text = fetch(alloc, script, shelf)?;
+    let image = match translate(alloc, &development) {
+        Ok(image) => image,
+        Err(fault) => return Err(past_limit(alloc, fault, project)?),
+    };
+    let calls = calls(alloc, &text, &image)?;
+    Ok(Program { image, calls })
+}
+
+// The limit of the code, or of its cells, that the project passes.
+fn past_limit(alloc: Global, fault: GenFault, project: &str) -> Result<Stop, Stop> {
+    Ok(match fault {
+        GenFault::CodeTooLong => Stop::Limit(LIMIT_OF_CODE, String::from_str(alloc, project)?),
+        GenFault::TooManyCells => Stop::Limit(LIMIT_OF_CELLS, String::from_str(alloc, project)?),
+        GenFault::Memory => Stop::Memory,
+    })
+}
