@@ -13,7 +13,8 @@ use Rattle.bk_code.specs.Laws.{IsRequest}
 use Rattle.bk_code.proofs.Sessions.{All-slice_get}
 use Rattle.bk_calls.specs.declared.script.CallsFault.{CallsFault}
 use Rattle.bk_calls.specs.declared.script.CallsFault.TheVariants.{Line, Memory}
-use Rattle.bk_calls.specs.Script.{AsksFor, is_skipped, IsScript, HasNoInputs, line_at, IsAtFault, IsFirstFault}
+use Rattle.bk_lines.specs.Lines.{is_skipped}
+use Rattle.bk_calls.specs.Script.{AsksFor, IsScript, HasNoInputs, line_at, IsAtFault, IsFirstFault}
 use Rattle.bk_calls.specs.Laws.{HasOneScript, IsScriptWithoutFault}
 use Rattle.bk_calls.specs.Reading.{called_op, bare_request, from_line, read_lines}
 use Rattle.bk_calls.specs.Outcome.{IsFaultOf}

@@ -3,7 +3,7 @@ use Rattle.std.specs.Prelude.{ℕ, ◌+◌, Bool, true, false, not, ◌&&◌, �
 use Rattle.std.specs.Str.{bytes_eq}
 use Rattle.bk_code.specs.declared.image.Image.{Image}
 use Rattle.bk_code.specs.Session.{Request}
-use Rattle.bk_calls.specs.Script.{is_skipped}
+use Rattle.bk_lines.specs.Lines.{is_skipped}
 
 -- a text behind the spaces that it starts with
 abbrev pub skip_spaces : List ℕ → List ℕ

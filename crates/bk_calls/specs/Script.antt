@@ -1,10 +1,11 @@
 -- Call scripts: which texts ask for which calls of an image.
-use Rattle.std.specs.Prelude.{◌≡◌, ◌≢◌, ℕ, zero, suc, ◌<◌, ◌⊎◌, Bool, true, false, not, ◌==◌, List, [], ◌∷◌, ◌++◌, replicate, filter, codes, All, slice_get, Option, Some, None}
+use Rattle.std.specs.Prelude.{◌≡◌, ◌≢◌, ℕ, zero, suc, ◌<◌, ◌⊎◌, false, List, [], ◌++◌, replicate, codes, All, slice_get, Option, Some, None}
 use Rattle.std.specs.List.{AllZip}
 use Rattle.std.specs.Str.Lines.{lines}
 use Rattle.bk_code.specs.declared.image.Image.{Image}
 use Rattle.bk_code.specs.declared.image.OpEntry.{OpEntry}
 use Rattle.bk_code.specs.Session.{Request}
+use Rattle.bk_lines.specs.Lines.{is_skipped, kept_lines}
 use Rattle.bk_calls.specs.declared.script.Call.{Call}
 
 -- so many spaces
@@ -43,18 +44,9 @@ pub record AsksFor (image : Image) (line : List ℕ) (request : Request) : Type 
   pub meant : IsFirstNamed image name request.op
   pub bare : request.args ≡ []
 
--- lines that are skipped: an empty one and one that starts with the sign #
-abbrev pub is_skipped : List ℕ → Bool
-is_skipped [] = true
-is_skipped (b ∷ bs) = b == 35
-
--- the lines of a text that are not skipped, in order
-abbrev pub call_lines : List ℕ → List (List ℕ)
-call_lines text = filter (λ line. not (is_skipped line)) (lines text)
-
 -- the text is a script of these requests: each line that is not skipped asks for one of them, in order
 abbrev pub IsScript : Image → List ℕ → List Request → Type 0
-IsScript image text requests = AllZip (AsksFor image) (call_lines text) requests
+IsScript image text requests = AllZip (AsksFor image) (kept_lines text) requests
 
 -- the request that a call stands for
 abbrev pub request_of : Call → Request

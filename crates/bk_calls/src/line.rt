@@ -1,41 +1,7 @@
-//! The lines of a script and their parts.
-ghost use Rattle.std.specs.Prelude.{◌≡◌, ◌<◌, ◌∷◌, length};
+//! The parts of a script's line.
+ghost use Rattle.std.specs.Prelude.{◌≡◌};
 ghost use Rattle.std.specs.Option.{option_copied};
-ghost use Rattle.std.specs.Str.Lines.{lines, strip_carriage_return as stripped};
 ghost use Rattle.bk_calls.specs.Reading as reading;
-ghost use Rattle.bk_calls.specs.Script as script;
-
-// A line without the carriage return at its end.
-fn strip_carriage_return(line: &[u8]) -> &[u8]
-    ensures { result.now ≡ stripped line.now }
-{
-    match line.split_last() {
-        Some((b'\r', front)) => front,
-        _ => line,
-    }
-}
-
-/// The first line of a text, and the text behind it.
-pub fn split_line(text: &[u8]) -> (&[u8], &[u8])
-    requires { 0 < length text.now }
-    ensures lines { lines text.now ≡ result.0.now ∷ lines result.1.now }
-    ensures shorter { length result.1.now < length text.now }
-{
-    match text.iter().position(|b| *b == b'\n') {
-        Some(end) => (strip_carriage_return(&text[..end]), &text[end + 1..]),
-        None => (text, &text[text.len()..]),
-    }
-}
-
-/// Whether a line is empty or starts with the sign `#`.
-pub fn is_skipped(line: &[u8]) -> bool
-    ensures { result ≡ script.is_skipped line.now }
-{
-    match line.split_first() {
-        Some((first, _)) => *first == b'#',
-        None => true,
-    }
-}
 
 // A text behind the spaces that it starts with.
 fn skip_spaces(text: &[u8]) -> &[u8]

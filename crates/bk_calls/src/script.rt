@@ -8,8 +8,9 @@ ghost use Rattle.bk_calls.specs.Script.{IsScript, IsFirstFault, HasNoInputs, req
 ghost use Rattle.bk_calls.specs.Outcome.{IsFaultOf};
 ghost use Rattle.bk_calls.specs.declared.script.CallsFault.TheVariants.{Memory as NoMemory};
 
-use crate::line::{called_name, is_skipped, split_line};
+use crate::line::called_name;
 use bk_code::{Image, OpEntry, Sequence};
+use bk_lines::{first_line, is_skipped};
 use std::alloc::{AllocError, AllocFailed, Global};
 use thiserror::Error;
 
@@ -97,8 +98,7 @@ fn read_calls(alloc: Global, text: &[u8], image: &Image) -> Result<Vec<Call>, Ca
     let mut calls = Vec::new(alloc);
     let mut rest = text;
     let mut number = 0u32;
-    while !rest.is_empty() {
-        let (line, behind) = split_line(rest);
+    while let Some((line, behind)) = first_line(rest) {
         number += 1;
         if !is_skipped(line) {
             let op = called_op(image, line).ok_or(CallsFault::Line(number))?;

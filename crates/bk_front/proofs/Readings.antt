@@ -15,6 +15,8 @@ use Rattle.bk_front.specs.Lexis.{AreTokens, IsSmallToken, Cuts}
 use Rattle.bk_front.specs.Spelling.{IsSide, IsAction, IsOperation, IsComponent, IsTextOf, ArePair, SpellAtMostOne, Spells, side_tokens, action_tokens, operation_tokens, further_tokens, operations_tokens, head_tokens, component_tokens}
 use Rattle.bk_front.specs.Reading.{Reads, IsMachineText, development_of}
 use Rattle.bk_front.specs.Laws.{HasOneCut, ReadAtMostOne}
+use Rattle.bk_front.proofs.Cutting.{tokens_are_one}
+use Rattle.bk_front.proofs.Spelled.{at_most_one}
 use Rattle.bk_front.specs.Project.{ReadsComponent}
 
 -- ---- the numbers of a component are small
@@ -94,3 +96,6 @@ no_implementation_here above below h dev k = h k.implementation k.below
 pub no_pair_here : HasOneCut → SpellAtMostOne → (above below : List ℕ) (c d : Component) → IsTextOf above c → IsTextOf below d → (ArePair c d → ⊥) → (dev : Development) → Reads above below dev → ⊥
 no_pair_here cut spell above below c d h k n dev r =
     n (subst (λ x. ArePair x d) (one_component cut spell above r.machine c r.above h) (subst (ArePair r.machine) (one_component cut spell below r.implementation d r.below k) r.pair))
+
+pub read_once : ReadAtMostOne
+read_once = read_at_most_one tokens_are_one at_most_one

@@ -169,3 +169,10 @@ is_line word line rest e space text =
         last = back_ends (trim_front rest) text.0;
       };
     }
+
+-- a line names one file
+pub name_once : (word line name other : List ℕ) → IsLine word name line → IsLine word other line → name ≡ other
+name_once word line name other h k =
+    let rest : List ℕ = replicate h.before 32 ++ (name ++ replicate h.after 32) in
+    sym (trimmed h.before h.after name h.is_name.first h.is_name.last) ∙ ap (λ xs. trim_back (trim_front xs)) (rest_of word line rest other h.written k) ∙
+    trimmed k.before k.after other k.is_name.first k.is_name.last

@@ -7,6 +7,7 @@ use Rattle.bk_front.specs.Lexis.{AreTokens}
 use Rattle.bk_front.specs.Spelling.{IsComponent, ArePair}
 use Rattle.bk_dev.specs.Development.{Development}
 use Rattle.bk_front.specs.Reading.{development_of, Reads}
+use Rattle.bk_front.specs.ProjectFile.{NamesFiles}
 use Rattle.bk_front.specs.FirstForm.{IsFirstForm}
 
 -- a text has at most one list of tokens
@@ -24,3 +25,9 @@ PairHasFirstForm = (m i : Component) → IsComponent m → IsComponent i → Are
 -- two texts read as at most one development
 abbrev pub ReadAtMostOne : Type 0
 ReadAtMostOne = (above below : List ℕ) (dev other : Development) → Reads above below dev → Reads above below other → dev ≡ other
+
+-- a project file names one machine's file and one implementation's
+abbrev pub NameAtMostOnce : Type 0
+NameAtMostOnce =
+    (text machine implementation other_machine other_implementation : List ℕ) → NamesFiles text machine implementation →
+    NamesFiles text other_machine other_implementation → (machine ≡ other_machine) × (implementation ≡ other_implementation)

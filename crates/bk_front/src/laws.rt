@@ -1,6 +1,6 @@
 //! Laws of texts. Each is the contract of a function that does nothing.
 
-ghost use Rattle.bk_front.specs.Laws.{HasOneCut, PairIsDevelopment, PairHasFirstForm};
+ghost use Rattle.bk_front.specs.Laws.{HasOneCut, PairIsDevelopment, PairHasFirstForm, ReadAtMostOne, NameAtMostOnce};
 ghost use Rattle.bk_front.specs.Spelling.{SpellAtMostOne};
 
 /// What holds of the tokens of a text.
@@ -17,4 +17,10 @@ pub fn spellings()
 pub fn first_form()
     ensures is_development { PairIsDevelopment }
     ensures has_first_form { PairHasFirstForm }
+{}
+
+/// What a project says.
+pub fn projects()
+    ensures files { NameAtMostOnce }
+    ensures development { ReadAtMostOne }
 {}

@@ -1,5 +1,5 @@
 -- How a session grows, call by call.
-use Rattle.std.proofs.Common.{◌≡◌, ℕ, suc, ◌+◌, ◌<◌, ◌≤◌, Bool, true, false, true≢false, map, All, slice_index_or, ℤ, List, [], ◌∷◌, ◌++◌, length, take, drop, Option, Some, None, refl, sym, ◌∙◌, ap, subst, arith}
+use Rattle.std.proofs.Common.{◌≡◌, ℕ, ◌+◌, ◌<◌, ◌≤◌, true, false, true≢false, map, All, slice_index_or, ℤ, List, [], ◌∷◌, ◌++◌, length, take, drop, Option, Some, None, refl, sym, ◌∙◌, ap, subst, arith}
 use Rattle.bk_io.specs.Pieces.{written_with}
 use Rattle.bk_code.specs.declared.image.Image.{Image}
 use Rattle.bk_code.specs.Run.{End, Done, Trapped, OutOfFuel, Ends}
@@ -15,7 +15,7 @@ use Rattle.bk_calls.specs.Script.{request_of}
 use Rattle.bk_vm.specs.Ends.{end_of, is_stop, EndsWith, CallEndsWith}
 use Rattle.bk_vm.specs.State.{TakesCall}
 use Rattle.bk_vm.specs.Sessions.{told_of, StartsSession, ContinuesSession}
-use Rattle.bk_calls.specs.Transcript.{reply_text, replies_text, done_count, done_number, step_sum, steps_of, closing_text, transcript}
+use Rattle.bk_calls.specs.Transcript.{reply_text, replies_text, done_count, done_number, step_sum, steps_of, closing_text}
 use Rattle.bkit.specs.declared.status.Status.{Status}
 use Rattle.bkit.specs.Session.{fuel, status_of, last_end, Plays, PlaysCall, PlaysCalls}
 
@@ -252,7 +252,7 @@ pub plays_of : StartsSession → (image at by shown : Image) (start : CallEnd) (
     Plays image requests status old new
 plays_of law image at by shown start cells requests status last done steps all old mid far new e f h ends first calls a closing s =
     subst (λ x. Plays image requests x old new) (sym s) (plays law image start cells requests last done steps old mid far new
-      (subst (λ x. EndsWith x fuel (first_start x) start cells) e ends)
-      (subst (λ x. mid ≡ written_with old (reply_text x None (end_of start) [])) h first)
-      (subst (λ x. PlaysCalls x requests (end_of start) cells last done steps mid far) f calls)
-      (subst (λ x. new ≡ written_with far (closing_text done (x + steps))) a closing))
+    (subst (λ x. EndsWith x fuel (first_start x) start cells) e ends)
+    (subst (λ x. mid ≡ written_with old (reply_text x None (end_of start) [])) h first)
+    (subst (λ x. PlaysCalls x requests (end_of start) cells last done steps mid far) f calls)
+    (subst (λ x. new ≡ written_with far (closing_text done (x + steps))) a closing))

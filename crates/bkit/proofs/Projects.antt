@@ -1,8 +1,7 @@
 -- What the files of a project tell.
-use Rattle.std.proofs.Common.{◌≡◌, ℕ, suc, ◌+◌, ◌<◌, ◌≤◌, List, [], ◌∷◌, length, map, All, filter, Option, Some, None, refl, sym, ◌∙◌, ap, subst, arith, Bool, true, false, not, cond}
+use Rattle.std.proofs.Common.{◌≡◌, ℕ, suc, ◌+◌, ◌<◌, ◌≤◌, List, [], ◌∷◌, length, All, filter, Option, Some, None, refl, sym, ◌∙◌, ap, subst, arith, Bool, true, false, not, cond}
 use Rattle.std.specs.List.{AllZip}
 use Rattle.std.specs.Str.Lines.{lines}
-use Rattle.std.proofs.lemmas.List.{length-map}
 use Rattle.std.proofs.lemmas.List.Elements.{All-nil, All-cons, All-head, All-tail}
 use Rattle.bk_io.specs.Files.{Files}
 use Rattle.bk_code.specs.declared.image.Image.{Image}
@@ -10,17 +9,20 @@ use Rattle.bk_code.specs.Session.{Request}
 use Rattle.bk_dev.specs.Development.{Head, Body, Development, level_at, last}
 use Rattle.bk_gen.specs.Translation.{translation, entries, init_code, operation_code}
 use Rattle.bk_front.specs.declared.project_file.ProjectLine.{ProjectLine}
-use Rattle.bk_front.specs.ProjectFile.{IsFileName, NamesFiles, AreProjectLines}
+use Rattle.bk_front.specs.ProjectFile.{NamesFiles, AreProjectLines}
 use Rattle.bk_front.specs.Reading.{Reads}
 use Rattle.bk_front.specs.FirstForm.{IsFirstForm}
-use Rattle.bk_calls.specs.Script.{IsScript, AsksFor, is_skipped, call_lines, HasNoInputs}
+use Rattle.bk_front.proofs.ProjectFiles.{names_once}
+use Rattle.bk_front.proofs.Readings.{read_once}
+use Rattle.bk_lines.specs.Lines.{is_skipped, kept_lines}
+use Rattle.bk_calls.specs.Script.{IsScript, AsksFor, HasNoInputs}
 use Rattle.bk_calls.proofs.Lines.{lines_within}
 use Rattle.bk_io.specs.Pieces.{written_with}
 use Rattle.bk_code.specs.Session.{Session}
 use Rattle.bk_calls.specs.Transcript.{transcript}
 use Rattle.bkit.specs.declared.status.Status.{Status}
 use Rattle.bkit.specs.Session.{fuel, Plays}
-use Rattle.bkit.specs.Run.{AreRunWords, WritesRun, IsTold, component_lines, AreComponentLines, ReadsProject, ReadsCalls, ReadsProgram}
+use Rattle.bkit.specs.Run.{AreRunWords, WritesRun, IsTold, component_lines, AreComponentLines, ReadsProject, ReadsProgram}
 
 pub component_lines_of : (text : List ℕ) (ls : List ProjectLine) → AreProjectLines text ls → AreComponentLines ls
 component_lines_of text ls h = record {
@@ -59,11 +61,30 @@ reads_project files project text a b above below ls dev told are e machine imple
   reads = reads;
 }
 
+-- the files tell one text under a name
+told_once : (files : Files) (name text other : List ℕ) → IsTold files name text → IsTold files name other → text ≡ other
+told_once files name text other h k = some_once (sym h ∙ k)
+  where
+    value : List ℕ → Option (List ℕ) → List ℕ
+    value d None = d
+    value d (Some x) = x
+
+    some_once : {a b : List ℕ} → Some a ≡ Some b → a ≡ b
+    some_once {a} {b} e = ap (value a) e
+
+pub one_project : (files : Files) (project : List ℕ) (dev other : Development) → ReadsProject files project dev → ReadsProject files project other → other ≡ dev
+one_project files project dev other h k =
+    let text : h.text ≡ k.text = told_once files project h.text k.text h.told k.told in
+    let names = names_once k.text h.machine h.implementation k.machine k.implementation (subst (λ x. NamesFiles x h.machine h.implementation) text h.names) k.names in
+    let above : h.machine_text ≡ k.machine_text = told_once files k.machine h.machine_text k.machine_text (subst (λ x. IsTold files x h.machine_text) names.0 h.machine_told) k.machine_told in
+    let below : h.implementation_text ≡ k.implementation_text = told_once files k.implementation h.implementation_text k.implementation_text (subst (λ x. IsTold files x h.implementation_text) names.1 h.implementation_told) k.implementation_told in
+    sym (read_once k.machine_text k.implementation_text dev other (subst (λ x. Reads x k.implementation_text dev) above (subst (λ x. Reads h.machine_text x dev) below h.reads)) k.reads)
+
 -- ---- the translation
 no_inputs : (dev : Development) (place : ℕ) (hs : List Head) (bs : List Body) → All (λ h. h.inputs ≡ []) hs → All (λ e. e.inputs ≡ []) (entries dev place hs bs)
 no_inputs dev place (h ∷ hs) (b ∷ bs) a =
     All-cons (λ e. e.inputs ≡ []) _ (entries dev (place + length (operation_code dev b)) hs bs) (rw (All-head (λ h. h.inputs ≡ []) h hs a) refl)
-      (no_inputs dev (place + length (operation_code dev b)) hs bs (All-tail (λ h. h.inputs ≡ []) h hs a))
+    (no_inputs dev (place + length (operation_code dev b)) hs bs (All-tail (λ h. h.inputs ≡ []) h hs a))
 no_inputs dev place [] bs a = All-nil (λ e. e.inputs ≡ [])
 no_inputs dev place (h ∷ hs) [] a = All-nil (λ e. e.inputs ≡ [])
 
@@ -94,7 +115,7 @@ filtered p [] = omega arith
 filtered p (l ∷ ls) = omega (arith, kept (p l) l (filter p ls) (length ls) (filtered p ls))
 
 pub few_requests : (image : Image) (text : List ℕ) (requests : List Request) → IsScript image text requests → length (lines text) < 4294967296 → length requests < 4294967296
-few_requests image text requests script few = omega (arith, few, as_long image (call_lines text) requests script, filtered (λ line. not (is_skipped line)) (lines text))
+few_requests image text requests script few = omega (arith, few, as_long image (kept_lines text) requests script, filtered (λ line. not (is_skipped line)) (lines text))
 
 pub few_lines : (text : List ℕ) → length text ≤ 16777216 → length (lines text) < 4294967296
 few_lines text h = omega (arith, h, lines_within text)
@@ -119,6 +140,7 @@ writes_run files words project calls image requests status old before after are 
     are_words = are;
     dev = r.dev;
     reads = r.reads;
+    only = λ other k. one_project files project r.dev other r.reads k;
     requests = requests;
     asks = r.asks;
     tolds = p.tolds;

@@ -1,7 +1,9 @@
 -- The words of a run.
-use Rattle.std.proofs.Common.{◌≡◌, ◌≢◌, ℕ, ◌<◌, ◌≤◌, List, [], ◌∷◌, length, map, false, slice_index_or, refl, sym, ◌∙◌, ap, arith, codes, String, Global}
+use Rattle.std.proofs.Common.{◌≡◌, ◌≢◌, ℕ, ◌<◌, ◌≤◌, List, [], ◌∷◌, length, map, false, slice_index_or, refl, sym, ◌∙◌, ap, arith, codes, String, Global, Result, Ok, Err}
 use Rattle.std.specs.Prelude.{string_bytes}
 use Rattle.std.proofs.lemmas.Bool.{ne_eqb}
+use Rattle.bkit.specs.declared.status.Status.{Status}
+use Rattle.bkit.specs.declared.stop.Stop.{Stop}
 use Rattle.bkit.specs.Run.{is_option, AreRunWords}
 
 abbrev pub Text : Type 0
@@ -26,3 +28,12 @@ run_words words v p q a b many few i j k verb e f g h = record {
   project_plain = ap is_option e ∙ plain (string_bytes p) g;
   calls_plain = ap is_option f ∙ plain (string_bytes q) h;
 }
+
+-- an error is one
+err_of : Stop → Result Status Stop → Stop
+err_of d (Ok s) = d
+err_of d (Err e) = e
+
+pub one_stop : (result : Result Status Stop) (stop other : Stop) → result ≡ Err stop → result ≡ Err other → stop ≡ other
+unfolding err_of
+one_stop result stop other h k = ap (err_of stop) (sym h ∙ k)

@@ -1,3 +1,4 @@
 pub mod Session
 pub mod Codes
 pub mod Run
+pub mod Stops

@@ -1,5 +1,5 @@
 -- What `bkit run` does, as the told files have it.
-use Rattle.std.specs.Prelude.{◌≡◌, ℕ, ◌++◌, Bool, true, false, nat_eq, List, [], ◌∷◌, Option, Some, None, codes}
+use Rattle.std.specs.Prelude.{◌≡◌, ℕ, ◌++◌, Bool, false, nat_eq, List, [], ◌∷◌, Option, Some, codes}
 use Rattle.bk_io.specs.Files.{Files, file_named}
 use Rattle.bk_code.specs.declared.image.Image.{Image}
 use Rattle.bk_code.specs.Session.{Request, Told, Session}
@@ -26,6 +26,10 @@ pub record AreRunWords (words : List (List ℕ)) (project calls : List ℕ) : Ty
   pub are : words ≡ codes "run" ∷ project ∷ calls ∷ []
   pub project_plain : is_option project ≡ false
   pub calls_plain : is_option calls ≡ false
+
+-- the words are those of no run
+abbrev pub AreNoRunWords : List (List ℕ) → Type 0
+AreNoRunWords words = (project calls : List ℕ) → AreRunWords words project calls → ⊥
 
 -- ---- the project
 -- the files tell this text under the name
@@ -85,6 +89,8 @@ pub record IsRun (files : Files) (words : List (List ℕ)) (text : List ℕ) (st
   pub are_words : AreRunWords words project calls
   pub dev : Development
   pub reads : ReadsProject files project dev
+  -- the one development that the told texts read as
+  pub only : (other : Development) → ReadsProject files project other → other ≡ dev
   pub requests : List Request
   pub asks : ReadsCalls files calls (translation dev) requests
   pub tolds : List Told

@@ -1,10 +1,11 @@
 //! The files of a project.
 
-ghost use Rattle.std.specs.Prelude.{◌≡◌, ◌≤◌, length, Some, IfOk};
+ghost use Rattle.std.specs.Prelude.{◌≡◌, ◌≤◌, length, Some, IfOk, IfErr};
 ghost use Rattle.bk_io.specs.Files.{Files};
 ghost use Rattle.bk_front.specs.FirstForm.{IsFirstForm};
 ghost use Rattle.bk_front.specs.ProjectFile.{IsFileName};
 ghost use Rattle.bk_front.specs.Project.{text_at};
+ghost use Rattle.bkit.specs.Stops.{IsLate};
 ghost use Rattle.bkit.specs.Run.{IsTold, component_lines, AreComponentLines, ReadsProject};
 
 use crate::stop::Stop;
@@ -22,6 +23,7 @@ const LIMIT_OF_LENGTH: u8 = 1;
 
 /// The bytes of the file with this name.
 pub(crate) fn fetch<H: Shelf>(alloc: Global, name: &str, shelf: &mut H) -> Result<Vec<u8>, Stop>
+    ensures late { IfErr result IsLate }
     ensures files { H.files shelf.new ≡ H.files shelf.old }
     ensures told { IfOk result (λ text. (files : Files) → H.files shelf.old ≡ Some files → IsTold files name.now text.items) }
     ensures short { IfOk result (λ text. length text.items ≤ 16777216) }
@@ -42,6 +44,7 @@ pub(crate) fn read_development<H: Shelf>(
     name: &str,
     shelf: &mut H,
 ) -> Result<Development, Stop>
+    ensures late { IfErr result IsLate }
     ensures files { H.files shelf.new ≡ H.files shelf.old }
     ensures told { IfOk result (λ dev. (files : Files) → H.files shelf.old ≡ Some files → ReadsProject files name.now dev) }
     ensures first_form { IfOk result IsFirstForm }
@@ -72,6 +75,7 @@ fn component_files(lines: &[ProjectLine]) -> (&str, &str)
 
 // The texts of two files.
 fn both(alloc: Global, first: Vec<u8>, second: Vec<u8>) -> Result<Vec<Vec<u8>>, Stop>
+    ensures late { IfErr result IsLate }
     ensures two { IfOk result (λ texts. length texts.items ≡ 2) }
     ensures first { IfOk result (λ texts. text_at texts.items 0 ≡ first.items) }
     ensures second { IfOk result (λ texts. text_at texts.items 1 ≡ second.items) }
@@ -105,7 +109,10 @@ fn file_of<'a>(refusal: Refusal, lines: &'a [ProjectLine], project: &'a str) -> 
     str::from_utf8(lines[file - 1].name.as_bytes()).unwrap_or(project)
 }
 
-fn refused(alloc: Global, refusal: Refusal, name: &str) -> Result<Stop, Stop> {
+fn refused(alloc: Global, refusal: Refusal, name: &str) -> Result<Stop, Stop>
+    ensures late { IfErr result IsLate }
+    ensures told { IfOk result IsLate }
+{
     Ok(match refusal {
         Refusal::Fault { number, .. } => Stop::Refused(number, String::from_str(alloc, name)?),
         Refusal::Limit { number, .. } => Stop::Limit(number, String::from_str(alloc, name)?),

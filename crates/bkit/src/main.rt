@@ -10,9 +10,8 @@ mod stop;
 use bk_io::{FileShelf, StdSink};
 use program::bkit;
 use status::Status;
-use std::env;
-use std::io;
 use std::process::ExitCode;
+use std::{env, io};
 
 fn main(rt: HostRuntime) -> ExitCode {
     ExitCode::from(run(&rt).code())

@@ -1,11 +1,12 @@
 //! The program over any shelf and any sink.
 
-ghost use Rattle.std.specs.Prelude.{◌≡◌, ◌<◌, ◌^◌, ℕ, List, All, length, map, Some, IfOk, MatchOption, string_bytes};
+ghost use Rattle.std.specs.Prelude.{◌≡◌, ◌⊎◌, ◌<◌, ◌^◌, ℕ, List, All, length, map, Some, Err, IfOk, IfErr, MatchOption, string_bytes};
 ghost use Rattle.bk_io.specs.Files.{Files};
 ghost use Rattle.bk_code.specs.Checks.{IsChecked};
 ghost use Rattle.bk_code.specs.Laws.{IsRequest};
 ghost use Rattle.bk_calls.specs.Script.{request_of};
-ghost use Rattle.bkit.specs.Run.{AreRunWords, ReadsProgram, IsExecuted, WritesRun};
+ghost use Rattle.bkit.specs.Stops.{IsLate};
+ghost use Rattle.bkit.specs.Run.{AreRunWords, AreNoRunWords, ReadsProgram, IsExecuted, WritesRun};
 
 use crate::files::{fetch, read_development};
 use crate::session::play;
@@ -42,6 +43,8 @@ pub fn bkit<H: Shelf, K: Sink>(
 ) -> Status
     ensures run { IsExecuted result → (files : Files) → (old : List ℕ) → H.files shelf.old ≡ Some files → K.written out.old ≡ Some old →
         WritesRun files (map string_bytes words.now) old (K.written out.new) result }
+    ensures usage { result ≡ Status.Usage → AreNoRunWords (map string_bytes words.now) }
+    ensures wrong_words { AreNoRunWords (map string_bytes words.now) → (result ≡ Status.Usage) ⊎ (result ≡ Status.WriteFault) ⊎ (result ≡ Status.Memory) }
 {
     match run(alloc, words, shelf, out) {
         Ok(status) => status,
@@ -55,7 +58,10 @@ fn run<H: Shelf, K: Sink>(
     shelf: &mut H,
     out: &mut K,
 ) -> Result<Status, Stop>
-    ensures { IfOk result (λ status. (files : Files) → (old : List ℕ) → H.files shelf.old ≡ Some files → K.written out.old ≡ Some old →
+    ensures usage { IfErr result (λ stop. IsLate stop ⊎ ((stop ≡ Stop.Usage) × AreNoRunWords (map string_bytes words.now))) }
+    ensures wrong_words { AreNoRunWords (map string_bytes words.now) → result ≡ Err Stop.Usage }
+    ensures executed { IfOk result IsExecuted }
+    ensures ok { IfOk result (λ status. (files : Files) → (old : List ℕ) → H.files shelf.old ≡ Some files → K.written out.old ≡ Some old →
         WritesRun files (map string_bytes words.now) old (K.written out.new) status) }
 {
     let (project, calls) = run_words(words).ok_or(Stop::Usage)?;
@@ -85,6 +91,7 @@ fn read_program<H: Shelf>(
     script: &str,
     shelf: &mut H,
 ) -> Result<Program, Stop>
+    ensures late { IfErr result IsLate }
     ensures told { IfOk result (λ p. (files : Files) → H.files shelf.old ≡ Some files → ReadsProgram files project.now script.now p.image (map request_of p.calls.items)) }
     ensures checked { IfOk result (λ p. IsChecked p.image) }
     ensures requests { IfOk result (λ p. All (IsRequest p.image) (map request_of p.calls.items)) }
@@ -101,7 +108,10 @@ fn read_program<H: Shelf>(
 }
 
 // The limit of the code, or of its cells, that the project passes.
-fn past_limit(alloc: Global, fault: GenFault, project: &str) -> Result<Stop, Stop> {
+fn past_limit(alloc: Global, fault: GenFault, project: &str) -> Result<Stop, Stop>
+    ensures late { IfErr result IsLate }
+    ensures told { IfOk result IsLate }
+{
     Ok(match fault {
         GenFault::CodeTooLong => Stop::Limit(LIMIT_OF_CODE, String::from_str(alloc, project)?),
         GenFault::TooManyCells => Stop::Limit(LIMIT_OF_CELLS, String::from_str(alloc, project)?),

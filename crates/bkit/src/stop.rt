@@ -1,6 +1,8 @@
 //! Why the program stops before its work is done, and the line that says so.
 
+ghost use Rattle.std.specs.Prelude.{◌≡◌, ◌≢◌, ◌⊎◌};
 ghost use Rattle.bkit.specs.Run.{IsExecuted};
+ghost use Rattle.bkit.specs.Stops.{IsLate};
 
 use crate::status::Status;
 use bk_calls::CallsFault;
@@ -29,6 +31,8 @@ pub(crate) enum Stop {
 }
 
 impl From<SinkFault> for Stop {
+    ghost from_gives = { λ _ stop. IsLate stop };
+
     fn from(fault: SinkFault) -> Self {
         match fault {
             SinkFault::Failed => Stop::WriteFault,
@@ -38,30 +42,40 @@ impl From<SinkFault> for Stop {
 }
 
 impl From<bk_code::Memory> for Stop {
+    ghost from_gives = { λ _ stop. IsLate stop };
+
     fn from(_: bk_code::Memory) -> Self {
         Stop::Memory
     }
 }
 
 impl From<bk_io::Memory> for Stop {
+    ghost from_gives = { λ _ stop. IsLate stop };
+
     fn from(_: bk_io::Memory) -> Self {
         Stop::Memory
     }
 }
 
 impl From<AllocError> for Stop {
+    ghost from_gives = { λ _ stop. IsLate stop };
+
     fn from(_: AllocError) -> Self {
         Stop::Memory
     }
 }
 
 impl<T: Drop> From<AllocFailed<T>> for Stop {
+    ghost from_gives = { λ _ stop. IsLate stop };
+
     fn from(_: AllocFailed<T>) -> Self {
         Stop::Memory
     }
 }
 
 impl From<CallsFault> for Stop {
+    ghost from_gives = { λ _ stop. IsLate stop };
+
     fn from(fault: CallsFault) -> Self {
         match fault {
             CallsFault::Line(number) => Stop::BadCalls(number),
@@ -73,7 +87,9 @@ impl From<CallsFault> for Stop {
 impl Stop {
     /// Writes the line that says why the program stops, and answers how it ends.
     pub(crate) fn report<K: Sink>(&self, alloc: Global, out: &mut K) -> Status
-        ensures { IsExecuted result → ⊥ }
+        ensures stopped { IsExecuted result → ⊥ }
+        ensures late { IsLate self.now → result ≢ Status.Usage }
+        ensures usage { self.now ≡ Stop.Usage → (result ≡ Status.Usage) ⊎ (result ≡ Status.WriteFault) ⊎ (result ≡ Status.Memory) }
     {
         match self.write(alloc, out) {
             Ok(()) => self.status(),
@@ -83,7 +99,9 @@ impl Stop {
     }
 
     fn status(&self) -> Status
-        ensures { IsExecuted result → ⊥ }
+        ensures stopped { IsExecuted result → ⊥ }
+        ensures late { IsLate self.now → result ≢ Status.Usage }
+        ensures usage { self.now ≡ Stop.Usage → result ≡ Status.Usage }
     {
         match self {
             Stop::Usage => Status::Usage,

@@ -1,6 +1,7 @@
 use Rattle.std.proofs.Common.{map}
 use Rattle.std.proofs.lemmas.Result.{IfOk-weaker, IfErr-at_err}
-use Rattle.bk_calls.specs.Script.{call_lines, request_of}
+use Rattle.bk_lines.specs.Lines.{kept_lines}
+use Rattle.bk_calls.specs.Script.{request_of}
 use Rattle.bk_calls.specs.Outcome.{IsFaultOf}
 use Rattle.bk_calls.proofs.Scripts.{read_as_script, requests_fit, first_fault, fault_is_told}
 use Rattle.bk_calls.proofs.script.calls.Goals as goal
@@ -12,7 +13,7 @@ returns-clause-ok c =
 pub returns-clause-requests : goal.returns-clause-requests
 returns-clause-requests c =
     IfOk-weaker c.read_calls.result _ _
-    (λ calls h. requests_fit c.args.image.now (call_lines c.args.text.now) (map request_of calls.items) c.requires.no_inputs (read_as_script c.args.image.now c.args.text.now (map request_of calls.items) h))
+    (λ calls h. requests_fit c.args.image.now (kept_lines c.args.text.now) (map request_of calls.items) c.requires.no_inputs (read_as_script c.args.image.now c.args.text.now (map request_of calls.items) h))
     c.read_calls.ensures.ok
 
 pub returns-clause-line : goal.returns-clause-line

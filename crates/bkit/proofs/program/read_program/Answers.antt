@@ -16,10 +16,10 @@ calls-requires-clause-few_operations g c = few_operations c.in_ok-development.de
 pub returns-clause-told : goal.returns-clause-told
 returns-clause-told g c files told =
     reads_program files c.args.project.now c.args.script.now c.in_ok-text.text.items c.in_ok-development.development c.in-Ok.image (map request_of c.in_ok-calls.calls.items)
-      (c.in_ok-development.ensures.told files told)
-      c.in-Ok.ensures.ok
-      (c.in_ok-text.ensures.told files (c.read_development.ensures.files ∙ told))
-      (subst (λ x. IsScript c.in-Ok.image x (map request_of c.in_ok-calls.calls.items)) c.deref.ensures.value c.in_ok-calls.ensures.ok)
+    (c.in_ok-development.ensures.told files told)
+    c.in-Ok.ensures.ok
+    (c.in_ok-text.ensures.told files (c.read_development.ensures.files ∙ told))
+    (subst (λ x. IsScript c.in-Ok.image x (map request_of c.in_ok-calls.calls.items)) c.deref.ensures.value c.in_ok-calls.ensures.ok)
 
 pub returns-clause-few : goal.returns-clause-few
 returns-clause-few g c =

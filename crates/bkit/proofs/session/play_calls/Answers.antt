@@ -1,9 +1,9 @@
-use Rattle.std.proofs.Common.{rules, map, take, sym, subst}
+use Rattle.std.proofs.Common.{rules, map, take, subst}
 use Rattle.bk_calls.specs.Script.{request_of}
 use Rattle.bk_vm.specs.Ends.{end_of}
 use Rattle.std.proofs.lemmas.List.{length-map}
 use Rattle.bkit.specs.Session.{PlaysCall}
-use Rattle.bkit.proofs.Plays.{request_at, take_more, sofar_more, done_end, over_stop, over_end, whole_at, Sofar}
+use Rattle.bkit.proofs.Plays.{request_at, take_more, sofar_more, done_end, over_stop, over_end, whole_at}
 use Rattle.bkit.proofs.session.play_calls.Goals.{else-loop-call-test, then-loop-call-test+then-is_stop}
 use Rattle.bkit.proofs.session.play_calls.Goals as goal
 
@@ -20,6 +20,7 @@ loop-call-preserved g c =
 pub returns-clause-ok : goal.returns-clause-ok
 returns-clause-ok g c =
     whole_at c.args.machine.now.image (map request_of c.args.calls.now) c.loop-call.call-index (end_of c.args.start) c.args.machine.now.cells (end_of c.loop-call.played.end) c.loop-call.machine.cells c.loop-call.played.done c.loop-call.played.steps (g.K.Sink.written c.args.out.now) (g.K.Sink.written c.loop-call.out) c.loop-call.invariant.0
-      (elim c.loop-call-test.branch [
-        else-loop-call-test w ↦ over_end (end_of c.loop-call.played.end) (map request_of c.args.calls.now) c.loop-call.call-index (rw (length-map c.args.calls.now request_of) (search rules))
-      | then-loop-call-test+then-is_stop w ↦ over_stop c.loop-call.played.end _ (search rules) ])
+    (elim c.loop-call-test.branch [
+      | else-loop-call-test w ↦ over_end (end_of c.loop-call.played.end) (map request_of c.args.calls.now) c.loop-call.call-index (rw (length-map c.args.calls.now request_of) (search rules))
+      | then-loop-call-test+then-is_stop w ↦ over_stop c.loop-call.played.end _ (search rules)
+    ])
