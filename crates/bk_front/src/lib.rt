@@ -23,3 +23,5 @@ pub use refusal::Refusal;
 
 #[cfg(test)]
 mod lexer_tests;
+#[cfg(test)]
+mod reading_tests;
