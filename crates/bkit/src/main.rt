@@ -6,6 +6,8 @@ mod program;
 mod session;
 mod status;
 mod stop;
+#[cfg(test)]
+mod tests;
 
 use bk_io::{FileShelf, StdSink};
 use program::bkit;
