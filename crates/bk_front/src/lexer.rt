@@ -6,6 +6,7 @@ ghost use Rattle.std.specs.Option.{option_map};
 ghost use Rattle.bk_front.specs.Lexis.{is_blank, is_digit, is_letter, goes_on, numeral_from, sign_text, BeginsWith, IsSmallToken, Cuts};
 ghost use Rattle.bk_front.specs.Cutting.{begins, IsRun, IsFirstRun, BeginsWithSign, BeginsWithNoSign, BeginsWithNone};
 
+use crate::character::{goes_on, is_blank, is_digit, is_letter};
 use crate::token::{Sign, Token};
 use bk_io::{Memory, Text};
 use std::alloc::Global;
@@ -145,29 +146,4 @@ fn sign_text(sign: Sign) -> &'static [u8]
         Sign::Equal => b"=",
         Sign::Outputs => b"<--",
     }
-}
-
-fn is_blank(c: u8) -> bool
-    ensures { result ≡ is_blank c }
-{
-    matches!(c, b' ' | b'\t' | b'\n' | b'\r')
-}
-
-fn is_digit(c: u8) -> bool
-    ensures { result ≡ is_digit c }
-{
-    c.is_ascii_digit()
-}
-
-fn is_letter(c: u8) -> bool
-    ensures { result ≡ is_letter c }
-{
-    c.is_ascii_alphabetic()
-}
-
-/// Whether the character may stand in an identifier behind the first.
-fn goes_on(c: u8) -> bool
-    ensures { result ≡ goes_on c }
-{
-    is_letter(c) || is_digit(c) || c == b'_'
 }

@@ -2,6 +2,7 @@
 //! implementation.
 #![tactic(auto)]
 
+mod character;
 mod component;
 mod development;
 #[cfg(test)]

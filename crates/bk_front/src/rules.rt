@@ -5,10 +5,11 @@ ghost use Rattle.std.specs.List.{list_all, list_any};
 ghost use Rattle.std.specs.Str.{bytes_eq};
 ghost use Rattle.bk_ops.specs.Rows.{text_of};
 ghost use Rattle.bk_ops.specs.Words.{word_texts};
-ghost use Rattle.bk_front.specs.Lexis.{goes_on, is_digit, is_identifier, is_letter};
+ghost use Rattle.bk_front.specs.Lexis.{goes_on, is_identifier};
 ghost use Rattle.bk_front.specs.Rules.{are_operations, differ, is_action, is_component, is_operation, is_side, is_small};
 ghost use Rattle.bk_front.specs.Spelling.{is_name};
 
+use crate::character::{goes_on, is_letter};
 use crate::component::{Action, Component, Operation, RightSide};
 use bk_io::Text;
 use bk_ops::OpRow;
@@ -17,18 +18,6 @@ use bk_ops::OpRow;
 const GREATEST_NUMBER: u32 = 2_147_483_647;
 
 const MOST_OPERATIONS: usize = 100;
-
-fn is_letter(byte: u8) -> bool
-    ensures { result ≡ is_letter byte }
-{
-    (b'A' <= byte && byte <= b'Z') || (b'a' <= byte && byte <= b'z')
-}
-
-fn goes_on(byte: u8) -> bool
-    ensures { result ≡ goes_on byte }
-{
-    is_letter(byte) || (b'0' <= byte && byte <= b'9') || byte == b'_'
-}
 
 fn all_go_on(bytes: &[u8]) -> bool
     ensures { result ≡ list_all goes_on bytes.now }
