@@ -41,7 +41,7 @@ abbrev second_name : List ProjectLine → List ℕ
 second_name (l ∷ m ∷ ms) = m.name
 second_name _ = []
 
-names_of : (text : List ℕ) (ls : List ProjectLine) (a b : List ℕ) → AreProjectLines text ls → ls ≡ component_lines a b → NamesFiles text a b
+pub names_of : (text : List ℕ) (ls : List ProjectLine) (a b : List ℕ) → AreProjectLines text ls → ls ≡ component_lines a b → NamesFiles text a b
 names_of text ls a b h e =
     subst (λ x. NamesFiles text x b) (ap first_name (sym h.are ∙ e)) (subst (NamesFiles text h.machine) (ap second_name (sym h.are ∙ e)) h.names)
 
@@ -63,7 +63,7 @@ reads_project files project text a b above below ls dev told are e machine imple
 
 -- the files tell one text under a name
 told_once : (files : Files) (name text other : List ℕ) → IsTold files name text → IsTold files name other → text ≡ other
-told_once files name text other h k = some_once (sym h ∙ k)
+told_once files name text other h k = some_once (sym h.stands ∙ k.stands)
   where
     value : List ℕ → Option (List ℕ) → List ℕ
     value d None = d

@@ -1,9 +1,12 @@
 -- The words of a run.
-use Rattle.std.proofs.Common.{◌≡◌, ◌≢◌, ℕ, ◌<◌, ◌≤◌, List, [], ◌∷◌, length, map, false, slice_index_or, refl, sym, ◌∙◌, ap, arith, codes, String, Global, Result, Ok, Err}
+use Rattle.std.proofs.Common.{◌≡◌, ◌≢◌, ℕ, ◌<◌, ◌≤◌, List, [], ◌∷◌, length, map, false, slice_index_or, refl, sym, ◌∙◌, ap, arith, codes, String, Global, Result, Ok, Err, Option, ◌⊎◌, inl, inr}
 use Rattle.std.specs.Prelude.{string_bytes}
 use Rattle.std.proofs.lemmas.Bool.{ne_eqb}
 use Rattle.bkit.specs.declared.status.Status.{Status}
 use Rattle.bkit.specs.declared.stop.Stop.{Stop}
+use Rattle.bkit.specs.declared.status.Status.TheVariants.{Usage as UsageStatus, WriteFault as WriteFaultStatus, Memory as MemoryStatus}
+use Rattle.bkit.specs.declared.stop.Stop.TheVariants.{Usage}
+use Rattle.bkit.specs.Stops.{status_of_stop, Reports}
 use Rattle.bkit.specs.Run.{is_option, AreRunWords}
 
 abbrev pub Text : Type 0
@@ -37,3 +40,7 @@ err_of d (Err e) = e
 pub one_stop : (result : Result Status Stop) (stop other : Stop) → result ≡ Err stop → result ≡ Err other → stop ≡ other
 unfolding err_of
 one_stop result stop other h k = ap (err_of stop) (sym h ∙ k)
+
+pub wrong_words : (stop : Stop) (status : Status) (old new : Option (List ℕ)) → stop ≡ Usage → Reports stop status old new → (status ≡ UsageStatus) ⊎ (status ≡ WriteFaultStatus) ⊎ (status ≡ MemoryStatus)
+wrong_words stop status old new e (inl r) = inl (r.0 ∙ ap status_of_stop e)
+wrong_words stop status old new e (inr r) = inr r

@@ -1,5 +1,5 @@
 -- What `bkit run` does, as the told files have it.
-use Rattle.std.specs.Prelude.{◌≡◌, ℕ, ◌++◌, Bool, false, nat_eq, List, [], ◌∷◌, Option, Some, codes}
+use Rattle.std.specs.Prelude.{◌≡◌, ℕ, ◌++◌, Bool, false, nat_eq, List, [], ◌∷◌, length, ◌≤◌, Option, Some, codes}
 use Rattle.bk_io.specs.Files.{Files, file_named}
 use Rattle.bk_code.specs.declared.image.Image.{Image}
 use Rattle.bk_code.specs.Session.{Request, Told, Session}
@@ -32,9 +32,10 @@ abbrev pub AreNoRunWords : List (List ℕ) → Type 0
 AreNoRunWords words = (project calls : List ℕ) → AreRunWords words project calls → ⊥
 
 -- ---- the project
--- the files tell this text under the name
-abbrev pub IsTold : Files → List ℕ → List ℕ → Type 0
-IsTold files name text = file_named files name ≡ Some text
+-- the files tell this text under the name, and it has at most 16777216 bytes
+pub record IsTold (files : Files) (name text : List ℕ) : Type 0 where
+  pub stands : file_named files name ≡ Some text
+  pub short : length text ≤ 16777216
 
 -- the lines of a project of a machine's file and an implementation's
 abbrev pub component_lines : List ℕ → List ℕ → List ProjectLine

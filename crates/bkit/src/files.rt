@@ -1,11 +1,11 @@
 //! The files of a project.
 
-ghost use Rattle.std.specs.Prelude.{◌≡◌, ◌≤◌, length, Some, IfOk, IfErr};
+ghost use Rattle.std.specs.Prelude.{◌≡◌, ◌≢◌, ◌⊎◌, ◌≤◌, length, Some, IfOk, IfErr};
 ghost use Rattle.bk_io.specs.Files.{Files};
 ghost use Rattle.bk_front.specs.FirstForm.{IsFirstForm};
 ghost use Rattle.bk_front.specs.ProjectFile.{IsFileName};
 ghost use Rattle.bk_front.specs.Project.{text_at};
-ghost use Rattle.bkit.specs.Stops.{IsLate};
+ghost use Rattle.bkit.specs.Stops.{IsOutside, StopsAtFile, StopsAtProject, IsStopOf, name_of};
 ghost use Rattle.bkit.specs.Run.{IsTold, component_lines, AreComponentLines, ReadsProject};
 
 use crate::stop::Stop;
@@ -23,7 +23,8 @@ const LIMIT_OF_LENGTH: u8 = 1;
 
 /// The bytes of the file with this name.
 pub(crate) fn fetch<H: Shelf>(alloc: Global, name: &str, shelf: &mut H) -> Result<Vec<u8>, Stop>
-    ensures late { IfErr result IsLate }
+    ensures cause { IfErr result (λ stop. (files : Files) → H.files shelf.old ≡ Some files → IsOutside stop ⊎ StopsAtFile files name.now stop) }
+    ensures late { IfErr result (λ stop. stop ≢ Stop.Usage) }
     ensures files { H.files shelf.new ≡ H.files shelf.old }
     ensures told { IfOk result (λ text. (files : Files) → H.files shelf.old ≡ Some files → IsTold files name.now text.items) }
     ensures short { IfOk result (λ text. length text.items ≤ 16777216) }
@@ -31,8 +32,8 @@ pub(crate) fn fetch<H: Shelf>(alloc: Global, name: &str, shelf: &mut H) -> Resul
     let mut text = Vec::new(alloc);
     match shelf.fetch(name, LENGTH_LIMIT, &mut text) {
         Ok(()) => Ok(text),
-        Err(Fetch::Missing) => Err(Stop::Missing(String::from_str(alloc, name)?)),
-        Err(Fetch::TooLong) => Err(Stop::Limit(LIMIT_OF_LENGTH, String::from_str(alloc, name)?)),
+        Err(Fetch::Missing) => Err(Stop::Missing(owned(alloc, name)?)),
+        Err(Fetch::TooLong) => Err(Stop::Limit(LIMIT_OF_LENGTH, owned(alloc, name)?)),
         Err(Fetch::Failed) => Err(Stop::ReadFault),
         Err(Fetch::Memory) => Err(Stop::Memory),
     }
@@ -44,7 +45,8 @@ pub(crate) fn read_development<H: Shelf>(
     name: &str,
     shelf: &mut H,
 ) -> Result<Development, Stop>
-    ensures late { IfErr result IsLate }
+    ensures cause { IfErr result (λ stop. (files : Files) → H.files shelf.old ≡ Some files → IsOutside stop ⊎ StopsAtProject files name.now stop) }
+    ensures late { IfErr result (λ stop. stop ≢ Stop.Usage) }
     ensures files { H.files shelf.new ≡ H.files shelf.old }
     ensures told { IfOk result (λ dev. (files : Files) → H.files shelf.old ≡ Some files → ReadsProject files name.now dev) }
     ensures first_form { IfOk result IsFirstForm }
@@ -53,7 +55,7 @@ pub(crate) fn read_development<H: Shelf>(
     let text = fetch(alloc, name, shelf)?;
     let lines = match lines(alloc, &text) {
         Ok(lines) => lines,
-        Err(refusal) => return Err(refused(alloc, refusal, name)?),
+        Err(refusal) => return Err(refused(alloc, refusal, name, name, name)?),
     };
     let (above, below) = component_files(&lines);
     let machine = fetch(alloc, above, shelf)?;
@@ -61,7 +63,7 @@ pub(crate) fn read_development<H: Shelf>(
     let texts = both(alloc, machine, implementation)?;
     match project(alloc, &lines, &texts) {
         Ok(development) => Ok(development),
-        Err(refusal) => Err(refused(alloc, refusal, file_of(refusal, &lines, name))?),
+        Err(refusal) => Err(refused(alloc, refusal, name, above, below)?),
     }
 }
 
@@ -75,7 +77,7 @@ fn component_files(lines: &[ProjectLine]) -> (&str, &str)
 
 // The texts of two files.
 fn both(alloc: Global, first: Vec<u8>, second: Vec<u8>) -> Result<Vec<Vec<u8>>, Stop>
-    ensures late { IfErr result IsLate }
+    ensures outside { IfErr result IsOutside }
     ensures two { IfOk result (λ texts. length texts.items ≡ 2) }
     ensures first { IfOk result (λ texts. text_at texts.items 0 ≡ first.items) }
     ensures second { IfOk result (λ texts. text_at texts.items 1 ≡ second.items) }
@@ -97,25 +99,43 @@ fn file_name(name: &Text) -> &str
     }
 }
 
-// The name of the file that a refusal lays the fault to: the project file, or that of a line.
-fn file_of<'a>(refusal: Refusal, lines: &'a [ProjectLine], project: &'a str) -> &'a str {
-    let file = match refusal {
-        Refusal::Fault { file, .. } | Refusal::Limit { file, .. } => file as usize,
-        Refusal::Memory => 0,
+// The stop at a file of the project: the project file itself, or that of a component.
+fn refused(
+    alloc: Global,
+    refusal: Refusal,
+    project: &str,
+    machine: &str,
+    implementation: &str,
+) -> Result<Stop, Stop>
+    ensures outside { IfErr result IsOutside }
+    ensures told { IfOk result (IsStopOf refusal project.now machine.now implementation.now) }
+{
+    let (fault, file) = match refusal {
+        Refusal::Fault { number, file, .. } => (number, file),
+        Refusal::Limit { number, file } => {
+            let name = name_of(file, project, machine, implementation);
+            return Ok(Stop::Limit(number, owned(alloc, name)?));
+        }
+        Refusal::Memory => return Ok(Stop::Memory),
     };
-    if file == 0 || file > lines.len() {
-        return project;
-    }
-    str::from_utf8(lines[file - 1].name.as_bytes()).unwrap_or(project)
+    let name = name_of(file, project, machine, implementation);
+    Ok(Stop::Refused(fault, owned(alloc, name)?))
 }
 
-fn refused(alloc: Global, refusal: Refusal, name: &str) -> Result<Stop, Stop>
-    ensures late { IfErr result IsLate }
-    ensures told { IfOk result IsLate }
+// The name of the file with this number: 0 for the project file.
+fn name_of<'a>(file: u32, project: &'a str, machine: &'a str, implementation: &'a str) -> &'a str
+    ensures { result.now ≡ name_of file project.now machine.now implementation.now }
 {
-    Ok(match refusal {
-        Refusal::Fault { number, .. } => Stop::Refused(number, String::from_str(alloc, name)?),
-        Refusal::Limit { number, .. } => Stop::Limit(number, String::from_str(alloc, name)?),
-        Refusal::Memory => Stop::Memory,
-    })
+    match file {
+        0 => project,
+        1 => machine,
+        _ => implementation,
+    }
+}
+
+pub(crate) fn owned(alloc: Global, name: &str) -> Result<Text, Stop>
+    ensures outside { IfErr result IsOutside }
+    ensures ok { IfOk result (λ text. text ≡ name.now) }
+{
+    Ok(Text::from_bytes(Vec::from_slice(alloc, name.as_bytes())?))
 }

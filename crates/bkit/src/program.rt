@@ -1,14 +1,16 @@
 //! The program over any shelf and any sink.
 
-ghost use Rattle.std.specs.Prelude.{◌≡◌, ◌⊎◌, ◌<◌, ◌^◌, ℕ, List, All, length, map, Some, Err, IfOk, IfErr, MatchOption, string_bytes};
+ghost use Rattle.std.specs.Prelude.{◌≡◌, ◌≢◌, ◌⊎◌, ◌<◌, ◌^◌, ℕ, List, All, length, map, Some, Err, IfOk, IfErr, MatchOption, string_bytes};
 ghost use Rattle.bk_io.specs.Files.{Files};
 ghost use Rattle.bk_code.specs.Checks.{IsChecked};
 ghost use Rattle.bk_code.specs.Laws.{IsRequest};
 ghost use Rattle.bk_calls.specs.Script.{request_of};
-ghost use Rattle.bkit.specs.Stops.{IsLate};
-ghost use Rattle.bkit.specs.Run.{AreRunWords, AreNoRunWords, ReadsProgram, IsExecuted, WritesRun};
+ghost use Rattle.bk_dev.specs.Development.{Development};
+ghost use Rattle.bk_gen.specs.Translation.{translation};
+ghost use Rattle.bkit.specs.Stops.{IsOutside, StopsAtProject, StopsAtCalls, StopsAt, IsStopped, WritesStop, stop_of_code};
+ghost use Rattle.bkit.specs.Run.{AreRunWords, AreNoRunWords, ReadsProject, ReadsProgram, IsExecuted, WritesRun};
 
-use crate::files::{fetch, read_development};
+use crate::files::{fetch, owned, read_development};
 use crate::session::play;
 use crate::status::Status;
 use crate::stop::Stop;
@@ -43,6 +45,8 @@ pub fn bkit<H: Shelf, K: Sink>(
 ) -> Status
     ensures run { IsExecuted result → (files : Files) → (old : List ℕ) → H.files shelf.old ≡ Some files → K.written out.old ≡ Some old →
         WritesRun files (map string_bytes words.now) old (K.written out.new) result }
+    ensures stops { (files : Files) → (old : List ℕ) → H.files shelf.old ≡ Some files → K.written out.old ≡ Some old →
+        IsStopped result → WritesStop files (map string_bytes words.now) old (K.written out.new) result }
     ensures usage { result ≡ Status.Usage → AreNoRunWords (map string_bytes words.now) }
     ensures wrong_words { AreNoRunWords (map string_bytes words.now) → (result ≡ Status.Usage) ⊎ (result ≡ Status.WriteFault) ⊎ (result ≡ Status.Memory) }
 {
@@ -58,7 +62,9 @@ fn run<H: Shelf, K: Sink>(
     shelf: &mut H,
     out: &mut K,
 ) -> Result<Status, Stop>
-    ensures usage { IfErr result (λ stop. IsLate stop ⊎ ((stop ≡ Stop.Usage) × AreNoRunWords (map string_bytes words.now))) }
+    ensures cause { IfErr result (λ stop. (files : Files) → H.files shelf.old ≡ Some files → IsOutside stop ⊎ StopsAt files (map string_bytes words.now) stop) }
+    ensures silent { IfErr result (λ stop. IsOutside stop ⊎ (K.written out.new ≡ K.written out.old)) }
+    ensures usage { IfErr result (λ stop. stop ≡ Stop.Usage → AreNoRunWords (map string_bytes words.now)) }
     ensures wrong_words { AreNoRunWords (map string_bytes words.now) → result ≡ Err Stop.Usage }
     ensures executed { IfOk result IsExecuted }
     ensures ok { IfOk result (λ status. (files : Files) → (old : List ℕ) → H.files shelf.old ≡ Some files → K.written out.old ≡ Some old →
@@ -91,7 +97,9 @@ fn read_program<H: Shelf>(
     script: &str,
     shelf: &mut H,
 ) -> Result<Program, Stop>
-    ensures late { IfErr result IsLate }
+    ensures cause { IfErr result (λ stop. (files : Files) → H.files shelf.old ≡ Some files → IsOutside stop ⊎ StopsAtProject files project.now stop ⊎
+        ((dev : Development) × ReadsProject files project.now dev × StopsAtCalls files project.now script.now (translation dev) stop)) }
+    ensures late { IfErr result (λ stop. stop ≢ Stop.Usage) }
     ensures told { IfOk result (λ p. (files : Files) → H.files shelf.old ≡ Some files → ReadsProgram files project.now script.now p.image (map request_of p.calls.items)) }
     ensures checked { IfOk result (λ p. IsChecked p.image) }
     ensures requests { IfOk result (λ p. All (IsRequest p.image) (map request_of p.calls.items)) }
@@ -103,18 +111,20 @@ fn read_program<H: Shelf>(
         Ok(image) => image,
         Err(fault) => return Err(past_limit(alloc, fault, project)?),
     };
-    let calls = calls(alloc, &text, &image)?;
-    Ok(Program { image, calls })
+    match calls(alloc, &text, &image) {
+        Ok(calls) => Ok(Program { image, calls }),
+        Err(fault) => Err(Stop::from(fault)),
+    }
 }
 
 // The limit of the code, or of its cells, that the project passes.
 fn past_limit(alloc: Global, fault: GenFault, project: &str) -> Result<Stop, Stop>
-    ensures late { IfErr result IsLate }
-    ensures told { IfOk result IsLate }
+    ensures outside { IfErr result IsOutside }
+    ensures told { IfOk result (λ stop. stop ≡ stop_of_code fault project.now) }
 {
     Ok(match fault {
-        GenFault::CodeTooLong => Stop::Limit(LIMIT_OF_CODE, String::from_str(alloc, project)?),
-        GenFault::TooManyCells => Stop::Limit(LIMIT_OF_CELLS, String::from_str(alloc, project)?),
+        GenFault::CodeTooLong => Stop::Limit(LIMIT_OF_CODE, owned(alloc, project)?),
+        GenFault::TooManyCells => Stop::Limit(LIMIT_OF_CELLS, owned(alloc, project)?),
         GenFault::Memory => Stop::Memory,
     })
 }

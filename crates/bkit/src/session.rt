@@ -8,7 +8,7 @@ ghost use Rattle.bk_vm.specs.Ends.{is_stop, end_of};
 ghost use Rattle.bk_vm.specs.State.{TakesCall};
 ghost use Rattle.bk_calls.specs.Script.{request_of};
 ghost use Rattle.bk_calls.specs.Transcript.{AreOutputs, reply_text, closing_text, steps_of, done_number};
-ghost use Rattle.bkit.specs.Stops.{IsLate};
+ghost use Rattle.bkit.specs.Stops.{IsOutside};
 ghost use Rattle.bkit.specs.Run.{IsExecuted};
 ghost use Rattle.bkit.specs.Session.{Plays, PlaysCalls, PlaysCall, status_of};
 
@@ -41,7 +41,7 @@ pub(crate) fn play<K: Sink>(
     requires checked { IsChecked image }
     requires requests { All (IsRequest image) (map request_of calls.now) }
     requires few { length calls.now < 2 ^ 32 }
-    ensures late { IfErr result IsLate }
+    ensures outside { IfErr result IsOutside }
     ensures executed { IfOk result IsExecuted }
     ensures ok { IfOk result (λ status. Plays image (map request_of calls.now) status (K.written out.old) (K.written out.new)) }
 {
@@ -77,7 +77,7 @@ fn play_calls<K: Sink>(
     requires stopped { machine.old.stopped ≡ is_stop start }
     requires requests { All (IsRequest machine.old.image) (map request_of calls.now) }
     requires few { length calls.now < 2 ^ 32 }
-    ensures late { IfErr result IsLate }
+    ensures outside { IfErr result IsOutside }
     ensures ok { IfOk result (λ played. PlaysCalls machine.old.image (map request_of calls.now) (end_of start) machine.old.cells
         (end_of played.end) played.done played.steps (K.written out.old) (K.written out.new)) }
     ensures bound { IfOk result (λ played. played.steps ≤ 1000000 * length calls.now) }
@@ -122,7 +122,7 @@ fn play_call<K: Sink>(
     requires started { machine.old.started ≡ true }
     requires runs { machine.old.stopped ≡ false }
     requires request { IsRequest machine.old.image (request_of call.now) }
-    ensures late { IfErr result IsLate }
+    ensures outside { IfErr result IsOutside }
     ensures ok { IfOk result (λ end. PlaysCall machine.old.image (request_of call.now) machine.old.cells (end_of end) machine.new.cells
         (K.written out.old) (K.written out.new)) }
     ensures image { machine.new.image ≡ machine.old.image }
@@ -146,7 +146,7 @@ fn play_into<K: Sink>(
     requires started { machine.old.started ≡ true }
     requires runs { machine.old.stopped ≡ false }
     requires takes { TakesCall machine.old.image call.now.op call.now.args (length outs.old) }
-    ensures late { IfErr result IsLate }
+    ensures outside { IfErr result IsOutside }
     ensures ok { IfOk result (λ end. PlaysCall machine.old.image (request_of call.now) machine.old.cells (end_of end) machine.new.cells
         (K.written out.old) (K.written out.new)) }
     ensures image { machine.new.image ≡ machine.old.image }
@@ -170,7 +170,7 @@ fn answer<K: Sink>(
     out: &mut K,
 ) -> Result<(), Stop>
     requires { AreOutputs image.now op outs.now }
-    ensures late { IfErr result IsLate }
+    ensures outside { IfErr result IsOutside }
     ensures ok { OnOk result (K.written out.new ≡ written_with (K.written out.old) (reply_text image.now op (end_of end) outs.now)) }
 {
     let line = reply(alloc, op, &end, outs, image)?;
@@ -180,7 +180,7 @@ fn answer<K: Sink>(
 
 // Writes the last line.
 fn close<K: Sink>(alloc: Global, done: u64, steps: u64, out: &mut K) -> Result<(), Stop>
-    ensures late { IfErr result IsLate }
+    ensures outside { IfErr result IsOutside }
     ensures ok { OnOk result (K.written out.new ≡ written_with (K.written out.old) (closing_text done steps)) }
 {
     let line = closing(alloc, done, steps)?;

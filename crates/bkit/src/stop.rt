@@ -1,13 +1,17 @@
 //! Why the program stops before its work is done, and the line that says so.
 
-ghost use Rattle.std.specs.Prelude.{◌≡◌, ◌≢◌, ◌⊎◌};
-ghost use Rattle.bkit.specs.Run.{IsExecuted};
-ghost use Rattle.bkit.specs.Stops.{IsLate};
+ghost use Rattle.std.specs.Prelude.{◌≡◌, ◌++◌, codes, decimal, IfOk, OnOk};
+ghost use Rattle.bk_io.specs.Pieces.{written_with};
+ghost use Rattle.bkit.specs.Stops.{IsOutside, status_of_stop, refusal_text, stop_text, stop_of_calls, Reports};
 
 use crate::status::Status;
 use bk_calls::CallsFault;
-use bk_io::{Sink, SinkFault, put_all};
+use bk_io::{Sink, SinkFault, Text, put_all};
+use itoa::Buffer;
 use std::alloc::{AllocError, AllocFailed, Global};
+
+/// The number of the fault that a text passes a limit.
+const FAULT_OF_LIMITS: u8 = 13;
 
 /// Why the program stops before its work is done.
 #[derive(Debug, Drop)]
@@ -15,11 +19,11 @@ pub(crate) enum Stop {
     /// The words are none of the program's.
     Usage,
     /// The file with this name is not there.
-    Missing(String),
+    Missing(Text),
     /// The file with this name has this fault.
-    Refused(u8, String),
+    Refused(u8, Text),
     /// The file with this name passes this limit.
-    Limit(u8, String),
+    Limit(u8, Text),
     /// The line of the call script with this number, from 1, is at fault.
     BadCalls(u32),
     /// A file could not be read.
@@ -31,7 +35,7 @@ pub(crate) enum Stop {
 }
 
 impl From<SinkFault> for Stop {
-    ghost from_gives = { λ _ stop. IsLate stop };
+    ghost from_gives = { λ _ stop. IsOutside stop };
 
     fn from(fault: SinkFault) -> Self {
         match fault {
@@ -42,7 +46,7 @@ impl From<SinkFault> for Stop {
 }
 
 impl From<bk_code::Memory> for Stop {
-    ghost from_gives = { λ _ stop. IsLate stop };
+    ghost from_gives = { λ _ stop. IsOutside stop };
 
     fn from(_: bk_code::Memory) -> Self {
         Stop::Memory
@@ -50,7 +54,7 @@ impl From<bk_code::Memory> for Stop {
 }
 
 impl From<bk_io::Memory> for Stop {
-    ghost from_gives = { λ _ stop. IsLate stop };
+    ghost from_gives = { λ _ stop. IsOutside stop };
 
     fn from(_: bk_io::Memory) -> Self {
         Stop::Memory
@@ -58,7 +62,7 @@ impl From<bk_io::Memory> for Stop {
 }
 
 impl From<AllocError> for Stop {
-    ghost from_gives = { λ _ stop. IsLate stop };
+    ghost from_gives = { λ _ stop. IsOutside stop };
 
     fn from(_: AllocError) -> Self {
         Stop::Memory
@@ -66,7 +70,7 @@ impl From<AllocError> for Stop {
 }
 
 impl<T: Drop> From<AllocFailed<T>> for Stop {
-    ghost from_gives = { λ _ stop. IsLate stop };
+    ghost from_gives = { λ _ stop. IsOutside stop };
 
     fn from(_: AllocFailed<T>) -> Self {
         Stop::Memory
@@ -74,7 +78,7 @@ impl<T: Drop> From<AllocFailed<T>> for Stop {
 }
 
 impl From<CallsFault> for Stop {
-    ghost from_gives = { λ _ stop. IsLate stop };
+    ghost from_gives = { λ fault stop. stop ≡ stop_of_calls fault };
 
     fn from(fault: CallsFault) -> Self {
         match fault {
@@ -87,9 +91,7 @@ impl From<CallsFault> for Stop {
 impl Stop {
     /// Writes the line that says why the program stops, and answers how it ends.
     pub(crate) fn report<K: Sink>(&self, alloc: Global, out: &mut K) -> Status
-        ensures stopped { IsExecuted result → ⊥ }
-        ensures late { IsLate self.now → result ≢ Status.Usage }
-        ensures usage { self.now ≡ Stop.Usage → (result ≡ Status.Usage) ⊎ (result ≡ Status.WriteFault) ⊎ (result ≡ Status.Memory) }
+        ensures { Reports self.now result (K.written out.old) (K.written out.new) }
     {
         match self.write(alloc, out) {
             Ok(()) => self.status(),
@@ -99,9 +101,7 @@ impl Stop {
     }
 
     fn status(&self) -> Status
-        ensures stopped { IsExecuted result → ⊥ }
-        ensures late { IsLate self.now → result ≢ Status.Usage }
-        ensures usage { self.now ≡ Stop.Usage → result ≡ Status.Usage }
+        ensures { result ≡ status_of_stop self.now }
     {
         match self {
             Stop::Usage => Status::Usage,
@@ -114,23 +114,61 @@ impl Stop {
         }
     }
 
-    // The line; faults of the devices and want of memory leave none.
-    fn write<K: Sink>(&self, alloc: Global, out: &mut K) -> Result<(), SinkFault> {
-        match self.line(alloc)? {
-            Some(line) => put_all(out, line.as_bytes()),
-            None => Ok(()),
-        }
+    fn write<K: Sink>(&self, alloc: Global, out: &mut K) -> Result<(), SinkFault>
+        ensures { OnOk result (K.written out.new ≡ written_with (K.written out.old) (stop_text self.now)) }
+    {
+        let line = self.line(alloc)?;
+        put_all(out, &line)?;
+        Ok(())
     }
 
-    fn line(&self, alloc: Global) -> Result<Option<String>, AllocError> {
-        let line = match self {
-            Stop::Usage => format!(in alloc; "usage: bkit VERB [FILE] [FILE] [--fuel N]\n")?,
-            Stop::Missing(name) => format!(in alloc; "missing {name}\n")?,
-            Stop::Refused(fault, name) => format!(in alloc; "refused F{fault} {name}\n")?,
-            Stop::Limit(limit, name) => format!(in alloc; "refused F13 {name} limit {limit}\n")?,
-            Stop::BadCalls(line) => format!(in alloc; "bad call line {line}\n")?,
-            Stop::ReadFault | Stop::WriteFault | Stop::Memory => return Ok(None),
-        };
-        Ok(Some(line))
+    // The line; faults of the devices and want of memory leave none.
+    fn line(&self, alloc: Global) -> Result<Vec<u8>, AllocError>
+        ensures { IfOk result (λ line. line.items ≡ stop_text self.now) }
+    {
+        let mut line = Vec::new(alloc);
+        match self {
+            Stop::Usage => line.extend_from_slice(b"usage: bkit VERB [FILE] [FILE] [--fuel N]\n")?,
+            Stop::Missing(name) => {
+                line.extend_from_slice(b"missing ")?;
+                line.extend_from_slice(name.as_bytes())?;
+                line.extend_from_slice(b"\n")?;
+            }
+            Stop::Refused(fault, name) => {
+                write_refusal(&mut line, *fault, name)?;
+                line.extend_from_slice(b"\n")?;
+            }
+            Stop::Limit(limit, name) => {
+                write_refusal(&mut line, FAULT_OF_LIMITS, name)?;
+                write_limit(&mut line, *limit)?;
+            }
+            Stop::BadCalls(number) => {
+                line.extend_from_slice(b"bad call line ")?;
+                line.extend_from_slice(Buffer::new().format(*number).as_bytes())?;
+                line.extend_from_slice(b"\n")?;
+            }
+            Stop::ReadFault | Stop::WriteFault | Stop::Memory => {}
+        }
+        Ok(line)
     }
+}
+
+// The file is refused for the fault with this number.
+fn write_refusal(line: &mut Vec<u8>, fault: u8, name: &Text) -> Result<(), AllocError>
+    ensures { OnOk result (line.new.items ≡ line.old.items ++ refusal_text fault name.now) }
+{
+    line.extend_from_slice(b"refused F")?;
+    line.extend_from_slice(Buffer::new().format(fault).as_bytes())?;
+    line.extend_from_slice(b" ")?;
+    line.extend_from_slice(name.as_bytes())?;
+    Ok(())
+}
+
+fn write_limit(line: &mut Vec<u8>, limit: u8) -> Result<(), AllocError>
+    ensures { OnOk result (line.new.items ≡ line.old.items ++ (codes " limit " ++ decimal limit ++ codes "\n")) }
+{
+    line.extend_from_slice(b" limit ")?;
+    line.extend_from_slice(Buffer::new().format(limit).as_bytes())?;
+    line.extend_from_slice(b"\n")?;
+    Ok(())
 }

@@ -1,6 +1,9 @@
-use Rattle.std.proofs.Common.{rules, map, subst, sym, ◌∙◌}
+use Rattle.std.proofs.Common.{rules, map, subst, sym, ap, ◌∙◌, ◌≡◌, ◌⊎◌, Some, Err}
 use Rattle.std.proofs.lemmas.List.{length-map}
-use Rattle.bk_calls.specs.Script.{request_of, IsScript}
+use Rattle.bk_calls.specs.Script.{request_of, IsScript, IsFirstFault}
+use Rattle.bk_io.specs.Files.{Files}
+use Rattle.bkit.specs.Stops.{IsOutside, StopsAtFile, StopsAtProject}
+use Rattle.bkit.proofs.Stopping.{widen, handed_on, Stopped, at_project, at_script, at_code, at_calls}
 use Rattle.bkit.proofs.Projects.{has_no_inputs, few_operations, few_lines, few_requests, reads_program}
 use Rattle.bkit.proofs.program.read_program.Goals as goal
 
@@ -13,14 +16,46 @@ calls-requires-clause-few_lines g c = few_lines c.deref.result.now (search rules
 pub calls-requires-clause-few_operations : goal.calls-requires-clause-few_operations
 calls-requires-clause-few_operations g c = few_operations c.in_ok-development.development c.in-Ok.image (search rules) (search rules)
 
-pub returns-clause-told : goal.returns-clause-told
-returns-clause-told g c files told =
-    reads_program files c.args.project.now c.args.script.now c.in_ok-text.text.items c.in_ok-development.development c.in-Ok.image (map request_of c.in_ok-calls.calls.items)
+pub returns-in-Ok-calls-clause-told : goal.returns-in-Ok-calls-clause-told
+returns-in-Ok-calls-clause-told g c files told =
+    reads_program files c.args.project.now c.args.script.now c.in_ok-text.text.items c.in_ok-development.development c.in-Ok.image (map request_of c.in-Ok-calls.calls.items)
     (c.in_ok-development.ensures.told files told)
     c.in-Ok.ensures.ok
     (c.in_ok-text.ensures.told files (c.read_development.ensures.files ∙ told))
-    (subst (λ x. IsScript c.in-Ok.image x (map request_of c.in_ok-calls.calls.items)) c.deref.ensures.value c.in_ok-calls.ensures.ok)
+    (subst (λ x. IsScript c.in-Ok.image x (map request_of c.in-Ok-calls.calls.items)) c.deref.ensures.value c.in-Ok-calls.ensures.ok)
 
-pub returns-clause-few : goal.returns-clause-few
-returns-clause-few g c =
-    rw (sym (length-map c.in_ok-calls.calls.items request_of)) (few_requests c.in-Ok.image c.deref.result.now (map request_of c.in_ok-calls.calls.items) c.in_ok-calls.ensures.ok (few_lines c.deref.result.now (search rules)))
+pub returns-in-Ok-calls-clause-few : goal.returns-in-Ok-calls-clause-few
+returns-in-Ok-calls-clause-few g c =
+    rw (sym (length-map c.in-Ok-calls.calls.items request_of)) (few_requests c.in-Ok.image c.deref.result.now (map request_of c.in-Ok-calls.calls.items) c.in-Ok-calls.ensures.ok (few_lines c.deref.result.now (search rules)))
+
+pub returns-in_err-development-clause-cause : goal.returns-in_err-development-clause-cause
+returns-in_err-development-clause-cause g c =
+    widen c.from_residual.result
+    (λ stop. (files : Files) → g.H.Shelf.files c.args.shelf.now ≡ Some files → IsOutside stop ⊎ StopsAtProject files c.args.project.now stop)
+    (λ stop. (files : Files) → g.H.Shelf.files c.args.shelf.now ≡ Some files → Stopped files c.args.project.now c.args.script.now stop)
+    (handed_on c.from_residual.result c.in_err-development.field-0.0 (λ stop. (files : Files) → g.H.Shelf.files c.args.shelf.now ≡ Some files → IsOutside stop ⊎ StopsAtProject files c.args.project.now stop) c.from_residual.ensures.1 c.in_err-development.ensures.cause)
+    (λ stop h files told. at_project files c.args.project.now c.args.script.now stop (h files told))
+
+pub returns-in_err-text-clause-cause : goal.returns-in_err-text-clause-cause
+returns-in_err-text-clause-cause g c =
+    widen c.from_residual-in_err-text.result
+    (λ stop. (files : Files) → g.H.Shelf.files c.read_development.new.shelf ≡ Some files → IsOutside stop ⊎ StopsAtFile files c.args.script.now stop)
+    (λ stop. (files : Files) → g.H.Shelf.files c.args.shelf.now ≡ Some files → Stopped files c.args.project.now c.args.script.now stop)
+    (search rules)
+    (λ stop h files told. at_script files c.args.project.now c.args.script.now c.in_ok-development.development (c.in_ok-development.ensures.told files told) stop (h files (c.read_development.ensures.files ∙ told)))
+
+pub returns-in-Err-clause-cause : goal.returns-in-Err-clause-cause
+returns-in-Err-clause-cause g c files told =
+    at_code files c.args.project.now c.args.script.now c.in_ok-development.development (c.in_ok-development.ensures.told files told) c.in_ok-text.text.items c.in-Err.fault c.in_ok-past_limit-in-Err.field-0
+    (c.in_ok-text.ensures.told files (c.read_development.ensures.files ∙ told))
+    (λ e. c.in-Err.ensures.too_long (ap Err e))
+    (λ e. c.in-Err.ensures.too_many (ap Err e))
+    c.in_ok-past_limit-in-Err.ensures.told
+
+pub returns-clause-cause : goal.returns-clause-cause
+returns-clause-cause g c files told =
+    at_calls files c.args.project.now c.args.script.now c.in_ok-development.development (c.in_ok-development.ensures.told files told) c.in_ok-text.text.items c.in-Ok.image c.in-Err-calls.fault c.from.result
+    (c.in_ok-text.ensures.told files (c.read_development.ensures.files ∙ told))
+    c.in-Ok.ensures.ok
+    (λ number e. subst (λ x. IsFirstFault c.in-Ok.image x number) c.deref.ensures.value (c.in-Err-calls.ensures.line number (ap Err e)))
+    c.from.ensures
