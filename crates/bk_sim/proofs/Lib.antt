@@ -2,3 +2,5 @@ pub mod Nine
 pub mod Chain
 pub mod Ends
 pub mod Ten
+pub mod Cells
+pub mod Blocks
