@@ -4,3 +4,5 @@ pub mod Ends
 pub mod Ten
 pub mod Cells
 pub mod Blocks
+pub mod Flat
+pub mod Agree
