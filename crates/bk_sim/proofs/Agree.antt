@@ -31,11 +31,11 @@ pub or-right : (a b : Bool) → b ≡ true → a || b ≡ true
 or-right true b h = refl
 or-right false b h = h
 
-both-true : (a b : Bool) → a ≡ true → b ≡ true → a && b ≡ true
+pub both-true : (a b : Bool) → a ≡ true → b ≡ true → a && b ≡ true
 both-true true b h k = k
 both-true false b h k = clash false h refl
 
-both-false : (a b : Bool) → a ≡ false → b ≡ false → a || b ≡ false
+pub both-false : (a b : Bool) → a ≡ false → b ≡ false → a || b ≡ false
 both-false true b h k = clash true refl h
 both-false false b h k = k
 
@@ -114,7 +114,7 @@ assigns-none : (visible writable : ℕ → Bool) (ps : List (ℕ × Formula)) �
 assigns-none visible writable [] a n h = refl
 assigns-none visible writable (p ∷ ps) a n h = both-false (nat_eq n p.0) (among (firsts ps) n) (not-same writable n p.0 h a.0) (assigns-none visible writable ps a.3 n h)
 
-all-none : (writable : ℕ → Bool) (xs : List ℕ) → AllAre writable xs → (n : ℕ) → writable n ≡ false → among xs n ≡ false
+pub all-none : (writable : ℕ → Bool) (xs : List ℕ) → AllAre writable xs → (n : ℕ) → writable n ≡ false → among xs n ≡ false
 all-none writable [] a n h = refl
 all-none writable (x ∷ xs) a n h = both-false (nat_eq n x) (among xs n) (not-same writable n x h a.0) (all-none writable xs a.1 n h)
 

@@ -6,3 +6,5 @@ pub mod Cells
 pub mod Blocks
 pub mod Flat
 pub mod Agree
+pub mod IntCells
+pub mod Entries
