@@ -27,7 +27,7 @@ use Rattle.bk_gen.specs.Simple.{IsSimpleTerm, IsSimpleAssignment, IsSimpleStatem
 use Rattle.bk_gen.specs.Plain.{operation_cells, plain_cells, slot_of, operand_code, setting_code, plain_code, block_code, blocks_code, block_size, blocks_size, plain_parameter, plain_entry, plain_entries, plain_image}
 
 -- ---- the last level
-each_level : (dev : Development) (k : ℕ) (ls : List Level) (i : ℕ) → i < length ls → EachLevel dev k ls → IsLevelOf dev (k + i) (slice_index_or ls i blank_level)
+pub each_level : (dev : Development) (k : ℕ) (ls : List Level) (i : ℕ) → i < length ls → EachLevel dev k ls → IsLevelOf dev (k + i) (slice_index_or ls i blank_level)
 each_level dev k [] i h e = absurd (omega arith)
 each_level dev k (l ∷ ls) zero h e = let same : k ≡ k + 0 = omega arith in subst (λ m. IsLevelOf dev m l) same e.0
 each_level dev k (l ∷ ls) (suc i) h e =

@@ -8,3 +8,4 @@ pub mod Flat
 pub mod Agree
 pub mod IntCells
 pub mod Entries
+pub mod Climb
