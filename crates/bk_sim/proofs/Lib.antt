@@ -9,3 +9,4 @@ pub mod Agree
 pub mod IntCells
 pub mod Entries
 pub mod Climb
+pub mod SimpleCode
