@@ -1,8 +1,8 @@
 -- Formulas turn only on the variables that stand in them, and substitutions change only those that they may write.
-use Rattle.std.proofs.Common.{◌≡◌, inl, inr, ℕ, zero, suc, List, [], ◌∷◌, ◌++◌, map, refl, sym, ◌∙◌, ap, subst, Bool, true, false, not, cond, ◌&&◌, ◌||◌, nat_eq}
+use Rattle.std.proofs.Common.{◌≡◌, inl, inr, ℕ, List, [], ◌∷◌, ◌++◌, map, refl, sym, ◌∙◌, ap, subst, Bool, true, false, not, cond, ◌&&◌, ◌||◌, nat_eq}
 use Rattle.std.specs.List.{filter}
 use Rattle.bk_form.specs.Table.{Table}
-use Rattle.bk_form.specs.Formula.{Formula, variable, bound, literal, truth_value, element, empty_set, named, btrue, bfalse, unary, binary, for_all, for_some, comprehension, lambda, Formulas, no_formulas, formula_and}
+use Rattle.bk_form.specs.Formula.{Formula, variable, btrue, unary, binary, for_all, for_some, comprehension, lambda, Formulas, no_formulas, formula_and}
 use Rattle.bk_form.specs.Search.{Finder}
 use Rattle.bk_form.specs.Environment.{Environment, State, under}
 use Rattle.bk_form.specs.Role.{given_by}
@@ -54,7 +54,7 @@ module _ (find : Finder) (s : State) where
     meaning-same e (lambda rs p v) h =
         let r = meanings-same e rs (λ n k. h n (or-left (any_occurs n rs || occurs n p) (occurs n v) (or-left (any_occurs n rs) (occurs n p) k))) in
         λ i. lambda_meaning (r i) (λ vs. meaning-same (under e (range_types (r i)) vs) p (λ n k. h n (or-left (any_occurs n rs || occurs n p) (occurs n v) (or-right (any_occurs n rs) (occurs n p) k))) i)
-            (λ vs. meaning-same (under e (range_types (r i)) vs) v (λ n k. h n (or-right (any_occurs n rs || occurs n p) (occurs n v) k)) i)
+        (λ vs. meaning-same (under e (range_types (r i)) vs) v (λ n k. h n (or-right (any_occurs n rs || occurs n p) (occurs n v) k)) i)
     meaning-same e _ h = refl
 
     meanings-same : (e : Environment) (fs : Formulas) → ((n : ℕ) → any_occurs n fs ≡ true → e.state n ≡ s n) → meanings find e fs ≡ meanings find (record e { state = s }) fs

@@ -1,5 +1,5 @@
 -- From a run of the last level's body up to one of the machine's: each level's body runs where the one below it ended.
-use Rattle.std.proofs.Common.{◌≡◌, ◌⊎◌, inl, inr, ◌<◌, ◌≤◌, ℕ, zero, suc, ◌+◌, List, [], ◌∷◌, ◌++◌, length, map, take, refl, sym, ◌∙◌, ap, subst, Bool, true, false, cond, ◌||◌, nat_eq, nat_lt, arith, Some, None, Option}
+use Rattle.std.proofs.Common.{◌≡◌, ◌⊎◌, inl, inr, ◌<◌, ◌≤◌, ℕ, zero, suc, ◌+◌, List, [], ◌∷◌, length, map, take, refl, sym, ◌∙◌, subst, Bool, true, false, ◌||◌, nat_eq, nat_lt, arith, Some, None, Option}
 use Rattle.std.specs.Prelude.{slice_index_or}
 use Rattle.std.specs.List.{flat_map}
 use Rattle.std.proofs.lemmas.Bool.Decides.{nat_tests}
@@ -10,12 +10,12 @@ use Rattle.bk_form.specs.Environment.{State}
 use Rattle.bk_gsl.specs.Substitution.{Substitution}
 use Rattle.bk_gsl.specs.State.{IsTypedState, among}
 use Rattle.bk_gsl.specs.Run.{Runs}
-use Rattle.bk_gsl.proofs.States.{clash, nat_eq-self}
+use Rattle.bk_gsl.proofs.States.{nat_eq-self}
 use Rattle.bk_gsl.proofs.Runs.{run-typed}
 use Rattle.bk_dev.specs.declared.kind.Home.{Home}
 use Rattle.bk_dev.specs.declared.kind.Home.TheVariants.{Constant, Input, Variable, Inner}
 use Rattle.bk_dev.specs.Development.{Level, Development, blank_level, level_at, last}
-use Rattle.bk_dev.specs.Hypotheses.{AreTrue, joining, conjuncts, link_equation}
+use Rattle.bk_dev.specs.Hypotheses.{AreTrue, joining, link_equation}
 use Rattle.bk_dev.specs.Facts.{is_constant, is_input, is_variable_of, is_variable_above, is_inner_of, home_of, names_own, names_joined, writes_own, AllAre, IsSubOf, IsLevelOf, IsDevelopment}
 use Rattle.bk_dev.specs.Claims.{beside, JoinsAt}
 use Rattle.bk_gen.proofs.Plain.{each_level}

@@ -1,14 +1,14 @@
 -- The entries of the operations, and the cells where a call starts.
-use Rattle.std.proofs.Common.{◌≡◌, ◌<◌, ℕ, zero, suc, ◌+◌, ℤ, pos, List, [], ◌∷◌, ◌++◌, length, map, refl, sym, ◌∙◌, ap, subst, Bool, true, false, cond, ◌||◌, ◌&&◌, nat_eq, arith, Some, append_assoc}
+use Rattle.std.proofs.Common.{◌≡◌, ◌<◌, ℕ, zero, suc, ◌+◌, ℤ, List, [], ◌∷◌, ◌++◌, length, map, refl, sym, ◌∙◌, ap, subst, Bool, true, false, nat_eq, arith, Some, append_assoc}
 use Rattle.std.specs.Prelude.{slice_get, slice_index_or, slice_set}
 use Rattle.std.specs.List.{list_all}
 use Rattle.std.proofs.lemmas.List.{length-append, length-set}
-use Rattle.bk_val.specs.Value.{MathValue, int, bool, elem, pair, set}
-use Rattle.bk_val.specs.ValueType.{ValueType, int_type, is_value_of}
+use Rattle.bk_val.specs.Value.{MathValue, int}
+use Rattle.bk_val.specs.ValueType.{int_type, is_value_of}
 use Rattle.bk_form.specs.Table.{Table, set_size}
 use Rattle.bk_form.proofs.Members.{and-both}
 use Rattle.bk_gsl.specs.State.{declared_type, are_values_for, among}
-use Rattle.bk_gsl.proofs.States.{clash, or-false, nat_eq-self}
+use Rattle.bk_gsl.proofs.States.{or-false, nat_eq-self}
 use Rattle.bk_dev.specs.Development.{Head, Body, Development, blank_body}
 use Rattle.bk_dev.specs.Facts.{AreDistinct, Each, EachBody, IsBodyOf}
 use Rattle.bk_dev.specs.Machine.{are_in_int, is_in_int}

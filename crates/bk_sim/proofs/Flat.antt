@@ -1,12 +1,12 @@
 -- A development without || is flat already.
-use Rattle.std.proofs.Common.{◌≡◌, ℕ, zero, suc, ◌+◌, List, [], ◌∷◌, ◌++◌, length, refl, sym, ◌∙◌, ap, subst, replicate}
+use Rattle.std.proofs.Common.{◌≡◌, ℕ, suc, ◌+◌, List, [], ◌∷◌, ◌++◌, length, refl, ◌∙◌, ap, replicate}
 use Rattle.std.specs.List.{slice_get, filter_map}
 use Rattle.std.proofs.lemmas.List.{append-nil}
-use Rattle.bk_gsl.specs.Substitution.{Substitution, skip, assign, pre, guard, choice, if_else, any, seq, par, assert, becomes_such, loop}
+use Rattle.bk_gsl.specs.Substitution.{Substitution, pre, guard, choice, if_else, any, seq, par, assert, loop}
 use Rattle.bk_gsl.specs.Flat.{copied, flat_from}
 use Rattle.bk_dev.specs.declared.kind.Home.TheVariants.{Inner}
 use Rattle.bk_dev.specs.Development.{Body, Level, Development}
-use Rattle.bk_dev.specs.Flattened.{copied_in_bodies, copied_in_level, copied_in_levels, flat_bodies, flat_level, flat_levels, copy_homes, flattened}
+use Rattle.bk_dev.specs.Flattened.{copied_in_bodies, copied_in_level, copied_in_levels, flat_bodies, flat_levels, copy_homes, flattened}
 use Rattle.bk_sim.specs.Plain.{HasNoPar, HaveNoPar, LevelsHaveNoPar}
 
 none : {A : Type 0} (xs ys : List A) → xs ≡ [] → ys ≡ [] → xs ++ ys ≡ []

@@ -1,5 +1,5 @@
 -- The cells of a simple development: their kinds, what they show, and where their variables are at home.
-use Rattle.std.proofs.Common.{◌≡◌, ◌⊎◌, inl, inr, ◌<◌, ℕ, zero, suc, ◌+◌, ℤ, pos, List, [], ◌∷◌, ◌++◌, length, take, drop, map, refl, sym, ◌∙◌, ap, subst, Bool, true, false, cond, ◌||◌, ◌&&◌, nat_eq, arith, Some, None, Option}
+use Rattle.std.proofs.Common.{◌≡◌, ◌⊎◌, inl, inr, ℕ, suc, ℤ, pos, List, [], ◌∷◌, ◌++◌, length, take, drop, refl, sym, ◌∙◌, ap, subst, Bool, true, false, ◌||◌, nat_eq, arith, Some, None, Option}
 use Rattle.std.specs.Prelude.{slice_index_or}
 use Rattle.std.specs.List.{list_all}
 use Rattle.std.proofs.lemmas.Bool.Decides.{nat_tests}
@@ -8,18 +8,18 @@ use Rattle.bk_val.specs.ValueType.{ValueType, int_type, is_value_of}
 use Rattle.bk_form.specs.Table.{set_size, variable_type}
 use Rattle.bk_form.proofs.Members.{and-both}
 use Rattle.bk_gsl.specs.State.{IsTypedState, declared_type, among}
-use Rattle.bk_gsl.proofs.States.{cases, clash, nat_eq-same, among-append}
+use Rattle.bk_gsl.proofs.States.{nat_eq-same, among-append}
 use Rattle.bk_dev.specs.declared.kind.Home.{Home}
 use Rattle.bk_dev.specs.declared.kind.Home.TheVariants.{Constant, Input, Variable, Inner}
 use Rattle.bk_dev.specs.Development.{Head, Body, Development, level_at, last}
-use Rattle.bk_dev.specs.Facts.{is_constant, is_input, is_variable_of, is_inner_of, home_of, AllAre, Each, EachBody, IsHeadOf, IsBodyOf, IsDevelopment}
-use Rattle.bk_dev.specs.Layout.{cells_of, cell_of}
+use Rattle.bk_dev.specs.Facts.{is_input, is_variable_of, is_inner_of, home_of, AllAre, Each, EachBody, IsHeadOf, IsDevelopment}
+use Rattle.bk_dev.specs.Layout.{cell_of}
 use Rattle.bk_gen.specs.Simple.{IsSimple}
 use Rattle.bk_gen.specs.Plain.{operation_cells}
 use Rattle.bk_gen.proofs.Plain.{no_row_of, one_cell, cell_is, type_at_home, whole_or_none, last_cells, last_level}
 use Rattle.bk_sim.specs.Shows.{number_as, is_of_kind, row_type, cell_type, AreOfKinds, shown_as, shown}
 use Rattle.bk_sim.proofs.Cells.{cell}
-use Rattle.bk_sim.proofs.Agree.{or-left, or-right, both-true, both-false}
+use Rattle.bk_sim.proofs.Agree.{or-left, or-right, both-true}
 
 -- whether a number is within INT
 abbrev pub fits : Development → ℤ → Bool
@@ -108,8 +108,8 @@ operation_homes dev k (x ∷ hs) (m ∷ ms) (b ∷ bs) heads each n h =
     let r = is_inner_of k (home_of dev n) in
     among-either (x.inputs ++ b.outputs) (operation_cells hs bs) n (has_cell k (home_of dev n) ≡ true) h
     (λ q. among-either x.inputs b.outputs n (has_cell k (home_of dev n) ≡ true) q
-      (λ l. or-left (v || i) r (or-right v i (all-among (λ y. is_input (home_of dev y)) x.inputs heads.0.inputs n l)))
-      (λ l. or-right (v || i) r (all-among (λ y. is_inner_of k (home_of dev y)) b.outputs each.0.outputs n l)))
+    (λ l. or-left (v || i) r (or-right v i (all-among (λ y. is_input (home_of dev y)) x.inputs heads.0.inputs n l)))
+    (λ l. or-right (v || i) r (all-among (λ y. is_inner_of k (home_of dev y)) b.outputs each.0.outputs n l)))
     rest
 
 pub cells_home : (dev : Development) → IsDevelopment dev → (n : ℕ) → among (last_cells dev) n ≡ true → has_cell (last dev) (home_of dev n) ≡ true

@@ -1,13 +1,14 @@
 -- The translation of a simple development follows its machine.
-use Rattle.std.proofs.Common.{◌≡◌, ◌⊎◌, inl, inr, ◌<◌, ◌≤◌, ◌≤ℤ◌, ℕ, zero, suc, ◌+◌, ℤ, pos, neg_ℤ, ◌-ℤ◌, int_le, List, [], ◌∷◌, ◌++◌, length, map, take, replicate, refl, sym, ◌∙◌, ap, subst, Bool, true, false, cond, ◌||◌, ◌&&◌, nat_eq, nat_lt, arith, Some, None, Option, All}
-use Rattle.std.specs.Prelude.{slice_get, slice_index_or}
-use Rattle.std.specs.List.{list_all, filter, flat_map}
+use Rattle.std.proofs.Common.{◌≡◌, ◌⊎◌, inl, inr, ◌<◌, ◌≤◌, ◌≤ℤ◌, ℕ, zero, suc, ℤ, pos, neg_ℤ, ◌-ℤ◌, int_le, List, [], ◌∷◌, ◌++◌, length, map, take, replicate, refl, sym, ◌∙◌, ap, subst, Bool, true, false, cond, ◌||◌, ◌&&◌, nat_eq, nat_lt, arith, Some, None, Option, All}
+use Rattle.std.specs.Prelude.{slice_index_or}
+use Rattle.std.specs.List.{list_all, filter}
 use Rattle.std.proofs.lemmas.Bool.Decides.{nat_tests}
 use Rattle.std.proofs.lemmas.Int.{ints as int_laws}
 use Rattle.std.proofs.lemmas.Option.{same_Some}
 use Rattle.std.proofs.lemmas.List.{length-replicate, length-map}
-use Rattle.bk_val.specs.Value.{MathValue, int}
-use Rattle.bk_val.specs.ValueType.{ValueType, int_type}
+use Rattle.std.proofs.lemmas.List.Elements.{All-head, All-tail}
+use Rattle.bk_val.specs.Value.{int}
+use Rattle.bk_val.specs.ValueType.{int_type}
 use Rattle.bk_form.specs.Table.{Table, variable_type}
 use Rattle.bk_form.specs.Formula.{Formula, variable, literal, binary, btrue}
 use Rattle.bk_form.specs.Search.{Finder}
@@ -15,38 +16,40 @@ use Rattle.bk_form.specs.Environment.{State}
 use Rattle.bk_form.specs.Meaning.{within as is_within}
 use Rattle.bk_form.specs.declared.operator.BinOp.TheVariants.{In, Range}
 use Rattle.bk_form.proofs.Domains.{interval-members}
-use Rattle.bk_gsl.specs.Substitution.{Substitution, pre}
+use Rattle.bk_gsl.specs.Substitution.{Substitution, skip, assign, pre}
 use Rattle.bk_gsl.specs.State.{at_state, holds, IsTypedState, declared_type, among, over}
 use Rattle.bk_gsl.specs.Run.{Runs, Ends}
-use Rattle.bk_gsl.proofs.States.{cases, clash, over-at, over-off, over-typed, among-append, nat_eq-self, nat_eq-same}
+use Rattle.bk_gsl.proofs.States.{cases, over-at, over-off, over-typed, among-append, nat_eq-self, nat_eq-same}
 use Rattle.bk_gsl.proofs.Runs.{run-typed}
 use Rattle.bk_dev.specs.declared.kind.Home.{Home}
 use Rattle.bk_dev.specs.declared.kind.Home.TheVariants.{Constant, Input, Variable, Inner}
-use Rattle.bk_dev.specs.Development.{Head, Body, Level, Development, int_max, blank_body, level_at, body_of, body_at, inputs_of, last, is_btrue, is_implementation, whole}
-use Rattle.bk_dev.specs.Facts.{is_constant, is_input, is_variable_of, is_variable_above, is_inner_of, home_of, AllAre, Each, names_own, names_joined, IsSubOf, IsBodyOf, IsHeadOf, IsLink, IsDevelopment}
+use Rattle.bk_dev.specs.Development.{Head, Body, Level, Development, int_max, blank_body, blank_level, level_at, body_of, body_at, inputs_of, last, is_btrue, is_implementation, whole}
+use Rattle.bk_dev.specs.Facts.{is_constant, is_input, is_variable_of, is_variable_above, is_inner_of, home_of, Each, names_own, names_joined, IsSubOf, IsBodyOf, IsHeadOf, IsLink, IsDevelopment}
 use Rattle.bk_dev.specs.Hypotheses.{AreTrue, conjuncts, link_equation, value_equation, properties_of, values_at, joining, joinings_of, conditions_of, is_number, in_machine_range, input_ranges, init_hypotheses, unasserted_hypotheses}
-use Rattle.bk_dev.specs.Machine.{Abstract, HasValues, Opens, Call, IsCall, Gives, Pre, Steps}
+use Rattle.bk_dev.specs.Machine.{Abstract, HasValues, Opens, Call, IsCall, Gives, Pre}
+use Rattle.bk_dev.specs.Flattened.{flattened}
 use Rattle.bk_dev.specs.Claims.{KeepsFlat, CarriesFlat, ValuesMeet}
 use Rattle.bk_code.specs.declared.image.Image.{Image}
 use Rattle.bk_code.specs.declared.image.OpEntry.{OpEntry}
-use Rattle.bk_code.specs.Step.{Config}
-use Rattle.bk_code.specs.Run.{Done, ReturnsAfter}
 use Rattle.bk_code.specs.Session.{first_start, outputs_of}
 use Rattle.bk_gen.specs.Simple.{IsSimpleTerm, IsSimpleStatement, IsSimple}
 use Rattle.bk_gen.specs.Plain.{operation_cells, slot_of, block_code, blocks_code, plain_parameter, plain_entry, plain_image}
 use Rattle.bk_gen.proofs.Loadable.{AreInside, HasCells}
 use Rattle.bk_gen.proofs.Named.{init_named, operations_named, bodies_named}
-use Rattle.bk_gen.proofs.Plain.{last_cells, last_paired, cells_are, type_at_home}
+use Rattle.bk_gen.proofs.Plain.{last_cells, last_paired, cells_are, type_at_home, translation_is}
 use Rattle.bk_sim.specs.Shows.{number_as, as_number, AreOfKinds, shown, IsLinkedBy, Linked}
-use Rattle.bk_sim.specs.Follows.{IsEntry, as_values, replies, started, IsGood, GoesWell, IsDone, IsStep, HasOperations, OpensWell, CallsGoWell, Follows}
+use Rattle.bk_sim.specs.Plain.{HasNoPar, HaveNoPar, LevelsHaveNoPar}
+use Rattle.bk_sim.specs.Laws.{SimpleFollows}
+use Rattle.bk_sim.specs.Follows.{IsEntry, as_values, replies, started, GoesWell, IsDone, IsStep, HasOperations, OpensWell, CallsGoWell, Follows}
+use Rattle.bk_sim.proofs.Flat.{flattened_already}
 use Rattle.bk_sim.proofs.Chain.{calls_decide}
 use Rattle.bk_sim.proofs.Ends.{done-well}
 use Rattle.bk_sim.proofs.Cells.{cell, all-at}
-use Rattle.bk_sim.proofs.Blocks.{cells_after, HasBlock, start_at, Returned, block-returns, ran, ran-runs, AreShown, after-shown, after-passes, after-many}
-use Rattle.bk_sim.proofs.Agree.{or-left, or-right, both-true, all-none, holds-same, true-append, true-first, true-second, parts-true, whole-true, joining-same}
+use Rattle.bk_sim.proofs.Blocks.{cells_after, HasBlock, block-returns, ran, ran-runs, AreShown, after-shown, after-passes, after-many}
+use Rattle.bk_sim.proofs.Agree.{or-left, or-right, both-true, all-none, holds-same, true-append, true-first, parts-true, whole-true, joining-same}
 use Rattle.bk_sim.proofs.IntCells.{fits, kinds-then, kinds-if, shown-is, ints-typed, has_cell, all-among, cells_home, int_at_home}
 use Rattle.bk_sim.proofs.Entries.{IsEntered, entered, each-at, body-at, have-at, given, given-other, given-many, given-pass, given-shown, args-fit}
-use Rattle.bk_sim.proofs.Climb.{flat-then, flat-if, level_fact, is_before, constant-before, input-before, variable-before, joined-before, own-before, one_of_three, map-same, Climbed, Carry, climbed}
+use Rattle.bk_sim.proofs.Climb.{flat-then, flat-if, level_fact, is_before, input-before, variable-before, joined-before, own-before, one_of_three, map-same, Climbed, Carry, climbed}
 
 -- ---- numbers within bounds
 int_le-if : (x y : ℤ) → x ≤ℤ y → int_le x y ≡ true
@@ -292,12 +295,12 @@ module _ (find : Finder) (dev : Development) (f : IsDevelopment dev) (s : IsSimp
     variable-kept : (j n : ℕ) → is_variable_of j (home_of dev n) ≡ true → e n ≡ e0 n
     variable-kept j n h = elim (cases (among cells n)) [
       | inl q ↦ (
-        let own : is_variable_of (last dev) (home_of dev n) ≡ true = cell_variable j (last dev) (home_of dev n) (cells_home dev f n q) h in
-        let listed : among low.vars n ≡ true = (level_fact dev f (last dev) (within (last dev) (omega arith))).all n own in
-        let no_input : among head.inputs n ≡ false = all-none (λ x. is_input (home_of dev x)) head.inputs head_fact.inputs n (variable_not_input j (home_of dev n) h) in
-        let before : e0 n ≡ int (cell cells mem n) = pointwise low.vars e0 (shown dev mem) l.cells.variables n listed ∙ shown-is dev s mem n (ints n q) in
-        shown-e n q ∙ ap int (given-other cells head.inputs (map as_number c.args) mem n inside.0 no_input) ∙ sym before
-      )
+          let own : is_variable_of (last dev) (home_of dev n) ≡ true = cell_variable j (last dev) (home_of dev n) (cells_home dev f n q) h in
+          let listed : among low.vars n ≡ true = (level_fact dev f (last dev) (within (last dev) (omega arith))).all n own in
+          let no_input : among head.inputs n ≡ false = all-none (λ x. is_input (home_of dev x)) head.inputs head_fact.inputs n (variable_not_input j (home_of dev n) h) in
+          let before : e0 n ≡ int (cell cells mem n) = pointwise low.vars e0 (shown dev mem) l.cells.variables n listed ∙ shown-is dev s mem n (ints n q) in
+          shown-e n q ∙ ap int (given-other cells head.inputs (map as_number c.args) mem n inside.0 no_input) ∙ sym before
+          )
       | inr q ↦ over-off (among cells) (λ n. int (cell cells start_cells n)) e0 n q
     ]
 
@@ -324,11 +327,11 @@ module _ (find : Finder) (dev : Development) (f : IsDevelopment dev) (s : IsSimp
       typed = t;
       values = values-hold x;
       shown = map-same high.vars x e0 (λ n h.
-        let own : is_variable_of 0 (home_of dev n) ≡ true = all-among (λ y. is_variable_of 0 (home_of dev y)) high.vars (level_fact dev f 0 (within 0 (omega arith))).vars n h in
-        same n (variable-before 1 0 (omega arith) (home_of dev n) own) ∙ variable-kept 0 n own) ∙ l.abstract_state;
+          let own : is_variable_of 0 (home_of dev n) ≡ true = all-among (λ y. is_variable_of 0 (home_of dev y)) high.vars (level_fact dev f 0 (within 0 (omega arith))).vars n h in
+          same n (variable-before 1 0 (omega arith) (home_of dev n) own) ∙ variable-kept 0 n own) ∙ l.abstract_state;
       args = map-same head.inputs x (λ n. int (cell cells start_cells n)) (λ n h.
-        same n (input-before 1 (home_of dev n) (all-among (λ y. is_input (home_of dev y)) head.inputs head_fact.inputs n h)) ∙ shown-e n (inside.0 n h))
-        ∙ given-shown dev.table cells head.inputs c.args mem shape.0 inside.0 head_fact.distinct ints is.types;
+          same n (input-before 1 (home_of dev n) (all-among (λ y. is_input (home_of dev y)) head.inputs head_fact.inputs n h)) ∙ shown-e n (inside.0 n h))
+          ∙ given-shown dev.table cells head.inputs c.args mem shape.0 inside.0 head_fact.distinct ints is.types;
     }
 
     in-range : (x : State) → ((n : ℕ) → among head.inputs n ≡ true → x n ≡ e n) → (n : ℕ) → among head.inputs n ≡ true → holds find dev.table x (in_machine_range dev n) ≡ true
@@ -339,3 +342,139 @@ module _ (find : Finder) (dev : Development) (f : IsDevelopment dev) (s : IsSimp
       | true ↦ ranges-true find dev.table x (in_machine_range dev) (λ y. is_number (variable_type dev.table y)) head.inputs (in-range x same)
       | false ↦ tt
     ]
+
+    -- level k's hypotheses hold where the preconditions of the levels above it are true at the start
+    Before : ℕ → Type 0
+    Before k = (j : ℕ) → j ≤ k → holds find dev.table e (condition j) ≡ true
+
+    hyps : (k : ℕ) → suc k ≤ last dev → Before k → (x : State) → IsTypedState dev.table x → ((n : ℕ) → is_before (suc (suc k)) (home_of dev n) ≡ true → x n ≡ e n) → AreTrue find dev.table x (unasserted_hypotheses dev (suc k) c.op)
+    unfolding Before
+    hyps k m conditions x t same =
+        true-append find dev.table x (init_hypotheses dev (suc k) ++ joinings_of dev (suc (suc k)) ++ conditions_of dev (suc k) c.op) (input_ranges dev (suc k) c.op)
+        (true-append find dev.table x (init_hypotheses dev (suc k) ++ joinings_of dev (suc (suc k))) (conditions_of dev (suc k) c.op)
+        (true-append find dev.table x (init_hypotheses dev (suc k)) (joinings_of dev (suc (suc k))) (init-hyps (suc k) x t) (flat-if find dev x joining (suc (suc k)) dev.levels joins))
+        (flat-if find dev x (λ w. conjuncts (body_of w c.op).condition) (suc k) dev.levels conds))
+        (ranges-there (suc k) x (λ n h. same n (input-before (suc (suc k)) (home_of dev n) (all-among (λ y. is_input (home_of dev y)) head.inputs head_fact.inputs n h))))
+      where
+        joins : (j : ℕ) → j < suc (suc k) → j < length dev.levels → AreTrue find dev.table x (joining (level_at dev j))
+        joins j p q =
+            let w = level_fact dev f j q in
+            joining-same find dev.table dev j (level_at dev j) w.invariant.names w.links e x (λ n h. sym (same n (joined-before dev (suc (suc k)) j p n h))) (joining-e j q)
+
+        conds : (j : ℕ) → j < suc k → j < length dev.levels → AreTrue find dev.table x (conjuncts (condition j))
+        conds j p q =
+            let w = fact j (omega arith) in
+            let here : holds find dev.table x (condition j) ≡ holds find dev.table e (condition j) = holds-same find dev.table x e (names_own dev j head.inputs (outs j)) (condition j) w.condition_names (λ n h. same n (own-before dev (suc (suc k)) j (omega arith) head.inputs (outs j) head_fact.inputs w.outputs n h)) in
+            parts-true find dev.table x (condition j) (here ∙ conditions j (omega arith))
+
+    below-or-same : (j k : ℕ) → j ≤ suc k → (j ≤ k) ⊎ (j ≡ suc k)
+    below-or-same j k h = by_test (nat_lt j (suc k)) refl
+      where
+        by_test : (b : Bool) → nat_lt j (suc k) ≡ b → (j ≤ k) ⊎ (j ≡ suc k)
+        by_test true x = inl (grind (arith, nat_tests))
+        by_test false x = inr (grind (arith, nat_tests))
+
+    conditions-hold : (k : ℕ) → k ≤ last dev → Before k
+    unfolding Before
+    conditions-hold zero m j p =
+        let none : j ≡ 0 = omega arith in
+        subst (λ i. holds find dev.table e (condition i) ≡ true) (sym none) (true_before e (gives e typed-e (λ n h. refl)))
+    conditions-hold (suc k) m j p =
+        let above : (i : ℕ) → i ≤ k → holds find dev.table e (condition i) ≡ true = conditions-hold k (omega arith) in
+        let here = ends-condition find dev.table (condition (suc k)) (sub (suc k)) e ((carries k m).operations c.op is.op e typed-e (hyps k m above e typed-e (λ n h. refl))).ends in
+        elim (below-or-same j k p) [ inl q ↦ above j q | inr q ↦ subst (λ i. holds find dev.table e (condition i) ≡ true) (sym q) here ]
+
+    carry-call : Carry find dev sub outs e
+    carry-call k m x y t same r = ((carries k m).operations c.op is.op x t (hyps k m (conditions-hold k (omega arith)) x t same)).results y (whole-runs find dev.table (body_at dev (suc k) c.op) x y r)
+
+    abbrev last_body : Body
+    last_body = body_at dev (last dev) c.op
+
+    in-bodies : c.op < length low.bodies
+    in-bodies = subst (λ n. c.op < n) (last_paired dev f) is.op
+
+    simple-body : IsSimpleStatement (int_max dev) last_body.sub
+    simple-body = s.bodies c.op blank_body in-bodies
+
+    named-body : HasCells cells last_body.sub
+    named-body = each-at (λ b. HasCells cells b.sub) low.bodies c.op blank_body in-bodies (bodies_named dev f s)
+
+    -- the cells and the state at the end of the last level's body
+    abbrev end_cells : List ℤ
+    end_cells = cells_after cells last_body.sub start_cells
+
+    abbrev top : State
+    top = ran find dev.table last_body.sub e
+
+    end-shown : AreShown cells end_cells top
+    end-shown = after-shown find dev.table cells start_cells start-many e shown-e (int_max dev) last_body.sub simple-body named-body
+
+    step-from : Climbed find dev sub outs e top zero → (entry : OpEntry) → entry.outputs ≡ map (plain_parameter cells) (outs (last dev)) → IsStep find dev c entry a end_cells
+    step-from w entry outputs_are =
+        let given_before = gives w.before w.typed w.same in
+        let zero-fact = fact 0 (omega arith) in
+        let inv-e : holds find dev.table e high.invariant ≡ true = whole-true find dev.table e high.invariant (true-first find dev.table e (conjuncts high.invariant) (map link_equation high.links) (joining-e 0 (within 0 (omega arith)))) in
+        let inv-before : holds find dev.table w.before high.invariant ≡ true = holds-same find dev.table w.before e (names_joined dev 0) high.invariant (level_fact dev f 0 (within 0 (omega arith))).invariant.names (λ n h. w.same n (joined-before dev 1 0 (omega arith) n h)) ∙ inv-e in
+        let inv-after = (keeps.operations c.op is.op w.before w.typed (properties-hold 1 w.before w.typed) inv-before (true_before w.before given_before)).results w.after w.runs in
+        let fit = after-passes cells start_cells (fits dev) (int_max dev) literal-fits refl start-fit last_body.sub simple-body in
+        let linked = linked-after end_cells (after-many cells start_cells last_body.sub ∙ start-many) fit head.inputs sub outs e top w end-shown zero-fact.sub inv-after in
+        let many : length (outs (last dev)) ≡ length (outs 0) = (fact (last dev) (omega arith)).as_many_outputs ∙ sym zero-fact.as_many_outputs in
+        let out-ints : (y : ℕ) → among (outs 0) y ≡ true → declared_type dev.table y ≡ int_type = λ y h. type_at_home dev f s (is_inner_of 0) y refl (all-among (λ x. is_inner_of 0 (home_of dev x)) (outs 0) zero-fact.outputs y h) in
+        let replied : replies dev c.op (map (plain_parameter cells) (outs (last dev))) end_cells ≡ map (λ x. int (cell cells end_cells x)) (outs (last dev)) = replies-are dev cells end_cells (outs (last dev)) (outs 0) many out-ints in
+        let lower : map top (outs (last dev)) ≡ map (λ x. int (cell cells end_cells x)) (outs (last dev)) = map-same (outs (last dev)) top (λ x. int (cell cells end_cells x)) (λ n h. end-shown n (inside.1 n h)) in
+        let told : map w.after (outs 0) ≡ replies dev c.op entry.outputs end_cells = w.gives ∙ lower ∙ sym replied ∙ ap (λ ps. replies dev c.op ps end_cells) (sym outputs_are) in
+        (map w.after high.vars, (w.before, w.after, given_before, w.runs, told, refl), (w.after, linked))
+
+    abbrev entry_here : ℕ → OpEntry
+    entry_here place = plain_entry cells place head last_body
+
+    GoesOn : OpEntry → Type 0
+    GoesOn entry = IsDone image (started entry c mem) × ((fuel : ℕ) → GoesWell image fuel (started entry c mem) (IsStep find dev c entry a))
+
+    goes-on : (place : ℕ) → HasBlock image place (block_code cells last_body.sub) → GoesOn (entry_here place)
+    unfolding GoesOn
+    goes-on place block =
+        let run = block-returns image cells place start_cells start-many (int_max dev) last_body.sub simple-body named-body block in
+        let w = climbed find dev f head.inputs sub outs (λ k m. (fact k m).sub) (λ k m. (fact k m).outputs) as_many e top carry-call typed-e (ran-runs find dev.table (int_max dev) last_body.sub simple-body e) in
+        let P = IsStep find dev c (entry_here place) a in
+        let step : P run.1.cells = subst P (sym run.3) (step-from w (entry_here place) refl) in
+        ((run.0, run.0, run.1, (omega arith, run.2)), λ fuel. done-well image (started (entry_here place) c mem) P run.0 run.1 run.2 step fuel)
+
+    goes-well : (entry : OpEntry) → IsEntry image c.op entry → IsDone image (started entry c mem) × ((fuel : ℕ) → GoesWell image fuel (started entry c mem) (IsStep find dev c entry a))
+    unfolding GoesOn
+    goes-well entry there =
+        let w = enter c.op is.op in
+        let same : entry_here w.start ≡ entry = same_Some (entry_here w.start) entry (sym w.is ∙ there) in
+        subst GoesOn same (goes-on w.start (record { before = w.before; after = w.after; is = w.stands; starts = w.starts }))
+
+  calls : CallsGoWell find dev image
+  calls a m c entry l is true_before there = goes-well a m c l.0 l.1 is true_before entry there
+
+  pub image-follows : Follows find dev image
+  image-follows = calls_decide find dev image operations opening calls
+
+-- ---- the law
+simple_has_no_par : (max : ℤ) (sub : Substitution) → IsSimpleStatement max sub → HasNoPar sub
+simple_has_no_par max skip h = tt
+simple_has_no_par max (assign ps) h = tt
+simple_has_no_par max sub h = absurd h
+
+simple_have_no_par : (max : ℤ) (bs : List Body) → All (λ b. IsSimpleStatement max b.sub) bs → HaveNoPar bs
+simple_have_no_par max [] h = tt
+simple_have_no_par max (b ∷ bs) h = (simple_has_no_par max b.sub (All-head (λ b. IsSimpleStatement max b.sub) b bs h), simple_have_no_par max bs (All-tail (λ b. IsSimpleStatement max b.sub) b bs h))
+
+all_have_no_par : (ls : List Level) (n : ℕ) → length ls ≡ suc n → LevelsHaveNoPar (take n ls) → HasNoPar (slice_index_or ls n blank_level).init → HaveNoPar (slice_index_or ls n blank_level).bodies → LevelsHaveNoPar ls
+all_have_no_par [] n many upper init bodies = tt
+all_have_no_par (l ∷ []) zero many upper init bodies = (init, bodies, tt)
+all_have_no_par (l ∷ m ∷ ls) zero many upper init bodies = absurd (omega (arith, many))
+all_have_no_par (l ∷ ls) (suc n) many upper init bodies = (upper.0, upper.1, all_have_no_par ls n (omega (arith, many)) upper.2 init bodies)
+
+pub simple_follows : SimpleFollows
+simple_follows find dev f s upper meet keeps carries =
+    let some : 0 < length dev.levels = f.some_level in
+    let many : length dev.levels ≡ suc (last dev) = omega arith in
+    let low = level_at dev (last dev) in
+    let flat : flattened dev ≡ dev = flattened_already dev (all_have_no_par dev.levels (last dev) many upper (simple_has_no_par (int_max dev) low.init s.init) (simple_have_no_par (int_max dev) low.bodies s.bodies)) in
+    let keeps_flat : KeepsFlat find dev = subst (KeepsFlat find) flat keeps in
+    let carries_flat : (j : ℕ) → suc j ≤ last dev → CarriesFlat find dev j = λ j h. subst (λ d. CarriesFlat find d j) flat (carries j (omega arith)) in
+    subst (Follows find dev) (sym (translation_is dev f s)) (image-follows find dev f s meet keeps_flat carries_flat)

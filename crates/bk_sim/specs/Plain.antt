@@ -1,7 +1,7 @@
 -- Substitutions and developments in which nothing runs side by side.
-use Rattle.std.specs.Prelude.{List, [], ◌∷◌}
+use Rattle.std.specs.Prelude.{List, [], ◌∷◌, take}
 use Rattle.bk_gsl.specs.Substitution.{Substitution, pre, guard, choice, if_else, any, seq, par, assert, loop}
-use Rattle.bk_dev.specs.Development.{Body, Level, Development}
+use Rattle.bk_dev.specs.Development.{Body, Level, Development, last}
 
 -- no || stands in it
 abbrev pub HasNoPar : Substitution → Type 0
@@ -20,7 +20,11 @@ abbrev pub HaveNoPar : List Body → Type 0
 HaveNoPar [] = Unit {0}
 HaveNoPar (b ∷ bs) = HasNoPar b.sub × HaveNoPar bs
 
--- in no initialisation and in no body of these levels
+-- in no initialisation and in no body of the levels
 abbrev pub LevelsHaveNoPar : List Level → Type 0
 LevelsHaveNoPar [] = Unit {0}
 LevelsHaveNoPar (l ∷ ls) = HasNoPar l.init × HaveNoPar l.bodies × LevelsHaveNoPar ls
+
+-- in the levels above the last
+abbrev pub UpperHaveNoPar : Development → Type 0
+UpperHaveNoPar dev = LevelsHaveNoPar (take (last dev) dev.levels)
