@@ -10,3 +10,4 @@ pub mod IntCells
 pub mod Entries
 pub mod Climb
 pub mod SimpleCode
+pub mod Carried

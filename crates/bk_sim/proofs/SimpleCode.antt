@@ -454,12 +454,12 @@ module _ (find : Finder) (dev : Development) (f : IsDevelopment dev) (s : IsSimp
   image-follows = calls_decide find dev image operations opening calls
 
 -- ---- the law
-simple_has_no_par : (max : ℤ) (sub : Substitution) → IsSimpleStatement max sub → HasNoPar sub
+pub simple_has_no_par : (max : ℤ) (sub : Substitution) → IsSimpleStatement max sub → HasNoPar sub
 simple_has_no_par max skip h = tt
 simple_has_no_par max (assign ps) h = tt
 simple_has_no_par max sub h = absurd h
 
-simple_have_no_par : (max : ℤ) (bs : List Body) → All (λ b. IsSimpleStatement max b.sub) bs → HaveNoPar bs
+pub simple_have_no_par : (max : ℤ) (bs : List Body) → All (λ b. IsSimpleStatement max b.sub) bs → HaveNoPar bs
 simple_have_no_par max [] h = tt
 simple_have_no_par max (b ∷ bs) h = (simple_has_no_par max b.sub (All-head (λ b. IsSimpleStatement max b.sub) b bs h), simple_have_no_par max bs (All-tail (λ b. IsSimpleStatement max b.sub) b bs h))
 

@@ -21,6 +21,10 @@ CallsDecide = (find : Finder) (dev : Development) (image : Image) → HasOperati
 abbrev pub SimpleFollows : Type 0
 SimpleFollows = (find : Finder) (dev : Development) → IsDevelopment dev → IsSimple dev → UpperHaveNoPar dev → ValuesMeet find dev → Keeps find dev → ((j : ℕ) → suc j < length dev.levels → Carries find dev j) → Follows find dev (translation dev)
 
+-- the counter meets what the headline asks
+abbrev pub CounterIsCarried : Type 0
+CounterIsCarried = (find : Finder) → ValuesMeet find counter × Keeps find counter × Carries find counter 0
+
 -- the counter's translation follows it
 abbrev pub TranslationFollows : Type 0
 TranslationFollows = (find : Finder) → Follows find counter (translation counter)

@@ -1,6 +1,6 @@
 //! What follows a machine, and what does not. Each law is the contract of a function that does nothing.
 
-ghost use Rattle.bk_sim.specs.Laws.{CallsDecide, SimpleFollows, TranslationFollows, NineDoesNotFollow};
+ghost use Rattle.bk_sim.specs.Laws.{CallsDecide, SimpleFollows, CounterIsCarried, TranslationFollows, NineDoesNotFollow};
 
 /// Code follows a machine where it opens well and each call goes well.
 pub fn calls_decide()
@@ -14,6 +14,7 @@ pub fn simple_follows()
 
 /// A counter, to be checked by hand.
 pub fn counter()
+    ensures carried { CounterIsCarried }
     ensures translation { TranslationFollows }
     ensures nine { NineDoesNotFollow }
 {}
