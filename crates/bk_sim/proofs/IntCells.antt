@@ -10,7 +10,6 @@ use Rattle.bk_form.proofs.Members.{and-both}
 use Rattle.bk_gsl.specs.State.{IsTypedState, declared_type, among}
 use Rattle.bk_gsl.proofs.States.{nat_eq-same, among-append}
 use Rattle.bk_dev.specs.declared.kind.Home.{Home}
-use Rattle.bk_dev.specs.declared.kind.Home.TheVariants.{Constant, Input, Variable, Inner}
 use Rattle.bk_dev.specs.Development.{Head, Body, Development, level_at, last}
 use Rattle.bk_dev.specs.Facts.{is_input, is_variable_of, is_inner_of, home_of, AllAre, Each, EachBody, IsHeadOf, IsDevelopment}
 use Rattle.bk_dev.specs.Layout.{cell_of}
@@ -124,51 +123,3 @@ cells_home dev f n h =
 
 pub int_at_home : (dev : Development) → IsDevelopment dev → IsSimple dev → AreInts dev (last_cells dev)
 int_at_home dev f s x h = type_at_home dev f s (has_cell (last dev)) x refl (cells_home dev f x h)
-
--- ---- homes exclude each other
-pub variable_apart : (j k : ℕ) → nat_eq j k ≡ false → (o : Option Home) → is_variable_of j o ≡ true → is_variable_of k o ≡ false
-variable_apart j k d None h = absurd (cc)
-variable_apart j k d (Some Constant) h = absurd (cc)
-variable_apart j k d (Some Input) h = absurd (cc)
-variable_apart j k d (Some (Variable i)) h = grind (arith, nat_tests)
-variable_apart j k d (Some (Inner i)) h = absurd (cc)
-
-pub variable_not_inner : (j k : ℕ) (o : Option Home) → is_variable_of j o ≡ true → is_inner_of k o ≡ false
-variable_not_inner j k None h = absurd (cc)
-variable_not_inner j k (Some Constant) h = absurd (cc)
-variable_not_inner j k (Some Input) h = absurd (cc)
-variable_not_inner j k (Some (Variable i)) h = refl
-variable_not_inner j k (Some (Inner i)) h = absurd (cc)
-
-pub input_not_variable : (k : ℕ) (o : Option Home) → is_input o ≡ true → is_variable_of k o ≡ false
-input_not_variable k None h = absurd (cc)
-input_not_variable k (Some Constant) h = absurd (cc)
-input_not_variable k (Some Input) h = refl
-input_not_variable k (Some (Variable i)) h = absurd (cc)
-input_not_variable k (Some (Inner i)) h = absurd (cc)
-
-pub input_not_inner : (k : ℕ) (o : Option Home) → is_input o ≡ true → is_inner_of k o ≡ false
-input_not_inner k None h = absurd (cc)
-input_not_inner k (Some Constant) h = absurd (cc)
-input_not_inner k (Some Input) h = refl
-input_not_inner k (Some (Variable i)) h = absurd (cc)
-input_not_inner k (Some (Inner i)) h = absurd (cc)
-
--- what has a cell of level k is neither a variable of another level nor bound there
-pub cell_not_variable : (j k : ℕ) → nat_eq j k ≡ false → (o : Option Home) → has_cell k o ≡ true → is_variable_of j o ≡ false
-cell_not_variable j k d None h = refl
-cell_not_variable j k d (Some Constant) h = refl
-cell_not_variable j k d (Some Input) h = refl
-cell_not_variable j k d (Some (Variable i)) h = by_test (nat_eq i k) refl h
-  where
-    by_test : (b : Bool) → nat_eq i k ≡ b → b || false || false ≡ true → nat_eq i j ≡ false
-    by_test true q l = grind (arith, nat_tests)
-    by_test false q l = absurd (cc)
-cell_not_variable j k d (Some (Inner i)) h = refl
-
-pub cell_not_inner : (j k : ℕ) → nat_eq j k ≡ false → (o : Option Home) → has_cell k o ≡ true → is_inner_of j o ≡ false
-cell_not_inner j k d None h = refl
-cell_not_inner j k d (Some Constant) h = refl
-cell_not_inner j k d (Some Input) h = refl
-cell_not_inner j k d (Some (Variable i)) h = refl
-cell_not_inner j k d (Some (Inner i)) h = grind (arith, nat_tests)
