@@ -27,7 +27,7 @@ use Rattle.bk_gen.specs.Simple.{IsSimpleTerm, IsSimpleAssignment, IsSimpleStatem
 use Rattle.bk_gen.specs.Plain.{operation_cells, plain_cells, slot_of, operand_code, setting_code, plain_code, block_code, blocks_code, block_size, blocks_size, plain_parameter, plain_entry, plain_entries, plain_image}
 
 -- ---- the last level
-each_level : (dev : Development) (k : ℕ) (ls : List Level) (i : ℕ) → i < length ls → EachLevel dev k ls → IsLevelOf dev (k + i) (slice_index_or ls i blank_level)
+pub each_level : (dev : Development) (k : ℕ) (ls : List Level) (i : ℕ) → i < length ls → EachLevel dev k ls → IsLevelOf dev (k + i) (slice_index_or ls i blank_level)
 each_level dev k [] i h e = absurd (omega arith)
 each_level dev k (l ∷ ls) zero h e = let same : k ≡ k + 0 = omega arith in subst (λ m. IsLevelOf dev m l) same e.0
 each_level dev k (l ∷ ls) (suc i) h e =
@@ -52,7 +52,7 @@ pub last_paired : (dev : Development) → IsDevelopment dev → length dev.heads
 last_paired dev f = paired dev (last dev) dev.heads (level_at dev 0).bodies (level_at dev (last dev)).bodies (last_level dev f).bodies
 
 -- ---- there are no arrays
-whole_or_none : (vs : List VariableEntry) (n : ℕ) → All (λ v. v.of_type ≡ int_type) vs → (option_map (λ v. v.of_type) (slice_get vs n) ≡ None) ⊎ (option_map (λ v. v.of_type) (slice_get vs n) ≡ Some int_type)
+pub whole_or_none : (vs : List VariableEntry) (n : ℕ) → All (λ v. v.of_type ≡ int_type) vs → (option_map (λ v. v.of_type) (slice_get vs n) ≡ None) ⊎ (option_map (λ v. v.of_type) (slice_get vs n) ≡ Some int_type)
 whole_or_none [] n a = inl refl
 whole_or_none (v ∷ vs) zero a = inr (ap Some (All-head (λ v. v.of_type ≡ int_type) v vs a))
 whole_or_none (v ∷ vs) (suc n) a = whole_or_none vs n (All-tail (λ v. v.of_type ≡ int_type) v vs a)
@@ -81,10 +81,10 @@ no_rows dev s = none_kept (λ x. row_by dev x (typing_clue (Some x) (reversed de
     (λ x. no_row dev x (typing_clue (Some x) (reversed dev.levels [])) (no_scalars (variable_type dev.table x) (whole_or_none dev.table.variables x s.whole_numbers)))
     (level_at dev (last dev)).vars
 
-no_row_of : (dev : Development) → IsSimple dev → (x : ℕ) → row_of (arrays_of dev) x ≡ None
+pub no_row_of : (dev : Development) → IsSimple dev → (x : ℕ) → row_of (arrays_of dev) x ≡ None
 no_row_of dev s x = ap (λ rows. find (λ r. nat_eq r.var x) rows) (no_rows dev s)
 
-one_cell : (dev : Development) → IsSimple dev → (x : ℕ) → cells_of dev x ≡ 1
+pub one_cell : (dev : Development) → IsSimple dev → (x : ℕ) → cells_of dev x ≡ 1
 one_cell dev s x = ap (row_cells dev.table) (no_row_of dev s x)
 
 -- ---- cells
@@ -115,13 +115,13 @@ same_variables max (h ∷ hs) (b ∷ bs) a =
 abbrev pub last_cells : Development → List ℕ
 last_cells dev = plain_cells dev.heads (level_at dev (last dev))
 
-cells_are : (dev : Development) → IsSimple dev → cell_variables dev ≡ last_cells dev
+pub cells_are : (dev : Development) → IsSimple dev → cell_variables dev ≡ last_cells dev
 cells_are dev s =
     let none : locals (level_at dev (last dev)).init ≡ [] = no_locals (int_max dev) (level_at dev (last dev)).init s.init in
     let rest : operation_variables dev.heads (level_at dev (last dev)).bodies ≡ operation_cells dev.heads (level_at dev (last dev)).bodies = same_variables (int_max dev) dev.heads (level_at dev (last dev)).bodies s.bodies in
     rw (none, append-nil, rest)
 
-cell_is : (dev : Development) → IsSimple dev → (x : ℕ) → cell_of dev x ≡ slot_of (last_cells dev) x
+pub cell_is : (dev : Development) → IsSimple dev → (x : ℕ) → cell_of dev x ≡ slot_of (last_cells dev) x
 cell_is dev s x = slot_is dev s x (cell_variables dev) ∙ ap (λ ys. slot_of ys x) (cells_are dev s)
 
 pub cell_count_is : (dev : Development) → IsSimple dev → cell_count dev ≡ length (last_cells dev)
@@ -161,7 +161,7 @@ blocks_are dev s (b ∷ bs) a =
 
 -- ---- entries
 -- a variable with a home is in the table
-type_at_home : (dev : Development) → IsDevelopment dev → IsSimple dev → (test : Option Home → Bool) (x : ℕ) → test None ≡ false → test (home_of dev x) ≡ true → declared_type dev.table x ≡ int_type
+pub type_at_home : (dev : Development) → IsDevelopment dev → IsSimple dev → (test : Option Home → Bool) (x : ℕ) → test None ≡ false → test (home_of dev x) ≡ true → declared_type dev.table x ≡ int_type
 type_at_home dev f s test x nowhere there = by_home (home_of dev x) refl there
   where
     by_home : (o : Option Home) → home_of dev x ≡ o → test o ≡ true → declared_type dev.table x ≡ int_type

@@ -2,3 +2,12 @@ pub mod Nine
 pub mod Chain
 pub mod Ends
 pub mod Ten
+pub mod Cells
+pub mod Blocks
+pub mod Flat
+pub mod Agree
+pub mod IntCells
+pub mod Entries
+pub mod Climb
+pub mod SimpleCode
+pub mod Carried

@@ -1,14 +1,20 @@
 //! What follows a machine, and what does not. Each law is the contract of a function that does nothing.
 
-ghost use Rattle.bk_sim.specs.Laws.{CallsDecide, TranslationFollows, NineDoesNotFollow};
+ghost use Rattle.bk_sim.specs.Laws.{CallsDecide, SimpleFollows, CounterIsCarried, TranslationFollows, NineDoesNotFollow};
 
 /// Code follows a machine where it opens well and each call goes well.
 pub fn calls_decide()
     ensures { CallsDecide }
 {}
 
+/// The translation of a simple development follows its machine, where its obligations' claims hold.
+pub fn simple_follows()
+    ensures { SimpleFollows }
+{}
+
 /// A counter, to be checked by hand.
 pub fn counter()
+    ensures carried { CounterIsCarried }
     ensures translation { TranslationFollows }
     ensures nine { NineDoesNotFollow }
 {}

@@ -1,0 +1,54 @@
+-- The counter keeps its invariant, and its implementation carries it.
+use Rattle.std.proofs.Common.{◌≡◌, ◌<◌, ℕ, zero, suc, pos, [], ◌∷◌, refl, sym, subst, true, arith}
+use Rattle.bk_form.specs.Formula.{variable, literal, btrue}
+use Rattle.bk_form.specs.Search.{Finder}
+use Rattle.bk_form.specs.Environment.{State}
+use Rattle.bk_form.specs.Defined.{Defined}
+use Rattle.bk_gsl.specs.State.{at_state, holds}
+use Rattle.bk_gsl.specs.Run.{assigned}
+use Rattle.bk_dev.specs.Development.{level_at, body_at, whole}
+use Rattle.bk_dev.specs.Hypotheses.{AreTrue, unasserted_hypotheses}
+use Rattle.bk_dev.specs.Claims.{Establishes, KeepsFlat, Answered, CarriesFlat}
+use Rattle.bk_dev.specs.Counter.{counter_table, counter}
+use Rattle.bk_sim.specs.Laws.{CounterIsCarried}
+
+module _ (find : Finder) where
+  abbrev invariant : State → Type 0
+  invariant f = holds find counter_table f (level_at counter 0).invariant ≡ true
+
+  keeps-operation : (o : ℕ) → o < 3 → (e : State) → invariant e → Establishes find counter 0 (body_at counter 0 o).sub e invariant
+  keeps-operation zero l e h = record { ends = tt; clean = (tt, tt); results = λ g r. subst invariant (sym r) refl }
+  keeps-operation (suc zero) l e h = record { ends = tt; clean = (tt, tt); results = λ g r. subst invariant (sym r) refl }
+  keeps-operation (suc (suc zero)) l e h = record { ends = tt; clean = (tt, tt); results = λ g r. subst invariant (sym r) h }
+  keeps-operation (suc (suc (suc o))) l e h = absurd (omega (arith, l))
+
+  conditions : (o : ℕ) → o < 3 → (body_at counter 0 o).condition ≡ btrue
+  conditions zero l = refl
+  conditions (suc zero) l = refl
+  conditions (suc (suc zero)) l = refl
+  conditions (suc (suc (suc o))) l = absurd (omega (arith, l))
+
+  keeps : KeepsFlat find counter
+  keeps = record {
+    init = λ e t h. record { ends = tt; clean = (tt, tt); results = λ g r. subst invariant (sym r) refl };
+    conditions = λ o l e t h i. subst (λ p. Defined find (at_state counter_table e) p) (sym (conditions o l)) tt;
+    operations = λ o l e t h i c. keeps-operation o l e i;
+  }
+
+  abbrev answered : ℕ → State → Type 0
+  answered o = Answered find counter 1 (body_at counter 0 o).sub (body_at counter 1 o).outputs (body_at counter 0 o).outputs
+
+  carries-operation : (o : ℕ) → o < 3 → (e : State) → AreTrue find counter_table e (unasserted_hypotheses counter 1 o) → Establishes find counter 1 (whole (body_at counter 1 o)) e (answered o)
+  carries-operation zero l e h = record { ends = tt; clean = (tt, tt); results = λ f r. subst (answered 0) (sym r) (assigned find counter_table ((0, literal (pos 0)) ∷ []) (assigned find counter_table ((1, literal (pos 0)) ∷ []) e), refl, (refl, (refl, tt))) }
+  carries-operation (suc zero) l e h = record { ends = tt; clean = (tt, tt); results = λ f r. subst (answered 1) (sym r) (assigned find counter_table ((0, literal (pos 10)) ∷ []) (assigned find counter_table ((1, literal (pos 10)) ∷ []) e), refl, (refl, (refl, tt))) }
+  carries-operation (suc (suc zero)) l e h = record { ends = tt; clean = (tt, tt); results = λ f r. subst (answered 2) (sym r) (assigned find counter_table ((2, variable 0) ∷ []) (assigned find counter_table ((3, variable 1) ∷ []) e), refl, (h.1.0, (h.1.1.0, (h.1.1.0, tt)))) }
+  carries-operation (suc (suc (suc o))) l e h = absurd (omega (arith, l))
+
+  carries : CarriesFlat find counter 0
+  carries = record {
+    init = λ e t h. record { ends = tt; clean = (tt, tt); results = λ f r. subst (Answered find counter 1 (level_at counter 0).init [] []) (sym r) (assigned find counter_table ((0, literal (pos 0)) ∷ []) (assigned find counter_table ((1, literal (pos 0)) ∷ []) e), refl, (refl, (refl, tt))) };
+    operations = λ o l e t h. carries-operation o l e h;
+  }
+
+pub counter_is_carried : CounterIsCarried
+counter_is_carried find = ((λ e t h. tt), keeps find, carries find)

@@ -1,0 +1,5 @@
+use Rattle.bk_sim.proofs.SimpleCode.{simple_follows}
+use Rattle.bk_sim.proofs.laws.simple_follows.Goals as goal
+
+pub returns : goal.returns
+returns c = simple_follows
