@@ -1,0 +1,6 @@
+pub mod Closed
+pub mod Steps
+pub mod Closing
+pub mod Quantified
+pub mod Exact
+pub mod Plain

@@ -1,0 +1,4 @@
+pub mod Closing
+pub mod Box
+pub mod Shapes
+pub mod Laws

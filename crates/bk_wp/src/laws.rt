@@ -1,0 +1,9 @@
+//! Laws of box and diamond. Each is the contract of a function that does nothing.
+
+ghost use Rattle.bk_wp.specs.Laws.{BoxWithoutBinders, DiamondWithoutBinders};
+
+/// What box and diamond say of a substitution without locals, loops and `||`.
+pub fn without_binders()
+    ensures boxes { BoxWithoutBinders }
+    ensures diamonds { DiamondWithoutBinders }
+{}
