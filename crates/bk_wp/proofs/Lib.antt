@@ -4,3 +4,5 @@ pub mod Closing
 pub mod Quantified
 pub mod Exact
 pub mod Plain
+pub mod Reading
+pub mod Binders

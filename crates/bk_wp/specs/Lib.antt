@@ -1,4 +1,5 @@
 pub mod Closing
 pub mod Box
 pub mod Shapes
+pub mod Apart
 pub mod Laws
