@@ -6,3 +6,4 @@ pub mod Exact
 pub mod Plain
 pub mod Reading
 pub mod Binders
+pub mod Examples

@@ -3,3 +3,4 @@ pub mod Box
 pub mod Shapes
 pub mod Apart
 pub mod Laws
+pub mod Examples

@@ -1,6 +1,7 @@
 //! Laws of box and diamond. Each is the contract of a function that does nothing.
 
 ghost use Rattle.bk_wp.specs.Laws.{BoxWithoutBinders, DiamondWithoutBinders, BoxMeans, DiamondMeans};
+ghost use Rattle.bk_wp.specs.Examples.{EachTable, CountsUp};
 
 /// What box and diamond say of a substitution without locals, loops and `||`.
 pub fn without_binders()
@@ -12,4 +13,10 @@ pub fn without_binders()
 pub fn with_binders()
     ensures boxes { BoxMeans }
     ensures diamonds { DiamondMeans }
+{}
+
+/// Small cases, to be checked by hand.
+pub fn examples()
+    ensures tables { EachTable }
+    ensures count_up { CountsUp }
 {}
