@@ -1,0 +1,38 @@
+-- Laws of box and diamond, as statements.
+use Rattle.std.specs.Prelude.{◌≡◌, ◌↔◌, ◌⊎◌, true}
+use Rattle.bk_form.specs.Table.{Table, IsWellFormed}
+use Rattle.bk_form.specs.Formula.{Formula}
+use Rattle.bk_form.specs.Search.{Finder, IsSearch}
+use Rattle.bk_form.specs.Environment.{State}
+use Rattle.bk_gsl.specs.Substitution.{Substitution}
+use Rattle.bk_gsl.specs.State.{holds}
+use Rattle.bk_gsl.specs.Run.{Runs, Ends}
+use Rattle.bk_gsl.specs.Typed.{IsPredicate, Types}
+use Rattle.bk_wp.specs.Box.{box, diamond}
+use Rattle.bk_wp.specs.Shapes.{HasNoBinder, HasNoLoop}
+use Rattle.bk_wp.specs.Apart.{LocalsAreApart}
+
+-- the substitution ends from the state, and all its results meet the formula
+abbrev pub AllMeet : Finder → Table → Substitution → Formula → State → Type 0
+AllMeet find table s r e = Ends find table s e × ((f : State) → Runs find table s e f → holds find table f r ≡ true)
+
+-- it does not end from the state, or some result meets the formula
+abbrev pub SomeMeets : Finder → Table → Substitution → Formula → State → Type 0
+SomeMeets find table s r e = (Ends find table s e → ⊥) ⊎ ((f : State) × Runs find table s e f × (holds find table f r ≡ true))
+
+-- [S]R is true exactly where S ends and all its results meet R; here in every state, and for every search
+abbrev pub BoxWithoutBinders : Type 0
+BoxWithoutBinders = (find : Finder) (table : Table) (s : Substitution) → HasNoBinder s → Types table s → (r : Formula) (e : State) → (holds find table e (box table s r) ≡ true) ↔ AllMeet find table s r e
+
+-- <S>R is true exactly where S does not end or some result meets R
+abbrev pub DiamondWithoutBinders : Type 0
+DiamondWithoutBinders = (find : Finder) (table : Table) (s : Substitution) → HasNoBinder s → Types table s → (r : Formula) (e : State) → (holds find table e (diamond table s r) ≡ true) ↔ SomeMeets find table s r e
+
+-- ---- with locals and x :(P), where the table is well-formed, R is a predicate and no local is read after its scope
+-- [S]R is true exactly where S ends and all its results meet R
+abbrev pub BoxMeans : Type 0
+BoxMeans = (find : Finder) → IsSearch find → (table : Table) → IsWellFormed table → (s : Substitution) → HasNoLoop s → Types table s → (r : Formula) → IsPredicate table r → LocalsAreApart s r → (e : State) → (holds find table e (box table s r) ≡ true) ↔ AllMeet find table s r e
+
+-- <S>R is true exactly where S does not end or some result meets R
+abbrev pub DiamondMeans : Type 0
+DiamondMeans = (find : Finder) → IsSearch find → (table : Table) → IsWellFormed table → (s : Substitution) → HasNoLoop s → Types table s → (r : Formula) → IsPredicate table r → LocalsAreApart s r → (e : State) → (holds find table e (diamond table s r) ≡ true) ↔ SomeMeets find table s r e

@@ -1,0 +1,6 @@
+pub mod Closing
+pub mod Box
+pub mod Shapes
+pub mod Apart
+pub mod Laws
+pub mod Examples

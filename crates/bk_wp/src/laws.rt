@@ -1,0 +1,22 @@
+//! Laws of box and diamond. Each is the contract of a function that does nothing.
+
+ghost use Rattle.bk_wp.specs.Laws.{BoxWithoutBinders, DiamondWithoutBinders, BoxMeans, DiamondMeans};
+ghost use Rattle.bk_wp.specs.Examples.{EachTable, CountsUp};
+
+/// What box and diamond say of a substitution without locals, loops and `||`.
+pub fn without_binders()
+    ensures boxes { BoxWithoutBinders }
+    ensures diamonds { DiamondWithoutBinders }
+{}
+
+/// What they say with locals and `x :(P)` too.
+pub fn with_binders()
+    ensures boxes { BoxMeans }
+    ensures diamonds { DiamondMeans }
+{}
+
+/// Small cases, to be checked by hand.
+pub fn examples()
+    ensures tables { EachTable }
+    ensures count_up { CountsUp }
+{}
