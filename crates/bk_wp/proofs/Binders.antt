@@ -79,10 +79,10 @@ module _ (table : Table) where
 abbrev pub ReadLater : (ℕ → Bool) → Formula → Type 0
 ReadLater later r = (n : ℕ) → occurs n r ≡ true → later n ≡ true
 
-misses : (find : Finder) (table : Table) (later : ℕ → Bool) (zs : List ℕ) (r : Formula) → ReadLater later r → ((n : ℕ) → among zs n ≡ true → later n ≡ false) → Misses find table zs r
+pub misses : (find : Finder) (table : Table) (later : ℕ → Bool) (zs : List ℕ) (r : Formula) → ReadLater later r → ((n : ℕ) → among zs n ≡ true → later n ≡ false) → Misses find table zs r
 misses find table later zs r l a n h = elim (cases (occurs n r)) [ inl q ↦ clash (later n) (l n q) (a n h) | inr q ↦ q ]
 
-box-later : (table : Table) (later : ℕ → Bool) (t : Substitution) (r : Formula) → ReadLater later r → ReadLater (λ n. later n || among (read t) n) (box table t r)
+pub box-later : (table : Table) (later : ℕ → Bool) (t : Substitution) (r : Formula) → ReadLater later r → ReadLater (λ n. later n || among (read t) n) (box table t r)
 box-later table later t r l n h = elim (box-reads table t r n h) [ inl q ↦ or-left (later n) (among (read t) n) (l n q) | inr q ↦ or-right (later n) (among (read t) n) q ]
 
 diamond-later : (table : Table) (later : ℕ → Bool) (t : Substitution) (r : Formula) → ReadLater later r → ReadLater (λ n. later n || among (read t) n) (diamond table t r)

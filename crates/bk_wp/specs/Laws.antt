@@ -5,11 +5,11 @@ use Rattle.bk_form.specs.Formula.{Formula}
 use Rattle.bk_form.specs.Search.{Finder, IsSearch}
 use Rattle.bk_form.specs.Environment.{State}
 use Rattle.bk_gsl.specs.Substitution.{Substitution}
-use Rattle.bk_gsl.specs.State.{holds}
+use Rattle.bk_gsl.specs.State.{IsTypedState, holds}
 use Rattle.bk_gsl.specs.Run.{Runs, Ends}
 use Rattle.bk_gsl.specs.Typed.{IsPredicate, Types}
 use Rattle.bk_wp.specs.Box.{box, diamond}
-use Rattle.bk_wp.specs.Shapes.{HasNoBinder, HasNoLoop}
+use Rattle.bk_wp.specs.Shapes.{HasNoBinder, HasNoLoop, IsFlat}
 use Rattle.bk_wp.specs.Apart.{LocalsAreApart}
 
 -- the substitution ends from the state, and all its results meet the formula
@@ -36,3 +36,8 @@ BoxMeans = (find : Finder) → IsSearch find → (table : Table) → IsWellForme
 -- <S>R is true exactly where S does not end or some result meets R
 abbrev pub DiamondMeans : Type 0
 DiamondMeans = (find : Finder) → IsSearch find → (table : Table) → IsWellFormed table → (s : Substitution) → HasNoLoop s → Types table s → (r : Formula) → IsPredicate table r → LocalsAreApart s r → (e : State) → (holds find table e (diamond table s r) ≡ true) ↔ SomeMeets find table s r e
+
+-- ---- with loops
+-- where [S]R is true in a typed state, S ends and all its results meet R; the other way is not so, since an invariant may say too little
+abbrev pub BoxIsSound : Type 0
+BoxIsSound = (find : Finder) → IsSearch find → (table : Table) → IsWellFormed table → (s : Substitution) → IsFlat s → Types table s → (r : Formula) → IsPredicate table r → LocalsAreApart s r → (e : State) → IsTypedState table e → holds find table e (box table s r) ≡ true → AllMeet find table s r e

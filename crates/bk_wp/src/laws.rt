@@ -1,6 +1,6 @@
 //! Laws of box and diamond. Each is the contract of a function that does nothing.
 
-ghost use Rattle.bk_wp.specs.Laws.{BoxWithoutBinders, DiamondWithoutBinders, BoxMeans, DiamondMeans};
+ghost use Rattle.bk_wp.specs.Laws.{BoxWithoutBinders, DiamondWithoutBinders, BoxMeans, DiamondMeans, BoxIsSound};
 ghost use Rattle.bk_wp.specs.Examples.{EachTable, CountsUp};
 
 /// What box and diamond say of a substitution without locals, loops and `||`.
@@ -13,6 +13,11 @@ pub fn without_binders()
 pub fn with_binders()
     ensures boxes { BoxMeans }
     ensures diamonds { DiamondMeans }
+{}
+
+/// What the box says with loops too.
+pub fn with_loops()
+    ensures { BoxIsSound }
 {}
 
 /// Small cases, to be checked by hand.
