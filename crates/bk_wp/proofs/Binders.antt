@@ -1,10 +1,11 @@
 -- Substitutions with locals and x :(P).
-use Rattle.std.proofs.Common.{◌≡◌, inl, inr, ℕ, List, [], ◌∷◌, Bool, true, false, ◌||◌, cond, nat_eq}
+use Rattle.std.proofs.Common.{ap, ◌≡◌, inl, inr, ℕ, List, [], ◌∷◌, Bool, true, false, ◌||◌, cond, nat_eq}
 use Rattle.bk_form.specs.Table.{Table, IsWellFormed}
 use Rattle.bk_form.specs.Formula.{Formula, variable, unary, binary, named}
 use Rattle.bk_form.specs.declared.operator.UnOp.TheVariants.{Not}
 use Rattle.bk_form.specs.declared.operator.BinOp.TheVariants.{And, Imp, Lt, In}
 use Rattle.bk_form.specs.declared.operator.Domain.TheVariants.{Natural}
+use Rattle.bk_form.specs.Role.{unary_role}
 use Rattle.bk_form.specs.Search.{Finder, IsSearch}
 use Rattle.bk_form.specs.Environment.{State}
 use Rattle.bk_form.specs.Replacement.{replaced, occurs, IsClosed}
@@ -19,13 +20,13 @@ use Rattle.bk_gsl.proofs.States.{cases, clash}
 use Rattle.bk_wp.specs.Box.{variant_before, box, diamond}
 use Rattle.bk_wp.specs.Shapes.{HasNoLoop}
 use Rattle.bk_wp.specs.Apart.{AreApart}
-use Rattle.bk_wp.specs.Laws.{BoxMeans, DiamondMeans}
+use Rattle.bk_wp.specs.Laws.{BoxMeans, DiamondMeans, DiamondIsConjugate}
 use Rattle.bk_wp.proofs.Closed.{predicate-closed, term-closed}
 use Rattle.bk_wp.proofs.Closing.{closed-replaced}
 use Rattle.bk_wp.proofs.Steps.{terms-closed}
 use Rattle.bk_wp.proofs.Quantified.{closed-all, closed-some, closed-all-new, closed-some-new, all_of-true, some_of-true, some_of-false, all_new-true, some_new-true, some_new-false}
 use Rattle.bk_wp.proofs.Reading.{or-left, or-right, box-reads, diamond-reads}
-use Rattle.bk_wp.proofs.Exact.{FineBox, FineDiamond, Misses, box-then, box-if, diamond-exact}
+use Rattle.bk_wp.proofs.Exact.{FineBox, FineDiamond, Misses, box-then, box-if, diamond-exact, conjugate}
 
 module _ (table : Table) where
   pub box-closed : (s : Substitution) (r : Formula) → Types table s → IsClosed 0 r → IsClosed 0 (box table s r)
@@ -79,10 +80,10 @@ module _ (table : Table) where
 abbrev pub ReadLater : (ℕ → Bool) → Formula → Type 0
 ReadLater later r = (n : ℕ) → occurs n r ≡ true → later n ≡ true
 
-misses : (find : Finder) (table : Table) (later : ℕ → Bool) (zs : List ℕ) (r : Formula) → ReadLater later r → ((n : ℕ) → among zs n ≡ true → later n ≡ false) → Misses find table zs r
+pub misses : (find : Finder) (table : Table) (later : ℕ → Bool) (zs : List ℕ) (r : Formula) → ReadLater later r → ((n : ℕ) → among zs n ≡ true → later n ≡ false) → Misses find table zs r
 misses find table later zs r l a n h = elim (cases (occurs n r)) [ inl q ↦ clash (later n) (l n q) (a n h) | inr q ↦ q ]
 
-box-later : (table : Table) (later : ℕ → Bool) (t : Substitution) (r : Formula) → ReadLater later r → ReadLater (λ n. later n || among (read t) n) (box table t r)
+pub box-later : (table : Table) (later : ℕ → Bool) (t : Substitution) (r : Formula) → ReadLater later r → ReadLater (λ n. later n || among (read t) n) (box table t r)
 box-later table later t r l n h = elim (box-reads table t r n h) [ inl q ↦ or-left (later n) (among (read t) n) (l n q) | inr q ↦ or-right (later n) (among (read t) n) q ]
 
 diamond-later : (table : Table) (later : ℕ → Bool) (t : Substitution) (r : Formula) → ReadLater later r → ReadLater (λ n. later n || among (read t) n) (diamond table t r)
@@ -133,3 +134,7 @@ box-means find law table facts s y w r t a e =
 
 pub diamond-means : DiamondMeans
 diamond-means find law table facts s y w r t a e = diamond-exact find table s r w (fine-diamond find law table facts (λ n. occurs n r) s r y w a (λ n h. h) (predicate-closed table r t)) e
+
+pub diamond-is-conjugate : DiamondIsConjugate
+diamond-is-conjugate find law table facts s y w r t a e =
+    conjugate find table s r w (fine-diamond find law table facts (λ n. occurs n r) s r y w a (λ n h. h) (predicate-closed table r t)) e (box-means find law table facts s y w (unary Not r) (ap (unary_role Not) t) a e)

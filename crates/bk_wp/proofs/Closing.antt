@@ -14,7 +14,7 @@ use Rattle.bk_form.specs.Replacement.{count, replaced, all_replaced, IsClosed, A
 use Rattle.bk_form.specs.Meaning.{meaning, meanings, truth, of_value, bound_meaning, unary_meaning, binary_meaning, all_meaning, some_meaning, comprehension_meaning, lambda_meaning, range_types}
 use Rattle.bk_form.proofs.Agreement.{length-ranges}
 use Rattle.bk_form.proofs.Members.{and-both}
-use Rattle.bk_gsl.specs.State.{at_state, holds, declared_type, are_values_for, with_value, with_values, over}
+use Rattle.bk_gsl.specs.State.{at_state, holds, value_at, declared_type, are_values_for, with_value, with_values, over}
 use Rattle.bk_gsl.specs.Typed.{IsListed, AreListed}
 use Rattle.bk_gsl.proofs.States.{cases, clash, nat_eq-same, nat_eq-self, over-off}
 use Rattle.bk_wp.specs.Closing.{closed_over, all_closed_over, closed_over_each, types_of}
@@ -189,7 +189,7 @@ or-right false b h = h
 
 module _ (find : Finder) where
   mutual
-    meaning-agrees : (e : Environment) (w : State) (f : Formula) → ((n : ℕ) → occurs n f ≡ true → w n ≡ e.state n) → meaning find (record e { state = w }) f ≡ meaning find e f
+    pub meaning-agrees : (e : Environment) (w : State) (f : Formula) → ((n : ℕ) → occurs n f ≡ true → w n ≡ e.state n) → meaning find (record e { state = w }) f ≡ meaning find e f
     meaning-agrees e w (variable n) h = ap (of_value (given_by (variable_type e.table n))) (h n (nat_eq-self n))
     meaning-agrees e w (unary o f) h = λ i. unary_meaning o (meaning-agrees e w f h i)
     meaning-agrees e w (binary o f g) h = λ i. binary_meaning find (set_size e.table) o (meaning-agrees e w f (λ n q. h n (or-left (occurs n f) (occurs n g) q)) i) (meaning-agrees e w g (λ n q. h n (or-right (occurs n f) (occurs n g) q)) i)
@@ -213,3 +213,6 @@ module _ (find : Finder) where
   -- what stands nowhere in a formula says nothing of it
   pub holds-over : (table : Table) (off : ℕ → Bool) (d e : State) (f : Formula) → ((n : ℕ) → off n ≡ true → occurs n f ≡ false) → holds find table (over off d e) f ≡ holds find table e f
   holds-over table off d e f h = ap (λ m. m.truth) (meaning-state table (over off d e) e f (λ n q. elim (cases (off n)) [ inl k ↦ clash (occurs n f) q (h n k) | inr k ↦ over-off off d e n k ]))
+
+  pub value-over : (table : Table) (off : ℕ → Bool) (d e : State) (f : Formula) → ((n : ℕ) → off n ≡ true → occurs n f ≡ false) → value_at find table (over off d e) f ≡ value_at find table e f
+  value-over table off d e f h = ap (λ m. m.value) (meaning-state table (over off d e) e f (λ n q. elim (cases (off n)) [ inl k ↦ clash (occurs n f) q (h n k) | inr k ↦ over-off off d e n k ]))

@@ -2,7 +2,8 @@
 use Rattle.std.proofs.Common.{◌≡◌, ◌↔◌, inl, inr, ℕ, List, refl, sym, ◌∙◌, ap, Bool, true, false, not, ◌&&◌}
 use Rattle.bk_val.specs.Value.{MathValue}
 use Rattle.bk_form.specs.Table.{Table}
-use Rattle.bk_form.specs.Formula.{Formula}
+use Rattle.bk_form.specs.Formula.{Formula, unary}
+use Rattle.bk_form.specs.declared.operator.UnOp.TheVariants.{Not}
 use Rattle.bk_form.specs.Search.{Finder}
 use Rattle.bk_form.specs.Environment.{State}
 use Rattle.bk_form.specs.Operators.{implies}
@@ -143,7 +144,7 @@ module _ (find : Finder) (table : Table) where
   FineDiamond (loop p s i v) r = ⊥
 
   -- what <S>R says where it is false
-  diamond-not : (s : Substitution) (r : Formula) → Types table s → FineDiamond s r → (e : State) → holds find table e (diamond table s r) ≡ false → NoneMeets find table s r e
+  pub diamond-not : (s : Substitution) (r : Formula) → Types table s → FineDiamond s r → (e : State) → holds find table e (diamond table s r) ≡ false → NoneMeets find table s r e
   diamond-not skip r w g e h = (tt, λ f p. ap (λ x. holds find table x r) p ∙ h)
   diamond-not (assign ps) r w g e h = (tt, λ f p. ap (λ x. holds find table x r) p ∙ sym (holds-assign find table ps w e r) ∙ h)
   diamond-not (pre p s) r w g e h =
@@ -240,3 +241,20 @@ module _ (find : Finder) (table : Table) where
         | inl q ↦ q
         | inr q ↦ let n = diamond-not s r w g e q in elim m [ inl x ↦ absurd (x n.0) | inr z ↦ clash (holds find table z.0 r) z.2 (n.1 z.0 z.1) ]
       ]
+
+  -- <S>R is not [S] not R, where both say what the runs do
+  pub conjugate : (s : Substitution) (r : Formula) → Types table s → FineDiamond s r → (e : State) → (holds find table e (box table s (unary Not r)) ≡ true) ↔ AllMeet find table s (unary Not r) e → holds find table e (diamond table s r) ≡ not (holds find table e (box table s (unary Not r)))
+  conjugate s r w g e m = by_truths (holds find table e (diamond table s r)) (holds find table e (box table s (unary Not r))) both_true some_true
+    where
+      by_truths : (a b : Bool) → (a ≡ true → b ≡ true → ⊥) → (a ≡ false → b ≡ true) → a ≡ not b
+      by_truths true true f h = absurd (f refl refl)
+      by_truths true false f h = refl
+      by_truths false b f h = sym (ap not (h refl))
+
+      both_true : holds find table e (diamond table s r) ≡ true → holds find table e (box table s (unary Not r)) ≡ true → ⊥
+      both_true h k =
+          let all = m.0 k in
+          elim (diamond-then s r w g e h) [ inl n ↦ n all.0 | inr z ↦ clash (holds find table z.0 r) z.2 (not-true (holds find table z.0 r) (all.1 z.0 z.1)) ]
+
+      some_true : holds find table e (diamond table s r) ≡ false → holds find table e (box table s (unary Not r)) ≡ true
+      some_true h = let n = diamond-not s r w g e h in m.1 (n.0, λ f q. ap not (n.1 f q))

@@ -7,3 +7,7 @@ pub mod Plain
 pub mod Reading
 pub mod Binders
 pub mod Examples
+pub mod Outside
+pub mod Falls
+pub mod Loops
+pub mod Sound

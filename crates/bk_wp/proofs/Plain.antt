@@ -1,13 +1,14 @@
 -- Substitutions without binders.
 use Rattle.bk_form.specs.Table.{Table}
-use Rattle.bk_form.specs.Formula.{Formula}
+use Rattle.bk_form.specs.Formula.{Formula, unary}
+use Rattle.bk_form.specs.declared.operator.UnOp.TheVariants.{Not}
 use Rattle.bk_form.specs.Search.{Finder}
 use Rattle.bk_form.specs.Environment.{State}
 use Rattle.bk_gsl.specs.Substitution.{Substitution, skip, assign, pre, guard, choice, if_else, any, seq, par, assert, becomes_such, loop}
 use Rattle.bk_wp.specs.Box.{box, diamond}
 use Rattle.bk_wp.specs.Shapes.{HasNoBinder, HasNoLoop}
-use Rattle.bk_wp.specs.Laws.{BoxWithoutBinders, DiamondWithoutBinders}
-use Rattle.bk_wp.proofs.Exact.{FineBox, FineDiamond, box-then, box-if, diamond-exact}
+use Rattle.bk_wp.specs.Laws.{BoxWithoutBinders, DiamondWithoutBinders, ConjugateWithoutBinders}
+use Rattle.bk_wp.proofs.Exact.{FineBox, FineDiamond, box-then, box-if, diamond-exact, conjugate}
 
 no-loop : (s : Substitution) → HasNoBinder s → HasNoLoop s
 no-loop skip h = tt
@@ -63,3 +64,6 @@ box-plain find table s n w r e = (
 
 pub diamond-plain : DiamondWithoutBinders
 diamond-plain find table s n w r e = diamond-exact find table s r w (fine-diamond find table s r n) e
+
+pub conjugate-plain : ConjugateWithoutBinders
+conjugate-plain find table s n w r e = conjugate find table s r w (fine-diamond find table s r n) e (box-plain find table s n w (unary Not r) e)

@@ -231,7 +231,7 @@ some-new-reads table [] p r n h = elim (or-cases (occurs n p) (occurs n r) h) [ 
 some-new-reads table (x ∷ xs) p r n h = elim (or-cases (occurs n (new_values (x ∷ xs) p)) (occurs n (closed_over_each (firsts (x ∷ xs)) r)) h) [ inl q ↦ inr (occurs-new (x ∷ xs) p n q) | inr q ↦ inl ((occurs-each (firsts (x ∷ xs)) r n q).0) ]
 
 -- in [n := V] the number n is gone
-falls-reads : (k : ℕ) (v f : Formula) (n : ℕ) → occurs n (replaced (looked_up ((k, v) ∷ [])) f) ≡ true → (occurs n v ≡ true) ⊎ ((occurs n f ≡ true) × (nat_eq n k ≡ false))
+pub falls-reads : (k : ℕ) (v f : Formula) (n : ℕ) → occurs n (replaced (looked_up ((k, v) ∷ [])) f) ≡ true → (occurs n v ≡ true) ⊎ ((occurs n f ≡ true) × (nat_eq n k ≡ false))
 falls-reads k v f n h = let w = occurs-replaced (looked_up ((k, v) ∷ [])) n f h in by_test w.place w.stands (nat_eq w.place k) refl w.brings
   where
     by_test : (m : ℕ) → occurs m f ≡ true → (b : Bool) → nat_eq m k ≡ b → occurs n (cond b v (variable m)) ≡ true → (occurs n v ≡ true) ⊎ ((occurs n f ≡ true) × (nat_eq n k ≡ false))

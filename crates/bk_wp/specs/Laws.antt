@@ -1,15 +1,16 @@
 -- Laws of box and diamond, as statements.
-use Rattle.std.specs.Prelude.{◌≡◌, ◌↔◌, ◌⊎◌, true}
+use Rattle.std.specs.Prelude.{◌≡◌, ◌↔◌, ◌⊎◌, true, not}
 use Rattle.bk_form.specs.Table.{Table, IsWellFormed}
-use Rattle.bk_form.specs.Formula.{Formula}
+use Rattle.bk_form.specs.Formula.{Formula, unary}
+use Rattle.bk_form.specs.declared.operator.UnOp.TheVariants.{Not}
 use Rattle.bk_form.specs.Search.{Finder, IsSearch}
 use Rattle.bk_form.specs.Environment.{State}
 use Rattle.bk_gsl.specs.Substitution.{Substitution}
-use Rattle.bk_gsl.specs.State.{holds}
+use Rattle.bk_gsl.specs.State.{IsTypedState, holds}
 use Rattle.bk_gsl.specs.Run.{Runs, Ends}
 use Rattle.bk_gsl.specs.Typed.{IsPredicate, Types}
 use Rattle.bk_wp.specs.Box.{box, diamond}
-use Rattle.bk_wp.specs.Shapes.{HasNoBinder, HasNoLoop}
+use Rattle.bk_wp.specs.Shapes.{HasNoBinder, HasNoLoop, IsFlat}
 use Rattle.bk_wp.specs.Apart.{LocalsAreApart}
 
 -- the substitution ends from the state, and all its results meet the formula
@@ -28,6 +29,10 @@ BoxWithoutBinders = (find : Finder) (table : Table) (s : Substitution) → HasNo
 abbrev pub DiamondWithoutBinders : Type 0
 DiamondWithoutBinders = (find : Finder) (table : Table) (s : Substitution) → HasNoBinder s → Types table s → (r : Formula) (e : State) → (holds find table e (diamond table s r) ≡ true) ↔ SomeMeets find table s r e
 
+-- <S>R is the conjugate of [S]R: not [S] not R
+abbrev pub ConjugateWithoutBinders : Type 0
+ConjugateWithoutBinders = (find : Finder) (table : Table) (s : Substitution) → HasNoBinder s → Types table s → (r : Formula) (e : State) → holds find table e (diamond table s r) ≡ not (holds find table e (box table s (unary Not r)))
+
 -- ---- with locals and x :(P), where the table is well-formed, R is a predicate and no local is read after its scope
 -- [S]R is true exactly where S ends and all its results meet R
 abbrev pub BoxMeans : Type 0
@@ -36,3 +41,12 @@ BoxMeans = (find : Finder) → IsSearch find → (table : Table) → IsWellForme
 -- <S>R is true exactly where S does not end or some result meets R
 abbrev pub DiamondMeans : Type 0
 DiamondMeans = (find : Finder) → IsSearch find → (table : Table) → IsWellFormed table → (s : Substitution) → HasNoLoop s → Types table s → (r : Formula) → IsPredicate table r → LocalsAreApart s r → (e : State) → (holds find table e (diamond table s r) ≡ true) ↔ SomeMeets find table s r e
+
+-- <S>R is the conjugate of [S]R
+abbrev pub DiamondIsConjugate : Type 0
+DiamondIsConjugate = (find : Finder) → IsSearch find → (table : Table) → IsWellFormed table → (s : Substitution) → HasNoLoop s → Types table s → (r : Formula) → IsPredicate table r → LocalsAreApart s r → (e : State) → holds find table e (diamond table s r) ≡ not (holds find table e (box table s (unary Not r)))
+
+-- ---- with loops
+-- where [S]R is true in a typed state, S ends and all its results meet R; the other way is not so, since an invariant may say too little
+abbrev pub BoxIsSound : Type 0
+BoxIsSound = (find : Finder) → IsSearch find → (table : Table) → IsWellFormed table → (s : Substitution) → IsFlat s → Types table s → (r : Formula) → IsPredicate table r → LocalsAreApart s r → (e : State) → IsTypedState table e → holds find table e (box table s r) ≡ true → AllMeet find table s r e

@@ -1,18 +1,25 @@
 //! Laws of box and diamond. Each is the contract of a function that does nothing.
 
-ghost use Rattle.bk_wp.specs.Laws.{BoxWithoutBinders, DiamondWithoutBinders, BoxMeans, DiamondMeans};
+ghost use Rattle.bk_wp.specs.Laws.{BoxWithoutBinders, DiamondWithoutBinders, ConjugateWithoutBinders, BoxMeans, DiamondMeans, DiamondIsConjugate, BoxIsSound};
 ghost use Rattle.bk_wp.specs.Examples.{EachTable, CountsUp};
 
 /// What box and diamond say of a substitution without locals, loops and `||`.
 pub fn without_binders()
     ensures boxes { BoxWithoutBinders }
     ensures diamonds { DiamondWithoutBinders }
+    ensures conjugates { ConjugateWithoutBinders }
 {}
 
 /// What they say with locals and `x :(P)` too.
 pub fn with_binders()
     ensures boxes { BoxMeans }
     ensures diamonds { DiamondMeans }
+    ensures conjugates { DiamondIsConjugate }
+{}
+
+/// What the box says with loops too.
+pub fn with_loops()
+    ensures { BoxIsSound }
 {}
 
 /// Small cases, to be checked by hand.

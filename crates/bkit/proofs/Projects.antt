@@ -130,9 +130,9 @@ reads_program files project calls text dev image requests reads e told script = 
 }
 
 -- ---- the run
-pub writes_run : (files : Files) (words : List (List ℕ)) (project calls : List ℕ) (image : Image) (requests : List Request) (status : Status) (old : List ℕ) (before after : Option (List ℕ)) →
-    AreRunWords words project calls → ReadsProgram files project calls image requests → Plays image requests status before after → before ≡ Some old → WritesRun files words old after status
-writes_run files words project calls image requests status old before after are r p e = record {
+pub writes_run : (files : Files) (words : List (List ℕ)) (project calls : List ℕ) (image : Image) (requests : List Request) (status : Status) (before after : Option (List ℕ)) →
+    AreRunWords words project calls → ReadsProgram files project calls image requests → Plays image requests status before after → WritesRun files words before after status
+writes_run files words project calls image requests status before after are r p = record {
   text = transcript image fuel requests p.tolds;
   run = record {
     project = project;
@@ -148,5 +148,5 @@ writes_run files words project calls image requests status old before after are 
     transcript_is = ap (λ x. transcript x fuel requests p.tolds) r.translated;
     last = p.last;
   };
-  appended = p.written ∙ ap (λ w. written_with w (transcript image fuel requests p.tolds)) e;
+  appended = p.written;
 }

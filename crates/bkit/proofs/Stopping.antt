@@ -20,7 +20,7 @@ use Rattle.bk_calls.specs.Script.{IsFirstFault}
 use Rattle.bkit.specs.declared.status.Status.{Status}
 use Rattle.bkit.specs.declared.stop.Stop.{Stop}
 use Rattle.bkit.specs.declared.stop.Stop.TheVariants.{Usage, Missing, Refused, Limit, BadCalls, ReadFault, WriteFault, Memory}
-use Rattle.bkit.specs.Run.{IsTold, component_lines, ReadsProject, AreRunWords}
+use Rattle.bkit.specs.Run.{ComesSoFar, IsTold, component_lines, ReadsProject, AreRunWords}
 use Rattle.bkit.specs.Stops.{IsOutside, StopsAtFile, StopsAtProject, StopsAtCalls, StopsAt, IsStopOf, stop_of_code, stop_of_calls, status_of_stop, stop_text, Reports, IsStopped, WritesStop}
 use Rattle.bkit.proofs.Projects.{names_of}
 
@@ -77,9 +77,9 @@ module _ (files : Files) (project calls : List ℕ) (dev : Development) (reads :
   at_code text TooManyCells stop told long many is = inr (inr (dev, reads, inr (text, told, inr (inl (is, (many refl).0, (many refl).1)))))
   at_code text NoRoom stop told long many is = inl (outside_memory stop is)
 
-  pub at_calls : (text : List ℕ) (image : Image) (fault : CallsFault) (stop : Stop) → IsTold files calls text → image ≡ translation dev → ((number : ℕ) → fault ≡ Line number → IsFirstFault image text number) → stop ≡ stop_of_calls fault → Stopped files project calls stop
-  at_calls text image (Line number) stop told e first is = inr (inr (dev, reads, inr (text, told, inr (inr (number, is, subst (λ x. IsFirstFault x text number) e (first number refl))))))
-  at_calls text image NoMemory stop told e first is = inl (outside_memory stop is)
+  pub at_calls : (text : List ℕ) (image : Image) (fault : CallsFault) (stop : Stop) → IsTold files calls text → image ≡ translation dev → (length image.code ≤ 1000000) × (image.cells ≤ 1000000) → ((number : ℕ) → fault ≡ Line number → IsFirstFault image text number) → stop ≡ stop_of_calls fault → Stopped files project calls stop
+  at_calls text image (Line number) stop told e within first is = inr (inr (dev, reads, inr (text, told, inr (inr (number, is, subst (λ x. length x.code ≤ 1000000) e within.0, subst (λ x. x.cells ≤ 1000000) e within.1, subst (λ x. IsFirstFault x text number) e (first number refl))))))
+  at_calls text image NoMemory stop told e within first is = inl (outside_memory stop is)
 
 -- ---- the run
 pub at_run : (files : Files) (words : List (List ℕ)) (project calls : List ℕ) (stop : Stop) → AreRunWords words project calls → Stopped files project calls stop → IsOutside stop ⊎ StopsAt files words stop
@@ -97,13 +97,24 @@ outside_is_not_stopped ReadFault o s = s
 outside_is_not_stopped WriteFault o s = s
 outside_is_not_stopped Memory o s = s
 
-pub writes_stop : (files : Files) (words : List (List ℕ)) (old : List ℕ) (before after : Option (List ℕ)) (status : Status) (stop : Stop) → IsOutside stop ⊎ StopsAt files words stop → Reports stop status before after → IsStopped status → IsOutside stop ⊎ (before ≡ Some old) → WritesStop files words old after status
-writes_stop files words old before after status stop (inl o) (inl r) s e = absurd (outside_is_not_stopped stop o (subst IsStopped r.0 s))
-writes_stop files words old before after status stop (inr c) (inl r) s (inl o) = absurd (outside_is_not_stopped stop o (subst IsStopped r.0 s))
-writes_stop files words old before after status stop (inr c) (inl r) s (inr e) = record { stop = stop; cause = c; status_is = r.0; appended = r.1 ∙ ap (λ w. written_with w (stop_text stop)) e }
-writes_stop files words old before after status stop c (inr (inl w)) s e = absurd (subst IsStopped w s)
-writes_stop files words old before after status stop c (inr (inr w)) s e = absurd (subst IsStopped w s)
+pub writes_stop : (files : Files) (words : List (List ℕ)) (start before after : Option (List ℕ)) (status : Status) (stop : Stop) → IsOutside stop ⊎ StopsAt files words stop → Reports stop status before after → IsStopped status → IsOutside stop ⊎ (before ≡ start) → WritesStop files words start after status
+writes_stop files words start before after status stop (inl o) (inl r) s e = absurd (outside_is_not_stopped stop o (subst IsStopped r.0 s))
+writes_stop files words start before after status stop (inr c) (inl r) s (inl o) = absurd (outside_is_not_stopped stop o (subst IsStopped r.0 s))
+writes_stop files words start before after status stop (inr c) (inl r) s (inr e) = record { stop = stop; cause = c; status_is = r.0; appended = r.1 ∙ ap (λ w. written_with w (stop_text stop)) e }
+writes_stop files words start before after status stop c (inr (inl w)) s e = absurd (subst IsStopped w s)
+writes_stop files words start before after status stop c (inr (inr w)) s e = absurd (subst IsStopped w s)
 
-pub silent : (stop : Stop) (before start : Option (List ℕ)) (old : List ℕ) → IsOutside stop ⊎ (before ≡ start) → start ≡ Some old → IsOutside stop ⊎ (before ≡ Some old)
-silent stop before start old (inl o) e = inl o
-silent stop before start old (inr h) e = inr (h ∙ e)
+stop_so_far : (stop : Stop) → ComesSoFar (status_of_stop stop)
+stop_so_far Usage = tt
+stop_so_far (Missing name) = tt
+stop_so_far (Refused fault name) = tt
+stop_so_far (Limit limit name) = tt
+stop_so_far (BadCalls line) = tt
+stop_so_far ReadFault = tt
+stop_so_far WriteFault = tt
+stop_so_far Memory = tt
+
+pub reports_so_far : (stop : Stop) (status : Status) (before after : Option (List ℕ)) → Reports stop status before after → ComesSoFar status
+reports_so_far stop status before after (inl r) = subst ComesSoFar (sym r.0) (stop_so_far stop)
+reports_so_far stop status before after (inr (inl w)) = subst ComesSoFar (sym w) tt
+reports_so_far stop status before after (inr (inr w)) = subst ComesSoFar (sym w) tt

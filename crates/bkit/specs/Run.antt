@@ -1,6 +1,7 @@
 -- What `bkit run` does, as the told files have it.
-use Rattle.std.specs.Prelude.{◌≡◌, ℕ, ◌++◌, Bool, false, nat_eq, List, [], ◌∷◌, length, ◌≤◌, Option, Some, codes}
+use Rattle.std.specs.Prelude.{◌≡◌, ℕ, Bool, false, nat_eq, List, [], ◌∷◌, length, ◌≤◌, Option, Some, codes}
 use Rattle.bk_io.specs.Files.{Files, file_named}
+use Rattle.bk_io.specs.Pieces.{written_with}
 use Rattle.bk_code.specs.declared.image.Image.{Image}
 use Rattle.bk_code.specs.Session.{Request, Told, Session}
 use Rattle.bk_dev.specs.Development.{Development}
@@ -12,7 +13,7 @@ use Rattle.bk_front.specs.Reading.{Reads}
 use Rattle.bk_calls.specs.Script.{IsScript}
 use Rattle.bk_calls.specs.Transcript.{transcript}
 use Rattle.bkit.specs.declared.status.Status.{Status}
-use Rattle.bkit.specs.declared.status.Status.TheVariants.{Done, Trapped, OutOfFuel}
+use Rattle.bkit.specs.declared.status.Status.TheVariants.{Done, Trapped, OutOfFuel, Unproved, Incomplete, BadImage}
 use Rattle.bkit.specs.Session.{fuel, session_status}
 
 -- ---- words
@@ -99,8 +100,15 @@ pub record IsRun (files : Files) (words : List (List ℕ)) (text : List ℕ) (st
   pub transcript_is : text ≡ transcript (translation dev) fuel requests tolds
   pub last : status ≡ session_status tolds
 
--- what was written is what had been written, and then the text of the run
-pub record WritesRun (files : Files) (words : List (List ℕ)) (old : List ℕ) (new : Option (List ℕ)) (status : Status) : Type 0 where
+-- what is written is what had been written, and then the text of the run
+pub record WritesRun (files : Files) (words : List (List ℕ)) (old new : Option (List ℕ)) (status : Status) : Type 0 where
   pub text : List ℕ
   pub run : IsRun files words text status
-  pub appended : new ≡ Some (old ++ text)
+  pub appended : new ≡ written_with old text
+
+-- the statuses that come so far: nothing is proved yet, each project has an implementation, and no image is read
+abbrev pub ComesSoFar : Status → Type 0
+ComesSoFar Unproved = ⊥
+ComesSoFar Incomplete = ⊥
+ComesSoFar BadImage = ⊥
+ComesSoFar _ = Unit {0}

@@ -94,7 +94,7 @@ abbrev pub StopsAtCode : (project text : List ℕ) → Image → Stop → Type 0
 StopsAtCode project text image stop =
     ((stop ≡ Limit 9 project) × (1000000 < length image.code)) ⊎
     ((stop ≡ Limit 10 project) × (length image.code ≤ 1000000) × (1000000 < image.cells)) ⊎
-    ((number : ℕ) × (stop ≡ BadCalls number) × IsFirstFault image text number)
+    ((number : ℕ) × (stop ≡ BadCalls number) × (length image.code ≤ 1000000) × (image.cells ≤ 1000000) × IsFirstFault image text number)
 
 abbrev pub StopsAtCalls : Files → (project calls : List ℕ) → Image → Stop → Type 0
 StopsAtCalls files project calls image stop =
@@ -137,8 +137,8 @@ IsStopped BadCallsStatus = Unit {0}
 IsStopped _ = ⊥
 
 -- the first check that fails gives the status and the line, which is appended to what had been written
-pub record WritesStop (files : Files) (words : List (List ℕ)) (old : List ℕ) (new : Option (List ℕ)) (status : Status) : Type 0 where
+pub record WritesStop (files : Files) (words : List (List ℕ)) (old new : Option (List ℕ)) (status : Status) : Type 0 where
   pub stop : Stop
   pub cause : StopsAt files words stop
   pub status_is : status ≡ status_of_stop stop
-  pub appended : new ≡ Some (old ++ stop_text stop)
+  pub appended : new ≡ written_with old (stop_text stop)

@@ -8,7 +8,7 @@ ghost use Rattle.bk_calls.specs.Script.{request_of};
 ghost use Rattle.bk_dev.specs.Development.{Development};
 ghost use Rattle.bk_gen.specs.Translation.{translation};
 ghost use Rattle.bkit.specs.Stops.{IsOutside, StopsAtProject, StopsAtCalls, StopsAt, IsStopped, WritesStop, stop_of_code};
-ghost use Rattle.bkit.specs.Run.{AreRunWords, AreNoRunWords, ReadsProject, ReadsProgram, IsExecuted, WritesRun};
+ghost use Rattle.bkit.specs.Run.{AreRunWords, AreNoRunWords, ReadsProject, ReadsProgram, IsExecuted, WritesRun, ComesSoFar};
 
 use crate::files::{fetch, owned, read_development};
 use crate::session::play;
@@ -43,10 +43,11 @@ pub fn bkit<H: Shelf, K: Sink>(
     shelf: &mut H,
     out: &mut K,
 ) -> Status
-    ensures run { IsExecuted result → (files : Files) → (old : List ℕ) → H.files shelf.old ≡ Some files → K.written out.old ≡ Some old →
-        WritesRun files (map string_bytes words.now) old (K.written out.new) result }
-    ensures stops { (files : Files) → (old : List ℕ) → H.files shelf.old ≡ Some files → K.written out.old ≡ Some old →
-        IsStopped result → WritesStop files (map string_bytes words.now) old (K.written out.new) result }
+    ensures run { IsExecuted result → (files : Files) → H.files shelf.old ≡ Some files →
+        WritesRun files (map string_bytes words.now) (K.written out.old) (K.written out.new) result }
+    ensures stops { IsStopped result → (files : Files) → H.files shelf.old ≡ Some files →
+        WritesStop files (map string_bytes words.now) (K.written out.old) (K.written out.new) result }
+    ensures so_far { ComesSoFar result }
     ensures usage { result ≡ Status.Usage → AreNoRunWords (map string_bytes words.now) }
     ensures wrong_words { AreNoRunWords (map string_bytes words.now) → (result ≡ Status.Usage) ⊎ (result ≡ Status.WriteFault) ⊎ (result ≡ Status.Memory) }
 {
@@ -67,8 +68,8 @@ fn run<H: Shelf, K: Sink>(
     ensures usage { IfErr result (λ stop. stop ≡ Stop.Usage → AreNoRunWords (map string_bytes words.now)) }
     ensures wrong_words { AreNoRunWords (map string_bytes words.now) → result ≡ Err Stop.Usage }
     ensures executed { IfOk result IsExecuted }
-    ensures ok { IfOk result (λ status. (files : Files) → (old : List ℕ) → H.files shelf.old ≡ Some files → K.written out.old ≡ Some old →
-        WritesRun files (map string_bytes words.now) old (K.written out.new) status) }
+    ensures ok { IfOk result (λ status. (files : Files) → H.files shelf.old ≡ Some files →
+        WritesRun files (map string_bytes words.now) (K.written out.old) (K.written out.new) status) }
 {
     let (project, calls) = run_words(words).ok_or(Stop::Usage)?;
     let program = read_program(alloc, project, calls, shelf)?;

@@ -57,5 +57,6 @@ returns-clause-cause g c files told =
     at_calls files c.args.project.now c.args.script.now c.in_ok-development.development (c.in_ok-development.ensures.told files told) c.in_ok-text.text.items c.in-Ok.image c.in-Err-calls.fault c.from.result
     (c.in_ok-text.ensures.told files (c.read_development.ensures.files ∙ told))
     c.in-Ok.ensures.ok
+    c.in-Ok.ensures.within
     (λ number e. subst (λ x. IsFirstFault c.in-Ok.image x number) c.deref.ensures.value (c.in-Err-calls.ensures.line number (ap Err e)))
     c.from.ensures
