@@ -17,7 +17,6 @@ use Rattle.bk_front.proofs.Readings.{read_once}
 use Rattle.bk_lines.specs.Lines.{is_skipped, kept_lines}
 use Rattle.bk_calls.specs.Script.{IsScript, AsksFor, HasNoInputs}
 use Rattle.bk_calls.proofs.Lines.{lines_within}
-use Rattle.bk_io.specs.Pieces.{written_with}
 use Rattle.bk_code.specs.Session.{Session}
 use Rattle.bk_calls.specs.Transcript.{transcript}
 use Rattle.bkit.specs.declared.status.Status.{Status}

@@ -1,5 +1,5 @@
 -- Why the program stops before its work is done: the causes, in the order of the checks, and the lines that say so.
-use Rattle.std.specs.Prelude.{◌≡◌, ℕ, zero, suc, ◌<◌, ◌≤◌, ◌⊎◌, List, [], ◌++◌, length, codes, decimal, Option, Some, None}
+use Rattle.std.specs.Prelude.{◌≡◌, ℕ, zero, suc, ◌<◌, ◌≤◌, ◌⊎◌, List, [], ◌++◌, length, codes, decimal, Option, None}
 use Rattle.bk_io.specs.Files.{Files, file_named, IsLonger}
 use Rattle.bk_code.specs.declared.image.Image.{Image}
 use Rattle.bk_dev.specs.Development.{Development}
