@@ -1,6 +1,6 @@
 // Sequents that need no proof.
 
-ghost use Rattle.std.specs.Prelude.{◌≡◌, ℤ, int_lt, int_le};
+ghost use Rattle.std.specs.Prelude.{◌≡◌, int_lt, int_le};
 ghost use Rattle.std.specs.Ordering.{int_eq};
 ghost use Rattle.std.specs.List.{list_any};
 ghost use Rattle.bk_kernel.specs.Obvious.{negative_of, sum_of, closed_sum, is_same, both_pass, has_all, has_number, holds_plainly, is_plain, is_obvious};
