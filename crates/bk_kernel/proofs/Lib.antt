@@ -1,0 +1,3 @@
+pub mod ClosedSums
+pub mod Same
+pub mod Validity
