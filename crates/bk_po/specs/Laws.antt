@@ -21,3 +21,8 @@ CounterHasThese = map (λ o. o.0) (numbered_obligations counter) ≡
 -- machine keeps its invariant, and the implementation carries the machine
 abbrev pub ValidObligationsCarry : Type 0
 ValidObligationsCarry = (find : Finder) → IsSearch find → (dev : Development) → IsDevelopment dev → IsSimple dev → IsPlain dev → HasValidObligations dev → ValuesMeet find dev × Keeps find dev × Carries find dev 0
+
+-- the counter meets what this asks
+pub record CounterIsValid : Type 0 where
+  pub plain : IsPlain counter
+  pub obligations : HasValidObligations counter

@@ -1,10 +1,11 @@
 //! What the obligations of a development are, and what they are worth. Each law is the contract of a function that does nothing.
 
-ghost use Rattle.bk_po.specs.Laws.{CounterHasThese, ValidObligationsCarry};
+ghost use Rattle.bk_po.specs.Laws.{CounterHasThese, CounterIsValid, ValidObligationsCarry};
 
 /// The obligations of a counter, to be checked by hand.
 pub fn counter()
-    ensures { CounterHasThese }
+    ensures names { CounterHasThese }
+    ensures valid { CounterIsValid }
 {}
 
 /// What valid obligations are worth: the claims from which translated code follows its machine.
