@@ -1,0 +1,149 @@
+-- The proof obligations of a development (B-Book, Theory of Abstract Machines and Refinement).
+use Rattle.std.specs.Prelude.{ℕ, zero, suc, not, cond, List, [], ◌∷◌, ◌++◌, map, take, length, codes, decimal, slice_index_or}
+use Rattle.std.specs.List.{filter, flat_map}
+use Rattle.bk_form.specs.Formula.{Formula, binary, btrue}
+use Rattle.bk_form.specs.Replacement.{replaced}
+use Rattle.bk_form.specs.declared.operator.BinOp.TheVariants.{And, Imp}
+use Rattle.bk_form.specs.Table.{Table}
+use Rattle.bk_gsl.specs.Run.{looked_up}
+use Rattle.bk_dev.specs.Development.{Level, Development, level_at, body_at, is_implementation, is_btrue, whole}
+use Rattle.bk_dev.specs.Facts.{Each}
+use Rattle.bk_dev.specs.Flattened.{flattened}
+use Rattle.bk_dev.specs.Hypotheses.{conjuncts, link_equation, properties_hypotheses, invariant_hypotheses, assertion_hypotheses, init_hypotheses, body_hypotheses, operation_hypotheses}
+use Rattle.bk_dev.specs.Claims.{beside}
+use Rattle.bk_wp.specs.Box.{box, diamond}
+use Rattle.bk_seq.specs.Valid.{IsValid}
+
+-- what is to be shown, before it is taken apart
+pub record Obligation : Type 0 where
+  pub name : List ℕ
+  pub hypotheses : List Formula
+  pub goal : Formula
+
+-- ---- goals
+abbrev pub joined_onto : Formula → List Formula → Formula
+joined_onto p [] = p
+joined_onto p (q ∷ qs) = joined_onto (binary And p q) qs
+
+abbrev pub joined_all : List Formula → Formula
+joined_all [] = btrue
+joined_all (p ∷ ps) = joined_onto p ps
+
+-- their conjunction, joined to the left, without btrue; btrue where nothing is left
+abbrev pub conjunction : List Formula → Formula
+conjunction ps = joined_all (filter (λ p. not (is_btrue p)) ps)
+
+-- the first, and each other where those before it are true: A & (A => (B & (B => C)))
+abbrev pub each_after : List Formula → Formula
+each_after [] = btrue
+each_after (p ∷ []) = p
+each_after (p ∷ q ∷ qs) = binary And p (binary Imp p (each_after (q ∷ qs)))
+
+-- that the formulas of a clause or of a substitution are defined: btrue, for developments whose formulas are so everywhere
+abbrev pub definedness_goal : Formula
+definedness_goal = btrue
+
+-- all properties of the levels down to k, with the constants' values for the constants
+abbrev pub values_goal : Development → ℕ → Formula
+values_goal dev k = replaced (looked_up dev.values) (conjunction (map (λ l. l.properties) (take (suc k) dev.levels)))
+
+-- the invariant of level k, its links, and the equality of the outputs with those above
+abbrev pub joining_goal : Development → ℕ → List ℕ → List ℕ → Formula
+joining_goal dev k outputs above = conjunction ((level_at dev k).invariant ∷ conjunction (map link_equation (level_at dev k).links) ∷ conjunction (map link_equation (beside outputs above)) ∷ [])
+
+-- the machine's initialisation meets its invariant; each other is answered by the one above
+abbrev pub init_goal : Development → ℕ → Formula
+init_goal dev zero = box dev.table (level_at dev zero).init (level_at dev zero).invariant
+init_goal dev (suc j) = box dev.table (level_at dev (suc j)).init (diamond dev.table (level_at dev j).init (joining_goal dev (suc j) [] []))
+
+-- the machine's operation, without its outermost precondition, keeps the invariant; each whole body below is answered by the body above, without that of its own
+abbrev pub operation_goal : Development → ℕ → ℕ → Formula
+operation_goal dev zero o = box dev.table (body_at dev zero o).sub (level_at dev zero).invariant
+operation_goal dev (suc j) o = box dev.table (whole (body_at dev (suc j) o)) (diamond dev.table (body_at dev j o).sub (joining_goal dev (suc j) (body_at dev (suc j) o).outputs (body_at dev j o).outputs))
+
+-- ---- the list
+pub data Row : Type 0 where
+  properties_defined : Row
+  values_meet : Row
+  invariant_defined : Row
+  assertions_defined : Row
+  assertions_hold : Row
+  initialisation : Row
+  initialisation_defined : Row
+  operations : Row
+  operations_defined : Row
+
+-- within a component, in this order
+abbrev pub rows : List Row
+rows = properties_defined ∷ values_meet ∷ invariant_defined ∷ assertions_defined ∷ assertions_hold ∷ initialisation ∷ initialisation_defined ∷ operations ∷ operations_defined ∷ []
+
+-- 0 to n - 1
+abbrev pub numbers_below : ℕ → List ℕ
+numbers_below zero = []
+numbers_below (suc n) = numbers_below n ++ n ∷ []
+
+-- Component.clause
+abbrev pub named_after : Development → ℕ → List ℕ → List ℕ
+named_after dev k clause = (level_at dev k).name ++ codes "." ++ clause
+
+abbrev pub head_name : Development → ℕ → List ℕ
+head_name dev o = (slice_index_or dev.heads o (record { name = []; inputs = []; outputs = 0 })).name
+
+-- definedness is named .wd, and of what is executed .chk
+abbrev pub suffix : Level → List ℕ
+suffix l = cond (is_implementation l) (codes ".chk") (codes ".wd")
+
+abbrev pub obligation : List ℕ → List Formula → Formula → Obligation
+obligation name hypotheses goal = record { name = name; hypotheses = hypotheses; goal = goal }
+
+-- of one row at level k, operations in the machine's order; of a development whose substitutions are flat
+abbrev pub row_obligations : Development → ℕ → Row → List Obligation
+row_obligations dev k properties_defined = obligation (named_after dev k (codes "PROPERTIES.wd")) (properties_hypotheses dev k) definedness_goal ∷ []
+row_obligations dev k values_meet = cond (is_implementation (level_at dev k)) (obligation (named_after dev k (codes "VALUES")) [] (values_goal dev k) ∷ []) []
+row_obligations dev k invariant_defined = obligation (named_after dev k (codes "INVARIANT.wd")) (invariant_hypotheses dev k) definedness_goal ∷ []
+row_obligations dev k assertions_defined = obligation (named_after dev k (codes "ASSERTIONS.wd")) (assertion_hypotheses dev k) definedness_goal ∷ []
+row_obligations dev k assertions_hold = obligation (named_after dev k (codes "ASSERTIONS")) (assertion_hypotheses dev k) (each_after (level_at dev k).assertions) ∷ []
+row_obligations dev k initialisation = obligation (named_after dev k (codes "INITIALISATION")) (init_hypotheses dev k) (init_goal dev k) ∷ []
+row_obligations dev k initialisation_defined = obligation (named_after dev k (codes "INITIALISATION" ++ suffix (level_at dev k))) (init_hypotheses dev k) definedness_goal ∷ []
+row_obligations dev k operations = map (λ o. obligation (named_after dev k (head_name dev o)) (operation_hypotheses dev k o) (operation_goal dev k o)) (numbers_below (length dev.heads))
+row_obligations dev k operations_defined = map (λ o. obligation (named_after dev k (head_name dev o ++ suffix (level_at dev k))) (body_hypotheses dev k o) definedness_goal) (numbers_below (length dev.heads))
+
+-- of a development whose substitutions are flat: by levels, rows and operations
+abbrev pub flat_obligations : Development → List Obligation
+flat_obligations dev = flat_map (λ k. flat_map (row_obligations dev k) rows) (numbers_below (length dev.levels))
+
+-- of a development
+abbrev pub obligations : Development → List Obligation
+obligations dev = flat_obligations (flattened dev)
+
+-- ---- sequents
+-- hypotheses and a goal
+abbrev pub Sequent : Type 0
+Sequent = List Formula × Formula
+
+-- a goal taken apart: both sides of a conjunction, the right side of an implication under the conjuncts of the left one, nothing for btrue
+abbrev pub split : List Formula → Formula → List Sequent
+split hyps (binary And p q) = split hyps p ++ split hyps q
+split hyps (binary Imp p q) = split (hyps ++ conjuncts p) q
+split hyps btrue = []
+split hyps p = (hyps, p) ∷ []
+
+-- name.k, name.k+1 and so on
+abbrev pub numbered_from : ℕ → List ℕ → List Sequent → List (List ℕ × Sequent)
+numbered_from k name [] = []
+numbered_from k name (s ∷ ss) = (name ++ codes "." ++ decimal k, s) ∷ numbered_from (suc k) name ss
+
+abbrev pub numbered : List Obligation → List (List ℕ × Sequent)
+numbered os = flat_map (λ o. numbered_from 1 o.name (split o.hypotheses o.goal)) os
+
+-- the sequents of each name, numbered from 1
+abbrev pub numbered_obligations : Development → List (List ℕ × Sequent)
+numbered_obligations dev = numbered (obligations dev)
+
+-- each is valid
+abbrev pub AreValid : Table → List (List ℕ × Sequent) → Type 0
+AreValid table ss = Each (λ s. IsValid table s.1.0 s.1.1) ss
+
+-- all sequents of the development are valid, over the table with all copies
+abbrev pub HasValidObligations : Development → Type 0
+HasValidObligations dev = AreValid (flattened dev).table (numbered_obligations dev)

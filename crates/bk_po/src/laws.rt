@@ -1,0 +1,14 @@
+//! What the obligations of a development are, and what they are worth. Each law is the contract of a function that does nothing.
+
+ghost use Rattle.bk_po.specs.Laws.{CounterHasThese, CounterIsValid, ValidObligationsCarry};
+
+/// The obligations of a counter, to be checked by hand.
+pub fn counter()
+    ensures names { CounterHasThese }
+    ensures valid { CounterIsValid }
+{}
+
+/// What valid obligations are worth: the claims from which translated code follows its machine.
+pub fn obligations_carry()
+    ensures { ValidObligationsCarry }
+{}

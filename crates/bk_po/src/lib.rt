@@ -1,0 +1,4 @@
+//! The proof obligations of a development.
+#![tactic(auto)]
+
+pub mod laws;
