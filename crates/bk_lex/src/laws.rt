@@ -1,0 +1,9 @@
+//! What the definitions imply.
+
+ghost use Rattle.bk_lex.specs.Laws.{TokensAreOne};
+
+/// A text has at most one list of tokens.
+pub fn tokens_are_one()
+    ensures { TokensAreOne }
+{
+}
