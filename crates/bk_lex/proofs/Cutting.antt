@@ -1,8 +1,10 @@
 -- A text, token by token.
-use Rattle.std.proofs.Common.{◌≡◌, ◌≢◌, ℕ, ◌+◌, ◌-◌, ◌<◌, ◌≤◌, Bool, true, false, List, [], ◌∷◌, ◌++◌, length, refl, ap, sym, ◌∙◌, arith, subst, append_assoc, append-nil, length-append, drop, IsUtf8, ◌⊎◌, inl, inr}
+use Rattle.std.proofs.Common.{◌≡◌, ◌≢◌, ℕ, ◌+◌, ◌-◌, ◌<◌, ◌≤◌, Bool, true, false, List, [], ◌∷◌, ◌++◌, length, refl, ap, sym, ◌∙◌, arith, subst, append_assoc, append-nil, length-append, drop, IsUtf8, ◌⊎◌, inl, inr, Result, Ok, Err, MatchResult, IfErr}
 use Rattle.std.specs.Prelude.{codes}
 use Rattle.bk_form.specs.declared.token.Token.{Token}
 use Rattle.bk_form.specs.declared.token.TokenKind.{TokenKind}
+use Rattle.bk_form.specs.declared.token.TokenKind.TheVariants.{Sign}
+use Rattle.std.proofs.lemmas.Str.{utf8_valid_len-IsValidUpTo}
 use Rattle.bk_lex.specs.Lexis.{Gap, blank, block, line, gap_text, IsGap, AreGaps, NoComment, BeginsWith, Fits, IsWritten, Cut, AreTokens}
 use Rattle.bk_lex.specs.Faults.{IsOpenComment, BeginsNothing, BeginsTooWide, BeginsToken, StandsAt, IsFaultOf}
 use Rattle.bk_lex.specs.Parts.{NoGap, IsGapFault, IsTokenFault, IsFirstToken, IsBehindGaps}
@@ -10,7 +12,7 @@ use Rattle.bk_lex.specs.declared.fault.LexFault.{LexFault}
 use Rattle.bk_lex.specs.declared.fault.LexFault.TheVariants.{NotUtf8, BadChar, OpenComment, NumberTooWide, Limit, Memory}
 use Rattle.bk_lex.proofs.Characters.{class_of}
 use Rattle.bk_lex.proofs.Gaps.{gaps_append, gaps_once, no_gaps_left, Settled, blank_no_comment, block_no_line}
-use Rattle.bk_lex.specs.Laws.{IsOfText}
+use Rattle.bk_lex.specs.Laws.{IsOfText, HasNoTokens}
 use Rattle.bk_lex.proofs.Spelling.{kind_class, written_class, small_class, begins_once, begins_no_gap}
 
 -- ---- one step more
@@ -115,7 +117,7 @@ pub end_dead : Dead []
 end_dead kind after b f = let some : length after < 0 = begins_some kind [] after b in omega arith
 
 pub tokens_are_one : (text : List ℕ) (one other : List Token) → AreTokens text one → AreTokens text other → one ≡ other
-tokens_are_one text one other c d = elim (compared (length text) text one other [] [] c d end_settled end_settled) [
+tokens_are_one text one other c d = elim (compared (length text) text one other [] [] c.1 d.1 end_settled end_settled) [
   | inl g ↦ (
       let last : (g.0 ≡ []) × (◌≡◌ {A = List ℕ} [] []) = dead_end (length text) [] g.0 [] end_settled end_dead g.2 in
       sym (append-nil one) ∙ ap (λ w. one ++ w) (sym last.0) ∙ sym g.1
@@ -155,7 +157,7 @@ wide_some rest w = let less : length w.after < length rest = begins_some w.kind 
 
 -- where a text's cut is stuck before its end, it has no tokens
 stuck : (text : List ℕ) (found tokens : List Token) (rest : List ℕ) → Cut (length text) text found rest → Settled rest → Dead rest → 0 < length rest → AreTokens text tokens → ⊥
-stuck text found tokens rest c s d some a = elim (compared (length text) text found tokens rest [] c a s end_settled) [
+stuck text found tokens rest c s d some a = elim (compared (length text) text found tokens rest [] c a.1 s end_settled) [
   | inl g ↦ (
       let last : (g.0 ≡ []) × (rest ≡ []) = dead_end (length text) rest g.0 [] s d g.2 in
       let none : length rest ≡ 0 = ap length last.1 in
@@ -171,7 +173,7 @@ stuck text found tokens rest c s d some a = elim (compared (length text) text fo
 past_limit : (text : List ℕ) (found tokens : List Token) (rest : List ℕ) → Cut (length text) text found rest → BeginsToken rest → length found ≡ 1000000 → AreTokens text tokens → length tokens ≤ 1000000 → ⊥
 past_limit text found tokens rest c b l a few =
     let less : length b.after < length rest = begins_some b.kind rest b.after b.begins in
-    elim (compared (length text) text found tokens rest [] c a (begins_no_gap b.kind rest b.after b.begins).no_gap end_settled) [
+    elim (compared (length text) text found tokens rest [] c a.1 (begins_no_gap b.kind rest b.after b.begins).no_gap end_settled) [
       | inl g ↦ (
           let sizes : length tokens ≡ length found + length g.0 = ap length g.1 ∙ length-append found g.0 in
           let empty : rest ≡ [] = no_more (length text) g.0 rest [] (omega arith) (begins_no_gap b.kind rest b.after b.begins).no_gap g.2 in
@@ -189,14 +191,112 @@ past_limit text found tokens rest c b l a few =
     no_more total [] x y z s k = no_gaps_left k.0 x y s k.1
     no_more total (t ∷ more) x y z s k = absurd (omega arith)
 
-pub faults_have_no_tokens : (text : List ℕ) (fault : LexFault) (tokens : List Token) → IsUtf8 text → IsFaultOf text fault → IsOfText fault → AreTokens text tokens → length tokens ≤ 1000000 → ⊥
-faults_have_no_tokens text (NotUtf8 place) tokens u f o a l = f.0 u
-faults_have_no_tokens text (BadChar place) tokens u f o a l =
+pub faults_have_no_tokens : (text : List ℕ) (fault : LexFault) (tokens : List Token) → IsFaultOf text fault → IsOfText fault → AreTokens text tokens → length tokens ≤ 1000000 → ⊥
+faults_have_no_tokens text (NotUtf8 place) tokens f o a l = f.0 a.0
+faults_have_no_tokens text (BadChar place) tokens f o a l =
     stuck text f.1 tokens f.2.rest f.2.cut f.2.this.no_gap (nothing_dead f.2.rest f.2.this) f.2.this.some a
-faults_have_no_tokens text (OpenComment place) tokens u f o a l =
+faults_have_no_tokens text (OpenComment place) tokens f o a l =
     stuck text f.1 tokens f.2.rest f.2.cut (open_settled f.2.rest f.2.this) (open_dead f.2.rest f.2.this) (open_some f.2.rest f.2.this) a
-faults_have_no_tokens text (NumberTooWide place) tokens u f o a l =
+faults_have_no_tokens text (NumberTooWide place) tokens f o a l =
     stuck text f.1 tokens f.2.rest f.2.cut (wide_settled f.2.rest f.2.this) (wide_dead f.2.rest f.2.this) (wide_some f.2.rest f.2.this) a
-faults_have_no_tokens text (Limit place) tokens u f o a l =
+faults_have_no_tokens text (Limit place) tokens f o a l =
     past_limit text f.1 tokens f.2.rest f.2.cut f.2.this f.3 a l
-faults_have_no_tokens text Memory tokens u f o a l = o
+faults_have_no_tokens text Memory tokens f o a l = o
+
+-- ---- a text has one fault
+-- two cuts that are stuck end at one place
+stuck_once : (text : List ℕ) (one other : List Token) (x y : List ℕ) (i j : ℕ) → Cut (length text) text one x → Cut (length text) text other y → Settled x → Settled y → Dead x → Dead y → i + length x ≡ length text → j + length y ≡ length text → (x ≡ y) × (i ≡ j)
+stuck_once text one other x y i j c d s t e f p q =
+    let same : x ≡ y = elim (compared (length text) text one other x y c d s t) [
+      | inl g ↦ (dead_end (length text) x g.0 y s e g.2).1
+      | inr g ↦ sym (dead_end (length text) y g.0 x t f g.2).1
+    ] in
+    let lengths : length x ≡ length y = ap length same in
+    (same, omega arith)
+
+token_settled : (rest : List ℕ) → BeginsToken rest → Settled rest
+token_settled rest b = (begins_no_gap b.kind rest b.after b.begins).no_gap
+
+-- a cut with fewer tokens that goes on ends at the same place or is one of more tokens
+same_end : (total : ℕ) (more : List Token) (x y : List ℕ) → length more ≤ 0 → Settled x → Cut total x more y → x ≡ y
+same_end total [] x y z s k = no_gaps_left k.0 x y s k.1
+same_end total (t ∷ more) x y z s k = absurd (omega arith)
+
+limit_stuck : (text : List ℕ) (one other : List Token) (x y : List ℕ) → Cut (length text) text one x → Cut (length text) text other y → BeginsToken x → length one ≡ 1000000 → Settled y → Dead y → length other ≤ 1000000 → ⊥
+limit_stuck text one other x y c d b l t f few = elim (compared (length text) text one other x y c d (token_settled x b) t) [
+  | inl g ↦ (
+      let sizes : length other ≡ length one + length g.0 = ap length g.1 ∙ length-append one g.0 in
+      let same : x ≡ y = same_end (length text) g.0 x y (omega arith) (token_settled x b) g.2 in
+      f b.kind b.after (subst (λ w. BeginsWith b.kind w b.after) same b.begins) b.fits
+      )
+  | inr g ↦ (
+      let same : y ≡ x = (dead_end (length text) y g.0 x t f g.2).1 in
+      f b.kind b.after (subst (λ w. BeginsWith b.kind w b.after) (sym same) b.begins) b.fits
+      )
+]
+
+limit_once : (text : List ℕ) (one other : List Token) (x y : List ℕ) (i j : ℕ) → Cut (length text) text one x → Cut (length text) text other y → BeginsToken x → BeginsToken y → length one ≡ 1000000 → length other ≡ 1000000 → i + length x ≡ length text → j + length y ≡ length text → i ≡ j
+limit_once text one other x y i j c d b e l m p q =
+    let same : x ≡ y = elim (compared (length text) text one other x y c d (token_settled x b) (token_settled y e)) [
+      | inl g ↦ (
+          let sizes : length other ≡ length one + length g.0 = ap length g.1 ∙ length-append one g.0 in
+          same_end (length text) g.0 x y (omega arith) (token_settled x b) g.2
+          )
+      | inr g ↦ (
+          let sizes : length one ≡ length other + length g.0 = ap length g.1 ∙ length-append other g.0 in
+          sym (same_end (length text) g.0 y x (omega arith) (token_settled y e) g.2)
+          )
+    ] in
+    let lengths : length x ≡ length y = ap length same in
+    omega arith
+
+nothing_no_open : (x y : List ℕ) → x ≡ y → BeginsNothing x → IsOpenComment y → ⊥
+nothing_no_open x y e n o = n.no_token (Sign 49) (codes "/") (42 ∷ o.body) refl (e ∙ o.opens)
+
+nothing_no_wide : (x y : List ℕ) → x ≡ y → BeginsNothing x → BeginsTooWide y → ⊥
+nothing_no_wide x y e n w = n.no_token w.kind w.begins.written w.after w.begins.spelling (e ∙ w.begins.splits)
+
+open_no_wide : (x y : List ℕ) → x ≡ y → IsOpenComment x → BeginsTooWide y → ⊥
+open_no_wide x y e o w = w.begins.comment.no_block o.body (sym e ∙ o.opens)
+
+pub faults_are_one : (text : List ℕ) (one other : LexFault) → IsFaultOf text one → IsOfText one → IsFaultOf text other → IsOfText other → one ≡ other
+faults_are_one text (NotUtf8 i) (NotUtf8 j) f o g p = ap (λ k. NotUtf8 k) (sym (utf8_valid_len-IsValidUpTo text i f.1) ∙ utf8_valid_len-IsValidUpTo text j g.1)
+faults_are_one text (NotUtf8 i) (BadChar j) f o g p = absurd (f.0 g.0)
+faults_are_one text (NotUtf8 i) (OpenComment j) f o g p = absurd (f.0 g.0)
+faults_are_one text (NotUtf8 i) (NumberTooWide j) f o g p = absurd (f.0 g.0)
+faults_are_one text (NotUtf8 i) (Limit j) f o g p = absurd (f.0 g.0)
+faults_are_one text (NotUtf8 i) Memory f o g p = absurd p
+faults_are_one text (BadChar i) (NotUtf8 j) f o g p = absurd (g.0 f.0)
+faults_are_one text (BadChar i) (BadChar j) f o g p = ap (λ k. BadChar k) (stuck_once text f.1 g.1 f.2.rest g.2.rest i j f.2.cut g.2.cut f.2.this.no_gap g.2.this.no_gap (nothing_dead f.2.rest f.2.this) (nothing_dead g.2.rest g.2.this) f.2.left g.2.left).1
+faults_are_one text (BadChar i) (OpenComment j) f o g p = absurd (nothing_no_open f.2.rest g.2.rest (stuck_once text f.1 g.1 f.2.rest g.2.rest i j f.2.cut g.2.cut f.2.this.no_gap (open_settled g.2.rest g.2.this) (nothing_dead f.2.rest f.2.this) (open_dead g.2.rest g.2.this) f.2.left g.2.left).0 f.2.this g.2.this)
+faults_are_one text (BadChar i) (NumberTooWide j) f o g p = absurd (nothing_no_wide f.2.rest g.2.rest (stuck_once text f.1 g.1 f.2.rest g.2.rest i j f.2.cut g.2.cut f.2.this.no_gap (wide_settled g.2.rest g.2.this) (nothing_dead f.2.rest f.2.this) (wide_dead g.2.rest g.2.this) f.2.left g.2.left).0 f.2.this g.2.this)
+faults_are_one text (BadChar i) (Limit j) f o g p = absurd (limit_stuck text g.1 f.1 g.2.rest f.2.rest g.2.cut f.2.cut g.2.this g.3 f.2.this.no_gap (nothing_dead f.2.rest f.2.this) f.3)
+faults_are_one text (BadChar i) Memory f o g p = absurd p
+faults_are_one text (OpenComment i) (NotUtf8 j) f o g p = absurd (g.0 f.0)
+faults_are_one text (OpenComment i) (BadChar j) f o g p = absurd (nothing_no_open g.2.rest f.2.rest (sym (stuck_once text f.1 g.1 f.2.rest g.2.rest i j f.2.cut g.2.cut (open_settled f.2.rest f.2.this) g.2.this.no_gap (open_dead f.2.rest f.2.this) (nothing_dead g.2.rest g.2.this) f.2.left g.2.left).0) g.2.this f.2.this)
+faults_are_one text (OpenComment i) (OpenComment j) f o g p = ap (λ k. OpenComment k) (stuck_once text f.1 g.1 f.2.rest g.2.rest i j f.2.cut g.2.cut (open_settled f.2.rest f.2.this) (open_settled g.2.rest g.2.this) (open_dead f.2.rest f.2.this) (open_dead g.2.rest g.2.this) f.2.left g.2.left).1
+faults_are_one text (OpenComment i) (NumberTooWide j) f o g p = absurd (open_no_wide f.2.rest g.2.rest (stuck_once text f.1 g.1 f.2.rest g.2.rest i j f.2.cut g.2.cut (open_settled f.2.rest f.2.this) (wide_settled g.2.rest g.2.this) (open_dead f.2.rest f.2.this) (wide_dead g.2.rest g.2.this) f.2.left g.2.left).0 f.2.this g.2.this)
+faults_are_one text (OpenComment i) (Limit j) f o g p = absurd (limit_stuck text g.1 f.1 g.2.rest f.2.rest g.2.cut f.2.cut g.2.this g.3 (open_settled f.2.rest f.2.this) (open_dead f.2.rest f.2.this) f.3)
+faults_are_one text (OpenComment i) Memory f o g p = absurd p
+faults_are_one text (NumberTooWide i) (NotUtf8 j) f o g p = absurd (g.0 f.0)
+faults_are_one text (NumberTooWide i) (BadChar j) f o g p = absurd (nothing_no_wide g.2.rest f.2.rest (sym (stuck_once text f.1 g.1 f.2.rest g.2.rest i j f.2.cut g.2.cut (wide_settled f.2.rest f.2.this) g.2.this.no_gap (wide_dead f.2.rest f.2.this) (nothing_dead g.2.rest g.2.this) f.2.left g.2.left).0) g.2.this f.2.this)
+faults_are_one text (NumberTooWide i) (OpenComment j) f o g p = absurd (open_no_wide g.2.rest f.2.rest (sym (stuck_once text f.1 g.1 f.2.rest g.2.rest i j f.2.cut g.2.cut (wide_settled f.2.rest f.2.this) (open_settled g.2.rest g.2.this) (wide_dead f.2.rest f.2.this) (open_dead g.2.rest g.2.this) f.2.left g.2.left).0) g.2.this f.2.this)
+faults_are_one text (NumberTooWide i) (NumberTooWide j) f o g p = ap (λ k. NumberTooWide k) (stuck_once text f.1 g.1 f.2.rest g.2.rest i j f.2.cut g.2.cut (wide_settled f.2.rest f.2.this) (wide_settled g.2.rest g.2.this) (wide_dead f.2.rest f.2.this) (wide_dead g.2.rest g.2.this) f.2.left g.2.left).1
+faults_are_one text (NumberTooWide i) (Limit j) f o g p = absurd (limit_stuck text g.1 f.1 g.2.rest f.2.rest g.2.cut f.2.cut g.2.this g.3 (wide_settled f.2.rest f.2.this) (wide_dead f.2.rest f.2.this) f.3)
+faults_are_one text (NumberTooWide i) Memory f o g p = absurd p
+faults_are_one text (Limit i) (NotUtf8 j) f o g p = absurd (g.0 f.0)
+faults_are_one text (Limit i) (BadChar j) f o g p = absurd (limit_stuck text f.1 g.1 f.2.rest g.2.rest f.2.cut g.2.cut f.2.this f.3 g.2.this.no_gap (nothing_dead g.2.rest g.2.this) g.3)
+faults_are_one text (Limit i) (OpenComment j) f o g p = absurd (limit_stuck text f.1 g.1 f.2.rest g.2.rest f.2.cut g.2.cut f.2.this f.3 (open_settled g.2.rest g.2.this) (open_dead g.2.rest g.2.this) g.3)
+faults_are_one text (Limit i) (NumberTooWide j) f o g p = absurd (limit_stuck text f.1 g.1 f.2.rest g.2.rest f.2.cut g.2.cut f.2.this f.3 (wide_settled g.2.rest g.2.this) (wide_dead g.2.rest g.2.this) g.3)
+faults_are_one text (Limit i) (Limit j) f o g p = ap (λ k. Limit k) (limit_once text f.1 g.1 f.2.rest g.2.rest i j f.2.cut g.2.cut f.2.this g.2.this f.3 g.3 f.2.left g.2.left)
+faults_are_one text (Limit i) Memory f o g p = absurd p
+faults_are_one text Memory (NotUtf8 j) f o g p = absurd o
+faults_are_one text Memory (BadChar j) f o g p = absurd o
+faults_are_one text Memory (OpenComment j) f o g p = absurd o
+faults_are_one text Memory (NumberTooWide j) f o g p = absurd o
+faults_are_one text Memory (Limit j) f o g p = absurd o
+faults_are_one text Memory Memory f o g p = absurd o
+
+pub no_tokens : {T : Type 0} (r : Result T LexFault) (P : T → Type 0) (text : List ℕ) → MatchResult r P (IsFaultOf text) → IfErr r (HasNoTokens text)
+no_tokens (Ok x) P text h = tt
+no_tokens (Err fault) P text h = λ o tokens a l. faults_have_no_tokens text fault tokens h o a l

@@ -19,9 +19,9 @@ IsOfText (NumberTooWide place) = Unit {0}
 IsOfText (Limit place) = Unit {0}
 IsOfText Memory = ⊥
 
--- a text with a fault has no list of at most 1000000 tokens
-abbrev pub FaultsHaveNoTokens : Type 0
-FaultsHaveNoTokens = (text : List ℕ) (fault : LexFault) (tokens : List Token) → IsFaultOf text fault → IsOfText fault → AreTokens text tokens → length tokens ≤ 1000000 → ⊥
+-- the text has no list of at most 1000000 tokens, unless only memory was wanting
+abbrev pub HasNoTokens : List ℕ → LexFault → Type 0
+HasNoTokens text fault = IsOfText fault → (tokens : List Token) → AreTokens text tokens → length tokens ≤ 1000000 → ⊥
 
 -- a text has at most one fault
 abbrev pub FaultsAreOne : Type 0

@@ -2,7 +2,7 @@
 -- Texts are lists of bytes in UTF-8. What an identifier is comes from Unicode Standard Annex 31 (XID_Start, XID_Continue).
 use Rattle.std.specs.Prelude.{◌≡◌, ◌≢◌, ℕ, ℤ, pos, ◌+◌, ◌-◌, ◌*◌, ◌^◌, ◌≤◌, ◌<◌, Bool, true, false, not, cond, ◌&&◌, ◌||◌, nat_eq, nat_le, IsTrue, List, [], ◌∷◌, ◌++◌, length, Option, Some, None, codes}
 use Rattle.std.specs.List.{list_all}
-use Rattle.std.specs.Str.{bytes_eq, encode_utf8_all}
+use Rattle.std.specs.Str.{bytes_eq, encode_utf8_all, IsUtf8}
 use Rattle.unicode_ident.specs.Ident.{is_xid_start, is_xid_continue}
 use Rattle.bk_ops.specs.Signs.{sign_texts}
 use Rattle.bk_ops.specs.Words.{word_texts}
@@ -130,6 +130,6 @@ Cut total text (token ∷ tokens) rest =
     (token.start + length here ≡ total) × (token.end + length after ≡ total) ×
     Cut total after tokens rest
 
--- the tokens of the text
+-- the tokens of the text, which is UTF-8
 abbrev pub AreTokens : List ℕ → List Token → Type 0
-AreTokens text tokens = Cut (length text) text tokens []
+AreTokens text tokens = IsUtf8 text × Cut (length text) text tokens []

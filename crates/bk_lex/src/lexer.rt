@@ -3,6 +3,7 @@
 ghost use Rattle.std.specs.Prelude.{◌≤◌, ◌++◌, length, IfOk, IfErr, MatchResult};
 ghost use Rattle.bk_lex.specs.Lexis.{NoComment, AreTokens};
 ghost use Rattle.bk_lex.specs.Faults.{IsFaultOf};
+ghost use Rattle.bk_lex.specs.Laws.{HasNoTokens};
 ghost use Rattle.bk_lex.specs.Parts.{IsFirstIdentifier, IsFirstToken, IsTokenFault, IsAnswer};
 
 use crate::fault::LexFault;
@@ -24,6 +25,7 @@ pub fn tokens(alloc: Global, text: &[u8]) -> Result<Vec<Token>, LexFault>
     ensures ok { IfOk result (λ found. AreTokens text.now found.items) }
     ensures limit { IfOk result (λ found. length found.items ≤ 1000000) }
     ensures fault { IfErr result (IsFaultOf text.now) }
+    ensures none { IfErr result (HasNoTokens text.now) }
 {
     match str::from_utf8(text) {
         Ok(text) => cut(alloc, text),

@@ -11,3 +11,6 @@ mod table;
 
 pub use fault::LexFault;
 pub use lexer::tokens;
+
+#[cfg(test)]
+mod tests;

@@ -1,8 +1,6 @@
-use Rattle.std.proofs.Common.{◌≡◌, ◌≢◌, ◌++◌, ◌+◌, ◌-◌, ℕ, List, [], length, drop, refl, sym, ap, ◌∙◌, arith, append_assoc}
+use Rattle.std.proofs.Common.{◌≡◌, ◌++◌, [], refl, sym, ap, ◌∙◌, arith}
 use Rattle.std.specs.Prelude.{codes}
-use Rattle.std.proofs.lemmas.Str.Pattern.{split_text_parts}
-use Rattle.bk_lex.specs.Lexis.{Gap, block, line, gap_text, IsGap}
-use Rattle.bk_lex.specs.Parts.{IsRun}
+use Rattle.bk_lex.specs.Lexis.{block, line, IsGap}
 use Rattle.bk_lex.proofs.Gaps.{block_gap, line_gap, no_close}
 use Rattle.bk_lex.proofs.gap.after_comment.Goals as goal
 

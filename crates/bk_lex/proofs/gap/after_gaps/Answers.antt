@@ -1,6 +1,5 @@
-use Rattle.std.proofs.Common.{◌≡◌, ◌≤◌, ◌<◌, ◌∷◌, [], ◌++◌, map, length, List, arith, rules}
-use Rattle.bk_lex.specs.Lexis.{is_blank, Gap, blank, AreGaps}
-use Rattle.bk_lex.specs.Parts.{begins, IsRun}
+use Rattle.std.proofs.Common.{◌≤◌, ◌<◌, ◌∷◌, [], ◌++◌, map, length, arith}
+use Rattle.bk_lex.specs.Lexis.{is_blank, blank}
 use Rattle.bk_lex.proofs.Gaps.{blanks_behind, rest_shorter, more_gaps, gap_shorter, no_gap, gap_fault_behind, err_matches}
 use Rattle.bk_lex.proofs.gap.after_gaps.Goals as goal
 

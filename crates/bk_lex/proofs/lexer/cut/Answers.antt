@@ -1,7 +1,7 @@
-use Rattle.std.proofs.Common.{◌≡◌, ◌≢◌, ◌≤◌, ◌<◌, ◌+◌, ◌++◌, List, ℕ, length, arith, rules, IsUtf8}
+use Rattle.std.proofs.Common.{◌≡◌, ◌≤◌, ◌<◌, ◌+◌, length, arith}
 use Rattle.bk_lex.specs.Lexis.{Cut}
 use Rattle.bk_lex.proofs.Gaps.{err_matches}
-use Rattle.bk_lex.proofs.Cutting.{cut_gaps, cut_token, pushed, length-pushed, begins_some, gap_fault, token_fault, limit_fault}
+use Rattle.bk_lex.proofs.Cutting.{cut_gaps, pushed, length-pushed, begins_some, gap_fault}
 use Rattle.bk_lex.proofs.lexer.cut.Goals as goal
 
 pub returns-in_err-rest-2 : goal.returns-in_err-rest-2

@@ -1,5 +1,5 @@
-use Rattle.std.proofs.Common.{◌≡◌, ◌<◌, ◌^◌, ◌++◌, List, ℕ, refl, sym, ◌∙◌, subst, ap}
-use Rattle.bk_form.specs.declared.token.TokenKind.TheVariants.{Name, LevelName, BoundName, Number, Sign, Word}
+use Rattle.std.proofs.Common.{◌≡◌, ◌<◌, ◌^◌, ◌++◌, List, ℕ, refl, sym, ◌∙◌, subst}
+use Rattle.bk_form.specs.declared.token.TokenKind.TheVariants.{Name, LevelName}
 use Rattle.bk_lex.specs.Lexis.{BeginsWith, numeral_from}
 use Rattle.bk_lex.proofs.Reading.{name_token, word_token, level_token}
 use Rattle.bk_lex.proofs.lexer.first_name.Goals as goal

@@ -1,6 +1,6 @@
-use Rattle.std.proofs.Common.{◌≡◌, ◌<◌, ◌^◌, ◌++◌, List, ℕ, pos, to_z, of_z, to_z-of_z, arith, rules, refl, sym, ◌∙◌, subst, ap}
+use Rattle.std.proofs.Common.{◌≡◌, ◌<◌, ◌^◌, pos, to_z, of_z, to_z-of_z, arith, rules, refl, sym, ◌∙◌, subst, ap}
 use mir.Syntax.{w128}
-use Rattle.bk_form.specs.declared.token.TokenKind.TheVariants.{Name, LevelName, BoundName, Number, Sign, Word}
+use Rattle.bk_form.specs.declared.token.TokenKind.TheVariants.{BoundName, Number}
 use Rattle.bk_lex.specs.Lexis.{BeginsWith, numeral_from}
 use Rattle.bk_lex.proofs.Reading.{number_token, bound_token, sign_token, no_token, wide_number}
 use Rattle.bk_lex.proofs.lexer.first_token.Goals as goal

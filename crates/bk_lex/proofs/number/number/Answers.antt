@@ -1,4 +1,4 @@
-use Rattle.std.proofs.Common.{◌<◌, ◌≤◌, ◌+◌, ◌*◌, ◌-◌, ◌^◌, get_or, arith}
+use Rattle.std.proofs.Common.{◌≤◌, ◌+◌, ◌*◌, ◌-◌, ◌^◌, get_or, arith}
 use Rattle.bk_lex.proofs.Runs.{too_large, none_iff}
 use Rattle.bk_lex.proofs.number.number.Goals as goal
 

@@ -1,8 +1,6 @@
-use Rattle.std.proofs.Common.{◌≡◌, ◌++◌, List, [], ℕ, length, true, false, take, drop, subst, sym, ◌∙◌, rules, arith}
-use Rattle.std.specs.Char.{encode_utf8}
-use Rattle.unicode_ident.specs.Ident.{is_xid_start}
-use Rattle.bk_lex.specs.Parts.{BeginsNoIdentifier, IsFirstIdentifier}
-use Rattle.bk_lex.proofs.Identifiers.{no_word_in_nothing, no_word, first_word, nothing, none_in_nothing}
+use Rattle.std.proofs.Common.{◌≡◌, length, take, drop, subst, sym, ◌∙◌}
+use Rattle.bk_lex.specs.Parts.{IsFirstIdentifier}
+use Rattle.bk_lex.proofs.Identifiers.{no_word, first_word, nothing, none_in_nothing}
 use Rattle.bk_lex.proofs.part.first_identifier.Goals as goal
 
 pub returns-in_err-next : goal.returns-in_err-next

@@ -1,7 +1,7 @@
-use Rattle.std.proofs.Common.{◌≡◌, true, length, take, drop, subst, sym, ◌∙◌, IsUtf8, rules}
+use Rattle.std.proofs.Common.{◌≡◌, true, length, take, subst, sym, ◌∙◌, IsUtf8}
 use Rattle.std.specs.Prelude.{take_while}
 use Rattle.bk_lex.specs.Lexis.{is_digit}
-use Rattle.bk_lex.specs.Parts.{IsRun, IsFirstNumeral, begins}
+use Rattle.bk_lex.specs.Parts.{IsRun, begins}
 use Rattle.bk_lex.proofs.Runs.{run_at, digits_boundary, first_numeral, begins_at}
 use Rattle.bk_lex.proofs.part.first_numeral.Goals as goal
 

@@ -1,9 +1,8 @@
-use Rattle.std.proofs.Common.{◌≡◌, ◌≢◌, ℕ, ◌<◌, ◌≤◌, ◌++◌, List, length, take, drop, Some, IsUtf8, refl, sym, ◌∙◌, subst, arith, inl, inr, take-append-drop}
-use Rattle.std.specs.List.{list_all}
-use Rattle.std.proofs.lemmas.Bool.{cases_lt, cases_order}
+use Rattle.std.proofs.Common.{◌≡◌, ◌≤◌, length, take, Some, sym, subst, arith, inl, inr}
+use Rattle.std.proofs.lemmas.Bool.{cases_lt}
 use Rattle.bk_lex.specs.Lexis.{sign_number}
-use Rattle.bk_lex.specs.Parts.{IsFirstSign, NoSignOfLength, BeginsNoSign}
-use Rattle.bk_lex.proofs.Numbered.{sign_length, sign_ascii}
+use Rattle.bk_lex.specs.Parts.{IsFirstSign, NoSignOfLength}
+use Rattle.bk_lex.proofs.Numbered.{sign_ascii}
 use Rattle.bk_lex.proofs.Runs.{ascii_boundary}
 use Rattle.bk_lex.proofs.Signs.{first_sign, no_sign}
 use Rattle.bk_lex.proofs.part.first_sign.Goals as goal
