@@ -3,6 +3,7 @@
 ghost use Rattle.std.specs.Prelude.{◌≡◌, map};
 ghost use Rattle.std.specs.List.{range_with_len};
 ghost use Rattle.bk_ops.specs.Rows.{TextsDiffer, number_of, text_of};
+ghost use Rattle.bk_ops.specs.Signs.{sign_texts};
 ghost use Rattle.bk_ops.specs.Words.{word_texts};
 
 use crate::row::{NO_OPERATOR, OpRow};
@@ -26,6 +27,7 @@ macro_rules! row {
 /// The signs.
 pub fn signs() -> [OpRow; 57]
     ensures texts { TextsDiffer result }
+    ensures signs { map text_of result ≡ sign_texts }
     ensures numbers { map number_of result ≡ range_with_len 0 57 }
 {
     [

@@ -1,0 +1,9 @@
+pub mod Numbered
+pub mod Characters
+pub mod Runs
+pub mod Gaps
+pub mod Identifiers
+pub mod Spelling
+pub mod Signs
+pub mod Reading
+pub mod Cutting

@@ -1,0 +1,4 @@
+pub mod Lexis
+pub mod Faults
+pub mod Parts
+pub mod Laws
