@@ -16,26 +16,26 @@ use Rattle.bk_gen.specs.Simple.{IsSimpleTerm, IsSimpleStatement}
 use Rattle.bk_front.specs.FirstForm.{IsFirstForm}
 use Rattle.bk_front.proofs.Homes.{all-ints}
 
-small-number : (n : ℕ) → n ≤ 2147483647 → (neg_ℤ (pos 2147483647) ≤ℤ pos n) × (pos n ≤ℤ pos 2147483647)
-small-number n h = (omega (arith, ints), omega (arith, ints))
+pub small_number : (n : ℕ) → n ≤ 2147483647 → (neg_ℤ (pos 2147483647) ≤ℤ pos n) × (pos n ≤ℤ pos 2147483647)
+small_number n h = (omega (arith, ints), omega (arith, ints))
 
 module _ (x : ℕ) where
-  side-simple : (e : RightSide) → IsSide e → IsSimpleTerm (pos 2147483647) (side_of x e)
-  side-simple (Constant n) h = small-number n h
-  side-simple Variable h = tt
+  side_simple : (e : RightSide) → IsSide e → IsSimpleTerm (pos 2147483647) (side_of x e)
+  side_simple (Constant n) h = small_number n h
+  side_simple Variable h = tt
 
-  body-simple : (name : List ℕ) (r : ℕ) (a : Action) → IsAction name a → IsSimpleStatement (pos 2147483647) (body_of x r a).sub
-  body-simple name r Skip h = tt
-  body-simple name r (Set e) h = side-simple e h
-  body-simple name r (Answer t e) h = side-simple e h.2
+  pub body_simple : (name : List ℕ) (r : ℕ) (a : Action) → IsAction name a → IsSimpleStatement (pos 2147483647) (body_of x r a).sub
+  body_simple name r Skip h = tt
+  body_simple name r (Set e) h = side_simple e h
+  body_simple name r (Answer t e) h = side_simple e h.2
 
-  bodies-simple : (name : List ℕ) (r : ℕ) (os : List Operation) → All (IsOperation name) os → All (λ b. IsSimpleStatement (pos 2147483647) b.sub) (bodies_of x r os)
-  bodies-simple name r [] a = All-nil (λ b. IsSimpleStatement (pos 2147483647) b.sub)
-  bodies-simple name r (o ∷ os) a =
+  bodies_simple : (name : List ℕ) (r : ℕ) (os : List Operation) → All (IsOperation name) os → All (λ b. IsSimpleStatement (pos 2147483647) b.sub) (bodies_of x r os)
+  bodies_simple name r [] a = All-nil (λ b. IsSimpleStatement (pos 2147483647) b.sub)
+  bodies_simple name r (o ∷ os) a =
       let next = r + length (output_in o.action) in
       All-cons (λ b. IsSimpleStatement (pos 2147483647) b.sub) (body_of x r o.action) (bodies_of x next os)
-      (body-simple name r o.action (All-head (IsOperation name) o os a).action)
-      (bodies-simple name next os (All-tail (IsOperation name) o os a))
+      (body_simple name r o.action (All-head (IsOperation name) o os a).action)
+      (bodies_simple name next os (All-tail (IsOperation name) o os a))
 
 no-inputs : (os : List Operation) → All (λ h. h.inputs ≡ []) (map head_of os)
 no-inputs [] = All-nil (λ h. h.inputs ≡ [])
@@ -48,8 +48,8 @@ first_form m i c d p = record {
     no_sets = refl;
     no_values = refl;
     whole_numbers = All-append (λ v. v.of_type ≡ int_type) (variables_of (codes "$0") m) (variables_of (codes "$1") i) (all-ints (codes "$0") (m.variable ∷ outputs_in m.operations)) (all-ints (codes "$1") (i.variable ∷ outputs_in i.operations));
-    init = small-number i.start d.start;
-    bodies = bodies-simple (lower_variable m) i.variable (lower_variable m + 1) i.operations d.operations;
+    init = small_number i.start d.start;
+    bodies = bodies_simple (lower_variable m) i.variable (lower_variable m + 1) i.operations d.operations;
   };
   inputs = no-inputs m.operations;
 }

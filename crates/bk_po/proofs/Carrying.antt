@@ -83,9 +83,9 @@ plain-have-no-par : (max : ℤ) (bs : List Body) → Each (IsPlainBody max) bs �
 plain-have-no-par max [] h = tt
 plain-have-no-par max (b ∷ bs) h = (simple_has_no_par max b.sub h.0.sub, plain-have-no-par max bs h.1)
 
-levels-have-no-par : (max : ℤ) (ls : List Level) → Each (IsPlainLevel max) ls → LevelsHaveNoPar ls
-levels-have-no-par max [] h = tt
-levels-have-no-par max (l ∷ ls) h = (simple_has_no_par max l.init h.0.init, plain-have-no-par max l.bodies h.0.bodies, levels-have-no-par max ls h.1)
+pub levels_have_no_par : (max : ℤ) (ls : List Level) → Each (IsPlainLevel max) ls → LevelsHaveNoPar ls
+levels_have_no_par max [] h = tt
+levels_have_no_par max (l ∷ ls) h = (simple_has_no_par max l.init h.0.init, plain-have-no-par max l.bodies h.0.bodies, levels_have_no_par max ls h.1)
 
 whole-is : (b : Body) → b.condition ≡ btrue → whole b ≡ b.sub
 whole-is b h = ap (λ c. cond (is_btrue c) b.sub (pre c b.sub)) h
@@ -220,6 +220,6 @@ module _ (find : Finder) (law : IsSearch find) (dev : Development) (f : IsDevelo
 
 pub valid_obligations_carry : ValidObligationsCarry
 valid_obligations_carry find law dev f s p valid =
-    let flat : flattened dev ≡ dev = flattened_already dev (levels-have-no-par (int_max dev) dev.levels p.levels) in
+    let flat : flattened dev ≡ dev = flattened_already dev (levels_have_no_par (int_max dev) dev.levels p.levels) in
     let known : AreValid dev.table (numbered (flat_obligations dev)) = subst (λ d. AreValid d.table (numbered (flat_obligations d))) flat valid in
     ((λ e t h. properties-hold find law dev f s p known (length dev.levels) e), subst (KeepsFlat find) (sym flat) (keeps find law dev f s p known), subst (λ d. CarriesFlat find d 0) (sym flat) (carries find law dev f s p known))

@@ -1,3 +1,4 @@
 pub mod Counters
 pub mod Splitting
 pub mod Carrying
+pub mod Following

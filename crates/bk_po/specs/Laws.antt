@@ -6,6 +6,8 @@ use Rattle.bk_dev.specs.Facts.{IsDevelopment}
 use Rattle.bk_dev.specs.Claims.{Keeps, Carries, ValuesMeet}
 use Rattle.bk_dev.specs.Counter.{counter}
 use Rattle.bk_gen.specs.Simple.{IsSimple}
+use Rattle.bk_gen.specs.Translation.{translation}
+use Rattle.bk_sim.specs.Follows.{Follows}
 use Rattle.bk_po.specs.Obligations.{numbered_obligations, HasValidObligations}
 use Rattle.bk_po.specs.Plain.{IsPlain}
 
@@ -21,6 +23,10 @@ CounterHasThese = map (λ o. o.0) (numbered_obligations counter) ≡
 -- machine keeps its invariant, and the implementation carries the machine
 abbrev pub ValidObligationsCarry : Type 0
 ValidObligationsCarry = (find : Finder) → IsSearch find → (dev : Development) → IsDevelopment dev → IsSimple dev → IsPlain dev → HasValidObligations dev → ValuesMeet find dev × Keeps find dev × Carries find dev 0
+
+-- and its translation follows the machine
+abbrev pub ValidObligationsFollow : Type 0
+ValidObligationsFollow = (find : Finder) → IsSearch find → (dev : Development) → IsDevelopment dev → IsSimple dev → IsPlain dev → HasValidObligations dev → Follows find dev (translation dev)
 
 -- the counter meets what this asks
 pub record CounterIsValid : Type 0 where

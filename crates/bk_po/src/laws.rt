@@ -1,6 +1,6 @@
 //! What the obligations of a development are, and what they are worth. Each law is the contract of a function that does nothing.
 
-ghost use Rattle.bk_po.specs.Laws.{CounterHasThese, CounterIsValid, ValidObligationsCarry};
+ghost use Rattle.bk_po.specs.Laws.{CounterHasThese, CounterIsValid, ValidObligationsCarry, ValidObligationsFollow};
 
 /// The obligations of a counter, to be checked by hand.
 pub fn counter()
@@ -11,4 +11,9 @@ pub fn counter()
 /// What valid obligations are worth: the claims from which translated code follows its machine.
 pub fn obligations_carry()
     ensures { ValidObligationsCarry }
+{}
+
+/// Where all obligations of a plain machine and its implementation are valid, translated code follows the machine.
+pub fn obligations_follow()
+    ensures { ValidObligationsFollow }
 {}

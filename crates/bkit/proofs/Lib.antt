@@ -1,3 +1,4 @@
+pub mod Following
 pub mod Plays
 pub mod Projects
 pub mod RunWords

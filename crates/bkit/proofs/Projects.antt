@@ -19,6 +19,7 @@ use Rattle.bk_calls.specs.Script.{IsScript, AsksFor, HasNoInputs}
 use Rattle.bk_calls.proofs.Lines.{lines_within}
 use Rattle.bk_code.specs.Session.{Session}
 use Rattle.bk_calls.specs.Transcript.{transcript}
+use Rattle.bkit.proofs.Following.{project_follows}
 use Rattle.bkit.specs.declared.status.Status.{Status}
 use Rattle.bkit.specs.Session.{fuel, Plays}
 use Rattle.bkit.specs.Run.{AreRunWords, WritesRun, IsTold, component_lines, AreComponentLines, ReadsProject, ReadsProgram}
@@ -146,6 +147,7 @@ writes_run files words project calls image requests status before after are r p 
     session = subst (λ x. Session x fuel requests p.tolds) r.translated p.session;
     transcript_is = ap (λ x. transcript x fuel requests p.tolds) r.translated;
     last = p.last;
+    follows = project_follows files project r.dev r.reads;
   };
   appended = p.written;
 }

@@ -4,12 +4,15 @@ use Rattle.bk_io.specs.Files.{Files, file_named}
 use Rattle.bk_io.specs.Pieces.{written_with}
 use Rattle.bk_code.specs.declared.image.Image.{Image}
 use Rattle.bk_code.specs.Session.{Request, Told, Session}
+use Rattle.bk_form.specs.Search.{Finder, IsSearch}
 use Rattle.bk_dev.specs.Development.{Development}
 use Rattle.bk_gen.specs.Translation.{translation}
 use Rattle.bk_front.specs.declared.project_file.ProjectLine.{ProjectLine}
 use Rattle.bk_front.specs.declared.project_file.LineKind.TheVariants.{Machine, Implementation}
 use Rattle.bk_front.specs.ProjectFile.{IsFileName, NamesFiles}
 use Rattle.bk_front.specs.Reading.{Reads}
+use Rattle.bk_sim.specs.Follows.{Follows}
+use Rattle.bk_po.specs.Obligations.{HasValidObligations}
 use Rattle.bk_calls.specs.Script.{IsScript}
 use Rattle.bk_calls.specs.Transcript.{transcript}
 use Rattle.bkit.specs.declared.status.Status.{Status}
@@ -84,7 +87,7 @@ IsExecuted OutOfFuel = Unit {0}
 IsExecuted _ = ⊥
 
 -- the text is the transcript of the session, over the called operations, of the translation of the development that the
--- project reads as; the status is that of the session's last end
+-- project reads as; the status is that of the session's last end; and where its obligations are valid, the code follows the machine
 pub record IsRun (files : Files) (words : List (List ℕ)) (text : List ℕ) (status : Status) : Type 0 where
   pub project : List ℕ
   pub calls : List ℕ
@@ -99,6 +102,8 @@ pub record IsRun (files : Files) (words : List (List ℕ)) (text : List ℕ) (st
   pub session : Session (translation dev) fuel requests tolds
   pub transcript_is : text ≡ transcript (translation dev) fuel requests tolds
   pub last : status ≡ session_status tolds
+  -- where each of its obligations is valid, the code follows the machine, for every search
+  pub follows : HasValidObligations dev → (find : Finder) → IsSearch find → Follows find dev (translation dev)
 
 -- what is written is what had been written, and then the text of the run
 pub record WritesRun (files : Files) (words : List (List ℕ)) (old new : Option (List ℕ)) (status : Status) : Type 0 where
