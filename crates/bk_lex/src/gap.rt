@@ -57,7 +57,7 @@ fn after_comment(text: &str, total: usize) -> Result<Option<&str>, LexFault>
 
 /// The text from its first line feed on.
 fn from_line_end(text: &str) -> &str
-    ensures { (line : List ℕ) × IsRun stays_in_line text.now line result.now }
+    ensures { (run : List ℕ) × IsRun stays_in_line text.now run result.now }
 {
     let (_, rest) = text.split_at(line_length(text.as_bytes()));
     rest
