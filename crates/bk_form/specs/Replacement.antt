@@ -1,5 +1,5 @@
 -- Formulas in place of variables, all at once.
-use Rattle.std.specs.Prelude.{◌≡◌, ◌⊎◌, ℕ, suc, ◌+◌, ◌<◌, nat_eq, Bool, false, ◌||◌, length, [], Some}
+use Rattle.std.specs.Prelude.{◌≡◌, ◌⊎◌, ℕ, suc, ◌+◌, ◌<◌, nat_eq, Bool, false, ◌||◌, cond, List, [], ◌∷◌, length, Some}
 use Rattle.bk_val.specs.ValueType.{ValueType}
 use Rattle.bk_form.specs.Table.{Table, variable_type}
 use Rattle.bk_form.specs.Role.{role, gives}
@@ -67,6 +67,11 @@ abbrev mutual
   pub any_occurs : ℕ → Formulas → Bool
   any_occurs x no_formulas = false
   any_occurs x (formula_and f fs) = occurs x f || any_occurs x fs
+
+-- the term beside the first such variable, or the variable itself
+abbrev pub looked_up : List (ℕ × Formula) → ℕ → Formula
+looked_up [] n = variable n
+looked_up (p ∷ ps) n = cond (nat_eq n p.0) p.1 (looked_up ps n)
 
 -- a term that gives this type and holds no loose bound number
 pub record GivesType (table : Table) (t : ValueType) (f : Formula) : Type 0 where

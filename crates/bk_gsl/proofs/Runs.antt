@@ -7,10 +7,11 @@ use Rattle.bk_form.specs.Formula.{Formula, variable}
 use Rattle.bk_form.specs.Search.{Finder}
 use Rattle.bk_form.specs.Environment.{State, IsTyped}
 use Rattle.bk_form.proofs.Valued.{typed-value}
+use Rattle.bk_form.specs.Replacement.{looked_up}
 use Rattle.bk_gsl.specs.Substitution.{Substitution, skip, assign, pre, guard, choice, if_else, any, seq, par, assert, becomes_such, loop}
 use Rattle.bk_gsl.specs.State.{at_state, holds, value_at, IsTypedState, with_values, among, firsts}
 use Rattle.bk_gsl.specs.Writes.{written, writes}
-use Rattle.bk_gsl.specs.Run.{looked_up, Turns, Runs}
+use Rattle.bk_gsl.specs.Run.{Turns, Runs}
 use Rattle.bk_gsl.specs.Typed.{AreTypedTerms, Types}
 use Rattle.bk_gsl.proofs.States.{cases, or-false, nat_eq-same, over-at, over-off, with_values-out, with_values-typed, over-typed, among-both, among-without, among-in_order}
 

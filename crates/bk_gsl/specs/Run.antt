@@ -2,17 +2,13 @@
 use Rattle.std.specs.Prelude.{◌≡◌, ◌⊎◌, ℕ, zero, suc, nat_eq, Bool, true, false, cond, List, [], ◌∷◌}
 use Rattle.bk_val.specs.Value.{MathValue}
 use Rattle.bk_form.specs.Table.{Table}
-use Rattle.bk_form.specs.Formula.{Formula, variable}
+use Rattle.bk_form.specs.Formula.{Formula}
 use Rattle.bk_form.specs.Search.{Finder}
 use Rattle.bk_form.specs.Environment.{State}
+use Rattle.bk_form.specs.Replacement.{looked_up}
 use Rattle.bk_gsl.specs.Substitution.{Substitution, skip, assign, pre, guard, choice, if_else, any, seq, par, assert, becomes_such, loop}
 use Rattle.bk_gsl.specs.State.{holds, value_at, are_values_for, with_values, among, over, firsts}
 use Rattle.bk_gsl.specs.Writes.{written}
-
--- the term beside the first such variable, or the variable itself
-abbrev pub looked_up : List (ℕ × Formula) → ℕ → Formula
-looked_up [] n = variable n
-looked_up (p ∷ ps) n = cond (nat_eq n p.0) p.1 (looked_up ps n)
 
 -- the state after an assignment: all terms are read before any variable changes
 abbrev pub assigned : Finder → Table → List (ℕ × Formula) → State → State

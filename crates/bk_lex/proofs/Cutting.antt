@@ -1,13 +1,13 @@
 -- A text, token by token.
-use Rattle.std.proofs.Common.{◌≡◌, ◌≢◌, ℕ, ◌+◌, ◌-◌, ◌<◌, ◌≤◌, Bool, true, false, List, [], ◌∷◌, ◌++◌, length, refl, ap, sym, ◌∙◌, arith, subst, append_assoc, append-nil, length-append, drop, IsUtf8, ◌⊎◌, inl, inr, Result, Ok, Err, MatchResult, IfErr}
+use Rattle.std.proofs.Common.{◌≡◌, ℕ, ◌+◌, ◌<◌, ◌≤◌, List, [], ◌∷◌, ◌++◌, length, refl, ap, sym, ◌∙◌, arith, subst, append-nil, length-append, drop, IsUtf8, ◌⊎◌, inl, inr, Result, Ok, Err, MatchResult, IfErr}
 use Rattle.std.specs.Prelude.{codes}
 use Rattle.bk_form.specs.declared.token.Token.{Token}
 use Rattle.bk_form.specs.declared.token.TokenKind.{TokenKind}
 use Rattle.bk_form.specs.declared.token.TokenKind.TheVariants.{Sign}
 use Rattle.std.proofs.lemmas.Str.{utf8_valid_len-IsValidUpTo}
-use Rattle.bk_lex.specs.Lexis.{Gap, blank, block, line, gap_text, IsGap, AreGaps, NoComment, BeginsWith, Fits, IsWritten, Cut, AreTokens}
-use Rattle.bk_lex.specs.Faults.{IsOpenComment, BeginsNothing, BeginsTooWide, BeginsToken, StandsAt, IsFaultOf}
-use Rattle.bk_lex.specs.Parts.{NoGap, IsGapFault, IsTokenFault, IsFirstToken, IsBehindGaps}
+use Rattle.bk_lex.specs.Lexis.{Gap, blank, block, line, AreGaps, BeginsWith, Fits, Cut, AreTokens}
+use Rattle.bk_lex.specs.Faults.{IsOpenComment, BeginsNothing, BeginsTooWide, BeginsToken, IsFaultOf}
+use Rattle.bk_lex.specs.Parts.{NoGap, IsGapFault, IsTokenFault, IsFirstToken}
 use Rattle.bk_lex.specs.declared.fault.LexFault.{LexFault}
 use Rattle.bk_lex.specs.declared.fault.LexFault.TheVariants.{NotUtf8, BadChar, OpenComment, NumberTooWide, Limit, Memory}
 use Rattle.bk_lex.proofs.Characters.{class_of}

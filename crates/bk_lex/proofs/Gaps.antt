@@ -1,13 +1,12 @@
 -- Blanks and comments between tokens.
-use Rattle.std.proofs.Common.{◌≡◌, ◌≢◌, ℕ, zero, suc, ◌+◌, ◌-◌, ◌<◌, ◌≤◌, Bool, true, false, cond, not, ◌&&◌, List, [], ◌∷◌, ◌++◌, map, length, take, drop, Option, Some, None, MatchOption, Result, Ok, Err, MatchResult, IsErrAnd, refl, ap, sym, ◌∙◌, arith, subst, append_assoc, length-append, take-append-drop, Bor, inl, inr, append-nil}
-use Rattle.std.specs.Prelude.{nat_eq, nat_le, codes}
+use Rattle.std.proofs.Common.{◌≡◌, ◌≢◌, ℕ, ◌+◌, ◌<◌, ◌≤◌, Bool, true, false, not, List, [], ◌∷◌, ◌++◌, map, length, take, drop, Result, Ok, Err, MatchResult, IsErrAnd, refl, ap, sym, ◌∙◌, arith, subst, append_assoc, length-append, take-append-drop, inl, inr}
+use Rattle.std.specs.Prelude.{nat_eq, codes}
 use Rattle.std.proofs.Math.Seq.{drop-append_seam}
 use Rattle.std.specs.List.{list_all}
 use Rattle.std.specs.Str.Pattern.{FindsText, SplitsAroundMatch, LacksTextAt}
-use Rattle.std.proofs.lemmas.Bool.{and_parts, and_from, leb-true, le-leb, not-false, not-true, eqb-true, eqb-false, cases_lt, cases_order}
+use Rattle.std.proofs.lemmas.Bool.{and_parts, not-false, cases_lt}
 use Rattle.bk_lex.specs.Lexis.{is_blank, Gap, blank, block, line, gap_text, ends_line, stays_in_line, IsGap, AreGaps, NoComment}
-use Rattle.bk_lex.specs.Faults.{IsOpenComment}
-use Rattle.bk_lex.specs.Parts.{begins, IsRun, NoGap, IsBehindGaps, IsGapFault}
+use Rattle.bk_lex.specs.Parts.{begins, IsRun, NoGap, IsGapFault}
 use Rattle.bk_lex.specs.declared.fault.LexFault.{LexFault}
 use Rattle.bk_lex.specs.declared.fault.LexFault.TheVariants.{NotUtf8, BadChar, OpenComment, NumberTooWide, Limit, Memory}
 

@@ -1,15 +1,15 @@
 -- Identifiers that are read.
-use Rattle.std.proofs.Common.{◌≡◌, ◌≢◌, ℕ, ◌+◌, ◌<◌, ◌≤◌, Bool, true, false, not, List, [], ◌∷◌, ◌++◌, length, take, drop, refl, ap, sym, ◌∙◌, arith, subst, append_assoc, length-append, take-append-drop, drop_of_length-le, Option, Some, None, MatchOption, Bor}
+use Rattle.std.proofs.Common.{◌≡◌, ℕ, ◌+◌, Bool, true, false, not, List, [], ◌∷◌, ◌++◌, length, take, drop, refl, ap, sym, ◌∙◌, arith, subst, append_assoc, length-append, take-append-drop, drop_of_length-le, Option, Some, None, MatchOption, Bor}
 use Rattle.std.specs.List.{list_all}
 use Rattle.std.specs.Str.{encode_utf8_all, NonePass, NoCharPasses, IsCharBoundary}
-use Rattle.std.specs.Str.Pattern.{FindsBy, HasPassingCharAt}
+use Rattle.std.specs.Str.Pattern.{HasPassingCharAt}
 use Rattle.std.specs.Char.{encode_utf8}
-use Rattle.std.proofs.lemmas.Bool.{and_parts, and_from, not-false, not-true}
+use Rattle.std.proofs.lemmas.Bool.{and_parts, and_from, not-false}
 use Rattle.std.proofs.lemmas.List.{take_all}
 use Rattle.std.proofs.lemmas.Str.{encode_same, length-encode, len_utf8_bounds}
 use Rattle.unicode_ident.specs.Ident.{is_xid_start, is_xid_continue}
 use Rattle.unicode_ident.proofs.IdentLemmas.{is_xid_start-is_xid_continue}
-use Rattle.bk_lex.specs.Lexis.{is_identifier, IsIdentifier}
+use Rattle.bk_lex.specs.Lexis.{is_identifier}
 use Rattle.bk_lex.specs.Parts.{ContinuesNot, ContinuesUpTo, IsFirstIdentifier, BeginsNoIdentifier}
 
 abbrev pub stops : ℕ → Bool

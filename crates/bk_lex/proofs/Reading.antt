@@ -1,16 +1,15 @@
 -- Tokens that are read.
-use Rattle.std.proofs.Common.{◌≡◌, ◌≢◌, ℕ, ℤ, pos, ◌+◌, ◌<◌, ◌≤◌, ◌^◌, Bool, true, false, List, [], ◌∷◌, ◌++◌, length, Option, Some, None, refl, ap, sym, ◌∙◌, arith, subst, append_assoc, length-append}
+use Rattle.std.proofs.Common.{◌≡◌, ◌≢◌, ℕ, pos, ◌<◌, ◌≤◌, ◌^◌, true, false, List, [], ◌∷◌, ◌++◌, length, Some, None, refl, ap, sym, ◌∙◌, arith, subst, append_assoc, length-append}
 use Rattle.std.specs.List.{list_all}
 use Rattle.std.proofs.lemmas.Bool.{and_parts}
 use Rattle.bk_form.specs.declared.token.TokenKind.{TokenKind}
 use Rattle.bk_form.specs.declared.token.TokenKind.TheVariants.{Name, LevelName, BoundName, Number, Sign, Word}
-use Rattle.bk_lex.specs.Lexis.{is_digit, is_numeral, IsIdentifier, IsDollar, IsWritten, Fits, BeginsWith, NoComment, sign_number, word_number, numeral_from}
-use Rattle.bk_lex.specs.Faults.{BeginsTooWide}
-use Rattle.bk_lex.specs.Parts.{begins, ContinuesNot, IsFirstNumeral, IsFirstDollar, BeginsNoDollar, IsFirstIdentifier, BeginsNoIdentifier, IsFirstSign, BeginsNoSign, IsFirstToken}
+use Rattle.bk_lex.specs.Lexis.{is_digit, is_numeral, IsIdentifier, IsDollar, IsWritten, Fits, BeginsWith, NoComment, word_number, numeral_from}
+use Rattle.bk_lex.specs.Parts.{begins, IsFirstNumeral, IsFirstDollar, BeginsNoDollar, IsFirstIdentifier, BeginsNoIdentifier, IsFirstSign, BeginsNoSign}
 use Rattle.bk_lex.proofs.Characters.{class_of, identifier_class, numeral_class, sign_class, longest_identifier, dollar_ends}
 use Rattle.bk_lex.proofs.Runs.{run_longest, numeral_all}
 use Rattle.bk_lex.proofs.Gaps.{same_cut}
-use Rattle.bk_lex.proofs.Spelling.{kind_class, written_class, dollar_class}
+use Rattle.bk_lex.proofs.Spelling.{kind_class, written_class}
 
 wrong : (k : ℕ) (other : TokenKind) (text more after : List ℕ) → class_of text ≡ k → (kind_class other ≡ k → ⊥) → IsWritten other more → text ≡ more ++ after → ⊥
 wrong k other text more after c d h e = d (sym (written_class other more after h) ∙ sym (ap class_of e) ∙ c)

@@ -1,9 +1,9 @@
 -- Runs of bytes that pass a test, and where a text may be cut.
-use Rattle.std.proofs.Common.{◌≡◌, ℕ, zero, suc, ◌+◌, ◌-◌, ◌*◌, ◌<◌, ◌≤◌, Bool, true, false, cond, not, ◌&&◌, List, [], ◌∷◌, ◌++◌, length, get_or, take, drop, Option, Some, None, SomeIff, IsUtf8, refl, ap, sym, ◌∙◌, arith, subst, one-add, add-one, drop-cons, length-append, drop_of_length-le}
+use Rattle.std.proofs.Common.{◌≡◌, ℕ, zero, suc, ◌+◌, ◌-◌, ◌*◌, ◌<◌, ◌≤◌, Bool, true, false, cond, not, List, [], ◌∷◌, ◌++◌, length, get_or, take, drop, Option, Some, None, SomeIff, IsUtf8, refl, ap, sym, ◌∙◌, arith, subst, one-add, add-one, drop-cons, length-append, drop_of_length-le}
 use Rattle.std.specs.Prelude.{nat_eq, nat_le}
 use Rattle.std.specs.List.{list_all, prefix_len, slice_get}
-use Rattle.std.specs.Str.{IsCharBoundary, IsAscii}
-use Rattle.std.proofs.lemmas.Bool.{and_parts, and_from, leb-true, le-leb, not-false, eqb-true}
+use Rattle.std.specs.Str.{IsCharBoundary}
+use Rattle.std.proofs.lemmas.Bool.{and_parts, and_from, leb-true, not-false, eqb-true}
 use Rattle.std.proofs.lemmas.Bool.Decides.{nat_tests}
 use Rattle.std.proofs.lemmas.List.Folds.{length-prefix_len}
 use Rattle.std.proofs.lemmas.Str.{IsCharBoundary-from_take, IsUtf8-from_ascii}

@@ -1,5 +1,5 @@
 -- The longest sign.
-use Rattle.std.proofs.Common.{◌≡◌, ◌≢◌, ℕ, ◌<◌, ◌≤◌, ◌++◌, List, length, take, drop, Some, refl, sym, arith, inl, inr, take-append-drop, length-take}
+use Rattle.std.proofs.Common.{◌≡◌, ℕ, ◌<◌, ◌≤◌, ◌++◌, List, length, take, drop, Some, refl, sym, arith, inl, inr, take-append-drop, length-take}
 use Rattle.std.proofs.lemmas.Bool.{cases_lt}
 use Rattle.bk_lex.specs.Lexis.{sign_number}
 use Rattle.bk_lex.specs.Parts.{IsFirstSign, NoSignOfLength, BeginsNoSign}

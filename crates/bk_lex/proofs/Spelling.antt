@@ -1,14 +1,14 @@
 -- A token's spelling, and how a text begins with one.
-use Rattle.std.proofs.Common.{◌≡◌, ◌≢◌, ℕ, ℤ, pos, ◌+◌, ◌<◌, ◌≤◌, ◌^◌, Bool, true, false, not, List, [], ◌∷◌, ◌++◌, length, Option, Some, None, refl, ap, sym, ◌∙◌, arith, subst, append_assoc, length-append}
+use Rattle.std.proofs.Common.{◌≡◌, ◌≢◌, ℕ, ◌≤◌, true, List, [], ◌∷◌, ◌++◌, length, Option, Some, None, refl, ap, sym, ◌∙◌, arith, subst, append_assoc}
 use Rattle.std.specs.Prelude.{codes}
 use Rattle.std.specs.List.{list_all}
 use Rattle.std.proofs.lemmas.Bool.{and_parts}
 use Rattle.bk_form.specs.declared.token.TokenKind.{TokenKind}
 use Rattle.bk_form.specs.declared.token.TokenKind.TheVariants.{Name, LevelName, BoundName, Number, Sign, Word}
-use Rattle.bk_lex.specs.Lexis.{is_digit, is_numeral, is_blank, IsIdentifier, IsDollar, IsWritten, Fits, BeginsWith, NoComment, sign_number, word_number, numeral_from, Gap, blank, block, line, gap_text, IsGap}
-use Rattle.bk_lex.specs.Parts.{begins, ContinuesNot, IsFirstNumeral, IsFirstDollar, BeginsNoDollar, IsFirstIdentifier, BeginsNoIdentifier, IsFirstSign, BeginsNoSign, NoGap}
-use Rattle.bk_lex.proofs.Characters.{class, class_of, blank_class, identifier_class, numeral_class, sign_class, identifier_goes, goes, all_after, longest_identifier, dollar_ends}
-use Rattle.bk_lex.proofs.Runs.{run_longest, numeral_all}
+use Rattle.bk_lex.specs.Lexis.{is_digit, IsIdentifier, IsDollar, IsWritten, BeginsWith, sign_number, word_number, numeral_from, Gap, blank, block, line, gap_text, IsGap}
+use Rattle.bk_lex.specs.Parts.{NoGap}
+use Rattle.bk_lex.proofs.Characters.{class_of, blank_class, identifier_class, numeral_class, sign_class, identifier_goes, goes, all_after}
+use Rattle.bk_lex.proofs.Runs.{numeral_all}
 use Rattle.bk_lex.proofs.Gaps.{same_cut}
 
 -- ---- what a text can begin with

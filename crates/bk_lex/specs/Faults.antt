@@ -1,9 +1,9 @@
 -- Where a text is at fault.
-use Rattle.std.specs.Prelude.{◌≡◌, ◌≢◌, ℕ, ◌+◌, ◌≤◌, ◌<◌, List, [], ◌∷◌, ◌++◌, length, codes}
+use Rattle.std.specs.Prelude.{◌≡◌, ◌≢◌, ℕ, ◌+◌, ◌≤◌, ◌<◌, List, ◌++◌, length, codes}
 use Rattle.std.specs.Str.{IsUtf8, IsValidUpTo}
 use Rattle.bk_form.specs.declared.token.Token.{Token}
 use Rattle.bk_form.specs.declared.token.TokenKind.{TokenKind}
-use Rattle.bk_lex.specs.Lexis.{Gap, gap_text, IsGap, IsWritten, Fits, BeginsWith, Cut, AreTokens}
+use Rattle.bk_lex.specs.Lexis.{Gap, gap_text, IsGap, IsWritten, Fits, BeginsWith, Cut}
 use Rattle.bk_lex.specs.declared.fault.LexFault.{LexFault}
 use Rattle.bk_lex.specs.declared.fault.LexFault.TheVariants.{NotUtf8, BadChar, OpenComment, NumberTooWide, Limit, Memory}
 

@@ -1,12 +1,12 @@
 -- The parts of a text that the lexer cuts off.
-use Rattle.std.specs.Prelude.{◌≡◌, ◌≢◌, ℕ, ◌+◌, ◌≤◌, ◌<◌, Bool, true, false, IsTrue, List, [], ◌∷◌, ◌++◌, length, take, drop, Option, Some, None}
+use Rattle.std.specs.Prelude.{◌≡◌, ◌≢◌, ℕ, ◌+◌, ◌≤◌, Bool, true, false, List, [], ◌∷◌, ◌++◌, length, take, drop, Some}
 use Rattle.std.specs.List.{list_all}
 use Rattle.std.specs.Str.{encode_utf8_all, IsCharBoundary, IsUtf8}
 use Rattle.std.specs.Char.{encode_utf8}
 use Rattle.unicode_ident.specs.Ident.{is_xid_continue}
 use Rattle.bk_form.specs.declared.token.Token.{Token}
 use Rattle.bk_form.specs.declared.token.TokenKind.{TokenKind}
-use Rattle.bk_lex.specs.Lexis.{Gap, gap_text, IsGap, AreGaps, NoComment, IsIdentifier, is_digit, is_numeral, IsDollar, IsWritten, BeginsWith, Fits, AreTokens, sign_number}
+use Rattle.bk_lex.specs.Lexis.{Gap, gap_text, IsGap, AreGaps, NoComment, IsIdentifier, is_digit, is_numeral, IsWritten, BeginsWith, Fits, AreTokens, sign_number}
 use Rattle.bk_lex.specs.Faults.{IsOpenComment, BeginsTooWide}
 use Rattle.bk_lex.specs.declared.fault.LexFault.{LexFault}
 use Rattle.bk_lex.specs.declared.fault.LexFault.TheVariants.{NotUtf8, BadChar, OpenComment, NumberTooWide, Limit, Memory}

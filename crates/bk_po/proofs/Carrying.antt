@@ -38,7 +38,7 @@ use Rattle.bk_po.specs.Laws.{ValidObligationsCarry}
 use Rattle.bk_po.proofs.Splitting.{each-map, each-below, IsMet, rows-met, split-holds, conjunction-true}
 
 -- ---- simple statements
-no-binder : (max : ℤ) (s : Substitution) → IsSimpleStatement max s → HasNoBinder s
+pub no-binder : (max : ℤ) (s : Substitution) → IsSimpleStatement max s → HasNoBinder s
 no-binder max skip h = tt
 no-binder max (assign ps) h = tt
 no-binder max s h = absurd h
@@ -74,7 +74,7 @@ module _ (find : Finder) (table : Table) (max : ℤ) (e : State) where
   simple-clean arrays s h = absurd h
 
 -- ---- plain levels
-each-or : {A : Type 0} (P : A → Type 0) (xs : List A) (k : ℕ) (d : A) → P d → Each P xs → P (slice_index_or xs k d)
+pub each-or : {A : Type 0} (P : A → Type 0) (xs : List A) (k : ℕ) (d : A) → P d → Each P xs → P (slice_index_or xs k d)
 each-or {A} P [] k d b e = b
 each-or {A} P (x ∷ xs) zero d b e = e.0
 each-or {A} P (x ∷ xs) (suc k) d b e = each-or P xs k d b e.1

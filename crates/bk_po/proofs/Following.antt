@@ -1,13 +1,10 @@
 -- Where the obligations of a plain machine and its implementation are valid, the translation follows the machine.
-use Rattle.std.proofs.Common.{◌≡◌, ◌<◌, ℕ, zero, suc, ℤ, List, [], ◌∷◌, length, refl, sym, subst, arith}
+use Rattle.std.proofs.Common.{◌≡◌, ◌<◌, ℕ, zero, suc, List, [], ◌∷◌, length, subst, arith}
 use Rattle.std.specs.Prelude.{take}
-use Rattle.bk_form.specs.Search.{Finder}
-use Rattle.bk_dev.specs.Development.{Level, Development, int_max, last}
+use Rattle.bk_dev.specs.Development.{Level, int_max, last}
 use Rattle.bk_dev.specs.Claims.{Carries}
-use Rattle.bk_dev.specs.Facts.{Each}
 use Rattle.bk_sim.specs.Plain.{LevelsHaveNoPar}
 use Rattle.bk_sim.proofs.SimpleCode.{simple_follows}
-use Rattle.bk_po.specs.Plain.{IsPlainLevel}
 use Rattle.bk_po.specs.Laws.{ValidObligationsFollow}
 use Rattle.bk_po.proofs.Carrying.{levels_have_no_par, valid_obligations_carry}
 

@@ -2,3 +2,11 @@ pub mod Counters
 pub mod Splitting
 pub mod Carrying
 pub mod Following
+pub mod TypedGoals
+pub mod Obviousness
+pub mod Values
+pub mod Sequents
+pub mod Numbering
+pub mod Growing
+pub mod Bodies
+pub mod Laying

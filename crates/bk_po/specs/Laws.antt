@@ -9,7 +9,9 @@ use Rattle.bk_gen.specs.Simple.{IsSimple}
 use Rattle.bk_gen.specs.Translation.{translation}
 use Rattle.bk_sim.specs.Follows.{Follows}
 use Rattle.bk_po.specs.Obligations.{numbered_obligations, HasValidObligations}
+use Rattle.bk_po.specs.Basic.{IsBasic}
 use Rattle.bk_po.specs.Plain.{IsPlain}
+use Rattle.bk_po.specs.Obvious.{HasObviousObligations}
 
 -- the counter has thirteen numbered obligations, with these names
 abbrev pub CounterHasThese : Type 0
@@ -32,3 +34,11 @@ ValidObligationsFollow = (find : Finder) → IsSearch find → (dev : Developmen
 pub record CounterIsValid : Type 0 where
   pub plain : IsPlain counter
   pub obligations : HasValidObligations counter
+
+-- simple statements have no locals, no x :(P), no loops and no ||
+abbrev pub PlainIsBasic : Type 0
+PlainIsBasic = (dev : Development) → IsPlain dev → IsBasic dev
+
+-- where every obligation is obvious, every obligation is valid: the goals are predicates over the development's variables
+abbrev pub ObviousObligationsAreValid : Type 0
+ObviousObligationsAreValid = (dev : Development) → IsDevelopment dev → IsBasic dev → HasObviousObligations dev → HasValidObligations dev

@@ -2,10 +2,9 @@
 use Rattle.std.specs.Prelude.{ℕ, zero, suc, not, cond, List, [], ◌∷◌, ◌++◌, map, take, length, codes, decimal, slice_index_or}
 use Rattle.std.specs.List.{filter, flat_map}
 use Rattle.bk_form.specs.Formula.{Formula, binary, btrue}
-use Rattle.bk_form.specs.Replacement.{replaced}
+use Rattle.bk_form.specs.Replacement.{replaced, looked_up}
 use Rattle.bk_form.specs.declared.operator.BinOp.TheVariants.{And, Imp}
 use Rattle.bk_form.specs.Table.{Table}
-use Rattle.bk_gsl.specs.Run.{looked_up}
 use Rattle.bk_dev.specs.Development.{Level, Development, level_at, body_at, is_implementation, is_btrue, whole}
 use Rattle.bk_dev.specs.Facts.{Each}
 use Rattle.bk_dev.specs.Flattened.{flattened}
@@ -13,6 +12,8 @@ use Rattle.bk_dev.specs.Hypotheses.{conjuncts, link_equation, properties_hypothe
 use Rattle.bk_dev.specs.Claims.{beside}
 use Rattle.bk_wp.specs.Box.{box, diamond}
 use Rattle.bk_seq.specs.Valid.{IsValid}
+use Rattle.bk_po.specs.declared.row.Row.{Row}
+use Rattle.bk_po.specs.declared.row.Row.TheVariants.{PropertiesDefined, ValuesMeet, InvariantDefined, AssertionsDefined, AssertionsHold, Initialisation, InitialisationDefined, Operations, OperationsDefined}
 
 -- what is to be shown, before it is taken apart
 pub record Obligation : Type 0 where
@@ -39,7 +40,8 @@ each_after [] = btrue
 each_after (p ∷ []) = p
 each_after (p ∷ q ∷ qs) = binary And p (binary Imp p (each_after (q ∷ qs)))
 
--- that the formulas of a clause or of a substitution are defined: btrue, for developments whose formulas are so everywhere
+-- that the formulas of a clause are defined, or that what a substitution executes stays within the machine's range: btrue, which is right
+-- only for developments in which both hold everywhere
 abbrev pub definedness_goal : Formula
 definedness_goal = btrue
 
@@ -47,35 +49,28 @@ definedness_goal = btrue
 abbrev pub values_goal : Development → ℕ → Formula
 values_goal dev k = replaced (looked_up dev.values) (conjunction (map (λ l. l.properties) (take (suc k) dev.levels)))
 
--- the invariant of level k, its links, and the equality of the outputs with those above
+-- the invariant of a level, its links, and the equality of the outputs with those above
+abbrev pub joined_goal : Level → List ℕ → List ℕ → Formula
+joined_goal l outputs above = conjunction (l.invariant ∷ conjunction (map link_equation l.links) ∷ conjunction (map link_equation (beside outputs above)) ∷ [])
+
 abbrev pub joining_goal : Development → ℕ → List ℕ → List ℕ → Formula
-joining_goal dev k outputs above = conjunction ((level_at dev k).invariant ∷ conjunction (map link_equation (level_at dev k).links) ∷ conjunction (map link_equation (beside outputs above)) ∷ [])
+joining_goal dev k outputs above = joined_goal (level_at dev k) outputs above
 
 -- the machine's initialisation meets its invariant; each other is answered by the one above
 abbrev pub init_goal : Development → ℕ → Formula
 init_goal dev zero = box dev.table (level_at dev zero).init (level_at dev zero).invariant
 init_goal dev (suc j) = box dev.table (level_at dev (suc j)).init (diamond dev.table (level_at dev j).init (joining_goal dev (suc j) [] []))
 
--- the machine's operation, without its outermost precondition, keeps the invariant; each whole body below is answered by the body above, without that of its own
+-- the machine's body, without its outermost precondition, keeps the invariant; below it each whole body is answered by the body above,
+-- which is taken without its outermost precondition
 abbrev pub operation_goal : Development → ℕ → ℕ → Formula
 operation_goal dev zero o = box dev.table (body_at dev zero o).sub (level_at dev zero).invariant
 operation_goal dev (suc j) o = box dev.table (whole (body_at dev (suc j) o)) (diamond dev.table (body_at dev j o).sub (joining_goal dev (suc j) (body_at dev (suc j) o).outputs (body_at dev j o).outputs))
 
 -- ---- the list
-pub data Row : Type 0 where
-  properties_defined : Row
-  values_meet : Row
-  invariant_defined : Row
-  assertions_defined : Row
-  assertions_hold : Row
-  initialisation : Row
-  initialisation_defined : Row
-  operations : Row
-  operations_defined : Row
-
 -- within a component, in this order
 abbrev pub rows : List Row
-rows = properties_defined ∷ values_meet ∷ invariant_defined ∷ assertions_defined ∷ assertions_hold ∷ initialisation ∷ initialisation_defined ∷ operations ∷ operations_defined ∷ []
+rows = PropertiesDefined ∷ ValuesMeet ∷ InvariantDefined ∷ AssertionsDefined ∷ AssertionsHold ∷ Initialisation ∷ InitialisationDefined ∷ Operations ∷ OperationsDefined ∷ []
 
 -- 0 to n - 1
 abbrev pub numbers_below : ℕ → List ℕ
@@ -96,21 +91,33 @@ suffix l = cond (is_implementation l) (codes ".chk") (codes ".wd")
 abbrev pub obligation : List ℕ → List Formula → Formula → Obligation
 obligation name hypotheses goal = record { name = name; hypotheses = hypotheses; goal = goal }
 
+-- of operation o at level k
+abbrev pub of_operation : Development → ℕ → ℕ → Obligation
+of_operation dev k o = obligation (named_after dev k (head_name dev o)) (operation_hypotheses dev k o) (operation_goal dev k o)
+
+-- that its body is defined
+abbrev pub of_definedness : Development → ℕ → ℕ → Obligation
+of_definedness dev k o = obligation (named_after dev k (head_name dev o ++ suffix (level_at dev k))) (body_hypotheses dev k o) definedness_goal
+
 -- of one row at level k, operations in the machine's order; of a development whose substitutions are flat
 abbrev pub row_obligations : Development → ℕ → Row → List Obligation
-row_obligations dev k properties_defined = obligation (named_after dev k (codes "PROPERTIES.wd")) (properties_hypotheses dev k) definedness_goal ∷ []
-row_obligations dev k values_meet = cond (is_implementation (level_at dev k)) (obligation (named_after dev k (codes "VALUES")) [] (values_goal dev k) ∷ []) []
-row_obligations dev k invariant_defined = obligation (named_after dev k (codes "INVARIANT.wd")) (invariant_hypotheses dev k) definedness_goal ∷ []
-row_obligations dev k assertions_defined = obligation (named_after dev k (codes "ASSERTIONS.wd")) (assertion_hypotheses dev k) definedness_goal ∷ []
-row_obligations dev k assertions_hold = obligation (named_after dev k (codes "ASSERTIONS")) (assertion_hypotheses dev k) (each_after (level_at dev k).assertions) ∷ []
-row_obligations dev k initialisation = obligation (named_after dev k (codes "INITIALISATION")) (init_hypotheses dev k) (init_goal dev k) ∷ []
-row_obligations dev k initialisation_defined = obligation (named_after dev k (codes "INITIALISATION" ++ suffix (level_at dev k))) (init_hypotheses dev k) definedness_goal ∷ []
-row_obligations dev k operations = map (λ o. obligation (named_after dev k (head_name dev o)) (operation_hypotheses dev k o) (operation_goal dev k o)) (numbers_below (length dev.heads))
-row_obligations dev k operations_defined = map (λ o. obligation (named_after dev k (head_name dev o ++ suffix (level_at dev k))) (body_hypotheses dev k o) definedness_goal) (numbers_below (length dev.heads))
+row_obligations dev k PropertiesDefined = obligation (named_after dev k (codes "PROPERTIES.wd")) (properties_hypotheses dev k) definedness_goal ∷ []
+row_obligations dev k ValuesMeet = cond (is_implementation (level_at dev k)) (obligation (named_after dev k (codes "VALUES")) [] (values_goal dev k) ∷ []) []
+row_obligations dev k InvariantDefined = obligation (named_after dev k (codes "INVARIANT.wd")) (invariant_hypotheses dev k) definedness_goal ∷ []
+row_obligations dev k AssertionsDefined = obligation (named_after dev k (codes "ASSERTIONS.wd")) (assertion_hypotheses dev k) definedness_goal ∷ []
+row_obligations dev k AssertionsHold = obligation (named_after dev k (codes "ASSERTIONS")) (assertion_hypotheses dev k) (each_after (level_at dev k).assertions) ∷ []
+row_obligations dev k Initialisation = obligation (named_after dev k (codes "INITIALISATION")) (init_hypotheses dev k) (init_goal dev k) ∷ []
+row_obligations dev k InitialisationDefined = obligation (named_after dev k (codes "INITIALISATION" ++ suffix (level_at dev k))) (init_hypotheses dev k) definedness_goal ∷ []
+row_obligations dev k Operations = map (of_operation dev k) (numbers_below (length dev.heads))
+row_obligations dev k OperationsDefined = map (of_definedness dev k) (numbers_below (length dev.heads))
+
+-- of one level
+abbrev pub level_obligations : Development → ℕ → List Obligation
+level_obligations dev k = flat_map (row_obligations dev k) rows
 
 -- of a development whose substitutions are flat: by levels, rows and operations
 abbrev pub flat_obligations : Development → List Obligation
-flat_obligations dev = flat_map (λ k. flat_map (row_obligations dev k) rows) (numbers_below (length dev.levels))
+flat_obligations dev = flat_map (level_obligations dev) (numbers_below (length dev.levels))
 
 -- of a development
 abbrev pub obligations : Development → List Obligation

@@ -8,12 +8,11 @@ use Rattle.bk_form.specs.declared.operator.Domain.TheVariants.{Natural}
 use Rattle.bk_form.specs.Role.{unary_role}
 use Rattle.bk_form.specs.Search.{Finder, IsSearch}
 use Rattle.bk_form.specs.Environment.{State}
-use Rattle.bk_form.specs.Replacement.{replaced, occurs, IsClosed}
+use Rattle.bk_form.specs.Replacement.{replaced, occurs, IsClosed, looked_up}
 use Rattle.bk_val.specs.ValueType.{int_type}
 use Rattle.bk_gsl.specs.Substitution.{Substitution, skip, assign, pre, guard, choice, if_else, any, seq, par, assert, becomes_such, loop}
 use Rattle.bk_gsl.specs.State.{among}
 use Rattle.bk_gsl.specs.Reads.{read}
-use Rattle.bk_gsl.specs.Run.{looked_up}
 use Rattle.bk_gsl.specs.Writes.{writes}
 use Rattle.bk_gsl.specs.Typed.{Types}
 use Rattle.bk_gsl.proofs.States.{cases, clash}

@@ -10,12 +10,12 @@ use Rattle.bk_form.specs.declared.operator.Domain.TheVariants.{Natural}
 use Rattle.bk_form.specs.Search.{Finder, no_choice}
 use Rattle.bk_form.specs.Environment.{Environment, under}
 use Rattle.bk_form.specs.Operators.{implies, number_in}
-use Rattle.bk_form.specs.Replacement.{replaced, all_replaced, occurs, any_occurs, IsClosed}
+use Rattle.bk_form.specs.Replacement.{replaced, all_replaced, occurs, any_occurs, IsClosed, looked_up}
 use Rattle.bk_form.specs.Meaning.{meaning, truth, value}
 use Rattle.bk_form.proofs.Agreement.{meaning-closed}
 use Rattle.bk_gsl.specs.Substitution.{Substitution, skip, assign, pre, guard, choice, if_else, any, seq, par, assert, becomes_such, loop}
 use Rattle.bk_gsl.specs.State.{among, firsts, with_value}
-use Rattle.bk_gsl.specs.Run.{looked_up, old_of}
+use Rattle.bk_gsl.specs.Run.{old_of}
 use Rattle.bk_gsl.specs.Writes.{writes}
 use Rattle.bk_gsl.proofs.States.{cases, clash, or-false, nat_eq-same, nat_eq-self}
 use Rattle.bk_wp.specs.Closing.{closed_over, closed_over_each, all_of}

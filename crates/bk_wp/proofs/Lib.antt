@@ -11,3 +11,4 @@ pub mod Outside
 pub mod Falls
 pub mod Loops
 pub mod Sound
+pub mod Growth

@@ -14,12 +14,12 @@ use Rattle.bk_form.specs.declared.operator.Domain.TheVariants.{Natural}
 use Rattle.bk_form.specs.Search.{Finder, IsSearch}
 use Rattle.bk_form.specs.Environment.{State}
 use Rattle.bk_form.specs.Operators.{number_in, is_in_named}
-use Rattle.bk_form.specs.Replacement.{replaced, IsClosed}
+use Rattle.bk_form.specs.Replacement.{replaced, IsClosed, looked_up}
 use Rattle.bk_form.proofs.Truth.{and-true, and-left, and-right}
 use Rattle.bk_gsl.specs.Substitution.{Substitution, loop}
 use Rattle.bk_gsl.specs.State.{IsTypedState, at_state, holds, value_at, declared_type, are_values_for, with_value, with_values, among, over}
 use Rattle.bk_gsl.specs.Writes.{writes}
-use Rattle.bk_gsl.specs.Run.{looked_up, Turns, Bounded, Runs, Ends}
+use Rattle.bk_gsl.specs.Run.{Turns, Bounded, Runs, Ends}
 use Rattle.bk_gsl.specs.Typed.{IsListed, AreListed, IsPredicate, IsTerm, Types}
 use Rattle.bk_gsl.proofs.States.{cases, over-at, nat_eq-same, nat_eq-self}
 use Rattle.bk_gsl.proofs.Runs.{changes-only, run-typed}

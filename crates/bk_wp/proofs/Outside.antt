@@ -8,11 +8,11 @@ use Rattle.bk_form.specs.Formula.{Formula, variable, unary, binary, for_all, for
 use Rattle.bk_form.specs.Role.{Role, gives, predicate, untyped, given_by, if_predicate, if_value, unary_role, binary_role, role, roles, bind, gives_set, each_gives_set, element_types, tuple_type}
 use Rattle.bk_form.specs.Search.{Finder}
 use Rattle.bk_form.specs.Environment.{State}
-use Rattle.bk_form.specs.Replacement.{occurs, any_occurs}
+use Rattle.bk_form.specs.Replacement.{occurs, any_occurs, looked_up}
 use Rattle.bk_gsl.specs.Substitution.{Substitution, skip, assign, pre, guard, choice, if_else, any, seq, par, assert, becomes_such, loop}
 use Rattle.bk_gsl.specs.State.{holds, value_at, with_value, with_values, among, over, firsts}
 use Rattle.bk_gsl.specs.Writes.{written}
-use Rattle.bk_gsl.specs.Run.{looked_up, assigned, old_of, with_old, Turns, Runs}
+use Rattle.bk_gsl.specs.Run.{assigned, old_of, with_old, Turns, Runs}
 use Rattle.bk_gsl.specs.Typed.{IsListed, AreListed, AreTypedTerms, AreTypedPairs, Types}
 use Rattle.bk_gsl.proofs.States.{cases, clash, nat_eq-same, over-at, over-off, with_values-out}
 use Rattle.bk_wp.proofs.Closed.{IsSome, unary-none, left-none, right-none, predicate-none, quantifier-some, ranges-some, are-each, set-some, both}

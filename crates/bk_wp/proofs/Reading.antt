@@ -6,11 +6,11 @@ use Rattle.bk_form.specs.Formula.{Formula, variable, bound, named, unary, binary
 use Rattle.bk_form.specs.declared.operator.UnOp.TheVariants.{Not}
 use Rattle.bk_form.specs.declared.operator.BinOp.TheVariants.{And, Imp, Lt, In}
 use Rattle.bk_form.specs.declared.operator.Domain.TheVariants.{Natural}
-use Rattle.bk_form.specs.Replacement.{replaced, all_replaced, occurs, any_occurs, count}
+use Rattle.bk_form.specs.Replacement.{replaced, all_replaced, occurs, any_occurs, count, looked_up}
 use Rattle.bk_gsl.specs.Substitution.{Substitution, skip, assign, pre, guard, choice, if_else, any, seq, par, assert, becomes_such, loop}
 use Rattle.bk_gsl.specs.State.{among, firsts}
 use Rattle.bk_gsl.specs.Reads.{variables_of, all_variables_of, variables_of_terms, outside, read}
-use Rattle.bk_gsl.specs.Run.{looked_up, old_of}
+use Rattle.bk_gsl.specs.Run.{old_of}
 use Rattle.bk_gsl.specs.Writes.{writes}
 use Rattle.bk_gsl.proofs.States.{cases, clash, nat_eq-same, nat_eq-self, among-append}
 use Rattle.bk_wp.specs.Closing.{closed_over, all_closed_over, closed_over_each, all_of, some_of}

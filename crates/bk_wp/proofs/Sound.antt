@@ -9,11 +9,11 @@ use Rattle.bk_form.specs.Formula.{Formula, variable, binary}
 use Rattle.bk_form.specs.declared.operator.BinOp.TheVariants.{Lt}
 use Rattle.bk_form.specs.Search.{Finder, IsSearch}
 use Rattle.bk_form.specs.Environment.{State}
-use Rattle.bk_form.specs.Replacement.{occurs, IsClosed}
+use Rattle.bk_form.specs.Replacement.{occurs, IsClosed, looked_up}
 use Rattle.bk_gsl.specs.Substitution.{Substitution, skip, assign, pre, guard, choice, if_else, any, seq, par, assert, becomes_such, loop}
 use Rattle.bk_gsl.specs.State.{IsTypedState, are_values_for, with_values, among, firsts}
 use Rattle.bk_gsl.specs.Reads.{read}
-use Rattle.bk_gsl.specs.Run.{looked_up, Runs}
+use Rattle.bk_gsl.specs.Run.{Runs}
 use Rattle.bk_gsl.specs.Writes.{written, writes}
 use Rattle.bk_gsl.specs.Typed.{IsListed, AreListed, AreTypedTerms, AreTypedPairs, Types}
 use Rattle.bk_gsl.proofs.States.{cases, clash, nat_eq-same, nat_eq-self, among-append, among-in_order, with_values-typed}

@@ -8,10 +8,10 @@ use Rattle.bk_form.specs.Search.{Finder}
 use Rattle.bk_form.specs.Environment.{State}
 use Rattle.bk_form.specs.Operators.{implies}
 use Rattle.bk_form.specs.Role.{given_by}
-use Rattle.bk_form.specs.Replacement.{replaced, IsClosed, IsReplacement, GivesType}
+use Rattle.bk_form.specs.Replacement.{replaced, IsClosed, IsReplacement, GivesType, looked_up}
 use Rattle.bk_form.proofs.Replaced.{meaning-replaced}
 use Rattle.bk_gsl.specs.State.{at_state, holds, firsts}
-use Rattle.bk_gsl.specs.Run.{looked_up, assigned, old_of}
+use Rattle.bk_gsl.specs.Run.{assigned, old_of}
 use Rattle.bk_gsl.specs.Typed.{AreTypedTerms, AreTypedPairs, AreListed}
 use Rattle.bk_gsl.proofs.States.{nat_eq-same}
 use Rattle.bk_wp.proofs.Closed.{term-closed}

@@ -2,14 +2,14 @@
 use Rattle.std.specs.Prelude.{ℕ, List, [], ◌∷◌, length}
 use Rattle.bk_form.specs.Table.{Table}
 use Rattle.bk_form.specs.Formula.{Formula, variable, named, bfalse, unary, binary, for_all, for_some}
-use Rattle.bk_form.specs.Replacement.{replaced}
+use Rattle.bk_form.specs.Replacement.{replaced, looked_up}
 use Rattle.bk_form.specs.declared.operator.UnOp.TheVariants.{Not}
 use Rattle.bk_form.specs.declared.operator.BinOp.TheVariants.{And, Or, Imp, Lt, In}
 use Rattle.bk_form.specs.declared.operator.Domain.TheVariants.{Natural}
 use Rattle.bk_gsl.specs.Substitution.{Substitution, skip, assign, pre, guard, choice, if_else, any, seq, par, assert, becomes_such, loop}
 use Rattle.bk_gsl.specs.State.{firsts}
 use Rattle.bk_gsl.specs.Writes.{writes}
-use Rattle.bk_gsl.specs.Run.{looked_up, old_of}
+use Rattle.bk_gsl.specs.Run.{old_of}
 use Rattle.bk_gsl.specs.Flat.{renamed}
 use Rattle.bk_wp.specs.Closing.{closed_over_each, types_of, all_of, some_of}
 
@@ -17,12 +17,12 @@ use Rattle.bk_wp.specs.Closing.{closed_over_each, types_of, all_of, some_of}
 abbrev pub new_values : List (ℕ × ℕ) → Formula → Formula
 new_values xs p = renamed (old_of xs) (closed_over_each (firsts xs) p)
 
--- !z.(P1 => R1)
+-- !z.(P' => R')
 abbrev pub all_new : Table → List (ℕ × ℕ) → Formula → Formula → Formula
 all_new table [] p r = binary Imp p r
 all_new table (x ∷ xs) p r = for_all (types_of table (firsts (x ∷ xs))) (binary Imp (new_values (x ∷ xs) p) (closed_over_each (firsts (x ∷ xs)) r))
 
--- #z.(P1 & R1)
+-- #z.(P' & R')
 abbrev pub some_new : Table → List (ℕ × ℕ) → Formula → Formula → Formula
 some_new table [] p r = binary And p r
 some_new table (x ∷ xs) p r = for_some (types_of table (firsts (x ∷ xs))) (binary And (new_values (x ∷ xs) p) (closed_over_each (firsts (x ∷ xs)) r))

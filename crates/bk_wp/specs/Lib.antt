@@ -1,4 +1,6 @@
+pub mod Faults
 pub mod Closing
+pub mod Growth
 pub mod Box
 pub mod Shapes
 pub mod Apart

@@ -1,6 +1,7 @@
 //! Laws of box and diamond. Each is the contract of a function that does nothing.
 
 ghost use Rattle.bk_wp.specs.Laws.{BoxWithoutBinders, DiamondWithoutBinders, ConjugateWithoutBinders, BoxMeans, DiamondMeans, DiamondIsConjugate, BoxIsSound};
+ghost use Rattle.bk_wp.specs.Growth.{BoxIsNoSmaller, DiamondIsNoSmaller};
 ghost use Rattle.bk_wp.specs.Examples.{EachTable, CountsUp};
 
 /// What box and diamond say of a substitution without locals, loops and `||`.
@@ -20,6 +21,12 @@ pub fn with_binders()
 /// What the box says with loops too.
 pub fn with_loops()
     ensures { BoxIsSound }
+{}
+
+/// Neither is smaller than what is to hold after the substitution.
+pub fn growth()
+    ensures boxes { BoxIsNoSmaller }
+    ensures diamonds { DiamondIsNoSmaller }
 {}
 
 /// Small cases, to be checked by hand.

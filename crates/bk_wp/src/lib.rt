@@ -1,4 +1,11 @@
 //! What is true before a substitution: the box and the diamond.
 #![tactic(auto)]
 
+pub mod error;
 pub mod laws;
+#[cfg(test)]
+mod tests;
+pub mod weakest;
+
+pub use error::WpFault;
+pub use weakest::{boxed, diamond};

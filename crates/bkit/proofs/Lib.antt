@@ -1,4 +1,5 @@
 pub mod Following
+pub mod Open
 pub mod Plays
 pub mod Projects
 pub mod RunWords

@@ -19,6 +19,7 @@ use Rattle.bk_calls.specs.Script.{IsScript, AsksFor, HasNoInputs}
 use Rattle.bk_calls.proofs.Lines.{lines_within}
 use Rattle.bk_code.specs.Session.{Session}
 use Rattle.bk_calls.specs.Transcript.{transcript}
+use Rattle.bk_po.specs.Obvious.{HasObviousObligations}
 use Rattle.bkit.proofs.Following.{project_follows}
 use Rattle.bkit.specs.declared.status.Status.{Status}
 use Rattle.bkit.specs.Session.{fuel, Plays}
@@ -121,10 +122,11 @@ pub few_lines : (text : List ℕ) → length text ≤ 16777216 → length (lines
 few_lines text h = omega (arith, h, lines_within text)
 
 pub reads_program : (files : Files) (project calls text : List ℕ) (dev : Development) (image : Image) (requests : List Request) →
-    ReadsProject files project dev → image ≡ translation dev → IsTold files calls text → IsScript image text requests → ReadsProgram files project calls image requests
-reads_program files project calls text dev image requests reads e told script = record {
+    ReadsProject files project dev → HasObviousObligations dev → image ≡ translation dev → IsTold files calls text → IsScript image text requests → ReadsProgram files project calls image requests
+reads_program files project calls text dev image requests reads obvious e told script = record {
   dev = dev;
   reads = reads;
+  obvious = obvious;
   translated = e;
   asks = record { text = text; told = told; script = subst (λ x. IsScript x text requests) e script };
 }
@@ -141,13 +143,14 @@ writes_run files words project calls image requests status before after are r p 
     dev = r.dev;
     reads = r.reads;
     only = λ other k. one_project files project r.dev other r.reads k;
+    obvious = r.obvious;
     requests = requests;
     asks = r.asks;
     tolds = p.tolds;
     session = subst (λ x. Session x fuel requests p.tolds) r.translated p.session;
     transcript_is = ap (λ x. transcript x fuel requests p.tolds) r.translated;
     last = p.last;
-    follows = project_follows files project r.dev r.reads;
+    follows = project_follows files project r.dev r.reads r.obvious;
   };
   appended = p.written;
 }

@@ -19,9 +19,9 @@ use Rattle.bk_calls.specs.declared.script.CallsFault.TheVariants.{Line, Memory a
 use Rattle.bk_calls.specs.Script.{IsFirstFault}
 use Rattle.bkit.specs.declared.status.Status.{Status}
 use Rattle.bkit.specs.declared.stop.Stop.{Stop}
-use Rattle.bkit.specs.declared.stop.Stop.TheVariants.{Usage, Missing, Refused, Limit, BadCalls, ReadFault, WriteFault, Memory}
+use Rattle.bkit.specs.declared.stop.Stop.TheVariants.{Usage, Missing, Refused, Limit, Unproved, BadCalls, ReadFault, WriteFault, Memory}
 use Rattle.bkit.specs.Run.{ComesSoFar, IsTold, component_lines, ReadsProject, AreRunWords}
-use Rattle.bkit.specs.Stops.{IsOutside, StopsAtFile, StopsAtProject, StopsAtCalls, StopsAt, IsStopOf, stop_of_code, stop_of_calls, status_of_stop, stop_text, Reports, IsStopped, WritesStop}
+use Rattle.bkit.specs.Stops.{IsOutside, StopsAtFile, StopsAtProject, StopsAtObligations, IsProved, StopsAtRun, StopsAt, IsStopOf, stop_of_code, stop_of_calls, status_of_stop, stop_text, Reports, IsStopped, WritesStop}
 use Rattle.bkit.proofs.Projects.{names_of}
 
 -- what an error says may be weakened
@@ -58,40 +58,43 @@ module _ (files : Files) (project text : List ℕ) (told : IsTold files project 
   at_texts ls a b above below refusal stop are e machine implementation (inr (inr h)) is =
       inr (inr (text, told, inr (a, b, names_of text ls a b are e, inr (above, machine, inr (below, implementation, inr (subst (λ r. IsStopOf r project a b stop) h.0 is, h.1, h.2))))))
 
--- ---- the calls
+-- ---- the obligations and the calls
 abbrev pub Stopped : Files → (project calls : List ℕ) → Stop → Type 0
-Stopped files project calls stop =
-    IsOutside stop ⊎ StopsAtProject files project stop ⊎ ((dev : Development) × ReadsProject files project dev × StopsAtCalls files project calls (translation dev) stop)
+Stopped files project calls stop = IsOutside stop ⊎ StopsAtRun files project calls stop
 
 pub at_project : (files : Files) (project calls : List ℕ) (stop : Stop) → IsOutside stop ⊎ StopsAtProject files project stop → Stopped files project calls stop
 at_project files project calls stop (inl o) = inl o
 at_project files project calls stop (inr s) = inr (inl s)
 
-module _ (files : Files) (project calls : List ℕ) (dev : Development) (reads : ReadsProject files project dev) where
+pub at_obligations : (files : Files) (project calls : List ℕ) (dev : Development) (stop : Stop) → ReadsProject files project dev → IsOutside stop ⊎ StopsAtObligations project dev stop → Stopped files project calls stop
+at_obligations files project calls dev stop reads (inl o) = inl o
+at_obligations files project calls dev stop reads (inr s) = inr (inr (dev, reads, inl s))
+
+module _ (files : Files) (project calls : List ℕ) (dev : Development) (reads : ReadsProject files project dev) (proved : IsProved dev) where
   pub at_script : (stop : Stop) → IsOutside stop ⊎ StopsAtFile files calls stop → Stopped files project calls stop
   at_script stop (inl o) = inl o
-  at_script stop (inr s) = inr (inr (dev, reads, inl s))
+  at_script stop (inr s) = inr (inr (dev, reads, inr (proved, inl s)))
 
   pub at_code : (text : List ℕ) (fault : GenFault) (stop : Stop) → IsTold files calls text → (fault ≡ CodeTooLong → 1000000 < length (translation dev).code) → (fault ≡ TooManyCells → (length (translation dev).code ≤ 1000000) × (1000000 < cell_count dev)) → stop ≡ stop_of_code fault project → Stopped files project calls stop
-  at_code text CodeTooLong stop told long many is = inr (inr (dev, reads, inr (text, told, inl (is, long refl))))
-  at_code text TooManyCells stop told long many is = inr (inr (dev, reads, inr (text, told, inr (inl (is, (many refl).0, (many refl).1)))))
+  at_code text CodeTooLong stop told long many is = inr (inr (dev, reads, inr (proved, inr (text, told, inl (is, long refl)))))
+  at_code text TooManyCells stop told long many is = inr (inr (dev, reads, inr (proved, inr (text, told, inr (inl (is, (many refl).0, (many refl).1))))))
   at_code text NoRoom stop told long many is = inl (outside_memory stop is)
 
   pub at_calls : (text : List ℕ) (image : Image) (fault : CallsFault) (stop : Stop) → IsTold files calls text → image ≡ translation dev → (length image.code ≤ 1000000) × (image.cells ≤ 1000000) → ((number : ℕ) → fault ≡ Line number → IsFirstFault image text number) → stop ≡ stop_of_calls fault → Stopped files project calls stop
-  at_calls text image (Line number) stop told e within first is = inr (inr (dev, reads, inr (text, told, inr (inr (number, is, subst (λ x. length x.code ≤ 1000000) e within.0, subst (λ x. x.cells ≤ 1000000) e within.1, subst (λ x. IsFirstFault x text number) e (first number refl))))))
+  at_calls text image (Line number) stop told e within first is = inr (inr (dev, reads, inr (proved, inr (text, told, inr (inr (number, is, subst (λ x. length x.code ≤ 1000000) e within.0, subst (λ x. x.cells ≤ 1000000) e within.1, subst (λ x. IsFirstFault x text number) e (first number refl)))))))
   at_calls text image NoMemory stop told e within first is = inl (outside_memory stop is)
 
 -- ---- the run
 pub at_run : (files : Files) (words : List (List ℕ)) (project calls : List ℕ) (stop : Stop) → AreRunWords words project calls → Stopped files project calls stop → IsOutside stop ⊎ StopsAt files words stop
 at_run files words project calls stop are (inl o) = inl o
-at_run files words project calls stop are (inr (inl s)) = inr (inr (project, calls, are, inl s))
-at_run files words project calls stop are (inr (inr s)) = inr (inr (project, calls, are, inr s))
+at_run files words project calls stop are (inr s) = inr (inr (project, calls, are, s))
 
 outside_is_not_stopped : (stop : Stop) → IsOutside stop → IsStopped (status_of_stop stop) → ⊥
 outside_is_not_stopped Usage o s = o
 outside_is_not_stopped (Missing name) o s = o
 outside_is_not_stopped (Refused fault name) o s = o
 outside_is_not_stopped (Limit limit name) o s = o
+outside_is_not_stopped (Unproved name) o s = o
 outside_is_not_stopped (BadCalls line) o s = o
 outside_is_not_stopped ReadFault o s = s
 outside_is_not_stopped WriteFault o s = s
@@ -109,6 +112,7 @@ stop_so_far Usage = tt
 stop_so_far (Missing name) = tt
 stop_so_far (Refused fault name) = tt
 stop_so_far (Limit limit name) = tt
+stop_so_far (Unproved name) = tt
 stop_so_far (BadCalls line) = tt
 stop_so_far ReadFault = tt
 stop_so_far WriteFault = tt

@@ -12,11 +12,11 @@ use Rattle.bk_front.specs.declared.project_file.LineKind.TheVariants.{Machine, I
 use Rattle.bk_front.specs.ProjectFile.{IsFileName, NamesFiles}
 use Rattle.bk_front.specs.Reading.{Reads}
 use Rattle.bk_sim.specs.Follows.{Follows}
-use Rattle.bk_po.specs.Obligations.{HasValidObligations}
+use Rattle.bk_po.specs.Obvious.{HasObviousObligations}
 use Rattle.bk_calls.specs.Script.{IsScript}
 use Rattle.bk_calls.specs.Transcript.{transcript}
 use Rattle.bkit.specs.declared.status.Status.{Status}
-use Rattle.bkit.specs.declared.status.Status.TheVariants.{Done, Trapped, OutOfFuel, Unproved, Incomplete, BadImage}
+use Rattle.bkit.specs.declared.status.Status.TheVariants.{Done, Trapped, OutOfFuel, Incomplete, BadImage}
 use Rattle.bkit.specs.Session.{fuel, session_status}
 
 -- ---- words
@@ -71,10 +71,12 @@ pub record ReadsCalls (files : Files) (calls : List ℕ) (image : Image) (reques
   pub told : IsTold files calls text
   pub script : IsScript image text requests
 
--- the image is the translation of the development that the project reads as, and the script asks for these calls of it
+-- the image is the translation of the development that the project reads as, each obligation of it is obvious, and the
+-- script asks for these calls of the image
 pub record ReadsProgram (files : Files) (project calls : List ℕ) (image : Image) (requests : List Request) : Type 0 where
   pub dev : Development
   pub reads : ReadsProject files project dev
+  pub obvious : HasObviousObligations dev
   pub translated : image ≡ translation dev
   pub asks : ReadsCalls files calls (translation dev) requests
 
@@ -86,8 +88,8 @@ IsExecuted Trapped = Unit {0}
 IsExecuted OutOfFuel = Unit {0}
 IsExecuted _ = ⊥
 
--- the text is the transcript of the session, over the called operations, of the translation of the development that the
--- project reads as; the status is that of the session's last end; and where its obligations are valid, the code follows the machine
+-- each obligation of the development that the project reads as is obvious; the text is the transcript of the session, over the
+-- called operations, of its translation; the status is that of the session's last end; and the code follows the machine
 pub record IsRun (files : Files) (words : List (List ℕ)) (text : List ℕ) (status : Status) : Type 0 where
   pub project : List ℕ
   pub calls : List ℕ
@@ -96,14 +98,16 @@ pub record IsRun (files : Files) (words : List (List ℕ)) (text : List ℕ) (st
   pub reads : ReadsProject files project dev
   -- the one development that the told texts read as
   pub only : (other : Development) → ReadsProject files project other → other ≡ dev
+  pub obvious : HasObviousObligations dev
   pub requests : List Request
   pub asks : ReadsCalls files calls (translation dev) requests
   pub tolds : List Told
   pub session : Session (translation dev) fuel requests tolds
   pub transcript_is : text ≡ transcript (translation dev) fuel requests tolds
   pub last : status ≡ session_status tolds
-  -- where each of its obligations is valid, the code follows the machine, for every search
-  pub follows : HasValidObligations dev → (find : Finder) → IsSearch find → Follows find dev (translation dev)
+  -- for every search: the replies up to the first call whose precondition may be false are those of a run of the abstract
+  -- machine, no such call traps, and one out of fuel would end with more
+  pub follows : (find : Finder) → IsSearch find → Follows find dev (translation dev)
 
 -- what is written is what had been written, and then the text of the run
 pub record WritesRun (files : Files) (words : List (List ℕ)) (old new : Option (List ℕ)) (status : Status) : Type 0 where
@@ -111,9 +115,8 @@ pub record WritesRun (files : Files) (words : List (List ℕ)) (old new : Option
   pub run : IsRun files words text status
   pub appended : new ≡ written_with old text
 
--- the statuses that come so far: nothing is proved yet, each project has an implementation, and no image is read
+-- the statuses that come so far: each project has an implementation, and no image is read
 abbrev pub ComesSoFar : Status → Type 0
-ComesSoFar Unproved = ⊥
 ComesSoFar Incomplete = ⊥
 ComesSoFar BadImage = ⊥
 ComesSoFar _ = Unit {0}

@@ -1,5 +1,5 @@
 -- Why the program stops before its work is done: the causes, in the order of the checks, and the lines that say so.
-use Rattle.std.specs.Prelude.{◌≡◌, ℕ, zero, suc, ◌<◌, ◌≤◌, ◌⊎◌, List, [], ◌++◌, length, codes, decimal, Option, None}
+use Rattle.std.specs.Prelude.{◌≡◌, ℕ, zero, suc, ◌<◌, ◌≤◌, ◌⊎◌, List, [], ◌++◌, length, codes, decimal, Option, Some, None}
 use Rattle.bk_io.specs.Files.{Files, file_named, IsLonger}
 use Rattle.bk_code.specs.declared.image.Image.{Image}
 use Rattle.bk_dev.specs.Development.{Development}
@@ -10,14 +10,17 @@ use Rattle.bk_front.specs.declared.refusal.Refusal.{Refusal}
 use Rattle.bk_front.specs.declared.refusal.Refusal.TheVariants.{Fault, Limit as PassesLimit, Memory as OutOfMemory}
 use Rattle.bk_front.specs.ProjectFile.{NamesFiles, IsNoProject}
 use Rattle.bk_front.specs.Reading.{Reads, IsMachineText}
+use Rattle.bk_po.specs.Obligations.{obligations, numbered_obligations}
+use Rattle.bk_po.specs.Limits.{first_too_large, PassTogether, PassNoLimit}
+use Rattle.bk_po.specs.Obvious.{HasObviousObligations, first_open}
 use Rattle.bk_calls.specs.Script.{IsFirstFault}
 use Rattle.bk_io.specs.Pieces.{written_with}
 use Rattle.bk_calls.specs.declared.script.CallsFault.{CallsFault}
 use Rattle.bk_calls.specs.declared.script.CallsFault.TheVariants.{Line, Memory as NoMemory}
 use Rattle.bkit.specs.declared.status.Status.{Status}
-use Rattle.bkit.specs.declared.status.Status.TheVariants.{Usage as UsageStatus, Missing as MissingStatus, Refused as RefusedStatus, BadCalls as BadCallsStatus, ReadFault as ReadFaultStatus, WriteFault as WriteFaultStatus, Memory as MemoryStatus}
+use Rattle.bkit.specs.declared.status.Status.TheVariants.{Usage as UsageStatus, Missing as MissingStatus, Refused as RefusedStatus, Unproved as UnprovedStatus, BadCalls as BadCallsStatus, ReadFault as ReadFaultStatus, WriteFault as WriteFaultStatus, Memory as MemoryStatus}
 use Rattle.bkit.specs.declared.stop.Stop.{Stop}
-use Rattle.bkit.specs.declared.stop.Stop.TheVariants.{Usage, Missing, Refused, Limit, BadCalls, ReadFault, WriteFault, Memory}
+use Rattle.bkit.specs.declared.stop.Stop.TheVariants.{Usage, Missing, Refused, Limit, Unproved, BadCalls, ReadFault, WriteFault, Memory}
 use Rattle.bkit.specs.Run.{AreRunWords, AreNoRunWords, IsTold, ReadsProject}
 
 -- a device failed, or there was no memory
@@ -33,6 +36,7 @@ status_of_stop Usage = UsageStatus
 status_of_stop (Missing name) = MissingStatus
 status_of_stop (Refused fault name) = RefusedStatus
 status_of_stop (Limit limit name) = RefusedStatus
+status_of_stop (Unproved name) = UnprovedStatus
 status_of_stop (BadCalls line) = BadCallsStatus
 status_of_stop ReadFault = ReadFaultStatus
 status_of_stop WriteFault = WriteFaultStatus
@@ -48,6 +52,7 @@ stop_text Usage = codes "usage: bkit VERB [FILE] [FILE] [--fuel N]\n"
 stop_text (Missing name) = codes "missing " ++ name ++ codes "\n"
 stop_text (Refused fault name) = refusal_text fault name ++ codes "\n"
 stop_text (Limit limit name) = refusal_text 13 name ++ codes " limit " ++ decimal limit ++ codes "\n"
+stop_text (Unproved name) = codes "unproved " ++ name ++ codes "\n"
 stop_text (BadCalls line) = codes "bad call line " ++ decimal line ++ codes "\n"
 stop_text _ = []
 
@@ -89,6 +94,18 @@ StopsAtProject files project stop =
     (((stop ≡ Refused 15 project) × IsNoProject text) ⊎
     ((machine : List ℕ) × (implementation : List ℕ) × NamesFiles text machine implementation × StopsAtComponents files machine implementation stop)))
 
+-- the limits of the obligations, 6 with the name of the first that is too large; and then the first that is not obvious
+abbrev pub StopsAtObligations : (project : List ℕ) → Development → Stop → Type 0
+StopsAtObligations project dev stop =
+    ((name : List ℕ) × (stop ≡ Limit 6 name) × (first_too_large (obligations dev) ≡ Some name)) ⊎
+    ((limit : ℕ) × (stop ≡ Limit limit project) × PassTogether (obligations dev) limit) ⊎
+    ((name : List ℕ) × (stop ≡ Unproved name) × PassNoLimit (obligations dev) × (first_open (numbered_obligations dev) ≡ Some name))
+
+-- the obligations pass no limit, and each is obvious
+pub record IsProved (dev : Development) : Type 0 where
+  pub within : PassNoLimit (obligations dev)
+  pub obvious : HasObviousObligations dev
+
 -- the limits of the code, and the call script's first line at fault
 abbrev pub StopsAtCode : (project text : List ℕ) → Image → Stop → Type 0
 StopsAtCode project text image stop =
@@ -100,13 +117,18 @@ abbrev pub StopsAtCalls : Files → (project calls : List ℕ) → Image → Sto
 StopsAtCalls files project calls image stop =
     StopsAtFile files calls stop ⊎ ((text : List ℕ) × IsTold files calls text × StopsAtCode project text image stop)
 
--- the words, the project, and the calls of its translation
+-- the project, its obligations, and the calls of its translation
+abbrev pub StopsAtRun : Files → (project calls : List ℕ) → Stop → Type 0
+StopsAtRun files project calls stop =
+    StopsAtProject files project stop ⊎
+    ((dev : Development) × ReadsProject files project dev ×
+    (StopsAtObligations project dev stop ⊎ (IsProved dev × StopsAtCalls files project calls (translation dev) stop)))
+
+-- the words, and what they name
 abbrev pub StopsAt : Files → List (List ℕ) → Stop → Type 0
 StopsAt files words stop =
     ((stop ≡ Usage) × AreNoRunWords words) ⊎
-    ((project : List ℕ) × (calls : List ℕ) × AreRunWords words project calls ×
-    (StopsAtProject files project stop ⊎
-    ((dev : Development) × ReadsProject files project dev × StopsAtCalls files project calls (translation dev) stop)))
+    ((project : List ℕ) × (calls : List ℕ) × AreRunWords words project calls × StopsAtRun files project calls stop)
 
 -- ---- refusals of the project's texts
 -- the name of the file with this number: 0 for the project file
@@ -133,6 +155,7 @@ abbrev pub IsStopped : Status → Type 0
 IsStopped UsageStatus = Unit {0}
 IsStopped MissingStatus = Unit {0}
 IsStopped RefusedStatus = Unit {0}
+IsStopped UnprovedStatus = Unit {0}
 IsStopped BadCallsStatus = Unit {0}
 IsStopped _ = ⊥
 

@@ -5,6 +5,7 @@ ghost use Rattle.bk_io.specs.Files.{Files};
 ghost use Rattle.bk_front.specs.FirstForm.{IsFirstForm};
 ghost use Rattle.bk_front.specs.ProjectFile.{IsFileName};
 ghost use Rattle.bk_front.specs.Project.{text_at};
+ghost use Rattle.bk_po.specs.Basic.{IsBasic};
 ghost use Rattle.bkit.specs.Stops.{IsOutside, StopsAtFile, StopsAtProject, IsStopOf, name_of};
 ghost use Rattle.bkit.specs.Run.{IsTold, component_lines, AreComponentLines, ReadsProject};
 
@@ -50,6 +51,7 @@ pub(crate) fn read_development<H: Shelf>(
     ensures files { H.files shelf.new ≡ H.files shelf.old }
     ensures told { IfOk result (λ dev. (files : Files) → H.files shelf.old ≡ Some files → ReadsProject files name.now dev) }
     ensures first_form { IfOk result IsFirstForm }
+    ensures basic { IfOk result IsBasic }
     ensures few { IfOk result (λ dev. length dev.heads ≤ 100) }
 {
     let text = fetch(alloc, name, shelf)?;

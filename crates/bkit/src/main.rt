@@ -3,6 +3,7 @@
 
 mod files;
 mod program;
+mod proof;
 mod session;
 mod status;
 mod stop;

@@ -5,12 +5,11 @@ ghost use Rattle.bk_io.specs.Files.{Files};
 ghost use Rattle.bk_code.specs.Checks.{IsChecked};
 ghost use Rattle.bk_code.specs.Laws.{IsRequest};
 ghost use Rattle.bk_calls.specs.Script.{request_of};
-ghost use Rattle.bk_dev.specs.Development.{Development};
-ghost use Rattle.bk_gen.specs.Translation.{translation};
-ghost use Rattle.bkit.specs.Stops.{IsOutside, StopsAtProject, StopsAtCalls, StopsAt, IsStopped, WritesStop, stop_of_code};
-ghost use Rattle.bkit.specs.Run.{AreRunWords, AreNoRunWords, ReadsProject, ReadsProgram, IsExecuted, WritesRun, ComesSoFar};
+ghost use Rattle.bkit.specs.Stops.{IsOutside, StopsAtRun, StopsAt, IsStopped, WritesStop, stop_of_code};
+ghost use Rattle.bkit.specs.Run.{AreRunWords, AreNoRunWords, ReadsProgram, IsExecuted, WritesRun, ComesSoFar};
 
 use crate::files::{fetch, owned, read_development};
+use crate::proof::check_obligations;
 use crate::session::play;
 use crate::status::Status;
 use crate::stop::Stop;
@@ -33,8 +32,9 @@ struct Program {
     calls: Vec<Call>,
 }
 
-/// Does what the words ask for. `run PROJECT CALLS` reads the project's file and the component files that it names,
-/// translates the implementation, and plays the calls of the script; it writes the session's transcript.
+/// Does what the words ask for. `run PROJECT CALLS` reads the project's file and the component files that it names, makes
+/// their proof obligations and asks that each is obvious, translates the implementation, and plays the calls of the script;
+/// it writes the session's transcript.
 ///
 /// The words are those of the command line without the program's name.
 pub fn bkit<H: Shelf, K: Sink>(
@@ -98,8 +98,7 @@ fn read_program<H: Shelf>(
     script: &str,
     shelf: &mut H,
 ) -> Result<Program, Stop>
-    ensures cause { IfErr result (λ stop. (files : Files) → H.files shelf.old ≡ Some files → IsOutside stop ⊎ StopsAtProject files project.now stop ⊎
-        ((dev : Development) × ReadsProject files project.now dev × StopsAtCalls files project.now script.now (translation dev) stop)) }
+    ensures cause { IfErr result (λ stop. (files : Files) → H.files shelf.old ≡ Some files → IsOutside stop ⊎ StopsAtRun files project.now script.now stop) }
     ensures late { IfErr result (λ stop. stop ≢ Stop.Usage) }
     ensures told { IfOk result (λ p. (files : Files) → H.files shelf.old ≡ Some files → ReadsProgram files project.now script.now p.image (map request_of p.calls.items)) }
     ensures checked { IfOk result (λ p. IsChecked p.image) }
@@ -107,6 +106,7 @@ fn read_program<H: Shelf>(
     ensures few { IfOk result (λ p. length p.calls.items < 2 ^ 32) }
 {
     let development = read_development(alloc, project, shelf)?;
+    check_obligations(alloc, project, &development)?;
     let text = fetch(alloc, script, shelf)?;
     let image = match translate(alloc, &development) {
         Ok(image) => image,

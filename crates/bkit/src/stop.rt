@@ -24,6 +24,8 @@ pub(crate) enum Stop {
     Refused(u8, Text),
     /// The file with this name passes this limit.
     Limit(u8, Text),
+    /// The obligation with this name is the first that is not proved.
+    Unproved(Text),
     /// The line of the call script with this number, from 1, is at fault.
     BadCalls(u32),
     /// A file could not be read.
@@ -107,6 +109,7 @@ impl Stop {
             Stop::Usage => Status::Usage,
             Stop::Missing(_) => Status::Missing,
             Stop::Refused(_, _) | Stop::Limit(_, _) => Status::Refused,
+            Stop::Unproved(_) => Status::Unproved,
             Stop::BadCalls(_) => Status::BadCalls,
             Stop::ReadFault => Status::ReadFault,
             Stop::WriteFault => Status::WriteFault,
@@ -141,6 +144,11 @@ impl Stop {
             Stop::Limit(limit, name) => {
                 write_refusal(&mut line, FAULT_OF_LIMITS, name)?;
                 write_limit(&mut line, *limit)?;
+            }
+            Stop::Unproved(name) => {
+                line.extend_from_slice(b"unproved ")?;
+                line.extend_from_slice(name.as_bytes())?;
+                line.extend_from_slice(b"\n")?;
             }
             Stop::BadCalls(number) => {
                 line.extend_from_slice(b"bad call line ")?;

@@ -1,8 +1,11 @@
 // Runs over files and a sink in memory.
 
+use crate::files::read_development;
 use crate::program::bkit;
 use crate::status::Status;
 use bk_io::{MemShelf, MemSink, SureShelf, SureSink, have_distinct_names};
+use bk_kernel::is_obvious;
+use bk_po::obligations;
 use std::alloc::Global;
 use std::test::Fail;
 
@@ -131,6 +134,159 @@ fn the_implementation_is_what_runs(rt: HostRuntime) -> Result<(), Fail> {
     assert_eq!(rt; status, Status::Done);
     let transcript = "setmax\nget = 4\nend 2 calls, 7 steps\n";
     assert_eq!(rt; written.as_slice(), transcript.as_bytes());
+    Ok(())
+}
+
+// ---- obligations
+
+// The same counter, whose setmax sets 11 at both levels.
+const WIDE: &str = "MACHINE Counter VARIABLES n INVARIANT n : 0..10 INITIALISATION n := 0 \
+    OPERATIONS reset = n := 0 ; setmax = n := 11 ; r <-- get = r := n END";
+
+const WIDE_IMPLEMENTATION: &str = "IMPLEMENTATION Counter_i REFINES Counter CONCRETE_VARIABLES n \
+    INVARIANT n : 0..10 INITIALISATION n := 0 \
+    OPERATIONS reset = n := 0 ; setmax = n := 11 ; r <-- get = r := n END";
+
+// How a run ends of this machine with this implementation, and what it writes.
+fn of_pair<'a>(
+    alloc: Global,
+    machine: &'a str,
+    implementation: &'a str,
+    script: Option<&'a str>,
+) -> Result<(Status, Vec<u8>), Fail> {
+    let mut files = Vec::new(alloc);
+    for (name, text) in [
+        ("c.prj", Some(PROJECT)),
+        ("Counter.mch", Some(machine)),
+        ("Counter_i.imp", Some(implementation)),
+        ("c.calls", script),
+    ] {
+        if let Some(text) = text {
+            files.push((
+                String::from_str(alloc, name)?,
+                text.as_bytes().to_vec(alloc)?,
+            ))?;
+        }
+    }
+    if !have_distinct_names(&files) {
+        return Err(Fail::from("two files have one name"));
+    }
+    let mut shelf = SureShelf::new(files);
+    let mut sink = SureSink::new(alloc, 64)?;
+    let words = owned(alloc, &RUN)?;
+    let status = bkit(alloc, &words, &mut shelf, &mut sink);
+    Ok((status, sink.written().to_vec(alloc)?))
+}
+
+// The counter's obligations, in their order; each is obvious.
+#[test]
+fn obligations_of_the_counter(rt: HostRuntime) -> Result<(), Fail> {
+    let alloc = rt.alloc();
+    let names = [
+        "Counter.INITIALISATION.1",
+        "Counter.reset.1",
+        "Counter.setmax.1",
+        "Counter.get.1",
+        "Counter_i.INITIALISATION.1",
+        "Counter_i.INITIALISATION.2",
+        "Counter_i.reset.1",
+        "Counter_i.reset.2",
+        "Counter_i.setmax.1",
+        "Counter_i.setmax.2",
+        "Counter_i.get.1",
+        "Counter_i.get.2",
+        "Counter_i.get.3",
+    ];
+    let files = files(alloc, ("", None))?;
+    if !have_distinct_names(&files) {
+        return Err(Fail::from("two files have one name"));
+    }
+    let mut shelf = SureShelf::new(files);
+    let development = read_development(alloc, "c.prj", &mut shelf)
+        .ok()
+        .ok_or("refused")?;
+    let list = obligations(alloc, &development).ok().ok_or("no list")?;
+    assert_eq!(rt; list.len(), names.len());
+    for (obligation, name) in list.iter().zip(names.iter()) {
+        assert_eq!(rt; obligation.name.as_bytes(), name.as_bytes());
+        assert!(rt; is_obvious(&obligation.sequent), "{name}");
+    }
+    Ok(())
+}
+
+// The first obligation that is not obvious is named, and no call is made.
+#[test]
+fn obligations_that_are_open(rt: HostRuntime) -> Result<(), Fail> {
+    let cases: [(&str, &str, &str); 7] = [
+        (WIDE, WIDE_IMPLEMENTATION, "unproved Counter.setmax.1\n"),
+        // the initialisation is asked first
+        (
+            "MACHINE Counter VARIABLES n INVARIANT n : 0..10 INITIALISATION n := 11 \
+            OPERATIONS reset = n := 0 ; setmax = n := 11 ; r <-- get = r := n END",
+            IMPLEMENTATION,
+            "unproved Counter.INITIALISATION.1\n",
+        ),
+        // the machine's value is another
+        (
+            MACHINE,
+            "IMPLEMENTATION Counter_i REFINES Counter CONCRETE_VARIABLES n INVARIANT n : 0..10 \
+            INITIALISATION n := 1 \
+            OPERATIONS reset = n := 0 ; setmax = n := 10 ; r <-- get = r := n END",
+            "unproved Counter_i.INITIALISATION.2\n",
+        ),
+        (
+            MACHINE,
+            "IMPLEMENTATION Counter_i REFINES Counter CONCRETE_VARIABLES n INVARIANT n : 0..10 \
+            INITIALISATION n := 0 \
+            OPERATIONS reset = n := 0 ; setmax = n := 9 ; r <-- get = r := n END",
+            "unproved Counter_i.setmax.2\n",
+        ),
+        // the implementation's interval is too small for the value
+        (
+            MACHINE,
+            "IMPLEMENTATION Counter_i REFINES Counter CONCRETE_VARIABLES n INVARIANT n : 0..9 \
+            INITIALISATION n := 0 \
+            OPERATIONS reset = n := 0 ; setmax = n := 10 ; r <-- get = r := n END",
+            "unproved Counter_i.setmax.1\n",
+        ),
+        // the reply is another
+        (
+            MACHINE,
+            "IMPLEMENTATION Counter_i REFINES Counter CONCRETE_VARIABLES n INVARIANT n : 0..10 \
+            INITIALISATION n := 0 \
+            OPERATIONS reset = n := 0 ; setmax = n := 10 ; r <-- get = r := 0 END",
+            "unproved Counter_i.get.3\n",
+        ),
+        // an empty interval
+        (
+            "MACHINE Counter VARIABLES n INVARIANT n : 10..0 INITIALISATION n := 0 \
+            OPERATIONS reset = n := 0 ; setmax = n := 10 ; r <-- get = r := n END",
+            IMPLEMENTATION,
+            "unproved Counter.INITIALISATION.1\n",
+        ),
+    ];
+    for (machine, implementation, line) in cases {
+        let outcome = of_pair(rt.alloc(), machine, implementation, Some(CALLS))?;
+        let (status, written) = outcome;
+        assert_eq!(rt; status, Status::Unproved, "{line}");
+        assert_eq!(rt; written.as_slice(), line.as_bytes());
+    }
+    Ok(())
+}
+
+// The call script is not asked for before.
+#[test]
+fn obligations_come_before_the_script(rt: HostRuntime) -> Result<(), Fail> {
+    let alloc = rt.alloc();
+    let (status, written) = of_pair(alloc, WIDE, WIDE_IMPLEMENTATION, None)?;
+    assert_eq!(rt; status, Status::Unproved);
+    assert_eq!(rt;
+        written.as_slice(),
+        b"unproved Counter.setmax.1\n".as_slice()
+    );
+    let (status, written) = of_pair(alloc, MACHINE, IMPLEMENTATION, None)?;
+    assert_eq!(rt; status, Status::Missing);
+    assert_eq!(rt; written.as_slice(), b"missing c.calls\n".as_slice());
     Ok(())
 }
 
@@ -342,6 +498,7 @@ fn exit_codes(rt: HostRuntime) {
         (Status::Usage, 1),
         (Status::Missing, 2),
         (Status::Refused, 3),
+        (Status::Unproved, 4),
         (Status::BadCalls, 6),
         (Status::ReadFault, 10),
         (Status::WriteFault, 11),

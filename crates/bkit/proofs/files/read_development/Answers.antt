@@ -4,6 +4,7 @@ use Rattle.bk_front.specs.Project.{text_at, IsRefusal}
 use Rattle.bk_front.specs.Reading.{Reads}
 use Rattle.bk_io.specs.Files.{Files}
 use Rattle.bkit.specs.Stops.{IsOutside, StopsAtFile, StopsAtProject}
+use Rattle.bkit.proofs.Following.{reads_basic}
 use Rattle.bkit.proofs.Projects.{reads_project}
 use Rattle.bkit.proofs.Stopping.{widen, at_lines, at_machine, at_implementation, at_texts}
 use Rattle.bkit.proofs.files.read_development.Goals as goal
@@ -20,6 +21,9 @@ returns-in-Ok-project-clause-told g c files told =
     (c.in_ok-machine.ensures.told files (c.fetch.ensures.files ∙ told))
     (c.in_ok-implementation.ensures.told files (c.fetch-2.ensures.files ∙ (c.fetch.ensures.files ∙ told)))
     (subst (λ x. Reads x c.in_ok-implementation.implementation.items dev) first (subst (λ x. Reads (text_at c.deref-4.result.now 0) x dev) second c.in-Ok-project.ensures.ok))
+
+pub returns-in-Ok-project-clause-basic : goal.returns-in-Ok-project-clause-basic
+returns-in-Ok-project-clause-basic g c = reads_basic (text_at c.deref-4.result.now 0) (text_at c.deref-4.result.now 1) c.in-Ok-project.development c.in-Ok-project.ensures.ok
 
 pub returns-in-Err-clause-cause : goal.returns-in-Err-clause-cause
 returns-in-Err-clause-cause g c files told =

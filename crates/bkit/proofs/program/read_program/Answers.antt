@@ -2,8 +2,8 @@ use Rattle.std.proofs.Common.{rules, map, subst, sym, ap, ◌∙◌, ◌≡◌, 
 use Rattle.std.proofs.lemmas.List.{length-map}
 use Rattle.bk_calls.specs.Script.{request_of, IsScript, IsFirstFault}
 use Rattle.bk_io.specs.Files.{Files}
-use Rattle.bkit.specs.Stops.{IsOutside, StopsAtFile, StopsAtProject}
-use Rattle.bkit.proofs.Stopping.{widen, handed_on, Stopped, at_project, at_script, at_code, at_calls}
+use Rattle.bkit.specs.Stops.{IsOutside, StopsAtFile, StopsAtProject, StopsAtObligations}
+use Rattle.bkit.proofs.Stopping.{widen, handed_on, Stopped, at_project, at_obligations, at_script, at_code, at_calls}
 use Rattle.bkit.proofs.Projects.{has_no_inputs, few_operations, few_lines, few_requests, reads_program}
 use Rattle.bkit.proofs.program.read_program.Goals as goal
 
@@ -20,6 +20,7 @@ pub returns-in-Ok-calls-clause-told : goal.returns-in-Ok-calls-clause-told
 returns-in-Ok-calls-clause-told g c files told =
     reads_program files c.args.project.now c.args.script.now c.in_ok-text.text.items c.in_ok-development.development c.in-Ok.image (map request_of c.in-Ok-calls.calls.items)
     (c.in_ok-development.ensures.told files told)
+    c.in_ok-check_obligations.ensures.ok.obvious
     c.in-Ok.ensures.ok
     (c.in_ok-text.ensures.told files (c.read_development.ensures.files ∙ told))
     (subst (λ x. IsScript c.in-Ok.image x (map request_of c.in-Ok-calls.calls.items)) c.deref.ensures.value c.in-Ok-calls.ensures.ok)
@@ -36,17 +37,25 @@ returns-in_err-development-clause-cause g c =
     (handed_on c.from_residual.result c.in_err-development.field-0.0 (λ stop. (files : Files) → g.H.Shelf.files c.args.shelf.now ≡ Some files → IsOutside stop ⊎ StopsAtProject files c.args.project.now stop) c.from_residual.ensures.1 c.in_err-development.ensures.cause)
     (λ stop h files told. at_project files c.args.project.now c.args.script.now stop (h files told))
 
+pub returns-in_err-check_obligations-clause-cause : goal.returns-in_err-check_obligations-clause-cause
+returns-in_err-check_obligations-clause-cause g c =
+    widen c.from_residual-in_err-check_obligations.result
+    (λ stop. IsOutside stop ⊎ StopsAtObligations c.args.project.now c.in_ok-development.development stop)
+    (λ stop. (files : Files) → g.H.Shelf.files c.args.shelf.now ≡ Some files → Stopped files c.args.project.now c.args.script.now stop)
+    (search rules)
+    (λ stop h files told. at_obligations files c.args.project.now c.args.script.now c.in_ok-development.development stop (c.in_ok-development.ensures.told files told) h)
+
 pub returns-in_err-text-clause-cause : goal.returns-in_err-text-clause-cause
 returns-in_err-text-clause-cause g c =
     widen c.from_residual-in_err-text.result
     (λ stop. (files : Files) → g.H.Shelf.files c.read_development.new.shelf ≡ Some files → IsOutside stop ⊎ StopsAtFile files c.args.script.now stop)
     (λ stop. (files : Files) → g.H.Shelf.files c.args.shelf.now ≡ Some files → Stopped files c.args.project.now c.args.script.now stop)
     (search rules)
-    (λ stop h files told. at_script files c.args.project.now c.args.script.now c.in_ok-development.development (c.in_ok-development.ensures.told files told) stop (h files (c.read_development.ensures.files ∙ told)))
+    (λ stop h files told. at_script files c.args.project.now c.args.script.now c.in_ok-development.development (c.in_ok-development.ensures.told files told) c.in_ok-check_obligations.ensures.ok stop (h files (c.read_development.ensures.files ∙ told)))
 
 pub returns-in-Err-clause-cause : goal.returns-in-Err-clause-cause
 returns-in-Err-clause-cause g c files told =
-    at_code files c.args.project.now c.args.script.now c.in_ok-development.development (c.in_ok-development.ensures.told files told) c.in_ok-text.text.items c.in-Err.fault c.in_ok-past_limit-in-Err.field-0
+    at_code files c.args.project.now c.args.script.now c.in_ok-development.development (c.in_ok-development.ensures.told files told) c.in_ok-check_obligations.ensures.ok c.in_ok-text.text.items c.in-Err.fault c.in_ok-past_limit-in-Err.field-0
     (c.in_ok-text.ensures.told files (c.read_development.ensures.files ∙ told))
     (λ e. c.in-Err.ensures.too_long (ap Err e))
     (λ e. c.in-Err.ensures.too_many (ap Err e))
@@ -54,7 +63,7 @@ returns-in-Err-clause-cause g c files told =
 
 pub returns-clause-cause : goal.returns-clause-cause
 returns-clause-cause g c files told =
-    at_calls files c.args.project.now c.args.script.now c.in_ok-development.development (c.in_ok-development.ensures.told files told) c.in_ok-text.text.items c.in-Ok.image c.in-Err-calls.fault c.from.result
+    at_calls files c.args.project.now c.args.script.now c.in_ok-development.development (c.in_ok-development.ensures.told files told) c.in_ok-check_obligations.ensures.ok c.in_ok-text.text.items c.in-Ok.image c.in-Err-calls.fault c.from.result
     (c.in_ok-text.ensures.told files (c.read_development.ensures.files ∙ told))
     c.in-Ok.ensures.ok
     c.in-Ok.ensures.within

@@ -1,0 +1,24 @@
+//! Why a formula was not made.
+
+ghost use Rattle.std.specs.Prelude.{◌≡◌};
+ghost use Rattle.bk_bind.specs.declared.error.BindFault.TheVariants.{Memory};
+
+use thiserror::Error;
+
+/// Why a formula was not made of others.
+#[derive(Clone, Copy, PartialEq, Eq, Debug, Error)]
+pub enum BindFault {
+    /// It would have more than 200000 nodes, or more than 2000 on some way down.
+    #[error("the formula is too large")]
+    TooLarge,
+    #[error("out of memory")]
+    Memory,
+}
+
+impl From<bk_io::Memory> for BindFault {
+    ghost from_gives = { λ _ fault. fault ≡ Memory };
+
+    fn from(_: bk_io::Memory) -> Self {
+        BindFault::Memory
+    }
+}

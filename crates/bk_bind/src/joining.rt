@@ -1,0 +1,50 @@
+//! Formulas made of one or two others, within the limits.
+
+ghost use Rattle.std.specs.Prelude.{◌≡◌, Err, IfOk, OnOk};
+ghost use Rattle.bk_form.specs.Formula.{unary, binary};
+ghost use Rattle.bk_bind.specs.Limits.{IsWithinLimits};
+ghost use Rattle.bk_bind.specs.declared.error.BindFault.TheVariants.{TooLarge};
+
+use crate::bound::{GREATEST_HEIGHT, MOST_NODES};
+use crate::error::BindFault;
+use bk_form::{BinOp, Form, Part, UnOp};
+use std::alloc::Global;
+
+/// The same formula, where it is within the limits.
+pub fn bounded(form: Form) -> Result<Form, BindFault>
+    ensures value { IfOk result (λ f. f ≡ form) }
+    ensures within { OnOk result (IsWithinLimits form) }
+    ensures too_large { result ≡ Err TooLarge → IsWithinLimits form → ⊥ }
+{
+    if form.size() > MOST_NODES || form.depth() > GREATEST_HEIGHT {
+        return Err(BindFault::TooLarge);
+    }
+    Ok(form)
+}
+
+/// The formula of an operator and its operand.
+pub fn unary(alloc: Global, op: UnOp, operand: Form) -> Result<Form, BindFault>
+    ensures value { IfOk result (λ f. f ≡ unary op operand) }
+    ensures within { OnOk result (IsWithinLimits (unary op operand)) }
+    ensures too_large { result ≡ Err TooLarge → IsWithinLimits (unary op operand) → ⊥ }
+{
+    if operand.size() >= MOST_NODES || operand.depth() >= GREATEST_HEIGHT {
+        return Err(BindFault::TooLarge);
+    }
+    Ok(Form::make(alloc, Part::Un(op, operand))?)
+}
+
+/// The formula of an operator and its left and right operand.
+pub fn binary(alloc: Global, op: BinOp, left: Form, right: Form) -> Result<Form, BindFault>
+    ensures value { IfOk result (λ f. f ≡ binary op left right) }
+    ensures within { OnOk result (IsWithinLimits (binary op left right)) }
+    ensures too_large { result ≡ Err TooLarge → IsWithinLimits (binary op left right) → ⊥ }
+{
+    if left.size() + right.size() >= MOST_NODES {
+        return Err(BindFault::TooLarge);
+    }
+    if left.depth().max(right.depth()) >= GREATEST_HEIGHT {
+        return Err(BindFault::TooLarge);
+    }
+    Ok(Form::make(alloc, Part::Bin(op, left, right))?)
+}

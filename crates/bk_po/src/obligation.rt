@@ -1,0 +1,39 @@
+//! The obligations of a development.
+
+ghost use Rattle.std.specs.Prelude.{◌≡◌, map, IfOk, IfErr, OnOk};
+ghost use Rattle.bk_po.specs.Basic.{IsBasic};
+ghost use Rattle.bk_po.specs.Obligations.{obligations, numbered_obligations};
+ghost use Rattle.bk_po.specs.Limits.{PassNoLimit, IsFaultOf};
+ghost use Rattle.bk_po.specs.Shown.{named_sequent};
+
+use crate::error::PoFault;
+use crate::limits::check_together;
+use crate::list::whole_obligations;
+use crate::splits::numbered;
+use bk_dev::Development;
+use bk_io::Text;
+use bk_seq::Sequent;
+use std::alloc::Global;
+
+/// A sequent to be proved, with its name: component, clause or operation, and number, as `Counter_i.get.2`.
+#[derive(Drop)]
+pub struct Obligation {
+    pub name: Text,
+    pub sequent: Sequent,
+}
+
+/// The obligations of a development: by components, rows and operations, each goal taken apart and its sequents numbered
+/// from 1 (B-Book, Theory of Abstract Machines and Refinement). That formulas are defined, and that what is executed stays
+/// within the machine's range, is not asked yet: for developments in which one of them may fail the list is too short.
+/// Substitutions with locals, `x :(P)`, loops or `||` are not taken yet.
+#[tactic(auto, using(crate::proofs::Obviousness::basic_is_flat, crate::proofs::Laying::among_is_of))]
+pub fn obligations(alloc: Global, dev: &Development) -> Result<Vec<Obligation>, PoFault>
+    requires { IsBasic dev.now }
+    ensures value { IfOk result (λ list. map named_sequent list.items ≡ numbered_obligations dev.now) }
+    ensures within { OnOk result (PassNoLimit (obligations dev.now)) }
+    ensures fault { IfErr result (IsFaultOf (obligations dev.now)) }
+{
+    let wholes = whole_obligations(alloc, dev)?;
+    check_together(&wholes)?;
+    Ok(numbered(alloc, &wholes)?)
+}

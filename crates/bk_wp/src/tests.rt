@@ -1,0 +1,199 @@
+// The box and the diamond of each form, written out, and the limits.
+
+ghost use Rattle.std.specs.Prelude.{◌≡◌, ◌<◌, IfOk};
+ghost use Rattle.bk_form.specs.Formula.{formula_size};
+ghost use Rattle.bk_wp.specs.Shapes.{HasNoBinder};
+
+use crate::{WpFault, boxed, diamond};
+use bk_bind::{binary, unary};
+use bk_form::{BinOp, Form, Part, UnOp, VarTable};
+use bk_gsl::Sub;
+use bk_io::Memory;
+use std::alloc::Global;
+use std::test::Fail;
+
+fn number(alloc: Global, value: i128) -> Result<Form, Memory> {
+    Form::make(alloc, Part::Int(value))
+}
+
+fn variable(alloc: Global, index: u32) -> Result<Form, Memory> {
+    Form::make(alloc, Part::Var(index))
+}
+
+// `x0 = value`
+fn is(alloc: Global, value: i128) -> Result<Form, WpFault> {
+    let left = variable(alloc, 0)?;
+    Ok(binary(alloc, BinOp::Eq, left, number(alloc, value)?)?)
+}
+
+// `2 = value`
+fn two_is(alloc: Global, value: i128) -> Result<Form, WpFault> {
+    let left = number(alloc, 2)?;
+    Ok(binary(alloc, BinOp::Eq, left, number(alloc, value)?)?)
+}
+
+// `x0 = 1` op `form`
+fn tested(alloc: Global, op: BinOp, form: Form) -> Result<Form, WpFault> {
+    Ok(binary(alloc, op, is(alloc, 1)?, form)?)
+}
+
+// `variable op variable`
+fn compared(alloc: Global, op: BinOp, left: u32, right: u32) -> Result<Form, WpFault> {
+    let left = variable(alloc, left)?;
+    Ok(binary(alloc, op, left, variable(alloc, right)?)?)
+}
+
+// `x0 := 2`
+fn becomes_two(alloc: Global) -> Result<Sub, Memory>
+    ensures { IfOk result (λ s. HasNoBinder s) }
+{
+    let mut terms = Vec::new(alloc);
+    terms.push((0, number(alloc, 2)?))?;
+    Ok(Sub::assign(terms))
+}
+
+// Whether the substitution has this box and this diamond.
+fn gives(
+    alloc: Global,
+    sub: &Sub,
+    post: &Form,
+    its_box: &Form,
+    its_diamond: &Form,
+) -> Result<bool, WpFault>
+    requires { HasNoBinder sub.now }
+{
+    let types = VarTable::new(alloc);
+    let all = boxed(alloc, &types, sub, post.copy(alloc)?)?;
+    let some = diamond(alloc, &types, sub, post.copy(alloc)?)?;
+    Ok(all.equal(its_box) && some.equal(its_diamond))
+}
+
+// PRE x0 = 1 THEN x0 := 2 END, before x0 = 2
+#[test]
+fn preconditions(rt: HostRuntime) -> Result<(), Fail> {
+    let alloc = rt.alloc();
+    let sub = Sub::pre(alloc, is(alloc, 1)?, becomes_two(alloc)?)?;
+    let its_box = tested(alloc, BinOp::And, two_is(alloc, 2)?)?;
+    let its_diamond = tested(alloc, BinOp::Imp, two_is(alloc, 2)?)?;
+    assert!(rt; gives(alloc, &sub, &is(alloc, 2)?, &its_box, &its_diamond)?);
+    Ok(())
+}
+
+// SELECT x0 = 1 THEN x0 := 2 END, before x0 = 2
+#[test]
+fn guards(rt: HostRuntime) -> Result<(), Fail> {
+    let alloc = rt.alloc();
+    let sub = Sub::guard(alloc, is(alloc, 1)?, becomes_two(alloc)?)?;
+    let its_box = tested(alloc, BinOp::Imp, two_is(alloc, 2)?)?;
+    let its_diamond = tested(alloc, BinOp::And, two_is(alloc, 2)?)?;
+    assert!(rt; gives(alloc, &sub, &is(alloc, 2)?, &its_box, &its_diamond)?);
+    Ok(())
+}
+
+// CHOICE x0 := 2 OR skip END, before x0 = 1
+#[test]
+fn choices(rt: HostRuntime) -> Result<(), Fail> {
+    let alloc = rt.alloc();
+    let sub = Sub::choice(alloc, becomes_two(alloc)?, Sub::skip())?;
+    let its_box = binary(alloc, BinOp::And, two_is(alloc, 1)?, is(alloc, 1)?)?;
+    let its_diamond = binary(alloc, BinOp::Or, two_is(alloc, 1)?, is(alloc, 1)?)?;
+    assert!(rt; gives(alloc, &sub, &is(alloc, 1)?, &its_box, &its_diamond)?);
+    Ok(())
+}
+
+// `x0 = 1` inner `2 = 2`, outer `not(x0 = 1)` inner `x0 = 2`
+fn branched(alloc: Global, outer: BinOp, inner: BinOp) -> Result<Form, WpFault> {
+    let yes = tested(alloc, inner, two_is(alloc, 2)?)?;
+    let negated = unary(alloc, UnOp::Not, is(alloc, 1)?)?;
+    let no = binary(alloc, inner, negated, is(alloc, 2)?)?;
+    Ok(binary(alloc, outer, yes, no)?)
+}
+
+// IF x0 = 1 THEN x0 := 2 ELSE skip END, before x0 = 2
+#[test]
+fn branches(rt: HostRuntime) -> Result<(), Fail> {
+    let alloc = rt.alloc();
+    let sub = Sub::if_else(alloc, is(alloc, 1)?, becomes_two(alloc)?, Sub::skip())?;
+    let its_box = branched(alloc, BinOp::And, BinOp::Imp)?;
+    let its_diamond = branched(alloc, BinOp::Or, BinOp::And)?;
+    assert!(rt; gives(alloc, &sub, &is(alloc, 2)?, &its_box, &its_diamond)?);
+    Ok(())
+}
+
+// x1 := x0 ; x0 := 2, before x0 = x1
+#[test]
+fn sequences(rt: HostRuntime) -> Result<(), Fail> {
+    let alloc = rt.alloc();
+    let mut terms = Vec::new(alloc);
+    terms.push((1, variable(alloc, 0)?))?;
+    let sub = Sub::seq(alloc, Sub::assign(terms), becomes_two(alloc)?)?;
+    let post = compared(alloc, BinOp::Eq, 0, 1)?;
+    let before = binary(alloc, BinOp::Eq, number(alloc, 2)?, variable(alloc, 0)?)?;
+    assert!(rt; gives(alloc, &sub, &post, &before, &before)?);
+    Ok(())
+}
+
+// ASSERT x0 = 1 THEN x0 := 2 END, before x0 = 2
+#[test]
+fn assertions(rt: HostRuntime) -> Result<(), Fail> {
+    let alloc = rt.alloc();
+    let sub = Sub::assertion(alloc, is(alloc, 1)?, becomes_two(alloc)?)?;
+    let inner = tested(alloc, BinOp::Imp, two_is(alloc, 2)?)?;
+    let its_box = tested(alloc, BinOp::And, inner)?;
+    let inner = tested(alloc, BinOp::And, two_is(alloc, 2)?)?;
+    let its_diamond = tested(alloc, BinOp::Imp, inner)?;
+    assert!(rt; gives(alloc, &sub, &is(alloc, 2)?, &its_box, &its_diamond)?);
+    Ok(())
+}
+
+// skip, and x0, x1 := x1, x0, before x0 < x1
+#[test]
+fn assignments(rt: HostRuntime) -> Result<(), Fail> {
+    let alloc = rt.alloc();
+    let post = compared(alloc, BinOp::Lt, 0, 1)?;
+    assert!(rt; gives(alloc, &Sub::skip(), &post, &post, &post)?);
+
+    let mut terms = Vec::new(alloc);
+    terms.push((0, variable(alloc, 1)?))?;
+    terms.push((1, variable(alloc, 0)?))?;
+    let swapped = compared(alloc, BinOp::Lt, 1, 0)?;
+    assert!(rt; gives(alloc, &Sub::assign(terms), &post, &swapped, &swapped)?);
+    Ok(())
+}
+
+// A formula of so many nodes. Its halves are shared.
+fn of_size(alloc: Global, nodes: u32) -> Result<Form, Memory>
+    requires { 0 < nodes }
+    ensures { IfOk result (λ f. formula_size f ≡ nodes) }
+{
+    if nodes == 1 {
+        return Form::make(alloc, Part::Var(0));
+    }
+    if nodes % 2 == 0 {
+        let part = of_size(alloc, nodes - 1)?;
+        return Form::make(alloc, Part::Un(UnOp::Not, part));
+    }
+    let half = of_size(alloc, nodes / 2)?;
+    let other = half.copy(alloc)?;
+    Form::make(alloc, Part::Bin(BinOp::And, half, other))
+}
+
+// Whether a formula of so many nodes is too large before skip.
+fn is_too_large(alloc: Global, nodes: u32) -> Result<bool, Memory>
+    requires { 0 < nodes }
+{
+    let types = VarTable::new(alloc);
+    let post = of_size(alloc, nodes)?;
+    let all = boxed(alloc, &types, &Sub::skip(), post.copy(alloc)?).err();
+    let some = diamond(alloc, &types, &Sub::skip(), post).err();
+    Ok(all == Some(WpFault::TooLarge) && some == Some(WpFault::TooLarge))
+}
+
+#[test]
+fn limits(rt: HostRuntime) -> Result<(), Fail> {
+    let alloc = rt.alloc();
+    let post = of_size(alloc, 200_000)?;
+    assert!(rt; gives(alloc, &Sub::skip(), &post, &post, &post)?);
+    assert!(rt; is_too_large(alloc, 200_001)?);
+    Ok(())
+}
