@@ -12,3 +12,4 @@ pub mod Falls
 pub mod Loops
 pub mod Sound
 pub mod Growth
+pub mod Guarding

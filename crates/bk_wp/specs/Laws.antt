@@ -1,15 +1,18 @@
 -- Laws of box and diamond, as statements.
-use Rattle.std.specs.Prelude.{◌≡◌, ◌↔◌, ◌⊎◌, true, not}
+use Rattle.std.specs.Prelude.{◌≡◌, ◌↔◌, ◌⊎◌, true, not, Option}
 use Rattle.bk_form.specs.Table.{Table, IsWellFormed}
 use Rattle.bk_form.specs.Formula.{Formula, unary}
 use Rattle.bk_form.specs.declared.operator.UnOp.TheVariants.{Not}
 use Rattle.bk_form.specs.Search.{Finder, IsSearch}
+use Rattle.bk_form.specs.ArrayTable.{ArrayTable}
 use Rattle.bk_form.specs.Environment.{State}
 use Rattle.bk_gsl.specs.Substitution.{Substitution}
 use Rattle.bk_gsl.specs.State.{IsTypedState, holds}
 use Rattle.bk_gsl.specs.Run.{Runs, Ends}
 use Rattle.bk_gsl.specs.Typed.{IsPredicate, Types}
 use Rattle.bk_wp.specs.Box.{box, diamond}
+use Rattle.bk_gsl.specs.Clean.{Clean}
+use Rattle.bk_wp.specs.Guarded.{HasNoArrays, HasTotal, guarded}
 use Rattle.bk_wp.specs.Shapes.{HasNoBinder, HasNoLoop, IsFlat}
 use Rattle.bk_wp.specs.Apart.{LocalsAreApart}
 
@@ -45,6 +48,13 @@ DiamondMeans = (find : Finder) → IsSearch find → (table : Table) → IsWellF
 -- <S>R is the conjugate of [S]R
 abbrev pub DiamondIsConjugate : Type 0
 DiamondIsConjugate = (find : Finder) → IsSearch find → (table : Table) → IsWellFormed table → (s : Substitution) → HasNoLoop s → Types table s → (r : Formula) → IsPredicate table r → LocalsAreApart s r → (e : State) → holds find table e (diamond table s r) ≡ not (holds find table e (box table s (unary Not r)))
+
+-- ---- what is evaluated
+-- where [S]R and what S is asked beside are true, each formula that S meets is defined and in an implementation fits the machine; so far
+-- without binders and arrays, and where each operator is defined everywhere
+abbrev pub GuardedIsClean : Type 0
+GuardedIsClean = (find : Finder) (table : Table) (arrays : Option ArrayTable) → HasNoArrays arrays → (s : Substitution) → HasTotal s → Types table s → (r : Formula) (e : State) →
+    holds find table e (box table s r) ≡ true → holds find table e (guarded table arrays s) ≡ true → Clean find table arrays s e
 
 -- ---- with loops
 -- where [S]R is true in a typed state, S ends and all its results meet R; the other way is not so, since an invariant may say too little

@@ -1,4 +1,4 @@
-//! Why a box or a diamond was not made.
+//! Why a box, a diamond or an evaluation condition was not made.
 
 ghost use Rattle.std.specs.Prelude.{◌≡◌};
 ghost use Rattle.bk_wp.specs.Faults.{fault_of};
@@ -7,7 +7,7 @@ ghost use Rattle.bk_wp.specs.declared.error.WpFault.TheVariants.{Memory};
 use bk_bind::BindFault;
 use thiserror::Error;
 
-/// Why a box or a diamond was not made.
+/// Why a box, a diamond or an evaluation condition was not made.
 #[derive(Clone, Copy, PartialEq, Eq, Debug, Error)]
 pub enum WpFault {
     /// It would have more than 200000 nodes, or more than 2000 on some way down.

@@ -1,6 +1,6 @@
 //! Laws of box and diamond. Each is the contract of a function that does nothing.
 
-ghost use Rattle.bk_wp.specs.Laws.{BoxWithoutBinders, DiamondWithoutBinders, ConjugateWithoutBinders, BoxMeans, DiamondMeans, DiamondIsConjugate, BoxIsSound};
+ghost use Rattle.bk_wp.specs.Laws.{BoxWithoutBinders, DiamondWithoutBinders, ConjugateWithoutBinders, BoxMeans, DiamondMeans, DiamondIsConjugate, BoxIsSound, GuardedIsClean};
 ghost use Rattle.bk_wp.specs.Growth.{BoxIsNoSmaller, DiamondIsNoSmaller};
 ghost use Rattle.bk_wp.specs.Examples.{EachTable, CountsUp};
 
@@ -21,6 +21,11 @@ pub fn with_binders()
 /// What the box says with loops too.
 pub fn with_loops()
     ensures { BoxIsSound }
+{}
+
+/// What the evaluation conditions say, together with the box.
+pub fn evaluation()
+    ensures { GuardedIsClean }
 {}
 
 /// Neither is smaller than what is to hold after the substitution.

@@ -2,10 +2,12 @@
 #![tactic(auto)]
 
 pub mod error;
+pub mod evaluation;
 pub mod laws;
 #[cfg(test)]
 mod tests;
 pub mod weakest;
 
 pub use error::WpFault;
+pub use evaluation::guarded;
 pub use weakest::{boxed, diamond};

@@ -1,22 +1,28 @@
-// The box and the diamond of each form, written out, and the limits.
+// The box and the diamond of each form, written out, what is asked of what is evaluated, and the limits.
 
 ghost use Rattle.std.specs.Prelude.{◌≡◌, ◌<◌, IfOk};
-ghost use Rattle.bk_form.specs.Formula.{formula_size};
+ghost use Rattle.bk_form.specs.Formula.{variable, literal, unary, binary, formula_size};
+ghost use Rattle.bk_form.specs.declared.operator.UnOp.TheVariants.{Not};
+ghost use Rattle.bk_wp.specs.Guarded.{HasTotal, IsTotal};
 ghost use Rattle.bk_wp.specs.Shapes.{HasNoBinder};
 
-use crate::{WpFault, boxed, diamond};
+use crate::{WpFault, boxed, diamond, guarded};
 use bk_bind::{binary, unary};
-use bk_form::{BinOp, Form, Part, UnOp, VarTable};
+use bk_form::{Arrays, BinOp, Form, Part, UnOp, VarTable};
 use bk_gsl::Sub;
 use bk_io::Memory;
 use std::alloc::Global;
 use std::test::Fail;
 
-fn number(alloc: Global, value: i128) -> Result<Form, Memory> {
+fn number(alloc: Global, value: i128) -> Result<Form, Memory>
+    ensures { IfOk result (λ f. f ≡ literal value) }
+{
     Form::make(alloc, Part::Int(value))
 }
 
-fn variable(alloc: Global, index: u32) -> Result<Form, Memory> {
+fn variable(alloc: Global, index: u32) -> Result<Form, Memory>
+    ensures { IfOk result (λ f. f ≡ variable index) }
+{
     Form::make(alloc, Part::Var(index))
 }
 
@@ -195,5 +201,183 @@ fn limits(rt: HostRuntime) -> Result<(), Fail> {
     let post = of_size(alloc, 200_000)?;
     assert!(rt; gives(alloc, &Sub::skip(), &post, &post, &post)?);
     assert!(rt; is_too_large(alloc, 200_001)?);
+    Ok(())
+}
+
+// `x1 op value`
+fn with_number(alloc: Global, op: BinOp, value: i128) -> Result<Form, WpFault>
+    ensures { IfOk result (λ f. f ≡ binary op (variable 1) (literal value)) }
+{
+    let left = variable(alloc, 1)?;
+    Ok(binary(alloc, op, left, number(alloc, value)?)?)
+}
+
+// `x0 := term`
+fn becomes(alloc: Global, term: Form) -> Result<Sub, Memory>
+    requires { IsTotal term }
+    ensures { IfOk result (λ s. HasTotal s) }
+{
+    let mut terms = Vec::new(alloc);
+    terms.push((0, term))?;
+    Ok(Sub::assign(terms))
+}
+
+// `value <= form`
+fn at_least(alloc: Global, value: i128, form: &Form) -> Result<Form, WpFault> {
+    let bound = number(alloc, value)?;
+    Ok(binary(alloc, BinOp::Le, bound, form.copy(alloc)?)?)
+}
+
+// `form <= value`
+fn at_most(alloc: Global, form: &Form, value: i128) -> Result<Form, WpFault> {
+    let bound = number(alloc, value)?;
+    Ok(binary(alloc, BinOp::Le, form.copy(alloc)?, bound)?)
+}
+
+// `-2147483647 <= form & form <= 2147483647`
+fn in_range(alloc: Global, form: &Form) -> Result<Form, WpFault> {
+    let lower = at_least(alloc, -2_147_483_647, form)?;
+    let upper = at_most(alloc, form, 2_147_483_647)?;
+    Ok(binary(alloc, BinOp::And, lower, upper)?)
+}
+
+// `test => x1 op value is in range`
+fn range_where(alloc: Global, test: Form, op: BinOp, value: i128) -> Result<Form, WpFault> {
+    let condition = in_range(alloc, &with_number(alloc, op, value)?)?;
+    Ok(binary(alloc, BinOp::Imp, test, condition)?)
+}
+
+// `not(x1 < 1)`
+fn not_below_one(alloc: Global) -> Result<Form, WpFault> {
+    Ok(unary(alloc, UnOp::Not, with_number(alloc, BinOp::Lt, 1)?)?)
+}
+
+// Whether the substitution is asked this in an implementation with no arrays.
+fn is_asked_executed(alloc: Global, sub: &Sub, condition: &Form) -> Result<bool, WpFault>
+    requires { HasTotal sub.now }
+{
+    let types = VarTable::new(alloc);
+    let arrays = Arrays::from_rows(2_147_483_647, Vec::new(alloc));
+    Ok(guarded(alloc, &types, sub, Some(&arrays))?.equal(condition))
+}
+
+// Whether an implementation is asked this of the substitution, and nothing is asked elsewhere.
+fn is_asked(alloc: Global, sub: &Sub, condition: &Form) -> Result<bool, WpFault>
+    requires { HasTotal sub.now }
+{
+    let types = VarTable::new(alloc);
+    let elsewhere = guarded(alloc, &types, sub, None)?;
+    let nothing = Form::make(alloc, Part::True)?;
+    Ok(elsewhere.equal(&nothing) && is_asked_executed(alloc, sub, condition)?)
+}
+
+// x0 := x1 + 1
+#[test]
+fn sums(rt: HostRuntime) -> Result<(), Fail> {
+    let alloc = rt.alloc();
+    let sum = with_number(alloc, BinOp::Add, 1)?;
+    let condition = in_range(alloc, &sum)?;
+    let sub = becomes(alloc, sum)?;
+    assert!(rt; is_asked(alloc, &sub, &condition)?);
+    Ok(())
+}
+
+// x0 := x1
+#[test]
+fn copies(rt: HostRuntime) -> Result<(), Fail> {
+    let alloc = rt.alloc();
+    let sub = becomes(alloc, variable(alloc, 1)?)?;
+    let nothing = Form::make(alloc, Part::True)?;
+    assert!(rt; is_asked(alloc, &sub, &nothing)?);
+    Ok(())
+}
+
+// x0 := x1 - 1
+fn decrement(alloc: Global) -> Result<Sub, WpFault>
+    ensures { IfOk result (λ s. HasTotal s) }
+{
+    Ok(becomes(alloc, with_number(alloc, BinOp::Sub, 1)?)?)
+}
+
+// IF x1 < 1 THEN x0 := x1 - 1 ELSE skip END
+#[test]
+fn sums_in_the_first_branch(rt: HostRuntime) -> Result<(), Fail> {
+    let alloc = rt.alloc();
+    let test = with_number(alloc, BinOp::Lt, 1)?;
+    let sub = Sub::if_else(alloc, test.copy(alloc)?, decrement(alloc)?, Sub::skip())?;
+    let condition = range_where(alloc, test, BinOp::Sub, 1)?;
+    assert!(rt; is_asked(alloc, &sub, &condition)?);
+    Ok(())
+}
+
+// IF x1 < 1 THEN skip ELSE x0 := x1 - 1 END
+#[test]
+fn sums_in_the_second_branch(rt: HostRuntime) -> Result<(), Fail> {
+    let alloc = rt.alloc();
+    let test = with_number(alloc, BinOp::Lt, 1)?;
+    let sub = Sub::if_else(alloc, test, Sub::skip(), decrement(alloc)?)?;
+    let condition = range_where(alloc, not_below_one(alloc)?, BinOp::Sub, 1)?;
+    assert!(rt; is_asked(alloc, &sub, &condition)?);
+    Ok(())
+}
+
+// PRE x1 < 1 THEN x0 := x1 END
+#[test]
+fn values_under_preconditions(rt: HostRuntime) -> Result<(), Fail> {
+    let alloc = rt.alloc();
+    let body = becomes(alloc, variable(alloc, 1)?)?;
+    let sub = Sub::pre(alloc, with_number(alloc, BinOp::Lt, 1)?, body)?;
+    let nothing = Form::make(alloc, Part::True)?;
+    assert!(rt; is_asked(alloc, &sub, &nothing)?);
+    Ok(())
+}
+
+// PRE btrue THEN x0 := x1 - 1 END
+#[test]
+fn sums_under_no_precondition(rt: HostRuntime) -> Result<(), Fail> {
+    let alloc = rt.alloc();
+    let sub = Sub::pre(alloc, Form::make(alloc, Part::True)?, decrement(alloc)?)?;
+    let condition = in_range(alloc, &with_number(alloc, BinOp::Sub, 1)?)?;
+    assert!(rt; is_asked(alloc, &sub, &condition)?);
+    Ok(())
+}
+
+// x1 := 1
+fn becomes_one(alloc: Global) -> Result<Sub, Memory>
+    ensures { IfOk result (λ s. HasTotal s) }
+{
+    let mut terms = Vec::new(alloc);
+    terms.push((1, number(alloc, 1)?))?;
+    Ok(Sub::assign(terms))
+}
+
+// x1 := 1 ; x0 := x1 - 1
+#[test]
+fn sums_after_others(rt: HostRuntime) -> Result<(), Fail> {
+    let alloc = rt.alloc();
+    let sub = Sub::seq(alloc, becomes_one(alloc)?, decrement(alloc)?)?;
+    let difference = binary(alloc, BinOp::Sub, number(alloc, 1)?, number(alloc, 1)?)?;
+    let condition = in_range(alloc, &difference)?;
+    assert!(rt; is_asked(alloc, &sub, &condition)?);
+    Ok(())
+}
+
+// `not(x1 < 1 or x1 + 1 < 2)`
+fn either_below(alloc: Global) -> Result<Form, WpFault>
+    ensures { IfOk result IsTotal }
+{
+    let left = with_number(alloc, BinOp::Lt, 1)?;
+    let sum = with_number(alloc, BinOp::Add, 1)?;
+    let right = binary(alloc, BinOp::Lt, sum, number(alloc, 2)?)?;
+    Ok(unary(alloc, UnOp::Not, binary(alloc, BinOp::Or, left, right)?)?)
+}
+
+// IF not(x1 < 1 or x1 + 1 < 2) THEN skip ELSE skip END
+#[test]
+fn sums_in_tests(rt: HostRuntime) -> Result<(), Fail> {
+    let alloc = rt.alloc();
+    let sub = Sub::if_else(alloc, either_below(alloc)?, Sub::skip(), Sub::skip())?;
+    let condition = range_where(alloc, not_below_one(alloc)?, BinOp::Add, 1)?;
+    assert!(rt; is_asked(alloc, &sub, &condition)?);
     Ok(())
 }
