@@ -3,5 +3,8 @@ pub mod Lines
 pub mod Names
 pub mod Operations
 pub mod Scripts
+pub mod Limits
 pub mod Outputs
+pub mod Lengths
+pub mod Longest
 pub mod Transcripts

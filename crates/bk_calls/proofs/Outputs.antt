@@ -1,5 +1,5 @@
 -- One output more in the text of outputs.
-use Rattle.std.proofs.Common.{◌≡◌, ℕ, zero, suc, ◌+◌, ◌<◌, refl, sym, ◌∙◌, ap, arith, List, [], ◌∷◌, ◌++◌, length, take, get_or, ℤ}
+use Rattle.std.proofs.Common.{◌≡◌, ℕ, zero, suc, ◌+◌, ◌<◌, refl, sym, ◌∙◌, ap, arith, List, [], ◌∷◌, ◌++◌, length, length-append, take, get_or, ℤ}
 use Rattle.std.specs.Prelude.{codes}
 use Rattle.std.proofs.lemmas.List.{append-nil, append_assoc, flat_map_more, take_more, length-take-le}
 use Rattle.bk_code.specs.declared.image.Image.{Image}
@@ -11,7 +11,7 @@ abbrev pub separator : ℕ → List ℕ
 separator zero = codes " = "
 separator (suc n) = codes ", "
 
-given_more : (texts : List (List ℕ)) (text : List ℕ) → given_text (texts ++ text ∷ []) ≡ given_text texts ++ separator (length texts) ++ text
+pub given_more : (texts : List (List ℕ)) (text : List ℕ) → given_text (texts ++ text ∷ []) ≡ given_text texts ++ separator (length texts) ++ text
 given_more [] text = ap (λ t. codes " = " ++ t) (append-nil text)
 given_more (first ∷ texts) text =
     ap (λ t. codes " = " ++ t) (sym (flat_map_more (λ (y : List ℕ). codes ", " ++ y) first texts text)) ∙ sym (append_assoc (given_text (first ∷ texts)) (codes ", ") text)
@@ -43,7 +43,14 @@ output_more image outputs values i o v below same =
     texts_more image (take i outputs) (take i values) (get_or outputs i o) (get_or values i v) alike in
     ap given_text more ∙ given_more texts text ∙ ap (λ n. given_text texts ++ separator n ++ text) (length-texts image (take i outputs) (take i values) alike ∙ many)
 
-separator_is : (i : ℕ) (sign : List ℕ) → (i ≡ 0 → sign ≡ codes " = ") → (0 < i → sign ≡ codes ", ") → sign ≡ separator i
+pub output_length : (image : Image) (outputs : List Parameter) (values : List ℤ) (i : ℕ) (o : Parameter) (v : ℤ) → i < length outputs → length values ≡ length outputs →
+    length (given_text (value_texts image (take (i + 1) outputs) (take (i + 1) values))) ≡
+    length (given_text (value_texts image (take i outputs) (take i values))) + length (separator i) + length (value_text image (get_or outputs i o).kind (get_or values i v))
+output_length image outputs values i o v below same =
+    let texts = given_text (value_texts image (take i outputs) (take i values)) in
+    omega (arith, ap length (output_more image outputs values i o v below same), length-append (texts ++ separator i) (value_text image (get_or outputs i o).kind (get_or values i v)), length-append texts (separator i))
+
+pub separator_is : (i : ℕ) (sign : List ℕ) → (i ≡ 0 → sign ≡ codes " = ") → (0 < i → sign ≡ codes ", ") → sign ≡ separator i
 separator_is zero sign first other = first refl
 separator_is (suc n) sign first other = other (omega arith)
 

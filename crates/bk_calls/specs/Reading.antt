@@ -4,6 +4,7 @@ use Rattle.std.specs.Str.{bytes_eq}
 use Rattle.bk_code.specs.declared.image.Image.{Image}
 use Rattle.bk_code.specs.Session.{Request}
 use Rattle.bk_lines.specs.Lines.{is_skipped}
+use Rattle.bk_calls.specs.Script.{most_calls}
 
 -- a text behind the spaces that it starts with
 abbrev pub skip_spaces : List ℕ → List ℕ
@@ -58,18 +59,24 @@ called_op image line = option_and_then (named_op image) (called_name line)
 abbrev pub bare_request : ℕ → Request
 bare_request op = record { op = op; args = [] }
 
+-- where reading stops: at the line with that number, which is at fault, or at a call past the limit
+pub data Stop : Type 0 where
+  AtFault : (number : ℕ) → Stop
+  AtLimit : Stop
+
 -- requests in front of those that are read of the other lines
-abbrev pub in_front : List Request → Result (List Request) ℕ → Result (List Request) ℕ
+abbrev pub in_front : List Request → Result (List Request) Stop → Result (List Request) Stop
 in_front requests (Ok others) = Ok (requests ++ others)
-in_front requests (Err number) = Err number
+in_front requests (Err stop) = Err stop
 
--- what is read from a line on: a request for the operation that it calls before the others, or its number where it calls none
-abbrev pub from_line : Option ℕ → ℕ → Result (List Request) ℕ → Result (List Request) ℕ
-from_line (Some op) number rest = in_front (bare_request op ∷ []) rest
-from_line None number rest = Err number
+-- what is read from a line with that number on, behind so many calls: a request for the operation that it calls before the others
+abbrev pub from_line : Option ℕ → ℕ → ℕ → Result (List Request) Stop → Result (List Request) Stop
+from_line (Some op) number asked rest = if asked == most_calls then Err AtLimit else in_front (bare_request op ∷ []) rest
+from_line None number asked rest = Err (AtFault number)
 
--- the requests of lines, so many lines standing before them, or the number of the first that is at fault
-abbrev pub read_lines : Image → ℕ → List (List ℕ) → Result (List Request) ℕ
-read_lines image before [] = Ok []
-read_lines image before (line ∷ rest) =
-    if is_skipped line then read_lines image (before + 1) rest else from_line (called_op image line) (before + 1) (read_lines image (before + 1) rest)
+-- the requests of lines, so many lines and calls standing before them, or where reading stops
+abbrev pub read_lines : Image → ℕ → ℕ → List (List ℕ) → Result (List Request) Stop
+read_lines image before asked [] = Ok []
+read_lines image before asked (line ∷ rest) =
+    if is_skipped line then read_lines image (before + 1) asked rest
+    else from_line (called_op image line) (before + 1) asked (read_lines image (before + 1) (asked + 1) rest)

@@ -1,5 +1,5 @@
 -- Call scripts: which texts ask for which calls of an image.
-use Rattle.std.specs.Prelude.{◌≡◌, ◌≢◌, ℕ, zero, suc, ◌<◌, ◌⊎◌, false, List, [], ◌++◌, replicate, codes, All, slice_get, Option, Some, None}
+use Rattle.std.specs.Prelude.{◌≡◌, ◌≢◌, ℕ, zero, suc, ◌<◌, ◌≤◌, ◌⊎◌, false, not, List, [], ◌++◌, length, take, filter, replicate, codes, All, slice_get, Option, Some, None}
 use Rattle.std.specs.List.{AllZip}
 use Rattle.std.specs.Str.Lines.{lines}
 use Rattle.bk_code.specs.declared.image.Image.{Image}
@@ -73,3 +73,33 @@ pub record IsFirstFault (image : Image) (text : List ℕ) (number : ℕ) : Type 
   pub stands : line_at text number ≡ Some line
   pub fault : IsAtFault image line
   pub first : (earlier : ℕ) (other : List ℕ) → earlier < number → line_at text earlier ≡ Some other → IsAtFault image other → ⊥
+
+-- ---- the limit of calls
+-- the most calls that a script may ask for
+abbrev pub most_calls : ℕ
+most_calls = 1000000
+
+-- those of some lines that are not skipped
+abbrev pub counted : List (List ℕ) → List (List ℕ)
+counted some_lines = filter (λ line. not (is_skipped line)) some_lines
+
+-- the lines of a text that stand before the one with that number
+abbrev pub lines_before : List ℕ → ℕ → List (List ℕ)
+lines_before text zero = []
+lines_before text (suc n) = take n (lines text)
+
+-- how many calls these lines ask for where none of them is at fault: one for each that is not skipped
+abbrev pub calls_before : List ℕ → ℕ → ℕ
+calls_before text number = length (counted (lines_before text number))
+
+-- the number is that of the first line at fault, and the lines before it ask for no more calls than a script may
+pub record IsBadLine (image : Image) (text : List ℕ) (number : ℕ) : Type 0 where
+  pub first : IsFirstFault image text number
+  pub few : calls_before text number ≤ most_calls
+
+-- some first lines of the text ask for more calls than a script may, and none of them is at fault
+pub record PassesLimit (image : Image) (text : List ℕ) : Type 0 where
+  pub count : ℕ
+  pub requests : List Request
+  pub asked : AllZip (AsksFor image) (counted (take count (lines text))) requests
+  pub past : most_calls < length requests

@@ -3,11 +3,14 @@
 
 mod laws;
 mod line;
+mod reply_line;
+mod room;
 mod script;
 mod transcript;
 
 pub use bk_code::Memory;
-pub use laws::scripts_are_read_one_way;
+pub use laws::{longest_lines_are_longest, scripts_are_read_one_way};
+pub use reply_line::ReplyLine;
 pub use script::{Call, CallsFault, calls};
 pub use transcript::{closing, reply, steps};
 

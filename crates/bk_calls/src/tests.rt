@@ -1,5 +1,5 @@
 use crate::checker::{are_outputs, has_no_inputs};
-use crate::{Call, CallsFault, calls, closing, reply, steps};
+use crate::{Call, CallsFault, ReplyLine, calls, closing, reply, steps};
 use bk_code::{
     CellKind, Code, ElemNames, Image, Inst, NameText, NameTexts, OpEntries, OpEntry, Parameter,
     Parameters, Trap,
@@ -79,7 +79,7 @@ fn samples(alloc: Global) -> Result<Image, AllocError> {
 
 #[tactic(auto, using(crate::proofs::Lines::lines_within))]
 fn read(alloc: Global, text: &[u8], image: &Image) -> Result<Result<Vec<Call>, CallsFault>, Fail> {
-    if text.len() > 1000 || image.ops.as_slice().len() > 1000 || !has_no_inputs(image) {
+    if text.len() > 100_000_000 || image.ops.as_slice().len() > 1000 || !has_no_inputs(image) {
         return Err(Fail::from("the script or the image"));
     }
     Ok(calls(alloc, text, image))
@@ -158,6 +158,71 @@ fn tells_the_first_line_at_fault(rt: HostRuntime) -> Result<(), Fail> {
     Ok(())
 }
 
+// A line, so many times.
+fn repeated(alloc: Global, line: &[u8], count: usize) -> Result<Vec<u8>, AllocError> {
+    let mut text = Vec::new(alloc);
+    for _ in 0..count {
+        text.extend_from_slice(line)?;
+    }
+    Ok(text)
+}
+
+// A script of so many calls, and these lines behind them.
+fn script(alloc: Global, count: usize, behind: &[u8]) -> Result<Vec<u8>, AllocError> {
+    let mut text = repeated(alloc, b"get\n", count)?;
+    text.extend_from_slice(behind)?;
+    Ok(text)
+}
+
+#[test]
+fn reads_a_million_calls(rt: HostRuntime) -> Result<(), Fail> {
+    let alloc = rt.alloc();
+    let text = script(alloc, 1_000_000, b"# the last line\n")?;
+    let found = read(alloc, &text, &counter(alloc)?)?
+        .ok()
+        .ok_or("a script")?;
+    assert_eq!(rt; found.len(), 1_000_000);
+    Ok(())
+}
+
+// The fault of a script of so many calls with these lines behind them.
+fn fault_behind(alloc: Global, count: usize, behind: &[u8]) -> Result<Option<CallsFault>, Fail> {
+    let text = script(alloc, count, behind)?;
+    Ok(read(alloc, &text, &counter(alloc)?)?.err())
+}
+
+#[test]
+fn tells_a_call_past_the_limit(rt: HostRuntime) -> Result<(), Fail> {
+    let fault = fault_behind(rt.alloc(), 1_000_000, b"reset\n")?;
+    assert!(rt; fault == Some(CallsFault::Limit));
+    Ok(())
+}
+
+#[test]
+fn tells_a_call_past_the_limit_before_a_line_at_fault(rt: HostRuntime) -> Result<(), Fail> {
+    let fault = fault_behind(rt.alloc(), 1_000_001, b"bad\n")?;
+    assert!(rt; fault == Some(CallsFault::Limit));
+    Ok(())
+}
+
+#[test]
+fn tells_a_line_at_fault_before_a_call_past_the_limit(rt: HostRuntime) -> Result<(), Fail> {
+    let fault = fault_behind(rt.alloc(), 1_000_000, b"bad\nget\n")?;
+    assert!(rt; fault == Some(CallsFault::Line(1_000_001)));
+    Ok(())
+}
+
+#[test]
+fn tells_an_early_line_at_fault(rt: HostRuntime) -> Result<(), Fail> {
+    let alloc = rt.alloc();
+    let mut text = script(alloc, 4, b"bad\n")?;
+    text.extend_from_slice(&script(alloc, 1_000_001, b"")?)?;
+    let fault = read(alloc, &text, &counter(alloc)?)?.err();
+    assert!(rt; fault == Some(CallsFault::Line(5)));
+    Ok(())
+}
+
+// The line that answers a call, behind another one in the same buffer.
 fn answer(
     alloc: Global,
     op: Option<u32>,
@@ -168,7 +233,10 @@ fn answer(
     if !are_outputs(image, op, outs) {
         return Err(Fail::from("the outputs"));
     }
-    Ok(reply(alloc, op, &end, outs, image).ok().ok_or("memory")?)
+    let mut line = ReplyLine::new(alloc, image)?;
+    reply(None, &CallEnd::OutOfFuel, &[], image, &mut line);
+    reply(op, &end, outs, image, &mut line);
+    Ok(Vec::from_slice(alloc, line.bytes())?)
 }
 
 const DONE: CallEnd = CallEnd::Done { steps: 3 };
@@ -259,9 +327,44 @@ fn replies_with_values_of_each_kind(rt: HostRuntime) -> Result<(), Fail> {
     Ok(())
 }
 
+// An operation whose output has an element with a long name.
+fn long_name(alloc: Global, text: &[u8]) -> Result<Image, AllocError> {
+    let get = operation(alloc, b"get", 0, &[output(CellKind::Set(0))])?;
+    let names = vec![in alloc; name(alloc, text)?]?;
+    Ok(Image {
+        cells: 2,
+        sets: ElemNames::from_vec(vec![in alloc; NameTexts::from_vec(names)]?),
+        ops: OpEntries::from_vec(vec![in alloc; get]?),
+        code: Code::from_vec(vec![in alloc; Inst::Ret]?),
+    })
+}
+
+#[test]
+fn replies_with_a_long_name(rt: HostRuntime) -> Result<(), Fail> {
+    let alloc = rt.alloc();
+    let text = repeated(alloc, b"name", 30)?;
+    let image = long_name(alloc, &text)?;
+    let mut line = Vec::from_slice(alloc, b"get = ")?;
+    line.extend_from_slice(&text)?;
+    line.push(b'\n')?;
+    let found = answer(alloc, Some(0), DONE, &[0], &image)?;
+    assert!(rt; found.as_slice() == line.as_slice());
+    Ok(())
+}
+
+#[test]
+fn starts_without_a_line(rt: HostRuntime) -> Result<(), Fail> {
+    let alloc = rt.alloc();
+    let line = ReplyLine::new(alloc, &counter(alloc)?)?;
+    assert!(rt; line.bytes().is_empty());
+    Ok(())
+}
+
 #[test]
 fn closes_with_calls_and_steps(rt: HostRuntime) -> Result<(), Fail> {
-    let cases: [(u64, u64, &[u8]); 3] = [
+    let alloc = rt.alloc();
+    let mut line = ReplyLine::new(alloc, &counter(alloc)?)?;
+    let cases: [(u32, u64, &[u8]); 4] = [
         // the numbers and the line
         (2, 9, b"end 2 calls, 9 steps\n"),
         (0, 0, b"end 0 calls, 0 steps\n"),
@@ -270,10 +373,15 @@ fn closes_with_calls_and_steps(rt: HostRuntime) -> Result<(), Fail> {
             18446744073709551615,
             b"end 1 calls, 18446744073709551615 steps\n",
         ),
+        (
+            4294967295,
+            18446744073709551615,
+            b"end 4294967295 calls, 18446744073709551615 steps\n",
+        ),
     ];
-    for (calls, steps, line) in cases {
-        let found = closing(rt.alloc(), calls, steps).ok().ok_or("memory")?;
-        assert!(rt; found.as_slice() == line);
+    for (calls, steps, text) in cases {
+        closing(calls, steps, &mut line);
+        assert!(rt; line.bytes() == text);
     }
     assert_eq!(rt; steps(&DONE, 7), 3);
     assert_eq!(rt; steps(&trap(Trap::Index), 7), 2);

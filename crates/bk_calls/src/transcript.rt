@@ -1,44 +1,49 @@
 //! The text of a session.
-ghost use Rattle.std.specs.Prelude.{◌≡◌, ◌<◌, ◌++◌, ℤ, List, [], slice_get, slice_index_or, length, decimal, codes, IfOk, OnOk};
+ghost use Rattle.std.specs.Prelude.{◌≡◌, ◌<◌, ◌≤◌, ◌++◌, [], slice_get, slice_index_or, length, decimal, codes};
 ghost use Rattle.std.specs.Fmt.{signed_decimal};
 ghost use Rattle.std.specs.Option.{option_copied};
 ghost use Rattle.bk_vm.specs.Ends.{end_of};
 ghost use Rattle.bk_calls.specs.Transcript as texts;
 ghost use Rattle.bk_calls.specs.Transcript.{AreOutputs};
+ghost use Rattle.bk_calls.specs.Room.{HasRoom, longest_number, longest_value, longest_given, longest_done, IsMadeFor};
 
-use bk_code::{CellKind, Image, Memory, OpEntry, Parameter, Trap};
+use crate::ReplyLine;
+use bk_code::{CellKind, Image, OpEntry, Parameter, Trap};
 use bk_vm::CallEnd;
 use itoa::Buffer;
-use std::alloc::Global;
 
-fn write_text(line: &mut Vec<u8>, text: &[u8]) -> Result<(), Memory>
-    ensures { OnOk result (line.new.items ≡ line.old.items ++ text.now) }
+// A number, with room for the longest one.
+fn write_integer(line: &mut ReplyLine, value: i64)
+    requires { HasRoom line.old longest_number }
+    ensures bytes { line.new.bytes ≡ line.old.bytes ++ signed_decimal value }
+    ensures room { line.new.room ≡ line.old.room }
+    ensures short { length (signed_decimal value) ≤ length longest_number }
 {
-    line.extend_from_slice(text)?;
-    Ok(())
+    line.write(Buffer::new().format(value).as_bytes());
 }
 
-fn write_integer(line: &mut Vec<u8>, value: i64) -> Result<(), Memory>
-    ensures { OnOk result (line.new.items ≡ line.old.items ++ signed_decimal value) }
+// A count, for which there is room.
+fn write_count(line: &mut ReplyLine, count: u64)
+    requires { HasRoom line.old (decimal count) }
+    ensures bytes { line.new.bytes ≡ line.old.bytes ++ decimal count }
+    ensures room { line.new.room ≡ line.old.room }
 {
-    write_text(line, Buffer::new().format(value).as_bytes())
+    line.write(Buffer::new().format(count).as_bytes());
 }
 
-fn write_count(line: &mut Vec<u8>, count: u64) -> Result<(), Memory>
-    ensures { OnOk result (line.new.items ≡ line.old.items ++ decimal count) }
-{
-    write_text(line, Buffer::new().format(count).as_bytes())
-}
-
-fn write_truth(line: &mut Vec<u8>, value: i64) -> Result<(), Memory>
-    ensures { OnOk result (line.new.items ≡ line.old.items ++ texts.truth_text value) }
+// A number as a truth value, with room for the longest number.
+fn write_truth(line: &mut ReplyLine, value: i64)
+    requires { HasRoom line.old longest_number }
+    ensures bytes { line.new.bytes ≡ line.old.bytes ++ texts.truth_text value }
+    ensures room { line.new.room ≡ line.old.room }
+    ensures short { length (texts.truth_text value) ≤ length longest_number }
 {
     if value == 0 {
-        write_text(line, b"FALSE")
+        line.write(b"FALSE");
     } else if value == 1 {
-        write_text(line, b"TRUE")
+        line.write(b"TRUE");
     } else {
-        write_integer(line, value)
+        write_integer(line, value);
     }
 }
 
@@ -51,42 +56,43 @@ fn element_name(image: &Image, set: u32, value: i64) -> Option<&[u8]>
     Some(names.as_slice().get(index)?.as_slice())
 }
 
-fn write_value(line: &mut Vec<u8>, image: &Image, kind: CellKind, value: i64) -> Result<(), Memory>
-    ensures { OnOk result (line.new.items ≡ line.old.items ++ texts.value_text image.now kind value) }
+// The text of a number in a cell of that kind, with room for the longest one.
+fn write_value(line: &mut ReplyLine, image: &Image, kind: CellKind, value: i64)
+    requires { HasRoom line.old (longest_value image.now kind) }
+    ensures bytes { line.new.bytes ≡ line.old.bytes ++ texts.value_text image.now kind value }
+    ensures room { line.new.room ≡ line.old.room }
+    ensures short { length (texts.value_text image.now kind value) ≤ length (longest_value image.now kind) }
 {
     match kind {
         CellKind::Integer => write_integer(line, value),
         CellKind::Bool => write_truth(line, value),
         CellKind::Set(set) => match element_name(image, set, value) {
-            Some(name) => write_text(line, name),
+            Some(name) => line.write(name),
             None => write_integer(line, value),
         },
     }
 }
 
 // What stands before the value of the output with that index.
-fn separator(index: usize) -> &'static [u8]
+pub(crate) fn separator(index: usize) -> &'static [u8]
     ensures first { index ≡ 0 → result.now ≡ codes " = " }
     ensures other { 0 < index → result.now ≡ codes ", " }
 {
     if index == 0 { b" = " } else { b", " }
 }
 
-// The values of outputs, behind the name of an operation.
-fn write_outputs(
-    line: &mut Vec<u8>,
-    image: &Image,
-    outputs: &[Parameter],
-    values: &[i64],
-) -> Result<(), Memory>
-    requires { length values.now ≡ length outputs.now }
-    ensures { OnOk result (line.new.items ≡ line.old.items ++ texts.given_text (texts.value_texts image.now outputs.now values.now)) }
+// The values of outputs, behind the name of an operation, with room for the longest ones.
+fn write_outputs(line: &mut ReplyLine, image: &Image, outputs: &[Parameter], values: &[i64])
+    requires counted { length values.now ≡ length outputs.now }
+    requires room { HasRoom line.old (longest_given image.now outputs.now) }
+    ensures bytes { line.new.bytes ≡ line.old.bytes ++ texts.given_text (texts.value_texts image.now outputs.now values.now) }
+    ensures room { line.new.room ≡ line.old.room }
+    ensures short { length (texts.given_text (texts.value_texts image.now outputs.now values.now)) ≤ length (longest_given image.now outputs.now) }
 {
     for (i, output) in outputs.iter().enumerate() {
-        write_text(line, separator(i))?;
-        write_value(line, image, output.kind, values[i])?;
+        line.write(separator(i));
+        write_value(line, image, output.kind, values[i]);
     }
-    Ok(())
 }
 
 // The entry of an operation.
@@ -96,34 +102,32 @@ fn entry(image: &Image, op: u32) -> Option<&OpEntry>
     image.ops.as_slice().get(op as usize)
 }
 
-fn write_name(line: &mut Vec<u8>, image: &Image, op: Option<u32>) -> Result<(), Memory>
-    ensures { OnOk result (line.new.items ≡ line.old.items ++ texts.called_text image.now op) }
+// The name of what was called, or `initialisation`.
+fn write_name(line: &mut ReplyLine, image: &Image, op: Option<u32>)
+    requires { HasRoom line.old (texts.called_text image.now op) }
+    ensures bytes { line.new.bytes ≡ line.old.bytes ++ texts.called_text image.now op }
+    ensures room { line.new.room ≡ line.old.room }
 {
     let Some(op) = op else {
-        return write_text(line, b"initialisation");
+        line.write(b"initialisation");
+        return;
     };
-    match entry(image, op) {
-        Some(entry) => write_text(line, entry.name.as_slice()),
-        None => Ok(()),
+    if let Some(entry) = entry(image, op) {
+        line.write(entry.name.as_slice());
     }
 }
 
-fn write_done(
-    line: &mut Vec<u8>,
-    image: &Image,
-    op: Option<u32>,
-    outs: &[i64],
-) -> Result<(), Memory>
-    requires { AreOutputs image.now op outs.now }
-    ensures { OnOk result (line.new.items ≡ line.old.items ++ texts.done_text image.now op outs.now) }
+// The line of a call that is done, with room for the longest one.
+fn write_done(line: &mut ReplyLine, image: &Image, entry: &OpEntry, outs: &[i64])
+    requires counted { length outs.now ≡ length entry.now.outputs }
+    requires room { HasRoom line.old (longest_done image.now entry.now) }
+    ensures bytes { line.new.bytes ≡ line.old.bytes ++
+        (entry.now.name ++ texts.given_text (texts.value_texts image.now entry.now.outputs outs.now) ++ codes "\n") }
+    ensures room { line.new.room ≡ line.old.room }
 {
-    let Some(op) = op else {
-        return Ok(());
-    };
-    let entry = &image.ops.as_slice()[op as usize];
-    write_text(line, entry.name.as_slice())?;
-    write_outputs(line, image, entry.outputs.as_slice(), outs)?;
-    write_text(line, b"\n")
+    line.write(entry.name.as_slice());
+    write_outputs(line, image, entry.outputs.as_slice(), outs);
+    line.write(b"\n");
 }
 
 fn trap_name(kind: Trap) -> &'static [u8]
@@ -137,55 +141,68 @@ fn trap_name(kind: Trap) -> &'static [u8]
     }
 }
 
-fn write_trap(line: &mut Vec<u8>, kind: Trap, at: u32) -> Result<(), Memory>
-    ensures { OnOk result (line.new.items ≡ line.old.items ++ codes " trapped " ++ texts.trap_text kind ++ codes " at " ++ decimal at ++ codes "\n") }
+// What stands behind a name where the call traps.
+fn write_trap(line: &mut ReplyLine, kind: Trap, at: u32)
+    requires { HasRoom line.old (codes " trapped " ++ texts.trap_text kind ++ codes " at " ++ decimal at ++ codes "\n") }
+    ensures bytes { line.new.bytes ≡ line.old.bytes ++ (codes " trapped " ++ texts.trap_text kind ++ codes " at " ++ decimal at ++ codes "\n") }
+    ensures room { line.new.room ≡ line.old.room }
 {
-    write_text(line, b" trapped ")?;
-    write_text(line, trap_name(kind))?;
-    write_text(line, b" at ")?;
-    write_count(line, u64::from(at))?;
-    write_text(line, b"\n")
+    line.write(b" trapped ");
+    line.write(trap_name(kind));
+    line.write(b" at ");
+    write_count(line, u64::from(at));
+    line.write(b"\n");
 }
 
-/// The line that answers a call: of the operation with that number, or of the initialisation, which leaves no line
-/// where it is done. The outputs matter where the call is done.
-pub fn reply(
-    alloc: Global,
-    op: Option<u32>,
-    end: &CallEnd,
-    outs: &[i64],
-    image: &Image,
-) -> Result<Vec<u8>, Memory>
-    requires { AreOutputs image.now op outs.now }
-    ensures { IfOk result (λ line. line.items ≡ texts.reply_text image.now op (end_of end.now) outs.now) }
+/// Leaves the line that answers a call in `line`: of the operation with that number, or of the initialisation, which leaves
+/// no bytes where it is done. The outputs matter where the call is done. It takes no memory.
+pub fn reply(op: Option<u32>, end: &CallEnd, outs: &[i64], image: &Image, line: &mut ReplyLine)
+    requires outputs { AreOutputs image.now op outs.now }
+    requires made { IsMadeFor image.now line.old }
+    ensures bytes { line.new.bytes ≡ texts.reply_text image.now op (end_of end.now) outs.now }
+    ensures room { line.new.room ≡ line.old.room }
+    ensures made { IsMadeFor image.now line.new }
 {
-    let mut line = Vec::new(alloc);
+    line.clear();
     match *end {
-        CallEnd::Done { .. } => write_done(&mut line, image, op, outs)?,
+        CallEnd::Done { .. } => {
+            if let Some(op) = op {
+                let entry = &image.ops.as_slice()[op as usize];
+                write_done(line, image, entry, outs);
+            }
+        }
         CallEnd::Trap { kind, at, .. } => {
-            write_name(&mut line, image, op)?;
-            write_trap(&mut line, kind, at)?;
+            write_name(line, image, op);
+            write_trap(line, kind, at);
         }
         CallEnd::OutOfFuel => {
-            write_name(&mut line, image, op)?;
-            write_text(&mut line, b" out of fuel\n")?;
+            write_name(line, image, op);
+            line.write(b" out of fuel\n");
         }
     }
-    Ok(line)
 }
 
-/// The last line of a session: the number of calls that are done, and that of all steps, those of the initialisation
-/// among them.
-pub fn closing(alloc: Global, calls: u64, steps: u64) -> Result<Vec<u8>, Memory>
-    ensures { IfOk result (λ line. line.items ≡ texts.closing_text calls steps) }
+// The last line, behind the present bytes.
+fn write_closing(line: &mut ReplyLine, calls: u32, steps: u64)
+    requires { HasRoom line.old (texts.closing_text calls steps) }
+    ensures bytes { line.new.bytes ≡ line.old.bytes ++ texts.closing_text calls steps }
+    ensures room { line.new.room ≡ line.old.room }
 {
-    let mut line = Vec::new(alloc);
-    write_text(&mut line, b"end ")?;
-    write_count(&mut line, calls)?;
-    write_text(&mut line, b" calls, ")?;
-    write_count(&mut line, steps)?;
-    write_text(&mut line, b" steps\n")?;
-    Ok(line)
+    line.write(b"end ");
+    write_count(line, u64::from(calls));
+    line.write(b" calls, ");
+    write_count(line, steps);
+    line.write(b" steps\n");
+}
+
+/// Leaves the last line of a session in `line`: the number of calls that are done, and that of all steps, those of the
+/// initialisation among them. It takes no memory.
+pub fn closing(calls: u32, steps: u64, line: &mut ReplyLine)
+    ensures bytes { line.new.bytes ≡ texts.closing_text calls steps }
+    ensures room { line.new.room ≡ line.old.room }
+{
+    line.clear();
+    write_closing(line, calls, steps);
 }
 
 /// The steps of a call with that fuel: all of the fuel where it is out of it.

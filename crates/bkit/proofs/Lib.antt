@@ -1,6 +1,9 @@
 pub mod Following
 pub mod Open
 pub mod Plays
+pub mod Fronts
 pub mod Projects
 pub mod RunWords
 pub mod Stopping
+pub mod OneAnswer
+pub mod Answering

@@ -20,18 +20,18 @@ use Rattle.bkit.specs.declared.status.Status.{Status}
 use Rattle.bkit.specs.Session.{fuel, status_of, last_end, Plays, PlaysCall, PlaysCalls}
 
 -- ---- one call
-told_end : (end : CallEnd) (given after : List ℤ) → (told_of end given after).end ≡ end_of end
+pub told_end : (end : CallEnd) (given after : List ℤ) → (told_of end given after).end ≡ end_of end
 told_end (DoneEnd n) given after = refl
 told_end (TrapEnd kind at n) given after = refl
 told_end OutOfFuelEnd given after = refl
 
-told_cells : (end : CallEnd) (given after : List ℤ) → (told_of end given after).cells ≡ after
+pub told_cells : (end : CallEnd) (given after : List ℤ) → (told_of end given after).cells ≡ after
 told_cells (DoneEnd n) given after = refl
 told_cells (TrapEnd kind at n) given after = refl
 told_cells OutOfFuelEnd given after = refl
 
 -- outputs matter where the call is done
-told_line : (image : Image) (op : Option ℕ) (end : CallEnd) (given after : List ℤ) → reply_text image op (end_of end) given ≡ reply_text image op (end_of end) (told_of end given after).outputs
+pub told_line : (image : Image) (op : Option ℕ) (end : CallEnd) (given after : List ℤ) → reply_text image op (end_of end) given ≡ reply_text image op (end_of end) (told_of end given after).outputs
 told_line image op (DoneEnd n) given after = refl
 told_line image op (TrapEnd kind at n) given after = refl
 told_line image op OutOfFuelEnd given after = refl
@@ -81,22 +81,22 @@ append_nil : (xs : List ℕ) → xs ++ [] ≡ xs
 append_nil [] = refl
 append_nil (x ∷ xs) = ap (λ ys. x ∷ ys) (append_nil xs)
 
-written_nothing : (old : Option (List ℕ)) → old ≡ written_with old []
+pub written_nothing : (old : Option (List ℕ)) → old ≡ written_with old []
 written_nothing None = refl
 written_nothing (Some xs) = ap Some (sym (append_nil xs))
 
-append_assoc : (xs ys zs : List ℕ) → (xs ++ ys) ++ zs ≡ xs ++ (ys ++ zs)
+pub append_assoc : (xs ys zs : List ℕ) → (xs ++ ys) ++ zs ≡ xs ++ (ys ++ zs)
 append_assoc [] ys zs = refl
 append_assoc (x ∷ xs) ys zs = ap (λ l. x ∷ l) (append_assoc xs ys zs)
 
-written_twice : (old : Option (List ℕ)) (xs ys : List ℕ) → written_with (written_with old xs) ys ≡ written_with old (xs ++ ys)
+pub written_twice : (old : Option (List ℕ)) (xs ys : List ℕ) → written_with (written_with old xs) ys ≡ written_with old (xs ++ ys)
 written_twice None xs ys = refl
 written_twice (Some old) xs ys = ap Some (append_assoc old xs ys)
 
 pub sofar_start : (image : Image) (end : End) (cells : List ℤ) (old : Option (List ℕ)) → Sofar image [] end cells end cells 0 0 old old
 sofar_start image end cells old = record { tolds = []; reaches = (refl, refl); done_is = refl; steps_are = refl; written = written_nothing old }
 
-reaches_more : (image : Image) (e : End) (c : List ℤ) (rs : List Request) (ts : List Told) (f : End) (d : List ℤ) (r : Request) (t : Told) → Reaches image e c rs ts f d → IsDone f → Answers image fuel r d t → Reaches image e c (rs ++ r ∷ []) (ts ++ t ∷ []) t.end t.cells
+pub reaches_more : (image : Image) (e : End) (c : List ℤ) (rs : List Request) (ts : List Told) (f : End) (d : List ℤ) (r : Request) (t : Told) → Reaches image e c rs ts f d → IsDone f → Answers image fuel r d t → Reaches image e c (rs ++ r ∷ []) (ts ++ t ∷ []) t.end t.cells
 reaches_more image e c [] [] f d r t h done answers = (subst IsDone (sym h.0) done, subst (λ x. Answers image fuel r x t) (sym h.1) answers, (refl, refl))
 reaches_more image e c (q ∷ rs) (u ∷ ts) f d r t h done answers = (h.0, h.1, reaches_more image u.end u.cells rs ts f d r t h.2 done answers)
 reaches_more image e c [] (u ∷ ts) f d r t h done answers = absurd h
@@ -110,7 +110,7 @@ steps_more : (f : ℕ) (ts : List Told) (t : Told) → step_sum f (ts ++ t ∷ [
 steps_more f [] t = omega arith
 steps_more f (u ∷ ts) t = ap (λ n. steps_of f u.end + n) (steps_more f ts t) ∙ omega arith
 
-lines_more : (image : Image) (e : End) (c : List ℤ) (rs : List Request) (ts : List Told) (f : End) (d : List ℤ) (r : Request) (t : Told) → Reaches image e c rs ts f d → replies_text image (rs ++ r ∷ []) (ts ++ t ∷ []) ≡ replies_text image rs ts ++ reply_text image (Some r.op) t.end t.outputs
+pub lines_more : (image : Image) (e : End) (c : List ℤ) (rs : List Request) (ts : List Told) (f : End) (d : List ℤ) (r : Request) (t : Told) → Reaches image e c rs ts f d → replies_text image (rs ++ r ∷ []) (ts ++ t ∷ []) ≡ replies_text image rs ts ++ reply_text image (Some r.op) t.end t.outputs
 lines_more image e c [] [] f d r t h = append_nil (reply_text image (Some r.op) t.end t.outputs)
 lines_more image e c (q ∷ rs) (u ∷ ts) f d r t h =
     ap (λ l. reply_text image (Some q.op) u.end u.outputs ++ l) (lines_more image u.end u.cells rs ts f d r t h.2) ∙
@@ -145,7 +145,7 @@ over image (Done n) d (r ∷ rs) h = absurd h
 over image (Trapped kind place n) d rs h = tt
 over image OutOfFuel d rs h = tt
 
-goes_on : (image : Image) (e : End) (c : List ℤ) (rs : List Request) (ts : List Told) (f : End) (d : List ℤ) (more : List Request) → Reaches image e c rs ts f d → IsOver f more → Continues image fuel e c (rs ++ more) ts
+pub goes_on : (image : Image) (e : End) (c : List ℤ) (rs : List Request) (ts : List Told) (f : End) (d : List ℤ) (more : List Request) → Reaches image e c rs ts f d → IsOver f more → Continues image fuel e c (rs ++ more) ts
 goes_on image e c [] [] f d more h o = over image e c more (subst (λ x. IsOver x more) (sym h.0) o)
 goes_on image (Done n) c (q ∷ rs) (u ∷ ts) f d more h o = (h.1, goes_on image u.end u.cells rs ts f d more h.2 o)
 goes_on image (Trapped kind place n) c (q ∷ rs) (u ∷ ts) f d more h o = absurd h.0
@@ -198,7 +198,7 @@ over_stop (DoneEnd n) rs h = absurd (true≢false (sym h))
 over_stop (TrapEnd kind at n) rs h = tt
 over_stop OutOfFuelEnd rs h = tt
 
-over_nothing : (end : End) → IsOver end []
+pub over_nothing : (end : End) → IsOver end []
 over_nothing (Done n) = tt
 over_nothing (Trapped kind place n) = tt
 over_nothing OutOfFuel = tt
@@ -212,7 +212,7 @@ whole_at image rs n e c f d done steps old new s o =
     subst (λ x. PlaysCalls image x e c f done steps old new) (take-append-drop n rs) (sofar_whole image (take n rs) (drop n rs) e c f d done steps old new s o)
 
 -- the start of a session, its calls and its last line
-first_line : (image : Image) (start : CallEnd) (cells : List ℤ) → reply_text image None (end_of start) [] ≡ reply_text image None (told_of start [] cells).end (told_of start [] cells).outputs
+pub first_line : (image : Image) (start : CallEnd) (cells : List ℤ) → reply_text image None (end_of start) [] ≡ reply_text image None (told_of start [] cells).end (told_of start [] cells).outputs
 first_line image (DoneEnd n) cells = refl
 first_line image (TrapEnd kind at n) cells = refl
 first_line image OutOfFuelEnd cells = refl

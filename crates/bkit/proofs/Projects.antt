@@ -1,6 +1,5 @@
 -- What the files of a project tell.
-use Rattle.std.proofs.Common.{◌≡◌, ℕ, suc, ◌+◌, ◌<◌, ◌≤◌, List, [], ◌∷◌, length, All, filter, Option, Some, None, refl, sym, ◌∙◌, ap, subst, arith, Bool, true, false, not, cond}
-use Rattle.std.specs.List.{AllZip}
+use Rattle.std.proofs.Common.{◌≡◌, ℕ, ◌+◌, ◌<◌, ◌≤◌, List, [], ◌∷◌, length, All, Option, Some, None, refl, sym, ◌∙◌, ap, subst, arith}
 use Rattle.std.specs.Str.Lines.{lines}
 use Rattle.std.proofs.lemmas.List.Elements.{All-nil, All-cons, All-head, All-tail}
 use Rattle.bk_io.specs.Files.{Files}
@@ -14,16 +13,14 @@ use Rattle.bk_front.specs.Reading.{Reads}
 use Rattle.bk_front.specs.FirstForm.{IsFirstForm}
 use Rattle.bk_front.proofs.ProjectFiles.{names_once}
 use Rattle.bk_front.proofs.Readings.{read_once}
-use Rattle.bk_lines.specs.Lines.{is_skipped, kept_lines}
-use Rattle.bk_calls.specs.Script.{IsScript, AsksFor, HasNoInputs}
+use Rattle.bk_calls.specs.Script.{IsScript, HasNoInputs, most_calls}
 use Rattle.bk_calls.proofs.Lines.{lines_within}
 use Rattle.bk_code.specs.Session.{Session}
 use Rattle.bk_calls.specs.Transcript.{transcript}
-use Rattle.bk_po.specs.Obvious.{HasObviousObligations}
 use Rattle.bkit.proofs.Following.{project_follows}
 use Rattle.bkit.specs.declared.status.Status.{Status}
 use Rattle.bkit.specs.Session.{fuel, Plays}
-use Rattle.bkit.specs.Run.{AreRunWords, WritesRun, IsTold, component_lines, AreComponentLines, ReadsProject, ReadsProgram}
+use Rattle.bkit.specs.Run.{AreRunWords, WritesRun, IsTold, component_lines, AreComponentLines, ReadsProject, IsProved, ReadsProgram}
 
 pub component_lines_of : (text : List ℕ) (ls : List ProjectLine) → AreProjectLines text ls → AreComponentLines ls
 component_lines_of text ls h = record {
@@ -62,16 +59,17 @@ reads_project files project text a b above below ls dev told are e machine imple
   reads = reads;
 }
 
--- the files tell one text under a name
-told_once : (files : Files) (name text other : List ℕ) → IsTold files name text → IsTold files name other → text ≡ other
-told_once files name text other h k = some_once (sym h.stands ∙ k.stands)
+-- what stands in two equal options
+pub some_once : {a b : List ℕ} → Some a ≡ Some b → a ≡ b
+some_once {a} {b} e = ap (value a) e
   where
     value : List ℕ → Option (List ℕ) → List ℕ
     value d None = d
     value d (Some x) = x
 
-    some_once : {a b : List ℕ} → Some a ≡ Some b → a ≡ b
-    some_once {a} {b} e = ap (value a) e
+-- the files tell one text under a name
+pub told_once : (files : Files) (name text other : List ℕ) → IsTold files name text → IsTold files name other → text ≡ other
+told_once files name text other h k = some_once (sym h.stands ∙ k.stands)
 
 pub one_project : (files : Files) (project : List ℕ) (dev other : Development) → ReadsProject files project dev → ReadsProject files project other → other ≡ dev
 one_project files project dev other h k =
@@ -101,34 +99,18 @@ pub few_operations : (dev : Development) (image : Image) → length dev.heads �
 few_operations dev image few e = rw e (omega (arith, few, entries_within dev (length (init_code dev)) dev.heads (level_at dev (last dev)).bodies))
 
 -- ---- the script
-as_long : (image : Image) (ls : List (List ℕ)) (rs : List Request) → AllZip (AsksFor image) ls rs → length ls ≡ length rs
-as_long image [] [] h = refl
-as_long image (l ∷ ls) (r ∷ rs) h = ap suc (as_long image ls rs h.1)
-as_long image [] (r ∷ rs) h = absurd h
-as_long image (l ∷ ls) [] h = absurd h
-
-kept : (b : Bool) (l : List ℕ) (ls : List (List ℕ)) (n : ℕ) → length ls ≤ n → length (cond b (l ∷ ls) ls) ≤ n + 1
-kept true l ls n h = omega (arith, h)
-kept false l ls n h = omega (arith, h)
-
-filtered : (p : List ℕ → Bool) (ls : List (List ℕ)) → length (filter p ls) ≤ length ls
-filtered p [] = omega arith
-filtered p (l ∷ ls) = omega (arith, kept (p l) l (filter p ls) (length ls) (filtered p ls))
-
-pub few_requests : (image : Image) (text : List ℕ) (requests : List Request) → IsScript image text requests → length (lines text) < 4294967296 → length requests < 4294967296
-few_requests image text requests script few = omega (arith, few, as_long image (kept_lines text) requests script, filtered (λ line. not (is_skipped line)) (lines text))
-
 pub few_lines : (text : List ℕ) → length text ≤ 16777216 → length (lines text) < 4294967296
 few_lines text h = omega (arith, h, lines_within text)
 
 pub reads_program : (files : Files) (project calls text : List ℕ) (dev : Development) (image : Image) (requests : List Request) →
-    ReadsProject files project dev → HasObviousObligations dev → image ≡ translation dev → IsTold files calls text → IsScript image text requests → ReadsProgram files project calls image requests
-reads_program files project calls text dev image requests reads obvious e told script = record {
+    ReadsProject files project dev → IsProved dev → image ≡ translation dev → (length image.code ≤ 1000000) × (image.cells ≤ 1000000) → IsTold files calls text → IsScript image text requests → length requests ≤ most_calls → ReadsProgram files project calls image requests
+reads_program files project calls text dev image requests reads proved e within told script few = record {
   dev = dev;
   reads = reads;
-  obvious = obvious;
+  proved = proved;
   translated = e;
-  asks = record { text = text; told = told; script = subst (λ x. IsScript x text requests) e script };
+  short = record { code = subst (λ x. length x.code ≤ 1000000) e within.0; cells = subst (λ x. x.cells ≤ 1000000) e within.1 };
+  asks = record { text = text; told = told; script = subst (λ x. IsScript x text requests) e script; few = few };
 }
 
 -- ---- the run
@@ -137,20 +119,23 @@ pub writes_run : (files : Files) (words : List (List ℕ)) (project calls : List
 writes_run files words project calls image requests status before after are r p = record {
   text = transcript image fuel requests p.tolds;
   run = record {
-    project = project;
-    calls = calls;
-    are_words = are;
-    dev = r.dev;
-    reads = r.reads;
+    played = record {
+      project = project;
+      calls = calls;
+      are_words = are;
+      dev = r.dev;
+      reads = r.reads;
+      proved = r.proved;
+      short = r.short;
+      requests = requests;
+      asks = r.asks;
+      tolds = p.tolds;
+      session = subst (λ x. Session x fuel requests p.tolds) r.translated p.session;
+      last = p.last;
+      transcript_is = ap (λ x. transcript x fuel requests p.tolds) r.translated;
+    };
     only = λ other k. one_project files project r.dev other r.reads k;
-    obvious = r.obvious;
-    requests = requests;
-    asks = r.asks;
-    tolds = p.tolds;
-    session = subst (λ x. Session x fuel requests p.tolds) r.translated p.session;
-    transcript_is = ap (λ x. transcript x fuel requests p.tolds) r.translated;
-    last = p.last;
-    follows = project_follows files project r.dev r.reads r.obvious;
+    follows = project_follows files project r.dev r.reads r.proved.obvious;
   };
   appended = p.written;
 }

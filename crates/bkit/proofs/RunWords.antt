@@ -1,12 +1,13 @@
 -- The words of a run.
-use Rattle.std.proofs.Common.{◌≡◌, ◌≢◌, ℕ, ◌<◌, ◌≤◌, List, [], ◌∷◌, length, map, false, slice_index_or, refl, sym, ◌∙◌, ap, arith, codes, String, Global, Result, Ok, Err, Option, ◌⊎◌, inl, inr}
+use Rattle.std.proofs.Common.{◌≡◌, ◌≢◌, ℕ, ◌<◌, ◌≤◌, List, [], ◌∷◌, length, map, false, slice_index_or, refl, sym, ◌∙◌, ap, subst, arith, codes, String, Global, Result, Ok, Err, Option, ◌⊎◌, inl, inr}
 use Rattle.std.specs.Prelude.{string_bytes}
 use Rattle.std.proofs.lemmas.Bool.{ne_eqb}
 use Rattle.bkit.specs.declared.status.Status.{Status}
 use Rattle.bkit.specs.declared.stop.Stop.{Stop}
-use Rattle.bkit.specs.declared.status.Status.TheVariants.{Usage as UsageStatus, WriteFault as WriteFaultStatus, Memory as MemoryStatus}
+use Rattle.bkit.specs.declared.status.Status.TheVariants.{Usage as UsageStatus}
 use Rattle.bkit.specs.declared.stop.Stop.TheVariants.{Usage}
-use Rattle.bkit.specs.Stops.{status_of_stop, Reports}
+use Rattle.bk_io.specs.Pieces.{WroteFront}
+use Rattle.bkit.specs.Stops.{status_of_stop, stop_text, IsCutShort, Reports}
 use Rattle.bkit.specs.Run.{is_option, AreRunWords}
 
 abbrev pub Text : Type 0
@@ -41,6 +42,6 @@ pub one_stop : (result : Result Status Stop) (stop other : Stop) → result ≡ 
 unfolding err_of
 one_stop result stop other h k = ap (err_of stop) (sym h ∙ k)
 
-pub wrong_words : (stop : Stop) (status : Status) (old new : Option (List ℕ)) → stop ≡ Usage → Reports stop status old new → (status ≡ UsageStatus) ⊎ (status ≡ WriteFaultStatus) ⊎ (status ≡ MemoryStatus)
-wrong_words stop status old new e (inl r) = inl (r.0 ∙ ap status_of_stop e)
-wrong_words stop status old new e (inr r) = inr r
+pub wrong_words : (stop : Stop) (status : Status) (start old new : Option (List ℕ)) → stop ≡ Usage → Reports stop status old new → old ≡ start → (status ≡ UsageStatus) ⊎ (IsCutShort status × WroteFront (stop_text Usage) start new)
+wrong_words stop status start old new e (inl r) s = inl (r.0 ∙ ap status_of_stop e)
+wrong_words stop status start old new e (inr r) s = inr (r.0, subst (λ x. WroteFront (stop_text Usage) x new) s (subst (λ x. WroteFront (stop_text x) old new) e r.1))

@@ -1,7 +1,6 @@
 -- Why the program stops, check by check.
-use Rattle.std.proofs.Common.{◌≡◌, ℕ, ◌<◌, ◌≤◌, ◌⊎◌, inl, inr, List, length, Option, Result, Ok, Err, IfErr, IsErrAnd, refl, sym, ◌∙◌, ap, subst}
+use Rattle.std.proofs.Common.{◌≡◌, ℕ, ◌<◌, ◌≤◌, ◌⊎◌, inl, inr, List, length, Result, Ok, Err, IfErr, IsErrAnd, refl, sym, subst}
 use Rattle.bk_io.specs.Files.{Files}
-use Rattle.bk_io.specs.Pieces.{written_with}
 use Rattle.bk_code.specs.declared.image.Image.{Image}
 use Rattle.bk_dev.specs.Development.{Development}
 use Rattle.bk_dev.specs.Layout.{cell_count}
@@ -15,19 +14,23 @@ use Rattle.bk_front.specs.ProjectFile.{AreProjectLines, IsNoProject}
 use Rattle.bk_front.specs.Refusals.{not_built}
 use Rattle.bk_front.specs.Project.{IsRefusal}
 use Rattle.bk_calls.specs.declared.script.CallsFault.{CallsFault}
-use Rattle.bk_calls.specs.declared.script.CallsFault.TheVariants.{Line, Memory as NoMemory}
-use Rattle.bk_calls.specs.Script.{IsFirstFault}
-use Rattle.bkit.specs.declared.status.Status.{Status}
+use Rattle.bk_calls.specs.declared.script.CallsFault.TheVariants.{Line, Limit as PastLimit, Memory as NoMemory}
+use Rattle.bk_calls.specs.Script.{IsBadLine, PassesLimit}
 use Rattle.bkit.specs.declared.stop.Stop.{Stop}
-use Rattle.bkit.specs.declared.stop.Stop.TheVariants.{Usage, Missing, Refused, Limit, Unproved, BadCalls, ReadFault, WriteFault, Memory}
-use Rattle.bkit.specs.Run.{ComesSoFar, IsTold, component_lines, ReadsProject, AreRunWords}
-use Rattle.bkit.specs.Stops.{IsOutside, StopsAtFile, StopsAtProject, StopsAtObligations, IsProved, StopsAtRun, StopsAt, IsStopOf, stop_of_code, stop_of_calls, status_of_stop, stop_text, Reports, IsStopped, WritesStop}
+use Rattle.bkit.specs.declared.stop.Stop.TheVariants.{Memory}
+use Rattle.bkit.specs.Run.{IsTold, component_lines, ReadsProject, AreRunWords, IsProved}
+use Rattle.bkit.specs.Stops.{IsOutside, StopsAtFile, StopsAtProject, StopsAtObligations, StopsAtScript, StopsAtRun, StopsAt, IsStopOf, stop_of_code, stop_of_calls}
 use Rattle.bkit.proofs.Projects.{names_of}
 
 -- what an error says may be weakened
 pub widen : {T : Type 0} (r : Result T Stop) (P Q : Stop → Type 0) → IfErr r P → ((s : Stop) → P s → Q s) → IfErr r Q
 widen (Ok t) P Q h f = tt
 widen (Err s) P Q h f = f s h
+
+-- what is so of each error
+pub on_each : {T : Type 0} (r : Result T Stop) (P : Stop → Type 0) → ((s : Stop) → P s) → IfErr r P
+on_each (Ok t) P f = tt
+on_each (Err s) P f = f s
 
 -- an error that is handed on
 pub handed_on : {T : Type 0} (r : Result T Stop) (stop : Stop) (P : Stop → Type 0) → IsErrAnd r (λ s. s ≡ stop) → P stop → IfErr r P
@@ -80,45 +83,16 @@ module _ (files : Files) (project calls : List ℕ) (dev : Development) (reads :
   at_code text TooManyCells stop told long many is = inr (inr (dev, reads, inr (proved, inr (text, told, inr (inl (is, (many refl).0, (many refl).1))))))
   at_code text NoRoom stop told long many is = inl (outside_memory stop is)
 
-  pub at_calls : (text : List ℕ) (image : Image) (fault : CallsFault) (stop : Stop) → IsTold files calls text → image ≡ translation dev → (length image.code ≤ 1000000) × (image.cells ≤ 1000000) → ((number : ℕ) → fault ≡ Line number → IsFirstFault image text number) → stop ≡ stop_of_calls fault → Stopped files project calls stop
-  at_calls text image (Line number) stop told e within first is = inr (inr (dev, reads, inr (proved, inr (text, told, inr (inr (number, is, subst (λ x. length x.code ≤ 1000000) e within.0, subst (λ x. x.cells ≤ 1000000) e within.1, subst (λ x. IsFirstFault x text number) e (first number refl)))))))
-  at_calls text image NoMemory stop told e within first is = inl (outside_memory stop is)
+  under : (text : List ℕ) (image : Image) (stop : Stop) → IsTold files calls text → image ≡ translation dev → (length image.code ≤ 1000000) × (image.cells ≤ 1000000) → StopsAtScript calls text image stop → Stopped files project calls stop
+  under text image stop told e within h =
+      inr (inr (dev, reads, inr (proved, inr (text, told, inr (inr (record { code = subst (λ x. length x.code ≤ 1000000) e within.0; cells = subst (λ x. x.cells ≤ 1000000) e within.1 }, subst (λ x. StopsAtScript calls text x stop) e h))))))
+
+  pub at_calls : (text : List ℕ) (image : Image) (fault : CallsFault) (stop : Stop) → IsTold files calls text → image ≡ translation dev → (length image.code ≤ 1000000) × (image.cells ≤ 1000000) → ((number : ℕ) → fault ≡ Line number → IsBadLine image text number) → (fault ≡ PastLimit → PassesLimit image text) → stop ≡ stop_of_calls fault calls → Stopped files project calls stop
+  at_calls text image (Line number) stop told e within bad past is = under text image stop told e within (inl (number, is, bad number refl))
+  at_calls text image PastLimit stop told e within bad past is = under text image stop told e within (inr (is, past refl))
+  at_calls text image NoMemory stop told e within bad past is = inl (outside_memory stop is)
 
 -- ---- the run
 pub at_run : (files : Files) (words : List (List ℕ)) (project calls : List ℕ) (stop : Stop) → AreRunWords words project calls → Stopped files project calls stop → IsOutside stop ⊎ StopsAt files words stop
 at_run files words project calls stop are (inl o) = inl o
 at_run files words project calls stop are (inr s) = inr (inr (project, calls, are, s))
-
-outside_is_not_stopped : (stop : Stop) → IsOutside stop → IsStopped (status_of_stop stop) → ⊥
-outside_is_not_stopped Usage o s = o
-outside_is_not_stopped (Missing name) o s = o
-outside_is_not_stopped (Refused fault name) o s = o
-outside_is_not_stopped (Limit limit name) o s = o
-outside_is_not_stopped (Unproved name) o s = o
-outside_is_not_stopped (BadCalls line) o s = o
-outside_is_not_stopped ReadFault o s = s
-outside_is_not_stopped WriteFault o s = s
-outside_is_not_stopped Memory o s = s
-
-pub writes_stop : (files : Files) (words : List (List ℕ)) (start before after : Option (List ℕ)) (status : Status) (stop : Stop) → IsOutside stop ⊎ StopsAt files words stop → Reports stop status before after → IsStopped status → IsOutside stop ⊎ (before ≡ start) → WritesStop files words start after status
-writes_stop files words start before after status stop (inl o) (inl r) s e = absurd (outside_is_not_stopped stop o (subst IsStopped r.0 s))
-writes_stop files words start before after status stop (inr c) (inl r) s (inl o) = absurd (outside_is_not_stopped stop o (subst IsStopped r.0 s))
-writes_stop files words start before after status stop (inr c) (inl r) s (inr e) = record { stop = stop; cause = c; status_is = r.0; appended = r.1 ∙ ap (λ w. written_with w (stop_text stop)) e }
-writes_stop files words start before after status stop c (inr (inl w)) s e = absurd (subst IsStopped w s)
-writes_stop files words start before after status stop c (inr (inr w)) s e = absurd (subst IsStopped w s)
-
-stop_so_far : (stop : Stop) → ComesSoFar (status_of_stop stop)
-stop_so_far Usage = tt
-stop_so_far (Missing name) = tt
-stop_so_far (Refused fault name) = tt
-stop_so_far (Limit limit name) = tt
-stop_so_far (Unproved name) = tt
-stop_so_far (BadCalls line) = tt
-stop_so_far ReadFault = tt
-stop_so_far WriteFault = tt
-stop_so_far Memory = tt
-
-pub reports_so_far : (stop : Stop) (status : Status) (before after : Option (List ℕ)) → Reports stop status before after → ComesSoFar status
-reports_so_far stop status before after (inl r) = subst ComesSoFar (sym r.0) (stop_so_far stop)
-reports_so_far stop status before after (inr (inl w)) = subst ComesSoFar (sym w) tt
-reports_so_far stop status before after (inr (inr w)) = subst ComesSoFar (sym w) tt

@@ -12,8 +12,10 @@ use Rattle.bk_front.specs.declared.project_file.LineKind.TheVariants.{Machine, I
 use Rattle.bk_front.specs.ProjectFile.{IsFileName, NamesFiles}
 use Rattle.bk_front.specs.Reading.{Reads}
 use Rattle.bk_sim.specs.Follows.{Follows}
+use Rattle.bk_po.specs.Obligations.{obligations}
+use Rattle.bk_po.specs.Limits.{PassNoLimit}
 use Rattle.bk_po.specs.Obvious.{HasObviousObligations}
-use Rattle.bk_calls.specs.Script.{IsScript}
+use Rattle.bk_calls.specs.Script.{IsScript, most_calls}
 use Rattle.bk_calls.specs.Transcript.{transcript}
 use Rattle.bkit.specs.declared.status.Status.{Status}
 use Rattle.bkit.specs.declared.status.Status.TheVariants.{Done, Trapped, OutOfFuel, Incomplete, BadImage}
@@ -65,54 +67,70 @@ pub record ReadsProject (files : Files) (project : List ℕ) (dev : Development)
   pub implementation_told : IsTold files implementation implementation_text
   pub reads : Reads machine_text implementation_text dev
 
--- the call script that the files tell asks for these calls of the image
+-- the call script that the files tell asks for these calls of the image, at most 1000000
 pub record ReadsCalls (files : Files) (calls : List ℕ) (image : Image) (requests : List Request) : Type 0 where
   pub text : List ℕ
   pub told : IsTold files calls text
   pub script : IsScript image text requests
+  pub few : length requests ≤ most_calls
 
--- the image is the translation of the development that the project reads as, each obligation of it is obvious, and the
--- script asks for these calls of the image
+-- the obligations pass no limit, and each is obvious
+pub record IsProved (dev : Development) : Type 0 where
+  pub within : PassNoLimit (obligations dev)
+  pub obvious : HasObviousObligations dev
+
+-- at most 1000000 instructions, and at most 1000000 cells
+pub record IsWithinCodeLimits (image : Image) : Type 0 where
+  pub code : length image.code ≤ 1000000
+  pub cells : image.cells ≤ 1000000
+
+-- the image is the translation of the development that the project reads as, which is proved, and the script asks for these calls of the image
 pub record ReadsProgram (files : Files) (project calls : List ℕ) (image : Image) (requests : List Request) : Type 0 where
   pub dev : Development
   pub reads : ReadsProject files project dev
-  pub obvious : HasObviousObligations dev
+  pub proved : IsProved dev
   pub translated : image ≡ translation dev
+  pub short : IsWithinCodeLimits (translation dev)
   pub asks : ReadsCalls files calls (translation dev) requests
 
 -- ---- the run
--- a session was begun
+-- a session was played to its end
 abbrev pub IsExecuted : Status → Type 0
 IsExecuted Done = Unit {0}
 IsExecuted Trapped = Unit {0}
 IsExecuted OutOfFuel = Unit {0}
 IsExecuted _ = ⊥
 
--- each obligation of the development that the project reads as is obvious; the text is the transcript of the session, over the
--- called operations, of its translation; the status is that of the session's last end; and the code follows the machine
-pub record IsRun (files : Files) (words : List (List ℕ)) (text : List ℕ) (status : Status) : Type 0 where
+-- what the words and the told files give where no check stops the program: the text is the transcript of the session, over the called
+-- operations, of the translation of the development that the project reads as, which is proved; the status is that of the session's last end
+pub record IsPlayed (files : Files) (words : List (List ℕ)) (status : Status) (text : List ℕ) : Type 0 where
   pub project : List ℕ
   pub calls : List ℕ
   pub are_words : AreRunWords words project calls
   pub dev : Development
   pub reads : ReadsProject files project dev
-  -- the one development that the told texts read as
-  pub only : (other : Development) → ReadsProject files project other → other ≡ dev
-  pub obvious : HasObviousObligations dev
+  pub proved : IsProved dev
+  pub short : IsWithinCodeLimits (translation dev)
   pub requests : List Request
   pub asks : ReadsCalls files calls (translation dev) requests
   pub tolds : List Told
   pub session : Session (translation dev) fuel requests tolds
-  pub transcript_is : text ≡ transcript (translation dev) fuel requests tolds
   pub last : status ≡ session_status tolds
-  -- for every search: the replies up to the first call whose precondition may be false are those of a run of the abstract
-  -- machine, no such call traps, and one out of fuel would end with more
-  pub follows : (find : Finder) → IsSearch find → Follows find dev (translation dev)
+  pub transcript_is : text ≡ transcript (translation dev) fuel requests tolds
+
+-- the session is played, and the code follows the machine
+pub record IsRun (files : Files) (words : List (List ℕ)) (status : Status) (text : List ℕ) : Type 0 where
+  pub played : IsPlayed files words status text
+  -- the one development that the told texts read as
+  pub only : (other : Development) → ReadsProject files played.project other → other ≡ played.dev
+  -- for every search: up to the first call whose precondition may be false the replies are those of a run of the abstract
+  -- machine, no call traps, and one out of fuel would end with more
+  pub follows : (find : Finder) → IsSearch find → Follows find played.dev (translation played.dev)
 
 -- what is written is what had been written, and then the text of the run
 pub record WritesRun (files : Files) (words : List (List ℕ)) (old new : Option (List ℕ)) (status : Status) : Type 0 where
   pub text : List ℕ
-  pub run : IsRun files words text status
+  pub run : IsRun files words status text
   pub appended : new ≡ written_with old text
 
 -- the statuses that come so far: each project has an implementation, and no image is read

@@ -1,6 +1,6 @@
 -- A session as the program plays it: its status and the text that it writes.
-use Rattle.std.specs.Prelude.{◌≡◌, ℕ, ℤ, List, [], ◌∷◌, Option, Some}
-use Rattle.bk_io.specs.Pieces.{written_with}
+use Rattle.std.specs.Prelude.{◌≡◌, ℕ, ℤ, List, [], ◌∷◌, ◌≤◌, length, All, take, Option, Some}
+use Rattle.bk_io.specs.Pieces.{written_with, WroteFront}
 use Rattle.bk_code.specs.declared.image.Image.{Image}
 use Rattle.bk_code.specs.Run.{End, Done, Trapped, OutOfFuel}
 use Rattle.bk_code.specs.Session.{Request, Told, Answers, Continues, Session}
@@ -53,3 +53,25 @@ pub record PlaysCalls (image : Image) (requests : List Request) (end : End) (cel
   pub done_is : done ≡ done_count tolds
   pub steps_are : steps ≡ step_sum fuel tolds
   pub written : new ≡ written_with old (replies_text image requests tolds)
+
+-- so many places are enough for the outputs of each operation
+abbrev pub HasOutputRoom : Image → ℕ → Type 0
+HasOutputRoom image places = All (λ entry. length entry.outputs ≤ places) image.ops
+
+-- ---- what is written where the sink fails
+-- one call of a session is made on the cells before it, and a front of its line is written
+pub record PlaysCallFront (image : Image) (request : Request) (before : List ℤ) (old new : Option (List ℕ)) : Type 0 where
+  pub told : Told
+  pub answers : Answers image fuel request before told
+  pub front : WroteFront (reply_text image (Some request.op) told.end told.outputs) old new
+
+-- so many of the calls, from the first, go on after that end and on those cells, and a front of their lines is written
+pub record PlaysCallsFront (image : Image) (requests : List Request) (end : End) (cells : List ℤ) (old new : Option (List ℕ)) : Type 0 where
+  pub count : ℕ
+  pub tolds : List Told
+  pub goes_on : Continues image fuel end cells (take count requests) tolds
+  pub front : WroteFront (replies_text image (take count requests) tolds) old new
+
+-- what is written is a front of the transcript of each session of the image over these calls; there is one at most
+abbrev pub PlaysFront : Image → List Request → (old new : Option (List ℕ)) → Type 0
+PlaysFront image requests old new = (tolds : List Told) → Session image fuel requests tolds → WroteFront (transcript image fuel requests tolds) old new

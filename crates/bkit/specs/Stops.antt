@@ -7,21 +7,21 @@ use Rattle.bk_gen.specs.declared.error.GenFault.{GenFault}
 use Rattle.bk_gen.specs.declared.error.GenFault.TheVariants.{CodeTooLong, TooManyCells, Memory as NoRoom}
 use Rattle.bk_gen.specs.Translation.{translation}
 use Rattle.bk_front.specs.declared.refusal.Refusal.{Refusal}
-use Rattle.bk_front.specs.declared.refusal.Refusal.TheVariants.{Fault, Limit as PassesLimit, Memory as OutOfMemory}
+use Rattle.bk_front.specs.declared.refusal.Refusal.TheVariants.{Fault, Limit as LimitOfText, Memory as OutOfMemory}
 use Rattle.bk_front.specs.ProjectFile.{NamesFiles, IsNoProject}
 use Rattle.bk_front.specs.Reading.{Reads, IsMachineText}
 use Rattle.bk_po.specs.Obligations.{obligations, numbered_obligations}
 use Rattle.bk_po.specs.Limits.{first_too_large, PassTogether, PassNoLimit}
-use Rattle.bk_po.specs.Obvious.{HasObviousObligations, first_open}
-use Rattle.bk_calls.specs.Script.{IsFirstFault}
-use Rattle.bk_io.specs.Pieces.{written_with}
+use Rattle.bk_po.specs.Obvious.{first_open}
+use Rattle.bk_calls.specs.Script.{IsBadLine, PassesLimit}
+use Rattle.bk_io.specs.Pieces.{written_with, WroteFront}
 use Rattle.bk_calls.specs.declared.script.CallsFault.{CallsFault}
-use Rattle.bk_calls.specs.declared.script.CallsFault.TheVariants.{Line, Memory as NoMemory}
+use Rattle.bk_calls.specs.declared.script.CallsFault.TheVariants.{Line, Limit as PastLimit, Memory as NoMemory}
 use Rattle.bkit.specs.declared.status.Status.{Status}
 use Rattle.bkit.specs.declared.status.Status.TheVariants.{Usage as UsageStatus, Missing as MissingStatus, Refused as RefusedStatus, Unproved as UnprovedStatus, BadCalls as BadCallsStatus, ReadFault as ReadFaultStatus, WriteFault as WriteFaultStatus, Memory as MemoryStatus}
 use Rattle.bkit.specs.declared.stop.Stop.{Stop}
 use Rattle.bkit.specs.declared.stop.Stop.TheVariants.{Usage, Missing, Refused, Limit, Unproved, BadCalls, ReadFault, WriteFault, Memory}
-use Rattle.bkit.specs.Run.{AreRunWords, AreNoRunWords, IsTold, ReadsProject}
+use Rattle.bkit.specs.Run.{AreRunWords, AreNoRunWords, IsTold, ReadsProject, IsProved, IsWithinCodeLimits}
 
 -- a device failed, or there was no memory
 abbrev pub IsOutside : Stop → Type 0
@@ -42,11 +42,11 @@ status_of_stop ReadFault = ReadFaultStatus
 status_of_stop WriteFault = WriteFaultStatus
 status_of_stop Memory = MemoryStatus
 
--- a file is refused for the fault with this number
+-- what has this name, a file or an obligation, is refused for the fault with this number
 abbrev pub refusal_text : ℕ → List ℕ → List ℕ
 refusal_text fault name = codes "refused F" ++ decimal fault ++ codes " " ++ name
 
--- the line that is written; a limit that is passed is fault 13
+-- the line that is written; a limit that is passed is fault 13; where a device failed or there was no memory there is no line
 abbrev pub stop_text : Stop → List ℕ
 stop_text Usage = codes "usage: bkit VERB [FILE] [FILE] [--fuel N]\n"
 stop_text (Missing name) = codes "missing " ++ name ++ codes "\n"
@@ -56,73 +56,86 @@ stop_text (Unproved name) = codes "unproved " ++ name ++ codes "\n"
 stop_text (BadCalls line) = codes "bad call line " ++ decimal line ++ codes "\n"
 stop_text _ = []
 
--- the stop is answered and its line written, or the sink fails or there is no memory for that
+-- the statuses of a write fault and of want of memory, with which what had to be written may be cut short
+abbrev pub IsCutShort : Status → Type 0
+IsCutShort WriteFaultStatus = Unit {0}
+IsCutShort MemoryStatus = Unit {0}
+IsCutShort _ = ⊥
+
+-- the stop is answered and its line written; or a write fault or want of memory is, and a front of the line written
 abbrev pub Reports : Stop → Status → (old new : Option (List ℕ)) → Type 0
 Reports stop status old new =
-    ((status ≡ status_of_stop stop) × (new ≡ written_with old (stop_text stop))) ⊎ (status ≡ WriteFaultStatus) ⊎ (status ≡ MemoryStatus)
+    ((status ≡ status_of_stop stop) × (new ≡ written_with old (stop_text stop))) ⊎ (IsCutShort status × WroteFront (stop_text stop) old new)
 
--- what a fault of reading a call script stops the program with
-abbrev pub stop_of_calls : CallsFault → Stop
-stop_of_calls (Line number) = BadCalls number
-stop_of_calls NoMemory = Memory
-
--- ---- the checks, in their order
+-- ---- the checks, the later ones first: each check stops the program, or what it finds is looked at by the next
 -- the file is not there, or has more than 16777216 bytes
 abbrev pub StopsAtFile : Files → List ℕ → Stop → Type 0
 StopsAtFile files name stop =
     ((stop ≡ Missing name) × (file_named files name ≡ None)) ⊎ ((stop ≡ Limit 1 name) × IsLonger (file_named files name) 16777216)
 
--- the machine's text is at fault, or else the implementation's
+-- the machine's text is at fault, or else the implementation's, which also has the faults of both together
 abbrev pub StopsAtTexts : (machine implementation above below : List ℕ) → Stop → Type 0
 StopsAtTexts machine implementation above below stop =
     ((stop ≡ Refused 15 machine) × (IsMachineText above → ⊥)) ⊎
     ((stop ≡ Refused 15 implementation) × IsMachineText above × ((dev : Development) → Reads above below dev → ⊥))
 
--- the component files are fetched, and then looked at
+-- the implementation's file is fetched, and the texts are looked at
+abbrev pub StopsAtImplementation : Files → (machine implementation above : List ℕ) → Stop → Type 0
+StopsAtImplementation files machine implementation above stop =
+    StopsAtFile files implementation stop ⊎
+    ((below : List ℕ) × IsTold files implementation below × StopsAtTexts machine implementation above below stop)
+
+-- the machine's file is fetched before the implementation's
 abbrev pub StopsAtComponents : Files → (machine implementation : List ℕ) → Stop → Type 0
 StopsAtComponents files machine implementation stop =
     StopsAtFile files machine stop ⊎
-    ((above : List ℕ) × IsTold files machine above ×
-    (StopsAtFile files implementation stop ⊎
-    ((below : List ℕ) × IsTold files implementation below × StopsAtTexts machine implementation above below stop)))
+    ((above : List ℕ) × IsTold files machine above × StopsAtImplementation files machine implementation above stop)
 
--- the project file, and what it names
+-- the project file's text is looked at, and then the files that it names
+abbrev pub StopsAtNames : Files → (project text : List ℕ) → Stop → Type 0
+StopsAtNames files project text stop =
+    ((stop ≡ Refused 15 project) × IsNoProject text) ⊎
+    ((machine : List ℕ) × (implementation : List ℕ) × NamesFiles text machine implementation × StopsAtComponents files machine implementation stop)
+
+-- the project file is fetched first
 abbrev pub StopsAtProject : Files → (project : List ℕ) → Stop → Type 0
 StopsAtProject files project stop =
-    StopsAtFile files project stop ⊎
-    ((text : List ℕ) × IsTold files project text ×
-    (((stop ≡ Refused 15 project) × IsNoProject text) ⊎
-    ((machine : List ℕ) × (implementation : List ℕ) × NamesFiles text machine implementation × StopsAtComponents files machine implementation stop)))
+    StopsAtFile files project stop ⊎ ((text : List ℕ) × IsTold files project text × StopsAtNames files project text stop)
 
--- the limits of the obligations, 6 with the name of the first that is too large; and then the first that is not obvious
+-- the limits of the obligations: 6, also for the height, with the name of the first obligation that is too large; 7 for all their sequents
+-- and 14 for all their nodes, with the project's file; and then the first sequent that is not obvious
 abbrev pub StopsAtObligations : (project : List ℕ) → Development → Stop → Type 0
 StopsAtObligations project dev stop =
     ((name : List ℕ) × (stop ≡ Limit 6 name) × (first_too_large (obligations dev) ≡ Some name)) ⊎
     ((limit : ℕ) × (stop ≡ Limit limit project) × PassTogether (obligations dev) limit) ⊎
     ((name : List ℕ) × (stop ≡ Unproved name) × PassNoLimit (obligations dev) × (first_open (numbered_obligations dev) ≡ Some name))
 
--- the obligations pass no limit, and each is obvious
-pub record IsProved (dev : Development) : Type 0 where
-  pub within : PassNoLimit (obligations dev)
-  pub obvious : HasObviousObligations dev
+-- the call script: a line at fault, or a call past the limit, whichever comes first
+abbrev pub StopsAtScript : (calls text : List ℕ) → Image → Stop → Type 0
+StopsAtScript calls text image stop =
+    ((number : ℕ) × (stop ≡ BadCalls number) × IsBadLine image text number) ⊎ ((stop ≡ Limit 11 calls) × PassesLimit image text)
 
--- the limits of the code, and the call script's first line at fault
-abbrev pub StopsAtCode : (project text : List ℕ) → Image → Stop → Type 0
-StopsAtCode project text image stop =
+-- the limits of the code, and then the call script
+abbrev pub StopsAtCode : (project calls text : List ℕ) → Image → Stop → Type 0
+StopsAtCode project calls text image stop =
     ((stop ≡ Limit 9 project) × (1000000 < length image.code)) ⊎
     ((stop ≡ Limit 10 project) × (length image.code ≤ 1000000) × (1000000 < image.cells)) ⊎
-    ((number : ℕ) × (stop ≡ BadCalls number) × (length image.code ≤ 1000000) × (image.cells ≤ 1000000) × IsFirstFault image text number)
+    (IsWithinCodeLimits image × StopsAtScript calls text image stop)
 
+-- the call script is fetched before the limits of the code are asked
 abbrev pub StopsAtCalls : Files → (project calls : List ℕ) → Image → Stop → Type 0
 StopsAtCalls files project calls image stop =
-    StopsAtFile files calls stop ⊎ ((text : List ℕ) × IsTold files calls text × StopsAtCode project text image stop)
+    StopsAtFile files calls stop ⊎ ((text : List ℕ) × IsTold files calls text × StopsAtCode project calls text image stop)
 
--- the project, its obligations, and the calls of its translation
+-- the obligations of the development, and the calls of its translation
+abbrev pub StopsAtDevelopment : Files → (project calls : List ℕ) → Development → Stop → Type 0
+StopsAtDevelopment files project calls dev stop =
+    StopsAtObligations project dev stop ⊎ (IsProved dev × StopsAtCalls files project calls (translation dev) stop)
+
+-- the project, and the development that it reads as
 abbrev pub StopsAtRun : Files → (project calls : List ℕ) → Stop → Type 0
 StopsAtRun files project calls stop =
-    StopsAtProject files project stop ⊎
-    ((dev : Development) × ReadsProject files project dev ×
-    (StopsAtObligations project dev stop ⊎ (IsProved dev × StopsAtCalls files project calls (translation dev) stop)))
+    StopsAtProject files project stop ⊎ ((dev : Development) × ReadsProject files project dev × StopsAtDevelopment files project calls dev stop)
 
 -- the words, and what they name
 abbrev pub StopsAt : Files → List (List ℕ) → Stop → Type 0
@@ -130,7 +143,7 @@ StopsAt files words stop =
     ((stop ≡ Usage) × AreNoRunWords words) ⊎
     ((project : List ℕ) × (calls : List ℕ) × AreRunWords words project calls × StopsAtRun files project calls stop)
 
--- ---- refusals of the project's texts
+-- ---- what the faults of other crates stop the program with
 -- the name of the file with this number: 0 for the project file
 abbrev pub name_of : ℕ → (project machine implementation : List ℕ) → List ℕ
 name_of zero project machine implementation = project
@@ -140,7 +153,7 @@ name_of _ project machine implementation = implementation
 -- what a refusal stops the program with
 abbrev pub IsStopOf : Refusal → (project machine implementation : List ℕ) → Stop → Type 0
 IsStopOf (Fault number file place) project machine implementation stop = stop ≡ Refused number (name_of file project machine implementation)
-IsStopOf (PassesLimit number file) project machine implementation stop = stop ≡ Limit number (name_of file project machine implementation)
+IsStopOf (LimitOfText number file) project machine implementation stop = stop ≡ Limit number (name_of file project machine implementation)
 IsStopOf OutOfMemory project machine implementation stop = stop ≡ Memory
 
 -- what a fault of the translation stops the program with
@@ -149,19 +162,8 @@ stop_of_code CodeTooLong project = Limit 9 project
 stop_of_code TooManyCells project = Limit 10 project
 stop_of_code NoRoom project = Memory
 
--- ---- the answer
--- the status of a stop that a check leads to
-abbrev pub IsStopped : Status → Type 0
-IsStopped UsageStatus = Unit {0}
-IsStopped MissingStatus = Unit {0}
-IsStopped RefusedStatus = Unit {0}
-IsStopped UnprovedStatus = Unit {0}
-IsStopped BadCallsStatus = Unit {0}
-IsStopped _ = ⊥
-
--- the first check that fails gives the status and the line, which is appended to what had been written
-pub record WritesStop (files : Files) (words : List (List ℕ)) (old new : Option (List ℕ)) (status : Status) : Type 0 where
-  pub stop : Stop
-  pub cause : StopsAt files words stop
-  pub status_is : status ≡ status_of_stop stop
-  pub appended : new ≡ written_with old (stop_text stop)
+-- what a fault of reading a call script stops the program with
+abbrev pub stop_of_calls : CallsFault → (calls : List ℕ) → Stop
+stop_of_calls (Line number) calls = BadCalls number
+stop_of_calls PastLimit calls = Limit 11 calls
+stop_of_calls NoMemory calls = Memory

@@ -1,11 +1,14 @@
 //! The files of a project.
 
-ghost use Rattle.std.specs.Prelude.{◌≡◌, ◌≢◌, ◌⊎◌, ◌≤◌, length, Some, IfOk, IfErr};
+ghost use Rattle.std.specs.Prelude.{◌≡◌, ◌⊎◌, ◌≤◌, length, Some, IfOk, IfErr};
 ghost use Rattle.bk_io.specs.Files.{Files};
 ghost use Rattle.bk_front.specs.FirstForm.{IsFirstForm};
 ghost use Rattle.bk_front.specs.ProjectFile.{IsFileName};
 ghost use Rattle.bk_front.specs.Project.{text_at};
 ghost use Rattle.bk_po.specs.Basic.{IsBasic};
+ghost use Rattle.bk_io.specs.Counts.{HasCause};
+ghost use Rattle.bkit.specs.declared.stop.Stop.TheVariants.{ReadFault, Memory};
+ghost use Rattle.bkit.specs.Causes.{IsOfReading, CountsAbsence};
 ghost use Rattle.bkit.specs.Stops.{IsOutside, StopsAtFile, StopsAtProject, IsStopOf, name_of};
 ghost use Rattle.bkit.specs.Run.{IsTold, component_lines, AreComponentLines, ReadsProject};
 
@@ -25,7 +28,9 @@ const LIMIT_OF_LENGTH: u8 = 1;
 /// The bytes of the file with this name.
 pub(crate) fn fetch<H: Shelf>(alloc: Global, name: &str, shelf: &mut H) -> Result<Vec<u8>, Stop>
     ensures cause { IfErr result (λ stop. (files : Files) → H.files shelf.old ≡ Some files → IsOutside stop ⊎ StopsAtFile files name.now stop) }
-    ensures late { IfErr result (λ stop. stop ≢ Stop.Usage) }
+    ensures reading { IfErr result IsOfReading }
+    ensures failed { HasCause ReadFault (H.faults shelf.old) (H.faults shelf.new) result }
+    ensures missing { CountsAbsence (H.absences shelf.old) (H.absences shelf.new) result }
     ensures files { H.files shelf.new ≡ H.files shelf.old }
     ensures told { IfOk result (λ text. (files : Files) → H.files shelf.old ≡ Some files → IsTold files name.now text.items) }
     ensures short { IfOk result (λ text. length text.items ≤ 16777216) }
@@ -47,7 +52,9 @@ pub(crate) fn read_development<H: Shelf>(
     shelf: &mut H,
 ) -> Result<Development, Stop>
     ensures cause { IfErr result (λ stop. (files : Files) → H.files shelf.old ≡ Some files → IsOutside stop ⊎ StopsAtProject files name.now stop) }
-    ensures late { IfErr result (λ stop. stop ≢ Stop.Usage) }
+    ensures reading { IfErr result IsOfReading }
+    ensures failed { HasCause ReadFault (H.faults shelf.old) (H.faults shelf.new) result }
+    ensures missing { CountsAbsence (H.absences shelf.old) (H.absences shelf.new) result }
     ensures files { H.files shelf.new ≡ H.files shelf.old }
     ensures told { IfOk result (λ dev. (files : Files) → H.files shelf.old ≡ Some files → ReadsProject files name.now dev) }
     ensures first_form { IfOk result IsFirstForm }
@@ -79,7 +86,7 @@ fn component_files(lines: &[ProjectLine]) -> (&str, &str)
 
 // The texts of two files.
 fn both(alloc: Global, first: Vec<u8>, second: Vec<u8>) -> Result<Vec<Vec<u8>>, Stop>
-    ensures outside { IfErr result IsOutside }
+    ensures memory { IfErr result (λ stop. stop ≡ Memory) }
     ensures two { IfOk result (λ texts. length texts.items ≡ 2) }
     ensures first { IfOk result (λ texts. text_at texts.items 0 ≡ first.items) }
     ensures second { IfOk result (λ texts. text_at texts.items 1 ≡ second.items) }
@@ -109,7 +116,7 @@ fn refused(
     machine: &str,
     implementation: &str,
 ) -> Result<Stop, Stop>
-    ensures outside { IfErr result IsOutside }
+    ensures memory { IfErr result (λ stop. stop ≡ Memory) }
     ensures told { IfOk result (IsStopOf refusal project.now machine.now implementation.now) }
 {
     let (fault, file) = match refusal {
@@ -136,7 +143,7 @@ fn name_of<'a>(file: u32, project: &'a str, machine: &'a str, implementation: &'
 }
 
 pub(crate) fn owned(alloc: Global, name: &str) -> Result<Text, Stop>
-    ensures outside { IfErr result IsOutside }
+    ensures memory { IfErr result (λ stop. stop ≡ Memory) }
     ensures ok { IfOk result (λ text. text ≡ name.now) }
 {
     Ok(Text::from_bytes(Vec::from_slice(alloc, name.as_bytes())?))

@@ -2,6 +2,7 @@
 #![tactic(auto)]
 
 mod files;
+mod laws;
 mod program;
 mod proof;
 mod session;

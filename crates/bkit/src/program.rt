@@ -1,12 +1,18 @@
 //! The program over any shelf and any sink.
 
-ghost use Rattle.std.specs.Prelude.{◌≡◌, ◌≢◌, ◌⊎◌, ◌<◌, ◌^◌, ℕ, List, All, length, map, Some, Err, IfOk, IfErr, MatchOption, string_bytes};
+ghost use Rattle.std.specs.Prelude.{◌≡◌, ◌⊎◌, ◌≤◌, ℕ, List, All, length, map, Some, Err, IfOk, IfErr, MatchOption, string_bytes};
+ghost use Rattle.bk_io.specs.Counts.{Rose, HasCause};
 ghost use Rattle.bk_io.specs.Files.{Files};
+ghost use Rattle.bk_io.specs.Pieces.{WroteFront, written_with};
 ghost use Rattle.bk_code.specs.Checks.{IsChecked};
 ghost use Rattle.bk_code.specs.Laws.{IsRequest};
 ghost use Rattle.bk_calls.specs.Script.{request_of};
-ghost use Rattle.bkit.specs.Stops.{IsOutside, StopsAtRun, StopsAt, IsStopped, WritesStop, stop_of_code};
+ghost use Rattle.bkit.specs.declared.status.Status.{Status};
+ghost use Rattle.bkit.specs.declared.stop.Stop.TheVariants.{Usage, ReadFault, WriteFault, Memory};
+ghost use Rattle.bkit.specs.Causes.{IsOfReading, IsOfPlaying, CountsAbsence};
+ghost use Rattle.bkit.specs.Stops.{IsOutside, StopsAtRun, StopsAt, IsCutShort, stop_text, stop_of_code, stop_of_calls};
 ghost use Rattle.bkit.specs.Run.{AreRunWords, AreNoRunWords, ReadsProgram, IsExecuted, WritesRun, ComesSoFar};
+ghost use Rattle.bkit.specs.Answer.{IsAnswer, IsAnswered, WritesAnswer};
 
 use crate::files::{fetch, owned, read_development};
 use crate::proof::check_obligations;
@@ -24,6 +30,9 @@ const LIMIT_OF_CODE: u8 = 9;
 
 /// The number of the limit of memory cells.
 const LIMIT_OF_CELLS: u8 = 10;
+
+/// The number of the limit of calls.
+const LIMIT_OF_CALLS: u8 = 11;
 
 // What a run executes.
 #[derive(Drop)]
@@ -45,11 +54,17 @@ pub fn bkit<H: Shelf, K: Sink>(
 ) -> Status
     ensures run { IsExecuted result → (files : Files) → H.files shelf.old ≡ Some files →
         WritesRun files (map string_bytes words.now) (K.written out.old) (K.written out.new) result }
-    ensures stops { IsStopped result → (files : Files) → H.files shelf.old ≡ Some files →
-        WritesStop files (map string_bytes words.now) (K.written out.old) (K.written out.new) result }
+    ensures answer { IsAnswered result → (files : Files) → H.files shelf.old ≡ Some files →
+        WritesAnswer files (map string_bytes words.now) (K.written out.old) (K.written out.new) result }
+    ensures cut_short { IsCutShort result → (files : Files) → H.files shelf.old ≡ Some files → (status : Status) (text : List ℕ) →
+        IsAnswer files (map string_bytes words.now) status text → WroteFront text (K.written out.old) (K.written out.new) }
+    ensures read_fault { result ≡ Status.ReadFault → Rose (H.faults shelf.old) (H.faults shelf.new) × (K.written out.new ≡ K.written out.old) }
+    ensures write_fault { result ≡ Status.WriteFault → Rose (K.faults out.old) (K.faults out.new) }
+    ensures missing { result ≡ Status.Missing → Rose (H.absences shelf.old) (H.absences shelf.new) }
+    ensures usage { result ≡ Status.Usage → AreNoRunWords (map string_bytes words.now) × (K.written out.new ≡ written_with (K.written out.old) (stop_text Usage)) }
+    ensures wrong_words { AreNoRunWords (map string_bytes words.now) →
+        (result ≡ Status.Usage) ⊎ (IsCutShort result × WroteFront (stop_text Usage) (K.written out.old) (K.written out.new)) }
     ensures so_far { ComesSoFar result }
-    ensures usage { result ≡ Status.Usage → AreNoRunWords (map string_bytes words.now) }
-    ensures wrong_words { AreNoRunWords (map string_bytes words.now) → (result ≡ Status.Usage) ⊎ (result ≡ Status.WriteFault) ⊎ (result ≡ Status.Memory) }
 {
     match run(alloc, words, shelf, out) {
         Ok(status) => status,
@@ -64,9 +79,14 @@ fn run<H: Shelf, K: Sink>(
     out: &mut K,
 ) -> Result<Status, Stop>
     ensures cause { IfErr result (λ stop. (files : Files) → H.files shelf.old ≡ Some files → IsOutside stop ⊎ StopsAt files (map string_bytes words.now) stop) }
-    ensures silent { IfErr result (λ stop. IsOutside stop ⊎ (K.written out.new ≡ K.written out.old)) }
-    ensures usage { IfErr result (λ stop. stop ≡ Stop.Usage → AreNoRunWords (map string_bytes words.now)) }
-    ensures wrong_words { AreNoRunWords (map string_bytes words.now) → result ≡ Err Stop.Usage }
+    ensures read { HasCause ReadFault (H.faults shelf.old) (H.faults shelf.new) result }
+    ensures missing { CountsAbsence (H.absences shelf.old) (H.absences shelf.new) result }
+    ensures write { HasCause WriteFault (K.faults out.old) (K.faults out.new) result }
+    ensures silent { IfErr result (λ stop. IsOfPlaying stop ⊎ (K.written out.new ≡ K.written out.old)) }
+    ensures front { IfErr result (λ stop. (files : Files) → H.files shelf.old ≡ Some files → (status : Status) (text : List ℕ) →
+        IsAnswer files (map string_bytes words.now) status text → WroteFront text (K.written out.old) (K.written out.new)) }
+    ensures usage { IfErr result (λ stop. stop ≡ Usage → AreNoRunWords (map string_bytes words.now)) }
+    ensures wrong_words { AreNoRunWords (map string_bytes words.now) → result ≡ Err Usage }
     ensures executed { IfOk result IsExecuted }
     ensures ok { IfOk result (λ status. (files : Files) → H.files shelf.old ≡ Some files →
         WritesRun files (map string_bytes words.now) (K.written out.old) (K.written out.new) status) }
@@ -99,11 +119,13 @@ fn read_program<H: Shelf>(
     shelf: &mut H,
 ) -> Result<Program, Stop>
     ensures cause { IfErr result (λ stop. (files : Files) → H.files shelf.old ≡ Some files → IsOutside stop ⊎ StopsAtRun files project.now script.now stop) }
-    ensures late { IfErr result (λ stop. stop ≢ Stop.Usage) }
+    ensures reading { IfErr result IsOfReading }
+    ensures failed { HasCause ReadFault (H.faults shelf.old) (H.faults shelf.new) result }
+    ensures missing { CountsAbsence (H.absences shelf.old) (H.absences shelf.new) result }
     ensures told { IfOk result (λ p. (files : Files) → H.files shelf.old ≡ Some files → ReadsProgram files project.now script.now p.image (map request_of p.calls.items)) }
     ensures checked { IfOk result (λ p. IsChecked p.image) }
     ensures requests { IfOk result (λ p. All (IsRequest p.image) (map request_of p.calls.items)) }
-    ensures few { IfOk result (λ p. length p.calls.items < 2 ^ 32) }
+    ensures few { IfOk result (λ p. length p.calls.items ≤ 1000000) }
 {
     let development = read_development(alloc, project, shelf)?;
     check_obligations(alloc, project, &development)?;
@@ -114,18 +136,30 @@ fn read_program<H: Shelf>(
     };
     match calls(alloc, &text, &image) {
         Ok(calls) => Ok(Program { image, calls }),
-        Err(fault) => Err(Stop::from(fault)),
+        Err(fault) => Err(bad_calls(alloc, fault, script)?),
     }
 }
 
 // The limit of the code, or of its cells, that the project passes.
 fn past_limit(alloc: Global, fault: GenFault, project: &str) -> Result<Stop, Stop>
-    ensures outside { IfErr result IsOutside }
+    ensures memory { IfErr result (λ stop. stop ≡ Memory) }
     ensures told { IfOk result (λ stop. stop ≡ stop_of_code fault project.now) }
 {
     Ok(match fault {
         GenFault::CodeTooLong => Stop::Limit(LIMIT_OF_CODE, owned(alloc, project)?),
         GenFault::TooManyCells => Stop::Limit(LIMIT_OF_CELLS, owned(alloc, project)?),
         GenFault::Memory => Stop::Memory,
+    })
+}
+
+// The stop at the call script.
+fn bad_calls(alloc: Global, fault: CallsFault, script: &str) -> Result<Stop, Stop>
+    ensures memory { IfErr result (λ stop. stop ≡ Memory) }
+    ensures told { IfOk result (λ stop. stop ≡ stop_of_calls fault script.now) }
+{
+    Ok(match fault {
+        CallsFault::Line(number) => Stop::BadCalls(number),
+        CallsFault::Limit => Stop::Limit(LIMIT_OF_CALLS, owned(alloc, script)?),
+        CallsFault::Memory => Stop::Memory,
     })
 }

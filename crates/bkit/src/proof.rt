@@ -1,13 +1,16 @@
 //! The obligations of a project, and which of them are proved.
 
-ghost use Rattle.std.specs.Prelude.{◌≡◌, ◌≢◌, ◌⊎◌, map, Some, None, IfOk, IfErr, OnOk, MatchOption};
+ghost use Rattle.std.specs.Prelude.{◌≡◌, ◌⊎◌, map, Some, None, IfOk, IfErr, OnOk, MatchOption};
 ghost use Rattle.bk_dev.specs.Development.{Development};
 ghost use Rattle.bk_po.specs.Basic.{IsBasic};
 ghost use Rattle.bk_po.specs.Obligations.{obligations};
 ghost use Rattle.bk_po.specs.Limits.{IsFaultOf};
 ghost use Rattle.bk_po.specs.Obvious.{first_open};
 ghost use Rattle.bk_po.specs.Shown.{named_sequent};
-ghost use Rattle.bkit.specs.Stops.{IsOutside, StopsAtObligations, IsProved};
+ghost use Rattle.bkit.specs.Run.{IsProved};
+ghost use Rattle.bkit.specs.declared.stop.Stop.TheVariants.{Memory};
+ghost use Rattle.bkit.specs.Causes.{IsOfChecks};
+ghost use Rattle.bkit.specs.Stops.{IsOutside, StopsAtObligations};
 
 use crate::files::owned;
 use crate::stop::Stop;
@@ -24,7 +27,7 @@ const LIMIT_OF_OBLIGATION: u8 = 6;
 pub(crate) fn check_obligations(alloc: Global, project: &str, dev: &Development) -> Result<(), Stop>
     requires { IsBasic dev.now }
     ensures cause { IfErr result (λ stop. IsOutside stop ⊎ StopsAtObligations project.now dev.now stop) }
-    ensures late { IfErr result (λ stop. stop ≢ Stop.Usage) }
+    ensures checks { IfErr result IsOfChecks }
     ensures ok { OnOk result (IsProved dev.now) }
 {
     let list = match obligations(alloc, dev) {
@@ -39,9 +42,9 @@ pub(crate) fn check_obligations(alloc: Global, project: &str, dev: &Development)
 
 // The limit that an obligation, or the project's obligations together, pass.
 fn past(alloc: Global, fault: PoFault, project: &str) -> Result<Stop, Stop>
-    ensures outside { IfErr result IsOutside }
+    ensures memory { IfErr result (λ stop. stop ≡ Memory) }
     ensures cause { IfOk result (λ stop. (dev : Development) → IsFaultOf (obligations dev) fault → IsOutside stop ⊎ StopsAtObligations project.now dev stop) }
-    ensures late { IfOk result (λ stop. stop ≢ Stop.Usage) }
+    ensures checks { IfOk result IsOfChecks }
 {
     Ok(match fault {
         PoFault::TooLarge { name } => Stop::Limit(LIMIT_OF_OBLIGATION, name),

@@ -1,22 +1,26 @@
-//! A session: the initialisation and then the calls, each with the line that answers it.
+//! A session: the initialisation and then the calls, each with the line that answers it. All memory for it but the sink's is
+//! taken before the initialisation runs.
 
-ghost use Rattle.std.specs.Prelude.{◌≡◌, ◌<◌, ◌≤◌, ◌^◌, ◌*◌, ◌+◌, true, false, All, length, map, slice_get, Some, IfOk, IfErr, OnOk};
-ghost use Rattle.bk_io.specs.Pieces.{written_with};
+ghost use Rattle.std.specs.Prelude.{◌≡◌, ◌<◌, ◌≤◌, ◌*◌, ◌+◌, true, false, All, length, map, slice_get, Some, IfOk, IfErr, OnOk, OnErr};
+ghost use Rattle.bk_io.specs.Counts.{HasCause};
+ghost use Rattle.bk_io.specs.Pieces.{written_with, WroteFront};
 ghost use Rattle.bk_code.specs.Checks.{IsChecked};
 ghost use Rattle.bk_code.specs.Laws.{IsRequest};
 ghost use Rattle.bk_vm.specs.Ends.{is_stop, end_of};
 ghost use Rattle.bk_vm.specs.State.{TakesCall};
 ghost use Rattle.bk_calls.specs.Script.{request_of};
+ghost use Rattle.bk_calls.specs.Room.{IsMadeFor};
 ghost use Rattle.bk_calls.specs.Transcript.{AreOutputs, reply_text, closing_text, steps_of, done_number};
-ghost use Rattle.bkit.specs.Stops.{IsOutside};
+ghost use Rattle.bkit.specs.declared.stop.Stop.TheVariants.{WriteFault};
+ghost use Rattle.bkit.specs.Causes.{IsOfPlaying};
 ghost use Rattle.bkit.specs.Run.{IsExecuted};
-ghost use Rattle.bkit.specs.Session.{Plays, PlaysCalls, PlaysCall, status_of};
+ghost use Rattle.bkit.specs.Session.{Plays, PlaysCalls, PlaysCall, PlaysFront, PlaysCallsFront, PlaysCallFront, HasOutputRoom, status_of};
 
 use crate::status::Status;
 use crate::stop::Stop;
-use bk_calls::{Call, closing, reply, steps};
+use bk_calls::{Call, ReplyLine, closing, reply, steps};
 use bk_code::Image;
-use bk_io::{Sink, put_all};
+use bk_io::{Sink, SinkFault, put_all};
 use bk_vm::{CallEnd, Machine, calls_make_a_session};
 use std::alloc::Global;
 
@@ -27,11 +31,12 @@ const FUEL: u64 = 1000000;
 #[derive(Clone, Copy)]
 struct Played {
     end: CallEnd,
-    done: u64,
+    done: u32,
     steps: u64,
 }
 
 /// Plays a session, and writes its transcript line by line.
+#[tactic(auto, using(crate::proofs::Fronts::nothing_played))]
 pub(crate) fn play<K: Sink>(
     alloc: Global,
     image: Image,
@@ -40,17 +45,44 @@ pub(crate) fn play<K: Sink>(
 ) -> Result<Status, Stop>
     requires checked { IsChecked image }
     requires requests { All (IsRequest image) (map request_of calls.now) }
-    requires few { length calls.now < 2 ^ 32 }
-    ensures outside { IfErr result IsOutside }
+    requires few { length calls.now ≤ 1000000 }
+    ensures playing { IfErr result IsOfPlaying }
+    ensures failed { HasCause WriteFault (K.faults out.old) (K.faults out.new) result }
+    ensures front { OnErr result (PlaysFront image (map request_of calls.now) (K.written out.old) (K.written out.new)) }
     ensures executed { IfOk result IsExecuted }
     ensures ok { IfOk result (λ status. Plays image (map request_of calls.now) status (K.written out.old) (K.written out.new)) }
 {
-    calls_make_a_session();
+    let mut line = ReplyLine::new(alloc, &image)?;
+    let mut outs = vec![in alloc; 0i64; most_outputs(&image)]?;
     let mut machine = Machine::new(alloc, image)?;
+    let status = play_session(&mut machine, calls, &mut outs, &mut line, out)?;
+    Ok(status)
+}
+
+// The session of a machine that has not started.
+fn play_session<K: Sink>(
+    machine: &mut Machine,
+    calls: &[Call],
+    outs: &mut [i64],
+    line: &mut ReplyLine,
+    out: &mut K,
+) -> Result<Status, SinkFault>
+    requires fresh { machine.old.started ≡ false }
+    requires requests { All (IsRequest machine.old.image) (map request_of calls.now) }
+    requires few { length calls.now ≤ 1000000 }
+    requires outputs { HasOutputRoom machine.old.image (length outs.old) }
+    requires made { IsMadeFor machine.old.image line.old }
+    ensures failed { HasCause SinkFault.Failed (K.faults out.old) (K.faults out.new) result }
+    ensures front { OnErr result (PlaysFront machine.old.image (map request_of calls.now) (K.written out.old) (K.written out.new)) }
+    ensures executed { IfOk result IsExecuted }
+    ensures ok { IfOk result (λ status. Plays machine.old.image (map request_of calls.now) status (K.written out.old) (K.written out.new)) }
+{
+    calls_make_a_session();
     let start = machine.start(FUEL);
-    answer(alloc, None, start, &[], machine.image(), out)?;
-    let played = play_calls(alloc, &mut machine, start, calls, out)?;
-    close(alloc, played.done, steps(&start, FUEL) + played.steps, out)?;
+    answer(None, start, &[], machine.image(), line, out)?;
+    let played = play_calls(machine, start, calls, outs, line, out)?;
+    closing(played.done, steps(&start, FUEL) + played.steps, line);
+    put_all(out, line.bytes())?;
     Ok(status(played.end))
 }
 
@@ -67,17 +99,21 @@ fn status(end: CallEnd) -> Status
 
 // The calls up to the first that is not done; none where the initialisation is not.
 fn play_calls<K: Sink>(
-    alloc: Global,
     machine: &mut Machine,
     start: CallEnd,
     calls: &[Call],
+    outs: &mut [i64],
+    line: &mut ReplyLine,
     out: &mut K,
-) -> Result<Played, Stop>
+) -> Result<Played, SinkFault>
     requires started { machine.old.started ≡ true }
     requires stopped { machine.old.stopped ≡ is_stop start }
     requires requests { All (IsRequest machine.old.image) (map request_of calls.now) }
-    requires few { length calls.now < 2 ^ 32 }
-    ensures outside { IfErr result IsOutside }
+    requires few { length calls.now ≤ 1000000 }
+    requires outputs { HasOutputRoom machine.old.image (length outs.old) }
+    requires made { IsMadeFor machine.old.image line.old }
+    ensures failed { HasCause SinkFault.Failed (K.faults out.old) (K.faults out.new) result }
+    ensures front { OnErr result (PlaysCallsFront machine.old.image (map request_of calls.now) (end_of start) machine.old.cells (K.written out.old) (K.written out.new)) }
     ensures ok { IfOk result (λ played. PlaysCalls machine.old.image (map request_of calls.now) (end_of start) machine.old.cells
         (end_of played.end) played.done played.steps (K.written out.old) (K.written out.new)) }
     ensures bound { IfOk result (λ played. played.steps ≤ 1000000 * length calls.now) }
@@ -91,7 +127,7 @@ fn play_calls<K: Sink>(
         if played.end.is_stop() {
             break;
         }
-        let end = play_call(alloc, machine, call, out)?;
+        let end = play_call(machine, call, outs, line, out)?;
         played = Played {
             end,
             done: played.done + done_number(end),
@@ -102,7 +138,7 @@ fn play_calls<K: Sink>(
 }
 
 // 1 for a call that is done.
-fn done_number(end: CallEnd) -> u64
+fn done_number(end: CallEnd) -> u32
     ensures value { result ≡ done_number (end_of end) }
     ensures small { result ≤ 1 }
 {
@@ -112,80 +148,82 @@ fn done_number(end: CallEnd) -> u64
     }
 }
 
-// One call.
+// One call, whose outputs go to the first of these places.
 fn play_call<K: Sink>(
-    alloc: Global,
     machine: &mut Machine,
     call: &Call,
+    outs: &mut [i64],
+    line: &mut ReplyLine,
     out: &mut K,
-) -> Result<CallEnd, Stop>
+) -> Result<CallEnd, SinkFault>
     requires started { machine.old.started ≡ true }
     requires runs { machine.old.stopped ≡ false }
     requires request { IsRequest machine.old.image (request_of call.now) }
-    ensures outside { IfErr result IsOutside }
+    requires outputs { HasOutputRoom machine.old.image (length outs.old) }
+    requires made { IsMadeFor machine.old.image line.old }
+    ensures failed { HasCause SinkFault.Failed (K.faults out.old) (K.faults out.new) result }
+    ensures front { OnErr result (PlaysCallFront machine.old.image (request_of call.now) machine.old.cells (K.written out.old) (K.written out.new)) }
     ensures ok { IfOk result (λ end. PlaysCall machine.old.image (request_of call.now) machine.old.cells (end_of end) machine.new.cells
         (K.written out.old) (K.written out.new)) }
     ensures image { machine.new.image ≡ machine.old.image }
     ensures started { machine.new.started ≡ true }
     ensures stopped { IfOk result (λ end. machine.new.stopped ≡ is_stop end) }
     ensures bound { IfOk result (λ end. steps_of 1000000 (end_of end) ≤ 1000000) }
+    ensures outputs { HasOutputRoom machine.new.image (length outs.new) }
+    ensures made { IsMadeFor machine.new.image line.new }
 {
-    let mut outs = vec![in alloc; 0i64; output_count(machine.image(), call.op)]?;
-    play_into(alloc, machine, call, &mut outs, out)
+    let count = output_count(machine.image(), call.op);
+    play_into(machine, call, &mut outs[..count], line, out)
 }
 
 // One call, whose outputs go to these places.
 #[tactic(auto, using(crate::proofs::Plays::steps_bounded))]
 fn play_into<K: Sink>(
-    alloc: Global,
     machine: &mut Machine,
     call: &Call,
     outs: &mut [i64],
+    line: &mut ReplyLine,
     out: &mut K,
-) -> Result<CallEnd, Stop>
+) -> Result<CallEnd, SinkFault>
     requires started { machine.old.started ≡ true }
     requires runs { machine.old.stopped ≡ false }
     requires takes { TakesCall machine.old.image call.now.op call.now.args (length outs.old) }
-    ensures outside { IfErr result IsOutside }
+    requires made { IsMadeFor machine.old.image line.old }
+    ensures failed { HasCause SinkFault.Failed (K.faults out.old) (K.faults out.new) result }
+    ensures front { OnErr result (PlaysCallFront machine.old.image (request_of call.now) machine.old.cells (K.written out.old) (K.written out.new)) }
     ensures ok { IfOk result (λ end. PlaysCall machine.old.image (request_of call.now) machine.old.cells (end_of end) machine.new.cells
         (K.written out.old) (K.written out.new)) }
     ensures image { machine.new.image ≡ machine.old.image }
     ensures started { machine.new.started ≡ true }
     ensures stopped { IfOk result (λ end. machine.new.stopped ≡ is_stop end) }
     ensures bound { IfOk result (λ end. steps_of 1000000 (end_of end) ≤ 1000000) }
+    ensures places { length outs.new ≡ length outs.old }
+    ensures made { IsMadeFor machine.new.image line.new }
 {
     calls_make_a_session();
     let end = machine.call(call.op, call.args.as_slice(), outs, FUEL);
-    answer(alloc, Some(call.op), end, outs, machine.image(), out)?;
+    answer(Some(call.op), end, outs, machine.image(), line, out)?;
     Ok(end)
 }
 
 // Writes the line that answers a call, or the initialisation.
 fn answer<K: Sink>(
-    alloc: Global,
     op: Option<u32>,
     end: CallEnd,
     outs: &[i64],
     image: &Image,
+    line: &mut ReplyLine,
     out: &mut K,
-) -> Result<(), Stop>
-    requires { AreOutputs image.now op outs.now }
-    ensures outside { IfErr result IsOutside }
+) -> Result<(), SinkFault>
+    requires outputs { AreOutputs image.now op outs.now }
+    requires made { IsMadeFor image.now line.old }
+    ensures failed { HasCause SinkFault.Failed (K.faults out.old) (K.faults out.new) result }
+    ensures front { OnErr result (WroteFront (reply_text image.now op (end_of end) outs.now) (K.written out.old) (K.written out.new)) }
     ensures ok { OnOk result (K.written out.new ≡ written_with (K.written out.old) (reply_text image.now op (end_of end) outs.now)) }
+    ensures made { IsMadeFor image.now line.new }
 {
-    let line = reply(alloc, op, &end, outs, image)?;
-    put_all(out, &line)?;
-    Ok(())
-}
-
-// Writes the last line.
-fn close<K: Sink>(alloc: Global, done: u64, steps: u64, out: &mut K) -> Result<(), Stop>
-    ensures outside { IfErr result IsOutside }
-    ensures ok { OnOk result (K.written out.new ≡ written_with (K.written out.old) (closing_text done steps)) }
-{
-    let line = closing(alloc, done, steps)?;
-    put_all(out, &line)?;
-    Ok(())
+    reply(op, &end, outs, image, line);
+    put_all(out, line.bytes())
 }
 
 // How many outputs an operation has.
@@ -194,4 +232,15 @@ fn output_count(image: &Image, op: u32) -> usize
     ensures { (entry : _) × (slice_get image.now.ops op ≡ Some entry) × (result ≡ length entry.outputs) }
 {
     image.ops.as_slice()[op as usize].outputs.as_slice().len()
+}
+
+// The most outputs that an operation has.
+fn most_outputs(image: &Image) -> usize
+    ensures { HasOutputRoom image.now result }
+{
+    let mut most = 0;
+    for entry in image.ops.as_slice() {
+        most = entry.outputs.as_slice().len().max(most);
+    }
+    most
 }

@@ -1,11 +1,13 @@
 //! Why the program stops before its work is done, and the line that says so.
 
-ghost use Rattle.std.specs.Prelude.{◌≡◌, ◌++◌, codes, decimal, IfOk, OnOk};
-ghost use Rattle.bk_io.specs.Pieces.{written_with};
-ghost use Rattle.bkit.specs.Stops.{IsOutside, status_of_stop, refusal_text, stop_text, stop_of_calls, Reports};
+ghost use Rattle.std.specs.Prelude.{◌≡◌, ◌⊎◌, ◌≤◌, ◌++◌, codes, decimal, IfOk, OnOk, OnErr};
+ghost use Rattle.bk_io.specs.Counts.{HasCause, Rose};
+ghost use Rattle.bkit.specs.declared.stop.Stop.TheVariants.{WriteFault};
+ghost use Rattle.bk_io.specs.Pieces.{written_with, WroteFront};
+ghost use Rattle.bkit.specs.Causes.{stop_of_sink};
+ghost use Rattle.bkit.specs.Stops.{status_of_stop, refusal_text, stop_text, Reports};
 
 use crate::status::Status;
-use bk_calls::CallsFault;
 use bk_io::{Sink, SinkFault, Text, put_all};
 use itoa::Buffer;
 use std::alloc::{AllocError, AllocFailed, Global};
@@ -22,7 +24,7 @@ pub(crate) enum Stop {
     Missing(Text),
     /// The file with this name has this fault.
     Refused(u8, Text),
-    /// The file with this name passes this limit.
+    /// The file, or the obligation, with this name passes this limit.
     Limit(u8, Text),
     /// The obligation with this name is the first that is not proved.
     Unproved(Text),
@@ -37,7 +39,7 @@ pub(crate) enum Stop {
 }
 
 impl From<SinkFault> for Stop {
-    ghost from_gives = { λ _ stop. IsOutside stop };
+    ghost from_gives = { λ fault stop. stop ≡ stop_of_sink fault };
 
     fn from(fault: SinkFault) -> Self {
         match fault {
@@ -48,7 +50,9 @@ impl From<SinkFault> for Stop {
 }
 
 impl From<bk_code::Memory> for Stop {
-    ghost from_gives = { λ _ stop. IsOutside stop };
+    ghost use Rattle.bkit.specs.declared.stop.Stop.TheVariants.{Memory};
+
+    ghost from_gives = { λ _ stop. stop ≡ Memory };
 
     fn from(_: bk_code::Memory) -> Self {
         Stop::Memory
@@ -56,7 +60,9 @@ impl From<bk_code::Memory> for Stop {
 }
 
 impl From<bk_io::Memory> for Stop {
-    ghost from_gives = { λ _ stop. IsOutside stop };
+    ghost use Rattle.bkit.specs.declared.stop.Stop.TheVariants.{Memory};
+
+    ghost from_gives = { λ _ stop. stop ≡ Memory };
 
     fn from(_: bk_io::Memory) -> Self {
         Stop::Memory
@@ -64,7 +70,9 @@ impl From<bk_io::Memory> for Stop {
 }
 
 impl From<AllocError> for Stop {
-    ghost from_gives = { λ _ stop. IsOutside stop };
+    ghost use Rattle.bkit.specs.declared.stop.Stop.TheVariants.{Memory};
+
+    ghost from_gives = { λ _ stop. stop ≡ Memory };
 
     fn from(_: AllocError) -> Self {
         Stop::Memory
@@ -72,28 +80,21 @@ impl From<AllocError> for Stop {
 }
 
 impl<T: Drop> From<AllocFailed<T>> for Stop {
-    ghost from_gives = { λ _ stop. IsOutside stop };
+    ghost use Rattle.bkit.specs.declared.stop.Stop.TheVariants.{Memory};
+
+    ghost from_gives = { λ _ stop. stop ≡ Memory };
 
     fn from(_: AllocFailed<T>) -> Self {
         Stop::Memory
     }
 }
 
-impl From<CallsFault> for Stop {
-    ghost from_gives = { λ fault stop. stop ≡ stop_of_calls fault };
-
-    fn from(fault: CallsFault) -> Self {
-        match fault {
-            CallsFault::Line(number) => Stop::BadCalls(number),
-            CallsFault::Memory => Stop::Memory,
-        }
-    }
-}
-
 impl Stop {
     /// Writes the line that says why the program stops, and answers how it ends.
     pub(crate) fn report<K: Sink>(&self, alloc: Global, out: &mut K) -> Status
-        ensures { Reports self.now result (K.written out.old) (K.written out.new) }
+        ensures reports { Reports self.now result (K.written out.old) (K.written out.new) }
+        ensures later { K.faults out.old ≤ K.faults out.new }
+        ensures failed { result ≡ Status.WriteFault → (self.now ≡ WriteFault) ⊎ Rose (K.faults out.old) (K.faults out.new) }
     {
         match self.write(alloc, out) {
             Ok(()) => self.status(),
@@ -118,7 +119,9 @@ impl Stop {
     }
 
     fn write<K: Sink>(&self, alloc: Global, out: &mut K) -> Result<(), SinkFault>
-        ensures { OnOk result (K.written out.new ≡ written_with (K.written out.old) (stop_text self.now)) }
+        ensures ok { OnOk result (K.written out.new ≡ written_with (K.written out.old) (stop_text self.now)) }
+        ensures err { OnErr result (WroteFront (stop_text self.now) (K.written out.old) (K.written out.new)) }
+        ensures failed { HasCause SinkFault.Failed (K.faults out.old) (K.faults out.new) result }
     {
         let line = self.line(alloc)?;
         put_all(out, &line)?;

@@ -407,6 +407,24 @@ fn call_scripts_at_fault(rt: HostRuntime) -> Result<(), Fail> {
     Ok(())
 }
 
+// A script may ask for 1000000 calls.
+#[test]
+fn a_script_of_too_many_calls(rt: HostRuntime) -> Result<(), Fail> {
+    let alloc = rt.alloc();
+    let mut script = Vec::new(alloc);
+    for _ in 0..1000001 {
+        script.extend_from_slice(b"get\n")?;
+    }
+    let instead = ("c.calls", Some(script.as_slice()));
+    let (status, written) = outcome(alloc, &RUN, instead)?;
+    assert_eq!(rt; status, Status::Refused);
+    assert_eq!(rt;
+        written.as_slice(),
+        b"refused F13 c.calls limit 11\n".as_slice()
+    );
+    Ok(())
+}
+
 // ---- devices that fail
 
 // How a run of the counter ends whose fetch with this number, from 1, fails, and what it writes.

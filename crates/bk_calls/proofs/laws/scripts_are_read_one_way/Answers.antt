@@ -1,4 +1,5 @@
 use Rattle.bk_calls.proofs.Scripts.{has_one_script, is_script_without_fault}
+use Rattle.bk_calls.proofs.Limits.{is_one_of_three, are_apart}
 use Rattle.bk_calls.proofs.laws.scripts_are_read_one_way.Goals as goal
 
 pub returns-clause-one : goal.returns-clause-one
@@ -6,3 +7,9 @@ returns-clause-one c = has_one_script
 
 pub returns-clause-some : goal.returns-clause-some
 returns-clause-some c = is_script_without_fault
+
+pub returns-clause-outcome : goal.returns-clause-outcome
+returns-clause-outcome c = is_one_of_three
+
+pub returns-clause-apart : goal.returns-clause-apart
+returns-clause-apart c = are_apart

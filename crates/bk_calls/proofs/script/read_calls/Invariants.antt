@@ -6,7 +6,7 @@ use Rattle.bk_calls.proofs.script.read_calls.Given as goal
 
 abbrev pub invariant-loop-line : goal.invariant-loop-line
 invariant-loop-line l = record {
-  read : in_front (map request_of l.calls.items) (read_lines l.image l.number (lines l.rest)) ≡ read_lines l.fn.image 0 (lines l.fn.text);
+  read : in_front (map request_of l.calls.items) (read_lines l.image l.number (length l.calls.items) (lines l.rest)) ≡ read_lines l.fn.image 0 0 (lines l.fn.text);
   counted : l.number + length (lines l.rest) ≡ length (lines l.fn.text);
 }
 

@@ -1,10 +1,10 @@
-use Rattle.std.proofs.Common.{rules, map, subst, sym, ap, ◌∙◌, ◌≡◌, ◌⊎◌, Some, Err}
+use Rattle.std.proofs.Common.{rules, map, subst, ap, ◌∙◌, ◌≡◌, ◌⊎◌, Some, Err}
 use Rattle.std.proofs.lemmas.List.{length-map}
-use Rattle.bk_calls.specs.Script.{request_of, IsScript, IsFirstFault}
+use Rattle.bk_calls.specs.Script.{request_of, IsScript, IsBadLine, PassesLimit}
 use Rattle.bk_io.specs.Files.{Files}
 use Rattle.bkit.specs.Stops.{IsOutside, StopsAtFile, StopsAtProject, StopsAtObligations}
 use Rattle.bkit.proofs.Stopping.{widen, handed_on, Stopped, at_project, at_obligations, at_script, at_code, at_calls}
-use Rattle.bkit.proofs.Projects.{has_no_inputs, few_operations, few_lines, few_requests, reads_program}
+use Rattle.bkit.proofs.Projects.{has_no_inputs, few_operations, few_lines, reads_program}
 use Rattle.bkit.proofs.program.read_program.Goals as goal
 
 pub calls-requires-clause-no_inputs : goal.calls-requires-clause-no_inputs
@@ -20,14 +20,12 @@ pub returns-in-Ok-calls-clause-told : goal.returns-in-Ok-calls-clause-told
 returns-in-Ok-calls-clause-told g c files told =
     reads_program files c.args.project.now c.args.script.now c.in_ok-text.text.items c.in_ok-development.development c.in-Ok.image (map request_of c.in-Ok-calls.calls.items)
     (c.in_ok-development.ensures.told files told)
-    c.in_ok-check_obligations.ensures.ok.obvious
+    c.in_ok-check_obligations.ensures.ok
     c.in-Ok.ensures.ok
+    c.in-Ok.ensures.within
     (c.in_ok-text.ensures.told files (c.read_development.ensures.files ∙ told))
     (subst (λ x. IsScript c.in-Ok.image x (map request_of c.in-Ok-calls.calls.items)) c.deref.ensures.value c.in-Ok-calls.ensures.ok)
-
-pub returns-in-Ok-calls-clause-few : goal.returns-in-Ok-calls-clause-few
-returns-in-Ok-calls-clause-few g c =
-    rw (sym (length-map c.in-Ok-calls.calls.items request_of)) (few_requests c.in-Ok.image c.deref.result.now (map request_of c.in-Ok-calls.calls.items) c.in-Ok-calls.ensures.ok (few_lines c.deref.result.now (search rules)))
+    (rw (length-map c.in-Ok-calls.calls.items request_of) c.in-Ok-calls.ensures.few)
 
 pub returns-in_err-development-clause-cause : goal.returns-in_err-development-clause-cause
 returns-in_err-development-clause-cause g c =
@@ -63,9 +61,10 @@ returns-in-Err-clause-cause g c files told =
 
 pub returns-clause-cause : goal.returns-clause-cause
 returns-clause-cause g c files told =
-    at_calls files c.args.project.now c.args.script.now c.in_ok-development.development (c.in_ok-development.ensures.told files told) c.in_ok-check_obligations.ensures.ok c.in_ok-text.text.items c.in-Ok.image c.in-Err-calls.fault c.from.result
+    at_calls files c.args.project.now c.args.script.now c.in_ok-development.development (c.in_ok-development.ensures.told files told) c.in_ok-check_obligations.ensures.ok c.in_ok-text.text.items c.in-Ok.image c.in-Err-calls.fault c.in_ok-bad_calls-in-Err-calls.field-0
     (c.in_ok-text.ensures.told files (c.read_development.ensures.files ∙ told))
     c.in-Ok.ensures.ok
     c.in-Ok.ensures.within
-    (λ number e. subst (λ x. IsFirstFault c.in-Ok.image x number) c.deref.ensures.value (c.in-Err-calls.ensures.line number (ap Err e)))
-    c.from.ensures
+    (λ number e. subst (λ x. IsBadLine c.in-Ok.image x number) c.deref.ensures.value (c.in-Err-calls.ensures.line number (ap Err e)))
+    (λ e. subst (λ x. PassesLimit c.in-Ok.image x) c.deref.ensures.value (c.in-Err-calls.ensures.limit (ap Err e)))
+    c.in_ok-bad_calls-in-Err-calls.ensures.told

@@ -1,0 +1,28 @@
+-- The answer of `bkit`, as the words and the told files have it.
+use Rattle.std.specs.Prelude.{◌≡◌, ℕ, ◌⊎◌, List, Option}
+use Rattle.bk_io.specs.Files.{Files}
+use Rattle.bk_io.specs.Pieces.{written_with}
+use Rattle.bkit.specs.declared.status.Status.{Status}
+use Rattle.bkit.specs.declared.status.Status.TheVariants.{ReadFault, WriteFault, Memory}
+use Rattle.bkit.specs.declared.stop.Stop.{Stop}
+use Rattle.bkit.specs.Run.{IsPlayed}
+use Rattle.bkit.specs.Stops.{StopsAt, status_of_stop, stop_text}
+
+-- the status and the text: of the first check that fails, in their order, or else of the session
+abbrev pub IsAnswer : Files → List (List ℕ) → Status → List ℕ → Type 0
+IsAnswer files words status text =
+    ((stop : Stop) × StopsAt files words stop × (status ≡ status_of_stop stop) × (text ≡ stop_text stop)) ⊎ IsPlayed files words status text
+
+-- the statuses but those of a fault of a device and of want of memory
+abbrev pub IsAnswered : Status → Type 0
+IsAnswered ReadFault = ⊥
+IsAnswered WriteFault = ⊥
+IsAnswered Memory = ⊥
+IsAnswered _ = Unit {0}
+
+-- the status is that of the one answer, whose text is written after what had been written
+pub record WritesAnswer (files : Files) (words : List (List ℕ)) (old new : Option (List ℕ)) (status : Status) : Type 0 where
+  pub text : List ℕ
+  pub answer : IsAnswer files words status text
+  pub only : (other : Status) (other_text : List ℕ) → IsAnswer files words other other_text → (other ≡ status) × (other_text ≡ text)
+  pub appended : new ≡ written_with old text
