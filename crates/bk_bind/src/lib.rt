@@ -5,11 +5,14 @@
 mod bound;
 pub mod error;
 pub mod joining;
+pub mod law;
 pub mod occurrence;
 pub mod replacement;
 
+pub use bound::{GREATEST_HEIGHT, MOST_NODES};
 pub use error::BindFault;
 pub use joining::{binary, bounded, unary};
+pub use law::{LawFault, LawInstance};
 pub use occurrence::free_in;
 pub use replacement::replace;
 

@@ -1,3 +1,10 @@
-pub mod ClosedSums
-pub mod Same
 pub mod Validity
+pub mod Lists
+pub mod Kept
+pub mod Makings
+pub mod Derived
+pub mod SoundRules
+pub mod Functional
+pub mod Verdicts
+pub mod Replayed
+pub mod Listed

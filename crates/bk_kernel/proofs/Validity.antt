@@ -21,10 +21,12 @@ use Rattle.bk_form.proofs.Roles.{same_type-then}
 use Rattle.bk_form.proofs.Domains.{interval-members}
 use Rattle.bk_form.proofs.Valued.{sound_typing}
 use Rattle.bk_seq.specs.Valid.{AllHold, in_state}
-use Rattle.bk_kernel.specs.Obvious.{closed_sum, is_same, both_pass, has_all, has_number, holds_plainly, is_plain}
+use Rattle.bk_arith.specs.ClosedSum.{closed_sum}
+use Rattle.bk_arith.specs.Same.{is_same}
+use Rattle.bk_kernel.specs.Obvious.{both_pass, has_all, has_number, holds_plainly, is_plain}
 use Rattle.bk_kernel.specs.Laws.{ObviousIsValid}
-use Rattle.bk_kernel.proofs.Same.{same-then}
-use Rattle.bk_kernel.proofs.ClosedSums.{closed-value}
+use Rattle.bk_arith.proofs.SameFormula.{same-then}
+use Rattle.bk_arith.proofs.ClosedValues.{closed-value}
 
 -- ---- the type of a member
 holds-then : (b : Bool) → if_holds b predicate ≡ predicate → b ≡ true

@@ -1,49 +1,13 @@
 -- Sequents that need no proof.
-use Rattle.std.specs.Prelude.{ℤ, pos, ◌+ℤ◌, ◌-ℤ◌, ◌*ℤ◌, int_lt, int_le, Bool, true, false, ◌&&◌, ◌||◌, cond, nat_eq, List, Option, Some, None}
+use Rattle.std.specs.Prelude.{ℤ, pos, int_lt, int_le, Bool, true, false, ◌&&◌, ◌||◌, List, Option, Some}
 use Rattle.std.specs.List.{list_any}
 use Rattle.std.specs.Ordering.{int_eq}
-use base.Stored.{Gv, gnil, gnum, gcons}
-use Rattle.bk_val.specs.Value.{fits_i128}
-use Rattle.bk_form.specs.Formula.{Formula, literal, named, unary, binary}
-use Rattle.bk_form.specs.FormulaCodes.{formula_code}
-use Rattle.bk_form.specs.declared.operator.UnOp.{UnOp}
-use Rattle.bk_form.specs.declared.operator.UnOp.TheVariants.{Neg}
+use Rattle.bk_form.specs.Formula.{Formula, named, binary}
 use Rattle.bk_form.specs.declared.operator.BinOp.{BinOp}
-use Rattle.bk_form.specs.declared.operator.BinOp.TheVariants.{Eq, Lt, Le, In, Range, Add, Sub, Mul}
+use Rattle.bk_form.specs.declared.operator.BinOp.TheVariants.{Eq, Lt, Le, In, Range}
 use Rattle.bk_form.specs.declared.operator.Domain.TheVariants.{Integer, Natural, Natural1, Bool as Booleans, Enum}
-
--- ---- closed sums
--- the number, where it lies within 128 bits
-abbrev pub if_fits : ℤ → Option ℤ
-if_fits z = cond (fits_i128 z) (Some z) None
-
-abbrev pub negative_of : UnOp → Option ℤ → Option ℤ
-negative_of Neg (Some x) = if_fits (pos 0 -ℤ x)
-negative_of _ _ = None
-
-abbrev pub sum_of : BinOp → Option ℤ → Option ℤ → Option ℤ
-sum_of Add (Some x) (Some y) = if_fits (x +ℤ y)
-sum_of Sub (Some x) (Some y) = if_fits (x -ℤ y)
-sum_of Mul (Some x) (Some y) = if_fits (x *ℤ y)
-sum_of _ _ _ = None
-
--- the value of a sum of literals by +, -, * and unary minus, each value on the way within 128 bits; none of any other formula
-abbrev pub closed_sum : Formula → Option ℤ
-closed_sum (literal z) = if_fits z
-closed_sum (unary o a) = negative_of o (closed_sum a)
-closed_sum (binary o a b) = sum_of o (closed_sum a) (closed_sum b)
-closed_sum _ = None
-
--- ---- the same formula
-abbrev pub same_code : Gv → Gv → Bool
-same_code gnil gnil = true
-same_code (gnum m) (gnum n) = nat_eq m n
-same_code (gcons a b) (gcons c d) = same_code a c && same_code b d
-same_code _ _ = false
-
--- whether the two are one formula; a formula is told by its code
-abbrev pub is_same : Formula → Formula → Bool
-is_same a b = same_code (formula_code a) (formula_code b)
+use Rattle.bk_arith.specs.ClosedSum.{closed_sum}
+use Rattle.bk_arith.specs.Same.{is_same}
 
 -- ---- obvious predicates
 -- both are there, and pass the test

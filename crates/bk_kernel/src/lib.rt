@@ -1,10 +1,25 @@
-//! The kernel of proof: which sequents need no proof.
+//! The kernel of proof: which sequents need no proof, the rules of proof, and their replay.
 #![tactic(auto)]
 
+pub mod error;
 pub mod laws;
 pub mod obvious;
+mod parts;
+mod replaying;
+mod rewriting;
+pub mod rule;
+pub mod soundness;
+mod stepping;
 
-pub use obvious::{closed, is_obvious};
+pub use error::StepFault;
+pub use obvious::is_obvious;
+pub use replaying::{Verdict, replay};
+pub use rule::{Place, Rule};
+pub use stepping::step;
 
+#[cfg(test)]
+mod building;
+#[cfg(test)]
+mod replay_tests;
 #[cfg(test)]
 mod tests;

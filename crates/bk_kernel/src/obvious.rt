@@ -3,9 +3,11 @@
 ghost use Rattle.std.specs.Prelude.{◌≡◌, int_lt, int_le};
 ghost use Rattle.std.specs.Ordering.{int_eq};
 ghost use Rattle.std.specs.List.{list_any};
-ghost use Rattle.bk_kernel.specs.Obvious.{negative_of, sum_of, closed_sum, is_same, both_pass, has_all, has_number, holds_plainly, is_plain, is_obvious};
+ghost use Rattle.bk_arith.specs.Same.{is_same};
+ghost use Rattle.bk_kernel.specs.Obvious.{both_pass, has_all, has_number, holds_plainly, is_plain, is_obvious};
 
-use bk_form::{BinOp, Domain, Form, UnOp, View};
+use bk_arith::closed;
+use bk_form::{BinOp, Domain, Form, View};
 use bk_seq::Sequent;
 
 /// Whether the sequent needs no proof: its goal is a hypothesis, is `E = E`, is `E : N` with N BOOL, INTEGER or an
@@ -14,39 +16,6 @@ pub fn is_obvious(sequent: &Sequent) -> bool
     ensures { result ≡ is_obvious sequent.now.hyps.items sequent.now.goal }
 {
     is_among(&sequent.goal, &sequent.hyps) || is_plain(&sequent.goal)
-}
-
-/// The value of a sum of literals by `+`, `-`, `*` and unary minus, where each value on the way lies within `i128`;
-/// None of any other formula. Takes no memory.
-pub fn closed(form: &Form) -> Option<i128>
-    ensures { result ≡ closed_sum form.now }
-{
-    match form.view() {
-        View::Int(value) => Some(value),
-        View::Un(op, operand) => negative(op, closed(operand)),
-        View::Bin(op, left, right) => sum(op, closed(left), closed(right)),
-        _ => None,
-    }
-}
-
-fn negative(op: UnOp, operand: Option<i128>) -> Option<i128>
-    ensures { result ≡ negative_of op operand }
-{
-    match (op, operand) {
-        (UnOp::Neg, Some(value)) => value.checked_neg(),
-        _ => None,
-    }
-}
-
-fn sum(op: BinOp, left: Option<i128>, right: Option<i128>) -> Option<i128>
-    ensures { result ≡ sum_of op left right }
-{
-    match (op, left, right) {
-        (BinOp::Add, Some(a), Some(b)) => a.checked_add(b),
-        (BinOp::Sub, Some(a), Some(b)) => a.checked_sub(b),
-        (BinOp::Mul, Some(a), Some(b)) => a.checked_mul(b),
-        _ => None,
-    }
 }
 
 // Whether the formula is one of the list.

@@ -4,8 +4,8 @@ ghost use Rattle.std.specs.Prelude.{◌≡◌};
 ghost use Rattle.bk_form.specs.Formula.{formula_size};
 ghost use Rattle.bk_form.specs.FormView.{made};
 
-use crate::{closed, is_obvious};
-use bk_form::{BinOp, Domain, Form, Part, Ty, UnOp};
+use crate::is_obvious;
+use bk_form::{BinOp, Domain, Form, Part, Ty};
 use bk_io::Memory;
 use bk_seq::Sequent;
 use std::alloc::Global;
@@ -27,13 +27,6 @@ fn variable(alloc: Global, index: u32) -> Result<Form, Memory> {
 
 fn named(alloc: Global, domain: Domain) -> Result<Form, Memory> {
     leaf(alloc, Part::Name(domain))
-}
-
-fn unary(alloc: Global, op: UnOp, operand: Form) -> Result<Form, Memory> {
-    if operand.size() > 1000 {
-        return Err(Memory);
-    }
-    Form::make(alloc, Part::Un(op, operand))
 }
 
 fn binary(alloc: Global, op: BinOp, left: Form, right: Form) -> Result<Form, Memory> {
@@ -155,30 +148,17 @@ fn memberships(rt: HostRuntime) -> Result<(), Fail> {
     Ok(())
 }
 
+// 0 <= largest + 1: no closed sum, since it is too wide
 #[test]
-fn closed_sums(rt: HostRuntime) -> Result<(), Fail> {
+fn wide_sums(rt: HostRuntime) -> Result<(), Fail> {
     let alloc = rt.alloc();
-    let largest = 170141183460469231731687303715884105727;
-    assert_eq!(rt; closed(&numbers(alloc, BinOp::Add, 2, 3)?), Some(5));
-    assert_eq!(rt; closed(&numbers(alloc, BinOp::Sub, 2, 3)?), Some(-1));
-    assert_eq!(rt; closed(&numbers(alloc, BinOp::Mul, 2, 3)?), Some(6));
-    assert_eq!(rt; closed(&numbers(alloc, BinOp::Div, 6, 3)?), None);
-    assert_eq!(rt; closed(&variable(alloc, 0)?), None);
-    let past = numbers(alloc, BinOp::Add, largest, 1)?;
-    assert_eq!(rt; closed(&past), None);
-
-    // (largest + 1) - 1: a value on the way is too wide
-    let back = binary(alloc, BinOp::Sub, past.copy(alloc)?, number(alloc, 1)?)?;
-    assert_eq!(rt; closed(&back), None);
+    let past = numbers(
+        alloc,
+        BinOp::Add,
+        170141183460469231731687303715884105727,
+        1,
+    )?;
     let goal = binary(alloc, BinOp::Le, number(alloc, 0)?, past)?;
     assert!(rt; !alone(alloc, goal));
-
-    // -(-largest - 1) is too wide, -largest is not
-    let negative = unary(alloc, UnOp::Neg, number(alloc, largest)?)?;
-    assert_eq!(rt; closed(&negative), Some(-largest));
-    let least = binary(alloc, BinOp::Sub, negative, number(alloc, 1)?)?;
-    assert_eq!(rt; closed(&least), Some(-largest - 1));
-    assert_eq!(rt; closed(&unary(alloc, UnOp::Neg, least)?), None);
-    assert_eq!(rt; closed(&unary(alloc, UnOp::Card, number(alloc, 1)?)?), None);
     Ok(())
 }

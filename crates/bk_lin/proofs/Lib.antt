@@ -5,3 +5,4 @@ pub mod Adding
 pub mod Summing
 pub mod Lines
 pub mod Verdict
+pub mod Answer

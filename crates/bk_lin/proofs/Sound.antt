@@ -15,7 +15,7 @@ use Rattle.bk_lin.proofs.Whole.{*ℤ-+ℤ, +ℤ-*ℤ, pos-*ℤ_assoc, 0≤-*ℤ,
 regroup : (p q r s : ℤ) → (p +ℤ q) +ℤ (r +ℤ s) ≡ (p +ℤ r) +ℤ (q +ℤ s)
 regroup p q r s = omega (arith, ints)
 
-dot-sum_of_coefs : (cs ds : List ℤ) (x : ℕ → ℤ) → dot (sum_of_coefs cs ds) x ≡ dot cs x +ℤ dot ds x
+pub dot-sum_of_coefs : (cs ds : List ℤ) (x : ℕ → ℤ) → dot (sum_of_coefs cs ds) x ≡ dot cs x +ℤ dot ds x
 dot-sum_of_coefs [] ds x = sym (+ℤ_idl (dot ds x))
 dot-sum_of_coefs (c ∷ cs) [] x = sym (+ℤ_idr (dot (c ∷ cs) x))
 dot-sum_of_coefs (c ∷ cs) (d ∷ ds) x =
@@ -38,7 +38,7 @@ dot-zeros (c ∷ cs) x h =
     ∙ +ℤ_idl (dot cs (λ k. x (suc k)))
     ∙ dot-zeros cs (λ k. x (suc k)) (All-tail (λ d. d ≡ pos 0) c cs h)
 
-dot-replicate : (n : ℕ) (x : ℕ → ℤ) → dot (replicate n (pos 0)) x ≡ pos 0
+pub dot-replicate : (n : ℕ) (x : ℕ → ℤ) → dot (replicate n (pos 0)) x ≡ pos 0
 dot-replicate zero x = refl
 dot-replicate (suc n) x =
     ap (λ s. s +ℤ dot (replicate n (pos 0)) (λ k. x (suc k))) (zero-*ℤ (x 0))

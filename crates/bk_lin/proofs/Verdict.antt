@@ -1,12 +1,15 @@
 -- What each answer of the check says of the certificate.
-use Rattle.std.proofs.Common.{◌≡◌, ℕ, ℤ, ◌↔◌, List, length, All, Result, Ok, Err, IsOk, OnOk, IsErrAnd, refl, ap, sym, subst, arith}
+use Rattle.std.proofs.Common.{◌≡◌, ℕ, ℤ, ◌↔◌, List, length, All, Result, Ok, Err, IsOk, OnOk, IsErrAnd, MatchResult, Some, None, refl, ap, sym, subst, arith}
 use Rattle.bk_lin.specs.declared.fact.Fact.{Fact}
 use Rattle.bk_lin.specs.declared.fact.Line.{Line}
 use Rattle.bk_lin.specs.declared.fact.CertFault.{CertFault}
 use Rattle.bk_lin.specs.declared.fact.CertFault.TheVariants.{BadLine, Negative, TooWide, NotClosed}
 use Rattle.bk_lin.specs.Inequality.{IsTrueOf}
 use Rattle.bk_lin.specs.Certificate.{inequalities, IsRight, IsFirstFault, IsClosed}
+use Rattle.bk_lin.specs.Certificate.{width_of}
+use Rattle.bk_lin.specs.Answer.{certificate_fault}
 use Rattle.bk_lin.specs.Layout.{number_of}
+use Rattle.bk_lin.proofs.Answer.{answer_at_fault, answer_at_closed, answer_at_open}
 use Rattle.bk_lin.proofs.Lines.{accepted_is_contradictory, first_fault_is_one, first_fault_is_not_right}
 
 abbrev pub Answer : Type 0
@@ -19,6 +22,7 @@ pub record IsAnswer (facts : List Fact) (cert : List Line) (r : Answer) : Type 0
   pub negative : (k : ℕ) → (r ≡ Err (Negative k)) ↔ IsFirstFault facts cert k (Negative k)
   pub too_wide : (k : ℕ) → (r ≡ Err (TooWide k)) ↔ IsFirstFault facts cert k (TooWide k)
   pub not_closed : (r ≡ Err NotClosed) ↔ (IsRight facts cert × (IsClosed facts cert → ⊥))
+  pub answer : MatchResult r (λ _. certificate_fault (width_of facts) (inequalities facts) cert ≡ None) (λ e. certificate_fault (width_of facts) (inequalities facts) cert ≡ Some e)
   pub sound : OnOk r ((atoms : ℕ → ℤ) → All (IsTrueOf atoms) (inequalities facts) → ⊥)
 
 err_is_not_ok : (r : Answer) (e : CertFault) → r ≡ Err e → IsOk r → ⊥
@@ -48,6 +52,7 @@ at_fault facts cert e p = record {
   negative = λ k. fault_iff facts cert e (Negative k) p;
   too_wide = λ k. fault_iff facts cert e (TooWide k) p;
   not_closed = (λ h. absurd (not_closed_is_no_fault facts cert e p (err_same e NotClosed _ _ refl refl h)), λ h. absurd (first_fault_is_not_right facts cert (number_of e) e p h.0));
+  answer = answer_at_fault facts cert (number_of e) e p;
   sound = tt;
 }
 
@@ -58,6 +63,7 @@ at_closed facts cert right closed = record {
   negative = λ k. (λ h. absurd (not_ok_and_err tt (Negative k) _ _ refl refl h), λ p. absurd (first_fault_is_not_right facts cert k (Negative k) p right));
   too_wide = λ k. (λ h. absurd (not_ok_and_err tt (TooWide k) _ _ refl refl h), λ p. absurd (first_fault_is_not_right facts cert k (TooWide k) p right));
   not_closed = (λ h. absurd (not_ok_and_err tt NotClosed _ _ refl refl h), λ h. absurd (h.1 closed));
+  answer = answer_at_closed facts cert right closed;
   sound = accepted_is_contradictory facts cert right closed;
 }
 
@@ -71,6 +77,7 @@ at_open facts cert right unclosed = record {
   negative = λ k. (λ h. absurd (other_fault NotClosed (Negative k) _ _ refl refl (λ e. cc) h), λ p. absurd (first_fault_is_not_right facts cert k (Negative k) p right));
   too_wide = λ k. (λ h. absurd (other_fault NotClosed (TooWide k) _ _ refl refl (λ e. cc) h), λ p. absurd (first_fault_is_not_right facts cert k (TooWide k) p right));
   not_closed = (λ _. (right, unclosed), λ _. refl);
+  answer = answer_at_open facts cert right unclosed;
   sound = tt;
 }
 

@@ -1,3 +1,4 @@
 pub mod Inequality
 pub mod Certificate
 pub mod Layout
+pub mod Answer

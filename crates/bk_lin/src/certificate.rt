@@ -3,6 +3,7 @@
 ghost use Rattle.std.specs.Prelude.{◌≡◌, ℕ, ℤ, ◌+◌, ◌-◌, ◌*◌, ◌^◌, ◌<◌, ◌≤◌, ◌↔◌, Some, None, All, take, length, IsOk, OnOk, IfErr, MatchResult};
 ghost use Rattle.bk_lin.specs.Inequality.{IsTrueOf};
 ghost use Rattle.bk_lin.specs.Certificate.{inequalities, width_of, facts_after, line_fact, line_fault, IsRight, IsClosed, IsFirstFault};
+ghost use Rattle.bk_lin.specs.Answer.{certificate_fault};
 ghost use Rattle.bk_lin.specs.Layout.{standing_of, held_in, held_at, number_of};
 
 use crate::fact::{CertFault, Fact, Line};
@@ -24,6 +25,7 @@ pub fn check(facts: &[Fact], cert: &[Line], work: &mut [i128]) -> Result<(), Cer
     ensures negative { (k : ℕ) → (result ≡ Err (CertFault.Negative k)) ↔ IsFirstFault facts.now cert.now k (CertFault.Negative k) }
     ensures too_wide { (k : ℕ) → (result ≡ Err (CertFault.TooWide k)) ↔ IsFirstFault facts.now cert.now k (CertFault.TooWide k) }
     ensures not_closed { (result ≡ Err CertFault.NotClosed) ↔ (IsRight facts.now cert.now × (IsClosed facts.now cert.now → ⊥)) }
+    ensures answer { let fault = certificate_fault (width_of facts.now) (inequalities facts.now) cert.now in MatchResult result (λ _. fault ≡ None) (λ e. fault ≡ Some e) }
     ensures sound { OnOk result ((atoms : ℕ → ℤ) → All (IsTrueOf atoms) (inequalities facts.now) → ⊥) }
 {
     if cert.is_empty() {

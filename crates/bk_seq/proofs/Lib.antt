@@ -1,1 +1,4 @@
 pub mod Validity
+pub mod Paths
+pub mod PathLaws
+pub mod Typing

@@ -1,2 +1,4 @@
 pub mod Valid
 pub mod Laws
+pub mod Paths
+pub mod PathLaws

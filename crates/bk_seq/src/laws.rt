@@ -1,10 +1,19 @@
-//! Laws of validity. Each is the contract of a function that does nothing.
+//! Laws of validity, and of places in formulas. Each is the contract of a function that does nothing.
 
 ghost use Rattle.bk_seq.specs.Laws.{IsAssumed, Weakens, Contradicts};
+ghost use Rattle.bk_seq.specs.PathLaws.{PutStands, PutKeepsRole, PutKeepsMeaning, PartsType};
 
 /// What every valid sequent allows.
 pub fn validity()
     ensures assumed { IsAssumed }
     ensures weakens { Weakens }
     ensures contradicts { Contradicts }
+{}
+
+/// What stands at a path, and what another formula there changes.
+pub fn places()
+    ensures stands { PutStands }
+    ensures role { PutKeepsRole }
+    ensures meaning { PutKeepsMeaning }
+    ensures parts { PartsType }
 {}

@@ -1,5 +1,5 @@
-use Rattle.bk_kernel.specs.Obvious.{is_same}
-use Rattle.bk_kernel.proofs.Same.{same-then, same-if}
+use Rattle.bk_arith.specs.Same.{is_same}
+use Rattle.bk_arith.proofs.SameFormula.{same-then, same-if}
 use Rattle.bk_form.proofs.Members.{both_ways}
 use Rattle.bk_kernel.proofs.obvious.same.Goals as goal
 

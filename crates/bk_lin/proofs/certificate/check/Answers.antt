@@ -25,7 +25,7 @@ returns-then-is_contradiction c =
     let closed : IsClosed c.args.facts.now c.args.cert.now =
     (any, subst (λ p. IsContradiction p) (sym same) (c.if-is_contradiction.ensures.0 refl)) in
     let a = at_closed c.args.facts.now c.args.cert.now c.in_ok-make_facts.ensures.right closed in
-    record { ok = a.ok; bad_line = a.bad_line; negative = a.negative; too_wide = a.too_wide; not_closed = a.not_closed; sound = a.sound }
+    record { ok = a.ok; bad_line = a.bad_line; negative = a.negative; too_wide = a.too_wide; not_closed = a.not_closed; answer = a.answer; sound = a.sound }
 
 no_truth : false ≡ true → ⊥
 no_truth h = cc
@@ -41,14 +41,14 @@ returns-else-is_contradiction c =
     ∙ sym c.row_of_line.ensures.fact in
     let a = at_open c.args.facts.now c.args.cert.now c.in_ok-make_facts.ensures.right
     (λ closed. no_truth (c.if-is_contradiction.ensures.1 (subst (λ p. IsContradiction p) same closed.1))) in
-    record { ok = a.ok; bad_line = a.bad_line; negative = a.negative; too_wide = a.too_wide; not_closed = a.not_closed; sound = a.sound }
+    record { ok = a.ok; bad_line = a.bad_line; negative = a.negative; too_wide = a.too_wide; not_closed = a.not_closed; answer = a.answer; sound = a.sound }
 
 pub returns-in_err-make_facts : goal.returns-in_err-make_facts
 returns-in_err-make_facts c =
     let a = at_passed_on c.args.facts.now c.args.cert.now c.from_residual.result c.in_err-make_facts.field-0.0 c.from_residual.ensures.1 c.in_err-make_facts.ensures.fault in
-    record { ok = a.ok; bad_line = a.bad_line; negative = a.negative; too_wide = a.too_wide; not_closed = a.not_closed; sound = a.sound }
+    record { ok = a.ok; bad_line = a.bad_line; negative = a.negative; too_wide = a.too_wide; not_closed = a.not_closed; answer = a.answer; sound = a.sound }
 
 pub returns-then-is_empty : goal.returns-then-is_empty
 returns-then-is_empty c =
     let a = at_empty c.args.facts.now c.args.cert.now (none (length c.args.cert.now) c.if-is_empty.ensures) in
-    record { ok = a.ok; bad_line = a.bad_line; negative = a.negative; too_wide = a.too_wide; not_closed = a.not_closed; sound = a.sound }
+    record { ok = a.ok; bad_line = a.bad_line; negative = a.negative; too_wide = a.too_wide; not_closed = a.not_closed; answer = a.answer; sound = a.sound }

@@ -1,0 +1,9 @@
+pub mod SameFormula
+pub mod ClosedValues
+pub mod Entries
+pub mod Narrow
+pub mod Faults
+pub mod Products
+pub mod AtomLists
+pub mod SideValues
+pub mod Accepted

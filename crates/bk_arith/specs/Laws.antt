@@ -1,0 +1,36 @@
+-- Laws of linear arithmetic on formulas, as statements.
+use Rattle.std.specs.Prelude.{◌≡◌, ◌↔◌, ℕ, ℤ, ◌<◌, ◌+ℤ◌, true, List, Some, length, slice_index_or}
+use Rattle.bk_val.specs.Value.{int}
+use Rattle.bk_form.specs.Table.{Table}
+use Rattle.bk_form.specs.Formula.{Formula, bfalse}
+use Rattle.bk_form.specs.Search.{Finder}
+use Rattle.bk_form.specs.Environment.{Environment}
+use Rattle.bk_form.specs.Operators.{number_in}
+use Rattle.bk_form.specs.Meaning.{value}
+use Rattle.bk_seq.specs.Valid.{IsValid}
+use Rattle.bk_lin.specs.declared.fact.Line.{Line}
+use Rattle.bk_lin.specs.Inequality.{Inequality, dot}
+use Rattle.bk_arith.specs.ClosedSum.{closed_sum}
+use Rattle.bk_arith.specs.Same.{is_same}
+use Rattle.bk_arith.specs.Reading.{atoms_of, reading}
+use Rattle.bk_arith.specs.Decision.{is_accepted}
+
+-- a closed sum is that number in every environment
+abbrev pub ClosedSumsAreNumbers : Type 0
+ClosedSumsAreNumbers = (find : Finder) (e : Environment) (f : Formula) (z : ℤ) → closed_sum f ≡ Some z → value find e f ≡ int z
+
+-- two formulas are told to be the same exactly where they are
+abbrev pub SameIsEqual : Type 0
+SameIsEqual = (a b : Formula) → (is_same a b ≡ true) ↔ (a ≡ b)
+
+-- the number of each atom of a list
+abbrev pub atom_values : Finder → Environment → List Formula → ℕ → ℤ
+atom_values find e atoms k = number_in (value find e (slice_index_or atoms k bfalse))
+
+-- over the atoms of some terms, the linear form of each of them has that term's value
+abbrev pub ReadingMeans : Type 0
+ReadingMeans = (find : Finder) (e : Environment) (terms : List Formula) (k : ℕ) (p : Inequality) → k < length terms → reading (atoms_of terms) (slice_index_or terms k bfalse) ≡ Some p → dot p.coefs (atom_values find e (atoms_of terms)) +ℤ p.constant ≡ number_in (value find e (slice_index_or terms k bfalse))
+
+-- where the certificate is accepted, the goal is true wherever the hypotheses are
+abbrev pub AcceptedIsValid : Type 0
+AcceptedIsValid = (table : Table) (hyps : List Formula) (goal : Formula) (cert : List Line) → is_accepted hyps goal cert ≡ true → IsValid table hyps goal

@@ -1,0 +1,49 @@
+-- What the code's own types stand for.
+use Rattle.std.specs.Prelude.{◌≡◌, ℤ, negsuc, ◌+ℤ◌, ◌-ℤ◌, if◌then◌else◌, List, [], ◌∷◌, Option, Some, None}
+use Rattle.std.specs.Borrow.{Bor}
+use Rattle.bk_form.specs.Formula.{Formula, binary}
+use Rattle.bk_form.specs.declared.operator.BinOp.TheVariants.{Sub}
+use Rattle.bk_lin.specs.Inequality.{Inequality, plus, times}
+use Rattle.bk_arith.specs.declared.comparison.Term.{Term}
+use Rattle.bk_arith.specs.declared.comparison.Stated.{Stated}
+use Rattle.bk_arith.specs.declared.comparison.Stated.TheVariants.{Nothing, One, Two}
+use Rattle.bk_arith.specs.declared.joining.Join.{Join}
+use Rattle.bk_arith.specs.declared.joining.Join.TheVariants.{Sum, Difference}
+use Rattle.bk_arith.specs.declared.error.ArithFault.{ArithFault}
+use Rattle.bk_arith.specs.declared.error.ArithFault.TheVariants.{TooWide, Memory}
+use Rattle.bk_arith.specs.Comparison.{one_less}
+
+-- a term less another, where there is one
+abbrev pub less : Formula → Option (Bor Formula) → Formula
+less a None = a
+less a (Some b) = binary Sub a b.now
+
+-- the term that is at least 0
+abbrev pub term_of : Term → Formula
+term_of t = if t.strict then one_less (less t.upper.now t.lower) else less t.upper.now t.lower
+
+abbrev pub terms_in : Stated → List Formula
+terms_in Nothing = []
+terms_in (One t) = term_of t ∷ []
+terms_in (Two t u) = term_of t ∷ term_of u ∷ []
+
+-- one number of a linear form joined to another's
+abbrev pub entry_of : Join → ℤ → ℤ → ℤ
+entry_of Sum x y = x +ℤ y
+entry_of Difference x y = x -ℤ y
+
+-- entry by entry
+abbrev pub entries_of : Join → List ℤ → List ℤ → List ℤ
+entries_of join (x ∷ xs) (y ∷ ys) = entry_of join x y ∷ entries_of join xs ys
+entries_of join _ _ = []
+
+-- two linear forms added, or the second taken from the first
+abbrev pub joined : Join → Inequality → Inequality → Inequality
+joined Sum p q = plus p q
+joined Difference p q = plus p (times (negsuc 0) q)
+
+-- why a term was not read: want of memory, or that it has no linear form within 128 bits
+abbrev pub IsReadFault : Option Inequality → ArithFault → Type 0
+IsReadFault form Memory = Unit {0}
+IsReadFault form TooWide = form ≡ None
+IsReadFault form _ = ⊥

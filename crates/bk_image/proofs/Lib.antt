@@ -1,0 +1,17 @@
+pub mod Loop
+pub mod Fields
+pub mod Entries
+pub mod Instructions
+pub mod Layouts
+pub mod Sizes
+pub mod Arrays
+pub mod FaultLists
+pub mod Judged
+pub mod FirstNumber
+pub mod Flowing
+pub mod Following
+pub mod Starting
+pub mod Opening
+pub mod Judging
+pub mod Verdicts
+pub mod OneFault

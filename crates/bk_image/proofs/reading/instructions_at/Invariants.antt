@@ -1,0 +1,7 @@
+use Rattle.std.proofs.Common.{◌≡◌, ◌-◌}
+use Rattle.bk_image.specs.Reading.{items_at, inst_at}
+use Rattle.bk_image.proofs.Loop.{with_front}
+use Rattle.bk_image.proofs.reading.instructions_at.Given as goal
+
+abbrev pub invariant-loop : goal.invariant-loop
+invariant-loop l = with_front l.code.items (items_at (inst_at l.len) (l.count - l.counter) l.rest) ≡ items_at (inst_at l.len) l.count l.bytes

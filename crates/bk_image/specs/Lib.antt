@@ -1,0 +1,9 @@
+pub mod Spelling
+pub mod Reading
+pub mod Faults
+pub mod Soundness
+pub mod Stack
+pub mod Progress
+pub mod Judging
+pub mod Encoding
+pub mod Laws

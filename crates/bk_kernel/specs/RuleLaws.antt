@@ -1,0 +1,28 @@
+-- Laws of the rules, as statements.
+use Rattle.std.specs.Prelude.{◌≡◌, List}
+use Rattle.bk_form.specs.Table.{Table, IsWellFormed}
+use Rattle.bk_kernel.specs.declared.rule.Rule.{Rule}
+use Rattle.bk_kernel.specs.declared.replaying.Verdict.{Verdict}
+use Rattle.bk_kernel.specs.Sequents.{Sequent, Each, Types, IsValidSequent}
+use Rattle.bk_kernel.specs.Rules.{ByRule, IsInstance}
+use Rattle.bk_kernel.specs.Derivations.{Derives, IsVerdict}
+
+-- where the formulas of a sequent are predicates, so are those that come of a rule
+abbrev pub RulesKeepTypes : Type 0
+RulesKeepTypes = (table : Table) (s : Sequent) (rule : Rule) (news : List Sequent) → Types table s → ByRule s rule news → Each (Types table) news
+
+-- a rule makes one list of sequents of a sequent
+abbrev pub RulesAreFunctions : Type 0
+RulesAreFunctions = (s : Sequent) (rule : Rule) (news others : List Sequent) → ByRule s rule news → ByRule s rule others → news ≡ others
+
+-- a sequent is valid where all that come of it by a step are
+abbrev pub RulesAreSound : Type 0
+RulesAreSound = (table : Table) → IsWellFormed table → (s : Sequent) (rule : Rule) (news : List Sequent) → Types table s → IsInstance table s rule news → Each (IsValidSequent table) news → IsValidSequent table s
+
+-- what is derived is valid
+abbrev pub DerivedIsValid : Type 0
+DerivedIsValid = (table : Table) → IsWellFormed table → (rules : List Rule) (s : Sequent) → Types table s → Derives table rules s → IsValidSequent table s
+
+-- one thing is said of a list of rules and a sequent
+abbrev pub OneVerdict : Type 0
+OneVerdict = (table : Table) (rules : List Rule) (s : Sequent) (v w : Verdict) → IsVerdict table rules s v → IsVerdict table rules s w → v ≡ w
