@@ -1,6 +1,6 @@
 -- One thing is said of a list of rules and a sequent.
-use Rattle.std.proofs.Common.{◌≡◌, ◌⊎◌, inl, inr, ℕ, zero, suc, ◌+◌, ◌-◌, ◌^◌, ◌<◌, ◌≤◌, min, List, [], ◌∷◌, ◌++◌, take, length, refl, sym, ◌∙◌, ap, subst, arith}
-use Rattle.std.specs.Prelude.{Some, slice_get}
+use Rattle.std.proofs.Common.{◌≡◌, Result, Ok, Err, IfOk, ◌⊎◌, inl, inr, ℕ, zero, suc, ◌+◌, ◌-◌, ◌^◌, ◌<◌, ◌≤◌, min, List, [], ◌∷◌, ◌++◌, take, length, refl, sym, ◌∙◌, ap, subst, arith}
+use Rattle.std.specs.Prelude.{Some, slice_get, IsErr}
 use Rattle.std.proofs.lemmas.List.{take_all}
 use Rattle.std.proofs.lemmas.Option.{slice_get_within}
 use Rattle.bk_form.specs.Table.{Table}
@@ -10,7 +10,7 @@ use Rattle.bk_kernel.specs.declared.replaying.Verdict.{Verdict}
 use Rattle.bk_kernel.specs.declared.replaying.Verdict.TheVariants.{Closed, BadStep, Open, Extra}
 use Rattle.bk_kernel.specs.Sequents.{Sequent}
 use Rattle.bk_kernel.specs.Rules.{IsInstance}
-use Rattle.bk_kernel.specs.Derivations.{Leaves, FailsAt, StaysOpen, EndsBefore, IsVerdict}
+use Rattle.bk_kernel.specs.Derivations.{Leaves, Derives, FailsAt, StaysOpen, EndsBefore, IsVerdict}
 use Rattle.bk_kernel.specs.RuleLaws.{OneVerdict}
 use Rattle.bk_kernel.proofs.Functional.{rules-are-functions}
 
@@ -167,3 +167,8 @@ module _ (table : Table) where
 
 pub one-verdict : OneVerdict
 one-verdict table rules s v w h i = one table rules s v w h i
+
+-- the verdict on a sequent that the rules derive
+pub closed_where_derived : {E : Type 0} (table : Table) (rules : List Rule) (s : Sequent) (r : Result Verdict E) → IfOk r (IsVerdict table rules s) → Derives table rules s → (r ≡ Ok Closed) ⊎ IsErr r
+closed_where_derived table rules s (Ok v) h d = inl (ap Ok (one-verdict table rules s v Closed h d))
+closed_where_derived table rules s (Err e) h d = inr refl

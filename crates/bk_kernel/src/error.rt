@@ -11,7 +11,7 @@ use thiserror::Error;
 /// Why a step of proof was not made.
 #[derive(Clone, Copy, PartialEq, Eq, Debug, Error)]
 pub enum StepFault {
-    /// The rule does not fit the sequent, or makes a formula that is too large.
+    /// The rule does not fit the sequent, or makes a formula that does not type or is too large.
     #[error("the rule does not fit the sequent")]
     NoInstance,
     #[error("out of memory")]

@@ -1,8 +1,9 @@
 //! Lists of rules, one after another.
 
-ghost use Rattle.std.specs.Prelude.{◌≡◌, ◌<◌, ◌^◌, ◌++◌, length, map, IfOk, OnOk};
+ghost use Rattle.std.specs.Prelude.{◌≡◌, ◌<◌, ◌^◌, ◌++◌, ◌⊎◌, length, map, Ok, IfOk, IsErr, OnOk};
 ghost use Rattle.bk_kernel.specs.Sequents.{sequent_of, Types, IsWithin};
-ghost use Rattle.bk_kernel.specs.Derivations.{IsVerdict};
+ghost use Rattle.bk_kernel.specs.Derivations.{Derives, IsVerdict};
+ghost use Rattle.bk_kernel.specs.declared.replaying.Verdict.TheVariants.{Closed};
 ghost use Rattle.bk_kernel.specs.Standing.{in_order, at_end};
 
 use crate::error::StepFault;
@@ -20,14 +21,30 @@ pub enum Verdict {
     Closed,
     /// The rule of this number is no step.
     BadStep(u32),
-    /// All rules are steps, and this many sequents are left.
+    /// All rules are steps, and this many sequents are left; past 32 bits it is their greatest number.
     Open(u32),
     /// Nothing is left to prove before the rule of this number.
     Extra(u32),
 }
 
 /// What the rules do to the sequent, each on the first sequent that is open, whose results stand in its place.
+#[tactic(auto, using(crate::proofs::Verdicts::closed_where_derived))]
 pub fn replay(
+    alloc: Global,
+    types: &VarTable,
+    sequent: Sequent,
+    rules: &[Rule],
+) -> Result<Verdict, Memory>
+    requires types { Types types.now (sequent_of sequent) }
+    requires within { IsWithin (sequent_of sequent) }
+    requires countable { length rules.now < 2 ^ 32 }
+    ensures verdict { IfOk result (IsVerdict types.now rules.now (sequent_of sequent)) }
+    ensures derived { Derives types.now rules.now (sequent_of sequent) → (result ≡ Ok Closed) ⊎ IsErr result }
+{
+    replay_in_order(alloc, types, sequent, rules)
+}
+
+fn replay_in_order(
     alloc: Global,
     types: &VarTable,
     sequent: Sequent,

@@ -2,7 +2,7 @@ use Rattle.std.proofs.Common.{[], ◌∷◌, take}
 use Rattle.bk_kernel.specs.Sequents.{sequent_of, Each, Types, IsWithin}
 use Rattle.bk_kernel.specs.Derivations.{Leaves}
 use Rattle.bk_kernel.specs.Standing.{in_order}
-use Rattle.bk_kernel.proofs.replaying.replay.Given as goal
+use Rattle.bk_kernel.proofs.replaying.replay_in_order.Given as goal
 
 abbrev pub invariant-loop-index : goal.invariant-loop-index
 invariant-loop-index l = record {

@@ -3,7 +3,7 @@ use Rattle.bk_kernel.specs.Sequents.{sequent_of}
 use Rattle.bk_kernel.specs.Derivations.{IsVerdict}
 use Rattle.bk_kernel.specs.Standing.{at_end}
 use Rattle.bk_kernel.proofs.Replayed.{Stands, advanced, failed, ended}
-use Rattle.bk_kernel.proofs.replaying.replay.Goals as goal
+use Rattle.bk_kernel.proofs.replaying.replay_in_order.Goals as goal
 
 pub returns-in-Err-NoInstance : goal.returns-in-Err-NoInstance
 returns-in-Err-NoInstance c =
