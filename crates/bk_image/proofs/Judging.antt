@@ -1,5 +1,5 @@
 -- What the settled depths say of the image.
-use Rattle.std.proofs.Common.{◌≡◌, ℕ, zero, suc, ◌+◌, ◌-◌, ◌<◌, ◌≤◌, ◌⊎◌, List, length, get_or, Option, Some, None, refl, sym, ap, subst, ◌∙◌, arith, inl, inr, ℤ, pos}
+use Rattle.std.proofs.Common.{◌≡◌, ℕ, zero, suc, ◌+◌, ◌-◌, ◌<◌, ◌≤◌, ◌⊎◌, List, length, get_or, Option, Some, None, refl, sym, ap, subst, ◌∙◌, arith, inl, inr, ℤ, pos, ◌≤ℤ◌}
 use Rattle.std.specs.Prelude.{slice_get, slice_index, map, unsigned_abs, MatchOption}
 use Rattle.std.proofs.lemmas.Bool.{cases_lt}
 use Rattle.std.proofs.lemmas.Int.{ints}
@@ -66,7 +66,7 @@ wrong_fault image p k i h get wrong = by_depth (depth_at p.known k) refl
 -- ---- a right one is none
 
 keeps_rules : (i : Inst) (d : ℤ) → IsAllowed i d → BreaksRules i d → ⊥
-keeps_rules i d a (inl low) = let h = a.enough in omega (arith, ints, low)
+keeps_rules i d a (inl (some, low)) = let h = a.enough some in omega (arith, ints, low)
 keeps_rules i d a (inr (inl high)) = let h = a.limit in omega (arith, ints, high)
 keeps_rules i d a (inr (inr (ret, full))) = full (a.empty ret)
 
@@ -144,17 +144,26 @@ empty_at_end (Jump v) d n a e = tt
 empty_at_end (JumpZero v) d n a e = tt
 empty_at_end _ d n a e = tt
 
-after_number : (i : Inst) (d e : ℤ) (a : IsAllowed i d) → e ≡ depth_after i d → unsigned_abs e ≡ unsigned_abs d - pops i + pushes i
-after_number i d e a is = let h = a.enough in omega (arith, ints, is)
+-- an instruction that may stand at a depth of 0 or more doesn't pop below 0
+enough_at : (i : Inst) (d : ℤ) → IsAllowed i d → pos 0 ≤ℤ d → pos (pops i) ≤ℤ d
+enough_at i d a from_zero =
+    elim (cases_lt 0 (pops i)) [
+      | inl some ↦ a.enough some
+      | inr none ↦ omega (arith, ints)
+    ]
 
-limit_number : (i : Inst) (d : ℤ) → IsAllowed i d → unsigned_abs d ≤ 1000
-limit_number i d a =
-    let h = a.enough in
-    let l = a.limit in
-    omega (arith, ints)
+-- so the depth behind it is 0 or more
+zero_after : (i : Inst) (d : ℤ) → IsAllowed i d → pos 0 ≤ℤ d → pos 0 ≤ℤ depth_after i d
+zero_after i d a from_zero = let h = enough_at i d a from_zero in omega (arith, ints)
 
-enough_number : (i : Inst) (d : ℤ) → IsAllowed i d → pops i ≤ unsigned_abs d
-enough_number i d a = let h = a.enough in omega (arith, ints)
+after_number : (i : Inst) (d e : ℤ) → pos (pops i) ≤ℤ d → e ≡ depth_after i d → unsigned_abs e ≡ unsigned_abs d - pops i + pushes i
+after_number i d e enough is = omega (arith, ints, is)
+
+limit_number : (i : Inst) (d : ℤ) → IsAllowed i d → pos 0 ≤ℤ d → unsigned_abs d ≤ 1000
+limit_number i d a from_zero = let l = a.limit in omega (arith, ints)
+
+enough_number : (i : Inst) (d : ℤ) → pos (pops i) ≤ℤ d → pops i ≤ unsigned_abs d
+enough_number i d enough = omega (arith, ints)
 
 length-depths : (p : Progress) → length (depths_of p) ≡ length p.known
 unfolding depths_of
@@ -171,6 +180,24 @@ all_right image p numbered h right = record { numbered = numbered; depths = dept
 
     there : (k : ℕ) → k < length image.code → slice_get image.code k ≡ Some (get_or image.code k Ret)
     there k lt = slice_get-get_or image.code k Ret lt
+
+    -- no way leads below 0: the instruction before would have popped below 0
+    from_zero : (n at : ℕ) (d : ℤ) → at < length image.code → HasDepth image n at d → pos 0 ≤ℤ d
+    from_zero zero at d lt (start, e) = omega (arith, ints, e)
+    from_zero (suc n) to d lt (at, before, i, has, get, flows, e) =
+        let within = slice_get_within image.code at i get in
+        let k = number_at at i get in
+        let same : k.number ≡ before = covers_number (depth_at p.known at) k.number before k.is (covered image p h n at before within has) in
+        subst (λ x. pos 0 ≤ℤ x) (sym e) (zero_after i before (subst (IsAllowed i) same k.allowed) (from_zero n at before within has))
+
+    known_from_zero : (k : ℕ) (i : Inst) → slice_get image.code k ≡ Some i → (n : IsNumber i (depth_at p.known k)) → pos 0 ≤ℤ n.number
+    known_from_zero k i get n =
+        let lt = slice_get_within image.code k i get in
+        let known : IsKnown image (length image.code) k (One n.number) = subst (IsKnown image (length image.code) k) n.is (h.progressing.so k lt) in
+        from_zero known.0 k n.number lt (has_below image (length image.code) known.0 k n.number known.1)
+
+    enough_pops : (k : ℕ) (i : Inst) → slice_get image.code k ≡ Some i → (n : IsNumber i (depth_at p.known k)) → pos (pops i) ≤ℤ n.number
+    enough_pops k i get n = enough_at i n.number n.allowed (known_from_zero k i get n)
 
     root_zero : (k : ℕ) → k < length image.code → IsRoot image k → slice_index (depths_of p) k ≡ 0
     root_zero k lt root = zero_is p k (h.roots k lt root) (get_or image.code k Ret) (number_at k (get_or image.code k Ret) (there k lt))
@@ -193,15 +220,15 @@ all_right image p numbered h right = record { numbered = numbered; depths = dept
         let c = closed_here image (length image.code) at to i p h.progressing h.still get flows in
         let c' : Covers (depth_at p.known to) (One (depth_after i n.number)) = subst (λ x. Covers (depth_at p.known to) (after i x)) n.is c in
         let e = covers_number (depth_at p.known to) m.number (depth_after i n.number) m.is c' in
-        rw (number_is p to (get_or image.code to Ret) m, number_is p at i n) (after_number i n.number m.number n.allowed e)
+        rw (number_is p to (get_or image.code to Ret) m, number_is p at i n) (after_number i n.number m.number (enough_pops at i get n) e)
 
     fitting : IsDepths image (depths_of p)
     fitting = record {
       long = length-depths p ∙ h.progressing.long;
       first = root_zero 0 numbered.some (inl refl);
       starts = λ k d lt. root_zero (get_or image.ops k d).start (good_start image k d lt numbered) (inr (inl (k, get_or image.ops k d, slice_get-get_or image.ops k d lt, refl)));
-      limit = λ k lt. let n = number_at k (get_or image.code k Ret) (there k lt) in subst (λ x. x ≤ 1000) (sym (number_is p k (get_or image.code k Ret) n)) (limit_number (get_or image.code k Ret) n.number n.allowed);
-      enough = λ k i get. let n = number_at k i get in subst (λ x. pops i ≤ x) (sym (number_is p k i n)) (enough_number i n.number n.allowed);
+      limit = λ k lt. let n = number_at k (get_or image.code k Ret) (there k lt) in subst (λ x. x ≤ 1000) (sym (number_is p k (get_or image.code k Ret) n)) (limit_number (get_or image.code k Ret) n.number n.allowed (known_from_zero k (get_or image.code k Ret) (there k lt) n));
+      enough = λ k i get. let n = number_at k i get in subst (λ x. pops i ≤ x) (sym (number_is p k i n)) (enough_number i n.number (enough_pops k i get n));
       flows = flows_on;
       returned = λ k i get. let n = number_at k i get in empty_at_end i n.number (slice_index (depths_of p) k) n.allowed (number_is p k i n);
     }
@@ -256,6 +283,6 @@ no_stack_fault image k l (i, get, fault) = by_fault fault
     by_fault (inr bad) = by_breaks (has_depth image l bad.ways k bad.depth lt bad.has) bad.breaks
       where
         by_breaks : bad.depth ≡ pos (slice_index l.depths k) → BreaksRules i bad.depth → ⊥
-        by_breaks is (inl low) = let h = l.fitting.enough k i get in omega (arith, ints, is, low)
+        by_breaks is (inl (some, low)) = let h = l.fitting.enough k i get in omega (arith, ints, is, low)
         by_breaks is (inr (inl high)) = let h = l.fitting.limit k lt in omega (arith, ints, is, high)
         by_breaks is (inr (inr (ret, full))) = full (is ∙ ap pos (l.fitting.returned k Ret (get ∙ ap (λ x. Some x) ret)))

@@ -13,7 +13,7 @@ use Rattle.bk_code.specs.declared.instruction.Inst.TheVariants.{Ret}
 use Rattle.bk_image.specs.declared.fault.LoadFault.{LoadFault}
 use Rattle.bk_image.specs.declared.fault.LoadFault.TheVariants.{Short, Magic, Version, BadInst, BadJump, BadSlot, Stack, Extra}
 use Rattle.bk_image.specs.declared.fault.LoadFault.TheVariants as faults
-use Rattle.bk_image.specs.Spelling.{number, sets, entries, inst, magic, header, spelling, FitsInst, HasSpelling}
+use Rattle.bk_image.specs.Spelling.{number, sets, entries, inst, magic, header, spelling, FitsInst, FitsFields}
 use Rattle.bk_image.specs.Reading.{◌>>=◌, Read, number_at, items_at, counted_at, set_at, entry_at, inst_at, magic_at, version_at, code_at, parts_at, image_at, layout_of}
 use Rattle.bk_image.specs.Faults.{IsMagicFault, IsVersionFault, IsInstFault, IsExtraFault, IsShortFault}
 use Rattle.bk_image.proofs.Fields.{IsBytes, IsBytes-take, Takes, Takes-then, wide16, wide32, bind_ok, bind_err, ok_is, err_is, number_reads, number_early, items_take, items_again}
@@ -88,7 +88,7 @@ from_ops len cells sets read = read >>= λ ops. from_code cells sets ops.0 (code
 abbrev from_sets : ℕ → ℕ → Read (List (List (List ℕ))) → Read Image
 from_sets len cells read = read >>= λ sets. from_ops len cells sets.0 (counted_at len (entry_at len) sets.1)
 
-parts_take : (len : ℕ) (bytes : List ℕ) (x : Image × List ℕ) → IsBytes bytes → parts_at len bytes ≡ Ok x → Takes bytes (body x.0) x.1 × HasSpelling x.0
+parts_take : (len : ℕ) (bytes : List ℕ) (x : Image × List ℕ) → IsBytes bytes → parts_at len bytes ≡ Ok x → Takes bytes (body x.0) x.1 × FitsFields x.0
 unfolding parts_at code_at
 parts_take len bytes x fits e =
     let a = bind_ok (number_at len w32 bytes) (λ cells. from_sets len cells.0 (counted_at len (set_at len) cells.1)) x e in
@@ -107,11 +107,11 @@ parts_take len bytes x fits e =
     let abcm = Takes-then bytes (number w32 a.0.0 ++ sets b.0.0 ++ entries c.0.0) c.0.1 (number w32 (length d.0.0)) m.0.1 abc counted in
     let all = Takes-then bytes (number w32 a.0.0 ++ sets b.0.0 ++ entries c.0.0 ++ number w32 (length d.0.0)) m.0.1 (flat_map inst d.0.0) d.0.1 abcm td.0 in
     let made : Image × List ℕ = (record { cells = a.0.0; sets = b.0.0; ops = c.0.0; code = d.0.0 }, d.0.1) in
-    subst (λ (y : Image × List ℕ). Takes bytes (body y.0) y.1 × HasSpelling y.0) (ok_is made x d.2)
+    subst (λ (y : Image × List ℕ). Takes bytes (body y.0) y.1 × FitsFields y.0) (ok_is made x d.2)
     (all, record { cells = ta.1; few_sets = tb.1.0; sets = tb.1.1; few_ops = tc.1.0; ops = tc.1.1; few_insts = omega (arith, tm.1, td.1.0); insts = td.1.1 })
 
 -- the parts up to the number of instructions are read again, whatever is read behind them
-parts_front : (len : ℕ) (image : Image) (rest : List ℕ) → HasSpelling image
+parts_front : (len : ℕ) (image : Image) (rest : List ℕ) → FitsFields image
     → parts_at len (body_header image ++ rest) ≡ from_code image.cells image.sets image.ops (items_at (inst_at len) (length image.code) rest)
 unfolding parts_at code_at
 parts_front len image rest fits =
@@ -128,7 +128,7 @@ parts_front len image rest fits =
 -- where the parts can't be read, though the bytes don't end too early
 record PartsStop (len : ℕ) (bytes : List ℕ) (e : LoadFault) : Type 0 where
   image : Image
-  spelled : HasSpelling image
+  fits : FitsFields image
   before : ℕ
   more : before < length image.code
   rest : List ℕ
@@ -146,7 +146,7 @@ filled_stop len bytes e cells sets' ops n after t small are entered few s =
     let count : length (s.read ++ replicate (n - length s.read) Ret) ≡ n = let h = s.more in omega (arith, length-append s.read (replicate (n - length s.read) Ret), length-replicate (n - length s.read) Ret) in
     record {
       image = filled cells sets' ops n s.read;
-      spelled = record {
+      fits = record {
         cells = small;
         few_sets = are.0;
         sets = are.1;
@@ -249,7 +249,7 @@ version_front len rest = rw ((number_reads len w16 wide16).again 1 rest (omega a
 
 -- ---- the image
 
-image_take : (len : ℕ) (bytes : List ℕ) (x : Image × List ℕ) → IsBytes bytes → image_at len bytes ≡ Ok x → Takes bytes (spelling x.0) x.1 × HasSpelling x.0
+image_take : (len : ℕ) (bytes : List ℕ) (x : Image × List ℕ) → IsBytes bytes → image_at len bytes ≡ Ok x → Takes bytes (spelling x.0) x.1 × FitsFields x.0
 unfolding image_at
 image_take len bytes x fits e =
     let a = bind_ok (magic_at len bytes) (λ magic. version_at len magic.1 >>= λ version. parts_at len version.1) x e in
@@ -264,7 +264,7 @@ image_front : (len : ℕ) (rest : List ℕ) → image_at len (start ++ rest) ≡
 unfolding image_at
 image_front len rest = rw (append_assoc magic (number w16 1) rest, magic_front len (number w16 1 ++ rest), version_front len rest) refl
 
-image_again : (len : ℕ) (image : Image) (rest : List ℕ) → HasSpelling image → image_at len (spelling image ++ rest) ≡ Ok (image, rest)
+image_again : (len : ℕ) (image : Image) (rest : List ℕ) → FitsFields image → image_at len (spelling image ++ rest) ≡ Ok (image, rest)
 image_again len image rest fits =
     let regrouped : spelling image ++ rest ≡ start ++ (body_header image ++ (flat_map inst image.code ++ rest)) = ap (λ (s : List ℕ). s ++ rest) (spelling_is image) ∙ simp append_assoc in
     ap (image_at len) regrouped ∙ image_front len (body_header image ++ (flat_map inst image.code ++ rest)) ∙ parts_front len image (flat_map inst image.code ++ rest) fits
@@ -272,16 +272,16 @@ image_again len image rest fits =
 
 -- ---- all of the bytes
 
-pub layout_take : (bytes : List ℕ) (image : Image) → IsBytes bytes → layout_of bytes ≡ Ok image → (bytes ≡ spelling image) × HasSpelling image
+pub layout_take : (bytes : List ℕ) (image : Image) → IsBytes bytes → layout_of bytes ≡ Ok image → (bytes ≡ spelling image) × FitsFields image
 unfolding layout_of
 layout_take bytes image fits e =
     let a = bind_ok (image_at (length bytes) bytes) (λ y. cond (eqb (length y.1) 0) (Ok y.0) (Err (Extra (length bytes - length y.1)))) image e in
     let g = guard_ended (eqb (length a.0.1) 0) (Extra (length bytes - length a.0.1)) a.0.0 image a.2 in
     let t = image_take (length bytes) bytes a.0 fits a.1 in
     let none : a.0.1 ≡ [] = nil_from_length a.0.1 (eqb-true (length a.0.1) 0 g.0) in
-    subst (λ (i : Image). (bytes ≡ spelling i) × HasSpelling i) g.1 (t.0.parts ∙ ap (λ (r : List ℕ). spelling a.0.0 ++ r) none ∙ append-nil (spelling a.0.0), t.1)
+    subst (λ (i : Image). (bytes ≡ spelling i) × FitsFields i) g.1 (t.0.parts ∙ ap (λ (r : List ℕ). spelling a.0.0 ++ r) none ∙ append-nil (spelling a.0.0), t.1)
 
-pub layout_again : (image : Image) → HasSpelling image → layout_of (spelling image) ≡ Ok image
+pub layout_again : (image : Image) → FitsFields image → layout_of (spelling image) ≡ Ok image
 unfolding layout_of
 layout_again image fits =
     let read : image_at (length (spelling image)) (spelling image) ≡ Ok (image, []) = ap (image_at (length (spelling image))) (sym (append-nil (spelling image))) ∙ image_again (length (spelling image)) image [] fits in
@@ -355,7 +355,7 @@ parts_cause bytes after e is s =
     is ∙ ap (λ (b : List ℕ). start ++ b) s.is ∙ regroup start (body_header s.image) read s.rest ∙ ap (λ (h : List ℕ). (h ++ read) ++ s.rest) (sym (header_is s.image)) in
     let place : length bytes - length s.rest ≡ length (header s.image ++ read) = omega (arith, length-append (header s.image ++ read) s.rest, ap length all) in
     subst (Cause bytes) (sym (n.fault ∙ ap BadInst place))
-    (record { image = s.image; spelled = s.spelled; before = s.before; more = s.more; byte = n.byte; rest = n.rest; is = all ∙ ap (λ (b : List ℕ). (header s.image ++ read) ++ b) n.is; none = n.none; place = refl })
+    (record { image = s.image; fits = s.fits; before = s.before; more = s.more; byte = n.byte; rest = n.rest; is = all ∙ ap (λ (b : List ℕ). (header s.image ++ read) ++ b) n.is; none = n.none; place = refl })
   where
     regroup : (a b c d : List ℕ) → a ++ ((b ++ c) ++ d) ≡ ((a ++ b) ++ c) ++ d
     regroup a b c d = simp append_assoc
@@ -389,7 +389,7 @@ layout_cause bytes e fits h =
           let g = guard_stopped (eqb (length a.0.1) 0) (Extra (length bytes - length a.0.1)) a.0.0 e a.2 in
           let place : length bytes - length a.0.1 ≡ length (spelling a.0.0) = omega (arith, length-append (spelling a.0.0) a.0.1, ap length t.0.parts) in
           subst (Cause bytes) (sym (g.1 ∙ ap Extra place))
-          (record { image = a.0.0; spelled = t.1; rest = a.0.1; is = t.0.parts; some = λ none. eqb-false (length a.0.1) 0 g.0 (ap length none); place = refl })
+          (record { image = a.0.0; fits = t.1; rest = a.0.1; is = t.0.parts; some = λ none. eqb-false (length a.0.1) 0 g.0 (ap length none); place = refl })
     ]
 
 -- ---- each fault is the one that is met
@@ -468,13 +468,13 @@ known_inst bytes at f = from_image bytes (BadInst at) (parts ∙ stops)
     is = f.is ∙ ap (λ (h : List ℕ). (h ++ flat_map inst read) ++ tail) (header_is f.image) ∙ regroup start (body_header f.image) (flat_map inst read) tail
 
     parts : image_at (length bytes) bytes ≡ from_code f.image.cells f.image.sets f.image.ops (items_at (inst_at (length bytes)) (length f.image.code) (flat_map inst read ++ tail))
-    parts = ap (image_at (length bytes)) is ∙ image_front (length bytes) (body_header f.image ++ (flat_map inst read ++ tail)) ∙ parts_front (length bytes) f.image (flat_map inst read ++ tail) f.spelled
+    parts = ap (image_at (length bytes)) is ∙ image_front (length bytes) (body_header f.image ++ (flat_map inst read ++ tail)) ∙ parts_front (length bytes) f.image (flat_map inst read ++ tail) f.fits
 
     place : length bytes - length tail ≡ at
     place = let h = f.place in omega (arith, length-append (header f.image ++ flat_map inst read) tail, ap length f.is)
 
     fits : All FitsInst read
-    fits = All-take FitsInst f.before f.image.code f.spelled.insts
+    fits = All-take FitsInst f.before f.image.code f.fits.insts
 
     fewer : length read < length f.image.code
     fewer = let h = f.more in omega (arith, length-take f.before f.image.code)
@@ -483,7 +483,7 @@ known_inst bytes at f = from_image bytes (BadInst at) (parts ∙ stops)
     stops = rw (items_stop (length bytes) (length f.image.code) read tail (BadInst (length bytes - length tail)) fits fewer (inst_unread (length bytes) f.byte f.rest f.none), place) refl
 
 -- the spelling of an image at the front is read, or more bytes follow it
-known_front : (bytes : List ℕ) (image : Image) (rest : List ℕ) (e : LoadFault) → HasSpelling image → bytes ≡ spelling image ++ rest → layout_of bytes ≡ Err e → e ≡ Extra (length bytes - length rest)
+known_front : (bytes : List ℕ) (image : Image) (rest : List ℕ) (e : LoadFault) → FitsFields image → bytes ≡ spelling image ++ rest → layout_of bytes ≡ Err e → e ≡ Extra (length bytes - length rest)
 unfolding layout_of
 known_front bytes image rest e fits is h =
     let read : image_at (length bytes) bytes ≡ Ok (image, rest) = ap (image_at (length bytes)) is ∙ image_again (length bytes) image rest fits in
@@ -505,7 +505,7 @@ short_fault bytes at fits place h = record {
   magic = λ f. let k = known_magic bytes fits f in cc;
   version = λ n f. let k = known_version bytes n f in cc;
   insts = λ n f. let k = known_inst bytes n f in cc;
-  whole = λ image rest spelled is. let k = known_front bytes image rest (Short at) spelled is h in cc;
+  whole = λ image rest full is. let k = known_front bytes image rest (Short at) full is h in cc;
 }
 
 pub layout_fault : (bytes : List ℕ) (e : LoadFault) → IsBytes bytes → layout_of bytes ≡ Err e → IsLayoutFault bytes e
@@ -522,7 +522,7 @@ layout_fault bytes faults.Memory fits h = layout_cause bytes faults.Memory fits 
 pub known_extra : (bytes : List ℕ) (at : ℕ) → IsExtraFault bytes at → layout_of bytes ≡ Err (Extra at)
 unfolding layout_of
 known_extra bytes at f =
-    let read : image_at (length bytes) bytes ≡ Ok (f.image, f.rest) = ap (image_at (length bytes)) f.is ∙ image_again (length bytes) f.image f.rest f.spelled in
+    let read : image_at (length bytes) bytes ≡ Ok (f.image, f.rest) = ap (image_at (length bytes)) f.is ∙ image_again (length bytes) f.image f.rest f.fits in
     let more : eqb (length f.rest) 0 ≡ false = differ (length f.rest) 0 (λ e. f.some (nil_from_length f.rest e)) in
     let p = f.place in
     let place : length bytes - length f.rest ≡ at = omega (arith, length-append (spelling f.image) f.rest, ap length f.is, p) in

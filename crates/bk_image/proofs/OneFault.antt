@@ -23,13 +23,14 @@ use Rattle.bk_image.proofs.Layouts.{layout_take, layout_again, layout_cause, kno
 use Rattle.bk_image.proofs.FaultLists.{later_place}
 use Rattle.bk_image.proofs.Judged.{inst_judges}
 use Rattle.bk_image.proofs.FirstNumber.{no_number_fault, ops_within}
+use Rattle.bk_image.proofs.Sizes.{ops_end}
 use Rattle.bk_image.proofs.Verdicts.{image_is, bytes_fit, number_kind}
 
 -- ---- what a fault says of the layout
 
 -- what is at fault once the layout stands
 abbrev Later : Image → LoadFault → Type 0
-Later image e = IsFirst (IsNumberFault image) e ⊎ ((at : ℕ) × (e ≡ Stack at) × IsNumbered image × IsFirstStackFault image at)
+Later image e = IsFirst (IsNumberFault image) e ⊎ ((at : ℕ) × (e ≡ Stack at) × (IsNumbered image × (length image.sets ≤ 65534)) × IsFirstStackFault image at)
 
 abbrev Says : List ℕ → LoadFault → Type 0
 Says bytes e = (layout_of bytes ≡ Err e) ⊎ ((image : Image) × (layout_of bytes ≡ Ok image) × Later image e) ⊎ (e ≡ faults.Memory)
@@ -42,7 +43,7 @@ short_read bytes at fits f = by_read (layout_of bytes) refl
     by_fault Magic h = absurd (f.magic (layout_cause bytes Magic fits h))
     by_fault (Version n) h = absurd (f.version n (layout_cause bytes (Version n) fits h))
     by_fault (BadInst n) h = absurd (f.insts n (layout_cause bytes (BadInst n) fits h))
-    by_fault (Extra n) h = let x = layout_cause bytes (Extra n) fits h in absurd (f.whole x.image x.rest x.spelled x.is)
+    by_fault (Extra n) h = let x = layout_cause bytes (Extra n) fits h in absurd (f.whole x.image x.rest x.fits x.is)
     by_fault (BadJump n) h = absurd (layout_cause bytes (BadJump n) fits h)
     by_fault (BadSlot n) h = absurd (layout_cause bytes (BadSlot n) fits h)
     by_fault (Stack n) h = absurd (layout_cause bytes (Stack n) fits h)
@@ -53,7 +54,7 @@ short_read bytes at fits f = by_read (layout_of bytes) refl
     by_read (Err e) h = by_fault e h
 
 says_number : (bytes : List ℕ) (e : LoadFault) → IsFirstNumberFault bytes e → Says bytes e
-says_number bytes e f = inr (inl (f.image, ap layout_of f.is ∙ layout_again f.image f.spelled, inl f.first))
+says_number bytes e f = inr (inl (f.image, ap layout_of f.is ∙ layout_again f.image f.fits, inl f.first))
 
 says : (bytes : List ℕ) (e : LoadFault) → IsBytes bytes → IsFault bytes e → Says bytes e
 says bytes (Short at) fits f = inl (short_read bytes at fits f)
@@ -63,7 +64,7 @@ says bytes (BadInst at) fits f = inl (known_inst bytes at f)
 says bytes (Extra at) fits f = inl (known_extra bytes at f)
 says bytes (BadJump at) fits f = says_number bytes (BadJump at) f
 says bytes (BadSlot at) fits f = says_number bytes (BadSlot at) f
-says bytes (Stack at) fits f = inr (inl (f.image, ap layout_of f.is ∙ layout_again f.image f.spelled, inr (at, refl, f.numbered, f.first)))
+says bytes (Stack at) fits f = inr (inl (f.image, ap layout_of f.is ∙ layout_again f.image f.spelled.fits, inr (at, refl, (f.numbered, f.spelled.few_sets), f.first)))
 says bytes faults.Memory fits f = inr (inr refl)
 
 -- ---- a slot and a jump are at fault at different bytes
@@ -117,17 +118,19 @@ entry_jump image k at op p (inr (inr f)) = parameters_jump image (at + length (t
 -- a jump at fault stands where an instruction begins, or at the number of instructions
 jump_place : (image : Image) (p : ℕ) → IsNumberFault image (BadJump p) → (p ≡ count_place image) ⊎ ((k : ℕ) × (i : Inst) × (slice_get image.code k ≡ Some i) × (p ≡ place_of inst (count_place image + 4) image.code k))
 jump_place image p (inl f) = let e = f.0 in absurd cc
-jump_place image p (inr (inl (k, op, get, f))) = absurd (entry_jump image k (place_of entry (ops_place image) image.ops k) op p f)
-jump_place image p (inr (inr (inl f))) = inl (ap place f.0)
-jump_place image p (inr (inr (inr (k, i, get, f)))) = inr (k, i, get, inst_jump image k (place_of inst (count_place image + 4) image.code k) i p f)
+jump_place image p (inr (inl f)) = let e = f.0 in absurd cc
+jump_place image p (inr (inr (inl (k, op, get, f)))) = absurd (entry_jump image k (place_of entry (ops_place image) image.ops k) op p f)
+jump_place image p (inr (inr (inr (inl f)))) = inl (ap place f.0)
+jump_place image p (inr (inr (inr (inr (k, i, get, f))))) = inr (k, i, get, inst_jump image k (place_of inst (count_place image + 4) image.code k) i p f)
 
 -- a slot at fault stands before the number of instructions, or within an instruction
 slot_place : (image : Image) (p : ℕ) → IsNumberFault image (BadSlot p) → (p < count_place image)
     ⊎ ((k : ℕ) × (i : Inst) × (slice_get image.code k ≡ Some i) × (place_of inst (count_place image + 4) image.code k < p) × (p < place_of inst (count_place image + 4) image.code k + length (inst i)))
 slot_place image p (inl f) = let e = ap place f.0 in inl (omega (arith, e))
-slot_place image p (inr (inl f)) = inl (ops_within image (BadSlot p) f).1
-slot_place image p (inr (inr (inl f))) = let e = f.0 in absurd cc
-slot_place image p (inr (inr (inr (k, i, get, f)))) =
+slot_place image p (inr (inl f)) = let e = ap place f.0 in inl (omega (arith, e, ops_end image))
+slot_place image p (inr (inr (inl f))) = inl (ops_within image (BadSlot p) f).1
+slot_place image p (inr (inr (inr (inl f)))) = let e = f.0 in absurd cc
+slot_place image p (inr (inr (inr (inr (k, i, get, f))))) =
     let at = place_of inst (count_place image + 4) image.code k in
     inr (k, i, get, inst_slot image k at i p f, ((inst_judges image).within k at i (BadSlot p) f).1)
 
@@ -188,8 +191,8 @@ stacks_agree image a b p q =
 
 later_agree : (image : Image) (e f : LoadFault) → Later image e → Later image f → e ≡ f
 later_agree image e f (inl p) (inl q) = numbers_agree image e f p q
-later_agree image e f (inl p) (inr (b, is, numbered, q)) = absurd (no_number_fault image e numbered p.is)
-later_agree image e f (inr (a, is, numbered, p)) (inl q) = absurd (no_number_fault image f numbered q.is)
+later_agree image e f (inl p) (inr (b, is, numbered, q)) = absurd (no_number_fault image e numbered.0 numbered.1 p.is)
+later_agree image e f (inr (a, is, numbered, p)) (inl q) = absurd (no_number_fault image f numbered.0 numbered.1 q.is)
 later_agree image e f (inr (a, x, numbered, p)) (inr (b, y, also, q)) = x ∙ ap (λ k. Stack k) (stacks_agree image a b p q) ∙ sym y
 
 agree : (bytes : List ℕ) (e f : LoadFault) → Says bytes e → Says bytes f → e ≢ faults.Memory → f ≢ faults.Memory → e ≡ f

@@ -11,7 +11,7 @@ use Rattle.bk_code.specs.declared.instruction.Inst.TheVariants.{Push, Load, Stor
 use Rattle.bk_image.specs.declared.fault.LoadFault.{LoadFault}
 use Rattle.bk_image.specs.declared.fault.LoadFault.TheVariants.{Short, Magic, Version, BadInst, BadJump, BadSlot, Stack, Extra}
 use Rattle.bk_image.specs.declared.fault.LoadFault.TheVariants as faults
-use Rattle.bk_image.specs.Spelling.{spelling, HasSpelling, text, parameters}
+use Rattle.bk_image.specs.Spelling.{spelling, FitsFields, text, parameters}
 use Rattle.bk_image.specs.Reading.{layout_of, Fails}
 use Rattle.bk_image.specs.Faults.{IsFirst, IsParametersFault, IsEntryFault, IsArrayFault, IsOperandFault, IsNumberFault}
 use Rattle.bk_image.specs.Stack.{IsFirstStackFault}
@@ -28,8 +28,11 @@ read_as image = Ok image
 pub image_is : (a b : Image) → read_as a ≡ read_as b → a ≡ b
 image_is a b e = cc
 
+pub one_layout : (a b : Image) → FitsFields a → FitsFields b → spelling a ≡ spelling b → a ≡ b
+one_layout a b p q e = image_is a b (sym (layout_again a p) ∙ ap layout_of e ∙ layout_again b q)
+
 pub one_image : HasOneImage
-one_image a b p q e = image_is a b (sym (layout_again a p) ∙ ap layout_of e ∙ layout_again b q)
+one_image a b p q e = one_layout a b p.fits q.fits e
 
 pub encodes_one : EncodesOne
 encodes_one bytes a b p q = one_image a b p.spelled q.spelled (sym p.is ∙ q.is)
@@ -43,13 +46,13 @@ bytes_fit bytes h i =
 
 reads_on : (bytes : List ℕ) (image : Image) (e : LoadFault) → Encodes bytes image → layout_of bytes ≡ Err e → ⊥
 reads_on bytes image e h failed =
-    let read : layout_of bytes ≡ Ok image = ap layout_of h.is ∙ layout_again image h.spelled in
+    let read : layout_of bytes ≡ Ok image = ap layout_of h.is ∙ layout_again image h.spelled.fits in
     cc
 
 number_wrong : (bytes : List ℕ) (image : Image) (e : LoadFault) → Encodes bytes image → IsFirstNumberFault bytes e → ⊥
 number_wrong bytes image e h f =
-    let same : f.image ≡ image = one_image f.image image f.spelled h.spelled (sym f.is ∙ h.is) in
-    no_number_fault image e h.loadable.numbered (subst (λ i. IsNumberFault i e) same f.first.is)
+    let same : f.image ≡ image = one_layout f.image image f.fits h.spelled.fits (sym f.is ∙ h.is) in
+    no_number_fault image e h.loadable.numbered h.spelled.few_sets (subst (λ i. IsNumberFault i e) same f.first.is)
 
 stack_wrong : (bytes : List ℕ) (image : Image) (at : ℕ) → Encodes bytes image → IsFirstDepthFault bytes at → ⊥
 stack_wrong bytes image at h f =
@@ -58,7 +61,7 @@ stack_wrong bytes image at h f =
     no_stack_fault image first.inst h.loadable first.is
 
 no_fault : (bytes : List ℕ) (image : Image) (e : LoadFault) → IsBytes bytes → Encodes bytes image → IsFault bytes e → e ≡ faults.Memory
-no_fault bytes image (Short at) fits h f = absurd (f.whole image [] h.spelled (h.is ∙ sym (append-nil (spelling image))))
+no_fault bytes image (Short at) fits h f = absurd (f.whole image [] h.spelled.fits (h.is ∙ sym (append-nil (spelling image))))
 no_fault bytes image Magic fits h f = absurd (reads_on bytes image Magic h (known_magic bytes fits f))
 no_fault bytes image (Version n) fits h f = absurd (reads_on bytes image (Version n) h (known_version bytes n f))
 no_fault bytes image (BadInst at) fits h f = absurd (reads_on bytes image (BadInst at) h (known_inst bytes at f))
@@ -108,15 +111,16 @@ operand_kind image k at _ e f = absurd f
 
 pub number_kind : (image : Image) (e : LoadFault) → IsNumberFault image e → Kind e
 number_kind image e (inl f) = (6, inl f.0)
-number_kind image e (inr (inl (k, op, get, f))) = entry_kind image k _ op e f
-number_kind image e (inr (inr (inl f))) = (_, inr f.0)
-number_kind image e (inr (inr (inr (k, i, get, inl f)))) = operand_kind image k _ i e f
-number_kind image e (inr (inr (inr (k, i, get, inr f)))) = (_, inr f.0)
+number_kind image e (inr (inl f)) = (10, inl f.0)
+number_kind image e (inr (inr (inl (k, op, get, f)))) = entry_kind image k _ op e f
+number_kind image e (inr (inr (inr (inl f)))) = (_, inr f.0)
+number_kind image e (inr (inr (inr (inr (k, i, get, inl f))))) = operand_kind image k _ i e f
+number_kind image e (inr (inr (inr (inr (k, i, get, inr f))))) = (_, inr f.0)
 
 -- the first fault of the numbers is one of the bytes
-pub number_fault_of : (bytes : List ℕ) (image : Image) (e : LoadFault) → HasSpelling image → bytes ≡ spelling image → IsFirst (IsNumberFault image) e → IsFault bytes e
-number_fault_of bytes image e spelled is first =
-    let f : IsFirstNumberFault bytes e = record { image = image; spelled = spelled; is = is; first = first } in
+pub number_fault_of : (bytes : List ℕ) (image : Image) (e : LoadFault) → FitsFields image → bytes ≡ spelling image → IsFirst (IsNumberFault image) e → IsFault bytes e
+number_fault_of bytes image e fits is first =
+    let f : IsFirstNumberFault bytes e = record { image = image; fits = fits; is = is; first = first } in
     let kind = number_kind image e first.is in
     elim kind.1 [
       | inl slot ↦ subst (IsFault bytes) (sym slot) (subst (IsFirstNumberFault bytes) slot f)

@@ -5,7 +5,7 @@ use Rattle.bk_code.specs.Checks.{IsNumbered, IsLoadable}
 use Rattle.bk_image.specs.declared.fault.LoadFault.{LoadFault}
 use Rattle.bk_image.specs.declared.fault.LoadFault.TheVariants.{Short, Magic, Version, BadInst, BadJump, BadSlot, Stack, Extra}
 use Rattle.bk_image.specs.declared.fault.LoadFault.TheVariants as faults
-use Rattle.bk_image.specs.Spelling.{HasSpelling, spelling}
+use Rattle.bk_image.specs.Spelling.{FitsFields, HasSpelling, spelling}
 use Rattle.bk_image.specs.Faults.{IsMagicFault, IsVersionFault, IsInstFault, IsExtraFault, IsShortFault, IsFirst, IsNumberFault}
 use Rattle.bk_image.specs.Stack.{IsFirstStackFault}
 
@@ -15,10 +15,10 @@ pub record Encodes (bytes : List ℕ) (image : Image) : Type 0 where
   pub spelled : HasSpelling image
   pub is : bytes ≡ spelling image
 
--- all of the bytes are the spelling of an image, and this is the first fault of its numbers
+-- all of the bytes are laid out as an image, and this is the first fault of its numbers
 pub record IsFirstNumberFault (bytes : List ℕ) (e : LoadFault) : Type 0 where
   pub image : Image
-  pub spelled : HasSpelling image
+  pub fits : FitsFields image
   pub is : bytes ≡ spelling image
   pub first : IsFirst (IsNumberFault image) e
 

@@ -11,7 +11,7 @@ use Rattle.bk_code.specs.Numbers.{int_max, IsWithin}
 use Rattle.bk_code.specs.Checks.{IsKind, IsTarget, IsLeaving}
 use Rattle.bk_image.specs.declared.fault.LoadFault.{LoadFault}
 use Rattle.bk_image.specs.declared.fault.LoadFault.TheVariants.{Short, Magic, Version, BadInst, BadJump, BadSlot, Stack, Extra}
-use Rattle.bk_image.specs.Spelling.{number, text, parameter, parameters, entry, sets, entries, opcode, inst, magic, header, spelling, HasSpelling}
+use Rattle.bk_image.specs.Spelling.{number, text, parameter, parameters, entry, sets, entries, opcode, inst, magic, header, spelling, FitsFields}
 
 -- ---- the layout, in the order of reading
 
@@ -34,7 +34,7 @@ IsOpcode byte = (i : Inst) × (opcode i ≡ byte)
 -- the bytes are those of an image up to the place of one of its instructions, and there stands a byte that begins none
 pub record IsInstFault (bytes : List ℕ) (at : ℕ) : Type 0 where
   pub image : Image
-  pub spelled : HasSpelling image
+  pub fits : FitsFields image
   pub before : ℕ
   pub more : before < length image.code
   pub byte : ℕ
@@ -43,22 +43,23 @@ pub record IsInstFault (bytes : List ℕ) (at : ℕ) : Type 0 where
   pub none : IsOpcode byte → ⊥
   pub place : at ≡ length (header image ++ flat_map inst (take before image.code))
 
--- the spelling of an image ends at the place, and more bytes follow
+-- an image ends at the place, and more bytes follow
 pub record IsExtraFault (bytes : List ℕ) (at : ℕ) : Type 0 where
   pub image : Image
-  pub spelled : HasSpelling image
+  pub fits : FitsFields image
   pub rest : List ℕ
   pub is : bytes ≡ spelling image ++ rest
   pub some : rest ≢ []
   pub place : at ≡ length (spelling image)
 
--- the bytes end too early: nothing that stands there is at fault, and no image's spelling stands there whole
+-- the bytes end too early: before the image whose layout they begin is whole, and nothing before their end is at fault.
+-- It is said by what they don't have: none of the layout's other faults, and no whole image that they are or begin with
 pub record IsShortFault (bytes : List ℕ) (at : ℕ) : Type 0 where
   pub place : at ≡ length bytes
   pub magic : IsMagicFault bytes → ⊥
   pub version : (n : ℕ) → IsVersionFault bytes n → ⊥
   pub insts : (n : ℕ) → IsInstFault bytes n → ⊥
-  pub whole : (image : Image) (rest : List ℕ) → HasSpelling image → bytes ≡ spelling image ++ rest → ⊥
+  pub whole : (image : Image) (rest : List ℕ) → FitsFields image → bytes ≡ spelling image ++ rest → ⊥
 
 -- ---- the numbers
 -- the place where a fault stands
@@ -136,9 +137,10 @@ ops_place image = 10 + length (sets image.sets) + 2
 abbrev pub count_place : Image → ℕ
 count_place image = 10 + length (sets image.sets) + length (entries image.ops)
 
--- the faults of the numbers: too many cells, one of an operation, no instruction, or one of an instruction
+-- the faults of the numbers: too many cells, too many sets, one of an operation, no instruction, or one of an instruction
 abbrev pub IsNumberFault : Image → LoadFault → Type 0
 IsNumberFault image e =
-    ((e ≡ BadSlot 6) × (1000000 < image.cells)) ⊎ IsFaultIn entry (IsEntryFault image) (ops_place image) image.ops e
+    ((e ≡ BadSlot 6) × (1000000 < image.cells)) ⊎ ((e ≡ BadSlot 10) × (65534 < length image.sets))
+    ⊎ IsFaultIn entry (IsEntryFault image) (ops_place image) image.ops e
     ⊎ ((e ≡ BadJump (count_place image)) × (length image.code ≡ 0))
     ⊎ IsFaultIn inst (IsOneInstFault image) (count_place image + 4) image.code e

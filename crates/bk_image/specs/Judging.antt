@@ -1,3 +1,4 @@
+-- Only the contracts of private functions name what stands here.
 -- The first instruction with a wrong depth.
 use Rattle.std.specs.Prelude.{◌≡◌, ℕ, List, Some, slice_get}
 use Rattle.bk_code.specs.declared.image.Image.{Image}

@@ -1,3 +1,4 @@
+-- Only the contracts of private functions name what stands here.
 -- How the depths are found: what is known of them so far, and the places from which control still has to be followed.
 use Rattle.std.specs.Prelude.{Bool, true, false, ◌≡◌, ◌≢◌, ℕ, zero, suc, ◌+◌, ◌-◌, ◌*◌, ◌<◌, ◌≤◌, ◌⊎◌, ℤ, pos, unsigned_abs, ◌+ℤ◌, ◌≤ℤ◌, List, [], ◌∷◌, ◌++◌, length, All, Contains, Option, Some, None, slice_get, slice_set, slice_index_or, sum_by, if◌then◌else◌}
 use Rattle.std.specs.Ordering.{int_eq}

@@ -1,3 +1,4 @@
+-- Only the contracts of private functions name what stands here.
 -- Reading from left to right, with the first fault that is met: how the layout is read, step by step. What the loader
 -- answers is stated by the spelling and by the faults, not by these.
 use Rattle.std.specs.Prelude.{◌≡◌, ℕ, zero, suc, ◌-◌, List, [], ◌∷◌, length, take, drop, ℤ, Option, Some, None, Result, Ok, Err, nat_lt, ◌==◌, if◌then◌else◌}

@@ -1,3 +1,4 @@
+-- Only the contracts of private functions name what stands here.
 -- Instructions whose numbers are right.
 use Rattle.std.specs.Prelude.{◌≡◌, ℕ, ◌+◌, ◌<◌, List, length, slice_index_or}
 use Rattle.bk_code.specs.declared.image.Image.{Image}

@@ -1,5 +1,5 @@
 -- The one spelling of an image. All numbers have their highest byte first.
-use Rattle.std.specs.Prelude.{ℕ, ◌+◌, ◌<◌, ◌^◌, ℤ, List, [], ◌∷◌, ◌++◌, length, All, FitsSigned}
+use Rattle.std.specs.Prelude.{ℕ, ◌+◌, ◌<◌, ◌≤◌, ◌^◌, ℤ, List, [], ◌∷◌, ◌++◌, length, All, FitsSigned}
 use Rattle.std.specs.List.{flat_map}
 use Rattle.std.specs.Int.{Width, w16, w32, w64, to_be_bytes, cast_unsigned}
 use Rattle.bk_code.specs.declared.image.Image.{Image}
@@ -102,7 +102,8 @@ header image =
 unfoldable pub spelling : Image → List ℕ
 spelling image = header image ++ flat_map inst image.code
 
--- ---- what has a spelling: each number fits its field
+-- ---- what has a spelling
+-- a number of items fits its field
 abbrev pub IsCountable : {A : Type 0} → List A → Type 0
 IsCountable items = length items < 2 ^ 16
 
@@ -139,7 +140,8 @@ FitsInst (Jump distance) = FitsSigned w32 distance
 FitsInst (JumpZero distance) = FitsSigned w32 distance
 FitsInst _ = Unit {0}
 
-pub record HasSpelling (image : Image) : Type 0 where
+-- each number of the image fits its field
+pub record FitsFields (image : Image) : Type 0 where
   pub cells : image.cells < 2 ^ 32
   pub few_sets : IsCountable image.sets
   pub sets : All FitsSet image.sets
@@ -147,3 +149,8 @@ pub record HasSpelling (image : Image) : Type 0 where
   pub ops : All FitsEntry image.ops
   pub few_insts : length image.code < 2 ^ 32
   pub insts : All FitsInst image.code
+
+-- and there are at most 65,534 sets
+pub record HasSpelling (image : Image) : Type 0 where
+  pub fits : FitsFields image
+  pub few_sets : length image.sets ≤ 65534

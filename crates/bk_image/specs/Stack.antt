@@ -19,13 +19,14 @@ HasDepth image (suc n) to d =
     (at : ℕ) × (before : ℤ) × (i : Inst) × HasDepth image n at before × (slice_get image.code at ≡ Some i) × FlowsTo i at to
     × (d ≡ depth_after i before)
 
--- with this depth the instruction pops below 0, the stack is too deep, or it isn't empty at the end
+-- with this depth the instruction pops below 0, the stack is too deep, or it isn't empty at the end; an instruction that
+-- pops nothing is at no fault below 0
 abbrev pub BreaksRules : Inst → ℤ → Type 0
-BreaksRules i d = (d <ℤ pos (pops i)) ⊎ (pos 1000 <ℤ d) ⊎ ((i ≡ Ret) × (d ≢ pos 0))
+BreaksRules i d = ((0 < pops i) × (d <ℤ pos (pops i))) ⊎ (pos 1000 <ℤ d) ⊎ ((i ≡ Ret) × (d ≢ pos 0))
 
 -- with this depth it breaks none
 pub record IsAllowed (i : Inst) (d : ℤ) : Type 0 where
-  pub enough : pos (pops i) ≤ℤ d
+  pub enough : 0 < pops i → pos (pops i) ≤ℤ d
   pub limit : d ≤ℤ pos 1000
   pub empty : i ≡ Ret → d ≡ pos 0
 

@@ -311,7 +311,11 @@ fn settled(alloc: Global, image: &Image) -> Result<Depths, Memory>
 fn is_allowed(inst: Inst, depth: i64) -> bool
     ensures { MatchBool result (stack.IsAllowed inst depth) (stack.BreaksRules inst depth) }
 {
-    if depth < i64::from(pops(inst)) || depth > 1000 {
+    let popped = i64::from(pops(inst));
+    if popped > 0 && depth < popped {
+        return false;
+    }
+    if depth > 1000 {
         return false;
     }
     match inst {

@@ -21,7 +21,8 @@ pub enum LoadFault {
     /// The byte stands where an instruction begins, and begins none.
     #[error("BadInst at {0}")]
     BadInst(usize),
-    /// The jump has no target, or the code doesn't end with a Jump or a Ret.
+    /// The jump has no target, or the code doesn't end with a Jump or a Ret; an image without instructions has this fault
+    /// at their number.
     #[error("BadJump at {0}")]
     BadJump(usize),
     /// The number is outside its range.

@@ -18,6 +18,9 @@ const MAX: i64 = 2147483647;
 /// The greatest number of cells.
 const CELLS: u32 = 1000000;
 
+/// The greatest number of sets.
+const SETS: usize = 65534;
+
 fn is_in_range(n: i64) -> bool
     ensures { IsTrue result ↔ IsWithin (pos 2147483647) n }
 {
@@ -286,14 +289,24 @@ pub fn code_begin(image: &Image) -> usize
     entries_end(ops_begin(image), image.ops.as_slice()) + 4
 }
 
-/// The first number of an image that is outside its range, for an image that has a spelling.
+fn has_too_many_sets(image: &Image) -> bool
+    ensures { MatchBool result (65534 < length image.now.sets) (length image.now.sets ≤ 65534) }
+{
+    image.sets.as_slice().len() > SETS
+}
+
+/// The first number of an image that is outside its range.
 pub fn number_fault(image: &Image) -> Option<LoadFault>
     requires few { length image.now.code < 2 ^ 32 }
     requires room { length (spell.spelling image.now) < 2 ^ 64 }
-    ensures { MatchOption result (checks.IsNumbered image.now) (λ e. IsFirst (IsNumberFault image.now) e) }
+    ensures { MatchOption result (checks.IsNumbered image.now × (length image.now.sets ≤ 65534))
+        (λ e. IsFirst (IsNumberFault image.now) e) }
 {
     if image.cells > CELLS {
         return Some(LoadFault::BadSlot(6));
+    }
+    if has_too_many_sets(image) {
+        return Some(LoadFault::BadSlot(10));
     }
     let ops = ops_begin(image);
     if let Some(fault) = entries_fault(image, ops, image.ops.as_slice()) {

@@ -104,6 +104,42 @@ fn too_many_cells(rt: HostRuntime) -> Result<(), Fail> {
     Ok(())
 }
 
+// So many sets without elements, no operation, and the bytes that begin with the number of instructions.
+fn fault_of_empty_sets(
+    alloc: Global,
+    count: u16,
+    code: &[u8],
+) -> Result<Option<LoadFault>, Memory> {
+    let mut bytes = Vec::from_slice(alloc, &HEADER[..10])?;
+    bytes.extend_from_slice(&count.to_be_bytes())?;
+    for _ in 0..count {
+        bytes.extend_from_slice(&[0, 0])?;
+    }
+    bytes.extend_from_slice(&[0, 0])?;
+    bytes.extend_from_slice(code)?;
+    Ok(fault(alloc, &bytes))
+}
+
+#[test]
+fn too_many_sets(rt: HostRuntime) -> Result<(), Fail> {
+    let most = fault_of_empty_sets(rt.alloc(), 65534, &[0, 0, 0, 1, RET])?;
+    assert_eq!(rt; most, None);
+    let one_more = fault_of_empty_sets(rt.alloc(), 65535, &[0, 0, 0, 1, RET])?;
+    assert_eq!(rt; one_more, Some(LoadFault::BadSlot(10)));
+    Ok(())
+}
+
+#[test]
+fn too_many_sets_among_other_faults(rt: HostRuntime) -> Result<(), Fail> {
+    let empty = fault_of_empty_sets(rt.alloc(), 65535, &[0, 0, 0, 0])?;
+    assert_eq!(rt; empty, Some(LoadFault::BadSlot(10)));
+    let other = fault_of_empty_sets(rt.alloc(), 65535, &[0, 0, 0, 1, 0])?;
+    assert_eq!(rt; other, Some(LoadFault::BadInst(131088)));
+    let longer = fault_of_empty_sets(rt.alloc(), 65535, &[0, 0, 0, 1, RET, 0])?;
+    assert_eq!(rt; longer, Some(LoadFault::Extra(131089)));
+    Ok(())
+}
+
 #[test]
 fn one_changed_byte(rt: HostRuntime) -> Result<(), Fail> {
     let cases = [
@@ -185,6 +221,29 @@ fn depths_of_places(rt: HostRuntime) -> Result<(), Fail> {
     // The place reaches itself alone.
     let alone = fault_of_code(rt.alloc(), 2, &[RET, 0x10, 0, 0, 0, 0])?;
     assert_eq!(rt; alone, None);
+    Ok(())
+}
+
+// A Jump to a Store at the place 3, and from behind it a Jump back to the place 1, where a first instruction stands before a
+// Ret.
+fn below_zero(alloc: Global, first: &[u8]) -> Result<Option<LoadFault>, Memory> {
+    let mut code = Vec::from_slice(alloc, &[0x10, 0, 0, 0, 3])?;
+    code.extend_from_slice(first)?;
+    code.extend_from_slice(&[RET, 3, 0, 0, 0, 0, 0x10, 0xFF, 0xFF, 0xFF, 0xFD])?;
+    fault_of_code(alloc, 5, &code)
+}
+
+#[test]
+fn only_a_pop_falls_below_zero(rt: HostRuntime) -> Result<(), Fail> {
+    // The Push stands at a depth of -1 and pops nothing; the Store pops below 0.
+    let push = below_zero(rt.alloc(), &PUSH)?;
+    assert_eq!(rt; push, Some(LoadFault::Stack(33)));
+    // The first Ret stands at a depth of -1, which isn't 0.
+    let ret = below_zero(rt.alloc(), &[RET])?;
+    assert_eq!(rt; ret, Some(LoadFault::Stack(23)));
+    // The Not pops at a depth of -1.
+    let not = below_zero(rt.alloc(), &[0x0F])?;
+    assert_eq!(rt; not, Some(LoadFault::Stack(23)));
     Ok(())
 }
 

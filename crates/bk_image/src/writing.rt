@@ -193,7 +193,7 @@ fn put_code(out: &mut Vec<u8>, code: &[Inst]) -> Result<(), Memory>
 
 #[tactic(auto, unfolding(crate::specs::Spelling::header, crate::specs::Spelling::magic))]
 fn put_header(out: &mut Vec<u8>, image: &Image) -> Result<(), Memory>
-    requires { spell.HasSpelling image.now }
+    requires { spell.FitsFields image.now }
     ensures { OnOk result (out.new.items ≡ out.old.items ++ spell.header image.now) }
 {
     out.extend_from_slice(b"BKIM")?;

@@ -26,12 +26,12 @@ returns-in-Some-clause-fault c =
 pub returns-in-Some-2-clause-fault : goal.returns-in-Some-2-clause-fault
 returns-in-Some-2-clause-fault c =
     let t = layout_take c.args.bytes.now c.in_ok-image.image (λ i. omega (arith, c.type_inv.bytes i)) c.in_ok-image.ensures.read in
-    record { image = c.in_ok-image.image; spelled = t.1; is = t.0; numbered = c.in_default.ensures; first = rw c.in-Some-2.is at c.in_ok-at.ensures }
+    record { image = c.in_ok-image.image; spelled = record { fits = t.1; few_sets = c.in_default.ensures.1 }; is = t.0; numbered = c.in_default.ensures.0; first = rw c.in-Some-2.is at c.in_ok-at.ensures }
 
 pub returns-in-None-clause-found : goal.returns-in-None-clause-found
 returns-in-None-clause-found c =
     let t = layout_take c.args.bytes.now c.in_ok-image.image (λ i. omega (arith, c.type_inv.bytes i)) c.in_ok-image.ensures.read in
-    record { loadable = rw c.in-None.is at c.in_ok-at.ensures; spelled = t.1; is = t.0 }
+    record { loadable = rw c.in-None.is at c.in_ok-at.ensures; spelled = record { fits = t.1; few_sets = c.in_default.ensures.1 }; is = t.0 }
 
 pub stack_fault-requires-clause-room : goal.stack_fault-requires-clause-room
 stack_fault-requires-clause-room c =
