@@ -1,0 +1,13 @@
+mod Examples
+pub mod Neutral
+pub mod Reading
+pub mod Shapes
+pub mod Stopping
+pub mod Combining
+pub mod ExactNames
+pub mod Loops
+pub mod Primaries
+pub mod Exact
+pub mod Sound
+pub mod SoundTerms
+pub mod Longest

@@ -1,0 +1,14 @@
+pub mod WrittenType
+pub mod WrittenTypeView
+pub mod WrittenTypeFalls
+pub mod Operators
+pub mod OperatorCodes
+pub mod RawTree
+pub mod RawCodes
+pub mod RawView
+pub mod RawFalls
+pub mod Pieces
+pub mod Spelling
+pub mod Brackets
+pub mod Bars
+pub mod Laws

@@ -1,0 +1,146 @@
+// The operators and constant words of terms.
+
+/// An operator between two terms.
+#[derive(Clone, Copy, PartialEq, Eq, Debug)]
+pub enum InfixOp {
+    /// `<=>`.
+    Equivalent,
+    /// `=>`.
+    Implies,
+    /// `&`.
+    And,
+    /// `or`.
+    Or,
+    /// `=`.
+    Equal,
+    /// `/=`.
+    NotEqual,
+    /// `<`.
+    Less,
+    /// `<=`.
+    AtMost,
+    /// `>`.
+    Greater,
+    /// `>=`.
+    AtLeast,
+    /// `:`.
+    Member,
+    /// `/:`.
+    NotMember,
+    /// `<:`.
+    Subset,
+    /// `/<:`.
+    NotSubset,
+    /// `<<:`.
+    StrictSubset,
+    /// `<->`.
+    Relations,
+    /// `+->`.
+    PartialFunctions,
+    /// `-->`.
+    TotalFunctions,
+    /// `>+>`.
+    PartialInjections,
+    /// `>->`.
+    TotalInjections,
+    /// `+->>`.
+    PartialSurjections,
+    /// `-->>`.
+    TotalSurjections,
+    /// `>->>`.
+    Bijections,
+    /// `\/`.
+    Union,
+    /// `/\`.
+    Intersection,
+    /// `<|`.
+    DomainRestriction,
+    /// `|>`.
+    RangeRestriction,
+    /// `<<|`.
+    DomainSubtraction,
+    /// `|>>`.
+    RangeSubtraction,
+    /// `<+`.
+    Override,
+    /// `|->`.
+    Maplet,
+    /// `..`.
+    Interval,
+    /// `+`.
+    Plus,
+    /// `-`.
+    Minus,
+    /// `*`.
+    Times,
+    /// `/`.
+    Divide,
+    /// `mod`.
+    Mod,
+    /// `**`.
+    Power,
+}
+
+/// A word that stands before one term in parentheses.
+#[derive(Clone, Copy, PartialEq, Eq, Debug)]
+pub enum WordOp {
+    /// `not`.
+    Not,
+    /// `bool`.
+    BoolOf,
+    /// `card`.
+    Card,
+    /// `min`.
+    Min,
+    /// `max`.
+    Max,
+    /// `dom`.
+    Dom,
+    /// `ran`.
+    Ran,
+    /// `id`.
+    Id,
+    /// `succ`.
+    Succ,
+    /// `pred`.
+    Pred,
+    /// `POW`.
+    Pow,
+    /// `POW1`.
+    Pow1,
+    /// `FIN`.
+    Fin,
+    /// `FIN1`.
+    Fin1,
+}
+
+/// A word that is a term by itself. The last two stand in printed formulas.
+#[derive(Clone, Copy, PartialEq, Eq, Debug)]
+pub enum Constant {
+    /// `BOOL`.
+    Bool,
+    /// `TRUE`.
+    True,
+    /// `FALSE`.
+    False,
+    /// `INTEGER`.
+    Integer,
+    /// `NATURAL`.
+    Natural,
+    /// `NATURAL1`.
+    Natural1,
+    /// `INT`.
+    Int,
+    /// `NAT`.
+    Nat,
+    /// `NAT1`.
+    Nat1,
+    /// `MAXINT`.
+    MaxInt,
+    /// `MININT`.
+    MinInt,
+    /// `btrue`.
+    Btrue,
+    /// `bfalse`.
+    Bfalse,
+}
