@@ -9,7 +9,7 @@ use Rattle.bk_laws_log.specs.Instances.{Instance, instance_at}
 use Rattle.bk_kernel.specs.declared.rule.Place.{Place}
 use Rattle.bk_kernel.specs.declared.rule.Place.TheVariants.{Goal, Hyp as InHyp}
 use Rattle.bk_kernel.specs.declared.rule.Rule.{Rule}
-use Rattle.bk_kernel.specs.declared.rule.Rule.TheVariants.{Hyp, Same, And, Left, Right, Split, Imp, Eq, Qe, Law, Lin}
+use Rattle.bk_kernel.specs.declared.rule.Rule.TheVariants.{Hyp, Same, And, Left, Right, Split, Imp, Eq, Qe, Law, Lin, Unread}
 use Rattle.bk_kernel.specs.Sequents.{Sequent}
 use Rattle.bk_kernel.specs.Rules.{Rewrites, ByRule}
 use Rattle.bk_kernel.specs.RuleLaws.{RulesAreFunctions}
@@ -63,3 +63,4 @@ rules-are-functions s (Law law picks place) news others w v =
     let t = rewriting-of place s (w.0).left (w.0).right (v.0).left (v.0).right w.1 v.1 (ap (λ i. i.left) k) (ap (λ i. i.right) k) w.3 v.3 in
     w.4 ∙ (λ j. map (λ p. (s.0, p)) (k j).sides ++ t j ∷ []) ∙ sym v.4
 rules-are-functions s (Lin facts lines) news others w v = w.3 ∙ sym v.3
+rules-are-functions s Unread news others w v = absurd w

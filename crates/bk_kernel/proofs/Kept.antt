@@ -15,7 +15,7 @@ use Rattle.bk_laws_log.proofs.Rows.{row-of, one-role, no-sides}
 use Rattle.bk_kernel.specs.declared.rule.Place.{Place}
 use Rattle.bk_kernel.specs.declared.rule.Place.TheVariants.{Goal, Hyp as InHyp}
 use Rattle.bk_kernel.specs.declared.rule.Rule.{Rule}
-use Rattle.bk_kernel.specs.declared.rule.Rule.TheVariants.{Hyp, Same, And, Left, Right, Split, Imp, Eq, Qe, Law, Lin}
+use Rattle.bk_kernel.specs.declared.rule.Rule.TheVariants.{Hyp, Same, And, Left, Right, Split, Imp, Eq, Qe, Law, Lin, Unread}
 use Rattle.bk_kernel.specs.Sequents.{Sequent, Each, IsPredicate, Types}
 use Rattle.bk_kernel.specs.Rules.{Rewrites, ByLaw, ByRule}
 use Rattle.bk_kernel.specs.RuleLaws.{RulesKeepTypes}
@@ -107,6 +107,7 @@ module _ (table : Table) where
       one news w.2 w.5 (rewriting-types place s w.1 w.0 w.2 h w.4 (both.left ∙ sym both.right))
   by-rule s (Law law picks place) news h w = by-law s law picks.items place news h w
   by-rule s (Lin facts lines) news h w = none news w.3
+  by-rule s Unread news h w = absurd w
 
 pub rules-keep-types : RulesKeepTypes
 rules-keep-types table s rule news h w = by-rule table s rule news h w

@@ -29,7 +29,7 @@ use Rattle.bk_arith.proofs.Accepted.{accepted_is_valid}
 use Rattle.bk_kernel.specs.declared.rule.Place.{Place}
 use Rattle.bk_kernel.specs.declared.rule.Place.TheVariants.{Goal, Hyp as InHyp}
 use Rattle.bk_kernel.specs.declared.rule.Rule.{Rule}
-use Rattle.bk_kernel.specs.declared.rule.Rule.TheVariants.{Hyp, Same, And, Left, Right, Split, Imp, Eq, Qe, Law, Lin}
+use Rattle.bk_kernel.specs.declared.rule.Rule.TheVariants.{Hyp, Same, And, Left, Right, Split, Imp, Eq, Qe, Law, Lin, Unread}
 use Rattle.bk_kernel.specs.Sequents.{Sequent, Each, IsPredicate, Types, IsValidSequent}
 use Rattle.bk_kernel.specs.Rules.{Rewrites, ByLaw, AreListed, ByArithmetic, ByRule, IsInstance}
 use Rattle.bk_kernel.specs.RuleLaws.{RulesAreSound, DerivedIsValid}
@@ -160,6 +160,7 @@ module _ (table : Table) where
         rewriting-sound place s w.1 w.0 w.2 w.4 (equation-same s i w.0 w.1 types w.3) (one-valid news w.2 w.5 valid)
     rule-sound s (Law law picks place) news types w new_types valid = law-sound s law picks.items place news types w new_types valid
     rule-sound s (Lin facts lines) news types w new_types valid = arithmetic-sound s facts.items lines.items news w
+    rule-sound s Unread news types w new_types valid = absurd w
 
 pub rules-are-sound : RulesAreSound
 rules-are-sound table well s rule news types step valid = rule-sound table well s rule news types step.by_rule step.type valid

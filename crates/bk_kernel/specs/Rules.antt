@@ -10,7 +10,7 @@ use Rattle.bk_arith.specs.Decision.{is_accepted}
 use Rattle.bk_kernel.specs.declared.rule.Place.{Place}
 use Rattle.bk_kernel.specs.declared.rule.Place.TheVariants.{Goal, Hyp as InHyp}
 use Rattle.bk_kernel.specs.declared.rule.Rule.{Rule}
-use Rattle.bk_kernel.specs.declared.rule.Rule.TheVariants.{Hyp, Same, And, Left, Right, Split, Imp, Eq, Qe, Law, Lin}
+use Rattle.bk_kernel.specs.declared.rule.Rule.TheVariants.{Hyp, Same, And, Left, Right, Split, Imp, Eq, Qe, Law, Lin, Unread}
 use Rattle.bk_kernel.specs.Sequents.{Sequent, Each, Types, IsWithin}
 
 -- `old` stands at the place, and t is the sequent with `new` there: a change of the goal is the new goal, a change of a hypothesis is one more hypothesis
@@ -53,6 +53,7 @@ ByRule s (Eq i place) news = ByEquation s i place news
 ByRule s (Qe i place) news = ByReverse s i place news
 ByRule s (Law law picks place) news = ByLaw s law picks.items place news
 ByRule s (Lin facts lines) news = ByArithmetic s facts.items lines.items news
+ByRule s Unread news = ⊥
 
 -- a step: by the table, and all formulas that come of it type and are within the limits
 pub record IsInstance (table : Table) (s : Sequent) (rule : Rule) (news : List Sequent) : Type 0 where

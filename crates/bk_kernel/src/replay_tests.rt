@@ -398,6 +398,17 @@ fn certificates(rt: HostRuntime) -> Result<(), Fail> {
     Ok(())
 }
 
+#[test]
+fn rules_that_are_not_read(rt: HostRuntime) -> Result<(), Fail> {
+    let alloc = rt.alloc();
+    let goal = in_ten(alloc, ABOVE)?;
+    let mut hyps = Vec::new(alloc);
+    hyps.push(in_ten(alloc, ABOVE)?)?;
+    let found = outcome(alloc, hyps, goal, &[Rule::Unread, Rule::Hyp(1)])?;
+    assert_eq!(rt; found, Verdict::BadStep(1));
+    Ok(())
+}
+
 // ---- single steps
 // What comes of the goal `n$0 : 0 .. 10 & n$1 = n$0` under `n$1 : 0 .. 10`.
 fn of_both(alloc: Global, rule: &Rule) -> Result<Vec<Sequent>, StepFault> {

@@ -45,4 +45,6 @@ pub enum Rule {
         facts: Vec<u32>,
         lines: Vec<Line>,
     },
+    /// A rule whose terms are not read, or do not type where they stand: an instance of nothing.
+    Unread,
 }

@@ -56,6 +56,7 @@ fn made(alloc: Global, sequent: &Sequent, rule: &Rule) -> Result<Vec<Sequent>, S
         Rule::Qe(number, place) => by_reverse(alloc, sequent, *number, place),
         Rule::Law { law, picks, place } => by_law(alloc, sequent, *law, picks, place),
         Rule::Lin { facts, lines } => by_arithmetic(alloc, sequent, facts, lines),
+        Rule::Unread => Err(StepFault::NoInstance),
     }
 }
 
