@@ -1,6 +1,13 @@
 pub mod Places
 pub mod Lines
-pub mod Names
+pub mod Words
+pub mod Arguments
+pub mod CallLines
+pub mod Encoding
+pub mod Cuts
+pub mod Holding
+pub mod Kept
+pub mod Requests
 pub mod Operations
 pub mod Scripts
 pub mod Limits

@@ -1,12 +1,15 @@
 -- What holds of scripts and of the longest line of an image.
-use Rattle.std.specs.Prelude.{◌≡◌, ◌↔◌, ◌⊎◌, ℕ, ◌^◌, ◌<◌, ◌≤◌, ℤ, List, length, All, Option, Some, FitsSigned}
+use Rattle.std.specs.Prelude.{◌≡◌, ◌↔◌, ◌⊎◌, false, ℕ, ◌^◌, ◌<◌, ◌≤◌, ℤ, List, length, All, Option, Some, FitsSigned}
 use Rattle.std.specs.Int.{w64}
 use Rattle.bk_code.specs.declared.image.Image.{Image}
 use Rattle.bk_code.specs.Run.{End, Done, Trapped, OutOfFuel}
 use Rattle.bk_code.specs.Session.{Request}
 use Rattle.bk_calls.specs.Transcript.{AreOutputs, reply_text, closing_text}
 use Rattle.bk_calls.specs.Room.{longest_line}
-use Rattle.bk_calls.specs.Script.{IsScript, IsAtFault, IsBadLine, PassesLimit, line_at, most_calls}
+use Rattle.std.specs.Str.{IsUtf8}
+use Rattle.bk_lines.specs.Lines.{is_skipped}
+use Rattle.bk_calls.specs.CallLine.{Argument, IsCallLine}
+use Rattle.bk_calls.specs.Script.{AsksFor, IsScript, Cause, IsAtFault, IsBadLine, PassesLimit, line_at, most_calls}
 
 -- a text is a script of one list of requests at most
 abbrev pub HasOneScript : Type 0
@@ -14,25 +17,42 @@ HasOneScript =
     (image : Image) (text : List ℕ) (requests others : List Request) → IsScript image text requests →
     IsScript image text others → requests ≡ others
 
+-- a line that is a call is a text in UTF-8; so every other line of bytes is no call
+abbrev pub CallsAreUtf8 : Type 0
+CallsAreUtf8 = (line name : List ℕ) (arguments : List Argument) → IsCallLine line name arguments → IsUtf8 line
+
+-- a line that is not skipped asks for a request or is at fault
+abbrev pub AsksOrIsAtFault : Type 0
+AsksOrIsAtFault =
+    (image : Image) (line : List ℕ) → is_skipped line ≡ false →
+    ((request : Request) × AsksFor image line request) ⊎ ((cause : Cause) × IsAtFault image line cause)
+
+-- and not both, nor for two requests, nor with two causes
+pub record IsReadOneWay : Type 0 where
+  pub asks_or_fault : (image : Image) (line : List ℕ) (request : Request) (cause : Cause) → AsksFor image line request → IsAtFault image line cause → ⊥
+  pub one_request : (image : Image) (line : List ℕ) (request other : Request) → AsksFor image line request → AsksFor image line other → request ≡ other
+  pub one_cause : (image : Image) (line : List ℕ) (cause other : Cause) → IsAtFault image line cause → IsAtFault image line other → cause ≡ other
+
 -- a text is a script exactly where none of its lines is at fault
 abbrev pub IsScriptWithoutFault : Type 0
 IsScriptWithoutFault =
     (image : Image) (text : List ℕ) →
     ((requests : List Request) × IsScript image text requests) ↔
-    ((number : ℕ) (line : List ℕ) → line_at text number ≡ Some line → IsAtFault image line → ⊥)
+    ((number : ℕ) (line : List ℕ) (cause : Cause) → line_at text number ≡ Some line → IsAtFault image line cause → ⊥)
 
 -- a text is a script of no more calls than the limit, or has a bad line, or passes the limit
 abbrev pub IsOneOfThree : Type 0
 IsOneOfThree =
     (image : Image) (text : List ℕ) →
-    ((requests : List Request) × IsScript image text requests × (length requests ≤ most_calls)) ⊎ (((number : ℕ) × IsBadLine image text number) ⊎ PassesLimit image text)
+    ((requests : List Request) × IsScript image text requests × (length requests ≤ most_calls)) ⊎
+    (((number : ℕ) × (cause : Cause) × IsBadLine image text number cause) ⊎ PassesLimit image text)
 
--- and no two of these, nor two bad lines
+-- and no two of these, nor two bad lines or causes
 pub record AreApart : Type 0 where
-  pub script_or_line : (image : Image) (text : List ℕ) (requests : List Request) (number : ℕ) → IsScript image text requests → IsBadLine image text number → ⊥
+  pub script_or_line : (image : Image) (text : List ℕ) (requests : List Request) (number : ℕ) (cause : Cause) → IsScript image text requests → IsBadLine image text number cause → ⊥
   pub script_or_limit : (image : Image) (text : List ℕ) (requests : List Request) → IsScript image text requests → length requests ≤ most_calls → PassesLimit image text → ⊥
-  pub line_or_limit : (image : Image) (text : List ℕ) (number : ℕ) → IsBadLine image text number → PassesLimit image text → ⊥
-  pub one_line : (image : Image) (text : List ℕ) (number other : ℕ) → IsBadLine image text number → IsBadLine image text other → number ≡ other
+  pub line_or_limit : (image : Image) (text : List ℕ) (number : ℕ) (cause : Cause) → IsBadLine image text number cause → PassesLimit image text → ⊥
+  pub one_line : (image : Image) (text : List ℕ) (number other : ℕ) (cause reason : Cause) → IsBadLine image text number cause → IsBadLine image text other reason → (number ≡ other) × (cause ≡ reason)
 
 -- ---- the longest line of an image
 -- the place of a trap is a number of 32 bits

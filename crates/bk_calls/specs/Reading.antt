@@ -1,21 +1,29 @@
--- How a script is read, line by line and part by part.
-use Rattle.std.specs.Prelude.{ℕ, ◌+◌, Bool, true, false, not, ◌&&◌, ◌||◌, ◌==◌, List, [], ◌∷◌, ◌++◌, Option, Some, None, Result, Ok, Err, if◌then◌else◌, position, option_and_then}
-use Rattle.std.specs.Str.{bytes_eq}
+-- How a script is read, line by line and part by part. Only the contracts of private functions name what stands here.
+use Rattle.std.specs.Prelude.{ℕ, ◌+◌, ◌^◌, ◌-◌, min, ℤ, pos, negsuc, neg_ℤ, Bool, true, false, not, ◌&&◌, ◌||◌, ◌==◌, List, [], ◌∷◌, ◌++◌, codes, Option, Some, None, Result, Ok, Err, if◌then◌else◌, position, option_and_then, slice_get}
+use Rattle.std.specs.List.{slice_split, list_all}
+use Rattle.std.specs.Option.{option_map}
+use Rattle.std.specs.Str.{bytes_eq, is_utf8, chars}
+use Rattle.bk_lex.specs.Lexis.{is_identifier, is_numeral, numeral_from, word_number}
 use Rattle.bk_code.specs.declared.image.Image.{Image}
+use Rattle.bk_code.specs.declared.image.OpEntry.{OpEntry}
+use Rattle.bk_code.specs.declared.image.Parameter.{Parameter}
+use Rattle.bk_code.specs.Numbers.{int_max, is_within}
 use Rattle.bk_code.specs.Session.{Request}
 use Rattle.bk_lines.specs.Lines.{is_skipped}
-use Rattle.bk_calls.specs.Script.{most_calls}
+use Rattle.bk_calls.specs.CallLine.{Argument, Number, Truth, Element}
+use Rattle.bk_calls.specs.Script.{Cause, NoCall, UnknownName, WrongArguments, OutOfRange, value_of, most_calls}
 
+-- ---- words of a line
 -- a text behind the spaces that it starts with
 abbrev pub skip_spaces : List ℕ → List ℕ
 skip_spaces [] = []
 skip_spaces (b ∷ bs) = if b == 32 then skip_spaces bs else b ∷ bs
 
--- a byte of a name
+-- a byte of a name or an argument: no space, parenthesis or comma
 abbrev pub is_plain : ℕ → Bool
-is_plain b = not (b == 32 || b == 40 || b == 41)
+is_plain b = not (b == 32 || (b == 40 || (b == 41 || b == 44)))
 
--- the longest front of a text that is all of bytes of a name, and what stands behind it
+-- the longest front of a text that is all of such bytes, and what stands behind it
 abbrev pub front : List ℕ → List ℕ
 front [] = []
 front (b ∷ bs) = if is_plain b then b ∷ front bs else []
@@ -28,40 +36,156 @@ abbrev pub is_empty : List ℕ → Bool
 is_empty [] = true
 is_empty (b ∷ bs) = false
 
--- whether a text is a parenthesis that closes and spaces
-abbrev pub is_closing : List ℕ → Bool
-is_closing [] = false
-is_closing (b ∷ bs) = (b == 41) && is_empty (skip_spaces bs)
+-- whether a text is only spaces
+abbrev pub is_spaces : List ℕ → Bool
+is_spaces text = is_empty (skip_spaces text)
 
--- whether a text is an empty list of arguments or nothing
-abbrev pub is_bare : List ℕ → Bool
-is_bare [] = true
-is_bare (b ∷ bs) = (b == 40) && is_closing (skip_spaces bs)
+-- what stands before the first such byte, or all where there is none, and what stands after it
+abbrev pub before_byte : ℕ → List ℕ → List ℕ
+before_byte c [] = []
+before_byte c (b ∷ bs) = if b == c then [] else b ∷ before_byte c bs
 
--- a name with the text behind it
-abbrev pub checked_name : List ℕ → List ℕ → Option (List ℕ)
-checked_name [] rest = None
-checked_name (b ∷ bs) rest = if is_bare (skip_spaces rest) then Some (b ∷ bs) else None
+abbrev pub after_byte : ℕ → List ℕ → Option (List ℕ)
+after_byte c [] = None
+after_byte c (b ∷ bs) = if b == c then Some bs else after_byte c bs
 
--- the name that a line calls
-abbrev pub called_name : List ℕ → Option (List ℕ)
-called_name line = checked_name (front (skip_spaces line)) (behind (skip_spaces line))
+-- ---- names
+abbrev pub is_none : Option ℕ → Bool
+is_none None = true
+is_none (Some n) = false
 
+-- whether a text is a name
+abbrev pub is_name : List ℕ → Bool
+is_name text = is_utf8 text && (is_identifier (chars text) && is_none (word_number text))
+
+-- ---- arguments
+-- the number that a text of digits is
+abbrev pub digits_number : List ℕ → Option ℤ
+digits_number text = if is_numeral text then Some (pos (numeral_from 0 text)) else None
+
+-- the number that a text of digits is, with or without a minus in front
+abbrev pub whole_number : List ℕ → Option ℤ
+whole_number [] = None
+whole_number (b ∷ bs) = if b == 45 then option_map neg_ℤ (digits_number bs) else digits_number (b ∷ bs)
+
+-- the truth value or the name that a text is
+abbrev pub word_argument : List ℕ → Option Argument
+word_argument text =
+    if bytes_eq text (codes "TRUE") then Some (Truth true)
+    else if bytes_eq text (codes "FALSE") then Some (Truth false)
+    else if is_name text then Some (Element text)
+    else None
+
+abbrev pub number_or : Option ℤ → Option Argument → Option Argument
+number_or (Some n) other = Some (Number n)
+number_or None other = other
+
+-- the argument that a text is
+abbrev pub argument_of : List ℕ → Option Argument
+argument_of text = number_or (whole_number text) (word_argument text)
+
+-- the same where spaces stand around it
+abbrev pub argument_in : List ℕ → Option Argument
+argument_in text = if is_spaces (behind (skip_spaces text)) then argument_of (front (skip_spaces text)) else None
+
+-- something in front of a list, where there are both
+abbrev pub in_front_of : {X : Type 0} → Option X → Option (List X) → Option (List X)
+in_front_of (Some x) (Some xs) = Some (x ∷ xs)
+in_front_of (Some x) None = None
+in_front_of None others = None
+
+abbrev pub arguments_in : List (List ℕ) → Option (List Argument)
+arguments_in [] = Some []
+arguments_in (text ∷ texts) = in_front_of (argument_in text) (arguments_in texts)
+
+abbrev pub is_comma : ℕ → Bool
+is_comma b = b == 44
+
+-- the texts between commas; none where the whole is only spaces
+abbrev pub pieces : List ℕ → List (List ℕ)
+pieces inside = if is_spaces inside then [] else slice_split is_comma inside
+
+-- the pieces of what is left
+abbrev pub pieces_left : Option (List ℕ) → List (List ℕ)
+pieces_left None = []
+pieces_left (Some text) = slice_split is_comma text
+
+-- ---- numbers of 64 bits
+-- a number, or else the nearest one that is kept, the greatest being 2 ^ 63 - 1 and the least its negation
+abbrev pub kept : ℤ → ℤ
+kept (pos n) = pos (min n (2 ^ 63 - 1))
+kept (negsuc n) = neg_ℤ (pos (min (n + 1) (2 ^ 63 - 1)))
+
+-- an argument with its number so
+abbrev pub kept_argument : Argument → Argument
+kept_argument (Number n) = Number (kept n)
+kept_argument (Truth b) = Truth b
+kept_argument (Element name) = Element name
+
+-- ---- calls
+-- what stands in parentheses, of which the second is the first that closes, and has only spaces behind it
+abbrev pub closing : Option (List ℕ) → Bool
+closing None = false
+closing (Some rest) = is_spaces rest
+
+abbrev pub inside_of : List ℕ → Option (List ℕ)
+inside_of [] = Some []
+inside_of (b ∷ bs) = if (b == 40) && closing (after_byte 41 bs) then Some (before_byte 41 bs) else None
+
+-- a name, and what stands in the parentheses behind it
+abbrev pub named_with : List ℕ → Option (List ℕ) → Option (List ℕ × List ℕ)
+named_with name (Some inside) = if is_name name then Some (name, inside) else None
+named_with name None = None
+
+abbrev pub call_parts : List ℕ → Option (List ℕ × List ℕ)
+call_parts line = named_with (front (skip_spaces line)) (inside_of (skip_spaces (behind (skip_spaces line))))
+
+-- the name that a line calls, and its arguments
+abbrev pub with_arguments : List ℕ × List ℕ → Option (List ℕ × List Argument)
+with_arguments parts = option_map (λ arguments. (parts.0, arguments)) (arguments_in (pieces (parts.1)))
+
+abbrev pub call_of : List ℕ → Option (List ℕ × List Argument)
+call_of line = option_and_then with_arguments (call_parts line)
+
+-- ---- requests
 -- the number of the first operation with a name
 abbrev pub named_op : Image → List ℕ → Option ℕ
 named_op image name = position (λ entry. bytes_eq entry.name name) image.ops
 
--- the number of the operation that a line calls
-abbrev pub called_op : Image → List ℕ → Option ℕ
-called_op image line = option_and_then (named_op image) (called_name line)
+abbrev pub inputs_of : Option OpEntry → List Parameter
+inputs_of None = []
+inputs_of (Some entry) = entry.inputs
 
--- a request for an operation without arguments
-abbrev pub bare_request : ℕ → Request
-bare_request op = record { op = op; args = [] }
+-- the numbers that arguments stand for
+abbrev pub values_of : Image → List Parameter → List Argument → Option (List ℤ)
+values_of image [] [] = Some []
+values_of image [] (argument ∷ arguments) = None
+values_of image (input ∷ inputs) [] = None
+values_of image (input ∷ inputs) (argument ∷ arguments) = in_front_of (value_of image input.kind argument) (values_of image inputs arguments)
 
+abbrev pub ranged : Image → ℕ → List ℤ → Result Request Cause
+ranged image op numbers = if list_all (is_within (int_max image)) numbers then Ok (record { op = op; args = numbers }) else Err OutOfRange
+
+abbrev pub from_values : Image → ℕ → Option (List ℤ) → Result Request Cause
+from_values image op (Some numbers) = ranged image op numbers
+from_values image op None = Err WrongArguments
+
+abbrev pub from_op : Image → List Argument → Option ℕ → Result Request Cause
+from_op image arguments (Some op) = from_values image op (values_of image (inputs_of (slice_get image.ops op)) arguments)
+from_op image arguments None = Err UnknownName
+
+abbrev pub from_call : Image → Option (List ℕ × List Argument) → Result Request Cause
+from_call image (Some call) = from_op image call.1 (named_op image call.0)
+from_call image None = Err NoCall
+
+-- the request that a line asks for, or what is wrong with it
+abbrev pub read_line : Image → List ℕ → Result Request Cause
+read_line image line = from_call image (call_of line)
+
+-- ---- lines
 -- where reading stops: at the line with that number, which is at fault, or at a call past the limit
 pub data Stop : Type 0 where
-  AtFault : (number : ℕ) → Stop
+  AtFault : (number : ℕ) (cause : Cause) → Stop
   AtLimit : Stop
 
 -- requests in front of those that are read of the other lines
@@ -69,14 +193,14 @@ abbrev pub in_front : List Request → Result (List Request) Stop → Result (Li
 in_front requests (Ok others) = Ok (requests ++ others)
 in_front requests (Err stop) = Err stop
 
--- what is read from a line with that number on, behind so many calls: a request for the operation that it calls before the others
-abbrev pub from_line : Option ℕ → ℕ → ℕ → Result (List Request) Stop → Result (List Request) Stop
-from_line (Some op) number asked rest = if asked == most_calls then Err AtLimit else in_front (bare_request op ∷ []) rest
-from_line None number asked rest = Err (AtFault number)
+-- what is read from a line with that number on, behind so many calls: its request before the others
+abbrev pub from_line : Result Request Cause → ℕ → ℕ → Result (List Request) Stop → Result (List Request) Stop
+from_line (Ok request) number asked rest = if asked == most_calls then Err AtLimit else in_front (request ∷ []) rest
+from_line (Err cause) number asked rest = Err (AtFault number cause)
 
 -- the requests of lines, so many lines and calls standing before them, or where reading stops
 abbrev pub read_lines : Image → ℕ → ℕ → List (List ℕ) → Result (List Request) Stop
 read_lines image before asked [] = Ok []
 read_lines image before asked (line ∷ rest) =
     if is_skipped line then read_lines image (before + 1) asked rest
-    else from_line (called_op image line) (before + 1) asked (read_lines image (before + 1) (asked + 1) rest)
+    else from_line (read_line image line) (before + 1) asked (read_lines image (before + 1) (asked + 1) rest)

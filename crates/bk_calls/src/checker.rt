@@ -1,26 +1,8 @@
 //! Tests whether the conditions of the calls hold.
-ghost use Rattle.std.specs.Prelude.{◌≡◌, [], IsTrue};
-ghost use Rattle.bk_calls.specs.Script.{HasNoInputs};
+ghost use Rattle.std.specs.Prelude.{IsTrue};
 ghost use Rattle.bk_calls.specs.Transcript.{AreOutputs};
 
-use bk_code::{Image, OpEntry};
-
-fn takes_nothing(entry: &OpEntry) -> bool
-    ensures { IsTrue result → entry.now.inputs ≡ [] }
-{
-    entry.inputs.as_slice().is_empty()
-}
-
-pub fn has_no_inputs(image: &Image) -> bool
-    ensures { IsTrue result → HasNoInputs image.now }
-{
-    for entry in image.ops.as_slice() {
-        if !takes_nothing(entry) {
-            return false;
-        }
-    }
-    true
-}
+use bk_code::Image;
 
 /// Whether there are as many numbers as what was called has outputs.
 pub fn are_outputs(image: &Image, op: Option<u32>, outs: &[i64]) -> bool

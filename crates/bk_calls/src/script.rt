@@ -1,16 +1,19 @@
 //! Call scripts.
-ghost use Rattle.std.specs.Prelude.{◌≡◌, ℕ, ◌<◌, ◌≤◌, ◌^◌, ◌⊎◌, List, All, length, map, position, IsOk, IfOk, IfErr, Ok, Err};
+ghost use Rattle.std.specs.Prelude.{◌≡◌, ℕ, ◌<◌, ◌≤◌, ◌^◌, ◌⊎◌, List, All, length, map, position, slice_get, IsOk, IfOk, IfErr, Ok, Err};
 ghost use Rattle.std.specs.Str.{bytes_eq};
 ghost use Rattle.std.specs.Str.Lines.{lines};
 ghost use Rattle.bk_code.specs.Laws.{IsRequest};
 ghost use Rattle.bk_code.specs.Session.{Request};
 ghost use Rattle.bk_calls.specs.Reading as reading;
-ghost use Rattle.bk_calls.specs.Script.{IsScript, IsBadLine, PassesLimit, HasNoInputs, most_calls, request_of};
-ghost use Rattle.bk_calls.specs.Outcome.{IsFaultOf};
+ghost use Rattle.bk_calls.specs.Script.{Cause, IsScript, IsBadLine, PassesLimit, most_calls, request_of};
+ghost use Rattle.bk_calls.specs.Outcome.{IsFaultOf, IsFaultOfLine, fault_of};
 ghost use Rattle.bk_calls.specs.declared.script.CallsFault.TheVariants.{Memory as NoMemory};
 
-use crate::line::called_name;
-use bk_code::{Image, OpEntry, Sequence};
+use crate::argument::arguments_of;
+use crate::line::call_parts;
+use crate::table::WordTable;
+use crate::value::{are_within, values};
+use bk_code::{Image, OpEntry, Parameter, Sequence};
 use bk_lines::{first_line, is_skipped};
 use std::alloc::{AllocError, AllocFailed, Global};
 use thiserror::Error;
@@ -25,12 +28,21 @@ pub struct Call {
     pub args: Sequence<i64>,
 }
 
-/// Why there are no calls.
+/// Why there are no calls. A line is told by its number, from 1.
 #[derive(Clone, Copy, Debug, PartialEq, Eq, Error)]
 pub enum CallsFault {
-    /// The line with this number, from 1, calls no operation.
-    #[error("line {0} calls no operation")]
+    /// The line is written as no call.
+    #[error("line {0} is no call")]
     Line(u32),
+    /// The line calls an operation that the image does not have.
+    #[error("line {0} calls no operation")]
+    NoOperation(u32),
+    /// The line's arguments are too few or too many, or not of the kinds of the operation's inputs.
+    #[error("line {0} has wrong arguments")]
+    Arguments(u32),
+    /// An argument of the line is a number out of the range of the image.
+    #[error("line {0} has a number out of range")]
+    Number(u32),
     /// A call past the most that a script may ask for. A line at fault before it is told in its stead.
     #[error("more than 1000000 calls")]
     Limit,
@@ -54,6 +66,80 @@ impl<T: Drop> From<AllocFailed<T>> for CallsFault {
     }
 }
 
+/// The calls that a script asks for, in order.
+///
+/// A script's lines end at a line feed, with or without a carriage return before it. Empty lines and lines that start
+/// with `#` are skipped. Every other line is the name of an operation of the image, and behind it the arguments in
+/// parentheses, divided by commas: decimal digits with an optional `-`, `TRUE`, `FALSE` or an element's name, by the kind
+/// of the input. An operation without inputs may have `()`. Spaces are free around these parts. Of two operations, or of
+/// two elements of a set, with one name the first is meant. The first line at fault is told: one that is written as no
+/// call, then an operation that the image does not have, then wrong arguments, then a number out of range. A script asks
+/// for at most 1000000 calls; whichever comes first, a line at fault or a call past the limit, is answered.
+pub fn calls(alloc: Global, text: &[u8], image: &Image) -> Result<Vec<Call>, CallsFault>
+    requires few_lines { length (lines text.now) < 2 ^ 32 }
+    requires few_operations { length image.now.ops < 2 ^ 32 }
+    ensures ok { IfOk result (λ calls. IsScript image.now text.now (map request_of calls.items)) }
+    ensures requests { IfOk result (λ calls. All (IsRequest image.now) (map request_of calls.items)) }
+    ensures few { IfOk result (λ calls. length calls.items ≤ most_calls) }
+    ensures script { (requests : List Request) → IsScript image.now text.now requests → length requests ≤ most_calls →
+        IsOk result ⊎ (result ≡ Err CallsFault.Memory) }
+    ensures line { (number : ℕ) (cause : Cause) → result ≡ Err (fault_of cause number) → IsBadLine image.now text.now number cause }
+    ensures fault { (number : ℕ) (cause : Cause) → IsBadLine image.now text.now number cause →
+        (result ≡ Err (fault_of cause number)) ⊎ (result ≡ Err CallsFault.Memory) }
+    ensures limit { result ≡ Err CallsFault.Limit → PassesLimit image.now text.now }
+    ensures past { PassesLimit image.now text.now → (result ≡ Err CallsFault.Limit) ⊎ (result ≡ Err CallsFault.Memory) }
+{
+    read_calls(alloc, text, image)
+}
+
+fn read_calls(alloc: Global, text: &[u8], image: &Image) -> Result<Vec<Call>, CallsFault>
+    requires few_lines { length (lines text.now) < 2 ^ 32 }
+    requires few_operations { length image.now.ops < 2 ^ 32 }
+    ensures ok { IfOk result (λ calls. reading.read_lines image.now 0 0 (lines text.now) ≡ Ok (map request_of calls.items)) }
+    ensures err { IfErr result (IsFaultOf image.now text.now) }
+{
+    let words = WordTable::new();
+    let mut calls = Vec::new(alloc);
+    let mut rest = text;
+    let mut number = 0u32;
+    while let Some((line, behind)) = first_line(rest) {
+        number += 1;
+        if !is_skipped(line) {
+            let call = read_line(alloc, &words, line, number, image)?;
+            if calls.len() == MOST_CALLS {
+                return Err(CallsFault::Limit);
+            }
+            calls.push(call)?;
+        }
+        rest = behind;
+    }
+    Ok(calls)
+}
+
+// The call that the line with that number asks for.
+fn read_line(
+    alloc: Global,
+    words: &WordTable,
+    line: &[u8],
+    number: u32,
+    image: &Image,
+) -> Result<Call, CallsFault>
+    requires few_operations { length image.now.ops < 2 ^ 32 }
+    ensures ok { IfOk result (λ call. reading.read_line image.now line.now ≡ Ok (request_of call)) }
+    ensures err { IfErr result (IsFaultOfLine (reading.read_line image.now line.now) number) }
+{
+    let (name, inside) = call_parts(words, line).ok_or(CallsFault::Line(number))?;
+    let arguments = arguments_of(alloc, words, inside)?.ok_or(CallsFault::Line(number))?;
+    let op = named_op(image, name).ok_or(CallsFault::NoOperation(number))?;
+    let inputs = inputs(image, op);
+    let args = values(alloc, image, inputs, &arguments)?.ok_or(CallsFault::Arguments(number))?;
+    if !are_within(image, &args) {
+        return Err(CallsFault::Number(number));
+    }
+    let args = Sequence::from_vec(args);
+    Ok(Call { op, args })
+}
+
 // The place of the first operation with a name.
 fn place_of(ops: &[OpEntry], name: &[u8]) -> Option<usize>
     ensures { result ≡ position (λ entry. bytes_eq entry.name name.now) ops.now }
@@ -70,58 +156,12 @@ fn named_op(image: &Image, name: &[u8]) -> Option<u32>
     Some(place as u32)
 }
 
-// The number of the operation that a line calls.
-fn called_op(image: &Image, line: &[u8]) -> Option<u32>
-    requires few { length image.now.ops < 2 ^ 32 }
-    ensures { result ≡ reading.called_op image.now line.now }
+// The inputs of an operation.
+fn inputs(image: &Image, op: u32) -> &[Parameter]
+    ensures { result.now ≡ reading.inputs_of (slice_get image.now.ops op) }
 {
-    named_op(image, called_name(line)?)
-}
-
-/// The calls that a script asks for, in order.
-///
-/// A script's lines end at a line feed, with or without a carriage return before it. Empty lines and lines that start
-/// with `#` are skipped. Every other line is the name of an operation of the image, with or without `()` behind it and
-/// with spaces anywhere around these. Of two operations with one name the first is meant. A script asks for at most
-/// 1000000 calls; whichever comes first, a line at fault or a call past the limit, is answered.
-pub fn calls(alloc: Global, text: &[u8], image: &Image) -> Result<Vec<Call>, CallsFault>
-    requires no_inputs { HasNoInputs image.now }
-    requires few_lines { length (lines text.now) < 2 ^ 32 }
-    requires few_operations { length image.now.ops < 2 ^ 32 }
-    ensures ok { IfOk result (λ calls. IsScript image.now text.now (map request_of calls.items)) }
-    ensures requests { IfOk result (λ calls. All (IsRequest image.now) (map request_of calls.items)) }
-    ensures few { IfOk result (λ calls. length calls.items ≤ most_calls) }
-    ensures script { (requests : List Request) → IsScript image.now text.now requests → length requests ≤ most_calls →
-        IsOk result ⊎ (result ≡ Err CallsFault.Memory) }
-    ensures line { (number : ℕ) → result ≡ Err (CallsFault.Line number) → IsBadLine image.now text.now number }
-    ensures fault { (number : ℕ) → IsBadLine image.now text.now number →
-        (result ≡ Err (CallsFault.Line number)) ⊎ (result ≡ Err CallsFault.Memory) }
-    ensures limit { result ≡ Err CallsFault.Limit → PassesLimit image.now text.now }
-    ensures past { PassesLimit image.now text.now → (result ≡ Err CallsFault.Limit) ⊎ (result ≡ Err CallsFault.Memory) }
-{
-    read_calls(alloc, text, image)
-}
-
-fn read_calls(alloc: Global, text: &[u8], image: &Image) -> Result<Vec<Call>, CallsFault>
-    requires few_lines { length (lines text.now) < 2 ^ 32 }
-    requires few_operations { length image.now.ops < 2 ^ 32 }
-    ensures ok { IfOk result (λ calls. reading.read_lines image.now 0 0 (lines text.now) ≡ Ok (map request_of calls.items)) }
-    ensures err { IfErr result (IsFaultOf image.now text.now) }
-{
-    let mut calls = Vec::new(alloc);
-    let mut rest = text;
-    let mut number = 0u32;
-    while let Some((line, behind)) = first_line(rest) {
-        number += 1;
-        if !is_skipped(line) {
-            let op = called_op(image, line).ok_or(CallsFault::Line(number))?;
-            if calls.len() == MOST_CALLS {
-                return Err(CallsFault::Limit);
-            }
-            let args = Sequence::from_vec(Vec::new(alloc));
-            calls.push(Call { op, args })?;
-        }
-        rest = behind;
+    match image.ops.as_slice().get(op as usize) {
+        Some(entry) => entry.inputs.as_slice(),
+        None => &[],
     }
-    Ok(calls)
 }

@@ -1,4 +1,4 @@
-use crate::checker::{are_outputs, has_no_inputs};
+use crate::checker::are_outputs;
 use crate::{Call, CallsFault, ReplyLine, calls, closing, reply, steps};
 use bk_code::{
     CellKind, Code, ElemNames, Image, Inst, NameText, NameTexts, OpEntries, OpEntry, Parameter,
@@ -79,7 +79,7 @@ fn samples(alloc: Global) -> Result<Image, AllocError> {
 
 #[tactic(auto, using(crate::proofs::Lines::lines_within))]
 fn read(alloc: Global, text: &[u8], image: &Image) -> Result<Result<Vec<Call>, CallsFault>, Fail> {
-    if text.len() > 100_000_000 || image.ops.as_slice().len() > 1000 || !has_no_inputs(image) {
+    if text.len() > 100_000_000 || image.ops.as_slice().len() > 1000 {
         return Err(Fail::from("the script or the image"));
     }
     Ok(calls(alloc, text, image))
@@ -130,26 +130,215 @@ fn means_the_first_of_a_name(rt: HostRuntime) -> Result<(), Fail> {
     Ok(())
 }
 
+// An operation with inputs of those kinds.
+fn taking(alloc: Global, text: &[u8], inputs: &[Parameter]) -> Result<OpEntry, AllocError> {
+    Ok(OpEntry {
+        name: name(alloc, text)?,
+        start: 0,
+        inputs: Parameters::from_vec(Vec::from_slice(alloc, inputs)?),
+        outputs: Parameters::from_vec(Vec::new(alloc)),
+    })
+}
+
+fn input(kind: CellKind) -> Parameter {
+    Parameter { kind, slot: 0 }
+}
+
+// A tally: one operation takes a number, and one takes nothing and gives a number.
+fn tally(alloc: Global) -> Result<Image, AllocError> {
+    let inc = taking(alloc, b"inc", &[input(CellKind::Integer)])?;
+    let get = operation(alloc, b"get", 0, &[output(CellKind::Integer)])?;
+    Ok(Image {
+        cells: 2,
+        sets: ElemNames::from_vec(Vec::new(alloc)),
+        ops: OpEntries::from_vec(vec![in alloc; inc, get]?),
+        code: Code::from_vec(vec![in alloc; Inst::Ret]?),
+    })
+}
+
+// Two sets of colours, one of which has a name twice.
+fn colours(alloc: Global) -> Result<ElemNames, AllocError> {
+    let lamp = vec![in alloc; name(alloc, b"red")?, name(alloc, b"green")?]?;
+    let paint = vec![in alloc;
+        name(alloc, b"green")?,
+        name(alloc, "grün".as_bytes())?,
+        name(alloc, b"green")?,
+    ]?;
+    Ok(ElemNames::from_vec(vec![in alloc; NameTexts::from_vec(lamp), NameTexts::from_vec(paint)]?))
+}
+
+// Operations that take values of each kind.
+fn takers(alloc: Global) -> Result<Image, AllocError> {
+    let kinds = [
+        input(CellKind::Integer),
+        input(CellKind::Bool),
+        input(CellKind::Set(0)),
+        input(CellKind::Set(1)),
+    ];
+    let all = taking(alloc, b"all", &kinds)?;
+    let lamp = taking(alloc, b"lamp", &[input(CellKind::Set(0))])?;
+    let lost = taking(alloc, b"lost", &[input(CellKind::Set(2))])?;
+    Ok(Image {
+        cells: 1,
+        sets: colours(alloc)?,
+        ops: OpEntries::from_vec(vec![in alloc; all, lamp, lost]?),
+        code: Code::from_vec(vec![in alloc; Inst::Ret]?),
+    })
+}
+
+// Whether the last of some calls has these arguments.
+fn ends_with(calls: &[Call], args: &[i64]) -> bool {
+    match calls.last() {
+        Some(call) => call.args.as_slice() == args,
+        None => false,
+    }
+}
+
 #[test]
-fn tells_the_first_line_at_fault(rt: HostRuntime) -> Result<(), Fail> {
+fn reads_arguments(rt: HostRuntime) -> Result<(), Fail> {
+    let alloc = rt.alloc();
+    let image = tally(alloc)?;
+    let cases: [(&[u8], &[i64]); 8] = [
+        // a text and the arguments of its last call
+        (b"inc(4)\ninc(-3)\n", &[-3]),
+        (b"inc(4)\ninc(6)\nget\n", &[]),
+        (b"inc(2147483647)", &[2147483647]),
+        (b"inc(-2147483647)", &[-2147483647]),
+        (b"inc(007)", &[7]),
+        (b"inc(-0)", &[0]),
+        (b"  inc  (  12  )  \r\n", &[12]),
+        (
+            b"inc(000000000000000000000000000000000000000000000000001)",
+            &[1],
+        ),
+    ];
+    for (text, args) in cases {
+        let found = read(alloc, text, &image)?.ok().ok_or("a script")?;
+        assert!(rt; ends_with(&found, args));
+    }
+    Ok(())
+}
+
+#[test]
+fn reads_arguments_of_each_kind(rt: HostRuntime) -> Result<(), Fail> {
+    let alloc = rt.alloc();
+    let image = takers(alloc)?;
+    let cases: [(&[u8], &[i64]); 4] = [
+        // a text and the arguments of its last call
+        (b"all(1, TRUE, green, green)", &[1, 1, 1, 0]),
+        (b"all(-1,FALSE,red,green)", &[-1, 0, 0, 0]),
+        ("all ( 5 , TRUE , red , grün )\n".as_bytes(), &[5, 1, 0, 1]),
+        (b"lamp(green)\n", &[1]),
+    ];
+    for (text, args) in cases {
+        let found = read(alloc, text, &image)?.ok().ok_or("a script")?;
+        assert!(rt; ends_with(&found, args));
+    }
+    Ok(())
+}
+
+#[test]
+fn tells_bad_calls_of_a_tally(rt: HostRuntime) -> Result<(), Fail> {
+    let alloc = rt.alloc();
+    let image = tally(alloc)?;
+    let cases: [(&[u8], CallsFault); 16] = [
+        // a text and its fault
+        (b"inc(4)\ninc\nget\n", CallsFault::Arguments(2)),
+        (b"inc(4)\ninc(TRUE)\nget\n", CallsFault::Arguments(2)),
+        (b"inc(4)\ndec\nget\n", CallsFault::NoOperation(2)),
+        (b"inc(4)\ninc(4\nget\n", CallsFault::Line(2)),
+        (b"inc(4)\ninc(2147483648)\nget\n", CallsFault::Number(2)),
+        (b"inc(-2147483648)", CallsFault::Number(1)),
+        (b"inc(99999999999999999999999999)", CallsFault::Number(1)),
+        (b"inc()", CallsFault::Arguments(1)),
+        (b"inc(1, 2)", CallsFault::Arguments(1)),
+        (b"inc(red)", CallsFault::Arguments(1)),
+        (b"get(5)", CallsFault::Arguments(1)),
+        (b"dec(2147483648)", CallsFault::NoOperation(1)),
+        (b"get(2147483648)", CallsFault::Arguments(1)),
+        (b"dec(4, )", CallsFault::Line(1)),
+        (b"inc(4)\n# \xFF\ndec\ninc(4\n", CallsFault::NoOperation(3)),
+        (b"inc(2147483648)\ninc(4\n", CallsFault::Number(1)),
+    ];
+    for (text, fault) in cases {
+        assert!(rt; read(alloc, text, &image)?.err() == Some(fault));
+    }
+    Ok(())
+}
+
+#[test]
+fn tells_arguments_of_other_kinds(rt: HostRuntime) -> Result<(), Fail> {
+    let alloc = rt.alloc();
+    let image = takers(alloc)?;
+    let cases: [(&[u8], CallsFault); 9] = [
+        // a text and its fault
+        (b"all(1, 1, red, green)", CallsFault::Arguments(1)),
+        (b"all(1, TRUE, TRUE, green)", CallsFault::Arguments(1)),
+        (b"all(1, TRUE, blue, green)", CallsFault::Arguments(1)),
+        (b"all(1, TRUE, 0, green)", CallsFault::Arguments(1)),
+        (b"all(red, TRUE, red, green)", CallsFault::Arguments(1)),
+        (
+            b"all(2147483648, TRUE, red, blue)",
+            CallsFault::Arguments(1),
+        ),
+        (b"all(2147483648, TRUE, red, green)", CallsFault::Number(1)),
+        (b"lamp(MAXINT)", CallsFault::Line(1)),
+        (b"lost(red)", CallsFault::Arguments(1)),
+    ];
+    for (text, fault) in cases {
+        assert!(rt; read(alloc, text, &image)?.err() == Some(fault));
+    }
+    Ok(())
+}
+
+#[test]
+fn tells_operations_that_are_not_there(rt: HostRuntime) -> Result<(), Fail> {
     let alloc = rt.alloc();
     let image = counter(alloc)?;
-    let cases: [(&[u8], u32); 14] = [
+    let cases: [(&[u8], u32); 4] = [
         // a text and the number of its first line at fault
         (b"get\nnope\n", 2),
         (b"get\nnope\nneither", 2),
+        (b"Get", 1),
+        ("gét".as_bytes(), 1),
+    ];
+    for (text, number) in cases {
+        let fault = read(alloc, text, &image)?.err();
+        assert!(rt; fault == Some(CallsFault::NoOperation(number)));
+    }
+    Ok(())
+}
+
+#[test]
+fn tells_lines_that_are_no_calls(rt: HostRuntime) -> Result<(), Fail> {
+    let alloc = rt.alloc();
+    let image = counter(alloc)?;
+    let cases: [(&[u8], u32); 24] = [
+        // a text and the number of its first line at fault
         (b"get(", 1),
-        (b"get(5)", 1),
         (b"get x", 1),
         (b"get)", 1),
         (b"get()()", 1),
         (b"()", 1),
         (b" \n", 1),
         (b"# x\n\n\xFF\n", 3),
+        (b"\xFF", 1),
         (b"\n #x", 2),
         (b"get\t", 1),
         (b"get\r", 1),
-        (b"Get", 1),
+        (b"get(- 3)", 1),
+        (b"get(+3)", 1),
+        (b"get(-)", 1),
+        (b"get(3 4)", 1),
+        (b"get(3,)", 1),
+        (b"get(,)", 1),
+        (b"get(3))", 1),
+        (b"get((3))", 1),
+        (b"get(3x)", 1),
+        (b"get(\xFF)", 1),
+        (b"get, set", 1),
+        (b"BEGIN", 1),
+        (b"1get", 1),
     ];
     for (text, number) in cases {
         let fault = read(alloc, text, &image)?.err();
@@ -208,7 +397,7 @@ fn tells_a_call_past_the_limit_before_a_line_at_fault(rt: HostRuntime) -> Result
 #[test]
 fn tells_a_line_at_fault_before_a_call_past_the_limit(rt: HostRuntime) -> Result<(), Fail> {
     let fault = fault_behind(rt.alloc(), 1_000_000, b"bad\nget\n")?;
-    assert!(rt; fault == Some(CallsFault::Line(1_000_001)));
+    assert!(rt; fault == Some(CallsFault::NoOperation(1_000_001)));
     Ok(())
 }
 
@@ -218,7 +407,7 @@ fn tells_an_early_line_at_fault(rt: HostRuntime) -> Result<(), Fail> {
     let mut text = script(alloc, 4, b"bad\n")?;
     text.extend_from_slice(&script(alloc, 1_000_001, b"")?)?;
     let fault = read(alloc, &text, &counter(alloc)?)?.err();
-    assert!(rt; fault == Some(CallsFault::Line(5)));
+    assert!(rt; fault == Some(CallsFault::NoOperation(5)));
     Ok(())
 }
 

@@ -147,13 +147,13 @@ module _ (project : List ℕ) (dev : Development) where
 -- ---- the code and the calls
 module _ (calls text : List ℕ) (image : Image) where
   script_asked : (stop : Stop) (requests : List Request) → StopsAtScript calls text image stop → IsScript image text requests → length requests ≤ most_calls → ⊥
-  script_asked stop requests (inl h) s few = are_apart.script_or_line image text requests h.0 s h.2
+  script_asked stop requests (inl h) s few = are_apart.script_or_line image text requests h.0 h.1 s h.3
   script_asked stop requests (inr h) s few = are_apart.script_or_limit image text requests s few h.1
 
   script_once : (s o : Stop) → StopsAtScript calls text image s → StopsAtScript calls text image o → s ≡ o
-  script_once s o (inl h) (inl k) = h.1 ∙ (ap BadCalls (are_apart.one_line image text h.0 k.0 h.2 k.2) ∙ sym k.1)
-  script_once s o (inl h) (inr k) = absurd (are_apart.line_or_limit image text h.0 h.2 k.1)
-  script_once s o (inr h) (inl k) = absurd (are_apart.line_or_limit image text k.0 k.2 h.1)
+  script_once s o (inl h) (inl k) = h.2 ∙ (ap BadCalls (are_apart.one_line image text h.0 k.0 h.1 k.1 h.3 k.3).0 ∙ sym k.2)
+  script_once s o (inl h) (inr k) = absurd (are_apart.line_or_limit image text h.0 h.1 h.3 k.1)
+  script_once s o (inr h) (inl k) = absurd (are_apart.line_or_limit image text k.0 k.1 k.3 h.1)
   script_once s o (inr h) (inr k) = h.0 ∙ sym k.0
 
 module _ (project calls text : List ℕ) (image : Image) where

@@ -1,7 +1,6 @@
 -- What the files of a project tell.
 use Rattle.std.proofs.Common.{◌≡◌, ℕ, ◌+◌, ◌<◌, ◌≤◌, List, [], ◌∷◌, length, All, Option, Some, None, refl, sym, ◌∙◌, ap, subst, arith}
 use Rattle.std.specs.Str.Lines.{lines}
-use Rattle.std.proofs.lemmas.List.Elements.{All-nil, All-cons, All-head, All-tail}
 use Rattle.bk_io.specs.Files.{Files}
 use Rattle.bk_code.specs.declared.image.Image.{Image}
 use Rattle.bk_code.specs.Session.{Request}
@@ -13,7 +12,7 @@ use Rattle.bk_front.specs.Reading.{Reads}
 use Rattle.bk_front.specs.FirstForm.{IsFirstForm}
 use Rattle.bk_front.proofs.ProjectFiles.{names_once}
 use Rattle.bk_front.proofs.Readings.{read_once}
-use Rattle.bk_calls.specs.Script.{IsScript, HasNoInputs, most_calls}
+use Rattle.bk_calls.specs.Script.{IsScript, most_calls}
 use Rattle.bk_calls.proofs.Lines.{lines_within}
 use Rattle.bk_code.specs.Session.{Session}
 use Rattle.bk_calls.specs.Transcript.{transcript}
@@ -80,16 +79,6 @@ one_project files project dev other h k =
     sym (read_once k.machine_text k.implementation_text dev other (subst (λ x. Reads x k.implementation_text dev) above (subst (λ x. Reads h.machine_text x dev) below h.reads)) k.reads)
 
 -- ---- the translation
-no_inputs : (dev : Development) (place : ℕ) (hs : List Head) (bs : List Body) → All (λ h. h.inputs ≡ []) hs → All (λ e. e.inputs ≡ []) (entries dev place hs bs)
-no_inputs dev place (h ∷ hs) (b ∷ bs) a =
-    All-cons (λ e. e.inputs ≡ []) _ (entries dev (place + length (operation_code dev b)) hs bs) (rw (All-head (λ h. h.inputs ≡ []) h hs a) refl)
-    (no_inputs dev (place + length (operation_code dev b)) hs bs (All-tail (λ h. h.inputs ≡ []) h hs a))
-no_inputs dev place [] bs a = All-nil (λ e. e.inputs ≡ [])
-no_inputs dev place (h ∷ hs) [] a = All-nil (λ e. e.inputs ≡ [])
-
-pub has_no_inputs : (dev : Development) (image : Image) → IsFirstForm dev → image ≡ translation dev → HasNoInputs image
-has_no_inputs dev image form e = subst HasNoInputs (sym e) (no_inputs dev (length (init_code dev)) dev.heads (level_at dev (last dev)).bodies form.inputs)
-
 entries_within : (dev : Development) (place : ℕ) (hs : List Head) (bs : List Body) → length (entries dev place hs bs) ≤ length hs
 entries_within dev place (h ∷ hs) (b ∷ bs) = omega (arith, entries_within dev (place + length (operation_code dev b)) hs bs)
 entries_within dev place [] bs = omega arith

@@ -14,8 +14,9 @@ use Rattle.bk_front.specs.ProjectFile.{AreProjectLines, IsNoProject}
 use Rattle.bk_front.specs.Refusals.{not_built}
 use Rattle.bk_front.specs.Project.{IsRefusal}
 use Rattle.bk_calls.specs.declared.script.CallsFault.{CallsFault}
-use Rattle.bk_calls.specs.declared.script.CallsFault.TheVariants.{Line, Limit as PastLimit, Memory as NoMemory}
-use Rattle.bk_calls.specs.Script.{IsBadLine, PassesLimit}
+use Rattle.bk_calls.specs.declared.script.CallsFault.TheVariants.{Line, NoOperation, Arguments, Number, Limit as PastLimit, Memory as NoMemory}
+use Rattle.bk_calls.specs.Script.{Cause, NoCall, UnknownName, WrongArguments, OutOfRange, IsBadLine, PassesLimit}
+use Rattle.bk_calls.specs.Outcome.{fault_of}
 use Rattle.bkit.specs.declared.stop.Stop.{Stop}
 use Rattle.bkit.specs.declared.stop.Stop.TheVariants.{Memory}
 use Rattle.bkit.specs.Run.{IsTold, component_lines, ReadsProject, AreRunWords, IsProved}
@@ -87,8 +88,11 @@ module _ (files : Files) (project calls : List ℕ) (dev : Development) (reads :
   under text image stop told e within h =
       inr (inr (dev, reads, inr (proved, inr (text, told, inr (inr (record { code = subst (λ x. length x.code ≤ 1000000) e within.0; cells = subst (λ x. x.cells ≤ 1000000) e within.1 }, subst (λ x. StopsAtScript calls text x stop) e h))))))
 
-  pub at_calls : (text : List ℕ) (image : Image) (fault : CallsFault) (stop : Stop) → IsTold files calls text → image ≡ translation dev → (length image.code ≤ 1000000) × (image.cells ≤ 1000000) → ((number : ℕ) → fault ≡ Line number → IsBadLine image text number) → (fault ≡ PastLimit → PassesLimit image text) → stop ≡ stop_of_calls fault calls → Stopped files project calls stop
-  at_calls text image (Line number) stop told e within bad past is = under text image stop told e within (inl (number, is, bad number refl))
+  pub at_calls : (text : List ℕ) (image : Image) (fault : CallsFault) (stop : Stop) → IsTold files calls text → image ≡ translation dev → (length image.code ≤ 1000000) × (image.cells ≤ 1000000) → ((number : ℕ) (cause : Cause) → fault ≡ fault_of cause number → IsBadLine image text number cause) → (fault ≡ PastLimit → PassesLimit image text) → stop ≡ stop_of_calls fault calls → Stopped files project calls stop
+  at_calls text image (Line number) stop told e within bad past is = under text image stop told e within (inl (number, NoCall, is, bad number NoCall refl))
+  at_calls text image (NoOperation number) stop told e within bad past is = under text image stop told e within (inl (number, UnknownName, is, bad number UnknownName refl))
+  at_calls text image (Arguments number) stop told e within bad past is = under text image stop told e within (inl (number, WrongArguments, is, bad number WrongArguments refl))
+  at_calls text image (Number number) stop told e within bad past is = under text image stop told e within (inl (number, OutOfRange, is, bad number OutOfRange refl))
   at_calls text image PastLimit stop told e within bad past is = under text image stop told e within (inr (is, past refl))
   at_calls text image NoMemory stop told e within bad past is = inl (outside_memory stop is)
 

@@ -13,10 +13,10 @@ use Rattle.bk_front.specs.Reading.{Reads, IsMachineText}
 use Rattle.bk_po.specs.Obligations.{obligations, numbered_obligations}
 use Rattle.bk_po.specs.Limits.{first_too_large, PassTogether, PassNoLimit}
 use Rattle.bk_po.specs.Obvious.{first_open}
-use Rattle.bk_calls.specs.Script.{IsBadLine, PassesLimit}
+use Rattle.bk_calls.specs.Script.{Cause, IsBadLine, PassesLimit}
 use Rattle.bk_io.specs.Pieces.{written_with, WroteFront}
 use Rattle.bk_calls.specs.declared.script.CallsFault.{CallsFault}
-use Rattle.bk_calls.specs.declared.script.CallsFault.TheVariants.{Line, Limit as PastLimit, Memory as NoMemory}
+use Rattle.bk_calls.specs.declared.script.CallsFault.TheVariants.{Line, NoOperation, Arguments, Number, Limit as PastLimit, Memory as NoMemory}
 use Rattle.bkit.specs.declared.status.Status.{Status}
 use Rattle.bkit.specs.declared.status.Status.TheVariants.{Usage as UsageStatus, Missing as MissingStatus, Refused as RefusedStatus, Unproved as UnprovedStatus, BadCalls as BadCallsStatus, ReadFault as ReadFaultStatus, WriteFault as WriteFaultStatus, Memory as MemoryStatus}
 use Rattle.bkit.specs.declared.stop.Stop.{Stop}
@@ -113,7 +113,7 @@ StopsAtObligations project dev stop =
 -- the call script: a line at fault, or a call past the limit, whichever comes first
 abbrev pub StopsAtScript : (calls text : List ℕ) → Image → Stop → Type 0
 StopsAtScript calls text image stop =
-    ((number : ℕ) × (stop ≡ BadCalls number) × IsBadLine image text number) ⊎ ((stop ≡ Limit 11 calls) × PassesLimit image text)
+    ((number : ℕ) × (cause : Cause) × (stop ≡ BadCalls number) × IsBadLine image text number cause) ⊎ ((stop ≡ Limit 11 calls) × PassesLimit image text)
 
 -- the limits of the code, and then the call script
 abbrev pub StopsAtCode : (project calls text : List ℕ) → Image → Stop → Type 0
@@ -165,5 +165,8 @@ stop_of_code NoRoom project = Memory
 -- what a fault of reading a call script stops the program with
 abbrev pub stop_of_calls : CallsFault → (calls : List ℕ) → Stop
 stop_of_calls (Line number) calls = BadCalls number
+stop_of_calls (NoOperation number) calls = BadCalls number
+stop_of_calls (Arguments number) calls = BadCalls number
+stop_of_calls (Number number) calls = BadCalls number
 stop_of_calls PastLimit calls = Limit 11 calls
 stop_of_calls NoMemory calls = Memory

@@ -158,7 +158,10 @@ fn bad_calls(alloc: Global, fault: CallsFault, script: &str) -> Result<Stop, Sto
     ensures told { IfOk result (λ stop. stop ≡ stop_of_calls fault script.now) }
 {
     Ok(match fault {
-        CallsFault::Line(number) => Stop::BadCalls(number),
+        CallsFault::Line(number)
+        | CallsFault::NoOperation(number)
+        | CallsFault::Arguments(number)
+        | CallsFault::Number(number) => Stop::BadCalls(number),
         CallsFault::Limit => Stop::Limit(LIMIT_OF_CALLS, owned(alloc, script)?),
         CallsFault::Memory => Stop::Memory,
     })

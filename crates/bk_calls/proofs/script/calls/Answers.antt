@@ -5,8 +5,8 @@ use Rattle.std.proofs.lemmas.Result.{IfOk-weaker, IfErr-at_err}
 use Rattle.bk_lines.specs.Lines.{kept_lines}
 use Rattle.bk_calls.specs.Script.{request_of, most_calls}
 use Rattle.bk_calls.specs.Outcome.{IsFaultOf}
-use Rattle.bk_calls.proofs.Scripts.{read_as_script, read_within, requests_fit, bad_line, passes_limit}
-use Rattle.bk_calls.proofs.Limits.{script_is_told, line_is_told, limit_is_told}
+use Rattle.bk_calls.proofs.Scripts.{read_as_script, read_within, requests_fit, passes_limit}
+use Rattle.bk_calls.proofs.Limits.{script_is_told, told_line, line_is_told, limit_is_told}
 use Rattle.bk_calls.proofs.script.calls.Goals as goal
 
 few_calls : (calls : List Call) → length (map request_of calls) ≤ most_calls → length calls ≤ most_calls
@@ -19,7 +19,7 @@ returns-clause-ok c =
 pub returns-clause-requests : goal.returns-clause-requests
 returns-clause-requests c =
     IfOk-weaker c.read_calls.result _ _
-    (λ calls h. requests_fit c.args.image.now (kept_lines c.args.text.now) (map request_of calls.items) c.requires.no_inputs (read_as_script c.args.image.now c.args.text.now (map request_of calls.items) h))
+    (λ calls h. requests_fit c.args.image.now (kept_lines c.args.text.now) (map request_of calls.items) (read_as_script c.args.image.now c.args.text.now (map request_of calls.items) h))
     c.read_calls.ensures.ok
 
 pub returns-clause-few : goal.returns-clause-few
@@ -30,8 +30,8 @@ pub returns-clause-script : goal.returns-clause-script
 returns-clause-script c = script_is_told c.args.image.now c.args.text.now c.read_calls.result c.read_calls.ensures.err
 
 pub returns-clause-line : goal.returns-clause-line
-returns-clause-line c number is =
-    bad_line c.args.image.now c.args.text.now number (IfErr-at_err (IsFaultOf c.args.image.now c.args.text.now) is c.read_calls.ensures.err)
+returns-clause-line c number cause is =
+    told_line c.args.image.now c.args.text.now cause number (IfErr-at_err (IsFaultOf c.args.image.now c.args.text.now) is c.read_calls.ensures.err)
 
 pub returns-clause-fault : goal.returns-clause-fault
 returns-clause-fault c =

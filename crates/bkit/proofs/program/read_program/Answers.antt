@@ -4,11 +4,8 @@ use Rattle.bk_calls.specs.Script.{request_of, IsScript, IsBadLine, PassesLimit}
 use Rattle.bk_io.specs.Files.{Files}
 use Rattle.bkit.specs.Stops.{IsOutside, StopsAtFile, StopsAtProject, StopsAtObligations}
 use Rattle.bkit.proofs.Stopping.{widen, handed_on, Stopped, at_project, at_obligations, at_script, at_code, at_calls}
-use Rattle.bkit.proofs.Projects.{has_no_inputs, few_operations, few_lines, reads_program}
+use Rattle.bkit.proofs.Projects.{few_operations, few_lines, reads_program}
 use Rattle.bkit.proofs.program.read_program.Goals as goal
-
-pub calls-requires-clause-no_inputs : goal.calls-requires-clause-no_inputs
-calls-requires-clause-no_inputs g c = has_no_inputs c.in_ok-development.development c.in-Ok.image (search rules) (search rules)
 
 pub calls-requires-clause-few_lines : goal.calls-requires-clause-few_lines
 calls-requires-clause-few_lines g c = few_lines c.deref.result.now (search rules)
@@ -65,6 +62,6 @@ returns-clause-cause g c files told =
     (c.in_ok-text.ensures.told files (c.read_development.ensures.files ∙ told))
     c.in-Ok.ensures.ok
     c.in-Ok.ensures.within
-    (λ number e. subst (λ x. IsBadLine c.in-Ok.image x number) c.deref.ensures.value (c.in-Err-calls.ensures.line number (ap Err e)))
+    (λ number cause e. subst (λ x. IsBadLine c.in-Ok.image x number cause) c.deref.ensures.value (c.in-Err-calls.ensures.line number cause (ap Err e)))
     (λ e. subst (λ x. PassesLimit c.in-Ok.image x) c.deref.ensures.value (c.in-Err-calls.ensures.limit (ap Err e)))
     c.in_ok-bad_calls-in-Err-calls.ensures.told

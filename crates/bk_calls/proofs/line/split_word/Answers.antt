@@ -3,8 +3,8 @@ use Rattle.std.specs.Prelude.{position}
 use Rattle.std.proofs.lemmas.Iterator.{YieldsList-from_slice}
 use Rattle.std.proofs.lemmas.Iterator.Search.{position_from_yields_List}
 use Rattle.bk_calls.specs.Reading.{is_plain}
-use Rattle.bk_calls.proofs.Names.{split_front}
-use Rattle.bk_calls.proofs.line.split_name.Goals as goal
+use Rattle.bk_calls.proofs.Words.{split_front}
+use Rattle.bk_calls.proofs.line.split_word.Goals as goal
 
 pub returns-clause-front : goal.returns-clause-front
 returns-clause-front c =

@@ -1,0 +1,170 @@
+-- Numbers that are kept in 64 bits say the same of a line as the written ones.
+use Rattle.std.proofs.Common.{◌≡◌, ℕ, suc, ◌+◌, ◌^◌, ◌-◌, ◌≤◌, ◌<◌, min, leb, inl, inr, refl, sym, ◌∙◌, ap, subst, arith, true, false, List, [], ◌∷◌, ◌++◌, length, drop, get_or, map, drop-cons, drop_of_length-le, append_assoc, Option, Some, None, Ok, Err}
+use Rattle.std.specs.Prelude.{◌⊎◌, ◌&&◌, ℤ, pos, negsuc, neg_ℤ}
+use Rattle.std.specs.List.{list_all}
+use Rattle.std.specs.Option.{option_map}
+use Rattle.std.proofs.lemmas.Bool.{cases_Bool, cases_lt, and_parts, cond-false, leb-true, lt-leb}
+use Rattle.bk_code.specs.declared.image.Image.{Image}
+use Rattle.bk_code.specs.declared.image.Parameter.{Parameter}
+use Rattle.bk_code.specs.declared.image.CellKind.{CellKind}
+use Rattle.bk_code.specs.declared.image.CellKind.TheVariants.{Integer, Bool as Truths, Set}
+use Rattle.bk_code.specs.Numbers.{int_max, is_within}
+use Rattle.bk_calls.specs.CallLine.{Argument, Number, Truth, Element}
+use Rattle.bk_calls.specs.declared.argument.Argument.{Argument as Held}
+use Rattle.bk_calls.specs.Held.{held}
+use Rattle.bk_calls.specs.Script.{value_of, OutOfRange}
+use Rattle.bk_calls.specs.Reading.{kept, kept_argument, in_front_of, values_of, ranged, from_values}
+
+-- the number is that one, or is kept for it
+abbrev IsKept : ℤ → ℤ → Type 0
+IsKept n m = (m ≡ n) ⊎ (m ≡ kept n)
+
+abbrev AreKept : List ℤ → List ℤ → Type 0
+AreKept [] [] = Unit {0}
+AreKept (n ∷ ns) (m ∷ ms) = IsKept n m × AreKept ns ms
+AreKept ns ms = ⊥
+
+abbrev OneKept : Option ℤ → Option ℤ → Type 0
+OneKept None None = Unit {0}
+OneKept (Some n) (Some m) = IsKept n m
+OneKept o p = ⊥
+
+abbrev AllKept : Option (List ℤ) → Option (List ℤ) → Type 0
+AllKept None None = Unit {0}
+AllKept (Some ns) (Some ms) = AreKept ns ms
+AllKept o p = ⊥
+
+same_kept : (o : Option ℤ) → OneKept o o
+same_kept None = tt
+same_kept (Some n) = inl refl
+
+value_kept : (image : Image) (kind : CellKind) (a : Argument) → OneKept (value_of image kind a) (value_of image kind (kept_argument a))
+value_kept image Integer (Number n) = inr refl
+value_kept image Integer (Truth b) = tt
+value_kept image Integer (Element name) = tt
+value_kept image Truths (Number n) = tt
+value_kept image Truths (Truth b) = inl refl
+value_kept image Truths (Element name) = tt
+value_kept image (Set k) (Number n) = tt
+value_kept image (Set k) (Truth b) = tt
+value_kept image (Set k) (Element name) = same_kept (value_of image (Set k) (Element name))
+
+both_kept : (o p : Option ℤ) (os ps : Option (List ℤ)) → OneKept o p → AllKept os ps → AllKept (in_front_of o os) (in_front_of p ps)
+both_kept None None os ps h k = tt
+both_kept None (Some m) os ps h k = absurd h
+both_kept (Some n) None os ps h k = absurd h
+both_kept (Some n) (Some m) None None h k = tt
+both_kept (Some n) (Some m) None (Some ms) h k = absurd k
+both_kept (Some n) (Some m) (Some ns) None h k = absurd k
+both_kept (Some n) (Some m) (Some ns) (Some ms) h k = (h, k)
+
+values_kept : (image : Image) (inputs : List Parameter) (arguments : List Argument) → AllKept (values_of image inputs arguments) (values_of image inputs (map kept_argument arguments))
+values_kept image [] [] = tt
+values_kept image [] (a ∷ arguments) = tt
+values_kept image (input ∷ inputs) [] = tt
+values_kept image (input ∷ inputs) (a ∷ arguments) =
+    both_kept (value_of image input.kind a) (value_of image input.kind (kept_argument a)) (values_of image inputs arguments) (values_of image inputs (map kept_argument arguments))
+    (value_kept image input.kind a) (values_kept image inputs arguments)
+
+-- ---- the range
+past_range : (image : Image) (n : ℕ) → 2147483647 ≤ n → is_within (int_max image) (negsuc n) ≡ false
+past_range image n h = ap (λ b. b && true) (lt-leb n 2147483646 (omega arith))
+
+kept_within : (image : Image) (n : ℤ) → is_within (int_max image) (kept n) ≡ is_within (int_max image) n
+kept_within image (pos n) = grind arith
+kept_within image (negsuc n) =
+    elim (cases_lt n 9223372036854775807) [
+      | inl lt ↦ (let e : min (n + 1) (2 ^ 63 - 1) ≡ suc n = omega arith in ap (λ k. is_within (int_max image) (neg_ℤ (pos k))) e)
+      | inr ge ↦ (
+          let e : min (n + 1) (2 ^ 63 - 1) ≡ 9223372036854775807 = omega arith in
+          ap (λ k. is_within (int_max image) (neg_ℤ (pos k))) e ∙ sym (past_range image n (omega arith)))
+    ]
+
+within_kept : (image : Image) (n : ℤ) → is_within (int_max image) n ≡ true → kept n ≡ n
+within_kept image (pos n) h = (let low : n ≤ 2147483647 = leb-true n 2147483647 h in ap pos (omega arith))
+within_kept image (negsuc n) h =
+    let low : n ≤ 2147483646 = leb-true n 2147483646 (and_parts (leb n 2147483646) true h).0 in
+    let e : min (n + 1) (2 ^ 63 - 1) ≡ suc n = omega arith in
+    ap (λ k. neg_ℤ (pos k)) e
+
+one_within : (image : Image) (n m : ℤ) → IsKept n m → is_within (int_max image) m ≡ is_within (int_max image) n
+one_within image n m (inl h) = ap (is_within (int_max image)) h
+one_within image n m (inr h) = ap (is_within (int_max image)) h ∙ kept_within image n
+
+one_same : (image : Image) (n m : ℤ) → IsKept n m → is_within (int_max image) n ≡ true → m ≡ n
+one_same image n m (inl h) within = h
+one_same image n m (inr h) within = h ∙ within_kept image n within
+
+all_within : (image : Image) (ns ms : List ℤ) → AreKept ns ms → list_all (is_within (int_max image)) ms ≡ list_all (is_within (int_max image)) ns
+all_within image [] [] h = refl
+all_within image [] (m ∷ ms) h = absurd h
+all_within image (n ∷ ns) [] h = absurd h
+all_within image (n ∷ ns) (m ∷ ms) h =
+    ap (λ b. b && list_all (is_within (int_max image)) ms) (one_within image n m h.0) ∙ ap (λ b. is_within (int_max image) n && b) (all_within image ns ms h.1)
+
+all_same : (image : Image) (ns ms : List ℤ) → AreKept ns ms → list_all (is_within (int_max image)) ns ≡ true → ms ≡ ns
+all_same image [] [] h within = refl
+all_same image [] (m ∷ ms) h within = absurd h
+all_same image (n ∷ ns) [] h within = absurd h
+all_same image (n ∷ ns) (m ∷ ms) h within =
+    let parts = and_parts (is_within (int_max image) n) (list_all (is_within (int_max image)) ns) within in
+    ap (λ k. k ∷ ms) (one_same image n m h.0 parts.0) ∙ ap (λ t. n ∷ t) (all_same image ns ms h.1 parts.1)
+
+ranged_kept : (image : Image) (op : ℕ) (ns ms : List ℤ) → AreKept ns ms → ranged image op ms ≡ ranged image op ns
+ranged_kept image op ns ms h =
+    elim (cases_Bool (list_all (is_within (int_max image)) ns)) [
+      | inl holds ↦ ap (ranged image op) (all_same image ns ms h holds)
+      | inr fails ↦ cond-false (list_all (is_within (int_max image)) ms) (Ok (record { op = op; args = ms })) (Err OutOfRange) (all_within image ns ms h ∙ fails)
+          ∙ sym (cond-false (list_all (is_within (int_max image)) ns) (Ok (record { op = op; args = ns })) (Err OutOfRange) fails)
+    ]
+
+from_kept : (image : Image) (op : ℕ) (o p : Option (List ℤ)) → AllKept o p → from_values image op p ≡ from_values image op o
+from_kept image op None None h = refl
+from_kept image op None (Some ms) h = absurd h
+from_kept image op (Some ns) None h = absurd h
+from_kept image op (Some ns) (Some ms) h = ranged_kept image op ns ms h
+
+pub kept_values : (image : Image) (op : ℕ) (inputs : List Parameter) (arguments : List Argument) →
+    from_values image op (values_of image inputs (map kept_argument arguments)) ≡ from_values image op (values_of image inputs arguments)
+kept_values image op inputs arguments = from_kept image op (values_of image inputs arguments) (values_of image inputs (map kept_argument arguments)) (values_kept image inputs arguments)
+
+-- ---- one argument more is read
+pub uncounted : (image : Image) (inputs : List Parameter) (arguments : List Argument) → (length arguments ≡ length inputs → ⊥) → None ≡ values_of image inputs arguments
+uncounted image [] [] h = absurd (h refl)
+uncounted image [] (a ∷ arguments) h = refl
+uncounted image (input ∷ inputs) [] h = refl
+uncounted image (input ∷ inputs) (a ∷ arguments) h = front_none (value_of image input.kind a) (values_of image inputs arguments) (uncounted image inputs arguments (λ e. h (ap suc e)))
+  where
+    front_none : (o : Option ℤ) (os : Option (List ℤ)) → None ≡ os → None ≡ in_front_of o os
+    front_none None os k = refl
+    front_none (Some n) None k = refl
+    front_none (Some n) (Some ns) k = absurd cc
+
+abbrev pub behind_numbers : List ℤ → Option (List ℤ) → Option (List ℤ)
+behind_numbers first os = option_map (λ others. first ++ others) os
+
+pub number_more : (first : List ℤ) (n : ℤ) (o : Option ℤ) (os : Option (List ℤ)) → Some n ≡ o → behind_numbers (first ++ (n ∷ [])) os ≡ behind_numbers first (in_front_of o os)
+number_more first n None os h = absurd cc
+number_more first n (Some m) None h = refl
+number_more first n (Some m) (Some ms) h =
+    let e : n ≡ m = cc in
+    ap (λ t. Some t) (append_assoc first (n ∷ []) ms) ∙ ap (λ k. Some (first ++ (k ∷ ms))) e
+
+pub number_none : (first : List ℤ) (o : Option ℤ) (os : Option (List ℤ)) → None ≡ o → behind_numbers first (in_front_of o os) ≡ None
+number_none first None os h = refl
+number_none first (Some m) os h = absurd cc
+
+-- the values of inputs and arguments from a place on
+abbrev pub values_from : Image → ℕ → List Parameter → List Held → Option (List ℤ)
+values_from image i inputs arguments = values_of image (drop i inputs) (map held (drop i arguments))
+
+pub values_at : (image : Image) (i : ℕ) (inputs : List Parameter) (arguments : List Held) (input : Parameter) (a : Held) → i < length inputs → i < length arguments →
+    values_from image i inputs arguments ≡ in_front_of (value_of image (get_or inputs i input).kind (held (get_or arguments i a))) (values_from image (i + 1) inputs arguments)
+values_at image i inputs arguments input a h k =
+    let next : suc i ≡ i + 1 = omega arith in
+    let parts : values_from image i inputs arguments ≡ in_front_of (value_of image (get_or inputs i input).kind (held (get_or arguments i a))) (values_from image (suc i) inputs arguments) =
+    ap (λ t. values_of image t (map held (drop i arguments))) (drop-cons inputs i input h) ∙ ap (λ t. values_of image (get_or inputs i input ∷ drop (suc i) inputs) (map held t)) (drop-cons arguments i a k) in
+    subst (λ j. values_from image i inputs arguments ≡ in_front_of (value_of image (get_or inputs i input).kind (held (get_or arguments i a))) (values_from image j inputs arguments)) next parts
+
+pub values_end : (image : Image) (i : ℕ) (inputs : List Parameter) (arguments : List Held) → length inputs ≤ i → length arguments ≤ i → values_from image i inputs arguments ≡ Some []
+values_end image i inputs arguments h k = ap (λ t. values_of image t (map held (drop i arguments))) (drop_of_length-le inputs h) ∙ ap (λ t. values_of image [] (map held t)) (drop_of_length-le arguments k)
