@@ -12,7 +12,7 @@ use Rattle.bk_front.specs.declared.component.RightSide.{RightSide}
 use Rattle.bk_front.specs.declared.component.RightSide.TheVariants.{Constant, Variable}
 use Rattle.bk_front.specs.Spelling.{IsSide, IsAction, IsOperation, IsComponent, ArePair}
 use Rattle.bk_front.specs.Reading.{output_in, outputs_in, side_of, body_of, bodies_of, head_of, lower_variable, variables_of, development_of}
-use Rattle.bk_gen.specs.Simple.{IsSimpleTerm, IsSimpleStatement}
+use Rattle.bk_gen.specs.Simple.{IsSimpleTerm, IsSimpleStatement, IsShallow, EvaluatesShallow}
 use Rattle.bk_front.specs.FirstForm.{IsFirstForm}
 use Rattle.bk_front.proofs.Homes.{all-ints}
 
@@ -37,6 +37,22 @@ module _ (x : ℕ) where
       (body_simple name r o.action (All-head (IsOperation name) o os a).action)
       (bodies_simple name next os (All-tail (IsOperation name) o os a))
 
+module _ (x : ℕ) where
+  side_shallow : (e : RightSide) → IsShallow (side_of x e)
+  side_shallow (Constant n) = omega arith
+  side_shallow Variable = omega arith
+
+  pub body_shallow : (r : ℕ) (a : Action) → EvaluatesShallow (body_of x r a).sub
+  body_shallow r Skip = tt
+  body_shallow r (Set e) = (side_shallow e, tt)
+  body_shallow r (Answer t e) = (side_shallow e, tt)
+
+  bodies_shallow : (r : ℕ) (os : List Operation) → All (λ b. EvaluatesShallow b.sub) (bodies_of x r os)
+  bodies_shallow r [] = All-nil (λ b. EvaluatesShallow b.sub)
+  bodies_shallow r (o ∷ os) =
+      let next = r + length (output_in o.action) in
+      All-cons (λ b. EvaluatesShallow b.sub) (body_of x r o.action) (bodies_of x next os) (body_shallow r o.action) (bodies_shallow next os)
+
 no-inputs : (os : List Operation) → All (λ h. h.inputs ≡ []) (map head_of os)
 no-inputs [] = All-nil (λ h. h.inputs ≡ [])
 no-inputs (o ∷ os) = All-cons (λ h. h.inputs ≡ []) (head_of o) (map head_of os) refl (no-inputs os)
@@ -50,6 +66,8 @@ first_form m i c d p = record {
     whole_numbers = All-append (λ v. v.of_type ≡ int_type) (variables_of (codes "$0") m) (variables_of (codes "$1") i) (all-ints (codes "$0") (m.variable ∷ outputs_in m.operations)) (all-ints (codes "$1") (i.variable ∷ outputs_in i.operations));
     init = small_number i.start d.start;
     bodies = bodies_simple (lower_variable m) i.variable (lower_variable m + 1) i.operations d.operations;
+    init_shallow = (omega arith, tt);
+    bodies_shallow = bodies_shallow (lower_variable m) (lower_variable m + 1) i.operations;
   };
   inputs = no-inputs m.operations;
 }

@@ -24,7 +24,7 @@ translation_loadable dev f s few short =
     let code : length (translation dev).code ≡ length (plain_image (last_cells dev) dev.heads (level_at dev (last dev))).code = ap (λ image. length image.code) (translation_is dev f s) in
     let count : cell_count dev ≡ length (last_cells dev) = cell_count_is dev s in
     subst IsLoadable (sym (translation_is dev f s))
-    (loadable (last_cells dev) dev.heads (level_at dev (last dev)) s.init s.bodies (init_named dev f s) (bodies_named dev f s) (operations_named dev) (subst (λ n. n ≤ 1000000) count few) (subst (λ n. n ≤ 1000000) code short))
+    (loadable (last_cells dev) dev.heads (level_at dev (last dev)) s.init s.bodies s.init_shallow s.bodies_shallow (init_named dev f s) (bodies_named dev f s) (operations_named dev) (subst (λ n. n ≤ 1000000) count few) (subst (λ n. n ≤ 1000000) code short))
 
 -- ---- the limits
 pub code_size_from : (dev : Development) → IsDevelopment dev → IsSimple dev → (level : Level) (size : ℕ) → level ≡ level_at dev (last dev) → size ≡ min (block_size level.init + blocks_size level.bodies) 18446744073709551615 → size ≤ 1000000 → length (translation dev).code ≤ 1000000

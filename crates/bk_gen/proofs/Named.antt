@@ -1,13 +1,14 @@
 -- What the last level of a simple development names has a cell.
 use Rattle.std.proofs.Common.{◌≡◌, ℕ, List, [], ◌∷◌, ◌++◌, ◌||◌, refl, ◌∙◌, ap, subst, Bool, true, false, All, ℤ}
 use Rattle.std.proofs.lemmas.List.Elements.{All-head, All-tail}
-use Rattle.bk_form.specs.Formula.{Formula, variable, literal}
-use Rattle.bk_gsl.specs.Substitution.{Substitution, skip, assign}
+use Rattle.bk_form.specs.Formula.{Formula, variable, unary, binary}
+use Rattle.bk_form.specs.Replacement.{occurs}
+use Rattle.bk_gsl.specs.Substitution.{Substitution, skip, assign, if_else}
 use Rattle.bk_gsl.specs.State.{among, firsts}
 use Rattle.bk_gsl.proofs.States.{among-append, clash, nat_eq-self}
 use Rattle.bk_dev.specs.Development.{Head, Body, Development, int_max, level_at, last}
 use Rattle.bk_dev.specs.Facts.{Each, EachBody, IsSubOf, IsDevelopment, HasItsValues, StaysIn, AssignsIn, Names, names_own, names_joined, writes_own, is_constant, is_variable_of, home_of}
-use Rattle.bk_gen.specs.Simple.{IsSimpleTerm, IsSimpleAssignment, IsSimpleStatement, IsSimple}
+use Rattle.bk_gen.specs.Simple.{IsSimpleStatement, IsSimple}
 use Rattle.bk_gen.specs.Plain.{operation_cells}
 use Rattle.bk_gen.proofs.Plain.{last_cells, last_level}
 use Rattle.bk_gen.proofs.Loadable.{NamesCells, SetsCells, HasCells, AreInside, HaveCells}
@@ -37,21 +38,30 @@ among-right : (xs ys : List ℕ) (n : ℕ) → among ys n ≡ true → among (xs
 among-right xs ys n h = among-append xs ys n ∙ or-right (among xs n) (among ys n) h
 
 -- ---- a statement
-term_named : (cells : List ℕ) (visible : ℕ → Bool) (f : Formula) (max : ℤ) → ((n : ℕ) → visible n ≡ true → among cells n ≡ true) → IsSimpleTerm max f → Names visible f → NamesCells cells f
-term_named cells visible (variable y) max see simple names = see y (names.visible_only y (nat_eq-self y))
-term_named cells visible (literal z) max see simple names = tt
-term_named cells visible f max see simple names = absurd simple
+formula_named : (cells : List ℕ) (f : Formula) → ((n : ℕ) → occurs n f ≡ true → among cells n ≡ true) → NamesCells cells f
+formula_named cells (variable y) h = h y (nat_eq-self y)
+formula_named cells (unary o a) h = formula_named cells a h
+formula_named cells (binary o a b) h = (formula_named cells a (λ n k. h n (or-left (occurs n a) (occurs n b) k)), formula_named cells b (λ n k. h n (or-right (occurs n a) (occurs n b) k)))
+formula_named cells f h = tt
 
-setting_named : (cells : List ℕ) (visible writable : ℕ → Bool) (ps : List (ℕ × Formula)) (max : ℤ) → ((n : ℕ) → visible n ≡ true → among cells n ≡ true) → ((n : ℕ) → writable n ≡ true → among cells n ≡ true) →
-    IsSimpleAssignment max ps → AssignsIn visible writable ps → SetsCells cells ps
-setting_named cells visible writable [] max see write simple stays = tt
-setting_named cells visible writable (p ∷ q ∷ ps) max see write simple stays = tt
-setting_named cells visible writable (p ∷ []) max see write simple stays = (write p.0 stays.0, term_named cells visible p.1 max see simple stays.1)
+value_named : (cells : List ℕ) (visible : ℕ → Bool) (f : Formula) → ((n : ℕ) → visible n ≡ true → among cells n ≡ true) → Names visible f → NamesCells cells f
+value_named cells visible f see names = formula_named cells f (λ n h. see n (names.visible_only n h))
+
+setting_named : (cells : List ℕ) (visible writable : ℕ → Bool) (ps : List (ℕ × Formula)) → ((n : ℕ) → visible n ≡ true → among cells n ≡ true) → ((n : ℕ) → writable n ≡ true → among cells n ≡ true) →
+    AssignsIn visible writable ps → SetsCells cells ps
+setting_named cells visible writable [] see write stays = tt
+setting_named cells visible writable (p ∷ q ∷ ps) see write stays = tt
+setting_named cells visible writable (p ∷ []) see write stays = (write p.0 stays.0, value_named cells visible p.1 see stays.1)
 
 statement_named : (cells : List ℕ) (visible above writable : ℕ → Bool) (s : Substitution) (max : ℤ) → ((n : ℕ) → visible n ≡ true → among cells n ≡ true) → ((n : ℕ) → writable n ≡ true → among cells n ≡ true) →
     IsSimpleStatement max s → StaysIn visible above writable s → HasCells cells s
 statement_named cells visible above writable skip max see write simple stays = tt
-statement_named cells visible above writable (assign ps) max see write simple stays = setting_named cells visible writable ps max see write simple stays
+statement_named cells visible above writable (assign ps) max see write simple stays = setting_named cells visible writable ps see write stays
+statement_named cells visible above writable (if_else p s t) max see write simple stays = (
+  value_named cells visible p see stays.0,
+  statement_named cells visible above writable s max see write simple.1 stays.1,
+  statement_named cells visible above writable t max see write simple.2 stays.2,
+)
 statement_named cells visible above writable s max see write simple stays = absurd simple
 
 -- ---- the level

@@ -1,5 +1,5 @@
 -- A simple development is translated statement by statement, over cells of one variable each.
-use Rattle.std.proofs.Common.{◌≡◌, ◌⊎◌, ◌<◌, inl, inr, ℕ, zero, suc, ◌+◌, List, [], ◌∷◌, ◌++◌, map, length, Some, None, Option, refl, ◌∙◌, ap, subst, Bool, true, false, cond, arith, nat_eq, ℤ, All}
+use Rattle.std.proofs.Common.{◌≡◌, ◌⊎◌, ◌<◌, inl, inr, ℕ, zero, suc, ◌+◌, List, [], ◌∷◌, ◌++◌, map, length, Some, None, Option, refl, ◌∙◌, ap, subst, Bool, true, false, cond, arith, nat_eq, ℤ, pos, All, append_assoc}
 use Rattle.std.specs.Prelude.{find, slice_index_or, unwrap_or}
 use Rattle.std.specs.List.{filter_map, slice_get, cons_option}
 use Rattle.std.specs.Option.{option_map}
@@ -8,11 +8,12 @@ use Rattle.std.proofs.lemmas.List.Elements.{All-head, All-tail}
 use Rattle.std.proofs.lemmas.Option.{slice_get_within}
 use Rattle.bk_val.specs.ValueType.{ValueType, int_type, bool_type}
 use Rattle.bk_form.specs.Table.{VariableEntry, variable_type}
-use Rattle.bk_form.specs.Formula.{Formula, variable, literal, binary}
+use Rattle.bk_form.specs.Formula.{Formula, variable, literal, unary, binary}
 use Rattle.bk_form.specs.ArrayTable.{row_of}
-use Rattle.bk_form.specs.declared.operator.BinOp.TheVariants.{TotalFunctions}
+use Rattle.bk_form.specs.declared.operator.UnOp.TheVariants.{Not, Neg as Minus}
+use Rattle.bk_form.specs.declared.operator.BinOp.TheVariants.{And, Or, Eq as Equals, Lt as Below, Le as AtMost, Add as Plus, Sub as Less, TotalFunctions}
 use Rattle.bk_form.specs.declared.arrays.ArrayRow.{ArrayRow}
-use Rattle.bk_gsl.specs.Substitution.{Substitution, skip, assign}
+use Rattle.bk_gsl.specs.Substitution.{Substitution, skip, assign, if_else}
 use Rattle.bk_gsl.specs.State.{declared_type}
 use Rattle.bk_gsl.proofs.States.{clash}
 use Rattle.bk_dev.specs.declared.kind.Home.{Home}
@@ -21,10 +22,11 @@ use Rattle.bk_dev.specs.Facts.{is_input, is_inner_of, home_of, AllAre, Each, Eac
 use Rattle.bk_dev.specs.Layout.{Clue, in_domain, equals, silent, typing_clue, reversed, has_scalars, array_row, indices_of, row_by, arrays_of, row_cells, cells_of, locals, operation_variables, cell_variables, cell_among, cell_of, cells_in, cell_count}
 use Rattle.bk_code.specs.declared.image.OpEntry.{OpEntry}
 use Rattle.bk_code.specs.declared.image.CellKind.TheVariants.{Integer}
-use Rattle.bk_code.specs.declared.instruction.Inst.TheVariants.{Load, Store, Ret}
+use Rattle.bk_code.specs.declared.instruction.Inst.{Inst}
+use Rattle.bk_code.specs.declared.instruction.Inst.TheVariants.{Push, Load, Store, Add, Sub, Neg, Eq, Lt, Le, Not as Invert, Jump, JumpZero, Ret}
 use Rattle.bk_gen.specs.Translation.{name_code, value_code, store_code, assign_code, statement_code, kind_of_type, parameter_of, operation_code, entries, operations_code, init_code, translation}
-use Rattle.bk_gen.specs.Simple.{IsSimpleTerm, IsSimpleAssignment, IsSimpleStatement, IsSimple}
-use Rattle.bk_gen.specs.Plain.{operation_cells, plain_cells, slot_of, operand_code, setting_code, plain_code, block_code, blocks_code, block_size, blocks_size, plain_parameter, plain_entry, plain_entries, plain_image}
+use Rattle.bk_gen.specs.Simple.{IsSimpleTerm, IsSimpleCondition, IsSimpleAssignment, IsSimpleStatement, IsSimple}
+use Rattle.bk_gen.specs.Plain.{operation_cells, plain_cells, slot_of, term_code, condition_code, fork_code, setting_code, plain_code, block_code, blocks_code, value_size, setting_size, statement_size, block_size, blocks_size, plain_parameter, plain_entry, plain_entries, plain_image}
 
 -- ---- the last level
 pub each_level : (dev : Development) (k : ℕ) (ls : List Level) (i : ℕ) → i < length ls → EachLevel dev k ls → IsLevelOf dev (k + i) (slice_index_or ls i blank_level)
@@ -101,6 +103,10 @@ count_is dev s (y ∷ ys) = omega (arith, one_cell dev s y, count_is dev s ys)
 no_locals : (max : ℤ) (s : Substitution) → IsSimpleStatement max s → locals s ≡ []
 no_locals max skip h = refl
 no_locals max (assign ps) h = refl
+no_locals max (if_else p u v) h =
+    let first : locals u ≡ [] = no_locals max u h.1 in
+    let second : locals v ≡ [] = no_locals max v h.2 in
+    rw (first, second) refl
 no_locals max s h = absurd h
 
 same_variables : (max : ℤ) (hs : List Head) (bs : List Body) → All (λ b. IsSimpleStatement max b.sub) bs → operation_variables hs bs ≡ operation_cells hs bs
@@ -128,28 +134,49 @@ pub cell_count_is : (dev : Development) → IsSimple dev → cell_count dev ≡ 
 cell_count_is dev s = count_is dev s (cell_variables dev) ∙ ap length (cells_are dev s)
 
 -- ---- statements
+two : (f : List Inst → List Inst → List Inst) {xs xs' ys ys' : List Inst} → xs ≡ xs' → ys ≡ ys' → f xs ys ≡ f xs' ys'
+two f {xs} {xs'} {ys} {ys'} h k = ap (λ zs. f zs ys) h ∙ ap (f xs') k
+
 variable_code : (dev : Development) → IsSimple dev → (x : ℕ) → name_code dev x dev.values ≡ Load (slot_of (last_cells dev) x) ∷ []
 variable_code dev s x = ap (name_code dev x) s.no_values ∙ ap (λ slot. Load slot ∷ []) (cell_is dev s x)
 
-operand_is : (dev : Development) → IsSimple dev → (max : ℤ) (f : Formula) → IsSimpleTerm max f → value_code dev f ≡ operand_code (last_cells dev) f
-operand_is dev s max (variable x) h = variable_code dev s x
-operand_is dev s max (literal z) h = refl
-operand_is dev s max f h = absurd h
+term_is : (dev : Development) → IsSimple dev → (max : ℤ) (f : Formula) → IsSimpleTerm max f → value_code dev f ≡ term_code (last_cells dev) f
+term_is dev s max (variable x) h = variable_code dev s x
+term_is dev s max (literal z) h = refl
+term_is dev s max (unary Minus a) h = ap (λ code. code ++ Neg ∷ []) (term_is dev s max a h)
+term_is dev s max (binary Plus a b) h = two (λ xs ys. xs ++ ys ++ Add ∷ []) (term_is dev s max a h.0) (term_is dev s max b h.1)
+term_is dev s max (binary Less a b) h = two (λ xs ys. xs ++ ys ++ Sub ∷ []) (term_is dev s max a h.0) (term_is dev s max b h.1)
+term_is dev s max f h = absurd h
+
+condition_is : (dev : Development) → IsSimple dev → (max : ℤ) (f : Formula) → IsSimpleCondition max f → value_code dev f ≡ condition_code (last_cells dev) f
+condition_is dev s max (binary Equals a b) h = two (λ xs ys. xs ++ ys ++ Eq ∷ []) (term_is dev s max a h.0) (term_is dev s max b h.1)
+condition_is dev s max (binary Below a b) h = two (λ xs ys. xs ++ ys ++ Lt ∷ []) (term_is dev s max a h.0) (term_is dev s max b h.1)
+condition_is dev s max (binary AtMost a b) h = two (λ xs ys. xs ++ ys ++ Le ∷ []) (term_is dev s max a h.0) (term_is dev s max b h.1)
+condition_is dev s max (unary Not p) h = ap (λ code. code ++ Invert ∷ []) (condition_is dev s max p h)
+condition_is dev s max (binary And p q) h =
+    append_assoc (value_code dev p) (JumpZero (pos (length (value_code dev q) + 2)) ∷ value_code dev q) (Jump (pos 2) ∷ Push (pos 0) ∷ []) ∙
+    two (λ xs ys. xs ++ fork_code ys (Push (pos 0) ∷ [])) (condition_is dev s max p h.0) (condition_is dev s max q h.1)
+condition_is dev s max (binary Or p q) h = two (λ xs ys. xs ++ fork_code (Push (pos 1) ∷ []) ys) (condition_is dev s max p h.0) (condition_is dev s max q h.1)
+condition_is dev s max f h = absurd h
 
 setting_is : (dev : Development) → IsSimple dev → (max : ℤ) (ps : List (ℕ × Formula)) → IsSimpleAssignment max ps → assign_code dev ps ≡ setting_code (last_cells dev) ps
 setting_is dev s max [] h = absurd h
 setting_is dev s max (p ∷ q ∷ ps) h = absurd h
 setting_is dev s max (p ∷ []) h =
     ap (λ o. store_code dev p.0 o p.1) (no_row_of dev s p.0) ∙
-    (ap (λ code. code ++ Store (cell_of dev p.0) ∷ []) (operand_is dev s max p.1 h) ∙
-    ap (λ slot. operand_code (last_cells dev) p.1 ++ Store slot ∷ []) (cell_is dev s p.0))
+    (ap (λ code. code ++ Store (cell_of dev p.0) ∷ []) (term_is dev s max p.1 h) ∙
+    ap (λ slot. term_code (last_cells dev) p.1 ++ Store slot ∷ []) (cell_is dev s p.0))
 
 statement_is : (dev : Development) → IsSimple dev → (max : ℤ) (sub : Substitution) → IsSimpleStatement max sub → statement_code dev sub ≡ plain_code (last_cells dev) sub
 statement_is dev s max skip h = refl
 statement_is dev s max (assign ps) h = setting_is dev s max ps h
+statement_is dev s max (if_else p u v) h =
+    append_assoc (value_code dev p) (JumpZero (pos (length (statement_code dev u) + 2)) ∷ statement_code dev u) (Jump (pos (length (statement_code dev v) + 1)) ∷ statement_code dev v) ∙
+    ap (λ code. code ++ fork_code (statement_code dev u) (statement_code dev v)) (condition_is dev s max p h.0) ∙
+    two (λ xs ys. condition_code (last_cells dev) p ++ fork_code xs ys) (statement_is dev s max u h.1) (statement_is dev s max v h.2)
 statement_is dev s max sub h = absurd h
 
-block_is : (dev : Development) → IsSimple dev → (sub : Substitution) → IsSimpleStatement (int_max dev) sub → statement_code dev sub ++ Ret ∷ [] ≡ block_code (last_cells dev) sub
+pub block_is : (dev : Development) → IsSimple dev → (sub : Substitution) → IsSimpleStatement (int_max dev) sub → statement_code dev sub ++ Ret ∷ [] ≡ block_code (last_cells dev) sub
 block_is dev s sub h = ap (λ code. code ++ Ret ∷ []) (statement_is dev s (int_max dev) sub h)
 
 blocks_are : (dev : Development) → IsSimple dev → (bs : List Body) → All (λ b. IsSimpleStatement (int_max dev) b.sub) bs → operations_code dev bs ≡ blocks_code (last_cells dev) bs
@@ -221,20 +248,43 @@ translation_is dev f s =
     cc
 
 -- ---- sizes
-operand_size : (max : ℤ) (cells : List ℕ) (f : Formula) → IsSimpleTerm max f → length (operand_code cells f) ≡ 1
-operand_size max cells (variable x) h = refl
-operand_size max cells (literal z) h = refl
-operand_size max cells f h = absurd h
+pair_size : (xs ys : List Inst) (inst : Inst) (m n : ℕ) → length xs ≡ m → length ys ≡ n → length (xs ++ ys ++ inst ∷ []) ≡ m + n + 1
+pair_size xs ys inst m n h k = omega (arith, length-append (xs ++ ys) (inst ∷ []), length-append xs ys)
 
-setting_size : (max : ℤ) (cells : List ℕ) (ps : List (ℕ × Formula)) → IsSimpleAssignment max ps → length (setting_code cells ps) ≡ 2
-setting_size max cells [] h = absurd h
-setting_size max cells (p ∷ q ∷ ps) h = absurd h
-setting_size max cells (p ∷ []) h = omega (arith, length-append (operand_code cells p.1) (Store (slot_of cells p.0) ∷ []), operand_size max cells p.1 h)
+fork_size : (test first second : List Inst) → length (test ++ fork_code first second) ≡ length test + length first + length second + 2
+fork_size test first second = omega (arith, length-append test (fork_code first second), length-append first (Jump (pos (length second + 1)) ∷ second))
+
+pub term_size_is : (max : ℤ) (cells : List ℕ) (f : Formula) → IsSimpleTerm max f → length (term_code cells f) ≡ value_size f
+term_size_is max cells (variable x) h = refl
+term_size_is max cells (literal z) h = refl
+term_size_is max cells (unary Minus a) h = omega (arith, length-append (term_code cells a) (Neg ∷ []), term_size_is max cells a h)
+term_size_is max cells (binary Plus a b) h = pair_size (term_code cells a) (term_code cells b) Add (value_size a) (value_size b) (term_size_is max cells a h.0) (term_size_is max cells b h.1)
+term_size_is max cells (binary Less a b) h = pair_size (term_code cells a) (term_code cells b) Sub (value_size a) (value_size b) (term_size_is max cells a h.0) (term_size_is max cells b h.1)
+term_size_is max cells f h = absurd h
+
+pub condition_size_is : (max : ℤ) (cells : List ℕ) (f : Formula) → IsSimpleCondition max f → length (condition_code cells f) ≡ value_size f
+condition_size_is max cells (binary Equals a b) h = pair_size (term_code cells a) (term_code cells b) Eq (value_size a) (value_size b) (term_size_is max cells a h.0) (term_size_is max cells b h.1)
+condition_size_is max cells (binary Below a b) h = pair_size (term_code cells a) (term_code cells b) Lt (value_size a) (value_size b) (term_size_is max cells a h.0) (term_size_is max cells b h.1)
+condition_size_is max cells (binary AtMost a b) h = pair_size (term_code cells a) (term_code cells b) Le (value_size a) (value_size b) (term_size_is max cells a h.0) (term_size_is max cells b h.1)
+condition_size_is max cells (unary Not p) h = omega (arith, length-append (condition_code cells p) (Invert ∷ []), condition_size_is max cells p h)
+condition_size_is max cells (binary And p q) h = omega (arith, condition_size_is max cells p h.0, condition_size_is max cells q h.1, fork_size (condition_code cells p) (condition_code cells q) (Push (pos 0) ∷ []))
+condition_size_is max cells (binary Or p q) h = omega (arith, condition_size_is max cells p h.0, condition_size_is max cells q h.1, fork_size (condition_code cells p) (Push (pos 1) ∷ []) (condition_code cells q))
+condition_size_is max cells f h = absurd h
+
+setting_size_is : (max : ℤ) (cells : List ℕ) (ps : List (ℕ × Formula)) → IsSimpleAssignment max ps → length (setting_code cells ps) ≡ setting_size ps
+setting_size_is max cells [] h = absurd h
+setting_size_is max cells (p ∷ q ∷ ps) h = absurd h
+setting_size_is max cells (p ∷ []) h = omega (arith, length-append (term_code cells p.1) (Store (slot_of cells p.0) ∷ []), term_size_is max cells p.1 h)
+
+pub statement_size_is : (max : ℤ) (cells : List ℕ) (sub : Substitution) → IsSimpleStatement max sub → length (plain_code cells sub) ≡ statement_size sub
+statement_size_is max cells skip h = refl
+statement_size_is max cells (assign ps) h = setting_size_is max cells ps h
+statement_size_is max cells (if_else p s t) h =
+    omega (arith, condition_size_is max cells p h.0, statement_size_is max cells s h.1, statement_size_is max cells t h.2, fork_size (condition_code cells p) (plain_code cells s) (plain_code cells t))
+statement_size_is max cells sub h = absurd h
 
 pub block_size_is : (max : ℤ) (cells : List ℕ) (sub : Substitution) → IsSimpleStatement max sub → length (block_code cells sub) ≡ block_size sub
-block_size_is max cells skip h = refl
-block_size_is max cells (assign ps) h = omega (arith, length-append (setting_code cells ps) (Ret ∷ []), setting_size max cells ps h)
-block_size_is max cells sub h = absurd h
+block_size_is max cells sub h = omega (arith, length-append (plain_code cells sub) (Ret ∷ []), statement_size_is max cells sub h)
 
 blocks_size_are : (max : ℤ) (cells : List ℕ) (bs : List Body) → All (λ b. IsSimpleStatement max b.sub) bs → length (blocks_code cells bs) ≡ blocks_size bs
 blocks_size_are max cells [] a = refl

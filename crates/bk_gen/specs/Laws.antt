@@ -1,11 +1,15 @@
 -- What small developments and substitutions are translated to, as statements.
-use Rattle.std.specs.Prelude.{◌≡◌, pos, neg_ℤ, [], ◌∷◌}
+use Rattle.std.specs.Prelude.{◌≡◌, ℕ, pos, neg_ℤ, List, [], ◌∷◌}
 use Rattle.bk_form.specs.Formula.{variable, literal, binary, btrue}
-use Rattle.bk_form.specs.declared.operator.BinOp.TheVariants.{And, Or, Lt as Below, Sub as Less}
-use Rattle.bk_gsl.specs.Substitution.{skip, assign, if_else, loop}
-use Rattle.bk_dev.specs.Counter.{counter, reset_name, setmax_name, get_name}
+use Rattle.bk_form.specs.declared.operator.BinOp.TheVariants.{And, Or, Lt as Below, Add as Plus, Sub as Less, In, Range}
+use Rattle.bk_gsl.specs.Substitution.{Substitution, skip, assign, if_else, loop}
+use Rattle.bk_dev.specs.declared.kind.Kind.{Kind}
+use Rattle.bk_dev.specs.declared.kind.Kind.TheVariants.{Machine, Implementation}
+use Rattle.bk_dev.specs.declared.kind.Home.TheVariants.{Input, Variable}
+use Rattle.bk_dev.specs.Development.{Level, Development}
+use Rattle.bk_dev.specs.Counter.{number_at, counter, reset_name, setmax_name, get_name}
 use Rattle.bk_code.specs.declared.image.CellKind.TheVariants.{Integer}
-use Rattle.bk_code.specs.declared.instruction.Inst.TheVariants.{Push, Load, Store, Sub, Lt, Jump, JumpZero, Ret}
+use Rattle.bk_code.specs.declared.instruction.Inst.TheVariants.{Push, Load, Store, Add, Sub, Lt, Jump, JumpZero, Ret}
 use Rattle.bk_gen.specs.Translation.{value_code, statement_code, translation}
 
 -- the counter's code: the initialisation, reset, setmax and get
@@ -21,6 +25,50 @@ CounterCode = translation counter ≡ record {
       ∷ Push (pos 0) ∷ Store 0 ∷ Ret
       ∷ Push (pos 10) ∷ Store 0 ∷ Ret
       ∷ Load 0 ∷ Store 1 ∷ Ret
+      ∷ [];
+}
+
+-- the operation add
+abbrev pub add_name : List ℕ
+add_name = 97 ∷ 100 ∷ 100 ∷ []
+
+-- a level of the adder: n is 0 at first, and add has this body
+abbrev pub adder_level : List ℕ → Kind → ℕ → List (ℕ × ℕ) → Substitution → Level
+adder_level name kind n links body = record {
+  name = name;
+  kind = kind;
+  vars = n ∷ [];
+  properties = btrue;
+  invariant = binary In (variable n) (binary Range (literal (pos 0)) (literal (pos 20)));
+  links = links;
+  assertions = [];
+  init = assign ((n, literal (pos 0)) ∷ []);
+  bodies = record { condition = btrue; sub = body; outputs = [] } ∷ [];
+}
+
+-- IF n < 10 THEN n := n + k END
+abbrev pub adding : ℕ → ℕ → Substitution
+adding n k = if_else (binary Below (variable n) (literal (pos 10))) (assign ((n, binary Plus (variable n) (variable k)) ∷ [])) skip
+
+-- A and A_i with n$0 and n$1; add(k) adds its input to an n below 10
+abbrev pub adder : Development
+adder = record {
+  table = record { sets = []; variables = number_at 110 48 ∷ number_at 110 49 ∷ number_at 107 48 ∷ [] };
+  homes = Variable 0 ∷ Variable 1 ∷ Input ∷ [];
+  sets = [];
+  heads = record { name = add_name; inputs = 2 ∷ []; outputs = 0 } ∷ [];
+  levels = adder_level (65 ∷ []) Machine 0 [] (adding 0 2) ∷ adder_level (65 ∷ 95 ∷ 105 ∷ []) Implementation 1 ((1, 0) ∷ []) (adding 1 2) ∷ [];
+  values = [];
+}
+
+-- n of the implementation is in cell 0, and the input in cell 1
+abbrev pub AdderCode : Type 0
+AdderCode = translation adder ≡ record {
+  cells = 2;
+  sets = [];
+  ops = record { name = add_name; start = 3; inputs = record { kind = Integer; slot = 1 } ∷ []; outputs = [] } ∷ [];
+  code = Push (pos 0) ∷ Store 0 ∷ Ret
+      ∷ Load 0 ∷ Push (pos 10) ∷ Lt ∷ JumpZero (pos 6) ∷ Load 0 ∷ Load 1 ∷ Add ∷ Store 0 ∷ Jump (pos 1) ∷ Ret
       ∷ [];
 }
 

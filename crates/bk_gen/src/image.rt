@@ -80,7 +80,13 @@ fn added_sizes(size: u64, bodies: &[Body]) -> u64
 }
 
 // The image of a level over these cells.
-fn image_of(alloc: Global, cells: &[u32], heads: &[OpHead], level: &Level) -> Result<Image, Memory>
+#[tactic(auto, using(crate::proofs::Emitted::block_long))]
+pub(crate) fn image_of(
+    alloc: Global,
+    cells: &[u32],
+    heads: &[OpHead],
+    level: &Level,
+) -> Result<Image, Memory>
     requires few { length cells.now ≤ 1000000 }
     requires short { block_size level.now.init + blocks_size level.now.bodies ≤ 1000000 }
     requires init { IsSimpleStatement (pos 2147483647) level.now.init }
@@ -100,6 +106,7 @@ fn image_of(alloc: Global, cells: &[u32], heads: &[OpHead], level: &Level) -> Re
 }
 
 // Adds the code of the operations, and gives their entries.
+#[tactic(auto, using(crate::proofs::Emitted::block_long))]
 fn add_operations(
     alloc: Global,
     cells: &[u32],

@@ -1,12 +1,18 @@
 //! What small developments and substitutions are translated to. Each law is the contract of a function that does nothing.
 
 ghost use Rattle.bk_dev.specs.Counter.{counter};
-ghost use Rattle.bk_gen.specs.Laws.{CounterCode, TestsCode, LoopCode};
+ghost use Rattle.bk_gen.specs.Laws.{CounterCode, adder, AdderCode, TestsCode, LoopCode};
 ghost use Rattle.bk_gen.specs.Simple.{IsSimple};
 
 /// A counter, to be checked by hand.
 pub fn counter()
     ensures { CounterCode }
+{}
+
+/// An operation with an input and an IF, to be checked by hand.
+pub fn adder()
+    ensures code { AdderCode }
+    ensures simple { IsSimple adder }
 {}
 
 /// Tests and loops, to be checked by hand.

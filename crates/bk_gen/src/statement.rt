@@ -1,28 +1,76 @@
 //! The code of simple statements.
 
-ghost use Rattle.std.specs.Prelude.{◌≡◌, ◌≤◌, ◌++◌, pos, length, OnOk};
-ghost use Rattle.bk_gen.specs.Simple.{IsSimpleTerm, IsSimpleAssignment, IsSimpleStatement};
-ghost use Rattle.bk_gen.specs.Plain.{operand_code, setting_code, plain_code, block_code, block_size};
+ghost use Rattle.std.specs.Prelude.{◌≡◌, ◌+◌, ◌-◌, ◌≤◌, ◌<◌, ◌^◌, ◌++◌, pos, min, length, slice_set, OnOk};
+ghost use Rattle.bk_code.specs.declared.instruction.Inst.TheVariants.{Jump, JumpZero};
+ghost use Rattle.bk_gen.specs.Simple.{IsSimpleTerm, IsSimpleCondition, IsSimpleAssignment, IsSimpleStatement};
+ghost use Rattle.bk_gen.specs.Plain.{term_code, condition_code, setting_code, plain_code, block_code, operation, comparison, operator_size, value_size, setting_size, statement_size, block_size};
 
 use crate::cells::slot_of;
 use bk_code::{Inst, Memory};
-use bk_form::{Form, View};
+use bk_form::{BinOp, Form, View};
 use bk_gsl::{Sub, SubNode};
 
-// How many instructions a statement's code has, with its Ret.
+// How many instructions a statement's code has, with its Ret, or 2^64 - 1 if they are more.
 pub(crate) fn block_size(sub: &Sub) -> u64
-    ensures { result ≡ block_size sub.now }
+    ensures { result ≡ min (block_size sub.now) (2 ^ 64 - 1) }
+{
+    statement_size(sub).saturating_add(1)
+}
+
+// How many instructions a statement's code has, or 2^64 - 1 if they are more.
+fn statement_size(sub: &Sub) -> u64
+    ensures { result ≡ min (statement_size sub.now) (2 ^ 64 - 1) }
 {
     match &sub.node {
-        SubNode::Assign(_) => 3,
+        SubNode::Assign(terms) => setting_size(terms),
+        SubNode::If(test, yes, no) => {
+            let branches = statement_size(yes).saturating_add(statement_size(no));
+            value_size(test).saturating_add(branches).saturating_add(2)
+        }
+        _ => 0,
+    }
+}
+
+// How many instructions an assignment's code has, or 2^64 - 1 if they are more.
+fn setting_size(terms: &[(u32, Form)]) -> u64
+    ensures { result ≡ min (setting_size terms.now) (2 ^ 64 - 1) }
+{
+    match terms {
+        [(_, term)] => value_size(term).saturating_add(1),
+        _ => 0,
+    }
+}
+
+// How many instructions a term's or a condition's code has, or 2^64 - 1 if they are more.
+fn value_size(form: &Form) -> u64
+    ensures { result ≡ min (value_size form.now) (2 ^ 64 - 1) }
+{
+    match form.view() {
+        View::Un(_, operand) => value_size(operand).saturating_add(1),
+        View::Bin(op, left, right) => {
+            let operands = value_size(left).saturating_add(value_size(right));
+            operands.saturating_add(operator_size(op))
+        }
+        _ => 1,
+    }
+}
+
+// How many instructions an operator has beside those of its operands.
+fn operator_size(op: BinOp) -> u64
+    ensures { result ≡ operator_size op }
+{
+    match op {
+        BinOp::And | BinOp::Or => 3,
         _ => 1,
     }
 }
 
 // Adds a statement's code and a Ret.
+#[tactic(auto, using(crate::proofs::Emitted::statement_long))]
 pub(crate) fn add_block(cells: &[u32], sub: &Sub, code: &mut Vec<Inst>) -> Result<(), Memory>
     requires few { length cells.now ≤ 1000000 }
     requires simple { IsSimpleStatement (pos 2147483647) sub.now }
+    requires short { length code.old.items + block_size sub.now ≤ 1000000 }
     ensures { OnOk result (code.new.items ≡ code.old.items ++ block_code cells.now sub.now) }
 {
     add_statement(cells, sub, code)?;
@@ -31,15 +79,49 @@ pub(crate) fn add_block(cells: &[u32], sub: &Sub, code: &mut Vec<Inst>) -> Resul
 }
 
 // Adds a statement's code.
+#[tactic(auto, using(crate::proofs::Emitted::condition_long, crate::proofs::Emitted::statement_long))]
 fn add_statement(cells: &[u32], sub: &Sub, code: &mut Vec<Inst>) -> Result<(), Memory>
     requires few { length cells.now ≤ 1000000 }
     requires simple { IsSimpleStatement (pos 2147483647) sub.now }
+    requires short { length code.old.items + statement_size sub.now ≤ 1000000 }
     ensures { OnOk result (code.new.items ≡ code.old.items ++ plain_code cells.now sub.now) }
 {
     match &sub.node {
         SubNode::Assign(terms) => add_assignment(cells, terms, code),
+        SubNode::If(test, yes, no) => {
+            add_condition(cells, test, code)?;
+            let start = code.len();
+            code.push(Inst::JumpZero(0))?;
+            add_statement(cells, yes, code)?;
+            let end = code.len();
+            code.push(Inst::Jump(0))?;
+            set_test(code, start);
+            add_statement(cells, no, code)?;
+            set_jump(code, end);
+            Ok(())
+        }
         _ => Ok(()),
     }
+}
+
+// Lets the test at a place lead behind the code so far, where its number is 0.
+fn set_test(code: &mut Vec<Inst>, at: usize)
+    requires stands { at < length code.old.items }
+    requires short { length code.old.items ≤ 1000000 }
+    ensures { code.new.items ≡ slice_set code.old.items at (JumpZero (pos (length code.old.items - at))) }
+{
+    let distance = (code.len() - at) as i32;
+    code[at] = Inst::JumpZero(distance);
+}
+
+// Lets the jump at a place lead behind the code so far.
+fn set_jump(code: &mut Vec<Inst>, at: usize)
+    requires stands { at < length code.old.items }
+    requires short { length code.old.items ≤ 1000000 }
+    ensures { code.new.items ≡ slice_set code.old.items at (Jump (pos (length code.old.items - at))) }
+{
+    let distance = (code.len() - at) as i32;
+    code[at] = Inst::Jump(distance);
 }
 
 // Adds the code of an assignment to one variable.
@@ -50,7 +132,7 @@ fn add_assignment(cells: &[u32], terms: &[(u32, Form)], code: &mut Vec<Inst>) ->
 {
     match terms {
         [(variable, term)] => {
-            add_operand(cells, term, code)?;
+            add_term(cells, term, code)?;
             code.push(Inst::Store(slot_of(cells, *variable)))?;
             Ok(())
         }
@@ -58,11 +140,71 @@ fn add_assignment(cells: &[u32], terms: &[(u32, Form)], code: &mut Vec<Inst>) ->
     }
 }
 
+// Adds the code that leaves 1 on the stack where a condition is true, and else 0. Of `p & q` and of `p or q` the right
+// side is passed over where the left one decides.
+#[tactic(auto, using(crate::proofs::Emitted::condition_long))]
+pub(crate) fn add_condition(
+    cells: &[u32],
+    condition: &Form,
+    code: &mut Vec<Inst>,
+) -> Result<(), Memory>
+    requires few { length cells.now ≤ 1000000 }
+    requires simple { IsSimpleCondition (pos 2147483647) condition.now }
+    requires short { length code.old.items + value_size condition.now ≤ 1000000 }
+    ensures { OnOk result (code.new.items ≡ code.old.items ++ condition_code cells.now condition.now) }
+{
+    match condition.view() {
+        View::Un(_, operand) => {
+            add_condition(cells, operand, code)?;
+            code.push(Inst::Not)?;
+            Ok(())
+        }
+        View::Bin(BinOp::And, left, right) => {
+            add_condition(cells, left, code)?;
+            let test = code.len();
+            code.push(Inst::JumpZero(0))?;
+            add_condition(cells, right, code)?;
+            code.push(Inst::Jump(2))?;
+            set_test(code, test);
+            code.push(Inst::Push(0))?;
+            Ok(())
+        }
+        View::Bin(BinOp::Or, left, right) => {
+            add_condition(cells, left, code)?;
+            code.push(Inst::JumpZero(3))?;
+            code.push(Inst::Push(1))?;
+            let decided = code.len();
+            code.push(Inst::Jump(0))?;
+            add_condition(cells, right, code)?;
+            set_jump(code, decided);
+            Ok(())
+        }
+        View::Bin(op, first, second) => {
+            add_term(cells, first, code)?;
+            add_term(cells, second, code)?;
+            code.push(comparison(op))?;
+            Ok(())
+        }
+        _ => Ok(()),
+    }
+}
+
+// The instruction that compares two numbers.
+fn comparison(op: BinOp) -> Inst
+    ensures { result ≡ comparison op }
+{
+    match op {
+        BinOp::Lt => Inst::Lt,
+        BinOp::Le => Inst::Le,
+        _ => Inst::Eq,
+    }
+}
+
 // Adds the code that leaves a term's number on the stack.
-fn add_operand(cells: &[u32], term: &Form, code: &mut Vec<Inst>) -> Result<(), Memory>
+fn add_term(cells: &[u32], term: &Form, code: &mut Vec<Inst>) -> Result<(), Memory>
     requires few { length cells.now ≤ 1000000 }
     requires simple { IsSimpleTerm (pos 2147483647) term.now }
-    ensures { OnOk result (code.new.items ≡ code.old.items ++ operand_code cells.now term.now) }
+    ensures { OnOk result (code.new.items ≡ code.old.items ++ term_code cells.now term.now) }
 {
     match term.view() {
         View::Int(value) => {
@@ -73,6 +215,27 @@ fn add_operand(cells: &[u32], term: &Form, code: &mut Vec<Inst>) -> Result<(), M
             code.push(Inst::Load(slot_of(cells, variable)))?;
             Ok(())
         }
+        View::Un(_, operand) => {
+            add_term(cells, operand, code)?;
+            code.push(Inst::Neg)?;
+            Ok(())
+        }
+        View::Bin(op, left, right) => {
+            add_term(cells, left, code)?;
+            add_term(cells, right, code)?;
+            code.push(operation(op))?;
+            Ok(())
+        }
         _ => Ok(()),
+    }
+}
+
+// The instruction that adds or subtracts two numbers.
+fn operation(op: BinOp) -> Inst
+    ensures { result ≡ operation op }
+{
+    match op {
+        BinOp::Add => Inst::Add,
+        _ => Inst::Sub,
     }
 }
