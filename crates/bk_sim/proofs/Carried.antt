@@ -1,5 +1,5 @@
 -- The counter keeps its invariant, and its implementation carries it.
-use Rattle.std.proofs.Common.{◌≡◌, ◌<◌, ℕ, zero, suc, pos, [], ◌∷◌, refl, sym, subst, true, arith}
+use Rattle.std.proofs.Common.{◌≡◌, ◌<◌, ℕ, zero, suc, pos, [], length, ◌∷◌, refl, sym, subst, true, arith}
 use Rattle.bk_form.specs.Formula.{variable, literal, btrue}
 use Rattle.bk_form.specs.Search.{Finder}
 use Rattle.bk_form.specs.Environment.{State}
@@ -8,9 +8,12 @@ use Rattle.bk_gsl.specs.State.{at_state, holds}
 use Rattle.bk_gsl.specs.Run.{assigned}
 use Rattle.bk_dev.specs.Development.{level_at, body_at, whole}
 use Rattle.bk_dev.specs.Hypotheses.{AreTrue, unasserted_hypotheses}
-use Rattle.bk_dev.specs.Claims.{Establishes, KeepsFlat, Answered, CarriesFlat}
+use Rattle.bk_dev.specs.Claims.{Establishes, KeepsFlat, Answered, CarriesFlat, Carries}
 use Rattle.bk_dev.specs.Counter.{counter_table, counter}
-use Rattle.bk_sim.specs.Laws.{CounterIsCarried}
+use Rattle.bk_dev.proofs.CounterFacts.{counter_facts}
+use Rattle.bk_gen.proofs.Counters.{counter_is_simple}
+use Rattle.bk_sim.specs.Laws.{CounterIsCarried, CounterEnds}
+use Rattle.bk_sim.proofs.SimpleCode.{simple_ends}
 
 module _ (find : Finder) where
   abbrev invariant : State → Type 0
@@ -52,3 +55,10 @@ module _ (find : Finder) where
 
 pub counter_is_carried : CounterIsCarried
 counter_is_carried find = ((λ e t h. tt), keeps find, carries find)
+
+pub counter_ends : CounterEnds
+counter_ends find = simple_ends find counter counter_facts counter_is_simple (tt, (tt, (tt, (tt, tt))), tt) (counter_is_carried find).0 (counter_is_carried find).1 carried
+  where
+    carried : (j : ℕ) → suc j < length counter.levels → Carries find counter j
+    carried zero h = (counter_is_carried find).2
+    carried (suc j) h = absurd (omega arith)

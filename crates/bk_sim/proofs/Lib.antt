@@ -3,6 +3,8 @@ pub mod Chain
 pub mod Ends
 pub mod Ten
 pub mod Cells
+pub mod Values
+pub mod Going
 pub mod Blocks
 pub mod Flat
 pub mod Agree

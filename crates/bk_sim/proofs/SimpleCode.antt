@@ -1,9 +1,8 @@
 -- The translation of a simple development follows its machine.
-use Rattle.std.proofs.Common.{◌≡◌, ◌⊎◌, inl, inr, ◌<◌, ◌≤◌, ◌≤ℤ◌, ℕ, zero, suc, ℤ, pos, neg_ℤ, ◌-ℤ◌, int_le, List, [], ◌∷◌, ◌++◌, length, map, take, replicate, refl, sym, ◌∙◌, ap, subst, Bool, true, false, cond, ◌||◌, ◌&&◌, nat_eq, nat_lt, arith, Some, None, Option, All}
+use Rattle.std.proofs.Common.{◌≡◌, ◌⊎◌, inl, inr, ◌<◌, ◌≤◌, ℕ, zero, suc, ℤ, pos, ◌-ℤ◌, int_le, List, [], ◌∷◌, ◌++◌, length, map, take, replicate, refl, sym, ◌∙◌, ap, subst, Bool, true, false, cond, ◌||◌, ◌&&◌, nat_eq, nat_lt, arith, Some, None, Option, All}
 use Rattle.std.specs.Prelude.{slice_index_or}
 use Rattle.std.specs.List.{list_all, filter}
 use Rattle.std.proofs.lemmas.Bool.Decides.{nat_tests}
-use Rattle.std.proofs.lemmas.Int.{ints as int_laws}
 use Rattle.std.proofs.lemmas.Option.{same_Some}
 use Rattle.std.proofs.lemmas.List.{length-replicate, length-map}
 use Rattle.std.proofs.lemmas.List.Elements.{All-head, All-tail}
@@ -16,9 +15,10 @@ use Rattle.bk_form.specs.Environment.{State}
 use Rattle.bk_form.specs.Meaning.{within as is_within}
 use Rattle.bk_form.specs.declared.operator.BinOp.TheVariants.{In, Range}
 use Rattle.bk_form.proofs.Domains.{interval-members}
-use Rattle.bk_gsl.specs.Substitution.{Substitution, skip, assign, pre}
+use Rattle.bk_gsl.specs.Substitution.{Substitution, skip, assign, if_else, pre}
 use Rattle.bk_gsl.specs.State.{at_state, holds, IsTypedState, declared_type, among, over}
 use Rattle.bk_gsl.specs.Run.{Runs, Ends}
+use Rattle.bk_gsl.specs.Clean.{Clean}
 use Rattle.bk_gsl.proofs.States.{cases, over-at, over-off, over-typed, among-append, nat_eq-self, nat_eq-same}
 use Rattle.bk_gsl.proofs.Runs.{run-typed}
 use Rattle.bk_dev.specs.declared.kind.Home.{Home}
@@ -28,33 +28,34 @@ use Rattle.bk_dev.specs.Facts.{is_constant, is_input, is_variable_of, is_variabl
 use Rattle.bk_dev.specs.Hypotheses.{AreTrue, conjuncts, link_equation, value_equation, properties_of, values_at, joining, joinings_of, conditions_of, is_number, in_machine_range, input_ranges, init_hypotheses, unasserted_hypotheses}
 use Rattle.bk_dev.specs.Machine.{Abstract, HasValues, Opens, Call, IsCall, Gives, Pre}
 use Rattle.bk_dev.specs.Flattened.{flattened}
-use Rattle.bk_dev.specs.Claims.{KeepsFlat, CarriesFlat, ValuesMeet}
+use Rattle.bk_dev.specs.Claims.{arrays_at, KeepsFlat, Keeps, CarriesFlat, Carries, ValuesMeet}
+use Rattle.bk_dev.specs.Layout.{arrays_of}
 use Rattle.bk_code.specs.declared.image.Image.{Image}
 use Rattle.bk_code.specs.declared.image.OpEntry.{OpEntry}
 use Rattle.bk_code.specs.Session.{first_start, outputs_of}
-use Rattle.bk_gen.specs.Simple.{IsSimpleTerm, IsSimpleStatement, IsSimple}
+use Rattle.bk_gen.specs.Simple.{IsSimpleStatement, IsSimple}
+use Rattle.bk_gen.specs.Translation.{init_code, operation_code}
 use Rattle.bk_gen.specs.Plain.{operation_cells, slot_of, block_code, blocks_code, plain_parameter, plain_entry, plain_image}
 use Rattle.bk_gen.proofs.Loadable.{AreInside, HasCells}
 use Rattle.bk_gen.proofs.Named.{init_named, operations_named, bodies_named}
-use Rattle.bk_gen.proofs.Plain.{last_cells, last_paired, cells_are, type_at_home, translation_is}
+use Rattle.bk_gen.proofs.Plain.{no_row_of, last_cells, last_paired, cells_are, type_at_home, block_is, translation_is}
 use Rattle.bk_sim.specs.Shows.{number_as, as_number, AreOfKinds, shown, IsLinkedBy, Linked}
-use Rattle.bk_sim.specs.Plain.{HasNoPar, HaveNoPar, LevelsHaveNoPar}
-use Rattle.bk_sim.specs.Laws.{SimpleFollows}
+use Rattle.bk_sim.specs.Plain.{HasNoPar, HaveNoPar, LevelsHaveNoPar, UpperHaveNoPar}
+use Rattle.bk_sim.specs.Laws.{SimpleFollows, SimpleEnds}
+use Rattle.bk_sim.specs.Within.{EndsWithin, CallEnds, EndsInCode}
 use Rattle.bk_sim.specs.Follows.{IsEntry, as_values, replies, started, GoesWell, IsDone, IsStep, HasOperations, OpensWell, CallsGoWell, Follows}
 use Rattle.bk_sim.proofs.Flat.{flattened_already}
-use Rattle.bk_sim.proofs.Chain.{calls_decide}
+use Rattle.bk_sim.proofs.Chain.{linked_before, calls_decide}
 use Rattle.bk_sim.proofs.Ends.{done-well}
 use Rattle.bk_sim.proofs.Cells.{cell, all-at}
-use Rattle.bk_sim.proofs.Blocks.{cells_after, HasBlock, block-returns, ran, ran-runs, AreShown, after-shown, after-passes, after-many}
+use Rattle.bk_sim.proofs.Values.{AreShown}
+use Rattle.bk_sim.proofs.Blocks.{cells_after, StatementFits, HasBlock, Returned, block-returns, ran, ran-runs, after-shown, statement-fits, after-within, after-many}
 use Rattle.bk_sim.proofs.Agree.{or-left, or-right, both-true, all-none, holds-same, true-append, true-first, parts-true, whole-true, joining-same}
 use Rattle.bk_sim.proofs.IntCells.{fits, kinds-then, kinds-if, shown-is, ints-typed, has_cell, all-among, cells_home, int_at_home}
 use Rattle.bk_sim.proofs.Entries.{IsEntered, entered, each-at, body-at, have-at, given, given-other, given-many, given-pass, given-shown, args-fit}
 use Rattle.bk_sim.proofs.Climb.{flat-then, flat-if, level_fact, is_before, input-before, variable-before, joined-before, own-before, one_of_three, map-same, Climbed, Carry, climbed}
 
 -- ---- numbers within bounds
-int_le-if : (x y : ℤ) → x ≤ℤ y → int_le x y ≡ true
-int_le-if x y h = grind (arith, int_laws)
-
 ranged : (find : Finder) (table : Table) (e : State) (x : ℕ) (low high z : ℤ) → e x ≡ int z → int_le low z && int_le z high ≡ true → holds find table e (binary In (variable x) (binary Range (literal low) (literal high))) ≡ true
 ranged find table e x low high z is h = ap (λ v. is_within find (at_state table e) v (binary Range (literal low) (literal high))) is ∙ interval-members.numbers find (at_state table e) (literal low) (literal high) z ∙ h
 
@@ -150,9 +151,6 @@ module _ (find : Finder) (dev : Development) (f : IsDevelopment dev) (s : IsSimp
   ints : (x : ℕ) → among cells x ≡ true → declared_type dev.table x ≡ int_type
   ints = int_at_home dev f s
 
-  literal-fits : (z : ℤ) → IsSimpleTerm (int_max dev) (literal z) → fits dev z ≡ true
-  literal-fits z h = both-true (int_le (pos 0 -ℤ int_max dev) z) (int_le z (int_max dev)) (int_le-if (neg_ℤ (int_max dev)) z h.0) (int_le-if z (int_max dev) h.1)
-
   -- ---- hypotheses that hold everywhere
   values-hold : (e : State) → HasValues find dev e
   values-hold e = subst (λ vs. AreTrue find dev.table e (map value_equation vs)) (sym s.no_values) tt
@@ -225,23 +223,46 @@ module _ (find : Finder) (dev : Development) (f : IsDevelopment dev) (s : IsSimp
   carry-init : Carry find dev inits no_outputs first_state
   carry-init k m x y t same r = ((carries k m).init x t (init-hyps (suc k) x t)).results y r
 
+  typed-first : IsTypedState dev.table first_state
+  typed-first = ints-typed dev s (cell cells zeros)
+
+  many-zeros : length zeros ≡ length cells
+  many-zeros = length-replicate (length cells) (pos 0)
+
+  zeros-within : list_all (fits dev) zeros ≡ true
+  zeros-within = all-zero (fits dev) (length cells) refl
+
+  -- the last level is an implementation
+  arrays-last : (k : ℕ) → last dev ≡ k → arrays_at dev k ≡ Some (arrays_of dev)
+  arrays-last k h = ap (λ b. cond b (Some (arrays_of dev)) None) (subst (λ n. is_implementation (level_at dev n) ≡ true) h s.complete)
+
+  init-clean : Clean find dev.table (Some (arrays_of dev)) low.init first_state
+  init-clean = at (last dev) refl
+    where
+      at : (k : ℕ) → last dev ≡ k → Clean find dev.table (Some (arrays_of dev)) (level_at dev k).init first_state
+      at zero h = subst (λ o. Clean find dev.table o (level_at dev 0).init first_state) (arrays-last 0 h) (keeps.init first_state typed-first (init-hyps 0 first_state typed-first)).clean
+      at (suc k) h = subst (λ o. Clean find dev.table o (level_at dev (suc k)).init first_state) (arrays-last (suc k) h) ((carries k (omega (arith, h))).init first_state typed-first (init-hyps (suc k) first_state typed-first)).clean
+
+  init-fits : StatementFits cells zeros low.init
+  init-fits = statement-fits find dev.table cells zeros many-zeros first_state (λ n h. refl) (arrays_of dev) refl (no_row_of dev s) low.init s.init (init_named dev f s) init-clean
+
+  init-returned : Returned image (length (block_code cells low.init)) 0 zeros (cells_after cells low.init zeros)
+  init-returned = block-returns image cells zeros many-zeros zeros-within 0 low.init s.init (init_named dev f s) init-fits (record { before = []; after = blocks_code cells low.bodies; is = refl; starts = refl })
+
   opening : OpensWell find dev image
   opening fuel =
-      let many : length zeros ≡ length cells = length-replicate (length cells) (pos 0) in
       let has : HasCells cells low.init = init_named dev f s in
-      let block : HasBlock image 0 (block_code cells low.init) = record { before = []; after = blocks_code cells low.bodies; is = refl; starts = refl } in
-      let run = block-returns image cells 0 zeros many (int_max dev) low.init s.init has block in
+      let run = init-returned in
       let k = cells_after cells low.init zeros in
       let top = ran find dev.table low.init first_state in
-      let typed : IsTypedState dev.table first_state = ints-typed dev s (cell cells zeros) in
-      let c = climbed find dev f [] inits no_outputs (λ k m. (level_fact dev f k (within k m)).init) (λ k m. tt) (λ k m. refl) first_state top carry-init typed (ran-runs find dev.table (int_max dev) low.init s.init first_state) in
-      let shows : AreShown cells k top = after-shown find dev.table cells zeros many first_state (λ n h. refl) (int_max dev) low.init s.init has in
-      let fit = after-passes cells zeros (fits dev) (int_max dev) literal-fits refl (all-zero (fits dev) (length cells) refl) low.init s.init in
+      let c = climbed find dev f [] inits no_outputs (λ k m. (level_fact dev f k (within k m)).init) (λ k m. tt) (λ k m. refl) first_state top carry-init typed-first (ran-runs find dev.table (int_max dev) low.init s.init first_state) in
+      let shows : AreShown cells k top = after-shown find dev.table cells zeros many-zeros first_state (λ n h. refl) (int_max dev) low.init s.init has in
+      let fit = after-within cells zeros zeros-within low.init s.init init-fits in
       let invariant = (keeps.init c.before c.typed (init-hyps 0 c.before c.typed)).results c.after c.runs in
-      let linked = linked-after k (after-many cells zeros low.init ∙ many) fit [] inits no_outputs first_state top c shows (level_fact dev f 0 (within 0 (omega arith))).init invariant in
+      let linked = linked-after k (after-many cells zeros low.init ∙ many-zeros) fit [] inits no_outputs first_state top c shows (level_fact dev f 0 (within 0 (omega arith))).init invariant in
       let opens : Opens find dev (map c.after high.vars) = (c.before, c.after, c.typed, values-hold c.before, c.runs, refl) in
       let P = λ (m : List ℤ). (a : Abstract) × Opens find dev a × Linked find dev a m in
-      done-well image (first_start image) P run.0 run.1 run.2 (subst P (sym run.3) (map c.after high.vars, opens, (c.after, linked))) fuel
+      done-well image (first_start image) P run.steps run.end run.returns (subst P (sym run.cells) (map c.after high.vars, opens, (c.after, linked))) fuel
 
   -- ---- a call
   module _ (a : Abstract) (mem : List ℤ) (c : Call) (e0 : State) (l : IsLinkedBy find dev a mem e0) (is : IsCall dev c) (true_before : Pre find dev c a) where
@@ -406,6 +427,23 @@ module _ (find : Finder) (dev : Development) (f : IsDevelopment dev) (s : IsSimp
     abbrev top : State
     top = ran find dev.table last_body.sub e
 
+    body-clean : Clean find dev.table (Some (arrays_of dev)) last_body.sub e
+    body-clean = at (last dev) refl
+      where
+        of_whole : (k : ℕ) → Clean find dev.table (Some (arrays_of dev)) (whole (body_at dev k c.op)) e → Clean find dev.table (Some (arrays_of dev)) (sub k) e
+        of_whole k = elim (is_btrue (condition k)) as (λ t. Clean find dev.table (Some (arrays_of dev)) (cond t (sub k) (pre (condition k) (sub k))) e → Clean find dev.table (Some (arrays_of dev)) (sub k) e) [ true ↦ λ h. h | false ↦ λ h. h.1 ]
+
+        at : (k : ℕ) → last dev ≡ k → Clean find dev.table (Some (arrays_of dev)) (sub k) e
+        at zero h =
+            let inv : holds find dev.table e high.invariant ≡ true = whole-true find dev.table e high.invariant (true-first find dev.table e (conjuncts high.invariant) (map link_equation high.links) (joining-e 0 (within 0 (omega arith)))) in
+            subst (λ o. Clean find dev.table o (sub 0) e) (arrays-last 0 h) (keeps.operations c.op is.op e typed-e (properties-hold 1 e typed-e) inv (true_before e (gives e typed-e (λ n q. refl)))).clean
+        at (suc k) h =
+            let below : suc k ≤ last dev = omega (arith, h) in
+            of_whole (suc k) (subst (λ o. Clean find dev.table o (whole (body_at dev (suc k) c.op)) e) (arrays-last (suc k) h) ((carries k below).operations c.op is.op e typed-e (hyps k below (conditions-hold k (omega arith)) e typed-e (λ n q. refl))).clean)
+
+    body-fits : StatementFits cells start_cells last_body.sub
+    body-fits = statement-fits find dev.table cells start_cells start-many e shown-e (arrays_of dev) refl (no_row_of dev s) last_body.sub simple-body named-body body-clean
+
     end-shown : AreShown cells end_cells top
     end-shown = after-shown find dev.table cells start_cells start-many e shown-e (int_max dev) last_body.sub simple-body named-body
 
@@ -416,7 +454,7 @@ module _ (find : Finder) (dev : Development) (f : IsDevelopment dev) (s : IsSimp
         let inv-e : holds find dev.table e high.invariant ≡ true = whole-true find dev.table e high.invariant (true-first find dev.table e (conjuncts high.invariant) (map link_equation high.links) (joining-e 0 (within 0 (omega arith)))) in
         let inv-before : holds find dev.table w.before high.invariant ≡ true = holds-same find dev.table w.before e (names_joined dev 0) high.invariant (level_fact dev f 0 (within 0 (omega arith))).invariant.names (λ n h. w.same n (joined-before dev 1 0 (omega arith) n h)) ∙ inv-e in
         let inv-after = (keeps.operations c.op is.op w.before w.typed (properties-hold 1 w.before w.typed) inv-before (true_before w.before given_before)).results w.after w.runs in
-        let fit = after-passes cells start_cells (fits dev) (int_max dev) literal-fits refl start-fit last_body.sub simple-body in
+        let fit = after-within cells start_cells start-fit last_body.sub simple-body body-fits in
         let linked = linked-after end_cells (after-many cells start_cells last_body.sub ∙ start-many) fit head.inputs sub outs e top w end-shown zero-fact.sub inv-after in
         let many : length (outs (last dev)) ≡ length (outs 0) = (fact (last dev) (omega arith)).as_many_outputs ∙ sym zero-fact.as_many_outputs in
         let out-ints : (y : ℕ) → among (outs 0) y ≡ true → declared_type dev.table y ≡ int_type = λ y h. type_at_home dev f s (is_inner_of 0) y refl (all-among (λ x. is_inner_of 0 (home_of dev x)) (outs 0) zero-fact.outputs y h) in
@@ -424,6 +462,9 @@ module _ (find : Finder) (dev : Development) (f : IsDevelopment dev) (s : IsSimp
         let lower : map top (outs (last dev)) ≡ map (λ x. int (cell cells end_cells x)) (outs (last dev)) = map-same (outs (last dev)) top (λ x. int (cell cells end_cells x)) (λ n h. end-shown n (inside.1 n h)) in
         let told : map w.after (outs 0) ≡ replies dev c.op entry.outputs end_cells = w.gives ∙ lower ∙ sym replied ∙ ap (λ ps. replies dev c.op ps end_cells) (sym outputs_are) in
         (map w.after high.vars, (w.before, w.after, given_before, w.runs, told, refl), (w.after, linked))
+
+    body-returned : (place : ℕ) → HasBlock image place (block_code cells last_body.sub) → Returned image (length (block_code cells last_body.sub)) place start_cells end_cells
+    body-returned place block = block-returns image cells start_cells start-many start-fit place last_body.sub simple-body named-body body-fits block
 
     abbrev entry_here : ℕ → OpEntry
     entry_here place = plain_entry cells place head last_body
@@ -434,11 +475,11 @@ module _ (find : Finder) (dev : Development) (f : IsDevelopment dev) (s : IsSimp
     goes-on : (place : ℕ) → HasBlock image place (block_code cells last_body.sub) → GoesOn (entry_here place)
     unfolding GoesOn
     goes-on place block =
-        let run = block-returns image cells place start_cells start-many (int_max dev) last_body.sub simple-body named-body block in
+        let run = body-returned place block in
         let w = climbed find dev f head.inputs sub outs (λ k m. (fact k m).sub) (λ k m. (fact k m).outputs) as_many e top carry-call typed-e (ran-runs find dev.table (int_max dev) last_body.sub simple-body e) in
         let P = IsStep find dev c (entry_here place) a in
-        let step : P run.1.cells = subst P (sym run.3) (step-from w (entry_here place) refl) in
-        ((run.0, run.0, run.1, (omega arith, run.2)), λ fuel. done-well image (started (entry_here place) c mem) P run.0 run.1 run.2 step fuel)
+        let step : P run.end.cells = subst P (sym run.cells) (step-from w (entry_here place) refl) in
+        ((run.steps, run.steps, run.end, (omega arith, run.returns)), λ fuel. done-well image (started (entry_here place) c mem) P run.steps run.end run.returns step fuel)
 
     goes-well : (entry : OpEntry) → IsEntry image c.op entry → IsDone image (started entry c mem) × ((fuel : ℕ) → GoesWell image fuel (started entry c mem) (IsStep find dev c entry a))
     unfolding GoesOn
@@ -447,16 +488,58 @@ module _ (find : Finder) (dev : Development) (f : IsDevelopment dev) (s : IsSimp
         let same : entry_here w.start ≡ entry = same_Some (entry_here w.start) entry (sym w.is ∙ there) in
         subst GoesOn same (goes-on w.start (record { before = w.before; after = w.after; is = w.stands; starts = w.starts }))
 
+    -- the call ends within the code of its block
+    EndsInBlock : OpEntry → Type 0
+    EndsInBlock entry = EndsWithin image (length (block_code cells last_body.sub)) (started entry c mem)
+
+    ends-in-block : (place : ℕ) → HasBlock image place (block_code cells last_body.sub) → EndsInBlock (entry_here place)
+    unfolding EndsInBlock
+    ends-in-block place block =
+        let run = body-returned place block in
+        let few : run.steps ≤ length (block_code cells last_body.sub) = run.few in
+        record { steps = run.steps; end = run.end; few = few; done = λ fuel le. (omega arith, run.returns) }
+
+    ends-within : (entry : OpEntry) → IsEntry image c.op entry → EndsWithin image (length (block_code cells last_body.sub)) (started entry c mem)
+    unfolding EndsInBlock
+    ends-within entry there =
+        let w = enter c.op is.op in
+        let same : entry_here w.start ≡ entry = same_Some (entry_here w.start) entry (sym w.is ∙ there) in
+        subst EndsInBlock same (ends-in-block w.start (record { before = w.before; after = w.after; is = w.stands; starts = w.starts }))
+
   calls : CallsGoWell find dev image
   calls a m c entry l is true_before there = goes-well a m c l.0 l.1 is true_before entry there
 
   pub image-follows : Follows find dev image
   image-follows = calls_decide find dev image operations opening calls
 
+  -- ---- steps
+  sizes : (o : ℕ) → o < length dev.heads → length (block_code cells (body_at dev (last dev) o).sub) ≡ length (operation_code dev (body_at dev (last dev) o))
+  sizes o below = ap length (sym (block_is dev s (body_at dev (last dev) o).sub (s.bodies o blank_body (subst (λ n. o < n) (last_paired dev f) below))))
+
+  local-ends : (a : Abstract) (m : List ℤ) (c : Call) (entry : OpEntry) → Linked find dev a m → IsCall dev c → Pre find dev c a → IsEntry image c.op entry → CallEnds dev image c entry m
+  local-ends a m c entry l is true_before there = subst (λ n. EndsWithin image n (started entry c m)) (sizes c.op is.op) (ends-within a m c l.0 l.1 is true_before entry there)
+
+  opening-ends : EndsWithin image (length (init_code dev)) (first_start image)
+  opening-ends =
+      let run = init-returned in
+      let few : run.steps ≤ length (block_code cells low.init) = run.few in
+      subst (λ n. EndsWithin image n (first_start image)) (ap length (sym (block_is dev s low.init s.init)))
+      (record { steps = run.steps; end = run.end; few = few; done = λ fuel le. (omega arith, run.returns) })
+
+  pub image-ends : EndsInCode find dev image
+  image-ends = record {
+    opening = opening-ends;
+    session = λ fuel l m cs c outs entry begun are is done legal there.
+        let w = linked_before find dev image opening calls fuel l m cs c outs begun are done legal in
+        local-ends w.0 m c entry w.1 is w.2 there;
+    local = local-ends;
+  }
+
 -- ---- the law
 pub simple_has_no_par : (max : ℤ) (sub : Substitution) → IsSimpleStatement max sub → HasNoPar sub
 simple_has_no_par max skip h = tt
 simple_has_no_par max (assign ps) h = tt
+simple_has_no_par max (if_else p u v) h = (simple_has_no_par max u h.1, simple_has_no_par max v h.2)
 simple_has_no_par max sub h = absurd h
 
 pub simple_have_no_par : (max : ℤ) (bs : List Body) → All (λ b. IsSimpleStatement max b.sub) bs → HaveNoPar bs
@@ -469,12 +552,27 @@ all_have_no_par (l ∷ []) zero many upper init bodies = (init, bodies, tt)
 all_have_no_par (l ∷ m ∷ ls) zero many upper init bodies = absurd (omega (arith, many))
 all_have_no_par (l ∷ ls) (suc n) many upper init bodies = (upper.0, upper.1, all_have_no_par ls n (omega (arith, many)) upper.2 init bodies)
 
+-- what flattening leaves as it was
+module _ (find : Finder) (dev : Development) (f : IsDevelopment dev) (s : IsSimple dev) (upper : UpperHaveNoPar dev) where
+  flat : flattened dev ≡ dev
+  flat =
+      let some : 0 < length dev.levels = f.some_level in
+      let many : length dev.levels ≡ suc (last dev) = omega arith in
+      let low = level_at dev (last dev) in
+      flattened_already dev (all_have_no_par dev.levels (last dev) many upper (simple_has_no_par (int_max dev) low.init s.init) (simple_have_no_par (int_max dev) low.bodies s.bodies))
+
+  keeps-flat : Keeps find dev → KeepsFlat find dev
+  keeps-flat keeps = subst (KeepsFlat find) flat keeps
+
+  carries-flat : ((j : ℕ) → suc j < length dev.levels → Carries find dev j) → (j : ℕ) → suc j ≤ last dev → CarriesFlat find dev j
+  carries-flat carries j h =
+      let some : 0 < length dev.levels = f.some_level in
+      subst (λ d. CarriesFlat find d j) flat (carries j (omega arith))
+
 pub simple_follows : SimpleFollows
 simple_follows find dev f s upper meet keeps carries =
-    let some : 0 < length dev.levels = f.some_level in
-    let many : length dev.levels ≡ suc (last dev) = omega arith in
-    let low = level_at dev (last dev) in
-    let flat : flattened dev ≡ dev = flattened_already dev (all_have_no_par dev.levels (last dev) many upper (simple_has_no_par (int_max dev) low.init s.init) (simple_have_no_par (int_max dev) low.bodies s.bodies)) in
-    let keeps_flat : KeepsFlat find dev = subst (KeepsFlat find) flat keeps in
-    let carries_flat : (j : ℕ) → suc j ≤ last dev → CarriesFlat find dev j = λ j h. subst (λ d. CarriesFlat find d j) flat (carries j (omega arith)) in
-    subst (Follows find dev) (sym (translation_is dev f s)) (image-follows find dev f s meet keeps_flat carries_flat)
+    subst (Follows find dev) (sym (translation_is dev f s)) (image-follows find dev f s meet (keeps-flat find dev f s upper keeps) (carries-flat find dev f s upper carries))
+
+pub simple_ends : SimpleEnds
+simple_ends find dev f s upper meet keeps carries =
+    subst (EndsInCode find dev) (sym (translation_is dev f s)) (image-ends find dev f s meet (keeps-flat find dev f s upper keeps) (carries-flat find dev f s upper carries))

@@ -11,6 +11,7 @@ use Rattle.bk_code.specs.declared.image.Image.{Image}
 use Rattle.bk_sim.specs.Follows.{HasOperations, OpensWell, CallsGoWell, Follows}
 use Rattle.bk_sim.specs.CounterCode.{counter_code}
 use Rattle.bk_sim.specs.Plain.{UpperHaveNoPar}
+use Rattle.bk_sim.specs.Within.{EndsInCode}
 
 -- code that opens well and whose calls go well one by one follows: sessions need nothing more
 abbrev pub CallsDecide : Type 0
@@ -21,6 +22,10 @@ CallsDecide = (find : Finder) (dev : Development) (image : Image) → HasOperati
 abbrev pub SimpleFollows : Type 0
 SimpleFollows = (find : Finder) (dev : Development) → IsDevelopment dev → IsSimple dev → UpperHaveNoPar dev → ValuesMeet find dev → Keeps find dev → ((j : ℕ) → suc j < length dev.levels → Carries find dev j) → Follows find dev (translation dev)
 
+-- what has no loop ends within its code: each call of such an implementation is done with a fuel equal to the length of its code
+abbrev pub SimpleEnds : Type 0
+SimpleEnds = (find : Finder) (dev : Development) → IsDevelopment dev → IsSimple dev → UpperHaveNoPar dev → ValuesMeet find dev → Keeps find dev → ((j : ℕ) → suc j < length dev.levels → Carries find dev j) → EndsInCode find dev (translation dev)
+
 -- the counter meets what the headline asks
 abbrev pub CounterIsCarried : Type 0
 CounterIsCarried = (find : Finder) → ValuesMeet find counter × Keeps find counter × Carries find counter 0
@@ -28,6 +33,10 @@ CounterIsCarried = (find : Finder) → ValuesMeet find counter × Keeps find cou
 -- the counter's translation follows it
 abbrev pub TranslationFollows : Type 0
 TranslationFollows = (find : Finder) → Follows find counter (translation counter)
+
+-- each call of it is done within the length of its code
+abbrev pub CounterEnds : Type 0
+CounterEnds = (find : Finder) → EndsInCode find counter (translation counter)
 
 -- code that stores 9 for 10 does not follow the counter
 abbrev pub NineDoesNotFollow : Type 0

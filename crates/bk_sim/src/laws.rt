@@ -1,6 +1,6 @@
 //! What follows a machine, and what does not. Each law is the contract of a function that does nothing.
 
-ghost use Rattle.bk_sim.specs.Laws.{CallsDecide, SimpleFollows, CounterIsCarried, TranslationFollows, NineDoesNotFollow};
+ghost use Rattle.bk_sim.specs.Laws.{CallsDecide, SimpleFollows, SimpleEnds, CounterIsCarried, TranslationFollows, CounterEnds, NineDoesNotFollow};
 
 /// Code follows a machine where it opens well and each call goes well.
 pub fn calls_decide()
@@ -12,9 +12,15 @@ pub fn simple_follows()
     ensures { SimpleFollows }
 {}
 
+/// Where the claims hold, each call of a simple development's translation is done with a fuel equal to the length of its code.
+pub fn simple_ends()
+    ensures { SimpleEnds }
+{}
+
 /// A counter, to be checked by hand.
 pub fn counter()
     ensures carried { CounterIsCarried }
     ensures translation { TranslationFollows }
+    ensures ends { CounterEnds }
     ensures nine { NineDoesNotFollow }
 {}

@@ -1,0 +1,5 @@
+use Rattle.bk_sim.proofs.SimpleCode.{simple_ends}
+use Rattle.bk_sim.proofs.laws.simple_ends.Goals as goal
+
+pub returns : goal.returns
+returns c = simple_ends
