@@ -9,7 +9,7 @@ use Rattle.bk_bind.specs.Limits.{IsWithinLimits}
 use Rattle.bk_dev.specs.Development.{Level, Development, level_at}
 use Rattle.bk_dev.specs.Hypotheses.{init_hypotheses}
 use Rattle.bk_po.specs.declared.row.Row.TheVariants.{InitialisationDefined}
-use Rattle.bk_po.specs.Obligations.{Obligation, obligation, suffix, definedness_goal, row_obligations, numbers_below}
+use Rattle.bk_po.specs.Obligations.{Obligation, obligation, suffix, evaluation_goal, row_obligations, numbers_below}
 use Rattle.bk_po.specs.declared.error.PoFault.{PoFault}
 use Rattle.bk_po.specs.declared.error.PoFault.TheVariants.{TooLarge, TooMany, Memory}
 use Rattle.bk_po.specs.Limits.{is_too_large, first_too_large, IsFaultAmong, IsFaultOf}
@@ -137,8 +137,9 @@ pub on_ok : {T E : Type 0} (r : Result T E) (P Q : T → Type 0) → ((x : T) �
 on_ok {T} {E} (Ok x) P Q f h = f x h
 on_ok {T} {E} (Err e) P Q f h = tt
 
-pub init_defined : (dev : Development) (k : ℕ) (l : Level) (hyps : List Formula) → l ≡ level_at dev k → hyps ≡ init_hypotheses dev k → obligation (l.name ++ codes "." ++ (codes "INITIALISATION" ++ suffix l)) hyps definedness_goal ∷ [] ≡ row_obligations dev k InitialisationDefined
-init_defined dev k l hyps same_level same_hyps =
-    λ i. obligation ((same_level i).name ++ codes "." ++ (codes "INITIALISATION" ++ suffix (same_level i))) (same_hyps i) definedness_goal ∷ []
+pub init_defined : (dev : Development) (k : ℕ) (l : Level) (name : List ℕ) (hyps : List Formula) (goal : Formula) → l ≡ level_at dev k → name ≡ l.name ++ codes "." ++ (codes "INITIALISATION" ++ suffix l) → hyps ≡ init_hypotheses dev k → goal ≡ evaluation_goal dev k (level_at dev k).init → obligation name hyps goal ∷ [] ≡ row_obligations dev k InitialisationDefined
+init_defined dev k l name hyps goal same_level same_name same_hyps same_goal =
+    let named = same_name ∙ ap (λ (m : Level). m.name ++ codes "." ++ (codes "INITIALISATION" ++ suffix m)) same_level in
+    λ i. obligation (named i) (same_hyps i) (same_goal i) ∷ []
 
 pub ruleset laying = (first_passes, first_found, large_goal, below_is_from, from_step, from_end)

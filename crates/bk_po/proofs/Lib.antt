@@ -1,12 +1,15 @@
-pub mod Counters
+pub mod Lists
+pub mod Basics
 pub mod Splitting
+pub mod Counters
+pub mod ExampleFacts
 pub mod Carrying
 pub mod Following
+pub mod Predicates
 pub mod TypedGoals
 pub mod Obviousness
 pub mod Values
 pub mod Sequents
 pub mod Numbering
 pub mod Growing
-pub mod Bodies
 pub mod Laying

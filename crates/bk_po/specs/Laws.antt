@@ -1,7 +1,7 @@
 -- What the obligations are and what they are worth, as statements.
-use Rattle.std.specs.Prelude.{◌≡◌, [], ◌∷◌, map, codes}
+use Rattle.std.specs.Prelude.{◌≡◌, ◌<◌, ℕ, suc, true, [], ◌∷◌, length, map, codes}
 use Rattle.bk_form.specs.Search.{Finder, IsSearch}
-use Rattle.bk_dev.specs.Development.{Development}
+use Rattle.bk_dev.specs.Development.{Development, is_complete}
 use Rattle.bk_dev.specs.Facts.{IsDevelopment}
 use Rattle.bk_dev.specs.Claims.{Keeps, Carries, ValuesMeet}
 use Rattle.bk_dev.specs.Counter.{counter}
@@ -11,7 +11,8 @@ use Rattle.bk_sim.specs.Follows.{Follows}
 use Rattle.bk_po.specs.Obligations.{numbered_obligations, HasValidObligations}
 use Rattle.bk_po.specs.Basic.{IsBasic}
 use Rattle.bk_po.specs.Plain.{IsPlain}
-use Rattle.bk_po.specs.Obvious.{HasObviousObligations}
+use Rattle.bk_po.specs.Obvious.{HasObviousObligations, HasShownObligations, HasTypedObligations}
+use Rattle.bk_po.specs.Examples.{tally, stepper}
 
 -- the counter has thirteen numbered obligations, with these names
 abbrev pub CounterHasThese : Type 0
@@ -21,12 +22,17 @@ CounterHasThese = map (λ o. o.0) (numbered_obligations counter) ≡
     codes "Counter_i.reset.1" ∷ codes "Counter_i.reset.2" ∷ codes "Counter_i.setmax.1" ∷ codes "Counter_i.setmax.2" ∷
     codes "Counter_i.get.1" ∷ codes "Counter_i.get.2" ∷ codes "Counter_i.get.3" ∷ []
 
--- of a plain machine and its implementation, where every obligation is valid: the constants' values meet the properties, the
--- machine keeps its invariant, and the implementation carries the machine
-abbrev pub ValidObligationsCarry : Type 0
-ValidObligationsCarry = (find : Finder) → IsSearch find → (dev : Development) → IsDevelopment dev → IsSimple dev → IsPlain dev → HasValidObligations dev → ValuesMeet find dev × Keeps find dev × Carries find dev 0
+-- the machine keeps its invariant, each level carries the one above, and where there is an implementation the constants' values meet the properties
+pub record IsCorrect (find : Finder) (dev : Development) : Type 0 where
+  pub keeps : Keeps find dev
+  pub carries : (j : ℕ) → suc j < length dev.levels → Carries find dev j
+  pub values : is_complete dev ≡ true → ValuesMeet find dev
 
--- and its translation follows the machine
+-- where every obligation of a plain development is valid, it is correct
+abbrev pub ValidObligationsCarry : Type 0
+ValidObligationsCarry = (find : Finder) → IsSearch find → (dev : Development) → IsDevelopment dev → IsPlain dev → HasValidObligations dev → IsCorrect find dev
+
+-- and the translation of its implementation follows the machine
 abbrev pub ValidObligationsFollow : Type 0
 ValidObligationsFollow = (find : Finder) → IsSearch find → (dev : Development) → IsDevelopment dev → IsSimple dev → IsPlain dev → HasValidObligations dev → Follows find dev (translation dev)
 
@@ -35,10 +41,21 @@ pub record CounterIsValid : Type 0 where
   pub plain : IsPlain counter
   pub obligations : HasValidObligations counter
 
--- simple statements have no locals, no x :(P), no loops and no ||
-abbrev pub PlainIsBasic : Type 0
-PlainIsBasic = (dev : Development) → IsPlain dev → IsBasic dev
+-- and so do the adder and the stepper, but for their obligations
+pub record ExamplesArePlain : Type 0 where
+  pub tally_facts : IsDevelopment tally
+  pub tally_plain : IsPlain tally
+  pub stepper_facts : IsDevelopment stepper
+  pub stepper_plain : IsPlain stepper
 
--- where every obligation is obvious, every obligation is valid: the goals are predicates over the development's variables
+-- the formulas of a basic development's obligations are predicates over the development's variables
+abbrev pub ObligationsType : Type 0
+ObligationsType = (dev : Development) → IsDevelopment dev → IsBasic dev → HasTypedObligations dev
+
+-- so that where each is obvious or derived by rules, each is valid
+abbrev pub ShownObligationsAreValid : Type 0
+ShownObligationsAreValid = (dev : Development) → IsDevelopment dev → IsBasic dev → HasShownObligations dev → HasValidObligations dev
+
+-- where every obligation is obvious, every obligation is valid
 abbrev pub ObviousObligationsAreValid : Type 0
 ObviousObligationsAreValid = (dev : Development) → IsDevelopment dev → IsBasic dev → HasObviousObligations dev → HasValidObligations dev

@@ -5,4 +5,5 @@ pub mod Shown
 pub mod Basic
 pub mod Plain
 pub mod Obvious
+pub mod Examples
 pub mod Laws

@@ -9,8 +9,10 @@ use Rattle.bk_dev.specs.Development.{Level, Development, level_at, body_at, is_i
 use Rattle.bk_dev.specs.Facts.{Each}
 use Rattle.bk_dev.specs.Flattened.{flattened}
 use Rattle.bk_dev.specs.Hypotheses.{conjuncts, link_equation, properties_hypotheses, invariant_hypotheses, assertion_hypotheses, init_hypotheses, body_hypotheses, operation_hypotheses}
-use Rattle.bk_dev.specs.Claims.{beside}
+use Rattle.bk_dev.specs.Claims.{arrays_at, beside}
+use Rattle.bk_gsl.specs.Substitution.{Substitution}
 use Rattle.bk_wp.specs.Box.{box, diamond}
+use Rattle.bk_wp.specs.Guarded.{guarded}
 use Rattle.bk_seq.specs.Valid.{IsValid}
 use Rattle.bk_po.specs.declared.row.Row.{Row}
 use Rattle.bk_po.specs.declared.row.Row.TheVariants.{PropertiesDefined, ValuesMeet, InvariantDefined, AssertionsDefined, AssertionsHold, Initialisation, InitialisationDefined, Operations, OperationsDefined}
@@ -40,10 +42,14 @@ each_after [] = btrue
 each_after (p ∷ []) = p
 each_after (p ∷ q ∷ qs) = binary And p (binary Imp p (each_after (q ∷ qs)))
 
--- that the formulas of a clause are defined, or that what a substitution executes stays within the machine's range: btrue, which is right
--- only for developments in which both hold everywhere
+-- that the properties, the invariant or the assertions are defined: btrue, since the formulas of the developments that are taken are made of
+-- operators that are defined everywhere
 abbrev pub definedness_goal : Formula
 definedness_goal = btrue
+
+-- that what a substitution of level k meets is defined or, in an implementation, that what it executes stays within the machine's range
+abbrev pub evaluation_goal : Development → ℕ → Substitution → Formula
+evaluation_goal dev k s = guarded dev.table (arrays_at dev k) s
 
 -- all properties of the levels down to k, with the constants' values for the constants
 abbrev pub values_goal : Development → ℕ → Formula
@@ -84,7 +90,7 @@ named_after dev k clause = (level_at dev k).name ++ codes "." ++ clause
 abbrev pub head_name : Development → ℕ → List ℕ
 head_name dev o = (slice_index_or dev.heads o (record { name = []; inputs = []; outputs = 0 })).name
 
--- definedness is named .wd, and of what is executed .chk
+-- the definedness of what is met is named .wd, and the range of what is executed .chk
 abbrev pub suffix : Level → List ℕ
 suffix l = cond (is_implementation l) (codes ".chk") (codes ".wd")
 
@@ -95,9 +101,9 @@ obligation name hypotheses goal = record { name = name; hypotheses = hypotheses;
 abbrev pub of_operation : Development → ℕ → ℕ → Obligation
 of_operation dev k o = obligation (named_after dev k (head_name dev o)) (operation_hypotheses dev k o) (operation_goal dev k o)
 
--- that its body is defined
+-- of what its whole body meets or executes
 abbrev pub of_definedness : Development → ℕ → ℕ → Obligation
-of_definedness dev k o = obligation (named_after dev k (head_name dev o ++ suffix (level_at dev k))) (body_hypotheses dev k o) definedness_goal
+of_definedness dev k o = obligation (named_after dev k (head_name dev o ++ suffix (level_at dev k))) (body_hypotheses dev k o) (evaluation_goal dev k (whole (body_at dev k o)))
 
 -- of one row at level k, operations in the machine's order; of a development whose substitutions are flat
 abbrev pub row_obligations : Development → ℕ → Row → List Obligation
@@ -107,7 +113,7 @@ row_obligations dev k InvariantDefined = obligation (named_after dev k (codes "I
 row_obligations dev k AssertionsDefined = obligation (named_after dev k (codes "ASSERTIONS.wd")) (assertion_hypotheses dev k) definedness_goal ∷ []
 row_obligations dev k AssertionsHold = obligation (named_after dev k (codes "ASSERTIONS")) (assertion_hypotheses dev k) (each_after (level_at dev k).assertions) ∷ []
 row_obligations dev k Initialisation = obligation (named_after dev k (codes "INITIALISATION")) (init_hypotheses dev k) (init_goal dev k) ∷ []
-row_obligations dev k InitialisationDefined = obligation (named_after dev k (codes "INITIALISATION" ++ suffix (level_at dev k))) (init_hypotheses dev k) definedness_goal ∷ []
+row_obligations dev k InitialisationDefined = obligation (named_after dev k (codes "INITIALISATION" ++ suffix (level_at dev k))) (init_hypotheses dev k) (evaluation_goal dev k (level_at dev k).init) ∷ []
 row_obligations dev k Operations = map (of_operation dev k) (numbers_below (length dev.heads))
 row_obligations dev k OperationsDefined = map (of_definedness dev k) (numbers_below (length dev.heads))
 

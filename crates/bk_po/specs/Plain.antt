@@ -1,23 +1,29 @@
--- Developments of two levels whose statements are simple at both.
-use Rattle.std.specs.Prelude.{◌≡◌, ℤ, [], length}
-use Rattle.bk_form.specs.Formula.{btrue}
-use Rattle.bk_dev.specs.Development.{Body, Level, Development, int_max}
+-- Developments in which nothing but an outermost precondition can keep what stands above the last level from ending.
+use Rattle.std.specs.Prelude.{take}
+use Rattle.bk_gsl.specs.Substitution.{Substitution, pre, guard, choice, if_else, any, seq, par, assert, loop}
+use Rattle.bk_dev.specs.Development.{Level, Development, last}
 use Rattle.bk_dev.specs.Facts.{Each}
-use Rattle.bk_gen.specs.Simple.{IsSimpleStatement}
+use Rattle.bk_po.specs.Basic.{IsBasic}
 
--- a simple statement without precondition
-pub record IsPlainBody (max : ℤ) (b : Body) : Type 0 where
-  pub condition : b.condition ≡ btrue
-  pub sub : IsSimpleStatement max b.sub
+-- no precondition, no assertion and no loop stands in it, so that it ends from every state
+abbrev pub AlwaysEnds : Substitution → Type 0
+AlwaysEnds (pre p s) = ⊥
+AlwaysEnds (guard p s) = AlwaysEnds s
+AlwaysEnds (choice s t) = AlwaysEnds s × AlwaysEnds t
+AlwaysEnds (if_else p s t) = AlwaysEnds s × AlwaysEnds t
+AlwaysEnds (any zs s) = AlwaysEnds s
+AlwaysEnds (seq s t) = AlwaysEnds s × AlwaysEnds t
+AlwaysEnds (par s t) = AlwaysEnds s × AlwaysEnds t
+AlwaysEnds (assert p s) = ⊥
+AlwaysEnds (loop p s i v) = ⊥
+AlwaysEnds _ = Unit {0}
 
--- no properties and no assertions, and simple statements
-pub record IsPlainLevel (max : ℤ) (l : Level) : Type 0 where
-  pub properties : l.properties ≡ btrue
-  pub assertions : l.assertions ≡ []
-  pub init : IsSimpleStatement max l.init
-  pub bodies : Each (IsPlainBody max) l.bodies
+-- its initialisation ends, and each body under its outermost precondition
+pub record LevelEnds (l : Level) : Type 0 where
+  pub init : AlwaysEnds l.init
+  pub bodies : Each (λ b. AlwaysEnds b.sub) l.bodies
 
--- a machine and its implementation, both of them plain
+-- a basic development in which each level above the last ends
 pub record IsPlain (dev : Development) : Type 0 where
-  pub two_levels : length dev.levels ≡ 2
-  pub levels : Each (IsPlainLevel (int_max dev)) dev.levels
+  pub basic : IsBasic dev
+  pub upper : Each LevelEnds (take (last dev) dev.levels)

@@ -7,20 +7,23 @@ ghost use Rattle.bk_form.specs.declared.operator.BinOp.TheVariants.{And, Imp};
 ghost use Rattle.bk_bind.specs.Limits.{IsWithinLimits};
 ghost use Rattle.bk_form.specs.Replacement.{replaced, looked_up};
 ghost use Rattle.bk_wp.specs.Box.{box, diamond};
+ghost use Rattle.bk_wp.specs.Guarded.{HasTotal};
 ghost use Rattle.bk_wp.specs.Shapes.{HasNoBinder};
 ghost use Rattle.bk_wp.specs.declared.error.WpFault.TheVariants.{TooLarge};
 ghost use Rattle.bk_dev.specs.Development.{is_btrue, whole, level_at, body_of, body_at};
 ghost use Rattle.bk_dev.specs.Hypotheses.{link_equation};
+ghost use Rattle.bk_dev.specs.Layout.{arrays_of};
 ghost use Rattle.bk_dev.specs.Claims.{beside};
 ghost use Rattle.bk_po.specs.Basic.{IsBasic};
-ghost use Rattle.bk_po.specs.Obligations.{joined_onto, conjunction, each_after, values_goal, joined_goal, init_goal, operation_goal};
+ghost use Rattle.bk_po.specs.Obligations.{joined_onto, conjunction, each_after, values_goal, joined_goal, init_goal, operation_goal, evaluation_goal};
 
 use crate::hypotheses::add_links;
 use bk_bind::{binary, replace};
-use bk_dev::{Body, Development, Level};
-use bk_form::{BinOp, Form, Part, VarTable, View};
+use bk_dev::{Body, Development, Kind, Level};
+use bk_form::{Arrays, BinOp, Form, Part, VarTable, View};
+use bk_gsl::Sub;
 use bk_io::Memory;
-use bk_wp::{WpFault, boxed, diamond};
+use bk_wp::{WpFault, boxed, diamond, guarded};
 use std::alloc::Global;
 
 /// `btrue`: what is to be shown of formulas that are defined everywhere.
@@ -88,17 +91,18 @@ fn properties(alloc: Global, levels: &[Level]) -> Result<Vec<Form>, Memory>
 }
 
 /// That the machine's initialisation meets its invariant, or that each other is answered by the one above.
+#[tactic(auto, using(crate::proofs::Basics::init_plain))]
 pub(crate) fn init_goal(alloc: Global, dev: &Development, level: usize) -> Result<Form, WpFault>
     requires level { level < length dev.now.levels }
     requires basic { IsBasic dev.now }
     ensures value { IfOk result (λ f. f ≡ init_goal dev.now level) }
     ensures too_large { result ≡ Err TooLarge → IsWithinLimits (init_goal dev.now level) → ⊥ }
 {
-    let lower = &dev.levels[level];
+    let lower = level_at(dev, level);
     if level == 0 {
         return boxed(alloc, &dev.table, &lower.init, lower.invariant.copy(alloc)?);
     }
-    answered_init(alloc, &dev.table, lower, &dev.levels[level - 1])
+    answered_init(alloc, &dev.table, lower, level_at(dev, level - 1))
 }
 
 // That the initialisation is answered by the one above.
@@ -120,7 +124,7 @@ fn answered_init(
 }
 
 /// That the machine's operation keeps its invariant, or that each other is answered by the one above.
-#[tactic(auto, using(crate::proofs::Bodies::basic_body))]
+#[tactic(auto, using(crate::proofs::Basics::body_plain))]
 pub(crate) fn operation_goal(
     alloc: Global,
     dev: &Development,
@@ -148,7 +152,7 @@ pub(crate) fn operation_goal(
 }
 
 // An operation's body at one level.
-#[tactic(auto, using(crate::proofs::Bodies::body_stands))]
+#[tactic(auto, using(crate::proofs::Basics::body_stands))]
 fn body_at(dev: &Development, level: usize, operation: usize) -> &Body
     requires level { level < length dev.now.levels }
     requires operation { operation < length dev.now.heads }
@@ -183,7 +187,7 @@ fn kept_goal(alloc: Global, types: &VarTable, level: &Level, body: &Body) -> Res
 }
 
 // That the whole body is answered by the body above, without that one's outermost precondition.
-#[tactic(auto, using(bk_wp::proofs::Growth::parts_within))]
+#[tactic(auto, using(bk_wp::proofs::Growth::parts_within, crate::proofs::Basics::whole_plain))]
 fn answered_goal(
     alloc: Global,
     types: &VarTable,
@@ -198,21 +202,72 @@ fn answered_goal(
 {
     let joining = joining_goal(alloc, level, &lower.outputs, &upper.outputs)?;
     let answered = diamond(alloc, types, &upper.sub, joining)?;
-    boxed_whole(alloc, types, lower, answered)
+    boxed(alloc, types, &whole(alloc, lower)?, answered)
 }
 
-// The box of a whole body, with its outermost precondition where there is one.
-#[tactic(auto, using(bk_wp::proofs::Growth::parts_within))]
-fn boxed_whole(alloc: Global, types: &VarTable, body: &Body, post: Form) -> Result<Form, WpFault>
-    requires { HasNoBinder body.now.sub }
-    ensures value { IfOk result (λ f. f ≡ box types.now (whole body.now) post) }
-    ensures too_large { result ≡ Err TooLarge → IsWithinLimits (box types.now (whole body.now) post) → ⊥ }
+// The body under its outermost precondition, where there is one.
+fn whole(alloc: Global, body: &Body) -> Result<Sub, Memory>
+    ensures { IfOk result (λ s. s ≡ whole body.now) }
 {
-    let inner = boxed(alloc, types, &body.sub, post)?;
+    let sub = body.sub.copy(alloc)?;
     if is_true(&body.pre) {
-        return Ok(inner);
+        return Ok(sub);
     }
-    Ok(binary(alloc, BinOp::And, body.pre.copy(alloc)?, inner)?)
+    Sub::pre(alloc, body.pre.copy(alloc)?, sub)
+}
+
+/// That what the level's initialisation meets is defined, or that what it executes stays within the machine's range.
+#[tactic(auto, using(crate::proofs::Basics::init_total))]
+pub(crate) fn init_evaluation(
+    alloc: Global,
+    dev: &Development,
+    level: usize,
+) -> Result<Form, WpFault>
+    requires level { level < length dev.now.levels }
+    requires basic { IsBasic dev.now }
+    ensures value { IfOk result (λ f. f ≡ evaluation_goal dev.now level (level_at dev.now level).init) }
+    ensures too_large { result ≡ Err TooLarge → IsWithinLimits (evaluation_goal dev.now level (level_at dev.now level).init) → ⊥ }
+{
+    evaluation_goal(alloc, dev, level, &level_at(dev, level).init)
+}
+
+/// That what the whole body of an operation meets is defined, or that what it executes stays within the machine's range.
+#[tactic(auto, using(crate::proofs::Basics::whole_total))]
+pub(crate) fn operation_evaluation(
+    alloc: Global,
+    dev: &Development,
+    level: usize,
+    operation: usize,
+) -> Result<Form, WpFault>
+    requires level { level < length dev.now.levels }
+    requires operation { operation < length dev.now.heads }
+    requires basic { IsBasic dev.now }
+    ensures value { IfOk result (λ f. f ≡ evaluation_goal dev.now level (whole (body_at dev.now level operation))) }
+    ensures too_large { result ≡ Err TooLarge → IsWithinLimits (evaluation_goal dev.now level (whole (body_at dev.now level operation))) → ⊥ }
+{
+    let whole = whole(alloc, body_at(dev, level, operation))?;
+    evaluation_goal(alloc, dev, level, &whole)
+}
+
+// What a substitution of the level is asked beside what it does; in an implementation its sums and products are executed.
+#[tactic(auto, using(crate::proofs::Basics::no_rows))]
+fn evaluation_goal(
+    alloc: Global,
+    dev: &Development,
+    level: usize,
+    sub: &Sub,
+) -> Result<Form, WpFault>
+    requires level { level < length dev.now.levels }
+    requires total { HasTotal sub.now }
+    requires no_arrays { (arrays_of dev.now).rows ≡ [] }
+    ensures value { IfOk result (λ f. f ≡ evaluation_goal dev.now level sub.now) }
+    ensures too_large { result ≡ Err TooLarge → IsWithinLimits (evaluation_goal dev.now level sub.now) → ⊥ }
+{
+    if dev.levels[level].kind != Kind::Implementation {
+        return guarded(alloc, &dev.table, sub, None);
+    }
+    let arrays = Arrays::from_rows(dev.int_max(), Vec::new(alloc));
+    guarded(alloc, &dev.table, sub, Some(&arrays))
 }
 
 // The invariant and the links of a level, and the equality of the outputs with those above.

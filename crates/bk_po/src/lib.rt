@@ -14,3 +14,6 @@ mod whole;
 
 pub use error::PoFault;
 pub use obligation::{Obligation, obligations};
+
+#[cfg(test)]
+mod tests;

@@ -3,12 +3,15 @@
 ghost use Rattle.std.specs.Prelude.{◌≡◌, ◌++◌, ◌<◌, ◌∷◌, [], length, codes, None, IfOk, IfErr, OnOk};
 ghost use Rattle.std.specs.List.{flat_map};
 ghost use Rattle.bk_po.specs.Basic.{IsBasic};
-ghost use Rattle.bk_po.specs.Obligations.{row_obligations, level_obligations, flat_obligations, of_operation, of_definedness, values_goal, named_after, suffix, obligation, definedness_goal};
+ghost use Rattle.bk_po.specs.Obligations.{row_obligations, level_obligations, flat_obligations, of_operation, of_definedness, values_goal, named_after, suffix, obligation};
 ghost use Rattle.bk_po.specs.Limits.{first_too_large, IsFaultAmong, fault_at};
 ghost use Rattle.bk_po.specs.declared.row.Row.TheVariants.{PropertiesDefined, ValuesMeet, InvariantDefined, AssertionsDefined, AssertionsHold, Initialisation, InitialisationDefined, Operations, OperationsDefined};
 
 use crate::error::PoFault;
-use crate::goals::{each_after, init_goal, level_at, nothing, operation_goal, values_goal};
+use crate::goals::{
+    each_after, init_evaluation, init_goal, level_at, nothing, operation_evaluation,
+    operation_goal, values_goal,
+};
 use crate::hypotheses::{
     assertion_hypotheses, body_hypotheses, init_hypotheses, invariant_hypotheses,
     operation_hypotheses, properties_hypotheses,
@@ -206,13 +209,18 @@ fn initialisation_defined(
     dev: &Development,
     level: usize,
 ) -> Result<WholeObligation, PoFault>
-    requires { level < length dev.now.levels }
+    requires level { level < length dev.now.levels }
+    requires basic { IsBasic dev.now }
     ensures value { IfOk result (λ o. o ∷ [] ≡ row_obligations dev.now level InitialisationDefined) }
     ensures size { OnOk result (first_too_large (row_obligations dev.now level InitialisationDefined) ≡ None) }
     ensures fault { IfErr result (IsFaultAmong (row_obligations dev.now level InitialisationDefined)) }
 {
+    let name = defined_after(alloc, level_at(dev, level), b"INITIALISATION")?;
     let hypotheses = init_hypotheses(alloc, dev, level)?;
-    defined(alloc, level_at(dev, level), b"INITIALISATION", hypotheses)
+    match init_evaluation(alloc, dev, level) {
+        Ok(goal) => whole(name, hypotheses, goal),
+        Err(fault) => Err(fault_at(name, fault)),
+    }
 }
 
 // ---- the constants' values
@@ -298,7 +306,8 @@ fn add_operations_defined(
     level: usize,
     list: &mut Vec<WholeObligation>,
 ) -> Result<(), PoFault>
-    requires { level < length dev.now.levels }
+    requires level { level < length dev.now.levels }
+    requires basic { IsBasic dev.now }
     ensures value { OnOk result (list.new.items ≡ list.old.items ++ row_obligations dev.now level OperationsDefined) }
     ensures sizes { OnOk result (first_too_large (row_obligations dev.now level OperationsDefined) ≡ None) }
     ensures fault { IfErr result (IsFaultAmong (row_obligations dev.now level OperationsDefined)) }
@@ -317,31 +326,21 @@ fn operation_defined(
 ) -> Result<WholeObligation, PoFault>
     requires level { level < length dev.now.levels }
     requires operation { operation < length dev.now.heads }
+    requires basic { IsBasic dev.now }
     ensures value { IfOk result (λ o. o ≡ of_definedness dev.now level operation) }
     ensures size { OnOk result (first_too_large (of_definedness dev.now level operation ∷ []) ≡ None) }
     ensures fault { IfErr result (IsFaultAmong (of_definedness dev.now level operation ∷ [])) }
 {
     let clause = &dev.heads[operation].name;
+    let name = defined_after(alloc, &dev.levels[level], clause.as_bytes())?;
     let hypotheses = body_hypotheses(alloc, dev, level, operation)?;
-    defined(alloc, level_at(dev, level), clause.as_bytes(), hypotheses)
+    match operation_evaluation(alloc, dev, level, operation) {
+        Ok(goal) => whole(name, hypotheses, goal),
+        Err(fault) => Err(fault_at(name, fault)),
+    }
 }
 
 // ---- one obligation
-
-// That what a clause of the level executes is defined.
-fn defined(
-    alloc: Global,
-    level: &Level,
-    clause: &[u8],
-    hypotheses: Vec<Form>,
-) -> Result<WholeObligation, PoFault>
-    ensures value { IfOk result (λ o. o ≡ obligation (level.now.name ++ codes "." ++ (clause.now ++ suffix level.now)) hypotheses.items definedness_goal) }
-    ensures size { OnOk result (first_too_large (obligation (level.now.name ++ codes "." ++ (clause.now ++ suffix level.now)) hypotheses.items definedness_goal ∷ []) ≡ None) }
-    ensures fault { IfErr result (IsFaultAmong (obligation (level.now.name ++ codes "." ++ (clause.now ++ suffix level.now)) hypotheses.items definedness_goal ∷ [])) }
-{
-    let name = defined_after(alloc, level, clause)?;
-    whole(name, hypotheses, nothing(alloc)?)
-}
 
 // The obligation of these parts, where it is not too large.
 fn whole(name: Text, hypotheses: Vec<Form>, goal: Form) -> Result<WholeObligation, PoFault>

@@ -23,10 +23,9 @@ pub struct Obligation {
 }
 
 /// The obligations of a development: by components, rows and operations, each goal taken apart and its sequents numbered
-/// from 1 (B-Book, Theory of Abstract Machines and Refinement). That formulas are defined, and that what is executed stays
-/// within the machine's range, is not asked yet: for developments in which one of them may fail the list is too short.
-/// Substitutions with locals, `x :(P)`, loops or `||` are not taken yet.
-#[tactic(auto, using(crate::proofs::Obviousness::basic_is_flat, crate::proofs::Laying::among_is_of))]
+/// from 1 (B-Book, Theory of Abstract Machines and Refinement). Formulas with binders or with operators that are not
+/// defined everywhere, arrays, and substitutions with locals, `x :(P)`, loops or `||` are not taken yet.
+#[tactic(auto, using(crate::proofs::Basics::basic_is_flat, crate::proofs::Laying::among_is_of))]
 pub fn obligations(alloc: Global, dev: &Development) -> Result<Vec<Obligation>, PoFault>
     requires { IsBasic dev.now }
     ensures value { IfOk result (λ list. map named_sequent list.items ≡ numbered_obligations dev.now) }

@@ -1,6 +1,6 @@
 use Rattle.std.proofs.Common.{◌<◌, length, sym, subst}
 use Rattle.bk_dev.specs.Development.{Level}
-use Rattle.bk_po.proofs.Bodies.{body_stands}
+use Rattle.bk_po.proofs.Basics.{body_stands}
 use Rattle.bk_po.proofs.goals.body_at.Goals as goal
 
 pub body_of-requires : goal.body_of-requires

@@ -1,0 +1,5 @@
+use Rattle.bk_po.proofs.Obviousness.{obligations_type}
+use Rattle.bk_po.proofs.laws.obligations_type.Goals as goal
+
+pub returns : goal.returns
+returns c = obligations_type
