@@ -1,5 +1,5 @@
 -- A project has no binders, and where its obligations are obvious its code follows its machine.
-use Rattle.std.proofs.Common.{◌≡◌, ℕ, ◌+◌, nat_eq, List, [], ◌∷◌, length, Option, Some, None, refl, sym, subst, true, cond}
+use Rattle.std.proofs.Common.{◌≡◌, ℕ, ◌+◌, nat_eq, List, [], ◌∷◌, length, Some, None, refl, sym, subst, true, cond}
 use Rattle.std.specs.Prelude.{find}
 use Rattle.bk_io.specs.Files.{Files}
 use Rattle.bk_form.specs.declared.arrays.ArrayRow.{ArrayRow}
