@@ -1,4 +1,5 @@
-//! The code of simple statements.
+//! The code of simple statements. Functions go down a formula or a statement by calling themselves: as deep as a formula is
+//! high, which its type bounds, and as statements are nested.
 
 ghost use Rattle.std.specs.Prelude.{◌≡◌, ◌+◌, ◌-◌, ◌≤◌, ◌<◌, ◌^◌, ◌++◌, pos, min, length, slice_set, OnOk};
 ghost use Rattle.bk_code.specs.declared.instruction.Inst.TheVariants.{Jump, JumpZero};
