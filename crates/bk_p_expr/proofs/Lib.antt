@@ -1,0 +1,16 @@
+pub mod Counting
+pub mod Choices
+pub mod Types
+pub mod Leaves
+pub mod Binders
+pub mod Heights
+pub mod Fuel
+pub mod Written
+pub mod Arguments
+pub mod Operators
+pub mod Suffixes
+pub mod Lists
+pub mod Powers
+pub mod Paths
+pub mod Fronts
+pub mod Places
