@@ -1,0 +1,9 @@
+pub mod Dividers
+pub mod Fronts
+pub mod Statements
+pub mod Operations
+pub mod Components
+pub mod ComponentCodes
+pub mod Contents
+pub mod Numbering
+pub mod Clauses

@@ -1,0 +1,12 @@
+pub mod Made
+pub mod Standing
+pub mod Pairs
+pub mod Rising
+pub mod Levels
+pub mod Bodies
+pub mod Whole
+pub mod SimpleAndPlain
+pub mod Texts
+pub mod ExamplesByHand
+pub mod Places
+pub mod Counts

@@ -1,0 +1,124 @@
+-- A machine and its implementation as a development: it is translated, and its obligations are made.
+use Rattle.std.proofs.Common.{◌≡◌, inl, inr, ℕ, suc, pos, Bool, true, false, List, [], ◌∷◌, Option, None, Some, refl, sym, ap, subst, arith, All}
+use Rattle.std.specs.Prelude.{cond}
+use Rattle.std.specs.List.{filter_map}
+use Rattle.std.proofs.lemmas.List.Elements.{All-nil, All-cons}
+use Rattle.bk_val.specs.ValueType.{int_type}
+use Rattle.bk_form.specs.Table.{variable_type}
+use Rattle.bk_form.specs.Formula.{Formula, binary}
+use Rattle.bk_form.specs.declared.operator.BinOp.TheVariants.{TotalFunctions}
+use Rattle.bk_form.specs.declared.arrays.ArrayRow.{ArrayRow}
+use Rattle.bk_gsl.specs.Substitution.{Substitution, skip, assign, if_else}
+use Rattle.bk_dev.specs.declared.kind.Kind.{Kind}
+use Rattle.bk_dev.specs.declared.kind.Kind.TheVariants.{Machine, Implementation}
+use Rattle.bk_dev.specs.declared.kind.Home.TheVariants.{Variable}
+use Rattle.bk_dev.specs.Development.{Body, Development, level_at}
+use Rattle.bk_dev.specs.Facts.{Each}
+use Rattle.bk_dev.specs.Layout.{Clue, in_domain, equals, silent, has_scalars, array_row, indices_of, row_by, typing_clue, reversed, arrays_of}
+use Rattle.bk_gen.specs.Simple.{IsSimpleStatement, EvaluatesShallow, IsSimple}
+use Rattle.bk_wp.specs.Guarded.{IsTotal}
+use Rattle.bk_po.specs.Basic.{IsBasicBody, IsBasicLevel}
+use Rattle.bk_po.specs.Plain.{AlwaysEnds, LevelEnds, IsPlain}
+use Rattle.bk_comp.specs.Operations.{Header, Places, numbers_from, takes_members}
+use Rattle.bk_comp.specs.Components.{Component, machine_places, implementation_places}
+use Rattle.bk_comp.specs.Contents.{IsPreconditionOver, IsStatementOver, IsBodyOver, AreBodiesOver, IsMadeOfThese}
+use Rattle.bk_pair.proofs.Made.{statement-simple, statement-shallow, condition-total, statement-total}
+use Rattle.bk_pair.proofs.Pairs.{as_machine, as_implementation, dev, lower, lower-stand, variables-int, typed-home}
+
+-- ---- all bodies
+module _ (kind : Kind) (x : ℕ) (P : Body → Type 0) (from : (p : Places) (h : Header) (b : Body) → IsBodyOver kind x p h b → P b) where
+  all-bodies : (ps : List Places) (hs : List Header) (bs : List Body) → AreBodiesOver kind x ps hs bs → All P bs
+  all-bodies [] [] [] made = All-nil P
+  all-bodies [] [] (b ∷ bs) made = absurd made
+  all-bodies [] (h ∷ hs) bs made = absurd made
+  all-bodies (p ∷ ps) [] bs made = absurd made
+  all-bodies (p ∷ ps) (h ∷ hs) [] made = absurd made
+  all-bodies (p ∷ ps) (h ∷ hs) (b ∷ bs) made = All-cons P b bs (from p h b made.0) (all-bodies ps hs bs made.1)
+
+  each-body : (ps : List Places) (hs : List Header) (bs : List Body) → AreBodiesOver kind x ps hs bs → Each P bs
+  each-body [] [] [] made = tt
+  each-body [] [] (b ∷ bs) made = absurd made
+  each-body [] (h ∷ hs) bs made = absurd made
+  each-body (p ∷ ps) [] bs made = absurd made
+  each-body (p ∷ ps) (h ∷ hs) [] made = absurd made
+  each-body (p ∷ ps) (h ∷ hs) (b ∷ bs) made = (from p h b made.0, each-body ps hs bs made.1)
+
+-- ---- one body
+body-simple : (x : ℕ) (p : Places) (h : Header) (b : Body) → IsBodyOver Implementation x p h b → IsSimpleStatement (pos 2147483647) b.sub
+body-simple x p h b made = statement-simple (x ∷ numbers_from p.inputs h.inputs) (x ∷ numbers_from p.outputs h.outputs) b.sub made.sub
+
+body-shallow : (x : ℕ) (p : Places) (h : Header) (b : Body) → IsBodyOver Implementation x p h b → EvaluatesShallow b.sub
+body-shallow x p h b made = statement-shallow false (x ∷ numbers_from p.inputs h.inputs) (x ∷ numbers_from p.outputs h.outputs) b.sub made.sub made.low
+
+precondition-total : (kind : Kind) (xs : List ℕ) (f : Formula) → IsPreconditionOver kind xs f → IsTotal f
+precondition-total kind xs f (inl e) = subst IsTotal (sym e) tt
+precondition-total kind xs f (inr made) = condition-total xs true f made.1
+
+body-basic : (kind : Kind) (x : ℕ) (p : Places) (h : Header) (b : Body) → IsBodyOver kind x p h b → IsBasicBody b
+body-basic kind x p h b made = record {
+  condition = precondition-total kind (x ∷ numbers_from p.inputs h.inputs) b.condition made.condition;
+  sub = statement-total (x ∷ numbers_from p.inputs h.inputs) (takes_members kind) (x ∷ numbers_from p.outputs h.outputs) b.sub made.sub;
+}
+
+statement-ends : (members : Bool) (xs ys : List ℕ) (s : Substitution) → IsStatementOver members xs ys s → AlwaysEnds s
+statement-ends members xs ys skip made = tt
+statement-ends members xs ys (assign ps) made = tt
+statement-ends members xs ys (if_else p s t) made = (statement-ends members xs ys s made.1, statement-ends members xs ys t made.2)
+statement-ends members xs ys _ made = absurd made
+
+body-ends : (kind : Kind) (x : ℕ) (p : Places) (h : Header) (b : Body) → IsBodyOver kind x p h b → AlwaysEnds b.sub
+body-ends kind x p h b made = statement-ends (takes_members kind) (x ∷ numbers_from p.inputs h.inputs) (x ∷ numbers_from p.outputs h.outputs) b.sub made.sub
+
+-- ---- a whole number is no array
+number-row : (whole : Development) (x : ℕ) → variable_type whole.table x ≡ Some int_type → (c : Clue) → row_by whole x c ≡ None
+number-row whole x typed (in_domain (binary TotalFunctions d e)) = ap (λ t. cond (has_scalars t) (array_row x (indices_of (pos 2147483647) whole.values d)) None) typed
+number-row whole x typed (in_domain f) = refl
+number-row whole x typed equals = refl
+number-row whole x typed silent = refl
+
+-- ---- the development
+module _ (m i : Component) (upper : IsMadeOfThese (as_machine m)) (below : IsMadeOfThese (as_implementation m.headers i)) where
+  abbrev pair : Development
+  pair = dev m i
+
+  abbrev second : ℕ
+  second = lower m i
+
+  pub pair-simple : IsSimple pair
+  pair-simple = record {
+    complete = refl;
+    no_sets = refl;
+    no_values = refl;
+    whole_numbers = variables-int m i;
+    init = below.start;
+    bodies = all-bodies Implementation second (λ b. IsSimpleStatement (pos 2147483647) b.sub) (body-simple second) (implementation_places 1 (suc second) m.headers) m.headers i.bodies below.bodies;
+    init_shallow = (omega arith, tt);
+    bodies_shallow = all-bodies Implementation second (λ b. EvaluatesShallow b.sub) (body-shallow second) (implementation_places 1 (suc second) m.headers) m.headers i.bodies below.bodies;
+  }
+
+  upper-basic : IsBasicLevel (level_at pair 0)
+  upper-basic = record {
+    properties = tt;
+    invariant = condition-total (0 ∷ []) true m.invariant upper.invariant;
+    assertions = tt;
+    init = (tt, tt);
+    bodies = each-body Machine 0 IsBasicBody (body-basic Machine 0) (machine_places 1 m.headers) m.headers m.bodies upper.bodies;
+  }
+
+  lower-basic : IsBasicLevel (level_at pair 1)
+  lower-basic = record {
+    properties = tt;
+    invariant = condition-total (second ∷ []) true i.invariant below.invariant;
+    assertions = tt;
+    init = (tt, tt);
+    bodies = each-body Implementation second IsBasicBody (body-basic Implementation second) (implementation_places 1 (suc second) m.headers) m.headers i.bodies below.bodies;
+  }
+
+  no-arrays : (arrays_of pair).rows ≡ []
+  no-arrays = λ j. filter_map (λ (r : Option ArrayRow). r) (number-row pair second (typed-home m i second (Variable 1) (lower-stand m i).0) (typing_clue (Some second) (reversed pair.levels [])) j ∷ [])
+
+  upper-ends : LevelEnds (level_at pair 0)
+  upper-ends = record { init = tt; bodies = each-body Machine 0 (λ b. AlwaysEnds b.sub) (body-ends Machine 0) (machine_places 1 m.headers) m.headers m.bodies upper.bodies }
+
+  pub pair-plain : IsPlain pair
+  pair-plain = record { basic = record { levels = (upper-basic, (lower-basic, tt)); no_arrays = no-arrays }; upper = (upper-ends, tt) }

@@ -1,0 +1,3 @@
+pub mod Developments
+pub mod PairLaws
+pub mod Examples

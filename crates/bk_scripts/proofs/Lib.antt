@@ -1,0 +1,22 @@
+mod Examples
+pub mod Prefixes
+pub mod Fronts
+pub mod Tokens
+pub mod Loops
+pub mod Places
+pub mod Lines
+pub mod Sums
+pub mod Shallow
+pub mod Picking
+pub mod Picks
+pub mod Rules
+pub mod Names
+pub mod ShortRules
+pub mod WholeScripts
+pub mod ProofFiles
+pub mod One
+pub mod Texts
+pub mod Certificates
+pub mod OneState
+pub mod Turns
+pub mod Cuts

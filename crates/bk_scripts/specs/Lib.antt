@@ -1,0 +1,15 @@
+pub mod WrittenRule
+pub mod WrittenCodes
+pub mod Stored
+pub mod Form
+pub mod Letters
+pub mod Writing
+pub mod Files
+pub mod Sight
+pub mod Grounding
+pub mod States
+pub mod Laws
+pub mod Reader
+pub mod Sums
+pub mod Checks
+pub mod Found

@@ -1,0 +1,54 @@
+-- Tables without an open row, and what proved obligations are worth.
+use Rattle.std.proofs.Common.{◌≡◌, inl, inr, ℕ, List, [], ◌∷◌, not, cond, Option, Some, None}
+use Rattle.std.specs.List.{AllZip}
+use Rattle.bk_dev.specs.Development.{Development}
+use Rattle.bk_dev.specs.Facts.{Each}
+use Rattle.bk_dev.specs.Flattened.{flattened}
+use Rattle.bk_po.specs.Obligations.{Sequent, numbered_obligations}
+use Rattle.bk_po.specs.Obvious.{IsShown, HasShownObligations}
+use Rattle.bk_po.proofs.Splitting.{each-so}
+use Rattle.bk_po.proofs.Obviousness.{shown_obligations_are_valid}
+use Rattle.bk_po.proofs.Carrying.{valid_obligations_carry}
+use Rattle.bk_po.proofs.Following.{valid_obligations_follow}
+use Rattle.bk_scripts.specs.WrittenRule.{Script}
+use Rattle.bk_scripts.specs.States.{IsState}
+use Rattle.bk_scripts.specs.declared.state.State.{State}
+use Rattle.bk_scripts.specs.declared.state.State.TheVariants.{Obvious, Proved, NoScript, BadStep, Open, Extra}
+use Rattle.bk_status.specs.declared.table.Row.{Row}
+use Rattle.bk_status.specs.Rows.{IsRowOf, is_settled, first_open, IsProved, AreProved}
+use Rattle.bk_status.specs.Laws.{ClosedTablesProve, ProvedObligationsAreValid, ProvedDevelopmentsAreCorrect, ProvedDevelopmentsFollow}
+
+module _ (dev : Development) (scripts : List Script) where
+  by-state : (o : List ℕ × Sequent) (row : Row) (rest : Option Row) (s : State) → IsState (flattened dev) scripts o.0 o.1 s → cond (not (is_settled s)) (Some row) rest ≡ None → IsProved dev scripts o × (rest ≡ None)
+  by-state o row rest Obvious h e = (inl h, e)
+  by-state o row rest Proved h e = (inr h, e)
+  by-state o row rest NoScript h e = absurd (cc)
+  by-state o row rest (BadStep k) h e = absurd (cc)
+  by-state o row rest (Open n) h e = absurd (cc)
+  by-state o row rest (Extra k) h e = absurd (cc)
+
+  closed-each : (os : List (List ℕ × Sequent)) (rows : List Row) → AllZip (IsRowOf (flattened dev) scripts) os rows → first_open rows ≡ None → Each (IsProved dev scripts) os
+  closed-each [] [] h none = tt
+  closed-each [] (r ∷ rs) h none = absurd h
+  closed-each (o ∷ os) [] h none = absurd h
+  closed-each (o ∷ os) (r ∷ rs) h none =
+      let first = by-state o r (first_open rs) r.state h.0.state none in
+      (first.0, closed-each os rs h.1 first.1)
+
+  shown : (o : List ℕ × Sequent) → IsProved dev scripts o → IsShown (flattened dev).table o.1
+  shown o h = elim h [ inl plain ↦ inl plain | inr found ↦ inr (found.rules, found.verdict_is) ]
+
+  pub all-shown : AreProved dev scripts → HasShownObligations dev
+  all-shown h = each-so (IsProved dev scripts) (λ o. IsShown (flattened dev).table o.1) (numbered_obligations dev) shown h
+
+pub closed_tables_prove : ClosedTablesProve
+closed_tables_prove dev scripts rows h none = closed-each dev scripts (numbered_obligations dev) rows h none
+
+pub proved_obligations_are_valid : ProvedObligationsAreValid
+proved_obligations_are_valid dev scripts f basic h = shown_obligations_are_valid dev f basic (all-shown dev scripts h)
+
+pub proved_developments_are_correct : ProvedDevelopmentsAreCorrect
+proved_developments_are_correct find law dev scripts f plain h = valid_obligations_carry find law dev f plain (proved_obligations_are_valid dev scripts f plain.basic h)
+
+pub proved_developments_follow : ProvedDevelopmentsFollow
+proved_developments_follow find law dev scripts f simple plain h = valid_obligations_follow find law dev f simple plain (proved_obligations_are_valid dev scripts f plain.basic h)

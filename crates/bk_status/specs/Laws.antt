@@ -1,0 +1,50 @@
+-- What status tables are worth, as statements.
+use Rattle.std.specs.Prelude.{◌≡◌, ◌≢◌, List, map, None}
+use Rattle.std.specs.List.{AllPairs}
+use Rattle.bk_form.specs.Search.{Finder, IsSearch}
+use Rattle.bk_dev.specs.Development.{Development}
+use Rattle.bk_dev.specs.Facts.{IsDevelopment}
+use Rattle.bk_gen.specs.Simple.{IsSimple}
+use Rattle.bk_gen.specs.Translation.{translation}
+use Rattle.bk_sim.specs.Follows.{Follows}
+use Rattle.bk_po.specs.Obligations.{HasValidObligations}
+use Rattle.bk_po.specs.Basic.{IsBasic}
+use Rattle.bk_po.specs.Plain.{IsPlain}
+use Rattle.bk_po.specs.Laws.{IsCorrect}
+use Rattle.bk_scripts.specs.WrittenRule.{Script}
+use Rattle.bk_status.specs.declared.table.Row.{Row}
+use Rattle.bk_status.specs.Rows.{HasRows, first_open, AreProved}
+
+-- no two scripts have one name
+abbrev pub AreNamedApart : List Script → Type 0
+AreNamedApart scripts = AllPairs (λ a b. a ≢ b) (map (λ s. s.name) scripts)
+
+-- a development has one table at most
+abbrev pub TablesAreOne : Type 0
+TablesAreOne =
+    (dev : Development) (scripts : List Script) (rows others : List Row) → AreNamedApart scripts → HasRows dev scripts rows →
+    HasRows dev scripts others → rows ≡ others
+
+-- where the table has no open row, each obligation is obvious or has a replayed proof
+abbrev pub ClosedTablesProve : Type 0
+ClosedTablesProve = (dev : Development) (scripts : List Script) (rows : List Row) → HasRows dev scripts rows → first_open rows ≡ None → AreProved dev scripts
+
+-- and where each is so, the table has no open row
+abbrev pub ProvedTablesAreClosed : Type 0
+ProvedTablesAreClosed =
+    (dev : Development) (scripts : List Script) (rows : List Row) → AreNamedApart scripts → HasRows dev scripts rows →
+    AreProved dev scripts → first_open rows ≡ None
+
+-- where each obligation of a basic development is obvious or has a replayed proof, each is valid
+abbrev pub ProvedObligationsAreValid : Type 0
+ProvedObligationsAreValid = (dev : Development) (scripts : List Script) → IsDevelopment dev → IsBasic dev → AreProved dev scripts → HasValidObligations dev
+
+-- so that a plain development is correct
+abbrev pub ProvedDevelopmentsAreCorrect : Type 0
+ProvedDevelopmentsAreCorrect = (find : Finder) → IsSearch find → (dev : Development) (scripts : List Script) → IsDevelopment dev → IsPlain dev → AreProved dev scripts → IsCorrect find dev
+
+-- and the translation of its implementation follows the machine
+abbrev pub ProvedDevelopmentsFollow : Type 0
+ProvedDevelopmentsFollow =
+    (find : Finder) → IsSearch find → (dev : Development) (scripts : List Script) → IsDevelopment dev → IsSimple dev → IsPlain dev →
+    AreProved dev scripts → Follows find dev (translation dev)

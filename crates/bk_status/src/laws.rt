@@ -1,0 +1,26 @@
+//! What status tables are worth. Each law is the contract of a function that does nothing.
+
+ghost use Rattle.bk_status.specs.Laws.{TablesAreOne, ClosedTablesProve, ProvedTablesAreClosed, ProvedObligationsAreValid, ProvedDevelopmentsAreCorrect, ProvedDevelopmentsFollow};
+
+/// A development has one table at most, over scripts of which no two have one name.
+pub fn tables_are_one()
+    ensures { TablesAreOne }
+{}
+
+/// A table without an open row says that each obligation is obvious or has a replayed proof.
+pub fn closed_tables_prove()
+    ensures { ClosedTablesProve }
+{}
+
+/// Where each obligation is so, the table has no open row.
+pub fn proved_tables_are_closed()
+    ensures { ProvedTablesAreClosed }
+{}
+
+/// Where each obligation is obvious or has a replayed proof, each is valid, the machine keeps its invariant, each level
+/// carries the one above, and translated code follows the machine.
+pub fn proved_obligations()
+    ensures valid { ProvedObligationsAreValid }
+    ensures correct { ProvedDevelopmentsAreCorrect }
+    ensures follow { ProvedDevelopmentsFollow }
+{}

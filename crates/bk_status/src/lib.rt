@@ -1,0 +1,14 @@
+//! The status table of a development: how far each of its obligations is proved.
+#![tactic(auto)]
+
+pub mod laws;
+mod replayed;
+pub mod table;
+
+pub use bk_scripts::State;
+pub use table::{Row, Table, status};
+
+#[cfg(test)]
+mod stepper;
+#[cfg(test)]
+mod tests;

@@ -1,0 +1,68 @@
+//! The state of one obligation.
+
+ghost use Rattle.std.specs.Prelude.{◌≡◌, ◌≢◌, All, IfOk, MatchOption};
+ghost use Rattle.std.specs.List.{IsAmong};
+ghost use Rattle.bk_kernel.specs.Sequents.{sequent_of};
+ghost use Rattle.bk_scripts.specs.States as meant;
+ghost use Rattle.bk_scripts.specs.States.{IsState};
+ghost use Rattle.bk_status.specs.Replayable.{IsReplayable, IsOutcome};
+
+use bk_dev::Development;
+use bk_io::{Memory, Text};
+use bk_kernel::{Verdict, is_obvious, replay};
+use bk_scripts::{Script, State, ground};
+use bk_seq::Sequent;
+use std::alloc::Global;
+
+/// The state of the obligation with this name and sequent.
+pub(crate) fn state(
+    alloc: Global,
+    dev: &Development,
+    scripts: &[Script],
+    name: &Text,
+    sequent: Sequent,
+) -> Result<State, Memory>
+    requires { IsReplayable dev.now.table (sequent_of sequent) }
+    ensures { IfOk result (IsState dev.now scripts.now name.now (sequent_of sequent)) }
+{
+    if is_obvious(&sequent) {
+        return Ok(State::Obvious);
+    }
+    match script_named(scripts, name) {
+        Some(script) => Ok(outcome(alloc, dev, script, sequent)?),
+        None => Ok(State::NoScript),
+    }
+}
+
+// The first script with the name.
+fn script_named<'a>(scripts: &'a [Script], name: &Text) -> Option<&'a Script>
+    ensures { MatchOption result (All (λ script. script.name ≢ name.now) scripts.now) (λ script. IsAmong scripts.now script.now × (script.now.name ≡ name.now)) }
+{
+    scripts.iter().find(|script| script.name.equal(name))
+}
+
+// What the script's rules make of the sequent.
+fn outcome(
+    alloc: Global,
+    dev: &Development,
+    script: &Script,
+    sequent: Sequent,
+) -> Result<State, Memory>
+    requires { IsReplayable dev.now.table (sequent_of sequent) }
+    ensures { IfOk result (IsOutcome dev.now script.now (sequent_of sequent)) }
+{
+    let (rules, table) = ground(alloc, script, dev)?;
+    let verdict = replay(alloc, &table, sequent, &rules)?;
+    Ok(state_of(verdict))
+}
+
+fn state_of(verdict: Verdict) -> State
+    ensures { result ≡ meant.state_of verdict }
+{
+    match verdict {
+        Verdict::Closed => State::Proved,
+        Verdict::BadStep(rule) => State::BadStep(rule),
+        Verdict::Open(left) => State::Open(left),
+        Verdict::Extra(rule) => State::Extra(rule),
+    }
+}

@@ -1,0 +1,95 @@
+//! The status table.
+
+ghost use Rattle.std.specs.Prelude.{◌≡◌, map, OnOk, IfOk, IfErr};
+ghost use Rattle.std.specs.List.{AllZip};
+ghost use Rattle.std.specs.Option.{option_copied};
+ghost use Rattle.bk_dev.specs.Facts.{Each};
+ghost use Rattle.bk_po.specs.Basic.{IsBasic};
+ghost use Rattle.bk_po.specs.Obligations.{obligations};
+ghost use Rattle.bk_po.specs.Limits.{PassNoLimit, IsFaultOf};
+ghost use Rattle.bk_status.specs.Rows as meant;
+ghost use Rattle.bk_po.specs.Shown.{named_sequent};
+ghost use Rattle.bk_status.specs.Rows.{IsRowOf, HasRows};
+ghost use Rattle.bk_status.specs.Replayable.{IsReplayable};
+
+use crate::replayed::state;
+use bk_dev::Development;
+use bk_io::{Memory, Text};
+use bk_po::{Obligation, PoFault, obligations};
+use bk_scripts::{Script, State};
+use std::alloc::Global;
+
+/// An obligation's name, and how far it is proved.
+#[derive(Drop)]
+pub struct Row {
+    pub name: Text,
+    pub state: State,
+}
+
+/// One row for each obligation, in the order of the obligations.
+#[derive(Drop)]
+pub struct Table {
+    pub rows: Vec<Row>,
+}
+
+impl Table {
+    ghost use Rattle.bk_status.specs.Rows.{first_open};
+
+    /// The first row that is neither obvious nor proved.
+    pub fn first_open(&self) -> Option<&Row>
+        ensures { option_copied result ≡ first_open self.now.rows.items }
+    {
+        self.rows.iter().find(|row| !is_settled(row.state))
+    }
+}
+
+// Whether a row of this state needs no more work.
+fn is_settled(state: State) -> bool
+    ensures { result ≡ meant.is_settled state }
+{
+    matches!(state, State::Obvious | State::Proved)
+}
+
+/// The status table of a development: each obligation is obvious, or it is what the script of its name makes of it. A script
+/// for no obligation is ignored. Where two scripts have one name, either may be taken; those of proof files never have.
+pub fn status(alloc: Global, dev: &Development, scripts: &[Script]) -> Result<Table, PoFault>
+    requires { IsBasic dev.now }
+    ensures rows { IfOk result (λ table. HasRows dev.now scripts.now table.rows.items) }
+    ensures within { OnOk result (PassNoLimit (obligations dev.now)) }
+    ensures fault { IfErr result (IsFaultOf (obligations dev.now)) }
+{
+    dev.facts();
+    let list = obligations(alloc, dev)?;
+    let rows = rows_of(alloc, dev, scripts, list)?;
+    Ok(Table { rows })
+}
+
+fn rows_of(
+    alloc: Global,
+    dev: &Development,
+    scripts: &[Script],
+    list: Vec<Obligation>,
+) -> Result<Vec<Row>, Memory>
+    requires { Each (λ o. IsReplayable dev.now.table o.1) (map named_sequent list.items) }
+    ensures { IfOk result (λ rows. AllZip (IsRowOf dev.now scripts.now) (map named_sequent list.items) rows.items) }
+{
+    let mut rows = Vec::new(alloc);
+    for obligation in list {
+        rows.push(row_of(alloc, dev, scripts, obligation)?)?;
+    }
+    Ok(rows)
+}
+
+fn row_of(
+    alloc: Global,
+    dev: &Development,
+    scripts: &[Script],
+    obligation: Obligation,
+) -> Result<Row, Memory>
+    requires { IsReplayable dev.now.table (named_sequent obligation).1 }
+    ensures { IfOk result (IsRowOf dev.now scripts.now (named_sequent obligation)) }
+{
+    let Obligation { name, sequent } = obligation;
+    let state = state(alloc, dev, scripts, &name, sequent)?;
+    Ok(Row { name, state })
+}
