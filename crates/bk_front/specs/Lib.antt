@@ -1,13 +1,4 @@
-pub mod Lexis
-pub mod Cutting
-pub mod Spelling
-pub mod Reading
 pub mod ProjectFile
 pub mod Refusals
 pub mod Trims
-pub mod Counter
-pub mod FirstForm
-pub mod Laws
-pub mod Parsing
-pub mod Rules
 pub mod Project

@@ -1,23 +1,24 @@
--- The texts of a project of the first form, and why they are not read.
+-- The texts of a project, and why they are not read.
 use Rattle.std.specs.Prelude.{◌≡◌, ◌⊎◌, ℕ, List, []}
 use Rattle.std.specs.Prelude.{slice_get, Option, Some, None, Vec}
 use Rattle.std.specs.declared.alloc.Global.{Global}
 use Rattle.bk_dev.specs.Development.{Development}
-use Rattle.bk_front.specs.declared.component.Component.{Component}
+use Rattle.bk_dev.specs.declared.kind.Kind.TheVariants.{Machine}
+use Rattle.bk_comp.specs.Components.{Component, IsTextOf}
+use Rattle.bk_pair.specs.Developments.{Reads}
 use Rattle.bk_front.specs.declared.refusal.Refusal.{Refusal}
 use Rattle.bk_front.specs.declared.refusal.Refusal.TheVariants.{Memory}
-use Rattle.bk_front.specs.Spelling.{IsTextOf}
-use Rattle.bk_front.specs.Reading.{Reads, IsMachineText}
 use Rattle.bk_front.specs.Refusals.{not_built}
 
--- the component whose text it is, or none where it is the text of none
-abbrev pub ReadsComponent : List ℕ → Option Component → Type 0
-ReadsComponent text (Some c) = IsTextOf text c
-ReadsComponent text None = (c : Component) → IsTextOf text c → ⊥
+-- the text is that of a machine
+pub record IsMachineText (text : List ℕ) : Type 0 where
+  pub machine : Component
+  pub is : IsTextOf text machine
+  pub top : machine.kind ≡ Machine
 
--- the machine of the first form whose text it is, or none
+-- the machine whose text it is, or none
 abbrev pub ReadsMachine : List ℕ → Option Component → Type 0
-ReadsMachine text (Some c) = IsTextOf text c × (c.refines ≡ None)
+ReadsMachine text (Some c) = IsTextOf text c × (c.kind ≡ Machine)
 ReadsMachine text None = IsMachineText text → ⊥
 
 abbrev pub bytes_of : Option (Vec ℕ Global) → List ℕ

@@ -1,10 +1,14 @@
--- The project file of the first form: a machine's file and an implementation's.
-use Rattle.std.specs.Prelude.{◌≡◌, ◌≢◌, ℕ, ◌<◌, List, [], ◌∷◌, ◌++◌, replicate, codes}
+-- The project file: lines that name the component files in their order, a machine's and an implementation's, and among them
+-- lines that name proof files. The layout is this project's own.
+use Rattle.std.specs.Prelude.{◌≡◌, ◌≢◌, ℕ, ◌<◌, Bool, true, false, not, List, [], ◌∷◌, ◌++◌, map, filter, replicate, codes}
+use Rattle.std.specs.List.{AllZip}
 use Rattle.std.specs.Str.{IsUtf8}
 use Rattle.bk_lines.specs.Lines.{kept_lines}
 use Rattle.bk_front.specs.declared.project_file.ProjectLine.{ProjectLine}
-use Rattle.bk_front.specs.declared.project_file.LineKind.TheVariants.{Machine, Implementation}
+use Rattle.bk_front.specs.declared.project_file.LineKind.{LineKind}
+use Rattle.bk_front.specs.declared.project_file.LineKind.TheVariants.{Machine, Refinement, Implementation, Proofs}
 
+-- ---- lines
 abbrev pub first_or : ℕ → List ℕ → ℕ
 first_or d [] = d
 first_or d (c ∷ cs) = c
@@ -27,21 +31,66 @@ pub record IsLine (word name line : List ℕ) : Type 0 where
   pub written : line ≡ word ++ (replicate before 32 ++ (name ++ replicate after 32))
   pub is_name : IsFileName name
 
--- the lines that count are one for the machine's file and then one for the implementation's
-pub record NamesFiles (text machine implementation : List ℕ) : Type 0 where
-  pub above : List ℕ
-  pub below : List ℕ
-  pub kept : kept_lines text ≡ above ∷ below ∷ []
-  pub machine_line : IsLine (codes "machine") machine above
-  pub implementation_line : IsLine (codes "implementation") implementation below
+abbrev pub word_of : LineKind → List ℕ
+word_of Machine = codes "machine"
+word_of Refinement = codes "refinement"
+word_of Implementation = codes "implementation"
+word_of Proofs = codes "proofs"
 
--- the component lines of a project file
-pub record AreProjectLines (text : List ℕ) (project_lines : List ProjectLine) : Type 0 where
+-- the line is written so
+abbrev pub IsProjectLine : List ℕ → ProjectLine → Type 0
+IsProjectLine line named = IsLine (word_of named.kind) named.name line
+
+-- ---- files
+abbrev pub is_proofs : LineKind → Bool
+is_proofs Proofs = true
+is_proofs _ = false
+
+-- those lines that name component files, and the names of the proof files
+abbrev pub component_lines : List ProjectLine → List ProjectLine
+component_lines named = filter (λ l. not (is_proofs l.kind)) named
+
+abbrev pub names : List ProjectLine → List (List ℕ)
+names named = map (λ l. l.name) named
+
+abbrev pub proof_lines : List ProjectLine → List ProjectLine
+proof_lines named = filter (λ l. is_proofs l.kind) named
+
+-- the names of the proof files, or of the component files
+abbrev pub files_of : Bool → List ProjectLine → List (List ℕ)
+files_of true named = names (proof_lines named)
+files_of false named = names (component_lines named)
+
+-- a line for a machine's file, and one for an implementation's
+abbrev pub a_machine_and_its_implementation : List ℕ → List ℕ → List ProjectLine
+a_machine_and_its_implementation machine implementation = record { kind = Machine; name = machine } ∷ record { kind = Implementation; name = implementation } ∷ []
+
+-- ---- the project file
+-- the lines that count are these, and those for component files are one for a machine's file and then one for an implementation's
+pub record AreProjectLines (text : List ℕ) (named : List ProjectLine) : Type 0 where
+  pub written : AllZip IsProjectLine (kept_lines text) named
   pub machine : List ℕ
   pub implementation : List ℕ
-  pub names : NamesFiles text machine implementation
-  pub are : project_lines ≡ record { kind = Machine; name = machine } ∷ record { kind = Implementation; name = implementation } ∷ []
+  pub components : component_lines named ≡ a_machine_and_its_implementation machine implementation
 
--- the project file is not of the first form
+-- no lines are those of the text
 abbrev pub IsNoProject : List ℕ → Type 0
-IsNoProject text = (machine implementation : List ℕ) → NamesFiles text machine implementation → ⊥
+IsNoProject text = (named : List ProjectLine) → AreProjectLines text named → ⊥
+
+-- the project file names the machine's file, the implementation's, and these proof files in their order
+pub record NamesFiles (text machine implementation : List ℕ) (proofs : List (List ℕ)) : Type 0 where
+  pub named : List ProjectLine
+  pub written : AllZip IsProjectLine (kept_lines text) named
+  pub components : component_lines named ≡ a_machine_and_its_implementation machine implementation
+  pub proofs_are : names (proof_lines named) ≡ proofs
+
+-- ---- laws
+-- a project file has one list of lines at most
+abbrev pub LinesAreOne : Type 0
+LinesAreOne = (text : List ℕ) (one other : List ProjectLine) → AreProjectLines text one → AreProjectLines text other → one ≡ other
+
+-- so it names each file once
+abbrev pub NameAtMostOnce : Type 0
+NameAtMostOnce =
+    (text machine implementation other_machine other_implementation : List ℕ) (proofs other_proofs : List (List ℕ)) → NamesFiles text machine implementation proofs →
+    NamesFiles text other_machine other_implementation other_proofs → (machine ≡ other_machine) × (implementation ≡ other_implementation) × (proofs ≡ other_proofs)

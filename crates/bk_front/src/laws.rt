@@ -1,26 +1,9 @@
-//! Laws of texts. Each is the contract of a function that does nothing.
+//! Laws of project files. Each is the contract of a function that does nothing.
 
-ghost use Rattle.bk_front.specs.Laws.{HasOneCut, PairIsDevelopment, PairHasFirstForm, ReadAtMostOne, NameAtMostOnce};
-ghost use Rattle.bk_front.specs.Spelling.{SpellAtMostOne};
+ghost use Rattle.bk_front.specs.ProjectFile.{LinesAreOne, NameAtMostOnce};
 
-/// What holds of the tokens of a text.
-pub fn texts()
-    ensures tokens { HasOneCut }
-{}
-
-/// What tokens spell.
-pub fn spellings()
-    ensures components { SpellAtMostOne }
-{}
-
-/// A machine of the first form and its implementation, as one development.
-pub fn first_form()
-    ensures is_development { PairIsDevelopment }
-    ensures has_first_form { PairHasFirstForm }
-{}
-
-/// What a project says.
-pub fn projects()
+/// What a project file says.
+pub fn project_files()
+    ensures lines { LinesAreOne }
     ensures files { NameAtMostOnce }
-    ensures development { ReadAtMostOne }
 {}

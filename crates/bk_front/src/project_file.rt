@@ -1,9 +1,11 @@
-// The project file.
+//! The project file.
 
-ghost use Rattle.std.specs.Prelude.{◌≡◌, ◌≢◌, ◌⊎◌, ◌↔◌, ◌<◌, ◌∷◌, ◌++◌, [], List, ℕ, length, IsTrue, MatchOption, IfOk, IfErr};
-ghost use Rattle.bk_lines.specs.Lines.{kept_lines};
+ghost use Rattle.std.specs.Prelude.{◌≡◌, ◌≢◌, ◌⊎◌, ◌↔◌, ◌<◌, ◌∷◌, ◌++◌, [], List, ℕ, length, IsTrue, IfSome, MatchOption, IfOk, IfErr};
 ghost use Rattle.std.specs.Str.{IsUtf8};
-ghost use Rattle.bk_front.specs.ProjectFile.{first_or, IsLine, NamesFiles, AreProjectLines, IsNoProject};
+ghost use Rattle.bk_lines.specs.Lines.{kept_lines};
+ghost use Rattle.bk_front.specs.declared.project_file.LineKind.{LineKind};
+ghost use Rattle.bk_front.specs.declared.project_file.ProjectLine.{ProjectLine};
+ghost use Rattle.bk_front.specs.ProjectFile.{first_or, IsLine, IsFileName, word_of, is_proofs, component_lines, a_machine_and_its_implementation, AreProjectLines, IsNoProject};
 ghost use Rattle.bk_front.specs.Refusals.{not_built};
 ghost use Rattle.bk_front.specs.declared.refusal.Refusal.TheVariants.{Memory};
 ghost use Rattle.bk_front.specs.Trims.{trim_front, trim_back};
@@ -30,52 +32,98 @@ pub enum LineKind {
     Proofs,
 }
 
-/// The lines of a project file. So far they are one for the machine's file and then one for the implementation's; any
-/// other project file is F15.
+impl LineKind {
+    /// The word that such a line begins with.
+    fn word(self) -> &'static [u8]
+        ensures { result.now ≡ word_of self }
+    {
+        match self {
+            LineKind::Machine => b"machine",
+            LineKind::Refinement => b"refinement",
+            LineKind::Implementation => b"implementation",
+            LineKind::Proofs => b"proofs",
+        }
+    }
+}
+
+/// The lines of a project file. So far those for component files are one for a machine's file and then one for an
+/// implementation's; any other project file is F15.
+#[tactic(auto, using(crate::proofs::ProjectFiles::none_read, crate::proofs::ProjectFiles::one_more, crate::proofs::ProjectFiles::no_line, crate::proofs::ProjectFiles::are_lines, crate::proofs::ProjectFiles::no_two))]
 pub fn lines(alloc: Global, text: &[u8]) -> Result<Vec<ProjectLine>, Refusal>
     ensures ok { IfOk result (λ lines. AreProjectLines text.now lines.items) }
     ensures err { IfErr result (λ e. (e ≡ Memory) ⊎ ((e ≡ not_built 0) × IsNoProject text.now)) }
 {
-    let (machine, implementation) = component_files(text).ok_or(Refusal::not_built(0))?;
     let mut lines = Vec::new(alloc);
-    lines.push(ProjectLine {
-        kind: LineKind::Machine,
-        name: Text::from_bytes(Vec::from_slice(alloc, machine)?),
-    })?;
-    lines.push(ProjectLine {
-        kind: LineKind::Implementation,
-        name: Text::from_bytes(Vec::from_slice(alloc, implementation)?),
-    })?;
+    let mut rest = text;
+    while let Some((line, after)) = next_line(rest) {
+        let Some((kind, name)) = kind_and_name(line) else {
+            return Err(Refusal::not_built(0));
+        };
+        lines.push(ProjectLine {
+            kind,
+            name: Text::from_bytes(Vec::from_slice(alloc, name)?),
+        })?;
+        rest = after;
+    }
+    if !name_two_components(&lines) {
+        return Err(Refusal::not_built(0));
+    }
     Ok(lines)
 }
 
-// The machine's file and the implementation's.
-#[tactic(auto, using(crate::proofs::ProjectFiles::no_machine, crate::proofs::ProjectFiles::no_implementation, crate::proofs::ProjectFiles::no_lines))]
-fn component_files(text: &[u8]) -> Option<(&[u8], &[u8])>
-    ensures { MatchOption result (IsNoProject text.now) (λ p. NamesFiles text.now p.0.now p.1.now) }
+// Whether the lines for component files are one for a machine's file and then one for an implementation's.
+fn name_two_components(lines: &[ProjectLine]) -> bool
+    ensures { IsTrue result ↔ ((machine : List ℕ) × (implementation : List ℕ) × (component_lines lines.now ≡ a_machine_and_its_implementation machine implementation)) }
 {
-    let (above, below) = two_lines(text)?;
-    let Some(machine) = file_name(above, b"machine") else {
-        return None;
+    let Some((first, behind)) = next_component(lines) else {
+        return false;
     };
-    let Some(implementation) = file_name(below, b"implementation") else {
-        return None;
+    let Some((second, behind)) = next_component(behind) else {
+        return false;
     };
-    Some((machine, implementation))
+    first.kind == LineKind::Machine
+        && second.kind == LineKind::Implementation
+        && next_component(behind).is_none()
 }
 
-// The lines that count, where they are two.
-fn two_lines(text: &[u8]) -> Option<(&[u8], &[u8])>
-    ensures { MatchOption result ((above below : List ℕ) → kept_lines text.now ≢ above ∷ below ∷ []) (λ p. kept_lines text.now ≡ p.0.now ∷ p.1.now ∷ []) }
+// The first line for a component file, and the lines behind it.
+fn next_component(lines: &[ProjectLine]) -> Option<(&ProjectLine, &[ProjectLine])>
+    ensures { MatchOption result (component_lines lines.now ≡ []) (λ p. component_lines lines.now ≡ p.0.now ∷ component_lines p.1.now) }
 {
-    let (above, rest) = next_line(text)?;
-    let (below, rest) = next_line(rest)?;
-    next_line(rest).is_none().then_some((above, below))
+    let mut rest = lines;
+    while let [line, behind @ ..] = rest {
+        if line.kind != LineKind::Proofs {
+            return Some((line, behind));
+        }
+        rest = behind;
+    }
+    None
+}
+
+// What a line names, and the file's name.
+#[tactic(auto, using(crate::proofs::ProjectFiles::no_kind))]
+fn kind_and_name(line: &[u8]) -> Option<(LineKind, &[u8])>
+    ensures { MatchOption result ((kind : LineKind) (name : List ℕ) → IsLine (word_of kind) name line.now → ⊥) (λ p. IsLine (word_of p.0) p.1.now line.now) }
+{
+    if let Some(name) = file_of(line, LineKind::Machine) {
+        return Some((LineKind::Machine, name));
+    }
+    if let Some(name) = file_of(line, LineKind::Refinement) {
+        return Some((LineKind::Refinement, name));
+    }
+    if let Some(name) = file_of(line, LineKind::Implementation) {
+        return Some((LineKind::Implementation, name));
+    }
+    if let Some(name) = file_of(line, LineKind::Proofs) {
+        return Some((LineKind::Proofs, name));
+    }
+    None
 }
 
 // The first line that counts, and the text behind it.
 fn next_line(text: &[u8]) -> Option<(&[u8], &[u8])>
-    ensures { MatchOption result (kept_lines text.now ≡ []) (λ p. kept_lines text.now ≡ p.0.now ∷ kept_lines p.1.now) }
+    ensures kept { MatchOption result (kept_lines text.now ≡ []) (λ p. kept_lines text.now ≡ p.0.now ∷ kept_lines p.1.now) }
+    ensures shorter { IfSome result (λ p. length p.1.now < length text.now) }
 {
     let mut rest = text;
     while let Some((line, after)) = first_line(rest) {
@@ -85,6 +133,13 @@ fn next_line(text: &[u8]) -> Option<(&[u8], &[u8])>
         }
     }
     None
+}
+
+// The file name of a line that names this.
+fn file_of(line: &[u8], kind: LineKind) -> Option<&[u8]>
+    ensures { MatchOption result ((name : List ℕ) → IsLine (word_of kind) name line.now → ⊥) (λ name. IsLine (word_of kind) name.now line.now) }
+{
+    file_name(line, kind.word())
 }
 
 // The file name of a line that begins with this word.

@@ -10,7 +10,7 @@ use Rattle.bkit.specs.declared.stop.Stop.TheVariants.{Usage, Missing, Refused, L
 use Rattle.bkit.specs.Causes.{IsOfPlaying}
 use Rattle.bkit.specs.Run.{IsExecuted, ComesSoFar, WritesRun}
 use Rattle.bkit.specs.Stops.{IsOutside, StopsAt, status_of_stop, stop_text, IsCutShort, Reports}
-use Rattle.bkit.specs.Answer.{IsAnswer, IsAnswered, WritesAnswer}
+use Rattle.bkit.specs.Answer.{IsAnswer, IsAnswered, WritesAnswer, WritesLine}
 use Rattle.bkit.proofs.Plays.{written_nothing}
 use Rattle.bkit.proofs.OneAnswer.{one_answer}
 
@@ -80,6 +80,13 @@ pub run_answers : (files : Files) (words : List (List ℕ)) (start after : Optio
 run_answers files words start after status w =
     let a : IsAnswer files words status w.text = inr w.run.played in
     record { text = w.text; answer = a; only = only files words status w.text a; appended = w.appended }
+
+-- told or not, what stops is told by its line alone
+module _ (start before after : Option (List ℕ)) (status : Status) (stop : Stop) where
+  pub stop_line : Reports stop status before after → IsAnswered status → IsOfPlaying stop ⊎ (before ≡ start) → WritesLine status start after
+  stop_line (inl r) a (inl p) = absurd (outside_is_not_answered stop (outside_of_playing stop p) (subst IsAnswered r.0 a))
+  stop_line (inl r) a (inr e) = (stop, r.0, r.1 ∙ ap (λ w. written_with w (stop_text stop)) e)
+  stop_line (inr r) a e = absurd (cut_short_is_not_answered status r.0 a)
 
 module _ (files : Files) (words : List (List ℕ)) (start before after : Option (List ℕ)) (status : Status) (stop : Stop) where
   pub stop_answers : IsOutside stop ⊎ StopsAt files words stop → Reports stop status before after → IsAnswered status → IsOfPlaying stop ⊎ (before ≡ start) → WritesAnswer files words start after status

@@ -1,9 +1,9 @@
-pub mod Following
-pub mod Open
 pub mod Plays
 pub mod Fronts
 pub mod Projects
+pub mod Fetching
 pub mod RunWords
 pub mod Stopping
 pub mod OneAnswer
 pub mod Answering
+pub mod Legal

@@ -1,32 +1,39 @@
 -- The words and the told files have one answer at most: no two checks stop the program, and none does where it is played.
-use Rattle.std.proofs.Common.{◌≡◌, ℕ, ◌<◌, ◌≤◌, ◌⊎◌, inl, inr, List, [], ◌∷◌, length, cond, Option, Some, None, refl, sym, ◌∙◌, ap, subst, arith}
+use Rattle.std.proofs.Common.{◌≡◌, ℕ, ◌<◌, ◌≤◌, ◌⊎◌, inl, inr, List, [], ◌∷◌, length, slice_index_or, Option, Some, None, sym, ◌∙◌, ap, subst, arith}
 use Rattle.std.proofs.lemmas.Option.{none-some}
 use Rattle.bk_io.specs.Files.{Files}
 use Rattle.bk_io.specs.Pieces.{WroteFront}
 use Rattle.bk_code.specs.declared.image.Image.{Image}
+use Rattle.bk_code.specs.Run.{End, Done, Trapped, OutOfFuel}
 use Rattle.bk_code.specs.Session.{Request, Told, Session}
 use Rattle.bk_code.proofs.Sessions.{one_session}
 use Rattle.bk_dev.specs.Development.{Development}
 use Rattle.bk_gen.specs.Translation.{translation}
-use Rattle.bk_front.specs.Reading.{Reads}
-use Rattle.bk_front.specs.ProjectFile.{NamesFiles}
+use Rattle.bk_pair.specs.Developments.{Reads}
+use Rattle.bk_front.specs.ProjectFile.{NamesFiles, IsNoProject}
 use Rattle.bk_front.proofs.ProjectFiles.{names_once}
-use Rattle.bk_po.specs.Obligations.{Sequent, numbered, obligations, numbered_obligations}
+use Rattle.bk_po.specs.Obligations.{numbered, obligations}
 use Rattle.bk_po.specs.Limits.{PassTogether, PassNoLimit, all_nodes}
-use Rattle.bk_po.specs.Obvious.{AreObvious, first_open}
+use Rattle.bk_scripts.specs.WrittenRule.{Script}
+use Rattle.bk_scripts.specs.Files.{AreScriptsOf}
+use Rattle.bk_scripts.proofs.Prefixes.{faulty-one, faulty-have-none}
+use Rattle.bk_status.specs.declared.table.Row.{Row}
+use Rattle.bk_status.specs.Rows.{first_open, AreProved}
+use Rattle.bk_status.specs.Laws.{AreNamedApart}
+use Rattle.bk_status.proofs.OneTable.{tables_are_one, proved_tables_are_closed}
 use Rattle.bk_calls.specs.Script.{IsScript, most_calls}
 use Rattle.bk_calls.specs.Transcript.{transcript}
 use Rattle.bk_calls.proofs.Limits.{are_apart}
 use Rattle.bk_calls.proofs.Scripts.{has_one_script}
 use Rattle.bkit.specs.declared.status.Status.{Status}
 use Rattle.bkit.specs.declared.stop.Stop.{Stop}
-use Rattle.bkit.specs.declared.stop.Stop.TheVariants.{Limit, Unproved, BadCalls}
-use Rattle.bkit.specs.Session.{fuel, session_status, PlaysFront}
-use Rattle.bkit.specs.Run.{AreRunWords, IsTold, ReadsProject, IsProved, IsWithinCodeLimits, ReadsCalls, ReadsProgram, IsPlayed}
-use Rattle.bkit.specs.Stops.{StopsAtFile, StopsAtTexts, StopsAtImplementation, StopsAtComponents, StopsAtNames, StopsAtProject, StopsAtObligations, StopsAtScript, StopsAtCode, StopsAtCalls, StopsAtDevelopment, StopsAtRun, StopsAt, status_of_stop, stop_text}
-use Rattle.bkit.specs.Answer.{IsAnswer}
+use Rattle.bkit.specs.declared.stop.Stop.TheVariants.{Refused, Limit, Unproved, BadCalls}
+use Rattle.bkit.specs.Session.{fuel, status_of, last_end, session_status, PlaysFront}
+use Rattle.bkit.specs.Run.{AreRunWords, IsTold, AreTold, ReadsProject, IsProved, IsWithinCodeLimits, ReadsCalls, ReadsProgram, IsReady, IsExecuted, IsPlayed}
+use Rattle.bkit.specs.Stops.{StopsAtFile, StopsAtFiles, StopsAtTexts, StopsAtScripts, StopsAtTold, StopsAtComponents, StopsAtNames, StopsAtProject, StopsPastLimits, IsFirstOpen, StopsAtObligations, StopsAtScript, StopsAtCode, StopsAtCalls, StopsAtDevelopment, StopsAtRun, StopsAt, status_of_stop, stop_text}
+use Rattle.bkit.specs.Answer.{IsAnswer, WritesAnswer}
 use Rattle.bkit.specs.Laws.{HasOneAnswer}
-use Rattle.bkit.proofs.Projects.{some_once, told_once, one_project}
+use Rattle.bkit.proofs.Projects.{some_once, told_once, all_told_once, one_project}
 
 -- ---- a file
 module _ (files : Files) (name : List ℕ) where
@@ -43,7 +50,21 @@ module _ (files : Files) (name : List ℕ) where
   file_once s o (inl h) (inr k) = absurd (none-some k.1.bytes (sym h.1 ∙ k.1.found))
   file_once s o (inr h) (inl k) = absurd (none-some h.1.bytes (sym k.1 ∙ h.1.found))
 
--- ---- the components
+-- ---- files
+files_told : (files : Files) (names texts : List (List ℕ)) (stop : Stop) → StopsAtFiles files names stop → AreTold files names texts → ⊥
+files_told files [] texts stop h t = elim h [ ]
+files_told files (n ∷ ns) [] stop h t = elim t [ ]
+files_told files (n ∷ ns) (x ∷ xs) stop (inl h) t = file_told files n stop x h t.0
+files_told files (n ∷ ns) (x ∷ xs) stop (inr h) t = files_told files ns xs stop h.2 t.1
+
+files_once : (files : Files) (names : List (List ℕ)) (s o : Stop) → StopsAtFiles files names s → StopsAtFiles files names o → s ≡ o
+files_once files [] s o h k = elim h [ ]
+files_once files (n ∷ ns) s o (inl h) (inl k) = file_once files n s o h k
+files_once files (n ∷ ns) s o (inl h) (inr k) = absurd (file_told files n s k.0 h k.1)
+files_once files (n ∷ ns) s o (inr h) (inl k) = absurd (file_told files n o h.0 k h.1)
+files_once files (n ∷ ns) s o (inr h) (inr k) = files_once files ns s o h.2 k.2
+
+-- ---- the components' texts and the proof files
 texts_read : (m i above below : List ℕ) (stop : Stop) (dev : Development) → StopsAtTexts m i above below stop → Reads above below dev → ⊥
 texts_read m i above below stop dev (inl h) r = h.1 (record { machine = r.machine; is = r.above; top = r.pair.top })
 texts_read m i above below stop dev (inr h) r = h.2 dev r
@@ -54,50 +75,81 @@ texts_once m i above below s o (inr h) (inr k) = h.0 ∙ sym k.0
 texts_once m i above below s o (inl h) (inr k) = absurd (h.1 k.1)
 texts_once m i above below s o (inr h) (inl k) = absurd (k.1 h.1)
 
-module _ (files : Files) (m i : List ℕ) where
-  implementation_read : (above below : List ℕ) (stop : Stop) (dev : Development) → StopsAtImplementation files m i above stop → IsTold files i below → Reads above below dev → ⊥
-  implementation_read above below stop dev (inl h) t r = file_told files i stop below h t
-  implementation_read above below stop dev (inr h) t r = texts_read m i above below stop dev (subst (λ x. StopsAtTexts m i above x stop) (told_once files i h.0 below h.1 t) h.2) r
+scripts_read : (proofs texts : List (List ℕ)) (stop : Stop) (scripts : List Script) → StopsAtScripts proofs texts stop → AreScriptsOf texts scripts → ⊥
+scripts_read proofs texts stop scripts h s = faulty-have-none texts h.0 scripts h.2 s
 
-  implementation_once : (above : List ℕ) (s o : Stop) → StopsAtImplementation files m i above s → StopsAtImplementation files m i above o → s ≡ o
-  implementation_once above s o (inl h) (inl k) = file_once files i s o h k
-  implementation_once above s o (inl h) (inr k) = absurd (file_told files i s k.0 h k.1)
-  implementation_once above s o (inr h) (inl k) = absurd (file_told files i o h.0 k h.1)
-  implementation_once above s o (inr h) (inr k) = texts_once m i above k.0 s o (subst (λ x. StopsAtTexts m i above x s) (told_once files i h.0 k.0 h.1 k.1) h.2) k.2
+scripts_once : (proofs texts : List (List ℕ)) (s o : Stop) → StopsAtScripts proofs texts s → StopsAtScripts proofs texts o → s ≡ o
+scripts_once proofs texts s o h k = h.1 ∙ ap (λ n. Refused 15 (slice_index_or proofs n [])) (faulty-one texts h.0 k.0 h.2 k.2) ∙ sym k.1
 
-  components_read : (above below : List ℕ) (stop : Stop) (dev : Development) → StopsAtComponents files m i stop → IsTold files m above → IsTold files i below → Reads above below dev → ⊥
-  components_read above below stop dev (inl h) t u r = file_told files m stop above h t
-  components_read above below stop dev (inr h) t u r = implementation_read above below stop dev (subst (λ x. StopsAtImplementation files m i x stop) (told_once files m h.0 above h.1 t) h.2) u r
+module _ (m i : List ℕ) (proofs : List (List ℕ)) (above below : List ℕ) (texts : List (List ℕ)) where
+  told_read : (stop : Stop) (dev : Development) (scripts : List Script) → StopsAtTold m i proofs above below texts stop → Reads above below dev → AreScriptsOf texts scripts → ⊥
+  told_read stop dev scripts (inl h) r s = texts_read m i above below stop dev h r
+  told_read stop dev scripts (inr h) r s = scripts_read proofs texts stop scripts h.2 s
 
-  components_once : (s o : Stop) → StopsAtComponents files m i s → StopsAtComponents files m i o → s ≡ o
-  components_once s o (inl h) (inl k) = file_once files m s o h k
-  components_once s o (inl h) (inr k) = absurd (file_told files m s k.0 h k.1)
-  components_once s o (inr h) (inl k) = absurd (file_told files m o h.0 k h.1)
-  components_once s o (inr h) (inr k) = implementation_once k.0 s o (subst (λ x. StopsAtImplementation files m i x s) (told_once files m h.0 k.0 h.1 k.1) h.2) k.2
+  told_stop_once : (s o : Stop) → StopsAtTold m i proofs above below texts s → StopsAtTold m i proofs above below texts o → s ≡ o
+  told_stop_once s o (inl h) (inl k) = texts_once m i above below s o h k
+  told_stop_once s o (inl h) (inr k) = absurd (texts_read m i above below s k.0 h k.1)
+  told_stop_once s o (inr h) (inl k) = absurd (texts_read m i above below o h.0 k h.1)
+  told_stop_once s o (inr h) (inr k) = scripts_once proofs texts s o h.2 k.2
+
+first : List (List ℕ) → List ℕ
+first [] = []
+first (x ∷ xs) = x
+
+second_of : List (List ℕ) → List ℕ
+second_of (x ∷ y ∷ ys) = y
+second_of _ = []
+
+behind_two : List (List ℕ) → List (List ℕ)
+behind_two (x ∷ y ∷ ys) = ys
+behind_two _ = []
+
+module _ (files : Files) (m i : List ℕ) (proofs : List (List ℕ)) where
+  -- what stops at texts that are told stops at the ones that are told
+  same_told : (above below other_above other_below : List ℕ) (texts others : List (List ℕ)) (stop : Stop) → AreTold files (m ∷ i ∷ proofs) (above ∷ below ∷ texts) → AreTold files (m ∷ i ∷ proofs) (other_above ∷ other_below ∷ others) →
+      StopsAtTold m i proofs above below texts stop → StopsAtTold m i proofs other_above other_below others stop
+  unfolding first second_of behind_two
+  same_told above below other_above other_below texts others stop t u h =
+      let e = all_told_once files (m ∷ i ∷ proofs) (above ∷ below ∷ texts) (other_above ∷ other_below ∷ others) t u in
+      subst (λ x. StopsAtTold m i proofs other_above other_below x stop) (ap behind_two e)
+      (subst (λ x. StopsAtTold m i proofs other_above x texts stop) (ap second_of e) (subst (λ x. StopsAtTold m i proofs x below texts stop) (ap first e) h))
+
+  components_read : (above below : List ℕ) (texts : List (List ℕ)) (stop : Stop) (dev : Development) (scripts : List Script) → StopsAtComponents files m i proofs stop → AreTold files (m ∷ i ∷ proofs) (above ∷ below ∷ texts) → Reads above below dev → AreScriptsOf texts scripts → ⊥
+  components_read above below texts stop dev scripts (inl h) t r s = files_told files (m ∷ i ∷ proofs) (above ∷ below ∷ texts) stop h t
+  components_read above below texts stop dev scripts (inr h) t r s = told_read m i proofs above below texts stop dev scripts (same_told h.0 h.1 above below h.2 texts stop h.3 t h.4) r s
+
+  components_once : (s o : Stop) → StopsAtComponents files m i proofs s → StopsAtComponents files m i proofs o → s ≡ o
+  components_once s o (inl h) (inl k) = files_once files (m ∷ i ∷ proofs) s o h k
+  components_once s o (inl h) (inr k) = absurd (files_told files (m ∷ i ∷ proofs) (k.0 ∷ k.1 ∷ k.2) s h k.3)
+  components_once s o (inr h) (inl k) = absurd (files_told files (m ∷ i ∷ proofs) (h.0 ∷ h.1 ∷ h.2) o k h.3)
+  components_once s o (inr h) (inr k) = told_stop_once m i proofs k.0 k.1 k.2 s o (same_told h.0 h.1 k.0 k.1 h.2 k.2 s h.3 k.3 h.4) k.4
 
 -- ---- the project
 module _ (files : Files) (project : List ℕ) where
   -- the components of one project file are the same
-  same_components : (text m i n j : List ℕ) (stop : Stop) → NamesFiles text m i → NamesFiles text n j → StopsAtComponents files m i stop → StopsAtComponents files n j stop
-  same_components text m i n j stop a b h =
-      let e = names_once text m i n j a b in
-      subst (λ x. StopsAtComponents files n x stop) e.1 (subst (λ x. StopsAtComponents files x i stop) e.0 h)
+  same_components : (text m i n j : List ℕ) (ps qs : List (List ℕ)) (stop : Stop) → NamesFiles text m i ps → NamesFiles text n j qs → StopsAtComponents files m i ps stop → StopsAtComponents files n j qs stop
+  same_components text m i n j ps qs stop a b h =
+      let e = names_once text m i n j ps qs a b in
+      subst (λ x. StopsAtComponents files n j x stop) e.2 (subst (λ x. StopsAtComponents files n x ps stop) e.1 (subst (λ x. StopsAtComponents files x i ps stop) e.0 h))
 
-  names_read : (stop : Stop) (dev : Development) (r : ReadsProject files project dev) → StopsAtNames files project r.text stop → ⊥
-  names_read stop dev r (inl h) = h.1 r.machine r.implementation r.names
-  names_read stop dev r (inr h) =
-      components_read files r.machine r.implementation r.machine_text r.implementation_text stop dev
-      (same_components r.text h.0 h.1 r.machine r.implementation stop h.2 r.names h.3) r.machine_told r.implementation_told r.reads
+  names_read : (stop : Stop) (dev : Development) (scripts : List Script) (r : ReadsProject files project dev scripts) → StopsAtNames files project r.text stop → ⊥
+  names_read stop dev scripts r (inl h) = h.1 r.names.named (record { written = r.names.written; machine = r.machine; implementation = r.implementation; components = r.names.components })
+  names_read stop dev scripts r (inr h) =
+      components_read files r.machine r.implementation r.proofs r.above r.below r.proof_texts stop dev scripts
+      (same_components r.text h.0 h.1 r.machine r.implementation h.2 r.proofs stop h.3 r.names h.4) r.texts_told r.reads r.scripts_are
+
+  named_or_not : (text m i : List ℕ) (ps : List (List ℕ)) → NamesFiles text m i ps → IsNoProject text → ⊥
+  named_or_not text m i ps n none = none n.named (record { written = n.written; machine = m; implementation = i; components = n.components })
 
   names_stop_once : (text : List ℕ) (s o : Stop) → StopsAtNames files project text s → StopsAtNames files project text o → s ≡ o
   names_stop_once text s o (inl h) (inl k) = h.0 ∙ sym k.0
-  names_stop_once text s o (inl h) (inr k) = absurd (h.1 k.0 k.1 k.2)
-  names_stop_once text s o (inr h) (inl k) = absurd (k.1 h.0 h.1 h.2)
-  names_stop_once text s o (inr h) (inr k) = components_once files k.0 k.1 s o (same_components text h.0 h.1 k.0 k.1 s h.2 k.2 h.3) k.3
+  names_stop_once text s o (inl h) (inr k) = absurd (named_or_not text k.0 k.1 k.2 k.3 h.1)
+  names_stop_once text s o (inr h) (inl k) = absurd (named_or_not text h.0 h.1 h.2 h.3 k.1)
+  names_stop_once text s o (inr h) (inr k) = components_once files k.0 k.1 k.2 s o (same_components text h.0 h.1 k.0 k.1 h.2 k.2 s h.3 k.3 h.4) k.4
 
-  project_read : (stop : Stop) (dev : Development) → StopsAtProject files project stop → ReadsProject files project dev → ⊥
-  project_read stop dev (inl h) r = file_told files project stop r.text h r.told
-  project_read stop dev (inr h) r = names_read stop dev r (subst (λ x. StopsAtNames files project x stop) (told_once files project h.0 r.text h.1 r.told) h.2)
+  project_read : (stop : Stop) (dev : Development) (scripts : List Script) → StopsAtProject files project stop → ReadsProject files project dev scripts → ⊥
+  project_read stop dev scripts (inl h) r = file_told files project stop r.text h r.told
+  project_read stop dev scripts (inr h) r = names_read stop dev scripts r (subst (λ x. StopsAtNames files project x stop) (told_once files project h.0 r.text h.1 r.told) h.2)
 
   project_once : (s o : Stop) → StopsAtProject files project s → StopsAtProject files project o → s ≡ o
   project_once s o (inl h) (inl k) = file_once files project s o h k
@@ -106,10 +158,6 @@ module _ (files : Files) (project : List ℕ) where
   project_once s o (inr h) (inr k) = names_stop_once k.0 s o (subst (λ x. StopsAtNames files project x s) (told_once files project h.0 k.0 h.1 k.1) h.2) k.2
 
 -- ---- the obligations
-none_is_open : (ss : List (List ℕ × Sequent)) → AreObvious ss → first_open ss ≡ None
-none_is_open [] a = refl
-none_is_open (s ∷ ss) a = ap (λ b. cond b (first_open ss) (Some s.0)) a.0 ∙ none_is_open ss a.1
-
 together_or_none : (dev : Development) (limit : ℕ) → PassTogether (obligations dev) limit → PassNoLimit (obligations dev) → ⊥
 together_or_none dev limit p n = by p.passed
   where
@@ -127,22 +175,45 @@ one_limit dev a b p q = by p.passed q.passed
     by (inl h) (inr k) = absurd (omega (arith, h.1, k.1))
     by (inr h) (inl k) = absurd (omega (arith, h.1, k.1))
 
-module _ (project : List ℕ) (dev : Development) where
-  obligations_proved : (stop : Stop) → StopsAtObligations project dev stop → IsProved dev → ⊥
-  obligations_proved stop (inl h) p = none-some h.0 (sym p.within.sizes ∙ h.2)
-  obligations_proved stop (inr (inl h)) p = together_or_none dev h.0 h.2 p.within
-  obligations_proved stop (inr (inr h)) p = none-some h.0 (sym (none_is_open (numbered_obligations dev) p.obvious) ∙ h.3)
+row_or_none : (row : Row) → None ≡ Some row → ⊥
+row_or_none row e = none-some row e
 
-  obligations_once : (s o : Stop) → StopsAtObligations project dev s → StopsAtObligations project dev o → s ≡ o
-  obligations_once s o (inl h) (inl k) = h.1 ∙ (ap (Limit 6) (some_once (sym h.2 ∙ k.2)) ∙ sym k.1)
-  obligations_once s o (inl h) (inr (inl k)) = absurd (none-some h.0 (sym k.2.sizes ∙ h.2))
-  obligations_once s o (inl h) (inr (inr k)) = absurd (none-some h.0 (sym k.2.sizes ∙ h.2))
-  obligations_once s o (inr (inl h)) (inl k) = absurd (none-some k.0 (sym h.2.sizes ∙ k.2))
-  obligations_once s o (inr (inr h)) (inl k) = absurd (none-some k.0 (sym h.2.sizes ∙ k.2))
-  obligations_once s o (inr (inl h)) (inr (inl k)) = h.1 ∙ (ap (λ n. Limit n project) (one_limit dev h.0 k.0 h.2 k.2) ∙ sym k.1)
-  obligations_once s o (inr (inl h)) (inr (inr k)) = absurd (together_or_none dev h.0 h.2 k.2)
-  obligations_once s o (inr (inr h)) (inr (inl k)) = absurd (together_or_none dev k.0 k.2 h.2)
-  obligations_once s o (inr (inr h)) (inr (inr k)) = h.1 ∙ (ap Unproved (some_once (sym h.3 ∙ k.3)) ∙ sym k.1)
+row_once : (one other : Row) → Some one ≡ Some other → one.name ≡ other.name
+row_once one other e = ap name_in e
+  where
+    name_in : Option Row → List ℕ
+    name_in None = []
+    name_in (Some row) = row.name
+
+module _ (project : List ℕ) (dev : Development) where
+  limits_passed : (stop : Stop) → StopsPastLimits project dev stop → PassNoLimit (obligations dev) → ⊥
+  limits_passed stop (inl h) p = none-some h.0 (sym p.sizes ∙ h.2)
+  limits_passed stop (inr h) p = together_or_none dev h.0 h.2 p
+
+  limits_once : (s o : Stop) → StopsPastLimits project dev s → StopsPastLimits project dev o → s ≡ o
+  limits_once s o (inl h) (inl k) = h.1 ∙ (ap (Limit 6) (some_once (sym h.2 ∙ k.2)) ∙ sym k.1)
+  limits_once s o (inl h) (inr k) = absurd (none-some h.0 (sym k.2.sizes ∙ h.2))
+  limits_once s o (inr h) (inl k) = absurd (none-some k.0 (sym h.2.sizes ∙ k.2))
+  limits_once s o (inr h) (inr k) = h.1 ∙ (ap (λ n. Limit n project) (one_limit dev h.0 k.0 h.2 k.2) ∙ sym k.1)
+
+  module _ (scripts : List Script) (apart : AreNamedApart scripts) where
+    open_or_proved : (name : List ℕ) → IsFirstOpen dev scripts name → AreProved dev scripts → ⊥
+    open_or_proved name h p = row_or_none h.1 (sym (proved_tables_are_closed dev scripts h.0 apart h.2 p) ∙ h.3)
+
+    open_once : (name other : List ℕ) → IsFirstOpen dev scripts name → IsFirstOpen dev scripts other → name ≡ other
+    open_once name other h k =
+        let rows : h.0 ≡ k.0 = tables_are_one dev scripts h.0 k.0 apart h.2 k.2 in
+        sym h.4 ∙ row_once h.1 k.1 (sym h.3 ∙ ap first_open rows ∙ k.3) ∙ k.4
+
+    obligations_proved : (stop : Stop) → StopsAtObligations project dev scripts stop → IsProved dev scripts → ⊥
+    obligations_proved stop (inl h) p = limits_passed stop h p.within
+    obligations_proved stop (inr h) p = open_or_proved h.0 h.3 p.proved
+
+    obligations_once : (s o : Stop) → StopsAtObligations project dev scripts s → StopsAtObligations project dev scripts o → s ≡ o
+    obligations_once s o (inl h) (inl k) = limits_once s o h k
+    obligations_once s o (inl h) (inr k) = absurd (limits_passed s h k.2)
+    obligations_once s o (inr h) (inl k) = absurd (limits_passed o k h.2)
+    obligations_once s o (inr h) (inr k) = h.1 ∙ (ap Unproved (open_once h.0 k.0 h.3 k.3) ∙ sym k.1)
 
 -- ---- the code and the calls
 module _ (calls text : List ℕ) (image : Image) where
@@ -184,24 +255,31 @@ module _ (files : Files) (project calls : List ℕ) where
   calls_once image s o (inr h) (inl k) = absurd (file_told files calls o h.0 k h.1)
   calls_once image s o (inr h) (inr k) = code_once project calls k.0 image s o (subst (λ x. StopsAtCode project calls x image s) (told_once files calls h.0 k.0 h.1 k.1) h.2) k.2
 
-  development_once : (dev : Development) (s o : Stop) → StopsAtDevelopment files project calls dev s → StopsAtDevelopment files project calls dev o → s ≡ o
-  development_once dev s o (inl h) (inl k) = obligations_once project dev s o h k
-  development_once dev s o (inl h) (inr k) = absurd (obligations_proved project dev s h k.0)
-  development_once dev s o (inr h) (inl k) = absurd (obligations_proved project dev o k h.0)
-  development_once dev s o (inr h) (inr k) = calls_once (translation dev) s o h.1 k.1
+  development_once : (dev : Development) (scripts : List Script) → AreNamedApart scripts → (s o : Stop) → StopsAtDevelopment files project calls dev scripts s → StopsAtDevelopment files project calls dev scripts o → s ≡ o
+  development_once dev scripts apart s o (inl h) (inl k) = obligations_once project dev scripts apart s o h k
+  development_once dev scripts apart s o (inl h) (inr k) = absurd (obligations_proved project dev scripts apart s h k.0)
+  development_once dev scripts apart s o (inr h) (inl k) = absurd (obligations_proved project dev scripts apart o k h.0)
+  development_once dev scripts apart s o (inr h) (inr k) = calls_once (translation dev) s o h.1 k.1
+
+  -- what stops at the development and the scripts that are read stops at those that are read
+  same_development : (dev other : Development) (scripts others : List Script) (stop : Stop) → ReadsProject files project dev scripts → ReadsProject files project other others →
+      StopsAtDevelopment files project calls dev scripts stop → StopsAtDevelopment files project calls other others stop
+  same_development dev other scripts others stop r q h =
+      let e = one_project files project dev other scripts others r q in
+      subst (λ x. StopsAtDevelopment files project calls other x stop) (sym e.1) (subst (λ x. StopsAtDevelopment files project calls x scripts stop) (sym e.0) h)
 
   run_once : (s o : Stop) → StopsAtRun files project calls s → StopsAtRun files project calls o → s ≡ o
   run_once s o (inl h) (inl k) = project_once files project s o h k
-  run_once s o (inl h) (inr k) = absurd (project_read files project s k.0 h k.1)
-  run_once s o (inr h) (inl k) = absurd (project_read files project o h.0 k h.1)
-  run_once s o (inr h) (inr k) = development_once k.0 s o (subst (λ x. StopsAtDevelopment files project calls x s) (sym (one_project files project h.0 k.0 h.1 k.1)) h.2) k.2
+  run_once s o (inl h) (inr k) = absurd (project_read files project s k.0 k.1 h k.2)
+  run_once s o (inr h) (inl k) = absurd (project_read files project o h.0 h.1 k h.2)
+  run_once s o (inr h) (inr k) = development_once k.0 k.1 k.2.scripts_are.distinct s o (same_development h.0 k.0 h.1 k.1 s h.2 k.2 h.3) k.3
 
-  run_asked : (stop : Stop) (dev : Development) (requests : List Request) → StopsAtRun files project calls stop → ReadsProject files project dev → IsProved dev → IsWithinCodeLimits (translation dev) → ReadsCalls files calls (translation dev) requests → ⊥
-  run_asked stop dev requests (inl h) r p w a = project_read files project stop dev h r
-  run_asked stop dev requests (inr h) r p w a = by (subst (λ x. StopsAtDevelopment files project calls x stop) (one_project files project dev h.0 r h.1) h.2)
+  run_asked : (stop : Stop) (dev : Development) (scripts : List Script) (requests : List Request) → StopsAtRun files project calls stop → ReadsProject files project dev scripts → IsProved dev scripts → IsWithinCodeLimits (translation dev) → ReadsCalls files calls (translation dev) requests → ⊥
+  run_asked stop dev scripts requests (inl h) r p w a = project_read files project stop dev scripts h r
+  run_asked stop dev scripts requests (inr h) r p w a = by (same_development h.0 dev h.1 scripts stop h.2 r h.3)
     where
-      by : StopsAtDevelopment files project calls dev stop → ⊥
-      by (inl k) = obligations_proved project dev stop k p
+      by : StopsAtDevelopment files project calls dev scripts stop → ⊥
+      by (inl k) = obligations_proved project dev scripts r.scripts_are.distinct stop k p
       by (inr k) = calls_asked (translation dev) stop requests k.1 w a
 
 -- ---- the words
@@ -232,19 +310,19 @@ module _ (files : Files) (words : List (List ℕ)) where
 
   pub stops_or_is_played : (stop : Stop) (status : Status) (text : List ℕ) → StopsAt files words stop → IsPlayed files words status text → ⊥
   stops_or_is_played stop status text (inl h) p = h.1 p.project p.calls p.are_words
-  stops_or_is_played stop status text (inr h) p = run_asked files p.project p.calls stop p.dev p.requests (words_run h.0 h.1 p.project p.calls stop h.2 p.are_words h.3) p.reads p.proved p.short p.asks
+  stops_or_is_played stop status text (inr h) p = run_asked files p.project p.calls stop p.dev p.scripts p.requests (words_run h.0 h.1 p.project p.calls stop h.2 p.are_words h.3) p.reads p.proved p.short p.asks
 
   -- the requests of a script that is told are one list
   asked_once : (calls : List ℕ) (image : Image) (rs qs : List Request) → ReadsCalls files calls image rs → ReadsCalls files calls image qs → rs ≡ qs
   asked_once calls image rs qs h k = has_one_script image k.text rs qs (subst (λ x. IsScript image x rs) (told_once files calls h.text k.text h.told k.told) h.script) k.script
 
   -- what is played of a program that the words and the files give
-  pub played_of : (project calls : List ℕ) (dev : Development) (requests : List Request) (status : Status) (text : List ℕ) →
-      AreRunWords words project calls → ReadsProject files project dev → ReadsCalls files calls (translation dev) requests → IsPlayed files words status text →
+  pub played_of : (project calls : List ℕ) (dev : Development) (scripts : List Script) (requests : List Request) (status : Status) (text : List ℕ) →
+      AreRunWords words project calls → ReadsProject files project dev scripts → ReadsCalls files calls (translation dev) requests → IsPlayed files words status text →
       (tolds : List Told) × Session (translation dev) fuel requests tolds × (status ≡ session_status tolds) × (text ≡ transcript (translation dev) fuel requests tolds)
-  played_of project calls dev requests status text a r c p =
+  played_of project calls dev scripts requests status text a r c p =
       let w = same_words words p.project p.calls project calls p.are_words a in
-      let same : p.dev ≡ dev = sym (one_project files project p.dev dev (subst (λ x. ReadsProject files x p.dev) w.0 p.reads) r) in
+      let same : p.dev ≡ dev = sym ((one_project files project p.dev dev p.scripts scripts (subst (λ x. ReadsProject files x p.dev p.scripts) w.0 p.reads) r).0) in
       let asks : ReadsCalls files calls (translation dev) p.requests = subst (λ x. ReadsCalls files x (translation dev) p.requests) w.1 (subst (λ x. ReadsCalls files p.calls (translation x) p.requests) same p.asks) in
       let e = asked_once calls (translation dev) p.requests requests asks c in (
         p.tolds,
@@ -255,7 +333,7 @@ module _ (files : Files) (words : List (List ℕ)) where
 
   played_once : (status other : Status) (text others : List ℕ) → IsPlayed files words status text → IsPlayed files words other others → (status ≡ other) × (text ≡ others)
   played_once status other text others h k =
-      let p = played_of k.project k.calls k.dev k.requests status text k.are_words k.reads k.asks h in
+      let p = played_of k.project k.calls k.dev k.scripts k.requests status text k.are_words k.reads k.asks h in
       let e = one_session (translation k.dev) fuel k.requests p.0 k.tolds p.1 k.session in
       (p.2 ∙ (ap session_status e ∙ sym k.last), p.3 ∙ (ap (transcript (translation k.dev) fuel k.requests) e ∙ sym k.transcript_is))
 
@@ -264,9 +342,9 @@ pub program_front : (files : Files) (words : List (List ℕ)) (project calls : L
     AreRunWords words project calls → ReadsProgram files project calls image requests → IsAnswer files words status text → PlaysFront image requests old new → WroteFront text old new
 program_front files words project calls image requests status text old new are r (inl (stop, inl h, is, text_is)) f = absurd (h.1 project calls are)
 program_front files words project calls image requests status text old new are r (inl (stop, inr h, is, text_is)) f =
-    absurd (run_asked files project calls stop r.dev requests (words_run files words h.0 h.1 project calls stop h.2 are h.3) r.reads r.proved r.short r.asks)
+    absurd (run_asked files project calls stop r.dev r.scripts requests (words_run files words h.0 h.1 project calls stop h.2 are h.3) r.reads r.proved r.short r.asks)
 program_front files words project calls image requests status text old new are r (inr p) f =
-    let q = played_of files words project calls r.dev requests status text are r.reads r.asks p in
+    let q = played_of files words project calls r.dev r.scripts requests status text are r.reads r.asks p in
     subst (λ x. WroteFront x old new) (sym q.3) (subst (λ x. PlaysFront x requests old new) r.translated f q.0 q.1)
 
 pub one_answer : HasOneAnswer
@@ -276,3 +354,22 @@ one_answer files words status other text others (inl h) (inl k) =
 one_answer files words status other text others (inl h) (inr k) = absurd (stops_or_is_played files words h.0 other others h.1 k)
 one_answer files words status other text others (inr h) (inl k) = absurd (stops_or_is_played files words k.0 status text k.1 h)
 one_answer files words status other text others (inr h) (inr k) = played_once files words status other text others h k
+
+-- ---- where no check stops the program
+executed_end : (end : End) → IsExecuted (status_of end)
+executed_end (Done n) = tt
+executed_end (Trapped kind place n) = tt
+executed_end OutOfFuel = tt
+
+session_executed : (tolds : List Told) → IsExecuted (session_status tolds)
+session_executed [] = tt
+session_executed (told ∷ tolds) = executed_end (last_end told.end tolds)
+
+pub ready_executed : (files : Files) (words : List (List ℕ)) (old new : Option (List ℕ)) (status : Status) → WritesAnswer files words old new status → IsReady files words → IsExecuted status
+ready_executed files words old new status w r = by w.answer
+  where
+    by : IsAnswer files words status w.text → IsExecuted status
+    by (inl (stop, inl h, is, text_is)) = absurd (h.1 r.project r.calls r.are_words)
+    by (inl (stop, inr h, is, text_is)) =
+        absurd (run_asked files r.project r.calls stop r.dev r.scripts r.requests (words_run files words h.0 h.1 r.project r.calls stop h.2 r.are_words h.3) r.reads r.proved r.short r.asks)
+    by (inr p) = subst IsExecuted (sym p.last) (session_executed p.tolds)

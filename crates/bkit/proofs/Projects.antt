@@ -1,63 +1,43 @@
 -- What the files of a project tell.
-use Rattle.std.proofs.Common.{◌≡◌, ℕ, ◌+◌, ◌<◌, ◌≤◌, List, [], ◌∷◌, length, All, Option, Some, None, refl, sym, ◌∙◌, ap, subst, arith}
+use Rattle.std.proofs.Common.{◌≡◌, ℕ, zero, suc, slice_index_or, Vec, Global, Bor, ◌+◌, ◌<◌, ◌≤◌, Bool, true, false, not, cond, List, [], ◌∷◌, length, map, filter, All, Option, Some, None, refl, sym, ◌∙◌, ap, subst, arith}
+use Rattle.std.specs.List.{AllZip}
 use Rattle.std.specs.Str.Lines.{lines}
+use Rattle.std.proofs.lemmas.List.{length-map}
+use Rattle.std.proofs.lemmas.List.Elements.{All-cons, All-nil}
 use Rattle.bk_io.specs.Files.{Files}
 use Rattle.bk_code.specs.declared.image.Image.{Image}
-use Rattle.bk_code.specs.Session.{Request}
+use Rattle.bk_code.specs.Session.{Request, Session}
+use Rattle.bk_lines.specs.Lines.{kept_lines, is_skipped}
+use Rattle.bk_form.specs.Search.{Finder, IsSearch}
 use Rattle.bk_dev.specs.Development.{Head, Body, Development, level_at, last}
+use Rattle.bk_dev.specs.Facts.{IsDevelopment}
 use Rattle.bk_gen.specs.Translation.{translation, entries, init_code, operation_code}
+use Rattle.bk_gen.specs.Simple.{IsSimple}
+use Rattle.bk_sim.specs.Follows.{Follows}
+use Rattle.bk_po.specs.Plain.{IsPlain}
+use Rattle.bk_pair.specs.Developments.{Reads}
+use Rattle.bk_lex.proofs.Cutting.{tokens_are_one}
+use Rattle.bk_comp.proofs.Contained.{texts-over}
+use Rattle.bk_comp.proofs.OneComponent.{text-one}
+use Rattle.bk_pair.specs.PairLaws.{PairIsDevelopment, PairIsSimple, PairIsPlain, ReadAtMostOne}
+use Rattle.bk_pair.proofs.Texts.{texts-development, texts-simple, texts-plain, read-one}
 use Rattle.bk_front.specs.declared.project_file.ProjectLine.{ProjectLine}
-use Rattle.bk_front.specs.ProjectFile.{NamesFiles, AreProjectLines}
-use Rattle.bk_front.specs.Reading.{Reads}
-use Rattle.bk_front.specs.FirstForm.{IsFirstForm}
+use Rattle.bk_front.specs.ProjectFile.{IsFileName, IsProjectLine, NamesFiles, AreProjectLines, names, is_proofs, files_of}
+use Rattle.bk_front.specs.Project.{text_at}
 use Rattle.bk_front.proofs.ProjectFiles.{names_once}
-use Rattle.bk_front.proofs.Readings.{read_once}
+use Rattle.bk_scripts.specs.WrittenRule.{Script}
+use Rattle.bk_scripts.specs.Files.{AreScriptsOf}
+use Rattle.bk_scripts.specs.Laws.{ScriptsAreOne}
+use Rattle.bk_scripts.proofs.One.{one-for-texts}
+use Rattle.bk_status.proofs.Tables.{proved_developments_follow}
 use Rattle.bk_calls.specs.Script.{IsScript, most_calls}
-use Rattle.bk_calls.proofs.Lines.{lines_within}
-use Rattle.bk_code.specs.Session.{Session}
 use Rattle.bk_calls.specs.Transcript.{transcript}
-use Rattle.bkit.proofs.Following.{project_follows}
+use Rattle.bk_calls.proofs.Lines.{lines_within}
 use Rattle.bkit.specs.declared.status.Status.{Status}
 use Rattle.bkit.specs.Session.{fuel, Plays}
-use Rattle.bkit.specs.Run.{AreRunWords, WritesRun, IsTold, component_lines, AreComponentLines, ReadsProject, IsProved, ReadsProgram}
+use Rattle.bkit.specs.Run.{AreRunWords, WritesRun, IsTold, AreTold, ReadsProject, IsProved, ReadsProgram}
 
-pub component_lines_of : (text : List ℕ) (ls : List ProjectLine) → AreProjectLines text ls → AreComponentLines ls
-component_lines_of text ls h = record {
-  machine = h.machine;
-  implementation = h.implementation;
-  are = h.are;
-  machine_name = h.names.machine_line.is_name;
-  implementation_name = h.names.implementation_line.is_name;
-}
-
-abbrev first_name : List ProjectLine → List ℕ
-first_name [] = []
-first_name (l ∷ ls) = l.name
-
-abbrev second_name : List ProjectLine → List ℕ
-second_name (l ∷ m ∷ ms) = m.name
-second_name _ = []
-
-pub names_of : (text : List ℕ) (ls : List ProjectLine) (a b : List ℕ) → AreProjectLines text ls → ls ≡ component_lines a b → NamesFiles text a b
-names_of text ls a b h e =
-    subst (λ x. NamesFiles text x b) (ap first_name (sym h.are ∙ e)) (subst (NamesFiles text h.machine) (ap second_name (sym h.are ∙ e)) h.names)
-
-pub reads_project : (files : Files) (project text a b above below : List ℕ) (ls : List ProjectLine) (dev : Development) →
-    IsTold files project text → AreProjectLines text ls → ls ≡ component_lines a b → IsTold files a above → IsTold files b below → Reads above below dev →
-    ReadsProject files project dev
-reads_project files project text a b above below ls dev told are e machine implementation reads = record {
-  text = text;
-  told = told;
-  machine = a;
-  implementation = b;
-  names = names_of text ls a b are e;
-  machine_text = above;
-  machine_told = machine;
-  implementation_text = below;
-  implementation_told = implementation;
-  reads = reads;
-}
-
+-- ---- what the files tell under a name is one text
 -- what stands in two equal options
 pub some_once : {a b : List ℕ} → Some a ≡ Some b → a ≡ b
 some_once {a} {b} e = ap (value a) e
@@ -66,17 +46,115 @@ some_once {a} {b} e = ap (value a) e
     value d None = d
     value d (Some x) = x
 
--- the files tell one text under a name
 pub told_once : (files : Files) (name text other : List ℕ) → IsTold files name text → IsTold files name other → text ≡ other
 told_once files name text other h k = some_once (sym h.stands ∙ k.stands)
 
-pub one_project : (files : Files) (project : List ℕ) (dev other : Development) → ReadsProject files project dev → ReadsProject files project other → other ≡ dev
-one_project files project dev other h k =
-    let text : h.text ≡ k.text = told_once files project h.text k.text h.told k.told in
-    let names = names_once k.text h.machine h.implementation k.machine k.implementation (subst (λ x. NamesFiles x h.machine h.implementation) text h.names) k.names in
-    let above : h.machine_text ≡ k.machine_text = told_once files k.machine h.machine_text k.machine_text (subst (λ x. IsTold files x h.machine_text) names.0 h.machine_told) k.machine_told in
-    let below : h.implementation_text ≡ k.implementation_text = told_once files k.implementation h.implementation_text k.implementation_text (subst (λ x. IsTold files x h.implementation_text) names.1 h.implementation_told) k.implementation_told in
-    sym (read_once k.machine_text k.implementation_text dev other (subst (λ x. Reads x k.implementation_text dev) above (subst (λ x. Reads h.machine_text x dev) below h.reads)) k.reads)
+pub all_told_once : (files : Files) (ns ts us : List (List ℕ)) → AreTold files ns ts → AreTold files ns us → ts ≡ us
+all_told_once files [] [] [] h k = refl
+all_told_once files [] [] (u ∷ us) h k = elim k [ ]
+all_told_once files [] (t ∷ ts) us h k = elim h [ ]
+all_told_once files (n ∷ ns) [] us h k = elim h [ ]
+all_told_once files (n ∷ ns) (t ∷ ts) [] h k = elim k [ ]
+all_told_once files (n ∷ ns) (t ∷ ts) (u ∷ us) h k = λ i. told_once files n t u h.0 k.0 i ∷ all_told_once files ns ts us h.1 k.1 i
+
+-- ---- the lines of a project file
+pub names_of : (text : List ℕ) (ls : List ProjectLine) (are : AreProjectLines text ls) → NamesFiles text are.machine are.implementation (files_of true ls)
+names_of text ls are = record { named = ls; written = are.written; components = are.components; proofs_are = refl }
+
+pub two_files : (text : List ℕ) (ls : List ProjectLine) (are : AreProjectLines text ls) → files_of false ls ≡ are.machine ∷ are.implementation ∷ []
+two_files text ls are = ap names are.components
+
+file_names_in : (written : List (List ℕ)) (ls : List ProjectLine) → AllZip IsProjectLine written ls → All (λ l. IsFileName l.name) ls
+file_names_in [] [] h = All-nil (λ l. IsFileName l.name)
+file_names_in [] (l ∷ ls) h = elim h [ ]
+file_names_in (w ∷ ws) [] h = elim h [ ]
+file_names_in (w ∷ ws) (l ∷ ls) h = All-cons (λ x. IsFileName x.name) l ls h.0.is_name (file_names_in ws ls h.1)
+
+pub file_names : (text : List ℕ) (ls : List ProjectLine) → AreProjectLines text ls → All (λ l. IsFileName l.name) ls
+file_names text ls are = file_names_in (kept_lines text) ls are.written
+
+-- a project file has as many lines as it has bytes, at most
+as_many : (written : List (List ℕ)) (ls : List ProjectLine) → AllZip IsProjectLine written ls → length ls ≡ length written
+as_many [] [] h = refl
+as_many [] (l ∷ ls) h = elim h [ ]
+as_many (w ∷ ws) [] h = elim h [ ]
+as_many (w ∷ ws) (l ∷ ls) h = omega (arith, as_many ws ls h.1)
+
+shorter_by : {A : Type 0} (b : Bool) (x : A) (ys xs : List A) → length ys ≤ length xs → length (cond b (x ∷ ys) ys) ≤ length (x ∷ xs)
+shorter_by true x ys xs h = omega (arith, h)
+shorter_by false x ys xs h = omega (arith, h)
+
+pub fewer_kept : {A : Type 0} (p : A → Bool) (xs : List A) → length (filter p xs) ≤ length xs
+fewer_kept p [] = omega arith
+fewer_kept p (x ∷ xs) = shorter_by (p x) x (filter p xs) xs (fewer_kept p xs)
+
+pub few_project_lines : (text : List ℕ) (ls : List ProjectLine) → length text ≤ 16777216 → AreProjectLines text ls → length ls ≤ 16777216
+few_project_lines text ls short are =
+    omega (arith, short, as_many (kept_lines text) ls are.written, fewer_kept (λ line. not (is_skipped line)) (lines text), lines_within text)
+
+-- ---- a project is read as one development and one list of scripts
+read_at_most_one : ReadAtMostOne
+read_at_most_one = read-one (text-one tokens_are_one)
+
+scripts_are_one : ScriptsAreOne
+scripts_are_one = one-for-texts
+
+abbrev first : List (List ℕ) → List ℕ
+first [] = []
+first (x ∷ xs) = x
+
+abbrev second : List (List ℕ) → List ℕ
+second (x ∷ y ∷ ys) = y
+second _ = []
+
+abbrev behind_two : List (List ℕ) → List (List ℕ)
+behind_two (x ∷ y ∷ ys) = ys
+behind_two _ = []
+
+module _ (files : Files) (project : List ℕ) (dev other : Development) (scripts others : List Script) (h : ReadsProject files project dev scripts) (k : ReadsProject files project other others) where
+  same_names : (h.machine ∷ h.implementation ∷ h.proofs) ≡ (k.machine ∷ k.implementation ∷ k.proofs)
+  same_names =
+      let text : h.text ≡ k.text = told_once files project h.text k.text h.told k.told in
+      let e = names_once k.text h.machine h.implementation k.machine k.implementation h.proofs k.proofs (subst (λ x. NamesFiles x h.machine h.implementation h.proofs) text h.names) k.names in
+      λ i. e.0 i ∷ e.1 i ∷ e.2 i
+
+  same_texts : (h.above ∷ h.below ∷ h.proof_texts) ≡ (k.above ∷ k.below ∷ k.proof_texts)
+  same_texts =
+      all_told_once files (k.machine ∷ k.implementation ∷ k.proofs) (h.above ∷ h.below ∷ h.proof_texts) (k.above ∷ k.below ∷ k.proof_texts)
+      (subst (λ x. AreTold files x (h.above ∷ h.below ∷ h.proof_texts)) same_names h.texts_told) k.texts_told
+
+  pub one_project : (other ≡ dev) × (others ≡ scripts)
+  one_project =
+      let above : h.above ≡ k.above = ap first same_texts in
+      let below : h.below ≡ k.below = ap second same_texts in
+      let proofs : h.proof_texts ≡ k.proof_texts = ap behind_two same_texts in (
+        sym (read_at_most_one k.above k.below dev other (subst (λ x. Reads x k.below dev) above (subst (λ x. Reads h.above x dev) below h.reads)) k.reads),
+        sym (scripts_are_one k.proof_texts scripts others (subst (λ x. AreScriptsOf x scripts) proofs h.scripts_are) k.scripts_are),
+      )
+
+-- ---- a project whose obligations are proved has code that follows its machine
+pair_is_development : PairIsDevelopment
+pair_is_development = texts-development texts-over
+
+pair_is_simple : PairIsSimple
+pair_is_simple = texts-simple texts-over
+
+pair_is_plain : PairIsPlain
+pair_is_plain = texts-plain texts-over
+
+module _ (above below : List ℕ) (dev : Development) (h : Reads above below dev) where
+  pub is_development : IsDevelopment dev
+  is_development = subst IsDevelopment (sym h.is) (pair_is_development above below h.machine h.implementation h.above h.below h.pair)
+
+  pub is_simple : IsSimple dev
+  is_simple = subst IsSimple (sym h.is) (pair_is_simple above below h.machine h.implementation h.above h.below h.pair)
+
+  pub is_plain : IsPlain dev
+  is_plain = subst IsPlain (sym h.is) (pair_is_plain above below h.machine h.implementation h.above h.below h.pair)
+
+pub project_follows : (files : Files) (project : List ℕ) (dev : Development) (scripts : List Script) → ReadsProject files project dev scripts → IsProved dev scripts → (find : Finder) → IsSearch find → Follows find dev (translation dev)
+project_follows files project dev scripts h proved find law =
+    proved_developments_follow find law dev scripts (is_development h.above h.below dev h.reads) (is_simple h.above h.below dev h.reads) (is_plain h.above h.below dev h.reads) proved.proved
 
 -- ---- the translation
 entries_within : (dev : Development) (place : ℕ) (hs : List Head) (bs : List Body) → length (entries dev place hs bs) ≤ length hs
@@ -84,17 +162,21 @@ entries_within dev place (h ∷ hs) (b ∷ bs) = omega (arith, entries_within de
 entries_within dev place [] bs = omega arith
 entries_within dev place (h ∷ hs) [] = omega arith
 
+pub entries_few : (dev : Development) → length (translation dev).ops ≤ length dev.heads
+entries_few dev = entries_within dev (length (init_code dev)) dev.heads (level_at dev (last dev)).bodies
+
 pub few_operations : (dev : Development) (image : Image) → length dev.heads ≤ 100 → image ≡ translation dev → length image.ops < 4294967296
 few_operations dev image few e = rw e (omega (arith, few, entries_within dev (length (init_code dev)) dev.heads (level_at dev (last dev)).bodies))
 
--- ---- the script
+-- ---- the call script
 pub few_lines : (text : List ℕ) → length text ≤ 16777216 → length (lines text) < 4294967296
 few_lines text h = omega (arith, h, lines_within text)
 
-pub reads_program : (files : Files) (project calls text : List ℕ) (dev : Development) (image : Image) (requests : List Request) →
-    ReadsProject files project dev → IsProved dev → image ≡ translation dev → (length image.code ≤ 1000000) × (image.cells ≤ 1000000) → IsTold files calls text → IsScript image text requests → length requests ≤ most_calls → ReadsProgram files project calls image requests
-reads_program files project calls text dev image requests reads proved e within told script few = record {
+pub reads_program : (files : Files) (project calls text : List ℕ) (dev : Development) (scripts : List Script) (image : Image) (requests : List Request) →
+    ReadsProject files project dev scripts → IsProved dev scripts → image ≡ translation dev → (length image.code ≤ 1000000) × (image.cells ≤ 1000000) → IsTold files calls text → IsScript image text requests → length requests ≤ most_calls → ReadsProgram files project calls image requests
+reads_program files project calls text dev scripts image requests reads proved e within told script few = record {
   dev = dev;
+  scripts = scripts;
   reads = reads;
   proved = proved;
   translated = e;
@@ -113,6 +195,7 @@ writes_run files words project calls image requests status before after are r p 
       calls = calls;
       are_words = are;
       dev = r.dev;
+      scripts = r.scripts;
       reads = r.reads;
       proved = r.proved;
       short = r.short;
@@ -123,8 +206,24 @@ writes_run files words project calls image requests status before after are r p 
       last = p.last;
       transcript_is = ap (λ x. transcript x fuel requests p.tolds) r.translated;
     };
-    only = λ other k. one_project files project r.dev other r.reads k;
-    follows = project_follows files project r.dev r.reads r.proved.obvious;
+    only = λ other others k. one_project files project r.dev other r.scripts others r.reads k;
+    follows = project_follows files project r.dev r.scripts r.reads r.proved;
   };
   appended = p.written;
 }
+
+-- ---- texts
+abbrev pub texts_of : List (Vec ℕ Global) → List (List ℕ)
+texts_of texts = map (λ text. text.items) texts
+
+pub text_is : (texts : List (Vec ℕ Global)) (n : ℕ) → text_at texts n ≡ slice_index_or (texts_of texts) n []
+text_is [] n = refl
+text_is (t ∷ ts) zero = refl
+text_is (t ∷ ts) (suc n) = text_is ts n
+
+pub few_files : (b : Bool) (ls : List ProjectLine) → length ls ≤ 16777216 → length (files_of b ls) < 4294967296
+few_files true ls h = omega (arith, h, length-map (filter (λ l. is_proofs l.kind) ls) (λ l. l.name), fewer_kept (λ l. is_proofs l.kind) ls)
+few_files false ls h = omega (arith, h, length-map (filter (λ l. not (is_proofs l.kind)) ls) (λ l. l.name), fewer_kept (λ l. not (is_proofs l.kind)) ls)
+
+pub few_texts : (ls : List ProjectLine) (proofs : List (Bor (List ℕ))) (texts : List (Vec ℕ Global)) → length ls ≤ 16777216 → map (λ name. name.now) proofs ≡ files_of true ls → length texts ≡ length proofs → length texts < 4294967296
+few_texts ls proofs texts h e d = omega (arith, d, length-map proofs (λ name. name.now), ap length e, few_files true ls h)

@@ -1,5 +1,5 @@
 -- Why the program stops, check by check.
-use Rattle.std.proofs.Common.{◌≡◌, ℕ, ◌<◌, ◌≤◌, ◌⊎◌, inl, inr, List, length, Result, Ok, Err, IfErr, IsErrAnd, refl, sym, subst}
+use Rattle.std.proofs.Common.{◌≡◌, ℕ, ◌<◌, ◌≤◌, ◌⊎◌, inl, inr, true, false, List, [], ◌∷◌, length, slice_index_or, Result, Ok, Err, IfErr, IsErrAnd, refl, sym, ◌∙◌, ap, subst}
 use Rattle.bk_io.specs.Files.{Files}
 use Rattle.bk_code.specs.declared.image.Image.{Image}
 use Rattle.bk_dev.specs.Development.{Development}
@@ -10,18 +10,25 @@ use Rattle.bk_gen.specs.Translation.{translation}
 use Rattle.bk_front.specs.declared.refusal.Refusal.{Refusal}
 use Rattle.bk_front.specs.declared.refusal.Refusal.TheVariants.{Memory as OutOfMemory}
 use Rattle.bk_front.specs.declared.project_file.ProjectLine.{ProjectLine}
-use Rattle.bk_front.specs.ProjectFile.{AreProjectLines, IsNoProject}
+use Rattle.bk_front.specs.ProjectFile.{AreProjectLines, IsNoProject, files_of}
 use Rattle.bk_front.specs.Refusals.{not_built}
 use Rattle.bk_front.specs.Project.{IsRefusal}
+use Rattle.bk_pair.specs.Developments.{Reads}
+use Rattle.bk_scripts.specs.WrittenRule.{Script}
+use Rattle.bk_scripts.specs.Files.{AreScriptsOf, IsFaultOf as IsFaultOfProofs}
+use Rattle.bk_scripts.specs.declared.fault.ScriptFault.{ScriptFault}
+use Rattle.bk_scripts.specs.declared.fault.ScriptFault.TheVariants.{Fault as FaultOfProofs, Limit as LimitOfProofs, Memory as NoRoomForProofs}
 use Rattle.bk_calls.specs.declared.script.CallsFault.{CallsFault}
 use Rattle.bk_calls.specs.declared.script.CallsFault.TheVariants.{Line, NoOperation, Arguments, Number, Limit as PastLimit, Memory as NoMemory}
 use Rattle.bk_calls.specs.Script.{Cause, NoCall, UnknownName, WrongArguments, OutOfRange, IsBadLine, PassesLimit}
 use Rattle.bk_calls.specs.Outcome.{fault_of}
 use Rattle.bkit.specs.declared.stop.Stop.{Stop}
-use Rattle.bkit.specs.declared.stop.Stop.TheVariants.{Memory}
-use Rattle.bkit.specs.Run.{IsTold, component_lines, ReadsProject, AreRunWords, IsProved}
-use Rattle.bkit.specs.Stops.{IsOutside, StopsAtFile, StopsAtProject, StopsAtObligations, StopsAtScript, StopsAtRun, StopsAt, IsStopOf, stop_of_code, stop_of_calls}
-use Rattle.bkit.proofs.Projects.{names_of}
+use Rattle.bkit.specs.declared.stop.Stop.TheVariants.{Usage, Missing, Refused, Limit, Unproved, BadCalls, ReadFault, WriteFault, Memory}
+use Rattle.bkit.specs.Causes.{IsOfReading, IsOfChecks}
+use Rattle.bkit.specs.Run.{IsTold, AreTold, ReadsProject, AreRunWords, IsProved}
+use Rattle.bkit.specs.Stops.{IsOutside, StopsAtFile, StopsAtFiles, StopsAtTold, StopsAtComponents, StopsAtProject, StopsPastLimits, StopsAtObligations, StopsAtScript, StopsAtRun, StopsAt, stop_of_refusal, stop_of_proofs, stop_of_code, stop_of_calls}
+use Rattle.bkit.proofs.Projects.{names_of, two_files}
+use Rattle.bkit.proofs.Fetching.{stops_before, stops_behind}
 
 -- what an error says may be weakened
 pub widen : {T : Type 0} (r : Result T Stop) (P Q : Stop → Type 0) → IfErr r P → ((s : Stop) → P s → Q s) → IfErr r Q
@@ -38,29 +45,89 @@ pub handed_on : {T : Type 0} (r : Result T Stop) (stop : Stop) (P : Stop → Typ
 handed_on (Ok t) stop P h p = tt
 handed_on (Err s) stop P h p = subst P (sym h) p
 
+-- a stop of one kind is one of another
+pub or_else_stops : (P Q : Stop → Type 0) (stop : Stop) → (P stop → Q stop) → IsOutside stop ⊎ P stop → IsOutside stop ⊎ Q stop
+or_else_stops P Q stop f (inl o) = inl o
+or_else_stops P Q stop f (inr h) = inr (f h)
+
 outside_memory : (stop : Stop) → stop ≡ Memory → IsOutside stop
 outside_memory stop e = subst IsOutside (sym e) tt
 
+-- what checks of texts stop with, reading may stop with
+pub checks_read : (stop : Stop) → IsOfChecks stop → IsOfReading stop
+checks_read Usage h = h
+checks_read (Missing name) h = tt
+checks_read (Refused fault name) h = tt
+checks_read (Limit limit name) h = tt
+checks_read (Unproved name) h = tt
+checks_read (BadCalls line) h = tt
+checks_read ReadFault h = tt
+checks_read WriteFault h = h
+checks_read Memory h = tt
+
 -- ---- the project
 module _ (files : Files) (project text : List ℕ) (told : IsTold files project text) where
-  pub at_lines : (refusal : Refusal) (stop : Stop) → (refusal ≡ OutOfMemory) ⊎ ((refusal ≡ not_built 0) × IsNoProject text) → IsStopOf refusal project project project stop → IsOutside stop ⊎ StopsAtProject files project stop
-  at_lines refusal stop (inl e) is = inl (outside_memory stop (subst (λ r. IsStopOf r project project project stop) e is))
-  at_lines refusal stop (inr h) is = inr (inr (text, told, inl (subst (λ r. IsStopOf r project project project stop) h.0 is, h.1)))
+  pub at_lines : (refusal : Refusal) (stop : Stop) → (refusal ≡ OutOfMemory) ⊎ ((refusal ≡ not_built 0) × IsNoProject text) → stop ≡ stop_of_refusal refusal project [] → IsOutside stop ⊎ StopsAtProject files project stop
+  at_lines refusal stop (inl e) is = inl (outside_memory stop (is ∙ ap (λ r. stop_of_refusal r project []) e))
+  at_lines refusal stop (inr h) is = inr (inr (text, told, inl (is ∙ ap (λ r. stop_of_refusal r project []) h.0, h.1)))
 
-  pub at_machine : (ls : List ProjectLine) (a b : List ℕ) (stop : Stop) → AreProjectLines text ls → ls ≡ component_lines a b → IsOutside stop ⊎ StopsAtFile files a stop → IsOutside stop ⊎ StopsAtProject files project stop
-  at_machine ls a b stop are e (inl o) = inl o
-  at_machine ls a b stop are e (inr s) = inr (inr (text, told, inr (a, b, names_of text ls a b are e, inl s)))
+  module _ (ls : List ProjectLine) (are : AreProjectLines text ls) where
+    at_names : (stop : Stop) → StopsAtComponents files are.machine are.implementation (files_of true ls) stop → IsOutside stop ⊎ StopsAtProject files project stop
+    at_names stop h = inr (inr (text, told, inr (are.machine, are.implementation, files_of true ls, names_of text ls are, h)))
 
-  pub at_implementation : (ls : List ProjectLine) (a b above : List ℕ) (stop : Stop) → AreProjectLines text ls → ls ≡ component_lines a b → IsTold files a above → IsOutside stop ⊎ StopsAtFile files b stop → IsOutside stop ⊎ StopsAtProject files project stop
-  at_implementation ls a b above stop are e machine (inl o) = inl o
-  at_implementation ls a b above stop are e machine (inr s) = inr (inr (text, told, inr (a, b, names_of text ls a b are e, inr (above, machine, inl s))))
+    pub at_components : (names : List (List ℕ)) (stop : Stop) → names ≡ files_of false ls → IsOutside stop ⊎ StopsAtFiles files names stop → IsOutside stop ⊎ StopsAtProject files project stop
+    at_components names stop e (inl o) = inl o
+    at_components names stop e (inr s) =
+        at_names stop (inl (stops_before files (are.machine ∷ are.implementation ∷ []) (files_of true ls) stop (subst (λ x. StopsAtFiles files x stop) (e ∙ two_files text ls are) s)))
 
-  pub at_texts : (ls : List ProjectLine) (a b above below : List ℕ) (refusal : Refusal) (stop : Stop) → AreProjectLines text ls → ls ≡ component_lines a b → IsTold files a above → IsTold files b below → IsRefusal above below refusal → IsStopOf refusal project a b stop → IsOutside stop ⊎ StopsAtProject files project stop
-  at_texts ls a b above below refusal stop are e machine implementation (inl h) is = inl (outside_memory stop (subst (λ r. IsStopOf r project a b stop) h is))
-  at_texts ls a b above below refusal stop are e machine implementation (inr (inl h)) is =
-      inr (inr (text, told, inr (a, b, names_of text ls a b are e, inr (above, machine, inr (below, implementation, inl (subst (λ r. IsStopOf r project a b stop) h.0 is, h.1))))))
-  at_texts ls a b above below refusal stop are e machine implementation (inr (inr h)) is =
-      inr (inr (text, told, inr (a, b, names_of text ls a b are e, inr (above, machine, inr (below, implementation, inr (subst (λ r. IsStopOf r project a b stop) h.0 is, h.1, h.2))))))
+    pub at_proofs : (names proofs texts : List (List ℕ)) (stop : Stop) → names ≡ files_of false ls → proofs ≡ files_of true ls → AreTold files names texts → IsOutside stop ⊎ StopsAtFiles files proofs stop → IsOutside stop ⊎ StopsAtProject files project stop
+    at_proofs names proofs texts stop e d t (inl o) = inl o
+    at_proofs names proofs texts stop e d t (inr s) =
+        at_names stop (inl (stops_behind files (are.machine ∷ are.implementation ∷ []) (files_of true ls) texts stop
+        (subst (λ x. AreTold files x texts) (e ∙ two_files text ls are) t) (subst (λ x. StopsAtFiles files x stop) d s)))
+
+    -- the texts of the two components and of the proof files
+    module _ (names proofs texts proof_texts : List (List ℕ)) (e : names ≡ files_of false ls) (d : proofs ≡ files_of true ls) (t : AreTold files names texts) (u : AreTold files proofs proof_texts) where
+      all_told : AreTold files (are.machine ∷ are.implementation ∷ files_of true ls) (slice_index_or texts 0 [] ∷ slice_index_or texts 1 [] ∷ proof_texts)
+      all_told = by texts (subst (λ x. AreTold files x texts) (e ∙ two_files text ls are) t)
+        where
+          by : (ts : List (List ℕ)) → AreTold files (are.machine ∷ are.implementation ∷ []) ts → AreTold files (are.machine ∷ are.implementation ∷ files_of true ls) (slice_index_or ts 0 [] ∷ slice_index_or ts 1 [] ∷ proof_texts)
+          by [] h = elim h [ ]
+          by (x ∷ []) h = elim h.1 [ ]
+          by (x ∷ y ∷ []) h = (h.0, (h.1.0, subst (λ z. AreTold files z proof_texts) d u))
+          by (x ∷ y ∷ z ∷ zs) h = elim h.1.1 [ ]
+
+      at_told : (stop : Stop) → StopsAtTold are.machine are.implementation (files_of true ls) (slice_index_or texts 0 []) (slice_index_or texts 1 []) proof_texts stop → IsOutside stop ⊎ StopsAtProject files project stop
+      at_told stop h = at_names stop (inr (slice_index_or texts 0 [], slice_index_or texts 1 [], proof_texts, all_told, h))
+
+      pub at_texts : (refusal : Refusal) (stop : Stop) → IsRefusal (slice_index_or texts 0 []) (slice_index_or texts 1 []) refusal → stop ≡ stop_of_refusal refusal project names → IsOutside stop ⊎ StopsAtProject files project stop
+      at_texts refusal stop (inl h) is = inl (outside_memory stop (is ∙ ap (λ r. stop_of_refusal r project names) h))
+      at_texts refusal stop (inr (inl h)) is =
+          at_told stop (inl (inl (is ∙ ap (λ r. stop_of_refusal r project names) h.0 ∙ ap (λ x. Refused 15 (slice_index_or x 0 [])) (e ∙ two_files text ls are), h.1)))
+      at_texts refusal stop (inr (inr h)) is =
+          at_told stop (inl (inr (is ∙ ap (λ r. stop_of_refusal r project names) h.0 ∙ ap (λ x. Refused 15 (slice_index_or x 1 [])) (e ∙ two_files text ls are), h.1, h.2)))
+
+      pub at_scripts : (dev : Development) (fault : ScriptFault) (stop : Stop) → Reads (slice_index_or texts 0 []) (slice_index_or texts 1 []) dev → IsFaultOfProofs proof_texts fault → stop ≡ stop_of_proofs fault proofs → IsOutside stop ⊎ StopsAtProject files project stop
+      at_scripts dev (FaultOfProofs number file place) stop reads h is =
+          at_told stop (inr (dev, reads, (file, is ∙ ap (λ n. Refused n (slice_index_or proofs file [])) h.0 ∙ ap (λ x. Refused 15 (slice_index_or x file [])) d, h.2)))
+      at_scripts dev (LimitOfProofs number file) stop reads h is = elim h [ ]
+      at_scripts dev NoRoomForProofs stop reads h is = inl (outside_memory stop is)
+
+      pub reads_project : (dev : Development) (scripts : List Script) → Reads (slice_index_or texts 0 []) (slice_index_or texts 1 []) dev → AreScriptsOf proof_texts scripts → ReadsProject files project dev scripts
+      reads_project dev scripts reads are_scripts = record {
+        text = text;
+        told = told;
+        machine = are.machine;
+        implementation = are.implementation;
+        proofs = files_of true ls;
+        names = names_of text ls are;
+        above = slice_index_or texts 0 [];
+        below = slice_index_or texts 1 [];
+        proof_texts = proof_texts;
+        texts_told = all_told;
+        reads = reads;
+        scripts_are = are_scripts;
+      }
 
 -- ---- the obligations and the calls
 abbrev pub Stopped : Files → (project calls : List ℕ) → Stop → Type 0
@@ -70,23 +137,23 @@ pub at_project : (files : Files) (project calls : List ℕ) (stop : Stop) → Is
 at_project files project calls stop (inl o) = inl o
 at_project files project calls stop (inr s) = inr (inl s)
 
-pub at_obligations : (files : Files) (project calls : List ℕ) (dev : Development) (stop : Stop) → ReadsProject files project dev → IsOutside stop ⊎ StopsAtObligations project dev stop → Stopped files project calls stop
-at_obligations files project calls dev stop reads (inl o) = inl o
-at_obligations files project calls dev stop reads (inr s) = inr (inr (dev, reads, inl s))
+pub at_obligations : (files : Files) (project calls : List ℕ) (dev : Development) (scripts : List Script) (stop : Stop) → ReadsProject files project dev scripts → IsOutside stop ⊎ StopsAtObligations project dev scripts stop → Stopped files project calls stop
+at_obligations files project calls dev scripts stop reads (inl o) = inl o
+at_obligations files project calls dev scripts stop reads (inr s) = inr (inr (dev, scripts, reads, inl s))
 
-module _ (files : Files) (project calls : List ℕ) (dev : Development) (reads : ReadsProject files project dev) (proved : IsProved dev) where
+module _ (files : Files) (project calls : List ℕ) (dev : Development) (scripts : List Script) (reads : ReadsProject files project dev scripts) (proved : IsProved dev scripts) where
   pub at_script : (stop : Stop) → IsOutside stop ⊎ StopsAtFile files calls stop → Stopped files project calls stop
   at_script stop (inl o) = inl o
-  at_script stop (inr s) = inr (inr (dev, reads, inr (proved, inl s)))
+  at_script stop (inr s) = inr (inr (dev, scripts, reads, inr (proved, inl s)))
 
   pub at_code : (text : List ℕ) (fault : GenFault) (stop : Stop) → IsTold files calls text → (fault ≡ CodeTooLong → 1000000 < length (translation dev).code) → (fault ≡ TooManyCells → (length (translation dev).code ≤ 1000000) × (1000000 < cell_count dev)) → stop ≡ stop_of_code fault project → Stopped files project calls stop
-  at_code text CodeTooLong stop told long many is = inr (inr (dev, reads, inr (proved, inr (text, told, inl (is, long refl)))))
-  at_code text TooManyCells stop told long many is = inr (inr (dev, reads, inr (proved, inr (text, told, inr (inl (is, (many refl).0, (many refl).1))))))
+  at_code text CodeTooLong stop told long many is = inr (inr (dev, scripts, reads, inr (proved, inr (text, told, inl (is, long refl)))))
+  at_code text TooManyCells stop told long many is = inr (inr (dev, scripts, reads, inr (proved, inr (text, told, inr (inl (is, (many refl).0, (many refl).1))))))
   at_code text NoRoom stop told long many is = inl (outside_memory stop is)
 
   under : (text : List ℕ) (image : Image) (stop : Stop) → IsTold files calls text → image ≡ translation dev → (length image.code ≤ 1000000) × (image.cells ≤ 1000000) → StopsAtScript calls text image stop → Stopped files project calls stop
   under text image stop told e within h =
-      inr (inr (dev, reads, inr (proved, inr (text, told, inr (inr (record { code = subst (λ x. length x.code ≤ 1000000) e within.0; cells = subst (λ x. x.cells ≤ 1000000) e within.1 }, subst (λ x. StopsAtScript calls text x stop) e h))))))
+      inr (inr (dev, scripts, reads, inr (proved, inr (text, told, inr (inr (record { code = subst (λ x. length x.code ≤ 1000000) e within.0; cells = subst (λ x. x.cells ≤ 1000000) e within.1 }, subst (λ x. StopsAtScript calls text x stop) e h))))))
 
   pub at_calls : (text : List ℕ) (image : Image) (fault : CallsFault) (stop : Stop) → IsTold files calls text → image ≡ translation dev → (length image.code ≤ 1000000) × (image.cells ≤ 1000000) → ((number : ℕ) (cause : Cause) → fault ≡ fault_of cause number → IsBadLine image text number cause) → (fault ≡ PastLimit → PassesLimit image text) → stop ≡ stop_of_calls fault calls → Stopped files project calls stop
   at_calls text image (Line number) stop told e within bad past is = under text image stop told e within (inl (number, NoCall, is, bad number NoCall refl))
@@ -95,6 +162,11 @@ module _ (files : Files) (project calls : List ℕ) (dev : Development) (reads :
   at_calls text image (Number number) stop told e within bad past is = under text image stop told e within (inl (number, OutOfRange, is, bad number OutOfRange refl))
   at_calls text image PastLimit stop told e within bad past is = under text image stop told e within (inr (is, past refl))
   at_calls text image NoMemory stop told e within bad past is = inl (outside_memory stop is)
+
+-- ---- the obligations
+pub past_limits : (project : List ℕ) (dev : Development) (scripts : List Script) (stop : Stop) → IsOutside stop ⊎ StopsPastLimits project dev stop → IsOutside stop ⊎ StopsAtObligations project dev scripts stop
+past_limits project dev scripts stop (inl o) = inl o
+past_limits project dev scripts stop (inr h) = inr (inl h)
 
 -- ---- the run
 pub at_run : (files : Files) (words : List (List ℕ)) (project calls : List ℕ) (stop : Stop) → AreRunWords words project calls → Stopped files project calls stop → IsOutside stop ⊎ StopsAt files words stop

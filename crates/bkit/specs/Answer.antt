@@ -26,3 +26,7 @@ pub record WritesAnswer (files : Files) (words : List (List ℕ)) (old new : Opt
   pub answer : IsAnswer files words status text
   pub only : (other : Status) (other_text : List ℕ) → IsAnswer files words other other_text → (other ≡ status) × (other_text ≡ text)
   pub appended : new ≡ written_with old text
+
+-- the status is that of a stop, and its line is written after what had been written
+abbrev pub WritesLine : Status → (old new : Option (List ℕ)) → Type 0
+WritesLine status old new = (stop : Stop) × (status ≡ status_of_stop stop) × (new ≡ written_with old (stop_text stop))

@@ -1,5 +1,6 @@
 -- What `bkit run` does, as the told files have it.
 use Rattle.std.specs.Prelude.{◌≡◌, ℕ, Bool, false, nat_eq, List, [], ◌∷◌, length, ◌≤◌, Option, Some, codes}
+use Rattle.std.specs.List.{AllZip}
 use Rattle.bk_io.specs.Files.{Files, file_named}
 use Rattle.bk_io.specs.Pieces.{written_with}
 use Rattle.bk_code.specs.declared.image.Image.{Image}
@@ -7,14 +8,14 @@ use Rattle.bk_code.specs.Session.{Request, Told, Session}
 use Rattle.bk_form.specs.Search.{Finder, IsSearch}
 use Rattle.bk_dev.specs.Development.{Development}
 use Rattle.bk_gen.specs.Translation.{translation}
-use Rattle.bk_front.specs.declared.project_file.ProjectLine.{ProjectLine}
-use Rattle.bk_front.specs.declared.project_file.LineKind.TheVariants.{Machine, Implementation}
-use Rattle.bk_front.specs.ProjectFile.{IsFileName, NamesFiles}
-use Rattle.bk_front.specs.Reading.{Reads}
+use Rattle.bk_front.specs.ProjectFile.{NamesFiles}
+use Rattle.bk_pair.specs.Developments.{Reads}
 use Rattle.bk_sim.specs.Follows.{Follows}
 use Rattle.bk_po.specs.Obligations.{obligations}
 use Rattle.bk_po.specs.Limits.{PassNoLimit}
-use Rattle.bk_po.specs.Obvious.{HasObviousObligations}
+use Rattle.bk_scripts.specs.WrittenRule.{Script}
+use Rattle.bk_scripts.specs.Files.{AreScriptsOf}
+use Rattle.bk_status.specs.Rows.{AreProved}
 use Rattle.bk_calls.specs.Script.{IsScript, most_calls}
 use Rattle.bk_calls.specs.Transcript.{transcript}
 use Rattle.bkit.specs.declared.status.Status.{Status}
@@ -43,29 +44,24 @@ pub record IsTold (files : Files) (name text : List ℕ) : Type 0 where
   pub stands : file_named files name ≡ Some text
   pub short : length text ≤ 16777216
 
--- the lines of a project of a machine's file and an implementation's
-abbrev pub component_lines : List ℕ → List ℕ → List ProjectLine
-component_lines machine implementation = record { kind = Machine; name = machine } ∷ record { kind = Implementation; name = implementation } ∷ []
+-- the files tell these texts under the names, in order
+abbrev pub AreTold : Files → List (List ℕ) → List (List ℕ) → Type 0
+AreTold files names texts = AllZip (IsTold files) names texts
 
-pub record AreComponentLines (project_lines : List ProjectLine) : Type 0 where
-  pub machine : List ℕ
-  pub implementation : List ℕ
-  pub are : project_lines ≡ component_lines machine implementation
-  pub machine_name : IsFileName machine
-  pub implementation_name : IsFileName implementation
-
--- the texts that the files tell under the names in the project file read as the development
-pub record ReadsProject (files : Files) (project : List ℕ) (dev : Development) : Type 0 where
+-- the texts that the files tell under the names in the project file are those of the development and of the scripts of proof
+pub record ReadsProject (files : Files) (project : List ℕ) (dev : Development) (scripts : List Script) : Type 0 where
   pub text : List ℕ
   pub told : IsTold files project text
   pub machine : List ℕ
   pub implementation : List ℕ
-  pub names : NamesFiles text machine implementation
-  pub machine_text : List ℕ
-  pub machine_told : IsTold files machine machine_text
-  pub implementation_text : List ℕ
-  pub implementation_told : IsTold files implementation implementation_text
-  pub reads : Reads machine_text implementation_text dev
+  pub proofs : List (List ℕ)
+  pub names : NamesFiles text machine implementation proofs
+  pub above : List ℕ
+  pub below : List ℕ
+  pub proof_texts : List (List ℕ)
+  pub texts_told : AreTold files (machine ∷ implementation ∷ proofs) (above ∷ below ∷ proof_texts)
+  pub reads : Reads above below dev
+  pub scripts_are : AreScriptsOf proof_texts scripts
 
 -- the call script that the files tell asks for these calls of the image, at most 1000000
 pub record ReadsCalls (files : Files) (calls : List ℕ) (image : Image) (requests : List Request) : Type 0 where
@@ -74,10 +70,10 @@ pub record ReadsCalls (files : Files) (calls : List ℕ) (image : Image) (reques
   pub script : IsScript image text requests
   pub few : length requests ≤ most_calls
 
--- the obligations pass no limit, and each is obvious
-pub record IsProved (dev : Development) : Type 0 where
+-- the obligations pass no limit, and each is obvious or has a replayed proof among the scripts
+pub record IsProved (dev : Development) (scripts : List Script) : Type 0 where
   pub within : PassNoLimit (obligations dev)
-  pub obvious : HasObviousObligations dev
+  pub proved : AreProved dev scripts
 
 -- at most 1000000 instructions, and at most 1000000 cells
 pub record IsWithinCodeLimits (image : Image) : Type 0 where
@@ -87,10 +83,25 @@ pub record IsWithinCodeLimits (image : Image) : Type 0 where
 -- the image is the translation of the development that the project reads as, which is proved, and the script asks for these calls of the image
 pub record ReadsProgram (files : Files) (project calls : List ℕ) (image : Image) (requests : List Request) : Type 0 where
   pub dev : Development
-  pub reads : ReadsProject files project dev
-  pub proved : IsProved dev
+  pub scripts : List Script
+  pub reads : ReadsProject files project dev scripts
+  pub proved : IsProved dev scripts
   pub translated : image ≡ translation dev
   pub short : IsWithinCodeLimits (translation dev)
+  pub asks : ReadsCalls files calls (translation dev) requests
+
+-- the words are those of a run that no check stops: the files are told and within their limits, they read as a development and scripts,
+-- its obligations and its code are within theirs, each obligation is obvious or proved, and the call script has no fault
+pub record IsReady (files : Files) (words : List (List ℕ)) : Type 0 where
+  pub project : List ℕ
+  pub calls : List ℕ
+  pub are_words : AreRunWords words project calls
+  pub dev : Development
+  pub scripts : List Script
+  pub reads : ReadsProject files project dev scripts
+  pub proved : IsProved dev scripts
+  pub short : IsWithinCodeLimits (translation dev)
+  pub requests : List Request
   pub asks : ReadsCalls files calls (translation dev) requests
 
 -- ---- the run
@@ -108,8 +119,9 @@ pub record IsPlayed (files : Files) (words : List (List ℕ)) (status : Status) 
   pub calls : List ℕ
   pub are_words : AreRunWords words project calls
   pub dev : Development
-  pub reads : ReadsProject files project dev
-  pub proved : IsProved dev
+  pub scripts : List Script
+  pub reads : ReadsProject files project dev scripts
+  pub proved : IsProved dev scripts
   pub short : IsWithinCodeLimits (translation dev)
   pub requests : List Request
   pub asks : ReadsCalls files calls (translation dev) requests
@@ -121,8 +133,8 @@ pub record IsPlayed (files : Files) (words : List (List ℕ)) (status : Status) 
 -- the session is played, and the code follows the machine
 pub record IsRun (files : Files) (words : List (List ℕ)) (status : Status) (text : List ℕ) : Type 0 where
   pub played : IsPlayed files words status text
-  -- the one development that the told texts read as
-  pub only : (other : Development) → ReadsProject files played.project other → other ≡ played.dev
+  -- the one development, and the one list of scripts, that the told texts are read as
+  pub only : (other : Development) (others : List Script) → ReadsProject files played.project other others → (other ≡ played.dev) × (others ≡ played.scripts)
   -- for every search: up to the first call whose precondition may be false the replies are those of a run of the abstract
   -- machine, no call traps, and one out of fuel would end with more
   pub follows : (find : Finder) → IsSearch find → Follows find played.dev (translation played.dev)

@@ -1,5 +1,5 @@
 -- Why the program stops before its work is done: the causes, in the order of the checks, and the lines that say so.
-use Rattle.std.specs.Prelude.{◌≡◌, ℕ, zero, suc, ◌<◌, ◌≤◌, ◌⊎◌, List, [], ◌++◌, length, codes, decimal, Option, Some, None}
+use Rattle.std.specs.Prelude.{◌≡◌, ℕ, zero, suc, ◌<◌, ◌≤◌, ◌⊎◌, List, [], ◌∷◌, ◌++◌, length, slice_index_or, codes, decimal, Option, Some, None}
 use Rattle.bk_io.specs.Files.{Files, file_named, IsLonger}
 use Rattle.bk_code.specs.declared.image.Image.{Image}
 use Rattle.bk_dev.specs.Development.{Development}
@@ -9,10 +9,16 @@ use Rattle.bk_gen.specs.Translation.{translation}
 use Rattle.bk_front.specs.declared.refusal.Refusal.{Refusal}
 use Rattle.bk_front.specs.declared.refusal.Refusal.TheVariants.{Fault, Limit as LimitOfText, Memory as OutOfMemory}
 use Rattle.bk_front.specs.ProjectFile.{NamesFiles, IsNoProject}
-use Rattle.bk_front.specs.Reading.{Reads, IsMachineText}
-use Rattle.bk_po.specs.Obligations.{obligations, numbered_obligations}
+use Rattle.bk_front.specs.Project.{IsMachineText}
+use Rattle.bk_pair.specs.Developments.{Reads}
+use Rattle.bk_po.specs.Obligations.{obligations}
 use Rattle.bk_po.specs.Limits.{first_too_large, PassTogether, PassNoLimit}
-use Rattle.bk_po.specs.Obvious.{first_open}
+use Rattle.bk_scripts.specs.WrittenRule.{Script}
+use Rattle.bk_scripts.specs.Files.{IsFirstFaulty}
+use Rattle.bk_scripts.specs.declared.fault.ScriptFault.{ScriptFault}
+use Rattle.bk_scripts.specs.declared.fault.ScriptFault.TheVariants.{Fault as FaultOfProofs, Limit as LimitOfProofs, Memory as NoRoomForProofs}
+use Rattle.bk_status.specs.declared.table.Row.{Row}
+use Rattle.bk_status.specs.Rows.{HasRows, first_open}
 use Rattle.bk_calls.specs.Script.{Cause, IsBadLine, PassesLimit}
 use Rattle.bk_io.specs.Pieces.{written_with, WroteFront}
 use Rattle.bk_calls.specs.declared.script.CallsFault.{CallsFault}
@@ -21,7 +27,7 @@ use Rattle.bkit.specs.declared.status.Status.{Status}
 use Rattle.bkit.specs.declared.status.Status.TheVariants.{Usage as UsageStatus, Missing as MissingStatus, Refused as RefusedStatus, Unproved as UnprovedStatus, BadCalls as BadCallsStatus, ReadFault as ReadFaultStatus, WriteFault as WriteFaultStatus, Memory as MemoryStatus}
 use Rattle.bkit.specs.declared.stop.Stop.{Stop}
 use Rattle.bkit.specs.declared.stop.Stop.TheVariants.{Usage, Missing, Refused, Limit, Unproved, BadCalls, ReadFault, WriteFault, Memory}
-use Rattle.bkit.specs.Run.{AreRunWords, AreNoRunWords, IsTold, ReadsProject, IsProved, IsWithinCodeLimits}
+use Rattle.bkit.specs.Run.{AreRunWords, AreNoRunWords, IsTold, AreTold, ReadsProject, IsProved, IsWithinCodeLimits}
 
 -- a device failed, or there was no memory
 abbrev pub IsOutside : Stop → Type 0
@@ -79,36 +85,55 @@ StopsAtTexts machine implementation above below stop =
     ((stop ≡ Refused 15 machine) × (IsMachineText above → ⊥)) ⊎
     ((stop ≡ Refused 15 implementation) × IsMachineText above × ((dev : Development) → Reads above below dev → ⊥))
 
--- the implementation's file is fetched, and the texts are looked at
-abbrev pub StopsAtImplementation : Files → (machine implementation above : List ℕ) → Stop → Type 0
-StopsAtImplementation files machine implementation above stop =
-    StopsAtFile files implementation stop ⊎
-    ((below : List ℕ) × IsTold files implementation below × StopsAtTexts machine implementation above below stop)
+-- the files are fetched in order: the ones before are told, and this one is not
+abbrev pub StopsAtFiles : Files → List (List ℕ) → Stop → Type 0
+StopsAtFiles files [] stop = ⊥
+StopsAtFiles files (name ∷ names) stop = StopsAtFile files name stop ⊎ ((text : List ℕ) × IsTold files name text × StopsAtFiles files names stop)
 
--- the machine's file is fetched before the implementation's
-abbrev pub StopsAtComponents : Files → (machine implementation : List ℕ) → Stop → Type 0
-StopsAtComponents files machine implementation stop =
-    StopsAtFile files machine stop ⊎
-    ((above : List ℕ) × IsTold files machine above × StopsAtImplementation files machine implementation above stop)
+-- the first proof file at fault: it is none, or has a script with a name that has one already
+abbrev pub StopsAtScripts : (proofs texts : List (List ℕ)) → Stop → Type 0
+StopsAtScripts proofs texts stop = (file : ℕ) × (stop ≡ Refused 15 (slice_index_or proofs file [])) × IsFirstFaulty texts file
+
+-- the components' texts are looked at, and then those of the proof files
+abbrev pub StopsAtTold : (machine implementation : List ℕ) (proofs : List (List ℕ)) (above below : List ℕ) (texts : List (List ℕ)) → Stop → Type 0
+StopsAtTold machine implementation proofs above below texts stop =
+    StopsAtTexts machine implementation above below stop ⊎ ((dev : Development) × Reads above below dev × StopsAtScripts proofs texts stop)
+
+-- all files are fetched, the machine's, the implementation's and then the proof files, before their texts are looked at
+abbrev pub StopsAtComponents : Files → (machine implementation : List ℕ) (proofs : List (List ℕ)) → Stop → Type 0
+StopsAtComponents files machine implementation proofs stop =
+    StopsAtFiles files (machine ∷ implementation ∷ proofs) stop ⊎
+    ((above : List ℕ) × (below : List ℕ) × (texts : List (List ℕ)) × AreTold files (machine ∷ implementation ∷ proofs) (above ∷ below ∷ texts) ×
+    StopsAtTold machine implementation proofs above below texts stop)
 
 -- the project file's text is looked at, and then the files that it names
 abbrev pub StopsAtNames : Files → (project text : List ℕ) → Stop → Type 0
 StopsAtNames files project text stop =
     ((stop ≡ Refused 15 project) × IsNoProject text) ⊎
-    ((machine : List ℕ) × (implementation : List ℕ) × NamesFiles text machine implementation × StopsAtComponents files machine implementation stop)
+    ((machine : List ℕ) × (implementation : List ℕ) × (proofs : List (List ℕ)) × NamesFiles text machine implementation proofs ×
+    StopsAtComponents files machine implementation proofs stop)
 
 -- the project file is fetched first
 abbrev pub StopsAtProject : Files → (project : List ℕ) → Stop → Type 0
 StopsAtProject files project stop =
     StopsAtFile files project stop ⊎ ((text : List ℕ) × IsTold files project text × StopsAtNames files project text stop)
 
+-- the name stands in the first row of the status table that is neither obvious nor proved
+abbrev pub IsFirstOpen : Development → List Script → List ℕ → Type 0
+IsFirstOpen dev scripts name = (rows : List Row) × (row : Row) × HasRows dev scripts rows × (first_open rows ≡ Some row) × (row.name ≡ name)
+
 -- the limits of the obligations: 6, also for the height, with the name of the first obligation that is too large; 7 for all their sequents
--- and 14 for all their nodes, with the project's file; and then the first sequent that is not obvious
-abbrev pub StopsAtObligations : (project : List ℕ) → Development → Stop → Type 0
-StopsAtObligations project dev stop =
+-- and 14 for all their nodes, with the project's file
+abbrev pub StopsPastLimits : (project : List ℕ) → Development → Stop → Type 0
+StopsPastLimits project dev stop =
     ((name : List ℕ) × (stop ≡ Limit 6 name) × (first_too_large (obligations dev) ≡ Some name)) ⊎
-    ((limit : ℕ) × (stop ≡ Limit limit project) × PassTogether (obligations dev) limit) ⊎
-    ((name : List ℕ) × (stop ≡ Unproved name) × PassNoLimit (obligations dev) × (first_open (numbered_obligations dev) ≡ Some name))
+    ((limit : ℕ) × (stop ≡ Limit limit project) × PassTogether (obligations dev) limit)
+
+-- these limits, and then the first obligation that is neither obvious nor proved
+abbrev pub StopsAtObligations : (project : List ℕ) → Development → List Script → Stop → Type 0
+StopsAtObligations project dev scripts stop =
+    StopsPastLimits project dev stop ⊎
+    ((name : List ℕ) × (stop ≡ Unproved name) × PassNoLimit (obligations dev) × IsFirstOpen dev scripts name)
 
 -- the call script: a line at fault, or a call past the limit, whichever comes first
 abbrev pub StopsAtScript : (calls text : List ℕ) → Image → Stop → Type 0
@@ -128,14 +153,15 @@ StopsAtCalls files project calls image stop =
     StopsAtFile files calls stop ⊎ ((text : List ℕ) × IsTold files calls text × StopsAtCode project calls text image stop)
 
 -- the obligations of the development, and the calls of its translation
-abbrev pub StopsAtDevelopment : Files → (project calls : List ℕ) → Development → Stop → Type 0
-StopsAtDevelopment files project calls dev stop =
-    StopsAtObligations project dev stop ⊎ (IsProved dev × StopsAtCalls files project calls (translation dev) stop)
+abbrev pub StopsAtDevelopment : Files → (project calls : List ℕ) → Development → List Script → Stop → Type 0
+StopsAtDevelopment files project calls dev scripts stop =
+    StopsAtObligations project dev scripts stop ⊎ (IsProved dev scripts × StopsAtCalls files project calls (translation dev) stop)
 
--- the project, and the development that it reads as
+-- the project, and the development and the scripts that it reads as
 abbrev pub StopsAtRun : Files → (project calls : List ℕ) → Stop → Type 0
 StopsAtRun files project calls stop =
-    StopsAtProject files project stop ⊎ ((dev : Development) × ReadsProject files project dev × StopsAtDevelopment files project calls dev stop)
+    StopsAtProject files project stop ⊎
+    ((dev : Development) × (scripts : List Script) × ReadsProject files project dev scripts × StopsAtDevelopment files project calls dev scripts stop)
 
 -- the words, and what they name
 abbrev pub StopsAt : Files → List (List ℕ) → Stop → Type 0
@@ -144,17 +170,22 @@ StopsAt files words stop =
     ((project : List ℕ) × (calls : List ℕ) × AreRunWords words project calls × StopsAtRun files project calls stop)
 
 -- ---- what the faults of other crates stop the program with
--- the name of the file with this number: 0 for the project file
-abbrev pub name_of : ℕ → (project machine implementation : List ℕ) → List ℕ
-name_of zero project machine implementation = project
-name_of (suc zero) project machine implementation = machine
-name_of _ project machine implementation = implementation
+-- the name of the file with this number: 0 for the project file, and behind it the component files
+abbrev pub name_of : ℕ → (project : List ℕ) (components : List (List ℕ)) → List ℕ
+name_of zero project components = project
+name_of (suc n) project components = slice_index_or components n []
 
 -- what a refusal stops the program with
-abbrev pub IsStopOf : Refusal → (project machine implementation : List ℕ) → Stop → Type 0
-IsStopOf (Fault number file place) project machine implementation stop = stop ≡ Refused number (name_of file project machine implementation)
-IsStopOf (LimitOfText number file) project machine implementation stop = stop ≡ Limit number (name_of file project machine implementation)
-IsStopOf OutOfMemory project machine implementation stop = stop ≡ Memory
+abbrev pub stop_of_refusal : Refusal → (project : List ℕ) (components : List (List ℕ)) → Stop
+stop_of_refusal (Fault number file place) project components = Refused number (name_of file project components)
+stop_of_refusal (LimitOfText number file) project components = Limit number (name_of file project components)
+stop_of_refusal OutOfMemory project components = Memory
+
+-- what a fault of the proof files stops the program with
+abbrev pub stop_of_proofs : ScriptFault → (proofs : List (List ℕ)) → Stop
+stop_of_proofs (FaultOfProofs number file place) proofs = Refused number (slice_index_or proofs file [])
+stop_of_proofs (LimitOfProofs number file) proofs = Limit number (slice_index_or proofs file [])
+stop_of_proofs NoRoomForProofs proofs = Memory
 
 -- what a fault of the translation stops the program with
 abbrev pub stop_of_code : GenFault → (project : List ℕ) → Stop

@@ -1,21 +1,26 @@
 //! The files of a project.
 
-ghost use Rattle.std.specs.Prelude.{◌≡◌, ◌⊎◌, ◌≤◌, length, Some, IfOk, IfErr};
+ghost use Rattle.std.specs.Prelude.{◌≡◌, ◌⊎◌, ◌≤◌, ◌<◌, ◌^◌, ℕ, List, All, length, map, slice_index_or, [], Some, IfOk, IfErr};
 ghost use Rattle.bk_io.specs.Files.{Files};
-ghost use Rattle.bk_front.specs.FirstForm.{IsFirstForm};
-ghost use Rattle.bk_front.specs.ProjectFile.{IsFileName};
-ghost use Rattle.bk_front.specs.Project.{text_at};
-ghost use Rattle.bk_po.specs.Basic.{IsBasic};
 ghost use Rattle.bk_io.specs.Counts.{HasCause};
+ghost use Rattle.bk_gen.specs.Simple.{IsSimple};
+ghost use Rattle.bk_po.specs.Plain.{IsPlain};
+ghost use Rattle.bk_pair.specs.Developments.{Reads};
+ghost use Rattle.bk_front.specs.ProjectFile.{IsFileName, AreProjectLines, files_of};
+ghost use Rattle.bk_front.specs.Project.{text_at, IsRefusal};
+ghost use Rattle.bk_front.specs.declared.refusal.Refusal.{Refusal};
+ghost use Rattle.bk_scripts.specs.Files.{AreScriptsOf, IsFaultOf};
+ghost use Rattle.bk_scripts.specs.declared.fault.ScriptFault.{ScriptFault};
 ghost use Rattle.bkit.specs.declared.stop.Stop.TheVariants.{ReadFault, Memory};
-ghost use Rattle.bkit.specs.Causes.{IsOfReading, CountsAbsence};
-ghost use Rattle.bkit.specs.Stops.{IsOutside, StopsAtFile, StopsAtProject, IsStopOf, name_of};
-ghost use Rattle.bkit.specs.Run.{IsTold, component_lines, AreComponentLines, ReadsProject};
+ghost use Rattle.bkit.specs.Causes.{IsOfReading, IsOfChecks, CountsAbsence};
+ghost use Rattle.bkit.specs.Stops.{IsOutside, StopsAtFile, StopsAtFiles, StopsAtProject, name_of, stop_of_refusal, stop_of_proofs};
+ghost use Rattle.bkit.specs.Run.{IsTold, AreTold, ReadsProject};
 
 use crate::stop::Stop;
 use bk_dev::Development;
-use bk_front::{ProjectLine, Refusal, lines, project};
+use bk_front::{LineKind, ProjectLine, Refusal, lines, project};
 use bk_io::{Fetch, Shelf, Text};
+use bk_scripts::{Script, ScriptFault, scripts};
 use std::alloc::Global;
 use std::str;
 
@@ -45,56 +50,123 @@ pub(crate) fn fetch<H: Shelf>(alloc: Global, name: &str, shelf: &mut H) -> Resul
     }
 }
 
-/// The development of a project.
-pub(crate) fn read_development<H: Shelf>(
+/// The bytes of the files with these names, in order.
+fn fetch_all<H: Shelf>(alloc: Global, names: &[&str], shelf: &mut H) -> Result<Vec<Vec<u8>>, Stop>
+    ensures cause { IfErr result (λ stop. (files : Files) → H.files shelf.old ≡ Some files → IsOutside stop ⊎ StopsAtFiles files (map (λ name. name.now) names.now) stop) }
+    ensures reading { IfErr result IsOfReading }
+    ensures failed { HasCause ReadFault (H.faults shelf.old) (H.faults shelf.new) result }
+    ensures missing { CountsAbsence (H.absences shelf.old) (H.absences shelf.new) result }
+    ensures files { H.files shelf.new ≡ H.files shelf.old }
+    ensures told { IfOk result (λ texts. (files : Files) → H.files shelf.old ≡ Some files → AreTold files (map (λ name. name.now) names.now) (map (λ text. text.items) texts.items)) }
+    ensures each { IfOk result (λ texts. length texts.items ≡ length names.now) }
+{
+    let mut texts = Vec::new(alloc);
+    for name in names {
+        texts.push(fetch(alloc, name, shelf)?)?;
+    }
+    Ok(texts)
+}
+
+/// What a project says.
+#[derive(Drop)]
+pub(crate) struct Project {
+    pub(crate) development: Development,
+    /// The scripts of its proof files.
+    pub(crate) scripts: Vec<Script>,
+}
+
+/// Reads a project: its file, the component files and the proof files that it names.
+pub(crate) fn read_project<H: Shelf>(
     alloc: Global,
     name: &str,
     shelf: &mut H,
-) -> Result<Development, Stop>
+) -> Result<Project, Stop>
     ensures cause { IfErr result (λ stop. (files : Files) → H.files shelf.old ≡ Some files → IsOutside stop ⊎ StopsAtProject files name.now stop) }
     ensures reading { IfErr result IsOfReading }
     ensures failed { HasCause ReadFault (H.faults shelf.old) (H.faults shelf.new) result }
     ensures missing { CountsAbsence (H.absences shelf.old) (H.absences shelf.new) result }
     ensures files { H.files shelf.new ≡ H.files shelf.old }
-    ensures told { IfOk result (λ dev. (files : Files) → H.files shelf.old ≡ Some files → ReadsProject files name.now dev) }
-    ensures first_form { IfOk result IsFirstForm }
-    ensures basic { IfOk result IsBasic }
+    ensures told { IfOk result (λ p. (files : Files) → H.files shelf.old ≡ Some files → ReadsProject files name.now p.development p.scripts.items) }
+    ensures simple { IfOk result (λ p. IsSimple p.development) }
+    ensures plain { IfOk result (λ p. IsPlain p.development) }
+    ensures few { IfOk result (λ p. length p.development.heads ≤ 100) }
+{
+    let lines = read_lines(alloc, name, shelf)?;
+    let components = names(alloc, &lines, false)?;
+    let proofs = names(alloc, &lines, true)?;
+    let texts = fetch_all(alloc, &components, shelf)?;
+    let proof_texts = fetch_all(alloc, &proofs, shelf)?;
+    Ok(Project {
+        development: read_components(alloc, name, &lines, &components, &texts)?,
+        scripts: read_scripts(alloc, &proofs, &proof_texts)?,
+    })
+}
+
+// The development that the texts of the component files are read as.
+fn read_components(
+    alloc: Global,
+    name: &str,
+    lines: &[ProjectLine],
+    components: &[&str],
+    texts: &[Vec<u8>],
+) -> Result<Development, Stop>
+    requires two { length texts.now ≡ 2 }
+    ensures cause { IfErr result (λ stop. (refusal : Refusal) × IsRefusal (text_at texts.now 0) (text_at texts.now 1) refusal × (stop ≡ stop_of_refusal refusal name.now (map (λ component. component.now) components.now))) }
+    ensures checks { IfErr result IsOfChecks }
+    ensures reads { IfOk result (Reads (text_at texts.now 0) (text_at texts.now 1)) }
+    ensures simple { IfOk result IsSimple }
+    ensures plain { IfOk result IsPlain }
     ensures few { IfOk result (λ dev. length dev.heads ≤ 100) }
 {
-    let text = fetch(alloc, name, shelf)?;
-    let lines = match lines(alloc, &text) {
-        Ok(lines) => lines,
-        Err(refusal) => return Err(refused(alloc, refusal, name, name, name)?),
-    };
-    let (above, below) = component_files(&lines);
-    let machine = fetch(alloc, above, shelf)?;
-    let implementation = fetch(alloc, below, shelf)?;
-    let texts = both(alloc, machine, implementation)?;
-    match project(alloc, &lines, &texts) {
+    match project(alloc, lines, texts) {
         Ok(development) => Ok(development),
-        Err(refusal) => Err(refused(alloc, refusal, name, above, below)?),
+        Err(refusal) => Err(refused(alloc, refusal, name, components)?),
     }
 }
 
-// The files of the two components that the lines name.
-fn component_files(lines: &[ProjectLine]) -> (&str, &str)
-    requires { AreComponentLines lines.now }
-    ensures { lines.now ≡ component_lines result.0.now result.1.now }
+// The scripts of the proof files.
+fn read_scripts(alloc: Global, proofs: &[&str], texts: &[Vec<u8>]) -> Result<Vec<Script>, Stop>
+    requires countable { length texts.now < 2 ^ 32 }
+    ensures cause { IfErr result (λ stop. (fault : ScriptFault) × IsFaultOf (map (λ text. text.items) texts.now) fault × (stop ≡ stop_of_proofs fault (map (λ proof. proof.now) proofs.now))) }
+    ensures checks { IfErr result IsOfChecks }
+    ensures value { IfOk result (λ list. AreScriptsOf (map (λ text. text.items) texts.now) list.items) }
 {
-    (file_name(&lines[0].name), file_name(&lines[1].name))
+    match scripts(alloc, texts) {
+        Ok(scripts) => Ok(scripts),
+        Err(fault) => Err(faulty(alloc, fault, proofs)?),
+    }
 }
 
-// The texts of two files.
-fn both(alloc: Global, first: Vec<u8>, second: Vec<u8>) -> Result<Vec<Vec<u8>>, Stop>
-    ensures memory { IfErr result (λ stop. stop ≡ Memory) }
-    ensures two { IfOk result (λ texts. length texts.items ≡ 2) }
-    ensures first { IfOk result (λ texts. text_at texts.items 0 ≡ first.items) }
-    ensures second { IfOk result (λ texts. text_at texts.items 1 ≡ second.items) }
+// The lines of a project file.
+fn read_lines<H: Shelf>(alloc: Global, name: &str, shelf: &mut H) -> Result<Vec<ProjectLine>, Stop>
+    ensures cause { IfErr result (λ stop. (files : Files) → H.files shelf.old ≡ Some files → IsOutside stop ⊎ StopsAtProject files name.now stop) }
+    ensures reading { IfErr result IsOfReading }
+    ensures failed { HasCause ReadFault (H.faults shelf.old) (H.faults shelf.new) result }
+    ensures missing { CountsAbsence (H.absences shelf.old) (H.absences shelf.new) result }
+    ensures files { H.files shelf.new ≡ H.files shelf.old }
+    ensures told { IfOk result (λ lines. (text : List ℕ) × AreProjectLines text lines.items × ((files : Files) → H.files shelf.old ≡ Some files → IsTold files name.now text)) }
+    ensures few { IfOk result (λ lines. length lines.items ≤ 16777216) }
 {
-    let mut texts = Vec::new(alloc);
-    texts.push(first)?;
-    texts.push(second)?;
-    Ok(texts)
+    let text = fetch(alloc, name, shelf)?;
+    match lines(alloc, &text) {
+        Ok(lines) => Ok(lines),
+        Err(refusal) => Err(refused(alloc, refusal, name, &[])?),
+    }
+}
+
+// The names of the component files, or of the proof files, in order.
+fn names<'a>(alloc: Global, lines: &'a [ProjectLine], of_proofs: bool) -> Result<Vec<&'a str>, Stop>
+    requires { All (λ line. IsFileName line.name) lines.now }
+    ensures memory { IfErr result (λ stop. stop ≡ Memory) }
+    ensures ok { IfOk result (λ names. map (λ name. name.now) names.items ≡ files_of of_proofs lines.now) }
+{
+    let mut names = Vec::new(alloc);
+    for line in lines {
+        if (line.kind == LineKind::Proofs) == of_proofs {
+            names.push(file_name(&line.name))?;
+        }
+    }
+    Ok(names)
 }
 
 // The name of a file that a project line names.
@@ -113,32 +185,59 @@ fn refused(
     alloc: Global,
     refusal: Refusal,
     project: &str,
-    machine: &str,
-    implementation: &str,
+    components: &[&str],
 ) -> Result<Stop, Stop>
     ensures memory { IfErr result (λ stop. stop ≡ Memory) }
-    ensures told { IfOk result (IsStopOf refusal project.now machine.now implementation.now) }
+    ensures checks { IfOk result IsOfChecks }
+    ensures told { IfOk result (λ stop. stop ≡ stop_of_refusal refusal project.now (map (λ name. name.now) components.now)) }
 {
-    let (fault, file) = match refusal {
-        Refusal::Fault { number, file, .. } => (number, file),
-        Refusal::Limit { number, file } => {
-            let name = name_of(file, project, machine, implementation);
-            return Ok(Stop::Limit(number, owned(alloc, name)?));
+    match refusal {
+        Refusal::Fault { number, file, .. } => {
+            let name = name_of(file, project, components);
+            Ok(Stop::Refused(number, owned(alloc, name)?))
         }
-        Refusal::Memory => return Ok(Stop::Memory),
-    };
-    let name = name_of(file, project, machine, implementation);
-    Ok(Stop::Refused(fault, owned(alloc, name)?))
+        Refusal::Limit { number, file } => {
+            let name = name_of(file, project, components);
+            Ok(Stop::Limit(number, owned(alloc, name)?))
+        }
+        Refusal::Memory => Ok(Stop::Memory),
+    }
 }
 
 // The name of the file with this number: 0 for the project file.
-fn name_of<'a>(file: u32, project: &'a str, machine: &'a str, implementation: &'a str) -> &'a str
-    ensures { result.now ≡ name_of file project.now machine.now implementation.now }
+fn name_of<'a>(file: u32, project: &'a str, components: &[&'a str]) -> &'a str
+    ensures { result.now ≡ name_of file project.now (map (λ name. name.now) components.now) }
 {
     match file {
         0 => project,
-        1 => machine,
-        _ => implementation,
+        _ => name_at(components, file - 1),
+    }
+}
+
+// The name with this number, from 0.
+fn name_at<'a>(names: &[&'a str], number: u32) -> &'a str
+    ensures { result.now ≡ slice_index_or (map (λ name. name.now) names.now) number [] }
+{
+    match names.get(number as usize) {
+        Some(name) => name,
+        None => "",
+    }
+}
+
+// The stop at a proof file.
+fn faulty(alloc: Global, fault: ScriptFault, proofs: &[&str]) -> Result<Stop, Stop>
+    ensures memory { IfErr result (λ stop. stop ≡ Memory) }
+    ensures checks { IfOk result IsOfChecks }
+    ensures told { IfOk result (λ stop. stop ≡ stop_of_proofs fault (map (λ name. name.now) proofs.now)) }
+{
+    match fault {
+        ScriptFault::Fault { number, file, .. } => {
+            Ok(Stop::Refused(number, owned(alloc, name_at(proofs, file))?))
+        }
+        ScriptFault::Limit { number, file } => {
+            Ok(Stop::Limit(number, owned(alloc, name_at(proofs, file))?))
+        }
+        ScriptFault::Memory => Ok(Stop::Memory),
     }
 }
 

@@ -2,9 +2,11 @@
 #![tactic(auto)]
 
 mod files;
-mod laws;
+pub mod laws;
 mod program;
 mod proof;
+#[cfg(test)]
+mod scripted_tests;
 mod session;
 mod status;
 mod stop;

@@ -11,10 +11,10 @@ ghost use Rattle.bkit.specs.declared.status.Status.{Status};
 ghost use Rattle.bkit.specs.declared.stop.Stop.TheVariants.{Usage, ReadFault, WriteFault, Memory};
 ghost use Rattle.bkit.specs.Causes.{IsOfReading, IsOfPlaying, CountsAbsence};
 ghost use Rattle.bkit.specs.Stops.{IsOutside, StopsAtRun, StopsAt, IsCutShort, stop_text, stop_of_code, stop_of_calls};
-ghost use Rattle.bkit.specs.Run.{AreRunWords, AreNoRunWords, ReadsProgram, IsExecuted, WritesRun, ComesSoFar};
-ghost use Rattle.bkit.specs.Answer.{IsAnswer, IsAnswered, WritesAnswer};
+ghost use Rattle.bkit.specs.Run.{AreRunWords, AreNoRunWords, IsReady, ReadsProgram, IsExecuted, WritesRun, ComesSoFar};
+ghost use Rattle.bkit.specs.Answer.{IsAnswer, IsAnswered, WritesAnswer, WritesLine};
 
-use crate::files::{fetch, owned, read_development};
+use crate::files::{fetch, owned, read_project};
 use crate::proof::check_obligations;
 use crate::session::play;
 use crate::status::Status;
@@ -41,9 +41,9 @@ struct Program {
     calls: Vec<Call>,
 }
 
-/// Does what the words ask for. `run PROJECT CALLS` reads the project's file and the component files that it names, makes
-/// their proof obligations and asks that each is obvious, translates the implementation, and plays the calls of the script;
-/// it writes the session's transcript.
+/// Does what the words ask for. `run PROJECT CALLS` reads the project's file, the component files and the proof files that it
+/// names, makes the proof obligations and asks that each is obvious or proved by a replayed script, translates the
+/// implementation, and plays the calls of the script; it writes the session's transcript.
 ///
 /// The words are those of the command line without the program's name.
 pub fn bkit<H: Shelf, K: Sink>(
@@ -56,6 +56,8 @@ pub fn bkit<H: Shelf, K: Sink>(
         WritesRun files (map string_bytes words.now) (K.written out.old) (K.written out.new) result }
     ensures answer { IsAnswered result → (files : Files) → H.files shelf.old ≡ Some files →
         WritesAnswer files (map string_bytes words.now) (K.written out.old) (K.written out.new) result }
+    ensures line { IsAnswered result → IsExecuted result ⊎ WritesLine result (K.written out.old) (K.written out.new) }
+    ensures ready { IsAnswered result → (files : Files) → H.files shelf.old ≡ Some files → IsReady files (map string_bytes words.now) → IsExecuted result }
     ensures cut_short { IsCutShort result → (files : Files) → H.files shelf.old ≡ Some files → (status : Status) (text : List ℕ) →
         IsAnswer files (map string_bytes words.now) status text → WroteFront text (K.written out.old) (K.written out.new) }
     ensures read_fault { result ≡ Status.ReadFault → Rose (H.faults shelf.old) (H.faults shelf.new) × (K.written out.new ≡ K.written out.old) }
@@ -127,10 +129,10 @@ fn read_program<H: Shelf>(
     ensures requests { IfOk result (λ p. All (IsRequest p.image) (map request_of p.calls.items)) }
     ensures few { IfOk result (λ p. length p.calls.items ≤ 1000000) }
 {
-    let development = read_development(alloc, project, shelf)?;
-    check_obligations(alloc, project, &development)?;
+    let read = read_project(alloc, project, shelf)?;
+    check_obligations(alloc, project, &read)?;
     let text = fetch(alloc, script, shelf)?;
-    let image = match translate(alloc, &development) {
+    let image = match translate(alloc, &read.development) {
         Ok(image) => image,
         Err(fault) => return Err(past_limit(alloc, fault, project)?),
     };

@@ -1,41 +1,37 @@
 //! The obligations of a project, and which of them are proved.
 
-ghost use Rattle.std.specs.Prelude.{◌≡◌, ◌⊎◌, map, Some, None, IfOk, IfErr, OnOk, MatchOption};
+ghost use Rattle.std.specs.Prelude.{◌≡◌, ◌⊎◌, map, IfOk, IfErr, OnOk};
 ghost use Rattle.bk_dev.specs.Development.{Development};
 ghost use Rattle.bk_po.specs.Basic.{IsBasic};
 ghost use Rattle.bk_po.specs.Obligations.{obligations};
 ghost use Rattle.bk_po.specs.Limits.{IsFaultOf};
-ghost use Rattle.bk_po.specs.Obvious.{first_open};
-ghost use Rattle.bk_po.specs.Shown.{named_sequent};
 ghost use Rattle.bkit.specs.Run.{IsProved};
 ghost use Rattle.bkit.specs.declared.stop.Stop.TheVariants.{Memory};
 ghost use Rattle.bkit.specs.Causes.{IsOfChecks};
-ghost use Rattle.bkit.specs.Stops.{IsOutside, StopsAtObligations};
+ghost use Rattle.bkit.specs.Stops.{IsOutside, StopsAtObligations, StopsPastLimits};
 
-use crate::files::owned;
+use crate::files::{Project, owned};
 use crate::stop::Stop;
-use bk_dev::Development;
-use bk_io::Text;
-use bk_kernel::is_obvious;
-use bk_po::{Obligation, PoFault, obligations};
+use bk_po::PoFault;
+use bk_status::status;
 use std::alloc::Global;
 
 /// The number of the limit of one obligation's formulas.
 const LIMIT_OF_OBLIGATION: u8 = 6;
 
-/// Makes the obligations of a project's development, and asks that each is obvious.
-pub(crate) fn check_obligations(alloc: Global, project: &str, dev: &Development) -> Result<(), Stop>
-    requires { IsBasic dev.now }
-    ensures cause { IfErr result (λ stop. IsOutside stop ⊎ StopsAtObligations project.now dev.now stop) }
+/// Makes the obligations of a project's development, and asks that each is obvious or proved by its script.
+pub(crate) fn check_obligations(alloc: Global, name: &str, project: &Project) -> Result<(), Stop>
+    requires { IsBasic project.now.development }
+    ensures cause { IfErr result (λ stop. IsOutside stop ⊎ StopsAtObligations name.now project.now.development project.now.scripts.items stop) }
     ensures checks { IfErr result IsOfChecks }
-    ensures ok { OnOk result (IsProved dev.now) }
+    ensures ok { OnOk result (IsProved project.now.development project.now.scripts.items) }
 {
-    let list = match obligations(alloc, dev) {
-        Ok(list) => list,
-        Err(fault) => return Err(past(alloc, fault, project)?),
+    let table = match status(alloc, &project.development, &project.scripts) {
+        Ok(table) => table,
+        Err(fault) => return Err(past(alloc, fault, name)?),
     };
-    match first_open(list) {
-        Some(name) => Err(Stop::Unproved(name)),
+    match table.first_open() {
+        Some(row) => Err(Stop::Unproved(row.name.copy(alloc)?)),
         None => Ok(()),
     }
 }
@@ -43,7 +39,7 @@ pub(crate) fn check_obligations(alloc: Global, project: &str, dev: &Development)
 // The limit that an obligation, or the project's obligations together, pass.
 fn past(alloc: Global, fault: PoFault, project: &str) -> Result<Stop, Stop>
     ensures memory { IfErr result (λ stop. stop ≡ Memory) }
-    ensures cause { IfOk result (λ stop. (dev : Development) → IsFaultOf (obligations dev) fault → IsOutside stop ⊎ StopsAtObligations project.now dev stop) }
+    ensures cause { IfOk result (λ stop. (dev : Development) → IsFaultOf (obligations dev) fault → IsOutside stop ⊎ StopsPastLimits project.now dev stop) }
     ensures checks { IfOk result IsOfChecks }
 {
     Ok(match fault {
@@ -51,16 +47,4 @@ fn past(alloc: Global, fault: PoFault, project: &str) -> Result<Stop, Stop>
         PoFault::TooMany(limit) => Stop::Limit(limit, owned(alloc, project)?),
         PoFault::Memory => Stop::Memory,
     })
-}
-
-// The name of the first obligation that is not obvious.
-fn first_open(list: Vec<Obligation>) -> Option<Text>
-    ensures { MatchOption result (first_open (map named_sequent list.items) ≡ None) (λ name. first_open (map named_sequent list.items) ≡ Some name) }
-{
-    for obligation in list {
-        if !is_obvious(&obligation.sequent) {
-            return Some(obligation.name);
-        }
-    }
-    None
 }

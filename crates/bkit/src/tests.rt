@@ -1,6 +1,6 @@
 // Runs over files and a sink in memory.
 
-use crate::files::read_development;
+use crate::files::read_project;
 use crate::program::bkit;
 use crate::status::Status;
 use bk_io::{MemShelf, MemSink, SureShelf, SureSink, have_distinct_names};
@@ -202,10 +202,12 @@ fn obligations_of_the_counter(rt: HostRuntime) -> Result<(), Fail> {
         return Err(Fail::from("two files have one name"));
     }
     let mut shelf = SureShelf::new(files);
-    let development = read_development(alloc, "c.prj", &mut shelf)
+    let project = read_project(alloc, "c.prj", &mut shelf)
         .ok()
         .ok_or("refused")?;
-    let list = obligations(alloc, &development).ok().ok_or("no list")?;
+    let list = obligations(alloc, &project.development)
+        .ok()
+        .ok_or("no list")?;
     assert_eq!(rt; list.len(), names.len());
     for (obligation, name) in list.iter().zip(names.iter()) {
         assert_eq!(rt; obligation.name.as_bytes(), name.as_bytes());

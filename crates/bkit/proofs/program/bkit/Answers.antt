@@ -4,7 +4,8 @@ use Rattle.bk_io.specs.Pieces.{written_with}
 use Rattle.bkit.specs.declared.stop.Stop.TheVariants.{Usage, ReadFault}
 use Rattle.bkit.specs.Stops.{stop_text}
 use Rattle.bkit.proofs.RunWords.{one_stop, wrong_words}
-use Rattle.bkit.proofs.Answering.{run_answers, stop_answers, stop_front, reports_so_far, reports_read, reports_missing, reports_usage, silent, rose_first, rose_second}
+use Rattle.bkit.proofs.Answering.{run_answers, stop_answers, stop_line, stop_front, reports_so_far, reports_read, reports_missing, reports_usage, silent, rose_first, rose_second}
+use Rattle.bkit.proofs.OneAnswer.{ready_executed}
 use Rattle.bkit.proofs.program.bkit.Goals as goal
 
 pub returns-in-Err-clause-wrong_words : goal.returns-in-Err-clause-wrong_words
@@ -50,3 +51,14 @@ returns-in-Err-clause-write_fault g c e = elim (c.report.ensures.failed e) [
 pub returns-in-Ok-clause-answer : goal.returns-in-Ok-clause-answer
 returns-in-Ok-clause-answer g c answered files told =
     run_answers files (map (string_bytes {Z = Global}) c.args.words.now) (g.K.Sink.written c.args.out.now) (g.K.Sink.written c.run.new.out) c.in-Ok.status (c.in-Ok.ensures.ok files told)
+
+pub returns-in-Err-clause-ready : goal.returns-in-Err-clause-ready
+returns-in-Err-clause-ready g c answered files told ready =
+    ready_executed files (map (string_bytes {Z = Global}) c.args.words.now) (g.K.Sink.written c.args.out.now) (g.K.Sink.written c.report.new.out) c.report.result
+    (stop_answers files (map (string_bytes {Z = Global}) c.args.words.now) (g.K.Sink.written c.args.out.now) (g.K.Sink.written c.run.new.out) (g.K.Sink.written c.report.new.out) c.report.result c.in-Err.stop
+    (c.in-Err.ensures.cause files told) c.report.ensures.reports answered c.in-Err.ensures.silent)
+    ready
+
+pub returns-in-Err-clause-line : goal.returns-in-Err-clause-line
+returns-in-Err-clause-line g c answered =
+    inr (stop_line (g.K.Sink.written c.args.out.now) (g.K.Sink.written c.run.new.out) (g.K.Sink.written c.report.new.out) c.report.result c.in-Err.stop c.report.ensures.reports answered c.in-Err.ensures.silent)
