@@ -21,7 +21,7 @@ use Rattle.bk_form.specs.declared.operator.BinOp.TheVariants.{Eq, Lt, Le, In, Ra
 use Rattle.bk_form.specs.declared.operator.Domain.TheVariants.{Natural, Natural1}
 use Rattle.bk_form.proofs.Members.{and-both}
 use Rattle.bk_form.proofs.Domains.{interval-members}
-use Rattle.bk_seq.specs.Valid.{AllHold, in_state}
+use Rattle.bk_bind.specs.Valid.{AllHold, in_state}
 use Rattle.bk_lin.specs.declared.fact.Line.{Line}
 use Rattle.bk_lin.specs.declared.fact.CertFault.{CertFault}
 use Rattle.bk_lin.specs.Inequality.{Inequality, IsTrueOf}

@@ -11,10 +11,12 @@ use Rattle.bk_form.specs.declared.operator.BinOp.TheVariants.{Add, Sub, Mul}
 abbrev pub if_fits : ℤ → Option ℤ
 if_fits z = cond (fits_i128 z) (Some z) None
 
+-- unary minus on a number, and on nothing else; other operators give no number
 abbrev pub negative_of : UnOp → Option ℤ → Option ℤ
 negative_of Neg (Some x) = if_fits (pos 0 -ℤ x)
 negative_of _ _ = None
 
+-- +, - and * on two numbers, and on nothing else; other operators give no number
 abbrev pub sum_of : BinOp → Option ℤ → Option ℤ → Option ℤ
 sum_of Add (Some x) (Some y) = if_fits (x +ℤ y)
 sum_of Sub (Some x) (Some y) = if_fits (x -ℤ y)

@@ -40,6 +40,7 @@ terms_of_denied (binary Le a b) = Some (below b a ∷ [])
 terms_of_denied (binary Lt a b) = Some (at_most b a ∷ [])
 terms_of_denied _ = None
 
+-- the facts of not p, where p is such a comparison
 abbrev pub terms_of_negation : UnOp → Formula → Option (List Formula)
 terms_of_negation Not p = terms_of_denied p
 terms_of_negation _ p = None

@@ -7,7 +7,7 @@ use Rattle.bk_form.specs.Search.{Finder}
 use Rattle.bk_form.specs.Environment.{Environment}
 use Rattle.bk_form.specs.Operators.{number_in}
 use Rattle.bk_form.specs.Meaning.{value}
-use Rattle.bk_seq.specs.Valid.{IsValid}
+use Rattle.bk_bind.specs.Valid.{IsValid}
 use Rattle.bk_lin.specs.declared.fact.Line.{Line}
 use Rattle.bk_lin.specs.Inequality.{Inequality, dot}
 use Rattle.bk_arith.specs.ClosedSum.{closed_sum}

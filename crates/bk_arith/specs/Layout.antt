@@ -22,6 +22,7 @@ less a (Some b) = binary Sub a b.now
 abbrev pub term_of : Term → Formula
 term_of t = if t.strict then one_less (less t.upper.now t.lower) else less t.upper.now t.lower
 
+-- what a comparison was found to state: no term, one or two, each at least 0
 abbrev pub terms_in : Stated → List Formula
 terms_in Nothing = []
 terms_in (One t) = term_of t ∷ []

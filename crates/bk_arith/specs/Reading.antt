@@ -18,10 +18,12 @@ product_atoms (Some m) n xs ys whole = ys
 product_atoms None (Some n) xs ys whole = xs
 product_atoms None None xs ys whole = whole ∷ []
 
+-- of an operator on one term: the atoms of -a are those of a, and every other such term is an atom
 abbrev pub unary_atoms : UnOp → List Formula → Formula → List Formula
 unary_atoms Neg xs whole = xs
 unary_atoms _ xs whole = whole ∷ []
 
+-- of an operator on two terms: both sides' for + and -, the product's for *, and every other such term is an atom
 abbrev pub binary_atoms : BinOp → Option ℤ → Option ℤ → List Formula → List Formula → Formula → List Formula
 binary_atoms Add m n xs ys whole = xs ++ ys
 binary_atoms Sub m n xs ys whole = xs ++ ys
@@ -56,14 +58,17 @@ atom_over atoms a = record { coefs = map (λ b. if is_same a b then pos 1 else p
 abbrev pub if_narrow : Inequality → Option Inequality
 if_narrow p = if is_narrow p then Some p else None
 
+-- p + q, where both could be read and the sum lies within 128 bits
 abbrev pub sum_read : Option Inequality → Option Inequality → Option Inequality
 sum_read (Some p) (Some q) = if_narrow (plus p q)
 sum_read _ _ = None
 
+-- p - q, where both could be read and the difference lies within 128 bits
 abbrev pub difference_read : Option Inequality → Option Inequality → Option Inequality
 difference_read (Some p) (Some q) = if_narrow (plus p (times (negsuc 0) q))
 difference_read _ _ = None
 
+-- m times p, where p could be read and the multiple lies within 128 bits
 abbrev pub multiple_read : ℤ → Option Inequality → Option Inequality
 multiple_read m (Some p) = if_narrow (times m p)
 multiple_read m None = None
@@ -74,10 +79,12 @@ product_read (Some m) n p q whole = multiple_read m q
 product_read None (Some n) p q whole = multiple_read n p
 product_read None None p q whole = Some whole
 
+-- -a is a taken -1 times; every other operator on one term makes an atom
 abbrev pub unary_read : UnOp → Option Inequality → Inequality → Option Inequality
 unary_read Neg p whole = multiple_read (negsuc 0) p
 unary_read _ p whole = Some whole
 
+-- a + b, a - b and a * b by the linear forms of their sides; every other operator on two terms makes an atom
 abbrev pub binary_read : BinOp → Option ℤ → Option ℤ → Option Inequality → Option Inequality → Inequality → Option Inequality
 binary_read Add m n p q whole = sum_read p q
 binary_read Sub m n p q whole = difference_read p q

@@ -4,6 +4,7 @@ use base.Stored.{Gv, gnil, gnum, gcons}
 use Rattle.bk_form.specs.Formula.{Formula}
 use Rattle.bk_form.specs.FormulaCodes.{formula_code}
 
+-- whether two codes are the same tree
 abbrev pub same_code : Gv → Gv → Bool
 same_code gnil gnil = true
 same_code (gnum m) (gnum n) = nat_eq m n

@@ -24,7 +24,8 @@ pub enum Stated<'a> {
 
 /// What a hypothesis states; None where it is no comparison that is read.
 pub fn hypothesis(form: &Form) -> Option<Stated<'_>>
-    ensures { MatchOption result (terms_of_hypothesis form.now ≡ None) (λ s. terms_of_hypothesis form.now ≡ Some (terms_in s)) }
+    ensures { MatchOption result (terms_of_hypothesis form.now ≡ None)
+        (λ s. terms_of_hypothesis form.now ≡ Some (terms_in s)) }
 {
     match form.view() {
         View::Bin(op, left, right) => comparison(op, left, right),
@@ -44,7 +45,8 @@ pub fn negated_goal(form: &Form) -> Option<Stated<'_>>
 }
 
 fn comparison<'a>(op: BinOp, left: &'a Form, right: &'a Form) -> Option<Stated<'a>>
-    ensures { MatchOption result (terms_of_comparison op left.now right.now ≡ None) (λ s. terms_of_comparison op left.now right.now ≡ Some (terms_in s)) }
+    ensures { MatchOption result (terms_of_comparison op left.now right.now ≡ None)
+        (λ s. terms_of_comparison op left.now right.now ≡ Some (terms_in s)) }
 {
     match op {
         BinOp::Le => Some(Stated::One(at_most(left, right))),
@@ -56,7 +58,8 @@ fn comparison<'a>(op: BinOp, left: &'a Form, right: &'a Form) -> Option<Stated<'
 }
 
 fn member<'a>(element: &'a Form, domain: &'a Form) -> Option<Stated<'a>>
-    ensures { MatchOption result (terms_of_member element.now domain.now ≡ None) (λ s. terms_of_member element.now domain.now ≡ Some (terms_in s)) }
+    ensures { MatchOption result (terms_of_member element.now domain.now ≡ None)
+        (λ s. terms_of_member element.now domain.now ≡ Some (terms_in s)) }
 {
     match domain.view() {
         View::Name(Domain::Natural) => Some(Stated::One(number(element, false))),

@@ -44,7 +44,8 @@ fn stated_terms<'a>(
 ) -> Result<Vec<Term<'a>>, ArithFault>
     ensures terms { IfOk result (λ ts. map term_of ts.items ≡ terms_of hyps.now goal.now) }
     ensures all { OnOk result (first_unread hyps.now goal.now ≡ None) }
-    ensures fault { IfErr result (λ e. (e ≡ ArithFault.Memory) ⊎ (option_map ArithFault.NotLinear (first_unread hyps.now goal.now) ≡ Some e)) }
+    ensures fault { IfErr result
+        (λ e. (e ≡ ArithFault.Memory) ⊎ (option_map ArithFault.NotLinear (first_unread hyps.now goal.now) ≡ Some e)) }
 {
     let mut terms = Vec::new(alloc);
     for (index, hyp) in hyps.iter().enumerate() {
@@ -73,7 +74,8 @@ fn push_stated<'a>(terms: &mut Vec<Term<'a>>, stated: Stated<'a>) -> Result<(), 
 // Whether the certificate shows that the facts contradict each other.
 fn check_terms(alloc: Global, terms: &[Term<'_>], cert: &[Line]) -> Result<(), ArithFault>
     ensures accepted { OnOk result (fault_of_terms (map term_of terms.now) cert.now ≡ None) }
-    ensures fault { IfErr result (λ e. (e ≡ ArithFault.Memory) ⊎ (fault_of_terms (map term_of terms.now) cert.now ≡ Some e)) }
+    ensures fault { IfErr result
+        (λ e. (e ≡ ArithFault.Memory) ⊎ (fault_of_terms (map term_of terms.now) cert.now ≡ Some e)) }
 {
     let atoms = atoms_of(alloc, terms)?;
     let facts = read_all(alloc, terms, &atoms)?;
@@ -81,9 +83,12 @@ fn check_terms(alloc: Global, terms: &[Term<'_>], cert: &[Line]) -> Result<(), A
 }
 
 fn read_all(alloc: Global, terms: &[Term<'_>], atoms: &[Form]) -> Result<Vec<Fact>, ArithFault>
-    ensures facts { IfOk result (λ fs. inequalities fs.items ≡ some_prefix (map (reading atoms.now) (map term_of terms.now))) }
+    ensures facts { IfOk result
+        (λ fs. inequalities fs.items ≡ some_prefix (map (reading atoms.now) (map term_of terms.now))) }
     ensures all { OnOk result (list_any is_none (map (reading atoms.now) (map term_of terms.now)) ≡ false) }
-    ensures fault { IfErr result (λ e. (e ≡ ArithFault.Memory) ⊎ ((e ≡ ArithFault.TooWide) × (list_any is_none (map (reading atoms.now) (map term_of terms.now)) ≡ true))) }
+    ensures fault { IfErr result
+        (λ e. (e ≡ ArithFault.Memory) ⊎
+        ((e ≡ ArithFault.TooWide) × (list_any is_none (map (reading atoms.now) (map term_of terms.now)) ≡ true))) }
     ensures width { IfOk result (λ fs. All (λ f. length f.coefs.items ≡ length atoms.now) fs.items) }
 {
     let mut facts = Vec::new(alloc);
@@ -97,7 +102,9 @@ fn check_facts(alloc: Global, facts: &[Fact], width: usize, cert: &[Line]) -> Re
     requires one_width { All (λ f. length f.coefs.items ≡ width_of facts.now) facts.now }
     requires width { width ≡ width_of facts.now }
     ensures accepted { OnOk result (certificate_fault width (inequalities facts.now) cert.now ≡ None) }
-    ensures fault { IfErr result (λ e. (e ≡ ArithFault.Memory) ⊎ (option_map ArithFault.Cert (certificate_fault width (inequalities facts.now) cert.now) ≡ Some e)) }
+    ensures fault { IfErr result
+        (λ e. (e ≡ ArithFault.Memory) ⊎
+        (option_map ArithFault.Cert (certificate_fault width (inequalities facts.now) cert.now) ≡ Some e)) }
 {
     let size = width.checked_add(1).ok_or(ArithFault::Memory)?;
     let room = size.checked_mul(cert.len()).ok_or(ArithFault::Memory)?;

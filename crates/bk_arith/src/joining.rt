@@ -20,7 +20,8 @@ pub enum Join {
 /// The two joined; None where a number of the result does not fit.
 pub fn combine(join: Join, left: Fact, right: &Fact) -> Option<Fact>
     requires { length left.coefs.items ≡ length right.now.coefs.items }
-    ensures value { option_map inequality_of result ≡ if_narrow (joined join (inequality_of left) (inequality_of right.now)) }
+    ensures value { option_map inequality_of result ≡
+        if_narrow (joined join (inequality_of left) (inequality_of right.now)) }
     ensures width { IfSome result (λ f. length f.coefs.items ≡ length left.coefs.items) }
 {
     let Fact {

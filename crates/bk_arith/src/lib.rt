@@ -13,6 +13,3 @@ mod sum;
 pub use decision::linear;
 pub use error::ArithFault;
 pub use sum::closed;
-
-#[cfg(test)]
-mod tests;

@@ -16,7 +16,8 @@ use std::alloc::Global;
 
 /// The fact that the term is at least 0, over these atoms.
 pub fn read_term(alloc: Global, term: Term<'_>, atoms: &[Form]) -> Result<Fact, ArithFault>
-    ensures value { MatchResult result (λ f. reading atoms.now (term_of term.entry) ≡ Some (inequality_of f)) (λ e. IsReadFault (reading atoms.now (term_of term.entry)) e) }
+    ensures value { MatchResult result (λ f. reading atoms.now (term_of term.entry) ≡ Some (inequality_of f))
+        (λ e. IsReadFault (reading atoms.now (term_of term.entry)) e) }
     ensures width { IfOk result (λ f. length f.coefs.items ≡ length atoms.now) }
 {
     let difference = read_difference(alloc, term.upper, term.lower, atoms)?;
@@ -33,7 +34,8 @@ fn read_difference(
     lower: Option<&Form>,
     atoms: &[Form],
 ) -> Result<Fact, ArithFault>
-    ensures value { MatchResult result (λ f. reading atoms.now (less upper.now lower.entry) ≡ Some (inequality_of f)) (λ e. IsReadFault (reading atoms.now (less upper.now lower.entry)) e) }
+    ensures value { MatchResult result (λ f. reading atoms.now (less upper.now lower.entry) ≡ Some (inequality_of f))
+        (λ e. IsReadFault (reading atoms.now (less upper.now lower.entry)) e) }
     ensures width { IfOk result (λ f. length f.coefs.items ≡ length atoms.now) }
 {
     let upper = read(alloc, upper, atoms)?;
@@ -47,7 +49,8 @@ fn read_difference(
 }
 
 fn read(alloc: Global, form: &Form, atoms: &[Form]) -> Result<Fact, ArithFault>
-    ensures value { MatchResult result (λ f. reading atoms.now form.now ≡ Some (inequality_of f)) (λ e. IsReadFault (reading atoms.now form.now) e) }
+    ensures value { MatchResult result (λ f. reading atoms.now form.now ≡ Some (inequality_of f))
+        (λ e. IsReadFault (reading atoms.now form.now) e) }
     ensures width { IfOk result (λ f. length f.coefs.items ≡ length atoms.now) }
 {
     match form.view() {
@@ -82,7 +85,8 @@ fn read(alloc: Global, form: &Form, atoms: &[Form]) -> Result<Fact, ArithFault>
 }
 
 fn number(alloc: Global, value: i128, atoms: &[Form]) -> Result<Fact, ArithFault>
-    ensures value { MatchResult result (λ f. if_narrow (number_over atoms.now value) ≡ Some (inequality_of f)) (λ e. e ≡ ArithFault.Memory) }
+    ensures value { MatchResult result (λ f. if_narrow (number_over atoms.now value) ≡ Some (inequality_of f))
+        (λ e. e ≡ ArithFault.Memory) }
     ensures width { IfOk result (λ f. length f.coefs.items ≡ length atoms.now) }
 {
     Ok(Fact {
@@ -93,7 +97,8 @@ fn number(alloc: Global, value: i128, atoms: &[Form]) -> Result<Fact, ArithFault
 
 // One times the atom.
 fn atom(alloc: Global, form: &Form, atoms: &[Form]) -> Result<Fact, ArithFault>
-    ensures value { MatchResult result (λ f. inequality_of f ≡ atom_over atoms.now form.now) (λ e. e ≡ ArithFault.Memory) }
+    ensures value { MatchResult result (λ f. inequality_of f ≡ atom_over atoms.now form.now)
+        (λ e. e ≡ ArithFault.Memory) }
     ensures width { IfOk result (λ f. length f.coefs.items ≡ length atoms.now) }
 {
     let mut coefs = Vec::new(alloc);

@@ -15,6 +15,3 @@ pub use joining::{binary, bounded, unary};
 pub use law::{LawFault, LawInstance};
 pub use occurrence::free_in;
 pub use replacement::replace;
-
-#[cfg(test)]
-mod tests;

@@ -30,7 +30,8 @@ pub fn replace(alloc: Global, form: &Form, pairs: &[(u32, Form)]) -> Result<Form
 
 // The term of the first pair for the variable.
 pub(crate) fn find<'a>(pairs: &'a [(u32, Form)], number: u32) -> Option<&'a Form>
-    ensures { MatchOption result (looked_up pairs.now number ≡ variable number) (λ f. f.now ≡ looked_up pairs.now number) }
+    ensures { MatchOption result (looked_up pairs.now number ≡ variable number)
+        (λ f. f.now ≡ looked_up pairs.now number) }
 {
     for (variable, term) in pairs {
         if number == *variable {

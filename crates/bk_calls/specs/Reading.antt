@@ -28,6 +28,7 @@ abbrev pub front : List ℕ → List ℕ
 front [] = []
 front (b ∷ bs) = if is_plain b then b ∷ front bs else []
 
+-- what stands behind that front
 abbrev pub behind : List ℕ → List ℕ
 behind [] = []
 behind (b ∷ bs) = if is_plain b then behind bs else b ∷ bs
@@ -45,6 +46,7 @@ abbrev pub before_byte : ℕ → List ℕ → List ℕ
 before_byte c [] = []
 before_byte c (b ∷ bs) = if b == c then [] else b ∷ before_byte c bs
 
+-- what stands after the first such byte, if there is one
 abbrev pub after_byte : ℕ → List ℕ → Option (List ℕ)
 after_byte c [] = None
 after_byte c (b ∷ bs) = if b == c then Some bs else after_byte c bs
@@ -76,6 +78,7 @@ word_argument text =
     else if is_name text then Some (Element text)
     else None
 
+-- the number as an argument, or else what the text was found to be otherwise
 abbrev pub number_or : Option ℤ → Option Argument → Option Argument
 number_or (Some n) other = Some (Number n)
 number_or None other = other
@@ -94,6 +97,7 @@ in_front_of (Some x) (Some xs) = Some (x ∷ xs)
 in_front_of (Some x) None = None
 in_front_of None others = None
 
+-- the arguments that texts are, one each; none where one of the texts is no argument
 abbrev pub arguments_in : List (List ℕ) → Option (List Argument)
 arguments_in [] = Some []
 arguments_in (text ∷ texts) = in_front_of (argument_in text) (arguments_in texts)
@@ -123,11 +127,12 @@ kept_argument (Truth b) = Truth b
 kept_argument (Element name) = Element name
 
 -- ---- calls
--- what stands in parentheses, of which the second is the first that closes, and has only spaces behind it
+-- whether there is a closing parenthesis with only spaces behind it, by what stands behind the first one
 abbrev pub closing : Option (List ℕ) → Bool
 closing None = false
 closing (Some rest) = is_spaces rest
 
+-- what stands between the opening and the first closing parenthesis, or nothing where the line ends without them
 abbrev pub inside_of : List ℕ → Option (List ℕ)
 inside_of [] = Some []
 inside_of (b ∷ bs) = if (b == 40) && closing (after_byte 41 bs) then Some (before_byte 41 bs) else None
@@ -137,6 +142,7 @@ abbrev pub named_with : List ℕ → Option (List ℕ) → Option (List ℕ × L
 named_with name (Some inside) = if is_name name then Some (name, inside) else None
 named_with name None = None
 
+-- the name with which a line begins, and what stands in its parentheses
 abbrev pub call_parts : List ℕ → Option (List ℕ × List ℕ)
 call_parts line = named_with (front (skip_spaces line)) (inside_of (skip_spaces (behind (skip_spaces line))))
 
@@ -144,6 +150,7 @@ call_parts line = named_with (front (skip_spaces line)) (inside_of (skip_spaces 
 abbrev pub with_arguments : List ℕ × List ℕ → Option (List ℕ × List Argument)
 with_arguments parts = option_map (λ arguments. (parts.0, arguments)) (arguments_in (pieces (parts.1)))
 
+-- the name of the operation that a line calls, and the arguments it gives
 abbrev pub call_of : List ℕ → Option (List ℕ × List Argument)
 call_of line = option_and_then with_arguments (call_parts line)
 
@@ -152,6 +159,7 @@ call_of line = option_and_then with_arguments (call_parts line)
 abbrev pub named_op : Image → List ℕ → Option ℕ
 named_op image name = position (λ entry. bytes_eq entry.name name) image.ops
 
+-- the inputs of an operation, and none where there is no such operation
 abbrev pub inputs_of : Option OpEntry → List Parameter
 inputs_of None = []
 inputs_of (Some entry) = entry.inputs
@@ -163,17 +171,21 @@ values_of image [] (argument ∷ arguments) = None
 values_of image (input ∷ inputs) [] = None
 values_of image (input ∷ inputs) (argument ∷ arguments) = in_front_of (value_of image input.kind argument) (values_of image inputs arguments)
 
+-- a request with these numbers, where each lies in MININT .. MAXINT
 abbrev pub ranged : Image → ℕ → List ℤ → Result Request Cause
 ranged image op numbers = if list_all (is_within (int_max image)) numbers then Ok (record { op = op; args = numbers }) else Err OutOfRange
 
+-- the request, where each argument is a value of its input and there are as many
 abbrev pub from_values : Image → ℕ → Option (List ℤ) → Result Request Cause
 from_values image op (Some numbers) = ranged image op numbers
 from_values image op None = Err WrongArguments
 
+-- the request, where an operation has that name
 abbrev pub from_op : Image → List Argument → Option ℕ → Result Request Cause
 from_op image arguments (Some op) = from_values image op (values_of image (inputs_of (slice_get image.ops op)) arguments)
 from_op image arguments None = Err UnknownName
 
+-- the request, where the line is written as a call
 abbrev pub from_call : Image → Option (List ℕ × List Argument) → Result Request Cause
 from_call image (Some call) = from_op image call.1 (named_op image call.0)
 from_call image None = Err NoCall

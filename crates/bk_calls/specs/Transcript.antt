@@ -45,6 +45,7 @@ abbrev pub given_text : List (List ℕ) → List ℕ
 given_text [] = []
 given_text (value ∷ values) = codes " = " ++ join_by (λ text. text) (codes ", ") (value ∷ values)
 
+-- the word by which a transcript tells of a trap
 abbrev pub trap_text : Trap → List ℕ
 trap_text Overflow = codes "Overflow"
 trap_text DivZero = codes "DivZero"

@@ -13,7 +13,7 @@ use std::alloc::{AllocError, Global};
 use unicode_ident::{is_xid_continue, is_xid_start};
 
 /// What is written as an argument of a call. A number that has no 64 bits is the greatest or the least that is kept.
-#[derive(Clone, Copy, Debug)]
+#[derive(Clone, Copy)]
 pub enum Argument<'a> {
     Number(i64),
     Truth(bool),

@@ -16,8 +16,3 @@ pub use laws::{longest_lines_are_longest, scripts_are_read_one_way};
 pub use reply_line::ReplyLine;
 pub use script::{Call, CallsFault, calls};
 pub use transcript::{closing, reply, steps};
-
-#[cfg(test)]
-mod checker;
-#[cfg(test)]
-mod tests;

@@ -9,7 +9,7 @@ use std::marker::Model;
 
 /// A buffer for the lines of a session, one at a time, with memory for the longest line of one image, the last line of a
 /// session included. Only `new` takes memory.
-#[derive(Debug, Drop)]
+#[derive(Drop)]
 pub struct ReplyLine {
     bytes: Vec<u8>,
     room: usize,

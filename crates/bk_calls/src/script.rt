@@ -22,7 +22,7 @@ use thiserror::Error;
 const MOST_CALLS: usize = 1000000;
 
 /// A call that a script asks for: an operation by its number in the image, from 0, and the arguments.
-#[derive(Debug, Drop)]
+#[derive(Drop)]
 pub struct Call {
     pub op: u32,
     pub args: Sequence<i64>,
@@ -83,7 +83,8 @@ pub fn calls(alloc: Global, text: &[u8], image: &Image) -> Result<Vec<Call>, Cal
     ensures few { IfOk result (λ calls. length calls.items ≤ most_calls) }
     ensures script { (requests : List Request) → IsScript image.now text.now requests → length requests ≤ most_calls →
         IsOk result ⊎ (result ≡ Err CallsFault.Memory) }
-    ensures line { (number : ℕ) (cause : Cause) → result ≡ Err (fault_of cause number) → IsBadLine image.now text.now number cause }
+    ensures line { (number : ℕ) (cause : Cause) → result ≡ Err (fault_of cause number) →
+        IsBadLine image.now text.now number cause }
     ensures fault { (number : ℕ) (cause : Cause) → IsBadLine image.now text.now number cause →
         (result ≡ Err (fault_of cause number)) ⊎ (result ≡ Err CallsFault.Memory) }
     ensures limit { result ≡ Err CallsFault.Limit → PassesLimit image.now text.now }
@@ -95,7 +96,8 @@ pub fn calls(alloc: Global, text: &[u8], image: &Image) -> Result<Vec<Call>, Cal
 fn read_calls(alloc: Global, text: &[u8], image: &Image) -> Result<Vec<Call>, CallsFault>
     requires few_lines { length (lines text.now) < 2 ^ 32 }
     requires few_operations { length image.now.ops < 2 ^ 32 }
-    ensures ok { IfOk result (λ calls. reading.read_lines image.now 0 0 (lines text.now) ≡ Ok (map request_of calls.items)) }
+    ensures ok { IfOk result
+        (λ calls. reading.read_lines image.now 0 0 (lines text.now) ≡ Ok (map request_of calls.items)) }
     ensures err { IfErr result (IsFaultOf image.now text.now) }
 {
     let words = WordTable::new();

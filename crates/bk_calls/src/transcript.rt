@@ -85,9 +85,11 @@ pub(crate) fn separator(index: usize) -> &'static [u8]
 fn write_outputs(line: &mut ReplyLine, image: &Image, outputs: &[Parameter], values: &[i64])
     requires counted { length values.now ≡ length outputs.now }
     requires room { HasRoom line.old (longest_given image.now outputs.now) }
-    ensures bytes { line.new.bytes ≡ line.old.bytes ++ texts.given_text (texts.value_texts image.now outputs.now values.now) }
+    ensures bytes { line.new.bytes ≡
+        line.old.bytes ++ texts.given_text (texts.value_texts image.now outputs.now values.now) }
     ensures room { line.new.room ≡ line.old.room }
-    ensures short { length (texts.given_text (texts.value_texts image.now outputs.now values.now)) ≤ length (longest_given image.now outputs.now) }
+    ensures short { length (texts.given_text (texts.value_texts image.now outputs.now values.now)) ≤ length
+        (longest_given image.now outputs.now) }
 {
     for (i, output) in outputs.iter().enumerate() {
         line.write(separator(i));
@@ -143,8 +145,10 @@ fn trap_name(kind: Trap) -> &'static [u8]
 
 // What stands behind a name where the call traps.
 fn write_trap(line: &mut ReplyLine, kind: Trap, at: u32)
-    requires { HasRoom line.old (codes " trapped " ++ texts.trap_text kind ++ codes " at " ++ decimal at ++ codes "\n") }
-    ensures bytes { line.new.bytes ≡ line.old.bytes ++ (codes " trapped " ++ texts.trap_text kind ++ codes " at " ++ decimal at ++ codes "\n") }
+    requires { HasRoom line.old (codes " trapped " ++ texts.trap_text kind ++ codes " at " ++ decimal at
+        ++ codes "\n") }
+    ensures bytes { line.new.bytes ≡
+        line.old.bytes ++ (codes " trapped " ++ texts.trap_text kind ++ codes " at " ++ decimal at ++ codes "\n") }
     ensures room { line.new.room ≡ line.old.room }
 {
     line.write(b" trapped ");

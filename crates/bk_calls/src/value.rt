@@ -21,7 +21,8 @@ fn place_of(names: &[NameText], name: &[u8]) -> Option<usize>
 
 // The index of the first element of a set with a name.
 fn element(image: &Image, set: u32, name: &[u8]) -> Option<i64>
-    ensures { result ≡ option_map pos (position (λ other. bytes_eq other name.now) (slice_index_or image.now.sets set [])) }
+    ensures { result ≡ option_map pos (position
+        (λ other. bytes_eq other name.now) (slice_index_or image.now.sets set [])) }
 {
     let names = image.sets.as_slice().get(set as usize)?;
     let place = place_of(names.as_slice(), name)?;
@@ -47,7 +48,8 @@ pub fn values(
     inputs: &[Parameter],
     arguments: &[Argument<'_>],
 ) -> Result<Option<Vec<i64>>, AllocError>
-    ensures { IfOk result (λ found. option_map (λ values. values.items) found ≡ reading.values_of image.now inputs.now (map held arguments.now)) }
+    ensures { IfOk result (λ found. option_map (λ values. values.items) found ≡
+        reading.values_of image.now inputs.now (map held arguments.now)) }
 {
     if arguments.len() != inputs.len() {
         return Ok(None);

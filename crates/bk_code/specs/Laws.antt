@@ -122,5 +122,6 @@ LoadableIsChecked = (image : Image) → IsLoadable image → IsChecked image
 abbrev pub dead_store : Image
 dead_store = record { cells = 1; sets = []; ops = []; code = Ret ∷ Store 0 ∷ Ret ∷ [] }
 
+-- the loader refuses this image, although no run can come to that instruction
 abbrev pub RefusesDeadStore : Type 0
 RefusesDeadStore = IsLoadable dead_store → ⊥

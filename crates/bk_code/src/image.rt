@@ -37,7 +37,7 @@ pub struct Parameter {
 }
 
 /// An operation and the place where its code starts.
-#[derive(Debug, Drop)]
+#[derive(Drop)]
 pub struct OpEntry {
     pub name: NameText,
     pub start: u32,
@@ -46,7 +46,7 @@ pub struct OpEntry {
 }
 
 /// A program of the machine. The initialisation's code starts at place 0.
-#[derive(Debug, Drop)]
+#[derive(Drop)]
 pub struct Image {
     pub cells: u32,
     pub sets: ElemNames,

@@ -18,6 +18,3 @@ pub use laws::{
     pushes_store,
 };
 pub use list::Sequence;
-
-#[cfg(test)]
-mod tests;

@@ -21,6 +21,7 @@ abbrev pub TheseUndivided : List Token → List Token → Type 0
 TheseUndivided wanted tokens = (tokens ≡ wanted) × IsUndivided wanted
 
 -- ---- the front, up to the name of the variable
+-- the front, with the kind and the names that it gives
 abbrev pub OpenedBy : Opening → List Token → Type 0
 OpenedBy o = Opened o.kind o.name o.refines
 
@@ -57,7 +58,7 @@ abbrev pub LaidOut : Parts → List Token → Type 0
 LaidOut p = Invariant (p.variable, p.invariant) ⌢ Initialisation p.variable p.start ⌢ OperationsClause p.operations
 
 -- ---- what they mean
--- 1 to 100 operations with different names
+-- at most 100 operations, with different names
 pub record HasNames (c : Component) : Type 0 where
   pub few : length c.headers ≤ 100
   pub distinct : AllPairs (λ a b. a ≢ b) (map (λ h. h.name) c.headers)
@@ -89,5 +90,6 @@ pub record IsWithinLimits (tokens : List Token) (c : Component) : Type 0 where
   pub short : length tokens ≤ 10000
   pub shallow : IsShallow tokens
 
+-- the tokens are written as no component that keeps the limits
 abbrev pub IsBeyondLimits : List Token → Type 0
 IsBeyondLimits tokens = (c : Component) → IsWithinLimits tokens c → ⊥

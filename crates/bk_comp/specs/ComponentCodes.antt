@@ -9,6 +9,7 @@ use Rattle.bk_dev.specs.declared.kind.Kind.{Kind}
 use Rattle.bk_comp.specs.Operations.{Header}
 use Rattle.bk_comp.specs.Components.{Component}
 
+-- a header is told by its name, its inputs and its outputs
 abbrev pub coded_header : Coded Header
 coded_header = code_by (List ℕ × (List (List ℕ) × List (List ℕ))) (coded× (coded_list coded_ℕ) (coded× (coded_list (coded_list coded_ℕ)) (coded_list (coded_list coded_ℕ)))) (λ h. (h.name, (h.inputs, h.outputs))) (λ p. record { name = p.0; inputs = p.1.0; outputs = p.1.1 }) (λ _. refl)
 

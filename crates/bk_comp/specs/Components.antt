@@ -20,13 +20,16 @@ use Rattle.bk_comp.specs.Operations.{Header, Places, BeginWithRanges, IsOperatio
 
 -- ---- places of the variables in the table: the machine's variable, each operation's inputs and its output in order, then the
 -- implementation's variable and its outputs
+-- the first place behind the inputs and the output of an operation, which take the places from n on
 abbrev pub place_behind : ℕ → Header → ℕ
 place_behind n h = n + length h.inputs + length h.outputs
 
+-- the first place behind several operations
 abbrev pub place_behind_all : ℕ → List Header → ℕ
 place_behind_all n [] = n
 place_behind_all n (h ∷ hs) = place_behind_all (place_behind n h) hs
 
+-- where the machine's operations have their variables, from place n on
 abbrev pub machine_places : ℕ → List Header → List Places
 machine_places n [] = []
 machine_places n (h ∷ hs) = record { inputs = n; outputs = n + length h.inputs } ∷ machine_places (place_behind n h) hs
@@ -41,6 +44,7 @@ abbrev pub variable_of : Kind → List Header → ℕ
 variable_of Machine hs = 0
 variable_of _ hs = place_behind_all 1 hs
 
+-- where the operations of a component of this kind have their variables
 abbrev pub places_of : Kind → List Header → List Places
 places_of Machine hs = machine_places 1 hs
 places_of _ hs = implementation_places 1 (suc (place_behind_all 1 hs)) hs
@@ -84,6 +88,7 @@ pub record IsInvariant (v : List ℕ) (x : ℕ) (f : Formula) (tokens : List Tok
 abbrev pub Start : ℤ → List Token → Type 0
 Start z tokens = Literal z 0 tokens × (number z ≡ Some (literal z))
 
+-- the tokens are those of the component, clause by clause
 abbrev pub Written : Component → List Token → Type 0
 Written c =
     Opened c.kind c.name c.refines ⌢ Just (Name c.variable) ⌢
@@ -120,6 +125,7 @@ abbrev pub IsTextOfNone : List ℕ → Type 0
 IsTextOfNone text = (c : Component) → IsTextOf text c → ⊥
 
 -- ---- a machine and its implementation
+-- the implementation refines the machine, with its variable and its headers, under another name
 pub record ArePair (machine implementation : Component) : Type 0 where
   pub top : machine.kind ≡ Machine
   pub below : implementation.kind ≡ Implementation
@@ -133,5 +139,6 @@ pub record ArePair (machine implementation : Component) : Type 0 where
 abbrev pub WrittenIsOne : Type 0
 WrittenIsOne = (tokens : List Token) (one other : Component) → Written one tokens → Written other tokens → one ≡ other
 
+-- a text is that of one component at most
 abbrev pub TextIsOne : Type 0
 TextIsOne = (text : List ℕ) (one other : Component) → IsTextOf text one → IsTextOf text other → one ≡ other

@@ -78,12 +78,13 @@ AreBodiesOver kind x [] [] [] = Unit {0}
 AreBodiesOver kind x (p ∷ ps) (h ∷ hs) (b ∷ bs) = IsBodyOver kind x p h b × AreBodiesOver kind x ps hs bs
 AreBodiesOver kind x _ _ _ = ⊥
 
--- a machine or an implementation whose invariant is a condition over its variable
+-- a machine or an implementation, and no refinement
 abbrev pub IsMachineOrImplementation : Kind → Type 0
 IsMachineOrImplementation Machine = Unit {0}
 IsMachineOrImplementation Implementation = Unit {0}
 IsMachineOrImplementation _ = ⊥
 
+-- a machine or an implementation whose invariant, first value and bodies are made so
 pub record IsMadeOfThese (c : Component) : Type 0 where
   pub kind : IsMachineOrImplementation c.kind
   pub invariant : IsConditionOver true (variable_of c.kind c.headers ∷ []) c.invariant

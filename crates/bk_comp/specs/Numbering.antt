@@ -19,6 +19,7 @@ abbrev pub places_at : Kind → (n m : ℕ) → Header → Places
 places_at Machine n m h = record { inputs = n; outputs = n + length h.inputs }
 places_at _ n m h = record { inputs = n; outputs = m }
 
+-- the places of several operations, one after another
 abbrev pub places_from : Kind → (n m : ℕ) → List Header → List Places
 places_from kind n m [] = []
 places_from kind n m (h ∷ hs) = places_at kind n m h ∷ places_from kind (place_behind n h) (m + length h.outputs) hs
@@ -32,7 +33,7 @@ variable_number _ behind = behind
 abbrev pub DoneBy : Kind → Sight → List ℕ → Formula × Substitution → List Token → Type 0
 DoneBy kind sight inputs p = Bodied kind sight inputs (record { condition = p.0; sub = p.1; outputs = [] })
 
--- whether an operation with these inputs has a precondition
+-- whether an operation with these inputs must have a precondition: in a machine, one with inputs
 abbrev pub needs_condition : Kind → List ℕ → Bool
 needs_condition Machine (x ∷ xs) = true
 needs_condition _ xs = false
@@ -47,6 +48,7 @@ pub record IsBodyOf (level : Level) (places : Places) (h : Header) (b : Body) (t
   pub outputs : b.outputs ≡ numbers_from places.outputs h.outputs
   pub assigned : All (λ r. among (written b.sub) r ≡ true) b.outputs
 
+-- a header and a body are written so at this level, with their variables' numbers from n and m on
 abbrev pub IsOperationAt : Level → (n m : ℕ) → Header × Body → List Token → Type 0
 IsOperationAt level n m p = IsOperation level.kind level.variable level.number (places_at level.kind n m p.0) p.0 p.1
 
@@ -54,6 +56,7 @@ IsOperationAt level n m p = IsOperation level.kind level.variable level.number (
 abbrev pub AreOperationsAt : Level → (n m : ℕ) → List Header → List Body → List Token → Type 0
 AreOperationsAt level n m hs bs = Operations level.kind level.variable level.number (places_from level.kind n m hs) hs bs
 
+-- the tokens are written as no operations with semicolons between
 abbrev pub AreNoOperations : Level → (n m : ℕ) → List Token → Type 0
 AreNoOperations level n m tokens = (hs : List Header) (bs : List Body) → AreOperationsAt level n m hs bs tokens → ⊥
 
@@ -61,6 +64,7 @@ AreNoOperations level n m tokens = (hs : List Header) (bs : List Body) → AreOp
 abbrev pub AreMoreOperationsAt : Level → (n m : ℕ) → List Header → List Body → List Token → Type 0
 AreMoreOperationsAt level n m hs bs = MoreOperations level.kind level.variable level.number (places_from level.kind n m hs) hs bs
 
+-- the tokens are written as no operations behind a semicolon each
 abbrev pub AreNoMoreOperations : Level → (n m : ℕ) → List Token → Type 0
 AreNoMoreOperations level n m tokens = (hs : List Header) (bs : List Body) → AreMoreOperationsAt level n m hs bs tokens → ⊥
 

@@ -55,9 +55,11 @@ Parameters (x ∷ xs) = InParentheses (Listed (x ∷ xs))
 abbrev pub ParametersBefore : List (List ℕ) → List Token → Type 0
 ParametersBefore xs = Parameters xs ⌢ JustSign EQUAL
 
+-- r <-- name(x, y), without r where there is no output, and without parentheses where there are no inputs
 abbrev pub Headed : Header → List Token → Type 0
 Headed h = Results h.outputs ⌢ Just (Name h.name) ⌢ Parameters h.inputs
 
+-- the same, with an equality sign behind it
 abbrev pub HeadedBefore : Header → List Token → Type 0
 HeadedBefore h = Headed h ⌢ JustSign EQUAL
 
@@ -71,6 +73,7 @@ pub record IsHeader (v : List ℕ) (h : Header) : Type 0 where
   pub distinct : AllPairs (λ a b. a ≢ b) (v ∷ h.outputs ++ h.inputs)
 
 -- ---- numbers of variables
+-- the numbers of these variables, from n on
 abbrev pub numbers_from : ℕ → List (List ℕ) → List ℕ
 numbers_from n [] = []
 numbers_from n (x ∷ xs) = n ∷ numbers_from (suc n) xs

@@ -34,6 +34,7 @@ Absent tokens = tokens ≡ []
 abbrev pub Otherwise : Substitution → (List Token → Type 0) → List Token → Type 0
 Otherwise t Statement tokens = ((t ≡ skip) × Absent tokens) ⊎ (Just (Word ELSE) ⌢ Statement) tokens
 
+-- the tokens of a statement: skip, x := a, or IF p THEN s ELSE t END
 abbrev pub Stated : Sight → Substitution → List Token → Type 0
 Stated sight skip = Just (Word SKIP)
 Stated sight (assign (p ∷ [])) = Target sight.targets p.0 ⌢ JustSign ASSIGN ⌢ Term sight.names p.1

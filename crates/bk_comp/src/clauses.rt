@@ -31,7 +31,13 @@ pub struct Clauses<'a> {
 
 /// The clauses that all of the tokens are, from the variable's name on.
 pub(crate) fn laid_out(tokens: &[Token]) -> Option<Clauses<'_>>
-    ensures { MatchOption result (IsFound LaidOut tokens.now None) (λ c. IsFound LaidOut tokens.now (Some (record { variable = c.variable.now; invariant = c.invariant.now; start = c.start.now; operations = c.operations.now }))) }
+    ensures { MatchOption result (IsFound LaidOut tokens.now None)
+        (λ c. IsFound LaidOut tokens.now (Some (record {
+          variable = c.variable.now;
+          invariant = c.invariant.now;
+          start = c.start.now;
+          operations = c.operations.now;
+        }))) }
 {
     let Some((variable, invariant, rest)) = invariant_clause(tokens) else {
         return None;
@@ -52,7 +58,8 @@ pub(crate) fn laid_out(tokens: &[Token]) -> Option<Clauses<'_>>
 
 // The variable, the tokens of the invariant, and the tokens behind it.
 fn invariant_clause(tokens: &[Token]) -> Option<(&Text, &[Token], &[Token])>
-    ensures { MatchOption result (HasNoFront Invariant tokens.now) (λ p. IsOnlyFront Invariant tokens.now (p.0.now, p.1.now) p.2.now) }
+    ensures { MatchOption result (HasNoFront Invariant tokens.now)
+        (λ p. IsOnlyFront Invariant tokens.now (p.0.now, p.1.now) p.2.now) }
 {
     let Some((variable, rest)) = name(tokens) else {
         return None;
@@ -69,7 +76,8 @@ fn initialisation_clause<'a>(
     variable: &Text,
     tokens: &'a [Token],
 ) -> Option<(&'a [Token], &'a [Token])>
-    ensures { MatchOption result (HasNoFront (Initialisation variable.now) tokens.now) (λ p. IsOnlyFront (Initialisation variable.now) tokens.now p.0.now p.1.now) }
+    ensures { MatchOption result (HasNoFront (Initialisation variable.now) tokens.now)
+        (λ p. IsOnlyFront (Initialisation variable.now) tokens.now p.0.now p.1.now) }
 {
     let Some(rest) = behind_word(tokens, word::INITIALISATION) else {
         return None;
@@ -88,7 +96,8 @@ fn initialisation_clause<'a>(
 
 // The tokens of the operations.
 fn operations_clause(tokens: &[Token]) -> Option<&[Token]>
-    ensures { MatchOption result (IsFound OperationsClause tokens.now None) (λ ops. IsFound OperationsClause tokens.now (Some ops.now)) }
+    ensures { MatchOption result (IsFound OperationsClause tokens.now None)
+        (λ ops. IsFound OperationsClause tokens.now (Some ops.now)) }
 {
     let Some(rest) = behind_word(tokens, word::OPERATIONS) else {
         return None;
@@ -148,7 +157,8 @@ fn opposite(value: i128) -> i128
 
 // The number up to MAXINT that all of the tokens are written as.
 fn number(tokens: &[Token]) -> Option<i128>
-    ensures { MatchOption result ((n : ℕ) → n ≤ 2147483647 → Digits n tokens.now → ⊥) (λ z. (n : ℕ) × (n ≤ 2147483647) × (z ≡ pos n) × Digits n tokens.now) }
+    ensures { MatchOption result ((n : ℕ) → n ≤ 2147483647 → Digits n tokens.now → ⊥)
+        (λ z. (n : ℕ) × (n ≤ 2147483647) × (z ≡ pos n) × Digits n tokens.now) }
 {
     let Some((first, rest)) = tokens.split_first() else {
         return None;
@@ -161,7 +171,8 @@ fn number(tokens: &[Token]) -> Option<i128>
 
 // The number up to MAXINT that a token is.
 fn number_of(kind: &TokenKind) -> Option<i128>
-    ensures { MatchOption result ((n : ℕ) → n ≤ 2147483647 → kind.now ≡ Number (pos n) → ⊥) (λ z. (n : ℕ) × (n ≤ 2147483647) × (z ≡ pos n) × (kind.now ≡ Number (pos n))) }
+    ensures { MatchOption result ((n : ℕ) → n ≤ 2147483647 → kind.now ≡ Number (pos n) → ⊥)
+        (λ z. (n : ℕ) × (n ≤ 2147483647) × (z ≡ pos n) × (kind.now ≡ Number (pos n))) }
 {
     match kind {
         TokenKind::Number(value) if 0 <= *value && *value <= 2147483647 => Some(*value),

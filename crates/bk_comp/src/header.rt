@@ -15,7 +15,8 @@ use std::alloc::Global;
 
 /// The name in front of the tokens, and the tokens behind it.
 pub(crate) fn name(tokens: &[Token]) -> Option<(&Text, &[Token])>
-    ensures { MatchOption result ((x : List ℕ) → (rest : List Token) → IsBehind (Name x) tokens.now rest → ⊥) (λ p. IsBehind (Name p.0.now) tokens.now p.1.now) }
+    ensures { MatchOption result ((x : List ℕ) → (rest : List Token) → IsBehind (Name x) tokens.now rest → ⊥)
+        (λ p. IsBehind (Name p.0.now) tokens.now p.1.now) }
 {
     let Some((first, rest)) = tokens.split_first() else {
         return None;
@@ -28,7 +29,8 @@ pub(crate) fn name(tokens: &[Token]) -> Option<(&Text, &[Token])>
 
 // Names with commas between, up to a closing parenthesis.
 fn listed(alloc: Global, tokens: &[Token]) -> Result<Option<(Vec<Text>, &[Token])>, Memory>
-    ensures { IfOk result (λ found. MatchOption found (StartsNot ListedInside tokens.now) (λ p. StartsOnly ListedInside tokens.now p.0.items p.1.now)) }
+    ensures { IfOk result (λ found. MatchOption found (StartsNot ListedInside tokens.now)
+        (λ p. StartsOnly ListedInside tokens.now p.0.items p.1.now)) }
 {
     let Some((first, mut rest)) = name(tokens) else {
         return Ok(None);
@@ -50,7 +52,8 @@ fn listed(alloc: Global, tokens: &[Token]) -> Result<Option<(Vec<Text>, &[Token]
 
 // The inputs in parentheses, if there are any, up to the equality sign.
 fn parameters(alloc: Global, tokens: &[Token]) -> Result<Option<(Vec<Text>, &[Token])>, Memory>
-    ensures { IfOk result (λ found. MatchOption found (StartsNot ParametersBefore tokens.now) (λ p. StartsOnly ParametersBefore tokens.now p.0.items p.1.now)) }
+    ensures { IfOk result (λ found. MatchOption found (StartsNot ParametersBefore tokens.now)
+        (λ p. StartsOnly ParametersBefore tokens.now p.0.items p.1.now)) }
 {
     let Some(inside) = behind_sign(tokens, sign::OPEN_PAREN) else {
         let Some(rest) = behind_sign(tokens, sign::EQUAL) else {
@@ -74,7 +77,8 @@ fn continued<'a>(
     name: &Text,
     tokens: &'a [Token],
 ) -> Result<Option<(Header, &'a [Token])>, Memory>
-    ensures { IfOk result (λ found. MatchOption found (StartsNot (Continued outputs.items name.now) tokens.now) (λ p. StartsOnly (Continued outputs.items name.now) tokens.now p.0 p.1.now)) }
+    ensures { IfOk result (λ found. MatchOption found (StartsNot (Continued outputs.items name.now) tokens.now)
+        (λ p. StartsOnly (Continued outputs.items name.now) tokens.now p.0 p.1.now)) }
 {
     let Some((inputs, rest)) = parameters(alloc, tokens)? else {
         return Ok(None);
@@ -90,7 +94,8 @@ fn continued<'a>(
 
 /// The header at the front of the tokens, up to the equality sign, and the tokens behind that.
 pub(crate) fn header(alloc: Global, tokens: &[Token]) -> Result<Option<(Header, &[Token])>, Memory>
-    ensures { IfOk result (λ found. MatchOption found (StartsNot HeadedBefore tokens.now) (λ p. StartsOnly HeadedBefore tokens.now p.0 p.1.now)) }
+    ensures { IfOk result (λ found. MatchOption found (StartsNot HeadedBefore tokens.now)
+        (λ p. StartsOnly HeadedBefore tokens.now p.0 p.1.now)) }
 {
     let Some((first, rest)) = name(tokens) else {
         return Ok(None);

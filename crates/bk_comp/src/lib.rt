@@ -24,6 +24,3 @@ mod whole;
 pub use pair::are_pair;
 pub use parts::{Component, Header};
 pub use text::component;
-
-#[cfg(test)]
-mod tests;

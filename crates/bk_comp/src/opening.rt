@@ -22,7 +22,8 @@ pub struct Opening {
 
 /// The front of a component up to its variable, and the tokens behind it.
 pub(crate) fn opened(alloc: Global, tokens: &[Token]) -> Result<Option<(Opening, &[Token])>, Memory>
-    ensures { IfOk result (λ found. MatchOption found (StartsNot OpenedBy tokens.now) (λ p. IsAtFront OpenedBy tokens.now p.0 p.1.now)) }
+    ensures { IfOk result (λ found. MatchOption found (StartsNot OpenedBy tokens.now)
+        (λ p. IsAtFront OpenedBy tokens.now p.0 p.1.now)) }
 {
     if let Some(rest) = behind_word(tokens, word::MACHINE) {
         return machine(alloc, rest);
@@ -35,7 +36,8 @@ pub(crate) fn opened(alloc: Global, tokens: &[Token]) -> Result<Option<(Opening,
 
 // What stands behind MACHINE.
 fn machine(alloc: Global, tokens: &[Token]) -> Result<Option<(Opening, &[Token])>, Memory>
-    ensures { IfOk result (λ found. MatchOption found (StartsNot NamedMachine tokens.now) (λ p. IsAtFront NamedMachine tokens.now p.0 p.1.now)) }
+    ensures { IfOk result (λ found. MatchOption found (StartsNot NamedMachine tokens.now)
+        (λ p. IsAtFront NamedMachine tokens.now p.0 p.1.now)) }
 {
     let Some((first, rest)) = name(tokens) else {
         return Ok(None);
@@ -54,7 +56,8 @@ fn machine(alloc: Global, tokens: &[Token]) -> Result<Option<(Opening, &[Token])
 
 // What stands behind IMPLEMENTATION.
 fn implementation(alloc: Global, tokens: &[Token]) -> Result<Option<(Opening, &[Token])>, Memory>
-    ensures { IfOk result (λ found. MatchOption found (StartsNot NamedImplementation tokens.now) (λ p. IsAtFront NamedImplementation tokens.now p.0 p.1.now)) }
+    ensures { IfOk result (λ found. MatchOption found (StartsNot NamedImplementation tokens.now)
+        (λ p. IsAtFront NamedImplementation tokens.now p.0 p.1.now)) }
 {
     let Some((first, rest)) = name(tokens) else {
         return Ok(None);

@@ -76,7 +76,8 @@ fn body_of(
     requires shallow { IsShallow tokens.now }
     requires inputs { inputs + length header.now.inputs ≤ 100000 }
     requires outputs { outputs + length header.now.outputs ≤ 100000 }
-    ensures { IfOk result (IsFound (IsBodyOf level.now (record { inputs = inputs; outputs = outputs }) header.now) tokens.now) }
+    ensures { IfOk result (IsFound (IsBodyOf level.now
+        (record { inputs = inputs; outputs = outputs }) header.now) tokens.now) }
 {
     let sight = sight_of(alloc, level, inputs, outputs, header)?;
     let inputs = numbers_from(alloc, inputs, &header.inputs)?;

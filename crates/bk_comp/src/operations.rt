@@ -65,7 +65,9 @@ pub(crate) fn place_behind_all(
     tokens: &[Token],
 ) -> Result<Option<u32>, Memory>
     requires room { before + length tokens.now ≤ 50000 }
-    ensures outline { IfOk result (λ found. MatchOption found (HasNoOutline most tokens.now) (λ behind. HasOutline most before behind tokens.now)) }
+    ensures outline { IfOk result
+        (λ found. MatchOption found (HasNoOutline most tokens.now)
+        (λ behind. HasOutline most before behind tokens.now)) }
     ensures room { IfOk result (λ found. IfSome found (λ behind. behind ≤ before + length tokens.now)) }
 {
     if most == 0 {
@@ -95,7 +97,8 @@ pub(crate) fn operations(
     requires shallow { IsShallow tokens.now }
     requires inputs { inputs + length tokens.now ≤ 50000 }
     requires outputs { outputs + length tokens.now ≤ 50000 }
-    ensures { IfOk result (λ found. MatchOption found (AreNoOperations level.now inputs outputs tokens.now) (λ p. AreOperationsAt level.now inputs outputs p.0.items p.1.items tokens.now)) }
+    ensures { IfOk result (λ found. MatchOption found (AreNoOperations level.now inputs outputs tokens.now)
+        (λ p. AreOperationsAt level.now inputs outputs p.0.items p.1.items tokens.now)) }
 {
     let (first, more) = up_to_semicolon(tokens);
     let Some((header, body)) = operation(alloc, level, inputs, outputs, first)? else {
@@ -125,7 +128,8 @@ fn more_operations(
     requires divided { BeginsWithSemicolon tokens.now }
     requires inputs { inputs + length tokens.now ≤ 50000 }
     requires outputs { outputs + length tokens.now ≤ 50000 }
-    ensures { IfOk result (λ found. MatchOption found (AreNoMoreOperations level.now inputs outputs tokens.now) (λ p. AreMoreOperationsAt level.now inputs outputs p.0.items p.1.items tokens.now)) }
+    ensures { IfOk result (λ found. MatchOption found (AreNoMoreOperations level.now inputs outputs tokens.now)
+        (λ p. AreMoreOperationsAt level.now inputs outputs p.0.items p.1.items tokens.now)) }
 {
     let Some(rest) = behind_sign(tokens, sign::SEMICOLON) else {
         return Ok(Some((Vec::new(alloc), Vec::new(alloc))));

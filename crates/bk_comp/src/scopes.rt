@@ -23,7 +23,9 @@ pub(crate) fn sight_of(
 ) -> Result<Sight, Memory>
     requires inputs { inputs + length header.now.inputs ≤ 100000 }
     requires outputs { outputs + length header.now.outputs ≤ 100000 }
-    ensures { IfOk result (λ s. s ≡ meant.sight_of level.now.kind level.now.variable level.now.number (record { inputs = inputs; outputs = outputs }) header.now) }
+    ensures { IfOk result (λ s. s ≡
+        meant.sight_of level.now.kind level.now.variable level.now.number
+        (record { inputs = inputs; outputs = outputs }) header.now) }
 {
     let mut names = variable_alone(alloc, level)?;
     add_names(alloc, &mut names, inputs, &header.inputs)?;

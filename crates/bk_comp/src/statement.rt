@@ -23,7 +23,8 @@ pub(crate) fn statement<'a>(
 ) -> Result<Option<(Sub, &'a [Token])>, Memory>
     requires short { length tokens.now ≤ 1000 }
     requires shallow { IsShallow tokens.now }
-    ensures { IfOk result (λ found. MatchOption found (HasNoFront (Stated sight.now) tokens.now) (λ p. IsOnlyFront (Stated sight.now) tokens.now p.0 p.1.now)) }
+    ensures { IfOk result (λ found. MatchOption found (HasNoFront (Stated sight.now) tokens.now)
+        (λ p. IsOnlyFront (Stated sight.now) tokens.now p.0 p.1.now)) }
 {
     if let Some(rest) = behind_word(tokens, word::SKIP) {
         return Ok(Some((Sub::skip(), rest)));
@@ -49,7 +50,8 @@ fn branches<'a>(
 ) -> Result<Option<(Sub, &'a [Token])>, Memory>
     requires short { length tokens.now ≤ 1000 }
     requires shallow { IsShallow tokens.now }
-    ensures { IfOk result (λ found. MatchOption found (HasNoFront (Branched sight.now) tokens.now) (λ p. IsOnlyFront (Branched sight.now) tokens.now p.0 p.1.now)) }
+    ensures { IfOk result (λ found. MatchOption found (HasNoFront (Branched sight.now) tokens.now)
+        (λ p. IsOnlyFront (Branched sight.now) tokens.now p.0 p.1.now)) }
 {
     let (test, rest) = piece(tokens);
     let Some(test) = whole_condition(alloc, sight.members, &sight.names, test)? else {
@@ -77,7 +79,8 @@ fn otherwise<'a>(
 ) -> Result<Option<(Sub, &'a [Token])>, Memory>
     requires short { length tokens.now ≤ 1000 }
     requires shallow { IsShallow tokens.now }
-    ensures { IfOk result (λ found. MatchOption found (HasNoFront (Rest sight.now) tokens.now) (λ p. IsOnlyFront (Rest sight.now) tokens.now p.0 p.1.now)) }
+    ensures { IfOk result (λ found. MatchOption found (HasNoFront (Rest sight.now) tokens.now)
+        (λ p. IsOnlyFront (Rest sight.now) tokens.now p.0 p.1.now)) }
 {
     let Some(rest) = behind_word(tokens, word::ELSE) else {
         let Some(rest) = behind_word(tokens, word::END) else {
@@ -103,7 +106,8 @@ fn assignment<'a>(
 ) -> Result<Option<(Sub, &'a [Token])>, Memory>
     requires short { length tokens.now ≤ 1000 }
     requires shallow { IsShallow tokens.now }
-    ensures { IfOk result (λ found. MatchOption found (HasNoFront (Assigned sight.now name.now) tokens.now) (λ p. IsOnlyFront (Assigned sight.now name.now) tokens.now p.0 p.1.now)) }
+    ensures { IfOk result (λ found. MatchOption found (HasNoFront (Assigned sight.now name.now) tokens.now)
+        (λ p. IsOnlyFront (Assigned sight.now name.now) tokens.now p.0 p.1.now)) }
 {
     let Some(target) = sight.targets.find(name.as_bytes()) else {
         return Ok(None);

@@ -86,7 +86,19 @@ fn made(alloc: Global, opening: Opening, clauses: &Clauses<'_>) -> Result<Option
     requires shallow_invariant { IsShallow clauses.now.invariant.now }
     requires undivided { IsUndivided clauses.now.invariant.now }
     requires shallow_operations { IsShallow clauses.now.operations.now }
-    ensures { IfOk result (λ found. MatchOption found ((c : Component) → IsMadeOf opening (record { variable = clauses.now.variable.now; invariant = clauses.now.invariant.now; start = clauses.now.start.now; operations = clauses.now.operations.now }) c → ⊥) (λ c. IsMadeOf opening (record { variable = clauses.now.variable.now; invariant = clauses.now.invariant.now; start = clauses.now.start.now; operations = clauses.now.operations.now }) c)) }
+    ensures { IfOk result (λ found. MatchOption found ((c : Component) →
+        IsMadeOf opening (record {
+          variable = clauses.now.variable.now;
+          invariant = clauses.now.invariant.now;
+          start = clauses.now.start.now;
+          operations = clauses.now.operations.now;
+        }) c → ⊥)
+        (λ c. IsMadeOf opening (record {
+          variable = clauses.now.variable.now;
+          invariant = clauses.now.invariant.now;
+          start = clauses.now.start.now;
+          operations = clauses.now.operations.now;
+        }) c)) }
 {
     let Some(behind) = place_behind_all(alloc, 100, 1, clauses.operations)? else {
         return Ok(None);

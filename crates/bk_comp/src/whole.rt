@@ -22,7 +22,8 @@ fn whole_term(alloc: Global, tokens: &[Token]) -> Result<Option<RawTerm>, Memory
     requires shallow { IsShallow tokens.now }
     requires undivided { IsUndivided tokens.now }
     ensures some { IfOk result (λ found. IfSome found (λ t. Spells t tokens.now)) }
-    ensures none { IfOk result (λ found. found ≡ None → (t : RawTree) → tree_height t ≤ 1000 → Spells t tokens.now → ⊥) }
+    ensures none { IfOk result
+        (λ found. found ≡ None → (t : RawTree) → tree_height t ≤ 1000 → Spells t tokens.now → ⊥) }
 {
     match term(alloc, tokens, 0) {
         Ok((tree, next)) => {

@@ -67,6 +67,7 @@ counter_with condition = record {
   values = [];
 }
 
+-- the counter whose setmax may always be called
 abbrev pub counter : Development
 counter = counter_with btrue
 
@@ -74,8 +75,10 @@ counter = counter_with btrue
 abbrev pub forbidden : Development
 forbidden = counter_with bfalse
 
+-- a call of setmax, which takes no arguments
 abbrev pub setmax : Call
 setmax = record { op = 1; args = [] }
 
+-- a call of get, which takes no arguments
 abbrev pub get : Call
 get = record { op = 2; args = [] }

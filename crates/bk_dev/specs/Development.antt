@@ -34,6 +34,7 @@ pub record Level : Type 0 where
   -- in the order of the headers
   pub bodies : List Body
 
+-- the components from the machine down, over one table of variables, with the sets, headers and constants they share
 pub record Development : Type 0 where
   pub table : Table
   -- where each variable of the table is at home
@@ -49,9 +50,11 @@ pub record Development : Type 0 where
 abbrev pub int_max : Development → ℤ
 int_max dev = pos 2147483647
 
+-- what stands for a body that is not there: skip, with no precondition
 abbrev pub blank_body : Body
 blank_body = record { condition = btrue; sub = skip; outputs = [] }
 
+-- what stands for a component that is not there: one that states nothing and does nothing
 abbrev pub blank_level : Level
 blank_level = record { name = []; kind = Refinement; vars = []; properties = btrue; invariant = btrue; links = []; assertions = []; init = skip; bodies = [] }
 
@@ -59,6 +62,7 @@ blank_level = record { name = []; kind = Refinement; vars = []; properties = btr
 abbrev pub level_at : Development → ℕ → Level
 level_at dev k = slice_index_or dev.levels k blank_level
 
+-- operation o of the component
 abbrev pub body_of : Level → ℕ → Body
 body_of l o = slice_index_or l.bodies o blank_body
 
@@ -66,6 +70,7 @@ body_of l o = slice_index_or l.bodies o blank_body
 abbrev pub body_at : Development → ℕ → ℕ → Body
 body_at dev k o = body_of (level_at dev k) o
 
+-- the input variables of operation o, which all levels share
 abbrev pub inputs_of : Development → ℕ → List ℕ
 inputs_of dev o = (slice_index_or dev.heads o (record { name = []; inputs = []; outputs = 0 })).inputs
 
@@ -84,6 +89,7 @@ is_implementation l = is_implementing l.kind
 abbrev pub is_complete : Development → Bool
 is_complete dev = is_implementation (level_at dev (last dev))
 
+-- whether it is btrue, which stands where no precondition is written
 abbrev pub is_btrue : Formula → Bool
 is_btrue btrue = true
 is_btrue _ = false

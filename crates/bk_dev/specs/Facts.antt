@@ -16,25 +16,31 @@ use Rattle.bk_dev.specs.declared.kind.Home.TheVariants.{Constant, Input, Variabl
 use Rattle.bk_dev.specs.Development.{Head, Body, Level, Development, int_max, level_at, last, is_complete}
 
 -- ---- homes
+-- the home of a constant
 abbrev pub is_constant : Option Home → Bool
 is_constant (Some Constant) = true
 is_constant _ = false
 
+-- the home of an operation's input
 abbrev pub is_input : Option Home → Bool
 is_input (Some Input) = true
 is_input _ = false
 
+-- the home of a variable that level k declares
 abbrev pub is_variable_of : ℕ → Option Home → Bool
 is_variable_of k (Some (Variable j)) = nat_eq j k
 is_variable_of k _ = false
 
+-- the home of an output, a local or a bound variable of level k
 abbrev pub is_inner_of : ℕ → Option Home → Bool
 is_inner_of k (Some (Inner j)) = nat_eq j k
 is_inner_of k _ = false
 
+-- where variable n of the table is at home
 abbrev pub home_of : Development → ℕ → Option Home
 home_of dev n = slice_get dev.homes n
 
+-- each of these variables passes the test
 abbrev pub AllAre : (ℕ → Bool) → List ℕ → Type 0
 AllAre p [] = Unit {0}
 AllAre p (n ∷ ns) = (p n ≡ true) × AllAre p ns
@@ -55,6 +61,7 @@ abbrev pub AssignsIn : (ℕ → Bool) → (ℕ → Bool) → List (ℕ × Formul
 AssignsIn visible writable [] = Unit {0}
 AssignsIn visible writable (p ∷ ps) = (writable p.0 ≡ true) × Names visible p.1 × (among (firsts ps) p.0 ≡ false) × AssignsIn visible writable ps
 
+-- the second of each pair: the numbers that stand for old values in x :(P)
 abbrev pub seconds : List (ℕ × ℕ) → List ℕ
 seconds [] = []
 seconds (p ∷ ps) = p.1 ∷ seconds ps
@@ -95,6 +102,7 @@ binders (loop p s i v) = binders s
 binders _ = []
 
 -- ---- which substitutions a component may have
+-- P ==> S: a binder over it is an ANY, and over anything else a VAR
 abbrev pub IsGuard : Substitution → Type 0
 IsGuard (guard p s) = Unit {0}
 IsGuard _ = ⊥
@@ -104,6 +112,7 @@ abbrev pub MaySequence : Kind → Type 0
 MaySequence Machine = ⊥
 MaySequence _ = Unit {0}
 
+-- a component of this kind may have a WHILE: an implementation alone
 abbrev pub MayLoop : Kind → Type 0
 MayLoop Implementation = Unit {0}
 MayLoop _ = ⊥
@@ -121,6 +130,7 @@ IsUnordered (assert p s) = IsUnordered s
 IsUnordered (loop p s i v) = ⊥
 IsUnordered _ = Unit {0}
 
+-- the parts of the substitution are such as a component of this kind may have
 abbrev pub MayStandIn : Kind → Substitution → Type 0
 MayStandIn kind (pre p s) = MayStandIn kind s
 MayStandIn kind (guard p s) = MayStandIn kind s
@@ -134,9 +144,11 @@ MayStandIn kind (loop p s i v) = MayLoop kind × MayStandIn kind s
 MayStandIn kind _ = Unit {0}
 
 -- ---- levels
+-- what the properties may name: constants
 abbrev pub names_constants : Development → ℕ → Bool
 names_constants dev n = is_constant (home_of dev n)
 
+-- the home of a variable of the level above level k; the machine has none above it
 abbrev pub is_variable_above : ℕ → Option Home → Bool
 is_variable_above (suc j) h = is_variable_of j h
 is_variable_above _ h = false
@@ -191,6 +203,7 @@ pub record IsLink (dev : Development) (k : ℕ) (p : ℕ × ℕ) : Type 0 where
   pub above : (j : ℕ) × (k ≡ suc j) × (is_variable_of j (home_of dev p.1) ≡ true)
   pub alike : AreAlike dev.table p.0 p.1
 
+-- each element of the list is as P says
 abbrev pub Each : {A : Type 0} → (A → Type 0) → List A → Type 0
 Each P [] = Unit {0}
 Each P (x ∷ xs) = P x × Each P xs
@@ -207,6 +220,7 @@ IsKindAt dev k Machine = k ≡ 0
 IsKindAt dev k Refinement = 0 < k
 IsKindAt dev k Implementation = (0 < k) × (k ≡ last dev)
 
+-- a component as it must be to stand at level k
 pub record IsLevelOf (dev : Development) (k : ℕ) (l : Level) : Type 0 where
   pub kind : IsKindAt dev k l.kind
   pub vars : AllAre (λ n. is_variable_of k (home_of dev n)) l.vars
@@ -221,6 +235,7 @@ pub record IsLevelOf (dev : Development) (k : ℕ) (l : Level) : Type 0 where
   pub init : IsSubOf dev k [] [] l.init
   pub bodies : EachBody dev k dev.heads (level_at dev 0).bodies l.bodies
 
+-- these components may stand one below the other, the first at level k
 abbrev pub EachLevel : Development → ℕ → List Level → Type 0
 EachLevel dev k [] = Unit {0}
 EachLevel dev k (l ∷ ls) = IsLevelOf dev k l × EachLevel dev (suc k) ls
@@ -256,6 +271,7 @@ all_binders dev = flat_map (λ l. binders l.init ++ flat_map (λ b. binders b.su
 abbrev pub all_outputs : Development → List ℕ
 all_outputs dev = flat_map (λ l. flat_map (λ b. b.outputs) l.bodies) dev.levels
 
+-- what every development that the program builds is: well typed, with each name visible where it is used
 pub record IsDevelopment (dev : Development) : Type 0 where
   pub some_level : 0 < length dev.levels
   pub table : IsWellFormed dev.table

@@ -11,9 +11,11 @@ abbrev pub copied_in_bodies : List Body → List ℕ
 copied_in_bodies [] = []
 copied_in_bodies (b ∷ bs) = copied b.sub ++ copied_in_bodies bs
 
+-- the variables that a component copies: those of its initialisation, and then those of its bodies
 abbrev pub copied_in_level : Level → List ℕ
 copied_in_level l = copied l.init ++ copied_in_bodies l.bodies
 
+-- those of components one after another
 abbrev pub copied_in_levels : List Level → List ℕ
 copied_in_levels [] = []
 copied_in_levels (l ∷ ls) = copied_in_level l ++ copied_in_levels ls
@@ -23,9 +25,11 @@ abbrev pub flat_bodies : ℕ → List Body → List Body
 flat_bodies k [] = []
 flat_bodies k (b ∷ bs) = record b { sub = flat_from k b.sub } ∷ flat_bodies (k + length (copied b.sub)) bs
 
+-- the component without ||
 abbrev pub flat_level : ℕ → Level → Level
 flat_level k l = record l { init = flat_from k l.init; bodies = flat_bodies (k + length (copied l.init)) l.bodies }
 
+-- components one after another without ||, each with its copies' numbers behind those before
 abbrev pub flat_levels : ℕ → List Level → List Level
 flat_levels k [] = []
 flat_levels k (l ∷ ls) = flat_level k l ∷ flat_levels (k + length (copied_in_level l)) ls

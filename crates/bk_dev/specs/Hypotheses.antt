@@ -45,6 +45,7 @@ joining l = conjuncts l.invariant ++ map link_equation l.links
 abbrev pub facts : Level → List Formula
 facts l = joining l ++ flat_map conjuncts l.assertions
 
+-- the invariants, links and assertions of the first levels, as many as n
 abbrev pub facts_of : Development → ℕ → List Formula
 facts_of dev n = flat_map facts (take n dev.levels)
 
@@ -56,6 +57,7 @@ joinings_of dev n = flat_map joining (take n dev.levels)
 abbrev pub conditions_of : Development → ℕ → ℕ → List Formula
 conditions_of dev n o = flat_map (λ l. conjuncts (body_of l o).condition) (take n dev.levels)
 
+-- whether it is the type of the whole numbers
 abbrev pub is_number : Option ValueType → Bool
 is_number (Some int_type) = true
 is_number _ = false

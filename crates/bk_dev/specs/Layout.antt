@@ -25,11 +25,13 @@ pub data Clue : Type 0 where
   equals : Clue
   silent : Clue
 
+-- what a conjunct x : D or x = E says of x; any other says nothing
 abbrev pub clue_of : ℕ → Formula → Clue
 clue_of x (binary In (variable y) d) = cond (nat_eq x y) (in_domain d) silent
 clue_of x (binary Eq (variable y) t) = cond (nat_eq x y) equals silent
 clue_of x p = silent
 
+-- the first clue, or where that is silent the second
 abbrev pub or_next : Clue → Clue → Clue
 or_next silent c = c
 or_next c _ = c
@@ -40,6 +42,7 @@ spoken_of (binary In (variable y) d) = y ∷ []
 spoken_of (binary Eq (variable y) t) = y ∷ []
 spoken_of p = []
 
+-- D of x : D, E of x = E
 abbrev pub right_side : Formula → Formula
 right_side (binary o a b) = b
 right_side p = p
@@ -78,15 +81,17 @@ abbrev pub typing_clue : Option ℕ → List Level → Clue
 typing_clue (Some x) (l ∷ above) = or_next (first_clue x (untyped l) (conjuncts l.invariant)) (typing_clue (linked_to x l.links) above)
 typing_clue _ _ = silent
 
+-- the number, where the term is a literal
 abbrev pub literal_of : Formula → Option ℤ
 literal_of (literal z) = Some z
 literal_of _ = None
 
--- a bound of an array: a literal, or an integer constant by its value
+-- the literal that VALUES gives to the constant, if any
 abbrev pub constant_bound : ℕ → List (ℕ × Formula) → Option ℤ
 constant_bound c [] = None
 constant_bound c (p ∷ ps) = cond (nat_eq c p.0) (literal_of p.1) (constant_bound c ps)
 
+-- a bound of an array's interval: a literal's number or a constant's value, and no other term
 abbrev pub bound_of : List (ℕ × Formula) → Formula → Option ℤ
 bound_of values (literal z) = Some z
 bound_of values (variable c) = constant_bound c values
@@ -97,12 +102,14 @@ abbrev pub interval_of : ℤ → Option ℤ → Option ℤ → Option ArrayDomai
 interval_of max (Some a) (Some b) = cond (int_le (pos 0 -ℤ max) a && int_le a b && int_le b max) (Some (Interval a b)) None
 interval_of max _ _ = None
 
+-- the index set of an array, where the arrow's source is an interval, BOOL or an enumerated set
 abbrev pub indices_of : ℤ → List (ℕ × Formula) → Formula → Option ArrayDomain
 indices_of max values (binary Range a b) = interval_of max (bound_of values a) (bound_of values b)
 indices_of max values (named Booleans) = Some OfBooleans
 indices_of max values (named (Enum n)) = Some (OfElements n)
 indices_of max values _ = None
 
+-- the type of a number, a truth value or an element: what one cell holds
 abbrev pub is_scalar : ValueType → Bool
 is_scalar (pair_type t u) = false
 is_scalar (set_type t) = false
@@ -113,6 +120,7 @@ abbrev pub has_scalars : Option ValueType → Bool
 has_scalars (Some (set_type (pair_type t u))) = is_scalar u
 has_scalars _ = false
 
+-- the array x with its index set, if it has one
 abbrev pub array_row : ℕ → Option ArrayDomain → Option ArrayRow
 array_row x (Some d) = Some (record { var = x; domain = d })
 array_row x None = None
@@ -122,6 +130,7 @@ abbrev pub row_by : Development → ℕ → Clue → Option ArrayRow
 row_by dev x (in_domain (binary TotalFunctions d e)) = cond (has_scalars (variable_type dev.table x)) (array_row x (indices_of (int_max dev) dev.values d)) None
 row_by dev x _ = None
 
+-- the levels from the last to the first, in front of those that are done
 abbrev pub reversed : List Level → List Level → List Level
 reversed [] done = done
 reversed (l ∷ ls) done = reversed ls (l ∷ done)
@@ -137,6 +146,7 @@ index_count table (Interval low high) = count_of ((high +ℤ pos 1) -ℤ low)
 index_count table OfBooleans = 2
 index_count table (OfElements n) = set_size table n
 
+-- one cell for each index of the row, and one where the variable has no row
 abbrev pub row_cells : Table → Option ArrayRow → ℕ
 row_cells table None = 1
 row_cells table (Some row) = index_count table row.domain
@@ -158,6 +168,7 @@ locals (assert p s) = locals s
 locals (loop p s i v) = locals s
 locals _ = []
 
+-- the variables of the operations in order: of each its inputs, its outputs and then its locals
 abbrev pub operation_variables : List Head → List Body → List ℕ
 operation_variables (h ∷ hs) (b ∷ bs) = h.inputs ++ b.outputs ++ locals b.sub ++ operation_variables hs bs
 operation_variables _ _ = []
@@ -171,9 +182,11 @@ abbrev pub cell_among : Development → ℕ → List ℕ → ℕ
 cell_among dev x [] = 0
 cell_among dev x (y ∷ ys) = cond (nat_eq x y) 0 (cells_of dev y + cell_among dev x ys)
 
+-- the number of a variable's first cell
 abbrev pub cell_of : Development → ℕ → ℕ
 cell_of dev x = cell_among dev x (cell_variables dev)
 
+-- how many cells these variables have together
 abbrev pub cells_in : Development → List ℕ → ℕ
 cells_in dev [] = 0
 cells_in dev (x ∷ xs) = cells_of dev x + cells_in dev xs

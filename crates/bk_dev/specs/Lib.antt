@@ -1,6 +1,7 @@
 pub mod Development
 pub mod DevelopmentCodes
 pub mod Flattened
+pub mod NoPar
 pub mod Hypotheses
 pub mod Layout
 pub mod Facts

@@ -48,6 +48,7 @@ Steps find dev c a us b = (e f : State) × Gives find dev c a e × Runs find dev
 abbrev pub After : Finder → Development → (Abstract → Type 0) → Call → List MathValue → Abstract → Type 0
 After find dev before c us b = (a : Abstract) × before a × Steps find dev c a us b
 
+-- the states in which steps through these calls with these outputs end that start in a state of before
 abbrev pub ReachFrom : Finder → Development → (Abstract → Type 0) → List Call → List (List MathValue) → Abstract → Type 0
 ReachFrom find dev before [] [] a = before a
 ReachFrom find dev before (c ∷ cs) (us ∷ more) a = ReachFrom find dev (After find dev before c us) cs more a
@@ -57,20 +58,24 @@ ReachFrom find dev before _ _ a = ⊥
 abbrev pub Reach : Finder → Development → List Call → List (List MathValue) → Abstract → Type 0
 Reach find dev cs us a = ReachFrom find dev (Opens find dev) cs us a
 
+-- as far as outputs are given, each call's precondition is true in every state that the calls before it reach from before
 abbrev pub LegalFrom : Finder → Development → (Abstract → Type 0) → List Call → List (List MathValue) → Type 0
 LegalFrom find dev before [] us = Unit {0}
 LegalFrom find dev before (c ∷ cs) [] = (a : Abstract) → before a → Pre find dev c a
 LegalFrom find dev before (c ∷ cs) (us ∷ more) = ((a : Abstract) → before a → Pre find dev c a) × LegalFrom find dev (After find dev before c us) cs more
 
--- each call's precondition is true in every state that the calls and outputs before it reach
+-- each call's precondition is true in every state that the calls before it reach with these outputs; calls behind the first without
+-- outputs are not asked
 abbrev pub Legal : Finder → Development → List Call → List (List MathValue) → Type 0
 Legal find dev cs us = LegalFrom find dev (Opens find dev) cs us
 
 -- ---- arguments
+-- a number lies in MININT .. MAXINT, and any other value passes
 abbrev pub is_in_int : Development → MathValue → Bool
 is_in_int dev (int z) = int_le (pos 0 -ℤ int_max dev) z && int_le z (int_max dev)
 is_in_int dev _ = true
 
+-- each of the arguments passes that
 abbrev pub are_in_int : Development → List MathValue → Bool
 are_in_int dev [] = true
 are_in_int dev (v ∷ vs) = is_in_int dev v && are_in_int dev vs
@@ -81,6 +86,7 @@ pub record IsCall (dev : Development) (c : Call) : Type 0 where
   pub types : are_values_for dev.table (inputs_of dev c.op) c.args ≡ true
   pub range : are_in_int dev c.args ≡ true
 
+-- each is a call of an operation of the development
 abbrev pub AreCalls : Development → List Call → Type 0
 AreCalls dev [] = Unit {0}
 AreCalls dev (c ∷ cs) = IsCall dev c × AreCalls dev cs

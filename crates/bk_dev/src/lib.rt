@@ -7,6 +7,3 @@ pub mod laws;
 
 pub use development::{Body, Development, EnumSet, Level, OpHead};
 pub use kind::{Home, Kind};
-
-#[cfg(test)]
-mod tests;

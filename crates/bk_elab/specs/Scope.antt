@@ -8,6 +8,7 @@ use Rattle.bk_form.specs.Formula.{Formula, variable}
 abbrev pub Scope : Type 0
 Scope = List (List ℕ × ℕ)
 
+-- the first, where there is one, and else the other
 abbrev pub or_else : {A : Type 0} → Option A → Option A → Option A
 or_else None other = other
 or_else (Some x) other = Some x

@@ -23,6 +23,7 @@ abbrev pub paired : BinOp → Option Formula → Option Formula → Option Formu
 paired o (Some a) (Some b) = Some (binary o a b)
 paired o _ _ = None
 
+-- not p, where p is given
 abbrev pub negated : Option Formula → Option Formula
 negated (Some a) = Some (unary Negation a)
 negated None = None
@@ -46,10 +47,12 @@ meaning AtLeast = Reversed Le
 meaning Member = Membership
 meaning _ = Nothing
 
+-- a + b and a - b; no other operator makes a term
 abbrev pub summed : Meaning → Option Formula → Option Formula → Option Formula
 summed (Sum o) a b = paired o a b
 summed _ a b = None
 
+-- the formula that a term means: a name in sight, a number, or a sum or a difference of terms
 abbrev pub expression : Scope → RawTree → Option Formula
 expression scope (raw at (raw_name x)) = named scope x
 expression scope (raw at (raw_level_name x n)) = named scope (level_name x n)
@@ -58,6 +61,7 @@ expression scope (raw at (raw_infix o a b)) = summed (meaning o) (expression sco
 expression scope _ = None
 
 -- ---- conditions
+-- an end of an interval, which is a number
 abbrev pub bound : RawTree → Option Formula
 bound (raw at (raw_number z)) = number z
 bound _ = None
@@ -81,6 +85,7 @@ conditioned members Difference p q a b d = negated (paired Eq a b)
 conditioned members Membership p q a b d = member members a d
 conditioned members _ p q a b d = None
 
+-- the formula that a condition means: not p, p & q, a comparison, or a membership where they are taken
 abbrev pub condition : Bool → Scope → RawTree → Option Formula
 condition members scope (raw at (raw_word Not p)) = negated (condition members scope p)
 condition members scope (raw at (raw_infix o a b)) = conditioned members (meaning o) (condition members scope a) (condition members scope b) (expression scope a) (expression scope b) (interval b)

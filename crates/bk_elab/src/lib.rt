@@ -8,6 +8,3 @@ pub mod term;
 pub use meaning::Meaning;
 pub use scope::Scope;
 pub use term::{condition, expression};
-
-#[cfg(test)]
-mod tests;

@@ -123,8 +123,12 @@ fn related(
     left: &RawTerm,
     right: &RawTerm,
 ) -> Result<Option<Form>, BindFault>
-    ensures value { IfOk result (λ f. f ≡ meant.conditioned members meaning None None (meant.expression scope.now left.now) (meant.expression scope.now right.now) (meant.interval right.now)) }
-    ensures too_large { result ≡ Err TooLarge → HasNoneWithin (meant.conditioned members meaning None None (meant.expression scope.now left.now) (meant.expression scope.now right.now) (meant.interval right.now)) }
+    ensures value { IfOk result
+        (λ f. f ≡ meant.conditioned members meaning None None (meant.expression scope.now left.now)
+        (meant.expression scope.now right.now) (meant.interval right.now)) }
+    ensures too_large { result ≡ Err TooLarge →
+        HasNoneWithin (meant.conditioned members meaning None None (meant.expression scope.now left.now)
+        (meant.expression scope.now right.now) (meant.interval right.now)) }
 {
     match meaning {
         Meaning::Comparison(op) => comparison(alloc, scope, op, left, right),
@@ -144,8 +148,10 @@ fn comparison(
     left: &RawTerm,
     right: &RawTerm,
 ) -> Result<Option<Form>, BindFault>
-    ensures value { IfOk result (λ f. f ≡ meant.paired op (meant.expression scope.now left.now) (meant.expression scope.now right.now)) }
-    ensures too_large { result ≡ Err TooLarge → HasNoneWithin (meant.paired op (meant.expression scope.now left.now) (meant.expression scope.now right.now)) }
+    ensures value { IfOk result
+        (λ f. f ≡ meant.paired op (meant.expression scope.now left.now) (meant.expression scope.now right.now)) }
+    ensures too_large { result ≡ Err TooLarge →
+        HasNoneWithin (meant.paired op (meant.expression scope.now left.now) (meant.expression scope.now right.now)) }
 {
     let Some(left) = expression(alloc, scope, left)? else {
         return Ok(None);
@@ -164,8 +170,12 @@ fn difference(
     left: &RawTerm,
     right: &RawTerm,
 ) -> Result<Option<Form>, BindFault>
-    ensures value { IfOk result (λ f. f ≡ meant.negated (meant.paired Eq (meant.expression scope.now left.now) (meant.expression scope.now right.now))) }
-    ensures too_large { result ≡ Err TooLarge → HasNoneWithin (meant.negated (meant.paired Eq (meant.expression scope.now left.now) (meant.expression scope.now right.now))) }
+    ensures value { IfOk result
+        (λ f. f ≡ meant.negated (meant.paired Eq (meant.expression scope.now left.now)
+        (meant.expression scope.now right.now))) }
+    ensures too_large { result ≡ Err TooLarge →
+        HasNoneWithin (meant.negated (meant.paired Eq (meant.expression scope.now left.now)
+        (meant.expression scope.now right.now))) }
 {
     let Some(equal) = comparison(alloc, scope, BinOp::Eq, left, right)? else {
         return Ok(None);
@@ -181,8 +191,10 @@ fn membership(
     element: &RawTerm,
     set: &RawTerm,
 ) -> Result<Option<Form>, BindFault>
-    ensures value { IfOk result (λ f. f ≡ meant.paired In (meant.expression scope.now element.now) (meant.interval set.now)) }
-    ensures too_large { result ≡ Err TooLarge → HasNoneWithin (meant.paired In (meant.expression scope.now element.now) (meant.interval set.now)) }
+    ensures value { IfOk result
+        (λ f. f ≡ meant.paired In (meant.expression scope.now element.now) (meant.interval set.now)) }
+    ensures too_large { result ≡ Err TooLarge →
+        HasNoneWithin (meant.paired In (meant.expression scope.now element.now) (meant.interval set.now)) }
 {
     let Some(element) = expression(alloc, scope, element)? else {
         return Ok(None);

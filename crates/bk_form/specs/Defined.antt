@@ -65,6 +65,7 @@ abbrev mutual
   Defined find e (lambda rs p v) = AreDefined find e rs × ((vs : List MathValue) → InRanges find e rs vs → Defined find (under e (range_types (meanings find e rs)) vs) p × (truth find (under e (range_types (meanings find e rs)) vs) p ≡ true → Defined find (under e (range_types (meanings find e rs)) vs) v))
   Defined find e _ = Unit {0}
 
+  -- and so in each of these formulas
   pub AreDefined : Finder → Environment → Formulas → Type 0
   AreDefined find e no_formulas = Unit {0}
   AreDefined find e (formula_and f fs) = Defined find e f × AreDefined find e fs

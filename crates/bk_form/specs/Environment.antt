@@ -13,6 +13,7 @@ State = ℕ → MathValue
 abbrev pub Binding : Type 0
 Binding = ValueType × MathValue
 
+-- what a formula is read in: a state over a table, and the values of the variables bound around it
 pub record Environment : Type 0 where
   -- the texts and types of the variables, and the enumerated sets
   pub table : Table
@@ -34,6 +35,7 @@ bindings (t ∷ ts) (v ∷ vs) = (t, v) ∷ bindings ts vs
 abbrev pub under : Environment → List ValueType → List MathValue → Environment
 under e ts vs = record e { bound = bind (bindings ts vs) e.bound }
 
+-- each bound variable has a value of its type
 abbrev pub all_typed : (ℕ → ℕ) → List Binding → Bool
 all_typed sizes [] = true
 all_typed sizes (b ∷ bs) = is_value_of sizes b.0 b.1 && all_typed sizes bs

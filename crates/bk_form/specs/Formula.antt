@@ -63,6 +63,7 @@ abbrev mutual
   formula_size (comprehension rs p) = formulas_size rs + formula_size p + 1
   formula_size (lambda rs p v) = formulas_size rs + formula_size p + formula_size v + 1
 
+  -- the nodes of all of them together
   pub formulas_size : Formulas → ℕ
   formulas_size no_formulas = 0
   formulas_size (formula_and a fs) = formula_size a + formulas_size fs
@@ -86,6 +87,7 @@ abbrev mutual
   formula_height (comprehension rs p) = max (formulas_height rs) (formula_height p) + 1
   formula_height (lambda rs p v) = max (formulas_height rs) (max (formula_height p) (formula_height v)) + 1
 
+  -- the highest of them counts, and none counts 0
   pub formulas_height : Formulas → ℕ
   formulas_height no_formulas = 0
   formulas_height (formula_and a fs) = max (formula_height a) (formulas_height fs)

@@ -48,6 +48,7 @@ bool_back-code true = refl
 bool_back-code false = refl
 
 abbrev mutual
+  -- each kind of formula begins with a number of its own, and its parts follow; btrue and bfalse are leaves
   pub formula_code : Formula → Gv
   formula_code (variable n) = gcons (gnum 0) (gnum n)
   formula_code (bound n) = gcons (gnum 1) (gnum n)
@@ -65,11 +66,13 @@ abbrev mutual
   formula_code (comprehension rs p) = gcons (gnum 11) (gcons (formulas_code rs) (formula_code p))
   formula_code (lambda rs p v) = gcons (gnum 12) (gcons (formulas_code rs) (gcons (formula_code p) (formula_code v)))
 
+  -- the codes of the formulas, one after another
   pub formulas_code : Formulas → Gv
   formulas_code no_formulas = gnil
   formulas_code (formula_and a fs) = gcons (formula_code a) (formulas_code fs)
 
 abbrev mutual
+  -- the formula that has this code; what it gives for other trees does not matter
   pub formula_back : Gv → Formula
   formula_back (gcons (gnum zero) (gnum n)) = variable n
   formula_back (gcons (gnum (suc zero)) (gnum n)) = bound n
@@ -87,11 +90,13 @@ abbrev mutual
   formula_back gnil = btrue
   formula_back _ = bfalse
 
+  -- the list of formulas that has this code
   pub formulas_back : Gv → Formulas
   formulas_back (gcons a b) = formula_and (formula_back a) (formulas_back b)
   formulas_back _ = no_formulas
 
 mutual
+  -- the code of a formula gives the formula back
   pub formula_back-code : (a : Formula) → formula_back (formula_code a) ≡ a
   formula_back-code (literal z) = λ i. literal (int_back-code z i)
   formula_back-code (truth_value b) = λ i. truth_value (bool_back-code b i)
@@ -105,9 +110,11 @@ mutual
   formula_back-code (lambda rs p v) = λ i. lambda (formulas_back-code rs i) (formula_back-code p i) (formula_back-code v i)
   formula_back-code _ = refl
 
+  -- the code of a list of formulas gives the list back
   pub formulas_back-code : (fs : Formulas) → formulas_back (formulas_code fs) ≡ fs
   formulas_back-code no_formulas = refl
   formulas_back-code (formula_and a fs) = λ i. formula_and (formula_back-code a i) (formulas_back-code fs i)
 
+-- a formula is told by its code
 abbrev pub coded_formula : Coded Formula
 coded_formula = record { code = formula_code; inj = λ a b e. sym (formula_back-code a) ∙ ap formula_back e ∙ formula_back-code b }

@@ -1,5 +1,5 @@
 -- Laws of the meaning of formulas, as statements. Each is the contract of a public function.
-use Rattle.std.specs.Prelude.{◌≡◌, ◌↔◌, ℕ, ℤ, pos, negsuc, int_le, Bool, true, false, ◌&&◌, List, [], ◌∷◌, map}
+use Rattle.std.specs.Prelude.{◌≡◌, ◌↔◌, ◌⊎◌, ℕ, ℤ, pos, negsuc, int_le, Bool, true, false, ◌&&◌, List, [], ◌∷◌, map}
 use Rattle.bk_val.specs.Value.{MathValue, int, bool, pair, set, none, more}
 use Rattle.bk_val.specs.ValueType.{ValueType, int_type, set_type, base_of, is_value_of, are_of_types}
 use Rattle.bk_val.specs.Sets.{has, second_of}
@@ -30,6 +30,10 @@ pub record IsIndependent : Type 0 where
   pub values : (f g : Finder) → IsSearch f → IsSearch g → (e : Environment) (p : Formula) → value f e p ≡ value g e p
   pub truths : (f g : Finder) → IsSearch f → IsSearch g → (e : Environment) (p : Formula) → truth f e p ≡ truth g e p
   pub domains : (f g : Finder) → IsSearch f → IsSearch g → (e : Environment) (v : MathValue) (p : Formula) → within f e v p ≡ within g e v p
+
+-- where each test on lists of values is passed by some list or by none, as in classical mathematics, there is a search
+abbrev pub SearchExists : Type 0
+SearchExists = ((test : List MathValue → Bool) → ((vs : List MathValue) × (test vs ≡ true)) ⊎ ((vs : List MathValue) → test vs ≡ false)) → (find : Finder) × IsSearch find
 
 -- the laws of classical logic
 pub record IsClassical : Type 0 where
@@ -80,16 +84,18 @@ OntoMeans = (find : Finder) → IsSearch find → (e : Environment) (a b : Formu
 abbrev pub NoTotalFunction : Type 0
 NoTotalFunction = (find : Finder) → IsSearch find → (e : Environment) (b : Formula) (f : MathValue) → within find e f (binary TotalFunctions (named Natural) b) ≡ false
 
--- the choices from some sets are the lists that take one element of each, in order
+-- the list takes one element of each of the sets, in order
 abbrev pub TakesOneOfEach : List MathValue → List MathValue → Type 0
 TakesOneOfEach [] [] = Unit {0}
 TakesOneOfEach (w ∷ ws) (v ∷ vs) = (has (elements w) v ≡ true) × TakesOneOfEach ws vs
 TakesOneOfEach _ _ = ⊥
 
+-- the choices from some sets are exactly the lists that take one element of each
 abbrev pub ChoicesAre : Type 0
 ChoicesAre = (ws vs : List MathValue) → IsChoice (choices ws) vs ↔ TakesOneOfEach ws vs
 
 -- ---- small cases, to be checked by hand
+-- a number, written down as a literal
 abbrev pub number : ℤ → Formula
 number z = literal z
 
@@ -105,6 +111,7 @@ from_to a b = binary Range (number a) (number b)
 abbrev pub two_pairs : Formula
 two_pairs = binary Union (single_pair (pos 1) (pos 2)) (single_pair (pos 3) (pos 2))
 
+-- the value of a |-> b
 abbrev pub int_pair : ℕ → ℕ → MathValue
 int_pair a b = pair (int (pos a)) (int (pos b))
 
@@ -112,15 +119,19 @@ int_pair a b = pair (int (pos a)) (int (pos b))
 abbrev pub one : MathValue → MathValue
 one v = set (more v none)
 
+-- the set of two values, of which the smaller is given first
 abbrev pub two : MathValue → MathValue → MathValue
 two v w = set (more v (more w none))
 
+-- the expression has this value in every environment, whatever finder is taken
 abbrev pub HasValue : Formula → MathValue → Type 0
 HasValue f v = (find : Finder) (e : Environment) → value find e f ≡ v
 
+-- the predicate has this truth in every environment, whatever finder is taken
 abbrev pub HasTruth : Formula → Bool → Type 0
 HasTruth f b = (find : Finder) (e : Environment) → truth find e f ≡ b
 
+-- small expressions and predicates, each with the value or the truth that one finds by hand
 pub record Examples : Type 0 where
   -- 0 .. -1 is empty
   pub empty_interval : HasValue (from_to (pos 0) (negsuc 0)) (set none)

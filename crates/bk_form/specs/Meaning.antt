@@ -20,9 +20,11 @@ pub record Meaning : Type 0 where
   pub truth : Bool
   pub contains : MathValue → Bool
 
+-- an expression that gives a value: no predicate, and what lies in it are the value's elements
 abbrev pub of_value : Role → MathValue → Meaning
 of_value r v = record { role = r; value = v; truth = false; contains = λ w. is_element w v }
 
+-- a predicate: it has a truth, the value FALSE stands in for its value, and nothing lies in it
 abbrev pub of_truth : Role → Bool → Meaning
 of_truth r b = record { role = r; value = bool false; truth = b; contains = λ w. false }
 
@@ -31,13 +33,16 @@ abbrev pub type_in : Role → ValueType
 type_in (gives t) = t
 type_in _ = bool_type
 
+-- a bound variable means the value that it is bound to; a loose number gives nothing, and counts as false
 abbrev pub bound_meaning : Table → Option Binding → Meaning
 bound_meaning table None = of_truth untyped false
 bound_meaning table (Some b) = of_value (bound_role table (Some b.0)) b.1
 
+-- INTEGER, NATURAL, NATURAL1, BOOL or an enumerated set: the values in it, and its own value where it is finite
 abbrev pub named_meaning : Table → Domain → Meaning
 named_meaning table d = record { role = named_role table d; value = named_value (set_size table) d; truth = false; contains = is_in_named (set_size table) d }
 
+-- an operator on one formula, by what that formula means
 abbrev pub unary_meaning : UnOp → Meaning → Meaning
 unary_meaning o a = record {
   role = unary_role o a.role;
@@ -46,7 +51,7 @@ unary_meaning o a = record {
   contains = is_in_unary o a.contains (unary_value o a.value a.truth);
 }
 
--- a function's base value is that of the type which the application gives
+-- what `a op b` means by what a and b mean; the base value of an application is that of the type which it gives
 abbrev pub binary_meaning : Finder → (ℕ → ℕ) → BinOp → Meaning → Meaning → Meaning
 binary_meaning find sizes o a b = record {
   role = binary_role o a.role b.role;
@@ -63,6 +68,7 @@ all_meaning find table ts body = of_truth (quantifier_role table ts (body []).ro
 abbrev pub some_meaning : Finder → Table → List ValueType → (List MathValue → Meaning) → Meaning
 some_meaning find table ts body = of_truth (quantifier_role table ts (body []).role) (not (no_choice find (λ vs. are_of_types (set_size table) ts vs && (body vs).truth)))
 
+-- what each of them stands for by its form
 abbrev pub roles_of : List Meaning → List Role
 roles_of ms = map (λ m. m.role) ms
 
@@ -74,13 +80,16 @@ range_types ms = element_types (roles_of ms)
 abbrev pub chosen : List Meaning → (List MathValue → Meaning) → List (List MathValue)
 chosen ranges body = filter (λ vs. (body vs).truth) (choices (map (λ m. m.value) ranges))
 
+-- {x | P}: the set of the tuples of elements of the ranges for which P is true
 abbrev pub comprehension_meaning : List Meaning → (List MathValue → Meaning) → Meaning
 comprehension_meaning ranges body = of_value (comprehension_role (roles_of ranges) (body []).role) (set_value (map tuple_of (chosen ranges body)))
 
+-- %x.(P | E): each tuple of elements of the ranges for which P is true, paired with the value that E has there
 abbrev pub lambda_meaning : List Meaning → (List MathValue → Meaning) → (List MathValue → Meaning) → Meaning
 lambda_meaning ranges body image = of_value (lambda_role (roles_of ranges) (body []).role (image []).role) (set_value (map (λ vs. pair (tuple_of vs) (image vs).value) (chosen ranges body)))
 
 abbrev mutual
+  -- what a formula means in an environment
   pub meaning : Finder → Environment → Formula → Meaning
   meaning find e (variable n) = of_value (given_by (variable_type e.table n)) (e.state n)
   meaning find e (bound n) = bound_meaning e.table (slice_get e.bound n)
@@ -98,6 +107,7 @@ abbrev mutual
   meaning find e (comprehension rs p) = comprehension_meaning (meanings find e rs) (λ vs. meaning find (under e (range_types (meanings find e rs)) vs) p)
   meaning find e (lambda rs p v) = lambda_meaning (meanings find e rs) (λ vs. meaning find (under e (range_types (meanings find e rs)) vs) p) (λ vs. meaning find (under e (range_types (meanings find e rs)) vs) v)
 
+  -- what each of them means
   pub meanings : Finder → Environment → Formulas → List Meaning
   meanings find e no_formulas = []
   meanings find e (formula_and f fs) = meaning find e f ∷ meanings find e fs

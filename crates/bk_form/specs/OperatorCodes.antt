@@ -29,9 +29,11 @@ unary_code Single = 10
 unary_code Pow = 11
 unary_code Pow1 = 12
 
+-- the operator at a place in that list
 abbrev pub unary_back : ℕ → UnOp
 unary_back n = get_or unary_operators n Not
 
+-- an operator's number gives the operator back
 pub unary_back-code : (o : UnOp) → unary_back (unary_code o) ≡ o
 unary_back-code Not = refl
 unary_back-code _ = refl
@@ -79,9 +81,11 @@ binary_code Image = 33
 binary_code Apply = 34
 binary_code Comp = 35
 
+-- the operator at a place in that list
 abbrev pub binary_back : ℕ → BinOp
 binary_back n = get_or binary_operators n And
 
+-- an operator's number gives the operator back
 pub binary_back-code : (o : BinOp) → binary_back (binary_code o) ≡ o
 binary_back-code And = refl
 binary_back-code _ = refl
@@ -94,12 +98,14 @@ domain_code Natural1 = gnum 1
 domain_code Bool = gcons gnil gnil
 domain_code (Enum n) = gcons gnil (gnum n)
 
+-- the named set that has this code
 abbrev pub domain_back : Gv → Domain
 domain_back gnil = Integer
 domain_back (gnum n) = get_or (Natural ∷ Natural1 ∷ []) n Natural
 domain_back (gcons a (gnum n)) = Enum n
 domain_back (gcons a _) = Bool
 
+-- the code of a named set gives the set back
 pub domain_back-code : (d : Domain) → domain_back (domain_code d) ≡ d
 domain_back-code Natural = refl
 domain_back-code _ = refl

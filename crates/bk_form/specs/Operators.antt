@@ -28,17 +28,21 @@ elements _ = []
 abbrev pub set_value : List MathValue → MathValue
 set_value vs = set (values_of (set_of vs))
 
+-- whether the first value is an element of the second; what is no set has no elements
 abbrev pub is_element : MathValue → MathValue → Bool
 is_element v w = has (elements w) v
 
+-- the first part of a pair, and else the value itself
 abbrev pub first_part : MathValue → MathValue
 first_part (pair v w) = v
 first_part v = v
 
+-- the pair with its parts exchanged, as it stands in the inverse relation
 abbrev pub swapped : MathValue → MathValue
 swapped (pair v w) = pair w v
 swapped v = v
 
+-- the number that a value is, and 0 where it is none
 abbrev pub number_in : MathValue → ℤ
 number_in (int z) = z
 number_in _ = pos 0
@@ -58,12 +62,15 @@ count_of (negsuc n) = 0
 abbrev pub interval : ℤ → ℤ → MathValue
 interval a b = set_value (numbers_from a (count_of ((b +ℤ pos 1) -ℤ a)))
 
+-- of two numbers the one that min keeps
 abbrev pub smaller : ℤ → ℤ → ℤ
 smaller a b = cond (int_lt b a) b a
 
+-- of two numbers the one that max keeps
 abbrev pub larger : ℤ → ℤ → ℤ
 larger a b = cond (int_lt a b) b a
 
+-- f carried through the numbers of a list from left to right, from z on
 abbrev pub fold_numbers : (ℤ → ℤ → ℤ) → ℤ → List MathValue → ℤ
 fold_numbers f z [] = z
 fold_numbers f z (v ∷ vs) = fold_numbers f (f z (number_in v)) vs
@@ -74,9 +81,11 @@ extreme f [] = pos 0
 extreme f (v ∷ vs) = fold_numbers f (number_in v) vs
 
 -- ---- relations
+-- the product of two sets: each element of the first with each of the second
 abbrev pub pairs_of : List MathValue → List MathValue → List MathValue
 pairs_of xs ys = flat_map (λ x. map (pair x) ys) xs
 
+-- whether the second value is a pair that begins with the first
 abbrev pub begins_with : MathValue → MathValue → Bool
 begins_with v p = is_equal v (first_part p)
 
@@ -93,6 +102,7 @@ abbrev pub is_injective : List MathValue → Bool
 is_injective r = list_all (λ p. list_all (λ q. not (is_equal (second_of p) (second_of q)) || is_equal p q) r) r
 
 -- ---- values of the operators
+-- an operator on a term of value v, or bool(P) for a predicate P of that truth; not P, POW and POW1 are no values and get {}
 abbrev pub unary_value : UnOp → MathValue → Bool → MathValue
 unary_value BoolOf v truth = bool truth
 unary_value Neg v truth = int (pos 0 -ℤ number_in v)
@@ -106,7 +116,7 @@ unary_value Inverse v truth = set_value (map swapped (elements v))
 unary_value Single v truth = set_value (v ∷ [])
 unary_value _ v truth = set none
 
--- base is the value of an application unless exactly one pair of the function begins with the argument
+-- the value of `v op w`; base is that of an application unless exactly one pair of the function begins with the argument
 abbrev pub binary_value : BinOp → MathValue → MathValue → MathValue → MathValue
 binary_value Union base v w = set_value (union_of (elements v) (elements w))
 binary_value Inter base v w = set_value (inter_of (elements v) (elements w))
@@ -131,9 +141,11 @@ binary_value Comp base v w = set_value (composed (elements v) (elements w))
 binary_value _ base v w = set none
 
 -- ---- truth of the operators
+-- P => Q: P is false or Q is true
 abbrev pub implies : Bool → Bool → Bool
 implies p q = not p || q
 
+-- the truth of not P; no other operator on one formula makes a predicate
 abbrev pub unary_truth : UnOp → Bool → Bool
 unary_truth Not p = not p
 unary_truth _ p = false
@@ -162,6 +174,7 @@ named_value sizes Booleans = set_value (bool false ∷ bool true ∷ [])
 named_value sizes (Enum n) = set_value (elements_from n 0 (sizes n))
 named_value sizes _ = set none
 
+-- whether the value is in INTEGER, NATURAL, NATURAL1, BOOL or the enumerated set, of so many elements
 abbrev pub is_in_named : (ℕ → ℕ) → Domain → MathValue → Bool
 is_in_named sizes Integer (int z) = true
 is_in_named sizes Natural (int z) = int_le (pos 0) z
@@ -175,6 +188,7 @@ abbrev pub is_subset : (MathValue → Bool) → MathValue → Bool
 is_subset in_a (set vs) = list_all in_a (list_of vs)
 is_subset in_a _ = false
 
+-- whether it is the set without elements; what is no set is not empty
 abbrev pub is_empty : MathValue → Bool
 is_empty (set none) = true
 is_empty _ = false
@@ -221,6 +235,7 @@ is_in_binary find sizes t u Bijections in_a in_b value v = is_partial_function i
 is_in_binary find sizes t u _ in_a in_b value v = is_element v value
 
 -- ---- binders
+-- the value with these joined on its right one by one, as x |-> y |-> z is (x |-> y) |-> z
 abbrev pub tuple_onto : MathValue → List MathValue → MathValue
 tuple_onto v [] = v
 tuple_onto v (w ∷ ws) = tuple_onto (pair v w) ws

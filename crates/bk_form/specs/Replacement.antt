@@ -32,6 +32,7 @@ abbrev mutual
   replaced by (comprehension rs p) = comprehension (all_replaced by rs) (replaced by p)
   replaced by (lambda rs p v) = lambda (all_replaced by rs) (replaced by p) (replaced by v)
 
+  -- and so in each of these formulas
   pub all_replaced : (ℕ → Formula) → Formulas → Formulas
   all_replaced by no_formulas = no_formulas
   all_replaced by (formula_and f fs) = formula_and (replaced by f) (all_replaced by fs)
@@ -48,6 +49,7 @@ abbrev mutual
   IsClosed n (lambda rs p v) = AreClosed n rs × IsClosed (count rs + n) p × IsClosed (count rs + n) v
   IsClosed n _ = Unit {0}
 
+  -- and so for each of these formulas
   pub AreClosed : ℕ → Formulas → Type 0
   AreClosed n no_formulas = Unit {0}
   AreClosed n (formula_and f fs) = IsClosed n f × AreClosed n fs
@@ -64,6 +66,7 @@ abbrev mutual
   occurs x (lambda rs p v) = any_occurs x rs || occurs x p || occurs x v
   occurs x _ = false
 
+  -- whether it stands in one of these formulas
   pub any_occurs : ℕ → Formulas → Bool
   any_occurs x no_formulas = false
   any_occurs x (formula_and f fs) = occurs x f || any_occurs x fs

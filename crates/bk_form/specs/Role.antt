@@ -32,14 +32,17 @@ if_holds true r = r
 if_holds false r = untyped
 
 -- ---- what an operand has to be: the rest of the rule takes its type
+-- the role r, where the operand is a predicate
 abbrev pub if_predicate : Role → Role → Role
 if_predicate r predicate = r
 if_predicate r _ = untyped
 
+-- the role r, where the operand is a whole number
 abbrev pub if_number : Role → Role → Role
 if_number r (gives int_type) = r
 if_number r _ = untyped
 
+-- the role by the operand's type, where the operand has a value
 abbrev pub if_value : (ValueType → Role) → Role → Role
 if_value f (gives t) = f t
 if_value f _ = untyped
@@ -66,6 +69,7 @@ product_role (gives (set_type t)) (gives (set_type u)) = gives (set_type (pair_t
 product_role a b = if_domain (λ t. if_domain (λ u. ranges_over (pair_type t u)) b) a
 
 -- ---- the rule of each operator
+-- what an operator on one formula stands for, by what that formula does
 abbrev pub unary_role : UnOp → Role → Role
 unary_role Not a = if_predicate predicate a
 unary_role BoolOf a = if_predicate (gives bool_type) a
@@ -117,18 +121,23 @@ range_part_role r a = if_relation (λ t u. if_set (λ v. if_holds (same_type v u
 abbrev pub override_role : Role → Role → Role
 override_role a b = if_relation (λ t u. if_relation (λ v w. if_holds (same_type t v && same_type u w) (gives (set_type (pair_type t u)))) b) a
 
+-- x |-> y, of two values
 abbrev pub pair_role : Role → Role → Role
 pair_role a b = if_value (λ t. if_value (λ u. gives (pair_type t u)) b) a
 
+-- r[a], of a relation and a set of its first parts: a set of its second parts
 abbrev pub image_role : Role → Role → Role
 image_role r a = if_relation (λ t u. if_set (λ v. if_holds (same_type v t) (gives (set_type u))) a) r
 
+-- f(x), of a relation and one of its first parts: one of its second parts
 abbrev pub application_role : Role → Role → Role
 application_role f a = if_relation (λ t u. if_value (λ v. if_holds (same_type v t) (gives u)) a) f
 
+-- (r ; s), where s takes up the type in which r ends
 abbrev pub composition_role : Role → Role → Role
 composition_role a b = if_relation (λ t u. if_relation (λ v w. if_holds (same_type u v) (gives (set_type (pair_type t w)))) b) a
 
+-- what an operator on two formulas stands for, by what the two do
 abbrev pub binary_role : BinOp → Role → Role → Role
 binary_role And a b = connective_role a b
 binary_role Or a b = connective_role a b
@@ -168,6 +177,7 @@ binary_role Apply a b = application_role a b
 binary_role Comp a b = composition_role a b
 
 -- ---- leaves
+-- a variable gives its type, and nothing where the table has no such variable
 abbrev pub given_by : Option ValueType → Role
 given_by None = untyped
 given_by (Some t) = gives t
@@ -177,10 +187,12 @@ abbrev pub bound_role : Table → Option ValueType → Role
 bound_role table None = untyped
 bound_role table (Some t) = if_holds (lists_type table t) (gives t)
 
+-- {} gives the type that it carries, where that is a type of sets over listed sets
 abbrev pub empty_role : Table → ValueType → Role
 empty_role table (set_type t) = if_holds (lists_type table t) (gives (set_type t))
 empty_role table _ = untyped
 
+-- an element gives its enumerated set, where the set has an element of that number
 abbrev pub element_role : Table → ℕ → ℕ → Role
 element_role table s i = if_holds (nat_lt i (set_size table s)) (gives (enum_type s))
 
@@ -191,6 +203,7 @@ named_role table (Enum n) = if_holds (lists_type table (enum_type n)) (gives (se
 named_role table _ = ranges_over int_type
 
 -- ---- binders
+-- the table lists each enumerated set in each of the types
 abbrev pub all_listed : Table → List ValueType → Bool
 all_listed table [] = true
 all_listed table (t ∷ ts) = lists_type table t && all_listed table ts
@@ -200,10 +213,12 @@ abbrev pub bind : {A : Type 0} → List A → List A → List A
 bind [] around = around
 bind (x ∷ xs) around = bind xs (x ∷ around)
 
+-- whether it is a set value, whose elements can be listed
 abbrev pub gives_set : Role → Bool
 gives_set (gives (set_type t)) = true
 gives_set _ = false
 
+-- whether each of them is a set value
 abbrev pub each_gives_set : List Role → Bool
 each_gives_set [] = true
 each_gives_set (r ∷ rs) = gives_set r && each_gives_set rs
@@ -213,6 +228,7 @@ abbrev pub are_ranges : List Role → Bool
 are_ranges [] = false
 are_ranges (r ∷ rs) = each_gives_set (r ∷ rs)
 
+-- the type of the elements of a set or domain; what is neither has BOOL in its place
 abbrev pub element_type : Role → ValueType
 element_type (gives (set_type t)) = t
 element_type (ranges_over t) = t
@@ -222,6 +238,7 @@ element_type _ = bool_type
 abbrev pub element_types : List Role → List ValueType
 element_types rs = map element_type rs
 
+-- the type with these joined on its right one by one, as that of x |-> y |-> z is (t * u) * v
 abbrev pub tuple_type_onto : ValueType → List ValueType → ValueType
 tuple_type_onto t [] = t
 tuple_type_onto t (u ∷ us) = tuple_type_onto (pair_type t u) us
@@ -231,12 +248,15 @@ abbrev pub tuple_type : List ValueType → ValueType
 tuple_type [] = bool_type
 tuple_type (t ∷ ts) = tuple_type_onto t ts
 
+-- !x.P and #x.P, with P a predicate and x of listed types
 abbrev pub quantifier_role : Table → List ValueType → Role → Role
 quantifier_role table ts body = if_holds (all_listed table ts) (if_predicate predicate body)
 
+-- {x | P}, with P a predicate: a set of tuples of elements of the ranges
 abbrev pub comprehension_role : List Role → Role → Role
 comprehension_role ranges body = if_holds (are_ranges ranges) (if_predicate (gives (set_type (tuple_type (element_types ranges)))) body)
 
+-- %x.(P | E), with P a predicate: a relation from tuples of elements of the ranges to the type of E
 abbrev pub lambda_role : List Role → Role → Role → Role
 lambda_role ranges body image = if_holds (are_ranges ranges) (if_predicate (if_value (λ u. gives (set_type (pair_type (tuple_type (element_types ranges)) u))) image) body)
 
@@ -259,6 +279,7 @@ abbrev mutual
   role table around (comprehension rs p) = comprehension_role (roles table around rs) (role table (bind (element_types (roles table around rs)) around) p)
   role table around (lambda rs p v) = lambda_role (roles table around rs) (role table (bind (element_types (roles table around rs)) around) p) (role table (bind (element_types (roles table around rs)) around) v)
 
+  -- the roles of several formulas, in order
   pub roles : Table → List ValueType → Formulas → List Role
   roles table around no_formulas = []
   roles table around (formula_and f fs) = role table around f ∷ roles table around fs

@@ -4,11 +4,14 @@ use Rattle.std.specs.Coded.{Coded, code_by, coded×, coded_ℕ, coded_list}
 use Rattle.bk_val.specs.ValueType.{ValueType, coded_type}
 use Rattle.bk_form.specs.Table.{SetEntry, VariableEntry, Table}
 
+-- an enumerated set is told by its name and its elements' names
 abbrev pub coded_set : Coded SetEntry
 coded_set = code_by (List ℕ × List (List ℕ)) (coded× (coded_list coded_ℕ) (coded_list (coded_list coded_ℕ))) (λ s. (s.name, s.elements)) (λ p. record { name = p.0; elements = p.1 }) (λ _. refl)
 
+-- a variable is told by its name and its type
 abbrev pub coded_variable : Coded VariableEntry
 coded_variable = code_by (List ℕ × ValueType) (coded× (coded_list coded_ℕ) coded_type) (λ v. (v.text, v.of_type)) (λ p. record { text = p.0; of_type = p.1 }) (λ _. refl)
 
+-- a table is told by its sets and its variables
 abbrev pub coded_table : Coded Table
 coded_table = code_by (List SetEntry × List VariableEntry) (coded× (coded_list coded_set) (coded_list coded_variable)) (λ t. (t.sets, t.variables)) (λ p. record { sets = p.0; variables = p.1 }) (λ _. refl)

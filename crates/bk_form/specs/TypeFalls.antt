@@ -7,6 +7,7 @@ use Rattle.bk_form.specs.declared.ty.TyNode.{TyNode}
 use Rattle.bk_form.specs.declared.ty.TyNode.TheVariants.{Pair}
 use Rattle.bk_form.specs.declared.ty.Ty.TheDeep.{deep-TyNode}
 
+-- each part of a type is smaller than the type, so that a recursion into the parts ends
 pub type_falls : (n : TyNode) → max (deep-TyNode n) 0 ≤ type_size (type_view n)
 type_falls (Pair a b) = omega arith
 type_falls _ = omega arith

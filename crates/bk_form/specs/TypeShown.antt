@@ -3,6 +3,7 @@ use Rattle.bk_val.specs.ValueType.{ValueType, int_type, bool_type, enum_type, pa
 use Rattle.bk_form.specs.declared.ty.TyView.{TyView}
 use Rattle.bk_form.specs.declared.ty.TyView.TheVariants.{Int, Bool, Enum, Pair, Set}
 
+-- the type that is seen as this
 abbrev pub shown_type : TyView → ValueType
 shown_type Int = int_type
 shown_type Bool = bool_type

@@ -3,6 +3,7 @@ use Rattle.bk_val.specs.ValueType.{ValueType, int_type, bool_type, enum_type, pa
 use Rattle.bk_form.specs.declared.ty.TyNode.{TyNode}
 use Rattle.bk_form.specs.declared.ty.TyNode.TheVariants.{Int, Bool, Enum, Pair, Set}
 
+-- the type that has this node at its top
 abbrev pub type_view : TyNode → ValueType
 type_view Int = int_type
 type_view Bool = bool_type

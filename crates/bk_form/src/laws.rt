@@ -1,6 +1,6 @@
 //! Laws of the meaning of formulas. Each is the contract of a function that does nothing.
 
-ghost use Rattle.bk_form.specs.Laws.{AllMeans, SomeMeans, IsIndependent, IsClassical, IsSoundTyping, ReplacementMeans, ComprehensionHas, LambdaHas, IntervalHas, TotalMeans, OntoMeans, NoTotalFunction, ChoicesAre, Examples, DefinedExamples};
+ghost use Rattle.bk_form.specs.Laws.{AllMeans, SomeMeans, IsIndependent, SearchExists, IsClassical, IsSoundTyping, ReplacementMeans, ComprehensionHas, LambdaHas, IntervalHas, TotalMeans, OntoMeans, NoTotalFunction, ChoicesAre, Examples, DefinedExamples};
 
 /// What the quantifiers say.
 pub fn quantifiers()
@@ -11,6 +11,11 @@ pub fn quantifiers()
 /// Two searches give every formula the same meaning.
 pub fn search_is_free()
     ensures { IsIndependent }
+{}
+
+/// There is a search, where each test is passed by some list of values or by none: no sentence about searches is empty.
+pub fn search_exists()
+    ensures { SearchExists }
 {}
 
 /// The laws of classical logic.

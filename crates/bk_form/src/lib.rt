@@ -15,6 +15,3 @@ pub use operator::{BinOp, Domain, UnOp};
 pub use table::VarTable;
 pub use token::{Token, TokenKind};
 pub use ty::{Ty, TyView};
-
-#[cfg(test)]
-mod tests;

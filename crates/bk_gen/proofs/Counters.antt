@@ -4,11 +4,7 @@ use Rattle.std.proofs.lemmas.Int.{ints}
 use Rattle.bk_val.specs.ValueType.{int_type}
 use Rattle.bk_dev.specs.Development.{level_at, last, int_max}
 use Rattle.bk_dev.specs.Counter.{counter_table, counter}
-use Rattle.bk_form.specs.Formula.{Formula, variable, literal, unary, binary}
-use Rattle.bk_form.specs.declared.operator.UnOp.TheVariants.{Not}
-use Rattle.bk_form.specs.declared.operator.BinOp.TheVariants.{And, Or, Eq as Equals, Lt as Below, Le as AtMost}
-use Rattle.bk_gen.specs.Simple.{IsSimpleCondition, IsSimpleStatement, EvaluatesShallow, IsSimple}
-use Rattle.bk_gen.specs.Plain.{value_size}
+use Rattle.bk_gen.specs.Simple.{IsSimpleStatement, EvaluatesShallow, IsSimple}
 use Rattle.bk_gen.specs.Laws.{adder}
 
 whole_numbers : All (λ v. v.of_type ≡ int_type) counter_table.variables
@@ -53,13 +49,3 @@ adder_bodies_shallow (suc k) d h = absurd (omega arith)
 
 pub adder_is_simple : IsSimple adder
 adder_is_simple = record { complete = refl; no_sets = refl; no_values = refl; whole_numbers = adder_numbers; init = number-within 0 (omega arith); bodies = adder_bodies; init_shallow = (omega arith, tt); bodies_shallow = adder_bodies_shallow }
-
--- not(n = 0) & (n <= 4 or k < n)
-abbrev both : Formula
-both = binary And (unary Not (binary Equals (variable 3) (literal (pos 0)))) (binary Or (binary AtMost (variable 3) (literal (pos 4))) (binary Below (variable 5) (variable 3)))
-
-pub both_is_simple : IsSimpleCondition (pos 2147483647) both
-both_is_simple = ((tt, number-within 0 (omega arith)), ((tt, number-within 4 (omega arith)), (tt, tt)))
-
-pub both_is_small : value_size both ≤ 1000
-both_is_small = omega arith

@@ -10,7 +10,8 @@ use Rattle.bk_dev.specs.Development.{Head, Body, Development, int_max, level_at,
 use Rattle.bk_dev.specs.Facts.{Each, EachBody, IsSubOf, IsDevelopment, HasItsValues, StaysIn, AssignsIn, Names, names_own, names_joined, writes_own, is_constant, is_variable_of, home_of}
 use Rattle.bk_gen.specs.Simple.{IsSimpleStatement, IsSimple}
 use Rattle.bk_gen.specs.Plain.{operation_cells}
-use Rattle.bk_gen.proofs.Plain.{last_cells, last_level}
+use Rattle.bk_dev.proofs.Levels.{last_level}
+use Rattle.bk_gen.proofs.Plain.{last_cells}
 use Rattle.bk_gen.proofs.Loadable.{NamesCells, SetsCells, HasCells, AreInside, HaveCells}
 
 one_of_two : (a b : Bool) (P : Type 0) → a || b ≡ true → (a ≡ true → P) → (b ≡ true → P) → P

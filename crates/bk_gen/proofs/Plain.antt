@@ -1,6 +1,6 @@
 -- A simple development is translated statement by statement, over cells of one variable each.
 use Rattle.std.proofs.Common.{◌≡◌, ◌⊎◌, ◌<◌, inl, inr, ℕ, zero, suc, ◌+◌, List, [], ◌∷◌, ◌++◌, map, length, Some, None, Option, refl, ◌∙◌, ap, subst, Bool, true, false, cond, arith, nat_eq, ℤ, pos, All, append_assoc}
-use Rattle.std.specs.Prelude.{find, slice_index_or, unwrap_or}
+use Rattle.std.specs.Prelude.{find, unwrap_or}
 use Rattle.std.specs.List.{filter_map, slice_get, cons_option}
 use Rattle.std.specs.Option.{option_map}
 use Rattle.std.proofs.lemmas.List.{append-nil, length-append}
@@ -17,9 +17,10 @@ use Rattle.bk_gsl.specs.Substitution.{Substitution, skip, assign, if_else}
 use Rattle.bk_gsl.specs.State.{declared_type}
 use Rattle.bk_gsl.proofs.States.{clash}
 use Rattle.bk_dev.specs.declared.kind.Home.{Home}
-use Rattle.bk_dev.specs.Development.{Head, Body, Level, Development, int_max, blank_level, level_at, last}
-use Rattle.bk_dev.specs.Facts.{is_input, is_inner_of, home_of, AllAre, Each, EachBody, EachLevel, IsHeadOf, IsBodyOf, IsLevelOf, IsDevelopment}
+use Rattle.bk_dev.specs.Development.{Head, Body, Development, int_max, level_at, last}
+use Rattle.bk_dev.specs.Facts.{is_input, is_inner_of, home_of, AllAre, Each, EachBody, IsHeadOf, IsBodyOf, IsDevelopment}
 use Rattle.bk_dev.specs.Layout.{Clue, in_domain, equals, silent, typing_clue, reversed, has_scalars, array_row, indices_of, row_by, arrays_of, row_cells, cells_of, locals, operation_variables, cell_variables, cell_among, cell_of, cells_in, cell_count}
+use Rattle.bk_dev.proofs.Levels.{last_level}
 use Rattle.bk_code.specs.declared.image.OpEntry.{OpEntry}
 use Rattle.bk_code.specs.declared.image.CellKind.TheVariants.{Integer}
 use Rattle.bk_code.specs.declared.instruction.Inst.{Inst}
@@ -27,31 +28,6 @@ use Rattle.bk_code.specs.declared.instruction.Inst.TheVariants.{Push, Load, Stor
 use Rattle.bk_gen.specs.Translation.{name_code, value_code, store_code, assign_code, statement_code, kind_of_type, parameter_of, operation_code, entries, operations_code, init_code, translation}
 use Rattle.bk_gen.specs.Simple.{IsSimpleTerm, IsSimpleCondition, IsSimpleAssignment, IsSimpleStatement, IsSimple}
 use Rattle.bk_gen.specs.Plain.{operation_cells, plain_cells, slot_of, term_code, condition_code, fork_code, setting_code, plain_code, block_code, blocks_code, value_size, setting_size, statement_size, block_size, blocks_size, plain_parameter, plain_entry, plain_entries, plain_image}
-
--- ---- the last level
-pub each_level : (dev : Development) (k : ℕ) (ls : List Level) (i : ℕ) → i < length ls → EachLevel dev k ls → IsLevelOf dev (k + i) (slice_index_or ls i blank_level)
-each_level dev k [] i h e = absurd (omega arith)
-each_level dev k (l ∷ ls) zero h e = let same : k ≡ k + 0 = omega arith in subst (λ m. IsLevelOf dev m l) same e.0
-each_level dev k (l ∷ ls) (suc i) h e =
-    let same : suc k + i ≡ k + suc i = omega arith in
-    subst (λ m. IsLevelOf dev m (slice_index_or ls i blank_level)) same (each_level dev (suc k) ls i (omega arith) e.1)
-
-pub last_level : (dev : Development) → IsDevelopment dev → IsLevelOf dev (last dev) (level_at dev (last dev))
-last_level dev f =
-    let some : 0 < length dev.levels = f.some_level in
-    let same : 0 + last dev ≡ last dev = omega arith in
-    subst (λ m. IsLevelOf dev m (level_at dev (last dev))) same (each_level dev 0 dev.levels (last dev) (omega arith) f.levels)
-
-pub paired : (dev : Development) (k : ℕ) (hs : List Head) (ms bs : List Body) → EachBody dev k hs ms bs → length hs ≡ length bs
-paired dev k [] [] [] e = refl
-paired dev k [] [] (b ∷ bs) e = absurd e
-paired dev k [] (m ∷ ms) bs e = absurd e
-paired dev k (h ∷ hs) [] bs e = absurd e
-paired dev k (h ∷ hs) (m ∷ ms) [] e = absurd e
-paired dev k (h ∷ hs) (m ∷ ms) (b ∷ bs) e = ap suc (paired dev k hs ms bs e.1)
-
-pub last_paired : (dev : Development) → IsDevelopment dev → length dev.heads ≡ length (level_at dev (last dev)).bodies
-last_paired dev f = paired dev (last dev) dev.heads (level_at dev 0).bodies (level_at dev (last dev)).bodies (last_level dev f).bodies
 
 -- ---- there are no arrays
 pub whole_or_none : (vs : List VariableEntry) (n : ℕ) → All (λ v. v.of_type ≡ int_type) vs → (option_map (λ v. v.of_type) (slice_get vs n) ≡ None) ⊎ (option_map (λ v. v.of_type) (slice_get vs n) ≡ Some int_type)

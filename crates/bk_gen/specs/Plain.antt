@@ -60,10 +60,12 @@ condition_code cells (binary o a b) = term_code cells a ++ term_code cells b ++ 
 condition_code cells f = []
 
 -- ---- statements
+-- x := a: a's number goes to the cell of x
 abbrev pub setting_code : List ℕ → List (ℕ × Formula) → List Inst
 setting_code cells (p ∷ []) = term_code cells p.1 ++ Store (slot_of cells p.0) ∷ []
 setting_code cells _ = []
 
+-- the code of a simple statement; skip has none
 abbrev pub plain_code : List ℕ → Substitution → List Inst
 plain_code cells (assign ps) = setting_code cells ps
 plain_code cells (if_else p s t) = condition_code cells p ++ fork_code (plain_code cells s) (plain_code cells t)
@@ -73,6 +75,7 @@ plain_code cells s = []
 abbrev pub block_code : List ℕ → Substitution → List Inst
 block_code cells s = plain_code cells s ++ Ret ∷ []
 
+-- the blocks of bodies, one behind the other
 abbrev pub blocks_code : List ℕ → List Body → List Inst
 blocks_code cells [] = []
 blocks_code cells (b ∷ bs) = block_code cells b.sub ++ blocks_code cells bs
@@ -90,34 +93,41 @@ value_size (unary o a) = value_size a + 1
 value_size (binary o a b) = value_size a + value_size b + operator_size o
 value_size f = 1
 
--- and that of a statement
+-- and that of an assignment to one variable
 abbrev pub setting_size : List (ℕ × Formula) → ℕ
 setting_size (p ∷ []) = value_size p.1 + 1
 setting_size _ = 0
 
+-- how many the code of any simple statement has
 abbrev pub statement_size : Substitution → ℕ
 statement_size (assign ps) = setting_size ps
 statement_size (if_else p s t) = value_size p + statement_size s + statement_size t + 2
 statement_size s = 0
 
+-- how many a block has, with its Ret
 abbrev pub block_size : Substitution → ℕ
 block_size s = statement_size s + 1
 
+-- how many the blocks of bodies have together
 abbrev pub blocks_size : List Body → ℕ
 blocks_size [] = 0
 blocks_size (b ∷ bs) = block_size b.sub + blocks_size bs
 
 -- ---- the image
+-- an input or an output, which is a whole number in its cell
 abbrev pub plain_parameter : List ℕ → ℕ → Parameter
 plain_parameter cells x = record { kind = Integer; slot = slot_of cells x }
 
+-- an operation whose block begins at that place
 abbrev pub plain_entry : List ℕ → ℕ → Head → Body → OpEntry
 plain_entry cells place h b = record { name = h.name; start = place; inputs = map (plain_parameter cells) h.inputs; outputs = map (plain_parameter cells) b.outputs }
 
+-- the operations whose blocks follow one another from that place on
 abbrev pub plain_entries : List ℕ → ℕ → List Head → List Body → List OpEntry
 plain_entries cells place (h ∷ hs) (b ∷ bs) = plain_entry cells place h b ∷ plain_entries cells (place + length (block_code cells b.sub)) hs bs
 plain_entries cells place _ _ = []
 
+-- the block of the initialisation, and behind it one for each operation
 abbrev pub plain_image : List ℕ → List Head → Level → Image
 plain_image cells heads level = record {
   cells = length cells;

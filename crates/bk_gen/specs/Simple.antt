@@ -52,6 +52,7 @@ operators_down _ = 0
 abbrev pub IsShallow : Formula → Type 0
 IsShallow f = operators_down f ≤ 998
 
+-- each term of an assignment is shallow
 abbrev pub HaveShallowTerms : List (ℕ × Formula) → Type 0
 HaveShallowTerms [] = Unit {0}
 HaveShallowTerms (p ∷ ps) = IsShallow p.1 × HaveShallowTerms ps

@@ -46,6 +46,7 @@ abbrev pub load_element : Development → ℕ → Option ArrayRow → List Inst
 load_element dev f (Some row) = ALoad (cell_of dev f) (least_index row.domain) (cells_of dev f) ∷ []
 load_element dev f None = []
 
+-- the instruction that stores a value at an index of the array, with the same operands
 abbrev pub store_element : Development → ℕ → ArrayRow → List Inst
 store_element dev f row = AStore (cell_of dev f) (least_index row.domain) (cells_of dev f) ∷ []
 
@@ -80,16 +81,17 @@ array_code dev x row (Some w) f = value_code dev w.0 ++ value_code dev w.1 ++ st
 array_code dev x row None (binary Times d (unary Single v)) = fill (value_code dev v) (cell_of dev x) (cells_of dev x)
 array_code dev x row None f = []
 
+-- x := f: to the one cell of x, or to the array x
 abbrev pub store_code : Development → ℕ → Option ArrayRow → Formula → List Inst
 store_code dev x None f = value_code dev f ++ Store (cell_of dev x) ∷ []
 store_code dev x (Some row) f = array_code dev x row (write_of x f) f
 
--- an implementation assigns to one variable at a time
+-- the code of an assignment to one variable; a simple implementation has no other
 abbrev pub assign_code : Development → List (ℕ × Formula) → List Inst
 assign_code dev (p ∷ []) = store_code dev p.0 (row_of (arrays_of dev) p.0) p.1
 assign_code dev _ = []
 
--- what else a substitution may be stands in no implementation
+-- the code of a statement; other substitutions have none, and stand in no simple implementation
 abbrev pub statement_code : Development → Substitution → List Inst
 statement_code dev skip = []
 statement_code dev (assign ps) = assign_code dev ps
@@ -101,14 +103,17 @@ statement_code dev (loop p s i v) = let test = value_code dev p in let body = st
 statement_code dev s = []
 
 -- ---- the image
+-- a cell holds a truth value, an element of an enumerated set or a whole number
 abbrev pub kind_of_type : ValueType → CellKind
 kind_of_type bool_type = BoolKind
 kind_of_type (enum_type s) = Set s
 kind_of_type t = Integer
 
+-- the kind and the cell of an input or an output
 abbrev pub parameter_of : Development → ℕ → Parameter
 parameter_of dev x = record { kind = kind_of_type (declared_type dev.table x); slot = cell_of dev x }
 
+-- the code of a body, with a Ret behind it
 abbrev pub operation_code : Development → Body → List Inst
 operation_code dev b = statement_code dev b.sub ++ Ret ∷ []
 
@@ -117,10 +122,12 @@ abbrev pub entries : Development → ℕ → List Head → List Body → List Op
 entries dev place (h ∷ hs) (b ∷ bs) = record { name = h.name; start = place; inputs = map (parameter_of dev) h.inputs; outputs = map (parameter_of dev) b.outputs } ∷ entries dev (place + length (operation_code dev b)) hs bs
 entries dev place _ _ = []
 
+-- the code of bodies, one behind the other
 abbrev pub operations_code : Development → List Body → List Inst
 operations_code dev [] = []
 operations_code dev (b ∷ bs) = operation_code dev b ++ operations_code dev bs
 
+-- the code of the last level's initialisation, with a Ret behind it
 abbrev pub init_code : Development → List Inst
 init_code dev = statement_code dev (level_at dev (last dev)).init ++ Ret ∷ []
 

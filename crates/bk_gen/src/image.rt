@@ -29,7 +29,8 @@ pub fn translate(alloc: Global, dev: &Development) -> Result<Image, GenFault>
     ensures ok { IfOk result (λ image. image ≡ translation dev.now) }
     ensures checked { IfOk result (λ image. IsLoadable image) }
     ensures too_long { result ≡ Err CodeTooLong → 1000000 < length (translation dev.now).code }
-    ensures too_many { result ≡ Err TooManyCells → (length (translation dev.now).code ≤ 1000000) × (1000000 < cell_count dev.now) }
+    ensures too_many { result ≡ Err TooManyCells → (length (translation dev.now).code ≤ 1000000) ×
+        (1000000 < cell_count dev.now) }
     ensures within { IfOk result (λ image. (length image.code ≤ 1000000) × (image.cells ≤ 1000000)) }
 {
     dev.facts();
@@ -119,7 +120,8 @@ fn add_operations(
     requires simple { All (λ b. IsSimpleStatement (pos 2147483647) b.sub) bodies.now }
     requires paired { length heads.now ≡ length bodies.now }
     ensures code { OnOk result (code.new.items ≡ code.old.items ++ blocks_code cells.now bodies.now) }
-    ensures entries { IfOk result (λ ops. ops.items ≡ plain_entries cells.now (length code.old.items) heads.now bodies.now) }
+    ensures entries { IfOk result
+        (λ ops. ops.items ≡ plain_entries cells.now (length code.old.items) heads.now bodies.now) }
 {
     let mut ops = Vec::new(alloc);
     for (number, body) in bodies.iter().enumerate() {

@@ -9,6 +9,3 @@ mod statement;
 
 pub use error::GenFault;
 pub use image::translate;
-
-#[cfg(test)]
-mod tests;

@@ -29,6 +29,7 @@ abbrev pub IsCleanWrite : Finder → Table → ArrayTable → ArrayRow → State
 IsCleanWrite find table arrays row e (Some w) f = Fits find (at_state table e) arrays w.0 × (is_index (Some row) (value_at find table e w.0) ≡ true) × Fits find (at_state table e) arrays w.1
 IsCleanWrite find table arrays row e None f = Fits find (at_state table e) arrays f
 
+-- the term for x in an implementation: where x is an array a write to it, and else an expression whose numbers fit
 abbrev pub IsCleanAt : Finder → Table → ArrayTable → Option ArrayRow → State → ℕ → Formula → Type 0
 IsCleanAt find table arrays None e x f = Fits find (at_state table e) arrays f
 IsCleanAt find table arrays (Some row) e x f = IsCleanWrite find table arrays row e (write_of x f) f
@@ -38,6 +39,7 @@ abbrev pub IsCleanTerm : Finder → Table → Option ArrayTable → State → �
 IsCleanTerm find table None e x f = Defined find (at_state table e) f
 IsCleanTerm find table (Some arrays) e x f = IsCleanAt find table arrays (row_of arrays x) e x f
 
+-- the terms of an assignment, each for its variable
 abbrev pub AreCleanTerms : Finder → Table → Option ArrayTable → State → List (ℕ × Formula) → Type 0
 AreCleanTerms find table arrays e [] = Unit {0}
 AreCleanTerms find table arrays e (p ∷ ps) = IsCleanTerm find table arrays e p.0 p.1 × AreCleanTerms find table arrays e ps

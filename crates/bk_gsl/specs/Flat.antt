@@ -13,6 +13,7 @@ use Rattle.bk_gsl.specs.Writes.{writes}
 abbrev pub renamed : (ℕ → ℕ) → Formula → Formula
 renamed by f = replaced (λ n. variable (by n)) f
 
+-- the same in the terms of an assignment; the variables on its left stay
 abbrev pub renamed_terms : (ℕ → ℕ) → List (ℕ × Formula) → List (ℕ × Formula)
 renamed_terms by [] = []
 renamed_terms by (p ∷ ps) = (p.0, renamed by p.1) ∷ renamed_terms by ps
@@ -42,6 +43,7 @@ abbrev pub copy_of : List (ℕ × ℕ) → ℕ → ℕ
 copy_of [] n = n
 copy_of (p ∷ ps) n = cond (nat_eq n p.1) p.0 (copy_of ps n)
 
+-- c = x, of a copy and its variable
 abbrev pub equation : ℕ × ℕ → Formula
 equation p = binary Eq (variable p.0) (variable p.1)
 

@@ -9,6 +9,7 @@ use Rattle.bk_gsl.specs.Run.{old_of}
 
 -- the variables of a formula, as often as they stand in it
 abbrev mutual
+  -- from left to right; bound variables are not among them
   pub variables_of : Formula → List ℕ
   variables_of (variable n) = n ∷ []
   variables_of (unary o a) = variables_of a
@@ -19,6 +20,7 @@ abbrev mutual
   variables_of (lambda rs p v) = all_variables_of rs ++ variables_of p ++ variables_of v
   variables_of _ = []
 
+  -- those of several formulas, one formula after another
   pub all_variables_of : Formulas → List ℕ
   all_variables_of no_formulas = []
   all_variables_of (formula_and f fs) = variables_of f ++ all_variables_of fs

@@ -32,6 +32,7 @@ declared_type table n = unwrap_or (variable_type table n) bool_type
 abbrev pub are_values_for : Table → List ℕ → List MathValue → Bool
 are_values_for table zs vs = are_of_types (set_size table) (map (declared_type table) zs) vs
 
+-- the state in which z has the value v, and every other variable what it had
 abbrev pub with_value : State → ℕ → MathValue → State
 with_value e z v n = cond (nat_eq n z) v (e n)
 
@@ -41,6 +42,7 @@ with_values e [] vs = e
 with_values e (z ∷ zs) [] = e
 with_values e (z ∷ zs) (v ∷ vs) = with_values (with_value e z v) zs vs
 
+-- whether the number is in the list
 abbrev pub among : List ℕ → ℕ → Bool
 among [] n = false
 among (z ∷ zs) n = nat_eq n z || among zs n
@@ -49,6 +51,7 @@ among (z ∷ zs) n = nat_eq n z || among zs n
 abbrev pub over : (ℕ → Bool) → State → State → State
 over at d e n = cond (at n) (d n) (e n)
 
+-- the first of each pair: the variables to which an assignment gives terms, or those that x :(P) changes
 abbrev pub firsts : {A : Type 0} → List (ℕ × A) → List ℕ
 firsts [] = []
 firsts (p ∷ ps) = p.0 ∷ firsts ps

@@ -3,6 +3,7 @@ use Rattle.bk_gsl.specs.Substitution.{Substitution, skip, assign, pre, guard, ch
 use Rattle.bk_gsl.specs.declared.substitution.SubNode.{SubNode}
 use Rattle.bk_gsl.specs.declared.substitution.SubNode.TheVariants.{Skip, Assign, Pre, Guard, Choice, If, Any, Seq, Par, While, Assert, BecomesSuch}
 
+-- the substitution that has this node at its top
 abbrev pub sub_view : SubNode → Substitution
 sub_view Skip = skip
 sub_view (Assign ps) = assign ps.items

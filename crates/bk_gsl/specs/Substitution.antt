@@ -2,6 +2,7 @@
 use Rattle.std.specs.Prelude.{ℕ, List}
 use Rattle.bk_form.specs.Formula.{Formula}
 
+-- what an initialisation or an operation does to the variables
 pub data Substitution : Type 0 where
   -- nothing changes
   skip : Substitution

@@ -18,6 +18,7 @@ IsTerm table t f = role table [] f ≡ gives t
 abbrev pub IsListed : Table → ℕ → Type 0
 IsListed table n = (t : ValueType) × (variable_type table n ≡ Some t)
 
+-- the table lists each of the variables
 abbrev pub AreListed : Table → List ℕ → Type 0
 AreListed table [] = Unit {0}
 AreListed table (n ∷ ns) = IsListed table n × AreListed table ns

@@ -19,6 +19,7 @@ written (assert p s) = written s
 written (becomes_such xs p) = firsts xs
 written (loop p s i v) = written s
 
+-- a number put into a rising list at its place, unless it stands there already
 abbrev pub inserted : ℕ → List ℕ → List ℕ
 inserted n [] = n ∷ []
 inserted n (m ∷ ms) = cond (nat_lt n m) (n ∷ m ∷ ms) (cond (nat_eq n m) (m ∷ ms) (m ∷ inserted n ms))

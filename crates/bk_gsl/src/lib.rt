@@ -7,6 +7,3 @@ pub mod variables;
 
 pub use substitution::{Sub, SubNode};
 pub use variables::{reads, writes};
-
-#[cfg(test)]
-mod tests;

@@ -139,7 +139,8 @@ fn add_read_by_predicate(
     predicate: &Form,
     found: &mut Vec<u32>,
 ) -> Result<(), Memory>
-    ensures { OnOk result (found.new.items ≡ found.old.items ++ map (old_of pairs.now) (outside (firsts pairs.now) (variables_of predicate.now))) }
+    ensures { OnOk result (found.new.items ≡ found.old.items
+        ++ map (old_of pairs.now) (outside (firsts pairs.now) (variables_of predicate.now))) }
 {
     let mut written = Vec::new(alloc);
     add_firsts(pairs, &mut written)?;

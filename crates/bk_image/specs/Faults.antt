@@ -134,6 +134,7 @@ IsOneInstFault image k at i e =
 abbrev pub ops_place : Image → ℕ
 ops_place image = 10 + length (sets image.sets) + 2
 
+-- where the number of instructions stands, behind the operations
 abbrev pub count_place : Image → ℕ
 count_place image = 10 + length (sets image.sets) + length (entries image.ops)
 

@@ -26,13 +26,16 @@ raised Unknown new = Some new
 raised (One d) (One e) = if int_eq d e then None else Some Many
 raised (One d) Many = Some Many
 
+-- what is known of the depth at a place
 abbrev pub depth_at : List Depth → ℕ → Depth
 depth_at known at = slice_index_or known at Unknown
 
+-- what is known so far of the depth at each place, and the places from which control still has to be followed
 pub record Progress : Type 0 where
   pub known : List Depth
   pub work : List ℕ
 
+-- what the code's own record of this stands for
 abbrev pub progress : Depths → Progress
 progress d = record { known = d.known.items; work = d.work.items }
 
@@ -63,6 +66,7 @@ HasPlaceAsTarget (Jump distance) at = pos 0 ≤ℤ (pos at +ℤ distance)
 HasPlaceAsTarget (JumpZero distance) at = pos 0 ≤ℤ (pos at +ℤ distance)
 HasPlaceAsTarget _ at = Unit {0}
 
+-- a depth comes to a place, if control goes there at all
 abbrev pub flowed_to : Progress → Depth → Option ℕ → Progress
 flowed_to p new None = p
 flowed_to p new (Some to) = flowed p new to
@@ -94,11 +98,13 @@ Covers have Unknown = Unit {0}
 Covers (One d) (One e) = d ≡ e
 Covers _ _ = ⊥
 
+-- how much is known: nothing, that there is one depth, or that there are several
 abbrev pub rank : Depth → ℕ
 rank Unknown = 0
 rank (One d) = 1
 rank Many = 2
 
+-- how much is known of all places together
 abbrev pub rank_sum : List Depth → ℕ
 rank_sum known = sum_by rank known
 
@@ -148,6 +154,7 @@ EntriesStartBelow image n known = (k : ℕ) (entry : OpEntry) → k < n → slic
 abbrev pub AreRootsStarted : Image → List Depth → Type 0
 AreRootsStarted image known = (at : ℕ) → at < length image.code → IsRoot image at → Covers (depth_at known at) (One (pos 0))
 
+-- the place that control goes to, if there is one, is marked
 abbrev pub marked : List Bool → Option ℕ → List Bool
 marked reached None = reached
 marked reached (Some to) = slice_set reached to true
@@ -165,6 +172,7 @@ abbrev pub IsRight : Inst → Depth → Type 0
 IsRight i (One d) = IsAllowed i d
 IsRight i _ = ⊥
 
+-- what is known at an instruction is one number that breaks a rule, or it is not one number
 abbrev pub IsWrong : Inst → Depth → Type 0
 IsWrong i (One d) = BreaksRules i d
 IsWrong i _ = Unit {0}

@@ -15,6 +15,7 @@ use Rattle.bk_image.specs.declared.fault.LoadFault.TheVariants.{Short, Magic, Ve
 use Rattle.bk_image.specs.declared.fault.LoadFault.TheVariants as faults
 
 infixl 10 ◌>>=◌
+-- reading goes on with what was read, and ends with the first fault
 abbrev pub ◌>>=◌ : {A B : Type 0} → Result A LoadFault → (A → Result B LoadFault) → Result B LoadFault
 (Ok x) >>= f = f x
 (Err e) >>= f = Err e
@@ -33,15 +34,17 @@ Gives view (Err e) read = Fails e read
 abbrev pub Read : Type 0 → Type 0
 Read A = Result (A × List ℕ) LoadFault
 
--- len is the length of the whole file
+-- the number of this width with which the bytes begin, most significant byte first, and the bytes behind it; len is the length of the whole file
 unfoldable pub number_at : ℕ → Width → List ℕ → Read ℕ
 number_at len w bytes = if nat_lt (length bytes) (byte_len w) then Err (Short len) else Ok (from_be_bytes w (take (byte_len w) bytes), drop (byte_len w) bytes)
 
+-- a whole number, in two's complement
 unfoldable pub signed_at : ℕ → Width → List ℕ → Read ℤ
 signed_at len w bytes = do
   n ← number_at len w bytes
   Ok (cast_signed w n.0, n.1)
 
+-- a name: how many bytes it has, and the bytes
 unfoldable pub text_at : ℕ → List ℕ → Read (List ℕ)
 text_at len bytes = do
   n ← number_at len w16 bytes
@@ -55,28 +58,34 @@ items_at item (suc n) bytes = do
   others ← items_at item n first.1
   Ok (first.0 ∷ others.0, others.1)
 
+-- how many items there are, and the items
 unfoldable pub counted_at : {A : Type 0} → ℕ → (List ℕ → Read A) → List ℕ → Read (List A)
 counted_at len item bytes = do
   n ← number_at len w16 bytes
   items_at item n.0 n.1
 
+-- the names of a set's elements
 abbrev pub set_at : ℕ → List ℕ → Read (List (List ℕ))
 set_at len bytes = counted_at len (text_at len) bytes
 
+-- 0 is a whole number, 1 a truth value, and 2 + k an element of the set k
 abbrev pub kind_of : ℕ → CellKind
 kind_of zero = Integer
 kind_of (suc zero) = Bool
 kind_of (suc (suc k)) = Set k
 
+-- an input or an output: its kind and its cell
 unfoldable pub parameter_at : ℕ → List ℕ → Read Parameter
 parameter_at len bytes = do
   kind ← number_at len w16 bytes
   slot ← number_at len w32 kind.1
   Ok (record { kind = kind_of kind.0; slot = slot.0 }, slot.1)
 
+-- the inputs or the outputs of an operation
 abbrev pub parameters_at : ℕ → List ℕ → Read (List Parameter)
 parameters_at len bytes = counted_at len (parameter_at len) bytes
 
+-- an operation: its name, the place of its first instruction, its inputs and its outputs
 unfoldable pub entry_at : ℕ → List ℕ → Read OpEntry
 entry_at len bytes = do
   name ← text_at len bytes
@@ -122,20 +131,24 @@ operands_at len fault n bytes =
     if n == 0x11 then made JumpZero (signed_at len w32 bytes) else
     plain_at fault (plain_inst n) bytes
 
+-- an instruction: its opcode and its operands
 unfoldable pub inst_at : ℕ → List ℕ → Read Inst
 inst_at len [] = Err (Short len)
 inst_at len (n ∷ bytes) = operands_at len (BadInst (len - length (n ∷ bytes))) n bytes
 
+-- the four bytes that every image begins with, taken as one number
 unfoldable pub magic_at : ℕ → List ℕ → Read ℕ
 magic_at len bytes = do
   n ← number_at len w32 bytes
   if n.0 == 0x424B494D then Ok n else Err Magic
 
+-- the version, which has to be 1
 unfoldable pub version_at : ℕ → List ℕ → Read ℕ
 version_at len bytes = do
   n ← number_at len w16 bytes
   if n.0 == 1 then Ok n else Err (Version n.0)
 
+-- how many instructions there are, and the instructions
 unfoldable pub code_at : ℕ → List ℕ → Read (List Inst)
 code_at len bytes = do
   n ← number_at len w32 bytes
@@ -150,6 +163,7 @@ parts_at len bytes = do
   code ← code_at len ops.1
   Ok (record { cells = cells.0; sets = sets.0; ops = ops.0; code = code.0 }, code.1)
 
+-- an image, whatever stands behind it
 unfoldable pub image_at : ℕ → List ℕ → Read Image
 image_at len bytes = do
   magic ← magic_at len bytes

@@ -30,17 +30,21 @@ counted item items = number w16 (length items) ++ flat_map item items
 unfoldable pub set : List (List ℕ) → List ℕ
 set names = counted text names
 
+-- a whole number is 0, a truth value 1, and an element of the set k is 2 + k
 abbrev pub kind_number : CellKind → ℕ
 kind_number Integer = 0
 kind_number Bool = 1
 kind_number (Set k) = 2 + k
 
+-- an input or an output: its kind and its cell
 unfoldable pub parameter : Parameter → List ℕ
 parameter p = number w16 (kind_number p.kind) ++ number w32 p.slot
 
+-- the inputs or the outputs of an operation
 unfoldable pub parameters : List Parameter → List ℕ
 parameters ps = counted parameter ps
 
+-- an operation: its name, the place of its first instruction, its inputs and its outputs
 unfoldable pub entry : OpEntry → List ℕ
 entry e = text e.name ++ number w32 e.start ++ parameters e.inputs ++ parameters e.outputs
 
@@ -80,6 +84,7 @@ operands (Jump distance) = signed w32 distance
 operands (JumpZero distance) = signed w32 distance
 operands _ = []
 
+-- an instruction: its opcode and its operands
 unfoldable pub inst : Inst → List ℕ
 inst i = opcode i ∷ operands i
 
@@ -91,6 +96,7 @@ magic = 0x42 ∷ 0x4B ∷ 0x49 ∷ 0x4D ∷ []
 unfoldable pub sets : List (List (List ℕ)) → List ℕ
 sets ss = counted set ss
 
+-- the operations, in the order of their numbers
 unfoldable pub entries : List OpEntry → List ℕ
 entries es = counted entry es
 
@@ -99,6 +105,7 @@ unfoldable pub header : Image → List ℕ
 header image =
     magic ++ number w16 1 ++ number w32 image.cells ++ sets image.sets ++ entries image.ops ++ number w32 (length image.code)
 
+-- the bytes of an image
 unfoldable pub spelling : Image → List ℕ
 spelling image = header image ++ flat_map inst image.code
 
@@ -107,29 +114,35 @@ spelling image = header image ++ flat_map inst image.code
 abbrev pub IsCountable : {A : Type 0} → List A → Type 0
 IsCountable items = length items < 2 ^ 16
 
+-- a set has few enough elements, and each of their names is short enough
 pub record FitsSet (names : List (List ℕ)) : Type 0 where
   pub few : IsCountable names
   pub each : All (λ name. IsCountable name) names
 
+-- the kind and the cell of an input or an output fit their fields
 pub record FitsParameter (p : Parameter) : Type 0 where
   pub kind : kind_number p.kind < 2 ^ 16
   pub slot : p.slot < 2 ^ 32
 
+-- there are few enough inputs or outputs, and each fits its fields
 pub record FitsParameters (ps : List Parameter) : Type 0 where
   pub few : IsCountable ps
   pub each : All FitsParameter ps
 
+-- the name, the start, the inputs and the outputs of an operation fit their fields
 pub record FitsEntry (e : OpEntry) : Type 0 where
   pub name : IsCountable e.name
   pub start : e.start < 2 ^ 32
   pub inputs : FitsParameters e.inputs
   pub outputs : FitsParameters e.outputs
 
+-- the operands of an instruction on an array fit their fields
 pub record FitsArray (base : ℕ) (low : ℤ) (count : ℕ) : Type 0 where
   pub first_cell : base < 2 ^ 32
   pub least : FitsSigned w64 low
   pub size : count < 2 ^ 32
 
+-- the operands of an instruction fit their fields
 abbrev pub FitsInst : Inst → Type 0
 FitsInst (Push n) = FitsSigned w64 n
 FitsInst (Load slot) = slot < 2 ^ 32

@@ -15,7 +15,7 @@ use bk_code::{Image, Inst, Memory};
 use std::alloc::Global;
 
 /// What is known of the depth of the stack at a place: nothing, one number, or that it is more than one.
-#[derive(Clone, Copy, Debug)]
+#[derive(Clone, Copy)]
 pub enum Depth {
     Unknown,
     One(i64),
@@ -131,7 +131,8 @@ fn mark_from(reached: &mut [bool], image: &Image, at: usize)
     requires numbered { checks.IsNumbered image.now }
     requires long { length reached.old ≡ length image.now.code }
     requires place { at < length image.now.code }
-    ensures before { (to : ℕ) → slice_index_or reached.old to false ≡ true → slice_index_or reached.new to false ≡ true }
+    ensures before { (to : ℕ) → slice_index_or reached.old to false ≡ true →
+        slice_index_or reached.new to false ≡ true }
     ensures some { (to : ℕ) → slice_index_or reached.new to false ≡ true
         → (slice_index_or reached.old to false ≡ true) ⊎ checks.Passes image.now at to }
     ensures all { (to : ℕ) → checks.Passes image.now at to → slice_index_or reached.new to false ≡ true }
@@ -195,7 +196,8 @@ impl Depths {
         ensures progress { OnOk result ((limit : ℕ) → IsProgressBut image.now limit (progress.progress self.old) (At at)
             → IsProgress image.now limit (progress.progress self.new)) }
         ensures grown { OnOk result (progress.IsGrown self.old.known.items self.new.known.items) }
-        ensures left { OnOk result (progress.left (progress.progress self.new) ≤ progress.left (progress.progress self.old)) }
+        ensures left { OnOk result (progress.left (progress.progress self.new) ≤ progress.left
+            (progress.progress self.old)) }
     {
         self.follow(image.code.as_slice()[at], at)
     }
@@ -218,7 +220,8 @@ impl Depths {
     // The place has depth 0 from the start.
     fn start(&mut self, at: usize) -> Result<(), Memory>
         requires { at < length self.old.known.items }
-        ensures progress { OnOk result ((image : Image) (limit : ℕ) → IsProgress image limit (progress.progress self.old)
+        ensures progress { OnOk result ((image : Image) (limit : ℕ) →
+            IsProgress image limit (progress.progress self.old)
             → progress.IsKnown image limit at (One (pos 0)) → IsProgress image limit (progress.progress self.new)) }
         ensures grown { OnOk result (progress.IsGrown self.old.known.items self.new.known.items) }
         ensures covered { OnOk result (progress.Covers (progress.depth_at self.new.known.items at) (One (pos 0))) }
@@ -248,7 +251,8 @@ impl Depths {
         requires progress { IsProgress image.now 0 (progress.progress self.old) }
         ensures progress { OnOk result (IsProgress image.now 0 (progress.progress self.new)) }
         ensures grown { OnOk result (progress.IsGrown self.old.known.items self.new.known.items) }
-        ensures covered { OnOk result (progress.EntriesStartBelow image.now (length image.now.ops) self.new.known.items) }
+        ensures covered { OnOk result (progress.EntriesStartBelow image.now
+            (length image.now.ops) self.new.known.items) }
     {
         for entry in image.ops.as_slice() {
             self.start(entry.start as usize)?;
@@ -354,7 +358,8 @@ fn wrong_place(depths: &Depths, image: &Image, at: usize) -> Option<usize>
 pub fn stack_fault(alloc: Global, image: &Image) -> Result<Option<usize>, Memory>
     requires numbered { checks.IsNumbered image.now }
     requires room { length (spell.spelling image.now) < 2 ^ 64 }
-    ensures { IfOk result (λ place. MatchOption place (checks.IsLoadable image.now) (stack.IsFirstStackFault image.now)) }
+    ensures { IfOk result (λ place. MatchOption place (checks.IsLoadable image.now)
+        (stack.IsFirstStackFault image.now)) }
 {
     let depths = settled(alloc, image)?;
     Ok(wrong_place(&depths, image, code_begin(image)))

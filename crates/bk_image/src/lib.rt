@@ -14,6 +14,3 @@ pub use fault::LoadFault;
 pub use laws::spellings_are_unique;
 pub use loader::load;
 pub use writing::write;
-
-#[cfg(test)]
-mod tests;

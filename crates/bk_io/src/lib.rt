@@ -16,6 +16,3 @@ pub use mem_sink::{MemSink, SureSink};
 pub use shelf::{Fetch, Shelf};
 pub use sink::{Sink, SinkFault, put_all};
 pub use text::{Memory, Text};
-
-#[cfg(test)]
-mod tests;

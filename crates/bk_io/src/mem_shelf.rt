@@ -53,7 +53,7 @@ fn append_file(
 }
 
 /// Files in memory, some fetches of which fail.
-#[derive(Debug, Drop)]
+#[derive(Drop)]
 pub struct MemShelf {
     files: Vec<(String, Vec<u8>)>,
     schedule: Schedule,
@@ -115,7 +115,7 @@ impl Shelf for MemShelf {
 }
 
 /// Files in memory, whose fetches never fail.
-#[derive(Debug, Drop)]
+#[derive(Drop)]
 pub struct SureShelf {
     files: Vec<(String, Vec<u8>)>,
     absences: u64,

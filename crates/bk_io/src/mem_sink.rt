@@ -9,7 +9,7 @@ use crate::{Memory, Sink, SinkFault};
 use std::alloc::Global;
 
 /// Bytes in memory, taken in small steps, some puts of which fail.
-#[derive(Debug, Drop)]
+#[derive(Drop)]
 pub struct MemSink {
     store: Store,
     step: usize,
@@ -65,7 +65,8 @@ impl Sink for MemSink {
         ensures err { OnErr result (sink_written self.new ≡ sink_written self.old) }
         ensures failed { HasCause SinkFault.Failed (sink_faults self.old) (sink_faults self.new) result }
         // The puts that are to fail do, and no others.
-        ensures scheduled { (result ≡ Err SinkFault.Failed) ↔ Contains (sink_failing self.old) (sink_calls self.old + 1) }
+        ensures scheduled { (result ≡ Err SinkFault.Failed) ↔
+            Contains (sink_failing self.old) (sink_calls self.old + 1) }
         ensures step { IfOk result (λ n. n ≡ min (sink_step self.old) (length piece.now)) }
         // Memory runs out only where the bytes would pass the room.
         ensures memory { result ≡ Err SinkFault.Memory →
@@ -88,7 +89,7 @@ impl Sink for MemSink {
 }
 
 /// Bytes in memory, taken piece by piece, whose puts never fail.
-#[derive(Debug, Drop)]
+#[derive(Drop)]
 pub struct SureSink {
     store: Store,
 }

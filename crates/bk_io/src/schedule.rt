@@ -2,7 +2,7 @@
 ghost use Rattle.std.specs.Prelude.{◌≡◌, ◌↔◌, ◌+◌, ◌-◌, ◌^◌, ◌<◌, ◌≤◌, All, Contains, IsTrue, if◌then◌else◌};
 ghost use Rattle.bk_io.specs.Counts.{counted};
 
-#[derive(Debug, Drop)]
+#[derive(Drop)]
 pub(crate) struct Schedule {
     failing: Vec<u64>,
     calls: u64,

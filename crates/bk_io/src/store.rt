@@ -5,7 +5,7 @@ use crate::Memory;
 use std::alloc::Global;
 
 // Bytes with memory for the first `room` of them.
-#[derive(Debug, Drop)]
+#[derive(Drop)]
 pub(crate) struct Store {
     bytes: Vec<u8>,
     room: usize,

@@ -8,7 +8,7 @@ use Rattle.bk_seq.specs.declared.sequent.Sequent.{Sequent as StoredSequent}
 use Rattle.bk_lin.specs.declared.fact.Line.{Line}
 use Rattle.bk_arith.specs.Decision.{is_accepted}
 use Rattle.bk_kernel.specs.declared.error.StepFault.{StepFault}
-use Rattle.bk_kernel.specs.Sequents.{Sequent}
+use Rattle.bk_seq.specs.Sequents.{Sequent}
 use Rattle.bk_kernel.specs.Rules.{AreListed}
 use Rattle.bk_kernel.specs.Making.{MakesByArithmetic}
 

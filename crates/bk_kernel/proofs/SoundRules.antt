@@ -16,7 +16,7 @@ use Rattle.bk_form.proofs.Members.{or-left, or-right, and-true, and-both}
 use Rattle.bk_form.proofs.Roles.{meaning-role}
 use Rattle.bk_form.proofs.Givers.{value-meaning}
 use Rattle.bk_bind.specs.Same.{MeanSame}
-use Rattle.bk_seq.specs.Valid.{AllHold, in_state}
+use Rattle.bk_bind.specs.Valid.{AllHold, in_state}
 use Rattle.bk_seq.specs.Paths.{numbered_item, sub_at, put_at}
 use Rattle.bk_seq.proofs.Paths.{put-meaning, put-stands}
 use Rattle.bk_seq.proofs.PathLaws.{meaning-of-same}
@@ -30,7 +30,7 @@ use Rattle.bk_kernel.specs.declared.rule.Place.{Place}
 use Rattle.bk_kernel.specs.declared.rule.Place.TheVariants.{Goal, Hyp as InHyp}
 use Rattle.bk_kernel.specs.declared.rule.Rule.{Rule}
 use Rattle.bk_kernel.specs.declared.rule.Rule.TheVariants.{Hyp, Same, And, Left, Right, Split, Imp, Eq, Qe, Law, Lin, Unread}
-use Rattle.bk_kernel.specs.Sequents.{Sequent, Each, IsPredicate, Types, IsValidSequent}
+use Rattle.bk_seq.specs.Sequents.{Sequent, Each, IsPredicate, Types, IsValidSequent}
 use Rattle.bk_kernel.specs.Rules.{Rewrites, ByLaw, AreListed, ByArithmetic, ByRule, IsInstance}
 use Rattle.bk_kernel.specs.RuleLaws.{RulesAreSound, DerivedIsValid}
 use Rattle.bk_kernel.proofs.Lists.{each-item, each-left, each-right, hold-append, hold-item}

@@ -20,7 +20,7 @@ use Rattle.bk_form.proofs.Members.{or-cases, and-true, and-both}
 use Rattle.bk_form.proofs.Roles.{same_type-then}
 use Rattle.bk_form.proofs.Domains.{interval-members}
 use Rattle.bk_form.proofs.Valued.{sound_typing}
-use Rattle.bk_seq.specs.Valid.{AllHold, in_state}
+use Rattle.bk_bind.specs.Valid.{AllHold, in_state}
 use Rattle.bk_arith.specs.ClosedSum.{closed_sum}
 use Rattle.bk_arith.specs.Same.{is_same}
 use Rattle.bk_kernel.specs.Obvious.{both_pass, has_all, has_number, holds_plainly, is_plain}

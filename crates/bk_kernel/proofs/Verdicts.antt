@@ -8,7 +8,7 @@ use Rattle.bk_seq.specs.Paths.{numbered_item}
 use Rattle.bk_kernel.specs.declared.rule.Rule.{Rule}
 use Rattle.bk_kernel.specs.declared.replaying.Verdict.{Verdict}
 use Rattle.bk_kernel.specs.declared.replaying.Verdict.TheVariants.{Closed, BadStep, Open, Extra}
-use Rattle.bk_kernel.specs.Sequents.{Sequent}
+use Rattle.bk_seq.specs.Sequents.{Sequent}
 use Rattle.bk_kernel.specs.Rules.{IsInstance}
 use Rattle.bk_kernel.specs.Derivations.{Leaves, Derives, FailsAt, StaysOpen, EndsBefore, IsVerdict}
 use Rattle.bk_kernel.specs.RuleLaws.{OneVerdict}

@@ -5,7 +5,7 @@ use Rattle.bk_seq.specs.Paths.{numbered_item}
 use Rattle.bk_kernel.specs.declared.rule.Rule.{Rule}
 use Rattle.bk_kernel.specs.declared.replaying.Verdict.{Verdict}
 use Rattle.bk_kernel.specs.declared.replaying.Verdict.TheVariants.{Closed, BadStep, Open, Extra}
-use Rattle.bk_kernel.specs.Sequents.{Sequent}
+use Rattle.bk_seq.specs.Sequents.{Sequent}
 use Rattle.bk_kernel.specs.Rules.{IsInstance}
 
 -- each rule in order is a step on the first open sequent, whose results stand in its place; these are left in the end

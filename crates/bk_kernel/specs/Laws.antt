@@ -3,7 +3,7 @@ use Rattle.std.specs.Prelude.{◌≡◌, true, List, []}
 use Rattle.bk_form.specs.Table.{Table, IsWellFormed}
 use Rattle.bk_form.specs.Formula.{Formula}
 use Rattle.bk_form.specs.Role.{role, predicate}
-use Rattle.bk_seq.specs.Valid.{IsValid}
+use Rattle.bk_bind.specs.Valid.{IsValid}
 use Rattle.bk_kernel.specs.Obvious.{is_obvious}
 
 -- an obvious sequent whose goal is a predicate of the table is valid

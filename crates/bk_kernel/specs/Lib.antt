@@ -1,6 +1,5 @@
 pub mod Laws
 pub mod Obvious
-pub mod Sequents
 pub mod Rules
 pub mod Derivations
 pub mod RuleLaws

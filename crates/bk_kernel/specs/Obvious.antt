@@ -37,6 +37,7 @@ holds_plainly Le a b = both_pass int_le (closed_sum a) (closed_sum b)
 holds_plainly In a b = has_all b || has_number (closed_sum a) b
 holds_plainly _ a b = false
 
+-- whether it is an equation, a comparison or a membership that needs no hypothesis
 abbrev pub is_plain : Formula → Bool
 is_plain (binary o a b) = holds_plainly o a b
 is_plain _ = false

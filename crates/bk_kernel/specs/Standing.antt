@@ -3,7 +3,7 @@ use Rattle.std.specs.Prelude.{ℕ, zero, suc, ◌-◌, ◌^◌, min, List, [], �
 use Rattle.bk_seq.specs.declared.sequent.Sequent.{Sequent as StoredSequent}
 use Rattle.bk_kernel.specs.declared.replaying.Verdict.{Verdict}
 use Rattle.bk_kernel.specs.declared.replaying.Verdict.TheVariants.{Closed, Open}
-use Rattle.bk_kernel.specs.Sequents.{Sequent, sequent_of}
+use Rattle.bk_seq.specs.Sequents.{Sequent, sequent_of}
 
 -- the open sequents in order
 abbrev pub in_order : List StoredSequent → List Sequent

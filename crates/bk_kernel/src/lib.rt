@@ -16,10 +16,3 @@ pub use obvious::is_obvious;
 pub use replaying::{Verdict, replay};
 pub use rule::{Place, Rule};
 pub use stepping::step;
-
-#[cfg(test)]
-mod building;
-#[cfg(test)]
-mod replay_tests;
-#[cfg(test)]
-mod tests;

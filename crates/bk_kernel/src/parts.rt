@@ -3,7 +3,7 @@
 ghost use Rattle.std.specs.Prelude.{◌≡◌, ◌↔◌, [], ◌∷◌, ◌++◌, All, IsTrue, IfOk, MatchOption};
 ghost use Rattle.bk_form.specs.Formula.{Formula, binary};
 ghost use Rattle.bk_bind.specs.Limits.{IsWithinLimits};
-ghost use Rattle.bk_kernel.specs.Sequents.{sequent_of};
+ghost use Rattle.bk_seq.specs.Sequents.{sequent_of};
 
 use bk_bind::{GREATEST_HEIGHT, MOST_NODES};
 use bk_form::{BinOp, Form, View};
@@ -13,7 +13,8 @@ use std::alloc::Global;
 
 /// The two sides of a formula of this operator; None of any other formula.
 pub(crate) fn sides(form: &Form, op: BinOp) -> Option<(&Form, &Form)>
-    ensures { MatchOption result ((p : Formula) → (q : Formula) → form.now ≡ binary op p q → ⊥) (λ x. form.now ≡ binary op x.0.now x.1.now) }
+    ensures { MatchOption result ((p : Formula) → (q : Formula) → form.now ≡ binary op p q → ⊥)
+        (λ x. form.now ≡ binary op x.0.now x.1.now) }
 {
     match form.view() {
         View::Bin(other, left, right) => (other == op).then_some((left, right)),

@@ -1,7 +1,7 @@
 //! Lists of rules, one after another.
 
 ghost use Rattle.std.specs.Prelude.{◌≡◌, ◌<◌, ◌^◌, ◌++◌, ◌⊎◌, length, map, Ok, IfOk, IsErr, OnOk};
-ghost use Rattle.bk_kernel.specs.Sequents.{sequent_of, Types, IsWithin};
+ghost use Rattle.bk_seq.specs.Sequents.{sequent_of, Types, IsWithin};
 ghost use Rattle.bk_kernel.specs.Derivations.{Derives, IsVerdict};
 ghost use Rattle.bk_kernel.specs.declared.replaying.Verdict.TheVariants.{Closed};
 ghost use Rattle.bk_kernel.specs.Standing.{in_order, at_end};

@@ -4,7 +4,7 @@ ghost use Rattle.std.specs.Prelude.{◌≡◌, Some, Err, IfOk, OnOk};
 ghost use Rattle.bk_bind.specs.Limits.{IsWithinLimits};
 ghost use Rattle.bk_seq.specs.Paths.{sub_at, put_at};
 ghost use Rattle.bk_kernel.specs.declared.error.StepFault.TheVariants.{NoInstance};
-ghost use Rattle.bk_kernel.specs.Sequents.{Sequent as Claim, sequent_of, IsWithin};
+ghost use Rattle.bk_seq.specs.Sequents.{Sequent as Claim, sequent_of, IsWithin};
 ghost use Rattle.bk_kernel.specs.Making.{MakesAt};
 
 use crate::error::StepFault;
@@ -25,7 +25,8 @@ pub(crate) fn rewritten(
 ) -> Result<Sequent, StepFault>
     requires { IsWithin (sequent_of sequent.now) }
     ensures value { IfOk result (λ t. MakesAt place.now (sequent_of sequent.now) old.now new (sequent_of t)) }
-    ensures no_instance { result ≡ Err NoInstance → (t : Claim) → MakesAt place.now (sequent_of sequent.now) old.now new t → ⊥ }
+    ensures no_instance { result ≡ Err NoInstance → (t : Claim) →
+        MakesAt place.now (sequent_of sequent.now) old.now new t → ⊥ }
 {
     match place {
         Place::Goal(path) => {
@@ -51,7 +52,8 @@ fn changed(
     ensures stands { OnOk result (sub_at form.now path.now ≡ Some old.now) }
     ensures value { IfOk result (λ f. f ≡ put_at form.now path.now new) }
     ensures within { OnOk result (IsWithinLimits (put_at form.now path.now new)) }
-    ensures no_instance { result ≡ Err NoInstance → sub_at form.now path.now ≡ Some old.now → IsWithinLimits (put_at form.now path.now new) → ⊥ }
+    ensures no_instance { result ≡ Err NoInstance → sub_at form.now path.now ≡ Some old.now →
+        IsWithinLimits (put_at form.now path.now new) → ⊥ }
 {
     let Some(here) = at(form, path) else {
         return Err(StepFault::NoInstance);

@@ -6,9 +6,9 @@ ghost use Rattle.bk_arith.specs.Decision.{is_accepted};
 ghost use Rattle.bk_bind.specs.Limits.{IsWithinLimits};
 ghost use Rattle.bk_laws_log.specs.Instances.{instance_of, instance_at};
 ghost use Rattle.bk_kernel.specs.declared.error.StepFault.TheVariants.{NoInstance};
-ghost use Rattle.bk_kernel.specs.Sequents.{Sequent as Claim, sequent_of, Types, IsWithin};
+ghost use Rattle.bk_seq.specs.Sequents.{Sequent as Claim, sequent_of, Types, IsWithin};
 ghost use Rattle.bk_kernel.specs.Rules.{AreListed, IsInstance};
-ghost use Rattle.bk_kernel.specs.Making.{Makes, MakesByLaw, MakesByArithmetic};
+ghost use Rattle.bk_kernel.specs.Making.{Makes, MakesNothing, MakesByLaw, MakesByArithmetic};
 
 use crate::error::StepFault;
 use crate::parts::{are_within, sides, supposing_both, under};
@@ -32,8 +32,10 @@ pub fn step(
 ) -> Result<Vec<Sequent>, StepFault>
     requires types { Types types.now (sequent_of sequent) }
     requires within { IsWithin (sequent_of sequent) }
-    ensures value { IfOk result (λ news. IsInstance types.now (sequent_of sequent) rule.now (map sequent_of news.items)) }
-    ensures no_instance { result ≡ Err NoInstance → (news : List Claim) → IsInstance types.now (sequent_of sequent) rule.now news → ⊥ }
+    ensures value { IfOk result
+        (λ news. IsInstance types.now (sequent_of sequent) rule.now (map sequent_of news.items)) }
+    ensures no_instance { result ≡ Err NoInstance → (news : List Claim) →
+        IsInstance types.now (sequent_of sequent) rule.now news → ⊥ }
 {
     made(alloc, &sequent, rule)
 }
@@ -42,7 +44,7 @@ pub fn step(
 fn made(alloc: Global, sequent: &Sequent, rule: &Rule) -> Result<Vec<Sequent>, StepFault>
     requires { IsWithin (sequent_of sequent.now) }
     ensures value { IfOk result (λ news. Makes (sequent_of sequent.now) rule.now (map sequent_of news.items)) }
-    ensures no_instance { result ≡ Err NoInstance → (news : List Claim) → Makes (sequent_of sequent.now) rule.now news → ⊥ }
+    ensures no_instance { result ≡ Err NoInstance → MakesNothing (sequent_of sequent.now) rule.now }
 {
     match rule {
         Rule::Hyp(number) => by_hypothesis(alloc, sequent, *number),
@@ -63,7 +65,7 @@ fn made(alloc: Global, sequent: &Sequent, rule: &Rule) -> Result<Vec<Sequent>, S
 // The goal is that hypothesis.
 fn by_hypothesis(alloc: Global, sequent: &Sequent, number: u32) -> Result<Vec<Sequent>, StepFault>
     ensures value { IfOk result (λ news. Makes (sequent_of sequent.now) (Rule.Hyp number) (map sequent_of news.items)) }
-    ensures no_instance { result ≡ Err NoInstance → (news : List Claim) → Makes (sequent_of sequent.now) (Rule.Hyp number) news → ⊥ }
+    ensures no_instance { result ≡ Err NoInstance → MakesNothing (sequent_of sequent.now) (Rule.Hyp number) }
 {
     let Some(hypothesis) = numbered(&sequent.hyps, number) else {
         return Err(StepFault::NoInstance);
@@ -77,7 +79,7 @@ fn by_hypothesis(alloc: Global, sequent: &Sequent, number: u32) -> Result<Vec<Se
 // The goal is `E = E`.
 fn by_sameness(alloc: Global, sequent: &Sequent) -> Result<Vec<Sequent>, StepFault>
     ensures value { IfOk result (λ news. Makes (sequent_of sequent.now) Rule.Same (map sequent_of news.items)) }
-    ensures no_instance { result ≡ Err NoInstance → (news : List Claim) → Makes (sequent_of sequent.now) Rule.Same news → ⊥ }
+    ensures no_instance { result ≡ Err NoInstance → MakesNothing (sequent_of sequent.now) Rule.Same }
 {
     let Some((left, right)) = sides(&sequent.goal, BinOp::Eq) else {
         return Err(StepFault::NoInstance);
@@ -92,7 +94,7 @@ fn by_sameness(alloc: Global, sequent: &Sequent) -> Result<Vec<Sequent>, StepFau
 fn both_sides(alloc: Global, sequent: &Sequent) -> Result<Vec<Sequent>, StepFault>
     requires { IsWithin (sequent_of sequent.now) }
     ensures value { IfOk result (λ news. Makes (sequent_of sequent.now) Rule.And (map sequent_of news.items)) }
-    ensures no_instance { result ≡ Err NoInstance → (news : List Claim) → Makes (sequent_of sequent.now) Rule.And news → ⊥ }
+    ensures no_instance { result ≡ Err NoInstance → MakesNothing (sequent_of sequent.now) Rule.And }
 {
     let Some((left, right)) = sides(&sequent.goal, BinOp::And) else {
         return Err(StepFault::NoInstance);
@@ -106,7 +108,7 @@ fn both_sides(alloc: Global, sequent: &Sequent) -> Result<Vec<Sequent>, StepFaul
 fn left_side(alloc: Global, sequent: &Sequent) -> Result<Vec<Sequent>, StepFault>
     requires { IsWithin (sequent_of sequent.now) }
     ensures value { IfOk result (λ news. Makes (sequent_of sequent.now) Rule.Left (map sequent_of news.items)) }
-    ensures no_instance { result ≡ Err NoInstance → (news : List Claim) → Makes (sequent_of sequent.now) Rule.Left news → ⊥ }
+    ensures no_instance { result ≡ Err NoInstance → MakesNothing (sequent_of sequent.now) Rule.Left }
 {
     let Some((left, _)) = sides(&sequent.goal, BinOp::Or) else {
         return Err(StepFault::NoInstance);
@@ -119,7 +121,7 @@ fn left_side(alloc: Global, sequent: &Sequent) -> Result<Vec<Sequent>, StepFault
 fn right_side(alloc: Global, sequent: &Sequent) -> Result<Vec<Sequent>, StepFault>
     requires { IsWithin (sequent_of sequent.now) }
     ensures value { IfOk result (λ news. Makes (sequent_of sequent.now) Rule.Right (map sequent_of news.items)) }
-    ensures no_instance { result ≡ Err NoInstance → (news : List Claim) → Makes (sequent_of sequent.now) Rule.Right news → ⊥ }
+    ensures no_instance { result ≡ Err NoInstance → MakesNothing (sequent_of sequent.now) Rule.Right }
 {
     let Some((_, right)) = sides(&sequent.goal, BinOp::Or) else {
         return Err(StepFault::NoInstance);
@@ -135,8 +137,9 @@ fn parts_of_hypothesis(
     number: u32,
 ) -> Result<Vec<Sequent>, StepFault>
     requires { IsWithin (sequent_of sequent.now) }
-    ensures value { IfOk result (λ news. Makes (sequent_of sequent.now) (Rule.Split number) (map sequent_of news.items)) }
-    ensures no_instance { result ≡ Err NoInstance → (news : List Claim) → Makes (sequent_of sequent.now) (Rule.Split number) news → ⊥ }
+    ensures value { IfOk result
+        (λ news. Makes (sequent_of sequent.now) (Rule.Split number) (map sequent_of news.items)) }
+    ensures no_instance { result ≡ Err NoInstance → MakesNothing (sequent_of sequent.now) (Rule.Split number) }
 {
     let Some(hypothesis) = numbered(&sequent.hyps, number) else {
         return Err(StepFault::NoInstance);
@@ -152,7 +155,7 @@ fn parts_of_hypothesis(
 fn by_supposing(alloc: Global, sequent: &Sequent) -> Result<Vec<Sequent>, StepFault>
     requires { IsWithin (sequent_of sequent.now) }
     ensures value { IfOk result (λ news. Makes (sequent_of sequent.now) Rule.Imp (map sequent_of news.items)) }
-    ensures no_instance { result ≡ Err NoInstance → (news : List Claim) → Makes (sequent_of sequent.now) Rule.Imp news → ⊥ }
+    ensures no_instance { result ≡ Err NoInstance → MakesNothing (sequent_of sequent.now) Rule.Imp }
 {
     let Some((left, right)) = sides(&sequent.goal, BinOp::Imp) else {
         return Err(StepFault::NoInstance);
@@ -170,8 +173,9 @@ fn by_equation(
     place: &Place,
 ) -> Result<Vec<Sequent>, StepFault>
     requires { IsWithin (sequent_of sequent.now) }
-    ensures value { IfOk result (λ news. Makes (sequent_of sequent.now) (Rule.Eq number place.now) (map sequent_of news.items)) }
-    ensures no_instance { result ≡ Err NoInstance → (news : List Claim) → Makes (sequent_of sequent.now) (Rule.Eq number place.now) news → ⊥ }
+    ensures value { IfOk result
+        (λ news. Makes (sequent_of sequent.now) (Rule.Eq number place.now) (map sequent_of news.items)) }
+    ensures no_instance { result ≡ Err NoInstance → MakesNothing (sequent_of sequent.now) (Rule.Eq number place.now) }
 {
     let Some(hypothesis) = numbered(&sequent.hyps, number) else {
         return Err(StepFault::NoInstance);
@@ -191,8 +195,9 @@ fn by_reverse(
     place: &Place,
 ) -> Result<Vec<Sequent>, StepFault>
     requires { IsWithin (sequent_of sequent.now) }
-    ensures value { IfOk result (λ news. Makes (sequent_of sequent.now) (Rule.Qe number place.now) (map sequent_of news.items)) }
-    ensures no_instance { result ≡ Err NoInstance → (news : List Claim) → Makes (sequent_of sequent.now) (Rule.Qe number place.now) news → ⊥ }
+    ensures value { IfOk result
+        (λ news. Makes (sequent_of sequent.now) (Rule.Qe number place.now) (map sequent_of news.items)) }
+    ensures no_instance { result ≡ Err NoInstance → MakesNothing (sequent_of sequent.now) (Rule.Qe number place.now) }
 {
     let Some(hypothesis) = numbered(&sequent.hyps, number) else {
         return Err(StepFault::NoInstance);
@@ -213,8 +218,10 @@ fn by_law(
     place: &Place,
 ) -> Result<Vec<Sequent>, StepFault>
     requires { IsWithin (sequent_of sequent.now) }
-    ensures value { IfOk result (λ news. MakesByLaw (sequent_of sequent.now) law picks.now place.now (map sequent_of news.items)) }
-    ensures no_instance { result ≡ Err NoInstance → (news : List Claim) → MakesByLaw (sequent_of sequent.now) law picks.now place.now news → ⊥ }
+    ensures value { IfOk result
+        (λ news. MakesByLaw (sequent_of sequent.now) law picks.now place.now (map sequent_of news.items)) }
+    ensures no_instance { result ≡ Err NoInstance → (news : List Claim) →
+        MakesByLaw (sequent_of sequent.now) law picks.now place.now news → ⊥ }
 {
     if !are_within(picks) {
         return Err(StepFault::NoInstance);
@@ -262,8 +269,10 @@ fn by_arithmetic(
     facts: &[u32],
     lines: &[Line],
 ) -> Result<Vec<Sequent>, StepFault>
-    ensures value { IfOk result (λ news. MakesByArithmetic (sequent_of sequent.now) facts.now lines.now (map sequent_of news.items)) }
-    ensures no_instance { result ≡ Err NoInstance → (news : List Claim) → MakesByArithmetic (sequent_of sequent.now) facts.now lines.now news → ⊥ }
+    ensures value { IfOk result
+        (λ news. MakesByArithmetic (sequent_of sequent.now) facts.now lines.now (map sequent_of news.items)) }
+    ensures no_instance { result ≡ Err NoInstance → (news : List Claim) →
+        MakesByArithmetic (sequent_of sequent.now) facts.now lines.now news → ⊥ }
 {
     let hyps = listed(alloc, &sequent.hyps, facts)?;
     check_lines(alloc, &hyps, &sequent.goal, lines)?;

@@ -26,6 +26,7 @@ interval_law a b c = record {
 abbrev pub taken_by : ℕ → Option ℕ
 taken_by law = cond (nat_eq law 105) (Some 3) None
 
+-- a law that takes three formulas, where so many are given
 abbrev pub of_three : (Formula → Formula → Formula → Instance) → List Formula → Option Instance
 of_three law (a ∷ b ∷ c ∷ []) = Some (law a b c)
 of_three law _ = None

@@ -5,6 +5,3 @@ pub mod laws;
 mod row;
 
 pub use row::instance;
-
-#[cfg(test)]
-mod tests;

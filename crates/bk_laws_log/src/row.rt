@@ -21,7 +21,9 @@ pub fn instance(alloc: Global, law: u16, picks: &[Form]) -> Result<LawInstance, 
     requires { All IsWithinLimits picks.now }
     ensures value { IfOk result (λ i. instance_at law picks.now ≡ Some (instance_of i)) }
     ensures unknown { (result ≡ Err Unknown) ↔ (taken_by law ≡ None) }
-    ensures picks { (k : ℕ) → (result ≡ Err (Picks k)) ↔ ((n : ℕ) × (taken_by law ≡ Some n) × (length picks.now ≢ n) × (k ≡ min (length picks.now) (2 ^ 32 - 1))) }
+    ensures picks { (k : ℕ) →
+        (result ≡ Err (Picks k)) ↔
+        ((n : ℕ) × (taken_by law ≡ Some n) × (length picks.now ≢ n) × (k ≡ min (length picks.now) (2 ^ 32 - 1))) }
 {
     if law != INTERVAL {
         return Err(LawFault::Unknown);

@@ -20,6 +20,7 @@ is_identifier (c ∷ cs) = is_xid_start c && list_all is_xid_continue cs
 abbrev pub IsIdentifier : List ℕ → Type 0
 IsIdentifier text = (characters : List ℕ) × (text ≡ encode_utf8_all characters) × IsTrue (is_identifier characters)
 
+-- a byte from 0 to 9, as written
 abbrev pub is_digit : ℕ → Bool
 is_digit c = nat_le 48 c && nat_le c 57
 
@@ -42,6 +43,7 @@ number_in n (first ∷ others) text = cond (bytes_eq text first) (Some n) (numbe
 abbrev pub sign_number : List ℕ → Option ℕ
 sign_number text = number_in 0 sign_texts text
 
+-- the number of a reserved word; the first is 57, behind the signs
 abbrev pub word_number : List ℕ → Option ℕ
 word_number text = number_in 57 word_texts text
 
@@ -81,6 +83,7 @@ pub data Gap : Type 0 where
   block : List ℕ → Gap
   line : List ℕ → Gap
 
+-- how it stands in the text: the blank itself, or a comment with its /* and */ or its //
 abbrev pub gap_text : Gap → List ℕ
 gap_text (blank c) = c ∷ []
 gap_text (block body) = codes "/*" ++ body ++ codes "*/"
@@ -91,6 +94,7 @@ abbrev pub ends_line : List ℕ → Bool
 ends_line [] = true
 ends_line (c ∷ cs) = nat_eq c 10
 
+-- any byte but a line feed
 abbrev pub stays_in_line : ℕ → Bool
 stays_in_line c = not (nat_eq c 10)
 

@@ -32,6 +32,7 @@ pub record IsFirstNumeral (text digits rest : List ℕ) : Type 0 where
 abbrev pub IsFirstDollar : List ℕ → List ℕ → List ℕ → Type 0
 IsFirstDollar text digits rest = (numeral : List ℕ) × (text ≡ 36 ∷ numeral) × IsFirstNumeral numeral digits rest
 
+-- the text begins with no $ that has digits behind it
 abbrev pub BeginsNoDollar : List ℕ → Type 0
 BeginsNoDollar text = (digits after : List ℕ) → is_numeral digits ≡ true → text ≢ 36 ∷ (digits ++ after)
 
@@ -45,6 +46,7 @@ pub record IsFirstIdentifier (text word rest : List ℕ) : Type 0 where
   pub identifier : IsIdentifier word
   pub ends : ContinuesNot rest
 
+-- the text begins with no identifier
 abbrev pub BeginsNoIdentifier : List ℕ → Type 0
 BeginsNoIdentifier text = (word after : List ℕ) → IsIdentifier word → text ≢ word ++ after
 
@@ -55,6 +57,7 @@ pub record IsFirstSign (op : ℕ) (text rest : List ℕ) : Type 0 where
   pub splits : text ≡ written ++ rest
   pub longest : (other : ℕ) (more after : List ℕ) → sign_number more ≡ Some other → text ≡ more ++ after → length more ≤ length written
 
+-- the text begins with no sign
 abbrev pub BeginsNoSign : List ℕ → Type 0
 BeginsNoSign text = (op : ℕ) (written after : List ℕ) → sign_number written ≡ Some op → text ≢ written ++ after
 
@@ -63,6 +66,7 @@ pub record NoGap (text : List ℕ) : Type 0 where
   pub no_gap : (gap : Gap) (after : List ℕ) → IsGap gap after → text ≢ gap_text gap ++ after
   pub comment : NoComment text
 
+-- the rest is what stands behind all the blanks and comments in front
 abbrev pub IsBehindGaps : List ℕ → List ℕ → Type 0
 IsBehindGaps text rest = (gaps : List Gap) × AreGaps gaps text rest × NoGap rest × (length rest ≤ length text) × IsUtf8 rest
 
@@ -92,6 +96,7 @@ IsFirstToken kind text rest = BeginsWith kind text rest × Fits kind
 abbrev pub NoSignOfLength : ℕ → List ℕ → Type 0
 NoSignOfLength count text = (op : ℕ) (written after : List ℕ) → length written ≡ count → sign_number written ≡ Some op → text ≢ written ++ after
 
+-- these are the text's tokens, at most 1000000
 abbrev pub IsAnswer : List ℕ → List Token → Type 0
 IsAnswer text tokens = AreTokens text tokens × (length tokens ≤ 1000000)
 

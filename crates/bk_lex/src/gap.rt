@@ -41,7 +41,10 @@ fn is_blank(c: u8) -> bool
 /// What stands behind the comment that the text begins with, if it begins with one.
 fn after_comment(text: &str, total: usize) -> Result<Option<&str>, LexFault>
     requires { length text.now ≤ total }
-    ensures { MatchResult result (λ found. MatchOption found (NoComment text.now) (λ rest. (gap : Gap) × (text.now ≡ gap_text gap ++ rest.now) × IsGap gap rest.now)) (IsGapFault total text.now) }
+    ensures { MatchResult result
+        (λ found. MatchOption found (NoComment text.now)
+        (λ rest. (gap : Gap) × (text.now ≡ gap_text gap ++ rest.now) ×
+        IsGap gap rest.now)) (IsGapFault total text.now) }
 {
     if let Some(body) = text.strip_prefix("/*") {
         let Some((_, rest)) = body.split_once("*/") else {

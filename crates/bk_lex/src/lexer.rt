@@ -93,7 +93,8 @@ fn first_name<'a>(
 ) -> Result<(TokenKind, &'a str), LexFault>
     requires first { IsFirstIdentifier (word.now ++ rest.now) word.now rest.now }
     requires comment { NoComment (word.now ++ rest.now) }
-    ensures { MatchResult result (λ pair. IsFirstToken pair.0 (word.now ++ rest.now) pair.1.now) (IsTokenFault (word.now ++ rest.now) start) }
+    ensures { MatchResult result
+        (λ pair. IsFirstToken pair.0 (word.now ++ rest.now) pair.1.now) (IsTokenFault (word.now ++ rest.now) start) }
 {
     if let Some((digits, rest)) = first_dollar(rest) {
         let Some(number) = level(digits) else {

@@ -11,6 +11,3 @@ mod table;
 
 pub use fault::LexFault;
 pub use lexer::tokens;
-
-#[cfg(test)]
-mod tests;

@@ -9,7 +9,8 @@ use unicode_ident::{is_xid_continue, is_xid_start};
 
 /// The identifier that the text begins with, and the rest.
 pub(crate) fn first_identifier(text: &str) -> Option<(&[u8], &str)>
-    ensures { MatchOption result (BeginsNoIdentifier text.now) (λ pair. IsFirstIdentifier text.now pair.0.now pair.1.now) }
+    ensures { MatchOption result (BeginsNoIdentifier text.now)
+        (λ pair. IsFirstIdentifier text.now pair.0.now pair.1.now) }
 {
     if !is_xid_start(text.chars().next()?) {
         return None;
@@ -30,7 +31,8 @@ fn identifier_length(text: &str) -> usize
 
 /// The digits that the text begins with, and the rest.
 pub(crate) fn first_numeral(text: &str) -> Option<(&[u8], &str)>
-    ensures { MatchOption result (begins is_digit text.now ≡ false) (λ pair. IsFirstNumeral text.now pair.0.now pair.1.now) }
+    ensures { MatchOption result (begins is_digit text.now ≡ false)
+        (λ pair. IsFirstNumeral text.now pair.0.now pair.1.now) }
 {
     if !is_digit(*text.as_bytes().first()?) {
         return None;
@@ -75,7 +77,8 @@ pub(crate) fn first_sign<'a>(tables: &Tables, text: &'a str) -> Option<(u16, &'a
 
 /// The number of the sign that the first bytes are.
 fn sign_of_length(tables: &Tables, text: &[u8], count: usize) -> Option<u16>
-    ensures { MatchOption result (NoSignOfLength count text.now) (λ op. (count ≤ length text.now) × (sign_number (take count text.now) ≡ Some op)) }
+    ensures { MatchOption result (NoSignOfLength count text.now)
+        (λ op. (count ≤ length text.now) × (sign_number (take count text.now) ≡ Some op)) }
 {
     tables.sign_number(text.get(..count)?)
 }

@@ -13,6 +13,7 @@ use Rattle.bk_lin.specs.Inequality.{Inequality, zero_of, times, plus_all, partia
 abbrev pub inequality_of : Fact → Inequality
 inequality_of f = record { coefs = f.coefs.items; constant = f.constant }
 
+-- what each of these facts says
 abbrev pub inequalities : List Fact → List Inequality
 inequalities facts = map inequality_of facts
 

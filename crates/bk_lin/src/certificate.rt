@@ -21,11 +21,16 @@ pub fn check(facts: &[Fact], cert: &[Line], work: &mut [i128]) -> Result<(), Cer
     requires one_width { All (λ f. length f.coefs.items ≡ width_of facts.now) facts.now }
     requires room { length work.old ≡ (width_of facts.now + 1) * length cert.now }
     ensures ok { IsOk result ↔ (IsRight facts.now cert.now × IsClosed facts.now cert.now) }
-    ensures bad_line { (k : ℕ) → (result ≡ Err (CertFault.BadLine k)) ↔ IsFirstFault facts.now cert.now k (CertFault.BadLine k) }
-    ensures negative { (k : ℕ) → (result ≡ Err (CertFault.Negative k)) ↔ IsFirstFault facts.now cert.now k (CertFault.Negative k) }
-    ensures too_wide { (k : ℕ) → (result ≡ Err (CertFault.TooWide k)) ↔ IsFirstFault facts.now cert.now k (CertFault.TooWide k) }
-    ensures not_closed { (result ≡ Err CertFault.NotClosed) ↔ (IsRight facts.now cert.now × (IsClosed facts.now cert.now → ⊥)) }
-    ensures answer { let fault = certificate_fault (width_of facts.now) (inequalities facts.now) cert.now in MatchResult result (λ _. fault ≡ None) (λ e. fault ≡ Some e) }
+    ensures bad_line { (k : ℕ) →
+        (result ≡ Err (CertFault.BadLine k)) ↔ IsFirstFault facts.now cert.now k (CertFault.BadLine k) }
+    ensures negative { (k : ℕ) →
+        (result ≡ Err (CertFault.Negative k)) ↔ IsFirstFault facts.now cert.now k (CertFault.Negative k) }
+    ensures too_wide { (k : ℕ) →
+        (result ≡ Err (CertFault.TooWide k)) ↔ IsFirstFault facts.now cert.now k (CertFault.TooWide k) }
+    ensures not_closed { (result ≡ Err CertFault.NotClosed) ↔
+        (IsRight facts.now cert.now × (IsClosed facts.now cert.now → ⊥)) }
+    ensures answer { let fault = certificate_fault (width_of facts.now) (inequalities facts.now) cert.now in
+        MatchResult result (λ _. fault ≡ None) (λ e. fault ≡ Some e) }
     ensures sound { OnOk result ((atoms : ℕ → ℤ) → All (IsTrueOf atoms) (inequalities facts.now) → ⊥) }
 {
     if cert.is_empty() {
@@ -67,7 +72,8 @@ fn make_facts(
     requires one_width { All (λ f. length f.coefs.items ≡ width_of facts.now) facts.now }
     requires room { length work.old ≡ size * length cert.now }
     ensures right { OnOk result (IsRight facts.now cert.now) }
-    ensures made { OnOk result (facts_after (width_of facts.now) (inequalities facts.now) cert.now ≡ standing_of facts.now size (length cert.now) work.new) }
+    ensures made { OnOk result (facts_after (width_of facts.now) (inequalities facts.now) cert.now ≡
+        standing_of facts.now size (length cert.now) work.new) }
     ensures fault { IfErr result (λ e. IsFirstFault facts.now cert.now (number_of e) e) }
 {
     for (index, line) in cert.iter().enumerate() {
@@ -89,8 +95,11 @@ fn make_line(
     requires countable { index + 1 < 2 ^ 64 }
     requires room { (index + 1) * size ≤ length work.old }
     ensures kept { take (index * size) work.new ≡ take (index * size) work.old }
-    ensures fault { let fault = line_fault (width_of facts.now) (index + 1) (standing_of facts.now size index work.old) line.now in MatchResult result (λ _. fault ≡ None) (λ e. fault ≡ Some e) }
-    ensures made { OnOk result (held_at size work.new index ≡ line_fact (width_of facts.now) (standing_of facts.now size index work.old) line.now) }
+    ensures fault { let fault = line_fault (width_of facts.now) (index + 1)
+        (standing_of facts.now size index work.old) line.now in
+        MatchResult result (λ _. fault ≡ None) (λ e. fault ≡ Some e) }
+    ensures made { OnOk result (held_at size work.new index ≡
+        line_fact (width_of facts.now) (standing_of facts.now size index work.old) line.now) }
 {
     let (made, rest) = work.split_at_mut(index * size);
     make_next(facts, size, index, line, made, rest)
@@ -110,8 +119,11 @@ fn make_next(
     requires made_length { length made.now ≡ index * size }
     requires countable { index + 1 < 2 ^ 64 }
     requires room { size ≤ length rest.old }
-    ensures fault { let fault = line_fault (width_of facts.now) (index + 1) (standing_of facts.now size index made.now) line.now in MatchResult result (λ _. fault ≡ None) (λ e. fault ≡ Some e) }
-    ensures made { OnOk result (held_in (take size rest.new) ≡ line_fact (width_of facts.now) (standing_of facts.now size index made.now) line.now) }
+    ensures fault { let fault = line_fault (width_of facts.now) (index + 1)
+        (standing_of facts.now size index made.now) line.now in
+        MatchResult result (λ _. fault ≡ None) (λ e. fault ≡ Some e) }
+    ensures made { OnOk result (held_in (take size rest.new) ≡
+        line_fact (width_of facts.now) (standing_of facts.now size index made.now) line.now) }
 {
     let standing = Standing {
         given: facts,

@@ -3,14 +3,14 @@
 use thiserror::Error;
 
 /// Says that 0 is at most the sum of each coefficient times its atom, and the constant.
-#[derive(Debug, Drop)]
+#[derive(Drop)]
 pub struct Fact {
     pub coefs: Vec<i128>,
     pub constant: i128,
 }
 
 /// Makes one fact of those that stand before it. Facts number from 1: the given ones first, then one for each line.
-#[derive(Debug, Drop)]
+#[derive(Drop)]
 pub enum Line {
     /// The sum of multiples: each a multiplier, which is not negative, and the number of a fact.
     Sum(Vec<(i128, u32)>),

@@ -9,6 +9,3 @@ mod standing;
 
 pub use certificate::check;
 pub use fact::{CertFault, Fact, Line};
-
-#[cfg(test)]
-mod tests;

@@ -17,8 +17,10 @@ pub fn make_fact(standing: &Standing, line: &Line, target: &mut [i128]) -> Resul
     requires laid_out { IsLaidOut standing.now }
     requires countable { standing.now.lines + 1 < 2 ^ 64 }
     requires room { length target.old ≡ standing.now.size }
-    ensures fault { let fault = line_fault (standing.now.size - 1) (standing.now.lines + 1) (facts_of standing.now) line.now in MatchResult result (λ _. fault ≡ None) (λ e. fault ≡ Some e) }
-    ensures made { OnOk result (held_in target.new ≡ line_fact (standing.now.size - 1) (facts_of standing.now) line.now) }
+    ensures fault { let fault = line_fault (standing.now.size - 1) (standing.now.lines + 1)
+        (facts_of standing.now) line.now in MatchResult result (λ _. fault ≡ None) (λ e. fault ≡ Some e) }
+    ensures made { OnOk result (held_in target.new ≡
+        line_fact (standing.now.size - 1) (facts_of standing.now) line.now) }
 {
     match line {
         Line::Sum(parts) => make_sum(standing, parts.as_slice(), target),
@@ -34,8 +36,10 @@ fn make_sum(
     requires laid_out { IsLaidOut standing.now }
     requires countable { standing.now.lines + 1 < 2 ^ 64 }
     requires room { length target.old ≡ standing.now.size }
-    ensures fault { let fault = sum_fault (standing.now.size - 1) (standing.now.lines + 1) (facts_of standing.now) parts.now in MatchResult result (λ _. fault ≡ None) (λ e. fault ≡ Some e) }
-    ensures made { OnOk result (held_in target.new ≡ sum_fact (standing.now.size - 1) (facts_of standing.now) parts.now) }
+    ensures fault { let fault = sum_fault (standing.now.size - 1) (standing.now.lines + 1)
+        (facts_of standing.now) parts.now in MatchResult result (λ _. fault ≡ None) (λ e. fault ≡ Some e) }
+    ensures made { OnOk result (held_in target.new ≡
+        sum_fact (standing.now.size - 1) (facts_of standing.now) parts.now) }
 {
     let number = standing.lines + 1;
     if !all_stand(standing, parts) {
@@ -64,8 +68,10 @@ fn sum_up(standing: &Standing, parts: &[(i128, u32)], target: &mut [i128]) -> Op
     requires laid_out { IsLaidOut standing.now }
     requires room { length target.old ≡ standing.now.size }
     requires numbers { IsTrue (list_all (λ (p : ℤ × ℕ). is_number (facts_of standing.now) p.1) parts.now) }
-    ensures fits { IsSome result ↔ IsTrue (sums_fit (standing.now.size - 1) (multiples_of (facts_of standing.now) parts.now)) }
-    ensures sum { OnSome result (held_in target.new ≡ sum_fact (standing.now.size - 1) (facts_of standing.now) parts.now) }
+    ensures fits { IsSome result ↔
+        IsTrue (sums_fit (standing.now.size - 1) (multiples_of (facts_of standing.now) parts.now)) }
+    ensures sum { OnSome result (held_in target.new ≡
+        sum_fact (standing.now.size - 1) (facts_of standing.now) parts.now) }
 {
     target.fill(0);
     for (multiplier, fact) in parts {
@@ -83,7 +89,8 @@ fn make_quotient(
     requires laid_out { IsLaidOut standing.now }
     requires countable { standing.now.lines + 1 < 2 ^ 64 }
     requires room { length target.old ≡ standing.now.size }
-    ensures fault { let fault = quotient_fault (standing.now.lines + 1) (facts_of standing.now) fact by in MatchResult result (λ _. fault ≡ None) (λ e. fault ≡ Some e) }
+    ensures fault { let fault = quotient_fault (standing.now.lines + 1) (facts_of standing.now) fact by in
+        MatchResult result (λ _. fault ≡ None) (λ e. fault ≡ Some e) }
     ensures made { OnOk result (held_in target.new ≡ quotient_of (fact_at (facts_of standing.now) fact) by) }
 {
     let number = standing.lines + 1;

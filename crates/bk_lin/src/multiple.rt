@@ -10,8 +10,10 @@ use crate::standing::Row;
 /// Adds the multiple to the fact that `target` holds; none where a product or a sum is too wide, and then `target` is open.
 pub fn add_multiple(target: &mut [i128], multiplier: i128, row: Row) -> Option<()>
     requires { length target.old ≡ length row.coefs.now + 1 }
-    ensures narrow { let product = times multiplier (shown row.entry.coefs.now row.entry.constant) in IsSome result ↔ IsTrue (is_narrow product && is_narrow (plus (held_in target.old) product)) }
-    ensures added { OnSome result (held_in target.new ≡ plus (held_in target.old) (times multiplier (shown row.entry.coefs.now row.entry.constant))) }
+    ensures narrow { let product = times multiplier (shown row.entry.coefs.now row.entry.constant) in
+        IsSome result ↔ IsTrue (is_narrow product && is_narrow (plus (held_in target.old) product)) }
+    ensures added { OnSome result (held_in target.new ≡
+        plus (held_in target.old) (times multiplier (shown row.entry.coefs.now row.entry.constant))) }
 {
     for (k, sum) in target.iter_mut().enumerate() {
         *sum = add_product(*sum, multiplier, row.entry(k))?;
@@ -20,7 +22,8 @@ pub fn add_multiple(target: &mut [i128], multiplier: i128, row: Row) -> Option<(
 }
 
 fn add_product(sum: i128, multiplier: i128, entry: i128) -> Option<i128>
-    ensures { SomeIff result (IsTrue (is_i128 (multiplier *ℤ entry) && is_i128 (sum +ℤ multiplier *ℤ entry))) (sum +ℤ multiplier *ℤ entry) }
+    ensures { SomeIff result (IsTrue (is_i128 (multiplier *ℤ entry) && is_i128 (sum +ℤ multiplier *ℤ entry)))
+        (sum +ℤ multiplier *ℤ entry) }
 {
     let product = multiplier.checked_mul(entry)?;
     sum.checked_add(product)

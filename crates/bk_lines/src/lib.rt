@@ -4,6 +4,3 @@
 mod line;
 
 pub use line::{first_line, is_skipped};
-
-#[cfg(test)]
-mod tests;

@@ -9,6 +9,3 @@ mod names;
 
 pub use error::Memory;
 pub use names::Names;
-
-#[cfg(test)]
-mod tests;

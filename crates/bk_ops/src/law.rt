@@ -1,7 +1,7 @@
 //! Rows of laws.
 
 /// A pattern: an operator over two patterns, each given by its number.
-#[derive(Clone, Copy, Debug, PartialEq, Eq)]
+#[derive(Clone, Copy)]
 pub struct Pat {
     /// The number of a row of [`crate::signs`] or [`crate::words`].
     pub op: u16,
@@ -10,7 +10,7 @@ pub struct Pat {
 }
 
 /// A law: under its side conditions the left pattern equals the right one, for all that is picked.
-#[derive(Clone, Copy, Debug, PartialEq, Eq)]
+#[derive(Clone, Copy)]
 pub struct Law {
     pub name: u16,
     /// How many formulas a use of the law picks.

@@ -12,6 +12,3 @@ pub use law::{Law, Pat};
 pub use row::{NO_OPERATOR, OpRow};
 pub use search::find;
 pub use table::{signs, words};
-
-#[cfg(test)]
-mod tests;

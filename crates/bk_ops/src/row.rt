@@ -6,7 +6,7 @@ ghost use Rattle.std.specs.Prelude.{◌≡◌, ◌≤◌, take};
 pub const NO_OPERATOR: u8 = 255;
 
 /// A sign or a word of the notation.
-#[derive(Clone, Copy, Debug, PartialEq, Eq)]
+#[derive(Clone, Copy)]
 pub struct OpRow {
     /// The text, in the first `len` bytes.
     pub text: [u8; 20],

@@ -5,7 +5,7 @@ use Rattle.bk_form.specs.declared.token.Token.{Token}
 use Rattle.bk_ops.specs.declared.sign.TheConstants.{COMMA, CLOSE_PAREN}
 use Rattle.bk_raw.specs.RawTree.{RawTree, raw, RawTreeNode, raw_pair}
 use Rattle.bk_raw.specs.Spelling.{Spells}
-use Rattle.bk_raw.proofs.Reading.{next, sign, start, begins_with, arguments}
+use Rattle.bk_raw.specs.Reading.{next, sign, start, begins_with, arguments}
 use Rattle.bk_p_expr.specs.Parts.{arguments_of, read_of, chain_of}
 use Rattle.bk_raw.proofs.SoundTerms.{read_spells}
 

@@ -5,7 +5,7 @@ use Rattle.bk_form.specs.declared.token.Token.{Token}
 use Rattle.bk_ops.specs.declared.sign.TheConstants.{OPEN_PAREN, CLOSE_PAREN}
 use Rattle.bk_raw.specs.WrittenType.{WrittenType}
 use Rattle.bk_raw.specs.declared.term.RawName.{RawName}
-use Rattle.bk_raw.proofs.Reading.{next, sign, begins_with, name, bound, within}
+use Rattle.bk_raw.specs.Reading.{next, sign, begins_with, name, bound, within}
 use Rattle.bk_p_expr.specs.Parts.{binder_of, names_of, typed_of, typed_name_of}
 use Rattle.bk_p_expr.proofs.Choices.{next_found, next_fails}
 

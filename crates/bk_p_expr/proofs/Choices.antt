@@ -2,7 +2,7 @@
 use Rattle.std.specs.Prelude.{◌≡◌, Option, None, Some, List, MatchOption, refl}
 use Rattle.std.proofs.Common.{sym, subst, ◌∙◌}
 use Rattle.bk_form.specs.declared.token.Token.{Token}
-use Rattle.bk_raw.proofs.Reading.{next}
+use Rattle.bk_raw.specs.Reading.{next}
 
 abbrev pub or_else : {A : Type 0} → Option A → Option A → Option A
 or_else None other = other

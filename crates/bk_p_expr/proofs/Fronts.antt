@@ -14,7 +14,7 @@ use Rattle.bk_raw.specs.declared.operator.WordOp.TheVariants.{Not}
 use Rattle.bk_raw.specs.declared.operator.Constant.{Constant}
 use Rattle.bk_raw.specs.declared.term.RawName.{RawName}
 use Rattle.bk_raw.specs.declared.term.RawBound.{RawBound}
-use Rattle.bk_raw.proofs.Reading.{next, sign, start, begins_with, signed, front_kind, infix_of, word_of, constant_of, within}
+use Rattle.bk_raw.specs.Reading.{next, sign, start, begins_with, signed, front_kind, infix_of, word_of, constant_of, within}
 use Rattle.bk_p_expr.specs.Parts.{arguments_of, at_byte, begins_bound_in, binders_of, body_of, bracketed_of, braces_of, enclosed_of, exponent_of, lambda_of, ranged_lambda_of, body_and_value_of, comprehension_of, typed_empty_of, extension_of, operand_of, operator_by, operator_of, parentheses_of, primary_of, quantified_of, suffix_of, tight_of, worded_by, read_of, chain_of, ranges_of, terms_of, binder_of, bounds_of, typed_of, names_of}
 use Rattle.bk_p_expr.specs.Pieces.{IsPiece}
 use Rattle.bk_p_expr.specs.Found.{Finds, FindsNone, FindsLeaf, FindsSuffix, IsNoLeaf}

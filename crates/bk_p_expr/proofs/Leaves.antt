@@ -9,7 +9,7 @@ use Rattle.bk_raw.specs.Operators.{constant_kind}
 use Rattle.bk_raw.specs.RawTree.{RawTree, raw, raw_name, raw_level_name, raw_bound_name, raw_number, raw_constant}
 use Rattle.bk_raw.specs.declared.operator.Constant.{Constant}
 use Rattle.bk_raw.specs.declared.operator.Constant.TheVariants.{Bool}
-use Rattle.bk_raw.proofs.Reading.{constant_of}
+use Rattle.bk_raw.specs.Reading.{constant_of}
 use Rattle.bk_p_expr.specs.Parts.{primary_of}
 use Rattle.bk_p_expr.specs.Pieces.{IsPiece}
 use Rattle.bk_p_expr.specs.Found.{FindsLeaf, IsNoLeaf}

@@ -8,7 +8,7 @@ use Rattle.bk_ops.specs.declared.sign.TheConstants.{COMMA}
 use Rattle.bk_raw.specs.RawTree.{RawTree, raw, RawTreeNode, RawTrees, no_trees, tree_and, RawRanges, no_ranges, range_and}
 use Rattle.bk_raw.specs.declared.term.RawName.{RawName}
 use Rattle.bk_raw.specs.declared.term.RawBound.{RawBound}
-use Rattle.bk_raw.proofs.Reading.{next, named, name, sign, begins_with, bound}
+use Rattle.bk_raw.specs.Reading.{next, named, name, sign, begins_with, bound}
 use Rattle.bk_p_expr.specs.Parts.{typed_name_of, read_of, chain_of, terms_of, ranges_of, typed_of, names_of, bounds_of}
 use Rattle.bk_p_expr.specs.Pieces.{IsPiece, IsTerms, IsRanges, and_trees, and_ranges, and_tree, and_range}
 use Rattle.bk_p_expr.specs.Found.{Finds, FindsNone, FindsTerms, FindsRanges}

@@ -5,7 +5,7 @@ use Rattle.bk_form.specs.declared.token.Token.{Token}
 use Rattle.bk_raw.specs.Operators.{binding}
 use Rattle.bk_raw.specs.RawTree.{RawTree, raw, raw_infix}
 use Rattle.bk_raw.specs.declared.operator.InfixOp.{InfixOp}
-use Rattle.bk_raw.proofs.Reading.{next, start, joined, joined_by, infix_of}
+use Rattle.bk_raw.specs.Reading.{next, start, joined, joined_by, infix_of}
 use Rattle.bk_p_expr.specs.Parts.{primary_of, suffixed_of, tight_of, operand_of, operator_by, operator_of, joined_of, read_of}
 use Rattle.bk_p_expr.specs.Pieces.{IsPiece, between_node}
 use Rattle.bk_p_expr.specs.Found.{Finds, FindsNone}

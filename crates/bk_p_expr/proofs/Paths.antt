@@ -9,7 +9,7 @@ use Rattle.bk_raw.specs.RawTree.{RawTree, raw, RawTreeNode, RawTrees, RawRanges,
 use Rattle.bk_raw.specs.declared.operator.WordOp.{WordOp}
 use Rattle.bk_raw.specs.declared.term.RawName.{RawName}
 use Rattle.bk_raw.specs.declared.term.RawBound.{RawBound}
-use Rattle.bk_raw.proofs.Reading.{next, sign, start, begins_with, moved, within}
+use Rattle.bk_raw.specs.Reading.{next, sign, start, begins_with, moved, within}
 use Rattle.bk_p_expr.specs.Parts.{arguments_of, at_byte, begins_bound, begins_bound_in, binders_of, body_of, body_and_value_of, braces_of, comprehension_of, enclosed_of, extension_of, lambda_of, parentheses_of, quantified_of, ranged_lambda_of, typed_empty_of, worded_by, read_of, chain_of, terms_of, ranges_of, typed_of, names_of, binder_of, bounds_of}
 use Rattle.bk_p_expr.specs.Pieces.{IsPiece, IsTerms, IsRanges, moved_to}
 use Rattle.bk_p_expr.specs.Found.{Finds, FindsNone, FindsTerms, FindsRanges, FindsTwo, sign_of, form_of, divider_of}

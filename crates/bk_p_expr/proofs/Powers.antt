@@ -9,7 +9,7 @@ use Rattle.bk_raw.specs.Operators.{binding, infix_kind}
 use Rattle.bk_raw.specs.RawTree.{RawTree, raw, raw_infix}
 use Rattle.bk_raw.specs.declared.operator.InfixOp.{InfixOp}
 use Rattle.bk_raw.specs.declared.operator.InfixOp.TheVariants.{Equivalent, Power}
-use Rattle.bk_raw.proofs.Reading.{next, start, sign, begins_with, joined_by, infix_of, signed, front_kind}
+use Rattle.bk_raw.specs.Reading.{next, start, sign, begins_with, joined_by, infix_of, signed, front_kind}
 use Rattle.bk_p_expr.specs.Parts.{tight_of, operand_of, operator_by, operator_of, joined_of, exponent_of, read_of}
 use Rattle.bk_p_expr.specs.Pieces.{IsPiece, ArePieces, raised}
 use Rattle.bk_p_expr.specs.Found.{Finds, FindsNone}

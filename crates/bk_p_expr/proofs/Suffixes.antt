@@ -4,7 +4,7 @@ use Rattle.std.proofs.Common.{arith, ap, ◌∙◌}
 use Rattle.bk_form.specs.declared.token.Token.{Token}
 use Rattle.bk_ops.specs.declared.sign.TheConstants.{OPEN_PAREN, OPEN_BRACKET, CLOSE_BRACKET, INVERSE}
 use Rattle.bk_raw.specs.RawTree.{RawTree, raw, RawTreeNode, raw_inverse, raw_image, raw_apply}
-use Rattle.bk_raw.proofs.Reading.{next, begins_with, arguments}
+use Rattle.bk_raw.specs.Reading.{next, begins_with, arguments}
 use Rattle.bk_p_expr.specs.Parts.{enclosed_of, arguments_of, primary_of, suffix_of, suffixed_of, tight_of, read_of}
 use Rattle.bk_p_expr.specs.Pieces.{IsPiece}
 use Rattle.bk_p_expr.specs.Found.{Finds, FindsNone, FindsSuffix, IsSuffix}

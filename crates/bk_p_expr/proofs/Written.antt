@@ -12,7 +12,8 @@ use Rattle.bk_raw.specs.OperatorCodes.{infix_operators, word_operators, constant
 use Rattle.bk_raw.specs.declared.operator.InfixOp.{InfixOp}
 use Rattle.bk_raw.specs.declared.operator.WordOp.{WordOp}
 use Rattle.bk_raw.specs.declared.operator.Constant.{Constant}
-use Rattle.bk_raw.proofs.Reading.{infix_of, word_of, constant_of, infix_of-kind, word_of-kind, constant_of-kind}
+use Rattle.bk_raw.specs.Reading.{infix_of, word_of, constant_of}
+use Rattle.bk_raw.proofs.WrittenKinds.{infix_of-kind, word_of-kind, constant_of-kind}
 
 abbrev pub same_kind : TokenKind → TokenKind → Bool
 same_kind (Sign op) (Sign other) = nat_eq op other

@@ -9,6 +9,7 @@ use Rattle.bk_ops.specs.declared.word.TheConstants.{BEGIN, PRE, ASSERT, IF, CHOI
 abbrev pub opens_block : TokenKind → Bool
 opens_block = is_word (λ op. nat_eq op BEGIN || nat_eq op PRE || nat_eq op ASSERT || nat_eq op IF || nat_eq op CHOICE || nat_eq op SELECT || nat_eq op ANY || nat_eq op LET || nat_eq op VAR || nat_eq op WHILE)
 
+-- a word that ends a block
 abbrev pub closes_block : TokenKind → Bool
 closes_block = is_word (λ op. nat_eq op END)
 
@@ -21,10 +22,11 @@ abbrev pub count_open : (TokenKind → Bool) → (TokenKind → Bool) → ℕ �
 count_open opens closes n [] = n
 count_open opens closes n (token ∷ tokens) = count_open opens closes (open_behind opens closes n token.kind) tokens
 
--- how many brackets are open behind these tokens, and how many blocks
+-- how many brackets are open behind these tokens
 abbrev pub open_brackets : List Token → ℕ
 open_brackets tokens = count_open opens_bracket closes_bracket 0 tokens
 
+-- how many blocks are open behind them
 abbrev pub open_blocks : List Token → ℕ
 open_blocks tokens = count_open opens_block closes_block 0 tokens
 
@@ -42,9 +44,10 @@ pub record IsTooDeep (tokens : List Token) (place : ℕ) : Type 0 where
   pub deep : IsWithinDepth (take (place + 1) tokens) → ⊥
   pub first : (n : ℕ) → n ≤ place → IsWithinDepth (take n tokens)
 
--- the same, counted from a place on
+-- at most so many are open behind each token from a place on
 abbrev pub IsShallowFrom : List Token → ℕ → Type 0
 IsShallowFrom tokens at = IsShallow (drop at tokens)
 
+-- the first token at which it is not so, counted from a place on
 abbrev pub IsTooDeepFrom : List Token → ℕ → ℕ → Type 0
 IsTooDeepFrom tokens at place = (n : ℕ) × (place ≡ at + n) × IsTooDeep (drop at tokens) n

@@ -8,7 +8,7 @@ use Rattle.bk_ops.specs.declared.sign.TheConstants.{COMMA, SEMICOLON}
 use Rattle.bk_raw.specs.RawTree.{RawTree, RawTreeNode, RawTrees, RawRanges, raw_inverse, raw_image, raw_apply, raw_pair, raw_composition, raw_for_all, raw_exists, raw_typed_for_all, raw_typed_exists}
 use Rattle.bk_raw.specs.declared.term.RawName.{RawName}
 use Rattle.bk_raw.specs.declared.term.RawBound.{RawBound}
-use Rattle.bk_raw.proofs.Reading.{begins_with, constant_of}
+use Rattle.bk_raw.specs.Reading.{begins_with, constant_of}
 use Rattle.bk_p_expr.specs.Parts.{body_and_value_of, primary_of, ranges_of, suffix_of, terms_of}
 use Rattle.bk_p_expr.specs.Pieces.{IsPiece, IsTerms, IsRanges}
 use Rattle.bk_p_expr.specs.declared.piece.Piece.{Piece}
@@ -31,11 +31,13 @@ pub record Finds {A : Type 0} (reader : ℕ → Option (A × List Token)) (least
   pub found : (n : ℕ) → least ≤ n → reader n ≡ Some (make tree, rest)
   pub built : IsPiece tree piece
 
+-- terms with commas between, up to this rest
 pub record FindsTerms (tokens : List Token) (all : Terms) (rest : List Token) : Type 0 where
   pub trees : RawTrees
   pub found : (n : ℕ) → length tokens ≤ n → terms_of n n tokens ≡ Some (trees, rest)
   pub built : IsTerms trees all
 
+-- bound variables with their ranges, up to this rest
 pub record FindsRanges (tokens : List Token) (all : Ranges) (rest : List Token) : Type 0 where
   pub trees : RawRanges
   pub found : (n : ℕ) → length tokens ≤ n → ranges_of n n tokens ≡ Some (trees, rest)
@@ -55,6 +57,7 @@ IsSuffix form Inverse = form ≡ raw_inverse
 IsSuffix form (Image piece) = (tree : RawTree) × (form ≡ (λ t. raw_image t tree)) × IsPiece tree piece
 IsSuffix form (Apply piece) = (tree : RawTree) × (form ≡ (λ t. raw_apply t tree)) × IsPiece tree piece
 
+-- what stands behind a term, up to this rest
 pub record FindsSuffix (tokens : List Token) (suffix : Suffix) (rest : List Token) : Type 0 where
   pub form : RawTree → RawTreeNode
   pub found : (n : ℕ) → length tokens ≤ n → suffix_of n tokens ≡ Some (form, rest)
@@ -77,21 +80,26 @@ IsNoLeaf (Sign op) = Unit {0}
 IsNoLeaf (Word op) = constant_of (Word op) ≡ None
 
 -- ---- dividers and quantifiers
+-- the sign of a divider
 abbrev pub sign_of : Divider → ℕ
 sign_of Comma = COMMA
 sign_of Semicolon = SEMICOLON
 
+-- what a divider makes of the terms beside it
 abbrev pub form_of : Divider → RawTree → RawTree → RawTreeNode
 form_of Comma = raw_pair
 form_of Semicolon = raw_composition
 
+-- the divider in front
 abbrev pub divider_of : List Token → Option Divider
 divider_of tokens = cond (begins_with COMMA tokens) (Some Comma) (cond (begins_with SEMICOLON tokens) (Some Semicolon) None)
 
+-- what a quantifier makes of names and a term
 abbrev pub plain_form : Quantifier → List RawName → RawTree → RawTreeNode
 plain_form All = raw_for_all
 plain_form Exists = raw_exists
 
+-- what it makes of bound variables with types and a term
 abbrev pub typed_form : Quantifier → List RawBound → RawTree → RawTreeNode
 typed_form All = raw_typed_for_all
 typed_form Exists = raw_typed_exists

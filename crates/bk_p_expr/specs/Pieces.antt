@@ -34,6 +34,7 @@ abbrev pub and_trees : RawTrees → RawTrees → RawTrees
 and_trees no_trees us = us
 and_trees (tree_and t ts) us = tree_and t (and_trees ts us)
 
+-- the same of bound variables with their ranges
 abbrev pub and_ranges : RawRanges → RawRanges → RawRanges
 and_ranges no_ranges ss = ss
 and_ranges (range_and at n d rs) ss = range_and at n d (and_ranges rs ss)
@@ -42,10 +43,11 @@ and_ranges (range_and at n d rs) ss = range_and at n d (and_ranges rs ss)
 abbrev pub and_tree : RawTrees → RawTree → RawTrees
 and_tree ts t = and_trees ts (tree_and t no_trees)
 
+-- one more bound variable with its range at the end
 abbrev pub and_range : RawRanges → ℕ → ℕ → RawTree → RawRanges
 and_range rs at n d = and_ranges rs (range_and at n d no_ranges)
 
--- what is built around a term, and from two
+-- what is built around a term
 abbrev pub around_node : Around → RawTree → RawTreeNode
 around_node (Word o) a = raw_word o a
 around_node Negative a = raw_negative a
@@ -56,6 +58,7 @@ around_node (Exists xs) a = raw_exists xs.items a
 around_node (TypedForAll bs) a = raw_typed_for_all bs.items a
 around_node (TypedExists bs) a = raw_typed_exists bs.items a
 
+-- what is built from two terms
 abbrev pub between_node : Between → RawTree → RawTree → RawTreeNode
 between_node (Infix o) a b = raw_infix o a b
 between_node Image a b = raw_image a b

@@ -1,7 +1,7 @@
 // Signs, names and types that stand in front of tokens: what is read without a term.
 
 ghost use Rattle.std.specs.Prelude.{◌≡◌, ◌+◌, ◌<◌, ◌≤◌, ℕ, None, Some, true, false, [], ◌∷◌, length, IfOk, MatchOption, IfSome};
-ghost use Rattle.bk_raw.proofs.Reading.{begins_with, bound, name, next, sign};
+ghost use Rattle.bk_raw.specs.Reading.{begins_with, bound, name, next, sign};
 ghost use Rattle.bk_p_expr.specs.Parts.{begins_bound, binder_of, bounds_of, names_of, power_of, product_of, typed_name_of, typed_of};
 
 use bk_form::{Token, TokenKind};
@@ -47,7 +47,8 @@ pub(crate) fn declared(
     alloc: Global,
     tokens: &[Token],
 ) -> Result<Option<(RawName, &[Token])>, Memory>
-    ensures found { IfOk result (λ r. MatchOption r (name tokens.now ≡ None) (λ p. name tokens.now ≡ Some (p.0, p.1.now))) }
+    ensures found { IfOk result
+        (λ r. MatchOption r (name tokens.now ≡ None) (λ p. name tokens.now ≡ Some (p.0, p.1.now))) }
     ensures shorter { IfOk result (λ r. IfSome r (λ p. length p.1.now < length tokens.now)) }
 {
     let [first, rest @ ..] = tokens else {
@@ -84,7 +85,8 @@ pub(crate) fn declared_names(
     alloc: Global,
     tokens: &[Token],
 ) -> Result<Option<(Vec<RawName>, &[Token])>, Memory>
-    ensures found { IfOk result (λ r. MatchOption r (names_of tokens.now ≡ None) (λ p. names_of tokens.now ≡ Some (p.0.items, p.1.now))) }
+    ensures found { IfOk result
+        (λ r. MatchOption r (names_of tokens.now ≡ None) (λ p. names_of tokens.now ≡ Some (p.0.items, p.1.now))) }
     ensures shorter { IfOk result (λ r. IfSome r (λ p. length p.1.now < length tokens.now)) }
 {
     let mut all = Vec::new(alloc);
@@ -107,7 +109,8 @@ pub(crate) fn bound_names(
     alloc: Global,
     tokens: &[Token],
 ) -> Result<Option<(Vec<RawName>, &[Token])>, Memory>
-    ensures found { IfOk result (λ r. MatchOption r (binder_of tokens.now ≡ None) (λ p. binder_of tokens.now ≡ Some (p.0.items, p.1.now))) }
+    ensures found { IfOk result
+        (λ r. MatchOption r (binder_of tokens.now ≡ None) (λ p. binder_of tokens.now ≡ Some (p.0.items, p.1.now))) }
     ensures shorter { IfOk result (λ r. IfSome r (λ p. length p.1.now < length tokens.now)) }
 {
     let Some((_, inside)) = after_sign(tokens, sign::OPEN_PAREN) else {
@@ -123,7 +126,9 @@ pub(crate) fn bound_names(
 }
 
 fn one_name(alloc: Global, tokens: &[Token]) -> Result<Option<(Vec<RawName>, &[Token])>, Memory>
-    ensures found { IfOk result (λ r. MatchOption r (name tokens.now ≡ None) (λ p. next (name tokens.now) (λ x us. Some (x ∷ [], us)) ≡ Some (p.0.items, p.1.now))) }
+    ensures found { IfOk result
+        (λ r. MatchOption r (name tokens.now ≡ None)
+        (λ p. next (name tokens.now) (λ x us. Some (x ∷ [], us)) ≡ Some (p.0.items, p.1.now))) }
     ensures shorter { IfOk result (λ r. IfSome r (λ p. length p.1.now < length tokens.now)) }
 {
     let Some((name, rest)) = declared(alloc, tokens)? else {
@@ -151,7 +156,9 @@ pub(crate) fn written_type(
     alloc: Global,
     tokens: &[Token],
 ) -> Result<Option<(RawType, &[Token])>, Memory>
-    ensures found { IfOk result (λ r. MatchOption r ((m : ℕ) → length tokens.now ≤ m → typed_of m tokens.now ≡ None) (λ p. (m : ℕ) → length tokens.now ≤ m → typed_of m tokens.now ≡ Some (p.0, p.1.now))) }
+    ensures found { IfOk result
+        (λ r. MatchOption r ((m : ℕ) → length tokens.now ≤ m → typed_of m tokens.now ≡ None)
+        (λ p. (m : ℕ) → length tokens.now ≤ m → typed_of m tokens.now ≡ Some (p.0, p.1.now))) }
     ensures shorter { IfOk result (λ r. IfSome r (λ p. length p.1.now < length tokens.now)) }
 {
     let Some((first, rest)) = first_token(tokens) else {
@@ -172,7 +179,9 @@ pub(crate) fn written_type(
 #[tactic(auto, using(crate::proofs::Types::power_none, crate::proofs::Types::power_none_inside, crate::proofs::Types::power_none_last, crate::proofs::Types::power_some))]
 #[cycle(types)]
 fn power(alloc: Global, tokens: &[Token]) -> Result<Option<(RawType, &[Token])>, Memory>
-    ensures found { IfOk result (λ r. MatchOption r ((m : ℕ) → length tokens.now ≤ m → power_of m tokens.now ≡ None) (λ p. (m : ℕ) → length tokens.now ≤ m → power_of m tokens.now ≡ Some (p.0, p.1.now))) }
+    ensures found { IfOk result
+        (λ r. MatchOption r ((m : ℕ) → length tokens.now ≤ m → power_of m tokens.now ≡ None)
+        (λ p. (m : ℕ) → length tokens.now ≤ m → power_of m tokens.now ≡ Some (p.0, p.1.now))) }
     ensures shorter { IfOk result (λ r. IfSome r (λ p. length p.1.now < length tokens.now)) }
 {
     let Some((_, inside)) = after_sign(tokens, sign::OPEN_PAREN) else {
@@ -192,7 +201,9 @@ fn power(alloc: Global, tokens: &[Token]) -> Result<Option<(RawType, &[Token])>,
 #[tactic(auto, using(crate::proofs::Types::product_none, crate::proofs::Types::product_none_times, crate::proofs::Types::product_none_right, crate::proofs::Types::product_none_last, crate::proofs::Types::product_some))]
 #[cycle(types)]
 fn product(alloc: Global, tokens: &[Token]) -> Result<Option<(RawType, &[Token])>, Memory>
-    ensures found { IfOk result (λ r. MatchOption r ((m : ℕ) → length tokens.now ≤ m → product_of m tokens.now ≡ None) (λ p. (m : ℕ) → length tokens.now ≤ m → product_of m tokens.now ≡ Some (p.0, p.1.now))) }
+    ensures found { IfOk result
+        (λ r. MatchOption r ((m : ℕ) → length tokens.now ≤ m → product_of m tokens.now ≡ None)
+        (λ p. (m : ℕ) → length tokens.now ≤ m → product_of m tokens.now ≡ Some (p.0, p.1.now))) }
     ensures shorter { IfOk result (λ r. IfSome r (λ p. length p.1.now < length tokens.now)) }
 {
     let Some((left, rest)) = written_type(alloc, tokens)? else {
@@ -219,7 +230,9 @@ pub(crate) fn typed_names(
     alloc: Global,
     tokens: &[Token],
 ) -> Result<Option<(Vec<RawBound>, &[Token])>, Memory>
-    ensures found { IfOk result (λ r. MatchOption r ((m : ℕ) → length tokens.now ≤ m → bounds_of m tokens.now ≡ None) (λ p. (m : ℕ) → length tokens.now ≤ m → bounds_of m tokens.now ≡ Some (p.0.items, p.1.now))) }
+    ensures found { IfOk result
+        (λ r. MatchOption r ((m : ℕ) → length tokens.now ≤ m → bounds_of m tokens.now ≡ None)
+        (λ p. (m : ℕ) → length tokens.now ≤ m → bounds_of m tokens.now ≡ Some (p.0.items, p.1.now))) }
     ensures shorter { IfOk result (λ r. IfSome r (λ p. length p.1.now < length tokens.now)) }
 {
     let mut all = Vec::new(alloc);
@@ -239,7 +252,9 @@ pub(crate) fn typed_names(
 /// `$n:T` in front, and what stands behind it.
 #[tactic(auto, using(crate::proofs::Binders::typed_name_none, crate::proofs::Binders::typed_name_none_type, crate::proofs::Binders::typed_name_some))]
 fn typed_name(alloc: Global, tokens: &[Token]) -> Result<Option<(RawBound, &[Token])>, Memory>
-    ensures found { IfOk result (λ r. MatchOption r ((m : ℕ) → length tokens.now ≤ m + 1 → typed_name_of m tokens.now ≡ None) (λ p. (m : ℕ) → length tokens.now ≤ m + 1 → typed_name_of m tokens.now ≡ Some (p.0, p.1.now))) }
+    ensures found { IfOk result
+        (λ r. MatchOption r ((m : ℕ) → length tokens.now ≤ m + 1 → typed_name_of m tokens.now ≡ None)
+        (λ p. (m : ℕ) → length tokens.now ≤ m + 1 → typed_name_of m tokens.now ≡ Some (p.0, p.1.now))) }
     ensures shorter { IfOk result (λ r. IfSome r (λ p. length p.1.now < length tokens.now)) }
 {
     let Some((at, number, rest)) = bound_name(tokens) else {

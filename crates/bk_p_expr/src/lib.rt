@@ -11,6 +11,3 @@ mod terms;
 
 pub use fault::SynFault;
 pub use reader::term;
-
-#[cfg(test)]
-mod tests;

@@ -87,7 +87,8 @@ impl Piece {
         form: Between,
         other: Piece,
     ) -> Result<Piece, Memory>
-        ensures { IfOk result (λ r. (left right : RawTree) → IsPiece left self → IsPiece right other → IsPiece (raw at (between_node form left right)) r) }
+        ensures { IfOk result (λ r. (left right : RawTree) → IsPiece left self → IsPiece right other →
+            IsPiece (raw at (between_node form left right)) r) }
     {
         let Piece::Built(left, one) = self else {
             return Ok(Piece::High);
@@ -144,7 +145,8 @@ pub(crate) enum Terms {
 impl Terms {
     /// These terms and one more.
     pub(crate) fn and(self, piece: Piece) -> Result<Terms, Memory>
-        ensures { IfOk result (λ r. (trees : RawTrees) (tree : RawTree) → IsTerms trees self → IsPiece tree piece → IsTerms (and_tree trees tree) r) }
+        ensures { IfOk result (λ r. (trees : RawTrees) (tree : RawTree) → IsTerms trees self → IsPiece tree piece →
+            IsTerms (and_tree trees tree) r) }
     {
         let Terms::Built(mut terms, height) = self else {
             return Ok(Terms::High);
@@ -182,7 +184,8 @@ pub(crate) enum Ranges {
 impl Ranges {
     /// These bound variables and one more.
     pub(crate) fn and(self, at: usize, number: u32, piece: Piece) -> Result<Ranges, Memory>
-        ensures { IfOk result (λ r. (ranges : RawRanges) (tree : RawTree) → IsRanges ranges self → IsPiece tree piece → IsRanges (and_range ranges at number tree) r) }
+        ensures { IfOk result (λ r. (ranges : RawRanges) (tree : RawTree) → IsRanges ranges self → IsPiece tree piece →
+            IsRanges (and_range ranges at number tree) r) }
     {
         let Ranges::Built(mut ranges, height) = self else {
             return Ok(Ranges::High);
@@ -201,7 +204,8 @@ impl Ranges {
         at: usize,
         body: Piece,
     ) -> Result<Piece, Memory>
-        ensures { IfOk result (λ r. (ranges : RawRanges) (p : RawTree) → IsRanges ranges self → IsPiece p body → IsPiece (raw at (raw_ranged_comprehension ranges p)) r) }
+        ensures { IfOk result (λ r. (ranges : RawRanges) (p : RawTree) → IsRanges ranges self → IsPiece p body →
+            IsPiece (raw at (raw_ranged_comprehension ranges p)) r) }
     {
         let Ranges::Built(ranges, one) = self else {
             return Ok(Piece::High);
@@ -225,7 +229,8 @@ impl Ranges {
         body: Piece,
         value: Piece,
     ) -> Result<Piece, Memory>
-        ensures { IfOk result (λ r. (ranges : RawRanges) (p e : RawTree) → IsRanges ranges self → IsPiece p body → IsPiece e value → IsPiece (raw at (raw_ranged_lambda ranges p e)) r) }
+        ensures { IfOk result (λ r. (ranges : RawRanges) (p e : RawTree) → IsRanges ranges self → IsPiece p body →
+            IsPiece e value → IsPiece (raw at (raw_ranged_lambda ranges p e)) r) }
     {
         let Ranges::Built(ranges, one) = self else {
             return Ok(Piece::High);

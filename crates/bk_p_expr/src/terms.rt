@@ -9,7 +9,7 @@ ghost use Rattle.bk_form.specs.declared.token.Token.{Token as RawToken};
 ghost use Rattle.bk_ops.specs.declared.sign.TheConstants.{OPEN_PAREN};
 ghost use Rattle.bk_raw.specs.RawTree.{RawTree, RawTreeNode, raw};
 ghost use Rattle.bk_raw.specs.Operators.{binding};
-ghost use Rattle.bk_raw.proofs.Reading.{constant_of, front_kind, sign, signed, start};
+ghost use Rattle.bk_raw.specs.Reading.{constant_of, front_kind, sign, signed, start};
 ghost use Rattle.bk_p_expr.specs.Pieces.{ArePieces, IsPiece, around_node, between_node, raised};
 ghost use Rattle.bk_p_expr.specs.Parts.{arguments_of, at_byte, begins_bound_in, binders_of, body_and_value_of, bracketed_of, braces_of, chain_of, comprehension_of, enclosed_of, exponent_of, lambda_of, operand_of, operator_of, parentheses_of, primary_of, quantified_of, ranges_of, read_of, suffix_of, terms_of, tight_of, typed_empty_of};
 ghost use Rattle.bk_p_expr.specs.Found.{Finds, FindsLeaf, FindsNone, FindsRanges, FindsSuffix, FindsTerms, FindsTwo, IsNoLeaf, IsSuffix, divider_of, form_of, plain_form, sign_of, typed_form};
@@ -43,7 +43,9 @@ pub(crate) fn longest(
     tokens: &[Token],
     asked: u8,
 ) -> Result<Option<(Piece, &[Token])>, Memory>
-    ensures found { IfOk result (λ r. MatchOption r (FindsNone (λ n. read_of n asked tokens.now) (length tokens.now)) (λ p. Finds (λ n. read_of n asked tokens.now) (length tokens.now) (λ t. t) p.0 p.1.now)) }
+    ensures found { IfOk result
+        (λ r. MatchOption r (FindsNone (λ n. read_of n asked tokens.now) (length tokens.now))
+        (λ p. Finds (λ n. read_of n asked tokens.now) (length tokens.now) (λ t. t) p.0 p.1.now)) }
     ensures shorter { IfOk result (λ r. IfSome r (λ p. length p.1.now < length tokens.now)) }
 {
     let at = start_of(tokens);
@@ -70,7 +72,9 @@ fn operator(
     asked: u8,
     strength: u8,
 ) -> Result<Option<(InfixOp, Piece, &[Token])>, Memory>
-    ensures found { IfOk result (λ r. MatchOption r (FindsNone (λ n. operator_of n asked strength tokens.now) (length tokens.now)) (λ p. Finds (λ n. operator_of n asked strength tokens.now) (length tokens.now) (λ t. (p.0, t)) p.1 p.2.now)) }
+    ensures found { IfOk result
+        (λ r. MatchOption r (FindsNone (λ n. operator_of n asked strength tokens.now) (length tokens.now))
+        (λ p. Finds (λ n. operator_of n asked strength tokens.now) (length tokens.now) (λ t. (p.0, t)) p.1 p.2.now)) }
     ensures shorter { IfOk result (λ r. IfSome r (λ p. length p.2.now < length tokens.now)) }
 {
     let Some((first, rest)) = first_token(tokens) else {
@@ -98,7 +102,9 @@ fn operator(
 /// Operands with `**` between, which joins them to the right.
 #[cycle(term)]
 fn powers(alloc: Global, tokens: &[Token]) -> Result<Option<(Piece, &[Token])>, Memory>
-    ensures found { IfOk result (λ r. MatchOption r (FindsNone (λ n. read_of n 9 tokens.now) (length tokens.now)) (λ p. Finds (λ n. read_of n 9 tokens.now) (length tokens.now) (λ t. t) p.0 p.1.now)) }
+    ensures found { IfOk result
+        (λ r. MatchOption r (FindsNone (λ n. read_of n 9 tokens.now) (length tokens.now))
+        (λ p. Finds (λ n. read_of n 9 tokens.now) (length tokens.now) (λ t. t) p.0 p.1.now)) }
     ensures shorter { IfOk result (λ r. IfSome r (λ p. length p.1.now < length tokens.now)) }
 {
     let Some((first, _, after)) = operand(alloc, tokens)? else {
@@ -120,7 +126,9 @@ fn powers(alloc: Global, tokens: &[Token]) -> Result<Option<(Piece, &[Token])>, 
 /// `**` and the operand behind it, with the byte at which the operand starts.
 #[cycle(term)]
 fn exponent(alloc: Global, tokens: &[Token]) -> Result<Option<(usize, Piece, &[Token])>, Memory>
-    ensures found { IfOk result (λ r. MatchOption r (FindsNone (λ n. exponent_of n tokens.now) (length tokens.now - 1)) (λ p. Finds (λ n. exponent_of n tokens.now) (length tokens.now - 1) (λ t. (p.0, t)) p.1 p.2.now)) }
+    ensures found { IfOk result
+        (λ r. MatchOption r (FindsNone (λ n. exponent_of n tokens.now) (length tokens.now - 1))
+        (λ p. Finds (λ n. exponent_of n tokens.now) (length tokens.now - 1) (λ t. (p.0, t)) p.1 p.2.now)) }
     ensures shorter { IfOk result (λ r. IfSome r (λ p. length p.2.now < length tokens.now)) }
 {
     let Some((_, rest)) = after_sign(tokens, sign::POWER) else {
@@ -135,7 +143,8 @@ fn exponent(alloc: Global, tokens: &[Token]) -> Result<Option<(usize, Piece, &[T
 
 /// The bases, each with the byte at which it starts, raised to the power of what stands right of them.
 fn joined(alloc: Global, mut bases: Vec<(usize, Piece)>, last: Piece) -> Result<Piece, Memory>
-    ensures { IfOk result (λ r. (trees : List (ℕ × RawTree)) (tree : RawTree) → ArePieces trees bases.items → IsPiece tree last → IsPiece (raised trees tree) r) }
+    ensures { IfOk result (λ r. (trees : List (ℕ × RawTree)) (tree : RawTree) → ArePieces trees bases.items →
+        IsPiece tree last → IsPiece (raised trees tree) r) }
 {
     let mut right = last;
     while let Some((at, base)) = bases.pop() {
@@ -147,7 +156,9 @@ fn joined(alloc: Global, mut bases: Vec<(usize, Piece)>, last: Piece) -> Result<
 /// A term with what stands behind it, perhaps with a minus sign before, and how tightly it binds.
 #[cycle(term)]
 fn operand(alloc: Global, tokens: &[Token]) -> Result<Option<(Piece, u8, &[Token])>, Memory>
-    ensures found { IfOk result (λ r. MatchOption r (FindsNone (λ n. operand_of n tokens.now) (length tokens.now - 1)) (λ p. Finds (λ n. operand_of n tokens.now) (length tokens.now - 1) (λ t. (t, p.1)) p.0 p.2.now)) }
+    ensures found { IfOk result
+        (λ r. MatchOption r (FindsNone (λ n. operand_of n tokens.now) (length tokens.now - 1))
+        (λ p. Finds (λ n. operand_of n tokens.now) (length tokens.now - 1) (λ t. (t, p.1)) p.0 p.2.now)) }
     ensures strength { IfOk result (λ r. IfSome r (λ p. 10 ≤ p.1)) }
     ensures shorter { IfOk result (λ r. IfSome r (λ p. length p.2.now < length tokens.now)) }
 {
@@ -166,7 +177,8 @@ fn operand(alloc: Global, tokens: &[Token]) -> Result<Option<(Piece, u8, &[Token
 
 /// What a minus sign makes of the term behind it: of a number by itself a number.
 fn signed(alloc: Global, at: usize, behind: &[Token], piece: Piece) -> Result<Piece, Memory>
-    ensures { IfOk result (λ r. (tree : RawTree) → IsPiece tree piece → IsPiece (raw at (signed (front_kind behind.now) tree)) r) }
+    ensures { IfOk result (λ r. (tree : RawTree) → IsPiece tree piece →
+        IsPiece (raw at (signed (front_kind behind.now) tree)) r) }
 {
     let [first, ..] = behind else {
         return piece.around(alloc, at, Around::Negative);
@@ -183,7 +195,9 @@ fn signed(alloc: Global, at: usize, behind: &[Token], piece: Piece) -> Result<Pi
 /// A leaf or a bracket, with what stands behind it: `~`, `[s]` and `(x)`.
 #[cycle(term)]
 fn tight(alloc: Global, tokens: &[Token]) -> Result<Option<(Piece, &[Token])>, Memory>
-    ensures found { IfOk result (λ r. MatchOption r (FindsNone (λ n. tight_of n tokens.now) (length tokens.now - 1)) (λ p. Finds (λ n. tight_of n tokens.now) (length tokens.now - 1) (λ t. t) p.0 p.1.now)) }
+    ensures found { IfOk result
+        (λ r. MatchOption r (FindsNone (λ n. tight_of n tokens.now) (length tokens.now - 1))
+        (λ p. Finds (λ n. tight_of n tokens.now) (length tokens.now - 1) (λ t. t) p.0 p.1.now)) }
     ensures shorter { IfOk result (λ r. IfSome r (λ p. length p.1.now < length tokens.now)) }
 {
     let Some((first, inside)) = first_token(tokens) else {
@@ -213,7 +227,8 @@ enum Suffix {
 impl Suffix {
     /// The term with this behind it.
     fn behind(self, alloc: Global, at: usize, piece: Piece) -> Result<Piece, Memory>
-        ensures { IfOk result (λ r. (form : RawTree → RawTreeNode) (tree : RawTree) → IsSuffix form self → IsPiece tree piece → IsPiece (raw at (form tree)) r) }
+        ensures { IfOk result (λ r. (form : RawTree → RawTreeNode) (tree : RawTree) → IsSuffix form self →
+            IsPiece tree piece → IsPiece (raw at (form tree)) r) }
     {
         match self {
             Suffix::Inverse => piece.around(alloc, at, Around::Inverse),
@@ -226,7 +241,9 @@ impl Suffix {
 /// `~`, `[s]` or `(x)`.
 #[cycle(term)]
 fn next_suffix(alloc: Global, tokens: &[Token]) -> Result<Option<(Suffix, &[Token])>, Memory>
-    ensures found { IfOk result (λ r. MatchOption r (FindsNone (λ n. suffix_of n tokens.now) (length tokens.now)) (λ p. FindsSuffix tokens.now p.0 p.1.now)) }
+    ensures found { IfOk result
+        (λ r. MatchOption r (FindsNone (λ n. suffix_of n tokens.now) (length tokens.now))
+        (λ p. FindsSuffix tokens.now p.0 p.1.now)) }
     ensures shorter { IfOk result (λ r. IfSome r (λ p. length p.1.now < length tokens.now)) }
 {
     if let Some((_, rest)) = after_sign(tokens, sign::INVERSE) {
@@ -256,7 +273,9 @@ fn enclosed(
     begin: u16,
     end: u16,
 ) -> Result<Option<(Piece, &[Token])>, Memory>
-    ensures found { IfOk result (λ r. MatchOption r (FindsNone (λ n. enclosed_of n begin end tokens.now) (length tokens.now)) (λ p. Finds (λ n. enclosed_of n begin end tokens.now) (length tokens.now) (λ t. t) p.0 p.1.now)) }
+    ensures found { IfOk result
+        (λ r. MatchOption r (FindsNone (λ n. enclosed_of n begin end tokens.now) (length tokens.now))
+        (λ p. Finds (λ n. enclosed_of n begin end tokens.now) (length tokens.now) (λ t. t) p.0 p.1.now)) }
     ensures shorter { IfOk result (λ r. IfSome r (λ p. length p.1.now < length tokens.now)) }
 {
     let Some((_, inside)) = after_sign(tokens, begin) else {
@@ -274,7 +293,9 @@ fn enclosed(
 /// `a, b)` behind a function's open parenthesis.
 #[cycle(term)]
 fn arguments(alloc: Global, tokens: &[Token]) -> Result<Option<(Piece, &[Token])>, Memory>
-    ensures found { IfOk result (λ r. MatchOption r (FindsNone (λ n. arguments_of n tokens.now) (length tokens.now)) (λ p. Finds (λ n. arguments_of n tokens.now) (length tokens.now) (λ t. t) p.0 p.1.now)) }
+    ensures found { IfOk result
+        (λ r. MatchOption r (FindsNone (λ n. arguments_of n tokens.now) (length tokens.now))
+        (λ p. Finds (λ n. arguments_of n tokens.now) (length tokens.now) (λ t. t) p.0 p.1.now)) }
     ensures shorter { IfOk result (λ r. IfSome r (λ p. length p.1.now < length tokens.now)) }
 {
     let Some((first, rest)) = longest(alloc, tokens, 0)? else {
@@ -338,7 +359,12 @@ fn chain<'a>(
     at: usize,
     first: Piece,
 ) -> Result<Option<(Piece, &'a [Token])>, Memory>
-    ensures found { IfOk result (λ r. (tree : RawTree) → IsPiece tree first → MatchOption r (FindsNone (λ n. chain_of n n (sign_of divider) (form_of divider) at tree tokens.now) (length tokens.now)) (λ p. Finds (λ n. chain_of n n (sign_of divider) (form_of divider) at tree tokens.now) (length tokens.now) (λ t. t) p.0 p.1.now)) }
+    ensures found { IfOk result
+        (λ r. (tree : RawTree) → IsPiece tree first →
+        MatchOption r (FindsNone
+        (λ n. chain_of n n (sign_of divider) (form_of divider) at tree tokens.now) (length tokens.now))
+        (λ p. Finds (λ n. chain_of n n (sign_of divider) (form_of divider) at tree tokens.now) (length tokens.now)
+        (λ t. t) p.0 p.1.now)) }
     ensures shorter { IfOk result (λ r. IfSome r (λ p. length p.1.now ≤ length tokens.now)) }
 {
     let mut left = first;
@@ -360,7 +386,11 @@ fn primary<'a>(
     first: &Token,
     tokens: &'a [Token],
 ) -> Result<Option<(Piece, &'a [Token])>, Memory>
-    ensures found { IfOk result (λ r. MatchOption r (FindsNone (λ n. primary_of n first.now.kind first.now.start tokens.now) (length tokens.now)) (λ p. Finds (λ n. primary_of n first.now.kind first.now.start tokens.now) (length tokens.now) (λ t. t) p.0 p.1.now)) }
+    ensures found { IfOk result
+        (λ r. MatchOption r (FindsNone
+        (λ n. primary_of n first.now.kind first.now.start tokens.now) (length tokens.now))
+        (λ p. Finds (λ n. primary_of n first.now.kind first.now.start tokens.now) (length tokens.now)
+        (λ t. t) p.0 p.1.now)) }
     ensures shorter { IfOk result (λ r. IfSome r (λ p. length p.1.now ≤ length tokens.now)) }
 {
     if let Some(piece) = leaf(alloc, first)? {
@@ -383,7 +413,8 @@ fn primary<'a>(
 /// A name, a number or a constant word.
 #[tactic(auto, using(crate::proofs::Leaves::leaf_name, crate::proofs::Leaves::leaf_level_name, crate::proofs::Leaves::leaf_bound_name, crate::proofs::Leaves::no_leaf_word, crate::proofs::Leaves::no_leaf_sign))]
 fn leaf(alloc: Global, token: &Token) -> Result<Option<Piece>, Memory>
-    ensures { IfOk result (λ r. MatchOption r (IsNoLeaf token.now.kind) (λ p. FindsLeaf token.now.kind token.now.start p)) }
+    ensures { IfOk result (λ r. MatchOption r (IsNoLeaf token.now.kind)
+        (λ p. FindsLeaf token.now.kind token.now.start p)) }
 {
     let at = token.start;
     match &token.kind {
@@ -432,7 +463,9 @@ fn bracketed(
     at: usize,
     tokens: &[Token],
 ) -> Result<Option<(Piece, &[Token])>, Memory>
-    ensures found { IfOk result (λ r. MatchOption r (FindsNone (λ n. bracketed_of n op at tokens.now) (length tokens.now)) (λ p. Finds (λ n. bracketed_of n op at tokens.now) (length tokens.now) (λ t. t) p.0 p.1.now)) }
+    ensures found { IfOk result
+        (λ r. MatchOption r (FindsNone (λ n. bracketed_of n op at tokens.now) (length tokens.now))
+        (λ p. Finds (λ n. bracketed_of n op at tokens.now) (length tokens.now) (λ t. t) p.0 p.1.now)) }
     ensures shorter { IfOk result (λ r. IfSome r (λ p. length p.1.now ≤ length tokens.now)) }
 {
     match op {
@@ -452,7 +485,9 @@ fn parentheses(
     tokens: &[Token],
     at: usize,
 ) -> Result<Option<(Piece, &[Token])>, Memory>
-    ensures found { IfOk result (λ r. MatchOption r (FindsNone (λ n. parentheses_of n at tokens.now) (length tokens.now)) (λ p. Finds (λ n. parentheses_of n at tokens.now) (length tokens.now) (λ t. t) p.0 p.1.now)) }
+    ensures found { IfOk result
+        (λ r. MatchOption r (FindsNone (λ n. parentheses_of n at tokens.now) (length tokens.now))
+        (λ p. Finds (λ n. parentheses_of n at tokens.now) (length tokens.now) (λ t. t) p.0 p.1.now)) }
     ensures shorter { IfOk result (λ r. IfSome r (λ p. length p.1.now < length tokens.now)) }
 {
     let Some((first, rest)) = longest(alloc, tokens, 0)? else {
@@ -476,7 +511,9 @@ fn parentheses(
 /// A set behind its open brace.
 #[cycle(term)]
 fn braces(alloc: Global, tokens: &[Token], at: usize) -> Result<Option<(Piece, &[Token])>, Memory>
-    ensures found { IfOk result (λ r. MatchOption r (FindsNone (λ n. at_byte at (braces_of n tokens.now)) (length tokens.now)) (λ p. Finds (λ n. at_byte at (braces_of n tokens.now)) (length tokens.now) (λ t. t) p.0 p.1.now)) }
+    ensures found { IfOk result
+        (λ r. MatchOption r (FindsNone (λ n. at_byte at (braces_of n tokens.now)) (length tokens.now))
+        (λ p. Finds (λ n. at_byte at (braces_of n tokens.now)) (length tokens.now) (λ t. t) p.0 p.1.now)) }
     ensures shorter { IfOk result (λ r. IfSome r (λ p. length p.1.now < length tokens.now)) }
 {
     if let Some((_, rest)) = after_sign(tokens, sign::CLOSE_BRACE) {
@@ -503,7 +540,9 @@ fn typed_empty(
     tokens: &[Token],
     at: usize,
 ) -> Result<Option<(Piece, &[Token])>, Memory>
-    ensures found { IfOk result (λ r. MatchOption r (FindsNone (λ n. at_byte at (typed_empty_of n tokens.now)) (length tokens.now)) (λ p. Finds (λ n. at_byte at (typed_empty_of n tokens.now)) (length tokens.now) (λ t. t) p.0 p.1.now)) }
+    ensures found { IfOk result
+        (λ r. MatchOption r (FindsNone (λ n. at_byte at (typed_empty_of n tokens.now)) (length tokens.now))
+        (λ p. Finds (λ n. at_byte at (typed_empty_of n tokens.now)) (length tokens.now) (λ t. t) p.0 p.1.now)) }
     ensures shorter { IfOk result (λ r. IfSome r (λ p. length p.1.now < length tokens.now)) }
 {
     let Some((_, rest)) = after_sign(tokens, sign::MEMBER) else {
@@ -521,7 +560,9 @@ fn typed_empty(
 /// Terms with commas between.
 #[cycle(term)]
 fn terms(alloc: Global, tokens: &[Token]) -> Result<Option<(Terms, &[Token])>, Memory>
-    ensures found { IfOk result (λ r. MatchOption r (FindsNone (λ n. terms_of n n tokens.now) (length tokens.now)) (λ p. FindsTerms tokens.now p.0 p.1.now)) }
+    ensures found { IfOk result
+        (λ r. MatchOption r (FindsNone (λ n. terms_of n n tokens.now) (length tokens.now))
+        (λ p. FindsTerms tokens.now p.0 p.1.now)) }
     ensures shorter { IfOk result (λ r. IfSome r (λ p. length p.1.now < length tokens.now)) }
 {
     let mut terms = Terms::Built(Vec::new(alloc), 0);
@@ -541,7 +582,9 @@ fn terms(alloc: Global, tokens: &[Token]) -> Result<Option<(Terms, &[Token])>, M
 /// `$1:d,$2:e`.
 #[cycle(term)]
 fn ranges(alloc: Global, tokens: &[Token]) -> Result<Option<(Ranges, &[Token])>, Memory>
-    ensures found { IfOk result (λ r. MatchOption r (FindsNone (λ n. ranges_of n n tokens.now) (length tokens.now)) (λ p. FindsRanges tokens.now p.0 p.1.now)) }
+    ensures found { IfOk result
+        (λ r. MatchOption r (FindsNone (λ n. ranges_of n n tokens.now) (length tokens.now))
+        (λ p. FindsRanges tokens.now p.0 p.1.now)) }
     ensures shorter { IfOk result (λ r. IfSome r (λ p. length p.1.now < length tokens.now)) }
 {
     let mut ranges = Ranges::Built(Vec::new(alloc), 0);
@@ -568,7 +611,9 @@ fn comprehension(
     tokens: &[Token],
     at: usize,
 ) -> Result<Option<(Piece, &[Token])>, Memory>
-    ensures found { IfOk result (λ r. MatchOption r (FindsNone (λ n. at_byte at (comprehension_of n tokens.now)) (length tokens.now)) (λ p. Finds (λ n. at_byte at (comprehension_of n tokens.now)) (length tokens.now) (λ t. t) p.0 p.1.now)) }
+    ensures found { IfOk result
+        (λ r. MatchOption r (FindsNone (λ n. at_byte at (comprehension_of n tokens.now)) (length tokens.now))
+        (λ p. Finds (λ n. at_byte at (comprehension_of n tokens.now)) (length tokens.now) (λ t. t) p.0 p.1.now)) }
     ensures shorter { IfOk result (λ r. IfSome r (λ p. length p.1.now < length tokens.now)) }
 {
     if begins_bound_name(tokens) {
@@ -623,7 +668,11 @@ fn binders(
     tokens: &[Token],
     quantifier: Quantifier,
 ) -> Result<Option<(Around, &[Token])>, Memory>
-    ensures found { IfOk result (λ r. MatchOption r (FindsNone (λ n. binders_of n (plain_form quantifier) (typed_form quantifier) tokens.now) (length tokens.now)) (λ p. (n : ℕ) → length tokens.now ≤ n → binders_of n (plain_form quantifier) (typed_form quantifier) tokens.now ≡ Some (around_node p.0, p.1.now))) }
+    ensures found { IfOk result
+        (λ r. MatchOption r (FindsNone
+        (λ n. binders_of n (plain_form quantifier) (typed_form quantifier) tokens.now) (length tokens.now))
+        (λ p. (n : ℕ) → length tokens.now ≤ n →
+        binders_of n (plain_form quantifier) (typed_form quantifier) tokens.now ≡ Some (around_node p.0, p.1.now))) }
     ensures shorter { IfOk result (λ r. IfSome r (λ p. length p.1.now < length tokens.now)) }
 {
     if let Some(inside) = behind_numbered(tokens) {
@@ -662,7 +711,12 @@ fn quantified(
     at: usize,
     quantifier: Quantifier,
 ) -> Result<Option<(Piece, &[Token])>, Memory>
-    ensures found { IfOk result (λ r. MatchOption r (FindsNone (λ n. at_byte at (quantified_of n (plain_form quantifier) (typed_form quantifier) tokens.now)) (length tokens.now)) (λ p. Finds (λ n. at_byte at (quantified_of n (plain_form quantifier) (typed_form quantifier) tokens.now)) (length tokens.now) (λ t. t) p.0 p.1.now)) }
+    ensures found { IfOk result
+        (λ r. MatchOption r (FindsNone
+        (λ n. at_byte at (quantified_of n (plain_form quantifier) (typed_form quantifier) tokens.now))
+        (length tokens.now))
+        (λ p. Finds (λ n. at_byte at (quantified_of n (plain_form quantifier) (typed_form quantifier) tokens.now))
+        (length tokens.now) (λ t. t) p.0 p.1.now)) }
     ensures shorter { IfOk result (λ r. IfSome r (λ p. length p.1.now < length tokens.now)) }
 {
     let Some((form, rest)) = binders(alloc, tokens, quantifier)? else {
@@ -681,7 +735,9 @@ fn quantified(
 /// A lambda behind its sign.
 #[cycle(term)]
 fn lambda(alloc: Global, tokens: &[Token], at: usize) -> Result<Option<(Piece, &[Token])>, Memory>
-    ensures found { IfOk result (λ r. MatchOption r (FindsNone (λ n. at_byte at (lambda_of n tokens.now)) (length tokens.now)) (λ p. Finds (λ n. at_byte at (lambda_of n tokens.now)) (length tokens.now) (λ t. t) p.0 p.1.now)) }
+    ensures found { IfOk result
+        (λ r. MatchOption r (FindsNone (λ n. at_byte at (lambda_of n tokens.now)) (length tokens.now))
+        (λ p. Finds (λ n. at_byte at (lambda_of n tokens.now)) (length tokens.now) (λ t. t) p.0 p.1.now)) }
     ensures shorter { IfOk result (λ r. IfSome r (λ p. length p.1.now < length tokens.now)) }
 {
     if let Some(inside) = behind_numbered(tokens) {
@@ -712,7 +768,9 @@ fn body_and_value(
     alloc: Global,
     tokens: &[Token],
 ) -> Result<Option<(Piece, Piece, &[Token])>, Memory>
-    ensures found { IfOk result (λ r. MatchOption r (FindsNone (λ n. body_and_value_of n tokens.now) (length tokens.now)) (λ p. FindsTwo tokens.now p.0 p.1 p.2.now)) }
+    ensures found { IfOk result
+        (λ r. MatchOption r (FindsNone (λ n. body_and_value_of n tokens.now) (length tokens.now))
+        (λ p. FindsTwo tokens.now p.0 p.1 p.2.now)) }
     ensures shorter { IfOk result (λ r. IfSome r (λ p. length p.2.now < length tokens.now)) }
 {
     let Some((_, rest)) = after_sign(tokens, sign::DOT) else {

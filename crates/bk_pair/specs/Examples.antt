@@ -45,12 +45,15 @@ allowed_addition = setting (binary And (between (variable 1) 1 10) (binary Le (p
 abbrev pub addition : Body
 addition = setting btrue 3 (plus (variable 3) (variable 1))
 
+-- the machine Tally, whose inc has a precondition
 abbrev pub adder_machine : Component
 adder_machine = small_component Machine (codes "Tally") [] 0 (codes "k" ∷ []) allowed_addition (getting 2 0)
 
+-- its implementation, whose inc adds without asking
 abbrev pub adder_implementation : Component
 adder_implementation = small_component Implementation (codes "Tally_i") (codes "Tally") 3 (codes "k" ∷ []) addition (getting 4 3)
 
+-- the two as a development
 abbrev pub adder : Development
 adder = record {
   table = adder_table;
@@ -70,12 +73,15 @@ stepper_table = record { sets = []; variables = number_named (codes "n$0") ∷ n
 abbrev pub step : ℕ → Body
 step n = record { condition = btrue; sub = if_else (binary Lt (variable n) (literal (pos 10))) (assign ((n, plus (variable n) (literal (pos 1))) ∷ [])) skip; outputs = [] }
 
+-- the machine Stepper, whose inc asks whether n is below 10
 abbrev pub stepper_machine : Component
 stepper_machine = small_component Machine (codes "Stepper") [] 0 [] (step 0) (getting 1 0)
 
+-- its implementation, whose inc asks the same of its own n
 abbrev pub stepper_implementation : Component
 stepper_implementation = small_component Implementation (codes "Stepper_i") (codes "Stepper") 2 [] (step 2) (getting 3 2)
 
+-- the two as a development
 abbrev pub stepper : Development
 stepper = record {
   table = stepper_table;
@@ -87,6 +93,7 @@ stepper = record {
 }
 
 -- ---- as developments
+-- the adder's and the stepper's components make these developments
 pub record ExamplesAreThese : Type 0 where
   pub adds : development_of adder_machine adder_implementation ≡ adder
   pub steps : development_of stepper_machine stepper_implementation ≡ stepper

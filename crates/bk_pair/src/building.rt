@@ -25,7 +25,10 @@ fn add_variable(
     behind: &[u8],
 ) -> Result<(), Memory>
     requires few { length table.old.variables < 2 ^ 32 }
-    ensures { OnOk result (table.new ≡ record table.old { variables = table.old.variables ++ entry behind.now name.now ∷ [] }) }
+    ensures { OnOk result (table.new ≡ record table.old {
+      variables = table.old.variables
+          ++ entry behind.now name.now ∷ [];
+    }) }
 {
     let mut text = name.as_bytes().to_vec(alloc)?;
     text.extend_from_slice(behind)?;
@@ -40,7 +43,10 @@ fn add_variables(
     behind: &[u8],
 ) -> Result<(), Memory>
     requires few { length table.old.variables + length names.now < 2 ^ 32 }
-    ensures { OnOk result (table.new ≡ record table.old { variables = table.old.variables ++ map (entry behind.now) names.now }) }
+    ensures { OnOk result (table.new ≡ record table.old {
+      variables = table.old.variables
+          ++ map (entry behind.now) names.now;
+    }) }
 {
     for name in names {
         add_variable(alloc, table, name, behind)?;
@@ -51,7 +57,10 @@ fn add_variables(
 // An operation's inputs, which have bare names, and its outputs at the machine.
 fn add_inner(alloc: Global, table: &mut VarTable, header: &Header) -> Result<(), Memory>
     requires few { length table.old.variables + length header.now.inputs + length header.now.outputs < 2 ^ 32 }
-    ensures { OnOk result (table.new ≡ record table.old { variables = table.old.variables ++ (map (entry []) header.now.inputs ++ map (entry (codes "$0")) header.now.outputs) }) }
+    ensures { OnOk result (table.new ≡ record table.old {
+      variables = table.old.variables
+          ++ (map (entry []) header.now.inputs ++ map (entry (codes "$0")) header.now.outputs);
+    }) }
 {
     add_variables(alloc, table, &header.inputs, b"")?;
     add_variables(alloc, table, &header.outputs, b"$0")
@@ -74,7 +83,10 @@ fn add_upper(alloc: Global, table: &mut VarTable, machine: &Component) -> Result
 fn add_lower(alloc: Global, table: &mut VarTable, implementation: &Component) -> Result<(), Memory>
     requires few { length table.old.variables ≤ 10000 }
     requires few_below { place_behind_all 1 implementation.now.headers ≤ 10000 }
-    ensures { OnOk result (table.new ≡ record table.old { variables = table.old.variables ++ lower_variables implementation.now }) }
+    ensures { OnOk result (table.new ≡ record table.old {
+      variables = table.old.variables
+          ++ lower_variables implementation.now;
+    }) }
 {
     add_variable(alloc, table, &implementation.variable, b"$1")?;
     for header in &implementation.headers {
@@ -95,7 +107,8 @@ fn add_homes(homes: &mut Vec<Home>, names: &[Text], home: Home) -> Result<(), Me
 
 // Where an operation's inputs and its outputs at the machine are at home.
 fn add_inner_homes(homes: &mut Vec<Home>, header: &Header) -> Result<(), Memory>
-    ensures { OnOk result (homes.new.items ≡ homes.old.items ++ (map (λ x. Input) header.now.inputs ++ map (λ r. Inner 0) header.now.outputs)) }
+    ensures { OnOk result (homes.new.items ≡ homes.old.items
+        ++ (map (λ x. Input) header.now.inputs ++ map (λ r. Inner 0) header.now.outputs)) }
 {
     add_homes(homes, &header.inputs, Home::Input)?;
     add_homes(homes, &header.outputs, Home::Inner(0))

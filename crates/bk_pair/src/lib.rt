@@ -5,6 +5,3 @@ mod building;
 pub mod laws;
 
 pub use building::development;
-
-#[cfg(test)]
-mod tests;

@@ -8,9 +8,9 @@ use Rattle.bk_dev.specs.Layout.{arrays_of}
 use Rattle.bk_wp.specs.Guarded.{HasTotal}
 use Rattle.bk_wp.specs.Shapes.{HasNoBinder}
 use Rattle.bk_wp.proofs.Guarding.{total-plain}
-use Rattle.bk_sim.specs.Plain.{HasNoPar, HaveNoPar, LevelsHaveNoPar}
-use Rattle.bk_sim.proofs.Climb.{level_fact}
-use Rattle.bk_sim.proofs.Flat.{flattened_already}
+use Rattle.bk_dev.specs.NoPar.{HasNoPar, HaveNoPar, LevelsHaveNoPar}
+use Rattle.bk_dev.proofs.Levels.{level_fact}
+use Rattle.bk_dev.proofs.Flat.{flattened_already}
 use Rattle.bk_po.specs.Obligations.{obligations, flat_obligations}
 use Rattle.bk_po.specs.Basic.{IsBasicBody, IsBasicLevel, IsBasic}
 

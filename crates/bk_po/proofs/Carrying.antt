@@ -34,10 +34,10 @@ use Rattle.bk_wp.specs.Laws.{SomeMeets}
 use Rattle.bk_wp.proofs.Plain.{box-plain, diamond-plain}
 use Rattle.bk_wp.proofs.Guarding.{total-plain, guarded_is_clean}
 use Rattle.bk_wp.proofs.Steps.{implies-then, implies-if, holds-assign}
-use Rattle.bk_sim.proofs.Agree.{both-true, true-append, true-first, true-second, parts-true}
-use Rattle.bk_sim.proofs.Climb.{flat-then, flat-if, level_fact}
-use Rattle.bk_sim.proofs.Entries.{body-at}
-use Rattle.bk_sim.proofs.Flat.{flattened_already}
+use Rattle.bk_dev.proofs.Agree.{both-true, true-append, true-first, true-second, parts-true}
+use Rattle.bk_dev.proofs.Climb.{flat-then, flat-if}
+use Rattle.bk_dev.proofs.Levels.{level_fact, body-at}
+use Rattle.bk_dev.proofs.Flat.{flattened_already}
 use Rattle.bk_po.specs.Basic.{IsBasic}
 use Rattle.bk_po.specs.Obligations.{Obligation, obligation, of_operation, of_definedness, numbers_below, each_after, values_goal, init_goal, operation_goal, evaluation_goal, joining_goal, conjunction, flat_obligations, numbered, AreValid, named_after, split}
 use Rattle.bk_po.specs.Plain.{AlwaysEnds, LevelEnds}

@@ -1,4 +1,4 @@
--- The counter's obligations, and those of the adder and the stepper.
+-- The counter's obligations, and those of the adder.
 use Rattle.std.proofs.Common.{ℕ, List, [], ◌∷◌, refl}
 use Rattle.std.specs.Fmt.{digits}
 use Rattle.bk_form.specs.Formula.{btrue}
@@ -6,7 +6,7 @@ use Rattle.bk_dev.specs.declared.kind.Kind.{Kind}
 use Rattle.bk_dev.specs.declared.kind.Kind.TheVariants.{Machine, Implementation}
 use Rattle.bk_dev.specs.Counter.{machine_name, implementation_name, counter_level}
 use Rattle.bk_po.specs.Basic.{IsBasicLevel}
-use Rattle.bk_po.specs.Examples.{TallyAsks, StepperAsks}
+use Rattle.bk_po.specs.Examples.{TallyAsks}
 use Rattle.bk_po.specs.Laws.{CounterHasThese, CounterIsValid}
 
 pub counter_has_these : CounterHasThese
@@ -15,11 +15,7 @@ counter_has_these = refl
 
 pub tally_asks : TallyAsks
 unfolding digits
-tally_asks = record { all = refl; kept = refl; not_below = refl; not_above = refl }
-
-pub stepper_asks : StepperAsks
-unfolding digits
-stepper_asks = record { all = refl }
+tally_asks = record { kept = refl; not_below = refl; not_above = refl }
 
 basic-level : (name : List ℕ) (kind : Kind) (n r : ℕ) (links : List (ℕ × ℕ)) → IsBasicLevel (counter_level btrue name kind n r links)
 basic-level name kind n r links = record {

@@ -4,10 +4,9 @@ pub mod Splitting
 pub mod Counters
 pub mod ExampleFacts
 pub mod Carrying
-pub mod Following
 pub mod Predicates
 pub mod TypedGoals
-pub mod Obviousness
+pub mod TypedSequents
 pub mod Values
 pub mod Sequents
 pub mod Numbering

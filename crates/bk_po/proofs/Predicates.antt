@@ -28,7 +28,8 @@ use Rattle.bk_wp.specs.Guarded.{both, where_true, in_machine, binary_check, chec
 use Rattle.bk_wp.specs.Shapes.{HasNoBinder}
 use Rattle.bk_wp.proofs.Guarding.{total-plain}
 use Rattle.bk_wp.proofs.Steps.{terms-replace}
-use Rattle.bk_po.specs.Obligations.{joined_onto, joined_all, conjunction, each_after, Sequent, split}
+use Rattle.bk_seq.specs.Sequents.{Sequent}
+use Rattle.bk_po.specs.Obligations.{joined_onto, joined_all, conjunction, each_after, split}
 use Rattle.bk_po.proofs.Lists.{append-each, map-each, filter-each}
 use Rattle.bk_po.proofs.Splitting.{each-so}
 

@@ -12,10 +12,11 @@ use Rattle.bk_gsl.specs.State.{holds, IsTypedState}
 use Rattle.bk_dev.specs.Development.{Development, is_btrue}
 use Rattle.bk_dev.specs.Hypotheses.{AreTrue, conjuncts}
 use Rattle.bk_dev.specs.Facts.{Each}
-use Rattle.bk_seq.specs.Valid.{AllHold, in_state, IsValid}
+use Rattle.bk_bind.specs.Valid.{AllHold, in_state, IsValid}
 use Rattle.bk_wp.proofs.Steps.{implies-if}
-use Rattle.bk_sim.proofs.Agree.{both-true, true-append, parts-true}
-use Rattle.bk_po.specs.Obligations.{Obligation, rows, Sequent, split, numbered_from, numbered, AreValid, joined_onto, joined_all, conjunction, numbers_below, row_obligations, flat_obligations}
+use Rattle.bk_dev.proofs.Agree.{both-true, true-append, parts-true}
+use Rattle.bk_seq.specs.Sequents.{Sequent}
+use Rattle.bk_po.specs.Obligations.{Obligation, rows, split, numbered_from, numbered, AreValid, joined_onto, joined_all, conjunction, numbers_below, row_obligations, flat_obligations}
 
 -- ---- each of a list
 pub each-first : {A : Type 0} (P : A → Type 0) (xs ys : List A) → Each P (xs ++ ys) → Each P xs

@@ -1,5 +1,5 @@
 -- In a basic development every hypothesis and every goal is a predicate over the development's table.
-use Rattle.std.proofs.Common.{◌≡◌, ◌<◌, ℕ, zero, suc, List, [], ◌∷◌, ◌++◌, map, take, length, refl, ap, true, false, cond, arith, Option, Some, None}
+use Rattle.std.proofs.Common.{◌≡◌, ◌<◌, ℕ, zero, suc, List, [], ◌∷◌, ◌++◌, map, take, length, refl, ap, true, false, cond, arith, Option, Some, None, ◌∙◌}
 use Rattle.std.specs.Prelude.{codes, slice_index_or}
 use Rattle.std.specs.List.{filter, flat_map}
 use Rattle.bk_val.specs.ValueType.{ValueType, int_type, bool_type, enum_type, pair_type, set_type}
@@ -8,15 +8,13 @@ use Rattle.bk_form.specs.Formula.{Formula}
 use Rattle.bk_form.specs.Role.{predicate, gives, given_by, if_holds, equality_role, membership_role}
 use Rattle.bk_gsl.specs.Substitution.{pre}
 use Rattle.bk_gsl.specs.Typed.{IsPredicate, AreTypedTerms, Types}
-use Rattle.std.proofs.Common.{◌∙◌}
 use Rattle.bk_dev.specs.Development.{Head, Body, Level, Development, blank_body, level_at, body_of, body_at, inputs_of, is_btrue, is_implementation, whole}
 use Rattle.bk_dev.specs.Hypotheses.{conjuncts, link_equation, value_equation, properties_of, values_at, joining, facts, facts_of, conditions_of, is_number, in_machine_range, input_ranges, init_hypotheses, invariant_hypotheses, assertion_hypotheses, operation_hypotheses}
 use Rattle.bk_dev.specs.Facts.{AreAlike, IsStated, IsLink, IsValue, Each, IsLevelOf, IsBodyOf, EachBody, EachLevel, IsDevelopment}
 use Rattle.bk_dev.specs.Claims.{arrays_at, beside}
 use Rattle.bk_wp.specs.Box.{diamond}
 use Rattle.bk_wp.proofs.Guarding.{total-plain}
-use Rattle.bk_sim.proofs.Climb.{level_fact}
-use Rattle.bk_sim.proofs.Entries.{body-at}
+use Rattle.bk_dev.proofs.Levels.{level_fact, body-at}
 use Rattle.bk_po.specs.declared.row.Row.{Row}
 use Rattle.bk_po.specs.declared.row.Row.TheVariants.{PropertiesDefined, ValuesMeet, InvariantDefined, AssertionsDefined, AssertionsHold, Initialisation, InitialisationDefined, Operations, OperationsDefined}
 use Rattle.bk_po.specs.Obligations.{Obligation, obligation, of_operation, of_definedness, rows, numbers_below, named_after, conjunction, each_after, values_goal, joining_goal, init_goal, operation_goal, row_obligations, flat_obligations}

@@ -1,6 +1,6 @@
 -- An adder and a stepper with their implementations, to be checked by hand: inc(k) adds k to n, where that is allowed, and inc of the stepper
 -- adds 1 to n below 10; get answers n, which stays from 0 to 10.
-use Rattle.std.specs.Prelude.{◌≡◌, ℕ, pos, negsuc, Bool, true, false, List, [], ◌∷◌, map, codes, slice_get, Some}
+use Rattle.std.specs.Prelude.{◌≡◌, ℕ, pos, negsuc, List, [], ◌∷◌, codes, slice_get, Some}
 use Rattle.bk_val.specs.ValueType.{int_type}
 use Rattle.bk_form.specs.Table.{Table}
 use Rattle.bk_form.specs.Formula.{Formula, variable, literal, binary, btrue}
@@ -11,13 +11,13 @@ use Rattle.bk_dev.specs.declared.kind.Kind.TheVariants.{Machine, Implementation}
 use Rattle.bk_dev.specs.declared.kind.Home.TheVariants.{Input, Variable, Inner}
 use Rattle.bk_dev.specs.Development.{Head, Body, Level, Development}
 use Rattle.bk_dev.specs.Counter.{number_at, counter_table, setting}
-use Rattle.bk_kernel.specs.Obvious.{is_obvious}
 use Rattle.bk_po.specs.Obligations.{numbered_obligations}
 
 -- f : low..high
 abbrev pub between : Formula → ℕ → ℕ → Formula
 between f low high = binary In f (binary Range (literal (pos low)) (literal (pos high)))
 
+-- f + g
 abbrev pub plus : Formula → Formula → Formula
 plus f g = binary Add f g
 
@@ -39,9 +39,11 @@ small_level name kind n links inc get = record {
   bodies = inc ∷ get ∷ [];
 }
 
+-- inc, which gives nothing back
 abbrev pub inc_head : List ℕ → Head
 inc_head inputs = record { name = codes "inc"; inputs = inputs; outputs = 0 }
 
+-- get, which takes nothing and gives one number back
 abbrev pub get_head : Head
 get_head = record { name = codes "get"; inputs = []; outputs = 1 }
 
@@ -58,6 +60,7 @@ may_add = binary And (between (variable 4) 1 10) (binary Le (plus (variable 0) (
 abbrev pub adding : Formula → ℕ → Body
 adding condition n = setting condition n (plus (variable n) (variable 4))
 
+-- the machine Tally, whose inc(k) adds k to n, and its implementation
 abbrev pub tally : Development
 tally = record {
   table = tally_table;
@@ -73,6 +76,7 @@ tally = record {
 abbrev pub stepping : ℕ → Body
 stepping n = record { condition = btrue; sub = if_else (binary Lt (variable n) (literal (pos 10))) (assign ((n, plus (variable n) (literal (pos 1))) ∷ [])) skip; outputs = [] }
 
+-- the machine Stepper, whose inc adds 1 to n below 10, and its implementation
 abbrev pub stepper : Development
 stepper = record {
   table = counter_table;
@@ -83,11 +87,7 @@ stepper = record {
   values = [];
 }
 
--- ---- their obligations
--- each name, and whether its sequent needs no proof
-abbrev pub names_and_obvious : Development → List (List ℕ × Bool)
-names_and_obvious dev = map (λ s. (s.0, is_obvious s.1.0 s.1.1)) (numbered_obligations dev)
-
+-- ---- what the adder asks
 -- what is known where inc of the adder's implementation begins
 abbrev pub known_at_inc : List Formula
 known_at_inc =
@@ -95,22 +95,11 @@ known_at_inc =
     between (variable 4) 1 10 ∷ binary Le (plus (variable 0) (variable 4)) (literal (pos 10)) ∷
     binary In (variable 4) (binary Range (literal (negsuc 2147483646)) (literal (pos 2147483647))) ∷ []
 
+-- three obligations of the adder, whole
 pub record TallyAsks : Type 0 where
-  -- twelve, of which five need a proof
-  pub all : names_and_obvious tally ≡
-      (codes "Tally.INITIALISATION.1", true) ∷ (codes "Tally.inc.1", false) ∷ (codes "Tally.get.1", true) ∷
-      (codes "Tally_i.INITIALISATION.1", true) ∷ (codes "Tally_i.INITIALISATION.2", true) ∷ (codes "Tally_i.inc.1", false) ∷ (codes "Tally_i.inc.2", false) ∷
-      (codes "Tally_i.get.1", true) ∷ (codes "Tally_i.get.2", true) ∷ (codes "Tally_i.get.3", true) ∷ (codes "Tally_i.inc.chk.1", false) ∷ (codes "Tally_i.inc.chk.2", false) ∷ []
   -- n$1 + k : 0..10
   pub kept : slice_get (numbered_obligations tally) 5 ≡ Some (codes "Tally_i.inc.1", (known_at_inc, between (plus (variable 1) (variable 4)) 0 10))
   -- MININT <= n$1 + k
   pub not_below : slice_get (numbered_obligations tally) 10 ≡ Some (codes "Tally_i.inc.chk.1", (known_at_inc, binary Le (literal (negsuc 2147483646)) (plus (variable 1) (variable 4))))
   -- n$1 + k <= MAXINT
   pub not_above : slice_get (numbered_obligations tally) 11 ≡ Some (codes "Tally_i.inc.chk.2", (known_at_inc, binary Le (plus (variable 1) (variable 4)) (literal (pos 2147483647))))
-
-pub record StepperAsks : Type 0 where
-  -- thirteen, of which five need a proof
-  pub all : names_and_obvious stepper ≡
-      (codes "Stepper.INITIALISATION.1", true) ∷ (codes "Stepper.inc.1", false) ∷ (codes "Stepper.inc.2", true) ∷ (codes "Stepper.get.1", true) ∷
-      (codes "Stepper_i.INITIALISATION.1", true) ∷ (codes "Stepper_i.INITIALISATION.2", true) ∷ (codes "Stepper_i.inc.1", false) ∷ (codes "Stepper_i.inc.2", false) ∷
-      (codes "Stepper_i.get.1", true) ∷ (codes "Stepper_i.get.2", true) ∷ (codes "Stepper_i.get.3", true) ∷ (codes "Stepper_i.inc.chk.1", false) ∷ (codes "Stepper_i.inc.chk.2", false) ∷ []

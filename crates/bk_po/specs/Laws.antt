@@ -5,13 +5,10 @@ use Rattle.bk_dev.specs.Development.{Development, is_complete}
 use Rattle.bk_dev.specs.Facts.{IsDevelopment}
 use Rattle.bk_dev.specs.Claims.{Keeps, Carries, ValuesMeet}
 use Rattle.bk_dev.specs.Counter.{counter}
-use Rattle.bk_gen.specs.Simple.{IsSimple}
-use Rattle.bk_gen.specs.Translation.{translation}
-use Rattle.bk_sim.specs.Follows.{Follows}
 use Rattle.bk_po.specs.Obligations.{numbered_obligations, HasValidObligations}
 use Rattle.bk_po.specs.Basic.{IsBasic}
 use Rattle.bk_po.specs.Plain.{IsPlain}
-use Rattle.bk_po.specs.Obvious.{HasObviousObligations, HasShownObligations, HasTypedObligations}
+use Rattle.bk_po.specs.Typed.{HasTypedObligations}
 use Rattle.bk_po.specs.Examples.{tally, stepper}
 
 -- the counter has thirteen numbered obligations, with these names
@@ -32,10 +29,6 @@ pub record IsCorrect (find : Finder) (dev : Development) : Type 0 where
 abbrev pub ValidObligationsCarry : Type 0
 ValidObligationsCarry = (find : Finder) → IsSearch find → (dev : Development) → IsDevelopment dev → IsPlain dev → HasValidObligations dev → IsCorrect find dev
 
--- and the translation of its implementation follows the machine
-abbrev pub ValidObligationsFollow : Type 0
-ValidObligationsFollow = (find : Finder) → IsSearch find → (dev : Development) → IsDevelopment dev → IsSimple dev → IsPlain dev → HasValidObligations dev → Follows find dev (translation dev)
-
 -- the counter meets what this asks
 pub record CounterIsValid : Type 0 where
   pub plain : IsPlain counter
@@ -51,11 +44,3 @@ pub record ExamplesArePlain : Type 0 where
 -- the formulas of a basic development's obligations are predicates over the development's variables
 abbrev pub ObligationsType : Type 0
 ObligationsType = (dev : Development) → IsDevelopment dev → IsBasic dev → HasTypedObligations dev
-
--- so that where each is obvious or derived by rules, each is valid
-abbrev pub ShownObligationsAreValid : Type 0
-ShownObligationsAreValid = (dev : Development) → IsDevelopment dev → IsBasic dev → HasShownObligations dev → HasValidObligations dev
-
--- where every obligation is obvious, every obligation is valid
-abbrev pub ObviousObligationsAreValid : Type 0
-ObviousObligationsAreValid = (dev : Development) → IsDevelopment dev → IsBasic dev → HasObviousObligations dev → HasValidObligations dev

@@ -4,6 +4,6 @@ pub mod Limits
 pub mod Shown
 pub mod Basic
 pub mod Plain
-pub mod Obvious
+pub mod Typed
 pub mod Examples
 pub mod Laws

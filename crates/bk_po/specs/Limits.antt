@@ -24,6 +24,7 @@ abbrev pub first_too_large : List Obligation → Option (List ℕ)
 first_too_large [] = None
 first_too_large (o ∷ os) = cond (is_too_large o) (Some o.name) (first_too_large os)
 
+-- the nodes of all obligations together
 abbrev pub all_nodes : List Obligation → ℕ
 all_nodes [] = 0
 all_nodes (o ∷ os) = nodes_of o + all_nodes os

@@ -13,7 +13,7 @@ use Rattle.bk_dev.specs.Claims.{arrays_at, beside}
 use Rattle.bk_gsl.specs.Substitution.{Substitution}
 use Rattle.bk_wp.specs.Box.{box, diamond}
 use Rattle.bk_wp.specs.Guarded.{guarded}
-use Rattle.bk_seq.specs.Valid.{IsValid}
+use Rattle.bk_seq.specs.Sequents.{Sequent, IsValidSequent}
 use Rattle.bk_po.specs.declared.row.Row.{Row}
 use Rattle.bk_po.specs.declared.row.Row.TheVariants.{PropertiesDefined, ValuesMeet, InvariantDefined, AssertionsDefined, AssertionsHold, Initialisation, InitialisationDefined, Operations, OperationsDefined}
 
@@ -24,10 +24,12 @@ pub record Obligation : Type 0 where
   pub goal : Formula
 
 -- ---- goals
+-- p & q & r .., joined to the left
 abbrev pub joined_onto : Formula → List Formula → Formula
 joined_onto p [] = p
 joined_onto p (q ∷ qs) = joined_onto (binary And p q) qs
 
+-- their conjunction, joined to the left, and btrue of none
 abbrev pub joined_all : List Formula → Formula
 joined_all [] = btrue
 joined_all (p ∷ ps) = joined_onto p ps
@@ -59,6 +61,7 @@ values_goal dev k = replaced (looked_up dev.values) (conjunction (map (λ l. l.p
 abbrev pub joined_goal : Level → List ℕ → List ℕ → Formula
 joined_goal l outputs above = conjunction (l.invariant ∷ conjunction (map link_equation l.links) ∷ conjunction (map link_equation (beside outputs above)) ∷ [])
 
+-- the same by the number of the level
 abbrev pub joining_goal : Development → ℕ → List ℕ → List ℕ → Formula
 joining_goal dev k outputs above = joined_goal (level_at dev k) outputs above
 
@@ -87,6 +90,7 @@ numbers_below (suc n) = numbers_below n ++ n ∷ []
 abbrev pub named_after : Development → ℕ → List ℕ → List ℕ
 named_after dev k clause = (level_at dev k).name ++ codes "." ++ clause
 
+-- the name of operation o
 abbrev pub head_name : Development → ℕ → List ℕ
 head_name dev o = (slice_index_or dev.heads o (record { name = []; inputs = []; outputs = 0 })).name
 
@@ -130,10 +134,6 @@ abbrev pub obligations : Development → List Obligation
 obligations dev = flat_obligations (flattened dev)
 
 -- ---- sequents
--- hypotheses and a goal
-abbrev pub Sequent : Type 0
-Sequent = List Formula × Formula
-
 -- a goal taken apart: both sides of a conjunction, the right side of an implication under the conjuncts of the left one, nothing for btrue
 abbrev pub split : List Formula → Formula → List Sequent
 split hyps (binary And p q) = split hyps p ++ split hyps q
@@ -146,6 +146,7 @@ abbrev pub numbered_from : ℕ → List ℕ → List Sequent → List (List ℕ 
 numbered_from k name [] = []
 numbered_from k name (s ∷ ss) = (name ++ codes "." ++ decimal k, s) ∷ numbered_from (suc k) name ss
 
+-- the sequents of obligations, those of each numbered from 1
 abbrev pub numbered : List Obligation → List (List ℕ × Sequent)
 numbered os = flat_map (λ o. numbered_from 1 o.name (split o.hypotheses o.goal)) os
 
@@ -155,7 +156,7 @@ numbered_obligations dev = numbered (obligations dev)
 
 -- each is valid
 abbrev pub AreValid : Table → List (List ℕ × Sequent) → Type 0
-AreValid table ss = Each (λ s. IsValid table s.1.0 s.1.1) ss
+AreValid table ss = Each (λ s. IsValidSequent table s.1) ss
 
 -- all sequents of the development are valid, over the table with all copies
 abbrev pub HasValidObligations : Development → Type 0

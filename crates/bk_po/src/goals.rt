@@ -72,8 +72,10 @@ pub(crate) fn values_goal(alloc: Global, dev: &Development, level: usize) -> Res
 // The levels' properties with the values in place of the constants.
 #[tactic(auto, using(bk_wp::proofs::Growth::within_replaced))]
 fn valued(alloc: Global, levels: &[Level], values: &[(u32, Form)]) -> Result<Form, WpFault>
-    ensures value { IfOk result (λ f. f ≡ replaced (looked_up values.now) (conjunction (map (λ l. l.properties) levels.now))) }
-    ensures too_large { result ≡ Err TooLarge → IsWithinLimits (replaced (looked_up values.now) (conjunction (map (λ l. l.properties) levels.now))) → ⊥ }
+    ensures value { IfOk result
+        (λ f. f ≡ replaced (looked_up values.now) (conjunction (map (λ l. l.properties) levels.now))) }
+    ensures too_large { result ≡ Err TooLarge →
+        IsWithinLimits (replaced (looked_up values.now) (conjunction (map (λ l. l.properties) levels.now))) → ⊥ }
 {
     let properties = properties(alloc, levels)?;
     let all = conjunction(alloc, &properties)?;
@@ -115,8 +117,11 @@ fn answered_init(
 ) -> Result<Form, WpFault>
     requires lower { HasNoBinder lower.now.init }
     requires upper { HasNoBinder upper.now.init }
-    ensures value { IfOk result (λ f. f ≡ box types.now lower.now.init (diamond types.now upper.now.init (joined_goal lower.now [] []))) }
-    ensures too_large { result ≡ Err TooLarge → IsWithinLimits (box types.now lower.now.init (diamond types.now upper.now.init (joined_goal lower.now [] []))) → ⊥ }
+    ensures value { IfOk result
+        (λ f. f ≡ box types.now lower.now.init (diamond types.now upper.now.init (joined_goal lower.now [] []))) }
+    ensures too_large { result ≡ Err TooLarge →
+        IsWithinLimits (box types.now lower.now.init
+        (diamond types.now upper.now.init (joined_goal lower.now [] []))) → ⊥ }
 {
     let joining = joining_goal(alloc, lower, &[], &[])?;
     let answered = diamond(alloc, types, &upper.init, joining)?;
@@ -197,8 +202,12 @@ fn answered_goal(
 ) -> Result<Form, WpFault>
     requires lower { HasNoBinder lower.now.sub }
     requires upper { HasNoBinder upper.now.sub }
-    ensures value { IfOk result (λ f. f ≡ box types.now (whole lower.now) (diamond types.now upper.now.sub (joined_goal level.now lower.now.outputs upper.now.outputs))) }
-    ensures too_large { result ≡ Err TooLarge → IsWithinLimits (box types.now (whole lower.now) (diamond types.now upper.now.sub (joined_goal level.now lower.now.outputs upper.now.outputs))) → ⊥ }
+    ensures value { IfOk result
+        (λ f. f ≡ box types.now (whole lower.now)
+        (diamond types.now upper.now.sub (joined_goal level.now lower.now.outputs upper.now.outputs))) }
+    ensures too_large { result ≡ Err TooLarge →
+        IsWithinLimits (box types.now (whole lower.now)
+        (diamond types.now upper.now.sub (joined_goal level.now lower.now.outputs upper.now.outputs))) → ⊥ }
 {
     let joining = joining_goal(alloc, level, &lower.outputs, &upper.outputs)?;
     let answered = diamond(alloc, types, &upper.sub, joining)?;
@@ -226,7 +235,8 @@ pub(crate) fn init_evaluation(
     requires level { level < length dev.now.levels }
     requires basic { IsBasic dev.now }
     ensures value { IfOk result (λ f. f ≡ evaluation_goal dev.now level (level_at dev.now level).init) }
-    ensures too_large { result ≡ Err TooLarge → IsWithinLimits (evaluation_goal dev.now level (level_at dev.now level).init) → ⊥ }
+    ensures too_large { result ≡ Err TooLarge →
+        IsWithinLimits (evaluation_goal dev.now level (level_at dev.now level).init) → ⊥ }
 {
     evaluation_goal(alloc, dev, level, &level_at(dev, level).init)
 }
@@ -243,7 +253,8 @@ pub(crate) fn operation_evaluation(
     requires operation { operation < length dev.now.heads }
     requires basic { IsBasic dev.now }
     ensures value { IfOk result (λ f. f ≡ evaluation_goal dev.now level (whole (body_at dev.now level operation))) }
-    ensures too_large { result ≡ Err TooLarge → IsWithinLimits (evaluation_goal dev.now level (whole (body_at dev.now level operation))) → ⊥ }
+    ensures too_large { result ≡ Err TooLarge →
+        IsWithinLimits (evaluation_goal dev.now level (whole (body_at dev.now level operation))) → ⊥ }
 {
     let whole = whole(alloc, body_at(dev, level, operation))?;
     evaluation_goal(alloc, dev, level, &whole)

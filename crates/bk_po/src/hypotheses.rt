@@ -110,7 +110,8 @@ fn hypotheses_under(
 ) -> Result<Vec<Form>, Memory>
     requires level { level < length dev.now.levels }
     requires conditions { conditions ≤ length dev.now.levels }
-    ensures { IfOk result (λ hyps. hyps.items ≡ init_hypotheses dev.now level ++ facts_of dev.now (suc level) ++ conditions_of dev.now conditions operation ++ input_ranges dev.now level operation) }
+    ensures { IfOk result (λ hyps. hyps.items ≡ init_hypotheses dev.now level ++ facts_of dev.now (suc level)
+        ++ conditions_of dev.now conditions operation ++ input_ranges dev.now level operation) }
 {
     let mut hyps = known(alloc, dev, level)?;
     add_conditions(alloc, &dev.levels[..conditions], operation, &mut hyps)?;
@@ -146,7 +147,8 @@ fn add_values(
     hyps: &mut Vec<Form>,
 ) -> Result<(), Memory>
     requires { All (λ p. formula_size p.1 ≡ 1) values.now }
-    ensures { OnOk result (hyps.new.items ≡ hyps.old.items ++ cond (is_implementation level.now) (map value_equation values.now) []) }
+    ensures { OnOk result (hyps.new.items ≡ hyps.old.items
+        ++ cond (is_implementation level.now) (map value_equation values.now) []) }
 {
     if level.kind != Kind::Implementation {
         return Ok(());
@@ -235,7 +237,8 @@ fn add_conditions(
     operation: usize,
     hyps: &mut Vec<Form>,
 ) -> Result<(), Memory>
-    ensures { OnOk result (hyps.new.items ≡ hyps.old.items ++ flat_map (λ l. conjuncts (body_of l operation).condition) levels.now) }
+    ensures { OnOk result (hyps.new.items ≡ hyps.old.items ++ flat_map
+        (λ l. conjuncts (body_of l operation).condition) levels.now) }
 {
     for level in levels {
         add_condition(alloc, level, operation, hyps)?;
@@ -265,7 +268,9 @@ fn add_ranges(
     operation: usize,
     hyps: &mut Vec<Form>,
 ) -> Result<(), Memory>
-    ensures { OnOk result (hyps.new.items ≡ hyps.old.items ++ cond (is_implementation level.now) (map (in_machine_range dev.now) (filter (λ x. is_number (variable_type dev.now.table x)) (inputs_of dev.now operation))) []) }
+    ensures { OnOk result (hyps.new.items ≡ hyps.old.items
+        ++ cond (is_implementation level.now) (map (in_machine_range dev.now) (filter
+        (λ x. is_number (variable_type dev.now.table x)) (inputs_of dev.now operation))) []) }
 {
     if level.kind != Kind::Implementation {
         return Ok(());
@@ -282,7 +287,8 @@ fn add_ranges_of(
     inputs: &[u32],
     hyps: &mut Vec<Form>,
 ) -> Result<(), Memory>
-    ensures { OnOk result (hyps.new.items ≡ hyps.old.items ++ map (in_machine_range dev.now) (filter (λ x. is_number (variable_type dev.now.table x)) inputs.now)) }
+    ensures { OnOk result (hyps.new.items ≡ hyps.old.items
+        ++ map (in_machine_range dev.now) (filter (λ x. is_number (variable_type dev.now.table x)) inputs.now)) }
 {
     for input in inputs {
         if is_number(&dev.table, *input) {

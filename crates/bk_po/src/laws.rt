@@ -1,7 +1,7 @@
 //! What the obligations of a development are, and what they are worth. Each law is the contract of a function that does nothing.
 
-ghost use Rattle.bk_po.specs.Examples.{TallyAsks, StepperAsks};
-ghost use Rattle.bk_po.specs.Laws.{CounterHasThese, CounterIsValid, ExamplesArePlain, ValidObligationsCarry, ValidObligationsFollow, ObligationsType, ShownObligationsAreValid, ObviousObligationsAreValid};
+ghost use Rattle.bk_po.specs.Examples.{TallyAsks};
+ghost use Rattle.bk_po.specs.Laws.{CounterHasThese, CounterIsValid, ExamplesArePlain, ValidObligationsCarry, ObligationsType};
 
 /// The obligations of a counter, to be checked by hand.
 pub fn counter()
@@ -9,10 +9,9 @@ pub fn counter()
     ensures valid { CounterIsValid }
 {}
 
-/// The obligations of an adder, which has an input and a precondition, and of a stepper, which has an IF.
+/// An adder, which has an input and a precondition, and a stepper, which has an IF.
 pub fn examples()
     ensures tally { TallyAsks }
-    ensures stepper { StepperAsks }
     ensures plain { ExamplesArePlain }
 {}
 
@@ -21,18 +20,7 @@ pub fn obligations_carry()
     ensures { ValidObligationsCarry }
 {}
 
-/// Where all obligations of a plain development are valid, translated code follows the machine.
-pub fn obligations_follow()
-    ensures { ValidObligationsFollow }
-{}
-
 /// The formulas of all obligations of a basic development are predicates: what is replayed on them keeps its worth.
 pub fn obligations_type()
     ensures { ObligationsType }
-{}
-
-/// Where each obligation of a basic development is obvious or derived by rules, all are valid.
-pub fn proved_obligations()
-    ensures shown { ShownObligationsAreValid }
-    ensures obvious { ObviousObligationsAreValid }
 {}

@@ -14,6 +14,3 @@ mod whole;
 
 pub use error::PoFault;
 pub use obligation::{Obligation, obligations};
-
-#[cfg(test)]
-mod tests;

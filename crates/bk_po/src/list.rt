@@ -245,9 +245,12 @@ fn add_values(
 
 fn values_meet(alloc: Global, dev: &Development, level: usize) -> Result<WholeObligation, PoFault>
     requires { level < length dev.now.levels }
-    ensures value { IfOk result (λ o. o ≡ obligation (named_after dev.now level (codes "VALUES")) [] (values_goal dev.now level)) }
-    ensures size { OnOk result (first_too_large (obligation (named_after dev.now level (codes "VALUES")) [] (values_goal dev.now level) ∷ []) ≡ None) }
-    ensures fault { IfErr result (IsFaultAmong (obligation (named_after dev.now level (codes "VALUES")) [] (values_goal dev.now level) ∷ [])) }
+    ensures value { IfOk result
+        (λ o. o ≡ obligation (named_after dev.now level (codes "VALUES")) [] (values_goal dev.now level)) }
+    ensures size { OnOk result (first_too_large
+        (obligation (named_after dev.now level (codes "VALUES")) [] (values_goal dev.now level) ∷ []) ≡ None) }
+    ensures fault { IfErr result (IsFaultAmong
+        (obligation (named_after dev.now level (codes "VALUES")) [] (values_goal dev.now level) ∷ [])) }
 {
     let name = named_after(alloc, &dev.levels[level], b"VALUES")?;
     match values_goal(alloc, dev, level) {

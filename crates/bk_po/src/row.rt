@@ -1,7 +1,7 @@
 //! The rows of obligations of a component.
 
 /// What an obligation of a component asks.
-#[derive(Clone, Copy, PartialEq, Eq, Debug)]
+#[derive(Clone, Copy)]
 pub enum Row {
     PropertiesDefined,
     /// The constants' values have the properties.

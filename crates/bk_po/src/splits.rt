@@ -3,7 +3,8 @@
 ghost use Rattle.std.specs.Prelude.{◌≡◌, ◌^◌, ◌-◌, ◌++◌, [], min, map, length, codes, decimal, IfOk, OnOk};
 ghost use Rattle.bk_dev.specs.Hypotheses.{conjuncts};
 ghost use Rattle.bk_po.specs.Obligations.{split, numbered_from, numbered};
-ghost use Rattle.bk_po.specs.Shown.{sequent_of, named_sequent};
+ghost use Rattle.bk_seq.specs.Sequents.{sequent_of};
+ghost use Rattle.bk_po.specs.Shown.{named_sequent};
 
 use crate::obligation::Obligation;
 use crate::whole::WholeObligation;
@@ -37,7 +38,8 @@ pub(crate) fn add_sequents(
     goal: &Form,
     found: &mut Vec<Sequent>,
 ) -> Result<(), Memory>
-    ensures { OnOk result (map sequent_of found.new.items ≡ map sequent_of found.old.items ++ split hypotheses.now goal.now) }
+    ensures { OnOk result (map sequent_of found.new.items ≡ map sequent_of found.old.items
+        ++ split hypotheses.now goal.now) }
 {
     match goal.view() {
         View::Bin(BinOp::And, left, right) => {
@@ -92,7 +94,8 @@ fn add_numbered(
     sequents: Vec<Sequent>,
     found: &mut Vec<Obligation>,
 ) -> Result<(), Memory>
-    ensures { OnOk result (map named_sequent found.new.items ≡ map named_sequent found.old.items ++ numbered_from 1 name.now (map sequent_of sequents.items)) }
+    ensures { OnOk result (map named_sequent found.new.items ≡ map named_sequent found.old.items
+        ++ numbered_from 1 name.now (map sequent_of sequents.items)) }
 {
     for (index, sequent) in sequents.into_iter().enumerate() {
         found.push(Obligation {

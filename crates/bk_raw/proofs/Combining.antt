@@ -4,7 +4,7 @@ use Rattle.std.proofs.Common.{arith, ◌∙◌, ap}
 use Rattle.bk_form.specs.declared.token.Token.{Token}
 use Rattle.bk_form.specs.declared.token.TokenKind.TheVariants.{Sign}
 use Rattle.bk_raw.specs.Pieces.{JustSign, ◌⌢◌}
-use Rattle.bk_raw.proofs.Reading.{next, sign, within}
+use Rattle.bk_raw.specs.Reading.{next, sign, within}
 use Rattle.bk_raw.proofs.Shapes.{led, just_is, appended, lengths, sign_front}
 use Rattle.bk_raw.proofs.Stopping.{Before}
 

@@ -16,7 +16,7 @@ use Rattle.bk_raw.specs.RawTree.{RawTree, raw, RawTreeNode, raw_name, raw_level_
 use Rattle.bk_raw.specs.Spelling.{Names, Binder, Typed, TypedBounds, Term, Listed, Sequenced, Bare, Commas, Semicolons, Terms, Ranges, Spells}
 use Rattle.bk_raw.specs.Laws.{TermsAreOne}
 use Rattle.bk_raw.proofs.Neutral.{neutral_names, neutral_terms, neutral_ranges}
-use Rattle.bk_raw.proofs.Reading.{next, start, within, signed, front_kind, tight, joined, read, quantified, lambda, braces}
+use Rattle.bk_raw.specs.Reading.{next, start, within, signed, front_kind, tight, joined, read, quantified, lambda, braces}
 use Rattle.bk_raw.proofs.Shapes.{of_kind, led, just_is, begun_led}
 use Rattle.bk_raw.proofs.Stopping.{some_same, own_within, right_within, left_within, stops_end, comma_ends, semicolon_ends, close_paren_ends, postfixed_ends}
 use Rattle.bk_raw.proofs.Combining.{Exact, Anything, exact_made}

@@ -11,7 +11,7 @@ use Rattle.bk_raw.specs.declared.term.RawName.{RawName}
 use Rattle.bk_raw.specs.declared.term.RawBound.{RawBound}
 use Rattle.bk_raw.specs.Pieces.{JustSign, ◌⌢◌, InParentheses}
 use Rattle.bk_raw.specs.Spelling.{Names, Alone, Binder, Typed, TypedBound, TypedBounds}
-use Rattle.bk_raw.proofs.Reading.{next, sign, begins_with, names, binder, typed, bounds, begins_bound, begins_bound_in}
+use Rattle.bk_raw.specs.Reading.{next, sign, begins_with, names, binder, typed, bounds, begins_bound, begins_bound_in}
 use Rattle.bk_raw.proofs.Shapes.{of_kind, placed_at, led, led_at, just_is, just_at_is, Begun, begun_joined, begun_length, begun_led, appended, lengths}
 use Rattle.bk_raw.proofs.Stopping.{Before}
 use Rattle.bk_raw.proofs.Combining.{Exact, Anything, exact_weaker, exact_within}

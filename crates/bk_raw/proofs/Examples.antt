@@ -8,7 +8,7 @@ use Rattle.bk_ops.specs.declared.sign.TheConstants.{MINUS, OPEN_PAREN, CLOSE_PAR
 use Rattle.bk_raw.specs.declared.operator.InfixOp.TheVariants.{Minus}
 use Rattle.bk_raw.specs.RawTree.{RawTree, raw, raw_name, raw_number, raw_infix, raw_negative, raw_apply, raw_pair, raw_extension, raw_ranged_lambda, no_trees, tree_and, no_ranges, range_and, tree_height}
 use Rattle.bk_raw.specs.Spelling.{Term, Spells}
-use Rattle.bk_raw.proofs.Reading.{read}
+use Rattle.bk_raw.specs.Reading.{read}
 use Rattle.bk_raw.proofs.Exact.{one_for_its_tokens}
 
 -- a token of one byte

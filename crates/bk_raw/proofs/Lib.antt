@@ -1,6 +1,6 @@
 mod Examples
 pub mod Neutral
-pub mod Reading
+pub mod WrittenKinds
 pub mod Shapes
 pub mod Stopping
 pub mod Combining

@@ -19,7 +19,7 @@ use Rattle.bk_raw.specs.Pieces.{Just, JustAt, JustSign, ◌⌢◌, InParentheses
 use Rattle.bk_raw.specs.Spelling.{Names, Binder, Typed, TypedBounds}
 use Rattle.bk_raw.specs.RawTree.{RawTree, raw, RawTreeNode, raw_constant, raw_word, raw_inverse, raw_image, raw_apply, raw_empty_set, raw_pair, raw_extension, raw_comprehension, raw_lambda, raw_typed_empty, raw_ranged_comprehension, raw_ranged_lambda, RawTrees, no_trees, tree_and, RawRanges, no_ranges, range_and}
 use Rattle.bk_raw.proofs.Neutral.{Neutral}
-use Rattle.bk_raw.proofs.Reading.{next, sign, begins_with, start, within, names, binder, typed, bounds, begins_bound, begins_bound_in, terms, ranges, braces, body, body_and_value, quantified, lambda, at_byte, primary_at, postfixed, arguments, or_else, read}
+use Rattle.bk_raw.specs.Reading.{next, sign, begins_with, start, within, names, binder, typed, bounds, begins_bound, begins_bound_in, terms, ranges, braces, body, body_and_value, quantified, lambda, at_byte, primary_at, postfixed, arguments, or_else, read}
 use Rattle.bk_raw.proofs.Shapes.{of_kind, placed_at, kind_known, led, led_at, just_is, regrouped, begun_joined, begun_length, appended, lengths}
 use Rattle.bk_raw.proofs.Stopping.{none_some, Stops, IsEnd, Before, before_stops, comma_ends, bar_ends, close_paren_ends, close_bracket_ends, close_brace_ends, or_else_taken, postfixed_gives}
 use Rattle.bk_raw.proofs.Combining.{Exact, Anything, exact_next, exact_sign, exact_last, exact_made, exact_weaker, exact_within, before_last, before_joined}

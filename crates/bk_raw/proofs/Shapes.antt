@@ -7,7 +7,7 @@ use Rattle.bk_form.specs.declared.token.Token.{Token}
 use Rattle.bk_form.specs.declared.token.TokenKind.{TokenKind}
 use Rattle.bk_form.specs.declared.token.TokenKind.TheVariants.{Sign}
 use Rattle.bk_raw.specs.Pieces.{Just, JustAt, JustSign, ◌⌢◌}
-use Rattle.bk_raw.proofs.Reading.{sign, begins_with, start}
+use Rattle.bk_raw.specs.Reading.{sign, begins_with, start}
 
 -- the token with this kind
 abbrev pub of_kind : TokenKind → Token → Token

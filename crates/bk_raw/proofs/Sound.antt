@@ -18,7 +18,7 @@ use Rattle.bk_raw.specs.declared.term.RawName.{RawName}
 use Rattle.bk_raw.specs.declared.term.RawBound.{RawBound}
 use Rattle.bk_raw.specs.Pieces.{Just, JustAt, JustSign, ◌⌢◌, InParentheses}
 use Rattle.bk_raw.specs.Spelling.{Declared, Names, Alone, Binder, Typed, TypedBound, TypedBounds}
-use Rattle.bk_raw.proofs.Reading.{same_kind, first_with, infix_of, word_of, constant_of, next, sign, begins_with, named, name, within, names, binder, typed_at, typed, numbered, bound, bounds}
+use Rattle.bk_raw.specs.Reading.{same_kind, first_with, infix_of, word_of, constant_of, next, sign, begins_with, named, name, within, names, binder, typed_at, typed, numbered, bound, bounds}
 use Rattle.bk_raw.proofs.Stopping.{none_some, some_same}
 use Rattle.bk_raw.proofs.Loops.{same_kind_sign}
 use Rattle.bk_raw.proofs.Primaries.{next_some}

@@ -9,7 +9,8 @@ use Rattle.bk_raw.specs.Operators.{infix_kind, binding}
 use Rattle.bk_raw.specs.declared.operator.InfixOp.{InfixOp}
 use Rattle.bk_raw.specs.declared.operator.InfixOp.TheVariants.{And, Power}
 use Rattle.bk_raw.specs.RawTree.{RawTree, raw, RawTreeNode, raw_inverse}
-use Rattle.bk_raw.proofs.Reading.{infix_of, infix_of-kind, next, sign, begins_with, or_else, chain, postfixed, joined_by, joined}
+use Rattle.bk_raw.specs.Reading.{infix_of, next, sign, begins_with, or_else, chain, postfixed, joined_by, joined}
+use Rattle.bk_raw.proofs.WrittenKinds.{infix_of-kind}
 use Rattle.bk_raw.proofs.Shapes.{of_kind}
 
 pub none_some : {A B : Type 0} (x : A) → ◌≡◌ {A = Option A} None (Some x) → B

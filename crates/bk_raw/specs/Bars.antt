@@ -15,10 +15,12 @@ is_bar (Number z) = false
 is_bar (Sign op) = nat_eq op BAR
 is_bar (Word op) = false
 
+-- inside of no further brackets
 abbrev pub is_outside : ℕ → Bool
 is_outside zero = true
 is_outside (suc n) = false
 
+-- how many brackets stay open behind one that closes
 abbrev pub one_less : ℕ → ℕ
 one_less zero = zero
 one_less (suc n) = n

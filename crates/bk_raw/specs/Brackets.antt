@@ -9,6 +9,7 @@ abbrev pub is_sign : (ℕ → Bool) → TokenKind → Bool
 is_sign passes (Sign op) = passes op
 is_sign passes _ = false
 
+-- whether a token is a word of these
 abbrev pub is_word : (ℕ → Bool) → TokenKind → Bool
 is_word passes (Word op) = passes op
 is_word passes _ = false

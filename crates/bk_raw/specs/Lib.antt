@@ -11,4 +11,5 @@ pub mod Pieces
 pub mod Spelling
 pub mod Brackets
 pub mod Bars
+pub mod Reading
 pub mod Laws

@@ -8,6 +8,7 @@ use Rattle.bk_raw.specs.declared.operator.WordOp.TheVariants.{Not, BoolOf, Card,
 use Rattle.bk_raw.specs.declared.operator.Constant.{Constant}
 use Rattle.bk_raw.specs.declared.operator.Constant.TheVariants.{Bool, True, False, Integer, Natural, Natural1, Int, Nat, Nat1, MaxInt, MinInt, Btrue, Bfalse}
 
+-- the operators between two terms
 abbrev pub infix_operators : List InfixOp
 infix_operators = Equivalent ∷ Implies ∷ And ∷ Or ∷ Equal ∷ NotEqual ∷ Less ∷ AtMost ∷ Greater ∷ AtLeast ∷ Member ∷ NotMember ∷ Subset ∷ NotSubset ∷ StrictSubset ∷ Relations ∷ PartialFunctions ∷ TotalFunctions ∷ PartialInjections ∷ TotalInjections ∷ PartialSurjections ∷ TotalSurjections ∷ Bijections ∷ Union ∷ Intersection ∷ DomainRestriction ∷ RangeRestriction ∷ DomainSubtraction ∷ RangeSubtraction ∷ Override ∷ Maplet ∷ Interval ∷ Plus ∷ Minus ∷ Times ∷ Divide ∷ Mod ∷ Power ∷ []
 
@@ -52,13 +53,16 @@ infix_code Divide = 35
 infix_code Mod = 36
 infix_code Power = 37
 
+-- the operator at a place of the list
 abbrev pub infix_back : ℕ → InfixOp
 infix_back n = get_or infix_operators n Equivalent
 
+-- an operator stands at its place
 pub infix_back-code : (o : InfixOp) → infix_back (infix_code o) ≡ o
 infix_back-code Equivalent = refl
 infix_back-code _ = refl
 
+-- the words that stand before a term in parentheses
 abbrev pub word_operators : List WordOp
 word_operators = Not ∷ BoolOf ∷ Card ∷ Min ∷ Max ∷ Dom ∷ Ran ∷ Id ∷ Succ ∷ Pred ∷ Pow ∷ Pow1 ∷ Fin ∷ Fin1 ∷ []
 
@@ -79,13 +83,16 @@ word_code Pow1 = 11
 word_code Fin = 12
 word_code Fin1 = 13
 
+-- the word at a place of the list
 abbrev pub word_back : ℕ → WordOp
 word_back n = get_or word_operators n Not
 
+-- a word stands at its place
 pub word_back-code : (o : WordOp) → word_back (word_code o) ≡ o
 word_back-code Not = refl
 word_back-code _ = refl
 
+-- the words that are terms by themselves
 abbrev pub constant_operators : List Constant
 constant_operators = Bool ∷ True ∷ False ∷ Integer ∷ Natural ∷ Natural1 ∷ Int ∷ Nat ∷ Nat1 ∷ MaxInt ∷ MinInt ∷ Btrue ∷ Bfalse ∷ []
 
@@ -105,9 +112,11 @@ constant_code MinInt = 10
 constant_code Btrue = 11
 constant_code Bfalse = 12
 
+-- the constant at a place of the list
 abbrev pub constant_back : ℕ → Constant
 constant_back n = get_or constant_operators n Bool
 
+-- a constant stands at its place
 pub constant_back-code : (o : Constant) → constant_back (constant_code o) ≡ o
 constant_back-code Bool = refl
 constant_back-code _ = refl

@@ -53,6 +53,7 @@ infix_kind Divide = Sign DIVIDE
 infix_kind Mod = Word MOD
 infix_kind Power = Sign POWER
 
+-- the token that a word is written as, which stands before a term in parentheses
 abbrev pub word_kind : WordOp → TokenKind
 word_kind Not = Word NOT
 word_kind BoolOf = Word BOOL_OF
@@ -69,6 +70,7 @@ word_kind Pow1 = Word POW1
 word_kind Fin = Word FIN
 word_kind Fin1 = Word FIN1
 
+-- the token that a constant is written as
 abbrev pub constant_kind : Constant → TokenKind
 constant_kind Bool = Word BOOL
 constant_kind True = Word TRUE
@@ -92,36 +94,47 @@ pub record Strength : Type 0 where
   pub left : ℕ
   pub right : ℕ
 
+-- <=>
 abbrev equivalence : Strength
 equivalence = record { own = 0; left = 3; right = 3 }
 
+-- =>
 abbrev implication : Strength
 implication = record { own = 1; left = 1; right = 2 }
 
+-- & and or
 abbrev junction : Strength
 junction = record { own = 2; left = 2; right = 3 }
 
+-- equality, order, membership and inclusion
 abbrev comparison : Strength
 comparison = record { own = 3; left = 4; right = 4 }
 
+-- relations and functions
 abbrev arrow : Strength
 arrow = record { own = 4; left = 4; right = 5 }
 
+-- union, restriction, overriding and |->
 abbrev joining : Strength
 joining = record { own = 5; left = 5; right = 6 }
 
+-- ..
 abbrev interval : Strength
 interval = record { own = 6; left = 7; right = 7 }
 
+-- + and -
 abbrev sum : Strength
 sum = record { own = 7; left = 7; right = 8 }
 
+-- *, / and mod
 abbrev product : Strength
 product = record { own = 8; left = 8; right = 9 }
 
+-- **
 abbrev power : Strength
 power = record { own = 9; left = 10; right = 9 }
 
+-- the strength of each operator
 abbrev pub binding : InfixOp → Strength
 binding Equivalent = equivalence
 binding Implies = implication
@@ -161,3 +174,15 @@ binding Times = product
 binding Divide = product
 binding Mod = product
 binding Power = power
+
+-- the strength that is asked of what a bound variable ranges over, which stands as in a membership
+abbrev pub ranged_over : ℕ
+ranged_over = 4
+
+-- the strength of a term with a minus sign before it
+abbrev pub negated : ℕ
+negated = 10
+
+-- the strength of leaves and brackets, and what is asked of what stands before ~, [s] and (x)
+abbrev pub tightest : ℕ
+tightest = 11

@@ -4,6 +4,7 @@ use Rattle.std.specs.Prelude.{◌≡◌, ℕ, zero, suc, ℤ, pos, neg_ℤ, ◌�
 use Rattle.bk_form.specs.declared.token.Token.{Token}
 use Rattle.bk_form.specs.declared.token.TokenKind.{TokenKind}
 use Rattle.bk_form.specs.declared.token.TokenKind.TheVariants.{Number, Sign}
+use Rattle.bk_raw.specs.Operators.{negated}
 use Rattle.bk_ops.specs.declared.sign.TheConstants.{MINUS, OPEN_PAREN, CLOSE_PAREN, OPEN_BRACKET, CLOSE_BRACKET, OPEN_BRACE, CLOSE_BRACE}
 
 -- no list of tokens
@@ -27,13 +28,15 @@ infixr 40 ◌⌢◌
 abbrev pub ◌⌢◌ : (List Token → Type 0) → (List Token → Type 0) → List Token → Type 0
 ◌⌢◌ First Second tokens = (front back : List Token) × (tokens ≡ front ++ back) × First front × Second back
 
--- a piece in parentheses, in brackets, in braces
+-- a piece in parentheses
 abbrev pub InParentheses : (List Token → Type 0) → List Token → Type 0
 InParentheses Inside = JustSign OPEN_PAREN ⌢ Inside ⌢ JustSign CLOSE_PAREN
 
+-- a piece in brackets
 abbrev pub InBrackets : (List Token → Type 0) → List Token → Type 0
 InBrackets Inside = JustSign OPEN_BRACKET ⌢ Inside ⌢ JustSign CLOSE_BRACKET
 
+-- a piece in braces
 abbrev pub InBraces : (List Token → Type 0) → List Token → Type 0
 InBraces Inside = JustSign OPEN_BRACE ⌢ Inside ⌢ JustSign CLOSE_BRACE
 
@@ -61,7 +64,7 @@ Digits n = Just (Number (pos n))
 
 -- a number; with a minus sign directly before it, it binds as a negative term does
 abbrev pub Literal : ℤ → ℕ → List Token → Type 0
-Literal z asked tokens = ((n : ℕ) × (z ≡ pos n) × Digits n tokens) ⊎ ((n : ℕ) × (z ≡ neg_ℤ (pos n)) × Binding 10 asked (JustSign MINUS ⌢ Digits n) tokens)
+Literal z asked tokens = ((n : ℕ) × (z ≡ pos n) × Digits n tokens) ⊎ ((n : ℕ) × (z ≡ neg_ℤ (pos n)) × Binding negated asked (JustSign MINUS ⌢ Digits n) tokens)
 
 -- a piece that is no number by itself
 abbrev pub NoDigits : (List Token → Type 0) → List Token → Type 0

@@ -14,11 +14,13 @@ abbrev int_code : ℤ → Gv
 int_code (pos n) = gcons gnil (gnum n)
 int_code (negsuc n) = gcons (gnum 0) (gnum n)
 
+-- the whole number of a code
 abbrev int_back : Gv → ℤ
 int_back (gcons gnil (gnum n)) = pos n
 int_back (gcons (gnum m) (gnum n)) = negsuc n
 int_back _ = pos 0
 
+-- a code gives its number back
 int_back-code : (z : ℤ) → int_back (int_code z) ≡ z
 int_back-code (pos n) = refl
 int_back-code (negsuc n) = refl
@@ -28,10 +30,12 @@ abbrev names_code : List RawName → Gv
 names_code [] = gnil
 names_code (x ∷ xs) = gcons (gcons (gnum x.at) (text_code x.text)) (names_code xs)
 
+-- the names of a code
 abbrev names_back : Gv → List RawName
 names_back (gcons (gcons (gnum n) g) h) = record { at = n; text = text_back g } ∷ names_back h
 names_back _ = []
 
+-- a code gives its names back
 names_back-code : (xs : List RawName) → names_back (names_code xs) ≡ xs
 names_back-code [] = refl
 names_back-code (x ∷ xs) = λ i. record { at = x.at; text = text_back-code x.text i } ∷ names_back-code xs i
@@ -41,14 +45,17 @@ abbrev bounds_code : List RawBound → Gv
 bounds_code [] = gnil
 bounds_code (x ∷ xs) = gcons (gcons (gnum x.at) (gcons (gnum x.number) (written_code x.ty))) (bounds_code xs)
 
+-- the bound variables of a code
 abbrev bounds_back : Gv → List RawBound
 bounds_back (gcons (gcons (gnum m) (gcons (gnum n) g)) h) = record { at = m; number = n; ty = written_back g } ∷ bounds_back h
 bounds_back _ = []
 
+-- a code gives its bound variables back
 bounds_back-code : (xs : List RawBound) → bounds_back (bounds_code xs) ≡ xs
 bounds_back-code [] = refl
 bounds_back-code (x ∷ xs) = λ i. record { at = x.at; number = x.number; ty = written_back-code x.ty i } ∷ bounds_back-code xs i
 
+-- trees, nodes and lists, each node by its number and its parts
 abbrev mutual
   pub tree_code : RawTree → Gv
   tree_code (raw at node) = gcons (gnum at) (node_code node)
@@ -87,6 +94,7 @@ abbrev mutual
   ranges_code no_ranges = gnil
   ranges_code (range_and at n d rs) = gcons (gcons (gnum at) (gcons (gnum n) (tree_code d))) (ranges_code rs)
 
+-- the tree of a code
 abbrev mutual
   pub tree_back : Gv → RawTree
   tree_back (gcons (gnum n) g) = raw n (node_back g)
@@ -126,6 +134,7 @@ abbrev mutual
   ranges_back (gcons (gcons (gnum m) (gcons (gnum n) g)) h) = range_and m n (tree_back g) (ranges_back h)
   ranges_back _ = no_ranges
 
+-- a code gives its tree back
 mutual
   pub tree_back-code : (t : RawTree) → tree_back (tree_code t) ≡ t
   tree_back-code (raw at node) = λ i. raw at (node_back-code node i)
@@ -164,5 +173,6 @@ mutual
   ranges_back-code no_ranges = refl
   ranges_back-code (range_and at n d rs) = λ i. range_and at n (tree_back-code d i) (ranges_back-code rs i)
 
+-- so trees can be told apart by their codes
 abbrev pub coded_tree : Coded RawTree
 coded_tree = record { code = tree_code; inj = λ a b e. sym (tree_back-code a) ∙ ap tree_back e ∙ tree_back-code b }

@@ -10,6 +10,7 @@ abbrev pub ranges_of : List RawRange → RawRanges
 ranges_of [] = no_ranges
 ranges_of (r ∷ rs) = range_and r.at r.number r.range (ranges_of rs)
 
+-- the mathematical node that a node stands for
 abbrev pub node_of : RawNode → RawTreeNode
 node_of (Name text) = raw_name text
 node_of (LevelName text n) = raw_level_name text n
@@ -36,5 +37,6 @@ node_of (TypedExists bs p) = raw_typed_exists bs.items p.value
 node_of (RangedComprehension rs p) = raw_ranged_comprehension (ranges_of rs.items) p.value
 node_of (RangedLambda rs p e) = raw_ranged_lambda (ranges_of rs.items) p.value e.value
 
+-- and with the byte where it starts, the term
 abbrev pub tree_of : ℕ → RawNode → RawTree
 tree_of at node = raw at (node_of node)

@@ -7,7 +7,7 @@ use Rattle.bk_form.specs.declared.token.TokenKind.TheVariants.{Name, LevelName, 
 use Rattle.bk_ops.specs.declared.sign.TheConstants.{FOR_ALL, EXISTS, MEMBER, MINUS, TIMES, OPEN_BRACE, CLOSE_BRACE, INVERSE, SEMICOLON, COMMA, DOT, BAR, LAMBDA}
 use Rattle.bk_ops.specs.declared.word.TheConstants.{BOOL, INTEGER, POW}
 use Rattle.bk_raw.specs.Pieces.{Never, Just, JustAt, JustSign, ◌⌢◌, InParentheses, InBrackets, InBraces, Starting, Binding, Placed, Literal, NoDigits}
-use Rattle.bk_raw.specs.Operators.{infix_kind, word_kind, constant_kind, binding}
+use Rattle.bk_raw.specs.Operators.{infix_kind, word_kind, constant_kind, binding, ranged_over, negated, tightest}
 use Rattle.bk_raw.specs.WrittenType.{WrittenType, written_integer, written_bool, written_set, written_power, written_product}
 use Rattle.bk_raw.specs.declared.term.RawName.{RawName}
 use Rattle.bk_raw.specs.declared.term.RawBound.{RawBound}
@@ -53,10 +53,6 @@ TypedBounds (b ∷ []) = TypedBound b
 TypedBounds (b ∷ c ∷ cs) = TypedBound b ⌢ JustSign COMMA ⌢ TypedBounds (c ∷ cs)
 
 -- ---- terms
--- the strength that is asked at the most: that of what stands before ~, [s] and (x)
-abbrev tightest : ℕ
-tightest = 11
-
 abbrev mutual
   -- a term in a place that asks so much of its strength, or in parentheses
   pub Term : RawTree → ℕ → List Token → Type 0
@@ -80,7 +76,7 @@ abbrev mutual
   Bare (raw_number z) asked = Literal z asked
   Bare (raw_constant c) asked = Just (constant_kind c)
   Bare (raw_word o a) asked = Just (word_kind o) ⌢ InParentheses (Term a 0)
-  Bare (raw_negative a) asked = Binding 10 asked (JustSign MINUS ⌢ NoDigits (Term a tightest))
+  Bare (raw_negative a) asked = Binding negated asked (JustSign MINUS ⌢ NoDigits (Term a tightest))
   Bare (raw_infix o a b) asked = Binding (binding o).own asked (Term a (binding o).left ⌢ Just (infix_kind o) ⌢ Term b (binding o).right)
   Bare (raw_inverse r) asked = Term r tightest ⌢ JustSign INVERSE
   Bare (raw_image r s) asked = Term r tightest ⌢ InBrackets (Term s 0)
@@ -119,8 +115,8 @@ abbrev mutual
   -- membership
   pub Ranges : RawRanges → List Token → Type 0
   Ranges no_ranges = Never
-  Ranges (range_and at n d no_ranges) = JustAt at (BoundName n) ⌢ JustSign MEMBER ⌢ Term d 4
-  Ranges (range_and at n d (range_and bt m e rs)) = (JustAt at (BoundName n) ⌢ JustSign MEMBER ⌢ Term d 4) ⌢ JustSign COMMA ⌢ Ranges (range_and bt m e rs)
+  Ranges (range_and at n d no_ranges) = JustAt at (BoundName n) ⌢ JustSign MEMBER ⌢ Term d ranged_over
+  Ranges (range_and at n d (range_and bt m e rs)) = (JustAt at (BoundName n) ⌢ JustSign MEMBER ⌢ Term d ranged_over) ⌢ JustSign COMMA ⌢ Ranges (range_and bt m e rs)
 
 -- the tokens are those of the term, standing alone
 abbrev pub Spells : RawTree → List Token → Type 0

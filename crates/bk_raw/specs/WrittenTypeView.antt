@@ -3,6 +3,7 @@ use Rattle.bk_raw.specs.WrittenType.{WrittenType, written_integer, written_bool,
 use Rattle.bk_raw.specs.declared.written.RawTypeNode.{RawTypeNode}
 use Rattle.bk_raw.specs.declared.written.RawTypeNode.TheVariants.{Integer, Bool, Set, Power, Product}
 
+-- the type that a node stands for
 abbrev pub written_type_view : RawTypeNode → WrittenType
 written_type_view Integer = written_integer
 written_type_view Bool = written_bool

@@ -20,7 +20,8 @@ impl InfixOp {
     }
 
     fn of_sign(op: u16) -> Option<InfixOp>
-        ensures { MatchOption result ((o : InfixOp) → infix_kind o ≢ TokenKind.Sign op) (λ o. infix_kind o ≡ TokenKind.Sign op) }
+        ensures { MatchOption result ((o : InfixOp) → infix_kind o ≢ TokenKind.Sign op)
+            (λ o. infix_kind o ≡ TokenKind.Sign op) }
     {
         match op {
             sign::EQUIVALENT => Some(InfixOp::Equivalent),
@@ -64,7 +65,8 @@ impl InfixOp {
     }
 
     fn of_word(op: u16) -> Option<InfixOp>
-        ensures { MatchOption result ((o : InfixOp) → infix_kind o ≢ TokenKind.Word op) (λ o. infix_kind o ≡ TokenKind.Word op) }
+        ensures { MatchOption result ((o : InfixOp) → infix_kind o ≢ TokenKind.Word op)
+            (λ o. infix_kind o ≡ TokenKind.Word op) }
     {
         match op {
             word::OR => Some(InfixOp::Or),
@@ -130,7 +132,7 @@ impl Constant {
 }
 
 /// How tightly an operator binds, the loosest being 0, and how tightly the terms left and right of it bind at least.
-#[derive(Clone, Copy, PartialEq, Eq, Debug)]
+#[derive(Clone, Copy, PartialEq)]
 pub struct Strengths {
     pub own: u8,
     pub left: u8,

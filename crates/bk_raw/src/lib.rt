@@ -11,6 +11,3 @@ pub use kind::Strengths;
 pub use operator::{Constant, InfixOp, WordOp};
 pub use term::{RawBound, RawName, RawNode, RawRange, RawTerm};
 pub use written::{RawType, RawTypeNode};
-
-#[cfg(test)]
-mod tests;

@@ -1,7 +1,7 @@
 // The operators and constant words of terms.
 
 /// An operator between two terms.
-#[derive(Clone, Copy, PartialEq, Eq, Debug)]
+#[derive(Clone, Copy, PartialEq)]
 pub enum InfixOp {
     /// `<=>`.
     Equivalent,
@@ -82,7 +82,7 @@ pub enum InfixOp {
 }
 
 /// A word that stands before one term in parentheses.
-#[derive(Clone, Copy, PartialEq, Eq, Debug)]
+#[derive(Clone, Copy, PartialEq)]
 pub enum WordOp {
     /// `not`.
     Not,
@@ -115,7 +115,7 @@ pub enum WordOp {
 }
 
 /// A word that is a term by itself. The last two stand in printed formulas.
-#[derive(Clone, Copy, PartialEq, Eq, Debug)]
+#[derive(Clone, Copy, PartialEq)]
 pub enum Constant {
     /// `BOOL`.
     Bool,

@@ -15,7 +15,7 @@ use Rattle.bk_kernel.specs.declared.rule.Rule.{Rule}
 use Rattle.bk_kernel.specs.declared.rule.Rule.TheVariants.{Hyp, Same, And, Left, Right, Split, Imp, Eq, Qe, Law, Lin}
 use Rattle.bk_kernel.specs.declared.replaying.Verdict.{Verdict}
 use Rattle.bk_kernel.specs.declared.replaying.Verdict.TheVariants.{Closed, BadStep as BadAt, Open as LeftOpen, Extra as LeftOver}
-use Rattle.bk_kernel.specs.Sequents.{Sequent}
+use Rattle.bk_seq.specs.Sequents.{Sequent}
 use Rattle.bk_kernel.specs.Obvious.{is_obvious}
 use Rattle.bk_kernel.specs.Rules.{Rewrites, ByEquation, ByReverse, ByLaw, ByArithmetic, ByRule, IsInstance}
 use Rattle.bk_kernel.specs.Derivations.{Leaves, IsVerdict}

@@ -14,7 +14,7 @@ use Rattle.bk_raw.specs.Operators.{infix_kind, binding}
 use Rattle.bk_raw.specs.Spelling.{Term, Bare}
 use Rattle.bk_raw.specs.declared.operator.InfixOp.{InfixOp}
 use Rattle.bk_raw.specs.declared.operator.InfixOp.TheVariants.{Plus, Minus}
-use Rattle.bk_raw.proofs.Reading.{read}
+use Rattle.bk_raw.specs.Reading.{read}
 use Rattle.bk_raw.proofs.Shapes.{kind_known}
 use Rattle.bk_raw.proofs.Stopping.{Stops, before_stops, comma_ends, close_paren_ends}
 use Rattle.bk_raw.proofs.Exact.{reads, exact_at}

@@ -16,10 +16,12 @@ abbrev pub is_shallow_from : ℕ → List Token → Bool
 is_shallow_from n [] = true
 is_shallow_from n (t ∷ ts) = nat_le (open_behind opens_bracket closes_bracket n t.kind) 100 && is_shallow_from (open_behind opens_bracket closes_bracket n t.kind) ts
 
+-- one of the scripts has this name
 abbrev pub has_name : List ℕ → List Script → Bool
 has_name name [] = false
 has_name name (s ∷ ss) = bytes_eq s.name name || has_name name ss
 
+-- no two of the scripts have one name
 abbrev pub names_differ : List Script → Bool
 names_differ [] = true
 names_differ (s ∷ ss) = not (has_name s.name ss) && names_differ ss

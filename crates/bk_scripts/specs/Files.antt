@@ -19,6 +19,7 @@ pub data NamePart : Type 0 where
   letters : List ℕ → NamePart
   numeral : ℕ → NamePart
 
+-- the one token that the part is written as
 abbrev pub PartNamed : NamePart → List Token → Type 0
 PartNamed (letters text) = Lettered text
 PartNamed (numeral n) = Digits n
@@ -28,6 +29,7 @@ abbrev pub part_text : NamePart → List ℕ
 part_text (letters text) = text
 part_text (numeral n) = decimal n
 
+-- the byte of a dot
 abbrev pub dot : ℕ
 dot = 46
 
@@ -36,6 +38,7 @@ abbrev pub Named : List ℕ → List Token → Type 0
 Named name tokens = (parts : List NamePart) × (name ≡ join_with_byte dot (map part_text parts)) × Divided DOT PartNamed parts tokens
 
 -- ---- scripts
+-- proof NAME, the rules with semicolons between, and end
 abbrev pub Scripted : Script → List Token → Type 0
 Scripted s = Lettered (codes "proof") ⌢ Named s.name ⌢ AnyDivided SEMICOLON IsRule s.rules ⌢ Lettered (codes "end")
 

@@ -22,6 +22,7 @@ use Rattle.bk_scripts.specs.Sight.{sight}
 abbrev pub IsNumbering : ℕ → Type 0
 IsNumbering n = n < 2 ^ 32
 
+-- the hypothesis, and each child on the way down, has such a number
 abbrev pub IsNumberedPlace : WrittenPlace → Type 0
 IsNumberedPlace (in_goal path) = All IsNumbering path
 IsNumberedPlace (in_hypothesis i path) = IsNumbering i × All IsNumbering path
@@ -47,11 +48,13 @@ HasMeaning scope (rule_lin facts lines) = All IsNumbering facts × All IsNumbere
 HasMeaning scope _ = Unit {0}
 
 -- ---- what they mean
+-- the same place: in the goal, or in the same hypothesis, and the same way down
 abbrev pub IsPlaceOf : WrittenPlace → Place → Type 0
 IsPlaceOf (in_goal path) (Goal children) = children.items ≡ path
 IsPlaceOf (in_hypothesis i path) (InHyp j children) = (j ≡ i) × (children.items ≡ path)
 IsPlaceOf _ _ = ⊥
 
+-- the same line of a certificate: a sum of the same multiples, or the same quotient
 abbrev pub IsLineOf : WrittenLine → Line → Type 0
 IsLineOf (multiples ms) (Sum multiplied) = multiplied.items ≡ ms
 IsLineOf (divided k g) (Div fact by) = (fact ≡ k) × (by ≡ pos g)

@@ -3,7 +3,7 @@ use Rattle.std.specs.Prelude.{◌≡◌, ◌≢◌, ℕ, List, map}
 use Rattle.std.specs.List.{AllPairs}
 use Rattle.bk_form.specs.declared.token.Token.{Token}
 use Rattle.bk_dev.specs.Development.{Development}
-use Rattle.bk_kernel.specs.Sequents.{Sequent}
+use Rattle.bk_seq.specs.Sequents.{Sequent}
 use Rattle.bk_scripts.specs.WrittenRule.{WrittenRule, Script}
 use Rattle.bk_scripts.specs.Writing.{Ruled}
 use Rattle.bk_scripts.specs.Files.{Scripts, IsProofFile, AreScriptsOf, IsFirstFaulty}
@@ -14,6 +14,7 @@ use Rattle.bk_scripts.specs.declared.state.State.{State}
 abbrev pub RulesAreOne : Type 0
 RulesAreOne = (tokens : List Token) (one other : WrittenRule) → Ruled one tokens → Ruled other tokens → one ≡ other
 
+-- tokens are written as one list of scripts at most
 abbrev pub WrittenScriptsAreOne : Type 0
 WrittenScriptsAreOne = (tokens : List Token) (one other : List Script) → Scripts one tokens → Scripts other tokens → one ≡ other
 
@@ -21,6 +22,7 @@ WrittenScriptsAreOne = (tokens : List Token) (one other : List Script) → Scrip
 abbrev pub ProofFilesAreOne : Type 0
 ProofFilesAreOne = (text : List ℕ) (one other : List Script) → IsProofFile text one → IsProofFile text other → one ≡ other
 
+-- texts have one list of scripts at most
 abbrev pub ScriptsAreOne : Type 0
 ScriptsAreOne = (texts : List (List ℕ)) (one other : List Script) → AreScriptsOf texts one → AreScriptsOf texts other → one ≡ other
 
@@ -28,6 +30,7 @@ ScriptsAreOne = (texts : List (List ℕ)) (one other : List Script) → AreScrip
 abbrev pub FirstFaultyIsOne : Type 0
 FirstFaultyIsOne = (texts : List (List ℕ)) (one other : ℕ) → IsFirstFaulty texts one → IsFirstFaulty texts other → one ≡ other
 
+-- where one of the texts is the first at fault, the texts have no scripts
 abbrev pub FaultyHaveNoScripts : Type 0
 FaultyHaveNoScripts = (texts : List (List ℕ)) (file : ℕ) (scripts : List Script) → IsFirstFaulty texts file → AreScriptsOf texts scripts → ⊥
 

@@ -32,6 +32,7 @@ abbrev pub parameters_to : Development → ℕ → Option ℕ → List ℕ
 parameters_to dev k None = []
 parameters_to dev k (Some o) = flat_map (λ l. (body_of l o).outputs) (take (suc k) dev.levels) ++ inputs_of dev o
 
+-- whether it is the type of the whole numbers
 abbrev pub is_number : Option ValueType → Bool
 is_number (Some int_type) = true
 is_number _ = false
@@ -40,6 +41,7 @@ is_number _ = false
 abbrev pub entry : Table → ℕ → Option (List ℕ × ℕ)
 entry table x = cond (is_number (variable_type table x)) (option_map (λ text. (text, x)) (variable_text table x)) None
 
+-- the names in sight at level k in operation o, and none where no level is meant
 abbrev pub sight_at : Development → Option ℕ → Option ℕ → Scope
 sight_at dev None o = []
 sight_at dev (Some k) o = filter_map (entry dev.table) (variables_to dev k ++ parameters_to dev k o)

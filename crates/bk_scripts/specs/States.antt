@@ -2,7 +2,7 @@
 use Rattle.std.specs.Prelude.{◌≡◌, ◌≢◌, ℕ, true, false, List, All}
 use Rattle.std.specs.List.{IsAmong}
 use Rattle.bk_dev.specs.Development.{Development}
-use Rattle.bk_kernel.specs.Sequents.{Sequent}
+use Rattle.bk_seq.specs.Sequents.{Sequent}
 use Rattle.bk_kernel.specs.Obvious.{is_obvious}
 use Rattle.bk_kernel.specs.Derivations.{IsVerdict}
 use Rattle.bk_kernel.specs.declared.rule.Rule.{Rule}

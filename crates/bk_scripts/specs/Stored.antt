@@ -8,14 +8,17 @@ use Rattle.bk_scripts.specs.declared.rule.RawLine.TheVariants.{Sum, Div}
 use Rattle.bk_scripts.specs.declared.rule.RawRule.{RawRule}
 use Rattle.bk_scripts.specs.declared.rule.RawRule.TheVariants.{Hyp, Same, And, Left, Right, Split, Imp, Eq, Qe, Law, Lin}
 
+-- the written place that this stands for
 abbrev pub place_of : RawPlace → WrittenPlace
 place_of (Goal path) = in_goal path.items
 place_of (InHyp i path) = in_hypothesis i path.items
 
+-- the line of a certificate that this stands for
 abbrev pub line_of : RawLine → WrittenLine
 line_of (Sum ms) = multiples ms.items
 line_of (Div k g) = divided k g
 
+-- the written rule that this stands for
 abbrev pub rule_of : RawRule → WrittenRule
 rule_of (Hyp i) = rule_hyp i
 rule_of Same = rule_same

@@ -13,6 +13,7 @@ stands_in_sum (Number z) = true
 stands_in_sum (Sign op) = nat_eq op PLUS || nat_eq op MINUS || nat_eq op OPEN_PAREN || nat_eq op CLOSE_PAREN
 stands_in_sum _ = false
 
+-- each of the tokens is one of these
 abbrev pub IsOfSums : List Token → Type 0
 IsOfSums tokens = All (λ t. stands_in_sum t.kind ≡ true) tokens
 

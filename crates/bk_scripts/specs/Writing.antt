@@ -35,6 +35,7 @@ Path [] = Absent
 Path (n ∷ ns) = Digits n ⌢ Path ns
 
 -- ---- places
+-- goal or hyp i, and the numbers of the children on the way down
 abbrev pub Placed : WrittenPlace → List Token → Type 0
 Placed (in_goal path) = Lettered (codes "goal") ⌢ Path path
 Placed (in_hypothesis i path) = Lettered (codes "hyp") ⌢ Digits i ⌢ Path path
@@ -67,11 +68,13 @@ Picked (t ∷ ts) tokens = InParentheses (Divided COMMA Pick (t ∷ ts)) tokens
 abbrev pub Multiple : ℤ × ℕ → List Token → Type 0
 Multiple m = Literal m.0 0 ⌢ JustSign TIMES ⌢ Digits m.1
 
+-- a line of a certificate: multiples with + between, or k / g
 abbrev pub Line : WrittenLine → List Token → Type 0
 Line (multiples ms) = Divided PLUS Multiple ms
 Line (divided k g) = Digits k ⌢ JustSign DIVIDE ⌢ Digits g
 
 -- ---- rules
+-- the word of the rule, and its parts in order
 abbrev pub Ruled : WrittenRule → List Token → Type 0
 Ruled (rule_hyp i) = Lettered (codes "hyp") ⌢ Digits i
 Ruled rule_same = Lettered (codes "same")

@@ -15,6 +15,7 @@ place_back [] = in_goal []
 place_back (zero ∷ path) = in_goal path
 place_back (suc i ∷ path) = in_hypothesis i path
 
+-- the numbers of a place give the place back
 pub place_back-numbers : (p : WrittenPlace) → place_back (place_numbers p) ≡ p
 place_back-numbers (in_goal path) = refl
 place_back-numbers (in_hypothesis i path) = refl
@@ -27,6 +28,7 @@ abbrev line_back : List ℕ × List (ℤ × ℕ) → WrittenLine
 line_back (k ∷ g ∷ ns, ms) = divided k g
 line_back (_, ms) = multiples ms
 
+-- the parts of a line give the line back
 pub line_back-parts : (l : WrittenLine) → line_back (line_parts l) ≡ l
 line_back-parts (multiples ms) = refl
 line_back-parts (divided k g) = refl
@@ -64,6 +66,7 @@ rule_back (suc (suc (suc (suc (suc (suc (suc (suc zero))))))), (i ∷ ns, _)) = 
 rule_back (suc (suc (suc (suc (suc (suc (suc (suc (suc zero)))))))), (ns, (name, (picks, _)))) = rule_law name picks (place_back ns)
 rule_back (_, (ns, (_, (_, lines)))) = rule_lin ns lines
 
+-- the parts of a rule give the rule back
 pub rule_back-parts : (r : WrittenRule) → rule_back (rule_parts r) ≡ r
 rule_back-parts rule_same = refl
 rule_back-parts rule_and = refl
@@ -77,8 +80,10 @@ rule_back-parts (rule_qe i place) = λ k. rule_qe i (place_back-numbers place k)
 rule_back-parts (rule_law name picks place) = λ k. rule_law name picks (place_back-numbers place k)
 rule_back-parts (rule_lin facts lines) = refl
 
+-- a written rule is told by its parts
 abbrev pub coded_rule : Coded WrittenRule
 coded_rule = code_by Parts (coded× coded_ℕ (coded× (coded_list coded_ℕ) (coded× (coded_list coded_ℕ) (coded× (coded_list coded_tree) (coded_list coded_line))))) rule_parts rule_back rule_back-parts
 
+-- a script is told by its name and its rules
 abbrev pub coded_script : Coded Script
 coded_script = code_by (List ℕ × List WrittenRule) (coded× (coded_list coded_ℕ) (coded_list coded_rule)) (λ s. (s.name, s.rules)) (λ p. record { name = p.0; rules = p.1 }) (λ _. refl)

@@ -25,7 +25,8 @@ const FAULTY: u8 = 15;
 
 // The tokens of a text, unless it has none.
 fn all_tokens(alloc: Global, text: &[u8]) -> Result<Option<Vec<Token>>, Memory>
-    ensures { IfOk result (λ found. MatchOption found ((list : List Token) → AreTokens text.now list → length list ≤ 1000000 → ⊥) (λ list. AreTokens text.now list.items)) }
+    ensures { IfOk result (λ found. MatchOption found ((list : List Token) → AreTokens text.now list →
+        length list ≤ 1000000 → ⊥) (λ list. AreTokens text.now list.items)) }
 {
     match tokens(alloc, text) {
         Ok(found) => Ok(Some(found)),
@@ -36,7 +37,8 @@ fn all_tokens(alloc: Global, text: &[u8]) -> Result<Option<Vec<Token>>, Memory>
 
 // The scripts of a text, unless it is no proof file.
 fn file_scripts(alloc: Global, text: &[u8]) -> Result<Option<Vec<Script>>, Memory>
-    ensures { IfOk result (λ found. MatchOption found ((list : List WrittenScript) → IsProofFile text.now list → ⊥) (λ list. IsProofFile text.now list.items)) }
+    ensures { IfOk result (λ found. MatchOption found ((list : List WrittenScript) → IsProofFile text.now list → ⊥)
+        (λ list. IsProofFile text.now list.items)) }
 {
     if has_comment(text) {
         return Ok(None);

@@ -64,7 +64,8 @@ fn standing_for(alloc: Global, scope: &Scope, written: &RawRule) -> Result<Rule,
 
 // The rule of the same kind, if the written one means something.
 fn meaning(alloc: Global, scope: &Scope, written: &RawRule) -> Result<Option<Rule>, Memory>
-    ensures { IfOk result (IsFound (HasMeaning scope.now (rule_of written.now)) (Matches scope.now (rule_of written.now))) }
+    ensures { IfOk result (IsFound (HasMeaning scope.now (rule_of written.now))
+        (Matches scope.now (rule_of written.now))) }
 {
     match written {
         RawRule::Hyp(i) => Ok(numbering(*i).map(Rule::Hyp)),
@@ -88,7 +89,8 @@ fn meaning(alloc: Global, scope: &Scope, written: &RawRule) -> Result<Option<Rul
 }
 
 fn equation(alloc: Global, number: u128, at: &RawPlace) -> Result<Option<(u32, Place)>, Memory>
-    ensures { IfOk result (IsFound (IsNumbering number × IsNumberedPlace (place_of at.now)) (λ found. (found.0 ≡ number) × IsPlaceOf (place_of at.now) found.1)) }
+    ensures { IfOk result (IsFound (IsNumbering number × IsNumberedPlace (place_of at.now))
+        (λ found. (found.0 ≡ number) × IsPlaceOf (place_of at.now) found.1)) }
 {
     let Some(place) = place(alloc, at)? else {
         return Ok(None);
@@ -106,7 +108,8 @@ fn law(
     terms: &[RawTerm],
     at: &RawPlace,
 ) -> Result<Option<Rule>, Memory>
-    ensures { IfOk result (IsFound (HasMeaning scope.now (rule_law name.now terms.now (place_of at.now))) (Matches scope.now (rule_law name.now terms.now (place_of at.now)))) }
+    ensures { IfOk result (IsFound (HasMeaning scope.now (rule_law name.now terms.now (place_of at.now)))
+        (Matches scope.now (rule_law name.now terms.now (place_of at.now)))) }
 {
     let Some(law) = law_number(name) else {
         return Ok(None);
@@ -130,7 +133,8 @@ fn law_number(name: &Text) -> Option<u16>
 }
 
 fn picks(alloc: Global, scope: &Scope, terms: &[RawTerm]) -> Result<Option<Vec<Form>>, Memory>
-    ensures { IfOk result (IsFound (All (λ t. (f : Formula) × Means scope.now t f) terms.now) (λ forms. AllZip (Means scope.now) terms.now forms.items)) }
+    ensures { IfOk result (IsFound (All (λ t. (f : Formula) × Means scope.now t f) terms.now)
+        (λ forms. AllZip (Means scope.now) terms.now forms.items)) }
 {
     let mut forms = Vec::new(alloc);
     for term in terms {
@@ -173,7 +177,8 @@ fn certificate(
     facts: &[u128],
     lines: &[RawLine],
 ) -> Result<Option<(Vec<u32>, Vec<Line>)>, Memory>
-    ensures { IfOk result (IsFound (All IsNumbering facts.now × All IsNumberedLine (map line_of lines.now)) (λ found. (found.0.items ≡ facts.now) × AllZip IsLineOf (map line_of lines.now) found.1.items)) }
+    ensures { IfOk result (IsFound (All IsNumbering facts.now × All IsNumberedLine (map line_of lines.now))
+        (λ found. (found.0.items ≡ facts.now) × AllZip IsLineOf (map line_of lines.now) found.1.items)) }
 {
     let Some(facts) = numberings(alloc, facts)? else {
         return Ok(None);
@@ -185,7 +190,8 @@ fn certificate(
 }
 
 fn lines_of(alloc: Global, written: &[RawLine]) -> Result<Option<Vec<Line>>, Memory>
-    ensures { IfOk result (IsFound (All IsNumberedLine (map line_of written.now)) (λ lines. AllZip IsLineOf (map line_of written.now) lines.items)) }
+    ensures { IfOk result (IsFound (All IsNumberedLine (map line_of written.now))
+        (λ lines. AllZip IsLineOf (map line_of written.now) lines.items)) }
 {
     let mut lines = Vec::new(alloc);
     for raw in written {

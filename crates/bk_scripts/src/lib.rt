@@ -17,8 +17,6 @@ pub mod script;
 mod script_reader;
 mod sight;
 pub mod state;
-#[cfg(test)]
-mod tests;
 mod token;
 
 pub use fault::ScriptFault;
@@ -27,8 +25,3 @@ pub use grounding::ground;
 pub use rule::{RawLine, RawPlace, RawRule};
 pub use script::Script;
 pub use state::State;
-
-#[cfg(test)]
-mod counter;
-#[cfg(test)]
-mod grounding_tests;

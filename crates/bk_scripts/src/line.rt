@@ -14,7 +14,8 @@ use std::alloc::Global;
 
 // The number in front of the tokens, perhaps with a minus sign, and the tokens behind it.
 fn multiplier(tokens: &[Token]) -> Option<(i128, &[Token])>
-    ensures { MatchOption result (reads.multiplier_of tokens.now ≡ None) (λ p. reads.multiplier_of tokens.now ≡ Some (p.0, p.1.now)) }
+    ensures { MatchOption result (reads.multiplier_of tokens.now ≡ None)
+        (λ p. reads.multiplier_of tokens.now ≡ Some (p.0, p.1.now)) }
 {
     if let Some(rest) = behind_sign(tokens, sign::MINUS) {
         let (number, rest) = whole(rest)?;
@@ -25,7 +26,8 @@ fn multiplier(tokens: &[Token]) -> Option<(i128, &[Token])>
 
 // `m * k` in front of the tokens, and the tokens behind it.
 fn multiple(tokens: &[Token]) -> Option<((i128, u128), &[Token])>
-    ensures { MatchOption result (reads.multiple_of tokens.now ≡ None) (λ p. reads.multiple_of tokens.now ≡ Some ((p.0.0, p.0.1), p.1.now)) }
+    ensures { MatchOption result (reads.multiple_of tokens.now ≡ None)
+        (λ p. reads.multiple_of tokens.now ≡ Some ((p.0.0, p.0.1), p.1.now)) }
 {
     let (by, rest) = multiplier(tokens)?;
     let rest = behind_sign(rest, sign::TIMES)?;
@@ -35,7 +37,8 @@ fn multiple(tokens: &[Token]) -> Option<((i128, u128), &[Token])>
 
 // `k / g` in front of the tokens, and the tokens behind it.
 fn quotient(tokens: &[Token]) -> Option<(u128, u128, &[Token])>
-    ensures { MatchOption result (reads.quotient_of tokens.now ≡ None) (λ p. reads.quotient_of tokens.now ≡ Some (p.0, p.1, p.2.now)) }
+    ensures { MatchOption result (reads.quotient_of tokens.now ≡ None)
+        (λ p. reads.quotient_of tokens.now ≡ Some (p.0, p.1, p.2.now)) }
 {
     let (fact, rest) = digits(tokens)?;
     let rest = behind_sign(rest, sign::DIVIDE)?;
@@ -45,7 +48,8 @@ fn quotient(tokens: &[Token]) -> Option<(u128, u128, &[Token])>
 
 // `m * k + ..` in front of the tokens, and the tokens behind it.
 fn sum(alloc: Global, tokens: &[Token]) -> Result<Option<(Vec<(i128, u128)>, &[Token])>, Memory>
-    ensures { IfOk result (λ found. MatchOption found (reads.some_of PLUS reads.multiple_of tokens.now ≡ None) (λ p. reads.some_of PLUS reads.multiple_of tokens.now ≡ Some (p.0.items, p.1.now))) }
+    ensures { IfOk result (λ found. MatchOption found (reads.some_of PLUS reads.multiple_of tokens.now ≡ None)
+        (λ p. reads.some_of PLUS reads.multiple_of tokens.now ≡ Some (p.0.items, p.1.now))) }
 {
     let Some((first, mut rest)) = multiple(tokens) else {
         return Ok(None);
@@ -64,7 +68,8 @@ fn sum(alloc: Global, tokens: &[Token]) -> Result<Option<(Vec<(i128, u128)>, &[T
 
 // A line in front of the tokens, and the tokens behind it.
 fn line(alloc: Global, tokens: &[Token]) -> Result<Option<(RawLine, &[Token])>, Memory>
-    ensures { IfOk result (λ found. MatchOption found (reads.line_at tokens.now ≡ None) (λ p. reads.line_at tokens.now ≡ Some (line_of p.0, p.1.now))) }
+    ensures { IfOk result (λ found. MatchOption found (reads.line_at tokens.now ≡ None)
+        (λ p. reads.line_at tokens.now ≡ Some (line_of p.0, p.1.now))) }
 {
     if let Some((fact, by, rest)) = quotient(tokens) {
         return Ok(Some((RawLine::Div { fact, by }, rest)));
@@ -80,7 +85,8 @@ pub(crate) fn lines(
     alloc: Global,
     tokens: &[Token],
 ) -> Result<Option<(Vec<RawLine>, &[Token])>, Memory>
-    ensures { IfOk result (λ found. MatchOption found (reads.some_of BAR reads.line_at tokens.now ≡ None) (λ p. reads.some_of BAR reads.line_at tokens.now ≡ Some (map line_of p.0.items, p.1.now))) }
+    ensures { IfOk result (λ found. MatchOption found (reads.some_of BAR reads.line_at tokens.now ≡ None)
+        (λ p. reads.some_of BAR reads.line_at tokens.now ≡ Some (map line_of p.0.items, p.1.now))) }
 {
     let Some((first, mut rest)) = line(alloc, tokens)? else {
         return Ok(None);
@@ -102,7 +108,8 @@ pub(crate) fn facts(
     alloc: Global,
     tokens: &[Token],
 ) -> Result<Option<(Vec<u128>, &[Token])>, Memory>
-    ensures { IfOk result (λ found. MatchOption found (reads.any_of COMMA reads.digits_of tokens.now ≡ None) (λ p. reads.any_of COMMA reads.digits_of tokens.now ≡ Some (p.0.items, p.1.now))) }
+    ensures { IfOk result (λ found. MatchOption found (reads.any_of COMMA reads.digits_of tokens.now ≡ None)
+        (λ p. reads.any_of COMMA reads.digits_of tokens.now ≡ Some (p.0.items, p.1.now))) }
 {
     let mut numbers = Vec::new(alloc);
     let Some((first, mut rest)) = digits(tokens) else {

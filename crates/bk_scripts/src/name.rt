@@ -16,7 +16,8 @@ const FIRST_WORD: u16 = 57;
 
 // The letters of the word with this number.
 fn word_text(alloc: Global, op: u16) -> Result<Option<Text>, Memory>
-    ensures { IfOk result (λ found. MatchOption found (reads.word_text op ≡ None) (λ text. reads.word_text op ≡ Some text)) }
+    ensures { IfOk result (λ found. MatchOption found (reads.word_text op ≡ None)
+        (λ text. reads.word_text op ≡ Some text)) }
 {
     if op < FIRST_WORD {
         return Ok(None);
@@ -39,7 +40,8 @@ fn decimal(alloc: Global, number: u128) -> Result<Text, Memory>
 
 // The text of a part of a name.
 fn part_text(alloc: Global, kind: &TokenKind) -> Result<Option<Text>, Memory>
-    ensures { IfOk result (λ found. MatchOption found (reads.part_text_of kind.now ≡ None) (λ text. reads.part_text_of kind.now ≡ Some text)) }
+    ensures { IfOk result (λ found. MatchOption found (reads.part_text_of kind.now ≡ None)
+        (λ text. reads.part_text_of kind.now ≡ Some text)) }
 {
     match kind {
         TokenKind::Name(name) => Ok(Some(name.copy(alloc)?)),
@@ -54,7 +56,8 @@ fn part_text(alloc: Global, kind: &TokenKind) -> Result<Option<Text>, Memory>
 
 // The text of the part of a name in front of the tokens, and the tokens behind it.
 fn part(alloc: Global, tokens: &[Token]) -> Result<Option<(Text, &[Token])>, Memory>
-    ensures { IfOk result (λ found. MatchOption found (reads.first_as reads.part_text_of tokens.now ≡ None) (λ p. reads.first_as reads.part_text_of tokens.now ≡ Some (p.0, p.1.now))) }
+    ensures { IfOk result (λ found. MatchOption found (reads.first_as reads.part_text_of tokens.now ≡ None)
+        (λ p. reads.first_as reads.part_text_of tokens.now ≡ Some (p.0, p.1.now))) }
 {
     let Some((first, rest)) = tokens.split_first() else {
         return Ok(None);
@@ -67,7 +70,8 @@ fn part(alloc: Global, tokens: &[Token]) -> Result<Option<(Text, &[Token])>, Mem
 
 /// The name in front of the tokens, with dots between its parts, and the tokens behind it.
 pub(crate) fn name(alloc: Global, tokens: &[Token]) -> Result<Option<(Text, &[Token])>, Memory>
-    ensures { IfOk result (λ found. MatchOption found (reads.name_at tokens.now ≡ None) (λ p. reads.name_at tokens.now ≡ Some (p.0, p.1.now))) }
+    ensures { IfOk result (λ found. MatchOption found (reads.name_at tokens.now ≡ None)
+        (λ p. reads.name_at tokens.now ≡ Some (p.0, p.1.now))) }
 {
     let Some((first, mut rest)) = part(alloc, tokens)? else {
         return Ok(None);

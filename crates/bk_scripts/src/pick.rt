@@ -100,7 +100,8 @@ fn had_memory(fault: SynFault) -> Result<(), Memory>
 fn pick(alloc: Global, tokens: &[Token]) -> Result<Option<(RawTerm, &[Token])>, Memory>
     requires short { length tokens.now ≤ 1000 }
     requires shallow { IsShallow tokens.now }
-    ensures { IfOk result (λ found. MatchOption found (reads.pick_of tokens.now ≡ None) (λ p. reads.pick_of tokens.now ≡ Some (p.0, p.1.now))) }
+    ensures { IfOk result (λ found. MatchOption found (reads.pick_of tokens.now ≡ None)
+        (λ p. reads.pick_of tokens.now ≡ Some (p.0, p.1.now))) }
 {
     let (piece, _) = front(tokens);
     match term(alloc, piece, 0) {
@@ -123,7 +124,8 @@ fn pick(alloc: Global, tokens: &[Token]) -> Result<Option<(RawTerm, &[Token])>, 
 fn listed(alloc: Global, tokens: &[Token]) -> Result<Option<(Vec<RawTerm>, &[Token])>, Memory>
     requires short { length tokens.now ≤ 1000 }
     requires shallow { IsShallow tokens.now }
-    ensures { IfOk result (λ found. MatchOption found (reads.listed_of tokens.now ≡ None) (λ p. reads.listed_of tokens.now ≡ Some (p.0.items, p.1.now))) }
+    ensures { IfOk result (λ found. MatchOption found (reads.listed_of tokens.now ≡ None)
+        (λ p. reads.listed_of tokens.now ≡ Some (p.0.items, p.1.now))) }
 {
     let Some((first, mut rest)) = pick(alloc, tokens)? else {
         return Ok(None);
@@ -150,7 +152,8 @@ pub(crate) fn picks(
 ) -> Result<Option<(Vec<RawTerm>, &[Token])>, Memory>
     requires short { length tokens.now ≤ 1000 }
     requires shallow { IsShallow tokens.now }
-    ensures { IfOk result (λ found. MatchOption found (reads.picks_of tokens.now ≡ None) (λ p. reads.picks_of tokens.now ≡ Some (p.0.items, p.1.now))) }
+    ensures { IfOk result (λ found. MatchOption found (reads.picks_of tokens.now ≡ None)
+        (λ p. reads.picks_of tokens.now ≡ Some (p.0.items, p.1.now))) }
 {
     let Some(inside) = behind_sign(tokens, sign::OPEN_PAREN) else {
         return Ok(Some((Vec::new(alloc), tokens)));

@@ -25,7 +25,8 @@ fn path(alloc: Global, tokens: &[Token]) -> Result<(Vec<u128>, &[Token]), Memory
 
 /// The place in front of the tokens, and the tokens behind it.
 pub(crate) fn place(alloc: Global, tokens: &[Token]) -> Result<Option<(RawPlace, &[Token])>, Memory>
-    ensures { IfOk result (λ found. MatchOption found (reads.place_at tokens.now ≡ None) (λ p. reads.place_at tokens.now ≡ Some (place_of p.0, p.1.now))) }
+    ensures { IfOk result (λ found. MatchOption found (reads.place_at tokens.now ≡ None)
+        (λ p. reads.place_at tokens.now ≡ Some (place_of p.0, p.1.now))) }
 {
     if let Some(rest) = behind_name(tokens, b"goal") {
         let (children, rest) = path(alloc, rest)?;

@@ -18,7 +18,8 @@ use std::alloc::Global;
 
 // The keyword in front of the tokens, and the tokens behind it.
 fn keyword(tokens: &[Token]) -> Option<(Keyword, &[Token])>
-    ensures { MatchOption result (reads.first_as reads.keyword_of tokens.now ≡ None) (λ p. reads.first_as reads.keyword_of tokens.now ≡ Some (p.0, p.1.now)) }
+    ensures { MatchOption result (reads.first_as reads.keyword_of tokens.now ≡ None)
+        (λ p. reads.first_as reads.keyword_of tokens.now ≡ Some (p.0, p.1.now)) }
 {
     let (first, rest) = tokens.split_first()?;
     let keyword = Keyword::of(&first.kind)?;
@@ -37,7 +38,8 @@ fn law_text(kind: &TokenKind) -> Option<&Text>
 
 // The name of a law in front of the tokens, and the tokens behind it.
 fn law_name(tokens: &[Token]) -> Option<(&Text, &[Token])>
-    ensures { MatchOption result (reads.first_as reads.law_name tokens.now ≡ None) (λ p. reads.first_as reads.law_name tokens.now ≡ Some (p.0.now, p.1.now)) }
+    ensures { MatchOption result (reads.first_as reads.law_name tokens.now ≡ None)
+        (λ p. reads.first_as reads.law_name tokens.now ≡ Some (p.0.now, p.1.now)) }
 {
     let (first, rest) = tokens.split_first()?;
     let name = law_text(&first.kind)?;
@@ -49,7 +51,8 @@ fn numbered_place(
     alloc: Global,
     tokens: &[Token],
 ) -> Result<Option<(u128, RawPlace, &[Token])>, Memory>
-    ensures { IfOk result (λ found. MatchOption found (reads.numbered_place_of tokens.now ≡ None) (λ p. reads.numbered_place_of tokens.now ≡ Some (p.0, place_of p.1, p.2.now))) }
+    ensures { IfOk result (λ found. MatchOption found (reads.numbered_place_of tokens.now ≡ None)
+        (λ p. reads.numbered_place_of tokens.now ≡ Some (p.0, place_of p.1, p.2.now))) }
 {
     let Some((number, rest)) = digits(tokens) else {
         return Ok(None);
@@ -64,7 +67,8 @@ fn numbered_place(
 fn law(alloc: Global, tokens: &[Token]) -> Result<Option<(RawRule, &[Token])>, Memory>
     requires short { length tokens.now ≤ 1000 }
     requires shallow { IsShallow tokens.now }
-    ensures { IfOk result (λ found. MatchOption found (reads.law_of tokens.now ≡ None) (λ p. reads.law_of tokens.now ≡ Some (rule_of p.0, p.1.now))) }
+    ensures { IfOk result (λ found. MatchOption found (reads.law_of tokens.now ≡ None)
+        (λ p. reads.law_of tokens.now ≡ Some (rule_of p.0, p.1.now))) }
 {
     let Some((name, rest)) = law_name(tokens) else {
         return Ok(None);
@@ -81,7 +85,8 @@ fn law(alloc: Global, tokens: &[Token]) -> Result<Option<(RawRule, &[Token])>, M
 
 // What stands behind `lin`.
 fn lin(alloc: Global, tokens: &[Token]) -> Result<Option<(RawRule, &[Token])>, Memory>
-    ensures { IfOk result (λ found. MatchOption found (reads.lin_of tokens.now ≡ None) (λ p. reads.lin_of tokens.now ≡ Some (rule_of p.0, p.1.now))) }
+    ensures { IfOk result (λ found. MatchOption found (reads.lin_of tokens.now ≡ None)
+        (λ p. reads.lin_of tokens.now ≡ Some (rule_of p.0, p.1.now))) }
 {
     let Some((facts, rest)) = facts(alloc, tokens)? else {
         return Ok(None);
@@ -103,7 +108,8 @@ fn ruled(
 ) -> Result<Option<(RawRule, &[Token])>, Memory>
     requires short { length tokens.now ≤ 1000 }
     requires shallow { IsShallow tokens.now }
-    ensures { IfOk result (λ found. MatchOption found (reads.ruled_by keyword tokens.now ≡ None) (λ p. reads.ruled_by keyword tokens.now ≡ Some (rule_of p.0, p.1.now))) }
+    ensures { IfOk result (λ found. MatchOption found (reads.ruled_by keyword tokens.now ≡ None)
+        (λ p. reads.ruled_by keyword tokens.now ≡ Some (rule_of p.0, p.1.now))) }
 {
     match keyword {
         Keyword::Hyp => Ok(digits(tokens).map(|(number, rest)| (RawRule::Hyp(number), rest))),
@@ -130,7 +136,8 @@ fn ruled(
 pub(crate) fn rule(alloc: Global, tokens: &[Token]) -> Result<Option<(RawRule, &[Token])>, Memory>
     requires short { length tokens.now ≤ 1000 }
     requires shallow { IsShallow tokens.now }
-    ensures { IfOk result (λ found. MatchOption found (reads.rule_at tokens.now ≡ None) (λ p. reads.rule_at tokens.now ≡ Some (rule_of p.0, p.1.now))) }
+    ensures { IfOk result (λ found. MatchOption found (reads.rule_at tokens.now ≡ None)
+        (λ p. reads.rule_at tokens.now ≡ Some (rule_of p.0, p.1.now))) }
 {
     let Some((keyword, rest)) = keyword(tokens) else {
         return Ok(None);

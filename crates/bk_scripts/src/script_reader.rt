@@ -33,7 +33,8 @@ fn front(tokens: &[Token]) -> &[Token]
 // The rule in front of the tokens, of at most so many of them, and the tokens behind it.
 fn short_rule(alloc: Global, tokens: &[Token]) -> Result<Option<(RawRule, &[Token])>, Memory>
     requires shallow { IsShallow tokens.now }
-    ensures { IfOk result (λ found. MatchOption found (reads.short_rule_at tokens.now ≡ None) (λ p. reads.short_rule_at tokens.now ≡ Some (rule_of p.0, p.1.now))) }
+    ensures { IfOk result (λ found. MatchOption found (reads.short_rule_at tokens.now ≡ None)
+        (λ p. reads.short_rule_at tokens.now ≡ Some (rule_of p.0, p.1.now))) }
 {
     let front = front(tokens);
     let Some((rule, rest)) = rule(alloc, front)? else {
@@ -45,7 +46,8 @@ fn short_rule(alloc: Global, tokens: &[Token]) -> Result<Option<(RawRule, &[Toke
 // The rules in front of the tokens, with semicolons between, and the tokens behind them. There may be none.
 fn rules(alloc: Global, tokens: &[Token]) -> Result<Option<(Vec<RawRule>, &[Token])>, Memory>
     requires shallow { IsShallow tokens.now }
-    ensures { IfOk result (λ found. MatchOption found (reads.any_of SEMICOLON reads.short_rule_at tokens.now ≡ None) (λ p. reads.any_of SEMICOLON reads.short_rule_at tokens.now ≡ Some (map rule_of p.0.items, p.1.now))) }
+    ensures { IfOk result (λ found. MatchOption found (reads.any_of SEMICOLON reads.short_rule_at tokens.now ≡ None)
+        (λ p. reads.any_of SEMICOLON reads.short_rule_at tokens.now ≡ Some (map rule_of p.0.items, p.1.now))) }
 {
     let mut rules = Vec::new(alloc);
     let Some((first, mut rest)) = short_rule(alloc, tokens)? else {
@@ -66,7 +68,8 @@ fn rules(alloc: Global, tokens: &[Token]) -> Result<Option<(Vec<RawRule>, &[Toke
 fn script_behind(alloc: Global, tokens: &[Token]) -> Result<Option<(Script, &[Token])>, Memory>
     requires short { length tokens.now ≤ 10000 }
     requires shallow { IsShallow tokens.now }
-    ensures { IfOk result (λ found. MatchOption found (reads.script_behind tokens.now ≡ None) (λ p. reads.script_behind tokens.now ≡ Some (p.0, p.1.now))) }
+    ensures { IfOk result (λ found. MatchOption found (reads.script_behind tokens.now ≡ None)
+        (λ p. reads.script_behind tokens.now ≡ Some (p.0, p.1.now))) }
 {
     let Some((name, rest)) = name(alloc, tokens)? else {
         return Ok(None);
@@ -84,7 +87,8 @@ fn script_behind(alloc: Global, tokens: &[Token]) -> Result<Option<(Script, &[To
 fn script(alloc: Global, tokens: &[Token]) -> Result<Option<(Script, &[Token])>, Memory>
     requires short { length tokens.now ≤ 10000 }
     requires shallow { IsShallow tokens.now }
-    ensures { IfOk result (λ found. MatchOption found (reads.script_at tokens.now ≡ None) (λ p. reads.script_at tokens.now ≡ Some (p.0, p.1.now))) }
+    ensures { IfOk result (λ found. MatchOption found (reads.script_at tokens.now ≡ None)
+        (λ p. reads.script_at tokens.now ≡ Some (p.0, p.1.now))) }
 {
     let Some(rest) = behind_name(tokens, b"proof") else {
         return Ok(None);
@@ -96,7 +100,8 @@ fn script(alloc: Global, tokens: &[Token]) -> Result<Option<(Script, &[Token])>,
 pub(crate) fn all_scripts(alloc: Global, tokens: &[Token]) -> Result<Option<Vec<Script>>, Memory>
     requires short { length tokens.now ≤ 10000 }
     requires shallow { IsShallow tokens.now }
-    ensures { IfOk result (λ found. MatchOption found (reads.scripts_of (length tokens.now) tokens.now ≡ None) (λ scripts. reads.scripts_of (length tokens.now) tokens.now ≡ Some scripts.items)) }
+    ensures { IfOk result (λ found. MatchOption found (reads.scripts_of (length tokens.now) tokens.now ≡ None)
+        (λ scripts. reads.scripts_of (length tokens.now) tokens.now ≡ Some scripts.items)) }
 {
     let mut scripts = Vec::new(alloc);
     let mut rest = tokens;

@@ -74,7 +74,8 @@ fn variables_in_sight(
     operation: Option<usize>,
 ) -> Result<Vec<u32>, Memory>
     requires { level < length dev.now.levels }
-    ensures { IfOk result (λ variables. variables.items ≡ meant.variables_to dev.now level ++ meant.parameters_to dev.now level operation) }
+    ensures { IfOk result (λ variables. variables.items ≡ meant.variables_to dev.now level
+        ++ meant.parameters_to dev.now level operation) }
 {
     let levels = &dev.levels[..level + 1];
     let mut variables = variables_of(alloc, levels)?;
@@ -104,7 +105,8 @@ fn add_parameters(
     levels: &[Level],
     operation: usize,
 ) -> Result<(), Memory>
-    ensures { OnOk result (variables.new.items ≡ variables.old.items ++ (flat_map (λ l. (body_of l operation).outputs) levels.now ++ inputs_of dev.now operation)) }
+    ensures { OnOk result (variables.new.items ≡ variables.old.items
+        ++ (flat_map (λ l. (body_of l operation).outputs) levels.now ++ inputs_of dev.now operation)) }
 {
     for level in levels {
         variables.extend_from_slice(outputs_at(level, operation))?;
@@ -139,7 +141,8 @@ fn scope_of(alloc: Global, table: &VarTable, variables: &[u32]) -> Result<Scope,
 
 // The text of a variable whose values are numbers.
 fn text_of_number(table: &VarTable, variable: u32) -> Option<&Text>
-    ensures { option_copied result ≡ cond (meant.is_number (variable_type table.now variable)) (variable_text table.now variable) None }
+    ensures { option_copied result ≡
+        cond (meant.is_number (variable_type table.now variable)) (variable_text table.now variable) None }
 {
     if is_number(table, variable) {
         return table.text(variable);

@@ -27,7 +27,8 @@ fn is_name(kind: &TokenKind, text: &[u8]) -> bool
 
 /// The tokens behind this sign.
 pub(crate) fn behind_sign(tokens: &[Token], op: u16) -> Option<&[Token]>
-    ensures { MatchOption result (reads.behind_sign op tokens.now ≡ None) (λ rest. reads.behind_sign op tokens.now ≡ Some rest.now) }
+    ensures { MatchOption result (reads.behind_sign op tokens.now ≡ None)
+        (λ rest. reads.behind_sign op tokens.now ≡ Some rest.now) }
 {
     let (first, rest) = tokens.split_first()?;
     if is_sign(&first.kind, op) {
@@ -39,7 +40,8 @@ pub(crate) fn behind_sign(tokens: &[Token], op: u16) -> Option<&[Token]>
 
 /// The tokens behind this name.
 pub(crate) fn behind_name<'a>(tokens: &'a [Token], text: &[u8]) -> Option<&'a [Token]>
-    ensures { MatchOption result (reads.behind_name text.now tokens.now ≡ None) (λ rest. reads.behind_name text.now tokens.now ≡ Some rest.now) }
+    ensures { MatchOption result (reads.behind_name text.now tokens.now ≡ None)
+        (λ rest. reads.behind_name text.now tokens.now ≡ Some rest.now) }
 {
     let (first, rest) = tokens.split_first()?;
     if is_name(&first.kind, text) {
@@ -61,7 +63,8 @@ fn numeral(kind: &TokenKind) -> Option<u128>
 
 /// The number in front of the tokens, of which minus itself is a number too, and the tokens behind it.
 pub(crate) fn whole(tokens: &[Token]) -> Option<(i128, &[Token])>
-    ensures value { MatchOption result (reads.digits_of tokens.now ≡ None) (λ p. reads.signed (reads.digits_of tokens.now) ≡ Some (p.0, p.1.now)) }
+    ensures value { MatchOption result (reads.digits_of tokens.now ≡ None)
+        (λ p. reads.signed (reads.digits_of tokens.now) ≡ Some (p.0, p.1.now)) }
     ensures positive { IfSome result (λ p. pos 0 ≤ℤ p.0) }
 {
     let (first, rest) = tokens.split_first()?;
@@ -76,7 +79,8 @@ pub(crate) fn whole(tokens: &[Token]) -> Option<(i128, &[Token])>
 
 /// The number in front of the tokens, and the tokens behind it.
 pub(crate) fn digits(tokens: &[Token]) -> Option<(u128, &[Token])>
-    ensures { MatchOption result (reads.digits_of tokens.now ≡ None) (λ p. reads.digits_of tokens.now ≡ Some (p.0, p.1.now)) }
+    ensures { MatchOption result (reads.digits_of tokens.now ≡ None)
+        (λ p. reads.digits_of tokens.now ≡ Some (p.0, p.1.now)) }
 {
     let (first, rest) = tokens.split_first()?;
     let number = numeral(&first.kind)?;

@@ -1,10 +1,9 @@
 -- What is put at a path stands there, and keeps the role and the meaning of the whole.
 use Rattle.std.proofs.Common.{◌≡◌, ap, sym, ◌∙◌}
-use Rattle.bk_val.specs.Value.{MathValue}
 use Rattle.bk_form.specs.Formula.{Formula}
 use Rattle.bk_form.specs.Search.{Finder}
 use Rattle.bk_form.specs.Environment.{Environment}
-use Rattle.bk_form.specs.Meaning.{Meaning, meaning}
+use Rattle.bk_form.specs.Meaning.{meaning}
 use Rattle.bk_form.proofs.Roles.{meaning-role}
 use Rattle.bk_bind.specs.Same.{MeanSame}
 use Rattle.bk_seq.specs.PathLaws.{PutStands, PutKeepsRole, PutKeepsMeaning}

@@ -8,8 +8,8 @@ use Rattle.bk_form.specs.Formula.{Formula, unary, binary, comprehension, lambda,
 use Rattle.bk_form.specs.Role.{role, roles, unary_role, binary_role, comprehension_role, lambda_role, bind, element_types}
 use Rattle.bk_form.specs.Search.{Finder}
 use Rattle.bk_form.specs.Environment.{Environment, under}
-use Rattle.bk_form.specs.Meaning.{Meaning, meaning, meanings, unary_meaning, binary_meaning, comprehension_meaning, lambda_meaning, range_types}
-use Rattle.bk_seq.specs.Paths.{numbered_item, with_item, children, with_children, child, with_child, sub_at, put_at}
+use Rattle.bk_form.specs.Meaning.{meaning, meanings, unary_meaning, binary_meaning, comprehension_meaning, lambda_meaning, range_types}
+use Rattle.bk_seq.specs.Paths.{child, with_child, sub_at, put_at}
 
 pub list_of-formulas_of : (fs : List Formula) → list_of_formulas (formulas_of fs) ≡ fs
 list_of-formulas_of [] = refl

@@ -1,10 +1,10 @@
 -- A formula of which a child has no role has none itself, so what stands in a formula that types, types.
-use Rattle.std.proofs.Common.{◌≡◌, ℕ, zero, suc, List, [], ◌∷◌, refl, sym, ◌∙◌, ap, Bool, true, false, ◌&&◌}
+use Rattle.std.proofs.Common.{◌≡◌, ℕ, zero, suc, List, [], ◌∷◌, refl, ◌∙◌, ap, Bool, true, false, ◌&&◌}
 use Rattle.std.specs.Prelude.{Some, slice_get}
 use Rattle.bk_val.specs.ValueType.{ValueType, int_type, pair_type, set_type}
 use Rattle.bk_form.specs.Table.{Table}
 use Rattle.bk_form.specs.Formula.{Formula, unary, binary, comprehension, lambda, Formulas, no_formulas, formula_and, list_of_formulas}
-use Rattle.bk_form.specs.Role.{Role, gives, ranges_over, predicate, untyped, if_holds, if_predicate, if_number, if_value, if_set, if_relation, if_domain, product_role, unary_role, binary_role, comprehension_role, lambda_role, gives_set, each_gives_set, are_ranges, element_types, tuple_type, bind, role, roles}
+use Rattle.bk_form.specs.Role.{Role, gives, ranges_over, predicate, untyped, if_holds, if_predicate, if_number, if_value, if_set, if_relation, if_domain, product_role, unary_role, binary_role, gives_set, each_gives_set, are_ranges, element_types, tuple_type, bind, role, roles}
 use Rattle.bk_form.specs.declared.operator.UnOp.{UnOp}
 use Rattle.bk_form.specs.declared.operator.UnOp.TheVariants.{Not, BoolOf, Neg, Card, Min, Max, Dom, Ran, Id, Inverse, Single, Pow, Pow1}
 use Rattle.bk_form.specs.declared.operator.BinOp.{BinOp}

@@ -1,7 +1,7 @@
 -- What every valid sequent allows.
 use Rattle.std.proofs.Common.{◌≡◌, refl, ap, Bool, true, false, not}
 use Rattle.bk_form.specs.Meaning.{truth}
-use Rattle.bk_seq.specs.Valid.{in_state}
+use Rattle.bk_bind.specs.Valid.{in_state}
 use Rattle.bk_seq.specs.Laws.{IsAssumed, Weakens, Contradicts}
 
 pub assumed : IsAssumed

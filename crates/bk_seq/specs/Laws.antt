@@ -3,7 +3,7 @@ use Rattle.std.specs.Prelude.{List, ◌∷◌}
 use Rattle.bk_form.specs.Table.{Table}
 use Rattle.bk_form.specs.Formula.{Formula, bfalse, unary}
 use Rattle.bk_form.specs.declared.operator.UnOp.TheVariants.{Not}
-use Rattle.bk_seq.specs.Valid.{IsValid}
+use Rattle.bk_bind.specs.Valid.{IsValid}
 
 -- a goal that is the first hypothesis
 abbrev pub IsAssumed : Type 0

@@ -1,4 +1,4 @@
-pub mod Valid
+pub mod Sequents
 pub mod Laws
 pub mod Paths
 pub mod PathLaws

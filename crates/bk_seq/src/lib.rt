@@ -7,8 +7,3 @@ pub mod sequent;
 
 pub use path::{at, numbered, put};
 pub use sequent::Sequent;
-
-#[cfg(test)]
-mod path_tests;
-#[cfg(test)]
-mod tests;

@@ -10,7 +10,7 @@ use Rattle.bk_form.proofs.Members.{and-both}
 use Rattle.bk_gsl.specs.State.{declared_type, are_values_for, among}
 use Rattle.bk_gsl.proofs.States.{or-false, nat_eq-self}
 use Rattle.bk_dev.specs.Development.{Head, Body, Development, blank_body}
-use Rattle.bk_dev.specs.Facts.{AreDistinct, Each, EachBody, IsBodyOf}
+use Rattle.bk_dev.specs.Facts.{AreDistinct}
 use Rattle.bk_dev.specs.Machine.{are_in_int, is_in_int}
 use Rattle.bk_code.specs.declared.instruction.Inst.{Inst}
 use Rattle.bk_code.specs.Session.{placed}
@@ -18,7 +18,7 @@ use Rattle.bk_gen.specs.Plain.{slot_of, block_code, blocks_code, plain_parameter
 use Rattle.bk_gen.proofs.Loadable.{AreInside, HaveCells}
 use Rattle.bk_sim.specs.Shows.{as_number}
 use Rattle.bk_sim.proofs.Cells.{cell, cell-same, cell-other, all-set}
-use Rattle.bk_sim.proofs.Agree.{or-left, or-right, both-true}
+use Rattle.bk_dev.proofs.Agree.{or-left, or-right, both-true}
 use Rattle.bk_sim.proofs.IntCells.{fits}
 
 -- ---- the entry of an operation
@@ -41,18 +41,6 @@ entered cells code before place (h ∷ hs) (b ∷ bs) d (suc o) is at below many
     let further : place + length block ≡ length (before ++ block) = omega (arith, at, length-append before block) in
     let rest = entered cells code (before ++ block) (place + length block) hs bs d o moved further (omega arith) (omega (arith, many)) in
     record { start = rest.start; is = rest.is; before = rest.before; after = rest.after; stands = rest.stands; starts = rest.starts }
-
-pub each-at : {A : Type 0} (P : A → Type 0) (xs : List A) (o : ℕ) (d : A) → o < length xs → Each P xs → P (slice_index_or xs o d)
-each-at {A} P [] o d h e = absurd (omega arith)
-each-at {A} P (x ∷ xs) zero d h e = e.0
-each-at {A} P (x ∷ xs) (suc o) d h e = each-at P xs o d (omega arith) e.1
-
-pub body-at : (dev : Development) (k : ℕ) (hs : List Head) (ms bs : List Body) (d : Head) (o : ℕ) → o < length hs → EachBody dev k hs ms bs → IsBodyOf dev k (slice_index_or hs o d) (slice_index_or ms o blank_body) (slice_index_or bs o blank_body)
-body-at dev k [] ms bs d o h e = absurd (omega arith)
-body-at dev k (x ∷ hs) [] bs d o h e = absurd e
-body-at dev k (x ∷ hs) (m ∷ ms) [] d o h e = absurd e
-body-at dev k (x ∷ hs) (m ∷ ms) (b ∷ bs) d zero h e = e.0
-body-at dev k (x ∷ hs) (m ∷ ms) (b ∷ bs) d (suc o) h e = body-at dev k hs ms bs d o (omega arith) e.1
 
 pub have-at : (cells : List ℕ) (hs : List Head) (bs : List Body) (d : Head) (o : ℕ) → o < length hs → length hs ≡ length bs → HaveCells cells hs bs → AreInside cells (slice_index_or hs o d).inputs × AreInside cells (slice_index_or bs o blank_body).outputs
 have-at cells [] bs d o h many e = absurd (omega arith)

@@ -1,5 +1,5 @@
 -- The cells of a simple development: their kinds, what they show, and where their variables are at home.
-use Rattle.std.proofs.Common.{◌≡◌, ◌⊎◌, inl, inr, ℕ, suc, ℤ, pos, List, [], ◌∷◌, ◌++◌, length, take, drop, refl, sym, ◌∙◌, ap, subst, Bool, true, false, ◌||◌, nat_eq, arith, Some, None, Option}
+use Rattle.std.proofs.Common.{◌≡◌, ◌⊎◌, inl, inr, ℕ, suc, ℤ, pos, List, [], ◌∷◌, ◌++◌, length, take, drop, refl, sym, ◌∙◌, ap, subst, Bool, true, false, ◌||◌, nat_eq, arith, Some, None}
 use Rattle.std.specs.Prelude.{slice_index_or}
 use Rattle.std.specs.List.{list_all}
 use Rattle.std.proofs.lemmas.Bool.Decides.{nat_tests}
@@ -8,17 +8,18 @@ use Rattle.bk_val.specs.ValueType.{ValueType, int_type, is_value_of}
 use Rattle.bk_form.specs.Table.{set_size, variable_type}
 use Rattle.bk_form.proofs.Members.{and-both}
 use Rattle.bk_gsl.specs.State.{IsTypedState, declared_type, among}
-use Rattle.bk_gsl.proofs.States.{nat_eq-same, among-append}
-use Rattle.bk_dev.specs.declared.kind.Home.{Home}
+use Rattle.bk_gsl.proofs.States.{among-append}
 use Rattle.bk_dev.specs.Development.{Head, Body, Development, level_at, last}
-use Rattle.bk_dev.specs.Facts.{is_input, is_variable_of, is_inner_of, home_of, AllAre, Each, EachBody, IsHeadOf, IsDevelopment}
+use Rattle.bk_dev.specs.Facts.{is_input, is_variable_of, is_inner_of, home_of, Each, EachBody, IsHeadOf, IsDevelopment}
 use Rattle.bk_dev.specs.Layout.{cell_of}
 use Rattle.bk_gen.specs.Simple.{IsSimple}
 use Rattle.bk_gen.specs.Plain.{operation_cells}
-use Rattle.bk_gen.proofs.Plain.{no_row_of, one_cell, cell_is, type_at_home, whole_or_none, last_cells, last_level}
+use Rattle.bk_dev.proofs.Levels.{last_level}
+use Rattle.bk_gen.proofs.Plain.{no_row_of, one_cell, cell_is, type_at_home, whole_or_none, last_cells}
 use Rattle.bk_sim.specs.Shows.{number_as, is_of_kind, row_type, cell_type, AreOfKinds, shown_as, shown}
 use Rattle.bk_sim.proofs.Cells.{cell}
-use Rattle.bk_sim.proofs.Agree.{or-left, or-right, both-true}
+use Rattle.bk_dev.proofs.Climb.{has_cell}
+use Rattle.bk_dev.proofs.Agree.{or-left, or-right, both-true, all-among}
 
 -- whether a number is within INT
 abbrev pub fits : Development → ℤ → Bool
@@ -77,18 +78,6 @@ ints-typed dev s number = record { typed = λ n t h. at n t h (whole_or_none dev
     at n t h (inr k) = let e : Some int_type ≡ Some t = sym k ∙ h in let one : int_type ≡ t = cc in subst (λ u. is_value_of (set_size dev.table) u (int (number n)) ≡ true) one refl
 
 -- ---- homes
--- a variable of the level, an input, or what the level binds
-abbrev pub has_cell : ℕ → Option Home → Bool
-has_cell k h = is_variable_of k h || is_input h || is_inner_of k h
-
-pub all-among : (p : ℕ → Bool) (xs : List ℕ) → AllAre p xs → (n : ℕ) → among xs n ≡ true → p n ≡ true
-all-among p [] a n h = absurd (cc)
-all-among p (x ∷ xs) a n h = by_test (all-among p xs a.1 n) (nat_eq n x) refl h
-  where
-    by_test : (among xs n ≡ true → p n ≡ true) → (b : Bool) → nat_eq n x ≡ b → b || among xs n ≡ true → p n ≡ true
-    by_test rest true q k = ap p (nat_eq-same n x q) ∙ a.0
-    by_test rest false q k = rest k
-
 pub among-either : (xs ys : List ℕ) (n : ℕ) (P : Type 0) → among (xs ++ ys) n ≡ true → (among xs n ≡ true → P) → (among ys n ≡ true → P) → P
 among-either xs ys n P h f g = by_test (among xs n) refl (sym (among-append xs ys n) ∙ h)
   where

@@ -6,10 +6,7 @@ pub mod Cells
 pub mod Values
 pub mod Going
 pub mod Blocks
-pub mod Flat
-pub mod Agree
 pub mod IntCells
 pub mod Entries
-pub mod Climb
 pub mod SimpleCode
 pub mod Carried

@@ -38,22 +38,23 @@ use Rattle.bk_gen.specs.Translation.{init_code, operation_code}
 use Rattle.bk_gen.specs.Plain.{operation_cells, slot_of, block_code, blocks_code, plain_parameter, plain_entry, plain_image}
 use Rattle.bk_gen.proofs.Loadable.{AreInside, HasCells}
 use Rattle.bk_gen.proofs.Named.{init_named, operations_named, bodies_named}
-use Rattle.bk_gen.proofs.Plain.{no_row_of, last_cells, last_paired, cells_are, type_at_home, block_is, translation_is}
+use Rattle.bk_dev.proofs.Levels.{last_paired, each-at, body-at, level_fact}
+use Rattle.bk_gen.proofs.Plain.{no_row_of, last_cells, cells_are, type_at_home, block_is, translation_is}
 use Rattle.bk_sim.specs.Shows.{number_as, as_number, AreOfKinds, shown, IsLinkedBy, Linked}
-use Rattle.bk_sim.specs.Plain.{HasNoPar, HaveNoPar, LevelsHaveNoPar, UpperHaveNoPar}
+use Rattle.bk_dev.specs.NoPar.{HasNoPar, HaveNoPar, LevelsHaveNoPar, UpperHaveNoPar}
 use Rattle.bk_sim.specs.Laws.{SimpleFollows, SimpleEnds}
 use Rattle.bk_sim.specs.Within.{EndsWithin, CallEnds, EndsInCode}
 use Rattle.bk_sim.specs.Follows.{IsEntry, as_values, replies, started, GoesWell, IsDone, IsStep, HasOperations, OpensWell, CallsGoWell, Follows}
-use Rattle.bk_sim.proofs.Flat.{flattened_already}
+use Rattle.bk_dev.proofs.Flat.{flattened_already}
 use Rattle.bk_sim.proofs.Chain.{linked_before, calls_decide}
 use Rattle.bk_sim.proofs.Ends.{done-well}
 use Rattle.bk_sim.proofs.Cells.{cell, all-at}
 use Rattle.bk_sim.proofs.Values.{AreShown}
 use Rattle.bk_sim.proofs.Blocks.{cells_after, StatementFits, HasBlock, Returned, block-returns, ran, ran-runs, after-shown, statement-fits, after-within, after-many}
-use Rattle.bk_sim.proofs.Agree.{or-left, or-right, both-true, all-none, holds-same, true-append, true-first, parts-true, whole-true, joining-same}
-use Rattle.bk_sim.proofs.IntCells.{fits, kinds-then, kinds-if, shown-is, ints-typed, has_cell, all-among, cells_home, int_at_home}
-use Rattle.bk_sim.proofs.Entries.{IsEntered, entered, each-at, body-at, have-at, given, given-other, given-many, given-pass, given-shown, args-fit}
-use Rattle.bk_sim.proofs.Climb.{flat-then, flat-if, level_fact, is_before, input-before, variable-before, joined-before, own-before, one_of_three, map-same, Climbed, Carry, climbed}
+use Rattle.bk_dev.proofs.Agree.{or-left, or-right, both-true, all-none, holds-same, true-append, true-first, parts-true, whole-true, joining-same, all-among}
+use Rattle.bk_dev.proofs.Climb.{has_cell, flat-then, flat-if, is_before, input-before, variable-before, joined-before, own-before, one_of_three, map-same, Climbed, Carry, climbed}
+use Rattle.bk_sim.proofs.IntCells.{fits, kinds-then, kinds-if, shown-is, ints-typed, cells_home, int_at_home}
+use Rattle.bk_sim.proofs.Entries.{IsEntered, entered, have-at, given, given-other, given-many, given-pass, given-shown, args-fit}
 
 -- ---- numbers within bounds
 ranged : (find : Finder) (table : Table) (e : State) (x : ℕ) (low high z : ℤ) → e x ≡ int z → int_le low z && int_le z high ≡ true → holds find table e (binary In (variable x) (binary Range (literal low) (literal high))) ≡ true

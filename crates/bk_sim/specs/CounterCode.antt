@@ -12,12 +12,15 @@ use Rattle.bk_code.specs.declared.instruction.Inst.TheVariants.{Push, Load, Stor
 abbrev pub entry_at : List ℕ → ℕ → List Parameter → OpEntry
 entry_at name place outputs = record { name = name; start = place; inputs = []; outputs = outputs }
 
+-- reset, whose code begins at place 3
 abbrev pub reset_entry : OpEntry
 reset_entry = entry_at reset_name 3 []
 
+-- setmax, whose code begins at place 6
 abbrev pub setmax_entry : OpEntry
 setmax_entry = entry_at setmax_name 6 []
 
+-- get, whose code begins at place 9; its output is in cell 1
 abbrev pub get_entry : OpEntry
 get_entry = entry_at get_name 9 (record { kind = Integer; slot = 1 } ∷ [])
 

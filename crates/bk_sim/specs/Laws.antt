@@ -10,7 +10,7 @@ use Rattle.bk_gen.specs.Translation.{translation}
 use Rattle.bk_code.specs.declared.image.Image.{Image}
 use Rattle.bk_sim.specs.Follows.{HasOperations, OpensWell, CallsGoWell, Follows}
 use Rattle.bk_sim.specs.CounterCode.{counter_code}
-use Rattle.bk_sim.specs.Plain.{UpperHaveNoPar}
+use Rattle.bk_dev.specs.NoPar.{UpperHaveNoPar}
 use Rattle.bk_sim.specs.Within.{EndsInCode}
 
 -- code that opens well and whose calls go well one by one follows: sessions need nothing more

@@ -42,10 +42,12 @@ is_of_kind dev (enum_type s) (pos i) = nat_lt i (set_size dev.table s)
 is_of_kind dev _ _ = false
 
 -- ---- cells
+-- the type of an array's elements, and any other type itself
 abbrev pub element_type : ValueType → ValueType
 element_type (set_type (pair_type t u)) = u
 element_type t = t
 
+-- the type of a variable's cells: of an array its elements', and else its own
 abbrev pub row_type : Option ArrayRow → ValueType → ValueType
 row_type None t = t
 row_type (Some row) t = element_type t
@@ -71,6 +73,7 @@ abbrev pub paired : ValueType → List MathValue → List ℤ → List MathValue
 paired t (i ∷ is) (z ∷ m) = pair i (number_as t z) ∷ paired t is m
 paired t _ _ = []
 
+-- a variable without a row is the value of its one cell, an array the pairs of its indices and cell values
 abbrev pub shown_as : Development → ℕ → Option ArrayRow → List ℤ → MathValue
 shown_as dev x None m = number_as (declared_type dev.table x) (slice_index_or m (cell_of dev x) (pos 0))
 shown_as dev x (Some row) m = set_value (paired (cell_type dev x) (indices dev row.domain) (drop (cell_of dev x) m))
@@ -92,5 +95,6 @@ pub record IsLinkedBy (find : Finder) (dev : Development) (a : Abstract) (m : Li
   pub cells : Shows dev m e
   pub joined : AreTrue find dev.table e (joinings_of dev (length dev.levels))
 
+-- the cells stand for the abstract state: some state of all levels shows both
 abbrev pub Linked : Finder → Development → Abstract → List ℤ → Type 0
 Linked find dev a m = (e : State) × IsLinkedBy find dev a m e

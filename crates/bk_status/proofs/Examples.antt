@@ -1,9 +1,11 @@
--- Closed examples of status tables.
+-- Closed examples of status tables, and of what is obvious.
 use Rattle.std.proofs.Common.{◌≡◌, [], ◌∷◌, refl, Some, None}
 use Rattle.std.specs.Prelude.{codes}
+use Rattle.std.specs.Fmt.{digits}
 use Rattle.bk_scripts.specs.declared.state.State.TheVariants.{Obvious, Proved, NoScript, BadStep}
 use Rattle.bk_status.specs.declared.table.Row.{Row}
 use Rattle.bk_status.specs.Rows.{first_open}
+use Rattle.bk_status.specs.Examples.{TallyNeeds, StepperNeeds}
 
 abbrev needs_none : Row
 needs_none = record { name = codes "Counter.get.1"; state = Obvious }
@@ -29,3 +31,12 @@ all_settled = refl
 
 no_rows : first_open [] ≡ None
 no_rows = refl
+
+-- ---- obligations
+pub tally_needs : TallyNeeds
+unfolding digits
+tally_needs = refl
+
+pub stepper_needs : StepperNeeds
+unfolding digits
+stepper_needs = refl

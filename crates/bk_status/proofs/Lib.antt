@@ -1,4 +1,5 @@
-mod Examples
+pub mod Examples
+pub mod Obviousness
 pub mod Tables
 pub mod OneTable
 pub mod Within

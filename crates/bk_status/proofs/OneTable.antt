@@ -4,7 +4,8 @@ use Rattle.std.specs.List.{AllZip}
 use Rattle.bk_dev.specs.Development.{Development}
 use Rattle.bk_dev.specs.Facts.{Each}
 use Rattle.bk_dev.specs.Flattened.{flattened}
-use Rattle.bk_po.specs.Obligations.{Sequent, numbered_obligations}
+use Rattle.bk_seq.specs.Sequents.{Sequent}
+use Rattle.bk_po.specs.Obligations.{numbered_obligations}
 use Rattle.bk_scripts.specs.WrittenRule.{Script}
 use Rattle.bk_scripts.specs.States.{IsState}
 use Rattle.bk_scripts.specs.declared.state.State.{State}

@@ -3,14 +3,14 @@ use Rattle.std.proofs.Common.{◌≡◌, ℕ, List, false, sym, subst}
 use Rattle.std.specs.List.{IsAmong, AllZip}
 use Rattle.bk_dev.specs.Development.{Development}
 use Rattle.bk_dev.specs.Flattened.{flattened}
-use Rattle.bk_kernel.specs.Sequents.{Sequent}
+use Rattle.bk_seq.specs.Sequents.{Sequent}
 use Rattle.bk_kernel.specs.Obvious.{is_obvious}
 use Rattle.bk_kernel.specs.declared.replaying.Verdict.{Verdict}
 use Rattle.bk_kernel.specs.declared.replaying.Verdict.TheVariants.{Closed, BadStep as BadAt, Open as LeftOpen, Extra as LeftOver}
 use Rattle.bk_po.specs.Obligations.{numbered_obligations}
 use Rattle.bk_po.specs.Basic.{IsBasic}
 use Rattle.bk_po.proofs.Basics.{basic_have_no_par}
-use Rattle.bk_sim.proofs.Flat.{flattened_already}
+use Rattle.bk_dev.proofs.Flat.{flattened_already}
 use Rattle.bk_scripts.specs.WrittenRule.{Script}
 use Rattle.bk_scripts.specs.States.{HasVerdict, state_of, IsState}
 use Rattle.bk_scripts.specs.declared.state.State.{State}

@@ -4,19 +4,19 @@ use Rattle.std.specs.List.{AllZip}
 use Rattle.bk_dev.specs.Development.{Development}
 use Rattle.bk_dev.specs.Facts.{Each}
 use Rattle.bk_dev.specs.Flattened.{flattened}
-use Rattle.bk_po.specs.Obligations.{Sequent, numbered_obligations}
-use Rattle.bk_po.specs.Obvious.{IsShown, HasShownObligations}
+use Rattle.bk_seq.specs.Sequents.{Sequent}
+use Rattle.bk_po.specs.Obligations.{numbered_obligations}
+use Rattle.bk_status.specs.Obvious.{IsShown, HasShownObligations}
 use Rattle.bk_po.proofs.Splitting.{each-so}
-use Rattle.bk_po.proofs.Obviousness.{shown_obligations_are_valid}
+use Rattle.bk_status.proofs.Obviousness.{shown_obligations_are_valid}
 use Rattle.bk_po.proofs.Carrying.{valid_obligations_carry}
-use Rattle.bk_po.proofs.Following.{valid_obligations_follow}
 use Rattle.bk_scripts.specs.WrittenRule.{Script}
 use Rattle.bk_scripts.specs.States.{IsState}
 use Rattle.bk_scripts.specs.declared.state.State.{State}
 use Rattle.bk_scripts.specs.declared.state.State.TheVariants.{Obvious, Proved, NoScript, BadStep, Open, Extra}
 use Rattle.bk_status.specs.declared.table.Row.{Row}
 use Rattle.bk_status.specs.Rows.{IsRowOf, is_settled, first_open, IsProved, AreProved}
-use Rattle.bk_status.specs.Laws.{ClosedTablesProve, ProvedObligationsAreValid, ProvedDevelopmentsAreCorrect, ProvedDevelopmentsFollow}
+use Rattle.bk_status.specs.Laws.{ClosedTablesProve, ProvedObligationsAreValid, ProvedDevelopmentsAreCorrect}
 
 module _ (dev : Development) (scripts : List Script) where
   by-state : (o : List ℕ × Sequent) (row : Row) (rest : Option Row) (s : State) → IsState (flattened dev) scripts o.0 o.1 s → cond (not (is_settled s)) (Some row) rest ≡ None → IsProved dev scripts o × (rest ≡ None)
@@ -49,6 +49,3 @@ proved_obligations_are_valid dev scripts f basic h = shown_obligations_are_valid
 
 pub proved_developments_are_correct : ProvedDevelopmentsAreCorrect
 proved_developments_are_correct find law dev scripts f plain h = valid_obligations_carry find law dev f plain (proved_obligations_are_valid dev scripts f plain.basic h)
-
-pub proved_developments_follow : ProvedDevelopmentsFollow
-proved_developments_follow find law dev scripts f simple plain h = valid_obligations_follow find law dev f simple plain (proved_obligations_are_valid dev scripts f plain.basic h)

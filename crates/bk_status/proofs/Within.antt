@@ -9,13 +9,13 @@ use Rattle.bk_wp.proofs.Growth.{within_left, within_right}
 use Rattle.bk_dev.specs.Development.{Development}
 use Rattle.bk_dev.specs.Facts.{Each, IsDevelopment}
 use Rattle.bk_dev.specs.Hypotheses.{conjuncts}
-use Rattle.bk_kernel.specs.Sequents.{Types, IsWithin, Each as EachOf}
-use Rattle.bk_po.specs.Obligations.{Obligation, Sequent, split, numbered_from, obligations, numbered_obligations}
+use Rattle.bk_seq.specs.Sequents.{Types, IsWithin, Each as EachOf, Sequent}
+use Rattle.bk_po.specs.Obligations.{Obligation, split, numbered_from, obligations, numbered_obligations}
 use Rattle.bk_po.specs.Limits.{nodes_of, height_of, is_too_large, first_too_large, PassNoLimit}
 use Rattle.bk_po.specs.Basic.{IsBasic}
 use Rattle.bk_po.proofs.Lists.{append-each, flat-each}
-use Rattle.bk_po.proofs.Obviousness.{obligations_type}
-use Rattle.bk_sim.proofs.Flat.{flattened_already}
+use Rattle.bk_po.proofs.TypedSequents.{obligations_type}
+use Rattle.bk_dev.proofs.Flat.{flattened_already}
 use Rattle.bk_po.proofs.Basics.{basic_have_no_par}
 use Rattle.bk_dev.specs.Flattened.{flattened}
 use Rattle.bk_status.specs.Replayable.{IsReplayable}

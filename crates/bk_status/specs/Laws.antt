@@ -4,9 +4,6 @@ use Rattle.std.specs.List.{AllPairs}
 use Rattle.bk_form.specs.Search.{Finder, IsSearch}
 use Rattle.bk_dev.specs.Development.{Development}
 use Rattle.bk_dev.specs.Facts.{IsDevelopment}
-use Rattle.bk_gen.specs.Simple.{IsSimple}
-use Rattle.bk_gen.specs.Translation.{translation}
-use Rattle.bk_sim.specs.Follows.{Follows}
 use Rattle.bk_po.specs.Obligations.{HasValidObligations}
 use Rattle.bk_po.specs.Basic.{IsBasic}
 use Rattle.bk_po.specs.Plain.{IsPlain}
@@ -14,6 +11,7 @@ use Rattle.bk_po.specs.Laws.{IsCorrect}
 use Rattle.bk_scripts.specs.WrittenRule.{Script}
 use Rattle.bk_status.specs.declared.table.Row.{Row}
 use Rattle.bk_status.specs.Rows.{HasRows, first_open, AreProved}
+use Rattle.bk_status.specs.Obvious.{HasObviousObligations, HasShownObligations}
 
 -- no two scripts have one name
 abbrev pub AreNamedApart : List Script → Type 0
@@ -35,6 +33,14 @@ ProvedTablesAreClosed =
     (dev : Development) (scripts : List Script) (rows : List Row) → AreNamedApart scripts → HasRows dev scripts rows →
     AreProved dev scripts → first_open rows ≡ None
 
+-- where each obligation of a basic development is obvious or derived by rules, each is valid
+abbrev pub ShownObligationsAreValid : Type 0
+ShownObligationsAreValid = (dev : Development) → IsDevelopment dev → IsBasic dev → HasShownObligations dev → HasValidObligations dev
+
+-- where every obligation is obvious, every obligation is valid
+abbrev pub ObviousObligationsAreValid : Type 0
+ObviousObligationsAreValid = (dev : Development) → IsDevelopment dev → IsBasic dev → HasObviousObligations dev → HasValidObligations dev
+
 -- where each obligation of a basic development is obvious or has a replayed proof, each is valid
 abbrev pub ProvedObligationsAreValid : Type 0
 ProvedObligationsAreValid = (dev : Development) (scripts : List Script) → IsDevelopment dev → IsBasic dev → AreProved dev scripts → HasValidObligations dev
@@ -42,9 +48,3 @@ ProvedObligationsAreValid = (dev : Development) (scripts : List Script) → IsDe
 -- so that a plain development is correct
 abbrev pub ProvedDevelopmentsAreCorrect : Type 0
 ProvedDevelopmentsAreCorrect = (find : Finder) → IsSearch find → (dev : Development) (scripts : List Script) → IsDevelopment dev → IsPlain dev → AreProved dev scripts → IsCorrect find dev
-
--- and the translation of its implementation follows the machine
-abbrev pub ProvedDevelopmentsFollow : Type 0
-ProvedDevelopmentsFollow =
-    (find : Finder) → IsSearch find → (dev : Development) (scripts : List Script) → IsDevelopment dev → IsSimple dev → IsPlain dev →
-    AreProved dev scripts → Follows find dev (translation dev)

@@ -2,7 +2,7 @@
 use Rattle.std.specs.Prelude.{◌≡◌, List}
 use Rattle.bk_form.specs.Table.{Table}
 use Rattle.bk_dev.specs.Development.{Development}
-use Rattle.bk_kernel.specs.Sequents.{Sequent, Types, IsWithin}
+use Rattle.bk_seq.specs.Sequents.{Sequent, Types, IsWithin}
 use Rattle.bk_kernel.specs.Derivations.{IsVerdict}
 use Rattle.bk_kernel.specs.declared.rule.Rule.{Rule}
 use Rattle.bk_kernel.specs.declared.replaying.Verdict.{Verdict}

@@ -4,7 +4,8 @@ use Rattle.std.specs.List.{AllZip}
 use Rattle.bk_dev.specs.Development.{Development}
 use Rattle.bk_dev.specs.Facts.{Each}
 use Rattle.bk_dev.specs.Flattened.{flattened}
-use Rattle.bk_po.specs.Obligations.{Sequent, numbered_obligations}
+use Rattle.bk_seq.specs.Sequents.{Sequent}
+use Rattle.bk_po.specs.Obligations.{numbered_obligations}
 use Rattle.bk_scripts.specs.WrittenRule.{Script}
 use Rattle.bk_scripts.specs.States.{IsState}
 use Rattle.bk_scripts.specs.declared.state.State.{State}
@@ -21,6 +22,7 @@ abbrev pub HasRows : Development → List Script → List Row → Type 0
 HasRows dev scripts rows = AllZip (IsRowOf (flattened dev) scripts) (numbered_obligations dev) rows
 
 -- ---- rows that need no more work
+-- the obligation is obvious or proved
 abbrev pub is_settled : State → Bool
 is_settled Obvious = true
 is_settled Proved = true

@@ -1,6 +1,7 @@
 //! What status tables are worth. Each law is the contract of a function that does nothing.
 
-ghost use Rattle.bk_status.specs.Laws.{TablesAreOne, ClosedTablesProve, ProvedTablesAreClosed, ProvedObligationsAreValid, ProvedDevelopmentsAreCorrect, ProvedDevelopmentsFollow};
+ghost use Rattle.bk_status.specs.Examples.{TallyNeeds, StepperNeeds};
+ghost use Rattle.bk_status.specs.Laws.{TablesAreOne, ClosedTablesProve, ProvedTablesAreClosed, ShownObligationsAreValid, ObviousObligationsAreValid, ProvedObligationsAreValid, ProvedDevelopmentsAreCorrect};
 
 /// A development has one table at most, over scripts of which no two have one name.
 pub fn tables_are_one()
@@ -17,10 +18,18 @@ pub fn proved_tables_are_closed()
     ensures { ProvedTablesAreClosed }
 {}
 
-/// Where each obligation is obvious or has a replayed proof, each is valid, the machine keeps its invariant, each level
-/// carries the one above, and translated code follows the machine.
+/// Where each obligation is obvious or derived by rules, as where it has a replayed proof, each is valid, the machine
+/// keeps its invariant, and each level carries the one above.
 pub fn proved_obligations()
+    ensures shown { ShownObligationsAreValid }
+    ensures obvious { ObviousObligationsAreValid }
     ensures valid { ProvedObligationsAreValid }
     ensures correct { ProvedDevelopmentsAreCorrect }
-    ensures follow { ProvedDevelopmentsFollow }
+{}
+
+/// Which obligations need a proof: those of an adder, which has an input and a precondition, and of a stepper, which has
+/// an IF.
+pub fn examples()
+    ensures tally { TallyNeeds }
+    ensures stepper { StepperNeeds }
 {}

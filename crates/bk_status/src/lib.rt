@@ -7,8 +7,3 @@ pub mod table;
 
 pub use bk_scripts::State;
 pub use table::{Row, Table, status};
-
-#[cfg(test)]
-mod stepper;
-#[cfg(test)]
-mod tests;

@@ -2,7 +2,7 @@
 
 ghost use Rattle.std.specs.Prelude.{◌≡◌, ◌≢◌, All, IfOk, MatchOption};
 ghost use Rattle.std.specs.List.{IsAmong};
-ghost use Rattle.bk_kernel.specs.Sequents.{sequent_of};
+ghost use Rattle.bk_seq.specs.Sequents.{sequent_of};
 ghost use Rattle.bk_scripts.specs.States as meant;
 ghost use Rattle.bk_scripts.specs.States.{IsState};
 ghost use Rattle.bk_status.specs.Replayable.{IsReplayable, IsOutcome};
@@ -36,7 +36,8 @@ pub(crate) fn state(
 
 // The first script with the name.
 fn script_named<'a>(scripts: &'a [Script], name: &Text) -> Option<&'a Script>
-    ensures { MatchOption result (All (λ script. script.name ≢ name.now) scripts.now) (λ script. IsAmong scripts.now script.now × (script.now.name ≡ name.now)) }
+    ensures { MatchOption result (All (λ script. script.name ≢ name.now) scripts.now)
+        (λ script. IsAmong scripts.now script.now × (script.now.name ≡ name.now)) }
 {
     scripts.iter().find(|script| script.name.equal(name))
 }

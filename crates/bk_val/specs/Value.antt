@@ -123,6 +123,7 @@ list_weight (x ∷ xs) = weight x + list_weight xs + 1
 
 -- ---- the code of a value, by which a proof tells values apart
 abbrev mutual
+  -- each kind of value begins with a number of its own, and its parts follow
   pub code_of : MathValue → Gv
   code_of (int z) = gcons (gnum 0) (coded_ℤ.code z)
   code_of (bool b) = gcons (gnum 1) (coded_bool.code b)
@@ -130,11 +131,13 @@ abbrev mutual
   code_of (pair a b) = gcons (gnum 3) (gcons (code_of a) (code_of b))
   code_of (set s) = gcons (gnum 4) (codes_of s)
 
+  -- the codes of a set's elements, one after another
   pub codes_of : MathValues → Gv
   codes_of none = gnil
   codes_of (more x xs) = gcons (code_of x) (codes_of xs)
 
 mutual
+  -- values with one code are the same
   pub code_of-inj : (x y : MathValue) → code_of x ≡ code_of y → x ≡ y
   code_of-inj (int a) (int b) e = let p : coded_ℤ.code a ≡ coded_ℤ.code b = cc in ap int (coded_ℤ.inj a b p)
   code_of-inj (bool a) (bool b) e = let p : coded_bool.code a ≡ coded_bool.code b = cc in ap bool (coded_bool.inj a b p)
@@ -148,6 +151,7 @@ mutual
       ap set (codes_of-inj s t p)
   code_of-inj _ _ e = cc
 
+  -- lists of elements with one code are the same
   pub codes_of-inj : (x y : MathValues) → codes_of x ≡ codes_of y → x ≡ y
   codes_of-inj none none e = refl
   codes_of-inj (more x xs) (more y ys) e =

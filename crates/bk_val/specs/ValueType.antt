@@ -51,6 +51,7 @@ type_size (pair_type s t) = type_size s + type_size t + 1
 type_size (set_type t) = type_size t + 1
 
 -- ---- the code of a type, by which a proof tells types apart
+-- each kind of type is a tree of another shape, with its parts inside
 abbrev pub type_code : ValueType → Gv
 type_code int_type = gnil
 type_code bool_type = gnum 0
@@ -58,6 +59,7 @@ type_code (enum_type n) = gcons gnil (gnum n)
 type_code (pair_type s t) = gcons (gnum 0) (gcons (type_code s) (type_code t))
 type_code (set_type t) = gcons (gnum 1) (type_code t)
 
+-- the type that has this code; what it gives for other trees does not matter
 abbrev pub type_back : Gv → ValueType
 type_back gnil = int_type
 type_back (gnum n) = bool_type
@@ -66,6 +68,7 @@ type_back (gcons (gnum zero) (gcons s t)) = pair_type (type_back s) (type_back t
 type_back (gcons (gnum (suc n)) t) = set_type (type_back t)
 type_back _ = int_type
 
+-- the code of a type gives the type back
 pub type_back-code : (t : ValueType) → type_back (type_code t) ≡ t
 type_back-code int_type = refl
 type_back-code bool_type = refl
@@ -73,5 +76,6 @@ type_back-code (enum_type n) = refl
 type_back-code (pair_type s t) = λ i. pair_type (type_back-code s i) (type_back-code t i)
 type_back-code (set_type t) = λ i. set_type (type_back-code t i)
 
+-- a type is told by its code
 abbrev pub coded_type : Coded ValueType
 coded_type = record { code = type_code; inj = λ s t e. sym (type_back-code s) ∙ ap type_back e ∙ type_back-code t }

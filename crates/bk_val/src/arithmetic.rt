@@ -6,7 +6,7 @@ ghost use Rattle.std.specs.Result.{OkIff};
 ghost use Rattle.bk_val.specs.Number.{number_of, quotient_of, remainder_of, power_of};
 
 /// An operator on two whole numbers.
-#[derive(Clone, Copy, Debug, PartialEq, Eq)]
+#[derive(Clone, Copy)]
 pub enum NumOp {
     Add,
     Sub,

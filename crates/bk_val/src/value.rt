@@ -16,14 +16,14 @@ use std::marker::Model;
 /// A value of set theory: its numbers lie in `i128`, and each set in it is sorted, at every depth. Clauses
 /// see the mathematical value. Match on `&value.node`; the constructors make one of its parts.
 #[cycle(val)]
-#[derive(Debug, Drop)]
+#[derive(Drop)]
 pub struct Val {
     pub node: Node,
 }
 
 /// What a value is, with its parts.
 #[cycle(val)]
-#[derive(Debug, Drop)]
+#[derive(Drop)]
 pub enum Node {
     /// A whole number.
     Int(i128),
@@ -39,7 +39,7 @@ pub enum Node {
 
 /// A finite set of values. Clauses see the list of its elements in rising order.
 #[cycle(val)]
-#[derive(Debug, Drop)]
+#[derive(Drop)]
 pub struct ValSet {
     pub(crate) items: Vec<Val>,
 }

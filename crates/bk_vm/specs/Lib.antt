@@ -2,5 +2,4 @@ pub mod State
 pub mod Ends
 pub mod Flows
 pub mod Depth
-pub mod Places
 pub mod Sessions

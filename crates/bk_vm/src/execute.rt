@@ -13,7 +13,7 @@ use crate::stack::Stack;
 use bk_code::{Image, Inst, Trap};
 
 /// Where control goes after an instruction.
-#[derive(Clone, Copy, Debug)]
+#[derive(Clone, Copy)]
 pub enum Flow {
     Next(usize),
     Return,
@@ -47,7 +47,8 @@ fn take_two(stack: &mut Stack) -> (i64, i64)
 fn settle(place: usize, stack: &mut Stack, answer: Result<i64, Trap>) -> Flow
     requires place { place < 2 ^ 32 }
     requires room { length stack.old < 1000 }
-    ensures outcome { (cells : List ℤ) → outcome_of result stack.new cells ≡ table.calculated (place + 1) stack.old cells answer }
+    ensures outcome { (cells : List ℤ) →
+        outcome_of result stack.new cells ≡ table.calculated (place + 1) stack.old cells answer }
 {
     match answer {
         Ok(number) => {
@@ -65,7 +66,8 @@ fn compute(inst: Inst, place: usize, stack: &mut Stack) -> Flow
     requires enough { pops inst ≤ length stack.old }
     requires room { length stack.old ≤ 1000 }
     requires range { All IsInRange stack.old }
-    ensures outcome { (cells : List ℤ) → outcome_of result stack.new cells ≡ table.row (pos 2147483647) inst place stack.old cells }
+    ensures outcome { (cells : List ℤ) →
+        outcome_of result stack.new cells ≡ table.row (pos 2147483647) inst place stack.old cells }
 {
     match inst {
         Inst::Neg => {
@@ -116,7 +118,8 @@ fn compute(inst: Inst, place: usize, stack: &mut Stack) -> Flow
 fn element(base: u32, low: i64, count: u32, index: i64) -> Option<usize>
     requires low { IsInRange low }
     requires index { IsInRange index }
-    ensures cell { result ≡ (if table.is_index low count index then Some (table.element_cell base low index) else None) }
+    ensures cell { result ≡
+        (if table.is_index low count index then Some (table.element_cell base low index) else None) }
     ensures within { IfSome result (λ cell. cell < base + count) }
 {
     let offset = index - low;
@@ -151,7 +154,8 @@ fn load_element(
     requires range { All IsInRange stack.old }
     requires low { IsInRange low }
     requires array { base + count ≤ length cells.now }
-    ensures outcome { outcome_of result stack.new cells.now ≡ table.row (pos 2147483647) (Inst.ALoad base low count) place stack.old cells.now }
+    ensures outcome { outcome_of result stack.new cells.now ≡
+        table.row (pos 2147483647) (Inst.ALoad base low count) place stack.old cells.now }
 {
     let index = take_one(stack);
     match element(base, low, count, index) {
@@ -174,7 +178,8 @@ fn store_element(
     requires range { All IsInRange stack.old }
     requires low { IsInRange low }
     requires array { base + count ≤ length cells.old }
-    ensures outcome { outcome_of result stack.new cells.new ≡ table.row (pos 2147483647) (Inst.AStore base low count) place stack.old cells.old }
+    ensures outcome { outcome_of result stack.new cells.new ≡
+        table.row (pos 2147483647) (Inst.AStore base low count) place stack.old cells.old }
     ensures kept { KeepsAtEnd result cells.old cells.new }
 {
     let (index, number) = take_two(stack);
@@ -191,7 +196,8 @@ fn store_element(
 fn execute(image: &Image, inst: Inst, place: usize, stack: &mut Stack, cells: &mut [i64]) -> Flow
     requires place { place < 2 ^ 32 }
     requires executable { IsExecutable image.now place inst stack.old cells.old }
-    ensures outcome { outcome_of result stack.new cells.new ≡ table.row (int_max image.now) inst place stack.old cells.old }
+    ensures outcome { outcome_of result stack.new cells.new ≡
+        table.row (int_max image.now) inst place stack.old cells.old }
     ensures kept { KeepsAtEnd result cells.old cells.new }
 {
     match inst {
@@ -219,7 +225,8 @@ fn execute(image: &Image, inst: Inst, place: usize, stack: &mut Stack, cells: &m
 // One step of the code from a place.
 fn step(image: &Image, place: usize, stack: &mut Stack, cells: &mut [i64]) -> Flow
     requires ready { IsReady image.now (standing place stack.old cells.old) }
-    ensures outcome { outcome_of result stack.new cells.new ≡ table.step image.now (standing place stack.old cells.old) }
+    ensures outcome { outcome_of result stack.new cells.new ≡
+        table.step image.now (standing place stack.old cells.old) }
     ensures kept { KeepsAtEnd result cells.old cells.new }
     ensures ready { IsReadyAfter image.now result stack.new cells.new }
 {

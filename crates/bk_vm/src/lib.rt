@@ -12,8 +12,3 @@ mod stack;
 pub use end::CallEnd;
 pub use laws::calls_make_a_session;
 pub use machine::Machine;
-
-#[cfg(test)]
-mod checker;
-#[cfg(test)]
-mod tests;

@@ -15,7 +15,7 @@ use std::alloc::Global;
 use std::marker::Model;
 
 /// A machine that runs the code of one image. Its cells stay as they are between calls. Only `new` takes memory.
-#[derive(Debug, Drop)]
+#[derive(Drop)]
 pub struct Machine {
     image: Image,
     cells: Vec<i64>,

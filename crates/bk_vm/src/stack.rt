@@ -10,7 +10,7 @@ use std::marker::Model;
 const ROOM: usize = 1000;
 
 /// A stack of numbers, seen with its top first.
-#[derive(Debug, Drop)]
+#[derive(Drop)]
 pub struct Stack {
     numbers: Vec<i64>,
     depth: usize,

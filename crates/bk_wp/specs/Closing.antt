@@ -25,6 +25,7 @@ abbrev mutual
   closed_over z k (comprehension rs p) = comprehension (all_closed_over z k rs) (closed_over z (count rs + k) p)
   closed_over z k (lambda rs p v) = lambda (all_closed_over z k rs) (closed_over z (count rs + k) p) (closed_over z (count rs + k) v)
 
+  -- the same in each of these formulas
   pub all_closed_over : ℕ → ℕ → Formulas → Formulas
   all_closed_over z k no_formulas = no_formulas
   all_closed_over z k (formula_and f fs) = formula_and (closed_over z k f) (all_closed_over z k fs)

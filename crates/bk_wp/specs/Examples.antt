@@ -72,8 +72,10 @@ counting_up =
     (for_each_n (binary Imp (going (bound 0)) (binary Lt (left_to_ten (one_more (bound 0))) (left_to_ten (bound 0))))))
     (for_each_n (binary Imp (binary And (up_to_ten (bound 0)) (unary Not (binary Lt (bound 0) (num 10)))) (binary Eq (bound 0) (num 10))))
 
+-- the examples come out so over every table
 abbrev pub EachTable : Type 0
 EachTable = (table : Table) → Examples table
 
+-- the box of that loop for n = 10 is the formula of five parts
 abbrev pub CountsUp : Type 0
 CountsUp = box table_of_n count_up (binary Eq (variable 0) (num 10)) ≡ counting_up

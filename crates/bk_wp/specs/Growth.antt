@@ -11,8 +11,10 @@ pub record IsNoSmaller (f g : Formula) : Type 0 where
   pub nodes : formula_size g ≤ formula_size f
   pub height : formula_height g ≤ formula_height f
 
+-- [S]R is no smaller than R, where S has no binder
 abbrev pub BoxIsNoSmaller : Type 0
 BoxIsNoSmaller = (table : Table) (s : Substitution) → HasNoBinder s → (r : Formula) → IsNoSmaller (box table s r) r
 
+-- <S>R is no smaller than R, where S has no binder
 abbrev pub DiamondIsNoSmaller : Type 0
 DiamondIsNoSmaller = (table : Table) (s : Substitution) → HasNoBinder s → (r : Formula) → IsNoSmaller (diamond table s r) r

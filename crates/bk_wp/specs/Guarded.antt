@@ -62,6 +62,7 @@ box_where table s btrue = btrue
 box_where table s q = box table s q
 
 -- ---- substitutions without binders
+-- what S is asked as a predicate on the state before it; it stands beside the box, and is btrue where nothing is asked
 abbrev pub guarded : Table → Option ArrayTable → Substitution → Formula
 guarded table arrays skip = btrue
 guarded table arrays (assign ps) = evaluated_onto arrays btrue ps
@@ -81,6 +82,7 @@ IsTotalUnary Min = ⊥
 IsTotalUnary Max = ⊥
 IsTotalUnary _ = Unit {0}
 
+-- the same of an operator on two formulas: any but /, mod, ** and f(x)
 abbrev pub IsTotalBinary : BinOp → Type 0
 IsTotalBinary Div = ⊥
 IsTotalBinary Mod = ⊥
@@ -98,6 +100,7 @@ IsTotal (comprehension rs p) = ⊥
 IsTotal (lambda rs p v) = ⊥
 IsTotal _ = Unit {0}
 
+-- each term of an assignment is made so
 abbrev pub AreTotal : List (ℕ × Formula) → Type 0
 AreTotal [] = Unit {0}
 AreTotal (p ∷ ps) = IsTotal p.1 × AreTotal ps

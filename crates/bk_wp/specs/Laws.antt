@@ -24,7 +24,7 @@ AllMeet find table s r e = Ends find table s e × ((f : State) → Runs find tab
 abbrev pub SomeMeets : Finder → Table → Substitution → Formula → State → Type 0
 SomeMeets find table s r e = (Ends find table s e → ⊥) ⊎ ((f : State) × Runs find table s e f × (holds find table f r ≡ true))
 
--- [S]R is true exactly where S ends and all its results meet R; here in every state, and for every search
+-- [S]R is true exactly where S ends and all its results meet R; here in every state, and for every finder, a search or not
 abbrev pub BoxWithoutBinders : Type 0
 BoxWithoutBinders = (find : Finder) (table : Table) (s : Substitution) → HasNoBinder s → Types table s → (r : Formula) (e : State) → (holds find table e (box table s r) ≡ true) ↔ AllMeet find table s r e
 

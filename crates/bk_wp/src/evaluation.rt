@@ -29,7 +29,8 @@ pub fn guarded(
     requires no_arrays { HasNoArrays (option_copied arrays) }
     ensures value { IfOk result (λ f. f ≡ guarded types.now (option_copied arrays.entry) sub.now) }
     ensures within { OnOk result (IsWithinLimits (guarded types.now (option_copied arrays.entry) sub.now)) }
-    ensures too_large { result ≡ Err TooLarge → IsWithinLimits (guarded types.now (option_copied arrays.entry) sub.now) → ⊥ }
+    ensures too_large { result ≡ Err TooLarge →
+        IsWithinLimits (guarded types.now (option_copied arrays.entry) sub.now) → ⊥ }
 {
     Ok(bounded(conditions(alloc, types, sub, arrays)?)?)
 }
@@ -44,7 +45,8 @@ fn conditions(
 ) -> Result<Form, WpFault>
     requires { HasTotal sub.now }
     ensures value { IfOk result (λ f. f ≡ guarded types.now (option_copied arrays.entry) sub.now) }
-    ensures too_large { result ≡ Err TooLarge → IsWithinLimits (guarded types.now (option_copied arrays.entry) sub.now) → ⊥ }
+    ensures too_large { result ≡ Err TooLarge →
+        IsWithinLimits (guarded types.now (option_copied arrays.entry) sub.now) → ⊥ }
 {
     match &sub.node {
         SubNode::Assign(terms) => evaluated_terms(alloc, arrays, terms),
@@ -80,7 +82,8 @@ fn evaluated_terms(
     terms: &[(u32, Form)],
 ) -> Result<Form, WpFault>
     ensures value { IfOk result (λ f. f ≡ evaluated_onto (option_copied arrays.entry) btrue terms.now) }
-    ensures too_large { result ≡ Err TooLarge → IsWithinLimits (evaluated_onto (option_copied arrays.entry) btrue terms.now) → ⊥ }
+    ensures too_large { result ≡ Err TooLarge →
+        IsWithinLimits (evaluated_onto (option_copied arrays.entry) btrue terms.now) → ⊥ }
 {
     let mut so_far = Form::make(alloc, Part::True)?;
     for (_, term) in terms {
@@ -129,7 +132,8 @@ fn operation_checked(
     second: Form,
 ) -> Result<Form, WpFault>
     ensures value { IfOk result (λ f. f ≡ binary_check arrays.now.max op left.now right.now first second) }
-    ensures too_large { result ≡ Err TooLarge → IsWithinLimits (binary_check arrays.now.max op left.now right.now first second) → ⊥ }
+    ensures too_large { result ≡ Err TooLarge →
+        IsWithinLimits (binary_check arrays.now.max op left.now right.now first second) → ⊥ }
 {
     match op {
         BinOp::And | BinOp::Imp => both(alloc, first, where_true(alloc, left, second)?),

@@ -4,8 +4,6 @@
 pub mod error;
 pub mod evaluation;
 pub mod laws;
-#[cfg(test)]
-mod tests;
 pub mod weakest;
 
 pub use error::WpFault;

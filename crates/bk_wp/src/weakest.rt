@@ -99,9 +99,12 @@ fn by_test(
     yes: Form,
     no: Form,
 ) -> Result<Form, WpFault>
-    ensures value { IfOk result (λ f. f ≡ binary outer (binary inner test.now yes) (binary inner (unary Not test.now) no)) }
-    ensures within { OnOk result (IsWithinLimits (binary outer (binary inner test.now yes) (binary inner (unary Not test.now) no))) }
-    ensures too_large { result ≡ Err TooLarge → IsWithinLimits (binary outer (binary inner test.now yes) (binary inner (unary Not test.now) no)) → ⊥ }
+    ensures value { IfOk result
+        (λ f. f ≡ binary outer (binary inner test.now yes) (binary inner (unary Not test.now) no)) }
+    ensures within { OnOk result (IsWithinLimits
+        (binary outer (binary inner test.now yes) (binary inner (unary Not test.now) no))) }
+    ensures too_large { result ≡ Err TooLarge →
+        IsWithinLimits (binary outer (binary inner test.now yes) (binary inner (unary Not test.now) no)) → ⊥ }
 {
     let negated = unary(alloc, UnOp::Not, test.copy(alloc)?)?;
     let no = binary(alloc, inner, negated, no)?;

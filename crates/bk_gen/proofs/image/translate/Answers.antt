@@ -1,7 +1,8 @@
 use Rattle.std.proofs.Common.{◌≡◌, length, sym, ◌∙◌, arith, subst}
 use Rattle.bk_dev.specs.Layout.{cell_count}
 use Rattle.bk_gen.specs.Translation.{translation}
-use Rattle.bk_gen.proofs.Plain.{last_paired, code_size_is}
+use Rattle.bk_dev.proofs.Levels.{last_paired}
+use Rattle.bk_gen.proofs.Plain.{code_size_is}
 use Rattle.bk_gen.proofs.Images.{image_is, translation_loadable, code_size_from, cell_count_from}
 use Rattle.bk_code.specs.Checks.{IsLoadable}
 use Rattle.bk_gen.proofs.image.translate.Goals as goal

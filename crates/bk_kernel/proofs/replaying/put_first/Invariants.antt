@@ -1,5 +1,5 @@
 use Rattle.std.proofs.Common.{◌≡◌, ◌++◌, map, vec_len}
-use Rattle.bk_kernel.specs.Sequents.{sequent_of}
+use Rattle.bk_seq.specs.Sequents.{sequent_of}
 use Rattle.bk_kernel.specs.Standing.{in_order}
 use Rattle.bk_kernel.proofs.replaying.put_first.Given as goal
 

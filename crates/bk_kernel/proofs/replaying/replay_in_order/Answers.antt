@@ -1,5 +1,5 @@
 use Rattle.std.proofs.Common.{length, Err, sym, ◌∙◌, ap, subst}
-use Rattle.bk_kernel.specs.Sequents.{sequent_of}
+use Rattle.bk_seq.specs.Sequents.{sequent_of}
 use Rattle.bk_kernel.specs.Derivations.{IsVerdict}
 use Rattle.bk_kernel.specs.Standing.{at_end}
 use Rattle.bk_kernel.proofs.Replayed.{Stands, advanced, failed, ended}

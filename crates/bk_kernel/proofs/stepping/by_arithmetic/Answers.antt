@@ -1,6 +1,6 @@
 use Rattle.std.proofs.Common.{◌≡◌, Err, false, ap, subst}
 use Rattle.bk_kernel.specs.declared.error.StepFault.TheVariants.{NoInstance}
-use Rattle.bk_kernel.specs.Sequents.{sequent_of}
+use Rattle.bk_seq.specs.Sequents.{sequent_of}
 use Rattle.bk_kernel.specs.Rules.{AreListed}
 use Rattle.bk_arith.specs.Decision.{is_accepted}
 use Rattle.bk_kernel.proofs.Listed.{not-accepted, fault-passed-on}

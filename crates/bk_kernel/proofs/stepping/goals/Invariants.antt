@@ -1,5 +1,5 @@
 use Rattle.std.proofs.Common.{◌≡◌, map, take}
-use Rattle.bk_kernel.specs.Sequents.{sequent_of}
+use Rattle.bk_seq.specs.Sequents.{sequent_of}
 use Rattle.bk_kernel.proofs.stepping.goals.Given as goal
 
 abbrev pub invariant-loop-goal : goal.invariant-loop-goal

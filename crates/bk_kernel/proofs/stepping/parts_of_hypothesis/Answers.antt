@@ -1,7 +1,7 @@
 use Rattle.std.proofs.Common.{sym, ◌∙◌, ap}
 use Rattle.std.specs.Prelude.{Some}
 use Rattle.bk_seq.specs.Paths.{numbered_item}
-use Rattle.bk_kernel.specs.Sequents.{sequent_of}
+use Rattle.bk_seq.specs.Sequents.{sequent_of}
 use Rattle.bk_kernel.proofs.Makings.{split-made}
 use Rattle.bk_kernel.proofs.stepping.parts_of_hypothesis.Goals as goal
 

@@ -1,4 +1,4 @@
-use Rattle.bk_kernel.specs.Sequents.{sequent_of}
+use Rattle.bk_seq.specs.Sequents.{sequent_of}
 use Rattle.bk_kernel.proofs.Makings.{steps}
 use Rattle.bk_kernel.proofs.stepping.step.Goals as goal
 

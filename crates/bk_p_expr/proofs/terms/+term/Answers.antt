@@ -3,7 +3,7 @@ use Rattle.bk_form.specs.declared.token.Token.{Token}
 use Rattle.bk_ops.specs.declared.sign.TheConstants.{COMMA, OPEN_PAREN}
 use Rattle.bk_raw.specs.RawTree.{RawTree, raw, raw_pair, raw_for_all, raw_typed_for_all, raw_exists, raw_typed_exists}
 use Rattle.bk_raw.specs.Operators.{binding}
-use Rattle.bk_raw.proofs.Reading.{begins_with, sign}
+use Rattle.bk_raw.specs.Reading.{begins_with, sign}
 use Rattle.bk_p_expr.specs.Found.{Finds, FindsNone, form_of, plain_form, sign_of, typed_form}
 use Rattle.bk_p_expr.specs.Parts.{at_byte, braces_of, bracketed_of, chain_of, comprehension_of, lambda_of, parentheses_of, primary_of, quantified_of, read_of, typed_empty_of}
 use Rattle.bk_p_expr.specs.Pieces.{IsPiece, around_node}

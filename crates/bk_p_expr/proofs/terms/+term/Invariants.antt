@@ -1,6 +1,6 @@
 use Rattle.std.proofs.Common.{◌≡◌, ◌+◌, ◌*◌, ◌≤◌, length}
 use Rattle.bk_raw.specs.RawTree.{RawTree}
-use Rattle.bk_raw.proofs.Reading.{start}
+use Rattle.bk_raw.specs.Reading.{start}
 use Rattle.bk_p_expr.specs.Found.{sign_of, form_of}
 use Rattle.bk_p_expr.specs.Pieces.{IsPiece}
 use Rattle.bk_p_expr.proofs.Operators.{LongestSoFar}

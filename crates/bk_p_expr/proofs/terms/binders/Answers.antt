@@ -1,7 +1,7 @@
 use Rattle.std.proofs.Common.{◌≡◌, Some}
 use Rattle.bk_ops.specs.declared.sign.TheConstants.{OPEN_PAREN}
 use Rattle.bk_form.specs.declared.token.Token.{Token}
-use Rattle.bk_raw.proofs.Reading.{sign}
+use Rattle.bk_raw.specs.Reading.{sign}
 use Rattle.bk_p_expr.specs.Found.{plain_form, typed_form}
 use Rattle.bk_p_expr.specs.Pieces.{around_node}
 use Rattle.bk_p_expr.proofs.Choices.{if_some, if_none}

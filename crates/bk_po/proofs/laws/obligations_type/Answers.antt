@@ -1,4 +1,4 @@
-use Rattle.bk_po.proofs.Obviousness.{obligations_type}
+use Rattle.bk_po.proofs.TypedSequents.{obligations_type}
 use Rattle.bk_po.proofs.laws.obligations_type.Goals as goal
 
 pub returns : goal.returns

@@ -1,7 +1,8 @@
 use Rattle.std.proofs.Common.{◌≡◌, suc, map, ◌++◌}
 use Rattle.std.specs.Vec.Iter.{into_iter_items}
 use Rattle.bk_po.specs.Obligations.{numbered_from}
-use Rattle.bk_po.specs.Shown.{sequent_of, named_sequent}
+use Rattle.bk_seq.specs.Sequents.{sequent_of}
+use Rattle.bk_po.specs.Shown.{named_sequent}
 use Rattle.bk_po.proofs.splits.add_numbered.Given as goal
 
 abbrev pub invariant-loop-index : goal.invariant-loop-index

@@ -1,6 +1,6 @@
 use Rattle.std.proofs.Common.{rules}
 use Rattle.bk_status.proofs.Outcomes.{outcome-state}
-use Rattle.bk_kernel.specs.Sequents.{sequent_of}
+use Rattle.bk_seq.specs.Sequents.{sequent_of}
 use Rattle.bk_status.proofs.replayed.state.Goals as goal
 
 pub returns-in_ok-outcome-in-Some : goal.returns-in_ok-outcome-in-Some

@@ -1,0 +1,164 @@
+-- Formulas turn only on the variables that stand in them, and substitutions change only those that they may write.
+use Rattle.std.proofs.Common.{◌≡◌, inl, inr, ℕ, List, [], ◌∷◌, ◌++◌, map, refl, sym, ◌∙◌, ap, subst, Bool, true, false, not, cond, ◌&&◌, ◌||◌, nat_eq}
+use Rattle.std.specs.List.{filter}
+use Rattle.bk_form.specs.Table.{Table}
+use Rattle.bk_form.specs.Formula.{Formula, variable, btrue, unary, binary, for_all, for_some, comprehension, lambda, Formulas, no_formulas, formula_and}
+use Rattle.bk_form.specs.Search.{Finder}
+use Rattle.bk_form.specs.Environment.{Environment, State, under}
+use Rattle.bk_form.specs.Role.{given_by}
+use Rattle.bk_form.specs.Table.{variable_type}
+use Rattle.bk_form.specs.Replacement.{occurs, any_occurs}
+use Rattle.bk_form.specs.Meaning.{Meaning, meaning, meanings, of_value, unary_meaning, binary_meaning, all_meaning, some_meaning, comprehension_meaning, lambda_meaning, range_types}
+use Rattle.bk_form.specs.Operators.{is_equal}
+use Rattle.bk_form.specs.Table.{set_size}
+use Rattle.bk_form.specs.declared.operator.BinOp.TheVariants.{And}
+use Rattle.bk_form.proofs.Members.{and-both}
+use Rattle.bk_gsl.specs.Substitution.{Substitution, skip, assign, pre, guard, choice, if_else, any, seq, par, assert, becomes_such, loop}
+use Rattle.bk_gsl.specs.State.{at_state, holds, among, firsts}
+use Rattle.bk_gsl.specs.Writes.{written}
+use Rattle.bk_gsl.specs.Run.{Runs}
+use Rattle.bk_gsl.proofs.States.{cases, clash, or-false, nat_eq-same, nat_eq-self, among-append}
+use Rattle.bk_gsl.proofs.Runs.{outside}
+use Rattle.bk_dev.specs.Development.{Level, Development}
+use Rattle.bk_dev.specs.Facts.{AllAre, AssignsIn, StaysIn, Names, Each, IsLink, names_joined, is_constant, is_variable_of, is_variable_above, home_of}
+use Rattle.bk_dev.specs.Hypotheses.{AreTrue, conjuncts, joining, link_equation}
+
+pub or-left : (a b : Bool) → a ≡ true → a || b ≡ true
+or-left true b h = refl
+or-left false b h = clash false h refl
+
+pub or-right : (a b : Bool) → b ≡ true → a || b ≡ true
+or-right true b h = refl
+or-right false b h = h
+
+pub both-true : (a b : Bool) → a ≡ true → b ≡ true → a && b ≡ true
+both-true true b h k = k
+both-true false b h k = clash false h refl
+
+pub both-false : (a b : Bool) → a ≡ false → b ≡ false → a || b ≡ false
+both-false true b h k = clash true refl h
+both-false false b h k = k
+
+-- ---- formulas
+module _ (find : Finder) (s : State) where
+  mutual
+    meaning-same : (e : Environment) (f : Formula) → ((n : ℕ) → occurs n f ≡ true → e.state n ≡ s n) → meaning find e f ≡ meaning find (record e { state = s }) f
+    meaning-same e (variable n) h = λ i. of_value (given_by (variable_type e.table n)) (h n (nat_eq-self n) i)
+    meaning-same e (unary o a) h = λ i. unary_meaning o (meaning-same e a h i)
+    meaning-same e (binary o a b) h = λ i. binary_meaning find (set_size e.table) o (meaning-same e a (λ n k. h n (or-left (occurs n a) (occurs n b) k)) i) (meaning-same e b (λ n k. h n (or-right (occurs n a) (occurs n b) k)) i)
+    meaning-same e (for_all ts p) h = λ i. all_meaning find e.table ts (λ vs. meaning-same (under e ts vs) p h i)
+    meaning-same e (for_some ts p) h = λ i. some_meaning find e.table ts (λ vs. meaning-same (under e ts vs) p h i)
+    meaning-same e (comprehension rs p) h =
+        let r = meanings-same e rs (λ n k. h n (or-left (any_occurs n rs) (occurs n p) k)) in
+        λ i. comprehension_meaning (r i) (λ vs. meaning-same (under e (range_types (r i)) vs) p (λ n k. h n (or-right (any_occurs n rs) (occurs n p) k)) i)
+    meaning-same e (lambda rs p v) h =
+        let r = meanings-same e rs (λ n k. h n (or-left (any_occurs n rs || occurs n p) (occurs n v) (or-left (any_occurs n rs) (occurs n p) k))) in
+        λ i. lambda_meaning (r i) (λ vs. meaning-same (under e (range_types (r i)) vs) p (λ n k. h n (or-left (any_occurs n rs || occurs n p) (occurs n v) (or-right (any_occurs n rs) (occurs n p) k))) i)
+        (λ vs. meaning-same (under e (range_types (r i)) vs) v (λ n k. h n (or-right (any_occurs n rs || occurs n p) (occurs n v) k)) i)
+    meaning-same e _ h = refl
+
+    meanings-same : (e : Environment) (fs : Formulas) → ((n : ℕ) → any_occurs n fs ≡ true → e.state n ≡ s n) → meanings find e fs ≡ meanings find (record e { state = s }) fs
+    meanings-same e no_formulas h = refl
+    meanings-same e (formula_and f fs) h = λ i. meaning-same e f (λ n k. h n (or-left (occurs n f) (any_occurs n fs) k)) i ∷ meanings-same e fs (λ n k. h n (or-right (occurs n f) (any_occurs n fs) k)) i
+
+-- two states with the same values for all that a formula may name give it the same truth
+pub holds-same : (find : Finder) (table : Table) (e f : State) (visible : ℕ → Bool) (p : Formula) → Names visible p → ((n : ℕ) → visible n ≡ true → e n ≡ f n) → holds find table e p ≡ holds find table f p
+holds-same find table e f visible p names same = ap (λ (m : Meaning). m.truth) (meaning-same find f (at_state table e) p (λ n k. same n (names.visible_only n k)))
+
+-- ---- conjunctions
+module _ (find : Finder) (table : Table) where
+  pub true-append : (e : State) (ps qs : List Formula) → AreTrue find table e ps → AreTrue find table e qs → AreTrue find table e (ps ++ qs)
+  true-append e [] qs h k = k
+  true-append e (p ∷ ps) qs h k = (h.0, true-append e ps qs h.1 k)
+
+  pub true-first : (e : State) (ps qs : List Formula) → AreTrue find table e (ps ++ qs) → AreTrue find table e ps
+  true-first e [] qs h = tt
+  true-first e (p ∷ ps) qs h = (h.0, true-first e ps qs h.1)
+
+  pub true-second : (e : State) (ps qs : List Formula) → AreTrue find table e (ps ++ qs) → AreTrue find table e qs
+  true-second e [] qs h = h
+  true-second e (p ∷ ps) qs h = true-second e ps qs h.1
+
+  pub parts-true : (e : State) (p : Formula) → holds find table e p ≡ true → AreTrue find table e (conjuncts p)
+  parts-true e (binary And p q) h = let w = and-both (holds find table e p) (holds find table e q) h in true-append e (conjuncts p) (conjuncts q) (parts-true e p w.0) (parts-true e q w.1)
+  parts-true e btrue h = tt
+  parts-true e p h = (h, tt)
+
+  pub whole-true : (e : State) (p : Formula) → AreTrue find table e (conjuncts p) → holds find table e p ≡ true
+  whole-true e (binary And p q) h = both-true (holds find table e p) (holds find table e q) (whole-true e p (true-first e (conjuncts p) (conjuncts q) h)) (whole-true e q (true-second e (conjuncts p) (conjuncts q) h))
+  whole-true e btrue h = refl
+  whole-true e p h = h.0
+
+  links-same : (dev : Development) (k : ℕ) (ls : List (ℕ × ℕ)) → Each (IsLink dev k) ls → (e f : State) → ((n : ℕ) → names_joined dev k n ≡ true → e n ≡ f n) → AreTrue find table e (map link_equation ls) → AreTrue find table f (map link_equation ls)
+  links-same dev k [] each e f same h = tt
+  links-same dev k (l ∷ ls) each e f same h =
+      let below = same l.0 (or-left (is_constant (home_of dev l.0) || is_variable_of k (home_of dev l.0)) (is_variable_above k (home_of dev l.0)) (or-right (is_constant (home_of dev l.0)) (is_variable_of k (home_of dev l.0)) each.0.below)) in
+      let up : is_variable_above k (home_of dev l.1) ≡ true = subst (λ j. is_variable_above j (home_of dev l.1) ≡ true) (sym each.0.above.1) each.0.above.2 in
+      let above = same l.1 (or-right (is_constant (home_of dev l.1) || is_variable_of k (home_of dev l.1)) (is_variable_above k (home_of dev l.1)) up) in
+      (sym (λ i. is_equal (below i) (above i)) ∙ h.0, links-same dev k ls each.1 e f same h.1)
+
+  pub joining-same : (dev : Development) (k : ℕ) (l : Level) → Names (names_joined dev k) l.invariant → Each (IsLink dev k) l.links → (e f : State) → ((n : ℕ) → names_joined dev k n ≡ true → e n ≡ f n) → AreTrue find table e (joining l) → AreTrue find table f (joining l)
+  joining-same dev k l names each e f same h =
+      let p = whole-true e l.invariant (true-first e (conjuncts l.invariant) (map link_equation l.links) h) in
+      let q = sym (holds-same find table e f (names_joined dev k) l.invariant names same) ∙ p in
+      true-append f (conjuncts l.invariant) (map link_equation l.links) (parts-true f l.invariant q) (links-same dev k l.links each e f same (true-second e (conjuncts l.invariant) (map link_equation l.links) h))
+
+-- ---- what is written
+append-none : (xs ys : List ℕ) (n : ℕ) → among xs n ≡ false → among ys n ≡ false → among (xs ++ ys) n ≡ false
+append-none xs ys n h k = among-append xs ys n ∙ both-false (among xs n) (among ys n) h k
+
+not-same : (writable : ℕ → Bool) (n x : ℕ) → writable n ≡ false → writable x ≡ true → nat_eq n x ≡ false
+not-same writable n x h k = elim (cases (nat_eq n x)) [ inl q ↦ clash (writable x) k (ap writable (sym (nat_eq-same n x q)) ∙ h) | inr q ↦ q ]
+
+assigns-none : (visible writable : ℕ → Bool) (ps : List (ℕ × Formula)) → AssignsIn visible writable ps → (n : ℕ) → writable n ≡ false → among (firsts ps) n ≡ false
+assigns-none visible writable [] a n h = refl
+assigns-none visible writable (p ∷ ps) a n h = both-false (nat_eq n p.0) (among (firsts ps) n) (not-same writable n p.0 h a.0) (assigns-none visible writable ps a.3 n h)
+
+pub all-none : (writable : ℕ → Bool) (xs : List ℕ) → AllAre writable xs → (n : ℕ) → writable n ≡ false → among xs n ≡ false
+all-none writable [] a n h = refl
+all-none writable (x ∷ xs) a n h = both-false (nat_eq n x) (among xs n) (not-same writable n x h a.0) (all-none writable xs a.1 n h)
+
+pub all-among : (p : ℕ → Bool) (xs : List ℕ) → AllAre p xs → (n : ℕ) → among xs n ≡ true → p n ≡ true
+all-among p [] a n h = absurd (cc)
+all-among p (x ∷ xs) a n h = by_test (all-among p xs a.1 n) (nat_eq n x) refl h
+  where
+    by_test : (among xs n ≡ true → p n ≡ true) → (b : Bool) → nat_eq n x ≡ b → b || among xs n ≡ true → p n ≡ true
+    by_test rest true q k = ap p (nat_eq-same n x q) ∙ a.0
+    by_test rest false q k = rest k
+
+-- what a filter lets out
+kept-none : (test : ℕ → Bool) (xs : List ℕ) (n : ℕ) → among xs n ≡ false → among (filter test xs) n ≡ false
+kept-none test [] n h = refl
+kept-none test (x ∷ xs) n h =
+    let w = or-false (nat_eq n x) (among xs n) h in
+    let rest = kept-none test xs n w.1 in
+    elim (test x) as (λ b. among (cond b (x ∷ filter test xs) (filter test xs)) n ≡ false) [ true ↦ both-false (nat_eq n x) (among (filter test xs) n) w.0 rest | false ↦ rest ]
+
+bound-none : (zs xs : List ℕ) (n : ℕ) → among zs n ≡ true → among (filter (λ m. not (among zs m)) xs) n ≡ false
+bound-none zs [] n h = refl
+bound-none zs (x ∷ xs) n h = by_test (bound-none zs xs n h) (among zs x) refl
+  where
+    by_test : among (filter (λ m. not (among zs m)) xs) n ≡ false → (b : Bool) → among zs x ≡ b → among (cond (not b) (x ∷ filter (λ m. not (among zs m)) xs) (filter (λ m. not (among zs m)) xs)) n ≡ false
+    by_test rest true q = rest
+    by_test rest false q = both-false (nat_eq n x) (among (filter (λ m. not (among zs m)) xs) n) (elim (cases (nat_eq n x)) [ inl r ↦ clash (among zs x) (ap (among zs) (sym (nat_eq-same n x r)) ∙ h) q | inr r ↦ r ]) rest
+
+pub not-written : (visible above writable : ℕ → Bool) (s : Substitution) → StaysIn visible above writable s → (n : ℕ) → writable n ≡ false → among (written s) n ≡ false
+not-written visible above writable skip a n h = refl
+not-written visible above writable (assign ps) a n h = assigns-none visible writable ps a n h
+not-written visible above writable (pre p s) a n h = not-written visible above writable s a.1 n h
+not-written visible above writable (guard p s) a n h = not-written visible above writable s a.1 n h
+not-written visible above writable (choice s t) a n h = append-none (written s) (written t) n (not-written visible above writable s a.0 n h) (not-written visible above writable t a.1 n h)
+not-written visible above writable (if_else p s t) a n h = append-none (written s) (written t) n (not-written visible above writable s a.1 n h) (not-written visible above writable t a.2 n h)
+not-written visible above writable (any zs s) a n h = elim (cases (among zs n)) [
+  | inl q ↦ bound-none zs (written s) n q
+  | inr q ↦ kept-none (λ m. not (among zs m)) (written s) n (not-written (λ m. among zs m || visible m) above (λ m. among zs m || writable m) s a.2 n (both-false (among zs n) (writable n) q h))
+]
+not-written visible above writable (seq s t) a n h = append-none (written s) (written t) n (not-written visible above writable s a.0 n h) (not-written visible above writable t a.1 n h)
+not-written visible above writable (par s t) a n h = append-none (written s) (written t) n (not-written visible above writable s a.0 n h) (not-written visible above writable t a.1 n h)
+not-written visible above writable (assert p s) a n h = not-written visible above writable s a.1 n h
+not-written visible above writable (becomes_such xs p) a n h = all-none writable (firsts xs) a.0 n h
+not-written visible above writable (loop p s i v) a n h = not-written visible above writable s a.1 n h
+
+-- a run changes nothing that may not be written
+pub unchanged : (find : Finder) (table : Table) (visible above writable : ℕ → Bool) (s : Substitution) → StaysIn visible above writable s → (e f : State) → Runs find table s e f → (n : ℕ) → writable n ≡ false → f n ≡ e n
+unchanged find table visible above writable s a e f r n h = outside find table s e f r n (not-written visible above writable s a n h)

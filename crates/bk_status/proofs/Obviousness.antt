@@ -1,0 +1,32 @@
+-- Where each obligation of a basic development is obvious or derived by rules, each is valid.
+use Rattle.std.proofs.Common.{◌≡◌, inl, inr, ℕ, List, [], ◌∷◌, sym, subst}
+use Rattle.bk_form.specs.Table.{Table, IsWellFormed}
+use Rattle.bk_dev.specs.Flattened.{flattened}
+use Rattle.bk_dev.specs.Facts.{Each}
+use Rattle.bk_dev.proofs.Flat.{flattened_already}
+use Rattle.bk_seq.specs.Sequents.{Sequent, Types}
+use Rattle.bk_kernel.proofs.Validity.{obvious_is_valid}
+use Rattle.bk_kernel.proofs.SoundRules.{derived-is-valid}
+use Rattle.bk_po.specs.Obligations.{AreValid, numbered_obligations}
+use Rattle.bk_po.proofs.Basics.{basic_have_no_par}
+use Rattle.bk_po.proofs.TypedSequents.{obligations_type}
+use Rattle.bk_status.specs.Obvious.{AreObvious, IsShown}
+use Rattle.bk_status.specs.Laws.{ShownObligationsAreValid, ObviousObligationsAreValid}
+
+module _ (table : Table) where
+  shown-valid : IsWellFormed table → (ss : List (List ℕ × Sequent)) → Each (λ s. Types table s.1) ss → Each (λ s. IsShown table s.1) ss → AreValid table ss
+  shown-valid formed [] h o = tt
+  shown-valid formed (s ∷ ss) h o = (elim o.0 [ inl plain ↦ obvious_is_valid table formed s.1.0 s.1.1 h.0.1 plain | inr rules ↦ derived-is-valid table formed rules.0 s.1 h.0 rules.1 ], shown-valid formed ss h.1 o.1)
+
+  obvious-shown : (ss : List (List ℕ × Sequent)) → AreObvious ss → Each (λ s. IsShown table s.1) ss
+  obvious-shown [] h = tt
+  obvious-shown (s ∷ ss) h = (inl h.0, obvious-shown ss h.1)
+
+pub shown_obligations_are_valid : ShownObligationsAreValid
+shown_obligations_are_valid dev f basic shown =
+    let flat : flattened dev ≡ dev = flattened_already dev (basic_have_no_par dev basic) in
+    let formed : IsWellFormed (flattened dev).table = subst (λ d. IsWellFormed d.table) (sym flat) f.table in
+    shown-valid (flattened dev).table formed (numbered_obligations dev) (obligations_type dev f basic) shown
+
+pub obvious_obligations_are_valid : ObviousObligationsAreValid
+obvious_obligations_are_valid dev f basic obvious = shown_obligations_are_valid dev f basic (obvious-shown (flattened dev).table (numbered_obligations dev) obvious)

@@ -1,0 +1,27 @@
+-- Developments whose obligations are shown: each sequent is obvious, or derived by rules.
+use Rattle.std.specs.Prelude.{◌≡◌, ◌⊎◌, ℕ, true, List}
+use Rattle.bk_form.specs.Table.{Table}
+use Rattle.bk_dev.specs.Development.{Development}
+use Rattle.bk_dev.specs.Flattened.{flattened}
+use Rattle.bk_dev.specs.Facts.{Each}
+use Rattle.bk_kernel.specs.declared.rule.Rule.{Rule}
+use Rattle.bk_kernel.specs.Obvious.{is_obvious}
+use Rattle.bk_kernel.specs.Derivations.{Derives}
+use Rattle.bk_seq.specs.Sequents.{Sequent}
+use Rattle.bk_po.specs.Obligations.{numbered_obligations}
+
+-- each sequent is obvious
+abbrev pub AreObvious : List (List ℕ × Sequent) → Type 0
+AreObvious ss = Each (λ s. is_obvious s.1.0 s.1.1 ≡ true) ss
+
+-- each numbered sequent of the development is obvious
+abbrev pub HasObviousObligations : Development → Type 0
+HasObviousObligations dev = AreObvious (numbered_obligations dev)
+
+-- it needs no proof, or some rules prove it
+abbrev pub IsShown : Table → Sequent → Type 0
+IsShown table s = (is_obvious s.0 s.1 ≡ true) ⊎ ((rules : List Rule) × Derives table rules s)
+
+-- each numbered sequent is obvious, or derived over the table with all copies
+abbrev pub HasShownObligations : Development → Type 0
+HasShownObligations dev = Each (λ s. IsShown (flattened dev).table s.1) (numbered_obligations dev)

@@ -1,0 +1,47 @@
+// The lines of a text.
+
+use bk_lines::{first_line, is_skipped};
+
+// Whether the text has these lines, and nothing behind the last.
+fn has_lines(text: &[u8], lines: &[&[u8]]) -> bool {
+    let mut rest = text;
+    for line in lines {
+        let Some((first, after)) = first_line(rest) else {
+            return false;
+        };
+        if first != *line {
+            return false;
+        }
+        rest = after;
+    }
+    first_line(rest).is_none()
+}
+
+#[test]
+fn lines_end_at_line_feeds(rt: HostRuntime) {
+    let cases: [(&[u8], &[&[u8]]); 6] = [
+        (b"", &[]),
+        (b"a", &[b"a"]),
+        (b"a\r\nb\n", &[b"a", b"b"]),
+        (b"\n\nc\r", &[b"", b"", b"c\r"]),
+        (b"a\r\r\n", &[b"a\r"]),
+        (b"\xff\n# x\n", &[b"\xff", b"# x"]),
+    ];
+    for (text, lines) in cases {
+        assert!(rt; has_lines(text, lines));
+    }
+}
+
+#[test]
+fn empty_lines_and_remarks_are_skipped(rt: HostRuntime) {
+    for (line, wanted) in [
+        ("", true),
+        ("#", true),
+        ("# a remark", true),
+        (" ", false),
+        (" #", false),
+        ("get", false),
+    ] {
+        assert!(rt; is_skipped(line.as_bytes()) == wanted, "{line}");
+    }
+}

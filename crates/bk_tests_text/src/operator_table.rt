@@ -1,0 +1,107 @@
+// The operators and the words of terms, as they are written.
+
+use bk_raw::{Constant, InfixOp, WordOp};
+
+// The operators between two terms, the loosest first: how tightly each binds, and what it asks of the terms left and
+// right of it. Two that ask no more than they bind on one side chain to that side.
+pub(crate) const LEVELS: [(u8, u8, u8, &[(&str, InfixOp)]); 10] = [
+    (0, 3, 3, &[("<=>", InfixOp::Equivalent)]),
+    (1, 1, 2, &[("=>", InfixOp::Implies)]),
+    (2, 2, 3, &[("&", InfixOp::And), ("or", InfixOp::Or)]),
+    (
+        3,
+        4,
+        4,
+        &[
+            ("=", InfixOp::Equal),
+            ("/=", InfixOp::NotEqual),
+            ("<", InfixOp::Less),
+            ("<=", InfixOp::AtMost),
+            (">", InfixOp::Greater),
+            (">=", InfixOp::AtLeast),
+            (":", InfixOp::Member),
+            ("/:", InfixOp::NotMember),
+            ("<:", InfixOp::Subset),
+            ("/<:", InfixOp::NotSubset),
+            ("<<:", InfixOp::StrictSubset),
+        ],
+    ),
+    (
+        4,
+        4,
+        5,
+        &[
+            ("<->", InfixOp::Relations),
+            ("+->", InfixOp::PartialFunctions),
+            ("-->", InfixOp::TotalFunctions),
+            (">+>", InfixOp::PartialInjections),
+            (">->", InfixOp::TotalInjections),
+            ("+->>", InfixOp::PartialSurjections),
+            ("-->>", InfixOp::TotalSurjections),
+            (">->>", InfixOp::Bijections),
+        ],
+    ),
+    (
+        5,
+        5,
+        6,
+        &[
+            ("\\/", InfixOp::Union),
+            ("/\\", InfixOp::Intersection),
+            ("<|", InfixOp::DomainRestriction),
+            ("|>", InfixOp::RangeRestriction),
+            ("<<|", InfixOp::DomainSubtraction),
+            ("|>>", InfixOp::RangeSubtraction),
+            ("<+", InfixOp::Override),
+            ("|->", InfixOp::Maplet),
+        ],
+    ),
+    (6, 7, 7, &[("..", InfixOp::Interval)]),
+    (7, 7, 8, &[("+", InfixOp::Plus), ("-", InfixOp::Minus)]),
+    (
+        8,
+        8,
+        9,
+        &[
+            ("*", InfixOp::Times),
+            ("/", InfixOp::Divide),
+            ("mod", InfixOp::Mod),
+        ],
+    ),
+    (9, 10, 9, &[("**", InfixOp::Power)]),
+];
+
+// The words before a term in parentheses.
+pub(crate) const WORD_OPERATORS: [(&str, WordOp); 14] = [
+    ("not", WordOp::Not),
+    ("bool", WordOp::BoolOf),
+    ("card", WordOp::Card),
+    ("min", WordOp::Min),
+    ("max", WordOp::Max),
+    ("dom", WordOp::Dom),
+    ("ran", WordOp::Ran),
+    ("id", WordOp::Id),
+    ("succ", WordOp::Succ),
+    ("pred", WordOp::Pred),
+    ("POW", WordOp::Pow),
+    ("POW1", WordOp::Pow1),
+    ("FIN", WordOp::Fin),
+    ("FIN1", WordOp::Fin1),
+];
+
+// The words that are terms by themselves.
+pub(crate) const CONSTANTS: [(&str, Constant); 13] = [
+    ("BOOL", Constant::Bool),
+    ("TRUE", Constant::True),
+    ("FALSE", Constant::False),
+    ("INTEGER", Constant::Integer),
+    ("NATURAL", Constant::Natural),
+    ("NATURAL1", Constant::Natural1),
+    ("INT", Constant::Int),
+    ("NAT", Constant::Nat),
+    ("NAT1", Constant::Nat1),
+    ("MAXINT", Constant::MaxInt),
+    ("MININT", Constant::MinInt),
+    ("btrue", Constant::Btrue),
+    ("bfalse", Constant::Bfalse),
+];
