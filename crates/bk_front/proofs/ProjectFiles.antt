@@ -1,12 +1,12 @@
 -- A project file has one list of lines at most.
-use Rattle.std.proofs.Common.{◌≡◌, ℕ, cond, nat_eq, List, [], ◌∷◌, ◌++◌, refl, sym, ◌∙◌, ap, subst, append_assoc}
+use Rattle.std.proofs.Common.{true, false, ◌≡◌, ℕ, cond, nat_eq, List, [], ◌∷◌, ◌++◌, refl, sym, ◌∙◌, ap, subst, append_assoc}
 use Rattle.std.proofs.lemmas.List.{append-nil}
 use Rattle.std.specs.List.{AllZip}
 use Rattle.bk_lines.specs.Lines.{kept_lines}
 use Rattle.bk_front.specs.declared.project_file.ProjectLine.{ProjectLine}
 use Rattle.bk_front.specs.declared.project_file.LineKind.{LineKind}
 use Rattle.bk_front.specs.declared.project_file.LineKind.TheVariants.{Machine, Refinement, Implementation, Proofs}
-use Rattle.bk_front.specs.ProjectFile.{first_or, IsLine, word_of, IsProjectLine, component_lines, proof_lines, names, a_machine_and_its_implementation, AreProjectLines, IsNoProject, LinesAreOne, NameAtMostOnce}
+use Rattle.bk_front.specs.ProjectFile.{first_or, IsLine, word_of, IsProjectLine, component_lines, a_machine_and_its_implementation, files_of, AreProjectLines, IsNoProject, LinesAreOne, NameAtMostOnce}
 use Rattle.bk_front.proofs.Trimming.{name_once}
 
 -- a line's first letter tells what it names
@@ -38,23 +38,11 @@ lines_once (w ∷ ws) (l ∷ ls) (m ∷ ms) h k = λ i. line_once w l m h.0 k.0 
 pub lines_are_one : LinesAreOne
 lines_are_one text one other h k = lines_once (kept_lines text) one other h.written k.written
 
--- ---- the names in them
-abbrev first_name : List ProjectLine → List ℕ
-first_name [] = []
-first_name (l ∷ ls) = l.name
-
-abbrev second_name : List ProjectLine → List ℕ
-second_name (l ∷ m ∷ ms) = m.name
-second_name _ = []
-
 pub names_once : NameAtMostOnce
-names_once text machine implementation other_machine other_implementation proofs other_proofs h k =
-    let same : h.named ≡ k.named = lines_once (kept_lines text) h.named k.named h.written k.written in
-    let components : a_machine_and_its_implementation machine implementation ≡ a_machine_and_its_implementation other_machine other_implementation =
-    sym h.components ∙ ap component_lines same ∙ k.components in (
-      ap first_name components,
-      ap second_name components,
-      sym h.proofs_are ∙ ap (λ named. names (proof_lines named)) same ∙ k.proofs_are,
+names_once text components proofs other_components other_proofs h k =
+    let same : h.named ≡ k.named = lines_are_one text h.named k.named h.are k.are in (
+      sym h.components_are ∙ ap (files_of false) same ∙ k.components_are,
+      sym h.proofs_are ∙ ap (files_of true) same ∙ k.proofs_are,
     )
 
 -- ---- reading

@@ -9,10 +9,12 @@ use Rattle.bk_front.specs.declared.project_file.LineKind.{LineKind}
 use Rattle.bk_front.specs.declared.project_file.LineKind.TheVariants.{Machine, Refinement, Implementation, Proofs}
 
 -- ---- lines
+-- the first byte of a text, and d where it has none
 abbrev pub first_or : ℕ → List ℕ → ℕ
 first_or d [] = d
 first_or d (c ∷ cs) = c
 
+-- the last byte of a text, and d where it has none
 abbrev pub last_or : ℕ → List ℕ → ℕ
 last_or d [] = d
 last_or d (c ∷ cs) = last_or c cs
@@ -31,6 +33,7 @@ pub record IsLine (word name line : List ℕ) : Type 0 where
   pub written : line ≡ word ++ (replicate before 32 ++ (name ++ replicate after 32))
   pub is_name : IsFileName name
 
+-- the word with which such a line begins
 abbrev pub word_of : LineKind → List ℕ
 word_of Machine = codes "machine"
 word_of Refinement = codes "refinement"
@@ -42,6 +45,7 @@ abbrev pub IsProjectLine : List ℕ → ProjectLine → Type 0
 IsProjectLine line named = IsLine (word_of named.kind) named.name line
 
 -- ---- files
+-- whether such a line names a proof file
 abbrev pub is_proofs : LineKind → Bool
 is_proofs Proofs = true
 is_proofs _ = false
@@ -50,9 +54,11 @@ is_proofs _ = false
 abbrev pub component_lines : List ProjectLine → List ProjectLine
 component_lines named = filter (λ l. not (is_proofs l.kind)) named
 
+-- the files that lines name
 abbrev pub names : List ProjectLine → List (List ℕ)
 names named = map (λ l. l.name) named
 
+-- those lines that name proof files
 abbrev pub proof_lines : List ProjectLine → List ProjectLine
 proof_lines named = filter (λ l. is_proofs l.kind) named
 
@@ -77,20 +83,20 @@ pub record AreProjectLines (text : List ℕ) (named : List ProjectLine) : Type 0
 abbrev pub IsNoProject : List ℕ → Type 0
 IsNoProject text = (named : List ProjectLine) → AreProjectLines text named → ⊥
 
--- the project file names the machine's file, the implementation's, and these proof files in their order
-pub record NamesFiles (text machine implementation : List ℕ) (proofs : List (List ℕ)) : Type 0 where
+-- the project file names these component files and these proof files, in their order
+pub record NamesFiles (text : List ℕ) (components proofs : List (List ℕ)) : Type 0 where
   pub named : List ProjectLine
-  pub written : AllZip IsProjectLine (kept_lines text) named
-  pub components : component_lines named ≡ a_machine_and_its_implementation machine implementation
-  pub proofs_are : names (proof_lines named) ≡ proofs
+  pub are : AreProjectLines text named
+  pub components_are : files_of false named ≡ components
+  pub proofs_are : files_of true named ≡ proofs
 
 -- ---- laws
 -- a project file has one list of lines at most
 abbrev pub LinesAreOne : Type 0
 LinesAreOne = (text : List ℕ) (one other : List ProjectLine) → AreProjectLines text one → AreProjectLines text other → one ≡ other
 
--- so it names each file once
+-- so it names one list of component files at most, and one of proof files
 abbrev pub NameAtMostOnce : Type 0
 NameAtMostOnce =
-    (text machine implementation other_machine other_implementation : List ℕ) (proofs other_proofs : List (List ℕ)) → NamesFiles text machine implementation proofs →
-    NamesFiles text other_machine other_implementation other_proofs → (machine ≡ other_machine) × (implementation ≡ other_implementation) × (proofs ≡ other_proofs)
+    (text : List ℕ) (components proofs other_components other_proofs : List (List ℕ)) → NamesFiles text components proofs → NamesFiles text other_components other_proofs →
+    (components ≡ other_components) × (proofs ≡ other_proofs)

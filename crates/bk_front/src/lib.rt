@@ -9,8 +9,3 @@ mod refusal;
 pub use project_file::{LineKind, ProjectLine, lines};
 pub use reading::project;
 pub use refusal::Refusal;
-
-#[cfg(test)]
-mod reading_tests;
-#[cfg(test)]
-mod tests;

@@ -16,7 +16,7 @@ use bk_lines::{first_line, is_skipped};
 use std::alloc::Global;
 
 /// A line of a project file, which names a file.
-#[derive(Debug, Drop)]
+#[derive(Drop)]
 pub struct ProjectLine {
     pub kind: LineKind,
     pub name: Text,
@@ -73,7 +73,9 @@ pub fn lines(alloc: Global, text: &[u8]) -> Result<Vec<ProjectLine>, Refusal>
 
 // Whether the lines for component files are one for a machine's file and then one for an implementation's.
 fn name_two_components(lines: &[ProjectLine]) -> bool
-    ensures { IsTrue result ↔ ((machine : List ℕ) × (implementation : List ℕ) × (component_lines lines.now ≡ a_machine_and_its_implementation machine implementation)) }
+    ensures { IsTrue result ↔
+        ((machine : List ℕ) × (implementation : List ℕ) ×
+        (component_lines lines.now ≡ a_machine_and_its_implementation machine implementation)) }
 {
     let Some((first, behind)) = next_component(lines) else {
         return false;
@@ -88,7 +90,8 @@ fn name_two_components(lines: &[ProjectLine]) -> bool
 
 // The first line for a component file, and the lines behind it.
 fn next_component(lines: &[ProjectLine]) -> Option<(&ProjectLine, &[ProjectLine])>
-    ensures { MatchOption result (component_lines lines.now ≡ []) (λ p. component_lines lines.now ≡ p.0.now ∷ component_lines p.1.now) }
+    ensures { MatchOption result (component_lines lines.now ≡ [])
+        (λ p. component_lines lines.now ≡ p.0.now ∷ component_lines p.1.now) }
 {
     let mut rest = lines;
     while let [line, behind @ ..] = rest {
@@ -103,7 +106,8 @@ fn next_component(lines: &[ProjectLine]) -> Option<(&ProjectLine, &[ProjectLine]
 // What a line names, and the file's name.
 #[tactic(auto, using(crate::proofs::ProjectFiles::no_kind))]
 fn kind_and_name(line: &[u8]) -> Option<(LineKind, &[u8])>
-    ensures { MatchOption result ((kind : LineKind) (name : List ℕ) → IsLine (word_of kind) name line.now → ⊥) (λ p. IsLine (word_of p.0) p.1.now line.now) }
+    ensures { MatchOption result ((kind : LineKind) (name : List ℕ) → IsLine (word_of kind) name line.now → ⊥)
+        (λ p. IsLine (word_of p.0) p.1.now line.now) }
 {
     if let Some(name) = file_of(line, LineKind::Machine) {
         return Some((LineKind::Machine, name));
@@ -122,7 +126,8 @@ fn kind_and_name(line: &[u8]) -> Option<(LineKind, &[u8])>
 
 // The first line that counts, and the text behind it.
 fn next_line(text: &[u8]) -> Option<(&[u8], &[u8])>
-    ensures kept { MatchOption result (kept_lines text.now ≡ []) (λ p. kept_lines text.now ≡ p.0.now ∷ kept_lines p.1.now) }
+    ensures kept { MatchOption result (kept_lines text.now ≡ [])
+        (λ p. kept_lines text.now ≡ p.0.now ∷ kept_lines p.1.now) }
     ensures shorter { IfSome result (λ p. length p.1.now < length text.now) }
 {
     let mut rest = text;
@@ -137,7 +142,8 @@ fn next_line(text: &[u8]) -> Option<(&[u8], &[u8])>
 
 // The file name of a line that names this.
 fn file_of(line: &[u8], kind: LineKind) -> Option<&[u8]>
-    ensures { MatchOption result ((name : List ℕ) → IsLine (word_of kind) name line.now → ⊥) (λ name. IsLine (word_of kind) name.now line.now) }
+    ensures { MatchOption result ((name : List ℕ) → IsLine (word_of kind) name line.now → ⊥)
+        (λ name. IsLine (word_of kind) name.now line.now) }
 {
     file_name(line, kind.word())
 }
@@ -145,11 +151,10 @@ fn file_of(line: &[u8], kind: LineKind) -> Option<&[u8]>
 // The file name of a line that begins with this word.
 #[tactic(auto, using(crate::proofs::Trimming::is_line, crate::proofs::Trimming::no_word, crate::proofs::Trimming::no_space, crate::proofs::Trimming::no_text))]
 fn file_name<'a>(line: &'a [u8], word: &[u8]) -> Option<&'a [u8]>
-    ensures { MatchOption result ((name : List ℕ) → IsLine word.now name line.now → ⊥) (λ name. IsLine word.now name.now line.now) }
+    ensures { MatchOption result ((name : List ℕ) → IsLine word.now name line.now → ⊥)
+        (λ name. IsLine word.now name.now line.now) }
 {
-    let Some(rest) = behind(line, word) else {
-        return None;
-    };
+    let rest = behind(line, word)?;
     let name = trim_back(trim_front(rest));
     if !begins_with_space(rest) {
         return None;
@@ -163,7 +168,8 @@ fn file_name<'a>(line: &'a [u8], word: &[u8]) -> Option<&'a [u8]>
 // What stands behind the word in a line that begins with it.
 #[tactic(auto, using(crate::proofs::Trimming::stands_behind, crate::proofs::Trimming::stands_nowhere))]
 fn behind<'a>(line: &'a [u8], word: &[u8]) -> Option<&'a [u8]>
-    ensures { MatchOption result ((rest : List ℕ) → line.now ≢ word.now ++ rest) (λ rest. line.now ≡ word.now ++ rest.now) }
+    ensures { MatchOption result ((rest : List ℕ) → line.now ≢ word.now ++ rest)
+        (λ rest. line.now ≡ word.now ++ rest.now) }
 {
     line.strip_prefix(word)
 }

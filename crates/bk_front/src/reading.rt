@@ -1,10 +1,9 @@
 //! A project's texts, read as a development.
 
-ghost use Rattle.std.specs.Prelude.{◌≡◌, ◌≤◌, length, IfOk, IfErr};
+ghost use Rattle.std.specs.Prelude.{◌≡◌, ◌≤◌, ◌∷◌, [], length, map, IfOk, IfErr};
 ghost use Rattle.bk_gen.specs.Simple.{IsSimple};
 ghost use Rattle.bk_po.specs.Plain.{IsPlain};
-ghost use Rattle.bk_pair.specs.Developments.{Reads};
-ghost use Rattle.bk_front.specs.Project.{ReadsMachine, text_at, IsRefusal};
+ghost use Rattle.bk_front.specs.Project.{ReadsMachine, Reads, IsRefusal};
 
 use crate::project_file::ProjectLine;
 use crate::refusal::Refusal;
@@ -22,22 +21,22 @@ pub fn project(
     texts: &[Vec<u8>],
 ) -> Result<Development, Refusal>
     requires texts { length texts.now ≡ 2 }
-    ensures ok { IfOk result (λ dev. Reads (text_at texts.now 0) (text_at texts.now 1) dev) }
+    ensures ok { IfOk result (Reads (map (λ text. text.items) texts.now)) }
     ensures simple { IfOk result IsSimple }
     ensures plain { IfOk result IsPlain }
     ensures few { IfOk result (λ dev. length dev.heads ≤ 100) }
-    ensures err { IfErr result (IsRefusal (text_at texts.now 0) (text_at texts.now 1)) }
+    ensures err { IfErr result (IsRefusal (map (λ text. text.items) texts.now)) }
 {
     pair(alloc, &texts[0], &texts[1])
 }
 
 // The development of a machine and its implementation by their texts.
 fn pair(alloc: Global, above: &[u8], below: &[u8]) -> Result<Development, Refusal>
-    ensures ok { IfOk result (λ dev. Reads above.now below.now dev) }
+    ensures ok { IfOk result (Reads (above.now ∷ below.now ∷ [])) }
     ensures simple { IfOk result IsSimple }
     ensures plain { IfOk result IsPlain }
     ensures few { IfOk result (λ dev. length dev.heads ≤ 100) }
-    ensures err { IfErr result (IsRefusal above.now below.now) }
+    ensures err { IfErr result (IsRefusal (above.now ∷ below.now ∷ [])) }
 {
     let Some(machine) = machine_in(alloc, above)? else {
         return Err(Refusal::not_built(1));

@@ -1,12 +1,13 @@
--- What is executed ends within its code, and no legal call traps.
-use Rattle.std.proofs.Common.{◌≡◌, ℕ, zero, suc, ◌<◌, ℤ, pos, Bool, true, ◌&&◌, int_le, List, [], ◌∷◌, map, length, All, slice_index_or, Option, Some, None, refl, sym, ◌∙◌, ap, subst, arith, take}
+-- What is executed ends within its code, and legal calls are done.
+use Rattle.std.proofs.Common.{◌≡◌, ℕ, zero, suc, ◌+◌, ◌<◌, ◌≤◌, ℤ, pos, Bool, true, ◌&&◌, int_le, List, [], ◌∷◌, ◌++◌, map, length, All, slice_index_or, Option, Some, None, refl, sym, ◌∙◌, ap, subst, arith}
 use Rattle.std.specs.Prelude.{slice_get, neg_ℤ, ◌≤ℤ◌}
 use Rattle.std.specs.List.{AllZip}
+use Rattle.std.proofs.lemmas.List.{length-append}
 use Rattle.std.proofs.lemmas.List.Elements.{All-head, All-tail, All-cons, All-nil}
 use Rattle.std.proofs.lemmas.Int.{ints}
 use Rattle.bk_val.specs.Value.{MathValue}
 use Rattle.bk_val.specs.ValueType.{int_type, is_value_of}
-use Rattle.bk_form.specs.Search.{Finder}
+use Rattle.bk_form.specs.Search.{Finder, IsSearch}
 use Rattle.bk_form.specs.Table.{set_size}
 use Rattle.bk_gsl.specs.State.{declared_type, are_values_for}
 use Rattle.bk_code.specs.declared.image.Image.{Image}
@@ -14,41 +15,84 @@ use Rattle.bk_code.specs.declared.image.OpEntry.{OpEntry}
 use Rattle.bk_code.specs.Numbers.{IsWithin}
 use Rattle.bk_code.specs.Step.{Config}
 use Rattle.bk_code.specs.Run.{End, Done, Trapped, OutOfFuel, Ends}
+use Rattle.bk_code.proofs.Runs.{one_end}
 use Rattle.bk_code.specs.Session.{call_start, first_start, outputs_of, given_out, Request, Told, Answers, Continues, Session}
-use Rattle.bk_dev.specs.Development.{Head, Level, Development, body_at, inputs_of, last}
+use Rattle.bk_dev.specs.Development.{Head, Body, Level, Development, blank_body, level_at, body_at, inputs_of, last}
 use Rattle.bk_dev.specs.Facts.{is_input, home_of, AllAre, Each, IsHeadOf, IsDevelopment}
 use Rattle.bk_dev.specs.Machine.{Abstract, Opens, Call, IsCall, is_in_int, are_in_int, Pre, Steps, After, LegalFrom}
 use Rattle.bk_gen.specs.Simple.{IsSimple}
-use Rattle.bk_gen.specs.Translation.{translation}
+use Rattle.bk_gen.specs.Translation.{operation_code, operations_code, init_code, entries, translation}
 use Rattle.bk_gen.proofs.Plain.{type_at_home}
-use Rattle.bk_sim.specs.Plain.{LevelsHaveNoPar}
 use Rattle.bk_sim.specs.Shows.{number_as, as_number, Linked}
+use Rattle.bk_sim.specs.Within.{EndsWithin, EndsInCode}
 use Rattle.bk_sim.specs.Follows.{IsEntry, as_values, replies, started, IsGood, IsStep, Follows}
-use Rattle.bk_sim.proofs.Entries.{each-at}
+use Rattle.bk_dev.proofs.Levels.{each-at}
 use Rattle.bk_sim.proofs.SimpleCode.{simple_ends}
 use Rattle.bk_calls.specs.Script.{AsksFor}
 use Rattle.bk_po.proofs.Basics.{basic_have_no_par}
 use Rattle.bk_status.proofs.Tables.{proved_developments_are_correct}
 use Rattle.bk_lines.specs.Lines.{kept_lines}
-use Rattle.bkit.specs.declared.status.Status.TheVariants.{Trapped as TrappedStatus}
+use Rattle.bk_scripts.specs.WrittenRule.{Script}
+use Rattle.bk_io.specs.Files.{Files}
+use Rattle.bk_front.proofs.Readings.{is_development, is_simple, is_plain}
+use Rattle.bkit.specs.declared.status.Status.TheVariants.{Done as DoneStatus}
 use Rattle.bkit.specs.Session.{fuel, status_of, last_end, session_status}
-use Rattle.bkit.specs.Laws.{ProjectsEnd, call_of, done_or, replied, of_calls, LegalCallsDoNotTrap}
-use Rattle.bkit.proofs.Projects.{is_development, is_simple, is_plain, project_follows, entries_few}
+use Rattle.bkit.specs.Legal.{call_of, done_or, replied, AreLegal}
+use Rattle.bkit.specs.Run.{ReadsProject, IsProved, IsWithinCodeLimits, ReadsCalls}
+use Rattle.bkit.specs.Laws.{ProjectsEnd, LegalCallsAreDone}
+use Rattle.bkit.proofs.Following.{first_have_no_par}
+use Rattle.bkit.proofs.Plays.{IsDone}
+use Rattle.bkit.proofs.Projects.{project_follows, entries_few}
 
 -- ---- ends
-first_have_no_par : (n : ℕ) (ls : List Level) → LevelsHaveNoPar ls → LevelsHaveNoPar (take n ls)
-first_have_no_par zero [] h = tt
-first_have_no_par zero (l ∷ ls) h = tt
-first_have_no_par (suc n) [] h = tt
-first_have_no_par (suc n) (l ∷ ls) h = (h.0, h.1, first_have_no_par n ls h.2)
-
 pub projects_end : ProjectsEnd
 projects_end files project dev scripts h proved find law =
-    let facts = is_development h.above h.below dev h.reads in
-    let simple = is_simple h.above h.below dev h.reads in
-    let plain = is_plain h.above h.below dev h.reads in
+    let facts = is_development h.texts dev h.reads in
+    let simple = is_simple h.texts dev h.reads in
+    let plain = is_plain h.texts dev h.reads in
     let correct = proved_developments_are_correct find law dev scripts facts plain proved.proved in
     simple_ends find dev facts simple (first_have_no_par (last dev) dev.levels (basic_have_no_par dev plain.basic)) (correct.values simple.complete) correct.keeps correct.carries
+
+some_entry : (ops : List OpEntry) (o : ℕ) (entry : OpEntry) → slice_get ops o ≡ Some entry → o < length ops
+some_entry [] o entry e = absurd (cc)
+some_entry (x ∷ xs) zero entry e = omega arith
+some_entry (x ∷ xs) (suc o) entry e = omega (arith, some_entry xs o entry e)
+
+-- the code of each operation is a part of the image's
+front_within : {A : Type 0} (xs ys : List A) → length xs ≤ length (xs ++ ys)
+front_within xs ys = omega (arith, length-append xs ys)
+
+back_within : {A : Type 0} (xs ys : List A) → length ys ≤ length (xs ++ ys)
+back_within xs ys = omega (arith, length-append xs ys)
+
+through : (a b c : ℕ) → a ≤ b → b ≤ c → a ≤ c
+through a b c h k = omega (arith, h, k)
+
+bodies_within : (dev : Development) (place : ℕ) (hs : List Head) (bs : List Body) → length (entries dev place hs bs) ≤ length bs
+bodies_within dev place (h ∷ hs) (b ∷ bs) = omega (arith, bodies_within dev (place + length (operation_code dev b)) hs bs)
+bodies_within dev place [] bs = omega arith
+bodies_within dev place (h ∷ hs) [] = omega arith
+
+bodies_enough : (dev : Development) → length (translation dev).ops ≤ length (level_at dev (last dev)).bodies
+bodies_enough dev = bodies_within dev (length (init_code dev)) dev.heads (level_at dev (last dev)).bodies
+
+part_within : (dev : Development) (bs : List Body) (o : ℕ) → o < length bs → length (operation_code dev (slice_index_or bs o blank_body)) ≤ length (operations_code dev bs)
+part_within dev [] o inside = absurd (omega (arith, inside))
+part_within dev (b ∷ bs) zero inside = front_within (operation_code dev b) (operations_code dev bs)
+part_within dev (b ∷ bs) (suc o) inside =
+    through (length (operation_code dev (slice_index_or bs o blank_body))) (length (operations_code dev bs)) (length (operations_code dev (b ∷ bs)))
+    (part_within dev bs o (omega (arith, inside)))
+    (back_within (operation_code dev b) (operations_code dev bs))
+
+init_within : (dev : Development) → length (init_code dev) ≤ length (translation dev).code
+init_within dev = front_within (init_code dev) (operations_code dev (level_at dev (last dev)).bodies)
+
+operation_within : (dev : Development) (o : ℕ) (entry : OpEntry) → IsEntry (translation dev) o entry → length (operation_code dev (body_at dev (last dev) o)) ≤ length (translation dev).code
+operation_within dev o entry there =
+    let inside : o < length (level_at dev (last dev)).bodies = omega (arith, some_entry (translation dev).ops o entry there, bodies_enough dev) in
+    through (length (operation_code dev (body_at dev (last dev) o))) (length (operations_code dev (level_at dev (last dev)).bodies)) (length (translation dev).code)
+    (part_within dev (level_at dev (last dev)).bodies o inside)
+    (back_within (init_code dev) (operations_code dev (level_at dev (last dev)).bodies))
 
 -- ---- arguments of operations whose inputs are whole numbers
 abbrev AreWhole : Development → List ℕ → Type 0
@@ -90,15 +134,6 @@ range_right dev (x ∷ xs) (z ∷ zs) e h a =
     (range_right dev xs zs (omega (arith, e)) h.1 (All-tail (IsWithin (pos 2147483647)) z zs a))
 
 -- ---- the calls of a session
-abbrev IsTrapped : End → Type 0
-IsTrapped (Trapped kind place n) = Unit {0}
-IsTrapped _ = ⊥
-
-some_entry : (entries : List OpEntry) (o : ℕ) (entry : OpEntry) → slice_get entries o ≡ Some entry → o < length entries
-some_entry [] o entry e = absurd (cc)
-some_entry (x ∷ xs) zero entry e = omega arith
-some_entry (x ∷ xs) (suc o) entry e = omega (arith, some_entry xs o entry e)
-
 same_entry : (image : Image) (o : ℕ) (one other : OpEntry) → IsEntry image o one → IsEntry image o other → one ≡ other
 same_entry image o one other h k = ap (value one) (sym h ∙ k)
   where
@@ -106,7 +141,7 @@ same_entry image o one other h k = ap (value one) (sym h ∙ k)
     value d None = d
     value d (Some x) = x
 
-module _ (find : Finder) (dev : Development) (f : IsDevelopment dev) (s : IsSimple dev) (follows : Follows find dev (translation dev)) where
+module _ (find : Finder) (dev : Development) (f : IsDevelopment dev) (s : IsSimple dev) (follows : Follows find dev (translation dev)) (in_code : EndsInCode find dev (translation dev)) (short : length (translation dev).code ≤ fuel) where
   no_head : Head
   no_head = record { name = []; inputs = []; outputs = 0 }
 
@@ -125,6 +160,12 @@ module _ (find : Finder) (dev : Development) (f : IsDevelopment dev) (s : IsSimp
         numbers_back dev (inputs_of dev r.op) r.args as_many whole,
       )
 
+  -- what ends within its code is done with the fuel of a call
+  done_within : (size : ℕ) (start d : Config) (e : End) → EndsWithin (translation dev) size start → size ≤ length (translation dev).code → Ends (translation dev) fuel start e d → IsDone e
+  done_within size start d e w inside h =
+      let whole : Ends (translation dev) fuel start (Done w.steps) w.end = w.done fuel (through size (length (translation dev).code) fuel inside short) in
+      subst IsDone (sym (one_end (translation dev) fuel start e (Done w.steps) d w.end h whole).0) tt
+
   -- a call that ends on linked cells, and the calls behind it
   module _ (before : Abstract → Type 0) (c : Call) (cs : List Call) (us : List MathValue) (more : List (List MathValue)) where
     legal_now : (e : End) → LegalFrom find dev before (c ∷ cs) (done_or e (us ∷ more) []) → (a : Abstract) → before a → Pre find dev c a
@@ -132,22 +173,22 @@ module _ (find : Finder) (dev : Development) (f : IsDevelopment dev) (s : IsSimp
     legal_now (Trapped kind place n) legal = legal
     legal_now OutOfFuel legal = legal
 
-    by_end : (e : End) (entry : OpEntry) (a : Abstract) (start d : Config) (outputs : List ℤ) (cells : List ℤ) (rs : List Request) (ts : List Told) →
+    by_end : (e : End) (entry : OpEntry) (a : Abstract) (start d : Config) (outputs : List ℤ) (cells : List ℤ) (rs : List Request) (ts : List Told) → IsDone e →
         IsGood (translation dev) fuel start (IsStep find dev c entry a) e d → outputs ≡ given_out entry.outputs e d.cells → LegalFrom find dev before (c ∷ cs) (done_or e (us ∷ more) []) →
-        Continues (translation dev) fuel e cells rs ts → IsTrapped (last_end e ts) →
-        ((n : ℕ) → IsStep find dev c entry a d.cells → outputs ≡ outputs_of entry.outputs d.cells → LegalFrom find dev (After find dev before c us) cs more → Continues (translation dev) fuel (Done n) cells rs ts → IsTrapped (last_end (Done n) ts) → ⊥) → ⊥
-    by_end (Done n) entry a start d outputs cells rs ts good given legal goes trapped rest = rest n good given legal.1 goes trapped
-    by_end (Trapped kind place n) entry a start d outputs cells rs ts good given legal goes trapped rest = good
-    by_end OutOfFuel entry a start d outputs cells rs [] good given legal goes trapped rest = trapped
-    by_end OutOfFuel entry a start d outputs cells rs (t ∷ ts) good given legal goes trapped rest = goes
+        Continues (translation dev) fuel e cells rs ts →
+        ((n : ℕ) → IsStep find dev c entry a d.cells → outputs ≡ outputs_of entry.outputs d.cells → LegalFrom find dev (After find dev before c us) cs more → Continues (translation dev) fuel (Done n) cells rs ts → IsDone (last_end (Done n) ts)) →
+        IsDone (last_end e ts)
+    by_end (Done n) entry a start d outputs cells rs ts done good given legal goes rest = rest n good given legal.1 goes
+    by_end (Trapped kind place n) entry a start d outputs cells rs ts done good given legal goes rest = absurd done
+    by_end OutOfFuel entry a start d outputs cells rs ts done good given legal goes rest = absurd done
 
-  -- from linked cells, where each call is legal, no session goes on to a trap
-  no_trap : (rs : List Request) (ts : List Told) (before : Abstract → Type 0) (a : Abstract) (m : List ℤ) (n : ℕ) → before a → Linked find dev a m → All (λ r. All (IsWithin (pos 2147483647)) r.args) rs →
-      LegalFrom find dev before (map (call_of dev) rs) (replied dev rs ts) → Continues (translation dev) fuel (Done n) m rs ts → IsTrapped (last_end (Done n) ts) → ⊥
-  no_trap [] [] before a m n h linked within legal goes trapped = trapped
-  no_trap [] (t ∷ ts) before a m n h linked within legal goes trapped = goes
-  no_trap (r ∷ rs) [] before a m n h linked within legal goes trapped = goes
-  no_trap (r ∷ rs) (t ∷ ts) before a m n h linked within legal goes trapped =
+  -- from linked cells, where each call is legal, all calls are done
+  all_done : (rs : List Request) (ts : List Told) (before : Abstract → Type 0) (a : Abstract) (m : List ℤ) (n : ℕ) → before a → Linked find dev a m → All (λ r. All (IsWithin (pos 2147483647)) r.args) rs →
+      LegalFrom find dev before (map (call_of dev) rs) (replied dev rs ts) → Continues (translation dev) fuel (Done n) m rs ts → IsDone (last_end (Done n) ts)
+  all_done [] [] before a m n h linked within legal goes = tt
+  all_done [] (t ∷ ts) before a m n h linked within legal goes = absurd goes
+  all_done (r ∷ rs) [] before a m n h linked within legal goes = absurd goes
+  all_done (r ∷ rs) (t ∷ ts) before a m n h linked within legal goes =
       let c : Call = call_of dev r in
       let us : List MathValue = as_values dev (body_at dev 0 r.op).outputs t.outputs in
       let answers : Answers (translation dev) fuel r m t = goes.0 in
@@ -155,32 +196,32 @@ module _ (find : Finder) (dev : Development) (f : IsDevelopment dev) (s : IsSimp
       let d : Config = answers.call.last in
       let call = is_call r entry answers.named answers.counted (All-head (λ x. All (IsWithin (pos 2147483647)) x.args) r rs within) in
       let pre : Pre find dev c a = legal_now before c (map (call_of dev) rs) us (replied dev rs ts) t.end legal a h in
-      let ends : Ends (translation dev) fuel (started entry c m) t.end d = subst (λ zs. Ends (translation dev) fuel (call_start entry zs m) t.end d) (sym call.1) answers.call.ends in
-      let good = (follows.local a m c entry linked call.0 pre answers.named).1 fuel t.end d ends in
-      by_end before c (map (call_of dev) rs) us (replied dev rs ts) t.end entry a (started entry c m) d t.outputs t.cells rs ts good answers.call.given legal goes.1 trapped
-      (λ k step given rest on last.
+      let end : Ends (translation dev) fuel (started entry c m) t.end d = subst (λ zs. Ends (translation dev) fuel (call_start entry zs m) t.end d) (sym call.1) answers.call.ends in
+      let done = done_within (length (operation_code dev (body_at dev (last dev) r.op))) (started entry c m) d t.end (in_code.local a m c entry linked call.0 pre answers.named) (operation_within dev r.op entry answers.named) end in
+      let good = (follows.local a m c entry linked call.0 pre answers.named).1 fuel t.end d end in
+      by_end before c (map (call_of dev) rs) us (replied dev rs ts) t.end entry a (started entry c m) d t.outputs t.cells rs ts done good answers.call.given legal goes.1
+      (λ k step given rest on.
       let same : replies dev r.op entry.outputs d.cells ≡ us = ap (as_values dev (body_at dev 0 r.op).outputs) (sym given) in
       let after : After find dev before c us step.0 = (a, h, subst (λ vs. Steps find dev c a vs step.0) same step.1) in
       let linked_there : Linked find dev step.0 t.cells = subst (λ zs. Linked find dev step.0 zs) (sym answers.call.cells) step.2 in
-      no_trap rs ts (After find dev before c us) step.0 t.cells k after linked_there (All-tail (λ x. All (IsWithin (pos 2147483647)) x.args) r rs within) rest on last)
+      all_done rs ts (After find dev before c us) step.0 t.cells k after linked_there (All-tail (λ x. All (IsWithin (pos 2147483647)) x.args) r rs within) rest on)
 
-  opening_end : (e : End) (d : Config) (cells : List ℤ) (rs : List Request) (ts : List Told) → IsGood (translation dev) fuel (first_start (translation dev)) (λ m. (a : Abstract) × Opens find dev a × Linked find dev a m) e d → cells ≡ d.cells →
-      All (λ r. All (IsWithin (pos 2147483647)) r.args) rs → LegalFrom find dev (Opens find dev) (map (call_of dev) rs) (replied dev rs ts) → Continues (translation dev) fuel e cells rs ts → IsTrapped (last_end e ts) → ⊥
-  opening_end (Done n) d cells rs ts good same within legal goes trapped = no_trap rs ts (Opens find dev) good.0 cells n good.1 (subst (λ zs. Linked find dev good.0 zs) (sym same) good.2) within legal goes trapped
-  opening_end (Trapped kind place n) d cells rs ts good same within legal goes trapped = good
-  opening_end OutOfFuel d cells rs [] good same within legal goes trapped = trapped
-  opening_end OutOfFuel d cells rs (t ∷ ts) good same within legal goes trapped = goes
+  opening_done : (e : End) (d : Config) (cells : List ℤ) (rs : List Request) (ts : List Told) → IsDone e → IsGood (translation dev) fuel (first_start (translation dev)) (λ m. (a : Abstract) × Opens find dev a × Linked find dev a m) e d →
+      cells ≡ d.cells → All (λ r. All (IsWithin (pos 2147483647)) r.args) rs → LegalFrom find dev (Opens find dev) (map (call_of dev) rs) (replied dev rs ts) → Continues (translation dev) fuel e cells rs ts → IsDone (last_end e ts)
+  opening_done (Done n) d cells rs ts done good same within legal goes = all_done rs ts (Opens find dev) good.0 cells n good.1 (subst (λ zs. Linked find dev good.0 zs) (sym same) good.2) within legal goes
+  opening_done (Trapped kind place n) d cells rs ts done good same within legal goes = absurd done
+  opening_done OutOfFuel d cells rs ts done good same within legal goes = absurd done
 
-  session_goes_well : (rs : List Request) (tolds : List Told) → All (λ r. All (IsWithin (pos 2147483647)) r.args) rs → LegalFrom find dev (Opens find dev) (map (call_of dev) rs) (replied dev rs (of_calls tolds)) →
-      Session (translation dev) fuel rs tolds → session_status tolds ≡ TrappedStatus → ⊥
-  session_goes_well rs [] within legal session trapped = session
-  session_goes_well rs (t ∷ ts) within legal session trapped =
-      opening_end t.end session.0.last t.cells rs ts (follows.opening fuel t.end session.0.last session.0.ends) session.0.cells within legal session.1 (told_trapped (last_end t.end ts) trapped)
+  session_done : (rs : List Request) (tolds : List Told) → All (λ r. All (IsWithin (pos 2147483647)) r.args) rs → AreLegal find dev rs tolds → Session (translation dev) fuel rs tolds → session_status tolds ≡ DoneStatus
+  session_done rs [] within legal session = absurd session
+  session_done rs (t ∷ ts) within legal session =
+      let first = done_within (length (init_code dev)) (first_start (translation dev)) session.0.last t.end in_code.opening (init_within dev) session.0.ends in
+      status_done (last_end t.end ts) (opening_done t.end session.0.last t.cells rs ts first (follows.opening fuel t.end session.0.last session.0.ends) session.0.cells within legal session.1)
     where
-      told_trapped : (e : End) → status_of e ≡ TrappedStatus → IsTrapped e
-      told_trapped (Done n) e = absurd (cc)
-      told_trapped (Trapped kind place n) e = tt
-      told_trapped OutOfFuel e = absurd (cc)
+      status_done : (e : End) → IsDone e → status_of e ≡ DoneStatus
+      status_done (Done n) h = refl
+      status_done (Trapped kind place n) h = absurd h
+      status_done OutOfFuel h = absurd h
 
 requests_within : (image : Image) (lines : List (List ℕ)) (rs : List Request) → AllZip (AsksFor image) lines rs → All (λ r. All (IsWithin (pos 2147483647)) r.args) rs
 requests_within image [] [] h = All-nil (λ r. All (IsWithin (pos 2147483647)) r.args)
@@ -188,9 +229,14 @@ requests_within image [] (r ∷ rs) h = elim h [ ]
 requests_within image (l ∷ ls) [] h = elim h [ ]
 requests_within image (l ∷ ls) (r ∷ rs) h = All-cons (λ x. All (IsWithin (pos 2147483647)) x.args) r rs h.0.range (requests_within image ls rs h.1)
 
-pub legal_calls_do_not_trap : LegalCallsDoNotTrap
-legal_calls_do_not_trap files words status text p find law legal trapped =
-    let facts = is_development p.reads.above p.reads.below p.dev p.reads.reads in
-    let simple = is_simple p.reads.above p.reads.below p.dev p.reads.reads in
-    let follows = project_follows files p.project p.dev p.scripts p.reads p.proved find law in
-    session_goes_well find p.dev facts simple follows p.requests p.tolds (requests_within (translation p.dev) (kept_lines p.asks.text) p.requests p.asks.script) legal p.session (sym p.last ∙ trapped)
+-- the calls of a project whose obligations are proved, and whose code is within its limits
+pub legal_calls_are_done : (files : Files) (project calls : List ℕ) (dev : Development) (scripts : List Script) (requests : List Request) → ReadsProject files project dev scripts → IsProved dev scripts → IsWithinCodeLimits (translation dev) →
+    ReadsCalls files calls (translation dev) requests → (find : Finder) → IsSearch find → (tolds : List Told) → Session (translation dev) fuel requests tolds → AreLegal find dev requests tolds → session_status tolds ≡ DoneStatus
+legal_calls_are_done files project calls dev scripts requests reads proved short asks find law tolds session legal =
+    session_done find dev (is_development reads.texts dev reads.reads) (is_simple reads.texts dev reads.reads) (project_follows files project dev scripts reads proved find law) (projects_end files project dev scripts reads proved find law) short.code
+    requests tolds (requests_within (translation dev) (kept_lines asks.text) requests asks.script) legal session
+
+-- and of what is played
+pub played_calls_are_done : LegalCallsAreDone
+played_calls_are_done files words status text played find law legal =
+    played.last ∙ legal_calls_are_done files played.project played.calls played.dev played.scripts played.requests played.reads played.proved played.short played.asks find law played.tolds played.session legal

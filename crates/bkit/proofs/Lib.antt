@@ -1,5 +1,6 @@
 pub mod Plays
 pub mod Fronts
+pub mod Following
 pub mod Projects
 pub mod Fetching
 pub mod RunWords
@@ -7,3 +8,4 @@ pub mod Stopping
 pub mod OneAnswer
 pub mod Answering
 pub mod Legal
+pub mod Runs

@@ -1,5 +1,5 @@
 -- The words and the told files have one answer at most: no two checks stop the program, and none does where it is played.
-use Rattle.std.proofs.Common.{◌≡◌, ℕ, ◌<◌, ◌≤◌, ◌⊎◌, inl, inr, List, [], ◌∷◌, length, slice_index_or, Option, Some, None, sym, ◌∙◌, ap, subst, arith}
+use Rattle.std.proofs.Common.{◌≡◌, ℕ, ◌<◌, ◌≤◌, ◌⊎◌, inl, inr, List, [], ◌∷◌, ◌++◌, length, Option, Some, None, sym, ◌∙◌, ap, subst, arith}
 use Rattle.std.proofs.lemmas.Option.{none-some}
 use Rattle.bk_io.specs.Files.{Files}
 use Rattle.bk_io.specs.Pieces.{WroteFront}
@@ -9,9 +9,10 @@ use Rattle.bk_code.specs.Session.{Request, Told, Session}
 use Rattle.bk_code.proofs.Sessions.{one_session}
 use Rattle.bk_dev.specs.Development.{Development}
 use Rattle.bk_gen.specs.Translation.{translation}
-use Rattle.bk_pair.specs.Developments.{Reads}
-use Rattle.bk_front.specs.ProjectFile.{NamesFiles, IsNoProject}
+use Rattle.bk_front.specs.ProjectFile.{NamesFiles}
+use Rattle.bk_front.specs.Project.{Reads}
 use Rattle.bk_front.proofs.ProjectFiles.{names_once}
+use Rattle.bk_front.proofs.Readings.{reads_machine}
 use Rattle.bk_po.specs.Obligations.{numbered, obligations}
 use Rattle.bk_po.specs.Limits.{PassTogether, PassNoLimit, all_nodes}
 use Rattle.bk_scripts.specs.WrittenRule.{Script}
@@ -30,9 +31,10 @@ use Rattle.bkit.specs.declared.stop.Stop.{Stop}
 use Rattle.bkit.specs.declared.stop.Stop.TheVariants.{Refused, Limit, Unproved, BadCalls}
 use Rattle.bkit.specs.Session.{fuel, status_of, last_end, session_status, PlaysFront}
 use Rattle.bkit.specs.Run.{AreRunWords, IsTold, AreTold, ReadsProject, IsProved, IsWithinCodeLimits, ReadsCalls, ReadsProgram, IsReady, IsExecuted, IsPlayed}
-use Rattle.bkit.specs.Stops.{StopsAtFile, StopsAtFiles, StopsAtTexts, StopsAtScripts, StopsAtTold, StopsAtComponents, StopsAtNames, StopsAtProject, StopsPastLimits, IsFirstOpen, StopsAtObligations, StopsAtScript, StopsAtCode, StopsAtCalls, StopsAtDevelopment, StopsAtRun, StopsAt, status_of_stop, stop_text}
+use Rattle.bkit.specs.Stops.{StopsAtFile, StopsAtFiles, StopsAtTexts, StopsAtScripts, StopsAtTold, StopsAtComponents, StopsAtNames, StopsAtProject, StopsPastLimits, IsFirstOpen, StopsAtObligations, StopsAtScript, StopsAtCode, StopsAtCalls, StopsAtDevelopment, StopsAtRun, StopsAt, name_at, status_of_stop, stop_text}
 use Rattle.bkit.specs.Answer.{IsAnswer, WritesAnswer}
 use Rattle.bkit.specs.Laws.{HasOneAnswer}
+use Rattle.bkit.proofs.Fetching.{both_told}
 use Rattle.bkit.proofs.Projects.{some_once, told_once, all_told_once, one_project}
 
 -- ---- a file
@@ -65,87 +67,71 @@ files_once files (n ∷ ns) s o (inr h) (inl k) = absurd (file_told files n o h.
 files_once files (n ∷ ns) s o (inr h) (inr k) = files_once files ns s o h.2 k.2
 
 -- ---- the components' texts and the proof files
-texts_read : (m i above below : List ℕ) (stop : Stop) (dev : Development) → StopsAtTexts m i above below stop → Reads above below dev → ⊥
-texts_read m i above below stop dev (inl h) r = h.1 (record { machine = r.machine; is = r.above; top = r.pair.top })
-texts_read m i above below stop dev (inr h) r = h.2 dev r
+texts_read : (components texts : List (List ℕ)) (stop : Stop) (dev : Development) → StopsAtTexts components texts stop → Reads texts dev → ⊥
+texts_read components texts stop dev (inl h) r = h.1 (reads_machine texts dev r)
+texts_read components texts stop dev (inr h) r = h.2 dev r
 
-texts_once : (m i above below : List ℕ) (s o : Stop) → StopsAtTexts m i above below s → StopsAtTexts m i above below o → s ≡ o
-texts_once m i above below s o (inl h) (inl k) = h.0 ∙ sym k.0
-texts_once m i above below s o (inr h) (inr k) = h.0 ∙ sym k.0
-texts_once m i above below s o (inl h) (inr k) = absurd (h.1 k.1)
-texts_once m i above below s o (inr h) (inl k) = absurd (k.1 h.1)
+texts_once : (components texts : List (List ℕ)) (s o : Stop) → StopsAtTexts components texts s → StopsAtTexts components texts o → s ≡ o
+texts_once components texts s o (inl h) (inl k) = h.0 ∙ sym k.0
+texts_once components texts s o (inr h) (inr k) = h.0 ∙ sym k.0
+texts_once components texts s o (inl h) (inr k) = absurd (h.1 k.1)
+texts_once components texts s o (inr h) (inl k) = absurd (k.1 h.1)
 
 scripts_read : (proofs texts : List (List ℕ)) (stop : Stop) (scripts : List Script) → StopsAtScripts proofs texts stop → AreScriptsOf texts scripts → ⊥
 scripts_read proofs texts stop scripts h s = faulty-have-none texts h.0 scripts h.2 s
 
 scripts_once : (proofs texts : List (List ℕ)) (s o : Stop) → StopsAtScripts proofs texts s → StopsAtScripts proofs texts o → s ≡ o
-scripts_once proofs texts s o h k = h.1 ∙ ap (λ n. Refused 15 (slice_index_or proofs n [])) (faulty-one texts h.0 k.0 h.2 k.2) ∙ sym k.1
+scripts_once proofs texts s o h k = h.1 ∙ ap (λ n. Refused 15 (name_at proofs n)) (faulty-one texts h.0 k.0 h.2 k.2) ∙ sym k.1
 
-module _ (m i : List ℕ) (proofs : List (List ℕ)) (above below : List ℕ) (texts : List (List ℕ)) where
-  told_read : (stop : Stop) (dev : Development) (scripts : List Script) → StopsAtTold m i proofs above below texts stop → Reads above below dev → AreScriptsOf texts scripts → ⊥
-  told_read stop dev scripts (inl h) r s = texts_read m i above below stop dev h r
-  told_read stop dev scripts (inr h) r s = scripts_read proofs texts stop scripts h.2 s
+module _ (components proofs texts proof_texts : List (List ℕ)) where
+  told_read : (stop : Stop) (dev : Development) (scripts : List Script) → StopsAtTold components proofs texts proof_texts stop → Reads texts dev → AreScriptsOf proof_texts scripts → ⊥
+  told_read stop dev scripts (inl h) r s = texts_read components texts stop dev h r
+  told_read stop dev scripts (inr h) r s = scripts_read proofs proof_texts stop scripts h.2 s
 
-  told_stop_once : (s o : Stop) → StopsAtTold m i proofs above below texts s → StopsAtTold m i proofs above below texts o → s ≡ o
-  told_stop_once s o (inl h) (inl k) = texts_once m i above below s o h k
-  told_stop_once s o (inl h) (inr k) = absurd (texts_read m i above below s k.0 h k.1)
-  told_stop_once s o (inr h) (inl k) = absurd (texts_read m i above below o h.0 k h.1)
-  told_stop_once s o (inr h) (inr k) = scripts_once proofs texts s o h.2 k.2
+  told_stop_once : (s o : Stop) → StopsAtTold components proofs texts proof_texts s → StopsAtTold components proofs texts proof_texts o → s ≡ o
+  told_stop_once s o (inl h) (inl k) = texts_once components texts s o h k
+  told_stop_once s o (inl h) (inr k) = absurd (texts_read components texts s k.0 h k.1)
+  told_stop_once s o (inr h) (inl k) = absurd (texts_read components texts o h.0 k h.1)
+  told_stop_once s o (inr h) (inr k) = scripts_once proofs proof_texts s o h.2 k.2
 
-first : List (List ℕ) → List ℕ
-first [] = []
-first (x ∷ xs) = x
-
-second_of : List (List ℕ) → List ℕ
-second_of (x ∷ y ∷ ys) = y
-second_of _ = []
-
-behind_two : List (List ℕ) → List (List ℕ)
-behind_two (x ∷ y ∷ ys) = ys
-behind_two _ = []
-
-module _ (files : Files) (m i : List ℕ) (proofs : List (List ℕ)) where
+module _ (files : Files) (components proofs : List (List ℕ)) where
   -- what stops at texts that are told stops at the ones that are told
-  same_told : (above below other_above other_below : List ℕ) (texts others : List (List ℕ)) (stop : Stop) → AreTold files (m ∷ i ∷ proofs) (above ∷ below ∷ texts) → AreTold files (m ∷ i ∷ proofs) (other_above ∷ other_below ∷ others) →
-      StopsAtTold m i proofs above below texts stop → StopsAtTold m i proofs other_above other_below others stop
-  unfolding first second_of behind_two
-  same_told above below other_above other_below texts others stop t u h =
-      let e = all_told_once files (m ∷ i ∷ proofs) (above ∷ below ∷ texts) (other_above ∷ other_below ∷ others) t u in
-      subst (λ x. StopsAtTold m i proofs other_above other_below x stop) (ap behind_two e)
-      (subst (λ x. StopsAtTold m i proofs other_above x texts stop) (ap second_of e) (subst (λ x. StopsAtTold m i proofs x below texts stop) (ap first e) h))
+  same_told : (texts proof_texts others other_proofs : List (List ℕ)) (stop : Stop) → AreTold files components texts → AreTold files proofs proof_texts → AreTold files components others → AreTold files proofs other_proofs →
+      StopsAtTold components proofs texts proof_texts stop → StopsAtTold components proofs others other_proofs stop
+  same_told texts proof_texts others other_proofs stop t u v w h =
+      subst (λ x. StopsAtTold components proofs others x stop) (all_told_once files proofs proof_texts other_proofs u w)
+      (subst (λ x. StopsAtTold components proofs x proof_texts stop) (all_told_once files components texts others t v) h)
 
-  components_read : (above below : List ℕ) (texts : List (List ℕ)) (stop : Stop) (dev : Development) (scripts : List Script) → StopsAtComponents files m i proofs stop → AreTold files (m ∷ i ∷ proofs) (above ∷ below ∷ texts) → Reads above below dev → AreScriptsOf texts scripts → ⊥
-  components_read above below texts stop dev scripts (inl h) t r s = files_told files (m ∷ i ∷ proofs) (above ∷ below ∷ texts) stop h t
-  components_read above below texts stop dev scripts (inr h) t r s = told_read m i proofs above below texts stop dev scripts (same_told h.0 h.1 above below h.2 texts stop h.3 t h.4) r s
+  components_read : (texts proof_texts : List (List ℕ)) (stop : Stop) (dev : Development) (scripts : List Script) → StopsAtComponents files components proofs stop → AreTold files components texts → AreTold files proofs proof_texts → Reads texts dev → AreScriptsOf proof_texts scripts → ⊥
+  components_read texts proof_texts stop dev scripts (inl h) t u r s = files_told files (components ++ proofs) (texts ++ proof_texts) stop h (both_told files components proofs texts proof_texts t u)
+  components_read texts proof_texts stop dev scripts (inr h) t u r s = told_read components proofs texts proof_texts stop dev scripts (same_told h.0 h.1 texts proof_texts stop h.2 h.3 t u h.4) r s
 
-  components_once : (s o : Stop) → StopsAtComponents files m i proofs s → StopsAtComponents files m i proofs o → s ≡ o
-  components_once s o (inl h) (inl k) = files_once files (m ∷ i ∷ proofs) s o h k
-  components_once s o (inl h) (inr k) = absurd (files_told files (m ∷ i ∷ proofs) (k.0 ∷ k.1 ∷ k.2) s h k.3)
-  components_once s o (inr h) (inl k) = absurd (files_told files (m ∷ i ∷ proofs) (h.0 ∷ h.1 ∷ h.2) o k h.3)
-  components_once s o (inr h) (inr k) = told_stop_once m i proofs k.0 k.1 k.2 s o (same_told h.0 h.1 k.0 k.1 h.2 k.2 s h.3 k.3 h.4) k.4
+  components_once : (s o : Stop) → StopsAtComponents files components proofs s → StopsAtComponents files components proofs o → s ≡ o
+  components_once s o (inl h) (inl k) = files_once files (components ++ proofs) s o h k
+  components_once s o (inl h) (inr k) = absurd (files_told files (components ++ proofs) (k.0 ++ k.1) s h (both_told files components proofs k.0 k.1 k.2 k.3))
+  components_once s o (inr h) (inl k) = absurd (files_told files (components ++ proofs) (h.0 ++ h.1) o k (both_told files components proofs h.0 h.1 h.2 h.3))
+  components_once s o (inr h) (inr k) = told_stop_once components proofs k.0 k.1 s o (same_told h.0 h.1 k.0 k.1 s h.2 h.3 k.2 k.3 h.4) k.4
 
 -- ---- the project
 module _ (files : Files) (project : List ℕ) where
-  -- the components of one project file are the same
-  same_components : (text m i n j : List ℕ) (ps qs : List (List ℕ)) (stop : Stop) → NamesFiles text m i ps → NamesFiles text n j qs → StopsAtComponents files m i ps stop → StopsAtComponents files n j qs stop
-  same_components text m i n j ps qs stop a b h =
-      let e = names_once text m i n j ps qs a b in
-      subst (λ x. StopsAtComponents files n j x stop) e.2 (subst (λ x. StopsAtComponents files n x ps stop) e.1 (subst (λ x. StopsAtComponents files x i ps stop) e.0 h))
+  -- the components and proof files of one project file are the same
+  same_components : (text : List ℕ) (components proofs others other_proofs : List (List ℕ)) (stop : Stop) → NamesFiles text components proofs → NamesFiles text others other_proofs →
+      StopsAtComponents files components proofs stop → StopsAtComponents files others other_proofs stop
+  same_components text components proofs others other_proofs stop a b h =
+      let e = names_once text components proofs others other_proofs a b in
+      subst (λ x. StopsAtComponents files others x stop) e.1 (subst (λ x. StopsAtComponents files x proofs stop) e.0 h)
 
   names_read : (stop : Stop) (dev : Development) (scripts : List Script) (r : ReadsProject files project dev scripts) → StopsAtNames files project r.text stop → ⊥
-  names_read stop dev scripts r (inl h) = h.1 r.names.named (record { written = r.names.written; machine = r.machine; implementation = r.implementation; components = r.names.components })
+  names_read stop dev scripts r (inl h) = h.1 r.names.named r.names.are
   names_read stop dev scripts r (inr h) =
-      components_read files r.machine r.implementation r.proofs r.above r.below r.proof_texts stop dev scripts
-      (same_components r.text h.0 h.1 r.machine r.implementation h.2 r.proofs stop h.3 r.names h.4) r.texts_told r.reads r.scripts_are
-
-  named_or_not : (text m i : List ℕ) (ps : List (List ℕ)) → NamesFiles text m i ps → IsNoProject text → ⊥
-  named_or_not text m i ps n none = none n.named (record { written = n.written; machine = m; implementation = i; components = n.components })
+      components_read files r.components r.proofs r.texts r.proof_texts stop dev scripts
+      (same_components r.text h.0 h.1 r.components r.proofs stop h.2 r.names h.3) r.texts_told r.proofs_told r.reads r.scripts_are
 
   names_stop_once : (text : List ℕ) (s o : Stop) → StopsAtNames files project text s → StopsAtNames files project text o → s ≡ o
   names_stop_once text s o (inl h) (inl k) = h.0 ∙ sym k.0
-  names_stop_once text s o (inl h) (inr k) = absurd (named_or_not text k.0 k.1 k.2 k.3 h.1)
-  names_stop_once text s o (inr h) (inl k) = absurd (named_or_not text h.0 h.1 h.2 h.3 k.1)
-  names_stop_once text s o (inr h) (inr k) = components_once files k.0 k.1 k.2 s o (same_components text h.0 h.1 k.0 k.1 h.2 k.2 s h.3 k.3 h.4) k.4
+  names_stop_once text s o (inl h) (inr k) = absurd (h.1 k.2.named k.2.are)
+  names_stop_once text s o (inr h) (inl k) = absurd (k.1 h.2.named h.2.are)
+  names_stop_once text s o (inr h) (inr k) = components_once files k.0 k.1 s o (same_components text h.0 h.1 k.0 k.1 s h.2 k.2 h.3) k.3
 
   project_read : (stop : Stop) (dev : Development) (scripts : List Script) → StopsAtProject files project stop → ReadsProject files project dev scripts → ⊥
   project_read stop dev scripts (inl h) r = file_told files project stop r.text h r.told
@@ -308,6 +294,10 @@ module _ (files : Files) (words : List (List ℕ)) where
   stop_once s o (inr h) (inl k) = absurd (k.1 h.0 h.1 h.2)
   stop_once s o (inr h) (inr k) = run_once files k.0 k.1 s o (words_run h.0 h.1 k.0 k.1 s h.2 k.2 h.3) k.3
 
+  pub stops_or_is_ready : (stop : Stop) → StopsAt files words stop → IsReady files words → ⊥
+  stops_or_is_ready stop (inl h) r = h.1 r.project r.calls r.are_words
+  stops_or_is_ready stop (inr h) r = run_asked files r.project r.calls stop r.dev r.scripts r.requests (words_run h.0 h.1 r.project r.calls stop h.2 r.are_words h.3) r.reads r.proved r.short r.asks
+
   pub stops_or_is_played : (stop : Stop) (status : Status) (text : List ℕ) → StopsAt files words stop → IsPlayed files words status text → ⊥
   stops_or_is_played stop status text (inl h) p = h.1 p.project p.calls p.are_words
   stops_or_is_played stop status text (inr h) p = run_asked files p.project p.calls stop p.dev p.scripts p.requests (words_run h.0 h.1 p.project p.calls stop h.2 p.are_words h.3) p.reads p.proved p.short p.asks
@@ -369,7 +359,5 @@ pub ready_executed : (files : Files) (words : List (List ℕ)) (old new : Option
 ready_executed files words old new status w r = by w.answer
   where
     by : IsAnswer files words status w.text → IsExecuted status
-    by (inl (stop, inl h, is, text_is)) = absurd (h.1 r.project r.calls r.are_words)
-    by (inl (stop, inr h, is, text_is)) =
-        absurd (run_asked files r.project r.calls stop r.dev r.scripts r.requests (words_run files words h.0 h.1 r.project r.calls stop h.2 r.are_words h.3) r.reads r.proved r.short r.asks)
+    by (inl (stop, h, is, text_is)) = absurd (stops_or_is_ready files words stop h r)
     by (inr p) = subst IsExecuted (sym p.last) (session_executed p.tolds)

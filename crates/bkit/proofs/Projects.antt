@@ -1,41 +1,30 @@
 -- What the files of a project tell.
-use Rattle.std.proofs.Common.{◌≡◌, ℕ, zero, suc, slice_index_or, Vec, Global, Bor, ◌+◌, ◌<◌, ◌≤◌, Bool, true, false, not, cond, List, [], ◌∷◌, length, map, filter, All, Option, Some, None, refl, sym, ◌∙◌, ap, subst, arith}
+use Rattle.std.proofs.Common.{◌≡◌, ℕ, Vec, Global, Bor, ◌+◌, ◌<◌, ◌≤◌, Bool, true, false, not, cond, List, [], ◌∷◌, length, map, filter, All, Option, Some, None, refl, sym, ◌∙◌, ap, subst, arith}
 use Rattle.std.specs.List.{AllZip}
 use Rattle.std.specs.Str.Lines.{lines}
 use Rattle.std.proofs.lemmas.List.{length-map}
 use Rattle.std.proofs.lemmas.List.Elements.{All-cons, All-nil}
 use Rattle.bk_io.specs.Files.{Files}
 use Rattle.bk_code.specs.declared.image.Image.{Image}
-use Rattle.bk_code.specs.Session.{Request, Session}
+use Rattle.bk_code.specs.Session.{Request}
 use Rattle.bk_lines.specs.Lines.{kept_lines, is_skipped}
 use Rattle.bk_form.specs.Search.{Finder, IsSearch}
 use Rattle.bk_dev.specs.Development.{Head, Body, Development, level_at, last}
-use Rattle.bk_dev.specs.Facts.{IsDevelopment}
 use Rattle.bk_gen.specs.Translation.{translation, entries, init_code, operation_code}
-use Rattle.bk_gen.specs.Simple.{IsSimple}
 use Rattle.bk_sim.specs.Follows.{Follows}
-use Rattle.bk_po.specs.Plain.{IsPlain}
-use Rattle.bk_pair.specs.Developments.{Reads}
-use Rattle.bk_lex.proofs.Cutting.{tokens_are_one}
-use Rattle.bk_comp.proofs.Contained.{texts-over}
-use Rattle.bk_comp.proofs.OneComponent.{text-one}
-use Rattle.bk_pair.specs.PairLaws.{PairIsDevelopment, PairIsSimple, PairIsPlain, ReadAtMostOne}
-use Rattle.bk_pair.proofs.Texts.{texts-development, texts-simple, texts-plain, read-one}
 use Rattle.bk_front.specs.declared.project_file.ProjectLine.{ProjectLine}
-use Rattle.bk_front.specs.ProjectFile.{IsFileName, IsProjectLine, NamesFiles, AreProjectLines, names, is_proofs, files_of}
-use Rattle.bk_front.specs.Project.{text_at}
+use Rattle.bk_front.specs.ProjectFile.{IsFileName, IsProjectLine, NamesFiles, AreProjectLines, is_proofs, files_of}
+use Rattle.bk_front.specs.Project.{Reads}
 use Rattle.bk_front.proofs.ProjectFiles.{names_once}
+use Rattle.bk_front.proofs.Readings.{projects_are_one, is_development, is_simple, is_plain}
 use Rattle.bk_scripts.specs.WrittenRule.{Script}
 use Rattle.bk_scripts.specs.Files.{AreScriptsOf}
 use Rattle.bk_scripts.specs.Laws.{ScriptsAreOne}
 use Rattle.bk_scripts.proofs.One.{one-for-texts}
-use Rattle.bk_status.proofs.Tables.{proved_developments_follow}
+use Rattle.bkit.proofs.Following.{proved_developments_follow}
 use Rattle.bk_calls.specs.Script.{IsScript, most_calls}
-use Rattle.bk_calls.specs.Transcript.{transcript}
 use Rattle.bk_calls.proofs.Lines.{lines_within}
-use Rattle.bkit.specs.declared.status.Status.{Status}
-use Rattle.bkit.specs.Session.{fuel, Plays}
-use Rattle.bkit.specs.Run.{AreRunWords, WritesRun, IsTold, AreTold, ReadsProject, IsProved, ReadsProgram}
+use Rattle.bkit.specs.Run.{IsTold, AreTold, ReadsProject, IsProved, ReadsProgram}
 
 -- ---- what the files tell under a name is one text
 -- what stands in two equal options
@@ -58,11 +47,8 @@ all_told_once files (n ∷ ns) (t ∷ ts) [] h k = elim k [ ]
 all_told_once files (n ∷ ns) (t ∷ ts) (u ∷ us) h k = λ i. told_once files n t u h.0 k.0 i ∷ all_told_once files ns ts us h.1 k.1 i
 
 -- ---- the lines of a project file
-pub names_of : (text : List ℕ) (ls : List ProjectLine) (are : AreProjectLines text ls) → NamesFiles text are.machine are.implementation (files_of true ls)
-names_of text ls are = record { named = ls; written = are.written; components = are.components; proofs_are = refl }
-
-pub two_files : (text : List ℕ) (ls : List ProjectLine) (are : AreProjectLines text ls) → files_of false ls ≡ are.machine ∷ are.implementation ∷ []
-two_files text ls are = ap names are.components
+pub names_of : (text : List ℕ) (ls : List ProjectLine) → AreProjectLines text ls → NamesFiles text (files_of false ls) (files_of true ls)
+names_of text ls are = record { named = ls; are = are; components_are = refl; proofs_are = refl }
 
 file_names_in : (written : List (List ℕ)) (ls : List ProjectLine) → AllZip IsProjectLine written ls → All (λ l. IsFileName l.name) ls
 file_names_in [] [] h = All-nil (λ l. IsFileName l.name)
@@ -93,68 +79,31 @@ few_project_lines text ls short are =
     omega (arith, short, as_many (kept_lines text) ls are.written, fewer_kept (λ line. not (is_skipped line)) (lines text), lines_within text)
 
 -- ---- a project is read as one development and one list of scripts
-read_at_most_one : ReadAtMostOne
-read_at_most_one = read-one (text-one tokens_are_one)
-
 scripts_are_one : ScriptsAreOne
 scripts_are_one = one-for-texts
 
-abbrev first : List (List ℕ) → List ℕ
-first [] = []
-first (x ∷ xs) = x
-
-abbrev second : List (List ℕ) → List ℕ
-second (x ∷ y ∷ ys) = y
-second _ = []
-
-abbrev behind_two : List (List ℕ) → List (List ℕ)
-behind_two (x ∷ y ∷ ys) = ys
-behind_two _ = []
-
 module _ (files : Files) (project : List ℕ) (dev other : Development) (scripts others : List Script) (h : ReadsProject files project dev scripts) (k : ReadsProject files project other others) where
-  same_names : (h.machine ∷ h.implementation ∷ h.proofs) ≡ (k.machine ∷ k.implementation ∷ k.proofs)
+  same_names : (h.components ≡ k.components) × (h.proofs ≡ k.proofs)
   same_names =
       let text : h.text ≡ k.text = told_once files project h.text k.text h.told k.told in
-      let e = names_once k.text h.machine h.implementation k.machine k.implementation h.proofs k.proofs (subst (λ x. NamesFiles x h.machine h.implementation h.proofs) text h.names) k.names in
-      λ i. e.0 i ∷ e.1 i ∷ e.2 i
+      names_once k.text h.components h.proofs k.components k.proofs (subst (λ x. NamesFiles x h.components h.proofs) text h.names) k.names
 
-  same_texts : (h.above ∷ h.below ∷ h.proof_texts) ≡ (k.above ∷ k.below ∷ k.proof_texts)
-  same_texts =
-      all_told_once files (k.machine ∷ k.implementation ∷ k.proofs) (h.above ∷ h.below ∷ h.proof_texts) (k.above ∷ k.below ∷ k.proof_texts)
-      (subst (λ x. AreTold files x (h.above ∷ h.below ∷ h.proof_texts)) same_names h.texts_told) k.texts_told
+  same_texts : h.texts ≡ k.texts
+  same_texts = all_told_once files k.components h.texts k.texts (subst (λ x. AreTold files x h.texts) same_names.0 h.texts_told) k.texts_told
+
+  same_proof_texts : h.proof_texts ≡ k.proof_texts
+  same_proof_texts = all_told_once files k.proofs h.proof_texts k.proof_texts (subst (λ x. AreTold files x h.proof_texts) same_names.1 h.proofs_told) k.proofs_told
 
   pub one_project : (other ≡ dev) × (others ≡ scripts)
-  one_project =
-      let above : h.above ≡ k.above = ap first same_texts in
-      let below : h.below ≡ k.below = ap second same_texts in
-      let proofs : h.proof_texts ≡ k.proof_texts = ap behind_two same_texts in (
-        sym (read_at_most_one k.above k.below dev other (subst (λ x. Reads x k.below dev) above (subst (λ x. Reads h.above x dev) below h.reads)) k.reads),
-        sym (scripts_are_one k.proof_texts scripts others (subst (λ x. AreScriptsOf x scripts) proofs h.scripts_are) k.scripts_are),
-      )
+  one_project = (
+    sym (projects_are_one k.texts dev other (subst (λ x. Reads x dev) same_texts h.reads) k.reads),
+    sym (scripts_are_one k.proof_texts scripts others (subst (λ x. AreScriptsOf x scripts) same_proof_texts h.scripts_are) k.scripts_are),
+  )
 
 -- ---- a project whose obligations are proved has code that follows its machine
-pair_is_development : PairIsDevelopment
-pair_is_development = texts-development texts-over
-
-pair_is_simple : PairIsSimple
-pair_is_simple = texts-simple texts-over
-
-pair_is_plain : PairIsPlain
-pair_is_plain = texts-plain texts-over
-
-module _ (above below : List ℕ) (dev : Development) (h : Reads above below dev) where
-  pub is_development : IsDevelopment dev
-  is_development = subst IsDevelopment (sym h.is) (pair_is_development above below h.machine h.implementation h.above h.below h.pair)
-
-  pub is_simple : IsSimple dev
-  is_simple = subst IsSimple (sym h.is) (pair_is_simple above below h.machine h.implementation h.above h.below h.pair)
-
-  pub is_plain : IsPlain dev
-  is_plain = subst IsPlain (sym h.is) (pair_is_plain above below h.machine h.implementation h.above h.below h.pair)
-
 pub project_follows : (files : Files) (project : List ℕ) (dev : Development) (scripts : List Script) → ReadsProject files project dev scripts → IsProved dev scripts → (find : Finder) → IsSearch find → Follows find dev (translation dev)
 project_follows files project dev scripts h proved find law =
-    proved_developments_follow find law dev scripts (is_development h.above h.below dev h.reads) (is_simple h.above h.below dev h.reads) (is_plain h.above h.below dev h.reads) proved.proved
+    proved_developments_follow find law dev scripts (is_development h.texts dev h.reads) (is_simple h.texts dev h.reads) (is_plain h.texts dev h.reads) proved.proved
 
 -- ---- the translation
 entries_within : (dev : Development) (place : ℕ) (hs : List Head) (bs : List Body) → length (entries dev place hs bs) ≤ length hs
@@ -184,42 +133,9 @@ reads_program files project calls text dev scripts image requests reads proved e
   asks = record { text = text; told = told; script = subst (λ x. IsScript x text requests) e script; few = few };
 }
 
--- ---- the run
-pub writes_run : (files : Files) (words : List (List ℕ)) (project calls : List ℕ) (image : Image) (requests : List Request) (status : Status) (before after : Option (List ℕ)) →
-    AreRunWords words project calls → ReadsProgram files project calls image requests → Plays image requests status before after → WritesRun files words before after status
-writes_run files words project calls image requests status before after are r p = record {
-  text = transcript image fuel requests p.tolds;
-  run = record {
-    played = record {
-      project = project;
-      calls = calls;
-      are_words = are;
-      dev = r.dev;
-      scripts = r.scripts;
-      reads = r.reads;
-      proved = r.proved;
-      short = r.short;
-      requests = requests;
-      asks = r.asks;
-      tolds = p.tolds;
-      session = subst (λ x. Session x fuel requests p.tolds) r.translated p.session;
-      last = p.last;
-      transcript_is = ap (λ x. transcript x fuel requests p.tolds) r.translated;
-    };
-    only = λ other others k. one_project files project r.dev other r.scripts others r.reads k;
-    follows = project_follows files project r.dev r.scripts r.reads r.proved;
-  };
-  appended = p.written;
-}
-
 -- ---- texts
 abbrev pub texts_of : List (Vec ℕ Global) → List (List ℕ)
 texts_of texts = map (λ text. text.items) texts
-
-pub text_is : (texts : List (Vec ℕ Global)) (n : ℕ) → text_at texts n ≡ slice_index_or (texts_of texts) n []
-text_is [] n = refl
-text_is (t ∷ ts) zero = refl
-text_is (t ∷ ts) (suc n) = text_is ts n
 
 pub few_files : (b : Bool) (ls : List ProjectLine) → length ls ≤ 16777216 → length (files_of b ls) < 4294967296
 few_files true ls h = omega (arith, h, length-map (filter (λ l. is_proofs l.kind) ls) (λ l. l.name), fewer_kept (λ l. is_proofs l.kind) ls)

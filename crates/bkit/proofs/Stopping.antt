@@ -1,5 +1,5 @@
 -- Why the program stops, check by check.
-use Rattle.std.proofs.Common.{◌≡◌, ℕ, ◌<◌, ◌≤◌, ◌⊎◌, inl, inr, true, false, List, [], ◌∷◌, length, slice_index_or, Result, Ok, Err, IfErr, IsErrAnd, refl, sym, ◌∙◌, ap, subst}
+use Rattle.std.proofs.Common.{◌≡◌, ℕ, ◌<◌, ◌≤◌, ◌⊎◌, inl, inr, true, false, List, [], length, Result, Ok, Err, IfErr, IsErrAnd, refl, sym, ◌∙◌, ap, subst}
 use Rattle.bk_io.specs.Files.{Files}
 use Rattle.bk_code.specs.declared.image.Image.{Image}
 use Rattle.bk_dev.specs.Development.{Development}
@@ -12,8 +12,7 @@ use Rattle.bk_front.specs.declared.refusal.Refusal.TheVariants.{Memory as OutOfM
 use Rattle.bk_front.specs.declared.project_file.ProjectLine.{ProjectLine}
 use Rattle.bk_front.specs.ProjectFile.{AreProjectLines, IsNoProject, files_of}
 use Rattle.bk_front.specs.Refusals.{not_built}
-use Rattle.bk_front.specs.Project.{IsRefusal}
-use Rattle.bk_pair.specs.Developments.{Reads}
+use Rattle.bk_front.specs.Project.{Reads, IsRefusal}
 use Rattle.bk_scripts.specs.WrittenRule.{Script}
 use Rattle.bk_scripts.specs.Files.{AreScriptsOf, IsFaultOf as IsFaultOfProofs}
 use Rattle.bk_scripts.specs.declared.fault.ScriptFault.{ScriptFault}
@@ -26,8 +25,8 @@ use Rattle.bkit.specs.declared.stop.Stop.{Stop}
 use Rattle.bkit.specs.declared.stop.Stop.TheVariants.{Usage, Missing, Refused, Limit, Unproved, BadCalls, ReadFault, WriteFault, Memory}
 use Rattle.bkit.specs.Causes.{IsOfReading, IsOfChecks}
 use Rattle.bkit.specs.Run.{IsTold, AreTold, ReadsProject, AreRunWords, IsProved}
-use Rattle.bkit.specs.Stops.{IsOutside, StopsAtFile, StopsAtFiles, StopsAtTold, StopsAtComponents, StopsAtProject, StopsPastLimits, StopsAtObligations, StopsAtScript, StopsAtRun, StopsAt, stop_of_refusal, stop_of_proofs, stop_of_code, stop_of_calls}
-use Rattle.bkit.proofs.Projects.{names_of, two_files}
+use Rattle.bkit.specs.Stops.{IsOutside, StopsAtFile, StopsAtFiles, StopsAtTold, StopsAtComponents, StopsAtProject, StopsPastLimits, StopsAtObligations, StopsAtScript, StopsAtRun, StopsAt, name_at, stop_of_refusal, stop_of_proofs, stop_of_code, stop_of_calls}
+use Rattle.bkit.proofs.Projects.{names_of}
 use Rattle.bkit.proofs.Fetching.{stops_before, stops_behind}
 
 -- what an error says may be weakened
@@ -72,59 +71,45 @@ module _ (files : Files) (project text : List ℕ) (told : IsTold files project 
   at_lines refusal stop (inr h) is = inr (inr (text, told, inl (is ∙ ap (λ r. stop_of_refusal r project []) h.0, h.1)))
 
   module _ (ls : List ProjectLine) (are : AreProjectLines text ls) where
-    at_names : (stop : Stop) → StopsAtComponents files are.machine are.implementation (files_of true ls) stop → IsOutside stop ⊎ StopsAtProject files project stop
-    at_names stop h = inr (inr (text, told, inr (are.machine, are.implementation, files_of true ls, names_of text ls are, h)))
+    at_names : (stop : Stop) → StopsAtComponents files (files_of false ls) (files_of true ls) stop → IsOutside stop ⊎ StopsAtProject files project stop
+    at_names stop h = inr (inr (text, told, inr (files_of false ls, files_of true ls, names_of text ls are, h)))
 
     pub at_components : (names : List (List ℕ)) (stop : Stop) → names ≡ files_of false ls → IsOutside stop ⊎ StopsAtFiles files names stop → IsOutside stop ⊎ StopsAtProject files project stop
     at_components names stop e (inl o) = inl o
-    at_components names stop e (inr s) =
-        at_names stop (inl (stops_before files (are.machine ∷ are.implementation ∷ []) (files_of true ls) stop (subst (λ x. StopsAtFiles files x stop) (e ∙ two_files text ls are) s)))
+    at_components names stop e (inr s) = at_names stop (inl (stops_before files (files_of false ls) (files_of true ls) stop (subst (λ x. StopsAtFiles files x stop) e s)))
 
     pub at_proofs : (names proofs texts : List (List ℕ)) (stop : Stop) → names ≡ files_of false ls → proofs ≡ files_of true ls → AreTold files names texts → IsOutside stop ⊎ StopsAtFiles files proofs stop → IsOutside stop ⊎ StopsAtProject files project stop
     at_proofs names proofs texts stop e d t (inl o) = inl o
     at_proofs names proofs texts stop e d t (inr s) =
-        at_names stop (inl (stops_behind files (are.machine ∷ are.implementation ∷ []) (files_of true ls) texts stop
-        (subst (λ x. AreTold files x texts) (e ∙ two_files text ls are) t) (subst (λ x. StopsAtFiles files x stop) d s)))
+        at_names stop (inl (stops_behind files (files_of false ls) (files_of true ls) texts stop (subst (λ x. AreTold files x texts) e t) (subst (λ x. StopsAtFiles files x stop) d s)))
 
-    -- the texts of the two components and of the proof files
+    -- the texts of the components and of the proof files
     module _ (names proofs texts proof_texts : List (List ℕ)) (e : names ≡ files_of false ls) (d : proofs ≡ files_of true ls) (t : AreTold files names texts) (u : AreTold files proofs proof_texts) where
-      all_told : AreTold files (are.machine ∷ are.implementation ∷ files_of true ls) (slice_index_or texts 0 [] ∷ slice_index_or texts 1 [] ∷ proof_texts)
-      all_told = by texts (subst (λ x. AreTold files x texts) (e ∙ two_files text ls are) t)
-        where
-          by : (ts : List (List ℕ)) → AreTold files (are.machine ∷ are.implementation ∷ []) ts → AreTold files (are.machine ∷ are.implementation ∷ files_of true ls) (slice_index_or ts 0 [] ∷ slice_index_or ts 1 [] ∷ proof_texts)
-          by [] h = elim h [ ]
-          by (x ∷ []) h = elim h.1 [ ]
-          by (x ∷ y ∷ []) h = (h.0, (h.1.0, subst (λ z. AreTold files z proof_texts) d u))
-          by (x ∷ y ∷ z ∷ zs) h = elim h.1.1 [ ]
+      at_told : (stop : Stop) → StopsAtTold (files_of false ls) (files_of true ls) texts proof_texts stop → IsOutside stop ⊎ StopsAtProject files project stop
+      at_told stop h = at_names stop (inr (texts, proof_texts, subst (λ x. AreTold files x texts) e t, subst (λ x. AreTold files x proof_texts) d u, h))
 
-      at_told : (stop : Stop) → StopsAtTold are.machine are.implementation (files_of true ls) (slice_index_or texts 0 []) (slice_index_or texts 1 []) proof_texts stop → IsOutside stop ⊎ StopsAtProject files project stop
-      at_told stop h = at_names stop (inr (slice_index_or texts 0 [], slice_index_or texts 1 [], proof_texts, all_told, h))
-
-      pub at_texts : (refusal : Refusal) (stop : Stop) → IsRefusal (slice_index_or texts 0 []) (slice_index_or texts 1 []) refusal → stop ≡ stop_of_refusal refusal project names → IsOutside stop ⊎ StopsAtProject files project stop
+      pub at_texts : (refusal : Refusal) (stop : Stop) → IsRefusal texts refusal → stop ≡ stop_of_refusal refusal project names → IsOutside stop ⊎ StopsAtProject files project stop
       at_texts refusal stop (inl h) is = inl (outside_memory stop (is ∙ ap (λ r. stop_of_refusal r project names) h))
-      at_texts refusal stop (inr (inl h)) is =
-          at_told stop (inl (inl (is ∙ ap (λ r. stop_of_refusal r project names) h.0 ∙ ap (λ x. Refused 15 (slice_index_or x 0 [])) (e ∙ two_files text ls are), h.1)))
-      at_texts refusal stop (inr (inr h)) is =
-          at_told stop (inl (inr (is ∙ ap (λ r. stop_of_refusal r project names) h.0 ∙ ap (λ x. Refused 15 (slice_index_or x 1 [])) (e ∙ two_files text ls are), h.1, h.2)))
+      at_texts refusal stop (inr (inl h)) is = at_told stop (inl (inl (is ∙ ap (λ r. stop_of_refusal r project names) h.0 ∙ ap (λ x. Refused 15 (name_at x 0)) e, h.1)))
+      at_texts refusal stop (inr (inr h)) is = at_told stop (inl (inr (is ∙ ap (λ r. stop_of_refusal r project names) h.0 ∙ ap (λ x. Refused 15 (name_at x 1)) e, h.1, h.2)))
 
-      pub at_scripts : (dev : Development) (fault : ScriptFault) (stop : Stop) → Reads (slice_index_or texts 0 []) (slice_index_or texts 1 []) dev → IsFaultOfProofs proof_texts fault → stop ≡ stop_of_proofs fault proofs → IsOutside stop ⊎ StopsAtProject files project stop
+      pub at_scripts : (dev : Development) (fault : ScriptFault) (stop : Stop) → Reads texts dev → IsFaultOfProofs proof_texts fault → stop ≡ stop_of_proofs fault proofs → IsOutside stop ⊎ StopsAtProject files project stop
       at_scripts dev (FaultOfProofs number file place) stop reads h is =
-          at_told stop (inr (dev, reads, (file, is ∙ ap (λ n. Refused n (slice_index_or proofs file [])) h.0 ∙ ap (λ x. Refused 15 (slice_index_or x file [])) d, h.2)))
+          at_told stop (inr (dev, reads, (file, is ∙ ap (λ n. Refused n (name_at proofs file)) h.0 ∙ ap (λ x. Refused 15 (name_at x file)) d, h.2)))
       at_scripts dev (LimitOfProofs number file) stop reads h is = elim h [ ]
       at_scripts dev NoRoomForProofs stop reads h is = inl (outside_memory stop is)
 
-      pub reads_project : (dev : Development) (scripts : List Script) → Reads (slice_index_or texts 0 []) (slice_index_or texts 1 []) dev → AreScriptsOf proof_texts scripts → ReadsProject files project dev scripts
+      pub reads_project : (dev : Development) (scripts : List Script) → Reads texts dev → AreScriptsOf proof_texts scripts → ReadsProject files project dev scripts
       reads_project dev scripts reads are_scripts = record {
         text = text;
         told = told;
-        machine = are.machine;
-        implementation = are.implementation;
+        components = files_of false ls;
         proofs = files_of true ls;
         names = names_of text ls are;
-        above = slice_index_or texts 0 [];
-        below = slice_index_or texts 1 [];
+        texts = texts;
         proof_texts = proof_texts;
-        texts_told = all_told;
+        texts_told = subst (λ x. AreTold files x texts) e t;
+        proofs_told = subst (λ x. AreTold files x proof_texts) d u;
         reads = reads;
         scripts_are = are_scripts;
       }

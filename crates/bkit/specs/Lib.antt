@@ -1,7 +1,10 @@
 pub mod Session
 pub mod Codes
+pub mod Legal
 pub mod Run
 pub mod Stops
 pub mod Causes
 pub mod Answer
+pub mod Outcome
+pub mod Following
 pub mod Laws

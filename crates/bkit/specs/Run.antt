@@ -9,8 +9,9 @@ use Rattle.bk_form.specs.Search.{Finder, IsSearch}
 use Rattle.bk_dev.specs.Development.{Development}
 use Rattle.bk_gen.specs.Translation.{translation}
 use Rattle.bk_front.specs.ProjectFile.{NamesFiles}
-use Rattle.bk_pair.specs.Developments.{Reads}
+use Rattle.bk_front.specs.Project.{Reads}
 use Rattle.bk_sim.specs.Follows.{Follows}
+use Rattle.bk_sim.specs.Within.{EndsInCode}
 use Rattle.bk_po.specs.Obligations.{obligations}
 use Rattle.bk_po.specs.Limits.{PassNoLimit}
 use Rattle.bk_scripts.specs.WrittenRule.{Script}
@@ -21,6 +22,7 @@ use Rattle.bk_calls.specs.Transcript.{transcript}
 use Rattle.bkit.specs.declared.status.Status.{Status}
 use Rattle.bkit.specs.declared.status.Status.TheVariants.{Done, Trapped, OutOfFuel, Incomplete, BadImage}
 use Rattle.bkit.specs.Session.{fuel, session_status}
+use Rattle.bkit.specs.Legal.{AreLegal}
 
 -- ---- words
 -- whether a word begins with -, as an option does
@@ -52,15 +54,14 @@ AreTold files names texts = AllZip (IsTold files) names texts
 pub record ReadsProject (files : Files) (project : List ℕ) (dev : Development) (scripts : List Script) : Type 0 where
   pub text : List ℕ
   pub told : IsTold files project text
-  pub machine : List ℕ
-  pub implementation : List ℕ
+  pub components : List (List ℕ)
   pub proofs : List (List ℕ)
-  pub names : NamesFiles text machine implementation proofs
-  pub above : List ℕ
-  pub below : List ℕ
+  pub names : NamesFiles text components proofs
+  pub texts : List (List ℕ)
   pub proof_texts : List (List ℕ)
-  pub texts_told : AreTold files (machine ∷ implementation ∷ proofs) (above ∷ below ∷ proof_texts)
-  pub reads : Reads above below dev
+  pub texts_told : AreTold files components texts
+  pub proofs_told : AreTold files proofs proof_texts
+  pub reads : Reads texts dev
   pub scripts_are : AreScriptsOf proof_texts scripts
 
 -- the call script that the files tell asks for these calls of the image, at most 1000000
@@ -130,7 +131,7 @@ pub record IsPlayed (files : Files) (words : List (List ℕ)) (status : Status) 
   pub last : status ≡ session_status tolds
   pub transcript_is : text ≡ transcript (translation dev) fuel requests tolds
 
--- the session is played, and the code follows the machine
+-- the session is played, and the code follows the machine and ends
 pub record IsRun (files : Files) (words : List (List ℕ)) (status : Status) (text : List ℕ) : Type 0 where
   pub played : IsPlayed files words status text
   -- the one development, and the one list of scripts, that the told texts are read as
@@ -138,12 +139,24 @@ pub record IsRun (files : Files) (words : List (List ℕ)) (status : Status) (te
   -- for every search: up to the first call whose precondition may be false the replies are those of a run of the abstract
   -- machine, no call traps, and one out of fuel would end with more
   pub follows : (find : Finder) → IsSearch find → Follows find played.dev (translation played.dev)
+  -- for every search: the initialisation and each legal call are done with a fuel equal to the length of their code, Ret included,
+  -- and with every larger one
+  pub ends : (find : Finder) → IsSearch find → EndsInCode find played.dev (translation played.dev)
+  -- for every search: where each call of the script is legal after those before it, all are done
+  pub legal : (find : Finder) → IsSearch find → AreLegal find played.dev played.requests played.tolds → status ≡ Done
 
 -- what is written is what had been written, and then the text of the run
 pub record WritesRun (files : Files) (words : List (List ℕ)) (old new : Option (List ℕ)) (status : Status) : Type 0 where
   pub text : List ℕ
   pub run : IsRun files words status text
   pub appended : new ≡ written_with old text
+
+-- for every search: where no check stops the run, and each call of its script is legal after those before it with the replies of the
+-- session, the status is Done; so where it is Trapped or OutOfFuel, some call was not legal
+abbrev pub IsDoneWhereLegal : Files → List (List ℕ) → Status → Type 0
+IsDoneWhereLegal files words status =
+    (ready : IsReady files words) (tolds : List Told) → Session (translation ready.dev) fuel ready.requests tolds → (find : Finder) → IsSearch find →
+    AreLegal find ready.dev ready.requests tolds → status ≡ Done
 
 -- the statuses that come so far: each project has an implementation, and no image is read
 abbrev pub ComesSoFar : Status → Type 0

@@ -9,8 +9,7 @@ use Rattle.bk_gen.specs.Translation.{translation}
 use Rattle.bk_front.specs.declared.refusal.Refusal.{Refusal}
 use Rattle.bk_front.specs.declared.refusal.Refusal.TheVariants.{Fault, Limit as LimitOfText, Memory as OutOfMemory}
 use Rattle.bk_front.specs.ProjectFile.{NamesFiles, IsNoProject}
-use Rattle.bk_front.specs.Project.{IsMachineText}
-use Rattle.bk_pair.specs.Developments.{Reads}
+use Rattle.bk_front.specs.Project.{IsMachineText, text_at, Reads}
 use Rattle.bk_po.specs.Obligations.{obligations}
 use Rattle.bk_po.specs.Limits.{first_too_large, PassTogether, PassNoLimit}
 use Rattle.bk_scripts.specs.WrittenRule.{Script}
@@ -79,11 +78,15 @@ abbrev pub StopsAtFile : Files → List ℕ → Stop → Type 0
 StopsAtFile files name stop =
     ((stop ≡ Missing name) × (file_named files name ≡ None)) ⊎ ((stop ≡ Limit 1 name) × IsLonger (file_named files name) 16777216)
 
--- the machine's text is at fault, or else the implementation's, which also has the faults of both together
-abbrev pub StopsAtTexts : (machine implementation above below : List ℕ) → Stop → Type 0
-StopsAtTexts machine implementation above below stop =
-    ((stop ≡ Refused 15 machine) × (IsMachineText above → ⊥)) ⊎
-    ((stop ≡ Refused 15 implementation) × IsMachineText above × ((dev : Development) → Reads above below dev → ⊥))
+-- the name with this number, from 0
+abbrev pub name_at : List (List ℕ) → ℕ → List ℕ
+name_at names n = slice_index_or names n []
+
+-- the text of a component file is at fault: the machine's, or else the implementation's, which also has the faults of both together
+abbrev pub StopsAtTexts : (components texts : List (List ℕ)) → Stop → Type 0
+StopsAtTexts components texts stop =
+    ((stop ≡ Refused 15 (name_at components 0)) × (IsMachineText (text_at texts 0) → ⊥)) ⊎
+    ((stop ≡ Refused 15 (name_at components 1)) × IsMachineText (text_at texts 0) × ((dev : Development) → Reads texts dev → ⊥))
 
 -- the files are fetched in order: the ones before are told, and this one is not
 abbrev pub StopsAtFiles : Files → List (List ℕ) → Stop → Type 0
@@ -92,26 +95,25 @@ StopsAtFiles files (name ∷ names) stop = StopsAtFile files name stop ⊎ ((tex
 
 -- the first proof file at fault: it is none, or has a script with a name that has one already
 abbrev pub StopsAtScripts : (proofs texts : List (List ℕ)) → Stop → Type 0
-StopsAtScripts proofs texts stop = (file : ℕ) × (stop ≡ Refused 15 (slice_index_or proofs file [])) × IsFirstFaulty texts file
+StopsAtScripts proofs texts stop = (file : ℕ) × (stop ≡ Refused 15 (name_at proofs file)) × IsFirstFaulty texts file
 
 -- the components' texts are looked at, and then those of the proof files
-abbrev pub StopsAtTold : (machine implementation : List ℕ) (proofs : List (List ℕ)) (above below : List ℕ) (texts : List (List ℕ)) → Stop → Type 0
-StopsAtTold machine implementation proofs above below texts stop =
-    StopsAtTexts machine implementation above below stop ⊎ ((dev : Development) × Reads above below dev × StopsAtScripts proofs texts stop)
+abbrev pub StopsAtTold : (components proofs texts proof_texts : List (List ℕ)) → Stop → Type 0
+StopsAtTold components proofs texts proof_texts stop =
+    StopsAtTexts components texts stop ⊎ ((dev : Development) × Reads texts dev × StopsAtScripts proofs proof_texts stop)
 
--- all files are fetched, the machine's, the implementation's and then the proof files, before their texts are looked at
-abbrev pub StopsAtComponents : Files → (machine implementation : List ℕ) (proofs : List (List ℕ)) → Stop → Type 0
-StopsAtComponents files machine implementation proofs stop =
-    StopsAtFiles files (machine ∷ implementation ∷ proofs) stop ⊎
-    ((above : List ℕ) × (below : List ℕ) × (texts : List (List ℕ)) × AreTold files (machine ∷ implementation ∷ proofs) (above ∷ below ∷ texts) ×
-    StopsAtTold machine implementation proofs above below texts stop)
+-- all files are fetched, those of the components and then the proof files, before their texts are looked at
+abbrev pub StopsAtComponents : Files → (components proofs : List (List ℕ)) → Stop → Type 0
+StopsAtComponents files components proofs stop =
+    StopsAtFiles files (components ++ proofs) stop ⊎
+    ((texts : List (List ℕ)) × (proof_texts : List (List ℕ)) × AreTold files components texts × AreTold files proofs proof_texts ×
+    StopsAtTold components proofs texts proof_texts stop)
 
 -- the project file's text is looked at, and then the files that it names
 abbrev pub StopsAtNames : Files → (project text : List ℕ) → Stop → Type 0
 StopsAtNames files project text stop =
     ((stop ≡ Refused 15 project) × IsNoProject text) ⊎
-    ((machine : List ℕ) × (implementation : List ℕ) × (proofs : List (List ℕ)) × NamesFiles text machine implementation proofs ×
-    StopsAtComponents files machine implementation proofs stop)
+    ((components : List (List ℕ)) × (proofs : List (List ℕ)) × NamesFiles text components proofs × StopsAtComponents files components proofs stop)
 
 -- the project file is fetched first
 abbrev pub StopsAtProject : Files → (project : List ℕ) → Stop → Type 0
@@ -173,7 +175,7 @@ StopsAt files words stop =
 -- the name of the file with this number: 0 for the project file, and behind it the component files
 abbrev pub name_of : ℕ → (project : List ℕ) (components : List (List ℕ)) → List ℕ
 name_of zero project components = project
-name_of (suc n) project components = slice_index_or components n []
+name_of (suc n) project components = name_at components n
 
 -- what a refusal stops the program with
 abbrev pub stop_of_refusal : Refusal → (project : List ℕ) (components : List (List ℕ)) → Stop
@@ -183,8 +185,8 @@ stop_of_refusal OutOfMemory project components = Memory
 
 -- what a fault of the proof files stops the program with
 abbrev pub stop_of_proofs : ScriptFault → (proofs : List (List ℕ)) → Stop
-stop_of_proofs (FaultOfProofs number file place) proofs = Refused number (slice_index_or proofs file [])
-stop_of_proofs (LimitOfProofs number file) proofs = Limit number (slice_index_or proofs file [])
+stop_of_proofs (FaultOfProofs number file place) proofs = Refused number (name_at proofs file)
+stop_of_proofs (LimitOfProofs number file) proofs = Limit number (name_at proofs file)
 stop_of_proofs NoRoomForProofs proofs = Memory
 
 -- what a fault of the translation stops the program with

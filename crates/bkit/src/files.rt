@@ -1,19 +1,19 @@
 //! The files of a project.
 
-ghost use Rattle.std.specs.Prelude.{◌≡◌, ◌⊎◌, ◌≤◌, ◌<◌, ◌^◌, ℕ, List, All, length, map, slice_index_or, [], Some, IfOk, IfErr};
+ghost use Rattle.std.specs.Prelude.{◌≡◌, ◌⊎◌, ◌≤◌, ◌<◌, ◌^◌, ℕ, List, All, length, map, [], Some, IfOk, IfErr};
 ghost use Rattle.bk_io.specs.Files.{Files};
 ghost use Rattle.bk_io.specs.Counts.{HasCause};
 ghost use Rattle.bk_gen.specs.Simple.{IsSimple};
 ghost use Rattle.bk_po.specs.Plain.{IsPlain};
-ghost use Rattle.bk_pair.specs.Developments.{Reads};
 ghost use Rattle.bk_front.specs.ProjectFile.{IsFileName, AreProjectLines, files_of};
-ghost use Rattle.bk_front.specs.Project.{text_at, IsRefusal};
+ghost use Rattle.bk_front.specs.Project.{Reads, IsRefusal};
 ghost use Rattle.bk_front.specs.declared.refusal.Refusal.{Refusal};
 ghost use Rattle.bk_scripts.specs.Files.{AreScriptsOf, IsFaultOf};
 ghost use Rattle.bk_scripts.specs.declared.fault.ScriptFault.{ScriptFault};
 ghost use Rattle.bkit.specs.declared.stop.Stop.TheVariants.{ReadFault, Memory};
 ghost use Rattle.bkit.specs.Causes.{IsOfReading, IsOfChecks, CountsAbsence};
-ghost use Rattle.bkit.specs.Stops.{IsOutside, StopsAtFile, StopsAtFiles, StopsAtProject, name_of, stop_of_refusal, stop_of_proofs};
+ghost use Rattle.bkit.specs.Stops.{IsOutside, StopsAtFile, StopsAtFiles, StopsAtProject};
+ghost use Rattle.bkit.specs.Stops.{name_at, name_of, stop_of_refusal, stop_of_proofs};
 ghost use Rattle.bkit.specs.Run.{IsTold, AreTold, ReadsProject};
 
 use crate::stop::Stop;
@@ -32,12 +32,14 @@ const LIMIT_OF_LENGTH: u8 = 1;
 
 /// The bytes of the file with this name.
 pub(crate) fn fetch<H: Shelf>(alloc: Global, name: &str, shelf: &mut H) -> Result<Vec<u8>, Stop>
-    ensures cause { IfErr result (λ stop. (files : Files) → H.files shelf.old ≡ Some files → IsOutside stop ⊎ StopsAtFile files name.now stop) }
+    ensures cause { IfErr result (λ stop. (files : Files) → H.files shelf.old ≡ Some files →
+        IsOutside stop ⊎ StopsAtFile files name.now stop) }
     ensures reading { IfErr result IsOfReading }
     ensures failed { HasCause ReadFault (H.faults shelf.old) (H.faults shelf.new) result }
     ensures missing { CountsAbsence (H.absences shelf.old) (H.absences shelf.new) result }
     ensures files { H.files shelf.new ≡ H.files shelf.old }
-    ensures told { IfOk result (λ text. (files : Files) → H.files shelf.old ≡ Some files → IsTold files name.now text.items) }
+    ensures told { IfOk result (λ text. (files : Files) → H.files shelf.old ≡ Some files →
+        IsTold files name.now text.items) }
     ensures short { IfOk result (λ text. length text.items ≤ 16777216) }
 {
     let mut text = Vec::new(alloc);
@@ -52,12 +54,14 @@ pub(crate) fn fetch<H: Shelf>(alloc: Global, name: &str, shelf: &mut H) -> Resul
 
 /// The bytes of the files with these names, in order.
 fn fetch_all<H: Shelf>(alloc: Global, names: &[&str], shelf: &mut H) -> Result<Vec<Vec<u8>>, Stop>
-    ensures cause { IfErr result (λ stop. (files : Files) → H.files shelf.old ≡ Some files → IsOutside stop ⊎ StopsAtFiles files (map (λ name. name.now) names.now) stop) }
+    ensures cause { IfErr result (λ stop. (files : Files) → H.files shelf.old ≡ Some files →
+        IsOutside stop ⊎ StopsAtFiles files (map (λ name. name.now) names.now) stop) }
     ensures reading { IfErr result IsOfReading }
     ensures failed { HasCause ReadFault (H.faults shelf.old) (H.faults shelf.new) result }
     ensures missing { CountsAbsence (H.absences shelf.old) (H.absences shelf.new) result }
     ensures files { H.files shelf.new ≡ H.files shelf.old }
-    ensures told { IfOk result (λ texts. (files : Files) → H.files shelf.old ≡ Some files → AreTold files (map (λ name. name.now) names.now) (map (λ text. text.items) texts.items)) }
+    ensures told { IfOk result (λ texts. (files : Files) → H.files shelf.old ≡ Some files →
+        AreTold files (map (λ name. name.now) names.now) (map (λ text. text.items) texts.items)) }
     ensures each { IfOk result (λ texts. length texts.items ≡ length names.now) }
 {
     let mut texts = Vec::new(alloc);
@@ -81,12 +85,14 @@ pub(crate) fn read_project<H: Shelf>(
     name: &str,
     shelf: &mut H,
 ) -> Result<Project, Stop>
-    ensures cause { IfErr result (λ stop. (files : Files) → H.files shelf.old ≡ Some files → IsOutside stop ⊎ StopsAtProject files name.now stop) }
+    ensures cause { IfErr result (λ stop. (files : Files) → H.files shelf.old ≡ Some files →
+        IsOutside stop ⊎ StopsAtProject files name.now stop) }
     ensures reading { IfErr result IsOfReading }
     ensures failed { HasCause ReadFault (H.faults shelf.old) (H.faults shelf.new) result }
     ensures missing { CountsAbsence (H.absences shelf.old) (H.absences shelf.new) result }
     ensures files { H.files shelf.new ≡ H.files shelf.old }
-    ensures told { IfOk result (λ p. (files : Files) → H.files shelf.old ≡ Some files → ReadsProject files name.now p.development p.scripts.items) }
+    ensures told { IfOk result (λ p. (files : Files) → H.files shelf.old ≡ Some files →
+        ReadsProject files name.now p.development p.scripts.items) }
     ensures simple { IfOk result (λ p. IsSimple p.development) }
     ensures plain { IfOk result (λ p. IsPlain p.development) }
     ensures few { IfOk result (λ p. length p.development.heads ≤ 100) }
@@ -111,9 +117,10 @@ fn read_components(
     texts: &[Vec<u8>],
 ) -> Result<Development, Stop>
     requires two { length texts.now ≡ 2 }
-    ensures cause { IfErr result (λ stop. (refusal : Refusal) × IsRefusal (text_at texts.now 0) (text_at texts.now 1) refusal × (stop ≡ stop_of_refusal refusal name.now (map (λ component. component.now) components.now))) }
+    ensures cause { IfErr result (λ stop. (refusal : Refusal) × IsRefusal (map (λ text. text.items) texts.now) refusal ×
+        (stop ≡ stop_of_refusal refusal name.now (map (λ component. component.now) components.now))) }
     ensures checks { IfErr result IsOfChecks }
-    ensures reads { IfOk result (Reads (text_at texts.now 0) (text_at texts.now 1)) }
+    ensures reads { IfOk result (Reads (map (λ text. text.items) texts.now)) }
     ensures simple { IfOk result IsSimple }
     ensures plain { IfOk result IsPlain }
     ensures few { IfOk result (λ dev. length dev.heads ≤ 100) }
@@ -127,7 +134,8 @@ fn read_components(
 // The scripts of the proof files.
 fn read_scripts(alloc: Global, proofs: &[&str], texts: &[Vec<u8>]) -> Result<Vec<Script>, Stop>
     requires countable { length texts.now < 2 ^ 32 }
-    ensures cause { IfErr result (λ stop. (fault : ScriptFault) × IsFaultOf (map (λ text. text.items) texts.now) fault × (stop ≡ stop_of_proofs fault (map (λ proof. proof.now) proofs.now))) }
+    ensures cause { IfErr result (λ stop. (fault : ScriptFault) × IsFaultOf (map (λ text. text.items) texts.now) fault ×
+        (stop ≡ stop_of_proofs fault (map (λ proof. proof.now) proofs.now))) }
     ensures checks { IfErr result IsOfChecks }
     ensures value { IfOk result (λ list. AreScriptsOf (map (λ text. text.items) texts.now) list.items) }
 {
@@ -139,12 +147,14 @@ fn read_scripts(alloc: Global, proofs: &[&str], texts: &[Vec<u8>]) -> Result<Vec
 
 // The lines of a project file.
 fn read_lines<H: Shelf>(alloc: Global, name: &str, shelf: &mut H) -> Result<Vec<ProjectLine>, Stop>
-    ensures cause { IfErr result (λ stop. (files : Files) → H.files shelf.old ≡ Some files → IsOutside stop ⊎ StopsAtProject files name.now stop) }
+    ensures cause { IfErr result (λ stop. (files : Files) → H.files shelf.old ≡ Some files →
+        IsOutside stop ⊎ StopsAtProject files name.now stop) }
     ensures reading { IfErr result IsOfReading }
     ensures failed { HasCause ReadFault (H.faults shelf.old) (H.faults shelf.new) result }
     ensures missing { CountsAbsence (H.absences shelf.old) (H.absences shelf.new) result }
     ensures files { H.files shelf.new ≡ H.files shelf.old }
-    ensures told { IfOk result (λ lines. (text : List ℕ) × AreProjectLines text lines.items × ((files : Files) → H.files shelf.old ≡ Some files → IsTold files name.now text)) }
+    ensures told { IfOk result (λ lines. (text : List ℕ) × AreProjectLines text lines.items ×
+        ((files : Files) → H.files shelf.old ≡ Some files → IsTold files name.now text)) }
     ensures few { IfOk result (λ lines. length lines.items ≤ 16777216) }
 {
     let text = fetch(alloc, name, shelf)?;
@@ -189,7 +199,8 @@ fn refused(
 ) -> Result<Stop, Stop>
     ensures memory { IfErr result (λ stop. stop ≡ Memory) }
     ensures checks { IfOk result IsOfChecks }
-    ensures told { IfOk result (λ stop. stop ≡ stop_of_refusal refusal project.now (map (λ name. name.now) components.now)) }
+    ensures told { IfOk result (λ stop.
+        stop ≡ stop_of_refusal refusal project.now (map (λ name. name.now) components.now)) }
 {
     match refusal {
         Refusal::Fault { number, file, .. } => {
@@ -216,7 +227,7 @@ fn name_of<'a>(file: u32, project: &'a str, components: &[&'a str]) -> &'a str
 
 // The name with this number, from 0.
 fn name_at<'a>(names: &[&'a str], number: u32) -> &'a str
-    ensures { result.now ≡ slice_index_or (map (λ name. name.now) names.now) number [] }
+    ensures { result.now ≡ name_at (map (λ name. name.now) names.now) number }
 {
     match names.get(number as usize) {
         Some(name) => name,

@@ -14,24 +14,15 @@ mod stop;
 mod tests;
 
 use bk_io::{FileShelf, StdSink};
-use program::bkit;
-use status::Status;
+use program::exit_code;
 use std::process::ExitCode;
 use std::{env, io};
 
+// The program over the system's files and standard output.
 fn main(rt: HostRuntime) -> ExitCode {
-    ExitCode::from(run(&rt).code())
-}
-
-// The program over the system's files and standard output. Arguments that are no text are wrong words.
-fn run(rt: &HostRuntime) -> Status {
-    let mut shelf = FileShelf::new(rt);
-    let mut out = StdSink::new(rt);
-    match words(rt) {
-        Ok(words) => bkit(rt.alloc(), &words, &mut shelf, &mut out),
-        Err(error) if error.kind() == io::ErrorKind::OutOfMemory => Status::Memory,
-        Err(_) => bkit(rt.alloc(), &[], &mut shelf, &mut out),
-    }
+    let mut shelf = FileShelf::new(&rt);
+    let mut out = StdSink::new(&rt);
+    exit_code(rt.alloc(), words(&rt), &mut shelf, &mut out)
 }
 
 // The words behind the program's name.

@@ -1,6 +1,9 @@
 //! The program over any shelf and any sink.
 
-ghost use Rattle.std.specs.Prelude.{◌≡◌, ◌⊎◌, ◌≤◌, ℕ, List, All, length, map, Some, Err, IfOk, IfErr, MatchOption, string_bytes};
+ghost use Rattle.std.specs.Prelude.{◌≡◌, ◌≢◌, ◌⊎◌, ◌≤◌, ℕ, List, All, [], length, map, string_bytes};
+ghost use Rattle.std.specs.Prelude.{Some, Err, IfOk, IfErr, MatchOption};
+ghost use Rattle.std.specs.IoError.{error_kind};
+ghost use Rattle.std.specs.Process.{exit_status};
 ghost use Rattle.bk_io.specs.Counts.{Rose, HasCause};
 ghost use Rattle.bk_io.specs.Files.{Files};
 ghost use Rattle.bk_io.specs.Pieces.{WroteFront, written_with};
@@ -9,10 +12,13 @@ ghost use Rattle.bk_code.specs.Laws.{IsRequest};
 ghost use Rattle.bk_calls.specs.Script.{request_of};
 ghost use Rattle.bkit.specs.declared.status.Status.{Status};
 ghost use Rattle.bkit.specs.declared.stop.Stop.TheVariants.{Usage, ReadFault, WriteFault, Memory};
+ghost use Rattle.bkit.specs.Codes.{code_of};
 ghost use Rattle.bkit.specs.Causes.{IsOfReading, IsOfPlaying, CountsAbsence};
 ghost use Rattle.bkit.specs.Stops.{IsOutside, StopsAtRun, StopsAt, IsCutShort, stop_text, stop_of_code, stop_of_calls};
-ghost use Rattle.bkit.specs.Run.{AreRunWords, AreNoRunWords, IsReady, ReadsProgram, IsExecuted, WritesRun, ComesSoFar};
+ghost use Rattle.bkit.specs.Run.{AreRunWords, AreNoRunWords, IsReady, ReadsProgram, IsExecuted, WritesRun};
+ghost use Rattle.bkit.specs.Run.{IsDoneWhereLegal, ComesSoFar};
 ghost use Rattle.bkit.specs.Answer.{IsAnswer, IsAnswered, WritesAnswer, WritesLine};
+ghost use Rattle.bkit.specs.Outcome.{devices, HasOutcome};
 
 use crate::files::{fetch, owned, read_project};
 use crate::proof::check_obligations;
@@ -24,6 +30,9 @@ use bk_code::Image;
 use bk_gen::{GenFault, translate};
 use bk_io::{Shelf, Sink};
 use std::alloc::Global;
+use std::io;
+use std::io::ErrorKind;
+use std::process::ExitCode;
 
 /// The number of the limit of instructions.
 const LIMIT_OF_CODE: u8 = 9;
@@ -41,6 +50,50 @@ struct Program {
     calls: Vec<Call>,
 }
 
+/// The program over the words as the system gives them; the exit code is that of its status. Words that are no text are
+/// wrong words.
+pub fn exit_code<H: Shelf, K: Sink>(
+    alloc: Global,
+    words: io::Result<Vec<String>>,
+    shelf: &mut H,
+    out: &mut K,
+) -> ExitCode
+    ensures given { IfOk words (λ given. HasOutcome (map string_bytes given.items)
+        (devices (H.files shelf.old) (K.written out.old) (H.faults shelf.old) (K.faults out.old) (H.absences shelf.old))
+        (devices (H.files shelf.new) (K.written out.new) (H.faults shelf.new) (K.faults out.new) (H.absences shelf.new))
+        (exit_status result)) }
+    ensures no_text { IfErr words (λ error. error_kind error ≢ ErrorKind.OutOfMemory →
+        HasOutcome []
+        (devices (H.files shelf.old) (K.written out.old) (H.faults shelf.old) (K.faults out.old) (H.absences shelf.old))
+        (devices (H.files shelf.new) (K.written out.new) (H.faults shelf.new) (K.faults out.new) (H.absences shelf.new))
+        (exit_status result)) }
+    ensures memory { IfErr words (λ error. error_kind error ≡ ErrorKind.OutOfMemory →
+        (exit_status result ≡ code_of Status.Memory) × (K.written out.new ≡ K.written out.old)) }
+{
+    match words {
+        Ok(words) => code_of_run(alloc, &words, shelf, out),
+        Err(error) if error.kind() == ErrorKind::OutOfMemory => {
+            ExitCode::from(Status::Memory.code())
+        }
+        Err(_) => code_of_run(alloc, &[], shelf, out),
+    }
+}
+
+// The exit code of what the words ask for.
+fn code_of_run<H: Shelf, K: Sink>(
+    alloc: Global,
+    words: &[String],
+    shelf: &mut H,
+    out: &mut K,
+) -> ExitCode
+    ensures { HasOutcome (map string_bytes words.now)
+        (devices (H.files shelf.old) (K.written out.old) (H.faults shelf.old) (K.faults out.old) (H.absences shelf.old))
+        (devices (H.files shelf.new) (K.written out.new) (H.faults shelf.new) (K.faults out.new) (H.absences shelf.new))
+        (exit_status result) }
+{
+    ExitCode::from(bkit(alloc, words, shelf, out).code())
+}
+
 /// Does what the words ask for. `run PROJECT CALLS` reads the project's file, the component files and the proof files that it
 /// names, makes the proof obligations and asks that each is obvious or proved by a replayed script, translates the
 /// implementation, and plays the calls of the script; it writes the session's transcript.
@@ -54,18 +107,24 @@ pub fn bkit<H: Shelf, K: Sink>(
 ) -> Status
     ensures run { IsExecuted result → (files : Files) → H.files shelf.old ≡ Some files →
         WritesRun files (map string_bytes words.now) (K.written out.old) (K.written out.new) result }
+    ensures legal { IsAnswered result → (files : Files) → H.files shelf.old ≡ Some files →
+        IsDoneWhereLegal files (map string_bytes words.now) result }
     ensures answer { IsAnswered result → (files : Files) → H.files shelf.old ≡ Some files →
         WritesAnswer files (map string_bytes words.now) (K.written out.old) (K.written out.new) result }
     ensures line { IsAnswered result → IsExecuted result ⊎ WritesLine result (K.written out.old) (K.written out.new) }
-    ensures ready { IsAnswered result → (files : Files) → H.files shelf.old ≡ Some files → IsReady files (map string_bytes words.now) → IsExecuted result }
-    ensures cut_short { IsCutShort result → (files : Files) → H.files shelf.old ≡ Some files → (status : Status) (text : List ℕ) →
-        IsAnswer files (map string_bytes words.now) status text → WroteFront text (K.written out.old) (K.written out.new) }
-    ensures read_fault { result ≡ Status.ReadFault → Rose (H.faults shelf.old) (H.faults shelf.new) × (K.written out.new ≡ K.written out.old) }
+    ensures ready { IsAnswered result → (files : Files) → H.files shelf.old ≡ Some files →
+        IsReady files (map string_bytes words.now) → IsExecuted result }
+    ensures cut_short { IsCutShort result → (files : Files) → H.files shelf.old ≡ Some files →
+        (status : Status) (text : List ℕ) → IsAnswer files (map string_bytes words.now) status text →
+        WroteFront text (K.written out.old) (K.written out.new) }
+    ensures read_fault { result ≡ Status.ReadFault →
+        Rose (H.faults shelf.old) (H.faults shelf.new) × (K.written out.new ≡ K.written out.old) }
     ensures write_fault { result ≡ Status.WriteFault → Rose (K.faults out.old) (K.faults out.new) }
     ensures missing { result ≡ Status.Missing → Rose (H.absences shelf.old) (H.absences shelf.new) }
-    ensures usage { result ≡ Status.Usage → AreNoRunWords (map string_bytes words.now) × (K.written out.new ≡ written_with (K.written out.old) (stop_text Usage)) }
-    ensures wrong_words { AreNoRunWords (map string_bytes words.now) →
-        (result ≡ Status.Usage) ⊎ (IsCutShort result × WroteFront (stop_text Usage) (K.written out.old) (K.written out.new)) }
+    ensures usage { result ≡ Status.Usage → AreNoRunWords (map string_bytes words.now) ×
+        (K.written out.new ≡ written_with (K.written out.old) (stop_text Usage)) }
+    ensures wrong_words { AreNoRunWords (map string_bytes words.now) → (result ≡ Status.Usage) ⊎
+        (IsCutShort result × WroteFront (stop_text Usage) (K.written out.old) (K.written out.new)) }
     ensures so_far { ComesSoFar result }
 {
     match run(alloc, words, shelf, out) {
@@ -80,13 +139,15 @@ fn run<H: Shelf, K: Sink>(
     shelf: &mut H,
     out: &mut K,
 ) -> Result<Status, Stop>
-    ensures cause { IfErr result (λ stop. (files : Files) → H.files shelf.old ≡ Some files → IsOutside stop ⊎ StopsAt files (map string_bytes words.now) stop) }
+    ensures cause { IfErr result (λ stop. (files : Files) → H.files shelf.old ≡ Some files →
+        IsOutside stop ⊎ StopsAt files (map string_bytes words.now) stop) }
     ensures read { HasCause ReadFault (H.faults shelf.old) (H.faults shelf.new) result }
     ensures missing { CountsAbsence (H.absences shelf.old) (H.absences shelf.new) result }
     ensures write { HasCause WriteFault (K.faults out.old) (K.faults out.new) result }
     ensures silent { IfErr result (λ stop. IsOfPlaying stop ⊎ (K.written out.new ≡ K.written out.old)) }
-    ensures front { IfErr result (λ stop. (files : Files) → H.files shelf.old ≡ Some files → (status : Status) (text : List ℕ) →
-        IsAnswer files (map string_bytes words.now) status text → WroteFront text (K.written out.old) (K.written out.new)) }
+    ensures front { IfErr result (λ stop. (files : Files) → H.files shelf.old ≡ Some files →
+        (status : Status) (text : List ℕ) → IsAnswer files (map string_bytes words.now) status text →
+        WroteFront text (K.written out.old) (K.written out.new)) }
     ensures usage { IfErr result (λ stop. stop ≡ Usage → AreNoRunWords (map string_bytes words.now)) }
     ensures wrong_words { AreNoRunWords (map string_bytes words.now) → result ≡ Err Usage }
     ensures executed { IfOk result IsExecuted }
@@ -101,7 +162,8 @@ fn run<H: Shelf, K: Sink>(
 
 // The project file and the call script that the words name.
 fn run_words(words: &[String]) -> Option<(&str, &str)>
-    ensures { MatchOption result ((project calls : List ℕ) → AreRunWords (map string_bytes words.now) project calls → ⊥)
+    ensures { MatchOption result
+        ((project calls : List ℕ) → AreRunWords (map string_bytes words.now) project calls → ⊥)
         (λ names. AreRunWords (map string_bytes words.now) names.0.now names.1.now) }
 {
     let [verb, project, calls] = words else {
@@ -120,11 +182,13 @@ fn read_program<H: Shelf>(
     script: &str,
     shelf: &mut H,
 ) -> Result<Program, Stop>
-    ensures cause { IfErr result (λ stop. (files : Files) → H.files shelf.old ≡ Some files → IsOutside stop ⊎ StopsAtRun files project.now script.now stop) }
+    ensures cause { IfErr result (λ stop. (files : Files) → H.files shelf.old ≡ Some files →
+        IsOutside stop ⊎ StopsAtRun files project.now script.now stop) }
     ensures reading { IfErr result IsOfReading }
     ensures failed { HasCause ReadFault (H.faults shelf.old) (H.faults shelf.new) result }
     ensures missing { CountsAbsence (H.absences shelf.old) (H.absences shelf.new) result }
-    ensures told { IfOk result (λ p. (files : Files) → H.files shelf.old ≡ Some files → ReadsProgram files project.now script.now p.image (map request_of p.calls.items)) }
+    ensures told { IfOk result (λ p. (files : Files) → H.files shelf.old ≡ Some files →
+        ReadsProgram files project.now script.now p.image (map request_of p.calls.items)) }
     ensures checked { IfOk result (λ p. IsChecked p.image) }
     ensures requests { IfOk result (λ p. All (IsRequest p.image) (map request_of p.calls.items)) }
     ensures few { IfOk result (λ p. length p.calls.items ≤ 1000000) }

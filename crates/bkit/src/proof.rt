@@ -22,7 +22,8 @@ const LIMIT_OF_OBLIGATION: u8 = 6;
 /// Makes the obligations of a project's development, and asks that each is obvious or proved by its script.
 pub(crate) fn check_obligations(alloc: Global, name: &str, project: &Project) -> Result<(), Stop>
     requires { IsBasic project.now.development }
-    ensures cause { IfErr result (λ stop. IsOutside stop ⊎ StopsAtObligations name.now project.now.development project.now.scripts.items stop) }
+    ensures cause { IfErr result (λ stop.
+        IsOutside stop ⊎ StopsAtObligations name.now project.now.development project.now.scripts.items stop) }
     ensures checks { IfErr result IsOfChecks }
     ensures ok { OnOk result (IsProved project.now.development project.now.scripts.items) }
 {
@@ -39,7 +40,8 @@ pub(crate) fn check_obligations(alloc: Global, name: &str, project: &Project) ->
 // The limit that an obligation, or the project's obligations together, pass.
 fn past(alloc: Global, fault: PoFault, project: &str) -> Result<Stop, Stop>
     ensures memory { IfErr result (λ stop. stop ≡ Memory) }
-    ensures cause { IfOk result (λ stop. (dev : Development) → IsFaultOf (obligations dev) fault → IsOutside stop ⊎ StopsPastLimits project.now dev stop) }
+    ensures cause { IfOk result (λ stop. (dev : Development) → IsFaultOf (obligations dev) fault →
+        IsOutside stop ⊎ StopsPastLimits project.now dev stop) }
     ensures checks { IfOk result IsOfChecks }
 {
     Ok(match fault {

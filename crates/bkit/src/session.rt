@@ -1,7 +1,8 @@
 //! A session: the initialisation and then the calls, each with the line that answers it. All memory for it but the sink's is
 //! taken before the initialisation runs.
 
-ghost use Rattle.std.specs.Prelude.{◌≡◌, ◌<◌, ◌≤◌, ◌*◌, ◌+◌, true, false, All, length, map, slice_get, Some, IfOk, IfErr, OnOk, OnErr};
+ghost use Rattle.std.specs.Prelude.{◌≡◌, ◌<◌, ◌≤◌, ◌*◌, ◌+◌, true, false, All, length, map, slice_get};
+ghost use Rattle.std.specs.Prelude.{Some, IfOk, IfErr, OnOk, OnErr};
 ghost use Rattle.bk_io.specs.Counts.{HasCause};
 ghost use Rattle.bk_io.specs.Pieces.{written_with, WroteFront};
 ghost use Rattle.bk_code.specs.Checks.{IsChecked};
@@ -14,7 +15,8 @@ ghost use Rattle.bk_calls.specs.Transcript.{AreOutputs, reply_text, closing_text
 ghost use Rattle.bkit.specs.declared.stop.Stop.TheVariants.{WriteFault};
 ghost use Rattle.bkit.specs.Causes.{IsOfPlaying};
 ghost use Rattle.bkit.specs.Run.{IsExecuted};
-ghost use Rattle.bkit.specs.Session.{Plays, PlaysCalls, PlaysCall, PlaysFront, PlaysCallsFront, PlaysCallFront, HasOutputRoom, status_of};
+ghost use Rattle.bkit.specs.Session.{Plays, PlaysCalls, PlaysCall, HasOutputRoom, status_of};
+ghost use Rattle.bkit.specs.Session.{PlaysFront, PlaysCallsFront, PlaysCallFront};
 
 use crate::status::Status;
 use crate::stop::Stop;
@@ -48,9 +50,11 @@ pub(crate) fn play<K: Sink>(
     requires few { length calls.now ≤ 1000000 }
     ensures playing { IfErr result IsOfPlaying }
     ensures failed { HasCause WriteFault (K.faults out.old) (K.faults out.new) result }
-    ensures front { OnErr result (PlaysFront image (map request_of calls.now) (K.written out.old) (K.written out.new)) }
+    ensures front { OnErr result
+        (PlaysFront image (map request_of calls.now) (K.written out.old) (K.written out.new)) }
     ensures executed { IfOk result IsExecuted }
-    ensures ok { IfOk result (λ status. Plays image (map request_of calls.now) status (K.written out.old) (K.written out.new)) }
+    ensures ok { IfOk result (λ status.
+        Plays image (map request_of calls.now) status (K.written out.old) (K.written out.new)) }
 {
     let mut line = ReplyLine::new(alloc, &image)?;
     let mut outs = vec![in alloc; 0i64; most_outputs(&image)]?;
@@ -73,9 +77,11 @@ fn play_session<K: Sink>(
     requires outputs { HasOutputRoom machine.old.image (length outs.old) }
     requires made { IsMadeFor machine.old.image line.old }
     ensures failed { HasCause SinkFault.Failed (K.faults out.old) (K.faults out.new) result }
-    ensures front { OnErr result (PlaysFront machine.old.image (map request_of calls.now) (K.written out.old) (K.written out.new)) }
+    ensures front { OnErr result
+        (PlaysFront machine.old.image (map request_of calls.now) (K.written out.old) (K.written out.new)) }
     ensures executed { IfOk result IsExecuted }
-    ensures ok { IfOk result (λ status. Plays machine.old.image (map request_of calls.now) status (K.written out.old) (K.written out.new)) }
+    ensures ok { IfOk result (λ status.
+        Plays machine.old.image (map request_of calls.now) status (K.written out.old) (K.written out.new)) }
 {
     calls_make_a_session();
     let start = machine.start(FUEL);
@@ -113,8 +119,11 @@ fn play_calls<K: Sink>(
     requires outputs { HasOutputRoom machine.old.image (length outs.old) }
     requires made { IsMadeFor machine.old.image line.old }
     ensures failed { HasCause SinkFault.Failed (K.faults out.old) (K.faults out.new) result }
-    ensures front { OnErr result (PlaysCallsFront machine.old.image (map request_of calls.now) (end_of start) machine.old.cells (K.written out.old) (K.written out.new)) }
-    ensures ok { IfOk result (λ played. PlaysCalls machine.old.image (map request_of calls.now) (end_of start) machine.old.cells
+    ensures front { OnErr result
+        (PlaysCallsFront machine.old.image (map request_of calls.now) (end_of start) machine.old.cells
+        (K.written out.old) (K.written out.new)) }
+    ensures ok { IfOk result (λ played.
+        PlaysCalls machine.old.image (map request_of calls.now) (end_of start) machine.old.cells
         (end_of played.end) played.done played.steps (K.written out.old) (K.written out.new)) }
     ensures bound { IfOk result (λ played. played.steps ≤ 1000000 * length calls.now) }
 {
@@ -162,8 +171,11 @@ fn play_call<K: Sink>(
     requires outputs { HasOutputRoom machine.old.image (length outs.old) }
     requires made { IsMadeFor machine.old.image line.old }
     ensures failed { HasCause SinkFault.Failed (K.faults out.old) (K.faults out.new) result }
-    ensures front { OnErr result (PlaysCallFront machine.old.image (request_of call.now) machine.old.cells (K.written out.old) (K.written out.new)) }
-    ensures ok { IfOk result (λ end. PlaysCall machine.old.image (request_of call.now) machine.old.cells (end_of end) machine.new.cells
+    ensures front { OnErr result
+        (PlaysCallFront machine.old.image (request_of call.now) machine.old.cells
+        (K.written out.old) (K.written out.new)) }
+    ensures ok { IfOk result (λ end.
+        PlaysCall machine.old.image (request_of call.now) machine.old.cells (end_of end) machine.new.cells
         (K.written out.old) (K.written out.new)) }
     ensures image { machine.new.image ≡ machine.old.image }
     ensures started { machine.new.started ≡ true }
@@ -190,8 +202,11 @@ fn play_into<K: Sink>(
     requires takes { TakesCall machine.old.image call.now.op call.now.args (length outs.old) }
     requires made { IsMadeFor machine.old.image line.old }
     ensures failed { HasCause SinkFault.Failed (K.faults out.old) (K.faults out.new) result }
-    ensures front { OnErr result (PlaysCallFront machine.old.image (request_of call.now) machine.old.cells (K.written out.old) (K.written out.new)) }
-    ensures ok { IfOk result (λ end. PlaysCall machine.old.image (request_of call.now) machine.old.cells (end_of end) machine.new.cells
+    ensures front { OnErr result
+        (PlaysCallFront machine.old.image (request_of call.now) machine.old.cells
+        (K.written out.old) (K.written out.new)) }
+    ensures ok { IfOk result (λ end.
+        PlaysCall machine.old.image (request_of call.now) machine.old.cells (end_of end) machine.new.cells
         (K.written out.old) (K.written out.new)) }
     ensures image { machine.new.image ≡ machine.old.image }
     ensures started { machine.new.started ≡ true }
@@ -218,8 +233,10 @@ fn answer<K: Sink>(
     requires outputs { AreOutputs image.now op outs.now }
     requires made { IsMadeFor image.now line.old }
     ensures failed { HasCause SinkFault.Failed (K.faults out.old) (K.faults out.new) result }
-    ensures front { OnErr result (WroteFront (reply_text image.now op (end_of end) outs.now) (K.written out.old) (K.written out.new)) }
-    ensures ok { OnOk result (K.written out.new ≡ written_with (K.written out.old) (reply_text image.now op (end_of end) outs.now)) }
+    ensures front { OnErr result
+        (WroteFront (reply_text image.now op (end_of end) outs.now) (K.written out.old) (K.written out.new)) }
+    ensures ok { OnOk result
+        (K.written out.new ≡ written_with (K.written out.old) (reply_text image.now op (end_of end) outs.now)) }
     ensures made { IsMadeFor image.now line.new }
 {
     reply(op, &end, outs, image, line);

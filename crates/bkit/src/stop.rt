@@ -16,7 +16,7 @@ use std::alloc::{AllocError, AllocFailed, Global};
 const FAULT_OF_LIMITS: u8 = 13;
 
 /// Why the program stops before its work is done.
-#[derive(Debug, Drop)]
+#[derive(Drop)]
 pub(crate) enum Stop {
     /// The words are none of the program's.
     Usage,
@@ -94,7 +94,8 @@ impl Stop {
     pub(crate) fn report<K: Sink>(&self, alloc: Global, out: &mut K) -> Status
         ensures reports { Reports self.now result (K.written out.old) (K.written out.new) }
         ensures later { K.faults out.old ≤ K.faults out.new }
-        ensures failed { result ≡ Status.WriteFault → (self.now ≡ WriteFault) ⊎ Rose (K.faults out.old) (K.faults out.new) }
+        ensures failed { result ≡ Status.WriteFault →
+            (self.now ≡ WriteFault) ⊎ Rose (K.faults out.old) (K.faults out.new) }
     {
         match self.write(alloc, out) {
             Ok(()) => self.status(),

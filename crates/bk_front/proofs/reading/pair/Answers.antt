@@ -1,7 +1,7 @@
 use Rattle.std.proofs.Common.{rules, subst, inl, inr, Some}
 use Rattle.bk_comp.specs.Components.{IsTextOf, ArePair}
 use Rattle.bk_front.specs.Project.{ReadsMachine}
-use Rattle.bk_front.proofs.Readings.{Answered, one_text, no_implementation_here, no_pair_here}
+use Rattle.bk_front.proofs.Readings.{Answered, one_text, no_implementation_here, no_pair_here, pair_read}
 use Rattle.bk_front.proofs.reading.pair.Goals as goal
 
 pub returns-in_default-clause-err : goal.returns-in_default-clause-err
@@ -34,14 +34,15 @@ pub returns-clause-ok : goal.returns-clause-ok
 returns-clause-ok c =
     let above : ReadsMachine c.args.above.now (Some c.in-Some.machine) = subst (ReadsMachine c.args.above.now) c.in-Some.is c.in_ok-machine.ensures in
     let pair : ArePair c.in-Some.machine c.in-Some-2.implementation = search rules in
-    record {
+    pair_read c.args.above.now c.args.below.now c.in_ok-development.development
+    (record {
       machine = c.in-Some.machine;
       implementation = c.in-Some-2.implementation;
       above = above.0;
       below = subst (Answered c.args.below.now) c.in-Some-2.is c.in_ok-implementation.ensures;
       pair = pair;
       is = c.in_ok-development.ensures.value;
-    }
+    })
 
 pub returns-clause-simple : goal.returns-clause-simple
 returns-clause-simple c = c.in_ok-development.ensures.simple

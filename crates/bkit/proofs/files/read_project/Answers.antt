@@ -1,13 +1,12 @@
-use Rattle.std.proofs.Common.{◌≡◌, ◌⊎◌, ◌∙◌, All, true, false, length, slice_index_or, [], Some, ap, subst, sym, rules}
+use Rattle.std.proofs.Common.{◌≡◌, ◌⊎◌, ◌∙◌, All, true, false, length, Some, ap, subst, sym, rules}
 use Rattle.bk_io.specs.Files.{Files}
-use Rattle.bk_pair.specs.Developments.{Reads}
 use Rattle.bk_front.specs.ProjectFile.{IsFileName, files_of}
-use Rattle.bk_front.specs.Project.{text_at, IsRefusal}
+use Rattle.bk_front.specs.Project.{Reads, IsRefusal}
 use Rattle.bk_scripts.specs.Files.{AreScriptsOf, IsFaultOf}
 use Rattle.bkit.specs.Stops.{IsOutside, StopsAtFiles, StopsAtProject, stop_of_refusal, stop_of_proofs}
 use Rattle.bkit.proofs.Fetching.{nows}
 use Rattle.bkit.specs.Causes.{IsOfReading}
-use Rattle.bkit.proofs.Projects.{file_names, few_texts, texts_of, text_is}
+use Rattle.bkit.proofs.Projects.{file_names, few_texts, texts_of}
 use Rattle.bkit.proofs.Stopping.{widen, handed_on, checks_read, at_components, at_proofs, at_texts, at_scripts, reads_project}
 use Rattle.bkit.proofs.files.read_project.Goals as goal
 
@@ -55,8 +54,7 @@ returns-in_err-read_components-clause-cause g c =
     (c.in_ok-texts.ensures.told files (c.read_lines.ensures.files ∙ told))
     (c.in_ok-proof_texts.ensures.told files (c.fetch_all.ensures.files ∙ (c.read_lines.ensures.files ∙ told)))
     refusal stop
-    (subst (λ x. IsRefusal x (slice_index_or texts 1 []) refusal) (text_is c.deref-7.result.now 0 ∙ ap (λ x. slice_index_or (texts_of x) 0 []) c.deref-7.ensures.value)
-    (subst (λ x. IsRefusal (text_at c.deref-7.result.now 0) x refusal) (text_is c.deref-7.result.now 1 ∙ ap (λ x. slice_index_or (texts_of x) 1 []) c.deref-7.ensures.value) cause.1))
+    (subst (λ x. IsRefusal (texts_of x) refusal) c.deref-7.ensures.value cause.1)
     (cause.2 ∙ ap (λ x. stop_of_refusal refusal c.args.name.now (nows x)) (c.deref-6.ensures.value ∙ sym c.deref-3.ensures.value)))
 
 pub returns-in_err-read_components-clause-reading : goal.returns-in_err-read_components-clause-reading
@@ -87,8 +85,7 @@ returns-in_err-read_scripts-clause-cause g c =
     (c.in_ok-texts.ensures.told files (c.read_lines.ensures.files ∙ told))
     (c.in_ok-proof_texts.ensures.told files (c.fetch_all.ensures.files ∙ (c.read_lines.ensures.files ∙ told)))
     dev fault stop
-    (subst (λ x. Reads x (slice_index_or texts 1 []) dev) (text_is c.deref-7.result.now 0 ∙ ap (λ x. slice_index_or (texts_of x) 0 []) c.deref-7.ensures.value)
-    (subst (λ x. Reads (text_at c.deref-7.result.now 0) x dev) (text_is c.deref-7.result.now 1 ∙ ap (λ x. slice_index_or (texts_of x) 1 []) c.deref-7.ensures.value) c.in_ok-read_components.ensures.reads))
+    (subst (λ x. Reads (texts_of x) dev) c.deref-7.ensures.value c.in_ok-read_components.ensures.reads)
     (subst (λ x. IsFaultOf (texts_of x) fault) c.deref-9.ensures.value cause.1)
     (cause.2 ∙ ap (λ x. stop_of_proofs fault (nows x)) (c.deref-8.ensures.value ∙ sym c.deref-4.ensures.value)))
 
@@ -108,6 +105,5 @@ returns-clause-told g c files told =
     (c.in_ok-texts.ensures.told files (c.read_lines.ensures.files ∙ told))
     (c.in_ok-proof_texts.ensures.told files (c.fetch_all.ensures.files ∙ (c.read_lines.ensures.files ∙ told)))
     dev scripts
-    (subst (λ x. Reads x (slice_index_or texts 1 []) dev) (text_is c.deref-7.result.now 0 ∙ ap (λ x. slice_index_or (texts_of x) 0 []) c.deref-7.ensures.value)
-    (subst (λ x. Reads (text_at c.deref-7.result.now 0) x dev) (text_is c.deref-7.result.now 1 ∙ ap (λ x. slice_index_or (texts_of x) 1 []) c.deref-7.ensures.value) c.in_ok-read_components.ensures.reads))
+    (subst (λ x. Reads (texts_of x) dev) c.deref-7.ensures.value c.in_ok-read_components.ensures.reads)
     (subst (λ x. AreScriptsOf (texts_of x) scripts) c.deref-9.ensures.value c.in_ok-read_scripts.ensures.value)

@@ -6,6 +6,7 @@ use Rattle.bkit.specs.Stops.{stop_text}
 use Rattle.bkit.proofs.RunWords.{one_stop, wrong_words}
 use Rattle.bkit.proofs.Answering.{run_answers, stop_answers, stop_line, stop_front, reports_so_far, reports_read, reports_missing, reports_usage, silent, rose_first, rose_second}
 use Rattle.bkit.proofs.OneAnswer.{ready_executed}
+use Rattle.bkit.proofs.Runs.{done_where_legal}
 use Rattle.bkit.proofs.program.bkit.Goals as goal
 
 pub returns-in-Err-clause-wrong_words : goal.returns-in-Err-clause-wrong_words
@@ -62,3 +63,14 @@ returns-in-Err-clause-ready g c answered files told ready =
 pub returns-in-Err-clause-line : goal.returns-in-Err-clause-line
 returns-in-Err-clause-line g c answered =
     inr (stop_line (g.K.Sink.written c.args.out.now) (g.K.Sink.written c.run.new.out) (g.K.Sink.written c.report.new.out) c.report.result c.in-Err.stop c.report.ensures.reports answered c.in-Err.ensures.silent)
+
+pub returns-in-Err-clause-legal : goal.returns-in-Err-clause-legal
+returns-in-Err-clause-legal g c answered files told =
+    done_where_legal files (map (string_bytes {Z = Global}) c.args.words.now) (g.K.Sink.written c.args.out.now) (g.K.Sink.written c.report.new.out) c.report.result
+    (stop_answers files (map (string_bytes {Z = Global}) c.args.words.now) (g.K.Sink.written c.args.out.now) (g.K.Sink.written c.run.new.out) (g.K.Sink.written c.report.new.out) c.report.result c.in-Err.stop
+    (c.in-Err.ensures.cause files told) c.report.ensures.reports answered c.in-Err.ensures.silent)
+
+pub returns-in-Ok-clause-legal : goal.returns-in-Ok-clause-legal
+returns-in-Ok-clause-legal g c answered files told =
+    done_where_legal files (map (string_bytes {Z = Global}) c.args.words.now) (g.K.Sink.written c.args.out.now) (g.K.Sink.written c.run.new.out) c.in-Ok.status
+    (run_answers files (map (string_bytes {Z = Global}) c.args.words.now) (g.K.Sink.written c.args.out.now) (g.K.Sink.written c.run.new.out) c.in-Ok.status (c.in-Ok.ensures.ok files told))

@@ -7,7 +7,7 @@ use Rattle.bkit.specs.declared.status.Status.{Status}
 use Rattle.bkit.specs.Answer.{IsAnswer}
 use Rattle.bkit.specs.Session.{Plays, PlaysFront}
 use Rattle.bkit.proofs.OneAnswer.{program_front}
-use Rattle.bkit.proofs.Projects.{writes_run}
+use Rattle.bkit.proofs.Runs.{writes_run}
 use Rattle.bkit.proofs.Stopping.{on_each}
 use Rattle.bkit.proofs.program.run.Goals as goal
 
