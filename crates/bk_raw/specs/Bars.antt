@@ -4,7 +4,7 @@ use Rattle.bk_form.specs.declared.token.Token.{Token}
 use Rattle.bk_form.specs.declared.token.TokenKind.{TokenKind}
 use Rattle.bk_form.specs.declared.token.TokenKind.TheVariants.{Name, LevelName, BoundName, Number, Sign, Word}
 use Rattle.bk_ops.specs.declared.sign.TheConstants.{BAR}
-use Rattle.bk_raw.specs.Brackets.{opens_bracket, closes_bracket}
+use Rattle.bk_raw.specs.Brackets.{opens_bracket, closes_bracket, one_less}
 
 -- whether a token is |
 abbrev pub is_bar : TokenKind → Bool
@@ -19,11 +19,6 @@ is_bar (Word op) = false
 abbrev pub is_outside : ℕ → Bool
 is_outside zero = true
 is_outside (suc n) = false
-
--- how many brackets stay open behind one that closes
-abbrev pub one_less : ℕ → ℕ
-one_less zero = zero
-one_less (suc n) = n
 
 -- whether a bar follows before the bracket closes that is open around so many further ones, inside of none of these
 abbrev pub bar_follows : ℕ → List Token → Bool

@@ -1,8 +1,10 @@
--- Brackets among tokens.
-use Rattle.std.specs.Prelude.{ℕ, Bool, false, ◌||◌, nat_eq}
+-- Brackets and blocks among tokens, and how many are open.
+use Rattle.std.specs.Prelude.{ℕ, zero, suc, Bool, false, cond, ◌||◌, nat_eq, List, [], ◌∷◌}
+use Rattle.bk_form.specs.declared.token.Token.{Token}
 use Rattle.bk_form.specs.declared.token.TokenKind.{TokenKind}
 use Rattle.bk_form.specs.declared.token.TokenKind.TheVariants.{Sign, Word}
 use Rattle.bk_ops.specs.declared.sign.TheConstants.{OPEN_PAREN, CLOSE_PAREN, OPEN_BRACKET, CLOSE_BRACKET, OPEN_BRACE, CLOSE_BRACE}
+use Rattle.bk_ops.specs.declared.word.TheConstants.{BEGIN, PRE, ASSERT, IF, CHOICE, SELECT, ANY, LET, VAR, WHILE, END}
 
 -- whether a token is a sign, or a word, whose number passes
 abbrev pub is_sign : (ℕ → Bool) → TokenKind → Bool
@@ -21,3 +23,29 @@ opens_bracket = is_sign (λ op. nat_eq op OPEN_PAREN || nat_eq op OPEN_BRACKET |
 -- ) ] }
 abbrev pub closes_bracket : TokenKind → Bool
 closes_bracket = is_sign (λ op. nat_eq op CLOSE_PAREN || nat_eq op CLOSE_BRACKET || nat_eq op CLOSE_BRACE)
+
+-- a word that begins a block of a substitution
+abbrev pub opens_block : TokenKind → Bool
+opens_block = is_word (λ op. nat_eq op BEGIN || nat_eq op PRE || nat_eq op ASSERT || nat_eq op IF || nat_eq op CHOICE || nat_eq op SELECT || nat_eq op ANY || nat_eq op LET || nat_eq op VAR || nat_eq op WHILE)
+
+-- the word that ends a block
+abbrev pub closes_block : TokenKind → Bool
+closes_block = is_word (λ op. nat_eq op END)
+
+-- a bracket or a block begins
+abbrev pub opens : TokenKind → Bool
+opens kind = opens_bracket kind || opens_block kind
+
+-- a bracket or a block ends
+abbrev pub closes : TokenKind → Bool
+closes kind = closes_bracket kind || closes_block kind
+
+-- how many stay open behind one that closes; never fewer than none
+abbrev pub one_less : ℕ → ℕ
+one_less zero = zero
+one_less (suc n) = n
+
+-- how many are open behind these tokens, where so many are open before them and the tests say what opens and what closes
+abbrev pub open_behind : (TokenKind → Bool) → (TokenKind → Bool) → ℕ → List Token → ℕ
+open_behind opening closing n [] = n
+open_behind opening closing n (t ∷ ts) = open_behind opening closing (cond (opening t.kind) (suc n) (cond (closing t.kind) (one_less n) n)) ts

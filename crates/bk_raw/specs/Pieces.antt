@@ -3,13 +3,17 @@
 use Rattle.std.specs.Prelude.{◌≡◌, ℕ, zero, suc, ℤ, pos, neg_ℤ, ◌≤◌, List, [], ◌∷◌, ◌++◌, ◌⊎◌}
 use Rattle.bk_form.specs.declared.token.Token.{Token}
 use Rattle.bk_form.specs.declared.token.TokenKind.{TokenKind}
-use Rattle.bk_form.specs.declared.token.TokenKind.TheVariants.{Number, Sign}
+use Rattle.bk_form.specs.declared.token.TokenKind.TheVariants.{Number, Sign, Word}
 use Rattle.bk_raw.specs.Operators.{negated}
 use Rattle.bk_ops.specs.declared.sign.TheConstants.{MINUS, OPEN_PAREN, CLOSE_PAREN, OPEN_BRACKET, CLOSE_BRACKET, OPEN_BRACE, CLOSE_BRACE}
 
 -- no list of tokens
 abbrev pub Never : List Token → Type 0
 Never tokens = ⊥
+
+-- no token
+abbrev pub Absent : List Token → Type 0
+Absent tokens = tokens ≡ []
 
 -- one token, of this kind
 abbrev pub Just : TokenKind → List Token → Type 0
@@ -23,11 +27,37 @@ JustAt at kind tokens = (token : Token) × (tokens ≡ token ∷ []) × (token.k
 abbrev pub JustSign : ℕ → List Token → Type 0
 JustSign op = Just (Sign op)
 
+-- the word of this number
+abbrev pub JustWord : ℕ → List Token → Type 0
+JustWord op = Just (Word op)
+
 infixr 40 ◌⌢◌
 -- one piece, and another one directly behind it
 abbrev pub ◌⌢◌ : (List Token → Type 0) → (List Token → Type 0) → List Token → Type 0
 ◌⌢◌ First Second tokens = (front back : List Token) × (tokens ≡ front ++ back) × First front × Second back
 
+-- a piece, where something holds
+abbrev pub Provided : Type 0 → (List Token → Type 0) → List Token → Type 0
+Provided Holds Piece tokens = Piece tokens × Holds
+
+-- ---- lists
+-- one or more, with the sign of this number between
+abbrev pub Divided : {A : Type 0} → ℕ → (A → List Token → Type 0) → List A → List Token → Type 0
+Divided op Written [] = Never
+Divided op Written (x ∷ []) = Written x
+Divided op Written (x ∷ y ∷ ys) = Written x ⌢ JustSign op ⌢ Divided op Written (y ∷ ys)
+
+-- any number of them, with the sign of this number between
+abbrev pub AnyDivided : {A : Type 0} → ℕ → (A → List Token → Type 0) → List A → List Token → Type 0
+AnyDivided op Written [] = Absent
+AnyDivided op Written (x ∷ xs) = Divided op Written (x ∷ xs)
+
+-- any number of them, one directly behind another
+abbrev pub InRow : {A : Type 0} → (A → List Token → Type 0) → List A → List Token → Type 0
+InRow Written [] = Absent
+InRow Written (x ∷ xs) = Written x ⌢ InRow Written xs
+
+-- ---- brackets
 -- a piece in parentheses
 abbrev pub InParentheses : (List Token → Type 0) → List Token → Type 0
 InParentheses Inside = JustSign OPEN_PAREN ⌢ Inside ⌢ JustSign CLOSE_PAREN
@@ -45,6 +75,7 @@ abbrev pub WithParentheses : ℕ → (List Token → Type 0) → List Token → 
 WithParentheses zero Inside = Inside
 WithParentheses (suc n) Inside = InParentheses (WithParentheses n Inside)
 
+-- ---- places
 -- a piece whose first token starts at this byte
 abbrev pub Starting : ℕ → (List Token → Type 0) → List Token → Type 0
 Starting at Piece tokens = (first : Token) × (rest : List Token) × (tokens ≡ first ∷ rest) × (first.start ≡ at) × Piece tokens

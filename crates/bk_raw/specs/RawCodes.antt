@@ -25,20 +25,33 @@ int_back-code : (z : ℤ) → int_back (int_code z) ≡ z
 int_back-code (pos n) = refl
 int_back-code (negsuc n) = refl
 
+-- a declared name
+abbrev pub name_code : RawName → Gv
+name_code x = gcons (gnum x.at) (text_code x.text)
+
+-- the name of a code
+abbrev pub name_back : Gv → RawName
+name_back (gcons (gnum n) g) = record { at = n; text = text_back g }
+name_back _ = record { at = 0; text = [] }
+
+-- a code gives its name back
+pub name_back-code : (x : RawName) → name_back (name_code x) ≡ x
+name_back-code x = λ i. record { at = x.at; text = text_back-code x.text i }
+
 -- declared names
-abbrev names_code : List RawName → Gv
+abbrev pub names_code : List RawName → Gv
 names_code [] = gnil
-names_code (x ∷ xs) = gcons (gcons (gnum x.at) (text_code x.text)) (names_code xs)
+names_code (x ∷ xs) = gcons (name_code x) (names_code xs)
 
 -- the names of a code
-abbrev names_back : Gv → List RawName
-names_back (gcons (gcons (gnum n) g) h) = record { at = n; text = text_back g } ∷ names_back h
+abbrev pub names_back : Gv → List RawName
+names_back (gcons g h) = name_back g ∷ names_back h
 names_back _ = []
 
 -- a code gives its names back
-names_back-code : (xs : List RawName) → names_back (names_code xs) ≡ xs
+pub names_back-code : (xs : List RawName) → names_back (names_code xs) ≡ xs
 names_back-code [] = refl
-names_back-code (x ∷ xs) = λ i. record { at = x.at; text = text_back-code x.text i } ∷ names_back-code xs i
+names_back-code (x ∷ xs) = λ i. name_back-code x i ∷ names_back-code xs i
 
 -- bound variables with their types
 abbrev bounds_code : List RawBound → Gv
@@ -173,6 +186,9 @@ mutual
   ranges_back-code no_ranges = refl
   ranges_back-code (range_and at n d rs) = λ i. range_and at n (tree_back-code d i) (ranges_back-code rs i)
 
--- so trees can be told apart by their codes
+-- so names can be told apart by their codes, and so can trees
+abbrev pub coded_name : Coded RawName
+coded_name = record { code = name_code; inj = λ a b e. sym (name_back-code a) ∙ ap name_back e ∙ name_back-code b }
+
 abbrev pub coded_tree : Coded RawTree
 coded_tree = record { code = tree_code; inj = λ a b e. sym (tree_back-code a) ∙ ap tree_back e ∙ tree_back-code b }

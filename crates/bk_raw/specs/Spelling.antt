@@ -6,7 +6,7 @@ use Rattle.bk_form.specs.declared.token.Token.{Token}
 use Rattle.bk_form.specs.declared.token.TokenKind.TheVariants.{Name, LevelName, BoundName, Word}
 use Rattle.bk_ops.specs.declared.sign.TheConstants.{FOR_ALL, EXISTS, MEMBER, MINUS, TIMES, OPEN_BRACE, CLOSE_BRACE, INVERSE, SEMICOLON, COMMA, DOT, BAR, LAMBDA}
 use Rattle.bk_ops.specs.declared.word.TheConstants.{BOOL, INTEGER, POW}
-use Rattle.bk_raw.specs.Pieces.{Never, Just, JustAt, JustSign, ◌⌢◌, InParentheses, InBrackets, InBraces, Starting, Binding, Placed, Literal, NoDigits}
+use Rattle.bk_raw.specs.Pieces.{Never, Just, JustAt, JustSign, ◌⌢◌, Divided, InParentheses, InBrackets, InBraces, Starting, Binding, Placed, Literal, NoDigits}
 use Rattle.bk_raw.specs.Operators.{infix_kind, word_kind, constant_kind, binding, ranged_over, negated, tightest}
 use Rattle.bk_raw.specs.WrittenType.{WrittenType, written_integer, written_bool, written_set, written_power, written_product}
 use Rattle.bk_raw.specs.declared.term.RawName.{RawName}
@@ -20,9 +20,7 @@ Declared x = JustAt x.at (Name x.text)
 
 -- one name or more, with commas between
 abbrev pub Names : List RawName → List Token → Type 0
-Names [] = Never
-Names (x ∷ []) = Declared x
-Names (x ∷ y ∷ ys) = Declared x ⌢ JustSign COMMA ⌢ Names (y ∷ ys)
+Names = Divided COMMA Declared
 
 -- one name
 abbrev pub Alone : List RawName → List Token → Type 0
@@ -48,9 +46,7 @@ TypedBound b = JustAt b.at (BoundName b.number) ⌢ JustSign MEMBER ⌢ Typed b.
 
 -- one bound variable or more, each with its type, with commas between
 abbrev pub TypedBounds : List RawBound → List Token → Type 0
-TypedBounds [] = Never
-TypedBounds (b ∷ []) = TypedBound b
-TypedBounds (b ∷ c ∷ cs) = TypedBound b ⌢ JustSign COMMA ⌢ TypedBounds (c ∷ cs)
+TypedBounds = Divided COMMA TypedBound
 
 -- ---- terms
 abbrev mutual

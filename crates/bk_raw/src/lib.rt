@@ -1,13 +1,23 @@
 //! Raw trees of the B notation: what is written, with the places where it is written, before names have a meaning.
 #![tactic(auto)]
 
+pub mod component;
 pub mod kind;
 pub mod laws;
 pub mod operator;
+pub mod script;
+pub mod substitution;
 pub mod term;
 pub mod written;
 
+pub use component::{
+    ClauseParts, ClauseWord, ComponentKind, RawClause, RawComponent, RawOperation, RawSet, RawValue,
+};
 pub use kind::Strengths;
 pub use operator::{Constant, InfixOp, WordOp};
+pub use script::{
+    NamePart, RawLine, RawMultiple, RawPlace, RawRule, RawScript, RawTyped, RulePart, RuleWord,
+};
+pub use substitution::{RawBranch, RawSub, RawSubNode};
 pub use term::{RawBound, RawName, RawNode, RawRange, RawTerm};
 pub use written::{RawType, RawTypeNode};

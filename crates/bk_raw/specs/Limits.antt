@@ -1,0 +1,28 @@
+-- How deep and how high what is written may be.
+use Rattle.std.specs.Prelude.{ℕ, ◌+◌, ◌<◌, ◌≤◌, List, length, take}
+use Rattle.bk_form.specs.declared.token.Token.{Token}
+use Rattle.bk_raw.specs.Brackets.{opens_bracket, closes_bracket, opens_block, closes_block, open_behind}
+use Rattle.bk_raw.specs.SubTree.{SubTree, sub_height}
+use Rattle.bk_raw.specs.ComponentTree.{RawComponent, component_height}
+
+-- behind these tokens at most 400 brackets are open, and at most 400 blocks
+abbrev pub IsWithinDepth : List Token → Type 0
+IsWithinDepth tokens = (open_behind opens_bracket closes_bracket 0 tokens ≤ 400) × (open_behind opens_block closes_block 0 tokens ≤ 400)
+
+-- so it is behind each of the tokens
+abbrev pub IsShallow : List Token → Type 0
+IsShallow tokens = (n : ℕ) → n ≤ length tokens → IsWithinDepth (take n tokens)
+
+-- the first token at which it is not so
+pub record IsTooDeep (tokens : List Token) (place : ℕ) : Type 0 where
+  pub inside : place < length tokens
+  pub deep : IsWithinDepth (take (place + 1) tokens) → ⊥
+  pub first : (n : ℕ) → n ≤ place → IsWithinDepth (take n tokens)
+
+-- at most 1000 nodes lie on any way down the substitution, its terms included
+abbrev pub IsLowSub : SubTree → Type 0
+IsLowSub s = sub_height s ≤ 1000
+
+-- and on any way down a term or a substitution of the component
+abbrev pub IsLowComponent : RawComponent → Type 0
+IsLowComponent c = component_height c ≤ 1000
