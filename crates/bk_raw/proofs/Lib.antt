@@ -31,3 +31,4 @@ pub mod RuleLonger
 pub mod ScriptPlaces
 pub mod Insides
 pub mod Faults
+pub mod TextComponents

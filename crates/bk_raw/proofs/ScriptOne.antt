@@ -84,7 +84,7 @@ rules-some = divided-cut SEMICOLON Rule IsRuleEnd IsFinish semicolon-ends finish
 no-word : word_of (Name (codes "end")) ≡ None
 no-word = refl
 
-rule-end : (w : RuleWord) → rule_kind w ≡ Name (codes "end") → ⊥
+pub rule-end : (w : RuleWord) → rule_kind w ≡ Name (codes "end") → ⊥
 rule-end w e = none-some w (sym no-word ∙ ap word_of (sym e) ∙ word-again w)
 
 -- the first token of rules

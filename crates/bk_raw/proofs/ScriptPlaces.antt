@@ -70,7 +70,7 @@ Named = Divided DOT PartNamed
 any-rest : (K : Piece) → Then (λ us. Unit {0}) K
 any-rest K ts h = tt
 
-names-within : (ps qs : List NamePart) (K L : Piece) (ts : List Token) → Then NoDot K → (Named ps ⌢ K) ts → (Named qs ⌢ L) ts → Both K L ⊎ Short K L
+pub names-within : (ps qs : List NamePart) (K L : Piece) (ts : List Token) → Then NoDot K → (Named ps ⌢ K) ts → (Named qs ⌢ L) ts → Both K L ⊎ Short K L
 names-within [] qs K L ts e h k = absurd h.3
 names-within (p ∷ ps) [] K L ts e h k = absurd k.3
 names-within (p ∷ []) (q ∷ []) K L ts e h k = inl (part-cut p q K L ts (any-rest K) (any-rest L) h k).1
@@ -99,7 +99,7 @@ names-within (p ∷ o ∷ ps) (q ∷ u ∷ qs) K L ts e h k =
     names-within (o ∷ ps) (u ∷ qs) K L d.1.0 e d.1.1 d.1.2
 
 -- behind a name that a dot follows no rules stand
-no-rules : (qs : List RawRule) (L : Piece) (t : Token) (us : List Token) → t.kind ≡ Sign DOT → (AnyDivided SEMICOLON Rule qs ⌢ L) (t ∷ us) → L (t ∷ us)
+pub no-rules : (qs : List RawRule) (L : Piece) (t : Token) (us : List Token) → t.kind ≡ Sign DOT → (AnyDivided SEMICOLON Rule qs ⌢ L) (t ∷ us) → L (t ∷ us)
 no-rules [] L t us d h = absent-then L (t ∷ us) h
 no-rules (q ∷ qs) L t us d h =
     let f = rule-first q qs L (t ∷ us) h in

@@ -30,4 +30,5 @@ pub mod ScriptView
 pub mod ScriptSpelling
 pub mod Places
 pub mod Limits
+pub mod Texts
 pub mod Laws
