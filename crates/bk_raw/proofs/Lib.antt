@@ -32,3 +32,5 @@ pub mod ScriptPlaces
 pub mod Insides
 pub mod Faults
 pub mod TextComponents
+pub mod TextScripts
+pub mod TextSubs

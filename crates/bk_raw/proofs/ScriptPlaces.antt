@@ -61,7 +61,7 @@ rules-within (r ∷ rs) (q ∷ qs) K L ts e h k = tails-within r q rs qs K L ts 
 
 -- ---- names
 -- a dot stands behind the other name
-abbrev Short : Piece → Piece → Type 0
+abbrev pub Short : Piece → Piece → Type 0
 Short K L = (t : Token) × (x r : List Token) × (t.kind ≡ Sign DOT) × K r × L (t ∷ (x ++ r))
 
 abbrev Named : List NamePart → Piece

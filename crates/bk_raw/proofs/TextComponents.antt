@@ -60,16 +60,16 @@ just-one c may plain = record {
 closed-follows-none : (done : List RawClause) (ts : List Token) → IsClosed ts → (d : RawClause) (other : List Token) → CanFollow Machine done d ts other → ⊥
 closed-follows-none done ts e d other h = clause-not-closed d (λ us. us ≡ h.0.0) ts (other, h.0.0, h.0.1, h.1, refl) e
 
-false-true : false ≡ true → ⊥
+pub false-true : false ≡ true → ⊥
 false-true e = cc
 
-first-of : (t u : Token) (ts us : List Token) → t ∷ ts ≡ u ∷ us → t ≡ u
+pub first-of : (t u : Token) (ts us : List Token) → t ∷ ts ≡ u ∷ us → t ≡ u
 first-of t u ts us e = cc
 
-rest-of : (t u : Token) (ts us : List Token) → t ∷ ts ≡ u ∷ us → ts ≡ us
+pub rest-of : (t u : Token) (ts us : List Token) → t ∷ ts ≡ u ∷ us → ts ≡ us
 rest-of t u ts us e = cc
 
-word-is-no-sign : (m op : ℕ) → Word m ≡ Sign op → ⊥
+pub word-is-no-sign : (m op : ℕ) → Word m ≡ Sign op → ⊥
 word-is-no-sign m op e = cc
 
 sign-follows-none : (done : List RawClause) (t : Token) (ts : List Token) (op : ℕ) → t.kind ≡ Sign op → (d : RawClause) (other : List Token) → CanFollow Machine done d (t ∷ ts) other → ⊥
@@ -133,10 +133,10 @@ properties-follows t us d other k h =
     (q.0, f.rest, h.0.0, rest-of t f.token us (f.rest ++ h.0.0) e, q.1, ap length f.is, q.2)
 
 -- what is read of these tokens is spelled by them, where nothing is left
-all-read : (n : ℕ) (ts : List Token) (t : RawTree) → read n 0 ts ≡ Some (t, []) → Spells t ts
+pub all-read : (n : ℕ) (ts : List Token) (t : RawTree) → read n 0 ts ≡ Some (t, []) → Spells t ts
 all-read n ts t e = let s = read_spells n ts t [] e in subst (Spells t) (sym (s.1 ∙ append-nil s.0)) s.2
 
-abbrev equals_one : ℕ → List ℕ → RawTree
+abbrev pub equals_one : ℕ → List ℕ → RawTree
 equals_one at x = raw at (raw_infix Equal (raw at (raw_name x)) (raw (at + 4) (raw_number (pos 1))))
 
 -- ---- MACHINE A PROPERTIES p = 1 <=> q = 1 & r = 1 END
@@ -361,7 +361,7 @@ equals_again = token 34 35 (Sign EQUAL)
 abbrev last_end : Token
 last_end = token 36 39 (Word END)
 
-name-is-no-sign : (x : List ℕ) (op : ℕ) → Name x ≡ Sign op → ⊥
+pub name-is-no-sign : (x : List ℕ) (op : ℕ) → Name x ≡ Sign op → ⊥
 name-is-no-sign x op e = cc
 
 half-none : NoOperation (g ∷ equals_again ∷ last_end ∷ [])

@@ -6,6 +6,7 @@ ghost use Rattle.bk_raw.specs.Laws.{PlacesAreOne, FaultsExclude, ReadingTellsPla
 ghost use Rattle.bk_raw.specs.Laws.{ScriptPlacesAreOne, ScriptFaultsExclude, ScriptsTellPlace};
 ghost use Rattle.bk_raw.specs.Laws.{DecidedIsOneOfBoth, OneOfBothHolds};
 ghost use Rattle.bk_raw.specs.Laws.{DecidedScriptsAreOneOfBoth, OneOfBothHoldsOfScripts};
+ghost use Rattle.bk_raw.specs.Texts.{TextsAreWritten, TextsAreRefused};
 
 /// Two terms that are written as the same tokens are the same.
 pub fn terms_are_one()
@@ -85,4 +86,14 @@ pub fn decided_scripts_are_one_of_both()
 /// It cannot be that tokens are written as no proof file and have no place of fault.
 pub fn one_of_both_holds_of_scripts()
     ensures { OneOfBothHoldsOfScripts }
+{}
+
+/// Some texts, with the trees that they are written for.
+pub fn texts_are_written()
+    ensures { TextsAreWritten }
+{}
+
+/// Some texts that are refused, with the bytes where they are at fault.
+pub fn texts_are_refused()
+    ensures { TextsAreRefused }
 {}
