@@ -10,7 +10,7 @@ use Rattle.bk_raw.specs.RawTree.{RawTree, raw, raw_number, raw_typed_empty}
 use Rattle.bk_raw.specs.Spelling.{Declared, Typed, Term}
 use Rattle.bk_raw.specs.WrittenType.{WrittenType}
 use Rattle.bk_raw.proofs.Exact.{one_for_its_tokens}
-use Rattle.bk_raw.specs.ScriptTree.{RawPlace, in_goal, in_hypothesis, RawLine, multiples, divided}
+use Rattle.bk_raw.specs.ScriptTree.{RawPlace, in_goal, in_hypothesis, RawLine, multiples, quotient}
 use Rattle.bk_raw.specs.declared.script.RawMultiple.{RawMultiple}
 use Rattle.bk_raw.specs.declared.script.RawTyped.{RawTyped}
 use Rattle.bk_raw.specs.ScriptSpelling.{Place, TypedName, AnyTerm, Picked, Multiple, Line}
@@ -276,17 +276,17 @@ multiples-divided ms k g ts h d =
 
 one-line : One Line
 one-line (multiples ms) (multiples ns) ts h k = ap multiples (one-divided PLUS Multiple ends_multiple (multiple-leads ends_multiple ((λ b y. refl), (λ b. refl)) (λ b. refl)) refl one-multiple ms ns ts h k)
-one-line (multiples ms) (divided k g) ts h d = absurd (multiples-divided ms k g ts h d)
-one-line (divided k g) (multiples ms) ts h d = absurd (multiples-divided ms k g ts d h)
-one-line (divided k g) (divided j f) ts h d =
+one-line (multiples ms) (quotient k g) ts h d = absurd (multiples-divided ms k g ts h d)
+one-line (quotient k g) (multiples ms) ts h d = absurd (multiples-divided ms k g ts d h)
+one-line (quotient k g) (quotient j f) ts h d =
     let a = digits-cut k j (JustSign DIVIDE ⌢ Digits g) (JustSign DIVIDE ⌢ Digits f) ts h d in
     let b = same-token (Sign DIVIDE) (Sign DIVIDE) (Digits g) (Digits f) a.1.0 a.1.1 a.1.2 in
     let c = one-digits g f b.1.0 b.1.1 b.1.2 in
-    λ i. divided (a.0 i) (c i)
+    λ i. quotient (a.0 i) (c i)
 
 line-leads : (stops : Stopper) → Passes stops → ((b : Bool) → stops b (Sign TIMES) ≡ false) → stops true (Sign PLUS) ≡ false → stops true (Sign DIVIDE) ≡ false → (l : RawLine) → Leads stops (0, false) (0, true) (Line l)
 line-leads stops p s plus over (multiples ms) = divided-leads PLUS Multiple stops (multiple-leads stops p s) (ap (λ x. cond x None (Some (0, false))) plus) ms
-line-leads stops p s plus over (divided k g) =
+line-leads stops p s plus over (quotient k g) =
     leads-join stops (0, false) (0, true) (0, true) (Digits k) (JustSign DIVIDE ⌢ Digits g) (digits-lead stops p.0 k)
     (leads-join stops (0, true) (0, false) (0, true) (JustSign DIVIDE) (Digits g) (leads-just stops 0 true (0, false) (Sign DIVIDE) (ap (λ x. cond x None (Some (0, false))) over)) (digits-lead stops p.0 g))
 

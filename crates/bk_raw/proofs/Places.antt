@@ -7,7 +7,7 @@ use Rattle.bk_form.specs.declared.token.Token.{Token}
 use Rattle.bk_form.specs.declared.token.TokenKind.TheVariants.{Word}
 use Rattle.bk_ops.specs.declared.word.TheConstants.{END}
 use Rattle.bk_raw.specs.Pieces.{◌⌢◌, JustWord, Absent, InRow}
-use Rattle.bk_raw.specs.Differing.{Differ}
+use Rattle.bk_raw.specs.Numbers.{Differ}
 use Rattle.bk_raw.specs.declared.component.ComponentKind.{ComponentKind}
 use Rattle.bk_raw.specs.ComponentTree.{RawClause, RawComponent, word_number, clause_number, is_allowed}
 use Rattle.bk_raw.specs.ComponentSpelling.{Parts, Clause, Header, ArePlain, AreClausesOf, SpellsComponent}

@@ -4,7 +4,7 @@ use Rattle.std.specs.Prelude.{codes}
 use Rattle.bk_form.specs.declared.token.Token.{Token}
 use Rattle.bk_form.specs.declared.token.TokenKind.TheVariants.{Name, Sign}
 use Rattle.bk_ops.specs.declared.sign.TheConstants.{SEMICOLON, DOT}
-use Rattle.bk_raw.specs.Pieces.{Just, JustAt, JustSign, ◌⌢◌, Digits, Absent, Divided, InRow, AnyDivided}
+use Rattle.bk_raw.specs.Pieces.{Just, JustAt, JustSign, ◌⌢◌, Digits, Absent, Divided, InRow, AnyDivided, Starting}
 use Rattle.bk_raw.specs.declared.script.RuleWord.{RuleWord}
 use Rattle.bk_raw.specs.declared.script.RuleWord.TheVariants.{Hyp}
 use Rattle.bk_raw.specs.ScriptTree.{rule_kind, RawRule, shape_of, RawScript}
@@ -159,16 +159,29 @@ rules-no-dot (r ∷ rs) K e ts h us t is k =
     rule-sign r.word DOT (sym f.3 ∙ ap (λ x. x.kind) (first-same f.0 t f.1 us (sym f.2 ∙ is)) ∙ k)
 
 -- ---- scripts
+-- a piece that starts at a byte is the piece
+pub unstarted : (at : ℕ) (A K : Piece) (ts : List Token) → (Starting at A ⌢ K) ts → (A ⌢ K) ts
+unstarted at A K ts h = (h.0, h.1, h.2, h.3.4, h.4)
+
+same-start : (at bt : ℕ) (A B K L : Piece) (ts : List Token) → (Starting at A ⌢ K) ts → (Starting bt B ⌢ L) ts → at ≡ bt
+same-start at bt A B K L ts h k =
+    let i : ts ≡ h.3.0 ∷ (h.3.1 ++ h.1) = h.2 ∙ ap (λ us. us ++ h.1) h.3.2 in
+    let j : ts ≡ k.3.0 ∷ (k.3.1 ++ k.1) = k.2 ∙ ap (λ us. us ++ k.1) k.3.2 in
+    sym h.3.3 ∙ ap (λ t. t.start) (first-same h.3.0 k.3.0 (h.3.1 ++ h.1) (k.3.1 ++ k.1) (sym i ∙ j)) ∙ k.3.3
+
 pub opens-cut : (s r : RawScript) (K L : Piece) (ts : List Token) → Then IsFinish K → Then IsFinish L → (OpensScript s ⌢ K) ts → (OpensScript r ⌢ L) ts → (s ≡ r) × Both K L
 opens-cut s r K L ts e f h k =
     let S = AnyDivided SEMICOLON Rule s.rules in
     let R = AnyDivided SEMICOLON Rule r.rules in
-    let N = Divided DOT PartNamed s.name in
-    let M = Divided DOT PartNamed r.name in
+    let N = Starting s.name_at (Divided DOT PartNamed s.name) in
+    let M = Starting r.name_at (Divided DOT PartNamed r.name) in
     let a = same-at s.at r.at (Name (codes "proof")) (Name (codes "proof")) ((N ⌢ S) ⌢ K) ((M ⌢ R) ⌢ L) ts (in-order (JustAt s.at (Name (codes "proof"))) (N ⌢ S) K ts h) (in-order (JustAt r.at (Name (codes "proof"))) (M ⌢ R) L ts k) in
-    let b = name-cut s.name r.name (S ⌢ K) (R ⌢ L) a.2.0 (rules-no-dot s.rules K e) (rules-no-dot r.rules L f) (in-order N S K a.2.0 a.2.1) (in-order M R L a.2.0 a.2.2) in
+    let x = in-order N S K a.2.0 a.2.1 in
+    let y = in-order M R L a.2.0 a.2.2 in
+    let at = same-start s.name_at r.name_at (Divided DOT PartNamed s.name) (Divided DOT PartNamed r.name) (S ⌢ K) (R ⌢ L) a.2.0 x y in
+    let b = name-cut s.name r.name (S ⌢ K) (R ⌢ L) a.2.0 (rules-no-dot s.rules K e) (rules-no-dot r.rules L f) (unstarted s.name_at (Divided DOT PartNamed s.name) (S ⌢ K) a.2.0 x) (unstarted r.name_at (Divided DOT PartNamed r.name) (R ⌢ L) a.2.0 y) in
     let c = rules-cut s.rules r.rules K L b.1.0 e f b.1.1 b.1.2 in
-    ((λ i. record { at = a.0 i; name = b.0 i; rules = c.0 i }), c.1)
+    ((λ i. record { at = a.0 i; name_at = at i; name = b.0 i; rules = c.0 i }), c.1)
 
 pub end-finishes : (K : Piece) → Then IsFinish (Just (Name (codes "end")) ⌢ K)
 end-finishes K ts h = let f = first (Name (codes "end")) K ts h in subst IsFinish (sym f.is) f.same
@@ -182,7 +195,7 @@ script-cut s r K L ts h k =
 
 pub script-begun : (s : RawScript) (K : Piece) → (Scripted s ⌢ K) [] → ⊥
 script-begun s K h =
-    let N = Divided DOT PartNamed s.name ⌢ AnyDivided SEMICOLON Rule s.rules in
+    let N = Starting s.name_at (Divided DOT PartNamed s.name) ⌢ AnyDivided SEMICOLON Rule s.rules in
     let a = in-order (OpensScript s) (Just (Name (codes "end"))) K [] h in
     let b = in-order (JustAt s.at (Name (codes "proof"))) N (Just (Name (codes "end")) ⌢ K) [] a in
     let f = first-at s.at (Name (codes "proof")) (N ⌢ Just (Name (codes "end")) ⌢ K) [] b in

@@ -4,7 +4,7 @@ use Rattle.std.specs.Prelude.{codes}
 use Rattle.bk_form.specs.declared.token.Token.{Token}
 use Rattle.bk_form.specs.declared.token.TokenKind.TheVariants.{Name, Sign}
 use Rattle.bk_ops.specs.declared.sign.TheConstants.{SEMICOLON, DOT}
-use Rattle.bk_raw.specs.Pieces.{Just, JustAt, JustSign, ◌⌢◌, Absent, Divided, InRow, AnyDivided}
+use Rattle.bk_raw.specs.Pieces.{Just, JustAt, JustSign, ◌⌢◌, Absent, Divided, InRow, AnyDivided, Starting}
 use Rattle.bk_raw.specs.ScriptTree.{RawRule, RawScript}
 use Rattle.bk_raw.specs.declared.script.NamePart.{NamePart}
 use Rattle.bk_raw.specs.ScriptSpelling.{Rule, PartNamed, OpensScript, Scripted, SpellsScripts, IsWholeScripts, IsOpenOrNone}
@@ -17,7 +17,7 @@ use Rattle.bk_raw.proofs.ClauseOne.{same-at}
 use Rattle.bk_raw.proofs.RuleOne.{RuleEnds, rule-cut}
 use Rattle.bk_raw.proofs.RuleLonger.{Within, rule-no-longer}
 use Rattle.bk_raw.proofs.Places.{longest-one}
-use Rattle.bk_raw.proofs.ScriptOne.{Then, IsFinish, finish-ends, finish-not, semicolon-ends, rules-not-end, rule-first, rule-sign, NoDot, rules-no-dot, part-cut, first-same, end-finishes, script-cut}
+use Rattle.bk_raw.proofs.ScriptOne.{Then, IsFinish, finish-ends, finish-not, semicolon-ends, rules-not-end, rule-first, rule-sign, NoDot, rules-no-dot, part-cut, first-same, unstarted, end-finishes, script-cut}
 
 -- ---- rules
 abbrev Tail : List RawRule → Piece
@@ -107,7 +107,7 @@ no-rules (q ∷ qs) L t us d h =
 
 -- ---- an open script, behind which `end` or nothing stands, is the longest at its place
 pub opens-within : (s r : RawScript) (K L : Piece) (ts : List Token) → Then IsFinish K → (OpensScript s ⌢ K) ts → (OpensScript r ⌢ L) ts → Within K L
-opens-within s r K L ts e h k = by-names (names-within s.name r.name (S ⌢ K) (R ⌢ L) a.2.0 (rules-no-dot s.rules K e) (in-order N S K a.2.0 a.2.1) (in-order M R L a.2.0 a.2.2))
+opens-within s r K L ts e h k = by-names (names-within s.name r.name (S ⌢ K) (R ⌢ L) a.2.0 (rules-no-dot s.rules K e) (unstarted s.name_at (Named s.name) (S ⌢ K) a.2.0 (in-order N S K a.2.0 a.2.1)) (unstarted r.name_at (Named r.name) (R ⌢ L) a.2.0 (in-order M R L a.2.0 a.2.2)))
   where
     S : Piece
     S = AnyDivided SEMICOLON Rule s.rules
@@ -116,10 +116,10 @@ opens-within s r K L ts e h k = by-names (names-within s.name r.name (S ⌢ K) (
     R = AnyDivided SEMICOLON Rule r.rules
 
     N : Piece
-    N = Divided DOT PartNamed s.name
+    N = Starting s.name_at (Named s.name)
 
     M : Piece
-    M = Divided DOT PartNamed r.name
+    M = Starting r.name_at (Named r.name)
 
     a : (s.at ≡ r.at) × (Name (codes "proof") ≡ Name (codes "proof")) × Both ((N ⌢ S) ⌢ K) ((M ⌢ R) ⌢ L)
     a = same-at s.at r.at (Name (codes "proof")) (Name (codes "proof")) ((N ⌢ S) ⌢ K) ((M ⌢ R) ⌢ L) ts (in-order (JustAt s.at (Name (codes "proof"))) (N ⌢ S) K ts h) (in-order (JustAt r.at (Name (codes "proof"))) (M ⌢ R) L ts k)

@@ -13,7 +13,7 @@ use Rattle.bk_raw.specs.Spelling.{Spells, Term}
 use Rattle.bk_raw.specs.Reading.{read}
 use Rattle.bk_raw.specs.declared.operator.InfixOp.TheVariants.{And, Equal, Equivalent}
 use Rattle.bk_raw.specs.declared.operator.Constant.TheVariants.{Btrue}
-use Rattle.bk_raw.specs.Additions.{HasNoAddition, IsWithoutAddition}
+use Rattle.bk_raw.specs.Additions.{HasNoAddition, SubHasNoAddition}
 use Rattle.bk_raw.specs.SubTree.{SubTree}
 use Rattle.bk_raw.specs.SubSpelling.{Sub}
 use Rattle.bk_raw.specs.declared.component.ComponentKind.TheVariants.{Machine}
@@ -334,7 +334,7 @@ operations-longest more n d other h =
     omega (arith, g.5, divided-short g.0 more g.1 g.2 n g.3 g.4)
 
 operations-read : (more : List Token) → NoOperation more → AreReadOn Machine [] (operations ∷ []) (operations_word ∷ f_is_skip ++ semicolon ∷ more) (semicolon ∷ more)
-operations-read more n = read-one operations (operations_word ∷ f_is_skip) (semicolon ∷ more) operations-written refl (All-cons (λ (o : RawOperation). IsWithoutAddition o.body) f_operation [] tt (All-nil (λ (o : RawOperation). IsWithoutAddition o.body))) (operations-longest more n) (sign-follows-none (operations ∷ []) semicolon more SEMICOLON refl)
+operations-read more n = read-one operations (operations_word ∷ f_is_skip) (semicolon ∷ more) operations-written refl (All-cons (λ (o : RawOperation). SubHasNoAddition o.body) f_operation [] tt (All-nil (λ (o : RawOperation). SubHasNoAddition o.body))) (operations-longest more n) (sign-follows-none (operations ∷ []) semicolon more SEMICOLON refl)
 
 -- a sign = and a body stand in an operation
 operation-body : (o : RawOperation) (b : List Token) → Operation o b → (u : List Token) × (t : Token) × (s : List Token) × (b ≡ u ++ t ∷ s) × (t.kind ≡ Sign EQUAL) × Sub o.body 1 s
@@ -403,5 +403,5 @@ end_behind = token 30 33 (Word END)
 pub operation : SpellsComponent one_operation_tree one_operation
 operation = record {
   written = (machine_word ∷ a ∷ operations_word ∷ f_is_skip, end_behind ∷ [], refl, (machine_word ∷ a ∷ [], operations_word ∷ f_is_skip, refl, header (operations ∷ []), (operations_word ∷ f_is_skip, [], refl, operations-written, refl)), (end_behind, refl, refl));
-  made = just-one operations refl (All-cons (λ (o : RawOperation). IsWithoutAddition o.body) f_operation [] tt (All-nil (λ (o : RawOperation). IsWithoutAddition o.body)));
+  made = just-one operations refl (All-cons (λ (o : RawOperation). SubHasNoAddition o.body) f_operation [] tt (All-nil (λ (o : RawOperation). SubHasNoAddition o.body)));
 }

@@ -5,7 +5,7 @@ use Rattle.bk_form.specs.declared.token.Token.{Token}
 use Rattle.bk_form.specs.declared.token.TokenKind.{TokenKind}
 use Rattle.bk_form.specs.declared.token.TokenKind.TheVariants.{Name, Number, Sign}
 use Rattle.bk_ops.specs.declared.sign.TheConstants.{DOT, SEMICOLON}
-use Rattle.bk_raw.specs.Pieces.{Absent, Just, JustSign, ◌⌢◌, Divided, AnyDivided}
+use Rattle.bk_raw.specs.Pieces.{Absent, Just, JustSign, ◌⌢◌, Starting, Divided, AnyDivided}
 use Rattle.bk_raw.specs.declared.script.RuleWord.{RuleWord}
 use Rattle.bk_raw.specs.declared.script.RuleWord.TheVariants.{Hyp, Same}
 use Rattle.bk_raw.specs.declared.script.NamePart.{NamePart}
@@ -19,7 +19,7 @@ use Rattle.bk_raw.proofs.Patterns.{Both, first, just-first}
 use Rattle.bk_raw.proofs.Lists.{in-order, absent-then}
 use Rattle.bk_raw.proofs.ClauseOne.{first-at, same-at}
 use Rattle.bk_raw.proofs.RuleOne.{word-same}
-use Rattle.bk_raw.proofs.ScriptOne.{Then, NoDot, rule-first, rule-end, first-same}
+use Rattle.bk_raw.proofs.ScriptOne.{Then, NoDot, rule-first, rule-end, unstarted}
 use Rattle.bk_raw.proofs.ScriptPlaces.{Short, names-within, no-rules, scripts-tell-place}
 use Rattle.bk_raw.proofs.TextComponents.{first-of, rest-of, name-is-no-sign}
 
@@ -46,10 +46,10 @@ named : Divided DOT PartNamed name (a ∷ dot ∷ one ∷ [])
 named = (a ∷ [], dot ∷ one ∷ [], refl, (a, refl, refl), (dot ∷ [], one ∷ [], refl, (dot, refl, refl), (one, refl, refl)))
 
 abbrev with-rules : List RawRule → RawScript
-with-rules rs = record { at = 0; name = name; rules = rs }
+with-rules rs = record { at = 0; name_at = 6; name = name; rules = rs }
 
 opened : (rs : List RawRule) (ts : List Token) → AnyDivided SEMICOLON Rule rs ts → OpensScript (with-rules rs) (opening ++ ts)
-opened rs ts h = (proof ∷ [], a ∷ dot ∷ one ∷ ts, refl, (proof, refl, refl, refl), (a ∷ dot ∷ one ∷ [], ts, refl, named, h))
+opened rs ts h = (proof ∷ [], a ∷ dot ∷ one ∷ ts, refl, (proof, refl, refl, refl), (a ∷ dot ∷ one ∷ [], ts, refl, (a, dot ∷ one ∷ [], refl, refl, named), h))
 
 -- rules in front of these tokens leave so many at least
 abbrev Leave : ℕ → List Token → Type 0
@@ -65,13 +65,16 @@ opens-leave n more dotless few leave s front after e h = by-names (names-within 
     L : List Token → Type 0
     L ts = ts ≡ after
 
-    f : (x : List Token) × (a ∷ dot ∷ one ∷ more ≡ x) × ((Divided DOT PartNamed s.name ⌢ R) ⌢ L) x
+    N : List Token → Type 0
+    N = Starting s.name_at (Divided DOT PartNamed s.name)
+
+    f : (x : List Token) × (a ∷ dot ∷ one ∷ more ≡ x) × ((N ⌢ R) ⌢ L) x
     f =
-        let g = first-at s.at (Name (codes "proof")) ((Divided DOT PartNamed s.name ⌢ R) ⌢ L) (front ++ after) (in-order _ (Divided DOT PartNamed s.name ⌢ R) L (front ++ after) (front, after, refl, h, refl)) in
+        let g = first-at s.at (Name (codes "proof")) ((N ⌢ R) ⌢ L) (front ++ after) (in-order _ (N ⌢ R) L (front ++ after) (front, after, refl, h, refl)) in
         (g.rest, rest-of proof g.token (a ∷ dot ∷ one ∷ more) g.rest (e ∙ g.is), g.back)
 
     there : (Divided DOT PartNamed s.name ⌢ R ⌢ L) (a ∷ dot ∷ one ∷ more)
-    there = in-order (Divided DOT PartNamed s.name) R L (a ∷ dot ∷ one ∷ more) (subst ((Divided DOT PartNamed s.name ⌢ R) ⌢ L) (sym f.1) f.2)
+    there = unstarted s.name_at (Divided DOT PartNamed s.name) (R ⌢ L) (a ∷ dot ∷ one ∷ more) (in-order N R L (a ∷ dot ∷ one ∷ more) (subst ((N ⌢ R) ⌢ L) (sym f.1) f.2))
 
     by-names : Both (λ ts. ts ≡ more) (R ⌢ L) ⊎ Short (λ ts. ts ≡ more) (R ⌢ L) → n ≤ length after
     by-names (inl b) = let r = b.2 in leave s.rules r.0 after (sym b.1 ∙ r.2 ∙ ap (λ ts. r.0 ++ ts) r.4) r.3

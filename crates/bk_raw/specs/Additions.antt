@@ -15,67 +15,67 @@ IsOrdinary _ = Unit {0}
 -- comprehension or lambda over numbered variables; of names at a level only x$0
 abbrev mutual
   pub HasNoAddition : RawTree → Type 0
-  HasNoAddition (raw at node) = IsNoAddition node
+  HasNoAddition (raw at node) = NodeHasNoAddition node
 
-  pub IsNoAddition : RawTreeNode → Type 0
-  IsNoAddition (raw_name text) = Unit {0}
-  IsNoAddition (raw_level_name text n) = n ≡ 0
-  IsNoAddition (raw_bound_name n) = ⊥
-  IsNoAddition (raw_number z) = Unit {0}
-  IsNoAddition (raw_constant c) = IsOrdinary c
-  IsNoAddition (raw_word o a) = HasNoAddition a
-  IsNoAddition (raw_negative a) = HasNoAddition a
-  IsNoAddition (raw_infix o a b) = HasNoAddition a × HasNoAddition b
-  IsNoAddition (raw_inverse r) = HasNoAddition r
-  IsNoAddition (raw_image r s) = HasNoAddition r × HasNoAddition s
-  IsNoAddition (raw_apply f x) = HasNoAddition f × HasNoAddition x
-  IsNoAddition (raw_composition r s) = HasNoAddition r × HasNoAddition s
-  IsNoAddition (raw_pair a b) = HasNoAddition a × HasNoAddition b
-  IsNoAddition raw_empty_set = Unit {0}
-  IsNoAddition (raw_extension ts) = HaveNoAddition ts
-  IsNoAddition (raw_comprehension xs p) = HasNoAddition p
-  IsNoAddition (raw_lambda xs p e) = HasNoAddition p × HasNoAddition e
-  IsNoAddition (raw_for_all xs p) = HasNoAddition p
-  IsNoAddition (raw_exists xs p) = HasNoAddition p
-  IsNoAddition (raw_typed_empty t) = ⊥
-  IsNoAddition (raw_typed_for_all bs p) = ⊥
-  IsNoAddition (raw_typed_exists bs p) = ⊥
-  IsNoAddition (raw_ranged_comprehension rs p) = ⊥
-  IsNoAddition (raw_ranged_lambda rs p e) = ⊥
+  pub NodeHasNoAddition : RawTreeNode → Type 0
+  NodeHasNoAddition (raw_name text) = Unit {0}
+  NodeHasNoAddition (raw_level_name text n) = n ≡ 0
+  NodeHasNoAddition (raw_bound_name n) = ⊥
+  NodeHasNoAddition (raw_number z) = Unit {0}
+  NodeHasNoAddition (raw_constant c) = IsOrdinary c
+  NodeHasNoAddition (raw_word o a) = HasNoAddition a
+  NodeHasNoAddition (raw_negative a) = HasNoAddition a
+  NodeHasNoAddition (raw_infix o a b) = HasNoAddition a × HasNoAddition b
+  NodeHasNoAddition (raw_inverse r) = HasNoAddition r
+  NodeHasNoAddition (raw_image r s) = HasNoAddition r × HasNoAddition s
+  NodeHasNoAddition (raw_apply f x) = HasNoAddition f × HasNoAddition x
+  NodeHasNoAddition (raw_composition r s) = HasNoAddition r × HasNoAddition s
+  NodeHasNoAddition (raw_pair a b) = HasNoAddition a × HasNoAddition b
+  NodeHasNoAddition raw_empty_set = Unit {0}
+  NodeHasNoAddition (raw_extension ts) = TreesHaveNoAddition ts
+  NodeHasNoAddition (raw_comprehension xs p) = HasNoAddition p
+  NodeHasNoAddition (raw_lambda xs p e) = HasNoAddition p × HasNoAddition e
+  NodeHasNoAddition (raw_for_all xs p) = HasNoAddition p
+  NodeHasNoAddition (raw_exists xs p) = HasNoAddition p
+  NodeHasNoAddition (raw_typed_empty t) = ⊥
+  NodeHasNoAddition (raw_typed_for_all bs p) = ⊥
+  NodeHasNoAddition (raw_typed_exists bs p) = ⊥
+  NodeHasNoAddition (raw_ranged_comprehension rs p) = ⊥
+  NodeHasNoAddition (raw_ranged_lambda rs p e) = ⊥
 
-  pub HaveNoAddition : RawTrees → Type 0
-  HaveNoAddition no_trees = Unit {0}
-  HaveNoAddition (tree_and t ts) = HasNoAddition t × HaveNoAddition ts
+  pub TreesHaveNoAddition : RawTrees → Type 0
+  TreesHaveNoAddition no_trees = Unit {0}
+  TreesHaveNoAddition (tree_and t ts) = HasNoAddition t × TreesHaveNoAddition ts
 
 -- none stands in a term of the substitution
 abbrev mutual
-  pub IsWithoutAddition : SubTree → Type 0
-  IsWithoutAddition (sub at node) = IsWithoutAdditions node
+  pub SubHasNoAddition : SubTree → Type 0
+  SubHasNoAddition (sub at node) = SubNodeHasNoAddition node
 
-  pub IsWithoutAdditions : SubNode → Type 0
-  IsWithoutAdditions sub_skip = Unit {0}
-  IsWithoutAdditions (sub_assign xs ts) = HaveNoAddition ts
-  IsWithoutAdditions (sub_assign_at f x e) = HasNoAddition x × HasNoAddition e
-  IsWithoutAdditions (sub_member x e) = HasNoAddition e
-  IsWithoutAdditions (sub_such xs p) = HasNoAddition p
-  IsWithoutAdditions (sub_begin s) = IsWithoutAddition s
-  IsWithoutAdditions (sub_pre p s) = HasNoAddition p × IsWithoutAddition s
-  IsWithoutAdditions (sub_assert p s) = HasNoAddition p × IsWithoutAddition s
-  IsWithoutAdditions (sub_if p s bs) = HasNoAddition p × IsWithoutAddition s × AreWithoutAddition bs
-  IsWithoutAdditions (sub_choice s cs) = IsWithoutAddition s × ChoicesWithoutAddition cs
-  IsWithoutAdditions (sub_select p s bs) = HasNoAddition p × IsWithoutAddition s × AreWithoutAddition bs
-  IsWithoutAdditions (sub_any xs p s) = HasNoAddition p × IsWithoutAddition s
-  IsWithoutAdditions (sub_let xs p s) = HasNoAddition p × IsWithoutAddition s
-  IsWithoutAdditions (sub_var xs s) = IsWithoutAddition s
-  IsWithoutAdditions (sub_while p s i v) = HasNoAddition p × IsWithoutAddition s × HasNoAddition i × HasNoAddition v
-  IsWithoutAdditions (sub_parallel s t) = IsWithoutAddition s × IsWithoutAddition t
-  IsWithoutAdditions (sub_sequence s t) = IsWithoutAddition s × IsWithoutAddition t
+  pub SubNodeHasNoAddition : SubNode → Type 0
+  SubNodeHasNoAddition sub_skip = Unit {0}
+  SubNodeHasNoAddition (sub_assign xs ts) = TreesHaveNoAddition ts
+  SubNodeHasNoAddition (sub_assign_at f x e) = HasNoAddition x × HasNoAddition e
+  SubNodeHasNoAddition (sub_member x e) = HasNoAddition e
+  SubNodeHasNoAddition (sub_such xs p) = HasNoAddition p
+  SubNodeHasNoAddition (sub_begin s) = SubHasNoAddition s
+  SubNodeHasNoAddition (sub_pre p s) = HasNoAddition p × SubHasNoAddition s
+  SubNodeHasNoAddition (sub_assert p s) = HasNoAddition p × SubHasNoAddition s
+  SubNodeHasNoAddition (sub_if p s bs) = HasNoAddition p × SubHasNoAddition s × BranchesHaveNoAddition bs
+  SubNodeHasNoAddition (sub_choice s cs) = SubHasNoAddition s × ChoicesHaveNoAddition cs
+  SubNodeHasNoAddition (sub_select p s bs) = HasNoAddition p × SubHasNoAddition s × BranchesHaveNoAddition bs
+  SubNodeHasNoAddition (sub_any xs p s) = HasNoAddition p × SubHasNoAddition s
+  SubNodeHasNoAddition (sub_let xs p s) = HasNoAddition p × SubHasNoAddition s
+  SubNodeHasNoAddition (sub_var xs s) = SubHasNoAddition s
+  SubNodeHasNoAddition (sub_while p s i v) = HasNoAddition p × SubHasNoAddition s × HasNoAddition i × HasNoAddition v
+  SubNodeHasNoAddition (sub_parallel s t) = SubHasNoAddition s × SubHasNoAddition t
+  SubNodeHasNoAddition (sub_sequence s t) = SubHasNoAddition s × SubHasNoAddition t
 
-  pub AreWithoutAddition : Branches → Type 0
-  AreWithoutAddition no_branches = Unit {0}
-  AreWithoutAddition (else_branch s) = IsWithoutAddition s
-  AreWithoutAddition (branch_and p s bs) = HasNoAddition p × IsWithoutAddition s × AreWithoutAddition bs
+  pub BranchesHaveNoAddition : Branches → Type 0
+  BranchesHaveNoAddition no_branches = Unit {0}
+  BranchesHaveNoAddition (else_branch s) = SubHasNoAddition s
+  BranchesHaveNoAddition (branch_and p s bs) = HasNoAddition p × SubHasNoAddition s × BranchesHaveNoAddition bs
 
-  pub ChoicesWithoutAddition : Choices → Type 0
-  ChoicesWithoutAddition no_choices = Unit {0}
-  ChoicesWithoutAddition (choice_and s cs) = IsWithoutAddition s × ChoicesWithoutAddition cs
+  pub ChoicesHaveNoAddition : Choices → Type 0
+  ChoicesHaveNoAddition no_choices = Unit {0}
+  ChoicesHaveNoAddition (choice_and s cs) = SubHasNoAddition s × ChoicesHaveNoAddition cs

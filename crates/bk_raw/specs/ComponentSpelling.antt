@@ -8,8 +8,8 @@ use Rattle.bk_raw.specs.Pieces.{Never, Absent, JustAt, JustSign, JustWord, ◌�
 use Rattle.bk_raw.specs.Spelling.{Declared, Names, Term}
 use Rattle.bk_raw.specs.declared.term.RawName.{RawName}
 use Rattle.bk_raw.specs.SubSpelling.{Sub}
-use Rattle.bk_raw.specs.Additions.{HasNoAddition, IsWithoutAddition}
-use Rattle.bk_raw.specs.Differing.{Differ}
+use Rattle.bk_raw.specs.Additions.{HasNoAddition, SubHasNoAddition}
+use Rattle.bk_raw.specs.Numbers.{Differ}
 use Rattle.bk_raw.specs.declared.component.ComponentKind.{ComponentKind}
 use Rattle.bk_raw.specs.declared.component.ComponentKind.TheVariants.{Machine}
 use Rattle.bk_raw.specs.declared.component.ClauseWord.{ClauseWord}
@@ -41,7 +41,7 @@ abbrev pub Inputs : List RawName → List Token → Type 0
 Inputs [] = Absent
 Inputs (x ∷ xs) = JustSign OPEN_PAREN ⌢ Names (x ∷ xs) ⌢ JustSign CLOSE_PAREN
 
--- outs <-- name(ins) = body, where no semicolon stands in the body outside of its blocks
+-- outs <-- name(ins) = body, where no semicolon joins substitutions outside of the body's blocks
 abbrev pub Operation : RawOperation → List Token → Type 0
 Operation o = Outputs o.outputs ⌢ Declared o.name ⌢ Inputs o.inputs ⌢ JustSign EQUAL ⌢ Sub o.body 1
 
@@ -90,8 +90,8 @@ ArePlain (clause_names xs) = Unit {0}
 ArePlain (clause_term t) = HasNoAddition t
 ArePlain (clause_terms ts) = All HasNoAddition ts
 ArePlain (clause_values vs) = All (λ v. HasNoAddition v.value) vs
-ArePlain (clause_sub s) = IsWithoutAddition s
-ArePlain (clause_operations os) = All (λ o. IsWithoutAddition o.body) os
+ArePlain (clause_sub s) = SubHasNoAddition s
+ArePlain (clause_operations os) = All (λ o. SubHasNoAddition o.body) os
 
 -- each clause is one that a component of the kind has, all are plain, and no clause stands twice; their order is free
 pub record AreClausesOf (kind : ComponentKind) (clauses : List RawClause) : Type 0 where
@@ -100,7 +100,7 @@ pub record AreClausesOf (kind : ComponentKind) (clauses : List RawClause) : Type
   pub once : Differ (map (λ c. clause_number c.word) clauses)
 
 -- the tokens are those of the component but for its END: the header, and the clauses one behind another
-pub record Opens (c : RawComponent) (tokens : List Token) : Type 0 where
+pub record OpensComponent (c : RawComponent) (tokens : List Token) : Type 0 where
   pub written : (Header c ⌢ InRow Clause c.clauses) tokens
   pub made : AreClausesOf c.kind c.clauses
 

@@ -1,10 +1,11 @@
 -- Components of the B notation as they are written, as mathematical trees.
-use Rattle.std.specs.Prelude.{ℕ, max, List, [], ◌∷◌, map, Option, Bool, true, false, nat_lt}
+use Rattle.std.specs.Prelude.{ℕ, List, [], ◌∷◌, map, Option, Bool, true, false, nat_lt}
 use Rattle.bk_form.specs.declared.token.TokenKind.{TokenKind}
 use Rattle.bk_raw.specs.Brackets.{is_word}
 use Rattle.bk_raw.specs.RawTree.{RawTree, tree_height}
 use Rattle.bk_raw.specs.declared.term.RawName.{RawName}
 use Rattle.bk_ops.specs.declared.word.TheConstants.{MACHINE, REFINEMENT, IMPLEMENTATION, SETS, CONSTANTS, CONCRETE_CONSTANTS, PROPERTIES, VARIABLES, ABSTRACT_VARIABLES, CONCRETE_VARIABLES, INVARIANT, ASSERTIONS, VALUES, INITIALISATION, OPERATIONS, END}
+use Rattle.bk_raw.specs.Numbers.{greatest}
 use Rattle.bk_raw.specs.SubTree.{SubTree, sub_height}
 use Rattle.bk_raw.specs.declared.component.ComponentKind.{ComponentKind}
 use Rattle.bk_raw.specs.declared.component.ComponentKind.TheVariants.{Machine, Refinement, Implementation}
@@ -90,11 +91,6 @@ abbrev pub is_component_word : TokenKind → Bool
 is_component_word = is_word (λ op. nat_lt op END)
 
 -- ---- heights
--- the greatest of these numbers
-abbrev pub greatest : List ℕ → ℕ
-greatest [] = 0
-greatest (n ∷ ns) = max n (greatest ns)
-
 -- the height of the highest term or substitution of a clause; a clause and an operation are no nodes
 abbrev pub parts_height : ClauseParts → ℕ
 parts_height (clause_sets ss) = 0

@@ -67,6 +67,10 @@ ReadingTellsPlace =
     (((t : Token) (ts : List Token) → rest ≡ t ∷ ts → t.kind ≡ Word END → ⊥) → place + length rest ≡ length tokens → IsLongestWhole IsWholeComponent tokens place)
     × ((t : Token) (ts : List Token) → rest ≡ t ∷ ts → t.kind ≡ Word END → place + length ts ≡ length tokens → IsLongestWhole IsWholeComponent tokens place)
 
+-- where no header stands in front, the longest whole front is the empty one
+abbrev pub NoHeaderTellsPlace : Type 0
+NoHeaderTellsPlace = (tokens : List Token) → ((c : RawComponent) (header behind : List Token) → tokens ≡ header ++ behind → Header c header → ⊥) → IsLongestWhole IsWholeComponent tokens 0
+
 -- as a proof file too tokens have at most one place of fault, and at most one byte
 abbrev pub ScriptPlacesAreOne : Type 0
 ScriptPlacesAreOne =

@@ -12,7 +12,7 @@ pub mod Spelling
 pub mod Brackets
 pub mod Bars
 pub mod Reading
-pub mod Differing
+pub mod Numbers
 pub mod SubTree
 pub mod SubCodes
 pub mod SubView

@@ -1,9 +1,11 @@
 -- How deep and how high what is written may be.
-use Rattle.std.specs.Prelude.{ℕ, ◌+◌, ◌<◌, ◌≤◌, List, length, take}
+use Rattle.std.specs.Prelude.{ℕ, ◌+◌, ◌<◌, ◌≤◌, List, length, map, take}
 use Rattle.bk_form.specs.declared.token.Token.{Token}
 use Rattle.bk_raw.specs.Brackets.{opens_bracket, closes_bracket, opens_block, closes_block, open_behind}
+use Rattle.bk_raw.specs.Numbers.{greatest}
 use Rattle.bk_raw.specs.SubTree.{SubTree, sub_height}
 use Rattle.bk_raw.specs.ComponentTree.{RawComponent, component_height}
+use Rattle.bk_raw.specs.ScriptTree.{RawScript, script_height}
 
 -- behind these tokens at most 400 brackets are open, and at most 400 blocks
 abbrev pub IsWithinDepth : List Token → Type 0
@@ -26,3 +28,7 @@ IsLowSub s = sub_height s ≤ 1000
 -- and on any way down a term or a substitution of the component
 abbrev pub IsLowComponent : RawComponent → Type 0
 IsLowComponent c = component_height c ≤ 1000
+
+-- and on any way down a term of the proof file
+abbrev pub IsLowFile : List RawScript → Type 0
+IsLowFile ss = greatest (map script_height ss) ≤ 1000

@@ -6,11 +6,11 @@ use Rattle.bk_raw.specs.declared.component.ComponentKind.{ComponentKind}
 use Rattle.bk_raw.specs.ComponentTree.{RawClause, RawComponent}
 use Rattle.bk_raw.specs.ScriptTree.{RawScript}
 use Rattle.bk_raw.specs.ScriptSpelling.{SpellsScripts, IsWholeScripts}
-use Rattle.bk_raw.specs.ComponentSpelling.{Clause, AreClausesOf, Opens, SpellsComponent}
+use Rattle.bk_raw.specs.ComponentSpelling.{Clause, AreClausesOf, OpensComponent, SpellsComponent}
 
 -- a whole front of a component: nothing, or a header and clauses that such a component has, none twice, and perhaps END
 abbrev pub IsWholeComponent : List Token → Type 0
-IsWholeComponent tokens = (tokens ≡ []) ⊎ ((c : RawComponent) × (Opens c tokens ⊎ SpellsComponent c tokens))
+IsWholeComponent tokens = (tokens ≡ []) ⊎ ((c : RawComponent) × (OpensComponent c tokens ⊎ SpellsComponent c tokens))
 
 -- the longest whole front has so many tokens
 pub record IsLongestWhole (IsWhole : List Token → Type 0) (tokens : List Token) (place : ℕ) : Type 0 where
@@ -27,7 +27,8 @@ pub record IsComponentFault (tokens : List Token) (place : ℕ) : Type 0 where
   pub none : (c : RawComponent) → SpellsComponent c tokens → ⊥
   pub first : IsLongestWhole IsWholeComponent tokens place
 
--- the same of proof files
+-- the same of proof files, of their spelling: that a name is written with two types in one script is another fault, which is
+-- asked only where the whole file is spelled
 pub record IsScriptFault (tokens : List Token) (place : ℕ) : Type 0 where
   pub none : (ss : List RawScript) → SpellsScripts ss tokens → ⊥
   pub first : IsLongestWhole IsWholeScripts tokens place

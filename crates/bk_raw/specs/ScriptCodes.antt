@@ -5,7 +5,7 @@ use Rattle.std.specs.Coded.{Coded, code_by, coded×, coded_ℕ, coded_ℤ, coded
 use Rattle.bk_raw.specs.RawTree.{RawTree}
 use Rattle.bk_raw.specs.RawCodes.{coded_name, coded_tree}
 use Rattle.bk_raw.specs.WrittenType.{WrittenType, coded_written_type}
-use Rattle.bk_raw.specs.ScriptTree.{RawPlace, in_goal, in_hypothesis, RawLine, multiples, divided, RulePart, part_number, part_term, part_terms, part_place, part_no_place, part_typed, part_law, part_certificate, RawRule, RawScript}
+use Rattle.bk_raw.specs.ScriptTree.{RawPlace, in_goal, in_hypothesis, RawLine, multiples, quotient, RulePart, part_number, part_term, part_terms, part_place, part_no_place, part_typed, part_law, part_certificate, RawRule, RawScript}
 use Rattle.bk_raw.specs.declared.term.RawName.{RawName}
 use Rattle.bk_raw.specs.declared.script.RuleWord.{RuleWord}
 use Rattle.bk_raw.specs.declared.script.RuleWord.TheVariants.{Hyp, True, Same, Eval, False, Absurd, And, Iff, Imp, Not, Left, Right, Or, Contra, Fix, UseTerms, Split, Cases, Apply, Inst, OpenSome, Cut, Case, Drop, Eq, Qe, Law, Wal, TypeOf, Neg, Mem, Val, Ext, Sub, Ex, Pair, Elems, Interval, Induct, Poly, Lin}
@@ -130,14 +130,14 @@ coded_multiple = code_by (ℤ × ℕ) (coded× coded_ℤ coded_ℕ) (λ m. (m.mu
 
 abbrev line_lists : RawLine → List ℕ × List RawMultiple
 line_lists (multiples ms) = ([], ms)
-line_lists (divided k g) = (k ∷ g ∷ [], [])
+line_lists (quotient k g) = (k ∷ g ∷ [], [])
 
 abbrev line_back : List ℕ × List RawMultiple → RawLine
-line_back (k ∷ g ∷ ns, ms) = divided k g
+line_back (k ∷ g ∷ ns, ms) = quotient k g
 line_back (_, ms) = multiples ms
 
 abbrev pub coded_line : Coded RawLine
-coded_line = code_by (List ℕ × List RawMultiple) (coded× (coded_list coded_ℕ) (coded_list coded_multiple)) line_lists line_back (elim [ multiples ms ↦ refl | divided k g ↦ refl ])
+coded_line = code_by (List ℕ × List RawMultiple) (coded× (coded_list coded_ℕ) (coded_list coded_multiple)) line_lists line_back (elim [ multiples ms ↦ refl | quotient k g ↦ refl ])
 
 -- a name with its type
 abbrev pub coded_typed : Coded RawTyped
@@ -201,6 +201,6 @@ name_back (suc n, text) = Numeral n
 abbrev pub coded_name_part : Coded NamePart
 coded_name_part = code_by (ℕ × List ℕ) (coded× coded_ℕ (coded_list coded_ℕ)) name_numbers name_back (elim [ Letters text ↦ refl | Numeral n ↦ refl ])
 
--- a script by its byte, its name and its rules
+-- a script by its bytes, its name and its rules
 abbrev pub coded_script : Coded RawScript
-coded_script = code_by (ℕ × (List NamePart × List RawRule)) (coded× coded_ℕ (coded× (coded_list coded_name_part) (coded_list coded_rule))) (λ s. (s.at, (s.name, s.rules))) (λ p. record { at = p.0; name = p.1.0; rules = p.1.1 }) (λ _. refl)
+coded_script = code_by (ℕ × (ℕ × (List NamePart × List RawRule))) (coded× coded_ℕ (coded× coded_ℕ (coded× (coded_list coded_name_part) (coded_list coded_rule)))) (λ s. (s.at, (s.name_at, (s.name, s.rules)))) (λ p. record { at = p.0; name_at = p.1.0; name = p.1.1.0; rules = p.1.1.1 }) (λ _. refl)

@@ -7,10 +7,10 @@ use Rattle.bk_form.specs.declared.token.TokenKind.{TokenKind}
 use Rattle.bk_form.specs.declared.token.TokenKind.TheVariants.{Name, Word}
 use Rattle.bk_ops.specs.Words.{word_texts}
 use Rattle.bk_ops.specs.declared.sign.TheConstants.{OPEN_PAREN, CLOSE_PAREN, COMMA, MEMBER, TIMES, PLUS, DIVIDE, BAR, DOT, SEMICOLON}
-use Rattle.bk_raw.specs.Pieces.{Never, Absent, Just, JustAt, JustSign, ◌⌢◌, Divided, AnyDivided, InRow, InParentheses, Digits, Literal}
+use Rattle.bk_raw.specs.Pieces.{Never, Absent, Just, JustAt, JustSign, ◌⌢◌, Divided, AnyDivided, InRow, InParentheses, Starting, Digits, Literal}
 use Rattle.bk_raw.specs.RawTree.{RawTree}
 use Rattle.bk_raw.specs.Spelling.{Declared, Typed, Term}
-use Rattle.bk_raw.specs.ScriptTree.{rule_kind, PartKind, one_number, one_term, some_terms, one_place, perhaps_place, typed_names, one_law, certificate, shape_of, RawPlace, in_goal, in_hypothesis, RawLine, multiples, divided, RulePart, part_number, part_term, part_terms, part_place, part_no_place, part_typed, part_law, part_certificate, RawRule, RawScript}
+use Rattle.bk_raw.specs.ScriptTree.{rule_kind, PartKind, one_number, one_term, some_terms, one_place, perhaps_place, typed_names, one_law, certificate, shape_of, RawPlace, in_goal, in_hypothesis, RawLine, multiples, quotient, RulePart, part_number, part_term, part_terms, part_place, part_no_place, part_typed, part_law, part_certificate, RawRule, RawScript}
 use Rattle.bk_raw.specs.declared.script.RawMultiple.{RawMultiple}
 use Rattle.bk_raw.specs.declared.script.RawTyped.{RawTyped}
 use Rattle.bk_raw.specs.declared.script.NamePart.{NamePart}
@@ -42,7 +42,7 @@ Multiple m = Literal m.multiplier 0 ⌢ JustSign TIMES ⌢ Digits m.fact
 -- a line of a certificate: multiples with + between, or k / g
 abbrev pub Line : RawLine → List Token → Type 0
 Line (multiples ms) = Divided PLUS Multiple ms
-Line (divided k g) = Digits k ⌢ JustSign DIVIDE ⌢ Digits g
+Line (quotient k g) = Digits k ⌢ JustSign DIVIDE ⌢ Digits g
 
 -- a part where one of this kind is asked
 abbrev pub Spelled : PartKind → RulePart → List Token → Type 0
@@ -86,7 +86,7 @@ PartNamed (Numeral n) = Digits n
 
 -- a script but for its end: proof, its name with dots between the parts, and rules with semicolons between
 abbrev pub OpensScript : RawScript → List Token → Type 0
-OpensScript s = JustAt s.at (Name (codes "proof")) ⌢ Divided DOT PartNamed s.name ⌢ AnyDivided SEMICOLON Rule s.rules
+OpensScript s = JustAt s.at (Name (codes "proof")) ⌢ Starting s.name_at (Divided DOT PartNamed s.name) ⌢ AnyDivided SEMICOLON Rule s.rules
 
 -- a script
 abbrev pub Scripted : RawScript → List Token → Type 0

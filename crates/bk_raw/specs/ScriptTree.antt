@@ -1,9 +1,10 @@
 -- Proof files as they are written: scripts with their rules, each rule a word and its parts by the word's shape.
-use Rattle.std.specs.Prelude.{ℕ, List, [], ◌∷◌, codes}
+use Rattle.std.specs.Prelude.{ℕ, List, [], ◌∷◌, map, codes}
 use Rattle.bk_form.specs.declared.token.TokenKind.{TokenKind}
 use Rattle.bk_form.specs.declared.token.TokenKind.TheVariants.{Name, Word}
 use Rattle.bk_ops.specs.declared.word.TheConstants.{OR, NOT}
-use Rattle.bk_raw.specs.RawTree.{RawTree}
+use Rattle.bk_raw.specs.RawTree.{RawTree, tree_height}
+use Rattle.bk_raw.specs.Numbers.{greatest}
 use Rattle.bk_raw.specs.declared.script.RuleWord.{RuleWord}
 use Rattle.bk_raw.specs.declared.script.RuleWord.TheVariants.{Hyp, True, Same, Eval, False, Absurd, And, Iff, Imp, Not, Left, Right, Or, Contra, Fix, UseTerms, Split, Cases, Apply, Inst, OpenSome, Cut, Case, Drop, Eq, Qe, Law, Wal, TypeOf, Neg, Mem, Val, Ext, Sub, Ex, Pair, Elems, Interval, Induct, Poly, Lin}
 use Rattle.bk_raw.specs.declared.script.RawMultiple.{RawMultiple}
@@ -106,7 +107,8 @@ shape_of Interval = one_number ∷ []
 shape_of Lin = certificate ∷ []
 shape_of _ = []
 
--- a place in a sequent: the goal, or the hypothesis of a number, and a path of child numbers into it; all count from 1
+-- a place in a sequent: the goal, or the hypothesis of a number, and a path of child numbers into it. Hypotheses
+-- and children count from 1; a number may be 0 or too large for anything to have it
 pub data RawPlace : Type 0 where
   in_goal : List ℕ → RawPlace
   in_hypothesis : ℕ → List ℕ → RawPlace
@@ -116,7 +118,7 @@ pub data RawLine : Type 0 where
   -- m * k + .. : multiples of facts by their numbers
   multiples : List RawMultiple → RawLine
   -- k / g: a fact by its number, and what it is divided by
-  divided : ℕ → ℕ → RawLine
+  quotient : ℕ → ℕ → RawLine
 
 -- a part of a rule
 pub data RulePart : Type 0 where
@@ -137,8 +139,21 @@ pub record RawRule : Type 0 where
   pub at : ℕ
   pub parts : List RulePart
 
--- a script: the byte where it starts, the parts of its name, and its rules in order
+-- a script: the byte where it starts, the byte where its name starts, the parts of its name, and its rules in order
 pub record RawScript : Type 0 where
   pub at : ℕ
+  pub name_at : ℕ
   pub name : List NamePart
   pub rules : List RawRule
+
+-- ---- heights
+-- the height of the highest term of a part of a rule
+abbrev pub part_height : RulePart → ℕ
+part_height (part_term t) = tree_height t
+part_height (part_terms ts) = greatest (map tree_height ts)
+part_height (part_law name picks) = greatest (map tree_height picks)
+part_height _ = 0
+
+-- that of a script
+abbrev pub script_height : RawScript → ℕ
+script_height s = greatest (map (λ r. greatest (map part_height r.parts)) s.rules)

@@ -102,7 +102,7 @@ one_operation_tree = record {
 
 -- the tree of one_script
 abbrev pub one_script_tree : RawScript
-one_script_tree = record { at = 0; name = Letters (codes "A") ∷ Numeral 1 ∷ []; rules = record { word = Hyp; at = 10; parts = part_number 1 ∷ [] } ∷ [] }
+one_script_tree = record { at = 0; name_at = 6; name = Letters (codes "A") ∷ Numeral 1 ∷ []; rules = record { word = Hyp; at = 10; parts = part_number 1 ∷ [] } ∷ [] }
 
 -- ---- what is written
 pub record TextsAreWritten : Type 0 where

@@ -48,7 +48,7 @@ pub enum ClauseWord {
 #[derive(Drop)]
 pub struct RawSet {
     pub name: RawName,
-    /// None where the set is a name alone.
+    /// Empty where the set is a name alone.
     pub elements: Vec<RawName>,
 }
 

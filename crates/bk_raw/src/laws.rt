@@ -2,7 +2,7 @@
 
 ghost use Rattle.bk_raw.specs.Laws.{TermsAreOne, SubstitutionsAreOne, ComponentsAreOne, ScriptsAreOne};
 ghost use Rattle.bk_raw.specs.Laws.{LongestIsOne, NoWordInside};
-ghost use Rattle.bk_raw.specs.Laws.{PlacesAreOne, FaultsExclude, ReadingTellsPlace};
+ghost use Rattle.bk_raw.specs.Laws.{PlacesAreOne, FaultsExclude, ReadingTellsPlace, NoHeaderTellsPlace};
 ghost use Rattle.bk_raw.specs.Laws.{ScriptPlacesAreOne, ScriptFaultsExclude, ScriptsTellPlace};
 ghost use Rattle.bk_raw.specs.Laws.{DecidedIsOneOfBoth, OneOfBothHolds};
 ghost use Rattle.bk_raw.specs.Laws.{DecidedScriptsAreOneOfBoth, OneOfBothHoldsOfScripts};
@@ -53,6 +53,11 @@ pub fn reading_tells_place()
     ensures { ReadingTellsPlace }
 {}
 
+/// Where no header stands in front, the place is the first token.
+pub fn no_header_tells_place()
+    ensures { NoHeaderTellsPlace }
+{}
+
 /// As a proof file tokens have at most one place of fault, and at most one byte of fault.
 pub fn script_places_are_one()
     ensures { ScriptPlacesAreOne }
@@ -68,7 +73,8 @@ pub fn scripts_tell_place()
     ensures { ScriptsTellPlace }
 {}
 
-/// Tokens are written as a component or have a place of fault, where both are decided.
+/// Tokens are written as a component or have a place of fault, where it is decided which fronts are whole and whether the
+/// tokens are written so.
 pub fn decided_is_one_of_both()
     ensures { DecidedIsOneOfBoth }
 {}
@@ -78,7 +84,8 @@ pub fn one_of_both_holds()
     ensures { OneOfBothHolds }
 {}
 
-/// Tokens are written as a proof file or have a place of fault, where both are decided.
+/// Tokens are written as a proof file or have a place of fault, where it is decided which fronts are whole and whether the
+/// tokens are written so.
 pub fn decided_scripts_are_one_of_both()
     ensures { DecidedScriptsAreOneOfBoth }
 {}

@@ -92,8 +92,8 @@ pub enum RuleWord {
     Lin,
 }
 
-/// A place in a sequent: a path of child numbers, from 1, into the goal, or into the hypothesis of a number, from 1. A
-/// number may be too large for anything to have it.
+/// A place in a sequent: a path of child numbers into the goal, or into the hypothesis of a number. Both count from 1; a
+/// number may be 0 or too large for anything to have it.
 #[derive(Drop)]
 pub enum RawPlace {
     /// `goal`, and the path.
@@ -168,6 +168,8 @@ pub enum NamePart {
 pub struct RawScript {
     /// The byte of the text where its first token starts.
     pub at: usize,
+    /// The byte where its name starts.
+    pub name_at: usize,
     /// The name, which dots divide.
     pub name: Vec<NamePart>,
     pub rules: Vec<RawRule>,
@@ -194,5 +196,5 @@ impl Model for RawScript {
 
     ghost coded = { coded_script };
 
-    ghost view = { λ s. record { at = s.at; name = s.name.items; rules = s.rules.items } };
+    ghost view = { λ s. record { at = s.at; name_at = s.name_at; name = s.name.items; rules = s.rules.items } };
 }
