@@ -18,8 +18,10 @@ use Rattle.bk_raw.proofs.TermRuns.{ends_names, all-names}
 use Rattle.bk_raw.proofs.Patterns.{Both, same-token, same-piece, StopsAt, stops-just, stops-last, just-none}
 use Rattle.bk_raw.proofs.SubOne.{alone, stops-nothing, one-names, names-cut, one-sub, words-same}
 use Rattle.bk_raw.proofs.SubLeads.{lead, lead-behind}
-use Rattle.bk_raw.proofs.Lists.{in-order, absent-then, One, one-divided}
+use Rattle.bk_raw.proofs.Lists.{absent-then, One, one-divided}
 use Rattle.bk_raw.proofs.ClauseRuns.{ends_clause, ends_division, division-term, set-leads, value-leads, operation-leads, parts-lead}
+use Rattle.bk_raw.proofs.Shapes.{regrouped}
+use Rattle.bk_raw.specs.ComponentCodes.{clause_words}
 
 signs-same : (m n : ℕ) → Sign m ≡ Sign n → m ≡ n
 signs-same m n e = cc
@@ -68,7 +70,7 @@ Headed o = Declared o.name ⌢ Inputs o.inputs ⌢ Bodied o
 inputs-led : (x : RawName) (xs : List RawName) (K : Piece) (ts : List Token) → (Declared x ⌢ Inputs xs ⌢ JustSign EQUAL ⌢ K) ts → (lead ts ≡ EQUAL) ⊎ (lead ts ≡ OPEN_PAREN)
 inputs-led x [] K ts h = inl (lead-behind (x ∷ []) EQUAL K ts refl (h.0, h.1, h.2, h.3, absent-then (JustSign EQUAL ⌢ K) h.1 h.4))
 inputs-led x (y ∷ ys) K ts h =
-    inr (lead-behind (x ∷ []) OPEN_PAREN ((Names (y ∷ ys) ⌢ JustSign CLOSE_PAREN) ⌢ JustSign EQUAL ⌢ K) ts refl (h.0, h.1, h.2, h.3, in-order (JustSign OPEN_PAREN) (Names (y ∷ ys) ⌢ JustSign CLOSE_PAREN) (JustSign EQUAL ⌢ K) h.1 h.4))
+    inr (lead-behind (x ∷ []) OPEN_PAREN ((Names (y ∷ ys) ⌢ JustSign CLOSE_PAREN) ⌢ JustSign EQUAL ⌢ K) ts refl (h.0, h.1, h.2, h.3, regrouped (JustSign OPEN_PAREN) (Names (y ∷ ys) ⌢ JustSign CLOSE_PAREN) (JustSign EQUAL ⌢ K) h.1 h.4))
 
 no-outputs : (o : RawOperation) (y : RawName) (ys : List RawName) (L : Piece) (ts : List Token) → Headed o ts → (Names (y ∷ ys) ⌢ JustSign OUTPUTS ⌢ L) ts → ⊥
 no-outputs o y ys L ts h k = by-cases (inputs-led o.name o.inputs (Sub o.body 1) ts h)
@@ -82,9 +84,9 @@ no-outputs o y ys L ts h k = by-cases (inputs-led o.name o.inputs (Sub o.body 1)
 
 outputs-cut : (o p : RawOperation) (xs ys : List RawName) (ts : List Token) → (Outputs xs ⌢ Headed o) ts → (Outputs ys ⌢ Headed p) ts → (xs ≡ ys) × Both (Headed o) (Headed p)
 outputs-cut o p [] [] ts h k = (refl, (ts, absent-then (Headed o) ts h, absent-then (Headed p) ts k))
-outputs-cut o p [] (y ∷ ys) ts h k = absurd (no-outputs o y ys (Headed p) ts (absent-then (Headed o) ts h) (in-order (Names (y ∷ ys)) (JustSign OUTPUTS) (Headed p) ts k))
-outputs-cut o p (x ∷ xs) [] ts h k = absurd (no-outputs p x xs (Headed o) ts (absent-then (Headed p) ts k) (in-order (Names (x ∷ xs)) (JustSign OUTPUTS) (Headed o) ts h))
-outputs-cut o p (x ∷ xs) (y ∷ ys) ts h k = names-to OUTPUTS (x ∷ xs) (y ∷ ys) (Headed o) (Headed p) ts refl (in-order (Names (x ∷ xs)) (JustSign OUTPUTS) (Headed o) ts h) (in-order (Names (y ∷ ys)) (JustSign OUTPUTS) (Headed p) ts k)
+outputs-cut o p [] (y ∷ ys) ts h k = absurd (no-outputs o y ys (Headed p) ts (absent-then (Headed o) ts h) (regrouped (Names (y ∷ ys)) (JustSign OUTPUTS) (Headed p) ts k))
+outputs-cut o p (x ∷ xs) [] ts h k = absurd (no-outputs p x xs (Headed o) ts (absent-then (Headed p) ts k) (regrouped (Names (x ∷ xs)) (JustSign OUTPUTS) (Headed o) ts h))
+outputs-cut o p (x ∷ xs) (y ∷ ys) ts h k = names-to OUTPUTS (x ∷ xs) (y ∷ ys) (Headed o) (Headed p) ts refl (regrouped (Names (x ∷ xs)) (JustSign OUTPUTS) (Headed o) ts h) (regrouped (Names (y ∷ ys)) (JustSign OUTPUTS) (Headed p) ts k)
 
 equal-paren : Sign EQUAL ≡ Sign OPEN_PAREN → ⊥
 equal-paren e = omega (arith, signs-same EQUAL OPEN_PAREN e)
@@ -92,14 +94,14 @@ equal-paren e = omega (arith, signs-same EQUAL OPEN_PAREN e)
 inputs-cut : (o p : RawOperation) (xs ys : List RawName) (ts : List Token) → (Inputs xs ⌢ Bodied o) ts → (Inputs ys ⌢ Bodied p) ts → (xs ≡ ys) × Both (Bodied o) (Bodied p)
 inputs-cut o p [] [] ts h k = (refl, (ts, absent-then (Bodied o) ts h, absent-then (Bodied p) ts k))
 inputs-cut o p [] (y ∷ ys) ts h k =
-    absurd (equal-paren (same-token (Sign EQUAL) (Sign OPEN_PAREN) (Sub o.body 1) ((Names (y ∷ ys) ⌢ JustSign CLOSE_PAREN) ⌢ Bodied p) ts (absent-then (Bodied o) ts h) (in-order (JustSign OPEN_PAREN) (Names (y ∷ ys) ⌢ JustSign CLOSE_PAREN) (Bodied p) ts k)).0)
+    absurd (equal-paren (same-token (Sign EQUAL) (Sign OPEN_PAREN) (Sub o.body 1) ((Names (y ∷ ys) ⌢ JustSign CLOSE_PAREN) ⌢ Bodied p) ts (absent-then (Bodied o) ts h) (regrouped (JustSign OPEN_PAREN) (Names (y ∷ ys) ⌢ JustSign CLOSE_PAREN) (Bodied p) ts k)).0)
 inputs-cut o p (x ∷ xs) [] ts h k =
-    absurd (equal-paren (same-token (Sign EQUAL) (Sign OPEN_PAREN) (Sub p.body 1) ((Names (x ∷ xs) ⌢ JustSign CLOSE_PAREN) ⌢ Bodied o) ts (absent-then (Bodied p) ts k) (in-order (JustSign OPEN_PAREN) (Names (x ∷ xs) ⌢ JustSign CLOSE_PAREN) (Bodied o) ts h)).0)
+    absurd (equal-paren (same-token (Sign EQUAL) (Sign OPEN_PAREN) (Sub p.body 1) ((Names (x ∷ xs) ⌢ JustSign CLOSE_PAREN) ⌢ Bodied o) ts (absent-then (Bodied p) ts k) (regrouped (JustSign OPEN_PAREN) (Names (x ∷ xs) ⌢ JustSign CLOSE_PAREN) (Bodied o) ts h)).0)
 inputs-cut o p (x ∷ xs) (y ∷ ys) ts h k =
     let N = Names (x ∷ xs) in
     let M = Names (y ∷ ys) in
-    let a = same-token (Sign OPEN_PAREN) (Sign OPEN_PAREN) ((N ⌢ JustSign CLOSE_PAREN) ⌢ Bodied o) ((M ⌢ JustSign CLOSE_PAREN) ⌢ Bodied p) ts (in-order (JustSign OPEN_PAREN) (N ⌢ JustSign CLOSE_PAREN) (Bodied o) ts h) (in-order (JustSign OPEN_PAREN) (M ⌢ JustSign CLOSE_PAREN) (Bodied p) ts k) in
-    names-to CLOSE_PAREN (x ∷ xs) (y ∷ ys) (Bodied o) (Bodied p) a.1.0 refl (in-order N (JustSign CLOSE_PAREN) (Bodied o) a.1.0 a.1.1) (in-order M (JustSign CLOSE_PAREN) (Bodied p) a.1.0 a.1.2)
+    let a = same-token (Sign OPEN_PAREN) (Sign OPEN_PAREN) ((N ⌢ JustSign CLOSE_PAREN) ⌢ Bodied o) ((M ⌢ JustSign CLOSE_PAREN) ⌢ Bodied p) ts (regrouped (JustSign OPEN_PAREN) (N ⌢ JustSign CLOSE_PAREN) (Bodied o) ts h) (regrouped (JustSign OPEN_PAREN) (M ⌢ JustSign CLOSE_PAREN) (Bodied p) ts k) in
+    names-to CLOSE_PAREN (x ∷ xs) (y ∷ ys) (Bodied o) (Bodied p) a.1.0 refl (regrouped N (JustSign CLOSE_PAREN) (Bodied o) a.1.0 a.1.1) (regrouped M (JustSign CLOSE_PAREN) (Bodied p) a.1.0 a.1.2)
 
 one-operation : One Operation
 one-operation o p ts h k =
@@ -142,11 +144,8 @@ one-parts Operations (clause_operations os) _ ts h k = absurd k
 one-parts _ _ _ ts h k = absurd h
 
 -- ---- words
-abbrev words : List ClauseWord
-words = Sets ∷ Constants ∷ ConcreteConstants ∷ Properties ∷ Variables ∷ AbstractVariables ∷ ConcreteVariables ∷ Invariant ∷ Assertions ∷ Values ∷ Initialisation ∷ Operations ∷ []
-
 abbrev word_back : ℕ → ClauseWord
-word_back n = get_or words (n - 61) Sets
+word_back n = get_or clause_words (n - 61) Sets
 
 word-again : (w : ClauseWord) → word_back (word_number w) ≡ w
 word-again Sets = refl
@@ -178,7 +177,7 @@ same-at at bt one other K L ts h k =
 
 pub clause-cut : (c d : RawClause) (K L : Piece) (ts : List Token) → StopsAt ends_clause (0, true) K → StopsAt ends_clause (0, true) L → (Clause c ⌢ K) ts → (Clause d ⌢ L) ts → (c ≡ d) × Both K L
 clause-cut c d K L ts sk sl h k =
-    let a = same-at c.at d.at (Word (word_number c.word)) (Word (word_number d.word)) (Parts c.word c.parts ⌢ K) (Parts d.word d.parts ⌢ L) ts (in-order (JustAt c.at (Word (word_number c.word))) (Parts c.word c.parts) K ts h) (in-order (JustAt d.at (Word (word_number d.word))) (Parts d.word d.parts) L ts k) in
+    let a = same-at c.at d.at (Word (word_number c.word)) (Word (word_number d.word)) (Parts c.word c.parts ⌢ K) (Parts d.word d.parts ⌢ L) ts (regrouped (JustAt c.at (Word (word_number c.word))) (Parts c.word c.parts) K ts h) (regrouped (JustAt d.at (Word (word_number d.word))) (Parts d.word d.parts) L ts k) in
     let w = word-same c.word d.word a.1 in
     let b = same-piece ends_clause (0, false) (0, true) (0, true) (Parts c.word c.parts) (Parts d.word d.parts) K L a.2.0 (parts-lead c.word c.parts) (parts-lead d.word d.parts) sk sl a.2.1 a.2.2 in
     let p = one-parts c.word c.parts d.parts b.0 b.1 (subst (λ v. Parts v d.parts b.0) (sym w) b.2) in

@@ -9,21 +9,22 @@ use Rattle.bk_raw.specs.ComponentTree.{RawClause, word_number, is_component_word
 use Rattle.bk_raw.specs.ComponentSpelling.{Parts, Clause}
 use Rattle.bk_raw.specs.Laws.{IsLongestSub}
 use Rattle.bk_raw.specs.SubSpelling.{SpellsSub}
-use Rattle.bk_raw.proofs.Runs.{run, split-run, first-step, none-some, some-same}
+use Rattle.bk_raw.proofs.Runs.{run, split-run, first-step}
 use Rattle.bk_raw.proofs.Steps.{State, Stopper, step, stepped, moved, moved_by, moved-of, completes}
 use Rattle.bk_raw.proofs.SubOne.{one-spelled}
 use Rattle.bk_raw.proofs.ClauseRuns.{ends_clause, parts-lead}
 use Rattle.bk_raw.proofs.ClauseOne.{first-at}
+use Rattle.bk_raw.proofs.Stopping.{none_some, some_same}
 
 -- ---- the automaton counts what is open
 counted-by : (o c e : Bool) (n m : ℕ) (b : Bool) → moved_by o c e n ≡ Some (m, b) → m ≡ cond o (suc n) (cond c (one_less n) n)
-counted-by true c e n m b h = sym (ap (λ (s : State). s.0) (some-same (suc n, false) (m, b) h))
-counted-by false true e zero m b h = absurd (none-some (m, b) h)
-counted-by false true e (suc n) m b h = sym (ap (λ (s : State). s.0) (some-same (n, true) (m, b) h))
-counted-by false false e n m b h = sym (ap (λ (s : State). s.0) (some-same (n, e) (m, b) h))
+counted-by true c e n m b h = sym (ap (λ (s : State). s.0) (some_same (suc n, false) (m, b) h))
+counted-by false true e zero m b h = absurd (none_some (m, b) h)
+counted-by false true e (suc n) m b h = sym (ap (λ (s : State). s.0) (some_same (n, true) (m, b) h))
+counted-by false false e n m b h = sym (ap (λ (s : State). s.0) (some_same (n, e) (m, b) h))
 
 pub counted : (stops : Stopper) (n : ℕ) (b : Bool) (ts : List Token) (e : State) → run (step stops) (n, b) ts ≡ Some e → e.0 ≡ open_behind opens closes n ts
-counted stops n b [] e h = sym (ap (λ (s : State). s.0) (some-same (n, b) e h))
+counted stops n b [] e h = sym (ap (λ (s : State). s.0) (some_same (n, b) e h))
 counted stops n b (t ∷ ts) e h =
     let f = first-step (step stops) (n, b) e t ts h in
     let m = counted-by (opens t.kind) (closes t.kind) (completes t.kind) n f.0.0 f.0.1 (moved-of stops n b t.kind f.0 f.1) in
@@ -40,7 +41,7 @@ word-halts b (Sign op) h = cc
 halts-there : (s : State) (word : Token) (back : List Token) (e : State) → s.0 ≡ 0 → is_component_word word.kind ≡ true → run (step ends_clause) s (word ∷ back) ≡ Some e → ⊥
 halts-there s word back e z w h =
     let f = first-step (step ends_clause) s e word back h in
-    none-some f.0 (sym (word-halts s.1 word.kind w) ∙ ap (λ n. stepped ends_clause n s.1 word.kind) (sym z) ∙ f.1)
+    none_some f.0 (sym (word-halts s.1 word.kind w) ∙ ap (λ n. stepped ends_clause n s.1 word.kind) (sym z) ∙ f.1)
 
 pub no-word-inside : (c : RawClause) (one word : Token) (front back : List Token) → Clause c (one ∷ (front ++ word ∷ back)) → open_behind opens closes 0 front ≡ 0 → is_component_word word.kind ≡ true → ⊥
 no-word-inside c one word front back h z w =

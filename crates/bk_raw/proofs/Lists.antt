@@ -9,10 +9,6 @@ use Rattle.bk_raw.proofs.Patterns.{same-token, same-piece, stops-just}
 use Rattle.bk_raw.proofs.SubOne.{alone, nothing-token, stops-nothing}
 
 -- ---- to the right
-pub in-order : (A B K : Piece) (ts : List Token) → ((A ⌢ B) ⌢ K) ts → (A ⌢ B ⌢ K) ts
-in-order A B K ts h =
-    (h.3.0, h.3.1 ++ h.1, h.2 ∙ ap (λ f. f ++ h.1) h.3.2 ∙ append_assoc h.3.0 h.3.1 h.1, h.3.3, (h.3.1, h.1, refl, h.3.4, h.4))
-
 pub from-order : (A B K : Piece) (ts : List Token) → (A ⌢ B ⌢ K) ts → ((A ⌢ B) ⌢ K) ts
 from-order A B K ts h =
     (h.0 ++ h.4.0, h.4.1, h.2 ∙ ap (λ b. h.0 ++ b) h.4.2 ∙ sym (append_assoc h.0 h.4.0 h.4.1), (h.0, h.4.0, refl, h.3, h.4.3), h.4.4)

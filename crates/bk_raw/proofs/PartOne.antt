@@ -14,19 +14,20 @@ use Rattle.bk_raw.specs.ScriptTree.{RawPlace, in_goal, in_hypothesis, RawLine, m
 use Rattle.bk_raw.specs.declared.script.RawMultiple.{RawMultiple}
 use Rattle.bk_raw.specs.declared.script.RawTyped.{RawTyped}
 use Rattle.bk_raw.specs.ScriptSpelling.{Place, TypedName, AnyTerm, Picked, Multiple, Line}
-use Rattle.bk_raw.proofs.Runs.{some-same}
 use Rattle.bk_raw.proofs.Steps.{Piece, State, Stopper, nothing, Leads, leads-join, leads-just, leads-fewer, fewer-nothing, leads-in}
 use Rattle.bk_raw.proofs.TermRuns.{ends_term, ends_terms, fewer-terms, term, typed}
 use Rattle.bk_raw.proofs.Patterns.{Both, same-token, same-piece, StopsAt, stops-just, stops-last, just-none}
 use Rattle.bk_raw.proofs.SubOne.{names-cut, just-same}
-use Rattle.bk_raw.proofs.Lists.{in-order, leads-absent, One, divided-leads, one-divided}
+use Rattle.bk_raw.proofs.Lists.{leads-absent, One, divided-leads, one-divided}
+use Rattle.bk_raw.proofs.Shapes.{regrouped}
+use Rattle.bk_raw.proofs.Stopping.{some_same}
 
 false-true : false ≡ true → ⊥
 false-true e = cc
 
 -- what leads from an open term to a complete one is not empty
 pub not-empty : (stops : Stopper) (A : Piece) → Leads stops (0, false) (0, true) A → A [] → ⊥
-not-empty stops A f h = false-true (ap (λ (s : State). s.1) (some-same (0, false) (0, true) (f [] h)))
+not-empty stops A f h = false-true (ap (λ (s : State). s.1) (some_same (0, false) (0, true) (f [] h)))
 
 -- ---- one token
 -- a piece of one token
@@ -262,8 +263,8 @@ first-multiple [] ts h = absurd h
 first-multiple (m ∷ []) ts h = (m.multiplier, Digits m.fact, h)
 first-multiple (m ∷ n ∷ ms) ts h =
     let R = JustSign PLUS ⌢ Divided PLUS Multiple (n ∷ ms) in
-    let a = in-order (Literal m.multiplier 0) (JustSign TIMES ⌢ Digits m.fact) R ts h in
-    (m.multiplier, Digits m.fact ⌢ R, (a.0, a.1, a.2, a.3, in-order (JustSign TIMES) (Digits m.fact) R a.1 a.4))
+    let a = regrouped (Literal m.multiplier 0) (JustSign TIMES ⌢ Digits m.fact) R ts h in
+    (m.multiplier, Digits m.fact ⌢ R, (a.0, a.1, a.2, a.3, regrouped (JustSign TIMES) (Digits m.fact) R a.1 a.4))
 
 signs-same : (m n : ℕ) → Sign m ≡ Sign n → m ≡ n
 signs-same m n e = cc

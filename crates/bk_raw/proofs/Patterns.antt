@@ -4,8 +4,9 @@ use Rattle.std.specs.Prelude.{◌&&◌, option_and_then}
 use Rattle.bk_form.specs.declared.token.Token.{Token}
 use Rattle.bk_form.specs.declared.token.TokenKind.{TokenKind}
 use Rattle.bk_raw.specs.Pieces.{Never, Just, ◌⌢◌}
-use Rattle.bk_raw.proofs.Runs.{run, Halts, none-some, some-same, nil-cons, and-then-some, same-split}
+use Rattle.bk_raw.proofs.Runs.{run, Halts, nil-cons, and-then-some, same-split}
 use Rattle.bk_raw.proofs.Steps.{Piece, State, Stopper, stepped, step, nothing, Leads, leads-join, leads-just, leads-never, raise}
+use Rattle.bk_raw.proofs.Stopping.{none_some, some_same}
 
 -- ---- two pieces
 pub just-there : (kind : TokenKind) (K : Piece) (t : Token) (ts : List Token) → t.kind ≡ kind → K ts → (Just kind ⌢ K) (t ∷ ts)
@@ -174,17 +175,17 @@ AllFit Written stops flat [] = Unit {0}
 AllFit Written stops flat (p ∷ ps) = Fits Written stops flat p × AllFit Written stops flat ps
 
 cond-some : (b : Bool) (x y : State) → cond b (Some x) None ≡ Some y → (b ≡ true) × (x ≡ y)
-cond-some true x y e = (refl, some-same x y e)
-cond-some false x y e = absurd (none-some y e)
+cond-some true x y e = (refl, some_same x y e)
+cond-some false x y e = absurd (none_some y e)
 
 module _ {K P : Type 0} (Written : K → P → Piece) (stops : Stopper) (flat : K → Bool) where
   leads-part : (k : K) (p : P) (n : ℕ) (b : Bool) (e : State) → Fits Written stops flat p → over flat k (n, b) ≡ Some e → Leads stops (n, b) e (Written k p)
-  leads-part k p n true e f h = absurd (none-some e h)
+  leads-part k p n true e f h = absurd (none_some e h)
   leads-part k p zero false e f h =
       let c = cond-some (flat k) (0, true) e h in
       subst (λ x. Leads stops (0, false) x (Written k p)) c.1 (f.1 k c.0)
   leads-part k p (suc n) false e f h =
-      subst (λ x. Leads stops (suc n, false) x (Written k p)) (some-same (suc n, true) e h) (λ ts w. raise-by stops n ts (f.0 k ts w))
+      subst (λ x. Leads stops (suc n, false) x (Written k p)) (some_same (suc n, true) e h) (λ ts w. raise-by stops n ts (f.0 k ts w))
 
   pub leads-shaped : (shape : Shape K) (ps : List P) (n : ℕ) (b : Bool) (e : State) → AllFit Written stops flat ps → walk stops flat shape (n, b) ≡ Some e → Leads stops (n, b) e (Shaped Written shape ps)
   leads-shaped (last_token kind) [] n b e f h = leads-just stops n b e kind h

@@ -19,6 +19,7 @@ use Rattle.bk_raw.proofs.Patterns.{first, last}
 use Rattle.bk_raw.proofs.ClauseRuns.{ends_clause, parts-lead}
 use Rattle.bk_raw.proofs.ClauseOne.{first-at, one-clause}
 use Rattle.bk_raw.proofs.ComponentOne.{IsClosed, clause-halts, clause-not-closed, header-cut, SameHeader}
+use Rattle.bk_raw.proofs.Shapes.{lengths as shorter-by}
 
 -- ---- fronts of lists of clauses
 all-front : {X : Type 0} (P : X → Type 0) (xs ys : List X) → All P (xs ++ ys) → All P xs
@@ -79,9 +80,6 @@ no-clause-ends c a back e q h k is =
     let f = first (Word END) (λ us. us ≡ []) e (last (Word END) e k) in
     let closed : IsClosed (e ++ q) = subst (λ ts. IsClosed (ts ++ q)) (sym f.is) f.same in
     clause-not-closed c (λ ts. ts ≡ back) (a ++ back) (a, back, refl, h, refl) (subst IsClosed (sym is) closed)
-
-shorter-by : (xs ys zs : List Token) → xs ≡ ys ++ zs → length xs ≡ length ys + length zs
-shorter-by xs ys zs e = ap length e ∙ length-append ys zs
 
 no-more : (x y : List Token) (z : List Token) → x ≡ y ++ z → length x ≤ length y → z ≡ []
 no-more x y [] e l = refl

@@ -11,10 +11,11 @@ use Rattle.bk_raw.proofs.Runs.{no-longer}
 use Rattle.bk_raw.proofs.Steps.{Piece, State, Stopper, step, Leads, leads-never}
 use Rattle.bk_raw.proofs.TermRuns.{ends_term, ends_terms, term}
 use Rattle.bk_raw.proofs.Patterns.{same-piece, StopsAt}
-use Rattle.bk_raw.proofs.Lists.{in-order, absent-then, leads-absent}
+use Rattle.bk_raw.proofs.Lists.{absent-then, leads-absent}
 use Rattle.bk_raw.proofs.ClauseOne.{same-at}
 use Rattle.bk_raw.proofs.PartOne.{ends_place, place-leads, terms-lead, typed-names-lead, ends_law, law-leads, ends_certificate, certificate-leads}
 use Rattle.bk_raw.proofs.RuleOne.{RuleEnds, end-stops, absent-ends, number-first, ends_perhaps, perhaps-leads, place-stops, law-parts, law-shape, word-same}
+use Rattle.bk_raw.proofs.Shapes.{regrouped}
 
 -- what is behind the one is at the end of what is behind the other
 abbrev pub Within : Piece → Piece → Type 0
@@ -43,13 +44,13 @@ last j stops end l s (p ∷ o ∷ ps) qs K L ts e h k = absurd h.3.4
 last j stops end l s (p ∷ []) [] K L ts e h k = absurd k.3
 last j stops end l s (p ∷ []) (q ∷ o ∷ qs) K L ts e h k = absurd k.3.4
 last j stops end l s (p ∷ []) (q ∷ []) K L ts e h k =
-    absent-within K L (within-piece stops (0, false) (end p) (end q) (Spelled j p) (Spelled j q) (Absent ⌢ K) (Absent ⌢ L) ts (l p) (l q) (s p (Absent ⌢ K) (absent-ends K e)) (in-order (Spelled j p) Absent K ts h) (in-order (Spelled j q) Absent L ts k))
+    absent-within K L (within-piece stops (0, false) (end p) (end q) (Spelled j p) (Spelled j q) (Absent ⌢ K) (Absent ⌢ L) ts (l p) (l q) (s p (Absent ⌢ K) (absent-ends K e)) (regrouped (Spelled j p) Absent K ts h) (regrouped (Spelled j q) Absent L ts k))
 
 behind-number : (ks : List PartKind) → NoLonger ks → NoLonger (one_number ∷ ks)
 behind-number ks c [] qs K L ts e h k = absurd h.3
 behind-number ks c (p ∷ ps) [] K L ts e h k = absurd k.3
 behind-number ks c (p ∷ ps) (q ∷ qs) K L ts e h k =
-    let a = number-first p q (Ruled ks ps ⌢ K) (Ruled ks qs ⌢ L) ts (in-order (Spelled one_number p) (Ruled ks ps) K ts h) (in-order (Spelled one_number q) (Ruled ks qs) L ts k) in
+    let a = number-first p q (Ruled ks ps ⌢ K) (Ruled ks qs ⌢ L) ts (regrouped (Spelled one_number p) (Ruled ks ps) K ts h) (regrouped (Spelled one_number q) (Ruled ks qs) L ts k) in
     c ps qs K L a.1.0 e a.1.1 a.1.2
 
 abbrev complete : RulePart → State
@@ -153,6 +154,6 @@ pub rule-no-longer : (r q : RawRule) (K L : Piece) (ts : List Token) → RuleEnd
 rule-no-longer r q K L ts e h k =
     let R = Ruled (shape_of r.word) r.parts in
     let Q = Ruled (shape_of q.word) q.parts in
-    let a = same-at r.at q.at (rule_kind r.word) (rule_kind q.word) (R ⌢ K) (Q ⌢ L) ts (in-order (JustAt r.at (rule_kind r.word)) R K ts h) (in-order (JustAt q.at (rule_kind q.word)) Q L ts k) in
+    let a = same-at r.at q.at (rule_kind r.word) (rule_kind q.word) (R ⌢ K) (Q ⌢ L) ts (regrouped (JustAt r.at (rule_kind r.word)) R K ts h) (regrouped (JustAt q.at (rule_kind q.word)) Q L ts k) in
     let w = word-same r.word q.word a.1 in
     no-longer-by r.word r.parts q.parts K L a.2.0 e a.2.1 (subst (λ x. (Ruled (shape_of x) q.parts ⌢ L) a.2.0) (sym w) a.2.2)

@@ -12,14 +12,16 @@ use Rattle.bk_raw.specs.declared.script.RuleWord.{RuleWord}
 use Rattle.bk_raw.specs.declared.script.RuleWord.TheVariants.{Hyp, True, Same, Eval, False, Absurd, And, Iff, Imp, Not, Left, Right, Or, Contra, Fix, UseTerms, Split, Cases, Apply, Inst, OpenSome, Cut, Case, Drop, Eq, Qe, Law, Wal, TypeOf, Neg, Mem, Val, Ext, Sub, Ex, Pair, Elems, Interval, Induct, Poly, Lin}
 use Rattle.bk_raw.specs.ScriptTree.{rule_kind, PartKind, one_number, one_term, some_terms, one_place, perhaps_place, typed_names, one_law, certificate, shape_of, RawPlace, in_goal, in_hypothesis, RulePart, part_number, part_term, part_terms, part_place, part_no_place, part_typed, part_law, part_certificate, RawRule}
 use Rattle.bk_raw.specs.ScriptSpelling.{Place, TypedName, AnyTerm, Picked, Spelled, Ruled, Rule}
-use Rattle.bk_raw.proofs.Runs.{some-same}
 use Rattle.bk_raw.proofs.Steps.{Piece, Stopper, stepped, Leads, leads-join, leads-just}
 use Rattle.bk_raw.proofs.TermRuns.{ends_term, ends_terms}
 use Rattle.bk_raw.proofs.Patterns.{Both, same-piece, StopsAt, stops-just}
 use Rattle.bk_raw.proofs.SubOne.{term-cut}
-use Rattle.bk_raw.proofs.Lists.{in-order, absent-then, leads-absent}
+use Rattle.bk_raw.proofs.Lists.{absent-then, leads-absent}
 use Rattle.bk_raw.proofs.ClauseOne.{same-at}
 use Rattle.bk_raw.proofs.PartOne.{not-empty, digits-cut, ends_place, place-leads, one-place, terms-lead, one-terms, typed-names-lead, one-typed-names, ends_law, law-leads, one-law, ends_certificate, Certified, certificate-leads, one-certificate}
+use Rattle.bk_raw.proofs.Shapes.{regrouped}
+use Rattle.bk_raw.proofs.Stopping.{some_same}
+use Rattle.bk_raw.specs.ScriptCodes.{rule_words}
 
 -- behind a rule stands a semicolon, or `end`, or nothing
 abbrev pub IsRuleEnd : List Token → Type 0
@@ -57,7 +59,7 @@ cut-last j c (p ∷ o ∷ ps) qs K L ts e f h k = absurd h.3.4
 cut-last j c (p ∷ []) [] K L ts e f h k = absurd k.3
 cut-last j c (p ∷ []) (q ∷ o ∷ qs) K L ts e f h k = absurd k.3.4
 cut-last j c (p ∷ []) (q ∷ []) K L ts e f h k =
-    let d = c p q (Absent ⌢ K) (Absent ⌢ L) ts (absent-ends K e) (absent-ends L f) (in-order (Spelled j p) Absent K ts h) (in-order (Spelled j q) Absent L ts k) in
+    let d = c p q (Absent ⌢ K) (Absent ⌢ L) ts (absent-ends K e) (absent-ends L f) (regrouped (Spelled j p) Absent K ts h) (regrouped (Spelled j q) Absent L ts k) in
     (ap (λ x. x ∷ []) d.0, (d.1.0, absent-then K d.1.0 d.1.1, absent-then L d.1.0 d.1.2))
 
 pub number-first : (p q : RulePart) (K L : Piece) (ts : List Token) → (Spelled one_number p ⌢ K) ts → (Spelled one_number q ⌢ L) ts → (p ≡ q) × Both K L
@@ -69,7 +71,7 @@ cut-number : (ks : List PartKind) → CutsOnce ks → CutsOnce (one_number ∷ k
 cut-number ks c [] qs K L ts e f h k = absurd h.3
 cut-number ks c (p ∷ ps) [] K L ts e f h k = absurd k.3
 cut-number ks c (p ∷ ps) (q ∷ qs) K L ts e f h k =
-    let a = number-first p q (Ruled ks ps ⌢ K) (Ruled ks qs ⌢ L) ts (in-order (Spelled one_number p) (Ruled ks ps) K ts h) (in-order (Spelled one_number q) (Ruled ks qs) L ts k) in
+    let a = number-first p q (Ruled ks ps ⌢ K) (Ruled ks qs ⌢ L) ts (regrouped (Spelled one_number p) (Ruled ks ps) K ts h) (regrouped (Spelled one_number q) (Ruled ks qs) L ts k) in
     let b = c ps qs K L a.1.0 e f a.1.1 a.1.2 in
     ((λ i. a.0 i ∷ b.0 i), b.1)
 
@@ -145,8 +147,8 @@ last-perhaps _ q K L ts e f h k = absurd h.3
 
 -- a law, and a place
 pub place-stops : (p : RawPlace) (K : Piece) → StopsAt ends_law (0, true) (Place p ⌢ K)
-place-stops (in_goal path) K ts h = stops-just ends_law 0 true (Name (codes "goal")) (InRow Digits path ⌢ K) refl ts (in-order (Just (Name (codes "goal"))) (InRow Digits path) K ts h)
-place-stops (in_hypothesis i path) K ts h = stops-just ends_law 0 true (Name (codes "hyp")) ((Digits i ⌢ InRow Digits path) ⌢ K) refl ts (in-order (Just (Name (codes "hyp"))) (Digits i ⌢ InRow Digits path) K ts h)
+place-stops (in_goal path) K ts h = stops-just ends_law 0 true (Name (codes "goal")) (InRow Digits path ⌢ K) refl ts (regrouped (Just (Name (codes "goal"))) (InRow Digits path) K ts h)
+place-stops (in_hypothesis i path) K ts h = stops-just ends_law 0 true (Name (codes "hyp")) ((Digits i ⌢ InRow Digits path) ⌢ K) refl ts (regrouped (Just (Name (codes "hyp"))) (Digits i ⌢ InRow Digits path) K ts h)
 
 law-place : (m n : List ℕ) (us vs : List RawTree) (p q : RawPlace) (K L : Piece) (ts : List Token) → RuleEnds K → RuleEnds L → ((Just (Name m) ⌢ Picked us) ⌢ Place p ⌢ K) ts → ((Just (Name n) ⌢ Picked vs) ⌢ Place q ⌢ L) ts → (m ≡ n) × (us ≡ vs) × (p ≡ q) × Both K L
 law-place m n us vs p q K L ts e f h k =
@@ -168,8 +170,8 @@ law-parts (p ∷ ps) ts h = absurd h.3
 
 pub law-shape : (m : List ℕ) (us : List RawTree) (p : RawPlace) (K : Piece) (ts : List Token) → (Ruled (one_law ∷ one_place ∷ []) (part_law m us ∷ part_place p ∷ []) ⌢ K) ts → ((Just (Name m) ⌢ Picked us) ⌢ Place p ⌢ (Absent ⌢ K)) ts
 law-shape m us p K ts h =
-    let a = in-order (Just (Name m) ⌢ Picked us) (Place p ⌢ Absent) K ts h in
-    (a.0, a.1, a.2, a.3, in-order (Place p) Absent K a.1 a.4)
+    let a = regrouped (Just (Name m) ⌢ Picked us) (Place p ⌢ Absent) K ts h in
+    (a.0, a.1, a.2, a.3, regrouped (Place p) Absent K a.1 a.4)
 
 cut-law : CutsOnce (one_law ∷ one_place ∷ [])
 cut-law ps qs K L ts e f h k =
@@ -217,33 +219,31 @@ cuts Lin = cut-last certificate last-certificate
 cuts _ = cut-none
 
 -- ---- words
-abbrev words : List RuleWord
-words = Hyp ∷ True ∷ Same ∷ Eval ∷ False ∷ Absurd ∷ And ∷ Iff ∷ Imp ∷ Not ∷ Left ∷ Right ∷ Or ∷ Contra ∷ Fix ∷ UseTerms ∷ Split ∷ Cases ∷ Apply ∷ Inst ∷ OpenSome ∷ Cut ∷ Case ∷ Drop ∷ Eq ∷ Qe ∷ Law ∷ Wal ∷ TypeOf ∷ Neg ∷ Mem ∷ Val ∷ Ext ∷ Sub ∷ Ex ∷ Pair ∷ Elems ∷ Interval ∷ Induct ∷ Poly ∷ Lin ∷ []
-
-abbrev same_kind : TokenKind → TokenKind → Bool
-same_kind (Name x) (Name y) = bytes_eq x y
-same_kind (Word m) (Word n) = nat_eq m n
-same_kind _ _ = false
+-- the same letters, or the same word of the notation
+abbrev is_same_word : TokenKind → TokenKind → Bool
+is_same_word (Name x) (Name y) = bytes_eq x y
+is_same_word (Word m) (Word n) = nat_eq m n
+is_same_word _ _ = false
 
 abbrev first_word : TokenKind → List RuleWord → Option RuleWord
 first_word kind [] = None
-first_word kind (w ∷ ws) = cond (same_kind kind (rule_kind w)) (Some w) (first_word kind ws)
+first_word kind (w ∷ ws) = cond (is_same_word kind (rule_kind w)) (Some w) (first_word kind ws)
 
 abbrev pub word_of : TokenKind → Option RuleWord
-word_of kind = first_word kind words
+word_of kind = first_word kind rule_words
 
 pub word-again : (w : RuleWord) → word_of (rule_kind w) ≡ Some w
 word-again Hyp = refl
 word-again _ = refl
 
 pub word-same : (w v : RuleWord) → rule_kind w ≡ rule_kind v → w ≡ v
-word-same w v e = some-same w v (sym (word-again w) ∙ ap word_of e ∙ word-again v)
+word-same w v e = some_same w v (sym (word-again w) ∙ ap word_of e ∙ word-again v)
 
 pub rule-cut : (r q : RawRule) (K L : Piece) (ts : List Token) → RuleEnds K → RuleEnds L → (Rule r ⌢ K) ts → (Rule q ⌢ L) ts → (r ≡ q) × Both K L
 rule-cut r q K L ts e f h k =
     let R = Ruled (shape_of r.word) r.parts in
     let Q = Ruled (shape_of q.word) q.parts in
-    let a = same-at r.at q.at (rule_kind r.word) (rule_kind q.word) (R ⌢ K) (Q ⌢ L) ts (in-order (JustAt r.at (rule_kind r.word)) R K ts h) (in-order (JustAt q.at (rule_kind q.word)) Q L ts k) in
+    let a = same-at r.at q.at (rule_kind r.word) (rule_kind q.word) (R ⌢ K) (Q ⌢ L) ts (regrouped (JustAt r.at (rule_kind r.word)) R K ts h) (regrouped (JustAt q.at (rule_kind q.word)) Q L ts k) in
     let w = word-same r.word q.word a.1 in
     let c = cuts r.word r.parts q.parts K L a.2.0 e f a.2.1 (subst (λ x. (Ruled (shape_of x) q.parts ⌢ L) a.2.0) (sym w) a.2.2) in
     ((λ i. record { word = w i; at = a.0 i; parts = c.0 i }), c.1)

@@ -11,13 +11,15 @@ use Rattle.bk_raw.specs.ScriptTree.{rule_kind, RawRule, shape_of, RawScript}
 use Rattle.bk_raw.specs.declared.script.NamePart.{NamePart}
 use Rattle.bk_raw.specs.declared.script.NamePart.TheVariants.{Letters, Numeral}
 use Rattle.bk_raw.specs.ScriptSpelling.{Ruled, Rule, letters_of, Lettered, PartNamed, OpensScript, Scripted, SpellsScripts}
-use Rattle.bk_raw.proofs.Runs.{some-same, none-some, nil-cons}
+use Rattle.bk_raw.proofs.Runs.{nil-cons}
 use Rattle.bk_raw.proofs.Steps.{Piece}
 use Rattle.bk_raw.proofs.Patterns.{Both, first, same-token}
-use Rattle.bk_raw.proofs.Lists.{in-order, absent-then}
+use Rattle.bk_raw.proofs.Lists.{absent-then}
 use Rattle.bk_raw.proofs.ClauseOne.{first-at, same-at}
 use Rattle.bk_raw.proofs.PartOne.{IsSingle, single-cut, one-digits}
 use Rattle.bk_raw.proofs.RuleOne.{IsRuleEnd, word_of, word-again, rule-cut}
+use Rattle.bk_raw.proofs.Shapes.{regrouped}
+use Rattle.bk_raw.proofs.Stopping.{none_some, some_same}
 
 -- ---- lists with a divider, and what is behind them
 abbrev pub Then : (List Token → Type 0) → Piece → Type 0
@@ -30,20 +32,20 @@ module _ {A : Type 0} (op : ℕ) (W : A → Piece) (Ok End : List Token → Type
 
   pub to-tail : (x : A) (xs : List A) (K : Piece) (ts : List Token) → (Divided op W (x ∷ xs) ⌢ K) ts → (W x ⌢ Tail xs ⌢ K) ts
   to-tail x [] K ts h = (h.0, h.1, h.2, h.3, ([], h.1, refl, refl, h.4))
-  to-tail x (y ∷ ys) K ts h = in-order (W x) (JustSign op ⌢ Divided op W (y ∷ ys)) K ts h
+  to-tail x (y ∷ ys) K ts h = regrouped (W x) (JustSign op ⌢ Divided op W (y ∷ ys)) K ts h
 
   tail-ok : (xs : List A) (K : Piece) → Then End K → Then Ok (Tail xs ⌢ K)
   tail-ok [] K e ts h = end-ok ts (e ts (absent-then K ts h))
-  tail-ok (x ∷ xs) K e ts h = sign-ok (Divided op W (x ∷ xs) ⌢ K) ts (in-order (JustSign op) (Divided op W (x ∷ xs)) K ts h)
+  tail-ok (x ∷ xs) K e ts h = sign-ok (Divided op W (x ∷ xs) ⌢ K) ts (regrouped (JustSign op) (Divided op W (x ∷ xs)) K ts h)
 
   tail-cut : (xs ys : List A) (K L : Piece) (ts : List Token) → Then End K → Then End L → (Tail xs ⌢ K) ts → (Tail ys ⌢ L) ts → (xs ≡ ys) × Both K L
   tail-cut [] [] K L ts e f h k = (refl, (ts, absent-then K ts h, absent-then L ts k))
-  tail-cut [] (y ∷ ys) K L ts e f h k = absurd (end-not (Divided op W (y ∷ ys) ⌢ L) ts (e ts (absent-then K ts h)) (in-order (JustSign op) (Divided op W (y ∷ ys)) L ts k))
-  tail-cut (x ∷ xs) [] K L ts e f h k = absurd (end-not (Divided op W (x ∷ xs) ⌢ K) ts (f ts (absent-then L ts k)) (in-order (JustSign op) (Divided op W (x ∷ xs)) K ts h))
+  tail-cut [] (y ∷ ys) K L ts e f h k = absurd (end-not (Divided op W (y ∷ ys) ⌢ L) ts (e ts (absent-then K ts h)) (regrouped (JustSign op) (Divided op W (y ∷ ys)) L ts k))
+  tail-cut (x ∷ xs) [] K L ts e f h k = absurd (end-not (Divided op W (x ∷ xs) ⌢ K) ts (f ts (absent-then L ts k)) (regrouped (JustSign op) (Divided op W (x ∷ xs)) K ts h))
   tail-cut (x ∷ xs) (y ∷ ys) K L ts e f h k =
       let X = Divided op W (x ∷ xs) ⌢ K in
       let Y = Divided op W (y ∷ ys) ⌢ L in
-      let a = same-token (Sign op) (Sign op) X Y ts (in-order (JustSign op) (Divided op W (x ∷ xs)) K ts h) (in-order (JustSign op) (Divided op W (y ∷ ys)) L ts k) in
+      let a = same-token (Sign op) (Sign op) X Y ts (regrouped (JustSign op) (Divided op W (x ∷ xs)) K ts h) (regrouped (JustSign op) (Divided op W (y ∷ ys)) L ts k) in
       let b = cut x y (Tail xs ⌢ K) (Tail ys ⌢ L) a.1.0 (tail-ok xs K e) (tail-ok ys L f) (to-tail x xs K a.1.0 a.1.1) (to-tail y ys L a.1.0 a.1.2) in
       let c = tail-cut xs ys K L b.1.0 e f b.1.1 b.1.2 in
       ((λ i. b.0 i ∷ c.0 i), c.1)
@@ -85,7 +87,7 @@ no-word : word_of (Name (codes "end")) ≡ None
 no-word = refl
 
 pub rule-end : (w : RuleWord) → rule_kind w ≡ Name (codes "end") → ⊥
-rule-end w e = none-some w (sym no-word ∙ ap word_of (sym e) ∙ word-again w)
+rule-end w e = none_some w (sym no-word ∙ ap word_of (sym e) ∙ word-again w)
 
 -- the first token of rules
 pub rule-first : (r : RawRule) (rs : List RawRule) (K : Piece) (ts : List Token) → (Divided SEMICOLON Rule (r ∷ rs) ⌢ K) ts → (t : Token) × (us : List Token) × (ts ≡ t ∷ us) × (t.kind ≡ rule_kind r.word)
@@ -118,13 +120,13 @@ letters-number : (text : List ℕ) (n : ℕ) (ts : List Token) → Lettered text
 letters-number text n ts h k =
     let e : h.0 ∷ [] ≡ k.0 ∷ [] = sym h.1 ∙ k.1 in
     let same : k.0 ≡ h.0 = cc in
-    none-some text (ap letters_of (sym k.2) ∙ ap (λ t. letters_of t.kind) same ∙ h.2)
+    none_some text (ap letters_of (sym k.2) ∙ ap (λ t. letters_of t.kind) same ∙ h.2)
 
 one-part : (p q : NamePart) (ts : List Token) → PartNamed p ts → PartNamed q ts → p ≡ q
 one-part (Letters x) (Letters y) ts h k =
     let e : h.0 ∷ [] ≡ k.0 ∷ [] = sym h.1 ∙ k.1 in
     let same : h.0 ≡ k.0 = cc in
-    ap Letters (some-same x y (sym h.2 ∙ ap (λ t. letters_of t.kind) same ∙ k.2))
+    ap Letters (some_same x y (sym h.2 ∙ ap (λ t. letters_of t.kind) same ∙ k.2))
 one-part (Letters x) (Numeral n) ts h k = absurd (letters-number x n ts h k)
 one-part (Numeral n) (Letters x) ts h k = absurd (letters-number x n ts k h)
 one-part (Numeral m) (Numeral n) ts h k = ap Numeral (one-digits m n ts h k)
@@ -175,9 +177,9 @@ opens-cut s r K L ts e f h k =
     let R = AnyDivided SEMICOLON Rule r.rules in
     let N = Starting s.name_at (Divided DOT PartNamed s.name) in
     let M = Starting r.name_at (Divided DOT PartNamed r.name) in
-    let a = same-at s.at r.at (Name (codes "proof")) (Name (codes "proof")) ((N ⌢ S) ⌢ K) ((M ⌢ R) ⌢ L) ts (in-order (JustAt s.at (Name (codes "proof"))) (N ⌢ S) K ts h) (in-order (JustAt r.at (Name (codes "proof"))) (M ⌢ R) L ts k) in
-    let x = in-order N S K a.2.0 a.2.1 in
-    let y = in-order M R L a.2.0 a.2.2 in
+    let a = same-at s.at r.at (Name (codes "proof")) (Name (codes "proof")) ((N ⌢ S) ⌢ K) ((M ⌢ R) ⌢ L) ts (regrouped (JustAt s.at (Name (codes "proof"))) (N ⌢ S) K ts h) (regrouped (JustAt r.at (Name (codes "proof"))) (M ⌢ R) L ts k) in
+    let x = regrouped N S K a.2.0 a.2.1 in
+    let y = regrouped M R L a.2.0 a.2.2 in
     let at = same-start s.name_at r.name_at (Divided DOT PartNamed s.name) (Divided DOT PartNamed r.name) (S ⌢ K) (R ⌢ L) a.2.0 x y in
     let b = name-cut s.name r.name (S ⌢ K) (R ⌢ L) a.2.0 (rules-no-dot s.rules K e) (rules-no-dot r.rules L f) (unstarted s.name_at (Divided DOT PartNamed s.name) (S ⌢ K) a.2.0 x) (unstarted r.name_at (Divided DOT PartNamed r.name) (R ⌢ L) a.2.0 y) in
     let c = rules-cut s.rules r.rules K L b.1.0 e f b.1.1 b.1.2 in
@@ -189,15 +191,15 @@ end-finishes K ts h = let f = first (Name (codes "end")) K ts h in subst IsFinis
 pub script-cut : (s r : RawScript) (K L : Piece) (ts : List Token) → (Scripted s ⌢ K) ts → (Scripted r ⌢ L) ts → (s ≡ r) × Both K L
 script-cut s r K L ts h k =
     let E = Just (Name (codes "end")) in
-    let a = opens-cut s r (E ⌢ K) (E ⌢ L) ts (end-finishes K) (end-finishes L) (in-order (OpensScript s) E K ts h) (in-order (OpensScript r) E L ts k) in
+    let a = opens-cut s r (E ⌢ K) (E ⌢ L) ts (end-finishes K) (end-finishes L) (regrouped (OpensScript s) E K ts h) (regrouped (OpensScript r) E L ts k) in
     let b = same-token (Name (codes "end")) (Name (codes "end")) K L a.1.0 a.1.1 a.1.2 in
     (a.0, b.1)
 
 pub script-begun : (s : RawScript) (K : Piece) → (Scripted s ⌢ K) [] → ⊥
 script-begun s K h =
     let N = Starting s.name_at (Divided DOT PartNamed s.name) ⌢ AnyDivided SEMICOLON Rule s.rules in
-    let a = in-order (OpensScript s) (Just (Name (codes "end"))) K [] h in
-    let b = in-order (JustAt s.at (Name (codes "proof"))) N (Just (Name (codes "end")) ⌢ K) [] a in
+    let a = regrouped (OpensScript s) (Just (Name (codes "end"))) K [] h in
+    let b = regrouped (JustAt s.at (Name (codes "proof"))) N (Just (Name (codes "end")) ⌢ K) [] a in
     let f = first-at s.at (Name (codes "proof")) (N ⌢ Just (Name (codes "end")) ⌢ K) [] b in
     nil-cons f.token f.rest f.is
 

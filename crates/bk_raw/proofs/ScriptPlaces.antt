@@ -12,12 +12,13 @@ use Rattle.bk_raw.specs.Places.{IsLongestWhole, IsScriptFault, byte_at}
 use Rattle.bk_raw.specs.Laws.{ScriptPlacesAreOne}
 use Rattle.bk_raw.proofs.Steps.{Piece}
 use Rattle.bk_raw.proofs.Patterns.{Both, first, same-token}
-use Rattle.bk_raw.proofs.Lists.{in-order, absent-then}
+use Rattle.bk_raw.proofs.Lists.{absent-then}
 use Rattle.bk_raw.proofs.ClauseOne.{same-at}
 use Rattle.bk_raw.proofs.RuleOne.{RuleEnds, rule-cut}
 use Rattle.bk_raw.proofs.RuleLonger.{Within, rule-no-longer}
 use Rattle.bk_raw.proofs.Places.{longest-one}
 use Rattle.bk_raw.proofs.ScriptOne.{Then, IsFinish, finish-ends, finish-not, semicolon-ends, rules-not-end, rule-first, rule-sign, NoDot, rules-no-dot, part-cut, first-same, unstarted, end-finishes, script-cut}
+use Rattle.bk_raw.proofs.Shapes.{regrouped, lengths as shorter-by}
 
 -- ---- rules
 abbrev Tail : List RawRule → Piece
@@ -26,10 +27,10 @@ Tail (x ∷ xs) = JustSign SEMICOLON ⌢ Divided SEMICOLON Rule (x ∷ xs)
 
 to-tail : (x : RawRule) (xs : List RawRule) (K : Piece) (ts : List Token) → (Divided SEMICOLON Rule (x ∷ xs) ⌢ K) ts → (Rule x ⌢ Tail xs ⌢ K) ts
 to-tail x [] K ts h = (h.0, h.1, h.2, h.3, ([], h.1, refl, refl, h.4))
-to-tail x (y ∷ ys) K ts h = in-order (Rule x) (JustSign SEMICOLON ⌢ Divided SEMICOLON Rule (y ∷ ys)) K ts h
+to-tail x (y ∷ ys) K ts h = regrouped (Rule x) (JustSign SEMICOLON ⌢ Divided SEMICOLON Rule (y ∷ ys)) K ts h
 
 next-ends : (x : RawRule) (xs : List RawRule) (K : Piece) → RuleEnds (Tail (x ∷ xs) ⌢ K)
-next-ends x xs K ts h = semicolon-ends (Divided SEMICOLON Rule (x ∷ xs) ⌢ K) ts (in-order (JustSign SEMICOLON) (Divided SEMICOLON Rule (x ∷ xs)) K ts h)
+next-ends x xs K ts h = semicolon-ends (Divided SEMICOLON Rule (x ∷ xs) ⌢ K) ts (regrouped (JustSign SEMICOLON) (Divided SEMICOLON Rule (x ∷ xs)) K ts h)
 
 tail-ends : (xs : List RawRule) (K : Piece) → Then IsFinish K → RuleEnds (Tail xs ⌢ K)
 tail-ends [] K e ts h = finish-ends ts (e ts (absent-then K ts h))
@@ -45,12 +46,12 @@ tails-within r q rs [] K L ts e h k =
     behind-more (Tail rs) K L (w.0, w.1, w.2, absent-then L (w.0 ++ w.1) w.3)
 tails-within r q [] (p ∷ qs) K L ts e h k =
     let c = rule-cut r q (Tail [] ⌢ K) (Tail (p ∷ qs) ⌢ L) ts (tail-ends [] K e) (next-ends p qs L) h k in
-    absurd (finish-not (Divided SEMICOLON Rule (p ∷ qs) ⌢ L) c.1.0 (e c.1.0 (absent-then K c.1.0 c.1.1)) (in-order (JustSign SEMICOLON) (Divided SEMICOLON Rule (p ∷ qs)) L c.1.0 c.1.2))
+    absurd (finish-not (Divided SEMICOLON Rule (p ∷ qs) ⌢ L) c.1.0 (e c.1.0 (absent-then K c.1.0 c.1.1)) (regrouped (JustSign SEMICOLON) (Divided SEMICOLON Rule (p ∷ qs)) L c.1.0 c.1.2))
 tails-within r q (o ∷ rs) (p ∷ qs) K L ts e h k =
     let X = Divided SEMICOLON Rule (o ∷ rs) in
     let Y = Divided SEMICOLON Rule (p ∷ qs) in
     let c = rule-cut r q (Tail (o ∷ rs) ⌢ K) (Tail (p ∷ qs) ⌢ L) ts (next-ends o rs K) (next-ends p qs L) h k in
-    let d = same-token (Sign SEMICOLON) (Sign SEMICOLON) (X ⌢ K) (Y ⌢ L) c.1.0 (in-order (JustSign SEMICOLON) X K c.1.0 c.1.1) (in-order (JustSign SEMICOLON) Y L c.1.0 c.1.2) in
+    let d = same-token (Sign SEMICOLON) (Sign SEMICOLON) (X ⌢ K) (Y ⌢ L) c.1.0 (regrouped (JustSign SEMICOLON) X K c.1.0 c.1.1) (regrouped (JustSign SEMICOLON) Y L c.1.0 c.1.2) in
     tails-within o p rs qs K L d.1.0 e (to-tail o rs K d.1.0 d.1.1) (to-tail p qs L d.1.0 d.1.2)
 
 rules-within : (rs qs : List RawRule) (K L : Piece) (ts : List Token) → Then IsFinish K → (AnyDivided SEMICOLON Rule rs ⌢ K) ts → (AnyDivided SEMICOLON Rule qs ⌢ L) ts → Within K L
@@ -81,20 +82,20 @@ names-within (p ∷ []) (q ∷ o ∷ qs) K L ts e h k =
     absurd (e c.1.0 c.1.1 f.rest f.token f.is f.same)
   where
     behind-dot : (q o : NamePart) (qs : List NamePart) (L : Piece) (ts : List Token) → (Named (q ∷ o ∷ qs) ⌢ L) ts → (PartNamed q ⌢ JustSign DOT ⌢ Named (o ∷ qs) ⌢ L) ts
-    behind-dot q o qs L ts k = let a = in-order (PartNamed q) (JustSign DOT ⌢ Named (o ∷ qs)) L ts k in (a.0, a.1, a.2, a.3, in-order (JustSign DOT) (Named (o ∷ qs)) L a.1 a.4)
+    behind-dot q o qs L ts k = let a = regrouped (PartNamed q) (JustSign DOT ⌢ Named (o ∷ qs)) L ts k in (a.0, a.1, a.2, a.3, regrouped (JustSign DOT) (Named (o ∷ qs)) L a.1 a.4)
 names-within (p ∷ o ∷ ps) (q ∷ []) K L ts e h k =
-    let a = in-order (PartNamed p) (JustSign DOT ⌢ Named (o ∷ ps)) K ts h in
+    let a = regrouped (PartNamed p) (JustSign DOT ⌢ Named (o ∷ ps)) K ts h in
     let M = JustSign DOT ⌢ Named (o ∷ ps) ⌢ K in
-    let c = part-cut p q M L ts (any-rest M) (any-rest L) (a.0, a.1, a.2, a.3, in-order (JustSign DOT) (Named (o ∷ ps)) K a.1 a.4) k in
+    let c = part-cut p q M L ts (any-rest M) (any-rest L) (a.0, a.1, a.2, a.3, regrouped (JustSign DOT) (Named (o ∷ ps)) K a.1 a.4) k in
     let f = first (Sign DOT) (Named (o ∷ ps) ⌢ K) c.1.0 c.1.1 in
     let b = f.back in
     inr (f.token, b.0, b.1, f.same, b.4, subst L (f.is ∙ ap (λ us. f.token ∷ us) b.2) c.1.2)
 names-within (p ∷ o ∷ ps) (q ∷ u ∷ qs) K L ts e h k =
-    let a = in-order (PartNamed p) (JustSign DOT ⌢ Named (o ∷ ps)) K ts h in
-    let b = in-order (PartNamed q) (JustSign DOT ⌢ Named (u ∷ qs)) L ts k in
+    let a = regrouped (PartNamed p) (JustSign DOT ⌢ Named (o ∷ ps)) K ts h in
+    let b = regrouped (PartNamed q) (JustSign DOT ⌢ Named (u ∷ qs)) L ts k in
     let M = JustSign DOT ⌢ Named (o ∷ ps) ⌢ K in
     let N = JustSign DOT ⌢ Named (u ∷ qs) ⌢ L in
-    let c = part-cut p q M N ts (any-rest M) (any-rest N) (a.0, a.1, a.2, a.3, in-order (JustSign DOT) (Named (o ∷ ps)) K a.1 a.4) (b.0, b.1, b.2, b.3, in-order (JustSign DOT) (Named (u ∷ qs)) L b.1 b.4) in
+    let c = part-cut p q M N ts (any-rest M) (any-rest N) (a.0, a.1, a.2, a.3, regrouped (JustSign DOT) (Named (o ∷ ps)) K a.1 a.4) (b.0, b.1, b.2, b.3, regrouped (JustSign DOT) (Named (u ∷ qs)) L b.1 b.4) in
     let d = same-token (Sign DOT) (Sign DOT) (Named (o ∷ ps) ⌢ K) (Named (u ∷ qs) ⌢ L) c.1.0 c.1.1 c.1.2 in
     names-within (o ∷ ps) (u ∷ qs) K L d.1.0 e d.1.1 d.1.2
 
@@ -107,7 +108,7 @@ no-rules (q ∷ qs) L t us d h =
 
 -- ---- an open script, behind which `end` or nothing stands, is the longest at its place
 pub opens-within : (s r : RawScript) (K L : Piece) (ts : List Token) → Then IsFinish K → (OpensScript s ⌢ K) ts → (OpensScript r ⌢ L) ts → Within K L
-opens-within s r K L ts e h k = by-names (names-within s.name r.name (S ⌢ K) (R ⌢ L) a.2.0 (rules-no-dot s.rules K e) (unstarted s.name_at (Named s.name) (S ⌢ K) a.2.0 (in-order N S K a.2.0 a.2.1)) (unstarted r.name_at (Named r.name) (R ⌢ L) a.2.0 (in-order M R L a.2.0 a.2.2)))
+opens-within s r K L ts e h k = by-names (names-within s.name r.name (S ⌢ K) (R ⌢ L) a.2.0 (rules-no-dot s.rules K e) (unstarted s.name_at (Named s.name) (S ⌢ K) a.2.0 (regrouped N S K a.2.0 a.2.1)) (unstarted r.name_at (Named r.name) (R ⌢ L) a.2.0 (regrouped M R L a.2.0 a.2.2)))
   where
     S : Piece
     S = AnyDivided SEMICOLON Rule s.rules
@@ -122,7 +123,7 @@ opens-within s r K L ts e h k = by-names (names-within s.name r.name (S ⌢ K) (
     M = Starting r.name_at (Named r.name)
 
     a : (s.at ≡ r.at) × (Name (codes "proof") ≡ Name (codes "proof")) × Both ((N ⌢ S) ⌢ K) ((M ⌢ R) ⌢ L)
-    a = same-at s.at r.at (Name (codes "proof")) (Name (codes "proof")) ((N ⌢ S) ⌢ K) ((M ⌢ R) ⌢ L) ts (in-order (JustAt s.at (Name (codes "proof"))) (N ⌢ S) K ts h) (in-order (JustAt r.at (Name (codes "proof"))) (M ⌢ R) L ts k)
+    a = same-at s.at r.at (Name (codes "proof")) (Name (codes "proof")) ((N ⌢ S) ⌢ K) ((M ⌢ R) ⌢ L) ts (regrouped (JustAt s.at (Name (codes "proof"))) (N ⌢ S) K ts h) (regrouped (JustAt r.at (Name (codes "proof"))) (M ⌢ R) L ts k)
 
     by-names : Both (S ⌢ K) (R ⌢ L) ⊎ Short (S ⌢ K) (R ⌢ L) → Within K L
     by-names (inl b) = rules-within s.rules r.rules K L b.0 e b.1 b.2
@@ -131,9 +132,6 @@ opens-within s r K L ts e h k = by-names (names-within s.name r.name (S ⌢ K) (
         behind-more S K L (b.0 ∷ b.1, b.2, b.4, l)
 
 -- ---- the whole file
-shorter-by : (xs ys zs : List Token) → xs ≡ ys ++ zs → length xs ≡ length ys + length zs
-shorter-by xs ys zs e = ap length e ∙ length-append ys zs
-
 abbrev NoScript : List Token → Type 0
 NoScript us = (s : RawScript) (a q : List Token) → us ≡ a ++ q → Scripted s a → ⊥
 
@@ -157,7 +155,7 @@ open-below : (s r : RawScript) (a b p q : List Token) → a ++ p ≡ b ++ q → 
 open-below s r a b p q e h k =
     let E = Just (Name (codes "end")) in
     let K = E ⌢ (λ ts. ts ≡ p) in
-    let there = in-order (OpensScript s) E (λ ts. ts ≡ p) (a ++ p) (a, p, refl, h, refl) in
+    let there = regrouped (OpensScript s) E (λ ts. ts ≡ p) (a ++ p) (a, p, refl, h, refl) in
     let w = opens-within s r K (λ ts. ts ≡ q) (a ++ p) (end-finishes (λ ts. ts ≡ p)) there (b, q, e, k, refl) in
     let v = w.2 in
     omega (arith, shorter-by (a ++ p) b q e, length-append a p, ap length (sym w.3), length-append w.0 w.1, shorter-by w.1 v.0 v.1 v.2, ap length v.4)

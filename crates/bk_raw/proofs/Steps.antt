@@ -8,7 +8,8 @@ use Rattle.bk_ops.specs.declared.sign.TheConstants.{INVERSE}
 use Rattle.bk_ops.specs.declared.word.TheConstants.{POW, BTRUE, BFALSE, SKIP}
 use Rattle.bk_raw.specs.Brackets.{opens_bracket, closes_bracket, opens_block, closes_block}
 use Rattle.bk_raw.specs.Pieces.{Never, Just, JustAt, ◌⌢◌}
-use Rattle.bk_raw.proofs.Runs.{run, Extends, append-run, cons-run, first-step, none-some, some-same, wider}
+use Rattle.bk_raw.proofs.Runs.{run, Extends, append-run, cons-run, first-step, wider}
+use Rattle.bk_raw.proofs.Stopping.{none_some, some_same}
 
 abbrev pub Piece : Type 1
 Piece = List Token → Type 0
@@ -71,13 +72,13 @@ leads-never stops s e ts h = absurd h
 
 -- ---- with more open
 raised-by : (opens closes ends : Bool) (n m : ℕ) (c : Bool) → moved_by opens closes ends n ≡ Some (m, c) → moved_by opens closes ends (suc n) ≡ Some (suc m, c)
-raised-by true closes ends n m c h = ap (λ (s : State). Some (suc s.0, s.1)) (some-same (suc n, false) (m, c) h)
-raised-by false true ends zero m c h = absurd (none-some (m, c) h)
-raised-by false true ends (suc n) m c h = ap (λ (s : State). Some (suc s.0, s.1)) (some-same (n, true) (m, c) h)
-raised-by false false ends n m c h = ap (λ (s : State). Some (suc s.0, s.1)) (some-same (n, ends) (m, c) h)
+raised-by true closes ends n m c h = ap (λ (s : State). Some (suc s.0, s.1)) (some_same (suc n, false) (m, c) h)
+raised-by false true ends zero m c h = absurd (none_some (m, c) h)
+raised-by false true ends (suc n) m c h = ap (λ (s : State). Some (suc s.0, s.1)) (some_same (n, true) (m, c) h)
+raised-by false false ends n m c h = ap (λ (s : State). Some (suc s.0, s.1)) (some_same (n, ends) (m, c) h)
 
 pub cond-none : {A : Type 0} (b : Bool) (o : Option A) (x : A) → cond b None o ≡ Some x → (b ≡ false) × (o ≡ Some x)
-cond-none true o x h = absurd (none-some x h)
+cond-none true o x h = absurd (none_some x h)
 cond-none false o x h = (refl, h)
 
 pub moved-of : (stops : Stopper) (n : ℕ) (b : Bool) (kind : TokenKind) (e : State) → stepped stops n b kind ≡ Some e → moved n kind ≡ Some e
@@ -85,7 +86,7 @@ moved-of stops zero b kind e h = (cond-none (stops b kind) (moved zero kind) e h
 moved-of stops (suc n) b kind e h = h
 
 pub raise : (stops any : Stopper) (n m : ℕ) (b c : Bool) (ts : List Token) → run (step stops) (n, b) ts ≡ Some (m, c) → run (step any) (suc n, b) ts ≡ Some (suc m, c)
-raise stops any n m b c [] h = ap (λ (s : State). Some (suc s.0, s.1)) (some-same (n, b) (m, c) h)
+raise stops any n m b c [] h = ap (λ (s : State). Some (suc s.0, s.1)) (some_same (n, b) (m, c) h)
 raise stops any n m b c (t ∷ ts) h =
     let f = first-step (step stops) (n, b) (m, c) t ts h in
     cons-run (step any) (suc n, b) (suc f.0.0, f.0.1) (suc m, c) t ts

@@ -57,20 +57,20 @@ pub data Part : Type 0 where
   of_choices : SubTree → Choices → Part
 
 -- of branches whether their word is ELSIF, or WHEN
-pub data PartKind : Type 0 where
-  is_name : PartKind
-  is_names : PartKind
-  is_term : PartKind
-  is_terms : PartKind
-  is_sub : PartKind
-  is_branches : Bool → PartKind
-  is_choices : PartKind
+pub data SubPartKind : Type 0 where
+  is_name : SubPartKind
+  is_names : SubPartKind
+  is_term : SubPartKind
+  is_terms : SubPartKind
+  is_sub : SubPartKind
+  is_branches : Bool → SubPartKind
+  is_choices : SubPartKind
 
 abbrev pub branch_word : Bool → ℕ
 branch_word true = ELSIF
 branch_word false = WHEN
 
-abbrev pub Written : PartKind → Part → Piece
+abbrev pub Written : SubPartKind → Part → Piece
 Written is_name (of_name x) = Declared x
 Written is_names (of_names xs) = Names xs
 Written is_term (of_term t) = Term t 0
@@ -81,7 +81,7 @@ Written is_choices (of_choices s cs) = Sub s 0 ⌢ Chosen cs
 Written _ _ = Never
 
 -- where each is cut
-abbrev pub own : PartKind → Stopper
+abbrev pub own : SubPartKind → Stopper
 own is_name = ends_names
 own is_names = ends_names
 own is_term = ends_term
@@ -91,7 +91,7 @@ own (is_branches elsif) = nothing
 own is_choices = nothing
 
 -- which stand outside of blocks
-abbrev pub flat : PartKind → Bool
+abbrev pub flat : SubPartKind → Bool
 flat is_name = true
 flat is_names = true
 flat is_term = true
@@ -101,16 +101,16 @@ flat (is_branches elsif) = false
 flat is_choices = false
 
 -- ---- shapes, by the number of the sign or word that tells an atom
-abbrev word_and : ℕ → Shape PartKind → Shape PartKind
+abbrev word_and : ℕ → Shape SubPartKind → Shape SubPartKind
 word_and op = token_and (Word op)
 
-abbrev sign_and : ℕ → Shape PartKind → Shape PartKind
+abbrev sign_and : ℕ → Shape SubPartKind → Shape SubPartKind
 sign_and op = token_and (Sign op)
 
-abbrev ended : PartKind → Shape PartKind
+abbrev ended : SubPartKind → Shape SubPartKind
 ended k = part_and k (last_token (Word END))
 
-abbrev pub shape_at : ℕ → Shape PartKind
+abbrev pub shape_at : ℕ → Shape SubPartKind
 shape_at n =
     cond (nat_eq n SKIP) (last_token (Word SKIP))
     (cond (nat_eq n ASSIGN) (part_and is_names (sign_and ASSIGN (last_part is_terms)))

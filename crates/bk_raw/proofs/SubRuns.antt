@@ -14,7 +14,7 @@ use Rattle.bk_raw.proofs.Runs.{run}
 use Rattle.bk_raw.proofs.Steps.{Piece, State, Stopper, step, nothing, Leads, leads-join, leads-just, leads-never, Fewer, leads-fewer, fewer-nothing}
 use Rattle.bk_raw.proofs.TermRuns.{ends_term, ends_terms, ends_names, fewer-terms, starting, term, all-terms, all-names, one-declared, flat-names, flat-declared}
 use Rattle.bk_raw.proofs.Patterns.{Shaped, Fits, AllFit, walk, leads-shaped}
-use Rattle.bk_raw.proofs.SubParts.{ends_list, ends_piece, ends_atom, fewer-list, fewer-piece, fewer-list-atom, fewer-atom, Part, of_name, of_names, of_term, of_terms, of_sub, of_branches, of_choices, PartKind, is_name, is_names, is_term, is_terms, is_sub, is_branches, is_choices, branch_word, Written, flat, shape_at}
+use Rattle.bk_raw.proofs.SubParts.{ends_list, ends_piece, ends_atom, fewer-list, fewer-piece, fewer-list-atom, fewer-atom, Part, of_name, of_names, of_term, of_terms, of_sub, of_branches, of_choices, SubPartKind, is_name, is_names, is_term, is_terms, is_sub, is_branches, is_choices, branch_word, Written, flat, shape_at}
 
 -- what ends what stands in a place that asks so much
 abbrev pub ends_at : ℕ → Stopper
@@ -46,77 +46,77 @@ false-true e = cc
 fit-term : (t : RawTree) → Part-fits (of_term t)
 fit-term t = (inside, outside)
   where
-    inside : (k : PartKind) → Ends nothing (Written k (of_term t))
+    inside : (k : SubPartKind) → Ends nothing (Written k (of_term t))
     inside is_term = inner ends_term (Term t 0) (term t 0)
     inside _ = none nothing
 
-    outside : (k : PartKind) → flat k ≡ true → Ends ends_atom (Written k (of_term t))
+    outside : (k : SubPartKind) → flat k ≡ true → Ends ends_atom (Written k (of_term t))
     outside is_term e = leads-fewer ends_atom ends_terms (0, false) (0, true) (Term t 0) fewer-atom (leads-fewer ends_terms ends_term (0, false) (0, true) (Term t 0) fewer-terms (term t 0))
     outside _ e = none ends_atom
 
 fit-terms : (us : RawTrees) → Part-fits (of_terms us)
 fit-terms us = (inside, outside)
   where
-    inside : (k : PartKind) → Ends nothing (Written k (of_terms us))
+    inside : (k : SubPartKind) → Ends nothing (Written k (of_terms us))
     inside is_terms = inner ends_terms (Terms us) (all-terms us)
     inside _ = none nothing
 
-    outside : (k : PartKind) → flat k ≡ true → Ends ends_atom (Written k (of_terms us))
+    outside : (k : SubPartKind) → flat k ≡ true → Ends ends_atom (Written k (of_terms us))
     outside is_terms e = leads-fewer ends_atom ends_terms (0, false) (0, true) (Terms us) fewer-atom (all-terms us)
     outside _ e = none ends_atom
 
 fit-names : (xs : List RawName) → Part-fits (of_names xs)
 fit-names xs = (inside, outside)
   where
-    inside : (k : PartKind) → Ends nothing (Written k (of_names xs))
+    inside : (k : SubPartKind) → Ends nothing (Written k (of_names xs))
     inside is_names = inner ends_names (Names xs) (all-names xs)
     inside _ = none nothing
 
-    outside : (k : PartKind) → flat k ≡ true → Ends ends_atom (Written k (of_names xs))
+    outside : (k : SubPartKind) → flat k ≡ true → Ends ends_atom (Written k (of_names xs))
     outside is_names e = flat-names ends_atom (λ x. refl) refl xs
     outside _ e = none ends_atom
 
 fit-name : (x : RawName) → Part-fits (of_name x)
 fit-name x = (inside, outside)
   where
-    inside : (k : PartKind) → Ends nothing (Written k (of_name x))
+    inside : (k : SubPartKind) → Ends nothing (Written k (of_name x))
     inside is_name = inner ends_names (Declared x) (one-declared x)
     inside _ = none nothing
 
-    outside : (k : PartKind) → flat k ≡ true → Ends ends_atom (Written k (of_name x))
+    outside : (k : SubPartKind) → flat k ≡ true → Ends ends_atom (Written k (of_name x))
     outside is_name e = flat-declared ends_atom (λ x. refl) x
     outside _ e = none ends_atom
 
 fit-sub : (s : SubTree) → Ends nothing (Sub s 0) → Part-fits (of_sub s)
 fit-sub s f = (inside, outside)
   where
-    inside : (k : PartKind) → Ends nothing (Written k (of_sub s))
+    inside : (k : SubPartKind) → Ends nothing (Written k (of_sub s))
     inside is_sub = f
     inside _ = none nothing
 
-    outside : (k : PartKind) → flat k ≡ true → Ends ends_atom (Written k (of_sub s))
+    outside : (k : SubPartKind) → flat k ≡ true → Ends ends_atom (Written k (of_sub s))
     outside is_sub e = absurd (false-true e)
     outside _ e = none ends_atom
 
 fit-branches : (s : SubTree) (bs : Branches) → Ends nothing (Sub s 0) → ((elsif : Bool) → Leads nothing (0, true) (0, true) (Branched (branch_word elsif) bs)) → Part-fits (of_branches s bs)
 fit-branches s bs f g = (inside, outside)
   where
-    inside : (k : PartKind) → Ends nothing (Written k (of_branches s bs))
+    inside : (k : SubPartKind) → Ends nothing (Written k (of_branches s bs))
     inside (is_branches elsif) = leads-join nothing (0, false) (0, true) (0, true) (Sub s 0) (Branched (branch_word elsif) bs) f (g elsif)
     inside _ = none nothing
 
-    outside : (k : PartKind) → flat k ≡ true → Ends ends_atom (Written k (of_branches s bs))
+    outside : (k : SubPartKind) → flat k ≡ true → Ends ends_atom (Written k (of_branches s bs))
     outside (is_branches elsif) e = absurd (false-true e)
     outside _ e = none ends_atom
 
 fit-choices : (s : SubTree) (cs : Choices) → Ends nothing (Sub s 0) → Leads nothing (0, true) (0, true) (Chosen cs) → Part-fits (of_choices s cs)
 fit-choices s cs f g = (inside, outside)
   where
-    inside : (k : PartKind) → Ends nothing (Written k (of_choices s cs))
+    inside : (k : SubPartKind) → Ends nothing (Written k (of_choices s cs))
     inside is_choices = leads-join nothing (0, false) (0, true) (0, true) (Sub s 0) (Chosen cs) f g
     inside _ = none nothing
 
-    outside : (k : PartKind) → flat k ≡ true → Ends ends_atom (Written k (of_choices s cs))
+    outside : (k : SubPartKind) → flat k ≡ true → Ends ends_atom (Written k (of_choices s cs))
     outside is_choices e = absurd (false-true e)
     outside _ e = none ends_atom
 

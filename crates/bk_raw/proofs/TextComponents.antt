@@ -26,13 +26,15 @@ use Rattle.bk_raw.specs.Texts.{token, end_twice, no_end, chained, half_operation
 use Rattle.bk_raw.proofs.Exact.{reads_alone}
 use Rattle.bk_raw.proofs.SoundTerms.{read_spells}
 use Rattle.bk_raw.proofs.Longest.{read_is_longest}
-use Rattle.bk_raw.proofs.Runs.{Halts, first-step, no-longer, same-split, none-some, some-same, nil-cons}
+use Rattle.bk_raw.proofs.Runs.{Halts, first-step, no-longer, same-split, nil-cons}
 use Rattle.bk_raw.proofs.Steps.{State, step, stepped}
 use Rattle.bk_raw.proofs.SubRuns.{ends_at, sub-leads}
 use Rattle.bk_raw.proofs.ClauseRuns.{ends_division, operation-leads}
 use Rattle.bk_raw.proofs.ClauseOne.{word-same, first-at}
 use Rattle.bk_raw.proofs.ComponentOne.{IsClosed, word-end, clause-first, clause-not-closed}
 use Rattle.bk_raw.proofs.Places.{place-open, place-closed, clause-no-longer}
+use Rattle.bk_raw.proofs.Stopping.{none_some, some_same}
+use Rattle.bk_raw.proofs.ScriptOne.{first-same}
 
 -- ---- a machine A, and what is read behind its header
 abbrev machine_word : Token
@@ -63,9 +65,6 @@ closed-follows-none done ts e d other h = clause-not-closed d (λ us. us ≡ h.0
 pub false-true : false ≡ true → ⊥
 false-true e = cc
 
-pub first-of : (t u : Token) (ts us : List Token) → t ∷ ts ≡ u ∷ us → t ≡ u
-first-of t u ts us e = cc
-
 pub rest-of : (t u : Token) (ts us : List Token) → t ∷ ts ≡ u ∷ us → ts ≡ us
 rest-of t u ts us e = cc
 
@@ -75,7 +74,7 @@ word-is-no-sign m op e = cc
 sign-follows-none : (done : List RawClause) (t : Token) (ts : List Token) (op : ℕ) → t.kind ≡ Sign op → (d : RawClause) (other : List Token) → CanFollow Machine done d (t ∷ ts) other → ⊥
 sign-follows-none done t ts op e d other h =
     let f = clause-first d (λ us. us ≡ h.0.0) (t ∷ ts) (other, h.0.0, h.0.1, h.1, refl) in
-    word-is-no-sign (word_number d.word) op (sym f.same ∙ ap (λ x. x.kind) (sym (first-of t f.token ts f.rest f.is)) ∙ e)
+    word-is-no-sign (word_number d.word) op (sym f.same ∙ ap (λ x. x.kind) (sym (first-same t f.token ts f.rest f.is)) ∙ e)
 
 -- one clause is read, and then none
 read-one : (c : RawClause) (front rest : List Token) → Clause c front → is_allowed Machine c.word ≡ true → ArePlain c.parts → ((d : RawClause) (other : List Token) → CanFollow Machine [] d (front ++ rest) other → length other ≤ length front) → ((d : RawClause) (other : List Token) → CanFollow Machine (c ∷ []) d rest other → ⊥) → AreReadOn Machine [] (c ∷ []) (front ++ rest) rest
@@ -90,7 +89,7 @@ place-behind : (cs : List RawClause) (us rest : List Token) → AreReadOn Machin
 place-behind cs us rest read none place at = place-open (machine_with cs) (machine_word ∷ a ∷ us) (machine_word ∷ a ∷ []) us rest refl (header cs) read none place (omega (arith, at))
 
 not-end : (u : Token) (us : List Token) → (u.kind ≡ Word END → ⊥) → (t : Token) (ts : List Token) → u ∷ us ≡ t ∷ ts → t.kind ≡ Word END → ⊥
-not-end u us n t ts e k = n (ap (λ x. x.kind) (first-of u t us ts e) ∙ k)
+not-end u us n t ts e k = n (ap (λ x. x.kind) (first-same u t us ts e) ∙ k)
 
 sign-is-no-end : (op : ℕ) → Sign op ≡ Word END → ⊥
 sign-is-no-end op e = cc
@@ -128,7 +127,7 @@ properties-follows : (t : Token) (us : List Token) (d : RawClause) (other : List
 properties-follows t us d other k h =
     let f = first-at d.at (Word (word_number d.word)) (Parts d.word d.parts) other h.1 in
     let e : t ∷ us ≡ f.token ∷ (f.rest ++ h.0.0) = h.0.1 ∙ ap (λ ts. ts ++ h.0.0) f.is in
-    let w : d.word ≡ Properties = word-same d.word Properties (sym f.same ∙ ap (λ x. x.kind) (sym (first-of t f.token us (f.rest ++ h.0.0) e)) ∙ k) in
+    let w : d.word ≡ Properties = word-same d.word Properties (sym f.same ∙ ap (λ x. x.kind) (sym (first-same t f.token us (f.rest ++ h.0.0) e)) ∙ k) in
     let q = properties-term d.parts f.rest (subst (λ v. Parts v d.parts f.rest) w f.back) (All-head (λ (c : RawClause). ArePlain c.parts) d [] h.2.plain) in
     (q.0, f.rest, h.0.0, rest-of t f.token us (f.rest ++ h.0.0) e, q.1, ap length f.is, q.2)
 
@@ -194,10 +193,10 @@ front-is : {A : Type 0} (n : ℕ) (ts front after : List A) → ts ≡ front ++ 
 front-is n ts front after e l = sym (ap (λ us. take n us) e ∙ ap (λ m. take m (front ++ after)) (sym l) ∙ take-front front after)
 
 left-over : (t u : RawTree) (v : Token) (vs : List Token) → ◌≡◌ {A = Option (RawTree × List Token)} (Some (t, v ∷ vs)) (Some (u, [])) → ⊥
-left-over t u v vs e = nil-cons v vs (sym (ap (λ (q : RawTree × List Token). q.1) (some-same (t, v ∷ vs) (u, []) e)))
+left-over t u v vs e = nil-cons v vs (sym (ap (λ (q : RawTree × List Token). q.1) (some_same (t, v ∷ vs) (u, []) e)))
 
 same-tree : (t u : RawTree) → ◌≡◌ {A = Option (RawTree × List Token)} (Some (t, [])) (Some (u, [])) → t ≡ u
-same-tree t u e = ap (λ (q : RawTree × List Token). q.0) (some-same (t, []) (u, []) e)
+same-tree t u e = ap (λ (q : RawTree × List Token). q.0) (some_same (t, []) (u, []) e)
 
 -- a front of these tokens that is a term without additions is no longer than the first side
 printed-short : (n : ℕ) (u : RawTree) (front after : List Token) → one_side ++ and_true ≡ front ++ after → length front ≡ n → Spells u front → HasNoAddition u → length front ≤ 3
@@ -254,7 +253,7 @@ twice-longest d other h =
 not-again : (d : RawClause) (other : List Token) → CanFollow Machine (variables ∷ []) d again other → ⊥
 not-again d other h =
     let f = clause-first d (λ us. us ≡ h.0.0) again (other, h.0.0, h.0.1, h.1, refl) in
-    let w : d.word ≡ AbstractVariables = word-same d.word AbstractVariables (sym f.same ∙ ap (λ t. t.kind) (sym (first-of again_word f.token _ f.rest f.is))) in
+    let w : d.word ≡ AbstractVariables = word-same d.word AbstractVariables (sym f.same ∙ ap (λ t. t.kind) (sym (first-same again_word f.token _ f.rest f.is))) in
     let o : All (λ m. clause_number Variables ≢ m) (clause_number d.word ∷ []) = h.2.once.0 in
     All-head (λ m. clause_number Variables ≢ m) (clause_number d.word) [] o (ap clause_number (sym w))
 
@@ -303,7 +302,7 @@ operations-follow : (us : List Token) (d : RawClause) (other : List Token) → C
 operations-follow us d other h =
     let g = first-at d.at (Word (word_number d.word)) (Parts d.word d.parts) other h.1 in
     let e : operations_word ∷ us ≡ g.token ∷ (g.rest ++ h.0.0) = h.0.1 ∙ ap (λ ts. ts ++ h.0.0) g.is in
-    let w : d.word ≡ Operations = word-same d.word Operations (sym g.same ∙ ap (λ t. t.kind) (sym (first-of operations_word g.token us (g.rest ++ h.0.0) e))) in
+    let w : d.word ≡ Operations = word-same d.word Operations (sym g.same ∙ ap (λ t. t.kind) (sym (first-same operations_word g.token us (g.rest ++ h.0.0) e))) in
     let q = operations-parts d.parts g.rest (subst (λ v. Parts v d.parts g.rest) w g.back) in
     (q.0, g.rest, h.0.0, rest-of operations_word g.token us (g.rest ++ h.0.0) e, q.1, ap length g.is)
 
@@ -346,10 +345,10 @@ operation-body o b h =
 
 -- no substitution stands in front of END
 no-body : (s : SubTree) (b q : List Token) (t : Token) → t.kind ≡ Word END → t ∷ [] ≡ b ++ q → Sub s 1 b → ⊥
-no-body s [] q t k e h = false-true (ap (λ (p : State). p.1) (some-same (0, false) (0, true) (sub-leads s 1 [] h)))
+no-body s [] q t k e h = false-true (ap (λ (p : State). p.1) (some_same (0, false) (0, true) (sub-leads s 1 [] h)))
 no-body s (u ∷ b) q t k e h =
     let i = first-step (step (ends_at 1)) (0, false) (0, true) u b (sub-leads s 1 (u ∷ b) h) in
-    none-some i.0 (sym (ap (stepped (ends_at 1) 0 false) (ap (λ x. x.kind) (sym (first-of t u [] (b ++ q) e)) ∙ k)) ∙ i.1)
+    none_some i.0 (sym (ap (stepped (ends_at 1) 0 false) (ap (λ x. x.kind) (sym (first-same t u [] (b ++ q) e)) ∙ k)) ∙ i.1)
 
 -- ---- MACHINE A OPERATIONS f = skip ; g = END
 abbrev g : Token
@@ -368,9 +367,9 @@ half-none : NoOperation (g ∷ equals_again ∷ last_end ∷ [])
 half-none o b q e h = let c = operation-body o b h in by-front c.0 c.1 c.2 (e ∙ ap (λ ts. ts ++ q) c.3 ∙ append_assoc c.0 (c.1 ∷ c.2) q) c.4 c.5
   where
     by-front : (u : List Token) (t : Token) (s : List Token) → g ∷ equals_again ∷ last_end ∷ [] ≡ u ++ ((t ∷ s) ++ q) → t.kind ≡ Sign EQUAL → Sub o.body 1 s → ⊥
-    by-front [] t s e k h = name-is-no-sign (codes "g") EQUAL (ap (λ x. x.kind) (first-of g t _ (s ++ q) e) ∙ k)
+    by-front [] t s e k h = name-is-no-sign (codes "g") EQUAL (ap (λ x. x.kind) (first-same g t _ (s ++ q) e) ∙ k)
     by-front (x ∷ []) t s e k h = no-body o.body s q last_end refl (rest-of equals_again t (last_end ∷ []) (s ++ q) (rest-of g x _ (t ∷ (s ++ q)) e)) h
-    by-front (x ∷ y ∷ []) t s e k h = word-is-no-sign END EQUAL (ap (λ x. x.kind) (first-of last_end t [] (s ++ q) (rest-of equals_again y _ (t ∷ (s ++ q)) (rest-of g x _ (y ∷ t ∷ (s ++ q)) e))) ∙ k)
+    by-front (x ∷ y ∷ []) t s e k h = word-is-no-sign END EQUAL (ap (λ x. x.kind) (first-same last_end t [] (s ++ q) (rest-of equals_again y _ (t ∷ (s ++ q)) (rest-of g x _ (y ∷ t ∷ (s ++ q)) e))) ∙ k)
     by-front (x ∷ y ∷ z ∷ []) t s e k h = nil-cons t (s ++ q) (rest-of last_end z [] (t ∷ (s ++ q)) (rest-of equals_again y _ (z ∷ t ∷ (s ++ q)) (rest-of g x _ (y ∷ z ∷ t ∷ (s ++ q)) e)))
     by-front (x ∷ y ∷ z ∷ w ∷ u) t s e k h = nil-cons w (u ++ ((t ∷ s) ++ q)) (rest-of last_end z [] (w ∷ (u ++ ((t ∷ s) ++ q))) (rest-of equals_again y _ (z ∷ w ∷ (u ++ ((t ∷ s) ++ q))) (rest-of g x _ (y ∷ z ∷ w ∷ (u ++ ((t ∷ s) ++ q))) e)))
 
@@ -388,8 +387,8 @@ list-none : NoOperation (skip_again ∷ end_there ∷ [])
 list-none o b q e h = let c = operation-body o b h in by-front c.0 c.1 c.2 (e ∙ ap (λ ts. ts ++ q) c.3 ∙ append_assoc c.0 (c.1 ∷ c.2) q) c.4
   where
     by-front : (u : List Token) (t : Token) (s : List Token) → skip_again ∷ end_there ∷ [] ≡ u ++ ((t ∷ s) ++ q) → t.kind ≡ Sign EQUAL → ⊥
-    by-front [] t s e k = word-is-no-sign SKIP EQUAL (ap (λ x. x.kind) (first-of skip_again t _ (s ++ q) e) ∙ k)
-    by-front (x ∷ []) t s e k = word-is-no-sign END EQUAL (ap (λ x. x.kind) (first-of end_there t [] (s ++ q) (rest-of skip_again x _ (t ∷ (s ++ q)) e)) ∙ k)
+    by-front [] t s e k = word-is-no-sign SKIP EQUAL (ap (λ x. x.kind) (first-same skip_again t _ (s ++ q) e) ∙ k)
+    by-front (x ∷ []) t s e k = word-is-no-sign END EQUAL (ap (λ x. x.kind) (first-same end_there t [] (s ++ q) (rest-of skip_again x _ (t ∷ (s ++ q)) e)) ∙ k)
     by-front (x ∷ y ∷ []) t s e k = nil-cons t (s ++ q) (rest-of end_there y [] (t ∷ (s ++ q)) (rest-of skip_again x _ (y ∷ t ∷ (s ++ q)) e))
     by-front (x ∷ y ∷ z ∷ u) t s e k = nil-cons z (u ++ ((t ∷ s) ++ q)) (rest-of end_there y [] (z ∷ (u ++ ((t ∷ s) ++ q))) (rest-of skip_again x _ (y ∷ z ∷ (u ++ ((t ∷ s) ++ q))) e))
 

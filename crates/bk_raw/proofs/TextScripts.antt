@@ -16,12 +16,13 @@ use Rattle.bk_raw.specs.Places.{IsLongestWhole, IsScriptFault, IsScriptFaultAt}
 use Rattle.bk_raw.specs.Texts.{token, no_number, end_as_rule, one_script, one_script_tree}
 use Rattle.bk_raw.proofs.Runs.{nil-cons}
 use Rattle.bk_raw.proofs.Patterns.{Both, first, just-first}
-use Rattle.bk_raw.proofs.Lists.{in-order, absent-then}
+use Rattle.bk_raw.proofs.Lists.{absent-then}
 use Rattle.bk_raw.proofs.ClauseOne.{first-at, same-at}
 use Rattle.bk_raw.proofs.RuleOne.{word-same}
-use Rattle.bk_raw.proofs.ScriptOne.{Then, NoDot, rule-first, rule-end, unstarted}
+use Rattle.bk_raw.proofs.ScriptOne.{Then, NoDot, rule-first, rule-end, unstarted, first-same}
 use Rattle.bk_raw.proofs.ScriptPlaces.{Short, names-within, no-rules, scripts-tell-place}
-use Rattle.bk_raw.proofs.TextComponents.{first-of, rest-of, name-is-no-sign}
+use Rattle.bk_raw.proofs.TextComponents.{rest-of, name-is-no-sign}
+use Rattle.bk_raw.proofs.Shapes.{regrouped}
 
 abbrev proof : Token
 proof = token 0 5 (Name (codes "proof"))
@@ -70,11 +71,11 @@ opens-leave n more dotless few leave s front after e h = by-names (names-within 
 
     f : (x : List Token) × (a ∷ dot ∷ one ∷ more ≡ x) × ((N ⌢ R) ⌢ L) x
     f =
-        let g = first-at s.at (Name (codes "proof")) ((N ⌢ R) ⌢ L) (front ++ after) (in-order _ (N ⌢ R) L (front ++ after) (front, after, refl, h, refl)) in
+        let g = first-at s.at (Name (codes "proof")) ((N ⌢ R) ⌢ L) (front ++ after) (regrouped _ (N ⌢ R) L (front ++ after) (front, after, refl, h, refl)) in
         (g.rest, rest-of proof g.token (a ∷ dot ∷ one ∷ more) g.rest (e ∙ g.is), g.back)
 
     there : (Divided DOT PartNamed s.name ⌢ R ⌢ L) (a ∷ dot ∷ one ∷ more)
-    there = unstarted s.name_at (Divided DOT PartNamed s.name) (R ⌢ L) (a ∷ dot ∷ one ∷ more) (in-order N R L (a ∷ dot ∷ one ∷ more) (subst ((N ⌢ R) ⌢ L) (sym f.1) f.2))
+    there = unstarted s.name_at (Divided DOT PartNamed s.name) (R ⌢ L) (a ∷ dot ∷ one ∷ more) (regrouped N R L (a ∷ dot ∷ one ∷ more) (subst ((N ⌢ R) ⌢ L) (sym f.1) f.2))
 
     by-names : Both (λ ts. ts ≡ more) (R ⌢ L) ⊎ Short (λ ts. ts ≡ more) (R ⌢ L) → n ≤ length after
     by-names (inl b) = let r = b.2 in leave s.rules r.0 after (sym b.1 ∙ r.2 ∙ ap (λ ts. r.0 ++ ts) r.4) r.3
@@ -100,7 +101,7 @@ but-last : (ts front : List Token) (t : Token) (after : List Token) → NoEndBef
 but-last [] front t after n e l k = front-not-nil front t after e
 but-last (u ∷ []) [] t after n e l k = absurd (omega (arith, l, ap length e))
 but-last (u ∷ []) (x ∷ front) t after n e l k = front-not-nil front t after (rest-of u x [] (front ++ t ∷ after) e)
-but-last (u ∷ v ∷ ts) [] t after n e l k = n.0 (ap (λ x. x.kind) (first-of u t (v ∷ ts) after e) ∙ k)
+but-last (u ∷ v ∷ ts) [] t after n e l k = n.0 (ap (λ x. x.kind) (first-same u t (v ∷ ts) after e) ∙ k)
 but-last (u ∷ v ∷ ts) (x ∷ front) t after n e l k = but-last (v ∷ ts) front t after n.1 (rest-of u x (v ∷ ts) (front ++ t ∷ after) e) l k
 
 -- no script is whole where a script but for its end leaves two tokens at least, and no `end` stands before the last
@@ -137,7 +138,7 @@ rule-there : (w : RuleWord) (t : Token) (more : List Token) (r : RawRule) (b q :
 rule-there w t more r b q k e h =
     let g = first-at r.at (rule_kind r.word) (Ruled (shape_of r.word) r.parts) b h in
     let i : t ∷ more ≡ g.token ∷ (g.rest ++ q) = e ∙ ap (λ ts. ts ++ q) g.is in
-    let same = first-of t g.token more (g.rest ++ q) i in
+    let same = first-same t g.token more (g.rest ++ q) i in
     let v : r.word ≡ w = word-same r.word w (sym g.same ∙ ap (λ x. x.kind) (sym same) ∙ k) in
     (g.rest, g.is ∙ ap (λ x. x ∷ g.rest) (sym same), rest-of t g.token more (g.rest ++ q) i, subst (λ x. Ruled (shape_of x) r.parts g.rest) v g.back)
 
@@ -155,7 +156,7 @@ number-behind : (ps : List RulePart) (ts q : List Token) → end ∷ [] ≡ ts +
 number-behind [] ts q e h = h
 number-behind (part_number n ∷ ps) ts q e h =
     let i : end ∷ [] ≡ h.3.0 ∷ (h.1 ++ q) = e ∙ ap (λ us. us ++ q) (h.2 ∙ ap (λ us. us ++ h.1) h.3.1) in
-    name-is-no-number (codes "end") n (ap (λ x. x.kind) (first-of end h.3.0 [] (h.1 ++ q) i) ∙ h.3.2)
+    name-is-no-number (codes "end") n (ap (λ x. x.kind) (first-same end h.3.0 [] (h.1 ++ q) i) ∙ h.3.2)
 number-behind (p ∷ ps) ts q e h = absurd h.3
 
 hyp-leaves : Leave 2 (hyp ∷ end ∷ [])
@@ -166,7 +167,7 @@ hyp-leaves (r ∷ rs) front after e h =
     absurd (number-behind r.parts k.0 (g.1 ++ after) k.2 k.3)
 
 dotless : (t : Token) (ts : List Token) (x : List ℕ) → t.kind ≡ Name x → NoDot (t ∷ ts)
-dotless t ts x k us u e d = name-is-no-sign x DOT (sym k ∙ ap (λ v. v.kind) (first-of t u ts us e) ∙ d)
+dotless t ts x k us u e d = name-is-no-sign x DOT (sym k ∙ ap (λ v. v.kind) (first-same t u ts us e) ∙ d)
 
 no-three : (n : ℕ) → n ≡ 3 → (n < 3) ⊎ (3 < n) → ⊥
 no-three n e (inl l) = omega (arith, e, l)
@@ -215,7 +216,7 @@ same-leaves (r ∷ q ∷ rs) front after e h =
     let g = first-rule q rs h.4.1 h.4.4 in
     let f = first-at q.at (rule_kind q.word) (Ruled (shape_of q.word) q.parts) g.0 g.3 in
     let j : last_end ∷ [] ≡ f.token ∷ ((f.rest ++ g.1) ++ after) = rest-of semicolon h.4.3.0 (last_end ∷ []) (h.4.1 ++ after) i ∙ ap (λ ts. ts ++ after) (g.2 ∙ ap (λ ts. ts ++ g.1) f.is) in
-    absurd (rule-end q.word (sym f.same ∙ ap (λ x. x.kind) (sym (first-of last_end f.token [] ((f.rest ++ g.1) ++ after) j))))
+    absurd (rule-end q.word (sym f.same ∙ ap (λ x. x.kind) (sym (first-same last_end f.token [] ((f.rest ++ g.1) ++ after) j))))
 
 same-written : AnyDivided SEMICOLON Rule (record { word = Same; at = 10; parts = [] } ∷ []) (same ∷ [])
 same-written = (same ∷ [], [], refl, (same, refl, refl, refl), refl)

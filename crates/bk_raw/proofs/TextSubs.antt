@@ -24,8 +24,10 @@ use Rattle.bk_raw.proofs.Patterns.{Both, just-first, same-piece, StopsAt, stops-
 use Rattle.bk_raw.proofs.SubParts.{ends_list}
 use Rattle.bk_raw.proofs.SubRuns.{sub-leads}
 use Rattle.bk_raw.proofs.SubOne.{term-cut, words-same}
-use Rattle.bk_raw.proofs.Lists.{in-order, absent-then}
-use Rattle.bk_raw.proofs.TextComponents.{first-of, rest-of, false-true, all-read, equals_one}
+use Rattle.bk_raw.proofs.Lists.{absent-then}
+use Rattle.bk_raw.proofs.TextComponents.{rest-of, false-true, all-read, equals_one}
+use Rattle.bk_raw.proofs.Shapes.{regrouped}
+use Rattle.bk_raw.proofs.ScriptOne.{first-same}
 
 -- ---- x := 1 ; skip || skip
 abbrev x : Token
@@ -138,7 +140,7 @@ has_sign op (t ∷ ts) = is_sign (nat_eq op) t.kind || has_sign op ts
 no-sign-there : (op : ℕ) (ts front : List Token) (t : Token) (after : List Token) → has_sign op ts ≡ false → t.kind ≡ Sign op → ts ≡ front ++ t ∷ after → ⊥
 no-sign-there op [] [] t after n k e = nil-cons t after e
 no-sign-there op [] (u ∷ front) t after n k e = nil-cons u (front ++ t ∷ after) e
-no-sign-there op (u ∷ ts) [] t after n k e = false-true (sym n ∙ ap (λ v. is_sign (nat_eq op) v || has_sign op ts) (ap (λ v. v.kind) (first-of u t ts after e) ∙ k) ∙ ap (λ b. b || has_sign op ts) (eq-eqb op op refl))
+no-sign-there op (u ∷ ts) [] t after n k e = false-true (sym n ∙ ap (λ v. is_sign (nat_eq op) v || has_sign op ts) (ap (λ v. v.kind) (first-same u t ts after e) ∙ k) ∙ ap (λ b. b || has_sign op ts) (eq-eqb op op refl))
 no-sign-there op (u ∷ ts) (v ∷ front) t after n k e = no-sign-there op ts front t after (or_parts (is_sign (nat_eq op) u.kind) (has_sign op ts) n).1 k (rest-of u v ts (front ++ t ∷ after) e)
 
 abbrev tokens : List Token
@@ -151,20 +153,20 @@ name-is-no-word : (x : List ℕ) (op : ℕ) → Word op ≡ Name x → ⊥
 name-is-no-word x op e = cc
 
 declared-first : (x : RawName) (front after ts : List Token) → if_word ∷ ts ≡ front ++ after → Declared x front → ⊥
-declared-first x front after ts e h = name-is-no-word x.text IF (ap (λ t. t.kind) (first-of if_word h.0 ts after (e ∙ ap (λ us. us ++ after) h.1)) ∙ h.2)
+declared-first x front after ts e h = name-is-no-word x.text IF (ap (λ t. t.kind) (first-same if_word h.0 ts after (e ∙ ap (λ us. us ++ after) h.1)) ∙ h.2)
 
 names-first : (xs : List RawName) (front after ts : List Token) → if_word ∷ ts ≡ front ++ after → Names xs front → ⊥
 names-first [] front after ts e h = h
 names-first (x ∷ []) front after ts e h = declared-first x front after ts e h
-names-first (x ∷ y ∷ ys) front after ts e h = name-is-no-word x.text IF (ap (λ t. t.kind) (first-of if_word h.3.0 ts (h.1 ++ after) (e ∙ ap (λ us. us ++ after) (h.2 ∙ ap (λ us. us ++ h.1) h.3.1))) ∙ h.3.2)
+names-first (x ∷ y ∷ ys) front after ts e h = name-is-no-word x.text IF (ap (λ t. t.kind) (first-same if_word h.3.0 ts (h.1 ++ after) (e ∙ ap (λ us. us ++ after) (h.2 ∙ ap (λ us. us ++ h.1) h.3.1))) ∙ h.3.2)
 
 -- what stands behind IF p THEN s
 branched-ends : (bs : Branches) → StopsAt ends_list (0, true) (Branched ELSIF bs ⌢ JustWord END)
 branched-ends no_branches ts h = stops-last ends_list 0 true (Word END) refl ts (absent-then (JustWord END) ts h)
-branched-ends (else_branch s) ts h = stops-just ends_list 0 true (Word ELSE) (Sub s 0 ⌢ JustWord END) refl ts (in-order (JustWord ELSE) (Sub s 0) (JustWord END) ts h)
+branched-ends (else_branch s) ts h = stops-just ends_list 0 true (Word ELSE) (Sub s 0 ⌢ JustWord END) refl ts (regrouped (JustWord ELSE) (Sub s 0) (JustWord END) ts h)
 branched-ends (branch_and p s bs) ts h =
     let K = Term p 0 ⌢ JustWord THEN ⌢ (Sub s 0 ⌢ Branched ELSIF bs) in
-    stops-just ends_list 0 true (Word ELSIF) (K ⌢ JustWord END) refl ts (in-order (JustWord ELSIF) K (JustWord END) ts h)
+    stops-just ends_list 0 true (Word ELSIF) (K ⌢ JustWord END) refl ts (regrouped (JustWord ELSIF) K (JustWord END) ts h)
 
 -- these tokens stand behind
 abbrev Are : List Token → Piece
@@ -186,17 +188,17 @@ behind-skip s K at end t us sk n h =
     subst K c.3.2 c.3.1
 
 only-word : (op : ℕ) (t : Token) (us : List Token) (kind : ℕ) → t.kind ≡ Word kind → JustWord op (t ∷ us) → kind ≡ op
-only-word op t us kind k h = words-same kind op (sym k ∙ ap (λ x. x.kind) (first-of t h.0 us [] h.1) ∙ h.2)
+only-word op t us kind k h = words-same kind op (sym k ∙ ap (λ x. x.kind) (first-same t h.0 us [] h.1) ∙ h.2)
 
 no-branches-there : (bs : Branches) → (Branched ELSIF bs ⌢ JustWord END) behind_then → ⊥
 no-branches-there no_branches h = omega (arith, only-word END (token 19 23 (Word ELSE)) _ ELSE refl (absent-then (JustWord END) behind_then h))
 no-branches-there (else_branch s) h =
-    let i = just-first (Word ELSE) (Sub s 0 ⌢ JustWord END) (token 19 23 (Word ELSE)) _ (in-order (JustWord ELSE) (Sub s 0) (JustWord END) behind_then h) in
+    let i = just-first (Word ELSE) (Sub s 0 ⌢ JustWord END) (token 19 23 (Word ELSE)) _ (regrouped (JustWord ELSE) (Sub s 0) (JustWord END) behind_then h) in
     let j = behind-skip s (JustWord END) 24 28 (token 29 34 (Word ELSIF)) _ (stops-last ends_list 0 true (Word END) refl) refl i.1 in
     omega (arith, only-word END (token 29 34 (Word ELSIF)) _ ELSIF refl j)
 no-branches-there (branch_and p s bs) h =
     let K = Term p 0 ⌢ JustWord THEN ⌢ (Sub s 0 ⌢ Branched ELSIF bs) in
-    let i = just-first (Word ELSIF) (K ⌢ JustWord END) (token 19 23 (Word ELSE)) _ (in-order (JustWord ELSIF) K (JustWord END) behind_then h) in
+    let i = just-first (Word ELSIF) (K ⌢ JustWord END) (token 19 23 (Word ELSE)) _ (regrouped (JustWord ELSIF) K (JustWord END) behind_then h) in
     omega (arith, words-same ELSE ELSIF i.0)
 
 abbrev p_is_one : RawTree
@@ -208,7 +210,7 @@ no-if p s bs h =
     let i = just-first (Word IF) (Term p 0 ⌢ JustWord THEN ⌢ K) if_word tokens h in
     let c = term-cut p p_is_one (JustWord THEN ⌢ K) (Are behind_condition) tokens (stops-just ends_term 0 true (Word THEN) K refl) (are-stops ends_term (token 9 13 (Word THEN)) _ refl) i.1 (condition, behind_condition, refl, all-read 5 condition p_is_one refl, refl) in
     let j = just-first (Word THEN) K (token 9 13 (Word THEN)) _ (subst (JustWord THEN ⌢ K) c.1.2 c.1.1) in
-    let k = behind-skip s (Branched ELSIF bs ⌢ JustWord END) 14 18 (token 19 23 (Word ELSE)) _ (branched-ends bs) refl (in-order (Sub s 0) (Branched ELSIF bs) (JustWord END) _ j.1) in
+    let k = behind-skip s (Branched ELSIF bs ⌢ JustWord END) 14 18 (token 19 23 (Word ELSE)) _ (branched-ends bs) refl (regrouped (Sub s 0) (Branched ELSIF bs) (JustWord END) _ j.1) in
     no-branches-there bs k
 
 no-node : (u : SubNode) → Stated u 0 else_first → ⊥
