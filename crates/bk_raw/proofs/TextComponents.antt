@@ -1,15 +1,14 @@
 -- Texts of components: what they are written for, and where they are at fault.
-use Rattle.std.proofs.Common.{◌≡◌, ◌⊎◌, inl, inr, ◌≤◌, ◌<◌, ◌+◌, ℕ, zero, suc, true, false, List, [], ◌∷◌, ◌++◌, length, take, Option, Some, None, refl, sym, ◌∙◌, ap, subst, arith, append_assoc, append-nil, length-append}
+use Rattle.std.proofs.Common.{◌≡◌, inr, ◌≤◌, ◌<◌, ◌+◌, ℕ, zero, suc, true, false, List, [], ◌∷◌, ◌++◌, length, take, Option, Some, None, refl, sym, ◌∙◌, ap, subst, arith, append_assoc, append-nil, length-append}
 use Rattle.std.specs.Prelude.{◌≢◌, pos, codes, All}
 use Rattle.std.proofs.lemmas.List.Elements.{All-nil, All-cons, All-head}
 use Rattle.bk_form.specs.declared.token.Token.{Token}
-use Rattle.bk_form.specs.declared.token.TokenKind.{TokenKind}
 use Rattle.bk_form.specs.declared.token.TokenKind.TheVariants.{Name, Number, Sign, Word}
 use Rattle.bk_ops.specs.declared.sign.TheConstants.{SEMICOLON, EQUAL, AND, EQUIVALENT}
 use Rattle.bk_ops.specs.declared.word.TheConstants.{MACHINE, PROPERTIES, VARIABLES, ABSTRACT_VARIABLES, OPERATIONS, END, SKIP, BTRUE}
-use Rattle.bk_raw.specs.Pieces.{◌⌢◌, JustSign, Divided, InRow}
+use Rattle.bk_raw.specs.Pieces.{Divided}
 use Rattle.bk_raw.specs.RawTree.{RawTree, raw, raw_name, raw_number, raw_constant, raw_infix}
-use Rattle.bk_raw.specs.Spelling.{Spells, Term}
+use Rattle.bk_raw.specs.Spelling.{Spells}
 use Rattle.bk_raw.specs.Reading.{read}
 use Rattle.bk_raw.specs.declared.operator.InfixOp.TheVariants.{And, Equal, Equivalent}
 use Rattle.bk_raw.specs.declared.operator.Constant.TheVariants.{Btrue}
@@ -17,7 +16,6 @@ use Rattle.bk_raw.specs.Additions.{HasNoAddition, SubHasNoAddition}
 use Rattle.bk_raw.specs.SubTree.{SubTree}
 use Rattle.bk_raw.specs.SubSpelling.{Sub}
 use Rattle.bk_raw.specs.declared.component.ComponentKind.TheVariants.{Machine}
-use Rattle.bk_raw.specs.declared.component.ClauseWord.{ClauseWord}
 use Rattle.bk_raw.specs.declared.component.ClauseWord.TheVariants.{Properties, Variables, AbstractVariables, Operations}
 use Rattle.bk_raw.specs.ComponentTree.{RawClause, RawComponent, RawOperation, ClauseParts, clause_term, clause_names, clause_operations, word_number, clause_number, is_allowed}
 use Rattle.bk_raw.specs.ComponentSpelling.{Operation, Parts, Clause, Header, ArePlain, AreClausesOf, SpellsComponent}

@@ -1,11 +1,11 @@
 -- Texts of proof files: what they are written for, and where they are at fault.
-use Rattle.std.proofs.Common.{◌≡◌, ◌⊎◌, inl, inr, ◌≤◌, ◌<◌, ◌+◌, ℕ, zero, suc, List, [], ◌∷◌, ◌++◌, length, refl, sym, ◌∙◌, ap, subst, arith, append_assoc, append-nil, length-append}
+use Rattle.std.proofs.Common.{◌≡◌, ◌⊎◌, inl, inr, ◌≤◌, ◌<◌, ◌+◌, ℕ, List, [], ◌∷◌, ◌++◌, length, refl, sym, ◌∙◌, ap, subst, arith, append_assoc, append-nil, length-append}
 use Rattle.std.specs.Prelude.{pos, codes}
 use Rattle.bk_form.specs.declared.token.Token.{Token}
 use Rattle.bk_form.specs.declared.token.TokenKind.{TokenKind}
 use Rattle.bk_form.specs.declared.token.TokenKind.TheVariants.{Name, Number, Sign}
 use Rattle.bk_ops.specs.declared.sign.TheConstants.{DOT, SEMICOLON}
-use Rattle.bk_raw.specs.Pieces.{Absent, Just, JustSign, ◌⌢◌, Starting, Divided, AnyDivided}
+use Rattle.bk_raw.specs.Pieces.{◌⌢◌, Starting, Divided, AnyDivided}
 use Rattle.bk_raw.specs.declared.script.RuleWord.{RuleWord}
 use Rattle.bk_raw.specs.declared.script.RuleWord.TheVariants.{Hyp, Same}
 use Rattle.bk_raw.specs.declared.script.NamePart.{NamePart}
@@ -15,11 +15,10 @@ use Rattle.bk_raw.specs.ScriptSpelling.{PartNamed, Ruled, Rule, OpensScript, Scr
 use Rattle.bk_raw.specs.Places.{IsLongestWhole, IsScriptFault, IsScriptFaultAt}
 use Rattle.bk_raw.specs.Texts.{token, no_number, end_as_rule, one_script, one_script_tree}
 use Rattle.bk_raw.proofs.Runs.{nil-cons}
-use Rattle.bk_raw.proofs.Patterns.{Both, first, just-first}
-use Rattle.bk_raw.proofs.Lists.{absent-then}
-use Rattle.bk_raw.proofs.ClauseOne.{first-at, same-at}
+use Rattle.bk_raw.proofs.Patterns.{Both}
+use Rattle.bk_raw.proofs.ClauseOne.{first-at}
 use Rattle.bk_raw.proofs.RuleOne.{word-same}
-use Rattle.bk_raw.proofs.ScriptOne.{Then, NoDot, rule-first, rule-end, unstarted, first-same}
+use Rattle.bk_raw.proofs.ScriptOne.{NoDot, rule-end, unstarted, first-same}
 use Rattle.bk_raw.proofs.ScriptPlaces.{Short, names-within, no-rules, scripts-tell-place}
 use Rattle.bk_raw.proofs.TextComponents.{rest-of, name-is-no-sign}
 use Rattle.bk_raw.proofs.Shapes.{regrouped}

@@ -4,15 +4,13 @@ use Rattle.std.proofs.lemmas.Bool.{or_parts}
 use Rattle.std.specs.Prelude.{Bool, ◌||◌, nat_eq, pos, codes}
 use Rattle.std.proofs.lemmas.Bool.{eq-eqb}
 use Rattle.bk_form.specs.declared.token.Token.{Token}
-use Rattle.bk_form.specs.declared.token.TokenKind.{TokenKind}
 use Rattle.bk_form.specs.declared.token.TokenKind.TheVariants.{Name, Number, Sign, Word}
 use Rattle.bk_ops.specs.declared.sign.TheConstants.{ASSIGN, SEMICOLON, PARALLEL, EQUAL}
 use Rattle.bk_ops.specs.declared.word.TheConstants.{IF, THEN, ELSE, ELSIF, END, SKIP, BEGIN, PRE, ASSERT, CHOICE, SELECT, ANY, LET, VAR, WHILE}
 use Rattle.bk_raw.specs.Brackets.{is_sign}
-use Rattle.bk_raw.specs.Pieces.{Just, JustAt, JustSign, JustWord, ◌⌢◌}
-use Rattle.bk_raw.specs.RawTree.{RawTree, raw, raw_name, raw_number, raw_infix}
+use Rattle.bk_raw.specs.Pieces.{JustWord, ◌⌢◌}
+use Rattle.bk_raw.specs.RawTree.{RawTree}
 use Rattle.bk_raw.specs.Spelling.{Declared, Names, Term}
-use Rattle.bk_raw.specs.declared.operator.InfixOp.TheVariants.{Equal}
 use Rattle.bk_raw.specs.declared.term.RawName.{RawName}
 use Rattle.bk_raw.specs.SubTree.{SubTree, sub, SubNode, sub_skip, sub_assign, sub_assign_at, sub_member, sub_such, sub_begin, sub_pre, sub_assert, sub_if, sub_choice, sub_select, sub_any, sub_let, sub_var, sub_while, sub_parallel, sub_sequence, Branches, no_branches, else_branch, branch_and}
 use Rattle.bk_raw.specs.SubSpelling.{Sub, Stated, Branched, SpellsSub}
@@ -20,7 +18,7 @@ use Rattle.bk_raw.specs.Texts.{token, skip_at, two_and, two_and_tree, three, els
 use Rattle.bk_raw.proofs.Runs.{Halts, nil-cons}
 use Rattle.bk_raw.proofs.Steps.{Piece, Stopper, step, stepped}
 use Rattle.bk_raw.proofs.TermRuns.{ends_term}
-use Rattle.bk_raw.proofs.Patterns.{Both, just-first, same-piece, StopsAt, stops-just, stops-last}
+use Rattle.bk_raw.proofs.Patterns.{just-first, same-piece, StopsAt, stops-just, stops-last}
 use Rattle.bk_raw.proofs.SubParts.{ends_list}
 use Rattle.bk_raw.proofs.SubRuns.{sub-leads}
 use Rattle.bk_raw.proofs.SubOne.{term-cut, words-same}
