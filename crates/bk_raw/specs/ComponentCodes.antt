@@ -31,6 +31,7 @@ kind_back-code Machine = refl
 kind_back-code Refinement = refl
 kind_back-code Implementation = refl
 
+-- kinds are told apart by their places
 abbrev pub coded_kind : Coded ComponentKind
 coded_kind = code_by ℕ coded_ℕ kind_code (λ n. get_or component_kinds n Machine) kind_back-code
 
@@ -68,6 +69,7 @@ word_back-code Values = refl
 word_back-code Initialisation = refl
 word_back-code Operations = refl
 
+-- words of clauses are told apart by their places
 abbrev pub coded_word : Coded ClauseWord
 coded_word = code_by ℕ coded_ℕ word_code (λ n. get_or clause_words n Sets) word_back-code
 
@@ -88,6 +90,7 @@ coded_operation = code_by (List RawName × (RawName × (List RawName × SubTree)
 abbrev Lists : Type 0
 Lists = ℕ × (List RawSet × (List RawName × (List RawTree × (List RawValue × (List SubTree × List RawOperation)))))
 
+-- the lists of what stands behind a clause's word
 abbrev parts_lists : ClauseParts → Lists
 parts_lists (clause_sets ss) = (0, (ss, ([], ([], ([], ([], []))))))
 parts_lists (clause_names xs) = (1, ([], (xs, ([], ([], ([], []))))))
@@ -97,6 +100,7 @@ parts_lists (clause_values vs) = (4, ([], ([], ([], (vs, ([], []))))))
 parts_lists (clause_sub s) = (5, ([], ([], ([], ([], (s ∷ [], []))))))
 parts_lists (clause_operations os) = (6, ([], ([], ([], ([], ([], os))))))
 
+-- what these lists are of
 abbrev parts_back : Lists → ClauseParts
 parts_back (zero, (ss, _)) = clause_sets ss
 parts_back (suc zero, (_, (xs, _))) = clause_names xs
@@ -117,6 +121,7 @@ parts_back-lists (clause_values vs) = refl
 parts_back-lists (clause_sub s) = refl
 parts_back-lists (clause_operations os) = refl
 
+-- what stands behind words is told apart by its lists
 abbrev coded_parts : Coded ClauseParts
 coded_parts = code_by Lists (coded× coded_ℕ (coded× (coded_list coded_set) (coded× (coded_list coded_name) (coded× (coded_list coded_tree) (coded× (coded_list coded_value) (coded× (coded_list coded_sub) (coded_list coded_operation))))))) parts_lists parts_back parts_back-lists
 
@@ -130,10 +135,12 @@ abbrev names_of : Option RawName → List RawName
 names_of None = []
 names_of (Some x) = x ∷ []
 
+-- the first name of a list
 abbrev name_of : List RawName → Option RawName
 name_of [] = None
 name_of (x ∷ xs) = Some x
 
+-- a name or none is told by the list
 abbrev coded_some : Coded (Option RawName)
 coded_some = code_by (List RawName) (coded_list coded_name) names_of name_of (elim [ None ↦ refl | Some x ↦ refl ])
 

@@ -186,9 +186,10 @@ mutual
   ranges_back-code no_ranges = refl
   ranges_back-code (range_and at n d rs) = λ i. range_and at n (tree_back-code d i) (ranges_back-code rs i)
 
--- so names can be told apart by their codes, and so can trees
+-- so names can be told apart by their codes
 abbrev pub coded_name : Coded RawName
 coded_name = record { code = name_code; inj = λ a b e. sym (name_back-code a) ∙ ap name_back e ∙ name_back-code b }
 
+-- and so can trees
 abbrev pub coded_tree : Coded RawTree
 coded_tree = record { code = tree_code; inj = λ a b e. sym (tree_back-code a) ∙ ap tree_back e ∙ tree_back-code b }

@@ -107,6 +107,7 @@ rule_back-code Induct = refl
 rule_back-code Poly = refl
 rule_back-code Lin = refl
 
+-- words of rules are told apart by their places
 abbrev pub coded_rule_word : Coded RuleWord
 coded_rule_word = code_by ℕ coded_ℕ rule_code (λ n. get_or rule_words n Hyp) rule_back-code
 
@@ -116,11 +117,13 @@ abbrev place_numbers : RawPlace → List ℕ
 place_numbers (in_goal path) = 0 ∷ path
 place_numbers (in_hypothesis i path) = suc i ∷ path
 
+-- the place that has these numbers
 abbrev place_back : List ℕ → RawPlace
 place_back [] = in_goal []
 place_back (zero ∷ path) = in_goal path
 place_back (suc i ∷ path) = in_hypothesis i path
 
+-- places in a sequent are told apart by their numbers
 abbrev pub coded_place : Coded RawPlace
 coded_place = code_by (List ℕ) (coded_list coded_ℕ) place_numbers place_back (elim [ in_goal path ↦ refl | in_hypothesis i path ↦ refl ])
 
@@ -128,14 +131,17 @@ coded_place = code_by (List ℕ) (coded_list coded_ℕ) place_numbers place_back
 abbrev pub coded_multiple : Coded RawMultiple
 coded_multiple = code_by (ℤ × ℕ) (coded× coded_ℤ coded_ℕ) (λ m. (m.multiplier, m.fact)) (λ p. record { multiplier = p.0; fact = p.1 }) (λ _. refl)
 
+-- a quotient's two numbers, or a sum's multiples
 abbrev line_lists : RawLine → List ℕ × List RawMultiple
 line_lists (multiples ms) = ([], ms)
 line_lists (quotient k g) = (k ∷ g ∷ [], [])
 
+-- the line of these lists
 abbrev line_back : List ℕ × List RawMultiple → RawLine
 line_back (k ∷ g ∷ ns, ms) = quotient k g
 line_back (_, ms) = multiples ms
 
+-- lines are told apart by them
 abbrev pub coded_line : Coded RawLine
 coded_line = code_by (List ℕ × List RawMultiple) (coded× (coded_list coded_ℕ) (coded_list coded_multiple)) line_lists line_back (elim [ multiples ms ↦ refl | quotient k g ↦ refl ])
 
@@ -148,6 +154,7 @@ coded_typed = code_by (RawName × WrittenType) (coded× coded_name coded_written
 abbrev Lists : Type 0
 Lists = ℕ × (List ℕ × (List RawTree × (List RawTyped × List RawLine)))
 
+-- the lists of a part of a rule
 abbrev part_lists : RulePart → Lists
 part_lists (part_number n) = (0, (n ∷ [], ([], ([], []))))
 part_lists (part_term t) = (1, ([], (t ∷ [], ([], []))))
@@ -158,6 +165,7 @@ part_lists (part_typed xs) = (5, ([], ([], (xs, []))))
 part_lists (part_law name picks) = (6, (name, (picks, ([], []))))
 part_lists (part_certificate facts lines) = (7, (facts, ([], ([], lines))))
 
+-- the part of these lists
 abbrev part_back : Lists → RulePart
 part_back (zero, (n ∷ _, _)) = part_number n
 part_back (suc zero, (_, (t ∷ _, _))) = part_term t
@@ -181,6 +189,7 @@ part_back-lists (part_typed xs) = refl
 part_back-lists (part_law name picks) = refl
 part_back-lists (part_certificate facts lines) = refl
 
+-- parts of rules are told apart by their lists
 abbrev pub coded_part : Coded RulePart
 coded_part = code_by Lists (coded× coded_ℕ (coded× (coded_list coded_ℕ) (coded× (coded_list coded_tree) (coded× (coded_list coded_typed) (coded_list coded_line))))) part_lists part_back part_back-lists
 
@@ -194,10 +203,12 @@ abbrev name_numbers : NamePart → ℕ × List ℕ
 name_numbers (Letters text) = (0, text)
 name_numbers (Numeral n) = (suc n, [])
 
+-- the part of a name that has these numbers
 abbrev name_back : ℕ × List ℕ → NamePart
 name_back (zero, text) = Letters text
 name_back (suc n, text) = Numeral n
 
+-- parts of names are told apart by them
 abbrev pub coded_name_part : Coded NamePart
 coded_name_part = code_by (ℕ × List ℕ) (coded× coded_ℕ (coded_list coded_ℕ)) name_numbers name_back (elim [ Letters text ↦ refl | Numeral n ↦ refl ])
 
