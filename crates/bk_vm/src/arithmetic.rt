@@ -1,58 +1,62 @@
 //! The operations on whole numbers.
-ghost use Rattle.std.specs.Prelude.{◌≡◌, ℤ, pos, neg_ℤ, ◌+ℤ◌, ◌-ℤ◌, ◌*ℤ◌};
+ghost use Rattle.std.specs.Prelude.{◌≡◌, ℤ, neg_ℤ, ◌+ℤ◌, ◌-ℤ◌, ◌*ℤ◌};
 ghost use Rattle.bk_code.specs.Numbers as numbers;
-ghost use Rattle.bk_vm.specs.Flows.{IsInRange};
 
-use bk_code::Trap;
+use bk_code::{Image, Trap};
 
-/// MAXINT; the least number is its negation.
-const MAX: i64 = 2147483647;
-
-fn bounded(n: i64) -> Result<i64, Trap>
-    ensures { result ≡ numbers.bounded (pos 2147483647) n }
+// The least number is the negation of the greatest.
+#[inline]
+fn bounded(image: &Image, n: i64) -> Result<i64, Trap>
+    ensures { result ≡ numbers.bounded (numbers.int_max image.now) n }
 {
-    if n < -MAX || n > MAX {
+    let max = image.int_max();
+    if n < -max || n > max {
         Err(Trap::Overflow)
     } else {
         Ok(n)
     }
 }
 
-pub fn sum(a: i64, b: i64) -> Result<i64, Trap>
-    requires first { IsInRange a }
-    requires second { IsInRange b }
-    ensures { result ≡ numbers.bounded (pos 2147483647) (a +ℤ b) }
+#[inline]
+pub fn sum(image: &Image, a: i64, b: i64) -> Result<i64, Trap>
+    requires first { numbers.IsWithin (numbers.int_max image.now) a }
+    requires second { numbers.IsWithin (numbers.int_max image.now) b }
+    ensures { result ≡ numbers.bounded (numbers.int_max image.now) (a +ℤ b) }
 {
-    bounded(a + b)
+    bounded(image, a + b)
 }
 
-pub fn difference(a: i64, b: i64) -> Result<i64, Trap>
-    requires first { IsInRange a }
-    requires second { IsInRange b }
-    ensures { result ≡ numbers.bounded (pos 2147483647) (a -ℤ b) }
+#[inline]
+pub fn difference(image: &Image, a: i64, b: i64) -> Result<i64, Trap>
+    requires first { numbers.IsWithin (numbers.int_max image.now) a }
+    requires second { numbers.IsWithin (numbers.int_max image.now) b }
+    ensures { result ≡ numbers.bounded (numbers.int_max image.now) (a -ℤ b) }
 {
-    bounded(a - b)
+    bounded(image, a - b)
 }
 
-pub fn product(a: i64, b: i64) -> Result<i64, Trap>
-    requires first { IsInRange a }
-    requires second { IsInRange b }
-    ensures { result ≡ numbers.bounded (pos 2147483647) (a *ℤ b) }
+#[inline]
+pub fn product(image: &Image, a: i64, b: i64) -> Result<i64, Trap>
+    requires first { numbers.IsWithin (numbers.int_max image.now) a }
+    requires second { numbers.IsWithin (numbers.int_max image.now) b }
+    ensures { result ≡ numbers.bounded (numbers.int_max image.now) (a *ℤ b) }
 {
-    bounded(a * b)
+    bounded(image, a * b)
 }
 
-pub fn negation(a: i64) -> Result<i64, Trap>
-    requires { IsInRange a }
-    ensures { result ≡ numbers.bounded (pos 2147483647) (neg_ℤ a) }
+#[inline]
+pub fn negation(image: &Image, a: i64) -> Result<i64, Trap>
+    requires { numbers.IsWithin (numbers.int_max image.now) a }
+    ensures { result ≡ numbers.bounded (numbers.int_max image.now) (neg_ℤ a) }
 {
-    bounded(-a)
+    bounded(image, -a)
 }
 
 /// Rounds toward zero.
-pub fn quotient(a: i64, b: i64) -> Result<i64, Trap>
-    requires first { IsInRange a }
-    requires second { IsInRange b }
+#[inline]
+pub fn quotient(image: &Image, a: i64, b: i64) -> Result<i64, Trap>
+    requires first { numbers.IsWithin (numbers.int_max image.now) a }
+    requires second { numbers.IsWithin (numbers.int_max image.now) b }
     ensures { result ≡ numbers.quotient a b }
 {
     if b == 0 {
@@ -62,9 +66,10 @@ pub fn quotient(a: i64, b: i64) -> Result<i64, Trap>
     }
 }
 
-pub fn remainder(a: i64, b: i64) -> Result<i64, Trap>
-    requires first { IsInRange a }
-    requires second { IsInRange b }
+#[inline]
+pub fn remainder(image: &Image, a: i64, b: i64) -> Result<i64, Trap>
+    requires first { numbers.IsWithin (numbers.int_max image.now) a }
+    requires second { numbers.IsWithin (numbers.int_max image.now) b }
     ensures { result ≡ numbers.remainder a b }
 {
     if a < 0 || b <= 0 {
