@@ -1,16 +1,18 @@
 -- From the checks of an image to the execution of one instruction, and from steps to a call's end.
-use Rattle.std.proofs.Common.{◌≡◌, ℕ, ◌+◌, ◌-◌, ◌<◌, ◌≤◌, ◌⊎◌, inl, inr, refl, sym, subst, arith, Bool, true, false, List, ◌∷◌, length, get_or, Some, None, Ok, ℤ, pos, add-one}
+use Rattle.std.proofs.Common.{◌≡◌, ℕ, ◌+◌, ◌-◌, ◌^◌, ◌<◌, ◌≤◌, ◌⊎◌, inl, inr, refl, sym, subst, arith, Bool, true, false, List, ◌∷◌, length, get_or, Some, None, Ok, ℤ, pos, add-one}
 use Rattle.std.specs.Prelude.{slice_get, slice_index, if◌then◌else◌}
+use Rattle.std.proofs.lemmas.List.Elements.{All-weaker}
 use Rattle.std.proofs.lemmas.Option.{slice_get-get_or}
 use Rattle.bk_code.specs.declared.image.Image.{Image}
 use Rattle.bk_code.specs.declared.instruction.Inst.{Inst}
 use Rattle.bk_code.specs.declared.instruction.Inst.TheVariants.{Push, Load, Store, ALoad, AStore, Add, Sub, Mul, Div, Mod, Neg, Eq, Lt, Le, Not, Jump, JumpZero, Ret}
 use Rattle.bk_code.specs.declared.instruction.Trap.{Trap}
-use Rattle.bk_code.specs.Numbers.{int_max}
+use Rattle.bk_code.specs.Numbers.{int_max, IsWithin}
 use Rattle.bk_code.specs.Step.{Config, GoesOn, Returns, Traps, calculated, is_index, element_cell, row, step}
 use Rattle.bk_code.specs.Run.{Leads}
 use Rattle.bk_code.specs.Checks.{IsLeaving, FlowsTo, pops, pushes}
 use Rattle.bk_code.specs.Laws.{AreCells}
+use Rattle.bk_code.proofs.Ranges.{abs_from_within, within_from_abs}
 use Rattle.bk_code.proofs.Runs.{keeps_fitting}
 use Rattle.bk_vm.specs.declared.end.CallEnd.TheVariants.{Done, Trap as TrapEnd, OutOfFuel}
 use Rattle.bk_vm.specs.declared.execute.Flow.{Flow}
@@ -18,7 +20,7 @@ use Rattle.bk_vm.specs.declared.execute.Flow.TheVariants.{Next, Return, Trapped}
 use Rattle.bk_vm.specs.Depth.{tops}
 use Rattle.bk_vm.specs.Ends.{EndsWith}
 use Rattle.bk_vm.proofs.Tops.{length-tops}
-use Rattle.bk_vm.specs.Flows.{outcome_of, standing, IsExecutable, IsReady, IsReadyAfter}
+use Rattle.bk_vm.specs.Flows.{IsSmall, outcome_of, standing, IsExecutable, IsReady, IsReadyAfter}
 
 -- an instruction that pushes more than it pops goes on to the next place
 grows : (inst : Inst) (at : ℕ) → (pushes inst ≤ pops inst) ⊎ (FlowsTo inst at (at + 1) × (IsLeaving inst → ⊥))
@@ -59,6 +61,12 @@ room image place stack cells inst h is =
           omega arith)
     ]
 
+-- a number within the range fits 32 bits
+small : (image : Image) (n : ℤ) → IsWithin (int_max image) n → IsSmall n
+small image n h =
+    let within : IsWithin (pos (2 ^ 31 - 1)) n = h in
+    within_from_abs (2 ^ 31) n (omega (arith, abs_from_within (2 ^ 31 - 1) n within))
+
 pub executable : (image : Image) (place depth : ℕ) (stack cells : List ℤ) (inst : Inst) → length stack ≡ 1000 →
     IsReady image (standing place (tops depth stack) cells) →
     slice_get image.code place ≡ Some inst → IsExecutable image place inst depth stack cells
@@ -74,7 +82,7 @@ executable image place depth stack cells inst long h is =
       deep = omega arith;
       room = rw many at roomy;
       long = long;
-      range = h.fits.stack;
+      range = All-weaker (IsWithin (int_max image)) IsSmall (small image) (tops depth stack) h.fits.stack;
       kept = record { many = h.fits.many; range = h.fits.cells };
     }
 

@@ -1,9 +1,9 @@
 -- What the code that executes one instruction tells.
-use Rattle.std.specs.Prelude.{◌≡◌, ℕ, ◌+◌, ◌-◌, ◌≤◌, ℤ, pos, List, length, All}
+use Rattle.std.specs.Prelude.{◌≡◌, ℕ, ◌+◌, ◌-◌, ◌^◌, ◌≤◌, ℤ, pos, List, length, All}
 use Rattle.bk_code.specs.declared.image.Image.{Image}
 use Rattle.bk_code.specs.declared.instruction.Inst.{Inst}
 use Rattle.bk_code.specs.declared.instruction.Inst.TheVariants.{Add, Sub, Mul, Div, Mod, Neg, Eq, Lt, Le, Not}
-use Rattle.bk_code.specs.Numbers.{int_max, IsWithin}
+use Rattle.bk_code.specs.Numbers.{IsWithin}
 use Rattle.bk_code.specs.Step.{Config, Outcome, Returns, Traps, next}
 use Rattle.bk_code.specs.Checks.{IsNumbered, IsDepths, IsFitting, IsGoodInst, pops, pushes}
 use Rattle.bk_code.specs.Laws.{AreCells}
@@ -22,6 +22,10 @@ abbrev pub KeepsAtEnd : Flow → List ℤ → List ℤ → Type 0
 KeepsAtEnd (Next place depth) before after = Unit {0}
 KeepsAtEnd Return before after = after ≡ before
 KeepsAtEnd (Trapped kind) before after = after ≡ before
+
+-- the number fits 32 bits, so that no sum, difference or product of two such leaves 64 bits
+abbrev pub IsSmall : ℤ → Type 0
+IsSmall = IsWithin (pos (2 ^ 31))
 
 -- the instruction takes one or two numbers from the stack and pushes one, and does nothing else
 abbrev pub IsComputation : Inst → Type 0
@@ -48,7 +52,7 @@ pub record IsExecutable (image : Image) (place : ℕ) (inst : Inst) (depth : ℕ
   pub deep : depth ≤ 1000
   pub room : depth - pops inst + pushes inst ≤ 1000
   pub long : length stack ≡ 1000
-  pub range : All (IsWithin (int_max image)) (tops depth stack)
+  pub range : All IsSmall (tops depth stack)
   pub kept : AreCells image cells
 
 -- a configuration fits a checked image

@@ -1,6 +1,7 @@
 //! The operations on whole numbers.
 ghost use Rattle.std.specs.Prelude.{◌≡◌, ℤ, neg_ℤ, ◌+ℤ◌, ◌-ℤ◌, ◌*ℤ◌};
 ghost use Rattle.bk_code.specs.Numbers as numbers;
+ghost use Rattle.bk_vm.specs.Flows.{IsSmall};
 
 use bk_code::{Image, Trap};
 
@@ -19,8 +20,8 @@ fn bounded(image: &Image, n: i64) -> Result<i64, Trap>
 
 #[inline]
 pub fn sum(image: &Image, a: i64, b: i64) -> Result<i64, Trap>
-    requires first { numbers.IsWithin (numbers.int_max image.now) a }
-    requires second { numbers.IsWithin (numbers.int_max image.now) b }
+    requires first { IsSmall a }
+    requires second { IsSmall b }
     ensures { result ≡ numbers.bounded (numbers.int_max image.now) (a +ℤ b) }
 {
     bounded(image, a + b)
@@ -28,8 +29,8 @@ pub fn sum(image: &Image, a: i64, b: i64) -> Result<i64, Trap>
 
 #[inline]
 pub fn difference(image: &Image, a: i64, b: i64) -> Result<i64, Trap>
-    requires first { numbers.IsWithin (numbers.int_max image.now) a }
-    requires second { numbers.IsWithin (numbers.int_max image.now) b }
+    requires first { IsSmall a }
+    requires second { IsSmall b }
     ensures { result ≡ numbers.bounded (numbers.int_max image.now) (a -ℤ b) }
 {
     bounded(image, a - b)
@@ -37,8 +38,8 @@ pub fn difference(image: &Image, a: i64, b: i64) -> Result<i64, Trap>
 
 #[inline]
 pub fn product(image: &Image, a: i64, b: i64) -> Result<i64, Trap>
-    requires first { numbers.IsWithin (numbers.int_max image.now) a }
-    requires second { numbers.IsWithin (numbers.int_max image.now) b }
+    requires first { IsSmall a }
+    requires second { IsSmall b }
     ensures { result ≡ numbers.bounded (numbers.int_max image.now) (a *ℤ b) }
 {
     bounded(image, a * b)
@@ -46,7 +47,7 @@ pub fn product(image: &Image, a: i64, b: i64) -> Result<i64, Trap>
 
 #[inline]
 pub fn negation(image: &Image, a: i64) -> Result<i64, Trap>
-    requires { numbers.IsWithin (numbers.int_max image.now) a }
+    requires { IsSmall a }
     ensures { result ≡ numbers.bounded (numbers.int_max image.now) (neg_ℤ a) }
 {
     bounded(image, -a)
@@ -54,9 +55,9 @@ pub fn negation(image: &Image, a: i64) -> Result<i64, Trap>
 
 /// Rounds toward zero.
 #[inline]
-pub fn quotient(image: &Image, a: i64, b: i64) -> Result<i64, Trap>
-    requires first { numbers.IsWithin (numbers.int_max image.now) a }
-    requires second { numbers.IsWithin (numbers.int_max image.now) b }
+pub fn quotient(a: i64, b: i64) -> Result<i64, Trap>
+    requires first { IsSmall a }
+    requires second { IsSmall b }
     ensures { result ≡ numbers.quotient a b }
 {
     if b == 0 {
@@ -67,9 +68,9 @@ pub fn quotient(image: &Image, a: i64, b: i64) -> Result<i64, Trap>
 }
 
 #[inline]
-pub fn remainder(image: &Image, a: i64, b: i64) -> Result<i64, Trap>
-    requires first { numbers.IsWithin (numbers.int_max image.now) a }
-    requires second { numbers.IsWithin (numbers.int_max image.now) b }
+pub fn remainder(a: i64, b: i64) -> Result<i64, Trap>
+    requires first { IsSmall a }
+    requires second { IsSmall b }
     ensures { result ≡ numbers.remainder a b }
 {
     if a < 0 || b <= 0 {

@@ -5,11 +5,11 @@
 ghost use Rattle.std.specs.Prelude.{◌≡◌, ◌≤◌, ◌<◌, ◌^◌, ◌+◌, ℕ, ℤ, pos, ◌+ℤ◌, ◌≤ℤ◌, length, List, [], ◌∷◌, All, Result, Ok, Some, None, IfSome, if◌then◌else◌};
 ghost use Rattle.bk_code.specs.Checks.{IsTarget, IsArray, pops};
 ghost use Rattle.bk_code.specs.Laws.{AreCells};
-ghost use Rattle.bk_code.specs.Numbers.{int_max, IsWithin};
+ghost use Rattle.bk_code.specs.Numbers.{int_max};
 ghost use Rattle.bk_code.specs.Step as table;
 ghost use Rattle.bk_vm.specs.Depth.{tops};
 ghost use Rattle.bk_vm.specs.Ends.{EndsWith};
-ghost use Rattle.bk_vm.specs.Flows.{IsComputation, IsExecutable, KeepsAtEnd, outcome_of, standing, IsReady, IsReadyAfter};
+ghost use Rattle.bk_vm.specs.Flows.{IsSmall, IsComputation, IsExecutable, KeepsAtEnd, outcome_of, standing, IsReady, IsReadyAfter};
 
 use crate::CallEnd;
 use crate::arithmetic::{difference, negation, product, quotient, remainder, sum};
@@ -25,31 +25,31 @@ pub enum Flow {
 
 // The topmost number, and the depth below it.
 #[inline]
-fn take_one(image: &Image, stack: &[i64], depth: usize) -> (i64, usize)
+fn take_one(stack: &[i64], depth: usize) -> (i64, usize)
     requires enough { 1 ≤ depth }
     requires long { depth ≤ length stack.now }
-    requires range { All (IsWithin (int_max image.now)) (tops depth stack.now) }
+    requires range { All IsSmall (tops depth stack.now) }
     ensures taken { tops depth stack.now ≡ result.0 ∷ tops result.1 stack.now }
     ensures depth { result.1 + 1 ≡ depth }
-    ensures range { IsWithin (int_max image.now) result.0 }
-    ensures rest { All (IsWithin (int_max image.now)) (tops result.1 stack.now) }
+    ensures range { IsSmall result.0 }
+    ensures rest { All IsSmall (tops result.1 stack.now) }
 {
     (stack[depth - 1], depth - 1)
 }
 
 // The two topmost numbers, the one below the top first, and the depth below them.
 #[inline]
-fn take_two(image: &Image, stack: &[i64], depth: usize) -> (i64, i64, usize)
+fn take_two(stack: &[i64], depth: usize) -> (i64, i64, usize)
     requires enough { 2 ≤ depth }
     requires long { depth ≤ length stack.now }
-    requires range { All (IsWithin (int_max image.now)) (tops depth stack.now) }
+    requires range { All IsSmall (tops depth stack.now) }
     ensures taken { tops depth stack.now ≡ result.1 ∷ result.0 ∷ tops result.2 stack.now }
     ensures depth { result.2 + 2 ≡ depth }
-    ensures first { IsWithin (int_max image.now) result.0 }
-    ensures second { IsWithin (int_max image.now) result.1 }
+    ensures first { IsSmall result.0 }
+    ensures second { IsSmall result.1 }
 {
-    let (b, below) = take_one(image, stack, depth);
-    let (a, rest) = take_one(image, stack, below);
+    let (b, below) = take_one(stack, depth);
+    let (a, rest) = take_one(stack, below);
     (a, b, rest)
 }
 
@@ -83,50 +83,50 @@ fn compute(image: &Image, inst: Inst, place: usize, stack: &mut [i64], depth: us
     requires enough { pops inst ≤ depth }
     requires room { depth ≤ 1000 }
     requires long { length stack.old ≡ 1000 }
-    requires range { All (IsWithin (int_max image.now)) (tops depth stack.old) }
+    requires range { All IsSmall (tops depth stack.old) }
     ensures outcome { (cells : List ℤ) →
         outcome_of result stack.new cells ≡ table.row (int_max image.now) inst place (tops depth stack.old) cells }
     ensures long { length stack.new ≡ 1000 }
 {
     match inst {
         Inst::Neg => {
-            let (a, rest) = take_one(image, stack, depth);
+            let (a, rest) = take_one(stack, depth);
             settle(place, stack, rest, negation(image, a))
         }
         Inst::Not => {
-            let (a, rest) = take_one(image, stack, depth);
+            let (a, rest) = take_one(stack, depth);
             settle(place, stack, rest, Ok(i64::from(a == 0)))
         }
         Inst::Add => {
-            let (a, b, rest) = take_two(image, stack, depth);
+            let (a, b, rest) = take_two(stack, depth);
             settle(place, stack, rest, sum(image, a, b))
         }
         Inst::Sub => {
-            let (a, b, rest) = take_two(image, stack, depth);
+            let (a, b, rest) = take_two(stack, depth);
             settle(place, stack, rest, difference(image, a, b))
         }
         Inst::Mul => {
-            let (a, b, rest) = take_two(image, stack, depth);
+            let (a, b, rest) = take_two(stack, depth);
             settle(place, stack, rest, product(image, a, b))
         }
         Inst::Div => {
-            let (a, b, rest) = take_two(image, stack, depth);
-            settle(place, stack, rest, quotient(image, a, b))
+            let (a, b, rest) = take_two(stack, depth);
+            settle(place, stack, rest, quotient(a, b))
         }
         Inst::Mod => {
-            let (a, b, rest) = take_two(image, stack, depth);
-            settle(place, stack, rest, remainder(image, a, b))
+            let (a, b, rest) = take_two(stack, depth);
+            settle(place, stack, rest, remainder(a, b))
         }
         Inst::Eq => {
-            let (a, b, rest) = take_two(image, stack, depth);
+            let (a, b, rest) = take_two(stack, depth);
             settle(place, stack, rest, Ok(i64::from(a == b)))
         }
         Inst::Lt => {
-            let (a, b, rest) = take_two(image, stack, depth);
+            let (a, b, rest) = take_two(stack, depth);
             settle(place, stack, rest, Ok(i64::from(a < b)))
         }
         Inst::Le => {
-            let (a, b, rest) = take_two(image, stack, depth);
+            let (a, b, rest) = take_two(stack, depth);
             settle(place, stack, rest, Ok(i64::from(a <= b)))
         }
         _ => unreachable!(),
@@ -135,9 +135,9 @@ fn compute(image: &Image, inst: Inst, place: usize, stack: &mut [i64], depth: us
 
 // The cell of an array's element.
 #[inline]
-fn element(image: &Image, base: u32, low: i64, count: u32, index: i64) -> Option<usize>
-    requires low { IsWithin (int_max image.now) low }
-    requires index { IsWithin (int_max image.now) index }
+fn element(base: u32, low: i64, count: u32, index: i64) -> Option<usize>
+    requires low { IsSmall low }
+    requires index { IsSmall index }
     ensures cell { result ≡
         (if table.is_index low count index then Some (table.element_cell base low index) else None) }
     ensures within { IfSome result (λ cell. cell < base + count) }
@@ -163,7 +163,6 @@ fn target(place: usize, distance: i32) -> usize
 // Pushes an element of an array, whose index is on the stack.
 #[inline]
 fn load_element(
-    image: &Image,
     place: usize,
     stack: &mut [i64],
     depth: usize,
@@ -176,15 +175,15 @@ fn load_element(
     requires enough { 1 ≤ depth }
     requires room { depth ≤ 1000 }
     requires long { length stack.old ≡ 1000 }
-    requires range { All (IsWithin (int_max image.now)) (tops depth stack.old) }
-    requires low { IsWithin (int_max image.now) low }
+    requires range { All IsSmall (tops depth stack.old) }
+    requires low { IsSmall low }
     requires array { base + count ≤ length cells.now }
-    ensures outcome { outcome_of result stack.new cells.now ≡
-        table.row (int_max image.now) (Inst.ALoad base low count) place (tops depth stack.old) cells.now }
+    ensures outcome { (max : ℤ) → outcome_of result stack.new cells.now ≡
+        table.row max (Inst.ALoad base low count) place (tops depth stack.old) cells.now }
     ensures long { length stack.new ≡ 1000 }
 {
-    let (index, rest) = take_one(image, stack, depth);
-    match element(image, base, low, count, index) {
+    let (index, rest) = take_one(stack, depth);
+    match element(base, low, count, index) {
         Some(cell) => settle(place, stack, rest, Ok(cells[cell])),
         None => Flow::Trapped(Trap::Index),
     }
@@ -193,7 +192,6 @@ fn load_element(
 // Writes an element of an array, whose index and number are on the stack.
 #[inline]
 fn store_element(
-    image: &Image,
     place: usize,
     stack: &[i64],
     depth: usize,
@@ -205,15 +203,15 @@ fn store_element(
     requires place { place < 2 ^ 32 }
     requires enough { 2 ≤ depth }
     requires long { depth ≤ length stack.now }
-    requires range { All (IsWithin (int_max image.now)) (tops depth stack.now) }
-    requires low { IsWithin (int_max image.now) low }
+    requires range { All IsSmall (tops depth stack.now) }
+    requires low { IsSmall low }
     requires array { base + count ≤ length cells.old }
-    ensures outcome { outcome_of result stack.now cells.new ≡
-        table.row (int_max image.now) (Inst.AStore base low count) place (tops depth stack.now) cells.old }
+    ensures outcome { (max : ℤ) → outcome_of result stack.now cells.new ≡
+        table.row max (Inst.AStore base low count) place (tops depth stack.now) cells.old }
     ensures kept { KeepsAtEnd result cells.old cells.new }
 {
-    let (index, number, rest) = take_two(image, stack, depth);
-    match element(image, base, low, count, index) {
+    let (index, number, rest) = take_two(stack, depth);
+    match element(base, low, count, index) {
         Some(cell) => {
             cells[cell] = number;
             Flow::Next {
@@ -246,7 +244,7 @@ fn execute(
         Inst::Push(number) => settle(place, stack, depth, Ok(number)),
         Inst::Load(slot) => settle(place, stack, depth, Ok(cells[slot as usize])),
         Inst::Store(slot) => {
-            let (number, rest) = take_one(image, stack, depth);
+            let (number, rest) = take_one(stack, depth);
             cells[slot as usize] = number;
             Flow::Next {
                 place: place + 1,
@@ -254,17 +252,17 @@ fn execute(
             }
         }
         Inst::ALoad { base, low, count } => {
-            load_element(image, place, stack, depth, cells, base, low, count)
+            load_element(place, stack, depth, cells, base, low, count)
         }
         Inst::AStore { base, low, count } => {
-            store_element(image, place, stack, depth, cells, base, low, count)
+            store_element(place, stack, depth, cells, base, low, count)
         }
         Inst::Jump(distance) => Flow::Next {
             place: target(place, distance),
             depth,
         },
         Inst::JumpZero(distance) => {
-            let (number, rest) = take_one(image, stack, depth);
+            let (number, rest) = take_one(stack, depth);
             let place = if number == 0 {
                 target(place, distance)
             } else {
