@@ -36,10 +36,10 @@ pub entry_good : (image : Image) (op : ℕ) (args : List ℤ) (outs : ℕ) → I
 entry_good image op args outs checked t = All-slice_get (IsGoodEntry image) image.ops op t.entry checked.numbered.ops t.named
 
 pub call_ready : (image : Image) (op : ℕ) (args : List ℤ) (outs : ℕ) (cells : List ℤ) (t : TakesCall image op args outs) → IsChecked image → AreCells image cells →
-    (read : OpEntry) (inputs : List Parameter) (stack written : List ℤ) → read ≡ t.entry → inputs ≡ read.inputs → stack ≡ [] → written ≡ placed inputs args cells →
-    IsReady image (standing read.start stack written)
-call_ready image op args outs cells t checked kept read inputs stack written same from empty put =
-    rw (empty, put, from, same) (record {
+    (read : OpEntry) (inputs : List Parameter) (written : List ℤ) → read ≡ t.entry → inputs ≡ read.inputs → written ≡ placed inputs args cells →
+    IsReady image (standing read.start [] written)
+call_ready image op args outs cells t checked kept read inputs written same from put =
+    rw (put, from, same) (record {
       numbered = checked.numbered;
       depths = checked.depths;
       deep = checked.fitting;
@@ -47,14 +47,14 @@ call_ready image op args outs cells t checked kept read inputs stack written sam
     })
 
 pub call_ends : (image : Image) (op : ℕ) (args : List ℤ) (outs : ℕ) (cells : List ℤ) (t : TakesCall image op args outs) (fuel : ℕ)
-    (read : OpEntry) (inputs : List Parameter) (stack written before : List ℤ) (end : CallEnd) (after given : List ℤ) →
-    read ≡ t.entry → inputs ≡ read.inputs → stack ≡ [] → written ≡ placed inputs args cells →
-    EndsWith image fuel (standing read.start stack written) end after → given ≡ outs_after read.outputs end after before →
+    (read : OpEntry) (inputs : List Parameter) (written before : List ℤ) (end : CallEnd) (after given : List ℤ) →
+    read ≡ t.entry → inputs ≡ read.inputs → written ≡ placed inputs args cells →
+    EndsWith image fuel (standing read.start [] written) end after → given ≡ outs_after read.outputs end after before →
     CallEndsWith image op args fuel cells before end after given
-call_ends image op args outs cells t fuel read inputs stack written before end after given same from empty put ends out = record {
+call_ends image op args outs cells t fuel read inputs written before end after given same from put ends out = record {
   entry = t.entry;
   named = t.named;
-  ends = rw (empty, put, from, same) at ends;
+  ends = rw (put, from, same) at ends;
   outputs = rw same at out;
 }
 

@@ -1,22 +1,26 @@
 -- From the checks of an image to the execution of one instruction, and from steps to a call's end.
-use Rattle.std.proofs.Common.{◌≡◌, ℕ, ◌+◌, ◌-◌, ◌<◌, ◌≤◌, ◌⊎◌, inl, inr, refl, sym, subst, arith, Bool, true, false, List, ◌∷◌, length, get_or, Some, None, Ok, ℤ, pos, add-one}
+use Rattle.std.proofs.Common.{◌≡◌, ℕ, ◌+◌, ◌-◌, ◌^◌, ◌<◌, ◌≤◌, ◌⊎◌, inl, inr, refl, sym, subst, arith, Bool, true, false, List, ◌∷◌, length, get_or, Some, None, Ok, ℤ, pos, add-one}
 use Rattle.std.specs.Prelude.{slice_get, slice_index, if◌then◌else◌}
+use Rattle.std.proofs.lemmas.List.Elements.{All-weaker}
 use Rattle.std.proofs.lemmas.Option.{slice_get-get_or}
 use Rattle.bk_code.specs.declared.image.Image.{Image}
 use Rattle.bk_code.specs.declared.instruction.Inst.{Inst}
 use Rattle.bk_code.specs.declared.instruction.Inst.TheVariants.{Push, Load, Store, ALoad, AStore, Add, Sub, Mul, Div, Mod, Neg, Eq, Lt, Le, Not, Jump, JumpZero, Ret}
 use Rattle.bk_code.specs.declared.instruction.Trap.{Trap}
-use Rattle.bk_code.specs.Numbers.{int_max}
+use Rattle.bk_code.specs.Numbers.{int_max, IsWithin}
 use Rattle.bk_code.specs.Step.{Config, GoesOn, Returns, Traps, calculated, is_index, element_cell, row, step}
 use Rattle.bk_code.specs.Run.{Leads}
 use Rattle.bk_code.specs.Checks.{IsLeaving, FlowsTo, pops, pushes}
 use Rattle.bk_code.specs.Laws.{AreCells}
+use Rattle.bk_code.proofs.Ranges.{abs_from_within, within_from_abs}
 use Rattle.bk_code.proofs.Runs.{keeps_fitting}
 use Rattle.bk_vm.specs.declared.end.CallEnd.TheVariants.{Done, Trap as TrapEnd, OutOfFuel}
 use Rattle.bk_vm.specs.declared.execute.Flow.{Flow}
 use Rattle.bk_vm.specs.declared.execute.Flow.TheVariants.{Next, Return, Trapped}
+use Rattle.bk_vm.specs.Depth.{tops}
 use Rattle.bk_vm.specs.Ends.{EndsWith}
-use Rattle.bk_vm.specs.Flows.{outcome_of, standing, IsExecutable, IsReady, IsReadyAfter}
+use Rattle.bk_vm.proofs.Tops.{length-tops}
+use Rattle.bk_vm.specs.Flows.{IsSmall, outcome_of, standing, IsExecutable, IsReady, IsReadyAfter}
 
 -- an instruction that pushes more than it pops goes on to the next place
 grows : (inst : Inst) (at : ℕ) → (pushes inst ≤ pops inst) ⊎ (FlowsTo inst at (at + 1) × (IsLeaving inst → ⊥))
@@ -57,18 +61,28 @@ room image place stack cells inst h is =
           omega arith)
     ]
 
-pub executable : (image : Image) (place : ℕ) (stack cells : List ℤ) (inst : Inst) → IsReady image (standing place stack cells) →
-    slice_get image.code place ≡ Some inst → IsExecutable image place inst stack cells
-executable image place stack cells inst h is =
-    let deep : length stack ≡ slice_index h.depths place = h.fits.deep in
+-- a number within the range fits 32 bits
+small : (image : Image) (n : ℤ) → IsWithin (int_max image) n → IsSmall n
+small image n h =
+    let within : IsWithin (pos (2 ^ 31 - 1)) n = h in
+    within_from_abs (2 ^ 31) n (omega (arith, abs_from_within (2 ^ 31 - 1) n within))
+
+pub executable : (image : Image) (place depth : ℕ) (stack cells : List ℤ) (inst : Inst) → length stack ≡ 1000 →
+    IsReady image (standing place (tops depth stack) cells) →
+    slice_get image.code place ≡ Some inst → IsExecutable image place inst depth stack cells
+executable image place depth stack cells inst long h is =
+    let many : length (tops depth stack) ≡ depth = length-tops depth stack in
+    let roomy = room image place (tops depth stack) cells inst h is in
+    let deep : length (tops depth stack) ≡ slice_index h.depths place = h.fits.deep in
     let limit : slice_index h.depths place ≤ 1000 = h.deep.limit place h.fits.place in
     let pop : pops inst ≤ slice_index h.depths place = h.deep.enough place inst is in
     record {
       operands = h.numbered.insts place inst is;
       enough = omega arith;
       deep = omega arith;
-      room = room image place stack cells inst h is;
-      range = h.fits.stack;
+      room = rw many at roomy;
+      long = long;
+      range = All-weaker (IsWithin (int_max image)) IsSmall (small image) (tops depth stack) h.fits.stack;
       kept = record { many = h.fits.many; range = h.fits.cells };
     }
 
@@ -79,11 +93,11 @@ step_is image place stack cells inst is = rw is refl
 
 pub ready_after : (image : Image) (place : ℕ) (stack cells : List ℤ) (flow : Flow) (new written : List ℤ) → IsReady image (standing place stack cells) →
     outcome_of flow new written ≡ step image (standing place stack cells) → IsReadyAfter image flow new written
-ready_after image place stack cells (Next to) new written h is = record {
+ready_after image place stack cells (Next to depth) new written h is = record {
   numbered = h.numbered;
   depths = h.depths;
   deep = h.deep;
-  fits = keeps_fitting image h.depths (standing place stack cells) (standing to new written) h.numbered h.deep h.fits (sym is);
+  fits = keeps_fitting image h.depths (standing place stack cells) (standing to (tops depth new) written) h.numbered h.deep h.fits (sym is);
 }
 ready_after image place stack cells Return new written h is = tt
 ready_after image place stack cells (Trapped kind) new written h is = tt

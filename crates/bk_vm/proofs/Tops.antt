@@ -1,10 +1,15 @@
 -- The numbers on a stack after a write above its top.
-use Rattle.std.proofs.Common.{◌≡◌, ℕ, zero, suc, ◌+◌, ◌<◌, ◌≤◌, refl, ap, arith, List, ◌∷◌, length, get_or, set, ℤ, pos, add-one, get_or-set_same, get_or-set_other}
+use Rattle.std.proofs.Common.{◌≡◌, ℕ, zero, suc, ◌+◌, ◌-◌, ◌<◌, ◌≤◌, refl, ap, arith, List, ◌∷◌, length, get_or, set, ℤ, pos, add-one, get_or-set_same, get_or-set_other}
 use Rattle.bk_vm.specs.Depth.{tops}
 
 pub length-tops : (depth : ℕ) (numbers : List ℤ) → length (tops depth numbers) ≡ depth
 length-tops zero numbers = refl
 length-tops (suc depth) numbers = ap suc (length-tops depth numbers)
+
+-- the top of a stack and what is below it
+pub tops-one : (depth : ℕ) (numbers : List ℤ) → 1 ≤ depth → tops depth numbers ≡ get_or numbers (depth - 1) (pos 0) ∷ tops (depth - 1) numbers
+tops-one zero numbers some = absurd (omega (arith, some))
+tops-one (suc depth) numbers some = let e : suc depth - 1 ≡ depth = omega arith in rw e refl
 
 tops-set : (depth at : ℕ) (n : ℤ) (numbers : List ℤ) → depth ≤ at → tops depth (set numbers at n) ≡ tops depth numbers
 tops-set zero at n numbers le = refl

@@ -1,5 +1,5 @@
 -- What the code that executes one instruction tells.
-use Rattle.std.specs.Prelude.{◌≡◌, ℕ, ◌+◌, ◌-◌, ◌≤◌, ℤ, pos, List, length, All}
+use Rattle.std.specs.Prelude.{◌≡◌, ℕ, ◌+◌, ◌-◌, ◌^◌, ◌≤◌, ℤ, pos, List, length, All}
 use Rattle.bk_code.specs.declared.image.Image.{Image}
 use Rattle.bk_code.specs.declared.instruction.Inst.{Inst}
 use Rattle.bk_code.specs.declared.instruction.Inst.TheVariants.{Add, Sub, Mul, Div, Mod, Neg, Eq, Lt, Le, Not}
@@ -7,24 +7,25 @@ use Rattle.bk_code.specs.Numbers.{IsWithin}
 use Rattle.bk_code.specs.Step.{Config, Outcome, Returns, Traps, next}
 use Rattle.bk_code.specs.Checks.{IsNumbered, IsDepths, IsFitting, IsGoodInst, pops, pushes}
 use Rattle.bk_code.specs.Laws.{AreCells}
+use Rattle.bk_vm.specs.Depth.{tops}
 use Rattle.bk_vm.specs.declared.execute.Flow.{Flow}
 use Rattle.bk_vm.specs.declared.execute.Flow.TheVariants.{Next, Return, Trapped}
 
--- the outcome that a flow of control stands for, with the stack and the cells after it
+-- the outcome that a flow of control stands for, with the numbers of the stack and the cells after it
 abbrev pub outcome_of : Flow → List ℤ → List ℤ → Outcome
-outcome_of (Next place) stack cells = next place stack cells
+outcome_of (Next place depth) stack cells = next place (tops depth stack) cells
 outcome_of Return stack cells = Returns
 outcome_of (Trapped kind) stack cells = Traps kind
 
 -- the cells are as before where the call ends
 abbrev pub KeepsAtEnd : Flow → List ℤ → List ℤ → Type 0
-KeepsAtEnd (Next place) before after = Unit {0}
+KeepsAtEnd (Next place depth) before after = Unit {0}
 KeepsAtEnd Return before after = after ≡ before
 KeepsAtEnd (Trapped kind) before after = after ≡ before
 
--- the number lies in the range of whole numbers
-abbrev pub IsInRange : ℤ → Type 0
-IsInRange = IsWithin (pos 2147483647)
+-- the number fits 32 bits, so that no sum, difference or product of two such leaves 64 bits
+abbrev pub IsSmall : ℤ → Type 0
+IsSmall = IsWithin (pos (2 ^ 31))
 
 -- the instruction takes one or two numbers from the stack and pushes one, and does nothing else
 abbrev pub IsComputation : Inst → Type 0
@@ -45,12 +46,13 @@ abbrev pub standing : ℕ → List ℤ → List ℤ → Config
 standing place stack cells = record { place = place; stack = stack; cells = cells }
 
 -- an instruction may be executed at a place: its operands are good, the stack has what it pops and room for what it pushes
-pub record IsExecutable (image : Image) (place : ℕ) (inst : Inst) (stack cells : List ℤ) : Type 0 where
+pub record IsExecutable (image : Image) (place : ℕ) (inst : Inst) (depth : ℕ) (stack cells : List ℤ) : Type 0 where
   pub operands : IsGoodInst image place inst
-  pub enough : pops inst ≤ length stack
-  pub deep : length stack ≤ 1000
-  pub room : length stack - pops inst + pushes inst ≤ 1000
-  pub range : All IsInRange stack
+  pub enough : pops inst ≤ depth
+  pub deep : depth ≤ 1000
+  pub room : depth - pops inst + pushes inst ≤ 1000
+  pub long : length stack ≡ 1000
+  pub range : All IsSmall (tops depth stack)
   pub kept : AreCells image cells
 
 -- a configuration fits a checked image
@@ -62,6 +64,6 @@ pub record IsReady (image : Image) (c : Config) : Type 0 where
 
 -- where control goes on, the configuration fits the image again
 abbrev pub IsReadyAfter : Image → Flow → List ℤ → List ℤ → Type 0
-IsReadyAfter image (Next place) stack cells = IsReady image (standing place stack cells)
+IsReadyAfter image (Next place depth) stack cells = IsReady image (standing place (tops depth stack) cells)
 IsReadyAfter image Return stack cells = Unit {0}
 IsReadyAfter image (Trapped kind) stack cells = Unit {0}

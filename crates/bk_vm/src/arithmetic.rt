@@ -1,58 +1,63 @@
 //! The operations on whole numbers.
-ghost use Rattle.std.specs.Prelude.{◌≡◌, ℤ, pos, neg_ℤ, ◌+ℤ◌, ◌-ℤ◌, ◌*ℤ◌};
+ghost use Rattle.std.specs.Prelude.{◌≡◌, ℤ, neg_ℤ, ◌+ℤ◌, ◌-ℤ◌, ◌*ℤ◌};
 ghost use Rattle.bk_code.specs.Numbers as numbers;
-ghost use Rattle.bk_vm.specs.Flows.{IsInRange};
+ghost use Rattle.bk_vm.specs.Flows.{IsSmall};
 
-use bk_code::Trap;
+use bk_code::{Image, Trap};
 
-/// MAXINT; the least number is its negation.
-const MAX: i64 = 2147483647;
-
-fn bounded(n: i64) -> Result<i64, Trap>
-    ensures { result ≡ numbers.bounded (pos 2147483647) n }
+// The least number is the negation of the greatest.
+#[inline]
+fn bounded(image: &Image, n: i64) -> Result<i64, Trap>
+    ensures { result ≡ numbers.bounded (numbers.int_max image.now) n }
 {
-    if n < -MAX || n > MAX {
+    let max = image.int_max();
+    if n < -max || n > max {
         Err(Trap::Overflow)
     } else {
         Ok(n)
     }
 }
 
-pub fn sum(a: i64, b: i64) -> Result<i64, Trap>
-    requires first { IsInRange a }
-    requires second { IsInRange b }
-    ensures { result ≡ numbers.bounded (pos 2147483647) (a +ℤ b) }
+#[inline]
+pub fn sum(image: &Image, a: i64, b: i64) -> Result<i64, Trap>
+    requires first { IsSmall a }
+    requires second { IsSmall b }
+    ensures { result ≡ numbers.bounded (numbers.int_max image.now) (a +ℤ b) }
 {
-    bounded(a + b)
+    bounded(image, a + b)
 }
 
-pub fn difference(a: i64, b: i64) -> Result<i64, Trap>
-    requires first { IsInRange a }
-    requires second { IsInRange b }
-    ensures { result ≡ numbers.bounded (pos 2147483647) (a -ℤ b) }
+#[inline]
+pub fn difference(image: &Image, a: i64, b: i64) -> Result<i64, Trap>
+    requires first { IsSmall a }
+    requires second { IsSmall b }
+    ensures { result ≡ numbers.bounded (numbers.int_max image.now) (a -ℤ b) }
 {
-    bounded(a - b)
+    bounded(image, a - b)
 }
 
-pub fn product(a: i64, b: i64) -> Result<i64, Trap>
-    requires first { IsInRange a }
-    requires second { IsInRange b }
-    ensures { result ≡ numbers.bounded (pos 2147483647) (a *ℤ b) }
+#[inline]
+pub fn product(image: &Image, a: i64, b: i64) -> Result<i64, Trap>
+    requires first { IsSmall a }
+    requires second { IsSmall b }
+    ensures { result ≡ numbers.bounded (numbers.int_max image.now) (a *ℤ b) }
 {
-    bounded(a * b)
+    bounded(image, a * b)
 }
 
-pub fn negation(a: i64) -> Result<i64, Trap>
-    requires { IsInRange a }
-    ensures { result ≡ numbers.bounded (pos 2147483647) (neg_ℤ a) }
+#[inline]
+pub fn negation(image: &Image, a: i64) -> Result<i64, Trap>
+    requires { IsSmall a }
+    ensures { result ≡ numbers.bounded (numbers.int_max image.now) (neg_ℤ a) }
 {
-    bounded(-a)
+    bounded(image, -a)
 }
 
 /// Rounds toward zero.
+#[inline]
 pub fn quotient(a: i64, b: i64) -> Result<i64, Trap>
-    requires first { IsInRange a }
-    requires second { IsInRange b }
+    requires first { IsSmall a }
+    requires second { IsSmall b }
     ensures { result ≡ numbers.quotient a b }
 {
     if b == 0 {
@@ -62,9 +67,10 @@ pub fn quotient(a: i64, b: i64) -> Result<i64, Trap>
     }
 }
 
+#[inline]
 pub fn remainder(a: i64, b: i64) -> Result<i64, Trap>
-    requires first { IsInRange a }
-    requires second { IsInRange b }
+    requires first { IsSmall a }
+    requires second { IsSmall b }
     ensures { result ≡ numbers.remainder a b }
 {
     if a < 0 || b <= 0 {

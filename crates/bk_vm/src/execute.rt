@@ -1,123 +1,143 @@
 //! The execution of code, one instruction after another.
-ghost use Rattle.std.specs.Prelude.{◌≡◌, ◌≤◌, ◌<◌, ◌^◌, ◌+◌, ℕ, ℤ, pos, ◌+ℤ◌, ◌≤ℤ◌, length, List, ◌∷◌, All, Result, Ok, Some, None, IfSome, if◌then◌else◌};
+//!
+//! The loop of `run` is the machine's speed. The stack is a slice and a depth that is passed by value, so that with all
+//! functions of this file inlined the place, the depth and what was calculated stay in registers.
+ghost use Rattle.std.specs.Prelude.{◌≡◌, ◌≤◌, ◌<◌, ◌^◌, ◌+◌, ℕ, ℤ, pos, ◌+ℤ◌, ◌≤ℤ◌, length, List, [], ◌∷◌, All, Result, Ok, Some, None, IfSome, if◌then◌else◌};
 ghost use Rattle.bk_code.specs.Checks.{IsTarget, IsArray, pops};
 ghost use Rattle.bk_code.specs.Laws.{AreCells};
 ghost use Rattle.bk_code.specs.Numbers.{int_max};
 ghost use Rattle.bk_code.specs.Step as table;
+ghost use Rattle.bk_vm.specs.Depth.{tops};
 ghost use Rattle.bk_vm.specs.Ends.{EndsWith};
-ghost use Rattle.bk_vm.specs.Flows.{IsInRange, IsComputation, IsExecutable, KeepsAtEnd, outcome_of, standing, IsReady, IsReadyAfter};
+ghost use Rattle.bk_vm.specs.Flows.{IsSmall, IsComputation, IsExecutable, KeepsAtEnd, outcome_of, standing, IsReady, IsReadyAfter};
 
 use crate::CallEnd;
 use crate::arithmetic::{difference, negation, product, quotient, remainder, sum};
-use crate::stack::Stack;
 use bk_code::{Image, Inst, Trap};
 
-/// Where control goes after an instruction.
+/// Where control goes after an instruction, and the depth of the stack there.
 #[derive(Clone, Copy)]
 pub enum Flow {
-    Next(usize),
+    Next { place: usize, depth: usize },
     Return,
     Trapped(Trap),
 }
 
-// Takes the topmost number.
-fn take_one(stack: &mut Stack) -> i64
-    requires enough { 1 ≤ length stack.old }
-    requires range { All IsInRange stack.old }
-    ensures taken { stack.old ≡ result ∷ stack.new }
-    ensures range { IsInRange result }
+// The topmost number, and the depth below it.
+#[inline]
+fn take_one(stack: &[i64], depth: usize) -> (i64, usize)
+    requires enough { 1 ≤ depth }
+    requires long { depth ≤ length stack.now }
+    requires range { All IsSmall (tops depth stack.now) }
+    ensures taken { tops depth stack.now ≡ result.0 ∷ tops result.1 stack.now }
+    ensures depth { result.1 + 1 ≡ depth }
+    ensures range { IsSmall result.0 }
+    ensures rest { All IsSmall (tops result.1 stack.now) }
 {
-    stack.pop()
+    (stack[depth - 1], depth - 1)
 }
 
-// Takes the two topmost numbers, and gives the one below the top first.
-fn take_two(stack: &mut Stack) -> (i64, i64)
-    requires enough { 2 ≤ length stack.old }
-    requires range { All IsInRange stack.old }
-    ensures taken { stack.old ≡ result.1 ∷ result.0 ∷ stack.new }
-    ensures first { IsInRange result.0 }
-    ensures second { IsInRange result.1 }
+// The two topmost numbers, the one below the top first, and the depth below them.
+#[inline]
+fn take_two(stack: &[i64], depth: usize) -> (i64, i64, usize)
+    requires enough { 2 ≤ depth }
+    requires long { depth ≤ length stack.now }
+    requires range { All IsSmall (tops depth stack.now) }
+    ensures taken { tops depth stack.now ≡ result.1 ∷ result.0 ∷ tops result.2 stack.now }
+    ensures depth { result.2 + 2 ≡ depth }
+    ensures first { IsSmall result.0 }
+    ensures second { IsSmall result.1 }
 {
-    let b = stack.pop();
-    let a = stack.pop();
-    (a, b)
+    let (b, below) = take_one(stack, depth);
+    let (a, rest) = take_one(stack, below);
+    (a, b, rest)
 }
 
-// Pushes what was calculated and goes on behind a place, or traps.
-fn settle(place: usize, stack: &mut Stack, answer: Result<i64, Trap>) -> Flow
+// Puts what was calculated on a stack of this depth and goes on behind a place, or traps.
+#[inline]
+fn settle(place: usize, stack: &mut [i64], depth: usize, answer: Result<i64, Trap>) -> Flow
     requires place { place < 2 ^ 32 }
-    requires room { length stack.old < 1000 }
+    requires room { depth < 1000 }
+    requires long { length stack.old ≡ 1000 }
     ensures outcome { (cells : List ℤ) →
-        outcome_of result stack.new cells ≡ table.calculated (place + 1) stack.old cells answer }
+        outcome_of result stack.new cells ≡ table.calculated (place + 1) (tops depth stack.old) cells answer }
+    ensures long { length stack.new ≡ 1000 }
 {
     match answer {
         Ok(number) => {
-            stack.push(number);
-            Flow::Next(place + 1)
+            stack[depth] = number;
+            Flow::Next {
+                place: place + 1,
+                depth: depth + 1,
+            }
         }
         Err(trap) => Flow::Trapped(trap),
     }
 }
 
 // Executes an instruction that takes one or two numbers and pushes one.
-fn compute(inst: Inst, place: usize, stack: &mut Stack) -> Flow
+#[inline]
+fn compute(image: &Image, inst: Inst, place: usize, stack: &mut [i64], depth: usize) -> Flow
     requires computes { IsComputation inst }
     requires place { place < 2 ^ 32 }
-    requires enough { pops inst ≤ length stack.old }
-    requires room { length stack.old ≤ 1000 }
-    requires range { All IsInRange stack.old }
+    requires enough { pops inst ≤ depth }
+    requires room { depth ≤ 1000 }
+    requires long { length stack.old ≡ 1000 }
+    requires range { All IsSmall (tops depth stack.old) }
     ensures outcome { (cells : List ℤ) →
-        outcome_of result stack.new cells ≡ table.row (pos 2147483647) inst place stack.old cells }
+        outcome_of result stack.new cells ≡ table.row (int_max image.now) inst place (tops depth stack.old) cells }
+    ensures long { length stack.new ≡ 1000 }
 {
     match inst {
         Inst::Neg => {
-            let a = take_one(stack);
-            settle(place, stack, negation(a))
+            let (a, rest) = take_one(stack, depth);
+            settle(place, stack, rest, negation(image, a))
         }
         Inst::Not => {
-            let a = take_one(stack);
-            settle(place, stack, Ok(i64::from(a == 0)))
+            let (a, rest) = take_one(stack, depth);
+            settle(place, stack, rest, Ok(i64::from(a == 0)))
         }
         Inst::Add => {
-            let (a, b) = take_two(stack);
-            settle(place, stack, sum(a, b))
+            let (a, b, rest) = take_two(stack, depth);
+            settle(place, stack, rest, sum(image, a, b))
         }
         Inst::Sub => {
-            let (a, b) = take_two(stack);
-            settle(place, stack, difference(a, b))
+            let (a, b, rest) = take_two(stack, depth);
+            settle(place, stack, rest, difference(image, a, b))
         }
         Inst::Mul => {
-            let (a, b) = take_two(stack);
-            settle(place, stack, product(a, b))
+            let (a, b, rest) = take_two(stack, depth);
+            settle(place, stack, rest, product(image, a, b))
         }
         Inst::Div => {
-            let (a, b) = take_two(stack);
-            settle(place, stack, quotient(a, b))
+            let (a, b, rest) = take_two(stack, depth);
+            settle(place, stack, rest, quotient(a, b))
         }
         Inst::Mod => {
-            let (a, b) = take_two(stack);
-            settle(place, stack, remainder(a, b))
+            let (a, b, rest) = take_two(stack, depth);
+            settle(place, stack, rest, remainder(a, b))
         }
         Inst::Eq => {
-            let (a, b) = take_two(stack);
-            settle(place, stack, Ok(i64::from(a == b)))
+            let (a, b, rest) = take_two(stack, depth);
+            settle(place, stack, rest, Ok(i64::from(a == b)))
         }
         Inst::Lt => {
-            let (a, b) = take_two(stack);
-            settle(place, stack, Ok(i64::from(a < b)))
+            let (a, b, rest) = take_two(stack, depth);
+            settle(place, stack, rest, Ok(i64::from(a < b)))
         }
         Inst::Le => {
-            let (a, b) = take_two(stack);
-            settle(place, stack, Ok(i64::from(a <= b)))
+            let (a, b, rest) = take_two(stack, depth);
+            settle(place, stack, rest, Ok(i64::from(a <= b)))
         }
         _ => unreachable!(),
     }
 }
 
 // The cell of an array's element.
+#[inline]
 fn element(base: u32, low: i64, count: u32, index: i64) -> Option<usize>
-    requires low { IsInRange low }
-    requires index { IsInRange index }
+    requires low { IsSmall low }
+    requires index { IsSmall index }
     ensures cell { result ≡
         (if table.is_index low count index then Some (table.element_cell base low index) else None) }
     ensures within { IfSome result (λ cell. cell < base + count) }
@@ -131,6 +151,7 @@ fn element(base: u32, low: i64, count: u32, index: i64) -> Option<usize>
 }
 
 // The target of a jump.
+#[inline]
 fn target(place: usize, distance: i32) -> usize
     requires place { place < 2 ^ 32 }
     requires target { pos 0 ≤ℤ (pos place +ℤ distance) }
@@ -140,112 +161,162 @@ fn target(place: usize, distance: i32) -> usize
 }
 
 // Pushes an element of an array, whose index is on the stack.
+#[inline]
 fn load_element(
     place: usize,
-    stack: &mut Stack,
+    stack: &mut [i64],
+    depth: usize,
     cells: &[i64],
     base: u32,
     low: i64,
     count: u32,
 ) -> Flow
     requires place { place < 2 ^ 32 }
-    requires enough { 1 ≤ length stack.old }
-    requires room { length stack.old ≤ 1000 }
-    requires range { All IsInRange stack.old }
-    requires low { IsInRange low }
+    requires enough { 1 ≤ depth }
+    requires room { depth ≤ 1000 }
+    requires long { length stack.old ≡ 1000 }
+    requires range { All IsSmall (tops depth stack.old) }
+    requires low { IsSmall low }
     requires array { base + count ≤ length cells.now }
-    ensures outcome { outcome_of result stack.new cells.now ≡
-        table.row (pos 2147483647) (Inst.ALoad base low count) place stack.old cells.now }
+    ensures outcome { (max : ℤ) → outcome_of result stack.new cells.now ≡
+        table.row max (Inst.ALoad base low count) place (tops depth stack.old) cells.now }
+    ensures long { length stack.new ≡ 1000 }
 {
-    let index = take_one(stack);
+    let (index, rest) = take_one(stack, depth);
     match element(base, low, count, index) {
-        Some(cell) => settle(place, stack, Ok(cells[cell])),
+        Some(cell) => settle(place, stack, rest, Ok(cells[cell])),
         None => Flow::Trapped(Trap::Index),
     }
 }
 
 // Writes an element of an array, whose index and number are on the stack.
+#[inline]
 fn store_element(
     place: usize,
-    stack: &mut Stack,
+    stack: &[i64],
+    depth: usize,
     cells: &mut [i64],
     base: u32,
     low: i64,
     count: u32,
 ) -> Flow
     requires place { place < 2 ^ 32 }
-    requires enough { 2 ≤ length stack.old }
-    requires range { All IsInRange stack.old }
-    requires low { IsInRange low }
+    requires enough { 2 ≤ depth }
+    requires long { depth ≤ length stack.now }
+    requires range { All IsSmall (tops depth stack.now) }
+    requires low { IsSmall low }
     requires array { base + count ≤ length cells.old }
-    ensures outcome { outcome_of result stack.new cells.new ≡
-        table.row (pos 2147483647) (Inst.AStore base low count) place stack.old cells.old }
+    ensures outcome { (max : ℤ) → outcome_of result stack.now cells.new ≡
+        table.row max (Inst.AStore base low count) place (tops depth stack.now) cells.old }
     ensures kept { KeepsAtEnd result cells.old cells.new }
 {
-    let (index, number) = take_two(stack);
+    let (index, number, rest) = take_two(stack, depth);
     match element(base, low, count, index) {
         Some(cell) => {
             cells[cell] = number;
-            Flow::Next(place + 1)
+            Flow::Next {
+                place: place + 1,
+                depth: rest,
+            }
         }
         None => Flow::Trapped(Trap::Index),
     }
 }
 
 // Executes an instruction at a place.
-fn execute(image: &Image, inst: Inst, place: usize, stack: &mut Stack, cells: &mut [i64]) -> Flow
+#[inline]
+fn execute(
+    image: &Image,
+    inst: Inst,
+    place: usize,
+    stack: &mut [i64],
+    depth: usize,
+    cells: &mut [i64],
+) -> Flow
     requires place { place < 2 ^ 32 }
-    requires executable { IsExecutable image.now place inst stack.old cells.old }
+    requires executable { IsExecutable image.now place inst depth stack.old cells.old }
     ensures outcome { outcome_of result stack.new cells.new ≡
-        table.row (int_max image.now) inst place stack.old cells.old }
+        table.row (int_max image.now) inst place (tops depth stack.old) cells.old }
     ensures kept { KeepsAtEnd result cells.old cells.new }
+    ensures long { length stack.new ≡ 1000 }
 {
     match inst {
-        Inst::Push(number) => settle(place, stack, Ok(number)),
-        Inst::Load(slot) => settle(place, stack, Ok(cells[slot as usize])),
+        Inst::Push(number) => settle(place, stack, depth, Ok(number)),
+        Inst::Load(slot) => settle(place, stack, depth, Ok(cells[slot as usize])),
         Inst::Store(slot) => {
-            cells[slot as usize] = take_one(stack);
-            Flow::Next(place + 1)
-        }
-        Inst::ALoad { base, low, count } => load_element(place, stack, cells, base, low, count),
-        Inst::AStore { base, low, count } => store_element(place, stack, cells, base, low, count),
-        Inst::Jump(distance) => Flow::Next(target(place, distance)),
-        Inst::JumpZero(distance) => {
-            if take_one(stack) == 0 {
-                Flow::Next(target(place, distance))
-            } else {
-                Flow::Next(place + 1)
+            let (number, rest) = take_one(stack, depth);
+            cells[slot as usize] = number;
+            Flow::Next {
+                place: place + 1,
+                depth: rest,
             }
         }
+        Inst::ALoad { base, low, count } => {
+            load_element(place, stack, depth, cells, base, low, count)
+        }
+        Inst::AStore { base, low, count } => {
+            store_element(place, stack, depth, cells, base, low, count)
+        }
+        Inst::Jump(distance) => Flow::Next {
+            place: target(place, distance),
+            depth,
+        },
+        Inst::JumpZero(distance) => {
+            let (number, rest) = take_one(stack, depth);
+            let place = if number == 0 {
+                target(place, distance)
+            } else {
+                place + 1
+            };
+            Flow::Next { place, depth: rest }
+        }
         Inst::Ret => Flow::Return,
-        _ => compute(inst, place, stack),
+        _ => compute(image, inst, place, stack, depth),
     }
 }
 
 // One step of the code from a place.
-fn step(image: &Image, place: usize, stack: &mut Stack, cells: &mut [i64]) -> Flow
-    requires ready { IsReady image.now (standing place stack.old cells.old) }
+#[inline]
+fn step(
+    image: &Image,
+    code: &[Inst],
+    place: usize,
+    stack: &mut [i64],
+    depth: usize,
+    cells: &mut [i64],
+) -> Flow
+    requires code { code.now ≡ image.now.code }
+    requires long { length stack.old ≡ 1000 }
+    requires ready { IsReady image.now (standing place (tops depth stack.old) cells.old) }
     ensures outcome { outcome_of result stack.new cells.new ≡
-        table.step image.now (standing place stack.old cells.old) }
+        table.step image.now (standing place (tops depth stack.old) cells.old) }
     ensures kept { KeepsAtEnd result cells.old cells.new }
+    ensures long { length stack.new ≡ 1000 }
     ensures ready { IsReadyAfter image.now result stack.new cells.new }
 {
-    let inst = image.code.as_slice()[place];
-    execute(image, inst, place, stack, cells)
+    execute(image, code[place], place, stack, depth, cells)
 }
 
-/// Runs the code from a place until it returns, traps or is out of fuel.
-pub fn run(image: &Image, start: usize, stack: &mut Stack, cells: &mut [i64], fuel: u64) -> CallEnd
-    requires ready { IsReady image.now (standing start stack.old cells.old) }
-    ensures ends { EndsWith image.now fuel (standing start stack.old cells.old) result cells.new }
+/// Runs the code from a place, with an empty stack, until it returns, traps or is out of fuel.
+pub fn run(image: &Image, start: usize, stack: &mut [i64], cells: &mut [i64], fuel: u64) -> CallEnd
+    requires long { length stack.old ≡ 1000 }
+    requires ready { IsReady image.now (standing start [] cells.old) }
+    ensures ends { EndsWith image.now fuel (standing start [] cells.old) result cells.new }
     ensures kept { AreCells image.now cells.new }
+    ensures long { length stack.new ≡ 1000 }
 {
+    let code = image.code.as_slice();
     let mut place = start;
+    let mut depth = 0;
     let mut steps = 0;
     while steps < fuel {
-        match step(image, place, stack, cells) {
-            Flow::Next(next) => {
+        match step(image, code, place, stack, depth, cells) {
+            Flow::Next {
+                place: next,
+                depth: deep,
+            } => {
                 place = next;
+                depth = deep;
                 steps += 1;
             }
             Flow::Return => return CallEnd::Done { steps: steps + 1 },

@@ -7,7 +7,6 @@ mod execute;
 mod laws;
 mod machine;
 mod operation;
-mod stack;
 
 pub use end::CallEnd;
 pub use laws::calls_make_a_session;

@@ -9,29 +9,32 @@ ghost use Rattle.bk_vm.specs.State.{fresh, IsMachine, TakesCall};
 use crate::CallEnd;
 use crate::execute::run;
 use crate::operation::run_operation;
-use crate::stack::Stack;
 use bk_code::{Image, Memory};
 use std::alloc::Global;
 use std::marker::Model;
+
+/// How many numbers the stack of a call has room for.
+const ROOM: usize = 1000;
 
 /// A machine that runs the code of one image. Its cells stay as they are between calls. Only `new` takes memory.
 #[derive(Drop)]
 pub struct Machine {
     image: Image,
     cells: Vec<i64>,
-    stack: Stack,
+    stack: Vec<i64>,
     started: bool,
     stopped: bool,
 }
 
 impl Model for Machine {
+    ghost use Rattle.std.specs.Prelude.{◌≡◌, length};
     ghost use Rattle.bk_vm.specs.State.{State, IsMachine};
 
     ghost Value = { State };
 
     ghost view = { λ m. record { image = m.image; cells = m.cells.items; started = m.started; stopped = m.stopped } };
 
-    ghost invariant = { λ m. IsMachine m.image m.cells.items m.started };
+    ghost invariant = { λ m. IsMachine m.image m.cells.items m.started × (length m.stack.items ≡ 1000) };
 }
 
 impl Machine {
@@ -41,7 +44,7 @@ impl Machine {
         ensures { IfOk result (λ m. m ≡ fresh image) }
     {
         let cells = vec![in alloc; 0i64; image.cells as usize]?;
-        let stack = Stack::new(alloc)?;
+        let stack = vec![in alloc; 0i64; ROOM]?;
         Ok(Machine {
             image,
             cells,
@@ -60,7 +63,6 @@ impl Machine {
         ensures stopped { self.new.stopped ≡ is_stop result }
         ensures cells { AreCells self.new.image self.new.cells }
     {
-        self.stack.clear();
         let end = run(&self.image, 0, &mut self.stack, &mut self.cells, fuel);
         self.started = true;
         self.stopped = end.is_stop();

@@ -8,7 +8,6 @@ ghost use Rattle.bk_vm.specs.State.{TakesCall};
 
 use crate::CallEnd;
 use crate::execute::run;
-use crate::stack::Stack;
 use bk_code::{Image, Parameter};
 
 /// Runs an operation with these arguments, and writes its outputs where it is done.
@@ -17,19 +16,20 @@ pub fn run_operation(
     op: u32,
     args: &[i64],
     outs: &mut [i64],
-    stack: &mut Stack,
+    stack: &mut [i64],
     cells: &mut [i64],
     fuel: u64,
 ) -> CallEnd
     requires checked { IsChecked image.now }
     requires takes { TakesCall image.now op args.now (length outs.old) }
     requires cells { AreCells image.now cells.old }
+    requires room { length stack.old ≡ 1000 }
     ensures ends { CallEndsWith image.now op args.now fuel cells.old outs.old result cells.new outs.new }
     ensures kept { AreCells image.now cells.new }
+    ensures room { length stack.new ≡ 1000 }
 {
     let entry = &image.ops.as_slice()[op as usize];
     place_arguments(entry.inputs.as_slice(), args, cells);
-    stack.clear();
     let end = run(image, entry.start as usize, stack, cells, fuel);
     if let CallEnd::Done { .. } = end {
         give_outputs(entry.outputs.as_slice(), cells, outs);

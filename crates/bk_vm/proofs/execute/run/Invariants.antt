@@ -1,13 +1,16 @@
-use Rattle.std.proofs.Common.{◌-◌, ◌≤◌}
+use Rattle.std.proofs.Common.{◌≡◌, ◌-◌, ◌≤◌, [], length}
 use Rattle.bk_code.specs.Run.{Leads}
+use Rattle.bk_vm.specs.Depth.{tops}
 use Rattle.bk_vm.specs.Flows.{standing, IsReady}
 use Rattle.bk_vm.proofs.execute.run.Given as goal
 
 abbrev pub invariant-loop-steps : goal.invariant-loop-steps
 invariant-loop-steps l = record {
   within : l.steps ≤ l.fuel;
-  leads : Leads l.image l.steps (standing l.fn.start l.fn.stack l.fn.cells) (standing l.place l.stack l.cells);
-  ready : IsReady l.image (standing l.place l.stack l.cells);
+  leads : Leads l.image l.steps (standing l.fn.start [] l.fn.cells) (standing l.place (tops l.depth l.stack) l.cells);
+  ready : IsReady l.image (standing l.place (tops l.depth l.stack) l.cells);
+  long : length l.stack ≡ 1000;
+  code : l.code ≡ l.image.code;
 }
 
 abbrev pub decreases-loop-steps : goal.decreases-loop-steps

@@ -6,8 +6,9 @@ pub run-end-requires : goal.run-end-requires
 run-end-requires c =
     let same = entry_is c.args.image.now c.args.op c.args.args.now (length c.args.outs.now) c.requires.takes c.as_slice.result.now c.index-as_slice-op.result c.as_slice.ensures c.index-as_slice-op.is in
     record {
+      long = c.requires.room;
       ready = call_ready c.args.image.now c.args.op c.args.args.now (length c.args.outs.now) c.args.cells.now c.requires.takes c.requires.checked c.requires.cells
-          c.index-as_slice-op.result c.as_slice-2.result.now c.clear.new.self c.place_arguments.new.cells same c.as_slice-2.ensures c.clear.ensures c.place_arguments.ensures;
+          c.index-as_slice-op.result c.as_slice-2.result.now c.place_arguments.new.cells same c.as_slice-2.ensures c.place_arguments.ensures;
     }
 
 pub give_outputs-requires-clause-counted : goal.give_outputs-requires-clause-counted
@@ -25,8 +26,8 @@ pub returns-in-Done-clause-ends : goal.returns-in-Done-clause-ends
 returns-in-Done-clause-ends c =
     let same = entry_is c.args.image.now c.args.op c.args.args.now (length c.args.outs.now) c.requires.takes c.as_slice.result.now c.index-as_slice-op.result c.as_slice.ensures c.index-as_slice-op.is in
     call_ends c.args.image.now c.args.op c.args.args.now (length c.args.outs.now) c.args.cells.now c.requires.takes c.args.fuel
-    c.index-as_slice-op.result c.as_slice-2.result.now c.clear.new.self c.place_arguments.new.cells c.args.outs.now c.run-end.result c.run-end.new.cells c.give_outputs.new.outs
-    same c.as_slice-2.ensures c.clear.ensures c.place_arguments.ensures c.run-end.ensures.ends
+    c.index-as_slice-op.result c.as_slice-2.result.now c.place_arguments.new.cells c.args.outs.now c.run-end.result c.run-end.new.cells c.give_outputs.new.outs
+    same c.as_slice-2.ensures c.place_arguments.ensures c.run-end.ensures.ends
     (rw (c.in-Done.is, ← c.as_slice-in-Done.ensures) c.give_outputs.ensures)
 
 pub returns-in_default : goal.returns-in_default
@@ -34,8 +35,9 @@ returns-in_default c =
     let same = entry_is c.args.image.now c.args.op c.args.args.now (length c.args.outs.now) c.requires.takes c.as_slice.result.now c.index-as_slice-op.result c.as_slice.ensures c.index-as_slice-op.is in
     record {
       ends = call_ends c.args.image.now c.args.op c.args.args.now (length c.args.outs.now) c.args.cells.now c.requires.takes c.args.fuel
-          c.index-as_slice-op.result c.as_slice-2.result.now c.clear.new.self c.place_arguments.new.cells c.args.outs.now c.run-end.result c.run-end.new.cells c.args.outs.now
-          same c.as_slice-2.ensures c.clear.ensures c.place_arguments.ensures c.run-end.ensures.ends
+          c.index-as_slice-op.result c.as_slice-2.result.now c.place_arguments.new.cells c.args.outs.now c.run-end.result c.run-end.new.cells c.args.outs.now
+          same c.as_slice-2.ensures c.place_arguments.ensures c.run-end.ensures.ends
           (outs_same c.run-end.result c.index-as_slice-op.result.outputs c.run-end.new.cells c.args.outs.now c.in_default.not-Done);
       kept = c.run-end.ensures.kept;
+      room = c.run-end.ensures.long;
     }
