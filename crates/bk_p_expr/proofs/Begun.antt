@@ -1,6 +1,6 @@
 -- How terms begin: what the reader reads, by what stands in front.
 use Rattle.std.specs.Prelude.{◌≡◌, ◌≢◌, ℕ, ◌-◌, ◌<◌, ◌≤◌, Bool, true, false, cond, not, nat_eq, List, [], ◌∷◌, length, Option, None, Some, Result, Ok, Err, refl, pos, negsuc}
-use Rattle.std.proofs.Common.{arith, sym, ap, subst, ◌∙◌}
+use Rattle.std.proofs.Common.{arith, sym, ◌∙◌}
 use Rattle.std.proofs.lemmas.Bool.{eqb-true}
 use denote.Ref.{Bor}
 use Rattle.bk_form.specs.declared.token.Token.{Token}
@@ -15,7 +15,7 @@ use Rattle.bk_raw.specs.declared.operator.WordOp.{WordOp}
 use Rattle.bk_raw.specs.declared.operator.WordOp.TheVariants.{Not}
 use Rattle.bk_raw.specs.declared.term.RawName.{RawName}
 use Rattle.bk_raw.specs.declared.term.RawBound.{RawBound}
-use Rattle.bk_raw.specs.Reading.{next, sign, begins_with, begins_bound, begins_bound_in, within, names, binder, bounds, typed, terms, ranges, at_byte, braces, body, body_and_value, lambda, quantified, parentheses, primary_at, read, constant_of, word_of}
+use Rattle.bk_raw.specs.Reading.{next, sign, begins_with, begins_bound, begins_bound_in, within, names, binder, bounds, typed, terms, ranges, at_byte, braces, body, body_and_value, lambda, parentheses, primary_at, read, constant_of, word_of}
 use Rattle.bk_p_expr.specs.Openings.{enclosed, surrounded, listed, ranged, described, valued, valued_over, dot_paren, primary, typed_empty, named_set, quantified_by, binders, plain_form, typed_form}
 use Rattle.bk_p_expr.specs.Pieces.{IsPiece}
 use Rattle.bk_p_expr.specs.Found.{Finds, FindsNone, FindsThis, FindsLeaf, IsNoLeaf, SameFrom, Opens, Begins}
@@ -25,7 +25,7 @@ use Rattle.bk_p_expr.specs.declared.opening.Opening.TheVariants.{Closed, Around,
 use Rattle.bk_p_expr.specs.declared.opening.Quantifier.{Quantifier}
 use Rattle.bk_p_expr.specs.declared.opening.Quantifier.TheVariants.{All, Some as Exists}
 use Rattle.bk_p_expr.specs.declared.piece.Piece.{Piece}
-use Rattle.bk_p_expr.proofs.Choices.{next_found, next_fails, next_joined, next_under}
+use Rattle.bk_p_expr.proofs.Choices.{next_joined, next_under}
 use Rattle.bk_p_expr.proofs.Written.{word_of-none, not_true}
 use Rattle.bk_p_expr.proofs.Enclosed.{within_is, parentheses_is}
 

@@ -1,11 +1,11 @@
 -- What a private function of the reader answers: what the reader that bk_raw has as a function reads there. That reader has
 -- fuel, of which at least so much is enough.
-use Rattle.std.specs.Prelude.{◌≡◌, ℕ, ◌-◌, ◌<◌, ◌≤◌, List, Option, None, Some, Result, IfOk, IfSome, MatchOption, pos, negsuc, length}
+use Rattle.std.specs.Prelude.{◌≡◌, ℕ, ◌-◌, ◌≤◌, List, Option, None, Some, Result, IfOk, MatchOption, pos, negsuc, length}
 use denote.Ref.{Bor}
 use Rattle.bk_form.specs.declared.token.Token.{Token}
 use Rattle.bk_form.specs.declared.token.TokenKind.{TokenKind}
 use Rattle.bk_form.specs.declared.token.TokenKind.TheVariants.{Name, LevelName, BoundName, Number, Sign, Word}
-use Rattle.bk_ops.specs.declared.sign.TheConstants.{BAR, CLOSE_PAREN, CLOSE_BRACE}
+use Rattle.bk_ops.specs.declared.sign.TheConstants.{CLOSE_PAREN}
 use Rattle.bk_raw.specs.RawTree.{RawTree, RawTreeNode, RawRanges, raw_inverse, raw_image, raw_apply, raw_lambda, raw_ranged_lambda}
 use Rattle.bk_raw.specs.Reading.{sign, constant_of, operand, primary_at, read}
 use Rattle.bk_p_expr.specs.Openings.{enclosed, surrounded, listed, valued, described, valued_over, ranged, suffixed}

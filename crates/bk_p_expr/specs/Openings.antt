@@ -1,5 +1,5 @@
 -- How a term begins and what is read behind that: the places of the reader of terms between which functions are cut.
-use Rattle.std.specs.Prelude.{◌≡◌, ℕ, ◌≤◌, true, false, cond, nat_le, ◌&&◌, List, [], ◌∷◌, Option, None, Some}
+use Rattle.std.specs.Prelude.{◌≡◌, ℕ, ◌≤◌, cond, List, [], ◌∷◌, Option, None, Some}
 use Rattle.bk_form.specs.declared.token.Token.{Token}
 use Rattle.bk_form.specs.declared.token.TokenKind.TheVariants.{Sign}
 use Rattle.bk_ops.specs.declared.sign.TheConstants.{MINUS, MEMBER, OPEN_PAREN, CLOSE_PAREN, OPEN_BRACKET, CLOSE_BRACKET, CLOSE_BRACE, INVERSE, SEMICOLON, COMMA, DOT, BAR}
