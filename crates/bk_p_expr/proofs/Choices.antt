@@ -2,11 +2,7 @@
 use Rattle.std.specs.Prelude.{◌≡◌, Option, None, Some, List, MatchOption, refl}
 use Rattle.std.proofs.Common.{sym, subst, ◌∙◌}
 use Rattle.bk_form.specs.declared.token.Token.{Token}
-use Rattle.bk_raw.specs.Reading.{next}
-
-abbrev pub or_else : {A : Type 0} → Option A → Option A → Option A
-or_else None other = other
-or_else (Some x) other = Some x
+use Rattle.bk_raw.specs.Reading.{next, or_else}
 
 abbrev value_or : {A : Type 0} → A → Option A → A
 value_or x None = x
@@ -35,3 +31,8 @@ if_some o P Q x h e = subst (λ p. MatchOption p P Q) e h
 
 pub if_none : {A : Type 0} (o : Option A) (P : Type 0) (Q : A → Type 0) → MatchOption o P Q → o ≡ None → P
 if_none o P Q h e = subst (λ p. MatchOption p P Q) e h
+
+-- one thing after another, and what is made of that
+pub next_under : {A B C : Type 0} (r : Option (A × List Token)) (f : A → List Token → Option (B × List Token)) (h : Option (B × List Token) → Option (C × List Token)) (g : A → List Token → Option (C × List Token)) → h None ≡ None → ((x : A) (us : List Token) → h (f x us) ≡ g x us) → h (next r f) ≡ next r g
+next_under None f h g e k = e
+next_under (Some p) f h g e k = k p.0 p.1

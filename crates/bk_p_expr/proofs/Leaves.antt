@@ -9,29 +9,24 @@ use Rattle.bk_raw.specs.Operators.{constant_kind}
 use Rattle.bk_raw.specs.RawTree.{RawTree, raw, raw_name, raw_level_name, raw_bound_name, raw_number, raw_constant}
 use Rattle.bk_raw.specs.declared.operator.Constant.{Constant}
 use Rattle.bk_raw.specs.declared.operator.Constant.TheVariants.{Bool}
-use Rattle.bk_raw.specs.Reading.{constant_of}
-use Rattle.bk_p_expr.specs.Parts.{primary_of}
+use Rattle.bk_raw.specs.Reading.{constant_of, primary_at, read}
 use Rattle.bk_p_expr.specs.Pieces.{IsPiece}
 use Rattle.bk_p_expr.specs.Found.{FindsLeaf, IsNoLeaf}
 use Rattle.bk_p_expr.specs.declared.piece.Piece.{Piece}
 
-leaf_at : (kind leaf : TokenKind) (at : ℕ) (tree : RawTree) (piece : Piece) → kind ≡ leaf → ((n : ℕ) (rest : List Token) → primary_of n leaf at rest ≡ Some (tree, rest)) → IsPiece tree piece → FindsLeaf kind at piece
-leaf_at kind leaf at tree piece e f h = record { tree = tree; found = λ n rest. (λ i. primary_of n (e i) at rest) ∙ f n rest; built = h }
+leaf_at : (kind leaf : TokenKind) (at : ℕ) (tree : RawTree) (piece : Piece) → kind ≡ leaf → ((n : ℕ) (rest : List Token) → primary_at n (read n) leaf at rest ≡ Some (tree, rest)) → IsPiece tree piece → FindsLeaf kind at piece
+leaf_at kind leaf at tree piece e f h = record { tree = tree; found = λ n rest. (λ i. primary_at n (read n) (e i) at rest) ∙ f n rest; built = h }
 
-name_read : (n at : ℕ) (text : List ℕ) (rest : List Token) → primary_of n (Name text) at rest ≡ Some (raw at (raw_name text), rest)
-unfolding primary_of
+name_read : (n at : ℕ) (text : List ℕ) (rest : List Token) → primary_at n (read n) (Name text) at rest ≡ Some (raw at (raw_name text), rest)
 name_read n at text rest = refl
 
-level_name_read : (n at : ℕ) (text : List ℕ) (level : ℕ) (rest : List Token) → primary_of n (LevelName text level) at rest ≡ Some (raw at (raw_level_name text level), rest)
-unfolding primary_of
+level_name_read : (n at : ℕ) (text : List ℕ) (level : ℕ) (rest : List Token) → primary_at n (read n) (LevelName text level) at rest ≡ Some (raw at (raw_level_name text level), rest)
 level_name_read n at text level rest = refl
 
-bound_name_read : (n at number : ℕ) (rest : List Token) → primary_of n (BoundName number) at rest ≡ Some (raw at (raw_bound_name number), rest)
-unfolding primary_of
+bound_name_read : (n at number : ℕ) (rest : List Token) → primary_at n (read n) (BoundName number) at rest ≡ Some (raw at (raw_bound_name number), rest)
 bound_name_read n at number rest = refl
 
-number_read : (n at value : ℕ) (rest : List Token) → primary_of n (Number (pos value)) at rest ≡ Some (raw at (raw_number (pos value)), rest)
-unfolding primary_of
+number_read : (n at value : ℕ) (rest : List Token) → primary_at n (read n) (Number (pos value)) at rest ≡ Some (raw at (raw_number (pos value)), rest)
 number_read n at value rest = refl
 
 pub leaf_name : (kind : TokenKind) (at : ℕ) (text : List ℕ) (piece : Piece) → kind ≡ Name text → IsPiece (raw at (raw_name text)) piece → FindsLeaf kind at piece
@@ -57,8 +52,7 @@ pub no_leaf_number : (z : ℤ) → z <ℤ pos 0 → IsNoLeaf (Number z)
 no_leaf_number (pos n) l = absurd (not_below n l)
 no_leaf_number (negsuc n) l = tt
 
-constant_kind_read : (n at : ℕ) (c : Constant) (rest : List Token) → primary_of n (constant_kind c) at rest ≡ Some (raw at (raw_constant c), rest)
-unfolding primary_of
+constant_kind_read : (n at : ℕ) (c : Constant) (rest : List Token) → primary_at n (read n) (constant_kind c) at rest ≡ Some (raw at (raw_constant c), rest)
 constant_kind_read n at Bool rest = refl
 constant_kind_read n at _ rest = refl
 

@@ -11,6 +11,7 @@ pub mod Operators
 pub mod Suffixes
 pub mod Lists
 pub mod Powers
-pub mod Paths
-pub mod Fronts
 pub mod Places
+pub mod Enclosed
+pub mod Behind
+pub mod Begun

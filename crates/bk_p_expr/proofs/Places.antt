@@ -4,7 +4,7 @@ use Rattle.std.proofs.Common.{arith, sym, ap, ◌∙◌, subst, append_assoc, le
 use Rattle.bk_form.specs.declared.token.Token.{Token}
 use Rattle.bk_raw.specs.RawTree.{RawTree, tree_height}
 use Rattle.bk_raw.specs.Spelling.{Spells}
-use Rattle.bk_p_expr.specs.Parts.{read_of}
+use Rattle.bk_raw.specs.Reading.{read}
 use Rattle.bk_p_expr.specs.Found.{Finds, FindsNone}
 use Rattle.bk_p_expr.specs.Longest.{SpellsBetween, IsLongest}
 use Rattle.bk_p_expr.specs.Faults.{NothingSpelled}
@@ -36,22 +36,20 @@ rest_of tokens at end tree s = (λ i. drop (sym s.begins i) (s.splits i)) ∙ (�
 within : (tokens : List Token) (at end : ℕ) (tree : RawTree) (s : SpellsBetween tokens at end tree) → at ≤ length tokens
 within tokens at end tree s = omega (arith, ap length s.splits, length-append (s.before ++ s.written) s.after, length-append s.before s.written, s.begins)
 
-read_more : (tokens : List Token) (at end : ℕ) (other : RawTree) (s : SpellsBetween tokens at end other) → (more : RawTree) × (rest : List Token) × (read_of (length (drop at tokens)) 0 (drop at tokens) ≡ Some (more, rest)) × (length rest ≤ length s.after)
-unfolding read_of
+read_more : (tokens : List Token) (at end : ℕ) (other : RawTree) (s : SpellsBetween tokens at end other) → (more : RawTree) × (rest : List Token) × (read (length (drop at tokens)) 0 (drop at tokens) ≡ Some (more, rest)) × (length rest ≤ length s.after)
 read_more tokens at end other s =
     let e : drop at tokens ≡ s.written ++ s.after = rest_of tokens at end other s in
-    let r : (more : RawTree) × (rest : List Token) × (read_of (length (drop at tokens)) 0 (s.written ++ s.after) ≡ Some (more, rest)) × (length rest ≤ length s.after) = reads_on (length (drop at tokens)) other s.written s.after s.spelling (omega (arith, ap length e, length-append s.written s.after)) in
-    (r.0, r.1, (λ i. read_of (length (drop at tokens)) 0 (e i)) ∙ r.2, r.3)
+    let r : (more : RawTree) × (rest : List Token) × (read (length (drop at tokens)) 0 (s.written ++ s.after) ≡ Some (more, rest)) × (length rest ≤ length s.after) = reads_on (length (drop at tokens)) other s.written s.after s.spelling (omega (arith, ap length e, length-append s.written s.after)) in
+    (r.0, r.1, (λ i. read (length (drop at tokens)) 0 (e i)) ∙ r.2, r.3)
 
-longest_by : (tokens : List Token) (at : ℕ) (tree : RawTree) (rest : List Token) → read_of (length (drop at tokens)) 0 (drop at tokens) ≡ Some (tree, rest) → (other : RawTree) (end : ℕ) → SpellsBetween tokens at end other → end ≤ length tokens - length rest
+longest_by : (tokens : List Token) (at : ℕ) (tree : RawTree) (rest : List Token) → read (length (drop at tokens)) 0 (drop at tokens) ≡ Some (tree, rest) → (other : RawTree) (end : ℕ) → SpellsBetween tokens at end other → end ≤ length tokens - length rest
 longest_by tokens at tree rest e other end s =
     let r = read_more tokens at end other s in
     let k : (tree, rest) ≡ (r.0, r.1) = some_same (tree, rest) (r.0, r.1) (sym e ∙ r.2) in
     let q : rest ≡ r.1 = (λ i. (k i).1) in
     omega (arith, ap length q, r.3, ap length s.splits, length-append (s.before ++ s.written) s.after, length-append s.before s.written, s.begins, s.ends)
 
-spelled_by : (tokens : List Token) (at : ℕ) (tree : RawTree) (rest : List Token) → at ≤ length tokens → read_of (length (drop at tokens)) 0 (drop at tokens) ≡ Some (tree, rest) → SpellsBetween tokens at (length tokens - length rest) tree
-unfolding read_of
+spelled_by : (tokens : List Token) (at : ℕ) (tree : RawTree) (rest : List Token) → at ≤ length tokens → read (length (drop at tokens)) 0 (drop at tokens) ≡ Some (tree, rest) → SpellsBetween tokens at (length tokens - length rest) tree
 spelled_by tokens at tree rest l e =
     let r : (written : List Token) × (drop at tokens ≡ written ++ rest) × Spells tree written = read_spells (length (drop at tokens)) (drop at tokens) tree rest e in
     record {
@@ -67,23 +65,23 @@ spelled_by tokens at tree rest l e =
 none_is_not : {A : Type 0} (r : Option A) (x : A) → r ≡ Some x → r ≡ None → ⊥
 none_is_not r x e f = cc
 
-pub longest_found : (tokens : List Token) (at : ℕ) (piece : Piece) (rest : List Token) (f : Finds (λ n. read_of n 0 (drop at tokens)) (length (drop at tokens)) (λ t. t) piece rest) → at ≤ length tokens → IsLongest tokens at (length tokens - length rest) f.tree
+pub longest_found : (tokens : List Token) (at : ℕ) (piece : Piece) (rest : List Token) (f : Finds (λ n. read n 0 (drop at tokens)) (length (drop at tokens)) (λ t. t) piece rest) → at ≤ length tokens → IsLongest tokens at (length tokens - length rest) f.tree
 longest_found tokens at piece rest f l =
-    let e : read_of (length (drop at tokens)) 0 (drop at tokens) ≡ Some (f.tree, rest) = f.found (length (drop at tokens)) (omega arith) in
+    let e : read (length (drop at tokens)) 0 (drop at tokens) ≡ Some (f.tree, rest) = f.found (length (drop at tokens)) (omega arith) in
     record { spelled = spelled_by tokens at f.tree rest l e; longest = longest_by tokens at f.tree rest e }
 
-pub nothing_spelled : (tokens : List Token) (at : ℕ) → FindsNone (λ n. read_of n 0 (drop at tokens)) (length (drop at tokens)) → NothingSpelled tokens at
+pub nothing_spelled : (tokens : List Token) (at : ℕ) → FindsNone (λ n. read n 0 (drop at tokens)) (length (drop at tokens)) → NothingSpelled tokens at
 nothing_spelled tokens at f tree next s =
     let r = read_more tokens at next tree s in
-    let e : read_of (length (drop at tokens)) 0 (drop at tokens) ≡ None = f (length (drop at tokens)) (omega arith) in
-    none_is_not (read_of (length (drop at tokens)) 0 (drop at tokens)) (r.0, r.1) r.2 e
+    let e : read (length (drop at tokens)) 0 (drop at tokens) ≡ None = f (length (drop at tokens)) (omega arith) in
+    none_is_not (read (length (drop at tokens)) 0 (drop at tokens)) (r.0, r.1) r.2 e
 
 pub nothing_behind : (tokens : List Token) (at : ℕ) → length tokens < at → NothingSpelled tokens at
 nothing_behind tokens at l tree next s = omega (arith, l, within tokens at next tree s)
 
 -- ---- the answers of the public call
-found_from : (tokens rest : List Token) (at : ℕ) (piece : Piece) (after : List Token) → rest ≡ drop at tokens → Finds (λ n. read_of n 0 rest) (length rest) (λ t. t) piece after → Finds (λ n. read_of n 0 (drop at tokens)) (length (drop at tokens)) (λ t. t) piece after
-found_from tokens rest at piece after e f = subst (λ r. Finds (λ n. read_of n 0 r) (length r) (λ t. t) piece after) e f
+found_from : (tokens rest : List Token) (at : ℕ) (piece : Piece) (after : List Token) → rest ≡ drop at tokens → Finds (λ n. read n 0 rest) (length rest) (λ t. t) piece after → Finds (λ n. read n 0 (drop at tokens)) (length (drop at tokens)) (λ t. t) piece after
+found_from tokens rest at piece after e f = subst (λ r. Finds (λ n. read n 0 r) (length r) (λ t. t) piece after) e f
 
 built_is : (piece : Piece) (tree term : RawTree) (height : ℕ) → piece ≡ Built term height → IsPiece tree piece → (tree ≡ term) × (tree_height term ≤ 1000)
 built_is piece tree term height e h =
@@ -91,19 +89,19 @@ built_is piece tree term height e h =
     let q : tree_height term ≡ tree_height tree = ap tree_height k.0 in
     (sym k.0, omega (arith, q, k.1, k.2))
 
-pub term_found : (tokens rest : List Token) (at : ℕ) (piece : Piece) (term : RawTree) (height : ℕ) (after : List Token) (next : ℕ) → rest ≡ drop at tokens → at ≤ length tokens → Finds (λ n. read_of n 0 rest) (length rest) (λ t. t) piece after → piece ≡ Built term height → next ≡ length tokens - length after → IsLongest tokens at next term
+pub term_found : (tokens rest : List Token) (at : ℕ) (piece : Piece) (term : RawTree) (height : ℕ) (after : List Token) (next : ℕ) → rest ≡ drop at tokens → at ≤ length tokens → Finds (λ n. read n 0 rest) (length rest) (λ t. t) piece after → piece ≡ Built term height → next ≡ length tokens - length after → IsLongest tokens at next term
 term_found tokens rest at piece term height after next e l f p q =
-    let g : Finds (λ n. read_of n 0 (drop at tokens)) (length (drop at tokens)) (λ t. t) piece after = found_from tokens rest at piece after e f in
+    let g : Finds (λ n. read n 0 (drop at tokens)) (length (drop at tokens)) (λ t. t) piece after = found_from tokens rest at piece after e f in
     let b : (g.tree ≡ term) × (tree_height term ≤ 1000) = built_is piece g.tree term height p g.built in
     subst (λ t. IsLongest tokens at next t) b.0 (subst (λ m. IsLongest tokens at m g.tree) (sym q) (longest_found tokens at piece after g l))
 
-pub term_low : (rest : List Token) (piece : Piece) (term : RawTree) (height : ℕ) (after : List Token) → Finds (λ n. read_of n 0 rest) (length rest) (λ t. t) piece after → piece ≡ Built term height → tree_height term ≤ 1000
+pub term_low : (rest : List Token) (piece : Piece) (term : RawTree) (height : ℕ) (after : List Token) → Finds (λ n. read n 0 rest) (length rest) (λ t. t) piece after → piece ≡ Built term height → tree_height term ≤ 1000
 term_low rest piece term height after f p = (built_is piece f.tree term height p f.built).1
 
-pub term_high : (tokens rest : List Token) (at : ℕ) (piece : Piece) (after : List Token) → rest ≡ drop at tokens → at ≤ length tokens → Finds (λ n. read_of n 0 rest) (length rest) (λ t. t) piece after → piece ≡ High → (tree : RawTree) × (next : ℕ) × IsLongest tokens at next tree × (1000 < tree_height tree)
+pub term_high : (tokens rest : List Token) (at : ℕ) (piece : Piece) (after : List Token) → rest ≡ drop at tokens → at ≤ length tokens → Finds (λ n. read n 0 rest) (length rest) (λ t. t) piece after → piece ≡ High → (tree : RawTree) × (next : ℕ) × IsLongest tokens at next tree × (1000 < tree_height tree)
 term_high tokens rest at piece after e l f p =
-    let g : Finds (λ n. read_of n 0 (drop at tokens)) (length (drop at tokens)) (λ t. t) piece after = found_from tokens rest at piece after e f in
+    let g : Finds (λ n. read n 0 (drop at tokens)) (length (drop at tokens)) (λ t. t) piece after = found_from tokens rest at piece after e f in
     (g.tree, length tokens - length after, longest_found tokens at piece after g l, subst (λ q. IsPiece g.tree q) p g.built)
 
-pub term_none : (tokens rest : List Token) (at : ℕ) → rest ≡ drop at tokens → FindsNone (λ n. read_of n 0 rest) (length rest) → NothingSpelled tokens at
-term_none tokens rest at e f = nothing_spelled tokens at (subst (λ r. FindsNone (λ n. read_of n 0 r) (length r)) e f)
+pub term_none : (tokens rest : List Token) (at : ℕ) → rest ≡ drop at tokens → FindsNone (λ n. read n 0 rest) (length rest) → NothingSpelled tokens at
+term_none tokens rest at e f = nothing_spelled tokens at (subst (λ r. FindsNone (λ n. read n 0 r) (length r)) e f)

@@ -1,5 +1,5 @@
 -- Which operator or word a token is.
-use Rattle.std.specs.Prelude.{◌≡◌, ◌≢◌, Bool, true, false, cond, nat_eq, List, [], ◌∷◌, Option, None, Some, refl}
+use Rattle.std.specs.Prelude.{◌≡◌, ◌≢◌, Bool, true, false, cond, List, [], ◌∷◌, Option, None, Some, refl}
 use Rattle.std.proofs.Common.{sym, ap, ◌∙◌}
 use Rattle.std.proofs.lemmas.Bool.{eqb-true}
 use Rattle.bk_form.specs.declared.token.TokenKind.{TokenKind}
@@ -12,17 +12,8 @@ use Rattle.bk_raw.specs.OperatorCodes.{infix_operators, word_operators, constant
 use Rattle.bk_raw.specs.declared.operator.InfixOp.{InfixOp}
 use Rattle.bk_raw.specs.declared.operator.WordOp.{WordOp}
 use Rattle.bk_raw.specs.declared.operator.Constant.{Constant}
-use Rattle.bk_raw.specs.Reading.{infix_of, word_of, constant_of}
+use Rattle.bk_raw.specs.Reading.{same_kind, first_with, infix_of, word_of, constant_of}
 use Rattle.bk_raw.proofs.WrittenKinds.{infix_of-kind, word_of-kind, constant_of-kind}
-
-abbrev pub same_kind : TokenKind → TokenKind → Bool
-same_kind (Sign op) (Sign other) = nat_eq op other
-same_kind (Word op) (Word other) = nat_eq op other
-same_kind _ _ = false
-
-abbrev first_with : {A : Type 0} → (A → TokenKind) → List A → TokenKind → Option A
-first_with written [] kind = None
-first_with written (x ∷ xs) kind = cond (same_kind (written x) kind) (Some x) (first_with written xs kind)
 
 pub same_kind-is : (k l : TokenKind) → same_kind k l ≡ true → k ≡ l
 same_kind-is (Sign op) (Sign other) e = ap (λ n. Sign n) (eqb-true op other e)

@@ -67,10 +67,6 @@ between_node Composition a b = raw_composition a b
 between_node Pair a b = raw_pair a b
 between_node (Lambda xs) a b = raw_lambda xs.items a b
 
--- the same node, at another byte
-abbrev pub moved_to : ℕ → RawTree → RawTree
-moved_to at (raw before node) = raw at node
-
 -- pieces in a list, each with the byte at which it starts, are those of these trees with the same bytes
 abbrev pub ArePieces : List (ℕ × RawTree) → List (ℕ × Piece) → Type 0
 ArePieces [] [] = Unit {0}

@@ -8,7 +8,7 @@ use std::alloc::{AllocError, AllocFailed};
 use thiserror::Error;
 
 /// Why tokens can't be read. Places are those of tokens in the list, counted from 0.
-#[derive(Clone, Copy, PartialEq, Eq, Debug, Error)]
+#[derive(Clone, Copy, PartialEq, Debug, Error)]
 pub enum SynFault {
     /// Nothing is written from this token on.
     #[error("nothing can be read at token {0}")]

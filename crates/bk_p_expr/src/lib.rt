@@ -3,9 +3,12 @@
 
 mod bars;
 mod depth;
+mod divider;
 mod fault;
 mod front;
+mod opening;
 mod piece;
+mod printed_type;
 mod reader;
 mod terms;
 

@@ -3,7 +3,8 @@
 ghost use Rattle.std.specs.Prelude.{◌≡◌, IfOk};
 ghost use Rattle.bk_raw.specs.RawTree.{RawTree, RawTrees, RawRanges, raw, node_height, raw_extension, raw_ranged_comprehension, raw_ranged_lambda};
 ghost use Rattle.bk_raw.specs.RawView.{node_of, tree_of};
-ghost use Rattle.bk_p_expr.specs.Pieces.{IsPiece, IsTerms, IsRanges, around_node, between_node, and_tree, and_range, moved_to};
+ghost use Rattle.bk_raw.specs.Reading.{moved};
+ghost use Rattle.bk_p_expr.specs.Pieces.{IsPiece, IsTerms, IsRanges, around_node, between_node, and_tree, and_range};
 
 use bk_io::Memory;
 use bk_raw::{InfixOp, RawBound, RawName, RawNode, RawRange, RawTerm, WordOp};
@@ -54,7 +55,7 @@ impl Piece {
 
     /// The same term, with another byte as its start.
     pub(crate) fn moved(self, at: usize) -> Piece
-        ensures { (tree : RawTree) → IsPiece tree self → IsPiece (moved_to at tree) result }
+        ensures { (tree : RawTree) → IsPiece tree self → IsPiece (moved at tree) result }
     {
         match self {
             Piece::Built(term, height) => {

@@ -9,7 +9,7 @@ ghost use Rattle.bk_p_expr.specs.Faults.{IsTermFault};
 use crate::depth::too_deep;
 use crate::fault::SynFault;
 use crate::piece::Piece;
-use crate::terms::longest;
+use crate::terms::{LOOSEST, longest};
 use bk_form::Token;
 use bk_raw::RawTerm;
 use std::alloc::Global;
@@ -30,7 +30,7 @@ pub fn term(alloc: Global, tokens: &[Token], at: usize) -> Result<(RawTerm, usiz
     if let Some(place) = too_deep(rest) {
         return Err(SynFault::Depth(at + place));
     }
-    match longest(alloc, rest, 0)? {
+    match longest(alloc, rest, LOOSEST)? {
         Some((piece, after)) => match piece {
             Piece::Built(term, _) => Ok((term, tokens.len() - after.len())),
             Piece::High => Err(SynFault::High),

@@ -1,11 +1,11 @@
 use Rattle.std.proofs.Common.{◌≡◌, ◌≤◌, length}
-use Rattle.bk_p_expr.specs.Parts.{names_of}
+use Rattle.bk_raw.specs.Reading.{names}
 use Rattle.bk_p_expr.proofs.Lists.{put_all_before}
 use Rattle.bk_p_expr.proofs.front.declared_names.Given as goal
 
 abbrev pub invariant-loop-all : goal.invariant-loop-all
 invariant-loop-all l = record {
-  same : names_of l.tokens ≡ put_all_before l.all.items (names_of l.rest);
+  same : names l.tokens ≡ put_all_before l.all.items (names l.rest);
   shorter : length l.rest ≤ length l.tokens;
 }
 

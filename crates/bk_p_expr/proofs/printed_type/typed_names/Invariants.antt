@@ -1,6 +1,6 @@
 use Rattle.std.proofs.Common.{length}
 use Rattle.bk_p_expr.proofs.Lists.{BoundsSoFar}
-use Rattle.bk_p_expr.proofs.front.typed_names.Given as goal
+use Rattle.bk_p_expr.proofs.printed_type.typed_names.Given as goal
 
 abbrev pub invariant-loop-all : goal.invariant-loop-all
 invariant-loop-all l = BoundsSoFar l.tokens l.all.items l.rest

@@ -1,5 +1,5 @@
 use Rattle.std.proofs.Common.{◌+◌, ◌*◌, length}
-use Rattle.bk_p_expr.proofs.front.+types.Given as goal
+use Rattle.bk_p_expr.proofs.printed_type.+types.Given as goal
 
 abbrev pub decreases-written_type : goal.decreases-written_type
 decreases-written_type l = 4 * length l.tokens.now + 1
