@@ -11,7 +11,7 @@ use Rattle.bk_val.specs.CmpLaws.{same_value}
 use Rattle.bk_form.specs.Table.{set_size}
 use Rattle.bk_form.specs.Formula.{Formula, named, unary, binary}
 use Rattle.bk_form.specs.Search.{Finder}
-use Rattle.bk_form.specs.Environment.{Environment}
+use Rattle.bk_form.specs.Environment.{Environment, at_state}
 use Rattle.bk_form.specs.Operators.{number_in, is_in_named}
 use Rattle.bk_form.specs.Meaning.{value, truth, within}
 use Rattle.bk_form.specs.declared.operator.UnOp.{UnOp}
@@ -21,7 +21,7 @@ use Rattle.bk_form.specs.declared.operator.BinOp.TheVariants.{Eq, Lt, Le, In, Ra
 use Rattle.bk_form.specs.declared.operator.Domain.TheVariants.{Natural, Natural1}
 use Rattle.bk_form.proofs.Members.{and-both}
 use Rattle.bk_form.proofs.Domains.{interval-members}
-use Rattle.bk_bind.specs.Valid.{AllHold, in_state}
+use Rattle.bk_form.specs.Predicates.{AllHold}
 use Rattle.bk_lin.specs.declared.fact.Line.{Line}
 use Rattle.bk_lin.specs.declared.fact.CertFault.{CertFault}
 use Rattle.bk_lin.specs.Inequality.{Inequality, IsTrueOf}
@@ -174,12 +174,12 @@ checked hyps goal cert h =
     (neither (option_map NotLinear (first_unread hyps goal)) (fault_of_terms terms cert) (none_then (linear_fault hyps goal cert) h))
 
 pub accepted_is_valid : AcceptedIsValid
-accepted_is_valid table hyps goal cert h find law state typed hold = by_truth (truth find (in_state table state) goal) refl
+accepted_is_valid table hyps goal cert h find law state typed hold = by_truth (truth find (at_state table state) goal) refl
   where
-    by_truth : (b : Bool) → truth find (in_state table state) goal ≡ b → truth find (in_state table state) goal ≡ true
+    by_truth : (b : Bool) → truth find (at_state table state) goal ≡ b → truth find (at_state table state) goal ≡ true
     by_truth true k = k
     by_truth false k =
-        let e : Environment = in_state table state in
+        let e : Environment = at_state table state in
         let terms : List Formula = terms_of hyps goal in
         absurd (contradictory (length (atoms_of terms)) (some_prefix (readings terms)) cert (checked hyps goal cert h) (atom_values find e (atoms_of terms))
         (true_facts find e (atoms_of terms) (atoms-once terms) terms (atoms-has terms) (of_all find e hyps goal hold k)))

@@ -3,7 +3,8 @@ use Rattle.std.proofs.Common.{◌≡◌, ℕ, suc, ◌+◌, ◌<◌, ◌≤◌, 
 use Rattle.std.specs.List.{list_all}
 use Rattle.std.proofs.lemmas.List.{take_more_set, drop-set-lt, append_assoc, drop_all}
 use Rattle.std.proofs.lemmas.Int.{ints}
-use Rattle.bk_lin.specs.Inequality.{is_i128, sum_of_coefs}
+use Rattle.bk_lin.specs.Inequality.{sum_of_coefs}
+use Rattle.bk_val.specs.Value.{fits_i128}
 use Rattle.bk_arith.specs.declared.joining.Join.{Join}
 use Rattle.bk_arith.specs.declared.joining.Join.TheVariants.{Sum, Difference}
 use Rattle.bk_arith.specs.Layout.{entry_of, entries_of}
@@ -13,7 +14,7 @@ zipped f (x ∷ xs) (y ∷ ys) = f x y ∷ zipped f xs ys
 zipped f _ _ = []
 
 abbrev pub all_fit : (ℤ → ℤ → ℤ) → List ℤ → List ℤ → Bool
-all_fit f xs ys = list_all is_i128 (zipped f xs ys)
+all_fit f xs ys = list_all fits_i128 (zipped f xs ys)
 
 passes-on : (b c : Bool) → b ≡ true → c ≡ (b && c)
 passes-on true c h = refl
@@ -23,19 +24,19 @@ stops : (b c : Bool) → b ≡ false → (b && c) ≡ false
 stops false c h = refl
 stops true c h = absurd (cc)
 
-pub all_fit-more : (f : ℤ → ℤ → ℤ) (xs ys : List ℤ) (i : ℕ) (v : ℤ) → i < length xs → i < length ys → is_i128 (f (get_or xs i (pos 0)) (get_or ys i (pos 0))) ≡ true → all_fit f (drop (i + 1) (set xs i v)) (drop (i + 1) ys) ≡ all_fit f (drop i xs) (drop i ys)
+pub all_fit-more : (f : ℤ → ℤ → ℤ) (xs ys : List ℤ) (i : ℕ) (v : ℤ) → i < length xs → i < length ys → fits_i128 (f (get_or xs i (pos 0)) (get_or ys i (pos 0))) ≡ true → all_fit f (drop (i + 1) (set xs i v)) (drop (i + 1) ys) ≡ all_fit f (drop i xs) (drop i ys)
 all_fit-more f xs ys i v h k t =
     ap (λ zs. all_fit f zs (drop (i + 1) ys)) (drop-set-lt (i + 1) xs i v (omega arith))
-    ∙ passes-on (is_i128 (f (get_or xs i (pos 0)) (get_or ys i (pos 0)))) (all_fit f (drop (i + 1) xs) (drop (i + 1) ys)) t
+    ∙ passes-on (fits_i128 (f (get_or xs i (pos 0)) (get_or ys i (pos 0)))) (all_fit f (drop (i + 1) xs) (drop (i + 1) ys)) t
     ∙ ap (λ n. all_fit f (get_or xs i (pos 0) ∷ drop n xs) (get_or ys i (pos 0) ∷ drop n ys)) (add-one i)
     ∙ ap (λ zs. all_fit f zs (get_or ys i (pos 0) ∷ drop (suc i) ys)) (sym (drop-cons xs i (pos 0) h))
     ∙ ap (λ zs. all_fit f (drop i xs) zs) (sym (drop-cons ys i (pos 0) k))
 
-pub all_fit-fails : (f : ℤ → ℤ → ℤ) (xs ys : List ℤ) (i : ℕ) → i < length xs → i < length ys → is_i128 (f (get_or xs i (pos 0)) (get_or ys i (pos 0))) ≡ false → all_fit f (drop i xs) (drop i ys) ≡ false
+pub all_fit-fails : (f : ℤ → ℤ → ℤ) (xs ys : List ℤ) (i : ℕ) → i < length xs → i < length ys → fits_i128 (f (get_or xs i (pos 0)) (get_or ys i (pos 0))) ≡ false → all_fit f (drop i xs) (drop i ys) ≡ false
 all_fit-fails f xs ys i h k t =
     ap (λ zs. all_fit f zs (drop i ys)) (drop-cons xs i (pos 0) h)
     ∙ ap (λ zs. all_fit f (get_or xs i (pos 0) ∷ drop (suc i) xs) zs) (drop-cons ys i (pos 0) k)
-    ∙ stops (is_i128 (f (get_or xs i (pos 0)) (get_or ys i (pos 0)))) (all_fit f (drop (suc i) xs) (drop (suc i) ys)) t
+    ∙ stops (fits_i128 (f (get_or xs i (pos 0)) (get_or ys i (pos 0)))) (all_fit f (drop (suc i) xs) (drop (suc i) ys)) t
 
 pub zipped-more : (f : ℤ → ℤ → ℤ) (xs ys : List ℤ) (i : ℕ) (v : ℤ) → i < length xs → i < length ys → v ≡ f (get_or xs i (pos 0)) (get_or ys i (pos 0)) → take (i + 1) (set xs i v) ++ zipped f (drop (i + 1) (set xs i v)) (drop (i + 1) ys) ≡ take i xs ++ zipped f (drop i xs) (drop i ys)
 zipped-more f xs ys i v h k e =

@@ -3,7 +3,8 @@
 ghost use Rattle.std.specs.Prelude.{◌≡◌, ◌↔◌, ◌*ℤ◌, IsTrue, IsSome, IfSome, OnSome, length, map};
 ghost use Rattle.std.specs.List.{list_all};
 ghost use Rattle.std.specs.Option.{SomeIff, option_map};
-ghost use Rattle.bk_lin.specs.Inequality.{is_i128, times};
+ghost use Rattle.bk_lin.specs.Inequality.{times};
+ghost use Rattle.bk_val.specs.Value.{fits_i128};
 ghost use Rattle.bk_lin.specs.Certificate.{inequality_of};
 ghost use Rattle.bk_arith.specs.Reading.{if_narrow};
 ghost use Rattle.bk_arith.specs.Layout.{entry_of, entries_of, joined};
@@ -48,7 +49,7 @@ pub fn scale(by: i128, form: Fact) -> Option<Fact>
 }
 
 fn entry(join: Join, left: i128, right: i128) -> Option<i128>
-    ensures { SomeIff result (IsTrue (is_i128 (entry_of join left right))) (entry_of join left right) }
+    ensures { SomeIff result (IsTrue (fits_i128 (entry_of join left right))) (entry_of join left right) }
 {
     match join {
         Join::Sum => left.checked_add(right),
@@ -57,7 +58,7 @@ fn entry(join: Join, left: i128, right: i128) -> Option<i128>
 }
 
 fn product(left: i128, right: i128) -> Option<i128>
-    ensures { SomeIff result (IsTrue (is_i128 (left *ℤ right))) (left *ℤ right) }
+    ensures { SomeIff result (IsTrue (fits_i128 (left *ℤ right))) (left *ℤ right) }
 {
     left.checked_mul(right)
 }
@@ -65,7 +66,7 @@ fn product(left: i128, right: i128) -> Option<i128>
 // None where an entry does not fit, and then `target` is open.
 fn combine_entries(join: Join, target: &mut [i128], other: &[i128]) -> Option<()>
     requires { length target.old ≡ length other.now }
-    ensures fits { IsSome result ↔ IsTrue (list_all is_i128 (entries_of join target.old other.now)) }
+    ensures fits { IsSome result ↔ IsTrue (list_all fits_i128 (entries_of join target.old other.now)) }
     ensures made { OnSome result (target.new ≡ entries_of join target.old other.now) }
 {
     for (k, number) in target.iter_mut().enumerate() {
@@ -76,7 +77,7 @@ fn combine_entries(join: Join, target: &mut [i128], other: &[i128]) -> Option<()
 
 // None where an entry does not fit, and then `target` is open.
 fn scale_entries(by: i128, target: &mut [i128]) -> Option<()>
-    ensures fits { IsSome result ↔ IsTrue (list_all is_i128 (map (λ c. by *ℤ c) target.old)) }
+    ensures fits { IsSome result ↔ IsTrue (list_all fits_i128 (map (λ c. by *ℤ c) target.old)) }
     ensures made { OnSome result (target.new ≡ map (λ c. by *ℤ c) target.old) }
 {
     for number in target.iter_mut() {

@@ -1,3 +1,5 @@
 pub mod Limits
 pub mod Same
 pub mod Valid
+pub mod Closing
+pub mod Opening

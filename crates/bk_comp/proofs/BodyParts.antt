@@ -11,7 +11,7 @@ use Rattle.bk_gsl.specs.State.{among}
 use Rattle.bk_gsl.specs.Writes.{written}
 use Rattle.bk_raw.specs.Pieces.{Just, JustSign, ◌⌢◌}
 use Rattle.bk_dev.specs.Development.{Body}
-use Rattle.bk_dev.specs.Hypotheses.{conjuncts}
+use Rattle.bk_form.specs.Predicates.{conjuncts}
 use Rattle.bk_dev.specs.declared.kind.Kind.{Kind}
 use Rattle.bk_dev.specs.declared.kind.Kind.TheVariants.{Machine}
 use Rattle.bk_comp.specs.declared.level.Level.{Level}

@@ -4,7 +4,7 @@ use Rattle.std.specs.Prelude.{◌&&◌, ◌||◌, nat_eq, codes, slice_index_or}
 use Rattle.std.proofs.lemmas.Bool.{false≢true}
 use Rattle.std.proofs.lemmas.Bool.Decides.{nat_tests}
 use Rattle.std.proofs.lemmas.List.{drop_all}
-use Rattle.bk_comp.specs.Components.{HasNoComment}
+use Rattle.bk_p_expr.specs.Texts.{HasNoComment}
 
 -- an asterisk or a slash stands in front
 abbrev pub goes_on : List ℕ → Bool

@@ -3,9 +3,8 @@ use Rattle.std.proofs.Common.{◌≡◌, ℕ, List, [], ◌∷◌, ◌++◌, ref
 use Rattle.bk_form.specs.declared.token.Token.{Token}
 use Rattle.bk_form.specs.declared.token.TokenKind.TheVariants.{Name, Sign}
 use Rattle.bk_ops.specs.declared.sign.TheConstants.{EQUAL, COMMA, OPEN_PAREN, CLOSE_PAREN}
-use Rattle.bk_raw.specs.Pieces.{Just, JustSign, ◌⌢◌}
+use Rattle.bk_raw.specs.Pieces.{Just, JustSign, ◌⌢◌, Absent}
 use Rattle.bk_comp.specs.Fronts.{IsBehind, BeginsNot, StartsNot, StartsOnly}
-use Rattle.bk_comp.specs.Statements.{Absent}
 use Rattle.bk_comp.specs.Operations.{MoreNames, Listed, ListedInside, Parameters, ParametersBefore}
 use Rattle.bk_comp.proofs.Joins.{Piece, Ends, in-order, from-order, behind, just-first, at-front, of-front}
 use Rattle.bk_comp.proofs.OneOperation.{absent-then, comma-close, open-equal, open-parameters}

@@ -3,7 +3,7 @@ use Rattle.std.proofs.Common.{◌≡◌, ◌≤◌, ◌<◌, ℕ, true, List, []
 use Rattle.bk_form.specs.Formula.{Formula}
 use Rattle.bk_form.specs.declared.token.Token.{Token}
 use Rattle.bk_elab.specs.Scope.{Scope}
-use Rattle.bk_dev.specs.Hypotheses.{conjuncts}
+use Rattle.bk_form.specs.Predicates.{conjuncts}
 use Rattle.bk_comp.specs.Fronts.{IsFound}
 use Rattle.bk_comp.specs.Statements.{Condition}
 use Rattle.bk_comp.specs.Operations.{BeginWithRanges}

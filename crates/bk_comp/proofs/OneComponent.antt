@@ -7,12 +7,12 @@ use Rattle.bk_form.specs.declared.token.TokenKind.{TokenKind}
 use Rattle.bk_form.specs.declared.token.TokenKind.TheVariants.{Name, Number, Sign, Word}
 use Rattle.bk_ops.specs.declared.sign.TheConstants.{ASSIGN, SEMICOLON, MINUS}
 use Rattle.bk_ops.specs.declared.word.TheConstants.{MACHINE, VARIABLES, IMPLEMENTATION, REFINES, CONCRETE_VARIABLES, INVARIANT, INITIALISATION, OPERATIONS, END}
-use Rattle.bk_raw.specs.Pieces.{Just, JustSign, ◌⌢◌, Digits, Literal}
+use Rattle.bk_raw.specs.Pieces.{Just, JustSign, ◌⌢◌, Digits, Literal, Absent}
 use Rattle.bk_dev.specs.Development.{Body}
 use Rattle.bk_dev.specs.declared.kind.Kind.{Kind}
 use Rattle.bk_dev.specs.declared.kind.Kind.TheVariants.{Machine, Implementation}
 use Rattle.bk_lex.specs.Laws.{TokensAreOne}
-use Rattle.bk_comp.specs.Statements.{Absent, Condition}
+use Rattle.bk_comp.specs.Statements.{Condition}
 use Rattle.bk_comp.specs.Operations.{Header, Places, IsOperation}
 use Rattle.bk_comp.specs.Components.{Component, variable_of, places_of, MoreOperations, Operations, Opened, IsInvariant, Start, Written, WrittenIsOne, TextIsOne}
 use Rattle.bk_comp.proofs.Plain.{literal-good}

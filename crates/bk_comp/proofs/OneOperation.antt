@@ -7,12 +7,12 @@ use Rattle.bk_form.specs.declared.token.TokenKind.TheVariants.{Name, Sign, Word}
 use Rattle.bk_ops.specs.declared.sign.TheConstants.{ASSIGN, EQUAL, OUTPUTS, COMMA, OPEN_PAREN, CLOSE_PAREN}
 use Rattle.bk_ops.specs.declared.word.TheConstants.{SKIP, IF, PRE, THEN, END}
 use Rattle.bk_gsl.specs.Substitution.{Substitution, skip, assign, if_else}
-use Rattle.bk_raw.specs.Pieces.{Just, JustSign, ◌⌢◌}
+use Rattle.bk_raw.specs.Pieces.{Just, JustSign, ◌⌢◌, Absent}
 use Rattle.bk_dev.specs.Development.{Body}
 use Rattle.bk_dev.specs.declared.kind.Kind.{Kind}
 use Rattle.bk_dev.specs.declared.kind.Kind.TheVariants.{Machine}
 use Rattle.bk_comp.specs.declared.sight.Sight.{Sight}
-use Rattle.bk_comp.specs.Statements.{Condition, Absent, Target, Term, Stated}
+use Rattle.bk_comp.specs.Statements.{Condition, Target, Term, Stated}
 use Rattle.bk_comp.specs.Operations.{Header, MoreNames, Listed, Results, Parameters, Headed, Places, numbers_from, sight_of, Preconditioned, Plain, Bodied, IsOperation}
 use Rattle.bk_comp.proofs.Joins.{Piece, OnlyDivided, in-order, behind, just-first, just-none}
 use Rattle.bk_comp.proofs.Pieces.{Both, condition-undivided, condition-one, word-divides, same-piece, same-token, same-words, target-first, word-name, if-first}

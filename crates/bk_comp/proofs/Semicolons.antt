@@ -9,14 +9,14 @@ use Rattle.bk_form.specs.declared.token.TokenKind.TheVariants.{Name, LevelName, 
 use Rattle.bk_ops.specs.declared.sign.TheConstants.{ASSIGN, EQUAL, OUTPUTS, COMMA, OPEN_PAREN, CLOSE_PAREN, SEMICOLON}
 use Rattle.bk_ops.specs.declared.word.TheConstants.{SKIP, IF, PRE, THEN, ELSE, END}
 use Rattle.bk_gsl.specs.Substitution.{Substitution, skip, assign, if_else}
-use Rattle.bk_raw.specs.Pieces.{Just, JustSign, ◌⌢◌}
+use Rattle.bk_raw.specs.Pieces.{Just, JustSign, ◌⌢◌, Absent}
 use Rattle.bk_dev.specs.Development.{Body}
 use Rattle.bk_dev.specs.declared.kind.Kind.{Kind}
 use Rattle.bk_elab.specs.Scope.{Scope}
 use Rattle.bk_comp.specs.declared.sight.Sight.{Sight}
 use Rattle.bk_comp.specs.Dividers.{is_divider, is_semicolon, IsUndivided, HasNoSemicolon, BeginsWithSemicolon}
 use Rattle.bk_comp.specs.Fronts.{BeginsNot}
-use Rattle.bk_comp.specs.Statements.{Absent, Target, Term, Condition, Otherwise, Stated}
+use Rattle.bk_comp.specs.Statements.{Target, Term, Condition, Otherwise, Stated}
 use Rattle.bk_comp.specs.Operations.{Header, Places, MoreNames, Results, Parameters, Headed, Plain, Preconditioned, Bodied, sight_of, numbers_from, IsOperation}
 use Rattle.bk_comp.proofs.Joins.{Piece, just-first, just-none}
 use Rattle.bk_comp.proofs.Pieces.{term-undivided, condition-undivided}

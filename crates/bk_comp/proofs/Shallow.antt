@@ -3,9 +3,9 @@ use Rattle.std.proofs.Common.{◌≡◌, ◌≤◌, ◌+◌, ◌-◌, ℕ, zero,
 use Rattle.std.proofs.lemmas.List.{length-append}
 use Rattle.bk_form.specs.declared.token.Token.{Token}
 use Rattle.bk_form.specs.declared.token.TokenKind.{TokenKind}
-use Rattle.bk_raw.specs.Brackets.{opens_bracket, closes_bracket}
-use Rattle.bk_p_expr.specs.Depth.{open_behind, count_open}
-use Rattle.bk_comp.specs.Fronts.{IsShallow, IsBehind}
+use Rattle.bk_raw.specs.Brackets.{opens_bracket, closes_bracket, open_behind, count_open}
+use Rattle.bk_comp.specs.Fronts.{IsBehind}
+use Rattle.bk_p_expr.specs.Texts.{HasFewBrackets}
 
 abbrev count : ℕ → List Token → ℕ
 count n ts = count_open opens_bracket closes_bracket n ts
@@ -29,14 +29,14 @@ rest-from : (m : ℕ) (front rest : List Token) → ((n : ℕ) → count m (take
 rest-from m [] rest h n = omega (arith, h n, count-more 0 m (take n rest) (omega arith))
 rest-from m (t ∷ front) rest h n = rest-from (open_behind opens_bracket closes_bracket m t.kind) front rest (λ k. h (suc k)) n
 
-pub shallow_front : (ts front rest : List Token) → ts ≡ front ++ rest → IsShallow ts → IsShallow front
-shallow_front ts front rest e h = front-from 0 front rest (subst IsShallow e h)
+pub shallow_front : (ts front rest : List Token) → ts ≡ front ++ rest → HasFewBrackets ts → HasFewBrackets front
+shallow_front ts front rest e h = front-from 0 front rest (subst HasFewBrackets e h)
 
-pub shallow_rest : (ts front rest : List Token) → ts ≡ front ++ rest → IsShallow ts → IsShallow rest
-shallow_rest ts front rest e h = rest-from 0 front rest (subst IsShallow e h)
+pub shallow_rest : (ts front rest : List Token) → ts ≡ front ++ rest → HasFewBrackets ts → HasFewBrackets rest
+shallow_rest ts front rest e h = rest-from 0 front rest (subst HasFewBrackets e h)
 
-pub shallow_behind : (kind : TokenKind) (ts rest : List Token) → IsBehind kind ts rest → IsShallow ts → IsShallow rest
-shallow_behind kind ts rest b h = rest-from 0 (b.first ∷ []) rest (subst IsShallow b.splits h)
+pub shallow_behind : (kind : TokenKind) (ts rest : List Token) → IsBehind kind ts rest → HasFewBrackets ts → HasFewBrackets rest
+shallow_behind kind ts rest b h = rest-from 0 (b.first ∷ []) rest (subst HasFewBrackets b.splits h)
 
 pub short_front : (ts front rest : List Token) → ts ≡ front ++ rest → length ts ≤ 1000 → length front ≤ 1000
 short_front ts front rest e h = omega (arith, h, ap length e, length-append front rest)

@@ -7,7 +7,7 @@ use Rattle.bk_form.specs.declared.token.Token.{Token}
 use Rattle.bk_form.specs.declared.token.TokenKind.TheVariants.{Name, Word}
 use Rattle.bk_ops.specs.declared.sign.TheConstants.{ASSIGN}
 use Rattle.bk_ops.specs.declared.word.TheConstants.{INVARIANT, INITIALISATION, OPERATIONS, END}
-use Rattle.bk_raw.specs.Pieces.{Just, JustSign, ◌⌢◌}
+use Rattle.bk_raw.specs.Pieces.{Just, JustSign, ◌⌢◌, Absent}
 use Rattle.bk_lex.specs.Lexis.{AreTokens}
 use Rattle.bk_lex.specs.Laws.{IsOfText, HasNoTokens}
 use Rattle.bk_lex.specs.declared.fault.LexFault.{LexFault}
@@ -19,10 +19,10 @@ use Rattle.bk_dev.specs.declared.kind.Kind.TheVariants.{Machine, Implementation,
 use Rattle.bk_comp.specs.declared.level.Level.{Level}
 use Rattle.bk_comp.specs.declared.opening.Opening.{Opening}
 use Rattle.bk_comp.specs.Dividers.{IsUndivided}
-use Rattle.bk_comp.specs.Fronts.{IsShallow, IsAtFront, StartsNot, IsFound}
-use Rattle.bk_comp.specs.Statements.{Absent}
+use Rattle.bk_comp.specs.Fronts.{IsAtFront, StartsNot, IsFound}
+use Rattle.bk_p_expr.specs.Texts.{HasFewBrackets, HasNoComment}
 use Rattle.bk_comp.specs.Operations.{Header}
-use Rattle.bk_comp.specs.Components.{Component, variable_of, places_of, place_behind, place_behind_all, machine_places, implementation_places, Opened, Operations, IsInvariant, Start, Written, IsPlain, HasNoComment, IsTextOf, IsTextOfNone}
+use Rattle.bk_comp.specs.Components.{Component, variable_of, places_of, place_behind, place_behind_all, machine_places, implementation_places, Opened, Operations, IsInvariant, Start, Written, IsPlain, IsTextOf, IsTextOfNone}
 use Rattle.bk_comp.specs.Numbering.{places_from, variable_number, AreOperationsAt, AreNoOperations, HasOutline, HasNoOutline}
 use Rattle.bk_comp.specs.Clauses.{TheseUndivided, OpenedBy, Parts, Initialisation, OperationsClause, LaidOut, IsMadeOf, IsWritten, IsUnwritten, IsWithinLimits, IsBeyondLimits}
 use Rattle.bk_comp.proofs.Joins.{Piece, Ends, in-order, from-order, behind, of-front}
@@ -168,7 +168,7 @@ parts_short ts p laid =
 pub parts_undivided : (ts : List Token) (p : Parts) → LaidOut p ts → IsUndivided p.invariant
 parts_undivided ts p laid = let i = laid.3 in i.4.4.1
 
-pub parts_shallow : (ts : List Token) (p : Parts) → LaidOut p ts → IsShallow ts → IsShallow p.invariant × IsShallow p.operations
+pub parts_shallow : (ts : List Token) (p : Parts) → LaidOut p ts → HasFewBrackets ts → HasFewBrackets p.invariant × HasFewBrackets p.operations
 parts_shallow ts p laid shallow =
     let i = laid.3 in
     let j = i.4 in
@@ -177,8 +177,8 @@ parts_shallow ts p laid shallow =
     let front = shallow_front ts laid.0 laid.1 laid.2 shallow in
     let back = shallow_rest ts laid.0 laid.1 laid.2 shallow in
     let clause = shallow_rest m.1 l.0 l.1 l.2 (shallow_rest laid.1 m.0 m.1 m.2 back) in (
-      subst IsShallow j.4.0 (shallow_rest i.1 j.0 j.1 j.2 (shallow_rest laid.0 i.0 i.1 i.2 front)),
-      subst IsShallow l.4.3 (shallow_front l.1 l.4.0 l.4.1 l.4.2 clause),
+      subst HasFewBrackets j.4.0 (shallow_rest i.1 j.0 j.1 j.2 (shallow_rest laid.0 i.0 i.1 i.2 front)),
+      subst HasFewBrackets l.4.3 (shallow_front l.1 l.4.0 l.4.1 l.4.2 clause),
     )
 
 -- ---- numbers
@@ -317,7 +317,7 @@ within-of text tokens c cut t =
       written = record { written = subst (Written c) same t.written; names = record { few = t.few; distinct = t.distinct } };
       plain = subst (All (λ u. IsPlain u.kind)) same t.plain;
       short = omega (arith, t.short, ap length same);
-      shallow = subst IsShallow same t.shallow;
+      shallow = subst HasFewBrackets same t.shallow;
     }
 
 text-found : (text : List ℕ) (tokens : List Token) (found : Option Component) → AreTokens text tokens → HasNoComment text → MatchOption found (IsBeyondLimits tokens) (λ c. IsWithinLimits tokens c) → MatchOption found (IsTextOfNone text) (λ c. IsTextOf text c)
@@ -329,11 +329,11 @@ pub text_result : {E : Type 0} (text : List ℕ) (items tokens : List Token) (r 
 text_result text items tokens (Ok found) cut e comment h = text-found text tokens found (subst (AreTokens text) (sym e) cut) comment h
 text_result text items tokens (Err f) cut e comment h = tt
 
-within-found : (tokens : List Token) (found : Option Component) → All (λ t. IsPlain t.kind) tokens → length tokens ≤ 10000 → IsShallow tokens → MatchOption found (IsUnwritten tokens) (λ c. IsWritten tokens c) → MatchOption found (IsBeyondLimits tokens) (λ c. IsWithinLimits tokens c)
+within-found : (tokens : List Token) (found : Option Component) → All (λ t. IsPlain t.kind) tokens → length tokens ≤ 10000 → HasFewBrackets tokens → MatchOption found (IsUnwritten tokens) (λ c. IsWritten tokens c) → MatchOption found (IsBeyondLimits tokens) (λ c. IsWithinLimits tokens c)
 within-found tokens None plain short shallow none = λ c w. none c w.written
 within-found tokens (Some c) plain short shallow w = record { written = w; plain = plain; short = short; shallow = shallow }
 
-pub within_result : {E : Type 0} (tokens : List Token) (r : Result (Option Component) E) → All (λ t. IsPlain t.kind) tokens → length tokens ≤ 10000 → IsShallow tokens → IfOk r (λ found. MatchOption found (IsUnwritten tokens) (λ c. IsWritten tokens c)) → IfOk r (λ found. MatchOption found (IsBeyondLimits tokens) (λ c. IsWithinLimits tokens c))
+pub within_result : {E : Type 0} (tokens : List Token) (r : Result (Option Component) E) → All (λ t. IsPlain t.kind) tokens → length tokens ≤ 10000 → HasFewBrackets tokens → IfOk r (λ found. MatchOption found (IsUnwritten tokens) (λ c. IsWritten tokens c)) → IfOk r (λ found. MatchOption found (IsBeyondLimits tokens) (λ c. IsWithinLimits tokens c))
 within_result tokens (Ok found) plain short shallow h = within-found tokens found plain short shallow h
 within_result tokens (Err f) plain short shallow h = tt
 

@@ -9,7 +9,8 @@ use Rattle.bk_form.specs.declared.token.TokenKind.TheVariants.{Name, LevelName, 
 use Rattle.bk_raw.specs.RawTree.{RawTree, raw, tree_size, tree_height, raw_name, raw_level_name, raw_number, raw_word, raw_infix}
 use Rattle.bk_raw.specs.Spelling.{Spells}
 use Rattle.bk_raw.specs.declared.operator.WordOp.TheVariants.{Not}
-use Rattle.bk_p_expr.specs.Depth.{opens_block, closes_block, open_behind, count_open, open_blocks, open_brackets, IsTooDeepFrom}
+use Rattle.bk_raw.specs.Brackets.{opens_block, closes_block, open_behind, count_open, open_blocks, open_brackets}
+use Rattle.bk_p_expr.specs.Depth.{IsTooDeepFrom}
 use Rattle.bk_p_expr.specs.Longest.{SpellsBetween, IsLongest}
 use Rattle.bk_comp.specs.Dividers.{is_divider, IsUndivided}
 use Rattle.bk_form.specs.Formula.{Formula, formula_size}

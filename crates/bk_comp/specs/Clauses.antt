@@ -9,7 +9,7 @@ use Rattle.bk_raw.specs.Pieces.{Just, JustSign, ◌⌢◌}
 use Rattle.bk_dev.specs.declared.kind.Kind.TheVariants.{Machine, Implementation}
 use Rattle.bk_comp.specs.declared.opening.Opening.{Opening}
 use Rattle.bk_comp.specs.Dividers.{IsUndivided}
-use Rattle.bk_comp.specs.Fronts.{IsShallow}
+use Rattle.bk_p_expr.specs.Texts.{HasFewBrackets}
 use Rattle.bk_comp.specs.Components.{Component, IsPlain, Opened, IsInvariant, Start, Operations, Written, variable_of, places_of}
 
 -- exactly these tokens
@@ -88,7 +88,7 @@ pub record IsWithinLimits (tokens : List Token) (c : Component) : Type 0 where
   pub written : IsWritten tokens c
   pub plain : All (λ t. IsPlain t.kind) tokens
   pub short : length tokens ≤ 10000
-  pub shallow : IsShallow tokens
+  pub shallow : HasFewBrackets tokens
 
 -- the tokens are written as no component that keeps the limits
 abbrev pub IsBeyondLimits : List Token → Type 0

@@ -1,5 +1,5 @@
 -- How a machine of one variable and its implementation are written (the words are those of the B Language Reference Manual).
-use Rattle.std.specs.Prelude.{◌≡◌, ◌≢◌, ◌≤◌, ◌<◌, ℕ, suc, ◌+◌, ℤ, true, List, [], ◌∷◌, ◌++◌, length, map, take, All, Some, codes}
+use Rattle.std.specs.Prelude.{◌≡◌, ◌≢◌, ◌≤◌, ◌<◌, ℕ, suc, ◌+◌, ℤ, true, List, [], ◌∷◌, length, map, take, All, Some}
 use Rattle.std.specs.List.{AllPairs}
 use Rattle.bk_form.specs.Formula.{Formula, literal}
 use Rattle.bk_form.specs.declared.token.Token.{Token}
@@ -7,15 +7,16 @@ use Rattle.bk_form.specs.declared.token.TokenKind.{TokenKind}
 use Rattle.bk_form.specs.declared.token.TokenKind.TheVariants.{Name, Word}
 use Rattle.bk_ops.specs.declared.sign.TheConstants.{ASSIGN, SEMICOLON}
 use Rattle.bk_ops.specs.declared.word.TheConstants.{MACHINE, VARIABLES, IMPLEMENTATION, REFINES, CONCRETE_VARIABLES, INVARIANT, INITIALISATION, OPERATIONS, END}
-use Rattle.bk_raw.specs.Pieces.{Never, Just, JustSign, ◌⌢◌, Literal}
+use Rattle.bk_raw.specs.Pieces.{Never, Just, JustSign, ◌⌢◌, Literal, Absent}
 use Rattle.bk_elab.specs.Terms.{number}
 use Rattle.bk_lex.specs.Lexis.{AreTokens}
-use Rattle.bk_p_expr.specs.Depth.{open_brackets}
+use Rattle.bk_raw.specs.Brackets.{open_brackets}
 use Rattle.bk_dev.specs.Development.{Body}
-use Rattle.bk_dev.specs.Hypotheses.{conjuncts}
+use Rattle.bk_form.specs.Predicates.{conjuncts}
 use Rattle.bk_dev.specs.declared.kind.Kind.{Kind}
 use Rattle.bk_dev.specs.declared.kind.Kind.TheVariants.{Machine, Implementation}
-use Rattle.bk_comp.specs.Statements.{Absent, Condition}
+use Rattle.bk_comp.specs.Statements.{Condition}
+use Rattle.bk_p_expr.specs.Texts.{HasNoComment}
 use Rattle.bk_comp.specs.Operations.{Header, Places, BeginWithRanges, IsOperation}
 
 -- ---- places of the variables in the table: the machine's variable, each operation's inputs and its output in order, then the
@@ -101,11 +102,6 @@ Written c =
 abbrev pub IsPlain : TokenKind → Type 0
 IsPlain (Name text) = All (λ c. c < 128) text
 IsPlain kind = Unit {0}
-
--- no comment stands in the text
-pub record HasNoComment (text : List ℕ) : Type 0 where
-  pub no_block : (front back : List ℕ) → text ≢ front ++ codes "/*" ++ back
-  pub no_line : (front back : List ℕ) → text ≢ front ++ codes "//" ++ back
 
 -- the text is that of the component: 1 to 100 operations with different names, at most 10000 tokens, and nowhere more than 100
 -- brackets open

@@ -1,13 +1,8 @@
 -- What stands at the front of a list of tokens, and what all of a list is written as.
-use Rattle.std.specs.Prelude.{◌≡◌, ◌≤◌, ℕ, List, ◌∷◌, ◌++◌, take, Option, None, Some}
+use Rattle.std.specs.Prelude.{◌≡◌, List, ◌∷◌, ◌++◌, Option, None, Some}
 use Rattle.bk_form.specs.declared.token.Token.{Token}
 use Rattle.bk_form.specs.declared.token.TokenKind.{TokenKind}
-use Rattle.bk_p_expr.specs.Depth.{open_brackets}
 use Rattle.bk_comp.specs.Dividers.{IsDivided}
-
--- at most 100 brackets are open behind each of the tokens
-abbrev pub IsShallow : List Token → Type 0
-IsShallow tokens = (n : ℕ) → open_brackets (take n tokens) ≤ 100
 
 -- a token of this kind stands in front of the rest
 pub record IsBehind (kind : TokenKind) (tokens rest : List Token) : Type 0 where

@@ -10,14 +10,14 @@ use Rattle.bk_ops.specs.declared.word.TheConstants.{PRE, THEN, END}
 use Rattle.bk_gsl.specs.Substitution.{Substitution}
 use Rattle.bk_gsl.specs.State.{among}
 use Rattle.bk_gsl.specs.Writes.{written}
-use Rattle.bk_raw.specs.Pieces.{Never, Just, JustSign, ◌⌢◌, InParentheses}
+use Rattle.bk_raw.specs.Pieces.{Never, Just, JustSign, ◌⌢◌, InParentheses, Absent}
 use Rattle.bk_elab.specs.Scope.{Scope}
 use Rattle.bk_dev.specs.Development.{Body}
-use Rattle.bk_dev.specs.Hypotheses.{conjuncts}
+use Rattle.bk_form.specs.Predicates.{conjuncts}
 use Rattle.bk_dev.specs.declared.kind.Kind.{Kind}
 use Rattle.bk_dev.specs.declared.kind.Kind.TheVariants.{Machine}
 use Rattle.bk_comp.specs.declared.sight.Sight.{Sight}
-use Rattle.bk_comp.specs.Statements.{Condition, Stated, Absent}
+use Rattle.bk_comp.specs.Statements.{Condition, Stated}
 
 -- ---- headers
 -- an operation's name, and those of its inputs and of its output, if it has one

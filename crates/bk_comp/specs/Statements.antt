@@ -8,7 +8,7 @@ use Rattle.bk_ops.specs.declared.sign.TheConstants.{ASSIGN}
 use Rattle.bk_ops.specs.declared.word.TheConstants.{SKIP, IF, THEN, ELSE, END}
 use Rattle.bk_gsl.specs.Substitution.{Substitution, skip, assign, if_else}
 use Rattle.bk_raw.specs.RawTree.{RawTree}
-use Rattle.bk_raw.specs.Pieces.{Never, Just, JustSign, ◌⌢◌}
+use Rattle.bk_raw.specs.Pieces.{Never, Just, JustSign, ◌⌢◌, Absent}
 use Rattle.bk_raw.specs.Spelling.{Spells}
 use Rattle.bk_elab.specs.Scope.{Scope, found}
 use Rattle.bk_comp.specs.declared.sight.Sight.{Sight}
@@ -25,10 +25,6 @@ Condition members names f tokens = (tree : RawTree) × Spells tree tokens × (co
 -- the name of a variable that is assigned to
 abbrev pub Target : Scope → ℕ → List Token → Type 0
 Target targets x tokens = (name : List ℕ) × (found targets name ≡ Some x) × Just (Name name) tokens
-
--- nothing stands there
-abbrev pub Absent : List Token → Type 0
-Absent tokens = tokens ≡ []
 
 -- ELSE and a statement; where nothing stands, nothing happens
 abbrev pub Otherwise : Substitution → (List Token → Type 0) → List Token → Type 0

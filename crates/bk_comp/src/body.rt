@@ -1,7 +1,8 @@
 //! Bodies of operations.
 
 ghost use Rattle.std.specs.Prelude.{◌≡◌, ◌≤◌, length, IfOk};
-ghost use Rattle.bk_comp.specs.Fronts.{IsShallow, IsFound};
+ghost use Rattle.bk_comp.specs.Fronts.{IsFound};
+ghost use Rattle.bk_p_expr.specs.Texts.{HasFewBrackets};
 ghost use Rattle.bk_comp.specs.Statements.{Stated};
 ghost use Rattle.bk_comp.specs.Operations.{Guarded};
 ghost use Rattle.bk_comp.specs.Numbering.{DoneBy, GuardedFor, needs_condition};
@@ -28,7 +29,7 @@ pub(crate) fn body(
     tokens: &[Token],
 ) -> Result<Option<(Form, Sub)>, Memory>
     requires short { length tokens.now ≤ 1000 }
-    requires shallow { IsShallow tokens.now }
+    requires shallow { HasFewBrackets tokens.now }
     ensures { IfOk result (IsFound (DoneBy kind sight.now inputs.now) tokens.now) }
 {
     if let Some(rest) = behind_word(tokens, word::PRE) {
@@ -60,7 +61,7 @@ fn guarded(
     tokens: &[Token],
 ) -> Result<Option<(Form, Sub)>, Memory>
     requires short { length tokens.now ≤ 1000 }
-    requires shallow { IsShallow tokens.now }
+    requires shallow { HasFewBrackets tokens.now }
     ensures { IfOk result (IsFound (GuardedFor kind sight.now inputs.now) tokens.now) }
 {
     if kind != Kind::Machine {
@@ -82,7 +83,7 @@ pub(crate) fn whole_statement(
     tokens: &[Token],
 ) -> Result<Option<Sub>, Memory>
     requires short { length tokens.now ≤ 1000 }
-    requires shallow { IsShallow tokens.now }
+    requires shallow { HasFewBrackets tokens.now }
     ensures { IfOk result (IsFound (Stated sight.now) tokens.now) }
 {
     let Some((found, rest)) = statement(alloc, sight, tokens)? else {
@@ -102,7 +103,7 @@ pub(crate) fn preconditioned(
     tokens: &[Token],
 ) -> Result<Option<(Form, Sub)>, Memory>
     requires short { length tokens.now ≤ 1000 }
-    requires shallow { IsShallow tokens.now }
+    requires shallow { HasFewBrackets tokens.now }
     ensures { IfOk result (IsFound (Guarded sight.now) tokens.now) }
 {
     let (condition, rest) = piece(tokens);

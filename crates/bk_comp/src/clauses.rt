@@ -4,7 +4,8 @@ ghost use Rattle.std.specs.Prelude.{◌≡◌, ◌≤◌, ℕ, ℤ, pos, neg_ℤ
 ghost use Rattle.bk_form.specs.declared.token.TokenKind.TheVariants.{Number};
 ghost use Rattle.bk_raw.specs.Pieces.{Digits};
 ghost use Rattle.bk_comp.specs.Dividers.{IsUndivided};
-ghost use Rattle.bk_comp.specs.Fronts.{IsShallow, HasNoFront, IsOnlyFront, IsFound};
+ghost use Rattle.bk_comp.specs.Fronts.{HasNoFront, IsOnlyFront, IsFound};
+ghost use Rattle.bk_p_expr.specs.Texts.{HasFewBrackets};
 ghost use Rattle.bk_comp.specs.Components.{IsInvariant, Start};
 ghost use Rattle.bk_comp.specs.Clauses.{Invariant, Initialisation, OperationsClause, LaidOut};
 
@@ -117,7 +118,7 @@ pub(crate) fn invariant(
     level: &Level,
     tokens: &[Token],
 ) -> Result<Option<Form>, Memory>
-    requires shallow { IsShallow tokens.now }
+    requires shallow { HasFewBrackets tokens.now }
     requires undivided { IsUndivided tokens.now }
     ensures { IfOk result (IsFound (IsInvariant level.now.variable level.now.number) tokens.now) }
 {

@@ -2,10 +2,10 @@
 
 ghost use Rattle.std.specs.Prelude.{◌≡◌, ◌≤◌, ◌<◌, ◌↔◌, ◌||◌, nat_eq, All, IsTrue};
 ghost use Rattle.bk_form.specs.declared.token.TokenKind.TheVariants.{Sign};
-ghost use Rattle.bk_raw.specs.Brackets.{opens_bracket, closes_bracket};
-ghost use Rattle.bk_p_expr.specs.Depth.{open_behind};
-ghost use Rattle.bk_comp.specs.Fronts.{IsShallow};
-ghost use Rattle.bk_comp.specs.Components.{HasNoComment, IsPlain};
+ghost use Rattle.bk_raw.specs.Brackets.{opens_bracket, closes_bracket, open_behind};
+ghost use Rattle.bk_p_expr.specs.Texts.{HasFewBrackets};
+ghost use Rattle.bk_comp.specs.Components.{IsPlain};
+ghost use Rattle.bk_p_expr.specs.Texts.{HasNoComment};
 
 use bk_form::{Token, TokenKind};
 use bk_ops::sign;
@@ -55,7 +55,7 @@ fn is_ascii(text: &[u8]) -> bool
 
 /// Whether nowhere more than 100 brackets are open.
 pub(crate) fn is_shallow(tokens: &[Token]) -> bool
-    ensures { IsTrue result ↔ IsShallow tokens.now }
+    ensures { IsTrue result ↔ HasFewBrackets tokens.now }
 {
     let mut depth = 0;
     for token in tokens {

@@ -3,7 +3,8 @@
 ghost use Rattle.std.specs.Prelude.{◌≡◌, ◌≤◌, ◌+◌, ◌↔◌, true, length, All, IfOk, IsTrue, MatchOption};
 ghost use Rattle.bk_gsl.specs.State.{among};
 ghost use Rattle.bk_gsl.specs.Writes.{written};
-ghost use Rattle.bk_comp.specs.Fronts.{IsShallow, IsFound};
+ghost use Rattle.bk_comp.specs.Fronts.{IsFound};
+ghost use Rattle.bk_p_expr.specs.Texts.{HasFewBrackets};
 ghost use Rattle.bk_comp.specs.Operations.{numbers_from};
 ghost use Rattle.bk_comp.specs.Numbering.{IsBodyOf, IsOperationAt, places_at};
 
@@ -28,7 +29,7 @@ pub(crate) fn operation(
     outputs: u32,
     tokens: &[Token],
 ) -> Result<Option<(Header, Body)>, Memory>
-    requires shallow { IsShallow tokens.now }
+    requires shallow { HasFewBrackets tokens.now }
     requires inputs { inputs + length tokens.now ≤ 50000 }
     requires outputs { outputs + length tokens.now ≤ 50000 }
     ensures { IfOk result (IsFound (IsOperationAt level.now inputs outputs) tokens.now) }
@@ -73,7 +74,7 @@ fn body_of(
     tokens: &[Token],
 ) -> Result<Option<Body>, Memory>
     requires short { length tokens.now ≤ 1000 }
-    requires shallow { IsShallow tokens.now }
+    requires shallow { HasFewBrackets tokens.now }
     requires inputs { inputs + length header.now.inputs ≤ 100000 }
     requires outputs { outputs + length header.now.outputs ≤ 100000 }
     ensures { IfOk result (IsFound (IsBodyOf level.now

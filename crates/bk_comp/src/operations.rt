@@ -2,7 +2,7 @@
 
 ghost use Rattle.std.specs.Prelude.{◌≡◌, ◌≤◌, ◌+◌, ◌++◌, length, IfOk, IfSome, MatchOption};
 ghost use Rattle.bk_comp.specs.Dividers.{HasNoSemicolon, BeginsWithSemicolon, is_semicolon};
-ghost use Rattle.bk_comp.specs.Fronts.{IsShallow};
+ghost use Rattle.bk_p_expr.specs.Texts.{HasFewBrackets};
 ghost use Rattle.bk_comp.specs.Components.{place_behind};
 ghost use Rattle.bk_comp.specs.Numbering.{AreNoMoreOperations, AreMoreOperationsAt, AreNoOperations, AreOperationsAt, HasOutline, HasNoOutline};
 
@@ -94,7 +94,7 @@ pub(crate) fn operations(
     outputs: u32,
     tokens: &[Token],
 ) -> Result<Option<(Vec<Header>, Vec<Body>)>, Memory>
-    requires shallow { IsShallow tokens.now }
+    requires shallow { HasFewBrackets tokens.now }
     requires inputs { inputs + length tokens.now ≤ 50000 }
     requires outputs { outputs + length tokens.now ≤ 50000 }
     ensures { IfOk result (λ found. MatchOption found (AreNoOperations level.now inputs outputs tokens.now)
@@ -124,7 +124,7 @@ fn more_operations(
     outputs: u32,
     tokens: &[Token],
 ) -> Result<Option<(Vec<Header>, Vec<Body>)>, Memory>
-    requires shallow { IsShallow tokens.now }
+    requires shallow { HasFewBrackets tokens.now }
     requires divided { BeginsWithSemicolon tokens.now }
     requires inputs { inputs + length tokens.now ≤ 50000 }
     requires outputs { outputs + length tokens.now ≤ 50000 }

@@ -2,7 +2,7 @@
 
 ghost use Rattle.std.specs.Prelude.{◌≡◌, ◌↔◌, ◌++◌, ℤ, IfOk, OnOk, IsTrue};
 ghost use Rattle.bk_form.specs.Formula.{variable, literal};
-ghost use Rattle.bk_dev.specs.Hypotheses.{conjuncts};
+ghost use Rattle.bk_form.specs.Predicates.{conjuncts};
 ghost use Rattle.bk_comp.specs.Operations.{IsRangeOf, BeginWithRanges};
 
 use bk_form::{BinOp, Form, View};

@@ -2,7 +2,8 @@
 
 ghost use Rattle.std.specs.Prelude.{◌≡◌, ◌↔◌, ◌≤◌, length, IfOk, IsTrue, MatchOption};
 ghost use Rattle.bk_form.specs.declared.token.TokenKind.TheVariants.{Sign, Word};
-ghost use Rattle.bk_comp.specs.Fronts.{IsShallow, BeginsNot, IsBehind, HasNoFront, IsOnlyFront};
+ghost use Rattle.bk_comp.specs.Fronts.{BeginsNot, IsBehind, HasNoFront, IsOnlyFront};
+ghost use Rattle.bk_p_expr.specs.Texts.{HasFewBrackets};
 ghost use Rattle.bk_comp.specs.Statements.{Stated, Branched, Rest, Assigned};
 
 use crate::piece::piece;
@@ -22,7 +23,7 @@ pub(crate) fn statement<'a>(
     tokens: &'a [Token],
 ) -> Result<Option<(Sub, &'a [Token])>, Memory>
     requires short { length tokens.now ≤ 1000 }
-    requires shallow { IsShallow tokens.now }
+    requires shallow { HasFewBrackets tokens.now }
     ensures { IfOk result (λ found. MatchOption found (HasNoFront (Stated sight.now) tokens.now)
         (λ p. IsOnlyFront (Stated sight.now) tokens.now p.0 p.1.now)) }
 {
@@ -49,7 +50,7 @@ fn branches<'a>(
     tokens: &'a [Token],
 ) -> Result<Option<(Sub, &'a [Token])>, Memory>
     requires short { length tokens.now ≤ 1000 }
-    requires shallow { IsShallow tokens.now }
+    requires shallow { HasFewBrackets tokens.now }
     ensures { IfOk result (λ found. MatchOption found (HasNoFront (Branched sight.now) tokens.now)
         (λ p. IsOnlyFront (Branched sight.now) tokens.now p.0 p.1.now)) }
 {
@@ -78,7 +79,7 @@ fn otherwise<'a>(
     tokens: &'a [Token],
 ) -> Result<Option<(Sub, &'a [Token])>, Memory>
     requires short { length tokens.now ≤ 1000 }
-    requires shallow { IsShallow tokens.now }
+    requires shallow { HasFewBrackets tokens.now }
     ensures { IfOk result (λ found. MatchOption found (HasNoFront (Rest sight.now) tokens.now)
         (λ p. IsOnlyFront (Rest sight.now) tokens.now p.0 p.1.now)) }
 {
@@ -105,7 +106,7 @@ fn assignment<'a>(
     tokens: &'a [Token],
 ) -> Result<Option<(Sub, &'a [Token])>, Memory>
     requires short { length tokens.now ≤ 1000 }
-    requires shallow { IsShallow tokens.now }
+    requires shallow { HasFewBrackets tokens.now }
     ensures { IfOk result (λ found. MatchOption found (HasNoFront (Assigned sight.now name.now) tokens.now)
         (λ p. IsOnlyFront (Assigned sight.now name.now) tokens.now p.0 p.1.now)) }
 {

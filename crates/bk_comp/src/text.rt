@@ -4,7 +4,7 @@ ghost use Rattle.std.specs.Prelude.{◌≡◌, ◌≤◌, ◌≢◌, length, IfO
 ghost use Rattle.bk_lex.specs.declared.fault.LexFault.TheVariants.{Memory as NoMemory};
 ghost use Rattle.bk_dev.specs.declared.kind.Kind.TheVariants.{Machine};
 ghost use Rattle.bk_comp.specs.Dividers.{IsUndivided};
-ghost use Rattle.bk_comp.specs.Fronts.{IsShallow};
+ghost use Rattle.bk_p_expr.specs.Texts.{HasFewBrackets};
 ghost use Rattle.bk_comp.specs.Components.{Component, IsTextOf, IsTextOfNone};
 ghost use Rattle.bk_comp.specs.Clauses.{IsMadeOf, IsWritten, IsUnwritten, IsWithinLimits, IsBeyondLimits};
 ghost use Rattle.bk_comp.specs.Numbering.{variable_number};
@@ -68,7 +68,7 @@ fn had_memory(fault: LexFault) -> Result<(), Memory>
 // The component that all of the tokens are written as.
 fn written(alloc: Global, tokens: &[Token]) -> Result<Option<Component>, Memory>
     requires short { length tokens.now ≤ 10000 }
-    requires shallow { IsShallow tokens.now }
+    requires shallow { HasFewBrackets tokens.now }
     ensures { IfOk result (λ found. MatchOption found (IsUnwritten tokens.now) (λ c. IsWritten tokens.now c)) }
 {
     let Some((opening, rest)) = opened(alloc, tokens)? else {
@@ -83,9 +83,9 @@ fn written(alloc: Global, tokens: &[Token]) -> Result<Option<Component>, Memory>
 // The component of these clauses.
 fn made(alloc: Global, opening: Opening, clauses: &Clauses<'_>) -> Result<Option<Component>, Memory>
     requires short { length clauses.now.operations.now ≤ 10000 }
-    requires shallow_invariant { IsShallow clauses.now.invariant.now }
+    requires shallow_invariant { HasFewBrackets clauses.now.invariant.now }
     requires undivided { IsUndivided clauses.now.invariant.now }
-    requires shallow_operations { IsShallow clauses.now.operations.now }
+    requires shallow_operations { HasFewBrackets clauses.now.operations.now }
     ensures { IfOk result (λ found. MatchOption found ((c : Component) →
         IsMadeOf opening (record {
           variable = clauses.now.variable.now;

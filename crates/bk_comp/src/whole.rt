@@ -5,7 +5,8 @@ ghost use Rattle.bk_raw.specs.RawTree.{RawTree, tree_height};
 ghost use Rattle.bk_raw.specs.Spelling.{Spells};
 ghost use Rattle.bk_p_expr.specs.declared.fault.SynFault.TheVariants.{Memory as NoMemory};
 ghost use Rattle.bk_comp.specs.Dividers.{IsUndivided};
-ghost use Rattle.bk_comp.specs.Fronts.{IsShallow, IsFound};
+ghost use Rattle.bk_comp.specs.Fronts.{IsFound};
+ghost use Rattle.bk_p_expr.specs.Texts.{HasFewBrackets};
 ghost use Rattle.bk_comp.specs.Statements.{Term, Condition};
 
 use bk_bind::BindFault;
@@ -19,7 +20,7 @@ use std::alloc::Global;
 // The term that all of the tokens are written as, unless it is higher than the formula of so few tokens can be.
 fn whole_term(alloc: Global, tokens: &[Token]) -> Result<Option<RawTerm>, Memory>
     requires short { length tokens.now ≤ 1000 }
-    requires shallow { IsShallow tokens.now }
+    requires shallow { HasFewBrackets tokens.now }
     requires undivided { IsUndivided tokens.now }
     ensures some { IfOk result (λ found. IfSome found (λ t. Spells t tokens.now)) }
     ensures none { IfOk result
@@ -57,7 +58,7 @@ pub(crate) fn whole_expression(
     tokens: &[Token],
 ) -> Result<Option<Form>, Memory>
     requires short { length tokens.now ≤ 1000 }
-    requires shallow { IsShallow tokens.now }
+    requires shallow { HasFewBrackets tokens.now }
     requires undivided { IsUndivided tokens.now }
     ensures { IfOk result (IsFound (Term names.now) tokens.now) }
 {
@@ -80,7 +81,7 @@ pub(crate) fn whole_condition(
     tokens: &[Token],
 ) -> Result<Option<Form>, Memory>
     requires short { length tokens.now ≤ 1000 }
-    requires shallow { IsShallow tokens.now }
+    requires shallow { HasFewBrackets tokens.now }
     requires undivided { IsUndivided tokens.now }
     ensures { IfOk result (IsFound (Condition members names.now) tokens.now) }
 {

@@ -2,26 +2,24 @@
 use Rattle.std.proofs.Common.{◌≡◌, inl, inr, ℕ, List, [], ◌∷◌, ◌++◌, map, refl, sym, ◌∙◌, ap, subst, Bool, true, false, not, cond, ◌&&◌, ◌||◌, nat_eq}
 use Rattle.std.specs.List.{filter}
 use Rattle.bk_form.specs.Table.{Table}
-use Rattle.bk_form.specs.Formula.{Formula, variable, btrue, unary, binary, for_all, for_some, comprehension, lambda, Formulas, no_formulas, formula_and}
+use Rattle.bk_form.specs.Formula.{Formula}
 use Rattle.bk_form.specs.Search.{Finder}
-use Rattle.bk_form.specs.Environment.{Environment, State, under}
-use Rattle.bk_form.specs.Role.{given_by}
-use Rattle.bk_form.specs.Table.{variable_type}
-use Rattle.bk_form.specs.Replacement.{occurs, any_occurs}
-use Rattle.bk_form.specs.Meaning.{Meaning, meaning, meanings, of_value, unary_meaning, binary_meaning, all_meaning, some_meaning, comprehension_meaning, lambda_meaning, range_types}
+use Rattle.bk_form.specs.Environment.{State, at_state}
+use Rattle.bk_form.specs.Meaning.{Meaning}
 use Rattle.bk_form.specs.Operators.{is_equal}
-use Rattle.bk_form.specs.Table.{set_size}
-use Rattle.bk_form.specs.declared.operator.BinOp.TheVariants.{And}
-use Rattle.bk_form.proofs.Members.{and-both}
 use Rattle.bk_gsl.specs.Substitution.{Substitution, skip, assign, pre, guard, choice, if_else, any, seq, par, assert, becomes_such, loop}
-use Rattle.bk_gsl.specs.State.{at_state, holds, among, firsts}
+use Rattle.bk_gsl.specs.State.{holds, among, firsts}
 use Rattle.bk_gsl.specs.Writes.{written}
 use Rattle.bk_gsl.specs.Run.{Runs}
-use Rattle.bk_gsl.proofs.States.{cases, clash, or-false, nat_eq-same, nat_eq-self, among-append}
+use Rattle.bk_gsl.proofs.States.{cases, clash, or-false, nat_eq-same, among-append}
 use Rattle.bk_gsl.proofs.Runs.{outside}
 use Rattle.bk_dev.specs.Development.{Level, Development}
-use Rattle.bk_dev.specs.Facts.{AllAre, AssignsIn, StaysIn, Names, Each, IsLink, names_joined, is_constant, is_variable_of, is_variable_above, home_of}
-use Rattle.bk_dev.specs.Hypotheses.{AreTrue, conjuncts, joining, link_equation}
+use Rattle.bk_dev.specs.Facts.{AllAre, AssignsIn, StaysIn, Names, IsLink, names_joined, is_constant, is_variable_of, is_variable_above, home_of}
+use Rattle.bk_form.specs.Each.{Each}
+use Rattle.bk_dev.specs.Hypotheses.{joining}
+use Rattle.bk_form.specs.Predicates.{AllHold, conjuncts, equation}
+use Rattle.bk_form.proofs.Conjuncts.{true-append, true-first, true-second, parts-true, whole-true}
+use Rattle.bk_form.proofs.Agreement.{meaning-state}
 
 pub or-left : (a b : Bool) → a ≡ true → a || b ≡ true
 or-left true b h = refl
@@ -39,57 +37,13 @@ pub both-false : (a b : Bool) → a ≡ false → b ≡ false → a || b ≡ fal
 both-false true b h k = clash true refl h
 both-false false b h k = k
 
--- ---- formulas
-module _ (find : Finder) (s : State) where
-  mutual
-    meaning-same : (e : Environment) (f : Formula) → ((n : ℕ) → occurs n f ≡ true → e.state n ≡ s n) → meaning find e f ≡ meaning find (record e { state = s }) f
-    meaning-same e (variable n) h = λ i. of_value (given_by (variable_type e.table n)) (h n (nat_eq-self n) i)
-    meaning-same e (unary o a) h = λ i. unary_meaning o (meaning-same e a h i)
-    meaning-same e (binary o a b) h = λ i. binary_meaning find (set_size e.table) o (meaning-same e a (λ n k. h n (or-left (occurs n a) (occurs n b) k)) i) (meaning-same e b (λ n k. h n (or-right (occurs n a) (occurs n b) k)) i)
-    meaning-same e (for_all ts p) h = λ i. all_meaning find e.table ts (λ vs. meaning-same (under e ts vs) p h i)
-    meaning-same e (for_some ts p) h = λ i. some_meaning find e.table ts (λ vs. meaning-same (under e ts vs) p h i)
-    meaning-same e (comprehension rs p) h =
-        let r = meanings-same e rs (λ n k. h n (or-left (any_occurs n rs) (occurs n p) k)) in
-        λ i. comprehension_meaning (r i) (λ vs. meaning-same (under e (range_types (r i)) vs) p (λ n k. h n (or-right (any_occurs n rs) (occurs n p) k)) i)
-    meaning-same e (lambda rs p v) h =
-        let r = meanings-same e rs (λ n k. h n (or-left (any_occurs n rs || occurs n p) (occurs n v) (or-left (any_occurs n rs) (occurs n p) k))) in
-        λ i. lambda_meaning (r i) (λ vs. meaning-same (under e (range_types (r i)) vs) p (λ n k. h n (or-left (any_occurs n rs || occurs n p) (occurs n v) (or-right (any_occurs n rs) (occurs n p) k))) i)
-        (λ vs. meaning-same (under e (range_types (r i)) vs) v (λ n k. h n (or-right (any_occurs n rs || occurs n p) (occurs n v) k)) i)
-    meaning-same e _ h = refl
-
-    meanings-same : (e : Environment) (fs : Formulas) → ((n : ℕ) → any_occurs n fs ≡ true → e.state n ≡ s n) → meanings find e fs ≡ meanings find (record e { state = s }) fs
-    meanings-same e no_formulas h = refl
-    meanings-same e (formula_and f fs) h = λ i. meaning-same e f (λ n k. h n (or-left (occurs n f) (any_occurs n fs) k)) i ∷ meanings-same e fs (λ n k. h n (or-right (occurs n f) (any_occurs n fs) k)) i
-
 -- two states with the same values for all that a formula may name give it the same truth
 pub holds-same : (find : Finder) (table : Table) (e f : State) (visible : ℕ → Bool) (p : Formula) → Names visible p → ((n : ℕ) → visible n ≡ true → e n ≡ f n) → holds find table e p ≡ holds find table f p
-holds-same find table e f visible p names same = ap (λ (m : Meaning). m.truth) (meaning-same find f (at_state table e) p (λ n k. same n (names.visible_only n k)))
+holds-same find table e f visible p names same = ap (λ (m : Meaning). m.truth) (meaning-state find table e f p (λ n k. same n (names.visible_only n k)))
 
 -- ---- conjunctions
 module _ (find : Finder) (table : Table) where
-  pub true-append : (e : State) (ps qs : List Formula) → AreTrue find table e ps → AreTrue find table e qs → AreTrue find table e (ps ++ qs)
-  true-append e [] qs h k = k
-  true-append e (p ∷ ps) qs h k = (h.0, true-append e ps qs h.1 k)
-
-  pub true-first : (e : State) (ps qs : List Formula) → AreTrue find table e (ps ++ qs) → AreTrue find table e ps
-  true-first e [] qs h = tt
-  true-first e (p ∷ ps) qs h = (h.0, true-first e ps qs h.1)
-
-  pub true-second : (e : State) (ps qs : List Formula) → AreTrue find table e (ps ++ qs) → AreTrue find table e qs
-  true-second e [] qs h = h
-  true-second e (p ∷ ps) qs h = true-second e ps qs h.1
-
-  pub parts-true : (e : State) (p : Formula) → holds find table e p ≡ true → AreTrue find table e (conjuncts p)
-  parts-true e (binary And p q) h = let w = and-both (holds find table e p) (holds find table e q) h in true-append e (conjuncts p) (conjuncts q) (parts-true e p w.0) (parts-true e q w.1)
-  parts-true e btrue h = tt
-  parts-true e p h = (h, tt)
-
-  pub whole-true : (e : State) (p : Formula) → AreTrue find table e (conjuncts p) → holds find table e p ≡ true
-  whole-true e (binary And p q) h = both-true (holds find table e p) (holds find table e q) (whole-true e p (true-first e (conjuncts p) (conjuncts q) h)) (whole-true e q (true-second e (conjuncts p) (conjuncts q) h))
-  whole-true e btrue h = refl
-  whole-true e p h = h.0
-
-  links-same : (dev : Development) (k : ℕ) (ls : List (ℕ × ℕ)) → Each (IsLink dev k) ls → (e f : State) → ((n : ℕ) → names_joined dev k n ≡ true → e n ≡ f n) → AreTrue find table e (map link_equation ls) → AreTrue find table f (map link_equation ls)
+  links-same : (dev : Development) (k : ℕ) (ls : List (ℕ × ℕ)) → Each (IsLink dev k) ls → (e f : State) → ((n : ℕ) → names_joined dev k n ≡ true → e n ≡ f n) → AllHold find (at_state table e) (map equation ls) → AllHold find (at_state table f) (map equation ls)
   links-same dev k [] each e f same h = tt
   links-same dev k (l ∷ ls) each e f same h =
       let below = same l.0 (or-left (is_constant (home_of dev l.0) || is_variable_of k (home_of dev l.0)) (is_variable_above k (home_of dev l.0)) (or-right (is_constant (home_of dev l.0)) (is_variable_of k (home_of dev l.0)) each.0.below)) in
@@ -97,11 +51,11 @@ module _ (find : Finder) (table : Table) where
       let above = same l.1 (or-right (is_constant (home_of dev l.1) || is_variable_of k (home_of dev l.1)) (is_variable_above k (home_of dev l.1)) up) in
       (sym (λ i. is_equal (below i) (above i)) ∙ h.0, links-same dev k ls each.1 e f same h.1)
 
-  pub joining-same : (dev : Development) (k : ℕ) (l : Level) → Names (names_joined dev k) l.invariant → Each (IsLink dev k) l.links → (e f : State) → ((n : ℕ) → names_joined dev k n ≡ true → e n ≡ f n) → AreTrue find table e (joining l) → AreTrue find table f (joining l)
+  pub joining-same : (dev : Development) (k : ℕ) (l : Level) → Names (names_joined dev k) l.invariant → Each (IsLink dev k) l.links → (e f : State) → ((n : ℕ) → names_joined dev k n ≡ true → e n ≡ f n) → AllHold find (at_state table e) (joining l) → AllHold find (at_state table f) (joining l)
   joining-same dev k l names each e f same h =
-      let p = whole-true e l.invariant (true-first e (conjuncts l.invariant) (map link_equation l.links) h) in
+      let p = whole-true find (at_state table e) l.invariant (true-first find (at_state table e) (conjuncts l.invariant) (map equation l.links) h) in
       let q = sym (holds-same find table e f (names_joined dev k) l.invariant names same) ∙ p in
-      true-append f (conjuncts l.invariant) (map link_equation l.links) (parts-true f l.invariant q) (links-same dev k l.links each e f same (true-second e (conjuncts l.invariant) (map link_equation l.links) h))
+      true-append find (at_state table f) (conjuncts l.invariant) (map equation l.links) (parts-true find (at_state table f) l.invariant q) (links-same dev k l.links each e f same (true-second find (at_state table e) (conjuncts l.invariant) (map equation l.links) h))
 
 -- ---- what is written
 append-none : (xs ys : List ℕ) (n : ℕ) → among xs n ≡ false → among ys n ≡ false → among (xs ++ ys) n ≡ false

@@ -6,35 +6,37 @@ use Rattle.std.proofs.lemmas.Bool.Decides.{nat_tests}
 use Rattle.bk_val.specs.CmpLaws.{same_value}
 use Rattle.bk_form.specs.Formula.{Formula}
 use Rattle.bk_form.specs.Search.{Finder}
-use Rattle.bk_form.specs.Environment.{State}
+use Rattle.bk_form.specs.Environment.{State, IsTypedState, at_state}
 use Rattle.bk_gsl.specs.Substitution.{Substitution}
-use Rattle.bk_gsl.specs.State.{IsTypedState, among}
+use Rattle.bk_gsl.specs.State.{among}
 use Rattle.bk_gsl.specs.Run.{Runs}
 use Rattle.bk_gsl.proofs.States.{nat_eq-self}
 use Rattle.bk_gsl.proofs.Runs.{run-typed}
 use Rattle.bk_dev.specs.declared.kind.Home.{Home}
-use Rattle.bk_dev.specs.declared.kind.Home.TheVariants.{Constant, Input, Variable, Inner}
+use Rattle.bk_dev.specs.declared.kind.Home.TheVariants.{Constant, Input, Abstract, Inner, Concrete}
 use Rattle.bk_dev.specs.Development.{Level, Development, blank_level, level_at, last}
-use Rattle.bk_dev.specs.Hypotheses.{AreTrue, joining, link_equation}
-use Rattle.bk_dev.specs.Facts.{is_constant, is_input, is_variable_of, is_variable_above, is_inner_of, home_of, names_own, names_joined, writes_own, AllAre, IsSubOf, IsDevelopment}
+use Rattle.bk_dev.specs.Hypotheses.{joining}
+use Rattle.bk_form.specs.Predicates.{AllHold, equation}
+use Rattle.bk_dev.specs.Facts.{is_constant, is_input, is_variable_of, is_variable_above, is_inner_of, home_of, names_own, names_joined, writes_own, AllAre, IsSubOf, IsLawful}
 use Rattle.bk_dev.specs.Claims.{beside, JoinsAt}
 use Rattle.bk_dev.proofs.Levels.{level_fact}
-use Rattle.bk_dev.proofs.Agree.{all-among, or-left, or-right, both-false, all-none, true-append, true-first, true-second, joining-same, unchanged}
+use Rattle.bk_dev.proofs.Agree.{all-among, or-left, or-right, both-false, all-none, joining-same, unchanged}
+use Rattle.bk_form.proofs.Conjuncts.{true-append, true-first, true-second}
 
 -- ---- levels one by one
 module _ (find : Finder) (dev : Development) (e : State) (F : Level → List Formula) where
-  pub flat-then : (n : ℕ) (ls : List Level) → AreTrue find dev.table e (flat_map F (take n ls)) → (j : ℕ) → j < n → j < length ls → AreTrue find dev.table e (F (slice_index_or ls j blank_level))
+  pub flat-then : (n : ℕ) (ls : List Level) → AllHold find (at_state dev.table e) (flat_map F (take n ls)) → (j : ℕ) → j < n → j < length ls → AllHold find (at_state dev.table e) (F (slice_index_or ls j blank_level))
   flat-then zero [] h j p q = absurd (omega arith)
   flat-then zero (l ∷ ls) h j p q = absurd (omega arith)
   flat-then (suc n) [] h j p q = absurd (omega arith)
-  flat-then (suc n) (l ∷ ls) h zero p q = true-first find dev.table e (F l) (flat_map F (take n ls)) h
-  flat-then (suc n) (l ∷ ls) h (suc j) p q = flat-then n ls (true-second find dev.table e (F l) (flat_map F (take n ls)) h) j (omega arith) (omega arith)
+  flat-then (suc n) (l ∷ ls) h zero p q = true-first find (at_state dev.table e) (F l) (flat_map F (take n ls)) h
+  flat-then (suc n) (l ∷ ls) h (suc j) p q = flat-then n ls (true-second find (at_state dev.table e) (F l) (flat_map F (take n ls)) h) j (omega arith) (omega arith)
 
-  pub flat-if : (n : ℕ) (ls : List Level) → ((j : ℕ) → j < n → j < length ls → AreTrue find dev.table e (F (slice_index_or ls j blank_level))) → AreTrue find dev.table e (flat_map F (take n ls))
+  pub flat-if : (n : ℕ) (ls : List Level) → ((j : ℕ) → j < n → j < length ls → AllHold find (at_state dev.table e) (F (slice_index_or ls j blank_level))) → AllHold find (at_state dev.table e) (flat_map F (take n ls))
   flat-if zero [] h = tt
   flat-if zero (l ∷ ls) h = tt
   flat-if (suc n) [] h = tt
-  flat-if (suc n) (l ∷ ls) h = true-append find dev.table e (F l) (flat_map F (take n ls)) (h zero (omega arith) (omega arith)) (flat-if n ls (λ j p q. h (suc j) (omega arith) (omega arith)))
+  flat-if (suc n) (l ∷ ls) h = true-append find (at_state dev.table e) (F l) (flat_map F (take n ls)) (h zero (omega arith) (omega arith)) (flat-if n ls (λ j p q. h (suc j) (omega arith) (omega arith)))
 
 -- ---- homes
 -- a variable of the level, an input, or what the level binds
@@ -43,7 +45,8 @@ has_cell k h = is_variable_of k h || is_input h || is_inner_of k h
 
 -- no variable of level k or further down, and not bound there
 abbrev pub is_before : ℕ → Option Home → Bool
-is_before k (Some (Variable j)) = nat_lt j k
+is_before k (Some (Abstract j)) = nat_lt j k
+is_before k (Some (Concrete j)) = nat_lt j k
 is_before k (Some (Inner j)) = nat_lt j k
 is_before k _ = true
 
@@ -51,49 +54,56 @@ pub before-more : (k : ℕ) (o : Option Home) → is_before k o ≡ true → is_
 before-more k None h = refl
 before-more k (Some Constant) h = refl
 before-more k (Some Input) h = refl
-before-more k (Some (Variable j)) h = grind (arith, nat_tests)
+before-more k (Some (Abstract j)) h = grind (arith, nat_tests)
+before-more k (Some (Concrete j)) h = grind (arith, nat_tests)
 before-more k (Some (Inner j)) h = grind (arith, nat_tests)
 
 before-not-variable : (k i : ℕ) → k ≤ i → (o : Option Home) → is_before k o ≡ true → is_variable_of i o ≡ false
 before-not-variable k i p None h = refl
 before-not-variable k i p (Some Constant) h = refl
 before-not-variable k i p (Some Input) h = refl
-before-not-variable k i p (Some (Variable j)) h = grind (arith, nat_tests)
+before-not-variable k i p (Some (Abstract j)) h = grind (arith, nat_tests)
+before-not-variable k i p (Some (Concrete j)) h = grind (arith, nat_tests)
 before-not-variable k i p (Some (Inner j)) h = refl
 
 before-not-inner : (k i : ℕ) → k ≤ i → (o : Option Home) → is_before k o ≡ true → is_inner_of i o ≡ false
 before-not-inner k i p None h = refl
 before-not-inner k i p (Some Constant) h = refl
 before-not-inner k i p (Some Input) h = refl
-before-not-inner k i p (Some (Variable j)) h = refl
+before-not-inner k i p (Some (Abstract j)) h = refl
+before-not-inner k i p (Some (Concrete j)) h = refl
 before-not-inner k i p (Some (Inner j)) h = grind (arith, nat_tests)
 
 pub constant-before : (k : ℕ) (o : Option Home) → is_constant o ≡ true → is_before k o ≡ true
 constant-before k None h = refl
 constant-before k (Some Constant) h = refl
 constant-before k (Some Input) h = refl
-constant-before k (Some (Variable j)) h = absurd (cc)
+constant-before k (Some (Abstract j)) h = absurd (cc)
+constant-before k (Some (Concrete j)) h = absurd (cc)
 constant-before k (Some (Inner j)) h = absurd (cc)
 
 pub input-before : (k : ℕ) (o : Option Home) → is_input o ≡ true → is_before k o ≡ true
 input-before k None h = refl
 input-before k (Some Constant) h = refl
 input-before k (Some Input) h = refl
-input-before k (Some (Variable j)) h = absurd (cc)
+input-before k (Some (Abstract j)) h = absurd (cc)
+input-before k (Some (Concrete j)) h = absurd (cc)
 input-before k (Some (Inner j)) h = absurd (cc)
 
 pub variable-before : (k i : ℕ) → i < k → (o : Option Home) → is_variable_of i o ≡ true → is_before k o ≡ true
 variable-before k i p None h = refl
 variable-before k i p (Some Constant) h = refl
 variable-before k i p (Some Input) h = refl
-variable-before k i p (Some (Variable j)) h = grind (arith, nat_tests)
+variable-before k i p (Some (Abstract j)) h = grind (arith, nat_tests)
+variable-before k i p (Some (Concrete j)) h = grind (arith, nat_tests)
 variable-before k i p (Some (Inner j)) h = absurd (cc)
 
 pub inner-before : (k i : ℕ) → i < k → (o : Option Home) → is_inner_of i o ≡ true → is_before k o ≡ true
 inner-before k i p None h = refl
 inner-before k i p (Some Constant) h = refl
 inner-before k i p (Some Input) h = refl
-inner-before k i p (Some (Variable j)) h = absurd (cc)
+inner-before k i p (Some (Abstract j)) h = absurd (cc)
+inner-before k i p (Some (Concrete j)) h = absurd (cc)
 inner-before k i p (Some (Inner j)) h = grind (arith, nat_tests)
 
 pub above-before : (k i : ℕ) → i ≤ k → (o : Option Home) → is_variable_above i o ≡ true → is_before k o ≡ true
@@ -105,7 +115,12 @@ cell-not-variable : (k l : ℕ) → k < l → (o : Option Home) → has_cell l o
 cell-not-variable k l p None h = refl
 cell-not-variable k l p (Some Constant) h = refl
 cell-not-variable k l p (Some Input) h = refl
-cell-not-variable k l p (Some (Variable i)) h = by_test (nat_eq i l) refl h
+cell-not-variable k l p (Some (Abstract i)) h = by_test (nat_eq i l) refl h
+  where
+    by_test : (b : Bool) → nat_eq i l ≡ b → b || false || false ≡ true → nat_eq i k ≡ false
+    by_test true q r = grind (arith, nat_tests)
+    by_test false q r = absurd (cc)
+cell-not-variable k l p (Some (Concrete i)) h = by_test (nat_eq i l) refl h
   where
     by_test : (b : Bool) → nat_eq i l ≡ b → b || false || false ≡ true → nat_eq i k ≡ false
     by_test true q r = grind (arith, nat_tests)
@@ -116,7 +131,8 @@ cell-not-inner : (k l : ℕ) → k < l → (o : Option Home) → has_cell l o �
 cell-not-inner k l p None h = refl
 cell-not-inner k l p (Some Constant) h = refl
 cell-not-inner k l p (Some Input) h = refl
-cell-not-inner k l p (Some (Variable i)) h = refl
+cell-not-inner k l p (Some (Abstract i)) h = refl
+cell-not-inner k l p (Some (Concrete i)) h = refl
 cell-not-inner k l p (Some (Inner i)) h = grind (arith, nat_tests)
 
 -- constants and variables are not bound
@@ -124,42 +140,48 @@ constant-not-variable : (k : ℕ) (o : Option Home) → is_constant o ≡ true �
 constant-not-variable k None h = refl
 constant-not-variable k (Some Constant) h = refl
 constant-not-variable k (Some Input) h = refl
-constant-not-variable k (Some (Variable j)) h = absurd (cc)
+constant-not-variable k (Some (Abstract j)) h = absurd (cc)
+constant-not-variable k (Some (Concrete j)) h = absurd (cc)
 constant-not-variable k (Some (Inner j)) h = refl
 
 constant-not-inner : (k : ℕ) (o : Option Home) → is_constant o ≡ true → is_inner_of k o ≡ false
 constant-not-inner k None h = refl
 constant-not-inner k (Some Constant) h = refl
 constant-not-inner k (Some Input) h = refl
-constant-not-inner k (Some (Variable j)) h = refl
+constant-not-inner k (Some (Abstract j)) h = refl
+constant-not-inner k (Some (Concrete j)) h = refl
 constant-not-inner k (Some (Inner j)) h = absurd (cc)
 
 later-not-variable : (k j : ℕ) → k < j → (o : Option Home) → is_variable_of j o ≡ true → is_variable_of k o ≡ false
 later-not-variable k j p None h = refl
 later-not-variable k j p (Some Constant) h = refl
 later-not-variable k j p (Some Input) h = refl
-later-not-variable k j p (Some (Variable i)) h = grind (arith, nat_tests)
+later-not-variable k j p (Some (Abstract i)) h = grind (arith, nat_tests)
+later-not-variable k j p (Some (Concrete i)) h = grind (arith, nat_tests)
 later-not-variable k j p (Some (Inner i)) h = refl
 
 later-variable-not-inner : (k j : ℕ) (o : Option Home) → is_variable_of j o ≡ true → is_inner_of k o ≡ false
 later-variable-not-inner k j None h = refl
 later-variable-not-inner k j (Some Constant) h = refl
 later-variable-not-inner k j (Some Input) h = refl
-later-variable-not-inner k j (Some (Variable i)) h = refl
+later-variable-not-inner k j (Some (Abstract i)) h = refl
+later-variable-not-inner k j (Some (Concrete i)) h = refl
 later-variable-not-inner k j (Some (Inner i)) h = absurd (cc)
 
 later-inner-not-variable : (k j : ℕ) (o : Option Home) → is_inner_of j o ≡ true → is_variable_of k o ≡ false
 later-inner-not-variable k j None h = refl
 later-inner-not-variable k j (Some Constant) h = refl
 later-inner-not-variable k j (Some Input) h = refl
-later-inner-not-variable k j (Some (Variable i)) h = absurd (cc)
+later-inner-not-variable k j (Some (Abstract i)) h = absurd (cc)
+later-inner-not-variable k j (Some (Concrete i)) h = absurd (cc)
 later-inner-not-variable k j (Some (Inner i)) h = refl
 
 later-inner-not-inner : (k j : ℕ) → k < j → (o : Option Home) → is_inner_of j o ≡ true → is_inner_of k o ≡ false
 later-inner-not-inner k j p None h = refl
 later-inner-not-inner k j p (Some Constant) h = refl
 later-inner-not-inner k j p (Some Input) h = refl
-later-inner-not-inner k j p (Some (Variable i)) h = refl
+later-inner-not-inner k j p (Some (Abstract i)) h = refl
+later-inner-not-inner k j p (Some (Concrete i)) h = refl
 later-inner-not-inner k j p (Some (Inner i)) h = grind (arith, nat_tests)
 
 -- ---- names
@@ -193,7 +215,7 @@ map-same (x ∷ xs) a b h =
     let rest = map-same xs a b (λ n k. h n (or-right (nat_eq n x) (among xs n) k)) in
     λ i. first i ∷ rest i
 
-beside-equal : (find : Finder) (dev : Development) (z : State) (xs ys : List ℕ) → length xs ≡ length ys → AreTrue find dev.table z (map link_equation (beside xs ys)) → map z xs ≡ map z ys
+beside-equal : (find : Finder) (dev : Development) (z : State) (xs ys : List ℕ) → length xs ≡ length ys → AllHold find (at_state dev.table z) (map equation (beside xs ys)) → map z xs ≡ map z ys
 beside-equal find dev z [] [] many h = refl
 beside-equal find dev z [] (y ∷ ys) many h = absurd (omega (arith, many))
 beside-equal find dev z (x ∷ xs) [] many h = absurd (omega (arith, many))
@@ -212,7 +234,7 @@ pub record Climbed (find : Finder) (dev : Development) (sub : ℕ → Substituti
   pub same : (n : ℕ) → is_before (suc k) (home_of dev n) ≡ true → before n ≡ e n
   -- the cells are those of the last level's run
   pub kept : (n : ℕ) → has_cell (last dev) (home_of dev n) ≡ true → after n ≡ top n
-  pub joins : (j : ℕ) → k < j → j ≤ last dev → AreTrue find dev.table after (joining (level_at dev j))
+  pub joins : (j : ℕ) → k < j → j ≤ last dev → AllHold find (at_state dev.table after) (joining (level_at dev j))
   pub gives : map after (outs k) ≡ map top (outs (last dev))
 
 -- each run of a level's body from a state that is e in all that is not further down is answered by one of the level above
@@ -220,7 +242,7 @@ abbrev pub Carry : Finder → Development → (ℕ → Substitution) → (ℕ �
 Carry find dev sub outs e = (k : ℕ) → suc k ≤ last dev → (x y : State) → IsTypedState dev.table x → ((n : ℕ) → is_before (suc (suc k)) (home_of dev n) ≡ true → x n ≡ e n) → Runs find dev.table (sub (suc k)) x y →
     (z : State) × Runs find dev.table (sub k) y z × JoinsAt find dev (suc k) (outs (suc k)) (outs k) z
 
-module _ (find : Finder) (dev : Development) (facts : IsDevelopment dev) (inputs : List ℕ) (sub : ℕ → Substitution) (outs : ℕ → List ℕ)
+module _ (find : Finder) (dev : Development) (facts : IsLawful dev) (inputs : List ℕ) (sub : ℕ → Substitution) (outs : ℕ → List ℕ)
     (subs : (k : ℕ) → k ≤ last dev → IsSubOf dev k inputs (outs k) (sub k)) (inner : (k : ℕ) → k ≤ last dev → AllAre (λ n. is_inner_of k (home_of dev n)) (outs k))
     (as_many : (k : ℕ) → suc k ≤ last dev → length (outs (suc k)) ≡ length (outs k)) where
   -- what level k's body leaves
@@ -239,8 +261,8 @@ module _ (find : Finder) (dev : Development) (facts : IsDevelopment dev) (inputs
     climb-one k m c =
         let w = carry k m c.before c.after c.typed c.same c.runs in
         let z = w.0 in
-        let joined : AreTrue find dev.table z (joining (level_at dev (suc k))) = true-first find dev.table z (joining (level_at dev (suc k))) (map link_equation (beside (outs (suc k)) (outs k))) w.2 in
-        let linked : AreTrue find dev.table z (map link_equation (beside (outs (suc k)) (outs k))) = true-second find dev.table z (joining (level_at dev (suc k))) (map link_equation (beside (outs (suc k)) (outs k))) w.2 in
+        let joined : AllHold find (at_state dev.table z) (joining (level_at dev (suc k))) = true-first find (at_state dev.table z) (joining (level_at dev (suc k))) (map equation (beside (outs (suc k)) (outs k))) w.2 in
+        let linked : AllHold find (at_state dev.table z) (map equation (beside (outs (suc k)) (outs k))) = true-second find (at_state dev.table z) (joining (level_at dev (suc k))) (map equation (beside (outs (suc k)) (outs k))) w.2 in
         record {
           before = c.after;
           after = z;
@@ -272,8 +294,8 @@ module _ (find : Finder) (dev : Development) (facts : IsDevelopment dev) (inputs
             (λ q. sym (stays k (omega arith) c.after z r n (later-not-variable k j (omega arith) (home_of dev n) q) (later-variable-not-inner k j (home_of dev n) q)))
             (above-stays z r j p n)
 
-        later : (z : State) → Runs find dev.table (sub k) c.after z → AreTrue find dev.table z (joining (level_at dev (suc k))) → (j : ℕ) → k < j → j ≤ last dev → (j ≡ suc k) ⊎ (suc k < j) → AreTrue find dev.table z (joining (level_at dev j))
-        later z r joined j p q (inl same) = subst (λ i. AreTrue find dev.table z (joining (level_at dev i))) (sym same) joined
+        later : (z : State) → Runs find dev.table (sub k) c.after z → AllHold find (at_state dev.table z) (joining (level_at dev (suc k))) → (j : ℕ) → k < j → j ≤ last dev → (j ≡ suc k) ⊎ (suc k < j) → AllHold find (at_state dev.table z) (joining (level_at dev j))
+        later z r joined j p q (inl same) = subst (λ i. AllHold find (at_state dev.table z) (joining (level_at dev i))) (sym same) joined
         later z r joined j p q (inr more) =
             let l = level_fact dev facts j (within j q) in
             joining-same find dev.table dev j (level_at dev j) l.invariant.names l.links c.after z (named-stays z r j more) (c.joins j more q)

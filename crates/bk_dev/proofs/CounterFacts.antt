@@ -10,22 +10,22 @@ use Rattle.bk_gsl.specs.State.{among}
 use Rattle.bk_gsl.proofs.States.{nat_eq-same}
 use Rattle.bk_dev.specs.Development.{Body, level_at, body_at}
 use Rattle.bk_gsl.specs.Typed.{IsTerm}
-use Rattle.bk_dev.specs.Facts.{AllAlike, is_constant, is_variable_of, is_inner_of, home_of, Names, names_constants, names_joined, names_own, writes_own, IsSubOf, IsBodyOf, IsLevelOf, IsHeadOf, IsDevelopment}
+use Rattle.bk_dev.specs.Facts.{AllAlike, is_constant, is_variable_of, is_inner_of, home_of, Names, names_constants, names_joined, names_own, writes_own, IsSubOf, IsBodyOf, IsLevelOf, IsHeadOf, IsDevelopment, IsLawful}
 use Rattle.bk_dev.specs.Counter.{reset_name, setmax_name, get_name, counter_table, setting, counter}
 
 -- ---- what formulas name
 -- nothing at all
-names-none : (visible : ℕ → Bool) → Names visible btrue
+pub names-none : (visible : ℕ → Bool) → Names visible btrue
 names-none visible = record { closed = tt; visible_only = λ n h. absurd (cc) }
 
-names-number : (visible : ℕ → Bool) (z : ℕ) → Names visible (literal (pos z))
+pub names-number : (visible : ℕ → Bool) (z : ℕ) → Names visible (literal (pos z))
 names-number visible z = record { closed = tt; visible_only = λ n h. absurd (cc) }
 
 -- one variable
-names-one : (visible : ℕ → Bool) (k : ℕ) → visible k ≡ true → Names visible (variable k)
+pub names-one : (visible : ℕ → Bool) (k : ℕ) → visible k ≡ true → Names visible (variable k)
 names-one visible k v = record { closed = tt; visible_only = λ n h. subst (λ m. visible m ≡ true) (nat_eq-same k n h) v }
 
-first-or : (b : Bool) → b || false ≡ true → b ≡ true
+pub first-or : (b : Bool) → b || false ≡ true → b ≡ true
 first-or true h = refl
 first-or false h = h
 
@@ -33,7 +33,7 @@ names-bounds : (visible : ℕ → Bool) (k : ℕ) → visible k ≡ true → Nam
 names-bounds visible k v = record { closed = (tt, (tt, tt)); visible_only = λ n h. subst (λ m. visible m ≡ true) (nat_eq-same k n (first-or (nat_eq k n) h)) v }
 
 -- ---- the table
-table-facts : IsWellFormed counter_table
+pub table-facts : IsWellFormed counter_table
 table-facts = record { inhabited = λ k d h. absurd (omega (arith)); listed = listed; few_sets = omega (arith); few_variables = omega (arith) }
   where
     listed : All (λ v. IsTrue (lists_type counter_table v.of_type)) counter_table.variables
@@ -50,7 +50,7 @@ module _ (k x : ℕ) (t : variable_type counter_table x ≡ Some int_type) (own 
     writes = ap (λ b. b || among outputs x) own
 
   setting-facts : (z : ℕ) → IsSubOf counter k [] [] (assign ((x, literal (pos z)) ∷ []))
-  setting-facts z = record { types = ((int_type, t, refl), tt); stays = (writes [] [], names-number (names_own counter k [] []) z, refl, tt); shape = tt; binds_inner = tt }
+  setting-facts z = record { types = ((int_type, t, refl), tt); stays = (writes [] [], names-number (names_own counter k [] []) z, refl, tt); loops = tt; binds_inner = tt }
 
   setting-body : (name : List ℕ) (machine : Body) (z : ℕ) → machine.outputs ≡ [] → IsBodyOf counter k (record { name = name; inputs = []; outputs = 0 }) machine (setting btrue x (literal (pos z)))
   setting-body name machine z h = record {
@@ -68,7 +68,7 @@ getting-body : (name : List ℕ) (machine : Body) (k x r : ℕ) → AllAlike cou
 getting-body name machine k x r h t g v w i = record {
   condition = refl;
   condition_names = names-none (names_own counter k [] (r ∷ []));
-  sub = record { types = ((int_type, t, g), tt); stays = (w, names-one (names_own counter k [] (r ∷ [])) x v, refl, tt); shape = tt; binds_inner = tt };
+  sub = record { types = ((int_type, t, g), tt); stays = (w, names-one (names_own counter k [] (r ∷ [])) x v, refl, tt); loops = tt; binds_inner = tt };
   outputs = (i, tt);
   distinct_outputs = (refl, tt);
   as_many_outputs = refl;
@@ -130,8 +130,8 @@ no_constant (suc (suc (suc (suc n)))) h = absurd (cc)
 head-facts : (name : List ℕ) (outputs : ℕ) → IsHeadOf counter (record { name = name; inputs = []; outputs = outputs })
 head-facts name outputs = record { inputs = tt; distinct = tt }
 
-pub counter_facts : IsDevelopment counter
-counter_facts = record {
+counter_lawful : IsLawful counter
+counter_lawful = record {
   some_level = omega (arith);
   table = table-facts;
   sets = refl;
@@ -141,5 +141,12 @@ counter_facts = record {
   levels = (machine-facts, (implementation-facts, tt));
   values = tt;
   complete = (tt, no_constant);
+}
+
+pub counter_facts : IsDevelopment counter
+counter_facts = record {
+  lawful = counter_lawful;
+  shapes = ((record { init = tt; bodies = (tt, (tt, (tt, tt))) }, (record { init = tt; bodies = (tt, (tt, (tt, tt))) }, tt)));
   binders_differ = (refl, (refl, tt));
+  room = omega (arith);
 }

@@ -6,9 +6,9 @@ use Rattle.bk_val.specs.ValueType.{ValueType, int_type, is_value_of}
 use Rattle.bk_form.specs.Table.{set_size, variable_type}
 use Rattle.bk_form.specs.Formula.{Formula, variable, literal, btrue, bfalse}
 use Rattle.bk_form.specs.Search.{Finder}
-use Rattle.bk_form.specs.Environment.{State}
+use Rattle.bk_form.specs.Environment.{State, IsTypedState}
 use Rattle.bk_gsl.proofs.States.{with_value-typed}
-use Rattle.bk_gsl.specs.State.{IsTypedState, with_value}
+use Rattle.bk_gsl.specs.State.{with_value}
 use Rattle.bk_gsl.specs.Run.{assigned}
 use Rattle.bk_dev.specs.Development.{inputs_of}
 use Rattle.bk_dev.specs.Machine.{Abstract, Call, Opens, Gives, Steps, Reach}

@@ -2,7 +2,8 @@
 use Rattle.std.proofs.Common.{◌≡◌, ◌<◌, ℕ, zero, suc, ◌+◌, List, [], ◌∷◌, length, refl, ap, subst, arith}
 use Rattle.std.specs.Prelude.{slice_index_or}
 use Rattle.bk_dev.specs.Development.{Head, Body, Level, Development, blank_body, blank_level, level_at, last}
-use Rattle.bk_dev.specs.Facts.{Each, EachBody, EachLevel, IsBodyOf, IsLevelOf, IsDevelopment}
+use Rattle.bk_dev.specs.Facts.{EachBody, EachLevel, IsBodyOf, IsLevelOf, IsLawful, IsHeadOf}
+use Rattle.bk_form.specs.Each.{Each}
 
 pub each_level : (dev : Development) (k : ℕ) (ls : List Level) (i : ℕ) → i < length ls → EachLevel dev k ls → IsLevelOf dev (k + i) (slice_index_or ls i blank_level)
 each_level dev k [] i h e = absurd (omega arith)
@@ -11,12 +12,12 @@ each_level dev k (l ∷ ls) (suc i) h e =
     let same : suc k + i ≡ k + suc i = omega arith in
     subst (λ m. IsLevelOf dev m (slice_index_or ls i blank_level)) same (each_level dev (suc k) ls i (omega arith) e.1)
 
-pub level_fact : (dev : Development) → IsDevelopment dev → (k : ℕ) → k < length dev.levels → IsLevelOf dev k (level_at dev k)
+pub level_fact : (dev : Development) → IsLawful dev → (k : ℕ) → k < length dev.levels → IsLevelOf dev k (level_at dev k)
 level_fact dev f k h =
     let same : 0 + k ≡ k = omega arith in
     subst (λ m. IsLevelOf dev m (level_at dev k)) same (each_level dev 0 dev.levels k h f.levels)
 
-pub last_level : (dev : Development) → IsDevelopment dev → IsLevelOf dev (last dev) (level_at dev (last dev))
+pub last_level : (dev : Development) → IsLawful dev → IsLevelOf dev (last dev) (level_at dev (last dev))
 last_level dev f =
     let some : 0 < length dev.levels = f.some_level in
     level_fact dev f (last dev) (omega arith)
@@ -30,7 +31,7 @@ paired dev k (h ∷ hs) [] bs e = absurd e
 paired dev k (h ∷ hs) (m ∷ ms) [] e = absurd e
 paired dev k (h ∷ hs) (m ∷ ms) (b ∷ bs) e = ap suc (paired dev k hs ms bs e.1)
 
-pub last_paired : (dev : Development) → IsDevelopment dev → length dev.heads ≡ length (level_at dev (last dev)).bodies
+pub last_paired : (dev : Development) → IsLawful dev → length dev.heads ≡ length (level_at dev (last dev)).bodies
 last_paired dev f = paired dev (last dev) dev.heads (level_at dev 0).bodies (level_at dev (last dev)).bodies (last_level dev f).bodies
 
 pub each-at : {A : Type 0} (P : A → Type 0) (xs : List A) (o : ℕ) (d : A) → o < length xs → Each P xs → P (slice_index_or xs o d)
@@ -44,3 +45,8 @@ body-at dev k (x ∷ hs) [] bs d o h e = absurd e
 body-at dev k (x ∷ hs) (m ∷ ms) [] d o h e = absurd e
 body-at dev k (x ∷ hs) (m ∷ ms) (b ∷ bs) d zero h e = e.0
 body-at dev k (x ∷ hs) (m ∷ ms) (b ∷ bs) d (suc o) h e = body-at dev k hs ms bs d o (omega arith) e.1
+
+pub head-at : (dev : Development) (hs : List Head) → Each (IsHeadOf dev) hs → (o : ℕ) (d : Head) → IsHeadOf dev d → IsHeadOf dev (slice_index_or hs o d)
+head-at dev [] e o d h = h
+head-at dev (x ∷ hs) e zero d h = e.0
+head-at dev (x ∷ hs) e (suc o) d h = head-at dev hs e.1 o d h

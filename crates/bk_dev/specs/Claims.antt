@@ -2,15 +2,16 @@
 use Rattle.std.specs.Prelude.{◌≡◌, ◌<◌, ℕ, suc, true, cond, List, [], ◌∷◌, ◌++◌, length, map, Option, Some, None}
 use Rattle.bk_form.specs.ArrayTable.{ArrayTable}
 use Rattle.bk_form.specs.Search.{Finder}
-use Rattle.bk_form.specs.Environment.{State}
+use Rattle.bk_form.specs.Environment.{State, at_state, IsTypedState}
 use Rattle.bk_form.specs.Defined.{Defined}
 use Rattle.bk_gsl.specs.Substitution.{Substitution}
-use Rattle.bk_gsl.specs.State.{at_state, holds, IsTypedState}
+use Rattle.bk_gsl.specs.State.{holds}
 use Rattle.bk_gsl.specs.Run.{Runs, Ends}
 use Rattle.bk_gsl.specs.Clean.{Clean}
 use Rattle.bk_dev.specs.Development.{Development, level_at, body_at, is_implementation, whole}
 use Rattle.bk_dev.specs.Flattened.{flattened}
-use Rattle.bk_dev.specs.Hypotheses.{AreTrue, link_equation, properties_of, joining, init_hypotheses, unasserted_hypotheses}
+use Rattle.bk_dev.specs.Hypotheses.{properties_of, joining, init_hypotheses, unasserted_hypotheses}
+use Rattle.bk_form.specs.Predicates.{AllHold, equation}
 use Rattle.bk_dev.specs.Layout.{arrays_of}
 use Rattle.bk_dev.specs.Machine.{HasValues}
 
@@ -26,11 +27,11 @@ pub record Establishes (find : Finder) (dev : Development) (k : ℕ) (s : Substi
 
 -- of a development whose substitutions are flat
 pub record KeepsFlat (find : Finder) (dev : Development) : Type 0 where
-  pub init : (e : State) → IsTypedState dev.table e → AreTrue find dev.table e (init_hypotheses dev 0) →
+  pub init : (e : State) → IsTypedState dev.table e → AllHold find (at_state dev.table e) (init_hypotheses dev 0) →
       Establishes find dev 0 (level_at dev 0).init e (λ f. holds find dev.table f (level_at dev 0).invariant ≡ true)
-  pub conditions : (o : ℕ) → o < length dev.heads → (e : State) → IsTypedState dev.table e → AreTrue find dev.table e (properties_of dev 1) → holds find dev.table e (level_at dev 0).invariant ≡ true →
+  pub conditions : (o : ℕ) → o < length dev.heads → (e : State) → IsTypedState dev.table e → AllHold find (at_state dev.table e) (properties_of dev 1) → holds find dev.table e (level_at dev 0).invariant ≡ true →
       Defined find (at_state dev.table e) (body_at dev 0 o).condition
-  pub operations : (o : ℕ) → o < length dev.heads → (e : State) → IsTypedState dev.table e → AreTrue find dev.table e (properties_of dev 1) → holds find dev.table e (level_at dev 0).invariant ≡ true → holds find dev.table e (body_at dev 0 o).condition ≡ true →
+  pub operations : (o : ℕ) → o < length dev.heads → (e : State) → IsTypedState dev.table e → AllHold find (at_state dev.table e) (properties_of dev 1) → holds find dev.table e (level_at dev 0).invariant ≡ true → holds find dev.table e (body_at dev 0 o).condition ≡ true →
       Establishes find dev 0 (body_at dev 0 o).sub e (λ f. holds find dev.table f (level_at dev 0).invariant ≡ true)
 
 -- the machine's initialisation and operations keep its invariant
@@ -44,7 +45,7 @@ beside _ _ = []
 
 -- the invariant and the links of level k, and the outputs of the two levels are equal
 abbrev pub JoinsAt : Finder → Development → ℕ → List ℕ → List ℕ → State → Type 0
-JoinsAt find dev k outputs above e = AreTrue find dev.table e (joining (level_at dev k) ++ map link_equation (beside outputs above))
+JoinsAt find dev k outputs above e = AllHold find (at_state dev.table e) (joining (level_at dev k) ++ map equation (beside outputs above))
 
 -- each result of the lower substitution can be answered by the upper one
 abbrev pub Answered : Finder → Development → ℕ → Substitution → List ℕ → List ℕ → State → Type 0
@@ -52,9 +53,9 @@ Answered find dev k upper outputs above f = (g : State) × Runs find dev.table u
 
 -- of a development whose substitutions are flat; level suc j carries level j
 pub record CarriesFlat (find : Finder) (dev : Development) (j : ℕ) : Type 0 where
-  pub init : (e : State) → IsTypedState dev.table e → AreTrue find dev.table e (init_hypotheses dev (suc j)) →
+  pub init : (e : State) → IsTypedState dev.table e → AllHold find (at_state dev.table e) (init_hypotheses dev (suc j)) →
       Establishes find dev (suc j) (level_at dev (suc j)).init e (Answered find dev (suc j) (level_at dev j).init [] [])
-  pub operations : (o : ℕ) → o < length dev.heads → (e : State) → IsTypedState dev.table e → AreTrue find dev.table e (unasserted_hypotheses dev (suc j) o) →
+  pub operations : (o : ℕ) → o < length dev.heads → (e : State) → IsTypedState dev.table e → AllHold find (at_state dev.table e) (unasserted_hypotheses dev (suc j) o) →
       Establishes find dev (suc j) (whole (body_at dev (suc j) o)) e (Answered find dev (suc j) (body_at dev j o).sub (body_at dev (suc j) o).outputs (body_at dev j o).outputs)
 
 -- level suc j carries level j: each of its whole bodies ends, is clean, and from each of its results the body above has one in which the levels join
@@ -63,4 +64,4 @@ Carries find dev j = CarriesFlat find (flattened dev) j
 
 -- the constants' values meet all properties
 abbrev pub ValuesMeet : Finder → Development → Type 0
-ValuesMeet find dev = (e : State) → IsTypedState dev.table e → HasValues find dev e → AreTrue find dev.table e (properties_of dev (length dev.levels))
+ValuesMeet find dev = (e : State) → IsTypedState dev.table e → HasValues find dev e → AllHold find (at_state dev.table e) (properties_of dev (length dev.levels))

@@ -7,7 +7,7 @@ use Rattle.bk_form.specs.declared.operator.BinOp.TheVariants.{In, Range}
 use Rattle.bk_gsl.specs.Substitution.{assign}
 use Rattle.bk_dev.specs.declared.kind.Kind.{Kind}
 use Rattle.bk_dev.specs.declared.kind.Kind.TheVariants.{Machine, Implementation}
-use Rattle.bk_dev.specs.declared.kind.Home.TheVariants.{Variable, Inner}
+use Rattle.bk_dev.specs.declared.kind.Home.TheVariants.{Abstract, Inner, Concrete}
 use Rattle.bk_dev.specs.Development.{Body, Level, Development}
 use Rattle.bk_dev.specs.Machine.{Call}
 
@@ -60,7 +60,7 @@ counter_level condition name kind n r links = record {
 abbrev pub counter_with : Formula → Development
 counter_with condition = record {
   table = counter_table;
-  homes = Variable 0 ∷ Variable 1 ∷ Inner 0 ∷ Inner 1 ∷ [];
+  homes = Abstract 0 ∷ Concrete 1 ∷ Inner 0 ∷ Inner 1 ∷ [];
   sets = [];
   heads = record { name = reset_name; inputs = []; outputs = 0 } ∷ record { name = setmax_name; inputs = []; outputs = 0 } ∷ record { name = get_name; inputs = []; outputs = 1 } ∷ [];
   levels = counter_level condition machine_name Machine 0 2 [] ∷ counter_level btrue implementation_name Implementation 1 3 ((1, 0) ∷ []) ∷ [];

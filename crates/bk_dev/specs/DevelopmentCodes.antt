@@ -10,7 +10,7 @@ use Rattle.bk_gsl.specs.SubCodes.{coded_substitution}
 use Rattle.bk_dev.specs.declared.kind.Kind.{Kind}
 use Rattle.bk_dev.specs.declared.kind.Kind.TheVariants.{Machine, Refinement, Implementation}
 use Rattle.bk_dev.specs.declared.kind.Home.{Home}
-use Rattle.bk_dev.specs.declared.kind.Home.TheVariants.{Constant, Input, Variable, Inner}
+use Rattle.bk_dev.specs.declared.kind.Home.TheVariants.{Constant, Input, Abstract, Concrete, Inner}
 use Rattle.bk_dev.specs.Development.{Head, Body, Level, Development}
 
 -- a machine is 0, a refinement 1, an implementation 2
@@ -33,19 +33,21 @@ coded_kind = code_by ℕ coded_ℕ kind_number kind_of (elim [ Machine ↦ refl 
 abbrev pub home_numbers : Home → ℕ × ℕ
 home_numbers Constant = (0, 0)
 home_numbers Input = (1, 0)
-home_numbers (Variable k) = (2, k)
-home_numbers (Inner k) = (3, k)
+home_numbers (Abstract k) = (2, k)
+home_numbers (Concrete k) = (3, k)
+home_numbers (Inner k) = (4, k)
 
 -- the home that has these numbers
 abbrev pub home_of_numbers : ℕ × ℕ → Home
 home_of_numbers (zero, k) = Constant
 home_of_numbers (suc zero, k) = Input
-home_of_numbers (suc (suc zero), k) = Variable k
-home_of_numbers (suc (suc (suc n)), k) = Inner k
+home_of_numbers (suc (suc zero), k) = Abstract k
+home_of_numbers (suc (suc (suc zero)), k) = Concrete k
+home_of_numbers (suc (suc (suc (suc n))), k) = Inner k
 
 -- a home is told by its numbers
 abbrev pub coded_home : Coded Home
-coded_home = code_by (ℕ × ℕ) (coded× coded_ℕ coded_ℕ) home_numbers home_of_numbers (elim [ Constant ↦ refl | Input ↦ refl | Variable k ↦ refl | Inner k ↦ refl ])
+coded_home = code_by (ℕ × ℕ) (coded× coded_ℕ coded_ℕ) home_numbers home_of_numbers (elim [ Constant ↦ refl | Input ↦ refl | Abstract k ↦ refl | Concrete k ↦ refl | Inner k ↦ refl ])
 
 -- a header is told by its name, its inputs and how many outputs it has
 abbrev pub coded_head : Coded Head

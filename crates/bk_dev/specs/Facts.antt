@@ -1,5 +1,5 @@
 -- What holds of every development: its numbers name entries, its formulas type, and names stay where they may stand.
-use Rattle.std.specs.Prelude.{◌≡◌, ◌⊎◌, ◌<◌, ℕ, suc, nat_eq, pos, ◌-ℤ◌, ◌≤ℤ◌, Bool, true, false, not, ◌||◌, List, [], ◌∷◌, ◌++◌, length, Option, Some}
+use Rattle.std.specs.Prelude.{◌≡◌, ◌⊎◌, ◌<◌, ℕ, suc, nat_eq, pos, ◌-ℤ◌, ◌≤ℤ◌, Bool, true, false, not, ◌||◌, List, [], ◌∷◌, ◌++◌, length, Option, Some, ◌^◌, ℤ}
 use Rattle.std.specs.List.{slice_get, flat_map}
 use Rattle.bk_val.specs.ValueType.{ValueType}
 use Rattle.bk_form.specs.Table.{Table, variable_type, IsWellFormed}
@@ -8,12 +8,16 @@ use Rattle.bk_form.specs.Replacement.{occurs, IsClosed}
 use Rattle.bk_gsl.specs.Substitution.{Substitution, skip, assign, pre, guard, choice, if_else, any, seq, par, assert, becomes_such, loop}
 use Rattle.bk_gsl.specs.State.{among, firsts}
 use Rattle.bk_gsl.specs.Writes.{written}
-use Rattle.bk_gsl.specs.Typed.{IsPredicate, IsTerm, Types}
+use Rattle.bk_gsl.specs.Typed.{IsTerm, Types}
+use Rattle.bk_form.specs.Predicates.{IsPredicate}
 use Rattle.bk_dev.specs.declared.kind.Kind.{Kind}
 use Rattle.bk_dev.specs.declared.kind.Kind.TheVariants.{Machine, Refinement, Implementation}
 use Rattle.bk_dev.specs.declared.kind.Home.{Home}
-use Rattle.bk_dev.specs.declared.kind.Home.TheVariants.{Constant, Input, Variable, Inner}
-use Rattle.bk_dev.specs.Development.{Head, Body, Level, Development, int_max, level_at, last, is_complete}
+use Rattle.bk_dev.specs.declared.kind.Home.TheVariants.{Constant, Input, Abstract, Inner, Concrete}
+use Rattle.bk_dev.specs.Development.{Head, Body, Level, Development, int_max, level_at, last, is_complete, body_at}
+use Rattle.bk_form.specs.Each.{Each}
+use Rattle.bk_gsl.specs.Flat.{IsFlat}
+use Rattle.bk_dev.specs.Flattened.{flattened}
 
 -- ---- homes
 -- the home of a constant
@@ -26,9 +30,10 @@ abbrev pub is_input : Option Home → Bool
 is_input (Some Input) = true
 is_input _ = false
 
--- the home of a variable that level k declares
+-- the home of a variable of level k, abstract or concrete
 abbrev pub is_variable_of : ℕ → Option Home → Bool
-is_variable_of k (Some (Variable j)) = nat_eq j k
+is_variable_of k (Some (Abstract j)) = nat_eq j k
+is_variable_of k (Some (Concrete j)) = nat_eq j k
 is_variable_of k _ = false
 
 -- the home of an output, a local or a bound variable of level k
@@ -107,7 +112,7 @@ abbrev pub IsGuard : Substitution → Type 0
 IsGuard (guard p s) = Unit {0}
 IsGuard _ = ⊥
 
--- sequencing and VAR (locals whose body is no guard) stand below the machine, loops in implementations alone
+-- a component of this kind may have sequencing and VAR, locals whose body is no guard: any but the machine
 abbrev pub MaySequence : Kind → Type 0
 MaySequence Machine = ⊥
 MaySequence _ = Unit {0}
@@ -116,6 +121,19 @@ MaySequence _ = Unit {0}
 abbrev pub MayLoop : Kind → Type 0
 MayLoop Implementation = Unit {0}
 MayLoop _ = ⊥
+
+-- loops stand in implementations alone
+abbrev pub LoopsStandIn : Kind → Substitution → Type 0
+LoopsStandIn kind (pre p s) = LoopsStandIn kind s
+LoopsStandIn kind (guard p s) = LoopsStandIn kind s
+LoopsStandIn kind (choice s t) = LoopsStandIn kind s × LoopsStandIn kind t
+LoopsStandIn kind (if_else p s t) = LoopsStandIn kind s × LoopsStandIn kind t
+LoopsStandIn kind (any zs s) = LoopsStandIn kind s
+LoopsStandIn kind (seq s t) = LoopsStandIn kind s × LoopsStandIn kind t
+LoopsStandIn kind (par s t) = LoopsStandIn kind s × LoopsStandIn kind t
+LoopsStandIn kind (assert p s) = LoopsStandIn kind s
+LoopsStandIn kind (loop p s i v) = MayLoop kind × LoopsStandIn kind s
+LoopsStandIn kind _ = Unit {0}
 
 -- inside || there is no sequencing, no VAR and no loop
 abbrev pub IsUnordered : Substitution → Type 0
@@ -130,7 +148,7 @@ IsUnordered (assert p s) = IsUnordered s
 IsUnordered (loop p s i v) = ⊥
 IsUnordered _ = Unit {0}
 
--- the parts of the substitution are such as a component of this kind may have
+-- what is in sequence, local or under || is such as a component of this kind may have
 abbrev pub MayStandIn : Kind → Substitution → Type 0
 MayStandIn kind (pre p s) = MayStandIn kind s
 MayStandIn kind (guard p s) = MayStandIn kind s
@@ -140,7 +158,7 @@ MayStandIn kind (any zs s) = (IsGuard s ⊎ MaySequence kind) × MayStandIn kind
 MayStandIn kind (seq s t) = MaySequence kind × MayStandIn kind s × MayStandIn kind t
 MayStandIn kind (par s t) = IsUnordered s × IsUnordered t × MayStandIn kind s × MayStandIn kind t
 MayStandIn kind (assert p s) = MayStandIn kind s
-MayStandIn kind (loop p s i v) = MayLoop kind × MayStandIn kind s
+MayStandIn kind (loop p s i v) = MayStandIn kind s
 MayStandIn kind _ = Unit {0}
 
 -- ---- levels
@@ -169,7 +187,7 @@ writes_own dev k outputs n = is_variable_of k (home_of dev n) || among outputs n
 pub record IsSubOf (dev : Development) (k : ℕ) (inputs outputs : List ℕ) (s : Substitution) : Type 0 where
   pub types : Types dev.table s
   pub stays : StaysIn (names_own dev k inputs outputs) (names_joined dev k) (writes_own dev k outputs) s
-  pub shape : MayStandIn (level_at dev k).kind s
+  pub loops : LoopsStandIn (level_at dev k).kind s
   pub binds_inner : AllAre (λ n. is_inner_of k (home_of dev n)) (binders s)
 
 -- two variables of one type
@@ -202,11 +220,6 @@ pub record IsLink (dev : Development) (k : ℕ) (p : ℕ × ℕ) : Type 0 where
   pub below : is_variable_of k (home_of dev p.0) ≡ true
   pub above : (j : ℕ) × (k ≡ suc j) × (is_variable_of j (home_of dev p.1) ≡ true)
   pub alike : AreAlike dev.table p.0 p.1
-
--- each element of the list is as P says
-abbrev pub Each : {A : Type 0} → (A → Type 0) → List A → Type 0
-Each P [] = Unit {0}
-Each P (x ∷ xs) = P x × Each P xs
 
 -- each header with the machine's body and the level's
 abbrev pub EachBody : Development → ℕ → List Head → List Body → List Body → Type 0
@@ -271,8 +284,8 @@ all_binders dev = flat_map (λ l. binders l.init ++ flat_map (λ b. binders b.su
 abbrev pub all_outputs : Development → List ℕ
 all_outputs dev = flat_map (λ l. flat_map (λ b. b.outputs) l.bodies) dev.levels
 
--- what every development that the program builds is: well typed, with each name visible where it is used
-pub record IsDevelopment (dev : Development) : Type 0 where
+-- what flattening keeps: it is well typed, and each name is visible where it is used
+pub record IsLawful (dev : Development) : Type 0 where
   pub some_level : 0 < length dev.levels
   pub table : IsWellFormed dev.table
   pub sets : dev.sets ≡ dev.table.sets
@@ -283,5 +296,27 @@ pub record IsDevelopment (dev : Development) : Type 0 where
   pub levels : EachLevel dev 0 dev.levels
   pub values : Each (IsValue dev) dev.values
   pub complete : HasItsValues dev (is_complete dev)
+
+-- the parts of its substitutions are such as its kind may have, loops aside
+pub record HasItsShape (l : Level) : Type 0 where
+  pub init : MayStandIn l.kind l.init
+  pub bodies : Each (λ b. MayStandIn l.kind b.sub) l.bodies
+
+-- no || stands in it
+pub record IsFlatDevelopment (dev : Development) : Type 0 where
+  pub init : (k : ℕ) → k < length dev.levels → IsFlat (level_at dev k).init
+  pub bodies : (k : ℕ) → k < length dev.levels → (o : ℕ) → o < length dev.heads → IsFlat (body_at dev k o).sub
+
+-- no || stands in the last level
+pub record LastIsFlat (dev : Development) : Type 0 where
+  pub init : IsFlat (level_at dev (last dev)).init
+  pub bodies : Each (λ b. IsFlat b.sub) (level_at dev (last dev)).bodies
+
+-- what every development that the program builds is
+pub record IsDevelopment (dev : Development) : Type 0 where
+  pub lawful : IsLawful dev
+  pub shapes : Each HasItsShape dev.levels
   -- no variable is bound twice, and none that is bound is an output
   pub binders_differ : AreDistinct (all_outputs dev ++ all_binders dev)
+  -- 32 bits number all its variables and all copies that flattening makes, and leave a number for the variant of a loop
+  pub room : length (flattened dev).table.variables < 2 ^ 32

@@ -1,29 +1,12 @@
 -- The hypotheses of the obligations of a development.
-use Rattle.std.specs.Prelude.{◌≡◌, ℕ, zero, suc, pos, ◌-ℤ◌, Bool, true, false, cond, List, [], ◌∷◌, ◌++◌, map, take, Option, Some}
+use Rattle.std.specs.Prelude.{ℕ, zero, suc, pos, ◌-ℤ◌, Bool, true, false, cond, List, [], ◌++◌, map, take, Option, Some}
 use Rattle.std.specs.List.{filter, flat_map}
 use Rattle.bk_val.specs.ValueType.{ValueType, int_type}
-use Rattle.bk_form.specs.Table.{Table, variable_type}
-use Rattle.bk_form.specs.Formula.{Formula, variable, literal, binary, btrue}
-use Rattle.bk_form.specs.Search.{Finder}
-use Rattle.bk_form.specs.Environment.{State}
-use Rattle.bk_form.specs.declared.operator.BinOp.TheVariants.{And, Eq, In, Range}
-use Rattle.bk_gsl.specs.State.{holds}
+use Rattle.bk_form.specs.Table.{variable_type}
+use Rattle.bk_form.specs.Formula.{Formula, variable, literal, binary}
+use Rattle.bk_form.specs.declared.operator.BinOp.TheVariants.{Eq, In, Range}
 use Rattle.bk_dev.specs.Development.{Level, Development, int_max, level_at, body_of, inputs_of, is_implementation}
-
--- the parts of a conjunction, from left to right, without btrue
-abbrev pub conjuncts : Formula → List Formula
-conjuncts (binary And p q) = conjuncts p ++ conjuncts q
-conjuncts btrue = []
-conjuncts p = p ∷ []
-
--- each of them is true
-abbrev pub AreTrue : Finder → Table → State → List Formula → Type 0
-AreTrue find table e [] = Unit {0}
-AreTrue find table e (p ∷ ps) = (holds find table e p ≡ true) × AreTrue find table e ps
-
--- v = w
-abbrev pub link_equation : ℕ × ℕ → Formula
-link_equation p = binary Eq (variable p.0) (variable p.1)
+use Rattle.bk_form.specs.Predicates.{conjuncts, equation}
 
 -- c = value
 abbrev pub value_equation : ℕ × Formula → Formula
@@ -39,7 +22,7 @@ values_at dev k = cond (is_implementation (level_at dev k)) (map value_equation 
 
 -- a level's invariant and links
 abbrev pub joining : Level → List Formula
-joining l = conjuncts l.invariant ++ map link_equation l.links
+joining l = conjuncts l.invariant ++ map equation l.links
 
 -- and its assertions
 abbrev pub facts : Level → List Formula

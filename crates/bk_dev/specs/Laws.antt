@@ -1,10 +1,18 @@
--- What a small machine reaches, as statements.
-use Rattle.std.specs.Prelude.{◌≡◌, ◌↔◌, pos, List, [], ◌∷◌}
+-- What holds of developments, and what a small machine reaches, as statements.
+use Rattle.std.specs.Prelude.{◌≡◌, ◌↔◌, pos, List, [], ◌∷◌, ◌<◌, ℕ, length}
 use Rattle.bk_val.specs.Value.{MathValue, int}
 use Rattle.bk_form.specs.Search.{Finder}
-use Rattle.bk_dev.specs.Facts.{IsDevelopment}
+use Rattle.bk_dev.specs.Facts.{IsDevelopment, IsFlatDevelopment, IsLawful, LastIsFlat}
 use Rattle.bk_dev.specs.Machine.{Abstract, Reach, Legal}
 use Rattle.bk_dev.specs.Counter.{counter, forbidden, setmax, get}
+use Rattle.bk_dev.specs.Development.{Development, body_at, level_at, last}
+use Rattle.bk_form.specs.Table.{IsWellFormed}
+use Rattle.bk_gsl.specs.Run.{Runs}
+use Rattle.bk_form.specs.Environment.{State}
+use Rattle.bk_dev.specs.Layout.{arrays_of, cell_count, cell_of, cells_of}
+use Rattle.bk_dev.specs.Flattened.{flattened}
+use Rattle.bk_dev.specs.Claims.{Carries}
+use Rattle.bk_dev.specs.Uncarried.{eager, one_after_the_other}
 
 -- the counter is a development
 abbrev pub CounterIsDevelopment : Type 0
@@ -22,3 +30,31 @@ AnswersTen = (find : Finder) (us : List MathValue) → ((a : Abstract) × Reach 
 pub record LegalWhere : Type 0 where
   pub allowed : (find : Finder) → Legal find counter (setmax ∷ []) []
   pub not_allowed : (find : Finder) → Legal find forbidden (setmax ∷ []) [] → ⊥
+
+-- ---- flat developments
+-- the flattened of a lawful development is lawful, where 32 bits still number its variables, and no || is left
+pub record FlattenedIsLawful : Type 0 where
+  pub lawful : (dev : Development) → IsLawful dev → IsWellFormed (flattened dev).table → IsLawful (flattened dev)
+  pub flat : (dev : Development) → IsFlatDevelopment (flattened dev)
+  -- so the flattened of every development is lawful
+  pub every : (dev : Development) → IsDevelopment dev → IsLawful (flattened dev)
+
+-- what the flattened of a development runs, over the table with all copies, the development runs over its own, from the same state to the same
+pub record FlattenedRuns : Type 0 where
+  pub init : (find : Finder) (dev : Development) → IsLawful dev → IsWellFormed (flattened dev).table → (k : ℕ) → k < length dev.levels → (e g : State) → Runs find (flattened dev).table (level_at (flattened dev) k).init e g → Runs find dev.table (level_at dev k).init e g
+  pub operations : (find : Finder) (dev : Development) → IsLawful dev → IsWellFormed (flattened dev).table → (k : ℕ) → k < length dev.levels → (o : ℕ) → o < length dev.heads → (e g : State) → Runs find (flattened dev).table (body_at (flattened dev) k o).sub e g → Runs find dev.table (body_at dev k o).sub e g
+
+-- where no || stands in the last level, flattening leaves it as it was, with its arrays and its cells
+pub record FlattenedKeepsCells : Type 0 where
+  pub level : (dev : Development) → IsLawful dev → LastIsFlat dev → level_at (flattened dev) (last (flattened dev)) ≡ level_at dev (last dev)
+  pub arrays : (dev : Development) → IsLawful dev → LastIsFlat dev → arrays_of (flattened dev) ≡ arrays_of dev
+  pub cells : (dev : Development) → IsLawful dev → LastIsFlat dev → (x : ℕ) → (cell_of (flattened dev) x ≡ cell_of dev x) × (cells_of (flattened dev) x ≡ cells_of dev x)
+  pub count : (dev : Development) → IsLawful dev → LastIsFlat dev → cell_count (flattened dev) ≡ cell_count dev
+
+-- ---- what must not carry
+-- an implementation that runs where the machine does not end, and one that takes || as ;: both are developments
+pub record AreNotCarried : Type 0 where
+  pub eager_facts : IsDevelopment eager
+  pub eager : (find : Finder) → Carries find eager 0 → ⊥
+  pub other_facts : IsDevelopment one_after_the_other
+  pub one_after_the_other : (find : Finder) → Carries find one_after_the_other 0 → ⊥

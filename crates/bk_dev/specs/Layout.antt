@@ -16,7 +16,7 @@ use Rattle.bk_form.specs.declared.arrays.ArrayDomain.TheVariants.{Interval, Bool
 use Rattle.bk_gsl.specs.State.{among, firsts}
 use Rattle.bk_gsl.specs.Substitution.{Substitution, pre, guard, choice, if_else, any, seq, par, assert, loop}
 use Rattle.bk_dev.specs.Development.{Head, Body, Level, Development, int_max, level_at, last}
-use Rattle.bk_dev.specs.Hypotheses.{conjuncts}
+use Rattle.bk_form.specs.Predicates.{conjuncts}
 
 -- ---- which variables are arrays
 -- what a conjunct says of the variable: it is in a domain (f : D, and f <: D is f : POW(D)), it equals a term, or nothing

@@ -1,7 +1,6 @@
 pub mod Development
 pub mod DevelopmentCodes
 pub mod Flattened
-pub mod NoPar
 pub mod Hypotheses
 pub mod Layout
 pub mod Facts
@@ -9,3 +8,4 @@ pub mod Machine
 pub mod Claims
 pub mod Counter
 pub mod Laws
+pub mod Uncarried

@@ -2,11 +2,12 @@
 use Rattle.std.specs.Prelude.{◌≡◌, ◌<◌, ℕ, pos, ◌-ℤ◌, Bool, true, ◌&&◌, int_le, List, [], ◌∷◌, map, length}
 use Rattle.bk_val.specs.Value.{MathValue, int}
 use Rattle.bk_form.specs.Search.{Finder}
-use Rattle.bk_form.specs.Environment.{State}
-use Rattle.bk_gsl.specs.State.{holds, IsTypedState, are_values_for}
+use Rattle.bk_form.specs.Environment.{State, IsTypedState, at_state}
+use Rattle.bk_gsl.specs.State.{holds, are_values_for}
 use Rattle.bk_gsl.specs.Run.{Runs}
 use Rattle.bk_dev.specs.Development.{Development, int_max, level_at, body_at, inputs_of}
-use Rattle.bk_dev.specs.Hypotheses.{AreTrue, value_equation}
+use Rattle.bk_dev.specs.Hypotheses.{value_equation}
+use Rattle.bk_form.specs.Predicates.{AllHold}
 
 -- the values of the machine's variables, in their order
 abbrev pub Abstract : Type 0
@@ -14,7 +15,7 @@ Abstract = List MathValue
 
 -- the constants have their values
 abbrev pub HasValues : Finder → Development → State → Type 0
-HasValues find dev e = AreTrue find dev.table e (map value_equation dev.values)
+HasValues find dev e = AllHold find (at_state dev.table e) (map value_equation dev.values)
 
 -- the state gives the machine's variables these values
 abbrev pub ShowsAbstract : Development → State → Abstract → Type 0

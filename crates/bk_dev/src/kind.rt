@@ -15,8 +15,10 @@ pub enum Home {
     Constant,
     /// An input of an operation, the same at every level.
     Input,
-    /// A variable of this level.
-    Variable(u32),
+    /// An abstract variable of this level.
+    Abstract(u32),
+    /// A concrete variable of this level; a level below has it again, under a number of its own.
+    Concrete(u32),
     /// An output, a local or a bound variable of this level.
     Inner(u32),
 }

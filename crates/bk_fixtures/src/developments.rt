@@ -5,7 +5,7 @@ ghost use Rattle.bk_form.specs.Formula.{variable, literal, binary, btrue};
 ghost use Rattle.bk_form.specs.declared.operator.BinOp.TheVariants.{Lt};
 ghost use Rattle.bk_gsl.specs.Substitution.{skip, assign, if_else};
 ghost use Rattle.bk_dev.specs.declared.kind.Kind.TheVariants.{Machine, Implementation};
-ghost use Rattle.bk_dev.specs.declared.kind.Home.TheVariants.{Variable, Inner};
+ghost use Rattle.bk_dev.specs.declared.kind.Home.TheVariants.{Abstract, Concrete, Inner};
 ghost use Rattle.bk_dev.specs.Counter.{counter_table, setting, counter_level, counter};
 ghost use Rattle.bk_po.specs.Basic.{IsBasic};
 ghost use Rattle.bk_po.specs.Examples.{plus, getting, small_level, inc_head, get_head};
@@ -77,11 +77,11 @@ pub fn counter_table(alloc: Global) -> Result<VarTable, Memory>
 }
 
 fn counter_homes(alloc: Global) -> Result<Vec<Home>, Memory>
-    ensures { IfOk result (λ homes. homes.items ≡ Variable 0 ∷ Variable 1 ∷ Inner 0 ∷ Inner 1 ∷ []) }
+    ensures { IfOk result (λ homes. homes.items ≡ Abstract 0 ∷ Concrete 1 ∷ Inner 0 ∷ Inner 1 ∷ []) }
 {
     Ok(vec![in alloc;
-        Home::Variable(0),
-        Home::Variable(1),
+        Home::Abstract(0),
+        Home::Concrete(1),
         Home::Inner(0),
         Home::Inner(1),
     ]?)

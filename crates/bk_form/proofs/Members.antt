@@ -145,7 +145,7 @@ elements-if s (suc n) i k h l = elim (here i k h) [ inl e ↦ inl (ap (elem s) e
 nat_eq-same : (m n : ℕ) → nat_eq m n ≡ true → m ≡ n
 nat_eq-same m n h = grind (arith, nat_tests)
 
-nat_eq-self : (n : ℕ) → nat_eq n n ≡ true
+pub nat_eq-self : (n : ℕ) → nat_eq n n ≡ true
 nat_eq-self n = grind (arith, nat_tests)
 
 nat_lt-then : (m n : ℕ) → nat_lt m n ≡ true → m < n

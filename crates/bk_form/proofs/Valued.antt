@@ -9,7 +9,7 @@ use Rattle.bk_val.specs.ValueType.{ValueType, int_type, bool_type, enum_type, pa
 use Rattle.bk_form.specs.Table.{Table, SetEntry, VariableEntry, set_size, variable_type, is_among_sets, lists_type, IsWellFormed}
 use Rattle.bk_form.specs.Formula.{Formula, variable, bound, literal, truth_value, element, empty_set, named, btrue, bfalse, unary, binary, for_all, for_some, comprehension, lambda, Formulas, no_formulas, formula_and}
 use Rattle.bk_form.specs.Search.{Finder}
-use Rattle.bk_form.specs.Environment.{Environment, Binding, bindings, bound_types, under, all_typed, IsTyped}
+use Rattle.bk_form.specs.Environment.{Environment, Binding, bindings, bound_types, under, all_typed, IsTyped, State, IsTypedState, at_state}
 use Rattle.bk_form.specs.Role.{Role, gives, if_predicate, if_value, given_by, empty_role, element_role, named_role, role, binary_role, bind, gives_set, each_gives_set, are_ranges, element_type, tuple_type_onto, tuple_type}
 use Rattle.bk_form.specs.Operators.{elements, set_value, elements_from, named_value, tuple_onto, tuple_of, choices}
 use Rattle.bk_form.specs.Meaning.{Meaning, meaning, meanings, value, truth, bound_meaning, type_in, roles_of, range_types, chosen}
@@ -235,3 +235,7 @@ sound_typing = record {
   typed = typed-value;
   members = λ find e f t r v. ap (λ (m : Meaning). m.contains v) (value-meaning find e f t (meaning-role find e f ∙ r));
 }
+
+-- a typed state, under no binder, is a typed environment
+pub state-typed : (table : Table) (e : State) → IsTypedState table e → IsTyped (at_state table e)
+state-typed table e h = record { variables = h.typed; bound_numbers = refl }

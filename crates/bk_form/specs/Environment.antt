@@ -44,3 +44,11 @@ all_typed sizes (b ∷ bs) = is_value_of sizes b.0 b.1 && all_typed sizes bs
 pub record IsTyped (e : Environment) : Type 0 where
   pub variables : (n : ℕ) (t : ValueType) → variable_type e.table n ≡ Some t → is_value_of (set_size e.table) t (e.state n) ≡ true
   pub bound_numbers : all_typed (set_size e.table) e.bound ≡ true
+
+-- what formulas see in a state, under no binder
+abbrev pub at_state : Table → State → Environment
+at_state table e = record { table = table; state = e; bound = [] }
+
+-- each variable of the table has a value of its type
+pub record IsTypedState (table : Table) (e : State) : Type 0 where
+  pub typed : (n : ℕ) (t : ValueType) → variable_type table n ≡ Some t → is_value_of (set_size table) t (e n) ≡ true

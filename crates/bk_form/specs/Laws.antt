@@ -1,12 +1,12 @@
 -- Laws of the meaning of formulas, as statements. Each is the contract of a public function.
-use Rattle.std.specs.Prelude.{◌≡◌, ◌↔◌, ◌⊎◌, ℕ, ℤ, pos, negsuc, int_le, Bool, true, false, ◌&&◌, List, [], ◌∷◌, map}
+use Rattle.std.specs.Prelude.{◌≡◌, ◌↔◌, ◌⊎◌, ℕ, ℤ, pos, negsuc, int_le, Bool, true, false, ◌&&◌, List, [], ◌∷◌, map, Some}
 use Rattle.bk_val.specs.Value.{MathValue, int, bool, pair, set, none, more}
 use Rattle.bk_val.specs.ValueType.{ValueType, int_type, set_type, base_of, is_value_of, are_of_types}
 use Rattle.bk_val.specs.Sets.{has, second_of}
-use Rattle.bk_form.specs.Table.{Table, set_size, lists_type, IsWellFormed}
+use Rattle.bk_form.specs.Table.{Table, set_size, lists_type, IsWellFormed, variable_type}
 use Rattle.bk_form.specs.Formula.{Formula, variable, bound, literal, truth_value, empty_set, named, btrue, unary, binary, for_all, for_some, comprehension, lambda, Formulas, no_formulas, formula_and}
 use Rattle.bk_form.specs.Search.{Finder, IsSearch}
-use Rattle.bk_form.specs.Environment.{Environment, bound_types, under, IsTyped}
+use Rattle.bk_form.specs.Environment.{Environment, bound_types, under, IsTyped, Binding, State}
 use Rattle.bk_form.specs.Role.{role, gives, element_type}
 use Rattle.bk_form.specs.Operators.{elements, first_part, tuple_of, choices, number_in}
 use Rattle.bk_form.specs.Meaning.{meaning, meanings, value, truth, within, range_types}
@@ -15,6 +15,8 @@ use Rattle.bk_form.specs.Replacement.{replaced, IsReplacement, after_replacement
 use Rattle.bk_form.specs.declared.operator.UnOp.TheVariants.{Not, Card, Max, Single, Pow, Pow1}
 use Rattle.bk_form.specs.declared.operator.BinOp.TheVariants.{And, Or, Imp, Eq, Lt, In, PartialFunctions, TotalFunctions, PartialInjections, PartialSurjections, Union, Times, DomRes, DomSub, Over, Maps, Range, Add, Mul, Div, Mod, Power, Image, Apply, Comp}
 use Rattle.bk_form.specs.declared.operator.Domain.TheVariants.{Integer, Natural, Bool as Booleans}
+use Rattle.bk_form.specs.ArrayTable.{ArrayTable}
+use Rattle.bk_form.specs.Wider.{IsTypedRole, IsWider}
 
 -- ---- quantifiers
 -- a universal predicate is true exactly where its body is for every choice of values of the types
@@ -193,3 +195,21 @@ pub record DefinedExamples : Type 0 where
   pub left_undefined : (find : Finder) (e : Environment) → e.state 0 ≡ int (pos 0) → Defined find e quotient_or_zero → ⊥
   pub fits : (find : Finder) (e : Environment) → Fits find e (record { max = pos 10; rows = [] }) (binary Add (number (pos 9)) (number (pos 1)))
   pub too_large : (find : Finder) (e : Environment) → Fits find e (record { max = pos 10; rows = [] }) (binary Add (number (pos 9)) (number (pos 2))) → ⊥
+
+-- ---- wider tables
+-- a formula that types means the same over a wider table, in a state with the same values for the listed variables
+abbrev pub WideningMeans : Type 0
+WideningMeans = (find : Finder) (e : Environment) (large : Table) (d : State) → IsWellFormed e.table → IsWider e.table large →
+    ((n : ℕ) (t : ValueType) → variable_type e.table n ≡ Some t → d n ≡ e.state n) →
+    (f : Formula) → IsTypedRole (role e.table (bound_types e) f) → meaning find (record e { table = large; state = d }) f ≡ meaning find e f
+
+-- and has the same role
+abbrev pub WideningKeepsRoles : Type 0
+WideningKeepsRoles = (small large : Table) → IsWellFormed small → IsWider small large → (around : List ValueType) (f : Formula) → IsTypedRole (role small around f) → role large around f ≡ role small around f
+
+-- it is defined, and fits the machine, over the one table exactly where it does over the other
+pub record WideningKeepsDefined : Type 0 where
+  pub defined : (small large : Table) → IsWellFormed small → IsWider small large → (find : Finder) (e : State) (b : List Binding) (f : Formula) → IsTypedRole (role small (map (λ x. x.0) b) f) →
+      Defined find (record { table = large; state = e; bound = b }) f ↔ Defined find (record { table = small; state = e; bound = b }) f
+  pub fits : (small large : Table) → IsWellFormed small → IsWider small large → (find : Finder) (e : State) (b : List Binding) (arrays : ArrayTable) (f : Formula) → IsTypedRole (role small (map (λ x. x.0) b) f) →
+      Fits find (record { table = large; state = e; bound = b }) arrays f ↔ Fits find (record { table = small; state = e; bound = b }) arrays f

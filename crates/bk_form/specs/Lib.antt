@@ -19,3 +19,8 @@ pub mod Meaning
 pub mod Replacement
 pub mod Defined
 pub mod Laws
+pub mod Each
+pub mod Predicates
+pub mod Wider
+pub mod MemberLaws
+pub mod Settings

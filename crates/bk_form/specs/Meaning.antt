@@ -24,9 +24,9 @@ pub record Meaning : Type 0 where
 abbrev pub of_value : Role → MathValue → Meaning
 of_value r v = record { role = r; value = v; truth = false; contains = λ w. is_element w v }
 
--- a predicate: it has a truth, the value FALSE stands in for its value, and nothing lies in it
+-- a predicate: it has a truth, the empty set stands in for its value, and nothing lies in it
 abbrev pub of_truth : Role → Bool → Meaning
-of_truth r b = record { role = r; value = bool false; truth = b; contains = λ w. false }
+of_truth r b = record { role = r; value = set none; truth = b; contains = λ w. false }
 
 -- the type of a value; a formula that gives none has the base value of BOOL
 abbrev pub type_in : Role → ValueType

@@ -88,3 +88,7 @@ IsReplacement table by = (n : ℕ) → (by n ≡ variable n) ⊎ ((t : ValueType
 -- the environment in which each variable has the value of the term in its place
 abbrev pub after_replacement : Finder → (ℕ → Formula) → Environment → Environment
 after_replacement find by e = record e { state = λ n. value find (record e { bound = [] }) (by n) }
+
+-- one variable in place of another in a formula
+abbrev pub renamed : (ℕ → ℕ) → Formula → Formula
+renamed by f = replaced (λ n. variable (by n)) f

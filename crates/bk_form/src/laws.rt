@@ -1,6 +1,7 @@
 //! Laws of the meaning of formulas. Each is the contract of a function that does nothing.
 
-ghost use Rattle.bk_form.specs.Laws.{AllMeans, SomeMeans, IsIndependent, SearchExists, IsClassical, IsSoundTyping, ReplacementMeans, ComprehensionHas, LambdaHas, IntervalHas, TotalMeans, OntoMeans, NoTotalFunction, ChoicesAre, Examples, DefinedExamples};
+ghost use Rattle.bk_form.specs.Laws.{AllMeans, SomeMeans, IsIndependent, SearchExists, IsClassical, IsSoundTyping, ReplacementMeans, ComprehensionHas, LambdaHas, IntervalHas, TotalMeans, OntoMeans, NoTotalFunction, ChoicesAre, Examples, DefinedExamples, WideningMeans, WideningKeepsRoles, WideningKeepsDefined};
+ghost use Rattle.bk_form.specs.MemberLaws.{OperatorMembers, ArrowsMean, MeaningIsKnown};
 
 /// What the quantifiers say.
 pub fn quantifiers()
@@ -33,16 +34,24 @@ pub fn replacement_means()
     ensures { ReplacementMeans }
 {}
 
-/// The members of comprehensions, lambdas and intervals, and the choices from some ranges.
+/// The members of comprehensions, lambdas and intervals, the choices from some ranges, and the members of the sets that the
+/// operators make.
 pub fn members()
     ensures comprehension { ComprehensionHas }
     ensures lambda { LambdaHas }
     ensures interval { IntervalHas }
     ensures choices { ChoicesAre }
+    ensures operators { OperatorMembers }
 {}
 
-/// What is total and what is onto.
+/// A predicate means no more than its truth, and a set no more than its members.
+pub fn known_meanings()
+    ensures { MeaningIsKnown }
+{}
+
+/// What is total and what is onto, and what the arrows and application say of pairs.
 pub fn arrows()
+    ensures pairs { ArrowsMean }
     ensures total { TotalMeans }
     ensures onto { OntoMeans }
     ensures infinite { NoTotalFunction }
@@ -52,4 +61,12 @@ pub fn arrows()
 pub fn examples()
     ensures meaning { Examples }
     ensures defined { DefinedExamples }
+{}
+
+/// Over a table with more variables or sets a formula that types means what it meant, stands for the same kind of thing, and
+/// is defined and fits the machine as before.
+pub fn wider_tables()
+    ensures means { WideningMeans }
+    ensures roles { WideningKeepsRoles }
+    ensures defined { WideningKeepsDefined }
 {}

@@ -8,12 +8,12 @@ use Rattle.bk_comp.specs.Components.{Component, IsTextOf, IsTextOfNone, ArePair,
 use Rattle.bk_comp.proofs.OneComponent.{text-one}
 use Rattle.bk_dev.specs.Facts.{IsDevelopment}
 use Rattle.bk_gen.specs.Simple.{IsSimple}
-use Rattle.bk_po.specs.Plain.{IsPlain}
+use Rattle.bk_po.specs.Basic.{IsBasic}
 use Rattle.bk_comp.proofs.Contained.{texts-over}
 use Rattle.bk_pair.specs.Developments.{Reads as ReadAsPair}
-use Rattle.bk_pair.specs.PairLaws.{PairIsDevelopment, PairIsSimple, PairIsPlain, ReadAtMostOne}
-use Rattle.bk_pair.proofs.Texts.{texts-development, texts-simple, texts-plain, read-one}
-use Rattle.bk_front.specs.Project.{IsMachineText, text_at, Reads, ReadAsOne, ReadAsDevelopments, ReadAsSimple, ReadAsPlain}
+use Rattle.bk_pair.specs.PairLaws.{PairIsDevelopment, PairIsSimple, PairIsBasic, ReadAtMostOne}
+use Rattle.bk_pair.proofs.Texts.{texts-development, texts-simple, texts-basic, read-one}
+use Rattle.bk_front.specs.Project.{IsMachineText, text_at, Reads, ReadAsOne, ReadAsDevelopments, ReadAsSimple, ReadAsBasic}
 
 pub no_machine_here : (text : List ℕ) → IsTextOfNone text → IsMachineText text → ⊥
 no_machine_here text none k = none k.machine k.is
@@ -69,8 +69,8 @@ pair_is_development = texts-development texts-over
 pair_is_simple : PairIsSimple
 pair_is_simple = texts-simple texts-over
 
-pair_is_plain : PairIsPlain
-pair_is_plain = texts-plain texts-over
+pair_is_basic : PairIsBasic
+pair_is_basic = texts-basic texts-over
 
 pub is_development : ReadAsDevelopments
 is_development texts dev r = subst IsDevelopment (sym r.pair.is) (pair_is_development r.machine r.implementation r.pair.machine r.pair.implementation r.pair.above r.pair.below r.pair.pair)
@@ -78,5 +78,5 @@ is_development texts dev r = subst IsDevelopment (sym r.pair.is) (pair_is_develo
 pub is_simple : ReadAsSimple
 is_simple texts dev r = subst IsSimple (sym r.pair.is) (pair_is_simple r.machine r.implementation r.pair.machine r.pair.implementation r.pair.above r.pair.below r.pair.pair)
 
-pub is_plain : ReadAsPlain
-is_plain texts dev r = subst IsPlain (sym r.pair.is) (pair_is_plain r.machine r.implementation r.pair.machine r.pair.implementation r.pair.above r.pair.below r.pair.pair)
+pub is_basic : ReadAsBasic
+is_basic texts dev r = subst IsBasic (sym r.pair.is) (pair_is_basic r.machine r.implementation r.pair.machine r.pair.implementation r.pair.above r.pair.below r.pair.pair)

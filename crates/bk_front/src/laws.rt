@@ -1,6 +1,6 @@
 //! Laws of projects. Each is the contract of a function that does nothing.
 
-ghost use Rattle.bk_front.specs.Project.{ReadAsOne, ReadAsDevelopments, ReadAsSimple, ReadAsPlain};
+ghost use Rattle.bk_front.specs.Project.{ReadAsOne, ReadAsDevelopments, ReadAsSimple, ReadAsBasic};
 ghost use Rattle.bk_front.specs.ProjectFile.{LinesAreOne, NameAtMostOnce};
 
 /// What a project file says.
@@ -18,5 +18,5 @@ pub fn projects_are_one()
 pub fn projects_are_developments()
     ensures development { ReadAsDevelopments }
     ensures simple { ReadAsSimple }
-    ensures plain { ReadAsPlain }
+    ensures basic { ReadAsBasic }
 {}

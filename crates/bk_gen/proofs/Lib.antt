@@ -5,3 +5,4 @@ pub mod Named
 pub mod Images
 pub mod Counters
 pub mod Emitted
+pub mod SameCode

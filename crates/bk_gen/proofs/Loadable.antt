@@ -12,7 +12,7 @@ use Rattle.bk_gsl.specs.Substitution.{Substitution, skip, assign, if_else}
 use Rattle.bk_gsl.specs.State.{among}
 use Rattle.bk_gsl.proofs.States.{nat_eq-self}
 use Rattle.bk_dev.specs.Development.{Head, Body, Level}
-use Rattle.bk_dev.specs.Facts.{Each}
+use Rattle.bk_form.specs.Each.{Each}
 use Rattle.bk_code.specs.declared.image.Image.{Image}
 use Rattle.bk_code.specs.declared.instruction.Inst.{Inst}
 use Rattle.bk_code.specs.declared.instruction.Inst.TheVariants.{Push, Load, Store, Add, Sub, Neg, Eq, Lt, Le, Not as Invert, Ret}

@@ -7,7 +7,8 @@ use Rattle.bk_gsl.specs.Substitution.{Substitution, skip, assign, if_else}
 use Rattle.bk_gsl.specs.State.{among, firsts}
 use Rattle.bk_gsl.proofs.States.{among-append, clash, nat_eq-self}
 use Rattle.bk_dev.specs.Development.{Head, Body, Development, int_max, level_at, last}
-use Rattle.bk_dev.specs.Facts.{Each, EachBody, IsSubOf, IsDevelopment, HasItsValues, StaysIn, AssignsIn, Names, names_own, names_joined, writes_own, is_constant, is_variable_of, home_of}
+use Rattle.bk_dev.specs.Facts.{EachBody, IsSubOf, IsLawful, HasItsValues, StaysIn, AssignsIn, Names, names_own, names_joined, writes_own, is_constant, is_variable_of, home_of}
+use Rattle.bk_form.specs.Each.{Each}
 use Rattle.bk_gen.specs.Simple.{IsSimpleStatement, IsSimple}
 use Rattle.bk_gen.specs.Plain.{operation_cells}
 use Rattle.bk_dev.proofs.Levels.{last_level}
@@ -66,25 +67,25 @@ statement_named cells visible above writable (if_else p s t) max see write simpl
 statement_named cells visible above writable s max see write simple stays = absurd simple
 
 -- ---- the level
-no_constant : (dev : Development) → IsDevelopment dev → IsSimple dev → (n : ℕ) → is_constant (home_of dev n) ≡ true → ⊥
+no_constant : (dev : Development) → IsLawful dev → IsSimple dev → (n : ℕ) → is_constant (home_of dev n) ≡ true → ⊥
 no_constant dev f s n h =
     let complete : HasItsValues dev true = subst (HasItsValues dev) s.complete f.complete in
     let listed : among (firsts dev.values) n ≡ true = complete.1 n h in
     let none : among (firsts dev.values) n ≡ false = ap (λ ps. among (firsts ps) n) s.no_values in
     clash (among (firsts dev.values) n) listed none
 
-of_level : (dev : Development) → IsDevelopment dev → (n : ℕ) → is_variable_of (last dev) (home_of dev n) ≡ true → among (last_cells dev) n ≡ true
+of_level : (dev : Development) → IsLawful dev → (n : ℕ) → is_variable_of (last dev) (home_of dev n) ≡ true → among (last_cells dev) n ≡ true
 of_level dev f n h = among-left (level_at dev (last dev)).vars (operation_cells dev.heads (level_at dev (last dev)).bodies) n ((last_level dev f).all n h)
 
 -- what a statement with these inputs and outputs may name, and what it may write
-may_name : (dev : Development) → IsDevelopment dev → IsSimple dev → (inputs outputs : List ℕ) → AreInside (last_cells dev) inputs → AreInside (last_cells dev) outputs → (n : ℕ) → names_own dev (last dev) inputs outputs n ≡ true → among (last_cells dev) n ≡ true
+may_name : (dev : Development) → IsLawful dev → IsSimple dev → (inputs outputs : List ℕ) → AreInside (last_cells dev) inputs → AreInside (last_cells dev) outputs → (n : ℕ) → names_own dev (last dev) inputs outputs n ≡ true → among (last_cells dev) n ≡ true
 may_name dev f s inputs outputs ins outs n h = one_of_four (is_constant (home_of dev n)) (among inputs n) (is_variable_of (last dev) (home_of dev n)) (among outputs n) (among (last_cells dev) n ≡ true) h
     (λ constant. absurd (no_constant dev f s n constant)) (ins n) (of_level dev f n) (outs n)
 
-may_write : (dev : Development) → IsDevelopment dev → (outputs : List ℕ) → AreInside (last_cells dev) outputs → (n : ℕ) → writes_own dev (last dev) outputs n ≡ true → among (last_cells dev) n ≡ true
+may_write : (dev : Development) → IsLawful dev → (outputs : List ℕ) → AreInside (last_cells dev) outputs → (n : ℕ) → writes_own dev (last dev) outputs n ≡ true → among (last_cells dev) n ≡ true
 may_write dev f outputs outs n h = one_of_two (is_variable_of (last dev) (home_of dev n)) (among outputs n) (among (last_cells dev) n ≡ true) h (of_level dev f n) (outs n)
 
-sub_named : (dev : Development) → IsDevelopment dev → IsSimple dev → (inputs outputs : List ℕ) (sub : Substitution) → AreInside (last_cells dev) inputs → AreInside (last_cells dev) outputs → IsSimpleStatement (int_max dev) sub → IsSubOf dev (last dev) inputs outputs sub → HasCells (last_cells dev) sub
+sub_named : (dev : Development) → IsLawful dev → IsSimple dev → (inputs outputs : List ℕ) (sub : Substitution) → AreInside (last_cells dev) inputs → AreInside (last_cells dev) outputs → IsSimpleStatement (int_max dev) sub → IsSubOf dev (last dev) inputs outputs sub → HasCells (last_cells dev) sub
 sub_named dev f s inputs outputs sub ins outs simple facts =
     statement_named (last_cells dev) (names_own dev (last dev) inputs outputs) (names_joined dev (last dev)) (writes_own dev (last dev) outputs) sub (int_max dev)
     (may_name dev f s inputs outputs ins outs) (may_write dev f outputs outs) simple facts.stays
@@ -92,7 +93,7 @@ sub_named dev f s inputs outputs sub ins outs simple facts =
 none_inside : (cells : List ℕ) → AreInside cells []
 none_inside cells n h = clash false h refl
 
-pub init_named : (dev : Development) → IsDevelopment dev → IsSimple dev → HasCells (last_cells dev) (level_at dev (last dev)).init
+pub init_named : (dev : Development) → IsLawful dev → IsSimple dev → HasCells (last_cells dev) (level_at dev (last dev)).init
 init_named dev f s = sub_named dev f s [] [] (level_at dev (last dev)).init (none_inside (last_cells dev)) (none_inside (last_cells dev)) s.init (last_level dev f).init
 
 -- ---- the operations
@@ -105,7 +106,7 @@ parameters_named cells (h ∷ hs) (b ∷ bs) inside = (
   parameters_named cells hs bs (λ n k. inside n (among-right (h.inputs ++ b.outputs) (operation_cells hs bs) n k)),
 )
 
-subs_named : (dev : Development) → IsDevelopment dev → IsSimple dev → (hs : List Head) (ms bs : List Body) → EachBody dev (last dev) hs ms bs → All (λ b. IsSimpleStatement (int_max dev) b.sub) bs → HaveCells (last_cells dev) hs bs → Each (λ b. HasCells (last_cells dev) b.sub) bs
+subs_named : (dev : Development) → IsLawful dev → IsSimple dev → (hs : List Head) (ms bs : List Body) → EachBody dev (last dev) hs ms bs → All (λ b. IsSimpleStatement (int_max dev) b.sub) bs → HaveCells (last_cells dev) hs bs → Each (λ b. HasCells (last_cells dev) b.sub) bs
 subs_named dev f s hs ms [] each simple have = tt
 subs_named dev f s [] [] (b ∷ bs) each simple have = absurd each
 subs_named dev f s [] (m ∷ ms) (b ∷ bs) each simple have = absurd each
@@ -118,5 +119,5 @@ subs_named dev f s (h ∷ hs) (m ∷ ms) (b ∷ bs) each simple have = (
 pub operations_named : (dev : Development) → HaveCells (last_cells dev) dev.heads (level_at dev (last dev)).bodies
 operations_named dev = parameters_named (last_cells dev) dev.heads (level_at dev (last dev)).bodies (λ n h. among-right (level_at dev (last dev)).vars (operation_cells dev.heads (level_at dev (last dev)).bodies) n h)
 
-pub bodies_named : (dev : Development) → IsDevelopment dev → IsSimple dev → Each (λ b. HasCells (last_cells dev) b.sub) (level_at dev (last dev)).bodies
+pub bodies_named : (dev : Development) → IsLawful dev → IsSimple dev → Each (λ b. HasCells (last_cells dev) b.sub) (level_at dev (last dev)).bodies
 bodies_named dev f s = subs_named dev f s dev.heads (level_at dev 0).bodies (level_at dev (last dev)).bodies (last_level dev f).bodies s.bodies (operations_named dev)

@@ -18,7 +18,8 @@ use Rattle.bk_gsl.specs.State.{declared_type}
 use Rattle.bk_gsl.proofs.States.{clash}
 use Rattle.bk_dev.specs.declared.kind.Home.{Home}
 use Rattle.bk_dev.specs.Development.{Head, Body, Development, int_max, level_at, last}
-use Rattle.bk_dev.specs.Facts.{is_input, is_inner_of, home_of, AllAre, Each, EachBody, IsHeadOf, IsBodyOf, IsDevelopment}
+use Rattle.bk_dev.specs.Facts.{is_input, is_inner_of, home_of, AllAre, EachBody, IsHeadOf, IsBodyOf, IsLawful}
+use Rattle.bk_form.specs.Each.{Each}
 use Rattle.bk_dev.specs.Layout.{Clue, in_domain, equals, silent, typing_clue, reversed, has_scalars, array_row, indices_of, row_by, arrays_of, row_cells, cells_of, locals, operation_variables, cell_variables, cell_among, cell_of, cells_in, cell_count}
 use Rattle.bk_dev.proofs.Levels.{last_level}
 use Rattle.bk_code.specs.declared.image.OpEntry.{OpEntry}
@@ -164,7 +165,7 @@ blocks_are dev s (b ∷ bs) a =
 
 -- ---- entries
 -- a variable with a home is in the table
-pub type_at_home : (dev : Development) → IsDevelopment dev → IsSimple dev → (test : Option Home → Bool) (x : ℕ) → test None ≡ false → test (home_of dev x) ≡ true → declared_type dev.table x ≡ int_type
+pub type_at_home : (dev : Development) → IsLawful dev → IsSimple dev → (test : Option Home → Bool) (x : ℕ) → test None ≡ false → test (home_of dev x) ≡ true → declared_type dev.table x ≡ int_type
 type_at_home dev f s test x nowhere there = by_home (home_of dev x) refl there
   where
     by_home : (o : Option Home) → home_of dev x ≡ o → test o ≡ true → declared_type dev.table x ≡ int_type
@@ -180,21 +181,21 @@ parameter_is dev s x whole =
     let slot : cell_of dev x ≡ slot_of (last_cells dev) x = cell_is dev s x in
     cc
 
-parameters_are : (dev : Development) → IsDevelopment dev → IsSimple dev → (test : Option Home → Bool) (xs : List ℕ) → test None ≡ false → AllAre (λ n. test (home_of dev n)) xs → map (parameter_of dev) xs ≡ map (plain_parameter (last_cells dev)) xs
+parameters_are : (dev : Development) → IsLawful dev → IsSimple dev → (test : Option Home → Bool) (xs : List ℕ) → test None ≡ false → AllAre (λ n. test (home_of dev n)) xs → map (parameter_of dev) xs ≡ map (plain_parameter (last_cells dev)) xs
 parameters_are dev f s test [] nowhere h = refl
 parameters_are dev f s test (x ∷ xs) nowhere h =
     let first : parameter_of dev x ≡ plain_parameter (last_cells dev) x = parameter_is dev s x (type_at_home dev f s test x nowhere h.0) in
     let rest : map (parameter_of dev) xs ≡ map (plain_parameter (last_cells dev)) xs = parameters_are dev f s test xs nowhere h.1 in
     cc
 
-entry_is : (dev : Development) → IsDevelopment dev → IsSimple dev → (k place : ℕ) (h : Head) (m b : Body) → IsHeadOf dev h → IsBodyOf dev k h m b →
+entry_is : (dev : Development) → IsLawful dev → IsSimple dev → (k place : ℕ) (h : Head) (m b : Body) → IsHeadOf dev h → IsBodyOf dev k h m b →
     ◌≡◌ {A = OpEntry} (record { name = h.name; start = place; inputs = map (parameter_of dev) h.inputs; outputs = map (parameter_of dev) b.outputs }) (plain_entry (last_cells dev) place h b)
 entry_is dev f s k place h m b head body =
     let inputs : map (parameter_of dev) h.inputs ≡ map (plain_parameter (last_cells dev)) h.inputs = parameters_are dev f s is_input h.inputs refl head.inputs in
     let outputs : map (parameter_of dev) b.outputs ≡ map (plain_parameter (last_cells dev)) b.outputs = parameters_are dev f s (is_inner_of k) b.outputs refl body.outputs in
     cc
 
-entries_are : (dev : Development) → IsDevelopment dev → IsSimple dev → (k place : ℕ) (hs : List Head) (ms bs : List Body) → Each (IsHeadOf dev) hs → EachBody dev k hs ms bs → All (λ b. IsSimpleStatement (int_max dev) b.sub) bs →
+entries_are : (dev : Development) → IsLawful dev → IsSimple dev → (k place : ℕ) (hs : List Head) (ms bs : List Body) → Each (IsHeadOf dev) hs → EachBody dev k hs ms bs → All (λ b. IsSimpleStatement (int_max dev) b.sub) bs →
     entries dev place hs bs ≡ plain_entries (last_cells dev) place hs bs
 entries_are dev f s k place [] ms bs heads each a = refl
 entries_are dev f s k place (h ∷ hs) ms [] heads each a = refl
@@ -210,7 +211,7 @@ entries_are dev f s k place (h ∷ hs) (m ∷ ms) (b ∷ bs) heads each a =
     cc
 
 -- ---- the image
-pub translation_is : (dev : Development) → IsDevelopment dev → IsSimple dev → translation dev ≡ plain_image (last_cells dev) dev.heads (level_at dev (last dev))
+pub translation_is : (dev : Development) → IsLawful dev → IsSimple dev → translation dev ≡ plain_image (last_cells dev) dev.heads (level_at dev (last dev))
 translation_is dev f s =
     let count : cell_count dev ≡ length (last_cells dev) = cell_count_is dev s in
     let sets : map (λ set. set.elements) dev.sets ≡ [] = ap (map (λ set. set.elements)) s.no_sets in
@@ -266,7 +267,7 @@ blocks_size_are : (max : ℤ) (cells : List ℕ) (bs : List Body) → All (λ b.
 blocks_size_are max cells [] a = refl
 blocks_size_are max cells (b ∷ bs) a = omega (arith, length-append (block_code cells b.sub) (blocks_code cells bs), block_size_is max cells b.sub (All-head (λ b. IsSimpleStatement max b.sub) b bs a), blocks_size_are max cells bs (All-tail (λ b. IsSimpleStatement max b.sub) b bs a))
 
-pub code_size_is : (dev : Development) → IsDevelopment dev → IsSimple dev → length (translation dev).code ≡ block_size (level_at dev (last dev)).init + blocks_size (level_at dev (last dev)).bodies
+pub code_size_is : (dev : Development) → IsLawful dev → IsSimple dev → length (translation dev).code ≡ block_size (level_at dev (last dev)).init + blocks_size (level_at dev (last dev)).bodies
 code_size_is dev f s =
     ap (λ image. length image.code) (translation_is dev f s) ∙
     (length-append (block_code (last_cells dev) (level_at dev (last dev)).init) (blocks_code (last_cells dev) (level_at dev (last dev)).bodies) ∙

@@ -5,12 +5,14 @@ use Rattle.bk_form.specs.declared.operator.BinOp.TheVariants.{And, Or, Lt as Bel
 use Rattle.bk_gsl.specs.Substitution.{Substitution, skip, assign, if_else, loop}
 use Rattle.bk_dev.specs.declared.kind.Kind.{Kind}
 use Rattle.bk_dev.specs.declared.kind.Kind.TheVariants.{Machine, Implementation}
-use Rattle.bk_dev.specs.declared.kind.Home.TheVariants.{Input, Variable}
+use Rattle.bk_dev.specs.declared.kind.Home.TheVariants.{Input, Abstract, Concrete}
 use Rattle.bk_dev.specs.Development.{Level, Development}
 use Rattle.bk_dev.specs.Counter.{number_at, counter, reset_name, setmax_name, get_name}
 use Rattle.bk_code.specs.declared.image.CellKind.TheVariants.{Integer}
 use Rattle.bk_code.specs.declared.instruction.Inst.TheVariants.{Push, Load, Store, Add, Sub, Lt, Jump, JumpZero, Ret}
 use Rattle.bk_gen.specs.Translation.{value_code, statement_code, translation}
+use Rattle.bk_dev.specs.Facts.{IsLawful, LastIsFlat}
+use Rattle.bk_dev.specs.Flattened.{flattened}
 
 -- the counter's code: the initialisation, reset, setmax and get
 abbrev pub CounterCode : Type 0
@@ -54,7 +56,7 @@ adding n k = if_else (binary Below (variable n) (literal (pos 10))) (assign ((n,
 abbrev pub adder : Development
 adder = record {
   table = record { sets = []; variables = number_at 110 48 ∷ number_at 110 49 ∷ number_at 107 48 ∷ [] };
-  homes = Variable 0 ∷ Variable 1 ∷ Input ∷ [];
+  homes = Abstract 0 ∷ Concrete 1 ∷ Input ∷ [];
   sets = [];
   heads = record { name = add_name; inputs = 2 ∷ []; outputs = 0 } ∷ [];
   levels = adder_level (65 ∷ []) Machine 0 [] (adding 0 2) ∷ adder_level (65 ∷ 95 ∷ 105 ∷ []) Implementation 1 ((1, 0) ∷ []) (adding 1 2) ∷ [];
@@ -82,3 +84,7 @@ pub record TestsCode : Type 0 where
 -- WHILE 0 < n DO n := n - 1 END: the last Jump leads back to the test
 abbrev pub LoopCode : Type 0
 LoopCode = statement_code counter (loop (binary Below (literal (pos 0)) (variable 1)) (assign ((1, binary Less (variable 1) (literal (pos 1))) ∷ [])) btrue (variable 1)) ≡ Push (pos 0) ∷ Load 0 ∷ Lt ∷ JumpZero (pos 6) ∷ Load 0 ∷ Push (pos 1) ∷ Sub ∷ Store 0 ∷ Jump (neg_ℤ (pos 8)) ∷ []
+
+-- where no || stands in the last level, the translation of the flattened development is that of the development
+abbrev pub FlattenedKeepsCode : Type 0
+FlattenedKeepsCode = (dev : Development) → IsLawful dev → LastIsFlat dev → translation (flattened dev) ≡ translation dev

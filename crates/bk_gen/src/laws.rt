@@ -1,7 +1,7 @@
 //! What small developments and substitutions are translated to. Each law is the contract of a function that does nothing.
 
 ghost use Rattle.bk_dev.specs.Counter.{counter};
-ghost use Rattle.bk_gen.specs.Laws.{CounterCode, adder, AdderCode, TestsCode, LoopCode};
+ghost use Rattle.bk_gen.specs.Laws.{CounterCode, adder, AdderCode, TestsCode, LoopCode, FlattenedKeepsCode};
 ghost use Rattle.bk_gen.specs.Simple.{IsSimple};
 
 /// A counter, to be checked by hand.
@@ -24,4 +24,9 @@ pub fn small_cases()
 /// The counter is one of the developments that are translated so far.
 pub fn simple_counter()
     ensures { IsSimple counter }
+{}
+
+/// Flattening leaves the code as it was, where no `||` stands in the last level.
+pub fn flat_developments()
+    ensures { FlattenedKeepsCode }
 {}

@@ -5,11 +5,11 @@ use Rattle.bk_val.specs.ValueType.{ValueType, is_value_of}
 use Rattle.bk_form.specs.Table.{Table, set_size, variable_type, IsWellFormed}
 use Rattle.bk_form.specs.Formula.{Formula, variable}
 use Rattle.bk_form.specs.Search.{Finder}
-use Rattle.bk_form.specs.Environment.{State, IsTyped}
-use Rattle.bk_form.proofs.Valued.{typed-value}
+use Rattle.bk_form.specs.Environment.{State, at_state, IsTypedState}
+use Rattle.bk_form.proofs.Valued.{typed-value, state-typed}
 use Rattle.bk_form.specs.Replacement.{looked_up}
 use Rattle.bk_gsl.specs.Substitution.{Substitution, skip, assign, pre, guard, choice, if_else, any, seq, par, assert, becomes_such, loop}
-use Rattle.bk_gsl.specs.State.{at_state, holds, value_at, IsTypedState, with_values, among, firsts}
+use Rattle.bk_gsl.specs.State.{holds, value_at, with_values, among, firsts}
 use Rattle.bk_gsl.specs.Writes.{written, writes}
 use Rattle.bk_gsl.specs.Run.{Turns, Runs}
 use Rattle.bk_gsl.specs.Typed.{AreTypedTerms, Types}
@@ -47,9 +47,6 @@ module _ (find : Finder) (table : Table) where
 
   -- ---- types
   module _ (facts : IsWellFormed table) where
-    typed-environment : (e : State) → IsTypedState table e → IsTyped (at_state table e)
-    typed-environment e h = record { variables = h.typed; bound_numbers = refl }
-
     term-typed : (ps : List (ℕ × Formula)) → AreTypedTerms table ps → (e : State) → IsTypedState table e → (n : ℕ) (t : ValueType) → variable_type table n ≡ Some t → is_value_of (set_size table) t (value_at find table e (looked_up ps n)) ≡ true
     term-typed [] w e h n t q = h.typed n t q
     term-typed (p ∷ ps) w e h n t q = by_test (term-typed ps w.1 e h n t q) (nat_eq n p.0) refl
@@ -58,7 +55,7 @@ module _ (find : Finder) (table : Table) where
         by_test on true r =
             let same : Some t ≡ Some w.0.0 = sym q ∙ ap (variable_type table) (nat_eq-same n p.0 r) ∙ w.0.1 in
             let one : t ≡ w.0.0 = cc same in
-            subst (λ x. is_value_of (set_size table) x (value_at find table e p.1) ≡ true) (sym one) (typed-value find (at_state table e) facts (typed-environment e h) p.1 w.0.0 w.0.2)
+            subst (λ x. is_value_of (set_size table) x (value_at find table e p.1) ≡ true) (sym one) (typed-value find (at_state table e) facts (state-typed table e h) p.1 w.0.0 w.0.2)
         by_test on false r = on
 
     turns-typed : (run : State → State → Type 0) (test : State → Bool) → ((e f : State) → IsTypedState table e → run e f → IsTypedState table f) → (k : ℕ) (e f : State) → IsTypedState table e → Turns run test k e f → IsTypedState table f

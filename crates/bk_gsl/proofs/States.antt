@@ -6,9 +6,9 @@ use Rattle.std.proofs.lemmas.Bool.Decides.{nat_tests}
 use Rattle.bk_val.specs.Value.{MathValue}
 use Rattle.bk_val.specs.ValueType.{ValueType, bool_type, is_value_of}
 use Rattle.bk_form.specs.Table.{Table, set_size, variable_type}
-use Rattle.bk_form.specs.Environment.{State}
+use Rattle.bk_form.specs.Environment.{State, IsTypedState}
 use Rattle.bk_form.proofs.Members.{and-both}
-use Rattle.bk_gsl.specs.State.{IsTypedState, declared_type, are_values_for, with_value, with_values, among, over}
+use Rattle.bk_gsl.specs.State.{declared_type, are_values_for, with_value, with_values, among, over}
 use Rattle.bk_gsl.specs.Writes.{inserted, in_order}
 
 pub cases : (b : Bool) → (b ≡ true) ⊎ (b ≡ false)
@@ -41,6 +41,11 @@ with_values-out e [] vs n h = refl
 with_values-out e (z ∷ zs) [] n h = refl
 with_values-out e (z ∷ zs) (v ∷ vs) n h = let k = or-false (nat_eq n z) (among zs n) h in with_values-out (with_value e z v) zs vs n k.1 ∙ ap (λ b. cond b v (e n)) k.0
 
+pub with_values-same : (e d : State) (zs : List ℕ) (vs : List MathValue) (n : ℕ) → e n ≡ d n → with_values e zs vs n ≡ with_values d zs vs n
+with_values-same e d [] vs n h = h
+with_values-same e d (z ∷ zs) [] n h = h
+with_values-same e d (z ∷ zs) (v ∷ vs) n h = with_values-same (with_value e z v) (with_value d z v) zs vs n (ap (cond (nat_eq n z) v) h)
+
 declared : (table : Table) (n : ℕ) (t : ValueType) → variable_type table n ≡ Some t → declared_type table n ≡ t
 declared table n t h = ap (λ o. unwrap_or o bool_type) h
 
@@ -72,6 +77,21 @@ among-append (x ∷ xs) ys n = ap (λ b. nat_eq n x || b) (among-append xs ys n)
 
 pub among-both : (xs ys : List ℕ) (n : ℕ) → among (xs ++ ys) n ≡ false → (among xs n ≡ false) × (among ys n ≡ false)
 among-both xs ys n h = or-false (among xs n) (among ys n) (sym (among-append xs ys n) ∙ h)
+
+pub among-neither : (xs ys : List ℕ) (n : ℕ) → among xs n ≡ false → among ys n ≡ false → among (xs ++ ys) n ≡ false
+among-neither xs ys n h k = among-append xs ys n ∙ ap (λ b. b || among ys n) h ∙ k
+
+-- what is not among all is not among the rest
+pub among-kept : (zs xs : List ℕ) (n : ℕ) → among xs n ≡ false → among (filter (λ m. not (among zs m)) xs) n ≡ false
+among-kept zs [] n h = refl
+among-kept zs (x ∷ xs) n h = by_test (among-kept zs xs n k.1) (among zs x)
+  where
+    k : (nat_eq n x ≡ false) × (among xs n ≡ false)
+    k = or-false (nat_eq n x) (among xs n) h
+
+    by_test : among (filter (λ m. not (among zs m)) xs) n ≡ false → (b : Bool) → among (cond (not b) (x ∷ filter (λ m. not (among zs m)) xs) (filter (λ m. not (among zs m)) xs)) n ≡ false
+    by_test on true = on
+    by_test on false = ap (λ b. b || among (filter (λ m. not (among zs m)) xs) n) k.0 ∙ on
 
 -- a variable that is not bound, and not among the rest, is not among all
 pub among-without : (zs xs : List ℕ) (n : ℕ) → among (filter (λ m. not (among zs m)) xs) n ≡ false → among zs n ≡ false → among xs n ≡ false

@@ -5,13 +5,13 @@ use Rattle.bk_form.specs.Table.{Table}
 use Rattle.bk_form.specs.ArrayTable.{ArrayTable, row_of}
 use Rattle.bk_form.specs.Formula.{Formula, variable, unary, binary}
 use Rattle.bk_form.specs.Search.{Finder}
-use Rattle.bk_form.specs.Environment.{State}
+use Rattle.bk_form.specs.Environment.{State, at_state}
 use Rattle.bk_form.specs.Defined.{Defined, Fits, is_index}
 use Rattle.bk_form.specs.declared.operator.UnOp.TheVariants.{Single}
 use Rattle.bk_form.specs.declared.operator.BinOp.TheVariants.{Over, Maps}
 use Rattle.bk_form.specs.declared.arrays.ArrayRow.{ArrayRow}
 use Rattle.bk_gsl.specs.Substitution.{Substitution, skip, assign, pre, guard, choice, if_else, any, seq, par, assert, becomes_such, loop}
-use Rattle.bk_gsl.specs.State.{at_state, holds, value_at, are_values_for, with_values, firsts}
+use Rattle.bk_gsl.specs.State.{holds, value_at, are_values_for, with_values, firsts}
 use Rattle.bk_gsl.specs.Run.{Runs, with_old}
 
 -- a formula that is evaluated: defined, or where arrays are given, in an implementation, fitting

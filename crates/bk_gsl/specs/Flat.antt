@@ -2,16 +2,13 @@
 use Rattle.std.specs.Prelude.{ℕ, suc, ◌+◌, nat_eq, cond, List, [], ◌∷◌, ◌++◌, length}
 use Rattle.std.specs.List.{slice_get, filter_map}
 use Rattle.bk_form.specs.Table.{Table}
-use Rattle.bk_form.specs.Formula.{Formula, variable, binary}
-use Rattle.bk_form.specs.Replacement.{replaced}
-use Rattle.bk_form.specs.declared.operator.BinOp.TheVariants.{And, Eq}
+use Rattle.bk_form.specs.Formula.{Formula, binary}
+use Rattle.bk_form.specs.Replacement.{renamed}
+use Rattle.bk_form.specs.declared.operator.BinOp.TheVariants.{And}
 use Rattle.bk_gsl.specs.Substitution.{Substitution, skip, assign, pre, guard, choice, if_else, any, seq, par, assert, becomes_such, loop}
 use Rattle.bk_gsl.specs.State.{firsts}
 use Rattle.bk_gsl.specs.Writes.{writes}
-
--- one variable in place of another in a formula
-abbrev pub renamed : (ℕ → ℕ) → Formula → Formula
-renamed by f = replaced (λ n. variable (by n)) f
+use Rattle.bk_form.specs.Predicates.{equation}
 
 -- the same in the terms of an assignment; the variables on its left stay
 abbrev pub renamed_terms : (ℕ → ℕ) → List (ℕ × Formula) → List (ℕ × Formula)
@@ -42,10 +39,6 @@ copies_from k (x ∷ xs) = (k, x) ∷ copies_from (suc k) xs
 abbrev pub copy_of : List (ℕ × ℕ) → ℕ → ℕ
 copy_of [] n = n
 copy_of (p ∷ ps) n = cond (nat_eq n p.1) p.0 (copy_of ps n)
-
--- c = x, of a copy and its variable
-abbrev pub equation : ℕ × ℕ → Formula
-equation p = binary Eq (variable p.0) (variable p.1)
 
 -- the equations c = x, joined to the left
 abbrev pub equations_onto : Formula → List (ℕ × ℕ) → Formula
@@ -90,3 +83,16 @@ flat table s = flat_from (length table.variables) s
 -- the table with an entry for each copy: that of the variable which it copies
 abbrev pub flat_table : Table → Substitution → Table
 flat_table table s = record table { variables = table.variables ++ filter_map (slice_get table.variables) (copied s) }
+
+-- no || stands in it
+abbrev pub IsFlat : Substitution → Type 0
+IsFlat (pre p s) = IsFlat s
+IsFlat (guard p s) = IsFlat s
+IsFlat (choice s t) = IsFlat s × IsFlat t
+IsFlat (if_else p s t) = IsFlat s × IsFlat t
+IsFlat (any zs s) = IsFlat s
+IsFlat (seq s t) = IsFlat s × IsFlat t
+IsFlat (assert p s) = IsFlat s
+IsFlat (loop p s i v) = IsFlat s
+IsFlat (par s t) = ⊥
+IsFlat _ = Unit {0}

@@ -11,3 +11,5 @@ pub mod SubCodes
 pub mod SubView
 pub mod SubFalls
 pub mod Reads
+pub mod Apart
+pub mod Avoids

@@ -1,16 +1,12 @@
 -- States: a value for each variable, by its number.
-use Rattle.std.specs.Prelude.{◌≡◌, ℕ, nat_eq, Bool, true, false, ◌||◌, cond, List, [], ◌∷◌, map, Some, unwrap_or}
+use Rattle.std.specs.Prelude.{◌≡◌, ℕ, nat_eq, Bool, true, false, ◌||◌, cond, List, [], ◌∷◌, map, unwrap_or}
 use Rattle.bk_val.specs.Value.{MathValue}
-use Rattle.bk_val.specs.ValueType.{ValueType, bool_type, is_value_of, are_of_types}
+use Rattle.bk_val.specs.ValueType.{ValueType, bool_type, are_of_types}
 use Rattle.bk_form.specs.Table.{Table, set_size, variable_type}
 use Rattle.bk_form.specs.Formula.{Formula}
 use Rattle.bk_form.specs.Search.{Finder}
-use Rattle.bk_form.specs.Environment.{Environment, State}
+use Rattle.bk_form.specs.Environment.{State, at_state}
 use Rattle.bk_form.specs.Meaning.{value, truth}
-
--- what formulas see in a state
-abbrev pub at_state : Table → State → Environment
-at_state table e = record { table = table; state = e; bound = [] }
 
 -- whether a predicate is true in a state
 abbrev pub holds : Finder → Table → State → Formula → Bool
@@ -19,10 +15,6 @@ holds find table e p = truth find (at_state table e) p
 -- the value of an expression in a state
 abbrev pub value_at : Finder → Table → State → Formula → MathValue
 value_at find table e f = value find (at_state table e) f
-
--- each variable of the table has a value of its type
-pub record IsTypedState (table : Table) (e : State) : Type 0 where
-  pub typed : (n : ℕ) (t : ValueType) → variable_type table n ≡ Some t → is_value_of (set_size table) t (e n) ≡ true
 
 -- the type of a variable; that of one which the table does not list does not matter
 abbrev pub declared_type : Table → ℕ → ValueType
@@ -50,6 +42,10 @@ among (z ∷ zs) n = nat_eq n z || among zs n
 -- d where the test passes, and e elsewhere
 abbrev pub over : (ℕ → Bool) → State → State → State
 over at d e n = cond (at n) (d n) (e n)
+
+-- these variables have the same values in the two states
+abbrev pub AgreeOn : List ℕ → State → State → Type 0
+AgreeOn zs d e = (n : ℕ) → among zs n ≡ true → d n ≡ e n
 
 -- the first of each pair: the variables to which an assignment gives terms, or those that x :(P) changes
 abbrev pub firsts : {A : Type 0} → List (ℕ × A) → List ℕ

@@ -3,12 +3,9 @@ use Rattle.std.specs.Prelude.{◌≡◌, ℕ, List, [], ◌∷◌, Some}
 use Rattle.bk_val.specs.ValueType.{ValueType, int_type}
 use Rattle.bk_form.specs.Table.{Table, variable_type}
 use Rattle.bk_form.specs.Formula.{Formula}
-use Rattle.bk_form.specs.Role.{role, gives, predicate}
+use Rattle.bk_form.specs.Role.{role, gives}
 use Rattle.bk_gsl.specs.Substitution.{Substitution, skip, assign, pre, guard, choice, if_else, any, seq, par, assert, becomes_such, loop}
-
--- a predicate, with no loose bound number
-abbrev pub IsPredicate : Table → Formula → Type 0
-IsPredicate table p = role table [] p ≡ predicate
+use Rattle.bk_form.specs.Predicates.{IsPredicate}
 
 -- a term that gives this type, with no loose bound number
 abbrev pub IsTerm : Table → ValueType → Formula → Type 0

@@ -1,6 +1,6 @@
 //! Laws of substitutions. Each is the contract of a function that does nothing.
 
-ghost use Rattle.bk_gsl.specs.Laws.{ChangesOnlyWrites, KeepsTypes, PreconditionMeans, Swaps, PutsBack, CountsDown, NeverEnds};
+ghost use Rattle.bk_gsl.specs.Laws.{ChangesOnlyWrites, KeepsTypes, PreconditionMeans, Swaps, PutsBack, CountsDown, NeverEnds, WideningKeepsRuns, ReadDecides, AvoidedDoesNotMatter};
 
 /// What a run changes, and what types the variables have after it.
 pub fn runs()
@@ -19,4 +19,19 @@ pub fn examples()
     ensures local { PutsBack }
     ensures count_down { CountsDown }
     ensures forever { NeverEnds }
+{}
+
+/// Over a table with more variables or sets a substitution that types runs, ends and is clean as before.
+pub fn wider_tables()
+    ensures { WideningKeepsRuns }
+{}
+
+/// What a substitution reads decides what it runs to, whether it ends and whether it is clean.
+pub fn read_decides()
+    ensures { ReadDecides }
+{}
+
+/// Variables that a substitution avoids do not matter to what it runs to, whether it ends and whether it is clean.
+pub fn avoided()
+    ensures { AvoidedDoesNotMatter }
 {}

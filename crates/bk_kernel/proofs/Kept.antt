@@ -16,7 +16,9 @@ use Rattle.bk_kernel.specs.declared.rule.Place.{Place}
 use Rattle.bk_kernel.specs.declared.rule.Place.TheVariants.{Goal, Hyp as InHyp}
 use Rattle.bk_kernel.specs.declared.rule.Rule.{Rule}
 use Rattle.bk_kernel.specs.declared.rule.Rule.TheVariants.{Hyp, Same, And, Left, Right, Split, Imp, Eq, Qe, Law, Lin, Unread}
-use Rattle.bk_seq.specs.Sequents.{Sequent, Each, IsPredicate, Types}
+use Rattle.bk_seq.specs.Sequents.{Sequent, Types}
+use Rattle.bk_form.specs.Each.{Each}
+use Rattle.bk_form.specs.Predicates.{IsPredicate}
 use Rattle.bk_kernel.specs.Rules.{Rewrites, ByLaw, ByRule}
 use Rattle.bk_kernel.specs.RuleLaws.{RulesKeepTypes}
 use Rattle.bk_kernel.proofs.Lists.{each-append, each-item}

@@ -5,9 +5,9 @@ use Rattle.bk_form.specs.Formula.{Formula}
 use Rattle.bk_form.specs.Search.{Finder}
 use Rattle.bk_form.specs.Environment.{Environment}
 use Rattle.bk_form.specs.Meaning.{truth}
-use Rattle.bk_bind.specs.Valid.{AllHold}
+use Rattle.bk_form.specs.Predicates.{AllHold}
 use Rattle.bk_seq.specs.Paths.{numbered_item}
-use Rattle.bk_seq.specs.Sequents.{Each}
+use Rattle.bk_form.specs.Each.{Each}
 
 pub each-append : {A : Type 0} (P : A → Type 0) (xs ys : List A) → Each P xs → Each P ys → Each P (xs ++ ys)
 each-append P [] ys h k = k

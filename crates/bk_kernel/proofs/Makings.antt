@@ -15,7 +15,8 @@ use Rattle.bk_kernel.specs.declared.rule.Place.TheVariants.{Goal, Hyp}
 use Rattle.bk_kernel.specs.declared.rule.Rule.{Rule}
 use Rattle.bk_kernel.specs.declared.rule.Rule.TheVariants.{Split}
 use Rattle.bk_kernel.specs.declared.error.StepFault.{StepFault}
-use Rattle.bk_seq.specs.Sequents.{Sequent, sequent_of, Each, Types, IsWithin}
+use Rattle.bk_seq.specs.Sequents.{Sequent, sequent_of, Types, IsWithin}
+use Rattle.bk_form.specs.Each.{Each}
 use Rattle.bk_kernel.specs.Rules.{Rewrites, ByLaw, ByRule, IsInstance}
 use Rattle.bk_kernel.specs.Making.{Makes, MakesByLaw, MakesAt}
 use Rattle.bk_kernel.proofs.Lists.{each-append, each-left, each-right, each-item, all-each, each-all}

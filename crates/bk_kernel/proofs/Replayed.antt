@@ -8,7 +8,8 @@ use Rattle.bk_seq.specs.Paths.{numbered_item}
 use Rattle.bk_seq.specs.declared.sequent.Sequent.{Sequent as StoredSequent}
 use Rattle.bk_kernel.specs.declared.rule.Rule.{Rule}
 use Rattle.bk_kernel.specs.declared.replaying.Verdict.{Verdict}
-use Rattle.bk_seq.specs.Sequents.{Sequent, sequent_of, Each, Types, IsWithin}
+use Rattle.bk_seq.specs.Sequents.{Sequent, sequent_of, Types, IsWithin}
+use Rattle.bk_form.specs.Each.{Each}
 use Rattle.bk_kernel.specs.Rules.{IsInstance}
 use Rattle.bk_kernel.specs.Derivations.{Leaves, FailsAt, IsVerdict}
 use Rattle.bk_kernel.specs.Standing.{in_order, at_end}

@@ -9,7 +9,7 @@ use Rattle.bk_val.specs.CmpLaws.{value_eq-self}
 use Rattle.bk_form.specs.Table.{set_size, lists_type, IsWellFormed}
 use Rattle.bk_form.specs.Formula.{Formula, named, binary}
 use Rattle.bk_form.specs.Search.{Finder}
-use Rattle.bk_form.specs.Environment.{Environment, bound_types, IsTyped}
+use Rattle.bk_form.specs.Environment.{Environment, bound_types, IsTyped, at_state}
 use Rattle.bk_form.specs.Role.{Role, gives, ranges_over, predicate, if_holds, same_type, membership_role, binary_role, role}
 use Rattle.bk_form.specs.Operators.{is_equal, number_in, is_in_named}
 use Rattle.bk_form.specs.Meaning.{value, truth, within}
@@ -19,8 +19,8 @@ use Rattle.bk_form.specs.declared.operator.Domain.TheVariants.{Integer, Natural,
 use Rattle.bk_form.proofs.Members.{or-cases, and-true, and-both}
 use Rattle.bk_form.proofs.Roles.{same_type-then}
 use Rattle.bk_form.proofs.Domains.{interval-members}
-use Rattle.bk_form.proofs.Valued.{sound_typing}
-use Rattle.bk_bind.specs.Valid.{AllHold, in_state}
+use Rattle.bk_form.proofs.Valued.{sound_typing, state-typed}
+use Rattle.bk_form.specs.Predicates.{AllHold}
 use Rattle.bk_arith.specs.ClosedSum.{closed_sum}
 use Rattle.bk_arith.specs.Same.{is_same}
 use Rattle.bk_kernel.specs.Obvious.{both_pass, has_all, has_number, holds_plainly, is_plain}
@@ -142,6 +142,6 @@ assumed find e (p ∷ ps) goal h hold = elim (or-cases (is_same goal p) (list_an
 
 pub obvious_is_valid : ObviousIsValid
 obvious_is_valid table well hyps goal types h find law state typed hold = elim (or-cases (list_any (is_same goal) hyps) (is_plain goal) h) [
-  | inl k ↦ assumed find (in_state table state) hyps goal k hold
-  | inr k ↦ plain-holds find (in_state table state) well typed goal types k
+  | inl k ↦ assumed find (at_state table state) hyps goal k hold
+  | inr k ↦ plain-holds find (at_state table state) well (state-typed table state typed) goal types k
 ]

@@ -4,7 +4,8 @@ use Rattle.bk_form.specs.Formula.{Formula}
 use Rattle.bk_lin.specs.declared.fact.Line.{Line}
 use Rattle.bk_kernel.specs.declared.rule.Place.{Place}
 use Rattle.bk_kernel.specs.declared.rule.Rule.{Rule}
-use Rattle.bk_seq.specs.Sequents.{Sequent, Each, IsWithin}
+use Rattle.bk_seq.specs.Sequents.{Sequent, IsWithin}
+use Rattle.bk_form.specs.Each.{Each}
 use Rattle.bk_kernel.specs.Rules.{Rewrites, ByLaw, ByArithmetic, ByRule}
 
 -- by the table, and within the limits

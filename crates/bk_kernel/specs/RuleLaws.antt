@@ -3,7 +3,8 @@ use Rattle.std.specs.Prelude.{◌≡◌, List}
 use Rattle.bk_form.specs.Table.{Table, IsWellFormed}
 use Rattle.bk_kernel.specs.declared.rule.Rule.{Rule}
 use Rattle.bk_kernel.specs.declared.replaying.Verdict.{Verdict}
-use Rattle.bk_seq.specs.Sequents.{Sequent, Each, Types, IsValidSequent}
+use Rattle.bk_seq.specs.Sequents.{Sequent, Types, IsValidSequent}
+use Rattle.bk_form.specs.Each.{Each}
 use Rattle.bk_kernel.specs.Rules.{ByRule, IsInstance}
 use Rattle.bk_kernel.specs.Derivations.{Derives, IsVerdict}
 

@@ -11,7 +11,8 @@ use Rattle.bk_kernel.specs.declared.rule.Place.{Place}
 use Rattle.bk_kernel.specs.declared.rule.Place.TheVariants.{Goal, Hyp as InHyp}
 use Rattle.bk_kernel.specs.declared.rule.Rule.{Rule}
 use Rattle.bk_kernel.specs.declared.rule.Rule.TheVariants.{Hyp, Same, And, Left, Right, Split, Imp, Eq, Qe, Law, Lin, Unread}
-use Rattle.bk_seq.specs.Sequents.{Sequent, Each, Types, IsWithin}
+use Rattle.bk_seq.specs.Sequents.{Sequent, Types, IsWithin}
+use Rattle.bk_form.specs.Each.{Each}
 
 -- `old` stands at the place, and t is the sequent with `new` there: a change of the goal is the new goal, a change of a hypothesis is one more hypothesis
 abbrev pub Rewrites : Place → Sequent → Formula → Formula → Sequent → Type 0

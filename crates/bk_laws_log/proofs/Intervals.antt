@@ -13,7 +13,7 @@ use Rattle.bk_form.specs.Meaning.{value, truth, within}
 use Rattle.bk_form.specs.declared.operator.BinOp.TheVariants.{And, Le, In, Range}
 use Rattle.bk_form.proofs.Domains.{interval-members}
 use Rattle.bk_form.proofs.Valued.{sound_typing}
-use Rattle.bk_bind.specs.Same.{MeanSame}
+use Rattle.bk_form.proofs.Forms.{meaning_is_known}
 use Rattle.bk_laws_log.specs.Instances.{interval_law}
 use Rattle.bk_laws_log.specs.Laws.{TypesIn, SidesHold, IsTrueLaw}
 
@@ -61,9 +61,5 @@ interval_is_true a b c find search e well typed left right sides =
     let rb = role e.table (bound_types e) b in
     let rc = role e.table (bound_types e) c in
     let types = numbers ra rb rc left in
-    record {
-      one_role = left-types ra rb rc types ∙ sym (right-types ra rb rc types);
-      one_value = refl;
-      one_truth = one-truth find e well typed a b c types.element;
-      same_within = λ v. refl;
-    }
+    let i = interval_law a b c in
+    meaning_is_known.predicates find e i.left i.right (left-types ra rb rc types) (right-types ra rb rc types) (one-truth find e well typed a b c types.element)

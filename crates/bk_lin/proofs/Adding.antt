@@ -5,18 +5,19 @@ use Rattle.std.proofs.lemmas.List.{take_more_set, drop-set-lt, append_assoc, dro
 use Rattle.std.proofs.lemmas.Int.{to_z-of_z}
 use Rattle.std.specs.Int.{w128, cast_signed, cast_unsigned}
 use Rattle.std.specs.Prelude.{FitsSigned}
-use Rattle.bk_lin.specs.Inequality.{is_i128, is_narrow, sum_of_coefs, plus, times}
+use Rattle.bk_lin.specs.Inequality.{is_narrow, sum_of_coefs, plus, times}
+use Rattle.bk_val.specs.Value.{fits_i128}
 use Rattle.bk_lin.specs.Layout.{held_in, shown}
 
 -- a product and the sum with it are both narrow
 abbrev pub entry_fits : ℤ → ℤ → ℤ → Bool
-entry_fits m s c = is_i128 (m *ℤ c) && is_i128 (s +ℤ m *ℤ c)
+entry_fits m s c = fits_i128 (m *ℤ c) && fits_i128 (s +ℤ m *ℤ c)
 
 abbrev pub added : ℤ → List ℤ → List ℤ → List ℤ
 added m sums coefs = sum_of_coefs sums (map (λ c. m *ℤ c) coefs)
 
 abbrev pub all_fit : ℤ → List ℤ → List ℤ → Bool
-all_fit m sums coefs = list_all is_i128 (map (λ c. m *ℤ c) coefs) && list_all is_i128 (added m sums coefs)
+all_fit m sums coefs = list_all fits_i128 (map (λ c. m *ℤ c) coefs) && list_all fits_i128 (added m sums coefs)
 
 -- tests of two lists, where both heads pass, or one fails
 pub both_heads : (p q r s : Bool) → (p && r) ≡ true → ((p && q) && (r && s)) ≡ (q && s)
@@ -33,11 +34,11 @@ a_head_fails false q r s h = refl
 
 all_fit-cons : (m s c : ℤ) (ss cs : List ℤ) → entry_fits m s c ≡ true → all_fit m (s ∷ ss) (c ∷ cs) ≡ all_fit m ss cs
 all_fit-cons m s c ss cs h =
-    both_heads (is_i128 (m *ℤ c)) (list_all is_i128 (map (λ d. m *ℤ d) cs)) (is_i128 (s +ℤ m *ℤ c)) (list_all is_i128 (added m ss cs)) h
+    both_heads (fits_i128 (m *ℤ c)) (list_all fits_i128 (map (λ d. m *ℤ d) cs)) (fits_i128 (s +ℤ m *ℤ c)) (list_all fits_i128 (added m ss cs)) h
 
 all_fit-cons_fails : (m s c : ℤ) (ss cs : List ℤ) → entry_fits m s c ≡ false → all_fit m (s ∷ ss) (c ∷ cs) ≡ false
 all_fit-cons_fails m s c ss cs h =
-    a_head_fails (is_i128 (m *ℤ c)) (list_all is_i128 (map (λ d. m *ℤ d) cs)) (is_i128 (s +ℤ m *ℤ c)) (list_all is_i128 (added m ss cs)) h
+    a_head_fails (fits_i128 (m *ℤ c)) (list_all fits_i128 (map (λ d. m *ℤ d) cs)) (fits_i128 (s +ℤ m *ℤ c)) (list_all fits_i128 (added m ss cs)) h
 
 -- the step of the loop: what is left fits where the rest does
 pub all_fit-more : (m : ℤ) (sums coefs : List ℤ) (i : ℕ) (v : ℤ) → i < length sums → i < length coefs → entry_fits m (get_or sums i (pos 0)) (get_or coefs i (pos 0)) ≡ true → all_fit m (drop (i + 1) (set sums i v)) (drop (i + 1) coefs) ≡ all_fit m (drop i sums) (drop i coefs)

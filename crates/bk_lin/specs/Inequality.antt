@@ -1,8 +1,9 @@
 -- Linear inequalities over whole numbers without bound (Schrijver, Theory of Linear and Integer Programming).
-use Rattle.std.specs.Prelude.{◌≡◌, ℕ, suc, ◌^◌, ℤ, pos, negsuc, ◌+ℤ◌, ◌*ℤ◌, ◌≤ℤ◌, ◌<ℤ◌, Bool, ◌&&◌, List, [], ◌∷◌, map, replicate, All, nat_lt}
+use Rattle.std.specs.Prelude.{◌≡◌, ℕ, suc, ℤ, pos, ◌+ℤ◌, ◌*ℤ◌, ◌≤ℤ◌, ◌<ℤ◌, Bool, ◌&&◌, List, [], ◌∷◌, map, replicate, All}
 use Rattle.std.specs.List.{list_all}
 use Rattle.std.specs.Int.{int_div_euclid, int_rem_euclid}
 use Rattle.std.specs.Ordering.{int_eq}
+use Rattle.bk_val.specs.Value.{fits_i128}
 
 -- says that 0 is at most the sum of each coefficient times its atom, and the constant
 pub record Inequality : Type 0 where
@@ -61,11 +62,6 @@ quotient_of p d = record {
   constant = int_div_euclid p.constant d;
 }
 
--- from -2^127 to 2^127 - 1
-abbrev pub is_i128 : ℤ → Bool
-is_i128 (pos n) = nat_lt n (2 ^ 127)
-is_i128 (negsuc n) = nat_lt n (2 ^ 127)
-
 -- the constant and each coefficient is an i128
 abbrev pub is_narrow : Inequality → Bool
-is_narrow p = is_i128 p.constant && list_all is_i128 p.coefs
+is_narrow p = fits_i128 p.constant && list_all fits_i128 p.coefs

@@ -2,7 +2,8 @@
 
 ghost use Rattle.std.specs.Prelude.{◌≡◌, ◌+◌, ◌↔◌, ◌*ℤ◌, ◌+ℤ◌, ◌&&◌, IsTrue, IsSome, OnSome, length};
 ghost use Rattle.std.specs.Option.{SomeIff};
-ghost use Rattle.bk_lin.specs.Inequality.{is_i128, times, plus, is_narrow};
+ghost use Rattle.bk_lin.specs.Inequality.{times, plus, is_narrow};
+ghost use Rattle.bk_val.specs.Value.{fits_i128};
 ghost use Rattle.bk_lin.specs.Layout.{held_in, shown};
 
 use crate::standing::Row;
@@ -22,7 +23,7 @@ pub fn add_multiple(target: &mut [i128], multiplier: i128, row: Row) -> Option<(
 }
 
 fn add_product(sum: i128, multiplier: i128, entry: i128) -> Option<i128>
-    ensures { SomeIff result (IsTrue (is_i128 (multiplier *ℤ entry) && is_i128 (sum +ℤ multiplier *ℤ entry)))
+    ensures { SomeIff result (IsTrue (fits_i128 (multiplier *ℤ entry) && fits_i128 (sum +ℤ multiplier *ℤ entry)))
         (sum +ℤ multiplier *ℤ entry) }
 {
     let product = multiplier.checked_mul(entry)?;

@@ -6,3 +6,4 @@ pub mod Openings
 pub mod PrintedTypes
 pub mod Found
 pub mod Roles
+pub mod Texts

@@ -1,8 +1,8 @@
 // How many brackets and blocks are open.
 
 ghost use Rattle.std.specs.Prelude.{◌≡◌, ◌≤◌, MatchOption};
-ghost use Rattle.bk_raw.specs.Brackets.{opens_bracket, closes_bracket};
-ghost use Rattle.bk_p_expr.specs.Depth.{IsShallow, IsTooDeep, open_behind, opens_block, closes_block};
+ghost use Rattle.bk_raw.specs.Brackets.{opens_bracket, closes_bracket, open_behind, opens_block, closes_block};
+ghost use Rattle.bk_raw.specs.Limits.{IsShallow, IsTooDeep};
 
 use bk_form::{Token, TokenKind};
 use bk_ops::{sign, word};

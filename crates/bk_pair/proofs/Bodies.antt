@@ -9,7 +9,8 @@ use Rattle.bk_dev.specs.declared.kind.Kind.TheVariants.{Machine, Implementation}
 use Rattle.bk_dev.specs.declared.kind.Home.{Home}
 use Rattle.bk_dev.specs.declared.kind.Home.TheVariants.{Input, Inner}
 use Rattle.bk_dev.specs.Development.{Body, Development}
-use Rattle.bk_dev.specs.Facts.{AllAlike, Each, EachBody, home_of, is_input, is_variable_of, binders, IsHeadOf}
+use Rattle.bk_dev.specs.Facts.{AllAlike, EachBody, home_of, is_input, is_variable_of, binders, IsHeadOf}
+use Rattle.bk_form.specs.Each.{Each}
 use Rattle.bk_comp.specs.Operations.{Header, Places, numbers_from, takes_members}
 use Rattle.bk_comp.specs.Components.{place_behind, machine_places, implementation_places}
 use Rattle.bk_comp.specs.Contents.{AreBodiesOver}

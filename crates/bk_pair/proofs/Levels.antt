@@ -6,7 +6,7 @@ use Rattle.bk_form.specs.Table.{variable_type}
 use Rattle.bk_form.specs.Formula.{Formula, btrue}
 use Rattle.bk_gsl.specs.Substitution.{Substitution}
 use Rattle.bk_gsl.specs.State.{among}
-use Rattle.bk_gsl.specs.Typed.{IsPredicate}
+use Rattle.bk_form.specs.Predicates.{IsPredicate}
 use Rattle.bk_gsl.proofs.States.{nat_eq-same, nat_eq-self}
 use Rattle.bk_dev.specs.declared.kind.Kind.{Kind}
 use Rattle.bk_dev.specs.declared.kind.Home.{Home}
@@ -15,7 +15,7 @@ use Rattle.bk_dev.specs.Development.{Body, Development, level_at}
 use Rattle.bk_dev.specs.Facts.{AllAre, AllAlike, AreDistinct, is_constant, is_variable_of, is_inner_of, home_of, Names, names_joined, names_own, writes_own, IsSubOf, IsBodyOf}
 use Rattle.bk_comp.specs.Operations.{Header, Places, numbers_from, takes_members}
 use Rattle.bk_comp.specs.Contents.{IsStatementOver, IsPreconditionOver, IsBodyOver}
-use Rattle.bk_pair.proofs.Made.{condition-predicate, statement-types, condition-names, statement-stays, statement-stands, statement-binds}
+use Rattle.bk_pair.proofs.Made.{condition-predicate, statement-types, condition-names, statement-stays, statement-loops, statement-binds}
 use Rattle.bk_pair.proofs.Standing.{StandAt, stand-among, all-are}
 use Rattle.bk_pair.proofs.Rising.{numbers-differ}
 
@@ -91,7 +91,7 @@ module _ (dev : Development) (k x : ℕ) (places : Places) (h : Header) (at : Pl
   sub-facts members s made = record {
     types = statement-types dev.table (x ∷ ins) names-typed members (x ∷ outs) s targets-typed made;
     stays = statement-stays (names_own dev k ins outs) (x ∷ ins) sees members (names_joined dev k) (writes_own dev k outs) (x ∷ outs) s may made;
-    shape = statement-stands members (x ∷ ins) (x ∷ outs) (level_at dev k).kind s made;
+    loops = statement-loops members (x ∷ ins) (x ∷ outs) (level_at dev k).kind s made;
     binds_inner = subst (AllAre (λ n. is_inner_of k (home_of dev n))) (sym (statement-binds members (x ∷ ins) (x ∷ outs) s made)) tt;
   }
 

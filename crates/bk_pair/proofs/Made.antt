@@ -11,10 +11,11 @@ use Rattle.bk_form.specs.declared.operator.BinOp.{BinOp}
 use Rattle.bk_form.specs.declared.operator.BinOp.TheVariants.{And, Eq, Lt, Le, In, Range, Add, Sub}
 use Rattle.bk_gsl.specs.Substitution.{Substitution, skip, assign, if_else}
 use Rattle.bk_gsl.specs.State.{among}
-use Rattle.bk_gsl.specs.Typed.{IsPredicate, IsTerm, Types}
+use Rattle.bk_gsl.specs.Typed.{IsTerm, Types}
+use Rattle.bk_form.specs.Predicates.{IsPredicate}
 use Rattle.bk_gsl.proofs.States.{nat_eq-same}
 use Rattle.bk_dev.specs.declared.kind.Kind.{Kind}
-use Rattle.bk_dev.specs.Facts.{Names, StaysIn, MayStandIn, binders}
+use Rattle.bk_dev.specs.Facts.{Names, StaysIn, MayStandIn, binders, LoopsStandIn}
 use Rattle.bk_gen.specs.Simple.{IsSimpleTerm, IsSimpleCondition, IsSimpleStatement, operators_down, EvaluatesShallow}
 use Rattle.bk_wp.specs.Guarded.{IsTotal, HasTotal}
 use Rattle.bk_comp.specs.Contents.{IsExpressionOver, IsIntervalOfNumbers, IsConditionOver, IsStatementOver, HasNoHigher}
@@ -92,6 +93,12 @@ module _ (members : Bool) (xs ys : List ℕ) where
   statement-stands kind (assign ps) h = tt
   statement-stands kind (if_else p s t) h = (statement-stands kind s h.1, statement-stands kind t h.2)
   statement-stands kind _ h = absurd h
+
+  pub statement-loops : (kind : Kind) (s : Substitution) → IsStatementOver members xs ys s → LoopsStandIn kind s
+  statement-loops kind skip h = tt
+  statement-loops kind (assign ps) h = tt
+  statement-loops kind (if_else p s t) h = (statement-loops kind s h.1, statement-loops kind t h.2)
+  statement-loops kind _ h = absurd h
 
   pub statement-binds : (s : Substitution) → IsStatementOver members xs ys s → binders s ≡ []
   statement-binds skip h = refl

@@ -10,9 +10,10 @@ use Rattle.bk_val.specs.ValueType.{int_type}
 use Rattle.bk_form.specs.Table.{VariableEntry, variable_type}
 use Rattle.bk_dev.specs.declared.kind.Kind.TheVariants.{Machine, Implementation}
 use Rattle.bk_dev.specs.declared.kind.Home.{Home}
-use Rattle.bk_dev.specs.declared.kind.Home.TheVariants.{Variable, Input, Inner}
+use Rattle.bk_dev.specs.declared.kind.Home.TheVariants.{Input, Inner, Concrete}
 use Rattle.bk_dev.specs.Development.{Development}
-use Rattle.bk_dev.specs.Facts.{Each, home_of, is_constant, is_variable_of}
+use Rattle.bk_dev.specs.Facts.{home_of, is_constant, is_variable_of}
+use Rattle.bk_form.specs.Each.{Each}
 use Rattle.bk_comp.specs.Operations.{Header}
 use Rattle.bk_comp.specs.Components.{Component, place_behind_all}
 use Rattle.bk_pair.specs.Developments.{entry, upper_variables, upper_homes, lower_variables, lower_homes, development_of}
@@ -66,7 +67,7 @@ module _ (m i : Component) where
   lower = place_behind_all 1 hs
 
   abbrev behind : List Home
-  behind = Variable 1 ∷ lower_inner hs
+  behind = Concrete 1 ∷ lower_inner hs
 
   pub upper-stand : StandAt dev.homes 1 (upper_inner hs)
   upper-stand = stand-first dev.homes 1 (upper_inner hs) behind (stand-whole dev.homes).1
@@ -78,7 +79,7 @@ module _ (m i : Component) where
   pub lower-own : is_variable_of 1 (home_of dev lower) ≡ true
   lower-own = ap (is_variable_of 1) lower-stand.0
 
-  later-each : (q : Option Home → Bool) → q (Some Input) ≡ false → q (Some (Inner 0)) ≡ false → q (Some (Variable 1)) ≡ false → q (Some (Inner 1)) ≡ false → Each (λ h. q (Some h) ≡ false) (upper_inner hs ++ behind)
+  later-each : (q : Option Home → Bool) → q (Some Input) ≡ false → q (Some (Inner 0)) ≡ false → q (Some (Concrete 1)) ≡ false → q (Some (Inner 1)) ≡ false → Each (λ h. q (Some h) ≡ false) (upper_inner hs ++ behind)
   later-each q a b c d = each-append (λ h. q (Some h) ≡ false) (upper_inner hs) behind (upper-each (λ h. q (Some h) ≡ false) a b hs) (c, lower-each (λ h. q (Some h) ≡ false) d hs)
 
   pub upper-only : (n : ℕ) → is_variable_of 0 (home_of dev n) ≡ true → n ≡ 0

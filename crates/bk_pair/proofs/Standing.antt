@@ -7,7 +7,8 @@ use Rattle.bk_gsl.specs.State.{among}
 use Rattle.bk_gsl.proofs.States.{nat_eq-same, nat_eq-self}
 use Rattle.bk_dev.specs.declared.kind.Home.{Home}
 use Rattle.bk_dev.specs.declared.kind.Home.TheVariants.{Input, Inner}
-use Rattle.bk_dev.specs.Facts.{AllAre, Each}
+use Rattle.bk_dev.specs.Facts.{AllAre}
+use Rattle.bk_form.specs.Each.{Each}
 use Rattle.bk_comp.specs.Operations.{Header, numbers_from}
 use Rattle.bk_comp.specs.Components.{place_behind, place_behind_all}
 

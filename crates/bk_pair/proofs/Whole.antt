@@ -1,5 +1,5 @@
 -- A machine and its implementation are a development.
-use Rattle.std.proofs.Common.{◌≡◌, ℕ, suc, ◌+◌, ◌<◌, ◌≤◌, Bool, true, false, ◌||◌, List, [], ◌∷◌, ◌++◌, length, map, Some, refl, sym, ap, subst, arith, length-append, IsTrue}
+use Rattle.std.proofs.Common.{◌≡◌, ℕ, suc, ◌+◌, ◌<◌, ◌≤◌, Bool, true, false, ◌||◌, List, [], ◌∷◌, ◌++◌, length, map, Some, refl, sym, ap, subst, arith, length-append, IsTrue, ◌^◌}
 use Rattle.std.specs.Prelude.{ℤ, nat_eq}
 use Rattle.std.specs.List.{flat_map}
 use Rattle.std.proofs.lemmas.List.{length-map}
@@ -13,18 +13,23 @@ use Rattle.bk_gsl.proofs.States.{clash, nat_eq-same, nat_eq-self}
 use Rattle.bk_dev.specs.declared.kind.Kind.{Kind}
 use Rattle.bk_dev.specs.declared.kind.Kind.TheVariants.{Machine, Implementation}
 use Rattle.bk_dev.specs.declared.kind.Home.{Home}
-use Rattle.bk_dev.specs.declared.kind.Home.TheVariants.{Variable, Input, Inner}
+use Rattle.bk_dev.specs.declared.kind.Home.TheVariants.{Input, Inner, Concrete}
 use Rattle.bk_dev.specs.Development.{Head, Body, Level, Development, level_at}
-use Rattle.bk_dev.specs.Facts.{AreDistinct, Each, EachBody, is_constant, is_variable_of, is_variable_above, home_of, names_constants, names_joined, all_outputs, all_binders, IsSubOf, IsKindAt, IsLink, IsStated, IsLevelOf, IsDevelopment}
-use Rattle.bk_comp.specs.Operations.{Header}
+use Rattle.bk_dev.specs.Facts.{AreDistinct, EachBody, is_constant, is_variable_of, is_variable_above, home_of, names_constants, names_joined, all_outputs, all_binders, IsSubOf, IsKindAt, IsLink, IsStated, IsLevelOf, IsDevelopment, IsLawful, MayStandIn}
+use Rattle.bk_form.specs.Each.{Each}
+use Rattle.bk_comp.specs.Operations.{Header, Places, numbers_from, takes_members}
 use Rattle.bk_comp.specs.Components.{Component, place_behind_all, machine_places, implementation_places}
-use Rattle.bk_comp.specs.Contents.{IsMachineNumber, IsConditionOver, IsMadeOfThese}
-use Rattle.bk_pair.proofs.Made.{condition-predicate, condition-names}
+use Rattle.bk_comp.specs.Contents.{IsMachineNumber, IsConditionOver, AreBodiesOver, IsMadeOfThese}
+use Rattle.bk_pair.proofs.Made.{condition-predicate, condition-names, statement-stands}
 use Rattle.bk_pair.proofs.Standing.{upper_inner, lower_inner, upper-length}
 use Rattle.bk_pair.proofs.Pairs.{as_machine, as_implementation, dev, lower, IsInt, upper-stand, lower-stand, lower-own, upper-only, lower-only, none-constant, variables-int, as-many, typed-home}
 use Rattle.bk_pair.proofs.Levels.{Placed, sub-facts, none-names}
 use Rattle.bk_pair.proofs.Rising.{Rises, rises-lower, rises-append, rising-differ, inputs-rise, upper-outputs, lower-outputs}
 use Rattle.bk_pair.proofs.Bodies.{heads-facts, upper-bodies, lower-bodies, no-binders}
+use Rattle.bk_dev.specs.Flattened.{flattened}
+use Rattle.bk_dev.proofs.Flat.{flattened_already}
+use Rattle.bk_po.proofs.Basics.{basic_are_flat}
+use Rattle.bk_pair.proofs.SimpleAndBasic.{each-body, pair-basic}
 
 -- ---- a level with one variable
 first-among : (x : ℕ) → among (x ∷ []) x ≡ true
@@ -111,7 +116,7 @@ module _ (m i : Component) (few : place_behind_all 1 m.headers ≤ 10000) (upper
   lows = lower_inner m.headers
 
   second-typed : variable_type pair.table second ≡ Some int_type
-  second-typed = typed-home m i second (Variable 1) (lower-stand m i).0
+  second-typed = typed-home m i second (Concrete 1) (lower-stand m i).0
 
   machine-level : IsLevelOf pair 0 (level_at pair 0)
   machine-level =
@@ -127,7 +132,7 @@ module _ (m i : Component) (few : place_behind_all 1 m.headers ≤ 10000) (upper
       (lower-bodies pair (typed-home m i) second 0 1 (suc second) m.headers m.bodies i.bodies (lower-own m i) second-typed (upper-stand m i) (lower-stand m i).1 upper.bodies below.bodies)
 
   homes-count : length pair.homes ≡ suc (length (upper_inner m.headers) + suc (length lows))
-  homes-count = ap suc (length-append (upper_inner m.headers) (Variable 1 ∷ lows))
+  homes-count = ap suc (length-append (upper_inner m.headers) (Concrete 1 ∷ lows))
 
   table-facts : IsWellFormed pair.table
   table-facts = record {
@@ -154,8 +159,8 @@ module _ (m i : Component) (few : place_behind_all 1 m.headers ≤ 10000) (upper
   differ : AreDistinct (all_outputs pair ++ all_binders pair)
   differ = rising-differ 1 end (all_outputs pair ++ all_binders pair) (rises-append 1 end end (all_outputs pair) (all_binders pair) outputs-of-all (subst (λ bs. Rises end end bs) (sym no-binder) (omega arith)))
 
-  pub whole-facts : IsDevelopment pair
-  whole-facts = record {
+  whole-lawful : IsLawful pair
+  whole-lawful = record {
     some_level = omega arith;
     table = table-facts;
     sets = refl;
@@ -165,5 +170,19 @@ module _ (m i : Component) (few : place_behind_all 1 m.headers ≤ 10000) (upper
     levels = (machine-level, (implementation-level, tt));
     values = tt;
     complete = (tt, λ n h. absurd (clash (is_constant (home_of pair n)) h (none-constant m i n)));
+  }
+
+  -- each body is of the shape that its kind asks
+  bodies-stand : (kind : Kind) (x : ℕ) (places : List Places) (hs : List Header) (bs : List Body) → AreBodiesOver kind x places hs bs → Each (λ b. MayStandIn kind b.sub) bs
+  bodies-stand kind x places hs bs made = each-body kind x (λ b. MayStandIn kind b.sub) (λ p h b w. statement-stands (takes_members kind) (x ∷ numbers_from p.inputs h.inputs) (x ∷ numbers_from p.outputs h.outputs) kind b.sub w.sub) places hs bs made
+
+  no-copies : flattened pair ≡ pair
+  no-copies = flattened_already pair (basic_are_flat pair (pair-basic m i upper below))
+
+  pub whole-facts : IsDevelopment pair
+  whole-facts = record {
+    lawful = whole-lawful;
+    shapes = (record { init = tt; bodies = bodies-stand Machine 0 (machine_places 1 m.headers) m.headers m.bodies upper.bodies }, (record { init = tt; bodies = bodies-stand Implementation second (implementation_places 1 (suc second) m.headers) m.headers i.bodies below.bodies }, tt));
     binders_differ = differ;
+    room = subst (λ d. length d.table.variables < 2 ^ 32) (sym no-copies) (omega (arith, homes-count, as-many m i, lower-few m.headers, upper-length 1 m.headers, few));
   }

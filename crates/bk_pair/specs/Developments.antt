@@ -7,7 +7,7 @@ use Rattle.bk_form.specs.Table.{VariableEntry}
 use Rattle.bk_form.specs.Formula.{literal, btrue}
 use Rattle.bk_gsl.specs.Substitution.{assign}
 use Rattle.bk_dev.specs.declared.kind.Home.{Home}
-use Rattle.bk_dev.specs.declared.kind.Home.TheVariants.{Variable as VariableOf, Input, Inner}
+use Rattle.bk_dev.specs.declared.kind.Home.TheVariants.{Abstract, Input, Inner, Concrete}
 use Rattle.bk_dev.specs.Development.{Head, Level, Development}
 use Rattle.bk_comp.specs.Operations.{Header, numbers_from}
 use Rattle.bk_comp.specs.Components.{Component, variable_of, IsTextOf, ArePair}
@@ -22,7 +22,7 @@ upper_variables c = entry (codes "$0") c.variable ∷ flat_map (λ h. map (entry
 
 -- where they are at home
 abbrev pub upper_homes : Component → List Home
-upper_homes c = VariableOf 0 ∷ flat_map (λ h. map (λ x. Input) h.inputs ++ map (λ r. Inner 0) h.outputs) c.headers
+upper_homes c = Abstract 0 ∷ flat_map (λ h. map (λ x. Input) h.inputs ++ map (λ r. Inner 0) h.outputs) c.headers
 
 -- the implementation's variable, and the outputs
 abbrev pub lower_variables : Component → List VariableEntry
@@ -30,7 +30,7 @@ lower_variables c = entry (codes "$1") c.variable ∷ flat_map (λ h. map (entry
 
 -- where they are at home
 abbrev pub lower_homes : Component → List Home
-lower_homes c = VariableOf 1 ∷ flat_map (λ h. map (λ r. Inner 1) h.outputs) c.headers
+lower_homes c = Concrete 1 ∷ flat_map (λ h. map (λ r. Inner 1) h.outputs) c.headers
 
 -- the operations' headers, where the inputs and outputs of the first stand from n on
 abbrev pub heads_from : ℕ → List Header → List Head

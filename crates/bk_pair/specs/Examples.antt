@@ -4,14 +4,13 @@ use Rattle.std.specs.Prelude.{◌≡◌, ℕ, pos, List, [], ◌∷◌, codes}
 use Rattle.bk_val.specs.ValueType.{int_type}
 use Rattle.bk_form.specs.Table.{Table, VariableEntry}
 use Rattle.bk_form.specs.Formula.{variable, literal, binary, btrue}
-use Rattle.bk_form.specs.declared.operator.BinOp.TheVariants.{And, Lt, Le}
-use Rattle.bk_gsl.specs.Substitution.{skip, assign, if_else}
+use Rattle.bk_form.specs.declared.operator.BinOp.TheVariants.{And, Le}
 use Rattle.bk_dev.specs.declared.kind.Kind.{Kind}
 use Rattle.bk_dev.specs.declared.kind.Kind.TheVariants.{Machine, Implementation}
-use Rattle.bk_dev.specs.declared.kind.Home.TheVariants.{Input, Variable, Inner}
+use Rattle.bk_dev.specs.declared.kind.Home.TheVariants.{Input, Abstract, Inner, Concrete}
 use Rattle.bk_dev.specs.Development.{Body, Development}
 use Rattle.bk_dev.specs.Counter.{setting}
-use Rattle.bk_po.specs.Examples.{between, plus, getting, small_level, inc_head, get_head}
+use Rattle.bk_po.specs.Examples.{between, plus, getting, small_level, inc_head, get_head, stepping}
 use Rattle.bk_comp.specs.Components.{Component}
 use Rattle.bk_pair.specs.Developments.{development_of}
 
@@ -57,7 +56,7 @@ adder_implementation = small_component Implementation (codes "Tally_i") (codes "
 abbrev pub adder : Development
 adder = record {
   table = adder_table;
-  homes = Variable 0 ∷ Input ∷ Inner 0 ∷ Variable 1 ∷ Inner 1 ∷ [];
+  homes = Abstract 0 ∷ Input ∷ Inner 0 ∷ Concrete 1 ∷ Inner 1 ∷ [];
   sets = [];
   heads = inc_head (1 ∷ []) ∷ get_head ∷ [];
   levels = small_level (codes "Tally") Machine 0 [] allowed_addition (getting 2 0) ∷ small_level (codes "Tally_i") Implementation 3 ((3, 0) ∷ []) addition (getting 4 3) ∷ [];
@@ -69,26 +68,22 @@ adder = record {
 abbrev pub stepper_table : Table
 stepper_table = record { sets = []; variables = number_named (codes "n$0") ∷ number_named (codes "r$0") ∷ number_named (codes "n$1") ∷ number_named (codes "r$1") ∷ [] }
 
--- IF n < 10 THEN n := n + 1 END
-abbrev pub step : ℕ → Body
-step n = record { condition = btrue; sub = if_else (binary Lt (variable n) (literal (pos 10))) (assign ((n, plus (variable n) (literal (pos 1))) ∷ [])) skip; outputs = [] }
-
 -- the machine Stepper, whose inc asks whether n is below 10
 abbrev pub stepper_machine : Component
-stepper_machine = small_component Machine (codes "Stepper") [] 0 [] (step 0) (getting 1 0)
+stepper_machine = small_component Machine (codes "Stepper") [] 0 [] (stepping 0) (getting 1 0)
 
 -- its implementation, whose inc asks the same of its own n
 abbrev pub stepper_implementation : Component
-stepper_implementation = small_component Implementation (codes "Stepper_i") (codes "Stepper") 2 [] (step 2) (getting 3 2)
+stepper_implementation = small_component Implementation (codes "Stepper_i") (codes "Stepper") 2 [] (stepping 2) (getting 3 2)
 
 -- the two as a development
 abbrev pub stepper : Development
 stepper = record {
   table = stepper_table;
-  homes = Variable 0 ∷ Inner 0 ∷ Variable 1 ∷ Inner 1 ∷ [];
+  homes = Abstract 0 ∷ Inner 0 ∷ Concrete 1 ∷ Inner 1 ∷ [];
   sets = [];
   heads = inc_head [] ∷ get_head ∷ [];
-  levels = small_level (codes "Stepper") Machine 0 [] (step 0) (getting 1 0) ∷ small_level (codes "Stepper_i") Implementation 2 ((2, 0) ∷ []) (step 2) (getting 3 2) ∷ [];
+  levels = small_level (codes "Stepper") Machine 0 [] (stepping 0) (getting 1 0) ∷ small_level (codes "Stepper_i") Implementation 2 ((2, 0) ∷ []) (stepping 2) (getting 3 2) ∷ [];
   values = [];
 }
 

@@ -3,7 +3,7 @@ use Rattle.std.specs.Prelude.{◌≡◌, ℕ, List}
 use Rattle.bk_dev.specs.Development.{Development}
 use Rattle.bk_dev.specs.Facts.{IsDevelopment}
 use Rattle.bk_gen.specs.Simple.{IsSimple}
-use Rattle.bk_po.specs.Plain.{IsPlain}
+use Rattle.bk_po.specs.Basic.{IsBasic}
 use Rattle.bk_comp.specs.Components.{Component, IsTextOf, ArePair}
 use Rattle.bk_pair.specs.Developments.{development_of, Reads}
 
@@ -16,8 +16,8 @@ abbrev pub PairIsSimple : Type 0
 PairIsSimple = (above below : List ℕ) (m i : Component) → IsTextOf above m → IsTextOf below i → ArePair m i → IsSimple (development_of m i)
 
 -- its obligations are made, and valid ones are enough
-abbrev pub PairIsPlain : Type 0
-PairIsPlain = (above below : List ℕ) (m i : Component) → IsTextOf above m → IsTextOf below i → ArePair m i → IsPlain (development_of m i)
+abbrev pub PairIsBasic : Type 0
+PairIsBasic = (above below : List ℕ) (m i : Component) → IsTextOf above m → IsTextOf below i → ArePair m i → IsBasic (development_of m i)
 
 -- two texts read as at most one development
 abbrev pub ReadAtMostOne : Type 0

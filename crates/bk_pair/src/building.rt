@@ -7,7 +7,7 @@ ghost use Rattle.bk_dev.specs.declared.kind.Home.TheVariants.{Input, Inner};
 ghost use Rattle.bk_comp.specs.Operations.{numbers_from};
 ghost use Rattle.bk_comp.specs.Components.{ArePair, place_behind_all, variable_of};
 ghost use Rattle.bk_gen.specs.Simple.{IsSimple};
-ghost use Rattle.bk_po.specs.Plain.{IsPlain};
+ghost use Rattle.bk_po.specs.Basic.{IsBasic};
 ghost use Rattle.bk_pair.specs.Developments.{IsWritten, entry, upper_variables, upper_homes, lower_variables, lower_homes, heads_from, level_of, development_of};
 
 use bk_comp::{Component, Header};
@@ -123,11 +123,11 @@ fn homes(
     ensures { IfOk result (λ homes. homes.items ≡ upper_homes machine.now ++ lower_homes implementation.now) }
 {
     let mut homes = Vec::new(alloc);
-    homes.push(Home::Variable(0))?;
+    homes.push(Home::Abstract(0))?;
     for header in &machine.headers {
         add_inner_homes(&mut homes, header)?;
     }
-    homes.push(Home::Variable(1))?;
+    homes.push(Home::Concrete(1))?;
     for header in &implementation.headers {
         add_homes(&mut homes, &header.outputs, Home::Inner(1))?;
     }
@@ -229,7 +229,7 @@ pub fn development(
     requires pair { ArePair machine implementation }
     ensures value { IfOk result (λ dev. dev ≡ development_of machine implementation) }
     ensures simple { IfOk result IsSimple }
-    ensures plain { IfOk result IsPlain }
+    ensures basic { IfOk result IsBasic }
     ensures few { IfOk result (λ dev. length dev.heads ≤ 100) }
 {
     let mut table = VarTable::new(alloc);

@@ -2,7 +2,7 @@
 //! does nothing.
 
 ghost use Rattle.bk_pair.specs.Examples.{ExamplesAreThese};
-ghost use Rattle.bk_pair.specs.PairLaws.{PairIsDevelopment, PairIsSimple, PairIsPlain, ReadAtMostOne};
+ghost use Rattle.bk_pair.specs.PairLaws.{PairIsDevelopment, PairIsSimple, PairIsBasic, ReadAtMostOne};
 
 /// The texts of a machine and of its implementation are a development.
 pub fn pair_is_development()
@@ -15,8 +15,8 @@ pub fn pair_is_simple()
 {}
 
 /// Its obligations are made, and valid ones are enough.
-pub fn pair_is_plain()
-    ensures { PairIsPlain }
+pub fn pair_is_basic()
+    ensures { PairIsBasic }
 {}
 
 /// Two texts are read as one development at most.

@@ -3,14 +3,15 @@ use Rattle.std.proofs.Common.{◌≡◌, ◌<◌, ℕ, zero, suc, List, [], ◌�
 use Rattle.std.specs.Prelude.{slice_index_or}
 use Rattle.bk_gsl.specs.Substitution.{Substitution, skip, assign, pre, guard, choice, if_else, any, seq, par, assert, becomes_such, loop}
 use Rattle.bk_dev.specs.Development.{Head, Body, Level, Development, blank_body, blank_level, level_at, body_at, int_max, is_btrue, whole}
-use Rattle.bk_dev.specs.Facts.{Each, EachBody, IsDevelopment}
+use Rattle.bk_dev.specs.Facts.{EachBody, IsDevelopment}
+use Rattle.bk_form.specs.Each.{Each}
 use Rattle.bk_dev.specs.Layout.{arrays_of}
 use Rattle.bk_wp.specs.Guarded.{HasTotal}
 use Rattle.bk_wp.specs.Shapes.{HasNoBinder}
 use Rattle.bk_wp.proofs.Guarding.{total-plain}
-use Rattle.bk_dev.specs.NoPar.{HasNoPar, HaveNoPar, LevelsHaveNoPar}
+use Rattle.bk_gsl.specs.Flat.{IsFlat}
 use Rattle.bk_dev.proofs.Levels.{level_fact}
-use Rattle.bk_dev.proofs.Flat.{flattened_already}
+use Rattle.bk_dev.proofs.Flat.{flattened_already, LevelsAreFlat}
 use Rattle.bk_po.specs.Obligations.{obligations, flat_obligations}
 use Rattle.bk_po.specs.Basic.{IsBasicBody, IsBasicLevel, IsBasic}
 
@@ -56,34 +57,34 @@ as-many dev k _ _ _ h = absurd h
 
 -- each operation has a body at each level
 pub body_stands : (dev : Development) → IsDevelopment dev → (k o : ℕ) → k < length dev.levels → o < length dev.heads → o < length (level_at dev k).bodies
-body_stands dev f k o h l = omega (arith, l, as-many dev k dev.heads (level_at dev 0).bodies (level_at dev k).bodies (level_fact dev f k h).bodies)
+body_stands dev f k o h l = omega (arith, l, as-many dev k dev.heads (level_at dev 0).bodies (level_at dev k).bodies (level_fact dev f.lawful k h).bodies)
 
 -- ---- nothing side by side
-no-par : (s : Substitution) → HasTotal s → HasNoPar s
-no-par skip h = tt
-no-par (assign ps) h = tt
-no-par (pre p s) h = no-par s h.1
-no-par (guard p s) h = no-par s h.1
-no-par (choice s t) h = (no-par s h.0, no-par t h.1)
-no-par (if_else p s t) h = (no-par s h.1, no-par t h.2)
-no-par (any zs s) h = absurd h
-no-par (seq s t) h = (no-par s h.0, no-par t h.1)
-no-par (par s t) h = h
-no-par (assert p s) h = no-par s h.1
-no-par (becomes_such xs p) h = tt
-no-par (loop p s i v) h = absurd h
+is-flat : (s : Substitution) → HasTotal s → IsFlat s
+is-flat skip h = tt
+is-flat (assign ps) h = tt
+is-flat (pre p s) h = is-flat s h.1
+is-flat (guard p s) h = is-flat s h.1
+is-flat (choice s t) h = (is-flat s h.0, is-flat t h.1)
+is-flat (if_else p s t) h = (is-flat s h.1, is-flat t h.2)
+is-flat (any zs s) h = absurd h
+is-flat (seq s t) h = (is-flat s h.0, is-flat t h.1)
+is-flat (par s t) h = h
+is-flat (assert p s) h = is-flat s h.1
+is-flat (becomes_such xs p) h = tt
+is-flat (loop p s i v) h = absurd h
 
-bodies-have-no-par : (bs : List Body) → Each IsBasicBody bs → HaveNoPar bs
-bodies-have-no-par [] h = tt
-bodies-have-no-par (b ∷ bs) h = (no-par b.sub h.0.sub, bodies-have-no-par bs h.1)
+bodies-are-flat : (bs : List Body) → Each IsBasicBody bs → Each (λ b. IsFlat b.sub) bs
+bodies-are-flat [] h = tt
+bodies-are-flat (b ∷ bs) h = (is-flat b.sub h.0.sub, bodies-are-flat bs h.1)
 
-levels-have-no-par : (ls : List Level) → Each IsBasicLevel ls → LevelsHaveNoPar ls
-levels-have-no-par [] h = tt
-levels-have-no-par (l ∷ ls) h = (no-par l.init h.0.init, bodies-have-no-par l.bodies h.0.bodies, levels-have-no-par ls h.1)
+levels-are-flat : (ls : List Level) → Each IsBasicLevel ls → LevelsAreFlat ls
+levels-are-flat [] h = tt
+levels-are-flat (l ∷ ls) h = (is-flat l.init h.0.init, bodies-are-flat l.bodies h.0.bodies, levels-are-flat ls h.1)
 
-pub basic_have_no_par : (dev : Development) → IsBasic dev → LevelsHaveNoPar dev.levels
-basic_have_no_par dev basic = levels-have-no-par dev.levels basic.levels
+pub basic_are_flat : (dev : Development) → IsBasic dev → LevelsAreFlat dev.levels
+basic_are_flat dev basic = levels-are-flat dev.levels basic.levels
 
 -- so that their obligations are those of the development itself
 pub basic_is_flat : (dev : Development) → IsBasic dev → obligations dev ≡ flat_obligations dev
-basic_is_flat dev basic = ap flat_obligations (flattened_already dev (basic_have_no_par dev basic))
+basic_is_flat dev basic = ap flat_obligations (flattened_already dev (basic_are_flat dev basic))

@@ -28,9 +28,6 @@ basic-level name kind n r links = record {
 
 pub counter_is_valid : CounterIsValid
 counter_is_valid = record {
-  plain = record {
-    basic = record { levels = (basic-level machine_name Machine 0 2 [], (basic-level implementation_name Implementation 1 3 ((1, 0) ∷ []), tt)); no_arrays = refl };
-    upper = (record { init = tt; bodies = (tt, (tt, (tt, tt))) }, tt);
-  };
+  basic = record { levels = (basic-level machine_name Machine 0 2 [], (basic-level implementation_name Implementation 1 3 ((1, 0) ∷ []), tt)); no_arrays = refl };
   obligations = ((λ find law e typed hold. refl), ((λ find law e typed hold. refl), ((λ find law e typed hold. refl), ((λ find law e typed hold. hold.0), ((λ find law e typed hold. refl), ((λ find law e typed hold. refl), ((λ find law e typed hold. refl), ((λ find law e typed hold. refl), ((λ find law e typed hold. refl), ((λ find law e typed hold. refl), ((λ find law e typed hold. hold.1.0), ((λ find law e typed hold. hold.1.1.0), ((λ find law e typed hold. hold.1.1.0), tt)))))))))))));
 }

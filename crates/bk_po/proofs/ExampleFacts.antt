@@ -1,4 +1,4 @@
--- The adder and the stepper are plain developments.
+-- The adder and the stepper are basic developments.
 use Rattle.std.proofs.Common.{◌≡◌, ◌⊎◌, inl, inr, ℕ, zero, suc, ℤ, pos, [], ◌∷◌, refl, sym, subst, Bool, true, All, IsTrue, arith}
 use Rattle.bk_val.specs.ValueType.{int_type}
 use Rattle.bk_form.specs.Table.{lists_type, IsWellFormed}
@@ -9,13 +9,13 @@ use Rattle.bk_form.specs.declared.operator.BinOp.TheVariants.{And, Lt, Le, In, R
 use Rattle.bk_gsl.specs.State.{among}
 use Rattle.bk_gsl.proofs.States.{nat_eq-same}
 use Rattle.bk_dev.specs.Development.{Development, level_at, body_at}
-use Rattle.bk_dev.specs.Facts.{is_constant, is_variable_of, home_of, Names, names_constants, names_joined, names_own, IsBodyOf, IsLevelOf, IsDevelopment}
+use Rattle.bk_dev.specs.Facts.{is_constant, is_variable_of, home_of, Names, names_constants, names_joined, names_own, IsBodyOf, IsLevelOf, IsDevelopment, IsLawful}
 use Rattle.bk_dev.specs.Counter.{counter_table}
 use Rattle.bk_wp.specs.Guarded.{IsTotal}
 use Rattle.bk_wp.proofs.Steps.{or-cases}
 use Rattle.bk_po.specs.Basic.{IsBasicBody, IsBasic}
 use Rattle.bk_po.specs.Examples.{between, plus, getting, inc_head, get_head, tally_table, may_add, adding, tally, stepping, stepper}
-use Rattle.bk_po.specs.Laws.{ExamplesArePlain}
+use Rattle.bk_po.specs.Laws.{ExamplesAreBasic}
 
 -- ---- what formulas name
 module _ (visible : ℕ → Bool) where
@@ -86,7 +86,7 @@ machine-adds =
     record {
       condition = refl;
       condition_names = names-both own And (between (variable 4) 1 10) (binary Le (plus (variable 0) (variable 4)) (literal (pos 10))) (names-between own 4 1 10 refl) (names-both own Le (plus (variable 0) (variable 4)) (literal (pos 10)) (names-added own 0 4 refl refl) (names-number own (pos 10)));
-      sub = record { types = ((int_type, refl, refl), tt); stays = (refl, names-added own 0 4 refl refl, refl, tt); shape = tt; binds_inner = tt };
+      sub = record { types = ((int_type, refl, refl), tt); stays = (refl, names-added own 0 4 refl refl, refl, tt); loops = tt; binds_inner = tt };
       outputs = tt;
       distinct_outputs = tt;
       as_many_outputs = refl;
@@ -99,7 +99,7 @@ code-adds =
     record {
       condition = refl;
       condition_names = names-none own;
-      sub = record { types = ((int_type, refl, refl), tt); stays = (refl, names-added own 1 4 refl refl, refl, tt); shape = tt; binds_inner = tt };
+      sub = record { types = ((int_type, refl, refl), tt); stays = (refl, names-added own 1 4 refl refl, refl, tt); loops = tt; binds_inner = tt };
       outputs = tt;
       distinct_outputs = tt;
       as_many_outputs = refl;
@@ -112,7 +112,7 @@ tally-answers =
     record {
       condition = refl;
       condition_names = names-none own;
-      sub = record { types = ((int_type, refl, refl), tt); stays = (refl, names-one own 0 refl, refl, tt); shape = tt; binds_inner = tt };
+      sub = record { types = ((int_type, refl, refl), tt); stays = (refl, names-one own 0 refl, refl, tt); loops = tt; binds_inner = tt };
       outputs = (refl, tt);
       distinct_outputs = (refl, tt);
       as_many_outputs = refl;
@@ -125,7 +125,7 @@ tally-code-answers =
     record {
       condition = refl;
       condition_names = names-none own;
-      sub = record { types = ((int_type, refl, refl), tt); stays = (refl, names-one own 1 refl, refl, tt); shape = tt; binds_inner = tt };
+      sub = record { types = ((int_type, refl, refl), tt); stays = (refl, names-one own 1 refl, refl, tt); loops = tt; binds_inner = tt };
       outputs = (refl, tt);
       distinct_outputs = (refl, tt);
       as_many_outputs = refl;
@@ -143,7 +143,7 @@ tally-machine = record {
   invariant = record { is_predicate = refl; names = names-between (names_joined tally 0) 0 0 10 refl };
   assertions = tt;
   links = tt;
-  init = record { types = ((int_type, refl, refl), tt); stays = (refl, names-number (names_own tally 0 [] []) (pos 0), refl, tt); shape = tt; binds_inner = tt };
+  init = record { types = ((int_type, refl, refl), tt); stays = (refl, names-number (names_own tally 0 [] []) (pos 0), refl, tt); loops = tt; binds_inner = tt };
   bodies = (machine-adds, (tally-answers, tt));
 }
 
@@ -158,12 +158,12 @@ tally-implementation = record {
   invariant = record { is_predicate = refl; names = names-between (names_joined tally 1) 1 0 10 refl };
   assertions = tt;
   links = (record { below = refl; above = (0, refl, refl); alike = (int_type, refl, refl) }, tt);
-  init = record { types = ((int_type, refl, refl), tt); stays = (refl, names-number (names_own tally 1 [] []) (pos 0), refl, tt); shape = tt; binds_inner = tt };
+  init = record { types = ((int_type, refl, refl), tt); stays = (refl, names-number (names_own tally 1 [] []) (pos 0), refl, tt); loops = tt; binds_inner = tt };
   bodies = (code-adds, (tally-code-answers, tt));
 }
 
-pub tally_facts : IsDevelopment tally
-tally_facts = record {
+tally_lawful : IsLawful tally
+tally_lawful = record {
   some_level = omega (arith);
   table = tally-table;
   sets = refl;
@@ -173,7 +173,14 @@ tally_facts = record {
   levels = (tally-machine, (tally-implementation, tt));
   values = tt;
   complete = (tt, tally-constant);
+}
+
+pub tally_facts : IsDevelopment tally
+tally_facts = record {
+  lawful = tally_lawful;
+  shapes = ((record { init = tt; bodies = (tt, (tt, tt)) }, (record { init = tt; bodies = (tt, (tt, tt)) }, tt)));
   binders_differ = (refl, (refl, tt));
+  room = omega (arith);
 }
 
 -- ---- the stepper
@@ -214,7 +221,7 @@ machine-steps =
     record {
       condition = refl;
       condition_names = names-none own;
-      sub = record { types = (refl, ((int_type, refl, refl), tt), tt); stays = (names-both own Lt (variable 0) (literal (pos 10)) (names-one own 0 refl) (names-number own (pos 10)), (refl, names-next own 0 refl, refl, tt), tt); shape = (tt, tt); binds_inner = tt };
+      sub = record { types = (refl, ((int_type, refl, refl), tt), tt); stays = (names-both own Lt (variable 0) (literal (pos 10)) (names-one own 0 refl) (names-number own (pos 10)), (refl, names-next own 0 refl, refl, tt), tt); loops = (tt, tt); binds_inner = tt };
       outputs = tt;
       distinct_outputs = tt;
       as_many_outputs = refl;
@@ -227,7 +234,7 @@ code-steps =
     record {
       condition = refl;
       condition_names = names-none own;
-      sub = record { types = (refl, ((int_type, refl, refl), tt), tt); stays = (names-both own Lt (variable 1) (literal (pos 10)) (names-one own 1 refl) (names-number own (pos 10)), (refl, names-next own 1 refl, refl, tt), tt); shape = (tt, tt); binds_inner = tt };
+      sub = record { types = (refl, ((int_type, refl, refl), tt), tt); stays = (names-both own Lt (variable 1) (literal (pos 10)) (names-one own 1 refl) (names-number own (pos 10)), (refl, names-next own 1 refl, refl, tt), tt); loops = (tt, tt); binds_inner = tt };
       outputs = tt;
       distinct_outputs = tt;
       as_many_outputs = refl;
@@ -240,7 +247,7 @@ stepper-answers =
     record {
       condition = refl;
       condition_names = names-none own;
-      sub = record { types = ((int_type, refl, refl), tt); stays = (refl, names-one own 0 refl, refl, tt); shape = tt; binds_inner = tt };
+      sub = record { types = ((int_type, refl, refl), tt); stays = (refl, names-one own 0 refl, refl, tt); loops = tt; binds_inner = tt };
       outputs = (refl, tt);
       distinct_outputs = (refl, tt);
       as_many_outputs = refl;
@@ -253,7 +260,7 @@ stepper-code-answers =
     record {
       condition = refl;
       condition_names = names-none own;
-      sub = record { types = ((int_type, refl, refl), tt); stays = (refl, names-one own 1 refl, refl, tt); shape = tt; binds_inner = tt };
+      sub = record { types = ((int_type, refl, refl), tt); stays = (refl, names-one own 1 refl, refl, tt); loops = tt; binds_inner = tt };
       outputs = (refl, tt);
       distinct_outputs = (refl, tt);
       as_many_outputs = refl;
@@ -271,7 +278,7 @@ stepper-machine = record {
   invariant = record { is_predicate = refl; names = names-between (names_joined stepper 0) 0 0 10 refl };
   assertions = tt;
   links = tt;
-  init = record { types = ((int_type, refl, refl), tt); stays = (refl, names-number (names_own stepper 0 [] []) (pos 0), refl, tt); shape = tt; binds_inner = tt };
+  init = record { types = ((int_type, refl, refl), tt); stays = (refl, names-number (names_own stepper 0 [] []) (pos 0), refl, tt); loops = tt; binds_inner = tt };
   bodies = (machine-steps, (stepper-answers, tt));
 }
 
@@ -286,12 +293,12 @@ stepper-implementation = record {
   invariant = record { is_predicate = refl; names = names-between (names_joined stepper 1) 1 0 10 refl };
   assertions = tt;
   links = (record { below = refl; above = (0, refl, refl); alike = (int_type, refl, refl) }, tt);
-  init = record { types = ((int_type, refl, refl), tt); stays = (refl, names-number (names_own stepper 1 [] []) (pos 0), refl, tt); shape = tt; binds_inner = tt };
+  init = record { types = ((int_type, refl, refl), tt); stays = (refl, names-number (names_own stepper 1 [] []) (pos 0), refl, tt); loops = tt; binds_inner = tt };
   bodies = (code-steps, (stepper-code-answers, tt));
 }
 
-pub stepper_facts : IsDevelopment stepper
-stepper_facts = record {
+stepper_lawful : IsLawful stepper
+stepper_lawful = record {
   some_level = omega (arith);
   table = stepper-table;
   sets = refl;
@@ -301,10 +308,17 @@ stepper_facts = record {
   levels = (stepper-machine, (stepper-implementation, tt));
   values = tt;
   complete = (tt, stepper-constant);
-  binders_differ = (refl, (refl, tt));
 }
 
--- ---- both are plain
+pub stepper_facts : IsDevelopment stepper
+stepper_facts = record {
+  lawful = stepper_lawful;
+  shapes = ((record { init = tt; bodies = ((tt, tt), (tt, tt)) }, (record { init = tt; bodies = ((tt, tt), (tt, tt)) }, tt)));
+  binders_differ = (refl, (refl, tt));
+  room = omega (arith);
+}
+
+-- ---- both are basic
 between-total : (n low high : ℕ) → IsTotal (between (variable n) low high)
 between-total n low high = (tt, tt, (tt, tt, tt))
 
@@ -320,35 +334,29 @@ steps-basic n = record { condition = tt; sub = ((tt, tt, tt), ((tt, tt, tt), tt)
 may_add-total : IsTotal may_add
 may_add-total = (tt, between-total 4 1 10, (tt, (tt, tt, tt), tt))
 
-pub examples_are_plain : ExamplesArePlain
-examples_are_plain = record {
+pub examples_are_basic : ExamplesAreBasic
+examples_are_basic = record {
   tally_facts = tally_facts;
-  tally_plain = record {
-    basic = record {
-      levels = (
-        record { properties = tt; invariant = between-total 0 0 10; assertions = tt; init = (tt, tt); bodies = (adds-basic may_add 0 may_add-total, (answers-basic 2 0, tt)) },
-        (record { properties = tt; invariant = between-total 1 0 10; assertions = tt; init = (tt, tt); bodies = (adds-basic btrue 1 tt, (answers-basic 3 1, tt)) }, tt),
-      );
-      no_arrays = refl;
-    };
-    upper = (record { init = tt; bodies = (tt, (tt, tt)) }, tt);
+  tally_basic = record {
+    levels = (
+      record { properties = tt; invariant = between-total 0 0 10; assertions = tt; init = (tt, tt); bodies = (adds-basic may_add 0 may_add-total, (answers-basic 2 0, tt)) },
+      (record { properties = tt; invariant = between-total 1 0 10; assertions = tt; init = (tt, tt); bodies = (adds-basic btrue 1 tt, (answers-basic 3 1, tt)) }, tt),
+    );
+    no_arrays = refl;
   };
   stepper_facts = stepper_facts;
-  stepper_plain = record {
-    basic = record {
-      levels = (
-        record { properties = tt; invariant = between-total 0 0 10; assertions = tt; init = (tt, tt); bodies = (steps-basic 0, (answers-basic 2 0, tt)) },
-        (record { properties = tt; invariant = between-total 1 0 10; assertions = tt; init = (tt, tt); bodies = (steps-basic 1, (answers-basic 3 1, tt)) }, tt),
-      );
-      no_arrays = refl;
-    };
-    upper = (record { init = tt; bodies = ((tt, tt), (tt, tt)) }, tt);
+  stepper_basic = record {
+    levels = (
+      record { properties = tt; invariant = between-total 0 0 10; assertions = tt; init = (tt, tt); bodies = (steps-basic 0, (answers-basic 2 0, tt)) },
+      (record { properties = tt; invariant = between-total 1 0 10; assertions = tt; init = (tt, tt); bodies = (steps-basic 1, (answers-basic 3 1, tt)) }, tt),
+    );
+    no_arrays = refl;
   };
 }
 
 -- as a call's premises
 pub tally_basic : (dev : Development) → dev ≡ tally → IsBasic dev
-tally_basic dev same = subst IsBasic (sym same) examples_are_plain.tally_plain.basic
+tally_basic dev same = subst IsBasic (sym same) examples_are_basic.tally_basic
 
 pub stepper_basic : (dev : Development) → dev ≡ stepper → IsBasic dev
-stepper_basic dev same = subst IsBasic (sym same) examples_are_plain.stepper_plain.basic
+stepper_basic dev same = subst IsBasic (sym same) examples_are_basic.stepper_basic

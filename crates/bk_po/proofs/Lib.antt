@@ -12,3 +12,8 @@ pub mod Sequents
 pub mod Numbering
 pub mod Growing
 pub mod Laying
+pub mod BasicClean
+pub mod Chain
+pub mod Enough
+pub mod Joining
+pub mod Eager

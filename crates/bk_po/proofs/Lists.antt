@@ -1,7 +1,7 @@
 -- What holds of each of a list, and of lists that are made of it.
 use Rattle.std.proofs.Common.{◌≡◌, ◌<◌, ℕ, zero, suc, List, [], ◌∷◌, ◌++◌, map, take, refl, Bool, true, false, cond, arith}
 use Rattle.std.specs.List.{filter, flat_map}
-use Rattle.bk_dev.specs.Facts.{Each}
+use Rattle.bk_form.specs.Each.{Each}
 use Rattle.bk_po.specs.Obligations.{numbers_below}
 
 pub append-each : {A : Type 0} (P : A → Type 0) (xs ys : List A) → Each P xs → Each P ys → Each P (xs ++ ys)

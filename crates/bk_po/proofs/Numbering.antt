@@ -1,8 +1,8 @@
 -- How many sequents the obligations have.
 use Rattle.std.proofs.Common.{◌≡◌, ℕ, suc, List, [], ◌∷◌, length, refl, ap, ◌∙◌}
 use Rattle.bk_form.specs.Formula.{Formula}
-use Rattle.bk_seq.specs.Sequents.{Sequent}
-use Rattle.bk_po.specs.Obligations.{split, numbered_from}
+use Rattle.bk_seq.specs.Sequents.{Sequent, split}
+use Rattle.bk_po.specs.Obligations.{numbered_from}
 use Rattle.bk_po.proofs.Sequents.{same-count}
 
 numbered-length : (k : ℕ) (name : List ℕ) (ss : List Sequent) → length (numbered_from k name ss) ≡ length ss

@@ -1,5 +1,5 @@
 -- What is built of predicates is a predicate: boxes, diamonds, evaluation conditions, conjunctions and what a goal is taken apart into.
-use Rattle.std.proofs.Common.{◌≡◌, ℕ, ℤ, pos, List, [], ◌∷◌, ◌++◌, map, refl, sym, ◌∙◌, ap, true, not, ◌&&◌, Option, Some, None}
+use Rattle.std.proofs.Common.{◌≡◌, ℕ, ℤ, pos, List, [], ◌∷◌, ◌++◌, map, refl, sym, ◌∙◌, ap, not, Option, Some, None}
 use Rattle.std.specs.List.{filter}
 use Rattle.bk_val.specs.Value.{int}
 use Rattle.bk_val.specs.ValueType.{ValueType, int_type, bool_type, enum_type, pair_type, set_type}
@@ -7,7 +7,7 @@ use Rattle.bk_form.specs.Table.{Table}
 use Rattle.bk_form.specs.ArrayTable.{ArrayTable}
 use Rattle.bk_form.specs.Formula.{Formula, btrue, unary, binary}
 use Rattle.bk_form.specs.Search.{Finder}
-use Rattle.bk_form.specs.Role.{Role, gives, ranges_over, predicate, untyped, given_by, if_holds, same_type, unary_role, connective_role, numbers_role, equality_role, binary_role, role}
+use Rattle.bk_form.specs.Role.{Role, gives, ranges_over, predicate, untyped, unary_role, connective_role, numbers_role, binary_role, role}
 use Rattle.bk_form.specs.Replacement.{replaced, IsReplacement, after_replacement, looked_up}
 use Rattle.bk_form.specs.declared.operator.UnOp.{UnOp}
 use Rattle.bk_form.specs.declared.operator.UnOp.TheVariants.{Not}
@@ -16,22 +16,23 @@ use Rattle.bk_form.specs.declared.operator.BinOp.TheVariants.{And, Or, Imp, Add,
 use Rattle.bk_form.proofs.Replaced.{meaning-replaced}
 use Rattle.bk_form.proofs.Roles.{meaning-role}
 use Rattle.bk_gsl.specs.Substitution.{Substitution, skip, assign, pre, guard, choice, if_else, any, seq, par, assert, becomes_such, loop}
-use Rattle.bk_gsl.specs.State.{at_state}
-use Rattle.bk_gsl.specs.Typed.{IsPredicate, AreTypedTerms, Types}
-use Rattle.bk_gsl.proofs.States.{nat_eq-self}
+use Rattle.bk_form.specs.Environment.{at_state}
+use Rattle.bk_gsl.specs.Typed.{AreTypedTerms, Types}
+use Rattle.bk_form.specs.Predicates.{IsPredicate, conjuncts, equation}
 use Rattle.bk_dev.specs.Development.{is_btrue}
-use Rattle.bk_dev.specs.Hypotheses.{conjuncts, link_equation}
-use Rattle.bk_dev.specs.Facts.{AreAlike, AllAlike, Each}
+use Rattle.bk_dev.specs.Facts.{AreAlike, AllAlike}
+use Rattle.bk_form.specs.Each.{Each}
 use Rattle.bk_dev.specs.Claims.{beside}
 use Rattle.bk_wp.specs.Box.{box, diamond}
 use Rattle.bk_wp.specs.Guarded.{both, where_true, in_machine, binary_check, checked, evaluated, evaluated_onto, box_where, guarded, HasTotal}
 use Rattle.bk_wp.specs.Shapes.{HasNoBinder}
 use Rattle.bk_wp.proofs.Guarding.{total-plain}
 use Rattle.bk_wp.proofs.Steps.{terms-replace}
-use Rattle.bk_seq.specs.Sequents.{Sequent}
-use Rattle.bk_po.specs.Obligations.{joined_onto, joined_all, conjunction, each_after, split}
+use Rattle.bk_seq.specs.Sequents.{Types as TypedSequent, split}
+use Rattle.bk_po.specs.Obligations.{joined_onto, joined_all, conjunction, each_after}
 use Rattle.bk_po.proofs.Lists.{append-each, map-each, filter-each}
 use Rattle.bk_po.proofs.Splitting.{each-so}
+use Rattle.bk_form.proofs.Equations.{equation-predicate}
 
 -- ---- roles
 connective-both : (a b : Role) → connective_role a b ≡ predicate → (a ≡ predicate) × (b ≡ predicate)
@@ -118,17 +119,7 @@ predicate-typed r h k = absurd (cc)
 term-typed : (t : ValueType) (r : Role) → r ≡ gives t → r ≡ untyped → ⊥
 term-typed t r h k = absurd (cc)
 
-pub same_type-self : (t : ValueType) → same_type t t ≡ true
-same_type-self int_type = refl
-same_type-self bool_type = refl
-same_type-self (enum_type n) = nat_eq-self n
-same_type-self (pair_type t u) = λ i. same_type-self t i && same_type-self u i
-same_type-self (set_type t) = same_type-self t
-
 module _ (table : Table) where
-  pub link-predicate : (p : ℕ × ℕ) → AreAlike table p.0 p.1 → IsPredicate table (link_equation p)
-  link-predicate p h = (λ i. equality_role (given_by (h.1 i)) (given_by (h.2 i))) ∙ ap (λ b. if_holds b predicate) (same_type-self h.0)
-
   -- terms of their variables' types leave a formula's role as it is
   role-replaced : (by : ℕ → Formula) → IsReplacement table by → (p : Formula) → role table [] (replaced by p) ≡ role table [] p
   role-replaced by h p =
@@ -256,11 +247,11 @@ module _ (table : Table) where
   after-predicate (p ∷ []) h = h.0
   after-predicate (p ∷ q ∷ qs) h = λ i. connective_role (h.0 i) (connective_role (h.0 i) (after-predicate (q ∷ qs) h.1 i))
 
-  pub links-predicates : (ps : List (ℕ × ℕ)) → Each (λ p. AreAlike table p.0 p.1) ps → Each (IsPredicate table) (map link_equation ps)
-  links-predicates ps h = map-each (IsPredicate table) link_equation ps (each-so (λ p. AreAlike table p.0 p.1) (λ p. IsPredicate table (link_equation p)) ps link-predicate h)
+  pub links-predicates : (ps : List (ℕ × ℕ)) → Each (λ p. AreAlike table p.0 p.1) ps → Each (IsPredicate table) (map equation ps)
+  links-predicates ps h = map-each (IsPredicate table) equation ps (each-so (λ p. AreAlike table p.0 p.1) (λ p. IsPredicate table (equation p)) ps (equation-predicate table) h)
 
-  pub links-predicate : (ps : List (ℕ × ℕ)) → Each (λ p. AreAlike table p.0 p.1) ps → IsPredicate table (conjunction (map link_equation ps))
-  links-predicate ps h = conjunction-predicate (map link_equation ps) (links-predicates ps h)
+  pub links-predicate : (ps : List (ℕ × ℕ)) → Each (λ p. AreAlike table p.0 p.1) ps → IsPredicate table (conjunction (map equation ps))
+  links-predicate ps h = conjunction-predicate (map equation ps) (links-predicates ps h)
 
   pub beside-alike : (xs ys zs : List ℕ) → AllAlike table xs zs → AllAlike table ys zs → Each (λ p. AreAlike table p.0 p.1) (beside xs ys)
   beside-alike [] ys zs h k = tt
@@ -276,13 +267,10 @@ module _ (table : Table) where
   parts-predicates btrue h = tt
   parts-predicates p h = (h, tt)
 
-  abbrev pub IsTyped : Sequent → Type 0
-  IsTyped s = Each (IsPredicate table) s.0 × IsPredicate table s.1
-
-  pub split-typed : (hyps : List Formula) (p : Formula) → Each (IsPredicate table) hyps → IsPredicate table p → Each IsTyped (split hyps p)
+  pub split-typed : (hyps : List Formula) (p : Formula) → Each (IsPredicate table) hyps → IsPredicate table p → Each (TypedSequent table) (split hyps p)
   split-typed hyps (binary And p q) k h =
       let w = connective-both (role table [] p) (role table [] q) h in
-      append-each IsTyped (split hyps p) (split hyps q) (split-typed hyps p k w.0) (split-typed hyps q k w.1)
+      append-each (TypedSequent table) (split hyps p) (split hyps q) (split-typed hyps p k w.0) (split-typed hyps q k w.1)
   split-typed hyps (binary Imp p q) k h =
       let w = connective-both (role table [] p) (role table [] q) h in
       split-typed (hyps ++ conjuncts p) q (append-each (IsPredicate table) hyps (conjuncts p) k (parts-predicates p w.0)) w.1

@@ -3,8 +3,8 @@ use Rattle.std.proofs.Common.{◌≡◌, List, [], ◌++◌, length, refl, arith
 use Rattle.bk_form.specs.Formula.{Formula, binary, btrue}
 use Rattle.bk_form.specs.declared.operator.BinOp.{BinOp}
 use Rattle.bk_form.specs.declared.operator.BinOp.TheVariants.{And, Imp}
-use Rattle.bk_dev.specs.Hypotheses.{conjuncts}
-use Rattle.bk_po.specs.Obligations.{split}
+use Rattle.bk_form.specs.Predicates.{conjuncts}
+use Rattle.bk_seq.specs.Sequents.{split}
 
 -- hypotheses make no difference to their number
 pub same-count : (p : Formula) (hs ks : List Formula) → length (split hs p) ≡ length (split ks p)

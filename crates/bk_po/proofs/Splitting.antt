@@ -5,18 +5,19 @@ use Rattle.std.proofs.lemmas.Bool.Decides.{nat_tests}
 use Rattle.bk_form.specs.Table.{Table}
 use Rattle.bk_form.specs.Formula.{Formula, binary, btrue}
 use Rattle.bk_form.specs.Search.{Finder, IsSearch}
-use Rattle.bk_form.specs.Environment.{State, IsTyped}
+use Rattle.bk_form.specs.Environment.{State, IsTypedState, at_state}
 use Rattle.bk_form.specs.declared.operator.BinOp.TheVariants.{And, Imp}
 use Rattle.bk_form.proofs.Members.{and-both}
-use Rattle.bk_gsl.specs.State.{holds, IsTypedState}
+use Rattle.bk_gsl.specs.State.{holds}
 use Rattle.bk_dev.specs.Development.{Development, is_btrue}
-use Rattle.bk_dev.specs.Hypotheses.{AreTrue, conjuncts}
-use Rattle.bk_dev.specs.Facts.{Each}
-use Rattle.bk_bind.specs.Valid.{AllHold, in_state, IsValid}
+use Rattle.bk_form.specs.Predicates.{AllHold, conjuncts}
+use Rattle.bk_form.specs.Each.{Each}
+use Rattle.bk_bind.specs.Valid.{IsValid}
 use Rattle.bk_wp.proofs.Steps.{implies-if}
-use Rattle.bk_dev.proofs.Agree.{both-true, true-append, parts-true}
-use Rattle.bk_seq.specs.Sequents.{Sequent}
-use Rattle.bk_po.specs.Obligations.{Obligation, rows, split, numbered_from, numbered, AreValid, joined_onto, joined_all, conjunction, numbers_below, row_obligations, flat_obligations}
+use Rattle.bk_dev.proofs.Agree.{both-true}
+use Rattle.bk_form.proofs.Conjuncts.{true-append, parts-true}
+use Rattle.bk_seq.specs.Sequents.{Sequent, split}
+use Rattle.bk_po.specs.Obligations.{Obligation, rows, numbered_from, numbered, AreValid, joined_onto, joined_all, conjunction, numbers_below, row_obligations, flat_obligations}
 
 -- ---- each of a list
 pub each-first : {A : Type 0} (P : A → Type 0) (xs ys : List A) → Each P (xs ++ ys) → Each P xs
@@ -72,29 +73,22 @@ rows-met dev valid k l =
     each-flat (IsMet dev.table) (row_obligations dev k) rows (each-below (λ j. Each (IsMet dev.table) (of_level j)) (length dev.levels) (each-flat (IsMet dev.table) of_level (numbers_below (length dev.levels)) met) k l)
 
 module _ (find : Finder) (law : IsSearch find) (table : Table) (e : State) (typed : IsTypedState table e) where
-  all-hold : (ps : List Formula) → AreTrue find table e ps → AllHold find (in_state table e) ps
-  all-hold [] h = tt
-  all-hold (p ∷ ps) h = (h.0, all-hold ps h.1)
-
-  typed-there : IsTyped (in_state table e)
-  typed-there = record { variables = typed.typed; bound_numbers = refl }
-
-  pub split-holds : (hyps : List Formula) (p : Formula) → Each (IsSound table) (split hyps p) → AreTrue find table e hyps → holds find table e p ≡ true
+  pub split-holds : (hyps : List Formula) (p : Formula) → Each (IsSound table) (split hyps p) → AllHold find (at_state table e) hyps → holds find table e p ≡ true
   split-holds hyps (binary And p q) v h = both-true (holds find table e p) (holds find table e q) (split-holds hyps p (each-first (IsSound table) (split hyps p) (split hyps q) v) h) (split-holds hyps q (each-second (IsSound table) (split hyps p) (split hyps q) v) h)
-  split-holds hyps (binary Imp p q) v h = implies-if (holds find table e p) (holds find table e q) (λ k. split-holds (hyps ++ conjuncts p) q v (true-append find table e hyps (conjuncts p) h (parts-true find table e p k)))
+  split-holds hyps (binary Imp p q) v h = implies-if (holds find table e p) (holds find table e q) (λ k. split-holds (hyps ++ conjuncts p) q v (true-append find (at_state table e) hyps (conjuncts p) h (parts-true find (at_state table e) p k)))
   split-holds hyps btrue v h = refl
-  split-holds hyps p v h = v.0 find law e typed-there (all-hold hyps h)
+  split-holds hyps p v h = v.0 find law e typed h
 
 -- ---- conjunctions
 module _ (find : Finder) (table : Table) (e : State) where
-  onto-true : (p : Formula) (qs : List Formula) → holds find table e (joined_onto p qs) ≡ true → AreTrue find table e (p ∷ qs)
+  onto-true : (p : Formula) (qs : List Formula) → holds find table e (joined_onto p qs) ≡ true → AllHold find (at_state table e) (p ∷ qs)
   onto-true p [] h = (h, tt)
   onto-true p (q ∷ qs) h =
       let w = onto-true (binary And p q) qs h in
       let both = and-both (holds find table e p) (holds find table e q) w.0 in
       (both.0, (both.1, w.1))
 
-  all-true : (ps : List Formula) → holds find table e (joined_all ps) ≡ true → AreTrue find table e ps
+  all-true : (ps : List Formula) → holds find table e (joined_all ps) ≡ true → AllHold find (at_state table e) ps
   all-true [] h = tt
   all-true (p ∷ ps) h = onto-true p ps h
 
@@ -102,13 +96,13 @@ module _ (find : Finder) (table : Table) (e : State) where
   btrue-holds btrue h = refl
   btrue-holds p h = absurd (cc)
 
-  unfiltered : (ps : List Formula) → AreTrue find table e (filter (λ p. not (is_btrue p)) ps) → AreTrue find table e ps
+  unfiltered : (ps : List Formula) → AllHold find (at_state table e) (filter (λ p. not (is_btrue p)) ps) → AllHold find (at_state table e) ps
   unfiltered [] h = tt
   unfiltered (p ∷ ps) h = by_test (unfiltered ps) (is_btrue p) refl h
     where
-      by_test : (AreTrue find table e (filter (λ p. not (is_btrue p)) ps) → AreTrue find table e ps) → (b : Bool) → is_btrue p ≡ b → AreTrue find table e (cond (not b) (p ∷ filter (λ p. not (is_btrue p)) ps) (filter (λ p. not (is_btrue p)) ps)) → AreTrue find table e (p ∷ ps)
+      by_test : (AllHold find (at_state table e) (filter (λ p. not (is_btrue p)) ps) → AllHold find (at_state table e) ps) → (b : Bool) → is_btrue p ≡ b → AllHold find (at_state table e) (cond (not b) (p ∷ filter (λ p. not (is_btrue p)) ps) (filter (λ p. not (is_btrue p)) ps)) → AllHold find (at_state table e) (p ∷ ps)
       by_test rest true k h = (btrue-holds p k, rest h)
       by_test rest false k h = (h.0, rest h.1)
 
-  pub conjunction-true : (ps : List Formula) → holds find table e (conjunction ps) ≡ true → AreTrue find table e ps
+  pub conjunction-true : (ps : List Formula) → holds find table e (conjunction ps) ≡ true → AllHold find (at_state table e) ps
   conjunction-true ps h = unfiltered ps (all-true (filter (λ p. not (is_btrue p)) ps) h)

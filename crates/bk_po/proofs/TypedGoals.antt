@@ -7,10 +7,12 @@ use Rattle.bk_form.specs.Table.{variable_type}
 use Rattle.bk_form.specs.Formula.{Formula}
 use Rattle.bk_form.specs.Role.{predicate, gives, given_by, if_holds, equality_role, membership_role}
 use Rattle.bk_gsl.specs.Substitution.{pre}
-use Rattle.bk_gsl.specs.Typed.{IsPredicate, AreTypedTerms, Types}
+use Rattle.bk_gsl.specs.Typed.{AreTypedTerms, Types}
+use Rattle.bk_form.specs.Predicates.{IsPredicate, conjuncts, equation}
 use Rattle.bk_dev.specs.Development.{Head, Body, Level, Development, blank_body, level_at, body_of, body_at, inputs_of, is_btrue, is_implementation, whole}
-use Rattle.bk_dev.specs.Hypotheses.{conjuncts, link_equation, value_equation, properties_of, values_at, joining, facts, facts_of, conditions_of, is_number, in_machine_range, input_ranges, init_hypotheses, invariant_hypotheses, assertion_hypotheses, operation_hypotheses}
-use Rattle.bk_dev.specs.Facts.{AreAlike, IsStated, IsLink, IsValue, Each, IsLevelOf, IsBodyOf, EachBody, EachLevel, IsDevelopment}
+use Rattle.bk_dev.specs.Hypotheses.{value_equation, properties_of, values_at, joining, facts, facts_of, conditions_of, is_number, in_machine_range, input_ranges, init_hypotheses, invariant_hypotheses, assertion_hypotheses, operation_hypotheses}
+use Rattle.bk_dev.specs.Facts.{AreAlike, IsStated, IsLink, IsValue, IsLevelOf, IsBodyOf, EachBody, EachLevel, IsLawful}
+use Rattle.bk_form.specs.Each.{Each}
 use Rattle.bk_dev.specs.Claims.{arrays_at, beside}
 use Rattle.bk_wp.specs.Box.{diamond}
 use Rattle.bk_wp.proofs.Guarding.{total-plain}
@@ -21,7 +23,8 @@ use Rattle.bk_po.specs.Obligations.{Obligation, obligation, of_operation, of_def
 use Rattle.bk_po.specs.Basic.{IsBasic}
 use Rattle.bk_po.proofs.Basics.{each-or, basic_level, init_plain, body_plain, whole_total}
 use Rattle.bk_po.proofs.Lists.{append-each, flat-each, map-each, below-each, take-each, filter-true}
-use Rattle.bk_po.proofs.Predicates.{same_type-self, terms-predicate, box-predicate, diamond-predicate, guarded-predicate, conjunction-predicate, after-predicate, links-predicates, links-predicate, beside-alike, parts-predicates}
+use Rattle.bk_po.proofs.Predicates.{terms-predicate, box-predicate, diamond-predicate, guarded-predicate, conjunction-predicate, after-predicate, links-predicates, links-predicate, beside-alike, parts-predicates}
+use Rattle.bk_form.proofs.Equations.{same_type-self}
 use Rattle.bk_po.proofs.Splitting.{each-so}
 
 number-type : (o : Option ValueType) → is_number o ≡ true → o ≡ Some int_type
@@ -32,7 +35,7 @@ number-type (Some (enum_type n)) h = absurd (cc)
 number-type (Some (pair_type t u)) h = absurd (cc)
 number-type (Some (set_type t)) h = absurd (cc)
 
-module _ (dev : Development) (f : IsDevelopment dev) where
+module _ (dev : Development) (f : IsLawful dev) where
   abbrev ArePredicates : List Formula → Type 0
   ArePredicates ps = Each (IsPredicate dev.table) ps
 
@@ -57,7 +60,7 @@ module _ (dev : Development) (f : IsDevelopment dev) where
   links-alike k l h = each-so (IsLink dev k) (λ p. AreAlike dev.table p.0 p.1) l.links (λ p w. w.alike) h.links
 
   joining-typed : (k : ℕ) (l : Level) → IsLevelOf dev k l → ArePredicates (joining l)
-  joining-typed k l h = append-each (IsPredicate dev.table) (conjuncts l.invariant) (map link_equation l.links) (parts-predicates dev.table l.invariant h.invariant.is_predicate) (links-predicates dev.table l.links (links-alike k l h))
+  joining-typed k l h = append-each (IsPredicate dev.table) (conjuncts l.invariant) (map equation l.links) (parts-predicates dev.table l.invariant h.invariant.is_predicate) (links-predicates dev.table l.links (links-alike k l h))
 
   facts-typed : (k : ℕ) (l : Level) → IsLevelOf dev k l → ArePredicates (facts l)
   facts-typed k l h =
@@ -130,7 +133,7 @@ module _ (dev : Development) (f : IsDevelopment dev) where
     joining-goal : (k : ℕ) → k < length dev.levels → (outputs above : List ℕ) → Each (λ p. AreAlike dev.table p.0 p.1) (beside outputs above) → IsPredicate dev.table (joining_goal dev k outputs above)
     joining-goal k h outputs above alike =
         let l = level_at dev k in
-        conjunction-predicate dev.table (l.invariant ∷ conjunction (map link_equation l.links) ∷ conjunction (map link_equation (beside outputs above)) ∷ []) ((fact k h).invariant.is_predicate, (links-predicate dev.table l.links (links-alike k l (fact k h)), (links-predicate dev.table (beside outputs above) alike, tt)))
+        conjunction-predicate dev.table (l.invariant ∷ conjunction (map equation l.links) ∷ conjunction (map equation (beside outputs above)) ∷ []) ((fact k h).invariant.is_predicate, (links-predicate dev.table l.links (links-alike k l (fact k h)), (links-predicate dev.table (beside outputs above) alike, tt)))
 
     init-goal : (k : ℕ) → k < length dev.levels → IsPredicate dev.table (init_goal dev k)
     init-goal zero h = box-predicate dev.table (level_at dev 0).init (level_at dev 0).invariant (fact 0 h).init.types (init_plain dev basic 0) (fact 0 h).invariant.is_predicate

@@ -3,7 +3,8 @@ use Rattle.std.proofs.Common.{◌≡◌, ◌<◌, ℕ, zero, suc, List, [], ◌�
 use Rattle.std.specs.Prelude.{slice_index_or}
 use Rattle.bk_form.specs.Formula.{Formula, literal, truth_value, element, formula_size}
 use Rattle.bk_dev.specs.Development.{Development}
-use Rattle.bk_dev.specs.Facts.{Each, IsLiteral, IsValue}
+use Rattle.bk_dev.specs.Facts.{IsLiteral, IsValue}
+use Rattle.bk_form.specs.Each.{Each}
 
 literal-small : (dev : Development) (f : Formula) → IsLiteral dev f → formula_size f ≡ 1
 literal-small dev (literal z) h = refl

@@ -1,7 +1,7 @@
 -- The developments whose obligations are made so far.
 use Rattle.std.specs.Prelude.{◌≡◌, []}
 use Rattle.bk_dev.specs.Development.{Body, Level, Development}
-use Rattle.bk_dev.specs.Facts.{Each}
+use Rattle.bk_form.specs.Each.{Each}
 use Rattle.bk_dev.specs.Layout.{arrays_of}
 use Rattle.bk_wp.specs.Guarded.{IsTotal, HasTotal}
 

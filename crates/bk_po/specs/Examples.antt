@@ -8,7 +8,7 @@ use Rattle.bk_form.specs.declared.operator.BinOp.TheVariants.{And, Eq, Lt, Le, I
 use Rattle.bk_gsl.specs.Substitution.{skip, assign, if_else}
 use Rattle.bk_dev.specs.declared.kind.Kind.{Kind}
 use Rattle.bk_dev.specs.declared.kind.Kind.TheVariants.{Machine, Implementation}
-use Rattle.bk_dev.specs.declared.kind.Home.TheVariants.{Input, Variable, Inner}
+use Rattle.bk_dev.specs.declared.kind.Home.TheVariants.{Input, Abstract, Inner, Concrete}
 use Rattle.bk_dev.specs.Development.{Head, Body, Level, Development}
 use Rattle.bk_dev.specs.Counter.{number_at, counter_table, setting}
 use Rattle.bk_po.specs.Obligations.{numbered_obligations}
@@ -64,7 +64,7 @@ adding condition n = setting condition n (plus (variable n) (variable 4))
 abbrev pub tally : Development
 tally = record {
   table = tally_table;
-  homes = Variable 0 ∷ Variable 1 ∷ Inner 0 ∷ Inner 1 ∷ Input ∷ [];
+  homes = Abstract 0 ∷ Concrete 1 ∷ Inner 0 ∷ Inner 1 ∷ Input ∷ [];
   sets = [];
   heads = inc_head (4 ∷ []) ∷ get_head ∷ [];
   levels = small_level (codes "Tally") Machine 0 [] (adding may_add 0) (getting 2 0) ∷ small_level (codes "Tally_i") Implementation 1 ((1, 0) ∷ []) (adding btrue 1) (getting 3 1) ∷ [];
@@ -80,7 +80,7 @@ stepping n = record { condition = btrue; sub = if_else (binary Lt (variable n) (
 abbrev pub stepper : Development
 stepper = record {
   table = counter_table;
-  homes = Variable 0 ∷ Variable 1 ∷ Inner 0 ∷ Inner 1 ∷ [];
+  homes = Abstract 0 ∷ Concrete 1 ∷ Inner 0 ∷ Inner 1 ∷ [];
   sets = [];
   heads = inc_head [] ∷ get_head ∷ [];
   levels = small_level (codes "Stepper") Machine 0 [] (stepping 0) (getting 2 0) ∷ small_level (codes "Stepper_i") Implementation 1 ((1, 0) ∷ []) (stepping 1) (getting 3 1) ∷ [];

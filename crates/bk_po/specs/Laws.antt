@@ -1,15 +1,22 @@
 -- What the obligations are and what they are worth, as statements.
-use Rattle.std.specs.Prelude.{◌≡◌, ◌<◌, ℕ, suc, true, [], ◌∷◌, length, map, codes}
+use Rattle.std.specs.Prelude.{◌≡◌, ◌<◌, ℕ, pos, suc, true, false, [], ◌∷◌, length, map, codes}
 use Rattle.bk_form.specs.Search.{Finder, IsSearch}
 use Rattle.bk_dev.specs.Development.{Development, is_complete}
-use Rattle.bk_dev.specs.Facts.{IsDevelopment}
+use Rattle.bk_dev.specs.Facts.{IsDevelopment, IsLawful, IsFlatDevelopment}
 use Rattle.bk_dev.specs.Claims.{Keeps, Carries, ValuesMeet}
 use Rattle.bk_dev.specs.Counter.{counter}
-use Rattle.bk_po.specs.Obligations.{numbered_obligations, HasValidObligations}
+use Rattle.bk_po.specs.Obligations.{numbered_obligations, HasValidObligations, operation_goal}
 use Rattle.bk_po.specs.Basic.{IsBasic}
-use Rattle.bk_po.specs.Plain.{IsPlain}
 use Rattle.bk_po.specs.Typed.{HasTypedObligations}
 use Rattle.bk_po.specs.Examples.{tally, stepper}
+use Rattle.bk_po.specs.Levels.{BoxesHold, ConditionsHold, AllClean, LevelsAreCarried}
+use Rattle.bk_val.specs.Value.{int}
+use Rattle.bk_form.specs.Environment.{State, at_state, IsTypedState}
+use Rattle.bk_form.specs.Predicates.{AllHold}
+use Rattle.bk_gsl.specs.State.{holds}
+use Rattle.bk_dev.specs.Flattened.{flattened}
+use Rattle.bk_dev.specs.Hypotheses.{unasserted_hypotheses}
+use Rattle.bk_dev.specs.Uncarried.{eager}
 
 -- the counter has thirteen numbered obligations, with these names
 abbrev pub CounterHasThese : Type 0
@@ -25,22 +32,41 @@ pub record IsCorrect (find : Finder) (dev : Development) : Type 0 where
   pub carries : (j : ℕ) → suc j < length dev.levels → Carries find dev j
   pub values : is_complete dev ≡ true → ValuesMeet find dev
 
--- where every obligation of a plain development is valid, it is correct
+-- where every obligation of a basic development is valid, it is correct
 abbrev pub ValidObligationsCarry : Type 0
-ValidObligationsCarry = (find : Finder) → IsSearch find → (dev : Development) → IsDevelopment dev → IsPlain dev → HasValidObligations dev → IsCorrect find dev
+ValidObligationsCarry = (find : Finder) → IsSearch find → (dev : Development) → IsDevelopment dev → IsBasic dev → HasValidObligations dev → IsCorrect find dev
 
 -- the counter meets what this asks
 pub record CounterIsValid : Type 0 where
-  pub plain : IsPlain counter
+  pub basic : IsBasic counter
   pub obligations : HasValidObligations counter
 
 -- and so do the adder and the stepper, but for their obligations
-pub record ExamplesArePlain : Type 0 where
+pub record ExamplesAreBasic : Type 0 where
   pub tally_facts : IsDevelopment tally
-  pub tally_plain : IsPlain tally
+  pub tally_basic : IsBasic tally
   pub stepper_facts : IsDevelopment stepper
-  pub stepper_plain : IsPlain stepper
+  pub stepper_basic : IsBasic stepper
 
 -- the formulas of a basic development's obligations are predicates over the development's variables
 abbrev pub ObligationsType : Type 0
 ObligationsType = (dev : Development) → IsDevelopment dev → IsBasic dev → HasTypedObligations dev
+
+-- ---- all levels at once
+-- where the boxes of all levels are true and what is met is defined or fits, the machine keeps its invariant and each level carries the one
+-- above; of a lawful development without ||, and nothing else is asked of it
+abbrev pub BoxesCarry : Type 0
+BoxesCarry = (find : Finder) → IsSearch find → (dev : Development) → IsLawful dev → IsFlatDevelopment dev → BoxesHold find dev → AllClean find dev → LevelsAreCarried find dev
+
+-- so of every development, by that of its flattened, of which Keeps and Carries speak
+abbrev pub EveryLevelIsCarried : Type 0
+EveryLevelIsCarried = (find : Finder) → IsSearch find → (dev : Development) → IsDevelopment dev → BoxesHold find (flattened dev) → AllClean find (flattened dev) → Keeps find dev × ((j : ℕ) → suc j < length dev.levels → Carries find dev j)
+
+-- of a basic development what is asked beside the boxes says that what is met is defined or fits
+abbrev pub ConditionsAreClean : Type 0
+ConditionsAreClean = (find : Finder) → IsSearch find → (dev : Development) → IsLawful dev → IsBasic dev → BoxesHold find dev → ConditionsHold find dev → AllClean find dev
+
+-- the boxes of all levels are asked together: an implementation that is not carried may have a true main goal, where the machine's is false
+pub record EagerAsksTheMachine : Type 0 where
+  pub below : (find : Finder) (e : State) → IsTypedState (flattened eager).table e → AllHold find (at_state (flattened eager).table e) (unasserted_hypotheses (flattened eager) 1 0) → holds find (flattened eager).table e (operation_goal (flattened eager) 1 0) ≡ true
+  pub machine : (find : Finder) (e : State) → e 0 ≡ int (pos 0) → holds find (flattened eager).table e (operation_goal (flattened eager) 0 0) ≡ false

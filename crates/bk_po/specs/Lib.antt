@@ -3,7 +3,7 @@ pub mod ObligationCodes
 pub mod Limits
 pub mod Shown
 pub mod Basic
-pub mod Plain
 pub mod Typed
 pub mod Examples
 pub mod Laws
+pub mod Levels

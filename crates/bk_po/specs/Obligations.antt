@@ -6,14 +6,15 @@ use Rattle.bk_form.specs.Replacement.{replaced, looked_up}
 use Rattle.bk_form.specs.declared.operator.BinOp.TheVariants.{And, Imp}
 use Rattle.bk_form.specs.Table.{Table}
 use Rattle.bk_dev.specs.Development.{Level, Development, level_at, body_at, is_implementation, is_btrue, whole}
-use Rattle.bk_dev.specs.Facts.{Each}
+use Rattle.bk_form.specs.Each.{Each}
 use Rattle.bk_dev.specs.Flattened.{flattened}
-use Rattle.bk_dev.specs.Hypotheses.{conjuncts, link_equation, properties_hypotheses, invariant_hypotheses, assertion_hypotheses, init_hypotheses, body_hypotheses, operation_hypotheses}
+use Rattle.bk_dev.specs.Hypotheses.{properties_hypotheses, invariant_hypotheses, assertion_hypotheses, init_hypotheses, body_hypotheses, operation_hypotheses}
+use Rattle.bk_form.specs.Predicates.{equation}
 use Rattle.bk_dev.specs.Claims.{arrays_at, beside}
 use Rattle.bk_gsl.specs.Substitution.{Substitution}
 use Rattle.bk_wp.specs.Box.{box, diamond}
 use Rattle.bk_wp.specs.Guarded.{guarded}
-use Rattle.bk_seq.specs.Sequents.{Sequent, IsValidSequent}
+use Rattle.bk_seq.specs.Sequents.{Sequent, IsValidSequent, split}
 use Rattle.bk_po.specs.declared.row.Row.{Row}
 use Rattle.bk_po.specs.declared.row.Row.TheVariants.{PropertiesDefined, ValuesMeet, InvariantDefined, AssertionsDefined, AssertionsHold, Initialisation, InitialisationDefined, Operations, OperationsDefined}
 
@@ -59,7 +60,7 @@ values_goal dev k = replaced (looked_up dev.values) (conjunction (map (λ l. l.p
 
 -- the invariant of a level, its links, and the equality of the outputs with those above
 abbrev pub joined_goal : Level → List ℕ → List ℕ → Formula
-joined_goal l outputs above = conjunction (l.invariant ∷ conjunction (map link_equation l.links) ∷ conjunction (map link_equation (beside outputs above)) ∷ [])
+joined_goal l outputs above = conjunction (l.invariant ∷ conjunction (map equation l.links) ∷ conjunction (map equation (beside outputs above)) ∷ [])
 
 -- the same by the number of the level
 abbrev pub joining_goal : Development → ℕ → List ℕ → List ℕ → Formula
@@ -132,14 +133,6 @@ flat_obligations dev = flat_map (level_obligations dev) (numbers_below (length d
 -- of a development
 abbrev pub obligations : Development → List Obligation
 obligations dev = flat_obligations (flattened dev)
-
--- ---- sequents
--- a goal taken apart: both sides of a conjunction, the right side of an implication under the conjuncts of the left one, nothing for btrue
-abbrev pub split : List Formula → Formula → List Sequent
-split hyps (binary And p q) = split hyps p ++ split hyps q
-split hyps (binary Imp p q) = split (hyps ++ conjuncts p) q
-split hyps btrue = []
-split hyps p = (hyps, p) ∷ []
 
 -- name.k, name.k+1 and so on
 abbrev pub numbered_from : ℕ → List ℕ → List Sequent → List (List ℕ × Sequent)

@@ -1,7 +1,7 @@
 -- Developments whose obligations are made of predicates.
 use Rattle.bk_dev.specs.Development.{Development}
 use Rattle.bk_dev.specs.Flattened.{flattened}
-use Rattle.bk_dev.specs.Facts.{Each}
+use Rattle.bk_form.specs.Each.{Each}
 use Rattle.bk_seq.specs.Sequents.{Types}
 use Rattle.bk_po.specs.Obligations.{numbered_obligations}
 

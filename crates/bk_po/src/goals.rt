@@ -11,7 +11,7 @@ ghost use Rattle.bk_wp.specs.Guarded.{HasTotal};
 ghost use Rattle.bk_wp.specs.Shapes.{HasNoBinder};
 ghost use Rattle.bk_wp.specs.declared.error.WpFault.TheVariants.{TooLarge};
 ghost use Rattle.bk_dev.specs.Development.{is_btrue, whole, level_at, body_of, body_at};
-ghost use Rattle.bk_dev.specs.Hypotheses.{link_equation};
+ghost use Rattle.bk_form.specs.Predicates.{equation};
 ghost use Rattle.bk_dev.specs.Layout.{arrays_of};
 ghost use Rattle.bk_dev.specs.Claims.{beside};
 ghost use Rattle.bk_po.specs.Basic.{IsBasic};
@@ -311,8 +311,8 @@ fn three(alloc: Global, first: Form, second: Form, third: Form) -> Result<Vec<Fo
 
 // That the variables of each pair are equal.
 fn equations(alloc: Global, pairs: &[(u32, u32)]) -> Result<Form, WpFault>
-    ensures value { IfOk result (λ f. f ≡ conjunction (map link_equation pairs.now)) }
-    ensures too_large { result ≡ Err TooLarge → IsWithinLimits (conjunction (map link_equation pairs.now)) → ⊥ }
+    ensures value { IfOk result (λ f. f ≡ conjunction (map equation pairs.now)) }
+    ensures too_large { result ≡ Err TooLarge → IsWithinLimits (conjunction (map equation pairs.now)) → ⊥ }
 {
     let mut parts = Vec::new(alloc);
     add_links(alloc, pairs, &mut parts)?;

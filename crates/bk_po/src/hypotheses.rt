@@ -5,7 +5,8 @@ ghost use Rattle.std.specs.List.{flat_map, filter};
 ghost use Rattle.bk_form.specs.Formula.{formula_size};
 ghost use Rattle.bk_form.specs.Table.{variable_type};
 ghost use Rattle.bk_dev.specs.Development.{inputs_of, body_of, is_implementation};
-ghost use Rattle.bk_dev.specs.Hypotheses.{conjuncts, link_equation, value_equation, joining, facts, facts_of, conditions_of, is_number, in_machine_range, input_ranges, properties_hypotheses, invariant_hypotheses, assertion_hypotheses, init_hypotheses, body_hypotheses, operation_hypotheses};
+ghost use Rattle.bk_dev.specs.Hypotheses.{value_equation, joining, facts, facts_of, conditions_of, is_number, in_machine_range, input_ranges, properties_hypotheses, invariant_hypotheses, assertion_hypotheses, init_hypotheses, body_hypotheses, operation_hypotheses};
+ghost use Rattle.bk_form.specs.Predicates.{conjuncts, equation};
 
 use crate::splits::add_conjuncts;
 use bk_dev::{Development, Kind, Level};
@@ -220,7 +221,7 @@ pub(crate) fn add_links(
     links: &[(u32, u32)],
     hyps: &mut Vec<Form>,
 ) -> Result<(), Memory>
-    ensures { OnOk result (hyps.new.items ≡ hyps.old.items ++ map link_equation links.now) }
+    ensures { OnOk result (hyps.new.items ≡ hyps.old.items ++ map equation links.now) }
 {
     for (below, above) in links {
         let below = Form::make(alloc, Part::Var(*below))?;

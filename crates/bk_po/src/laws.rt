@@ -1,7 +1,7 @@
 //! What the obligations of a development are, and what they are worth. Each law is the contract of a function that does nothing.
 
 ghost use Rattle.bk_po.specs.Examples.{TallyAsks};
-ghost use Rattle.bk_po.specs.Laws.{CounterHasThese, CounterIsValid, ExamplesArePlain, ValidObligationsCarry, ObligationsType};
+ghost use Rattle.bk_po.specs.Laws.{CounterHasThese, CounterIsValid, ExamplesAreBasic, ValidObligationsCarry, ObligationsType, BoxesCarry, EveryLevelIsCarried, ConditionsAreClean, EagerAsksTheMachine};
 
 /// The obligations of a counter, to be checked by hand.
 pub fn counter()
@@ -12,7 +12,7 @@ pub fn counter()
 /// An adder, which has an input and a precondition, and a stepper, which has an IF.
 pub fn examples()
     ensures tally { TallyAsks }
-    ensures plain { ExamplesArePlain }
+    ensures basic { ExamplesAreBasic }
 {}
 
 /// What valid obligations are worth: the claims from which translated code follows its machine.
@@ -23,4 +23,13 @@ pub fn obligations_carry()
 /// The formulas of all obligations of a basic development are predicates: what is replayed on them keeps its worth.
 pub fn obligations_type()
     ensures { ObligationsType }
+{}
+
+/// What the boxes of all levels are worth together, where all that is met is defined or fits, with nothing asked of what stands above the last
+/// level; that the conditions beside them say so, of basic developments; and a development of which the boxes of one level are not enough.
+pub fn all_levels()
+    ensures carries { BoxesCarry }
+    ensures every { EveryLevelIsCarried }
+    ensures clean { ConditionsAreClean }
+    ensures eager { EagerAsksTheMachine }
 {}

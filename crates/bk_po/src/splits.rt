@@ -1,8 +1,9 @@
 //! Goals taken apart into sequents, and the sequents' names.
 
 ghost use Rattle.std.specs.Prelude.{◌≡◌, ◌^◌, ◌-◌, ◌++◌, [], min, map, length, codes, decimal, IfOk, OnOk};
-ghost use Rattle.bk_dev.specs.Hypotheses.{conjuncts};
-ghost use Rattle.bk_po.specs.Obligations.{split, numbered_from, numbered};
+ghost use Rattle.bk_form.specs.Predicates.{conjuncts};
+ghost use Rattle.bk_po.specs.Obligations.{numbered_from, numbered};
+ghost use Rattle.bk_seq.specs.Sequents.{split};
 ghost use Rattle.bk_seq.specs.Sequents.{sequent_of};
 ghost use Rattle.bk_po.specs.Shown.{named_sequent};
 

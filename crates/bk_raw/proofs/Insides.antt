@@ -1,9 +1,9 @@
 -- Inside a clause no word of a component stands outside of brackets and blocks; the longest substitution is one.
-use Rattle.std.proofs.Common.{◌≡◌, ℕ, zero, suc, Bool, true, false, cond, List, [], ◌∷◌, ◌++◌, length, Some, None, refl, sym, ◌∙◌, ap, subst, arith}
+use Rattle.std.proofs.Common.{◌≡◌, ◌+◌, ◌-◌, ℕ, zero, suc, Bool, true, false, cond, List, [], ◌∷◌, ◌++◌, length, Some, None, refl, sym, ◌∙◌, ap, subst, arith}
 use Rattle.bk_form.specs.declared.token.Token.{Token}
 use Rattle.bk_form.specs.declared.token.TokenKind.{TokenKind}
 use Rattle.bk_form.specs.declared.token.TokenKind.TheVariants.{Name, LevelName, BoundName, Number, Sign, Word}
-use Rattle.bk_raw.specs.Brackets.{one_less, opens, closes, open_behind}
+use Rattle.bk_raw.specs.Brackets.{opens, closes, count_open}
 use Rattle.bk_raw.specs.SubTree.{SubTree}
 use Rattle.bk_raw.specs.ComponentTree.{RawClause, word_number, is_component_word}
 use Rattle.bk_raw.specs.ComponentSpelling.{Parts, Clause}
@@ -17,18 +17,18 @@ use Rattle.bk_raw.proofs.ClauseOne.{first-at}
 use Rattle.bk_raw.proofs.Stopping.{none_some, some_same}
 
 -- ---- the automaton counts what is open
-counted-by : (o c e : Bool) (n m : ℕ) (b : Bool) → moved_by o c e n ≡ Some (m, b) → m ≡ cond o (suc n) (cond c (one_less n) n)
-counted-by true c e n m b h = sym (ap (λ (s : State). s.0) (some_same (suc n, false) (m, b) h))
+counted-by : (o c e : Bool) (n m : ℕ) (b : Bool) → moved_by o c e n ≡ Some (m, b) → m ≡ cond o (n + 1) (cond c (n - 1) n)
+counted-by true c e n m b h = let k : suc n ≡ m = ap (λ (s : State). s.0) (some_same (suc n, false) (m, b) h) in omega (arith, k)
 counted-by false true e zero m b h = absurd (none_some (m, b) h)
-counted-by false true e (suc n) m b h = sym (ap (λ (s : State). s.0) (some_same (n, true) (m, b) h))
+counted-by false true e (suc n) m b h = let k : n ≡ m = ap (λ (s : State). s.0) (some_same (n, true) (m, b) h) in omega (arith, k)
 counted-by false false e n m b h = sym (ap (λ (s : State). s.0) (some_same (n, e) (m, b) h))
 
-pub counted : (stops : Stopper) (n : ℕ) (b : Bool) (ts : List Token) (e : State) → run (step stops) (n, b) ts ≡ Some e → e.0 ≡ open_behind opens closes n ts
+pub counted : (stops : Stopper) (n : ℕ) (b : Bool) (ts : List Token) (e : State) → run (step stops) (n, b) ts ≡ Some e → e.0 ≡ count_open opens closes n ts
 counted stops n b [] e h = sym (ap (λ (s : State). s.0) (some_same (n, b) e h))
 counted stops n b (t ∷ ts) e h =
     let f = first-step (step stops) (n, b) e t ts h in
     let m = counted-by (opens t.kind) (closes t.kind) (completes t.kind) n f.0.0 f.0.1 (moved-of stops n b t.kind f.0 f.1) in
-    counted stops f.0.0 f.0.1 ts e f.2 ∙ ap (λ x. open_behind opens closes x ts) m
+    counted stops f.0.0 f.0.1 ts e f.2 ∙ ap (λ x. count_open opens closes x ts) m
 
 word-halts : (b : Bool) (kind : TokenKind) → is_component_word kind ≡ true → stepped ends_clause 0 b kind ≡ None
 word-halts b (Word op) h = ap (λ x. cond x None (moved zero (Word op))) h
@@ -43,7 +43,7 @@ halts-there s word back e z w h =
     let f = first-step (step ends_clause) s e word back h in
     none_some f.0 (sym (word-halts s.1 word.kind w) ∙ ap (λ n. stepped ends_clause n s.1 word.kind) (sym z) ∙ f.1)
 
-pub no-word-inside : (c : RawClause) (one word : Token) (front back : List Token) → Clause c (one ∷ (front ++ word ∷ back)) → open_behind opens closes 0 front ≡ 0 → is_component_word word.kind ≡ true → ⊥
+pub no-word-inside : (c : RawClause) (one word : Token) (front back : List Token) → Clause c (one ∷ (front ++ word ∷ back)) → count_open opens closes 0 front ≡ 0 → is_component_word word.kind ≡ true → ⊥
 no-word-inside c one word front back h z w =
     let f = first-at c.at (Word (word_number c.word)) (Parts c.word c.parts) (one ∷ (front ++ word ∷ back)) h in
     let e = f.is in

@@ -1,5 +1,5 @@
 -- Brackets and blocks among tokens, and how many are open.
-use Rattle.std.specs.Prelude.{ℕ, zero, suc, Bool, false, cond, ◌||◌, nat_eq, List, [], ◌∷◌}
+use Rattle.std.specs.Prelude.{ℕ, zero, suc, ◌+◌, ◌-◌, Bool, false, cond, ◌||◌, nat_eq, List, [], ◌∷◌}
 use Rattle.bk_form.specs.declared.token.Token.{Token}
 use Rattle.bk_form.specs.declared.token.TokenKind.{TokenKind}
 use Rattle.bk_form.specs.declared.token.TokenKind.TheVariants.{Sign, Word}
@@ -40,12 +40,25 @@ opens kind = opens_bracket kind || opens_block kind
 abbrev pub closes : TokenKind → Bool
 closes kind = closes_bracket kind || closes_block kind
 
--- how many stay open behind one that closes; never fewer than none
+-- one fewer of those that are open; never fewer than none
 abbrev pub one_less : ℕ → ℕ
 one_less zero = zero
 one_less (suc n) = n
 
--- how many are open behind these tokens, where so many are open before them and the tests say what opens and what closes
-abbrev pub open_behind : (TokenKind → Bool) → (TokenKind → Bool) → ℕ → List Token → ℕ
-open_behind opening closing n [] = n
-open_behind opening closing n (t ∷ ts) = open_behind opening closing (cond (opening t.kind) (suc n) (cond (closing t.kind) (one_less n) n)) ts
+-- how many are open behind a token, where so many are open before it and the tests say what opens and what closes. It does
+-- not fall below 0
+abbrev pub open_behind : (TokenKind → Bool) → (TokenKind → Bool) → ℕ → TokenKind → ℕ
+open_behind opening closing n kind = cond (opening kind) (n + 1) (cond (closing kind) (n - 1) n)
+
+-- how many are open behind these tokens, where so many are open before them
+abbrev pub count_open : (TokenKind → Bool) → (TokenKind → Bool) → ℕ → List Token → ℕ
+count_open opening closing n [] = n
+count_open opening closing n (token ∷ tokens) = count_open opening closing (open_behind opening closing n token.kind) tokens
+
+-- how many brackets are open behind these tokens
+abbrev pub open_brackets : List Token → ℕ
+open_brackets tokens = count_open opens_bracket closes_bracket 0 tokens
+
+-- how many blocks are open behind them
+abbrev pub open_blocks : List Token → ℕ
+open_blocks tokens = count_open opens_block closes_block 0 tokens

@@ -3,7 +3,7 @@ use Rattle.std.specs.Prelude.{◌≡◌, ◌⊎◌, ◌≤◌, ◌+◌, ℕ, tru
 use Rattle.bk_form.specs.declared.token.Token.{Token}
 use Rattle.bk_form.specs.declared.token.TokenKind.TheVariants.{Word}
 use Rattle.bk_ops.specs.declared.word.TheConstants.{END}
-use Rattle.bk_raw.specs.Brackets.{opens, closes, open_behind}
+use Rattle.bk_raw.specs.Brackets.{opens, closes, count_open}
 use Rattle.bk_raw.specs.RawTree.{RawTree}
 use Rattle.bk_raw.specs.Spelling.{Spells}
 use Rattle.bk_raw.specs.SubTree.{SubTree}
@@ -45,7 +45,7 @@ LongestIsOne = (tokens : List Token) (s t : SubTree) (w v r q : List Token) → 
 -- ---- inside a clause
 -- no word of a component stands in a clause outside of brackets and blocks, but the clause's own first
 abbrev pub NoWordInside : Type 0
-NoWordInside = (c : RawClause) (first word : Token) (front back : List Token) → Clause c (first ∷ (front ++ word ∷ back)) → open_behind opens closes 0 front ≡ 0 → is_component_word word.kind ≡ true → ⊥
+NoWordInside = (c : RawClause) (first word : Token) (front back : List Token) → Clause c (first ∷ (front ++ word ∷ back)) → count_open opens closes 0 front ≡ 0 → is_component_word word.kind ≡ true → ⊥
 
 -- ---- places of faults
 -- tokens have at most one place of fault as a component, and so at most one byte of fault

@@ -1,7 +1,7 @@
 -- How deep and how high what is written may be.
 use Rattle.std.specs.Prelude.{ℕ, ◌+◌, ◌<◌, ◌≤◌, List, length, map, take}
 use Rattle.bk_form.specs.declared.token.Token.{Token}
-use Rattle.bk_raw.specs.Brackets.{opens_bracket, closes_bracket, opens_block, closes_block, open_behind}
+use Rattle.bk_raw.specs.Brackets.{open_brackets, open_blocks}
 use Rattle.bk_raw.specs.Numbers.{greatest}
 use Rattle.bk_raw.specs.SubTree.{SubTree, sub_height}
 use Rattle.bk_raw.specs.ComponentTree.{RawComponent, component_height}
@@ -9,7 +9,7 @@ use Rattle.bk_raw.specs.ScriptTree.{RawScript, script_height}
 
 -- behind these tokens at most 400 brackets are open, and at most 400 blocks
 abbrev pub IsWithinDepth : List Token → Type 0
-IsWithinDepth tokens = (open_behind opens_bracket closes_bracket 0 tokens ≤ 400) × (open_behind opens_block closes_block 0 tokens ≤ 400)
+IsWithinDepth tokens = (open_brackets tokens ≤ 400) × (open_blocks tokens ≤ 400)
 
 -- so it is behind each of the tokens
 abbrev pub IsShallow : List Token → Type 0

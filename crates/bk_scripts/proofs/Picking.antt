@@ -12,12 +12,13 @@ use Rattle.bk_raw.specs.Spelling.{Spells}
 use Rattle.bk_raw.proofs.Exact.{one_for_its_tokens}
 use Rattle.bk_raw.proofs.SoundTerms.{read_spells}
 use Rattle.bk_raw.proofs.Longest.{read_is_longest}
-use Rattle.bk_p_expr.specs.Depth.{opens_block, closes_block, open_behind, count_open, open_blocks, IsTooDeepFrom}
+use Rattle.bk_raw.specs.Brackets.{opens_block, closes_block, open_behind, count_open, open_blocks}
+use Rattle.bk_p_expr.specs.Depth.{IsTooDeepFrom}
 use Rattle.bk_p_expr.specs.Longest.{SpellsBetween, IsLongest}
 use Rattle.bk_p_expr.specs.Faults.{IsTermFault}
 use Rattle.bk_p_expr.specs.declared.fault.SynFault.{SynFault}
 use Rattle.bk_p_expr.specs.declared.fault.SynFault.TheVariants.{At, Depth, High, Memory}
-use Rattle.bk_scripts.specs.Form.{IsShallow}
+use Rattle.bk_p_expr.specs.Texts.{HasFewBrackets}
 use Rattle.bk_scripts.specs.Sums.{stands_in_sum, IsOfSums, BeginsNoSum}
 use Rattle.bk_scripts.specs.Reader.{is_sum, ends_pick, begins_with, pick_of}
 use Rattle.bk_scripts.proofs.Fronts.{Ends}
@@ -166,13 +167,13 @@ take-sums (suc n) [] h = All-nil (λ u. stands_in_sum u.kind ≡ true)
 take-sums (suc n) (t ∷ ts) h =
     All-cons (λ u. stands_in_sum u.kind ≡ true) t (take n ts) (All-head (λ u. stands_in_sum u.kind ≡ true) t ts h) (take-sums n ts (All-tail (λ u. stands_in_sum u.kind ≡ true) t ts h))
 
-not-deep : (ts : List Token) (place : ℕ) → IsOfSums ts → IsShallow ts → IsTooDeepFrom ts 0 place → ⊥
+not-deep : (ts : List Token) (place : ℕ) → IsOfSums ts → HasFewBrackets ts → IsTooDeepFrom ts 0 place → ⊥
 not-deep ts place free shallow h =
     let blocks : open_blocks (take (h.0 + 1) ts) ≤ 0 = count-less 0 (take (h.0 + 1) ts) (take-sums (h.0 + 1) ts free) in
     h.2.deep (omega (arith, shallow (h.0 + 1)), omega (arith, blocks))
 
 -- ---- why no term is read
-pub no_pick : (ts piece others : List Token) (fault : SynFault) → IsCut ts piece others → length ts ≤ 1000 → IsShallow ts → IsTermFault piece 0 fault → (fault ≡ Memory → ⊥) → pick_of ts ≡ None
+pub no_pick : (ts piece others : List Token) (fault : SynFault) → IsCut ts piece others → length ts ≤ 1000 → HasFewBrackets ts → IsTermFault piece 0 fault → (fault ≡ Memory → ⊥) → pick_of ts ≡ None
 no_pick ts piece others (At place) cut short shallow h other = none-by (pick_of ts) (λ p e.
     let i = in-piece ts piece others p cut (pick-kept ts p e) in
     h.2 p.0 (length i.written) (between piece i.written i.more p.0 i.is i.spelling))

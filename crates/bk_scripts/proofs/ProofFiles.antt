@@ -3,12 +3,12 @@ use Rattle.std.proofs.Common.{◌≡◌, ◌≤◌, ◌<◌, ◌⊎◌, inl, inr
 use Rattle.std.specs.Prelude.{Bool, true, false, ◌&&◌, ◌||◌, nat_eq, nat_le, codes, MatchOption, IfOk}
 use Rattle.std.proofs.lemmas.Bool.{and_parts, or_cases, or_right, false≢true, eqb-true, leb-true, le-leb}
 use Rattle.bk_form.specs.declared.token.Token.{Token}
-use Rattle.bk_raw.specs.Brackets.{opens_bracket, closes_bracket}
-use Rattle.bk_p_expr.specs.Depth.{open_behind, count_open}
+use Rattle.bk_raw.specs.Brackets.{opens_bracket, closes_bracket, open_behind, count_open}
 use Rattle.bk_lex.specs.Lexis.{AreTokens}
 use Rattle.bk_lex.proofs.Cutting.{tokens_are_one}
 use Rattle.bk_scripts.specs.WrittenRule.{Script}
-use Rattle.bk_scripts.specs.Form.{IsPlain, HasNoComment, IsShallow}
+use Rattle.bk_scripts.specs.Form.{IsPlain}
+use Rattle.bk_p_expr.specs.Texts.{HasNoComment, HasFewBrackets}
 use Rattle.bk_scripts.specs.Files.{Scripts, IsProofFile}
 use Rattle.bk_scripts.specs.Checks.{has_comment, is_shallow_from}
 use Rattle.bk_scripts.specs.Reader.{scripts_of}
@@ -82,7 +82,7 @@ shallow-from n (t ∷ ts) l e (suc k) =
     let two = and_parts (nat_le (next_open n t) 100) (is_shallow_from (next_open n t) ts) e in
     shallow-from (next_open n t) ts (leb-true (next_open n t) 100 two.0) two.1 k
 
-pub shallow_is : (ts : List Token) → is_shallow_from 0 ts ≡ true → IsShallow ts
+pub shallow_is : (ts : List Token) → is_shallow_from 0 ts ≡ true → HasFewBrackets ts
 shallow_is ts e = shallow-from 0 ts (omega arith) e
 
 not-shallow-from : (n : ℕ) (ts : List Token) → is_shallow_from n ts ≡ false → ((k : ℕ) → count n (take k ts) ≤ 100) → ⊥
@@ -91,7 +91,7 @@ not-shallow-from n (t ∷ ts) e h =
     let first = le-leb (next_open n t) 100 (h 1) in
     not-shallow-from (next_open n t) ts (sym (ap (λ b. b && is_shallow_from (next_open n t) ts) first) ∙ e) (λ k. h (suc k))
 
-pub shallow_not : (ts : List Token) → is_shallow_from 0 ts ≡ false → IsShallow ts → ⊥
+pub shallow_not : (ts : List Token) → is_shallow_from 0 ts ≡ false → HasFewBrackets ts → ⊥
 shallow_not ts e h = not-shallow-from 0 ts e h
 
 -- ---- proof files
@@ -108,14 +108,14 @@ pub not_plain : (text : List ℕ) (tokens : List Token) → AreTokens text token
 not_plain text tokens cut other list p = other (subst (All (λ t. IsPlain t.kind)) (same-tokens text tokens list cut p) p.plain)
 
 pub too_deep : (text : List ℕ) (tokens : List Token) → AreTokens text tokens → is_shallow_from 0 tokens ≡ false → (list : List Script) → IsProofFile text list → ⊥
-too_deep text tokens cut deep list p = shallow_not tokens deep (subst IsShallow (same-tokens text tokens list cut p) p.shallow)
+too_deep text tokens cut deep list p = shallow_not tokens deep (subst HasFewBrackets (same-tokens text tokens list cut p) p.shallow)
 
 pub no_scripts : (text : List ℕ) (tokens : List Token) → AreTokens text tokens → scripts_of (length tokens) tokens ≡ None → (list : List Script) → IsProofFile text list → ⊥
 no_scripts text tokens cut none list p =
     let written : Scripts list tokens = subst (Scripts list) (same-tokens text tokens list cut p) p.written in
     none-some list (sym none ∙ scripts-complete (length tokens) list tokens (omega arith) written)
 
-pub has_scripts : (text : List ℕ) (tokens : List Token) (list : List Script) → AreTokens text tokens → HasNoComment text → All (λ t. IsPlain t.kind) tokens → length tokens ≤ 10000 → IsShallow tokens → scripts_of (length tokens) tokens ≡ Some list → IsProofFile text list
+pub has_scripts : (text : List ℕ) (tokens : List Token) (list : List Script) → AreTokens text tokens → HasNoComment text → All (λ t. IsPlain t.kind) tokens → length tokens ≤ 10000 → HasFewBrackets tokens → scripts_of (length tokens) tokens ≡ Some list → IsProofFile text list
 has_scripts text tokens list cut clean plain short shallow e = record {
   tokens = tokens;
   cut = cut;

@@ -2,9 +2,8 @@
 use Rattle.std.proofs.Common.{◌≡◌, ◌≤◌, ◌+◌, ◌-◌, ℕ, zero, suc, Bool, true, false, cond, List, [], ◌∷◌, ◌++◌, take, Option, Some, ap, subst, ◌∙◌, arith}
 use Rattle.bk_form.specs.declared.token.Token.{Token}
 use Rattle.bk_form.specs.declared.token.TokenKind.{TokenKind}
-use Rattle.bk_raw.specs.Brackets.{opens_bracket, closes_bracket}
-use Rattle.bk_p_expr.specs.Depth.{open_behind, count_open}
-use Rattle.bk_scripts.specs.Form.{IsShallow}
+use Rattle.bk_raw.specs.Brackets.{opens_bracket, closes_bracket, open_behind, count_open}
+use Rattle.bk_p_expr.specs.Texts.{HasFewBrackets}
 use Rattle.bk_scripts.specs.Reader.{behind_sign, behind_name, first_as}
 use Rattle.bk_scripts.proofs.Fronts.{Piece, Reader, Sound, none-some, map-some}
 use Rattle.bk_scripts.proofs.Tokens.{sign-head, name-head}
@@ -31,25 +30,25 @@ rest-from : (m : ℕ) (front rest : List Token) → ((n : ℕ) → count m (take
 rest-from m [] rest h n = omega (arith, h n, count-more 0 m (take n rest) (omega arith))
 rest-from m (t ∷ front) rest h n = rest-from (open_behind opens_bracket closes_bracket m t.kind) front rest (λ k. h (suc k)) n
 
-pub shallow_front : (ts front rest : List Token) → ts ≡ front ++ rest → IsShallow ts → IsShallow front
-shallow_front ts front rest e h = front-from 0 front rest (subst IsShallow e h)
+pub shallow_front : (ts front rest : List Token) → ts ≡ front ++ rest → HasFewBrackets ts → HasFewBrackets front
+shallow_front ts front rest e h = front-from 0 front rest (subst HasFewBrackets e h)
 
-pub shallow_rest : (ts front rest : List Token) → ts ≡ front ++ rest → IsShallow ts → IsShallow rest
-shallow_rest ts front rest e h = rest-from 0 front rest (subst IsShallow e h)
+pub shallow_rest : (ts front rest : List Token) → ts ≡ front ++ rest → HasFewBrackets ts → HasFewBrackets rest
+shallow_rest ts front rest e h = rest-from 0 front rest (subst HasFewBrackets e h)
 
-pub shallow-behind : (op : ℕ) (ts rest : List Token) → behind_sign op ts ≡ Some rest → IsShallow ts → IsShallow rest
+pub shallow-behind : (op : ℕ) (ts rest : List Token) → behind_sign op ts ≡ Some rest → HasFewBrackets ts → HasFewBrackets rest
 shallow-behind op ts rest e h = let s = sign-head op ts rest e in shallow_rest ts (s.0 ∷ []) rest s.1 h
 
-pub shallow-left : {A : Type 0} (f : Reader A) (W : A → Piece) → Sound f W → (ts : List Token) (p : A × List Token) → f ts ≡ Some p → IsShallow ts → IsShallow p.1
+pub shallow-left : {A : Type 0} (f : Reader A) (W : A → Piece) → Sound f W → (ts : List Token) (p : A × List Token) → f ts ≡ Some p → HasFewBrackets ts → HasFewBrackets p.1
 shallow-left f W sound ts p e h =
     let s = sound ts p e in
     shallow_rest ts s.0 p.1 (s.2 ∙ ap (λ r. s.0 ++ r) s.4) h
 
-pub shallow-first : {A : Type 0} (meant : TokenKind → Option A) (ts : List Token) (p : A × List Token) → first_as meant ts ≡ Some p → IsShallow ts → IsShallow p.1
+pub shallow-first : {A : Type 0} (meant : TokenKind → Option A) (ts : List Token) (p : A × List Token) → first_as meant ts ≡ Some p → HasFewBrackets ts → HasFewBrackets p.1
 shallow-first meant [] p e h = absurd (none-some p e)
 shallow-first {A} meant (t ∷ ts) p e h =
     let m = map-some (meant t.kind) (λ y. (y, ts)) p e in
     shallow_rest (t ∷ ts) (t ∷ []) p.1 (ap (λ (q : A × List Token). t ∷ q.1) m.2) h
 
-pub shallow-name : (text : List ℕ) (ts rest : List Token) → behind_name text ts ≡ Some rest → IsShallow ts → IsShallow rest
+pub shallow-name : (text : List ℕ) (ts rest : List Token) → behind_name text ts ≡ Some rest → HasFewBrackets ts → HasFewBrackets rest
 shallow-name text ts rest e h = let s = name-head text ts rest e in shallow_rest ts (s.0 ∷ []) rest s.1 h

@@ -7,7 +7,7 @@ use Rattle.bk_ops.specs.declared.sign.TheConstants.{PLUS, BAR}
 use Rattle.bk_raw.specs.Pieces.{◌⌢◌}
 use Rattle.bk_scripts.specs.WrittenRule.{WrittenRule}
 use Rattle.bk_scripts.specs.Writing.{IsRule}
-use Rattle.bk_scripts.specs.Form.{IsShallow}
+use Rattle.bk_p_expr.specs.Texts.{HasFewBrackets}
 use Rattle.bk_scripts.specs.Reader.{numeral, is_sign, digits_of, behind_sign, rule_at, short_rule_at}
 use Rattle.bk_scripts.proofs.Fronts.{Ends, Complete, Sound, none-some, map-some}
 use Rattle.bk_scripts.proofs.Shallow.{shallow_front}
@@ -83,7 +83,7 @@ rest_fits front x rest h = let s = rule-sound front (x, rest) h in omega (arith,
 pub front_short : (ts front : List Token) → front ≡ take 1000 ts → length front ≤ 1000
 front_short ts front e = omega (arith, ap length e, length-take 1000 ts)
 
-pub front_shallow : (ts front : List Token) → front ≡ take 1000 ts → IsShallow ts → IsShallow front
+pub front_shallow : (ts front : List Token) → front ≡ take 1000 ts → HasFewBrackets ts → HasFewBrackets front
 front_shallow ts front e h = shallow_front ts front (drop 1000 ts) (sym (take-append-drop 1000 ts) ∙ ap (λ us. us ++ drop 1000 ts) (sym e)) h
 
 pub front_within : (ts front rest : List Token) → front ≡ take 1000 ts → length front - length rest ≤ length ts

@@ -2,8 +2,7 @@
 use Rattle.std.specs.Prelude.{ℕ, Bool, true, false, not, ◌&&◌, ◌||◌, nat_eq, nat_le, List, [], ◌∷◌}
 use Rattle.std.specs.Str.{bytes_eq}
 use Rattle.bk_form.specs.declared.token.Token.{Token}
-use Rattle.bk_raw.specs.Brackets.{opens_bracket, closes_bracket}
-use Rattle.bk_p_expr.specs.Depth.{open_behind}
+use Rattle.bk_raw.specs.Brackets.{opens_bracket, closes_bracket, open_behind}
 use Rattle.bk_scripts.specs.WrittenRule.{Script}
 
 -- a comment begins in the text, or with the slash before it, if there is one

@@ -4,10 +4,11 @@ use Rattle.std.specs.Prelude.{◌≡◌, ◌≢◌, ◌≤◌, ◌<◌, ◌+◌,
 use Rattle.std.specs.List.{AllZip, AllPairs, flat_map, join_with_byte}
 use Rattle.bk_form.specs.declared.token.Token.{Token}
 use Rattle.bk_ops.specs.declared.sign.TheConstants.{DOT, SEMICOLON}
-use Rattle.bk_raw.specs.Pieces.{◌⌢◌, Digits}
+use Rattle.bk_raw.specs.Pieces.{◌⌢◌, Digits, Absent}
 use Rattle.bk_lex.specs.Lexis.{AreTokens}
 use Rattle.bk_scripts.specs.WrittenRule.{Script}
-use Rattle.bk_scripts.specs.Form.{Absent, IsPlain, HasNoComment, IsShallow}
+use Rattle.bk_scripts.specs.Form.{IsPlain}
+use Rattle.bk_p_expr.specs.Texts.{HasNoComment, HasFewBrackets}
 use Rattle.bk_scripts.specs.Letters.{Lettered}
 use Rattle.bk_scripts.specs.Writing.{Divided, AnyDivided, IsRule}
 use Rattle.bk_scripts.specs.declared.fault.ScriptFault.{ScriptFault}
@@ -56,7 +57,7 @@ pub record IsProofFile (text : List ℕ) (scripts : List Script) : Type 0 where
   pub plain : All (λ t. IsPlain t.kind) tokens
   pub written : Scripts scripts tokens
   pub short : length tokens ≤ 10000
-  pub shallow : IsShallow tokens
+  pub shallow : HasFewBrackets tokens
 
 -- the scripts of these texts, in order; no two have one name
 pub record AreScriptsOf (texts : List (List ℕ)) (scripts : List Script) : Type 0 where

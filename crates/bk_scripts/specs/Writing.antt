@@ -4,13 +4,12 @@ use Rattle.std.specs.Prelude.{◌≡◌, ◌⊎◌, ◌≤◌, ℕ, ℤ, List, [
 use Rattle.bk_form.specs.Formula.{literal}
 use Rattle.bk_form.specs.declared.token.Token.{Token}
 use Rattle.bk_ops.specs.declared.sign.TheConstants.{OPEN_PAREN, CLOSE_PAREN, COMMA, MEMBER, TIMES, PLUS, DIVIDE, BAR}
-use Rattle.bk_raw.specs.Pieces.{Never, JustSign, ◌⌢◌, InParentheses, Digits, Literal}
+use Rattle.bk_raw.specs.Pieces.{Never, JustSign, ◌⌢◌, InParentheses, Digits, Literal, Absent}
 use Rattle.bk_raw.specs.RawTree.{RawTree, raw, raw_name, raw_level_name, raw_number, raw_infix}
 use Rattle.bk_raw.specs.Spelling.{Spells}
 use Rattle.bk_raw.specs.declared.operator.InfixOp.TheVariants.{Plus, Minus}
 use Rattle.bk_elab.specs.Terms.{number}
 use Rattle.bk_scripts.specs.WrittenRule.{WrittenPlace, in_goal, in_hypothesis, WrittenLine, multiples, divided, WrittenRule, rule_hyp, rule_same, rule_and, rule_left, rule_right, rule_split, rule_imp, rule_eq, rule_qe, rule_law, rule_lin}
-use Rattle.bk_scripts.specs.Form.{Absent}
 use Rattle.bk_scripts.specs.Letters.{Lettered, law_number}
 
 -- ---- lists

@@ -3,8 +3,7 @@
 ghost use Rattle.std.specs.Prelude.{◌≡◌, ◌≤◌, ◌↔◌, All, false, IsTrue};
 ghost use Rattle.bk_form.specs.declared.token.TokenKind.{TokenKind};
 ghost use Rattle.bk_form.specs.declared.token.TokenKind.TheVariants.{Sign};
-ghost use Rattle.bk_raw.specs.Brackets.{opens_bracket, closes_bracket};
-ghost use Rattle.bk_p_expr.specs.Depth.{open_behind};
+ghost use Rattle.bk_raw.specs.Brackets.{opens_bracket, closes_bracket, open_behind};
 ghost use Rattle.bk_scripts.specs.Form.{IsPlain};
 ghost use Rattle.bk_scripts.specs.Checks as checks;
 

@@ -3,7 +3,7 @@
 ghost use Rattle.std.specs.Prelude.{◌≡◌, ◌&&◌, ◌++◌, ◌≢◌, ◌≤◌, None, Some, true, length, IfOk, MatchOption, OnOk};
 ghost use Rattle.bk_ops.specs.declared.sign.TheConstants.{COMMA};
 ghost use Rattle.bk_p_expr.specs.declared.fault.SynFault.TheVariants.{Memory as NoMemory};
-ghost use Rattle.bk_scripts.specs.Form.{IsShallow};
+ghost use Rattle.bk_p_expr.specs.Texts.{HasFewBrackets};
 ghost use Rattle.bk_scripts.specs.Reader as reads;
 ghost use Rattle.bk_scripts.specs.Sums as sums;
 
@@ -99,7 +99,7 @@ fn had_memory(fault: SynFault) -> Result<(), Memory>
 // The term in front of the tokens, and the tokens behind it.
 fn pick(alloc: Global, tokens: &[Token]) -> Result<Option<(RawTerm, &[Token])>, Memory>
     requires short { length tokens.now ≤ 1000 }
-    requires shallow { IsShallow tokens.now }
+    requires shallow { HasFewBrackets tokens.now }
     ensures { IfOk result (λ found. MatchOption found (reads.pick_of tokens.now ≡ None)
         (λ p. reads.pick_of tokens.now ≡ Some (p.0, p.1.now))) }
 {
@@ -123,7 +123,7 @@ fn pick(alloc: Global, tokens: &[Token]) -> Result<Option<(RawTerm, &[Token])>, 
 // The terms in front of the tokens, with commas between, and the tokens behind the closing parenthesis.
 fn listed(alloc: Global, tokens: &[Token]) -> Result<Option<(Vec<RawTerm>, &[Token])>, Memory>
     requires short { length tokens.now ≤ 1000 }
-    requires shallow { IsShallow tokens.now }
+    requires shallow { HasFewBrackets tokens.now }
     ensures { IfOk result (λ found. MatchOption found (reads.listed_of tokens.now ≡ None)
         (λ p. reads.listed_of tokens.now ≡ Some (p.0.items, p.1.now))) }
 {
@@ -151,7 +151,7 @@ pub(crate) fn picks(
     tokens: &[Token],
 ) -> Result<Option<(Vec<RawTerm>, &[Token])>, Memory>
     requires short { length tokens.now ≤ 1000 }
-    requires shallow { IsShallow tokens.now }
+    requires shallow { HasFewBrackets tokens.now }
     ensures { IfOk result (λ found. MatchOption found (reads.picks_of tokens.now ≡ None)
         (λ p. reads.picks_of tokens.now ≡ Some (p.0.items, p.1.now))) }
 {

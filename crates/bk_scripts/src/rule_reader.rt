@@ -1,7 +1,7 @@
 //! Rules of proof.
 
 ghost use Rattle.std.specs.Prelude.{◌≡◌, ◌≤◌, None, Some, length, IfOk, MatchOption};
-ghost use Rattle.bk_scripts.specs.Form.{IsShallow};
+ghost use Rattle.bk_p_expr.specs.Texts.{HasFewBrackets};
 ghost use Rattle.bk_scripts.specs.Stored.{place_of, rule_of};
 ghost use Rattle.bk_scripts.specs.Reader as reads;
 
@@ -66,7 +66,7 @@ fn numbered_place(
 // What stands behind `law`.
 fn law(alloc: Global, tokens: &[Token]) -> Result<Option<(RawRule, &[Token])>, Memory>
     requires short { length tokens.now ≤ 1000 }
-    requires shallow { IsShallow tokens.now }
+    requires shallow { HasFewBrackets tokens.now }
     ensures { IfOk result (λ found. MatchOption found (reads.law_of tokens.now ≡ None)
         (λ p. reads.law_of tokens.now ≡ Some (rule_of p.0, p.1.now))) }
 {
@@ -107,7 +107,7 @@ fn ruled(
     tokens: &[Token],
 ) -> Result<Option<(RawRule, &[Token])>, Memory>
     requires short { length tokens.now ≤ 1000 }
-    requires shallow { IsShallow tokens.now }
+    requires shallow { HasFewBrackets tokens.now }
     ensures { IfOk result (λ found. MatchOption found (reads.ruled_by keyword tokens.now ≡ None)
         (λ p. reads.ruled_by keyword tokens.now ≡ Some (rule_of p.0, p.1.now))) }
 {
@@ -135,7 +135,7 @@ fn ruled(
 /// The rule in front of the tokens, and the tokens behind it.
 pub(crate) fn rule(alloc: Global, tokens: &[Token]) -> Result<Option<(RawRule, &[Token])>, Memory>
     requires short { length tokens.now ≤ 1000 }
-    requires shallow { IsShallow tokens.now }
+    requires shallow { HasFewBrackets tokens.now }
     ensures { IfOk result (λ found. MatchOption found (reads.rule_at tokens.now ≡ None)
         (λ p. reads.rule_at tokens.now ≡ Some (rule_of p.0, p.1.now))) }
 {

@@ -2,7 +2,7 @@
 
 ghost use Rattle.std.specs.Prelude.{◌≡◌, ◌≤◌, None, Some, length, map, take, IfOk, MatchOption};
 ghost use Rattle.bk_ops.specs.declared.sign.TheConstants.{SEMICOLON};
-ghost use Rattle.bk_scripts.specs.Form.{IsShallow};
+ghost use Rattle.bk_p_expr.specs.Texts.{HasFewBrackets};
 ghost use Rattle.bk_scripts.specs.Stored.{rule_of};
 ghost use Rattle.bk_scripts.specs.Reader as reads;
 
@@ -32,7 +32,7 @@ fn front(tokens: &[Token]) -> &[Token]
 
 // The rule in front of the tokens, of at most so many of them, and the tokens behind it.
 fn short_rule(alloc: Global, tokens: &[Token]) -> Result<Option<(RawRule, &[Token])>, Memory>
-    requires shallow { IsShallow tokens.now }
+    requires shallow { HasFewBrackets tokens.now }
     ensures { IfOk result (λ found. MatchOption found (reads.short_rule_at tokens.now ≡ None)
         (λ p. reads.short_rule_at tokens.now ≡ Some (rule_of p.0, p.1.now))) }
 {
@@ -45,7 +45,7 @@ fn short_rule(alloc: Global, tokens: &[Token]) -> Result<Option<(RawRule, &[Toke
 
 // The rules in front of the tokens, with semicolons between, and the tokens behind them. There may be none.
 fn rules(alloc: Global, tokens: &[Token]) -> Result<Option<(Vec<RawRule>, &[Token])>, Memory>
-    requires shallow { IsShallow tokens.now }
+    requires shallow { HasFewBrackets tokens.now }
     ensures { IfOk result (λ found. MatchOption found (reads.any_of SEMICOLON reads.short_rule_at tokens.now ≡ None)
         (λ p. reads.any_of SEMICOLON reads.short_rule_at tokens.now ≡ Some (map rule_of p.0.items, p.1.now))) }
 {
@@ -67,7 +67,7 @@ fn rules(alloc: Global, tokens: &[Token]) -> Result<Option<(Vec<RawRule>, &[Toke
 // What stands behind `proof`, up to its `end`, and the tokens behind that.
 fn script_behind(alloc: Global, tokens: &[Token]) -> Result<Option<(Script, &[Token])>, Memory>
     requires short { length tokens.now ≤ 10000 }
-    requires shallow { IsShallow tokens.now }
+    requires shallow { HasFewBrackets tokens.now }
     ensures { IfOk result (λ found. MatchOption found (reads.script_behind tokens.now ≡ None)
         (λ p. reads.script_behind tokens.now ≡ Some (p.0, p.1.now))) }
 {
@@ -86,7 +86,7 @@ fn script_behind(alloc: Global, tokens: &[Token]) -> Result<Option<(Script, &[To
 // The script in front of the tokens, and the tokens behind it.
 fn script(alloc: Global, tokens: &[Token]) -> Result<Option<(Script, &[Token])>, Memory>
     requires short { length tokens.now ≤ 10000 }
-    requires shallow { IsShallow tokens.now }
+    requires shallow { HasFewBrackets tokens.now }
     ensures { IfOk result (λ found. MatchOption found (reads.script_at tokens.now ≡ None)
         (λ p. reads.script_at tokens.now ≡ Some (p.0, p.1.now))) }
 {
@@ -99,7 +99,7 @@ fn script(alloc: Global, tokens: &[Token]) -> Result<Option<(Script, &[Token])>,
 /// The scripts that all of the tokens are written as.
 pub(crate) fn all_scripts(alloc: Global, tokens: &[Token]) -> Result<Option<Vec<Script>>, Memory>
     requires short { length tokens.now ≤ 10000 }
-    requires shallow { IsShallow tokens.now }
+    requires shallow { HasFewBrackets tokens.now }
     ensures { IfOk result (λ found. MatchOption found (reads.scripts_of (length tokens.now) tokens.now ≡ None)
         (λ scripts. reads.scripts_of (length tokens.now) tokens.now ≡ Some scripts.items)) }
 {

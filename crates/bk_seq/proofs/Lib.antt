@@ -2,3 +2,4 @@ pub mod Validity
 pub mod Paths
 pub mod PathLaws
 pub mod Typing
+pub mod Widening

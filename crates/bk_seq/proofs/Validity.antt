@@ -1,7 +1,7 @@
 -- What every valid sequent allows.
 use Rattle.std.proofs.Common.{◌≡◌, refl, ap, Bool, true, false, not}
 use Rattle.bk_form.specs.Meaning.{truth}
-use Rattle.bk_bind.specs.Valid.{in_state}
+use Rattle.bk_form.specs.Environment.{at_state}
 use Rattle.bk_seq.specs.Laws.{IsAssumed, Weakens, Contradicts}
 
 pub assumed : IsAssumed
@@ -11,8 +11,8 @@ pub weakens : Weakens
 weakens table p goal hyps valid find law e typed hold = valid find law e typed hold.1
 
 pub contradicts : Contradicts
-contradicts table goal hyps valid find law e typed hold = by_truth (truth find (in_state table e) goal) refl
+contradicts table goal hyps valid find law e typed hold = by_truth (truth find (at_state table e) goal) refl
   where
-    by_truth : (b : Bool) → truth find (in_state table e) goal ≡ b → truth find (in_state table e) goal ≡ true
+    by_truth : (b : Bool) → truth find (at_state table e) goal ≡ b → truth find (at_state table e) goal ≡ true
     by_truth true h = h
     by_truth false h = let never : false ≡ true = valid find law e typed (ap not h, hold) in absurd (cc)

@@ -1,9 +1,11 @@
 -- Laws of validity, as statements.
-use Rattle.std.specs.Prelude.{List, ◌∷◌}
-use Rattle.bk_form.specs.Table.{Table}
+use Rattle.std.specs.Prelude.{List, ◌∷◌, ◌↔◌}
+use Rattle.bk_form.specs.Table.{Table, IsWellFormed}
 use Rattle.bk_form.specs.Formula.{Formula, bfalse, unary}
 use Rattle.bk_form.specs.declared.operator.UnOp.TheVariants.{Not}
 use Rattle.bk_bind.specs.Valid.{IsValid}
+use Rattle.bk_seq.specs.Sequents.{IsValidSequent, Sequent, Types}
+use Rattle.bk_form.specs.Wider.{IsWider}
 
 -- a goal that is the first hypothesis
 abbrev pub IsAssumed : Type 0
@@ -16,3 +18,7 @@ Weakens = (table : Table) (p goal : Formula) (hyps : List Formula) → IsValid t
 -- where the negated goal leads to what is never true, the goal holds
 abbrev pub Contradicts : Type 0
 Contradicts = (table : Table) (goal : Formula) (hyps : List Formula) → IsValid table (unary Not goal ∷ hyps) bfalse → IsValid table hyps goal
+
+-- a sequent over a table is valid there exactly where it is valid over a wider one
+abbrev pub ValidityWidens : Type 0
+ValidityWidens = (small large : Table) → IsWellFormed small → IsWellFormed large → IsWider small large → (s : Sequent) → Types small s → IsValidSequent small s ↔ IsValidSequent large s

@@ -1,6 +1,6 @@
 //! Laws of validity, and of places in formulas. Each is the contract of a function that does nothing.
 
-ghost use Rattle.bk_seq.specs.Laws.{IsAssumed, Weakens, Contradicts};
+ghost use Rattle.bk_seq.specs.Laws.{IsAssumed, Weakens, Contradicts, ValidityWidens};
 ghost use Rattle.bk_seq.specs.PathLaws.{PutStands, PutKeepsRole, PutKeepsMeaning, PartsType};
 
 /// What every valid sequent allows.
@@ -16,4 +16,9 @@ pub fn places()
     ensures role { PutKeepsRole }
     ensures meaning { PutKeepsMeaning }
     ensures parts { PartsType }
+{}
+
+/// A sequent is valid over a table exactly where it is valid over one with more variables or sets.
+pub fn wider_tables()
+    ensures { ValidityWidens }
 {}

@@ -2,12 +2,13 @@
 use Rattle.std.proofs.Common.{◌≡◌, ◌<◌, ℕ, zero, suc, pos, [], length, ◌∷◌, refl, sym, subst, true, arith}
 use Rattle.bk_form.specs.Formula.{variable, literal, btrue}
 use Rattle.bk_form.specs.Search.{Finder}
-use Rattle.bk_form.specs.Environment.{State}
+use Rattle.bk_form.specs.Environment.{State, at_state}
 use Rattle.bk_form.specs.Defined.{Defined}
-use Rattle.bk_gsl.specs.State.{at_state, holds}
+use Rattle.bk_gsl.specs.State.{holds}
 use Rattle.bk_gsl.specs.Run.{assigned}
 use Rattle.bk_dev.specs.Development.{level_at, body_at, whole}
-use Rattle.bk_dev.specs.Hypotheses.{AreTrue, unasserted_hypotheses}
+use Rattle.bk_dev.specs.Hypotheses.{unasserted_hypotheses}
+use Rattle.bk_form.specs.Predicates.{AllHold}
 use Rattle.bk_dev.specs.Claims.{Establishes, KeepsFlat, Answered, CarriesFlat, Carries}
 use Rattle.bk_dev.specs.Counter.{counter_table, counter}
 use Rattle.bk_dev.proofs.CounterFacts.{counter_facts}
@@ -41,7 +42,7 @@ module _ (find : Finder) where
   abbrev answered : ℕ → State → Type 0
   answered o = Answered find counter 1 (body_at counter 0 o).sub (body_at counter 1 o).outputs (body_at counter 0 o).outputs
 
-  carries-operation : (o : ℕ) → o < 3 → (e : State) → AreTrue find counter_table e (unasserted_hypotheses counter 1 o) → Establishes find counter 1 (whole (body_at counter 1 o)) e (answered o)
+  carries-operation : (o : ℕ) → o < 3 → (e : State) → AllHold find (at_state counter_table e) (unasserted_hypotheses counter 1 o) → Establishes find counter 1 (whole (body_at counter 1 o)) e (answered o)
   carries-operation zero l e h = record { ends = tt; clean = (tt, tt); results = λ f r. subst (answered 0) (sym r) (assigned find counter_table ((0, literal (pos 0)) ∷ []) (assigned find counter_table ((1, literal (pos 0)) ∷ []) e), refl, (refl, (refl, tt))) }
   carries-operation (suc zero) l e h = record { ends = tt; clean = (tt, tt); results = λ f r. subst (answered 1) (sym r) (assigned find counter_table ((0, literal (pos 10)) ∷ []) (assigned find counter_table ((1, literal (pos 10)) ∷ []) e), refl, (refl, (refl, tt))) }
   carries-operation (suc (suc zero)) l e h = record { ends = tt; clean = (tt, tt); results = λ f r. subst (answered 2) (sym r) (assigned find counter_table ((2, variable 0) ∷ []) (assigned find counter_table ((3, variable 1) ∷ []) e), refl, (h.1.0, (h.1.1.0, (h.1.1.0, tt)))) }
@@ -57,7 +58,7 @@ pub counter_is_carried : CounterIsCarried
 counter_is_carried find = ((λ e t h. tt), keeps find, carries find)
 
 pub counter_ends : CounterEnds
-counter_ends find = simple_ends find counter counter_facts counter_is_simple (tt, (tt, (tt, (tt, tt))), tt) (counter_is_carried find).0 (counter_is_carried find).1 carried
+counter_ends find = simple_ends find counter counter_facts counter_is_simple (counter_is_carried find).0 (counter_is_carried find).1 carried
   where
     carried : (j : ℕ) → suc j < length counter.levels → Carries find counter j
     carried zero h = (counter_is_carried find).2

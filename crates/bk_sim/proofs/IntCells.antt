@@ -7,10 +7,12 @@ use Rattle.bk_val.specs.Value.{int}
 use Rattle.bk_val.specs.ValueType.{ValueType, int_type, is_value_of}
 use Rattle.bk_form.specs.Table.{set_size, variable_type}
 use Rattle.bk_form.proofs.Members.{and-both}
-use Rattle.bk_gsl.specs.State.{IsTypedState, declared_type, among}
+use Rattle.bk_gsl.specs.State.{declared_type, among}
+use Rattle.bk_form.specs.Environment.{IsTypedState}
 use Rattle.bk_gsl.proofs.States.{among-append}
 use Rattle.bk_dev.specs.Development.{Head, Body, Development, level_at, last}
-use Rattle.bk_dev.specs.Facts.{is_input, is_variable_of, is_inner_of, home_of, Each, EachBody, IsHeadOf, IsDevelopment}
+use Rattle.bk_dev.specs.Facts.{is_input, is_variable_of, is_inner_of, home_of, EachBody, IsHeadOf, IsLawful}
+use Rattle.bk_form.specs.Each.{Each}
 use Rattle.bk_dev.specs.Layout.{cell_of}
 use Rattle.bk_gen.specs.Simple.{IsSimple}
 use Rattle.bk_gen.specs.Plain.{operation_cells}
@@ -100,7 +102,7 @@ operation_homes dev k (x ∷ hs) (m ∷ ms) (b ∷ bs) heads each n h =
     (λ l. or-right (v || i) r (all-among (λ y. is_inner_of k (home_of dev y)) b.outputs each.0.outputs n l)))
     rest
 
-pub cells_home : (dev : Development) → IsDevelopment dev → (n : ℕ) → among (last_cells dev) n ≡ true → has_cell (last dev) (home_of dev n) ≡ true
+pub cells_home : (dev : Development) → IsLawful dev → (n : ℕ) → among (last_cells dev) n ≡ true → has_cell (last dev) (home_of dev n) ≡ true
 cells_home dev f n h =
     let l = last_level dev f in
     let v = is_variable_of (last dev) (home_of dev n) in
@@ -110,5 +112,5 @@ cells_home dev f n h =
     (λ q. or-left (v || i) r (or-left v i (all-among (λ y. is_variable_of (last dev) (home_of dev y)) (level_at dev (last dev)).vars l.vars n q)))
     (operation_homes dev (last dev) dev.heads (level_at dev 0).bodies (level_at dev (last dev)).bodies f.heads l.bodies n)
 
-pub int_at_home : (dev : Development) → IsDevelopment dev → IsSimple dev → AreInts dev (last_cells dev)
+pub int_at_home : (dev : Development) → IsLawful dev → IsSimple dev → AreInts dev (last_cells dev)
 int_at_home dev f s x h = type_at_home dev f s (has_cell (last dev)) x refl (cells_home dev f x h)

@@ -10,3 +10,5 @@ pub mod IntCells
 pub mod Entries
 pub mod SimpleCode
 pub mod Carried
+pub mod FlatShown
+pub mod Moving

@@ -1,60 +1,67 @@
 -- The translation of a simple development follows its machine.
-use Rattle.std.proofs.Common.{◌≡◌, ◌⊎◌, inl, inr, ◌<◌, ◌≤◌, ℕ, zero, suc, ℤ, pos, ◌-ℤ◌, int_le, List, [], ◌∷◌, ◌++◌, length, map, take, replicate, refl, sym, ◌∙◌, ap, subst, Bool, true, false, cond, ◌||◌, ◌&&◌, nat_eq, nat_lt, arith, Some, None, Option, All}
-use Rattle.std.specs.Prelude.{slice_index_or}
-use Rattle.std.specs.List.{list_all, filter}
+use Rattle.std.proofs.Common.{◌≡◌, ◌⊎◌, inl, inr, ◌<◌, ◌≤◌, ℕ, zero, suc, ℤ, pos, ◌-ℤ◌, int_le, List, [], ◌∷◌, ◌++◌, length, map, replicate, refl, sym, ◌∙◌, ap, subst, Bool, true, false, cond, ◌||◌, ◌&&◌, nat_eq, nat_lt, arith, Some, None, Option, All}
+use Rattle.std.specs.Prelude.{slice_index_or, slice_get}
+use Rattle.std.specs.List.{list_all, filter, filter_map}
 use Rattle.std.proofs.lemmas.Bool.Decides.{nat_tests}
 use Rattle.std.proofs.lemmas.Option.{same_Some}
 use Rattle.std.proofs.lemmas.List.{length-replicate, length-map}
-use Rattle.std.proofs.lemmas.List.Elements.{All-head, All-tail}
+use Rattle.std.proofs.lemmas.List.Elements.{All-head, All-tail, All-append}
 use Rattle.bk_val.specs.Value.{int}
 use Rattle.bk_val.specs.ValueType.{int_type}
-use Rattle.bk_form.specs.Table.{Table, variable_type}
+use Rattle.bk_form.specs.Table.{Table, variable_type, IsWellFormed}
 use Rattle.bk_form.specs.Formula.{Formula, variable, literal, binary, btrue}
 use Rattle.bk_form.specs.Search.{Finder}
-use Rattle.bk_form.specs.Environment.{State}
+use Rattle.bk_form.specs.Environment.{State, at_state, IsTypedState}
 use Rattle.bk_form.specs.Meaning.{within as is_within}
 use Rattle.bk_form.specs.declared.operator.BinOp.TheVariants.{In, Range}
 use Rattle.bk_form.proofs.Domains.{interval-members}
 use Rattle.bk_gsl.specs.Substitution.{Substitution, skip, assign, if_else, pre}
-use Rattle.bk_gsl.specs.State.{at_state, holds, IsTypedState, declared_type, among, over}
+use Rattle.bk_gsl.specs.State.{holds, declared_type, among, over}
 use Rattle.bk_gsl.specs.Run.{Runs, Ends}
 use Rattle.bk_gsl.specs.Clean.{Clean}
 use Rattle.bk_gsl.proofs.States.{cases, over-at, over-off, over-typed, among-append, nat_eq-self, nat_eq-same}
 use Rattle.bk_gsl.proofs.Runs.{run-typed}
 use Rattle.bk_dev.specs.declared.kind.Home.{Home}
-use Rattle.bk_dev.specs.declared.kind.Home.TheVariants.{Constant, Input, Variable, Inner}
-use Rattle.bk_dev.specs.Development.{Head, Body, Level, Development, int_max, blank_body, blank_level, level_at, body_of, body_at, inputs_of, last, is_btrue, is_implementation, whole}
-use Rattle.bk_dev.specs.Facts.{is_constant, is_input, is_variable_of, is_variable_above, is_inner_of, home_of, Each, names_own, names_joined, IsSubOf, IsBodyOf, IsHeadOf, IsLink, IsDevelopment}
-use Rattle.bk_dev.specs.Hypotheses.{AreTrue, conjuncts, link_equation, value_equation, properties_of, values_at, joining, joinings_of, conditions_of, is_number, in_machine_range, input_ranges, init_hypotheses, unasserted_hypotheses}
+use Rattle.bk_dev.specs.declared.kind.Home.TheVariants.{Constant, Input, Abstract as AbstractHome, Concrete, Inner}
+use Rattle.bk_dev.specs.Development.{Head, Body, Level, Development, int_max, blank_body, level_at, body_of, body_at, inputs_of, last, is_btrue, is_implementation, whole}
+use Rattle.bk_dev.specs.Facts.{is_constant, is_input, is_variable_of, is_variable_above, is_inner_of, home_of, names_own, names_joined, IsSubOf, IsBodyOf, IsHeadOf, IsLink, IsLawful, IsDevelopment, LastIsFlat}
+use Rattle.bk_form.specs.Each.{Each}
+use Rattle.bk_dev.specs.Hypotheses.{value_equation, properties_of, values_at, joining, joinings_of, conditions_of, is_number, in_machine_range, input_ranges, init_hypotheses, unasserted_hypotheses}
+use Rattle.bk_form.specs.Predicates.{AllHold, conjuncts, equation}
 use Rattle.bk_dev.specs.Machine.{Abstract, HasValues, Opens, Call, IsCall, Gives, Pre}
-use Rattle.bk_dev.specs.Flattened.{flattened}
+use Rattle.bk_dev.specs.Flattened.{flattened, copied_in_levels}
 use Rattle.bk_dev.specs.Claims.{arrays_at, KeepsFlat, Keeps, CarriesFlat, Carries, ValuesMeet}
 use Rattle.bk_dev.specs.Layout.{arrays_of}
 use Rattle.bk_code.specs.declared.image.Image.{Image}
 use Rattle.bk_code.specs.declared.image.OpEntry.{OpEntry}
 use Rattle.bk_code.specs.Session.{first_start, outputs_of}
-use Rattle.bk_gen.specs.Simple.{IsSimpleStatement, IsSimple}
-use Rattle.bk_gen.specs.Translation.{init_code, operation_code}
+use Rattle.bk_gen.specs.Simple.{IsSimpleStatement, IsSimple, EvaluatesShallow}
+use Rattle.bk_gen.specs.Translation.{init_code, operation_code, translation}
 use Rattle.bk_gen.specs.Plain.{operation_cells, slot_of, block_code, blocks_code, plain_parameter, plain_entry, plain_image}
 use Rattle.bk_gen.proofs.Loadable.{AreInside, HasCells}
 use Rattle.bk_gen.proofs.Named.{init_named, operations_named, bodies_named}
 use Rattle.bk_dev.proofs.Levels.{last_paired, each-at, body-at, level_fact}
 use Rattle.bk_gen.proofs.Plain.{no_row_of, last_cells, cells_are, type_at_home, block_is, translation_is}
 use Rattle.bk_sim.specs.Shows.{number_as, as_number, AreOfKinds, shown, IsLinkedBy, Linked}
-use Rattle.bk_dev.specs.NoPar.{HasNoPar, HaveNoPar, LevelsHaveNoPar, UpperHaveNoPar}
-use Rattle.bk_sim.specs.Laws.{SimpleFollows, SimpleEnds}
+use Rattle.bk_gsl.specs.Flat.{IsFlat}
+use Rattle.bk_sim.specs.Laws.{SimpleFollows, SimpleEnds, FollowedWhereFlattened}
 use Rattle.bk_sim.specs.Within.{EndsWithin, CallEnds, EndsInCode}
 use Rattle.bk_sim.specs.Follows.{IsEntry, as_values, replies, started, GoesWell, IsDone, IsStep, HasOperations, OpensWell, CallsGoWell, Follows}
-use Rattle.bk_dev.proofs.Flat.{flattened_already}
 use Rattle.bk_sim.proofs.Chain.{linked_before, calls_decide}
 use Rattle.bk_sim.proofs.Ends.{done-well}
 use Rattle.bk_sim.proofs.Cells.{cell, all-at}
 use Rattle.bk_sim.proofs.Values.{AreShown}
 use Rattle.bk_sim.proofs.Blocks.{cells_after, StatementFits, HasBlock, Returned, block-returns, ran, ran-runs, after-shown, statement-fits, after-within, after-many}
-use Rattle.bk_dev.proofs.Agree.{or-left, or-right, both-true, all-none, holds-same, true-append, true-first, parts-true, whole-true, joining-same, all-among}
+use Rattle.bk_dev.proofs.Agree.{or-left, or-right, both-true, all-none, holds-same, joining-same, all-among}
+use Rattle.bk_form.proofs.Conjuncts.{true-append, true-first, parts-true, whole-true}
 use Rattle.bk_dev.proofs.Climb.{has_cell, flat-then, flat-if, is_before, input-before, variable-before, joined-before, own-before, one_of_three, map-same, Climbed, Carry, climbed}
 use Rattle.bk_sim.proofs.IntCells.{fits, kinds-then, kinds-if, shown-is, ints-typed, cells_home, int_at_home}
 use Rattle.bk_sim.proofs.Entries.{IsEntered, entered, have-at, given, given-other, given-many, given-pass, given-shown, args-fit}
+use Rattle.bk_sim.proofs.Moving.{follows-down, ends-down, meet-down}
+use Rattle.bk_dev.proofs.FlatSame.{low-same, complete-same, levels-many}
+use Rattle.bk_dev.proofs.Room.{picked-all, development-formed}
+use Rattle.bk_gen.proofs.SameCode.{codes-same}
+use Rattle.bk_dev.proofs.FlatLevels.{lawful}
 
 -- ---- numbers within bounds
 ranged : (find : Finder) (table : Table) (e : State) (x : ℕ) (low high z : ℤ) → e x ≡ int z → int_le low z && int_le z high ≡ true → holds find table e (binary In (variable x) (binary Range (literal low) (literal high))) ≡ true
@@ -65,14 +72,16 @@ cell_not_constant : (k : ℕ) (o : Option Home) → has_cell k o ≡ true → is
 cell_not_constant k None h c = absurd (cc)
 cell_not_constant k (Some Constant) h c = absurd (cc)
 cell_not_constant k (Some Input) h c = absurd (cc)
-cell_not_constant k (Some (Variable i)) h c = absurd (cc)
+cell_not_constant k (Some (AbstractHome i)) h c = absurd (cc)
+cell_not_constant k (Some (Concrete i)) h c = absurd (cc)
 cell_not_constant k (Some (Inner i)) h c = absurd (cc)
 
 variable_not_input : (k : ℕ) (o : Option Home) → is_variable_of k o ≡ true → is_input o ≡ false
 variable_not_input k None h = refl
 variable_not_input k (Some Constant) h = refl
 variable_not_input k (Some Input) h = absurd (cc)
-variable_not_input k (Some (Variable i)) h = refl
+variable_not_input k (Some (AbstractHome i)) h = refl
+variable_not_input k (Some (Concrete i)) h = refl
 variable_not_input k (Some (Inner i)) h = refl
 
 first-of : (b : Bool) → b || false || false ≡ true → b ≡ true
@@ -83,7 +92,8 @@ cell_variable : (j k : ℕ) (o : Option Home) → has_cell k o ≡ true → is_v
 cell_variable j k None h v = absurd (cc)
 cell_variable j k (Some Constant) h v = absurd (cc)
 cell_variable j k (Some Input) h v = absurd (cc)
-cell_variable j k (Some (Variable i)) h v = first-of (nat_eq i k) h
+cell_variable j k (Some (AbstractHome i)) h v = first-of (nat_eq i k) h
+cell_variable j k (Some (Concrete i)) h v = first-of (nat_eq i k) h
 cell_variable j k (Some (Inner i)) h v = absurd (cc)
 
 -- ---- small things
@@ -113,12 +123,12 @@ ends-condition : (find : Finder) (table : Table) (p : Formula) (s : Substitution
 ends-condition find table btrue s e h = refl
 ends-condition find table p s e h = h.0
 
-ranges-true : (find : Finder) (table : Table) (e : State) (F : ℕ → Formula) (test : ℕ → Bool) (xs : List ℕ) → ((x : ℕ) → among xs x ≡ true → holds find table e (F x) ≡ true) → AreTrue find table e (map F (filter test xs))
+ranges-true : (find : Finder) (table : Table) (e : State) (F : ℕ → Formula) (test : ℕ → Bool) (xs : List ℕ) → ((x : ℕ) → among xs x ≡ true → holds find table e (F x) ≡ true) → AllHold find (at_state table e) (map F (filter test xs))
 ranges-true find table e F test [] h = tt
 ranges-true find table e F test (x ∷ xs) h =
     let first = h x (or-left (nat_eq x x) (among xs x) (nat_eq-self x)) in
     let rest = ranges-true find table e F test xs (λ y k. h y (or-right (nat_eq y x) (among xs y) k)) in
-    elim (test x) as (λ b. AreTrue find table e (map F (cond b (x ∷ filter test xs) (filter test xs)))) [ true ↦ (first, rest) | false ↦ rest ]
+    elim (test x) as (λ b. AllHold find (at_state table e) (map F (cond b (x ∷ filter test xs) (filter test xs)))) [ true ↦ (first, rest) | false ↦ rest ]
 
 replies-are : (dev : Development) (cells : List ℕ) (k : List ℤ) (xs ys : List ℕ) → length xs ≡ length ys → ((y : ℕ) → among ys y ≡ true → declared_type dev.table y ≡ int_type) →
     as_values dev ys (outputs_of (map (plain_parameter cells) xs) k) ≡ map (λ x. int (cell cells k x)) xs
@@ -133,7 +143,7 @@ replies-are dev cells k (x ∷ xs) (y ∷ ys) many ints =
 abbrev blank_head : Head
 blank_head = record { name = []; inputs = []; outputs = 0 }
 
-module _ (find : Finder) (dev : Development) (f : IsDevelopment dev) (s : IsSimple dev) (meet : ValuesMeet find dev) (keeps : KeepsFlat find dev) (carries : (j : ℕ) → suc j ≤ last dev → CarriesFlat find dev j) where
+module _ (find : Finder) (dev : Development) (f : IsLawful dev) (s : IsSimple dev) (meet : ValuesMeet find dev) (keeps : KeepsFlat find dev) (carries : (j : ℕ) → suc j ≤ last dev → CarriesFlat find dev j) where
   abbrev cells : List ℕ
   cells = last_cells dev
 
@@ -154,16 +164,16 @@ module _ (find : Finder) (dev : Development) (f : IsDevelopment dev) (s : IsSimp
 
   -- ---- hypotheses that hold everywhere
   values-hold : (e : State) → HasValues find dev e
-  values-hold e = subst (λ vs. AreTrue find dev.table e (map value_equation vs)) (sym s.no_values) tt
+  values-hold e = subst (λ vs. AllHold find (at_state dev.table e) (map value_equation vs)) (sym s.no_values) tt
 
-  values-there : (k : ℕ) (e : State) → AreTrue find dev.table e (values_at dev k)
-  values-there k e = elim (is_implementation (level_at dev k)) as (λ b. AreTrue find dev.table e (cond b (map value_equation dev.values) [])) [ true ↦ values-hold e | false ↦ tt ]
+  values-there : (k : ℕ) (e : State) → AllHold find (at_state dev.table e) (values_at dev k)
+  values-there k e = elim (is_implementation (level_at dev k)) as (λ b. AllHold find (at_state dev.table e) (cond b (map value_equation dev.values) [])) [ true ↦ values-hold e | false ↦ tt ]
 
-  properties-hold : (k : ℕ) (e : State) → IsTypedState dev.table e → AreTrue find dev.table e (properties_of dev k)
+  properties-hold : (k : ℕ) (e : State) → IsTypedState dev.table e → AllHold find (at_state dev.table e) (properties_of dev k)
   properties-hold k e t = flat-if find dev e (λ l. conjuncts l.properties) k dev.levels (λ j p q. flat-then find dev e (λ l. conjuncts l.properties) (length dev.levels) dev.levels (meet e t (values-hold e)) j q q)
 
-  init-hyps : (k : ℕ) (e : State) → IsTypedState dev.table e → AreTrue find dev.table e (init_hypotheses dev k)
-  init-hyps k e t = true-append find dev.table e (properties_of dev (suc k)) (values_at dev k) (properties-hold (suc k) e t) (values-there k e)
+  init-hyps : (k : ℕ) (e : State) → IsTypedState dev.table e → AllHold find (at_state dev.table e) (init_hypotheses dev k)
+  init-hyps k e t = true-append find (at_state dev.table e) (properties_of dev (suc k)) (values_at dev k) (properties-hold (suc k) e t) (values-there k e)
 
   own-cell : (n : ℕ) → among low.vars n ≡ true → among cells n ≡ true
   own-cell n h = among-append low.vars (operation_cells dev.heads low.bodies) n ∙ or-left (among low.vars n) (among (operation_cells dev.heads low.bodies) n) h
@@ -176,11 +186,11 @@ module _ (find : Finder) (dev : Development) (f : IsDevelopment dev) (s : IsSimp
         let has = own-cell n h in
         c.kept n (cells_home dev f n has) ∙ shows n has ∙ sym (shown-is dev s k n (ints n has))
 
-    joined : (j : ℕ) → j < length dev.levels → AreTrue find dev.table c.after (joining (level_at dev j))
+    joined : (j : ℕ) → j < length dev.levels → AllHold find (at_state dev.table c.after) (joining (level_at dev j))
     joined zero h =
         let l = level_fact dev f 0 h in
-        true-append find dev.table c.after (conjuncts high.invariant) (map link_equation high.links) (parts-true find dev.table c.after high.invariant invariant)
-        (subst (λ ls. AreTrue find dev.table c.after (map link_equation ls)) (sym (no_links dev high.links l.links)) tt)
+        true-append find (at_state dev.table c.after) (conjuncts high.invariant) (map equation high.links) (parts-true find (at_state dev.table c.after) high.invariant invariant)
+        (subst (λ ls. AllHold find (at_state dev.table c.after) (map equation ls)) (sym (no_links dev high.links l.links)) tt)
     joined (suc j) h = c.joins (suc j) (omega arith) (omega arith)
 
     linked-after : IsLinkedBy find dev (map c.after high.vars) k c.after
@@ -336,7 +346,7 @@ module _ (find : Finder) (dev : Development) (f : IsDevelopment dev) (s : IsSimp
     above-kept zero n h = absurd (cc)
     above-kept (suc j) n h = variable-kept j n h
 
-    joining-e : (j : ℕ) → j < length dev.levels → AreTrue find dev.table e (joining (level_at dev j))
+    joining-e : (j : ℕ) → j < length dev.levels → AllHold find (at_state dev.table e) (joining (level_at dev j))
     joining-e j h =
         let w = level_fact dev f j h in
         joining-same find dev.table dev j (level_at dev j) w.invariant.names w.links e0 e
@@ -359,8 +369,8 @@ module _ (find : Finder) (dev : Development) (f : IsDevelopment dev) (s : IsSimp
     in-range : (x : State) → ((n : ℕ) → among head.inputs n ≡ true → x n ≡ e n) → (n : ℕ) → among head.inputs n ≡ true → holds find dev.table x (in_machine_range dev n) ≡ true
     in-range x same n h = ranged find dev.table x n (pos 0 -ℤ int_max dev) (int_max dev) (cell cells start_cells n) (same n h ∙ shown-e n (inside.0 n h)) (all-at (fits dev) start_cells (slot_of cells n) (pos 0) start-fit refl)
 
-    ranges-there : (k : ℕ) (x : State) → ((n : ℕ) → among head.inputs n ≡ true → x n ≡ e n) → AreTrue find dev.table x (input_ranges dev k c.op)
-    ranges-there k x same = elim (is_implementation (level_at dev k)) as (λ b. AreTrue find dev.table x (cond b (map (in_machine_range dev) (filter (λ y. is_number (variable_type dev.table y)) (inputs_of dev c.op))) [])) [
+    ranges-there : (k : ℕ) (x : State) → ((n : ℕ) → among head.inputs n ≡ true → x n ≡ e n) → AllHold find (at_state dev.table x) (input_ranges dev k c.op)
+    ranges-there k x same = elim (is_implementation (level_at dev k)) as (λ b. AllHold find (at_state dev.table x) (cond b (map (in_machine_range dev) (filter (λ y. is_number (variable_type dev.table y)) (inputs_of dev c.op))) [])) [
       | true ↦ ranges-true find dev.table x (in_machine_range dev) (λ y. is_number (variable_type dev.table y)) head.inputs (in-range x same)
       | false ↦ tt
     ]
@@ -369,25 +379,25 @@ module _ (find : Finder) (dev : Development) (f : IsDevelopment dev) (s : IsSimp
     Before : ℕ → Type 0
     Before k = (j : ℕ) → j ≤ k → holds find dev.table e (condition j) ≡ true
 
-    hyps : (k : ℕ) → suc k ≤ last dev → Before k → (x : State) → IsTypedState dev.table x → ((n : ℕ) → is_before (suc (suc k)) (home_of dev n) ≡ true → x n ≡ e n) → AreTrue find dev.table x (unasserted_hypotheses dev (suc k) c.op)
+    hyps : (k : ℕ) → suc k ≤ last dev → Before k → (x : State) → IsTypedState dev.table x → ((n : ℕ) → is_before (suc (suc k)) (home_of dev n) ≡ true → x n ≡ e n) → AllHold find (at_state dev.table x) (unasserted_hypotheses dev (suc k) c.op)
     unfolding Before
     hyps k m conditions x t same =
-        true-append find dev.table x (init_hypotheses dev (suc k) ++ joinings_of dev (suc (suc k)) ++ conditions_of dev (suc k) c.op) (input_ranges dev (suc k) c.op)
-        (true-append find dev.table x (init_hypotheses dev (suc k) ++ joinings_of dev (suc (suc k))) (conditions_of dev (suc k) c.op)
-        (true-append find dev.table x (init_hypotheses dev (suc k)) (joinings_of dev (suc (suc k))) (init-hyps (suc k) x t) (flat-if find dev x joining (suc (suc k)) dev.levels joins))
+        true-append find (at_state dev.table x) (init_hypotheses dev (suc k) ++ joinings_of dev (suc (suc k)) ++ conditions_of dev (suc k) c.op) (input_ranges dev (suc k) c.op)
+        (true-append find (at_state dev.table x) (init_hypotheses dev (suc k) ++ joinings_of dev (suc (suc k))) (conditions_of dev (suc k) c.op)
+        (true-append find (at_state dev.table x) (init_hypotheses dev (suc k)) (joinings_of dev (suc (suc k))) (init-hyps (suc k) x t) (flat-if find dev x joining (suc (suc k)) dev.levels joins))
         (flat-if find dev x (λ w. conjuncts (body_of w c.op).condition) (suc k) dev.levels conds))
         (ranges-there (suc k) x (λ n h. same n (input-before (suc (suc k)) (home_of dev n) (all-among (λ y. is_input (home_of dev y)) head.inputs head_fact.inputs n h))))
       where
-        joins : (j : ℕ) → j < suc (suc k) → j < length dev.levels → AreTrue find dev.table x (joining (level_at dev j))
+        joins : (j : ℕ) → j < suc (suc k) → j < length dev.levels → AllHold find (at_state dev.table x) (joining (level_at dev j))
         joins j p q =
             let w = level_fact dev f j q in
             joining-same find dev.table dev j (level_at dev j) w.invariant.names w.links e x (λ n h. sym (same n (joined-before dev (suc (suc k)) j p n h))) (joining-e j q)
 
-        conds : (j : ℕ) → j < suc k → j < length dev.levels → AreTrue find dev.table x (conjuncts (condition j))
+        conds : (j : ℕ) → j < suc k → j < length dev.levels → AllHold find (at_state dev.table x) (conjuncts (condition j))
         conds j p q =
             let w = fact j (omega arith) in
             let here : holds find dev.table x (condition j) ≡ holds find dev.table e (condition j) = holds-same find dev.table x e (names_own dev j head.inputs (outs j)) (condition j) w.condition_names (λ n h. same n (own-before dev (suc (suc k)) j (omega arith) head.inputs (outs j) head_fact.inputs w.outputs n h)) in
-            parts-true find dev.table x (condition j) (here ∙ conditions j (omega arith))
+            parts-true find (at_state dev.table x) (condition j) (here ∙ conditions j (omega arith))
 
     below-or-same : (j k : ℕ) → j ≤ suc k → (j ≤ k) ⊎ (j ≡ suc k)
     below-or-same j k h = by_test (nat_lt j (suc k)) refl
@@ -436,7 +446,7 @@ module _ (find : Finder) (dev : Development) (f : IsDevelopment dev) (s : IsSimp
 
         at : (k : ℕ) → last dev ≡ k → Clean find dev.table (Some (arrays_of dev)) (sub k) e
         at zero h =
-            let inv : holds find dev.table e high.invariant ≡ true = whole-true find dev.table e high.invariant (true-first find dev.table e (conjuncts high.invariant) (map link_equation high.links) (joining-e 0 (within 0 (omega arith)))) in
+            let inv : holds find dev.table e high.invariant ≡ true = whole-true find (at_state dev.table e) high.invariant (true-first find (at_state dev.table e) (conjuncts high.invariant) (map equation high.links) (joining-e 0 (within 0 (omega arith)))) in
             subst (λ o. Clean find dev.table o (sub 0) e) (arrays-last 0 h) (keeps.operations c.op is.op e typed-e (properties-hold 1 e typed-e) inv (true_before e (gives e typed-e (λ n q. refl)))).clean
         at (suc k) h =
             let below : suc k ≤ last dev = omega (arith, h) in
@@ -452,7 +462,7 @@ module _ (find : Finder) (dev : Development) (f : IsDevelopment dev) (s : IsSimp
     step-from w entry outputs_are =
         let given_before = gives w.before w.typed w.same in
         let zero-fact = fact 0 (omega arith) in
-        let inv-e : holds find dev.table e high.invariant ≡ true = whole-true find dev.table e high.invariant (true-first find dev.table e (conjuncts high.invariant) (map link_equation high.links) (joining-e 0 (within 0 (omega arith)))) in
+        let inv-e : holds find dev.table e high.invariant ≡ true = whole-true find (at_state dev.table e) high.invariant (true-first find (at_state dev.table e) (conjuncts high.invariant) (map equation high.links) (joining-e 0 (within 0 (omega arith)))) in
         let inv-before : holds find dev.table w.before high.invariant ≡ true = holds-same find dev.table w.before e (names_joined dev 0) high.invariant (level_fact dev f 0 (within 0 (omega arith))).invariant.names (λ n h. w.same n (joined-before dev 1 0 (omega arith) n h)) ∙ inv-e in
         let inv-after = (keeps.operations c.op is.op w.before w.typed (properties-hold 1 w.before w.typed) inv-before (true_before w.before given_before)).results w.after w.runs in
         let fit = after-within cells start_cells start-fit last_body.sub simple-body body-fits in
@@ -537,43 +547,80 @@ module _ (find : Finder) (dev : Development) (f : IsDevelopment dev) (s : IsSimp
   }
 
 -- ---- the law
-pub simple_has_no_par : (max : ℤ) (sub : Substitution) → IsSimpleStatement max sub → HasNoPar sub
+pub simple_has_no_par : (max : ℤ) (sub : Substitution) → IsSimpleStatement max sub → IsFlat sub
 simple_has_no_par max skip h = tt
 simple_has_no_par max (assign ps) h = tt
 simple_has_no_par max (if_else p u v) h = (simple_has_no_par max u h.1, simple_has_no_par max v h.2)
 simple_has_no_par max sub h = absurd h
 
-pub simple_have_no_par : (max : ℤ) (bs : List Body) → All (λ b. IsSimpleStatement max b.sub) bs → HaveNoPar bs
+pub simple_have_no_par : (max : ℤ) (bs : List Body) → All (λ b. IsSimpleStatement max b.sub) bs → Each (λ b. IsFlat b.sub) bs
 simple_have_no_par max [] h = tt
 simple_have_no_par max (b ∷ bs) h = (simple_has_no_par max b.sub (All-head (λ b. IsSimpleStatement max b.sub) b bs h), simple_have_no_par max bs (All-tail (λ b. IsSimpleStatement max b.sub) b bs h))
 
-all_have_no_par : (ls : List Level) (n : ℕ) → length ls ≡ suc n → LevelsHaveNoPar (take n ls) → HasNoPar (slice_index_or ls n blank_level).init → HaveNoPar (slice_index_or ls n blank_level).bodies → LevelsHaveNoPar ls
-all_have_no_par [] n many upper init bodies = tt
-all_have_no_par (l ∷ []) zero many upper init bodies = (init, bodies, tt)
-all_have_no_par (l ∷ m ∷ ls) zero many upper init bodies = absurd (omega (arith, many))
-all_have_no_par (l ∷ ls) (suc n) many upper init bodies = (upper.0, upper.1, all_have_no_par ls n (omega (arith, many)) upper.2 init bodies)
+pub followed_where_flattened : FollowedWhereFlattened
+followed_where_flattened find dev f b well image h = follows-down find dev f well b image h
 
--- what flattening leaves as it was
-module _ (find : Finder) (dev : Development) (f : IsDevelopment dev) (s : IsSimple dev) (upper : UpperHaveNoPar dev) where
-  flat : flattened dev ≡ dev
-  flat =
-      let some : 0 < length dev.levels = f.some_level in
-      let many : length dev.levels ≡ suc (last dev) = omega arith in
-      let low = level_at dev (last dev) in
-      flattened_already dev (all_have_no_par dev.levels (last dev) many upper (simple_has_no_par (int_max dev) low.init s.init) (simple_have_no_par (int_max dev) low.bodies s.bodies))
+module _ (dev : Development) (f : IsLawful dev) (s : IsSimple dev) where
+  last-flat : LastIsFlat dev
+  last-flat = record { init = simple_has_no_par (int_max dev) (level_at dev (last dev)).init s.init; bodies = simple_have_no_par (int_max dev) (level_at dev (last dev)).bodies s.bodies }
 
-  keeps-flat : Keeps find dev → KeepsFlat find dev
-  keeps-flat keeps = subst (KeepsFlat find) flat keeps
+  abbrev flat : Development
+  flat = flattened dev
 
-  carries-flat : ((j : ℕ) → suc j < length dev.levels → Carries find dev j) → (j : ℕ) → suc j ≤ last dev → CarriesFlat find dev j
-  carries-flat carries j h =
-      let some : 0 < length dev.levels = f.some_level in
-      subst (λ d. CarriesFlat find d j) flat (carries j (omega arith))
+  same : level_at flat (last flat) ≡ level_at dev (last dev)
+  same = low-same dev f.some_level last-flat.init last-flat.bodies
+
+  -- copies are whole numbers too
+  flat-simple : IsSimple flat
+  flat-simple = record {
+    complete = complete-same dev f.some_level last-flat.init last-flat.bodies ∙ s.complete;
+    no_sets = s.no_sets;
+    no_values = s.no_values;
+    whole_numbers = All-append (λ v. v.of_type ≡ int_type) dev.table.variables (filter_map (slice_get dev.table.variables) (copied_in_levels dev.levels)) s.whole_numbers
+        (picked-all (λ v. v.of_type ≡ int_type) dev.table.variables s.whole_numbers (copied_in_levels dev.levels));
+    init = subst (λ l. IsSimpleStatement (int_max dev) l.init) (sym same) s.init;
+    bodies = subst (λ l. All (λ b. IsSimpleStatement (int_max dev) b.sub) l.bodies) (sym same) s.bodies;
+    init_shallow = subst (λ l. EvaluatesShallow l.init) (sym same) s.init_shallow;
+    bodies_shallow = subst (λ l. All (λ b. EvaluatesShallow b.sub) l.bodies) (sym same) s.bodies_shallow;
+  }
+
+-- of a development whose substitutions are taken as they are
+module _ (find : Finder) (dev : Development) (f : IsLawful dev) (s : IsSimple dev) (meet : ValuesMeet find dev) (keeps : KeepsFlat find dev) (carries : (j : ℕ) → suc j < length dev.levels → CarriesFlat find dev j) where
+  carries-below : (j : ℕ) → suc j ≤ last dev → CarriesFlat find dev j
+  carries-below j h = let some : 0 < length dev.levels = f.some_level in carries j (omega (arith, h, some))
+
+  lawful_follows : Follows find dev (translation dev)
+  lawful_follows = subst (Follows find dev) (sym (translation_is dev f s)) (image-follows find dev f s meet keeps carries-below)
+
+  lawful_ends : EndsInCode find dev (translation dev)
+  lawful_ends = subst (EndsInCode find dev) (sym (translation_is dev f s)) (image-ends find dev f s meet keeps carries-below)
+
+module _ (find : Finder) (dev : Development) (d : IsDevelopment dev) (s : IsSimple dev) (meet : ValuesMeet find dev) (keeps : Keeps find dev) (carries : (j : ℕ) → suc j < length dev.levels → Carries find dev j) where
+  law : IsLawful dev
+  law = d.lawful
+
+  well : IsWellFormed (flattened dev).table
+  well = development-formed dev d
+
+  many : length (flattened dev).levels ≡ length dev.levels
+  many = levels-many (length dev.table.variables) dev.levels
+
+  carries-flat : (j : ℕ) → suc j < length (flattened dev).levels → CarriesFlat find (flattened dev) j
+  carries-flat j h = let same = many in carries j (omega (arith, h, same))
+
+  codes : translation (flattened dev) ≡ translation dev
+  codes = codes-same dev law (last-flat dev law s)
+
+  simple-followed : Follows find dev (translation dev)
+  simple-followed = follows-down find dev law well (last-flat dev law s) (translation dev)
+      (subst (Follows find (flattened dev)) codes (lawful_follows find (flattened dev) (lawful dev law well) (flat-simple dev law s) (meet-down find dev law well meet) keeps carries-flat))
+
+  simple-ended : EndsInCode find dev (translation dev)
+  simple-ended = ends-down find dev law (last-flat dev law s) well (translation dev) simple-followed
+      (subst (EndsInCode find (flattened dev)) codes (lawful_ends find (flattened dev) (lawful dev law well) (flat-simple dev law s) (meet-down find dev law well meet) keeps carries-flat))
 
 pub simple_follows : SimpleFollows
-simple_follows find dev f s upper meet keeps carries =
-    subst (Follows find dev) (sym (translation_is dev f s)) (image-follows find dev f s meet (keeps-flat find dev f s upper keeps) (carries-flat find dev f s upper carries))
+simple_follows find dev d s meet keeps carries = simple-followed find dev d s meet keeps carries
 
 pub simple_ends : SimpleEnds
-simple_ends find dev f s upper meet keeps carries =
-    subst (EndsInCode find dev) (sym (translation_is dev f s)) (image-ends find dev f s meet (keeps-flat find dev f s upper keeps) (carries-flat find dev f s upper carries))
+simple_ends find dev d s meet keeps carries = simple-ended find dev d s meet keeps carries

@@ -4,12 +4,13 @@ use Rattle.bk_val.specs.Value.{MathValue, int}
 use Rattle.bk_val.specs.CmpLaws.{same_value}
 use Rattle.bk_form.specs.Formula.{variable, literal, btrue}
 use Rattle.bk_form.specs.Search.{Finder}
-use Rattle.bk_form.specs.Environment.{State}
-use Rattle.bk_gsl.specs.State.{IsTypedState, with_value}
+use Rattle.bk_form.specs.Environment.{State, IsTypedState, at_state}
+use Rattle.bk_gsl.specs.State.{with_value}
 use Rattle.bk_gsl.specs.Run.{assigned}
 use Rattle.bk_gsl.proofs.States.{with_value-typed}
 use Rattle.bk_dev.specs.Development.{inputs_of}
-use Rattle.bk_dev.specs.Hypotheses.{AreTrue, joinings_of}
+use Rattle.bk_dev.specs.Hypotheses.{joinings_of}
+use Rattle.bk_form.specs.Predicates.{AllHold}
 use Rattle.bk_dev.specs.Machine.{Abstract, Opens, Call, IsCall, Gives}
 use Rattle.bk_dev.specs.Counter.{counter_table, counter}
 use Rattle.bk_dev.proofs.Counting.{numbers-typed, opens-at-zero}
@@ -54,7 +55,7 @@ abbrev asked : ℕ → Call
 asked op = record { op = op; args = [] }
 
 module _ (find : Finder) where
-  linked-to : (e : State) (n : ℕ) (r : ℤ) → IsTypedState counter_table e → AreOfKinds counter (1 ∷ 3 ∷ []) (pos n ∷ r ∷ []) → AreTrue find counter_table (both n e) (joinings_of counter 2) → Linked find counter (int (pos n) ∷ []) (pos n ∷ r ∷ [])
+  linked-to : (e : State) (n : ℕ) (r : ℤ) → IsTypedState counter_table e → AreOfKinds counter (1 ∷ 3 ∷ []) (pos n ∷ r ∷ []) → AllHold find (at_state counter_table (both n e)) (joinings_of counter 2) → Linked find counter (int (pos n) ∷ []) (pos n ∷ r ∷ [])
   linked-to e n r t kinds joined = (
     both n e,
     record {

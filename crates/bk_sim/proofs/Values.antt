@@ -9,13 +9,13 @@ use Rattle.bk_form.specs.Table.{Table}
 use Rattle.bk_form.specs.ArrayTable.{ArrayTable}
 use Rattle.bk_form.specs.Formula.{Formula, variable, literal, unary, binary}
 use Rattle.bk_form.specs.Search.{Finder}
-use Rattle.bk_form.specs.Environment.{State}
+use Rattle.bk_form.specs.Environment.{State, at_state}
 use Rattle.bk_form.specs.Operators.{number_in, is_equal}
 use Rattle.bk_form.specs.Defined.{Fits, is_in_int}
 use Rattle.bk_form.specs.declared.operator.UnOp.TheVariants.{Not, Neg as Minus}
 use Rattle.bk_form.specs.declared.operator.BinOp.TheVariants.{And, Or, Eq as Equals, Lt as Below, Le as AtMost, Add as Plus, Sub as Less}
 use Rattle.bk_form.proofs.Members.{and-both}
-use Rattle.bk_gsl.specs.State.{at_state, holds, value_at, among}
+use Rattle.bk_gsl.specs.State.{holds, value_at, among}
 use Rattle.bk_code.specs.Numbers.{is_within}
 use Rattle.bk_gen.specs.Simple.{IsSimpleTerm, IsSimpleCondition}
 use Rattle.bk_gen.specs.Plain.{slot_of}

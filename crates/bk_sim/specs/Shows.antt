@@ -7,14 +7,15 @@ use Rattle.bk_val.specs.ValueType.{ValueType, int_type, bool_type, enum_type, pa
 use Rattle.bk_form.specs.Table.{set_size}
 use Rattle.bk_form.specs.ArrayTable.{row_of}
 use Rattle.bk_form.specs.Search.{Finder}
-use Rattle.bk_form.specs.Environment.{State}
+use Rattle.bk_form.specs.Environment.{State, IsTypedState, at_state}
 use Rattle.bk_form.specs.Operators.{set_value, numbers_from, elements_from}
 use Rattle.bk_form.specs.declared.arrays.ArrayRow.{ArrayRow}
 use Rattle.bk_form.specs.declared.arrays.ArrayDomain.{ArrayDomain}
 use Rattle.bk_form.specs.declared.arrays.ArrayDomain.TheVariants.{Interval, Bool as OfBooleans, Set as OfElements}
-use Rattle.bk_gsl.specs.State.{IsTypedState, declared_type}
+use Rattle.bk_gsl.specs.State.{declared_type}
 use Rattle.bk_dev.specs.Development.{Development, int_max, level_at, last}
-use Rattle.bk_dev.specs.Hypotheses.{AreTrue, joinings_of}
+use Rattle.bk_dev.specs.Hypotheses.{joinings_of}
+use Rattle.bk_form.specs.Predicates.{AllHold}
 use Rattle.bk_dev.specs.Layout.{arrays_of, index_count, cells_of, cell_variables, cell_of}
 use Rattle.bk_dev.specs.Machine.{Abstract, ShowsAbstract, HasValues}
 
@@ -93,7 +94,7 @@ pub record IsLinkedBy (find : Finder) (dev : Development) (a : Abstract) (m : Li
   pub values : HasValues find dev e
   pub abstract_state : ShowsAbstract dev e a
   pub cells : Shows dev m e
-  pub joined : AreTrue find dev.table e (joinings_of dev (length dev.levels))
+  pub joined : AllHold find (at_state dev.table e) (joinings_of dev (length dev.levels))
 
 -- the cells stand for the abstract state: some state of all levels shows both
 abbrev pub Linked : Finder → Development → Abstract → List ℤ → Type 0

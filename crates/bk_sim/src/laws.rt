@@ -1,6 +1,6 @@
 //! What follows a machine, and what does not. Each law is the contract of a function that does nothing.
 
-ghost use Rattle.bk_sim.specs.Laws.{CallsDecide, SimpleFollows, SimpleEnds, CounterIsCarried, TranslationFollows, CounterEnds, NineDoesNotFollow};
+ghost use Rattle.bk_sim.specs.Laws.{CallsDecide, SimpleFollows, SimpleEnds, CounterIsCarried, TranslationFollows, CounterEnds, NineDoesNotFollow, FollowedWhereFlattened};
 
 /// Code follows a machine where it opens well and each call goes well.
 pub fn calls_decide()
@@ -23,4 +23,9 @@ pub fn counter()
     ensures translation { TranslationFollows }
     ensures ends { CounterEnds }
     ensures nine { NineDoesNotFollow }
+{}
+
+/// Whatever follows the flattened development follows the development, where no `||` stands in the last level.
+pub fn flat_developments()
+    ensures { FollowedWhereFlattened }
 {}

@@ -2,13 +2,13 @@
 use Rattle.std.proofs.Common.{◌≡◌, inl, inr, ℕ, List, [], ◌∷◌, sym, subst}
 use Rattle.bk_form.specs.Table.{Table, IsWellFormed}
 use Rattle.bk_dev.specs.Flattened.{flattened}
-use Rattle.bk_dev.specs.Facts.{Each}
+use Rattle.bk_form.specs.Each.{Each}
 use Rattle.bk_dev.proofs.Flat.{flattened_already}
 use Rattle.bk_seq.specs.Sequents.{Sequent, Types}
 use Rattle.bk_kernel.proofs.Validity.{obvious_is_valid}
 use Rattle.bk_kernel.proofs.SoundRules.{derived-is-valid}
 use Rattle.bk_po.specs.Obligations.{AreValid, numbered_obligations}
-use Rattle.bk_po.proofs.Basics.{basic_have_no_par}
+use Rattle.bk_po.proofs.Basics.{basic_are_flat}
 use Rattle.bk_po.proofs.TypedSequents.{obligations_type}
 use Rattle.bk_status.specs.Obvious.{AreObvious, IsShown}
 use Rattle.bk_status.specs.Laws.{ShownObligationsAreValid, ObviousObligationsAreValid}
@@ -24,8 +24,8 @@ module _ (table : Table) where
 
 pub shown_obligations_are_valid : ShownObligationsAreValid
 shown_obligations_are_valid dev f basic shown =
-    let flat : flattened dev ≡ dev = flattened_already dev (basic_have_no_par dev basic) in
-    let formed : IsWellFormed (flattened dev).table = subst (λ d. IsWellFormed d.table) (sym flat) f.table in
+    let flat : flattened dev ≡ dev = flattened_already dev (basic_are_flat dev basic) in
+    let formed : IsWellFormed (flattened dev).table = subst (λ d. IsWellFormed d.table) (sym flat) f.lawful.table in
     shown-valid (flattened dev).table formed (numbered_obligations dev) (obligations_type dev f basic) shown
 
 pub obvious_obligations_are_valid : ObviousObligationsAreValid

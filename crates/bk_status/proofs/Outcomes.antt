@@ -9,7 +9,7 @@ use Rattle.bk_kernel.specs.declared.replaying.Verdict.{Verdict}
 use Rattle.bk_kernel.specs.declared.replaying.Verdict.TheVariants.{Closed, BadStep as BadAt, Open as LeftOpen, Extra as LeftOver}
 use Rattle.bk_po.specs.Obligations.{numbered_obligations}
 use Rattle.bk_po.specs.Basic.{IsBasic}
-use Rattle.bk_po.proofs.Basics.{basic_have_no_par}
+use Rattle.bk_po.proofs.Basics.{basic_are_flat}
 use Rattle.bk_dev.proofs.Flat.{flattened_already}
 use Rattle.bk_scripts.specs.WrittenRule.{Script}
 use Rattle.bk_scripts.specs.States.{HasVerdict, state_of, IsState}
@@ -33,5 +33,5 @@ module _ (dev : Development) (scripts : List Script) (name : List ℕ) (s : Sequ
 -- the rows of a basic development
 pub rows_stand : (dev : Development) (scripts : List Script) (rows : List Row) → IsBasic dev → AllZip (IsRowOf dev scripts) (numbered_obligations dev) rows → HasRows dev scripts rows
 rows_stand dev scripts rows basic h =
-    let flat : flattened dev ≡ dev = flattened_already dev (basic_have_no_par dev basic) in
+    let flat : flattened dev ≡ dev = flattened_already dev (basic_are_flat dev basic) in
     subst (λ d. AllZip (IsRowOf d scripts) (numbered_obligations dev) rows) (sym flat) h

@@ -2,7 +2,7 @@
 use Rattle.std.proofs.Common.{◌≡◌, inl, inr, ℕ, List, [], ◌∷◌, not, cond, Option, Some, None}
 use Rattle.std.specs.List.{AllZip}
 use Rattle.bk_dev.specs.Development.{Development}
-use Rattle.bk_dev.specs.Facts.{Each}
+use Rattle.bk_form.specs.Each.{Each}
 use Rattle.bk_dev.specs.Flattened.{flattened}
 use Rattle.bk_seq.specs.Sequents.{Sequent}
 use Rattle.bk_po.specs.Obligations.{numbered_obligations}
@@ -48,4 +48,4 @@ pub proved_obligations_are_valid : ProvedObligationsAreValid
 proved_obligations_are_valid dev scripts f basic h = shown_obligations_are_valid dev f basic (all-shown dev scripts h)
 
 pub proved_developments_are_correct : ProvedDevelopmentsAreCorrect
-proved_developments_are_correct find law dev scripts f plain h = valid_obligations_carry find law dev f plain (proved_obligations_are_valid dev scripts f plain.basic h)
+proved_developments_are_correct find law dev scripts f basic h = valid_obligations_carry find law dev f basic (proved_obligations_are_valid dev scripts f plain.basic h)

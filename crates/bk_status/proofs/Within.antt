@@ -7,16 +7,17 @@ use Rattle.bk_form.specs.declared.operator.BinOp.TheVariants.{And, Imp}
 use Rattle.bk_bind.specs.Limits.{IsWithinLimits}
 use Rattle.bk_wp.proofs.Growth.{within_left, within_right}
 use Rattle.bk_dev.specs.Development.{Development}
-use Rattle.bk_dev.specs.Facts.{Each, IsDevelopment}
-use Rattle.bk_dev.specs.Hypotheses.{conjuncts}
-use Rattle.bk_seq.specs.Sequents.{Types, IsWithin, Each as EachOf, Sequent}
-use Rattle.bk_po.specs.Obligations.{Obligation, split, numbered_from, obligations, numbered_obligations}
+use Rattle.bk_dev.specs.Facts.{IsDevelopment}
+use Rattle.bk_form.specs.Each.{Each, Each as EachOf}
+use Rattle.bk_form.specs.Predicates.{conjuncts}
+use Rattle.bk_seq.specs.Sequents.{Types, IsWithin, Sequent, split}
+use Rattle.bk_po.specs.Obligations.{Obligation, numbered_from, obligations, numbered_obligations}
 use Rattle.bk_po.specs.Limits.{nodes_of, height_of, is_too_large, first_too_large, PassNoLimit}
 use Rattle.bk_po.specs.Basic.{IsBasic}
 use Rattle.bk_po.proofs.Lists.{append-each, flat-each}
 use Rattle.bk_po.proofs.TypedSequents.{obligations_type}
 use Rattle.bk_dev.proofs.Flat.{flattened_already}
-use Rattle.bk_po.proofs.Basics.{basic_have_no_par}
+use Rattle.bk_po.proofs.Basics.{basic_are_flat}
 use Rattle.bk_dev.specs.Flattened.{flattened}
 use Rattle.bk_status.specs.Replayable.{IsReplayable}
 
@@ -87,6 +88,6 @@ both table (s ∷ ss) h k = (record { types = h.0; within = k.0 }, both table ss
 
 pub all_replayable : (dev : Development) → IsDevelopment dev → IsBasic dev → PassNoLimit (obligations dev) → Each (λ o. IsReplayable dev.table o.1) (numbered_obligations dev)
 all_replayable dev f basic pass =
-    let flat : flattened dev ≡ dev = flattened_already dev (basic_have_no_par dev basic) in
+    let flat : flattened dev ≡ dev = flattened_already dev (basic_are_flat dev basic) in
     let typed : Each (λ s. Types dev.table s.1) (numbered_obligations dev) = subst (λ d. Each (λ s. Types d.table s.1) (numbered_obligations dev)) flat (obligations_type dev f basic) in
     both dev.table (numbered_obligations dev) typed (flat-each IsWithinNamed sequents_of (obligations dev) (each-within (obligations dev) pass.sizes))

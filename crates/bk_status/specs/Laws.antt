@@ -6,7 +6,6 @@ use Rattle.bk_dev.specs.Development.{Development}
 use Rattle.bk_dev.specs.Facts.{IsDevelopment}
 use Rattle.bk_po.specs.Obligations.{HasValidObligations}
 use Rattle.bk_po.specs.Basic.{IsBasic}
-use Rattle.bk_po.specs.Plain.{IsPlain}
 use Rattle.bk_po.specs.Laws.{IsCorrect}
 use Rattle.bk_scripts.specs.WrittenRule.{Script}
 use Rattle.bk_status.specs.declared.table.Row.{Row}
@@ -45,6 +44,6 @@ ObviousObligationsAreValid = (dev : Development) → IsDevelopment dev → IsBas
 abbrev pub ProvedObligationsAreValid : Type 0
 ProvedObligationsAreValid = (dev : Development) (scripts : List Script) → IsDevelopment dev → IsBasic dev → AreProved dev scripts → HasValidObligations dev
 
--- so that a plain development is correct
+-- so that a basic development is correct
 abbrev pub ProvedDevelopmentsAreCorrect : Type 0
-ProvedDevelopmentsAreCorrect = (find : Finder) → IsSearch find → (dev : Development) (scripts : List Script) → IsDevelopment dev → IsPlain dev → AreProved dev scripts → IsCorrect find dev
+ProvedDevelopmentsAreCorrect = (find : Finder) → IsSearch find → (dev : Development) (scripts : List Script) → IsDevelopment dev → IsBasic dev → AreProved dev scripts → IsCorrect find dev

@@ -2,7 +2,7 @@
 use Rattle.std.specs.Prelude.{◌≡◌, ◌⊎◌, ℕ, Bool, true, false, not, List, Option, find}
 use Rattle.std.specs.List.{AllZip}
 use Rattle.bk_dev.specs.Development.{Development}
-use Rattle.bk_dev.specs.Facts.{Each}
+use Rattle.bk_form.specs.Each.{Each}
 use Rattle.bk_dev.specs.Flattened.{flattened}
 use Rattle.bk_seq.specs.Sequents.{Sequent}
 use Rattle.bk_po.specs.Obligations.{numbered_obligations}

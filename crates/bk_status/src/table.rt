@@ -3,7 +3,7 @@
 ghost use Rattle.std.specs.Prelude.{◌≡◌, map, OnOk, IfOk, IfErr};
 ghost use Rattle.std.specs.List.{AllZip};
 ghost use Rattle.std.specs.Option.{option_copied};
-ghost use Rattle.bk_dev.specs.Facts.{Each};
+ghost use Rattle.bk_form.specs.Each.{Each};
 ghost use Rattle.bk_po.specs.Basic.{IsBasic};
 ghost use Rattle.bk_po.specs.Obligations.{obligations};
 ghost use Rattle.bk_po.specs.Limits.{PassNoLimit, IsFaultOf};

@@ -12,7 +12,7 @@ use Rattle.bk_gsl.specs.Substitution.{Substitution, skip, if_else}
 use Rattle.bk_gsl.specs.State.{among}
 use Rattle.bk_gsl.proofs.States.{nat_eq-same}
 use Rattle.bk_dev.specs.Development.{level_at}
-use Rattle.bk_dev.specs.Facts.{is_constant, is_variable_of, home_of, Names, names_constants, names_joined, names_own, IsSubOf, IsBodyOf, IsLevelOf, IsHeadOf, IsDevelopment}
+use Rattle.bk_dev.specs.Facts.{is_constant, is_variable_of, home_of, Names, names_constants, names_joined, names_own, IsSubOf, IsBodyOf, IsLevelOf, IsHeadOf, IsLawful, IsDevelopment}
 use Rattle.bk_dev.proofs.CounterFacts.{counter_facts}
 use Rattle.bk_tests_code.specs.Choices.{below, inner_choice, outer_choice, not_zero, small_or_above, decision, doing, plain_head, chooser}
 
@@ -64,7 +64,7 @@ names-decision =
     (names-both visible Or (binary Le (variable 3) (literal (pos 4))) below small names-below)
 
 skipping : (k : ℕ) → IsSubOf chooser k [] [] skip
-skipping k = record { types = tt; stays = tt; shape = tt; binds_inner = tt }
+skipping k = record { types = tt; stays = tt; loops = tt; binds_inner = tt }
 
 choosing : IsSubOf chooser 1 [] [] outer_choice
 choosing = record {
@@ -78,12 +78,12 @@ choosing = record {
     ),
     tt,
   );
-  shape = ((tt, tt), tt);
+  loops = ((tt, tt), tt);
   binds_inner = tt;
 }
 
 deciding : IsSubOf chooser 1 [] [] (if_else decision skip skip)
-deciding = record { types = (refl, tt, tt); stays = (names-decision, tt, tt); shape = (tt, tt); binds_inner = tt }
+deciding = record { types = (refl, tt, tt); stays = (names-decision, tt, tt); loops = (tt, tt); binds_inner = tt }
 
 body-facts : (k : ℕ) (name : List ℕ) (s : Substitution) → IsSubOf chooser k [] [] s → IsBodyOf chooser k (plain_head name) (doing skip) (doing s)
 body-facts k name s sub = record {
@@ -151,10 +151,10 @@ implementation-facts = record {
 head-facts : (name : List ℕ) → IsHeadOf chooser (plain_head name)
 head-facts name = record { inputs = tt; distinct = tt }
 
-pub chooser_facts : IsDevelopment chooser
-chooser_facts = record {
+chooser_lawful : IsLawful chooser
+chooser_lawful = record {
   some_level = omega (arith);
-  table = counter_facts.table;
+  table = counter_facts.lawful.table;
   sets = refl;
   homes = refl;
   heads = (head-facts (codes "idle"), (head-facts (codes "turn"), (head-facts (codes "decide"), tt)));
@@ -162,5 +162,12 @@ chooser_facts = record {
   levels = (machine-facts, (implementation-facts, tt));
   values = tt;
   complete = (tt, no_constant);
+}
+
+pub chooser_facts : IsDevelopment chooser
+chooser_facts = record {
+  lawful = chooser_lawful;
+  shapes = (record { init = tt; bodies = (tt, (tt, (tt, tt))) }, (record { init = tt; bodies = (tt, (((tt, tt), tt), ((tt, tt), tt))) }, tt));
   binders_differ = tt;
+  room = omega (arith);
 }

@@ -7,7 +7,7 @@ use Rattle.bk_form.specs.declared.operator.BinOp.TheVariants.{And, Or, Eq, Lt, L
 use Rattle.bk_gsl.specs.Substitution.{Substitution, skip, assign, if_else}
 use Rattle.bk_dev.specs.declared.kind.Kind.{Kind}
 use Rattle.bk_dev.specs.declared.kind.Kind.TheVariants.{Machine, Implementation}
-use Rattle.bk_dev.specs.declared.kind.Home.TheVariants.{Variable, Inner}
+use Rattle.bk_dev.specs.declared.kind.Home.TheVariants.{Inner, Concrete}
 use Rattle.bk_dev.specs.Development.{Head, Body, Level, Development}
 use Rattle.bk_dev.specs.Counter.{counter_table}
 
@@ -69,7 +69,7 @@ bare_level name kind vars bodies = record {
 abbrev pub chooser : Development
 chooser = record {
   table = counter_table;
-  homes = Inner 0 ∷ Inner 0 ∷ Variable 1 ∷ Variable 1 ∷ [];
+  homes = Inner 0 ∷ Inner 0 ∷ Concrete 1 ∷ Concrete 1 ∷ [];
   sets = [];
   heads = plain_head (codes "idle") ∷ plain_head (codes "turn") ∷ plain_head (codes "decide") ∷ [];
   levels = bare_level (codes "Chooser") Machine [] idle_bodies ∷ bare_level (codes "Chooser_i") Implementation (3 ∷ 2 ∷ []) choosing_bodies ∷ [];

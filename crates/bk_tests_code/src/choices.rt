@@ -147,8 +147,8 @@ fn homes(alloc: Global) -> Result<Vec<Home>, Memory>
     Ok(vec![in alloc;
         Home::Inner(0),
         Home::Inner(0),
-        Home::Variable(1),
-        Home::Variable(1),
+        Home::Concrete(1),
+        Home::Concrete(1),
     ]?)
 }
 

@@ -5,7 +5,9 @@ ghost use Rattle.bk_val.specs.ValueType.{int_type, set_type};
 ghost use Rattle.bk_form.specs.Table.{variable_type};
 ghost use Rattle.bk_form.specs.Role.{role, gives, predicate};
 ghost use Rattle.bk_bind.specs.Limits.{IsWithinLimits};
-ghost use Rattle.bk_seq.specs.Sequents.{sequent_of, Each, IsPredicate, Types, IsWithin};
+ghost use Rattle.bk_seq.specs.Sequents.{sequent_of, Types, IsWithin};
+ghost use Rattle.bk_form.specs.Each.{Each};
+ghost use Rattle.bk_form.specs.Predicates.{IsPredicate};
 
 use bk_bind::{GREATEST_HEIGHT, MOST_NODES};
 use bk_fixtures::{

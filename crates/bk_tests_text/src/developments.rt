@@ -64,9 +64,9 @@ fn has_levels_of_the_counter(dev: &Development) -> bool {
 fn the_counter(rt: HostRuntime) -> Result<(), Fail> {
     let dev = built(rt.alloc(), COUNTER, COUNTER_I)?;
     let variables = [
-        ("n$0", Home::Variable(0)),
+        ("n$0", Home::Abstract(0)),
         ("r$0", Home::Inner(0)),
-        ("n$1", Home::Variable(1)),
+        ("n$1", Home::Concrete(1)),
         ("r$1", Home::Inner(1)),
     ];
     assert!(rt; has_variables(&dev, &variables));
@@ -90,10 +90,10 @@ fn has_levels_of_the_adder(dev: &Development) -> bool {
 fn the_adder(rt: HostRuntime) -> Result<(), Fail> {
     let dev = built(rt.alloc(), TALLY, TALLY_I)?;
     let variables = [
-        ("n$0", Home::Variable(0)),
+        ("n$0", Home::Abstract(0)),
         ("k", Home::Input),
         ("r$0", Home::Inner(0)),
-        ("n$1", Home::Variable(1)),
+        ("n$1", Home::Concrete(1)),
         ("r$1", Home::Inner(1)),
     ];
     assert!(rt; has_variables(&dev, &variables));

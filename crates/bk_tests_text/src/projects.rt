@@ -33,9 +33,9 @@ fn read(alloc: Global, machine: &str, implementation: &str) -> Result<Developmen
 // ---- developments
 // The variables of a project whose operations have no inputs.
 const VARIABLES: [(&str, Home); 4] = [
-    ("n$0", Home::Variable(0)),
+    ("n$0", Home::Abstract(0)),
     ("r$0", Home::Inner(0)),
-    ("n$1", Home::Variable(1)),
+    ("n$1", Home::Concrete(1)),
     ("r$1", Home::Inner(1)),
 ];
 
@@ -63,10 +63,10 @@ fn the_counter(rt: HostRuntime) -> Result<(), Fail> {
 fn the_adder(rt: HostRuntime) -> Result<(), Fail> {
     let dev = read(rt.alloc(), TALLY, TALLY_I)?;
     let variables = [
-        ("n$0", Home::Variable(0)),
+        ("n$0", Home::Abstract(0)),
         ("k", Home::Input),
         ("r$0", Home::Inner(0)),
-        ("n$1", Home::Variable(1)),
+        ("n$1", Home::Concrete(1)),
         ("r$1", Home::Inner(1)),
     ];
     assert!(rt; has_variables(&dev, &variables));

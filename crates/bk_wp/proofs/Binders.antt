@@ -10,6 +10,7 @@ use Rattle.bk_form.specs.Search.{Finder, IsSearch}
 use Rattle.bk_form.specs.Environment.{State}
 use Rattle.bk_form.specs.Replacement.{replaced, occurs, IsClosed, looked_up}
 use Rattle.bk_val.specs.ValueType.{int_type}
+use Rattle.bk_form.proofs.Members.{or-left, or-right}
 use Rattle.bk_gsl.specs.Substitution.{Substitution, skip, assign, pre, guard, choice, if_else, any, seq, par, assert, becomes_such, loop}
 use Rattle.bk_gsl.specs.State.{among}
 use Rattle.bk_gsl.specs.Reads.{read}
@@ -18,13 +19,12 @@ use Rattle.bk_gsl.specs.Typed.{Types}
 use Rattle.bk_gsl.proofs.States.{cases, clash}
 use Rattle.bk_wp.specs.Box.{variant_before, box, diamond}
 use Rattle.bk_wp.specs.Shapes.{HasNoLoop}
-use Rattle.bk_wp.specs.Apart.{AreApart}
+use Rattle.bk_gsl.specs.Apart.{AreApart}
 use Rattle.bk_wp.specs.Laws.{BoxMeans, DiamondMeans, DiamondIsConjugate}
-use Rattle.bk_wp.proofs.Closed.{predicate-closed, term-closed}
-use Rattle.bk_wp.proofs.Closing.{closed-replaced}
+use Rattle.bk_form.proofs.Closed.{predicate-closed, term-closed, closed-replaced}
 use Rattle.bk_wp.proofs.Steps.{terms-closed}
-use Rattle.bk_wp.proofs.Quantified.{closed-all, closed-some, closed-all-new, closed-some-new, all_of-true, some_of-true, some_of-false, all_new-true, some_new-true, some_new-false}
-use Rattle.bk_wp.proofs.Reading.{or-left, or-right, box-reads, diamond-reads}
+use Rattle.bk_wp.proofs.Quantified.{closed-all, closed-written, closed-some, closed-all-new, closed-some-new, all_of-true, some_of-true, some_of-false, all_new-true, some_new-true, some_new-false}
+use Rattle.bk_wp.proofs.Reading.{box-reads, diamond-reads}
 use Rattle.bk_wp.proofs.Exact.{FineBox, FineDiamond, Misses, box-then, box-if, diamond-exact, conjugate}
 
 module _ (table : Table) where
@@ -50,12 +50,12 @@ module _ (table : Table) where
       let cv = term-closed table int_type v w.3 in (
         (
           (
-            (ci, closed-all table xs (binary Imp m (box table s i)) ((ci, cp), box-closed s i w.1 ci)),
-            closed-all table xs (binary Imp m (binary In v (named Natural))) ((ci, cp), (cv, tt)),
+            (ci, closed-written table xs (binary Imp m (box table s i)) ((ci, cp), box-closed s i w.1 ci)),
+            closed-written table xs (binary Imp m (binary In v (named Natural))) ((ci, cp), (cv, tt)),
           ),
-          closed-all table xs (binary Imp m (replaced (looked_up ((k, v) ∷ [])) (box table s less))) ((ci, cp), closed-replaced (looked_up ((k, v) ∷ [])) (variant-closed k v cv) 0 (box table s less) (box-closed s less w.1 (cv, tt))),
+          closed-written table xs (binary Imp m (replaced (looked_up ((k, v) ∷ [])) (box table s less))) ((ci, cp), closed-replaced (looked_up ((k, v) ∷ [])) (variant-closed k v cv) 0 (box table s less) (box-closed s less w.1 (cv, tt))),
         ),
-        closed-all table xs (binary Imp (binary And i (unary Not p)) r) ((ci, cp), c),
+        closed-written table xs (binary Imp (binary And i (unary Not p)) r) ((ci, cp), c),
       )
     where
       variant-closed : (k : ℕ) (v : Formula) → IsClosed 0 v → (n : ℕ) → IsClosed 0 (looked_up ((k, v) ∷ []) n)

@@ -1,5 +1,5 @@
 -- Variables made bound: the formula means what it means where they have the bound values.
-use Rattle.std.proofs.Common.{◌≡◌, inl, inr, ℕ, zero, suc, ◌+◌, ◌<◌, ◌≤◌, List, [], ◌∷◌, length, refl, sym, ◌∙◌, ap, subst, Bool, true, false, cond, ◌||◌, nat_eq, arith, rules}
+use Rattle.std.proofs.Common.{◌≡◌, ℕ, zero, suc, ◌+◌, ◌<◌, List, [], ◌∷◌, length, refl, sym, ◌∙◌, ap, subst, Bool, true, false, cond, nat_eq, arith, rules}
 use Rattle.std.specs.Prelude.{Some, All, IsTrue, slice_get, unwrap_or}
 use Rattle.std.specs.Option.{option_map}
 use Rattle.std.proofs.lemmas.List.Elements.{All-head, All-tail}
@@ -8,57 +8,21 @@ use Rattle.bk_val.specs.ValueType.{ValueType, bool_type, base_of, is_value_of}
 use Rattle.bk_form.specs.Table.{Table, VariableEntry, set_size, variable_type, is_among_sets, IsWellFormed}
 use Rattle.bk_form.specs.Formula.{Formula, variable, bound, unary, binary, for_all, for_some, comprehension, lambda, Formulas, no_formulas, formula_and}
 use Rattle.bk_form.specs.Search.{Finder}
-use Rattle.bk_form.specs.Environment.{Environment, Binding, State, bindings, under}
+use Rattle.bk_form.specs.Environment.{Environment, Binding, State, bindings, under, at_state}
 use Rattle.bk_form.specs.Role.{bind, given_by, bound_role, gives, if_holds}
-use Rattle.bk_form.specs.Replacement.{count, replaced, all_replaced, IsClosed, AreClosed, occurs, any_occurs}
+use Rattle.bk_form.specs.Replacement.{count, IsClosed, AreClosed}
 use Rattle.bk_form.specs.Meaning.{meaning, meanings, truth, of_value, bound_meaning, unary_meaning, binary_meaning, all_meaning, some_meaning, comprehension_meaning, lambda_meaning, range_types}
 use Rattle.bk_form.proofs.Agreement.{length-ranges}
 use Rattle.bk_form.proofs.Members.{and-both}
-use Rattle.bk_gsl.specs.State.{at_state, holds, value_at, declared_type, are_values_for, with_value, with_values, over}
+use Rattle.bk_gsl.specs.State.{holds, declared_type, are_values_for, with_value, with_values}
 use Rattle.bk_gsl.specs.Typed.{IsListed, AreListed}
-use Rattle.bk_gsl.proofs.States.{cases, clash, nat_eq-same, nat_eq-self, over-off}
-use Rattle.bk_wp.specs.Closing.{closed_over, all_closed_over, closed_over_each, types_of}
-
--- ---- loose bound numbers
-mutual
-  pub closed-more : (m n : ℕ) (f : Formula) → m ≤ n → IsClosed m f → IsClosed n f
-  closed-more m n (bound i) h c = omega arith
-  closed-more m n (unary o f) h c = closed-more m n f h c
-  closed-more m n (binary o f g) h c = (closed-more m n f h c.0, closed-more m n g h c.1)
-  closed-more m n (for_all ts p) h c = closed-more (length ts + m) (length ts + n) p (omega arith) c
-  closed-more m n (for_some ts p) h c = closed-more (length ts + m) (length ts + n) p (omega arith) c
-  closed-more m n (comprehension rs p) h c = (all-closed-more m n rs h c.0, closed-more (count rs + m) (count rs + n) p (omega arith) c.1)
-  closed-more m n (lambda rs p v) h c = (all-closed-more m n rs h c.0, closed-more (count rs + m) (count rs + n) p (omega arith) c.1, closed-more (count rs + m) (count rs + n) v (omega arith) c.2)
-  closed-more m n _ h c = tt
-
-  all-closed-more : (m n : ℕ) (fs : Formulas) → m ≤ n → AreClosed m fs → AreClosed n fs
-  all-closed-more m n no_formulas h c = tt
-  all-closed-more m n (formula_and f fs) h c = (closed-more m n f h c.0, all-closed-more m n fs h c.1)
-
-count-replaced : (by : ℕ → Formula) (rs : Formulas) → count rs ≡ count (all_replaced by rs)
-count-replaced by no_formulas = refl
-count-replaced by (formula_and r rs) = ap suc (count-replaced by rs)
+use Rattle.bk_gsl.proofs.States.{nat_eq-same}
+use Rattle.bk_bind.specs.Closing.{closed_over, all_closed_over, closed_over_each}
+use Rattle.bk_wp.specs.Quantifiers.{types_of}
 
 count-closed_over : (z k : ℕ) (rs : Formulas) → count rs ≡ count (all_closed_over z k rs)
 count-closed_over z k no_formulas = refl
 count-closed_over z k (formula_and r rs) = ap suc (count-closed_over z k rs)
-
-module _ (by : ℕ → Formula) (g : (n : ℕ) → IsClosed 0 (by n)) where
-  mutual
-    pub closed-replaced : (n : ℕ) (f : Formula) → IsClosed n f → IsClosed n (replaced by f)
-    closed-replaced n (variable i) c = closed-more 0 n (by i) (omega arith) (g i)
-    closed-replaced n (bound i) c = c
-    closed-replaced n (unary o f) c = closed-replaced n f c
-    closed-replaced n (binary o f h) c = (closed-replaced n f c.0, closed-replaced n h c.1)
-    closed-replaced n (for_all ts p) c = closed-replaced (length ts + n) p c
-    closed-replaced n (for_some ts p) c = closed-replaced (length ts + n) p c
-    closed-replaced n (comprehension rs p) c = (all-closed-replaced n rs c.0, subst (λ k. IsClosed (k + n) (replaced by p)) (count-replaced by rs) (closed-replaced (count rs + n) p c.1))
-    closed-replaced n (lambda rs p v) c = (all-closed-replaced n rs c.0, subst (λ k. IsClosed (k + n) (replaced by p)) (count-replaced by rs) (closed-replaced (count rs + n) p c.1), subst (λ k. IsClosed (k + n) (replaced by v)) (count-replaced by rs) (closed-replaced (count rs + n) v c.2))
-    closed-replaced n _ c = tt
-
-    all-closed-replaced : (n : ℕ) (fs : Formulas) → AreClosed n fs → AreClosed n (all_replaced by fs)
-    all-closed-replaced n no_formulas c = tt
-    all-closed-replaced n (formula_and f fs) c = (closed-replaced n f c.0, all-closed-replaced n fs c.1)
 
 module _ (z : ℕ) where
   mutual
@@ -81,7 +45,7 @@ pub closed-each : (zs : List ℕ) (f : Formula) → IsClosed 0 f → IsClosed (l
 closed-each [] f c = c
 closed-each (z ∷ zs) f c = closed-closed_over z (length zs) (closed_over_each zs f) (closed-each zs f c)
 
-length-types : (table : Table) (zs : List ℕ) → length (types_of table zs) ≡ length zs
+pub length-types : (table : Table) (zs : List ℕ) → length (types_of table zs) ≡ length zs
 length-types table [] = refl
 length-types table (z ∷ zs) = ap suc (length-types table zs)
 
@@ -177,42 +141,3 @@ module _ (find : Finder) (table : Table) (facts : IsWellFormed table) where
 
   pub holds-each : (e : State) (zs : List ℕ) (vs : List MathValue) (f : Formula) → IsClosed 0 f → AreListed table zs → are_values_for table zs vs ≡ true → truth find (under (at_state table e) (types_of table zs) vs) (closed_over_each zs f) ≡ holds find table (with_values e zs vs) f
   holds-each e zs vs f c l o = ap (λ m. m.truth) (meaning-each e zs vs f c l o)
-
--- ---- states that agree on the variables of a formula
-or-left : (a b : Bool) → a ≡ true → (a || b) ≡ true
-or-left true b h = refl
-or-left false b h = absurd (cc)
-
-or-right : (a b : Bool) → b ≡ true → (a || b) ≡ true
-or-right true b h = refl
-or-right false b h = h
-
-module _ (find : Finder) where
-  mutual
-    pub meaning-agrees : (e : Environment) (w : State) (f : Formula) → ((n : ℕ) → occurs n f ≡ true → w n ≡ e.state n) → meaning find (record e { state = w }) f ≡ meaning find e f
-    meaning-agrees e w (variable n) h = ap (of_value (given_by (variable_type e.table n))) (h n (nat_eq-self n))
-    meaning-agrees e w (unary o f) h = λ i. unary_meaning o (meaning-agrees e w f h i)
-    meaning-agrees e w (binary o f g) h = λ i. binary_meaning find (set_size e.table) o (meaning-agrees e w f (λ n q. h n (or-left (occurs n f) (occurs n g) q)) i) (meaning-agrees e w g (λ n q. h n (or-right (occurs n f) (occurs n g) q)) i)
-    meaning-agrees e w (for_all ts p) h = λ i. all_meaning find e.table ts (λ vs. meaning-agrees (under e ts vs) w p h i)
-    meaning-agrees e w (for_some ts p) h = λ i. some_meaning find e.table ts (λ vs. meaning-agrees (under e ts vs) w p h i)
-    meaning-agrees e w (comprehension rs p) h =
-        let r = meanings-agrees e w rs (λ n q. h n (or-left (any_occurs n rs) (occurs n p) q)) in
-        λ i. comprehension_meaning (r i) (λ vs. meaning-agrees (under e (range_types (r i)) vs) w p (λ n q. h n (or-right (any_occurs n rs) (occurs n p) q)) i)
-    meaning-agrees e w (lambda rs p v) h =
-        let r = meanings-agrees e w rs (λ n q. h n (or-left (any_occurs n rs || occurs n p) (occurs n v) (or-left (any_occurs n rs) (occurs n p) q))) in
-        λ i. lambda_meaning (r i) (λ vs. meaning-agrees (under e (range_types (r i)) vs) w p (λ n q. h n (or-left (any_occurs n rs || occurs n p) (occurs n v) (or-right (any_occurs n rs) (occurs n p) q))) i) (λ vs. meaning-agrees (under e (range_types (r i)) vs) w v (λ n q. h n (or-right (any_occurs n rs || occurs n p) (occurs n v) q)) i)
-    meaning-agrees e w _ h = refl
-
-    meanings-agrees : (e : Environment) (w : State) (fs : Formulas) → ((n : ℕ) → any_occurs n fs ≡ true → w n ≡ e.state n) → meanings find (record e { state = w }) fs ≡ meanings find e fs
-    meanings-agrees e w no_formulas h = refl
-    meanings-agrees e w (formula_and f fs) h = λ i. meaning-agrees e w f (λ n q. h n (or-left (occurs n f) (any_occurs n fs) q)) i ∷ meanings-agrees e w fs (λ n q. h n (or-right (occurs n f) (any_occurs n fs) q)) i
-
-  pub meaning-state : (table : Table) (e d : State) (f : Formula) → ((n : ℕ) → occurs n f ≡ true → e n ≡ d n) → meaning find (at_state table e) f ≡ meaning find (at_state table d) f
-  meaning-state table e d f h = meaning-agrees (at_state table d) e f h
-
-  -- what stands nowhere in a formula says nothing of it
-  pub holds-over : (table : Table) (off : ℕ → Bool) (d e : State) (f : Formula) → ((n : ℕ) → off n ≡ true → occurs n f ≡ false) → holds find table (over off d e) f ≡ holds find table e f
-  holds-over table off d e f h = ap (λ m. m.truth) (meaning-state table (over off d e) e f (λ n q. elim (cases (off n)) [ inl k ↦ clash (occurs n f) q (h n k) | inr k ↦ over-off off d e n k ]))
-
-  pub value-over : (table : Table) (off : ℕ → Bool) (d e : State) (f : Formula) → ((n : ℕ) → off n ≡ true → occurs n f ≡ false) → value_at find table (over off d e) f ≡ value_at find table e f
-  value-over table off d e f h = ap (λ m. m.value) (meaning-state table (over off d e) e f (λ n q. elim (cases (off n)) [ inl k ↦ clash (occurs n f) q (h n k) | inr k ↦ over-off off d e n k ]))

@@ -14,12 +14,12 @@ use Rattle.bk_gsl.specs.State.{holds, are_values_for, with_values, among, over, 
 use Rattle.bk_gsl.specs.Run.{assigned, with_old, Runs, Ends}
 use Rattle.bk_gsl.specs.Typed.{Types}
 use Rattle.bk_gsl.proofs.States.{cases, clash, or-false}
-use Rattle.bk_wp.specs.Closing.{all_of, some_of}
+use Rattle.bk_wp.specs.Quantifiers.{all_of, some_of}
 use Rattle.bk_wp.specs.Box.{all_new, some_new, box, diamond}
 use Rattle.bk_wp.specs.Shapes.{HasNoLoop}
 use Rattle.bk_wp.specs.Laws.{AllMeet, SomeMeets}
 use Rattle.bk_wp.proofs.Steps.{implies-then, implies-if, implies-false, and-false, or-cases, holds-assign}
-use Rattle.bk_wp.proofs.Closing.{holds-over}
+use Rattle.bk_gsl.proofs.Over.{holds-over}
 
 -- it ends, and no result meets the formula
 abbrev pub NoneMeets : Finder → Table → Substitution → Formula → State → Type 0

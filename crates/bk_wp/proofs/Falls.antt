@@ -12,17 +12,20 @@ use Rattle.bk_form.specs.Environment.{Environment, under}
 use Rattle.bk_form.specs.Operators.{implies, number_in}
 use Rattle.bk_form.specs.Replacement.{replaced, all_replaced, occurs, any_occurs, IsClosed, looked_up}
 use Rattle.bk_form.specs.Meaning.{meaning, truth, value}
-use Rattle.bk_form.proofs.Agreement.{meaning-closed}
+use Rattle.bk_form.proofs.Agreement.{meaning-closed, meaning-agrees}
+use Rattle.bk_form.proofs.Members.{or-left, or-right}
 use Rattle.bk_gsl.specs.Substitution.{Substitution, skip, assign, pre, guard, choice, if_else, any, seq, par, assert, becomes_such, loop}
 use Rattle.bk_gsl.specs.State.{among, firsts, with_value}
 use Rattle.bk_gsl.specs.Run.{old_of}
 use Rattle.bk_gsl.specs.Writes.{writes}
 use Rattle.bk_gsl.proofs.States.{cases, clash, or-false, nat_eq-same, nat_eq-self}
-use Rattle.bk_wp.specs.Closing.{closed_over, closed_over_each, all_of}
+use Rattle.bk_bind.specs.Closing.{closed_over, closed_over_each}
+use Rattle.bk_wp.specs.Quantifiers.{all_of, all_written}
 use Rattle.bk_wp.specs.Box.{new_values, all_new, variant_before, box}
-use Rattle.bk_wp.proofs.Closing.{meaning-agrees}
-use Rattle.bk_wp.proofs.Reading.{or-left, or-right, occurs-replaced, occurs-closed_over, occurs-each, falls-reads}
-use Rattle.bk_wp.proofs.Outside.{Avoids}
+use Rattle.bk_wp.proofs.Reading.{occurs-replaced, occurs-closed_over, occurs-each, falls-reads}
+use Rattle.bk_gsl.specs.Avoids.{Avoids}
+use Rattle.bk_gsl.proofs.Outside.{looked_up-free, old-avoided}
+use Rattle.bk_gsl.proofs.Runs.{looked_up-out}
 
 -- ---- what replaces nothing
 mutual
@@ -144,25 +147,27 @@ free-each : (k : ℕ) (zs : List ℕ) (f : Formula) → among zs k ≡ true → 
 free-each k zs f n = elim (cases (occurs k (closed_over_each zs f))) [ inl q ↦ clash (among zs k) n ((occurs-each zs f k q).1) | inr q ↦ q ]
 
 pub held-all : (k : ℕ) (table : Table) (zs : List ℕ) (f : Formula) → Held k f → Held k (all_of table zs f)
-held-all k table [] f h = h
-held-all k table (z ∷ zs) f h = elim (cases (among (z ∷ zs) k)) [
-  | inl q ↦ inl (free-each k (z ∷ zs) f q)
-  | inr q ↦ inr (held-each k (z ∷ zs) f q h)
+held-all k table zs f h = elim (cases (among zs k)) [
+  | inl q ↦ inl (free-each k zs f q)
+  | inr q ↦ inr (held-each k zs f q h)
 ]
+
+held-written : (k : ℕ) (table : Table) (zs : List ℕ) (f : Formula) → Held k f → Held k (all_written table zs f)
+held-written k table [] f h = h
+held-written k table (z ∷ zs) f h = held-all k table (z ∷ zs) f h
 
 abbrev pub Is : ℕ → ℕ → Bool
 Is k n = nat_eq n k
 
 held-new : (k : ℕ) (table : Table) (xs : List (ℕ × ℕ)) (p r : Formula) → ((n : ℕ) → Is k n ≡ true → among (firsts xs) n ≡ false) → occurs k p ≡ false → ((n : ℕ) → Is k n ≡ false → Is k (old_of xs n) ≡ false) → Held k r → Held k (all_new table xs p r)
-held-new k table [] p r n h o g = inr (inl h, g)
-held-new k table (x ∷ xs) p r n h o g = inr (inr (inl old, held-each k (firsts (x ∷ xs)) r (n k (nat_eq-self k)) g))
+held-new k table xs p r n h o g = inr (inr (inl old, held-each k (firsts xs) r (n k (nat_eq-self k)) g))
   where
-    old : occurs k (new_values (x ∷ xs) p) ≡ false
-    old = elim (cases (occurs k (new_values (x ∷ xs) p))) [
+    old : occurs k (new_values xs p) ≡ false
+    old = elim (cases (occurs k (new_values xs p))) [
       | inl q ↦
-          let w = occurs-replaced (λ m. variable (old_of (x ∷ xs) m)) k (closed_over_each (firsts (x ∷ xs)) p) q in
-          let y = occurs-each (firsts (x ∷ xs)) p w.place w.stands in
-          clash (nat_eq (old_of (x ∷ xs) w.place) k) w.brings (o w.place (other k w.place p h y.0))
+          let w = occurs-replaced (λ m. variable (old_of xs m)) k (closed_over_each (firsts xs) p) q in
+          let y = occurs-each (firsts xs) p w.place w.stands in
+          clash (nat_eq (old_of xs w.place) k) w.brings (o w.place (other k w.place p h y.0))
       | inr q ↦ q
     ]
 
@@ -178,7 +183,7 @@ module _ (table : Table) where
 
   pub held-box : (s : Substitution) (r : Formula) → Avoids (Is new) s → Held new r → Held new (box table s r)
   held-box skip r a h = h
-  held-box (assign ps) r a h = held-replaced new (looked_up ps) ((a new).0 (nat_eq-self new)) (λ m q. (a m).1 q new (nat_eq-self new)) r h
+  held-box (assign ps) r a h = held-replaced new (looked_up ps) (looked_up-out ps new (a.0 new (nat_eq-self new))) (λ m q. looked_up-free (Is new) ps a.1 m q new (nat_eq-self new)) r h
   held-box (pre p s) r a h = inr (inl (a.0 new (nat_eq-self new)), held-box s r a.1 h)
   held-box (guard p s) r a h = inr (inl (a.0 new (nat_eq-self new)), held-box s r a.1 h)
   held-box (choice s t) r a h = inr (held-box s r a.0 h, held-box t r a.1 h)
@@ -187,7 +192,7 @@ module _ (table : Table) where
   held-box (seq s t) r a h = held-box s (box table t r) a.0 (held-box t r a.1 h)
   held-box (par s t) r a h = inl refl
   held-box (assert p s) r a h = let q = a.0 new (nat_eq-self new) in inr (inl q, inr (inl q, held-box s r a.1 h))
-  held-box (becomes_such xs p) r a h = held-new new table xs p r a.0 (a.1 new (nat_eq-self new)) a.2 h
+  held-box (becomes_such xs p) r a h = held-new new table xs p r a.0 (a.1 new (nat_eq-self new)) (old-avoided (Is new) xs a.0) h
   held-box (loop p s i v) r a h =
       let xs = writes s in
       let ap = a.0 new (nat_eq-self new) in
@@ -196,10 +201,10 @@ module _ (table : Table) where
       let m = binary And i p in
       let hm : Held new m = inr (inl ai, inl ap) in
       let falls = replaced (looked_up ((new, v) ∷ [])) (box table s (binary Lt v (variable new))) in
-      let b = held-all new table xs (binary Imp m (box table s i)) (inr (hm, held-box s i a.1 (inl ai))) in
-      let c = held-all new table xs (binary Imp m (binary In v (named Natural))) (inr (hm, inl (none av))) in
-      let d = held-all new table xs (binary Imp m falls) (inr (hm, inl (free-falls v (box table s (binary Lt v (variable new))) av))) in
-      let e = held-all new table xs (binary Imp (binary And i (unary Not p)) r) (inr (inr (inl ai, inl ap), h)) in
+      let b = held-written new table xs (binary Imp m (box table s i)) (inr (hm, held-box s i a.1 (inl ai))) in
+      let c = held-written new table xs (binary Imp m (binary In v (named Natural))) (inr (hm, inl (none av))) in
+      let d = held-written new table xs (binary Imp m falls) (inr (hm, inl (free-falls v (box table s (binary Lt v (variable new))) av))) in
+      let e = held-written new table xs (binary Imp (binary And i (unary Not p)) r) (inr (inr (inl ai, inl ap), h)) in
       inr (inr (inr (inr (inl ai, b), c), d), e)
     where
       none : occurs new v ≡ false → (occurs new v || false) ≡ false

@@ -6,7 +6,7 @@ use Rattle.bk_form.specs.Table.{Table}
 use Rattle.bk_form.specs.ArrayTable.{ArrayTable, row_of}
 use Rattle.bk_form.specs.Formula.{Formula, btrue, unary, binary, for_all, for_some, comprehension, lambda}
 use Rattle.bk_form.specs.Search.{Finder}
-use Rattle.bk_form.specs.Environment.{Environment, State}
+use Rattle.bk_form.specs.Environment.{Environment, State, at_state}
 use Rattle.bk_form.specs.Operators.{implies}
 use Rattle.bk_form.specs.Meaning.{value, truth}
 use Rattle.bk_form.specs.Defined.{unary_inside, binary_inside, LeftToRight, Defined, Fits}
@@ -17,7 +17,7 @@ use Rattle.bk_form.specs.declared.operator.BinOp.TheVariants.{And, Or, Imp, Add,
 use Rattle.bk_form.proofs.Truth.{and-left, and-right}
 use Rattle.bk_bind.specs.Limits.{IsWithinLimits}
 use Rattle.bk_gsl.specs.Substitution.{Substitution, skip, assign, pre, guard, choice, if_else, seq, assert}
-use Rattle.bk_gsl.specs.State.{at_state, holds}
+use Rattle.bk_gsl.specs.State.{holds}
 use Rattle.bk_gsl.specs.Run.{Runs}
 use Rattle.bk_gsl.specs.Typed.{Types}
 use Rattle.bk_gsl.specs.Clean.{IsEvaluable, IsCleanAt, AreCleanTerms, Clean}

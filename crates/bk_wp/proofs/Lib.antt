@@ -1,4 +1,3 @@
-pub mod Closed
 pub mod Steps
 pub mod Closing
 pub mod Quantified
@@ -7,9 +6,9 @@ pub mod Plain
 pub mod Reading
 pub mod Binders
 pub mod Examples
-pub mod Outside
 pub mod Falls
 pub mod Loops
 pub mod Sound
 pub mod Growth
 pub mod Guarding
+pub mod Predicates

@@ -12,25 +12,26 @@ use Rattle.bk_form.specs.declared.operator.UnOp.TheVariants.{Not}
 use Rattle.bk_form.specs.declared.operator.BinOp.TheVariants.{And, Imp, Lt, In}
 use Rattle.bk_form.specs.declared.operator.Domain.TheVariants.{Natural}
 use Rattle.bk_form.specs.Search.{Finder, IsSearch}
-use Rattle.bk_form.specs.Environment.{State}
+use Rattle.bk_form.specs.Environment.{State, IsTypedState, at_state}
 use Rattle.bk_form.specs.Operators.{number_in, is_in_named}
 use Rattle.bk_form.specs.Replacement.{replaced, IsClosed, looked_up}
 use Rattle.bk_form.proofs.Truth.{and-true, and-left, and-right}
 use Rattle.bk_gsl.specs.Substitution.{Substitution, loop}
-use Rattle.bk_gsl.specs.State.{IsTypedState, at_state, holds, value_at, declared_type, are_values_for, with_value, with_values, among, over}
+use Rattle.bk_gsl.specs.State.{holds, value_at, declared_type, are_values_for, with_value, with_values, among, over}
 use Rattle.bk_gsl.specs.Writes.{writes}
 use Rattle.bk_gsl.specs.Run.{Turns, Bounded, Runs, Ends}
-use Rattle.bk_gsl.specs.Typed.{IsListed, AreListed, IsPredicate, IsTerm, Types}
+use Rattle.bk_gsl.specs.Typed.{IsListed, AreListed, IsTerm, Types}
+use Rattle.bk_form.specs.Predicates.{IsPredicate}
 use Rattle.bk_gsl.proofs.States.{cases, over-at, nat_eq-same, nat_eq-self}
 use Rattle.bk_gsl.proofs.Runs.{changes-only, run-typed}
-use Rattle.bk_wp.specs.Closing.{all_of}
+use Rattle.bk_wp.specs.Quantifiers.{all_written}
 use Rattle.bk_wp.specs.Box.{variant_before, box}
 use Rattle.bk_wp.specs.Laws.{AllMeet}
-use Rattle.bk_wp.proofs.Closed.{predicate-closed, term-closed}
-use Rattle.bk_wp.proofs.Closing.{value-over}
+use Rattle.bk_form.proofs.Closed.{predicate-closed, term-closed}
+use Rattle.bk_gsl.proofs.Over.{value-over}
 use Rattle.bk_wp.proofs.Steps.{implies-then}
-use Rattle.bk_wp.proofs.Quantified.{all_of-true}
-use Rattle.bk_wp.proofs.Outside.{avoids, term-free, runs-over}
+use Rattle.bk_wp.proofs.Quantified.{all_written-true}
+use Rattle.bk_gsl.proofs.Outside.{avoids, term-free, runs-over}
 use Rattle.bk_wp.proofs.Falls.{Is, held-box, held-truth}
 
 -- ---- a state that differs from e at most on zs
@@ -105,19 +106,19 @@ module _ (find : Finder) (law : IsSearch find) (table : Table) (facts : IsWellFo
 
   pub record Loop (e : State) : Type 0 where
     pub start : holds find table e i ≡ true
-    pub body : holds find table e (all_of table (writes s) (binary Imp (binary And i p) (box table s i))) ≡ true
-    pub counts : holds find table e (all_of table (writes s) (binary Imp (binary And i p) (binary In v (named Natural)))) ≡ true
-    pub falls : holds find table e (all_of table (writes s) (binary Imp (binary And i p) (replaced (looked_up ((new, v) ∷ [])) (box table s less)))) ≡ true
-    pub leaves : holds find table e (all_of table (writes s) (binary Imp (binary And i (unary Not p)) r)) ≡ true
+    pub body : holds find table e (all_written table (writes s) (binary Imp (binary And i p) (box table s i))) ≡ true
+    pub counts : holds find table e (all_written table (writes s) (binary Imp (binary And i p) (binary In v (named Natural)))) ≡ true
+    pub falls : holds find table e (all_written table (writes s) (binary Imp (binary And i p) (replaced (looked_up ((new, v) ∷ [])) (box table s less)))) ≡ true
+    pub leaves : holds find table e (all_written table (writes s) (binary Imp (binary And i (unary Not p)) r)) ≡ true
 
   pub loop-of : (e : State) → holds find table e (box table (loop p s i v) r) ≡ true → Loop e
   loop-of e h =
       let xs = writes s in
       let a = holds find table e i in
-      let b = holds find table e (all_of table xs (binary Imp (binary And i p) (box table s i))) in
-      let c = holds find table e (all_of table xs (binary Imp (binary And i p) (binary In v (named Natural)))) in
-      let d = holds find table e (all_of table xs (binary Imp (binary And i p) (replaced (looked_up ((new, v) ∷ [])) (box table s less)))) in
-      let m = holds find table e (all_of table xs (binary Imp (binary And i (unary Not p)) r)) in
+      let b = holds find table e (all_written table xs (binary Imp (binary And i p) (box table s i))) in
+      let c = holds find table e (all_written table xs (binary Imp (binary And i p) (binary In v (named Natural)))) in
+      let d = holds find table e (all_written table xs (binary Imp (binary And i p) (replaced (looked_up ((new, v) ∷ [])) (box table s less)))) in
+      let m = holds find table e (all_written table xs (binary Imp (binary And i (unary Not p)) r)) in
       let h1 = and-left (((a && b) && c) && d) m h in
       let h2 = and-left ((a && b) && c) d h1 in
       let h3 = and-left (a && b) c h2 in
@@ -133,8 +134,8 @@ module _ (find : Finder) (law : IsSearch find) (table : Table) (facts : IsWellFo
       same : (n : ℕ) → among (writes s) n ≡ false → f n ≡ e n
       keeps : holds find table f i ≡ true
 
-    at-near : (b : Formula) → IsClosed 0 b → holds find table e (all_of table (writes s) b) ≡ true → (f : State) → Near f → holds find table f b ≡ true
-    at-near b c h f n = subst (λ x. holds find table x b ≡ true) (λ j m. with_values-to e f (writes s) n.same m j) ((all_of-true find law table facts e (writes s) b c listed).0 h (map f (writes s)) (values-of table f n.typed (writes s) listed))
+    at-near : (b : Formula) → IsClosed 0 b → holds find table e (all_written table (writes s) b) ≡ true → (f : State) → Near f → holds find table f b ≡ true
+    at-near b c h f n = subst (λ x. holds find table x b ≡ true) (λ j m. with_values-to e f (writes s) n.same m j) ((all_written-true find law table facts e (writes s) b c listed).0 h (map f (writes s)) (values-of table f n.typed (writes s) listed))
 
     abbrev size : State → ℕ
     size f = steps_of (value_at find table f v)

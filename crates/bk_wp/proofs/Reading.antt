@@ -13,79 +13,11 @@ use Rattle.bk_gsl.specs.Reads.{variables_of, all_variables_of, variables_of_term
 use Rattle.bk_gsl.specs.Run.{old_of}
 use Rattle.bk_gsl.specs.Writes.{writes}
 use Rattle.bk_gsl.proofs.States.{cases, clash, nat_eq-same, nat_eq-self, among-append}
-use Rattle.bk_wp.specs.Closing.{closed_over, all_closed_over, closed_over_each, all_of, some_of}
+use Rattle.bk_bind.specs.Closing.{closed_over, all_closed_over, closed_over_each}
+use Rattle.bk_wp.specs.Quantifiers.{all_of, some_of, all_written}
 use Rattle.bk_wp.specs.Box.{new_values, all_new, some_new, variant_before, box, diamond}
-use Rattle.bk_wp.proofs.Steps.{or-cases}
-
-pub or-left : (a b : Bool) → a ≡ true → (a || b) ≡ true
-or-left true b h = refl
-or-left false b h = absurd (cc)
-
-pub or-right : (a b : Bool) → b ≡ true → (a || b) ≡ true
-or-right true b h = refl
-or-right false b h = h
-
--- ---- lists
-pub among-left : (xs ys : List ℕ) (n : ℕ) → among xs n ≡ true → among (xs ++ ys) n ≡ true
-among-left xs ys n h = among-append xs ys n ∙ or-left (among xs n) (among ys n) h
-
-pub among-right : (xs ys : List ℕ) (n : ℕ) → among ys n ≡ true → among (xs ++ ys) n ≡ true
-among-right xs ys n h = among-append xs ys n ∙ or-right (among xs n) (among ys n) h
-
-pub among-outside : (zs xs : List ℕ) (n : ℕ) → among xs n ≡ true → among zs n ≡ false → among (outside zs xs) n ≡ true
-among-outside zs [] n h k = h
-among-outside zs (x ∷ xs) n h k = by_test (λ l. among-outside zs xs n l k) (among zs x) refl
-  where
-    later : (among xs n ≡ true → among (outside zs xs) n ≡ true) → nat_eq n x ≡ false → among (outside zs xs) n ≡ true
-    later on q = elim (or-cases (nat_eq n x) (among xs n) h) [ inl y ↦ clash (nat_eq n x) y q | inr y ↦ on y ]
-
-    other : among zs x ≡ true → nat_eq n x ≡ false
-    other q = elim (cases (nat_eq n x)) [ inl r ↦ clash (among zs x) q (ap (among zs) (sym (nat_eq-same n x r)) ∙ k) | inr r ↦ r ]
-
-    by_test : (among xs n ≡ true → among (outside zs xs) n ≡ true) → (b : Bool) → among zs x ≡ b → among (cond (not b) (x ∷ outside zs xs) (outside zs xs)) n ≡ true
-    by_test on true q = later on (other q)
-    by_test on false q = elim (or-cases (nat_eq n x) (among xs n) h) [ inl y ↦ or-left (nat_eq n x) (among (outside zs xs) n) y | inr y ↦ or-right (nat_eq n x) (among (outside zs xs) n) (on y) ]
-
-among-map : (by : ℕ → ℕ) (xs : List ℕ) (m : ℕ) → among xs m ≡ true → among (map by xs) (by m) ≡ true
-among-map by [] m h = absurd (cc)
-among-map by (x ∷ xs) m h = elim (or-cases (nat_eq m x) (among xs m) h) [
-  | inl q ↦ or-left (nat_eq (by m) (by x)) (among (map by xs) (by m)) (subst (λ y. nat_eq (by m) (by y) ≡ true) (nat_eq-same m x q) (nat_eq-self (by m)))
-  | inr q ↦ or-right (nat_eq (by m) (by x)) (among (map by xs) (by m)) (among-map by xs m q)
-]
-
-turned : (m n : ℕ) → nat_eq m n ≡ true → nat_eq n m ≡ true
-turned m n h = grind (arith, nat_tests)
-
--- ---- formulas
-mutual
-  pub occurs-variables : (f : Formula) (n : ℕ) → occurs n f ≡ true → among (variables_of f) n ≡ true
-  occurs-variables (variable m) n h = or-left (nat_eq n m) false (turned m n h)
-  occurs-variables (unary o f) n h = occurs-variables f n h
-  occurs-variables (binary o f g) n h = elim (or-cases (occurs n f) (occurs n g) h) [
-    | inl q ↦ among-left (variables_of f) (variables_of g) n (occurs-variables f n q)
-    | inr q ↦ among-right (variables_of f) (variables_of g) n (occurs-variables g n q)
-  ]
-  occurs-variables (for_all ts p) n h = occurs-variables p n h
-  occurs-variables (for_some ts p) n h = occurs-variables p n h
-  occurs-variables (comprehension rs p) n h = elim (or-cases (any_occurs n rs) (occurs n p) h) [
-    | inl q ↦ among-left (all_variables_of rs) (variables_of p) n (any-occurs-variables rs n q)
-    | inr q ↦ among-right (all_variables_of rs) (variables_of p) n (occurs-variables p n q)
-  ]
-  occurs-variables (lambda rs p v) n h = elim (or-cases (any_occurs n rs || occurs n p) (occurs n v) h) [
-    | inl k ↦ elim (or-cases (any_occurs n rs) (occurs n p) k) [
-      | inl q ↦ among-left (all_variables_of rs ++ variables_of p) (variables_of v) n (among-left (all_variables_of rs) (variables_of p) n (any-occurs-variables rs n q))
-      | inr q ↦ among-left (all_variables_of rs ++ variables_of p) (variables_of v) n (among-right (all_variables_of rs) (variables_of p) n (occurs-variables p n q))
-    ]
-    | inr q ↦ among-right (all_variables_of rs ++ variables_of p) (variables_of v) n (occurs-variables v n q)
-  ]
-  occurs-variables _ n h = absurd (cc)
-
-  any-occurs-variables : (fs : Formulas) (n : ℕ) → any_occurs n fs ≡ true → among (all_variables_of fs) n ≡ true
-  any-occurs-variables no_formulas n h = absurd (cc)
-  any-occurs-variables (formula_and f fs) n h = elim (or-cases (occurs n f) (any_occurs n fs) h) [
-    | inl q ↦ among-left (variables_of f) (all_variables_of fs) n (occurs-variables f n q)
-    | inr q ↦ among-right (variables_of f) (all_variables_of fs) n (any-occurs-variables fs n q)
-  ]
+use Rattle.bk_form.proofs.Members.{or-cases, or-left, or-right}
+use Rattle.bk_gsl.proofs.Reading.{among-left, among-right, among-outside, among-map, turned, occurs-variables, occurs-looked_up}
 
 -- a variable of a formula with others in the places of its variables
 pub record Brought (by : ℕ → Formula) (here : ℕ → Bool) (n : ℕ) : Type 0 where
@@ -174,12 +106,14 @@ occurs-each (z ∷ zs) f n h =
     (k.0, neither (nat_eq n z) (among zs n) w.1 k.1)
 
 pub occurs-all : (table : Table) (zs : List ℕ) (f : Formula) (n : ℕ) → occurs n (all_of table zs f) ≡ true → (occurs n f ≡ true) × (among zs n ≡ false)
-occurs-all table [] f n h = (h, refl)
-occurs-all table (z ∷ zs) f n h = occurs-each (z ∷ zs) f n h
+occurs-all table zs f n h = occurs-each zs f n h
+
+pub occurs-written : (table : Table) (zs : List ℕ) (f : Formula) (n : ℕ) → occurs n (all_written table zs f) ≡ true → (occurs n f ≡ true) × (among zs n ≡ false)
+occurs-written table [] f n h = (h, refl)
+occurs-written table (z ∷ zs) f n h = occurs-all table (z ∷ zs) f n h
 
 pub occurs-some : (table : Table) (zs : List ℕ) (f : Formula) (n : ℕ) → occurs n (some_of table zs f) ≡ true → (occurs n f ≡ true) × (among zs n ≡ false)
-occurs-some table [] f n h = (h, refl)
-occurs-some table (z ∷ zs) f n h = occurs-each (z ∷ zs) f n h
+occurs-some table zs f n h = occurs-each zs f n h
 
 occurs-new : (xs : List (ℕ × ℕ)) (p : Formula) (n : ℕ) → occurs n (new_values xs p) ≡ true → among (map (old_of xs) (outside (firsts xs) (variables_of p))) n ≡ true
 occurs-new xs p n h =
@@ -187,18 +121,6 @@ occurs-new xs p n h =
     let k = occurs-each (firsts xs) p w.place w.stands in
     let l = among-map (old_of xs) (outside (firsts xs) (variables_of p)) w.place (among-outside (firsts xs) (variables_of p) w.place (occurs-variables p w.place k.0) k.1) in
     subst (λ m. among (map (old_of xs) (outside (firsts xs) (variables_of p))) m ≡ true) (nat_eq-same (old_of xs w.place) n w.brings) l
-
--- what is brought by an assignment is a variable that stays or one of a term
-pub occurs-looked_up : (ps : List (ℕ × Formula)) (m n : ℕ) → occurs n (looked_up ps m) ≡ true → ((m ≡ n) × (among (firsts ps) m ≡ false)) ⊎ (among (variables_of_terms ps) n ≡ true)
-occurs-looked_up [] m n h = inl (nat_eq-same m n h, refl)
-occurs-looked_up (p ∷ ps) m n h = by_test (occurs-looked_up ps m n) (nat_eq m p.0) refl h
-  where
-    by_test : (occurs n (looked_up ps m) ≡ true → ((m ≡ n) × (among (firsts ps) m ≡ false)) ⊎ (among (variables_of_terms ps) n ≡ true)) → (b : Bool) → nat_eq m p.0 ≡ b → occurs n (cond b p.1 (looked_up ps m)) ≡ true → ((m ≡ n) × ((nat_eq m p.0 || among (firsts ps) m) ≡ false)) ⊎ (among (variables_of p.1 ++ variables_of_terms ps) n ≡ true)
-    by_test on true q l = inr (among-left (variables_of p.1) (variables_of_terms ps) n (occurs-variables p.1 n l))
-    by_test on false q l = elim (on l) [
-      | inl w ↦ inl (w.0, neither (nat_eq m p.0) (among (firsts ps) m) q w.1)
-      | inr w ↦ inr (among-right (variables_of p.1) (variables_of_terms ps) n w)
-    ]
 
 -- ---- box and diamond
 later : (A : Type 0) {B C : Type 0} → (B → C) → A ⊎ B → A ⊎ C
@@ -219,16 +141,11 @@ test-reads p s r n b f h = elim (or-cases (occurs n p) b h) [
   | inr q ↦ later (occurs n r ≡ true) (among-right (variables_of p) (read s) n) (f q)
 ]
 
-none-outside : (xs : List ℕ) (n : ℕ) → among xs n ≡ true → among (map (old_of []) (outside [] xs)) n ≡ true
-none-outside xs n h = among-map (λ m. m) (outside [] xs) n (among-outside [] xs n h refl)
-
 all-new-reads : (table : Table) (xs : List (ℕ × ℕ)) (p r : Formula) (n : ℕ) → occurs n (all_new table xs p r) ≡ true → (occurs n r ≡ true) ⊎ (among (map (old_of xs) (outside (firsts xs) (variables_of p))) n ≡ true)
-all-new-reads table [] p r n h = elim (or-cases (occurs n p) (occurs n r) h) [ inl q ↦ inr (none-outside (variables_of p) n (occurs-variables p n q)) | inr q ↦ inl q ]
-all-new-reads table (x ∷ xs) p r n h = elim (or-cases (occurs n (new_values (x ∷ xs) p)) (occurs n (closed_over_each (firsts (x ∷ xs)) r)) h) [ inl q ↦ inr (occurs-new (x ∷ xs) p n q) | inr q ↦ inl ((occurs-each (firsts (x ∷ xs)) r n q).0) ]
+all-new-reads table xs p r n h = elim (or-cases (occurs n (new_values xs p)) (occurs n (closed_over_each (firsts xs) r)) h) [ inl q ↦ inr (occurs-new xs p n q) | inr q ↦ inl ((occurs-each (firsts xs) r n q).0) ]
 
 some-new-reads : (table : Table) (xs : List (ℕ × ℕ)) (p r : Formula) (n : ℕ) → occurs n (some_new table xs p r) ≡ true → (occurs n r ≡ true) ⊎ (among (map (old_of xs) (outside (firsts xs) (variables_of p))) n ≡ true)
-some-new-reads table [] p r n h = elim (or-cases (occurs n p) (occurs n r) h) [ inl q ↦ inr (none-outside (variables_of p) n (occurs-variables p n q)) | inr q ↦ inl q ]
-some-new-reads table (x ∷ xs) p r n h = elim (or-cases (occurs n (new_values (x ∷ xs) p)) (occurs n (closed_over_each (firsts (x ∷ xs)) r)) h) [ inl q ↦ inr (occurs-new (x ∷ xs) p n q) | inr q ↦ inl ((occurs-each (firsts (x ∷ xs)) r n q).0) ]
+some-new-reads table xs p r n h = elim (or-cases (occurs n (new_values xs p)) (occurs n (closed_over_each (firsts xs) r)) h) [ inl q ↦ inr (occurs-new xs p n q) | inr q ↦ inl ((occurs-each (firsts xs) r n q).0) ]
 
 -- in [n := V] the number n is gone
 pub falls-reads : (k : ℕ) (v f : Formula) (n : ℕ) → occurs n (replaced (looked_up ((k, v) ∷ [])) f) ≡ true → (occurs n v ≡ true) ⊎ ((occurs n f ≡ true) × (nat_eq n k ≡ false))
@@ -286,26 +203,26 @@ box-reads table (loop p s i v) r n h =
     let in_i = λ (q : occurs n i ≡ true). among-left ((variables_of p ++ read s) ++ variables_of i) (variables_of v) n (among-right (variables_of p ++ read s) (variables_of i) n (occurs-variables i n q)) in
     let in_v = λ (q : occurs n v ≡ true). among-right ((variables_of p ++ read s) ++ variables_of i) (variables_of v) n (occurs-variables v n q) in
     let in_m : (occurs n i || occurs n p) ≡ true → among (((variables_of p ++ read s) ++ variables_of i) ++ variables_of v) n ≡ true = λ q. elim (or-cases (occurs n i) (occurs n p) q) [ inl y ↦ in_i y | inr y ↦ in_p y ] in
-    let b = occurs n (all_of table xs (binary Imp m body)) in
-    let c = occurs n (all_of table xs (binary Imp m (binary In v (named Natural)))) in
-    let d = occurs n (all_of table xs (binary Imp m (replaced (looked_up ((k, v) ∷ [])) falls))) in
-    let f = occurs n (all_of table xs (binary Imp (binary And i (unary Not p)) r)) in
+    let b = occurs n (all_written table xs (binary Imp m body)) in
+    let c = occurs n (all_written table xs (binary Imp m (binary In v (named Natural)))) in
+    let d = occurs n (all_written table xs (binary Imp m (replaced (looked_up ((k, v) ∷ [])) falls))) in
+    let f = occurs n (all_written table xs (binary Imp (binary And i (unary Not p)) r)) in
     elim (or-cases (((occurs n i || b) || c) || d) f h) [
       | inl h1 ↦ inr (elim (or-cases ((occurs n i || b) || c) d h1) [
         | inl h2 ↦ elim (or-cases (occurs n i || b) c h2) [
           | inl h3 ↦ elim (or-cases (occurs n i) b h3) [
             | inl q ↦ in_i q
-            | inr q ↦ elim (or-cases (occurs n i || occurs n p) (occurs n body) ((occurs-all table xs (binary Imp m body) n q).0)) [
+            | inr q ↦ elim (or-cases (occurs n i || occurs n p) (occurs n body) ((occurs-written table xs (binary Imp m body) n q).0)) [
               | inl y ↦ in_m y
               | inr y ↦ elim (box-reads table s i n y) [ inl z ↦ in_i z | inr z ↦ in_s z ]
             ]
           ]
-          | inr q ↦ elim (or-cases (occurs n i || occurs n p) (occurs n v || false) ((occurs-all table xs (binary Imp m (binary In v (named Natural))) n q).0)) [
+          | inr q ↦ elim (or-cases (occurs n i || occurs n p) (occurs n v || false) ((occurs-written table xs (binary Imp m (binary In v (named Natural))) n q).0)) [
             | inl y ↦ in_m y
             | inr y ↦ elim (or-cases (occurs n v) false y) [ inl z ↦ in_v z | inr z ↦ absurd (cc) ]
           ]
         ]
-        | inr q ↦ elim (or-cases (occurs n i || occurs n p) (occurs n (replaced (looked_up ((k, v) ∷ [])) falls)) ((occurs-all table xs (binary Imp m (replaced (looked_up ((k, v) ∷ [])) falls)) n q).0)) [
+        | inr q ↦ elim (or-cases (occurs n i || occurs n p) (occurs n (replaced (looked_up ((k, v) ∷ [])) falls)) ((occurs-written table xs (binary Imp m (replaced (looked_up ((k, v) ∷ [])) falls)) n q).0)) [
           | inl y ↦ in_m y
           | inr y ↦
               let w = falls-reads k v falls n y in
@@ -318,7 +235,7 @@ box-reads table (loop p s i v) r n h =
               ]
         ]
       ])
-      | inr q ↦ elim (or-cases (occurs n i || occurs n p) (occurs n r) ((occurs-all table xs (binary Imp (binary And i (unary Not p)) r) n q).0)) [
+      | inr q ↦ elim (or-cases (occurs n i || occurs n p) (occurs n r) ((occurs-written table xs (binary Imp (binary And i (unary Not p)) r) n q).0)) [
         | inl y ↦ inr (in_m y)
         | inr y ↦ inl y
       ]

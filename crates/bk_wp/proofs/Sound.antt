@@ -8,10 +8,11 @@ use Rattle.bk_form.specs.Table.{Table, variable_type, IsWellFormed}
 use Rattle.bk_form.specs.Formula.{Formula, variable, binary}
 use Rattle.bk_form.specs.declared.operator.BinOp.TheVariants.{Lt}
 use Rattle.bk_form.specs.Search.{Finder, IsSearch}
-use Rattle.bk_form.specs.Environment.{State}
+use Rattle.bk_form.specs.Environment.{State, IsTypedState}
 use Rattle.bk_form.specs.Replacement.{occurs, IsClosed, looked_up}
+use Rattle.bk_form.proofs.Members.{or-left, or-right}
 use Rattle.bk_gsl.specs.Substitution.{Substitution, skip, assign, pre, guard, choice, if_else, any, seq, par, assert, becomes_such, loop}
-use Rattle.bk_gsl.specs.State.{IsTypedState, are_values_for, with_values, among, firsts}
+use Rattle.bk_gsl.specs.State.{are_values_for, with_values, among, firsts}
 use Rattle.bk_gsl.specs.Reads.{read}
 use Rattle.bk_gsl.specs.Run.{Runs}
 use Rattle.bk_gsl.specs.Writes.{written, writes}
@@ -19,14 +20,12 @@ use Rattle.bk_gsl.specs.Typed.{IsListed, AreListed, AreTypedTerms, AreTypedPairs
 use Rattle.bk_gsl.proofs.States.{cases, clash, nat_eq-same, nat_eq-self, among-append, among-in_order, with_values-typed}
 use Rattle.bk_gsl.proofs.Runs.{run-typed}
 use Rattle.bk_wp.specs.Box.{variant_before, box}
-use Rattle.bk_wp.specs.Shapes.{IsFlat}
-use Rattle.bk_wp.specs.Apart.{AreApart}
+use Rattle.bk_gsl.specs.Flat.{IsFlat}
+use Rattle.bk_gsl.specs.Apart.{AreApart}
 use Rattle.bk_wp.specs.Laws.{BoxIsSound}
-use Rattle.bk_wp.proofs.Closed.{predicate-closed, term-closed}
-use Rattle.bk_wp.proofs.Closing.{closed-replaced}
+use Rattle.bk_form.proofs.Closed.{predicate-closed, term-closed, closed-replaced}
 use Rattle.bk_wp.proofs.Steps.{or-cases}
 use Rattle.bk_wp.proofs.Quantified.{all_of-true, all_new-true}
-use Rattle.bk_wp.proofs.Reading.{or-left, or-right}
 use Rattle.bk_wp.proofs.Binders.{ReadLater, box-closed, box-later, misses}
 use Rattle.bk_wp.proofs.Exact.{FineBox, box-then}
 use Rattle.bk_wp.proofs.Loops.{new-unlisted, loop-of, loop-meets}
@@ -77,7 +76,7 @@ module _ (table : Table) where
   written-listed (becomes_such xs p) w n h = among-listed (firsts xs) (pairs-listed xs w.0) n h
   written-listed (loop p s i v) w n h = written-listed s w.1 n h
 
-  writes-listed : (s : Substitution) → Types table s → AreListed table (writes s)
+  pub writes-listed : (s : Substitution) → Types table s → AreListed table (writes s)
   writes-listed s w = are-listed (writes s) (λ n h. written-listed s w n (sym (among-in_order (written s) n) ∙ h))
 
   -- ---- only what is listed can be a local
@@ -138,4 +137,4 @@ module _ (find : Finder) (law : IsSearch find) (table : Table) (facts : IsWellFo
       e (loop-of find law table facts p s i v r w.0 w.1 w.2 w.3 c listed e h) o
 
 pub box-is-sound : BoxIsSound
-box-is-sound find law table facts s y w r t a e o h = box-then find table (IsTypedState table) (kept find law table facts) (set find law table facts) s r w (fine-box find law table facts (λ n. occurs n r) s r y w a (λ n q. q) (predicate-closed table r t)) e o h
+box-is-sound find law table facts s y w r t a e o h = box-then find table (IsTypedState table) (kept find law table facts) (set find law table facts) s r w (fine-box find law table facts (λ n. occurs n r) s r y w a (λ n q. q) t) e o h

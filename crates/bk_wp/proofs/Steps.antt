@@ -5,16 +5,16 @@ use Rattle.bk_val.specs.ValueType.{ValueType}
 use Rattle.bk_form.specs.Table.{Table, variable_type}
 use Rattle.bk_form.specs.Formula.{Formula, variable}
 use Rattle.bk_form.specs.Search.{Finder}
-use Rattle.bk_form.specs.Environment.{State}
+use Rattle.bk_form.specs.Environment.{State, at_state}
 use Rattle.bk_form.specs.Operators.{implies}
 use Rattle.bk_form.specs.Role.{given_by}
 use Rattle.bk_form.specs.Replacement.{replaced, IsClosed, IsReplacement, GivesType, looked_up}
 use Rattle.bk_form.proofs.Replaced.{meaning-replaced}
-use Rattle.bk_gsl.specs.State.{at_state, holds, firsts}
+use Rattle.bk_gsl.specs.State.{holds}
 use Rattle.bk_gsl.specs.Run.{assigned, old_of}
-use Rattle.bk_gsl.specs.Typed.{AreTypedTerms, AreTypedPairs, AreListed}
+use Rattle.bk_gsl.specs.Typed.{AreTypedTerms, AreTypedPairs}
 use Rattle.bk_gsl.proofs.States.{nat_eq-same}
-use Rattle.bk_wp.proofs.Closed.{term-closed}
+use Rattle.bk_form.proofs.Closed.{term-closed}
 
 pub implies-then : (a b : Bool) → implies a b ≡ true → a ≡ true → b ≡ true
 implies-then true b h k = h
@@ -67,7 +67,3 @@ olds-replace table (x ∷ xs) w n = by_test (olds-replace table xs w.1 n) (nat_e
     by_test : Stands table n (variable (old_of xs n)) → (b : Bool) → nat_eq n x.1 ≡ b → Stands table n (variable (cond b x.0 (old_of xs n)))
     by_test on true h = inr (w.0.0, subst (λ m. variable_type table m ≡ Some w.0.0) (sym (nat_eq-same n x.1 h)) w.0.2, record { closed = tt; of_type = ap given_by w.0.1 })
     by_test on false h = on
-
-pub firsts-listed : (table : Table) (xs : List (ℕ × ℕ)) → AreTypedPairs table xs → AreListed table (firsts xs)
-firsts-listed table [] w = tt
-firsts-listed table (x ∷ xs) w = ((w.0.0, w.0.1), firsts-listed table xs w.1)

@@ -2,7 +2,7 @@
 use Rattle.std.specs.Prelude.{ℕ, List, [], ◌∷◌, length}
 use Rattle.bk_form.specs.Table.{Table}
 use Rattle.bk_form.specs.Formula.{Formula, variable, named, bfalse, unary, binary, for_all, for_some}
-use Rattle.bk_form.specs.Replacement.{replaced, looked_up}
+use Rattle.bk_form.specs.Replacement.{replaced, looked_up, renamed}
 use Rattle.bk_form.specs.declared.operator.UnOp.TheVariants.{Not}
 use Rattle.bk_form.specs.declared.operator.BinOp.TheVariants.{And, Or, Imp, Lt, In}
 use Rattle.bk_form.specs.declared.operator.Domain.TheVariants.{Natural}
@@ -10,8 +10,8 @@ use Rattle.bk_gsl.specs.Substitution.{Substitution, skip, assign, pre, guard, ch
 use Rattle.bk_gsl.specs.State.{firsts}
 use Rattle.bk_gsl.specs.Writes.{writes}
 use Rattle.bk_gsl.specs.Run.{old_of}
-use Rattle.bk_gsl.specs.Flat.{renamed}
-use Rattle.bk_wp.specs.Closing.{closed_over_each, types_of, all_of, some_of}
+use Rattle.bk_bind.specs.Closing.{closed_over_each}
+use Rattle.bk_wp.specs.Quantifiers.{types_of, all_of, some_of, all_written}
 
 -- P of x :(P) with new values bound for the variables: what stands for an old value becomes the variable
 abbrev pub new_values : List (ℕ × ℕ) → Formula → Formula
@@ -19,13 +19,11 @@ new_values xs p = renamed (old_of xs) (closed_over_each (firsts xs) p)
 
 -- !z.(P' => R')
 abbrev pub all_new : Table → List (ℕ × ℕ) → Formula → Formula → Formula
-all_new table [] p r = binary Imp p r
-all_new table (x ∷ xs) p r = for_all (types_of table (firsts (x ∷ xs))) (binary Imp (new_values (x ∷ xs) p) (closed_over_each (firsts (x ∷ xs)) r))
+all_new table xs p r = for_all (types_of table (firsts xs)) (binary Imp (new_values xs p) (closed_over_each (firsts xs) r))
 
 -- #z.(P' & R')
 abbrev pub some_new : Table → List (ℕ × ℕ) → Formula → Formula → Formula
-some_new table [] p r = binary And p r
-some_new table (x ∷ xs) p r = for_some (types_of table (firsts (x ∷ xs))) (binary And (new_values (x ∷ xs) p) (closed_over_each (firsts (x ∷ xs)) r))
+some_new table xs p r = for_some (types_of table (firsts xs)) (binary And (new_values xs p) (closed_over_each (firsts xs) r))
 
 -- a number that the table does not list: before a turn of a loop it stands for the value of the variant
 abbrev pub variant_before : Table → ℕ
@@ -36,10 +34,10 @@ variant_before table = length table.variables
 abbrev pub loop_box : Table → List ℕ → Formula → Formula → Formula → Formula → Formula → Formula → Formula
 loop_box table xs p i v r body falls =
     binary And (binary And (binary And (binary And i
-    (all_of table xs (binary Imp (binary And i p) body)))
-    (all_of table xs (binary Imp (binary And i p) (binary In v (named Natural)))))
-    (all_of table xs (binary Imp (binary And i p) (replaced (looked_up ((variant_before table, v) ∷ [])) falls))))
-    (all_of table xs (binary Imp (binary And i (unary Not p)) r))
+    (all_written table xs (binary Imp (binary And i p) body)))
+    (all_written table xs (binary Imp (binary And i p) (binary In v (named Natural)))))
+    (all_written table xs (binary Imp (binary And i p) (replaced (looked_up ((variant_before table, v) ∷ [])) falls))))
+    (all_written table xs (binary Imp (binary And i (unary Not p)) r))
 
 -- [S]R
 abbrev pub box : Table → Substitution → Formula → Formula

@@ -5,16 +5,19 @@ use Rattle.bk_form.specs.Formula.{Formula, unary}
 use Rattle.bk_form.specs.declared.operator.UnOp.TheVariants.{Not}
 use Rattle.bk_form.specs.Search.{Finder, IsSearch}
 use Rattle.bk_form.specs.ArrayTable.{ArrayTable}
-use Rattle.bk_form.specs.Environment.{State}
+use Rattle.bk_form.specs.Environment.{State, IsTypedState}
 use Rattle.bk_gsl.specs.Substitution.{Substitution}
-use Rattle.bk_gsl.specs.State.{IsTypedState, holds}
+use Rattle.bk_gsl.specs.State.{holds}
 use Rattle.bk_gsl.specs.Run.{Runs, Ends}
-use Rattle.bk_gsl.specs.Typed.{IsPredicate, Types}
+use Rattle.bk_gsl.specs.Typed.{Types}
+use Rattle.bk_form.specs.Predicates.{IsPredicate}
 use Rattle.bk_wp.specs.Box.{box, diamond}
 use Rattle.bk_gsl.specs.Clean.{Clean}
 use Rattle.bk_wp.specs.Guarded.{HasNoArrays, HasTotal, guarded}
-use Rattle.bk_wp.specs.Shapes.{HasNoBinder, HasNoLoop, IsFlat}
-use Rattle.bk_wp.specs.Apart.{LocalsAreApart}
+use Rattle.bk_wp.specs.Shapes.{HasNoBinder, HasNoLoop}
+use Rattle.bk_gsl.specs.Flat.{IsFlat}
+use Rattle.bk_gsl.specs.Apart.{LocalsAreApart}
+use Rattle.bk_form.specs.Replacement.{IsClosed}
 
 -- the substitution ends from the state, and all its results meet the formula
 abbrev pub AllMeet : Finder → Table → Substitution → Formula → State → Type 0
@@ -56,7 +59,7 @@ abbrev pub GuardedIsClean : Type 0
 GuardedIsClean = (find : Finder) (table : Table) (arrays : Option ArrayTable) → HasNoArrays arrays → (s : Substitution) → HasTotal s → Types table s → (r : Formula) (e : State) →
     holds find table e (box table s r) ≡ true → holds find table e (guarded table arrays s) ≡ true → Clean find table arrays s e
 
--- ---- with loops
+-- ---- with loops, where R has no loose bound number
 -- where [S]R is true in a typed state, S ends and all its results meet R; the other way is not so, since an invariant may say too little
 abbrev pub BoxIsSound : Type 0
-BoxIsSound = (find : Finder) → IsSearch find → (table : Table) → IsWellFormed table → (s : Substitution) → IsFlat s → Types table s → (r : Formula) → IsPredicate table r → LocalsAreApart s r → (e : State) → IsTypedState table e → holds find table e (box table s r) ≡ true → AllMeet find table s r e
+BoxIsSound = (find : Finder) → IsSearch find → (table : Table) → IsWellFormed table → (s : Substitution) → IsFlat s → Types table s → (r : Formula) → IsClosed 0 r → LocalsAreApart s r → (e : State) → IsTypedState table e → holds find table e (box table s r) ≡ true → AllMeet find table s r e

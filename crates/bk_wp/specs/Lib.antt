@@ -1,9 +1,8 @@
 pub mod Faults
-pub mod Closing
 pub mod Growth
 pub mod Box
 pub mod Guarded
 pub mod Shapes
-pub mod Apart
 pub mod Laws
 pub mod Examples
+pub mod Quantifiers

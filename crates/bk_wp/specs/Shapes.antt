@@ -13,19 +13,6 @@ HasNoBinder (seq s t) = HasNoBinder s × HasNoBinder t
 HasNoBinder (assert p s) = HasNoBinder s
 HasNoBinder _ = ⊥
 
--- no ||
-abbrev pub IsFlat : Substitution → Type 0
-IsFlat (pre p s) = IsFlat s
-IsFlat (guard p s) = IsFlat s
-IsFlat (choice s t) = IsFlat s × IsFlat t
-IsFlat (if_else p s t) = IsFlat s × IsFlat t
-IsFlat (any zs s) = IsFlat s
-IsFlat (seq s t) = IsFlat s × IsFlat t
-IsFlat (assert p s) = IsFlat s
-IsFlat (loop p s i v) = IsFlat s
-IsFlat (par s t) = ⊥
-IsFlat _ = Unit {0}
-
 -- no loop and no ||
 abbrev pub HasNoLoop : Substitution → Type 0
 HasNoLoop (pre p s) = HasNoLoop s

@@ -17,8 +17,9 @@ use Rattle.bk_code.specs.Step.{Config}
 use Rattle.bk_code.specs.Run.{End, Done, Trapped, OutOfFuel, Ends}
 use Rattle.bk_code.proofs.Runs.{one_end}
 use Rattle.bk_code.specs.Session.{call_start, first_start, outputs_of, given_out, Request, Told, Answers, Continues, Session}
-use Rattle.bk_dev.specs.Development.{Head, Body, Level, Development, blank_body, level_at, body_at, inputs_of, last}
-use Rattle.bk_dev.specs.Facts.{is_input, home_of, AllAre, Each, IsHeadOf, IsDevelopment}
+use Rattle.bk_dev.specs.Development.{Head, Body, Development, blank_body, level_at, body_at, inputs_of, last}
+use Rattle.bk_dev.specs.Facts.{is_input, home_of, AllAre, IsHeadOf, IsLawful}
+use Rattle.bk_form.specs.Each.{Each}
 use Rattle.bk_dev.specs.Machine.{Abstract, Opens, Call, IsCall, is_in_int, are_in_int, Pre, Steps, After, LegalFrom}
 use Rattle.bk_gen.specs.Simple.{IsSimple}
 use Rattle.bk_gen.specs.Translation.{operation_code, operations_code, init_code, entries, translation}
@@ -29,18 +30,16 @@ use Rattle.bk_sim.specs.Follows.{IsEntry, as_values, replies, started, IsGood, I
 use Rattle.bk_dev.proofs.Levels.{each-at}
 use Rattle.bk_sim.proofs.SimpleCode.{simple_ends}
 use Rattle.bk_calls.specs.Script.{AsksFor}
-use Rattle.bk_po.proofs.Basics.{basic_have_no_par}
 use Rattle.bk_status.proofs.Tables.{proved_developments_are_correct}
 use Rattle.bk_lines.specs.Lines.{kept_lines}
 use Rattle.bk_scripts.specs.WrittenRule.{Script}
 use Rattle.bk_io.specs.Files.{Files}
-use Rattle.bk_front.proofs.Readings.{is_development, is_simple, is_plain}
+use Rattle.bk_front.proofs.Readings.{is_development, is_simple, is_basic}
 use Rattle.bkit.specs.declared.status.Status.TheVariants.{Done as DoneStatus}
 use Rattle.bkit.specs.Session.{fuel, status_of, last_end, session_status}
 use Rattle.bkit.specs.Legal.{call_of, done_or, replied, AreLegal}
 use Rattle.bkit.specs.Run.{ReadsProject, IsProved, IsWithinCodeLimits, ReadsCalls}
 use Rattle.bkit.specs.Laws.{ProjectsEnd, LegalCallsAreDone}
-use Rattle.bkit.proofs.Following.{first_have_no_par}
 use Rattle.bkit.proofs.Plays.{IsDone}
 use Rattle.bkit.proofs.Projects.{project_follows, entries_few}
 
@@ -49,9 +48,9 @@ pub projects_end : ProjectsEnd
 projects_end files project dev scripts h proved find law =
     let facts = is_development h.texts dev h.reads in
     let simple = is_simple h.texts dev h.reads in
-    let plain = is_plain h.texts dev h.reads in
-    let correct = proved_developments_are_correct find law dev scripts facts plain proved.proved in
-    simple_ends find dev facts simple (first_have_no_par (last dev) dev.levels (basic_have_no_par dev plain.basic)) (correct.values simple.complete) correct.keeps correct.carries
+    let basic = is_basic h.texts dev h.reads in
+    let correct = proved_developments_are_correct find law dev scripts facts basic proved.proved in
+    simple_ends find dev facts simple (correct.values simple.complete) correct.keeps correct.carries
 
 some_entry : (ops : List OpEntry) (o : ℕ) (entry : OpEntry) → slice_get ops o ≡ Some entry → o < length ops
 some_entry [] o entry e = absurd (cc)
@@ -98,7 +97,7 @@ operation_within dev o entry there =
 abbrev AreWhole : Development → List ℕ → Type 0
 AreWhole dev xs = Each (λ x. declared_type dev.table x ≡ int_type) xs
 
-inputs_whole : (dev : Development) → IsDevelopment dev → IsSimple dev → (xs : List ℕ) → AllAre (λ n. is_input (home_of dev n)) xs → AreWhole dev xs
+inputs_whole : (dev : Development) → IsLawful dev → IsSimple dev → (xs : List ℕ) → AllAre (λ n. is_input (home_of dev n)) xs → AreWhole dev xs
 inputs_whole dev f s [] h = tt
 inputs_whole dev f s (x ∷ xs) h = (type_at_home dev f s is_input x refl h.0, inputs_whole dev f s xs h.1)
 
@@ -141,7 +140,7 @@ same_entry image o one other h k = ap (value one) (sym h ∙ k)
     value d None = d
     value d (Some x) = x
 
-module _ (find : Finder) (dev : Development) (f : IsDevelopment dev) (s : IsSimple dev) (follows : Follows find dev (translation dev)) (in_code : EndsInCode find dev (translation dev)) (short : length (translation dev).code ≤ fuel) where
+module _ (find : Finder) (dev : Development) (f : IsLawful dev) (s : IsSimple dev) (follows : Follows find dev (translation dev)) (in_code : EndsInCode find dev (translation dev)) (short : length (translation dev).code ≤ fuel) where
   no_head : Head
   no_head = record { name = []; inputs = []; outputs = 0 }
 
@@ -233,7 +232,7 @@ requests_within image (l ∷ ls) (r ∷ rs) h = All-cons (λ x. All (IsWithin (p
 pub legal_calls_are_done : (files : Files) (project calls : List ℕ) (dev : Development) (scripts : List Script) (requests : List Request) → ReadsProject files project dev scripts → IsProved dev scripts → IsWithinCodeLimits (translation dev) →
     ReadsCalls files calls (translation dev) requests → (find : Finder) → IsSearch find → (tolds : List Told) → Session (translation dev) fuel requests tolds → AreLegal find dev requests tolds → session_status tolds ≡ DoneStatus
 legal_calls_are_done files project calls dev scripts requests reads proved short asks find law tolds session legal =
-    session_done find dev (is_development reads.texts dev reads.reads) (is_simple reads.texts dev reads.reads) (project_follows files project dev scripts reads proved find law) (projects_end files project dev scripts reads proved find law) short.code
+    session_done find dev (is_development reads.texts dev reads.reads).lawful (is_simple reads.texts dev reads.reads) (project_follows files project dev scripts reads proved find law) (projects_end files project dev scripts reads proved find law) short.code
     requests tolds (requests_within (translation dev) (kept_lines asks.text) requests asks.script) legal session
 
 -- and of what is played

@@ -16,7 +16,7 @@ use Rattle.bk_front.specs.declared.project_file.ProjectLine.{ProjectLine}
 use Rattle.bk_front.specs.ProjectFile.{IsFileName, IsProjectLine, NamesFiles, AreProjectLines, is_proofs, files_of}
 use Rattle.bk_front.specs.Project.{Reads}
 use Rattle.bk_front.proofs.ProjectFiles.{names_once}
-use Rattle.bk_front.proofs.Readings.{projects_are_one, is_development, is_simple, is_plain}
+use Rattle.bk_front.proofs.Readings.{projects_are_one, is_development, is_simple, is_basic}
 use Rattle.bk_scripts.specs.WrittenRule.{Script}
 use Rattle.bk_scripts.specs.Files.{AreScriptsOf}
 use Rattle.bk_scripts.specs.Laws.{ScriptsAreOne}
@@ -103,7 +103,7 @@ module _ (files : Files) (project : List ℕ) (dev other : Development) (scripts
 -- ---- a project whose obligations are proved has code that follows its machine
 pub project_follows : (files : Files) (project : List ℕ) (dev : Development) (scripts : List Script) → ReadsProject files project dev scripts → IsProved dev scripts → (find : Finder) → IsSearch find → Follows find dev (translation dev)
 project_follows files project dev scripts h proved find law =
-    proved_developments_follow find law dev scripts (is_development h.texts dev h.reads) (is_simple h.texts dev h.reads) (is_plain h.texts dev h.reads) proved.proved
+    proved_developments_follow find law dev scripts (is_development h.texts dev h.reads) (is_simple h.texts dev h.reads) (is_basic h.texts dev h.reads) proved.proved
 
 -- ---- the translation
 entries_within : (dev : Development) (place : ℕ) (hs : List Head) (bs : List Body) → length (entries dev place hs bs) ≤ length hs

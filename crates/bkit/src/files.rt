@@ -4,7 +4,7 @@ ghost use Rattle.std.specs.Prelude.{◌≡◌, ◌⊎◌, ◌≤◌, ◌<◌, �
 ghost use Rattle.bk_io.specs.Files.{Files};
 ghost use Rattle.bk_io.specs.Counts.{HasCause};
 ghost use Rattle.bk_gen.specs.Simple.{IsSimple};
-ghost use Rattle.bk_po.specs.Plain.{IsPlain};
+ghost use Rattle.bk_po.specs.Basic.{IsBasic};
 ghost use Rattle.bk_front.specs.ProjectFile.{IsFileName, AreProjectLines, files_of};
 ghost use Rattle.bk_front.specs.Project.{Reads, IsRefusal};
 ghost use Rattle.bk_front.specs.declared.refusal.Refusal.{Refusal};
@@ -94,7 +94,7 @@ pub(crate) fn read_project<H: Shelf>(
     ensures told { IfOk result (λ p. (files : Files) → H.files shelf.old ≡ Some files →
         ReadsProject files name.now p.development p.scripts.items) }
     ensures simple { IfOk result (λ p. IsSimple p.development) }
-    ensures plain { IfOk result (λ p. IsPlain p.development) }
+    ensures basic { IfOk result (λ p. IsBasic p.development) }
     ensures few { IfOk result (λ p. length p.development.heads ≤ 100) }
 {
     let lines = read_lines(alloc, name, shelf)?;
@@ -122,7 +122,7 @@ fn read_components(
     ensures checks { IfErr result IsOfChecks }
     ensures reads { IfOk result (Reads (map (λ text. text.items) texts.now)) }
     ensures simple { IfOk result IsSimple }
-    ensures plain { IfOk result IsPlain }
+    ensures basic { IfOk result IsBasic }
     ensures few { IfOk result (λ dev. length dev.heads ≤ 100) }
 {
     match project(alloc, lines, texts) {

@@ -4,7 +4,7 @@ use Rattle.std.specs.List.{list_all}
 use Rattle.std.specs.Option.{option_map}
 use Rattle.std.proofs.lemmas.Bool.{false_from_ne_true}
 use Rattle.std.proofs.lemmas.List.{take_all, take-append-le}
-use Rattle.bk_lin.specs.Inequality.{is_i128}
+use Rattle.bk_val.specs.Value.{fits_i128}
 use Rattle.bk_lin.specs.Certificate.{inequality_of}
 use Rattle.bk_lin.specs.Layout.{shown}
 use Rattle.bk_lin.proofs.Adding.{back}
@@ -25,9 +25,9 @@ returns-in_err-combine_entries-clause-value c =
     let xs : List ℤ = c.args.left.coefs.items in
     let ys : List ℤ = c.args.right.now.coefs.items in
     let z : ℤ = entry_of c.args.join c.args.left.constant c.args.right.now.constant in
-    let wide : list_all is_i128 (entries_of c.args.join xs ys) ≡ false =
-    ap (λ us. list_all is_i128 (entries_of c.args.join us ys)) (sym c.as_mut_slice.ensures.value)
-    ∙ ap (λ us. list_all is_i128 (entries_of c.args.join c.as_mut_slice.result.now us)) (sym c.as_slice.ensures.value)
+    let wide : list_all fits_i128 (entries_of c.args.join xs ys) ≡ false =
+    ap (λ us. list_all fits_i128 (entries_of c.args.join us ys)) (sym c.as_mut_slice.ensures.value)
+    ∙ ap (λ us. list_all fits_i128 (entries_of c.args.join c.as_mut_slice.result.now us)) (sym c.as_slice.ensures.value)
     ∙ false_from_ne_true _ (λ yes. no_truth (c.in_err-combine_entries.ensures.fits.1 yes)) in
     ap (λ o. option_map inequality_of o) c.from_residual-in_err-combine_entries.ensures
     ∙ sym (ap (λ p. if_narrow p) (joined-entries c.args.join (inequality_of c.args.left) (inequality_of c.args.right.now) c.requires)
@@ -47,11 +47,11 @@ returns-clause-value c =
     c.in_ok-combine_entries.ensures.made
     ∙ ap (λ us. entries_of c.args.join us c.as_slice.result.now) c.as_mut_slice.ensures.value
     ∙ ap (λ us. entries_of c.args.join xs us) c.as_slice.ensures.value in
-    let fits : list_all is_i128 (entries_of c.args.join xs ys) ≡ true =
-    ap (λ us. list_all is_i128 us) (sym made) ∙ ap (λ us. list_all is_i128 us) c.in_ok-combine_entries.ensures.made ∙ c.in_ok-combine_entries.ensures.fits.0 refl in
+    let fits : list_all fits_i128 (entries_of c.args.join xs ys) ≡ true =
+    ap (λ us. list_all fits_i128 us) (sym made) ∙ ap (λ us. list_all fits_i128 us) c.in_ok-combine_entries.ensures.made ∙ c.in_ok-combine_entries.ensures.fits.0 refl in
     let constant : cast_signed w128 (cast_unsigned w128 c.in_ok-constant.constant) ≡ z =
     back c.in_ok-constant.constant (search rules) ∙ c.in_ok-constant.ensures.1 ∙ same_z in
-    let constant_fits : is_i128 z ≡ true = ap (λ w. is_i128 w) (sym same_z) ∙ c.in_ok-constant.ensures.0 in
+    let constant_fits : fits_i128 z ≡ true = ap (λ w. fits_i128 w) (sym same_z) ∙ c.in_ok-constant.ensures.0 in
     let items : (with_items c.args.left.coefs c.combine_entries.new.target).items ≡ c.combine_entries.new.target =
     refilled c.args.left.coefs.len c.combine_entries.new.target c.args.left.coefs.items (omega (arith, c.combine_entries.auto.target, c.as_mut_slice.ensures.len)) in
     ap (λ us. Some (shown us (cast_signed w128 (cast_unsigned w128 c.in_ok-constant.constant)))) (items ∙ made)

@@ -1,6 +1,6 @@
 use Rattle.std.proofs.Common.{◌≡◌, ℕ, ℤ, true, pos, get_or, sym, ap, ◌∙◌, arith, rules}
 use Rattle.std.specs.Int.{w128, cast_signed, cast_unsigned}
-use Rattle.bk_lin.specs.Inequality.{is_i128}
+use Rattle.bk_val.specs.Value.{fits_i128}
 use Rattle.bk_lin.proofs.Adding.{back}
 use Rattle.bk_arith.specs.Layout.{entry_of}
 use Rattle.bk_arith.proofs.Entries.{all_fit-more, zipped-more}
@@ -16,8 +16,8 @@ loop-k-preserved c =
     let same_s : cast_signed w128 (cast_unsigned w128 s) ≡ s = back s (search rules) in
     let same_e : cast_signed w128 (cast_unsigned w128 e) ≡ e = back e (search rules) in
     let same_v : v ≡ c.in_ok-number.field-0 = back c.in_ok-number.field-0 (search rules) in
-    let fits : is_i128 (f s e) ≡ true =
-    ap (λ x. is_i128 (f x e)) (sym same_s) ∙ ap (λ x. is_i128 (f (cast_signed w128 (cast_unsigned w128 s)) x)) (sym same_e) ∙ c.in_ok-number.ensures.0 in
+    let fits : fits_i128 (f s e) ≡ true =
+    ap (λ x. fits_i128 (f x e)) (sym same_s) ∙ ap (λ x. fits_i128 (f (cast_signed w128 (cast_unsigned w128 s)) x)) (sym same_e) ∙ c.in_ok-number.ensures.0 in
     let value : v ≡ f s e =
     same_v ∙ c.in_ok-number.ensures.1 ∙ ap (λ x. f x (cast_signed w128 (cast_unsigned w128 e))) same_s ∙ ap (λ x. f s x) same_e in
     record {

@@ -1,6 +1,5 @@
 use Rattle.std.proofs.Common.{◌≡◌, ◌+◌, take, ◌∙◌, ap}
-use Rattle.bk_raw.specs.Brackets.{opens_bracket, closes_bracket}
-use Rattle.bk_p_expr.specs.Depth.{open_brackets, open_behind}
+use Rattle.bk_raw.specs.Brackets.{opens_bracket, closes_bracket, open_brackets, open_behind}
 use Rattle.bk_p_expr.proofs.Counting.{count_step}
 use Rattle.bk_comp.proofs.Depths.{shallow_more, deep_there}
 use Rattle.bk_comp.proofs.limits.is_shallow.Goals as goal

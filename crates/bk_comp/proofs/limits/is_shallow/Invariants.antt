@@ -1,5 +1,5 @@
 use Rattle.std.proofs.Common.{◌≡◌, ◌≤◌, ℕ, take}
-use Rattle.bk_p_expr.specs.Depth.{open_brackets}
+use Rattle.bk_raw.specs.Brackets.{open_brackets}
 use Rattle.bk_comp.proofs.limits.is_shallow.Given as goal
 
 abbrev pub invariant-loop-token : goal.invariant-loop-token

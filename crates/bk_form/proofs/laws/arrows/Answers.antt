@@ -1,3 +1,4 @@
+use Rattle.bk_form.proofs.ArrowMembers.{arrows_mean}
 use Rattle.bk_form.proofs.Domains.{total-role, onto-role, no-total-function}
 use Rattle.bk_form.proofs.laws.arrows.Goals as goal
 
@@ -9,3 +10,6 @@ returns-clause-onto c find law e a b f = onto-role find law e a b f
 
 pub returns-clause-infinite : goal.returns-clause-infinite
 returns-clause-infinite c = no-total-function
+
+pub returns-clause-pairs : goal.returns-clause-pairs
+returns-clause-pairs c = arrows_mean

@@ -1,3 +1,4 @@
+use Rattle.bk_form.proofs.SetMembers.{operator_members}
 use Rattle.bk_form.proofs.Domains.{comprehension-has, lambda-has, interval-members, choices-are}
 use Rattle.bk_form.proofs.laws.members.Goals as goal
 
@@ -12,3 +13,6 @@ returns-clause-interval c = interval-members
 
 pub returns-clause-choices : goal.returns-clause-choices
 returns-clause-choices c = choices-are
+
+pub returns-clause-operators : goal.returns-clause-operators
+returns-clause-operators c = operator_members

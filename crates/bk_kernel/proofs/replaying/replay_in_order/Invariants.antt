@@ -1,5 +1,6 @@
 use Rattle.std.proofs.Common.{[], ◌∷◌, take}
-use Rattle.bk_seq.specs.Sequents.{sequent_of, Each, Types, IsWithin}
+use Rattle.bk_seq.specs.Sequents.{sequent_of, Types, IsWithin}
+use Rattle.bk_form.specs.Each.{Each}
 use Rattle.bk_kernel.specs.Derivations.{Leaves}
 use Rattle.bk_kernel.specs.Standing.{in_order}
 use Rattle.bk_kernel.proofs.replaying.replay_in_order.Given as goal

@@ -1,6 +1,5 @@
 use Rattle.std.proofs.Common.{◌≡◌, ◌+◌, take, arith}
-use Rattle.bk_raw.specs.Brackets.{opens_bracket, closes_bracket}
-use Rattle.bk_p_expr.specs.Depth.{opens_block, closes_block, open_brackets, open_blocks}
+use Rattle.bk_raw.specs.Brackets.{opens_bracket, closes_bracket, opens_block, closes_block, open_brackets, open_blocks}
 use Rattle.bk_p_expr.proofs.Counting.{count_step, within_more}
 use Rattle.bk_p_expr.proofs.depth.too_deep.Goals as goal
 use Rattle.bk_p_expr.proofs.depth.too_deep.Goals.{then-brackets-gt-DEEPEST-via-then-brackets-gt-DEEPEST, then-brackets-gt-DEEPEST-via-else-brackets-gt-DEEPEST+then-blocks-gt-DEEPEST}

@@ -1,6 +1,6 @@
 use Rattle.std.proofs.Common.{◌≡◌, ◌≤◌, length, drop, refl, arith, subst}
 use Rattle.std.proofs.lemmas.Grind.{common_steps}
-use Rattle.bk_p_expr.specs.Depth.{IsShallow}
+use Rattle.bk_raw.specs.Limits.{IsShallow}
 use Rattle.bk_p_expr.proofs.Choices.{if_none, if_some}
 use Rattle.bk_p_expr.proofs.Places.{term_found, term_high, term_none}
 use Rattle.bk_p_expr.proofs.reader.term.Goals as goal

@@ -1,6 +1,6 @@
 use Rattle.std.proofs.Common.{◌≡◌, ◌++◌, drop}
 use Rattle.std.specs.List.{flat_map}
-use Rattle.bk_dev.specs.Hypotheses.{conjuncts}
+use Rattle.bk_form.specs.Predicates.{conjuncts}
 use Rattle.bk_po.proofs.hypotheses.add_properties.Given as goal
 
 abbrev pub invariant-loop-level : goal.invariant-loop-level

@@ -1,5 +1,5 @@
 use Rattle.std.proofs.Common.{◌≡◌, [], length, min, ◌∙◌, sym, ap}
-use Rattle.bk_po.specs.Obligations.{split}
+use Rattle.bk_seq.specs.Sequents.{split}
 use Rattle.bk_po.proofs.Sequents.{implied-count}
 use Rattle.bk_po.proofs.splits.+count.Goals as goal
 

@@ -1,8 +1,9 @@
-use Rattle.std.proofs.Common.{◌≡◌, ◌≤◌, ◌<◌, None, Some, List, All, length, sym, ◌∙◌, ap, subst, arith}
+use Rattle.std.proofs.Common.{◌≡◌, ◌≤◌, ◌<◌, None, Some, List, All, length, sym, ◌∙◌, ap, subst, arith, true, false}
 use Rattle.std.proofs.lemmas.Bool.{false≢true}
 use Rattle.bk_lex.specs.Lexis.{AreTokens}
 use Rattle.bk_scripts.specs.WrittenRule.{Script}
-use Rattle.bk_scripts.specs.Form.{IsPlain, IsShallow}
+use Rattle.bk_scripts.specs.Form.{IsPlain}
+use Rattle.bk_p_expr.specs.Texts.{HasFewBrackets}
 use Rattle.bk_scripts.specs.Files.{IsProofFile}
 use Rattle.bk_scripts.specs.Checks.{is_shallow_from}
 use Rattle.bk_scripts.specs.Reader.{scripts_of}
@@ -30,7 +31,7 @@ returns-then-not-is_shallow c =
 
 pub all_scripts-requires-clause-shallow : goal.all_scripts-requires-clause-shallow
 all_scripts-requires-clause-shallow c =
-    subst IsShallow (c.deref-2.ensures.value ∙ sym c.deref-3.ensures.value) (shallow_is c.deref-2.result.now (sym c.is_shallow.ensures ∙ c.if-not-is_shallow.false))
+    subst HasFewBrackets (c.deref-2.ensures.value ∙ sym c.deref-3.ensures.value) (shallow_is c.deref-2.result.now (sym c.is_shallow.ensures ∙ c.if-not-is_shallow.false))
 
 pub returns : goal.returns
 returns c =
@@ -43,6 +44,6 @@ returns c =
     let clean = no_comment text (sym c.has_comment.ensures ∙ c.if-has_comment.false) in
     let plain : All (λ t. IsPlain t.kind) all = subst (λ ts. All (λ t. IsPlain t.kind) ts) (c.deref.ensures.value ∙ sym same) (c.are_plain.ensures.0 c.if-not-are_plain.false) in
     let short : length all ≤ 10000 = omega (arith, c.if-len-gt-FILE_TOKENS.false, c.len.ensures, ap length same) in
-    let shallow : IsShallow all = subst IsShallow (c.deref-2.ensures.value ∙ sym same) (shallow_is c.deref-2.result.now (sym c.is_shallow.ensures ∙ c.if-not-is_shallow.false)) in
+    let shallow : HasFewBrackets all = subst HasFewBrackets (c.deref-2.ensures.value ∙ sym same) (shallow_is c.deref-2.result.now (sym c.is_shallow.ensures ∙ c.if-not-is_shallow.false)) in
     found_other c.all_scripts.result (scripts_of (length all) all ≡ None) ((list : List Script) → IsProofFile text list → ⊥) (λ list. scripts_of (length all) all ≡ Some list.items) (λ list. IsProofFile text list.items)
     (λ e. no_scripts text all cut_all e) (λ list e. has_scripts text all list.items cut_all clean plain short shallow e) c.all_scripts.ensures

@@ -1,5 +1,5 @@
 use Rattle.std.proofs.Common.{◌≤◌, length}
-use Rattle.bk_scripts.specs.Form.{IsShallow}
+use Rattle.bk_p_expr.specs.Texts.{HasFewBrackets}
 use Rattle.bk_scripts.proofs.WholeScripts.{SoFar}
 use Rattle.bk_scripts.proofs.script_reader.all_scripts.Given as goal
 
@@ -7,7 +7,7 @@ abbrev pub invariant-loop-rest : goal.invariant-loop-rest
 invariant-loop-rest l = record {
   found : SoFar l.fn.tokens l.scripts.items l.rest;
   short : length l.rest ≤ 10000;
-  shallow : IsShallow l.rest;
+  shallow : HasFewBrackets l.rest;
 }
 
 abbrev pub decreases-loop-rest : goal.decreases-loop-rest

@@ -1,7 +1,7 @@
 use Rattle.std.proofs.Common.{◌++◌, List, map}
 use Rattle.std.specs.List.{AllZip}
 use Rattle.std.specs.Vec.Iter.{into_iter_items}
-use Rattle.bk_dev.specs.Facts.{Each}
+use Rattle.bk_form.specs.Each.{Each}
 use Rattle.bk_po.specs.Shown.{named_sequent}
 use Rattle.bk_status.specs.declared.table.Row.{Row}
 use Rattle.bk_status.specs.Rows.{IsRowOf}

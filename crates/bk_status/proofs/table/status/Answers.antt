@@ -1,6 +1,6 @@
 use Rattle.std.proofs.Common.{sym, subst}
 use Rattle.std.specs.List.{AllZip}
-use Rattle.bk_dev.specs.Facts.{Each}
+use Rattle.bk_form.specs.Each.{Each}
 use Rattle.bk_status.specs.Rows.{IsRowOf}
 use Rattle.bk_status.specs.Replayable.{IsReplayable}
 use Rattle.bk_status.proofs.Within.{all_replayable}

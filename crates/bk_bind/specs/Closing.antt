@@ -1,12 +1,9 @@
--- Variables made bound, by a quantifier over the values of their types.
-use Rattle.std.specs.Prelude.{ℕ, ◌+◌, nat_eq, cond, List, [], ◌∷◌, length, map}
-use Rattle.bk_val.specs.ValueType.{ValueType}
-use Rattle.bk_form.specs.Table.{Table}
+-- Variables made bound.
+use Rattle.std.specs.Prelude.{ℕ, ◌+◌, nat_eq, cond, List, [], ◌∷◌, length}
 use Rattle.bk_form.specs.Formula.{Formula, variable, bound, literal, truth_value, element, empty_set, named, btrue, bfalse, unary, binary, for_all, for_some, comprehension, lambda, Formulas, no_formulas, formula_and}
 use Rattle.bk_form.specs.Replacement.{count}
-use Rattle.bk_gsl.specs.State.{declared_type}
 
--- the variable z becomes the bound number k, which counts the variables that are bound within
+-- the variable z becomes the bound number k, which counts the variables that are bound within, in a formula without loose bound numbers
 abbrev mutual
   pub closed_over : ℕ → ℕ → Formula → Formula
   closed_over z k (variable n) = cond (nat_eq n z) (bound k) (variable n)
@@ -34,17 +31,3 @@ abbrev mutual
 abbrev pub closed_over_each : List ℕ → Formula → Formula
 closed_over_each [] f = f
 closed_over_each (z ∷ zs) f = closed_over z (length zs) (closed_over_each zs f)
-
--- the types of the variables
-abbrev pub types_of : Table → List ℕ → List ValueType
-types_of table zs = map (declared_type table) zs
-
--- !zs.f: no quantifier where there is nothing to bind
-abbrev pub all_of : Table → List ℕ → Formula → Formula
-all_of table [] f = f
-all_of table (z ∷ zs) f = for_all (types_of table (z ∷ zs)) (closed_over_each (z ∷ zs) f)
-
--- #zs.f
-abbrev pub some_of : Table → List ℕ → Formula → Formula
-some_of table [] f = f
-some_of table (z ∷ zs) f = for_some (types_of table (z ∷ zs)) (closed_over_each (z ∷ zs) f)

@@ -11,14 +11,13 @@ use Rattle.bk_form.specs.declared.arrays.ArrayRow.{ArrayRow}
 use Rattle.bk_gsl.specs.Substitution.{Substitution, skip, assign, if_else}
 use Rattle.bk_dev.specs.declared.kind.Kind.{Kind}
 use Rattle.bk_dev.specs.declared.kind.Kind.TheVariants.{Machine, Implementation}
-use Rattle.bk_dev.specs.declared.kind.Home.TheVariants.{Variable}
+use Rattle.bk_dev.specs.declared.kind.Home.TheVariants.{Concrete}
 use Rattle.bk_dev.specs.Development.{Body, Development, level_at}
-use Rattle.bk_dev.specs.Facts.{Each}
+use Rattle.bk_form.specs.Each.{Each}
 use Rattle.bk_dev.specs.Layout.{Clue, in_domain, equals, silent, has_scalars, array_row, indices_of, row_by, typing_clue, reversed, arrays_of}
 use Rattle.bk_gen.specs.Simple.{IsSimpleStatement, EvaluatesShallow, IsSimple}
 use Rattle.bk_wp.specs.Guarded.{IsTotal}
-use Rattle.bk_po.specs.Basic.{IsBasicBody, IsBasicLevel}
-use Rattle.bk_po.specs.Plain.{AlwaysEnds, LevelEnds, IsPlain}
+use Rattle.bk_po.specs.Basic.{IsBasicBody, IsBasicLevel, IsBasic}
 use Rattle.bk_comp.specs.Operations.{Header, Places, numbers_from, takes_members}
 use Rattle.bk_comp.specs.Components.{Component, machine_places, implementation_places}
 use Rattle.bk_comp.specs.Contents.{IsPreconditionOver, IsStatementOver, IsBodyOver, AreBodiesOver, IsMadeOfThese}
@@ -35,7 +34,7 @@ module _ (kind : Kind) (x : ℕ) (P : Body → Type 0) (from : (p : Places) (h :
   all-bodies (p ∷ ps) (h ∷ hs) [] made = absurd made
   all-bodies (p ∷ ps) (h ∷ hs) (b ∷ bs) made = All-cons P b bs (from p h b made.0) (all-bodies ps hs bs made.1)
 
-  each-body : (ps : List Places) (hs : List Header) (bs : List Body) → AreBodiesOver kind x ps hs bs → Each P bs
+  pub each-body : (ps : List Places) (hs : List Header) (bs : List Body) → AreBodiesOver kind x ps hs bs → Each P bs
   each-body [] [] [] made = tt
   each-body [] [] (b ∷ bs) made = absurd made
   each-body [] (h ∷ hs) bs made = absurd made
@@ -115,10 +114,7 @@ module _ (m i : Component) (upper : IsMadeOfThese (as_machine m)) (below : IsMad
   }
 
   no-arrays : (arrays_of pair).rows ≡ []
-  no-arrays = λ j. filter_map (λ (r : Option ArrayRow). r) (number-row pair second (typed-home m i second (Variable 1) (lower-stand m i).0) (typing_clue (Some second) (reversed pair.levels [])) j ∷ [])
+  no-arrays = λ j. filter_map (λ (r : Option ArrayRow). r) (number-row pair second (typed-home m i second (Concrete 1) (lower-stand m i).0) (typing_clue (Some second) (reversed pair.levels [])) j ∷ [])
 
-  upper-ends : LevelEnds (level_at pair 0)
-  upper-ends = record { init = tt; bodies = each-body Machine 0 (λ b. AlwaysEnds b.sub) (body-ends Machine 0) (machine_places 1 m.headers) m.headers m.bodies upper.bodies }
-
-  pub pair-plain : IsPlain pair
-  pair-plain = record { basic = record { levels = (upper-basic, (lower-basic, tt)); no_arrays = no-arrays }; upper = (upper-ends, tt) }
+  pub pair-basic : IsBasic pair
+  pair-basic = record { levels = (upper-basic, (lower-basic, tt)); no_arrays = no-arrays }
