@@ -120,50 +120,11 @@ term-typed : (t : ValueType) (r : Role) → r ≡ gives t → r ≡ untyped → 
 term-typed t r h k = absurd (cc)
 
 module _ (table : Table) where
-  -- terms of their variables' types leave a formula's role as it is
-  role-replaced : (by : ℕ → Formula) → IsReplacement table by → (p : Formula) → role table [] (replaced by p) ≡ role table [] p
-  role-replaced by h p =
-      let find : Finder = λ test. None in
-      let e = at_state table (λ n. int (pos 0)) in
-      sym (meaning-role find e (replaced by p)) ∙ ap (λ m. m.role) (meaning-replaced find by e h p) ∙ meaning-role find (after_replacement find by e) p
-
-  pub terms-predicate : (ps : List (ℕ × Formula)) (r : Formula) → AreTypedTerms table ps → IsPredicate table r → IsPredicate table (replaced (looked_up ps) r)
-  terms-predicate ps r w h = role-replaced (looked_up ps) (terms-replace table ps w) r ∙ h
-
   not-predicate : (p : Formula) → IsPredicate table p → IsPredicate table (unary Not p)
   not-predicate p h = λ i. unary_role Not (h i)
 
   and-predicate : (p q : Formula) → IsPredicate table p → IsPredicate table q → IsPredicate table (binary And p q)
   and-predicate p q h k = λ i. connective_role (h i) (k i)
-
-  -- ---- boxes and diamonds
-  pub box-predicate : (s : Substitution) (r : Formula) → Types table s → HasNoBinder s → IsPredicate table r → IsPredicate table (box table s r)
-  box-predicate skip r w n h = h
-  box-predicate (assign ps) r w n h = terms-predicate ps r w h
-  box-predicate (pre p s) r w n h = λ i. connective_role (w.0 i) (box-predicate s r w.1 n h i)
-  box-predicate (guard p s) r w n h = λ i. connective_role (w.0 i) (box-predicate s r w.1 n h i)
-  box-predicate (choice s t) r w n h = λ i. connective_role (box-predicate s r w.0 n.0 h i) (box-predicate t r w.1 n.1 h i)
-  box-predicate (if_else p s t) r w n h = λ i. connective_role (connective_role (w.0 i) (box-predicate s r w.1 n.0 h i)) (connective_role (unary_role Not (w.0 i)) (box-predicate t r w.2 n.1 h i))
-  box-predicate (any zs s) r w n h = absurd n
-  box-predicate (seq s t) r w n h = box-predicate s (box table t r) w.0 n.0 (box-predicate t r w.1 n.1 h)
-  box-predicate (par s t) r w n h = absurd n
-  box-predicate (assert p s) r w n h = λ i. connective_role (w.0 i) (connective_role (w.0 i) (box-predicate s r w.1 n h i))
-  box-predicate (becomes_such xs p) r w n h = absurd n
-  box-predicate (loop p s i v) r w n h = absurd n
-
-  pub diamond-predicate : (s : Substitution) (r : Formula) → Types table s → HasNoBinder s → IsPredicate table r → IsPredicate table (diamond table s r)
-  diamond-predicate skip r w n h = h
-  diamond-predicate (assign ps) r w n h = terms-predicate ps r w h
-  diamond-predicate (pre p s) r w n h = λ i. connective_role (w.0 i) (diamond-predicate s r w.1 n h i)
-  diamond-predicate (guard p s) r w n h = λ i. connective_role (w.0 i) (diamond-predicate s r w.1 n h i)
-  diamond-predicate (choice s t) r w n h = λ i. connective_role (diamond-predicate s r w.0 n.0 h i) (diamond-predicate t r w.1 n.1 h i)
-  diamond-predicate (if_else p s t) r w n h = λ i. connective_role (connective_role (w.0 i) (diamond-predicate s r w.1 n.0 h i)) (connective_role (unary_role Not (w.0 i)) (diamond-predicate t r w.2 n.1 h i))
-  diamond-predicate (any zs s) r w n h = absurd n
-  diamond-predicate (seq s t) r w n h = diamond-predicate s (diamond table t r) w.0 n.0 (diamond-predicate t r w.1 n.1 h)
-  diamond-predicate (par s t) r w n h = absurd n
-  diamond-predicate (assert p s) r w n h = λ i. connective_role (w.0 i) (connective_role (w.0 i) (diamond-predicate s r w.1 n h i))
-  diamond-predicate (becomes_such xs p) r w n h = absurd n
-  diamond-predicate (loop p s i v) r w n h = absurd n
 
   -- ---- evaluation conditions
   both-predicate : (p q : Formula) → IsPredicate table p → IsPredicate table q → IsPredicate table (both p q)

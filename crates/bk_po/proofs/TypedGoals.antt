@@ -23,7 +23,9 @@ use Rattle.bk_po.specs.Obligations.{Obligation, obligation, of_operation, of_def
 use Rattle.bk_po.specs.Basic.{IsBasic}
 use Rattle.bk_po.proofs.Basics.{each-or, basic_level, init_plain, body_plain, whole_total}
 use Rattle.bk_po.proofs.Lists.{append-each, flat-each, map-each, below-each, take-each, filter-true}
-use Rattle.bk_po.proofs.Predicates.{terms-predicate, box-predicate, diamond-predicate, guarded-predicate, conjunction-predicate, after-predicate, links-predicates, links-predicate, beside-alike, parts-predicates}
+use Rattle.bk_wp.proofs.Predicates.{terms-predicate, box-predicate, diamond-predicate}
+use Rattle.bk_wp.proofs.Plain.{no-loop}
+use Rattle.bk_po.proofs.Predicates.{guarded-predicate, conjunction-predicate, after-predicate, links-predicates, links-predicate, beside-alike, parts-predicates}
 use Rattle.bk_form.proofs.Equations.{same_type-self}
 use Rattle.bk_po.proofs.Splitting.{each-so}
 
@@ -136,22 +138,22 @@ module _ (dev : Development) (f : IsLawful dev) where
         conjunction-predicate dev.table (l.invariant ∷ conjunction (map equation l.links) ∷ conjunction (map equation (beside outputs above)) ∷ []) ((fact k h).invariant.is_predicate, (links-predicate dev.table l.links (links-alike k l (fact k h)), (links-predicate dev.table (beside outputs above) alike, tt)))
 
     init-goal : (k : ℕ) → k < length dev.levels → IsPredicate dev.table (init_goal dev k)
-    init-goal zero h = box-predicate dev.table (level_at dev 0).init (level_at dev 0).invariant (fact 0 h).init.types (init_plain dev basic 0) (fact 0 h).invariant.is_predicate
+    init-goal zero h = box-predicate dev.table f.table (level_at dev 0).init (level_at dev 0).invariant (fact 0 h).init.types (no-loop (level_at dev 0).init (init_plain dev basic 0)) (fact 0 h).invariant.is_predicate
     init-goal (suc j) h =
         let joined = joining_goal dev (suc j) [] [] in
-        let answered = diamond-predicate dev.table (level_at dev j).init joined (fact j (omega (arith, h))).init.types (init_plain dev basic j) (joining-goal (suc j) h [] [] tt) in
-        box-predicate dev.table (level_at dev (suc j)).init (diamond dev.table (level_at dev j).init joined) (fact (suc j) h).init.types (init_plain dev basic (suc j)) answered
+        let answered = diamond-predicate dev.table f.table (level_at dev j).init joined (fact j (omega (arith, h))).init.types (no-loop (level_at dev j).init (init_plain dev basic j)) (joining-goal (suc j) h [] [] tt) in
+        box-predicate dev.table f.table (level_at dev (suc j)).init (diamond dev.table (level_at dev j).init joined) (fact (suc j) h).init.types (no-loop (level_at dev (suc j)).init (init_plain dev basic (suc j))) answered
 
     operation-goal : (k : ℕ) → k < length dev.levels → (o : ℕ) → o < length dev.heads → IsPredicate dev.table (operation_goal dev k o)
-    operation-goal zero h o l = box-predicate dev.table (body_at dev 0 o).sub (level_at dev 0).invariant (body-fact 0 h o l).sub.types (body_plain dev basic 0 o) (fact 0 h).invariant.is_predicate
+    operation-goal zero h o l = box-predicate dev.table f.table (body_at dev 0 o).sub (level_at dev 0).invariant (body-fact 0 h o l).sub.types (no-loop (body_at dev 0 o).sub (body_plain dev basic 0 o)) (fact 0 h).invariant.is_predicate
     operation-goal (suc j) h o l =
         let lower = body_at dev (suc j) o in
         let upper = body_at dev j o in
         let upper-fact = body-fact j (omega (arith, h)) o l in
         let joined = joining_goal dev (suc j) lower.outputs upper.outputs in
         let alike = beside-alike dev.table lower.outputs upper.outputs (body_at dev 0 o).outputs (body-fact (suc j) h o l).output_types upper-fact.output_types in
-        let answered = diamond-predicate dev.table upper.sub joined upper-fact.sub.types (body_plain dev basic j o) (joining-goal (suc j) h lower.outputs upper.outputs alike) in
-        box-predicate dev.table (whole lower) (diamond dev.table upper.sub joined) (whole-types (suc j) h o l) (total-plain (whole lower) (whole_total dev basic (suc j) o)) answered
+        let answered = diamond-predicate dev.table f.table upper.sub joined upper-fact.sub.types (no-loop upper.sub (body_plain dev basic j o)) (joining-goal (suc j) h lower.outputs upper.outputs alike) in
+        box-predicate dev.table f.table (whole lower) (diamond dev.table upper.sub joined) (whole-types (suc j) h o l) (no-loop (whole lower) (total-plain (whole lower) (whole_total dev basic (suc j) o))) answered
 
     assertions-goal : (k : ℕ) → k < length dev.levels → IsPredicate dev.table (each_after (level_at dev k).assertions)
     assertions-goal k h = after-predicate dev.table (level_at dev k).assertions (each-so (IsStated dev k) (IsPredicate dev.table) (level_at dev k).assertions (λ p s. s.is_predicate) (fact k h).assertions)

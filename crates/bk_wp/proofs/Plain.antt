@@ -10,7 +10,7 @@ use Rattle.bk_wp.specs.Shapes.{HasNoBinder, HasNoLoop}
 use Rattle.bk_wp.specs.Laws.{BoxWithoutBinders, DiamondWithoutBinders, ConjugateWithoutBinders}
 use Rattle.bk_wp.proofs.Exact.{FineBox, FineDiamond, box-then, box-if, diamond-exact, conjugate}
 
-no-loop : (s : Substitution) → HasNoBinder s → HasNoLoop s
+pub no-loop : (s : Substitution) → HasNoBinder s → HasNoLoop s
 no-loop skip h = tt
 no-loop (assign ps) h = tt
 no-loop (pre p s) h = no-loop s h

@@ -78,6 +78,11 @@ module _ (table : Table) (z : ℕ) (t : ValueType) (given : bound_role table (So
     roles-closing k a b no_formulas c h = refl
     roles-closing k a b (formula_and f fs) c h = λ i. role-closing k a b f c.0 h i ∷ roles-closing k a b fs c.1 h i
 
+module _ (table : Table) where
+  -- terms of their variables' types leave a formula's role as it is
+  pub terms-predicate : (ps : List (ℕ × Formula)) (r : Formula) → AreTypedTerms table ps → IsPredicate table r → IsPredicate table (replaced (looked_up ps) r)
+  terms-predicate ps r w h = role-under table [] (looked_up ps) (terms-replace table ps w) r ∙ h
+
 module _ (table : Table) (facts : IsWellFormed table) where
   role-each : (zs : List ℕ) (f : Formula) → IsClosed 0 f → AreListed table zs → role table (bind (types_of table zs) []) (closed_over_each zs f) ≡ role table [] f
   role-each [] f c l = refl
@@ -103,9 +108,6 @@ module _ (table : Table) (facts : IsWellFormed table) where
   some-predicate : (zs : List ℕ) (f : Formula) → AreListed table zs → IsPredicate table f → IsPredicate table (some_of table zs f)
   some-predicate zs f l h = quantified zs (closed_over_each zs f) l (role-each zs f (predicate-closed table f h) l ∙ h)
 
-  terms-predicate : (ps : List (ℕ × Formula)) (r : Formula) → AreTypedTerms table ps → IsPredicate table r → IsPredicate table (replaced (looked_up ps) r)
-  terms-predicate ps r w h = role-under table [] (looked_up ps) (terms-replace table ps w) r ∙ h
-
   new-role : (xs : List (ℕ × ℕ)) (p : Formula) → AreTypedPairs table xs → IsPredicate table p → role table (bind (types_of table (firsts xs)) []) (new_values xs p) ≡ predicate
   new-role xs p w h =
       role-under table (bind (types_of table (firsts xs)) []) (λ n. variable (old_of xs n)) (olds-replace table xs w) (closed_over_each (firsts xs) p)
@@ -129,7 +131,7 @@ module _ (table : Table) (facts : IsWellFormed table) where
 
   pub box-predicate : (s : Substitution) (r : Formula) → Types table s → HasNoLoop s → IsPredicate table r → IsPredicate table (box table s r)
   box-predicate skip r w n h = h
-  box-predicate (assign ps) r w n h = terms-predicate ps r w h
+  box-predicate (assign ps) r w n h = terms-predicate table ps r w h
   box-predicate (pre p s) r w n h = λ i. connective_role (w.0 i) (box-predicate s r w.1 n h i)
   box-predicate (guard p s) r w n h = λ i. connective_role (w.0 i) (box-predicate s r w.1 n h i)
   box-predicate (choice s t) r w n h = λ i. connective_role (box-predicate s r w.0 n.0 h i) (box-predicate t r w.1 n.1 h i)
@@ -143,7 +145,7 @@ module _ (table : Table) (facts : IsWellFormed table) where
 
   pub diamond-predicate : (s : Substitution) (r : Formula) → Types table s → HasNoLoop s → IsPredicate table r → IsPredicate table (diamond table s r)
   diamond-predicate skip r w n h = h
-  diamond-predicate (assign ps) r w n h = terms-predicate ps r w h
+  diamond-predicate (assign ps) r w n h = terms-predicate table ps r w h
   diamond-predicate (pre p s) r w n h = λ i. connective_role (w.0 i) (diamond-predicate s r w.1 n h i)
   diamond-predicate (guard p s) r w n h = λ i. connective_role (w.0 i) (diamond-predicate s r w.1 n h i)
   diamond-predicate (choice s t) r w n h = λ i. connective_role (diamond-predicate s r w.0 n.0 h i) (diamond-predicate t r w.1 n.1 h i)
