@@ -1,6 +1,7 @@
 -- Formulas turn only on the variables that stand in them, and substitutions change only those that they may write.
 use Rattle.std.proofs.Common.{◌≡◌, inl, inr, ℕ, List, [], ◌∷◌, ◌++◌, map, refl, sym, ◌∙◌, ap, subst, Bool, true, false, not, cond, ◌&&◌, ◌||◌, nat_eq}
 use Rattle.std.specs.List.{filter}
+use Rattle.bk_form.proofs.Members.{or-left, or-right}
 use Rattle.bk_form.specs.Table.{Table}
 use Rattle.bk_form.specs.Formula.{Formula}
 use Rattle.bk_form.specs.Search.{Finder}
@@ -20,14 +21,6 @@ use Rattle.bk_dev.specs.Hypotheses.{joining}
 use Rattle.bk_form.specs.Predicates.{AllHold, conjuncts, equation}
 use Rattle.bk_form.proofs.Conjuncts.{true-append, true-first, true-second, parts-true, whole-true}
 use Rattle.bk_form.proofs.Agreement.{meaning-state}
-
-pub or-left : (a b : Bool) → a ≡ true → a || b ≡ true
-or-left true b h = refl
-or-left false b h = clash false h refl
-
-pub or-right : (a b : Bool) → b ≡ true → a || b ≡ true
-or-right true b h = refl
-or-right false b h = h
 
 pub both-true : (a b : Bool) → a ≡ true → b ≡ true → a && b ≡ true
 both-true true b h k = k

@@ -20,7 +20,8 @@ use Rattle.bk_form.specs.Predicates.{AllHold, equation}
 use Rattle.bk_dev.specs.Facts.{is_constant, is_input, is_variable_of, is_variable_above, is_inner_of, home_of, names_own, names_joined, writes_own, AllAre, IsSubOf, IsLawful}
 use Rattle.bk_dev.specs.Claims.{beside, JoinsAt}
 use Rattle.bk_dev.proofs.Levels.{level_fact}
-use Rattle.bk_dev.proofs.Agree.{all-among, or-left, or-right, both-false, all-none, joining-same, unchanged}
+use Rattle.bk_form.proofs.Members.{or-left, or-right}
+use Rattle.bk_dev.proofs.Agree.{all-among, both-false, all-none, joining-same, unchanged}
 use Rattle.bk_form.proofs.Conjuncts.{true-append, true-first, true-second}
 
 -- ---- levels one by one

@@ -8,11 +8,12 @@ use Rattle.bk_form.specs.Table.{Table, VariableEntry, variable_type, IsWellForme
 use Rattle.bk_form.specs.Formula.{Formula}
 use Rattle.bk_form.proofs.Members.{or-cases, or-left, or-right}
 use Rattle.bk_gsl.specs.Substitution.{Substitution, skip, assign, pre, guard, choice, if_else, any, seq, par, assert, becomes_such, loop}
-use Rattle.bk_gsl.specs.State.{among, firsts}
+use Rattle.bk_gsl.specs.State.{among}
 use Rattle.bk_gsl.specs.Writes.{written, writes}
-use Rattle.bk_gsl.specs.Typed.{IsListed, AreTypedTerms, AreTypedPairs, Types}
+use Rattle.bk_gsl.specs.Typed.{IsListed, Types}
 use Rattle.bk_gsl.specs.Flat.{copied, flat_from, IsFlat}
-use Rattle.bk_gsl.proofs.States.{clash, nat_eq-same, nat_eq-self, among-in_order}
+use Rattle.bk_gsl.proofs.Listed.{written-listed}
+use Rattle.bk_gsl.proofs.States.{clash, nat_eq-self, among-in_order}
 use Rattle.bk_dev.specs.declared.kind.Kind.{Kind}
 use Rattle.bk_dev.specs.declared.kind.Kind.TheVariants.{Machine, Refinement, Implementation}
 use Rattle.bk_dev.specs.declared.kind.Home.{Home}
@@ -24,7 +25,7 @@ use Rattle.bk_dev.specs.Flattened.{copied_in_bodies, copied_in_level, copied_in_
 use Rattle.bk_form.specs.Wider.{IsWider}
 use Rattle.bk_dev.specs.Laws.{FlattenedIsLawful}
 use Rattle.bk_dev.proofs.Staying.{all-at, Within}
-use Rattle.bk_gsl.proofs.Reading.{among-cases, outside-then}
+use Rattle.bk_gsl.proofs.Reading.{among-cases}
 use Rattle.bk_form.proofs.Widening.{variable-wider}
 use Rattle.bk_gsl.proofs.WiderRuns.{predicate-wider, term-wider, types-wider}
 use Rattle.bk_dev.proofs.Flattening.{flat-flat, flat-loops, RangeIs, flat-binders, CopiesAt, copies-left, copies-right, flat-types, flat-stays}
@@ -54,32 +55,6 @@ length-same zero x = refl
 length-same (suc m) x = ap suc (length-same m x)
 
 -- ---- what is copied is listed
-each-listed : (table : Table) (zs : List ℕ) → Rattle.bk_gsl.specs.Typed.AreListed table zs → (n : ℕ) → among zs n ≡ true → IsListed table n
-each-listed table [] l n h = absurd (cc)
-each-listed table (z ∷ zs) l n h = elim (or-cases (nat_eq n z) (among zs n) h) [ inl q ↦ subst (IsListed table) (sym (nat_eq-same n z q)) l.0 | inr q ↦ each-listed table zs l.1 n q ]
-
-terms-listed : (table : Table) (ps : List (ℕ × Formula)) → AreTypedTerms table ps → (n : ℕ) → among (firsts ps) n ≡ true → IsListed table n
-terms-listed table [] w n h = absurd (cc)
-terms-listed table (p ∷ ps) w n h = elim (or-cases (nat_eq n p.0) (among (firsts ps) n) h) [ inl q ↦ subst (IsListed table) (sym (nat_eq-same n p.0 q)) (w.0.0, w.0.1) | inr q ↦ terms-listed table ps w.1 n q ]
-
-pairs-listed : (table : Table) (ps : List (ℕ × ℕ)) → AreTypedPairs table ps → (n : ℕ) → among (firsts ps) n ≡ true → IsListed table n
-pairs-listed table [] w n h = absurd (cc)
-pairs-listed table (p ∷ ps) w n h = elim (or-cases (nat_eq n p.0) (among (firsts ps) n) h) [ inl q ↦ subst (IsListed table) (sym (nat_eq-same n p.0 q)) (w.0.0, w.0.1) | inr q ↦ pairs-listed table ps w.1 n q ]
-
-written-listed : (table : Table) (s : Substitution) → Types table s → (n : ℕ) → among (written s) n ≡ true → IsListed table n
-written-listed table skip w n h = absurd (cc)
-written-listed table (assign ps) w n h = terms-listed table ps w n h
-written-listed table (pre p s) w n h = written-listed table s w.1 n h
-written-listed table (guard p s) w n h = written-listed table s w.1 n h
-written-listed table (choice s t) w n h = elim (among-cases (written s) (written t) n h) [ inl q ↦ written-listed table s w.0 n q | inr q ↦ written-listed table t w.1 n q ]
-written-listed table (if_else p s t) w n h = elim (among-cases (written s) (written t) n h) [ inl q ↦ written-listed table s w.1 n q | inr q ↦ written-listed table t w.2 n q ]
-written-listed table (any zs s) w n h = written-listed table s w.1 n (outside-then zs (written s) n h).0
-written-listed table (seq s t) w n h = elim (among-cases (written s) (written t) n h) [ inl q ↦ written-listed table s w.0 n q | inr q ↦ written-listed table t w.1 n q ]
-written-listed table (par s t) w n h = elim (among-cases (written s) (written t) n h) [ inl q ↦ written-listed table s w.0 n q | inr q ↦ written-listed table t w.1 n q ]
-written-listed table (assert p s) w n h = written-listed table s w.1 n h
-written-listed table (becomes_such xs p) w n h = pairs-listed table xs w.0 n h
-written-listed table (loop p s i v) w n h = written-listed table s w.1 n h
-
 copied-listed : (table : Table) (s : Substitution) → Types table s → (n : ℕ) → among (copied s) n ≡ true → IsListed table n
 copied-listed table skip w n h = absurd (cc)
 copied-listed table (assign ps) w n h = absurd (cc)

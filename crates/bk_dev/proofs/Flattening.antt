@@ -19,7 +19,7 @@ use Rattle.bk_gsl.proofs.States.{cases, clash, or-false, nat_eq-same, nat_eq-sel
 use Rattle.bk_dev.specs.declared.kind.Kind.{Kind}
 use Rattle.bk_dev.specs.Facts.{AllAre, AreDistinct, AreNew, AssignsIn, StaysIn, Names, seconds, binders, LoopsStandIn}
 use Rattle.bk_form.proofs.Closed.{closed-replaced}
-use Rattle.bk_gsl.proofs.Outside.{firsts-listed}
+use Rattle.bk_gsl.proofs.Listed.{firsts-listed}
 use Rattle.bk_dev.proofs.Agree.{both-false, not-written}
 use Rattle.bk_dev.proofs.Staying.{false-of, not-both, binders-new, all-at, Within, within-more}
 use Rattle.bk_gsl.proofs.Reading.{among-left, among-right}

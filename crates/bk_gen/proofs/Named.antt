@@ -1,6 +1,7 @@
 -- What the last level of a simple development names has a cell.
 use Rattle.std.proofs.Common.{◌≡◌, ℕ, List, [], ◌∷◌, ◌++◌, ◌||◌, refl, ◌∙◌, ap, subst, Bool, true, false, All, ℤ}
 use Rattle.std.proofs.lemmas.List.Elements.{All-head, All-tail}
+use Rattle.bk_form.proofs.Members.{or-left, or-right}
 use Rattle.bk_form.specs.Formula.{Formula, variable, unary, binary}
 use Rattle.bk_form.specs.Replacement.{occurs}
 use Rattle.bk_gsl.specs.Substitution.{Substitution, skip, assign, if_else}
@@ -24,14 +25,6 @@ one_of_four true b c d P h on_a on_b on_c on_d = on_a refl
 one_of_four false true c d P h on_a on_b on_c on_d = on_b refl
 one_of_four false false true d P h on_a on_b on_c on_d = on_c refl
 one_of_four false false false d P h on_a on_b on_c on_d = on_d h
-
-or-left : (a b : Bool) → a ≡ true → a || b ≡ true
-or-left true b h = refl
-or-left false b h = clash false h refl
-
-or-right : (a b : Bool) → b ≡ true → a || b ≡ true
-or-right true b h = refl
-or-right false b h = h
 
 among-left : (xs ys : List ℕ) (n : ℕ) → among xs n ≡ true → among (xs ++ ys) n ≡ true
 among-left xs ys n h = among-append xs ys n ∙ or-left (among xs n) (among ys n) h

@@ -16,14 +16,15 @@ use Rattle.bk_gsl.specs.Writes.{written}
 use Rattle.bk_gsl.specs.Reads.{variables_of, variables_of_terms, outside as unbound, read}
 use Rattle.bk_gsl.specs.Run.{old_of, Runs, Ends}
 use Rattle.bk_gsl.specs.Clean.{Clean}
-use Rattle.bk_gsl.specs.Typed.{IsListed, AreListed, AreTypedTerms, AreTypedPairs, Types}
+use Rattle.bk_gsl.specs.Typed.{IsListed, AreListed, AreTypedTerms, Types}
 use Rattle.bk_gsl.proofs.States.{cases, clash, nat_eq-same, nat_eq-self, over-at, over-off, among-neither, among-kept, or-false}
 use Rattle.bk_form.proofs.Closed.{IsSome, unary-none, left-none, right-none, predicate-none, quantifier-some, ranges-some, are-each, set-some, both}
 use Rattle.bk_form.proofs.Members.{or-cases}
 use Rattle.bk_gsl.proofs.Runs.{outside}
+use Rattle.bk_gsl.proofs.Listed.{terms-listed, firsts-listed}
 use Rattle.bk_gsl.proofs.Reading.{Kept, map-then, outside-then, variables-occur, runs-agree, ends-agree, clean-agree}
 use Rattle.bk_form.specs.Each.{Each}
-use Rattle.bk_gsl.specs.Avoids.{Free, NoneIn, FreeTerms, Avoids}
+use Rattle.bk_gsl.specs.Avoids.{Free, NoneIn, Avoids}
 use Rattle.bk_gsl.specs.Laws.{AvoidedDoesNotMatter}
 
 -- ---- a formula that is typed has only listed variables
@@ -74,10 +75,6 @@ module _ (table : Table) (n : ℕ) where
           | inr q ↦ any-occurs-listed around fs k.1 q
         ]
 
-pub firsts-listed : (table : Table) (xs : List (ℕ × ℕ)) → AreTypedPairs table xs → AreListed table (firsts xs)
-firsts-listed table [] w = tt
-firsts-listed table (x ∷ xs) w = ((w.0.0, w.0.1), firsts-listed table xs w.1)
-
 module _ (table : Table) (off : ℕ → Bool) (un : (n : ℕ) → off n ≡ true → IsListed table n → ⊥) where
   pub predicate-free : (p : Formula) → role table [] p ≡ predicate → Free off p
   predicate-free p h n o = elim (cases (occurs n p)) [
@@ -99,17 +96,13 @@ module _ (table : Table) (off : ℕ → Bool) (un : (n : ℕ) → off n ≡ true
       by_test on true q = absurd (un n o (l.0.0, subst (λ m. variable_type table m ≡ Some l.0.0) (sym (nat_eq-same n z q)) l.0.1))
       by_test on false q = on
 
-  terms-listed : (ps : List (ℕ × Formula)) → AreTypedTerms table ps → AreListed table (firsts ps)
-  terms-listed [] w = tt
-  terms-listed (p ∷ ps) w = ((w.0.0, w.0.1), terms-listed ps w.1)
-
   each-free : (ps : List (ℕ × Formula)) → AreTypedTerms table ps → Each (λ p. Free off p.1) ps
   each-free [] w = tt
   each-free (p ∷ ps) w = (term-free w.0.0 p.1 w.0.2, each-free ps w.1)
 
   pub avoids : (s : Substitution) → Types table s → Avoids off s
   avoids skip w = tt
-  avoids (assign ps) w = (none-listed (firsts ps) (terms-listed ps w), each-free ps w)
+  avoids (assign ps) w = (none-listed (firsts ps) (terms-listed table ps w), each-free ps w)
   avoids (pre p s) w = (predicate-free p w.0, avoids s w.1)
   avoids (guard p s) w = (predicate-free p w.0, avoids s w.1)
   avoids (choice s t) w = (avoids s w.0, avoids t w.1)

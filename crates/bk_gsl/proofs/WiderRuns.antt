@@ -16,6 +16,7 @@ use Rattle.bk_form.specs.declared.operator.UnOp.TheVariants.{Single}
 use Rattle.bk_form.specs.declared.operator.BinOp.TheVariants.{Over, Maps}
 use Rattle.bk_form.specs.declared.arrays.ArrayRow.{ArrayRow}
 use Rattle.bk_form.proofs.Members.{and-true}
+use Rattle.bk_gsl.proofs.Listed.{firsts-listed}
 use Rattle.bk_gsl.specs.Substitution.{Substitution, skip, assign, pre, guard, choice, if_else, any, seq, par, assert, becomes_such, loop}
 use Rattle.bk_gsl.specs.State.{holds, value_at, declared_type, are_values_for, with_values, among, over, firsts}
 use Rattle.bk_gsl.specs.Writes.{written}
@@ -133,10 +134,6 @@ module _ (small large : Table) (well : IsWellFormed small) (wider : IsWider smal
     pub values-for : (zs : List ℕ) → AreListed small zs → (vs : List MathValue) → are_values_for large zs vs ≡ are_values_for small zs vs
     values-for zs h vs = ap (λ ts. are_of_types (set_size large) ts vs) (declared-wider zs h) ∙ types-same small large well wider (map (declared_type small) zs) (declared-listed zs h) vs
 
-    pairs-listed : (xs : List (ℕ × ℕ)) → AreTypedPairs small xs → AreListed small (firsts xs)
-    pairs-listed [] h = tt
-    pairs-listed (x ∷ xs) h = ((h.0.0, h.0.1), pairs-listed xs h.1)
-
     pub runs-wider : (s : Substitution) → Types small s → (e f : State) → Runs find large s e f ≡ Runs find small s e f
     runs-wider skip w e f = refl
     runs-wider (assign ps) w e f = λ i. f ≡ assigned-wider e ps w i
@@ -148,7 +145,7 @@ module _ (small large : Table) (well : IsWellFormed small) (wider : IsWider smal
     runs-wider (seq s t) w e f = λ i. (g : State) × runs-wider s w.0 e g i × runs-wider t w.1 g f i
     runs-wider (par s t) w e f = λ i. (g : State) × (h : State) × runs-wider s w.0 e g i × runs-wider t w.1 e h i × (f ≡ over (among (written s)) g h)
     runs-wider (assert p s) w e f = runs-wider s w.1 e f
-    runs-wider (becomes_such xs p) w e f = λ i. (vs : List MathValue) × (values-for (firsts xs) (pairs-listed xs w.0) vs i ≡ true) × (holds-wider (with_old xs e vs) p w.1 i ≡ true) × (f ≡ with_values e (firsts xs) vs)
+    runs-wider (becomes_such xs p) w e f = λ i. (vs : List MathValue) × (values-for (firsts xs) (firsts-listed small xs w.0) vs i ≡ true) × (holds-wider (with_old xs e vs) p w.1 i ≡ true) × (f ≡ with_values e (firsts xs) vs)
     runs-wider (loop p s j v) w e f = λ i. (n : ℕ) × Turns (λ x y. runs-wider s w.1 x y i) (λ x. holds-wider x p w.0 i) n e f
 
     pub ends-wider : (s : Substitution) → Types small s → (e : State) → Ends find large s e ≡ Ends find small s e
@@ -176,7 +173,7 @@ module _ (small large : Table) (well : IsWellFormed small) (wider : IsWider smal
     clean-wider arrays (seq s t) w e = λ i. clean-wider arrays s w.0 e i × ((g : State) → runs-wider s w.0 e g i → clean-wider arrays t w.1 g i)
     clean-wider arrays (par s t) w e = λ i. clean-wider arrays s w.0 e i × ((g : State) → runs-wider s w.0 e g i → clean-wider arrays t w.1 e i)
     clean-wider arrays (assert p s) w e = λ i. defined-wider small large well wider find e [] p (typed-predicate p w.0) i × clean-wider arrays s w.1 e i
-    clean-wider arrays (becomes_such xs p) w e = λ i. (vs : List MathValue) → values-for (firsts xs) (pairs-listed xs w.0) vs i ≡ true → defined-wider small large well wider find (with_old xs e vs) [] p (typed-predicate p w.1) i
+    clean-wider arrays (becomes_such xs p) w e = λ i. (vs : List MathValue) → values-for (firsts xs) (firsts-listed small xs w.0) vs i ≡ true → defined-wider small large well wider find (with_old xs e vs) [] p (typed-predicate p w.1) i
     clean-wider arrays (loop p s j v) w e = λ i. (n : ℕ) (f : State) → Reached (λ x y. runs-wider s w.1 x y i) (λ x. holds-wider x p w.0 i) n e f →
         defined-wider small large well wider find f [] j (typed-predicate j w.2) i × evaluable-wider f arrays p w.0 i × (holds-wider f p w.0 i ≡ true → clean-wider arrays s w.1 f i × defined-wider small large well wider find f [] v (typed-type v Rattle.bk_val.specs.ValueType.int_type w.3) i)
 

@@ -1,33 +1,25 @@
 -- What is built of predicates is a predicate: boxes, diamonds, evaluation conditions, conjunctions and what a goal is taken apart into.
-use Rattle.std.proofs.Common.{◌≡◌, ℕ, ℤ, pos, List, [], ◌∷◌, ◌++◌, map, refl, sym, ◌∙◌, ap, not, Option, Some, None}
+use Rattle.std.proofs.Common.{◌≡◌, ℕ, ℤ, List, [], ◌∷◌, ◌++◌, map, refl, sym, ◌∙◌, ap, not, Option, Some, None}
 use Rattle.std.specs.List.{filter}
-use Rattle.bk_val.specs.Value.{int}
 use Rattle.bk_val.specs.ValueType.{ValueType, int_type, bool_type, enum_type, pair_type, set_type}
 use Rattle.bk_form.specs.Table.{Table}
 use Rattle.bk_form.specs.ArrayTable.{ArrayTable}
 use Rattle.bk_form.specs.Formula.{Formula, btrue, unary, binary}
-use Rattle.bk_form.specs.Search.{Finder}
 use Rattle.bk_form.specs.Role.{Role, gives, ranges_over, predicate, untyped, unary_role, connective_role, numbers_role, binary_role, role}
-use Rattle.bk_form.specs.Replacement.{replaced, IsReplacement, after_replacement, looked_up}
 use Rattle.bk_form.specs.declared.operator.UnOp.{UnOp}
 use Rattle.bk_form.specs.declared.operator.UnOp.TheVariants.{Not}
 use Rattle.bk_form.specs.declared.operator.BinOp.{BinOp}
 use Rattle.bk_form.specs.declared.operator.BinOp.TheVariants.{And, Or, Imp, Add, Sub, Mul}
-use Rattle.bk_form.proofs.Replaced.{meaning-replaced}
-use Rattle.bk_form.proofs.Roles.{meaning-role}
 use Rattle.bk_gsl.specs.Substitution.{Substitution, skip, assign, pre, guard, choice, if_else, any, seq, par, assert, becomes_such, loop}
-use Rattle.bk_form.specs.Environment.{at_state}
 use Rattle.bk_gsl.specs.Typed.{AreTypedTerms, Types}
 use Rattle.bk_form.specs.Predicates.{IsPredicate, conjuncts, equation}
 use Rattle.bk_dev.specs.Development.{is_btrue}
 use Rattle.bk_dev.specs.Facts.{AreAlike, AllAlike}
 use Rattle.bk_form.specs.Each.{Each}
 use Rattle.bk_dev.specs.Claims.{beside}
-use Rattle.bk_wp.specs.Box.{box, diamond}
 use Rattle.bk_wp.specs.Guarded.{both, where_true, in_machine, binary_check, checked, evaluated, evaluated_onto, box_where, guarded, HasTotal}
 use Rattle.bk_wp.specs.Shapes.{HasNoBinder}
 use Rattle.bk_wp.proofs.Guarding.{total-plain}
-use Rattle.bk_wp.proofs.Steps.{terms-replace}
 use Rattle.bk_seq.specs.Sequents.{Types as TypedSequent, split}
 use Rattle.bk_po.specs.Obligations.{joined_onto, joined_all, conjunction, each_after}
 use Rattle.bk_po.proofs.Lists.{append-each, map-each, filter-each}

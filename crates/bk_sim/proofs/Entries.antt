@@ -6,7 +6,7 @@ use Rattle.std.proofs.lemmas.List.{length-append, length-set}
 use Rattle.bk_val.specs.Value.{MathValue, int}
 use Rattle.bk_val.specs.ValueType.{int_type, is_value_of}
 use Rattle.bk_form.specs.Table.{Table, set_size}
-use Rattle.bk_form.proofs.Members.{and-both}
+use Rattle.bk_form.proofs.Members.{and-both, or-left, or-right}
 use Rattle.bk_gsl.specs.State.{declared_type, are_values_for, among}
 use Rattle.bk_gsl.proofs.States.{or-false, nat_eq-self}
 use Rattle.bk_dev.specs.Development.{Head, Body, Development, blank_body}
@@ -18,7 +18,7 @@ use Rattle.bk_gen.specs.Plain.{slot_of, block_code, blocks_code, plain_parameter
 use Rattle.bk_gen.proofs.Loadable.{AreInside, HaveCells}
 use Rattle.bk_sim.specs.Shows.{as_number}
 use Rattle.bk_sim.proofs.Cells.{cell, cell-same, cell-other, all-set}
-use Rattle.bk_dev.proofs.Agree.{or-left, or-right, both-true}
+use Rattle.bk_dev.proofs.Agree.{both-true}
 use Rattle.bk_sim.proofs.IntCells.{fits}
 
 -- ---- the entry of an operation

@@ -6,7 +6,7 @@ use Rattle.std.proofs.lemmas.Bool.Decides.{nat_tests}
 use Rattle.bk_val.specs.Value.{int}
 use Rattle.bk_val.specs.ValueType.{ValueType, int_type, is_value_of}
 use Rattle.bk_form.specs.Table.{set_size, variable_type}
-use Rattle.bk_form.proofs.Members.{and-both}
+use Rattle.bk_form.proofs.Members.{and-both, or-left, or-right}
 use Rattle.bk_gsl.specs.State.{declared_type, among}
 use Rattle.bk_form.specs.Environment.{IsTypedState}
 use Rattle.bk_gsl.proofs.States.{among-append}
@@ -21,7 +21,7 @@ use Rattle.bk_gen.proofs.Plain.{no_row_of, one_cell, cell_is, type_at_home, whol
 use Rattle.bk_sim.specs.Shows.{number_as, is_of_kind, row_type, cell_type, AreOfKinds, shown_as, shown}
 use Rattle.bk_sim.proofs.Cells.{cell}
 use Rattle.bk_dev.proofs.Climb.{has_cell}
-use Rattle.bk_dev.proofs.Agree.{or-left, or-right, both-true, all-among}
+use Rattle.bk_dev.proofs.Agree.{both-true, all-among}
 
 -- whether a number is within INT
 abbrev pub fits : Development → ℤ → Bool

@@ -52,7 +52,8 @@ use Rattle.bk_sim.proofs.Ends.{done-well}
 use Rattle.bk_sim.proofs.Cells.{cell, all-at}
 use Rattle.bk_sim.proofs.Values.{AreShown}
 use Rattle.bk_sim.proofs.Blocks.{cells_after, StatementFits, HasBlock, Returned, block-returns, ran, ran-runs, after-shown, statement-fits, after-within, after-many}
-use Rattle.bk_dev.proofs.Agree.{or-left, or-right, both-true, all-none, holds-same, joining-same, all-among}
+use Rattle.bk_form.proofs.Members.{or-left, or-right}
+use Rattle.bk_dev.proofs.Agree.{both-true, all-none, holds-same, joining-same, all-among}
 use Rattle.bk_form.proofs.Conjuncts.{true-append, true-first, parts-true, whole-true}
 use Rattle.bk_dev.proofs.Climb.{has_cell, flat-then, flat-if, is_before, input-before, variable-before, joined-before, own-before, one_of_three, map-same, Climbed, Carry, climbed}
 use Rattle.bk_sim.proofs.IntCells.{fits, kinds-then, kinds-if, shown-is, ints-typed, cells_home, int_at_home}

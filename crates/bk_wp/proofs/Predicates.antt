@@ -22,7 +22,7 @@ use Rattle.bk_wp.specs.Box.{box, diamond, new_values, all_new, some_new}
 use Rattle.bk_wp.specs.Shapes.{HasNoLoop}
 use Rattle.bk_wp.proofs.Closing.{declared-listed, closed-each, length-types}
 use Rattle.bk_form.proofs.Closed.{predicate-closed}
-use Rattle.bk_gsl.proofs.Outside.{firsts-listed}
+use Rattle.bk_gsl.proofs.Listed.{firsts-listed}
 use Rattle.bk_wp.proofs.Steps.{terms-replace, olds-replace}
 use Rattle.bk_form.proofs.Widening.{type-listed}
 

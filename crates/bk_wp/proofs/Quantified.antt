@@ -21,7 +21,7 @@ use Rattle.bk_wp.specs.Box.{new_values, all_new, some_new}
 use Rattle.bk_wp.proofs.Closing.{closed-each, closed-under, holds-each}
 use Rattle.bk_form.proofs.Closed.{closed-replaced}
 use Rattle.bk_wp.proofs.Steps.{implies-then, implies-if, and-false, olds-replace}
-use Rattle.bk_gsl.proofs.Outside.{firsts-listed}
+use Rattle.bk_gsl.proofs.Listed.{firsts-listed}
 
 -- ---- loose bound numbers
 pub closed-all : (table : Table) (zs : List ℕ) (f : Formula) → IsClosed 0 f → IsClosed 0 (all_of table zs f)

@@ -1,10 +1,8 @@
 -- Substitutions with loops.
-use Rattle.std.proofs.Common.{◌≡◌, ◌⊎◌, inl, inr, ℕ, List, [], ◌∷◌, ◌++◌, sym, ◌∙◌, subst, Bool, true, false, not, ◌||◌, cond, nat_eq}
-use Rattle.std.specs.Prelude.{Some}
-use Rattle.std.specs.List.{filter}
+use Rattle.std.proofs.Common.{◌≡◌, inl, inr, ℕ, List, [], ◌∷◌, sym, subst, Bool, true, false, ◌||◌, cond, nat_eq}
 use Rattle.bk_val.specs.Value.{MathValue}
 use Rattle.bk_val.specs.ValueType.{int_type}
-use Rattle.bk_form.specs.Table.{Table, variable_type, IsWellFormed}
+use Rattle.bk_form.specs.Table.{Table, IsWellFormed}
 use Rattle.bk_form.specs.Formula.{Formula, variable, binary}
 use Rattle.bk_form.specs.declared.operator.BinOp.TheVariants.{Lt}
 use Rattle.bk_form.specs.Search.{Finder, IsSearch}
@@ -12,12 +10,12 @@ use Rattle.bk_form.specs.Environment.{State, IsTypedState}
 use Rattle.bk_form.specs.Replacement.{occurs, IsClosed, looked_up}
 use Rattle.bk_form.proofs.Members.{or-left, or-right}
 use Rattle.bk_gsl.specs.Substitution.{Substitution, skip, assign, pre, guard, choice, if_else, any, seq, par, assert, becomes_such, loop}
-use Rattle.bk_gsl.specs.State.{are_values_for, with_values, among, firsts}
+use Rattle.bk_gsl.specs.State.{are_values_for, with_values, among}
 use Rattle.bk_gsl.specs.Reads.{read}
 use Rattle.bk_gsl.specs.Run.{Runs}
-use Rattle.bk_gsl.specs.Writes.{written, writes}
-use Rattle.bk_gsl.specs.Typed.{IsListed, AreListed, AreTypedTerms, AreTypedPairs, Types}
-use Rattle.bk_gsl.proofs.States.{cases, clash, nat_eq-same, nat_eq-self, among-append, among-in_order, with_values-typed}
+use Rattle.bk_gsl.specs.Typed.{IsListed, Types}
+use Rattle.bk_gsl.proofs.States.{cases, clash, nat_eq-same, nat_eq-self, with_values-typed}
+use Rattle.bk_gsl.proofs.Listed.{among-listed, writes-listed}
 use Rattle.bk_gsl.proofs.Runs.{run-typed}
 use Rattle.bk_wp.specs.Box.{variant_before, box}
 use Rattle.bk_gsl.specs.Flat.{IsFlat}
@@ -30,56 +28,8 @@ use Rattle.bk_wp.proofs.Binders.{ReadLater, box-closed, box-later, misses}
 use Rattle.bk_wp.proofs.Exact.{FineBox, box-then}
 use Rattle.bk_wp.proofs.Loops.{new-unlisted, loop-of, loop-meets}
 
--- ---- what is written is listed
+-- ---- only what is listed can be a local
 module _ (table : Table) where
-  among-listed : (zs : List ℕ) → AreListed table zs → (n : ℕ) → among zs n ≡ true → IsListed table n
-  among-listed [] l n h = absurd (cc)
-  among-listed (z ∷ zs) l n h = elim (or-cases (nat_eq n z) (among zs n) h) [
-    | inl q ↦ (l.0.0, subst (λ m. variable_type table m ≡ Some l.0.0) (sym (nat_eq-same n z q)) l.0.1)
-    | inr q ↦ among-listed zs l.1 n q
-  ]
-
-  are-listed : (zs : List ℕ) → ((n : ℕ) → among zs n ≡ true → IsListed table n) → AreListed table zs
-  are-listed [] h = tt
-  are-listed (z ∷ zs) h = (h z (or-left (nat_eq z z) (among zs z) (nat_eq-self z)), are-listed zs (λ n q. h n (or-right (nat_eq n z) (among zs n) q)))
-
-  terms-listed : (ps : List (ℕ × Formula)) → AreTypedTerms table ps → AreListed table (firsts ps)
-  terms-listed [] w = tt
-  terms-listed (p ∷ ps) w = ((w.0.0, w.0.1), terms-listed ps w.1)
-
-  pairs-listed : (xs : List (ℕ × ℕ)) → AreTypedPairs table xs → AreListed table (firsts xs)
-  pairs-listed [] w = tt
-  pairs-listed (x ∷ xs) w = ((w.0.0, w.0.1), pairs-listed xs w.1)
-
-  either-list : (xs ys : List ℕ) (n : ℕ) → among (xs ++ ys) n ≡ true → (among xs n ≡ true) ⊎ (among ys n ≡ true)
-  either-list xs ys n h = or-cases (among xs n) (among ys n) (sym (among-append xs ys n) ∙ h)
-
-  among-kept : (test : ℕ → Bool) (xs : List ℕ) (n : ℕ) → among (filter test xs) n ≡ true → among xs n ≡ true
-  among-kept test [] n h = h
-  among-kept test (x ∷ xs) n h = by_test (among-kept test xs n) (test x) h
-    where
-      by_test : (among (filter test xs) n ≡ true → among xs n ≡ true) → (b : Bool) → among (cond b (x ∷ filter test xs) (filter test xs)) n ≡ true → (nat_eq n x || among xs n) ≡ true
-      by_test on true l = elim (or-cases (nat_eq n x) (among (filter test xs) n) l) [ inl q ↦ or-left (nat_eq n x) (among xs n) q | inr q ↦ or-right (nat_eq n x) (among xs n) (on q) ]
-      by_test on false l = or-right (nat_eq n x) (among xs n) (on l)
-
-  written-listed : (s : Substitution) → Types table s → (n : ℕ) → among (written s) n ≡ true → IsListed table n
-  written-listed skip w n h = absurd (cc)
-  written-listed (assign ps) w n h = among-listed (firsts ps) (terms-listed ps w) n h
-  written-listed (pre p s) w n h = written-listed s w.1 n h
-  written-listed (guard p s) w n h = written-listed s w.1 n h
-  written-listed (choice s t) w n h = elim (either-list (written s) (written t) n h) [ inl q ↦ written-listed s w.0 n q | inr q ↦ written-listed t w.1 n q ]
-  written-listed (if_else p s t) w n h = elim (either-list (written s) (written t) n h) [ inl q ↦ written-listed s w.1 n q | inr q ↦ written-listed t w.2 n q ]
-  written-listed (any zs s) w n h = written-listed s w.1 n (among-kept (λ m. not (among zs m)) (written s) n h)
-  written-listed (seq s t) w n h = elim (either-list (written s) (written t) n h) [ inl q ↦ written-listed s w.0 n q | inr q ↦ written-listed t w.1 n q ]
-  written-listed (par s t) w n h = elim (either-list (written s) (written t) n h) [ inl q ↦ written-listed s w.0 n q | inr q ↦ written-listed t w.1 n q ]
-  written-listed (assert p s) w n h = written-listed s w.1 n h
-  written-listed (becomes_such xs p) w n h = among-listed (firsts xs) (pairs-listed xs w.0) n h
-  written-listed (loop p s i v) w n h = written-listed s w.1 n h
-
-  pub writes-listed : (s : Substitution) → Types table s → AreListed table (writes s)
-  writes-listed s w = are-listed (writes s) (λ n h. written-listed s w n (sym (among-in_order (written s) n) ∙ h))
-
-  -- ---- only what is listed can be a local
   apart-where-listed : (s : Substitution) (a b : ℕ → Bool) → ((n : ℕ) → IsListed table n → b n ≡ true → a n ≡ true) → Types table s → AreApart a s → AreApart b s
   apart-where-listed skip a b h w x = tt
   apart-where-listed (assign ps) a b h w x = tt
@@ -87,7 +37,7 @@ module _ (table : Table) where
   apart-where-listed (guard p s) a b h w x = apart-where-listed s a b h w.1 x
   apart-where-listed (choice s t) a b h w x = (apart-where-listed s a b h w.0 x.0, apart-where-listed t a b h w.1 x.1)
   apart-where-listed (if_else p s t) a b h w x = (apart-where-listed s a b h w.1 x.0, apart-where-listed t a b h w.2 x.1)
-  apart-where-listed (any zs s) a b h w x = ((λ n k. elim (cases (b n)) [ inl q ↦ clash (a n) (h n (among-listed zs w.0 n k) q) (x.0 n k) | inr q ↦ q ]), apart-where-listed s a b h w.1 x.1)
+  apart-where-listed (any zs s) a b h w x = ((λ n k. elim (cases (b n)) [ inl q ↦ clash (a n) (h n (among-listed table zs w.0 n k) q) (x.0 n k) | inr q ↦ q ]), apart-where-listed s a b h w.1 x.1)
   apart-where-listed (seq s t) a b h w x = (
     apart-where-listed s (λ n. a n || among (read t) n) (λ n. b n || among (read t) n) (λ n l k. elim (or-cases (b n) (among (read t) n) k) [ inl q ↦ or-left (a n) (among (read t) n) (h n l q) | inr q ↦ or-right (a n) (among (read t) n) q ]) w.0 x.0,
     apart-where-listed t a b h w.1 x.1,
