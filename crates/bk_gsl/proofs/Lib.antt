@@ -3,6 +3,7 @@ pub mod Runs
 pub mod States
 pub mod Ordered
 pub mod Reading
+pub mod Listed
 pub mod Outside
 pub mod Over
 pub mod WiderRuns
