@@ -130,7 +130,7 @@ module _ (dev : Development) (some : 0 < length dev.levels) (init : IsFlat (leve
   row-same x (in_domain (binary TotalFunctions d e)) h = ap (λ o. cond (has_scalars o) (array_row x (indices_of (int_max dev) dev.values d)) None) (type-same x h)
   row-same x c h = refl
 
-  clue-same : (x : ℕ) → typing_clue (Some x) (reversed flat.levels []) ≡ typing_clue (Some x) (reversed dev.levels [])
+  pub clue-same : (x : ℕ) → typing_clue (Some x) (reversed flat.levels []) ≡ typing_clue (Some x) (reversed dev.levels [])
   clue-same x = typing-like (Some x) (reversed flat.levels []) (reversed dev.levels []) (reversed-like old dev.levels [] [] nothing-like)
 
   module _ (vars : (n : ℕ) → among (level_at dev (last dev)).vars n ≡ true → n < old) where

@@ -29,7 +29,7 @@ module _ (dev : Development) (f : IsLawful dev) where
   InTable xs = (n : ℕ) → among xs n ≡ true → n < old
 
   -- ---- numbers of the table
-  at-home : (g : Rattle.std.specs.Prelude.Option Rattle.bk_dev.specs.declared.kind.Home.Home → Bool) → g None ≡ false → (xs : List ℕ) → AllAre (λ n. g (home_of dev n)) xs → InTable xs
+  pub at-home : (g : Rattle.std.specs.Prelude.Option Rattle.bk_dev.specs.declared.kind.Home.Home → Bool) → g None ≡ false → (xs : List ℕ) → AllAre (λ n. g (home_of dev n)) xs → InTable xs
   at-home g none xs a n q = subst (λ m. n < m) f.homes (passes-within dev.homes g none n (all-at (λ m. g (home_of dev m)) xs a n q))
 
   pub vars-in : (k : ℕ) → k < length dev.levels → InTable (level_at dev k).vars
@@ -72,7 +72,7 @@ module _ (dev : Development) (f : IsLawful dev) where
   locals-bound (loop p s i v) n q = locals-bound s n q
   locals-bound _ n q = absurd (cc)
 
-  binders-in : (k : ℕ) (inputs outputs : List ℕ) (s : Substitution) → IsSubOf dev k inputs outputs s → InTable (binders s)
+  pub binders-in : (k : ℕ) (inputs outputs : List ℕ) (s : Substitution) → IsSubOf dev k inputs outputs s → InTable (binders s)
   binders-in k inputs outputs s w = at-home (is_inner_of k) refl (binders s) w.binds_inner
 
   locals-in : (k : ℕ) (inputs outputs : List ℕ) (s : Substitution) → IsSubOf dev k inputs outputs s → InTable (locals s)

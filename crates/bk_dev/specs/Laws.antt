@@ -9,6 +9,7 @@ use Rattle.bk_dev.specs.Development.{Development, body_at, level_at, last}
 use Rattle.bk_form.specs.Table.{IsWellFormed}
 use Rattle.bk_gsl.specs.Run.{Runs}
 use Rattle.bk_form.specs.Environment.{State}
+use Rattle.bk_dev.specs.B0.{IsB0Development}
 use Rattle.bk_dev.specs.Layout.{arrays_of, cell_count, cell_of, cells_of}
 use Rattle.bk_dev.specs.Flattened.{flattened}
 use Rattle.bk_dev.specs.Claims.{Carries}
@@ -50,6 +51,10 @@ pub record FlattenedKeepsCells : Type 0 where
   pub arrays : (dev : Development) → IsLawful dev → LastIsFlat dev → arrays_of (flattened dev) ≡ arrays_of dev
   pub cells : (dev : Development) → IsLawful dev → LastIsFlat dev → (x : ℕ) → (cell_of (flattened dev) x ≡ cell_of dev x) × (cells_of (flattened dev) x ≡ cells_of dev x)
   pub count : (dev : Development) → IsLawful dev → LastIsFlat dev → cell_count (flattened dev) ≡ cell_count dev
+
+-- a development in B0 is in B0 after flattening
+abbrev pub FlattenedStaysInB0 : Type 0
+FlattenedStaysInB0 = (dev : Development) → IsLawful dev → IsWellFormed (flattened dev).table → IsB0Development dev → IsB0Development (flattened dev)
 
 -- ---- what must not carry
 -- an implementation that runs where the machine does not end, and one that takes || as ;: both are developments

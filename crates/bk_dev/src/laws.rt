@@ -1,6 +1,6 @@
 //! What holds of developments, and what a small machine reaches. Each law is the contract of a function that does nothing.
 
-ghost use Rattle.bk_dev.specs.Laws.{CounterIsDevelopment, ReachesTen, AnswersTen, LegalWhere, FlattenedIsLawful, FlattenedRuns, FlattenedKeepsCells, AreNotCarried};
+ghost use Rattle.bk_dev.specs.Laws.{CounterIsDevelopment, ReachesTen, AnswersTen, LegalWhere, FlattenedIsLawful, FlattenedRuns, FlattenedKeepsCells, FlattenedStaysInB0, AreNotCarried};
 
 /// A counter, to be checked by hand.
 pub fn counter()
@@ -10,11 +10,12 @@ pub fn counter()
     ensures legal { LegalWhere }
 {}
 
-/// The flattened of a development is lawful and without `||`, and what it runs the development runs.
+/// The flattened of a development is lawful and without `||`, what it runs the development runs, and it is in B0 where the development is.
 pub fn flat_developments()
     ensures lawful { FlattenedIsLawful }
     ensures runs { FlattenedRuns }
     ensures cells { FlattenedKeepsCells }
+    ensures in_b0 { FlattenedStaysInB0 }
 {}
 
 /// Two developments whose implementations do not carry their machines.
