@@ -27,12 +27,7 @@ pub fn some(alloc: Global, body: Form) -> Result<Form, Memory> {
 }
 
 /// `{a, b | a : first & b : second & body}`
-pub fn comprehension(
-    alloc: Global,
-    first: Form,
-    second: Form,
-    body: Form,
-) -> Result<Form, Memory> {
+pub fn comprehension(alloc: Global, first: Form, second: Form, body: Form) -> Result<Form, Memory> {
     if first.size() + second.size() + body.size() > 1000 {
         return Err(Memory);
     }

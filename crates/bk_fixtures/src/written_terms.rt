@@ -25,12 +25,7 @@ pub fn level_name(alloc: Global, name: &[u8], level: u32) -> Result<RawTerm, Mem
 }
 
 /// An operator between two terms.
-pub fn infix(
-    alloc: Global,
-    op: InfixOp,
-    left: RawTerm,
-    right: RawTerm,
-) -> Result<RawTerm, Memory> {
+pub fn infix(alloc: Global, op: InfixOp, left: RawTerm, right: RawTerm) -> Result<RawTerm, Memory> {
     let left = Box::new(alloc, left)?;
     let right = Box::new(alloc, right)?;
     Ok(unplaced(RawNode::Infix(op, left, right)))
