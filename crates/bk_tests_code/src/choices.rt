@@ -8,10 +8,8 @@ ghost use Rattle.bk_gsl.specs.Substitution.{assign, if_else, skip};
 ghost use Rattle.bk_tests_code.specs.Choices.{below, inner_choice, outer_choice, not_zero, small_or_above, decision, doing, idle_bodies, choosing_bodies, bare_level, chooser};
 
 use bk_dev::{Body, Development, Home, Kind, Level, OpHead};
-use bk_fixtures::{
-    always, becomes, binary, body, counter_table, header, of_variables, text, unary, variable,
-    with_number,
-};
+use bk_examples::{body, counter_table, header};
+use bk_fixtures::{always, becomes, binary, of_variables, text, unary, variable, with_number};
 use bk_form::{BinOp, Form, UnOp};
 use bk_gsl::Sub;
 use bk_io::Memory;

@@ -1,16 +1,8 @@
-//! Tests of images, of the machine that runs them, of the translation that makes them, and of the calls of their operations.
+//! Tests of the translation of developments, of call scripts, and of the replies to them.
 #![tactic(auto)]
 
 #[cfg(test)]
 mod choices;
-#[cfg(test)]
-mod encoding;
-#[cfg(test)]
-mod execution;
-#[cfg(test)]
-mod lists;
-#[cfg(test)]
-mod loading;
 #[cfg(test)]
 mod replies;
 #[cfg(test)]

@@ -1,6 +1,6 @@
 use crate::choices::chooser;
 use bk_code::{CellKind, Image, Inst, Parameter};
-use bk_fixtures::{counter, stepper, tally};
+use bk_examples::{counter, stepper, tally};
 use bk_gen::translate;
 use std::alloc::Global;
 use std::test::Fail;

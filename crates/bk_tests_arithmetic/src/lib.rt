@@ -1,0 +1,7 @@
+//! Tests of certificates of linear arithmetic, and of the formulas that are read as its facts.
+#![tactic(auto)]
+
+#[cfg(test)]
+mod arithmetic;
+#[cfg(test)]
+mod certificates;
