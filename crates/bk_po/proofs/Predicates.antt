@@ -2,7 +2,7 @@
 use Rattle.std.proofs.Common.{◌≡◌, ℕ, ℤ, List, [], ◌∷◌, ◌++◌, map, refl, sym, ◌∙◌, ap, not, Option, Some, None}
 use Rattle.std.specs.List.{filter}
 use Rattle.bk_val.specs.ValueType.{ValueType, int_type, bool_type, enum_type, pair_type, set_type}
-use Rattle.bk_form.specs.Table.{Table}
+use Rattle.bk_form.specs.Table.{Table, IsWellFormed}
 use Rattle.bk_form.specs.ArrayTable.{ArrayTable}
 use Rattle.bk_form.specs.Formula.{Formula, btrue, unary, binary}
 use Rattle.bk_form.specs.Role.{Role, gives, ranges_over, predicate, untyped, unary_role, connective_role, numbers_role, binary_role, role}
@@ -20,6 +20,8 @@ use Rattle.bk_dev.specs.Claims.{beside}
 use Rattle.bk_wp.specs.Guarded.{both, where_true, in_machine, binary_check, checked, evaluated, evaluated_onto, box_where, guarded, HasTotal}
 use Rattle.bk_wp.specs.Shapes.{HasNoBinder}
 use Rattle.bk_wp.proofs.Guarding.{total-plain}
+use Rattle.bk_wp.proofs.Plain.{no-loop}
+use Rattle.bk_wp.proofs.Predicates.{box-predicate}
 use Rattle.bk_seq.specs.Sequents.{Types as TypedSequent, split}
 use Rattle.bk_po.specs.Obligations.{joined_onto, joined_all, conjunction, each_after}
 use Rattle.bk_po.proofs.Lists.{append-each, map-each, filter-each}
@@ -129,9 +131,9 @@ module _ (table : Table) where
   where-predicate btrue q h k = k
   where-predicate p q h k = λ i. connective_role (h i) (k i)
 
-  box_where-predicate : (s : Substitution) (q : Formula) → Types table s → HasNoBinder s → IsPredicate table q → IsPredicate table (box_where table s q)
-  box_where-predicate s btrue w n h = refl
-  box_where-predicate s q w n h = box-predicate s q w n h
+  box_where-predicate : IsWellFormed table → (s : Substitution) (q : Formula) → Types table s → HasNoBinder s → IsPredicate table q → IsPredicate table (box_where table s q)
+  box_where-predicate formed s btrue w n h = refl
+  box_where-predicate formed s q w n h = box-predicate table formed s q w (no-loop s n) h
 
   machine-predicate : (max : ℤ) (f : Formula) → role table [] f ≡ gives int_type → IsPredicate table (in_machine max f)
   machine-predicate max f h = λ i. connective_role (numbers_role predicate (gives int_type) (h i)) (numbers_role predicate (h i) (gives int_type))
@@ -151,7 +153,7 @@ module _ (table : Table) where
       check-predicate max o a b (checked max a) (checked max b) h (checked-predicate max a (typed-left o (role table [] a) (role table [] b) h)) (checked-predicate max b (typed-right o (role table [] a) (role table [] b) h))
   checked-predicate max _ h = refl
 
-  module _ (arrays : Option ArrayTable) where
+  module _ (arrays : Option ArrayTable) (formed : IsWellFormed table) where
     evaluated-predicate : (f : Formula) → (role table [] f ≡ untyped → ⊥) → IsPredicate table (evaluated arrays f)
     evaluated-predicate f h = by_arrays arrays
       where
@@ -176,7 +178,7 @@ module _ (table : Table) where
         both-predicate (both (evaluated arrays p) (where_true p (guarded table arrays s))) (where_true (unary Not p) (guarded table arrays r)) (both-predicate (evaluated arrays p) (where_true p (guarded table arrays s)) test yes) no
     guarded-predicate (any zs s) w t = absurd t
     guarded-predicate (seq s r) w t =
-        let second = box_where-predicate s (guarded table arrays r) w.0 (total-plain s t.0) (guarded-predicate r w.1 t.1) in
+        let second = box_where-predicate formed s (guarded table arrays r) w.0 (total-plain s t.0) (guarded-predicate r w.1 t.1) in
         both-predicate (guarded table arrays s) (box_where table s (guarded table arrays r)) (guarded-predicate s w.0 t.0) second
     guarded-predicate (par s r) w t = absurd t
     guarded-predicate (assert p s) w t = where-predicate p (guarded table arrays s) w.0 (guarded-predicate s w.1 t.1)

@@ -169,9 +169,9 @@ module _ (dev : Development) (f : IsLawful dev) where
     row-typed k h AssertionsDefined = ((assertion-typed k h, refl), tt)
     row-typed k h AssertionsHold = ((assertion-typed k h, assertions-goal k h), tt)
     row-typed k h Initialisation = ((init-typed k, init-goal k h), tt)
-    row-typed k h InitialisationDefined = ((init-typed k, guarded-predicate dev.table (arrays_at dev k) (level_at dev k).init (fact k h).init.types (basic_level dev basic k).init), tt)
+    row-typed k h InitialisationDefined = ((init-typed k, guarded-predicate dev.table (arrays_at dev k) f.table (level_at dev k).init (fact k h).init.types (basic_level dev basic k).init), tt)
     row-typed k h Operations = of-each (of_operation dev k) (λ o l. (operation-typed k o, operation-goal k h o l))
-    row-typed k h OperationsDefined = of-each (of_definedness dev k) (λ o l. (under-typed k k o, guarded-predicate dev.table (arrays_at dev k) (whole (body_at dev k o)) (whole-types k h o l) (whole_total dev basic k o)))
+    row-typed k h OperationsDefined = of-each (of_definedness dev k) (λ o l. (under-typed k k o, guarded-predicate dev.table (arrays_at dev k) f.table (whole (body_at dev k o)) (whole-types k h o l) (whole_total dev basic k o)))
 
     each-row : (k : ℕ) → k < length dev.levels → (rs : List Row) → Each (λ row. Each HasPredicates (row_obligations dev k row)) rs
     each-row k h [] = tt
