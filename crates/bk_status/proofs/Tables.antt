@@ -48,4 +48,4 @@ pub proved_obligations_are_valid : ProvedObligationsAreValid
 proved_obligations_are_valid dev scripts f basic h = shown_obligations_are_valid dev f basic (all-shown dev scripts h)
 
 pub proved_developments_are_correct : ProvedDevelopmentsAreCorrect
-proved_developments_are_correct find law dev scripts f basic h = valid_obligations_carry find law dev f basic (proved_obligations_are_valid dev scripts f plain.basic h)
+proved_developments_are_correct find law dev scripts f basic h = valid_obligations_carry find law dev f basic (proved_obligations_are_valid dev scripts f basic h)
