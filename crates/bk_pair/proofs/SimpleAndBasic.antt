@@ -1,5 +1,5 @@
 -- A machine and its implementation as a development: it is translated, and its obligations are made.
-use Rattle.std.proofs.Common.{◌≡◌, inl, inr, ℕ, suc, pos, Bool, true, false, List, [], ◌∷◌, Option, None, Some, refl, sym, ap, subst, arith, All}
+use Rattle.std.proofs.Common.{◌≡◌, inl, inr, ℕ, suc, pos, true, false, List, [], ◌∷◌, Option, None, Some, refl, sym, ap, subst, arith, All}
 use Rattle.std.specs.Prelude.{cond}
 use Rattle.std.specs.List.{filter_map}
 use Rattle.std.proofs.lemmas.List.Elements.{All-nil, All-cons}
@@ -8,7 +8,6 @@ use Rattle.bk_form.specs.Table.{variable_type}
 use Rattle.bk_form.specs.Formula.{Formula, binary}
 use Rattle.bk_form.specs.declared.operator.BinOp.TheVariants.{TotalFunctions}
 use Rattle.bk_form.specs.declared.arrays.ArrayRow.{ArrayRow}
-use Rattle.bk_gsl.specs.Substitution.{Substitution, skip, assign, if_else}
 use Rattle.bk_dev.specs.declared.kind.Kind.{Kind}
 use Rattle.bk_dev.specs.declared.kind.Kind.TheVariants.{Machine, Implementation}
 use Rattle.bk_dev.specs.declared.kind.Home.TheVariants.{Concrete}
@@ -20,7 +19,7 @@ use Rattle.bk_wp.specs.Guarded.{IsTotal}
 use Rattle.bk_po.specs.Basic.{IsBasicBody, IsBasicLevel, IsBasic}
 use Rattle.bk_comp.specs.Operations.{Header, Places, numbers_from, takes_members}
 use Rattle.bk_comp.specs.Components.{Component, machine_places, implementation_places}
-use Rattle.bk_comp.specs.Contents.{IsPreconditionOver, IsStatementOver, IsBodyOver, AreBodiesOver, IsMadeOfThese}
+use Rattle.bk_comp.specs.Contents.{IsPreconditionOver, IsBodyOver, AreBodiesOver, IsMadeOfThese}
 use Rattle.bk_pair.proofs.Made.{statement-simple, statement-shallow, condition-total, statement-total}
 use Rattle.bk_pair.proofs.Pairs.{as_machine, as_implementation, dev, lower, lower-stand, variables-int, typed-home}
 
@@ -58,15 +57,6 @@ body-basic kind x p h b made = record {
   condition = precondition-total kind (x ∷ numbers_from p.inputs h.inputs) b.condition made.condition;
   sub = statement-total (x ∷ numbers_from p.inputs h.inputs) (takes_members kind) (x ∷ numbers_from p.outputs h.outputs) b.sub made.sub;
 }
-
-statement-ends : (members : Bool) (xs ys : List ℕ) (s : Substitution) → IsStatementOver members xs ys s → AlwaysEnds s
-statement-ends members xs ys skip made = tt
-statement-ends members xs ys (assign ps) made = tt
-statement-ends members xs ys (if_else p s t) made = (statement-ends members xs ys s made.1, statement-ends members xs ys t made.2)
-statement-ends members xs ys _ made = absurd made
-
-body-ends : (kind : Kind) (x : ℕ) (p : Places) (h : Header) (b : Body) → IsBodyOver kind x p h b → AlwaysEnds b.sub
-body-ends kind x p h b made = statement-ends (takes_members kind) (x ∷ numbers_from p.inputs h.inputs) (x ∷ numbers_from p.outputs h.outputs) b.sub made.sub
 
 -- ---- a whole number is no array
 number-row : (whole : Development) (x : ℕ) → variable_type whole.table x ≡ Some int_type → (c : Clue) → row_by whole x c ≡ None

@@ -105,6 +105,9 @@ lower-few (h ∷ hs) =
     let lows = map (λ r. Inner 1) h.outputs in
     omega (arith, length-append lows (lower_inner hs), length-append (ins ++ outs) (upper_inner hs), length-append ins outs, length-map h.outputs (λ r. Inner 0), length-map h.outputs (λ r. Inner 1), lower-few hs)
 
+has-room : (d e : Development) → d ≡ e → length e.table.variables < 2 ^ 32 → length d.table.variables < 2 ^ 32
+has-room d e same h = subst (λ x. length x.table.variables < 2 ^ 32) (sym same) h
+
 module _ (m i : Component) (few : place_behind_all 1 m.headers ≤ 10000) (upper : IsMadeOfThese (as_machine m)) (below : IsMadeOfThese (as_implementation m.headers i)) where
   abbrev pair : Development
   pair = dev m i
@@ -179,10 +182,13 @@ module _ (m i : Component) (few : place_behind_all 1 m.headers ≤ 10000) (upper
   no-copies : flattened pair ≡ pair
   no-copies = flattened_already pair (basic_are_flat pair (pair-basic m i upper below))
 
+  few-enough : length pair.table.variables < 2 ^ 32
+  few-enough = omega (arith, homes-count, as-many m i, lower-few m.headers, upper-length 1 m.headers, few)
+
   pub whole-facts : IsDevelopment pair
   whole-facts = record {
     lawful = whole-lawful;
     shapes = (record { init = tt; bodies = bodies-stand Machine 0 (machine_places 1 m.headers) m.headers m.bodies upper.bodies }, (record { init = tt; bodies = bodies-stand Implementation second (implementation_places 1 (suc second) m.headers) m.headers i.bodies below.bodies }, tt));
     binders_differ = differ;
-    room = subst (λ d. length d.table.variables < 2 ^ 32) (sym no-copies) (omega (arith, homes-count, as-many m i, lower-few m.headers, upper-length 1 m.headers, few));
+    room = has-room (flattened pair) pair no-copies few-enough;
   }
