@@ -2,7 +2,6 @@
 use Rattle.std.proofs.Common.{◌≡◌, ◌⊎◌, inl, inr, List, sym, ◌∙◌, ap, Bool, true, false}
 use Rattle.std.specs.Prelude.{Option, Some, None, is_none}
 use Rattle.bk_val.specs.Value.{MathValue}
-use Rattle.bk_form.specs.Search.{Finder, IsSearch}
 use Rattle.bk_form.specs.Laws.{SearchExists}
 
 -- some list passes the test, or none does

@@ -1,21 +1,23 @@
 -- Which values are members of the sets that the operators make.
-use Rattle.std.proofs.Common.{◌≡◌, ◌↔◌, inl, inr, ℕ, List, [], ◌∷◌, map, refl, sym, ◌∙◌, ap, subst, Bool, true, ◌&&◌, ◌||◌, not}
+use Rattle.std.proofs.Common.{◌≡◌, ◌↔◌, ◌<◌, inl, inr, ℕ, List, [], ◌∷◌, map, refl, sym, ◌∙◌, ap, subst, Bool, true, false, ◌&&◌, ◌||◌, not, nat_eq, nat_lt, arith}
+use Rattle.std.proofs.lemmas.Bool.Decides.{nat_tests}
 use Rattle.std.specs.List.{filter, list_all}
-use Rattle.bk_val.specs.Value.{MathValue, pair, set, none, more, list_of}
+use Rattle.bk_val.specs.Value.{MathValue, int, bool, elem, pair, set, none, more, list_of}
 use Rattle.bk_val.specs.ValueType.{ValueType, pair_type, set_type}
 use Rattle.bk_val.specs.Sets.{has, union_of, inter_of, minus_of, overridden_of, in_domain, second_of, image_of}
 use Rattle.bk_val.specs.CmpLaws.{same_value, value_eq-self}
 use Rattle.bk_val.proofs.Elements.{has-union_of, has-filter}
 use Rattle.bk_val.proofs.Relations.{overridden_of-pairs, pair_from_in_domain, in_domain_from_pair, image_of-members}
 use Rattle.bk_form.specs.Table.{set_size}
-use Rattle.bk_form.specs.Formula.{Formula, unary, binary}
+use Rattle.bk_form.specs.Formula.{Formula, empty_set, named, unary, binary}
 use Rattle.bk_form.specs.Search.{Finder}
 use Rattle.bk_form.specs.Environment.{Environment, bound_types}
 use Rattle.bk_form.specs.Role.{Role, gives, ranges_over, untyped, role}
 use Rattle.bk_form.specs.Operators.{elements, is_element, first_part, swapped, begins_with, composed, is_subset, is_empty}
 use Rattle.bk_form.specs.Meaning.{value, truth, within}
+use Rattle.bk_form.specs.declared.operator.Domain.TheVariants.{Bool as Booleans, Enum}
 use Rattle.bk_form.specs.declared.operator.UnOp.TheVariants.{Dom, Ran, Id, Inverse, Single, Pow, Pow1}
-use Rattle.bk_form.specs.declared.operator.BinOp.TheVariants.{And, Or, In, Union, Inter, Minus, DomRes, RanRes, DomSub, Over, Comp, Image, RanSub}
+use Rattle.bk_form.specs.declared.operator.BinOp.TheVariants.{And, Or, In, Union, Inter, Minus, DomRes, RanRes, DomSub, Over, Comp, Image, Apply, RanSub}
 use Rattle.bk_form.proofs.Members.{Has, has-then, has-if, both_ways, and-both, and-true, element-set_value, Has-map-then, Has-map-if, Has-filter-then, Has-filter-if, Has-flat_map-then, Has-flat_map-if}
 use Rattle.bk_form.proofs.Givers.{power-gives}
 use Rattle.bk_form.proofs.Typed.{Of, elements-of}
@@ -316,8 +318,49 @@ in-power-parts find e s a h =
       | inr g ↦ let p = power-parts (role e.table (bound_types e) a) k.0 g in (p.0, subst (λ x. GivesIn e s x) p.2 k.1, p.1)
     ]
 
+-- ---- {}, BOOL and the enumerated sets
+in-empty : (find : Finder) (e : Environment) (t : ValueType) (v : MathValue) → within find e v (empty_set t) ≡ false
+in-empty find e t v = refl
+
+in-booleans : (find : Finder) (e : Environment) (v : MathValue) → (within find e v (named Booleans) ≡ true) ↔ ((b : Bool) × (v ≡ bool b))
+in-booleans find e v = (from v, λ k. ap (λ w. within find e w (named Booleans)) k.1 ∙ to k.0)
+  where
+    from : (w : MathValue) → within find e w (named Booleans) ≡ true → (b : Bool) × (w ≡ bool b)
+    from (bool b) h = (b, refl)
+    from (int z) h = absurd (cc)
+    from (elem s i) h = absurd (cc)
+    from (pair x y) h = absurd (cc)
+    from (set vs) h = absurd (cc)
+
+    to : (b : Bool) → within find e (bool b) (named Booleans) ≡ true
+    to b = refl
+
+in-enumerated : (find : Finder) (e : Environment) (n : ℕ) (v : MathValue) → (within find e v (named (Enum n)) ≡ true) ↔ ((i : ℕ) × (i < set_size e.table n) × (v ≡ elem n i))
+in-enumerated find e n v = (from v, λ k. ap (λ w. within find e w (named (Enum n))) k.2 ∙ to k.0 k.1)
+  where
+    from : (w : MathValue) → within find e w (named (Enum n)) ≡ true → (i : ℕ) × (i < set_size e.table n) × (w ≡ elem n i)
+    from (elem s i) h =
+        let k = and-both (nat_eq s n) (nat_lt i (set_size e.table n)) h in
+        let same : s ≡ n = grind (arith, nat_tests, k.0) in
+        let low : i < set_size e.table n = grind (arith, nat_tests, k.1) in
+        (i, low, ap (λ m. elem m i) same)
+    from (bool b) h = absurd (cc)
+    from (int z) h = absurd (cc)
+    from (pair x y) h = absurd (cc)
+    from (set vs) h = absurd (cc)
+
+    to : (i : ℕ) → i < set_size e.table n → within find e (elem n i) (named (Enum n)) ≡ true
+    to i low =
+        let own : nat_eq n n ≡ true = grind (arith, nat_tests) in
+        let below : nat_lt i (set_size e.table n) ≡ true = grind (arith, nat_tests) in
+        and-true (nat_eq n n) (nat_lt i (set_size e.table n)) own below
+
 pub operator_members : OperatorMembers
 operator_members = record {
+  empty = λ find e t v. in-empty find e t v;
+  booleans = λ find e v. in-booleans find e v;
+  enumerated = λ find e n v. in-enumerated find e n v;
+  applied = λ find e f a t h v. sound_typing.members find e (binary Apply f a) (set_type t) h v;
   union = λ find e a b t h v. in-union find e a b t h v;
   inter = λ find e a b t h v. in-inter find e a b t h v;
   minus = λ find e a b t h v. in-minus find e a b t h v;

@@ -24,3 +24,4 @@ pub mod Predicates
 pub mod Wider
 pub mod MemberLaws
 pub mod Settings
+pub mod Operands

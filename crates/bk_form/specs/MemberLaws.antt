@@ -1,9 +1,12 @@
 -- What is in the sets that the operators make, and what the arrows say, as statements.
-use Rattle.std.specs.Prelude.{◌≡◌, ◌↔◌, true, ◌&&◌, ◌||◌, not}
-use Rattle.bk_val.specs.Value.{MathValue, pair}
+use Rattle.std.specs.Prelude.{◌≡◌, ◌↔◌, ◌<◌, ℕ, Bool, true, false, ◌&&◌, ◌||◌, not}
+use Rattle.bk_val.specs.Value.{MathValue, bool, elem, pair}
+use Rattle.bk_val.specs.Sets.{has}
 use Rattle.bk_val.specs.ValueType.{ValueType, pair_type, set_type, is_value_of}
 use Rattle.bk_form.specs.Table.{set_size}
-use Rattle.bk_form.specs.Formula.{Formula, unary, binary}
+use Rattle.bk_form.specs.Formula.{Formula, empty_set, named, unary, binary}
+use Rattle.bk_form.specs.Operators.{elements}
+use Rattle.bk_form.specs.declared.operator.Domain.TheVariants.{Bool as Booleans, Enum}
 use Rattle.bk_form.specs.Search.{Finder}
 use Rattle.bk_form.specs.Environment.{Environment}
 use Rattle.bk_form.specs.Meaning.{meaning, value, truth, within}
@@ -13,6 +16,11 @@ use Rattle.bk_form.specs.Settings.{IsSetting, IsPredicateIn, GivesIn, RangesIn}
 
 -- which values are in the sets and domains that the operators make
 pub record OperatorMembers : Type 0 where
+  pub empty : (find : Finder) (e : Environment) (t : ValueType) (v : MathValue) → within find e v (empty_set t) ≡ false
+  pub booleans : (find : Finder) (e : Environment) (v : MathValue) → (within find e v (named Booleans) ≡ true) ↔ ((b : Bool) × (v ≡ bool b))
+  pub enumerated : (find : Finder) (e : Environment) (n : ℕ) (v : MathValue) → (within find e v (named (Enum n)) ≡ true) ↔ ((i : ℕ) × (i < set_size e.table n) × (v ≡ elem n i))
+  -- f(x), where it is a set, has the members of its value
+  pub applied : (find : Finder) (e : Environment) (f a : Formula) (t : ValueType) → GivesIn e (binary Apply f a) (set_type t) → (v : MathValue) → within find e v (binary Apply f a) ≡ has (elements (value find e (binary Apply f a))) v
   pub union : (find : Finder) (e : Environment) (a b : Formula) (t : ValueType) → GivesIn e (binary Union a b) (set_type t) → (v : MathValue) → within find e v (binary Union a b) ≡ (within find e v a || within find e v b)
   pub inter : (find : Finder) (e : Environment) (a b : Formula) (t : ValueType) → GivesIn e (binary Inter a b) (set_type t) → (v : MathValue) → within find e v (binary Inter a b) ≡ (within find e v a && within find e v b)
   pub minus : (find : Finder) (e : Environment) (a b : Formula) (t : ValueType) → GivesIn e (binary Minus a b) (set_type t) → (v : MathValue) → within find e v (binary Minus a b) ≡ (within find e v a && not (within find e v b))

@@ -2,6 +2,7 @@
 
 ghost use Rattle.bk_form.specs.Laws.{AllMeans, SomeMeans, IsIndependent, SearchExists, IsClassical, IsSoundTyping, ReplacementMeans, ComprehensionHas, LambdaHas, IntervalHas, TotalMeans, OntoMeans, NoTotalFunction, ChoicesAre, Examples, DefinedExamples, WideningMeans, WideningKeepsRoles, WideningKeepsDefined};
 ghost use Rattle.bk_form.specs.MemberLaws.{OperatorMembers, ArrowsMean, MeaningIsKnown};
+ghost use Rattle.bk_form.specs.Operands.{OperandsAreTyped};
 
 /// What the quantifiers say.
 pub fn quantifiers()
@@ -27,6 +28,11 @@ pub fn classical_logic()
 /// A formula that gives a type has a value of it.
 pub fn typing_is_sound()
     ensures { IsSoundTyping }
+{}
+
+/// Where a formula that an operator makes types, what its operands stand for.
+pub fn operands()
+    ensures { OperandsAreTyped }
 {}
 
 /// What a formula means once terms stand in place of its variables.
