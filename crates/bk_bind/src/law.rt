@@ -1,4 +1,4 @@
-//! Uses of the laws of the B-Book, and why one is refused.
+//! Instances of laws, and why there is none.
 
 ghost use Rattle.std.specs.Prelude.{◌≡◌};
 ghost use Rattle.bk_bind.specs.declared.law.LawFault.TheVariants.{Memory};
@@ -6,7 +6,7 @@ ghost use Rattle.bk_bind.specs.declared.law.LawFault.TheVariants.{Memory};
 use bk_form::Form;
 use thiserror::Error;
 
-/// A law at some formulas: where the sides are true, the left formula means what the right one means.
+/// A law at some formulas: where left and right stand for the same kind of thing and the sides are true, they mean the same.
 #[derive(Drop)]
 pub struct LawInstance {
     pub sides: Vec<Form>,
@@ -20,8 +20,9 @@ pub enum LawFault {
     /// There is no such law.
     #[error("there is no such law")]
     Unknown,
-    /// The law takes another number of formulas; this many were given.
-    #[error("{0} formulas are given, and the law takes another number")]
+    /// The law takes another number of formulas, and this many were given; else the first formula, counted from 1, that has to
+    /// be an empty set and is none.
+    #[error("the formulas do not fit the law: {0} is another number of them, or that of one that is no empty set")]
     Picks(u32),
     #[error("out of memory")]
     Memory,

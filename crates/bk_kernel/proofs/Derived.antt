@@ -1,8 +1,8 @@
 -- Rules one after another.
-use Rattle.std.proofs.Common.{◌≡◌, ℕ, zero, suc, ◌+◌, ◌-◌, ◌<◌, ◌≤◌, List, [], ◌∷◌, ◌++◌, take, drop, length, get_or, map, reverse, refl, sym, ◌∙◌, ap, subst, arith, append_assoc}
-use Rattle.bk_form.specs.Table.{Table, IsWellFormed}
+use Rattle.std.proofs.Common.{List, [], ◌∷◌, ◌++◌, refl, sym, subst}
+use Rattle.bk_form.specs.Table.{Table}
 use Rattle.bk_kernel.specs.declared.rule.Rule.{Rule}
-use Rattle.bk_seq.specs.Sequents.{Sequent, Types, IsWithin, IsValidSequent}
+use Rattle.bk_seq.specs.Sequents.{Sequent, Types, IsValidSequent}
 use Rattle.bk_form.specs.Each.{Each}
 use Rattle.bk_kernel.specs.Rules.{IsInstance}
 use Rattle.bk_kernel.specs.Derivations.{Leaves}

@@ -1,17 +1,16 @@
 -- A rule makes one list of sequents, and one thing is said of a list of rules.
-use Rattle.std.proofs.Common.{◌≡◌, ℕ, zero, suc, ◌+◌, ◌-◌, ◌<◌, ◌≤◌, List, [], ◌∷◌, ◌++◌, take, drop, length, map, refl, sym, ◌∙◌, ap, subst, arith}
-use Rattle.std.specs.Prelude.{Option, Some}
+use Rattle.std.proofs.Common.{◌≡◌, [], ◌∷◌, ◌++◌, map, sym, ◌∙◌, ap, subst}
+use Rattle.std.specs.Prelude.{Some}
 use Rattle.bk_form.specs.Formula.{Formula, binary}
 use Rattle.bk_form.specs.declared.operator.BinOp.{BinOp}
 use Rattle.bk_form.specs.declared.operator.BinOp.TheVariants.{And as Conjunction, Or as Disjunction, Imp as Implication, Eq as Equality}
-use Rattle.bk_seq.specs.Paths.{numbered_item, sub_at, put_at}
-use Rattle.bk_laws_log.specs.Instances.{Instance, instance_at}
+use Rattle.bk_seq.specs.Paths.{put_at}
+use Rattle.bk_laws.specs.Rows.{Instance}
 use Rattle.bk_kernel.specs.declared.rule.Place.{Place}
 use Rattle.bk_kernel.specs.declared.rule.Place.TheVariants.{Goal, Hyp as InHyp}
-use Rattle.bk_kernel.specs.declared.rule.Rule.{Rule}
 use Rattle.bk_kernel.specs.declared.rule.Rule.TheVariants.{Hyp, Same, And, Left, Right, Split, Imp, Eq, Qe, Law, Lin, Unread}
 use Rattle.bk_seq.specs.Sequents.{Sequent}
-use Rattle.bk_kernel.specs.Rules.{Rewrites, ByRule}
+use Rattle.bk_kernel.specs.Rules.{Rewrites}
 use Rattle.bk_kernel.specs.RuleLaws.{RulesAreFunctions}
 
 same-formula : (p q : Formula) → Some p ≡ Some q → p ≡ q

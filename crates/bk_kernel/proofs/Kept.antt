@@ -4,14 +4,13 @@ use Rattle.std.specs.Prelude.{Some}
 use Rattle.bk_val.specs.ValueType.{ValueType}
 use Rattle.bk_form.specs.Table.{Table}
 use Rattle.bk_form.specs.Formula.{Formula, binary}
-use Rattle.bk_form.specs.Role.{Role, gives, predicate, untyped, if_holds, if_predicate, if_value, same_type, connective_role, equality_role, role}
-use Rattle.bk_form.specs.declared.operator.BinOp.TheVariants.{And as Conjunction, Or as Disjunction, Imp as Implication, Eq as Equality}
+use Rattle.bk_form.specs.Role.{Role, gives, predicate, untyped, if_holds, same_type, connective_role, equality_role, role}
+use Rattle.bk_form.specs.declared.operator.BinOp.TheVariants.{And as Conjunction, Eq as Equality}
 use Rattle.bk_form.proofs.Roles.{same_type-then}
 use Rattle.bk_seq.specs.Paths.{numbered_item, sub_at, put_at}
 use Rattle.bk_seq.proofs.Paths.{put-role}
 use Rattle.bk_seq.proofs.Typing.{parts_type}
-use Rattle.bk_laws_log.specs.Instances.{Instance, instance_at}
-use Rattle.bk_laws_log.proofs.Rows.{row-of, one-role, no-sides}
+use Rattle.bk_kernel.proofs.OneLaw.{row-of, one-role, no-sides}
 use Rattle.bk_kernel.specs.declared.rule.Place.{Place}
 use Rattle.bk_kernel.specs.declared.rule.Place.TheVariants.{Goal, Hyp as InHyp}
 use Rattle.bk_kernel.specs.declared.rule.Rule.{Rule}

@@ -1,5 +1,6 @@
 pub mod Validity
 pub mod Lists
+pub mod OneLaw
 pub mod Kept
 pub mod Makings
 pub mod Derived

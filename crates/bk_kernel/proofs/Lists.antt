@@ -1,5 +1,5 @@
 -- Facts of each item, and hypotheses that hold.
-use Rattle.std.proofs.Common.{◌≡◌, ℕ, zero, suc, ◌<◌, List, [], ◌∷◌, ◌++◌, length, get_or, refl, sym, subst, true, arith, All}
+use Rattle.std.proofs.Common.{◌≡◌, ℕ, zero, suc, List, [], ◌∷◌, ◌++◌, subst, true, arith, All}
 use Rattle.std.specs.Prelude.{Some, slice_get}
 use Rattle.bk_form.specs.Formula.{Formula}
 use Rattle.bk_form.specs.Search.{Finder}

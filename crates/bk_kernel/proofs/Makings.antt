@@ -8,8 +8,7 @@ use Rattle.bk_bind.specs.Limits.{IsWithinLimits}
 use Rattle.bk_seq.specs.Paths.{numbered_item, sub_at}
 use Rattle.bk_seq.specs.declared.sequent.Sequent.{Sequent as StoredSequent}
 use Rattle.bk_seq.proofs.Paths.{size-part, height-part}
-use Rattle.bk_laws_log.specs.Instances.{Instance, instance_at}
-use Rattle.bk_laws_log.proofs.Rows.{IsRow, row-of, picks-within}
+use Rattle.bk_laws.specs.Rows.{Instance}
 use Rattle.bk_kernel.specs.declared.rule.Place.{Place}
 use Rattle.bk_kernel.specs.declared.rule.Place.TheVariants.{Goal, Hyp}
 use Rattle.bk_kernel.specs.declared.rule.Rule.{Rule}
@@ -17,9 +16,10 @@ use Rattle.bk_kernel.specs.declared.rule.Rule.TheVariants.{Split}
 use Rattle.bk_kernel.specs.declared.error.StepFault.{StepFault}
 use Rattle.bk_seq.specs.Sequents.{Sequent, sequent_of, Types, IsWithin}
 use Rattle.bk_form.specs.Each.{Each}
-use Rattle.bk_kernel.specs.Rules.{Rewrites, ByLaw, ByRule, IsInstance}
+use Rattle.bk_kernel.specs.Rules.{instance_taken, Rewrites, IsInstance}
 use Rattle.bk_kernel.specs.Making.{Makes, MakesByLaw, MakesAt}
-use Rattle.bk_kernel.proofs.Lists.{each-append, each-left, each-right, each-item, all-each, each-all}
+use Rattle.bk_kernel.proofs.Lists.{each-append, each-left, each-item, all-each, each-all}
+use Rattle.bk_kernel.proofs.OneLaw.{row-of, picks-within}
 use Rattle.bk_kernel.proofs.Kept.{rules-keep-types}
 
 part-within : (f : Formula) (path : List ℕ) (part : Formula) → IsWithinLimits f → sub_at f path ≡ Some part → IsWithinLimits part
@@ -51,13 +51,13 @@ each-sides hyps [] h k = tt
 each-sides hyps (p ∷ ps) h k = ((h, k.0), each-sides hyps ps h k.1)
 
 -- so are its sides
-pub sides-are-within : (s : Sequent) (law : ℕ) (picks : List Formula) (place : Place) (news : List Sequent) (i : Instance) → instance_at law picks ≡ Some i → MakesByLaw s law picks place news → All IsWithinLimits i.sides
+pub sides-are-within : (s : Sequent) (law : ℕ) (picks : List Formula) (place : Place) (news : List Sequent) (i : Instance) → instance_taken law picks ≡ Some i → MakesByLaw s law picks place news → All IsWithinLimits i.sides
 sides-are-within s law picks place news i e w =
     let same : w.0.0 ≡ i = same-instance w.0.0 i (sym w.0.2 ∙ e) in
     let all : Each IsWithin (map (λ p. (s.0, p)) (w.0.0).sides ++ w.0.1 ∷ []) = subst (λ ns. Each IsWithin ns) w.0.4 w.1 in
     subst (λ j. All IsWithinLimits j.sides) same (all-each IsWithinLimits (w.0.0).sides (sides-each s.0 (w.0.0).sides (each-left IsWithin (map (λ p. (s.0, p)) (w.0.0).sides) (w.0.1 ∷ []) all)))
 
-pub law-makes : (s : Sequent) (law : ℕ) (picks : List Formula) (place : Place) (news : List Sequent) (i : Instance) (t : Sequent) → IsWithin s → instance_at law picks ≡ Some i → All IsWithinLimits i.sides → MakesAt place s i.left i.right t → news ≡ map (λ p. (s.0, p)) i.sides ++ t ∷ [] → MakesByLaw s law picks place news
+pub law-makes : (s : Sequent) (law : ℕ) (picks : List Formula) (place : Place) (news : List Sequent) (i : Instance) (t : Sequent) → IsWithin s → instance_taken law picks ≡ Some i → All IsWithinLimits i.sides → MakesAt place s i.left i.right t → news ≡ map (λ p. (s.0, p)) i.sides ++ t ∷ [] → MakesByLaw s law picks place news
 law-makes s law picks place news i t h e sides w made = (
   (i, t, e, w.0, made),
   subst (λ ns. Each IsWithin ns) (sym made) (each-append IsWithin (map (λ p. (s.0, p)) i.sides) (t ∷ []) (each-sides s.0 i.sides h.0 (each-all IsWithinLimits i.sides sides)) (w.1, tt)),
@@ -88,7 +88,7 @@ pub record AreParts (i : Instance) (sides : List Formula) (left right : Formula)
   pub is_left : left ≡ i.left
   pub is_right : right ≡ i.right
 
-pub law-made : (s : Sequent) (law : ℕ) (picks : List Formula) (place : Place) (i : Instance) (hyps sides : List Formula) (left right : Formula) (goals more : List StoredSequent) (r : StoredSequent) → IsWithin s → instance_at law picks ≡ Some i → hyps ≡ s.0 → AreParts i sides left right → All IsWithinLimits sides → map sequent_of goals ≡ map (λ p. (hyps, p)) sides → MakesAt place s left right (sequent_of r) → more ≡ goals ++ r ∷ [] → MakesByLaw s law picks place (map sequent_of more)
+pub law-made : (s : Sequent) (law : ℕ) (picks : List Formula) (place : Place) (i : Instance) (hyps sides : List Formula) (left right : Formula) (goals more : List StoredSequent) (r : StoredSequent) → IsWithin s → instance_taken law picks ≡ Some i → hyps ≡ s.0 → AreParts i sides left right → All IsWithinLimits sides → map sequent_of goals ≡ map (λ p. (hyps, p)) sides → MakesAt place s left right (sequent_of r) → more ≡ goals ++ r ∷ [] → MakesByLaw s law picks place (map sequent_of more)
 law-made s law picks place i hyps sides left right goals more r h e same parts within held rewritten made =
     let listed = held ∙ (λ k. map (λ p. (same k, p)) (parts.are_sides k)) in
     law-makes s law picks place (map sequent_of more) i (sequent_of r) h e

@@ -1,13 +1,12 @@
 -- What the program knows of the open sequents while it replays.
-use Rattle.std.proofs.Common.{◌≡◌, ℕ, zero, suc, ◌+◌, ◌-◌, ◌^◌, ◌<◌, ◌≤◌, min, List, [], ◌∷◌, ◌++◌, take, length, get_or, map, reverse, refl, sym, ◌∙◌, ap, subst, arith, add-one}
-use Rattle.std.specs.Prelude.{Some, slice_get}
+use Rattle.std.proofs.Common.{◌≡◌, ℕ, zero, suc, ◌+◌, ◌-◌, ◌^◌, ◌<◌, ◌≤◌, min, List, [], ◌∷◌, ◌++◌, take, length, get_or, map, reverse, refl, sym, ◌∙◌, ap, subst, arith}
+use Rattle.std.specs.Prelude.{Some}
 use Rattle.std.proofs.lemmas.List.{reverse-append, take_more, take_all, length-reverse}
 use Rattle.std.proofs.lemmas.Option.{slice_get_read}
 use Rattle.bk_form.specs.Table.{Table}
 use Rattle.bk_seq.specs.Paths.{numbered_item}
 use Rattle.bk_seq.specs.declared.sequent.Sequent.{Sequent as StoredSequent}
 use Rattle.bk_kernel.specs.declared.rule.Rule.{Rule}
-use Rattle.bk_kernel.specs.declared.replaying.Verdict.{Verdict}
 use Rattle.bk_seq.specs.Sequents.{Sequent, sequent_of, Types, IsWithin}
 use Rattle.bk_form.specs.Each.{Each}
 use Rattle.bk_kernel.specs.Rules.{IsInstance}

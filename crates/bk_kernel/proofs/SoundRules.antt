@@ -1,27 +1,24 @@
 -- A sequent is valid where all that come of it by a step are.
-use Rattle.std.proofs.Common.{◌≡◌, ◌≢◌, ℕ, List, [], ◌∷◌, ◌++◌, map, refl, sym, ◌∙◌, ap, subst, Bool, true, false, not, ◌&&◌, ◌||◌}
+use Rattle.std.proofs.Common.{◌≡◌, ℕ, List, [], ◌∷◌, ◌++◌, map, refl, sym, ◌∙◌, ap, subst, Bool, true, false}
 use Rattle.std.specs.Prelude.{Some}
-use Rattle.bk_val.specs.Value.{MathValue}
-use Rattle.bk_val.specs.ValueType.{ValueType}
 use Rattle.bk_val.specs.CmpLaws.{same_value, value_eq-self}
 use Rattle.bk_form.specs.Table.{Table, IsWellFormed}
 use Rattle.bk_form.specs.Formula.{Formula, binary}
-use Rattle.bk_form.specs.Role.{role, gives, predicate, untyped}
+use Rattle.bk_form.specs.Role.{role, gives}
 use Rattle.bk_form.specs.Search.{Finder, IsSearch}
 use Rattle.bk_form.specs.Environment.{Environment, State, IsTypedState, at_state}
-use Rattle.bk_form.specs.Operators.{implies, is_equal}
+use Rattle.bk_form.specs.Operators.{implies}
 use Rattle.bk_form.specs.Meaning.{meaning, value, truth, of_value}
 use Rattle.bk_form.specs.declared.operator.BinOp.TheVariants.{And as Conjunction, Or as Disjunction, Imp as Implication, Eq as Equality}
 use Rattle.bk_form.proofs.Members.{or-left, or-right, and-true, and-both}
 use Rattle.bk_form.proofs.Roles.{meaning-role}
 use Rattle.bk_form.proofs.Givers.{value-meaning}
-use Rattle.bk_form.specs.Predicates.{AllHold, IsPredicate}
+use Rattle.bk_form.specs.Predicates.{AllHold}
 use Rattle.bk_seq.specs.Paths.{numbered_item, sub_at, put_at}
-use Rattle.bk_seq.proofs.Paths.{put-meaning, put-stands}
-use Rattle.bk_seq.proofs.Typing.{parts_type}
-use Rattle.bk_laws_log.specs.Instances.{Instance, instance_at}
-use Rattle.bk_laws_log.specs.Laws.{SidesHold}
-use Rattle.bk_laws_log.proofs.True.{laws_are_true}
+use Rattle.bk_seq.proofs.Paths.{put-meaning}
+use Rattle.bk_laws.specs.Laws.{SidesHold}
+use Rattle.bk_laws_log.proofs.True.{laws-are-true}
+use Rattle.bk_kernel.proofs.OneLaw.{row-of, one-role, is-instance-at}
 use Rattle.bk_lin.specs.declared.fact.Line.{Line}
 use Rattle.bk_arith.proofs.Accepted.{accepted_is_valid}
 use Rattle.bk_kernel.specs.declared.rule.Place.{Place}
@@ -31,10 +28,10 @@ use Rattle.bk_kernel.specs.declared.rule.Rule.TheVariants.{Hyp, Same, And, Left,
 use Rattle.bk_seq.specs.Sequents.{Sequent, Types, IsValidSequent}
 use Rattle.bk_form.specs.Each.{Each}
 use Rattle.bk_form.proofs.Valued.{state-typed}
-use Rattle.bk_kernel.specs.Rules.{Rewrites, ByLaw, AreListed, ByArithmetic, ByRule, IsInstance}
+use Rattle.bk_kernel.specs.Rules.{Rewrites, ByLaw, AreListed, ByArithmetic, ByRule}
 use Rattle.bk_kernel.specs.RuleLaws.{RulesAreSound, DerivedIsValid}
-use Rattle.bk_kernel.proofs.Lists.{each-item, each-left, each-right, hold-append, hold-item}
-use Rattle.bk_kernel.proofs.Kept.{GiveOneType, equated, typed-predicate, old-types, equation-of}
+use Rattle.bk_kernel.proofs.Lists.{each-left, each-right, hold-append, hold-item}
+use Rattle.bk_kernel.proofs.Kept.{GiveOneType, old-types, equation-of}
 use Rattle.bk_kernel.proofs.Derived.{derived-valid}
 
 -- ---- what the connectives say
@@ -105,15 +102,6 @@ module _ (table : Table) where
     sides-hold hyps [] types valid find law st typed hold = tt
     sides-hold hyps (p ∷ ps) types valid find law st typed hold = (types.0.1, valid.0 find law st typed hold, sides-hold hyps ps types.1 valid.1 find law st typed hold)
 
-    new-types : (place : Place) (s : Sequent) (old new : Formula) (t : Sequent) → Rewrites place s old new t → Types table t → role table [] new ≢ untyped
-    new-types (Goal path) s old new t w types =
-        let goal : IsPredicate table (put_at s.1 path.items new) = (subst (λ x. Types table x) w.1 types).1 in
-        parts_type table [] (put_at s.1 path.items new) path.items new (put-stands s.1 path.items old new w.0) (typed-predicate table (put_at s.1 path.items new) goal)
-    new-types (InHyp i path) s old new t w types =
-        let f = put_at w.0 path.items new in
-        let all : Each (IsPredicate table) (s.0 ++ f ∷ []) = (subst (λ x. Types table x) w.3 types).0 in
-        parts_type table [] f path.items new (put-stands w.0 path.items old new w.2) (typed-predicate table f (each-right (IsPredicate table) s.0 (f ∷ []) all).0)
-
     law-sound : (s : Sequent) (law : ℕ) (picks : List Formula) (place : Place) (news : List Sequent) → Types table s → ByLaw s law picks place news → Each (Types table) news → Each Valid news → Valid s
     law-sound s law picks place news types w news_type valid =
         let i = w.0 in
@@ -122,10 +110,10 @@ module _ (table : Table) where
         let all_type : Each (Types table) (goals ++ t ∷ []) = subst (λ ns. Each (Types table) ns) w.4 news_type in
         let all_valid : Each Valid (goals ++ t ∷ []) = subst (λ ns. Each Valid ns) w.4 valid in
         let left = old-types table place s i.left i.right t types w.3 in
-        let right = new-types place s i.left i.right t w.3 (each-right (Types table) goals (t ∷ []) all_type).0 in
+        let one = sym (one-role table [] picks i (row-of law picks i w.2) left) in
         let same : SameUnder s.0 i.left i.right = λ find search st typed hold.
         let sides = sides-hold s.0 i.sides (each-left (Types table) goals (t ∷ []) all_type) (each-left Valid goals (t ∷ []) all_valid) find search st typed hold in
-        sym (laws_are_true law picks i w.2 find search (at_state table st) well (state-typed table st typed) left right sides) in
+        sym (laws-are-true law picks i (is-instance-at law picks i w.2) find search (at_state table st) well (state-typed table st typed) (record { types = left; one_role = one }) sides) in
         rewriting-sound place s i.left i.right t w.3 same (each-right Valid goals (t ∷ []) all_valid).0
 
     -- ---- rule by rule

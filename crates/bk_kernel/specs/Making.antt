@@ -1,5 +1,5 @@
 -- What the program's own functions promise of one rule.
-use Rattle.std.specs.Prelude.{◌≡◌, ℕ, List}
+use Rattle.std.specs.Prelude.{ℕ, List}
 use Rattle.bk_form.specs.Formula.{Formula}
 use Rattle.bk_lin.specs.declared.fact.Line.{Line}
 use Rattle.bk_kernel.specs.declared.rule.Place.{Place}

@@ -1,10 +1,11 @@
 -- The rules of proof: what a rule makes of a sequent.
-use Rattle.std.specs.Prelude.{◌≡◌, ℕ, true, List, [], ◌∷◌, ◌++◌, map, Some}
+use Rattle.std.specs.Prelude.{◌≡◌, ℕ, nat_eq, true, cond, List, [], ◌∷◌, ◌++◌, map, Option, Some, None}
 use Rattle.bk_form.specs.Table.{Table}
 use Rattle.bk_form.specs.Formula.{Formula, binary}
 use Rattle.bk_form.specs.declared.operator.BinOp.TheVariants.{And as Conjunction, Or as Disjunction, Imp as Implication, Eq as Equality}
 use Rattle.bk_seq.specs.Paths.{numbered_item, sub_at, put_at}
-use Rattle.bk_laws_log.specs.Instances.{Instance, instance_at}
+use Rattle.bk_laws.specs.Rows.{Instance, instance_at}
+use Rattle.bk_laws_log.specs.Rows.{rows}
 use Rattle.bk_lin.specs.declared.fact.Line.{Line}
 use Rattle.bk_arith.specs.Decision.{is_accepted}
 use Rattle.bk_kernel.specs.declared.rule.Place.{Place}
@@ -27,9 +28,13 @@ ByEquation s i place news = (e : Formula) × (f : Formula) × (t : Sequent) × (
 abbrev pub ByReverse : Sequent → ℕ → Place → List Sequent → Type 0
 ByReverse s i place news = (e : Formula) × (f : Formula) × (t : Sequent) × (numbered_item s.0 i ≡ Some (binary Equality e f)) × Rewrites place s f e t × (news ≡ t ∷ [])
 
+-- the instance of a law that the rule takes: so far O5 alone, membership in an interval
+abbrev pub instance_taken : ℕ → List Formula → Option Instance
+instance_taken law picks = cond (nat_eq law 105) (instance_at rows law picks) None
+
 -- at the place the law's right formula comes for its left one; the sides are goals in order, before the rewritten sequent
 abbrev pub ByLaw : Sequent → ℕ → List Formula → Place → List Sequent → Type 0
-ByLaw s law picks place news = (i : Instance) × (t : Sequent) × (instance_at law picks ≡ Some i) × Rewrites place s i.left i.right t × (news ≡ map (λ p. (s.0, p)) i.sides ++ t ∷ [])
+ByLaw s law picks place news = (i : Instance) × (t : Sequent) × (instance_taken law picks ≡ Some i) × Rewrites place s i.left i.right t × (news ≡ map (λ p. (s.0, p)) i.sides ++ t ∷ [])
 
 -- these are the hypotheses of these numbers, in that order
 abbrev pub AreListed : List Formula → List ℕ → List Formula → Type 0

@@ -1,5 +1,5 @@
 -- The open sequents as the program holds them: the first one last.
-use Rattle.std.specs.Prelude.{ℕ, zero, suc, ◌-◌, ◌^◌, min, List, [], ◌∷◌, map, reverse}
+use Rattle.std.specs.Prelude.{ℕ, zero, suc, ◌-◌, ◌^◌, min, List, map, reverse}
 use Rattle.bk_seq.specs.declared.sequent.Sequent.{Sequent as StoredSequent}
 use Rattle.bk_kernel.specs.declared.replaying.Verdict.{Verdict}
 use Rattle.bk_kernel.specs.declared.replaying.Verdict.TheVariants.{Closed, Open}

@@ -4,10 +4,10 @@ ghost use Rattle.std.specs.Prelude.{◌≡◌, true, false, List, map, All, Some
 ghost use Rattle.bk_form.specs.Formula.{Formula};
 ghost use Rattle.bk_arith.specs.Decision.{is_accepted};
 ghost use Rattle.bk_bind.specs.Limits.{IsWithinLimits};
-ghost use Rattle.bk_laws_log.specs.Instances.{instance_of, instance_at};
+ghost use Rattle.bk_laws_log.specs.Rows.{instance_of};
 ghost use Rattle.bk_kernel.specs.declared.error.StepFault.TheVariants.{NoInstance};
 ghost use Rattle.bk_seq.specs.Sequents.{Sequent as Claim, sequent_of, Types, IsWithin};
-ghost use Rattle.bk_kernel.specs.Rules.{AreListed, IsInstance};
+ghost use Rattle.bk_kernel.specs.Rules.{instance_taken, AreListed, IsInstance};
 ghost use Rattle.bk_kernel.specs.Making.{Makes, MakesNothing, MakesByLaw, MakesByArithmetic};
 
 use crate::error::StepFault;
@@ -21,6 +21,9 @@ use bk_laws_log::instance;
 use bk_lin::Line;
 use bk_seq::{Sequent, numbered};
 use std::alloc::Global;
+
+/// The number of the one law that the rule takes so far: membership in an interval, taken apart.
+const INTERVAL: u16 = 105;
 
 /// The sequents that come of the sequent by the rule. `NoInstance` comes exactly where the rule does not fit, or makes a
 /// formula that does not type or is too large.
@@ -232,12 +235,15 @@ fn by_law(
     Ok(news)
 }
 
-// The law at the formulas.
+// The law at the formulas, where the rule takes it.
 fn law_instance(alloc: Global, law: u16, picks: &[Form]) -> Result<LawInstance, StepFault>
     requires { All IsWithinLimits picks.now }
-    ensures value { IfOk result (λ i. instance_at law picks.now ≡ Some (instance_of i)) }
-    ensures no_instance { result ≡ Err NoInstance → instance_at law picks.now ≡ None }
+    ensures value { IfOk result (λ i. instance_taken law picks.now ≡ Some (instance_of i)) }
+    ensures no_instance { result ≡ Err NoInstance → instance_taken law picks.now ≡ None }
 {
+    if law != INTERVAL {
+        return Err(StepFault::NoInstance);
+    }
     match instance(alloc, law, picks) {
         Ok(found) => Ok(found),
         Err(LawFault::Unknown) => Err(StepFault::NoInstance),

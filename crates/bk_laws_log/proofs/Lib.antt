@@ -1,3 +1,8 @@
-pub mod Intervals
-pub mod Rows
+pub mod Answered
+pub mod Counting
+pub mod Largest
+pub mod Logic
+pub mod Members
+pub mod Order
+pub mod Smallest
 pub mod True

@@ -1,7 +1,8 @@
 //! Laws of logic, order and counting: formulas that mean the same, as rewriting rules.
 #![tactic(auto)]
 
+mod instances;
 pub mod laws;
-mod row;
+mod table;
 
-pub use row::instance;
+pub use instances::instance;

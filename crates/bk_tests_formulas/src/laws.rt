@@ -1,79 +1,169 @@
-// The law of intervals at formulas, and what is refused.
+// Each law at variables, against its text, and what is refused.
 
+use crate::function_law_texts::FUNCTION_LAWS;
+use crate::law_printing::{listed, text};
+use crate::law_texts::LAWS;
+use crate::set_law_texts::SET_LAWS;
 use bk_bind::{GREATEST_HEIGHT, LawFault, LawInstance, MOST_NODES};
-use bk_fixtures::{binary, of_variables, variable};
-use bk_form::{BinOp, Form};
+use bk_fixtures::{leaf, literal, unary, variable};
+use bk_form::{Form, Part, Ty, UnOp};
 use bk_io::Memory;
-use bk_laws_log::instance;
 use std::alloc::Global;
+use std::process::Abort;
 use std::test::Fail;
 
-// The variables from 0 on, as many as this.
-fn variables(alloc: Global, count: u32) -> Result<Vec<Form>, Memory> {
+// The crates of laws.
+#[derive(Clone, Copy)]
+enum Family {
+    Logic,
+    Sets,
+    Functions,
+}
+
+// A variable for each letter, and an empty set for the letters o and p: of integers, and of truth values.
+fn picks(alloc: Global, letters: &str) -> Result<Vec<Form>, Memory> {
     let mut list = Vec::new(alloc);
-    for index in 0..count {
-        list.push(variable(alloc, index)?)?;
+    let mut number = 0u32;
+    for byte in letters.as_bytes() {
+        let pick = match *byte {
+            b'o' => leaf(alloc, Part::Empty(Ty::int()))?,
+            b'p' => leaf(alloc, Part::Empty(Ty::boolean()))?,
+            _ => variable(alloc, number)?,
+        };
+        list.push(pick)?;
+        number = number.saturating_add(1);
     }
     Ok(list)
 }
 
 // The instance, where the formulas are within the limits.
-fn tried(alloc: Global, law: u16, picks: &[Form]) -> Result<LawInstance, LawFault> {
+fn tried(alloc: Global, family: Family, law: u16, picks: &[Form]) -> Result<LawInstance, LawFault> {
     for pick in picks {
         if pick.size() > MOST_NODES || pick.depth() > GREATEST_HEIGHT {
             return Err(LawFault::Memory);
         }
     }
-    instance(alloc, law, picks)
-}
-
-fn fault(alloc: Global, law: u16, count: u32) -> Result<Option<LawFault>, Memory> {
-    match tried(alloc, law, &variables(alloc, count)?) {
-        Ok(_) => Ok(None),
-        Err(fault) => Ok(Some(fault)),
+    match family {
+        Family::Logic => bk_laws_log::instance(alloc, law, picks),
+        Family::Sets => bk_laws_set::instance(alloc, law, picks),
+        Family::Functions => bk_laws_fun::instance(alloc, law, picks),
     }
 }
 
-// x0 : x1 .. x2
-fn member(alloc: Global) -> Result<Form, Memory> {
-    let range = of_variables(alloc, BinOp::Range, 1, 2)?;
-    binary(alloc, BinOp::In, variable(alloc, 0)?, range)
-}
-
-// x1 <= x0 & x0 <= x2
-fn bounds(alloc: Global) -> Result<Form, Memory> {
-    let above = of_variables(alloc, BinOp::Le, 1, 0)?;
-    let below = of_variables(alloc, BinOp::Le, 0, 2)?;
-    binary(alloc, BinOp::And, above, below)
-}
-
-#[test]
-fn interval(rt: HostRuntime) -> Result<(), Fail> {
-    let alloc = rt.alloc();
-    let found = tried(alloc, 105, &variables(alloc, 3)?)?;
-    assert!(rt; found.sides.is_empty());
-    assert!(rt; found.left.equal(&member(alloc)?));
-    assert!(rt; found.right.equal(&bounds(alloc)?));
+// Compares each law of a crate at variables with its texts.
+fn compare(
+    rt: &impl Abort,
+    alloc: Global,
+    family: Family,
+    laws: &[(u16, &str, &str, &str, &str)],
+) -> Result<(), Fail> {
+    for &(law, letters, left, right, sides) in laws {
+        let found = tried(alloc, family, law, &picks(alloc, letters)?)?;
+        let shown = text(alloc, &found.left, letters)?;
+        assert_eq!(rt; shown.as_slice(), left.as_bytes(), "left of {law}");
+        let shown = text(alloc, &found.right, letters)?;
+        assert_eq!(rt; shown.as_slice(), right.as_bytes(), "right of {law}");
+        let shown = listed(alloc, &found.sides, letters)?;
+        assert_eq!(rt; shown.as_slice(), sides.as_bytes(), "sides of {law}");
+    }
     Ok(())
 }
 
 #[test]
+fn each_law_of_logic_at_variables(rt: HostRuntime) -> Result<(), Fail> {
+    compare(&rt, rt.alloc(), Family::Logic, &LAWS)
+}
+
+#[test]
+fn each_law_of_sets_at_variables(rt: HostRuntime) -> Result<(), Fail> {
+    compare(&rt, rt.alloc(), Family::Sets, &SET_LAWS)
+}
+
+#[test]
+fn each_law_of_functions_at_variables(rt: HostRuntime) -> Result<(), Fail> {
+    compare(&rt, rt.alloc(), Family::Functions, &FUNCTION_LAWS)
+}
+
+fn fault(alloc: Global, family: Family, law: u16, picks: &[Form]) -> Option<LawFault> {
+    match tried(alloc, family, law, picks) {
+        Ok(_) => None,
+        Err(fault) => Some(fault),
+    }
+}
+
+#[test]
 fn faults(rt: HostRuntime) -> Result<(), Fail> {
+    let alloc = rt.alloc();
     let cases = [
-        (104, 3, Some(LawFault::Unknown)),
-        (5, 3, Some(LawFault::Unknown)),
-        (0, 0, Some(LawFault::Unknown)),
-        (105, 0, Some(LawFault::Picks(0))),
-        (105, 2, Some(LawFault::Picks(2))),
-        (105, 4, Some(LawFault::Picks(4))),
-        (105, 3, None),
+        (Family::Logic, 0, "", Some(LawFault::Unknown)),
+        (Family::Logic, 29, "PQ", Some(LawFault::Unknown)),
+        (Family::Logic, 100, "ab", Some(LawFault::Unknown)),
+        (Family::Logic, 131, "ab", Some(LawFault::Unknown)),
+        (Family::Logic, 236, "abo", Some(LawFault::Unknown)),
+        (Family::Logic, 105, "", Some(LawFault::Picks(0))),
+        (Family::Logic, 105, "ab", Some(LawFault::Picks(2))),
+        (Family::Logic, 105, "abcd", Some(LawFault::Picks(4))),
+        (Family::Logic, 105, "abc", None),
+        (Family::Logic, 19, "a", Some(LawFault::Picks(1))),
+        (Family::Logic, 19, "", None),
+        // another count is told first, then the first pick that has to be an empty set
+        (Family::Logic, 116, "S", Some(LawFault::Picks(1))),
+        (Family::Logic, 116, "SST", Some(LawFault::Picks(3))),
+        (Family::Logic, 116, "ST", Some(LawFault::Picks(2))),
+        (Family::Logic, 116, "oS", Some(LawFault::Picks(2))),
+        (Family::Logic, 116, "oo", None),
+        (Family::Logic, 122, "S", Some(LawFault::Picks(1))),
+        (Family::Logic, 130, "STS", Some(LawFault::Picks(3))),
+        (Family::Logic, 130, "STo", None),
+        // there is no row 41 of sets, also not under its number alone
+        (Family::Sets, 241, "ST", Some(LawFault::Unknown)),
+        (Family::Sets, 41, "ST", Some(LawFault::Unknown)),
+        (Family::Sets, 200, "x", Some(LawFault::Unknown)),
+        (Family::Sets, 130, "STo", Some(LawFault::Unknown)),
+        (Family::Sets, 301, "xyr", Some(LawFault::Unknown)),
+        (Family::Sets, 236, "ab", Some(LawFault::Picks(2))),
+        (Family::Sets, 236, "abS", Some(LawFault::Picks(3))),
+        (Family::Sets, 236, "abo", None),
+        (Family::Functions, 300, "x", Some(LawFault::Unknown)),
+        (Family::Functions, 366, "fSBA", Some(LawFault::Unknown)),
+        (Family::Functions, 240, "STU", Some(LawFault::Unknown)),
+        (Family::Functions, 349, "fx", Some(LawFault::Picks(2))),
+        (Family::Functions, 310, "SS", Some(LawFault::Picks(1))),
+        (Family::Functions, 310, "oS", Some(LawFault::Picks(2))),
+        (Family::Functions, 335, "ro", Some(LawFault::Picks(1))),
+        (Family::Functions, 335, "or", None),
     ];
-    for (law, count, wanted) in cases {
+    for (family, law, letters, wanted) in cases {
         assert_eq!(rt;
-            fault(rt.alloc(), law, count)?,
+            fault(alloc, family, law, &picks(alloc, letters)?),
             wanted,
-            "law {law} at {count} formulas"
+            "law {law} at {letters}"
         );
     }
+    Ok(())
+}
+
+#[test]
+fn overriding_gives_the_new_value(rt: HostRuntime) -> Result<(), Fail> {
+    let alloc = rt.alloc();
+    let picks = vec![in alloc; variable(alloc, 0)?, literal(alloc, 3)?, literal(alloc, 7)?]?;
+    let found = tried(alloc, Family::Functions, 349, &picks)?;
+    let left = text(alloc, &found.left, "f")?;
+    assert_eq!(rt; left.as_slice(), "(f <+ {3 |-> 7})(3)".as_bytes());
+    let right = text(alloc, &found.right, "f")?;
+    assert_eq!(rt; right.as_slice(), "7".as_bytes());
+    assert_eq!(rt; found.sides.len(), 0);
+    Ok(())
+}
+
+#[test]
+fn a_set_of_one_is_no_empty_set(rt: HostRuntime) -> Result<(), Fail> {
+    let alloc = rt.alloc();
+    let only = unary(alloc, UnOp::Single, literal(alloc, 5)?)?;
+    let picks = vec![in alloc; literal(alloc, 5)?, literal(alloc, 4)?, only]?;
+    assert_eq!(rt;
+        fault(alloc, Family::Sets, 236, &picks),
+        Some(LawFault::Picks(3))
+    );
     Ok(())
 }

@@ -1,7 +1,7 @@
 use Rattle.std.proofs.Common.{refl, sym, ◌∙◌, subst, All}
 use Rattle.bk_kernel.specs.declared.error.StepFault.TheVariants.{NoInstance}
 use Rattle.bk_bind.specs.Limits.{IsWithinLimits}
-use Rattle.bk_laws_log.specs.Instances.{instance_of}
+use Rattle.bk_laws_log.specs.Rows.{instance_of}
 use Rattle.bk_seq.specs.Sequents.{sequent_of}
 use Rattle.bk_kernel.proofs.Makings.{picks-are-within, sides-are-within, law-made, passed-on}
 use Rattle.bk_kernel.proofs.stepping.by_law.Goals as goal

@@ -1,0 +1,10 @@
+pub mod Answered
+pub mod Built
+pub mod ByForm
+pub mod Faults
+pub mod Numbers
+pub mod Refuted
+pub mod Rowed
+pub mod SetEquality
+pub mod Truth
+pub mod Truths

@@ -1,0 +1,12 @@
+pub mod Answered
+pub mod Applications
+pub mod Applied
+pub mod Arrows
+pub mod Domains
+pub mod Functions
+pub mod Images
+pub mod Inverses
+pub mod Pairs
+pub mod Parts
+pub mod True
+pub mod Truths

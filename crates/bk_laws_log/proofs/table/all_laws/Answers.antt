@@ -1,0 +1,7 @@
+use Rattle.std.proofs.Common.{refl}
+use Rattle.bk_laws_log.specs.Rows.{rows}
+use Rattle.bk_laws_log.proofs.table.all_laws.Goals as goal
+
+pub returns : goal.returns
+unfolding rows
+returns c = refl

@@ -1,0 +1,6 @@
+pub mod Answered
+pub mod Intervals
+pub mod Members
+pub mod Operations
+pub mod Subsets
+pub mod True
