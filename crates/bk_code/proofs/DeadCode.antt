@@ -1,9 +1,8 @@
 -- Code that nothing reaches.
 use Rattle.std.proofs.Common.{◌≡◌, ◌<◌, ◌≤◌, ◌⊎◌, ℕ, zero, suc, ◌+◌, refl, sym, subst, arith}
-use Rattle.std.specs.Prelude.{slice_index, slice_get, Some}
-use Rattle.bk_code.specs.declared.instruction.Inst.{Inst}
+use Rattle.std.specs.Prelude.{slice_index}
 use Rattle.bk_code.specs.declared.instruction.Inst.TheVariants.{Store, Ret}
-use Rattle.bk_code.specs.Checks.{FlowsTo, Passes, LeadsThrough, IsOpen}
+use Rattle.bk_code.specs.Checks.{FlowsTo, Passes, LeadsThrough}
 use Rattle.bk_code.specs.Laws.{LoadableIsChecked, dead_store, RefusesDeadStore}
 
 pub loadable_is_checked : LoadableIsChecked

@@ -32,7 +32,7 @@ pub ends_at_return : EndsAtReturn
 ends_at_return image fuel n c d leads is below = (omega arith, (leads, rw is refl))
 
 -- n steps lead to one configuration
-one_place : (image : Image) (n : ℕ) (c d e : Config) → Leads image n c d → Leads image n c e → d ≡ e
+pub one_place : (image : Image) (n : ℕ) (c d e : Config) → Leads image n c d → Leads image n c e → d ≡ e
 one_place image zero c d e p q = sym p ∙ q
 one_place image (suc n) c d e p q =
     let mid = one_place image n c p.0 q.0 p.1 q.1 in

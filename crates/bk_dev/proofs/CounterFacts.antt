@@ -12,6 +12,7 @@ use Rattle.bk_dev.specs.Development.{Body, level_at, body_at}
 use Rattle.bk_gsl.specs.Typed.{IsTerm}
 use Rattle.bk_dev.specs.Facts.{AllAlike, is_constant, is_variable_of, is_inner_of, home_of, Names, names_constants, names_joined, names_own, writes_own, IsSubOf, IsBodyOf, IsLevelOf, IsHeadOf, IsDevelopment, IsLawful}
 use Rattle.bk_dev.specs.Counter.{reset_name, setmax_name, get_name, counter_table, setting, counter}
+use Rattle.bk_dev.proofs.Levels.{two-levels}
 
 -- ---- what formulas name
 -- nothing at all
@@ -107,7 +108,7 @@ machine-facts = record {
 
 implementation-facts : IsLevelOf counter 1 (level_at counter 1)
 implementation-facts = record {
-  kind = (omega (arith), refl);
+  kind = omega (arith);
   vars = (refl, tt);
   all = only_one;
   distinct = (refl, tt);
@@ -146,6 +147,7 @@ counter_lawful = record {
 pub counter_facts : IsDevelopment counter
 counter_facts = record {
   lawful = counter_lawful;
+  only_last = two-levels counter refl refl;
   shapes = ((record { init = tt; bodies = (tt, (tt, (tt, tt))) }, (record { init = tt; bodies = (tt, (tt, (tt, tt))) }, tt)));
   binders_differ = (refl, (refl, tt));
   room = omega (arith);

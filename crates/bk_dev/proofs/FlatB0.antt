@@ -14,9 +14,9 @@ use Rattle.bk_gsl.specs.Substitution.{Substitution, skip, assign, if_else, any, 
 use Rattle.bk_gsl.specs.State.{among}
 use Rattle.bk_gsl.proofs.Reading.{among-left, among-right}
 use Rattle.bk_gsl.proofs.States.{nat_eq-self}
-use Rattle.bk_dev.specs.B0.{IsScalarName, IsArrayName, IsExpression, IsCondition, IsFillValue, IsTermFor, IsAssignment, IsB0, IsB0Body, IsB0Development}
+use Rattle.bk_dev.specs.B0.{IsScalarName, IsArrayName, IsExpression, IsCondition, IsFillValue, IsTermFor, IsAssignment, IsB0, EvaluatesShallow, IsB0Body, IsB0Development}
 use Rattle.bk_dev.specs.Development.{Head, Body, Level, Development, level_at, last, inputs_of}
-use Rattle.bk_dev.specs.Facts.{AllAre, AssignsIn, EachBody, IsHeadOf, IsLawful, IsSubOf, Names, StaysIn, binders, home_of, is_inner_of, is_input, names_joined, names_own, writes_own}
+use Rattle.bk_dev.specs.Facts.{AllAre, AssignsIn, EachBody, IsHeadOf, IsLawful, IsSubOf, Names, StaysIn, binders, home_of, is_inner_of, is_input, names_joined, names_own, writes_own, LastIsFlat}
 use Rattle.bk_dev.specs.Flattened.{flattened}
 use Rattle.bk_dev.specs.Laws.{FlattenedStaysInB0}
 use Rattle.bk_dev.specs.Layout.{arrays_of, is_scalar}
@@ -39,6 +39,9 @@ b0-flat dev s h = absurd h
 bodies-flat : (dev : Development) (bs : List Body) → Each (IsB0Body dev) bs → Each (λ b. IsFlat b.sub) bs
 bodies-flat dev [] h = tt
 bodies-flat dev (b ∷ bs) h = (b0-flat dev b.sub h.0.sub, bodies-flat dev bs h.1)
+
+pub last-flat : (dev : Development) → IsB0Development dev → LastIsFlat dev
+last-flat dev b = record { init = b0-flat dev (level_at dev (last dev)).init b.init; bodies = bodies-flat dev (level_at dev (last dev)).bodies b.bodies }
 
 -- ---- names, expressions and statements
 module _ (dev : Development) (some : 0 < length dev.levels) (init : IsFlat (level_at dev (last dev)).init) (bodies : Each (λ b. IsFlat b.sub) (level_at dev (last dev)).bodies) (vars : (n : ℕ) → among (level_at dev (last dev)).vars n ≡ true → n < length dev.table.variables) where
@@ -159,14 +162,18 @@ module _ (dev : Development) (f : IsLawful dev) (b : IsB0Development dev) (well 
   some = f.some_level
 
   init-flat : IsFlat low.init
-  init-flat = b0-flat dev low.init b.init
+  init-flat = (last-flat dev b).init
 
   bodies-are-flat : Each (λ b. IsFlat b.sub) low.bodies
-  bodies-are-flat = bodies-flat dev low.bodies b.bodies
+  bodies-are-flat = (last-flat dev b).bodies
 
   sub-in-b0 : (inputs outputs : List ℕ) → AllAre (λ n. is_input (home_of dev n)) inputs → AllAre (λ n. is_inner_of (last dev) (home_of dev n)) outputs → (s : Substitution) → IsSubOf dev (last dev) inputs outputs s → IsB0 dev s → IsB0 whole s
   sub-in-b0 inputs outputs ins outs s w h = in-b0 dev some init-flat bodies-are-flat (low-vars dev f) (names_own dev (last dev) inputs outputs) (names_joined dev (last dev)) (writes_own dev (last dev) outputs)
       (own-old dev f well (last dev) inputs outputs ins outs) s w.stays (binders-in dev f (last dev) inputs outputs s w) h
+
+  -- what is evaluated is told by the arrays alone
+  shallow-same : (s : Substitution) → EvaluatesShallow (arrays_of dev) s → EvaluatesShallow (arrays_of whole) s
+  shallow-same s h = subst (λ a. EvaluatesShallow a s) (sym (arrays dev some init-flat bodies-are-flat (low-vars dev f))) h
 
   bodies-in-b0 : (hs : List Head) (ms bs : List Body) → Each (IsHeadOf dev) hs → EachBody dev (last dev) hs ms bs → Each (IsB0Body dev) bs → Each (IsB0Body whole) bs
   bodies-in-b0 [] [] [] x e h = tt
@@ -176,8 +183,10 @@ module _ (dev : Development) (f : IsLawful dev) (b : IsB0Development dev) (well 
   bodies-in-b0 (y ∷ hs) (m ∷ ms) [] x e h = absurd e
   bodies-in-b0 (y ∷ hs) (m ∷ ms) (c ∷ bs) x e h = (
     record {
+      condition = h.0.condition;
       outputs = scalars dev some init-flat bodies-are-flat (low-vars dev f) c.outputs (at-home dev f (is_inner_of (last dev)) refl c.outputs e.0.outputs) h.0.outputs;
       sub = sub-in-b0 y.inputs c.outputs x.0.inputs e.0.outputs c.sub e.0.sub h.0.sub;
+      shallow = shallow-same c.sub h.0.shallow;
     },
     bodies-in-b0 hs ms bs x.1 e.1 h.1,
   )
@@ -200,6 +209,7 @@ module _ (dev : Development) (f : IsLawful dev) (b : IsB0Development dev) (well 
         variables = subst (λ (l : Level). Each (λ x. IsScalarName whole x ⊎ IsArrayName whole x) l.vars) (sym same) (shapes-in low.vars (low-vars dev f) b.variables);
         inputs = λ o h. scalars dev some init-flat bodies-are-flat (low-vars dev f) (inputs_of dev o) (heads-in o) (b.inputs o h);
         init = subst (λ (l : Level). IsB0 whole l.init) (sym same) (sub-in-b0 [] [] tt tt low.init (last_level dev f).init b.init);
+        init_shallow = subst (λ (l : Level). EvaluatesShallow (arrays_of whole) l.init) (sym same) (shallow-same low.init b.init_shallow);
         bodies = subst (λ (l : Level). Each (IsB0Body whole) l.bodies) (sym same) (bodies-in-b0 dev.heads (level_at dev 0).bodies low.bodies f.heads (last_level dev f).bodies b.bodies);
       }
 

@@ -14,13 +14,11 @@ use Rattle.bk_gsl.specs.Typed.{IsListed, Types}
 use Rattle.bk_gsl.specs.Flat.{copied, flat_from, IsFlat}
 use Rattle.bk_gsl.proofs.Listed.{written-listed}
 use Rattle.bk_gsl.proofs.States.{clash, nat_eq-self, among-in_order}
-use Rattle.bk_dev.specs.declared.kind.Kind.{Kind}
-use Rattle.bk_dev.specs.declared.kind.Kind.TheVariants.{Machine, Refinement, Implementation}
 use Rattle.bk_dev.specs.declared.kind.Home.{Home}
 use Rattle.bk_dev.specs.declared.kind.Home.TheVariants.{Inner}
 use Rattle.bk_dev.specs.Development.{Head, Body, Level, Development, blank_body, blank_level, level_at, body_of, is_implementing, is_complete, last}
 use Rattle.bk_form.specs.Each.{Each}
-use Rattle.bk_dev.specs.Facts.{AllAre, Names, StaysIn, binders, is_constant, is_input, is_variable_of, is_variable_above, is_inner_of, home_of, names_own, names_joined, writes_own, IsStated, IsLink, IsHeadOf, IsValue, IsKindAt, HasItsValues, AreAlike, AllAlike, LoopsStandIn, IsSubOf, IsBodyOf, EachBody, IsLevelOf, EachLevel, IsLawful, IsFlatDevelopment}
+use Rattle.bk_dev.specs.Facts.{AllAre, Names, StaysIn, binders, is_constant, is_input, is_variable_of, is_variable_above, is_inner_of, home_of, names_own, names_joined, writes_own, IsStated, IsLink, IsHeadOf, IsValue, HasItsValues, AreAlike, AllAlike, LoopsStandIn, IsSubOf, IsBodyOf, EachBody, IsLevelOf, EachLevel, IsLawful, IsFlatDevelopment, OnlyLastIsImplementation}
 use Rattle.bk_dev.specs.Flattened.{copied_in_bodies, copied_in_level, copied_in_levels, flat_bodies, flat_level, flat_levels, copy_homes, flattened}
 use Rattle.bk_form.specs.Wider.{IsWider}
 use Rattle.bk_dev.specs.Laws.{FlattenedIsLawful}
@@ -317,11 +315,6 @@ module _ (dev : Development) (f : IsLawful dev) (well : IsWellFormed (flattened 
   )
 
   -- ---- one level
-  kind-at : (k : ℕ) (kind : Kind) → IsKindAt dev k kind → IsKindAt flat k kind
-  kind-at k Machine h = h
-  kind-at k Refinement h = h
-  kind-at k Implementation h = (h.0, h.1 ∙ sym (ap (λ n. n - 1) (levels-many old dev.levels)))
-
   stated : (k : ℕ) (p : Formula) → IsStated dev k p → IsStated flat k p
   stated k p h = record { is_predicate = predicate-wider dev.table flat.table f.table wider p h.is_predicate; names = subst (λ v. Names v p) (sym (joined-same k)) h.names }
 
@@ -348,7 +341,7 @@ module _ (dev : Development) (f : IsLawful dev) (well : IsWellFormed (flattened 
       let b = first-bodies old dev.levels in
       let rest = flat-all-bodies k dev.heads f.heads (level_at dev 0).bodies l.bodies w.bodies b.0 (j + length (copied l.init)) (omega (arith, m)) (copies-right flat.table j (copied l.init) (copied_in_bodies l.bodies) c) (range-second (λ n. is_inner_of k (home_of flat n)) j (copied l.init) (copied_in_bodies l.bodies) r) in
       record {
-        kind = kind-at k l.kind w.kind;
+        kind = w.kind;
         vars = subst (λ g. AllAre g l.vars) (sym (variable-same k)) w.vars;
         all = λ n h. w.all n (sym (ap (λ g. g n) (variable-same k)) ∙ h);
         distinct = w.distinct;
@@ -417,9 +410,16 @@ module _ (dev : Development) (f : IsLawful dev) (well : IsWellFormed (flattened 
         complete = subst (HasItsValues flat) (sym complete-same) (has-values (is_complete dev) f.complete);
       }
 
+only-last : (dev : Development) → OnlyLastIsImplementation dev → OnlyLastIsImplementation (flattened dev)
+only-last dev only k h =
+    let old = length dev.table.variables in
+    let many = levels-many old dev.levels in
+    ap is_implementing (kind-same old dev.levels k) ∙ only k (omega (arith, h, many))
+
 pub flattened_lawful : FlattenedIsLawful
 flattened_lawful = record {
   lawful = λ dev f well. lawful dev f well;
   flat = flattened-flat;
   every = λ dev d. lawful dev d.lawful (development-formed dev d);
+  only_last = only-last;
 }

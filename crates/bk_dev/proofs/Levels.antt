@@ -1,8 +1,8 @@
 -- The levels of a development one by one, and the bodies of an operation at two of them.
-use Rattle.std.proofs.Common.{◌≡◌, ◌<◌, ℕ, zero, suc, ◌+◌, List, [], ◌∷◌, length, refl, ap, subst, arith}
+use Rattle.std.proofs.Common.{◌≡◌, ◌<◌, ℕ, zero, suc, ◌+◌, List, [], ◌∷◌, length, refl, ap, subst, false, arith}
 use Rattle.std.specs.Prelude.{slice_index_or}
-use Rattle.bk_dev.specs.Development.{Head, Body, Level, Development, blank_body, blank_level, level_at, last}
-use Rattle.bk_dev.specs.Facts.{EachBody, EachLevel, IsBodyOf, IsLevelOf, IsLawful, IsHeadOf}
+use Rattle.bk_dev.specs.Development.{Head, Body, Level, Development, blank_body, blank_level, is_implementation, level_at, last}
+use Rattle.bk_dev.specs.Facts.{EachBody, EachLevel, IsBodyOf, IsLevelOf, IsLawful, IsHeadOf, OnlyLastIsImplementation}
 use Rattle.bk_form.specs.Each.{Each}
 
 pub each_level : (dev : Development) (k : ℕ) (ls : List Level) (i : ℕ) → i < length ls → EachLevel dev k ls → IsLevelOf dev (k + i) (slice_index_or ls i blank_level)
@@ -21,6 +21,11 @@ pub last_level : (dev : Development) → IsLawful dev → IsLevelOf dev (last de
 last_level dev f =
     let some : 0 < length dev.levels = f.some_level in
     level_fact dev f (last dev) (omega arith)
+
+-- of a machine and one level below it
+pub two-levels : (dev : Development) → length dev.levels ≡ 2 → is_implementation (level_at dev 0) ≡ false → OnlyLastIsImplementation dev
+two-levels dev many first zero h = first
+two-levels dev many first (suc k) h = absurd (omega (arith, many, h))
 
 -- ---- bodies
 pub paired : (dev : Development) (k : ℕ) (hs : List Head) (ms bs : List Body) → EachBody dev k hs ms bs → length hs ≡ length bs

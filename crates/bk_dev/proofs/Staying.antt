@@ -1,25 +1,23 @@
 -- What the facts of a development say of one substitution: its locals are apart, it avoids what it may not name, and it does not turn on it.
-use Rattle.std.proofs.Common.{◌≡◌, ◌⊎◌, inl, inr, ℕ, List, [], ◌∷◌, ◌++◌, map, refl, sym, ◌∙◌, ap, subst, Bool, true, false, not, cond, ◌||◌, nat_eq, arith}
-use Rattle.std.proofs.lemmas.Bool.Decides.{nat_tests}
+use Rattle.std.proofs.Common.{◌≡◌, ◌⊎◌, inl, inr, ℕ, List, [], ◌∷◌, ◌++◌, refl, sym, ◌∙◌, subst, Bool, true, false, cond, ◌||◌, nat_eq}
 use Rattle.bk_form.specs.Table.{Table}
-use Rattle.bk_form.specs.Formula.{Formula, variable, unary, binary, for_all, for_some, comprehension, lambda, Formulas, no_formulas, formula_and}
+use Rattle.bk_form.specs.Formula.{Formula}
 use Rattle.bk_form.specs.Search.{Finder}
 use Rattle.bk_form.specs.Environment.{State}
-use Rattle.bk_form.specs.Replacement.{occurs, any_occurs, looked_up}
+use Rattle.bk_form.specs.Replacement.{occurs}
 use Rattle.bk_form.proofs.Members.{or-cases, or-left, or-right}
 use Rattle.bk_gsl.specs.Substitution.{Substitution, skip, assign, pre, guard, choice, if_else, any, seq, par, assert, becomes_such, loop}
 use Rattle.bk_gsl.specs.State.{among, firsts}
-use Rattle.bk_gsl.specs.Writes.{written}
-use Rattle.bk_gsl.specs.Reads.{variables_of, all_variables_of, variables_of_terms, outside, read}
+use Rattle.bk_gsl.specs.Reads.{variables_of, variables_of_terms, outside, read}
 use Rattle.bk_gsl.specs.Run.{Ends, old_of}
-use Rattle.bk_gsl.proofs.States.{clash, or-false, nat_eq-same, nat_eq-self, among-append, cases}
+use Rattle.bk_gsl.proofs.States.{clash, or-false, nat_eq-same, nat_eq-self, among-append}
 use Rattle.bk_dev.specs.Facts.{AllAre, AreNew, AssignsIn, StaysIn, Names, seconds, binders}
 use Rattle.bk_gsl.specs.Apart.{AreApart}
 use Rattle.bk_gsl.proofs.Outside.{ends-over}
-use Rattle.bk_gsl.proofs.Reading.{among-cases, among-left, among-right, among-outside, outside-then, variables-occur, map-then}
+use Rattle.bk_gsl.proofs.Reading.{among-cases, among-left, among-right, outside-then, variables-occur, map-then}
 use Rattle.bk_gsl.specs.Avoids.{Free, NoneIn, Avoids}
 use Rattle.bk_form.specs.Each.{Each}
-use Rattle.bk_dev.proofs.Agree.{not-written, both-false}
+use Rattle.bk_dev.proofs.Agree.{both-false}
 
 pub false-of : (b : Bool) → (b ≡ true → ⊥) → b ≡ false
 false-of true h = absurd (h refl)

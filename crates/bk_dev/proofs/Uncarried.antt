@@ -1,7 +1,7 @@
 -- The two are developments that do not carry: there is a state from which the implementation goes where the machine does not.
-use Rattle.std.proofs.Common.{◌≡◌, ◌<◌, inl, inr, ℕ, zero, suc, pos, List, [], ◌∷◌, ◌++◌, length, refl, sym, ◌∙◌, ap, subst, Bool, true, false, arith}
+use Rattle.std.proofs.Common.{◌≡◌, ◌<◌, inr, ℕ, zero, suc, pos, [], ◌∷◌, ◌++◌, length, refl, sym, ◌∙◌, ap, subst, Bool, true, false, arith}
 use Rattle.std.specs.Prelude.{Some, nat_eq, ◌^◌}
-use Rattle.bk_val.specs.Value.{MathValue, int}
+use Rattle.bk_val.specs.Value.{int}
 use Rattle.bk_val.specs.ValueType.{ValueType, int_type, is_value_of}
 use Rattle.bk_val.specs.CmpLaws.{same_value}
 use Rattle.bk_form.specs.Table.{set_size, variable_type}
@@ -11,16 +11,17 @@ use Rattle.bk_gsl.proofs.States.{nat_eq-same}
 use Rattle.bk_form.specs.Search.{Finder}
 use Rattle.bk_form.specs.Environment.{State, IsTypedState}
 use Rattle.bk_form.proofs.Members.{and-both}
-use Rattle.bk_gsl.specs.State.{over, among, with_values}
+use Rattle.bk_gsl.specs.State.{among}
 use Rattle.bk_gsl.specs.Run.{Runs, assigned}
 use Rattle.bk_dev.specs.Flattened.{flattened}
-use Rattle.bk_dev.specs.Development.{body_at, level_at, whole}
+use Rattle.bk_dev.specs.Development.{body_at, level_at}
 use Rattle.bk_dev.specs.declared.kind.Kind.TheVariants.{Machine, Implementation}
-use Rattle.bk_dev.specs.Facts.{AreDistinct, is_constant, is_variable_of, home_of, all_outputs, all_binders, Names, names_constants, names_joined, names_own, MayStandIn, IsSubOf, IsStated, IsBodyOf, IsLevelOf, IsLawful, IsDevelopment}
+use Rattle.bk_dev.specs.Facts.{AreDistinct, is_constant, is_variable_of, home_of, all_outputs, all_binders, Names, names_constants, names_joined, names_own, MayStandIn, IsSubOf, IsStated, IsLevelOf, IsLawful, IsDevelopment}
 use Rattle.bk_dev.proofs.CounterFacts.{names-none, names-number, names-one, first-or, table-facts}
 use Rattle.bk_dev.specs.Claims.{Carries, Answered}
 use Rattle.bk_dev.specs.Uncarried.{turning, is_five, eager, one_after_the_other}
 use Rattle.bk_dev.specs.Laws.{AreNotCarried}
+use Rattle.bk_dev.proofs.Levels.{two-levels}
 
 -- ---- they are developments
 module _ (above below : Substitution) where
@@ -69,7 +70,7 @@ module _ (above below : Substitution) where
   implementation-level sub =
       let own = names_own (turning above below) 1 [] [] in
       record {
-        kind = (omega (arith), refl);
+        kind = omega (arith);
         vars = (refl, (refl, tt));
         all = at-implementation;
         distinct = (refl, (refl, tt));
@@ -98,6 +99,7 @@ module _ (above below : Substitution) where
   turning-facts : IsSubOf (turning above below) 0 [] [] above → IsSubOf (turning above below) 1 [] [] below → MayStandIn Machine above → MayStandIn Implementation below → AreDistinct (all_outputs (turning above below) ++ all_binders (turning above below)) → length (flattened (turning above below)).table.variables < 2 ^ 32 → IsDevelopment (turning above below)
   turning-facts upper lower machine implementation differ room = record {
     lawful = turning-lawful upper lower;
+    only_last = two-levels (turning above below) refl refl;
     shapes = (record { init = tt; bodies = (machine, tt) }, (record { init = tt; bodies = (implementation, tt) }, tt));
     binders_differ = differ;
     room = room;

@@ -1,13 +1,14 @@
 -- B0, the part of the notation that has code: the expressions, conditions and statements of a development's last level.
-use Rattle.std.specs.Prelude.{◌≡◌, ◌⊎◌, ℕ, ◌<◌, true, List, [], ◌∷◌, Option, Some, None, length}
-use Rattle.bk_form.specs.ArrayTable.{row_of}
-use Rattle.bk_form.specs.Formula.{Formula, variable, literal, truth_value, element, unary, binary}
+use Rattle.std.specs.Prelude.{◌≡◌, ◌⊎◌, ℕ, ◌+◌, ◌<◌, ◌≤◌, max, true, List, [], ◌∷◌, Option, Some, None, length}
+use Rattle.bk_form.specs.ArrayTable.{ArrayTable, row_of}
+use Rattle.bk_form.specs.Formula.{Formula, variable, literal, truth_value, element, unary, binary, btrue}
 use Rattle.bk_form.specs.Defined.{is_in_int}
 use Rattle.bk_form.specs.Each.{Each}
-use Rattle.bk_form.specs.declared.operator.UnOp.TheVariants.{Not, BoolOf, Neg as Minus, Single}
-use Rattle.bk_form.specs.declared.operator.BinOp.TheVariants.{And, Or, Eq as Equals, Lt as Below, Le as AtMost, Add as Plus, Sub as Less, Mul as By, Div as Over, Mod as Rest, Apply, Times, Over as Overridden, Maps, TotalFunctions}
+use Rattle.bk_form.specs.declared.operator.UnOp.TheVariants.{Not, BoolOf, Neg, Single}
+use Rattle.bk_form.specs.declared.operator.BinOp.TheVariants.{And, Or, Eq, Lt, Le, Add, Sub, Mul, Div, Mod, Apply, Times, Over, Maps, TotalFunctions}
 use Rattle.bk_form.specs.declared.arrays.ArrayRow.{ArrayRow}
 use Rattle.bk_gsl.specs.State.{declared_type}
+use Rattle.bk_gsl.specs.Clean.{write_of}
 use Rattle.bk_gsl.specs.Substitution.{Substitution, skip, assign, if_else, any, seq, assert, loop}
 use Rattle.bk_dev.specs.Development.{Body, Development, int_max, is_complete, level_at, last, inputs_of}
 use Rattle.bk_dev.specs.Layout.{in_domain, typing_clue, reversed, arrays_of, is_scalar}
@@ -33,21 +34,21 @@ abbrev mutual
   IsExpression dev (literal z) = is_in_int (int_max dev) z ≡ true
   IsExpression dev (truth_value b) = Unit {0}
   IsExpression dev (element s i) = Unit {0}
-  IsExpression dev (unary Minus a) = IsExpression dev a
+  IsExpression dev (unary Neg a) = IsExpression dev a
   IsExpression dev (unary BoolOf p) = IsCondition dev p
-  IsExpression dev (binary Plus a b) = IsExpression dev a × IsExpression dev b
-  IsExpression dev (binary Less a b) = IsExpression dev a × IsExpression dev b
-  IsExpression dev (binary By a b) = IsExpression dev a × IsExpression dev b
-  IsExpression dev (binary Over a b) = IsExpression dev a × IsExpression dev b
-  IsExpression dev (binary Rest a b) = IsExpression dev a × IsExpression dev b
+  IsExpression dev (binary Add a b) = IsExpression dev a × IsExpression dev b
+  IsExpression dev (binary Sub a b) = IsExpression dev a × IsExpression dev b
+  IsExpression dev (binary Mul a b) = IsExpression dev a × IsExpression dev b
+  IsExpression dev (binary Div a b) = IsExpression dev a × IsExpression dev b
+  IsExpression dev (binary Mod a b) = IsExpression dev a × IsExpression dev b
   IsExpression dev (binary Apply (variable f) a) = IsArrayName dev f × IsExpression dev a
   IsExpression dev _ = ⊥
 
   -- a comparison, or not(p), p & q, p or q of conditions
   pub IsCondition : Development → Formula → Type 0
-  IsCondition dev (binary Equals a b) = IsExpression dev a × IsExpression dev b
-  IsCondition dev (binary Below a b) = IsExpression dev a × IsExpression dev b
-  IsCondition dev (binary AtMost a b) = IsExpression dev a × IsExpression dev b
+  IsCondition dev (binary Eq a b) = IsExpression dev a × IsExpression dev b
+  IsCondition dev (binary Lt a b) = IsExpression dev a × IsExpression dev b
+  IsCondition dev (binary Le a b) = IsExpression dev a × IsExpression dev b
   IsCondition dev (unary Not p) = IsCondition dev p
   IsCondition dev (binary And p q) = IsCondition dev p × IsCondition dev q
   IsCondition dev (binary Or p q) = IsCondition dev p × IsCondition dev q
@@ -66,7 +67,7 @@ IsFillValue dev _ = ⊥
 pub record IsElementWrite (dev : Development) (x : ℕ) (f : Formula) : Type 0 where
   pub index : Formula
   pub value : Formula
-  pub is : f ≡ binary Overridden (variable x) (unary Single (binary Maps index value))
+  pub is : f ≡ binary Over (variable x) (unary Single (binary Maps index value))
   pub is_index : IsExpression dev index
   pub is_value : IsExpression dev value
 
@@ -99,16 +100,57 @@ IsB0 dev (if_else p s t) = IsCondition dev p × IsB0 dev s × IsB0 dev t
 IsB0 dev (loop p s i v) = IsCondition dev p × IsB0 dev s
 IsB0 dev _ = ⊥
 
+-- ---- room on the stack
+-- how many operators on two operands lie on the way down that has most of them
+abbrev pub operators_down : Formula → ℕ
+operators_down (unary o a) = operators_down a
+operators_down (binary o a b) = max (operators_down a) (operators_down b) + 1
+operators_down _ = 0
+
+-- so few that its value is calculated with at most 1000 numbers on the stack, also where an array's index lies below it
+abbrev pub IsShallow : Formula → Type 0
+IsShallow f = operators_down f ≤ 998
+
+-- of f(i) := v the index and the value, each by itself; a fill has a value without operators
+abbrev pub IsShallowWrite : Option (Formula × Formula) → Type 0
+IsShallowWrite (Some w) = IsShallow w.0 × IsShallow w.1
+IsShallowWrite None = Unit {0}
+
+-- what a scalar is set to, and what is written to an array
+abbrev pub IsShallowTerm : ℕ → Option ArrayRow → Formula → Type 0
+IsShallowTerm x None f = IsShallow f
+IsShallowTerm x (Some row) f = IsShallowWrite (write_of x f)
+
+-- each term of an assignment
+abbrev pub HaveShallowTerms : ArrayTable → List (ℕ × Formula) → Type 0
+HaveShallowTerms arrays [] = Unit {0}
+HaveShallowTerms arrays (p ∷ ps) = IsShallowTerm p.0 (row_of arrays p.0) p.1 × HaveShallowTerms arrays ps
+
+-- each condition and each expression that a statement evaluates is shallow; the predicate of an ASSERT, and the invariant and
+-- the variant of a loop are not evaluated
+abbrev pub EvaluatesShallow : ArrayTable → Substitution → Type 0
+EvaluatesShallow arrays (assign ps) = HaveShallowTerms arrays ps
+EvaluatesShallow arrays (seq s t) = EvaluatesShallow arrays s × EvaluatesShallow arrays t
+EvaluatesShallow arrays (any zs s) = EvaluatesShallow arrays s
+EvaluatesShallow arrays (assert p s) = EvaluatesShallow arrays s
+EvaluatesShallow arrays (if_else p s t) = IsShallow p × EvaluatesShallow arrays s × EvaluatesShallow arrays t
+EvaluatesShallow arrays (loop p s i v) = IsShallow p × EvaluatesShallow arrays s
+EvaluatesShallow arrays _ = Unit {0}
+
 -- ---- the last level
--- outputs are scalars, and the body is B0
+-- no precondition stands in front, outputs are scalars, and the body is B0 with shallow expressions
 pub record IsB0Body (dev : Development) (b : Body) : Type 0 where
+  pub condition : b.condition ≡ btrue
   pub outputs : Each (IsScalarName dev) b.outputs
   pub sub : IsB0 dev b.sub
+  pub shallow : EvaluatesShallow (arrays_of dev) b.sub
 
--- the last level is an implementation in B0: its variables are scalars and arrays, inputs and outputs are scalars
+-- the last level is an implementation in B0: its variables are scalars and arrays, inputs and outputs are scalars, and no executed
+-- expression has more than 998 operators on two operands on one way down
 pub record IsB0Development (dev : Development) : Type 0 where
   pub complete : is_complete dev ≡ true
   pub variables : Each (λ x. IsScalarName dev x ⊎ IsArrayName dev x) (level_at dev (last dev)).vars
   pub inputs : (o : ℕ) → o < length dev.heads → Each (IsScalarName dev) (inputs_of dev o)
   pub init : IsB0 dev (level_at dev (last dev)).init
+  pub init_shallow : EvaluatesShallow (arrays_of dev) (level_at dev (last dev)).init
   pub bodies : Each (IsB0Body dev) (level_at dev (last dev)).bodies

@@ -14,7 +14,7 @@ use Rattle.bk_dev.specs.declared.kind.Kind.{Kind}
 use Rattle.bk_dev.specs.declared.kind.Kind.TheVariants.{Machine, Refinement, Implementation}
 use Rattle.bk_dev.specs.declared.kind.Home.{Home}
 use Rattle.bk_dev.specs.declared.kind.Home.TheVariants.{Constant, Input, Abstract, Inner, Concrete}
-use Rattle.bk_dev.specs.Development.{Head, Body, Level, Development, int_max, level_at, last, is_complete, body_at}
+use Rattle.bk_dev.specs.Development.{Head, Body, Level, Development, int_max, level_at, last, is_complete, is_implementation, body_at}
 use Rattle.bk_form.specs.Each.{Each}
 use Rattle.bk_gsl.specs.Flat.{IsFlat}
 use Rattle.bk_dev.specs.Flattened.{flattened}
@@ -227,15 +227,15 @@ EachBody dev k [] [] [] = Unit {0}
 EachBody dev k (h ∷ hs) (m ∷ ms) (b ∷ bs) = IsBodyOf dev k h m b × EachBody dev k hs ms bs
 EachBody dev k _ _ _ = ⊥
 
--- the machine comes first, and only the last may be an implementation
-abbrev pub IsKindAt : Development → ℕ → Kind → Type 0
-IsKindAt dev k Machine = k ≡ 0
-IsKindAt dev k Refinement = 0 < k
-IsKindAt dev k Implementation = (0 < k) × (k ≡ last dev)
+-- the machine comes first, and what stands below it is none
+abbrev pub IsKindAt : ℕ → Kind → Type 0
+IsKindAt k Machine = k ≡ 0
+IsKindAt k Refinement = 0 < k
+IsKindAt k Implementation = 0 < k
 
 -- a component as it must be to stand at level k
 pub record IsLevelOf (dev : Development) (k : ℕ) (l : Level) : Type 0 where
-  pub kind : IsKindAt dev k l.kind
+  pub kind : IsKindAt k l.kind
   pub vars : AllAre (λ n. is_variable_of k (home_of dev n)) l.vars
   -- and no other variable is at home there
   pub all : (n : ℕ) → is_variable_of k (home_of dev n) ≡ true → among l.vars n ≡ true
@@ -284,7 +284,7 @@ all_binders dev = flat_map (λ l. binders l.init ++ flat_map (λ b. binders b.su
 abbrev pub all_outputs : Development → List ℕ
 all_outputs dev = flat_map (λ l. flat_map (λ b. b.outputs) l.bodies) dev.levels
 
--- what flattening keeps: it is well typed, and each name is visible where it is used
+-- what flattening keeps: it is well typed, and each name is visible where it is used; implementations may stand one below the other
 pub record IsLawful (dev : Development) : Type 0 where
   pub some_level : 0 < length dev.levels
   pub table : IsWellFormed dev.table
@@ -312,9 +312,14 @@ pub record LastIsFlat (dev : Development) : Type 0 where
   pub init : IsFlat (level_at dev (last dev)).init
   pub bodies : Each (λ b. IsFlat b.sub) (level_at dev (last dev)).bodies
 
+-- no level above the last is an implementation
+abbrev pub OnlyLastIsImplementation : Development → Type 0
+OnlyLastIsImplementation dev = (k : ℕ) → suc k < length dev.levels → is_implementation (level_at dev k) ≡ false
+
 -- what every development that the program builds is
 pub record IsDevelopment (dev : Development) : Type 0 where
   pub lawful : IsLawful dev
+  pub only_last : OnlyLastIsImplementation dev
   pub shapes : Each HasItsShape dev.levels
   -- no variable is bound twice, and none that is bound is an output
   pub binders_differ : AreDistinct (all_outputs dev ++ all_binders dev)

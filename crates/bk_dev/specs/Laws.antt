@@ -2,7 +2,7 @@
 use Rattle.std.specs.Prelude.{◌≡◌, ◌↔◌, pos, List, [], ◌∷◌, ◌<◌, ℕ, length}
 use Rattle.bk_val.specs.Value.{MathValue, int}
 use Rattle.bk_form.specs.Search.{Finder}
-use Rattle.bk_dev.specs.Facts.{IsDevelopment, IsFlatDevelopment, IsLawful, LastIsFlat}
+use Rattle.bk_dev.specs.Facts.{IsDevelopment, IsFlatDevelopment, IsLawful, LastIsFlat, OnlyLastIsImplementation}
 use Rattle.bk_dev.specs.Machine.{Abstract, Reach, Legal}
 use Rattle.bk_dev.specs.Counter.{counter, forbidden, setmax, get}
 use Rattle.bk_dev.specs.Development.{Development, body_at, level_at, last}
@@ -39,6 +39,7 @@ pub record FlattenedIsLawful : Type 0 where
   pub flat : (dev : Development) → IsFlatDevelopment (flattened dev)
   -- so the flattened of every development is lawful
   pub every : (dev : Development) → IsDevelopment dev → IsLawful (flattened dev)
+  pub only_last : (dev : Development) → OnlyLastIsImplementation dev → OnlyLastIsImplementation (flattened dev)
 
 -- what the flattened of a development runs, over the table with all copies, the development runs over its own, from the same state to the same
 pub record FlattenedRuns : Type 0 where

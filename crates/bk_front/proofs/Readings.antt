@@ -7,7 +7,7 @@ use Rattle.bk_dev.specs.declared.kind.Kind.TheVariants.{Machine}
 use Rattle.bk_comp.specs.Components.{Component, IsTextOf, IsTextOfNone, ArePair, TextIsOne}
 use Rattle.bk_comp.proofs.OneComponent.{text-one}
 use Rattle.bk_dev.specs.Facts.{IsDevelopment}
-use Rattle.bk_gen.specs.Simple.{IsSimple}
+use Rattle.bk_b0.specs.Simple.{IsSimple}
 use Rattle.bk_po.specs.Basic.{IsBasic}
 use Rattle.bk_comp.proofs.Contained.{texts-over}
 use Rattle.bk_pair.specs.Developments.{Reads as ReadAsPair}

@@ -1,7 +1,7 @@
 //! A project's texts, read as a development.
 
 ghost use Rattle.std.specs.Prelude.{◌≡◌, ◌≤◌, ◌∷◌, [], length, map, IfOk, IfErr};
-ghost use Rattle.bk_gen.specs.Simple.{IsSimple};
+ghost use Rattle.bk_b0.specs.Simple.{IsSimple};
 ghost use Rattle.bk_po.specs.Basic.{IsBasic};
 ghost use Rattle.bk_front.specs.Project.{ReadsMachine, Reads, IsRefusal};
 

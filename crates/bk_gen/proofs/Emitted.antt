@@ -2,22 +2,9 @@
 use Rattle.std.proofs.Common.{◌≡◌, ◌+◌, ◌-◌, ℕ, pos, List, [], ◌∷◌, ◌++◌, length, sym, ◌∙◌, ap, arith, append_assoc, set}
 use Rattle.std.proofs.Math.Seq.{set-append_seam}
 use Rattle.std.proofs.lemmas.List.{append-nil, length-append, length-set}
-use Rattle.bk_form.specs.Formula.{Formula}
-use Rattle.bk_gsl.specs.Substitution.{Substitution}
 use Rattle.bk_code.specs.declared.instruction.Inst.{Inst}
 use Rattle.bk_code.specs.declared.instruction.Inst.TheVariants.{Push, Jump, JumpZero}
-use Rattle.bk_gen.specs.Simple.{IsSimpleCondition, IsSimpleStatement}
-use Rattle.bk_gen.specs.Plain.{condition_code, plain_code, block_code, fork_code, value_size, statement_size, block_size}
-use Rattle.bk_gen.proofs.Plain.{condition_size_is, statement_size_is, block_size_is}
-
-pub condition_long : (cells : List ℕ) (f : Formula) → IsSimpleCondition (pos 2147483647) f → length (condition_code cells f) ≡ value_size f
-condition_long cells f simple = condition_size_is (pos 2147483647) cells f simple
-
-pub statement_long : (cells : List ℕ) (s : Substitution) → IsSimpleStatement (pos 2147483647) s → length (plain_code cells s) ≡ statement_size s
-statement_long cells s simple = statement_size_is (pos 2147483647) cells s simple
-
-pub block_long : (cells : List ℕ) (s : Substitution) → IsSimpleStatement (pos 2147483647) s → length (block_code cells s) ≡ block_size s
-block_long cells s simple = block_size_is (pos 2147483647) cells s simple
+use Rattle.bk_gen.proofs.Lengths.{fork_code}
 
 -- an instruction that stands between others is replaced
 pub replaced : (front : List Inst) (old new : Inst) (rest more : List Inst) → set ((front ++ old ∷ []) ++ rest) (length front) new ++ more ≡ front ++ new ∷ (rest ++ more)

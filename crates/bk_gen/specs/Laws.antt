@@ -1,16 +1,20 @@
 -- What small developments and substitutions are translated to, as statements.
-use Rattle.std.specs.Prelude.{◌≡◌, ℕ, pos, neg_ℤ, List, [], ◌∷◌}
+use Rattle.std.specs.Prelude.{◌≡◌, ℕ, ◌<◌, ◌≤◌, pos, neg_ℤ, ◌≤ℤ◌, List, [], ◌∷◌, length}
+use Rattle.bk_form.specs.Table.{set_size}
 use Rattle.bk_form.specs.Formula.{variable, literal, binary, btrue}
 use Rattle.bk_form.specs.declared.operator.BinOp.TheVariants.{And, Or, Lt as Below, Add as Plus, Sub as Less, In, Range}
 use Rattle.bk_gsl.specs.Substitution.{Substitution, skip, assign, if_else, loop}
 use Rattle.bk_dev.specs.declared.kind.Kind.{Kind}
 use Rattle.bk_dev.specs.declared.kind.Kind.TheVariants.{Machine, Implementation}
 use Rattle.bk_dev.specs.declared.kind.Home.TheVariants.{Input, Abstract, Concrete}
-use Rattle.bk_dev.specs.Development.{Level, Development}
+use Rattle.bk_dev.specs.B0.{IsB0Development}
+use Rattle.bk_dev.specs.Development.{Level, Development, int_max}
+use Rattle.bk_dev.specs.Layout.{cell_count}
 use Rattle.bk_dev.specs.Counter.{number_at, counter, reset_name, setmax_name, get_name}
+use Rattle.bk_code.specs.Checks.{IsLoadable}
 use Rattle.bk_code.specs.declared.image.CellKind.TheVariants.{Integer}
 use Rattle.bk_code.specs.declared.instruction.Inst.TheVariants.{Push, Load, Store, Add, Sub, Lt, Jump, JumpZero, Ret}
-use Rattle.bk_gen.specs.Translation.{value_code, statement_code, translation}
+use Rattle.bk_b0.specs.Translation.{value_code, statement_code, translation}
 use Rattle.bk_dev.specs.Facts.{IsLawful, LastIsFlat}
 use Rattle.bk_dev.specs.Flattened.{flattened}
 
@@ -88,3 +92,11 @@ LoopCode = statement_code counter (loop (binary Below (literal (pos 0)) (variabl
 -- where no || stands in the last level, the translation of the flattened development is that of the development
 abbrev pub FlattenedKeepsCode : Type 0
 FlattenedKeepsCode = (dev : Development) → IsLawful dev → LastIsFlat dev → translation (flattened dev) ≡ translation dev
+
+-- the indices of all elements are numbers of the machine
+abbrev pub HasElementsInRange : Development → Type 0
+HasElementsInRange dev = (s i : ℕ) → i < set_size dev.table s → pos i ≤ℤ int_max dev
+
+-- the translation of a lawful development in B0 passes the loader's checks, where it has at most 1000000 cells and as many instructions
+abbrev pub TranslationsLoad : Type 0
+TranslationsLoad = (dev : Development) → IsLawful dev → IsB0Development dev → HasElementsInRange dev → cell_count dev ≤ 1000000 → length (translation dev).code ≤ 1000000 → IsLoadable (translation dev)

@@ -1,4 +1,3 @@
-pub mod Translation
-pub mod Simple
-pub mod Plain
+pub mod Sizes
+pub mod Cells
 pub mod Laws

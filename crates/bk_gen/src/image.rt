@@ -1,22 +1,25 @@
 //! The translation of an implementation to an image.
 
-ghost use Rattle.std.specs.Prelude.{◌≡◌, ◌+◌, ◌-◌, ◌<◌, ◌≤◌, ◌^◌, ◌++◌, pos, min, map, length, All, Err, IfOk, OnOk};
+ghost use Rattle.std.specs.Prelude.{◌≡◌, ◌+◌, ◌-◌, ◌<◌, ◌≤◌, ◌^◌, ◌++◌, min, map, length, All, Err, IfOk, OnOk};
+ghost use Rattle.bk_gsl.specs.State.{declared_type};
 ghost use Rattle.bk_dev.specs.Development.{level_at, last};
 ghost use Rattle.bk_dev.specs.Layout.{cell_count};
 ghost use Rattle.bk_code.specs.Checks.{IsLoadable};
-ghost use Rattle.bk_gen.specs.Translation.{translation};
-ghost use Rattle.bk_gen.specs.Simple.{IsSimpleStatement, IsSimple};
-ghost use Rattle.bk_gen.specs.Plain.{block_code, blocks_code, block_size, blocks_size, plain_parameter, plain_entry, plain_entries, plain_image};
+ghost use Rattle.bk_gen.specs.Cells.{AreCells};
+ghost use Rattle.bk_b0.specs.Simple.{IsSimpleStatement, IsSimple};
+ghost use Rattle.bk_gen.specs.Sizes.{block_size, blocks_size};
+ghost use Rattle.bk_b0.specs.Translation.{kind_of_type, parameter_of, entries, operations_code, translation};
 ghost use Rattle.bk_gen.specs.declared.error.GenFault.TheVariants.{CodeTooLong, TooManyCells};
 
 use crate::GenFault;
-use crate::cells::{cell_variables, slot_of};
+use crate::cells::{Cells, cell_variables, slot_of};
 use crate::statement::{add_block, block_size};
 use bk_code::{
     CellKind, Code, ElemNames, Image, Inst, Memory, NameText, OpEntries, OpEntry, Parameter,
     Parameters,
 };
 use bk_dev::{Body, Development, Level, OpHead};
+use bk_form::TyView;
 use std::alloc::Global;
 
 /// The most instructions, and the most cells, that an image may have.
@@ -39,10 +42,14 @@ pub fn translate(alloc: Global, dev: &Development) -> Result<Image, GenFault>
         return Err(GenFault::CodeTooLong);
     }
     let heads = headers(dev);
-    let cells = cell_variables(alloc, heads, level)?;
-    if cells.len() as u64 > MOST {
+    let variables = cell_variables(alloc, heads, level)?;
+    if variables.len() as u64 > MOST {
         return Err(GenFault::TooManyCells);
     }
+    let cells = Cells {
+        dev,
+        variables: variables.as_slice(),
+    };
     let image = image_of(alloc, &cells, heads, level)?;
     Ok(image)
 }
@@ -80,26 +87,26 @@ fn added_sizes(size: u64, bodies: &[Body]) -> u64
     total
 }
 
-// The image of a level over these cells.
-#[tactic(auto, using(crate::proofs::Emitted::block_long))]
+// The image of the last level over these cells.
+#[tactic(auto, using(crate::proofs::Lengths::operation_long))]
 pub(crate) fn image_of(
     alloc: Global,
-    cells: &[u32],
+    cells: &Cells<'_>,
     heads: &[OpHead],
     level: &Level,
 ) -> Result<Image, Memory>
-    requires few { length cells.now ≤ 1000000 }
+    requires cells { AreCells cells.now }
+    requires heads { heads.now ≡ cells.now.dev.now.heads }
+    requires level { level.now ≡ level_at cells.now.dev.now (last cells.now.dev.now) }
     requires short { block_size level.now.init + blocks_size level.now.bodies ≤ 1000000 }
-    requires init { IsSimpleStatement (pos 2147483647) level.now.init }
-    requires bodies { All (λ b. IsSimpleStatement (pos 2147483647) b.sub) level.now.bodies }
     requires paired { length heads.now ≡ length level.now.bodies }
-    ensures { IfOk result (λ image. image ≡ plain_image cells.now heads.now level.now) }
+    ensures { IfOk result (λ image. image ≡ translation cells.now.dev.now) }
 {
     let mut code = Vec::new(alloc);
     add_block(cells, &level.init, &mut code)?;
     let ops = add_operations(alloc, cells, heads, &level.bodies, &mut code)?;
     Ok(Image {
-        cells: cells.len() as u32,
+        cells: cells.variables.len() as u32,
         sets: ElemNames::from_vec(Vec::new(alloc)),
         ops: OpEntries::from_vec(ops),
         code: Code::from_vec(code),
@@ -107,21 +114,22 @@ pub(crate) fn image_of(
 }
 
 // Adds the code of the operations, and gives their entries.
-#[tactic(auto, using(crate::proofs::Emitted::block_long))]
+#[tactic(auto, using(crate::proofs::Lengths::operation_long))]
 fn add_operations(
     alloc: Global,
-    cells: &[u32],
+    cells: &Cells<'_>,
     heads: &[OpHead],
     bodies: &[Body],
     code: &mut Vec<Inst>,
 ) -> Result<Vec<OpEntry>, Memory>
-    requires few { length cells.now ≤ 1000000 }
+    requires cells { AreCells cells.now }
     requires short { length code.old.items + blocks_size bodies.now ≤ 1000000 }
-    requires simple { All (λ b. IsSimpleStatement (pos 2147483647) b.sub) bodies.now }
+    requires simple { All (λ b. IsSimpleStatement cells.now.dev.now b.sub) bodies.now }
     requires paired { length heads.now ≡ length bodies.now }
-    ensures code { OnOk result (code.new.items ≡ code.old.items ++ blocks_code cells.now bodies.now) }
+    ensures code { OnOk result
+        (code.new.items ≡ code.old.items ++ operations_code cells.now.dev.now bodies.now) }
     ensures entries { IfOk result
-        (λ ops. ops.items ≡ plain_entries cells.now (length code.old.items) heads.now bodies.now) }
+        (λ ops. ops.items ≡ entries cells.now.dev.now (length code.old.items) heads.now bodies.now) }
 {
     let mut ops = Vec::new(alloc);
     for (number, body) in bodies.iter().enumerate() {
@@ -135,13 +143,18 @@ fn add_operations(
 // The entry of an operation whose code starts at a place.
 fn entry_of(
     alloc: Global,
-    cells: &[u32],
+    cells: &Cells<'_>,
     start: u32,
     head: &OpHead,
     body: &Body,
 ) -> Result<OpEntry, Memory>
-    requires { length cells.now ≤ 1000000 }
-    ensures { IfOk result (λ entry. entry ≡ plain_entry cells.now start head.now body.now) }
+    requires { AreCells cells.now }
+    ensures { IfOk result (λ entry. entry ≡ record {
+      name = head.now.name;
+      start = start;
+      inputs = map (parameter_of cells.now.dev.now) head.now.inputs;
+      outputs = map (parameter_of cells.now.dev.now) body.now.outputs;
+    }) }
 {
     let name = Vec::from_slice(alloc, head.name.as_bytes())?;
     Ok(OpEntry {
@@ -152,17 +165,31 @@ fn entry_of(
     })
 }
 
-// Whole numbers with their cells.
-fn parameters(alloc: Global, cells: &[u32], variables: &[u32]) -> Result<Parameters, Memory>
-    requires { length cells.now ≤ 1000000 }
-    ensures { IfOk result (λ list. list ≡ map (plain_parameter cells.now) variables.now) }
+// Inputs or outputs with their kinds and cells.
+fn parameters(alloc: Global, cells: &Cells<'_>, variables: &[u32]) -> Result<Parameters, Memory>
+    requires { AreCells cells.now }
+    ensures { IfOk result (λ list. list ≡ map (parameter_of cells.now.dev.now) variables.now) }
 {
     let mut list = Vec::new(alloc);
     for variable in variables {
         list.push(Parameter {
-            kind: CellKind::Integer,
+            kind: kind_of(cells.dev, *variable),
             slot: slot_of(cells, *variable),
         })?;
     }
     Ok(Parameters::from_vec(list))
+}
+
+// What the cell of a variable holds.
+fn kind_of(dev: &Development, variable: u32) -> CellKind
+    ensures { result ≡ kind_of_type (declared_type dev.now.table variable) }
+{
+    match dev.table.ty(variable) {
+        Some(ty) => match ty.view() {
+            TyView::Bool => CellKind::Bool,
+            TyView::Enum(set) => CellKind::Set(set),
+            _ => CellKind::Integer,
+        },
+        None => CellKind::Bool,
+    }
 }

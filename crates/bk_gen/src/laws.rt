@@ -1,8 +1,8 @@
 //! What small developments and substitutions are translated to. Each law is the contract of a function that does nothing.
 
 ghost use Rattle.bk_dev.specs.Counter.{counter};
-ghost use Rattle.bk_gen.specs.Laws.{CounterCode, adder, AdderCode, TestsCode, LoopCode, FlattenedKeepsCode};
-ghost use Rattle.bk_gen.specs.Simple.{IsSimple};
+ghost use Rattle.bk_gen.specs.Laws.{CounterCode, adder, AdderCode, TestsCode, LoopCode, FlattenedKeepsCode, TranslationsLoad};
+ghost use Rattle.bk_b0.specs.Simple.{IsSimple};
 
 /// A counter, to be checked by hand.
 pub fn counter()
@@ -29,4 +29,9 @@ pub fn simple_counter()
 /// Flattening leaves the code as it was, where no `||` stands in the last level.
 pub fn flat_developments()
     ensures { FlattenedKeepsCode }
+{}
+
+/// The translation of a development in B0 passes the loader's checks, within the limits.
+pub fn translations_load()
+    ensures { TranslationsLoad }
 {}

@@ -1,12 +1,15 @@
 //! The code of simple statements. Functions go down a formula or a statement by calling themselves: as deep as a formula is
 //! high, which its type bounds, and as statements are nested.
 
-ghost use Rattle.std.specs.Prelude.{◌≡◌, ◌+◌, ◌-◌, ◌≤◌, ◌<◌, ◌^◌, ◌++◌, pos, min, length, slice_set, OnOk};
-ghost use Rattle.bk_code.specs.declared.instruction.Inst.TheVariants.{Jump, JumpZero};
-ghost use Rattle.bk_gen.specs.Simple.{IsSimpleTerm, IsSimpleCondition, IsSimpleAssignment, IsSimpleStatement};
-ghost use Rattle.bk_gen.specs.Plain.{term_code, condition_code, setting_code, plain_code, block_code, operation, comparison, operator_size, value_size, setting_size, statement_size, block_size};
+ghost use Rattle.std.specs.Prelude.{◌≡◌, ◌+◌, ◌-◌, ◌≤◌, ◌<◌, ◌^◌, [], ◌∷◌, ◌++◌, pos, min, length, slice_set, OnOk};
+ghost use Rattle.bk_form.specs.declared.operator.BinOp.TheVariants.{Eq as Equals, Lt as Below, Le as AtMost, Add as Plus, Sub as Less};
+ghost use Rattle.bk_code.specs.declared.instruction.Inst.TheVariants.{Add as Adding, Sub as Subtracting, Eq as Equating, Lt as Ordering, Le as OrderingOrEqual, Jump, JumpZero, Ret};
+ghost use Rattle.bk_b0.specs.Simple.{IsSimpleTerm, IsSimpleCondition, IsSimpleAssignment, IsSimpleStatement};
+ghost use Rattle.bk_gen.specs.Cells.{AreCells};
+ghost use Rattle.bk_gen.specs.Sizes.{operator_size, value_size, setting_size, statement_size, block_size};
+ghost use Rattle.bk_b0.specs.Translation.{value_code, assign_code, statement_code};
 
-use crate::cells::slot_of;
+use crate::cells::{Cells, slot_of};
 use bk_code::{Inst, Memory};
 use bk_form::{BinOp, Form, View};
 use bk_gsl::{Sub, SubNode};
@@ -67,12 +70,12 @@ fn operator_size(op: BinOp) -> u64
 }
 
 // Adds a statement's code and a Ret.
-#[tactic(auto, using(crate::proofs::Emitted::statement_long))]
-pub(crate) fn add_block(cells: &[u32], sub: &Sub, code: &mut Vec<Inst>) -> Result<(), Memory>
-    requires few { length cells.now ≤ 1000000 }
-    requires simple { IsSimpleStatement (pos 2147483647) sub.now }
+#[tactic(auto, using(crate::proofs::Lengths::statement_long))]
+pub(crate) fn add_block(cells: &Cells<'_>, sub: &Sub, code: &mut Vec<Inst>) -> Result<(), Memory>
+    requires cells { AreCells cells.now }
+    requires simple { IsSimpleStatement cells.now.dev.now sub.now }
     requires short { length code.old.items + block_size sub.now ≤ 1000000 }
-    ensures { OnOk result (code.new.items ≡ code.old.items ++ block_code cells.now sub.now) }
+    ensures { OnOk result (code.new.items ≡ code.old.items ++ (statement_code cells.now.dev.now sub.now ++ Ret ∷ [])) }
 {
     add_statement(cells, sub, code)?;
     code.push(Inst::Ret)?;
@@ -80,12 +83,12 @@ pub(crate) fn add_block(cells: &[u32], sub: &Sub, code: &mut Vec<Inst>) -> Resul
 }
 
 // Adds a statement's code.
-#[tactic(auto, using(crate::proofs::Emitted::condition_long, crate::proofs::Emitted::statement_long))]
-fn add_statement(cells: &[u32], sub: &Sub, code: &mut Vec<Inst>) -> Result<(), Memory>
-    requires few { length cells.now ≤ 1000000 }
-    requires simple { IsSimpleStatement (pos 2147483647) sub.now }
+#[tactic(auto, using(crate::proofs::Lengths::condition_long, crate::proofs::Lengths::statement_long))]
+fn add_statement(cells: &Cells<'_>, sub: &Sub, code: &mut Vec<Inst>) -> Result<(), Memory>
+    requires cells { AreCells cells.now }
+    requires simple { IsSimpleStatement cells.now.dev.now sub.now }
     requires short { length code.old.items + statement_size sub.now ≤ 1000000 }
-    ensures { OnOk result (code.new.items ≡ code.old.items ++ plain_code cells.now sub.now) }
+    ensures { OnOk result (code.new.items ≡ code.old.items ++ statement_code cells.now.dev.now sub.now) }
 {
     match &sub.node {
         SubNode::Assign(terms) => add_assignment(cells, terms, code),
@@ -126,10 +129,15 @@ fn set_jump(code: &mut Vec<Inst>, at: usize)
 }
 
 // Adds the code of an assignment to one variable.
-fn add_assignment(cells: &[u32], terms: &[(u32, Form)], code: &mut Vec<Inst>) -> Result<(), Memory>
-    requires few { length cells.now ≤ 1000000 }
-    requires simple { IsSimpleAssignment (pos 2147483647) terms.now }
-    ensures { OnOk result (code.new.items ≡ code.old.items ++ setting_code cells.now terms.now) }
+#[tactic(auto, using(crate::proofs::OneCell::assign_is))]
+fn add_assignment(
+    cells: &Cells<'_>,
+    terms: &[(u32, Form)],
+    code: &mut Vec<Inst>,
+) -> Result<(), Memory>
+    requires cells { AreCells cells.now }
+    requires simple { IsSimpleAssignment cells.now.dev.now terms.now }
+    ensures { OnOk result (code.new.items ≡ code.old.items ++ assign_code cells.now.dev.now terms.now) }
 {
     match terms {
         [(variable, term)] => {
@@ -143,16 +151,16 @@ fn add_assignment(cells: &[u32], terms: &[(u32, Form)], code: &mut Vec<Inst>) ->
 
 // Adds the code that leaves 1 on the stack where a condition is true, and else 0. Of `p & q` and of `p or q` the right
 // side is passed over where the left one decides.
-#[tactic(auto, using(crate::proofs::Emitted::condition_long))]
+#[tactic(auto, using(crate::proofs::Lengths::condition_long))]
 pub(crate) fn add_condition(
-    cells: &[u32],
+    cells: &Cells<'_>,
     condition: &Form,
     code: &mut Vec<Inst>,
 ) -> Result<(), Memory>
-    requires few { length cells.now ≤ 1000000 }
-    requires simple { IsSimpleCondition (pos 2147483647) condition.now }
+    requires cells { AreCells cells.now }
+    requires simple { IsSimpleCondition cells.now.dev.now condition.now }
     requires short { length code.old.items + value_size condition.now ≤ 1000000 }
-    ensures { OnOk result (code.new.items ≡ code.old.items ++ condition_code cells.now condition.now) }
+    ensures { OnOk result (code.new.items ≡ code.old.items ++ value_code cells.now.dev.now condition.now) }
 {
     match condition.view() {
         View::Un(_, operand) => {
@@ -192,7 +200,9 @@ pub(crate) fn add_condition(
 
 // The instruction that compares two numbers.
 fn comparison(op: BinOp) -> Inst
-    ensures { result ≡ comparison op }
+    ensures equation { op ≡ Equals → result ≡ Equating }
+    ensures below { op ≡ Below → result ≡ Ordering }
+    ensures at_most { op ≡ AtMost → result ≡ OrderingOrEqual }
 {
     match op {
         BinOp::Lt => Inst::Lt,
@@ -202,10 +212,11 @@ fn comparison(op: BinOp) -> Inst
 }
 
 // Adds the code that leaves a term's number on the stack.
-fn add_term(cells: &[u32], term: &Form, code: &mut Vec<Inst>) -> Result<(), Memory>
-    requires few { length cells.now ≤ 1000000 }
-    requires simple { IsSimpleTerm (pos 2147483647) term.now }
-    ensures { OnOk result (code.new.items ≡ code.old.items ++ term_code cells.now term.now) }
+#[tactic(auto, using(crate::proofs::OneCell::name_is))]
+fn add_term(cells: &Cells<'_>, term: &Form, code: &mut Vec<Inst>) -> Result<(), Memory>
+    requires cells { AreCells cells.now }
+    requires simple { IsSimpleTerm cells.now.dev.now term.now }
+    ensures { OnOk result (code.new.items ≡ code.old.items ++ value_code cells.now.dev.now term.now) }
 {
     match term.view() {
         View::Int(value) => {
@@ -233,7 +244,8 @@ fn add_term(cells: &[u32], term: &Form, code: &mut Vec<Inst>) -> Result<(), Memo
 
 // The instruction that adds or subtracts two numbers.
 fn operation(op: BinOp) -> Inst
-    ensures { result ≡ operation op }
+    ensures sum { op ≡ Plus → result ≡ Adding }
+    ensures difference { op ≡ Less → result ≡ Subtracting }
 {
     match op {
         BinOp::Add => Inst::Add,

@@ -8,7 +8,7 @@ use Rattle.bk_form.specs.Formula.{Formula}
 use Rattle.bk_dev.specs.declared.kind.Home.{Home}
 use Rattle.bk_dev.specs.Development.{Head, Level}
 use Rattle.bk_dev.specs.Facts.{IsDevelopment}
-use Rattle.bk_gen.specs.Simple.{IsSimple}
+use Rattle.bk_b0.specs.Simple.{IsSimple}
 use Rattle.bk_po.specs.Basic.{IsBasic}
 use Rattle.bk_comp.specs.Operations.{Header}
 use Rattle.bk_comp.specs.Components.{Component, ArePair, place_behind, place_behind_all, variable_of}

@@ -1,6 +1,6 @@
 -- What holds of formulas and statements that are made of numbers, sums, comparisons and assignments: they type, they name and
 -- write what they may, they are translated, and their obligations are made.
-use Rattle.std.proofs.Common.{◌≡◌, ℕ, ◌≤◌, ℤ, pos, Bool, true, false, ◌||◌, List, [], ◌∷◌, ◌++◌, Some, refl, ap, subst, arith}
+use Rattle.std.proofs.Common.{◌≡◌, ℕ, ◌≤◌, ℤ, pos, Bool, true, false, ◌||◌, List, [], ◌∷◌, ◌++◌, Some, refl, sym, ap, subst, arith}
 use Rattle.bk_val.specs.ValueType.{int_type, set_type}
 use Rattle.bk_form.specs.Table.{Table, variable_type}
 use Rattle.bk_form.specs.Formula.{Formula, variable, literal, unary, binary, formula_height}
@@ -16,7 +16,10 @@ use Rattle.bk_form.specs.Predicates.{IsPredicate}
 use Rattle.bk_gsl.proofs.States.{nat_eq-same}
 use Rattle.bk_dev.specs.declared.kind.Kind.{Kind}
 use Rattle.bk_dev.specs.Facts.{Names, StaysIn, MayStandIn, binders, LoopsStandIn}
-use Rattle.bk_gen.specs.Simple.{IsSimpleTerm, IsSimpleCondition, IsSimpleStatement, operators_down, EvaluatesShallow}
+use Rattle.bk_dev.specs.B0.{IsScalarName, operators_down, IsShallowTerm, EvaluatesShallow}
+use Rattle.bk_dev.specs.Development.{Development}
+use Rattle.bk_dev.specs.Layout.{arrays_of}
+use Rattle.bk_b0.specs.Simple.{IsSimpleTerm, IsSimpleCondition, IsSimpleStatement}
 use Rattle.bk_wp.specs.Guarded.{IsTotal, HasTotal}
 use Rattle.bk_comp.specs.Contents.{IsExpressionOver, IsIntervalOfNumbers, IsConditionOver, IsStatementOver, HasNoHigher}
 
@@ -107,15 +110,15 @@ module _ (members : Bool) (xs ys : List ℕ) where
   statement-binds _ h = absurd h
 
 -- ---- translation
-module _ (xs : List ℕ) where
-  pub expression-simple : (f : Formula) → IsExpressionOver xs f → IsSimpleTerm (pos 2147483647) f
-  expression-simple (variable x) h = tt
+module _ (dev : Development) (scalar : (x : ℕ) → IsScalarName dev x) (xs : List ℕ) where
+  pub expression-simple : (f : Formula) → IsExpressionOver xs f → IsSimpleTerm dev f
+  expression-simple (variable x) h = scalar x
   expression-simple (literal z) h = h
   expression-simple (binary Add a b) h = (expression-simple a h.0, expression-simple b h.1)
   expression-simple (binary Sub a b) h = (expression-simple a h.0, expression-simple b h.1)
   expression-simple _ h = absurd h
 
-  pub condition-simple : (p : Formula) → IsConditionOver false xs p → IsSimpleCondition (pos 2147483647) p
+  pub condition-simple : (p : Formula) → IsConditionOver false xs p → IsSimpleCondition dev p
   condition-simple (binary Eq a b) h = (expression-simple a h.0, expression-simple b h.1)
   condition-simple (binary Lt a b) h = (expression-simple a h.0, expression-simple b h.1)
   condition-simple (binary Le a b) h = (expression-simple a h.0, expression-simple b h.1)
@@ -124,7 +127,7 @@ module _ (xs : List ℕ) where
   condition-simple (binary And p q) h = (condition-simple p h.0, condition-simple q h.1)
   condition-simple _ h = absurd h
 
-  pub statement-simple : (ys : List ℕ) (s : Substitution) → IsStatementOver false xs ys s → IsSimpleStatement (pos 2147483647) s
+  pub statement-simple : (ys : List ℕ) (s : Substitution) → IsStatementOver false xs ys s → IsSimpleStatement dev s
   statement-simple ys skip h = tt
   statement-simple ys (assign (p ∷ [])) h = expression-simple p.1 h.1
   statement-simple ys (if_else p s t) h = (condition-simple p h.0, statement-simple ys s h.1, statement-simple ys t h.2)
@@ -138,11 +141,12 @@ operators-height _ = omega arith
 shallow-height : (f : Formula) → formula_height f ≤ 998 → operators_down f ≤ 998
 shallow-height f h = omega (arith, operators-height f, h)
 
-pub statement-shallow : (members : Bool) (xs ys : List ℕ) (s : Substitution) → IsStatementOver members xs ys s → HasNoHigher 998 s → EvaluatesShallow s
-statement-shallow members xs ys skip h low = tt
-statement-shallow members xs ys (assign (p ∷ [])) h low = (shallow-height p.1 low, tt)
-statement-shallow members xs ys (if_else p s t) h low = (shallow-height p low.0, statement-shallow members xs ys s h.1 low.1, statement-shallow members xs ys t h.2 low.2)
-statement-shallow members xs ys _ h low = absurd h
+module _ (dev : Development) (scalar : (x : ℕ) → IsScalarName dev x) where
+  pub statement-shallow : (members : Bool) (xs ys : List ℕ) (s : Substitution) → IsStatementOver members xs ys s → HasNoHigher 998 s → EvaluatesShallow (arrays_of dev) s
+  statement-shallow members xs ys skip h low = tt
+  statement-shallow members xs ys (assign (p ∷ [])) h low = (subst (λ o. IsShallowTerm p.0 o p.1) (sym (scalar p.0).0) (shallow-height p.1 low), tt)
+  statement-shallow members xs ys (if_else p s t) h low = (shallow-height p low.0, statement-shallow members xs ys s h.1 low.1, statement-shallow members xs ys t h.2 low.2)
+  statement-shallow members xs ys _ h low = absurd h
 
 -- ---- obligations
 module _ (xs : List ℕ) where

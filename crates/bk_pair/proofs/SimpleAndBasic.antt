@@ -5,7 +5,7 @@ use Rattle.std.specs.List.{filter_map}
 use Rattle.std.proofs.lemmas.List.Elements.{All-nil, All-cons}
 use Rattle.bk_val.specs.ValueType.{int_type}
 use Rattle.bk_form.specs.Table.{variable_type}
-use Rattle.bk_form.specs.Formula.{Formula, binary}
+use Rattle.bk_form.specs.Formula.{Formula, literal, binary, btrue}
 use Rattle.bk_form.specs.declared.operator.BinOp.TheVariants.{TotalFunctions}
 use Rattle.bk_form.specs.declared.arrays.ArrayRow.{ArrayRow}
 use Rattle.bk_dev.specs.declared.kind.Kind.{Kind}
@@ -14,7 +14,9 @@ use Rattle.bk_dev.specs.declared.kind.Home.TheVariants.{Concrete}
 use Rattle.bk_dev.specs.Development.{Body, Development, level_at}
 use Rattle.bk_form.specs.Each.{Each}
 use Rattle.bk_dev.specs.Layout.{Clue, in_domain, equals, silent, has_scalars, array_row, indices_of, row_by, typing_clue, reversed, arrays_of}
-use Rattle.bk_gen.specs.Simple.{IsSimpleStatement, EvaluatesShallow, IsSimple}
+use Rattle.bk_dev.specs.B0.{IsScalarName, IsShallowTerm, EvaluatesShallow}
+use Rattle.bk_b0.specs.Simple.{IsSimpleStatement, IsSimple}
+use Rattle.bk_b0.proofs.Whole.{scalar}
 use Rattle.bk_wp.specs.Guarded.{IsTotal}
 use Rattle.bk_po.specs.Basic.{IsBasicBody, IsBasicLevel, IsBasic}
 use Rattle.bk_comp.specs.Operations.{Header, Places, numbers_from, takes_members}
@@ -42,11 +44,20 @@ module _ (kind : Kind) (x : ℕ) (P : Body → Type 0) (from : (p : Places) (h :
   each-body (p ∷ ps) (h ∷ hs) (b ∷ bs) made = (from p h b made.0, each-body ps hs bs made.1)
 
 -- ---- one body
-body-simple : (x : ℕ) (p : Places) (h : Header) (b : Body) → IsBodyOver Implementation x p h b → IsSimpleStatement (pos 2147483647) b.sub
-body-simple x p h b made = statement-simple (x ∷ numbers_from p.inputs h.inputs) (x ∷ numbers_from p.outputs h.outputs) b.sub made.sub
+module _ (whole : Development) (names : (n : ℕ) → IsScalarName whole n) where
+  body-simple : (x : ℕ) (p : Places) (h : Header) (b : Body) → IsBodyOver Implementation x p h b → IsSimpleStatement whole b.sub
+  body-simple x p h b made = statement-simple whole names (x ∷ numbers_from p.inputs h.inputs) (x ∷ numbers_from p.outputs h.outputs) b.sub made.sub
 
-body-shallow : (x : ℕ) (p : Places) (h : Header) (b : Body) → IsBodyOver Implementation x p h b → EvaluatesShallow b.sub
-body-shallow x p h b made = statement-shallow false (x ∷ numbers_from p.inputs h.inputs) (x ∷ numbers_from p.outputs h.outputs) b.sub made.sub made.low
+  body-shallow : (x : ℕ) (p : Places) (h : Header) (b : Body) → IsBodyOver Implementation x p h b → EvaluatesShallow (arrays_of whole) b.sub
+  body-shallow x p h b made = statement-shallow whole names false (x ∷ numbers_from p.inputs h.inputs) (x ∷ numbers_from p.outputs h.outputs) b.sub made.sub made.low
+
+-- at an implementation no precondition stands
+unconditioned : (xs : List ℕ) (f : Formula) → IsPreconditionOver Implementation xs f → f ≡ btrue
+unconditioned xs f (inl e) = e
+unconditioned xs f (inr made) = let e = made.0 in absurd (cc)
+
+body-unconditioned : (x : ℕ) (p : Places) (h : Header) (b : Body) → IsBodyOver Implementation x p h b → b.condition ≡ btrue
+body-unconditioned x p h b made = unconditioned (x ∷ numbers_from p.inputs h.inputs) b.condition made.condition
 
 precondition-total : (kind : Kind) (xs : List ℕ) (f : Formula) → IsPreconditionOver kind xs f → IsTotal f
 precondition-total kind xs f (inl e) = subst IsTotal (sym e) tt
@@ -73,6 +84,9 @@ module _ (m i : Component) (upper : IsMadeOfThese (as_machine m)) (below : IsMad
   abbrev second : ℕ
   second = lower m i
 
+  names : (n : ℕ) → IsScalarName pair n
+  names n = scalar pair (variables-int m i) n
+
   pub pair-simple : IsSimple pair
   pair-simple = record {
     complete = refl;
@@ -80,9 +94,10 @@ module _ (m i : Component) (upper : IsMadeOfThese (as_machine m)) (below : IsMad
     no_values = refl;
     whole_numbers = variables-int m i;
     init = below.start;
-    bodies = all-bodies Implementation second (λ b. IsSimpleStatement (pos 2147483647) b.sub) (body-simple second) (implementation_places 1 (suc second) m.headers) m.headers i.bodies below.bodies;
-    init_shallow = (omega arith, tt);
-    bodies_shallow = all-bodies Implementation second (λ b. EvaluatesShallow b.sub) (body-shallow second) (implementation_places 1 (suc second) m.headers) m.headers i.bodies below.bodies;
+    bodies = all-bodies Implementation second (λ b. IsSimpleStatement pair b.sub) (body-simple pair names second) (implementation_places 1 (suc second) m.headers) m.headers i.bodies below.bodies;
+    no_conditions = all-bodies Implementation second (λ b. b.condition ≡ btrue) (body-unconditioned second) (implementation_places 1 (suc second) m.headers) m.headers i.bodies below.bodies;
+    init_shallow = (subst (λ o. IsShallowTerm second o (literal i.start)) (sym (names second).0) (omega arith), tt);
+    bodies_shallow = all-bodies Implementation second (λ b. EvaluatesShallow (arrays_of pair) b.sub) (body-shallow pair names second) (implementation_places 1 (suc second) m.headers) m.headers i.bodies below.bodies;
   }
 
   upper-basic : IsBasicLevel (level_at pair 0)

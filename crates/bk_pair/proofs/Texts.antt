@@ -2,7 +2,7 @@
 use Rattle.std.proofs.Common.{◌≡◌, ℕ, ◌≤◌, List, sym, subst, ◌∙◌}
 use Rattle.bk_dev.specs.Development.{Development}
 use Rattle.bk_dev.specs.Facts.{IsDevelopment}
-use Rattle.bk_gen.specs.Simple.{IsSimple}
+use Rattle.bk_b0.specs.Simple.{IsSimple}
 use Rattle.bk_po.specs.Basic.{IsBasic}
 use Rattle.bk_comp.specs.Components.{Component, IsTextOf, ArePair, TextIsOne, place_behind_all}
 use Rattle.bk_comp.specs.Contents.{IsMadeOfThese, TextsAreMadeOfThese}

@@ -30,6 +30,7 @@ use Rattle.bk_dev.specs.Flattened.{flattened}
 use Rattle.bk_dev.proofs.Flat.{flattened_already}
 use Rattle.bk_po.proofs.Basics.{basic_are_flat}
 use Rattle.bk_pair.proofs.SimpleAndBasic.{each-body, pair-basic}
+use Rattle.bk_dev.proofs.Levels.{two-levels}
 
 -- ---- a level with one variable
 first-among : (x : ℕ) → among (x ∷ []) x ≡ true
@@ -81,7 +82,7 @@ module _ (dev : Development) (k x : ℕ) (own : is_variable_of k (home_of dev x)
       let at : Placed dev k x (record { inputs = 0; outputs = 0 }) no_header = record { own = own; typed = typed; own_typed = own_typed; inputs = tt; outputs = tt } in
       sub-facts dev k x (record { inputs = 0; outputs = 0 }) no_header at true (assign ((x, literal start) ∷ [])) (first-among x, h)
 
-  level-facts : (name : List ℕ) (kind : Kind) (links : List (ℕ × ℕ)) (invariant : Formula) (start : ℤ) (bodies : List Body) → IsKindAt dev k kind → Each (IsLink dev k) links → IsConditionOver true (x ∷ []) invariant → IsMachineNumber start → EachBody dev k dev.heads (level_at dev 0).bodies bodies → IsLevelOf dev k (simple_level name kind x links invariant start bodies)
+  level-facts : (name : List ℕ) (kind : Kind) (links : List (ℕ × ℕ)) (invariant : Formula) (start : ℤ) (bodies : List Body) → IsKindAt k kind → Each (IsLink dev k) links → IsConditionOver true (x ∷ []) invariant → IsMachineNumber start → EachBody dev k dev.heads (level_at dev 0).bodies bodies → IsLevelOf dev k (simple_level name kind x links invariant start bodies)
   level-facts name kind links invariant start bodies stands joined made number each = record {
     kind = stands;
     vars = (own, tt);
@@ -131,7 +132,7 @@ module _ (m i : Component) (few : place_behind_all 1 m.headers ≤ 10000) (upper
 
   implementation-level : IsLevelOf pair 1 (level_at pair 1)
   implementation-level =
-      level-facts pair 1 second (lower-own m i) (lower-only m i) (typed-home m i) second-typed i.name Implementation ((second, 0) ∷ []) i.invariant i.start i.bodies (omega arith, refl) (link-facts, tt) below.invariant below.start
+      level-facts pair 1 second (lower-own m i) (lower-only m i) (typed-home m i) second-typed i.name Implementation ((second, 0) ∷ []) i.invariant i.start i.bodies (omega arith) (link-facts, tt) below.invariant below.start
       (lower-bodies pair (typed-home m i) second 0 1 (suc second) m.headers m.bodies i.bodies (lower-own m i) second-typed (upper-stand m i) (lower-stand m i).1 upper.bodies below.bodies)
 
   homes-count : length pair.homes ≡ suc (length (upper_inner m.headers) + suc (length lows))
@@ -188,6 +189,7 @@ module _ (m i : Component) (few : place_behind_all 1 m.headers ≤ 10000) (upper
   pub whole-facts : IsDevelopment pair
   whole-facts = record {
     lawful = whole-lawful;
+    only_last = two-levels pair refl refl;
     shapes = (record { init = tt; bodies = bodies-stand Machine 0 (machine_places 1 m.headers) m.headers m.bodies upper.bodies }, (record { init = tt; bodies = bodies-stand Implementation second (implementation_places 1 (suc second) m.headers) m.headers i.bodies below.bodies }, tt));
     binders_differ = differ;
     room = has-room (flattened pair) pair no-copies few-enough;

@@ -6,7 +6,7 @@ ghost use Rattle.bk_gsl.specs.Substitution.{assign};
 ghost use Rattle.bk_dev.specs.declared.kind.Home.TheVariants.{Input, Inner};
 ghost use Rattle.bk_comp.specs.Operations.{numbers_from};
 ghost use Rattle.bk_comp.specs.Components.{ArePair, place_behind_all, variable_of};
-ghost use Rattle.bk_gen.specs.Simple.{IsSimple};
+ghost use Rattle.bk_b0.specs.Simple.{IsSimple};
 ghost use Rattle.bk_po.specs.Basic.{IsBasic};
 ghost use Rattle.bk_pair.specs.Developments.{IsWritten, entry, upper_variables, upper_homes, lower_variables, lower_homes, heads_from, level_of, development_of};
 

@@ -22,7 +22,7 @@ use Rattle.bk_dev.specs.declared.kind.Kind.TheVariants.{Machine, Refinement, Imp
 use Rattle.bk_dev.specs.Development.{Level, Development, level_at, body_of, body_at, inputs_of, is_implementing, is_implementation, is_complete, last, whole}
 use Rattle.bk_dev.specs.Flattened.{flattened}
 use Rattle.bk_dev.specs.Hypotheses.{value_equation, properties_of, values_at, joining, facts, facts_of, joinings_of, conditions_of, is_number, in_machine_range, input_ranges, init_hypotheses, assertion_hypotheses, operation_hypotheses, body_hypotheses, unasserted_hypotheses}
-use Rattle.bk_dev.specs.Facts.{IsValue, IsLink, IsKindAt, IsLevelOf, IsLawful}
+use Rattle.bk_dev.specs.Facts.{IsValue, IsLink, IsKindAt, IsLevelOf, IsLawful, OnlyLastIsImplementation}
 use Rattle.bk_form.specs.Each.{Each}
 use Rattle.bk_dev.specs.Claims.{KeepsFlat, CarriesFlat, ValuesMeet}
 use Rattle.bk_wp.proofs.Steps.{implies-then, holds-assign}
@@ -64,16 +64,11 @@ module _ (find : Finder) (table : Table) (e : State) where
       by_test on false k = on
 
 -- ---- levels
--- only the last level is an implementation
-upper-kind : (dev : Development) (k : ℕ) → suc k < length dev.levels → (kind : Kind) → IsKindAt dev k kind → is_implementing kind ≡ false
-upper-kind dev k h Machine w = refl
-upper-kind dev k h Refinement w = refl
-upper-kind dev k h Implementation w = absurd (let same : k ≡ last dev = w.1 in omega (arith, same, h))
-
-machine-kind : (dev : Development) (kind : Kind) → IsKindAt dev 0 kind → is_implementing kind ≡ false
-machine-kind dev Machine h = refl
-machine-kind dev Refinement h = absurd (let less : 0 < 0 = h in omega (arith, less))
-machine-kind dev Implementation h = absurd (let less : 0 < 0 = h.0 in omega (arith, less))
+-- the machine is no implementation
+machine-kind : (kind : Kind) → IsKindAt 0 kind → is_implementing kind ≡ false
+machine-kind Machine h = refl
+machine-kind Refinement h = absurd (let less : 0 < 0 = h in omega (arith, less))
+machine-kind Implementation h = absurd (let less : 0 < 0 = h in omega (arith, less))
 
 no-links : (find : Finder) (dev : Development) (e : State) (ls : List (ℕ × ℕ)) → Each (IsLink dev 0) ls → AllHold find (at_state dev.table e) (map equation ls)
 no-links find dev e [] h = tt
@@ -90,7 +85,7 @@ values-typed dev [] h = tt
 values-typed dev (p ∷ ps) h = (h.0.of_type, values-typed dev ps h.1)
 
 -- ---- the claims
-module _ (find : Finder) (law : IsSearch find) (dev : Development) (f : IsLawful dev) (b : IsBasic dev) (valid : AreValid dev.table (numbered (flat_obligations dev))) where
+module _ (find : Finder) (law : IsSearch find) (dev : Development) (f : IsLawful dev) (only : OnlyLastIsImplementation dev) (b : IsBasic dev) (valid : AreValid dev.table (numbered (flat_obligations dev))) where
   fact : (k : ℕ) → k < length dev.levels → IsLevelOf dev k (level_at dev k)
   fact k h = level_fact dev f k h
 
@@ -135,7 +130,7 @@ module _ (find : Finder) (law : IsSearch find) (dev : Development) (f : IsLawful
     values-there n p = by_test (nat_lt n k) refl
       where
         by_test : (x : Bool) → nat_lt n k ≡ x → AllHold find (at_state dev.table e) (values_at dev n)
-        by_test true q = let more : n < k = grind (arith, nat_tests) in no-values n (upper-kind dev n (omega (arith, more, h)) (level_at dev n).kind (fact n (omega (arith, more, h))).kind) e
+        by_test true q = let more : n < k = grind (arith, nat_tests) in no-values n (only n (omega (arith, more, h))) e
         by_test false q = let same : k ≡ n = grind (arith, nat_tests) in subst (λ m. AllHold find (at_state dev.table e) (values_at dev m)) same (true-second find (at_state dev.table e) (properties_of dev (suc k)) (values_at dev k) begins)
 
     properties-there : (n : ℕ) → n < suc k → AllHold find (at_state dev.table e) (properties_of dev (suc n))
@@ -179,7 +174,7 @@ module _ (find : Finder) (law : IsSearch find) (dev : Development) (f : IsLawful
 
   -- at the machine
   machine-only : is_implementation (level_at dev 0) ≡ false
-  machine-only = machine-kind dev (level_at dev 0).kind (fact 0 f.some_level).kind
+  machine-only = machine-kind (level_at dev 0).kind (fact 0 f.some_level).kind
 
   machine-begins : (e : State) → AllHold find (at_state dev.table e) (properties_of dev 1) → AllHold find (at_state dev.table e) (init_hypotheses dev 0)
   machine-begins e h = true-append find (at_state dev.table e) (properties_of dev 1) (values_at dev 0) h (no-values 0 machine-only e)
@@ -236,10 +231,10 @@ valid_obligations_carry find law dev d b valid =
     let plain = basic_are_flat dev b in
     let flat : flattened dev ≡ dev = flattened_already dev plain in
     let known : AreValid dev.table (numbered (flat_obligations dev)) = subst (λ x. AreValid x.table (numbered (flat_obligations x))) flat valid in
-    let boxes = boxes-hold find law dev f b known in
-    let carried = boxes_carry find law dev f (levels-are-flat dev plain) boxes (conditions_are_clean find law dev f b boxes (conditions-hold find law dev f b known)) in
+    let boxes = boxes-hold find law dev f d.only_last b known in
+    let carried = boxes_carry find law dev f d.only_last (levels-are-flat dev plain) boxes (conditions_are_clean find law dev f b boxes (conditions-hold find law dev f d.only_last b known)) in
     record {
       keeps = subst (KeepsFlat find) (sym flat) carried.keeps;
       carries = λ j h. subst (λ x. CarriesFlat find x j) (sym flat) (carried.carries j h);
-      values = values-meet find law dev f b known;
+      values = values-meet find law dev f d.only_last b known;
     }

@@ -19,9 +19,9 @@ use Rattle.bk_dev.specs.declared.kind.Kind.{Kind}
 use Rattle.bk_dev.specs.declared.kind.Kind.TheVariants.{Machine, Refinement, Implementation}
 use Rattle.bk_dev.specs.declared.kind.Home.{Home}
 use Rattle.bk_dev.specs.declared.kind.Home.TheVariants.{Constant, Input, Abstract, Concrete, Inner}
-use Rattle.bk_dev.specs.Development.{Head, Body, Level, Development, level_at, body_of, body_at, is_implementing, is_implementation, is_btrue, last, whole}
+use Rattle.bk_dev.specs.Development.{Head, Body, Level, Development, level_at, body_of, body_at, is_implementing, is_implementation, is_btrue, whole}
 use Rattle.bk_form.specs.Each.{Each}
-use Rattle.bk_dev.specs.Facts.{AllAre, binders, is_constant, is_input, is_variable_of, is_variable_above, is_inner_of, home_of, names_own, names_joined, writes_own, IsLink, IsKindAt, AreAlike, LoopsStandIn, IsSubOf, IsBodyOf, IsLevelOf, IsLawful, IsFlatDevelopment}
+use Rattle.bk_dev.specs.Facts.{AllAre, binders, is_constant, is_input, is_variable_of, is_variable_above, is_inner_of, home_of, names_own, names_joined, writes_own, IsLink, AreAlike, LoopsStandIn, IsSubOf, IsBodyOf, IsLevelOf, IsLawful, IsFlatDevelopment, OnlyLastIsImplementation}
 use Rattle.bk_dev.specs.Hypotheses.{properties_of, values_at, joining, joinings_of, conditions_of, input_ranges, init_hypotheses, unasserted_hypotheses}
 use Rattle.bk_dev.specs.Claims.{beside, JoinsAt, CarriesFlat}
 use Rattle.bk_gsl.specs.Apart.{AreApart, LocalsAreApart}
@@ -65,11 +65,6 @@ no-loop kind m (loop p s i v) l f = absurd (none kind m l.0)
     none Refinement m l = l
     none Implementation m l = absurd (cc)
 
-upper-kind : (dev : Development) (k : ℕ) → suc k < length dev.levels → (kind : Kind) → IsKindAt dev k kind → is_implementing kind ≡ false
-upper-kind dev k h Machine w = refl
-upper-kind dev k h Refinement w = refl
-upper-kind dev k h Implementation w = absurd (let same : k ≡ last dev = w.1 in omega (arith, same, h))
-
 -- ---- homes: what is of level i or further down stands at no place that is before i
 variable-not-before : (i : ℕ) (o : Option Home) → is_variable_of i o ≡ true → is_before i o ≡ false
 variable-not-before i None h = absurd (cc)
@@ -98,7 +93,7 @@ inner-not-joined i zero (Some (Inner j)) h = refl
 inner-not-joined i (suc k) (Some (Inner j)) h = refl
 
 -- ---- one level below another
-module _ (find : Finder) (law : IsSearch find) (dev : Development) (f : IsLawful dev) (j : ℕ) (below : suc j < length dev.levels) (inputs outs above : List ℕ) (ins : AllAre (λ n. is_input (home_of dev n)) inputs) (lowers : AllAre (λ n. is_inner_of (suc j) (home_of dev n)) outs) (uppers : AllAre (λ n. is_inner_of j (home_of dev n)) above) where
+module _ (find : Finder) (law : IsSearch find) (dev : Development) (f : IsLawful dev) (only : OnlyLastIsImplementation dev) (j : ℕ) (below : suc j < length dev.levels) (inputs outs above : List ℕ) (ins : AllAre (λ n. is_input (home_of dev n)) inputs) (lowers : AllAre (λ n. is_inner_of (suc j) (home_of dev n)) outs) (uppers : AllAre (λ n. is_inner_of j (home_of dev n)) above) where
   abbrev home : ℕ → Option Home
   home n = home_of dev n
 
@@ -172,7 +167,7 @@ module _ (find : Finder) (law : IsSearch find) (dev : Development) (f : IsLawful
         ])
 
     pub upper-no-loop : IsFlat u → HasNoLoop u
-    upper-no-loop flat = no-loop (level_at dev j).kind (upper-kind dev j below (level_at dev j).kind (level_fact dev f j (omega (arith, below))).kind) u upper.loops flat
+    upper-no-loop flat = no-loop (level_at dev j).kind (only j below) u upper.loops flat
 
     -- the box on the diamond, with the upper substitution ending from the start, is what the lower level carries
     carried-by : (r : Formula) → IsPredicate dev.table r → JoinNames r → (w : Substitution) → IsFlat w → Types dev.table w → ((later : ℕ → Bool) → AreApart later s → AreApart later w) → ((e g : State) → Runs find dev.table w e g → Runs find dev.table s e g) → IsFlat u → (e : State) → IsTypedState dev.table e →
@@ -205,7 +200,7 @@ module _ (find : Finder) (table : Table) (b : Body) where
   whole-ends e = elim (is_btrue b.condition) as (λ x. Ends find table (cond x b.sub (pre b.condition b.sub)) e → Ends find table b.sub e) [ true ↦ λ h. h | false ↦ λ h. h.1 ]
 
 -- ---- all levels
-module _ (find : Finder) (law : IsSearch find) (dev : Development) (f : IsLawful dev) (flat : IsFlatDevelopment dev) (boxes : BoxesHold find dev) where
+module _ (find : Finder) (law : IsSearch find) (dev : Development) (f : IsLawful dev) (only : OnlyLastIsImplementation dev) (flat : IsFlatDevelopment dev) (boxes : BoxesHold find dev) where
   abbrev no_head : Head
   no_head = record { name = []; inputs = []; outputs = 0 }
 
@@ -259,7 +254,7 @@ module _ (find : Finder) (law : IsSearch find) (dev : Development) (f : IsLawful
   fewer F e m n p h = flat-if find dev e F m dev.levels (λ i q r. flat-then find dev e F n dev.levels h i (omega (arith, p, q)) r)
 
   not-last : (k : ℕ) → suc k < length dev.levels → is_implementation (level_at dev k) ≡ false
-  not-last k h = upper-kind dev k h (level_at dev k).kind (level k (omega (arith, h))).kind
+  not-last k h = only k h
 
   no-values : (k : ℕ) → is_implementation (level_at dev k) ≡ false → (e : State) → AllHold find (at_state dev.table e) (values_at dev k)
   no-values k h e = subst (λ x. AllHold find (at_state dev.table e) (cond x (map Rattle.bk_dev.specs.Hypotheses.value_equation dev.values) [])) (sym h) tt
@@ -322,7 +317,7 @@ module _ (find : Finder) (law : IsSearch find) (dev : Development) (f : IsLawful
       Ends find dev.table (level_at dev (suc j)).init e × ((g : State) → Runs find dev.table (level_at dev (suc j)).init e g → AnsweredBy (suc j) (level_at dev j).init [] [] g)
   lower-init j h e t hyps ends = let upper : j < length dev.levels = omega (arith, h) in
       let s = (level_at dev (suc j)).init in
-      carried-by find law dev f j h [] [] [] tt tt tt s (level_at dev j).init (level (suc j) h).init (level j upper).init (joining_goal dev (suc j) [] []) (goal-predicate j h [] [] tt) (goal-names j h [] [])
+      carried-by find law dev f only j h [] [] [] tt tt tt s (level_at dev j).init (level (suc j) h).init (level j upper).init (joining_goal dev (suc j) [] []) (goal-predicate j h [] [] tt) (goal-names j h [] [])
       s (flat.init (suc j) h) (level (suc j) h).init.types (λ later a. a) (λ x y r. r) (flat.init j upper) e t (boxes.inits (suc j) h e t hyps) ends
 
   lower-operation : (j : ℕ) → suc j < length dev.levels → (o : ℕ) → o < length dev.heads → (e : State) → IsTypedState dev.table e → AllHold find (at_state dev.table e) (unasserted_hypotheses dev (suc j) o) → Ends find dev.table (body_at dev j o).sub e →
@@ -333,7 +328,7 @@ module _ (find : Finder) (law : IsSearch find) (dev : Development) (f : IsLawful
       let u = body j upper o m in
       let low = body_at dev (suc j) o in
       let high = body_at dev j o in
-      carried-by find law dev f j h (head o).inputs low.outputs high.outputs (inputs-at o) b.outputs u.outputs low.sub high.sub b.sub u.sub (joining_goal dev (suc j) low.outputs high.outputs)
+      carried-by find law dev f only j h (head o).inputs low.outputs high.outputs (inputs-at o) b.outputs u.outputs low.sub high.sub b.sub u.sub (joining_goal dev (suc j) low.outputs high.outputs)
       (goal-predicate j h low.outputs high.outputs (beside-alike dev.table low.outputs high.outputs (body_at dev 0 o).outputs b.output_types u.output_types)) (goal-names j h low.outputs high.outputs)
       (whole low) (whole-flat find dev.table low (flat.bodies (suc j) h o m)) (whole-types find dev.table low b.condition b.sub.types) (whole-apart find dev.table low) (whole-runs find dev.table low) (flat.bodies j upper o m) e t (boxes.operations j h o m e t hyps) ends
 

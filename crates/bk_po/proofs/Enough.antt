@@ -2,7 +2,7 @@
 use Rattle.std.proofs.Common.{◌<◌, ℕ, suc, length, sym, subst}
 use Rattle.bk_form.specs.Search.{Finder, IsSearch}
 use Rattle.bk_dev.specs.Development.{Development}
-use Rattle.bk_dev.specs.Facts.{IsLawful, IsFlatDevelopment}
+use Rattle.bk_dev.specs.Facts.{IsLawful, IsFlatDevelopment, OnlyLastIsImplementation}
 use Rattle.bk_dev.specs.Claims.{KeepsFlat}
 use Rattle.bk_po.specs.Levels.{BoxesHold, AllClean}
 use Rattle.bk_po.specs.Laws.{BoxesCarry, EveryLevelIsCarried}
@@ -11,18 +11,18 @@ use Rattle.bk_dev.proofs.FlatLevels.{flattened_lawful}
 use Rattle.bk_dev.proofs.FlatSame.{levels-many}
 use Rattle.bk_po.proofs.Chain.{machine-init, machine-operation, each-carries}
 
-module _ (find : Finder) (law : IsSearch find) (dev : Development) (f : IsLawful dev) (flat : IsFlatDevelopment dev) (boxes : BoxesHold find dev) (clean : AllClean find dev) where
+module _ (find : Finder) (law : IsSearch find) (dev : Development) (f : IsLawful dev) (only : OnlyLastIsImplementation dev) (flat : IsFlatDevelopment dev) (boxes : BoxesHold find dev) (clean : AllClean find dev) where
   keeps : KeepsFlat find dev
   keeps = record {
-    init = λ e t h. let m = machine-init find law dev f flat boxes e t h in record { ends = m.0; clean = clean.inits 0 f.some_level e t h; results = m.1 };
+    init = λ e t h. let m = machine-init find law dev f only flat boxes e t h in record { ends = m.0; clean = clean.inits 0 f.some_level e t h; results = m.1 };
     conditions = clean.conditions;
-    operations = λ o l e t h i c. let m = machine-operation find law dev f flat boxes o l e t h i c in record { ends = m.0; clean = clean.machine o l e t h i c; results = m.1 };
+    operations = λ o l e t h i c. let m = machine-operation find law dev f only flat boxes o l e t h i c in record { ends = m.0; clean = clean.machine o l e t h i c; results = m.1 };
   }
 
 pub boxes_carry : BoxesCarry
-boxes_carry find law dev f flat boxes clean = record { keeps = keeps find law dev f flat boxes clean; carries = each-carries find law dev f flat boxes clean }
+boxes_carry find law dev f only flat boxes clean = record { keeps = keeps find law dev f only flat boxes clean; carries = each-carries find law dev f only flat boxes clean }
 
 pub every_level_is_carried : EveryLevelIsCarried
 every_level_is_carried find law dev d boxes clean =
-    let w = boxes_carry find law (flattened dev) (flattened_lawful.every dev d) (flattened_lawful.flat dev) boxes clean in
+    let w = boxes_carry find law (flattened dev) (flattened_lawful.every dev d) (flattened_lawful.only_last dev d.only_last) (flattened_lawful.flat dev) boxes clean in
     (w.keeps, λ j h. w.carries j (subst (λ n. suc j < n) (sym (levels-many (length dev.table.variables) dev.levels)) h))

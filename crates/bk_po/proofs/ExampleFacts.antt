@@ -16,6 +16,7 @@ use Rattle.bk_wp.proofs.Steps.{or-cases}
 use Rattle.bk_po.specs.Basic.{IsBasicBody, IsBasic}
 use Rattle.bk_po.specs.Examples.{between, plus, getting, inc_head, get_head, tally_table, may_add, adding, tally, stepping, stepper}
 use Rattle.bk_po.specs.Laws.{ExamplesAreBasic}
+use Rattle.bk_dev.proofs.Levels.{two-levels}
 
 -- ---- what formulas name
 module _ (visible : ℕ → Bool) where
@@ -149,7 +150,7 @@ tally-machine = record {
 
 tally-implementation : IsLevelOf tally 1 (level_at tally 1)
 tally-implementation = record {
-  kind = (omega (arith), refl);
+  kind = omega (arith);
   vars = (refl, tt);
   all = tally-below;
   distinct = (refl, tt);
@@ -178,6 +179,7 @@ tally_lawful = record {
 pub tally_facts : IsDevelopment tally
 tally_facts = record {
   lawful = tally_lawful;
+  only_last = two-levels tally refl refl;
   shapes = ((record { init = tt; bodies = (tt, (tt, tt)) }, (record { init = tt; bodies = (tt, (tt, tt)) }, tt)));
   binders_differ = (refl, (refl, tt));
   room = omega (arith);
@@ -284,7 +286,7 @@ stepper-machine = record {
 
 stepper-implementation : IsLevelOf stepper 1 (level_at stepper 1)
 stepper-implementation = record {
-  kind = (omega (arith), refl);
+  kind = omega (arith);
   vars = (refl, tt);
   all = stepper-below;
   distinct = (refl, tt);
@@ -313,6 +315,7 @@ stepper_lawful = record {
 pub stepper_facts : IsDevelopment stepper
 stepper_facts = record {
   lawful = stepper_lawful;
+  only_last = two-levels stepper refl refl;
   shapes = ((record { init = tt; bodies = ((tt, tt), (tt, tt)) }, (record { init = tt; bodies = ((tt, tt), (tt, tt)) }, tt)));
   binders_differ = (refl, (refl, tt));
   room = omega (arith);

@@ -2,7 +2,7 @@
 use Rattle.std.specs.Prelude.{◌≡◌, ◌<◌, ℕ, pos, suc, true, false, [], ◌∷◌, length, map, codes}
 use Rattle.bk_form.specs.Search.{Finder, IsSearch}
 use Rattle.bk_dev.specs.Development.{Development, is_complete}
-use Rattle.bk_dev.specs.Facts.{IsDevelopment, IsLawful, IsFlatDevelopment}
+use Rattle.bk_dev.specs.Facts.{IsDevelopment, IsLawful, IsFlatDevelopment, OnlyLastIsImplementation}
 use Rattle.bk_dev.specs.Claims.{Keeps, Carries, ValuesMeet}
 use Rattle.bk_dev.specs.Counter.{counter}
 use Rattle.bk_po.specs.Obligations.{numbered_obligations, HasValidObligations, operation_goal}
@@ -56,7 +56,7 @@ ObligationsType = (dev : Development) → IsDevelopment dev → IsBasic dev → 
 -- where the boxes of all levels are true and what is met is defined or fits, the machine keeps its invariant and each level carries the one
 -- above; of a lawful development without ||, and nothing else is asked of it
 abbrev pub BoxesCarry : Type 0
-BoxesCarry = (find : Finder) → IsSearch find → (dev : Development) → IsLawful dev → IsFlatDevelopment dev → BoxesHold find dev → AllClean find dev → LevelsAreCarried find dev
+BoxesCarry = (find : Finder) → IsSearch find → (dev : Development) → IsLawful dev → OnlyLastIsImplementation dev → IsFlatDevelopment dev → BoxesHold find dev → AllClean find dev → LevelsAreCarried find dev
 
 -- so of every development, by that of its flattened, of which Keeps and Carries speak
 abbrev pub EveryLevelIsCarried : Type 0

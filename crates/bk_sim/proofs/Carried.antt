@@ -14,7 +14,7 @@ use Rattle.bk_dev.specs.Counter.{counter_table, counter}
 use Rattle.bk_dev.proofs.CounterFacts.{counter_facts}
 use Rattle.bk_gen.proofs.Counters.{counter_is_simple}
 use Rattle.bk_sim.specs.Laws.{CounterIsCarried, CounterEnds}
-use Rattle.bk_sim.proofs.SimpleCode.{simple_ends}
+use Rattle.bk_sim.proofs.SimpleInB0.{simple_ends}
 
 module _ (find : Finder) where
   abbrev invariant : State → Type 0

@@ -1,5 +1,5 @@
 -- What the cells of a last level without || show is the same after flattening.
-use Rattle.std.proofs.Common.{◌≡◌, ◌<◌, ℕ, ◌-◌, ℤ, pos, negsuc, List, [], ◌∷◌, length, take, drop, refl, sym, ◌∙◌, ap, subst, true, nat_eq, Some, None, Option}
+use Rattle.std.proofs.Common.{◌≡◌, ◌<◌, ℕ, ℤ, pos, negsuc, List, [], ◌∷◌, length, take, drop, refl, sym, ◌∙◌, ap, subst, true, nat_eq, Some, None, Option}
 use Rattle.std.specs.Prelude.{slice_index_or}
 use Rattle.std.specs.List.{list_all}
 use Rattle.bk_val.specs.ValueType.{ValueType, int_type, bool_type, enum_type, pair_type, set_type}
@@ -13,7 +13,8 @@ use Rattle.bk_gsl.proofs.States.{nat_eq-self}
 use Rattle.bk_dev.specs.Development.{Development, level_at, last}
 use Rattle.bk_dev.specs.Layout.{arrays_of, cells_of, cell_variables, cell_of}
 use Rattle.bk_dev.specs.Flattened.{flattened}
-use Rattle.bk_sim.specs.Shows.{number_as, is_of_kind, row_type, cell_type, AreOfKinds, indices, paired, shown_as, shown}
+use Rattle.bk_b0.specs.Kinds.{number_as, is_of_kind, row_type, cell_type}
+use Rattle.bk_statements.specs.Shown.{AreOfKinds, indices, paired, shown_as, shown}
 use Rattle.bk_form.proofs.Members.{or-left, or-right}
 use Rattle.bk_form.specs.Each.{Each}
 use Rattle.bk_dev.proofs.FlatSame.{arrays-same, cell-same, cells-same, declared-same, variables-same}

@@ -13,7 +13,7 @@ use Rattle.bk_form.proofs.Valued.{base-of}
 use Rattle.bk_gsl.specs.State.{holds, declared_type, among}
 use Rattle.bk_form.specs.Predicates.{IsPredicate, AllHold, conjuncts, equation}
 use Rattle.bk_gsl.proofs.States.{nat_eq-self}
-use Rattle.bk_dev.specs.Development.{Head, Body, Level, Development, blank_body, level_at, body_at, last, inputs_of, body_of}
+use Rattle.bk_dev.specs.Development.{Head, Body, Level, Development, blank_body, level_at, body_at, last, inputs_of}
 use Rattle.bk_form.specs.Each.{Each}
 use Rattle.bk_dev.specs.Facts.{IsLiteral, IsValue, IsLink, LastIsFlat, IsLawful}
 use Rattle.bk_dev.specs.Hypotheses.{value_equation, joining, joinings_of}
@@ -25,11 +25,14 @@ use Rattle.bk_code.specs.declared.image.Parameter.{Parameter}
 use Rattle.bk_code.specs.Step.{Config}
 use Rattle.bk_code.specs.Run.{End, Done, Trapped, OutOfFuel}
 use Rattle.bk_code.specs.Session.{first_start, outputs_of}
-use Rattle.bk_sim.specs.Shows.{number_as, shown, Shows, Linked}
-use Rattle.bk_sim.specs.Follows.{as_values, replies, started, IsGood, GoesWell, IsStep, HasOperations, OpensWell, CallsGoWell, Follows, IsEntry}
+use Rattle.bk_b0.specs.Kinds.{number_as}
+use Rattle.bk_statements.specs.Shown.{shown}
+use Rattle.bk_sim.specs.Shows.{Shows, Linked}
+use Rattle.bk_sim.specs.Follows.{as_values, replies, started, IsGood, GoesWell, IsStep, HasOperations, OpensWell, CallsGoWell, Follows}
 use Rattle.bk_form.proofs.Conjuncts.{parts-true, whole-true, true-append, true-first, true-second}
 use Rattle.bk_dev.proofs.Climb.{flat-then, flat-if}
-use Rattle.bk_sim.proofs.Chain.{calls_decide, linked_before}
+use Rattle.bk_sim.specs.Laws.{FollowedWhereFlattened}
+use Rattle.bk_sim.proofs.Chain.{calls_decide}
 use Rattle.bk_form.specs.Wider.{IsTypedRole}
 use Rattle.bk_dev.proofs.Levels.{level_fact, body-at}
 use Rattle.bk_dev.proofs.FlatLevels.{wider}
@@ -38,11 +41,7 @@ use Rattle.bk_gsl.proofs.WiderRuns.{state-narrower}
 use Rattle.bk_form.proofs.Widening.{widening_means, variable-wider, variables_listed, value-same, type-listed}
 use Rattle.bk_dev.proofs.FlatSame.{levels-many, level-is, body-is, maps-same, low-same, declared-same}
 use Rattle.bk_sim.proofs.FlatShown.{kinds-down, kinds-up, shown-same}
-use Rattle.bk_dev.proofs.InTable.{vars-in, inputs-in, outputs-in, low-vars, cells-in-table}
-use Rattle.bk_sim.specs.Within.{EndsInCode, EndsWithin, CallEnds}
-use Rattle.bk_gen.specs.Translation.{operation_code}
-use Rattle.bk_gen.proofs.SameCode.{openings, operations as operation-codes}
-use Rattle.bk_code.specs.declared.image.OpEntry.{OpEntry}
+use Rattle.bk_dev.proofs.InTable.{blank_head, vars-in, inputs-in, outputs-in, low-vars, cells-in-table}
 
 -- ---- ends
 good-so : (image : Image) (fuel : ℕ) (start : Config) (P Q : List ℤ → Type 0) → ((m : List ℤ) → P m → Q m) → (end : End) (d : Config) → IsGood image fuel start P end d → IsGood image fuel start Q end d
@@ -62,9 +61,6 @@ each-in : (P : Body → Type 0) (bs : List Body) → P blank_body → Each P bs 
 each-in P [] d h o = d
 each-in P (b ∷ bs) d h zero = h.0
 each-in P (b ∷ bs) d h (suc o) = each-in P bs d h.1 o
-
-abbrev pub blank_head : Head
-blank_head = record { name = []; inputs = []; outputs = 0 }
 
 each-head : (P : Head → Type 0) (hs : List Head) → P blank_head → Each P hs → (o : ℕ) → P (slice_index_or hs o blank_head)
 each-head P [] d h o = d
@@ -323,23 +319,5 @@ module _ (find : Finder) (dev : Development) (f : IsLawful dev) (well : IsWellFo
       pub follows-down : Follows find dev image
       follows-down = calls_decide find dev image operations opening calls
 
--- ---- ends
-module _ (find : Finder) (dev : Development) (f : IsLawful dev) (b : LastIsFlat dev) (well : IsWellFormed (flattened dev).table) (image : Image) (follows : Follows find dev image) (ends : EndsInCode find (flattened dev) image) where
-  same : level_at (flattened dev) (last (flattened dev)) ≡ level_at dev (last dev)
-  same = low-level find dev f well b
-
-  local-down : (a : Abstract) (m : List ℤ) (c : Call) (entry : OpEntry) → Linked find dev a m → IsCall dev c → Pre find dev c a → IsEntry image c.op entry → CallEnds dev image c entry m
-  local-down a m c entry l is true_before there =
-      let w = ends.local a m c entry (linked-up find dev f well b a m l) (call-up find dev f well b c is) (pre-up find dev f well c is.op a true_before) there in
-      let body = ap (λ (x : Level). length (operation_code (flattened dev) (body_of x c.op))) same in
-      let code = ap length (operation-codes dev f.some_level b.init b.bodies (low-vars dev f) (body_at dev (last dev) c.op)) in
-      subst (λ n. EndsWithin image n (started entry c m)) code (subst (λ n. EndsWithin image n (started entry c m)) body w)
-
-  pub ends-down : EndsInCode find dev image
-  ends-down = record {
-    opening = subst (λ n. EndsWithin image n (first_start image)) (ap length (openings dev f.some_level b.init b.bodies (low-vars dev f))) ends.opening;
-    session = λ fuel l m cs c outs entry begun are is done legal there.
-        let w = linked_before find dev image follows.opening follows.local fuel l m cs c outs begun are done legal in
-        local-down w.0 m c entry w.1 is w.2 there;
-    local = local-down;
-  }
+pub followed_where_flattened : FollowedWhereFlattened
+followed_where_flattened find dev f b well image h = follows-down find dev f well b image h

@@ -11,7 +11,8 @@ use Rattle.bk_code.specs.declared.image.Parameter.{Parameter}
 use Rattle.bk_code.specs.Step.{Config}
 use Rattle.bk_code.specs.Run.{End, Done, Trapped, OutOfFuel, Ends}
 use Rattle.bk_code.specs.Session.{call_start, first_start, outputs_of}
-use Rattle.bk_sim.specs.Shows.{number_as, as_number, Linked}
+use Rattle.bk_b0.specs.Kinds.{number_as, as_number}
+use Rattle.bk_sim.specs.Shows.{Linked}
 
 -- the image's operation of this number
 abbrev pub IsEntry : Image → ℕ → OpEntry → Type 0
@@ -54,7 +55,8 @@ IsBegun image fuel l = (n : ℕ) × (d : Config) × Ends image fuel (first_start
 abbrev pub HasOperations : Development → Image → Type 0
 HasOperations dev image = (o : ℕ) → o < length dev.heads → (entry : OpEntry) × IsEntry image o entry × (length entry.inputs ≡ length (inputs_of dev o)) × (length entry.outputs ≡ length (body_at dev 0 o).outputs)
 
--- the initialisation does not trap, ends with some fuel, and leaves cells that are linked to a state in which the machine opens
+-- the initialisation does not trap, ends with some fuel (since with none it is out of fuel, and so done with more), and leaves cells that
+-- are linked to a state in which the machine opens
 abbrev pub OpensWell : Finder → Development → Image → Type 0
 OpensWell find dev image = (fuel : ℕ) → GoesWell image fuel (first_start image) (λ m. (a : Abstract) × Opens find dev a × Linked find dev a m)
 

@@ -1,10 +1,25 @@
 //! What follows a machine, and what does not. Each law is the contract of a function that does nothing.
 
-ghost use Rattle.bk_sim.specs.Laws.{CallsDecide, SimpleFollows, SimpleEnds, CounterIsCarried, TranslationFollows, CounterEnds, NineDoesNotFollow, FollowedWhereFlattened};
+ghost use Rattle.bk_sim.specs.Laws.{CallsDecide, LawfulFollows, B0Follows, B0Ends, SimpleFollows, SimpleEnds, CounterIsCarried, TranslationFollows, CounterEnds, NineDoesNotFollow, FollowedWhereFlattened, ExchangeIsFollowed, WrongCodesDoNotFollow, TowerIsFollowed};
 
 /// Code follows a machine where it opens well and each call goes well.
 pub fn calls_decide()
     ensures { CallsDecide }
+{}
+
+/// The translation of a lawful development in B0 follows its machine, where its obligations' claims hold.
+pub fn lawful_follows()
+    ensures { LawfulFollows }
+{}
+
+/// So does that of every development in B0.
+pub fn b0_follows()
+    ensures { B0Follows }
+{}
+
+/// Where the claims hold, what has no loop ends within its code.
+pub fn b0_ends()
+    ensures { B0Ends }
 {}
 
 /// The translation of a simple development follows its machine, where its obligations' claims hold.
@@ -28,4 +43,19 @@ pub fn counter()
 /// Whatever follows the flattened development follows the development, where no `||` stands in the last level.
 pub fn flat_developments()
     ensures { FollowedWhereFlattened }
+{}
+
+/// A machine with `||` whose implementation fills and reads an array, has a local and a loop, to be checked by hand.
+pub fn exchange()
+    ensures { ExchangeIsFollowed }
+{}
+
+/// Three wrong codes for a local and a loop.
+pub fn wrong_codes()
+    ensures { WrongCodesDoNotFollow }
+{}
+
+/// An implementation below an implementation, to be checked by hand.
+pub fn tower()
+    ensures { TowerIsFollowed }
 {}

@@ -15,6 +15,7 @@ use Rattle.bk_dev.specs.Development.{level_at}
 use Rattle.bk_dev.specs.Facts.{is_constant, is_variable_of, home_of, Names, names_constants, names_joined, names_own, IsSubOf, IsBodyOf, IsLevelOf, IsHeadOf, IsLawful, IsDevelopment}
 use Rattle.bk_dev.proofs.CounterFacts.{counter_facts}
 use Rattle.bk_tests_code.specs.Choices.{below, inner_choice, outer_choice, not_zero, small_or_above, decision, doing, plain_head, chooser}
+use Rattle.bk_dev.proofs.Levels.{two-levels}
 
 -- ---- what formulas name
 or-cases : (a b : Bool) → a || b ≡ true → (a ≡ true) ⊎ (b ≡ true)
@@ -135,7 +136,7 @@ machine-facts = record {
 
 implementation-facts : IsLevelOf chooser 1 (level_at chooser 1)
 implementation-facts = record {
-  kind = (omega (arith), refl);
+  kind = omega (arith);
   vars = (refl, (refl, tt));
   all = only_two;
   distinct = (refl, (refl, tt));
@@ -167,6 +168,7 @@ chooser_lawful = record {
 pub chooser_facts : IsDevelopment chooser
 chooser_facts = record {
   lawful = chooser_lawful;
+  only_last = two-levels chooser refl refl;
   shapes = (record { init = tt; bodies = (tt, (tt, (tt, tt))) }, (record { init = tt; bodies = (tt, (((tt, tt), tt), ((tt, tt), tt))) }, tt));
   binders_differ = tt;
   room = omega (arith);

@@ -1,5 +1,5 @@
 -- Where the obligations of a basic development are valid, the translation of its implementation follows the machine.
-use Rattle.bk_sim.proofs.SimpleCode.{simple_follows}
+use Rattle.bk_sim.proofs.SimpleInB0.{simple_follows}
 use Rattle.bk_po.proofs.Carrying.{valid_obligations_carry}
 use Rattle.bk_status.proofs.Tables.{proved_obligations_are_valid}
 use Rattle.bkit.specs.Following.{ValidObligationsFollow, ProvedDevelopmentsFollow}

@@ -21,14 +21,16 @@ use Rattle.bk_dev.specs.Development.{Head, Body, Development, blank_body, level_
 use Rattle.bk_dev.specs.Facts.{is_input, home_of, AllAre, IsHeadOf, IsLawful}
 use Rattle.bk_form.specs.Each.{Each}
 use Rattle.bk_dev.specs.Machine.{Abstract, Opens, Call, IsCall, is_in_int, are_in_int, Pre, Steps, After, LegalFrom}
-use Rattle.bk_gen.specs.Simple.{IsSimple}
-use Rattle.bk_gen.specs.Translation.{operation_code, operations_code, init_code, entries, translation}
-use Rattle.bk_gen.proofs.Plain.{type_at_home}
-use Rattle.bk_sim.specs.Shows.{number_as, as_number, Linked}
-use Rattle.bk_sim.specs.Within.{EndsWithin, EndsInCode}
+use Rattle.bk_b0.specs.Simple.{IsSimple}
+use Rattle.bk_b0.specs.Translation.{operation_code, operations_code, init_code, entries, translation}
+use Rattle.bk_b0.proofs.Whole.{type_at_home}
+use Rattle.bk_b0.specs.Kinds.{number_as, as_number}
+use Rattle.bk_sim.specs.Shows.{Linked}
+use Rattle.bk_statements.specs.Within.{EndsWithin}
+use Rattle.bk_sim.specs.Within.{EndsInCode}
 use Rattle.bk_sim.specs.Follows.{IsEntry, as_values, replies, started, IsGood, IsStep, Follows}
 use Rattle.bk_dev.proofs.Levels.{each-at}
-use Rattle.bk_sim.proofs.SimpleCode.{simple_ends}
+use Rattle.bk_sim.proofs.SimpleInB0.{simple_ends}
 use Rattle.bk_calls.specs.Script.{AsksFor}
 use Rattle.bk_status.proofs.Tables.{proved_developments_are_correct}
 use Rattle.bk_lines.specs.Lines.{kept_lines}

@@ -8,7 +8,7 @@ use Rattle.bk_code.specs.Run.{End, Done, Trapped, OutOfFuel}
 use Rattle.bk_code.specs.Session.{Request, Told, Session}
 use Rattle.bk_code.proofs.Sessions.{one_session}
 use Rattle.bk_dev.specs.Development.{Development}
-use Rattle.bk_gen.specs.Translation.{translation}
+use Rattle.bk_b0.specs.Translation.{translation}
 use Rattle.bk_front.specs.ProjectFile.{NamesFiles}
 use Rattle.bk_front.specs.Project.{Reads}
 use Rattle.bk_front.proofs.ProjectFiles.{names_once}

@@ -10,7 +10,7 @@ use Rattle.bk_code.specs.Session.{Request}
 use Rattle.bk_lines.specs.Lines.{kept_lines, is_skipped}
 use Rattle.bk_form.specs.Search.{Finder, IsSearch}
 use Rattle.bk_dev.specs.Development.{Head, Body, Development, level_at, last}
-use Rattle.bk_gen.specs.Translation.{translation, entries, init_code, operation_code}
+use Rattle.bk_b0.specs.Translation.{translation, entries, init_code, operation_code}
 use Rattle.bk_sim.specs.Follows.{Follows}
 use Rattle.bk_front.specs.declared.project_file.ProjectLine.{ProjectLine}
 use Rattle.bk_front.specs.ProjectFile.{IsFileName, IsProjectLine, NamesFiles, AreProjectLines, is_proofs, files_of}

@@ -1,10 +1,10 @@
 -- What a run is, and that its legal calls are done.
-use Rattle.std.proofs.Common.{◌≡◌, ℕ, inl, inr, List, Option, sym, ◌∙◌, ap, subst}
+use Rattle.std.proofs.Common.{◌≡◌, ℕ, inl, inr, List, Option, ◌∙◌, ap, subst}
 use Rattle.bk_io.specs.Files.{Files}
 use Rattle.bk_code.specs.declared.image.Image.{Image}
 use Rattle.bk_code.specs.Session.{Request, Session}
 use Rattle.bk_code.proofs.Sessions.{one_session}
-use Rattle.bk_gen.specs.Translation.{translation}
+use Rattle.bk_b0.specs.Translation.{translation}
 use Rattle.bk_calls.specs.Transcript.{transcript}
 use Rattle.bkit.specs.declared.status.Status.{Status}
 use Rattle.bkit.specs.declared.status.Status.TheVariants.{Done}

@@ -3,8 +3,8 @@ use Rattle.std.specs.Prelude.{List}
 use Rattle.bk_form.specs.Search.{Finder, IsSearch}
 use Rattle.bk_dev.specs.Development.{Development}
 use Rattle.bk_dev.specs.Facts.{IsDevelopment}
-use Rattle.bk_gen.specs.Simple.{IsSimple}
-use Rattle.bk_gen.specs.Translation.{translation}
+use Rattle.bk_b0.specs.Simple.{IsSimple}
+use Rattle.bk_b0.specs.Translation.{translation}
 use Rattle.bk_sim.specs.Follows.{Follows}
 use Rattle.bk_po.specs.Obligations.{HasValidObligations}
 use Rattle.bk_po.specs.Basic.{IsBasic}

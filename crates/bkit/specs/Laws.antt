@@ -3,7 +3,7 @@ use Rattle.std.specs.Prelude.{◌≡◌, ℕ, List}
 use Rattle.bk_io.specs.Files.{Files}
 use Rattle.bk_form.specs.Search.{Finder, IsSearch}
 use Rattle.bk_dev.specs.Development.{Development}
-use Rattle.bk_gen.specs.Translation.{translation}
+use Rattle.bk_b0.specs.Translation.{translation}
 use Rattle.bk_sim.specs.Within.{EndsInCode}
 use Rattle.bk_scripts.specs.WrittenRule.{Script}
 use Rattle.bkit.specs.declared.status.Status.{Status}

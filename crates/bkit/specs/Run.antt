@@ -7,7 +7,7 @@ use Rattle.bk_code.specs.declared.image.Image.{Image}
 use Rattle.bk_code.specs.Session.{Request, Told, Session}
 use Rattle.bk_form.specs.Search.{Finder, IsSearch}
 use Rattle.bk_dev.specs.Development.{Development}
-use Rattle.bk_gen.specs.Translation.{translation}
+use Rattle.bk_b0.specs.Translation.{translation}
 use Rattle.bk_front.specs.ProjectFile.{NamesFiles}
 use Rattle.bk_front.specs.Project.{Reads}
 use Rattle.bk_sim.specs.Follows.{Follows}

@@ -3,7 +3,7 @@
 ghost use Rattle.std.specs.Prelude.{◌≡◌, ◌⊎◌, ◌≤◌, ◌<◌, ◌^◌, ℕ, List, All, length, map, [], Some, IfOk, IfErr};
 ghost use Rattle.bk_io.specs.Files.{Files};
 ghost use Rattle.bk_io.specs.Counts.{HasCause};
-ghost use Rattle.bk_gen.specs.Simple.{IsSimple};
+ghost use Rattle.bk_b0.specs.Simple.{IsSimple};
 ghost use Rattle.bk_po.specs.Basic.{IsBasic};
 ghost use Rattle.bk_front.specs.ProjectFile.{IsFileName, AreProjectLines, files_of};
 ghost use Rattle.bk_front.specs.Project.{Reads, IsRefusal};

@@ -1,5 +1,5 @@
 use Rattle.std.proofs.Common.{◌≡◌, ◌+◌, ◌-◌, ◌≤◌, ◌^◌, min, drop}
-use Rattle.bk_gen.specs.Plain.{blocks_size}
+use Rattle.bk_gen.specs.Sizes.{blocks_size}
 use Rattle.bk_gen.proofs.image.added_sizes.Given as goal
 
 abbrev pub invariant-loop-body : goal.invariant-loop-body

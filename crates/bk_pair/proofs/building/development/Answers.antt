@@ -2,7 +2,7 @@ use Rattle.std.proofs.Common.{◌≡◌, ◌≤◌, [], ◌∷◌, length, ap, s
 use Rattle.bk_form.specs.Table.{Table}
 use Rattle.bk_dev.specs.Development.{Development}
 use Rattle.bk_dev.specs.Facts.{IsDevelopment}
-use Rattle.bk_gen.specs.Simple.{IsSimple}
+use Rattle.bk_b0.specs.Simple.{IsSimple}
 use Rattle.bk_po.specs.Basic.{IsBasic}
 use Rattle.bk_comp.specs.Components.{Component, place_behind_all, variable_of}
 use Rattle.bk_pair.specs.Developments.{upper_variables, heads_from, development_of}

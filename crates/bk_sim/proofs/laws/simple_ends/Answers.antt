@@ -1,4 +1,4 @@
-use Rattle.bk_sim.proofs.SimpleCode.{simple_ends}
+use Rattle.bk_sim.proofs.SimpleInB0.{simple_ends}
 use Rattle.bk_sim.proofs.laws.simple_ends.Goals as goal
 
 pub returns : goal.returns

@@ -1,4 +1,4 @@
-use Rattle.bk_sim.proofs.SimpleCode.{simple_follows}
+use Rattle.bk_sim.proofs.SimpleInB0.{simple_follows}
 use Rattle.bk_sim.proofs.laws.simple_follows.Goals as goal
 
 pub returns : goal.returns

@@ -1,0 +1,16 @@
+-- What the cells of an implementation hold, and what is in B0, as statements.
+use Rattle.bk_dev.specs.B0.{IsB0Development}
+use Rattle.bk_dev.specs.Development.{Development}
+use Rattle.bk_dev.specs.Facts.{IsLawful}
+use Rattle.bk_b0.specs.Cells.{ValuesHaveKinds, ArraysHaveCells, ArraysAreTyped}
+use Rattle.bk_b0.specs.Simple.{IsSimple}
+
+-- of a lawful development the constants' values are of their types, and each array has cells and the type of its indices
+pub record CellsAreTyped : Type 0 where
+  pub constants : (dev : Development) → IsLawful dev → ValuesHaveKinds dev dev.values
+  pub arrays : (dev : Development) → IsLawful dev → ArraysHaveCells dev
+  pub types : (dev : Development) → IsLawful dev → ArraysAreTyped dev
+
+-- what is translated so far is in B0
+abbrev pub SimpleIsInB0 : Type 0
+SimpleIsInB0 = (dev : Development) → IsSimple dev → IsB0Development dev

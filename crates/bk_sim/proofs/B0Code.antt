@@ -1,0 +1,93 @@
+-- The translation of every development in B0 follows it, with || in the levels above or without.
+use Rattle.std.proofs.Common.{◌≡◌, ◌<◌, ◌≤◌, ℕ, suc, ℤ, List, length, sym, ap, subst, arith}
+use Rattle.bk_form.specs.Search.{Finder}
+use Rattle.bk_form.specs.Table.{IsWellFormed}
+use Rattle.bk_dev.specs.B0.{IsB0Development}
+use Rattle.bk_dev.specs.Development.{Level, Development, level_at, body_of, body_at, last}
+use Rattle.bk_dev.specs.Facts.{IsLawful, LastIsFlat}
+use Rattle.bk_dev.specs.Flattened.{flattened}
+use Rattle.bk_dev.specs.Claims.{CarriesFlat, Keeps, Carries, ValuesMeet}
+use Rattle.bk_dev.specs.Machine.{Abstract, Call, IsCall, Pre}
+use Rattle.bk_dev.proofs.FlatB0.{flattened_stays_in_b0, last-flat}
+use Rattle.bk_dev.proofs.FlatLevels.{lawful}
+use Rattle.bk_dev.proofs.FlatSame.{levels-many}
+use Rattle.bk_dev.proofs.InTable.{low-vars}
+use Rattle.bk_dev.proofs.Room.{development-formed}
+use Rattle.bk_code.specs.declared.image.Image.{Image}
+use Rattle.bk_code.specs.declared.image.OpEntry.{OpEntry}
+use Rattle.bk_code.specs.Session.{first_start}
+use Rattle.bk_b0.specs.Translation.{operation_code, init_code, translation}
+use Rattle.bk_gen.proofs.SameCode.{codes-same, openings, operations as operation-codes}
+use Rattle.bk_sim.specs.Shows.{Linked}
+use Rattle.bk_sim.specs.Follows.{IsEntry, started, Follows}
+use Rattle.bk_statements.specs.Within.{HasNoLoop, EndsWithin}
+use Rattle.bk_sim.specs.Within.{CallEnds, EndsWithoutLoops}
+use Rattle.bk_sim.specs.Laws.{LawfulFollows, B0Follows, B0Ends}
+use Rattle.bk_sim.proofs.Chain.{linked_before}
+use Rattle.bk_sim.proofs.Machine.{image-follows, image-ends}
+use Rattle.bk_sim.proofs.Moving.{low-level, meet-down, pre-up, linked-up, call-up, follows-down}
+
+-- ---- what ends in the flattened ends in the development
+module _ (find : Finder) (dev : Development) (f : IsLawful dev) (b : LastIsFlat dev) (well : IsWellFormed (flattened dev).table) (image : Image) (follows : Follows find dev image) (ends : EndsWithoutLoops find (flattened dev) image) where
+  same : level_at (flattened dev) (last (flattened dev)) ≡ level_at dev (last dev)
+  same = low-level find dev f well b
+
+  opening-down : HasNoLoop (level_at dev (last dev)).init → EndsWithin image (length (init_code dev)) (first_start image)
+  opening-down h = subst (λ n. EndsWithin image n (first_start image)) (ap length (openings dev f.some_level b.init b.bodies (low-vars dev f))) (ends.opening (subst (λ (l : Level). HasNoLoop l.init) (sym same) h))
+
+  local-down : (a : Abstract) (m : List ℤ) (c : Call) (entry : OpEntry) → HasNoLoop (body_at dev (last dev) c.op).sub → Linked find dev a m → IsCall dev c → Pre find dev c a → IsEntry image c.op entry → CallEnds dev image c entry m
+  local-down a m c entry h l is true_before there =
+      let w = ends.local a m c entry (subst (λ (x : Level). HasNoLoop (body_of x c.op).sub) (sym same) h) (linked-up find dev f well b a m l) (call-up find dev f well b c is) (pre-up find dev f well c is.op a true_before) there in
+      let body = ap (λ (x : Level). length (operation_code (flattened dev) (body_of x c.op))) same in
+      let code = ap length (operation-codes dev f.some_level b.init b.bodies (low-vars dev f) (body_at dev (last dev) c.op)) in
+      subst (λ n. EndsWithin image n (started entry c m)) code (subst (λ n. EndsWithin image n (started entry c m)) body w)
+
+  unlooped-down : EndsWithoutLoops find dev image
+  unlooped-down = record {
+    opening = opening-down;
+    session = λ fuel l m cs c outs entry h begun are is done legal there.
+        let w = linked_before find dev image follows.opening follows.local fuel l m cs c outs begun are done legal in
+        local-down w.0 m c entry h w.1 is w.2 there;
+    local = local-down;
+  }
+
+-- ---- the flattened, whose substitutions are taken as they are, and so the development
+module _ (find : Finder) (dev : Development) (f : IsLawful dev) (well : IsWellFormed (flattened dev).table) (b : IsB0Development dev) (meet : ValuesMeet find dev) (keeps : Keeps find dev) (carries : (j : ℕ) → suc j < length dev.levels → Carries find dev j) where
+  flat-law : IsLawful (flattened dev)
+  flat-law = lawful dev f well
+
+  flat-in-b0 : IsB0Development (flattened dev)
+  flat-in-b0 = flattened_stays_in_b0 dev f well b
+
+  many : length (flattened dev).levels ≡ length dev.levels
+  many = levels-many (length dev.table.variables) dev.levels
+
+  flat-carries : (j : ℕ) → suc j ≤ last (flattened dev) → CarriesFlat find (flattened dev) j
+  flat-carries j h =
+      let some : 0 < length (flattened dev).levels = flat-law.some_level in
+      let same = many in
+      carries j (omega (arith, h, some, same))
+
+  codes : translation (flattened dev) ≡ translation dev
+  codes = codes-same dev f (last-flat dev b)
+
+  followed : Follows find dev (translation dev)
+  followed = follows-down find dev f well (last-flat dev b) (translation dev)
+      (subst (Follows find (flattened dev)) codes (image-follows find (flattened dev) flat-law flat-in-b0 (meet-down find dev f well meet) keeps flat-carries))
+
+  ended : EndsWithoutLoops find dev (translation dev)
+  ended = unlooped-down find dev f (last-flat dev b) well (translation dev) followed
+      (subst (EndsWithoutLoops find (flattened dev)) codes (image-ends find (flattened dev) flat-law flat-in-b0 (meet-down find dev f well meet) keeps flat-carries))
+
+pub lawful_follows : LawfulFollows
+lawful_follows = record {
+  follows = λ find dev f well b meet keeps carries. followed find dev f well b meet keeps carries;
+  ends = λ find dev f well b meet keeps carries. ended find dev f well b meet keeps carries;
+}
+
+-- ---- every development
+pub b0_follows : B0Follows
+b0_follows find dev d b meet keeps carries = followed find dev d.lawful (development-formed dev d) b meet keeps carries
+
+pub b0_ends : B0Ends
+b0_ends find dev d b meet keeps carries = ended find dev d.lawful (development-formed dev d) b meet keeps carries

@@ -1,0 +1,4 @@
+pub mod Shown
+pub mod Placed
+pub mod Within
+pub mod Statements
