@@ -59,10 +59,11 @@ fn gives(
 #[test]
 fn preconditions(rt: HostRuntime) -> Result<(), Fail> {
     let alloc = rt.alloc();
-    let sub = Sub::pre(alloc, is(alloc, 1)?, becomes_two(alloc)?)?;
+    let post = is(alloc, 2)?;
     let its_box = tested(alloc, BinOp::And, two_is(alloc, 2)?)?;
     let its_diamond = tested(alloc, BinOp::Imp, two_is(alloc, 2)?)?;
-    assert!(rt; gives(alloc, &sub, &is(alloc, 2)?, &its_box, &its_diamond)?);
+    let sub = Sub::pre(alloc, is(alloc, 1)?, becomes_two(alloc)?)?;
+    assert!(rt; gives(alloc, &sub, &post, &its_box, &its_diamond)?);
     Ok(())
 }
 
@@ -70,10 +71,11 @@ fn preconditions(rt: HostRuntime) -> Result<(), Fail> {
 #[test]
 fn guards(rt: HostRuntime) -> Result<(), Fail> {
     let alloc = rt.alloc();
-    let sub = Sub::guard(alloc, is(alloc, 1)?, becomes_two(alloc)?)?;
+    let post = is(alloc, 2)?;
     let its_box = tested(alloc, BinOp::Imp, two_is(alloc, 2)?)?;
     let its_diamond = tested(alloc, BinOp::And, two_is(alloc, 2)?)?;
-    assert!(rt; gives(alloc, &sub, &is(alloc, 2)?, &its_box, &its_diamond)?);
+    let sub = Sub::guard(alloc, is(alloc, 1)?, becomes_two(alloc)?)?;
+    assert!(rt; gives(alloc, &sub, &post, &its_box, &its_diamond)?);
     Ok(())
 }
 
@@ -81,10 +83,11 @@ fn guards(rt: HostRuntime) -> Result<(), Fail> {
 #[test]
 fn choices(rt: HostRuntime) -> Result<(), Fail> {
     let alloc = rt.alloc();
-    let sub = Sub::choice(alloc, becomes_two(alloc)?, Sub::skip())?;
+    let post = is(alloc, 1)?;
     let its_box = binary(alloc, BinOp::And, two_is(alloc, 1)?, is(alloc, 1)?)?;
     let its_diamond = binary(alloc, BinOp::Or, two_is(alloc, 1)?, is(alloc, 1)?)?;
-    assert!(rt; gives(alloc, &sub, &is(alloc, 1)?, &its_box, &its_diamond)?);
+    let sub = Sub::choice(alloc, becomes_two(alloc)?, Sub::skip())?;
+    assert!(rt; gives(alloc, &sub, &post, &its_box, &its_diamond)?);
     Ok(())
 }
 
@@ -100,10 +103,11 @@ fn branched(alloc: Global, outer: BinOp, inner: BinOp) -> Result<Form, Memory> {
 #[test]
 fn branches(rt: HostRuntime) -> Result<(), Fail> {
     let alloc = rt.alloc();
-    let sub = Sub::if_else(alloc, is(alloc, 1)?, becomes_two(alloc)?, Sub::skip())?;
+    let post = is(alloc, 2)?;
     let its_box = branched(alloc, BinOp::And, BinOp::Imp)?;
     let its_diamond = branched(alloc, BinOp::Or, BinOp::And)?;
-    assert!(rt; gives(alloc, &sub, &is(alloc, 2)?, &its_box, &its_diamond)?);
+    let sub = Sub::if_else(alloc, is(alloc, 1)?, becomes_two(alloc)?, Sub::skip())?;
+    assert!(rt; gives(alloc, &sub, &post, &its_box, &its_diamond)?);
     Ok(())
 }
 
@@ -111,10 +115,10 @@ fn branches(rt: HostRuntime) -> Result<(), Fail> {
 #[test]
 fn sequences(rt: HostRuntime) -> Result<(), Fail> {
     let alloc = rt.alloc();
-    let first = becomes(alloc, 1, variable(alloc, 0)?)?;
-    let sub = Sub::seq(alloc, first, becomes_two(alloc)?)?;
     let post = of_variables(alloc, BinOp::Eq, 0, 1)?;
     let before = binary(alloc, BinOp::Eq, literal(alloc, 2)?, variable(alloc, 0)?)?;
+    let first = becomes(alloc, 1, variable(alloc, 0)?)?;
+    let sub = Sub::seq(alloc, first, becomes_two(alloc)?)?;
     assert!(rt; gives(alloc, &sub, &post, &before, &before)?);
     Ok(())
 }
@@ -123,12 +127,13 @@ fn sequences(rt: HostRuntime) -> Result<(), Fail> {
 #[test]
 fn assertions(rt: HostRuntime) -> Result<(), Fail> {
     let alloc = rt.alloc();
-    let sub = Sub::assertion(alloc, is(alloc, 1)?, becomes_two(alloc)?)?;
+    let post = is(alloc, 2)?;
     let inner = tested(alloc, BinOp::Imp, two_is(alloc, 2)?)?;
     let its_box = tested(alloc, BinOp::And, inner)?;
     let inner = tested(alloc, BinOp::And, two_is(alloc, 2)?)?;
     let its_diamond = tested(alloc, BinOp::Imp, inner)?;
-    assert!(rt; gives(alloc, &sub, &is(alloc, 2)?, &its_box, &its_diamond)?);
+    let sub = Sub::assertion(alloc, is(alloc, 1)?, becomes_two(alloc)?)?;
+    assert!(rt; gives(alloc, &sub, &post, &its_box, &its_diamond)?);
     Ok(())
 }
 
@@ -158,8 +163,10 @@ fn is_too_large(alloc: Global, nodes: u32) -> Result<bool, Memory>
 {
     let types = VarTable::new(alloc);
     let post = of_size(alloc, nodes)?;
-    let all = boxed(alloc, &types, &Sub::skip(), post.copy(alloc)?).err();
-    let some = diamond(alloc, &types, &Sub::skip(), post).err();
+    let copy = post.copy(alloc)?;
+    let skip = Sub::skip();
+    let all = boxed(alloc, &types, &skip, copy).err();
+    let some = diamond(alloc, &types, &skip, post).err();
     Ok(all == Some(WpFault::TooLarge) && some == Some(WpFault::TooLarge))
 }
 
@@ -251,8 +258,8 @@ fn sums(rt: HostRuntime) -> Result<(), Fail> {
 #[test]
 fn copies(rt: HostRuntime) -> Result<(), Fail> {
     let alloc = rt.alloc();
-    let sub = takes(alloc, variable(alloc, 1)?)?;
     let nothing = always(alloc)?;
+    let sub = takes(alloc, variable(alloc, 1)?)?;
     assert!(rt; is_asked(alloc, &sub, &nothing)?);
     Ok(())
 }
@@ -268,9 +275,8 @@ fn decrement(alloc: Global) -> Result<Sub, Memory>
 #[test]
 fn sums_in_the_first_branch(rt: HostRuntime) -> Result<(), Fail> {
     let alloc = rt.alloc();
-    let test = below_one(alloc)?;
-    let sub = Sub::if_else(alloc, test.copy(alloc)?, decrement(alloc)?, Sub::skip())?;
-    let condition = range_where(alloc, test, BinOp::Sub, 1)?;
+    let condition = range_where(alloc, below_one(alloc)?, BinOp::Sub, 1)?;
+    let sub = Sub::if_else(alloc, below_one(alloc)?, decrement(alloc)?, Sub::skip())?;
     assert!(rt; is_asked(alloc, &sub, &condition)?);
     Ok(())
 }
@@ -279,9 +285,9 @@ fn sums_in_the_first_branch(rt: HostRuntime) -> Result<(), Fail> {
 #[test]
 fn sums_in_the_second_branch(rt: HostRuntime) -> Result<(), Fail> {
     let alloc = rt.alloc();
-    let test = below_one(alloc)?;
-    let sub = Sub::if_else(alloc, test, Sub::skip(), decrement(alloc)?)?;
     let condition = range_where(alloc, not_below_one(alloc)?, BinOp::Sub, 1)?;
+    let no = decrement(alloc)?;
+    let sub = Sub::if_else(alloc, below_one(alloc)?, Sub::skip(), no)?;
     assert!(rt; is_asked(alloc, &sub, &condition)?);
     Ok(())
 }
@@ -290,9 +296,9 @@ fn sums_in_the_second_branch(rt: HostRuntime) -> Result<(), Fail> {
 #[test]
 fn values_under_preconditions(rt: HostRuntime) -> Result<(), Fail> {
     let alloc = rt.alloc();
+    let nothing = always(alloc)?;
     let body = takes(alloc, variable(alloc, 1)?)?;
     let sub = Sub::pre(alloc, below_one(alloc)?, body)?;
-    let nothing = always(alloc)?;
     assert!(rt; is_asked(alloc, &sub, &nothing)?);
     Ok(())
 }
@@ -301,8 +307,8 @@ fn values_under_preconditions(rt: HostRuntime) -> Result<(), Fail> {
 #[test]
 fn sums_under_no_precondition(rt: HostRuntime) -> Result<(), Fail> {
     let alloc = rt.alloc();
-    let sub = Sub::pre(alloc, always(alloc)?, decrement(alloc)?)?;
     let condition = in_range(alloc, &with_number(alloc, BinOp::Sub, 1, 1)?)?;
+    let sub = Sub::pre(alloc, always(alloc)?, decrement(alloc)?)?;
     assert!(rt; is_asked(alloc, &sub, &condition)?);
     Ok(())
 }
@@ -319,9 +325,9 @@ fn becomes_one(alloc: Global) -> Result<Sub, Memory>
 #[test]
 fn sums_after_others(rt: HostRuntime) -> Result<(), Fail> {
     let alloc = rt.alloc();
-    let sub = Sub::seq(alloc, becomes_one(alloc)?, decrement(alloc)?)?;
     let difference = binary(alloc, BinOp::Sub, literal(alloc, 1)?, literal(alloc, 1)?)?;
     let condition = in_range(alloc, &difference)?;
+    let sub = Sub::seq(alloc, becomes_one(alloc)?, decrement(alloc)?)?;
     assert!(rt; is_asked(alloc, &sub, &condition)?);
     Ok(())
 }
@@ -340,8 +346,8 @@ fn either_below(alloc: Global) -> Result<Form, Memory>
 #[test]
 fn sums_in_tests(rt: HostRuntime) -> Result<(), Fail> {
     let alloc = rt.alloc();
-    let sub = Sub::if_else(alloc, either_below(alloc)?, Sub::skip(), Sub::skip())?;
     let condition = range_where(alloc, not_below_one(alloc)?, BinOp::Add, 1)?;
+    let sub = Sub::if_else(alloc, either_below(alloc)?, Sub::skip(), Sub::skip())?;
     assert!(rt; is_asked(alloc, &sub, &condition)?);
     Ok(())
 }
