@@ -1,14 +1,11 @@
 -- A term's formula has at most two nodes for each of the term's.
-use Rattle.std.proofs.Common.{◌≡◌, ℕ, ◌+◌, ◌*◌, ◌<◌, ◌≤◌, Option, None, Some, Bool, true, false, cond, arith, refl, sym, ap, subst, ◌∙◌}
+use Rattle.std.proofs.Common.{◌≡◌, ℕ, ◌+◌, ◌*◌, ◌<◌, ◌≤◌, Option, None, Some, Bool, true, false, cond, arith, refl, ◌∙◌}
 use Rattle.std.specs.Prelude.{ℤ, ◌^◌, ◌&&◌, int_le, neg_ℤ, List}
 use Rattle.std.specs.Option.{option_map}
-use Rattle.bk_form.specs.Formula.{Formula, formula_size, literal, variable, unary, binary}
+use Rattle.bk_form.specs.Formula.{Formula, formula_size, literal, variable}
 use Rattle.bk_form.specs.declared.operator.BinOp.{BinOp}
-use Rattle.bk_form.specs.declared.operator.BinOp.TheVariants.{And as Conjunction, Eq, Lt, Le, In, Range, Add, Sub}
-use Rattle.bk_form.specs.declared.operator.UnOp.TheVariants.{Not as Negation}
-use Rattle.bk_form.specs.declared.operator.UnOp.{UnOp}
-use Rattle.bk_raw.specs.declared.operator.InfixOp.{InfixOp}
-use Rattle.bk_raw.specs.declared.operator.InfixOp.TheVariants.{And, Equal, NotEqual, Less, AtMost, Greater, AtLeast, Member, Interval, Plus, Minus}
+use Rattle.bk_form.specs.declared.operator.BinOp.TheVariants.{And as Conjunction, Eq, In, Range}
+use Rattle.bk_raw.specs.declared.operator.InfixOp.TheVariants.{Interval}
 use Rattle.bk_raw.specs.declared.operator.WordOp.TheVariants.{Not}
 use Rattle.bk_raw.specs.RawTree.{RawTree, raw, tree_size, raw_name, raw_level_name, raw_number, raw_word, raw_infix}
 use Rattle.bk_elab.specs.declared.meaning.Meaning.{Meaning}

@@ -1,6 +1,6 @@
 -- Where a part passes a limit, what it is a part of does.
-use Rattle.std.proofs.Common.{◌≡◌, ℕ, Option, None, Some, Bool, true, false, arith, refl, sym, ap, ◌∙◌, subst}
-use Rattle.bk_form.specs.Formula.{Formula, formula_size, formula_height, unary, binary}
+use Rattle.std.proofs.Common.{◌≡◌, ℕ, Option, None, Some, Bool, arith, refl, sym, ap, ◌∙◌, subst}
+use Rattle.bk_form.specs.Formula.{Formula, unary, binary}
 use Rattle.bk_form.specs.declared.operator.BinOp.{BinOp}
 use Rattle.bk_form.specs.declared.operator.BinOp.TheVariants.{And as Conjunction}
 use Rattle.bk_form.specs.declared.operator.UnOp.TheVariants.{Not as Negation}

@@ -1,6 +1,5 @@
 -- The variables of [S]R and <S>R: those of R and those that S reads.
-use Rattle.std.proofs.Common.{◌≡◌, ◌⊎◌, inl, inr, ℕ, ◌+◌, List, [], ◌∷◌, ◌++◌, length, map, refl, sym, ◌∙◌, ap, subst, Bool, true, false, not, ◌||◌, cond, nat_eq, arith}
-use Rattle.std.proofs.lemmas.Bool.Decides.{nat_tests}
+use Rattle.std.proofs.Common.{◌≡◌, ◌⊎◌, inl, inr, ℕ, ◌+◌, List, [], ◌∷◌, ◌++◌, length, map, refl, ◌∙◌, subst, Bool, true, false, ◌||◌, cond, nat_eq}
 use Rattle.bk_form.specs.Table.{Table}
 use Rattle.bk_form.specs.Formula.{Formula, variable, bound, named, unary, binary, for_all, for_some, comprehension, lambda, Formulas, no_formulas, formula_and}
 use Rattle.bk_form.specs.declared.operator.UnOp.TheVariants.{Not}
@@ -9,10 +8,10 @@ use Rattle.bk_form.specs.declared.operator.Domain.TheVariants.{Natural}
 use Rattle.bk_form.specs.Replacement.{replaced, all_replaced, occurs, any_occurs, count, looked_up}
 use Rattle.bk_gsl.specs.Substitution.{Substitution, skip, assign, pre, guard, choice, if_else, any, seq, par, assert, becomes_such, loop}
 use Rattle.bk_gsl.specs.State.{among, firsts}
-use Rattle.bk_gsl.specs.Reads.{variables_of, all_variables_of, variables_of_terms, outside, read}
+use Rattle.bk_gsl.specs.Reads.{variables_of, variables_of_terms, outside, read}
 use Rattle.bk_gsl.specs.Run.{old_of}
 use Rattle.bk_gsl.specs.Writes.{writes}
-use Rattle.bk_gsl.proofs.States.{cases, clash, nat_eq-same, nat_eq-self, among-append}
+use Rattle.bk_gsl.proofs.States.{clash, nat_eq-same, nat_eq-self}
 use Rattle.bk_bind.specs.Closing.{closed_over, all_closed_over, closed_over_each}
 use Rattle.bk_wp.specs.Quantifiers.{all_of, some_of, all_written}
 use Rattle.bk_wp.specs.Box.{new_values, all_new, some_new, variant_before, box, diamond}

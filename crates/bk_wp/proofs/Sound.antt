@@ -1,5 +1,5 @@
 -- Substitutions with loops.
-use Rattle.std.proofs.Common.{◌≡◌, inl, inr, ℕ, List, [], ◌∷◌, sym, subst, Bool, true, false, ◌||◌, cond, nat_eq}
+use Rattle.std.proofs.Common.{◌≡◌, inl, inr, ℕ, List, [], ◌∷◌, subst, Bool, true, false, ◌||◌, cond, nat_eq}
 use Rattle.bk_val.specs.Value.{MathValue}
 use Rattle.bk_val.specs.ValueType.{int_type}
 use Rattle.bk_form.specs.Table.{Table, IsWellFormed}

@@ -1,4 +1,4 @@
-use Rattle.std.proofs.Common.{◌≡◌, ◌-◌, rules, arith, sym, subst, List, ◌∷◌, ℤ, pos, get_or, FitsSigned, w64}
+use Rattle.std.proofs.Common.{◌≡◌, ◌-◌, rules, subst, ◌∷◌, ℤ, pos, get_or, FitsSigned, w64}
 use Rattle.std.specs.Prelude.{All}
 use Rattle.std.proofs.lemmas.Int.{to_z-of_z}
 use Rattle.std.proofs.lemmas.List.Elements.{All-head, All-tail}
