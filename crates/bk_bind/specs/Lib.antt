@@ -3,3 +3,6 @@ pub mod Same
 pub mod Valid
 pub mod Closing
 pub mod Opening
+pub mod Lifting
+pub mod Renaming
+pub mod Laws

@@ -1,13 +1,13 @@
 //! Formulas made of one or two others, within the limits.
 
 ghost use Rattle.std.specs.Prelude.{◌≡◌, Err, IfOk, OnOk};
-ghost use Rattle.bk_form.specs.Formula.{unary, binary};
+ghost use Rattle.bk_form.specs.Formula.{unary, binary, for_all, for_some};
 ghost use Rattle.bk_bind.specs.Limits.{IsWithinLimits};
 ghost use Rattle.bk_bind.specs.declared.error.BindFault.TheVariants.{TooLarge};
 
 use crate::bound::{GREATEST_HEIGHT, MOST_NODES};
 use crate::error::BindFault;
-use bk_form::{BinOp, Form, Part, UnOp};
+use bk_form::{BinOp, Form, Part, Ty, UnOp};
 use std::alloc::Global;
 
 /// The same formula, where it is within the limits.
@@ -47,4 +47,28 @@ pub fn binary(alloc: Global, op: BinOp, left: Form, right: Form) -> Result<Form,
         return Err(BindFault::TooLarge);
     }
     Ok(Form::make(alloc, Part::Bin(op, left, right))?)
+}
+
+/// The formula `!x.body` over values of these types.
+pub fn for_all(alloc: Global, types: &[Ty], body: Form) -> Result<Form, BindFault>
+    ensures value { IfOk result (λ f. f ≡ for_all types.now body) }
+    ensures within { OnOk result (IsWithinLimits (for_all types.now body)) }
+    ensures too_large { result ≡ Err TooLarge → IsWithinLimits (for_all types.now body) → ⊥ }
+{
+    if body.size() >= MOST_NODES || body.depth() >= GREATEST_HEIGHT {
+        return Err(BindFault::TooLarge);
+    }
+    Ok(Form::make(alloc, Part::All(Ty::copy_all(types, alloc)?, body))?)
+}
+
+/// The formula `#x.body` over values of these types.
+pub fn for_some(alloc: Global, types: &[Ty], body: Form) -> Result<Form, BindFault>
+    ensures value { IfOk result (λ f. f ≡ for_some types.now body) }
+    ensures within { OnOk result (IsWithinLimits (for_some types.now body)) }
+    ensures too_large { result ≡ Err TooLarge → IsWithinLimits (for_some types.now body) → ⊥ }
+{
+    if body.size() >= MOST_NODES || body.depth() >= GREATEST_HEIGHT {
+        return Err(BindFault::TooLarge);
+    }
+    Ok(Form::make(alloc, Part::Some(Ty::copy_all(types, alloc)?, body))?)
 }
