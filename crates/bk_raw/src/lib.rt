@@ -5,6 +5,8 @@ pub mod component;
 pub mod kind;
 pub mod laws;
 pub mod operator;
+pub mod readings;
+pub mod scope;
 pub mod script;
 pub mod substitution;
 pub mod term;
@@ -15,6 +17,7 @@ pub use component::{
 };
 pub use kind::Strengths;
 pub use operator::{Constant, InfixOp, WordOp};
+pub use scope::Scope;
 pub use script::{
     NamePart, RawLine, RawMultiple, RawPlace, RawRule, RawScript, RawTyped, RulePart, RuleWord,
 };
