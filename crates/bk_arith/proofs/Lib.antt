@@ -7,3 +7,12 @@ pub mod Products
 pub mod AtomLists
 pub mod SideValues
 pub mod Accepted
+pub mod Options
+pub mod PolynomialValues
+pub mod PolynomialLaw
+pub mod NumbersFrom
+pub mod CasesHold
+pub mod Monomials
+pub mod AtomPlaces
+pub mod MonomialPlaces
+pub mod StoredPlaces

@@ -1,12 +1,14 @@
 -- Laws of linear arithmetic on formulas, as statements.
-use Rattle.std.specs.Prelude.{◌≡◌, ◌↔◌, ℕ, ℤ, ◌<◌, ◌+ℤ◌, true, List, Some, length, slice_index_or}
+use Rattle.std.specs.Prelude.{◌≡◌, ◌↔◌, ◌⊎◌, ℕ, ℤ, ◌<◌, ◌+ℤ◌, true, List, [], ◌∷◌, Some, length, slice_index_or}
 use Rattle.bk_val.specs.Value.{int}
-use Rattle.bk_form.specs.Table.{Table}
-use Rattle.bk_form.specs.Formula.{Formula, bfalse}
+use Rattle.bk_form.specs.Table.{Table, IsWellFormed}
+use Rattle.bk_form.specs.Formula.{Formula, bfalse, binary}
 use Rattle.bk_form.specs.Search.{Finder}
 use Rattle.bk_form.specs.Environment.{Environment}
 use Rattle.bk_form.specs.Operators.{number_in}
-use Rattle.bk_form.specs.Meaning.{value}
+use Rattle.bk_form.specs.Role.{role, predicate}
+use Rattle.bk_form.specs.Meaning.{value, truth}
+use Rattle.bk_form.specs.declared.operator.BinOp.TheVariants.{Eq}
 use Rattle.bk_bind.specs.Valid.{IsValid}
 use Rattle.bk_lin.specs.declared.fact.Line.{Line}
 use Rattle.bk_lin.specs.Inequality.{Inequality, dot}
@@ -14,6 +16,8 @@ use Rattle.bk_arith.specs.ClosedSum.{closed_sum}
 use Rattle.bk_arith.specs.Same.{is_same}
 use Rattle.bk_arith.specs.Reading.{atoms_of, reading}
 use Rattle.bk_arith.specs.Decision.{is_accepted}
+use Rattle.bk_arith.specs.Polynomials.{equal_polynomials}
+use Rattle.bk_arith.specs.Cases.{interval_cases}
 
 -- a closed sum is that number in every environment
 abbrev pub ClosedSumsAreNumbers : Type 0
@@ -34,3 +38,16 @@ ReadingMeans = (find : Finder) (e : Environment) (terms : List Formula) (k : ℕ
 -- where the certificate is accepted, the goal is true wherever the hypotheses are
 abbrev pub AcceptedIsValid : Type 0
 AcceptedIsValid = (table : Table) (hyps : List Formula) (goal : Formula) (cert : List Line) → is_accepted hyps goal cert ≡ true → IsValid table hyps goal
+
+-- an equation that types and whose sides are told to be equal polynomials is true, under no hypothesis
+abbrev pub PolynomialIsValid : Type 0
+PolynomialIsValid = (table : Table) → IsWellFormed table → (a b : Formula) → role table [] (binary Eq a b) ≡ predicate → equal_polynomials a b ≡ true → IsValid table [] (binary Eq a b)
+
+-- one of them is true
+abbrev pub OneHolds : Finder → Environment → List Formula → Type 0
+OneHolds find e [] = ⊥
+OneHolds find e (p ∷ ps) = (truth find e p ≡ true) ⊎ OneHolds find e ps
+
+-- where a term is in an interval of literals, it is one of the numbers that are listed
+abbrev pub CasesAreAll : Type 0
+CasesAreAll = (find : Finder) (e : Environment) (hyp : Formula) (cases : List Formula) → interval_cases hyp ≡ Some cases → truth find e hyp ≡ true → OneHolds find e cases

@@ -1,6 +1,8 @@
 -- What the code's own types stand for.
-use Rattle.std.specs.Prelude.{◌≡◌, ℤ, negsuc, ◌+ℤ◌, ◌-ℤ◌, if◌then◌else◌, List, [], ◌∷◌, Option, Some, None}
+use Rattle.std.specs.Prelude.{◌≡◌, ℤ, negsuc, ◌+ℤ◌, ◌-ℤ◌, if◌then◌else◌, List, [], ◌∷◌, map, Option, Some, None}
 use Rattle.std.specs.Borrow.{Bor}
+use Rattle.std.specs.Global.{Vec}
+use Rattle.std.specs.Option.{option_map}
 use Rattle.bk_form.specs.Formula.{Formula, binary}
 use Rattle.bk_form.specs.declared.operator.BinOp.TheVariants.{Sub}
 use Rattle.bk_lin.specs.Inequality.{Inequality, plus, times}
@@ -12,6 +14,8 @@ use Rattle.bk_arith.specs.declared.joining.Join.TheVariants.{Sum, Difference}
 use Rattle.bk_arith.specs.declared.error.ArithFault.{ArithFault}
 use Rattle.bk_arith.specs.declared.error.ArithFault.TheVariants.{TooWide, Memory}
 use Rattle.bk_arith.specs.Comparison.{one_less}
+use Rattle.bk_arith.specs.declared.multiplying.Monomial.{Monomial as StoredMonomial}
+use Rattle.bk_arith.specs.Polynomials.{Monomial}
 
 -- a term less another, where there is one
 abbrev pub less : Formula → Option (Bor Formula) → Formula
@@ -48,3 +52,26 @@ abbrev pub IsReadFault : Option Inequality → ArithFault → Type 0
 IsReadFault form Memory = Unit {0}
 IsReadFault form TooWide = form ≡ None
 IsReadFault form _ = ⊥
+
+-- ---- polynomials
+-- the monomial that the program holds
+abbrev pub monomial_of : StoredMonomial → Monomial
+monomial_of m = (m.coefficient, m.atoms.items)
+
+-- the polynomial
+abbrev pub polynomial_of : List StoredMonomial → List Monomial
+polynomial_of ms = map monomial_of ms
+
+-- the polynomial, where it holds one
+abbrev pub polynomial_in : Option (Vec StoredMonomial) → Option (List Monomial)
+polynomial_in o = option_map (λ v. polynomial_of v.items) o
+
+-- the formulas, where it holds some
+abbrev pub formulas_in : Option (Vec Formula) → Option (List Formula)
+formulas_in o = option_map (λ v. v.items) o
+
+-- why a polynomial was not made: want of memory, or that there is none within 128 bits
+abbrev pub IsPolynomialFault : Option (List Monomial) → ArithFault → Type 0
+IsPolynomialFault p Memory = Unit {0}
+IsPolynomialFault p TooWide = p ≡ None
+IsPolynomialFault p _ = ⊥

@@ -3,5 +3,7 @@ pub mod Same
 pub mod Comparison
 pub mod Reading
 pub mod Decision
+pub mod Polynomials
+pub mod Cases
 pub mod Layout
 pub mod Laws

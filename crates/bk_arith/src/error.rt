@@ -1,4 +1,4 @@
-//! Why a certificate is not accepted.
+//! Why arithmetic on formulas is refused.
 
 ghost use Rattle.std.specs.Prelude.{◌≡◌};
 ghost use Rattle.bk_arith.specs.declared.error.ArithFault.TheVariants.{Cert as CertificateFault, Memory};
@@ -7,7 +7,8 @@ use bk_lin::CertFault;
 use std::alloc::{AllocError, AllocFailed};
 use thiserror::Error;
 
-/// Why a certificate is not accepted for a goal under hypotheses.
+/// Why arithmetic on formulas is refused: a certificate for a goal under hypotheses, an equation of polynomials, or the cases of
+/// a membership.
 #[derive(Clone, Copy, PartialEq, Eq, Debug, Error)]
 pub enum ArithFault {
     /// The formula with this number, from 1 with the goal last, is no comparison that is read. It is the first such one.
@@ -16,9 +17,12 @@ pub enum ArithFault {
     /// What the certificate's check answers over the facts.
     #[error("the certificate is refused: {0}")]
     Cert(CertFault),
-    /// A coefficient or a constant of a part of a fact does not fit 128 bits.
-    #[error("a fact does not fit 128 bits")]
+    /// A coefficient or a constant of a part of a fact, or of a part of a term that is multiplied out, does not fit 128 bits.
+    #[error("a number does not fit 128 bits")]
     TooWide,
+    /// The formula is no membership in an interval of literals, or in one of more than 64 numbers.
+    #[error("the formula has no cases")]
+    Cases,
     #[error("out of memory")]
     Memory,
 }

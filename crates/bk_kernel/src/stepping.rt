@@ -310,6 +310,7 @@ fn check_lines(alloc: Global, hyps: &[Form], goal: &Form, lines: &[Line]) -> Res
         Err(ArithFault::NotLinear(_)) => Err(StepFault::NoInstance),
         Err(ArithFault::Cert(_)) => Err(StepFault::NoInstance),
         Err(ArithFault::TooWide) => Err(StepFault::NoInstance),
+        Err(ArithFault::Cases) => Err(StepFault::NoInstance),
         Err(ArithFault::Memory) => Err(StepFault::Memory),
     }
 }
