@@ -1,0 +1,10 @@
+pub mod Conditions
+pub mod Exact
+pub mod Fitting
+pub mod Named
+pub mod Parts
+pub mod Predicates
+pub mod Within
+pub mod Binding
+pub mod Examples
+pub mod Firsts
