@@ -1,0 +1,9 @@
+pub mod OtherNames
+pub mod Numbers
+pub mod Sides
+pub mod FlatTypes
+pub mod FlatMeans
+pub mod Least
+pub mod Entries
+pub mod CopyNames
+pub mod Whole
