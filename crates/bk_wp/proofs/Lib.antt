@@ -10,5 +10,9 @@ pub mod Falls
 pub mod Loops
 pub mod Sound
 pub mod Growth
+pub mod Olds
+pub mod Renaming
 pub mod Guarding
 pub mod Predicates
+pub mod Boxes
+pub mod Cleaning

@@ -38,7 +38,7 @@ use Rattle.bk_wp.proofs.Falls.{Is, held-box, held-truth}
 neither : (a b : Bool) → a ≡ false → b ≡ false → (a || b) ≡ false
 neither a b h k = rw (h, k)
 
-with_values-to : (e f : State) (zs : List ℕ) → ((n : ℕ) → among zs n ≡ false → f n ≡ e n) → (n : ℕ) → with_values e zs (map f zs) n ≡ f n
+pub with_values-to : (e f : State) (zs : List ℕ) → ((n : ℕ) → among zs n ≡ false → f n ≡ e n) → (n : ℕ) → with_values e zs (map f zs) n ≡ f n
 with_values-to e f [] h n = sym (h n refl)
 with_values-to e f (z ∷ zs) h n = with_values-to (with_value e z (f z)) f zs at n
   where
@@ -48,7 +48,7 @@ with_values-to e f (z ∷ zs) h n = with_values-to (with_value e z (f z)) f zs a
       | inr q ↦ h m (neither (nat_eq m z) (among zs m) q k) ∙ sym (ap (λ b. cond b (f z) (e m)) q)
     ]
 
-values-of : (table : Table) (f : State) → IsTypedState table f → (zs : List ℕ) → AreListed table zs → are_values_for table zs (map f zs) ≡ true
+pub values-of : (table : Table) (f : State) → IsTypedState table f → (zs : List ℕ) → AreListed table zs → are_values_for table zs (map f zs) ≡ true
 values-of table f h [] l = refl
 values-of table f h (z ∷ zs) l =
     let t : declared_type table z ≡ l.0.0 = ap (λ o. unwrap_or o bool_type) l.0.1 in

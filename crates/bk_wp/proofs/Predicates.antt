@@ -27,9 +27,9 @@ use Rattle.bk_wp.proofs.Steps.{terms-replace, olds-replace}
 use Rattle.bk_form.proofs.Widening.{type-listed}
 
 -- one type more behind the innermost k
-record ClosingTypes (k : ℕ) (t : ValueType) (a b : List ValueType) : Type 0 where
-  same : (i : ℕ) → i < k → slice_get b i ≡ slice_get a i
-  last : slice_get b k ≡ Some t
+pub record ClosingTypes (k : ℕ) (t : ValueType) (a b : List ValueType) : Type 0 where
+  pub same : (i : ℕ) → i < k → slice_get b i ≡ slice_get a i
+  pub last : slice_get b k ≡ Some t
 
 types-cons : {k : ℕ} {t : ValueType} {a b : List ValueType} (u : ValueType) → ClosingTypes k t a b → ClosingTypes (suc k) t (u ∷ a) (u ∷ b)
 types-cons {k} {t} {a} {b} u h = record { same = at; last = h.last }
@@ -38,7 +38,7 @@ types-cons {k} {t} {a} {b} u h = record { same = at; last = h.last }
     at zero p = refl
     at (suc i) p = h.same i (omega arith)
 
-types-bound : (ts : List ValueType) {k : ℕ} {t : ValueType} {a b : List ValueType} → ClosingTypes k t a b → ClosingTypes (length ts + k) t (bind ts a) (bind ts b)
+pub types-bound : (ts : List ValueType) {k : ℕ} {t : ValueType} {a b : List ValueType} → ClosingTypes k t a b → ClosingTypes (length ts + k) t (bind ts a) (bind ts b)
 types-bound [] {k} h = let e : zero + k ≡ k = omega arith in rw e h
 types-bound (u ∷ ts) {k} h = let e : suc (length ts) + k ≡ length ts + suc k = omega arith in rw e (types-bound ts (types-cons u h))
 
@@ -47,13 +47,13 @@ module _ (table : Table) (z : ℕ) (t : ValueType) (given : bound_role table (So
   count-types around no_formulas = refl
   count-types around (formula_and r rs) = ap suc (count-types around rs)
 
-  ranged : (a : List ValueType) (rs : Formulas) (us : List ValueType) {k : ℕ} {b : List ValueType} → us ≡ element_types (roles table a rs) → ClosingTypes k t a b → ClosingTypes (count rs + k) t (bind (element_types (roles table a rs)) a) (bind us b)
+  pub ranged : (a : List ValueType) (rs : Formulas) (us : List ValueType) {k : ℕ} {b : List ValueType} → us ≡ element_types (roles table a rs) → ClosingTypes k t a b → ClosingTypes (count rs + k) t (bind (element_types (roles table a rs)) a) (bind us b)
   ranged a rs us {k} {b} e h =
       subst (λ x. ClosingTypes (count rs + k) t (bind (element_types (roles table a rs)) a) (bind x b)) (sym e)
       (subst (λ n. ClosingTypes (n + k) t (bind (element_types (roles table a rs)) a) (bind (element_types (roles table a rs)) b)) (count-types a rs) (types-bound (element_types (roles table a rs)) h))
 
   mutual
-    role-closing : (k : ℕ) (a b : List ValueType) (f : Formula) → IsClosed k f → ClosingTypes k t a b → role table b (closed_over z k f) ≡ role table a f
+    pub role-closing : (k : ℕ) (a b : List ValueType) (f : Formula) → IsClosed k f → ClosingTypes k t a b → role table b (closed_over z k f) ≡ role table a f
     role-closing k a b (variable n) c h = by_test (nat_eq n z) refl
       where
         by_test : (x : Bool) → nat_eq n z ≡ x → role table b (cond x (bound k) (variable n)) ≡ given_by (variable_type table n)
@@ -74,7 +74,7 @@ module _ (table : Table) (z : ℕ) (t : ValueType) (given : bound_role table (So
         λ i. lambda_role (r i) (role-closing (count rs + k) (bind (element_types (roles table a rs)) a) (bind us b) p c.1 (ranged a rs us (ap element_types r) h) i) (role-closing (count rs + k) (bind (element_types (roles table a rs)) a) (bind us b) v c.2 (ranged a rs us (ap element_types r) h) i)
     role-closing k a b _ c h = refl
 
-    roles-closing : (k : ℕ) (a b : List ValueType) (fs : Formulas) → AreClosed k fs → ClosingTypes k t a b → roles table b (all_closed_over z k fs) ≡ roles table a fs
+    pub roles-closing : (k : ℕ) (a b : List ValueType) (fs : Formulas) → AreClosed k fs → ClosingTypes k t a b → roles table b (all_closed_over z k fs) ≡ roles table a fs
     roles-closing k a b no_formulas c h = refl
     roles-closing k a b (formula_and f fs) c h = λ i. role-closing k a b f c.0 h i ∷ roles-closing k a b fs c.1 h i
 
@@ -84,7 +84,7 @@ module _ (table : Table) where
   terms-predicate ps r w h = role-under table [] (looked_up ps) (terms-replace table ps w) r ∙ h
 
 module _ (table : Table) (facts : IsWellFormed table) where
-  role-each : (zs : List ℕ) (f : Formula) → IsClosed 0 f → AreListed table zs → role table (bind (types_of table zs) []) (closed_over_each zs f) ≡ role table [] f
+  pub role-each : (zs : List ℕ) (f : Formula) → IsClosed 0 f → AreListed table zs → role table (bind (types_of table zs) []) (closed_over_each zs f) ≡ role table [] f
   role-each [] f c l = refl
   role-each (z ∷ zs) f c l =
       let t = declared_type table z in
@@ -95,25 +95,25 @@ module _ (table : Table) (facts : IsWellFormed table) where
       role-closing table z t (declared-listed table facts z l.0) (length zs) (bind ts []) (bind ts (t ∷ [])) (closed_over_each zs f) (closed-each zs f c) g
       ∙ role-each zs f c l.1
 
-  types-listed : (zs : List ℕ) → AreListed table zs → all_listed table (types_of table zs) ≡ true
+  pub types-listed : (zs : List ℕ) → AreListed table zs → all_listed table (types_of table zs) ≡ true
   types-listed [] l = refl
   types-listed (z ∷ zs) l = and-true (lists_type table (declared_type table z)) (all_listed table (types_of table zs)) (subst (λ o. lists_type table (unwrap_or o bool_type) ≡ true) (sym l.0.1) (type-listed table facts z l.0.0 l.0.1)) (types-listed zs l.1)
 
   quantified : (zs : List ℕ) (f : Formula) → AreListed table zs → role table (bind (types_of table zs) []) f ≡ predicate → quantifier_role table (types_of table zs) (role table (bind (types_of table zs) []) f) ≡ predicate
   quantified zs f l h = λ i. if_holds (types-listed zs l i) (if_predicate predicate (h i))
 
-  all-predicate : (zs : List ℕ) (f : Formula) → AreListed table zs → IsPredicate table f → IsPredicate table (all_of table zs f)
+  pub all-predicate : (zs : List ℕ) (f : Formula) → AreListed table zs → IsPredicate table f → IsPredicate table (all_of table zs f)
   all-predicate zs f l h = quantified zs (closed_over_each zs f) l (role-each zs f (predicate-closed table f h) l ∙ h)
 
   some-predicate : (zs : List ℕ) (f : Formula) → AreListed table zs → IsPredicate table f → IsPredicate table (some_of table zs f)
   some-predicate zs f l h = quantified zs (closed_over_each zs f) l (role-each zs f (predicate-closed table f h) l ∙ h)
 
-  new-role : (xs : List (ℕ × ℕ)) (p : Formula) → AreTypedPairs table xs → IsPredicate table p → role table (bind (types_of table (firsts xs)) []) (new_values xs p) ≡ predicate
+  pub new-role : (xs : List (ℕ × ℕ)) (p : Formula) → AreTypedPairs table xs → IsPredicate table p → role table (bind (types_of table (firsts xs)) []) (new_values xs p) ≡ predicate
   new-role xs p w h =
       role-under table (bind (types_of table (firsts xs)) []) (λ n. variable (old_of xs n)) (olds-replace table xs w) (closed_over_each (firsts xs) p)
       ∙ role-each (firsts xs) p (predicate-closed table p h) (firsts-listed table xs w) ∙ h
 
-  all_new-predicate : (xs : List (ℕ × ℕ)) (p r : Formula) → AreTypedPairs table xs → IsPredicate table p → IsPredicate table r → IsPredicate table (all_new table xs p r)
+  pub all_new-predicate : (xs : List (ℕ × ℕ)) (p r : Formula) → AreTypedPairs table xs → IsPredicate table p → IsPredicate table r → IsPredicate table (all_new table xs p r)
   all_new-predicate xs p r w h k =
       let zs = firsts xs in
       let l = firsts-listed table xs w in

@@ -69,7 +69,7 @@ module _ (find : Finder) (law : IsSearch find) (table : Table) (facts : IsWellFo
   some_of-false e zs f c l h vs o = sym (holds-each find table facts e zs vs f c l o) ∙ for_some-false find law (at_state table e) (types_of table zs) (closed_over_each zs f) h vs o
 
   -- ---- x :(P)
-  holds-new : (e : State) (xs : List (ℕ × ℕ)) (vs : List MathValue) (p : Formula) → AreTypedPairs table xs → IsClosed 0 p → are_values_for table (firsts xs) vs ≡ true → truth find (under (at_state table e) (types_of table (firsts xs)) vs) (new_values xs p) ≡ holds find table (with_old xs e vs) p
+  pub holds-new : (e : State) (xs : List (ℕ × ℕ)) (vs : List MathValue) (p : Formula) → AreTypedPairs table xs → IsClosed 0 p → are_values_for table (firsts xs) vs ≡ true → truth find (under (at_state table e) (types_of table (firsts xs)) vs) (new_values xs p) ≡ holds find table (with_old xs e vs) p
   holds-new e xs vs p w c o =
       ap (λ m. m.truth) (meaning-replaced find (λ n. variable (old_of xs n)) (under (at_state table e) (types_of table (firsts xs)) vs) (olds-replace table xs w) (closed_over_each (firsts xs) p))
       ∙ holds-each find table facts (λ n. e (old_of xs n)) (firsts xs) vs p c (firsts-listed table xs w) o

@@ -1,5 +1,5 @@
 -- The variables of [S]R and <S>R: those of R and those that S reads.
-use Rattle.std.proofs.Common.{◌≡◌, ◌⊎◌, inl, inr, ℕ, ◌+◌, List, [], ◌∷◌, ◌++◌, length, map, refl, ◌∙◌, subst, Bool, true, false, ◌||◌, cond, nat_eq}
+use Rattle.std.proofs.Common.{◌≡◌, ◌⊎◌, inl, inr, ℕ, ◌+◌, List, [], ◌∷◌, ◌++◌, length, map, refl, subst, Bool, true, false, ◌||◌, cond, nat_eq}
 use Rattle.bk_form.specs.Table.{Table}
 use Rattle.bk_form.specs.Formula.{Formula, variable, bound, named, unary, binary, for_all, for_some, comprehension, lambda, Formulas, no_formulas, formula_and}
 use Rattle.bk_form.specs.declared.operator.UnOp.TheVariants.{Not}

@@ -10,7 +10,7 @@ use Rattle.bk_form.specs.Environment.{State, IsTypedState}
 use Rattle.bk_form.specs.Replacement.{occurs, IsClosed, looked_up}
 use Rattle.bk_form.proofs.Members.{or-left, or-right}
 use Rattle.bk_gsl.specs.Substitution.{Substitution, skip, assign, pre, guard, choice, if_else, any, seq, par, assert, becomes_such, loop}
-use Rattle.bk_gsl.specs.State.{are_values_for, with_values, among}
+use Rattle.bk_gsl.specs.State.{holds, are_values_for, with_values, among}
 use Rattle.bk_gsl.specs.Reads.{read}
 use Rattle.bk_gsl.specs.Run.{Runs}
 use Rattle.bk_gsl.specs.Typed.{IsListed, Types}
@@ -20,7 +20,7 @@ use Rattle.bk_gsl.proofs.Runs.{run-typed}
 use Rattle.bk_wp.specs.Box.{variant_before, box}
 use Rattle.bk_gsl.specs.Flat.{IsFlat}
 use Rattle.bk_gsl.specs.Apart.{AreApart}
-use Rattle.bk_wp.specs.Laws.{BoxIsSound}
+use Rattle.bk_wp.specs.Laws.{AllMeet, BoxIsSound}
 use Rattle.bk_form.proofs.Closed.{predicate-closed, term-closed, closed-replaced}
 use Rattle.bk_wp.proofs.Steps.{or-cases}
 use Rattle.bk_wp.proofs.Quantified.{all_of-true, all_new-true}
@@ -86,5 +86,9 @@ module _ (find : Finder) (law : IsSearch find) (table : Table) (facts : IsWellFo
       (closed-replaced (looked_up ((new, v) ∷ [])) (variant-closed v cv) 0 (box table s less) (box-closed table s less w.1 (cv, tt)))
       e (loop-of find law table facts p s i v r w.0 w.1 w.2 w.3 c listed e h) o
 
+-- of a formula that reads only what may be read later
+pub sound-later : (find : Finder) → IsSearch find → (table : Table) → IsWellFormed table → (later : ℕ → Bool) (s : Substitution) (r : Formula) → IsFlat s → Types table s → AreApart later s → ReadLater later r → IsClosed 0 r → (e : State) → IsTypedState table e → holds find table e (box table s r) ≡ true → AllMeet find table s r e
+sound-later find law table facts later s r y w a l c e o h = box-then find table (IsTypedState table) (kept find law table facts) (set find law table facts) s r w (fine-box find law table facts later s r y w a l c) e o h
+
 pub box-is-sound : BoxIsSound
-box-is-sound find law table facts s y w r t a e o h = box-then find table (IsTypedState table) (kept find law table facts) (set find law table facts) s r w (fine-box find law table facts (λ n. occurs n r) s r y w a (λ n q. q) t) e o h
+box-is-sound find law table facts s y w r t a e o h = sound-later find law table facts (λ n. occurs n r) s r y w a (λ n q. q) t e o h

@@ -1,123 +1,87 @@
--- What a substitution is asked beside what it does: that what it meets is defined or, in an implementation, that the expressions which are
--- executed fit the machine instead: their sums and products stay within its range. So far for operators that are defined everywhere, so that
--- the definedness of a precondition, a guard or an assertion is btrue, and nothing else is asked of them.
-use Rattle.std.specs.Prelude.{◌≡◌, ℕ, ℤ, pos, ◌-ℤ◌, List, [], ◌∷◌, Option, Some, None}
-use Rattle.bk_form.specs.ArrayTable.{ArrayTable}
+-- W(S), what a substitution is asked beside its box: that each formula that it meets is defined or, in an implementation, that the
+-- expressions which it executes fit the machine instead.
+use Rattle.std.specs.Prelude.{ℕ, List, [], ◌∷◌, Option, Some, None}
 use Rattle.bk_form.specs.Table.{Table}
-use Rattle.bk_form.specs.Formula.{Formula, literal, btrue, unary, binary, for_all, for_some, comprehension, lambda}
-use Rattle.bk_form.specs.declared.operator.UnOp.{UnOp}
-use Rattle.bk_form.specs.declared.operator.UnOp.TheVariants.{Not, Min, Max}
-use Rattle.bk_form.specs.declared.operator.BinOp.{BinOp}
-use Rattle.bk_form.specs.declared.operator.BinOp.TheVariants.{And, Or, Imp, Le, Add, Sub, Mul, Div, Mod, Power, Apply}
-use Rattle.bk_gsl.specs.Substitution.{Substitution, skip, assign, pre, guard, choice, if_else, seq, assert}
-use Rattle.bk_wp.specs.Box.{box}
+use Rattle.bk_form.specs.ArrayTable.{ArrayTable, row_of}
+use Rattle.bk_form.specs.Formula.{Formula, btrue, unary}
+use Rattle.bk_form.specs.Role.{bind}
+use Rattle.bk_form.specs.declared.operator.UnOp.TheVariants.{Not}
+use Rattle.bk_form.specs.declared.arrays.ArrayRow.{ArrayRow}
+use Rattle.bk_wd.specs.Joining.{both, where_true, all_over}
+use Rattle.bk_wd.specs.WellDefined.{defined}
+use Rattle.bk_wd.specs.Checked.{index_check, checked}
+use Rattle.bk_gsl.specs.Substitution.{Substitution, skip, assign, pre, guard, choice, if_else, any, seq, par, assert, becomes_such, loop}
+use Rattle.bk_gsl.specs.State.{firsts}
+use Rattle.bk_gsl.specs.Writes.{writes}
+use Rattle.bk_gsl.specs.Clean.{write_of}
+use Rattle.bk_wp.specs.Quantifiers.{types_of, all_of, all_written}
+use Rattle.bk_wp.specs.Box.{box, new_values}
 
 -- ---- conditions put together, without btrue
--- P & Q, where a side that is btrue is left out
-abbrev pub both : Formula → Formula → Formula
-both btrue q = q
-both p btrue = p
-both p q = binary And p q
+-- !z.P over variables, and btrue where P is
+abbrev pub over_variables : Table → List ℕ → Formula → Formula
+over_variables table zs btrue = btrue
+over_variables table zs p = all_of table zs p
 
--- P => Q; btrue where Q is, and Q where P is btrue
-abbrev pub where_true : Formula → Formula → Formula
-where_true p btrue = btrue
-where_true btrue q = q
-where_true p q = binary Imp p q
-
--- ---- executed expressions
--- MININT <= E & E <= MAXINT
-abbrev pub in_machine : ℤ → Formula → Formula
-in_machine max f = binary And (binary Le (literal (pos 0 -ℤ max)) f) (binary Le f (literal max))
-
--- what the parts of an operation are asked, p and q, and then what it is asked itself; the right side of a connective counts only where the left side leaves it open
-abbrev pub binary_check : ℤ → BinOp → Formula → Formula → Formula → Formula → Formula
-binary_check max And a b p q = both p (where_true a q)
-binary_check max Imp a b p q = both p (where_true a q)
-binary_check max Or a b p q = both p (where_true (unary Not a) q)
-binary_check max Add a b p q = both (both p q) (in_machine max (binary Add a b))
-binary_check max Sub a b p q = both (both p q) (in_machine max (binary Sub a b))
-binary_check max Mul a b p q = both (both p q) (in_machine max (binary Mul a b))
-binary_check max o a b p q = both p q
-
--- that each sum and product stays within the machine's range
-abbrev pub checked : ℤ → Formula → Formula
-checked max (unary o a) = checked max a
-checked max (binary o a b) = binary_check max o a b (checked max a) (checked max b)
-checked max f = btrue
-
--- of a formula that is evaluated: in an implementation that it stays in range, elsewhere that it is defined, which it is everywhere
-abbrev pub evaluated : Option ArrayTable → Formula → Formula
-evaluated (Some arrays) f = checked arrays.max f
-evaluated None f = btrue
-
--- of the terms of an assignment, in order
-abbrev pub evaluated_onto : Option ArrayTable → Formula → List (ℕ × Formula) → Formula
-evaluated_onto arrays f [] = f
-evaluated_onto arrays f (p ∷ ps) = evaluated_onto arrays (both f (evaluated arrays p.1)) ps
+-- the same over what a loop writes: no quantifier where it writes nothing
+abbrev pub over_written : Table → List ℕ → Formula → Formula
+over_written table zs btrue = btrue
+over_written table zs p = all_written table zs p
 
 -- [S]Q, and btrue where Q is
 abbrev pub box_where : Table → Substitution → Formula → Formula
 box_where table s btrue = btrue
 box_where table s q = box table s q
 
--- ---- substitutions without binders
--- what S is asked as a predicate on the state before it; it stands beside the box, and is btrue where nothing is asked
+-- ---- what is evaluated
+-- C(P), of a test: Chk(P) where arrays are given, in an implementation, and WD(P) elsewhere
+abbrev pub evaluated : Table → Option ArrayTable → Formula → Formula
+evaluated table None p = defined table [] p
+evaluated table (Some arrays) p = checked arrays p
+
+-- of a write f(i) := E to an array: Chk(i), that i is an index, and Chk(E); of every other term for it, as a fill of it, Chk of the term
+abbrev pub checked_write : ArrayTable → ArrayRow → Option (Formula × Formula) → Formula → Formula
+checked_write arrays row (Some w) f = both (both (checked arrays w.0) (index_check (Some row) w.0)) (checked arrays w.1)
+checked_write arrays row None f = checked arrays f
+
+-- the term for x in an implementation, where this is the row of x among the arrays
+abbrev pub checked_at : ArrayTable → Option ArrayRow → ℕ → Formula → Formula
+checked_at arrays None x f = checked arrays f
+checked_at arrays (Some row) x f = checked_write arrays row (write_of x f) f
+
+-- C(E), of the term of an assignment to x
+abbrev pub evaluated_term : Table → Option ArrayTable → ℕ → Formula → Formula
+evaluated_term table None x f = defined table [] f
+evaluated_term table (Some arrays) x f = checked_at arrays (row_of arrays x) x f
+
+-- f, and C of each term of an assignment, joined to the left
+abbrev pub evaluated_onto : Table → Option ArrayTable → Formula → List (ℕ × Formula) → Formula
+evaluated_onto table arrays f [] = f
+evaluated_onto table arrays f (p ∷ ps) = evaluated_onto table arrays (both f (evaluated_term table arrays p.0 p.1)) ps
+
+-- ---- substitutions
+-- !z.WD(P') of x :(P), where P' is P with new values z for the variables
+abbrev pub such_condition : Table → List (ℕ × ℕ) → Formula → Formula
+such_condition table xs p = all_over (types_of table (firsts xs)) (defined table (bind (types_of table (firsts xs)) []) (new_values xs p))
+
+-- WD(I), for each value of what a loop writes, and where I is true C(P) and, where P is true, W(S) and WD(V); c is C(P), and w is W(S)
+abbrev pub loop_condition : Table → List ℕ → Formula → Formula → Formula → Formula → Formula → Formula
+loop_condition table xs p i v c w =
+    both (over_written table xs (defined table [] i))
+    (over_written table xs (where_true i (both c (where_true p (both w (defined table [] v))))))
+
+-- W(S), as a predicate on the state before S; arrays are given in an implementation
 abbrev pub guarded : Table → Option ArrayTable → Substitution → Formula
 guarded table arrays skip = btrue
-guarded table arrays (assign ps) = evaluated_onto arrays btrue ps
-guarded table arrays (pre p s) = where_true p (guarded table arrays s)
-guarded table arrays (guard p s) = where_true p (guarded table arrays s)
+guarded table arrays (assign ps) = evaluated_onto table arrays btrue ps
+guarded table arrays (pre p s) = both (defined table [] p) (where_true p (guarded table arrays s))
+guarded table arrays (guard p s) = both (defined table [] p) (where_true p (guarded table arrays s))
 guarded table arrays (choice s t) = both (guarded table arrays s) (guarded table arrays t)
-guarded table arrays (if_else p s t) = both (both (evaluated arrays p) (where_true p (guarded table arrays s))) (where_true (unary Not p) (guarded table arrays t))
+guarded table arrays (if_else p s t) = both (both (evaluated table arrays p) (where_true p (guarded table arrays s))) (where_true (unary Not p) (guarded table arrays t))
+guarded table arrays (any zs s) = over_variables table zs (guarded table arrays s)
 guarded table arrays (seq s t) = both (guarded table arrays s) (box_where table s (guarded table arrays t))
-guarded table arrays (assert p s) = where_true p (guarded table arrays s)
--- locals, x :(P), loops and || are not taken yet
-guarded table arrays _ = btrue
-
--- ---- what is taken so far
--- an operator that is defined everywhere
-abbrev pub IsTotalUnary : UnOp → Type 0
-IsTotalUnary Min = ⊥
-IsTotalUnary Max = ⊥
-IsTotalUnary _ = Unit {0}
-
--- the same of an operator on two formulas: any but /, mod, ** and f(x)
-abbrev pub IsTotalBinary : BinOp → Type 0
-IsTotalBinary Div = ⊥
-IsTotalBinary Mod = ⊥
-IsTotalBinary Power = ⊥
-IsTotalBinary Apply = ⊥
-IsTotalBinary _ = Unit {0}
-
--- made of operators that are defined everywhere, without quantifiers, comprehensions and lambdas
-abbrev pub IsTotal : Formula → Type 0
-IsTotal (unary o a) = IsTotalUnary o × IsTotal a
-IsTotal (binary o a b) = IsTotalBinary o × IsTotal a × IsTotal b
-IsTotal (for_all ts p) = ⊥
-IsTotal (for_some ts p) = ⊥
-IsTotal (comprehension rs p) = ⊥
-IsTotal (lambda rs p v) = ⊥
-IsTotal _ = Unit {0}
-
--- each term of an assignment is made so
-abbrev pub AreTotal : List (ℕ × Formula) → Type 0
-AreTotal [] = Unit {0}
-AreTotal (p ∷ ps) = IsTotal p.1 × AreTotal ps
-
--- no binder, and every formula is made so
-abbrev pub HasTotal : Substitution → Type 0
-HasTotal skip = Unit {0}
-HasTotal (assign ps) = AreTotal ps
-HasTotal (pre p s) = IsTotal p × HasTotal s
-HasTotal (guard p s) = IsTotal p × HasTotal s
-HasTotal (choice s t) = HasTotal s × HasTotal t
-HasTotal (if_else p s t) = IsTotal p × HasTotal s × HasTotal t
-HasTotal (seq s t) = HasTotal s × HasTotal t
-HasTotal (assert p s) = IsTotal p × HasTotal s
-HasTotal _ = ⊥
-
--- no variable is an array
-abbrev pub HasNoArrays : Option ArrayTable → Type 0
-HasNoArrays (Some arrays) = arrays.rows ≡ []
-HasNoArrays None = Unit {0}
+guarded table arrays (assert p s) = both (defined table [] p) (where_true p (guarded table arrays s))
+guarded table arrays (becomes_such xs p) = such_condition table xs p
+guarded table arrays (loop p s i v) = loop_condition table (writes s) p i v (evaluated table arrays p) (guarded table arrays s)
+-- || is rewritten by copies first, so that nothing is to be said of it
+guarded table arrays (par s t) = btrue

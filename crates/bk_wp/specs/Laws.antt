@@ -1,5 +1,5 @@
 -- Laws of box and diamond, as statements.
-use Rattle.std.specs.Prelude.{◌≡◌, ◌↔◌, ◌⊎◌, true, not, Option}
+use Rattle.std.specs.Prelude.{◌≡◌, ◌↔◌, ◌⊎◌, ◌<◌, ◌^◌, length, true, not, Option, Some}
 use Rattle.bk_form.specs.Table.{Table, IsWellFormed}
 use Rattle.bk_form.specs.Formula.{Formula, unary}
 use Rattle.bk_form.specs.declared.operator.UnOp.TheVariants.{Not}
@@ -11,9 +11,10 @@ use Rattle.bk_gsl.specs.State.{holds}
 use Rattle.bk_gsl.specs.Run.{Runs, Ends}
 use Rattle.bk_gsl.specs.Typed.{Types}
 use Rattle.bk_form.specs.Predicates.{IsPredicate}
+use Rattle.bk_wd.specs.Laws.{AreTypedArrays}
 use Rattle.bk_wp.specs.Box.{box, diamond}
 use Rattle.bk_gsl.specs.Clean.{Clean}
-use Rattle.bk_wp.specs.Guarded.{HasNoArrays, HasTotal, guarded}
+use Rattle.bk_wp.specs.Guarded.{guarded}
 use Rattle.bk_wp.specs.Shapes.{HasNoBinder, HasNoLoop}
 use Rattle.bk_gsl.specs.Flat.{IsFlat}
 use Rattle.bk_gsl.specs.Apart.{LocalsAreApart}
@@ -52,14 +53,18 @@ DiamondMeans = (find : Finder) → IsSearch find → (table : Table) → IsWellF
 abbrev pub DiamondIsConjugate : Type 0
 DiamondIsConjugate = (find : Finder) → IsSearch find → (table : Table) → IsWellFormed table → (s : Substitution) → HasNoLoop s → Types table s → (r : Formula) → IsPredicate table r → LocalsAreApart s r → (e : State) → holds find table e (diamond table s r) ≡ not (holds find table e (box table s (unary Not r)))
 
--- ---- what is evaluated
--- where [S]R and what S is asked beside are true, each formula that S meets is defined and in an implementation fits the machine; so far
--- without binders and arrays, and where each operator is defined everywhere
-abbrev pub GuardedIsClean : Type 0
-GuardedIsClean = (find : Finder) (table : Table) (arrays : Option ArrayTable) → HasNoArrays arrays → (s : Substitution) → HasTotal s → Types table s → (r : Formula) (e : State) →
-    holds find table e (box table s r) ≡ true → holds find table e (guarded table arrays s) ≡ true → Clean find table arrays s e
-
 -- ---- with loops, where R has no loose bound number
 -- where [S]R is true in a typed state, S ends and all its results meet R; the other way is not so, since an invariant may say too little
 abbrev pub BoxIsSound : Type 0
 BoxIsSound = (find : Finder) → IsSearch find → (table : Table) → IsWellFormed table → (s : Substitution) → IsFlat s → Types table s → (r : Formula) → IsClosed 0 r → LocalsAreApart s r → (e : State) → IsTypedState table e → holds find table e (box table s r) ≡ true → AllMeet find table s r e
+
+-- ---- what is evaluated
+-- where [S]R and W(S) are true in a typed state, S is clean: each formula that it meets is defined and, in an implementation, what it executes
+-- fits the machine; with locals, x :(P), loops and arrays
+abbrev pub GuardedIsClean : Type 0
+GuardedIsClean = (find : Finder) → IsSearch find → (table : Table) → IsWellFormed table → (arrays : Option ArrayTable) (s : Substitution) → IsFlat s → Types table s → (r : Formula) → IsClosed 0 r → LocalsAreApart s r → (e : State) → IsTypedState table e →
+    holds find table e (box table s r) ≡ true → holds find table e (guarded table arrays s) ≡ true → Clean find table arrays s e
+
+-- of a substitution that types, W(S) is a predicate, where 32 bits number one variable more and the arrays are functions from their indices
+abbrev pub GuardedIsPredicate : Type 0
+GuardedIsPredicate = (table : Table) → IsWellFormed table → length table.variables < 2 ^ 32 → (arrays : Option ArrayTable) → ((a : ArrayTable) → arrays ≡ Some a → AreTypedArrays table a) → (s : Substitution) → IsFlat s → Types table s → IsPredicate table (guarded table arrays s)

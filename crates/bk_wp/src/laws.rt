@@ -1,6 +1,6 @@
 //! Laws of box and diamond. Each is the contract of a function that does nothing.
 
-ghost use Rattle.bk_wp.specs.Laws.{BoxWithoutBinders, DiamondWithoutBinders, ConjugateWithoutBinders, BoxMeans, DiamondMeans, DiamondIsConjugate, BoxIsSound, GuardedIsClean};
+ghost use Rattle.bk_wp.specs.Laws.{BoxWithoutBinders, DiamondWithoutBinders, ConjugateWithoutBinders, BoxMeans, DiamondMeans, DiamondIsConjugate, BoxIsSound, GuardedIsClean, GuardedIsPredicate};
 ghost use Rattle.bk_wp.specs.Growth.{BoxIsNoSmaller, DiamondIsNoSmaller};
 ghost use Rattle.bk_wp.specs.Examples.{EachTable, CountsUp};
 
@@ -23,9 +23,10 @@ pub fn with_loops()
     ensures { BoxIsSound }
 {}
 
-/// What the evaluation conditions say, together with the box.
+/// What the evaluation conditions say together with the box, and that they are predicates.
 pub fn evaluation()
-    ensures { GuardedIsClean }
+    ensures clean { GuardedIsClean }
+    ensures predicates { GuardedIsPredicate }
 {}
 
 /// Neither is smaller than what is to hold after the substitution.

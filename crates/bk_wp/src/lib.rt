@@ -4,6 +4,7 @@
 pub mod error;
 pub mod evaluation;
 pub mod laws;
+mod quantifiers;
 pub mod weakest;
 
 pub use error::WpFault;
