@@ -6,3 +6,5 @@ pub mod ArrayTypes
 pub mod Shapes
 pub mod Whole
 pub mod SimpleInB0
+pub mod Units
+pub mod IntervalCounts

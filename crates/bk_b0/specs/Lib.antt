@@ -1,5 +1,7 @@
 pub mod Kinds
 pub mod Cells
+pub mod Places
 pub mod Translation
 pub mod Simple
+pub mod CodeUnit
 pub mod Laws

@@ -1,5 +1,5 @@
 -- A development in B0 is in B0 after flattening: || has no code, so that its last level stays as it is.
-use Rattle.std.proofs.Common.{◌≡◌, ◌⊎◌, inl, inr, ◌<◌, ℕ, List, [], ◌∷◌, ◌++◌, length, refl, sym, ◌∙◌, ap, subst, Bool, true, ◌||◌, nat_eq, Some, None, Option}
+use Rattle.std.proofs.Common.{◌≡◌, ◌⊎◌, inl, inr, ◌<◌, ℕ, List, [], ◌∷◌, length, refl, sym, ◌∙◌, ap, subst, Bool, true, ◌||◌, nat_eq, Some, None, Option}
 use Rattle.bk_form.specs.Table.{IsWellFormed}
 use Rattle.bk_form.specs.ArrayTable.{row_of}
 use Rattle.bk_form.specs.Each.{Each}

@@ -1,5 +1,4 @@
 -- Of a last level without || flattening leaves the arrays and the cells.
-use Rattle.std.proofs.Common.{◌≡◌, ℕ}
 use Rattle.bk_dev.specs.Laws.{FlattenedKeepsCells}
 use Rattle.bk_dev.proofs.FlatSame.{low-same, arrays-same, cell-same, cells-same, count-same}
 use Rattle.bk_dev.proofs.InTable.{low-vars}

@@ -1,5 +1,5 @@
 -- What holds of every development: its numbers name entries, its formulas type, and names stay where they may stand.
-use Rattle.std.specs.Prelude.{◌≡◌, ◌⊎◌, ◌<◌, ℕ, suc, nat_eq, pos, ◌-ℤ◌, ◌≤ℤ◌, Bool, true, false, not, ◌||◌, List, [], ◌∷◌, ◌++◌, length, Option, Some, ◌^◌, ℤ}
+use Rattle.std.specs.Prelude.{◌≡◌, ◌⊎◌, ◌<◌, ℕ, suc, nat_eq, pos, ◌-ℤ◌, ◌≤ℤ◌, Bool, true, false, not, ◌||◌, List, [], ◌∷◌, ◌++◌, length, Option, Some, ◌^◌}
 use Rattle.std.specs.List.{slice_get, flat_map}
 use Rattle.bk_val.specs.ValueType.{ValueType}
 use Rattle.bk_form.specs.Table.{Table, variable_type, IsWellFormed}

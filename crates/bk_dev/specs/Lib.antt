@@ -3,6 +3,7 @@ pub mod DevelopmentCodes
 pub mod Flattened
 pub mod Hypotheses
 pub mod Layout
+pub mod ClueView
 pub mod B0
 pub mod Facts
 pub mod Machine

@@ -20,7 +20,7 @@ use Rattle.bk_dev.specs.B0.{IsScalarName, operators_down, IsShallowTerm, Evaluat
 use Rattle.bk_dev.specs.Development.{Development}
 use Rattle.bk_dev.specs.Layout.{arrays_of}
 use Rattle.bk_b0.specs.Simple.{IsSimpleTerm, IsSimpleCondition, IsSimpleStatement}
-use Rattle.bk_wp.specs.Guarded.{IsTotal, HasTotal}
+use Rattle.bk_wp.specs.Shapes.{HasNoLoop}
 use Rattle.bk_comp.specs.Contents.{IsExpressionOver, IsIntervalOfNumbers, IsConditionOver, IsStatementOver, HasNoHigher}
 
 -- ---- typing
@@ -149,29 +149,8 @@ module _ (dev : Development) (scalar : (x : ℕ) → IsScalarName dev x) where
   statement-shallow members xs ys _ h low = absurd h
 
 -- ---- obligations
-module _ (xs : List ℕ) where
-  pub expression-total : (f : Formula) → IsExpressionOver xs f → IsTotal f
-  expression-total (variable x) h = tt
-  expression-total (literal z) h = tt
-  expression-total (binary Add a b) h = (tt, expression-total a h.0, expression-total b h.1)
-  expression-total (binary Sub a b) h = (tt, expression-total a h.0, expression-total b h.1)
-  expression-total _ h = absurd h
-
-  interval-total : (d : Formula) → IsIntervalOfNumbers d → IsTotal d
-  interval-total (binary Range (literal l) (literal h)) k = (tt, tt, tt)
-  interval-total _ k = absurd k
-
-  pub condition-total : (members : Bool) (p : Formula) → IsConditionOver members xs p → IsTotal p
-  condition-total members (binary Eq a b) h = (tt, expression-total a h.0, expression-total b h.1)
-  condition-total members (binary Lt a b) h = (tt, expression-total a h.0, expression-total b h.1)
-  condition-total members (binary Le a b) h = (tt, expression-total a h.0, expression-total b h.1)
-  condition-total members (binary In a d) h = (tt, expression-total a h.1, interval-total d h.2)
-  condition-total members (unary Not p) h = (tt, condition-total members p h)
-  condition-total members (binary And p q) h = (tt, condition-total members p h.0, condition-total members q h.1)
-  condition-total members _ h = absurd h
-
-  pub statement-total : (members : Bool) (ys : List ℕ) (s : Substitution) → IsStatementOver members xs ys s → HasTotal s
-  statement-total members ys skip h = tt
-  statement-total members ys (assign (p ∷ [])) h = (expression-total p.1 h.1, tt)
-  statement-total members ys (if_else p s t) h = (condition-total members p h.0, statement-total members ys s h.1, statement-total members ys t h.2)
-  statement-total members ys _ h = absurd h
+pub statement-no-loop : (members : Bool) (xs ys : List ℕ) (s : Substitution) → IsStatementOver members xs ys s → HasNoLoop s
+statement-no-loop members xs ys skip h = tt
+statement-no-loop members xs ys (assign ps) h = tt
+statement-no-loop members xs ys (if_else p s t) h = (statement-no-loop members xs ys s h.1, statement-no-loop members xs ys t h.2)
+statement-no-loop members xs ys _ h = absurd h

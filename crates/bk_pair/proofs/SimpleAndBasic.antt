@@ -17,12 +17,12 @@ use Rattle.bk_dev.specs.Layout.{Clue, in_domain, equals, silent, has_scalars, ar
 use Rattle.bk_dev.specs.B0.{IsScalarName, IsShallowTerm, EvaluatesShallow}
 use Rattle.bk_b0.specs.Simple.{IsSimpleStatement, IsSimple}
 use Rattle.bk_b0.proofs.Whole.{scalar}
-use Rattle.bk_wp.specs.Guarded.{IsTotal}
-use Rattle.bk_po.specs.Basic.{IsBasicBody, IsBasicLevel, IsBasic}
+use Rattle.bk_wp.specs.Shapes.{HasNoLoop}
+use Rattle.bk_po.specs.Basic.{IsBasicLevel, IsBasic}
 use Rattle.bk_comp.specs.Operations.{Header, Places, numbers_from, takes_members}
 use Rattle.bk_comp.specs.Components.{Component, machine_places, implementation_places}
 use Rattle.bk_comp.specs.Contents.{IsPreconditionOver, IsBodyOver, AreBodiesOver, IsMadeOfThese}
-use Rattle.bk_pair.proofs.Made.{statement-simple, statement-shallow, condition-total, statement-total}
+use Rattle.bk_pair.proofs.Made.{statement-simple, statement-shallow, statement-no-loop}
 use Rattle.bk_pair.proofs.Pairs.{as_machine, as_implementation, dev, lower, lower-stand, variables-int, typed-home}
 
 -- ---- all bodies
@@ -59,15 +59,8 @@ unconditioned xs f (inr made) = let e = made.0 in absurd (cc)
 body-unconditioned : (x : ℕ) (p : Places) (h : Header) (b : Body) → IsBodyOver Implementation x p h b → b.condition ≡ btrue
 body-unconditioned x p h b made = unconditioned (x ∷ numbers_from p.inputs h.inputs) b.condition made.condition
 
-precondition-total : (kind : Kind) (xs : List ℕ) (f : Formula) → IsPreconditionOver kind xs f → IsTotal f
-precondition-total kind xs f (inl e) = subst IsTotal (sym e) tt
-precondition-total kind xs f (inr made) = condition-total xs true f made.1
-
-body-basic : (kind : Kind) (x : ℕ) (p : Places) (h : Header) (b : Body) → IsBodyOver kind x p h b → IsBasicBody b
-body-basic kind x p h b made = record {
-  condition = precondition-total kind (x ∷ numbers_from p.inputs h.inputs) b.condition made.condition;
-  sub = statement-total (x ∷ numbers_from p.inputs h.inputs) (takes_members kind) (x ∷ numbers_from p.outputs h.outputs) b.sub made.sub;
-}
+body-no-loop : (kind : Kind) (x : ℕ) (p : Places) (h : Header) (b : Body) → IsBodyOver kind x p h b → HasNoLoop b.sub
+body-no-loop kind x p h b made = statement-no-loop (takes_members kind) (x ∷ numbers_from p.inputs h.inputs) (x ∷ numbers_from p.outputs h.outputs) b.sub made.sub
 
 -- ---- a whole number is no array
 number-row : (whole : Development) (x : ℕ) → variable_type whole.table x ≡ Some int_type → (c : Clue) → row_by whole x c ≡ None
@@ -101,22 +94,10 @@ module _ (m i : Component) (upper : IsMadeOfThese (as_machine m)) (below : IsMad
   }
 
   upper-basic : IsBasicLevel (level_at pair 0)
-  upper-basic = record {
-    properties = tt;
-    invariant = condition-total (0 ∷ []) true m.invariant upper.invariant;
-    assertions = tt;
-    init = (tt, tt);
-    bodies = each-body Machine 0 IsBasicBody (body-basic Machine 0) (machine_places 1 m.headers) m.headers m.bodies upper.bodies;
-  }
+  upper-basic = record { init = tt; bodies = each-body Machine 0 (λ b. HasNoLoop b.sub) (body-no-loop Machine 0) (machine_places 1 m.headers) m.headers m.bodies upper.bodies }
 
   lower-basic : IsBasicLevel (level_at pair 1)
-  lower-basic = record {
-    properties = tt;
-    invariant = condition-total (second ∷ []) true i.invariant below.invariant;
-    assertions = tt;
-    init = (tt, tt);
-    bodies = each-body Implementation second IsBasicBody (body-basic Implementation second) (implementation_places 1 (suc second) m.headers) m.headers i.bodies below.bodies;
-  }
+  lower-basic = record { init = tt; bodies = each-body Implementation second (λ b. HasNoLoop b.sub) (body-no-loop Implementation second) (implementation_places 1 (suc second) m.headers) m.headers i.bodies below.bodies }
 
   no-arrays : (arrays_of pair).rows ≡ []
   no-arrays = λ j. filter_map (λ (r : Option ArrayRow). r) (number-row pair second (typed-home m i second (Concrete 1) (lower-stand m i).0) (typing_clue (Some second) (reversed pair.levels [])) j ∷ [])

@@ -38,7 +38,7 @@ use Rattle.bk_po.proofs.Basics.{basic_are_flat}
 use Rattle.bk_po.proofs.Splitting.{each-map, each-below, IsSound, IsMet, rows-met, split-holds, conjunction-true}
 use Rattle.bk_po.specs.Levels.{BoxesHold, ConditionsHold}
 use Rattle.bk_po.proofs.Enough.{boxes_carry}
-use Rattle.bk_po.proofs.BasicClean.{conditions_are_clean}
+use Rattle.bk_po.proofs.Conditions.{conditions_are_clean}
 
 -- ---- assertions
 module _ (find : Finder) (table : Table) (e : State) where
@@ -232,7 +232,8 @@ valid_obligations_carry find law dev d b valid =
     let flat : flattened dev ≡ dev = flattened_already dev plain in
     let known : AreValid dev.table (numbered (flat_obligations dev)) = subst (λ x. AreValid x.table (numbered (flat_obligations x))) flat valid in
     let boxes = boxes-hold find law dev f d.only_last b known in
-    let carried = boxes_carry find law dev f d.only_last (levels-are-flat dev plain) boxes (conditions_are_clean find law dev f b boxes (conditions-hold find law dev f d.only_last b known)) in
+    let levels = levels-are-flat dev plain in
+    let carried = boxes_carry find law dev f d.only_last levels boxes (conditions_are_clean find law dev f d.only_last levels boxes (conditions-hold find law dev f d.only_last b known)) in
     record {
       keeps = subst (KeepsFlat find) (sym flat) carried.keeps;
       carries = λ j h. subst (λ x. CarriesFlat find x j) (sym flat) (carried.carries j h);

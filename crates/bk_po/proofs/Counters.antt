@@ -18,13 +18,7 @@ unfolding digits
 tally_asks = record { kept = refl; not_below = refl; not_above = refl }
 
 basic-level : (name : List ℕ) (kind : Kind) (n r : ℕ) (links : List (ℕ × ℕ)) → IsBasicLevel (counter_level btrue name kind n r links)
-basic-level name kind n r links = record {
-  properties = tt;
-  invariant = (tt, tt, (tt, tt, tt));
-  assertions = tt;
-  init = (tt, tt);
-  bodies = (record { condition = tt; sub = (tt, tt) }, (record { condition = tt; sub = (tt, tt) }, (record { condition = tt; sub = (tt, tt) }, tt)));
-}
+basic-level name kind n r links = record { init = tt; bodies = (tt, (tt, (tt, tt))) }
 
 pub counter_is_valid : CounterIsValid
 counter_is_valid = record {

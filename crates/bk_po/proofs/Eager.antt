@@ -1,5 +1,5 @@
 -- The main goals of the development whose implementation runs where the machine does not end.
-use Rattle.std.proofs.Common.{◌≡◌, pos, refl, ap, Bool, true, false, not, ◌&&◌, ◌||◌}
+use Rattle.std.proofs.Common.{◌≡◌, pos, refl, ap, Bool, true, false, not, ◌&&◌}
 use Rattle.bk_val.specs.Value.{int}
 use Rattle.bk_val.specs.CmpLaws.{same_value}
 use Rattle.bk_form.specs.Operators.{is_equal, implies}

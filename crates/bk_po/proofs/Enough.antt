@@ -1,5 +1,5 @@
 -- The boxes of all levels, with what is met defined or fitting, are what the machine's keeping and the levels' carrying ask.
-use Rattle.std.proofs.Common.{◌<◌, ℕ, suc, length, sym, subst}
+use Rattle.std.proofs.Common.{◌<◌, suc, length, sym, subst}
 use Rattle.bk_form.specs.Search.{Finder, IsSearch}
 use Rattle.bk_dev.specs.Development.{Development}
 use Rattle.bk_dev.specs.Facts.{IsLawful, IsFlatDevelopment, OnlyLastIsImplementation}

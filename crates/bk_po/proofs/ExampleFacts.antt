@@ -11,9 +11,8 @@ use Rattle.bk_gsl.proofs.States.{nat_eq-same}
 use Rattle.bk_dev.specs.Development.{Development, level_at, body_at}
 use Rattle.bk_dev.specs.Facts.{is_constant, is_variable_of, home_of, Names, names_constants, names_joined, names_own, IsBodyOf, IsLevelOf, IsDevelopment, IsLawful}
 use Rattle.bk_dev.specs.Counter.{counter_table}
-use Rattle.bk_wp.specs.Guarded.{IsTotal}
 use Rattle.bk_wp.proofs.Steps.{or-cases}
-use Rattle.bk_po.specs.Basic.{IsBasicBody, IsBasic}
+use Rattle.bk_po.specs.Basic.{IsBasic}
 use Rattle.bk_po.specs.Examples.{between, plus, getting, inc_head, get_head, tally_table, may_add, adding, tally, stepping, stepper}
 use Rattle.bk_po.specs.Laws.{ExamplesAreBasic}
 use Rattle.bk_dev.proofs.Levels.{two-levels}
@@ -322,37 +321,16 @@ stepper_facts = record {
 }
 
 -- ---- both are basic
-between-total : (n low high : ℕ) → IsTotal (between (variable n) low high)
-between-total n low high = (tt, tt, (tt, tt, tt))
-
-answers-basic : (r n : ℕ) → IsBasicBody (getting r n)
-answers-basic r n = record { condition = tt; sub = (tt, tt) }
-
-adds-basic : (condition : Formula) (n : ℕ) → IsTotal condition → IsBasicBody (adding condition n)
-adds-basic condition n h = record { condition = h; sub = ((tt, tt, tt), tt) }
-
-steps-basic : (n : ℕ) → IsBasicBody (stepping n)
-steps-basic n = record { condition = tt; sub = ((tt, tt, tt), ((tt, tt, tt), tt), tt) }
-
-may_add-total : IsTotal may_add
-may_add-total = (tt, between-total 4 1 10, (tt, (tt, tt, tt), tt))
-
 pub examples_are_basic : ExamplesAreBasic
 examples_are_basic = record {
   tally_facts = tally_facts;
   tally_basic = record {
-    levels = (
-      record { properties = tt; invariant = between-total 0 0 10; assertions = tt; init = (tt, tt); bodies = (adds-basic may_add 0 may_add-total, (answers-basic 2 0, tt)) },
-      (record { properties = tt; invariant = between-total 1 0 10; assertions = tt; init = (tt, tt); bodies = (adds-basic btrue 1 tt, (answers-basic 3 1, tt)) }, tt),
-    );
+    levels = (record { init = tt; bodies = (tt, (tt, tt)) }, (record { init = tt; bodies = (tt, (tt, tt)) }, tt));
     no_arrays = refl;
   };
   stepper_facts = stepper_facts;
   stepper_basic = record {
-    levels = (
-      record { properties = tt; invariant = between-total 0 0 10; assertions = tt; init = (tt, tt); bodies = (steps-basic 0, (answers-basic 2 0, tt)) },
-      (record { properties = tt; invariant = between-total 1 0 10; assertions = tt; init = (tt, tt); bodies = (steps-basic 1, (answers-basic 3 1, tt)) }, tt),
-    );
+    levels = (record { init = tt; bodies = ((tt, tt), (tt, tt)) }, (record { init = tt; bodies = ((tt, tt), (tt, tt)) }, tt));
     no_arrays = refl;
   };
 }

@@ -3,7 +3,7 @@ use Rattle.std.proofs.Common.{◌≡◌, ◌<◌, length, List, [], ◌∷◌, B
 use Rattle.bk_form.specs.Formula.{Formula, binary, btrue}
 use Rattle.bk_form.specs.declared.operator.BinOp.TheVariants.{And, Imp}
 use Rattle.bk_bind.specs.Limits.{IsWithinLimits}
-use Rattle.bk_wp.proofs.Growth.{within_left, within_right}
+use Rattle.bk_bind.proofs.Within.{within_left, within_right}
 use Rattle.bk_dev.specs.Development.{is_btrue}
 use Rattle.bk_po.specs.Obligations.{joined_onto, joined_all, conjunction, each_after}
 

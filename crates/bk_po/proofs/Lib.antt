@@ -11,9 +11,10 @@ pub mod Values
 pub mod Sequents
 pub mod Numbering
 pub mod Growing
+pub mod InTurn
 pub mod Laying
-pub mod BasicClean
 pub mod Chain
+pub mod Conditions
 pub mod Enough
 pub mod Joining
 pub mod Eager

@@ -1,12 +1,12 @@
 -- In a basic development every hypothesis and every goal is a predicate over the development's table.
-use Rattle.std.proofs.Common.{◌≡◌, ◌<◌, ℕ, zero, suc, List, [], ◌∷◌, ◌++◌, map, take, length, refl, ap, true, false, cond, arith, Option, Some, None, ◌∙◌}
-use Rattle.std.specs.Prelude.{codes, slice_index_or}
+use Rattle.std.proofs.Common.{◌≡◌, ◌<◌, ◌^◌, ℕ, zero, suc, nat_eq, List, [], ◌∷◌, ◌++◌, map, take, length, refl, sym, ap, subst, Bool, true, false, cond, arith, Option, Some, None, ◌∙◌}
+use Rattle.std.specs.Prelude.{codes, find, slice_index_or}
 use Rattle.std.specs.List.{filter, flat_map}
 use Rattle.bk_val.specs.ValueType.{ValueType, int_type, bool_type, enum_type, pair_type, set_type}
 use Rattle.bk_form.specs.Table.{variable_type}
 use Rattle.bk_form.specs.Formula.{Formula}
 use Rattle.bk_form.specs.Role.{predicate, gives, given_by, if_holds, equality_role, membership_role}
-use Rattle.bk_gsl.specs.Substitution.{pre}
+use Rattle.bk_gsl.specs.Substitution.{Substitution, pre}
 use Rattle.bk_gsl.specs.Typed.{AreTypedTerms, Types}
 use Rattle.bk_form.specs.Predicates.{IsPredicate, conjuncts, equation}
 use Rattle.bk_dev.specs.Development.{Head, Body, Level, Development, blank_body, level_at, body_of, body_at, inputs_of, is_btrue, is_implementation, whole}
@@ -15,17 +15,22 @@ use Rattle.bk_dev.specs.Facts.{AreAlike, IsStated, IsLink, IsValue, IsLevelOf, I
 use Rattle.bk_form.specs.Each.{Each}
 use Rattle.bk_dev.specs.Claims.{arrays_at, beside}
 use Rattle.bk_wp.specs.Box.{diamond}
-use Rattle.bk_wp.proofs.Guarding.{total-plain}
+use Rattle.bk_wp.specs.Shapes.{HasNoLoop}
+use Rattle.bk_wp.proofs.Boxes.{guarded_is_predicate}
+use Rattle.bk_wd.specs.Laws.{AreTypedArrays}
+use Rattle.bk_wd.proofs.Predicates.{defined-predicate}
+use Rattle.bk_form.specs.ArrayTable.{ArrayTable}
+use Rattle.bk_dev.specs.Layout.{arrays_of}
+use Rattle.bk_form.specs.declared.arrays.ArrayRow.{ArrayRow}
 use Rattle.bk_dev.proofs.Levels.{level_fact, body-at}
 use Rattle.bk_po.specs.declared.row.Row.{Row}
 use Rattle.bk_po.specs.declared.row.Row.TheVariants.{PropertiesDefined, ValuesMeet, InvariantDefined, AssertionsDefined, AssertionsHold, Initialisation, InitialisationDefined, Operations, OperationsDefined}
-use Rattle.bk_po.specs.Obligations.{Obligation, obligation, of_operation, of_definedness, rows, numbers_below, named_after, conjunction, each_after, values_goal, joining_goal, init_goal, operation_goal, row_obligations, flat_obligations}
+use Rattle.bk_po.specs.Obligations.{Obligation, obligation, of_operation, of_definedness, rows, numbers_below, named_after, conjunction, each_after, values_goal, joining_goal, init_goal, operation_goal, evaluation_goal, row_obligations, flat_obligations}
 use Rattle.bk_po.specs.Basic.{IsBasic}
-use Rattle.bk_po.proofs.Basics.{each-or, basic_level, init_plain, body_plain, whole_total}
+use Rattle.bk_po.proofs.Basics.{each-or, init_no_loop, body_no_loop, whole_no_loop, flat_without_loop}
 use Rattle.bk_po.proofs.Lists.{append-each, flat-each, map-each, below-each, take-each, filter-true}
 use Rattle.bk_wp.proofs.Predicates.{terms-predicate, box-predicate, diamond-predicate}
-use Rattle.bk_wp.proofs.Plain.{no-loop}
-use Rattle.bk_po.proofs.Predicates.{guarded-predicate, conjunction-predicate, after-predicate, links-predicates, links-predicate, beside-alike, parts-predicates}
+use Rattle.bk_po.proofs.Predicates.{conjunction-predicate, after-predicate, in-turn-predicate, links-predicates, links-predicate, beside-alike, parts-predicates}
 use Rattle.bk_form.proofs.Equations.{same_type-self}
 use Rattle.bk_po.proofs.Splitting.{each-so}
 
@@ -103,7 +108,7 @@ module _ (dev : Development) (f : IsLawful dev) where
   operation-typed (suc j) o = under-typed (suc j) (suc j) o
 
   -- ---- goals
-  module _ (basic : IsBasic dev) where
+  module _ (basic : IsBasic dev) (room : length dev.table.variables < 2 ^ 32) where
     abbrev HasPredicates : Obligation → Type 0
     HasPredicates o = ArePredicates o.hypotheses × IsPredicate dev.table o.goal
 
@@ -138,40 +143,57 @@ module _ (dev : Development) (f : IsLawful dev) where
         conjunction-predicate dev.table (l.invariant ∷ conjunction (map equation l.links) ∷ conjunction (map equation (beside outputs above)) ∷ []) ((fact k h).invariant.is_predicate, (links-predicate dev.table l.links (links-alike k l (fact k h)), (links-predicate dev.table (beside outputs above) alike, tt)))
 
     init-goal : (k : ℕ) → k < length dev.levels → IsPredicate dev.table (init_goal dev k)
-    init-goal zero h = box-predicate dev.table f.table (level_at dev 0).init (level_at dev 0).invariant (fact 0 h).init.types (no-loop (level_at dev 0).init (init_plain dev basic 0)) (fact 0 h).invariant.is_predicate
+    init-goal zero h = box-predicate dev.table f.table (level_at dev 0).init (level_at dev 0).invariant (fact 0 h).init.types (init_no_loop dev basic 0) (fact 0 h).invariant.is_predicate
     init-goal (suc j) h =
         let joined = joining_goal dev (suc j) [] [] in
-        let answered = diamond-predicate dev.table f.table (level_at dev j).init joined (fact j (omega (arith, h))).init.types (no-loop (level_at dev j).init (init_plain dev basic j)) (joining-goal (suc j) h [] [] tt) in
-        box-predicate dev.table f.table (level_at dev (suc j)).init (diamond dev.table (level_at dev j).init joined) (fact (suc j) h).init.types (no-loop (level_at dev (suc j)).init (init_plain dev basic (suc j))) answered
+        let answered = diamond-predicate dev.table f.table (level_at dev j).init joined (fact j (omega (arith, h))).init.types (init_no_loop dev basic j) (joining-goal (suc j) h [] [] tt) in
+        box-predicate dev.table f.table (level_at dev (suc j)).init (diamond dev.table (level_at dev j).init joined) (fact (suc j) h).init.types (init_no_loop dev basic (suc j)) answered
 
     operation-goal : (k : ℕ) → k < length dev.levels → (o : ℕ) → o < length dev.heads → IsPredicate dev.table (operation_goal dev k o)
-    operation-goal zero h o l = box-predicate dev.table f.table (body_at dev 0 o).sub (level_at dev 0).invariant (body-fact 0 h o l).sub.types (no-loop (body_at dev 0 o).sub (body_plain dev basic 0 o)) (fact 0 h).invariant.is_predicate
+    operation-goal zero h o l = box-predicate dev.table f.table (body_at dev 0 o).sub (level_at dev 0).invariant (body-fact 0 h o l).sub.types (body_no_loop dev basic 0 o) (fact 0 h).invariant.is_predicate
     operation-goal (suc j) h o l =
         let lower = body_at dev (suc j) o in
         let upper = body_at dev j o in
         let upper-fact = body-fact j (omega (arith, h)) o l in
         let joined = joining_goal dev (suc j) lower.outputs upper.outputs in
         let alike = beside-alike dev.table lower.outputs upper.outputs (body_at dev 0 o).outputs (body-fact (suc j) h o l).output_types upper-fact.output_types in
-        let answered = diamond-predicate dev.table f.table upper.sub joined upper-fact.sub.types (no-loop upper.sub (body_plain dev basic j o)) (joining-goal (suc j) h lower.outputs upper.outputs alike) in
-        box-predicate dev.table f.table (whole lower) (diamond dev.table upper.sub joined) (whole-types (suc j) h o l) (no-loop (whole lower) (total-plain (whole lower) (whole_total dev basic (suc j) o))) answered
+        let answered = diamond-predicate dev.table f.table upper.sub joined upper-fact.sub.types (body_no_loop dev basic j o) (joining-goal (suc j) h lower.outputs upper.outputs alike) in
+        box-predicate dev.table f.table (whole lower) (diamond dev.table upper.sub joined) (whole-types (suc j) h o l) (whole_no_loop lower (body_no_loop dev basic (suc j) o)) answered
+
+    stated : (k : ℕ) → k < length dev.levels → ArePredicates (level_at dev k).assertions
+    stated k h = each-so (IsStated dev k) (IsPredicate dev.table) (level_at dev k).assertions (λ p s. s.is_predicate) (fact k h).assertions
 
     assertions-goal : (k : ℕ) → k < length dev.levels → IsPredicate dev.table (each_after (level_at dev k).assertions)
-    assertions-goal k h = after-predicate dev.table (level_at dev k).assertions (each-so (IsStated dev k) (IsPredicate dev.table) (level_at dev k).assertions (λ p s. s.is_predicate) (fact k h).assertions)
+    assertions-goal k h = after-predicate dev.table (level_at dev k).assertions (stated k h)
+
+    -- ---- what is met is defined or fits
+    no-array-typed : (a : ArrayTable) → a.rows ≡ [] → AreTypedArrays dev.table a
+    no-array-typed a e x row r = absurd (let none : None ≡ Some row = sym (ap (find (λ (y : ArrayRow). nat_eq y.var x)) e) ∙ r in cc)
+
+    arrays-typed : (k : ℕ) (a : ArrayTable) → arrays_at dev k ≡ Some a → AreTypedArrays dev.table a
+    arrays-typed k a h = by_kind (is_implementation (level_at dev k)) h
+      where
+        by_kind : (b : Bool) → cond b (Some (arrays_of dev)) None ≡ Some a → AreTypedArrays dev.table a
+        by_kind true q = let same : arrays_of dev ≡ a = cc in subst (AreTypedArrays dev.table) same (no-array-typed (arrays_of dev) basic.no_arrays)
+        by_kind false q = absurd (cc)
+
+    evaluation-goal : (k : ℕ) (s : Substitution) → Types dev.table s → HasNoLoop s → IsPredicate dev.table (evaluation_goal dev k s)
+    evaluation-goal k s w n = guarded_is_predicate dev.table f.table room (arrays_at dev k) (arrays-typed k) s (flat_without_loop s n) w
 
     -- ---- down the list
     of-each : (F : ℕ → Obligation) → ((o : ℕ) → o < length dev.heads → HasPredicates (F o)) → Each HasPredicates (map F (numbers_below (length dev.heads)))
     of-each F h = map-each HasPredicates F (numbers_below (length dev.heads)) (below-each (λ o. HasPredicates (F o)) (length dev.heads) h)
 
     row-typed : (k : ℕ) → k < length dev.levels → (row : Row) → Each HasPredicates (row_obligations dev k row)
-    row-typed k h PropertiesDefined = ((properties-typed k, refl), tt)
+    row-typed k h PropertiesDefined = ((properties-typed k, defined-predicate dev.table f.table (level_at dev k).properties (fact k h).properties), tt)
     row-typed k h ValuesMeet = elim (is_implementation (level_at dev k)) as (λ b. Each HasPredicates (cond b (obligation (named_after dev k (codes "VALUES")) [] (values_goal dev k) ∷ []) [])) [ true ↦ ((tt, values-goal k), tt) | false ↦ tt ]
-    row-typed k h InvariantDefined = ((known-typed k k, refl), tt)
-    row-typed k h AssertionsDefined = ((assertion-typed k h, refl), tt)
+    row-typed k h InvariantDefined = ((known-typed k k, defined-predicate dev.table f.table (level_at dev k).invariant (fact k h).invariant.is_predicate), tt)
+    row-typed k h AssertionsDefined = ((assertion-typed k h, in-turn-predicate dev.table f.table (level_at dev k).assertions (stated k h)), tt)
     row-typed k h AssertionsHold = ((assertion-typed k h, assertions-goal k h), tt)
     row-typed k h Initialisation = ((init-typed k, init-goal k h), tt)
-    row-typed k h InitialisationDefined = ((init-typed k, guarded-predicate dev.table (arrays_at dev k) f.table (level_at dev k).init (fact k h).init.types (basic_level dev basic k).init), tt)
+    row-typed k h InitialisationDefined = ((init-typed k, evaluation-goal k (level_at dev k).init (fact k h).init.types (init_no_loop dev basic k)), tt)
     row-typed k h Operations = of-each (of_operation dev k) (λ o l. (operation-typed k o, operation-goal k h o l))
-    row-typed k h OperationsDefined = of-each (of_definedness dev k) (λ o l. (under-typed k k o, guarded-predicate dev.table (arrays_at dev k) f.table (whole (body_at dev k o)) (whole-types k h o l) (whole_total dev basic k o)))
+    row-typed k h OperationsDefined = of-each (of_definedness dev k) (λ o l. (under-typed k k o, evaluation-goal k (whole (body_at dev k o)) (whole-types k h o l) (whole_no_loop (body_at dev k o) (body_no_loop dev basic k o))))
 
     each-row : (k : ℕ) → k < length dev.levels → (rs : List Row) → Each (λ row. Each HasPredicates (row_obligations dev k row)) rs
     each-row k h [] = tt

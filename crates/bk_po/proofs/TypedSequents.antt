@@ -1,7 +1,8 @@
 -- Every sequent of a basic development is made of predicates.
-use Rattle.std.proofs.Common.{◌≡◌, ℕ, suc, List, [], ◌∷◌, sym, subst}
+use Rattle.std.proofs.Common.{◌≡◌, ◌<◌, ◌^◌, ℕ, suc, List, [], ◌∷◌, length, sym, subst}
 use Rattle.bk_form.specs.Table.{Table}
 use Rattle.bk_form.specs.Predicates.{IsPredicate}
+use Rattle.bk_dev.specs.Development.{Development}
 use Rattle.bk_dev.specs.Flattened.{flattened}
 use Rattle.bk_form.specs.Each.{Each}
 use Rattle.bk_dev.proofs.Flat.{flattened_already}
@@ -30,5 +31,6 @@ module _ (table : Table) where
 pub obligations_type : ObligationsType
 obligations_type dev f basic =
     let flat : flattened dev ≡ dev = flattened_already dev (basic_are_flat dev basic) in
-    let typed : Each (λ s. Types dev.table s.1) (numbered (flat_obligations dev)) = sequents-typed dev.table (flat_obligations dev) (obligations-typed dev f.lawful basic) in
+    let room : length dev.table.variables < 2 ^ 32 = subst (λ (d : Development). length d.table.variables < 2 ^ 32) flat f.room in
+    let typed : Each (λ s. Types dev.table s.1) (numbered (flat_obligations dev)) = sequents-typed dev.table (flat_obligations dev) (obligations-typed dev f.lawful basic room) in
     subst (λ d. Each (λ s. Types d.table s.1) (numbered (flat_obligations d))) (sym flat) typed

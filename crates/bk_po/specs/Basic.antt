@@ -1,22 +1,14 @@
 -- The developments whose obligations are made so far.
 use Rattle.std.specs.Prelude.{◌≡◌, []}
-use Rattle.bk_dev.specs.Development.{Body, Level, Development}
+use Rattle.bk_dev.specs.Development.{Level, Development}
 use Rattle.bk_form.specs.Each.{Each}
 use Rattle.bk_dev.specs.Layout.{arrays_of}
-use Rattle.bk_wp.specs.Guarded.{IsTotal, HasTotal}
+use Rattle.bk_wp.specs.Shapes.{HasNoLoop}
 
--- its precondition and all its formulas are made of operators that are defined everywhere, without binders; it has no locals, x :(P), loops or ||
-pub record IsBasicBody (b : Body) : Type 0 where
-  pub condition : IsTotal b.condition
-  pub sub : HasTotal b.sub
-
--- and so are its initialisation, its bodies, and all its clauses
+-- its initialisation and its bodies have no loop and no ||
 pub record IsBasicLevel (l : Level) : Type 0 where
-  pub properties : IsTotal l.properties
-  pub invariant : IsTotal l.invariant
-  pub assertions : Each IsTotal l.assertions
-  pub init : HasTotal l.init
-  pub bodies : Each IsBasicBody l.bodies
+  pub init : HasNoLoop l.init
+  pub bodies : Each (λ b. HasNoLoop b.sub) l.bodies
 
 -- each level is so, and no variable is an array
 pub record IsBasic (dev : Development) : Type 0 where

@@ -62,9 +62,9 @@ BoxesCarry = (find : Finder) → IsSearch find → (dev : Development) → IsLaw
 abbrev pub EveryLevelIsCarried : Type 0
 EveryLevelIsCarried = (find : Finder) → IsSearch find → (dev : Development) → IsDevelopment dev → BoxesHold find (flattened dev) → AllClean find (flattened dev) → Keeps find dev × ((j : ℕ) → suc j < length dev.levels → Carries find dev j)
 
--- of a basic development what is asked beside the boxes says that what is met is defined or fits
+-- what is asked beside the boxes says, together with them, that what is met is defined or fits
 abbrev pub ConditionsAreClean : Type 0
-ConditionsAreClean = (find : Finder) → IsSearch find → (dev : Development) → IsLawful dev → IsBasic dev → BoxesHold find dev → ConditionsHold find dev → AllClean find dev
+ConditionsAreClean = (find : Finder) → IsSearch find → (dev : Development) → IsLawful dev → OnlyLastIsImplementation dev → IsFlatDevelopment dev → BoxesHold find dev → ConditionsHold find dev → AllClean find dev
 
 -- the boxes of all levels are asked together: an implementation that is not carried may have a true main goal, where the machine's is false
 pub record EagerAsksTheMachine : Type 0 where

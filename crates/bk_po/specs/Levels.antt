@@ -19,7 +19,7 @@ pub record BoxesHold (find : Finder) (dev : Development) : Type 0 where
   pub operations : (j : ℕ) → suc j < length dev.levels → (o : ℕ) → o < length dev.heads → (e : State) → IsTypedState dev.table e → AllHold find (at_state dev.table e) (unasserted_hypotheses dev (suc j) o) →
       holds find dev.table e (operation_goal dev (suc j) o) ≡ true
 
--- what is asked beside each box is true under its hypotheses: of basic developments, that what is met is defined or fits the machine
+-- what is asked beside each box is true under its hypotheses: that what is met is defined or fits the machine
 pub record ConditionsHold (find : Finder) (dev : Development) : Type 0 where
   pub inits : (k : ℕ) → k < length dev.levels → (e : State) → IsTypedState dev.table e → AllHold find (at_state dev.table e) (init_hypotheses dev k) → holds find dev.table e (evaluation_goal dev k (level_at dev k).init) ≡ true
   pub machine : (o : ℕ) → o < length dev.heads → (e : State) → IsTypedState dev.table e → AllHold find (at_state dev.table e) (properties_of dev 1) → holds find dev.table e (level_at dev 0).invariant ≡ true →

@@ -12,6 +12,8 @@ use Rattle.bk_dev.specs.Hypotheses.{properties_hypotheses, invariant_hypotheses,
 use Rattle.bk_form.specs.Predicates.{equation}
 use Rattle.bk_dev.specs.Claims.{arrays_at, beside}
 use Rattle.bk_gsl.specs.Substitution.{Substitution}
+use Rattle.bk_wd.specs.Joining.{both, where_true}
+use Rattle.bk_wd.specs.WellDefined.{defined}
 use Rattle.bk_wp.specs.Box.{box, diamond}
 use Rattle.bk_wp.specs.Guarded.{guarded}
 use Rattle.bk_seq.specs.Sequents.{Sequent, IsValidSequent, split}
@@ -45,12 +47,12 @@ each_after [] = btrue
 each_after (p ∷ []) = p
 each_after (p ∷ q ∷ qs) = binary And p (binary Imp p (each_after (q ∷ qs)))
 
--- that the properties, the invariant or the assertions are defined: btrue, since the formulas of the developments that are taken are made of
--- operators that are defined everywhere
-abbrev pub definedness_goal : Formula
-definedness_goal = btrue
+-- that each of these formulas is defined where those before it are true: WD(A) & (A => (WD(B) & (B => WD(C))))
+abbrev pub defined_in_turn : Table → List Formula → Formula
+defined_in_turn table [] = btrue
+defined_in_turn table (p ∷ ps) = both (defined table [] p) (where_true p (defined_in_turn table ps))
 
--- that what a substitution of level k meets is defined or, in an implementation, that what it executes stays within the machine's range
+-- that what a substitution of level k meets is defined or, in an implementation, that what it executes fits the machine
 abbrev pub evaluation_goal : Development → ℕ → Substitution → Formula
 evaluation_goal dev k s = guarded dev.table (arrays_at dev k) s
 
@@ -95,7 +97,7 @@ named_after dev k clause = (level_at dev k).name ++ codes "." ++ clause
 abbrev pub head_name : Development → ℕ → List ℕ
 head_name dev o = (slice_index_or dev.heads o (record { name = []; inputs = []; outputs = 0 })).name
 
--- the definedness of what is met is named .wd, and the range of what is executed .chk
+-- the definedness of what is met is named .wd, and that what is executed fits .chk
 abbrev pub suffix : Level → List ℕ
 suffix l = cond (is_implementation l) (codes ".chk") (codes ".wd")
 
@@ -112,10 +114,10 @@ of_definedness dev k o = obligation (named_after dev k (head_name dev o ++ suffi
 
 -- of one row at level k, operations in the machine's order; of a development whose substitutions are flat
 abbrev pub row_obligations : Development → ℕ → Row → List Obligation
-row_obligations dev k PropertiesDefined = obligation (named_after dev k (codes "PROPERTIES.wd")) (properties_hypotheses dev k) definedness_goal ∷ []
+row_obligations dev k PropertiesDefined = obligation (named_after dev k (codes "PROPERTIES.wd")) (properties_hypotheses dev k) (defined dev.table [] (level_at dev k).properties) ∷ []
 row_obligations dev k ValuesMeet = cond (is_implementation (level_at dev k)) (obligation (named_after dev k (codes "VALUES")) [] (values_goal dev k) ∷ []) []
-row_obligations dev k InvariantDefined = obligation (named_after dev k (codes "INVARIANT.wd")) (invariant_hypotheses dev k) definedness_goal ∷ []
-row_obligations dev k AssertionsDefined = obligation (named_after dev k (codes "ASSERTIONS.wd")) (assertion_hypotheses dev k) definedness_goal ∷ []
+row_obligations dev k InvariantDefined = obligation (named_after dev k (codes "INVARIANT.wd")) (invariant_hypotheses dev k) (defined dev.table [] (level_at dev k).invariant) ∷ []
+row_obligations dev k AssertionsDefined = obligation (named_after dev k (codes "ASSERTIONS.wd")) (assertion_hypotheses dev k) (defined_in_turn dev.table (level_at dev k).assertions) ∷ []
 row_obligations dev k AssertionsHold = obligation (named_after dev k (codes "ASSERTIONS")) (assertion_hypotheses dev k) (each_after (level_at dev k).assertions) ∷ []
 row_obligations dev k Initialisation = obligation (named_after dev k (codes "INITIALISATION")) (init_hypotheses dev k) (init_goal dev k) ∷ []
 row_obligations dev k InitialisationDefined = obligation (named_after dev k (codes "INITIALISATION" ++ suffix (level_at dev k))) (init_hypotheses dev k) (evaluation_goal dev k (level_at dev k).init) ∷ []

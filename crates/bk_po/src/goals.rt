@@ -2,35 +2,58 @@
 
 ghost use Rattle.std.specs.Prelude.{◌≡◌, ◌++◌, ◌<◌, [], ◌∷◌, not, map, length, Err, IfOk, OnOk};
 ghost use Rattle.std.specs.List.{filter};
-ghost use Rattle.bk_form.specs.Formula.{btrue, binary};
+ghost use Rattle.bk_form.specs.Formula.{binary};
 ghost use Rattle.bk_form.specs.declared.operator.BinOp.TheVariants.{And, Imp};
 ghost use Rattle.bk_bind.specs.Limits.{IsWithinLimits};
 ghost use Rattle.bk_form.specs.Replacement.{replaced, looked_up};
 ghost use Rattle.bk_wp.specs.Box.{box, diamond};
-ghost use Rattle.bk_wp.specs.Guarded.{HasTotal};
-ghost use Rattle.bk_wp.specs.Shapes.{HasNoBinder};
+ghost use Rattle.bk_gsl.specs.Flat.{IsFlat};
+ghost use Rattle.bk_wd.specs.WellDefined.{defined};
+ghost use Rattle.bk_wp.specs.Shapes.{HasNoLoop};
 ghost use Rattle.bk_wp.specs.declared.error.WpFault.TheVariants.{TooLarge};
 ghost use Rattle.bk_dev.specs.Development.{is_btrue, whole, level_at, body_of, body_at};
 ghost use Rattle.bk_form.specs.Predicates.{equation};
 ghost use Rattle.bk_dev.specs.Layout.{arrays_of};
 ghost use Rattle.bk_dev.specs.Claims.{beside};
 ghost use Rattle.bk_po.specs.Basic.{IsBasic};
-ghost use Rattle.bk_po.specs.Obligations.{joined_onto, conjunction, each_after, values_goal, joined_goal, init_goal, operation_goal, evaluation_goal};
+ghost use Rattle.bk_po.specs.Obligations.{joined_onto, conjunction, each_after, defined_in_turn, values_goal, joined_goal, init_goal, operation_goal, evaluation_goal};
 
 use crate::hypotheses::add_links;
 use bk_bind::{binary, replace};
 use bk_dev::{Body, Development, Kind, Level};
-use bk_form::{Arrays, BinOp, Form, Part, VarTable, View};
+use bk_form::{Arrays, BinOp, Form, VarTable, View};
 use bk_gsl::Sub;
 use bk_io::Memory;
+use bk_wd::{both, defined, nothing, where_true};
 use bk_wp::{WpFault, boxed, diamond, guarded};
 use std::alloc::Global;
 
-/// `btrue`: what is to be shown of formulas that are defined everywhere.
-pub(crate) fn nothing(alloc: Global) -> Result<Form, Memory>
-    ensures { IfOk result (λ f. f ≡ btrue) }
+/// That the formula is defined.
+pub(crate) fn defined_goal(alloc: Global, types: &VarTable, form: &Form) -> Result<Form, WpFault>
+    ensures value { IfOk result (λ f. f ≡ defined types.now [] form.now) }
+    ensures too_large { result ≡ Err TooLarge → IsWithinLimits (defined types.now [] form.now) → ⊥ }
 {
-    Form::make(alloc, Part::True)
+    Ok(defined(alloc, types, form)?)
+}
+
+/// That each assertion is defined where those before it are true.
+#[tactic(auto, using(bk_wd::proofs::Within::conditions_within))]
+pub(crate) fn defined_in_turn(
+    alloc: Global,
+    types: &VarTable,
+    assertions: &[Form],
+) -> Result<Form, WpFault>
+    ensures value { IfOk result (λ f. f ≡ defined_in_turn types.now assertions.now) }
+    ensures too_large { result ≡ Err TooLarge → IsWithinLimits (defined_in_turn types.now assertions.now) → ⊥ }
+{
+    match assertions {
+        [] => Ok(nothing(alloc)?),
+        [first, others @ ..] => {
+            let condition = defined(alloc, types, first)?;
+            let rest = defined_in_turn(alloc, types, others)?;
+            Ok(both(alloc, condition, where_true(alloc, first, rest)?)?)
+        }
+    }
 }
 
 /// The first assertion, and each other where those before it are true.
@@ -93,7 +116,7 @@ fn properties(alloc: Global, levels: &[Level]) -> Result<Vec<Form>, Memory>
 }
 
 /// That the machine's initialisation meets its invariant, or that each other is answered by the one above.
-#[tactic(auto, using(crate::proofs::Basics::init_plain))]
+#[tactic(auto, using(crate::proofs::Basics::no_loops))]
 pub(crate) fn init_goal(alloc: Global, dev: &Development, level: usize) -> Result<Form, WpFault>
     requires level { level < length dev.now.levels }
     requires basic { IsBasic dev.now }
@@ -108,15 +131,15 @@ pub(crate) fn init_goal(alloc: Global, dev: &Development, level: usize) -> Resul
 }
 
 // That the initialisation is answered by the one above.
-#[tactic(auto, using(bk_wp::proofs::Growth::parts_within))]
+#[tactic(auto, using(bk_wp::proofs::Growth::parts_within, crate::proofs::Basics::no_loops))]
 fn answered_init(
     alloc: Global,
     types: &VarTable,
     lower: &Level,
     upper: &Level,
 ) -> Result<Form, WpFault>
-    requires lower { HasNoBinder lower.now.init }
-    requires upper { HasNoBinder upper.now.init }
+    requires lower { HasNoLoop lower.now.init }
+    requires upper { HasNoLoop upper.now.init }
     ensures value { IfOk result
         (λ f. f ≡ box types.now lower.now.init (diamond types.now upper.now.init (joined_goal lower.now [] []))) }
     ensures too_large { result ≡ Err TooLarge →
@@ -129,7 +152,7 @@ fn answered_init(
 }
 
 /// That the machine's operation keeps its invariant, or that each other is answered by the one above.
-#[tactic(auto, using(crate::proofs::Basics::body_plain))]
+#[tactic(auto, using(crate::proofs::Basics::no_loops))]
 pub(crate) fn operation_goal(
     alloc: Global,
     dev: &Development,
@@ -183,8 +206,9 @@ fn body_of(level: &Level, operation: usize) -> &Body
 }
 
 // That the machine's body, without its outermost precondition, keeps the invariant.
+#[tactic(auto, using(crate::proofs::Basics::no_loops))]
 fn kept_goal(alloc: Global, types: &VarTable, level: &Level, body: &Body) -> Result<Form, WpFault>
-    requires { HasNoBinder body.now.sub }
+    requires { HasNoLoop body.now.sub }
     ensures value { IfOk result (λ f. f ≡ box types.now body.now.sub level.now.invariant) }
     ensures too_large { result ≡ Err TooLarge → IsWithinLimits (box types.now body.now.sub level.now.invariant) → ⊥ }
 {
@@ -192,7 +216,7 @@ fn kept_goal(alloc: Global, types: &VarTable, level: &Level, body: &Body) -> Res
 }
 
 // That the whole body is answered by the body above, without that one's outermost precondition.
-#[tactic(auto, using(bk_wp::proofs::Growth::parts_within, crate::proofs::Basics::whole_plain))]
+#[tactic(auto, using(bk_wp::proofs::Growth::parts_within, crate::proofs::Basics::no_loops))]
 fn answered_goal(
     alloc: Global,
     types: &VarTable,
@@ -200,8 +224,8 @@ fn answered_goal(
     lower: &Body,
     upper: &Body,
 ) -> Result<Form, WpFault>
-    requires lower { HasNoBinder lower.now.sub }
-    requires upper { HasNoBinder upper.now.sub }
+    requires lower { HasNoLoop lower.now.sub }
+    requires upper { HasNoLoop upper.now.sub }
     ensures value { IfOk result
         (λ f. f ≡ box types.now (whole lower.now)
         (diamond types.now upper.now.sub (joined_goal level.now lower.now.outputs upper.now.outputs))) }
@@ -225,8 +249,8 @@ fn whole(alloc: Global, body: &Body) -> Result<Sub, Memory>
     Sub::pre(alloc, body.pre.copy(alloc)?, sub)
 }
 
-/// That what the level's initialisation meets is defined, or that what it executes stays within the machine's range.
-#[tactic(auto, using(crate::proofs::Basics::init_total))]
+/// That what the level's initialisation meets is defined, or that what it executes fits the machine.
+#[tactic(auto, using(crate::proofs::Basics::no_loops))]
 pub(crate) fn init_evaluation(
     alloc: Global,
     dev: &Development,
@@ -241,8 +265,8 @@ pub(crate) fn init_evaluation(
     evaluation_goal(alloc, dev, level, &level_at(dev, level).init)
 }
 
-/// That what the whole body of an operation meets is defined, or that what it executes stays within the machine's range.
-#[tactic(auto, using(crate::proofs::Basics::whole_total))]
+/// That what the whole body of an operation meets is defined, or that what it executes fits the machine.
+#[tactic(auto, using(crate::proofs::Basics::no_loops))]
 pub(crate) fn operation_evaluation(
     alloc: Global,
     dev: &Development,
@@ -260,7 +284,7 @@ pub(crate) fn operation_evaluation(
     evaluation_goal(alloc, dev, level, &whole)
 }
 
-// What a substitution of the level is asked beside what it does; in an implementation its sums and products are executed.
+// What a substitution of the level is asked beside what it does; in an implementation its expressions are executed.
 #[tactic(auto, using(crate::proofs::Basics::no_rows))]
 fn evaluation_goal(
     alloc: Global,
@@ -269,7 +293,7 @@ fn evaluation_goal(
     sub: &Sub,
 ) -> Result<Form, WpFault>
     requires level { level < length dev.now.levels }
-    requires total { HasTotal sub.now }
+    requires flat { IsFlat sub.now }
     requires no_arrays { (arrays_of dev.now).rows ≡ [] }
     ensures value { IfOk result (λ f. f ≡ evaluation_goal dev.now level sub.now) }
     ensures too_large { result ≡ Err TooLarge → IsWithinLimits (evaluation_goal dev.now level sub.now) → ⊥ }

@@ -9,8 +9,8 @@ ghost use Rattle.bk_po.specs.declared.row.Row.TheVariants.{PropertiesDefined, Va
 
 use crate::error::PoFault;
 use crate::goals::{
-    each_after, init_evaluation, init_goal, level_at, nothing, operation_evaluation,
-    operation_goal, values_goal,
+    defined_goal, defined_in_turn, each_after, init_evaluation, init_goal, level_at,
+    operation_evaluation, operation_goal, values_goal,
 };
 use crate::hypotheses::{
     assertion_hypotheses, body_hypotheses, init_hypotheses, invariant_hypotheses,
@@ -134,7 +134,10 @@ fn properties_defined(
 {
     let name = named_after(alloc, &dev.levels[level], b"PROPERTIES.wd")?;
     let hypotheses = properties_hypotheses(alloc, dev, level)?;
-    whole(name, hypotheses, nothing(alloc)?)
+    match defined_goal(alloc, &dev.table, &dev.levels[level].properties) {
+        Ok(goal) => whole(name, hypotheses, goal),
+        Err(fault) => Err(fault_at(name, fault)),
+    }
 }
 
 fn invariant_defined(
@@ -149,7 +152,10 @@ fn invariant_defined(
 {
     let name = named_after(alloc, &dev.levels[level], b"INVARIANT.wd")?;
     let hypotheses = invariant_hypotheses(alloc, dev, level)?;
-    whole(name, hypotheses, nothing(alloc)?)
+    match defined_goal(alloc, &dev.table, &dev.levels[level].invariant) {
+        Ok(goal) => whole(name, hypotheses, goal),
+        Err(fault) => Err(fault_at(name, fault)),
+    }
 }
 
 fn assertions_defined(
@@ -164,7 +170,10 @@ fn assertions_defined(
 {
     let name = named_after(alloc, &dev.levels[level], b"ASSERTIONS.wd")?;
     let hypotheses = assertion_hypotheses(alloc, dev, level)?;
-    whole(name, hypotheses, nothing(alloc)?)
+    match defined_in_turn(alloc, &dev.table, &dev.levels[level].assertions) {
+        Ok(goal) => whole(name, hypotheses, goal),
+        Err(fault) => Err(fault_at(name, fault)),
+    }
 }
 
 fn assertions_hold(

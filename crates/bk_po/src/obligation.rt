@@ -23,8 +23,7 @@ pub struct Obligation {
 }
 
 /// The obligations of a development: by components, rows and operations, each goal taken apart and its sequents numbered
-/// from 1 (B-Book, Theory of Abstract Machines and Refinement). Formulas with binders or with operators that are not
-/// defined everywhere, arrays, and substitutions with locals, `x :(P)`, loops or `||` are not taken yet.
+/// from 1 (B-Book, Theory of Abstract Machines and Refinement). Arrays, and substitutions with loops or `||`, are not taken yet.
 #[tactic(auto, using(crate::proofs::Basics::basic_is_flat, crate::proofs::Laying::among_is_of))]
 pub fn obligations(alloc: Global, dev: &Development) -> Result<Vec<Obligation>, PoFault>
     requires { IsBasic dev.now }

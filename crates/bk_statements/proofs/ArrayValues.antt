@@ -22,7 +22,7 @@ use Rattle.bk_gsl.proofs.States.{nat_eq-same, nat_eq-self, clash}
 use Rattle.bk_dev.specs.Development.{Development}
 use Rattle.bk_dev.specs.Layout.{index_count}
 use Rattle.bk_code.specs.Step.{is_index}
-use Rattle.bk_b0.specs.Translation.{least_index}
+use Rattle.bk_b0.specs.Places.{least_index}
 use Rattle.bk_b0.specs.Kinds.{number_as, is_of_kind, index_type}
 use Rattle.bk_statements.specs.Shown.{indices, paired}
 use Rattle.bk_b0.proofs.Numbers.{eq-then, le-then, le-if}

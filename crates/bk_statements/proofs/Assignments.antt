@@ -34,7 +34,8 @@ use Rattle.bk_code.specs.declared.instruction.Inst.TheVariants.{Store, AStore}
 use Rattle.bk_code.specs.Numbers.{int_max as code_max}
 use Rattle.bk_code.specs.Step.{GoesOn, stored, row, element_cell, is_index}
 use Rattle.bk_b0.specs.Kinds.{literal_number, number_as, as_number, is_of_kind, cell_type, literal_value, index_type}
-use Rattle.bk_b0.specs.Translation.{least_index, store_element, value_code, fill, array_code, store_code, assign_code}
+use Rattle.bk_b0.specs.Places.{least_index, fill}
+use Rattle.bk_b0.specs.Translation.{store_element, value_code, array_code, store_code, assign_code}
 use Rattle.bk_statements.specs.Shown.{paired, indices, shown, seen_by, seen, ShownIn, KindsHold}
 use Rattle.bk_b0.specs.Cells.{IsKnown, IsCell, ValuesHaveKinds, ArraysHaveCells}
 use Rattle.bk_b0.proofs.TypedB0.{IsPlainValue, IsTypedExpression, IsTypedTerm, IsTypedAssignment}

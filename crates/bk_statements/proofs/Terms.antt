@@ -29,7 +29,8 @@ use Rattle.bk_code.specs.declared.instruction.Inst.TheVariants.{Push, Load, ALoa
 use Rattle.bk_code.specs.Numbers.{int_max as code_max, bounded, quotient, remainder, truth_number}
 use Rattle.bk_code.specs.Step.{GoesOn, calculated, loaded, row, element_cell, is_index}
 use Rattle.bk_b0.specs.Kinds.{literal_number, number_as, is_of_kind, row_type, cell_type, index_type}
-use Rattle.bk_b0.specs.Translation.{name_code, least_index, load_element, value_code}
+use Rattle.bk_b0.specs.Places.{least_index}
+use Rattle.bk_b0.specs.Translation.{name_code, load_element, value_code}
 use Rattle.bk_statements.specs.Shown.{paired, indices, shown_as, shown, seen_by, ShownIn, KindsHold}
 use Rattle.bk_b0.specs.Cells.{IsKnown, ValuesHaveKinds, ArraysHaveCells}
 use Rattle.bk_b0.proofs.TypedB0.{IsTypedExpression, IsTypedCondition}

@@ -5,7 +5,7 @@ use Rattle.bk_form.specs.Table.{Table}
 use Rattle.bk_form.specs.Formula.{Formula, binary, btrue, formulas_size, formulas_height, formulas_of}
 use Rattle.bk_form.specs.declared.operator.BinOp.TheVariants.{And, Imp}
 use Rattle.bk_bind.specs.Limits.{IsWithinLimits}
-use Rattle.bk_wp.proofs.Growth.{within_left, within_right}
+use Rattle.bk_bind.proofs.Within.{within_left, within_right}
 use Rattle.bk_dev.specs.Development.{Development}
 use Rattle.bk_dev.specs.Facts.{IsDevelopment}
 use Rattle.bk_form.specs.Each.{Each, Each as EachOf}

@@ -1,5 +1,5 @@
 use Rattle.bk_po.proofs.Enough.{boxes_carry, every_level_is_carried}
-use Rattle.bk_po.proofs.BasicClean.{conditions_are_clean}
+use Rattle.bk_po.proofs.Conditions.{conditions_are_clean}
 use Rattle.bk_po.proofs.Eager.{eager_asks_the_machine}
 use Rattle.bk_po.proofs.laws.all_levels.Goals as goal
 
