@@ -21,7 +21,8 @@ use Rattle.bk_code.specs.declared.instruction.Inst.{Inst}
 use Rattle.bk_code.specs.declared.instruction.Inst.TheVariants.{Push, Load, Store, ALoad, AStore, Add, Sub, Mul, Div, Mod, Neg, Eq, Lt, Le, Not as Invert, Jump, JumpZero}
 use Rattle.bk_code.specs.Numbers.{int_max as code_max, IsWithin, truth_number}
 use Rattle.bk_code.specs.Checks.{IsArray, pops, pushes}
-use Rattle.bk_b0.specs.Translation.{name_code, least_index, load_element, store_element, value_code, fill, array_code, store_code, assign_code, statement_code}
+use Rattle.bk_b0.specs.Places.{least_index, fill}
+use Rattle.bk_b0.specs.Translation.{name_code, load_element, store_element, value_code, array_code, store_code, assign_code, statement_code}
 use Rattle.bk_b0.specs.Kinds.{literal_number, cell_type, index_type}
 use Rattle.bk_b0.specs.Cells.{IsKnown, IsCell, ValuesHaveKinds, ArraysHaveCells}
 use Rattle.bk_b0.proofs.TypedB0.{IsPlainValue, IsTypedExpression, IsTypedCondition, IsTypedTerm, IsTypedAssignment, IsTypedB0}

@@ -1,13 +1,14 @@
--- The counter and the adder are simple developments.
+-- The counter and the adder are simple developments, and so in B0.
 use Rattle.std.proofs.Common.{◌≡◌, ◌≤◌, ℕ, zero, suc, pos, refl, All, arith}
 use Rattle.std.proofs.lemmas.Int.{ints}
 use Rattle.bk_val.specs.ValueType.{int_type}
 use Rattle.bk_form.specs.Formula.{btrue}
-use Rattle.bk_dev.specs.B0.{EvaluatesShallow}
+use Rattle.bk_dev.specs.B0.{EvaluatesShallow, IsB0Development}
 use Rattle.bk_dev.specs.Development.{int_max, level_at, last}
 use Rattle.bk_dev.specs.Counter.{counter_table, counter}
 use Rattle.bk_dev.specs.Layout.{arrays_of}
 use Rattle.bk_b0.specs.Simple.{IsSimpleStatement, IsSimple}
+use Rattle.bk_b0.proofs.SimpleInB0.{simple_is_in_b0}
 use Rattle.bk_gen.specs.Laws.{adder}
 use Rattle.bk_code.specs.Numbers.{IsWithin}
 
@@ -42,6 +43,9 @@ no_conditions (suc (suc (suc k))) d h = absurd (omega arith)
 
 pub counter_is_simple : IsSimple counter
 counter_is_simple = record { complete = refl; no_sets = refl; no_values = refl; whole_numbers = whole_numbers; init = (omega (arith, ints), omega (arith, ints)); bodies = bodies; no_conditions = no_conditions; init_shallow = (few 0 (omega arith), tt); bodies_shallow = bodies_shallow }
+
+pub counter_in_b0 : IsB0Development counter
+counter_in_b0 = simple_is_in_b0 counter counter_is_simple
 
 -- ---- the adder
 number-within : (n : ℕ) → n ≤ 1000 → IsWithin (int_max adder) (pos n)

@@ -1,10 +1,10 @@
 -- Code whose jumps are set once the places that they lead to are known.
-use Rattle.std.proofs.Common.{◌≡◌, ◌+◌, ◌-◌, ℕ, pos, List, [], ◌∷◌, ◌++◌, length, sym, ◌∙◌, ap, arith, append_assoc, set}
+use Rattle.std.proofs.Common.{◌≡◌, ◌+◌, ◌-◌, ℕ, pos, neg_ℤ, List, [], ◌∷◌, ◌++◌, length, sym, ◌∙◌, ap, arith, append_assoc, set}
 use Rattle.std.proofs.Math.Seq.{set-append_seam}
 use Rattle.std.proofs.lemmas.List.{append-nil, length-append, length-set}
 use Rattle.bk_code.specs.declared.instruction.Inst.{Inst}
 use Rattle.bk_code.specs.declared.instruction.Inst.TheVariants.{Push, Jump, JumpZero}
-use Rattle.bk_gen.proofs.Lengths.{fork_code}
+use Rattle.bk_gen.specs.Executed.{fork_code}
 
 -- an instruction that stands between others is replaced
 pub replaced : (front : List Inst) (old new : Inst) (rest more : List Inst) → set ((front ++ old ∷ []) ++ rest) (length front) new ++ more ≡ front ++ new ∷ (rest ++ more)
@@ -67,3 +67,20 @@ branches_emitted before p first second c1 c2 c3 c4 c5 c6 c7 start jump h1 there 
     let same_length : length c5 ≡ length c4 = ap length h5 ∙ length-set c4 start (JumpZero (pos (length c4 - start))) in
     let two : length c6 - jump ≡ length second + 1 = omega (arith, ap length h6, length-append c5 second, same_length, ap length h4, length-append c3 (Jump (pos 0) ∷ [])) in
     h7 ∙ ((λ i. set ((h6 ∙ ap (λ xs. xs ++ second) fifth) i) (jumped i) (Jump (pos (two i)))) ∙ forked before p first second (JumpZero (pos 0)) (Jump (pos 0)))
+
+-- a test, the body and a jump back to the test, which is then set to lead behind the jump
+pub loop_emitted : (before p body c1 c2 c3 c4 c5 : List Inst) (again start : ℕ) → again ≡ length before → c1 ≡ before ++ p → start ≡ length c1 → c2 ≡ c1 ++ JumpZero (pos 0) ∷ [] → c3 ≡ c2 ++ body → c4 ≡ c3 ++ Jump (neg_ℤ (pos (length c3 - again))) ∷ [] →
+    c5 ≡ set c4 start (JumpZero (pos (length c4 - start))) → c5 ≡ before ++ (p ++ JumpZero (pos (length body + 2)) ∷ body ++ Jump (neg_ℤ (pos (length p + 1 + length body))) ∷ [])
+loop_emitted before p body c1 c2 c3 c4 c5 again start came h1 there h2 h3 h4 h5 =
+    let test = JumpZero (pos (length body + 2)) in
+    let back = Jump (neg_ℤ (pos (length p + 1 + length body))) in
+    let third : c3 ≡ (c1 ++ JumpZero (pos 0) ∷ []) ++ body = h3 ∙ ap (λ xs. xs ++ body) h2 in
+    let far : length c3 - again ≡ length p + 1 + length body = omega (arith, came, ap length third, length-append (c1 ++ JumpZero (pos 0) ∷ []) body, length-append c1 (JumpZero (pos 0) ∷ []), ap length h1, length-append before p) in
+    let fourth : c4 ≡ (c1 ++ JumpZero (pos 0) ∷ []) ++ (body ++ back ∷ []) = h4 ∙ ((λ i. third i ++ Jump (neg_ℤ (pos (far i))) ∷ []) ∙ append_assoc (c1 ++ JumpZero (pos 0) ∷ []) body (back ∷ [])) in
+    let long : length c4 - start ≡ length body + 2 = omega (arith, there, ap length fourth, length-append (c1 ++ JumpZero (pos 0) ∷ []) (body ++ back ∷ []), length-append c1 (JumpZero (pos 0) ∷ []), length-append body (back ∷ [])) in
+    let put : JumpZero (pos (length c4 - start)) ≡ test = ap (λ n. JumpZero (pos n)) long in
+    let last : c5 ≡ set ((c1 ++ JumpZero (pos 0) ∷ []) ++ (body ++ back ∷ [])) (length c1) test ++ [] = h5 ∙ ((λ i. set (fourth i) (there i) (put i)) ∙ sym (append-nil (set ((c1 ++ JumpZero (pos 0) ∷ []) ++ (body ++ back ∷ [])) (length c1) test))) in
+    last ∙ (replaced c1 (JumpZero (pos 0)) test (body ++ back ∷ []) [] ∙
+    (ap (λ xs. c1 ++ test ∷ xs) (append-nil (body ++ back ∷ [])) ∙
+    (ap (λ xs. xs ++ test ∷ (body ++ back ∷ [])) h1 ∙
+    (append_assoc before p (test ∷ (body ++ back ∷ [])) ∙ ap (λ xs. before ++ xs) (sym (append_assoc p (test ∷ body) (back ∷ [])))))))

@@ -1,4 +1,4 @@
-pub mod OneCell
+pub mod Operated
 pub mod Lengths
 pub mod Emitted
 pub mod Pieces
@@ -8,5 +8,8 @@ pub mod Slots
 pub mod Codes
 pub mod Facts
 pub mod Loads
-pub mod Counters
+pub mod Ready
+pub mod Spellings
+pub mod Whole
 pub mod SameCode
+pub mod Counters

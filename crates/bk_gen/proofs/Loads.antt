@@ -20,7 +20,8 @@ use Rattle.bk_code.specs.declared.instruction.Inst.TheVariants.{Ret}
 use Rattle.bk_code.specs.Numbers.{int_max as code_max}
 use Rattle.bk_b0.proofs.Numbers.{translated-greatest}
 use Rattle.bk_code.specs.Checks.{IsKind, IsGoodParameter, IsGoodEntry, IsLeaving, IsLoadable}
-use Rattle.bk_b0.specs.Translation.{statement_code, kind_of_type, parameter_of, operation_code, entries, operations_code, init_code, translation}
+use Rattle.bk_b0.specs.Places.{kind_of_type}
+use Rattle.bk_b0.specs.Translation.{statement_code, parameter_of, operation_code, entries, operations_code, init_code, translation}
 use Rattle.bk_dev.proofs.Levels.{each-at}
 use Rattle.bk_dev.specs.B0.{IsScalarName, IsB0, EvaluatesShallow, IsB0Body, IsB0Development}
 use Rattle.bk_b0.proofs.Typing.{typed-b0}

@@ -14,7 +14,8 @@ use Rattle.bk_dev.specs.Layout.{arrays_of, cells_of, cell_of}
 use Rattle.bk_dev.specs.Flattened.{flattened}
 use Rattle.bk_code.specs.declared.instruction.Inst.TheVariants.{Push, Load, Store, ALoad, AStore, Add, Sub, Mul, Div, Mod, Neg, Eq, Lt, Le, Not as Invert, Jump, JumpZero, Ret}
 use Rattle.bk_b0.specs.Kinds.{literal_number}
-use Rattle.bk_b0.specs.Translation.{name_code, least_index, load_element, value_code, fill, array_code, store_code, assign_code, statement_code, kind_of_type, parameter_of, operation_code, entries, operations_code, init_code, translation}
+use Rattle.bk_b0.specs.Places.{least_index, fill, kind_of_type}
+use Rattle.bk_b0.specs.Translation.{name_code, load_element, value_code, array_code, store_code, assign_code, statement_code, parameter_of, operation_code, entries, operations_code, init_code, translation}
 use Rattle.bk_gsl.specs.Flat.{IsFlat}
 use Rattle.bk_dev.proofs.FlatSame.{maps-same, low-same, declared-same, arrays-same, cells-same, cell-same, count-same}
 use Rattle.bk_gen.specs.Laws.{FlattenedKeepsCode}

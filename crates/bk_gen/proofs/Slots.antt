@@ -24,7 +24,7 @@ use Rattle.bk_gsl.proofs.States.{nat_eq-same}
 use Rattle.bk_dev.specs.Development.{Development, int_max}
 use Rattle.bk_dev.specs.Layout.{Clue, in_domain, has_scalars, array_row, row_by, interval_of, bound_of, indices_of, arrays_of, index_count, row_cells, cells_of, cell_among, cells_in}
 use Rattle.bk_code.specs.Numbers.{IsWithin}
-use Rattle.bk_b0.specs.Translation.{least_index}
+use Rattle.bk_b0.specs.Places.{least_index}
 use Rattle.bk_b0.specs.Kinds.{is_of_kind, index_type}
 use Rattle.bk_b0.specs.Cells.{ArraysAreTyped}
 use Rattle.bk_b0.proofs.Numbers.{bounds-then, le-then, eq-then, one-natural}

@@ -1,3 +1,5 @@
+pub mod Executed
 pub mod Sizes
-pub mod Cells
+pub mod Spelled
+pub mod Samples
 pub mod Laws

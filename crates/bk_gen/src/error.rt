@@ -18,6 +18,14 @@ pub enum GenFault {
     Memory,
 }
 
+impl From<bk_io::Memory> for GenFault {
+    ghost from_gives = { λ _ fault. fault ≡ Memory };
+
+    fn from(_: bk_io::Memory) -> Self {
+        GenFault::Memory
+    }
+}
+
 impl From<bk_code::Memory> for GenFault {
     ghost from_gives = { λ _ fault. fault ≡ Memory };
 

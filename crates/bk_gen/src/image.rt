@@ -2,140 +2,151 @@
 
 ghost use Rattle.std.specs.Prelude.{◌≡◌, ◌+◌, ◌-◌, ◌<◌, ◌≤◌, ◌^◌, ◌++◌, min, map, length, All, Err, IfOk, OnOk};
 ghost use Rattle.bk_gsl.specs.State.{declared_type};
-ghost use Rattle.bk_dev.specs.Development.{level_at, last};
-ghost use Rattle.bk_dev.specs.Layout.{cell_count};
 ghost use Rattle.bk_code.specs.Checks.{IsLoadable};
-ghost use Rattle.bk_gen.specs.Cells.{AreCells};
-ghost use Rattle.bk_b0.specs.Simple.{IsSimpleStatement, IsSimple};
+ghost use Rattle.bk_image.specs.Spelling.{HasSpelling};
+ghost use Rattle.bk_b0.specs.CodeUnit.{slots_cells, unit_places, unit_code, unit_image};
+ghost use Rattle.bk_b0.specs.Places.{kind_of_type, placed_parameter, placed_entries, placed_bodies};
+ghost use Rattle.bk_gen.specs.Executed.{HasStatementCode, IsReady};
 ghost use Rattle.bk_gen.specs.Sizes.{block_size, blocks_size};
-ghost use Rattle.bk_b0.specs.Translation.{kind_of_type, parameter_of, entries, operations_code, translation};
+ghost use Rattle.bk_gen.specs.Spelled.{PassesCells};
 ghost use Rattle.bk_gen.specs.declared.error.GenFault.TheVariants.{CodeTooLong, TooManyCells};
 
 use crate::GenFault;
-use crate::cells::{Cells, cell_variables, slot_of};
+use crate::fields::fits_fields;
+use crate::leaf::slot_of;
 use crate::statement::{add_block, block_size};
+use bk_b0::{B0Unit, Slot};
 use bk_code::{
-    CellKind, Code, ElemNames, Image, Inst, Memory, NameText, OpEntries, OpEntry, Parameter,
-    Parameters,
+    CellKind, Code, ElemNames, Image, Inst, Memory, NameText, NameTexts, OpEntries, OpEntry,
+    Parameter, Parameters,
 };
-use bk_dev::{Body, Development, Level, OpHead};
-use bk_form::TyView;
+use bk_dev::{Body, EnumSet, OpHead};
+use bk_form::{TyView, VarTable};
+use bk_io::Text;
 use std::alloc::Global;
 
 /// The most instructions, and the most cells, that an image may have.
 const MOST: u64 = 1000000;
 
-/// The image of a development's implementation: what the definition of the translation says of it. It passes the
-/// loader's checks. The length of the code is looked at before the number of cells.
-pub fn translate(alloc: Global, dev: &Development) -> Result<Image, GenFault>
-    requires { IsSimple dev.now }
-    ensures ok { IfOk result (λ image. image ≡ translation dev.now) }
-    ensures checked { IfOk result (λ image. IsLoadable image) }
-    ensures too_long { result ≡ Err CodeTooLong → 1000000 < length (translation dev.now).code }
-    ensures too_many { result ≡ Err TooManyCells → (length (translation dev.now).code ≤ 1000000) ×
-        (1000000 < cell_count dev.now) }
+/// The image of an implementation: what the definition of the translation says of it. It passes the loader's checks and has a
+/// spelling. The length of the code is looked at before the number of cells; an image whose names or counts do not fit their
+/// fields counts as one with too many.
+pub fn translate(alloc: Global, unit: &B0Unit) -> Result<Image, GenFault>
+    ensures ok { IfOk result (λ image. image ≡ unit_image unit.now) }
+    ensures checked { IfOk result IsLoadable }
+    ensures spelled { IfOk result HasSpelling }
+    ensures too_long { result ≡ Err CodeTooLong → 1000000 < length (unit_code unit.now) }
+    ensures too_many { result ≡ Err TooManyCells → (length (unit_code unit.now) ≤ 1000000) × PassesCells unit.now }
     ensures within { IfOk result (λ image. (length image.code ≤ 1000000) × (image.cells ≤ 1000000)) }
 {
-    dev.facts();
-    let level = last_level(dev);
-    if code_size(level) > MOST {
+    unit.facts();
+    if code_size(unit) > MOST {
         return Err(GenFault::CodeTooLong);
     }
-    let heads = headers(dev);
-    let variables = cell_variables(alloc, heads, level)?;
-    if variables.len() as u64 > MOST {
+    if cell_count(unit.slots()) > MOST {
         return Err(GenFault::TooManyCells);
     }
-    let cells = Cells {
-        dev,
-        variables: variables.as_slice(),
-    };
-    let image = image_of(alloc, &cells, heads, level)?;
+    if !fits_fields(unit) {
+        return Err(GenFault::TooManyCells);
+    }
+    let image = image_of(alloc, unit)?;
     Ok(image)
 }
 
-// The implementation.
-fn last_level(dev: &Development) -> &Level
-    ensures { result.now ≡ level_at dev.now (last dev.now) }
+// How many instructions a unit's code has, or 2^64 - 1 if they are more.
+fn code_size(unit: &B0Unit) -> u64
+    ensures { result ≡ min (block_size (unit_places unit.now) unit.now.init
+        + blocks_size (unit_places unit.now) unit.now.bodies) (2 ^ 64 - 1) }
 {
-    let levels = &dev.levels;
-    &levels[levels.len() - 1]
-}
-
-// The operations' headers.
-fn headers(dev: &Development) -> &[OpHead]
-    ensures { result.now ≡ dev.now.heads }
-{
-    &dev.heads
-}
-
-// How many instructions a level's code has, or 2^64 - 1 if they are more.
-fn code_size(level: &Level) -> u64
-    ensures { result ≡ min (block_size level.now.init + blocks_size level.now.bodies) (2 ^ 64 - 1) }
-{
-    added_sizes(block_size(&level.init), &level.bodies)
+    added_sizes(unit, block_size(unit, unit.init()), unit.bodies())
 }
 
 // A number of instructions and those of the operations, or 2^64 - 1 if they are more.
-fn added_sizes(size: u64, bodies: &[Body]) -> u64
-    ensures { result ≡ min (size + blocks_size bodies.now) (2 ^ 64 - 1) }
+fn added_sizes(unit: &B0Unit, size: u64, bodies: &[Body]) -> u64
+    ensures { result ≡ min (size + blocks_size (unit_places unit.now) bodies.now) (2 ^ 64 - 1) }
 {
     let mut total = size;
     for body in bodies {
-        total = total.saturating_add(block_size(&body.sub));
+        total = total.saturating_add(block_size(unit, &body.sub));
     }
     total
 }
 
-// The image of the last level over these cells.
-#[tactic(auto, using(crate::proofs::Lengths::operation_long))]
-pub(crate) fn image_of(
-    alloc: Global,
-    cells: &Cells<'_>,
-    heads: &[OpHead],
-    level: &Level,
-) -> Result<Image, Memory>
-    requires cells { AreCells cells.now }
-    requires heads { heads.now ≡ cells.now.dev.now.heads }
-    requires level { level.now ≡ level_at cells.now.dev.now (last cells.now.dev.now) }
-    requires short { block_size level.now.init + blocks_size level.now.bodies ≤ 1000000 }
-    requires paired { length heads.now ≡ length level.now.bodies }
-    ensures { IfOk result (λ image. image ≡ translation cells.now.dev.now) }
+// How many cells there are, or 2^64 - 1 if they are more.
+fn cell_count(slots: &[Slot]) -> u64
+    ensures { result ≡ min (slots_cells slots.now) (2 ^ 64 - 1) }
+{
+    let mut count = 0u64;
+    for slot in slots {
+        count = count.saturating_add(at_most_64_bits(slot.cells));
+    }
+    count
+}
+
+// How many cells a unit has whose image is made.
+fn few_cells(unit: &B0Unit) -> u32
+    requires { IsReady unit.now }
+    ensures { result ≡ slots_cells unit.now.slots }
+{
+    cell_count(unit.slots()) as u32
+}
+
+// A number, or 2^64 - 1 if that is less.
+fn at_most_64_bits(number: u128) -> u64
+    ensures { result ≡ min number (2 ^ 64 - 1) }
+{
+    if number > u128::from(u64::MAX) {
+        return u64::MAX;
+    }
+    number as u64
+}
+
+// The image of a unit.
+#[tactic(auto, using(crate::proofs::Lengths::block_long))]
+fn image_of(alloc: Global, unit: &B0Unit) -> Result<Image, Memory>
+    requires ready { IsReady unit.now }
+    requires init { HasStatementCode (unit_places unit.now) unit.now.init }
+    requires bodies { All (λ b. HasStatementCode (unit_places unit.now) b.sub) unit.now.bodies }
+    requires paired { length unit.now.heads ≡ length unit.now.bodies }
+    requires short { block_size (unit_places unit.now) unit.now.init
+        + blocks_size (unit_places unit.now) unit.now.bodies ≤ 1000000 }
+    ensures { IfOk result (λ image. image ≡ unit_image unit.now) }
 {
     let mut code = Vec::new(alloc);
-    add_block(cells, &level.init, &mut code)?;
-    let ops = add_operations(alloc, cells, heads, &level.bodies, &mut code)?;
+    add_block(unit, unit.init(), &mut code)?;
+    let ops = add_operations(alloc, unit, unit.heads(), unit.bodies(), &mut code)?;
+    let sets = element_names(alloc, unit.sets())?;
     Ok(Image {
-        cells: cells.variables.len() as u32,
-        sets: ElemNames::from_vec(Vec::new(alloc)),
+        cells: few_cells(unit),
+        sets: ElemNames::from_vec(sets),
         ops: OpEntries::from_vec(ops),
         code: Code::from_vec(code),
     })
 }
 
 // Adds the code of the operations, and gives their entries.
-#[tactic(auto, using(crate::proofs::Lengths::operation_long))]
+#[tactic(auto, using(crate::proofs::Lengths::block_long))]
 fn add_operations(
     alloc: Global,
-    cells: &Cells<'_>,
+    unit: &B0Unit,
     heads: &[OpHead],
     bodies: &[Body],
     code: &mut Vec<Inst>,
 ) -> Result<Vec<OpEntry>, Memory>
-    requires cells { AreCells cells.now }
-    requires short { length code.old.items + blocks_size bodies.now ≤ 1000000 }
-    requires simple { All (λ b. IsSimpleStatement cells.now.dev.now b.sub) bodies.now }
+    requires ready { IsReady unit.now }
+    requires short { length code.old.items + blocks_size (unit_places unit.now) bodies.now ≤ 1000000 }
+    requires has { All (λ b. HasStatementCode (unit_places unit.now) b.sub) bodies.now }
     requires paired { length heads.now ≡ length bodies.now }
     ensures code { OnOk result
-        (code.new.items ≡ code.old.items ++ operations_code cells.now.dev.now bodies.now) }
-    ensures entries { IfOk result
-        (λ ops. ops.items ≡ entries cells.now.dev.now (length code.old.items) heads.now bodies.now) }
+        (code.new.items ≡ code.old.items ++ placed_bodies (unit_places unit.now) bodies.now) }
+    ensures entries { IfOk result (λ ops. ops.items
+        ≡ placed_entries (unit_places unit.now) (length code.old.items) heads.now bodies.now) }
 {
     let mut ops = Vec::new(alloc);
     for (number, body) in bodies.iter().enumerate() {
         let head = &heads[number];
-        ops.push(entry_of(alloc, cells, code.len() as u32, head, body)?)?;
-        add_block(cells, &body.sub, code)?;
+        ops.push(entry_of(alloc, unit, code.len() as u32, head, body)?)?;
+        add_block(unit, &body.sub, code)?;
     }
     Ok(ops)
 }
@@ -143,48 +154,48 @@ fn add_operations(
 // The entry of an operation whose code starts at a place.
 fn entry_of(
     alloc: Global,
-    cells: &Cells<'_>,
+    unit: &B0Unit,
     start: u32,
     head: &OpHead,
     body: &Body,
 ) -> Result<OpEntry, Memory>
-    requires { AreCells cells.now }
+    requires { IsReady unit.now }
     ensures { IfOk result (λ entry. entry ≡ record {
       name = head.now.name;
       start = start;
-      inputs = map (parameter_of cells.now.dev.now) head.now.inputs;
-      outputs = map (parameter_of cells.now.dev.now) body.now.outputs;
+      inputs = map (placed_parameter (unit_places unit.now)) head.now.inputs;
+      outputs = map (placed_parameter (unit_places unit.now)) body.now.outputs;
     }) }
 {
     let name = Vec::from_slice(alloc, head.name.as_bytes())?;
     Ok(OpEntry {
         name: NameText::from_vec(name),
         start,
-        inputs: parameters(alloc, cells, &head.inputs)?,
-        outputs: parameters(alloc, cells, &body.outputs)?,
+        inputs: parameters(alloc, unit, &head.inputs)?,
+        outputs: parameters(alloc, unit, &body.outputs)?,
     })
 }
 
 // Inputs or outputs with their kinds and cells.
-fn parameters(alloc: Global, cells: &Cells<'_>, variables: &[u32]) -> Result<Parameters, Memory>
-    requires { AreCells cells.now }
-    ensures { IfOk result (λ list. list ≡ map (parameter_of cells.now.dev.now) variables.now) }
+fn parameters(alloc: Global, unit: &B0Unit, variables: &[u32]) -> Result<Parameters, Memory>
+    requires { IsReady unit.now }
+    ensures { IfOk result (λ list. list ≡ map (placed_parameter (unit_places unit.now)) variables.now) }
 {
     let mut list = Vec::new(alloc);
     for variable in variables {
         list.push(Parameter {
-            kind: kind_of(cells.dev, *variable),
-            slot: slot_of(cells, *variable),
+            kind: kind_of(unit.table(), *variable),
+            slot: slot_of(unit, *variable),
         })?;
     }
     Ok(Parameters::from_vec(list))
 }
 
 // What the cell of a variable holds.
-fn kind_of(dev: &Development, variable: u32) -> CellKind
-    ensures { result ≡ kind_of_type (declared_type dev.now.table variable) }
+fn kind_of(table: &VarTable, variable: u32) -> CellKind
+    ensures { result ≡ kind_of_type (declared_type table.now variable) }
 {
-    match dev.table.ty(variable) {
+    match table.ty(variable) {
         Some(ty) => match ty.view() {
             TyView::Bool => CellKind::Bool,
             TyView::Enum(set) => CellKind::Set(set),
@@ -192,4 +203,26 @@ fn kind_of(dev: &Development, variable: u32) -> CellKind
         },
         None => CellKind::Bool,
     }
+}
+
+// The names of the elements of each set, in the order of the sets.
+fn element_names(alloc: Global, sets: &[EnumSet]) -> Result<Vec<NameTexts>, Memory>
+    ensures { IfOk result (λ names. names.items ≡ map (λ s. s.elements) sets.now) }
+{
+    let mut names = Vec::new(alloc);
+    for set in sets {
+        names.push(texts_of(alloc, &set.elements)?)?;
+    }
+    Ok(names)
+}
+
+// Copies of names.
+fn texts_of(alloc: Global, names: &[Text]) -> Result<NameTexts, Memory>
+    ensures { IfOk result (λ copies. copies ≡ names.now) }
+{
+    let mut copies = Vec::new(alloc);
+    for name in names {
+        copies.push(NameText::from_vec(Vec::from_slice(alloc, name.as_bytes())?))?;
+    }
+    Ok(NameTexts::from_vec(copies))
 }

@@ -2,6 +2,7 @@
 
 ghost use Rattle.bk_dev.specs.Counter.{counter};
 ghost use Rattle.bk_gen.specs.Laws.{CounterCode, adder, AdderCode, TestsCode, LoopCode, FlattenedKeepsCode, TranslationsLoad};
+ghost use Rattle.bk_gen.specs.Samples.{ConstructsCode, TableCode, LampCode, LimitsCode};
 ghost use Rattle.bk_b0.specs.Simple.{IsSimple};
 
 /// A counter, to be checked by hand.
@@ -21,7 +22,15 @@ pub fn small_cases()
     ensures repeats { LoopCode }
 {}
 
-/// The counter is one of the developments that are translated so far.
+/// Each construct, and two small implementations with an array and with a set, to be checked by hand.
+pub fn samples()
+    ensures constructs { ConstructsCode }
+    ensures table { TableCode }
+    ensures lamp { LampCode }
+    ensures limits { LimitsCode }
+{}
+
+/// The counter is over whole numbers alone.
 pub fn simple_counter()
     ensures { IsSimple counter }
 {}

@@ -1,11 +1,15 @@
 //! The translation of a development's implementation to stack code.
 #![tactic(auto)]
 
-mod cells;
+mod array;
 mod error;
+mod fields;
 mod image;
+mod jumps;
 pub mod laws;
+mod leaf;
 mod statement;
+mod value;
 
 pub use error::GenFault;
 pub use image::translate;

@@ -31,7 +31,7 @@ use Rattle.bkit.specs.declared.stop.Stop.{Stop}
 use Rattle.bkit.specs.declared.stop.Stop.TheVariants.{Refused, Limit, Unproved, BadCalls}
 use Rattle.bkit.specs.Session.{fuel, status_of, last_end, session_status, PlaysFront}
 use Rattle.bkit.specs.Run.{AreRunWords, IsTold, AreTold, ReadsProject, IsProved, IsWithinCodeLimits, ReadsCalls, ReadsProgram, IsReady, IsExecuted, IsPlayed}
-use Rattle.bkit.specs.Stops.{StopsAtFile, StopsAtFiles, StopsAtTexts, StopsAtScripts, StopsAtTold, StopsAtComponents, StopsAtNames, StopsAtProject, StopsPastLimits, IsFirstOpen, StopsAtObligations, StopsAtScript, StopsAtCode, StopsAtCalls, StopsAtDevelopment, StopsAtRun, StopsAt, name_at, status_of_stop, stop_text}
+use Rattle.bkit.specs.Stops.{StopsAtFile, StopsAtFiles, StopsAtTexts, StopsAtScripts, StopsAtTold, StopsAtComponents, StopsAtNames, StopsAtProject, StopsPastLimits, IsFirstOpen, StopsAtObligations, StopsAtScript, HasTooManyCells, StopsAtCode, StopsAtCalls, StopsAtDevelopment, StopsAtRun, StopsAt, name_at, status_of_stop, stop_text}
 use Rattle.bkit.specs.Answer.{IsAnswer, WritesAnswer}
 use Rattle.bkit.specs.Laws.{HasOneAnswer}
 use Rattle.bkit.proofs.Fetching.{both_told}
@@ -214,9 +214,13 @@ module _ (calls text : List ℕ) (image : Image) where
   script_once s o (inr h) (inr k) = h.0 ∙ sym k.0
 
 module _ (project calls text : List ℕ) (image : Image) where
+  not_both : IsWithinCodeLimits image → HasTooManyCells image → ⊥
+  not_both w (inl h) = omega (arith, h, w.cells)
+  not_both w (inr h) = h w.spelled
+
   code_asked : (stop : Stop) (requests : List Request) → StopsAtCode project calls text image stop → IsWithinCodeLimits image → IsScript image text requests → length requests ≤ most_calls → ⊥
   code_asked stop requests (inl h) w s few = omega (arith, h.1, w.code)
-  code_asked stop requests (inr (inl h)) w s few = omega (arith, h.2, w.cells)
+  code_asked stop requests (inr (inl h)) w s few = not_both w h.2
   code_asked stop requests (inr (inr h)) w s few = script_asked calls text image stop requests h.1 s few
 
   code_once : (s o : Stop) → StopsAtCode project calls text image s → StopsAtCode project calls text image o → s ≡ o
@@ -226,8 +230,8 @@ module _ (project calls text : List ℕ) (image : Image) where
   code_once s o (inr (inl h)) (inl k) = absurd (omega (arith, h.1, k.1))
   code_once s o (inr (inr h)) (inl k) = absurd (omega (arith, h.0.code, k.1))
   code_once s o (inr (inl h)) (inr (inl k)) = h.0 ∙ sym k.0
-  code_once s o (inr (inl h)) (inr (inr k)) = absurd (omega (arith, h.2, k.0.cells))
-  code_once s o (inr (inr h)) (inr (inl k)) = absurd (omega (arith, h.0.cells, k.2))
+  code_once s o (inr (inl h)) (inr (inr k)) = absurd (not_both k.0 h.2)
+  code_once s o (inr (inr h)) (inr (inl k)) = absurd (not_both h.0 k.2)
   code_once s o (inr (inr h)) (inr (inr k)) = script_once calls text image s o h.1 k.1
 
 module _ (files : Files) (project calls : List ℕ) where

@@ -24,7 +24,7 @@ use Rattle.bk_scripts.proofs.One.{one-for-texts}
 use Rattle.bkit.proofs.Following.{proved_developments_follow}
 use Rattle.bk_calls.specs.Script.{IsScript, most_calls}
 use Rattle.bk_calls.proofs.Lines.{lines_within}
-use Rattle.bkit.specs.Run.{IsTold, AreTold, ReadsProject, IsProved, ReadsProgram}
+use Rattle.bkit.specs.Run.{IsTold, AreTold, ReadsProject, IsProved, IsWithinCodeLimits, ReadsProgram}
 
 -- ---- what the files tell under a name is one text
 -- what stands in two equal options
@@ -122,14 +122,14 @@ pub few_lines : (text : List ℕ) → length text ≤ 16777216 → length (lines
 few_lines text h = omega (arith, h, lines_within text)
 
 pub reads_program : (files : Files) (project calls text : List ℕ) (dev : Development) (scripts : List Script) (image : Image) (requests : List Request) →
-    ReadsProject files project dev scripts → IsProved dev scripts → image ≡ translation dev → (length image.code ≤ 1000000) × (image.cells ≤ 1000000) → IsTold files calls text → IsScript image text requests → length requests ≤ most_calls → ReadsProgram files project calls image requests
+    ReadsProject files project dev scripts → IsProved dev scripts → image ≡ translation dev → IsWithinCodeLimits image → IsTold files calls text → IsScript image text requests → length requests ≤ most_calls → ReadsProgram files project calls image requests
 reads_program files project calls text dev scripts image requests reads proved e within told script few = record {
   dev = dev;
   scripts = scripts;
   reads = reads;
   proved = proved;
   translated = e;
-  short = record { code = subst (λ x. length x.code ≤ 1000000) e within.0; cells = subst (λ x. x.cells ≤ 1000000) e within.1 };
+  short = subst IsWithinCodeLimits e within;
   asks = record { text = text; told = told; script = subst (λ x. IsScript x text requests) e script; few = few };
 }
 

@@ -3,7 +3,6 @@ use Rattle.std.proofs.Common.{◌≡◌, ℕ, ◌<◌, ◌≤◌, ◌⊎◌, inl
 use Rattle.bk_io.specs.Files.{Files}
 use Rattle.bk_code.specs.declared.image.Image.{Image}
 use Rattle.bk_dev.specs.Development.{Development}
-use Rattle.bk_dev.specs.Layout.{cell_count}
 use Rattle.bk_gen.specs.declared.error.GenFault.{GenFault}
 use Rattle.bk_gen.specs.declared.error.GenFault.TheVariants.{CodeTooLong, TooManyCells, Memory as NoRoom}
 use Rattle.bk_b0.specs.Translation.{translation}
@@ -24,8 +23,8 @@ use Rattle.bk_calls.specs.Outcome.{fault_of}
 use Rattle.bkit.specs.declared.stop.Stop.{Stop}
 use Rattle.bkit.specs.declared.stop.Stop.TheVariants.{Usage, Missing, Refused, Limit, Unproved, BadCalls, ReadFault, WriteFault, Memory}
 use Rattle.bkit.specs.Causes.{IsOfReading, IsOfChecks}
-use Rattle.bkit.specs.Run.{IsTold, AreTold, ReadsProject, AreRunWords, IsProved}
-use Rattle.bkit.specs.Stops.{IsOutside, StopsAtFile, StopsAtFiles, StopsAtTold, StopsAtComponents, StopsAtProject, StopsPastLimits, StopsAtObligations, StopsAtScript, StopsAtRun, StopsAt, name_at, stop_of_refusal, stop_of_proofs, stop_of_code, stop_of_calls}
+use Rattle.bkit.specs.Run.{IsTold, AreTold, ReadsProject, AreRunWords, IsProved, IsWithinCodeLimits}
+use Rattle.bkit.specs.Stops.{IsOutside, StopsAtFile, StopsAtFiles, StopsAtTold, StopsAtComponents, StopsAtProject, StopsPastLimits, StopsAtObligations, StopsAtScript, StopsAtRun, StopsAt, HasTooManyCells, name_at, stop_of_refusal, stop_of_proofs, stop_of_code, stop_of_calls}
 use Rattle.bkit.proofs.Projects.{names_of}
 use Rattle.bkit.proofs.Fetching.{stops_before, stops_behind}
 
@@ -131,16 +130,16 @@ module _ (files : Files) (project calls : List ℕ) (dev : Development) (scripts
   at_script stop (inl o) = inl o
   at_script stop (inr s) = inr (inr (dev, scripts, reads, inr (proved, inl s)))
 
-  pub at_code : (text : List ℕ) (fault : GenFault) (stop : Stop) → IsTold files calls text → (fault ≡ CodeTooLong → 1000000 < length (translation dev).code) → (fault ≡ TooManyCells → (length (translation dev).code ≤ 1000000) × (1000000 < cell_count dev)) → stop ≡ stop_of_code fault project → Stopped files project calls stop
+  pub at_code : (text : List ℕ) (fault : GenFault) (stop : Stop) → IsTold files calls text → (fault ≡ CodeTooLong → 1000000 < length (translation dev).code) → (fault ≡ TooManyCells → (length (translation dev).code ≤ 1000000) × HasTooManyCells (translation dev)) → stop ≡ stop_of_code fault project → Stopped files project calls stop
   at_code text CodeTooLong stop told long many is = inr (inr (dev, scripts, reads, inr (proved, inr (text, told, inl (is, long refl)))))
   at_code text TooManyCells stop told long many is = inr (inr (dev, scripts, reads, inr (proved, inr (text, told, inr (inl (is, (many refl).0, (many refl).1))))))
   at_code text NoRoom stop told long many is = inl (outside_memory stop is)
 
-  under : (text : List ℕ) (image : Image) (stop : Stop) → IsTold files calls text → image ≡ translation dev → (length image.code ≤ 1000000) × (image.cells ≤ 1000000) → StopsAtScript calls text image stop → Stopped files project calls stop
+  under : (text : List ℕ) (image : Image) (stop : Stop) → IsTold files calls text → image ≡ translation dev → IsWithinCodeLimits image → StopsAtScript calls text image stop → Stopped files project calls stop
   under text image stop told e within h =
-      inr (inr (dev, scripts, reads, inr (proved, inr (text, told, inr (inr (record { code = subst (λ x. length x.code ≤ 1000000) e within.0; cells = subst (λ x. x.cells ≤ 1000000) e within.1 }, subst (λ x. StopsAtScript calls text x stop) e h))))))
+      inr (inr (dev, scripts, reads, inr (proved, inr (text, told, inr (inr (subst IsWithinCodeLimits e within, subst (λ x. StopsAtScript calls text x stop) e h))))))
 
-  pub at_calls : (text : List ℕ) (image : Image) (fault : CallsFault) (stop : Stop) → IsTold files calls text → image ≡ translation dev → (length image.code ≤ 1000000) × (image.cells ≤ 1000000) → ((number : ℕ) (cause : Cause) → fault ≡ fault_of cause number → IsBadLine image text number cause) → (fault ≡ PastLimit → PassesLimit image text) → stop ≡ stop_of_calls fault calls → Stopped files project calls stop
+  pub at_calls : (text : List ℕ) (image : Image) (fault : CallsFault) (stop : Stop) → IsTold files calls text → image ≡ translation dev → IsWithinCodeLimits image → ((number : ℕ) (cause : Cause) → fault ≡ fault_of cause number → IsBadLine image text number cause) → (fault ≡ PastLimit → PassesLimit image text) → stop ≡ stop_of_calls fault calls → Stopped files project calls stop
   at_calls text image (Line number) stop told e within bad past is = under text image stop told e within (inl (number, NoCall, is, bad number NoCall refl))
   at_calls text image (NoOperation number) stop told e within bad past is = under text image stop told e within (inl (number, UnknownName, is, bad number UnknownName refl))
   at_calls text image (Arguments number) stop told e within bad past is = under text image stop told e within (inl (number, WrongArguments, is, bad number WrongArguments refl))

@@ -8,6 +8,7 @@ use Rattle.bk_code.specs.Session.{Request, Told, Session}
 use Rattle.bk_form.specs.Search.{Finder, IsSearch}
 use Rattle.bk_dev.specs.Development.{Development}
 use Rattle.bk_b0.specs.Translation.{translation}
+use Rattle.bk_image.specs.Spelling.{HasSpelling}
 use Rattle.bk_front.specs.ProjectFile.{NamesFiles}
 use Rattle.bk_front.specs.Project.{Reads}
 use Rattle.bk_sim.specs.Follows.{Follows}
@@ -76,10 +77,11 @@ pub record IsProved (dev : Development) (scripts : List Script) : Type 0 where
   pub within : PassNoLimit (obligations dev)
   pub proved : AreProved dev scripts
 
--- at most 1000000 instructions, and at most 1000000 cells
+-- at most 1000000 instructions, at most 1000000 cells, and a spelling
 pub record IsWithinCodeLimits (image : Image) : Type 0 where
   pub code : length image.code ≤ 1000000
   pub cells : image.cells ≤ 1000000
+  pub spelled : HasSpelling image
 
 -- the image is the translation of the development that the project reads as, which is proved, and the script asks for these calls of the image
 pub record ReadsProgram (files : Files) (project calls : List ℕ) (image : Image) (requests : List Request) : Type 0 where

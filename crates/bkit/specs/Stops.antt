@@ -6,6 +6,7 @@ use Rattle.bk_dev.specs.Development.{Development}
 use Rattle.bk_gen.specs.declared.error.GenFault.{GenFault}
 use Rattle.bk_gen.specs.declared.error.GenFault.TheVariants.{CodeTooLong, TooManyCells, Memory as NoRoom}
 use Rattle.bk_b0.specs.Translation.{translation}
+use Rattle.bk_image.specs.Spelling.{HasSpelling}
 use Rattle.bk_front.specs.declared.refusal.Refusal.{Refusal}
 use Rattle.bk_front.specs.declared.refusal.Refusal.TheVariants.{Fault, Limit as LimitOfText, Memory as OutOfMemory}
 use Rattle.bk_front.specs.ProjectFile.{NamesFiles, IsNoProject}
@@ -142,11 +143,16 @@ abbrev pub StopsAtScript : (calls text : List ℕ) → Image → Stop → Type 0
 StopsAtScript calls text image stop =
     ((number : ℕ) × (cause : Cause) × (stop ≡ BadCalls number) × IsBadLine image text number cause) ⊎ ((stop ≡ Limit 11 calls) × PassesLimit image text)
 
+-- there are more cells than an image may have, or it has no spelling: a name is too long, or a number of sets, elements,
+-- operations, inputs or outputs is too large
+abbrev pub HasTooManyCells : Image → Type 0
+HasTooManyCells image = (1000000 < image.cells) ⊎ (HasSpelling image → ⊥)
+
 -- the limits of the code, and then the call script
 abbrev pub StopsAtCode : (project calls text : List ℕ) → Image → Stop → Type 0
 StopsAtCode project calls text image stop =
     ((stop ≡ Limit 9 project) × (1000000 < length image.code)) ⊎
-    ((stop ≡ Limit 10 project) × (length image.code ≤ 1000000) × (1000000 < image.cells)) ⊎
+    ((stop ≡ Limit 10 project) × (length image.code ≤ 1000000) × HasTooManyCells image) ⊎
     (IsWithinCodeLimits image × StopsAtScript calls text image stop)
 
 -- the call script is fetched before the limits of the code are asked

@@ -1,20 +1,24 @@
 //! The program over any shelf and any sink.
 
-ghost use Rattle.std.specs.Prelude.{◌≡◌, ◌≢◌, ◌⊎◌, ◌≤◌, ℕ, List, All, [], length, map, string_bytes};
+ghost use Rattle.std.specs.Prelude.{◌≡◌, ◌≢◌, ◌⊎◌, ◌<◌, ◌≤◌, ℕ, List, All, [], length, map, string_bytes};
 ghost use Rattle.std.specs.Prelude.{Some, Err, IfOk, IfErr, MatchOption};
 ghost use Rattle.std.specs.IoError.{error_kind};
 ghost use Rattle.std.specs.Process.{exit_status};
 ghost use Rattle.bk_io.specs.Counts.{Rose, HasCause};
 ghost use Rattle.bk_io.specs.Files.{Files};
 ghost use Rattle.bk_io.specs.Pieces.{WroteFront, written_with};
-ghost use Rattle.bk_code.specs.Checks.{IsChecked};
+ghost use Rattle.bk_code.specs.Checks.{IsLoadable, IsChecked};
+ghost use Rattle.bk_image.specs.Spelling.{HasSpelling};
+ghost use Rattle.bk_b0.specs.Simple.{IsSimple};
+ghost use Rattle.bk_b0.specs.Translation.{translation};
+ghost use Rattle.bk_gen.specs.declared.error.GenFault.TheVariants.{CodeTooLong, TooManyCells};
 ghost use Rattle.bk_code.specs.Laws.{IsRequest};
 ghost use Rattle.bk_calls.specs.Script.{request_of};
 ghost use Rattle.bkit.specs.declared.status.Status.{Status};
 ghost use Rattle.bkit.specs.declared.stop.Stop.TheVariants.{Usage, ReadFault, WriteFault, Memory};
 ghost use Rattle.bkit.specs.Codes.{code_of};
 ghost use Rattle.bkit.specs.Causes.{IsOfReading, IsOfPlaying, CountsAbsence};
-ghost use Rattle.bkit.specs.Stops.{IsOutside, StopsAtRun, StopsAt, IsCutShort, stop_text, stop_of_code, stop_of_calls};
+ghost use Rattle.bkit.specs.Stops.{HasTooManyCells, IsOutside, StopsAtRun, StopsAt, IsCutShort, stop_text, stop_of_code, stop_of_calls};
 ghost use Rattle.bkit.specs.Run.{AreRunWords, AreNoRunWords, IsReady, ReadsProgram, IsExecuted, WritesRun};
 ghost use Rattle.bkit.specs.Run.{IsDoneWhereLegal, ComesSoFar};
 ghost use Rattle.bkit.specs.Answer.{IsAnswer, IsAnswered, WritesAnswer, WritesLine};
@@ -25,8 +29,10 @@ use crate::proof::check_obligations;
 use crate::session::play;
 use crate::status::Status;
 use crate::stop::Stop;
+use bk_b0::b0;
 use bk_calls::{Call, CallsFault, calls};
 use bk_code::Image;
+use bk_dev::Development;
 use bk_gen::{GenFault, translate};
 use bk_io::{Shelf, Sink};
 use std::alloc::Global;
@@ -46,6 +52,7 @@ const LIMIT_OF_CALLS: u8 = 11;
 // What a run executes.
 #[derive(Drop)]
 struct Program {
+    development: Development,
     image: Image,
     calls: Vec<Call>,
 }
@@ -156,7 +163,13 @@ fn run<H: Shelf, K: Sink>(
 {
     let (project, calls) = run_words(words).ok_or(Stop::Usage)?;
     let program = read_program(alloc, project, calls, shelf)?;
-    let status = play(alloc, program.image, &program.calls, out)?;
+    let status = play(
+        alloc,
+        program.image,
+        &program.development,
+        &program.calls,
+        out,
+    )?;
     Ok(status)
 }
 
@@ -189,6 +202,7 @@ fn read_program<H: Shelf>(
     ensures missing { CountsAbsence (H.absences shelf.old) (H.absences shelf.new) result }
     ensures told { IfOk result (λ p. (files : Files) → H.files shelf.old ≡ Some files →
         ReadsProgram files project.now script.now p.image (map request_of p.calls.items)) }
+    ensures translated { IfOk result (λ p. p.image ≡ translation p.development) }
     ensures checked { IfOk result (λ p. IsChecked p.image) }
     ensures requests { IfOk result (λ p. All (IsRequest p.image) (map request_of p.calls.items)) }
     ensures few { IfOk result (λ p. length p.calls.items ≤ 1000000) }
@@ -196,14 +210,33 @@ fn read_program<H: Shelf>(
     let read = read_project(alloc, project, shelf)?;
     check_obligations(alloc, project, &read)?;
     let text = fetch(alloc, script, shelf)?;
-    let image = match translate(alloc, &read.development) {
+    let image = match image_of(alloc, &read.development) {
         Ok(image) => image,
         Err(fault) => return Err(past_limit(alloc, fault, project)?),
     };
     match calls(alloc, &text, &image) {
-        Ok(calls) => Ok(Program { image, calls }),
+        Ok(calls) => Ok(Program {
+            development: read.development,
+            image,
+            calls,
+        }),
         Err(fault) => Err(bad_calls(alloc, fault, script)?),
     }
+}
+
+// The image of a development's implementation.
+fn image_of(alloc: Global, dev: &Development) -> Result<Image, GenFault>
+    requires { IsSimple dev.now }
+    ensures ok { IfOk result (λ image. image ≡ translation dev.now) }
+    ensures checked { IfOk result IsLoadable }
+    ensures spelled { IfOk result HasSpelling }
+    ensures within { IfOk result (λ image. (length image.code ≤ 1000000) × (image.cells ≤ 1000000)) }
+    ensures too_long { result ≡ Err CodeTooLong → 1000000 < length (translation dev.now).code }
+    ensures too_many { result ≡ Err TooManyCells →
+        (length (translation dev.now).code ≤ 1000000) × HasTooManyCells (translation dev.now) }
+{
+    let unit = b0(alloc, dev)?;
+    translate(alloc, &unit)
 }
 
 // The limit of the code, or of its cells, that the project passes.

@@ -5,13 +5,14 @@ ghost use Rattle.std.specs.Prelude.{◌≡◌, ◌<◌, ◌≤◌, ◌*◌, ◌+
 ghost use Rattle.std.specs.Prelude.{Some, IfOk, IfErr, OnOk, OnErr};
 ghost use Rattle.bk_io.specs.Counts.{HasCause};
 ghost use Rattle.bk_io.specs.Pieces.{written_with, WroteFront};
+ghost use Rattle.bk_b0.specs.Translation.{translation};
 ghost use Rattle.bk_code.specs.Checks.{IsChecked};
 ghost use Rattle.bk_code.specs.Laws.{IsRequest};
 ghost use Rattle.bk_vm.specs.Ends.{is_stop, end_of};
 ghost use Rattle.bk_vm.specs.State.{TakesCall};
 ghost use Rattle.bk_calls.specs.Script.{request_of};
 ghost use Rattle.bk_calls.specs.Room.{IsMadeFor};
-ghost use Rattle.bk_calls.specs.Transcript.{AreOutputs, reply_text, closing_text, steps_of, done_number};
+ghost use Rattle.bk_calls.specs.Transcript.{AreOutputs, reply_text, steps_of, done_number};
 ghost use Rattle.bkit.specs.declared.stop.Stop.TheVariants.{WriteFault};
 ghost use Rattle.bkit.specs.Causes.{IsOfPlaying};
 ghost use Rattle.bkit.specs.Run.{IsExecuted};
@@ -22,8 +23,10 @@ use crate::status::Status;
 use crate::stop::Stop;
 use bk_calls::{Call, ReplyLine, closing, reply, steps};
 use bk_code::Image;
+use bk_dev::Development;
 use bk_io::{Sink, SinkFault, put_all};
-use bk_vm::{CallEnd, Machine, calls_make_a_session};
+use bk_sim::Session;
+use bk_vm::{CallEnd, calls_make_a_session};
 use std::alloc::Global;
 
 /// The most steps that the initialisation and each call may have.
@@ -42,9 +45,11 @@ struct Played {
 pub(crate) fn play<K: Sink>(
     alloc: Global,
     image: Image,
+    dev: &Development,
     calls: &[Call],
     out: &mut K,
 ) -> Result<Status, Stop>
+    requires translated { image ≡ translation dev.now }
     requires checked { IsChecked image }
     requires requests { All (IsRequest image) (map request_of calls.now) }
     requires few { length calls.now ≤ 1000000 }
@@ -58,35 +63,35 @@ pub(crate) fn play<K: Sink>(
 {
     let mut line = ReplyLine::new(alloc, &image)?;
     let mut outs = vec![in alloc; 0i64; most_outputs(&image)]?;
-    let mut machine = Machine::new(alloc, image)?;
-    let status = play_session(&mut machine, calls, &mut outs, &mut line, out)?;
+    let mut session = Session::new(alloc, image, dev)?;
+    let status = play_session(&mut session, calls, &mut outs, &mut line, out)?;
     Ok(status)
 }
 
-// The session of a machine that has not started.
+// A session that has not started.
 fn play_session<K: Sink>(
-    machine: &mut Machine,
+    session: &mut Session,
     calls: &[Call],
     outs: &mut [i64],
     line: &mut ReplyLine,
     out: &mut K,
 ) -> Result<Status, SinkFault>
-    requires fresh { machine.old.started ≡ false }
-    requires requests { All (IsRequest machine.old.image) (map request_of calls.now) }
+    requires fresh { session.old.started ≡ false }
+    requires requests { All (IsRequest session.old.image) (map request_of calls.now) }
     requires few { length calls.now ≤ 1000000 }
-    requires outputs { HasOutputRoom machine.old.image (length outs.old) }
-    requires made { IsMadeFor machine.old.image line.old }
+    requires outputs { HasOutputRoom session.old.image (length outs.old) }
+    requires made { IsMadeFor session.old.image line.old }
     ensures failed { HasCause SinkFault.Failed (K.faults out.old) (K.faults out.new) result }
     ensures front { OnErr result
-        (PlaysFront machine.old.image (map request_of calls.now) (K.written out.old) (K.written out.new)) }
+        (PlaysFront session.old.image (map request_of calls.now) (K.written out.old) (K.written out.new)) }
     ensures executed { IfOk result IsExecuted }
     ensures ok { IfOk result (λ status.
-        Plays machine.old.image (map request_of calls.now) status (K.written out.old) (K.written out.new)) }
+        Plays session.old.image (map request_of calls.now) status (K.written out.old) (K.written out.new)) }
 {
     calls_make_a_session();
-    let start = machine.start(FUEL);
-    answer(None, start, &[], machine.image(), line, out)?;
-    let played = play_calls(machine, start, calls, outs, line, out)?;
+    let start = session.start(FUEL);
+    answer(None, start, &[], session.image(), line, out)?;
+    let played = play_calls(session, start, calls, outs, line, out)?;
     closing(played.done, steps(&start, FUEL) + played.steps, line);
     put_all(out, line.bytes())?;
     Ok(status(played.end))
@@ -105,25 +110,25 @@ fn status(end: CallEnd) -> Status
 
 // The calls up to the first that is not done; none where the initialisation is not.
 fn play_calls<K: Sink>(
-    machine: &mut Machine,
+    session: &mut Session,
     start: CallEnd,
     calls: &[Call],
     outs: &mut [i64],
     line: &mut ReplyLine,
     out: &mut K,
 ) -> Result<Played, SinkFault>
-    requires started { machine.old.started ≡ true }
-    requires stopped { machine.old.stopped ≡ is_stop start }
-    requires requests { All (IsRequest machine.old.image) (map request_of calls.now) }
+    requires started { session.old.started ≡ true }
+    requires stopped { session.old.stopped ≡ is_stop start }
+    requires requests { All (IsRequest session.old.image) (map request_of calls.now) }
     requires few { length calls.now ≤ 1000000 }
-    requires outputs { HasOutputRoom machine.old.image (length outs.old) }
-    requires made { IsMadeFor machine.old.image line.old }
+    requires outputs { HasOutputRoom session.old.image (length outs.old) }
+    requires made { IsMadeFor session.old.image line.old }
     ensures failed { HasCause SinkFault.Failed (K.faults out.old) (K.faults out.new) result }
     ensures front { OnErr result
-        (PlaysCallsFront machine.old.image (map request_of calls.now) (end_of start) machine.old.cells
+        (PlaysCallsFront session.old.image (map request_of calls.now) (end_of start) session.old.cells
         (K.written out.old) (K.written out.new)) }
     ensures ok { IfOk result (λ played.
-        PlaysCalls machine.old.image (map request_of calls.now) (end_of start) machine.old.cells
+        PlaysCalls session.old.image (map request_of calls.now) (end_of start) session.old.cells
         (end_of played.end) played.done played.steps (K.written out.old) (K.written out.new)) }
     ensures bound { IfOk result (λ played. played.steps ≤ 1000000 * length calls.now) }
 {
@@ -136,7 +141,7 @@ fn play_calls<K: Sink>(
         if played.end.is_stop() {
             break;
         }
-        let end = play_call(machine, call, outs, line, out)?;
+        let end = play_call(session, call, outs, line, out)?;
         played = Played {
             end,
             done: played.done + done_number(end),
@@ -159,65 +164,65 @@ fn done_number(end: CallEnd) -> u32
 
 // One call, whose outputs go to the first of these places.
 fn play_call<K: Sink>(
-    machine: &mut Machine,
+    session: &mut Session,
     call: &Call,
     outs: &mut [i64],
     line: &mut ReplyLine,
     out: &mut K,
 ) -> Result<CallEnd, SinkFault>
-    requires started { machine.old.started ≡ true }
-    requires runs { machine.old.stopped ≡ false }
-    requires request { IsRequest machine.old.image (request_of call.now) }
-    requires outputs { HasOutputRoom machine.old.image (length outs.old) }
-    requires made { IsMadeFor machine.old.image line.old }
+    requires started { session.old.started ≡ true }
+    requires runs { session.old.stopped ≡ false }
+    requires request { IsRequest session.old.image (request_of call.now) }
+    requires outputs { HasOutputRoom session.old.image (length outs.old) }
+    requires made { IsMadeFor session.old.image line.old }
     ensures failed { HasCause SinkFault.Failed (K.faults out.old) (K.faults out.new) result }
     ensures front { OnErr result
-        (PlaysCallFront machine.old.image (request_of call.now) machine.old.cells
+        (PlaysCallFront session.old.image (request_of call.now) session.old.cells
         (K.written out.old) (K.written out.new)) }
     ensures ok { IfOk result (λ end.
-        PlaysCall machine.old.image (request_of call.now) machine.old.cells (end_of end) machine.new.cells
+        PlaysCall session.old.image (request_of call.now) session.old.cells (end_of end) session.new.cells
         (K.written out.old) (K.written out.new)) }
-    ensures image { machine.new.image ≡ machine.old.image }
-    ensures started { machine.new.started ≡ true }
-    ensures stopped { IfOk result (λ end. machine.new.stopped ≡ is_stop end) }
+    ensures image { session.new.image ≡ session.old.image }
+    ensures started { session.new.started ≡ true }
+    ensures stopped { IfOk result (λ end. session.new.stopped ≡ is_stop end) }
     ensures bound { IfOk result (λ end. steps_of 1000000 (end_of end) ≤ 1000000) }
-    ensures outputs { HasOutputRoom machine.new.image (length outs.new) }
-    ensures made { IsMadeFor machine.new.image line.new }
+    ensures outputs { HasOutputRoom session.new.image (length outs.new) }
+    ensures made { IsMadeFor session.new.image line.new }
 {
-    let count = output_count(machine.image(), call.op);
-    play_into(machine, call, &mut outs[..count], line, out)
+    let count = output_count(session.image(), call.op);
+    play_into(session, call, &mut outs[..count], line, out)
 }
 
 // One call, whose outputs go to these places.
 #[tactic(auto, using(crate::proofs::Plays::steps_bounded))]
 fn play_into<K: Sink>(
-    machine: &mut Machine,
+    session: &mut Session,
     call: &Call,
     outs: &mut [i64],
     line: &mut ReplyLine,
     out: &mut K,
 ) -> Result<CallEnd, SinkFault>
-    requires started { machine.old.started ≡ true }
-    requires runs { machine.old.stopped ≡ false }
-    requires takes { TakesCall machine.old.image call.now.op call.now.args (length outs.old) }
-    requires made { IsMadeFor machine.old.image line.old }
+    requires started { session.old.started ≡ true }
+    requires runs { session.old.stopped ≡ false }
+    requires takes { TakesCall session.old.image call.now.op call.now.args (length outs.old) }
+    requires made { IsMadeFor session.old.image line.old }
     ensures failed { HasCause SinkFault.Failed (K.faults out.old) (K.faults out.new) result }
     ensures front { OnErr result
-        (PlaysCallFront machine.old.image (request_of call.now) machine.old.cells
+        (PlaysCallFront session.old.image (request_of call.now) session.old.cells
         (K.written out.old) (K.written out.new)) }
     ensures ok { IfOk result (λ end.
-        PlaysCall machine.old.image (request_of call.now) machine.old.cells (end_of end) machine.new.cells
+        PlaysCall session.old.image (request_of call.now) session.old.cells (end_of end) session.new.cells
         (K.written out.old) (K.written out.new)) }
-    ensures image { machine.new.image ≡ machine.old.image }
-    ensures started { machine.new.started ≡ true }
-    ensures stopped { IfOk result (λ end. machine.new.stopped ≡ is_stop end) }
+    ensures image { session.new.image ≡ session.old.image }
+    ensures started { session.new.started ≡ true }
+    ensures stopped { IfOk result (λ end. session.new.stopped ≡ is_stop end) }
     ensures bound { IfOk result (λ end. steps_of 1000000 (end_of end) ≤ 1000000) }
     ensures places { length outs.new ≡ length outs.old }
-    ensures made { IsMadeFor machine.new.image line.new }
+    ensures made { IsMadeFor session.new.image line.new }
 {
     calls_make_a_session();
-    let end = machine.call(call.op, call.args.as_slice(), outs, FUEL);
-    answer(Some(call.op), end, outs, machine.image(), line, out)?;
+    let end = session.call(call.op, call.args.as_slice(), outs, FUEL);
+    answer(Some(call.op), end, outs, session.image(), line, out)?;
     Ok(end)
 }
 

@@ -1,29 +1,40 @@
-use Rattle.std.proofs.Common.{◌≡◌, ◌++◌, List, [], ◌∷◌, length, sym, ◌∙◌, ap, subst, All}
-use Rattle.bk_dev.specs.Development.{Body, Level, level_at, last}
-use Rattle.bk_code.specs.declared.instruction.Inst.TheVariants.{Ret}
-use Rattle.bk_b0.specs.Simple.{IsSimpleStatement}
-use Rattle.bk_b0.specs.Translation.{statement_code, entries, operations_code, init_code}
-use Rattle.bk_gen.proofs.OneCell.{cell_count_is, image_is}
+use Rattle.std.proofs.Common.{◌≡◌, ◌+◌, ◌++◌, List, map, length, sym, ◌∙◌, ap, subst, arith, All}
+use Rattle.bk_dev.specs.Development.{Body}
+use Rattle.bk_form.specs.Table.{SetEntry}
+use Rattle.bk_b0.specs.CodeUnit.{unit_places}
+use Rattle.bk_b0.specs.Places.{placed_block, placed_entries, placed_bodies}
+use Rattle.bk_gen.specs.Executed.{HasStatementCode}
+use Rattle.bk_gen.specs.Sizes.{block_size, blocks_size}
+use Rattle.bk_gen.proofs.Lengths.{block_long}
 use Rattle.bk_gen.proofs.image.image_of.Goals as goal
 
-pub add_block-requires-clause-simple : goal.add_block-requires-clause-simple
-add_block-requires-clause-simple c = subst (λ (l : Level). IsSimpleStatement c.args.cells.now.dev.now l.init) (sym (c.level.view_is ∙ c.requires.level)) c.requires.cells.simple.init
+pub add_block-requires-clause-has : goal.add_block-requires-clause-has
+add_block-requires-clause-has c = subst (HasStatementCode (unit_places c.args.unit.now)) (sym c.init.ensures) c.requires.init
 
-pub add_operations-requires-clause-simple : goal.add_operations-requires-clause-simple
-add_operations-requires-clause-simple c =
-    let dev = c.args.cells.now.dev.now in
-    let same : c.deref.result.now ≡ (level_at dev (last dev)).bodies = c.deref.ensures.value ∙ ap (λ (l : Level). l.bodies) (c.level.view_is ∙ c.requires.level) in
-    subst (λ (bs : List Body). All (λ b. IsSimpleStatement dev b.sub) bs) (sym same) c.requires.cells.simple.bodies
+pub add_block-requires-clause-short : goal.add_block-requires-clause-short
+add_block-requires-clause-short c =
+    let p = unit_places c.args.unit.now in
+    omega (arith, c.requires.short, ap (block_size p) c.init.ensures, ap length c.new-code.ensures.items)
+
+pub add_operations-requires-clause-short : goal.add_operations-requires-clause-short
+add_operations-requires-clause-short c =
+    let u = c.args.unit.now in
+    let p = unit_places u in
+    let first : c.add_block.new.code.items ≡ placed_block p u.init = c.in_ok-add_block.ensures ∙ (λ i. c.new-code.ensures.items i ++ placed_block p (c.init.ensures i)) in
+    let long : length c.add_block.new.code.items ≡ block_size p u.init = ap length first ∙ block_long p u.init c.requires.init in
+    omega (arith, c.requires.short, long, ap (blocks_size p) c.bodies.ensures)
+
+pub add_operations-requires-clause-has : goal.add_operations-requires-clause-has
+add_operations-requires-clause-has c = subst (λ (bs : List Body). All (λ b. HasStatementCode (unit_places c.args.unit.now) b.sub) bs) (sym c.bodies.ensures) c.requires.bodies
+
+pub add_operations-requires-clause-paired : goal.add_operations-requires-clause-paired
+add_operations-requires-clause-paired c = ap length c.heads.ensures ∙ (c.requires.paired ∙ sym (ap length c.bodies.ensures))
 
 pub returns : goal.returns
 returns c =
-    let dev = c.args.cells.now.dev.now in
-    let low = level_at dev (last dev) in
-    let level = c.level.view_is ∙ c.requires.level in
-    let bodies : c.deref.result.now ≡ low.bodies = c.deref.ensures.value ∙ ap (λ (l : Level). l.bodies) level in
-    let first : c.add_block.new.code.items ≡ init_code dev = c.in_ok-add_block.ensures ∙ (λ i. c.new-code.ensures.items i ++ (statement_code dev (level i).init ++ Ret ∷ [])) in
-    let code : c.add_operations.new.code.items ≡ init_code dev ++ operations_code dev low.bodies = c.in_ok-ops.ensures.code ∙ (λ i. first i ++ operations_code dev (bodies i)) in
-    let ops : c.in_ok-ops.ops.items ≡ entries dev (length (init_code dev)) dev.heads low.bodies = c.in_ok-ops.ensures.entries ∙ (λ i. entries dev (length (first i)) (c.requires.heads i) (bodies i)) in
-    let cells = sym (cell_count_is dev c.requires.cells.simple.whole_numbers c.args.cells.now.variables.now c.requires.cells.own) in
-    (λ i. record { cells = length c.args.cells.now.variables.now; sets = (c.from_vec.ensures ∙ c.new.ensures.items) i; ops = c.from_vec-2.ensures i; code = c.from_vec-3.ensures i }) ∙
-    image_is dev c.requires.cells.simple (length c.args.cells.now.variables.now) c.in_ok-ops.ops.items c.add_operations.new.code.items cells ops code
+    let u = c.args.unit.now in
+    let p = unit_places u in
+    let first : c.add_block.new.code.items ≡ placed_block p u.init = c.in_ok-add_block.ensures ∙ (λ i. c.new-code.ensures.items i ++ placed_block p (c.init.ensures i)) in
+    let code : c.add_operations.new.code.items ≡ placed_block p u.init ++ placed_bodies p u.bodies = c.in_ok-ops.ensures.code ∙ (λ i. first i ++ placed_bodies p (c.bodies.ensures i)) in
+    let ops : c.in_ok-ops.ops.items ≡ placed_entries p (length (placed_block p u.init)) u.heads u.bodies = c.in_ok-ops.ensures.entries ∙ (λ i. placed_entries p (length (first i)) (c.heads.ensures i) (c.bodies.ensures i)) in
+    λ i. record { cells = c.few_cells.ensures i; sets = (c.from_vec.ensures ∙ (c.in_ok-sets.ensures ∙ ap (map (λ (s : SetEntry). s.elements)) c.sets.ensures)) i; ops = (c.from_vec-2.ensures ∙ ops) i; code = (c.from_vec-3.ensures ∙ code) i }

@@ -1,17 +1,18 @@
-use Rattle.std.proofs.Common.{◌≡◌, ◌++◌, [], ◌∷◌, ap, sym, ◌∙◌, append_assoc}
-use Rattle.std.specs.Prelude.{slice_index_or}
-use Rattle.bk_dev.specs.Layout.{cell_of}
-use Rattle.bk_code.specs.declared.instruction.Inst.TheVariants.{Store}
-use Rattle.bk_b0.specs.Translation.{value_code, assign_code}
-use Rattle.bk_gen.proofs.OneCell.{one_assigned}
+use Rattle.std.proofs.Common.{◌≡◌, ◌+◌, ◌≤◌, ◌++◌, List, length, ap, sym, subst}
+use Rattle.std.specs.Prelude.{OnOk}
+use Rattle.bk_code.specs.declared.instruction.Inst.{Inst}
+use Rattle.bk_b0.specs.CodeUnit.{unit_places}
+use Rattle.bk_gen.proofs.Operated.{one_assigned, one_has, one_size}
 use Rattle.bk_gen.proofs.statement.add_assignment.Goals as goal
 
-pub returns-in_ok-push-in-len1 : goal.returns-in_ok-push-in-len1
-returns-in_ok-push-in-len1 c =
-    let dev = c.args.cells.now.dev.now in
-    let before = c.args.code.now.items in
-    let value = value_code dev (slice_index_or c.args.terms.now 0 c.index-terms-0-then-terms-lt2.result).1 in
-    let slot = cell_of dev (slice_index_or c.args.terms.now 0 c.index-terms-0.result).0 in
-    let is : assign_code dev c.args.terms.now ≡ value ++ Store slot ∷ [] = one_assigned dev c.requires.cells.simple c.args.terms.now c.index-terms-0-then-terms-lt2.result c.index-terms-0.result c.in-len1.len_at_least c.in-len1.len_below in
-    let added : c.push.new.self.items ≡ (before ++ value) ++ Store slot ∷ [] = c.in_ok-push-in-len1.ensures.items ∙ (λ i. c.in_ok-add_term-in-len1.ensures i ++ Store (c.slot_of.ensures i) ∷ []) in
-    added ∙ (append_assoc before value (Store slot ∷ []) ∙ ap (λ xs. before ++ xs) (sym is))
+pub add_store-requires-clause-has : goal.add_store-requires-clause-has
+add_store-requires-clause-has c = one_has (unit_places c.args.unit.now) c.args.terms.now c.index-terms-0-then-terms-lt2.result c.index-terms-0.result c.in-len1.len_at_least c.in-len1.len_below c.requires.has
+
+pub add_store-requires-clause-short : goal.add_store-requires-clause-short
+add_store-requires-clause-short c = subst (λ n. length c.args.code.now.items + n ≤ 1000000) (one_size (unit_places c.args.unit.now) c.args.terms.now c.index-terms-0-then-terms-lt2.result c.index-terms-0.result c.in-len1.len_at_least c.in-len1.len_below) c.requires.short
+
+pub returns-in-len1 : goal.returns-in-len1
+returns-in-len1 c =
+    let p = unit_places c.args.unit.now in
+    let same = ap (λ xs. c.args.code.now.items ++ xs) (sym (one_assigned p c.args.terms.now c.index-terms-0-then-terms-lt2.result c.index-terms-0.result c.in-len1.len_at_least c.in-len1.len_below)) in
+    subst (λ (xs : List Inst). OnOk c.add_store.result (c.add_store.new.code.items ≡ xs)) same c.add_store.ensures

@@ -19,7 +19,7 @@ returns-in-Ok-calls-clause-told g c files told =
     (c.in_ok-read.ensures.told files told)
     c.in_ok-check_obligations.ensures.ok
     c.in-Ok.ensures.ok
-    c.in-Ok.ensures.within
+    (record { code = c.in-Ok.ensures.within.0; cells = c.in-Ok.ensures.within.1; spelled = c.in-Ok.ensures.spelled })
     (c.in_ok-text.ensures.told files (c.read_project.ensures.files ∙ told))
     (subst (λ x. IsScript c.in-Ok.image x (map request_of c.in-Ok-calls.calls.items)) c.deref.ensures.value c.in-Ok-calls.ensures.ok)
     (rw (length-map c.in-Ok-calls.calls.items request_of) c.in-Ok-calls.ensures.few)
@@ -56,12 +56,12 @@ returns-in-Err-clause-cause g c files told =
     (λ e. c.in-Err.ensures.too_many (ap Err e))
     c.in_ok-past_limit-in-Err.ensures.told
 
-pub returns-clause-cause : goal.returns-clause-cause
-returns-clause-cause g c files told =
+pub returns-in_ok-bad_calls-in-Err-calls-clause-cause : goal.returns-in_ok-bad_calls-in-Err-calls-clause-cause
+returns-in_ok-bad_calls-in-Err-calls-clause-cause g c files told =
     at_calls files c.args.project.now c.args.script.now c.in_ok-read.read.development c.in_ok-read.read.scripts.items (c.in_ok-read.ensures.told files told) c.in_ok-check_obligations.ensures.ok c.in_ok-text.text.items c.in-Ok.image c.in-Err-calls.fault c.in_ok-bad_calls-in-Err-calls.field-0
     (c.in_ok-text.ensures.told files (c.read_project.ensures.files ∙ told))
     c.in-Ok.ensures.ok
-    c.in-Ok.ensures.within
+    (record { code = c.in-Ok.ensures.within.0; cells = c.in-Ok.ensures.within.1; spelled = c.in-Ok.ensures.spelled })
     (λ number cause e. subst (λ x. IsBadLine c.in-Ok.image x number cause) c.deref.ensures.value (c.in-Err-calls.ensures.line number cause (ap Err e)))
     (λ e. subst (λ x. PassesLimit c.in-Ok.image x) c.deref.ensures.value (c.in-Err-calls.ensures.limit (ap Err e)))
     c.in_ok-bad_calls-in-Err-calls.ensures.told

@@ -1,6 +1,0 @@
-use Rattle.std.proofs.Common.{◌≡◌, ◌++◌, drop}
-use Rattle.bk_dev.specs.Layout.{operation_variables}
-use Rattle.bk_gen.proofs.cells.add_parameters.Given as goal
-
-abbrev pub invariant-loop-number : goal.invariant-loop-number
-invariant-loop-number l = l.cells.items ++ operation_variables (drop l.number l.heads) (drop l.number l.bodies) ≡ l.initial.cells.items ++ operation_variables l.heads l.bodies
