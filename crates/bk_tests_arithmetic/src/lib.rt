@@ -5,3 +5,5 @@
 mod arithmetic;
 #[cfg(test)]
 mod certificates;
+#[cfg(test)]
+mod polynomials;

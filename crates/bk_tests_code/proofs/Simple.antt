@@ -3,10 +3,11 @@ use Rattle.std.proofs.Common.{◌≡◌, ◌≤◌, ◌≤ℤ◌, ℕ, zero, suc
 use Rattle.std.proofs.lemmas.Int.{ints}
 use Rattle.bk_val.specs.ValueType.{int_type}
 use Rattle.bk_form.specs.Formula.{btrue}
-use Rattle.bk_dev.specs.B0.{EvaluatesShallow}
+use Rattle.bk_dev.specs.B0.{EvaluatesShallow, IsB0Development}
 use Rattle.bk_dev.specs.Development.{level_at, last}
 use Rattle.bk_dev.specs.Layout.{arrays_of}
 use Rattle.bk_b0.specs.Simple.{IsSimpleStatement, IsSimple}
+use Rattle.bk_b0.proofs.SimpleInB0.{simple_is_in_b0}
 use Rattle.bk_gen.proofs.Counters.{few, counter_is_simple}
 use Rattle.bk_po.specs.Examples.{tally, stepper}
 use Rattle.bk_tests_code.specs.Choices.{chooser}
@@ -81,3 +82,12 @@ chooser_conditions (suc (suc (suc k))) d h = absurd (omega arith)
 
 pub chooser_is_simple : IsSimple chooser
 chooser_is_simple = record { complete = refl; no_sets = refl; no_values = refl; whole_numbers = counter_is_simple.whole_numbers; init = tt; bodies = chooser_bodies; no_conditions = chooser_conditions; init_shallow = tt; bodies_shallow = chooser_shallow }
+
+pub tally_in_b0 : IsB0Development tally
+tally_in_b0 = simple_is_in_b0 tally tally_is_simple
+
+pub stepper_in_b0 : IsB0Development stepper
+stepper_in_b0 = simple_is_in_b0 stepper stepper_is_simple
+
+pub chooser_in_b0 : IsB0Development chooser
+chooser_in_b0 = simple_is_in_b0 chooser chooser_is_simple

@@ -1,32 +1,46 @@
+ghost use Rattle.bk_dev.specs.B0.{IsB0Development};
+
 use crate::choices::chooser;
+use bk_b0::{B0Unit, Slot, b0, index_count};
 use bk_code::{CellKind, Image, Inst, Parameter};
+use bk_dev::Development;
 use bk_examples::{counter, stepper, tally};
+use bk_form::ArrayDomain;
 use bk_gen::translate;
+use bk_gsl::SubNode;
 use std::alloc::Global;
 use std::test::Fail;
 
-#[tactic(auto, using(bk_gen::proofs::Counters::counter_is_simple))]
+// The image of an implementation in B0.
+fn image_of(alloc: Global, dev: &Development) -> Result<Image, Fail>
+    requires { IsB0Development dev.now }
+{
+    let unit = b0(alloc, dev)?;
+    Ok(translate(alloc, &unit)?)
+}
+
+#[tactic(auto, using(bk_gen::proofs::Counters::counter_in_b0))]
 fn counter_image(alloc: Global) -> Result<Image, Fail> {
     let counter = counter(alloc)?;
-    Ok(translate(alloc, &counter)?)
+    image_of(alloc, &counter)
 }
 
-#[tactic(auto, using(crate::proofs::Simple::tally_is_simple))]
+#[tactic(auto, using(crate::proofs::Simple::tally_in_b0))]
 fn tally_image(alloc: Global) -> Result<Image, Fail> {
     let tally = tally(alloc)?;
-    Ok(translate(alloc, &tally)?)
+    image_of(alloc, &tally)
 }
 
-#[tactic(auto, using(crate::proofs::Simple::stepper_is_simple))]
+#[tactic(auto, using(crate::proofs::Simple::stepper_in_b0))]
 fn stepper_image(alloc: Global) -> Result<Image, Fail> {
     let stepper = stepper(alloc)?;
-    Ok(translate(alloc, &stepper)?)
+    image_of(alloc, &stepper)
 }
 
-#[tactic(auto, using(crate::proofs::Simple::chooser_is_simple))]
+#[tactic(auto, using(crate::proofs::Simple::chooser_in_b0))]
 fn chooser_image(alloc: Global) -> Result<Image, Fail> {
     let chooser = chooser(alloc)?;
-    Ok(translate(alloc, &chooser)?)
+    image_of(alloc, &chooser)
 }
 
 #[test]
@@ -183,5 +197,51 @@ fn a_condition_passes_over_what_is_decided(rt: HostRuntime) -> Result<(), Fail> 
         Inst::Push(0),
     ];
     assert!(rt; part(&image, 20, 36) == wanted.as_slice());
+    Ok(())
+}
+
+#[tactic(auto, using(bk_gen::proofs::Counters::counter_in_b0))]
+fn counter_unit(alloc: Global) -> Result<B0Unit, Fail> {
+    let counter = counter(alloc)?;
+    Ok(b0(alloc, &counter)?)
+}
+
+#[test]
+fn a_unit_has_these_parts(rt: HostRuntime) -> Result<(), Fail> {
+    let unit = counter_unit(rt.alloc())?;
+    let slots = [
+        Slot {
+            variable: 1,
+            cells: 1,
+        },
+        Slot {
+            variable: 3,
+            cells: 1,
+        },
+    ];
+    assert!(rt; unit.slots() == slots.as_slice());
+    assert_eq!(rt; unit.values().len(), 0);
+    assert_eq!(rt; unit.arrays().rows().len(), 0);
+    assert_eq!(rt; unit.table().variables(), 4);
+    assert_eq!(rt; unit.sets().len(), 0);
+    assert_eq!(rt; unit.heads().len(), 3);
+    assert_eq!(rt; unit.bodies().len(), 3);
+    assert!(rt; matches!(&unit.init().node, SubNode::Assign(_)));
+    Ok(())
+}
+
+#[test]
+fn intervals_are_counted(rt: HostRuntime) -> Result<(), Fail> {
+    let unit = counter_unit(rt.alloc())?;
+    let table = unit.table();
+    let whole = ArrayDomain::Interval {
+        low: i64::MIN,
+        high: i64::MAX,
+    };
+    let single = ArrayDomain::Interval { low: -3, high: -3 };
+    assert_eq!(rt; index_count(table, whole), 1u128 << 64);
+    assert_eq!(rt; index_count(table, single), 1);
+    assert_eq!(rt; index_count(table, ArrayDomain::Bool), 2);
+    assert_eq!(rt; index_count(table, ArrayDomain::Set(0)), 0);
     Ok(())
 }

@@ -4,4 +4,6 @@
 #[cfg(test)]
 mod developments;
 #[cfg(test)]
+mod guarding;
+#[cfg(test)]
 mod obligation_lists;

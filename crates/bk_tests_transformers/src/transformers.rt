@@ -3,8 +3,8 @@
 ghost use Rattle.std.specs.Prelude.{◌≡◌, ◌<◌, IfOk, pos};
 ghost use Rattle.bk_form.specs.Formula.{variable, literal, binary};
 ghost use Rattle.bk_form.specs.declared.operator.BinOp.TheVariants.{Lt};
-ghost use Rattle.bk_wp.specs.Guarded.{HasTotal, IsTotal};
-ghost use Rattle.bk_wp.specs.Shapes.{HasNoBinder};
+ghost use Rattle.bk_gsl.specs.Flat.{IsFlat};
+ghost use Rattle.bk_wp.specs.Shapes.{HasNoLoop};
 
 use bk_fixtures::shapes::of_size;
 use bk_fixtures::{always, becomes, binary, literal, of_variables, unary, variable, with_number};
@@ -33,7 +33,7 @@ fn tested(alloc: Global, op: BinOp, form: Form) -> Result<Form, Memory> {
 
 // `x0 := 2`
 fn becomes_two(alloc: Global) -> Result<Sub, Memory>
-    ensures { IfOk result (λ s. HasNoBinder s) }
+    ensures { IfOk result (λ s. HasNoLoop s) }
 {
     let term = literal(alloc, 2)?;
     becomes(alloc, 0, term)
@@ -47,7 +47,7 @@ fn gives(
     its_box: &Form,
     its_diamond: &Form,
 ) -> Result<bool, WpFault>
-    requires { HasNoBinder sub.now }
+    requires { HasNoLoop sub.now }
 {
     let types = VarTable::new(alloc);
     let all = boxed(alloc, &types, sub, post.copy(alloc)?)?;
@@ -139,7 +139,7 @@ fn assertions(rt: HostRuntime) -> Result<(), Fail> {
 
 // x0, x1 := x1, x0
 fn swap(alloc: Global) -> Result<Sub, Memory>
-    ensures { IfOk result (λ s. HasNoBinder s) }
+    ensures { IfOk result (λ s. HasNoLoop s) }
 {
     let first = (0, variable(alloc, 1)?);
     let second = (1, variable(alloc, 0)?);
@@ -181,8 +181,7 @@ fn limits(rt: HostRuntime) -> Result<(), Fail> {
 
 // `x0 := term`
 fn takes(alloc: Global, term: Form) -> Result<Sub, Memory>
-    requires { IsTotal term }
-    ensures { IfOk result (λ s. HasTotal s) }
+    ensures { IfOk result (λ s. IsFlat s) }
 {
     becomes(alloc, 0, term)
 }
@@ -226,7 +225,7 @@ fn not_below_one(alloc: Global) -> Result<Form, Memory> {
 
 // Whether the substitution is asked this in an implementation with no arrays.
 fn is_asked_executed(alloc: Global, sub: &Sub, condition: &Form) -> Result<bool, WpFault>
-    requires { HasTotal sub.now }
+    requires { IsFlat sub.now }
 {
     let types = VarTable::new(alloc);
     let arrays = Arrays::from_rows(2_147_483_647, Vec::new(alloc));
@@ -235,7 +234,7 @@ fn is_asked_executed(alloc: Global, sub: &Sub, condition: &Form) -> Result<bool,
 
 // Whether an implementation is asked this of the substitution, and nothing is asked elsewhere.
 fn is_asked(alloc: Global, sub: &Sub, condition: &Form) -> Result<bool, WpFault>
-    requires { HasTotal sub.now }
+    requires { IsFlat sub.now }
 {
     let types = VarTable::new(alloc);
     let elsewhere = guarded(alloc, &types, sub, None)?;
@@ -266,7 +265,7 @@ fn copies(rt: HostRuntime) -> Result<(), Fail> {
 
 // x0 := x1 - 1
 fn decrement(alloc: Global) -> Result<Sub, Memory>
-    ensures { IfOk result (λ s. HasTotal s) }
+    ensures { IfOk result (λ s. IsFlat s) }
 {
     takes(alloc, with_number(alloc, BinOp::Sub, 1, 1)?)
 }
@@ -315,7 +314,7 @@ fn sums_under_no_precondition(rt: HostRuntime) -> Result<(), Fail> {
 
 // x1 := 1
 fn becomes_one(alloc: Global) -> Result<Sub, Memory>
-    ensures { IfOk result (λ s. HasTotal s) }
+    ensures { IfOk result (λ s. IsFlat s) }
 {
     let term = literal(alloc, 1)?;
     becomes(alloc, 1, term)
@@ -333,9 +332,7 @@ fn sums_after_others(rt: HostRuntime) -> Result<(), Fail> {
 }
 
 // `not(x1 < 1 or x1 + 1 < 2)`
-fn either_below(alloc: Global) -> Result<Form, Memory>
-    ensures { IfOk result IsTotal }
-{
+fn either_below(alloc: Global) -> Result<Form, Memory> {
     let left = below_one(alloc)?;
     let sum = with_number(alloc, BinOp::Add, 1, 1)?;
     let right = binary(alloc, BinOp::Lt, sum, literal(alloc, 2)?)?;
