@@ -292,15 +292,41 @@ fn fills_of_arrays(rt: HostRuntime) -> Result<(), Fail> {
 
 // ---- variables that are bound
 
-// VAR x1 IN x0 := x0 / x1 END, and VAR x1 IN skip END
+// VAR x1 IN x0 := x0 / x1 END
+fn dividing_by_a_local(alloc: Global) -> Result<Sub, Memory>
+    ensures { IfOk result (λ s. IsFlat s) }
+{
+    let body = divide(alloc)?;
+    Sub::any(alloc, vec![in alloc; 1]?, body)
+}
+
+// each value of the local is not 0
+fn each_value_divides(alloc: Global) -> Result<Form, Memory> {
+    let value = leaf(alloc, Part::Bound(0))?;
+    let divides = not_zero(alloc, value)?;
+    all(alloc, divides)
+}
+
 #[test]
 fn locals(rt: HostRuntime) -> Result<(), Fail> {
-    let alloc = rt.alloc();
-    let sub = Sub::any(alloc, vec![in alloc; 1]?, divide(alloc)?)?;
-    let condition = all(alloc, not_zero(alloc, leaf(alloc, Part::Bound(0))?)?)?;
-    assert!(rt; is_asked(alloc, &sub, &condition)?);
-    let sub = Sub::any(alloc, vec![in alloc; 1]?, Sub::skip())?;
-    assert!(rt; is_asked(alloc, &sub, &always(alloc)?)?);
+    let condition = each_value_divides(rt.alloc())?;
+    let sub = dividing_by_a_local(rt.alloc())?;
+    assert!(rt; is_asked(rt.alloc(), &sub, &condition)?);
+    Ok(())
+}
+
+// VAR x1 IN skip END
+fn idle_local(alloc: Global) -> Result<Sub, Memory>
+    ensures { IfOk result (λ s. IsFlat s) }
+{
+    Sub::any(alloc, vec![in alloc; 1]?, Sub::skip())
+}
+
+#[test]
+fn locals_that_do_nothing(rt: HostRuntime) -> Result<(), Fail> {
+    let condition = always(rt.alloc())?;
+    let sub = idle_local(rt.alloc())?;
+    assert!(rt; is_asked(rt.alloc(), &sub, &condition)?);
     Ok(())
 }
 
