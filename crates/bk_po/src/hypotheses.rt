@@ -8,10 +8,10 @@ ghost use Rattle.bk_dev.specs.Development.{inputs_of, body_of, is_implementation
 ghost use Rattle.bk_dev.specs.Hypotheses.{value_equation, joining, facts, facts_of, conditions_of, is_number, in_machine_range, input_ranges, properties_hypotheses, invariant_hypotheses, assertion_hypotheses, init_hypotheses, body_hypotheses, operation_hypotheses};
 ghost use Rattle.bk_form.specs.Predicates.{conjuncts, equation};
 
-use crate::splits::add_conjuncts;
 use bk_dev::{Development, Kind, Level};
 use bk_form::{BinOp, Form, Part, TyView, VarTable};
 use bk_io::Memory;
+use bk_seq::add_conjuncts;
 use std::alloc::Global;
 
 /// Of the definedness of a level's properties.

@@ -1,7 +1,6 @@
-//! Goals taken apart into sequents, and the sequents' names.
+//! The names of the sequents that goals are taken apart into.
 
 ghost use Rattle.std.specs.Prelude.{◌≡◌, ◌^◌, ◌-◌, ◌++◌, [], min, map, length, codes, decimal, IfOk, OnOk};
-ghost use Rattle.bk_form.specs.Predicates.{conjuncts};
 ghost use Rattle.bk_po.specs.Obligations.{numbered_from, numbered};
 ghost use Rattle.bk_seq.specs.Sequents.{split};
 ghost use Rattle.bk_seq.specs.Sequents.{sequent_of};
@@ -11,57 +10,9 @@ use crate::obligation::Obligation;
 use crate::whole::WholeObligation;
 use bk_form::{BinOp, Form, View};
 use bk_io::{Memory, Text};
-use bk_seq::Sequent;
+use bk_seq::{Sequent, split};
 use itoa::Buffer;
 use std::alloc::Global;
-
-/// Adds the parts of a conjunction, without `btrue`.
-pub(crate) fn add_conjuncts(alloc: Global, form: &Form, found: &mut Vec<Form>) -> Result<(), Memory>
-    ensures { OnOk result (found.new.items ≡ found.old.items ++ conjuncts form.now) }
-{
-    match form.view() {
-        View::Bin(BinOp::And, left, right) => {
-            add_conjuncts(alloc, left, found)?;
-            add_conjuncts(alloc, right, found)
-        }
-        View::True => Ok(()),
-        _ => {
-            found.push(form.copy(alloc)?)?;
-            Ok(())
-        }
-    }
-}
-
-/// Adds the sequents that a goal is taken apart into.
-pub(crate) fn add_sequents(
-    alloc: Global,
-    hypotheses: &[Form],
-    goal: &Form,
-    found: &mut Vec<Sequent>,
-) -> Result<(), Memory>
-    ensures { OnOk result (map sequent_of found.new.items ≡ map sequent_of found.old.items
-        ++ split hypotheses.now goal.now) }
-{
-    match goal.view() {
-        View::Bin(BinOp::And, left, right) => {
-            add_sequents(alloc, hypotheses, left, found)?;
-            add_sequents(alloc, hypotheses, right, found)
-        }
-        View::Bin(BinOp::Imp, left, right) => {
-            let mut more = Form::copy_all(hypotheses, alloc)?;
-            add_conjuncts(alloc, left, &mut more)?;
-            add_sequents(alloc, &more, right, found)
-        }
-        View::True => Ok(()),
-        _ => {
-            found.push(Sequent {
-                hyps: Form::copy_all(hypotheses, alloc)?,
-                goal: goal.copy(alloc)?,
-            })?;
-            Ok(())
-        }
-    }
-}
 
 /// How many sequents a goal is taken apart into, or 2^64 - 1 if they are more.
 pub(crate) fn count(goal: &Form) -> u64
@@ -81,8 +32,8 @@ pub(crate) fn numbered(alloc: Global, wholes: &[WholeObligation]) -> Result<Vec<
 {
     let mut list = Vec::new(alloc);
     for whole in wholes {
-        let mut sequents = Vec::new(alloc);
-        add_sequents(alloc, &whole.hypotheses, &whole.goal, &mut sequents)?;
+        let hypotheses = Form::copy_all(&whole.hypotheses, alloc)?;
+        let sequents = split(alloc, hypotheses, whole.goal.copy(alloc)?)?;
         add_numbered(alloc, &whole.name, sequents, &mut list)?;
     }
     Ok(list)

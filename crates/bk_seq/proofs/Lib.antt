@@ -3,3 +3,4 @@ pub mod Paths
 pub mod PathLaws
 pub mod Typing
 pub mod Widening
+pub mod SplitValidity

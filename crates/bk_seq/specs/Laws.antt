@@ -4,7 +4,8 @@ use Rattle.bk_form.specs.Table.{Table, IsWellFormed}
 use Rattle.bk_form.specs.Formula.{Formula, bfalse, unary}
 use Rattle.bk_form.specs.declared.operator.UnOp.TheVariants.{Not}
 use Rattle.bk_bind.specs.Valid.{IsValid}
-use Rattle.bk_seq.specs.Sequents.{IsValidSequent, Sequent, Types}
+use Rattle.bk_form.specs.Each.{Each}
+use Rattle.bk_seq.specs.Sequents.{IsValidSequent, Sequent, Types, split}
 use Rattle.bk_form.specs.Wider.{IsWider}
 
 -- a goal that is the first hypothesis
@@ -22,3 +23,7 @@ Contradicts = (table : Table) (goal : Formula) (hyps : List Formula) → IsValid
 -- a sequent over a table is valid there exactly where it is valid over a wider one
 abbrev pub ValidityWidens : Type 0
 ValidityWidens = (small large : Table) → IsWellFormed small → IsWellFormed large → IsWider small large → (s : Sequent) → Types small s → IsValidSequent small s ↔ IsValidSequent large s
+
+-- a sequent is valid exactly where each sequent is that its goal is taken apart into
+abbrev pub SplitKeepsValidity : Type 0
+SplitKeepsValidity = (table : Table) (hyps : List Formula) (goal : Formula) → IsValid table hyps goal ↔ Each (IsValidSequent table) (split hyps goal)

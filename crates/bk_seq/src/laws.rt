@@ -1,6 +1,6 @@
 //! Laws of validity, and of places in formulas. Each is the contract of a function that does nothing.
 
-ghost use Rattle.bk_seq.specs.Laws.{IsAssumed, Weakens, Contradicts, ValidityWidens};
+ghost use Rattle.bk_seq.specs.Laws.{IsAssumed, Weakens, Contradicts, ValidityWidens, SplitKeepsValidity};
 ghost use Rattle.bk_seq.specs.PathLaws.{PutStands, PutKeepsRole, PutKeepsMeaning, PartsType};
 
 /// What every valid sequent allows.
@@ -21,4 +21,9 @@ pub fn places()
 /// A sequent is valid over a table exactly where it is valid over one with more variables or sets.
 pub fn wider_tables()
     ensures { ValidityWidens }
+{}
+
+/// A goal that is taken apart keeps the sequent as valid as it was.
+pub fn splits()
+    ensures { SplitKeepsValidity }
 {}

@@ -5,7 +5,7 @@ use bk_fixtures::shapes::{all, comprehension, lambda, of_height, of_size};
 use bk_fixtures::{binary, of_variables, unary, variable};
 use bk_form::{BinOp, Form, UnOp};
 use bk_io::Memory;
-use bk_seq::{Sequent, at, numbered, put};
+use bk_seq::{Sequent, at, numbered, put, split};
 use std::alloc::Global;
 use std::test::Fail;
 
@@ -186,5 +186,34 @@ fn limits(rt: HostRuntime) -> Result<(), Fail> {
     let form = difference(alloc, of_size(alloc, 199_999)?, of_height(alloc, 2_000)?)?;
     let found = with_at(alloc, &form, &[], 3)?;
     assert!(rt; found.equal(&variable(alloc, 3)?));
+    Ok(())
+}
+
+// ---- goals taken apart
+// `x op y` of two variables
+fn pair(alloc: Global, op: BinOp, left: u32, right: u32) -> Result<Form, Memory> {
+    of_variables(alloc, op, left, right)
+}
+
+// `(0 = 1 & (0 < 1 => (1 = 0 & 1 < 0)))`: the goals 0 = 1, and 1 = 0 and 1 < 0 under 0 < 1
+#[test]
+fn splits(rt: HostRuntime) -> Result<(), Fail> {
+    let alloc = rt.alloc();
+    let inner = binary(
+        alloc,
+        BinOp::And,
+        pair(alloc, BinOp::Eq, 1, 0)?,
+        pair(alloc, BinOp::Lt, 1, 0)?,
+    )?;
+    let under = binary(alloc, BinOp::Imp, pair(alloc, BinOp::Lt, 0, 1)?, inner)?;
+    let goal = binary(alloc, BinOp::And, pair(alloc, BinOp::Eq, 0, 1)?, under)?;
+    let list = split(alloc, Vec::new(alloc), goal)?;
+    assert_eq!(rt; list.len(), 3);
+    assert_eq!(rt; list[0].hyps.len(), 0);
+    assert!(rt; list[0].goal.equal(&pair(alloc, BinOp::Eq, 0, 1)?));
+    assert_eq!(rt; list[1].hyps.len(), 1);
+    assert!(rt; list[1].hyps[0].equal(&pair(alloc, BinOp::Lt, 0, 1)?));
+    assert!(rt; list[1].goal.equal(&pair(alloc, BinOp::Eq, 1, 0)?));
+    assert!(rt; list[2].goal.equal(&pair(alloc, BinOp::Lt, 1, 0)?));
     Ok(())
 }
