@@ -6,7 +6,7 @@ use Rattle.bk_seq.specs.Sequents.{Sequent, Types, IsValidSequent}
 use Rattle.bk_form.specs.Each.{Each}
 use Rattle.bk_kernel.specs.Rules.{IsInstance}
 use Rattle.bk_kernel.specs.Derivations.{Leaves}
-use Rattle.bk_kernel.proofs.Lists.{each-append, each-left, each-right}
+use Rattle.bk_kernel.proofs.EachItem.{each-append, each-left, each-right}
 
 module _ (table : Table) where
   -- one more step at the end

@@ -12,7 +12,7 @@ use Rattle.bk_form.specs.Each.{Each}
 use Rattle.bk_kernel.specs.Rules.{IsInstance}
 use Rattle.bk_kernel.specs.Derivations.{Leaves, FailsAt, IsVerdict}
 use Rattle.bk_kernel.specs.Standing.{in_order, at_end}
-use Rattle.bk_kernel.proofs.Lists.{each-append}
+use Rattle.bk_kernel.proofs.EachItem.{each-append}
 use Rattle.bk_kernel.proofs.Derived.{leaves-more}
 
 map-more : (held : List StoredSequent) (s : StoredSequent) → map sequent_of (held ++ s ∷ []) ≡ map sequent_of held ++ sequent_of s ∷ []

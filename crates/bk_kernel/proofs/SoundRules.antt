@@ -1,158 +1,138 @@
--- A sequent is valid where all that come of it by a step are.
-use Rattle.std.proofs.Common.{◌≡◌, ℕ, List, [], ◌∷◌, ◌++◌, map, refl, sym, ◌∙◌, ap, subst, Bool, true, false}
-use Rattle.std.specs.Prelude.{Some}
-use Rattle.bk_val.specs.CmpLaws.{same_value, value_eq-self}
-use Rattle.bk_form.specs.Table.{Table, IsWellFormed}
-use Rattle.bk_form.specs.Formula.{Formula, binary}
-use Rattle.bk_form.specs.Role.{role, gives}
-use Rattle.bk_form.specs.Search.{Finder, IsSearch}
-use Rattle.bk_form.specs.Environment.{Environment, State, IsTypedState, at_state}
-use Rattle.bk_form.specs.Operators.{implies}
-use Rattle.bk_form.specs.Meaning.{meaning, value, truth, of_value}
-use Rattle.bk_form.specs.declared.operator.BinOp.TheVariants.{And as Conjunction, Or as Disjunction, Imp as Implication, Eq as Equality}
-use Rattle.bk_form.proofs.Members.{or-left, or-right, and-true, and-both}
-use Rattle.bk_form.proofs.Roles.{meaning-role}
-use Rattle.bk_form.proofs.Givers.{value-meaning}
-use Rattle.bk_form.specs.Predicates.{AllHold}
-use Rattle.bk_seq.specs.Paths.{numbered_item, sub_at, put_at}
-use Rattle.bk_seq.proofs.Paths.{put-meaning}
-use Rattle.bk_laws.specs.Laws.{SidesHold}
-use Rattle.bk_laws_log.proofs.True.{laws-are-true}
-use Rattle.bk_kernel.proofs.OneLaw.{row-of, one-role, is-instance-at}
-use Rattle.bk_lin.specs.declared.fact.Line.{Line}
-use Rattle.bk_arith.proofs.Accepted.{accepted_is_valid}
-use Rattle.bk_kernel.specs.declared.rule.Place.{Place}
-use Rattle.bk_kernel.specs.declared.rule.Place.TheVariants.{Goal, Hyp as InHyp}
-use Rattle.bk_kernel.specs.declared.rule.Rule.{Rule}
-use Rattle.bk_kernel.specs.declared.rule.Rule.TheVariants.{Hyp, Same, And, Left, Right, Split, Imp, Eq, Qe, Law, Lin, Unread}
-use Rattle.bk_seq.specs.Sequents.{Sequent, Types, IsValidSequent}
-use Rattle.bk_form.specs.Each.{Each}
+-- Every rule makes one list of sequents, and is sound.
+use Rattle.std.proofs.Common.{◌≡◌, ℕ, zero, suc, List, [], ◌∷◌, map, refl, sym, ◌∙◌, subst, true}
+use Rattle.std.specs.Prelude.{Some, None}
+use Rattle.std.specs.Option.{option_map}
+use Rattle.bk_form.specs.declared.operator.BinOp.TheVariants.{Eq}
+use Rattle.bk_form.specs.Meaning.{truth}
 use Rattle.bk_form.proofs.Valued.{state-typed}
-use Rattle.bk_kernel.specs.Rules.{Rewrites, ByLaw, AreListed, ByArithmetic, ByRule}
-use Rattle.bk_kernel.specs.RuleLaws.{RulesAreSound, DerivedIsValid}
-use Rattle.bk_kernel.proofs.Lists.{each-left, each-right, hold-append, hold-item}
-use Rattle.bk_kernel.proofs.Kept.{GiveOneType, old-types, equation-of}
-use Rattle.bk_kernel.proofs.Derived.{derived-valid}
+use Rattle.bk_form.specs.Table.{Table, IsWellFormed}
+use Rattle.bk_form.specs.Formula.{Formula}
+use Rattle.bk_form.specs.Search.{Finder, IsSearch}
+use Rattle.bk_form.specs.Environment.{State, IsTyped, at_state}
+use Rattle.bk_form.specs.Predicates.{AllHold}
+use Rattle.bk_seq.specs.Sequents.{Sequent}
+use Rattle.bk_kernel.specs.declared.rule.Rule.{Rule}
+use Rattle.bk_kernel.specs.declared.rule.Rule.TheVariants.{Hyp, True, Same, Eval, False, Absurd, And as AndRule, Iff as IffRule, Imp as ImpRule, Not as NotRule, Left, Right, Or as OrRule, Contra, Fix, UseTerms, Split, Cases, Apply, Inst, OpenSome, Cut, Case, Drop, Eq as EqRule, Qe, Law, Wal, TypeOf, Neg, Mem, Val, Ext, Sub, Ex, Pair, Elems, Interval, Induct, Poly, Lin, Unread}
+use Rattle.bk_kernel.specs.declared.rule.Place.{Place}
+use Rattle.bk_kernel.specs.Branches.{Branch, extended, closed_if, sides}
+use Rattle.bk_kernel.specs.Rewriting.{Rewriting, eq_to, eq_from, law_to, law_from, deciding, typing, negating, belonging, applying, extending, including, witnessing, rewritten}
+use Rattle.bk_kernel.specs.Rules.{without, without_item, branches, makes}
+use Rattle.bk_form.specs.Each.{Each}
+use Rattle.bk_form.specs.Predicates.{IsPredicate}
+use Rattle.bk_seq.specs.Sequents.{Types, IsValidSequent}
+use Rattle.bk_kernel.specs.RuleLaws.{RulesAreFunctions, RulesAreSound}
+use Rattle.bk_kernel.proofs.PlainRules.{Holds, Leads, typed-state, hyp-sound, always-sound, same-sound, decide-sound, never-sound, absurdity-sound, conj-sound, iff-sound, imp-sound, negation-sound, left-sound, right-sound, disj-sound, contra-sound, use-sound, split-sound, cases-sound, apply-sound, inst-sound, cut-sound, case-sound, lin-sound}
+use Rattle.bk_kernel.proofs.FreshNames.{fix-sound, open-sound}
+use Rattle.bk_kernel.proofs.CaseRules.{pairs-sound, elems-sound, interval-sound, induct-sound}
+use Rattle.bk_kernel.proofs.PlaceRules.{BranchTypes, rewritten-sound}
+use Rattle.bk_arith.proofs.Options.{chained, mapped, some-same}
+use Rattle.bk_kernel.proofs.EachItem.{each-right, hold-append}
+use Rattle.bk_kernel.proofs.Viewed.{each-map, sides-then, when-then}
+use Rattle.bk_arith.specs.Polynomials.{equal_polynomials}
+use Rattle.bk_arith.proofs.PolynomialLaw.{equation-true}
 
--- ---- what the connectives say
-implied : (p q : Bool) → (p ≡ true → q ≡ true) → implies p q ≡ true
-implied true q f = f refl
-implied false q f = refl
+-- an equation of equal polynomials
+poly-sound : (table : Table) (well : IsWellFormed table) (find : Finder) (law : IsSearch find) (st : State) (typed : IsTyped (at_state table st)) (s : Sequent) (bs : List Branch) → IsPredicate table s.1 → branches table s Poly ≡ Some bs → truth find (at_state table st) s.1 ≡ true
+poly-sound table well find law st typed s bs p e =
+    let k = chained (λ x. closed_if (equal_polynomials x.0 x.1)) (sides Eq s.1) bs e in
+    let shape = sides-then Eq s.1 k.0 k.1 in
+    let same = (when-then (equal_polynomials k.0.0 k.0.1) [] bs k.2).0 in
+    subst (λ g. truth find (at_state table st) g ≡ true) (sym shape) (equation-true table well find law st typed k.0.0 k.0.1 (subst (IsPredicate table) shape p) same)
 
-module _ (table : Table) where
-  abbrev Valid : Sequent → Type 0
-  Valid s = IsValidSequent table s
+-- the rules that are sound at each state by itself: all but those that bring names and the one that drops a hypothesis
+module _ (table : Table) (well : IsWellFormed table) where
+  abbrev SoundAt : Rule → Type 0
+  SoundAt rule = (s : Sequent) (bs : List Branch) → Types table s → branches table s rule ≡ Some bs → Each (BranchTypes table) bs → (find : Finder) (law : IsSearch find) (st : State) (typed : IsTyped (at_state table st)) → AllHold find (at_state table st) s.0 → Each (Leads table well find law st typed) bs → Holds table well find law st typed s.1
 
-  -- where s is valid with this goal, and it gives the other goal, s is valid with that
-  from-goal : (hyps : List Formula) (p goal : Formula) → Valid (hyps, p) → ((find : Finder) (st : State) → truth find (at_state table st) p ≡ true → truth find (at_state table st) goal ≡ true) → Valid (hyps, goal)
-  from-goal hyps p goal valid follows find law st typed hold = follows find st (valid find law st typed hold)
+  branch-leads : (s : Sequent) (find : Finder) (law : IsSearch find) (st : State) (typed : IsTyped (at_state table st)) → AllHold find (at_state table st) s.0 → (b : Branch) → IsValidSequent table (extended s b) → Leads table well find law st typed b
+  branch-leads s find law st typed hold b valid news = valid find law st (typed-state table well find law st typed) (hold-append find (at_state table st) s.0 b.0 hold news)
 
-  -- one more hypothesis that holds
-  from-hypotheses : (hyps more : List Formula) (goal : Formula) → Valid (hyps ++ more, goal) → ((find : Finder) → IsSearch find → (st : State) → IsTypedState table st → AllHold find (at_state table st) hyps → AllHold find (at_state table st) more) → Valid (hyps, goal)
-  from-hypotheses hyps more goal valid holds find law st typed hold = valid find law st typed (hold-append find (at_state table st) hyps more hold (holds find law st typed hold))
+  branch-types : (s : Sequent) (b : Branch) → Types table (extended s b) → BranchTypes table b
+  branch-types s b t = (each-right (IsPredicate table) s.0 b.0 t.0, t.1)
 
-  one-valid : (news : List Sequent) (t : Sequent) → news ≡ t ∷ [] → Each Valid news → Valid t
-  one-valid news t e h = (subst (λ ns. Each Valid ns) e h).0
+  lifted : (rule : Rule) → SoundAt rule → (s : Sequent) (bs : List Branch) → Types table s → branches table s rule ≡ Some bs → Each (Types table) (map (extended s) bs) → Each (IsValidSequent table) (map (extended s) bs) → IsValidSequent table s
+  lifted rule sound s bs types e new_types valid find law st typed hold =
+      sound s bs types e (each-map (Types table) (BranchTypes table) (extended s) bs (branch-types s) new_types) find law st (state-typed table st typed) hold
+      (each-map (IsValidSequent table) (Leads table well find law st (state-typed table st typed)) (extended s) bs (branch-leads s find law st (state-typed table st typed) hold) valid)
 
-  goal-is : (s : Sequent) (p : Formula) → s.1 ≡ p → Valid (s.0, p) → Valid s
-  goal-is s p e valid = subst (λ g. Valid (s.0, g)) (sym e) valid
+  -- a rule that rewrites
+  rewrites : (rule : Rule) (r : Rewriting) (place : Place) → ((s : Sequent) → branches table s rule ≡ rewritten table s r place) → (s : Sequent) (bs : List Branch) → Types table s → branches table s rule ≡ Some bs → Each (Types table) (map (extended s) bs) → Each (IsValidSequent table) (map (extended s) bs) → IsValidSequent table s
+  rewrites rule r place is = lifted rule (λ s bs t e nt find law st typed hold leads. rewritten-sound table well find law st typed s.0 t.0 hold r place s.1 bs t.1 (sym (is s) ∙ e) nt leads)
 
-  -- ---- rewriting
-  -- the two mean the same wherever the hypotheses hold
-  abbrev SameUnder : List Formula → Formula → Formula → Type 0
-  SameUnder hyps old new = (find : Finder) → IsSearch find → (st : State) → IsTypedState table st → AllHold find (at_state table st) hyps → meaning find (at_state table st) new ≡ meaning find (at_state table st) old
+  branches-sound : (rule : Rule) (s : Sequent) (bs : List Branch) → Types table s → branches table s rule ≡ Some bs → Each (Types table) (map (extended s) bs) → Each (IsValidSequent table) (map (extended s) bs) → IsValidSequent table s
+  branches-sound (Hyp i) = lifted (Hyp i) (λ s bs t e nt find law st typed hold leads. hyp-sound table well find law st typed s hold bs leads i e)
+  branches-sound True = lifted True (λ s bs t e nt find law st typed hold leads. always-sound table well find law st typed s hold bs leads e)
+  branches-sound Same = lifted Same (λ s bs t e nt find law st typed hold leads. same-sound table well find law st typed s hold bs leads e)
+  branches-sound (Eval None) = lifted (Eval None) (λ s bs t e nt find law st typed hold leads. decide-sound table well find law st typed s hold bs leads e)
+  branches-sound (False i) = lifted (False i) (λ s bs t e nt find law st typed hold leads. never-sound table well find law st typed s hold bs leads i e)
+  branches-sound (Absurd i j) = lifted (Absurd i j) (λ s bs t e nt find law st typed hold leads. absurdity-sound table well find law st typed s hold bs leads i j e)
+  branches-sound AndRule = lifted AndRule (λ s bs t e nt find law st typed hold leads. conj-sound table well find law st typed s hold bs leads e)
+  branches-sound IffRule = lifted IffRule (λ s bs t e nt find law st typed hold leads. iff-sound table well find law st typed s hold bs leads e)
+  branches-sound ImpRule = lifted ImpRule (λ s bs t e nt find law st typed hold leads. imp-sound table well find law st typed s hold bs leads e)
+  branches-sound NotRule = lifted NotRule (λ s bs t e nt find law st typed hold leads. negation-sound table well find law st typed s hold bs leads e)
+  branches-sound Left = lifted Left (λ s bs t e nt find law st typed hold leads. left-sound table well find law st typed s hold bs leads e)
+  branches-sound Right = lifted Right (λ s bs t e nt find law st typed hold leads. right-sound table well find law st typed s hold bs leads e)
+  branches-sound OrRule = lifted OrRule (λ s bs t e nt find law st typed hold leads. disj-sound table well find law st typed s hold bs leads e)
+  branches-sound Contra = lifted Contra (λ s bs t e nt find law st typed hold leads. contra-sound table well find law st typed s hold bs leads e)
+  branches-sound (Fix ns) = λ s bs t e nt valid. fix-sound table well s bs valid ns e
+  branches-sound (UseTerms fs) = lifted (UseTerms fs) (λ s bs t e nt find law st typed hold leads. use-sound table well find law st typed s hold bs leads fs e)
+  branches-sound (Split i) = lifted (Split i) (λ s bs t e nt find law st typed hold leads. split-sound table well find law st typed s hold bs leads i e)
+  branches-sound (Cases i) = lifted (Cases i) (λ s bs t e nt find law st typed hold leads. cases-sound table well find law st typed s hold bs leads i e)
+  branches-sound (Apply i) = lifted (Apply i) (λ s bs t e nt find law st typed hold leads. apply-sound table well find law st typed s hold bs leads i e)
+  branches-sound (Inst i fs) = lifted (Inst i fs) (λ s bs t e nt find law st typed hold leads. inst-sound table well find law st typed s hold bs leads i fs e)
+  branches-sound (OpenSome i ns) = λ s bs t e nt valid. open-sound table well s bs valid i ns e
+  branches-sound (Cut p) = lifted (Cut p) (λ s bs t e nt find law st typed hold leads. cut-sound table well find law st typed s hold bs leads p e)
+  branches-sound (Case p) = lifted (Case p) (λ s bs t e nt find law st typed hold leads. case-sound table well find law st typed s hold bs leads p e)
+  branches-sound (Drop i) = λ s bs t e nt valid. absurd (cc)
+  branches-sound (EqRule i place) = rewrites (EqRule i place) (eq_to i) place (λ s. refl)
+  branches-sound (Qe i place) = rewrites (Qe i place) (eq_from i) place (λ s. refl)
+  branches-sound (Law law picks place) = rewrites (Law law picks place) (law_to law picks.items) place (λ s. refl)
+  branches-sound (Wal law picks place) = rewrites (Wal law picks place) (law_from law picks.items) place (λ s. refl)
+  branches-sound (Eval (Some place)) = rewrites (Eval (Some place)) deciding place (λ s. refl)
+  branches-sound (TypeOf place) = rewrites (TypeOf place) typing place (λ s. refl)
+  branches-sound (Neg place) = rewrites (Neg place) negating place (λ s. refl)
+  branches-sound (Mem place) = rewrites (Mem place) belonging place (λ s. refl)
+  branches-sound (Val place) = rewrites (Val place) applying place (λ s. refl)
+  branches-sound (Ext place) = rewrites (Ext place) extending place (λ s. refl)
+  branches-sound (Sub place) = rewrites (Sub place) including place (λ s. refl)
+  branches-sound (Ex place) = rewrites (Ex place) witnessing place (λ s. refl)
+  branches-sound (Pair f) = lifted (Pair f) (λ s bs t e nt find law st typed hold leads. pairs-sound table well find law st typed s hold bs leads f e)
+  branches-sound (Elems f) = lifted (Elems f) (λ s bs t e nt find law st typed hold leads. elems-sound table well find law st typed s hold bs leads f e)
+  branches-sound (Interval i) = lifted (Interval i) (λ s bs t e nt find law st typed hold leads. interval-sound table well find law st typed s hold bs leads i e)
+  branches-sound Induct = lifted Induct (λ s bs t e nt find law st typed hold leads. induct-sound table well find law st typed s hold bs leads e)
+  branches-sound Poly = lifted Poly (λ s bs t e nt find law st typed hold leads. poly-sound table well find law st typed s bs t.1 e)
+  branches-sound (Lin facts lines) = lifted (Lin facts lines) (λ s bs t e nt find law st typed hold leads. lin-sound table well find law st typed s hold bs leads facts lines e)
+  branches-sound Unread = λ s bs t e nt valid. absurd (cc)
 
-  same-truth : (find : Finder) (e : Environment) (f : Formula) (path : List ℕ) (old new : Formula) → sub_at f path ≡ Some old → meaning find e new ≡ meaning find e old → truth find e (put_at f path new) ≡ truth find e f
-  same-truth find e f path old new here same = ap (λ m. m.truth) (put-meaning find e f path old new here same)
+  -- ---- fewer hypotheses
+  without-hold : (find : Finder) (st : State) (n : ℕ) (hyps fewer : List Formula) → without n hyps ≡ Some fewer → AllHold find (at_state table st) hyps → AllHold find (at_state table st) fewer
+  without-hold find st n [] fewer e hold = absurd (cc)
+  without-hold find st zero (p ∷ ps) fewer e hold = subst (λ x. AllHold find (at_state table st) x) (some-same ps fewer e) hold.1
+  without-hold find st (suc n) (p ∷ ps) fewer e hold =
+      let k = mapped (λ ys. p ∷ ys) (without n ps) fewer e in
+      subst (λ x. AllHold find (at_state table st) x) k.2 (hold.0, without-hold find st n ps k.0 k.1 hold.1)
 
-  rewriting-sound : (place : Place) (s : Sequent) (old new : Formula) (t : Sequent) → Rewrites place s old new t → SameUnder s.0 old new → Valid t → Valid s
-  rewriting-sound (Goal path) s old new t w same valid =
-      let now : Valid (s.0, put_at s.1 path.items new) = subst (λ x. Valid x) w.1 valid in
-      λ find law st typed hold. sym (same-truth find (at_state table st) s.1 path.items old new w.0 (same find law st typed hold)) ∙ now find law st typed hold
-  rewriting-sound (InHyp i path) s old new t w same valid =
-      let now : Valid (s.0 ++ put_at w.0 path.items new ∷ [], s.1) = subst (λ x. Valid x) w.3 valid in
-      from-hypotheses s.0 (put_at w.0 path.items new ∷ []) s.1 now
-      (λ find law st typed hold. (same-truth find (at_state table st) w.0 path.items old new w.2 (same find law st typed hold) ∙ hold-item find (at_state table st) s.0 i w.0 hold w.1, tt))
+  item-hold : (find : Finder) (st : State) (i : ℕ) (hyps fewer : List Formula) → without_item i hyps ≡ Some fewer → AllHold find (at_state table st) hyps → AllHold find (at_state table st) fewer
+  item-hold find st zero hyps fewer e hold = absurd (cc)
+  item-hold find st (suc n) hyps fewer e hold = without-hold find st n hyps fewer e hold
 
-  -- ---- equations
-  equal-meanings : (find : Finder) (st : State) (e f : Formula) → GiveOneType (role table [] e) (role table [] f) → truth find (at_state table st) (binary Equality e f) ≡ true → meaning find (at_state table st) e ≡ meaning find (at_state table st) f
-  equal-meanings find st e f types holds =
-      let env = at_state table st in
-      let left = value-meaning find env e types.of_type (meaning-role find env e ∙ types.left) in
-      let right = value-meaning find env f types.of_type (meaning-role find env f ∙ types.right) in
-      let values = same_value (value find env e) (value find env f) holds in
-      left ∙ ap (of_value (gives types.of_type)) values ∙ sym right
+  drop-sound : (s : Sequent) (i : ℕ) (news : List Sequent) → makes table s (Drop i) ≡ Some news → Each (IsValidSequent table) news → IsValidSequent table s
+  drop-sound s i news e valid find law st typed hold =
+      let k = mapped (λ (hyps : List Formula). (let l : List Sequent = (hyps, s.1) ∷ [] in l)) (without_item i s.0) news e in
+      let v = (subst (λ x. Each (IsValidSequent table) x) (sym k.2) valid).0 in
+      v find law st typed (item-hold find st i s.0 k.0 k.1 hold)
 
-  equation-same : (s : Sequent) (i : ℕ) (e f : Formula) → Types table s → numbered_item s.0 i ≡ Some (binary Equality e f) → SameUnder s.0 f e
-  equation-same s i e f types k find law st typed hold = equal-meanings find st e f (equation-of table s i e f types k) (hold-item find (at_state table st) s.0 i (binary Equality e f) hold k)
+  made-sound : (rule : Rule) (s : Sequent) (news : List Sequent) → Types table s → option_map (map (extended s)) (branches table s rule) ≡ Some news → Each (Types table) news → Each (IsValidSequent table) news → IsValidSequent table s
+  made-sound rule s news types e new_types valid =
+      let k = mapped (map (extended s)) (branches table s rule) news e in
+      branches-sound rule s k.0 types k.1 (subst (λ x. Each (Types table) x) (sym k.2) new_types) (subst (λ x. Each (IsValidSequent table) x) (sym k.2) valid)
 
-  -- ---- arithmetic
-  listed-hold : (find : Finder) (e : Environment) (hyps : List Formula) (facts : List ℕ) (listed : List Formula) → AreListed hyps facts listed → AllHold find e hyps → AllHold find e listed
-  listed-hold find e hyps [] [] w hold = tt
-  listed-hold find e hyps [] (p ∷ ps) w hold = absurd w
-  listed-hold find e hyps (n ∷ ns) [] w hold = absurd w
-  listed-hold find e hyps (n ∷ ns) (p ∷ ps) w hold = (hold-item find e hyps n p hold w.0, listed-hold find e hyps ns ps w.1 hold)
-
-  arithmetic-sound : (s : Sequent) (facts : List ℕ) (lines : List Line) (news : List Sequent) → ByArithmetic s facts lines news → Valid s
-  arithmetic-sound s facts lines news w find law st typed hold = accepted_is_valid table w.0 s.1 lines w.2 find law st typed (listed-hold find (at_state table st) s.0 facts w.0 w.1 hold)
-
-  -- ---- laws
-  module _ (well : IsWellFormed table) where
-    sides-hold : (hyps sides : List Formula) → Each (Types table) (map (λ p. (hyps, p)) sides) → Each Valid (map (λ p. (hyps, p)) sides) → (find : Finder) → IsSearch find → (st : State) → IsTypedState table st → AllHold find (at_state table st) hyps → SidesHold find (at_state table st) sides
-    sides-hold hyps [] types valid find law st typed hold = tt
-    sides-hold hyps (p ∷ ps) types valid find law st typed hold = (types.0.1, valid.0 find law st typed hold, sides-hold hyps ps types.1 valid.1 find law st typed hold)
-
-    law-sound : (s : Sequent) (law : ℕ) (picks : List Formula) (place : Place) (news : List Sequent) → Types table s → ByLaw s law picks place news → Each (Types table) news → Each Valid news → Valid s
-    law-sound s law picks place news types w news_type valid =
-        let i = w.0 in
-        let t = w.1 in
-        let goals = map (λ p. (s.0, p)) i.sides in
-        let all_type : Each (Types table) (goals ++ t ∷ []) = subst (λ ns. Each (Types table) ns) w.4 news_type in
-        let all_valid : Each Valid (goals ++ t ∷ []) = subst (λ ns. Each Valid ns) w.4 valid in
-        let left = old-types table place s i.left i.right t types w.3 in
-        let one = sym (one-role table [] picks i (row-of law picks i w.2) left) in
-        let same : SameUnder s.0 i.left i.right = λ find search st typed hold.
-        let sides = sides-hold s.0 i.sides (each-left (Types table) goals (t ∷ []) all_type) (each-left Valid goals (t ∷ []) all_valid) find search st typed hold in
-        sym (laws-are-true law picks i (is-instance-at law picks i w.2) find search (at_state table st) well (state-typed table st typed) (record { types = left; one_role = one }) sides) in
-        rewriting-sound place s i.left i.right t w.3 same (each-right Valid goals (t ∷ []) all_valid).0
-
-    -- ---- rule by rule
-    rule-sound : (s : Sequent) (rule : Rule) (news : List Sequent) → Types table s → ByRule s rule news → Each (Types table) news → Each Valid news → Valid s
-    rule-sound s (Hyp i) news types w new_types valid = λ find law st typed hold. hold-item find (at_state table st) s.0 i s.1 hold w.0
-    rule-sound s Same news types w new_types valid =
-        goal-is s (binary Equality w.0 w.0) w.1 (λ find law st typed hold. value_eq-self (value find (at_state table st) w.0))
-    rule-sound s And news types w new_types valid =
-        let both : Each Valid ((s.0, w.0) ∷ (s.0, w.1) ∷ []) = subst (λ ns. Each Valid ns) w.3 valid in
-        goal-is s (binary Conjunction w.0 w.1) w.2
-        (λ find law st typed hold. and-true (truth find (at_state table st) w.0) (truth find (at_state table st) w.1) (both.0 find law st typed hold) (both.1.0 find law st typed hold))
-    rule-sound s Left news types w new_types valid =
-        goal-is s (binary Disjunction w.0 w.1) w.2
-        (from-goal s.0 w.0 (binary Disjunction w.0 w.1) (one-valid news (s.0, w.0) w.3 valid) (λ find st h. or-left (truth find (at_state table st) w.0) (truth find (at_state table st) w.1) h))
-    rule-sound s Right news types w new_types valid =
-        goal-is s (binary Disjunction w.0 w.1) w.2
-        (from-goal s.0 w.1 (binary Disjunction w.0 w.1) (one-valid news (s.0, w.1) w.3 valid) (λ find st h. or-right (truth find (at_state table st) w.0) (truth find (at_state table st) w.1) h))
-    rule-sound s (Split i) news types w new_types valid =
-        from-hypotheses s.0 (w.0 ∷ w.1 ∷ []) s.1 (one-valid news (s.0 ++ w.0 ∷ w.1 ∷ [], s.1) w.3 valid)
-        (λ find law st typed hold.
-        let both = and-both (truth find (at_state table st) w.0) (truth find (at_state table st) w.1) (hold-item find (at_state table st) s.0 i (binary Conjunction w.0 w.1) hold w.2) in
-        (both.0, (both.1, tt)))
-    rule-sound s Imp news types w new_types valid =
-        let only = one-valid news (s.0 ++ w.0 ∷ [], w.1) w.3 valid in
-        goal-is s (binary Implication w.0 w.1) w.2
-        (λ find law st typed hold. implied (truth find (at_state table st) w.0) (truth find (at_state table st) w.1)
-        (λ h. only find law st typed (hold-append find (at_state table st) s.0 (w.0 ∷ []) hold (h, tt))))
-    rule-sound s (Eq i place) news types w new_types valid =
-        let same : SameUnder s.0 w.0 w.1 = λ find law st typed hold. sym (equation-same s i w.0 w.1 types w.3 find law st typed hold) in
-        rewriting-sound place s w.0 w.1 w.2 w.4 same (one-valid news w.2 w.5 valid)
-    rule-sound s (Qe i place) news types w new_types valid =
-        rewriting-sound place s w.1 w.0 w.2 w.4 (equation-same s i w.0 w.1 types w.3) (one-valid news w.2 w.5 valid)
-    rule-sound s (Law law picks place) news types w new_types valid = law-sound s law picks.items place news types w new_types valid
-    rule-sound s (Lin facts lines) news types w new_types valid = arithmetic-sound s facts.items lines.items news w
-    rule-sound s Unread news types w new_types valid = absurd w
+  rule-sound : (s : Sequent) (rule : Rule) (news : List Sequent) → Types table s → makes table s rule ≡ Some news → Each (Types table) news → Each (IsValidSequent table) news → IsValidSequent table s
+  rule-sound s (Drop i) news types e new_types valid = drop-sound s i news e valid
+  rule-sound s rule news types e new_types valid = made-sound rule s news types e new_types valid
 
 pub rules-are-sound : RulesAreSound
-rules-are-sound table well s rule news types step valid = rule-sound table well s rule news types step.by_rule step.type valid
+rules-are-sound table well s rule news types step valid = rule-sound table well s rule news types step.made step.type valid
 
-pub derived-is-valid : DerivedIsValid
-derived-is-valid table well rules s types h =
-    (derived-valid table (rules-are-sound table well) (s ∷ []) rules [] (types, tt) h tt).0
+pub rules-are-functions : RulesAreFunctions
+rules-are-functions table s rule news others a b = some-same news others (sym a.made ∙ b.made)

@@ -12,7 +12,7 @@ use Rattle.bk_seq.specs.Sequents.{Sequent}
 use Rattle.bk_kernel.specs.Rules.{IsInstance}
 use Rattle.bk_kernel.specs.Derivations.{Leaves, Derives, FailsAt, StaysOpen, EndsBefore, IsVerdict}
 use Rattle.bk_kernel.specs.RuleLaws.{OneVerdict}
-use Rattle.bk_kernel.proofs.Functional.{rules-are-functions}
+use Rattle.bk_kernel.proofs.SoundRules.{rules-are-functions}
 
 get-take : {A : Type 0} (xs : List A) (n j : ℕ) → j < n → slice_get (take n xs) j ≡ slice_get xs j
 get-take [] zero j h = absurd (omega arith)
@@ -49,7 +49,7 @@ module _ (table : Table) where
   leaves-one claims [] l m h k = sym h ∙ k
   leaves-one [] (r ∷ rs) l m h k = absurd h
   leaves-one (s ∷ claims) (r ∷ rs) l m h k =
-      let same = rules-are-functions s r h.0 k.0 (h.1).by_rule (k.1).by_rule in
+      let same = rules-are-functions table s r h.0 k.0 h.1 k.1 in
       leaves-one (k.0 ++ claims) rs l m (subst (λ ns. Leaves table (ns ++ claims) rs l) same h.2) k.2
 
   -- a rule that was applied

@@ -1,8 +1,16 @@
 pub mod Laws
 pub mod Obvious
+pub mod Next
+pub mod Branches
+pub mod Naming
+pub mod Deciding
+pub mod Membership
+pub mod Rewriting
+pub mod Listing
 pub mod Rules
 pub mod Derivations
 pub mod RuleLaws
 pub mod Faults
-pub mod Making
+pub mod Held
+pub mod Code
 pub mod Standing

@@ -1,20 +1,17 @@
 -- Laws of the rules, as statements.
 use Rattle.std.specs.Prelude.{◌≡◌, List}
 use Rattle.bk_form.specs.Table.{Table, IsWellFormed}
+use Rattle.bk_form.specs.Wider.{IsWider}
 use Rattle.bk_kernel.specs.declared.rule.Rule.{Rule}
 use Rattle.bk_kernel.specs.declared.replaying.Verdict.{Verdict}
 use Rattle.bk_seq.specs.Sequents.{Sequent, Types, IsValidSequent}
 use Rattle.bk_form.specs.Each.{Each}
-use Rattle.bk_kernel.specs.Rules.{ByRule, IsInstance}
+use Rattle.bk_kernel.specs.Rules.{IsInstance}
 use Rattle.bk_kernel.specs.Derivations.{Derives, IsVerdict}
-
--- where the formulas of a sequent are predicates, so are those that come of a rule
-abbrev pub RulesKeepTypes : Type 0
-RulesKeepTypes = (table : Table) (s : Sequent) (rule : Rule) (news : List Sequent) → Types table s → ByRule s rule news → Each (Types table) news
 
 -- a rule makes one list of sequents of a sequent
 abbrev pub RulesAreFunctions : Type 0
-RulesAreFunctions = (s : Sequent) (rule : Rule) (news others : List Sequent) → ByRule s rule news → ByRule s rule others → news ≡ others
+RulesAreFunctions = (table : Table) (s : Sequent) (rule : Rule) (news others : List Sequent) → IsInstance table s rule news → IsInstance table s rule others → news ≡ others
 
 -- a sequent is valid where all that come of it by a step are
 abbrev pub RulesAreSound : Type 0
@@ -23,6 +20,10 @@ RulesAreSound = (table : Table) → IsWellFormed table → (s : Sequent) (rule :
 -- what is derived is valid
 abbrev pub DerivedIsValid : Type 0
 DerivedIsValid = (table : Table) → IsWellFormed table → (rules : List Rule) (s : Sequent) → Types table s → Derives table rules s → IsValidSequent table s
+
+-- what is derived over a table with more variables, as the names of a script are, is valid without them
+abbrev pub DerivedWiderIsValid : Type 0
+DerivedWiderIsValid = (small large : Table) → IsWellFormed small → IsWellFormed large → IsWider small large → (rules : List Rule) (s : Sequent) → Types small s → Derives large rules s → IsValidSequent small s
 
 -- one thing is said of a list of rules and a sequent
 abbrev pub OneVerdict : Type 0

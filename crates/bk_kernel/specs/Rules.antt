@@ -1,68 +1,122 @@
--- The rules of proof: what a rule makes of a sequent.
-use Rattle.std.specs.Prelude.{◌≡◌, ℕ, nat_eq, true, cond, List, [], ◌∷◌, ◌++◌, map, Option, Some, None}
-use Rattle.bk_form.specs.Table.{Table}
-use Rattle.bk_form.specs.Formula.{Formula, binary}
-use Rattle.bk_form.specs.declared.operator.BinOp.TheVariants.{And as Conjunction, Or as Disjunction, Imp as Implication, Eq as Equality}
-use Rattle.bk_seq.specs.Paths.{numbered_item, sub_at, put_at}
-use Rattle.bk_laws.specs.Rows.{Instance, instance_at}
-use Rattle.bk_laws_log.specs.Rows.{rows}
-use Rattle.bk_lin.specs.declared.fact.Line.{Line}
-use Rattle.bk_arith.specs.Decision.{is_accepted}
-use Rattle.bk_kernel.specs.declared.rule.Place.{Place}
-use Rattle.bk_kernel.specs.declared.rule.Place.TheVariants.{Goal, Hyp as InHyp}
-use Rattle.bk_kernel.specs.declared.rule.Rule.{Rule}
-use Rattle.bk_kernel.specs.declared.rule.Rule.TheVariants.{Hyp, Same, And, Left, Right, Split, Imp, Eq, Qe, Law, Lin, Unread}
-use Rattle.bk_seq.specs.Sequents.{Sequent, Types, IsWithin}
+-- The rules of proof, as one table: what a rule makes of a sequent, if anything.
+use Rattle.std.specs.Prelude.{◌≡◌, ℕ, zero, suc, pos, List, [], ◌∷◌, map, Option, Some, None}
+use Rattle.std.specs.Option.{option_map, option_and_then}
 use Rattle.bk_form.specs.Each.{Each}
+use Rattle.bk_form.specs.Table.{Table}
+use Rattle.bk_form.specs.Formula.{Formula, bound, literal, btrue, bfalse, unary, binary, for_some}
+use Rattle.bk_form.specs.Role.{role}
+use Rattle.bk_form.specs.declared.operator.UnOp.TheVariants.{Not as Negation}
+use Rattle.bk_form.specs.declared.operator.BinOp.TheVariants.{And as Conjunction, Or as Disjunction, Imp as Implication, Iff as Equivalence, Eq as Equality, Maps as Maplet}
+use Rattle.bk_bind.specs.Opening.{opened}
+use Rattle.bk_seq.specs.Paths.{numbered_item}
+use Rattle.bk_seq.specs.Sequents.{Sequent, Types, IsWithin}
+use Rattle.bk_lin.specs.declared.fact.Line.{Line}
+use Rattle.bk_arith.specs.Same.{is_same}
+use Rattle.bk_arith.specs.Decision.{is_accepted}
+use Rattle.bk_arith.specs.Polynomials.{equal_polynomials}
+use Rattle.bk_arith.specs.Cases.{equations, interval_cases}
+use Rattle.bk_kernel.specs.declared.rule.Rule.{Rule}
+use Rattle.bk_kernel.specs.declared.rule.Rule.TheVariants.{Hyp, True, Same, Eval, False, Absurd, And, Iff, Imp, Not, Left, Right, Or, Contra, Fix, UseTerms, Split, Cases, Apply, Inst, OpenSome, Cut, Case, Drop, Eq, Qe, Law, Wal, TypeOf, Neg, Mem, Val, Ext, Sub, Ex, Pair, Elems, Interval, Induct, Poly, Lin, Unread}
+use Rattle.bk_kernel.specs.Branches.{Branch, extended, more, goal, when, closed_if, sides, operand, universal, existential}
+use Rattle.bk_kernel.specs.Naming.{give_each, names_of, are_fresh}
+use Rattle.bk_kernel.specs.Deciding.{decided, is_yes}
+use Rattle.bk_kernel.specs.Listing.{one_for_each, all_of, listed_types, over_naturals, next_case}
+use Rattle.bk_kernel.specs.Rewriting.{eq_to, eq_from, law_to, law_from, deciding, typing, negating, belonging, applying, extending, including, witnessing, rewritten}
 
--- `old` stands at the place, and t is the sequent with `new` there: a change of the goal is the new goal, a change of a hypothesis is one more hypothesis
-abbrev pub Rewrites : Place → Sequent → Formula → Formula → Sequent → Type 0
-Rewrites (Goal path) s old new t = (sub_at s.1 path.items ≡ Some old) × (t ≡ (s.0, put_at s.1 path.items new))
-Rewrites (InHyp i path) s old new t = (h : Formula) × (numbered_item s.0 i ≡ Some h) × (sub_at h path.items ≡ Some old) × (t ≡ (s.0 ++ put_at h path.items new ∷ [], s.1))
+-- the hypotheses of these numbers, in that order
+abbrev pub listed_facts : List Formula → List ℕ → Option (List Formula)
+listed_facts hyps [] = Some []
+listed_facts hyps (n ∷ ns) = option_and_then (λ p. option_map (λ ps. p ∷ ps) (listed_facts hyps ns)) (numbered_item hyps n)
 
--- hypothesis i is E = F, and at the place F comes for E
-abbrev pub ByEquation : Sequent → ℕ → Place → List Sequent → Type 0
-ByEquation s i place news = (e : Formula) × (f : Formula) × (t : Sequent) × (numbered_item s.0 i ≡ Some (binary Equality e f)) × Rewrites place s e f t × (news ≡ t ∷ [])
+-- the list without the item of this number, from 0
+abbrev pub without : {A : Type 0} → ℕ → List A → Option (List A)
+without n [] = None
+without zero (x ∷ xs) = Some xs
+without (suc n) (x ∷ xs) = option_map (λ ys. x ∷ ys) (without n xs)
 
--- hypothesis i is E = F, and at the place E comes for F
-abbrev pub ByReverse : Sequent → ℕ → Place → List Sequent → Type 0
-ByReverse s i place news = (e : Formula) × (f : Formula) × (t : Sequent) × (numbered_item s.0 i ≡ Some (binary Equality e f)) × Rewrites place s f e t × (news ≡ t ∷ [])
+-- the list without the item of this number, from 1
+abbrev pub without_item : {A : Type 0} → ℕ → List A → Option (List A)
+without_item zero xs = None
+without_item (suc n) xs = without n xs
 
--- the instance of a law that the rule takes: so far O5 alone, membership in an interval
-abbrev pub instance_taken : ℕ → List Formula → Option Instance
-instance_taken law picks = cond (nat_eq law 105) (instance_at rows law picks) None
+-- ---- rules with lists of terms, names or facts
+-- the goal is a `!`, and its body for fresh names is the new goal
+abbrev pub fixed : Table → Sequent → List ℕ → Option (List Branch)
+fixed table s ns = option_and_then (λ q. when (are_fresh table s q.0 ns) (goal (opened (names_of ns) q.1) ∷ [])) (universal s.1)
 
--- at the place the law's right formula comes for its left one; the sides are goals in order, before the rewritten sequent
-abbrev pub ByLaw : Sequent → ℕ → List Formula → Place → List Sequent → Type 0
-ByLaw s law picks place news = (i : Instance) × (t : Sequent) × (instance_taken law picks ≡ Some i) × Rewrites place s i.left i.right t × (news ≡ map (λ p. (s.0, p)) i.sides ++ t ∷ [])
+-- the goal is a `#`, and its body for terms of its types is the new goal
+abbrev pub used : Table → Sequent → List Formula → Option (List Branch)
+used table s fs = option_and_then (λ q. when (give_each table q.0 fs) (goal (opened fs q.1) ∷ [])) (existential s.1)
 
--- these are the hypotheses of these numbers, in that order
-abbrev pub AreListed : List Formula → List ℕ → List Formula → Type 0
-AreListed hyps [] [] = Unit {0}
-AreListed hyps (n ∷ ns) (p ∷ ps) = (numbered_item hyps n ≡ Some p) × AreListed hyps ns ps
-AreListed hyps _ _ = ⊥
+-- hypothesis i is a `!`, and its body for terms of its types is one more hypothesis
+abbrev pub instantiated : Table → Sequent → ℕ → List Formula → Option (List Branch)
+instantiated table s i fs = option_and_then (λ h. option_and_then (λ q. when (give_each table q.0 fs) (more s (opened fs q.1 ∷ []))) (universal h)) (numbered_item s.0 i)
+
+-- hypothesis i is a `#`, and its body for fresh names is one more hypothesis
+abbrev pub named_for : Table → Sequent → ℕ → List ℕ → Option (List Branch)
+named_for table s i ns = option_and_then (λ h. option_and_then (λ q. when (are_fresh table s q.0 ns) (more s (opened (names_of ns) q.1 ∷ []))) (existential h)) (numbered_item s.0 i)
 
 -- the certificate shows that the listed hypotheses and the negated goal contradict each other
-abbrev pub ByArithmetic : Sequent → List ℕ → List Line → List Sequent → Type 0
-ByArithmetic s facts lines news = (listed : List Formula) × AreListed s.0 facts listed × (is_accepted listed s.1 lines ≡ true) × (news ≡ [])
+abbrev pub certified : Sequent → List ℕ → List Line → Option (List Branch)
+certified s facts lines = option_and_then (λ ps. closed_if (is_accepted ps s.1 lines)) (listed_facts s.0 facts)
 
--- the table of the rules: a rule, the sequent, and the sequents that come of it; hypotheses count from 1, and new ones come last
-abbrev pub ByRule : Sequent → Rule → List Sequent → Type 0
-ByRule s (Hyp i) news = (numbered_item s.0 i ≡ Some s.1) × (news ≡ [])
-ByRule s Same news = (e : Formula) × (s.1 ≡ binary Equality e e) × (news ≡ [])
-ByRule s And news = (p : Formula) × (q : Formula) × (s.1 ≡ binary Conjunction p q) × (news ≡ (s.0, p) ∷ (s.0, q) ∷ [])
-ByRule s Left news = (p : Formula) × (q : Formula) × (s.1 ≡ binary Disjunction p q) × (news ≡ (s.0, p) ∷ [])
-ByRule s Right news = (p : Formula) × (q : Formula) × (s.1 ≡ binary Disjunction p q) × (news ≡ (s.0, q) ∷ [])
-ByRule s (Split i) news = (p : Formula) × (q : Formula) × (numbered_item s.0 i ≡ Some (binary Conjunction p q)) × (news ≡ (s.0 ++ p ∷ q ∷ [], s.1) ∷ [])
-ByRule s Imp news = (p : Formula) × (q : Formula) × (s.1 ≡ binary Implication p q) × (news ≡ (s.0 ++ p ∷ [], q) ∷ [])
-ByRule s (Eq i place) news = ByEquation s i place news
-ByRule s (Qe i place) news = ByReverse s i place news
-ByRule s (Law law picks place) news = ByLaw s law picks.items place news
-ByRule s (Lin facts lines) news = ByArithmetic s facts.items lines.items news
-ByRule s Unread news = ⊥
+-- the table: what each rule adds to a sequent; hypotheses count from 1
+abbrev pub branches : Table → Sequent → Rule → Option (List Branch)
+branches table s (Hyp i) = option_and_then (λ h. closed_if (is_same h s.1)) (numbered_item s.0 i)
+branches table s True = closed_if (is_same s.1 btrue)
+branches table s Same = option_and_then (λ x. closed_if (is_same x.0 x.1)) (sides Equality s.1)
+branches table s (Eval None) = closed_if (is_yes (decided s.1))
+branches table s (Eval (Some place)) = rewritten table s deciding place
+branches table s (False i) = option_and_then (λ h. closed_if (is_same h bfalse)) (numbered_item s.0 i)
+branches table s (Absurd i j) = option_and_then (λ p. option_and_then (λ h. closed_if (is_same h (unary Negation p))) (numbered_item s.0 j)) (numbered_item s.0 i)
+branches table s And = option_map (λ x. goal x.0 ∷ goal x.1 ∷ []) (sides Conjunction s.1)
+branches table s Iff = option_map (λ x. goal (binary Implication x.0 x.1) ∷ goal (binary Implication x.1 x.0) ∷ []) (sides Equivalence s.1)
+branches table s Imp = option_map (λ x. (x.0 ∷ [], x.1) ∷ []) (sides Implication s.1)
+branches table s Not = option_map (λ p. (p ∷ [], bfalse) ∷ []) (operand Negation s.1)
+branches table s Left = option_map (λ x. goal x.0 ∷ []) (sides Disjunction s.1)
+branches table s Right = option_map (λ x. goal x.1 ∷ []) (sides Disjunction s.1)
+branches table s Or = option_map (λ x. (unary Negation x.0 ∷ [], x.1) ∷ []) (sides Disjunction s.1)
+branches table s Contra = Some ((unary Negation s.1 ∷ [], bfalse) ∷ [])
+branches table s (Fix ns) = fixed table s ns.items
+branches table s (UseTerms fs) = used table s fs.items
+branches table s (Split i) = option_and_then (λ h. option_map (λ x. more s (x.0 ∷ x.1 ∷ [])) (sides Conjunction h)) (numbered_item s.0 i)
+branches table s (Cases i) = option_and_then (λ h. option_map (λ x. (x.0 ∷ [], s.1) ∷ (x.1 ∷ [], s.1) ∷ []) (sides Disjunction h)) (numbered_item s.0 i)
+branches table s (Apply i) = option_and_then (λ h. option_map (λ x. goal x.0 ∷ (x.1 ∷ [], s.1) ∷ []) (sides Implication h)) (numbered_item s.0 i)
+branches table s (Inst i fs) = instantiated table s i fs.items
+branches table s (OpenSome i ns) = named_for table s i ns.items
+branches table s (Cut p) = Some (goal p ∷ (p ∷ [], s.1) ∷ [])
+branches table s (Case p) = Some ((p ∷ [], s.1) ∷ (unary Negation p ∷ [], s.1) ∷ [])
+branches table s (Drop i) = None
+branches table s (Eq i place) = rewritten table s (eq_to i) place
+branches table s (Qe i place) = rewritten table s (eq_from i) place
+branches table s (Law law picks place) = rewritten table s (law_to law picks.items) place
+branches table s (Wal law picks place) = rewritten table s (law_from law picks.items) place
+branches table s (TypeOf place) = rewritten table s typing place
+branches table s (Neg place) = rewritten table s negating place
+branches table s (Mem place) = rewritten table s belonging place
+branches table s (Val place) = rewritten table s applying place
+branches table s (Ext place) = rewritten table s extending place
+branches table s (Sub place) = rewritten table s including place
+branches table s (Ex place) = rewritten table s witnessing place
+branches table s (Pair e) = option_map (λ w. more s (for_some (w.0 ∷ w.1 ∷ []) (binary Equality e (binary Maplet (bound 1) (bound 0))) ∷ [])) (listed_types (role table [] e))
+branches table s (Elems e) = option_map (λ fs. one_for_each s.1 (equations e fs)) (all_of table (role table [] e))
+branches table s (Interval i) = option_and_then (λ h. option_map (one_for_each s.1) (interval_cases h)) (numbered_item s.0 i)
+branches table s Induct = option_map (λ p. goal (opened (literal (pos 0) ∷ []) p) ∷ goal (next_case p) ∷ []) (over_naturals s.1)
+branches table s Poly = option_and_then (λ x. closed_if (equal_polynomials x.0 x.1)) (sides Equality s.1)
+branches table s (Lin facts lines) = certified s facts.items lines.items
+branches table s Unread = None
+
+-- the sequent without hypothesis i, alone
+abbrev pub without_hypothesis : Sequent → ℕ → Option (List Sequent)
+without_hypothesis s i = option_map (λ hyps. (hyps, s.1) ∷ []) (without_item i s.0)
+
+-- what a rule makes of a sequent: drop takes a hypothesis away, and every other rule leaves those that there were
+abbrev pub makes : Table → Sequent → Rule → Option (List Sequent)
+makes table s (Drop i) = without_hypothesis s i
+makes table s rule = option_map (map (extended s)) (branches table s rule)
 
 -- a step: by the table, and all formulas that come of it type and are within the limits
 pub record IsInstance (table : Table) (s : Sequent) (rule : Rule) (news : List Sequent) : Type 0 where
-  pub by_rule : ByRule s rule news
+  pub made : makes table s rule ≡ Some news
   pub type : Each (Types table) news
   pub within : Each IsWithin news

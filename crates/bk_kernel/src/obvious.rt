@@ -25,7 +25,8 @@ fn is_among(form: &Form, list: &[Form]) -> bool
     list.iter().any(|other| same(form, other))
 }
 
-fn same(left: &Form, right: &Form) -> bool
+/// Whether the two are one formula.
+pub(crate) fn same(left: &Form, right: &Form) -> bool
     ensures { result ≡ is_same left.now right.now }
 {
     left.equal(right)
@@ -80,8 +81,8 @@ fn is_at_most(left: Option<i128>, right: Option<i128>) -> bool
     }
 }
 
-// Whether it names a set that has every value of a type.
-fn has_all(form: &Form) -> bool
+/// Whether it names a set that has every value of a type.
+pub(crate) fn has_all(form: &Form) -> bool
     ensures { result ≡ has_all form.now }
 {
     match form.view() {

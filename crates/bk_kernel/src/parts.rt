@@ -1,62 +1,10 @@
-//! Parts of sequents.
+//! The limits of an obligation's formulas.
 
-ghost use Rattle.std.specs.Prelude.{◌≡◌, ◌↔◌, [], ◌∷◌, ◌++◌, All, IsTrue, IfOk, MatchOption};
-ghost use Rattle.bk_form.specs.Formula.{Formula, binary};
+ghost use Rattle.std.specs.Prelude.{◌↔◌, All, IsTrue};
 ghost use Rattle.bk_bind.specs.Limits.{IsWithinLimits};
-ghost use Rattle.bk_seq.specs.Sequents.{sequent_of};
 
 use bk_bind::{GREATEST_HEIGHT, MOST_NODES};
-use bk_form::{BinOp, Form, View};
-use bk_io::Memory;
-use bk_seq::Sequent;
-use std::alloc::Global;
-
-/// The two sides of a formula of this operator; None of any other formula.
-pub(crate) fn sides(form: &Form, op: BinOp) -> Option<(&Form, &Form)>
-    ensures { MatchOption result ((p : Formula) → (q : Formula) → form.now ≡ binary op p q → ⊥)
-        (λ x. form.now ≡ binary op x.0.now x.1.now) }
-{
-    match form.view() {
-        View::Bin(other, left, right) => (other == op).then_some((left, right)),
-        _ => None,
-    }
-}
-
-/// A goal under hypotheses.
-pub(crate) fn under(alloc: Global, hyps: &[Form], goal: &Form) -> Result<Sequent, Memory>
-    ensures { IfOk result (λ s. sequent_of s ≡ (hyps.now, goal.now)) }
-{
-    Ok(Sequent {
-        hyps: Form::copy_all(hyps, alloc)?,
-        goal: goal.copy(alloc)?,
-    })
-}
-
-/// The sequent with one more hypothesis.
-pub(crate) fn supposing(alloc: Global, sequent: &Sequent, more: Form) -> Result<Sequent, Memory>
-    ensures { IfOk result (λ s. sequent_of s ≡ (sequent.now.hyps.items ++ more ∷ [], sequent.now.goal)) }
-{
-    let mut hyps = Form::copy_all(&sequent.hyps, alloc)?;
-    hyps.push(more)?;
-    Ok(Sequent {
-        hyps,
-        goal: sequent.goal.copy(alloc)?,
-    })
-}
-
-/// The sequent with two more hypotheses.
-pub(crate) fn supposing_both(
-    alloc: Global,
-    sequent: &Sequent,
-    first: Form,
-    second: Form,
-) -> Result<Sequent, Memory>
-    ensures { IfOk result (λ s. sequent_of s ≡ (sequent.now.hyps.items ++ first ∷ second ∷ [], sequent.now.goal)) }
-{
-    let mut more = supposing(alloc, sequent, first)?;
-    more.hyps.push(second)?;
-    Ok(more)
-}
+use bk_form::Form;
 
 /// Whether the formula is within the limits of an obligation's formulas.
 pub(crate) fn is_within(form: &Form) -> bool

@@ -1,21 +1,26 @@
 //! Laws of the rules. Each is the contract of a function that does nothing.
 
-ghost use Rattle.bk_kernel.specs.RuleLaws.{RulesKeepTypes, RulesAreFunctions, RulesAreSound, DerivedIsValid, OneVerdict};
+ghost use Rattle.bk_kernel.specs.Next.{NextMeans};
+ghost use Rattle.bk_kernel.specs.RuleLaws.{RulesAreFunctions, RulesAreSound, DerivedIsValid, DerivedWiderIsValid, OneVerdict};
 
-/// What the rules are: each makes one list of sequents, whose formulas type where those of the sequent do, and the sequent
-/// is valid where all of the list are.
+/// What the rules are: each makes one list of sequents, and the sequent is valid where all of the list are.
 pub fn rules()
-    ensures types { RulesKeepTypes }
     ensures functions { RulesAreFunctions }
     ensures sound { RulesAreSound }
 {}
 
-/// What is derived is valid.
+/// What is derived is valid, also where it is derived over a table with more variables, as the names of a script are.
 pub fn derived_is_valid()
-    ensures { DerivedIsValid }
+    ensures alone { DerivedIsValid }
+    ensures wider { DerivedWiderIsValid }
 {}
 
 /// What is said of a list of rules and a sequent is one thing.
 pub fn one_verdict()
     ensures { OneVerdict }
+{}
+
+/// A body at one more than its variable means at a number what the body means at the next one.
+pub fn next_means()
+    ensures { NextMeans }
 {}

@@ -1,29 +1,36 @@
 //! One step of proof.
 
-ghost use Rattle.std.specs.Prelude.{◌≡◌, true, false, List, map, All, Some, None, Err, IfOk, OnOk};
-ghost use Rattle.bk_form.specs.Formula.{Formula};
-ghost use Rattle.bk_arith.specs.Decision.{is_accepted};
-ghost use Rattle.bk_bind.specs.Limits.{IsWithinLimits};
-ghost use Rattle.bk_laws_log.specs.Rows.{instance_of};
-ghost use Rattle.bk_kernel.specs.declared.error.StepFault.TheVariants.{NoInstance};
+ghost use Rattle.std.specs.Prelude.{◌≡◌, List, map, true, false, Some, None, Ok, Err, IfOk};
+ghost use Rattle.bk_form.specs.Each.{Each};
+ghost use Rattle.bk_bind.specs.declared.error.BindFault.TheVariants.{TooLarge};
 ghost use Rattle.bk_seq.specs.Sequents.{Sequent as Claim, sequent_of, Types, IsWithin};
-ghost use Rattle.bk_kernel.specs.Rules.{instance_taken, AreListed, IsInstance};
-ghost use Rattle.bk_kernel.specs.Making.{Makes, MakesNothing, MakesByLaw, MakesByArithmetic};
+ghost use Rattle.bk_kernel.specs.declared.error.StepFault.TheVariants.{NoInstance};
+ghost use Rattle.bk_kernel.specs.Rules.{branches, without_item, without_hypothesis, IsInstance};
+ghost use Rattle.bk_kernel.specs.Code.{dropped};
+ghost use Rattle.bk_kernel.specs.Held.{branch_of, held, list_in, IsGood, IsFine, IsExtension, HasNoFine, IsTooLarge};
 
+use crate::algebra::by_polynomials;
+use crate::binding::{fixed, instantiated, named_for, used};
+use crate::branch::{Branch, push_all, sequents_with};
+use crate::closing::{
+    by_absurdity, by_arithmetic, by_decision, by_falsity, by_hypothesis, by_sameness, by_truth,
+};
 use crate::error::StepFault;
-use crate::parts::{are_within, sides, supposing_both, under};
+use crate::instances::Change;
+use crate::listing::{as_pair, by_elements, by_induction, by_numbers};
+use crate::logic::{
+    both_goals, both_ways, by_applying, by_denial, by_refutation, by_supposing, by_way_of,
+    either_side, in_both_cases, left_side, other_side, parts_of_hypothesis, right_side,
+};
+use crate::parts::is_within;
 use crate::rewriting::rewritten;
-use crate::rule::{Place, Rule};
-use bk_arith::{ArithFault, linear};
-use bk_bind::{LawFault, LawInstance};
-use bk_form::{BinOp, Form, VarTable};
-use bk_laws_log::instance;
-use bk_lin::Line;
-use bk_seq::{Sequent, numbered};
+use crate::roles::is_predicate;
+use crate::rule::Rule;
+use bk_bind::BindFault;
+use bk_form::{Form, VarTable};
+use bk_io::Memory;
+use bk_seq::Sequent;
 use std::alloc::Global;
-
-/// The number of the one law that the rule takes so far: membership in an interval, taken apart.
-const INTERVAL: u16 = 105;
 
 /// The sequents that come of the sequent by the rule. `NoInstance` comes exactly where the rule does not fit, or makes a
 /// formula that does not type or is too large.
@@ -40,277 +47,219 @@ pub fn step(
     ensures no_instance { result ≡ Err NoInstance → (news : List Claim) →
         IsInstance types.now (sequent_of sequent) rule.now news → ⊥ }
 {
-    made(alloc, &sequent, rule)
+    let Some(number) = dropped(rule) else {
+        return extending(alloc, types, &sequent, rule);
+    };
+    dropping(alloc, &sequent, number)
 }
 
-// What the rule makes of the sequent. It types where the sequent does.
-fn made(alloc: Global, sequent: &Sequent, rule: &Rule) -> Result<Vec<Sequent>, StepFault>
-    requires { IsWithin (sequent_of sequent.now) }
-    ensures value { IfOk result (λ news. Makes (sequent_of sequent.now) rule.now (map sequent_of news.items)) }
-    ensures no_instance { result ≡ Err NoInstance → MakesNothing (sequent_of sequent.now) rule.now }
+// The number of the hypothesis that the rule drops; None of every other rule.
+fn dropped(rule: &Rule) -> Option<u32>
+    ensures { result ≡ dropped rule.now }
 {
     match rule {
-        Rule::Hyp(number) => by_hypothesis(alloc, sequent, *number),
-        Rule::Same => by_sameness(alloc, sequent),
-        Rule::And => both_sides(alloc, sequent),
-        Rule::Left => left_side(alloc, sequent),
-        Rule::Right => right_side(alloc, sequent),
-        Rule::Split(number) => parts_of_hypothesis(alloc, sequent, *number),
-        Rule::Imp => by_supposing(alloc, sequent),
-        Rule::Eq(number, place) => by_equation(alloc, sequent, *number, place),
-        Rule::Qe(number, place) => by_reverse(alloc, sequent, *number, place),
-        Rule::Law { law, picks, place } => by_law(alloc, sequent, *law, picks, place),
-        Rule::Lin { facts, lines } => by_arithmetic(alloc, sequent, facts, lines),
-        Rule::Unread => Err(StepFault::NoInstance),
+        Rule::Drop(number) => Some(*number),
+        _ => None,
     }
 }
 
-// The goal is that hypothesis.
-fn by_hypothesis(alloc: Global, sequent: &Sequent, number: u32) -> Result<Vec<Sequent>, StepFault>
-    ensures value { IfOk result (λ news. Makes (sequent_of sequent.now) (Rule.Hyp number) (map sequent_of news.items)) }
-    ensures no_instance { result ≡ Err NoInstance → MakesNothing (sequent_of sequent.now) (Rule.Hyp number) }
+// The sequent without a hypothesis.
+fn dropping(alloc: Global, sequent: &Sequent, number: u32) -> Result<Vec<Sequent>, StepFault>
+    ensures value { IfOk result (λ news.
+        without_hypothesis (sequent_of sequent.now) number ≡ Some (map sequent_of news.items)) }
+    ensures no_instance { result ≡ Err NoInstance → without_hypothesis (sequent_of sequent.now) number ≡ None }
 {
-    let Some(hypothesis) = numbered(&sequent.hyps, number) else {
+    let Some(hyps) = without_item(alloc, &sequent.hyps, number)? else {
         return Err(StepFault::NoInstance);
     };
-    if !hypothesis.equal(&sequent.goal) {
-        return Err(StepFault::NoInstance);
-    }
-    Ok(Vec::new(alloc))
-}
-
-// The goal is `E = E`.
-fn by_sameness(alloc: Global, sequent: &Sequent) -> Result<Vec<Sequent>, StepFault>
-    ensures value { IfOk result (λ news. Makes (sequent_of sequent.now) Rule.Same (map sequent_of news.items)) }
-    ensures no_instance { result ≡ Err NoInstance → MakesNothing (sequent_of sequent.now) Rule.Same }
-{
-    let Some((left, right)) = sides(&sequent.goal, BinOp::Eq) else {
-        return Err(StepFault::NoInstance);
+    let only = Sequent {
+        hyps,
+        goal: sequent.goal.copy(alloc)?,
     };
-    if !left.equal(right) {
-        return Err(StepFault::NoInstance);
-    }
-    Ok(Vec::new(alloc))
-}
-
-// The goal `P & Q`: the goals `P` and `Q`.
-fn both_sides(alloc: Global, sequent: &Sequent) -> Result<Vec<Sequent>, StepFault>
-    requires { IsWithin (sequent_of sequent.now) }
-    ensures value { IfOk result (λ news. Makes (sequent_of sequent.now) Rule.And (map sequent_of news.items)) }
-    ensures no_instance { result ≡ Err NoInstance → MakesNothing (sequent_of sequent.now) Rule.And }
-{
-    let Some((left, right)) = sides(&sequent.goal, BinOp::And) else {
-        return Err(StepFault::NoInstance);
-    };
-    let first = under(alloc, &sequent.hyps, left)?;
-    let second = under(alloc, &sequent.hyps, right)?;
-    Ok(Vec::from_array(alloc, [first, second])?)
-}
-
-// The goal `P or Q`: the goal `P`.
-fn left_side(alloc: Global, sequent: &Sequent) -> Result<Vec<Sequent>, StepFault>
-    requires { IsWithin (sequent_of sequent.now) }
-    ensures value { IfOk result (λ news. Makes (sequent_of sequent.now) Rule.Left (map sequent_of news.items)) }
-    ensures no_instance { result ≡ Err NoInstance → MakesNothing (sequent_of sequent.now) Rule.Left }
-{
-    let Some((left, _)) = sides(&sequent.goal, BinOp::Or) else {
-        return Err(StepFault::NoInstance);
-    };
-    let only = under(alloc, &sequent.hyps, left)?;
     Ok(Vec::from_array(alloc, [only])?)
 }
 
-// The goal `P or Q`: the goal `Q`.
-fn right_side(alloc: Global, sequent: &Sequent) -> Result<Vec<Sequent>, StepFault>
-    requires { IsWithin (sequent_of sequent.now) }
-    ensures value { IfOk result (λ news. Makes (sequent_of sequent.now) Rule.Right (map sequent_of news.items)) }
-    ensures no_instance { result ≡ Err NoInstance → MakesNothing (sequent_of sequent.now) Rule.Right }
+// The formulas without the one of this number, from 1; None where there is none.
+#[tactic(auto, using(crate::proofs::Steps::drops))]
+fn without_item(alloc: Global, forms: &[Form], number: u32) -> Result<Option<Vec<Form>>, Memory>
+    ensures { IfOk result (λ o. list_in o ≡ without_item number forms.now) }
 {
-    let Some((_, right)) = sides(&sequent.goal, BinOp::Or) else {
-        return Err(StepFault::NoInstance);
+    let Some(index) = number.checked_sub(1) else {
+        return Ok(None);
     };
-    let only = under(alloc, &sequent.hyps, right)?;
-    Ok(Vec::from_array(alloc, [only])?)
+    let index = index as usize;
+    if index >= forms.len() {
+        return Ok(None);
+    }
+    let mut kept = Form::copy_all(&forms[..index], alloc)?;
+    push_all(alloc, &mut kept, &forms[index + 1..])?;
+    Ok(Some(kept))
 }
 
-// That hypothesis is `P & Q`: both are new hypotheses.
-fn parts_of_hypothesis(
+// The sequents that come of what the rule adds.
+fn extending(
     alloc: Global,
+    types: &VarTable,
     sequent: &Sequent,
-    number: u32,
+    rule: &Rule,
 ) -> Result<Vec<Sequent>, StepFault>
     requires { IsWithin (sequent_of sequent.now) }
-    ensures value { IfOk result
-        (λ news. Makes (sequent_of sequent.now) (Rule.Split number) (map sequent_of news.items)) }
-    ensures no_instance { result ≡ Err NoInstance → MakesNothing (sequent_of sequent.now) (Rule.Split number) }
+    ensures value { IfOk result (λ news. IsExtension types.now (sequent_of sequent.now)
+        (branches types.now (sequent_of sequent.now) rule.now) (map sequent_of news.items)) }
+    ensures no_instance { result ≡ Err NoInstance →
+        HasNoFine types.now (branches types.now (sequent_of sequent.now) rule.now) }
 {
-    let Some(hypothesis) = numbered(&sequent.hyps, number) else {
-        return Err(StepFault::NoInstance);
-    };
-    let Some((left, right)) = sides(hypothesis, BinOp::And) else {
-        return Err(StepFault::NoInstance);
-    };
-    let only = supposing_both(alloc, sequent, left.copy(alloc)?, right.copy(alloc)?)?;
-    Ok(Vec::from_array(alloc, [only])?)
+    match added(alloc, types, sequent, rule) {
+        Ok(found) => extended(alloc, types, sequent, found),
+        Err(BindFault::TooLarge) => Err(StepFault::NoInstance),
+        Err(BindFault::Memory) => Err(StepFault::Memory),
+    }
 }
 
-// The goal `P => Q`: `P` is a new hypothesis, and `Q` the goal.
-fn by_supposing(alloc: Global, sequent: &Sequent) -> Result<Vec<Sequent>, StepFault>
-    requires { IsWithin (sequent_of sequent.now) }
-    ensures value { IfOk result (λ news. Makes (sequent_of sequent.now) Rule.Imp (map sequent_of news.items)) }
-    ensures no_instance { result ≡ Err NoInstance → MakesNothing (sequent_of sequent.now) Rule.Imp }
-{
-    let Some((left, right)) = sides(&sequent.goal, BinOp::Imp) else {
-        return Err(StepFault::NoInstance);
-    };
-    let mut only = under(alloc, &sequent.hyps, right)?;
-    only.hyps.push(left.copy(alloc)?)?;
-    Ok(Vec::from_array(alloc, [only])?)
-}
-
-// That hypothesis is `E = F`: at the place `F` comes for `E`.
-fn by_equation(
+// The sequents of what a rule adds, where all that is new types and is within the limits.
+#[tactic(auto, using(crate::proofs::Steps::extensions))]
+fn extended(
     alloc: Global,
+    types: &VarTable,
     sequent: &Sequent,
-    number: u32,
-    place: &Place,
+    found: Option<Vec<Branch>>,
 ) -> Result<Vec<Sequent>, StepFault>
-    requires { IsWithin (sequent_of sequent.now) }
-    ensures value { IfOk result
-        (λ news. Makes (sequent_of sequent.now) (Rule.Eq number place.now) (map sequent_of news.items)) }
-    ensures no_instance { result ≡ Err NoInstance → MakesNothing (sequent_of sequent.now) (Rule.Eq number place.now) }
+    ensures value { IfOk result (λ news. IsExtension types.now (sequent_of sequent.now)
+        (held found) (map sequent_of news.items)) }
+    ensures no_instance { result ≡ Err NoInstance → HasNoFine types.now (held found) }
 {
-    let Some(hypothesis) = numbered(&sequent.hyps, number) else {
+    let Some(branches) = found else {
         return Err(StepFault::NoInstance);
     };
-    let Some((left, right)) = sides(hypothesis, BinOp::Eq) else {
+    if !are_fine(alloc, types, &branches)? {
         return Err(StepFault::NoInstance);
-    };
-    let only = rewritten(alloc, sequent, place, left, right.copy(alloc)?)?;
-    Ok(Vec::from_array(alloc, [only])?)
+    }
+    Ok(sequents_with(alloc, sequent, &branches)?)
 }
 
-// That hypothesis is `E = F`: at the place `E` comes for `F`.
-fn by_reverse(
+// What the rule adds to the sequent; None where it is no instance, and of the rule that drops a hypothesis.
+fn added(
     alloc: Global,
+    types: &VarTable,
     sequent: &Sequent,
-    number: u32,
-    place: &Place,
-) -> Result<Vec<Sequent>, StepFault>
+    rule: &Rule,
+) -> Result<Option<Vec<Branch>>, BindFault>
     requires { IsWithin (sequent_of sequent.now) }
-    ensures value { IfOk result
-        (λ news. Makes (sequent_of sequent.now) (Rule.Qe number place.now) (map sequent_of news.items)) }
-    ensures no_instance { result ≡ Err NoInstance → MakesNothing (sequent_of sequent.now) (Rule.Qe number place.now) }
+    ensures value { IfOk result (λ o. held o ≡ branches types.now (sequent_of sequent.now) rule.now) }
+    ensures too_large { result ≡ Err TooLarge → IsTooLarge (branches types.now (sequent_of sequent.now) rule.now) }
 {
-    let Some(hypothesis) = numbered(&sequent.hyps, number) else {
-        return Err(StepFault::NoInstance);
+    match rule {
+        Rule::Hyp(number) => Ok(by_hypothesis(alloc, types, sequent, *number)?),
+        Rule::True => Ok(by_truth(alloc, types, sequent)?),
+        Rule::Same => Ok(by_sameness(alloc, types, sequent)?),
+        Rule::Eval(None) => Ok(by_decision(alloc, types, sequent)?),
+        Rule::Eval(Some(place)) => rewritten(alloc, types, sequent, &Change::Deciding, place),
+        Rule::False(number) => Ok(by_falsity(alloc, types, sequent, *number)?),
+        Rule::Absurd(number, denial) => {
+            Ok(by_absurdity(alloc, types, sequent, *number, *denial)?)
+        }
+        Rule::And => Ok(both_goals(alloc, types, sequent)?),
+        Rule::Iff => both_ways(alloc, types, sequent),
+        Rule::Imp => Ok(by_supposing(alloc, types, sequent)?),
+        Rule::Not => Ok(by_refutation(alloc, types, sequent)?),
+        Rule::Left => Ok(left_side(alloc, types, sequent)?),
+        Rule::Right => Ok(right_side(alloc, types, sequent)?),
+        Rule::Or => other_side(alloc, types, sequent),
+        Rule::Contra => by_denial(alloc, types, sequent),
+        Rule::Fix(names) => fixed(alloc, types, sequent, names),
+        Rule::UseTerms(terms) => used(alloc, types, sequent, terms),
+        Rule::Split(number) => Ok(parts_of_hypothesis(alloc, types, sequent, *number)?),
+        Rule::Cases(number) => Ok(either_side(alloc, types, sequent, *number)?),
+        Rule::Apply(number) => Ok(by_applying(alloc, types, sequent, *number)?),
+        Rule::Inst(number, terms) => instantiated(alloc, types, sequent, *number, terms),
+        Rule::OpenSome(number, names) => named_for(alloc, types, sequent, *number, names),
+        Rule::Cut(form) => Ok(by_way_of(alloc, types, sequent, form)?),
+        Rule::Case(form) => in_both_cases(alloc, types, sequent, form),
+        Rule::Eq(number, place) => {
+            rewritten(alloc, types, sequent, &Change::EqTo(*number), place)
+        }
+        Rule::Qe(number, place) => {
+            rewritten(alloc, types, sequent, &Change::EqFrom(*number), place)
+        }
+        Rule::Law { law, picks, place } => {
+            rewritten(
+                alloc,
+                types,
+                sequent,
+                &Change::LawTo(*law, picks.as_slice()),
+                place,
+            )
+        }
+        Rule::Wal { law, picks, place } => {
+            rewritten(
+                alloc,
+                types,
+                sequent,
+                &Change::LawFrom(*law, picks.as_slice()),
+                place,
+            )
+        }
+        Rule::TypeOf(place) => rewritten(alloc, types, sequent, &Change::Typing, place),
+        Rule::Neg(place) => rewritten(alloc, types, sequent, &Change::Negating, place),
+        Rule::Mem(place) => rewritten(alloc, types, sequent, &Change::Belonging, place),
+        Rule::Val(place) => rewritten(alloc, types, sequent, &Change::Applying, place),
+        Rule::Ext(place) => rewritten(alloc, types, sequent, &Change::Extending, place),
+        Rule::Sub(place) => rewritten(alloc, types, sequent, &Change::Including, place),
+        Rule::Ex(place) => rewritten(alloc, types, sequent, &Change::Witnessing, place),
+        Rule::Pair(term) => as_pair(alloc, types, sequent, term),
+        Rule::Elems(term) => by_elements(alloc, types, sequent, term),
+        Rule::Interval(number) => Ok(by_numbers(alloc, types, sequent, *number)?),
+        Rule::Induct => by_induction(alloc, types, sequent),
+        Rule::Poly => Ok(by_polynomials(alloc, types, sequent)?),
+        Rule::Lin { facts, lines } => Ok(by_arithmetic(alloc, sequent, facts, lines)?),
+        Rule::Drop(_) | Rule::Unread => Ok(None),
+    }
+}
+
+// Whether all that is new in the branches types and is within the limits.
+fn are_fine(alloc: Global, types: &VarTable, branches: &[Branch]) -> Result<bool, Memory>
+    ensures fine { result ≡ Ok true → Each (IsFine types.now) (map branch_of branches.now) }
+    ensures other { result ≡ Ok false → Each (IsFine types.now) (map branch_of branches.now) → ⊥ }
+{
+    let [first, others @ ..] = branches else {
+        return Ok(true);
     };
-    let Some((left, right)) = sides(hypothesis, BinOp::Eq) else {
-        return Err(StepFault::NoInstance);
+    if !is_fine(alloc, types, first)? {
+        return Ok(false);
+    }
+    are_fine(alloc, types, others)
+}
+
+fn is_fine(alloc: Global, types: &VarTable, branch: &Branch) -> Result<bool, Memory>
+    ensures fine { result ≡ Ok true → IsFine types.now (branch_of branch.now) }
+    ensures other { result ≡ Ok false → IsFine types.now (branch_of branch.now) → ⊥ }
+{
+    if !are_good(alloc, types, &branch.more)? {
+        return Ok(false);
+    }
+    is_good(alloc, types, &branch.goal)
+}
+
+// Whether the formulas are predicates and within the limits.
+fn are_good(alloc: Global, types: &VarTable, forms: &[Form]) -> Result<bool, Memory>
+    ensures good { result ≡ Ok true → Each (IsGood types.now) forms.now }
+    ensures other { result ≡ Ok false → Each (IsGood types.now) forms.now → ⊥ }
+{
+    let [first, others @ ..] = forms else {
+        return Ok(true);
     };
-    let only = rewritten(alloc, sequent, place, right, left.copy(alloc)?)?;
-    Ok(Vec::from_array(alloc, [only])?)
+    if !is_good(alloc, types, first)? {
+        return Ok(false);
+    }
+    are_good(alloc, types, others)
 }
 
-// At the place the law's right formula comes for its left one, after a sequent for each side.
-fn by_law(
-    alloc: Global,
-    sequent: &Sequent,
-    law: u16,
-    picks: &[Form],
-    place: &Place,
-) -> Result<Vec<Sequent>, StepFault>
-    requires { IsWithin (sequent_of sequent.now) }
-    ensures value { IfOk result
-        (λ news. MakesByLaw (sequent_of sequent.now) law picks.now place.now (map sequent_of news.items)) }
-    ensures no_instance { result ≡ Err NoInstance → (news : List Claim) →
-        MakesByLaw (sequent_of sequent.now) law picks.now place.now news → ⊥ }
+fn is_good(alloc: Global, types: &VarTable, form: &Form) -> Result<bool, Memory>
+    ensures good { result ≡ Ok true → IsGood types.now form.now }
+    ensures other { result ≡ Ok false → IsGood types.now form.now → ⊥ }
 {
-    if !are_within(picks) {
-        return Err(StepFault::NoInstance);
+    if !is_within(form) {
+        return Ok(false);
     }
-    let LawInstance { sides, left, right } = law_instance(alloc, law, picks)?;
-    let mut news = goals(alloc, &sequent.hyps, &sides)?;
-    news.push(rewritten(alloc, sequent, place, &left, right)?)?;
-    Ok(news)
-}
-
-// The law at the formulas, where the rule takes it.
-fn law_instance(alloc: Global, law: u16, picks: &[Form]) -> Result<LawInstance, StepFault>
-    requires { All IsWithinLimits picks.now }
-    ensures value { IfOk result (λ i. instance_taken law picks.now ≡ Some (instance_of i)) }
-    ensures no_instance { result ≡ Err NoInstance → instance_taken law picks.now ≡ None }
-{
-    if law != INTERVAL {
-        return Err(StepFault::NoInstance);
-    }
-    match instance(alloc, law, picks) {
-        Ok(found) => Ok(found),
-        Err(LawFault::Unknown) => Err(StepFault::NoInstance),
-        Err(LawFault::Picks(_)) => Err(StepFault::NoInstance),
-        Err(LawFault::Memory) => Err(StepFault::Memory),
-    }
-}
-
-// A sequent for each goal, under the same hypotheses.
-fn goals(alloc: Global, hyps: &[Form], list: &[Form]) -> Result<Vec<Sequent>, StepFault>
-    ensures value { IfOk result (λ news. map sequent_of news.items ≡ map (λ p. (hyps.now, p)) list.now) }
-    ensures within { OnOk result (All IsWithinLimits list.now) }
-    ensures no_instance { result ≡ Err NoInstance → All IsWithinLimits list.now → ⊥ }
-{
-    if !are_within(list) {
-        return Err(StepFault::NoInstance);
-    }
-    let mut news = Vec::new(alloc);
-    for goal in list {
-        news.push(under(alloc, hyps, goal)?)?;
-    }
-    Ok(news)
-}
-
-// The goal follows from the listed hypotheses, as the certificate shows.
-fn by_arithmetic(
-    alloc: Global,
-    sequent: &Sequent,
-    facts: &[u32],
-    lines: &[Line],
-) -> Result<Vec<Sequent>, StepFault>
-    ensures value { IfOk result
-        (λ news. MakesByArithmetic (sequent_of sequent.now) facts.now lines.now (map sequent_of news.items)) }
-    ensures no_instance { result ≡ Err NoInstance → (news : List Claim) →
-        MakesByArithmetic (sequent_of sequent.now) facts.now lines.now news → ⊥ }
-{
-    let hyps = listed(alloc, &sequent.hyps, facts)?;
-    check_lines(alloc, &hyps, &sequent.goal, lines)?;
-    Ok(Vec::new(alloc))
-}
-
-// The hypotheses of these numbers, in that order.
-fn listed(alloc: Global, hyps: &[Form], numbers: &[u32]) -> Result<Vec<Form>, StepFault>
-    ensures value { IfOk result (λ found. AreListed hyps.now numbers.now found.items) }
-    ensures no_instance { result ≡ Err NoInstance → (found : List Formula) → AreListed hyps.now numbers.now found → ⊥ }
-{
-    let mut found = Vec::new(alloc);
-    for number in numbers {
-        let Some(hypothesis) = numbered(hyps, *number) else {
-            return Err(StepFault::NoInstance);
-        };
-        found.push(hypothesis.copy(alloc)?)?;
-    }
-    Ok(found)
-}
-
-// Whether the certificate is accepted.
-fn check_lines(alloc: Global, hyps: &[Form], goal: &Form, lines: &[Line]) -> Result<(), StepFault>
-    ensures accepted { OnOk result (is_accepted hyps.now goal.now lines.now ≡ true) }
-    ensures no_instance { result ≡ Err NoInstance → is_accepted hyps.now goal.now lines.now ≡ false }
-{
-    match linear(alloc, hyps, goal, lines) {
-        Ok(()) => Ok(()),
-        Err(ArithFault::NotLinear(_)) => Err(StepFault::NoInstance),
-        Err(ArithFault::Cert(_)) => Err(StepFault::NoInstance),
-        Err(ArithFault::TooWide) => Err(StepFault::NoInstance),
-        Err(ArithFault::Cases) => Err(StepFault::NoInstance),
-        Err(ArithFault::Memory) => Err(StepFault::Memory),
-    }
+    is_predicate(alloc, types, form)
 }

@@ -1,11 +1,13 @@
 -- Rules that one script stands for make the same of each sequent, so that an obligation has one state.
 use Rattle.std.proofs.Common.{◌≡◌, ◌≢◌, ◌⊎◌, inl, inr, ℕ, zero, suc, ◌-◌, ◌<◌, List, [], ◌∷◌, ◌++◌, take, length, refl, sym, ◌∙◌, ap, subst, arith, true, false, get_or, lt_of_not-le}
 use Rattle.std.specs.Prelude.{Option, Some, map, All, slice_get}
+use Rattle.std.specs.Global.{Vec}
+use Rattle.std.specs.Option.{option_map, option_and_then}
 use Rattle.std.specs.List.{AllZip, AllPairs, IsAmong}
 use Rattle.std.proofs.lemmas.List.{get_or-map, get_or_default, length-map}
 use Rattle.bk_form.specs.Formula.{Formula}
 use Rattle.bk_form.specs.Table.{Table}
-use Rattle.bk_seq.specs.Paths.{numbered_item, sub_at, put_at}
+use Rattle.bk_seq.specs.Paths.{numbered_item}
 use Rattle.bk_raw.specs.RawTree.{RawTree}
 use Rattle.bk_elab.specs.Scope.{Scope}
 use Rattle.bk_lin.specs.declared.fact.Line.{Line}
@@ -17,7 +19,10 @@ use Rattle.bk_kernel.specs.declared.replaying.Verdict.{Verdict}
 use Rattle.bk_kernel.specs.declared.replaying.Verdict.TheVariants.{Closed, BadStep as BadAt, Open as LeftOpen, Extra as LeftOver}
 use Rattle.bk_seq.specs.Sequents.{Sequent}
 use Rattle.bk_kernel.specs.Obvious.{is_obvious}
-use Rattle.bk_kernel.specs.Rules.{Rewrites, ByEquation, ByReverse, ByLaw, ByArithmetic, ByRule, IsInstance}
+use Rattle.bk_arith.specs.Decision.{is_accepted}
+use Rattle.bk_kernel.specs.Branches.{extended, closed_if}
+use Rattle.bk_kernel.specs.Rewriting.{Rewriting, eq_to, eq_from, law_to, replaced, goal_changed, hypothesis_changed, rewritten}
+use Rattle.bk_kernel.specs.Rules.{listed_facts, makes, IsInstance}
 use Rattle.bk_kernel.specs.Derivations.{Leaves, IsVerdict}
 use Rattle.bk_kernel.proofs.Verdicts.{one-verdict}
 use Rattle.bk_dev.specs.Development.{Development}
@@ -32,25 +37,24 @@ use Rattle.bk_scripts.specs.declared.state.State.TheVariants.{Obvious, Proved, N
 use Rattle.bk_scripts.proofs.Certificates.{same-acceptance}
 use Rattle.bk_scripts.proofs.Prefixes.{zip-take}
 
--- what one rule makes of a sequent, the other does too
+-- the two make the same of each sequent
 abbrev IsLike : Rule → Rule → Type 0
-IsLike r q = (s : Sequent) (news : List Sequent) → ByRule s r news → ByRule s q news
+IsLike r q = (table : Table) (s : Sequent) → makes table s r ≡ makes table s q
 
 -- ---- parts of rules
 -- what is rewritten at one place, is rewritten at another that the same written place stands for
-like-place : (w : WrittenPlace) (p q : Place) → IsPlaceOf w p → IsPlaceOf w q → (s : Sequent) (old new : Formula) (t : Sequent) → Rewrites p s old new t → Rewrites q s old new t
-like-place (in_goal path) (Goal a) (Goal b) h k = λ s old new t r.
+like-place : (w : WrittenPlace) (p q : Place) → IsPlaceOf w p → IsPlaceOf w q → (table : Table) (s : Sequent) (r : Rewriting) → rewritten table s r p ≡ rewritten table s r q
+like-place (in_goal path) (Goal a) (Goal b) h k table s r =
     let e = h ∙ sym k in
-    subst (λ ns. (sub_at s.1 ns ≡ Some old) × (t ≡ (s.0, put_at s.1 ns new))) e r
-like-place (in_hypothesis i path) (InHyp m a) (InHyp n b) h k = λ s old new t r.
+    ap (λ ns. goal_changed (replaced table s.0 r s.1 ns)) e
+like-place (in_hypothesis i path) (InHyp m a) (InHyp n b) h k table s r =
     let e = h.1 ∙ sym k.1 in
     let f = h.0 ∙ sym k.0 in
-    let P : ℕ → List ℕ → Type 0 = λ j ns. (p : Formula) × (numbered_item s.0 j ≡ Some p) × (sub_at p ns ≡ Some old) × (t ≡ (s.0 ++ put_at p ns new ∷ [], s.1)) in
-    subst (λ ns. P n ns) e (subst (λ j. P j a.items) f r)
-like-place (in_goal path) (Goal a) (InHyp n b) h k = absurd k
-like-place (in_goal path) (InHyp m a) q h k = absurd h
-like-place (in_hypothesis i path) (InHyp m a) (Goal b) h k = absurd k
-like-place (in_hypothesis i path) (Goal a) q h k = absurd h
+    λ j. option_and_then (λ p. hypothesis_changed s.1 (replaced table s.0 r p (e j))) (numbered_item s.0 (f j))
+like-place (in_goal path) (Goal a) (InHyp n b) h k table s r = absurd k
+like-place (in_goal path) (InHyp m a) q h k table s r = absurd h
+like-place (in_hypothesis i path) (InHyp m a) (Goal b) h k table s r = absurd k
+like-place (in_hypothesis i path) (Goal a) q h k table s r = absurd h
 
 one-meaning : (scope : Scope) (trees : List RawTree) (ps qs : List Formula) → AllZip (Means scope) trees ps → AllZip (Means scope) trees qs → ps ≡ qs
 one-meaning scope [] [] [] h k = refl
@@ -71,51 +75,53 @@ one-number m n o h k = let e : Some m ≡ Some n = sym h ∙ k in cc
 
 -- ---- rules
 like-hyp : (scope : Scope) (i j : ℕ) (q : Rule) → j ≡ i → Matches scope (rule_hyp i) q → IsLike (Hyp j) q
-like-hyp scope i j (Hyp k) e h = λ s news b. subst (λ n. (numbered_item s.0 n ≡ Some s.1) × (news ≡ [])) (e ∙ sym h) b
+like-hyp scope i j (Hyp k) e h = λ table s. ap (λ n. makes table s (Hyp n)) (e ∙ sym h)
 like-hyp scope i j _ e h = absurd h
 
 like-same : (scope : Scope) (q : Rule) → Matches scope rule_same q → IsLike Same q
-like-same scope Same h = λ s news b. b
+like-same scope Same h = λ table s. refl
 like-same scope _ h = absurd h
 
 like-and : (scope : Scope) (q : Rule) → Matches scope rule_and q → IsLike And q
-like-and scope And h = λ s news b. b
+like-and scope And h = λ table s. refl
 like-and scope _ h = absurd h
 
 like-left : (scope : Scope) (q : Rule) → Matches scope rule_left q → IsLike Left q
-like-left scope Left h = λ s news b. b
+like-left scope Left h = λ table s. refl
 like-left scope _ h = absurd h
 
 like-right : (scope : Scope) (q : Rule) → Matches scope rule_right q → IsLike Right q
-like-right scope Right h = λ s news b. b
+like-right scope Right h = λ table s. refl
 like-right scope _ h = absurd h
 
 like-split : (scope : Scope) (i j : ℕ) (q : Rule) → j ≡ i → Matches scope (rule_split i) q → IsLike (Split j) q
-like-split scope i j (Split k) e h = λ s news b. subst (λ n. ByRule s (Split n) news) (e ∙ sym h) b
+like-split scope i j (Split k) e h = λ table s. ap (λ n. makes table s (Split n)) (e ∙ sym h)
 like-split scope i j _ e h = absurd h
 
 like-imp : (scope : Scope) (q : Rule) → Matches scope rule_imp q → IsLike Imp q
-like-imp scope Imp h = λ s news b. b
+like-imp scope Imp h = λ table s. refl
 like-imp scope _ h = absurd h
 
 like-eq : (scope : Scope) (i j : ℕ) (w : WrittenPlace) (p : Place) (q : Rule) → (j ≡ i) × IsPlaceOf w p → Matches scope (rule_eq i w) q → IsLike (Eq j p) q
-like-eq scope i j w p (Eq k o) e h = λ s news b. subst (λ n. ByEquation s n o news) (e.0 ∙ sym h.0) (b.0, b.1, b.2, b.3, like-place w p o e.1 h.1 s b.0 b.1 b.2 b.4, b.5)
+like-eq scope i j w p (Eq k o) e h = λ table s. ap (option_map (map (extended s))) (like-place w p o e.1 h.1 table s (eq_to j) ∙ ap (λ n. rewritten table s (eq_to n) o) (e.0 ∙ sym h.0))
 like-eq scope i j w p _ e h = absurd h
 
 like-qe : (scope : Scope) (i j : ℕ) (w : WrittenPlace) (p : Place) (q : Rule) → (j ≡ i) × IsPlaceOf w p → Matches scope (rule_qe i w) q → IsLike (Qe j p) q
-like-qe scope i j w p (Qe k o) e h = λ s news b. subst (λ n. ByReverse s n o news) (e.0 ∙ sym h.0) (b.0, b.1, b.2, b.3, like-place w p o e.1 h.1 s b.1 b.0 b.2 b.4, b.5)
+like-qe scope i j w p (Qe k o) e h = λ table s. ap (option_map (map (extended s))) (like-place w p o e.1 h.1 table s (eq_from j) ∙ ap (λ n. rewritten table s (eq_from n) o) (e.0 ∙ sym h.0))
 like-qe scope i j w p _ e h = absurd h
 
-like-law : (scope : Scope) (name : List ℕ) (trees : List RawTree) (w : WrittenPlace) (law : ℕ) (picks : List Formula) (p : Place) (q : Rule) → (law_number name ≡ Some law) × AllZip (Means scope) trees picks × IsPlaceOf w p → Matches scope (rule_law name trees w) q → (s : Sequent) (news : List Sequent) → ByLaw s law picks p news → ByRule s q news
-like-law scope name trees w law picks p (Law other others o) e h = λ s news b.
+like-law : (scope : Scope) (name : List ℕ) (trees : List RawTree) (w : WrittenPlace) (law : ℕ) (picks : Vec Formula) (p : Place) (q : Rule) → (law_number name ≡ Some law) × AllZip (Means scope) trees picks.items × IsPlaceOf w p → Matches scope (rule_law name trees w) q → IsLike (Law law picks p) q
+like-law scope name trees w law picks p (Law other others o) e h = λ table s.
     let numbers = one-number law other (law_number name) e.0 h.0 in
-    let terms = one-meaning scope trees picks others.items e.1 h.1 in
-    subst (λ n. ByLaw s n others.items o news) numbers (subst (λ fs. ByLaw s law fs o news) terms (b.0, b.1, b.2, like-place w p o e.2 h.2 s (b.0).left (b.0).right b.1 b.3, b.4))
+    let terms = one-meaning scope trees picks.items others.items e.1 h.1 in
+    ap (option_map (map (extended s))) (like-place w p o e.2 h.2 table s (law_to law picks.items) ∙ (λ i. rewritten table s (law_to (numbers i) (terms i)) o))
 like-law scope name trees w law picks p _ e h = absurd h
 
-like-lin : (scope : Scope) (numbers facts : List ℕ) (written : List WrittenLine) (lines : List Line) (q : Rule) → (facts ≡ numbers) × AllZip IsLineOf written lines → Matches scope (rule_lin numbers written) q → (s : Sequent) (news : List Sequent) → ByArithmetic s facts lines news → ByRule s q news
-like-lin scope numbers facts written lines (Lin others cert) e h = λ s news b.
-    subst (λ ns. ByArithmetic s ns cert.items news) (e.0 ∙ sym h.0) (b.0, b.1, sym (same-acceptance written lines cert.items e.1 h.1 b.0 s.1) ∙ b.2, b.3)
+like-lin : (scope : Scope) (numbers : List ℕ) (facts : Vec ℕ) (written : List WrittenLine) (lines : Vec Line) (q : Rule) → (facts.items ≡ numbers) × AllZip IsLineOf written lines.items → Matches scope (rule_lin numbers written) q → IsLike (Lin facts lines) q
+like-lin scope numbers facts written lines (Lin others cert) e h = λ table s.
+    let listed = e.0 ∙ sym h.0 in
+    let same : (ps : List Formula) → is_accepted ps s.1 lines.items ≡ is_accepted ps s.1 cert.items = λ ps. same-acceptance written lines.items cert.items e.1 h.1 ps s.1 in
+    λ i. option_map (map (extended s)) (option_and_then (λ ps. closed_if (same ps i)) (listed_facts s.0 (listed i)))
 like-lin scope numbers facts written lines _ e h = absurd h
 
 matched-like : (scope : Scope) (w : WrittenRule) (r q : Rule) → Matches scope w r → Matches scope w q → IsLike r q
@@ -128,15 +134,15 @@ matched-like scope (rule_split i) (Split j) q h k = like-split scope i j q h k
 matched-like scope rule_imp Imp q h k = like-imp scope q k
 matched-like scope (rule_eq i w) (Eq j p) q h k = like-eq scope i j w p q h k
 matched-like scope (rule_qe i w) (Qe j p) q h k = like-qe scope i j w p q h k
-matched-like scope (rule_law name trees w) (Law law picks p) q h k = like-law scope name trees w law picks.items p q h k
-matched-like scope (rule_lin numbers written) (Lin facts lines) q h k = like-lin scope numbers facts.items written lines.items q h k
+matched-like scope (rule_law name trees w) (Law law picks p) q h k = like-law scope name trees w law picks p q h k
+matched-like scope (rule_lin numbers written) (Lin facts lines) q h k = like-lin scope numbers facts written lines q h k
 matched-like scope _ _ q h k = absurd h
 
 standing-like : (scope : Scope) (w : WrittenRule) (r q : Rule) → StandsFor scope w r → StandsFor scope w q → IsLike r q
 standing-like scope w r q (inl h) (inl k) = matched-like scope w r q h.1 k.1
 standing-like scope w r q (inl h) (inr k) = absurd (k.0 h.0)
 standing-like scope w r q (inr h) (inl k) = absurd (h.0 k.0)
-standing-like scope w r q (inr h) (inr k) = λ s news b. subst (λ x. ByRule s x news) (h.1 ∙ sym k.1) b
+standing-like scope w r q (inr h) (inr k) = λ table s. ap (makes table s) (h.1 ∙ sym k.1)
 
 -- ---- lists of rules
 abbrev AreLike : List Rule → List Rule → Type 0
@@ -169,7 +175,7 @@ item-like (suc n) rs qs r h e = get-like n rs qs r h e
 
 module _ (table : Table) where
   instance-like : (r q : Rule) (s : Sequent) (news : List Sequent) → IsLike r q → IsInstance table s r news → IsInstance table s q news
-  instance-like r q s news h k = record { by_rule = h s news k.by_rule; type = k.type; within = k.within }
+  instance-like r q s news h k = record { made = sym (h table s) ∙ k.made; type = k.type; within = k.within }
 
   leaves-like : (claims : List Sequent) (rs qs : List Rule) (left : List Sequent) → AreLike rs qs → Leaves table claims rs left → Leaves table claims qs left
   leaves-like claims [] [] left h k = k

@@ -6,7 +6,7 @@ use Rattle.bk_form.specs.Each.{Each}
 use Rattle.bk_dev.proofs.Flat.{flattened_already}
 use Rattle.bk_seq.specs.Sequents.{Sequent, Types}
 use Rattle.bk_kernel.proofs.Validity.{obvious_is_valid}
-use Rattle.bk_kernel.proofs.SoundRules.{derived-is-valid}
+use Rattle.bk_kernel.proofs.DerivedValid.{derived-is-valid}
 use Rattle.bk_po.specs.Obligations.{AreValid, numbered_obligations}
 use Rattle.bk_po.proofs.Basics.{basic_are_flat}
 use Rattle.bk_po.proofs.TypedSequents.{obligations_type}

@@ -2,8 +2,18 @@
 #![tactic(auto)]
 
 #[cfg(test)]
+mod every_rule;
+#[cfg(test)]
 mod obvious;
+#[cfg(test)]
+mod reading;
 #[cfg(test)]
 mod replays;
 #[cfg(test)]
+mod rule_texts;
+#[cfg(test)]
 mod rules;
+#[cfg(test)]
+mod stating;
+#[cfg(test)]
+mod worked;

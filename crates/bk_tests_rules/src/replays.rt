@@ -366,7 +366,13 @@ fn laws(rt: HostRuntime) -> Result<(), Fail> {
         (105, ABOVE, &[], Verdict::Open(1), "the law of the goal"),
         (105, BELOW, &[], Verdict::BadStep(1), "another formula"),
         (105, ABOVE, &[1], Verdict::BadStep(1), "another place"),
-        (104, ABOVE, &[], Verdict::BadStep(1), "no such law"),
+        (
+            104,
+            ABOVE,
+            &[],
+            Verdict::BadStep(1),
+            "another number of formulas",
+        ),
     ];
     for (number, index, path, wanted, what) in cases {
         let rule = law(alloc, number, index, at_goal(alloc, path)?)?;

@@ -1,9 +1,7 @@
 // Formulas over three whole numbers, rules of proof, and what they do to sequents that are known to type.
 
-ghost use Rattle.std.specs.Prelude.{◌≡◌, [], Some, IsTrue};
-ghost use Rattle.bk_val.specs.ValueType.{int_type, set_type};
-ghost use Rattle.bk_form.specs.Table.{variable_type};
-ghost use Rattle.bk_form.specs.Role.{role, gives, predicate};
+ghost use Rattle.std.specs.Prelude.{◌≡◌, [], true, Ok, IsTrue};
+ghost use Rattle.bk_form.specs.Role.{role, predicate};
 ghost use Rattle.bk_bind.specs.Limits.{IsWithinLimits};
 ghost use Rattle.bk_seq.specs.Sequents.{sequent_of, Types, IsWithin};
 ghost use Rattle.bk_form.specs.Each.{Each};
@@ -13,11 +11,12 @@ use bk_bind::{GREATEST_HEIGHT, MOST_NODES};
 use bk_fixtures::{
     binary, interval, literal, of_variables, text, unary, variable, with_number, within,
 };
-use bk_form::{BinOp, Form, Ty, UnOp, VarTable, View};
+use bk_form::{BinOp, Form, Ty, UnOp, VarTable};
 use bk_io::Memory;
 use bk_kernel::{Place, Rule, StepFault, Verdict, replay, step};
 use bk_lin::Line;
 use bk_seq::Sequent;
+use bk_types::{Role, role_of};
 use std::alloc::Global;
 
 // ---- the variables: three whole numbers
@@ -110,7 +109,7 @@ pub(crate) fn verdict(
     sequent: Sequent,
     rules: &[Rule],
 ) -> Result<Verdict, Memory> {
-    if rules.len() > 1000 || !types_and_fits(types, &sequent) {
+    if rules.len() > 1000 || !types_and_fits(alloc, types, &sequent)? {
         return Err(Memory);
     }
     replay(alloc, types, sequent, rules)
@@ -123,20 +122,23 @@ pub(crate) fn results(
     sequent: Sequent,
     rule: &Rule,
 ) -> Result<Vec<Sequent>, StepFault> {
-    if !types_and_fits(types, &sequent) {
+    if !types_and_fits(alloc, types, &sequent)? {
         return Err(StepFault::Memory);
     }
     step(alloc, types, sequent, rule)
 }
 
-fn types_and_fits(types: &VarTable, sequent: &Sequent) -> bool
-    ensures types { IsTrue result → Types types.now (sequent_of sequent.now) }
-    ensures within { IsTrue result → IsWithin (sequent_of sequent.now) }
+fn types_and_fits(alloc: Global, types: &VarTable, sequent: &Sequent) -> Result<bool, Memory>
+    ensures types { result ≡ Ok true → Types types.now (sequent_of sequent.now) }
+    ensures within { result ≡ Ok true → IsWithin (sequent_of sequent.now) }
 {
-    all_predicates(types, &sequent.hyps)
-        && is_predicate(types, &sequent.goal)
-        && all_fit(&sequent.hyps)
-        && fits(&sequent.goal)
+    if !all_fit(&sequent.hyps) || !fits(&sequent.goal) {
+        return Ok(false);
+    }
+    if !all_predicates(alloc, types, &sequent.hyps)? {
+        return Ok(false);
+    }
+    is_predicate(alloc, types, &sequent.goal)
 }
 
 fn all_fit(forms: &[Form]) -> bool
@@ -155,59 +157,24 @@ fn fits(form: &Form) -> bool
     form.size() <= MOST_NODES && form.depth() <= GREATEST_HEIGHT
 }
 
-fn all_predicates(types: &VarTable, forms: &[Form]) -> bool
-    ensures { IsTrue result → Each (IsPredicate types.now) forms.now }
+fn all_predicates(alloc: Global, types: &VarTable, forms: &[Form]) -> Result<bool, Memory>
+    ensures { result ≡ Ok true → Each (IsPredicate types.now) forms.now }
 {
-    match forms {
-        [] => true,
-        [first, others @ ..] => is_predicate(types, first) && all_predicates(types, others),
+    let [first, others @ ..] = forms else {
+        return Ok(true);
+    };
+    if !is_predicate(alloc, types, first)? {
+        return Ok(false);
     }
+    all_predicates(alloc, types, others)
 }
 
-// Whether it is one of the predicates that the tests use.
-fn is_predicate(types: &VarTable, form: &Form) -> bool
-    ensures { IsTrue result → role types.now [] form.now ≡ predicate }
+fn is_predicate(alloc: Global, types: &VarTable, form: &Form) -> Result<bool, Memory>
+    ensures { result ≡ Ok true → role types.now [] form.now ≡ predicate }
 {
-    match form.view() {
-        View::Un(UnOp::Not, operand) => is_predicate(types, operand),
-        View::Bin(BinOp::And, left, right)
-        | View::Bin(BinOp::Or, left, right)
-        | View::Bin(BinOp::Imp, left, right) => {
-            is_predicate(types, left) && is_predicate(types, right)
-        }
-        View::Bin(BinOp::Eq, left, right)
-        | View::Bin(BinOp::Lt, left, right)
-        | View::Bin(BinOp::Le, left, right) => is_number(types, left) && is_number(types, right),
-        View::Bin(BinOp::In, left, right) => is_number(types, left) && is_interval(types, right),
-        _ => false,
-    }
-}
-
-fn is_interval(types: &VarTable, form: &Form) -> bool
-    ensures { IsTrue result → role types.now [] form.now ≡ gives (set_type int_type) }
-{
-    match form.view() {
-        View::Bin(BinOp::Range, low, high) => is_number(types, low) && is_number(types, high),
-        _ => false,
-    }
-}
-
-fn is_number(types: &VarTable, form: &Form) -> bool
-    ensures { IsTrue result → role types.now [] form.now ≡ gives int_type }
-{
-    match form.view() {
-        View::Int(_) => true,
-        View::Var(index) => is_integer(types, index),
-        View::Bin(BinOp::Add, left, right) => is_number(types, left) && is_number(types, right),
-        _ => false,
-    }
-}
-
-fn is_integer(types: &VarTable, index: u32) -> bool
-    ensures { IsTrue result → variable_type types.now index ≡ Some int_type }
-{
-    match types.ty(index) {
-        Some(ty) => ty.equal(&Ty::int()),
-        None => false,
+    let none = Vec::new(alloc);
+    match role_of(alloc, form, &none, types)? {
+        Role::Predicate => Ok(true),
+        _ => Ok(false),
     }
 }

@@ -59,13 +59,27 @@ fn grounded(alloc: Global, name: &[u8], rule: RawRule) -> Result<Option<Rule>, M
     Ok(rules.pop())
 }
 
+// The rule that it stands for there.
+fn only(alloc: Global, name: &[u8], rule: RawRule) -> Result<Rule, Fail> {
+    match grounded(alloc, name, rule)? {
+        Some(rule) => Ok(rule),
+        None => Err("no rule".into()),
+    }
+}
+
 // ---- names
+fn is_interval_law(rule: &Rule) -> bool {
+    match rule {
+        Rule::Law { law, .. } => *law == 105,
+        _ => false,
+    }
+}
+
 // Whether `name$level` means something in the script.
-fn is_seen(alloc: Global, script: &str, name: &str, level: u32) -> Result<bool, Memory> {
+fn is_seen(alloc: Global, script: &str, name: &str, level: u32) -> Result<bool, Fail> {
     let term = level_name(alloc, name.as_bytes(), level)?;
     let rule = law(alloc, b"O5", term)?;
-    let found = grounded(alloc, script.as_bytes(), rule)?;
-    Ok(matches!(found, Some(Rule::Law { law: 105, .. })))
+    Ok(is_interval_law(&only(alloc, script.as_bytes(), rule)?))
 }
 
 #[test]
@@ -99,21 +113,36 @@ fn expected_picks(alloc: Global) -> Result<Vec<Form>, Memory> {
     Ok(vec![in alloc; next, low, high]?)
 }
 
+// Whether it is a law at the goal, with these picks.
+fn is_law_at(rule: &Rule, wanted: &[Form]) -> bool {
+    match rule {
+        Rule::Law {
+            picks,
+            place: Place::Goal(_),
+            ..
+        } => Form::equal_all(picks, wanted),
+        _ => false,
+    }
+}
+
 #[test]
 fn terms_become_their_formulas(rt: HostRuntime) -> Result<(), Fail> {
     let alloc = rt.alloc();
-    let rule = law(alloc, b"O5", next(alloc)?)?;
-    let Some(Rule::Law { picks, place, .. }) = grounded(alloc, b"Counter.reset.1", rule)? else {
-        return Err("no law".into());
-    };
-    assert!(rt; Form::equal_all(&picks, &expected_picks(alloc)?));
-    assert!(rt; matches!(place, Place::Goal(_)));
+    let wanted = expected_picks(alloc)?;
+    let rule = only(alloc, b"Counter.reset.1", law(alloc, b"O5", next(alloc)?)?)?;
+    assert!(rt; is_law_at(&rule, &wanted));
     Ok(())
 }
 
-fn is_unread(alloc: Global, rule: RawRule) -> Result<bool, Memory> {
-    let found = grounded(alloc, b"Counter.reset.1", rule)?;
-    Ok(matches!(found, Some(Rule::Unread)))
+fn means_nothing(rule: &Rule) -> bool {
+    match rule {
+        Rule::Unread => true,
+        _ => false,
+    }
+}
+
+fn is_unread(alloc: Global, rule: RawRule) -> Result<bool, Fail> {
+    Ok(means_nothing(&only(alloc, b"Counter.reset.1", rule)?))
 }
 
 #[test]
@@ -148,17 +177,22 @@ fn is_at_second_child(rule: &Rule) -> bool {
     }
 }
 
-fn place_stays(alloc: Global) -> Result<bool, Memory> {
+fn place_stays(alloc: Global) -> Result<bool, Fail> {
     let place = RawPlace::Hyp(3, vec![in alloc; 2]?);
-    match grounded(alloc, b"Counter.reset.1", RawRule::Qe(7, place))? {
-        Some(rule) => Ok(is_at_second_child(&rule)),
-        None => Ok(false),
+    let rule = only(alloc, b"Counter.reset.1", RawRule::Qe(7, place))?;
+    Ok(is_at_second_child(&rule))
+}
+
+fn splits_last(rule: &Rule) -> bool {
+    match rule {
+        Rule::Split(number) => *number == 4294967295,
+        _ => false,
     }
 }
 
-fn number_stays(alloc: Global) -> Result<bool, Memory> {
-    let found = grounded(alloc, b"Counter.reset.1", RawRule::Split(4294967295))?;
-    Ok(matches!(found, Some(Rule::Split(4294967295))))
+fn number_stays(alloc: Global) -> Result<bool, Fail> {
+    let rule = only(alloc, b"Counter.reset.1", RawRule::Split(4294967295))?;
+    Ok(splits_last(&rule))
 }
 
 #[test]
@@ -169,10 +203,10 @@ fn numbers_stay(rt: HostRuntime) -> Result<(), Fail> {
 }
 
 // The only line of a certificate.
-fn only_line(alloc: Global, line: RawLine) -> Result<Option<Line>, Memory> {
-    match grounded(alloc, b"Counter.reset.1", lin(alloc, 2, line)?)? {
-        Some(Rule::Lin { mut lines, .. }) => Ok(lines.pop()),
-        _ => Ok(None),
+fn only_line(rule: &Rule) -> Option<&Line> {
+    match rule {
+        Rule::Lin { lines, .. } => lines.first(),
+        _ => None,
     }
 }
 
@@ -184,12 +218,22 @@ fn is_multiple(line: &Line) -> bool {
     }
 }
 
+// Whether it is `6 / 7`.
+fn is_division(line: &Line) -> bool {
+    match line {
+        Line::Sum(_) => false,
+        Line::Div { fact, by } => *fact == 6 && *by == 7,
+    }
+}
+
 #[test]
 fn lines_stay(rt: HostRuntime) -> Result<(), Fail> {
     let alloc = rt.alloc();
-    let line = only_line(alloc, multiple(alloc, -4, 5)?)?;
-    assert!(rt; line.is_some_and(|line| is_multiple(&line)));
-    let line = only_line(alloc, RawLine::Div { fact: 6, by: 7 })?;
-    assert!(rt; matches!(line, Some(Line::Div { fact: 6, by: 7 })));
+    let sum = lin(alloc, 2, multiple(alloc, -4, 5)?)?;
+    let rule = only(alloc, b"Counter.reset.1", sum)?;
+    assert!(rt; only_line(&rule).is_some_and(is_multiple));
+    let division = lin(alloc, 2, RawLine::Div { fact: 6, by: 7 })?;
+    let rule = only(alloc, b"Counter.reset.1", division)?;
+    assert!(rt; only_line(&rule).is_some_and(is_division));
     Ok(())
 }

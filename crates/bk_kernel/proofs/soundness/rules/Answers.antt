@@ -1,10 +1,5 @@
-use Rattle.bk_kernel.proofs.Kept.{rules-keep-types}
-use Rattle.bk_kernel.proofs.Functional.{rules-are-functions}
-use Rattle.bk_kernel.proofs.SoundRules.{rules-are-sound}
+use Rattle.bk_kernel.proofs.SoundRules.{rules-are-functions, rules-are-sound}
 use Rattle.bk_kernel.proofs.soundness.rules.Goals as goal
-
-pub returns-clause-types : goal.returns-clause-types
-returns-clause-types c = rules-keep-types
 
 pub returns-clause-functions : goal.returns-clause-functions
 returns-clause-functions c = rules-are-functions
