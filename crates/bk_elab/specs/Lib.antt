@@ -1,3 +1,14 @@
 pub mod Scope
 pub mod Terms
 pub mod Faults
+pub mod Blame
+pub mod Joins
+pub mod Expressions
+pub mod ExpressionView
+pub mod ExpressionFalls
+pub mod Shown
+pub mod Shapes
+pub mod Sights
+pub mod Laws
+pub mod Conjuncts
+pub mod Forms

@@ -1,10 +1,29 @@
-//! What written terms mean: formulas over the variables in sight. So far terms over numbers.
+//! What written terms mean: formulas over the names in sight, or the first of their faults. The terms over numbers of
+//! `term` stand beside them until the program reads all terms so.
 #![tactic(auto)]
 
+mod binder;
+pub mod blame;
+pub mod error;
+mod form;
+pub mod in_scope;
+pub mod laws;
+mod made;
 pub mod meaning;
+mod operator;
+mod outcome;
+mod part;
+mod partial;
+mod reading;
 pub mod scope;
+mod sight;
 pub mod term;
+mod word;
+mod written;
 
+pub use blame::{Fault, earlier};
+pub use error::ElabFault;
+pub use in_scope::formula;
 pub use meaning::Meaning;
 pub use scope::Scope;
 pub use term::{condition, expression};

@@ -7,8 +7,8 @@ use bk_io::{Memory, Text};
 use std::alloc::Global;
 use std::marker::Model;
 
-/// The names that a term may use, each with the number of the variable that it stands for. Of several entries with one
-/// name the last is meant.
+/// The names that a term may use, each with the number of the variable that it stands for. Of several entries with
+/// one name the last is meant.
 #[derive(Drop)]
 pub struct Scope {
     entries: Vec<(Text, u32)>,

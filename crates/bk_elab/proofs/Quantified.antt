@@ -1,0 +1,67 @@
+-- What a quantifier reads as, from what its parts read as.
+use Rattle.std.proofs.Common.{◌≡◌, ℕ, suc, ◌≤◌, List, [], length, take, drop, refl, sym, ◌∙◌, ap, subst, Bool, true, false, ℤ, arith}
+use Rattle.std.specs.Prelude.{Option}
+use Rattle.std.proofs.lemmas.List.{take_all}
+use Rattle.bk_form.specs.Role.{bind}
+use Rattle.bk_raw.specs.RawTree.{RawTree}
+use Rattle.bk_raw.specs.declared.term.RawName.{RawName}
+use Rattle.bk_raw.specs.declared.term.RawBound.{RawBound}
+use Rattle.bk_raw.specs.Binders.{Bound, bound_names, inside, locals, twice, quantified}
+use Rattle.bk_raw.specs.Names.{Names, count_locals}
+use Rattle.bk_raw.specs.Outcome.{Fault, Reading}
+use Rattle.bk_raw.specs.Printed.{printed_bounds, wrong_bounds}
+use Rattle.bk_raw.specs.TermReading.{reading, part}
+use Rattle.bk_elab.specs.Blame.{blame}
+use Rattle.bk_elab.specs.declared.blame.Fault.{Fault as ToldFault}
+use Rattle.bk_elab.specs.declared.outcome.Step.{Step}
+use Rattle.bk_elab.specs.declared.sight.Local.{Local}
+use Rattle.bk_elab.specs.declared.sight.Reader.{Reader}
+use Rattle.bk_elab.specs.Shown.{told, IsRead}
+use Rattle.bk_elab.specs.Sights.{names_of, names_below, bounds_of, bounds_from, outer_names, read_by, node_by, Stands, StandsBelow, quantifier, named_node, numbered_node, clues_by}
+use Rattle.bk_elab.proofs.Readings.{names-split, below-stands}
+use Rattle.bk_elab.proofs.Sighted.{all-counted}
+
+-- below all of its bound names a reader has the names that it had
+pub names-below-all : (n : ℕ) (old new : Reader) → n ≡ length old.locals.items → StandsBelow n old new → names_below n new ≡ names_of old
+names-below-all n old new e h =
+    let all : take n old.locals.items ≡ old.locals.items = take_all n old.locals.items (omega arith) in
+    below-stands n old new h ∙ ap (λ (ls : List Local). bind (locals (bounds_of ls)) (outer_names old)) all
+
+-- with these names from a place on it has them in front
+pub names-inside : (n : ℕ) (old new : Reader) (bs : List Bound) → n ≡ length old.locals.items → StandsBelow n old new → bounds_from n new ≡ bs → names_of new ≡ inside bs (names_of old)
+names-inside n old new bs e h b = names-split n new ∙ (λ i. inside (b i) (names-below-all n old new e h i))
+
+-- the body is read with these names in front
+body-read : (n : ℕ) (old new : Reader) (bs : List Bound) (t : RawTree) → n ≡ length old.locals.items → StandsBelow n old new → bounds_from n new ≡ bs → read_by new t ≡ reading old.scope.now.max (inside bs (names_of old)) t
+body-read n old new bs t e h b = λ i. reading (h.scope i).max (names-inside n old new bs e h b i) t
+
+pub finished : (universal : Bool) (n : ℕ) (old mid new : Reader) (bs : List Bound) (t : RawTree) (fs : List Fault) (fault : Option ToldFault) (body s : Step) →
+    n ≡ length old.locals.items → StandsBelow n old mid → bounds_from n mid ≡ bs → Stands mid new → told fault ≡ blame fs → IsRead body (part true t (read_by mid t)) →
+    ((gs : List Fault) (q : Reading) → told fault ≡ blame gs → IsRead body q → IsRead s (quantified (quantifier universal) gs (bounds_from n new) q)) →
+    IsRead s (quantified (quantifier universal) fs bs (part true t (reading old.scope.now.max (inside bs (names_of old)) t)))
+finished universal n old mid new bs t fs fault body s e h b k g r f =
+    let same : bounds_from n new ≡ bs = ap (λ (ls : List Local). bounds_of (drop n ls)) k.locals ∙ b in
+    subst (λ (x : Reading). IsRead s (quantified (quantifier universal) fs bs (part true t x))) (body-read n old mid bs t e h b)
+    (subst (λ (cs : List Bound). IsRead s (quantified (quantifier universal) fs cs (part true t (read_by mid t)))) same (f fs (part true t (read_by mid t)) g r))
+
+pub named-read : (universal : Bool) (r : Reader) (at : ℕ) (xs : List RawName) (t : RawTree) (s : Step) →
+    IsRead s (quantified (quantifier universal) (twice [] xs) (clues_by universal r.scope.now.max (names_of r) (bound_names xs) t) (part true t (reading r.scope.now.max (inside (clues_by universal r.scope.now.max (names_of r) (bound_names xs) t) (names_of r)) t))) →
+    IsRead s (node_by r at (named_node universal xs t))
+named-read true r at xs t s h = h
+named-read false r at xs t s h = h
+
+pub numbered-read : (universal : Bool) (r : Reader) (at : ℕ) (bs : List RawBound) (t : RawTree) (s : Step) →
+    IsRead s (quantified (quantifier universal) (wrong_bounds (suc (count_locals (names_of r))) bs) (printed_bounds (names_of r) bs) (part true t (reading r.scope.now.max (inside (printed_bounds (names_of r) bs) (names_of r)) t))) →
+    IsRead s (node_by r at (numbered_node universal bs t))
+numbered-read true r at bs t s h = h
+numbered-read false r at bs t s h = h
+
+-- the types of a quantifier's names, where the names were pushed first
+pub clues-same : (universal : Bool) (n : ℕ) (old mid new : Reader) (xs : List RawName) (t : RawTree) → n ≡ length old.locals.items → StandsBelow n old mid → bounds_from n mid ≡ bound_names xs →
+    bounds_from n new ≡ clues_by universal mid.scope.now.max (names_below n mid) (bounds_from n mid) t → bounds_from n new ≡ clues_by universal old.scope.now.max (names_of old) (bound_names xs) t
+clues-same universal n old mid new xs t e h b c = c ∙ (λ i. clues_by universal (h.scope i).max (names-below-all n old mid e h i) (b i) t)
+
+pub bounds-told : (r : Reader) (bs : List RawBound) (fault : Option ToldFault) → told fault ≡ blame (wrong_bounds (suc (length r.locals.items)) bs) → told fault ≡ blame (wrong_bounds (suc (count_locals (names_of r))) bs)
+bounds-told r bs fault h = h ∙ ap (λ (n : ℕ). blame (wrong_bounds (suc n) bs)) (sym (all-counted r))
+
+pub ruleset quantifying = (names-below-all, names-inside, named-read, numbered-read, clues-same, bounds-told)

@@ -1,0 +1,12 @@
+use Rattle.std.proofs.Common.{◌≡◌, ℕ, Bool, false, sym, subst, ap}
+use Rattle.bk_raw.specs.Outcome.{Reading, Outcome}
+use Rattle.bk_raw.specs.OperatorReadings.{extended}
+use Rattle.bk_raw.specs.TermReading.{part, place_of, from_two}
+use Rattle.bk_elab.specs.declared.operator.Places.{Places}
+use Rattle.bk_elab.specs.Shown.{IsRead}
+use Rattle.bk_elab.proofs.Combined.{two-read}
+use Rattle.bk_elab.proofs.part.extended_by.Goals as goal
+
+pub returns : goal.returns
+returns c = λ b r h g.
+    two-read (extended c.args.at) b (part false c.args.term.now r) c.args.set c.placed-read.result _ c.behind.result c.earlier-fault.result h (c.placed-read.ensures r g) c.earlier-fault.ensures c.in_ok-step.ensures c.behind.ensures

@@ -1,0 +1,11 @@
+use Rattle.std.proofs.Common.{◌≡◌, ℕ, Bool, false, sym, subst}
+use Rattle.bk_raw.specs.Outcome.{Reading}
+use Rattle.bk_raw.specs.OperatorReadings.{single_reading}
+use Rattle.bk_raw.specs.TermReading.{part, place_of, from_one}
+use Rattle.bk_elab.specs.Shown.{IsRead}
+use Rattle.bk_elab.proofs.Combined.{one-read}
+use Rattle.bk_elab.proofs.part.single_of.Goals as goal
+
+pub returns : goal.returns
+returns c = λ r h.
+    one-read single_reading (part false c.args.term.now r) c.placed-read.result _ c.behind.result (c.placed-read.ensures r h) c.in_ok-step.ensures c.behind.ensures

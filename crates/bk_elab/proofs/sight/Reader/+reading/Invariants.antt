@@ -1,0 +1,65 @@
+use Rattle.std.proofs.Common.{◌≡◌, ◌+◌, ◌*◌, ◌++◌, ℕ, suc, drop}
+use Rattle.bk_raw.specs.Names.{count_locals}
+use Rattle.bk_raw.specs.Printed.{printed_ranges, wrong_ranges}
+use Rattle.bk_raw.specs.RawTree.{tree_size, trees_size, ranges_size, trees_of}
+use Rattle.bk_raw.specs.RawView.{ranges_of}
+use Rattle.bk_raw.specs.TermReading.{extension_reading, range_reads}
+use Rattle.bk_elab.specs.Blame.{blame, earlier}
+use Rattle.bk_elab.specs.Shown.{told}
+use Rattle.bk_elab.specs.Sights.{names_of, ranges_as, Stands}
+use Rattle.bk_elab.proofs.Elements.{SetSoFar}
+use Rattle.bk_elab.proofs.Sizes.{option_size}
+use Rattle.bk_elab.proofs.sight.Reader.+reading.Given as goal
+
+abbrev pub decreases-read : goal.decreases-read
+decreases-read l = 8 * tree_size l.term.now
+
+abbrev pub decreases-one_part : goal.decreases-one_part
+decreases-one_part l = 8 * tree_size l.part.now + 1
+
+abbrev pub decreases-two_parts : goal.decreases-two_parts
+decreases-two_parts l = 8 * (tree_size l.left.now + tree_size l.right.now) + 1
+
+abbrev pub decreases-extension : goal.decreases-extension
+decreases-extension l = 8 * trees_size (trees_of l.elements.now) + 1
+
+abbrev pub decreases-clues : goal.decreases-clues
+decreases-clues l = 8 * tree_size l.term.now + 1
+
+abbrev pub decreases-ranges : goal.decreases-ranges
+decreases-ranges l = 8 * tree_size l.term.now + 1
+
+abbrev pub decreases-rest : goal.decreases-rest
+decreases-rest l = 8 * tree_size l.term.now + 1
+
+abbrev pub decreases-quantifier : goal.decreases-quantifier
+decreases-quantifier l = 8 * tree_size l.body.now + 2
+
+abbrev pub decreases-numbered_quantifier : goal.decreases-numbered_quantifier
+decreases-numbered_quantifier l = 8 * tree_size l.body.now + 1
+
+abbrev pub decreases-range_names : goal.decreases-range_names
+decreases-range_names l = 8 * tree_size l.body.now + 2
+
+abbrev pub decreases-abstraction : goal.decreases-abstraction
+decreases-abstraction l = 8 * (tree_size l.body.now + option_size l.value) + 3
+
+abbrev pub decreases-numbered_ranges : goal.decreases-numbered_ranges
+decreases-numbered_ranges l = 8 * ranges_size (ranges_of l.ranges.now) + 1
+
+abbrev pub decreases-numbered_abstraction : goal.decreases-numbered_abstraction
+decreases-numbered_abstraction l = 8 * (ranges_size (ranges_of l.ranges.now) + (tree_size l.body.now + option_size l.value)) + 3
+
+abbrev pub invariant-extension-loop-element : goal.invariant-extension-loop-element
+invariant-extension-loop-element l = record {
+  set : SetSoFar l.fn.self.scope.now.max (names_of l.fn.self) l.at l.set (drop l.element-index l.others) (extension_reading l.fn.self.scope.now.max (names_of l.fn.self) l.at (trees_of l.elements));
+  stands : Stands l.fn.self l.self;
+}
+
+-- the ranges so far and those that are left are all, and so are their faults
+abbrev pub invariant-numbered_ranges-loop-index : goal.invariant-numbered_ranges-loop-index
+invariant-numbered_ranges-loop-index l = record {
+  ranges : ranges_as l.found.names.items ++ printed_ranges (range_reads l.fn.self.scope.now.max (names_of l.fn.self) (ranges_of (drop l.index l.ranges))) ≡ printed_ranges (range_reads l.fn.self.scope.now.max (names_of l.fn.self) (ranges_of l.ranges));
+  faults : earlier (told l.found.fault) (blame (wrong_ranges (suc (count_locals (names_of l.fn.self) + l.index)) (range_reads l.fn.self.scope.now.max (names_of l.fn.self) (ranges_of (drop l.index l.ranges))))) ≡ blame (wrong_ranges (suc (count_locals (names_of l.fn.self))) (range_reads l.fn.self.scope.now.max (names_of l.fn.self) (ranges_of l.ranges)));
+  stands : Stands l.fn.self l.self;
+}

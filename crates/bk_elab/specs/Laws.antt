@@ -1,0 +1,12 @@
+-- What is shown of the fault that is told.
+use Rattle.std.specs.Prelude.{◌≡◌, List, ◌++◌}
+use Rattle.bk_raw.specs.Outcome.{Fault}
+use Rattle.bk_elab.specs.Blame.{blame, earlier, IsBlameOf}
+
+-- the fault that is told is one of those that there are, and none is before it
+abbrev pub BlameIsFirst : Type 0
+BlameIsFirst = (fs : List Fault) → IsBlameOf (blame fs) fs
+
+-- what is told of two lists of faults is the earlier of what is told of each: so one fault is kept on the way
+abbrev pub BlameJoins : Type 0
+BlameJoins = (fs gs : List Fault) → blame (fs ++ gs) ≡ earlier (blame fs) (blame gs)
