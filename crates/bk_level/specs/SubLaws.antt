@@ -1,0 +1,26 @@
+-- What is shown of written substitutions.
+use Rattle.std.specs.Prelude.{◌≡◌, ℕ, ℤ, Bool, []}
+use Rattle.bk_form.specs.Table.{Table}
+use Rattle.bk_gsl.specs.Typed.{Types}
+use Rattle.bk_dev.specs.Facts.{binders, AreDistinct, StaysIn}
+use Rattle.bk_raw.specs.SubTree.{SubTree}
+use Rattle.bk_raw.specs.Names.{Names}
+use Rattle.bk_raw.specs.Speaking.{AreTyped}
+use Rattle.bk_level.specs.Typings.{Typing, interval, typed}
+use Rattle.bk_level.specs.Binders.{binder_count}
+use Rattle.bk_level.specs.Elaborated.{elaborated}
+use Rattle.bk_level.specs.SubFaults.{sub_faults}
+use Rattle.bk_level.specs.Settled.{IsSettled, AreOf, AreSeen, IsBelow}
+
+-- what a substitution binds is an interval of numbers, each once
+abbrev pub BindersAreIntervals : Type 0
+BindersAreIntervals = (int_max : ℤ) (typing : Typing) (above names : Names) (n : ℕ) (s : SubTree) → (binders (elaborated int_max typing above names n s) ≡ interval n (binder_count s)) × AreDistinct (binders (elaborated int_max typing above names n s))
+
+-- where the types are those of a table, a substitution without a fault types in it
+abbrev pub SubstitutionsType : Type 0
+SubstitutionsType = (int_max : ℤ) (table : Table) (typing : Typing) → IsSettled table typing → (above names : Names) → AreOf table above → AreOf table names → AreTyped (typed typing names) → (writable : ℕ → Bool) (n : ℕ) (s : SubTree) → sub_faults int_max typing above names writable n s ≡ [] → Types table (elaborated int_max typing above names n s)
+
+-- where the names are variables that may be seen, whose numbers are below the counter, a substitution without a fault names, writes
+-- and binds what it may
+abbrev pub SubstitutionsStay : Type 0
+SubstitutionsStay = (int_max : ℤ) (table : Table) (typing : Typing) → IsSettled table typing → (higher names : Names) → AreOf table higher → AreOf table names → AreTyped (typed typing names) → (above visible writable : ℕ → Bool) → AreSeen above higher → AreSeen visible names → (n : ℕ) → IsBelow n visible → (s : SubTree) → sub_faults int_max typing higher names writable n s ≡ [] → StaysIn visible above writable (elaborated int_max typing higher names n s)

@@ -1,0 +1,48 @@
+-- Fault 14: the values of constants.
+use Rattle.std.specs.Prelude.{ℕ, ℤ, Bool, true, false, cond, not, ◌&&◌, List, [], ◌∷◌, ◌++◌, Option, None, Some}
+use Rattle.bk_gsl.specs.State.{among}
+use Rattle.bk_dev.specs.Development.{is_implementing}
+use Rattle.bk_raw.specs.declared.component.RawValue.{RawValue}
+use Rattle.bk_raw.specs.Names.{Names}
+use Rattle.bk_raw.specs.Outcome.{Fault}
+use Rattle.bk_level.specs.Components.{Component}
+use Rattle.bk_level.specs.Typings.{Typing, variable_in, target, variable_named}
+use Rattle.bk_level.specs.SubFaults.{is_again, with_target}
+use Rattle.bk_level.specs.Plan.{Plan}
+use Rattle.bk_level.specs.LevelOf.{value_of}
+
+-- whether it is there
+abbrev pub is_there : {A : Type 0} → Option A → Bool
+is_there None = false
+is_there (Some x) = true
+
+-- an entry for no constant, one that is no value of its constant (no literal within INT, TRUE, FALSE or element, or of another type),
+-- and one for a constant that stands before
+abbrev pub entry_value_faults : ℤ → Typing → Names → List ℕ → List RawValue → List Fault
+entry_value_faults int_max typing globals before [] = []
+entry_value_faults int_max typing globals before (v ∷ vs) =
+    cond (is_there (value_of int_max typing globals v) && not (is_again before (target globals v.name.text))) [] ((14, v.name.at) ∷ []) ++ entry_value_faults int_max typing globals (with_target (target globals v.name.text) before) vs
+
+-- the number of a constant, if it is there
+abbrev pub with_number : Option ℕ → List ℕ → List ℕ
+with_number None ns = ns
+with_number (Some n) ns = n ∷ ns
+
+-- the constants that have an entry
+abbrev pub valued : Names → List RawValue → List ℕ
+valued globals [] = []
+valued globals (v ∷ vs) = with_number (variable_named globals v.name.text) (valued globals vs)
+
+-- whether the number is there, and none of these
+abbrev pub is_missing : List ℕ → Option ℕ → Bool
+is_missing entries None = false
+is_missing entries (Some n) = not (among entries n)
+
+-- constants without a value, at the implementation's name
+abbrev pub without_value : ℕ → List ℕ → Names → List Fault
+without_value at entries [] = []
+without_value at entries (n ∷ ns) = cond (is_missing entries (variable_in n.meaning)) ((14, at) ∷ []) [] ++ without_value at entries ns
+
+-- those of an implementation
+abbrev pub value_faults_of : ℤ → Typing → Plan → Component → List Fault
+value_faults_of int_max typing p c = cond (is_implementing c.kind) (entry_value_faults int_max typing p.globals [] c.values ++ without_value c.name.at (valued p.globals c.values) p.globals) []

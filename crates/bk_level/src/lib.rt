@@ -1,0 +1,4 @@
+//! Levels of a development, as they are written.
+#![tactic(auto)]
+
+pub mod laws;
