@@ -1,0 +1,5 @@
+//! Tests of substitutions as they are written.
+#![tactic(auto)]
+
+#[cfg(test)]
+mod substitutions;
