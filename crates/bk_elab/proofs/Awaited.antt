@@ -65,7 +65,7 @@ typed-first text (l ∷ ls) (suc n) d t h e g k = by (bytes_eq l.text.now text) 
     by true q f = let no : true ≡ false = q in cc
     by false q f = ap (λ (bs : List Bound). record { text = l.text.now; at = l.at; of_type = l.ty } ∷ bs) (f q)
 
-length-bounds : (ls : List Local) → length (bounds_of ls) ≡ length ls
+pub length-bounds : (ls : List Local) → length (bounds_of ls) ≡ length ls
 length-bounds [] = refl
 length-bounds (l ∷ ls) = ap suc (length-bounds ls)
 

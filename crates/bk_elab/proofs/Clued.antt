@@ -11,7 +11,11 @@ use Rattle.bk_raw.specs.declared.operator.InfixOp.TheVariants.{And, Implies, Mem
 use Rattle.bk_raw.specs.declared.term.RawName.{RawName}
 use Rattle.bk_raw.specs.RawTree.{RawTree, raw, raw_infix, raw_comprehension, raw_lambda, tree_size}
 use Rattle.bk_raw.specs.FreeNames.{conjuncts}
-use Rattle.bk_elab.specs.Conjuncts.{and_sides, infix_sides, premise_of}
+use Rattle.bk_elab.specs.Conjuncts.{and_sides, infix_sides, implies_sides, IsRight}
+use Rattle.bk_elab.specs.declared.form.TwoParts.TheVariants.{Infix}
+use Rattle.bk_elab.specs.Forms.{two_reading}
+use Rattle.bk_elab.specs.Kept.{gives_no_range}
+use Rattle.bk_elab.proofs.Lasting.{form-gives}
 use Rattle.bk_raw.specs.Names.{Names}
 use Rattle.bk_raw.specs.Outcome.{Fault, Outcome, Reading}
 use Rattle.bk_raw.specs.Binders.{Bound, typed_by, told_by, Ranged, unranged, as_bound, inside, ranged_by, ranges_by, is_and, is_used, left_over, twice, comprehended, abstracted, body_of}
@@ -21,7 +25,7 @@ use Rattle.bk_elab.specs.declared.blame.Fault.{Fault as ToldFault}
 use Rattle.bk_elab.specs.declared.outcome.Step.{Step}
 use Rattle.bk_elab.specs.declared.sight.Reader.{Reader}
 use Rattle.bk_elab.specs.Shown.{told, IsRead}
-use Rattle.bk_elab.specs.Sights.{names_of, node_by, clue_type, tells_type, range_told, tells_range, given_at, AwaitsNone, AwaitsAt, taken_at, LacksNone, LacksAt, TypesNone, TypesAs, TellsNoType, TellsType, TellsNoRange, TellsRange}
+use Rattle.bk_elab.specs.Sights.{names_of, node_by, clue_type, tells_type, range_told, tells_range, given_at, AwaitsNone, AwaitsAt, taken_at, LacksNone, LacksAt, TellsNoType, TellsType, TellsNoRange, TellsRange}
 
 none-pair : (a b : RawTree) → ◌≡◌ {A = Option (RawTree × RawTree)} None (Some (a, b)) → ⊥
 none-pair a b h = let no : ◌≡◌ {A = Option (RawTree × RawTree)} None (Some (a, b)) = h in cc
@@ -145,28 +149,34 @@ not-both (raw at (raw_infix p x y)) a b o h k =
 not-both (raw at _) a b o h k = absurd (none-infix o a b k)
 
 -- the types of a left side of =>
-pub premise-clued : (m : ℤ) (names : Names) (bs : List Bound) (t a : RawTree) → premise_of t ≡ Some a → premise_clues m names bs t ≡ clues m names bs a
-premise-clued m names bs (raw at (raw_infix Implies x y)) a h =
-    let one : x ≡ a = let e : Some x ≡ Some a = h in cc in
+pub premise-clued : (m : ℤ) (names : Names) (bs : List Bound) (t a b : RawTree) → implies_sides t ≡ Some (a, b) → premise_clues m names bs t ≡ clues m names bs a
+premise-clued m names bs (raw at (raw_infix Implies x y)) a b h =
+    let one : x ≡ a = fst-same x y a b h in
     ap (clues m names bs) one
-premise-clued m names bs (raw at _) a h = absurd (none-one a h)
+premise-clued m names bs (raw at _) a b h = absurd (none-pair a b h)
 
-pub premise-none : (m : ℤ) (names : Names) (bs : List Bound) (t : RawTree) → premise_of t ≡ None → premise_clues m names bs t ≡ bs
-premise-none m names bs (raw at (raw_infix Implies x y)) h = absurd (none-one x (sym h))
+pub premise-none : (m : ℤ) (names : Names) (bs : List Bound) (t : RawTree) → implies_sides t ≡ None → premise_clues m names bs t ≡ bs
+premise-none m names bs (raw at (raw_infix Implies x y)) h = absurd (none-pair x y (sym h))
 premise-none m names bs (raw at _) h = refl
 
-pub premise-size : (t a : RawTree) → premise_of t ≡ Some a → tree_size a ≤ tree_size t
-premise-size (raw at (raw_infix Implies x y)) a h =
-    let one : x ≡ a = let e : Some x ≡ Some a = h in cc in
-    subst (λ (z : RawTree). tree_size z ≤ tree_size (raw at (raw_infix Implies x y))) one (omega arith)
-premise-size (raw at _) a h = absurd (none-one a h)
+-- what terms between two parts read as
+pub implies-read : (m : ℤ) (names : Names) (t a b : RawTree) → implies_sides t ≡ Some (a, b) → two_reading (Infix Implies) (place_of t) a b (reading m names a) (reading m names b) ≡ reading m names t
+implies-read m names (raw at (raw_infix Implies x y)) a b h =
+    let one : x ≡ a = fst-same x y a b h in
+    let other : y ≡ b = snd-same x y a b h in
+    λ i. two_reading (Infix Implies) at (sym one i) (sym other i) (reading m names (sym one i)) (reading m names (sym other i))
+implies-read m names (raw at _) a b h = absurd (none-pair a b h)
 
-pub premise-matched : (t : RawTree) (r : Option (Bor RawTree)) → option_copied r ≡ premise_of t → MatchOption r (TypesNone true t) (λ p. TypesAs true t p.now)
-premise-matched t None e = record { same = λ m names bs. premise-none m names bs t (sym e) }
-premise-matched t (Some p) e = record { small = premise-size t p.now (sym e); same = λ m names bs. premise-clued m names bs t p.now (sym e) }
+pub and-read : (m : ℤ) (names : Names) (t a b : RawTree) → and_sides t ≡ Some (a, b) → two_reading (Infix And) (place_of t) a b (reading m names a) (reading m names b) ≡ reading m names t
+and-read m names (raw at (raw_infix And x y)) a b h =
+    let one : x ≡ a = fst-same x y a b h in
+    let other : y ≡ b = snd-same x y a b h in
+    λ i. two_reading (Infix And) at (sym one i) (sym other i) (reading m names (sym one i)) (reading m names (sym other i))
+and-read m names (raw at _) a b h = absurd (none-pair a b h)
 
-pub itself : (t : RawTree) → TypesAs false t t
-itself t = record { small = omega arith; same = λ m names bs. refl }
+pub right-is : (t a b : RawTree) (o : InfixOp) → infix_sides t ≡ Some (o, a, b) → IsRight t o b
+right-is (raw at (raw_infix p x y)) a b o h = (op-same p o x y a b h, right-same p o x y a b h)
+right-is (raw at _) a b o h = absurd (none-infix o a b h)
 
 -- the parts are smaller
 pub infix-size : (t a b : RawTree) (o : InfixOp) → infix_sides t ≡ Some (o, a, b) → tree_size a + tree_size b < tree_size t
@@ -184,6 +194,14 @@ both-size (raw at (raw_infix And x y)) a b h =
     subst (λ (z : RawTree). tree_size z + tree_size b < tree_size (raw at (raw_infix And x y))) one
     (subst (λ (z : RawTree). tree_size x + tree_size z < tree_size (raw at (raw_infix And x y))) other (omega arith))
 both-size (raw at _) a b h = absurd (none-pair a b h)
+
+pub implies-size : (t a b : RawTree) → implies_sides t ≡ Some (a, b) → tree_size a + tree_size b < tree_size t
+implies-size (raw at (raw_infix Implies x y)) a b h =
+    let one : x ≡ a = fst-same x y a b h in
+    let other : y ≡ b = snd-same x y a b h in
+    subst (λ (z : RawTree). tree_size z + tree_size b < tree_size (raw at (raw_infix Implies x y))) one
+    (subst (λ (z : RawTree). tree_size x + tree_size z < tree_size (raw at (raw_infix Implies x y))) other (omega arith))
+implies-size (raw at _) a b h = absurd (none-pair a b h)
 
 -- ---- types
 -- a conjunct other than `&` tells the type of a name
@@ -251,6 +269,7 @@ typing-here bs t a d o x n h k e f =
     record {
       within = f.0;
       small = omega arith;
+      side = right-is t a d o k;
       same = λ m names. typing-named m names bs t a d o x h k e ∙ typed-place x (clue_type o (reading m (inside bs names) d).outcome) bs n f;
     }
 
@@ -324,6 +343,12 @@ ranging-other all bs t a d o h k e = record {
       ∙ ranged-other o i bs (name_of a) (ranges m names all (i + length (conjuncts a)) (ranges m names all i bs a) d) (names_one all d) (part false d (reading m names d)).outcome (not-both t a d o h k) e;
 }
 
+-- a right side that gives no range by its form
+pub ranging-formless : (all : List RawName) (bs : List Ranged) (t a d : RawTree) (o : InfixOp) (x : List ℕ) → and_sides t ≡ None → infix_sides t ≡ Some (o, a, d) → name_of a ≡ Some x → names_one all d ≡ false → gives_no_range d ≡ true → TellsNoRange all bs t
+ranging-formless all bs t a d o x h k e f g = record {
+  same = λ m names i. ranging-named m names all i bs t a d o x h k e f ∙ ap (λ (r : Option (Formula × ValueType)). ranged_by x r i bs) (form-gives m names o d g);
+}
+
 pub ranging-done : (all : List RawName) (bs : List Ranged) (t a d : RawTree) (o : InfixOp) (x : List ℕ) → and_sides t ≡ None → infix_sides t ≡ Some (o, a, d) → name_of a ≡ Some x → names_one all d ≡ false → LacksNone x bs → TellsNoRange all bs t
 ranging-done all bs t a d o x h k e f g = record {
   same = λ m names i. ranging-named m names all i bs t a d o x h k e f ∙ ranged-none x (range_told o (part false d (reading m names d)).outcome) i bs g;
@@ -335,6 +360,8 @@ ranging-here all bs t a d o x n h k e f g =
     record {
       within = g.0;
       small = omega arith;
+      side = right-is t a d o k;
+      outside = f;
       same = λ m names i. ranging-named m names all i bs t a d o x h k e f ∙ ranged-place x (range_told o (part false d (reading m names d)).outcome) i bs n g;
     }
 

@@ -16,22 +16,14 @@ use Rattle.bk_elab.specs.declared.binder.Ranged.{Ranged as RangedName}
 use Rattle.bk_elab.specs.declared.outcome.Step.{Step}
 use Rattle.bk_elab.specs.declared.sight.Reader.{Reader}
 use Rattle.bk_elab.specs.Shown.{shown_outcome, IsRead}
-use Rattle.bk_elab.specs.Sights.{names_of, names_below, bounds_of, bounds_from, read_by, ranges_as, clue_type, range_told, given_at, taken_at, clues_by, IsRest, TypesNone, TypesAs, TellsNoType, TellsType, TellsNoRange, TellsRange, Stands, StandsBelow}
+use Rattle.bk_elab.specs.Sights.{names_of, names_below, bounds_of, bounds_from, read_by, ranges_as, clue_type, range_told, given_at, taken_at, IsRest, TellsNoType, TellsType, TellsNoRange, TellsRange, Stands, StandsBelow}
 use Rattle.bk_elab.proofs.Clued.{clues-both, ranges-both, rest-both, rest-alone, conjuncts-both, conjuncts-alone}
 use Rattle.bk_elab.proofs.Readings.{names-stand, names-split, below-stands}
 
 -- ---- types
-pub clues-none : (universal : Bool) (first : ℕ) (r : Reader) (t : RawTree) → TypesNone universal t → bounds_from first r ≡ clues_by universal r.scope.now.max (names_below first r) (bounds_from first r) t
-clues-none universal first r t h = sym (h.same r.scope.now.max (names_below first r) (bounds_from first r))
-
--- the types of a part are those of the whole
-pub clues-part : (universal : Bool) (first : ℕ) (old new : Reader) (t p : RawTree) → TypesAs universal t p → bounds_from first new ≡ clues old.scope.now.max (names_below first old) (bounds_from first old) p →
-    bounds_from first new ≡ clues_by universal old.scope.now.max (names_below first old) (bounds_from first old) t
-clues-part universal first old new t p h e = e ∙ sym (h.same old.scope.now.max (names_below first old) (bounds_from first old))
-
 pub clues-two : (first : ℕ) (old mid new : Reader) (t a b : RawTree) → and_sides t ≡ Some (a, b) →
-    bounds_from first mid ≡ clues_by false old.scope.now.max (names_below first old) (bounds_from first old) a → StandsBelow first old mid →
-    bounds_from first new ≡ clues_by false mid.scope.now.max (names_below first mid) (bounds_from first mid) b →
+    bounds_from first mid ≡ clues old.scope.now.max (names_below first old) (bounds_from first old) a → StandsBelow first old mid →
+    bounds_from first new ≡ clues mid.scope.now.max (names_below first mid) (bounds_from first mid) b →
     bounds_from first new ≡ clues old.scope.now.max (names_below first old) (bounds_from first old) t
 clues-two first old mid new t a b k e h g =
     g ∙ ((λ i. clues (h.scope i).max (below-stands first old mid h i) (e i) b) ∙ sym (clues-both old.scope.now.max (names_below first old) (bounds_from first old) t a b k))
@@ -101,12 +93,12 @@ rest-more r bs i one read placed more t k e g p f before l =
     (f before (part true t (read_by r t)) l (p (read_by r t) g))
 
 -- ---- the same of a step that may fail
-pub clues-both-done : {A E : Type 0} (r : Result A E) (universal : Bool) (first : ℕ) (old mid new : Reader) (t p a b : RawTree) → TypesAs universal t p → and_sides p ≡ Some (a, b) →
-    bounds_from first mid ≡ clues_by false old.scope.now.max (names_below first old) (bounds_from first old) a → StandsBelow first old mid →
-    OnOk r (bounds_from first new ≡ clues_by false mid.scope.now.max (names_below first mid) (bounds_from first mid) b) →
-    OnOk r (bounds_from first new ≡ clues_by universal old.scope.now.max (names_below first old) (bounds_from first old) t)
-clues-both-done (Err x) universal first old mid new t p a b h k e g f = tt
-clues-both-done (Ok x) universal first old mid new t p a b h k e g f = clues-part universal first old new t p h (clues-two first old mid new p a b k e g f)
+pub clues-both-done : {A E : Type 0} (r : Result A E) (first : ℕ) (old mid new : Reader) (t a b : RawTree) → and_sides t ≡ Some (a, b) →
+    bounds_from first mid ≡ clues old.scope.now.max (names_below first old) (bounds_from first old) a → StandsBelow first old mid →
+    OnOk r (bounds_from first new ≡ clues mid.scope.now.max (names_below first mid) (bounds_from first mid) b) →
+    OnOk r (bounds_from first new ≡ clues old.scope.now.max (names_below first old) (bounds_from first old) t)
+clues-both-done (Err x) first old mid new t a b k e g f = tt
+clues-both-done (Ok x) first old mid new t a b k e g f = clues-two first old mid new t a b k e g f
 
 pub ranges-both-done : {A E : Type 0} (r : Result A E) (old mid : Reader) (all : List RawName) (i j : ℕ) (bs cs ds : List Ranged) (t a b : RawTree) → and_sides t ≡ Some (a, b) → j ≡ i + length (conjuncts a) →
     cs ≡ ranges old.scope.now.max (names_of old) all i bs a → Stands old mid → OnOk r (ds ≡ ranges mid.scope.now.max (names_of mid) all j cs b) → OnOk r (ds ≡ ranges old.scope.now.max (names_of old) all i bs t)
@@ -121,13 +113,6 @@ count-both-done (Ok n) i j t a b k e f = count-two i j n t a b k e f
 pub where-done : {A E P : Type 0} (r : Result A E) → P → OnOk r P
 where-done (Err x) h = tt
 where-done (Ok x) h = h
-
-pub rest-both-done : {A E : Type 0} (r : Result A E) (old mid : Reader) (bs : List Ranged) (i j : ℕ) (one two three : Option Step) (t a b : RawTree) → and_sides t ≡ Some (a, b) → j ≡ i + length (conjuncts a) →
-    ((before : Option Reading) → IsRest one before → IsRest two (rest old.scope.now.max (names_of old) bs i before a)) → Stands old mid →
-    OnOk r ((before : Option Reading) → IsRest two before → IsRest three (rest mid.scope.now.max (names_of mid) bs j before b)) →
-    OnOk r ((before : Option Reading) → IsRest one before → IsRest three (rest old.scope.now.max (names_of old) bs i before t))
-rest-both-done (Err x) old mid bs i j one two three t a b k e f h g = tt
-rest-both-done (Ok x) old mid bs i j one two three t a b k e f h g = rest-two old mid bs i j one two three t a b k e f h g
 
 rest-empty : (o : Option Reading) → IsRest None o → o ≡ None
 rest-empty None h = refl
@@ -157,8 +142,4 @@ body-some old pushed new seen items t left s e h k f n =
     rest-there s (rest old.scope.now.max (names_of new) (ranges_as items) 0 None t)
     (subst (λ (l : Option Step). IsRest l (rest old.scope.now.max (names_of new) (ranges_as items) 0 None t)) n (body-left old pushed new seen items t left e h k f))
 
-pub ruleset typing = (clues-none, clues-part, clues-silent)
-
 pub ruleset ranging = (ranges-silent, range-taken, count-one)
-
-pub ruleset remaining = (rest-used, rest-more, count-one)

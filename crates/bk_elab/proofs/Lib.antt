@@ -25,3 +25,10 @@ pub mod Ranging
 pub mod Differences
 pub mod Closing
 pub mod Forms
+pub mod Keeping
+pub mod Remembered
+pub mod Bare
+pub mod Unmoved
+pub mod Lasting
+pub mod Grown
+pub mod Dollars

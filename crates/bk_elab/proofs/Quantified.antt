@@ -1,6 +1,6 @@
 -- What a quantifier reads as, from what its parts read as.
 use Rattle.std.proofs.Common.{◌≡◌, ℕ, suc, ◌≤◌, List, [], length, take, drop, refl, sym, ◌∙◌, ap, subst, Bool, true, false, ℤ, arith}
-use Rattle.std.specs.Prelude.{Option}
+use Rattle.std.specs.Prelude.{Option, None, Some}
 use Rattle.std.proofs.lemmas.List.{take_all}
 use Rattle.bk_form.specs.Role.{bind}
 use Rattle.bk_raw.specs.RawTree.{RawTree}
@@ -10,7 +10,11 @@ use Rattle.bk_raw.specs.Binders.{Bound, bound_names, inside, locals, twice, quan
 use Rattle.bk_raw.specs.Names.{Names, count_locals}
 use Rattle.bk_raw.specs.Outcome.{Fault, Reading}
 use Rattle.bk_raw.specs.Printed.{printed_bounds, wrong_bounds}
-use Rattle.bk_raw.specs.TermReading.{reading, part}
+use Rattle.bk_raw.specs.TermReading.{reading, part, place_of, clues}
+use Rattle.bk_raw.specs.declared.operator.InfixOp.TheVariants.{Implies}
+use Rattle.bk_elab.specs.Conjuncts.{implies_sides}
+use Rattle.bk_elab.specs.declared.form.TwoParts.TheVariants.{Infix}
+use Rattle.bk_elab.specs.Forms.{two_reading}
 use Rattle.bk_elab.specs.Blame.{blame}
 use Rattle.bk_elab.specs.declared.blame.Fault.{Fault as ToldFault}
 use Rattle.bk_elab.specs.declared.outcome.Step.{Step}
@@ -18,7 +22,8 @@ use Rattle.bk_elab.specs.declared.sight.Local.{Local}
 use Rattle.bk_elab.specs.declared.sight.Reader.{Reader}
 use Rattle.bk_elab.specs.Shown.{told, IsRead}
 use Rattle.bk_elab.specs.Sights.{names_of, names_below, bounds_of, bounds_from, outer_names, read_by, node_by, Stands, StandsBelow, quantifier, named_node, numbered_node, clues_by}
-use Rattle.bk_elab.proofs.Readings.{names-split, below-stands}
+use Rattle.bk_elab.proofs.Clued.{premise-clued, premise-none, implies-read}
+use Rattle.bk_elab.proofs.Readings.{names-split, below-stands, names-stand}
 use Rattle.bk_elab.proofs.Sighted.{all-counted}
 
 -- below all of its bound names a reader has the names that it had
@@ -63,5 +68,26 @@ clues-same universal n old mid new xs t e h b c = c ∙ (λ i. clues_by universa
 
 pub bounds-told : (r : Reader) (bs : List RawBound) (fault : Option ToldFault) → told fault ≡ blame (wrong_bounds (suc (length r.locals.items)) bs) → told fault ≡ blame (wrong_bounds (suc (count_locals (names_of r))) bs)
 bounds-told r bs fault h = h ∙ ap (λ (n : ℕ). blame (wrong_bounds (suc n) bs)) (sym (all-counted r))
+
+-- the body of an existential quantifier
+pub exists-clues : (r : Reader) (first : ℕ) (bs : List Bound) (t : RawTree) → clues_by false r.scope.now.max (names_below first r) bs t ≡ clues r.scope.now.max (names_below first r) bs t
+exists-clues r first bs t = refl
+
+-- the body of a universal one that is no implication types no name
+pub premise-missing : (first : ℕ) (r : Reader) (t : RawTree) → implies_sides t ≡ None → bounds_from first r ≡ clues_by true r.scope.now.max (names_below first r) (bounds_from first r) t
+premise-missing first r t h = sym (premise-none r.scope.now.max (names_below first r) (bounds_from first r) t h)
+
+-- of an implication the left side types them
+pub premise-typed : (first : ℕ) (old new : Reader) (t a b : RawTree) → implies_sides t ≡ Some (a, b) → bounds_from first new ≡ clues old.scope.now.max (names_below first old) (bounds_from first old) a →
+    bounds_from first new ≡ clues_by true old.scope.now.max (names_below first old) (bounds_from first old) t
+premise-typed first old new t a b h e = e ∙ sym (premise-clued old.scope.now.max (names_below first old) (bounds_from first old) t a b h)
+
+pub implication-read : (mid new : Reader) (t a b : RawTree) (one other s : Step) → implies_sides t ≡ Some (a, b) → IsRead one (read_by mid a) → Stands mid new → IsRead other (read_by mid b) →
+    ((q p : Reading) → IsRead one q → IsRead other p → IsRead s (two_reading (Infix Implies) (place_of t) a b q p)) → IsRead s (read_by new t)
+implication-read mid new t a b one other s k h g e w =
+    subst (IsRead s) (implies-read mid.scope.now.max (names_of mid) t a b k ∙ (λ i. reading (sym g.scope i).max (sym (names-stand mid new g) i) t))
+    (w (read_by mid a) (read_by mid b) h e)
+
+pub ruleset bodies = (exists-clues, premise-missing, premise-typed)
 
 pub ruleset quantifying = (names-below-all, names-inside, named-read, numbered-read, clues-same, bounds-told)

@@ -12,3 +12,4 @@ pub mod Sights
 pub mod Laws
 pub mod Conjuncts
 pub mod Forms
+pub mod Kept

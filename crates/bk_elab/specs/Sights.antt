@@ -15,7 +15,7 @@ use Rattle.bk_raw.specs.RawView.{ranges_of as ranges_written}
 use Rattle.bk_raw.specs.Names.{Names, set_name, Sight, unseen, untyped_name, seen}
 use Rattle.bk_raw.specs.Outcome.{Outcome, Reading, ask_domain, ask_set, ask_value}
 use Rattle.bk_raw.specs.Binders.{Bound, Ranged, inside, locals, all_typed, types_of, as_bound, is_some_name, ranges_of, second, set_over, as_single, typed_as, ranged_as}
-use Rattle.bk_raw.specs.TermReading.{reading, node_reading, part, place_of, clues, premise_clues, ranges}
+use Rattle.bk_raw.specs.TermReading.{reading, node_reading, part, place_of, names_one, clues, premise_clues, ranges}
 use Rattle.bk_raw.specs.Printed.{RangeRead, printed_ranges, wrong_ranges}
 use Rattle.bk_elab.specs.declared.blame.Fault.{Fault as ToldFault}
 use Rattle.bk_raw.specs.ScopeReading.{element_names, names_in}
@@ -26,6 +26,7 @@ use Rattle.bk_elab.specs.declared.sight.Reader.{Reader}
 use Rattle.bk_elab.specs.declared.sight.Seen.{Seen}
 use Rattle.bk_elab.specs.declared.sight.Seen.TheVariants.{Unseen, Untyped, Typed}
 use Rattle.bk_elab.specs.Blame.{blame}
+use Rattle.bk_elab.specs.Conjuncts.{IsRight}
 use Rattle.bk_elab.specs.Shown.{shown_outcome, told, IsRead}
 
 -- what is found of a name
@@ -216,15 +217,6 @@ abbrev pub clues_by : Bool → ℤ → Names → List Bound → RawTree → List
 clues_by true int_max names bs p = premise_clues int_max names bs p
 clues_by false int_max names bs p = clues int_max names bs p
 
--- no conjunct of a quantifier's body types its names
-pub record TypesNone (universal : Bool) (body : RawTree) : Type 0 where
-  pub same : (m : ℤ) (names : Names) (bs : List Bound) → clues_by universal m names bs body ≡ bs
-
--- those of this part of it do
-pub record TypesAs (universal : Bool) (body part : RawTree) : Type 0 where
-  pub small : tree_size part ≤ tree_size body
-  pub same : (m : ℤ) (names : Names) (bs : List Bound) → clues_by universal m names bs body ≡ clues m names bs part
-
 -- the term tells no type of a bound name
 pub record TellsNoType (bs : List Bound) (t : RawTree) : Type 0 where
   pub same : (m : ℤ) (names : Names) → clues m names bs t ≡ bs
@@ -233,6 +225,7 @@ pub record TellsNoType (bs : List Bound) (t : RawTree) : Type 0 where
 pub record TellsType (bs : List Bound) (t : RawTree) (op : InfixOp) (d : RawTree) (place : ℕ) : Type 0 where
   pub within : place < length bs
   pub small : tree_size d < tree_size t
+  pub side : IsRight t op d
   pub same : (m : ℤ) (names : Names) → clues m names bs t ≡ given_at place (clue_type op (reading m (inside bs names) d).outcome) bs
 
 -- the term gives no bound name a range
@@ -243,6 +236,8 @@ pub record TellsNoRange (all : List RawName) (bs : List Ranged) (t : RawTree) : 
 pub record TellsRange (all : List RawName) (bs : List Ranged) (t : RawTree) (op : InfixOp) (d : RawTree) (place : ℕ) : Type 0 where
   pub within : place < length bs
   pub small : tree_size d < tree_size t
+  pub side : IsRight t op d
+  pub outside : names_one all d ≡ false
   pub same : (m : ℤ) (names : Names) (i : ℕ) → ranges m names all i bs t ≡ taken_at place i (range_told op (part false d (reading m names d)).outcome) bs
 
 -- {x | P}, or %x.(P | E) where there is an E

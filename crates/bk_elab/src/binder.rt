@@ -6,7 +6,7 @@ ghost use Rattle.bk_val.specs.ValueType.{ValueType};
 ghost use Rattle.bk_form.specs.Formula.{Formula, comprehension, lambda, formulas_of, formulas_size};
 ghost use Rattle.bk_raw.specs.Binders.{quantified, unranged, as_bound, inside};
 ghost use Rattle.bk_raw.specs.Binders as bound;
-ghost use Rattle.bk_raw.specs.Outcome.{Fault as FaultAt, Reading};
+ghost use Rattle.bk_raw.specs.Outcome.{Fault as FaultAt, Reading, ask_domain, ask_value};
 ghost use Rattle.bk_raw.specs.Printed.{wrong_number, printed_bounds, wrong_bounds, with_place};
 ghost use Rattle.bk_elab.specs.Blame.{blame};
 ghost use Rattle.bk_elab.specs.Conjuncts.{and_sides};
@@ -18,9 +18,11 @@ use crate::made::{MOST_NODES, unary};
 use crate::operator::connected;
 use crate::outcome::{Step, Told, no_type};
 use crate::part::{place_of, placed};
+use crate::partial::{Expression, Node};
+use crate::shape::gives_no_range;
 use crate::sight::{Local, Reader, unknown};
 use crate::written::{infix_sides, is_among, name_of, names_one};
-use bk_form::{BinOp, Form, Part, Ty, UnOp};
+use bk_form::{BinOp, Form, Part, Ty, TyView, UnOp};
 use bk_io::Memory;
 use bk_raw::{InfixOp, RawBound, RawName, RawRange, RawTerm};
 use std::alloc::Global;
@@ -125,6 +127,9 @@ pub(crate) fn ranging_conjunct<'a>(
         return None;
     };
     if !tells_range(op) || names_one(all, side) {
+        return None;
+    }
+    if gives_no_range(side) {
         return None;
     }
     match awaiting_range(names, name.as_bytes()) {
@@ -473,15 +478,45 @@ pub(crate) fn tells_type(op: InfixOp) -> bool
 }
 
 // The type that `x op D` tells of x.
-pub(crate) fn clue(alloc: Global, op: InfixOp, told: Told) -> Result<Option<Ty>, Memory>
-    ensures { IfOk result (λ t. t ≡ clue_type op (shown_outcome told)) }
+pub(crate) fn clue_type(alloc: Global, op: InfixOp, told: &Told) -> Result<Option<Ty>, Memory>
+    ensures { IfOk result (λ t. t ≡ clue_type op (shown_outcome told.now)) }
 {
     match op {
-        InfixOp::Member => Ok(second(told.ask_domain(alloc, 0)?.answer)),
-        InfixOp::Subset | InfixOp::StrictSubset => {
-            set_over(alloc, told.ask_domain(alloc, 0)?.answer)
-        }
-        InfixOp::Equal => Ok(second(told.ask_value(0).answer)),
+        InfixOp::Member => domain_type(alloc, told),
+        InfixOp::Subset | InfixOp::StrictSubset => set_over(alloc, domain_type(alloc, told)?),
+        InfixOp::Equal => value_type(alloc, told),
+        _ => Ok(None),
+    }
+}
+
+// The type that a domain ranges over, where it is one.
+fn domain_type(alloc: Global, told: &Told) -> Result<Option<Ty>, Memory>
+    ensures { IfOk result (λ t. t ≡ bound.second (ask_domain 0 (shown_outcome told.now)).answer) }
+{
+    match told {
+        Told::Ranging(_, ty, _) => Ok(Some(ty.copy(alloc)?)),
+        Told::Expressed(
+            Expression {
+                node: Node::Whole(_, ty),
+            },
+        ) => match ty.view() {
+            TyView::Set(elements) => Ok(Some(elements.copy(alloc)?)),
+            _ => Ok(None),
+        },
+        _ => Ok(None),
+    }
+}
+
+// The type of a value, where it is one.
+fn value_type(alloc: Global, told: &Told) -> Result<Option<Ty>, Memory>
+    ensures { IfOk result (λ t. t ≡ bound.second (ask_value 0 (shown_outcome told.now)).answer) }
+{
+    match told {
+        Told::Expressed(
+            Expression {
+                node: Node::Whole(_, ty),
+            },
+        ) => Ok(Some(ty.copy(alloc)?)),
         _ => Ok(None),
     }
 }
@@ -519,22 +554,12 @@ pub(crate) fn is_used(number: usize, names: &[Ranged<'_>]) -> bool
     false
 }
 
-// The type that was answered.
-fn second(found: Option<(Form, Ty)>) -> Option<Ty>
-    ensures { result ≡ bound.second found }
-{
-    match found {
-        Some((_, ty)) => Some(ty),
-        None => None,
-    }
-}
-
 // The type of the sets over a type, where there is one.
-fn set_over(alloc: Global, found: Option<(Form, Ty)>) -> Result<Option<Ty>, Memory>
-    ensures { IfOk result (λ t. t ≡ bound.set_over (bound.second found)) }
+fn set_over(alloc: Global, elements: Option<Ty>) -> Result<Option<Ty>, Memory>
+    ensures { IfOk result (λ t. t ≡ bound.set_over elements) }
 {
-    match found {
-        Some((_, ty)) => Ok(Some(Ty::set(alloc, ty)?)),
+    match elements {
+        Some(ty) => Ok(Some(Ty::set(alloc, ty)?)),
         None => Ok(None),
     }
 }

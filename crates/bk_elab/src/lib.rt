@@ -4,9 +4,11 @@
 
 mod binder;
 pub mod blame;
+mod dollar;
 pub mod error;
 mod form;
 pub mod in_scope;
+mod kept;
 pub mod laws;
 mod made;
 pub mod meaning;
@@ -16,6 +18,7 @@ mod part;
 mod partial;
 mod reading;
 pub mod scope;
+mod shape;
 mod sight;
 pub mod term;
 mod word;

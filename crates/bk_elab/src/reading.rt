@@ -1,34 +1,39 @@
 // What a term reads as under the names in sight.
 
 ghost use Rattle.std.specs.Option.{option_copied};
-ghost use Rattle.std.specs.Prelude.{◌≡◌, ◌+◌, ◌≤◌, suc, None, IfOk, OnOk, length, Option};
-ghost use Rattle.bk_raw.specs.Binders.{unranged, as_bound, inside, body_of};
+ghost use Rattle.std.specs.Prelude.{◌≡◌, ◌+◌, ◌++◌, ◌≤◌, suc, List, None, IfOk, OnOk, length, Option};
+ghost use Rattle.bk_raw.specs.Binders.{unranged, as_bound, bound_names, inside, body_of};
 ghost use Rattle.bk_raw.specs.FreeNames.{conjuncts};
 ghost use Rattle.bk_raw.specs.Names.{count_locals};
 ghost use Rattle.bk_raw.specs.Outcome.{Reading};
 ghost use Rattle.bk_raw.specs.Printed.{printed_ranges, wrong_ranges};
-ghost use Rattle.bk_raw.specs.RawTree.{trees_of};
+ghost use Rattle.bk_raw.specs.RawTree.{RawTree, trees_of};
 ghost use Rattle.bk_raw.specs.RawView.{ranges_of};
 ghost use Rattle.bk_raw.specs.TermReading as meant;
 ghost use Rattle.bk_elab.specs.Blame.{blame};
+ghost use Rattle.bk_elab.specs.Conjuncts.{and_sides};
 ghost use Rattle.bk_elab.specs.Forms.{one_node, two_node};
+ghost use Rattle.bk_elab.specs.Kept.{IsKept, AreKept, StaysKept, StayKept};
 ghost use Rattle.bk_elab.specs.Shown.{told, IsRead};
 ghost use Rattle.bk_elab.specs.Sights.{read_by, node_by, names_of, names_below, bounds_from, ranges_as, IsRest, clues_by, named_node, numbered_node, named_abstraction, numbered_abstraction, Stands, StandsBelow};
 
 use crate::binder::{
-    Ranged, abstracted, clue, comprehended, following, is_used, push_untyped, range, ranged_of,
-    ranging_conjunct, take_range, twice, typing_conjunct, with_conjunct, without_ranges,
+    Ranged, abstracted, clue_type, comprehended, following, is_used, push_untyped, range,
+    ranged_of, ranging_conjunct, take_range, twice, typing_conjunct, with_conjunct, without_ranges,
 };
 use crate::blame::{Fault, earlier};
 use crate::form::{OnePart, TwoParts, with_part, with_parts};
+use crate::kept::{is_plain, is_settled, kept_if, next_kept};
 use crate::outcome::{Step, Told, no_type};
 use crate::part::{empty_set, extended_by, place_of, placed, single_of};
+use crate::shape::is_lasting;
 use crate::sight::Reader;
 use crate::word::{constant, number};
-use crate::written::{and_sides, clued_part};
+use crate::written::{and_sides, implies_sides, infix_sides};
 use bk_form::{Form, Part};
 use bk_io::Memory;
-use bk_raw::{RawBound, RawName, RawNode, RawRange, RawTerm};
+use bk_raw::{InfixOp, RawBound, RawName, RawNode, RawRange, RawTerm};
+use std::collections::VecDeque;
 
 impl<'a> Reader<'a> {
     // What a term reads as.
@@ -138,9 +143,104 @@ impl<'a> Reader<'a> {
     {
         let first = self.locals.len();
         push_untyped(self, names)?;
-        self.clues(universal, first, body)?;
-        let read = self.read(body)?;
+        let read = self.typed_body(universal, first, body)?;
         self.quantified(universal, first, twice(names), placed(true, body, read))
+    }
+
+    // A quantifier's body, whose conjuncts, or those of the left side of `=>` in a universal one's, type the bound names
+    // from a place on.
+    #[tactic(auto, using(crate::proofs::Quantified::bodies, crate::proofs::Readings::readings, crate::proofs::Sizes::parts_are_smaller))]
+    #[cycle(reading)]
+    fn typed_body(
+        &mut self,
+        universal: bool,
+        first: usize,
+        body: &'a RawTerm,
+    ) -> Result<Step, Memory>
+        requires { first ≤ length self.old.locals.items }
+        ensures clues { OnOk result (bounds_from first self.new ≡
+            clues_by universal self.old.scope.now.max (names_below first self.old) (bounds_from first self.old) body.now) }
+        ensures read { IfOk result (λ s. IsRead s (read_by self.new body.now)) }
+        ensures stands { OnOk result (StandsBelow first self.old self.new) }
+        ensures count { OnOk result (length self.new.locals.items ≡ length self.old.locals.items) }
+    {
+        if !universal {
+            return self.typed_conjunction(first, body);
+        }
+        let Some((premise, conclusion)) = implies_sides(body) else {
+            return self.read(body);
+        };
+        let one = self.typed_conjunction(first, premise)?;
+        let other = self.read(conclusion)?;
+        let form = TwoParts::Infix(InfixOp::Implies);
+        with_parts(self.alloc, form, body.at, premise, conclusion, one, other)
+    }
+
+    // A term whose conjuncts type the bound names from a place on.
+    #[tactic(auto, using(crate::proofs::Remembered::conjunctions, crate::proofs::Readings::readings, crate::proofs::Sizes::parts_are_smaller))]
+    #[cycle(reading)]
+    fn typed_conjunction(&mut self, first: usize, term: &'a RawTerm) -> Result<Step, Memory>
+        requires { first ≤ length self.old.locals.items }
+        ensures clues { OnOk result (bounds_from first self.new ≡ meant.clues self.old.scope.now.max
+            (names_below first self.old) (bounds_from first self.old) term.now) }
+        ensures read { IfOk result (λ s. IsRead s (read_by self.new term.now)) }
+        ensures stands { OnOk result (StandsBelow first self.old self.new) }
+        ensures count { OnOk result (length self.new.locals.items ≡ length self.old.locals.items) }
+    {
+        let mut kept = VecDeque::new(self.alloc);
+        self.clues(first, &mut kept, term)?;
+        self.conjunction(&mut kept, term)
+    }
+
+    // A term, of whose conjuncts some right sides are kept: those that are kept are not read again.
+    #[tactic(auto, using(crate::proofs::Remembered::conjunctions, crate::proofs::Readings::readings, crate::proofs::Sizes::parts_are_smaller))]
+    #[cycle(reading)]
+    fn conjunction(
+        &mut self,
+        kept: &mut VecDeque<Option<Step>>,
+        term: &'a RawTerm,
+    ) -> Result<Step, Memory>
+        ensures read { IfOk result (λ s. (ts : List RawTree) → AreKept self.old.scope.now.max (names_of self.old)
+            kept.old.items (conjuncts term.now ++ ts) → IsRead s (read_by self.old term.now)) }
+        ensures kept { OnOk result ((ts : List RawTree) → AreKept self.old.scope.now.max (names_of self.old)
+            kept.old.items (conjuncts term.now ++ ts) → AreKept self.old.scope.now.max (names_of self.old)
+            kept.new.items ts) }
+        ensures stands { OnOk result (Stands self.old self.new) }
+    {
+        let Some((left, right)) = and_sides(term) else {
+            let side = next_kept(kept);
+            return self.conjunct(side, term);
+        };
+        let one = self.conjunction(kept, left)?;
+        let other = self.conjunction(kept, right)?;
+        let form = TwoParts::Infix(InfixOp::And);
+        with_parts(self.alloc, form, term.at, left, right, one, other)
+    }
+
+    // A term, whose right side may have been read before.
+    #[tactic(auto, using(crate::proofs::Remembered::conjunctions, crate::proofs::Readings::readings, crate::proofs::Sizes::parts_are_smaller))]
+    #[cycle(reading)]
+    fn conjunct(&mut self, side: Option<Step>, term: &'a RawTerm) -> Result<Step, Memory>
+        ensures read { IfOk result (λ s. IsKept self.old.scope.now.max (names_of self.old) side term.now →
+            IsRead s (read_by self.old term.now)) }
+        ensures stands { OnOk result (Stands self.old self.new) }
+    {
+        let Some(side) = side else {
+            return self.read(term);
+        };
+        let Some((op, left, right)) = infix_sides(term) else {
+            return self.read(term);
+        };
+        let one = self.read(left)?;
+        with_parts(
+            self.alloc,
+            TwoParts::Infix(op),
+            term.at,
+            left,
+            right,
+            one,
+            side,
+        )
     }
 
     // A quantifier over printed bound variables with their types.
@@ -207,11 +307,12 @@ impl<'a> Reader<'a> {
         ensures stands { OnOk result (StandsBelow (length self.old.locals.items) self.old self.new) }
     {
         let mut found = without_ranges(self.alloc, names)?;
-        self.ranges(names, 0, &mut found, body)?;
+        let mut kept = VecDeque::new(self.alloc);
+        self.ranges(names, 0, &mut found, &mut kept, body)?;
         let listed = found.as_slice();
         self.push_ranged(listed)?;
         let mut left = None;
-        self.rest(listed, 0, &mut left, body)?;
+        self.rest(listed, 0, &mut left, &mut kept, body)?;
         let Some(body) = left else {
             let truth = Form::make(self.alloc, Part::True)?;
             let body = Step::plain(Told::Holding(truth));
@@ -281,35 +382,64 @@ impl<'a> Reader<'a> {
         )
     }
 
-    // The conjuncts of a quantifier's body, or of the left side of `=>` in a universal one's, give types to the bound
-    // names from a place on, each from the names that have one already.
-    #[tactic(auto, using(crate::proofs::Conjoined::typing, crate::proofs::Sizes::parts_are_smaller))]
+    // The conjuncts of a term give types to the bound names from a place on, each from the names that have one already.
+    // The right sides that were read are kept, one entry a conjunct.
+    #[tactic(auto, using(crate::proofs::Remembered::typing, crate::proofs::Readings::readings, crate::proofs::Sizes::parts_are_smaller))]
     #[cycle(reading)]
-    fn clues(&mut self, universal: bool, first: usize, term: &'a RawTerm) -> Result<(), Memory>
+    fn clues(
+        &mut self,
+        first: usize,
+        kept: &mut VecDeque<Option<Step>>,
+        term: &'a RawTerm,
+    ) -> Result<(), Memory>
         requires { first ≤ length self.old.locals.items }
-        ensures clues { OnOk result (bounds_from first self.new ≡
-            clues_by universal self.old.scope.now.max (names_below first self.old) (bounds_from first self.old) term.now) }
+        ensures clues { OnOk result (bounds_from first self.new ≡ meant.clues self.old.scope.now.max
+            (names_below first self.old) (bounds_from first self.old) term.now) }
+        ensures kept { OnOk result ((ts : List RawTree) → StayKept self.old.scope.now.max (names_below first self.old)
+            (bounds_from first self.old) kept.old.items ts → StayKept self.old.scope.now.max
+            (names_below first self.old) (bounds_from first self.new) kept.new.items (ts ++ conjuncts term.now)) }
         ensures stands { OnOk result (StandsBelow first self.old self.new) }
         ensures count { OnOk result (length self.new.locals.items ≡ length self.old.locals.items) }
     {
-        let Some(part) = clued_part(universal, term) else {
-            return Ok(());
-        };
-        if let Some((left, right)) = and_sides(part) {
-            self.clues(false, first, left)?;
-            return self.clues(false, first, right);
+        if let Some((left, right)) = and_sides(term) {
+            self.clues(first, kept, left)?;
+            return self.clues(first, kept, right);
         }
-        let Some(conjunct) = typing_conjunct(&self.locals[first..], part) else {
-            return Ok(());
-        };
-        let read = self.read(conjunct.side)?;
-        let ty = clue(self.alloc, conjunct.op, read.outcome)?;
-        self.take_type(first, conjunct.place, ty);
+        let side = self.clue(first, term)?;
+        kept.push_back(side)?;
         Ok(())
     }
 
+    // A conjunct gives a type to one of the bound names from a place on. Its right side is kept if it was read and
+    // reads so whatever types the names still get; where a name without a type stands free in it, it tells nothing.
+    #[tactic(auto, using(crate::proofs::Remembered::typing, crate::proofs::Readings::readings, crate::proofs::Sizes::parts_are_smaller))]
+    #[cycle(reading)]
+    fn clue(&mut self, first: usize, term: &'a RawTerm) -> Result<Option<Step>, Memory>
+        requires long { first ≤ length self.old.locals.items }
+        requires alone { and_sides term.now ≡ None }
+        ensures clues { OnOk result (bounds_from first self.new ≡ meant.clues self.old.scope.now.max
+            (names_below first self.old) (bounds_from first self.old) term.now) }
+        ensures kept { IfOk result (λ k. StaysKept self.old.scope.now.max (names_below first self.old)
+            (bounds_from first self.new) k term.now) }
+        ensures stands { OnOk result (StandsBelow first self.old self.new) }
+        ensures count { OnOk result (length self.new.locals.items ≡ length self.old.locals.items) }
+    {
+        let Some(conjunct) = typing_conjunct(&self.locals[first..], term) else {
+            return Ok(None);
+        };
+        if self.is_untold(first, conjunct.side)? {
+            return Ok(None);
+        }
+        let settled = is_settled(first, &self.locals[first..], conjunct.side);
+        let read = self.read(conjunct.side)?;
+        let ty = clue_type(self.alloc, conjunct.op, &read.outcome)?;
+        self.take_type(first, conjunct.place, ty);
+        Ok(kept_if(settled, read))
+    }
+
     // The conjuncts of a term give ranges to the names, all of which are bound. The first conjunct has this number;
-    // the number of the first one behind the term is answered.
+    // the number of the first one behind the term is answered. The right sides that serve for the body are kept, one
+    // entry a conjunct.
     #[tactic(auto, using(crate::proofs::Conjoined::ranging, crate::proofs::Readings::readings, crate::proofs::Sizes::parts_are_smaller))]
     #[cycle(reading)]
     fn ranges(
@@ -317,53 +447,90 @@ impl<'a> Reader<'a> {
         all: &'a [RawName],
         number: usize,
         names: &mut Vec<Ranged<'a>>,
+        kept: &mut VecDeque<Option<Step>>,
         term: &'a RawTerm,
     ) -> Result<usize, Memory>
         ensures ranges { OnOk result (ranges_as names.new.items ≡ meant.ranges self.old.scope.now.max
             (names_of self.old) all.now number (ranges_as names.old.items) term.now) }
+        ensures kept { OnOk result ((ts : List RawTree) → StayKept self.old.scope.now.max (names_of self.old)
+            (bound_names all.now) kept.old.items ts → StayKept self.old.scope.now.max (names_of self.old)
+            (bound_names all.now) kept.new.items (ts ++ conjuncts term.now)) }
         ensures count { IfOk result (λ n. n ≡ number + length (conjuncts term.now)) }
         ensures stands { OnOk result (Stands self.old self.new) }
     {
         if let Some((left, right)) = and_sides(term) {
-            let next = self.ranges(all, number, names, left)?;
-            return self.ranges(all, next, names, right);
+            let next = self.ranges(all, number, names, kept, left)?;
+            return self.ranges(all, next, names, kept, right);
         }
         let behind = following(number)?;
-        let Some(conjunct) = ranging_conjunct(all, names, term) else {
-            return Ok(behind);
-        };
-        let read = self.read(conjunct.side)?;
-        let read = placed(false, conjunct.side, read);
-        let found = range(self.alloc, conjunct.op, read.outcome)?;
-        take_range(names, conjunct.place, number, found);
+        let side = self.range(all, number, names, term)?;
+        kept.push_back(side)?;
         Ok(behind)
     }
 
-    // The conjuncts that gave no range go behind those that are left so far, joined to the left. The first conjunct
-    // has this number; the number of the first one behind the term is answered.
-    #[tactic(auto, using(crate::proofs::Conjoined::remaining, crate::proofs::Readings::readings, crate::proofs::Sizes::parts_are_smaller))]
+    // A conjunct gives a range to one of the names, all of which are bound. Its right side is kept if it was read, gives
+    // none and serves for the body: inside the binder it has the same faults, and no other formula is made of it.
+    #[tactic(auto, using(crate::proofs::Conjoined::ranging, crate::proofs::Readings::readings, crate::proofs::Sizes::parts_are_smaller))]
+    #[cycle(reading)]
+    fn range(
+        &mut self,
+        all: &'a [RawName],
+        number: usize,
+        names: &mut Vec<Ranged<'a>>,
+        term: &'a RawTerm,
+    ) -> Result<Option<Step>, Memory>
+        requires { and_sides term.now ≡ None }
+        ensures ranges { OnOk result (ranges_as names.new.items ≡ meant.ranges self.old.scope.now.max
+            (names_of self.old) all.now number (ranges_as names.old.items) term.now) }
+        ensures kept { IfOk result (λ k. StaysKept self.old.scope.now.max (names_of self.old)
+            (bound_names all.now) k term.now) }
+        ensures stands { OnOk result (Stands self.old self.new) }
+    {
+        let Some(conjunct) = ranging_conjunct(all, names, term) else {
+            return Ok(None);
+        };
+        let read = self.read(conjunct.side)?;
+        if is_lasting(conjunct.op, &read.outcome) {
+            return Ok(kept_if(is_plain(all, conjunct.side), read));
+        }
+        let read = placed(false, conjunct.side, read);
+        let found = range(self.alloc, conjunct.op, read.outcome)?;
+        take_range(names, conjunct.place, number, found);
+        Ok(None)
+    }
+
+    // The conjuncts that gave no range go behind those that are left so far, joined to the left; the right sides that
+    // are kept are not read again. The first conjunct has this number; the number of the first one behind the term is
+    // answered.
+    #[tactic(auto, using(crate::proofs::Remembered::remaining, crate::proofs::Readings::readings, crate::proofs::Sizes::parts_are_smaller))]
     #[cycle(reading)]
     fn rest(
         &mut self,
         names: &[Ranged<'a>],
         number: usize,
         left_over: &mut Option<Step>,
+        kept: &mut VecDeque<Option<Step>>,
         term: &'a RawTerm,
     ) -> Result<usize, Memory>
-        ensures rest { OnOk result ((before : Option Reading) → IsRest left_over.old before →
+        ensures rest { OnOk result ((ts : List RawTree) → AreKept self.old.scope.now.max (names_of self.old)
+            kept.old.items (conjuncts term.now ++ ts) → (before : Option Reading) → IsRest left_over.old before →
             IsRest left_over.new (meant.rest self.old.scope.now.max (names_of self.old)
             (ranges_as names.now) number before term.now)) }
+        ensures kept { OnOk result ((ts : List RawTree) → AreKept self.old.scope.now.max (names_of self.old)
+            kept.old.items (conjuncts term.now ++ ts) → AreKept self.old.scope.now.max (names_of self.old)
+            kept.new.items ts) }
         ensures count { IfOk result (λ n. n ≡ number + length (conjuncts term.now)) }
         ensures stands { OnOk result (Stands self.old self.new) }
     {
         if let Some((left, right)) = and_sides(term) {
-            let next = self.rest(names, number, left_over, left)?;
-            return self.rest(names, next, left_over, right);
+            let next = self.rest(names, number, left_over, kept, left)?;
+            return self.rest(names, next, left_over, kept, right);
         }
+        let side = next_kept(kept);
         if is_used(number, names) {
             return following(number);
         }
-        let read = self.read(term)?;
+        let read = self.conjunct(side, term)?;
         let read = placed(true, term, read);
         *left_over = Some(with_conjunct(self.alloc, left_over.take(), read)?);
         following(number)

@@ -1,16 +1,15 @@
 // What a term is as it is written: by its form alone.
 
 ghost use Rattle.std.specs.Option.{option_copied};
-ghost use Rattle.std.specs.Prelude.{◌≡◌, Some, MatchOption};
+ghost use Rattle.std.specs.Prelude.{◌≡◌, Some};
 ghost use Rattle.bk_raw.specs.FreeNames.{stands_free, is_among, is_free_in_some, is_free_in_ranges};
 ghost use Rattle.bk_raw.specs.RawTree.{trees_of};
 ghost use Rattle.bk_raw.specs.RawView.{ranges_of};
 ghost use Rattle.bk_raw.specs.TermReading as meant;
 ghost use Rattle.bk_elab.specs.Blame.{blame};
-ghost use Rattle.bk_elab.specs.Conjuncts.{and_sides, infix_sides, premise_of, shown_pair, shown_infix};
+ghost use Rattle.bk_elab.specs.Conjuncts.{and_sides, infix_sides, implies_sides, shown_pair, shown_infix};
 ghost use Rattle.bk_elab.specs.Shapes.{strict_here};
 ghost use Rattle.bk_elab.specs.Shown.{told};
-ghost use Rattle.bk_elab.specs.Sights.{TypesNone, TypesAs};
 
 use crate::blame::{Fault, earlier};
 use bk_io::Text;
@@ -53,24 +52,14 @@ pub(crate) fn infix_sides(term: &RawTerm) -> Option<(InfixOp, &RawTerm, &RawTerm
     }
 }
 
-// The left side of `=>`, where the term is one.
-pub(crate) fn premise_of(term: &RawTerm) -> Option<&RawTerm>
-    ensures { option_copied result ≡ premise_of term.now }
+// The sides of `=>`, where the term is one.
+pub(crate) fn implies_sides(term: &RawTerm) -> Option<(&RawTerm, &RawTerm)>
+    ensures { shown_pair result ≡ implies_sides term.now }
 {
     match &term.node {
-        RawNode::Infix(InfixOp::Implies, premise, _) => Some(premise),
+        RawNode::Infix(InfixOp::Implies, premise, conclusion) => Some((premise, conclusion)),
         _ => None,
     }
-}
-
-// What types the names of a quantifier over a body: the body, or the left side of `=>` in a universal one's.
-pub(crate) fn clued_part(universal: bool, body: &RawTerm) -> Option<&RawTerm>
-    ensures { MatchOption result (TypesNone universal body.now) (λ t. TypesAs universal body.now t.now) }
-{
-    if universal {
-        return premise_of(body);
-    }
-    Some(body)
 }
 
 // The name, where the term is one.
@@ -233,7 +222,7 @@ pub(crate) fn names_one(names: &[RawName], term: &RawTerm) -> bool
 // Whether the name stands free in the term.
 #[tactic(auto, using(crate::proofs::Sizes::parts_are_smaller))]
 #[cycle(free)]
-fn stands_free(text: &[u8], term: &RawTerm) -> bool
+pub(crate) fn stands_free(text: &[u8], term: &RawTerm) -> bool
     ensures { result ≡ stands_free text.now term.now }
 {
     match &term.node {

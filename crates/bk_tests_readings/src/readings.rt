@@ -16,7 +16,7 @@ use bk_io::{Memory, Text};
 use bk_lex::tokens;
 use bk_p_expr::term;
 use bk_raw::{RawTerm, Scope};
-use std::alloc::Global;
+use std::alloc::{AllocError, Global};
 use std::test::Fail;
 
 // ---- the names in sight
@@ -277,7 +277,7 @@ const FILLED: [(&str, &str); 16] = [
 ];
 
 // Ranges of comprehensions and lambdas, from first conjuncts.
-const RANGED: [(&str, &str); 12] = [
+const RANGED: [(&str, &str); 13] = [
     ("{x | x : s} = s", "{$1:s | btrue} = s"),
     ("{x | x : 1..3 & x < n} = s", "{$1:1 .. 3 | $1 < n} = s"),
     ("{x | x = n} = s", "{$1:{n} | btrue} = s"),
@@ -296,6 +296,7 @@ const RANGED: [(&str, &str); 12] = [
     ),
     ("{x | x : NATURAL & x : s} = s", "{$1:s | $1 : NATURAL} = s"),
     ("{n | n : s & n = 1} = s", "{$1:s | $1 = 1} = s"),
+    ("{x | x : POW(s) & x : u} = u", "{$1:u | $1 : POW(s)} = u"),
     (
         "{x | x : {y | y : s & y < n}} = s",
         "{$1:{$1:s | $1 < n} | btrue} = s",
@@ -308,7 +309,7 @@ const RANGED: [(&str, &str); 12] = [
 ];
 
 // Types of quantified names.
-const BOUND: [(&str, &str); 12] = [
+const BOUND: [(&str, &str); 15] = [
     (
         "!x.(x : NATURAL => 0 <= x)",
         "!($1:INTEGER).($1 : NATURAL => 0 <= $1)",
@@ -337,6 +338,18 @@ const BOUND: [(&str, &str); 12] = [
         "#($1:POW((INTEGER * INTEGER))).($1 : 0 .. 3 +-> NATURAL)",
     ),
     ("#n.(n : t & n = red)", "#($1:COLOR).($1 : t & $1 = red)"),
+    (
+        "#(x, y).(x : {z | z : s & z < n} & y = x)",
+        "#($1:INTEGER,$2:INTEGER).($1 : {$3:s | $3 < n} & $2 = $1)",
+    ),
+    (
+        "#(x, y).(y : s & x : {z | z : s & z < y})",
+        "#($1:INTEGER,$2:INTEGER).($2 : s & $1 : {$3:s | $3 < $2})",
+    ),
+    (
+        "#x.(x : {$1} & x : s)",
+        "#($1:INTEGER).($1 : {$1} & $1 : s)",
+    ),
     (
         "!x.(x : s => #x.(x : t & x = c))",
         "!($1:INTEGER).($1 : s => #($2:COLOR).($2 : t & $2 = c))",
@@ -459,13 +472,15 @@ const FAULTS: [(&str, u8, usize); 63] = [
 ];
 
 // Texts whose names have no type, or no range: each is told where it is declared, and silences what is around it.
-const UNTYPED: [(&str, usize); 8] = [
+const UNTYPED: [(&str, usize); 10] = [
     ("!x.(s * {x} = f => n = 1)", 1),
     ("#x.({x} \\/ t = t & x - 1 = 2)", 1),
     ("{x | x : x} = s", 1),
     ("{x | x : NATURAL} = s", 1),
     ("{x, y | x : s & y : {x}} = f", 4),
     ("%x.(x < 1 | x) = f", 1),
+    ("#(x, y).(x : {z | z : s & z < y} & y : s)", 2),
+    ("#x.(x : {$1} & n = 1)", 1),
     ("#x.(x : {})", 1),
     ("n = 1 & #x.(x <<: NATURAL)", 18),
 ];
@@ -541,6 +556,56 @@ fn names_without_types_are_told(rt: HostRuntime) -> Result<(), Fail> {
 fn a_term_alone_gives_a_type(rt: HostRuntime) -> Result<(), Fail> {
     for (written, place) in ALONE {
         assert!(rt; is_at_fault(rt.alloc(), written, 8, place)?, "{written}");
+    }
+    Ok(())
+}
+
+// ---- terms that nest
+// How deep: where each level is read twice, the innermost is read 2^30 times.
+const DEPTH: u32 = 30;
+
+// The inner text within so many of the outer ones.
+fn nested(alloc: Global, opening: &str, inner: &str, closing: &str) -> Result<String, AllocError> {
+    let front = opening.repeat(alloc, DEPTH as usize)?;
+    let back = closing.repeat(alloc, DEPTH as usize)?;
+    format!(in alloc; "{front}{inner}{back}")
+}
+
+// Quantifiers in the sets that type the names of quantifiers, over numbered variables.
+fn nested_quantifiers(alloc: Global) -> Result<String, AllocError> {
+    let mut core = format!(in alloc; "$60 = n$1")?;
+    for level in 0..DEPTH {
+        let inner = 60 - 2 * level;
+        let outer = inner - 1;
+        core = format!(in alloc; "#(${outer}:INTEGER).(${outer} : {{${inner}:s | {core}}})")?;
+    }
+    Ok(core)
+}
+
+#[test]
+fn typing_sides_that_nest_are_read_once(rt: HostRuntime) -> Result<(), Fail> {
+    let written = nested(rt.alloc(), "#x.(x : {y | y : s & ", "y = n$1", "})")?;
+    let core = nested_quantifiers(rt.alloc())?;
+    assert!(rt; mean_same(rt.alloc(), &written, &core)?);
+    Ok(())
+}
+
+// Sides that give no range, within each other, and the first fault in them with its byte.
+const RANGELESS: [(&str, &str, &str, u8, usize); 4] = [
+    ("{x | x : ", "(1 + TRUE)", " & x : s}", 8, 275),
+    ("{x | x : ", "(n$1 + TRUE)", " & x : s}", 8, 277),
+    ("{x | x = ", "m", " & x : s}", 7, 270),
+    ("{x | x : card(", "s", ") & x : s}", 8, 415),
+];
+
+#[test]
+fn sides_without_a_range_that_nest_are_read_once(rt: HostRuntime) -> Result<(), Fail> {
+    for (opening, inner, closing, number, place) in RANGELESS {
+        let written = nested(rt.alloc(), opening, inner, closing)?;
+        assert!(rt;
+            is_at_fault(rt.alloc(), &written, number, place)?,
+            "{opening}{inner}{closing}"
+        );
     }
     Ok(())
 }

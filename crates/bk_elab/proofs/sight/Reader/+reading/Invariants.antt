@@ -24,25 +24,43 @@ abbrev pub decreases-extension : goal.decreases-extension
 decreases-extension l = 8 * trees_size (trees_of l.elements.now) + 1
 
 abbrev pub decreases-clues : goal.decreases-clues
-decreases-clues l = 8 * tree_size l.term.now + 1
+decreases-clues l = 8 * tree_size l.term.now + 2
+
+abbrev pub decreases-clue : goal.decreases-clue
+decreases-clue l = 8 * tree_size l.term.now + 1
+
+abbrev pub decreases-conjunct : goal.decreases-conjunct
+decreases-conjunct l = 8 * tree_size l.term.now + 1
+
+abbrev pub decreases-conjunction : goal.decreases-conjunction
+decreases-conjunction l = 8 * tree_size l.term.now + 2
+
+abbrev pub decreases-typed_conjunction : goal.decreases-typed_conjunction
+decreases-typed_conjunction l = 8 * tree_size l.term.now + 3
+
+abbrev pub decreases-typed_body : goal.decreases-typed_body
+decreases-typed_body l = 8 * tree_size l.body.now + 4
 
 abbrev pub decreases-ranges : goal.decreases-ranges
-decreases-ranges l = 8 * tree_size l.term.now + 1
+decreases-ranges l = 8 * tree_size l.term.now + 2
+
+abbrev pub decreases-range : goal.decreases-range
+decreases-range l = 8 * tree_size l.term.now + 1
 
 abbrev pub decreases-rest : goal.decreases-rest
-decreases-rest l = 8 * tree_size l.term.now + 1
+decreases-rest l = 8 * tree_size l.term.now + 2
 
 abbrev pub decreases-quantifier : goal.decreases-quantifier
-decreases-quantifier l = 8 * tree_size l.body.now + 2
+decreases-quantifier l = 8 * tree_size l.body.now + 5
 
 abbrev pub decreases-numbered_quantifier : goal.decreases-numbered_quantifier
 decreases-numbered_quantifier l = 8 * tree_size l.body.now + 1
 
 abbrev pub decreases-range_names : goal.decreases-range_names
-decreases-range_names l = 8 * tree_size l.body.now + 2
+decreases-range_names l = 8 * tree_size l.body.now + 3
 
 abbrev pub decreases-abstraction : goal.decreases-abstraction
-decreases-abstraction l = 8 * (tree_size l.body.now + option_size l.value) + 3
+decreases-abstraction l = 8 * (tree_size l.body.now + option_size l.value) + 4
 
 abbrev pub decreases-numbered_ranges : goal.decreases-numbered_ranges
 decreases-numbered_ranges l = 8 * ranges_size (ranges_of l.ranges.now) + 1
