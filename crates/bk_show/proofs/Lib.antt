@@ -1,0 +1,11 @@
+pub mod Scalars
+pub mod Tokens
+pub mod Trees
+pub mod Spelled
+pub mod Begun
+pub mod Lexing
+pub mod RulesBack
+pub mod ReadBack
+pub mod Whole
+pub mod Written
+pub mod FormTexts
