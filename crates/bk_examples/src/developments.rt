@@ -7,7 +7,6 @@ ghost use Rattle.bk_gsl.specs.Substitution.{skip, assign, if_else};
 ghost use Rattle.bk_dev.specs.declared.kind.Kind.TheVariants.{Machine, Implementation};
 ghost use Rattle.bk_dev.specs.declared.kind.Home.TheVariants.{Abstract, Concrete, Inner};
 ghost use Rattle.bk_dev.specs.Counter.{counter_table, setting, counter_level, counter};
-ghost use Rattle.bk_po.specs.Basic.{IsBasic};
 ghost use Rattle.bk_po.specs.Examples.{plus, getting, small_level, inc_head, get_head};
 ghost use Rattle.bk_po.specs.Examples.{tally_table, may_add, adding, tally, stepping, stepper};
 
@@ -187,10 +186,9 @@ pub fn tally_table(alloc: Global) -> Result<VarTable, Memory>
 }
 
 /// The adder: `inc` adds `k` to `n`, where that is allowed, and `get` answers `n`.
-#[tactic(auto, using(bk_po::proofs::ExampleFacts::tally_facts, bk_po::proofs::ExampleFacts::tally_basic))]
+#[tactic(auto, using(bk_po::proofs::ExampleFacts::tally_facts))]
 pub fn tally(alloc: Global) -> Result<Development, Memory>
     ensures value { IfOk result (λ d. d ≡ tally) }
-    ensures basic { IfOk result IsBasic }
 {
     let heads = small_heads(alloc, vec![in alloc; 4]?)?;
     let levels = tally_levels(alloc)?;
@@ -235,10 +233,9 @@ fn stepper_levels(alloc: Global) -> Result<Vec<Level>, Memory>
 }
 
 /// The stepper: `inc` adds 1 to `n` below 10, and `get` answers `n`.
-#[tactic(auto, using(bk_po::proofs::ExampleFacts::stepper_facts, bk_po::proofs::ExampleFacts::stepper_basic))]
+#[tactic(auto, using(bk_po::proofs::ExampleFacts::stepper_facts))]
 pub fn stepper(alloc: Global) -> Result<Development, Memory>
     ensures value { IfOk result (λ d. d ≡ stepper) }
-    ensures basic { IfOk result IsBasic }
 {
     let heads = small_heads(alloc, Vec::new(alloc))?;
     let levels = stepper_levels(alloc)?;

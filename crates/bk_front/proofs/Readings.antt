@@ -1,5 +1,5 @@
 -- What texts are read as is one thing at most.
-use Rattle.std.proofs.Common.{◌≡◌, ◌≢◌, ℕ, List, [], ◌∷◌, Option, slice_index_or, refl, sym, ◌∙◌, ap, subst}
+use Rattle.std.proofs.Common.{◌≡◌, ◌≢◌, ℕ, List, [], ◌∷◌, Option, slice_index_or, refl, sym, ap, subst}
 use Rattle.std.specs.Prelude.{MatchOption}
 use Rattle.bk_lex.proofs.Cutting.{tokens_are_one}
 use Rattle.bk_dev.specs.Development.{Development}
@@ -8,12 +8,11 @@ use Rattle.bk_comp.specs.Components.{Component, IsTextOf, IsTextOfNone, ArePair,
 use Rattle.bk_comp.proofs.OneComponent.{text-one}
 use Rattle.bk_dev.specs.Facts.{IsDevelopment}
 use Rattle.bk_b0.specs.Simple.{IsSimple}
-use Rattle.bk_po.specs.Basic.{IsBasic}
 use Rattle.bk_comp.proofs.Contained.{texts-over}
 use Rattle.bk_pair.specs.Developments.{Reads as ReadAsPair}
-use Rattle.bk_pair.specs.PairLaws.{PairIsDevelopment, PairIsSimple, PairIsBasic, ReadAtMostOne}
-use Rattle.bk_pair.proofs.Texts.{texts-development, texts-simple, texts-basic, read-one}
-use Rattle.bk_front.specs.Project.{IsMachineText, text_at, Reads, ReadAsOne, ReadAsDevelopments, ReadAsSimple, ReadAsBasic}
+use Rattle.bk_pair.specs.PairLaws.{PairIsDevelopment, PairIsSimple, ReadAtMostOne}
+use Rattle.bk_pair.proofs.Texts.{texts-development, texts-simple, read-one}
+use Rattle.bk_front.specs.Project.{IsMachineText, text_at, Reads, ReadAsOne, ReadAsDevelopments, ReadAsSimple}
 
 pub no_machine_here : (text : List ℕ) → IsTextOfNone text → IsMachineText text → ⊥
 no_machine_here text none k = none k.machine k.is
@@ -69,14 +68,8 @@ pair_is_development = texts-development texts-over
 pair_is_simple : PairIsSimple
 pair_is_simple = texts-simple texts-over
 
-pair_is_basic : PairIsBasic
-pair_is_basic = texts-basic texts-over
-
 pub is_development : ReadAsDevelopments
 is_development texts dev r = subst IsDevelopment (sym r.pair.is) (pair_is_development r.machine r.implementation r.pair.machine r.pair.implementation r.pair.above r.pair.below r.pair.pair)
 
 pub is_simple : ReadAsSimple
 is_simple texts dev r = subst IsSimple (sym r.pair.is) (pair_is_simple r.machine r.implementation r.pair.machine r.pair.implementation r.pair.above r.pair.below r.pair.pair)
-
-pub is_basic : ReadAsBasic
-is_basic texts dev r = subst IsBasic (sym r.pair.is) (pair_is_basic r.machine r.implementation r.pair.machine r.pair.implementation r.pair.above r.pair.below r.pair.pair)

@@ -4,7 +4,6 @@ use Rattle.bk_dev.specs.Development.{Development}
 use Rattle.bk_dev.specs.Facts.{IsDevelopment}
 use Rattle.bk_dev.specs.declared.kind.Kind.TheVariants.{Machine}
 use Rattle.bk_b0.specs.Simple.{IsSimple}
-use Rattle.bk_po.specs.Basic.{IsBasic}
 use Rattle.bk_comp.specs.Components.{Component, IsTextOf}
 use Rattle.bk_pair.specs.Developments.{Reads as ReadAsPair}
 use Rattle.bk_front.specs.declared.refusal.Refusal.{Refusal}
@@ -53,7 +52,3 @@ ReadAsDevelopments = (texts : List (List ℕ)) (dev : Development) → Reads tex
 -- it is translated
 abbrev pub ReadAsSimple : Type 0
 ReadAsSimple = (texts : List (List ℕ)) (dev : Development) → Reads texts dev → IsSimple dev
-
--- its obligations are made, and valid ones are enough
-abbrev pub ReadAsBasic : Type 0
-ReadAsBasic = (texts : List (List ℕ)) (dev : Development) → Reads texts dev → IsBasic dev

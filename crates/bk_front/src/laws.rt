@@ -1,6 +1,6 @@
 //! Laws of projects. Each is the contract of a function that does nothing.
 
-ghost use Rattle.bk_front.specs.Project.{ReadAsOne, ReadAsDevelopments, ReadAsSimple, ReadAsBasic};
+ghost use Rattle.bk_front.specs.Project.{ReadAsOne, ReadAsDevelopments, ReadAsSimple};
 ghost use Rattle.bk_front.specs.ProjectFile.{LinesAreOne, NameAtMostOnce};
 
 /// What a project file says.
@@ -14,9 +14,8 @@ pub fn projects_are_one()
     ensures { ReadAsOne }
 {}
 
-/// What they are read as is a development that is translated, whose obligations are made, and whose valid obligations are enough.
+/// What they are read as is a development that is translated.
 pub fn projects_are_developments()
     ensures development { ReadAsDevelopments }
     ensures simple { ReadAsSimple }
-    ensures basic { ReadAsBasic }
 {}

@@ -2,7 +2,6 @@
 
 ghost use Rattle.std.specs.Prelude.{◌≡◌, ◌≤◌, ◌∷◌, [], length, map, IfOk, IfErr};
 ghost use Rattle.bk_b0.specs.Simple.{IsSimple};
-ghost use Rattle.bk_po.specs.Basic.{IsBasic};
 ghost use Rattle.bk_front.specs.Project.{ReadsMachine, Reads, IsRefusal};
 
 use crate::project_file::ProjectLine;
@@ -23,7 +22,6 @@ pub fn project(
     requires texts { length texts.now ≡ 2 }
     ensures ok { IfOk result (Reads (map (λ text. text.items) texts.now)) }
     ensures simple { IfOk result IsSimple }
-    ensures basic { IfOk result IsBasic }
     ensures few { IfOk result (λ dev. length dev.heads ≤ 100) }
     ensures err { IfErr result (IsRefusal (map (λ text. text.items) texts.now)) }
 {
@@ -34,7 +32,6 @@ pub fn project(
 fn pair(alloc: Global, above: &[u8], below: &[u8]) -> Result<Development, Refusal>
     ensures ok { IfOk result (Reads (above.now ∷ below.now ∷ [])) }
     ensures simple { IfOk result IsSimple }
-    ensures basic { IfOk result IsBasic }
     ensures few { IfOk result (λ dev. length dev.heads ≤ 100) }
     ensures err { IfErr result (IsRefusal (above.now ∷ below.now ∷ [])) }
 {

@@ -9,12 +9,11 @@ use Rattle.bk_dev.specs.declared.kind.Home.{Home}
 use Rattle.bk_dev.specs.Development.{Head, Level}
 use Rattle.bk_dev.specs.Facts.{IsDevelopment}
 use Rattle.bk_b0.specs.Simple.{IsSimple}
-use Rattle.bk_po.specs.Basic.{IsBasic}
 use Rattle.bk_comp.specs.Operations.{Header}
 use Rattle.bk_comp.specs.Components.{Component, ArePair, place_behind, place_behind_all, variable_of}
 use Rattle.bk_comp.proofs.Contained.{texts-over}
 use Rattle.bk_pair.specs.Developments.{IsWritten, entry, upper_variables, upper_homes, lower_variables, lower_homes, heads_from, level_of, development_of}
-use Rattle.bk_pair.proofs.Texts.{texts-development, texts-simple, texts-basic}
+use Rattle.bk_pair.proofs.Texts.{texts-development, texts-simple}
 
 -- ---- counts
 inner-count : (n : ℕ) (hs : List Header) → n + length (flat_map (λ h. map (entry []) h.inputs ++ map (entry (codes "$0")) h.outputs) hs) ≡ place_behind_all n hs
@@ -58,9 +57,6 @@ module _ (m i : Component) (pair : ArePair m i) where
 
     pub is-simple : IsSimple (development_of m i)
     is-simple = texts-simple texts-over above.0 below.0 m i above.1 below.1 pair
-
-    pub is-basic : IsBasic (development_of m i)
-    is-basic = texts-basic texts-over above.0 below.0 m i above.1 below.1 pair
 
 -- ---- part by part
 module _ (m i : Component) where

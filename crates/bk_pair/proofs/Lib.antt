@@ -5,7 +5,7 @@ pub mod Rising
 pub mod Levels
 pub mod Bodies
 pub mod Whole
-pub mod SimpleAndBasic
+pub mod SimpleAndFlat
 pub mod Texts
 pub mod ExamplesByHand
 pub mod Places

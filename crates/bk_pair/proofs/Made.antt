@@ -1,6 +1,6 @@
 -- What holds of formulas and statements that are made of numbers, sums, comparisons and assignments: they type, they name and
 -- write what they may, they are translated, and their obligations are made.
-use Rattle.std.proofs.Common.{◌≡◌, ℕ, ◌≤◌, ℤ, pos, Bool, true, false, ◌||◌, List, [], ◌∷◌, ◌++◌, Some, refl, sym, ap, subst, arith}
+use Rattle.std.proofs.Common.{◌≡◌, ℕ, ◌≤◌, ℤ, Bool, true, false, ◌||◌, List, [], ◌∷◌, ◌++◌, Some, refl, sym, ap, subst, arith}
 use Rattle.bk_val.specs.ValueType.{int_type, set_type}
 use Rattle.bk_form.specs.Table.{Table, variable_type}
 use Rattle.bk_form.specs.Formula.{Formula, variable, literal, unary, binary, formula_height}
@@ -20,7 +20,7 @@ use Rattle.bk_dev.specs.B0.{IsScalarName, operators_down, IsShallowTerm, Evaluat
 use Rattle.bk_dev.specs.Development.{Development}
 use Rattle.bk_dev.specs.Layout.{arrays_of}
 use Rattle.bk_b0.specs.Simple.{IsSimpleTerm, IsSimpleCondition, IsSimpleStatement}
-use Rattle.bk_wp.specs.Shapes.{HasNoLoop}
+use Rattle.bk_gsl.specs.Flat.{IsFlat}
 use Rattle.bk_comp.specs.Contents.{IsExpressionOver, IsIntervalOfNumbers, IsConditionOver, IsStatementOver, HasNoHigher}
 
 -- ---- typing
@@ -149,8 +149,8 @@ module _ (dev : Development) (scalar : (x : ℕ) → IsScalarName dev x) where
   statement-shallow members xs ys _ h low = absurd h
 
 -- ---- obligations
-pub statement-no-loop : (members : Bool) (xs ys : List ℕ) (s : Substitution) → IsStatementOver members xs ys s → HasNoLoop s
-statement-no-loop members xs ys skip h = tt
-statement-no-loop members xs ys (assign ps) h = tt
-statement-no-loop members xs ys (if_else p s t) h = (statement-no-loop members xs ys s h.1, statement-no-loop members xs ys t h.2)
-statement-no-loop members xs ys _ h = absurd h
+pub statement-flat : (members : Bool) (xs ys : List ℕ) (s : Substitution) → IsStatementOver members xs ys s → IsFlat s
+statement-flat members xs ys skip h = tt
+statement-flat members xs ys (assign ps) h = tt
+statement-flat members xs ys (if_else p s t) h = (statement-flat members xs ys s h.1, statement-flat members xs ys t h.2)
+statement-flat members xs ys _ h = absurd h

@@ -3,14 +3,13 @@ use Rattle.std.proofs.Common.{◌≡◌, ℕ, ◌≤◌, List, sym, subst, ◌�
 use Rattle.bk_dev.specs.Development.{Development}
 use Rattle.bk_dev.specs.Facts.{IsDevelopment}
 use Rattle.bk_b0.specs.Simple.{IsSimple}
-use Rattle.bk_po.specs.Basic.{IsBasic}
 use Rattle.bk_comp.specs.Components.{Component, IsTextOf, ArePair, TextIsOne, place_behind_all}
 use Rattle.bk_comp.specs.Contents.{IsMadeOfThese, TextsAreMadeOfThese}
 use Rattle.bk_pair.specs.Developments.{development_of}
-use Rattle.bk_pair.specs.PairLaws.{PairIsDevelopment, PairIsSimple, PairIsBasic, ReadAtMostOne}
+use Rattle.bk_pair.specs.PairLaws.{PairIsDevelopment, PairIsSimple, ReadAtMostOne}
 use Rattle.bk_pair.proofs.Pairs.{as_machine, as_implementation, machine_is, implementation_is}
 use Rattle.bk_pair.proofs.Whole.{whole-facts}
-use Rattle.bk_pair.proofs.SimpleAndBasic.{pair-simple, pair-basic}
+use Rattle.bk_pair.proofs.SimpleAndFlat.{pair-simple}
 
 module _ (made : TextsAreMadeOfThese) where
   module _ (P : Development → Type 0) (holds : (m i : Component) → place_behind_all 1 m.headers ≤ 10000 → IsMadeOfThese (as_machine m) → IsMadeOfThese (as_implementation m.headers i) → P (development_of (as_machine m) (as_implementation m.headers i))) where
@@ -28,9 +27,6 @@ module _ (made : TextsAreMadeOfThese) where
 
   pub texts-simple : PairIsSimple
   texts-simple = of-texts IsSimple (λ m i few upper below. pair-simple m i upper below)
-
-  pub texts-basic : PairIsBasic
-  texts-basic = of-texts IsBasic (λ m i few upper below. pair-basic m i upper below)
 
 -- texts of the same components are read as the same
 pub read-one : TextIsOne → ReadAtMostOne

@@ -28,8 +28,7 @@ use Rattle.bk_pair.proofs.Rising.{Rises, rises-lower, rises-append, rising-diffe
 use Rattle.bk_pair.proofs.Bodies.{heads-facts, upper-bodies, lower-bodies, no-binders}
 use Rattle.bk_dev.specs.Flattened.{flattened}
 use Rattle.bk_dev.proofs.Flat.{flattened_already}
-use Rattle.bk_po.proofs.Basics.{basic_are_flat}
-use Rattle.bk_pair.proofs.SimpleAndBasic.{each-body, pair-basic}
+use Rattle.bk_pair.proofs.SimpleAndFlat.{each-body, pair-flat}
 use Rattle.bk_dev.proofs.Levels.{two-levels}
 
 -- ---- a level with one variable
@@ -181,7 +180,7 @@ module _ (m i : Component) (few : place_behind_all 1 m.headers ≤ 10000) (upper
   bodies-stand kind x places hs bs made = each-body kind x (λ b. MayStandIn kind b.sub) (λ p h b w. statement-stands (takes_members kind) (x ∷ numbers_from p.inputs h.inputs) (x ∷ numbers_from p.outputs h.outputs) kind b.sub w.sub) places hs bs made
 
   no-copies : flattened pair ≡ pair
-  no-copies = flattened_already pair (basic_are_flat pair (pair-basic m i upper below))
+  no-copies = flattened_already pair (pair-flat m i upper below)
 
   few-enough : length pair.table.variables < 2 ^ 32
   few-enough = omega (arith, homes-count, as-many m i, lower-few m.headers, upper-length 1 m.headers, few)

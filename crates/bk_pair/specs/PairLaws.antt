@@ -3,7 +3,6 @@ use Rattle.std.specs.Prelude.{◌≡◌, ℕ, List}
 use Rattle.bk_dev.specs.Development.{Development}
 use Rattle.bk_dev.specs.Facts.{IsDevelopment}
 use Rattle.bk_b0.specs.Simple.{IsSimple}
-use Rattle.bk_po.specs.Basic.{IsBasic}
 use Rattle.bk_comp.specs.Components.{Component, IsTextOf, ArePair}
 use Rattle.bk_pair.specs.Developments.{development_of, Reads}
 
@@ -14,10 +13,6 @@ PairIsDevelopment = (above below : List ℕ) (m i : Component) → IsTextOf abov
 -- it is translated
 abbrev pub PairIsSimple : Type 0
 PairIsSimple = (above below : List ℕ) (m i : Component) → IsTextOf above m → IsTextOf below i → ArePair m i → IsSimple (development_of m i)
-
--- its obligations are made, and valid ones are enough
-abbrev pub PairIsBasic : Type 0
-PairIsBasic = (above below : List ℕ) (m i : Component) → IsTextOf above m → IsTextOf below i → ArePair m i → IsBasic (development_of m i)
 
 -- two texts read as at most one development
 abbrev pub ReadAtMostOne : Type 0

@@ -7,7 +7,6 @@ ghost use Rattle.bk_dev.specs.declared.kind.Home.TheVariants.{Input, Inner};
 ghost use Rattle.bk_comp.specs.Operations.{numbers_from};
 ghost use Rattle.bk_comp.specs.Components.{ArePair, place_behind_all, variable_of};
 ghost use Rattle.bk_b0.specs.Simple.{IsSimple};
-ghost use Rattle.bk_po.specs.Basic.{IsBasic};
 ghost use Rattle.bk_pair.specs.Developments.{IsWritten, entry, upper_variables, upper_homes, lower_variables, lower_homes, heads_from, level_of, development_of};
 
 use bk_comp::{Component, Header};
@@ -229,7 +228,6 @@ pub fn development(
     requires pair { ArePair machine implementation }
     ensures value { IfOk result (λ dev. dev ≡ development_of machine implementation) }
     ensures simple { IfOk result IsSimple }
-    ensures basic { IfOk result IsBasic }
     ensures few { IfOk result (λ dev. length dev.heads ≤ 100) }
 {
     let mut table = VarTable::new(alloc);

@@ -2,7 +2,7 @@
 //! does nothing.
 
 ghost use Rattle.bk_pair.specs.Examples.{ExamplesAreThese};
-ghost use Rattle.bk_pair.specs.PairLaws.{PairIsDevelopment, PairIsSimple, PairIsBasic, ReadAtMostOne};
+ghost use Rattle.bk_pair.specs.PairLaws.{PairIsDevelopment, PairIsSimple, ReadAtMostOne};
 
 /// The texts of a machine and of its implementation are a development.
 pub fn pair_is_development()
@@ -12,11 +12,6 @@ pub fn pair_is_development()
 /// It is translated.
 pub fn pair_is_simple()
     ensures { PairIsSimple }
-{}
-
-/// Its obligations are made, and valid ones are enough.
-pub fn pair_is_basic()
-    ensures { PairIsBasic }
 {}
 
 /// Two texts are read as one development at most.

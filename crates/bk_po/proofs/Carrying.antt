@@ -1,7 +1,7 @@
--- Where the obligations of a basic development are valid, the machine keeps its invariant, each level carries the one above, and the constants'
--- values meet the properties.
+-- Where the obligations of a development are valid, the machine keeps its invariant, each level carries the one above, the constants' values
+-- meet the properties, and what is stated is defined.
 use Rattle.std.proofs.Common.{◌≡◌, ◌<◌, ◌≤◌, ℕ, zero, suc, List, [], ◌∷◌, ◌++◌, map, take, length, refl, sym, ◌∙◌, ap, subst, Bool, true, false, cond, nat_eq, nat_lt, arith}
-use Rattle.std.specs.Prelude.{codes, slice_index_or}
+use Rattle.std.specs.Prelude.{slice_index_or}
 use Rattle.std.specs.List.{filter, flat_map}
 use Rattle.std.proofs.lemmas.Bool.Decides.{nat_tests}
 use Rattle.bk_val.specs.CmpLaws.{same_value}
@@ -15,28 +15,36 @@ use Rattle.bk_form.proofs.Members.{and-both}
 use Rattle.bk_gsl.specs.State.{holds, value_at}
 use Rattle.bk_gsl.specs.Run.{assigned}
 use Rattle.bk_gsl.specs.Typed.{AreTypedTerms}
-use Rattle.bk_form.specs.Predicates.{AllHold, conjuncts, equation}
+use Rattle.bk_form.specs.Predicates.{IsPredicate, AllHold, conjuncts, equation}
 use Rattle.bk_gsl.proofs.States.{nat_eq-same}
 use Rattle.bk_dev.specs.declared.kind.Kind.{Kind}
 use Rattle.bk_dev.specs.declared.kind.Kind.TheVariants.{Machine, Refinement, Implementation}
-use Rattle.bk_dev.specs.Development.{Level, Development, level_at, body_of, body_at, inputs_of, is_implementing, is_implementation, is_complete, last, whole}
+use Rattle.bk_dev.specs.Development.{Level, Development, level_at, body_of, body_at, inputs_of, is_implementing, is_implementation, is_complete, last}
 use Rattle.bk_dev.specs.Flattened.{flattened}
-use Rattle.bk_dev.specs.Hypotheses.{value_equation, properties_of, values_at, joining, facts, facts_of, joinings_of, conditions_of, is_number, in_machine_range, input_ranges, init_hypotheses, assertion_hypotheses, operation_hypotheses, body_hypotheses, unasserted_hypotheses}
-use Rattle.bk_dev.specs.Facts.{IsValue, IsLink, IsKindAt, IsLevelOf, IsLawful, OnlyLastIsImplementation}
+use Rattle.bk_dev.specs.Hypotheses.{value_equation, properties_of, values_at, joining, facts, facts_of, joinings_of, conditions_of, is_number, in_machine_range, input_ranges, init_hypotheses, assertion_hypotheses, body_hypotheses, unasserted_hypotheses}
+use Rattle.bk_dev.specs.Facts.{IsValue, IsLink, IsStated, IsKindAt, IsLevelOf, IsLawful, IsFlatDevelopment, OnlyLastIsImplementation}
 use Rattle.bk_form.specs.Each.{Each}
-use Rattle.bk_dev.specs.Claims.{KeepsFlat, CarriesFlat, ValuesMeet}
+use Rattle.bk_dev.specs.Claims.{ValuesMeet}
 use Rattle.bk_wp.proofs.Steps.{implies-then, holds-assign}
 use Rattle.bk_form.proofs.Conjuncts.{true-append, true-first, true-second, parts-true}
 use Rattle.bk_dev.proofs.Climb.{flat-then, flat-if}
 use Rattle.bk_dev.proofs.Levels.{level_fact}
-use Rattle.bk_dev.proofs.Flat.{flattened_already, levels-are-flat}
-use Rattle.bk_po.specs.Basic.{IsBasic}
-use Rattle.bk_po.specs.Obligations.{Obligation, obligation, of_operation, of_definedness, numbers_below, each_after, values_goal, init_goal, operation_goal, evaluation_goal, conjunction, flat_obligations, numbered, AreValid, named_after}
+use Rattle.bk_dev.proofs.FlatLevels.{flattened_lawful}
+use Rattle.bk_dev.proofs.FlatSame.{levels-many}
+use Rattle.bk_po.specs.declared.clause.Clause.{Clause}
+use Rattle.bk_po.specs.declared.clause.Clause.TheVariants.{PropertiesDefined, ValuesMeet as ValuesClause, InvariantDefined, AssertionsDefined, AssertionsHold, Initialisation, InitialisationDefined, Operation, OperationDefined}
+use Rattle.bk_po.specs.Obligations.{each_after, defined_in_turn, hypotheses_of, goal_of, conjunction, flat_obligations, numbered, AreValid}
 use Rattle.bk_seq.specs.Sequents.{split}
 use Rattle.bk_po.specs.Laws.{ValidObligationsCarry}
-use Rattle.bk_po.proofs.Basics.{basic_are_flat}
-use Rattle.bk_po.proofs.Splitting.{each-map, each-below, IsSound, IsMet, rows-met, split-holds, conjunction-true}
-use Rattle.bk_po.specs.Levels.{BoxesHold, ConditionsHold}
+use Rattle.bk_po.proofs.Lists.{each-so}
+use Rattle.bk_po.proofs.Clauses.{Stands}
+use Rattle.bk_po.proofs.Splitting.{IsSound, clause-met, split-holds, conjunction-true}
+use Rattle.bk_po.proofs.FlatArrays.{complete-same}
+use Rattle.bk_po.proofs.MovedValues.{values_moved}
+use Rattle.bk_po.specs.Levels.{BoxesHold, ConditionsHold, AreDefinedInTurn, IsWellStated}
+use Rattle.bk_wd.specs.Joining.{where_true}
+use Rattle.bk_wd.specs.WellDefined.{defined}
+use Rattle.bk_wp.proofs.Cleaning.{split as parted, given, predicate-at}
 use Rattle.bk_po.proofs.Enough.{boxes_carry}
 use Rattle.bk_po.proofs.Conditions.{conditions_are_clean}
 
@@ -85,7 +93,7 @@ values-typed dev [] h = tt
 values-typed dev (p ∷ ps) h = (h.0.of_type, values-typed dev ps h.1)
 
 -- ---- the claims
-module _ (find : Finder) (law : IsSearch find) (dev : Development) (f : IsLawful dev) (only : OnlyLastIsImplementation dev) (b : IsBasic dev) (valid : AreValid dev.table (numbered (flat_obligations dev))) where
+module _ (find : Finder) (law : IsSearch find) (dev : Development) (f : IsLawful dev) (only : OnlyLastIsImplementation dev) (valid : AreValid dev.table (numbered (flat_obligations dev))) where
   fact : (k : ℕ) → k < length dev.levels → IsLevelOf dev k (level_at dev k)
   fact k h = level_fact dev f k h
 
@@ -93,29 +101,12 @@ module _ (find : Finder) (law : IsSearch find) (dev : Development) (f : IsLawful
   meets : (hyps : List Formula) (goal : Formula) → Each (IsSound dev.table) (split hyps goal) → (e : State) → IsTypedState dev.table e → AllHold find (at_state dev.table e) hyps → holds find dev.table e goal ≡ true
   meets hyps goal m e t h = split-holds find law dev.table e t hyps goal m h
 
-  of-each : (F : ℕ → Obligation) → Each (IsMet dev.table) (map F (numbers_below (length dev.heads))) → (o : ℕ) → o < length dev.heads → IsMet dev.table (F o)
-  of-each F each o l = each-below (λ o. IsMet dev.table (F o)) (length dev.heads) (each-map (IsMet dev.table) F (numbers_below (length dev.heads)) each) o l
-
-  values-hold : (k : ℕ) → k < length dev.levels → is_implementation (level_at dev k) ≡ true → (e : State) → IsTypedState dev.table e → holds find dev.table e (values_goal dev k) ≡ true
-  values-hold k h i e t =
-      let own : Obligation = obligation (named_after dev k (codes "VALUES")) [] (values_goal dev k) in
-      let one = subst (λ x. Each (IsMet dev.table) (cond x (own ∷ []) [])) i (rows-met dev valid k h).1.0 in
-      meets [] (values_goal dev k) one.0 e t tt
+  -- of one clause
+  says : (k : ℕ) → k < length dev.levels → (c : Clause) → Stands dev k c → (e : State) → IsTypedState dev.table e → AllHold find (at_state dev.table e) (hypotheses_of dev k c) → holds find dev.table e (goal_of dev k c) ≡ true
+  says k h c s e t hyps = meets (hypotheses_of dev k c) (goal_of dev k c) (clause-met dev valid k h c s) e t hyps
 
   assertions-hold : (k : ℕ) → k < length dev.levels → (e : State) → IsTypedState dev.table e → AllHold find (at_state dev.table e) (assertion_hypotheses dev k) → AllHold find (at_state dev.table e) (flat_map conjuncts (level_at dev k).assertions)
-  assertions-hold k h e t hyps = after-true find dev.table e (level_at dev k).assertions (meets (assertion_hypotheses dev k) (each_after (level_at dev k).assertions) (rows-met dev valid k h).1.1.1.1.0.0 e t hyps)
-
-  init-holds : (k : ℕ) → k < length dev.levels → (e : State) → IsTypedState dev.table e → AllHold find (at_state dev.table e) (init_hypotheses dev k) → holds find dev.table e (init_goal dev k) ≡ true
-  init-holds k h e t hyps = meets (init_hypotheses dev k) (init_goal dev k) (rows-met dev valid k h).1.1.1.1.1.0.0 e t hyps
-
-  init-evaluated : (k : ℕ) → k < length dev.levels → (e : State) → IsTypedState dev.table e → AllHold find (at_state dev.table e) (init_hypotheses dev k) → holds find dev.table e (evaluation_goal dev k (level_at dev k).init) ≡ true
-  init-evaluated k h e t hyps = meets (init_hypotheses dev k) (evaluation_goal dev k (level_at dev k).init) (rows-met dev valid k h).1.1.1.1.1.1.0.0 e t hyps
-
-  operation-holds : (k : ℕ) → k < length dev.levels → (o : ℕ) → o < length dev.heads → (e : State) → IsTypedState dev.table e → AllHold find (at_state dev.table e) (operation_hypotheses dev k o) → holds find dev.table e (operation_goal dev k o) ≡ true
-  operation-holds k h o l e t hyps = meets (operation_hypotheses dev k o) (operation_goal dev k o) (of-each (of_operation dev k) (rows-met dev valid k h).1.1.1.1.1.1.1.0 o l) e t hyps
-
-  operation-evaluated : (k : ℕ) → k < length dev.levels → (o : ℕ) → o < length dev.heads → (e : State) → IsTypedState dev.table e → AllHold find (at_state dev.table e) (body_hypotheses dev k o) → holds find dev.table e (evaluation_goal dev k (whole (body_at dev k o))) ≡ true
-  operation-evaluated k h o l e t hyps = meets (body_hypotheses dev k o) (evaluation_goal dev k (whole (body_at dev k o))) (of-each (of_definedness dev k) (rows-met dev valid k h).1.1.1.1.1.1.1.1.0 o l) e t hyps
+  assertions-hold k h e t hyps = after-true find dev.table e (level_at dev k).assertions (says k h AssertionsHold tt e t hyps)
 
   -- ---- hypotheses
   no-values : (k : ℕ) → is_implementation (level_at dev k) ≡ false → (e : State) → AllHold find (at_state dev.table e) (values_at dev k)
@@ -201,41 +192,57 @@ module _ (find : Finder) (law : IsSearch find) (dev : Development) (f : IsLawful
   -- ---- boxes and conditions
   pub boxes-hold : BoxesHold find dev
   boxes-hold = record {
-    inits = init-holds;
-    machine = λ o l e t h i c. operation-holds 0 f.some_level o l e t (machine-hyps 1 o e t h i (own-condition o e c));
-    operations = λ j h o l e t hyps. operation-holds (suc j) h o l e t (body-hyps (suc j) h o e t hyps);
+    inits = λ k h e t hyps. says k h Initialisation tt e t hyps;
+    machine = λ o l e t h i c. says 0 f.some_level (Operation o) l e t (machine-hyps 1 o e t h i (own-condition o e c));
+    operations = λ j h o l e t hyps. says (suc j) h (Operation o) l e t (body-hyps (suc j) h o e t hyps);
   }
 
   pub conditions-hold : ConditionsHold find dev
   conditions-hold = record {
-    inits = init-evaluated;
-    machine = λ o l e t h i. operation-evaluated 0 f.some_level o l e t (machine-hyps 0 o e t h i (no-conditions o e));
-    operations = λ j h o l e t hyps. operation-evaluated (suc j) h o l e t (body-hyps (suc j) h o e t hyps);
+    inits = λ k h e t hyps. says k h InitialisationDefined tt e t hyps;
+    machine = λ o l e t h i. says 0 f.some_level (OperationDefined o) l e t (machine-hyps 0 o e t h i (no-conditions o e));
+    operations = λ j h o l e t hyps. says (suc j) h (OperationDefined o) l e t (body-hyps (suc j) h o e t hyps);
   }
 
   -- ---- the constants' values
-  values-meet : is_complete dev ≡ true → ValuesMeet find dev
+  pub values-meet : is_complete dev ≡ true → ValuesMeet find dev
   values-meet complete e t h =
       let some : 0 < length dev.levels = f.some_level in
       let all : suc (last dev) ≡ length dev.levels = omega (arith, some) in
       let levels = take (suc (last dev)) dev.levels in
       let goal = conjunction (map (λ l. l.properties) levels) in
-      let replaced = sym (holds-assign find dev.table dev.values (values-typed dev dev.values f.values) e goal) ∙ values-hold (last dev) (omega (arith, some)) complete e t in
+      let replaced = sym (holds-assign find dev.table dev.values (values-typed dev dev.values f.values) e goal) ∙ says (last dev) (omega (arith, some)) ValuesClause complete e t tt in
       let same : assigned find dev.table dev.values e ≡ e = λ i n. value-kept find dev.table e dev.values h n i in
       let true-there : holds find dev.table e goal ≡ true = subst (λ g. holds find dev.table g goal ≡ true) same replaced in
       subst (λ n. AllHold find (at_state dev.table e) (properties_of dev n)) all (all-parts find dev.table e levels (conjunction-true find dev.table e (map (λ l. l.properties) levels) true-there))
 
+  -- ---- what is stated
+  in-turn : (e : State) → IsTypedState dev.table e → (ps : List Formula) → Each (IsPredicate dev.table) ps → holds find dev.table e (defined_in_turn dev.table ps) ≡ true → AreDefinedInTurn find dev e ps
+  in-turn e t [] w h = tt
+  in-turn e t (p ∷ ps) w h =
+      let both = parted find law dev.table f.table e (defined dev.table [] p) (where_true p (defined_in_turn dev.table ps)) h in
+      (predicate-at find law dev.table f.table e t p w.0 both.0, λ k. in-turn e t ps w.1 (given find law dev.table f.table e p (defined_in_turn dev.table ps) both.1 k))
+
+  pub stated : IsWellStated find dev
+  stated = record {
+    properties = λ k h e t hyps. predicate-at find law dev.table f.table e t (level_at dev k).properties (fact k h).properties (says k h PropertiesDefined tt e t hyps);
+    invariants = λ k h e t hyps. predicate-at find law dev.table f.table e t (level_at dev k).invariant (fact k h).invariant.is_predicate (says k h InvariantDefined tt e t hyps);
+    assertions = λ k h e t hyps.
+        let predicates = each-so (IsStated dev k) (IsPredicate dev.table) (level_at dev k).assertions (λ p w. w.is_predicate) (fact k h).assertions in
+        (in-turn e t (level_at dev k).assertions predicates (says k h AssertionsDefined tt e t hyps), assertions-hold k h e t hyps);
+  }
+
 pub valid_obligations_carry : ValidObligationsCarry
-valid_obligations_carry find law dev d b valid =
-    let f : IsLawful dev = d.lawful in
-    let plain = basic_are_flat dev b in
-    let flat : flattened dev ≡ dev = flattened_already dev plain in
-    let known : AreValid dev.table (numbered (flat_obligations dev)) = subst (λ x. AreValid x.table (numbered (flat_obligations x))) flat valid in
-    let boxes = boxes-hold find law dev f d.only_last b known in
-    let levels = levels-are-flat dev plain in
-    let carried = boxes_carry find law dev f d.only_last levels boxes (conditions_are_clean find law dev f d.only_last levels boxes (conditions-hold find law dev f d.only_last b known)) in
+valid_obligations_carry find law dev d valid =
+    let flat : Development = flattened dev in
+    let f : IsLawful flat = flattened_lawful.every dev d in
+    let only : OnlyLastIsImplementation flat = flattened_lawful.only_last dev d.only_last in
+    let levels : IsFlatDevelopment flat = flattened_lawful.flat dev in
+    let boxes = boxes-hold find law flat f only valid in
+    let carried = boxes_carry find law flat f only levels boxes (conditions_are_clean find law flat f only levels boxes (conditions-hold find law flat f only valid)) in
     record {
-      keeps = subst (KeepsFlat find) (sym flat) carried.keeps;
-      carries = λ j h. subst (λ x. CarriesFlat find x j) (sym flat) (carried.carries j h);
-      values = values-meet find law dev f d.only_last b known;
+      keeps = carried.keeps;
+      carries = λ j h. carried.carries j (subst (λ n. suc j < n) (sym (levels-many (length dev.table.variables) dev.levels)) h);
+      values = λ complete. values_moved dev d (λ g l. values-meet g l flat f only valid (complete-same dev d.lawful ∙ complete)) find law;
+      stated = stated find law flat f only valid;
     }

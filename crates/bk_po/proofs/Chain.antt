@@ -10,18 +10,16 @@ use Rattle.bk_form.specs.Replacement.{occurs}
 use Rattle.bk_form.specs.Search.{Finder, IsSearch}
 use Rattle.bk_form.specs.Environment.{State, IsTypedState, at_state}
 use Rattle.bk_form.proofs.Members.{or-cases, or-left, or-right}
-use Rattle.bk_gsl.specs.Substitution.{Substitution, skip, assign, pre, guard, choice, if_else, any, seq, par, assert, becomes_such, loop}
+use Rattle.bk_gsl.specs.Substitution.{Substitution, pre}
 use Rattle.bk_gsl.specs.State.{holds, among}
 use Rattle.bk_gsl.specs.Run.{Runs, Ends}
 use Rattle.bk_form.specs.Predicates.{IsPredicate, AllHold, conjuncts, equation}
 use Rattle.bk_gsl.specs.Typed.{Types}
-use Rattle.bk_dev.specs.declared.kind.Kind.{Kind}
-use Rattle.bk_dev.specs.declared.kind.Kind.TheVariants.{Machine, Refinement, Implementation}
 use Rattle.bk_dev.specs.declared.kind.Home.{Home}
 use Rattle.bk_dev.specs.declared.kind.Home.TheVariants.{Constant, Input, Abstract, Concrete, Inner}
 use Rattle.bk_dev.specs.Development.{Head, Body, Level, Development, level_at, body_of, body_at, is_implementing, is_implementation, is_btrue, whole}
 use Rattle.bk_form.specs.Each.{Each}
-use Rattle.bk_dev.specs.Facts.{AllAre, binders, is_constant, is_input, is_variable_of, is_variable_above, is_inner_of, home_of, names_own, names_joined, writes_own, IsLink, AreAlike, LoopsStandIn, IsSubOf, IsBodyOf, IsLevelOf, IsLawful, IsFlatDevelopment, OnlyLastIsImplementation}
+use Rattle.bk_dev.specs.Facts.{AllAre, binders, is_constant, is_input, is_variable_of, is_variable_above, is_inner_of, home_of, names_own, names_joined, writes_own, IsLink, AreAlike, IsSubOf, IsBodyOf, IsLevelOf, IsLawful, IsFlatDevelopment, OnlyLastIsImplementation}
 use Rattle.bk_dev.specs.Hypotheses.{properties_of, values_at, joining, joinings_of, conditions_of, input_ranges, init_hypotheses, unasserted_hypotheses}
 use Rattle.bk_dev.specs.Claims.{beside, JoinsAt, CarriesFlat}
 use Rattle.bk_gsl.specs.Apart.{AreApart, LocalsAreApart}
@@ -37,6 +35,7 @@ use Rattle.bk_dev.proofs.Agree.{unchanged}
 use Rattle.bk_dev.proofs.Climb.{flat-then, flat-if, is_before, own-before, joined-before, inner-before}
 use Rattle.bk_po.specs.Obligations.{joining_goal, conjunction}
 use Rattle.bk_po.specs.Levels.{BoxesHold, AllClean}
+use Rattle.bk_po.proofs.FlatParts.{no-loop}
 use Rattle.bk_dev.proofs.Staying.{false-of, not-both, Within, binders-new, read-seen, stays-apart, ends-same, all-at}
 use Rattle.bk_wp.proofs.Predicates.{diamond-predicate}
 use Rattle.bk_po.proofs.Splitting.{conjunction-true}
@@ -44,26 +43,6 @@ use Rattle.bk_po.proofs.Predicates.{beside-alike}
 use Rattle.bk_po.proofs.Joining.{joined_goal-predicate, LinkNames, joined_goal-names, beside-among}
 use Rattle.bk_dev.proofs.Levels.{body-at, level_fact, head-at}
 use Rattle.bk_form.proofs.Closed.{predicate-closed}
-
--- ---- kinds
-pub no-loop : (kind : Kind) → is_implementing kind ≡ false → (s : Substitution) → LoopsStandIn kind s → IsFlat s → HasNoLoop s
-no-loop kind m skip l f = tt
-no-loop kind m (assign ps) l f = tt
-no-loop kind m (pre p s) l f = no-loop kind m s l f
-no-loop kind m (guard p s) l f = no-loop kind m s l f
-no-loop kind m (choice s t) l f = (no-loop kind m s l.0 f.0, no-loop kind m t l.1 f.1)
-no-loop kind m (if_else p s t) l f = (no-loop kind m s l.0 f.0, no-loop kind m t l.1 f.1)
-no-loop kind m (any zs s) l f = no-loop kind m s l f
-no-loop kind m (seq s t) l f = (no-loop kind m s l.0 f.0, no-loop kind m t l.1 f.1)
-no-loop kind m (par s t) l f = absurd f
-no-loop kind m (assert p s) l f = no-loop kind m s l f
-no-loop kind m (becomes_such xs p) l f = tt
-no-loop kind m (loop p s i v) l f = absurd (none kind m l.0)
-  where
-    none : (kind : Kind) → is_implementing kind ≡ false → Rattle.bk_dev.specs.Facts.MayLoop kind → ⊥
-    none Machine m l = l
-    none Refinement m l = l
-    none Implementation m l = absurd (cc)
 
 -- ---- homes: what is of level i or further down stands at no place that is before i
 variable-not-before : (i : ℕ) (o : Option Home) → is_variable_of i o ≡ true → is_before i o ≡ false

@@ -1,5 +1,5 @@
--- The adder and the stepper are basic developments.
-use Rattle.std.proofs.Common.{◌≡◌, ◌⊎◌, inl, inr, ℕ, zero, suc, ℤ, pos, [], ◌∷◌, refl, sym, subst, Bool, true, All, IsTrue, arith}
+-- The adder and the stepper are developments.
+use Rattle.std.proofs.Common.{◌≡◌, ◌⊎◌, inl, inr, ℕ, zero, suc, ℤ, pos, [], ◌∷◌, refl, subst, Bool, true, All, IsTrue, arith}
 use Rattle.bk_val.specs.ValueType.{int_type}
 use Rattle.bk_form.specs.Table.{lists_type, IsWellFormed}
 use Rattle.bk_form.specs.Formula.{Formula, variable, literal, binary, btrue}
@@ -8,13 +8,12 @@ use Rattle.bk_form.specs.declared.operator.BinOp.{BinOp}
 use Rattle.bk_form.specs.declared.operator.BinOp.TheVariants.{And, Lt, Le, In, Range, Add}
 use Rattle.bk_gsl.specs.State.{among}
 use Rattle.bk_gsl.proofs.States.{nat_eq-same}
-use Rattle.bk_dev.specs.Development.{Development, level_at, body_at}
+use Rattle.bk_dev.specs.Development.{level_at, body_at}
 use Rattle.bk_dev.specs.Facts.{is_constant, is_variable_of, home_of, Names, names_constants, names_joined, names_own, IsBodyOf, IsLevelOf, IsDevelopment, IsLawful}
 use Rattle.bk_dev.specs.Counter.{counter_table}
 use Rattle.bk_wp.proofs.Steps.{or-cases}
-use Rattle.bk_po.specs.Basic.{IsBasic}
 use Rattle.bk_po.specs.Examples.{between, plus, getting, inc_head, get_head, tally_table, may_add, adding, tally, stepping, stepper}
-use Rattle.bk_po.specs.Laws.{ExamplesAreBasic}
+use Rattle.bk_po.specs.Laws.{ExamplesAreDevelopments}
 use Rattle.bk_dev.proofs.Levels.{two-levels}
 
 -- ---- what formulas name
@@ -320,24 +319,6 @@ stepper_facts = record {
   room = omega (arith);
 }
 
--- ---- both are basic
-pub examples_are_basic : ExamplesAreBasic
-examples_are_basic = record {
-  tally_facts = tally_facts;
-  tally_basic = record {
-    levels = (record { init = tt; bodies = (tt, (tt, tt)) }, (record { init = tt; bodies = (tt, (tt, tt)) }, tt));
-    no_arrays = refl;
-  };
-  stepper_facts = stepper_facts;
-  stepper_basic = record {
-    levels = (record { init = tt; bodies = ((tt, tt), (tt, tt)) }, (record { init = tt; bodies = ((tt, tt), (tt, tt)) }, tt));
-    no_arrays = refl;
-  };
-}
-
--- as a call's premises
-pub tally_basic : (dev : Development) → dev ≡ tally → IsBasic dev
-tally_basic dev same = subst IsBasic (sym same) examples_are_basic.tally_basic
-
-pub stepper_basic : (dev : Development) → dev ≡ stepper → IsBasic dev
-stepper_basic dev same = subst IsBasic (sym same) examples_are_basic.stepper_basic
+-- ---- both are developments
+pub examples_are_developments : ExamplesAreDevelopments
+examples_are_developments = record { tally_facts = tally_facts; stepper_facts = stepper_facts }

@@ -1,15 +1,11 @@
 -- Obligations laid down one after another, up to the first that is too large.
-use Rattle.std.proofs.Common.{◌≡◌, ◌<◌, ◌≤◌, ◌+◌, ◌-◌, ℕ, zero, suc, List, [], ◌∷◌, ◌++◌, map, length, drop, get_or, Bool, true, false, cond, Option, Some, None, Result, Ok, Err, IfOk, IfErr, IsErrAnd, refl, sym, ◌∙◌, ap, subst, arith}
-use Rattle.std.specs.Prelude.{codes}
+use Rattle.std.proofs.Common.{◌≡◌, ◌<◌, ◌≤◌, ◌+◌, ◌-◌, ℕ, zero, suc, List, [], ◌∷◌, ◌++◌, map, length, drop, get_or, Bool, true, false, cond, Option, Some, None, Result, Ok, Err, IfErr, IsErrAnd, refl, sym, ◌∙◌, ap, subst, arith}
 use Rattle.std.specs.List.{flat_map}
 use Rattle.std.proofs.lemmas.Bool.Decides.{nat_tests}
 use Rattle.std.proofs.lemmas.List.{append_assoc, drop_more}
-use Rattle.bk_form.specs.Formula.{Formula}
 use Rattle.bk_bind.specs.Limits.{IsWithinLimits}
-use Rattle.bk_dev.specs.Development.{Level, Development, level_at}
-use Rattle.bk_dev.specs.Hypotheses.{init_hypotheses}
-use Rattle.bk_po.specs.declared.row.Row.TheVariants.{InitialisationDefined}
-use Rattle.bk_po.specs.Obligations.{Obligation, obligation, suffix, evaluation_goal, row_obligations, numbers_below}
+use Rattle.bk_form.specs.Each.{Each}
+use Rattle.bk_po.specs.Obligations.{Obligation, numbers_below}
 use Rattle.bk_po.specs.declared.error.PoFault.{PoFault}
 use Rattle.bk_po.specs.declared.error.PoFault.TheVariants.{TooLarge, TooMany, Memory}
 use Rattle.bk_po.specs.Limits.{is_too_large, first_too_large, IsFaultAmong, IsFaultOf}
@@ -70,19 +66,11 @@ from_step k n h =
 pub from_end : (k n : ℕ) → n ≤ k → from_on k (n - k) ≡ []
 from_end k n h = let none : n - k ≡ 0 = omega (arith, h) in ap (from_on k) none
 
--- ---- one more operation
-pub next_operation : (f : ℕ → Obligation) (total now new : List Obligation) (k n : ℕ) (o : Obligation) → k < n → now ++ map f (from_on k (n - k)) ≡ total → new ≡ now ++ o ∷ [] → o ≡ f k → new ++ map f (from_on (k + 1) (n - (k + 1))) ≡ total
-next_operation f total now new k n o h so_far pushed is =
+-- ---- one more number
+pub next_number : {A : Type 0} (f : ℕ → A) (total now new : List A) (k n : ℕ) (x : A) → k < n → now ++ map f (from_on k (n - k)) ≡ total → new ≡ now ++ x ∷ [] → x ≡ f k → new ++ map f (from_on (k + 1) (n - (k + 1))) ≡ total
+next_number {A} f total now new k n x h so_far pushed is =
     let rest = map f (from_on (k + 1) (n - (k + 1))) in
-    ap (λ os. os ++ rest) (pushed ∙ ap (λ p. now ++ p ∷ []) is) ∙ (append_assoc now (f k ∷ []) rest ∙ (ap (λ ks. now ++ map f ks) (sym (from_step k n h)) ∙ so_far))
-
-pub next_size : (f : ℕ → Obligation) (v : Option (List ℕ)) (k n : ℕ) → k < n → first_too_large (map f (from_on k (n - k))) ≡ v → first_too_large (f k ∷ []) ≡ None → first_too_large (map f (from_on (k + 1) (n - (k + 1)))) ≡ v
-next_size f v k n h so_far small =
-    sym (first_passes (f k ∷ []) (map f (from_on (k + 1) (n - (k + 1)))) small) ∙ (ap (λ ks. first_too_large (map f ks)) (sym (from_step k n h)) ∙ so_far)
-
-pub found_operation : (f : ℕ → Obligation) (v : Option (List ℕ)) (k n : ℕ) (name : List ℕ) → k < n → first_too_large (map f (from_on k (n - k))) ≡ v → first_too_large (f k ∷ []) ≡ Some name → v ≡ Some name
-found_operation f v k n name h so_far large =
-    sym so_far ∙ (ap (λ ks. first_too_large (map f ks)) (from_step k n h) ∙ first_found (f k ∷ []) (map f (from_on (k + 1) (n - (k + 1)))) name large)
+    ap (λ xs. xs ++ rest) (pushed ∙ ap (λ p. now ++ p ∷ []) is) ∙ (append_assoc now (f k ∷ []) rest ∙ (ap (λ ks. now ++ map f ks) (sym (from_step k n h)) ∙ so_far))
 
 -- ---- one more level
 pub next_level : (f : ℕ → List Obligation) (total now new : List Obligation) (k n : ℕ) → k < n → now ++ flat_map f (from_on k (n - k)) ≡ total → new ≡ now ++ f k → new ++ flat_map f (from_on (k + 1) (n - (k + 1))) ≡ total
@@ -103,24 +91,30 @@ found_fault f total k n (TooLarge name) h so_far large = found_level f (first_to
 found_fault f total k n (TooMany limit) h so_far large = large
 found_fault f total k n Memory h so_far large = tt
 
--- ---- one more row
-pub next_row : {A : Type 0} (f : A → List Obligation) (total now new : List Obligation) (rows : List A) (i : ℕ) (d : A) → i < length rows → now ++ flat_map f (drop i rows) ≡ total → new ≡ now ++ f (get_or rows i d) → new ++ flat_map f (drop (i + 1) rows) ≡ total
-next_row {A} f total now new rows i d h so_far added =
-    let rest = flat_map f (drop (i + 1) rows) in
-    ap (λ os. os ++ rest) added ∙ (append_assoc now (f (get_or rows i d)) rest ∙ (ap (λ rs. now ++ flat_map f rs) (sym (drop_more rows i d h)) ∙ so_far))
+-- ---- one more clause
+pub next_clause : {A : Type 0} (f : A → Obligation) (total now new : List Obligation) (cs : List A) (i : ℕ) (d : A) (o : Obligation) → i < length cs → now ++ map f (drop i cs) ≡ total → new ≡ now ++ o ∷ [] → o ≡ f (get_or cs i d) → new ++ map f (drop (i + 1) cs) ≡ total
+next_clause {A} f total now new cs i d o h so_far pushed is =
+    let rest = map f (drop (i + 1) cs) in
+    ap (λ os. os ++ rest) (pushed ∙ ap (λ p. now ++ p ∷ []) is) ∙ (append_assoc now (f (get_or cs i d) ∷ []) rest ∙ (ap (λ xs. now ++ map f xs) (sym (drop_more cs i d h)) ∙ so_far))
 
-pub next_row_size : {A : Type 0} (f : A → List Obligation) (v : Option (List ℕ)) (rows : List A) (i : ℕ) (d : A) → i < length rows → first_too_large (flat_map f (drop i rows)) ≡ v → first_too_large (f (get_or rows i d)) ≡ None → first_too_large (flat_map f (drop (i + 1) rows)) ≡ v
-next_row_size {A} f v rows i d h so_far small =
-    sym (first_passes (f (get_or rows i d)) (flat_map f (drop (i + 1) rows)) small) ∙ (ap (λ rs. first_too_large (flat_map f rs)) (sym (drop_more rows i d h)) ∙ so_far)
+pub next_clause_size : {A : Type 0} (f : A → Obligation) (v : Option (List ℕ)) (cs : List A) (i : ℕ) (d : A) → i < length cs → first_too_large (map f (drop i cs)) ≡ v → first_too_large (f (get_or cs i d) ∷ []) ≡ None → first_too_large (map f (drop (i + 1) cs)) ≡ v
+next_clause_size {A} f v cs i d h so_far small =
+    sym (first_passes (f (get_or cs i d) ∷ []) (map f (drop (i + 1) cs)) small) ∙ (ap (λ xs. first_too_large (map f xs)) (sym (drop_more cs i d h)) ∙ so_far)
 
-found_row : {A : Type 0} (f : A → List Obligation) (v : Option (List ℕ)) (rows : List A) (i : ℕ) (d : A) (name : List ℕ) → i < length rows → first_too_large (flat_map f (drop i rows)) ≡ v → first_too_large (f (get_or rows i d)) ≡ Some name → v ≡ Some name
-found_row {A} f v rows i d name h so_far large =
-    sym so_far ∙ (ap (λ rs. first_too_large (flat_map f rs)) (drop_more rows i d h) ∙ first_found (f (get_or rows i d)) (flat_map f (drop (i + 1) rows)) name large)
+found_clause : {A : Type 0} (f : A → Obligation) (v : Option (List ℕ)) (cs : List A) (i : ℕ) (d : A) (name : List ℕ) → i < length cs → first_too_large (map f (drop i cs)) ≡ v → first_too_large (f (get_or cs i d) ∷ []) ≡ Some name → v ≡ Some name
+found_clause {A} f v cs i d name h so_far large =
+    sym so_far ∙ (ap (λ xs. first_too_large (map f xs)) (drop_more cs i d h) ∙ first_found (f (get_or cs i d) ∷ []) (map f (drop (i + 1) cs)) name large)
 
-pub found_row_fault : {A : Type 0} (f : A → List Obligation) (total : List Obligation) (rows : List A) (i : ℕ) (d : A) (fault : PoFault) → i < length rows → first_too_large (flat_map f (drop i rows)) ≡ first_too_large total → IsFaultAmong (f (get_or rows i d)) fault → IsFaultAmong total fault
-found_row_fault {A} f total rows i d (TooLarge name) h so_far large = found_row f (first_too_large total) rows i d name h so_far large
-found_row_fault {A} f total rows i d (TooMany limit) h so_far large = large
-found_row_fault {A} f total rows i d Memory h so_far large = tt
+pub found_clause_fault : {A : Type 0} (f : A → Obligation) (total : List Obligation) (cs : List A) (i : ℕ) (d : A) (fault : PoFault) → i < length cs → first_too_large (map f (drop i cs)) ≡ first_too_large total → IsFaultAmong (f (get_or cs i d) ∷ []) fault → IsFaultAmong total fault
+found_clause_fault {A} f total cs i d (TooLarge name) h so_far large = found_clause f (first_too_large total) cs i d name h so_far large
+found_clause_fault {A} f total cs i d (TooMany limit) h so_far large = large
+found_clause_fault {A} f total cs i d Memory h so_far large = tt
+
+-- what is so of each clause is so of the next
+pub each_item : {A : Type 0} (P : A → Type 0) (xs : List A) (i : ℕ) (d : A) → i < length xs → Each P xs → P (get_or xs i d)
+each_item {A} P [] i d h e = absurd (omega (arith, h))
+each_item {A} P (x ∷ xs) zero d h e = e.0
+each_item {A} P (x ∷ xs) (suc i) d h e = each_item P xs i d (omega (arith, h)) e.1
 
 -- ---- what a call gave
 pub among_is_of : (os : List Obligation) (fault : PoFault) → IsFaultAmong os fault → IsFaultOf os fault
@@ -132,14 +126,5 @@ among_is_of os Memory h = tt
 pub handed_on : {T : Type 0} (r : Result T PoFault) (fault : PoFault) (P : PoFault → Type 0) → IsErrAnd r (λ e. e ≡ fault) → P fault → IfErr r P
 handed_on {T} (Ok x) fault P h p = tt
 handed_on {T} (Err e) fault P h p = subst P (sym h) p
-
-pub on_ok : {T E : Type 0} (r : Result T E) (P Q : T → Type 0) → ((x : T) → P x → Q x) → IfOk r P → IfOk r Q
-on_ok {T} {E} (Ok x) P Q f h = f x h
-on_ok {T} {E} (Err e) P Q f h = tt
-
-pub init_defined : (dev : Development) (k : ℕ) (l : Level) (name : List ℕ) (hyps : List Formula) (goal : Formula) → l ≡ level_at dev k → name ≡ l.name ++ codes "." ++ (codes "INITIALISATION" ++ suffix l) → hyps ≡ init_hypotheses dev k → goal ≡ evaluation_goal dev k (level_at dev k).init → obligation name hyps goal ∷ [] ≡ row_obligations dev k InitialisationDefined
-init_defined dev k l name hyps goal same_level same_name same_hyps same_goal =
-    let named = same_name ∙ ap (λ (m : Level). m.name ++ codes "." ++ (codes "INITIALISATION" ++ suffix m)) same_level in
-    λ i. obligation (named i) (same_hyps i) (same_goal i) ∷ []
 
 pub ruleset laying = (first_passes, first_found, large_goal, below_is_from, from_step, from_end)

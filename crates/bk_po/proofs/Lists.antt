@@ -1,6 +1,7 @@
 -- What holds of each of a list, and of lists that are made of it.
-use Rattle.std.proofs.Common.{◌≡◌, ◌<◌, ℕ, zero, suc, List, [], ◌∷◌, ◌++◌, map, take, refl, Bool, true, false, cond, arith}
+use Rattle.std.proofs.Common.{◌≡◌, ◌<◌, ℕ, zero, suc, List, [], ◌∷◌, ◌++◌, map, take, refl, subst, Bool, true, false, cond, nat_lt, arith}
 use Rattle.std.specs.List.{filter, flat_map}
+use Rattle.std.proofs.lemmas.Bool.Decides.{nat_tests}
 use Rattle.bk_form.specs.Each.{Each}
 use Rattle.bk_po.specs.Obligations.{numbers_below}
 
@@ -40,3 +41,32 @@ filter-true {A} test (x ∷ xs) = by_test (filter-true test xs) (test x) refl
     by_test : Each (λ x. test x ≡ true) (filter test xs) → (b : Bool) → test x ≡ b → Each (λ x. test x ≡ true) (cond b (x ∷ filter test xs) (filter test xs))
     by_test rest true h = (h, rest)
     by_test rest false h = rest
+
+-- ---- each of a list that was made of others
+pub each-first : {A : Type 0} (P : A → Type 0) (xs ys : List A) → Each P (xs ++ ys) → Each P xs
+each-first {A} P [] ys h = tt
+each-first {A} P (x ∷ xs) ys h = (h.0, each-first P xs ys h.1)
+
+pub each-second : {A : Type 0} (P : A → Type 0) (xs ys : List A) → Each P (xs ++ ys) → Each P ys
+each-second {A} P [] ys h = h
+each-second {A} P (x ∷ xs) ys h = each-second P xs ys h.1
+
+pub each-flat : {A B : Type 0} (P : B → Type 0) (F : A → List B) (xs : List A) → Each P (flat_map F xs) → Each (λ x. Each P (F x)) xs
+each-flat {A} {B} P F [] h = tt
+each-flat {A} {B} P F (x ∷ xs) h = (each-first P (F x) (flat_map F xs) h, each-flat P F xs (each-second P (F x) (flat_map F xs) h))
+
+pub each-map : {A B : Type 0} (P : B → Type 0) (F : A → B) (xs : List A) → Each P (map F xs) → Each (λ x. P (F x)) xs
+each-map {A} {B} P F [] h = tt
+each-map {A} {B} P F (x ∷ xs) h = (h.0, each-map P F xs h.1)
+
+pub each-so : {A : Type 0} (P Q : A → Type 0) (xs : List A) → ((x : A) → P x → Q x) → Each P xs → Each Q xs
+each-so {A} P Q [] so h = tt
+each-so {A} P Q (x ∷ xs) so h = (so x h.0, each-so P Q xs so h.1)
+
+pub each-below : (P : ℕ → Type 0) (n : ℕ) → Each P (numbers_below n) → (k : ℕ) → k < n → P k
+each-below P zero h k l = absurd (omega (arith, l))
+each-below P (suc n) h k l = by_test (λ less. each-below P n (each-first P (numbers_below n) (n ∷ []) h) k less) (nat_lt k n) refl
+  where
+    by_test : (k < n → P k) → (b : Bool) → nat_lt k n ≡ b → P k
+    by_test less true e = less (grind (arith, nat_tests))
+    by_test less false e = let same : n ≡ k = grind (arith, nat_tests) in subst P same (each-second P (numbers_below n) (n ∷ []) h).0

@@ -16,8 +16,7 @@ use Rattle.bk_wd.proofs.Parts.{both-role, where-role}
 use Rattle.bk_wd.proofs.Predicates.{defined-predicate}
 use Rattle.bk_seq.specs.Sequents.{Types as TypedSequent, split}
 use Rattle.bk_po.specs.Obligations.{joined_onto, joined_all, conjunction, each_after, defined_in_turn}
-use Rattle.bk_po.proofs.Lists.{append-each, map-each, filter-each}
-use Rattle.bk_po.proofs.Splitting.{each-so}
+use Rattle.bk_po.proofs.Lists.{append-each, map-each, filter-each, each-so}
 use Rattle.bk_form.proofs.Equations.{equation-predicate}
 
 -- ---- roles

@@ -1,7 +1,6 @@
 -- What valid sequents say of the formulas that they were taken from.
-use Rattle.std.proofs.Common.{◌≡◌, ◌<◌, ℕ, zero, suc, List, [], ◌∷◌, ◌++◌, map, length, refl, subst, Bool, true, false, not, cond, nat_lt, arith}
-use Rattle.std.specs.List.{filter, flat_map}
-use Rattle.std.proofs.lemmas.Bool.Decides.{nat_tests}
+use Rattle.std.proofs.Common.{◌≡◌, ◌<◌, ℕ, suc, List, [], ◌∷◌, ◌++◌, length, refl, Bool, true, false, not, cond}
+use Rattle.std.specs.List.{filter}
 use Rattle.bk_form.specs.Table.{Table}
 use Rattle.bk_form.specs.Formula.{Formula, binary, btrue}
 use Rattle.bk_form.specs.Search.{Finder, IsSearch}
@@ -17,36 +16,10 @@ use Rattle.bk_wp.proofs.Steps.{implies-if}
 use Rattle.bk_dev.proofs.Agree.{both-true}
 use Rattle.bk_form.proofs.Conjuncts.{true-append, parts-true}
 use Rattle.bk_seq.specs.Sequents.{Sequent, split}
-use Rattle.bk_po.specs.Obligations.{Obligation, rows, numbered_from, numbered, AreValid, joined_onto, joined_all, conjunction, numbers_below, row_obligations, flat_obligations}
-
--- ---- each of a list
-pub each-first : {A : Type 0} (P : A → Type 0) (xs ys : List A) → Each P (xs ++ ys) → Each P xs
-each-first {A} P [] ys h = tt
-each-first {A} P (x ∷ xs) ys h = (h.0, each-first P xs ys h.1)
-
-pub each-second : {A : Type 0} (P : A → Type 0) (xs ys : List A) → Each P (xs ++ ys) → Each P ys
-each-second {A} P [] ys h = h
-each-second {A} P (x ∷ xs) ys h = each-second P xs ys h.1
-
-pub each-flat : {A B : Type 0} (P : B → Type 0) (F : A → List B) (xs : List A) → Each P (flat_map F xs) → Each (λ x. Each P (F x)) xs
-each-flat {A} {B} P F [] h = tt
-each-flat {A} {B} P F (x ∷ xs) h = (each-first P (F x) (flat_map F xs) h, each-flat P F xs (each-second P (F x) (flat_map F xs) h))
-
-pub each-map : {A B : Type 0} (P : B → Type 0) (F : A → B) (xs : List A) → Each P (map F xs) → Each (λ x. P (F x)) xs
-each-map {A} {B} P F [] h = tt
-each-map {A} {B} P F (x ∷ xs) h = (h.0, each-map P F xs h.1)
-
-pub each-so : {A : Type 0} (P Q : A → Type 0) (xs : List A) → ((x : A) → P x → Q x) → Each P xs → Each Q xs
-each-so {A} P Q [] so h = tt
-each-so {A} P Q (x ∷ xs) so h = (so x h.0, each-so P Q xs so h.1)
-
-pub each-below : (P : ℕ → Type 0) (n : ℕ) → Each P (numbers_below n) → (k : ℕ) → k < n → P k
-each-below P zero h k l = absurd (omega (arith, l))
-each-below P (suc n) h k l = by_test (λ less. each-below P n (each-first P (numbers_below n) (n ∷ []) h) k less) (nat_lt k n) refl
-  where
-    by_test : (k < n → P k) → (b : Bool) → nat_lt k n ≡ b → P k
-    by_test less true e = less (grind (arith, nat_tests))
-    by_test less false e = let same : n ≡ k = grind (arith, nat_tests) in subst P same (each-second P (numbers_below n) (n ∷ []) h).0
+use Rattle.bk_po.specs.declared.clause.Clause.{Clause}
+use Rattle.bk_po.specs.Obligations.{Obligation, numbered_from, numbered, AreValid, joined_onto, joined_all, conjunction, numbers_below, clauses_of, obligation_of, level_obligations, flat_obligations}
+use Rattle.bk_po.proofs.Lists.{each-first, each-second, each-flat, each-map, each-so, each-below}
+use Rattle.bk_po.proofs.Clauses.{Stands, of-clauses}
 
 -- ---- sequents
 abbrev pub IsSound : Table → Sequent → Type 0
@@ -65,12 +38,12 @@ unnumbered table k name (s ∷ ss) h = (h.0, unnumbered table (suc k) name ss h.
 all-met : (table : Table) (os : List Obligation) → AreValid table (numbered os) → Each (IsMet table) os
 all-met table os h = each-so (λ o. Each (IsNumberedSound table) (numbered_from 1 o.name (split o.hypotheses o.goal))) (IsMet table) os (λ o v. unnumbered table 1 o.name (split o.hypotheses o.goal) v) (each-flat (IsNumberedSound table) (λ o. numbered_from 1 o.name (split o.hypotheses o.goal)) os h)
 
--- the obligations of a level, row by row
-pub rows-met : (dev : Development) → AreValid dev.table (numbered (flat_obligations dev)) → (k : ℕ) → k < length dev.levels → Each (λ row. Each (IsMet dev.table) (row_obligations dev k row)) rows
-rows-met dev valid k l =
+-- the obligation of each clause of a level
+pub clause-met : (dev : Development) → AreValid dev.table (numbered (flat_obligations dev)) → (k : ℕ) → k < length dev.levels → (c : Clause) → Stands dev k c → IsMet dev.table (obligation_of dev k c)
+clause-met dev valid k l c s =
     let met = all-met dev.table (flat_obligations dev) valid in
-    let of_level : ℕ → List Obligation = λ j. flat_map (row_obligations dev j) rows in
-    each-flat (IsMet dev.table) (row_obligations dev k) rows (each-below (λ j. Each (IsMet dev.table) (of_level j)) (length dev.levels) (each-flat (IsMet dev.table) of_level (numbers_below (length dev.levels)) met) k l)
+    let level = each-below (λ j. Each (IsMet dev.table) (level_obligations dev j)) (length dev.levels) (each-flat (IsMet dev.table) (level_obligations dev) (numbers_below (length dev.levels)) met) k l in
+    of-clauses dev k (λ c. IsMet dev.table (obligation_of dev k c)) (each-map (IsMet dev.table) (obligation_of dev k) (clauses_of dev k) level) c s
 
 module _ (find : Finder) (law : IsSearch find) (table : Table) (e : State) (typed : IsTypedState table e) where
   pub split-holds : (hyps : List Formula) (p : Formula) → Each (IsSound table) (split hyps p) → AllHold find (at_state table e) hyps → holds find table e p ≡ true

@@ -1,17 +1,14 @@
--- Every sequent of a basic development is made of predicates.
-use Rattle.std.proofs.Common.{◌≡◌, ◌<◌, ◌^◌, ℕ, suc, List, [], ◌∷◌, length, sym, subst}
+-- Every sequent of a development is made of predicates.
+use Rattle.std.proofs.Common.{ℕ, suc, List, [], ◌∷◌}
 use Rattle.bk_form.specs.Table.{Table}
 use Rattle.bk_form.specs.Predicates.{IsPredicate}
-use Rattle.bk_dev.specs.Development.{Development}
 use Rattle.bk_dev.specs.Flattened.{flattened}
 use Rattle.bk_form.specs.Each.{Each}
-use Rattle.bk_dev.proofs.Flat.{flattened_already}
 use Rattle.bk_seq.specs.Sequents.{Sequent, Types, split}
 use Rattle.bk_po.specs.Obligations.{Obligation, numbered_from, numbered, flat_obligations}
 use Rattle.bk_po.specs.Laws.{ObligationsType}
-use Rattle.bk_po.proofs.Splitting.{each-so}
-use Rattle.bk_po.proofs.Basics.{basic_are_flat}
-use Rattle.bk_po.proofs.Lists.{flat-each}
+use Rattle.bk_po.proofs.FlatStands.{flattened_stands}
+use Rattle.bk_po.proofs.Lists.{flat-each, each-so}
 use Rattle.bk_po.proofs.Predicates.{split-typed}
 use Rattle.bk_po.proofs.TypedGoals.{obligations-typed}
 
@@ -29,8 +26,4 @@ module _ (table : Table) where
       flat-each IsNumberedTyped of_obligation os (each-so (λ o. Each (IsPredicate table) o.hypotheses × IsPredicate table o.goal) (λ o. Each IsNumberedTyped (of_obligation o)) os (λ o p. number-each 1 o.name (split o.hypotheses o.goal) (split-typed table o.hypotheses o.goal p.0 p.1)) h)
 
 pub obligations_type : ObligationsType
-obligations_type dev f basic =
-    let flat : flattened dev ≡ dev = flattened_already dev (basic_are_flat dev basic) in
-    let room : length dev.table.variables < 2 ^ 32 = subst (λ (d : Development). length d.table.variables < 2 ^ 32) flat f.room in
-    let typed : Each (λ s. Types dev.table s.1) (numbered (flat_obligations dev)) = sequents-typed dev.table (flat_obligations dev) (obligations-typed dev f.lawful basic room) in
-    subst (λ d. Each (λ s. Types d.table s.1) (numbered (flat_obligations d))) (sym flat) typed
+obligations_type dev d = sequents-typed (flattened dev).table (flat_obligations (flattened dev)) (obligations-typed (flattened dev) (flattened_stands dev d))

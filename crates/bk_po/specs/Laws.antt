@@ -1,15 +1,15 @@
 -- What the obligations are and what they are worth, as statements.
-use Rattle.std.specs.Prelude.{◌≡◌, ◌<◌, ℕ, pos, suc, true, false, [], ◌∷◌, length, map, codes}
+use Rattle.std.specs.Prelude.{◌≡◌, ◌<◌, ℕ, pos, suc, true, false, List, [], ◌∷◌, length, map, codes}
 use Rattle.bk_form.specs.Search.{Finder, IsSearch}
 use Rattle.bk_dev.specs.Development.{Development, is_complete}
 use Rattle.bk_dev.specs.Facts.{IsDevelopment, IsLawful, IsFlatDevelopment, OnlyLastIsImplementation}
 use Rattle.bk_dev.specs.Claims.{Keeps, Carries, ValuesMeet}
 use Rattle.bk_dev.specs.Counter.{counter}
-use Rattle.bk_po.specs.Obligations.{numbered_obligations, HasValidObligations, operation_goal}
-use Rattle.bk_po.specs.Basic.{IsBasic}
+use Rattle.bk_seq.specs.Sequents.{Sequent}
+use Rattle.bk_po.specs.Obligations.{numbered_obligations, AreValid, HasValidObligations, operation_goal}
 use Rattle.bk_po.specs.Typed.{HasTypedObligations}
 use Rattle.bk_po.specs.Examples.{tally, stepper}
-use Rattle.bk_po.specs.Levels.{BoxesHold, ConditionsHold, AllClean, LevelsAreCarried}
+use Rattle.bk_po.specs.Levels.{BoxesHold, ConditionsHold, AllClean, LevelsAreCarried, IsWellStated}
 use Rattle.bk_val.specs.Value.{int}
 use Rattle.bk_form.specs.Environment.{State, at_state, IsTypedState}
 use Rattle.bk_form.specs.Predicates.{AllHold}
@@ -26,31 +26,34 @@ CounterHasThese = map (λ o. o.0) (numbered_obligations counter) ≡
     codes "Counter_i.reset.1" ∷ codes "Counter_i.reset.2" ∷ codes "Counter_i.setmax.1" ∷ codes "Counter_i.setmax.2" ∷
     codes "Counter_i.get.1" ∷ codes "Counter_i.get.2" ∷ codes "Counter_i.get.3" ∷ []
 
--- the machine keeps its invariant, each level carries the one above, and where there is an implementation the constants' values meet the properties
+-- the machine keeps its invariant, each level carries the one above, where there is an implementation the constants' values meet the
+-- properties, and what is stated is defined, over the table with all copies
 pub record IsCorrect (find : Finder) (dev : Development) : Type 0 where
   pub keeps : Keeps find dev
   pub carries : (j : ℕ) → suc j < length dev.levels → Carries find dev j
   pub values : is_complete dev ≡ true → ValuesMeet find dev
+  pub stated : IsWellStated find (flattened dev)
 
--- where every obligation of a basic development is valid, it is correct
+-- where each of these sequents is valid, over the table with all copies, the development is correct
+abbrev pub AreEnough : Development → List (List ℕ × Sequent) → Type 0
+AreEnough dev ss = AreValid (flattened dev).table ss → (find : Finder) → IsSearch find → IsCorrect find dev
+
+-- where every obligation of a development is valid, it is correct
 abbrev pub ValidObligationsCarry : Type 0
-ValidObligationsCarry = (find : Finder) → IsSearch find → (dev : Development) → IsDevelopment dev → IsBasic dev → HasValidObligations dev → IsCorrect find dev
+ValidObligationsCarry = (find : Finder) → IsSearch find → (dev : Development) → IsDevelopment dev → HasValidObligations dev → IsCorrect find dev
 
 -- the counter meets what this asks
-pub record CounterIsValid : Type 0 where
-  pub basic : IsBasic counter
-  pub obligations : HasValidObligations counter
+abbrev pub CounterIsValid : Type 0
+CounterIsValid = HasValidObligations counter
 
--- and so do the adder and the stepper, but for their obligations
-pub record ExamplesAreBasic : Type 0 where
+-- the adder and the stepper are developments
+pub record ExamplesAreDevelopments : Type 0 where
   pub tally_facts : IsDevelopment tally
-  pub tally_basic : IsBasic tally
   pub stepper_facts : IsDevelopment stepper
-  pub stepper_basic : IsBasic stepper
 
--- the formulas of a basic development's obligations are predicates over the development's variables
+-- the formulas of a development's obligations are predicates over the table with all copies
 abbrev pub ObligationsType : Type 0
-ObligationsType = (dev : Development) → IsDevelopment dev → IsBasic dev → HasTypedObligations dev
+ObligationsType = (dev : Development) → IsDevelopment dev → HasTypedObligations dev
 
 -- ---- all levels at once
 -- where the boxes of all levels are true and what is met is defined or fits, the machine keeps its invariant and each level carries the one

@@ -1,13 +1,15 @@
--- What the boxes and conditions of all levels say, each by itself; of developments whose substitutions are flat.
-use Rattle.std.specs.Prelude.{◌≡◌, ◌<◌, ℕ, suc, true, length}
+-- What the obligations of all levels say, each by itself; of developments whose substitutions are flat.
+use Rattle.std.specs.Prelude.{◌≡◌, ◌<◌, ℕ, suc, true, List, [], ◌∷◌, length}
+use Rattle.std.specs.List.{flat_map}
+use Rattle.bk_form.specs.Formula.{Formula}
 use Rattle.bk_form.specs.Search.{Finder}
 use Rattle.bk_form.specs.Environment.{State, at_state, IsTypedState}
 use Rattle.bk_form.specs.Defined.{Defined}
-use Rattle.bk_form.specs.Predicates.{AllHold}
+use Rattle.bk_form.specs.Predicates.{AllHold, conjuncts}
 use Rattle.bk_gsl.specs.State.{holds}
 use Rattle.bk_gsl.specs.Clean.{Clean}
 use Rattle.bk_dev.specs.Development.{Development, level_at, body_at, whole}
-use Rattle.bk_dev.specs.Hypotheses.{properties_of, init_hypotheses, unasserted_hypotheses}
+use Rattle.bk_dev.specs.Hypotheses.{properties_of, properties_hypotheses, invariant_hypotheses, assertion_hypotheses, init_hypotheses, unasserted_hypotheses}
 use Rattle.bk_dev.specs.Claims.{arrays_at, KeepsFlat, CarriesFlat}
 use Rattle.bk_po.specs.Obligations.{init_goal, operation_goal, evaluation_goal}
 
@@ -41,3 +43,14 @@ pub record AllClean (find : Finder) (dev : Development) : Type 0 where
 pub record LevelsAreCarried (find : Finder) (dev : Development) : Type 0 where
   pub keeps : KeepsFlat find dev
   pub carries : (j : ℕ) → suc j < length dev.levels → CarriesFlat find dev j
+
+-- each of the formulas is defined where those before it are true
+abbrev pub AreDefinedInTurn : Finder → Development → State → List Formula → Type 0
+AreDefinedInTurn find dev e [] = Unit {0}
+AreDefinedInTurn find dev e (p ∷ ps) = Defined find (at_state dev.table e) p × (holds find dev.table e p ≡ true → AreDefinedInTurn find dev e ps)
+
+-- properties, invariants and assertions are defined where what stands before them is true, and there the assertions are true
+pub record IsWellStated (find : Finder) (dev : Development) : Type 0 where
+  pub properties : (k : ℕ) → k < length dev.levels → (e : State) → IsTypedState dev.table e → AllHold find (at_state dev.table e) (properties_hypotheses dev k) → Defined find (at_state dev.table e) (level_at dev k).properties
+  pub invariants : (k : ℕ) → k < length dev.levels → (e : State) → IsTypedState dev.table e → AllHold find (at_state dev.table e) (invariant_hypotheses dev k) → Defined find (at_state dev.table e) (level_at dev k).invariant
+  pub assertions : (k : ℕ) → k < length dev.levels → (e : State) → IsTypedState dev.table e → AllHold find (at_state dev.table e) (assertion_hypotheses dev k) → AreDefinedInTurn find dev e (level_at dev k).assertions × AllHold find (at_state dev.table e) (flat_map conjuncts (level_at dev k).assertions)

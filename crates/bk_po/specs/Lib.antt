@@ -2,8 +2,11 @@ pub mod Obligations
 pub mod ObligationCodes
 pub mod Limits
 pub mod Shown
-pub mod Basic
 pub mod Typed
 pub mod Examples
+pub mod WrittenLists
 pub mod Laws
 pub mod Levels
+pub mod FlatFacts
+pub mod FlatView
+pub mod Supposed

@@ -17,8 +17,8 @@ use Rattle.bk_wd.specs.WellDefined.{defined}
 use Rattle.bk_wp.specs.Box.{box, diamond}
 use Rattle.bk_wp.specs.Guarded.{guarded}
 use Rattle.bk_seq.specs.Sequents.{Sequent, IsValidSequent, split}
-use Rattle.bk_po.specs.declared.row.Row.{Row}
-use Rattle.bk_po.specs.declared.row.Row.TheVariants.{PropertiesDefined, ValuesMeet, InvariantDefined, AssertionsDefined, AssertionsHold, Initialisation, InitialisationDefined, Operations, OperationsDefined}
+use Rattle.bk_po.specs.declared.clause.Clause.{Clause}
+use Rattle.bk_po.specs.declared.clause.Clause.TheVariants.{PropertiesDefined, ValuesMeet, InvariantDefined, AssertionsDefined, AssertionsHold, Initialisation, InitialisationDefined, Operation, OperationDefined}
 
 -- what is to be shown, before it is taken apart
 pub record Obligation : Type 0 where
@@ -80,18 +80,17 @@ operation_goal dev zero o = box dev.table (body_at dev zero o).sub (level_at dev
 operation_goal dev (suc j) o = box dev.table (whole (body_at dev (suc j) o)) (diamond dev.table (body_at dev j o).sub (joining_goal dev (suc j) (body_at dev (suc j) o).outputs (body_at dev j o).outputs))
 
 -- ---- the list
--- within a component, in this order
-abbrev pub rows : List Row
-rows = PropertiesDefined ∷ ValuesMeet ∷ InvariantDefined ∷ AssertionsDefined ∷ AssertionsHold ∷ Initialisation ∷ InitialisationDefined ∷ Operations ∷ OperationsDefined ∷ []
-
 -- 0 to n - 1
 abbrev pub numbers_below : ℕ → List ℕ
 numbers_below zero = []
 numbers_below (suc n) = numbers_below n ++ n ∷ []
 
--- Component.clause
-abbrev pub named_after : Development → ℕ → List ℕ → List ℕ
-named_after dev k clause = (level_at dev k).name ++ codes "." ++ clause
+-- what is asked of a component, in this order: VALUES at an implementation alone, and operations in the machine's order
+abbrev pub clauses_of : Development → ℕ → List Clause
+clauses_of dev k =
+    PropertiesDefined ∷ [] ++ cond (is_implementation (level_at dev k)) (ValuesMeet ∷ []) [] ++
+    InvariantDefined ∷ AssertionsDefined ∷ AssertionsHold ∷ Initialisation ∷ InitialisationDefined ∷ [] ++
+    map Operation (numbers_below (length dev.heads)) ++ map OperationDefined (numbers_below (length dev.heads))
 
 -- the name of operation o
 abbrev pub head_name : Development → ℕ → List ℕ
@@ -101,38 +100,58 @@ head_name dev o = (slice_index_or dev.heads o (record { name = []; inputs = []; 
 abbrev pub suffix : Level → List ℕ
 suffix l = cond (is_implementation l) (codes ".chk") (codes ".wd")
 
+-- what stands in the name behind the component
+abbrev pub clause_name : Development → ℕ → Clause → List ℕ
+clause_name dev k PropertiesDefined = codes "PROPERTIES.wd"
+clause_name dev k ValuesMeet = codes "VALUES"
+clause_name dev k InvariantDefined = codes "INVARIANT.wd"
+clause_name dev k AssertionsDefined = codes "ASSERTIONS.wd"
+clause_name dev k AssertionsHold = codes "ASSERTIONS"
+clause_name dev k Initialisation = codes "INITIALISATION"
+clause_name dev k InitialisationDefined = codes "INITIALISATION" ++ suffix (level_at dev k)
+clause_name dev k (Operation o) = head_name dev o
+clause_name dev k (OperationDefined o) = head_name dev o ++ suffix (level_at dev k)
+
+-- under what it is to be shown
+abbrev pub hypotheses_of : Development → ℕ → Clause → List Formula
+hypotheses_of dev k PropertiesDefined = properties_hypotheses dev k
+hypotheses_of dev k ValuesMeet = []
+hypotheses_of dev k InvariantDefined = invariant_hypotheses dev k
+hypotheses_of dev k AssertionsDefined = assertion_hypotheses dev k
+hypotheses_of dev k AssertionsHold = assertion_hypotheses dev k
+hypotheses_of dev k Initialisation = init_hypotheses dev k
+hypotheses_of dev k InitialisationDefined = init_hypotheses dev k
+hypotheses_of dev k (Operation o) = operation_hypotheses dev k o
+hypotheses_of dev k (OperationDefined o) = body_hypotheses dev k o
+
+-- and what is to be shown
+abbrev pub goal_of : Development → ℕ → Clause → Formula
+goal_of dev k PropertiesDefined = defined dev.table [] (level_at dev k).properties
+goal_of dev k ValuesMeet = values_goal dev k
+goal_of dev k InvariantDefined = defined dev.table [] (level_at dev k).invariant
+goal_of dev k AssertionsDefined = defined_in_turn dev.table (level_at dev k).assertions
+goal_of dev k AssertionsHold = each_after (level_at dev k).assertions
+goal_of dev k Initialisation = init_goal dev k
+goal_of dev k InitialisationDefined = evaluation_goal dev k (level_at dev k).init
+goal_of dev k (Operation o) = operation_goal dev k o
+goal_of dev k (OperationDefined o) = evaluation_goal dev k (whole (body_at dev k o))
+
 abbrev pub obligation : List ℕ → List Formula → Formula → Obligation
 obligation name hypotheses goal = record { name = name; hypotheses = hypotheses; goal = goal }
 
--- of operation o at level k
-abbrev pub of_operation : Development → ℕ → ℕ → Obligation
-of_operation dev k o = obligation (named_after dev k (head_name dev o)) (operation_hypotheses dev k o) (operation_goal dev k o)
-
--- of what its whole body meets or executes
-abbrev pub of_definedness : Development → ℕ → ℕ → Obligation
-of_definedness dev k o = obligation (named_after dev k (head_name dev o ++ suffix (level_at dev k))) (body_hypotheses dev k o) (evaluation_goal dev k (whole (body_at dev k o)))
-
--- of one row at level k, operations in the machine's order; of a development whose substitutions are flat
-abbrev pub row_obligations : Development → ℕ → Row → List Obligation
-row_obligations dev k PropertiesDefined = obligation (named_after dev k (codes "PROPERTIES.wd")) (properties_hypotheses dev k) (defined dev.table [] (level_at dev k).properties) ∷ []
-row_obligations dev k ValuesMeet = cond (is_implementation (level_at dev k)) (obligation (named_after dev k (codes "VALUES")) [] (values_goal dev k) ∷ []) []
-row_obligations dev k InvariantDefined = obligation (named_after dev k (codes "INVARIANT.wd")) (invariant_hypotheses dev k) (defined dev.table [] (level_at dev k).invariant) ∷ []
-row_obligations dev k AssertionsDefined = obligation (named_after dev k (codes "ASSERTIONS.wd")) (assertion_hypotheses dev k) (defined_in_turn dev.table (level_at dev k).assertions) ∷ []
-row_obligations dev k AssertionsHold = obligation (named_after dev k (codes "ASSERTIONS")) (assertion_hypotheses dev k) (each_after (level_at dev k).assertions) ∷ []
-row_obligations dev k Initialisation = obligation (named_after dev k (codes "INITIALISATION")) (init_hypotheses dev k) (init_goal dev k) ∷ []
-row_obligations dev k InitialisationDefined = obligation (named_after dev k (codes "INITIALISATION" ++ suffix (level_at dev k))) (init_hypotheses dev k) (evaluation_goal dev k (level_at dev k).init) ∷ []
-row_obligations dev k Operations = map (of_operation dev k) (numbers_below (length dev.heads))
-row_obligations dev k OperationsDefined = map (of_definedness dev k) (numbers_below (length dev.heads))
+-- the obligation of a clause at level k, named Component.clause
+abbrev pub obligation_of : Development → ℕ → Clause → Obligation
+obligation_of dev k clause = obligation ((level_at dev k).name ++ codes "." ++ clause_name dev k clause) (hypotheses_of dev k clause) (goal_of dev k clause)
 
 -- of one level
 abbrev pub level_obligations : Development → ℕ → List Obligation
-level_obligations dev k = flat_map (row_obligations dev k) rows
+level_obligations dev k = map (obligation_of dev k) (clauses_of dev k)
 
--- of a development whose substitutions are flat: by levels, rows and operations
+-- of a development whose substitutions are flat: by levels and clauses
 abbrev pub flat_obligations : Development → List Obligation
 flat_obligations dev = flat_map (level_obligations dev) (numbers_below (length dev.levels))
 
--- of a development
+-- of every development
 abbrev pub obligations : Development → List Obligation
 obligations dev = flat_obligations (flattened dev)
 

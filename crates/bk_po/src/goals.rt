@@ -11,38 +11,61 @@ ghost use Rattle.bk_gsl.specs.Flat.{IsFlat};
 ghost use Rattle.bk_wd.specs.WellDefined.{defined};
 ghost use Rattle.bk_wp.specs.Shapes.{HasNoLoop};
 ghost use Rattle.bk_wp.specs.declared.error.WpFault.TheVariants.{TooLarge};
-ghost use Rattle.bk_dev.specs.Development.{is_btrue, whole, level_at, body_of, body_at};
+ghost use Rattle.bk_dev.specs.Development.{is_btrue, whole, level_at, body_at};
 ghost use Rattle.bk_form.specs.Predicates.{equation};
-ghost use Rattle.bk_dev.specs.Layout.{arrays_of};
 ghost use Rattle.bk_dev.specs.Claims.{beside};
-ghost use Rattle.bk_po.specs.Basic.{IsBasic};
-ghost use Rattle.bk_po.specs.Obligations.{joined_onto, conjunction, each_after, defined_in_turn, values_goal, joined_goal, init_goal, operation_goal, evaluation_goal};
+ghost use Rattle.bk_po.specs.Obligations.{joined_onto, conjunction, each_after, defined_in_turn, values_goal, joined_goal, init_goal, operation_goal, evaluation_goal, goal_of};
+ghost use Rattle.bk_po.specs.Supposed.{FitsClause};
 
+use crate::clause::Clause;
+use crate::flattening::FlatDevelopment;
 use crate::hypotheses::add_links;
 use bk_bind::{binary, replace};
-use bk_dev::{Body, Development, Kind, Level};
-use bk_form::{Arrays, BinOp, Form, VarTable, View};
+use bk_dev::{Body, Level};
+use bk_form::{BinOp, Form, VarTable, View};
 use bk_gsl::Sub;
 use bk_io::Memory;
 use bk_wd::{both, defined, nothing, where_true};
 use bk_wp::{WpFault, boxed, diamond, guarded};
 use std::alloc::Global;
 
-/// That the formula is defined.
-pub(crate) fn defined_goal(alloc: Global, types: &VarTable, form: &Form) -> Result<Form, WpFault>
+/// What the obligation of a clause at a level is to show.
+pub(crate) fn goal(
+    alloc: Global,
+    dev: &FlatDevelopment<'_>,
+    level: usize,
+    clause: Clause,
+) -> Result<Form, WpFault>
+    requires level { level < length dev.now.levels }
+    requires fits { FitsClause dev.now clause }
+    ensures value { IfOk result (λ f. f ≡ goal_of dev.now level clause) }
+    ensures too_large { result ≡ Err TooLarge → IsWithinLimits (goal_of dev.now level clause) → ⊥ }
+{
+    let stated = dev.level(level);
+    match clause {
+        Clause::PropertiesDefined => defined_goal(alloc, &dev.table, &stated.properties),
+        Clause::ValuesMeet => values_goal(alloc, dev, level),
+        Clause::InvariantDefined => defined_goal(alloc, &dev.table, &stated.invariant),
+        Clause::AssertionsDefined => defined_in_turn(alloc, &dev.table, &stated.assertions),
+        Clause::AssertionsHold => each_after(alloc, &stated.assertions),
+        Clause::Initialisation => init_goal(alloc, dev, level),
+        Clause::InitialisationDefined => init_evaluation(alloc, dev, level),
+        Clause::Operation(operation) => operation_goal(alloc, dev, level, operation),
+        Clause::OperationDefined(operation) => operation_evaluation(alloc, dev, level, operation),
+    }
+}
+
+// That the formula is defined.
+fn defined_goal(alloc: Global, types: &VarTable, form: &Form) -> Result<Form, WpFault>
     ensures value { IfOk result (λ f. f ≡ defined types.now [] form.now) }
     ensures too_large { result ≡ Err TooLarge → IsWithinLimits (defined types.now [] form.now) → ⊥ }
 {
     Ok(defined(alloc, types, form)?)
 }
 
-/// That each assertion is defined where those before it are true.
+// That each assertion is defined where those before it are true.
 #[tactic(auto, using(bk_wd::proofs::Within::conditions_within))]
-pub(crate) fn defined_in_turn(
-    alloc: Global,
-    types: &VarTable,
-    assertions: &[Form],
-) -> Result<Form, WpFault>
+fn defined_in_turn(alloc: Global, types: &VarTable, assertions: &[Form]) -> Result<Form, WpFault>
     ensures value { IfOk result (λ f. f ≡ defined_in_turn types.now assertions.now) }
     ensures too_large { result ≡ Err TooLarge → IsWithinLimits (defined_in_turn types.now assertions.now) → ⊥ }
 {
@@ -56,9 +79,9 @@ pub(crate) fn defined_in_turn(
     }
 }
 
-/// The first assertion, and each other where those before it are true.
+// The first assertion, and each other where those before it are true.
 #[tactic(auto, using(crate::proofs::Growing::goals_within))]
-pub(crate) fn each_after(alloc: Global, assertions: &[Form]) -> Result<Form, WpFault>
+fn each_after(alloc: Global, assertions: &[Form]) -> Result<Form, WpFault>
     ensures value { IfOk result (λ f. f ≡ each_after assertions.now) }
     ensures too_large { result ≡ Err TooLarge → IsWithinLimits (each_after assertions.now) → ⊥ }
 {
@@ -83,13 +106,14 @@ fn followed(alloc: Global, first: &Form, rest: Form) -> Result<Form, WpFault>
     Ok(binary(alloc, BinOp::And, first.copy(alloc)?, implied)?)
 }
 
-/// That the constants' values have the properties of the levels.
-pub(crate) fn values_goal(alloc: Global, dev: &Development, level: usize) -> Result<Form, WpFault>
+// That the constants' values have the properties of the levels.
+fn values_goal(alloc: Global, dev: &FlatDevelopment<'_>, level: usize) -> Result<Form, WpFault>
     requires { level < length dev.now.levels }
     ensures value { IfOk result (λ f. f ≡ values_goal dev.now level) }
     ensures too_large { result ≡ Err TooLarge → IsWithinLimits (values_goal dev.now level) → ⊥ }
 {
-    valued(alloc, &dev.levels[..level + 1], &dev.values)
+    let written = dev.written;
+    valued(alloc, &dev.levels[..level + 1], &written.values)
 }
 
 // The levels' properties with the values in place of the constants.
@@ -115,30 +139,30 @@ fn properties(alloc: Global, levels: &[Level]) -> Result<Vec<Form>, Memory>
     Ok(list)
 }
 
-/// That the machine's initialisation meets its invariant, or that each other is answered by the one above.
-#[tactic(auto, using(crate::proofs::Basics::no_loops))]
-pub(crate) fn init_goal(alloc: Global, dev: &Development, level: usize) -> Result<Form, WpFault>
-    requires level { level < length dev.now.levels }
-    requires basic { IsBasic dev.now }
+// That the machine's initialisation meets its invariant, or that each other is answered by the one above.
+#[tactic(auto, using(crate::proofs::FlatParts::flat_parts))]
+fn init_goal(alloc: Global, dev: &FlatDevelopment<'_>, level: usize) -> Result<Form, WpFault>
+    requires { level < length dev.now.levels }
     ensures value { IfOk result (λ f. f ≡ init_goal dev.now level) }
     ensures too_large { result ≡ Err TooLarge → IsWithinLimits (init_goal dev.now level) → ⊥ }
 {
-    let lower = level_at(dev, level);
+    dev.facts();
+    let lower = dev.level(level);
     if level == 0 {
         return boxed(alloc, &dev.table, &lower.init, lower.invariant.copy(alloc)?);
     }
-    answered_init(alloc, &dev.table, lower, level_at(dev, level - 1))
+    answered_init(alloc, &dev.table, lower, dev.level(level - 1))
 }
 
 // That the initialisation is answered by the one above.
-#[tactic(auto, using(bk_wp::proofs::Growth::parts_within, crate::proofs::Basics::no_loops))]
+#[tactic(auto, using(bk_wp::proofs::Growth::parts_within))]
 fn answered_init(
     alloc: Global,
     types: &VarTable,
     lower: &Level,
     upper: &Level,
 ) -> Result<Form, WpFault>
-    requires lower { HasNoLoop lower.now.init }
+    requires lower { IsFlat lower.now.init }
     requires upper { HasNoLoop upper.now.init }
     ensures value { IfOk result
         (λ f. f ≡ box types.now lower.now.init (diamond types.now upper.now.init (joined_goal lower.now [] []))) }
@@ -151,22 +175,22 @@ fn answered_init(
     boxed(alloc, types, &lower.init, answered)
 }
 
-/// That the machine's operation keeps its invariant, or that each other is answered by the one above.
-#[tactic(auto, using(crate::proofs::Basics::no_loops))]
-pub(crate) fn operation_goal(
+// That the machine's operation keeps its invariant, or that each other is answered by the one above.
+#[tactic(auto, using(crate::proofs::FlatParts::flat_parts))]
+fn operation_goal(
     alloc: Global,
-    dev: &Development,
+    dev: &FlatDevelopment<'_>,
     level: usize,
     operation: usize,
 ) -> Result<Form, WpFault>
     requires level { level < length dev.now.levels }
     requires operation { operation < length dev.now.heads }
-    requires basic { IsBasic dev.now }
     ensures value { IfOk result (λ f. f ≡ operation_goal dev.now level operation) }
     ensures too_large { result ≡ Err TooLarge → IsWithinLimits (operation_goal dev.now level operation) → ⊥ }
 {
-    let lower = &dev.levels[level];
-    let body = body_at(dev, level, operation);
+    dev.facts();
+    let lower = dev.level(level);
+    let body = dev.body(level, operation);
     if level == 0 {
         return kept_goal(alloc, &dev.table, lower, body);
     }
@@ -175,40 +199,13 @@ pub(crate) fn operation_goal(
         &dev.table,
         lower,
         body,
-        body_at(dev, level - 1, operation),
+        dev.body(level - 1, operation),
     )
 }
 
-// An operation's body at one level.
-#[tactic(auto, using(crate::proofs::Basics::body_stands))]
-fn body_at(dev: &Development, level: usize, operation: usize) -> &Body
-    requires level { level < length dev.now.levels }
-    requires operation { operation < length dev.now.heads }
-    ensures { result.now ≡ body_at dev.now level operation }
-{
-    dev.facts();
-    body_of(level_at(dev, level), operation)
-}
-
-/// A level of a development.
-pub(crate) fn level_at(dev: &Development, level: usize) -> &Level
-    requires { level < length dev.now.levels }
-    ensures { result.now ≡ level_at dev.now level }
-{
-    &dev.levels[level]
-}
-
-fn body_of(level: &Level, operation: usize) -> &Body
-    requires { operation < length level.now.bodies }
-    ensures { result.now ≡ body_of level.now operation }
-{
-    &level.bodies[operation]
-}
-
 // That the machine's body, without its outermost precondition, keeps the invariant.
-#[tactic(auto, using(crate::proofs::Basics::no_loops))]
 fn kept_goal(alloc: Global, types: &VarTable, level: &Level, body: &Body) -> Result<Form, WpFault>
-    requires { HasNoLoop body.now.sub }
+    requires { IsFlat body.now.sub }
     ensures value { IfOk result (λ f. f ≡ box types.now body.now.sub level.now.invariant) }
     ensures too_large { result ≡ Err TooLarge → IsWithinLimits (box types.now body.now.sub level.now.invariant) → ⊥ }
 {
@@ -216,7 +213,7 @@ fn kept_goal(alloc: Global, types: &VarTable, level: &Level, body: &Body) -> Res
 }
 
 // That the whole body is answered by the body above, without that one's outermost precondition.
-#[tactic(auto, using(bk_wp::proofs::Growth::parts_within, crate::proofs::Basics::no_loops))]
+#[tactic(auto, using(bk_wp::proofs::Growth::parts_within, crate::proofs::FlatParts::whole_is_flat))]
 fn answered_goal(
     alloc: Global,
     types: &VarTable,
@@ -224,7 +221,7 @@ fn answered_goal(
     lower: &Body,
     upper: &Body,
 ) -> Result<Form, WpFault>
-    requires lower { HasNoLoop lower.now.sub }
+    requires lower { IsFlat lower.now.sub }
     requires upper { HasNoLoop upper.now.sub }
     ensures value { IfOk result
         (λ f. f ≡ box types.now (whole lower.now)
@@ -249,60 +246,50 @@ fn whole(alloc: Global, body: &Body) -> Result<Sub, Memory>
     Sub::pre(alloc, body.pre.copy(alloc)?, sub)
 }
 
-/// That what the level's initialisation meets is defined, or that what it executes fits the machine.
-#[tactic(auto, using(crate::proofs::Basics::no_loops))]
-pub(crate) fn init_evaluation(
-    alloc: Global,
-    dev: &Development,
-    level: usize,
-) -> Result<Form, WpFault>
-    requires level { level < length dev.now.levels }
-    requires basic { IsBasic dev.now }
+// That what the level's initialisation meets is defined, or that what it executes fits the machine.
+#[tactic(auto, using(crate::proofs::FlatParts::flat_parts))]
+fn init_evaluation(alloc: Global, dev: &FlatDevelopment<'_>, level: usize) -> Result<Form, WpFault>
+    requires { level < length dev.now.levels }
     ensures value { IfOk result (λ f. f ≡ evaluation_goal dev.now level (level_at dev.now level).init) }
     ensures too_large { result ≡ Err TooLarge →
         IsWithinLimits (evaluation_goal dev.now level (level_at dev.now level).init) → ⊥ }
 {
-    evaluation_goal(alloc, dev, level, &level_at(dev, level).init)
+    dev.facts();
+    evaluation_goal(alloc, dev, level, &dev.level(level).init)
 }
 
-/// That what the whole body of an operation meets is defined, or that what it executes fits the machine.
-#[tactic(auto, using(crate::proofs::Basics::no_loops))]
-pub(crate) fn operation_evaluation(
+// That what the whole body of an operation meets is defined, or that what it executes fits the machine.
+#[tactic(auto, using(crate::proofs::FlatParts::flat_parts))]
+fn operation_evaluation(
     alloc: Global,
-    dev: &Development,
+    dev: &FlatDevelopment<'_>,
     level: usize,
     operation: usize,
 ) -> Result<Form, WpFault>
     requires level { level < length dev.now.levels }
     requires operation { operation < length dev.now.heads }
-    requires basic { IsBasic dev.now }
     ensures value { IfOk result (λ f. f ≡ evaluation_goal dev.now level (whole (body_at dev.now level operation))) }
     ensures too_large { result ≡ Err TooLarge →
         IsWithinLimits (evaluation_goal dev.now level (whole (body_at dev.now level operation))) → ⊥ }
 {
-    let whole = whole(alloc, body_at(dev, level, operation))?;
+    dev.facts();
+    let whole = whole(alloc, dev.body(level, operation))?;
     evaluation_goal(alloc, dev, level, &whole)
 }
 
 // What a substitution of the level is asked beside what it does; in an implementation its expressions are executed.
-#[tactic(auto, using(crate::proofs::Basics::no_rows))]
 fn evaluation_goal(
     alloc: Global,
-    dev: &Development,
+    dev: &FlatDevelopment<'_>,
     level: usize,
     sub: &Sub,
 ) -> Result<Form, WpFault>
     requires level { level < length dev.now.levels }
     requires flat { IsFlat sub.now }
-    requires no_arrays { (arrays_of dev.now).rows ≡ [] }
     ensures value { IfOk result (λ f. f ≡ evaluation_goal dev.now level sub.now) }
     ensures too_large { result ≡ Err TooLarge → IsWithinLimits (evaluation_goal dev.now level sub.now) → ⊥ }
 {
-    if dev.levels[level].kind != Kind::Implementation {
-        return guarded(alloc, &dev.table, sub, None);
-    }
-    let arrays = Arrays::from_rows(dev.int_max(), Vec::new(alloc));
-    guarded(alloc, &dev.table, sub, Some(&arrays))
+    guarded(alloc, &dev.table, sub, dev.arrays_at(level))
 }
 
 // The invariant and the links of a level, and the equality of the outputs with those above.

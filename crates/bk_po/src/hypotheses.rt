@@ -5,139 +5,177 @@ ghost use Rattle.std.specs.List.{flat_map, filter};
 ghost use Rattle.bk_form.specs.Formula.{formula_size};
 ghost use Rattle.bk_form.specs.Table.{variable_type};
 ghost use Rattle.bk_dev.specs.Development.{inputs_of, body_of, is_implementation};
-ghost use Rattle.bk_dev.specs.Hypotheses.{value_equation, joining, facts, facts_of, conditions_of, is_number, in_machine_range, input_ranges, properties_hypotheses, invariant_hypotheses, assertion_hypotheses, init_hypotheses, body_hypotheses, operation_hypotheses};
+ghost use Rattle.bk_dev.specs.Hypotheses.{value_equation, properties_of, values_at, joining, facts_of, conditions_of, is_number, in_machine_range, input_ranges, init_hypotheses, body_hypotheses, operation_hypotheses};
 ghost use Rattle.bk_form.specs.Predicates.{conjuncts, equation};
+ghost use Rattle.bk_po.specs.Obligations.{hypotheses_of};
+ghost use Rattle.bk_po.specs.Supposed.{IsKnownAt};
 
-use bk_dev::{Development, Kind, Level};
+use crate::clause::Clause;
+use crate::flattening::FlatDevelopment;
+use bk_dev::{Kind, Level};
 use bk_form::{BinOp, Form, Part, TyView, VarTable};
 use bk_io::Memory;
 use bk_seq::add_conjuncts;
 use std::alloc::Global;
 
-/// Of the definedness of a level's properties.
-pub(crate) fn properties_hypotheses(
+/// What is supposed at a level. Each list but the first begins with the one before it, and they share their formulas.
+#[derive(Drop)]
+pub(crate) struct Known {
+    /// The properties of the levels above.
+    pub properties: Vec<Form>,
+    /// With those of the level and, at an implementation, the constants' values.
+    pub begins: Vec<Form>,
+    /// With what the levels above state.
+    pub before: Vec<Form>,
+    /// With the level's invariant and links.
+    pub joined: Vec<Form>,
+    /// With its assertions.
+    pub all: Vec<Form>,
+}
+
+/// What is supposed at a level, from what the levels above state, to which it adds what the level states: so each equation of a link is made
+/// once.
+#[tactic(auto, using(crate::proofs::Supposing::supposing))]
+pub(crate) fn known_at(
     alloc: Global,
-    dev: &Development,
+    dev: &FlatDevelopment<'_>,
     level: usize,
+    properties: &mut Vec<Form>,
+    facts: &mut Vec<Form>,
+) -> Result<Known, Memory>
+    requires level { level < length dev.now.levels }
+    requires properties { properties.old.items ≡ properties_of dev.now level }
+    requires facts { facts.old.items ≡ facts_of dev.now level }
+    ensures known { IfOk result (λ known. IsKnownAt dev.now level known) }
+    ensures properties { OnOk result (properties.new.items ≡ properties_of dev.now (suc level)) }
+    ensures facts { OnOk result (facts.new.items ≡ facts_of dev.now (suc level)) }
+{
+    let stated = dev.level(level);
+    let above = Form::copy_all(properties, alloc)?;
+    add_conjuncts(alloc, &stated.properties, properties)?;
+    let begins = begins(alloc, dev, level, properties)?;
+    let before = followed_by(alloc, &begins, facts)?;
+    add_joining(alloc, stated, facts)?;
+    let joined = followed_by(alloc, &begins, facts)?;
+    add_all_conjuncts(alloc, &stated.assertions, facts)?;
+    let all = followed_by(alloc, &begins, facts)?;
+    Ok(Known {
+        properties: above,
+        begins,
+        before,
+        joined,
+        all,
+    })
+}
+
+// The properties and, at an implementation, the constants' values.
+fn begins(
+    alloc: Global,
+    dev: &FlatDevelopment<'_>,
+    level: usize,
+    properties: &[Form],
 ) -> Result<Vec<Form>, Memory>
     requires { level < length dev.now.levels }
-    ensures { IfOk result (λ hyps. hyps.items ≡ properties_hypotheses dev.now level) }
+    ensures { IfOk result (λ hyps. hyps.items ≡ properties.now ++ values_at dev.now level) }
 {
-    let mut hyps = Vec::new(alloc);
-    add_properties(alloc, &dev.levels[..level], &mut hyps)?;
+    dev.facts();
+    let written = dev.written;
+    let mut hyps = Form::copy_all(properties, alloc)?;
+    add_values(alloc, &written.values, dev.level(level), &mut hyps)?;
     Ok(hyps)
 }
 
-/// Of the definedness of a level's invariant.
-pub(crate) fn invariant_hypotheses(
-    alloc: Global,
-    dev: &Development,
-    level: usize,
-) -> Result<Vec<Form>, Memory>
-    requires { level < length dev.now.levels }
-    ensures { IfOk result (λ hyps. hyps.items ≡ invariant_hypotheses dev.now level) }
+// The formulas, and others behind them.
+fn followed_by(alloc: Global, forms: &[Form], others: &[Form]) -> Result<Vec<Form>, Memory>
+    ensures { IfOk result (λ list. list.items ≡ forms.now ++ others.now) }
 {
-    let mut hyps = init_hypotheses(alloc, dev, level)?;
-    add_facts_of(alloc, &dev.levels[..level], &mut hyps)?;
-    Ok(hyps)
+    let mut list = Form::copy_all(forms, alloc)?;
+    for other in others {
+        list.push(other.copy(alloc)?)?;
+    }
+    Ok(list)
 }
 
-/// Of a level's assertions.
-pub(crate) fn assertion_hypotheses(
+/// Under what the obligation of a clause is to be shown.
+pub(crate) fn supposed(
     alloc: Global,
-    dev: &Development,
+    dev: &FlatDevelopment<'_>,
     level: usize,
+    known: &Known,
+    clause: Clause,
 ) -> Result<Vec<Form>, Memory>
-    requires { level < length dev.now.levels }
-    ensures { IfOk result (λ hyps. hyps.items ≡ assertion_hypotheses dev.now level) }
+    requires level { level < length dev.now.levels }
+    requires known { IsKnownAt dev.now level known.now }
+    ensures { IfOk result (λ hyps. hyps.items ≡ hypotheses_of dev.now level clause) }
 {
-    let mut hyps = invariant_hypotheses(alloc, dev, level)?;
-    add_joining(alloc, &dev.levels[level], &mut hyps)?;
-    Ok(hyps)
+    match clause {
+        Clause::PropertiesDefined => Form::copy_all(&known.properties, alloc),
+        Clause::ValuesMeet => Ok(Vec::new(alloc)),
+        Clause::InvariantDefined => Form::copy_all(&known.before, alloc),
+        Clause::AssertionsDefined => Form::copy_all(&known.joined, alloc),
+        Clause::AssertionsHold => Form::copy_all(&known.joined, alloc),
+        Clause::Initialisation => Form::copy_all(&known.begins, alloc),
+        Clause::InitialisationDefined => Form::copy_all(&known.begins, alloc),
+        Clause::Operation(operation) => operation_hypotheses(alloc, dev, level, known, operation),
+        Clause::OperationDefined(operation) => {
+            body_hypotheses(alloc, dev, level, known, operation)
+        }
+    }
 }
 
-/// Of an initialisation.
-pub(crate) fn init_hypotheses(
+// Of an operation's main obligation: at the machine with its own precondition.
+fn operation_hypotheses(
     alloc: Global,
-    dev: &Development,
+    dev: &FlatDevelopment<'_>,
     level: usize,
-) -> Result<Vec<Form>, Memory>
-    requires { level < length dev.now.levels }
-    ensures { IfOk result (λ hyps. hyps.items ≡ init_hypotheses dev.now level) }
-{
-    let mut hyps = Vec::new(alloc);
-    add_properties(alloc, &dev.levels[..level + 1], &mut hyps)?;
-    add_values(alloc, &dev.values, &dev.levels[level], &mut hyps)?;
-    Ok(hyps)
-}
-
-/// Of an operation at one level, and of what its body meets.
-pub(crate) fn body_hypotheses(
-    alloc: Global,
-    dev: &Development,
-    level: usize,
+    known: &Known,
     operation: usize,
 ) -> Result<Vec<Form>, Memory>
-    requires { level < length dev.now.levels }
-    ensures { IfOk result (λ hyps. hyps.items ≡ body_hypotheses dev.now level operation) }
-{
-    hypotheses_under(alloc, dev, level, level, operation)
-}
-
-/// Of an operation's main obligation: at the machine with its own precondition.
-pub(crate) fn operation_hypotheses(
-    alloc: Global,
-    dev: &Development,
-    level: usize,
-    operation: usize,
-) -> Result<Vec<Form>, Memory>
-    requires { level < length dev.now.levels }
+    requires level { level < length dev.now.levels }
+    requires known { IsKnownAt dev.now level known.now }
     ensures { IfOk result (λ hyps. hyps.items ≡ operation_hypotheses dev.now level operation) }
 {
     if level == 0 {
-        hypotheses_under(alloc, dev, 0, 1, operation)
+        hypotheses_under(alloc, dev, 0, known, 1, operation)
     } else {
-        hypotheses_under(alloc, dev, level, level, operation)
+        body_hypotheses(alloc, dev, level, known, operation)
     }
+}
+
+// Of an operation at one level, and of what its body meets.
+fn body_hypotheses(
+    alloc: Global,
+    dev: &FlatDevelopment<'_>,
+    level: usize,
+    known: &Known,
+    operation: usize,
+) -> Result<Vec<Form>, Memory>
+    requires level { level < length dev.now.levels }
+    requires known { IsKnownAt dev.now level known.now }
+    ensures { IfOk result (λ hyps. hyps.items ≡ body_hypotheses dev.now level operation) }
+{
+    hypotheses_under(alloc, dev, level, known, level, operation)
 }
 
 // Of an operation at one level, under the preconditions of the first levels, as many as `conditions`.
 fn hypotheses_under(
     alloc: Global,
-    dev: &Development,
+    dev: &FlatDevelopment<'_>,
     level: usize,
+    known: &Known,
     conditions: usize,
     operation: usize,
 ) -> Result<Vec<Form>, Memory>
     requires level { level < length dev.now.levels }
+    requires known { IsKnownAt dev.now level known.now }
     requires conditions { conditions ≤ length dev.now.levels }
     ensures { IfOk result (λ hyps. hyps.items ≡ init_hypotheses dev.now level ++ facts_of dev.now (suc level)
         ++ conditions_of dev.now conditions operation ++ input_ranges dev.now level operation) }
 {
-    let mut hyps = known(alloc, dev, level)?;
+    let mut hyps = Form::copy_all(&known.all, alloc)?;
     add_conditions(alloc, &dev.levels[..conditions], operation, &mut hyps)?;
-    add_ranges(alloc, dev, &dev.levels[level], operation, &mut hyps)?;
+    add_ranges(alloc, dev, dev.level(level), operation, &mut hyps)?;
     Ok(hyps)
-}
-
-// What is known at one level and above it.
-fn known(alloc: Global, dev: &Development, level: usize) -> Result<Vec<Form>, Memory>
-    requires { level < length dev.now.levels }
-    ensures { IfOk result (λ hyps. hyps.items ≡ init_hypotheses dev.now level ++ facts_of dev.now (suc level)) }
-{
-    let mut hyps = init_hypotheses(alloc, dev, level)?;
-    add_facts_of(alloc, &dev.levels[..level + 1], &mut hyps)?;
-    Ok(hyps)
-}
-
-// Adds the properties of the levels.
-fn add_properties(alloc: Global, levels: &[Level], hyps: &mut Vec<Form>) -> Result<(), Memory>
-    ensures { OnOk result (hyps.new.items ≡ hyps.old.items ++ flat_map (λ l. conjuncts l.properties) levels.now) }
-{
-    for level in levels {
-        add_conjuncts(alloc, &level.properties, hyps)?;
-    }
-    Ok(())
 }
 
 // Adds the constants' values, at an implementation.
@@ -181,23 +219,7 @@ fn value_equation(alloc: Global, constant: u32, value: &Form) -> Result<Form, Me
     Form::make(alloc, Part::Bin(BinOp::Eq, constant, value.copy(alloc)?))
 }
 
-// Adds what the levels' invariants, links and assertions say.
-fn add_facts_of(alloc: Global, levels: &[Level], hyps: &mut Vec<Form>) -> Result<(), Memory>
-    ensures { OnOk result (hyps.new.items ≡ hyps.old.items ++ flat_map facts levels.now) }
-{
-    for level in levels {
-        add_facts(alloc, level, hyps)?;
-    }
-    Ok(())
-}
-
-fn add_facts(alloc: Global, level: &Level, hyps: &mut Vec<Form>) -> Result<(), Memory>
-    ensures { OnOk result (hyps.new.items ≡ hyps.old.items ++ facts level.now) }
-{
-    add_joining(alloc, level, hyps)?;
-    add_all_conjuncts(alloc, &level.assertions, hyps)
-}
-
+// Adds the parts of the formulas.
 fn add_all_conjuncts(alloc: Global, forms: &[Form], hyps: &mut Vec<Form>) -> Result<(), Memory>
     ensures { OnOk result (hyps.new.items ≡ hyps.old.items ++ flat_map conjuncts forms.now) }
 {
@@ -264,7 +286,7 @@ fn add_condition(
 // Adds that the whole numbers among an operation's inputs are numbers of the machine, at an implementation.
 fn add_ranges(
     alloc: Global,
-    dev: &Development,
+    dev: &FlatDevelopment<'_>,
     level: &Level,
     operation: usize,
     hyps: &mut Vec<Form>,
@@ -273,10 +295,25 @@ fn add_ranges(
         ++ cond (is_implementation level.now) (map (in_machine_range dev.now) (filter
         (λ x. is_number (variable_type dev.now.table x)) (inputs_of dev.now operation))) []) }
 {
-    if level.kind != Kind::Implementation {
-        return Ok(());
+    match level.kind {
+        Kind::Implementation => add_input_ranges(alloc, dev, operation, hyps),
+        Kind::Machine | Kind::Refinement => Ok(()),
     }
-    match dev.heads.get(operation) {
+}
+
+// Adds them at every level.
+fn add_input_ranges(
+    alloc: Global,
+    dev: &FlatDevelopment<'_>,
+    operation: usize,
+    hyps: &mut Vec<Form>,
+) -> Result<(), Memory>
+    ensures { OnOk result (hyps.new.items ≡ hyps.old.items
+        ++ map (in_machine_range dev.now) (filter
+        (λ x. is_number (variable_type dev.now.table x)) (inputs_of dev.now operation))) }
+{
+    let written = dev.written;
+    match written.heads.get(operation) {
         Some(head) => add_ranges_of(alloc, dev, &head.inputs, hyps),
         None => Ok(()),
     }
@@ -284,7 +321,7 @@ fn add_ranges(
 
 fn add_ranges_of(
     alloc: Global,
-    dev: &Development,
+    dev: &FlatDevelopment<'_>,
     inputs: &[u32],
     hyps: &mut Vec<Form>,
 ) -> Result<(), Memory>
@@ -313,7 +350,7 @@ fn is_number(table: &VarTable, variable: u32) -> bool
 }
 
 // variable : MININT .. MAXINT
-fn in_machine_range(alloc: Global, dev: &Development, variable: u32) -> Result<Form, Memory>
+fn in_machine_range(alloc: Global, dev: &FlatDevelopment<'_>, variable: u32) -> Result<Form, Memory>
     ensures { IfOk result (λ f. f ≡ in_machine_range dev.now variable) }
 {
     let most = dev.int_max() as i128;

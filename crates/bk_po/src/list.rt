@@ -1,358 +1,117 @@
-//! The obligations of a development before they are taken apart: by levels, rows and operations.
+//! The obligations of a development before they are taken apart: by levels and clauses.
 
-ghost use Rattle.std.specs.Prelude.{◌≡◌, ◌++◌, ◌<◌, ◌∷◌, [], length, codes, None, IfOk, IfErr, OnOk};
-ghost use Rattle.std.specs.List.{flat_map};
-ghost use Rattle.bk_po.specs.Basic.{IsBasic};
-ghost use Rattle.bk_po.specs.Obligations.{row_obligations, level_obligations, flat_obligations, of_operation, of_definedness, values_goal, named_after, suffix, obligation};
+ghost use Rattle.std.specs.Prelude.{◌≡◌, ◌++◌, ◌<◌, ◌∷◌, [], map, length, codes, None, IfOk, IfErr, OnOk};
+ghost use Rattle.bk_form.specs.Each.{Each};
+ghost use Rattle.bk_dev.specs.Development.{level_at};
+ghost use Rattle.bk_po.specs.Obligations.{obligation, clause_name, obligation_of, level_obligations, flat_obligations, suffix};
 ghost use Rattle.bk_po.specs.Limits.{first_too_large, IsFaultAmong, fault_at};
-ghost use Rattle.bk_po.specs.declared.row.Row.TheVariants.{PropertiesDefined, ValuesMeet, InvariantDefined, AssertionsDefined, AssertionsHold, Initialisation, InitialisationDefined, Operations, OperationsDefined};
+ghost use Rattle.bk_po.specs.Supposed.{IsKnownAt, FitsClause};
 
+use crate::clause::{Clause, clauses};
 use crate::error::PoFault;
-use crate::goals::{
-    defined_goal, defined_in_turn, each_after, init_evaluation, init_goal, level_at,
-    operation_evaluation, operation_goal, values_goal,
-};
-use crate::hypotheses::{
-    assertion_hypotheses, body_hypotheses, init_hypotheses, invariant_hypotheses,
-    operation_hypotheses, properties_hypotheses,
-};
+use crate::flattening::FlatDevelopment;
+use crate::goals::goal;
+use crate::hypotheses::{Known, known_at, supposed};
 use crate::limits::is_too_large;
-use crate::row::{ROWS, Row};
 use crate::whole::WholeObligation;
-use bk_dev::{Development, Kind, Level};
+use bk_dev::{Kind, Level};
 use bk_form::Form;
 use bk_io::{Memory, Text};
 use bk_wp::WpFault;
 use std::alloc::Global;
 
-/// The obligations of a development without `||`.
+/// The obligations of a development without `||`, none of them too large.
 #[tactic(auto, using(crate::proofs::Laying::laying))]
 pub(crate) fn whole_obligations(
     alloc: Global,
-    dev: &Development,
+    dev: &FlatDevelopment<'_>,
 ) -> Result<Vec<WholeObligation>, PoFault>
-    requires { IsBasic dev.now }
     ensures value { IfOk result (λ list. list.items ≡ flat_obligations dev.now) }
     ensures sizes { OnOk result (first_too_large (flat_obligations dev.now) ≡ None) }
     ensures fault { IfErr result (IsFaultAmong (flat_obligations dev.now)) }
 {
     let mut list = Vec::new(alloc);
+    let mut properties = Vec::new(alloc);
+    let mut facts = Vec::new(alloc);
     for level in 0..level_count(dev) {
-        add_level(alloc, dev, level, &mut list)?;
+        let known = known_at(alloc, dev, level, &mut properties, &mut facts)?;
+        add_level(alloc, dev, level, &known, &mut list)?;
     }
     Ok(list)
 }
 
-// Adds the obligations of a level.
-fn add_level(
-    alloc: Global,
-    dev: &Development,
-    level: usize,
-    list: &mut Vec<WholeObligation>,
-) -> Result<(), PoFault>
-    requires level { level < length dev.now.levels }
-    requires basic { IsBasic dev.now }
-    ensures value { OnOk result (list.new.items ≡ list.old.items ++ level_obligations dev.now level) }
-    ensures sizes { OnOk result (first_too_large (level_obligations dev.now level) ≡ None) }
-    ensures fault { IfErr result (IsFaultAmong (level_obligations dev.now level)) }
-{
-    add_rows(alloc, dev, level, &ROWS, list)
-}
-
-fn level_count(dev: &Development) -> usize
+fn level_count(dev: &FlatDevelopment<'_>) -> usize
     ensures { result ≡ length dev.now.levels }
 {
     dev.levels.len()
 }
 
-fn operation_count(dev: &Development) -> usize
-    ensures { result ≡ length dev.now.heads }
+// Adds the obligations of a level.
+#[tactic(auto, using(crate::proofs::Clauses::clauses_fit))]
+fn add_level(
+    alloc: Global,
+    dev: &FlatDevelopment<'_>,
+    level: usize,
+    known: &Known,
+    list: &mut Vec<WholeObligation>,
+) -> Result<(), PoFault>
+    requires level { level < length dev.now.levels }
+    requires known { IsKnownAt dev.now level known.now }
+    ensures value { OnOk result (list.new.items ≡ list.old.items ++ level_obligations dev.now level) }
+    ensures sizes { OnOk result (first_too_large (level_obligations dev.now level) ≡ None) }
+    ensures fault { IfErr result (IsFaultAmong (level_obligations dev.now level)) }
 {
-    dev.heads.len()
+    let clauses = clauses(alloc, dev, level)?;
+    add_clauses(alloc, dev, level, known, &clauses, list)
 }
 
-// Adds the obligations of a level that these rows ask.
+// Adds the obligations of these clauses at a level.
 #[tactic(auto, using(crate::proofs::Laying::laying))]
-fn add_rows(
+fn add_clauses(
     alloc: Global,
-    dev: &Development,
+    dev: &FlatDevelopment<'_>,
     level: usize,
-    rows: &[Row],
+    known: &Known,
+    clauses: &[Clause],
     list: &mut Vec<WholeObligation>,
 ) -> Result<(), PoFault>
     requires level { level < length dev.now.levels }
-    requires basic { IsBasic dev.now }
-    ensures value { OnOk result (list.new.items ≡ list.old.items ++ flat_map (row_obligations dev.now level) rows.now) }
-    ensures sizes { OnOk result (first_too_large (flat_map (row_obligations dev.now level) rows.now) ≡ None) }
-    ensures fault { IfErr result (IsFaultAmong (flat_map (row_obligations dev.now level) rows.now)) }
+    requires known { IsKnownAt dev.now level known.now }
+    requires fit { Each (FitsClause dev.now) clauses.now }
+    ensures value { OnOk result (list.new.items ≡ list.old.items ++ map (obligation_of dev.now level) clauses.now) }
+    ensures sizes { OnOk result (first_too_large (map (obligation_of dev.now level) clauses.now) ≡ None) }
+    ensures fault { IfErr result (IsFaultAmong (map (obligation_of dev.now level) clauses.now)) }
 {
-    for row in rows {
-        add_row(alloc, dev, level, *row, list)?;
+    for clause in clauses {
+        list.push(stated(alloc, dev, level, known, *clause)?)?;
     }
     Ok(())
-}
-
-// Adds the obligations of a level that the row asks.
-fn add_row(
-    alloc: Global,
-    dev: &Development,
-    level: usize,
-    row: Row,
-    list: &mut Vec<WholeObligation>,
-) -> Result<(), PoFault>
-    requires level { level < length dev.now.levels }
-    requires basic { IsBasic dev.now }
-    ensures value { OnOk result (list.new.items ≡ list.old.items ++ row_obligations dev.now level row) }
-    ensures sizes { OnOk result (first_too_large (row_obligations dev.now level row) ≡ None) }
-    ensures fault { IfErr result (IsFaultAmong (row_obligations dev.now level row)) }
-{
-    match row {
-        Row::PropertiesDefined => list.push(properties_defined(alloc, dev, level)?)?,
-        Row::ValuesMeet => return add_values(alloc, dev, level, list),
-        Row::InvariantDefined => list.push(invariant_defined(alloc, dev, level)?)?,
-        Row::AssertionsDefined => list.push(assertions_defined(alloc, dev, level)?)?,
-        Row::AssertionsHold => list.push(assertions_hold(alloc, dev, level)?)?,
-        Row::Initialisation => list.push(initialisation(alloc, dev, level)?)?,
-        Row::InitialisationDefined => list.push(initialisation_defined(alloc, dev, level)?)?,
-        Row::Operations => return add_operations(alloc, dev, level, list),
-        Row::OperationsDefined => return add_operations_defined(alloc, dev, level, list),
-    }
-    Ok(())
-}
-
-// ---- rows of one obligation
-
-fn properties_defined(
-    alloc: Global,
-    dev: &Development,
-    level: usize,
-) -> Result<WholeObligation, PoFault>
-    requires { level < length dev.now.levels }
-    ensures value { IfOk result (λ o. o ∷ [] ≡ row_obligations dev.now level PropertiesDefined) }
-    ensures size { OnOk result (first_too_large (row_obligations dev.now level PropertiesDefined) ≡ None) }
-    ensures fault { IfErr result (IsFaultAmong (row_obligations dev.now level PropertiesDefined)) }
-{
-    let name = named_after(alloc, &dev.levels[level], b"PROPERTIES.wd")?;
-    let hypotheses = properties_hypotheses(alloc, dev, level)?;
-    match defined_goal(alloc, &dev.table, &dev.levels[level].properties) {
-        Ok(goal) => whole(name, hypotheses, goal),
-        Err(fault) => Err(fault_at(name, fault)),
-    }
-}
-
-fn invariant_defined(
-    alloc: Global,
-    dev: &Development,
-    level: usize,
-) -> Result<WholeObligation, PoFault>
-    requires { level < length dev.now.levels }
-    ensures value { IfOk result (λ o. o ∷ [] ≡ row_obligations dev.now level InvariantDefined) }
-    ensures size { OnOk result (first_too_large (row_obligations dev.now level InvariantDefined) ≡ None) }
-    ensures fault { IfErr result (IsFaultAmong (row_obligations dev.now level InvariantDefined)) }
-{
-    let name = named_after(alloc, &dev.levels[level], b"INVARIANT.wd")?;
-    let hypotheses = invariant_hypotheses(alloc, dev, level)?;
-    match defined_goal(alloc, &dev.table, &dev.levels[level].invariant) {
-        Ok(goal) => whole(name, hypotheses, goal),
-        Err(fault) => Err(fault_at(name, fault)),
-    }
-}
-
-fn assertions_defined(
-    alloc: Global,
-    dev: &Development,
-    level: usize,
-) -> Result<WholeObligation, PoFault>
-    requires { level < length dev.now.levels }
-    ensures value { IfOk result (λ o. o ∷ [] ≡ row_obligations dev.now level AssertionsDefined) }
-    ensures size { OnOk result (first_too_large (row_obligations dev.now level AssertionsDefined) ≡ None) }
-    ensures fault { IfErr result (IsFaultAmong (row_obligations dev.now level AssertionsDefined)) }
-{
-    let name = named_after(alloc, &dev.levels[level], b"ASSERTIONS.wd")?;
-    let hypotheses = assertion_hypotheses(alloc, dev, level)?;
-    match defined_in_turn(alloc, &dev.table, &dev.levels[level].assertions) {
-        Ok(goal) => whole(name, hypotheses, goal),
-        Err(fault) => Err(fault_at(name, fault)),
-    }
-}
-
-fn assertions_hold(
-    alloc: Global,
-    dev: &Development,
-    level: usize,
-) -> Result<WholeObligation, PoFault>
-    requires { level < length dev.now.levels }
-    ensures value { IfOk result (λ o. o ∷ [] ≡ row_obligations dev.now level AssertionsHold) }
-    ensures size { OnOk result (first_too_large (row_obligations dev.now level AssertionsHold) ≡ None) }
-    ensures fault { IfErr result (IsFaultAmong (row_obligations dev.now level AssertionsHold)) }
-{
-    let name = named_after(alloc, &dev.levels[level], b"ASSERTIONS")?;
-    let hypotheses = assertion_hypotheses(alloc, dev, level)?;
-    match each_after(alloc, &dev.levels[level].assertions) {
-        Ok(goal) => whole(name, hypotheses, goal),
-        Err(fault) => Err(fault_at(name, fault)),
-    }
-}
-
-fn initialisation(
-    alloc: Global,
-    dev: &Development,
-    level: usize,
-) -> Result<WholeObligation, PoFault>
-    requires level { level < length dev.now.levels }
-    requires basic { IsBasic dev.now }
-    ensures value { IfOk result (λ o. o ∷ [] ≡ row_obligations dev.now level Initialisation) }
-    ensures size { OnOk result (first_too_large (row_obligations dev.now level Initialisation) ≡ None) }
-    ensures fault { IfErr result (IsFaultAmong (row_obligations dev.now level Initialisation)) }
-{
-    let name = named_after(alloc, &dev.levels[level], b"INITIALISATION")?;
-    let hypotheses = init_hypotheses(alloc, dev, level)?;
-    match init_goal(alloc, dev, level) {
-        Ok(goal) => whole(name, hypotheses, goal),
-        Err(fault) => Err(fault_at(name, fault)),
-    }
-}
-
-fn initialisation_defined(
-    alloc: Global,
-    dev: &Development,
-    level: usize,
-) -> Result<WholeObligation, PoFault>
-    requires level { level < length dev.now.levels }
-    requires basic { IsBasic dev.now }
-    ensures value { IfOk result (λ o. o ∷ [] ≡ row_obligations dev.now level InitialisationDefined) }
-    ensures size { OnOk result (first_too_large (row_obligations dev.now level InitialisationDefined) ≡ None) }
-    ensures fault { IfErr result (IsFaultAmong (row_obligations dev.now level InitialisationDefined)) }
-{
-    let name = defined_after(alloc, level_at(dev, level), b"INITIALISATION")?;
-    let hypotheses = init_hypotheses(alloc, dev, level)?;
-    match init_evaluation(alloc, dev, level) {
-        Ok(goal) => whole(name, hypotheses, goal),
-        Err(fault) => Err(fault_at(name, fault)),
-    }
-}
-
-// ---- the constants' values
-
-fn add_values(
-    alloc: Global,
-    dev: &Development,
-    level: usize,
-    list: &mut Vec<WholeObligation>,
-) -> Result<(), PoFault>
-    requires { level < length dev.now.levels }
-    ensures value { OnOk result (list.new.items ≡ list.old.items ++ row_obligations dev.now level ValuesMeet) }
-    ensures sizes { OnOk result (first_too_large (row_obligations dev.now level ValuesMeet) ≡ None) }
-    ensures fault { IfErr result (IsFaultAmong (row_obligations dev.now level ValuesMeet)) }
-{
-    if dev.levels[level].kind != Kind::Implementation {
-        return Ok(());
-    }
-    list.push(values_meet(alloc, dev, level)?)?;
-    Ok(())
-}
-
-fn values_meet(alloc: Global, dev: &Development, level: usize) -> Result<WholeObligation, PoFault>
-    requires { level < length dev.now.levels }
-    ensures value { IfOk result
-        (λ o. o ≡ obligation (named_after dev.now level (codes "VALUES")) [] (values_goal dev.now level)) }
-    ensures size { OnOk result (first_too_large
-        (obligation (named_after dev.now level (codes "VALUES")) [] (values_goal dev.now level) ∷ []) ≡ None) }
-    ensures fault { IfErr result (IsFaultAmong
-        (obligation (named_after dev.now level (codes "VALUES")) [] (values_goal dev.now level) ∷ [])) }
-{
-    let name = named_after(alloc, &dev.levels[level], b"VALUES")?;
-    match values_goal(alloc, dev, level) {
-        Ok(goal) => whole(name, Vec::new(alloc), goal),
-        Err(fault) => Err(fault_at(name, fault)),
-    }
-}
-
-// ---- operations
-
-#[tactic(auto, using(crate::proofs::Laying::laying))]
-fn add_operations(
-    alloc: Global,
-    dev: &Development,
-    level: usize,
-    list: &mut Vec<WholeObligation>,
-) -> Result<(), PoFault>
-    requires level { level < length dev.now.levels }
-    requires basic { IsBasic dev.now }
-    ensures value { OnOk result (list.new.items ≡ list.old.items ++ row_obligations dev.now level Operations) }
-    ensures sizes { OnOk result (first_too_large (row_obligations dev.now level Operations) ≡ None) }
-    ensures fault { IfErr result (IsFaultAmong (row_obligations dev.now level Operations)) }
-{
-    for operation in 0..operation_count(dev) {
-        list.push(operation_kept(alloc, dev, level, operation)?)?;
-    }
-    Ok(())
-}
-
-fn operation_kept(
-    alloc: Global,
-    dev: &Development,
-    level: usize,
-    operation: usize,
-) -> Result<WholeObligation, PoFault>
-    requires level { level < length dev.now.levels }
-    requires operation { operation < length dev.now.heads }
-    requires basic { IsBasic dev.now }
-    ensures value { IfOk result (λ o. o ≡ of_operation dev.now level operation) }
-    ensures size { OnOk result (first_too_large (of_operation dev.now level operation ∷ []) ≡ None) }
-    ensures fault { IfErr result (IsFaultAmong (of_operation dev.now level operation ∷ [])) }
-{
-    let clause = &dev.heads[operation].name;
-    let name = named_after(alloc, &dev.levels[level], clause.as_bytes())?;
-    let hypotheses = operation_hypotheses(alloc, dev, level, operation)?;
-    match operation_goal(alloc, dev, level, operation) {
-        Ok(goal) => whole(name, hypotheses, goal),
-        Err(fault) => Err(fault_at(name, fault)),
-    }
-}
-
-#[tactic(auto, using(crate::proofs::Laying::laying))]
-fn add_operations_defined(
-    alloc: Global,
-    dev: &Development,
-    level: usize,
-    list: &mut Vec<WholeObligation>,
-) -> Result<(), PoFault>
-    requires level { level < length dev.now.levels }
-    requires basic { IsBasic dev.now }
-    ensures value { OnOk result (list.new.items ≡ list.old.items ++ row_obligations dev.now level OperationsDefined) }
-    ensures sizes { OnOk result (first_too_large (row_obligations dev.now level OperationsDefined) ≡ None) }
-    ensures fault { IfErr result (IsFaultAmong (row_obligations dev.now level OperationsDefined)) }
-{
-    for operation in 0..operation_count(dev) {
-        list.push(operation_defined(alloc, dev, level, operation)?)?;
-    }
-    Ok(())
-}
-
-fn operation_defined(
-    alloc: Global,
-    dev: &Development,
-    level: usize,
-    operation: usize,
-) -> Result<WholeObligation, PoFault>
-    requires level { level < length dev.now.levels }
-    requires operation { operation < length dev.now.heads }
-    requires basic { IsBasic dev.now }
-    ensures value { IfOk result (λ o. o ≡ of_definedness dev.now level operation) }
-    ensures size { OnOk result (first_too_large (of_definedness dev.now level operation ∷ []) ≡ None) }
-    ensures fault { IfErr result (IsFaultAmong (of_definedness dev.now level operation ∷ [])) }
-{
-    let clause = &dev.heads[operation].name;
-    let name = defined_after(alloc, &dev.levels[level], clause.as_bytes())?;
-    let hypotheses = body_hypotheses(alloc, dev, level, operation)?;
-    match operation_evaluation(alloc, dev, level, operation) {
-        Ok(goal) => whole(name, hypotheses, goal),
-        Err(fault) => Err(fault_at(name, fault)),
-    }
 }
 
 // ---- one obligation
+
+// The obligation of a clause at a level, where it is not too large.
+fn stated(
+    alloc: Global,
+    dev: &FlatDevelopment<'_>,
+    level: usize,
+    known: &Known,
+    clause: Clause,
+) -> Result<WholeObligation, PoFault>
+    requires level { level < length dev.now.levels }
+    requires known { IsKnownAt dev.now level known.now }
+    requires fits { FitsClause dev.now clause }
+    ensures value { IfOk result (λ o. o ≡ obligation_of dev.now level clause) }
+    ensures size { OnOk result (first_too_large (obligation_of dev.now level clause ∷ []) ≡ None) }
+    ensures fault { IfErr result (IsFaultAmong (obligation_of dev.now level clause ∷ [])) }
+{
+    let name = name(alloc, dev, level, clause)?;
+    let hypotheses = supposed(alloc, dev, level, known, clause)?;
+    match goal(alloc, dev, level, clause) {
+        Ok(goal) => whole(name, hypotheses, goal),
+        Err(fault) => Err(fault_at(name, fault)),
+    }
+}
 
 // The obligation of these parts, where it is not too large.
 fn whole(name: Text, hypotheses: Vec<Form>, goal: Form) -> Result<WholeObligation, PoFault>
@@ -382,6 +141,36 @@ fn fault_at(name: Text, fault: WpFault) -> PoFault
 }
 
 // Component.clause
+fn name(
+    alloc: Global,
+    dev: &FlatDevelopment<'_>,
+    level: usize,
+    clause: Clause,
+) -> Result<Text, Memory>
+    requires level { level < length dev.now.levels }
+    requires fits { FitsClause dev.now clause }
+    ensures { IfOk result
+        (λ name. name ≡ (level_at dev.now level).name ++ codes "." ++ clause_name dev.now level clause) }
+{
+    let component = dev.level(level);
+    match clause {
+        Clause::PropertiesDefined => named_after(alloc, component, b"PROPERTIES.wd"),
+        Clause::ValuesMeet => named_after(alloc, component, b"VALUES"),
+        Clause::InvariantDefined => named_after(alloc, component, b"INVARIANT.wd"),
+        Clause::AssertionsDefined => named_after(alloc, component, b"ASSERTIONS.wd"),
+        Clause::AssertionsHold => named_after(alloc, component, b"ASSERTIONS"),
+        Clause::Initialisation => named_after(alloc, component, b"INITIALISATION"),
+        Clause::InitialisationDefined => defined_after(alloc, component, b"INITIALISATION"),
+        Clause::Operation(operation) => {
+            named_after(alloc, component, dev.operation_name(operation))
+        }
+        Clause::OperationDefined(operation) => {
+            defined_after(alloc, component, dev.operation_name(operation))
+        }
+    }
+}
+
+// The component's name, and this behind it.
 fn named_after(alloc: Global, level: &Level, clause: &[u8]) -> Result<Text, Memory>
     ensures { IfOk result (λ name. name ≡ level.now.name ++ codes "." ++ clause.now) }
 {
@@ -391,7 +180,7 @@ fn named_after(alloc: Global, level: &Level, clause: &[u8]) -> Result<Text, Memo
     Ok(Text::from_bytes(name))
 }
 
-// Component.clause.wd, and at an implementation Component.clause.chk
+// The same with .wd behind it, and at an implementation with .chk.
 fn defined_after(alloc: Global, level: &Level, clause: &[u8]) -> Result<Text, Memory>
     ensures { IfOk result (λ name. name ≡ level.now.name ++ codes "." ++ (clause.now ++ suffix level.now)) }
 {

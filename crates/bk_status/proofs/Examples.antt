@@ -5,7 +5,7 @@ use Rattle.std.specs.Fmt.{digits}
 use Rattle.bk_scripts.specs.declared.state.State.TheVariants.{Obvious, Proved, NoScript, BadStep}
 use Rattle.bk_status.specs.declared.table.Row.{Row}
 use Rattle.bk_status.specs.Rows.{first_open}
-use Rattle.bk_status.specs.Examples.{TallyNeeds, StepperNeeds}
+use Rattle.bk_status.specs.Examples.{TallyNeeds, StepperNeeds, SwapNeeds}
 
 abbrev needs_none : Row
 needs_none = record { name = codes "Counter.get.1"; state = Obvious }
@@ -40,3 +40,7 @@ tally_needs = refl
 pub stepper_needs : StepperNeeds
 unfolding digits
 stepper_needs = refl
+
+pub swap_needs : SwapNeeds
+unfolding digits
+swap_needs = refl

@@ -1,14 +1,13 @@
--- Where each obligation of a basic development is obvious or derived by rules, each is valid.
-use Rattle.std.proofs.Common.{◌≡◌, inl, inr, ℕ, List, [], ◌∷◌, sym, subst}
+-- Where each obligation of a development is obvious or derived by rules, each is valid.
+use Rattle.std.proofs.Common.{inl, inr, ℕ, List, [], ◌∷◌}
 use Rattle.bk_form.specs.Table.{Table, IsWellFormed}
 use Rattle.bk_dev.specs.Flattened.{flattened}
 use Rattle.bk_form.specs.Each.{Each}
-use Rattle.bk_dev.proofs.Flat.{flattened_already}
+use Rattle.bk_dev.proofs.Room.{development-formed}
 use Rattle.bk_seq.specs.Sequents.{Sequent, Types}
 use Rattle.bk_kernel.proofs.Validity.{obvious_is_valid}
 use Rattle.bk_kernel.proofs.DerivedValid.{derived-is-valid}
 use Rattle.bk_po.specs.Obligations.{AreValid, numbered_obligations}
-use Rattle.bk_po.proofs.Basics.{basic_are_flat}
 use Rattle.bk_po.proofs.TypedSequents.{obligations_type}
 use Rattle.bk_status.specs.Obvious.{AreObvious, IsShown}
 use Rattle.bk_status.specs.Laws.{ShownObligationsAreValid, ObviousObligationsAreValid}
@@ -23,10 +22,7 @@ module _ (table : Table) where
   obvious-shown (s ∷ ss) h = (inl h.0, obvious-shown ss h.1)
 
 pub shown_obligations_are_valid : ShownObligationsAreValid
-shown_obligations_are_valid dev f basic shown =
-    let flat : flattened dev ≡ dev = flattened_already dev (basic_are_flat dev basic) in
-    let formed : IsWellFormed (flattened dev).table = subst (λ d. IsWellFormed d.table) (sym flat) f.lawful.table in
-    shown-valid (flattened dev).table formed (numbered_obligations dev) (obligations_type dev f basic) shown
+shown_obligations_are_valid dev d shown = shown-valid (flattened dev).table (development-formed dev d) (numbered_obligations dev) (obligations_type dev d) shown
 
 pub obvious_obligations_are_valid : ObviousObligationsAreValid
-obvious_obligations_are_valid dev f basic obvious = shown_obligations_are_valid dev f basic (obvious-shown (flattened dev).table (numbered_obligations dev) obvious)
+obvious_obligations_are_valid dev d obvious = shown_obligations_are_valid dev d (obvious-shown (flattened dev).table (numbered_obligations dev) obvious)

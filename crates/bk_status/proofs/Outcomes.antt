@@ -1,22 +1,22 @@
 -- The state of an obligation that has a script.
 use Rattle.std.proofs.Common.{◌≡◌, ℕ, List, false, sym, subst}
-use Rattle.std.specs.List.{IsAmong, AllZip}
+use Rattle.std.specs.List.{IsAmong}
+use Rattle.bk_form.specs.Table.{Table}
 use Rattle.bk_dev.specs.Development.{Development}
+use Rattle.bk_dev.specs.Facts.{IsDevelopment}
 use Rattle.bk_dev.specs.Flattened.{flattened}
 use Rattle.bk_seq.specs.Sequents.{Sequent}
 use Rattle.bk_kernel.specs.Obvious.{is_obvious}
+use Rattle.bk_kernel.specs.Derivations.{IsVerdict}
+use Rattle.bk_kernel.specs.declared.rule.Rule.{Rule}
 use Rattle.bk_kernel.specs.declared.replaying.Verdict.{Verdict}
 use Rattle.bk_kernel.specs.declared.replaying.Verdict.TheVariants.{Closed, BadStep as BadAt, Open as LeftOpen, Extra as LeftOver}
-use Rattle.bk_po.specs.Obligations.{numbered_obligations}
-use Rattle.bk_po.specs.Basic.{IsBasic}
-use Rattle.bk_po.proofs.Basics.{basic_are_flat}
-use Rattle.bk_dev.proofs.Flat.{flattened_already}
 use Rattle.bk_scripts.specs.WrittenRule.{Script}
+use Rattle.bk_scripts.specs.Grounding.{AreGrounded}
 use Rattle.bk_scripts.specs.States.{HasVerdict, state_of, IsState}
 use Rattle.bk_scripts.specs.declared.state.State.{State}
-use Rattle.bk_status.specs.declared.table.Row.{Row}
 use Rattle.bk_status.specs.Replayable.{IsOutcome}
-use Rattle.bk_status.specs.Rows.{IsRowOf, HasRows}
+use Rattle.bk_status.proofs.Sights.{groundings_agree}
 
 module _ (dev : Development) (scripts : List Script) (name : List ℕ) (s : Sequent) where
   by-verdict : (v : Verdict) → HasVerdict dev scripts name s v → IsState dev scripts name s (state_of v)
@@ -30,8 +30,12 @@ module _ (dev : Development) (scripts : List Script) (name : List ℕ) (s : Sequ
       let has : HasVerdict dev scripts name s h.verdict = record { not_obvious = plain; script = script; there = there; named = named; rules = h.rules; grounded = h.grounded; verdict_is = h.verdict_is } in
       subst (IsState dev scripts name s) (sym h.state_is) (by-verdict h.verdict has)
 
--- the rows of a basic development
-pub rows_stand : (dev : Development) (scripts : List Script) (rows : List Row) → IsBasic dev → AllZip (IsRowOf dev scripts) (numbered_obligations dev) rows → HasRows dev scripts rows
-rows_stand dev scripts rows basic h =
-    let flat : flattened dev ≡ dev = flattened_already dev (basic_are_flat dev basic) in
-    subst (λ d. AllZip (IsRowOf d scripts) (numbered_obligations dev) rows) (sym flat) h
+-- what the rules of a script give over the table with all copies
+pub outcome_of : (dev : Development) (table : Table) (script : Script) (rules : List Rule) (s : Sequent) (verdict : Verdict) (state : State) → IsDevelopment dev → table ≡ (flattened dev).table → AreGrounded dev script rules → IsVerdict table rules s verdict → state ≡ state_of verdict → IsOutcome (flattened dev) script s state
+outcome_of dev table script rules s verdict state d same grounded is gives = record {
+  rules = rules;
+  grounded = (groundings_agree dev d script rules).0 grounded;
+  verdict = verdict;
+  verdict_is = subst (λ t. IsVerdict t rules s verdict) same is;
+  state_is = gives;
+}

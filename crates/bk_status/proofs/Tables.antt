@@ -2,12 +2,13 @@
 use Rattle.std.proofs.Common.{◌≡◌, inl, inr, ℕ, List, [], ◌∷◌, not, cond, Option, Some, None}
 use Rattle.std.specs.List.{AllZip}
 use Rattle.bk_dev.specs.Development.{Development}
+use Rattle.bk_dev.specs.Facts.{IsDevelopment}
 use Rattle.bk_form.specs.Each.{Each}
 use Rattle.bk_dev.specs.Flattened.{flattened}
 use Rattle.bk_seq.specs.Sequents.{Sequent}
 use Rattle.bk_po.specs.Obligations.{numbered_obligations}
 use Rattle.bk_status.specs.Obvious.{IsShown, HasShownObligations}
-use Rattle.bk_po.proofs.Splitting.{each-so}
+use Rattle.bk_po.proofs.Lists.{each-so}
 use Rattle.bk_status.proofs.Obviousness.{shown_obligations_are_valid}
 use Rattle.bk_po.proofs.Carrying.{valid_obligations_carry}
 use Rattle.bk_scripts.specs.WrittenRule.{Script}
@@ -15,8 +16,8 @@ use Rattle.bk_scripts.specs.States.{IsState}
 use Rattle.bk_scripts.specs.declared.state.State.{State}
 use Rattle.bk_scripts.specs.declared.state.State.TheVariants.{Obvious, Proved, NoScript, BadStep, Open, Extra}
 use Rattle.bk_status.specs.declared.table.Row.{Row}
-use Rattle.bk_status.specs.Rows.{IsRowOf, is_settled, first_open, IsProved, AreProved}
-use Rattle.bk_status.specs.Laws.{ClosedTablesProve, ProvedObligationsAreValid, ProvedDevelopmentsAreCorrect}
+use Rattle.bk_status.specs.Rows.{IsRowOf, HasRows, is_settled, first_open, ShowCorrect, IsProved, AreProved}
+use Rattle.bk_status.specs.Laws.{ClosedTablesProve, ClosedTablesAreValid, ProvedObligationsAreValid, ProvedDevelopmentsAreCorrect}
 
 module _ (dev : Development) (scripts : List Script) where
   by-state : (o : List ℕ × Sequent) (row : Row) (rest : Option Row) (s : State) → IsState (flattened dev) scripts o.0 o.1 s → cond (not (is_settled s)) (Some row) rest ≡ None → IsProved dev scripts o × (rest ≡ None)
@@ -45,7 +46,13 @@ pub closed_tables_prove : ClosedTablesProve
 closed_tables_prove dev scripts rows h none = closed-each dev scripts (numbered_obligations dev) rows h none
 
 pub proved_obligations_are_valid : ProvedObligationsAreValid
-proved_obligations_are_valid dev scripts f basic h = shown_obligations_are_valid dev f basic (all-shown dev scripts h)
+proved_obligations_are_valid dev scripts f h = shown_obligations_are_valid dev f (all-shown dev scripts h)
+
+pub closed_tables_are_valid : ClosedTablesAreValid
+closed_tables_are_valid dev scripts rows f h none = proved_obligations_are_valid dev scripts f (closed_tables_prove dev scripts rows h none)
+
+pub closed_tables_carry : (dev : Development) (scripts : List Script) (rows : List Row) → IsDevelopment dev → HasRows dev scripts rows → ShowCorrect dev rows
+closed_tables_carry dev scripts rows f h none find law = valid_obligations_carry find law dev f (closed_tables_are_valid dev scripts rows f h none)
 
 pub proved_developments_are_correct : ProvedDevelopmentsAreCorrect
-proved_developments_are_correct find law dev scripts f basic h = valid_obligations_carry find law dev f basic (proved_obligations_are_valid dev scripts f basic h)
+proved_developments_are_correct find law dev scripts f h = valid_obligations_carry find law dev f (proved_obligations_are_valid dev scripts f h)

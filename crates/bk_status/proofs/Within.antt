@@ -1,5 +1,5 @@
--- The sequents of a basic development's obligations that pass no limit can be replayed.
-use Rattle.std.proofs.Common.{◌≡◌, ◌≤◌, ℕ, suc, List, [], ◌∷◌, ◌++◌, Bool, true, false, ◌||◌, cond, nat_lt, refl, subst, arith, Option, Some, None}
+-- The sequents of a development's obligations that pass no limit can be replayed.
+use Rattle.std.proofs.Common.{◌≡◌, ◌≤◌, ℕ, suc, List, [], ◌∷◌, ◌++◌, Bool, true, false, ◌||◌, cond, nat_lt, refl, arith, Option, Some, None}
 use Rattle.std.proofs.lemmas.Bool.Decides.{nat_tests}
 use Rattle.bk_form.specs.Table.{Table}
 use Rattle.bk_form.specs.Formula.{Formula, binary, btrue, formulas_size, formulas_height, formulas_of}
@@ -13,11 +13,8 @@ use Rattle.bk_form.specs.Predicates.{conjuncts}
 use Rattle.bk_seq.specs.Sequents.{Types, IsWithin, Sequent, split}
 use Rattle.bk_po.specs.Obligations.{Obligation, numbered_from, obligations, numbered_obligations}
 use Rattle.bk_po.specs.Limits.{nodes_of, height_of, is_too_large, first_too_large, PassNoLimit}
-use Rattle.bk_po.specs.Basic.{IsBasic}
 use Rattle.bk_po.proofs.Lists.{append-each, flat-each}
 use Rattle.bk_po.proofs.TypedSequents.{obligations_type}
-use Rattle.bk_dev.proofs.Flat.{flattened_already}
-use Rattle.bk_po.proofs.Basics.{basic_are_flat}
 use Rattle.bk_dev.specs.Flattened.{flattened}
 use Rattle.bk_status.specs.Replayable.{IsReplayable}
 
@@ -86,8 +83,5 @@ both : (table : Table) (ss : List (List ℕ × Sequent)) → Each (λ s. Types t
 both table [] h k = tt
 both table (s ∷ ss) h k = (record { types = h.0; within = k.0 }, both table ss h.1 k.1)
 
-pub all_replayable : (dev : Development) → IsDevelopment dev → IsBasic dev → PassNoLimit (obligations dev) → Each (λ o. IsReplayable dev.table o.1) (numbered_obligations dev)
-all_replayable dev f basic pass =
-    let flat : flattened dev ≡ dev = flattened_already dev (basic_are_flat dev basic) in
-    let typed : Each (λ s. Types dev.table s.1) (numbered_obligations dev) = subst (λ d. Each (λ s. Types d.table s.1) (numbered_obligations dev)) flat (obligations_type dev f basic) in
-    both dev.table (numbered_obligations dev) typed (flat-each IsWithinNamed sequents_of (obligations dev) (each-within (obligations dev) pass.sizes))
+pub all_replayable : (dev : Development) → IsDevelopment dev → PassNoLimit (obligations dev) → Each (λ o. IsReplayable (flattened dev).table o.1) (numbered_obligations dev)
+all_replayable dev f pass = both (flattened dev).table (numbered_obligations dev) (obligations_type dev f) (flat-each IsWithinNamed sequents_of (obligations dev) (each-within (obligations dev) pass.sizes))

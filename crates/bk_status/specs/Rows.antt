@@ -1,11 +1,13 @@
 -- Status tables: one row for each obligation of a development.
-use Rattle.std.specs.Prelude.{◌≡◌, ◌⊎◌, ℕ, Bool, true, false, not, List, Option, find}
+use Rattle.std.specs.Prelude.{◌≡◌, ◌⊎◌, ℕ, Bool, true, false, not, List, Option, None, find}
 use Rattle.std.specs.List.{AllZip}
+use Rattle.bk_form.specs.Search.{Finder, IsSearch}
 use Rattle.bk_dev.specs.Development.{Development}
 use Rattle.bk_form.specs.Each.{Each}
 use Rattle.bk_dev.specs.Flattened.{flattened}
 use Rattle.bk_seq.specs.Sequents.{Sequent}
 use Rattle.bk_po.specs.Obligations.{numbered_obligations}
+use Rattle.bk_po.specs.Laws.{IsCorrect}
 use Rattle.bk_scripts.specs.WrittenRule.{Script}
 use Rattle.bk_scripts.specs.States.{IsState}
 use Rattle.bk_scripts.specs.declared.state.State.{State}
@@ -31,6 +33,11 @@ is_settled _ = false
 -- the first row that is neither obvious nor proved
 abbrev pub first_open : List Row → Option Row
 first_open rows = find (λ row. not (is_settled row.state)) rows
+
+-- where no row is open the development is correct: the machine keeps its invariant, each level carries the one above, the constants' values meet
+-- the properties, and what is stated is defined
+abbrev pub ShowCorrect : Development → List Row → Type 0
+ShowCorrect dev rows = first_open rows ≡ None → (find : Finder) → IsSearch find → IsCorrect find dev
 
 -- ---- obligations that need no more work
 -- the obligation with this name and sequent is obvious or has a replayed proof: it has a script, and the rules that the script stands for

@@ -1,21 +1,27 @@
 //! What status tables are worth. Each law is the contract of a function that does nothing.
 
-ghost use Rattle.bk_status.specs.Examples.{TallyNeeds, StepperNeeds};
-ghost use Rattle.bk_status.specs.Laws.{TablesAreOne, ClosedTablesProve, ProvedTablesAreClosed, ShownObligationsAreValid, ObviousObligationsAreValid, ProvedObligationsAreValid, ProvedDevelopmentsAreCorrect};
+ghost use Rattle.bk_status.specs.Examples.{TallyNeeds, StepperNeeds, SwapNeeds};
+ghost use Rattle.bk_status.specs.Laws.{TablesAreOne, ClosedTablesProve, ClosedTablesAreValid, ProvedTablesAreClosed, GroundingsAgree, ShownObligationsAreValid, ObviousObligationsAreValid, ProvedObligationsAreValid, ProvedDevelopmentsAreCorrect};
 
 /// A development has one table at most, over scripts of which no two have one name.
 pub fn tables_are_one()
     ensures { TablesAreOne }
 {}
 
-/// A table without an open row says that each obligation is obvious or has a replayed proof.
+/// A table without an open row says that each obligation is obvious or has a replayed proof, and so that each is valid.
 pub fn closed_tables_prove()
-    ensures { ClosedTablesProve }
+    ensures proved { ClosedTablesProve }
+    ensures valid { ClosedTablesAreValid }
 {}
 
 /// Where each obligation is so, the table has no open row.
 pub fn proved_tables_are_closed()
     ensures { ProvedTablesAreClosed }
+{}
+
+/// What the terms of a script mean does not change where each `||` is rewritten by copies.
+pub fn groundings_agree()
+    ensures { GroundingsAgree }
 {}
 
 /// Where each obligation is obvious or derived by rules, as where it has a replayed proof, each is valid, the machine
@@ -27,9 +33,10 @@ pub fn proved_obligations()
     ensures correct { ProvedDevelopmentsAreCorrect }
 {}
 
-/// Which obligations need a proof: those of an adder, which has an input and a precondition, and of a stepper, which has
-/// an IF.
+/// Which obligations need a proof: those of an adder, which has an input and a precondition, of a stepper, which has an IF, and of two numbers that
+/// change places by `||`.
 pub fn examples()
     ensures tally { TallyNeeds }
     ensures stepper { StepperNeeds }
+    ensures swap { SwapNeeds }
 {}

@@ -2,34 +2,38 @@
 
 ghost use Rattle.std.specs.Prelude.{◌≡◌, ◌≢◌, All, IfOk, MatchOption};
 ghost use Rattle.std.specs.List.{IsAmong};
+ghost use Rattle.bk_dev.specs.Flattened.{flattened};
 ghost use Rattle.bk_seq.specs.Sequents.{sequent_of};
 ghost use Rattle.bk_scripts.specs.States as meant;
 ghost use Rattle.bk_scripts.specs.States.{IsState};
 ghost use Rattle.bk_status.specs.Replayable.{IsReplayable, IsOutcome};
 
 use bk_dev::Development;
+use bk_form::VarTable;
 use bk_io::{Memory, Text};
 use bk_kernel::{Verdict, is_obvious, replay};
 use bk_scripts::{Script, State, ground};
 use bk_seq::Sequent;
 use std::alloc::Global;
 
-/// The state of the obligation with this name and sequent.
+/// The state of the obligation with this name and sequent. Rules are replayed over the table with an entry for each copy.
 pub(crate) fn state(
     alloc: Global,
     dev: &Development,
+    types: &VarTable,
     scripts: &[Script],
     name: &Text,
     sequent: Sequent,
 ) -> Result<State, Memory>
-    requires { IsReplayable dev.now.table (sequent_of sequent) }
-    ensures { IfOk result (IsState dev.now scripts.now name.now (sequent_of sequent)) }
+    requires types { types.now ≡ (flattened dev.now).table }
+    requires replayable { IsReplayable types.now (sequent_of sequent) }
+    ensures { IfOk result (IsState (flattened dev.now) scripts.now name.now (sequent_of sequent)) }
 {
     if is_obvious(&sequent) {
         return Ok(State::Obvious);
     }
     match script_named(scripts, name) {
-        Some(script) => Ok(outcome(alloc, dev, script, sequent)?),
+        Some(script) => Ok(outcome(alloc, dev, types, script, sequent)?),
         None => Ok(State::NoScript),
     }
 }
@@ -46,14 +50,17 @@ fn script_named<'a>(scripts: &'a [Script], name: &Text) -> Option<&'a Script>
 fn outcome(
     alloc: Global,
     dev: &Development,
+    types: &VarTable,
     script: &Script,
     sequent: Sequent,
 ) -> Result<State, Memory>
-    requires { IsReplayable dev.now.table (sequent_of sequent) }
-    ensures { IfOk result (IsOutcome dev.now script.now (sequent_of sequent)) }
+    requires types { types.now ≡ (flattened dev.now).table }
+    requires replayable { IsReplayable types.now (sequent_of sequent) }
+    ensures { IfOk result (IsOutcome (flattened dev.now) script.now (sequent_of sequent)) }
 {
-    let (rules, table) = ground(alloc, script, dev)?;
-    let verdict = replay(alloc, &table, sequent, &rules)?;
+    dev.facts();
+    let (rules, _) = ground(alloc, script, dev)?;
+    let verdict = replay(alloc, types, sequent, &rules)?;
     Ok(state_of(verdict))
 }
 

@@ -4,18 +4,19 @@ ghost use Rattle.std.specs.Prelude.{◌≡◌, map, OnOk, IfOk, IfErr};
 ghost use Rattle.std.specs.List.{AllZip};
 ghost use Rattle.std.specs.Option.{option_copied};
 ghost use Rattle.bk_form.specs.Each.{Each};
-ghost use Rattle.bk_po.specs.Basic.{IsBasic};
+ghost use Rattle.bk_dev.specs.Flattened.{flattened};
 ghost use Rattle.bk_po.specs.Obligations.{obligations};
 ghost use Rattle.bk_po.specs.Limits.{PassNoLimit, IsFaultOf};
 ghost use Rattle.bk_status.specs.Rows as meant;
 ghost use Rattle.bk_po.specs.Shown.{named_sequent};
-ghost use Rattle.bk_status.specs.Rows.{IsRowOf, HasRows};
+ghost use Rattle.bk_status.specs.Rows.{IsRowOf, HasRows, ShowCorrect};
 ghost use Rattle.bk_status.specs.Replayable.{IsReplayable};
 
 use crate::replayed::state;
 use bk_dev::Development;
+use bk_form::VarTable;
 use bk_io::{Memory, Text};
-use bk_po::{Obligation, PoFault, obligations};
+use bk_po::{Obligation, PoFault, obligation_table, obligations};
 use bk_scripts::{Script, State};
 use std::alloc::Global;
 
@@ -52,30 +53,34 @@ fn is_settled(state: State) -> bool
 
 /// The status table of a development: each obligation is obvious, or it is what the script of its name makes of it. A script
 /// for no obligation is ignored. Where two scripts have one name, either may be taken; those of proof files never have.
+/// Where no row is open the development is correct.
 pub fn status(alloc: Global, dev: &Development, scripts: &[Script]) -> Result<Table, PoFault>
-    requires { IsBasic dev.now }
     ensures rows { IfOk result (λ table. HasRows dev.now scripts.now table.rows.items) }
+    ensures correct { IfOk result (λ table. ShowCorrect dev.now table.rows.items) }
     ensures within { OnOk result (PassNoLimit (obligations dev.now)) }
     ensures fault { IfErr result (IsFaultOf (obligations dev.now)) }
 {
     dev.facts();
     let list = obligations(alloc, dev)?;
-    let rows = rows_of(alloc, dev, scripts, list)?;
+    let types = obligation_table(alloc, dev)?;
+    let rows = rows_of(alloc, dev, &types, scripts, list)?;
     Ok(Table { rows })
 }
 
 fn rows_of(
     alloc: Global,
     dev: &Development,
+    types: &VarTable,
     scripts: &[Script],
     list: Vec<Obligation>,
 ) -> Result<Vec<Row>, Memory>
-    requires { Each (λ o. IsReplayable dev.now.table o.1) (map named_sequent list.items) }
-    ensures { IfOk result (λ rows. AllZip (IsRowOf dev.now scripts.now) (map named_sequent list.items) rows.items) }
+    requires types { types.now ≡ (flattened dev.now).table }
+    requires replayable { Each (λ o. IsReplayable types.now o.1) (map named_sequent list.items) }
+    ensures { IfOk result (λ rows. AllZip (IsRowOf (flattened dev.now) scripts.now) (map named_sequent list.items) rows.items) }
 {
     let mut rows = Vec::new(alloc);
     for obligation in list {
-        rows.push(row_of(alloc, dev, scripts, obligation)?)?;
+        rows.push(row_of(alloc, dev, types, scripts, obligation)?)?;
     }
     Ok(rows)
 }
@@ -83,13 +88,15 @@ fn rows_of(
 fn row_of(
     alloc: Global,
     dev: &Development,
+    types: &VarTable,
     scripts: &[Script],
     obligation: Obligation,
 ) -> Result<Row, Memory>
-    requires { IsReplayable dev.now.table (named_sequent obligation).1 }
-    ensures { IfOk result (IsRowOf dev.now scripts.now (named_sequent obligation)) }
+    requires types { types.now ≡ (flattened dev.now).table }
+    requires replayable { IsReplayable types.now (named_sequent obligation).1 }
+    ensures { IfOk result (IsRowOf (flattened dev.now) scripts.now (named_sequent obligation)) }
 {
     let Obligation { name, sequent } = obligation;
-    let state = state(alloc, dev, scripts, &name, sequent)?;
+    let state = state(alloc, dev, types, scripts, &name, sequent)?;
     Ok(Row { name, state })
 }

@@ -6,4 +6,6 @@ mod developments;
 #[cfg(test)]
 mod guarding;
 #[cfg(test)]
+mod many;
+#[cfg(test)]
 mod obligation_lists;

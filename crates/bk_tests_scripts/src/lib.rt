@@ -7,3 +7,5 @@ mod grounding;
 mod proof_files;
 #[cfg(test)]
 mod status_tables;
+#[cfg(test)]
+mod whole_tables;

@@ -1,4 +1,4 @@
-use Rattle.bk_front.proofs.Readings.{is_development, is_simple, is_basic}
+use Rattle.bk_front.proofs.Readings.{is_development, is_simple}
 use Rattle.bk_front.proofs.laws.projects_are_developments.Goals as goal
 
 pub returns-clause-development : goal.returns-clause-development
@@ -6,6 +6,3 @@ returns-clause-development c = is_development
 
 pub returns-clause-simple : goal.returns-clause-simple
 returns-clause-simple c = is_simple
-
-pub returns-clause-basic : goal.returns-clause-basic
-returns-clause-basic c = is_basic

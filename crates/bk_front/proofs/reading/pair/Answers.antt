@@ -47,8 +47,5 @@ returns-clause-ok c =
 pub returns-clause-simple : goal.returns-clause-simple
 returns-clause-simple c = c.in_ok-development.ensures.simple
 
-pub returns-clause-basic : goal.returns-clause-basic
-returns-clause-basic c = c.in_ok-development.ensures.basic
-
 pub returns-clause-few : goal.returns-clause-few
 returns-clause-few c = c.in_ok-development.ensures.few

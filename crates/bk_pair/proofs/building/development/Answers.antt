@@ -3,10 +3,9 @@ use Rattle.bk_form.specs.Table.{Table}
 use Rattle.bk_dev.specs.Development.{Development}
 use Rattle.bk_dev.specs.Facts.{IsDevelopment}
 use Rattle.bk_b0.specs.Simple.{IsSimple}
-use Rattle.bk_po.specs.Basic.{IsBasic}
 use Rattle.bk_comp.specs.Components.{Component, place_behind_all, variable_of}
 use Rattle.bk_pair.specs.Developments.{upper_variables, heads_from, development_of}
-use Rattle.bk_pair.proofs.Counts.{few-places, few-heads, upper-count, second-number, is-development, is-simple, is-basic, table-is, links-are, levels-are, joined}
+use Rattle.bk_pair.proofs.Counts.{few-places, few-heads, upper-count, second-number, is-development, is-simple, table-is, links-are, levels-are, joined}
 use Rattle.bk_pair.proofs.building.development.Goals as goal
 
 pub add_upper-requires-clause-few : goal.add_upper-requires-clause-few
@@ -52,9 +51,6 @@ invariant_of-result c = subst IsDevelopment (sym (returns-clause-value c)) (is-d
 
 pub returns-clause-simple : goal.returns-clause-simple
 returns-clause-simple c = subst IsSimple (sym (returns-clause-value c)) (is-simple c.args.machine c.args.implementation c.requires.pair c.requires.above c.requires.below)
-
-pub returns-clause-basic : goal.returns-clause-basic
-returns-clause-basic c = subst IsBasic (sym (returns-clause-value c)) (is-basic c.args.machine c.args.implementation c.requires.pair c.requires.above c.requires.below)
 
 pub returns-clause-few : goal.returns-clause-few
 returns-clause-few c = subst (λ (d : Development). length d.heads ≤ 100) (sym (returns-clause-value c)) (few-heads c.args.machine c.args.implementation c.requires.above)

@@ -1,0 +1,5 @@
+mod NamesDecided
+mod SubsDecided
+mod Decided
+pub mod Facts
+pub mod SumFacts

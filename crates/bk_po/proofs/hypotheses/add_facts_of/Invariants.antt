@@ -1,7 +1,0 @@
-use Rattle.std.proofs.Common.{◌≡◌, ◌++◌, drop}
-use Rattle.std.specs.List.{flat_map}
-use Rattle.bk_dev.specs.Hypotheses.{facts}
-use Rattle.bk_po.proofs.hypotheses.add_facts_of.Given as goal
-
-abbrev pub invariant-loop-level : goal.invariant-loop-level
-invariant-loop-level l = l.hyps.items ++ flat_map facts (drop l.level-index l.levels) ≡ l.initial.hyps.items ++ flat_map facts l.levels
