@@ -3,16 +3,18 @@ use Rattle.std.proofs.Common.{◌≡◌, ℕ, zero, suc, ◌≤◌, ◌⊎◌, i
 use Rattle.bk_io.specs.Files.{Files}
 use Rattle.bk_io.specs.Pieces.{written_with, WroteFront}
 use Rattle.bk_io.specs.Counts.{Rose}
-use Rattle.bkit.specs.declared.status.Status.{Status}
-use Rattle.bkit.specs.declared.status.Status.TheVariants.{Usage as UsageStatus, Missing as MissingStatus, ReadFault as ReadFaultStatus, WriteFault as WriteFaultStatus, Memory as MemoryStatus}
-use Rattle.bkit.specs.declared.stop.Stop.{Stop}
-use Rattle.bkit.specs.declared.stop.Stop.TheVariants.{Usage, Missing, Refused, Limit, Unproved, BadCalls, ReadFault, WriteFault, Memory}
-use Rattle.bkit.specs.Causes.{IsOfPlaying}
-use Rattle.bkit.specs.Run.{IsExecuted, ComesSoFar, WritesRun}
-use Rattle.bkit.specs.Stops.{IsOutside, StopsAt, status_of_stop, stop_text, IsCutShort, Reports}
+use Rattle.bk_verbs.specs.declared.status.Status.{Status}
+use Rattle.bk_verbs.specs.declared.status.Status.TheVariants.{Incomplete as IncompleteStatus, Usage as UsageStatus, Missing as MissingStatus, ReadFault as ReadFaultStatus, WriteFault as WriteFaultStatus, Memory as MemoryStatus}
+use Rattle.bk_verbs.specs.declared.stop.Stop.{Stop}
+use Rattle.bk_verbs.specs.declared.stop.Stop.TheVariants.{Usage, Missing, Refused, Limit, Unproved, Incomplete, BadCalls, BadImage, ReadFault, WriteFault, Memory}
+use Rattle.bk_verbs.specs.Causes.{IsOfReading, IsOfPlaying}
+use Rattle.bk_words.specs.Tasks.{Task, Asks}
+use Rattle.bk_verbs.specs.Work.{IsExecuted, WritesWork}
+use Rattle.bkit.specs.Run.{ComesSoFar}
+use Rattle.bk_verbs.specs.Stops.{IsOutside, StopsAt, status_of_stop, stop_text, IsCutShort, Reports}
 use Rattle.bkit.specs.Answer.{IsAnswer, IsAnswered, WritesAnswer, WritesLine}
-use Rattle.bkit.proofs.Plays.{written_nothing}
-use Rattle.bkit.proofs.OneAnswer.{one_answer}
+use Rattle.bk_verbs.proofs.Plays.{written_nothing}
+use Rattle.bkit.proofs.OneAnswer.{one_answer, answer_of_work}
 
 -- ---- what is written
 take_nothing : (n : ℕ) → take {A = ℕ} n [] ≡ []
@@ -20,11 +22,11 @@ take_nothing zero = refl
 take_nothing (suc n) = refl
 
 -- a front of nothing is nothing
-front_of_nothing : (before after : Option (List ℕ)) → WroteFront [] before after → after ≡ before
+pub front_of_nothing : (before after : Option (List ℕ)) → WroteFront [] before after → after ≡ before
 front_of_nothing before after w = w.front ∙ (ap (written_with before) (take_nothing w.count) ∙ sym (written_nothing before))
 
 -- ---- stops that no check leads to
-outside_of_playing : (stop : Stop) → IsOfPlaying stop → IsOutside stop
+pub outside_of_playing : (stop : Stop) → IsOfPlaying stop → IsOutside stop
 outside_of_playing WriteFault h = tt
 outside_of_playing Memory h = tt
 outside_of_playing stop h = absurd h
@@ -52,33 +54,40 @@ stop_is_cut_short WriteFault h = tt
 stop_is_cut_short Memory h = tt
 stop_is_cut_short stop h = absurd h
 
-stop_so_far : (stop : Stop) → ComesSoFar (status_of_stop stop)
-stop_so_far Usage = tt
-stop_so_far (Missing name) = tt
-stop_so_far (Refused fault name) = tt
-stop_so_far (Limit limit name) = tt
-stop_so_far (Unproved name) = tt
-stop_so_far (BadCalls line) = tt
-stop_so_far ReadFault = tt
-stop_so_far WriteFault = tt
-stop_so_far Memory = tt
+pub reading_so_far : (stop : Stop) → IsOfReading stop → ComesSoFar (status_of_stop stop)
+reading_so_far Usage h = tt
+reading_so_far (Missing name) h = tt
+reading_so_far (Refused fault name) h = tt
+reading_so_far (Limit limit name) h = tt
+reading_so_far (Unproved name) h = tt
+reading_so_far (Incomplete name) h = h
+reading_so_far (BadCalls line) h = tt
+reading_so_far (BadImage fault) h = tt
+reading_so_far ReadFault h = tt
+reading_so_far WriteFault h = tt
+reading_so_far Memory h = tt
+
+pub playing_so_far : (stop : Stop) → IsOfPlaying stop → ComesSoFar (status_of_stop stop)
+playing_so_far WriteFault h = tt
+playing_so_far Memory h = tt
+playing_so_far stop h = absurd h
 
 cut_short_so_far : (status : Status) → IsCutShort status → ComesSoFar status
 cut_short_so_far WriteFaultStatus h = tt
 cut_short_so_far MemoryStatus h = tt
 cut_short_so_far status h = absurd h
 
-pub reports_so_far : (stop : Stop) (status : Status) (before after : Option (List ℕ)) → Reports stop status before after → ComesSoFar status
-reports_so_far stop status before after (inl r) = subst ComesSoFar (sym r.0) (stop_so_far stop)
-reports_so_far stop status before after (inr r) = cut_short_so_far status r.0
+pub reports_so_far : (stop : Stop) (status : Status) (before after : Option (List ℕ)) → ComesSoFar (status_of_stop stop) → Reports stop status before after → ComesSoFar status
+reports_so_far stop status before after c (inl r) = subst ComesSoFar (sym r.0) c
+reports_so_far stop status before after c (inr r) = cut_short_so_far status r.0
 
 -- ---- the answer
 only : (files : Files) (words : List (List ℕ)) (status : Status) (text : List ℕ) → IsAnswer files words status text → (other : Status) (others : List ℕ) → IsAnswer files words other others → (other ≡ status) × (others ≡ text)
 only files words status text a other others k = one_answer files words other status others text k a
 
-pub run_answers : (files : Files) (words : List (List ℕ)) (start after : Option (List ℕ)) (status : Status) → WritesRun files words start after status → WritesAnswer files words start after status
-run_answers files words start after status w =
-    let a : IsAnswer files words status w.text = inr w.run.played in
+pub work_answers : (files : Files) (words : List (List ℕ)) (task : Task) (start after : Option (List ℕ)) (status : Status) → Asks words task → WritesWork files task start after status → WritesAnswer files words start after status
+work_answers files words task start after status asks w =
+    let a : IsAnswer files words status w.text = answer_of_work files words task status w.text asks w.work in
     record { text = w.text; answer = a; only = only files words status w.text a; appended = w.appended }
 
 -- told or not, what stops is told by its line alone
@@ -167,3 +176,25 @@ pub executed_is_not_cut_short : (status : Status) → IsExecuted status → IsCu
 executed_is_not_cut_short WriteFaultStatus h s = h
 executed_is_not_cut_short MemoryStatus h s = h
 executed_is_not_cut_short status h s = absurd s
+
+pub executed_so_far : (status : Status) → IsExecuted status → ComesSoFar status
+executed_so_far IncompleteStatus h = absurd h
+executed_so_far status h = tt
+
+-- where the program stops nothing is executed
+stop_is_not_executed : (stop : Stop) → IsExecuted (status_of_stop stop) → ⊥
+stop_is_not_executed Usage h = h
+stop_is_not_executed (Missing name) h = h
+stop_is_not_executed (Refused fault name) h = h
+stop_is_not_executed (Limit limit name) h = h
+stop_is_not_executed (Unproved name) h = h
+stop_is_not_executed (Incomplete name) h = h
+stop_is_not_executed (BadCalls line) h = h
+stop_is_not_executed (BadImage fault) h = h
+stop_is_not_executed ReadFault h = h
+stop_is_not_executed WriteFault h = h
+stop_is_not_executed Memory h = h
+
+pub reports_not_executed : (stop : Stop) (status : Status) (before after : Option (List ℕ)) → Reports stop status before after → IsExecuted status → ⊥
+reports_not_executed stop status before after (inl r) x = stop_is_not_executed stop (subst IsExecuted r.0 x)
+reports_not_executed stop status before after (inr r) x = executed_is_not_cut_short status x r.0

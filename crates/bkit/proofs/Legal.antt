@@ -7,7 +7,7 @@ use Rattle.std.proofs.lemmas.List.Elements.{All-head, All-tail, All-cons, All-ni
 use Rattle.std.proofs.lemmas.Int.{ints}
 use Rattle.bk_val.specs.Value.{MathValue}
 use Rattle.bk_val.specs.ValueType.{int_type, is_value_of}
-use Rattle.bk_form.specs.Search.{Finder, IsSearch}
+use Rattle.bk_form.specs.Search.{Finder}
 use Rattle.bk_form.specs.Table.{set_size}
 use Rattle.bk_gsl.specs.State.{declared_type, are_values_for}
 use Rattle.bk_code.specs.declared.image.Image.{Image}
@@ -34,24 +34,21 @@ use Rattle.bk_sim.proofs.SimpleInB0.{simple_ends}
 use Rattle.bk_calls.specs.Script.{AsksFor}
 use Rattle.bk_status.proofs.Tables.{proved_developments_are_correct}
 use Rattle.bk_lines.specs.Lines.{kept_lines}
-use Rattle.bk_scripts.specs.WrittenRule.{Script}
-use Rattle.bk_io.specs.Files.{Files}
-use Rattle.bk_front.proofs.Readings.{is_development, is_simple, is_basic}
-use Rattle.bkit.specs.declared.status.Status.TheVariants.{Done as DoneStatus}
-use Rattle.bkit.specs.Session.{fuel, status_of, last_end, session_status}
+use Rattle.bk_front.proofs.Readings.{is_development, is_simple}
+use Rattle.bk_verbs.specs.declared.status.Status.TheVariants.{Done as DoneStatus, Trapped as TrappedStatus}
+use Rattle.bk_verbs.specs.Session.{status_of, last_end, session_status}
 use Rattle.bkit.specs.Legal.{call_of, done_or, replied, AreLegal}
-use Rattle.bkit.specs.Run.{ReadsProject, IsProved, IsWithinCodeLimits, ReadsCalls}
 use Rattle.bkit.specs.Laws.{ProjectsEnd, LegalCallsAreDone}
-use Rattle.bkit.proofs.Plays.{IsDone}
-use Rattle.bkit.proofs.Projects.{project_follows, entries_few}
+use Rattle.bk_verbs.proofs.Plays.{IsDone}
+use Rattle.bk_verbs.proofs.Projects.{entries_few}
+use Rattle.bkit.proofs.Following.{project_follows}
 
 -- ---- ends
 pub projects_end : ProjectsEnd
 projects_end files project dev scripts h proved find law =
     let facts = is_development h.texts dev h.reads in
     let simple = is_simple h.texts dev h.reads in
-    let basic = is_basic h.texts dev h.reads in
-    let correct = proved_developments_are_correct find law dev scripts facts basic proved.proved in
+    let correct = proved_developments_are_correct find law dev scripts facts proved.proved in
     simple_ends find dev facts simple (correct.values simple.complete) correct.keeps correct.carries
 
 some_entry : (ops : List OpEntry) (o : ℕ) (entry : OpEntry) → slice_get ops o ≡ Some entry → o < length ops
@@ -142,7 +139,7 @@ same_entry image o one other h k = ap (value one) (sym h ∙ k)
     value d None = d
     value d (Some x) = x
 
-module _ (find : Finder) (dev : Development) (f : IsLawful dev) (s : IsSimple dev) (follows : Follows find dev (translation dev)) (in_code : EndsInCode find dev (translation dev)) (short : length (translation dev).code ≤ fuel) where
+module _ (find : Finder) (dev : Development) (f : IsLawful dev) (s : IsSimple dev) (follows : Follows find dev (translation dev)) where
   no_head : Head
   no_head = record { name = []; inputs = []; outputs = 0 }
 
@@ -161,6 +158,15 @@ module _ (find : Finder) (dev : Development) (f : IsLawful dev) (s : IsSimple de
         numbers_back dev (inputs_of dev r.op) r.args as_many whole,
       )
 
+  -- the first of the calls is legal
+  module _ (before : Abstract → Type 0) (c : Call) (cs : List Call) (us : List MathValue) (more : List (List MathValue)) where
+    legal_now : (e : End) → LegalFrom find dev before (c ∷ cs) (done_or e (us ∷ more) []) → (a : Abstract) → before a → Pre find dev c a
+    legal_now (Done n) legal = legal.0
+    legal_now (Trapped kind place n) legal = legal
+    legal_now OutOfFuel legal = legal
+
+-- ---- where the fuel is enough
+module _ (fuel : ℕ) (find : Finder) (dev : Development) (f : IsLawful dev) (s : IsSimple dev) (follows : Follows find dev (translation dev)) (in_code : EndsInCode find dev (translation dev)) (short : length (translation dev).code ≤ fuel) where
   -- what ends within its code is done with the fuel of a call
   done_within : (size : ℕ) (start d : Config) (e : End) → EndsWithin (translation dev) size start → size ≤ length (translation dev).code → Ends (translation dev) fuel start e d → IsDone e
   done_within size start d e w inside h =
@@ -169,11 +175,6 @@ module _ (find : Finder) (dev : Development) (f : IsLawful dev) (s : IsSimple de
 
   -- a call that ends on linked cells, and the calls behind it
   module _ (before : Abstract → Type 0) (c : Call) (cs : List Call) (us : List MathValue) (more : List (List MathValue)) where
-    legal_now : (e : End) → LegalFrom find dev before (c ∷ cs) (done_or e (us ∷ more) []) → (a : Abstract) → before a → Pre find dev c a
-    legal_now (Done n) legal = legal.0
-    legal_now (Trapped kind place n) legal = legal
-    legal_now OutOfFuel legal = legal
-
     by_end : (e : End) (entry : OpEntry) (a : Abstract) (start d : Config) (outputs : List ℤ) (cells : List ℤ) (rs : List Request) (ts : List Told) → IsDone e →
         IsGood (translation dev) fuel start (IsStep find dev c entry a) e d → outputs ≡ given_out entry.outputs e d.cells → LegalFrom find dev before (c ∷ cs) (done_or e (us ∷ more) []) →
         Continues (translation dev) fuel e cells rs ts →
@@ -195,8 +196,8 @@ module _ (find : Finder) (dev : Development) (f : IsLawful dev) (s : IsSimple de
       let answers : Answers (translation dev) fuel r m t = goes.0 in
       let entry : OpEntry = answers.entry in
       let d : Config = answers.call.last in
-      let call = is_call r entry answers.named answers.counted (All-head (λ x. All (IsWithin (pos 2147483647)) x.args) r rs within) in
-      let pre : Pre find dev c a = legal_now before c (map (call_of dev) rs) us (replied dev rs ts) t.end legal a h in
+      let call = is_call find dev f s follows r entry answers.named answers.counted (All-head (λ x. All (IsWithin (pos 2147483647)) x.args) r rs within) in
+      let pre : Pre find dev c a = legal_now find dev f s follows before c (map (call_of dev) rs) us (replied dev rs ts) t.end legal a h in
       let end : Ends (translation dev) fuel (started entry c m) t.end d = subst (λ zs. Ends (translation dev) fuel (call_start entry zs m) t.end d) (sym call.1) answers.call.ends in
       let done = done_within (length (operation_code dev (body_at dev (last dev) r.op))) (started entry c m) d t.end (in_code.local a m c entry linked call.0 pre answers.named) (operation_within dev r.op entry answers.named) end in
       let good = (follows.local a m c entry linked call.0 pre answers.named).1 fuel t.end d end in
@@ -224,20 +225,83 @@ module _ (find : Finder) (dev : Development) (f : IsLawful dev) (s : IsSimple de
       status_done (Trapped kind place n) h = absurd h
       status_done OutOfFuel h = absurd h
 
+-- ---- with any fuel
+-- no trap
+abbrev IsUntrapped : End → Type 0
+IsUntrapped (Trapped kind place n) = ⊥
+IsUntrapped _ = Unit {0}
+
+untrapped_status : (e : End) → IsUntrapped e → status_of e ≡ TrappedStatus → ⊥
+untrapped_status (Done n) h k = absurd (cc)
+untrapped_status (Trapped kind place n) h k = h
+untrapped_status OutOfFuel h k = absurd (cc)
+
+-- out of fuel nothing follows
+ends_there : (image : Image) (fuel : ℕ) (cells : List ℤ) (rs : List Request) (ts : List Told) → Continues image fuel OutOfFuel cells rs ts → IsUntrapped (last_end OutOfFuel ts)
+ends_there image fuel cells rs [] goes = tt
+ends_there image fuel cells rs (t ∷ ts) goes = absurd goes
+
+module _ (fuel : ℕ) (find : Finder) (dev : Development) (f : IsLawful dev) (s : IsSimple dev) (follows : Follows find dev (translation dev)) where
+  module _ (before : Abstract → Type 0) (c : Call) (cs : List Call) (us : List MathValue) (more : List (List MathValue)) where
+    by_good : (e : End) (entry : OpEntry) (a : Abstract) (start d : Config) (outputs : List ℤ) (cells : List ℤ) (rs : List Request) (ts : List Told) →
+        IsGood (translation dev) fuel start (IsStep find dev c entry a) e d → outputs ≡ given_out entry.outputs e d.cells → LegalFrom find dev before (c ∷ cs) (done_or e (us ∷ more) []) →
+        Continues (translation dev) fuel e cells rs ts →
+        ((n : ℕ) → IsStep find dev c entry a d.cells → outputs ≡ outputs_of entry.outputs d.cells → LegalFrom find dev (After find dev before c us) cs more → Continues (translation dev) fuel (Done n) cells rs ts → IsUntrapped (last_end (Done n) ts)) →
+        IsUntrapped (last_end e ts)
+    by_good (Done n) entry a start d outputs cells rs ts good given legal goes rest = rest n good given legal.1 goes
+    by_good (Trapped kind place n) entry a start d outputs cells rs ts good given legal goes rest = absurd good
+    by_good OutOfFuel entry a start d outputs cells rs ts good given legal goes rest = ends_there (translation dev) fuel cells rs ts goes
+
+  -- from linked cells, where each call is legal, no call traps
+  none_traps : (rs : List Request) (ts : List Told) (before : Abstract → Type 0) (a : Abstract) (m : List ℤ) (n : ℕ) → before a → Linked find dev a m → All (λ r. All (IsWithin (pos 2147483647)) r.args) rs →
+      LegalFrom find dev before (map (call_of dev) rs) (replied dev rs ts) → Continues (translation dev) fuel (Done n) m rs ts → IsUntrapped (last_end (Done n) ts)
+  none_traps [] [] before a m n h linked within legal goes = tt
+  none_traps [] (t ∷ ts) before a m n h linked within legal goes = absurd goes
+  none_traps (r ∷ rs) [] before a m n h linked within legal goes = absurd goes
+  none_traps (r ∷ rs) (t ∷ ts) before a m n h linked within legal goes =
+      let c : Call = call_of dev r in
+      let us : List MathValue = as_values dev (body_at dev 0 r.op).outputs t.outputs in
+      let answers : Answers (translation dev) fuel r m t = goes.0 in
+      let entry : OpEntry = answers.entry in
+      let d : Config = answers.call.last in
+      let call = is_call find dev f s follows r entry answers.named answers.counted (All-head (λ x. All (IsWithin (pos 2147483647)) x.args) r rs within) in
+      let pre : Pre find dev c a = legal_now find dev f s follows before c (map (call_of dev) rs) us (replied dev rs ts) t.end legal a h in
+      let end : Ends (translation dev) fuel (started entry c m) t.end d = subst (λ zs. Ends (translation dev) fuel (call_start entry zs m) t.end d) (sym call.1) answers.call.ends in
+      let good = (follows.local a m c entry linked call.0 pre answers.named).1 fuel t.end d end in
+      by_good before c (map (call_of dev) rs) us (replied dev rs ts) t.end entry a (started entry c m) d t.outputs t.cells rs ts good answers.call.given legal goes.1
+      (λ k step given rest on.
+      let same : replies dev r.op entry.outputs d.cells ≡ us = ap (as_values dev (body_at dev 0 r.op).outputs) (sym given) in
+      let after : After find dev before c us step.0 = (a, h, subst (λ vs. Steps find dev c a vs step.0) same step.1) in
+      let linked_there : Linked find dev step.0 t.cells = subst (λ zs. Linked find dev step.0 zs) (sym answers.call.cells) step.2 in
+      none_traps rs ts (After find dev before c us) step.0 t.cells k after linked_there (All-tail (λ x. All (IsWithin (pos 2147483647)) x.args) r rs within) rest on)
+
+  opening_untrapped : (e : End) (d : Config) (cells : List ℤ) (rs : List Request) (ts : List Told) → IsGood (translation dev) fuel (first_start (translation dev)) (λ m. (a : Abstract) × Opens find dev a × Linked find dev a m) e d →
+      cells ≡ d.cells → All (λ r. All (IsWithin (pos 2147483647)) r.args) rs → LegalFrom find dev (Opens find dev) (map (call_of dev) rs) (replied dev rs ts) → Continues (translation dev) fuel e cells rs ts → IsUntrapped (last_end e ts)
+  opening_untrapped (Done n) d cells rs ts good same within legal goes = none_traps rs ts (Opens find dev) good.0 cells n good.1 (subst (λ zs. Linked find dev good.0 zs) (sym same) good.2) within legal goes
+  opening_untrapped (Trapped kind place n) d cells rs ts good same within legal goes = absurd good
+  opening_untrapped OutOfFuel d cells rs ts good same within legal goes = ends_there (translation dev) fuel cells rs ts goes
+
+  session_untrapped : (rs : List Request) (tolds : List Told) → All (λ r. All (IsWithin (pos 2147483647)) r.args) rs → AreLegal find dev rs tolds → Session (translation dev) fuel rs tolds → session_status tolds ≡ TrappedStatus → ⊥
+  session_untrapped rs [] within legal session e = absurd session
+  session_untrapped rs (t ∷ ts) within legal session e =
+      untrapped_status (last_end t.end ts) (opening_untrapped t.end session.0.last t.cells rs ts (follows.opening fuel t.end session.0.last session.0.ends) session.0.cells within legal session.1) e
+
 requests_within : (image : Image) (lines : List (List ℕ)) (rs : List Request) → AllZip (AsksFor image) lines rs → All (λ r. All (IsWithin (pos 2147483647)) r.args) rs
 requests_within image [] [] h = All-nil (λ r. All (IsWithin (pos 2147483647)) r.args)
 requests_within image [] (r ∷ rs) h = elim h [ ]
 requests_within image (l ∷ ls) [] h = elim h [ ]
 requests_within image (l ∷ ls) (r ∷ rs) h = All-cons (λ x. All (IsWithin (pos 2147483647)) x.args) r rs h.0.range (requests_within image ls rs h.1)
 
--- the calls of a project whose obligations are proved, and whose code is within its limits
-pub legal_calls_are_done : (files : Files) (project calls : List ℕ) (dev : Development) (scripts : List Script) (requests : List Request) → ReadsProject files project dev scripts → IsProved dev scripts → IsWithinCodeLimits (translation dev) →
-    ReadsCalls files calls (translation dev) requests → (find : Finder) → IsSearch find → (tolds : List Told) → Session (translation dev) fuel requests tolds → AreLegal find dev requests tolds → session_status tolds ≡ DoneStatus
-legal_calls_are_done files project calls dev scripts requests reads proved short asks find law tolds session legal =
-    session_done find dev (is_development reads.texts dev reads.reads).lawful (is_simple reads.texts dev reads.reads) (project_follows files project dev scripts reads proved find law) (projects_end files project dev scripts reads proved find law) short.code
-    requests tolds (requests_within (translation dev) (kept_lines asks.text) requests asks.script) legal session
-
--- and of what is played
-pub played_calls_are_done : LegalCallsAreDone
-played_calls_are_done files words status text played find law legal =
-    played.last ∙ legal_calls_are_done files played.project played.calls played.dev played.scripts played.requests played.reads played.proved played.short played.asks find law played.tolds played.session legal
+-- the calls of a project that is ready
+pub legal_calls_are_done : LegalCallsAreDone
+legal_calls_are_done files project calls fuel ready tolds session find law legal =
+    let dev = ready.dev in
+    let reads = ready.reads in
+    let lawful : IsLawful dev = (is_development reads.texts dev reads.reads).lawful in
+    let simple : IsSimple dev = is_simple reads.texts dev reads.reads in
+    let follows : Follows find dev (translation dev) = project_follows files project dev ready.scripts reads ready.finished.proved find law in
+    let in_code : EndsInCode find dev (translation dev) = projects_end files project dev ready.scripts reads ready.finished.proved find law in
+    let within = requests_within (translation dev) (kept_lines ready.asks.text) ready.requests ready.asks.script in (
+      session_untrapped fuel find dev lawful simple follows ready.requests tolds within legal session,
+      (λ enough. session_done fuel find dev lawful simple follows in_code enough ready.requests tolds within legal session),
+    )

@@ -1,10 +1,8 @@
--- The words and the told files have one answer at most: no two checks stop the program, and none does where it is played.
-use Rattle.std.proofs.Common.{◌≡◌, ℕ, ◌<◌, ◌≤◌, ◌⊎◌, inl, inr, List, [], ◌∷◌, ◌++◌, length, Option, Some, None, sym, ◌∙◌, ap, subst, arith}
+-- The words and the told files have one answer at most: no two checks stop a task, and none does where it is done.
+use Rattle.std.proofs.Common.{◌≡◌, ℕ, ◌<◌, ◌≤◌, ◌⊎◌, inl, inr, List, [], ◌∷◌, ◌++◌, length, Option, Some, None, sym, ◌∙◌, ap, subst, arith, Bool, true, true≢false}
 use Rattle.std.proofs.lemmas.Option.{none-some}
 use Rattle.bk_io.specs.Files.{Files}
-use Rattle.bk_io.specs.Pieces.{WroteFront}
 use Rattle.bk_code.specs.declared.image.Image.{Image}
-use Rattle.bk_code.specs.Run.{End, Done, Trapped, OutOfFuel}
 use Rattle.bk_code.specs.Session.{Request, Told, Session}
 use Rattle.bk_code.proofs.Sessions.{one_session}
 use Rattle.bk_dev.specs.Development.{Development}
@@ -26,20 +24,30 @@ use Rattle.bk_calls.specs.Script.{IsScript, most_calls}
 use Rattle.bk_calls.specs.Transcript.{transcript}
 use Rattle.bk_calls.proofs.Limits.{are_apart}
 use Rattle.bk_calls.proofs.Scripts.{has_one_script}
-use Rattle.bkit.specs.declared.status.Status.{Status}
-use Rattle.bkit.specs.declared.stop.Stop.{Stop}
-use Rattle.bkit.specs.declared.stop.Stop.TheVariants.{Refused, Limit, Unproved, BadCalls}
-use Rattle.bkit.specs.Session.{fuel, status_of, last_end, session_status, PlaysFront}
-use Rattle.bkit.specs.Run.{AreRunWords, IsTold, AreTold, ReadsProject, IsProved, IsWithinCodeLimits, ReadsCalls, ReadsProgram, IsReady, IsExecuted, IsPlayed}
-use Rattle.bkit.specs.Stops.{StopsAtFile, StopsAtFiles, StopsAtTexts, StopsAtScripts, StopsAtTold, StopsAtComponents, StopsAtNames, StopsAtProject, StopsPastLimits, IsFirstOpen, StopsAtObligations, StopsAtScript, HasTooManyCells, StopsAtCode, StopsAtCalls, StopsAtDevelopment, StopsAtRun, StopsAt, name_at, status_of_stop, stop_text}
-use Rattle.bkit.specs.Answer.{IsAnswer, WritesAnswer}
+use Rattle.bk_image.specs.Spelling.{HasSpelling}
+use Rattle.bk_image.specs.Encoding.{Encodes}
+use Rattle.bk_image.specs.Laws.{AreBytes}
+use Rattle.bk_image.proofs.Verdicts.{encodes_one, faults_exclude}
+use Rattle.bk_image.proofs.OneFault.{one_fault}
+use Rattle.bk_verbs.specs.declared.status.Status.{Status}
+use Rattle.bk_verbs.specs.declared.stop.Stop.{Stop}
+use Rattle.bk_verbs.specs.declared.stop.Stop.TheVariants.{Refused, Limit, Unproved, BadCalls, BadImage}
+use Rattle.bk_verbs.specs.Session.{session_status}
+use Rattle.bk_words.specs.Tasks.{Task, check_task, status_task, po_task, code_task, build_task, run_task, exec_task, Asks, has_proofs}
+use Rattle.bk_verbs.specs.Project.{IsTold, AreTold, fetched, ReadsProject, IsProved, IsFinished, IsWithinCodeLimits, ReadsCalls}
+use Rattle.bk_texts.specs.Table.{table_text}
+use Rattle.bk_verbs.specs.Work.{IsPlayed, IsExec, IsGiven, IsDoneOn, IsWork}
+use Rattle.bkit.specs.Run.{IsReady}
+use Rattle.bk_verbs.specs.Stops.{StopsAtFile, StopsAtFiles, StopsAtTexts, StopsAtScripts, StopsAtTold, StopsAtComponents, StopsAtNames, StopsAtProject, StopsPastLimits, IsFirstOpen, StopsAtObligations, StopsAtProof, StopsPastCode, StopsAtScript, StopsAtCode, StopsAtCalls, StopsAtCallScript, StopsAtLoading, StopsAtImage, StopsRead, StopsAtWork, StopsTask, StopsAt, name_at, status_of_stop, stop_text}
+use Rattle.bkit.specs.Answer.{IsAnswer, IsWorkOf}
 use Rattle.bkit.specs.Laws.{HasOneAnswer}
-use Rattle.bkit.proofs.Fetching.{both_told}
-use Rattle.bkit.proofs.Projects.{some_once, told_once, all_told_once, one_project}
+use Rattle.bk_verbs.proofs.Fetching.{both_told}
+use Rattle.bk_verbs.proofs.Projects.{some_once, told_once, all_told_once, one_project}
+use Rattle.bk_words.proofs.Asking.{ask_for_one}
 
 -- ---- a file
 module _ (files : Files) (name : List ℕ) where
-  file_told : (stop : Stop) (text : List ℕ) → StopsAtFile files name stop → IsTold files name text → ⊥
+  pub file_told : (stop : Stop) (text : List ℕ) → StopsAtFile files name stop → IsTold files name text → ⊥
   file_told stop text (inl h) t = none-some text (sym h.1 ∙ t.stands)
   file_told stop text (inr h) t =
       let same : h.1.bytes ≡ text = some_once (sym h.1.found ∙ t.stands) in
@@ -113,35 +121,35 @@ module _ (files : Files) (components proofs : List (List ℕ)) where
   components_once s o (inr h) (inr k) = told_stop_once components proofs k.0 k.1 s o (same_told h.0 h.1 k.0 k.1 s h.2 h.3 k.2 k.3 h.4) k.4
 
 -- ---- the project
-module _ (files : Files) (project : List ℕ) where
+module _ (with_proofs : Bool) (files : Files) (project : List ℕ) where
   -- the components and proof files of one project file are the same
   same_components : (text : List ℕ) (components proofs others other_proofs : List (List ℕ)) (stop : Stop) → NamesFiles text components proofs → NamesFiles text others other_proofs →
-      StopsAtComponents files components proofs stop → StopsAtComponents files others other_proofs stop
+      StopsAtComponents files components (fetched with_proofs proofs) stop → StopsAtComponents files others (fetched with_proofs other_proofs) stop
   same_components text components proofs others other_proofs stop a b h =
       let e = names_once text components proofs others other_proofs a b in
-      subst (λ x. StopsAtComponents files others x stop) e.1 (subst (λ x. StopsAtComponents files x proofs stop) e.0 h)
+      subst (λ x. StopsAtComponents files others (fetched with_proofs x) stop) e.1 (subst (λ x. StopsAtComponents files x (fetched with_proofs proofs) stop) e.0 h)
 
-  names_read : (stop : Stop) (dev : Development) (scripts : List Script) (r : ReadsProject files project dev scripts) → StopsAtNames files project r.text stop → ⊥
+  names_read : (stop : Stop) (dev : Development) (scripts : List Script) (r : ReadsProject with_proofs files project dev scripts) → StopsAtNames with_proofs files project r.text stop → ⊥
   names_read stop dev scripts r (inl h) = h.1 r.names.named r.names.are
   names_read stop dev scripts r (inr h) =
-      components_read files r.components r.proofs r.texts r.proof_texts stop dev scripts
+      components_read files r.components (fetched with_proofs r.proofs) r.texts r.proof_texts stop dev scripts
       (same_components r.text h.0 h.1 r.components r.proofs stop h.2 r.names h.3) r.texts_told r.proofs_told r.reads r.scripts_are
 
-  names_stop_once : (text : List ℕ) (s o : Stop) → StopsAtNames files project text s → StopsAtNames files project text o → s ≡ o
+  names_stop_once : (text : List ℕ) (s o : Stop) → StopsAtNames with_proofs files project text s → StopsAtNames with_proofs files project text o → s ≡ o
   names_stop_once text s o (inl h) (inl k) = h.0 ∙ sym k.0
   names_stop_once text s o (inl h) (inr k) = absurd (h.1 k.2.named k.2.are)
   names_stop_once text s o (inr h) (inl k) = absurd (k.1 h.2.named h.2.are)
-  names_stop_once text s o (inr h) (inr k) = components_once files k.0 k.1 s o (same_components text h.0 h.1 k.0 k.1 s h.2 k.2 h.3) k.3
+  names_stop_once text s o (inr h) (inr k) = components_once files k.0 (fetched with_proofs k.1) s o (same_components text h.0 h.1 k.0 k.1 s h.2 k.2 h.3) k.3
 
-  project_read : (stop : Stop) (dev : Development) (scripts : List Script) → StopsAtProject files project stop → ReadsProject files project dev scripts → ⊥
+  pub project_read : (stop : Stop) (dev : Development) (scripts : List Script) → StopsAtProject with_proofs files project stop → ReadsProject with_proofs files project dev scripts → ⊥
   project_read stop dev scripts (inl h) r = file_told files project stop r.text h r.told
-  project_read stop dev scripts (inr h) r = names_read stop dev scripts r (subst (λ x. StopsAtNames files project x stop) (told_once files project h.0 r.text h.1 r.told) h.2)
+  project_read stop dev scripts (inr h) r = names_read stop dev scripts r (subst (λ x. StopsAtNames with_proofs files project x stop) (told_once files project h.0 r.text h.1 r.told) h.2)
 
-  project_once : (s o : Stop) → StopsAtProject files project s → StopsAtProject files project o → s ≡ o
+  project_once : (s o : Stop) → StopsAtProject with_proofs files project s → StopsAtProject with_proofs files project o → s ≡ o
   project_once s o (inl h) (inl k) = file_once files project s o h k
   project_once s o (inl h) (inr k) = absurd (file_told files project s k.0 h k.1)
   project_once s o (inr h) (inl k) = absurd (file_told files project o h.0 k h.1)
-  project_once s o (inr h) (inr k) = names_stop_once k.0 s o (subst (λ x. StopsAtNames files project x s) (told_once files project h.0 k.0 h.1 k.1) h.2) k.2
+  project_once s o (inr h) (inr k) = names_stop_once k.0 s o (subst (λ x. StopsAtNames with_proofs files project x s) (told_once files project h.0 k.0 h.1 k.1) h.2) k.2
 
 -- ---- the obligations
 together_or_none : (dev : Development) (limit : ℕ) → PassTogether (obligations dev) limit → PassNoLimit (obligations dev) → ⊥
@@ -213,26 +221,32 @@ module _ (calls text : List ℕ) (image : Image) where
   script_once s o (inr h) (inl k) = absurd (are_apart.line_or_limit image text k.0 k.1 k.3 h.1)
   script_once s o (inr h) (inr k) = h.0 ∙ sym k.0
 
-module _ (project calls text : List ℕ) (image : Image) where
-  not_both : IsWithinCodeLimits image → HasTooManyCells image → ⊥
-  not_both w (inl h) = omega (arith, h, w.cells)
-  not_both w (inr h) = h w.spelled
+-- the limits of the code
+module _ (project : List ℕ) (image : Image) where
+  pub code_passed : (stop : Stop) → StopsPastCode project image stop → IsWithinCodeLimits image → ⊥
+  code_passed stop (inl h) w = omega (arith, h.1, w.code)
+  code_passed stop (inr h) w = by h.2
+    where
+      by : (1000000 < image.cells) ⊎ (HasSpelling image → ⊥) → ⊥
+      by (inl many) = omega (arith, many, w.cells)
+      by (inr none) = none w.spelled
 
+  code_limit_once : (s o : Stop) → StopsPastCode project image s → StopsPastCode project image o → s ≡ o
+  code_limit_once s o (inl h) (inl k) = h.0 ∙ sym k.0
+  code_limit_once s o (inl h) (inr k) = absurd (omega (arith, h.1, k.1))
+  code_limit_once s o (inr h) (inl k) = absurd (omega (arith, h.1, k.1))
+  code_limit_once s o (inr h) (inr k) = h.0 ∙ sym k.0
+
+module _ (project calls text : List ℕ) (image : Image) where
   code_asked : (stop : Stop) (requests : List Request) → StopsAtCode project calls text image stop → IsWithinCodeLimits image → IsScript image text requests → length requests ≤ most_calls → ⊥
-  code_asked stop requests (inl h) w s few = omega (arith, h.1, w.code)
-  code_asked stop requests (inr (inl h)) w s few = not_both w h.2
-  code_asked stop requests (inr (inr h)) w s few = script_asked calls text image stop requests h.1 s few
+  code_asked stop requests (inl h) w s few = code_passed project image stop h w
+  code_asked stop requests (inr h) w s few = script_asked calls text image stop requests h.1 s few
 
   code_once : (s o : Stop) → StopsAtCode project calls text image s → StopsAtCode project calls text image o → s ≡ o
-  code_once s o (inl h) (inl k) = h.0 ∙ sym k.0
-  code_once s o (inl h) (inr (inl k)) = absurd (omega (arith, h.1, k.1))
-  code_once s o (inl h) (inr (inr k)) = absurd (omega (arith, h.1, k.0.code))
-  code_once s o (inr (inl h)) (inl k) = absurd (omega (arith, h.1, k.1))
-  code_once s o (inr (inr h)) (inl k) = absurd (omega (arith, h.0.code, k.1))
-  code_once s o (inr (inl h)) (inr (inl k)) = h.0 ∙ sym k.0
-  code_once s o (inr (inl h)) (inr (inr k)) = absurd (not_both k.0 h.2)
-  code_once s o (inr (inr h)) (inr (inl k)) = absurd (not_both h.0 k.2)
-  code_once s o (inr (inr h)) (inr (inr k)) = script_once calls text image s o h.1 k.1
+  code_once s o (inl h) (inl k) = code_limit_once project image s o h k
+  code_once s o (inl h) (inr k) = absurd (code_passed project image s h k.0)
+  code_once s o (inr h) (inl k) = absurd (code_passed project image o k h.0)
+  code_once s o (inr h) (inr k) = script_once calls text image s o h.1 k.1
 
 module _ (files : Files) (project calls : List ℕ) where
   calls_asked : (image : Image) (stop : Stop) (requests : List Request) → StopsAtCalls files project calls image stop → IsWithinCodeLimits image → ReadsCalls files calls image requests → ⊥
@@ -245,123 +259,220 @@ module _ (files : Files) (project calls : List ℕ) where
   calls_once image s o (inr h) (inl k) = absurd (file_told files calls o h.0 k h.1)
   calls_once image s o (inr h) (inr k) = code_once project calls k.0 image s o (subst (λ x. StopsAtCode project calls x image s) (told_once files calls h.0 k.0 h.1 k.1) h.2) k.2
 
-  development_once : (dev : Development) (scripts : List Script) → AreNamedApart scripts → (s o : Stop) → StopsAtDevelopment files project calls dev scripts s → StopsAtDevelopment files project calls dev scripts o → s ≡ o
-  development_once dev scripts apart s o (inl h) (inl k) = obligations_once project dev scripts apart s o h k
-  development_once dev scripts apart s o (inl h) (inr k) = absurd (obligations_proved project dev scripts apart s h k.0)
-  development_once dev scripts apart s o (inr h) (inl k) = absurd (obligations_proved project dev scripts apart o k h.0)
-  development_once dev scripts apart s o (inr h) (inr k) = calls_once (translation dev) s o h.1 k.1
+-- ---- images
+module _ (files : Files) (calls : List ℕ) (image : Image) where
+  call_script_asked : (stop : Stop) (requests : List Request) → StopsAtCallScript files calls image stop → ReadsCalls files calls image requests → ⊥
+  call_script_asked stop requests (inl h) r = file_told files calls stop r.text h r.told
+  call_script_asked stop requests (inr h) r = script_asked calls r.text image stop requests (subst (λ x. StopsAtScript calls x image stop) (told_once files calls h.0 r.text h.1 r.told) h.2) r.script r.few
 
-  -- what stops at the development and the scripts that are read stops at those that are read
-  same_development : (dev other : Development) (scripts others : List Script) (stop : Stop) → ReadsProject files project dev scripts → ReadsProject files project other others →
-      StopsAtDevelopment files project calls dev scripts stop → StopsAtDevelopment files project calls other others stop
-  same_development dev other scripts others stop r q h =
-      let e = one_project files project dev other scripts others r q in
-      subst (λ x. StopsAtDevelopment files project calls other x stop) (sym e.1) (subst (λ x. StopsAtDevelopment files project calls x scripts stop) (sym e.0) h)
+  call_script_once : (s o : Stop) → StopsAtCallScript files calls image s → StopsAtCallScript files calls image o → s ≡ o
+  call_script_once s o (inl h) (inl k) = file_once files calls s o h k
+  call_script_once s o (inl h) (inr k) = absurd (file_told files calls s k.0 h k.1)
+  call_script_once s o (inr h) (inl k) = absurd (file_told files calls o h.0 k h.1)
+  call_script_once s o (inr h) (inr k) = script_once calls k.0 image s o (subst (λ x. StopsAtScript calls x image s) (told_once files calls h.0 k.0 h.1 k.1) h.2) k.2
 
-  run_once : (s o : Stop) → StopsAtRun files project calls s → StopsAtRun files project calls o → s ≡ o
-  run_once s o (inl h) (inl k) = project_once files project s o h k
-  run_once s o (inl h) (inr k) = absurd (project_read files project s k.0 k.1 h k.2)
-  run_once s o (inr h) (inl k) = absurd (project_read files project o h.0 h.1 k h.2)
-  run_once s o (inr h) (inr k) = development_once k.0 k.1 k.2.scripts_are.distinct s o (same_development h.0 k.0 h.1 k.1 s h.2 k.2 h.3) k.3
+module _ (bytes : List ℕ) (are : AreBytes bytes) where
+  pub loaded_or_not : (stop : Stop) (image : Image) → StopsAtLoading bytes stop → Encodes bytes image → ⊥
+  loaded_or_not stop image h e = h.2 (faults_exclude bytes image h.0 are e h.3)
 
-  run_asked : (stop : Stop) (dev : Development) (scripts : List Script) (requests : List Request) → StopsAtRun files project calls stop → ReadsProject files project dev scripts → IsProved dev scripts → IsWithinCodeLimits (translation dev) → ReadsCalls files calls (translation dev) requests → ⊥
-  run_asked stop dev scripts requests (inl h) r p w a = project_read files project stop dev scripts h r
-  run_asked stop dev scripts requests (inr h) r p w a = by (same_development h.0 dev h.1 scripts stop h.2 r h.3)
+  loading_once : (s o : Stop) → StopsAtLoading bytes s → StopsAtLoading bytes o → s ≡ o
+  loading_once s o h k = h.1 ∙ (ap BadImage (one_fault bytes h.0 k.0 are h.3 k.3 h.2 k.2) ∙ sym k.1)
+
+module _ (files : Files) (image calls : List ℕ) where
+  -- what stops behind the image's file, by its bytes
+  abbrev pub Behind : (bytes : List ℕ) → Stop → Type 0
+  Behind bytes stop = StopsAtLoading bytes stop ⊎ ((loaded : Image) × Encodes bytes loaded × StopsAtCallScript files calls loaded stop)
+
+  behind_once : (bytes : List ℕ) → AreBytes bytes → (s o : Stop) → Behind bytes s → Behind bytes o → s ≡ o
+  behind_once bytes are s o (inl h) (inl k) = loading_once bytes are s o h k
+  behind_once bytes are s o (inl h) (inr k) = absurd (loaded_or_not bytes are s k.0 h k.1)
+  behind_once bytes are s o (inr h) (inl k) = absurd (loaded_or_not bytes are o h.0 k h.1)
+  behind_once bytes are s o (inr h) (inr k) = call_script_once files calls k.0 s o (subst (λ x. StopsAtCallScript files calls x s) (encodes_one bytes h.0 k.0 h.1 k.1) h.2) k.2
+
+  image_once : (s o : Stop) → StopsAtImage files image calls s → StopsAtImage files image calls o → s ≡ o
+  image_once s o (inl h) (inl k) = file_once files image s o h k
+  image_once s o (inl h) (inr k) = absurd (file_told files image s k.0 h k.1.told)
+  image_once s o (inr h) (inl k) = absurd (file_told files image o h.0 k h.1.told)
+  image_once s o (inr h) (inr k) = behind_once k.0 k.1.are_bytes s o (subst (λ x. Behind x s) (told_once files image h.0 k.0 h.1.told k.1.told) h.2) k.2
+
+-- ---- sessions
+module _ (files : Files) (calls : List ℕ) (fuel : ℕ) where
+  -- the requests of a script that is told are one list
+  pub asked_once : (image : Image) (rs qs : List Request) → ReadsCalls files calls image rs → ReadsCalls files calls image qs → rs ≡ qs
+  asked_once image rs qs h k = has_one_script image k.text rs qs (subst (λ x. IsScript image x rs) (told_once files calls h.text k.text h.told k.told) h.script) k.script
+
+  -- what is played of requests that are asked for is a session over them
+  pub played_of : (image : Image) (requests : List Request) (status : Status) (text : List ℕ) → ReadsCalls files calls image requests → IsPlayed files calls fuel image status text →
+      (tolds : List Told) × Session image fuel requests tolds × (status ≡ session_status tolds) × (text ≡ transcript image fuel requests tolds)
+  played_of image requests status text asks p =
+      let e = asked_once image p.requests requests p.asks asks in
+      (p.tolds, subst (λ x. Session image fuel x p.tolds) e p.session, p.last, p.transcript_is ∙ ap (λ x. transcript image fuel x p.tolds) e)
+
+  pub played_once : (image : Image) (status other : Status) (text others : List ℕ) → IsPlayed files calls fuel image status text → IsPlayed files calls fuel image other others → (status ≡ other) × (text ≡ others)
+  played_once image status other text others h k =
+      let p = played_of image k.requests status text k.asks h in
+      let e = one_session image fuel k.requests p.0 k.tolds p.1 k.session in
+      (p.2 ∙ (ap session_status e ∙ sym k.last), p.3 ∙ (ap (transcript image fuel k.requests) e ∙ sym k.transcript_is))
+
+-- ---- what is read
+module _ (project : List ℕ) (dev : Development) (scripts : List Script) (apart : AreNamedApart scripts) where
+  pub proof_finished : (stop : Stop) → StopsAtProof project dev scripts stop → IsFinished dev scripts → ⊥
+  proof_finished stop (inl h) f = true≢false (sym f.complete ∙ h.1)
+  proof_finished stop (inr h) f = obligations_proved project dev scripts apart stop h.1 f.proved
+
+  proof_once : (s o : Stop) → StopsAtProof project dev scripts s → StopsAtProof project dev scripts o → s ≡ o
+  proof_once s o (inl h) (inl k) = h.0 ∙ sym k.0
+  proof_once s o (inl h) (inr k) = absurd (true≢false (sym k.0 ∙ h.1))
+  proof_once s o (inr h) (inl k) = absurd (true≢false (sym h.0 ∙ k.1))
+  proof_once s o (inr h) (inr k) = obligations_once project dev scripts apart s o h.1 k.1
+
+module _ (files : Files) (dev : Development) (scripts : List Script) (apart : AreNamedApart scripts) where
+  read_once : (task : Task) (s o : Stop) → StopsRead files task dev scripts s → StopsRead files task dev scripts o → s ≡ o
+  read_once (check_task project) s o h k = absurd h
+  read_once (status_task project) s o h k = limits_once project dev s o h k
+  read_once (po_task project) s o h k = limits_once project dev s o h k
+  read_once (code_task project) s o (inl h) (inl k) = h.0 ∙ sym k.0
+  read_once (code_task project) s o (inl h) (inr k) = absurd (true≢false (sym k.0 ∙ h.1))
+  read_once (code_task project) s o (inr h) (inl k) = absurd (true≢false (sym h.0 ∙ k.1))
+  read_once (code_task project) s o (inr h) (inr k) = code_limit_once project (translation dev) s o h.1 k.1
+  read_once (build_task project) s o (inl h) (inl k) = proof_once project dev scripts apart s o h k
+  read_once (build_task project) s o (inl h) (inr k) = absurd (proof_finished project dev scripts apart s h k.0)
+  read_once (build_task project) s o (inr h) (inl k) = absurd (proof_finished project dev scripts apart o k h.0)
+  read_once (build_task project) s o (inr h) (inr k) = code_limit_once project (translation dev) s o h.1 k.1
+  read_once (run_task project calls fuel) s o (inl h) (inl k) = proof_once project dev scripts apart s o h k
+  read_once (run_task project calls fuel) s o (inl h) (inr k) = absurd (proof_finished project dev scripts apart s h k.0)
+  read_once (run_task project calls fuel) s o (inr h) (inl k) = absurd (proof_finished project dev scripts apart o k h.0)
+  read_once (run_task project calls fuel) s o (inr h) (inr k) = calls_once files project calls (translation dev) s o h.1 k.1
+  read_once (exec_task image calls fuel) s o h k = absurd h
+
+  given_or_stops : (task : Task) (stop : Stop) (status : Status) (text : List ℕ) → StopsRead files task dev scripts stop → IsGiven files task dev scripts status text → ⊥
+  given_or_stops (check_task project) stop status text h g = h
+  given_or_stops (status_task project) stop status text h g = limits_passed project dev stop h g.1.within
+  given_or_stops (po_task project) stop status text h g = limits_passed project dev stop h g.1.within
+  given_or_stops (code_task project) stop status text (inl h) g = true≢false (sym g.1.complete ∙ h.1)
+  given_or_stops (code_task project) stop status text (inr h) g = code_passed project (translation dev) stop h.1 g.1.short
+  given_or_stops (build_task project) stop status text (inl h) g = proof_finished project dev scripts apart stop h g.1.finished
+  given_or_stops (build_task project) stop status text (inr h) g = code_passed project (translation dev) stop h.1 g.1.short
+  given_or_stops (run_task project calls fuel) stop status text (inl h) g = proof_finished project dev scripts apart stop h g.finished
+  given_or_stops (run_task project calls fuel) stop status text (inr h) g = calls_asked files project calls (translation dev) stop g.played.requests h.1 g.short g.played.asks
+  given_or_stops (exec_task image calls fuel) stop status text h g = h
+
+  given_once : (task : Task) (status other : Status) (text others : List ℕ) → IsGiven files task dev scripts status text → IsGiven files task dev scripts other others → (status ≡ other) × (text ≡ others)
+  given_once (check_task project) status other text others h k = (h.0 ∙ sym k.0, h.1 ∙ sym k.1)
+  given_once (status_task project) status other text others h k =
+      (h.0 ∙ sym k.0, h.1.text_is ∙ (ap table_text (tables_are_one dev scripts h.1.rows k.1.rows apart h.1.are k.1.are) ∙ sym k.1.text_is))
+  given_once (po_task project) status other text others h k = (h.0 ∙ sym k.0, h.1.text_is ∙ sym k.1.text_is)
+  given_once (code_task project) status other text others h k = (h.0 ∙ sym k.0, h.1.text_is ∙ sym k.1.text_is)
+  given_once (build_task project) status other text others h k = (h.0 ∙ sym k.0, h.1.encodes.is ∙ sym k.1.encodes.is)
+  given_once (run_task project calls fuel) status other text others h k = played_once files calls fuel (translation dev) status other text others h.played k.played
+  given_once (exec_task image calls fuel) status other text others h k = absurd h
+
+-- ---- tasks on projects
+module _ (files : Files) (project : List ℕ) (task : Task) where
+  -- what is said of the development and the scripts that are read is said of those that are read
+  pub same_read : (P : Development → List Script → Type 0) (dev other : Development) (scripts others : List Script) → ReadsProject (has_proofs task) files project dev scripts →
+      ReadsProject (has_proofs task) files project other others → P dev scripts → P other others
+  same_read P dev other scripts others r q h =
+      let e = one_project (has_proofs task) files project dev other scripts others r q in
+      subst (λ x. P other x) (sym e.1) (subst (λ x. P x scripts) (sym e.0) h)
+
+  work_stop_once : (s o : Stop) → StopsAtWork files project task s → StopsAtWork files project task o → s ≡ o
+  work_stop_once s o (inl h) (inl k) = project_once (has_proofs task) files project s o h k
+  work_stop_once s o (inl h) (inr k) = absurd (project_read (has_proofs task) files project s k.0 k.1 h k.2)
+  work_stop_once s o (inr h) (inl k) = absurd (project_read (has_proofs task) files project o h.0 h.1 k h.2)
+  work_stop_once s o (inr h) (inr k) =
+      read_once files k.0 k.1 k.2.scripts_are.distinct task s o (same_read (λ dev scripts. StopsRead files task dev scripts s) h.0 k.0 h.1 k.1 h.2 k.2 h.3) k.3
+
+  done_or_stops : (stop : Stop) (status : Status) (text : List ℕ) → StopsAtWork files project task stop → IsDoneOn files project task status text → ⊥
+  done_or_stops stop status text (inl h) d = project_read (has_proofs task) files project stop d.dev d.scripts h d.reads
+  done_or_stops stop status text (inr h) d =
+      given_or_stops files d.dev d.scripts d.reads.scripts_are.distinct task stop status text (same_read (λ dev scripts. StopsRead files task dev scripts stop) h.0 d.dev h.1 d.scripts h.2 d.reads h.3) d.given
+
+  done_once : (status other : Status) (text others : List ℕ) → IsDoneOn files project task status text → IsDoneOn files project task other others → (status ≡ other) × (text ≡ others)
+  done_once status other text others h k =
+      given_once files k.dev k.scripts k.reads.scripts_are.distinct task status other text others
+      (same_read (λ dev scripts. IsGiven files task dev scripts status text) h.dev k.dev h.scripts k.scripts h.reads k.reads h.given) k.given
+
+-- ---- tasks
+module _ (files : Files) where
+  exec_or_stops : (image calls : List ℕ) (fuel : ℕ) (stop : Stop) (status : Status) (text : List ℕ) → StopsAtImage files image calls stop → IsExec files image calls fuel status text → ⊥
+  exec_or_stops image calls fuel stop status text (inl h) x = file_told files image stop x.bytes h x.told.told
+  exec_or_stops image calls fuel stop status text (inr h) x = by (subst (λ b. Behind files image calls b stop) (told_once files image h.0 x.bytes h.1.told x.told.told) h.2)
     where
-      by : StopsAtDevelopment files project calls dev scripts stop → ⊥
-      by (inl k) = obligations_proved project dev scripts r.scripts_are.distinct stop k p
-      by (inr k) = calls_asked (translation dev) stop requests k.1 w a
+      by : Behind files image calls x.bytes stop → ⊥
+      by (inl k) = loaded_or_not x.bytes x.told.are_bytes stop x.loaded k x.encodes
+      by (inr k) = call_script_asked files calls x.loaded stop x.played.requests (subst (λ i. StopsAtCallScript files calls i stop) (encodes_one x.bytes k.0 x.loaded k.1 x.encodes) k.2) x.played.asks
+
+  exec_once : (image calls : List ℕ) (fuel : ℕ) (status other : Status) (text others : List ℕ) → IsExec files image calls fuel status text → IsExec files image calls fuel other others → (status ≡ other) × (text ≡ others)
+  exec_once image calls fuel status other text others h k =
+      let bytes = told_once files image h.bytes k.bytes h.told.told k.told.told in
+      let same : h.loaded ≡ k.loaded = encodes_one k.bytes h.loaded k.loaded (subst (λ b. Encodes b h.loaded) bytes h.encodes) k.encodes in
+      played_once files calls fuel k.loaded status other text others (subst (λ i. IsPlayed files calls fuel i status text) same h.played) k.played
+
+  task_stop_once : (task : Task) (s o : Stop) → StopsTask files task s → StopsTask files task o → s ≡ o
+  task_stop_once (check_task project) s o h k = work_stop_once files project (check_task project) s o h k
+  task_stop_once (status_task project) s o h k = work_stop_once files project (status_task project) s o h k
+  task_stop_once (po_task project) s o h k = work_stop_once files project (po_task project) s o h k
+  task_stop_once (code_task project) s o h k = work_stop_once files project (code_task project) s o h k
+  task_stop_once (build_task project) s o h k = work_stop_once files project (build_task project) s o h k
+  task_stop_once (run_task project calls fuel) s o h k = work_stop_once files project (run_task project calls fuel) s o h k
+  task_stop_once (exec_task image calls fuel) s o h k = image_once files image calls s o h k
+
+  pub work_or_stops : (task : Task) (stop : Stop) (status : Status) (text : List ℕ) → StopsTask files task stop → IsWork files task status text → ⊥
+  work_or_stops (check_task project) stop status text h w = done_or_stops files project (check_task project) stop status text h w
+  work_or_stops (status_task project) stop status text h w = done_or_stops files project (status_task project) stop status text h w
+  work_or_stops (po_task project) stop status text h w = done_or_stops files project (po_task project) stop status text h w
+  work_or_stops (code_task project) stop status text h w = done_or_stops files project (code_task project) stop status text h w
+  work_or_stops (build_task project) stop status text h w = done_or_stops files project (build_task project) stop status text h w
+  work_or_stops (run_task project calls fuel) stop status text h w = done_or_stops files project (run_task project calls fuel) stop status text h w
+  work_or_stops (exec_task image calls fuel) stop status text h w = exec_or_stops image calls fuel stop status text h w
+
+  pub work_once : (task : Task) (status other : Status) (text others : List ℕ) → IsWork files task status text → IsWork files task other others → (status ≡ other) × (text ≡ others)
+  work_once (check_task project) status other text others h k = done_once files project (check_task project) status other text others h k
+  work_once (status_task project) status other text others h k = done_once files project (status_task project) status other text others h k
+  work_once (po_task project) status other text others h k = done_once files project (po_task project) status other text others h k
+  work_once (code_task project) status other text others h k = done_once files project (code_task project) status other text others h k
+  work_once (build_task project) status other text others h k = done_once files project (build_task project) status other text others h k
+  work_once (run_task project calls fuel) status other text others h k = done_once files project (run_task project calls fuel) status other text others h k
+  work_once (exec_task image calls fuel) status other text others h k = exec_once image calls fuel status other text others h k
+
+-- a run that is ready is stopped by no check
+pub ready_or_stops : (files : Files) (project calls : List ℕ) (fuel : ℕ) (stop : Stop) (ready : IsReady files project calls) → StopsTask files (run_task project calls fuel) stop → ⊥
+ready_or_stops files project calls fuel stop ready (inl h) = project_read true files project stop ready.dev ready.scripts h ready.reads
+ready_or_stops files project calls fuel stop ready (inr h) =
+    by (same_read files project (run_task project calls fuel) (λ dev scripts. StopsRead files (run_task project calls fuel) dev scripts stop) h.0 ready.dev h.1 ready.scripts h.2 ready.reads h.3)
+  where
+    by : StopsRead files (run_task project calls fuel) ready.dev ready.scripts stop → ⊥
+    by (inl k) = proof_finished project ready.dev ready.scripts ready.reads.scripts_are.distinct stop k ready.finished
+    by (inr k) = calls_asked files project calls (translation ready.dev) stop ready.requests k.1 ready.short ready.asks
 
 -- ---- the words
-second : List (List ℕ) → List ℕ
-second (a ∷ b ∷ cs) = b
-second _ = []
-
-third : List (List ℕ) → List ℕ
-third (a ∷ b ∷ c ∷ ds) = c
-third _ = []
-
-same_words : (words : List (List ℕ)) (p c q d : List ℕ) → AreRunWords words p c → AreRunWords words q d → (p ≡ q) × (c ≡ d)
-unfolding second third
-same_words words p c q d h k = (ap second (sym h.are ∙ k.are), ap third (sym h.are ∙ k.are))
-
 module _ (files : Files) (words : List (List ℕ)) where
-  -- two stops of a run of the same words
-  words_run : (p c q d : List ℕ) (stop : Stop) → AreRunWords words p c → AreRunWords words q d → StopsAtRun files p c stop → StopsAtRun files q d stop
-  words_run p c q d stop a b h =
-      let e = same_words words p c q d a b in
-      subst (λ x. StopsAtRun files q x stop) e.1 (subst (λ x. StopsAtRun files x c stop) e.0 h)
+  -- what is said of a task that the words ask for is said of the one that they ask for
+  pub same_task : (P : Task → Type 0) (one other : Task) → Asks words one → Asks words other → P one → P other
+  same_task P one other a b p = subst P (ask_for_one words one other a b) p
 
   pub stop_once : (s o : Stop) → StopsAt files words s → StopsAt files words o → s ≡ o
   stop_once s o (inl h) (inl k) = h.0 ∙ sym k.0
-  stop_once s o (inl h) (inr k) = absurd (h.1 k.0 k.1 k.2)
-  stop_once s o (inr h) (inl k) = absurd (k.1 h.0 h.1 h.2)
-  stop_once s o (inr h) (inr k) = run_once files k.0 k.1 s o (words_run h.0 h.1 k.0 k.1 s h.2 k.2 h.3) k.3
+  stop_once s o (inl h) (inr k) = absurd (h.1 k.0 k.1)
+  stop_once s o (inr h) (inl k) = absurd (k.1 h.0 h.1)
+  stop_once s o (inr h) (inr k) = task_stop_once files k.0 s o (same_task (λ task. StopsTask files task s) h.0 k.0 h.1 k.1 h.2) k.2
 
-  pub stops_or_is_ready : (stop : Stop) → StopsAt files words stop → IsReady files words → ⊥
-  stops_or_is_ready stop (inl h) r = h.1 r.project r.calls r.are_words
-  stops_or_is_ready stop (inr h) r = run_asked files r.project r.calls stop r.dev r.scripts r.requests (words_run h.0 h.1 r.project r.calls stop h.2 r.are_words h.3) r.reads r.proved r.short r.asks
+  pub stops_or_works : (stop : Stop) (status : Status) (text : List ℕ) → StopsAt files words stop → IsWorkOf files words status text → ⊥
+  stops_or_works stop status text (inl h) w = h.1 w.0 w.1
+  stops_or_works stop status text (inr h) w = work_or_stops files w.0 stop status text (same_task (λ task. StopsTask files task stop) h.0 w.0 h.1 w.1 h.2) w.2
 
-  pub stops_or_is_played : (stop : Stop) (status : Status) (text : List ℕ) → StopsAt files words stop → IsPlayed files words status text → ⊥
-  stops_or_is_played stop status text (inl h) p = h.1 p.project p.calls p.are_words
-  stops_or_is_played stop status text (inr h) p = run_asked files p.project p.calls stop p.dev p.scripts p.requests (words_run h.0 h.1 p.project p.calls stop h.2 p.are_words h.3) p.reads p.proved p.short p.asks
-
-  -- the requests of a script that is told are one list
-  asked_once : (calls : List ℕ) (image : Image) (rs qs : List Request) → ReadsCalls files calls image rs → ReadsCalls files calls image qs → rs ≡ qs
-  asked_once calls image rs qs h k = has_one_script image k.text rs qs (subst (λ x. IsScript image x rs) (told_once files calls h.text k.text h.told k.told) h.script) k.script
-
-  -- what is played of a program that the words and the files give
-  pub played_of : (project calls : List ℕ) (dev : Development) (scripts : List Script) (requests : List Request) (status : Status) (text : List ℕ) →
-      AreRunWords words project calls → ReadsProject files project dev scripts → ReadsCalls files calls (translation dev) requests → IsPlayed files words status text →
-      (tolds : List Told) × Session (translation dev) fuel requests tolds × (status ≡ session_status tolds) × (text ≡ transcript (translation dev) fuel requests tolds)
-  played_of project calls dev scripts requests status text a r c p =
-      let w = same_words words p.project p.calls project calls p.are_words a in
-      let same : p.dev ≡ dev = sym ((one_project files project p.dev dev p.scripts scripts (subst (λ x. ReadsProject files x p.dev p.scripts) w.0 p.reads) r).0) in
-      let asks : ReadsCalls files calls (translation dev) p.requests = subst (λ x. ReadsCalls files x (translation dev) p.requests) w.1 (subst (λ x. ReadsCalls files p.calls (translation x) p.requests) same p.asks) in
-      let e = asked_once calls (translation dev) p.requests requests asks c in (
-        p.tolds,
-        subst (λ x. Session (translation dev) fuel x p.tolds) e (subst (λ x. Session (translation x) fuel p.requests p.tolds) same p.session),
-        p.last,
-        p.transcript_is ∙ (ap (λ x. transcript (translation x) fuel p.requests p.tolds) same ∙ ap (λ x. transcript (translation dev) fuel x p.tolds) e),
-      )
-
-  played_once : (status other : Status) (text others : List ℕ) → IsPlayed files words status text → IsPlayed files words other others → (status ≡ other) × (text ≡ others)
-  played_once status other text others h k =
-      let p = played_of k.project k.calls k.dev k.scripts k.requests status text k.are_words k.reads k.asks h in
-      let e = one_session (translation k.dev) fuel k.requests p.0 k.tolds p.1 k.session in
-      (p.2 ∙ (ap session_status e ∙ sym k.last), p.3 ∙ (ap (transcript (translation k.dev) fuel k.requests) e ∙ sym k.transcript_is))
-
--- what is written of the session of a program that the words and the files give is a front of their answer
-pub program_front : (files : Files) (words : List (List ℕ)) (project calls : List ℕ) (image : Image) (requests : List Request) (status : Status) (text : List ℕ) (old new : Option (List ℕ)) →
-    AreRunWords words project calls → ReadsProgram files project calls image requests → IsAnswer files words status text → PlaysFront image requests old new → WroteFront text old new
-program_front files words project calls image requests status text old new are r (inl (stop, inl h, is, text_is)) f = absurd (h.1 project calls are)
-program_front files words project calls image requests status text old new are r (inl (stop, inr h, is, text_is)) f =
-    absurd (run_asked files project calls stop r.dev r.scripts requests (words_run files words h.0 h.1 project calls stop h.2 are h.3) r.reads r.proved r.short r.asks)
-program_front files words project calls image requests status text old new are r (inr p) f =
-    let q = played_of files words project calls r.dev r.scripts requests status text are r.reads r.asks p in
-    subst (λ x. WroteFront x old new) (sym q.3) (subst (λ x. PlaysFront x requests old new) r.translated f q.0 q.1)
+  works_once : (status other : Status) (text others : List ℕ) → IsWorkOf files words status text → IsWorkOf files words other others → (status ≡ other) × (text ≡ others)
+  works_once status other text others h k = work_once files k.0 status other text others (same_task (λ task. IsWork files task status text) h.0 k.0 h.1 k.1 h.2) k.2
 
 pub one_answer : HasOneAnswer
 one_answer files words status other text others (inl h) (inl k) =
     let e = stop_once files words h.0 k.0 h.1 k.1 in
     (h.2 ∙ (ap status_of_stop e ∙ sym k.2), h.3 ∙ (ap stop_text e ∙ sym k.3))
-one_answer files words status other text others (inl h) (inr k) = absurd (stops_or_is_played files words h.0 other others h.1 k)
-one_answer files words status other text others (inr h) (inl k) = absurd (stops_or_is_played files words k.0 status text k.1 h)
-one_answer files words status other text others (inr h) (inr k) = played_once files words status other text others h k
+one_answer files words status other text others (inl h) (inr k) = absurd (stops_or_works files words h.0 other others h.1 k)
+one_answer files words status other text others (inr h) (inl k) = absurd (stops_or_works files words k.0 status text k.1 h)
+one_answer files words status other text others (inr h) (inr k) = works_once files words status other text others h k
 
--- ---- where no check stops the program
-executed_end : (end : End) → IsExecuted (status_of end)
-executed_end (Done n) = tt
-executed_end (Trapped kind place n) = tt
-executed_end OutOfFuel = tt
-
-session_executed : (tolds : List Told) → IsExecuted (session_status tolds)
-session_executed [] = tt
-session_executed (told ∷ tolds) = executed_end (last_end told.end tolds)
-
-pub ready_executed : (files : Files) (words : List (List ℕ)) (old new : Option (List ℕ)) (status : Status) → WritesAnswer files words old new status → IsReady files words → IsExecuted status
-ready_executed files words old new status w r = by w.answer
-  where
-    by : IsAnswer files words status w.text → IsExecuted status
-    by (inl (stop, h, is, text_is)) = absurd (stops_or_is_ready files words stop h r)
-    by (inr p) = subst IsExecuted (sym p.last) (session_executed p.tolds)
+-- the answer of words that ask for a task is the task's
+pub answer_of_work : (files : Files) (words : List (List ℕ)) (task : Task) (status : Status) (text : List ℕ) → Asks words task → IsWork files task status text → IsAnswer files words status text
+answer_of_work files words task status text a w = inr (task, a, w)

@@ -1,58 +1,75 @@
--- What a run is, and that its legal calls are done.
-use Rattle.std.proofs.Common.{◌≡◌, ℕ, inl, inr, List, Option, ◌∙◌, ap, subst}
+-- What a run is, and that it is ready and its legal calls are done.
+use Rattle.std.proofs.Common.{◌≡◌, ℕ, inl, inr, true, List, [], ◌∷◌, Option, sym, ◌∙◌, ap, subst}
 use Rattle.bk_io.specs.Files.{Files}
-use Rattle.bk_code.specs.declared.image.Image.{Image}
-use Rattle.bk_code.specs.Session.{Request, Session}
+use Rattle.bk_code.specs.Session.{Told, Session}
 use Rattle.bk_code.proofs.Sessions.{one_session}
 use Rattle.bk_b0.specs.Translation.{translation}
-use Rattle.bk_calls.specs.Transcript.{transcript}
-use Rattle.bkit.specs.declared.status.Status.{Status}
-use Rattle.bkit.specs.declared.status.Status.TheVariants.{Done}
-use Rattle.bkit.specs.Session.{fuel, session_status, Plays}
-use Rattle.bkit.specs.Run.{AreRunWords, ReadsProgram, WritesRun, IsDoneWhereLegal}
+use Rattle.bk_verbs.specs.declared.status.Status.{Status}
+use Rattle.bk_verbs.specs.Session.{session_status, status_of, last_end}
+use Rattle.bk_code.specs.Run.{End}
+use Rattle.bk_code.specs.Run as run_ends
+use Rattle.bk_words.specs.Tasks.{run_task, Asks}
+use Rattle.bk_verbs.specs.Work.{IsExecuted, IsRun, IsDoneOn, IsWork, WritesWork}
+use Rattle.bkit.specs.Run.{IsReady, WritesRun, IsDoneWhereLegal}
+use Rattle.bk_verbs.specs.Stops.{StopsTask}
 use Rattle.bkit.specs.Answer.{IsAnswer, WritesAnswer}
-use Rattle.bkit.proofs.Projects.{one_project, project_follows}
-use Rattle.bkit.proofs.OneAnswer.{stops_or_is_ready, played_of}
+use Rattle.bk_verbs.proofs.Projects.{one_project}
+use Rattle.bkit.proofs.Following.{project_follows}
+use Rattle.bkit.proofs.OneAnswer.{same_task, played_of, same_read, ready_or_stops}
 use Rattle.bkit.proofs.Legal.{projects_end, legal_calls_are_done}
 
-pub writes_run : (files : Files) (words : List (List ℕ)) (project calls : List ℕ) (image : Image) (requests : List Request) (status : Status) (before after : Option (List ℕ)) →
-    AreRunWords words project calls → ReadsProgram files project calls image requests → Plays image requests status before after → WritesRun files words before after status
-writes_run files words project calls image requests status before after are r p =
-    let session : Session (translation r.dev) fuel requests p.tolds = subst (λ x. Session x fuel requests p.tolds) r.translated p.session in
+-- ---- the headline
+pub writes_run : (files : Files) (project calls : List ℕ) (fuel : ℕ) (before after : Option (List ℕ)) (status : Status) → WritesWork files (run_task project calls fuel) before after status → WritesRun files project calls fuel before after status
+writes_run files project calls fuel before after status w =
+    let done : IsDoneOn files project (run_task project calls fuel) status w.text = w.work in
     record {
-      text = transcript image fuel requests p.tolds;
+      text = w.text;
       run = record {
-        played = record {
-          project = project;
-          calls = calls;
-          are_words = are;
-          dev = r.dev;
-          scripts = r.scripts;
-          reads = r.reads;
-          proved = r.proved;
-          short = r.short;
-          requests = requests;
-          asks = r.asks;
-          tolds = p.tolds;
-          session = session;
-          last = p.last;
-          transcript_is = ap (λ x. transcript x fuel requests p.tolds) r.translated;
-        };
-        only = λ other others k. one_project files project r.dev other r.scripts others r.reads k;
-        follows = project_follows files project r.dev r.scripts r.reads r.proved;
-        ends = projects_end files project r.dev r.scripts r.reads r.proved;
-        legal = λ find law legal. p.last ∙ legal_calls_are_done files project calls r.dev r.scripts requests r.reads r.proved r.short r.asks find law p.tolds session legal;
+        dev = done.dev;
+        scripts = done.scripts;
+        reads = done.reads;
+        only = λ other others k. one_project true files project done.dev other done.scripts others done.reads k;
+        run = done.given;
+        follows = project_follows files project done.dev done.scripts done.reads done.given.finished.proved;
+        ends = projects_end files project done.dev done.scripts done.reads done.given.finished.proved;
       };
-      appended = p.written;
+      appended = w.appended;
     }
 
--- where no check stops the run, the answer is that of its session
-pub done_where_legal : (files : Files) (words : List (List ℕ)) (old new : Option (List ℕ)) (status : Status) → WritesAnswer files words old new status → IsDoneWhereLegal files words status
-done_where_legal files words old new status w ready tolds session find law legal = by w.answer
-  where
-    by : IsAnswer files words status w.text → status ≡ Done
-    by (inl (stop, h, is, text_is)) = absurd (stops_or_is_ready files words stop h ready)
-    by (inr p) =
-        let q = played_of files words ready.project ready.calls ready.dev ready.scripts ready.requests status w.text ready.are_words ready.reads ready.asks p in
-        let same = one_session (translation ready.dev) fuel ready.requests q.0 tolds q.1 session in
-        q.2 ∙ (ap session_status same ∙ legal_calls_are_done files ready.project ready.calls ready.dev ready.scripts ready.requests ready.reads ready.proved ready.short ready.asks find law tolds session legal)
+-- ---- a run that no check stops
+executed_end : (end : End) → IsExecuted (status_of end)
+executed_end (run_ends.Done n) = tt
+executed_end (run_ends.Trapped kind place n) = tt
+executed_end run_ends.OutOfFuel = tt
+
+session_executed : (tolds : List Told) → IsExecuted (session_status tolds)
+session_executed [] = tt
+session_executed (told ∷ tolds) = executed_end (last_end told.end tolds)
+
+module _ (files : Files) (words : List (List ℕ)) (project calls : List ℕ) (fuel : ℕ) (asks : Asks words (run_task project calls fuel)) (ready : IsReady files project calls) (status : Status) (text : List ℕ) where
+  -- the answer is that of a session over the calls that are asked for
+  session_of_answer : IsAnswer files words status text → (tolds : List Told) × Session (translation ready.dev) fuel ready.requests tolds × (status ≡ session_status tolds)
+  session_of_answer (inl (stop, inl h, is, text_is)) = absurd (h.1 (run_task project calls fuel) asks)
+  session_of_answer (inl (stop, inr h, is, text_is)) =
+      absurd (ready_or_stops files project calls fuel stop ready (same_task files words (λ task. StopsTask files task stop) h.0 (run_task project calls fuel) h.1 asks h.2))
+  session_of_answer (inr h) =
+      let done : IsDoneOn files project (run_task project calls fuel) status text = same_task files words (λ task. IsWork files task status text) h.0 (run_task project calls fuel) h.1 asks h.2 in
+      let given : IsRun files calls fuel ready.dev ready.scripts status text =
+      same_read files project (run_task project calls fuel) (λ dev scripts. IsRun files calls fuel dev scripts status text) done.dev ready.dev done.scripts ready.scripts done.reads ready.reads done.given in
+      let p = played_of files calls fuel (translation ready.dev) ready.requests status text ready.asks given.played in
+      (p.0, p.1, p.2)
+
+pub ready_executed : (files : Files) (words : List (List ℕ)) (project calls : List ℕ) (fuel : ℕ) (old new : Option (List ℕ)) (status : Status) → Asks words (run_task project calls fuel) → WritesAnswer files words old new status → IsReady files project calls → IsExecuted status
+ready_executed files words project calls fuel old new status asks w ready =
+    let p = session_of_answer files words project calls fuel asks ready status w.text w.answer in
+    subst IsExecuted (sym p.2) (session_executed p.0)
+
+pub done_where_legal : (files : Files) (words : List (List ℕ)) (project calls : List ℕ) (fuel : ℕ) (old new : Option (List ℕ)) (status : Status) → Asks words (run_task project calls fuel) → WritesAnswer files words old new status → IsDoneWhereLegal files project calls fuel status
+done_where_legal files words project calls fuel old new status asks w ready tolds session find law legal =
+    let p = session_of_answer files words project calls fuel asks ready status w.text w.answer in
+    let same = one_session (translation ready.dev) fuel ready.requests p.0 tolds p.1 session in
+    let is : status ≡ session_status tolds = p.2 ∙ ap session_status same in
+    let ends = legal_calls_are_done files project calls fuel ready tolds session find law legal in (
+      (λ e. ends.0 (sym is ∙ e)),
+      (λ enough. is ∙ ends.1 enough),
+    )

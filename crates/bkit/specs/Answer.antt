@@ -2,16 +2,21 @@
 use Rattle.std.specs.Prelude.{◌≡◌, ℕ, ◌⊎◌, List, Option}
 use Rattle.bk_io.specs.Files.{Files}
 use Rattle.bk_io.specs.Pieces.{written_with}
-use Rattle.bkit.specs.declared.status.Status.{Status}
-use Rattle.bkit.specs.declared.status.Status.TheVariants.{ReadFault, WriteFault, Memory}
-use Rattle.bkit.specs.declared.stop.Stop.{Stop}
-use Rattle.bkit.specs.Run.{IsPlayed}
-use Rattle.bkit.specs.Stops.{StopsAt, status_of_stop, stop_text}
+use Rattle.bk_verbs.specs.declared.status.Status.{Status}
+use Rattle.bk_verbs.specs.declared.status.Status.TheVariants.{ReadFault, WriteFault, Memory}
+use Rattle.bk_verbs.specs.declared.stop.Stop.{Stop}
+use Rattle.bk_words.specs.Tasks.{Task, Asks}
+use Rattle.bk_verbs.specs.Stops.{StopsAt, status_of_stop, stop_text}
+use Rattle.bk_verbs.specs.Work.{IsWork}
 
--- the status and the text: of the first check that fails, in their order, or else of the session
+-- the words ask for a task that no check stops, and it gives this status and this text
+abbrev pub IsWorkOf : Files → List (List ℕ) → Status → List ℕ → Type 0
+IsWorkOf files words status text = (task : Task) × Asks words task × IsWork files task status text
+
+-- the status and the text: of the first check that fails, in their order, or else of the work
 abbrev pub IsAnswer : Files → List (List ℕ) → Status → List ℕ → Type 0
 IsAnswer files words status text =
-    ((stop : Stop) × StopsAt files words stop × (status ≡ status_of_stop stop) × (text ≡ stop_text stop)) ⊎ IsPlayed files words status text
+    ((stop : Stop) × StopsAt files words stop × (status ≡ status_of_stop stop) × (text ≡ stop_text stop)) ⊎ IsWorkOf files words status text
 
 -- the statuses but those of a fault of a device and of want of memory
 abbrev pub IsAnswered : Status → Type 0

@@ -3,22 +3,28 @@ use Rattle.std.specs.Prelude.{List}
 use Rattle.bk_form.specs.Search.{Finder, IsSearch}
 use Rattle.bk_dev.specs.Development.{Development}
 use Rattle.bk_dev.specs.Facts.{IsDevelopment}
-use Rattle.bk_b0.specs.Simple.{IsSimple}
+use Rattle.bk_dev.specs.B0.{IsB0Development}
 use Rattle.bk_b0.specs.Translation.{translation}
 use Rattle.bk_sim.specs.Follows.{Follows}
+use Rattle.bk_sim.specs.Exchange.{exchange}
 use Rattle.bk_po.specs.Obligations.{HasValidObligations}
-use Rattle.bk_po.specs.Basic.{IsBasic}
 use Rattle.bk_scripts.specs.WrittenRule.{Script}
 use Rattle.bk_status.specs.Rows.{AreProved}
 
--- where every obligation of a basic development is valid, the translation of its simple implementation follows the machine
+-- where every obligation of a development in B0 is valid, the translation of its implementation follows the machine
 abbrev pub ValidObligationsFollow : Type 0
 ValidObligationsFollow =
-    (find : Finder) → IsSearch find → (dev : Development) → IsDevelopment dev → IsSimple dev → IsBasic dev → HasValidObligations dev →
+    (find : Finder) → IsSearch find → (dev : Development) → IsDevelopment dev → IsB0Development dev → HasValidObligations dev →
     Follows find dev (translation dev)
 
 -- and so it does where each is obvious or has a replayed proof
 abbrev pub ProvedDevelopmentsFollow : Type 0
 ProvedDevelopmentsFollow =
-    (find : Finder) → IsSearch find → (dev : Development) (scripts : List Script) → IsDevelopment dev → IsSimple dev → IsBasic dev →
-    AreProved dev scripts → Follows find dev (translation dev)
+    (find : Finder) → IsSearch find → (dev : Development) (scripts : List Script) → IsDevelopment dev → IsB0Development dev → AreProved dev scripts →
+    Follows find dev (translation dev)
+
+-- the exchange, with || at the machine, and with a fill, VAR, a loop and an array that is read in its code: its obligations are valid, and so
+-- its translation follows it
+pub record ExchangeIsRight : Type 0 where
+  pub valid : HasValidObligations exchange
+  pub follows : (find : Finder) → IsSearch find → Follows find exchange (translation exchange)

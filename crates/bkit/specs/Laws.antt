@@ -1,15 +1,20 @@
 -- What holds of answers and of projects, as statements.
-use Rattle.std.specs.Prelude.{◌≡◌, ℕ, List}
-use Rattle.bk_io.specs.Files.{Files}
+use Rattle.std.specs.Prelude.{◌≡◌, ◌≢◌, ◌↔◌, ℕ, ◌≤◌, true, List, length, Some}
+use Rattle.bk_io.specs.Bytes.{AreBytes}
+use Rattle.bk_io.specs.Files.{Files, file_named}
+use Rattle.bk_code.specs.Session.{Told, Session}
 use Rattle.bk_form.specs.Search.{Finder, IsSearch}
 use Rattle.bk_dev.specs.Development.{Development}
 use Rattle.bk_b0.specs.Translation.{translation}
 use Rattle.bk_sim.specs.Within.{EndsInCode}
 use Rattle.bk_scripts.specs.WrittenRule.{Script}
-use Rattle.bkit.specs.declared.status.Status.{Status}
-use Rattle.bkit.specs.declared.status.Status.TheVariants.{Done}
+use Rattle.bk_verbs.specs.declared.status.Status.{Status}
+use Rattle.bk_verbs.specs.declared.status.Status.TheVariants.{Done, Trapped}
+use Rattle.bk_words.specs.Tasks.{build_task, run_task, exec_task, Asks}
 use Rattle.bkit.specs.Legal.{AreLegal}
-use Rattle.bkit.specs.Run.{ReadsProject, IsProved, IsPlayed}
+use Rattle.bk_verbs.specs.Project.{HoldBytes, ReadsProject, IsProved}
+use Rattle.bkit.specs.Run.{IsReady}
+use Rattle.bk_verbs.specs.Session.{session_status}
 use Rattle.bkit.specs.Answer.{IsAnswer}
 
 -- words and told files have one answer at most
@@ -18,15 +23,30 @@ HasOneAnswer =
     (files : Files) (words : List (List ℕ)) (status other : Status) (text other_text : List ℕ) → IsAnswer files words status text →
     IsAnswer files words other other_text → (status ≡ other) × (text ≡ other_text)
 
+-- and where files hold bytes it cannot be that they have none
+abbrev pub HasSomeAnswer : Type 0
+HasSomeAnswer = (files : Files) (words : List (List ℕ)) → HoldBytes files → ((status : Status) (text : List ℕ) → IsAnswer files words status text → ⊥) → ⊥
+
+-- where `build` is done, `exec` on a file with the bytes that it writes has, with the same call script and fuel, the answer of `run`; the
+-- bytes must be few enough for a file
+abbrev pub BuiltImagesRun : Type 0
+BuiltImagesRun =
+    (files others : Files) (build_words run_words exec_words : List (List ℕ)) (project calls image bytes : List ℕ) (fuel : ℕ) →
+    Asks build_words (build_task project) → Asks run_words (run_task project calls fuel) → Asks exec_words (exec_task image calls fuel) →
+    IsAnswer files build_words Done bytes → AreBytes bytes → length bytes ≤ 16777216 → file_named others image ≡ Some bytes → file_named others calls ≡ file_named files calls →
+    (status : Status) (text : List ℕ) → IsAnswer files run_words status text ↔ IsAnswer others exec_words status text
+
 -- the initialisation of a project whose obligations are proved, and each legal call, are done with a fuel equal to the length of their code,
 -- Ret included, and with every larger one; also where the call script is at fault
 abbrev pub ProjectsEnd : Type 0
 ProjectsEnd =
-    (files : Files) (project : List ℕ) (dev : Development) (scripts : List Script) → ReadsProject files project dev scripts → IsProved dev scripts →
+    (files : Files) (project : List ℕ) (dev : Development) (scripts : List Script) → ReadsProject true files project dev scripts → IsProved dev scripts →
     (find : Finder) → IsSearch find → EndsInCode find dev (translation dev)
 
--- where each call of a played session is legal after those before it, all are done
+-- where each call of a session of a project is legal after those before it, none traps, and with a fuel of at least the length of the code
+-- all are done
 abbrev pub LegalCallsAreDone : Type 0
 LegalCallsAreDone =
-    (files : Files) (words : List (List ℕ)) (status : Status) (text : List ℕ) (played : IsPlayed files words status text) →
-    (find : Finder) → IsSearch find → AreLegal find played.dev played.requests played.tolds → status ≡ Done
+    (files : Files) (project calls : List ℕ) (fuel : ℕ) (ready : IsReady files project calls) (tolds : List Told) →
+    Session (translation ready.dev) fuel ready.requests tolds → (find : Finder) → IsSearch find → AreLegal find ready.dev ready.requests tolds →
+    (session_status tolds ≢ Trapped) × (length (translation ready.dev).code ≤ fuel → session_status tolds ≡ Done)

@@ -1,9 +1,5 @@
-pub mod Session
-pub mod Codes
 pub mod Legal
 pub mod Run
-pub mod Stops
-pub mod Causes
 pub mod Answer
 pub mod Outcome
 pub mod Following

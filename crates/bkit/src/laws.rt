@@ -1,11 +1,21 @@
 //! Laws of the definitions, as contracts of functions that do nothing.
 
-ghost use Rattle.bkit.specs.Following.{ValidObligationsFollow, ProvedDevelopmentsFollow};
-ghost use Rattle.bkit.specs.Laws.{HasOneAnswer, ProjectsEnd, LegalCallsAreDone};
+ghost use Rattle.bkit.specs.Following.{ValidObligationsFollow, ProvedDevelopmentsFollow, ExchangeIsRight};
+ghost use Rattle.bkit.specs.Laws.{HasOneAnswer, HasSomeAnswer, BuiltImagesRun, ProjectsEnd, LegalCallsAreDone};
 
 /// The words and the told files have one answer at most.
 pub fn answers_are_unique()
     ensures { HasOneAnswer }
+{}
+
+/// It cannot be that the words and the told files have no answer.
+pub fn answers_exist()
+    ensures { HasSomeAnswer }
+{}
+
+/// An image that is built gives the answers of its project's runs.
+pub fn built_images_run()
+    ensures { BuiltImagesRun }
 {}
 
 /// The initialisation of a proved project, and each legal call, end within the length of their code.
@@ -13,12 +23,12 @@ pub fn proved_projects_end()
     ensures { ProjectsEnd }
 {}
 
-/// Where each call of a played session is legal after those before it, all are done.
+/// Where each call of a project's session is legal after those before it, none traps, and with enough fuel all are done.
 pub fn legal_calls_are_done()
     ensures { LegalCallsAreDone }
 {}
 
-/// Where all obligations of a plain development are valid, translated code follows the machine.
+/// Where all obligations of a development in B0 are valid, its translation follows the machine.
 pub fn obligations_follow()
     ensures { ValidObligationsFollow }
 {}
@@ -26,4 +36,9 @@ pub fn obligations_follow()
 /// Where each obligation is obvious or has a replayed proof, translated code follows the machine.
 pub fn proved_developments_follow()
     ensures { ProvedDevelopmentsFollow }
+{}
+
+/// A development with `||`, a local, a loop and an array: its obligations are valid, and so its translation follows it.
+pub fn exchange()
+    ensures { ExchangeIsRight }
 {}

@@ -1,8 +1,8 @@
 // Runs of projects with inputs, conditions and scripts of proof, over files and a sink in memory.
 
 use crate::program::bkit;
-use crate::status::Status;
 use bk_io::{MemShelf, MemSink, SureShelf, SureSink, have_distinct_names};
+use bk_verbs::Status;
 use std::alloc::Global;
 use std::string::String;
 use std::test::Fail;

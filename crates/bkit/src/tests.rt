@@ -1,11 +1,8 @@
 // Runs over files and a sink in memory.
 
-use crate::files::read_project;
 use crate::program::bkit;
-use crate::status::Status;
 use bk_io::{MemShelf, MemSink, SureShelf, SureSink, have_distinct_names};
-use bk_kernel::is_obvious;
-use bk_po::obligations;
+use bk_verbs::Status;
 use std::alloc::Global;
 use std::test::Fail;
 
@@ -181,38 +178,23 @@ fn of_pair<'a>(
 // The counter's obligations, in their order; each is obvious.
 #[test]
 fn obligations_of_the_counter(rt: HostRuntime) -> Result<(), Fail> {
-    let alloc = rt.alloc();
-    let names = [
-        "Counter.INITIALISATION.1",
-        "Counter.reset.1",
-        "Counter.setmax.1",
-        "Counter.get.1",
-        "Counter_i.INITIALISATION.1",
-        "Counter_i.INITIALISATION.2",
-        "Counter_i.reset.1",
-        "Counter_i.reset.2",
-        "Counter_i.setmax.1",
-        "Counter_i.setmax.2",
-        "Counter_i.get.1",
-        "Counter_i.get.2",
-        "Counter_i.get.3",
-    ];
-    let files = files(alloc, ("", None))?;
-    if !have_distinct_names(&files) {
-        return Err(Fail::from("two files have one name"));
-    }
-    let mut shelf = SureShelf::new(files);
-    let project = read_project(alloc, "c.prj", &mut shelf)
-        .ok()
-        .ok_or("refused")?;
-    let list = obligations(alloc, &project.development)
-        .ok()
-        .ok_or("no list")?;
-    assert_eq!(rt; list.len(), names.len());
-    for (obligation, name) in list.iter().zip(names.iter()) {
-        assert_eq!(rt; obligation.name.as_bytes(), name.as_bytes());
-        assert!(rt; is_obvious(&obligation.sequent), "{name}");
-    }
+    let table = "Counter.INITIALISATION.1 obvious\n\
+        Counter.reset.1 obvious\n\
+        Counter.setmax.1 obvious\n\
+        Counter.get.1 obvious\n\
+        Counter_i.INITIALISATION.1 obvious\n\
+        Counter_i.INITIALISATION.2 obvious\n\
+        Counter_i.reset.1 obvious\n\
+        Counter_i.reset.2 obvious\n\
+        Counter_i.setmax.1 obvious\n\
+        Counter_i.setmax.2 obvious\n\
+        Counter_i.get.1 obvious\n\
+        Counter_i.get.2 obvious\n\
+        Counter_i.get.3 obvious\n\
+        13 obligations: 13 obvious, 0 proved, 0 open\n";
+    let (status, written) = outcome(rt.alloc(), &["status", "c.prj"], ("", None))?;
+    assert_eq!(rt; status, Status::Done);
+    assert_eq!(rt; written.as_slice(), table.as_bytes());
     Ok(())
 }
 
@@ -296,14 +278,13 @@ fn obligations_come_before_the_script(rt: HostRuntime) -> Result<(), Fail> {
 
 #[test]
 fn other_words(rt: HostRuntime) -> Result<(), Fail> {
-    let cases: [&[&str]; 10] = [
+    let cases: [&[&str]; 9] = [
         &[],
         &["run"],
         &["run", "c.prj"],
         &["run", "c.prj", "c.calls", "c.calls"],
         &["run", "c.prj", "c.calls", "--fuel", "0"],
         &["run", "-x", "c.calls"],
-        &["run", "c.prj", "-"],
         &["Run", "c.prj", "c.calls"],
         &["", "c.prj", "c.calls"],
         &["sample", "41"],
@@ -519,7 +500,11 @@ fn exit_codes(rt: HostRuntime) {
         (Status::Missing, 2),
         (Status::Refused, 3),
         (Status::Unproved, 4),
+        (Status::Incomplete, 5),
         (Status::BadCalls, 6),
+        (Status::Trapped, 7),
+        (Status::OutOfFuel, 8),
+        (Status::BadImage, 9),
         (Status::ReadFault, 10),
         (Status::WriteFault, 11),
         (Status::Memory, 12),

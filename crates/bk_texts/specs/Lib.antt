@@ -1,0 +1,4 @@
+pub mod Check
+pub mod Table
+pub mod Obligations
+pub mod Listing

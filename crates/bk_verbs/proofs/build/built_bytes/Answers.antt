@@ -1,0 +1,54 @@
+use Rattle.std.proofs.Common.{◌≡◌, ◌⊎◌, ◌∙◌, inl, inr, refl, Some, ap, subst}
+use Rattle.bk_io.specs.Files.{Files}
+use Rattle.bk_words.specs.Tasks.{build_task}
+use Rattle.bk_verbs.specs.Stops.{IsOutside, StopsTask}
+use Rattle.bk_verbs.proofs.Stopping.{handed_on, or_else_stops, at_reading, at_read}
+use Rattle.bk_code.specs.Checks.{IsLoadable}
+use Rattle.bk_image.specs.Spelling.{spelling}
+use Rattle.bk_verbs.specs.Project.{IsWithinCodeLimits}
+use Rattle.bk_verbs.proofs.build.built_bytes.Goals as goal
+
+pub returns-in_err-read-clause-cause : goal.returns-in_err-read-clause-cause
+returns-in_err-read-clause-cause g c =
+    handed_on c.from_residual.result c.in_err-read.field-0.0
+    (λ stop. (files : Files) → g.H.Shelf.files c.args.shelf.now ≡ Some files → IsOutside stop ⊎ StopsTask files (build_task c.args.project.now) stop)
+    c.from_residual.ensures.1
+    (λ files told. at_reading files c.args.project.now (build_task c.args.project.now) c.in_err-read.field-0.0 (c.in_err-read.ensures.cause files told))
+
+pub returns-in_err-check_proved-clause-cause : goal.returns-in_err-check_proved-clause-cause
+returns-in_err-check_proved-clause-cause g c =
+    handed_on c.from_residual-in_err-check_proved.result c.in_err-check_proved.field-0.0
+    (λ stop. (files : Files) → g.H.Shelf.files c.args.shelf.now ≡ Some files → IsOutside stop ⊎ StopsTask files (build_task c.args.project.now) stop)
+    c.from_residual-in_err-check_proved.ensures.1
+    (λ files told. at_read files c.args.project.now (build_task c.args.project.now) c.in_err-check_proved.field-0.0 c.in_ok-read.read.development c.in_ok-read.read.scripts.items (c.in_ok-read.ensures.told files told) (or_else_stops c.in_err-check_proved.field-0.0 _ _ c.in_err-check_proved.ensures.cause inl))
+
+pub returns-in_err-image-clause-cause : goal.returns-in_err-image-clause-cause
+returns-in_err-image-clause-cause g c =
+    handed_on c.from_residual-in_err-image.result c.in_err-image.field-0.0
+    (λ stop. (files : Files) → g.H.Shelf.files c.args.shelf.now ≡ Some files → IsOutside stop ⊎ StopsTask files (build_task c.args.project.now) stop)
+    c.from_residual-in_err-image.ensures.1
+    (λ files told. at_read files c.args.project.now (build_task c.args.project.now) c.in_err-image.field-0.0 c.in_ok-read.read.development c.in_ok-read.read.scripts.items (c.in_ok-read.ensures.told files told) (or_else_stops c.in_err-image.field-0.0 _ _ c.in_err-image.ensures.cause (λ k. inr (c.in_ok-check_proved.ensures.ok, k))))
+
+pub write-requires-clause-spelling : goal.write-requires-clause-spelling
+write-requires-clause-spelling g c = c.in_ok-image.ensures.within.spelled
+
+pub returns-clause-told : goal.returns-clause-told
+returns-clause-told g c files told =
+    let short = subst IsWithinCodeLimits c.in_ok-image.ensures.ok c.in_ok-image.ensures.within in
+    record {
+      dev = c.in_ok-read.read.development;
+      scripts = c.in_ok-read.read.scripts.items;
+      reads = c.in_ok-read.ensures.told files told;
+      given = (
+        refl,
+        record {
+          finished = c.in_ok-check_proved.ensures.ok;
+          short = short;
+          encodes = record {
+            loadable = subst IsLoadable c.in_ok-image.ensures.ok c.in_ok-image.ensures.loadable;
+            spelled = short.spelled;
+            is = c.in_ok-bytes.ensures ∙ ap spelling c.in_ok-image.ensures.ok;
+          };
+        },
+      );
+    }

@@ -1,0 +1,39 @@
+use Rattle.std.proofs.Common.{All, length, map, refl, sym, ◌∙◌, ap, subst, arith}
+use Rattle.std.proofs.lemmas.List.{length-map}
+use Rattle.std.proofs.lemmas.Result.{IfOk-weaker}
+use Rattle.bk_code.specs.Laws.{IsRequest}
+use Rattle.bk_io.specs.Pieces.{written_with}
+use Rattle.bk_calls.specs.Script.{request_of}
+use Rattle.bk_verbs.specs.declared.status.Status.TheVariants.{Done}
+use Rattle.bk_verbs.specs.Session.{Plays}
+use Rattle.bk_verbs.specs.Prepared.{IsPrepared}
+use Rattle.bk_verbs.proofs.Prepared.{wrote_text, played_work, playable}
+use Rattle.bk_verbs.proofs.work.write_work.Goals as goal
+
+pub play-requires-clause-checked : goal.play-requires-clause-checked
+play-requires-clause-checked g c = (playable c.args.work c.in-Play.image c.in-Play.calls c.in-Play.fuel c.in-Play.is c.requires).checked
+
+pub play-requires-clause-requests : goal.play-requires-clause-requests
+play-requires-clause-requests g c =
+    subst (λ x. All (IsRequest c.in-Play.image) (map request_of x)) (sym c.deref-in-Play.ensures.value) (playable c.args.work c.in-Play.image c.in-Play.calls c.in-Play.fuel c.in-Play.is c.requires).asked
+
+pub play-requires-clause-few : goal.play-requires-clause-few
+play-requires-clause-few g c =
+    let few = (playable c.args.work c.in-Play.image c.in-Play.calls c.in-Play.fuel c.in-Play.is c.requires).few in
+    omega (arith, few, length-map c.in-Play.calls.items request_of, ap length c.deref-in-Play.ensures.value)
+
+pub play-requires-clause-small : goal.play-requires-clause-small
+play-requires-clause-small g c = (playable c.args.work c.in-Play.image c.in-Play.calls c.in-Play.fuel c.in-Play.is c.requires).small
+
+pub returns-in_ok-put_all-in-Text-clause-ok : goal.returns-in_ok-put_all-in-Text-clause-ok
+returns-in_ok-put_all-in-Text-clause-ok g c files task prepared =
+    wrote_text files task c.in-Text.text Done (g.K.Sink.written c.args.out.now) (g.K.Sink.written c.put_all.new.sink) (subst (IsPrepared files task) c.in-Text.is prepared) refl
+    (c.in_ok-put_all-in-Text.ensures.ok ∙ ap (written_with (g.K.Sink.written c.args.out.now)) c.deref.ensures.value)
+
+pub returns-in-Play-clause-ok : goal.returns-in-Play-clause-ok
+returns-in-Play-clause-ok g c =
+    IfOk-weaker c.play.result _ _
+    (λ status plays files task prepared.
+    played_work files task c.in-Play.image c.in-Play.calls c.in-Play.fuel status (g.K.Sink.written c.args.out.now) (g.K.Sink.written c.play.new.out) (subst (IsPrepared files task) c.in-Play.is prepared)
+    (subst (λ x. Plays c.in-Play.image c.in-Play.fuel (map request_of x) status (g.K.Sink.written c.args.out.now) (g.K.Sink.written c.play.new.out)) c.deref-in-Play.ensures.value plays))
+    c.play.ensures.ok

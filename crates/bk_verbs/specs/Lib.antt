@@ -1,0 +1,7 @@
+pub mod Codes
+pub mod Project
+pub mod Session
+pub mod Work
+pub mod Prepared
+pub mod Stops
+pub mod Causes

@@ -1,0 +1,43 @@
+-- What is left to write once a task's files are read and checked. Only the contracts of private functions name what stands here.
+use Rattle.std.specs.Prelude.{ℕ, ◌≤◌, List, All, length, map, Option}
+use Rattle.bk_io.specs.Files.{Files}
+use Rattle.bk_io.specs.Pieces.{WroteFront}
+use Rattle.bk_code.specs.declared.image.Image.{Image}
+use Rattle.bk_code.specs.Checks.{IsChecked}
+use Rattle.bk_code.specs.Laws.{IsRequest}
+use Rattle.bk_code.specs.Session.{Request, Told, Session}
+use Rattle.bk_calls.specs.Script.{request_of}
+use Rattle.bk_calls.specs.Transcript.{transcript}
+use Rattle.bk_verbs.specs.declared.status.Status.TheVariants.{Done}
+use Rattle.bk_verbs.specs.declared.work.Work.{Work}
+use Rattle.bk_verbs.specs.declared.work.Work.TheVariants.{Text, Play}
+use Rattle.bk_words.specs.Tasks.{Task, most_fuel}
+use Rattle.bk_verbs.specs.Session.{session_status, PlaysFront}
+use Rattle.bk_verbs.specs.Work.{IsWork}
+
+-- whatever a session of the image over the calls tells is what the task gives
+abbrev pub IsSessionOf : Files → Task → Image → (fuel : ℕ) → List Request → Type 0
+IsSessionOf files task image fuel requests =
+    (tolds : List Told) → Session image fuel requests tolds → IsWork files task (session_status tolds) (transcript image fuel requests tolds)
+
+-- a text that is left to write is what the task gives, and so is the transcript of a session that is left to play
+abbrev pub IsPrepared : Files → Task → Work → Type 0
+IsPrepared files task (Text text) = IsWork files task Done text.items
+IsPrepared files task (Play image calls fuel) = IsSessionOf files task image fuel (map request_of calls.items)
+
+-- an image that is never stuck, calls that it takes, not too many of them, and no more fuel than may be asked for
+pub record IsPlayable (image : Image) (requests : List Request) (fuel : ℕ) : Type 0 where
+  pub checked : IsChecked image
+  pub asked : All (IsRequest image) requests
+  pub few : length requests ≤ 1000000
+  pub small : fuel ≤ most_fuel
+
+-- it is so of a session that is left to play
+abbrev pub CanBePlayed : Work → Type 0
+CanBePlayed (Text text) = Unit {0}
+CanBePlayed (Play image calls fuel) = IsPlayable image (map request_of calls.items) fuel
+
+-- what is written is a front of the text that is left to write, or of the transcript of the session that is left to play
+abbrev pub WritesFront : Work → (old new : Option (List ℕ)) → Type 0
+WritesFront (Text text) old new = WroteFront text.items old new
+WritesFront (Play image calls fuel) old new = PlaysFront image fuel (map request_of calls.items) old new

@@ -1,0 +1,279 @@
+-- Why the program stops before its work is done: the causes, in the order of the checks, and the lines that say so.
+use Rattle.std.specs.Prelude.{◌≡◌, ◌≢◌, ℕ, zero, suc, ◌<◌, ◌≤◌, ◌⊎◌, Bool, true, false, List, [], ◌∷◌, ◌++◌, length, slice_index_or, codes, decimal, Option, Some, None}
+use Rattle.bk_io.specs.Files.{Files, file_named, IsLonger}
+use Rattle.bk_code.specs.declared.image.Image.{Image}
+use Rattle.bk_image.specs.declared.fault.LoadFault.{LoadFault}
+use Rattle.bk_image.specs.declared.fault.LoadFault.TheVariants.{Short, Magic, Version, BadInst, BadJump, BadSlot, Stack, Extra, Memory as NoRoomForImage}
+use Rattle.bk_image.specs.Spelling.{HasSpelling}
+use Rattle.bk_image.specs.Faults.{place}
+use Rattle.bk_image.specs.Encoding.{Encodes, IsFault as IsFaultOfImage}
+use Rattle.bk_dev.specs.Development.{Development, level_at, last, is_complete}
+use Rattle.bk_gen.specs.declared.error.GenFault.{GenFault}
+use Rattle.bk_gen.specs.declared.error.GenFault.TheVariants.{CodeTooLong, TooManyCells, Memory as NoRoom}
+use Rattle.bk_b0.specs.Translation.{translation}
+use Rattle.bk_front.specs.declared.refusal.Refusal.{Refusal}
+use Rattle.bk_front.specs.declared.refusal.Refusal.TheVariants.{Fault, Limit as LimitOfText, Memory as OutOfMemory}
+use Rattle.bk_front.specs.ProjectFile.{NamesFiles, IsNoProject}
+use Rattle.bk_front.specs.Project.{IsMachineText, text_at, Reads}
+use Rattle.bk_po.specs.Obligations.{obligations}
+use Rattle.bk_po.specs.Limits.{first_too_large, PassTogether, PassNoLimit}
+use Rattle.bk_scripts.specs.WrittenRule.{Script}
+use Rattle.bk_scripts.specs.Files.{IsFirstFaulty}
+use Rattle.bk_scripts.specs.declared.fault.ScriptFault.{ScriptFault}
+use Rattle.bk_scripts.specs.declared.fault.ScriptFault.TheVariants.{Fault as FaultOfProofs, Limit as LimitOfProofs, Memory as NoRoomForProofs}
+use Rattle.bk_status.specs.declared.table.Row.{Row}
+use Rattle.bk_status.specs.Rows.{HasRows, first_open}
+use Rattle.bk_calls.specs.Script.{Cause, IsBadLine, PassesLimit}
+use Rattle.bk_io.specs.Pieces.{written_with, WroteFront}
+use Rattle.bk_calls.specs.declared.script.CallsFault.{CallsFault}
+use Rattle.bk_calls.specs.declared.script.CallsFault.TheVariants.{Line, NoOperation, Arguments, Number, Limit as PastLimit, Memory as NoMemory}
+use Rattle.bk_verbs.specs.declared.status.Status.{Status}
+use Rattle.bk_verbs.specs.declared.status.Status.TheVariants.{Usage as UsageStatus, Missing as MissingStatus, Refused as RefusedStatus, Unproved as UnprovedStatus, Incomplete as IncompleteStatus, BadCalls as BadCallsStatus, BadImage as BadImageStatus, ReadFault as ReadFaultStatus, WriteFault as WriteFaultStatus, Memory as MemoryStatus}
+use Rattle.bk_verbs.specs.declared.stop.Stop.{Stop}
+use Rattle.bk_verbs.specs.declared.stop.Stop.TheVariants.{Usage, Missing, Refused, Limit, Unproved, Incomplete, BadCalls, BadImage, ReadFault, WriteFault, Memory}
+use Rattle.bk_words.specs.Tasks.{Task, check_task, status_task, po_task, code_task, build_task, run_task, exec_task, Asks, AskForNothing, has_proofs}
+use Rattle.bk_verbs.specs.Project.{IsTold, AreTold, IsToldAsBytes, fetched, ReadsProject, IsFinished, IsWithinCodeLimits}
+
+-- a device failed, or there was no memory
+abbrev pub IsOutside : Stop → Type 0
+IsOutside ReadFault = Unit {0}
+IsOutside WriteFault = Unit {0}
+IsOutside Memory = Unit {0}
+IsOutside _ = ⊥
+
+-- ---- what is answered
+abbrev pub status_of_stop : Stop → Status
+status_of_stop Usage = UsageStatus
+status_of_stop (Missing name) = MissingStatus
+status_of_stop (Refused fault name) = RefusedStatus
+status_of_stop (Limit limit name) = RefusedStatus
+status_of_stop (Unproved name) = UnprovedStatus
+status_of_stop (Incomplete name) = IncompleteStatus
+status_of_stop (BadCalls line) = BadCallsStatus
+status_of_stop (BadImage fault) = BadImageStatus
+status_of_stop ReadFault = ReadFaultStatus
+status_of_stop WriteFault = WriteFaultStatus
+status_of_stop Memory = MemoryStatus
+
+-- what has this name, a file or an obligation, is refused for the fault with this number
+abbrev pub refusal_text : ℕ → List ℕ → List ℕ
+refusal_text fault name = codes "refused F" ++ decimal fault ++ codes " " ++ name
+
+-- why bytes are no image, in words
+abbrev pub fault_name : LoadFault → List ℕ
+fault_name (Short at) = codes "Short"
+fault_name Magic = codes "Magic"
+fault_name (Version n) = codes "Version"
+fault_name (BadInst at) = codes "BadInst"
+fault_name (BadJump at) = codes "BadJump"
+fault_name (BadSlot at) = codes "BadSlot"
+fault_name (Stack at) = codes "Stack"
+fault_name (Extra at) = codes "Extra"
+fault_name NoRoomForImage = []
+
+-- the line that is written; a limit that is passed is fault 13; where a device failed or there was no memory there is no line
+abbrev pub stop_text : Stop → List ℕ
+stop_text Usage = codes "usage: bkit VERB [FILE] [FILE] [--fuel N]\n"
+stop_text (Missing name) = codes "missing " ++ name ++ codes "\n"
+stop_text (Refused fault name) = refusal_text fault name ++ codes "\n"
+stop_text (Limit limit name) = refusal_text 13 name ++ codes " limit " ++ decimal limit ++ codes "\n"
+stop_text (Unproved name) = codes "unproved " ++ name ++ codes "\n"
+stop_text (Incomplete name) = codes "incomplete " ++ name ++ codes "\n"
+stop_text (BadCalls line) = codes "bad call line " ++ decimal line ++ codes "\n"
+stop_text (BadImage fault) = codes "bad image " ++ fault_name fault ++ codes " at " ++ decimal (place fault) ++ codes "\n"
+stop_text _ = []
+
+-- the statuses of a write fault and of want of memory, with which what had to be written may be cut short
+abbrev pub IsCutShort : Status → Type 0
+IsCutShort WriteFaultStatus = Unit {0}
+IsCutShort MemoryStatus = Unit {0}
+IsCutShort _ = ⊥
+
+-- the stop is answered and its line written; or a write fault or want of memory is, and a front of the line written
+abbrev pub Reports : Stop → Status → (old new : Option (List ℕ)) → Type 0
+Reports stop status old new =
+    ((status ≡ status_of_stop stop) × (new ≡ written_with old (stop_text stop))) ⊎ (IsCutShort status × WroteFront (stop_text stop) old new)
+
+-- ---- the checks, the later ones first: each check stops the program, or what it finds is looked at by the next
+-- the file is not there, or has more than 16777216 bytes
+abbrev pub StopsAtFile : Files → List ℕ → Stop → Type 0
+StopsAtFile files name stop =
+    ((stop ≡ Missing name) × (file_named files name ≡ None)) ⊎ ((stop ≡ Limit 1 name) × IsLonger (file_named files name) 16777216)
+
+-- the name with this number, from 0
+abbrev pub name_at : List (List ℕ) → ℕ → List ℕ
+name_at names n = slice_index_or names n []
+
+-- the text of a component file is at fault: the machine's, or else the implementation's, which also has the faults of both together
+abbrev pub StopsAtTexts : (components texts : List (List ℕ)) → Stop → Type 0
+StopsAtTexts components texts stop =
+    ((stop ≡ Refused 15 (name_at components 0)) × (IsMachineText (text_at texts 0) → ⊥)) ⊎
+    ((stop ≡ Refused 15 (name_at components 1)) × IsMachineText (text_at texts 0) × ((dev : Development) → Reads texts dev → ⊥))
+
+-- the files are fetched in order: the ones before are told, and this one is not
+abbrev pub StopsAtFiles : Files → List (List ℕ) → Stop → Type 0
+StopsAtFiles files [] stop = ⊥
+StopsAtFiles files (name ∷ names) stop = StopsAtFile files name stop ⊎ ((text : List ℕ) × IsTold files name text × StopsAtFiles files names stop)
+
+-- the first proof file at fault: it is none, or has a script with a name that has one already
+abbrev pub StopsAtScripts : (proofs texts : List (List ℕ)) → Stop → Type 0
+StopsAtScripts proofs texts stop = (file : ℕ) × (stop ≡ Refused 15 (name_at proofs file)) × IsFirstFaulty texts file
+
+-- the components' texts are looked at, and then those of the proof files
+abbrev pub StopsAtTold : (components proofs texts proof_texts : List (List ℕ)) → Stop → Type 0
+StopsAtTold components proofs texts proof_texts stop =
+    StopsAtTexts components texts stop ⊎ ((dev : Development) × Reads texts dev × StopsAtScripts proofs proof_texts stop)
+
+-- all files are fetched, those of the components and then the proof files, before their texts are looked at
+abbrev pub StopsAtComponents : Files → (components proofs : List (List ℕ)) → Stop → Type 0
+StopsAtComponents files components proofs stop =
+    StopsAtFiles files (components ++ proofs) stop ⊎
+    ((texts : List (List ℕ)) × (proof_texts : List (List ℕ)) × AreTold files components texts × AreTold files proofs proof_texts ×
+    StopsAtTold components proofs texts proof_texts stop)
+
+-- the project file's text is looked at, and then the files that it names
+abbrev pub StopsAtNames : (with_proofs : Bool) → Files → (project text : List ℕ) → Stop → Type 0
+StopsAtNames with_proofs files project text stop =
+    ((stop ≡ Refused 15 project) × IsNoProject text) ⊎
+    ((components : List (List ℕ)) × (proofs : List (List ℕ)) × NamesFiles text components proofs × StopsAtComponents files components (fetched with_proofs proofs) stop)
+
+-- the project file is fetched first
+abbrev pub StopsAtProject : (with_proofs : Bool) → Files → (project : List ℕ) → Stop → Type 0
+StopsAtProject with_proofs files project stop =
+    StopsAtFile files project stop ⊎ ((text : List ℕ) × IsTold files project text × StopsAtNames with_proofs files project text stop)
+
+-- the last component is no implementation, and is named
+abbrev pub StopsIncomplete : Development → Stop → Type 0
+StopsIncomplete dev stop = (stop ≡ Incomplete (level_at dev (last dev)).name) × (is_complete dev ≡ false)
+
+-- the name stands in the first row of the status table that is neither obvious nor proved
+abbrev pub IsFirstOpen : Development → List Script → List ℕ → Type 0
+IsFirstOpen dev scripts name = (rows : List Row) × (row : Row) × HasRows dev scripts rows × (first_open rows ≡ Some row) × (row.name ≡ name)
+
+-- the limits of the obligations: 6, also for the height, with the name of the first obligation that is too large; 7 for all their sequents
+-- and 14 for all their nodes, with the project's file
+abbrev pub StopsPastLimits : (project : List ℕ) → Development → Stop → Type 0
+StopsPastLimits project dev stop =
+    ((name : List ℕ) × (stop ≡ Limit 6 name) × (first_too_large (obligations dev) ≡ Some name)) ⊎
+    ((limit : ℕ) × (stop ≡ Limit limit project) × PassTogether (obligations dev) limit)
+
+-- these limits, and then the first obligation that is neither obvious nor proved
+abbrev pub StopsAtObligations : (project : List ℕ) → Development → List Script → Stop → Type 0
+StopsAtObligations project dev scripts stop =
+    StopsPastLimits project dev stop ⊎
+    ((name : List ℕ) × (stop ≡ Unproved name) × PassNoLimit (obligations dev) × IsFirstOpen dev scripts name)
+
+-- the last component, and then the obligations
+abbrev pub StopsAtProof : (project : List ℕ) → Development → List Script → Stop → Type 0
+StopsAtProof project dev scripts stop = StopsIncomplete dev stop ⊎ ((is_complete dev ≡ true) × StopsAtObligations project dev scripts stop)
+
+-- there are more cells than an image may have, or it has no spelling: a name is too long, or a number of sets, elements,
+-- operations, inputs or outputs is too large
+abbrev pub HasTooManyCells : Image → Type 0
+HasTooManyCells image = (1000000 < image.cells) ⊎ (HasSpelling image → ⊥)
+
+-- the limits of the code: 9 for its instructions, and 10 for its cells
+abbrev pub StopsPastCode : (project : List ℕ) → Image → Stop → Type 0
+StopsPastCode project image stop =
+    ((stop ≡ Limit 9 project) × (1000000 < length image.code)) ⊎
+    ((stop ≡ Limit 10 project) × (length image.code ≤ 1000000) × HasTooManyCells image)
+
+-- the call script: a line at fault, or a call past the limit, whichever comes first
+abbrev pub StopsAtScript : (calls text : List ℕ) → Image → Stop → Type 0
+StopsAtScript calls text image stop =
+    ((number : ℕ) × (cause : Cause) × (stop ≡ BadCalls number) × IsBadLine image text number cause) ⊎ ((stop ≡ Limit 11 calls) × PassesLimit image text)
+
+-- the limits of the code, and then the call script
+abbrev pub StopsAtCode : (project calls text : List ℕ) → Image → Stop → Type 0
+StopsAtCode project calls text image stop = StopsPastCode project image stop ⊎ (IsWithinCodeLimits image × StopsAtScript calls text image stop)
+
+-- the call script is fetched before the limits of the code are asked
+abbrev pub StopsAtCalls : Files → (project calls : List ℕ) → Image → Stop → Type 0
+StopsAtCalls files project calls image stop =
+    StopsAtFile files calls stop ⊎ ((text : List ℕ) × IsTold files calls text × StopsAtCode project calls text image stop)
+
+-- the call script of an image that is there
+abbrev pub StopsAtCallScript : Files → (calls : List ℕ) → Image → Stop → Type 0
+StopsAtCallScript files calls image stop =
+    StopsAtFile files calls stop ⊎ ((text : List ℕ) × IsTold files calls text × StopsAtScript calls text image stop)
+
+-- the bytes encode no image
+abbrev pub StopsAtLoading : (bytes : List ℕ) → Stop → Type 0
+StopsAtLoading bytes stop = (fault : LoadFault) × (stop ≡ BadImage fault) × (fault ≢ NoRoomForImage) × IsFaultOfImage bytes fault
+
+-- the image's file is fetched first, then its bytes are looked at, and then the call script
+abbrev pub StopsAtImage : Files → (image calls : List ℕ) → Stop → Type 0
+StopsAtImage files image calls stop =
+    StopsAtFile files image stop ⊎
+    ((bytes : List ℕ) × IsToldAsBytes files image bytes ×
+    (StopsAtLoading bytes stop ⊎ ((loaded : Image) × Encodes bytes loaded × StopsAtCallScript files calls loaded stop)))
+
+-- ---- tasks
+-- what stops a task whose project is read as this development and these scripts: `check` nothing, `status` and `po` the limits of the obligations,
+-- `code` the last component and the limits of the code, `build` the obligations and these limits, and `run` the calls too
+abbrev pub StopsRead : Files → Task → Development → List Script → Stop → Type 0
+StopsRead files (check_task project) dev scripts stop = ⊥
+StopsRead files (status_task project) dev scripts stop = StopsPastLimits project dev stop
+StopsRead files (po_task project) dev scripts stop = StopsPastLimits project dev stop
+StopsRead files (code_task project) dev scripts stop = StopsIncomplete dev stop ⊎ ((is_complete dev ≡ true) × StopsPastCode project (translation dev) stop)
+StopsRead files (build_task project) dev scripts stop = StopsAtProof project dev scripts stop ⊎ (IsFinished dev scripts × StopsPastCode project (translation dev) stop)
+StopsRead files (run_task project calls fuel) dev scripts stop = StopsAtProof project dev scripts stop ⊎ (IsFinished dev scripts × StopsAtCalls files project calls (translation dev) stop)
+StopsRead files (exec_task image calls fuel) dev scripts stop = ⊥
+
+-- the project, and then what is asked of the development and the scripts that it reads as
+abbrev pub StopsAtWork : Files → (project : List ℕ) → Task → Stop → Type 0
+StopsAtWork files project task stop =
+    StopsAtProject (has_proofs task) files project stop ⊎
+    ((dev : Development) × (scripts : List Script) × ReadsProject (has_proofs task) files project dev scripts × StopsRead files task dev scripts stop)
+
+-- the first check of the task that fails
+abbrev pub StopsTask : Files → Task → Stop → Type 0
+StopsTask files (check_task project) stop = StopsAtWork files project (check_task project) stop
+StopsTask files (status_task project) stop = StopsAtWork files project (status_task project) stop
+StopsTask files (po_task project) stop = StopsAtWork files project (po_task project) stop
+StopsTask files (code_task project) stop = StopsAtWork files project (code_task project) stop
+StopsTask files (build_task project) stop = StopsAtWork files project (build_task project) stop
+StopsTask files (run_task project calls fuel) stop = StopsAtWork files project (run_task project calls fuel) stop
+StopsTask files (exec_task image calls fuel) stop = StopsAtImage files image calls stop
+
+-- the words, and then the checks of the task that they ask for
+abbrev pub StopsAt : Files → List (List ℕ) → Stop → Type 0
+StopsAt files words stop = ((stop ≡ Usage) × AskForNothing words) ⊎ ((task : Task) × Asks words task × StopsTask files task stop)
+
+-- ---- what the faults of other crates stop the program with
+-- the name of the file with this number: 0 for the project file, and behind it the component files
+abbrev pub name_of : ℕ → (project : List ℕ) (components : List (List ℕ)) → List ℕ
+name_of zero project components = project
+name_of (suc n) project components = name_at components n
+
+-- what a refusal stops the program with
+abbrev pub stop_of_refusal : Refusal → (project : List ℕ) (components : List (List ℕ)) → Stop
+stop_of_refusal (Fault number file place) project components = Refused number (name_of file project components)
+stop_of_refusal (LimitOfText number file) project components = Limit number (name_of file project components)
+stop_of_refusal OutOfMemory project components = Memory
+
+-- what a fault of the proof files stops the program with
+abbrev pub stop_of_proofs : ScriptFault → (proofs : List (List ℕ)) → Stop
+stop_of_proofs (FaultOfProofs number file place) proofs = Refused number (name_at proofs file)
+stop_of_proofs (LimitOfProofs number file) proofs = Limit number (name_at proofs file)
+stop_of_proofs NoRoomForProofs proofs = Memory
+
+-- what a fault of the translation stops the program with
+abbrev pub stop_of_code : GenFault → (project : List ℕ) → Stop
+stop_of_code CodeTooLong project = Limit 9 project
+stop_of_code TooManyCells project = Limit 10 project
+stop_of_code NoRoom project = Memory
+
+-- what a fault of reading a call script stops the program with
+abbrev pub stop_of_calls : CallsFault → (calls : List ℕ) → Stop
+stop_of_calls (Line number) calls = BadCalls number
+stop_of_calls (NoOperation number) calls = BadCalls number
+stop_of_calls (Arguments number) calls = BadCalls number
+stop_of_calls (Number number) calls = BadCalls number
+stop_of_calls PastLimit calls = Limit 11 calls
+stop_of_calls NoMemory calls = Memory
+
+-- what a fault of an image stops the program with
+abbrev pub stop_of_load : LoadFault → Stop
+stop_of_load NoRoomForImage = Memory
+stop_of_load fault = BadImage fault

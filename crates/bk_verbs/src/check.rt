@@ -1,0 +1,37 @@
+//! `check`: whether a project is read.
+
+ghost use Rattle.std.specs.Prelude.{◌≡◌, ◌⊎◌, Some, IfOk, IfErr};
+ghost use Rattle.bk_io.specs.Files.{Files};
+ghost use Rattle.bk_io.specs.Counts.{HasCause};
+ghost use Rattle.bk_words.specs.Tasks.{check_task};
+ghost use Rattle.bk_verbs.specs.declared.stop.Stop.TheVariants.{ReadFault};
+ghost use Rattle.bk_verbs.specs.Causes.{IsOfReading, CountsAbsence};
+ghost use Rattle.bk_verbs.specs.Stops.{IsOutside, StopsTask};
+ghost use Rattle.bk_verbs.specs.Prepared.{IsPrepared, CanBePlayed};
+
+use crate::files::read_project;
+use crate::stop::Stop;
+use crate::work::Work;
+use bk_io::Shelf;
+use bk_texts::check_line;
+use std::alloc::Global;
+
+/// The line that says what a project is read as. Its proof files are not fetched.
+pub(crate) fn checked_text<H: Shelf>(
+    alloc: Global,
+    project: &str,
+    shelf: &mut H,
+) -> Result<Work, Stop>
+    ensures cause { IfErr result (λ stop. (files : Files) → H.files shelf.old ≡ Some files →
+        IsOutside stop ⊎ StopsTask files (check_task project.now) stop) }
+    ensures reading { IfErr result IsOfReading }
+    ensures failed { HasCause ReadFault (H.faults shelf.old) (H.faults shelf.new) result }
+    ensures missing { CountsAbsence (H.absences shelf.old) (H.absences shelf.new) result }
+    ensures told { IfOk result (λ work. (files : Files) → H.files shelf.old ≡ Some files →
+        IsPrepared files (check_task project.now) work) }
+    ensures playable { IfOk result CanBePlayed }
+{
+    let read = read_project(alloc, project, false, shelf)?;
+    let line = check_line(alloc, &read.development)?;
+    Ok(Work::Text(line))
+}

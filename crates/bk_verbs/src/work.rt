@@ -1,0 +1,52 @@
+//! What a command has to write, once its files are read and checked.
+
+ghost use Rattle.std.specs.Prelude.{IfOk, IfErr, OnErr};
+ghost use Rattle.bk_io.specs.Counts.{HasCause};
+ghost use Rattle.bk_io.specs.Files.{Files};
+ghost use Rattle.bk_verbs.specs.declared.stop.Stop.TheVariants.{WriteFault};
+ghost use Rattle.bk_words.specs.Tasks.{Task};
+ghost use Rattle.bk_verbs.specs.Causes.{IsOfPlaying};
+ghost use Rattle.bk_verbs.specs.Work.{IsExecuted};
+ghost use Rattle.bk_verbs.specs.Work.{WritesWork};
+ghost use Rattle.bk_verbs.specs.Prepared.{IsPrepared, CanBePlayed, WritesFront};
+
+use crate::session::play;
+use crate::status::Status;
+use crate::stop::Stop;
+use bk_calls::Call;
+use bk_code::Image;
+use bk_io::{Sink, put_all};
+use std::alloc::Global;
+
+/// What a command has to write.
+#[derive(Drop)]
+pub enum Work {
+    /// This text.
+    Text(Vec<u8>),
+    /// The transcript of a session of the image over these calls, of which each, and the initialisation, may have so many
+    /// steps.
+    Play {
+        image: Image,
+        calls: Vec<Call>,
+        fuel: u64,
+    },
+}
+
+/// Writes it.
+pub fn write_work<K: Sink>(alloc: Global, work: Work, out: &mut K) -> Result<Status, Stop>
+    requires { CanBePlayed work }
+    ensures playing { IfErr result IsOfPlaying }
+    ensures failed { HasCause WriteFault (K.faults out.old) (K.faults out.new) result }
+    ensures front { OnErr result (WritesFront work (K.written out.old) (K.written out.new)) }
+    ensures executed { IfOk result IsExecuted }
+    ensures ok { IfOk result (λ status. (files : Files) (task : Task) → IsPrepared files task work →
+        WritesWork files task (K.written out.old) (K.written out.new) status) }
+{
+    match work {
+        Work::Text(text) => {
+            put_all(out, &text)?;
+            Ok(Status::Done)
+        }
+        Work::Play { image, calls, fuel } => play(alloc, image, &calls, fuel, out),
+    }
+}

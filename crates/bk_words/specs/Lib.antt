@@ -1,0 +1,4 @@
+pub mod Words
+pub mod Tasks
+pub mod Asked
+pub mod Laws

@@ -1,0 +1,396 @@
+-- It cannot be that words and told files have no answer.
+use Rattle.std.proofs.Common.{◌≡◌, ℕ, zero, suc, ◌+◌, ◌<◌, ◌⊎◌, inl, inr, Bool, true, false, nat_eq, List, [], ◌∷◌, length, take, Option, Some, None, refl, sym, ◌∙◌, subst, arith}
+use Rattle.std.specs.Prelude.{option_map, slice_get}
+use Rattle.std.specs.Option.{option_map_or}
+use Rattle.std.proofs.lemmas.Bool.{cases_lt}
+use Rattle.std.proofs.lemmas.List.{take_all}
+use Rattle.std.proofs.lemmas.List.Elements.{All-head, All-tail}
+use Rattle.bk_io.specs.Bytes.{AreBytes}
+use Rattle.bk_io.specs.Files.{Files, file_named}
+use Rattle.bk_code.specs.declared.image.Image.{Image}
+use Rattle.bk_code.specs.Checks.{IsChecked, IsLoadable}
+use Rattle.bk_code.proofs.Sessions.{some_session}
+use Rattle.bk_code.proofs.DeadCode.{loadable_is_checked}
+use Rattle.bk_image.specs.Spelling.{HasSpelling, spelling}
+use Rattle.bk_dev.specs.Development.{Development, level_at, last, is_complete}
+use Rattle.bk_dev.specs.Facts.{IsLawful}
+use Rattle.bk_form.specs.Table.{SetEntry}
+use Rattle.bk_b0.specs.Translation.{translation}
+use Rattle.bk_b0.specs.Simple.{IsSimple}
+use Rattle.bk_b0.proofs.SimpleInB0.{simple_is_in_b0}
+use Rattle.bk_gen.specs.Laws.{HasElementsInRange}
+use Rattle.bk_gen.proofs.Loads.{translations_load}
+use Rattle.bk_front.specs.ProjectFile.{AreProjectLines, files_of}
+use Rattle.bk_front.specs.declared.project_file.ProjectLine.{ProjectLine}
+use Rattle.bk_front.specs.Project.{IsMachineText, text_at, Reads}
+use Rattle.bk_front.proofs.Readings.{is_development, is_simple}
+use Rattle.bk_dev.specs.Flattened.{flattened}
+use Rattle.bk_po.specs.Obligations.{obligations, numbered, numbered_obligations}
+use Rattle.bk_po.specs.Limits.{first_too_large, all_nodes, PassNoLimit}
+use Rattle.bk_scripts.specs.WrittenRule.{Script}
+use Rattle.bk_scripts.specs.Files.{AreScriptsOf, IsFirstFaulty}
+use Rattle.bk_status.specs.declared.table.Row.{Row}
+use Rattle.bk_status.specs.Rows.{HasRows, first_open}
+use Rattle.bk_status.proofs.Tables.{closed_tables_prove}
+use Rattle.bk_lines.specs.Lines.{kept_lines}
+use Rattle.bk_calls.specs.Transcript.{transcript}
+use Rattle.bk_calls.proofs.Limits.{is_one_of_three}
+use Rattle.bk_calls.proofs.Scripts.{requests_fit}
+use Rattle.bk_verbs.specs.declared.status.Status.{Status}
+use Rattle.bk_verbs.specs.declared.status.Status.TheVariants.{Done, Usage as UsageStatus}
+use Rattle.bk_verbs.specs.declared.stop.Stop.{Stop}
+use Rattle.bk_verbs.specs.declared.stop.Stop.TheVariants.{Usage, Missing, Refused, Limit, Unproved, Incomplete, BadCalls, BadImage}
+use Rattle.bk_words.specs.Tasks.{Task, check_task, status_task, po_task, code_task, build_task, run_task, exec_task, Asks, has_proofs}
+use Rattle.bk_verbs.specs.Project.{IsTold, AreTold, IsToldAsBytes, HoldBytes, fetched, ReadsProject, IsFinished, IsWithinCodeLimits}
+use Rattle.bk_texts.specs.Check.{check_text}
+use Rattle.bk_texts.specs.Table.{table_text}
+use Rattle.bk_texts.specs.Obligations.{obligations_text}
+use Rattle.bk_texts.specs.Listing.{listing}
+use Rattle.bk_verbs.specs.Session.{session_status}
+use Rattle.bk_verbs.specs.Work.{IsPlayed, IsGiven, IsDoneOn, IsWork}
+use Rattle.bk_verbs.specs.Stops.{StopsAtFile, StopsAtFiles, StopsAtTexts, StopsAtProject, StopsPastLimits, StopsAtProof, StopsPastCode, StopsAtCalls, StopsAtCallScript, StopsRead, StopsAtWork, StopsTask, name_at, status_of_stop, stop_text}
+use Rattle.bkit.specs.Laws.{HasSomeAnswer}
+use Rattle.bkit.proofs.Possible.{Possible, certain, and_then, decide}
+use Rattle.bkit.proofs.SomeImage.{some_verdict}
+use Rattle.bkit.proofs.SomeTable.{some_table}
+use Rattle.std.specs.Cmp.Lexicographic.{pointwise}
+use Rattle.bk_verbs.proofs.Projects.{names_of, some_once}
+use Rattle.bk_verbs.proofs.Fetching.{stops_before, stops_behind}
+
+-- a check stops, or what it looks for is there
+abbrev Looks : (Stop → Type 0) → Type 0 → Type 0
+Looks Stops Found = ((stop : Stop) × Stops stop) ⊎ Found
+
+-- ---- files
+file : (files : Files) (name : List ℕ) → Looks (StopsAtFile files name) ((text : List ℕ) × IsTold files name text)
+file files name = by (file_named files name) refl
+  where
+    by : (o : Option (List ℕ)) → file_named files name ≡ o → Looks (StopsAtFile files name) ((text : List ℕ) × IsTold files name text)
+    by None e = inl (Missing name, inl (refl, e))
+    by (Some text) e = elim (cases_lt 16777216 (length text)) [
+      | inl longer ↦ inl (Limit 1 name, inr (refl, record { bytes = text; found = e; longer = longer }))
+      | inr short ↦ inr (text, record { stands = e; short = short })
+    ]
+
+all_files : (files : Files) (names : List (List ℕ)) → Looks (StopsAtFiles files names) ((texts : List (List ℕ)) × AreTold files names texts)
+all_files files [] = inr ([], tt)
+all_files files (name ∷ names) = elim (file files name) [
+  | inl s ↦ inl (s.0, inl s.1)
+  | inr t ↦ elim (all_files files names) [
+    | inl s ↦ inl (s.0, inr (t.0, t.1, s.1))
+    | inr ts ↦ inr (t.0 ∷ ts.0, (t.1, ts.1))
+  ]
+]
+
+-- the first of the files has the name, or it is passed over
+found : (f : List ℕ × List ℕ) (fs : Files) (name : List ℕ) → pointwise nat_eq name f.0 ≡ true → file_named (f ∷ fs) name ≡ Some f.1
+found f fs name t = rw t refl
+
+passed : (f : List ℕ × List ℕ) (fs : Files) (name : List ℕ) → pointwise nat_eq name f.0 ≡ false → file_named (f ∷ fs) name ≡ file_named fs name
+passed f fs name t = rw t refl
+
+-- what files of bytes tell are bytes
+held_bytes : (files : Files) → HoldBytes files → (name text : List ℕ) → file_named files name ≡ Some text → AreBytes text
+held_bytes [] h name text e = absurd (cc)
+held_bytes (f ∷ fs) h name text e = by (pointwise nat_eq name f.0) refl (held_bytes fs (All-tail (λ file. AreBytes file.1) f fs h) name text)
+  where
+    by : (b : Bool) → pointwise nat_eq name f.0 ≡ b → (file_named fs name ≡ Some text → AreBytes text) → AreBytes text
+    by true t others = subst AreBytes (some_once (sym (found f fs name t) ∙ e)) (All-head (λ file. AreBytes file.1) f fs h)
+    by false t others = others (sym (passed f fs name t) ∙ e)
+
+-- ---- proof files
+-- the first files have scripts; then all have, or there is a first that has none with those before it
+module _ (texts : List (List ℕ)) where
+  abbrev Scripted : ℕ → Type 0
+  Scripted n = (scripts : List Script) × AreScriptsOf (take n texts) scripts
+
+  abbrev Outcome : Type 0
+  Outcome = Scripted (length texts) ⊎ ((n : ℕ) × IsFirstFaulty texts n)
+
+  from_place : (left n : ℕ) → n + left ≡ length texts → Scripted n → Possible Outcome
+  from_place zero n e h = certain (inl (subst Scripted (omega (arith, e)) h))
+  from_place (suc left) n e h = and_then (decide (Scripted (n + 1))) (λ d. elim d [
+    | inl more ↦ from_place left (n + 1) (omega (arith, e)) more
+    | inr none ↦ certain (inr (n, record { inside = omega (arith, e); before = h.0; right = h.1; none = λ scripts k. none (scripts, k) }))
+  ])
+
+no_files : (texts : List (List ℕ)) → AreScriptsOf (take 0 texts) []
+no_files texts = record { files = []; each = tt; joined = refl; distinct = λ i j d below inside. absurd (omega (arith, inside)) }
+
+all_scripts : (texts : List (List ℕ)) → Possible (((scripts : List Script) × AreScriptsOf texts scripts) ⊎ ((n : ℕ) × IsFirstFaulty texts n))
+all_scripts texts = and_then (from_place texts (length texts) 0 (omega arith) ([], no_files texts)) (λ o. elim o [
+  | inl h ↦ certain (inl (h.0, subst (λ x. AreScriptsOf x h.0) (take_all (length texts) texts (omega arith)) h.1))
+  | inr h ↦ certain (inr h)
+])
+
+-- ---- the project
+module _ (with_proofs : Bool) (files : Files) (project : List ℕ) where
+  abbrev Read : Type 0
+  Read = Looks (StopsAtProject with_proofs files project) ((dev : Development) × (scripts : List Script) × ReadsProject with_proofs files project dev scripts)
+
+  module _ (text : List ℕ) (told : IsTold files project text) (ls : List ProjectLine) (are : AreProjectLines text ls) (texts proof_texts : List (List ℕ))
+      (t : AreTold files (files_of false ls) texts) (u : AreTold files (fetched with_proofs (files_of true ls)) proof_texts) where
+    at_texts : (stop : Stop) → StopsAtTexts (files_of false ls) texts stop → Read
+    at_texts stop h = inl (stop, inr (text, told, inr (files_of false ls, files_of true ls, names_of text ls are, inr (texts, proof_texts, t, u, inl h))))
+
+    at_scripts : (dev : Development) (n : ℕ) → Reads texts dev → IsFirstFaulty proof_texts n → Read
+    at_scripts dev n r h =
+        let stop = Refused 15 (name_at (fetched with_proofs (files_of true ls)) n) in
+        inl (stop, inr (text, told, inr (files_of false ls, files_of true ls, names_of text ls are, inr (texts, proof_texts, t, u, inr (dev, r, (n, refl, h))))))
+
+    with_scripts : (dev : Development) → Reads texts dev → Possible Read
+    with_scripts dev r = and_then (all_scripts proof_texts) (λ o. elim o [
+      | inl h ↦ certain (inr (
+        dev,
+        h.0,
+        record {
+          text = text;
+          told = told;
+          components = files_of false ls;
+          proofs = files_of true ls;
+          names = names_of text ls are;
+          texts = texts;
+          proof_texts = proof_texts;
+          texts_told = t;
+          proofs_told = u;
+          reads = r;
+          scripts_are = h.1;
+        },
+      ))
+      | inr h ↦ certain (at_scripts dev h.0 r h.1)
+    ])
+
+    with_texts : Possible Read
+    with_texts = and_then (decide (IsMachineText (text_at texts 0))) (λ m. elim m [
+      | inl machine ↦ and_then (decide ((dev : Development) × Reads texts dev)) (λ d. elim d [
+        | inl r ↦ with_scripts r.0 r.1
+        | inr none ↦ certain (at_texts (Refused 15 (name_at (files_of false ls) 1)) (inr (refl, machine, λ dev r. none (dev, r))))
+      ])
+      | inr none ↦ certain (at_texts (Refused 15 (name_at (files_of false ls) 0)) (inl (refl, none)))
+    ])
+
+  with_lines : (text : List ℕ) → IsTold files project text → (ls : List ProjectLine) → AreProjectLines text ls → Possible Read
+  with_lines text told ls are = elim (all_files files (files_of false ls)) [
+    | inl s ↦ certain (inl (s.0, inr (text, told, inr (files_of false ls, files_of true ls, names_of text ls are, inl (stops_before files (files_of false ls) (fetched with_proofs (files_of true ls)) s.0 s.1)))))
+    | inr t ↦ elim (all_files files (fetched with_proofs (files_of true ls))) [
+      | inl s ↦ certain (inl (s.0, inr (text, told, inr (files_of false ls, files_of true ls, names_of text ls are, inl (stops_behind files (files_of false ls) (fetched with_proofs (files_of true ls)) t.0 s.0 t.1 s.1)))))
+      | inr u ↦ with_texts text told ls are t.0 u.0 t.1 u.1
+    ]
+  ]
+
+  read : Possible Read
+  read = elim (file files project) [
+    | inl s ↦ certain (inl (s.0, inl s.1))
+    | inr t ↦ and_then (decide ((ls : List ProjectLine) × AreProjectLines t.0 ls)) (λ d. elim d [
+      | inl h ↦ with_lines t.0 t.1 h.0 h.1
+      | inr none ↦ certain (inl (Refused 15 project, inr (t.0, t.1, inl (refl, λ ls are. none (ls, are)))))
+    ])
+  ]
+
+-- ---- the obligations
+limits : (project : List ℕ) (dev : Development) → Looks (StopsPastLimits project dev) (PassNoLimit (obligations dev))
+limits project dev = by (first_too_large (obligations dev)) refl
+  where
+    by : (o : Option (List ℕ)) → first_too_large (obligations dev) ≡ o → Looks (StopsPastLimits project dev) (PassNoLimit (obligations dev))
+    by (Some name) e = inl (Limit 6 name, inl (name, refl, e))
+    by None e = elim (cases_lt 20000 (length (numbered (obligations dev)))) [
+      | inl many ↦ inl (Limit 7 project, inr (7, refl, record { sizes = e; passed = inl (refl, many) }))
+      | inr few ↦ elim (cases_lt 20000000 (all_nodes (obligations dev))) [
+        | inl large ↦ inl (Limit 14 project, inr (14, refl, record { sizes = e; passed = inr (refl, few, large) }))
+        | inr small ↦ inr (record { sizes = e; sequents = few; nodes = small })
+      ]
+    ]
+
+module _ (project : List ℕ) (dev : Development) (texts : List (List ℕ)) (scripts : List Script) (are_scripts : AreScriptsOf texts scripts) where
+  proof : Possible (Looks (StopsAtProof project dev scripts) (IsFinished dev scripts))
+  proof = by (is_complete dev) refl
+    where
+      rows_of : (complete : is_complete dev ≡ true) (within : PassNoLimit (obligations dev)) (rows : List Row) → HasRows dev scripts rows → (o : Option Row) → first_open rows ≡ o → Looks (StopsAtProof project dev scripts) (IsFinished dev scripts)
+      rows_of complete within rows are (Some row) e = inl (Unproved row.name, inr (complete, inr (row.name, refl, within, (rows, row, are, e, refl))))
+      rows_of complete within rows are None e = inr (record { complete = complete; proved = record { within = within; proved = closed_tables_prove dev scripts rows are e } })
+
+      by : (b : Bool) → is_complete dev ≡ b → Possible (Looks (StopsAtProof project dev scripts) (IsFinished dev scripts))
+      by false e = certain (inl (Incomplete (level_at dev (last dev)).name, inl (refl, e)))
+      by true e = elim (limits project dev) [
+        | inl s ↦ certain (inl (s.0, inr (e, inl s.1)))
+        | inr within ↦ and_then (some_table dev texts scripts are_scripts) (λ t. certain (rows_of e within t.0 t.1 (first_open t.0) refl))
+      ]
+
+-- ---- the code
+code : (project : List ℕ) (image : Image) → Possible (Looks (StopsPastCode project image) (IsWithinCodeLimits image))
+code project image = elim (cases_lt 1000000 (length image.code)) [
+  | inl long ↦ certain (inl (Limit 9 project, inl (refl, long)))
+  | inr short ↦ elim (cases_lt 1000000 image.cells) [
+    | inl many ↦ certain (inl (Limit 10 project, inr (refl, short, inl many)))
+    | inr few ↦ and_then (decide (HasSpelling image)) (λ d. elim d [
+      | inl spelled ↦ certain (inr (record { code = short; cells = few; spelled = spelled }))
+      | inr none ↦ certain (inl (Limit 10 project, inr (refl, short, inr none)))
+    ])
+  ]
+]
+
+-- a simple development has no sets, and so no elements
+no_elements : (dev : Development) → IsLawful dev → IsSimple dev → HasElementsInRange dev
+no_elements dev f s n i below =
+    let none : i < 0 = subst (λ (sets : List SetEntry). i < option_map_or length (option_map (λ e. e.elements) (slice_get sets n)) 0) (sym f.sets ∙ s.no_sets) below in
+    absurd (omega (arith, none))
+
+-- its translation passes the loader's checks
+simple_loads : (dev : Development) → IsLawful dev → IsSimple dev → IsWithinCodeLimits (translation dev) → IsLoadable (translation dev)
+simple_loads dev f s w = translations_load dev f (simple_is_in_b0 dev s) (no_elements dev f s) w.cells w.code
+
+-- ---- sessions
+module _ (files : Files) (calls : List ℕ) (fuel : ℕ) (image : Image) (checked : IsChecked image) where
+  played : Looks (StopsAtCallScript files calls image) ((status : Status) × (text : List ℕ) × IsPlayed files calls fuel image status text)
+  played = elim (file files calls) [
+    | inl s ↦ inl (s.0, inl s.1)
+    | inr t ↦ elim (is_one_of_three image t.0) [
+      | inl h ↦
+          let some = some_session image checked.depths fuel h.0 checked.numbered checked.fitting (requests_fit image (kept_lines t.0) h.0 h.1) in
+          inr (
+            session_status some.0,
+            transcript image fuel h.0 some.0,
+            record {
+              requests = h.0;
+              asks = record { text = t.0; told = t.1; script = h.1; few = h.2 };
+              tolds = some.0;
+              session = some.1;
+              last = refl;
+              transcript_is = refl;
+            },
+          )
+      | inr (inl h) ↦ inl (BadCalls h.0, inr (t.0, t.1, inl (h.0, h.1, refl, h.2)))
+      | inr (inr h) ↦ inl (Limit 11 calls, inr (t.0, t.1, inr (refl, h)))
+    ]
+  ]
+
+-- ---- tasks
+-- a task stops, or gives something
+abbrev Answers : Files → Task → Type 0
+Answers files task = Looks (StopsTask files task) ((status : Status) × (text : List ℕ) × IsWork files task status text)
+
+module _ (files : Files) (project : List ℕ) (task : Task) where
+  abbrev Gives : Type 0
+  Gives = Looks (StopsAtWork files project task) ((status : Status) × (text : List ℕ) × IsDoneOn files project task status text)
+
+  -- once the project is read
+  after_reading : ((dev : Development) (scripts : List Script) → ReadsProject (has_proofs task) files project dev scripts →
+      Possible (Looks (StopsRead files task dev scripts) ((status : Status) × (text : List ℕ) × IsGiven files task dev scripts status text))) → Possible Gives
+  after_reading next = and_then (read (has_proofs task) files project) (λ r. elim r [
+    | inl s ↦ certain (inl (s.0, inl s.1))
+    | inr h ↦ and_then (next h.0 h.1 h.2) (λ g. elim g [
+      | inl s ↦ certain (inl (s.0, inr (h.0, h.1, h.2, s.1)))
+      | inr w ↦ certain (inr (w.0, w.1, record { dev = h.0; scripts = h.1; reads = h.2; given = w.2 }))
+    ])
+  ])
+
+module _ (files : Files) (bytes : HoldBytes files) where
+  check_answers : (project : List ℕ) → Possible (Answers files (check_task project))
+  check_answers project = after_reading files project (check_task project) (λ dev scripts r. certain (inr (Done, check_text dev, (refl, refl))))
+
+  status_answers : (project : List ℕ) → Possible (Answers files (status_task project))
+  status_answers project = after_reading files project (status_task project) (λ dev scripts r. elim (limits project dev) [
+    | inl s ↦ certain (inl s)
+    | inr within ↦ and_then (some_table dev r.proof_texts scripts r.scripts_are) (λ t. certain (inr (Done, table_text t.0, (refl, record { within = within; rows = t.0; are = t.1; text_is = refl }))))
+  ])
+
+  po_answers : (project : List ℕ) → Possible (Answers files (po_task project))
+  po_answers project = after_reading files project (po_task project) (λ dev scripts r. elim (limits project dev) [
+    | inl s ↦ certain (inl s)
+    | inr within ↦ certain (inr (Done, obligations_text (flattened dev).table (numbered_obligations dev), (refl, record { within = within; text_is = refl })))
+  ])
+
+  code_answers : (project : List ℕ) → Possible (Answers files (code_task project))
+  code_answers project = after_reading files project (code_task project) (λ dev scripts r. by dev scripts (is_complete dev) refl)
+    where
+      by : (dev : Development) (scripts : List Script) (b : Bool) → is_complete dev ≡ b → Possible (Looks (StopsRead files (code_task project) dev scripts) ((status : Status) × (text : List ℕ) × IsGiven files (code_task project) dev scripts status text))
+      by dev scripts false e = certain (inl (Incomplete (level_at dev (last dev)).name, inl (refl, e)))
+      by dev scripts true e = and_then (code project (translation dev)) (λ c. elim c [
+        | inl s ↦ certain (inl (s.0, inr (e, s.1)))
+        | inr short ↦ certain (inr (Done, listing (translation dev), (refl, record { complete = e; short = short; text_is = refl })))
+      ])
+
+  -- the translation of what is read passes the loader's checks
+  loadable : (with_proofs : Bool) (project : List ℕ) (dev : Development) (scripts : List Script) → ReadsProject with_proofs files project dev scripts → IsWithinCodeLimits (translation dev) → IsLoadable (translation dev)
+  loadable with_proofs project dev scripts r w =
+      simple_loads dev (is_development r.texts dev r.reads).lawful (is_simple r.texts dev r.reads) w
+
+  build_answers : (project : List ℕ) → Possible (Answers files (build_task project))
+  build_answers project = after_reading files project (build_task project) (λ dev scripts r. and_then (proof project dev r.proof_texts scripts r.scripts_are) (λ p. elim p [
+    | inl s ↦ certain (inl (s.0, inl s.1))
+    | inr finished ↦ and_then (code project (translation dev)) (λ c. elim c [
+      | inl s ↦ certain (inl (s.0, inr (finished, s.1)))
+      | inr short ↦ certain (inr (
+        Done,
+        spelling (translation dev),
+        (
+          refl,
+          record {
+            finished = finished;
+            short = short;
+            encodes = record { loadable = loadable true project dev scripts r short; spelled = short.spelled; is = refl };
+          },
+        ),
+      ))
+    ])
+  ]))
+
+  run_answers : (project calls : List ℕ) (fuel : ℕ) → Possible (Answers files (run_task project calls fuel))
+  run_answers project calls fuel = after_reading files project (run_task project calls fuel) (λ dev scripts r. and_then (proof project dev r.proof_texts scripts r.scripts_are) (λ p. elim p [
+    | inl s ↦ certain (inl (s.0, inl s.1))
+    | inr finished ↦ with_calls dev scripts r finished (file files calls)
+  ]))
+    where
+      -- the call script of code within its limits
+      script_stops : (dev : Development) (stop : Stop) → IsWithinCodeLimits (translation dev) → StopsAtCallScript files calls (translation dev) stop → StopsAtCalls files project calls (translation dev) stop
+      script_stops dev stop w (inl h) = inl h
+      script_stops dev stop w (inr h) = inr (h.0, h.1, inr (w, h.2))
+
+      with_calls : (dev : Development) (scripts : List Script) → ReadsProject true files project dev scripts → IsFinished dev scripts → Looks (StopsAtFile files calls) ((text : List ℕ) × IsTold files calls text) →
+          Possible (Looks (StopsRead files (run_task project calls fuel) dev scripts) ((status : Status) × (text : List ℕ) × IsGiven files (run_task project calls fuel) dev scripts status text))
+      with_calls dev scripts r finished (inl s) = certain (inl (s.0, inr (finished, inl s.1)))
+      with_calls dev scripts r finished (inr t) = and_then (code project (translation dev)) (λ c. elim c [
+        | inl s ↦ certain (inl (s.0, inr (finished, inr (t.0, t.1, inl s.1))))
+        | inr short ↦ elim (played files calls fuel (translation dev) (loadable_is_checked (translation dev) (loadable true project dev scripts r short))) [
+          | inl s ↦ certain (inl (s.0, inr (finished, script_stops dev s.0 short s.1)))
+          | inr p ↦ certain (inr (p.0, p.1, record { finished = finished; short = short; played = p.2 }))
+        ]
+      ])
+
+  -- what a told file holds are bytes
+  bytes_of : (name text : List ℕ) → file_named files name ≡ Some text → AreBytes text
+  bytes_of name text = held_bytes files bytes name text
+
+  exec_answers : (image calls : List ℕ) (fuel : ℕ) → Possible (Answers files (exec_task image calls fuel))
+  exec_answers image calls fuel = elim (file files image) [
+    | inl s ↦ certain (inl (s.0, inl s.1))
+    | inr t ↦
+        let are = bytes_of image t.0 t.1.stands in
+        let told : IsToldAsBytes files image t.0 = record { told = t.1; are_bytes = are } in
+        and_then (some_verdict t.0) (λ l. elim l [
+          | inl h ↦ elim (played files calls fuel h.0 (loadable_is_checked h.0 h.1.loadable)) [
+            | inl s ↦ certain (inl (s.0, inr (t.0, told, inr (h.0, h.1, s.1))))
+            | inr p ↦ certain (inr (p.0, p.1, record { bytes = t.0; told = told; loaded = h.0; encodes = h.1; played = p.2 }))
+          ]
+          | inr h ↦ certain (inl (BadImage h.0, inr (t.0, told, inl (h.0, refl, h.1, h.2))))
+        ])
+  ]
+
+  task_answers : (task : Task) → Possible (Answers files task)
+  task_answers (check_task project) = check_answers project
+  task_answers (status_task project) = status_answers project
+  task_answers (po_task project) = po_answers project
+  task_answers (code_task project) = code_answers project
+  task_answers (build_task project) = build_answers project
+  task_answers (run_task project calls fuel) = run_answers project calls fuel
+  task_answers (exec_task image calls fuel) = exec_answers image calls fuel
+
+-- ---- words
+pub some_answer : HasSomeAnswer
+some_answer files words bytes never = decide ((task : Task) × Asks words task) (λ d. elim d [
+  | inl a ↦ task_answers files bytes a.0 (λ o. elim o [
+    | inl s ↦ never (status_of_stop s.0) (stop_text s.0) (inl (s.0, inr (a.0, a.1, s.1), refl, refl))
+    | inr w ↦ never w.0 w.1 (inr (a.0, a.1, w.2))
+  ])
+  | inr none ↦ never UsageStatus (stop_text Usage) (inl (Usage, inl (refl, λ task a. none (task, a)), refl, refl))
+])
