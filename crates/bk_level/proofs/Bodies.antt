@@ -33,7 +33,7 @@ use Rattle.bk_level.proofs.Starts.{seen-declared, seen-numbered, typed-declared,
 use Rattle.bk_level.proofs.States.{globals-seen, upper-seen}
 use Rattle.bk_dev.specs.Development.{Development}
 
-scope-typed : (int_max : ℤ) (higher : Development) (comp : Component) → IsReady higher → clause_faults int_max (types_at int_max higher comp (plan higher comp)) (plan higher comp) comp ≡ [] → AreTyped (typed (types_at int_max higher comp (plan higher comp)) (scope (plan higher comp)))
+pub scope-typed : (int_max : ℤ) (higher : Development) (comp : Component) → IsReady higher → clause_faults int_max (types_at int_max higher comp (plan higher comp)) (plan higher comp) comp ≡ [] → AreTyped (typed (types_at int_max higher comp (plan higher comp)) (scope (plan higher comp)))
 scope-typed int_max higher comp ready all-said =
     let p = plan higher comp in
     let old = higher in
@@ -50,7 +50,7 @@ scope-typed int_max higher comp ready all-said =
     (typed-all typing (set_names (length old.table.sets) (entries_of comp.sets)) (globals_of old) (typed-sets typing (length old.table.sets) (entries_of comp.sets))
     (typed-all typing (set_names 0 old.table.sets) (constants_from 0 old.homes old.table.variables) (typed-sets typing 0 old.table.sets) (typed-constants typing 0 old.homes old.table.variables (λ m a b. old-typed m (omega arith))))))
 
-typed-bind : (typing : Typing) (a b : Names) → AreTyped (typed typing a) → AreTyped (typed typing b) → AreTyped (typed typing (bind a b))
+pub typed-bind : (typing : Typing) (a b : Names) → AreTyped (typed typing a) → AreTyped (typed typing b) → AreTyped (typed typing (bind a b))
 typed-bind typing [] b h k = k
 typed-bind typing (n ∷ ns) b h k = typed-bind typing ns (n ∷ b) h.1 (h.0, k)
 

@@ -31,3 +31,8 @@ pub mod Lowers
 pub mod LowerStands
 pub mod ValuesStand
 pub mod Developments
+pub mod ArrayNames
+pub mod B0Terms
+pub mod B0Statements
+pub mod B0Heights
+pub mod B0Levels

@@ -167,12 +167,12 @@ module _ (int_max : ℤ) (higher : Development) (comp : Component) (ready : IsRe
       )
 
   -- ---- the component
-  headed-so : header_faults higher comp.operations ≡ [] → p.headed ≡ lowers 0 higher.heads
+  pub headed-so : header_faults higher comp.operations ≡ [] → p.headed ≡ lowers 0 higher.heads
   headed-so h =
       cond-false (is_machine comp.kind) (machine_headed p.inputs_at comp.operations) (lowers 0 higher.heads ++ other_headed far higher.heads comp.operations) below
       ∙ (ap (λ l. lowers 0 higher.heads ++ l) (others-none higher far comp.operations h) ∙ join-none (lowers 0 higher.heads))
 
-  heads-so : p.heads ≡ higher.heads
+  pub heads-so : p.heads ≡ higher.heads
   heads-so = cond-false (is_machine comp.kind) (machine_heads p.inputs_at comp.operations) higher.heads below
 
   abbrev first : ℕ
@@ -198,7 +198,7 @@ module _ (int_max : ℤ) (higher : Development) (comp : Component) (ready : IsRe
       get-right w0 (w1 ++ (w2 ++ (w3 ++ w4))) i0 (omega arith) ∙ (get-right w1 (w2 ++ (w3 ++ w4)) i1 (omega arith) ∙ (get-right w2 (w3 ++ w4) i2 (omega arith) ∙ (ap (slice_get (w3 ++ w4)) i3 ∙ get-left w3 w4 j l)))
 
   -- inputs and outputs of one operation differ
-  twice-none : name_faults higher comp ≡ [] → header_twice comp.operations ≡ []
+  pub twice-none : name_faults higher comp ≡ [] → header_twice comp.operations ≡ []
   twice-none h =
       let a = taken (level_texts higher.levels) (comp.name ∷ []) in
       let b = twice (named_texts (globals_of higher)) comp.declared in

@@ -56,7 +56,7 @@ either-count : (c : Bool) (a b : List Way) (n : ℕ) → length a ≡ n → leng
 either-count true a b n h k = h
 either-count false a b n h k = k
 
-output-count : (kind : Kind) (p : Plan) (n b : ℕ) (hs : List Headed) → length (all_output_ways kind p (placed n b hs)) ≡ output_count hs
+pub output-count : (kind : Kind) (p : Plan) (n b : ℕ) (hs : List Headed) → length (all_output_ways kind p (placed n b hs)) ≡ output_count hs
 output-count kind p n b [] = refl
 output-count kind p n b (h ∷ hs) =
     let o : Placed = record { headed = h; outputs_at = n; binders_at = b } in

@@ -21,7 +21,7 @@ abbrev pub has_name : List RawName → Bool
 has_name [] = false
 has_name (x ∷ xs) = true
 
--- a set that is a name alone is no type yet
+-- a set that is a name alone is no type yet: no text has one, only a tree that is made otherwise, and so each set of the table has an element
 abbrev pub set_faults : List RawSet → List Fault
 set_faults [] = []
 set_faults (s ∷ ss) = cond (has_name s.elements) [] (no_type s.name.at) ++ set_faults ss

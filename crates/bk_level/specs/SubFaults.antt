@@ -100,7 +100,7 @@ abbrev pub declared_faults : Typing → ℕ → List RawName → List Fault
 declared_faults typing n [] = []
 declared_faults typing n (x ∷ xs) = cond (has_type (typing n)) [] (no_type x.at) ++ declared_faults typing (suc n) xs
 
--- the old value of a variable that has a type has the same one
+-- the old value of a variable that has a type has the same one (it always does, since its way is that of the variable: nothing is told here)
 abbrev pub old_faults : Typing → Names → ℕ → List RawName → List Fault
 old_faults typing names n [] = []
 old_faults typing names n (x ∷ xs) = cond (is_same_option (type_at typing (target names x.text)) (typing n)) [] (no_type x.at) ++ old_faults typing names (suc n) xs

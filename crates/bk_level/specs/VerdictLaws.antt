@@ -1,6 +1,6 @@
 -- What a caller needs of the answer: that there is one, what it says, that what is accepted is a development, and that an
 -- implementation is in B0.
-use Rattle.std.specs.Prelude.{◌≡◌, ◌<◌, ◌≤◌, ◌^◌, ℕ, ℤ, true, false, List, [], ◌∷◌, ◌++◌, length, Option, None, Some}
+use Rattle.std.specs.Prelude.{◌≡◌, ◌<◌, ◌≤◌, ◌^◌, ℕ, ℤ, true, false, List, [], length, Option, None, Some}
 use Rattle.bk_form.specs.declared.token.Token.{Token}
 use Rattle.bk_elab.specs.Blame.{IsBlameOf}
 use Rattle.bk_dev.specs.Development.{Development, int_max as machine_max, is_complete}
@@ -19,11 +19,11 @@ use Rattle.bk_raw.specs.ComponentSpelling.{SpellsComponent}
 use Rattle.bk_raw.specs.Limits.{IsLowComponent}
 use Rattle.bk_raw.specs.Names.{level_name}
 use Rattle.bk_raw.specs.Outcome.{Fault}
-use Rattle.bk_level.specs.Components.{Component, component_of}
+use Rattle.bk_level.specs.Components.{Component}
 use Rattle.bk_level.specs.Above.{above_of, stem}
 use Rattle.bk_level.specs.DeclaredNames.{declares_too_many}
 use Rattle.bk_level.specs.LevelLaws.{HomesStandInLevels}
-use Rattle.bk_level.specs.Verdict.{Verdict, accepted, at_fault, past_limit, level_below, all_faults, verdict_below, verdict_of}
+use Rattle.bk_level.specs.Verdict.{accepted, at_fault, past_limit, level_below, all_faults, verdict_below, verdict_of}
 
 -- ---- at most one level
 -- tokens are written as at most one component, and so have at most one answer
@@ -70,7 +70,7 @@ AcceptedIsDevelopment = (above : Option Development) (written : RawComponent) (d
 -- ---- B0
 -- an implementation that is accepted is in B0, where no tree in it is higher than 1000
 abbrev pub AcceptedIsInB0 : Type 0
-AcceptedIsInB0 = (above : Option Development) (written : RawComponent) (dev : Development) → MayStandAbove written.kind above → HomesStandInLevels (above_of above) → written.kind ≡ Implementation → IsLowComponent written → verdict_of (machine_max (above_of above)) above written ≡ accepted dev → IsB0Development dev
+AcceptedIsInB0 = (above : Option Development) (written : RawComponent) (dev : Development) → MayStandAbove written.kind above → written.kind ≡ Implementation → IsLowComponent written → verdict_of (machine_max (above_of above)) above written ≡ accepted dev → IsB0Development dev
 
 -- ---- names
 -- the name of a variable of level k is found in its text

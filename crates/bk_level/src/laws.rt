@@ -5,7 +5,7 @@ ghost use Rattle.bk_level.specs.LevelLaws.{LevelsBindIntervals, BindersStandApar
 ghost use Rattle.bk_level.specs.Sources.{SettledTypesAreListed, ComponentsStand};
 ghost use Rattle.bk_level.specs.ShapeLaws.{ShapesAreRight};
 ghost use Rattle.bk_level.specs.SubLaws.{BindersAreIntervals, SubstitutionsType, SubstitutionsStay};
-ghost use Rattle.bk_level.specs.VerdictLaws.{TokensHaveOneVerdict, AcceptedHasNoFault, StemsAreNames, LocalsStayApart, AcceptedMachineIsDevelopment, AcceptedRefinementIsDevelopment, AcceptedIsDevelopment};
+ghost use Rattle.bk_level.specs.VerdictLaws.{TokensHaveOneVerdict, AcceptedHasNoFault, StemsAreNames, LocalsStayApart, AcceptedMachineIsDevelopment, AcceptedRefinementIsDevelopment, AcceptedIsDevelopment, AcceptedIsInB0};
 
 /// Small components, to be checked by hand: the developments that they are, what the words of the notation stand for, and which
 /// faults are told.
@@ -71,4 +71,5 @@ pub fn answers()
     ensures machine { AcceptedMachineIsDevelopment }
     ensures refinement { AcceptedRefinementIsDevelopment }
     ensures development { AcceptedIsDevelopment }
+    ensures executable { AcceptedIsInB0 }
 {}

@@ -1,3 +1,4 @@
+use Rattle.bk_level.proofs.B0Levels.{always-b0}
 use Rattle.bk_level.proofs.Developments.{always-development}
 use Rattle.bk_level.proofs.LowerStands.{refinement-accepted}
 use Rattle.bk_level.proofs.MachineStands.{machine-accepted}
@@ -28,3 +29,6 @@ returns-clause-refinement c = refinement-accepted
 
 pub returns-clause-development : goal.returns-clause-development
 returns-clause-development c = always-development
+
+pub returns-clause-executable : goal.returns-clause-executable
+returns-clause-executable c = always-b0
