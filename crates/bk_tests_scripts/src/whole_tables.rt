@@ -1,10 +1,11 @@
-// Whole status tables, and how many rows are obvious, proved and open.
+// Whole status tables, as they are printed.
 
 use bk_dev::Development;
 use bk_developments::{chain, over, pick, spin, upper};
 use bk_examples::tally;
 use bk_scripts::{Script, ScriptFault, scripts};
-use bk_status::{State, Table, status};
+use bk_status::status;
+use bk_texts::table_text;
 use std::alloc::Global;
 use std::test::Fail;
 
@@ -15,38 +16,10 @@ fn read(alloc: Global, text: &str) -> Result<Vec<Script>, ScriptFault> {
     scripts(alloc, &files)
 }
 
-// The table of the development under a proof file.
-fn table(alloc: Global, dev: &Development, proofs: &str) -> Result<Table, Fail> {
-    let scripts = read(alloc, proofs)?;
-    Ok(status(alloc, dev, &scripts)?)
-}
-
-// Whether these are all its rows, in this order.
-fn has_rows(table: &Table, wanted: &[(&str, State)]) -> bool {
-    if table.rows.len() != wanted.len() {
-        return false;
-    }
-    for (row, (name, state)) in table.rows.iter().zip(wanted) {
-        if row.name.as_bytes() != name.as_bytes() || row.state != *state {
-            return false;
-        }
-    }
-    true
-}
-
-// Its rows, and those of them that are obvious, that are proved, and that are neither.
-fn counts(table: &Table) -> (usize, usize, usize, usize) {
-    let mut obvious = 0usize;
-    let mut proved = 0usize;
-    let mut open = 0usize;
-    for row in &table.rows {
-        match row.state {
-            State::Obvious => obvious = obvious.saturating_add(1),
-            State::Proved => proved = proved.saturating_add(1),
-            _ => open = open.saturating_add(1),
-        }
-    }
-    (table.rows.len(), obvious, proved, open)
+fn printed(alloc: Global, dev: &Development, scripts: &[Script]) -> Result<Vec<u8>, Fail> {
+    let table = status(alloc, dev, scripts)?;
+    let text = table_text(alloc, &table.rows)?;
+    Ok(text)
 }
 
 // ---- the adder
@@ -68,27 +41,27 @@ proof Tally_i.inc.chk.2
 end
 ";
 
-const TALLY: [(&str, State); 12] = [
-    ("Tally.INITIALISATION.1", State::Obvious),
-    ("Tally.inc.1", State::Proved),
-    ("Tally.get.1", State::Obvious),
-    ("Tally_i.INITIALISATION.1", State::Obvious),
-    ("Tally_i.INITIALISATION.2", State::Obvious),
-    ("Tally_i.inc.1", State::Proved),
-    ("Tally_i.inc.2", State::Proved),
-    ("Tally_i.get.1", State::Obvious),
-    ("Tally_i.get.2", State::Obvious),
-    ("Tally_i.get.3", State::Obvious),
-    ("Tally_i.inc.chk.1", State::Proved),
-    ("Tally_i.inc.chk.2", State::Proved),
-];
+const TALLY_TABLE: &str = "Tally.INITIALISATION.1 obvious
+Tally.inc.1 proved
+Tally.get.1 obvious
+Tally_i.INITIALISATION.1 obvious
+Tally_i.INITIALISATION.2 obvious
+Tally_i.inc.1 proved
+Tally_i.inc.2 proved
+Tally_i.get.1 obvious
+Tally_i.get.2 obvious
+Tally_i.get.3 obvious
+Tally_i.inc.chk.1 proved
+Tally_i.inc.chk.2 proved
+12 obligations: 7 obvious, 5 proved, 0 open
+";
 
 #[test]
 fn the_adder(rt: HostRuntime) -> Result<(), Fail> {
     let dev = tally(rt.alloc())?;
-    let table = table(rt.alloc(), &dev, TALLY_PROOFS)?;
-    assert!(rt; has_rows(&table, &TALLY));
-    assert!(rt; counts(&table) == (12, 7, 5, 0));
+    let scripts = read(rt.alloc(), TALLY_PROOFS)?;
+    let text = printed(rt.alloc(), &dev, &scripts)?;
+    assert!(rt; text.as_slice() == TALLY_TABLE.as_bytes());
     Ok(())
 }
 
@@ -99,99 +72,100 @@ const TOO_WIDE: &str = "proof Tally.inc.1
 end
 ";
 
-const TALLY_TOO_WIDE: [(&str, State); 12] = [
-    ("Tally.INITIALISATION.1", State::Obvious),
-    ("Tally.inc.1", State::BadStep(3)),
-    ("Tally.get.1", State::Obvious),
-    ("Tally_i.INITIALISATION.1", State::Obvious),
-    ("Tally_i.INITIALISATION.2", State::Obvious),
-    ("Tally_i.inc.1", State::NoScript),
-    ("Tally_i.inc.2", State::NoScript),
-    ("Tally_i.get.1", State::Obvious),
-    ("Tally_i.get.2", State::Obvious),
-    ("Tally_i.get.3", State::Obvious),
-    ("Tally_i.inc.chk.1", State::NoScript),
-    ("Tally_i.inc.chk.2", State::NoScript),
-];
+const TOO_WIDE_TABLE: &str = "Tally.INITIALISATION.1 obvious
+Tally.inc.1 bad step 3
+Tally.get.1 obvious
+Tally_i.INITIALISATION.1 obvious
+Tally_i.INITIALISATION.2 obvious
+Tally_i.inc.1 no script
+Tally_i.inc.2 no script
+Tally_i.get.1 obvious
+Tally_i.get.2 obvious
+Tally_i.get.3 obvious
+Tally_i.inc.chk.1 no script
+Tally_i.inc.chk.2 no script
+12 obligations: 7 obvious, 0 proved, 5 open
+";
 
 #[test]
 fn a_sum_that_is_too_wide(rt: HostRuntime) -> Result<(), Fail> {
     let dev = tally(rt.alloc())?;
-    let table = table(rt.alloc(), &dev, TOO_WIDE)?;
-    assert!(rt; has_rows(&table, &TALLY_TOO_WIDE));
-    assert!(rt; counts(&table) == (12, 7, 0, 5));
+    let scripts = read(rt.alloc(), TOO_WIDE)?;
+    let text = printed(rt.alloc(), &dev, &scripts)?;
+    assert!(rt; text.as_slice() == TOO_WIDE_TABLE.as_bytes());
     Ok(())
 }
 
 // ---- without scripts
-fn bare(alloc: Global, dev: &Development) -> Result<Table, Fail> {
-    Ok(status(alloc, dev, &[])?)
+// Whether the text is the table of the development.
+fn is_table(alloc: Global, dev: &Development, wanted: &str) -> Result<bool, Fail> {
+    let text = printed(alloc, dev, &[])?;
+    Ok(text.as_slice() == wanted.as_bytes())
 }
 
-const OVER: [(&str, State); 8] = [
-    ("Over.INITIALISATION.1", State::Obvious),
-    ("Over.over.1", State::Obvious),
-    ("Over_i.INITIALISATION.1", State::Obvious),
-    ("Over_i.INITIALISATION.2", State::Obvious),
-    ("Over_i.over.1", State::Obvious),
-    ("Over_i.over.2", State::Obvious),
-    ("Over_i.over.chk.1", State::Obvious),
-    ("Over_i.over.chk.2", State::NoScript),
-];
+// Whether the table ends so.
+fn ends_so(alloc: Global, dev: &Development, wanted: &str) -> Result<bool, Fail> {
+    let text = printed(alloc, dev, &[])?;
+    Ok(text.ends_with(wanted.as_bytes()))
+}
+
+const OVER_TABLE: &str = "Over.INITIALISATION.1 obvious
+Over.over.1 obvious
+Over_i.INITIALISATION.1 obvious
+Over_i.INITIALISATION.2 obvious
+Over_i.over.1 obvious
+Over_i.over.2 obvious
+Over_i.over.chk.1 obvious
+Over_i.over.chk.2 no script
+8 obligations: 7 obvious, 0 proved, 1 open
+";
 
 #[test]
 fn a_number_past_the_greatest(rt: HostRuntime) -> Result<(), Fail> {
     let dev = over(rt.alloc())?;
-    let table = bare(rt.alloc(), &dev)?;
-    assert!(rt; has_rows(&table, &OVER));
-    assert!(rt; counts(&table) == (8, 7, 0, 1));
+    assert!(rt; is_table(rt.alloc(), &dev, OVER_TABLE)?);
     Ok(())
 }
 
-const PICK: [(&str, State); 2] = [
-    ("Two.INITIALISATION.1", State::Obvious),
-    ("Two.pick.1", State::NoScript),
-];
+const PICK_TABLE: &str = "Two.INITIALISATION.1 obvious
+Two.pick.1 no script
+2 obligations: 1 obvious, 0 proved, 1 open
+";
 
 #[test]
 fn a_machine_alone(rt: HostRuntime) -> Result<(), Fail> {
     let dev = pick(rt.alloc())?;
-    let table = bare(rt.alloc(), &dev)?;
-    assert!(rt; has_rows(&table, &PICK));
-    assert!(rt; counts(&table) == (2, 1, 0, 1));
+    assert!(rt; is_table(rt.alloc(), &dev, PICK_TABLE)?);
     Ok(())
 }
 
 #[test]
 fn a_refinement(rt: HostRuntime) -> Result<(), Fail> {
     let dev = upper(rt.alloc())?;
-    let table = bare(rt.alloc(), &dev)?;
-    assert!(rt; counts(&table) == (13, 13, 0, 0));
+    let last = "\n13 obligations: 13 obvious, 0 proved, 0 open\n";
+    assert!(rt; ends_so(rt.alloc(), &dev, last)?);
     Ok(())
 }
 
 #[test]
 fn a_refinement_and_an_implementation(rt: HostRuntime) -> Result<(), Fail> {
     let dev = chain(rt.alloc())?;
-    let table = bare(rt.alloc(), &dev)?;
-    assert!(rt; counts(&table) == (22, 22, 0, 0));
+    let last = "\n22 obligations: 22 obvious, 0 proved, 0 open\n";
+    assert!(rt; ends_so(rt.alloc(), &dev, last)?);
     Ok(())
-}
-
-// Whether the first open row has this name.
-fn is_open_at(table: &Table, name: &str) -> bool {
-    match table.first_open() {
-        Some(row) => row.name.as_bytes() == name.as_bytes(),
-        None => false,
-    }
 }
 
 // The loop's last four obligations need proof.
 #[test]
 fn a_loop_that_never_ends(rt: HostRuntime) -> Result<(), Fail> {
     let dev = spin(rt.alloc())?;
-    let table = bare(rt.alloc(), &dev)?;
-    assert!(rt; counts(&table) == (19, 15, 0, 4));
-    assert!(rt; is_open_at(&table, "Counter_i.spin.2"));
+    let last = "Counter_i.spin.1 obvious
+Counter_i.spin.2 no script
+Counter_i.spin.3 no script
+Counter_i.spin.4 no script
+Counter_i.spin.5 no script
+19 obligations: 15 obvious, 0 proved, 4 open
+";
+    assert!(rt; ends_so(rt.alloc(), &dev, last)?);
     Ok(())
 }
