@@ -1,5 +1,0 @@
-pub mod Plain
-pub mod Entries
-pub mod Parts
-pub mod Clauses
-pub mod Faults
