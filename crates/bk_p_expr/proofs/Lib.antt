@@ -4,7 +4,6 @@ pub mod Types
 pub mod Leaves
 pub mod Binders
 pub mod Heights
-pub mod Sizes
 pub mod Fuel
 pub mod Written
 pub mod Arguments
@@ -16,4 +15,3 @@ pub mod Places
 pub mod Enclosed
 pub mod Behind
 pub mod Begun
-pub mod Known

@@ -5,7 +5,6 @@ mod bars;
 mod depth;
 mod divider;
 mod fault;
-mod free;
 mod front;
 mod opening;
 mod piece;
@@ -13,8 +12,5 @@ mod printed_type;
 mod reader;
 mod terms;
 
-pub use depth::too_deep;
 pub use fault::SynFault;
-pub use free::{Conjunct, conjuncts};
-pub use piece::{Piece, Terms};
-pub use reader::{front_term, term};
+pub use reader::term;

@@ -1,19 +1,12 @@
 // Terms on the way to being built: none is built that is too high.
 
-ghost use Rattle.std.specs.Prelude.{◌≡◌, ◌<◌, ◌++◌, ℕ, None, [], ◌∷◌, IfOk};
-ghost use Rattle.bk_raw.specs.FreeNames.{conjuncts};
-ghost use Rattle.bk_raw.specs.RawTree.{RawTree, RawTrees, RawRanges, raw, node_height, tree_height, trees_height, ranges_height, raw_extension, raw_infix, raw_ranged_comprehension, raw_ranged_lambda};
+ghost use Rattle.std.specs.Prelude.{◌≡◌, IfOk};
+ghost use Rattle.bk_raw.specs.RawTree.{RawTree, RawTrees, RawRanges, raw, node_height, raw_extension, raw_ranged_comprehension, raw_ranged_lambda};
 ghost use Rattle.bk_raw.specs.RawView.{node_of, tree_of};
 ghost use Rattle.bk_raw.specs.Reading.{moved};
-ghost use Rattle.bk_raw.specs.declared.operator.InfixOp.TheVariants.{And, Equal};
-ghost use Rattle.bk_p_expr.specs.Conjuncts.{AreConjuncts, definition, free_names, free_names_of, free_names_of_ranges, name_alone};
 ghost use Rattle.bk_p_expr.specs.Pieces.{IsPiece, IsTerms, IsRanges, around_node, between_node, and_tree, and_range};
 
-use crate::free::{
-    Conjunct, beside, conjuncts, free_names, free_names_of, free_names_of_ranges, joined,
-    name_alone, names_of_conjuncts, without,
-};
-use bk_io::{Memory, Text};
+use bk_io::Memory;
 use bk_raw::{InfixOp, RawBound, RawName, RawNode, RawRange, RawTerm, WordOp};
 use std::alloc::Global;
 
@@ -22,11 +15,9 @@ const HIGHEST: usize = 1000;
 
 /// A term with the height of its tree, or that one is written whose tree is too high.
 #[derive(Drop)]
-pub enum Piece {
-    /// The term, and how many nodes lie on its longest way down.
+pub(crate) enum Piece {
     Built(RawTerm, usize),
-    /// What `&` joins in the term.
-    High(Vec<Conjunct>),
+    High,
 }
 
 /// What is built around one term.
@@ -71,37 +62,7 @@ impl Piece {
                 let node = term.node;
                 Piece::Built(RawTerm { at, node }, height)
             }
-            Piece::High(known) => Piece::High(known),
-        }
-    }
-
-    /// A term that is too high, and in which these names stand free. It is not joined by `&`.
-    fn too_high(alloc: Global, free: Vec<Text>) -> Result<Piece, Memory>
-        ensures { IfOk result (λ r. (tree : RawTree) → 1000 < tree_height tree → conjuncts tree ≡ tree ∷ [] →
-            definition tree ≡ (None, tree) → free.items ≡ free_names tree → IsPiece tree r) }
-    {
-        let mut known = Vec::new(alloc);
-        known.push(Conjunct { name: None, free })?;
-        Ok(Piece::High(known))
-    }
-
-    /// The names that stand free in the term.
-    fn free(self, alloc: Global) -> Result<Vec<Text>, Memory>
-        ensures { IfOk result (λ r. (tree : RawTree) → IsPiece tree self → r.items ≡ free_names tree) }
-    {
-        match self {
-            Piece::Built(term, _) => free_names(alloc, &term),
-            Piece::High(known) => names_of_conjuncts(alloc, &known),
-        }
-    }
-
-    /// What `&` joins in the term.
-    fn known(self, alloc: Global) -> Result<Vec<Conjunct>, Memory>
-        ensures { IfOk result (λ r. (tree : RawTree) → IsPiece tree self → AreConjuncts (conjuncts tree) r.items) }
-    {
-        match self {
-            Piece::Built(term, _) => conjuncts(alloc, &term),
-            Piece::High(known) => Ok(known),
+            Piece::High => Piece::High,
         }
     }
 
@@ -110,10 +71,10 @@ impl Piece {
         ensures { IfOk result (λ r. (tree : RawTree) → IsPiece tree self → IsPiece (raw at (around_node form tree)) r) }
     {
         let Piece::Built(term, height) = self else {
-            return form.too_high(alloc, self);
+            return Ok(Piece::High);
         };
         if height >= HIGHEST {
-            return form.too_high(alloc, Piece::Built(term, height));
+            return Ok(Piece::High);
         }
         let node = node_around(form, Box::new(alloc, term)?);
         Ok(Piece::Built(RawTerm { at, node }, height + 1))
@@ -131,128 +92,20 @@ impl Piece {
             IsPiece (raw at (between_node form left right)) r) }
     {
         let Piece::Built(left, one) = self else {
-            return form.too_high(alloc, self, other);
+            return Ok(Piece::High);
         };
         let Piece::Built(right, two) = other else {
-            return form.too_high(alloc, Piece::Built(left, one), other);
+            return Ok(Piece::High);
         };
         let height = one.max(two);
         if height >= HIGHEST {
-            return form.too_high(alloc, Piece::Built(left, one), Piece::Built(right, two));
+            return Ok(Piece::High);
         }
         let left = Box::new(alloc, left)?;
         let right = Box::new(alloc, right)?;
         let node = node_between(form, left, right);
         Ok(Piece::Built(RawTerm { at, node }, height + 1))
     }
-}
-
-/// The name that the term is, if it is one.
-fn name_of(alloc: Global, piece: &Piece) -> Result<Option<Text>, Memory>
-    ensures { IfOk result (λ r. (tree : RawTree) → IsPiece tree piece.now → r ≡ name_alone tree) }
-{
-    let Piece::Built(term, _) = piece else {
-        return Ok(None);
-    };
-    let Some(text) = name_alone(term) else {
-        return Ok(None);
-    };
-    let name = text.copy(alloc)?;
-    Ok(Some(name))
-}
-
-impl Around {
-    /// What is kept of a term around this one that is too high.
-    fn too_high(self, alloc: Global, inside: Piece) -> Result<Piece, Memory>
-        ensures { IfOk result (λ r. (at : ℕ) (tree : RawTree) → 1000 < tree_height (raw at (around_node self tree)) →
-            IsPiece tree inside → IsPiece (raw at (around_node self tree)) r) }
-    {
-        let free = inside.free(alloc)?;
-        match self {
-            Around::Comprehension(names) => Piece::too_high(alloc, without(&names, free)),
-            Around::ForAll(names) => Piece::too_high(alloc, without(&names, free)),
-            Around::Exists(names) => Piece::too_high(alloc, without(&names, free)),
-            Around::Word(_) => Piece::too_high(alloc, free),
-            Around::Negative => Piece::too_high(alloc, free),
-            Around::Inverse => Piece::too_high(alloc, free),
-            Around::TypedForAll(_) => Piece::too_high(alloc, free),
-            Around::TypedExists(_) => Piece::too_high(alloc, free),
-        }
-    }
-}
-
-impl Between {
-    /// What is kept of a term of these two that is too high.
-    fn too_high(self, alloc: Global, left: Piece, right: Piece) -> Result<Piece, Memory>
-        ensures { IfOk result (λ r. (at : ℕ) (a b : RawTree) → 1000 < tree_height (raw at (between_node self a b)) →
-            IsPiece a left → IsPiece b right → IsPiece (raw at (between_node self a b)) r) }
-    {
-        match self {
-            Between::Infix(op) => infix_too_high(alloc, op, left, right),
-            Between::Lambda(names) => {
-                let free = both_free(alloc, left, right)?;
-                Piece::too_high(alloc, without(&names, free))
-            }
-            Between::Image => Piece::too_high(alloc, both_free(alloc, left, right)?),
-            Between::Apply => Piece::too_high(alloc, both_free(alloc, left, right)?),
-            Between::Composition => Piece::too_high(alloc, both_free(alloc, left, right)?),
-            Between::Pair => Piece::too_high(alloc, both_free(alloc, left, right)?),
-        }
-    }
-}
-
-/// The names that stand free in both, those of the left one first.
-fn both_free(alloc: Global, left: Piece, right: Piece) -> Result<Vec<Text>, Memory>
-    ensures { IfOk result (λ r. (a b : RawTree) → IsPiece a left → IsPiece b right →
-        r.items ≡ free_names a ++ free_names b) }
-{
-    let one = left.free(alloc)?;
-    let other = right.free(alloc)?;
-    joined(one, other)
-}
-
-/// What is kept of an operator's term that is too high.
-fn infix_too_high(alloc: Global, op: InfixOp, left: Piece, right: Piece) -> Result<Piece, Memory>
-    ensures { IfOk result (λ r. (at : ℕ) (a b : RawTree) → 1000 < tree_height (raw at (raw_infix op a b)) →
-        IsPiece a left → IsPiece b right → IsPiece (raw at (raw_infix op a b)) r) }
-{
-    match op {
-        InfixOp::And => conjunction(alloc, left, right),
-        InfixOp::Equal => equation(alloc, left, right),
-        _ => {
-            let one = left.free(alloc)?;
-            let other = right.free(alloc)?;
-            Piece::too_high(alloc, beside(op, one, other)?)
-        }
-    }
-}
-
-/// What is kept of a conjunction that is too high.
-fn conjunction(alloc: Global, left: Piece, right: Piece) -> Result<Piece, Memory>
-    ensures { IfOk result (λ r. (at : ℕ) (a b : RawTree) → 1000 < tree_height (raw at (raw_infix And a b)) →
-        IsPiece a left → IsPiece b right → IsPiece (raw at (raw_infix And a b)) r) }
-{
-    let mut known = left.known(alloc)?;
-    let mut behind = right.known(alloc)?;
-    known.append(&mut behind)?;
-    Ok(Piece::High(known))
-}
-
-/// What is kept of an equation that is too high.
-fn equation(alloc: Global, left: Piece, right: Piece) -> Result<Piece, Memory>
-    ensures { IfOk result (λ r. (at : ℕ) (a b : RawTree) → 1000 < tree_height (raw at (raw_infix Equal a b)) →
-        IsPiece a left → IsPiece b right → IsPiece (raw at (raw_infix Equal a b)) r) }
-{
-    let Some(name) = name_of(alloc, &left)? else {
-        return Piece::too_high(alloc, both_free(alloc, left, right)?);
-    };
-    let free = right.free(alloc)?;
-    let mut known = Vec::new(alloc);
-    known.push(Conjunct {
-        name: Some(name),
-        free,
-    })?;
-    Ok(Piece::High(known))
 }
 
 fn node_around(form: Around, term: Box<RawTerm>) -> RawNode
@@ -283,144 +136,66 @@ fn node_between(form: Between, left: Box<RawTerm>, right: Box<RawTerm>) -> RawNo
     }
 }
 
-/// Terms in a list on the way to being built, with the height of the highest. Where one is too high, the names that stand
-/// free in them are kept.
+/// Terms in a list on the way to being built, with the height of the highest. Where one is too high, none is kept.
 #[derive(Drop)]
-pub enum Terms {
+pub(crate) enum Terms {
     Built(Vec<RawTerm>, usize),
-    High(Vec<Text>),
+    High,
 }
 
 impl Terms {
     /// These terms and one more.
-    pub fn and(self, alloc: Global, piece: Piece) -> Result<Terms, Memory>
+    pub(crate) fn and(self, piece: Piece) -> Result<Terms, Memory>
         ensures { IfOk result (λ r. (trees : RawTrees) (tree : RawTree) → IsTerms trees self → IsPiece tree piece →
             IsTerms (and_tree trees tree) r) }
     {
         let Terms::Built(mut terms, height) = self else {
-            return self.and_too_high(alloc, piece);
+            return Ok(Terms::High);
         };
         let Piece::Built(term, other) = piece else {
-            return Terms::Built(terms, height).and_too_high(alloc, piece);
+            return Ok(Terms::High);
         };
         terms.push(term)?;
         Ok(Terms::Built(terms, height.max(other)))
     }
 
-    /// What is kept of these terms and one more where one is too high.
-    fn and_too_high(self, alloc: Global, piece: Piece) -> Result<Terms, Memory>
-        ensures { IfOk result (λ r. (trees : RawTrees) (tree : RawTree) → 1000 < trees_height (and_tree trees tree) →
-            IsTerms trees self → IsPiece tree piece → IsTerms (and_tree trees tree) r) }
-    {
-        let free = self.free(alloc)?;
-        let other = piece.free(alloc)?;
-        Ok(Terms::High(joined(free, other)?))
-    }
-
-    /// The names that stand free in them.
-    fn free(self, alloc: Global) -> Result<Vec<Text>, Memory>
-        ensures { IfOk result (λ r. (trees : RawTrees) → IsTerms trees self → r.items ≡ free_names_of trees) }
-    {
-        match self {
-            Terms::Built(terms, _) => free_names_of(alloc, &terms),
-            Terms::High(free) => Ok(free),
-        }
-    }
-
     /// `{a, b, c}`.
-    pub(crate) fn extension(self, alloc: Global, at: usize) -> Result<Piece, Memory>
-        ensures { IfOk result (λ r. (trees : RawTrees) → IsTerms trees self →
-            IsPiece (raw at (raw_extension trees)) r) }
+    pub(crate) fn extension(self, at: usize) -> Piece
+        ensures { (trees : RawTrees) → IsTerms trees self → IsPiece (raw at (raw_extension trees)) result }
     {
         let Terms::Built(terms, height) = self else {
-            let free = self.free(alloc)?;
-            return Piece::too_high(alloc, free);
+            return Piece::High;
         };
         if height >= HIGHEST {
-            let free = Terms::Built(terms, height).free(alloc)?;
-            return Piece::too_high(alloc, free);
+            return Piece::High;
         }
         let node = RawNode::Extension(terms);
-        Ok(Piece::Built(RawTerm { at, node }, height + 1))
+        Piece::Built(RawTerm { at, node }, height + 1)
     }
 }
 
 /// Bound variables with their ranges on the way to being built, with the height of the highest range. Where one is too
-/// high, the names that stand free in the ranges are kept.
+/// high, none is kept.
 #[derive(Drop)]
 pub(crate) enum Ranges {
     Built(Vec<RawRange>, usize),
-    High(Vec<Text>),
+    High,
 }
 
 impl Ranges {
     /// These bound variables and one more.
-    pub(crate) fn and(
-        self,
-        alloc: Global,
-        at: usize,
-        number: u32,
-        piece: Piece,
-    ) -> Result<Ranges, Memory>
+    pub(crate) fn and(self, at: usize, number: u32, piece: Piece) -> Result<Ranges, Memory>
         ensures { IfOk result (λ r. (ranges : RawRanges) (tree : RawTree) → IsRanges ranges self → IsPiece tree piece →
             IsRanges (and_range ranges at number tree) r) }
     {
         let Ranges::Built(mut ranges, height) = self else {
-            return self.and_too_high(alloc, piece);
+            return Ok(Ranges::High);
         };
         let Piece::Built(range, other) = piece else {
-            return Ranges::Built(ranges, height).and_too_high(alloc, piece);
+            return Ok(Ranges::High);
         };
         ranges.push(RawRange { at, number, range })?;
         Ok(Ranges::Built(ranges, height.max(other)))
-    }
-
-    /// What is kept of these and one more where a range is too high.
-    fn and_too_high(self, alloc: Global, piece: Piece) -> Result<Ranges, Memory>
-        ensures { IfOk result (λ r. (ranges : RawRanges) (at number : ℕ) (tree : RawTree) →
-            1000 < ranges_height (and_range ranges at number tree) → IsRanges ranges self → IsPiece tree piece →
-            IsRanges (and_range ranges at number tree) r) }
-    {
-        let free = self.free(alloc)?;
-        let other = piece.free(alloc)?;
-        Ok(Ranges::High(joined(free, other)?))
-    }
-
-    /// The names that stand free in the ranges.
-    fn free(self, alloc: Global) -> Result<Vec<Text>, Memory>
-        ensures { IfOk result (λ r. (ranges : RawRanges) → IsRanges ranges self →
-            r.items ≡ free_names_of_ranges ranges) }
-    {
-        match self {
-            Ranges::Built(ranges, _) => free_names_of_ranges(alloc, &ranges),
-            Ranges::High(free) => Ok(free),
-        }
-    }
-
-    /// What is kept of `{$1:d | p}` where it is too high.
-    fn comprehension_too_high(self, alloc: Global, body: Piece) -> Result<Piece, Memory>
-        ensures { IfOk result (λ r. (at : ℕ) (ranges : RawRanges) (p : RawTree) →
-            1000 < tree_height (raw at (raw_ranged_comprehension ranges p)) → IsRanges ranges self → IsPiece p body →
-            IsPiece (raw at (raw_ranged_comprehension ranges p)) r) }
-    {
-        let one = self.free(alloc)?;
-        let other = body.free(alloc)?;
-        let free = joined(one, other)?;
-        Piece::too_high(alloc, free)
-    }
-
-    /// What is kept of `%($1:d).(p | e)` where it is too high.
-    fn lambda_too_high(self, alloc: Global, body: Piece, value: Piece) -> Result<Piece, Memory>
-        ensures { IfOk result (λ r. (at : ℕ) (ranges : RawRanges) (p e : RawTree) →
-            1000 < tree_height (raw at (raw_ranged_lambda ranges p e)) → IsRanges ranges self → IsPiece p body →
-            IsPiece e value → IsPiece (raw at (raw_ranged_lambda ranges p e)) r) }
-    {
-        let one = self.free(alloc)?;
-        let other = body.free(alloc)?;
-        let bound = joined(one, other)?;
-        let third = value.free(alloc)?;
-        let free = joined(bound, third)?;
-        Piece::too_high(alloc, free)
     }
 
     /// `{$1:d | p}`.
@@ -434,15 +209,14 @@ impl Ranges {
             IsPiece (raw at (raw_ranged_comprehension ranges p)) r) }
     {
         let Ranges::Built(ranges, one) = self else {
-            return self.comprehension_too_high(alloc, body);
+            return Ok(Piece::High);
         };
         let Piece::Built(body, two) = body else {
-            return Ranges::Built(ranges, one).comprehension_too_high(alloc, body);
+            return Ok(Piece::High);
         };
         let height = one.max(two);
         if height >= HIGHEST {
-            let body = Piece::Built(body, two);
-            return Ranges::Built(ranges, one).comprehension_too_high(alloc, body);
+            return Ok(Piece::High);
         }
         let node = RawNode::RangedComprehension(ranges, Box::new(alloc, body)?);
         Ok(Piece::Built(RawTerm { at, node }, height + 1))
@@ -460,20 +234,17 @@ impl Ranges {
             IsPiece e value → IsPiece (raw at (raw_ranged_lambda ranges p e)) r) }
     {
         let Ranges::Built(ranges, one) = self else {
-            return self.lambda_too_high(alloc, body, value);
+            return Ok(Piece::High);
         };
         let Piece::Built(body, two) = body else {
-            return Ranges::Built(ranges, one).lambda_too_high(alloc, body, value);
+            return Ok(Piece::High);
         };
         let Piece::Built(value, three) = value else {
-            let body = Piece::Built(body, two);
-            return Ranges::Built(ranges, one).lambda_too_high(alloc, body, value);
+            return Ok(Piece::High);
         };
         let height = one.max(two.max(three));
         if height >= HIGHEST {
-            let body = Piece::Built(body, two);
-            let value = Piece::Built(value, three);
-            return Ranges::Built(ranges, one).lambda_too_high(alloc, body, value);
+            return Ok(Piece::High);
         }
         let body = Box::new(alloc, body)?;
         let value = Box::new(alloc, value)?;
