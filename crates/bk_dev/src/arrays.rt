@@ -76,15 +76,15 @@ fn row_of(dev: &Development, found: Found, variable: u32) -> Option<ArrayRow>
     if !dev.table.ty(variable).is_some_and(|ty| has_scalars(ty)) {
         return None;
     }
-    let domain = indices(dev, source)?;
+    let domain = indices(dev.int_max(), &dev.values, source)?;
     Some(ArrayRow {
         var: variable,
         domain,
     })
 }
 
-// Whether a type is one of functions to numbers, truth values or elements.
-fn has_scalars(ty: &Ty) -> bool
+/// Whether a type is one of functions to numbers, truth values or elements.
+pub fn has_scalars(ty: &Ty) -> bool
     ensures { result ≡ has_scalars (Some ty.now) }
 {
     match ty.view() {
@@ -103,17 +103,13 @@ fn is_scalar(ty: &Ty) -> bool
     !matches!(ty.view(), TyView::Pair(..) | TyView::Set(_))
 }
 
-// The index set that the source of an arrow is, if it is one.
-fn indices(dev: &Development, source: &Form) -> Option<ArrayDomain>
-    ensures { result ≡ indices_of (int_max dev.now) dev.now.values source.now }
+/// The index set that the source of an arrow is, if it is one, where constants have these values and MAXINT is `max`.
+pub fn indices(max: i64, values: &[(u32, Form)], source: &Form) -> Option<ArrayDomain>
+    ensures { result ≡ indices_of max values.now source.now }
 {
     match source.view() {
         View::Bin(BinOp::Range, low, high) => {
-            interval(
-                dev.int_max(),
-                bound(&dev.values, low)?,
-                bound(&dev.values, high)?,
-            )
+            interval(max, bound(values, low)?, bound(values, high)?)
         }
         View::Name(Domain::Bool) => Some(ArrayDomain::Bool),
         View::Name(Domain::Enum(set)) => Some(ArrayDomain::Set(set)),

@@ -15,7 +15,7 @@ use std::alloc::Global;
 
 /// What conjuncts say of a variable.
 #[derive(Drop)]
-pub(crate) enum Found {
+pub enum Found {
     /// It is in this domain.
     InDomain(Form),
     /// It equals a term.
@@ -24,9 +24,10 @@ pub(crate) enum Found {
     Silent,
 }
 
-// What the last of these levels says of the variable, or where it is silent the nearest above under the same name.
+/// What the invariant of the last of these levels says of the variable, or where it is silent the nearest above under
+/// the same name.
 #[tactic(auto, using(crate::proofs::Reversed::reversed_last))]
-pub(crate) fn clue_in(alloc: Global, levels: &[Level], variable: u32) -> Result<Found, Memory>
+pub fn clue_in(alloc: Global, levels: &[Level], variable: u32) -> Result<Found, Memory>
     ensures { IfOk result (λ found. clue_seen found ≡ typing_clue (Some variable) (reversed levels.now [])) }
 {
     let Some((level, above)) = levels.split_last() else {
@@ -41,8 +42,8 @@ pub(crate) fn clue_in(alloc: Global, levels: &[Level], variable: u32) -> Result<
     }
 }
 
-// The variable of the level above that a variable is linked to.
-fn linked(links: &[(u32, u32)], variable: u32) -> Option<u32>
+/// The variable of the level above that a variable is linked to.
+pub fn linked(links: &[(u32, u32)], variable: u32) -> Option<u32>
     ensures { result ≡ linked_to variable links.now }
 {
     for (below, above) in links {

@@ -1,11 +1,13 @@
 //! Developments: a machine, its chain of refinements and at most one implementation.
 #![tactic(auto)]
 
-mod arrays;
-mod clues;
+pub mod arrays;
+pub mod clues;
 pub mod development;
 pub mod kind;
 pub mod laws;
 
+pub use arrays::{has_scalars, indices};
+pub use clues::{Found, clue_in, linked};
 pub use development::{Body, Development, EnumSet, Level, OpHead};
 pub use kind::{Home, Kind};
