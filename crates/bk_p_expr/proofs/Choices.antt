@@ -1,5 +1,5 @@
 -- One thing or another.
-use Rattle.std.specs.Prelude.{◌≡◌, Option, None, Some, List, MatchOption, refl}
+use Rattle.std.specs.Prelude.{◌≡◌, Option, None, Some, List, MatchOption, Result, Ok, Err, IfOk, refl}
 use Rattle.std.proofs.Common.{sym, subst, ◌∙◌}
 use Rattle.bk_form.specs.declared.token.Token.{Token}
 use Rattle.bk_raw.specs.Reading.{next, or_else}
@@ -36,3 +36,8 @@ if_none o P Q h e = subst (λ p. MatchOption p P Q) e h
 pub next_under : {A B C : Type 0} (r : Option (A × List Token)) (f : A → List Token → Option (B × List Token)) (h : Option (B × List Token) → Option (C × List Token)) (g : A → List Token → Option (C × List Token)) → h None ≡ None → ((x : A) (us : List Token) → h (f x us) ≡ g x us) → h (next r f) ≡ next r g
 next_under None f h g e k = e
 next_under (Some p) f h g e k = k p.0 p.1
+
+-- what is known of an answer tells something else of it
+pub ok_so : {A E : Type 0} (r : Result A E) (P : A → Type 0) → IfOk r P → (Q : A → Type 0) → ((x : A) → P x → Q x) → IfOk r Q
+ok_so (Ok x) P h Q f = f x h
+ok_so (Err e) P h Q f = tt

@@ -1,16 +1,18 @@
 -- Heights of terms on the way to being built.
-use Rattle.std.specs.Prelude.{◌≡◌, ℕ, ◌+◌, ◌<◌, max, List, [], ◌∷◌, ◌++◌, refl}
-use Rattle.std.proofs.Common.{arith, subst}
+use Rattle.std.specs.Prelude.{◌≡◌, ℕ, ◌+◌, ◌<◌, max, Bool, true, false, List, [], ◌∷◌, ◌++◌, refl}
+use Rattle.std.proofs.Common.{arith}
 use Rattle.bk_raw.specs.RawTree.{RawTree, RawTrees, no_trees, tree_and, RawRanges, no_ranges, range_and, node_height, tree_height, trees_height, ranges_height, trees_of}
 use Rattle.bk_raw.specs.RawView.{ranges_of}
 use Rattle.bk_raw.specs.declared.term.RawRange.{RawRange}
-use Rattle.bk_p_expr.specs.Pieces.{IsPiece, IsTerms, IsRanges, and_tree, and_range, between_node}
+use Rattle.bk_p_expr.specs.Pieces.{IsPiece, IsTerms, IsRanges, and_tree, and_range, around_node, between_node}
 use Rattle.bk_p_expr.specs.declared.piece.Piece.{Piece}
-use Rattle.bk_p_expr.specs.declared.piece.Piece.TheVariants.{High}
+use Rattle.bk_p_expr.specs.declared.piece.Piece.TheVariants.{Built, High}
 use Rattle.bk_p_expr.specs.declared.piece.Terms.{Terms}
-use Rattle.bk_p_expr.specs.declared.piece.Terms.TheVariants.{High as HighTerms}
+use Rattle.bk_p_expr.specs.declared.piece.Terms.TheVariants.{Built as BuiltTerms, High as HighTerms}
 use Rattle.bk_p_expr.specs.declared.piece.Ranges.{Ranges}
-use Rattle.bk_p_expr.specs.declared.piece.Ranges.TheVariants.{High as HighRanges}
+use Rattle.bk_p_expr.specs.declared.piece.Ranges.TheVariants.{Built as BuiltRanges, High as HighRanges}
+use Rattle.bk_p_expr.specs.declared.piece.Around.{Around}
+use Rattle.bk_p_expr.specs.declared.piece.Around.TheVariants.{Word, Negative, Inverse, Comprehension, ForAll, Exists, TypedForAll, TypedExists}
 use Rattle.bk_p_expr.specs.declared.piece.Between.{Between}
 use Rattle.bk_p_expr.specs.declared.piece.Between.TheVariants.{Infix, Image, Apply, Composition, Pair, Lambda}
 
@@ -51,15 +53,41 @@ and_range_high rs at n d l = omega (arith, and_range_height rs at n d, l)
 pub and_high_range : (rs : RawRanges) (at n : ℕ) (d : RawTree) → 1000 < tree_height d → 1000 < ranges_height (and_range rs at n d)
 and_high_range rs at n d l = omega (arith, and_range_height rs at n d, l)
 
--- ---- the ways through the functions that join
-pub terms_too_high : (all : Terms) (trees : RawTrees) (tree : RawTree) → all ≡ HighTerms → IsTerms trees all → 1000 < trees_height (and_tree trees tree)
-terms_too_high all trees tree e h = and_tree_high trees tree (subst (λ a. IsTerms trees a) e h)
+-- ---- what is built, and what is too high
+abbrev pub is_built : Piece → Bool
+is_built (Built term height) = true
+is_built (High known) = false
 
-pub terms_with_high : (piece : Piece) (trees : RawTrees) (tree : RawTree) → piece ≡ High → IsPiece tree piece → 1000 < trees_height (and_tree trees tree)
-terms_with_high piece trees tree e h = and_high_tree trees tree (subst (λ p. IsPiece tree p) e h)
+abbrev pub are_built : Terms → Bool
+are_built (BuiltTerms terms height) = true
+are_built (HighTerms free) = false
 
-pub ranges_too_high : (all : Ranges) (rs : RawRanges) (at n : ℕ) (d : RawTree) → all ≡ HighRanges → IsRanges rs all → 1000 < ranges_height (and_range rs at n d)
-ranges_too_high all rs at n d e h = and_range_high rs at n d (subst (λ a. IsRanges rs a) e h)
+abbrev pub are_built_ranges : Ranges → Bool
+are_built_ranges (BuiltRanges ranges height) = true
+are_built_ranges (HighRanges free) = false
 
-pub ranges_with_high : (piece : Piece) (rs : RawRanges) (at n : ℕ) (d : RawTree) → piece ≡ High → IsPiece d piece → 1000 < ranges_height (and_range rs at n d)
-ranges_with_high piece rs at n d e h = and_high_range rs at n d (subst (λ p. IsPiece d p) e h)
+true_false : true ≡ false → ⊥
+true_false e = cc
+
+pub high_piece : (piece : Piece) (tree : RawTree) → is_built piece ≡ false → IsPiece tree piece → 1000 < tree_height tree
+high_piece (Built term height) tree e h = absurd (true_false e)
+high_piece (High known) tree e h = h.0
+
+pub high_terms : (all : Terms) (trees : RawTrees) → are_built all ≡ false → IsTerms trees all → 1000 < trees_height trees
+high_terms (BuiltTerms terms height) trees e h = absurd (true_false e)
+high_terms (HighTerms free) trees e h = h.0
+
+pub high_ranges : (all : Ranges) (ranges : RawRanges) → are_built_ranges all ≡ false → IsRanges ranges all → 1000 < ranges_height ranges
+high_ranges (BuiltRanges all height) rs e h = absurd (true_false e)
+high_ranges (HighRanges free) rs e h = h.0
+
+-- a term around one is higher
+pub around_height : (form : Around) (a : RawTree) → node_height (around_node form a) ≡ tree_height a + 1
+around_height (Word o) a = refl
+around_height Negative a = refl
+around_height Inverse a = refl
+around_height (Comprehension xs) a = refl
+around_height (ForAll xs) a = refl
+around_height (Exists xs) a = refl
+around_height (TypedForAll bs) a = refl
+around_height (TypedExists bs) a = refl

@@ -4,6 +4,7 @@ pub mod Types
 pub mod Leaves
 pub mod Binders
 pub mod Heights
+pub mod Sizes
 pub mod Fuel
 pub mod Written
 pub mod Arguments
@@ -15,3 +16,4 @@ pub mod Places
 pub mod Enclosed
 pub mod Behind
 pub mod Begun
+pub mod Known

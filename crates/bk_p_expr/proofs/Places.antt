@@ -1,18 +1,21 @@
 -- What is read from a place on.
-use Rattle.std.specs.Prelude.{◌≡◌, ℕ, zero, suc, ◌-◌, ◌<◌, ◌≤◌, List, [], ◌∷◌, ◌++◌, length, take, drop, Option, None, Some, refl}
+use Rattle.std.specs.Prelude.{false, ◌≡◌, ℕ, zero, suc, ◌-◌, ◌<◌, ◌≤◌, List, [], ◌∷◌, ◌++◌, length, take, drop, Option, None, Some, Result, Ok, Err, IfOk, MatchOption, refl}
 use Rattle.std.proofs.Common.{arith, sym, ap, ◌∙◌, subst, append_assoc, length-append, length-drop}
 use Rattle.bk_form.specs.declared.token.Token.{Token}
 use Rattle.bk_raw.specs.RawTree.{RawTree, tree_height}
 use Rattle.bk_raw.specs.Spelling.{Spells}
 use Rattle.bk_raw.specs.Reading.{read}
-use Rattle.bk_p_expr.specs.Found.{Finds, FindsNone}
+use denote.Ref.{Bor}
+use Rattle.bk_p_expr.specs.Found.{Finds, FindsNone, Reads}
+use Rattle.bk_p_expr.specs.Fronts.{Longest, Nothing}
 use Rattle.bk_p_expr.specs.Longest.{SpellsBetween, IsLongest}
 use Rattle.bk_p_expr.specs.Faults.{NothingSpelled}
 use Rattle.bk_p_expr.specs.Pieces.{IsPiece}
 use Rattle.bk_p_expr.specs.declared.piece.Piece.{Piece}
-use Rattle.bk_p_expr.specs.declared.piece.Piece.TheVariants.{Built, High}
+use Rattle.bk_p_expr.specs.declared.piece.Piece.TheVariants.{Built}
 use Rattle.bk_p_expr.proofs.Choices.{some_same}
-use Rattle.bk_raw.proofs.Longest.{reads_on}
+use Rattle.bk_p_expr.proofs.Heights.{is_built, high_piece}
+use Rattle.bk_raw.proofs.Longest.{reads_on, read_is_longest, nothing_is_spelled}
 use Rattle.bk_raw.proofs.SoundTerms.{read_spells}
 
 drop_front : (front back : List Token) → drop (length front) (front ++ back) ≡ back
@@ -98,10 +101,25 @@ term_found tokens rest at piece term height after next e l f p q =
 pub term_low : (rest : List Token) (piece : Piece) (term : RawTree) (height : ℕ) (after : List Token) → Finds (λ n. read n 0 rest) (length rest) (λ t. t) piece after → piece ≡ Built term height → tree_height term ≤ 1000
 term_low rest piece term height after f p = (built_is piece f.tree term height p f.built).1
 
-pub term_high : (tokens rest : List Token) (at : ℕ) (piece : Piece) (after : List Token) → rest ≡ drop at tokens → at ≤ length tokens → Finds (λ n. read n 0 rest) (length rest) (λ t. t) piece after → piece ≡ High → (tree : RawTree) × (next : ℕ) × IsLongest tokens at next tree × (1000 < tree_height tree)
+pub term_high : (tokens rest : List Token) (at : ℕ) (piece : Piece) (after : List Token) → rest ≡ drop at tokens → at ≤ length tokens → Finds (λ n. read n 0 rest) (length rest) (λ t. t) piece after → is_built piece ≡ false → (tree : RawTree) × (next : ℕ) × IsLongest tokens at next tree × (1000 < tree_height tree)
 term_high tokens rest at piece after e l f p =
     let g : Finds (λ n. read n 0 (drop at tokens)) (length (drop at tokens)) (λ t. t) piece after = found_from tokens rest at piece after e f in
-    (g.tree, length tokens - length after, longest_found tokens at piece after g l, subst (λ q. IsPiece g.tree q) p g.built)
+    (g.tree, length tokens - length after, longest_found tokens at piece after g l, high_piece piece g.tree p g.built)
 
 pub term_none : (tokens rest : List Token) (at : ℕ) → rest ≡ drop at tokens → FindsNone (λ n. read n 0 rest) (length rest) → NothingSpelled tokens at
 term_none tokens rest at e f = nothing_spelled tokens at (subst (λ r. FindsNone (λ n. read n 0 r) (length r)) e f)
+
+-- ---- in front of tokens
+pub front_found : (tokens : List Token) (piece : Piece) (rest : List Token) → Finds (λ n. read n 0 tokens) (length tokens) (λ t. t) piece rest → (tree : RawTree) × Longest Spells tokens tree rest × IsPiece tree piece
+front_found tokens piece rest f =
+    let e : read (length tokens) 0 tokens ≡ Some (f.tree, rest) = f.found (length tokens) (omega arith) in
+    let s : (written : List Token) × (tokens ≡ written ++ rest) × Spells f.tree written = read_spells (length tokens) tokens f.tree rest e in
+    (f.tree, record { written = s.0; splits = s.1; spelled = s.2; longest = λ other front after g h. read_is_longest (length tokens) tokens f.tree rest (omega arith) e other front after g h }, f.built)
+
+pub front_none : (tokens : List Token) → FindsNone (λ n. read n 0 tokens) (length tokens) → Nothing Spells tokens
+front_none tokens f other front after g h = nothing_is_spelled (length tokens) tokens (omega arith) (f (length tokens) (omega arith)) other front after g h
+
+pub front_of : {E : Type 0} (tokens : List Token) (r : Result (Option (Piece × Bor (List Token))) E) → Reads (λ n. read n 0 tokens) (length tokens) r → IfOk r (λ o. MatchOption o (Nothing Spells tokens) (λ p. (tree : RawTree) × Longest Spells tokens tree p.1.now × IsPiece tree p.0))
+front_of tokens (Ok None) f = front_none tokens f
+front_of tokens (Ok (Some p)) f = front_found tokens p.0 p.1.now f
+front_of tokens (Err e) f = tt

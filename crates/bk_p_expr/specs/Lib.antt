@@ -1,9 +1,11 @@
 pub mod Depth
 pub mod Longest
 pub mod Faults
+pub mod Conjuncts
 pub mod Pieces
 pub mod Openings
 pub mod PrintedTypes
 pub mod Found
 pub mod Roles
 pub mod Texts
+pub mod Fronts

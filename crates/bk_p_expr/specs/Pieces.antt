@@ -2,6 +2,8 @@
 use Rattle.std.specs.Prelude.{◌≡◌, ℕ, ◌<◌, ◌≤◌, List, [], ◌∷◌}
 use Rattle.bk_raw.specs.RawTree.{RawTree, raw, RawTreeNode, raw_word, raw_negative, raw_infix, raw_inverse, raw_image, raw_apply, raw_composition, raw_pair, raw_comprehension, raw_lambda, raw_for_all, raw_exists, raw_typed_for_all, raw_typed_exists, RawTrees, no_trees, tree_and, RawRanges, no_ranges, range_and, tree_height, trees_height, ranges_height, trees_of}
 use Rattle.bk_raw.specs.RawView.{ranges_of}
+use Rattle.bk_raw.specs.FreeNames.{conjuncts}
+use Rattle.bk_p_expr.specs.Conjuncts.{AreConjuncts, free_names_of, free_names_of_ranges}
 use Rattle.bk_raw.specs.declared.operator.InfixOp.TheVariants.{Power}
 use Rattle.bk_p_expr.specs.declared.piece.Piece.{Piece}
 use Rattle.bk_p_expr.specs.declared.piece.Piece.TheVariants.{Built, High}
@@ -14,20 +16,20 @@ use Rattle.bk_p_expr.specs.declared.piece.Around.TheVariants.{Word, Negative, In
 use Rattle.bk_p_expr.specs.declared.piece.Between.{Between}
 use Rattle.bk_p_expr.specs.declared.piece.Between.TheVariants.{Infix, Image, Apply, Composition, Pair, Lambda}
 
--- the piece is that of this tree: the term itself with its height, or that the tree is more than 1000 high
+-- the piece is that of this tree: the term itself with its height, or, where the tree is more than 1000 high, its conjuncts
 abbrev pub IsPiece : RawTree → Piece → Type 0
 IsPiece tree (Built term height) = (term ≡ tree) × (height ≡ tree_height tree) × (height ≤ 1000)
-IsPiece tree High = 1000 < tree_height tree
+IsPiece tree (High known) = (1000 < tree_height tree) × AreConjuncts (conjuncts tree) known.items
 
--- the same of a list of trees
+-- the same of a list of trees, of which only the free names are kept where one is too high
 abbrev pub IsTerms : RawTrees → Terms → Type 0
 IsTerms trees (BuiltTerms terms height) = (trees_of terms.items ≡ trees) × (height ≡ trees_height trees) × (height ≤ 1000)
-IsTerms trees HighTerms = 1000 < trees_height trees
+IsTerms trees (HighTerms free) = (1000 < trees_height trees) × (free.items ≡ free_names_of trees)
 
 -- and of bound variables with their ranges
 abbrev pub IsRanges : RawRanges → Ranges → Type 0
 IsRanges ranges (BuiltRanges all height) = (ranges_of all.items ≡ ranges) × (height ≡ ranges_height ranges) × (height ≤ 1000)
-IsRanges ranges HighRanges = 1000 < ranges_height ranges
+IsRanges ranges (HighRanges free) = (1000 < ranges_height ranges) × (free.items ≡ free_names_of_ranges ranges)
 
 -- the one list and then the other
 abbrev pub and_trees : RawTrees → RawTrees → RawTrees

@@ -11,7 +11,7 @@ use bk_ops::{sign, word};
 const DEEPEST: usize = 400;
 
 /// The first token at which more brackets, or more blocks, are open than may be.
-pub(crate) fn too_deep(tokens: &[Token]) -> Option<usize>
+pub fn too_deep(tokens: &[Token]) -> Option<usize>
     ensures { MatchOption result (IsShallow tokens.now) (IsTooDeep tokens.now) }
 {
     let mut brackets = 0;

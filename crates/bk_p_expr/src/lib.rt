@@ -5,6 +5,7 @@ mod bars;
 mod depth;
 mod divider;
 mod fault;
+mod free;
 mod front;
 mod opening;
 mod piece;
@@ -12,5 +13,8 @@ mod printed_type;
 mod reader;
 mod terms;
 
+pub use depth::too_deep;
 pub use fault::SynFault;
-pub use reader::term;
+pub use free::{Conjunct, conjuncts};
+pub use piece::{Piece, Terms};
+pub use reader::{front_term, term};

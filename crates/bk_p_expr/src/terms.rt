@@ -337,9 +337,10 @@ fn extension(
         let Some((piece, after)) = longest(alloc, rest, LOOSEST)? else {
             return Ok(None);
         };
-        terms = terms.and(piece)?;
+        terms = terms.and(alloc, piece)?;
         let Some((_, more)) = after_sign(after, sign::COMMA) else {
-            return Ok(closed(terms.extension(at), after, sign::CLOSE_BRACE));
+            let set = terms.extension(alloc, at)?;
+            return Ok(closed(set, after, sign::CLOSE_BRACE));
         };
         rest = more;
     }
@@ -361,7 +362,7 @@ fn ranges(alloc: Global, tokens: &[Token], end: u16) -> Result<Option<(Ranges, &
         let Some((piece, after)) = longest(alloc, behind, RANGED_OVER)? else {
             return Ok(None);
         };
-        ranges = ranges.and(at, number, piece)?;
+        ranges = ranges.and(alloc, at, number, piece)?;
         let Some((_, more)) = after_sign(after, sign::COMMA) else {
             let Some((_, rest)) = after_sign(after, end) else {
                 return Ok(None);

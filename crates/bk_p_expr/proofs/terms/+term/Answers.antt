@@ -172,7 +172,7 @@ pub extension-loop-terms-preserved : goal.extension-loop-terms-preserved
 extension-loop-terms-preserved t c = terms_goes_on c.args.tokens.now c.loop-terms.terms c.loop-terms.rest.now c.in-Some.piece c.in-Some.after.now c.in_ok-terms.terms c.in-Some-after_sign.field-0-0.now c.in-Some-after_sign.more.now c.loop-terms.invariant (if_some _ _ _ _ c.in_ok-piece.ensures.found c.in-Some.is) (if_some _ _ _ _ c.in_ok-piece.ensures.shorter c.in-Some.is) c.in_ok-terms.ensures c.in-Some-after_sign.ensures.begins c.in-Some-after_sign.ensures.found c.in-Some-after_sign.ensures.shorter
 
 pub extension-returns-in_default-after_sign-clause-found : goal.extension-returns-in_default-after_sign-clause-found
-extension-returns-in_default-after_sign-clause-found t c = listed_ends c.args.at c.args.tokens.now c.in_ok-terms.terms c.in-Some.after.now c.extension.result c.closed.result (terms_ends c.args.tokens.now c.loop-terms.terms c.loop-terms.rest.now c.in-Some.piece c.in-Some.after.now c.in_ok-terms.terms c.loop-terms.invariant (if_some _ _ _ _ c.in_ok-piece.ensures.found c.in-Some.is) (if_some _ _ _ _ c.in_ok-piece.ensures.shorter c.in-Some.is) c.in_ok-terms.ensures c.in_default-after_sign.ensures.begins) c.extension.ensures c.closed.ensures.found c.closed.ensures.same
+extension-returns-in_default-after_sign-clause-found t c = listed_ends c.args.at c.args.tokens.now c.in_ok-terms.terms c.in-Some.after.now c.in_ok-set.set c.closed.result (terms_ends c.args.tokens.now c.loop-terms.terms c.loop-terms.rest.now c.in-Some.piece c.in-Some.after.now c.in_ok-terms.terms c.loop-terms.invariant (if_some _ _ _ _ c.in_ok-piece.ensures.found c.in-Some.is) (if_some _ _ _ _ c.in_ok-piece.ensures.shorter c.in-Some.is) c.in_ok-terms.ensures c.in_default-after_sign.ensures.begins) c.in_ok-set.ensures c.closed.ensures.found c.closed.ensures.same
 
 pub ranges-loop-at-init : goal.ranges-loop-at-init
 ranges-loop-at-init t c = ranges_begins c.args.tokens.now _ (search rules)

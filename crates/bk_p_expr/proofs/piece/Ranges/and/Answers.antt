@@ -1,15 +1,21 @@
-use Rattle.std.proofs.Common.{◌≡◌, ◌≤◌, ◌∙◌, subst, arith}
-use Rattle.bk_raw.specs.RawTree.{tree_height, ranges_height}
+use Rattle.std.proofs.Common.{◌≡◌, ◌≤◌, ◌∙◌, ap, subst, arith, ℕ}
+use Rattle.bk_raw.specs.RawTree.{tree_height, ranges_height, RawRanges, RawTree}
 use Rattle.bk_raw.specs.RawView.{ranges_of}
 use Rattle.bk_p_expr.specs.Pieces.{IsPiece, IsRanges, and_range}
-use Rattle.bk_p_expr.proofs.Heights.{ranges_too_high, ranges_with_high, ranges_of_last, and_range_height}
+use Rattle.bk_p_expr.proofs.Choices.{ok_so}
+use Rattle.bk_p_expr.proofs.Heights.{is_built, are_built_ranges, high_piece, high_ranges, and_range_high, and_high_range, ranges_of_last, and_range_height}
+use Rattle.bk_p_expr.specs.declared.piece.Piece.{Piece}
+use Rattle.bk_p_expr.specs.declared.piece.Ranges.{Ranges}
 use Rattle.bk_p_expr.proofs.piece.Ranges.and.Goals as goal
 
+abbrev Wanted : ℕ → ℕ → Ranges → Piece → Ranges → Type 0
+Wanted at number self piece r = (ranges : RawRanges) (tree : RawTree) → IsRanges ranges self → IsPiece tree piece → IsRanges (and_range ranges at number tree) r
+
 pub returns-in_default : goal.returns-in_default
-returns-in_default c = λ rs d a b. ranges_too_high _ rs c.args.at c.args.number d c.in_default.is a
+returns-in_default c = ok_so _ _ c.and_too_high.ensures (Wanted c.args.at c.args.number c.args.self c.args.piece) (λ r f. λ rs d a b. f rs c.args.at c.args.number d (and_range_high rs c.args.at c.args.number d (high_ranges c.args.self rs (ap are_built_ranges c.in_default.is) a)) a b)
 
 pub returns-in_default-piece : goal.returns-in_default-piece
-returns-in_default-piece c = λ rs d a b. ranges_with_high _ rs c.args.at c.args.number d c.in_default-piece.is b
+returns-in_default-piece c = ok_so _ _ c.and_too_high-in_default-piece.ensures (Wanted c.args.at c.args.number c.args.self c.args.piece) (λ r f. λ rs d a b. f rs c.args.at c.args.number d (and_high_range rs c.args.at c.args.number d (high_piece c.args.piece d (ap is_built c.in_default-piece.is) b)) (subst (λ t. IsRanges rs t) c.in-Built.is a) b)
 
 pub returns : goal.returns
 returns c = λ rs tree a b.

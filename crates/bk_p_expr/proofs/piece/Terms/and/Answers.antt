@@ -1,14 +1,20 @@
-use Rattle.std.proofs.Common.{◌≡◌, ◌≤◌, ◌∙◌, subst, arith}
-use Rattle.bk_raw.specs.RawTree.{trees_of, tree_height, trees_height}
+use Rattle.std.proofs.Common.{◌≡◌, ◌≤◌, ◌∙◌, ap, subst, arith}
+use Rattle.bk_raw.specs.RawTree.{trees_of, tree_height, trees_height, RawTree, RawTrees}
 use Rattle.bk_p_expr.specs.Pieces.{IsPiece, IsTerms, and_tree}
-use Rattle.bk_p_expr.proofs.Heights.{terms_too_high, terms_with_high, trees_of_last, and_tree_height}
+use Rattle.bk_p_expr.proofs.Choices.{ok_so}
+use Rattle.bk_p_expr.proofs.Heights.{is_built, are_built, high_piece, high_terms, and_tree_high, and_high_tree, trees_of_last, and_tree_height}
+use Rattle.bk_p_expr.specs.declared.piece.Piece.{Piece}
+use Rattle.bk_p_expr.specs.declared.piece.Terms.{Terms}
 use Rattle.bk_p_expr.proofs.piece.Terms.and.Goals as goal
 
+abbrev Wanted : Terms → Piece → Terms → Type 0
+Wanted self piece r = (trees : RawTrees) (tree : RawTree) → IsTerms trees self → IsPiece tree piece → IsTerms (and_tree trees tree) r
+
 pub returns-in_default : goal.returns-in_default
-returns-in_default c = λ trees tree a b. terms_too_high _ trees tree c.in_default.is a
+returns-in_default c = ok_so _ _ c.and_too_high.ensures (Wanted c.args.self c.args.piece) (λ r f. λ trees tree a b. f trees tree (and_tree_high trees tree (high_terms c.args.self trees (ap are_built c.in_default.is) a)) a b)
 
 pub returns-in_default-piece : goal.returns-in_default-piece
-returns-in_default-piece c = λ trees tree a b. terms_with_high _ trees tree c.in_default-piece.is b
+returns-in_default-piece c = ok_so _ _ c.and_too_high-in_default-piece.ensures (Wanted c.args.self c.args.piece) (λ r f. λ trees tree a b. f trees tree (and_high_tree trees tree (high_piece c.args.piece tree (ap is_built c.in_default-piece.is) b)) (subst (λ t. IsTerms trees t) c.in-Built.is a) b)
 
 pub returns : goal.returns
 returns c = λ trees tree a b.

@@ -1,0 +1,11 @@
+pub mod Reading
+pub mod Following
+pub mod Telling
+pub mod Additions
+pub mod EntryRows
+pub mod Singles
+pub mod Standings
+pub mod Follows
+pub mod Headers
+pub mod Whole
+pub mod Cutting

@@ -1,0 +1,5 @@
+pub mod Plain
+pub mod Entries
+pub mod Parts
+pub mod Clauses
+pub mod Faults

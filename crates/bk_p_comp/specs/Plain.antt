@@ -1,0 +1,33 @@
+-- The tokens that a component may be written as: those without the additions of printed formulas.
+use Rattle.std.specs.Prelude.{Bool, true, false, not, cond, ◌&&◌, ◌||◌, nat_eq, List, [], ◌∷◌}
+use Rattle.bk_form.specs.declared.token.Token.{Token}
+use Rattle.bk_form.specs.declared.token.TokenKind.{TokenKind}
+use Rattle.bk_form.specs.declared.token.TokenKind.TheVariants.{LevelName, BoundName, Sign, Word}
+use Rattle.bk_ops.specs.declared.sign.TheConstants.{OPEN_BRACE, MEMBER}
+use Rattle.bk_ops.specs.declared.word.TheConstants.{BTRUE, BFALSE}
+
+-- $n, x$n but x$0, btrue and bfalse
+abbrev pub is_printed : TokenKind → Bool
+is_printed (BoundName n) = true
+is_printed (LevelName x n) = not (nat_eq n 0)
+is_printed (Word op) = nat_eq op BTRUE || nat_eq op BFALSE
+is_printed _ = false
+
+-- {
+abbrev pub is_brace : TokenKind → Bool
+is_brace (Sign op) = nat_eq op OPEN_BRACE
+is_brace _ = false
+
+-- :
+abbrev pub is_colon : TokenKind → Bool
+is_colon (Sign op) = nat_eq op MEMBER
+is_colon _ = false
+
+-- an addition: such a token, or the colon of {:T}, which stands directly behind a brace
+abbrev pub is_addition : (behind_brace : Bool) → TokenKind → Bool
+is_addition behind_brace kind = is_printed kind || (behind_brace && is_colon kind)
+
+-- the tokens before the first addition
+abbrev pub before_addition : (behind_brace : Bool) → List Token → List Token
+before_addition behind_brace [] = []
+before_addition behind_brace (t ∷ ts) = cond (is_addition behind_brace t.kind) [] (t ∷ before_addition (is_brace t.kind) ts)

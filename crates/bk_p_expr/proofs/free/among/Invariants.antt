@@ -1,0 +1,6 @@
+use Rattle.std.proofs.Common.{◌≡◌, drop}
+use Rattle.bk_raw.specs.FreeNames.{is_among}
+use Rattle.bk_p_expr.proofs.free.among.Given as goal
+
+abbrev pub invariant-loop-other : goal.invariant-loop-other
+invariant-loop-other l = is_among l.name (drop l.other-index l.names) ≡ is_among l.name l.names

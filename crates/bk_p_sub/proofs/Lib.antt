@@ -1,0 +1,15 @@
+pub mod Steps
+pub mod Rows
+pub mod Atoms
+pub mod Lists
+pub mod Openings
+pub mod Tails
+pub mod Fronts
+pub mod Places
+pub mod Joined
+pub mod Targets
+pub mod Words
+pub mod Blocks
+pub mod Guards
+pub mod Heights
+pub mod DefinedNames

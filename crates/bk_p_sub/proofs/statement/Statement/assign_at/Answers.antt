@@ -1,0 +1,22 @@
+use Rattle.std.proofs.Common.{◌≡◌, ◌≤◌, ◌<◌, subst, arith, ap}
+use Rattle.bk_raw.specs.RawTree.{tree_height}
+use Rattle.bk_raw.specs.SubTree.{sub, sub_assign_at}
+use Rattle.bk_p_expr.specs.Pieces.{IsPiece}
+use Rattle.bk_p_sub.proofs.Heights.{is_built, high_term}
+use Rattle.bk_p_sub.proofs.statement.Statement.assign_at.Goals as goal
+
+pub returns-in_default : goal.returns-in_default
+returns-in_default c = λ x e h m.
+    let k : 1000 < tree_height x = high_term c.args.place x (ap is_built c.in_default.is) h in
+    omega (arith, k)
+
+pub returns-in_default-value : goal.returns-in_default-value
+returns-in_default-value c = λ x e h m.
+    let k : 1000 < tree_height e = high_term c.args.value e (ap is_built c.in_default-value.is) m in
+    omega (arith, k)
+
+pub returns : goal.returns
+returns c = λ x e h m.
+    let k : (c.in-Built.place ≡ x) × (c.in-Built.one ≡ tree_height x) × (c.in-Built.one ≤ 1000) = subst (λ t. IsPiece x t) c.in-Built.is h in
+    let l : (c.in-Built-value.value ≡ e) × (c.in-Built-value.two ≡ tree_height e) × (c.in-Built-value.two ≤ 1000) = subst (λ t. IsPiece e t) c.in-Built-value.is m in
+    c.built.ensures (sub c.args.at (sub_assign_at c.args.name x e)) (λ i. sub c.args.at (sub_assign_at c.args.name (k.0 i) (l.0 i))) (omega (arith, k.1, l.1, c.max.ensures))

@@ -1,0 +1,5 @@
+pub mod Longest
+pub mod Statements
+pub mod Found
+pub mod Faults
+pub mod Defining

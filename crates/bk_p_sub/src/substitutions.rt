@@ -1,0 +1,197 @@
+// The longest substitution in front of tokens.
+//
+// Each function answers what it reads and the tokens behind it, or None where that does not stand there. Only blocks make
+// the calls nest deeper: lists, branches and choices are read by loops.
+
+ghost use Rattle.std.specs.Prelude.{◌<◌, length, IfOk, IfSome};
+ghost use Rattle.bk_p_sub.specs.Found.{Reads, ReadsBranches, ReadsChoices, ReadsLoopEnd};
+ghost use Rattle.bk_p_sub.specs.Statements.{word_of};
+
+use crate::branches::{Branches, Choices};
+use crate::front::{after_sign, after_word, start_of, term_before};
+use crate::opening::{Opening, opening_of};
+use crate::statement::{Joint, Statement, Test};
+use bk_form::Token;
+use bk_io::Memory;
+use bk_ops::{sign, word};
+use bk_p_expr::Piece;
+use std::alloc::Global;
+
+/// Substitutions with `;` between.
+#[cycle(substitution)]
+pub(crate) fn sequence(
+    alloc: Global,
+    tokens: &[Token],
+) -> Result<Option<(Statement, &[Token])>, Memory>
+    ensures found { Reads 0 tokens.now result }
+    ensures shorter { IfOk result (λ r. IfSome r (λ p. length p.1.now < length tokens.now)) }
+{
+    let at = start_of(tokens);
+    let Some((first, after)) = parallel(alloc, tokens)? else {
+        return Ok(None);
+    };
+    let mut left = first;
+    let mut rest = after;
+    while let Some(behind) = after_sign(rest, sign::SEMICOLON) {
+        let Some((right, after)) = parallel(alloc, behind)? else {
+            return Ok(Some((left, rest)));
+        };
+        left = left.with(alloc, at, Joint::Sequence, right)?;
+        rest = after;
+    }
+    Ok(Some((left, rest)))
+}
+
+/// Substitutions with `||` between.
+#[cycle(substitution)]
+pub(crate) fn parallel(
+    alloc: Global,
+    tokens: &[Token],
+) -> Result<Option<(Statement, &[Token])>, Memory>
+    ensures found { Reads 1 tokens.now result }
+    ensures shorter { IfOk result (λ r. IfSome r (λ p. length p.1.now < length tokens.now)) }
+{
+    let at = start_of(tokens);
+    let Some((first, after)) = atom(alloc, tokens)? else {
+        return Ok(None);
+    };
+    let mut left = first;
+    let mut rest = after;
+    while let Some(behind) = after_sign(rest, sign::PARALLEL) {
+        let Some((right, after)) = atom(alloc, behind)? else {
+            return Ok(Some((left, rest)));
+        };
+        left = left.with(alloc, at, Joint::Parallel, right)?;
+        rest = after;
+    }
+    Ok(Some((left, rest)))
+}
+
+/// One substitution.
+#[cycle(substitution)]
+fn atom(alloc: Global, tokens: &[Token]) -> Result<Option<(Statement, &[Token])>, Memory>
+    ensures found { Reads 2 tokens.now result }
+    ensures shorter { IfOk result (λ r. IfSome r (λ p. length p.1.now < length tokens.now)) }
+{
+    let at = start_of(tokens);
+    let Some((opening, inside)) = opening_of(alloc, tokens)? else {
+        return Ok(None);
+    };
+    match opening {
+        Opening::Closed(statement) => Ok(Some((statement, inside))),
+        Opening::Around(block) => {
+            let Some((body, after)) = sequence(alloc, inside)? else {
+                return Ok(None);
+            };
+            let Some(rest) = after_word(after, word::END) else {
+                return Ok(None);
+            };
+            Ok(Some((body.around(alloc, at, block)?, rest)))
+        }
+        Opening::Tested(test, condition) => {
+            let Some((body, after)) = sequence(alloc, inside)? else {
+                return Ok(None);
+            };
+            let Some((branches, rest)) = branches(alloc, after, test)? else {
+                return Ok(None);
+            };
+            Ok(Some((body.tested(alloc, at, test, condition, branches)?, rest)))
+        }
+        Opening::Choice => {
+            let Some((body, after)) = sequence(alloc, inside)? else {
+                return Ok(None);
+            };
+            let Some((choices, rest)) = choices(alloc, after)? else {
+                return Ok(None);
+            };
+            Ok(Some((body.choice(alloc, at, choices)?, rest)))
+        }
+        Opening::While(condition) => {
+            let Some((body, after)) = sequence(alloc, inside)? else {
+                return Ok(None);
+            };
+            let Some((invariant, variant, rest)) = loop_end(alloc, after)? else {
+                return Ok(None);
+            };
+            Ok(Some((
+                body.repeated(alloc, at, condition, invariant, variant)?,
+                rest,
+            )))
+        }
+    }
+}
+
+/// Further branches of a test, each but ELSE with its word, and END.
+#[cycle(substitution)]
+fn branches(
+    alloc: Global,
+    tokens: &[Token],
+    test: Test,
+) -> Result<Option<(Branches, &[Token])>, Memory>
+    ensures found { ReadsBranches (word_of test) tokens.now result }
+    ensures shorter { IfOk result (λ r. IfSome r (λ p. length p.1.now < length tokens.now)) }
+{
+    let mut all = Branches::Built(Vec::new(alloc), None, 0);
+    let mut rest = tokens;
+    while let Some(behind) = after_word(rest, test.word()) {
+        let Some((condition, inside)) = term_before(alloc, behind, word::THEN)? else {
+            return Ok(None);
+        };
+        let Some((body, after)) = sequence(alloc, inside)? else {
+            return Ok(None);
+        };
+        all = all.and(condition, body)?;
+        rest = after;
+    }
+    if let Some(behind) = after_word(rest, word::ELSE) {
+        let Some((body, after)) = sequence(alloc, behind)? else {
+            return Ok(None);
+        };
+        let Some(rest) = after_word(after, word::END) else {
+            return Ok(None);
+        };
+        return Ok(Some((all.otherwise(alloc, body)?, rest)));
+    }
+    let Some(rest) = after_word(rest, word::END) else {
+        return Ok(None);
+    };
+    Ok(Some((all, rest)))
+}
+
+/// Further branches of CHOICE, and END.
+#[cycle(substitution)]
+fn choices(alloc: Global, tokens: &[Token]) -> Result<Option<(Choices, &[Token])>, Memory>
+    ensures found { ReadsChoices tokens.now result }
+    ensures shorter { IfOk result (λ r. IfSome r (λ p. length p.1.now < length tokens.now)) }
+{
+    let mut all = Choices::Built(Vec::new(alloc), 0);
+    let mut rest = tokens;
+    while let Some(behind) = after_word(rest, word::OR_BRANCH) {
+        let Some((body, after)) = sequence(alloc, behind)? else {
+            return Ok(None);
+        };
+        all = all.and(body)?;
+        rest = after;
+    }
+    let Some(rest) = after_word(rest, word::END) else {
+        return Ok(None);
+    };
+    Ok(Some((all, rest)))
+}
+
+/// The invariant and the variant of a loop, and END.
+fn loop_end(alloc: Global, tokens: &[Token]) -> Result<Option<(Piece, Piece, &[Token])>, Memory>
+    ensures found { ReadsLoopEnd tokens.now result }
+    ensures shorter { IfOk result (λ r. IfSome r (λ p. length p.2.now < length tokens.now)) }
+{
+    let Some(behind) = after_word(tokens, word::INVARIANT) else {
+        return Ok(None);
+    };
+    let Some((invariant, behind)) = term_before(alloc, behind, word::VARIANT)? else {
+        return Ok(None);
+    };
+    let Some((variant, rest)) = term_before(alloc, behind, word::END)? else {
+        return Ok(None);
+    };
+    Ok(Some((invariant, variant, rest)))
+}
