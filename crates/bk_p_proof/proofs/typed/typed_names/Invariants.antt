@@ -1,0 +1,9 @@
+use Rattle.std.proofs.Common.{length}
+use Rattle.bk_p_proof.proofs.TypesRead.{TypedSoFar}
+use Rattle.bk_p_proof.proofs.typed.typed_names.Given as goal
+
+abbrev pub invariant-loop-behind : goal.invariant-loop-behind
+invariant-loop-behind l = TypedSoFar l.tokens l.all.items l.rest
+
+abbrev pub decreases-loop-behind : goal.decreases-loop-behind
+decreases-loop-behind l = length l.rest

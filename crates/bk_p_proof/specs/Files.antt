@@ -1,0 +1,131 @@
+-- What proof files are read as, and where they are at fault. Each fault and each limit is looked for in all of the files
+-- before the next one is, in this order: bytes that are no UTF-8, tokens, depth, what is written, height, the number of rules,
+-- names. Of two files at fault in one of these the first is told.
+use Rattle.std.specs.Prelude.{◌≡◌, ◌≢◌, ◌⊎◌, ◌≤◌, ℕ, List, ◌∷◌, ◌++◌, length, map, All, Contains}
+use Rattle.std.specs.List.{AllZip, AllPairs, flat_map}
+use Rattle.std.specs.Str.{IsUtf8, IsValidUpTo}
+use Rattle.bk_form.specs.declared.token.Token.{Token}
+use Rattle.bk_lex.specs.Lexis.{AreTokens}
+use Rattle.bk_lex.specs.Faults.{IsFaultOf as IsLexFaultOf}
+use Rattle.bk_lex.specs.declared.fault.LexFault.TheVariants.{BadChar, OpenComment, NumberTooWide, Limit as LexLimit}
+use Rattle.bk_raw.specs.ScriptTree.{RawScript}
+use Rattle.bk_raw.specs.ScriptSpelling.{SpellsScripts}
+use Rattle.bk_raw.specs.Places.{IsScriptFaultAt}
+use Rattle.bk_raw.specs.Limits.{IsShallow, IsTooDeep, IsLowFile}
+use Rattle.bk_raw.specs.declared.script.NamePart.{NamePart}
+use Rattle.bk_p_proof.specs.TypedNames.{script_names, AreOfOneType, IsSecondType}
+use Rattle.bk_p_proof.specs.declared.fault.ScriptFault.{ScriptFault}
+use Rattle.bk_p_proof.specs.declared.fault.ScriptFault.TheVariants.{Fault, Limit, Memory}
+
+-- ---- a file without a fault, step by step
+-- these are its tokens, and they are not too many
+pub record IsCut (text : List ℕ) (tokens : List Token) : Type 0 where
+  pub cut : AreTokens text tokens
+  pub few : length tokens ≤ 1000000
+
+-- and nowhere are too many brackets or blocks open
+pub record IsFlat (text : List ℕ) (tokens : List Token) : Type 0 where
+  pub cut : IsCut text tokens
+  pub shallow : IsShallow tokens
+
+-- these scripts are written in it, and no script writes a name with two types
+pub record IsWritten (text : List ℕ) (scripts : List RawScript) : Type 0 where
+  pub tokens : List Token
+  pub flat : IsFlat text tokens
+  pub spelled : SpellsScripts scripts tokens
+  pub typed : All (λ s. AreOfOneType (script_names s)) scripts
+
+-- and no term is too high
+pub record IsLow (text : List ℕ) (scripts : List RawScript) : Type 0 where
+  pub written : IsWritten text scripts
+  pub low : IsLowFile scripts
+
+-- and no script has too many rules
+abbrev pub IsShort : RawScript → Type 0
+IsShort s = length s.rules ≤ 1000000
+
+pub record IsProofFile (text : List ℕ) (scripts : List RawScript) : Type 0 where
+  pub low : IsLow text scripts
+  pub short : All IsShort scripts
+
+-- ---- the first file at fault
+pub record IsFirst (Fine Faulty : List ℕ → Type 0) (texts : List (List ℕ)) (file : ℕ) : Type 0 where
+  pub before : List (List ℕ)
+  pub text : List ℕ
+  pub after : List (List ℕ)
+  pub splits : texts ≡ before ++ text ∷ after
+  pub counted : length before ≡ file
+  pub fine : All Fine before
+  pub faulty : Faulty text
+
+-- there is one with which the text is this
+abbrev pub Has : {A : Type 0} → (List ℕ → A → Type 0) → List ℕ → Type 0
+Has {A} Is text = (x : A) × Is text x
+
+-- ---- faults
+-- the longest front that is UTF-8 ends here
+abbrev pub IsNoUtf8 : ℕ → List ℕ → Type 0
+IsNoUtf8 place text = (IsUtf8 text → ⊥) × IsValidUpTo text place
+
+-- no token can begin here, or it can't be told where the one ends that does
+abbrev pub IsNoToken : ℕ → List ℕ → Type 0
+IsNoToken place text = IsLexFaultOf text (BadChar place) ⊎ (IsLexFaultOf text (OpenComment place) ⊎ IsLexFaultOf text (NumberTooWide place))
+
+-- the token past the greatest number of tokens begins somewhere
+abbrev pub HasTooMany : List ℕ → Type 0
+HasTooMany text = (place : ℕ) × IsLexFaultOf text (LexLimit place)
+
+-- at some token too many brackets or blocks are open
+abbrev pub IsDeep : List ℕ → Type 0
+IsDeep text = (tokens : List Token) × IsCut text tokens × (place : ℕ) × IsTooDeep tokens place
+
+-- no scripts are written so, or a script writes a name with a second type
+abbrev pub IsUnwritten : ℕ → List ℕ → Type 0
+IsUnwritten place text = (tokens : List Token) × IsFlat text tokens × (IsScriptFaultAt (length text) tokens place ⊎ ((scripts : List RawScript) × SpellsScripts scripts tokens × IsSecondType scripts place))
+
+-- a term is too high
+abbrev pub IsHigh : List ℕ → Type 0
+IsHigh text = (scripts : List RawScript) × IsWritten text scripts × (IsLowFile scripts → ⊥)
+
+-- a script has too many rules
+abbrev pub IsLong : List ℕ → Type 0
+IsLong text = (scripts : List RawScript) × IsLow text scripts × (All IsShort scripts → ⊥)
+
+-- ---- names
+abbrev pub names_of : List RawScript → List (List NamePart)
+names_of scripts = map (λ s. s.name) scripts
+
+-- of the scripts of all files this is the first whose name one before it has
+pub record IsTwiceNamed (files : List (List RawScript)) (file place : ℕ) : Type 0 where
+  pub before : List (List RawScript)
+  pub first : List RawScript
+  pub script : RawScript
+  pub rest : List RawScript
+  pub after : List (List RawScript)
+  pub splits : files ≡ before ++ (first ++ script ∷ rest) ∷ after
+  pub counted : length before ≡ file
+  pub starts : script.name_at ≡ place
+  pub so_far : AllPairs (λ a b. a ≢ b) (names_of (flat_map (λ f. f) before ++ first))
+  pub again : Contains (names_of (flat_map (λ f. f) before ++ first)) script.name
+
+-- ---- answers
+-- the scripts of the files, in order; no two have one name
+pub record AreScriptsOf (texts : List (List ℕ)) (scripts : List RawScript) : Type 0 where
+  pub files : List (List RawScript)
+  pub each : AllZip IsProofFile texts files
+  pub joined : scripts ≡ flat_map (λ f. f) files
+  pub distinct : AllPairs (λ a b. a ≢ b) (names_of scripts)
+
+-- the first fault, or the first limit that is passed
+abbrev pub IsFaultOf : List (List ℕ) → ScriptFault → Type 0
+IsFaultOf texts (Fault number file place) =
+    ((number ≡ 1) × IsFirst IsUtf8 (IsNoUtf8 place) texts file)
+    ⊎ ((number ≡ 2) × All IsUtf8 texts × IsFirst (Has IsCut) (IsNoToken place) texts file)
+    ⊎ ((number ≡ 3) × All (Has IsFlat) texts × IsFirst (Has IsWritten) (IsUnwritten place) texts file)
+    ⊎ ((number ≡ 6) × ((files : List (List RawScript)) × AllZip IsProofFile texts files × IsTwiceNamed files file place))
+IsFaultOf texts (Limit number file) =
+    ((number ≡ 2) × All IsUtf8 texts × IsFirst (Has IsCut) HasTooMany texts file)
+    ⊎ ((number ≡ 3) × All (Has IsCut) texts × IsFirst (Has IsFlat) IsDeep texts file)
+    ⊎ ((number ≡ 12) × All (Has IsWritten) texts × IsFirst (Has IsLow) IsHigh texts file)
+    ⊎ ((number ≡ 8) × All (Has IsLow) texts × IsFirst (Has IsProofFile) IsLong texts file)
+IsFaultOf texts Memory = Unit {0}

@@ -1,0 +1,56 @@
+-- What is kept of something that is read. Of what is too high only the names with their types are. Only private contracts
+-- cite it.
+use Rattle.std.specs.Prelude.{◌≡◌, ◌<◌, ◌≤◌, ℕ, Bool, true, false, List, map}
+use Rattle.std.specs.List.{flat_map}
+use Rattle.bk_raw.specs.Numbers.{greatest}
+use Rattle.bk_raw.specs.declared.script.RawTyped.{RawTyped}
+use Rattle.bk_raw.specs.ScriptTree.{RulePart, part_height, RawRule, RawScript, script_height}
+use Rattle.bk_p_proof.specs.TypedNames.{part_names, rule_names, script_names}
+
+-- this is kept, and told to be too high or not
+abbrev pub IsKept : {A B : Type 0} → (A → ℕ) → (A → B) → A → A → Bool → Type 0
+IsKept height names x kept false = (kept ≡ x) × (height x ≤ 1000)
+IsKept height names x kept true = (names kept ≡ names x) × (1000 < height x)
+
+-- the height of the highest term of parts
+abbrev pub parts_height : List RulePart → ℕ
+parts_height ps = greatest (map part_height ps)
+
+abbrev pub parts_names : List RulePart → List RawTyped
+parts_names ps = flat_map part_names ps
+
+-- of a rule, and of rules
+abbrev pub rule_height : RawRule → ℕ
+rule_height r = parts_height r.parts
+
+abbrev pub rules_height : List RawRule → ℕ
+rules_height rs = greatest (map rule_height rs)
+
+abbrev pub rules_names : List RawRule → List RawTyped
+rules_names rs = flat_map rule_names rs
+
+-- of scripts
+abbrev pub file_height : List RawScript → ℕ
+file_height ss = greatest (map script_height ss)
+
+abbrev pub file_names : List RawScript → List (List RawTyped)
+file_names ss = map script_names ss
+
+-- ---- what is kept
+abbrev pub IsPart : RulePart → RulePart → Bool → Type 0
+IsPart = IsKept part_height part_names
+
+abbrev pub AreParts : List RulePart → List RulePart → Bool → Type 0
+AreParts = IsKept parts_height parts_names
+
+abbrev pub IsRule : RawRule → RawRule → Bool → Type 0
+IsRule = IsKept rule_height rule_names
+
+abbrev pub AreRules : List RawRule → List RawRule → Bool → Type 0
+AreRules = IsKept rules_height rules_names
+
+abbrev pub IsScript : RawScript → RawScript → Bool → Type 0
+IsScript = IsKept script_height script_names
+
+abbrev pub AreScripts : List RawScript → List RawScript → Bool → Type 0
+AreScripts = IsKept file_height file_names

@@ -1,0 +1,10 @@
+pub mod Ahead
+pub mod Kept
+pub mod Kinds
+pub mod Words
+pub mod TypedNames
+pub mod Spelled
+pub mod Files
+pub mod Stages
+pub mod Keys
+pub mod Laws

@@ -1,0 +1,246 @@
+//! Proof files.
+
+ghost use Rattle.std.specs.Prelude.{◌≡◌, ◌≢◌, ◌↔◌, ◌<◌, ◌^◌, List, ℕ, length, map, All, IfOk, IfErr, IsTrue};
+ghost use Rattle.std.specs.List.{AllZip, AllPairs, flat_map};
+ghost use Rattle.std.specs.Str.{IsUtf8};
+ghost use Rattle.bk_raw.specs.ScriptTree.{RawScript as WrittenScript};
+ghost use Rattle.bk_raw.specs.Places.{byte_at};
+ghost use Rattle.bk_p_proof.specs.Files.{AreScriptsOf, IsCut, IsFaultOf, IsFlat, IsShort, IsWritten, names_of};
+ghost use Rattle.bk_p_proof.specs.Kept.{AreScripts};
+ghost use Rattle.bk_p_proof.specs.Stages.{IsFileFault, IsKeptOf, IsLowAs, IsProofFileAs, IsUnwrittenAt};
+
+use crate::differing::ScriptNames;
+use crate::fault::ScriptFault;
+use crate::reading::{FileScripts, SpellFault, file_scripts};
+use crate::second::second_type;
+use bk_form::Token;
+use bk_io::Memory;
+use bk_lex::{LexFault, tokens};
+use bk_p_expr::too_deep;
+use bk_raw::RawScript;
+use std::alloc::Global;
+
+/// The greatest number of a script's rules.
+const RULES: usize = 1000000;
+
+/// The scripts of proof files, in order. Files count from 0.
+///
+/// Each fault and each limit is looked for in all of the files before the next one is: F1; F2 and limit 2; limit 3; F3; limit
+/// 12; limit 8; F6.
+pub fn scripts(alloc: Global, texts: &[Vec<u8>]) -> Result<Vec<RawScript>, ScriptFault>
+    requires countable { length texts.now < 2 ^ 32 }
+    ensures value { IfOk result (λ list. AreScriptsOf (map (λ text. text.items) texts.now) list.items) }
+    ensures fault { IfErr result (IsFaultOf (map (λ text. text.items) texts.now)) }
+{
+    all_utf8(texts)?;
+    let files = all_tokens(alloc, texts)?;
+    all_shallow(texts, &files)?;
+    let read = all_read(alloc, texts, &files)?;
+    all_low(texts, &read)?;
+    all_short(texts, &read)?;
+    all_differ(alloc, texts, &read)?;
+    let all = joined(alloc, read)?;
+    Ok(all)
+}
+
+/// Looks for bytes that are no UTF-8.
+fn all_utf8(texts: &[Vec<u8>]) -> Result<(), ScriptFault>
+    requires countable { length texts.now < 2 ^ 32 }
+    ensures ok { IfOk result (λ _. All IsUtf8 (map (λ text. text.items) texts.now)) }
+    ensures fault { IfErr result (IsFaultOf (map (λ text. text.items) texts.now)) }
+{
+    for (file, text) in texts.iter().enumerate() {
+        if let Err(error) = str::from_utf8(text) {
+            return Err(fault(1, file, error.valid_up_to()));
+        }
+    }
+    Ok(())
+}
+
+/// The fault with this number.
+fn fault(number: u8, file: usize, place: usize) -> ScriptFault
+    requires { file < 2 ^ 32 }
+    ensures { result ≡ ScriptFault.Fault number file place }
+{
+    let file = file as u32;
+    ScriptFault::Fault {
+        number,
+        file,
+        place,
+    }
+}
+
+/// The limit with this number.
+fn limit(number: u8, file: usize) -> ScriptFault
+    requires { file < 2 ^ 32 }
+    ensures { result ≡ ScriptFault.Limit number file }
+{
+    let file = file as u32;
+    ScriptFault::Limit { number, file }
+}
+
+/// The tokens of each file.
+fn all_tokens(alloc: Global, texts: &[Vec<u8>]) -> Result<Vec<Vec<Token>>, ScriptFault>
+    requires countable { length texts.now < 2 ^ 32 }
+    requires utf8 { All IsUtf8 (map (λ text. text.items) texts.now) }
+    ensures ok { IfOk result (λ files. AllZip IsCut (map (λ text. text.items) texts.now) (map (λ f. f.items) files.items)) }
+    ensures fault { IfErr result (IsFaultOf (map (λ text. text.items) texts.now)) }
+{
+    let mut files = Vec::new(alloc);
+    for (file, text) in texts.iter().enumerate() {
+        match tokens(alloc, text) {
+            Ok(found) => files.push(found)?,
+            Err(error) => return Err(lexical(error, file)),
+        }
+    }
+    Ok(files)
+}
+
+/// What the fault of a file's tokens is among those of proof files.
+fn lexical(error: LexFault, file: usize) -> ScriptFault
+    requires { file < 2 ^ 32 }
+    ensures { (texts : List (List ℕ)) → IsFileFault texts file error → All IsUtf8 texts → IsFaultOf texts result }
+{
+    match error {
+        LexFault::NotUtf8(place) => fault(1, file, place),
+        LexFault::BadChar(place) => fault(2, file, place),
+        LexFault::OpenComment(place) => fault(2, file, place),
+        LexFault::NumberTooWide(place) => fault(2, file, place),
+        LexFault::Limit(_) => limit(2, file),
+        LexFault::Memory => ScriptFault::Memory,
+    }
+}
+
+/// Looks for tokens at which too many brackets or blocks are open.
+fn all_shallow(texts: &[Vec<u8>], files: &[Vec<Token>]) -> Result<(), ScriptFault>
+    requires countable { length texts.now < 2 ^ 32 }
+    requires cut { AllZip IsCut (map (λ text. text.items) texts.now) (map (λ f. f.items) files.now) }
+    ensures ok { IfOk result (λ _. AllZip IsFlat (map (λ text. text.items) texts.now) (map (λ f. f.items) files.now)) }
+    ensures fault { IfErr result (IsFaultOf (map (λ text. text.items) texts.now)) }
+{
+    for (file, tokens) in files.iter().enumerate() {
+        if too_deep(tokens).is_some() {
+            return Err(limit(3, file));
+        }
+    }
+    Ok(())
+}
+
+/// What each file is read as.
+fn all_read(
+    alloc: Global,
+    texts: &[Vec<u8>],
+    files: &[Vec<Token>],
+) -> Result<Vec<FileScripts>, ScriptFault>
+    requires countable { length texts.now < 2 ^ 32 }
+    requires flat { AllZip IsFlat (map (λ text. text.items) texts.now) (map (λ f. f.items) files.now) }
+    ensures ok { IfOk result (λ read. AllZip IsKeptOf (map (λ text. text.items) texts.now) read.items) }
+    ensures fault { IfErr result (IsFaultOf (map (λ text. text.items) texts.now)) }
+{
+    let mut all = Vec::new(alloc);
+    for (file, tokens) in files.iter().enumerate() {
+        match one_read(alloc, tokens, texts[file].len()) {
+            Ok(read) => all.push(read)?,
+            Err(SpellFault::At(place)) => return Err(fault(3, file, place)),
+            Err(SpellFault::Memory) => return Err(ScriptFault::Memory),
+        }
+    }
+    Ok(all)
+}
+
+/// What a file of so many bytes is read as, or the byte where it is at fault.
+fn one_read(alloc: Global, tokens: &[Token], bytes: usize) -> Result<FileScripts, SpellFault>
+    ensures ok { (text : List ℕ) → length text ≡ bytes → IsFlat text tokens.now → IfOk result (λ f.
+        (ss : List WrittenScript) × IsWritten text ss × AreScripts ss f.scripts.items f.is_high) }
+    ensures fault { (text : List ℕ) → length text ≡ bytes → IsFlat text tokens.now →
+        IfErr result (IsUnwrittenAt text) }
+{
+    match file_scripts(alloc, tokens) {
+        Ok(read) => match second_type(alloc, &read.scripts)? {
+            Some(place) => Err(SpellFault::At(place)),
+            None => Ok(read),
+        },
+        Err(SpellFault::At(place)) => Err(SpellFault::At(byte_of(tokens, place, bytes))),
+        Err(SpellFault::Memory) => Err(SpellFault::Memory),
+    }
+}
+
+/// The byte at which the token starts before which so many stand, or the length of the text.
+fn byte_of(tokens: &[Token], place: usize, length: usize) -> usize
+    ensures { result ≡ byte_at length tokens.now place }
+{
+    match tokens.get(place) {
+        Some(token) => token.start,
+        None => length,
+    }
+}
+
+/// Looks for terms that are too high.
+fn all_low(texts: &[Vec<u8>], read: &[FileScripts]) -> Result<(), ScriptFault>
+    requires countable { length texts.now < 2 ^ 32 }
+    requires kept { AllZip IsKeptOf (map (λ text. text.items) texts.now) read.now }
+    ensures ok { IfOk result (λ _. AllZip IsLowAs (map (λ text. text.items) texts.now) read.now) }
+    ensures fault { IfErr result (IsFaultOf (map (λ text. text.items) texts.now)) }
+{
+    for (file, read) in read.iter().enumerate() {
+        if read.is_high {
+            return Err(limit(12, file));
+        }
+    }
+    Ok(())
+}
+
+/// Looks for scripts with too many rules.
+fn all_short(texts: &[Vec<u8>], read: &[FileScripts]) -> Result<(), ScriptFault>
+    requires countable { length texts.now < 2 ^ 32 }
+    requires low { AllZip IsLowAs (map (λ text. text.items) texts.now) read.now }
+    ensures ok { IfOk result (λ _. AllZip IsProofFileAs (map (λ text. text.items) texts.now) read.now) }
+    ensures fault { IfErr result (IsFaultOf (map (λ text. text.items) texts.now)) }
+{
+    for (file, read) in read.iter().enumerate() {
+        if !are_short(&read.scripts) {
+            return Err(limit(8, file));
+        }
+    }
+    Ok(())
+}
+
+/// Whether no script has too many rules.
+fn are_short(scripts: &[RawScript]) -> bool
+    ensures { IsTrue result ↔ All IsShort scripts.now }
+{
+    for script in scripts {
+        if script.rules.len() > RULES {
+            return false;
+        }
+    }
+    true
+}
+
+/// Looks for a name that two scripts have.
+fn all_differ(alloc: Global, texts: &[Vec<u8>], read: &[FileScripts]) -> Result<(), ScriptFault>
+    requires countable { length texts.now < 2 ^ 32 }
+    requires files { AllZip IsProofFileAs (map (λ text. text.items) texts.now) read.now }
+    ensures ok { IfOk result (λ _. AllPairs (λ a b. a ≢ b) (names_of (flat_map (λ f. f.scripts.items) read.now))) }
+    ensures fault { IfErr result (IsFaultOf (map (λ text. text.items) texts.now)) }
+{
+    let mut names = ScriptNames::new(alloc);
+    for (file, read) in read.iter().enumerate() {
+        if let Some(place) = names.twice(alloc, &read.scripts)? {
+            return Err(fault(6, file, place));
+        }
+    }
+    Ok(())
+}
+
+/// The scripts of all files, in order.
+fn joined(alloc: Global, read: Vec<FileScripts>) -> Result<Vec<RawScript>, Memory>
+    ensures { IfOk result (λ all. all.items ≡ flat_map (λ f. f.scripts.items) read.items) }
+{
+    let mut all = Vec::new(alloc);
+    for file in read {
+        let mut scripts = file.scripts;
+        all.append(&mut scripts)?;
+    }
+    Ok(all)
+}

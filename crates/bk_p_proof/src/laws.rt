@@ -1,0 +1,13 @@
+//! What the definitions imply.
+
+ghost use Rattle.bk_p_proof.specs.Laws.{ScriptsOfAreOne, FaultsExclude};
+
+/// Texts have at most one list of scripts.
+pub fn scripts_are_one()
+    ensures { ScriptsOfAreOne }
+{}
+
+/// Texts that have scripts have no fault.
+pub fn faults_exclude()
+    ensures { FaultsExclude }
+{}

@@ -1,0 +1,22 @@
+//! Proof files, read from texts.
+#![tactic(auto)]
+
+mod certificate;
+mod differing;
+mod fault;
+mod files;
+mod law;
+pub mod laws;
+mod name;
+mod part;
+mod place;
+mod reading;
+mod rule;
+mod script;
+mod second;
+mod terms;
+mod token;
+mod typed;
+
+pub use fault::ScriptFault;
+pub use files::scripts;
