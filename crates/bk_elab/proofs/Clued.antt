@@ -25,7 +25,7 @@ use Rattle.bk_elab.specs.declared.blame.Fault.{Fault as ToldFault}
 use Rattle.bk_elab.specs.declared.outcome.Step.{Step}
 use Rattle.bk_elab.specs.declared.sight.Reader.{Reader}
 use Rattle.bk_elab.specs.Shown.{told, IsRead}
-use Rattle.bk_elab.specs.Sights.{names_of, node_by, clue_type, tells_type, range_told, tells_range, given_at, AwaitsNone, AwaitsAt, taken_at, LacksNone, LacksAt, TellsNoType, TellsType, TellsNoRange, TellsRange}
+use Rattle.bk_elab.specs.Sights.{around_of, names_of, node_by, clue_type, tells_type, range_told, tells_range, given_at, AwaitsNone, AwaitsAt, taken_at, LacksNone, LacksAt, TellsNoType, TellsType, TellsNoRange, TellsRange}
 
 none-pair : (a b : RawTree) → ◌≡◌ {A = Option (RawTree × RawTree)} None (Some (a, b)) → ⊥
 none-pair a b h = let no : ◌≡◌ {A = Option (RawTree × RawTree)} None (Some (a, b)) = h in cc
@@ -367,23 +367,23 @@ ranging-here all bs t a d o x n h k e f g =
 
 -- ---- comprehensions and lambdas
 pub comprehension-read : (r : Reader) (at : ℕ) (xs : List RawName) (p : RawTree) (rs : List Ranged) (names : Names) (body s : Step) (fault : Option ToldFault) →
-    rs ≡ ranges r.scope.now.max (names_of r) xs 0 (unranged xs) p → names ≡ inside (as_bound rs) (names_of r) →
-    IsRead body (body_of (rest r.scope.now.max names rs 0 None p)) → told fault ≡ blame (twice [] xs) →
+    rs ≡ ranges (around_of r).max (names_of r) xs 0 (unranged xs) p → names ≡ inside (as_bound rs) (names_of r) →
+    IsRead body (body_of (rest (around_of r).max names rs 0 None p)) → told fault ≡ blame (twice [] xs) →
     ((fs : List Fault) (q : Reading) → told fault ≡ blame fs → IsRead body q → IsRead s (comprehended at fs rs q)) →
     IsRead s (node_by r at (raw_comprehension xs p))
 comprehension-read r at xs p rs names body s fault e n h g f =
-    subst (λ (q : List Ranged). IsRead s (comprehended at (twice [] xs) q (body_of (rest r.scope.now.max (inside (as_bound q) (names_of r)) q 0 None p)))) e
-    (subst (λ (m : Names). IsRead s (comprehended at (twice [] xs) rs (body_of (rest r.scope.now.max m rs 0 None p)))) n
-    (f (twice [] xs) (body_of (rest r.scope.now.max names rs 0 None p)) g h))
+    subst (λ (q : List Ranged). IsRead s (comprehended at (twice [] xs) q (body_of (rest (around_of r).max (inside (as_bound q) (names_of r)) q 0 None p)))) e
+    (subst (λ (m : Names). IsRead s (comprehended at (twice [] xs) rs (body_of (rest (around_of r).max m rs 0 None p)))) n
+    (f (twice [] xs) (body_of (rest (around_of r).max names rs 0 None p)) g h))
 
 pub lambda-read : (r : Reader) (at : ℕ) (xs : List RawName) (p v : RawTree) (rs : List Ranged) (names : Names) (body value s : Step) (fault : Option ToldFault) →
-    rs ≡ ranges r.scope.now.max (names_of r) xs 0 (unranged xs) p → names ≡ inside (as_bound rs) (names_of r) →
-    IsRead body (body_of (rest r.scope.now.max names rs 0 None p)) → IsRead value (part false v (reading r.scope.now.max names v)) → told fault ≡ blame (twice [] xs) →
+    rs ≡ ranges (around_of r).max (names_of r) xs 0 (unranged xs) p → names ≡ inside (as_bound rs) (names_of r) →
+    IsRead body (body_of (rest (around_of r).max names rs 0 None p)) → IsRead value (part false v (reading (around_of r).max names v)) → told fault ≡ blame (twice [] xs) →
     ((fs : List Fault) (q t : Reading) → told fault ≡ blame fs → IsRead body q → IsRead value t → IsRead s (abstracted at fs rs q (place_of v) t)) →
     IsRead s (node_by r at (raw_lambda xs p v))
 lambda-read r at xs p v rs names body value s fault e n h k g f =
-    subst (λ (q : List Ranged). IsRead s (abstracted at (twice [] xs) q (body_of (rest r.scope.now.max (inside (as_bound q) (names_of r)) q 0 None p)) (place_of v) (part false v (reading r.scope.now.max (inside (as_bound q) (names_of r)) v)))) e
-    (subst (λ (m : Names). IsRead s (abstracted at (twice [] xs) rs (body_of (rest r.scope.now.max m rs 0 None p)) (place_of v) (part false v (reading r.scope.now.max m v)))) n
-    (f (twice [] xs) (body_of (rest r.scope.now.max names rs 0 None p)) (part false v (reading r.scope.now.max names v)) g h k))
+    subst (λ (q : List Ranged). IsRead s (abstracted at (twice [] xs) q (body_of (rest (around_of r).max (inside (as_bound q) (names_of r)) q 0 None p)) (place_of v) (part false v (reading (around_of r).max (inside (as_bound q) (names_of r)) v)))) e
+    (subst (λ (m : Names). IsRead s (abstracted at (twice [] xs) rs (body_of (rest (around_of r).max m rs 0 None p)) (place_of v) (part false v (reading (around_of r).max m v)))) n
+    (f (twice [] xs) (body_of (rest (around_of r).max names rs 0 None p)) (part false v (reading (around_of r).max names v)) g h k))
 
 pub ruleset abstractions = (comprehension-read, lambda-read)

@@ -32,3 +32,4 @@ pub mod Unmoved
 pub mod Lasting
 pub mod Grown
 pub mod Dollars
+pub mod Under

@@ -21,7 +21,7 @@ use Rattle.bk_elab.specs.declared.outcome.Step.{Step}
 use Rattle.bk_elab.specs.declared.sight.Local.{Local}
 use Rattle.bk_elab.specs.declared.sight.Reader.{Reader}
 use Rattle.bk_elab.specs.Shown.{told, IsRead}
-use Rattle.bk_elab.specs.Sights.{names_of, names_below, bounds_of, bounds_from, outer_names, read_by, node_by, Stands, StandsBelow, quantifier, named_node, numbered_node, clues_by}
+use Rattle.bk_elab.specs.Sights.{around_of, names_of, names_below, bounds_of, bounds_from, outer_names, read_by, node_by, Stands, StandsBelow, quantifier, named_node, numbered_node, clues_by}
 use Rattle.bk_elab.proofs.Clued.{premise-clued, premise-none, implies-read}
 use Rattle.bk_elab.proofs.Readings.{names-split, below-stands, names-stand}
 use Rattle.bk_elab.proofs.Sighted.{all-counted}
@@ -37,55 +37,55 @@ pub names-inside : (n : ℕ) (old new : Reader) (bs : List Bound) → n ≡ leng
 names-inside n old new bs e h b = names-split n new ∙ (λ i. inside (b i) (names-below-all n old new e h i))
 
 -- the body is read with these names in front
-body-read : (n : ℕ) (old new : Reader) (bs : List Bound) (t : RawTree) → n ≡ length old.locals.items → StandsBelow n old new → bounds_from n new ≡ bs → read_by new t ≡ reading old.scope.now.max (inside bs (names_of old)) t
+body-read : (n : ℕ) (old new : Reader) (bs : List Bound) (t : RawTree) → n ≡ length old.locals.items → StandsBelow n old new → bounds_from n new ≡ bs → read_by new t ≡ reading (around_of old).max (inside bs (names_of old)) t
 body-read n old new bs t e h b = λ i. reading (h.scope i).max (names-inside n old new bs e h b i) t
 
 pub finished : (universal : Bool) (n : ℕ) (old mid new : Reader) (bs : List Bound) (t : RawTree) (fs : List Fault) (fault : Option ToldFault) (body s : Step) →
     n ≡ length old.locals.items → StandsBelow n old mid → bounds_from n mid ≡ bs → Stands mid new → told fault ≡ blame fs → IsRead body (part true t (read_by mid t)) →
     ((gs : List Fault) (q : Reading) → told fault ≡ blame gs → IsRead body q → IsRead s (quantified (quantifier universal) gs (bounds_from n new) q)) →
-    IsRead s (quantified (quantifier universal) fs bs (part true t (reading old.scope.now.max (inside bs (names_of old)) t)))
+    IsRead s (quantified (quantifier universal) fs bs (part true t (reading (around_of old).max (inside bs (names_of old)) t)))
 finished universal n old mid new bs t fs fault body s e h b k g r f =
     let same : bounds_from n new ≡ bs = ap (λ (ls : List Local). bounds_of (drop n ls)) k.locals ∙ b in
     subst (λ (x : Reading). IsRead s (quantified (quantifier universal) fs bs (part true t x))) (body-read n old mid bs t e h b)
     (subst (λ (cs : List Bound). IsRead s (quantified (quantifier universal) fs cs (part true t (read_by mid t)))) same (f fs (part true t (read_by mid t)) g r))
 
 pub named-read : (universal : Bool) (r : Reader) (at : ℕ) (xs : List RawName) (t : RawTree) (s : Step) →
-    IsRead s (quantified (quantifier universal) (twice [] xs) (clues_by universal r.scope.now.max (names_of r) (bound_names xs) t) (part true t (reading r.scope.now.max (inside (clues_by universal r.scope.now.max (names_of r) (bound_names xs) t) (names_of r)) t))) →
+    IsRead s (quantified (quantifier universal) (twice [] xs) (clues_by universal (around_of r).max (names_of r) (bound_names xs) t) (part true t (reading (around_of r).max (inside (clues_by universal (around_of r).max (names_of r) (bound_names xs) t) (names_of r)) t))) →
     IsRead s (node_by r at (named_node universal xs t))
 named-read true r at xs t s h = h
 named-read false r at xs t s h = h
 
 pub numbered-read : (universal : Bool) (r : Reader) (at : ℕ) (bs : List RawBound) (t : RawTree) (s : Step) →
-    IsRead s (quantified (quantifier universal) (wrong_bounds (suc (count_locals (names_of r))) bs) (printed_bounds (names_of r) bs) (part true t (reading r.scope.now.max (inside (printed_bounds (names_of r) bs) (names_of r)) t))) →
+    IsRead s (quantified (quantifier universal) (wrong_bounds (suc (count_locals (names_of r))) bs) (printed_bounds (names_of r) bs) (part true t (reading (around_of r).max (inside (printed_bounds (names_of r) bs) (names_of r)) t))) →
     IsRead s (node_by r at (numbered_node universal bs t))
 numbered-read true r at bs t s h = h
 numbered-read false r at bs t s h = h
 
 -- the types of a quantifier's names, where the names were pushed first
 pub clues-same : (universal : Bool) (n : ℕ) (old mid new : Reader) (xs : List RawName) (t : RawTree) → n ≡ length old.locals.items → StandsBelow n old mid → bounds_from n mid ≡ bound_names xs →
-    bounds_from n new ≡ clues_by universal mid.scope.now.max (names_below n mid) (bounds_from n mid) t → bounds_from n new ≡ clues_by universal old.scope.now.max (names_of old) (bound_names xs) t
+    bounds_from n new ≡ clues_by universal (around_of mid).max (names_below n mid) (bounds_from n mid) t → bounds_from n new ≡ clues_by universal (around_of old).max (names_of old) (bound_names xs) t
 clues-same universal n old mid new xs t e h b c = c ∙ (λ i. clues_by universal (h.scope i).max (names-below-all n old mid e h i) (b i) t)
 
 pub bounds-told : (r : Reader) (bs : List RawBound) (fault : Option ToldFault) → told fault ≡ blame (wrong_bounds (suc (length r.locals.items)) bs) → told fault ≡ blame (wrong_bounds (suc (count_locals (names_of r))) bs)
 bounds-told r bs fault h = h ∙ ap (λ (n : ℕ). blame (wrong_bounds (suc n) bs)) (sym (all-counted r))
 
 -- the body of an existential quantifier
-pub exists-clues : (r : Reader) (first : ℕ) (bs : List Bound) (t : RawTree) → clues_by false r.scope.now.max (names_below first r) bs t ≡ clues r.scope.now.max (names_below first r) bs t
+pub exists-clues : (r : Reader) (first : ℕ) (bs : List Bound) (t : RawTree) → clues_by false (around_of r).max (names_below first r) bs t ≡ clues (around_of r).max (names_below first r) bs t
 exists-clues r first bs t = refl
 
 -- the body of a universal one that is no implication types no name
-pub premise-missing : (first : ℕ) (r : Reader) (t : RawTree) → implies_sides t ≡ None → bounds_from first r ≡ clues_by true r.scope.now.max (names_below first r) (bounds_from first r) t
-premise-missing first r t h = sym (premise-none r.scope.now.max (names_below first r) (bounds_from first r) t h)
+pub premise-missing : (first : ℕ) (r : Reader) (t : RawTree) → implies_sides t ≡ None → bounds_from first r ≡ clues_by true (around_of r).max (names_below first r) (bounds_from first r) t
+premise-missing first r t h = sym (premise-none (around_of r).max (names_below first r) (bounds_from first r) t h)
 
 -- of an implication the left side types them
-pub premise-typed : (first : ℕ) (old new : Reader) (t a b : RawTree) → implies_sides t ≡ Some (a, b) → bounds_from first new ≡ clues old.scope.now.max (names_below first old) (bounds_from first old) a →
-    bounds_from first new ≡ clues_by true old.scope.now.max (names_below first old) (bounds_from first old) t
-premise-typed first old new t a b h e = e ∙ sym (premise-clued old.scope.now.max (names_below first old) (bounds_from first old) t a b h)
+pub premise-typed : (first : ℕ) (old new : Reader) (t a b : RawTree) → implies_sides t ≡ Some (a, b) → bounds_from first new ≡ clues (around_of old).max (names_below first old) (bounds_from first old) a →
+    bounds_from first new ≡ clues_by true (around_of old).max (names_below first old) (bounds_from first old) t
+premise-typed first old new t a b h e = e ∙ sym (premise-clued (around_of old).max (names_below first old) (bounds_from first old) t a b h)
 
 pub implication-read : (mid new : Reader) (t a b : RawTree) (one other s : Step) → implies_sides t ≡ Some (a, b) → IsRead one (read_by mid a) → Stands mid new → IsRead other (read_by mid b) →
     ((q p : Reading) → IsRead one q → IsRead other p → IsRead s (two_reading (Infix Implies) (place_of t) a b q p)) → IsRead s (read_by new t)
 implication-read mid new t a b one other s k h g e w =
-    subst (IsRead s) (implies-read mid.scope.now.max (names_of mid) t a b k ∙ (λ i. reading (sym g.scope i).max (sym (names-stand mid new g) i) t))
+    subst (IsRead s) (implies-read (around_of mid).max (names_of mid) t a b k ∙ (λ i. reading (sym g.scope i).max (sym (names-stand mid new g) i) t))
     (w (read_by mid a) (read_by mid b) h e)
 
 pub ruleset bodies = (exists-clues, premise-missing, premise-typed)

@@ -18,14 +18,14 @@ use Rattle.bk_elab.specs.declared.blame.Fault.{Fault as ToldFault}
 use Rattle.bk_elab.specs.declared.outcome.Step.{Step}
 use Rattle.bk_elab.specs.declared.sight.Reader.{Reader}
 use Rattle.bk_elab.specs.Shown.{told, IsRead}
-use Rattle.bk_elab.specs.Sights.{names_of, read_by, node_by, ranges_as, range_as, IsRangeOf, Stands}
+use Rattle.bk_elab.specs.Sights.{around_of, names_of, read_by, node_by, ranges_as, range_as, IsRangeOf, Stands}
 use Rattle.bk_elab.proofs.Blamed.{blame-joins, earlier-joins, earlier-none}
 use Rattle.bk_elab.proofs.Readings.{names-stand, read-after}
 use Rattle.bk_elab.proofs.Sighted.{all-counted}
 
 -- what the ranges read as
 abbrev pub reads : Reader → List RawRange → List RangeRead
-reads r rs = range_reads r.scope.now.max (names_of r) (ranges_of rs)
+reads r rs = range_reads (around_of r).max (names_of r) (ranges_of rs)
 
 -- the ranges so far and those from the i-th on are all, and so are their faults
 pub record RangesSoFar (r : Reader) (names : List RangedName) (first : Option ToldFault) (rs : List RawRange) (i : ℕ) : Type 0 where
@@ -115,31 +115,31 @@ faults-all r names first rs i l h =
 
 -- ---- comprehensions and lambdas
 pub numbered-comprehension-read : (r mid inner : Reader) (at : ℕ) (rs : List RawRange) (p : RawTree) (ns : List Ranged) (read body s : Step) (fault : Option ToldFault) →
-    ns ≡ printed_ranges (reads r rs) → told fault ≡ blame (wrong_ranges (suc (count_locals (names_of r))) (reads r rs)) → Stands r mid → names_of inner ≡ inside (as_bound ns) (names_of mid) → inner.scope.now ≡ mid.scope.now →
+    ns ≡ printed_ranges (reads r rs) → told fault ≡ blame (wrong_ranges (suc (count_locals (names_of r))) (reads r rs)) → Stands r mid → names_of inner ≡ inside (as_bound ns) (names_of mid) → around_of inner ≡ around_of mid →
     IsRead read (read_by inner p) → ((q : Reading) → IsRead read q → IsRead body (part true p q)) →
     ((fs : List Fault) (q : Reading) → told fault ≡ blame fs → IsRead body q → IsRead s (comprehended at fs ns q)) →
     IsRead s (node_by r at (raw_ranged_comprehension (ranges_of rs) p))
 numbered-comprehension-read r mid inner at rs p ns read body s fault e g h n k b w f =
     let names : names_of inner ≡ inside (as_bound ns) (names_of r) = n ∙ ap (inside (as_bound ns)) (names-stand r mid h) in
-    let scope : inner.scope.now ≡ r.scope.now = k ∙ h.scope in
-    let same : read_by inner p ≡ reading r.scope.now.max (inside (as_bound ns) (names_of r)) p = λ i. reading (scope i).max (names i) p in
-    subst (λ (q : List Ranged). IsRead s (comprehended at (wrong_ranges (suc (count_locals (names_of r))) (reads r rs)) q (part true p (reading r.scope.now.max (inside (as_bound q) (names_of r)) p)))) e
+    let scope : around_of inner ≡ around_of r = k ∙ h.scope in
+    let same : read_by inner p ≡ reading (around_of r).max (inside (as_bound ns) (names_of r)) p = λ i. reading (scope i).max (names i) p in
+    subst (λ (q : List Ranged). IsRead s (comprehended at (wrong_ranges (suc (count_locals (names_of r))) (reads r rs)) q (part true p (reading (around_of r).max (inside (as_bound q) (names_of r)) p)))) e
     (subst (λ (q : Reading). IsRead s (comprehended at (wrong_ranges (suc (count_locals (names_of r))) (reads r rs)) ns (part true p q))) same
     (f (wrong_ranges (suc (count_locals (names_of r))) (reads r rs)) (part true p (read_by inner p)) g (w (read_by inner p) b)))
 
 pub numbered-lambda-read : (r mid inner last : Reader) (at : ℕ) (rs : List RawRange) (p v : RawTree) (ns : List Ranged) (read body other value s : Step) (fault : Option ToldFault) →
-    ns ≡ printed_ranges (reads r rs) → told fault ≡ blame (wrong_ranges (suc (count_locals (names_of r))) (reads r rs)) → Stands r mid → names_of inner ≡ inside (as_bound ns) (names_of mid) → inner.scope.now ≡ mid.scope.now →
+    ns ≡ printed_ranges (reads r rs) → told fault ≡ blame (wrong_ranges (suc (count_locals (names_of r))) (reads r rs)) → Stands r mid → names_of inner ≡ inside (as_bound ns) (names_of mid) → around_of inner ≡ around_of mid →
     IsRead read (read_by inner p) → ((q : Reading) → IsRead read q → IsRead body (part true p q)) → Stands inner last →
     IsRead other (read_by last v) → ((q : Reading) → IsRead other q → IsRead value (part false v q)) →
     ((fs : List Fault) (q t : Reading) → told fault ≡ blame fs → IsRead body q → IsRead value t → IsRead s (abstracted at fs ns q (place_of v) t)) →
     IsRead s (node_by r at (raw_ranged_lambda (ranges_of rs) p v))
 numbered-lambda-read r mid inner last at rs p v ns read body other value s fault e g h n k b w l o x f =
     let names : names_of inner ≡ inside (as_bound ns) (names_of r) = n ∙ ap (inside (as_bound ns)) (names-stand r mid h) in
-    let scope : inner.scope.now ≡ r.scope.now = k ∙ h.scope in
-    let same : read_by inner p ≡ reading r.scope.now.max (inside (as_bound ns) (names_of r)) p = λ i. reading (scope i).max (names i) p in
-    let later : read_by last v ≡ reading r.scope.now.max (inside (as_bound ns) (names_of r)) v = (λ i. reading (l.scope i).max (names-stand inner last l i) v) ∙ (λ i. reading (scope i).max (names i) v) in
-    subst (λ (q : List Ranged). IsRead s (abstracted at (wrong_ranges (suc (count_locals (names_of r))) (reads r rs)) q (part true p (reading r.scope.now.max (inside (as_bound q) (names_of r)) p)) (place_of v) (part false v (reading r.scope.now.max (inside (as_bound q) (names_of r)) v)))) e
-    (subst (λ (q : Reading). IsRead s (abstracted at (wrong_ranges (suc (count_locals (names_of r))) (reads r rs)) ns (part true p q) (place_of v) (part false v (reading r.scope.now.max (inside (as_bound ns) (names_of r)) v)))) same
+    let scope : around_of inner ≡ around_of r = k ∙ h.scope in
+    let same : read_by inner p ≡ reading (around_of r).max (inside (as_bound ns) (names_of r)) p = λ i. reading (scope i).max (names i) p in
+    let later : read_by last v ≡ reading (around_of r).max (inside (as_bound ns) (names_of r)) v = (λ i. reading (l.scope i).max (names-stand inner last l i) v) ∙ (λ i. reading (scope i).max (names i) v) in
+    subst (λ (q : List Ranged). IsRead s (abstracted at (wrong_ranges (suc (count_locals (names_of r))) (reads r rs)) q (part true p (reading (around_of r).max (inside (as_bound q) (names_of r)) p)) (place_of v) (part false v (reading (around_of r).max (inside (as_bound q) (names_of r)) v)))) e
+    (subst (λ (q : Reading). IsRead s (abstracted at (wrong_ranges (suc (count_locals (names_of r))) (reads r rs)) ns (part true p q) (place_of v) (part false v (reading (around_of r).max (inside (as_bound ns) (names_of r)) v)))) same
     (subst (λ (q : Reading). IsRead s (abstracted at (wrong_ranges (suc (count_locals (names_of r))) (reads r rs)) ns (part true p (read_by inner p)) (place_of v) (part false v q))) later
     (f (wrong_ranges (suc (count_locals (names_of r))) (reads r rs)) (part true p (read_by inner p)) (part false v (read_by last v)) g (w (read_by inner p) b) (x (read_by last v) o))))
 

@@ -2,7 +2,7 @@
 use Rattle.std.proofs.Common.{◌≡◌, ℕ, zero, suc, ◌+◌, ◌-◌, ◌<◌, ◌≤◌, List, [], ◌∷◌, ◌++◌, length, get_or, take, drop, refl, sym, ◌∙◌, ap, subst, Bool, true, false, cond, arith}
 use Rattle.std.specs.Prelude.{Option, None, Some, slice_get, ◌||◌, ◌&&◌, nat_le}
 use Rattle.std.proofs.lemmas.Bool.Decides.{nat_tests}
-use Rattle.std.proofs.lemmas.List.{take_all, take_more}
+use Rattle.std.proofs.lemmas.List.{take_all, take_more, drop_more}
 use Rattle.std.proofs.lemmas.Option.{same_Some, slice_get-get_or}
 use Rattle.std.proofs.lemmas.Slice.Eq.{bytes_eq-Decides}
 use Rattle.std.specs.Option.{option_map}
@@ -16,8 +16,14 @@ use Rattle.bk_raw.specs.Names.{Names, Meaning, local, global, set_name, element_
 use Rattle.bk_raw.specs.Binders.{Bound, locals}
 use Rattle.bk_raw.specs.ScopeReading.{ScopeNames, element_names, set_names, variable_meaning, scope_names, names_in}
 use Rattle.bk_elab.specs.declared.sight.Local.{Local}
+use Rattle.bk_elab.specs.declared.sight.Outer.{Outer}
+use Rattle.bk_elab.specs.declared.sight.Outer.TheVariants.{OverTable, InSight}
 use Rattle.bk_elab.specs.declared.sight.Reader.{Reader}
-use Rattle.bk_elab.specs.Sights.{bounds_of, names_of, outer_names, among, set_in_front, seen_or, IsFirstAt}
+use Rattle.bk_elab.specs.declared.sight.Standing.{Standing}
+use Rattle.bk_elab.specs.declared.sight.Standing.TheVariants.{Variable, Set, Element}
+use Rattle.bk_elab.specs.declared.sight.Visible.{Visible}
+use Rattle.bk_elab.specs.Visible.{typed_meaning, seen_names}
+use Rattle.bk_elab.specs.Sights.{bounds_of, names_of, outer_around, outer_names, among, set_in_front, seen_or, IsFirstAt}
 use Rattle.bk_elab.specs.declared.sight.Seen.{Seen}
 use Rattle.bk_elab.proofs.Seen.{entries-more, seen_last}
 
@@ -88,6 +94,39 @@ scope-outer table (p ∷ ps) around h =
 
 pub names-outer : (table : Table) (scope : ScopeNames) → AreOuter (names_in table scope)
 names-outer table scope = scope-outer table scope.names (set_names 0 table.sets) (sets-outer 0 table.sets)
+
+typed-outer : (ts : List (Option ValueType)) (m : Standing) → IsOuter (typed_meaning ts m)
+typed-outer ts (Variable n) = tt
+typed-outer ts (Set s) = tt
+typed-outer ts (Element s i) = tt
+
+pub seen-outer : (ts : List (Option ValueType)) (vs : List Visible) → AreOuter (seen_names ts vs)
+seen-outer ts [] = tt
+seen-outer ts (v ∷ vs) = (typed-outer ts v.meaning, seen-outer ts vs)
+
+pub around-outer : (o : Outer) → AreOuter (outer_around o).names
+around-outer (OverTable s t) = names-outer t.now s.now
+around-outer (InSight m ns ts) = seen-outer ts.now ns.now
+
+-- ---- names in sight, one by one
+-- the next has the text
+pub visible-here : (ts : List (Option ValueType)) (vs : List Visible) (i : ℕ) (d : Visible) (text : List ℕ) → i < length vs → bytes_eq (get_or vs i d).text.now text ≡ true →
+    found 0 (seen_names ts (drop i vs)) text ≡ sight 0 (typed_meaning ts (get_or vs i d).meaning)
+visible-here ts vs i d text h same =
+    let x = get_or vs i d in
+    ap (λ (ws : List Visible). found 0 (seen_names ts ws) text) (drop_more vs i d h)
+    ∙ ap (λ (b : Bool). cond b (sight 0 (typed_meaning ts x.meaning)) (found (behind 0 (typed_meaning ts x.meaning)) (seen_names ts (drop (i + 1) vs)) text)) same
+
+-- the next has another
+pub visible-past : (ts : List (Option ValueType)) (vs : List Visible) (i : ℕ) (d : Visible) (text : List ℕ) → i < length vs → bytes_eq (get_or vs i d).text.now text ≡ false →
+    found 0 (seen_names ts (drop i vs)) text ≡ found 0 (seen_names ts (drop (i + 1) vs)) text
+visible-past ts vs i d text h other =
+    let x = get_or vs i d in
+    ap (λ (ws : List Visible). found 0 (seen_names ts ws) text) (drop_more vs i d h)
+    ∙ (ap (λ (b : Bool). cond b (sight 0 (typed_meaning ts x.meaning)) (found (behind 0 (typed_meaning ts x.meaning)) (seen_names ts (drop (i + 1) vs)) text)) other
+    ∙ ap (λ (j : ℕ). found j (seen_names ts (drop (i + 1) vs)) text) (outer-behind (typed_meaning ts x.meaning) 0 (typed-outer ts x.meaning)))
+
+pub ruleset visibles = (visible-here, visible-past)
 
 -- ---- bound names in front of others
 -- the names with which a binder's names stand in front
@@ -271,13 +310,13 @@ pub found-end : (r : Reader) (text : List ℕ) (n : ℕ) → length r.locals.ite
 found-end r text n h =
     let none : length r.locals.items - n ≡ 0 = omega arith in
     ap (λ (m : ℕ). found n (before (take m r.locals.items) (outer_names r)) text) none
-    ∙ outer-found (outer_names r) n text (names-outer r.table.now r.scope.now)
+    ∙ outer-found (outer_names r) n text (around-outer r.scope)
 
 pub found-start : (r : Reader) (text : List ℕ) → found 0 (before (take (length r.locals.items - 0) r.locals.items) (outer_names r)) text ≡ found 0 (names_of r) text
 found-start r text = ap (λ (ls : List Local). found 0 (before ls (outer_names r)) text) (take_all (length r.locals.items - 0) r.locals.items (omega arith))
 
 pub local-none : (r : Reader) (n : ℕ) → length r.locals.items ≤ n → local_sight n (local_at (names_of r) n) ≡ unseen
-local-none r n h = ap (local_sight n) (local-beyond r.locals.items (outer_names r) n (names-outer r.table.now r.scope.now) h)
+local-none r n h = ap (local_sight n) (local-beyond r.locals.items (outer_names r) n (around-outer r.scope) h)
 
 pub local-untyped : (r : Reader) (n : ℕ) (d : Local) → n < length r.locals.items → (get_or r.locals.items (length r.locals.items - 1 - n) d).ty ≡ None → local_sight n (local_at (names_of r) n) ≡ untyped_name
 local-untyped r n d h e = ap (local_sight n) (local-within r.locals.items (outer_names r) n d h) ∙ ap (λ (o : Option ValueType). local_sight n (Some o)) e
@@ -286,7 +325,7 @@ pub local-typed : (r : Reader) (n : ℕ) (d : Local) (t : ValueType) → n < len
 local-typed r n d t h e = ap (local_sight n) (local-within r.locals.items (outer_names r) n d h) ∙ ap (λ (o : Option ValueType). local_sight n (Some o)) e
 
 pub all-counted : (r : Reader) → count_locals (names_of r) ≡ length r.locals.items
-all-counted r = counted r.locals.items (outer_names r) (names-outer r.table.now r.scope.now)
+all-counted r = counted r.locals.items (outer_names r) (around-outer r.scope)
 
 both-hold : (a b : Bool) → a ≡ true → b ≡ true → (a && b) ≡ true
 both-hold true b e h = h

@@ -8,6 +8,7 @@ pub mod ExpressionView
 pub mod ExpressionFalls
 pub mod Shown
 pub mod Shapes
+pub mod Visible
 pub mod Sights
 pub mod Laws
 pub mod Conjuncts

@@ -22,12 +22,16 @@ use Rattle.bk_raw.specs.ScopeReading.{element_names, names_in}
 use Rattle.bk_elab.specs.declared.binder.Ranged.{Ranged as RangedName}
 use Rattle.bk_elab.specs.declared.outcome.Step.{Step}
 use Rattle.bk_elab.specs.declared.sight.Local.{Local}
+use Rattle.bk_elab.specs.declared.sight.Outer.{Outer}
+use Rattle.bk_elab.specs.declared.sight.Outer.TheVariants.{OverTable, InSight}
 use Rattle.bk_elab.specs.declared.sight.Reader.{Reader}
 use Rattle.bk_elab.specs.declared.sight.Seen.{Seen}
 use Rattle.bk_elab.specs.declared.sight.Seen.TheVariants.{Unseen, Untyped, Typed}
+use Rattle.bk_elab.specs.declared.visible.Sight.{Sight as TermsSight}
 use Rattle.bk_elab.specs.Blame.{blame}
 use Rattle.bk_elab.specs.Conjuncts.{IsRight}
 use Rattle.bk_elab.specs.Shown.{shown_outcome, told, IsRead}
+use Rattle.bk_elab.specs.Visible.{seen_names}
 
 -- what is found of a name
 abbrev pub shown_sight : Seen → Sight
@@ -53,9 +57,26 @@ bounds_of ls = map (λ l. record { text = l.text.now; at = l.at; of_type = l.ty 
 abbrev pub bounds_from : ℕ → Reader → List Bound
 bounds_from first r = bounds_of (drop first r.locals.items)
 
+-- MAXINT, and the names that no binder around binds
+pub record Around : Type 0 where
+  pub max : ℤ
+  pub names : Names
+
+-- those of a reader's scope
+abbrev pub outer_around : Outer → Around
+outer_around (OverTable s t) = record { max = s.now.max; names = names_in t.now s.now }
+outer_around (InSight m ns ts) = record { max = m; names = seen_names ts.now ns.now }
+
+abbrev pub around_of : Reader → Around
+around_of r = outer_around r.scope
+
+-- those under which a caller's term is read
+abbrev pub around_by : TermsSight → Around
+around_by s = record { max = s.max; names = seen_names s.types.now s.names.now }
+
 -- the names that no binder around binds
 abbrev pub outer_names : Reader → Names
-outer_names r = names_in r.table.now r.scope.now
+outer_names r = (around_of r).names
 
 -- all names in sight
 abbrev pub names_of : Reader → Names
@@ -65,31 +86,28 @@ names_of r = bind (locals (bounds_of r.locals.items)) (outer_names r)
 abbrev pub names_below : ℕ → Reader → Names
 names_below first r = bind (locals (bounds_of (take first r.locals.items))) (outer_names r)
 
--- the same bound names below a place, over the same table and scope
+-- the same bound names below a place, in the same scope
 pub record StandsBelow (first : ℕ) (old new : Reader) : Type 0 where
   pub locals : take first new.locals.items ≡ take first old.locals.items
-  pub scope : new.scope.now ≡ old.scope.now
-  pub table : new.table.now ≡ old.table.now
+  pub scope : around_of new ≡ around_of old
 
 -- and no others
 pub record StandsCut (first : ℕ) (old new : Reader) : Type 0 where
   pub locals : new.locals.items ≡ take first old.locals.items
-  pub scope : new.scope.now ≡ old.scope.now
-  pub table : new.table.now ≡ old.table.now
+  pub scope : around_of new ≡ around_of old
 
 -- and all of them
 pub record Stands (old new : Reader) : Type 0 where
   pub locals : new.locals.items ≡ old.locals.items
-  pub scope : new.scope.now ≡ old.scope.now
-  pub table : new.table.now ≡ old.table.now
+  pub scope : around_of new ≡ around_of old
 
 -- what a term reads as under them
 abbrev pub read_by : Reader → RawTree → Reading
-read_by r t = reading r.scope.now.max (names_of r) t
+read_by r t = reading (around_of r).max (names_of r) t
 
 -- the same by its form, at a byte
 abbrev pub node_by : Reader → ℕ → RawTreeNode → Reading
-node_by r at node = node_reading r.scope.now.max (names_of r) at node
+node_by r at node = node_reading (around_of r).max (names_of r) at node
 
 -- a part where a predicate is wanted, or an expression
 abbrev pub part_by : Bool → Reader → RawTree → Reading

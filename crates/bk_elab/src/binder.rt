@@ -1,7 +1,7 @@
 // The names that binders bind: their types from clues, their ranges from conjuncts, and what is left of a predicate.
 
 ghost use Rattle.std.specs.Option.{option_map};
-ghost use Rattle.std.specs.Prelude.{◌≡◌, ◌+◌, ◌-◌, ◌^◌, ◌≤◌, ◌++◌, ℕ, suc, false, List, [], None, Some, Option, IfOk, OnOk, MatchOption, ◌<◌, min, length};
+ghost use Rattle.std.specs.Prelude.{◌≡◌, ◌+◌, ◌-◌, ◌^◌, ◌≤◌, ◌++◌, ℕ, suc, false, List, [], map, None, Some, Option, IfOk, OnOk, MatchOption, ◌<◌, min, length};
 ghost use Rattle.bk_val.specs.ValueType.{ValueType};
 ghost use Rattle.bk_form.specs.Formula.{Formula, comprehension, lambda, formulas_of, formulas_size};
 ghost use Rattle.bk_raw.specs.Binders.{quantified, unranged, as_bound, inside};
@@ -43,9 +43,9 @@ pub struct Conjunct<'a> {
     pub place: usize,
 }
 
-// Each name that stood before is at fault.
+/// The first fault of names in a list: each name that stood before is at fault.
 #[tactic(auto, using(crate::proofs::Blamed::blames, crate::proofs::Bindings::bindings))]
-pub(crate) fn twice(names: &[RawName]) -> Option<Fault>
+pub fn twice(names: &[RawName]) -> Option<Fault>
     ensures { told result ≡ blame (bound.twice [] names.now) }
 {
     let mut fault = None;
@@ -72,10 +72,40 @@ pub(crate) fn push_untyped<'a>(reader: &mut Reader<'a>, names: &'a [RawName]) ->
     reader.push_all(untyped)
 }
 
+// The same of names elsewhere.
+pub(crate) fn push_referred<'a>(
+    reader: &mut Reader<'a>,
+    names: &[&'a RawName],
+) -> Result<(), Memory>
+    ensures bounds { OnOk result (bounds_from (length reader.old.locals.items) reader.new ≡
+        bound.bound_names (map (λ x. x.now) names.now)) }
+    ensures stands { OnOk result (StandsBelow (length reader.old.locals.items) reader.old reader.new) }
+    ensures long { OnOk result (length reader.old.locals.items ≤ length reader.new.locals.items) }
+{
+    let untyped = referred(reader.alloc, names)?;
+    reader.push_all(untyped)
+}
+
 // Names without types.
 #[tactic(auto, using(crate::proofs::Bindings::bindings))]
 fn without_types<'a>(alloc: Global, names: &'a [RawName]) -> Result<Vec<Local<'a>>, Memory>
     ensures { IfOk result (λ ls. bounds_of ls.items ≡ bound.bound_names names.now) }
+{
+    let mut found = Vec::new(alloc);
+    for name in names {
+        found.push(Local {
+            text: name.text.as_bytes(),
+            at: name.at,
+            ty: None,
+        })?;
+    }
+    Ok(found)
+}
+
+// Names elsewhere without types.
+#[tactic(auto, using(crate::proofs::Bindings::bindings, crate::proofs::Under::referring))]
+fn referred<'a>(alloc: Global, names: &[&'a RawName]) -> Result<Vec<Local<'a>>, Memory>
+    ensures { IfOk result (λ ls. bounds_of ls.items ≡ bound.bound_names (map (λ x. x.now) names.now)) }
 {
     let mut found = Vec::new(alloc);
     for name in names {

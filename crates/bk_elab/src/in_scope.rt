@@ -6,7 +6,7 @@ ghost use Rattle.bk_elab.specs.Shown.{SaysOf};
 
 use crate::blame::earlier;
 use crate::error::ElabFault;
-use crate::sight::Reader;
+use crate::sight::{Outer, Reader};
 use bk_form::{Form, VarTable};
 use bk_raw::{RawTerm, Scope};
 use std::alloc::Global;
@@ -25,8 +25,7 @@ pub fn formula(
 {
     let mut reader = Reader {
         alloc,
-        table,
-        scope,
+        scope: Outer::OverTable(scope, table),
         locals: Vec::new(alloc),
     };
     let read = reader.read(raw)?;

@@ -2,7 +2,7 @@
 //! `term` stand beside them until the program reads all terms so.
 #![tactic(auto)]
 
-mod binder;
+pub mod binder;
 pub mod blame;
 mod dollar;
 pub mod error;
@@ -13,14 +13,15 @@ pub mod laws;
 mod made;
 pub mod meaning;
 mod operator;
-mod outcome;
+pub mod outcome;
 mod part;
-mod partial;
+pub mod partial;
 mod reading;
 pub mod scope;
 mod shape;
-mod sight;
+pub mod sight;
 pub mod term;
+pub mod visible;
 mod word;
 mod written;
 
@@ -28,5 +29,8 @@ pub use blame::{Fault, earlier};
 pub use error::ElabFault;
 pub use in_scope::formula;
 pub use meaning::Meaning;
+pub use outcome::{Asked, no_type};
 pub use scope::Scope;
+pub use sight::{Standing, Visible};
 pub use term::{condition, expression};
+pub use visible::Sight;

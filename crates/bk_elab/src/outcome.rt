@@ -7,6 +7,7 @@ ghost use Rattle.bk_raw.specs.Outcome.{Reading, Fault as FaultAt};
 ghost use Rattle.bk_raw.specs.ScopeReading.{ask_formula};
 ghost use Rattle.bk_raw.specs.TermReading.{behind_faults, spoilt_by};
 ghost use Rattle.bk_elab.specs.Blame.{blame};
+ghost use Rattle.bk_elab.specs.Blame as blamed;
 ghost use Rattle.bk_elab.specs.Shown.{shown_outcome, told, IsRead, IsAsked};
 
 use crate::blame::{Fault, earlier};
@@ -44,7 +45,7 @@ pub struct Asked<T> {
 }
 
 /// The fault of a formula or name without a type.
-pub(crate) fn no_type(at: usize) -> Option<Fault>
+pub fn no_type(at: usize) -> Option<Fault>
     ensures { told result ≡ blame (wanted.no_type at) }
 {
     Some(Fault {
@@ -119,6 +120,18 @@ impl Step {
 }
 
 impl<T: Drop> Asked<T> {
+    // The same behind the first of the faults of the part.
+    #[tactic(auto, using(crate::proofs::Blamed::blames))]
+    pub(crate) fn behind(self, fault: Option<Fault>) -> Asked<T>
+        ensures answer { result.answer ≡ self.answer }
+        ensures fault { told result.fault ≡ blamed.earlier (told fault) (told self.fault) }
+    {
+        Asked {
+            answer: self.answer,
+            fault: earlier(fault, self.fault),
+        }
+    }
+
     // It is there.
     pub(crate) fn answered(answer: T) -> Asked<T>
         ensures { IsAsked result.answer result.fault (wanted.answered answer) }

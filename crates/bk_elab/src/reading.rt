@@ -15,7 +15,7 @@ ghost use Rattle.bk_elab.specs.Conjuncts.{and_sides};
 ghost use Rattle.bk_elab.specs.Forms.{one_node, two_node};
 ghost use Rattle.bk_elab.specs.Kept.{IsKept, AreKept, StaysKept, StayKept};
 ghost use Rattle.bk_elab.specs.Shown.{told, IsRead};
-ghost use Rattle.bk_elab.specs.Sights.{read_by, node_by, names_of, names_below, bounds_from, ranges_as, IsRest, clues_by, named_node, numbered_node, named_abstraction, numbered_abstraction, Stands, StandsBelow};
+ghost use Rattle.bk_elab.specs.Sights.{around_of, read_by, node_by, names_of, names_below, bounds_from, ranges_as, IsRest, clues_by, named_node, numbered_node, named_abstraction, numbered_abstraction, Stands, StandsBelow};
 
 use crate::binder::{
     Ranged, abstracted, clue_type, comprehended, following, is_used, push_untyped, range,
@@ -49,7 +49,7 @@ impl<'a> Reader<'a> {
             RawNode::LevelName(name, level) => self.level_name(at, name, *level),
             RawNode::BoundName(bound) => self.bound_name(at, *bound),
             RawNode::Number(value) => number(alloc, *value),
-            RawNode::Constant(op) => constant(alloc, self.scope.max(), at, *op),
+            RawNode::Constant(op) => constant(alloc, self.max(), at, *op),
             RawNode::EmptySet => Ok(empty_set()),
             RawNode::TypedEmpty(ty) => self.typed_empty(at, ty),
             RawNode::Word(op, part) => self.one_part(OnePart::Word(*op), at, part),
@@ -114,7 +114,7 @@ impl<'a> Reader<'a> {
     #[cycle(reading)]
     fn extension(&mut self, at: usize, elements: &'a [RawTerm]) -> Result<Step, Memory>
         ensures read { IfOk result (λ s. IsRead s
-            (meant.extension_reading self.old.scope.now.max (names_of self.old) at (trees_of elements.now))) }
+            (meant.extension_reading (around_of self.old).max (names_of self.old) at (trees_of elements.now))) }
         ensures stands { OnOk result (Stands self.old self.new) }
     {
         let [first, others @ ..] = elements else {
@@ -159,7 +159,7 @@ impl<'a> Reader<'a> {
     ) -> Result<Step, Memory>
         requires { first ≤ length self.old.locals.items }
         ensures clues { OnOk result (bounds_from first self.new ≡
-            clues_by universal self.old.scope.now.max (names_below first self.old) (bounds_from first self.old) body.now) }
+            clues_by universal (around_of self.old).max (names_below first self.old) (bounds_from first self.old) body.now) }
         ensures read { IfOk result (λ s. IsRead s (read_by self.new body.now)) }
         ensures stands { OnOk result (StandsBelow first self.old self.new) }
         ensures count { OnOk result (length self.new.locals.items ≡ length self.old.locals.items) }
@@ -181,7 +181,7 @@ impl<'a> Reader<'a> {
     #[cycle(reading)]
     fn typed_conjunction(&mut self, first: usize, term: &'a RawTerm) -> Result<Step, Memory>
         requires { first ≤ length self.old.locals.items }
-        ensures clues { OnOk result (bounds_from first self.new ≡ meant.clues self.old.scope.now.max
+        ensures clues { OnOk result (bounds_from first self.new ≡ meant.clues (around_of self.old).max
             (names_below first self.old) (bounds_from first self.old) term.now) }
         ensures read { IfOk result (λ s. IsRead s (read_by self.new term.now)) }
         ensures stands { OnOk result (StandsBelow first self.old self.new) }
@@ -200,10 +200,10 @@ impl<'a> Reader<'a> {
         kept: &mut VecDeque<Option<Step>>,
         term: &'a RawTerm,
     ) -> Result<Step, Memory>
-        ensures read { IfOk result (λ s. (ts : List RawTree) → AreKept self.old.scope.now.max (names_of self.old)
+        ensures read { IfOk result (λ s. (ts : List RawTree) → AreKept (around_of self.old).max (names_of self.old)
             kept.old.items (conjuncts term.now ++ ts) → IsRead s (read_by self.old term.now)) }
-        ensures kept { OnOk result ((ts : List RawTree) → AreKept self.old.scope.now.max (names_of self.old)
-            kept.old.items (conjuncts term.now ++ ts) → AreKept self.old.scope.now.max (names_of self.old)
+        ensures kept { OnOk result ((ts : List RawTree) → AreKept (around_of self.old).max (names_of self.old)
+            kept.old.items (conjuncts term.now ++ ts) → AreKept (around_of self.old).max (names_of self.old)
             kept.new.items ts) }
         ensures stands { OnOk result (Stands self.old self.new) }
     {
@@ -221,7 +221,7 @@ impl<'a> Reader<'a> {
     #[tactic(auto, using(crate::proofs::Remembered::conjunctions, crate::proofs::Readings::readings, crate::proofs::Sizes::parts_are_smaller))]
     #[cycle(reading)]
     fn conjunct(&mut self, side: Option<Step>, term: &'a RawTerm) -> Result<Step, Memory>
-        ensures read { IfOk result (λ s. IsKept self.old.scope.now.max (names_of self.old) side term.now →
+        ensures read { IfOk result (λ s. IsKept (around_of self.old).max (names_of self.old) side term.now →
             IsRead s (read_by self.old term.now)) }
         ensures stands { OnOk result (Stands self.old self.new) }
     {
@@ -299,8 +299,8 @@ impl<'a> Reader<'a> {
     #[cycle(reading)]
     fn range_names(&mut self, names: &'a [RawName], body: &'a RawTerm) -> Result<Body<'a>, Memory>
         ensures ranges { IfOk result (λ b. ranges_as b.names.items ≡
-            meant.ranges self.old.scope.now.max (names_of self.old) names.now 0 (unranged names.now) body.now) }
-        ensures body { IfOk result (λ b. IsRead b.body (body_of (meant.rest self.old.scope.now.max
+            meant.ranges (around_of self.old).max (names_of self.old) names.now 0 (unranged names.now) body.now) }
+        ensures body { IfOk result (λ b. IsRead b.body (body_of (meant.rest (around_of self.old).max
             (names_of self.new) (ranges_as b.names.items) 0 None body.now))) }
         ensures names { IfOk result (λ b. names_of self.new ≡
             inside (as_bound (ranges_as b.names.items)) (names_of self.old)) }
@@ -327,9 +327,9 @@ impl<'a> Reader<'a> {
     #[cycle(reading)]
     fn numbered_ranges(&mut self, ranges: &'a [RawRange]) -> Result<NumberedRanges<'a>, Memory>
         ensures ranges { IfOk result (λ n. ranges_as n.names.items ≡
-            printed_ranges (meant.range_reads self.old.scope.now.max (names_of self.old) (ranges_of ranges.now))) }
+            printed_ranges (meant.range_reads (around_of self.old).max (names_of self.old) (ranges_of ranges.now))) }
         ensures fault { IfOk result (λ n. told n.fault ≡ blame (wrong_ranges (suc (count_locals (names_of self.old)))
-            (meant.range_reads self.old.scope.now.max (names_of self.old) (ranges_of ranges.now)))) }
+            (meant.range_reads (around_of self.old).max (names_of self.old) (ranges_of ranges.now)))) }
         ensures stands { OnOk result (Stands self.old self.new) }
     {
         let mut found = NumberedRanges {
@@ -386,17 +386,17 @@ impl<'a> Reader<'a> {
     // The right sides that were read are kept, one entry a conjunct.
     #[tactic(auto, using(crate::proofs::Remembered::typing, crate::proofs::Readings::readings, crate::proofs::Sizes::parts_are_smaller))]
     #[cycle(reading)]
-    fn clues(
+    pub(crate) fn clues(
         &mut self,
         first: usize,
         kept: &mut VecDeque<Option<Step>>,
         term: &'a RawTerm,
     ) -> Result<(), Memory>
         requires { first ≤ length self.old.locals.items }
-        ensures clues { OnOk result (bounds_from first self.new ≡ meant.clues self.old.scope.now.max
+        ensures clues { OnOk result (bounds_from first self.new ≡ meant.clues (around_of self.old).max
             (names_below first self.old) (bounds_from first self.old) term.now) }
-        ensures kept { OnOk result ((ts : List RawTree) → StayKept self.old.scope.now.max (names_below first self.old)
-            (bounds_from first self.old) kept.old.items ts → StayKept self.old.scope.now.max
+        ensures kept { OnOk result ((ts : List RawTree) → StayKept (around_of self.old).max (names_below first self.old)
+            (bounds_from first self.old) kept.old.items ts → StayKept (around_of self.old).max
             (names_below first self.old) (bounds_from first self.new) kept.new.items (ts ++ conjuncts term.now)) }
         ensures stands { OnOk result (StandsBelow first self.old self.new) }
         ensures count { OnOk result (length self.new.locals.items ≡ length self.old.locals.items) }
@@ -417,9 +417,9 @@ impl<'a> Reader<'a> {
     fn clue(&mut self, first: usize, term: &'a RawTerm) -> Result<Option<Step>, Memory>
         requires long { first ≤ length self.old.locals.items }
         requires alone { and_sides term.now ≡ None }
-        ensures clues { OnOk result (bounds_from first self.new ≡ meant.clues self.old.scope.now.max
+        ensures clues { OnOk result (bounds_from first self.new ≡ meant.clues (around_of self.old).max
             (names_below first self.old) (bounds_from first self.old) term.now) }
-        ensures kept { IfOk result (λ k. StaysKept self.old.scope.now.max (names_below first self.old)
+        ensures kept { IfOk result (λ k. StaysKept (around_of self.old).max (names_below first self.old)
             (bounds_from first self.new) k term.now) }
         ensures stands { OnOk result (StandsBelow first self.old self.new) }
         ensures count { OnOk result (length self.new.locals.items ≡ length self.old.locals.items) }
@@ -450,10 +450,10 @@ impl<'a> Reader<'a> {
         kept: &mut VecDeque<Option<Step>>,
         term: &'a RawTerm,
     ) -> Result<usize, Memory>
-        ensures ranges { OnOk result (ranges_as names.new.items ≡ meant.ranges self.old.scope.now.max
+        ensures ranges { OnOk result (ranges_as names.new.items ≡ meant.ranges (around_of self.old).max
             (names_of self.old) all.now number (ranges_as names.old.items) term.now) }
-        ensures kept { OnOk result ((ts : List RawTree) → StayKept self.old.scope.now.max (names_of self.old)
-            (bound_names all.now) kept.old.items ts → StayKept self.old.scope.now.max (names_of self.old)
+        ensures kept { OnOk result ((ts : List RawTree) → StayKept (around_of self.old).max (names_of self.old)
+            (bound_names all.now) kept.old.items ts → StayKept (around_of self.old).max (names_of self.old)
             (bound_names all.now) kept.new.items (ts ++ conjuncts term.now)) }
         ensures count { IfOk result (λ n. n ≡ number + length (conjuncts term.now)) }
         ensures stands { OnOk result (Stands self.old self.new) }
@@ -480,9 +480,9 @@ impl<'a> Reader<'a> {
         term: &'a RawTerm,
     ) -> Result<Option<Step>, Memory>
         requires { and_sides term.now ≡ None }
-        ensures ranges { OnOk result (ranges_as names.new.items ≡ meant.ranges self.old.scope.now.max
+        ensures ranges { OnOk result (ranges_as names.new.items ≡ meant.ranges (around_of self.old).max
             (names_of self.old) all.now number (ranges_as names.old.items) term.now) }
-        ensures kept { IfOk result (λ k. StaysKept self.old.scope.now.max (names_of self.old)
+        ensures kept { IfOk result (λ k. StaysKept (around_of self.old).max (names_of self.old)
             (bound_names all.now) k term.now) }
         ensures stands { OnOk result (Stands self.old self.new) }
     {
@@ -512,12 +512,12 @@ impl<'a> Reader<'a> {
         kept: &mut VecDeque<Option<Step>>,
         term: &'a RawTerm,
     ) -> Result<usize, Memory>
-        ensures rest { OnOk result ((ts : List RawTree) → AreKept self.old.scope.now.max (names_of self.old)
+        ensures rest { OnOk result ((ts : List RawTree) → AreKept (around_of self.old).max (names_of self.old)
             kept.old.items (conjuncts term.now ++ ts) → (before : Option Reading) → IsRest left_over.old before →
-            IsRest left_over.new (meant.rest self.old.scope.now.max (names_of self.old)
+            IsRest left_over.new (meant.rest (around_of self.old).max (names_of self.old)
             (ranges_as names.now) number before term.now)) }
-        ensures kept { OnOk result ((ts : List RawTree) → AreKept self.old.scope.now.max (names_of self.old)
-            kept.old.items (conjuncts term.now ++ ts) → AreKept self.old.scope.now.max (names_of self.old)
+        ensures kept { OnOk result ((ts : List RawTree) → AreKept (around_of self.old).max (names_of self.old)
+            kept.old.items (conjuncts term.now ++ ts) → AreKept (around_of self.old).max (names_of self.old)
             kept.new.items ts) }
         ensures count { IfOk result (λ n. n ≡ number + length (conjuncts term.now)) }
         ensures stands { OnOk result (Stands self.old self.new) }

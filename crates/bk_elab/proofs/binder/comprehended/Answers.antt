@@ -1,15 +1,12 @@
-use Rattle.std.proofs.Common.{◌≡◌, List, ◌++◌, true, false, sym, ◌∙◌, ap, subst, rules}
+use Rattle.std.proofs.Common.{◌≡◌, List, sym, ◌∙◌, ap, subst}
 use Rattle.std.specs.Option.{option_map}
 use Rattle.std.specs.Prelude.{◌&&◌}
-use Rattle.bk_val.specs.ValueType.{set_type}
-use Rattle.bk_form.specs.Formula.{comprehension, formulas_of}
 use Rattle.bk_raw.specs.Binders.{all_typed, as_bound, is_some_name, where_typed, if_holding}
-use Rattle.bk_raw.specs.Outcome.{whole, partial, holding}
 use Rattle.bk_elab.specs.Blame.{blame}
-use Rattle.bk_elab.specs.Shown.{shown_outcome, told}
+use Rattle.bk_elab.specs.Shown.{told}
 use Rattle.bk_elab.specs.Sights.{ranges_as, AreTaken}
 use Rattle.bk_elab.specs.declared.binder.Ranged.{Ranged as RangedName}
-use Rattle.bk_elab.proofs.Closing.{clean-some, typed-none, holding-none, taken-none, taken-some, set_told, comprehension_faults, comprehended-silent, comprehended-made}
+use Rattle.bk_elab.proofs.Closing.{clean-some, typed-none, holding-none, taken-none, set_told, comprehension_faults, comprehended-silent}
 use Rattle.bk_elab.proofs.binder.comprehended.Goals as goal
 
 pub returns-then-is_some : goal.returns-then-is_some

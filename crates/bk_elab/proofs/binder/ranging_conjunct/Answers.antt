@@ -1,12 +1,10 @@
-use Rattle.std.proofs.Common.{◌≡◌, ℕ, List, true, false, sym, ◌∙◌, ap, subst}
+use Rattle.std.proofs.Common.{◌≡◌, ℕ, List, sym, ◌∙◌, ap, subst}
 use Rattle.std.specs.Option.{option_copied}
-use Rattle.std.specs.Prelude.{Option, None, Some}
-use Rattle.bk_raw.specs.declared.operator.InfixOp.{InfixOp}
-use Rattle.bk_raw.specs.RawTree.{RawTree}
+use Rattle.std.specs.Prelude.{None, Some}
 use Rattle.bk_raw.specs.TermReading.{name_of}
 use Rattle.bk_elab.specs.Conjuncts.{infix_sides, shown_infix}
-use Rattle.bk_elab.specs.Sights.{ranges_as, LacksNone, LacksAt}
-use Rattle.bk_elab.proofs.Clued.{ranging-nameless, ranging-other, ranging-inner, ranging-formless, ranging-done, ranging-here}
+use Rattle.bk_elab.specs.Sights.{ranges_as, LacksAt}
+use Rattle.bk_elab.proofs.Clued.{ranging-nameless, ranging-other, ranging-inner, ranging-formless, ranging-here}
 use Rattle.bk_elab.proofs.binder.ranging_conjunct.Goals as goal
 use Rattle.bk_elab.proofs.binder.ranging_conjunct.Goals.{then-not-tells_range-via-then-not-tells_range, then-not-tells_range-via-else-not-tells_range+then-names_one}
 

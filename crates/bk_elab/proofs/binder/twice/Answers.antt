@@ -1,9 +1,8 @@
 use Rattle.std.proofs.Common.{◌≡◌, ℕ, List, [], true, false, sym, ◌∙◌, ap}
-use Rattle.std.specs.Prelude.{Option, None, Some, take}
+use Rattle.std.specs.Prelude.{take}
 use Rattle.bk_raw.specs.FreeNames.{is_among}
 use Rattle.bk_raw.specs.Binders.{twice}
 use Rattle.bk_elab.specs.Blame.{blame}
-use Rattle.bk_elab.specs.declared.blame.Fault.{Fault as ToldFault}
 use Rattle.bk_elab.specs.Shown.{told}
 use Rattle.bk_elab.proofs.Bindings.{twice-more}
 use Rattle.bk_elab.proofs.Blamed.{earlier-none}

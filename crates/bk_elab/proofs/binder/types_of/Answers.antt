@@ -1,4 +1,4 @@
-use Rattle.std.proofs.Common.{◌≡◌, ◌+◌, ◌++◌, ◌∷◌, [], List, take, sym, ◌∙◌, ap, subst}
+use Rattle.std.proofs.Common.{◌+◌, ◌++◌, ◌∷◌, [], List, take, sym, ◌∙◌, ap, subst}
 use Rattle.std.specs.Prelude.{Some}
 use Rattle.bk_val.specs.ValueType.{ValueType}
 use Rattle.bk_elab.specs.declared.sight.Local.{Local}

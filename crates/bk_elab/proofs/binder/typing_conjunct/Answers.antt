@@ -1,12 +1,10 @@
-use Rattle.std.proofs.Common.{◌≡◌, ℕ, List, true, false, sym, ◌∙◌, ap, subst}
+use Rattle.std.proofs.Common.{◌≡◌, ℕ, List, sym, ◌∙◌, ap, subst}
 use Rattle.std.specs.Option.{option_copied}
-use Rattle.std.specs.Prelude.{Option, None, Some}
-use Rattle.bk_raw.specs.declared.operator.InfixOp.{InfixOp}
-use Rattle.bk_raw.specs.RawTree.{RawTree}
+use Rattle.std.specs.Prelude.{None, Some}
 use Rattle.bk_raw.specs.TermReading.{name_of}
 use Rattle.bk_elab.specs.Conjuncts.{infix_sides, shown_infix}
-use Rattle.bk_elab.specs.Sights.{bounds_of, AwaitsNone, AwaitsAt}
-use Rattle.bk_elab.proofs.Clued.{typing-nameless, typing-other, typing-done, typing-here}
+use Rattle.bk_elab.specs.Sights.{bounds_of, AwaitsAt}
+use Rattle.bk_elab.proofs.Clued.{typing-nameless, typing-other, typing-here}
 use Rattle.bk_elab.proofs.binder.typing_conjunct.Goals as goal
 
 pub returns-in_default-name_of : goal.returns-in_default-name_of

@@ -1,6 +1,6 @@
-use Rattle.std.proofs.Common.{◌≡◌, ℕ, Bool, true, false, sym, ◌∙◌, ap}
+use Rattle.std.proofs.Common.{Bool, true, false, sym, ◌∙◌, ap}
 use Rattle.std.specs.Prelude.{Option, not}
-use Rattle.bk_raw.specs.Binders.{as_bound, untyped_faults}
+use Rattle.bk_raw.specs.Binders.{untyped_faults}
 use Rattle.bk_raw.specs.Outcome.{Fault}
 use Rattle.bk_elab.specs.Blame.{blame, earlier}
 use Rattle.bk_elab.specs.Shown.{told}

@@ -1,4 +1,4 @@
-use Rattle.std.proofs.Common.{◌≡◌, ℕ, List, ◌∙◌, ap, subst}
+use Rattle.std.proofs.Common.{ℕ, List, ◌∙◌, ap, subst}
 use Rattle.bk_form.specs.Role.{bind}
 use Rattle.bk_raw.specs.Binders.{locals}
 use Rattle.bk_raw.specs.ScopeReading.{ask_formula, names_in}

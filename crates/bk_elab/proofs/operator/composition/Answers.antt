@@ -1,5 +1,5 @@
-use Rattle.std.proofs.Common.{◌≡◌, List, sym, ap, subst}
-use Rattle.std.specs.Prelude.{Option, None, Some}
+use Rattle.std.proofs.Common.{List, ap, subst}
+use Rattle.std.specs.Prelude.{Option}
 use Rattle.bk_raw.specs.Outcome.{Fault, ask_relation}
 use Rattle.bk_raw.specs.OperatorReadings.{composed}
 use Rattle.bk_elab.specs.Shown.{shown_outcome, IsAsked}

@@ -1,4 +1,3 @@
-use Rattle.std.proofs.Common.{◌≡◌}
 use Rattle.bk_raw.specs.Outcome.{Partial, Reading}
 use Rattle.bk_raw.specs.OperatorReadings.{on_values}
 use Rattle.bk_elab.specs.Shown.{shown_outcome}

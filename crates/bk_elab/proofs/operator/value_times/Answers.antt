@@ -1,4 +1,4 @@
-use Rattle.std.proofs.Common.{◌≡◌, ℕ, sym, ◌∙◌, ap, subst}
+use Rattle.std.proofs.Common.{◌∙◌, ap, subst}
 use Rattle.std.specs.Prelude.{IfOk}
 use Rattle.bk_val.specs.ValueType.{ValueType, int_type, set_type}
 use Rattle.bk_raw.specs.Outcome.{whole, partial}

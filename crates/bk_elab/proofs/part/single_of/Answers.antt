@@ -1,8 +1,6 @@
-use Rattle.std.proofs.Common.{◌≡◌, ℕ, Bool, false, sym, subst}
-use Rattle.bk_raw.specs.Outcome.{Reading}
+use Rattle.std.proofs.Common.{false}
 use Rattle.bk_raw.specs.OperatorReadings.{single_reading}
-use Rattle.bk_raw.specs.TermReading.{part, place_of, from_one}
-use Rattle.bk_elab.specs.Shown.{IsRead}
+use Rattle.bk_raw.specs.TermReading.{part}
 use Rattle.bk_elab.proofs.Combined.{one-read}
 use Rattle.bk_elab.proofs.part.single_of.Goals as goal
 

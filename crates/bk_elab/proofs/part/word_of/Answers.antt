@@ -1,5 +1,4 @@
-use Rattle.std.proofs.Common.{◌≡◌, ℕ, Bool, false, sym, subst}
-use Rattle.bk_raw.specs.Outcome.{Reading}
+use Rattle.std.proofs.Common.{ℕ, Bool, subst}
 use Rattle.bk_raw.specs.OperatorReadings.{word_reading}
 use Rattle.bk_raw.specs.TermReading.{part, place_of, from_one}
 use Rattle.bk_elab.specs.Shown.{IsRead}

@@ -1,4 +1,4 @@
-use Rattle.std.proofs.Common.{◌≡◌, ◌∙◌, ap}
+use Rattle.std.proofs.Common.{◌∙◌, ap}
 use Rattle.bk_raw.specs.declared.term.RawRange.{RawRange}
 use Rattle.bk_raw.specs.RawTree.{RawTree}
 use Rattle.bk_raw.specs.TermReading.{stricts}

@@ -3,11 +3,11 @@ use Rattle.bk_elab.proofs.Forms.{two-parts-done}
 use Rattle.bk_elab.proofs.Ranging.{next-ranges, next-faults}
 use Rattle.bk_elab.proofs.Readings.{stands-through}
 use Rattle.bk_elab.proofs.Remembered.{clue-untold, clue-stays, kept-both, kept-more, range-lasting, range-stays, kept-ranges, kept-ranged, side-joined, one-read, both-read, kept-served, body-served, rest-both-kept, left-both-kept, rest-idle, rest-added, left-alone, kept-pushed}
-use Rattle.bk_elab.specs.Conjuncts.{and_sides, shown_pair, shown_infix}
+use Rattle.bk_elab.specs.Conjuncts.{shown_pair, shown_infix}
 use Rattle.bk_elab.specs.Forms.{two_reading}
 use Rattle.bk_elab.specs.Kept.{names_untyped, dollar_untyped, has_unsettled, IsKept, AreKept}
 use Rattle.bk_elab.specs.Shown.{IsRead}
-use Rattle.bk_elab.specs.Sights.{bounds_of, bounds_from, ranges_as, IsRest, TellsType, TellsRange, names_of, read_by}
+use Rattle.bk_elab.specs.Sights.{around_of, bounds_of, bounds_from, ranges_as, IsRest, TellsType, TellsRange, names_of, read_by}
 use Rattle.bk_elab.specs.declared.binder.Ranged.{Ranged}
 use Rattle.bk_elab.specs.declared.form.TwoParts.TheVariants.{Infix}
 use Rattle.bk_elab.specs.declared.outcome.Step.{Step}
@@ -113,7 +113,7 @@ ranges-returns-in-Some-clause-count t c =
 
 pub ranges-returns-clause-kept : goal.ranges-returns-clause-kept
 ranges-returns-clause-kept t c =
-    kept-ranged c.args.self.now.scope.now.max (names_of c.args.self.now) (bound_names c.args.all.now) c.args.term.now c.args.kept.now.items c.push_back.new.self.items c.in_ok-side.side
+    kept-ranged (around_of c.args.self.now).max (names_of c.args.self.now) (bound_names c.args.all.now) c.args.term.now c.args.kept.now.items c.push_back.new.self.items c.in_ok-side.side
     (sym c.and_sides.ensures ∙ ap shown_pair c.in_default.is) c.in_ok-side.ensures.kept c.in_ok-push_back.ensures.items
 
 pub ranges-returns-clause-count : goal.ranges-returns-clause-count
@@ -121,7 +121,7 @@ ranges-returns-clause-count t c = count-one c.args.number c.in_ok-behind.behind 
 
 pub conjunct-returns-clause-read : goal.conjunct-returns-clause-read
 conjunct-returns-clause-read t c =
-    subst (λ (k : Option Step). IfOk c.with_parts.result (λ s. IsKept c.args.self.now.scope.now.max (names_of c.args.self.now) k c.args.term.now → IsRead s (read_by c.args.self.now c.args.term.now))) (sym c.in-Some.is)
+    subst (λ (k : Option Step). IfOk c.with_parts.result (λ s. IsKept (around_of c.args.self.now).max (names_of c.args.self.now) k c.args.term.now → IsRead s (read_by c.args.self.now c.args.term.now))) (sym c.in-Some.is)
     (side-joined c.with_parts.result c.args.self.now c.args.term.now c.in-Some-infix_sides.left.now c.in-Some-infix_sides.right.now c.in-Some-infix_sides.op c.in-Some.side c.in_ok-one.one
     (sym c.infix_sides.ensures ∙ ap shown_infix c.in-Some-infix_sides.is) c.in_ok-one.ensures.read
     (subst (λ (n : ℕ). IfOk c.with_parts.result (λ s. (q p : Reading) → IsRead c.in_ok-one.one q → IsRead c.in-Some.side p → IsRead s (two_reading (Infix c.in-Some-infix_sides.op) n c.in-Some-infix_sides.left.now c.in-Some-infix_sides.right.now q p)))
@@ -184,7 +184,7 @@ rest-returns-clause-kept t c =
 
 pub range_names-returns-in_default-clause-body : goal.range_names-returns-in_default-clause-body
 range_names-returns-in_default-clause-body t c =
-    let kept : AreKept c.push_ranged.new.self.scope.now.max (names_of c.push_ranged.new.self) c.ranges-2.new.kept.items (conjuncts c.args.body.now ++ []) =
+    let kept : AreKept (around_of c.push_ranged.new.self).max (names_of c.push_ranged.new.self) c.ranges-2.new.kept.items (conjuncts c.args.body.now ++ []) =
     kept-pushed c.args.self.now c.ranges-2.new.self c.push_ranged.new.self c.args.names.now (ranges_as c.in_ok-found.found.items) c.ranges-2.new.names.items c.as_slice-listed.result.now c.args.body.now c.new-kept.result.items c.ranges-2.new.kept.items
     c.new-kept.ensures.items c.in_ok-found.ensures c.in_ok-ranges.ensures.ranges c.in_ok-ranges.ensures.stands c.as_slice-listed.ensures.value c.in_ok-push_ranged.ensures.stands.scope c.in_ok-push_ranged.ensures.names c.in_ok-ranges.ensures.kept
     in
@@ -194,7 +194,7 @@ range_names-returns-in_default-clause-body t c =
 
 pub range_names-returns-clause-body : goal.range_names-returns-clause-body
 range_names-returns-clause-body t c =
-    let kept : AreKept c.push_ranged.new.self.scope.now.max (names_of c.push_ranged.new.self) c.ranges-2.new.kept.items (conjuncts c.args.body.now ++ []) =
+    let kept : AreKept (around_of c.push_ranged.new.self).max (names_of c.push_ranged.new.self) c.ranges-2.new.kept.items (conjuncts c.args.body.now ++ []) =
     kept-pushed c.args.self.now c.ranges-2.new.self c.push_ranged.new.self c.args.names.now (ranges_as c.in_ok-found.found.items) c.ranges-2.new.names.items c.as_slice-listed.result.now c.args.body.now c.new-kept.result.items c.ranges-2.new.kept.items
     c.new-kept.ensures.items c.in_ok-found.ensures c.in_ok-ranges.ensures.ranges c.in_ok-ranges.ensures.stands c.as_slice-listed.ensures.value c.in_ok-push_ranged.ensures.stands.scope c.in_ok-push_ranged.ensures.names c.in_ok-ranges.ensures.kept
     in

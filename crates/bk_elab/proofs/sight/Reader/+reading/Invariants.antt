@@ -1,4 +1,4 @@
-use Rattle.std.proofs.Common.{◌≡◌, ◌+◌, ◌*◌, ◌++◌, ℕ, suc, drop}
+use Rattle.std.proofs.Common.{◌≡◌, ◌+◌, ◌*◌, ◌++◌, suc, drop}
 use Rattle.bk_raw.specs.Names.{count_locals}
 use Rattle.bk_raw.specs.Printed.{printed_ranges, wrong_ranges}
 use Rattle.bk_raw.specs.RawTree.{tree_size, trees_size, ranges_size, trees_of}
@@ -6,7 +6,7 @@ use Rattle.bk_raw.specs.RawView.{ranges_of}
 use Rattle.bk_raw.specs.TermReading.{extension_reading, range_reads}
 use Rattle.bk_elab.specs.Blame.{blame, earlier}
 use Rattle.bk_elab.specs.Shown.{told}
-use Rattle.bk_elab.specs.Sights.{names_of, ranges_as, Stands}
+use Rattle.bk_elab.specs.Sights.{around_of, names_of, ranges_as, Stands}
 use Rattle.bk_elab.proofs.Elements.{SetSoFar}
 use Rattle.bk_elab.proofs.Sizes.{option_size}
 use Rattle.bk_elab.proofs.sight.Reader.+reading.Given as goal
@@ -70,14 +70,14 @@ decreases-numbered_abstraction l = 8 * (ranges_size (ranges_of l.ranges.now) + (
 
 abbrev pub invariant-extension-loop-element : goal.invariant-extension-loop-element
 invariant-extension-loop-element l = record {
-  set : SetSoFar l.fn.self.scope.now.max (names_of l.fn.self) l.at l.set (drop l.element-index l.others) (extension_reading l.fn.self.scope.now.max (names_of l.fn.self) l.at (trees_of l.elements));
+  set : SetSoFar (around_of l.fn.self).max (names_of l.fn.self) l.at l.set (drop l.element-index l.others) (extension_reading (around_of l.fn.self).max (names_of l.fn.self) l.at (trees_of l.elements));
   stands : Stands l.fn.self l.self;
 }
 
 -- the ranges so far and those that are left are all, and so are their faults
 abbrev pub invariant-numbered_ranges-loop-index : goal.invariant-numbered_ranges-loop-index
 invariant-numbered_ranges-loop-index l = record {
-  ranges : ranges_as l.found.names.items ++ printed_ranges (range_reads l.fn.self.scope.now.max (names_of l.fn.self) (ranges_of (drop l.index l.ranges))) ≡ printed_ranges (range_reads l.fn.self.scope.now.max (names_of l.fn.self) (ranges_of l.ranges));
-  faults : earlier (told l.found.fault) (blame (wrong_ranges (suc (count_locals (names_of l.fn.self) + l.index)) (range_reads l.fn.self.scope.now.max (names_of l.fn.self) (ranges_of (drop l.index l.ranges))))) ≡ blame (wrong_ranges (suc (count_locals (names_of l.fn.self))) (range_reads l.fn.self.scope.now.max (names_of l.fn.self) (ranges_of l.ranges)));
+  ranges : ranges_as l.found.names.items ++ printed_ranges (range_reads (around_of l.fn.self).max (names_of l.fn.self) (ranges_of (drop l.index l.ranges))) ≡ printed_ranges (range_reads (around_of l.fn.self).max (names_of l.fn.self) (ranges_of l.ranges));
+  faults : earlier (told l.found.fault) (blame (wrong_ranges (suc (count_locals (names_of l.fn.self) + l.index)) (range_reads (around_of l.fn.self).max (names_of l.fn.self) (ranges_of (drop l.index l.ranges))))) ≡ blame (wrong_ranges (suc (count_locals (names_of l.fn.self))) (range_reads (around_of l.fn.self).max (names_of l.fn.self) (ranges_of l.ranges)));
   stands : Stands l.fn.self l.self;
 }

@@ -1,4 +1,4 @@
-use Rattle.std.proofs.Common.{◌≡◌, sym, ◌∙◌, ap, true, false}
+use Rattle.std.proofs.Common.{sym, ◌∙◌, ap}
 use Rattle.bk_elab.specs.Sights.{names_of, shown_sight}
 use Rattle.bk_elab.proofs.Keeping.{silent-untyped, not-empty}
 use Rattle.bk_elab.proofs.sight.Reader.is_untold_by.Goals as goal

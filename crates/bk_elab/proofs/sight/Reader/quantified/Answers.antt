@@ -1,4 +1,4 @@
-use Rattle.std.proofs.Common.{◌≡◌, List, drop, ◌++◌, true, false, sym, ◌∙◌, ap, rules}
+use Rattle.std.proofs.Common.{◌≡◌, List, drop, ◌++◌, sym, ◌∙◌, ap}
 use Rattle.std.proofs.lemmas.List.{take_rest}
 use Rattle.bk_raw.specs.Binders.{untyped_faults, all_typed, types_of, where_typed, if_holding}
 use Rattle.bk_raw.specs.Outcome.{holding}

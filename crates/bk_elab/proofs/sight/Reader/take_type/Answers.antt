@@ -1,4 +1,4 @@
-use Rattle.std.proofs.Common.{◌≡◌, sym, ◌∙◌, ap, rules, refl}
+use Rattle.std.proofs.Common.{sym, ◌∙◌, ap, refl}
 use Rattle.std.specs.Prelude.{Option, Some}
 use Rattle.bk_val.specs.ValueType.{ValueType}
 use Rattle.bk_elab.specs.Sights.{given_at, bounds_from}

@@ -1,10 +1,10 @@
-use Rattle.std.proofs.Common.{◌≡◌, ℕ, List, sym, ◌∙◌, subst, arith}
+use Rattle.std.proofs.Common.{◌≡◌, sym, ◌∙◌, subst, arith}
 use Rattle.std.specs.Prelude.{Option, None, Some}
 use Rattle.bk_raw.specs.Names.{found}
 use Rattle.bk_elab.specs.Sights.{set_in_front, seen_or}
 use Rattle.bk_elab.specs.declared.sight.Seen.{Seen}
 use Rattle.bk_elab.proofs.Sighted.{set-found}
-use Rattle.bk_elab.proofs.sight.Reader.find_set.Goals as goal
+use Rattle.bk_elab.proofs.sight.Tabled.find_set.Goals as goal
 
 pub returns-in-Some : goal.returns-in-Some
 returns-in-Some c =

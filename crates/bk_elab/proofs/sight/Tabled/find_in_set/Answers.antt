@@ -1,8 +1,8 @@
-use Rattle.std.proofs.Common.{◌≡◌, ℕ, List, false, sym, ◌∙◌, subst}
+use Rattle.std.proofs.Common.{◌≡◌, ℕ, false, sym, ◌∙◌, subst}
 use Rattle.std.specs.Prelude.{Option, MatchOption}
 use Rattle.bk_elab.specs.Sights.{among, IsFirstAt}
 use Rattle.bk_elab.proofs.Sighted.{element-found}
-use Rattle.bk_elab.proofs.sight.Reader.find_in_set.Goals as goal
+use Rattle.bk_elab.proofs.sight.Tabled.find_in_set.Goals as goal
 
 pub returns : goal.returns
 returns c = λ e rest h.

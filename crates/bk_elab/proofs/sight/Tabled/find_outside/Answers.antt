@@ -1,12 +1,12 @@
-use Rattle.std.proofs.Common.{◌≡◌, ℕ, List, true, false, sym, ◌∙◌, ap, rules, arith}
-use Rattle.std.specs.Prelude.{Option, Some}
+use Rattle.std.proofs.Common.{◌≡◌, ℕ, true, false, sym, ◌∙◌, ap, rules}
+use Rattle.std.specs.Prelude.{Option}
 use Rattle.std.specs.Str.{bytes_eq}
 use Rattle.bk_raw.specs.Names.{found}
 use Rattle.bk_raw.specs.ScopeReading.{set_names}
 use Rattle.bk_elab.proofs.Seen.{seen_last}
 use Rattle.bk_elab.proofs.Sighted.{scope-here, scope-not}
-use Rattle.bk_elab.proofs.sight.Reader.find_outside.Goals as goal
-use Rattle.bk_elab.proofs.sight.Reader.find_outside.Goals.{then-eq, else-eq}
+use Rattle.bk_elab.proofs.sight.Tabled.find_outside.Goals as goal
+use Rattle.bk_elab.proofs.sight.Tabled.find_outside.Goals.{then-eq, else-eq}
 
 pub loop-entry-preserved : goal.loop-entry-preserved
 loop-entry-preserved c =

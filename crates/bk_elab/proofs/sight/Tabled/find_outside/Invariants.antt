@@ -2,7 +2,7 @@ use Rattle.std.proofs.Common.{◌≡◌, take}
 use Rattle.bk_raw.specs.Names.{found}
 use Rattle.bk_raw.specs.ScopeReading.{scope_names, set_names}
 use Rattle.bk_elab.proofs.Seen.{seen_last}
-use Rattle.bk_elab.proofs.sight.Reader.find_outside.Given as goal
+use Rattle.bk_elab.proofs.sight.Tabled.find_outside.Given as goal
 
 -- the last of the entries so far with the name, and else the sets and their elements
 abbrev pub invariant-loop-entry : goal.invariant-loop-entry
