@@ -195,6 +195,7 @@ impl OperationEntries {
         let Statement::Built(body, _) = body else {
             return Ok(OperationEntries::High);
         };
+        let body = Box::into_inner(body);
         all.push(RawOperation {
             outputs: title.outputs,
             name: title.name,

@@ -112,7 +112,10 @@ fn one_substitution(alloc: Global, tokens: &[Token]) -> Result<Option<(Behind, &
         return Ok(None);
     };
     match statement {
-        Statement::Built(sub, _) => Ok(Some((Behind::Built(ClauseParts::Substitution(sub)), rest))),
+        Statement::Built(sub, _) => {
+            let sub = Box::into_inner(sub);
+            Ok(Some((Behind::Built(ClauseParts::Substitution(sub)), rest)))
+        }
         Statement::High => Ok(Some((Behind::High, rest))),
     }
 }

@@ -16,11 +16,10 @@ use Rattle.bk_raw.proofs.TermRuns.{ends_term, term}
 use Rattle.bk_raw.proofs.Exact.{one_for_its_tokens}
 use Rattle.bk_raw.proofs.SubParts.{ends_list}
 use Rattle.bk_p_expr.specs.Fronts.{Longest, Nothing}
-use Rattle.bk_p_expr.specs.Pieces.{IsPiece}
-use Rattle.bk_p_expr.specs.declared.piece.Piece.{Piece as Term}
+use Rattle.bk_p_sub.specs.declared.term.Term.{Term}
 use Rattle.bk_p_sub.specs.Longest.{Left}
 use Rattle.bk_p_sub.specs.Found.{Atom, Ahead, NotAhead, Before, FoundBefore, BranchesEnd, ChoicesEnd, LoopEnd}
-use Rattle.bk_p_sub.specs.Statements.{IsStatement, IsAround, IsBranches, IsChoices, IsOpen, tested_node, word_of, followed_by, and_branch, and_else, chosen_then, and_choice}
+use Rattle.bk_p_sub.specs.Statements.{IsStatement, IsTerm, IsAround, IsBranches, IsChoices, IsOpen, tested_node, word_of, followed_by, and_branch, and_else, chosen_then, and_choice}
 use Rattle.bk_p_sub.specs.declared.statement.Statement.{Statement}
 use Rattle.bk_p_sub.specs.declared.statement.Around.{Around}
 use Rattle.bk_p_sub.specs.declared.statement.Test.{Test}
@@ -59,7 +58,7 @@ module _ (op : ℕ) (w : IsBranchWord op) (tokens : List Token) (all : BuiltOnes
   pub branches_none_body : (behind inside : List Token) (condition : Term) → Ahead (Word op) ts behind → FoundBefore (Word THEN) behind condition inside → Nothing (λ (s : SubTree). Sub s 0) inside → Nothing (BranchesEnd op) tokens
   branches_none_body behind inside condition a h n = sub_part_nothing (BranchesEnd op) (BranchesEnd op) tokens inside (λ q. followed_by s.branches (branch_and h.0 q.0 q.1)) (behind_test behind inside h.0 a h.1) n
 
-  pub branches_go_on : (behind inside after : List Token) (condition : Term) (body : Statement) (new : BuiltOnes) → Ahead (Word op) ts behind → FoundBefore (Word THEN) behind condition inside → FoundSub 0 inside body after → length inside < length behind → length after < length inside → IsOpen new → ((bs : Branches) (p : RawTree) (t : SubTree) → IsBranches bs all → IsPiece p condition → IsStatement t body → IsBranches (and_branch bs p t) new) → BranchesSoFar op tokens new after
+  pub branches_go_on : (behind inside after : List Token) (condition : Term) (body : Statement) (new : BuiltOnes) → Ahead (Word op) ts behind → FoundBefore (Word THEN) behind condition inside → FoundSub 0 inside body after → length inside < length behind → length after < length inside → IsOpen new → ((bs : Branches) (p : RawTree) (t : SubTree) → IsBranches bs all → IsTerm p condition → IsStatement t body → IsBranches (and_branch bs p t) new) → BranchesSoFar op tokens new after
   branches_go_on behind inside after condition body new a h k l m o f = record {
     branches = and_branch s.branches h.0 k.0;
     built = f s.branches h.0 k.0 s.built h.2 k.2;
@@ -137,7 +136,7 @@ before_longest tokens rest v h =
     (left_part (λ (v : RawTree). Spells v ⌢ JustWord END) Spells (λ (v : RawTree). Spells v ⌢ JustWord END) (λ (_ : Unit {0}). JustWord END) (λ x y. x) ends_term (λ t. term t 0) (λ t u ts k l. one_for_its_tokens ts t u k l) (stops_on_last ends_term (Word END) refl) (λ z back k. (z, tt, refl, k)) (λ x y back k. k) tokens tokens (h.sign ∷ rest) (λ v. v) v (left_whole (λ (v : RawTree). Spells v ⌢ JustWord END) tokens) h.found)
     (longest_token (Word END) h.sign rest h.same)
 
-pub loop_end_found : (tokens inside behind rest : List Token) (invariant variant : Term) → Ahead (Word INVARIANT) tokens inside → FoundBefore (Word VARIANT) inside invariant behind → FoundBefore (Word END) behind variant rest → (q : RawTree × RawTree) × Longest LoopEnd tokens q rest × IsPiece q.0 invariant × IsPiece q.1 variant
+pub loop_end_found : (tokens inside behind rest : List Token) (invariant variant : Term) → Ahead (Word INVARIANT) tokens inside → FoundBefore (Word VARIANT) inside invariant behind → FoundBefore (Word END) behind variant rest → (q : RawTree × RawTree) × Longest LoopEnd tokens q rest × IsTerm q.0 invariant × IsTerm q.1 variant
 loop_end_found tokens inside behind rest invariant variant a h k = ((h.0, k.0), left_longest LoopEnd (λ (v : RawTree). Spells v ⌢ JustWord END) tokens behind rest (λ v. (h.0, v)) k.0 (variant_left tokens inside behind h.0 a h.1) (before_longest behind rest k.0 k.1), h.2, k.2)
 
 -- ---- atoms
@@ -160,10 +159,10 @@ block_longest Behind stops tokens inside after rest make s y l h k = left_longes
 block_nothing : {B : Type 0} (Behind : B → Piece) → StopsOn ends_list Behind → (tokens inside after : List Token) (make : SubTree × B → SubTree) (s : SubTree) → Left Atom tokens (λ (q : SubTree × B). Sub q.0 0 ⌢ Behind q.1) inside make → Longest (λ (s : SubTree). Sub s 0) inside s after → Nothing Behind after → Nothing Atom tokens
 block_nothing Behind stops tokens inside after make s l h n = left_nothing Atom Behind tokens after (λ y. make (s, y)) (sub_part Atom Behind stops tokens inside after make s l h) n
 
-pub tested_found : (test : Test) (tokens inside after rest : List Token) (at : ℕ) (condition : Term) (body new : Statement) (branches : BuiltOnes) → at ≡ start tokens → (p : RawTree) × IsPiece p condition × Left Atom tokens (λ (q : SubTree × Branches). Sub q.0 0 ⌢ BranchesEnd (word_of test) q.1) inside (λ q. sub (start tokens) (tested_node test p q.0 q.1)) → FoundSub 0 inside body after → (bs : Branches) × Longest (BranchesEnd (word_of test)) after bs rest × IsBranches bs branches → ((p : RawTree) (s : SubTree) (bs : Branches) → IsStatement s body → IsPiece p condition → IsBranches bs branches → IsStatement (sub at (tested_node test p s bs)) new) → FoundSub 2 tokens new rest
+pub tested_found : (test : Test) (tokens inside after rest : List Token) (at : ℕ) (condition : Term) (body new : Statement) (branches : BuiltOnes) → at ≡ start tokens → (p : RawTree) × IsTerm p condition × Left Atom tokens (λ (q : SubTree × Branches). Sub q.0 0 ⌢ BranchesEnd (word_of test) q.1) inside (λ q. sub (start tokens) (tested_node test p q.0 q.1)) → FoundSub 0 inside body after → (bs : Branches) × Longest (BranchesEnd (word_of test)) after bs rest × IsBranches bs branches → ((p : RawTree) (s : SubTree) (bs : Branches) → IsStatement s body → IsTerm p condition → IsBranches bs branches → IsStatement (sub at (tested_node test p s bs)) new) → FoundSub 2 tokens new rest
 tested_found test tokens inside after rest at condition body new branches e o k b f = (sub (start tokens) (tested_node test o.0 k.0 b.0), block_longest (BranchesEnd (word_of test)) (stops_branches (word_of test) (branch_word test)) tokens inside after rest (λ q. sub (start tokens) (tested_node test o.0 q.0 q.1)) k.0 b.0 o.2 k.1 b.1, subst (λ n. IsStatement (sub n (tested_node test o.0 k.0 b.0)) new) e (f o.0 k.0 b.0 k.2 o.1 b.2))
 
-pub tested_none : (test : Test) (tokens inside after : List Token) (condition : Term) (body : Statement) → (p : RawTree) × IsPiece p condition × Left Atom tokens (λ (q : SubTree × Branches). Sub q.0 0 ⌢ BranchesEnd (word_of test) q.1) inside (λ q. sub (start tokens) (tested_node test p q.0 q.1)) → FoundSub 0 inside body after → Nothing (BranchesEnd (word_of test)) after → Nothing Atom tokens
+pub tested_none : (test : Test) (tokens inside after : List Token) (condition : Term) (body : Statement) → (p : RawTree) × IsTerm p condition × Left Atom tokens (λ (q : SubTree × Branches). Sub q.0 0 ⌢ BranchesEnd (word_of test) q.1) inside (λ q. sub (start tokens) (tested_node test p q.0 q.1)) → FoundSub 0 inside body after → Nothing (BranchesEnd (word_of test)) after → Nothing Atom tokens
 tested_none test tokens inside after condition body o k n = block_nothing (BranchesEnd (word_of test)) (stops_branches (word_of test) (branch_word test)) tokens inside after (λ q. sub (start tokens) (tested_node test o.0 q.0 q.1)) k.0 o.2 k.1 n
 
 pub choice_found : (tokens inside after rest : List Token) (at : ℕ) (body new : Statement) (choices : BuiltOthers) → at ≡ start tokens → Left Atom tokens (λ (q : SubTree × Choices). Sub q.0 0 ⌢ ChoicesEnd q.1) inside (λ q. sub (start tokens) (sub_choice q.0 q.1)) → FoundSub 0 inside body after → (cs : Choices) × Longest ChoicesEnd after cs rest × IsChoices cs choices → ((s : SubTree) (cs : Choices) → IsStatement s body → IsChoices cs choices → IsStatement (sub at (sub_choice s cs)) new) → FoundSub 2 tokens new rest
@@ -172,8 +171,8 @@ choice_found tokens inside after rest at body new choices e o k b f = (sub (star
 pub choice_none : (tokens inside after : List Token) (body : Statement) → Left Atom tokens (λ (q : SubTree × Choices). Sub q.0 0 ⌢ ChoicesEnd q.1) inside (λ q. sub (start tokens) (sub_choice q.0 q.1)) → FoundSub 0 inside body after → Nothing ChoicesEnd after → Nothing Atom tokens
 choice_none tokens inside after body o k n = block_nothing ChoicesEnd stops_choices tokens inside after (λ q. sub (start tokens) (sub_choice q.0 q.1)) k.0 o k.1 n
 
-pub loop_found : (tokens inside after rest : List Token) (at : ℕ) (condition invariant variant : Term) (body new : Statement) → at ≡ start tokens → (p : RawTree) × IsPiece p condition × Left Atom tokens (λ (q : SubTree × (RawTree × RawTree)). Sub q.0 0 ⌢ LoopEnd q.1) inside (λ q. sub (start tokens) (sub_while p q.0 q.1.0 q.1.1)) → FoundSub 0 inside body after → (q : RawTree × RawTree) × Longest LoopEnd after q rest × IsPiece q.0 invariant × IsPiece q.1 variant → ((p : RawTree) (s : SubTree) (i v : RawTree) → IsStatement s body → IsPiece p condition → IsPiece i invariant → IsPiece v variant → IsStatement (sub at (sub_while p s i v)) new) → FoundSub 2 tokens new rest
+pub loop_found : (tokens inside after rest : List Token) (at : ℕ) (condition invariant variant : Term) (body new : Statement) → at ≡ start tokens → (p : RawTree) × IsTerm p condition × Left Atom tokens (λ (q : SubTree × (RawTree × RawTree)). Sub q.0 0 ⌢ LoopEnd q.1) inside (λ q. sub (start tokens) (sub_while p q.0 q.1.0 q.1.1)) → FoundSub 0 inside body after → (q : RawTree × RawTree) × Longest LoopEnd after q rest × IsTerm q.0 invariant × IsTerm q.1 variant → ((p : RawTree) (s : SubTree) (i v : RawTree) → IsStatement s body → IsTerm p condition → IsTerm i invariant → IsTerm v variant → IsStatement (sub at (sub_while p s i v)) new) → FoundSub 2 tokens new rest
 loop_found tokens inside after rest at condition invariant variant body new e o k b f = (sub (start tokens) (sub_while o.0 k.0 b.0.0 b.0.1), block_longest LoopEnd stops_loop_end tokens inside after rest (λ q. sub (start tokens) (sub_while o.0 q.0 q.1.0 q.1.1)) k.0 b.0 o.2 k.1 b.1, subst (λ n. IsStatement (sub n (sub_while o.0 k.0 b.0.0 b.0.1)) new) e (f o.0 k.0 b.0.0 b.0.1 k.2 o.1 b.2 b.3))
 
-pub loop_none : (tokens inside after : List Token) (condition : Term) (body : Statement) → (p : RawTree) × IsPiece p condition × Left Atom tokens (λ (q : SubTree × (RawTree × RawTree)). Sub q.0 0 ⌢ LoopEnd q.1) inside (λ q. sub (start tokens) (sub_while p q.0 q.1.0 q.1.1)) → FoundSub 0 inside body after → Nothing LoopEnd after → Nothing Atom tokens
+pub loop_none : (tokens inside after : List Token) (condition : Term) (body : Statement) → (p : RawTree) × IsTerm p condition × Left Atom tokens (λ (q : SubTree × (RawTree × RawTree)). Sub q.0 0 ⌢ LoopEnd q.1) inside (λ q. sub (start tokens) (sub_while p q.0 q.1.0 q.1.1)) → FoundSub 0 inside body after → Nothing LoopEnd after → Nothing Atom tokens
 loop_none tokens inside after condition body o k n = block_nothing LoopEnd stops_loop_end tokens inside after (λ q. sub (start tokens) (sub_while o.0 q.0 q.1.0 q.1.1)) k.0 o.2 k.1 n

@@ -7,7 +7,7 @@ use Rattle.bk_raw.specs.Pieces.{JustWord, ◌⌢◌}
 use Rattle.bk_raw.specs.Spelling.{Spells}
 use Rattle.bk_raw.specs.SubTree.{sub_pre, sub_assert}
 use Rattle.bk_p_expr.specs.Fronts.{Nothing}
-use Rattle.bk_p_expr.specs.declared.piece.Piece.{Piece as Term}
+use Rattle.bk_p_sub.specs.declared.term.Term.{Term}
 use Rattle.bk_p_sub.specs.Found.{Atom, FoundBefore, Opens, guard_begins, guard_end, guard_kind}
 use Rattle.bk_p_sub.specs.declared.opening.Opening.{Opening}
 use Rattle.bk_p_sub.specs.declared.opening.Guard.{Guard}

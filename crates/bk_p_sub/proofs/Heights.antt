@@ -6,12 +6,15 @@ use Rattle.bk_raw.specs.SubTree.{SubTree, sub, SubNode, sub_if, sub_select, sub_
 use Rattle.bk_raw.specs.SubView.{branches_of, choices_of, sub_node_of}
 use Rattle.bk_raw.specs.declared.substitution.RawBranch.{RawBranch}
 use Rattle.bk_raw.specs.declared.substitution.RawSubNode.TheVariants.{If as RawIf, Select as RawSelect}
-use Rattle.bk_p_expr.specs.Pieces.{IsPiece, IsTerms}
-use Rattle.bk_p_expr.specs.declared.piece.Piece.{Piece as Term}
-use Rattle.bk_p_expr.specs.declared.piece.Piece.TheVariants.{Built as BuiltTerm, High as HighTerm}
+use Rattle.bk_raw.specs.FreeNames.{conjuncts}
+use Rattle.bk_p_expr.specs.Conjuncts.{AreConjuncts}
+use Rattle.bk_p_expr.specs.declared.free.Conjunct.{Conjunct}
+use Rattle.bk_p_expr.specs.Pieces.{IsTerms}
+use Rattle.bk_p_sub.specs.declared.term.Term.{Term}
+use Rattle.bk_p_sub.specs.declared.term.Term.TheVariants.{Built as BuiltTerm, High as HighTerm}
 use Rattle.bk_p_expr.specs.declared.piece.Terms.{Terms}
 use Rattle.bk_p_expr.specs.declared.piece.Terms.TheVariants.{Built as BuiltTerms, High as HighTerms}
-use Rattle.bk_p_sub.specs.Statements.{IsStatement, IsAround, IsBranches, IsChoices, followed_by, chosen_then, head_node, joint_node, tested_node}
+use Rattle.bk_p_sub.specs.Statements.{IsStatement, IsTerm, IsAround, IsBranches, IsChoices, followed_by, chosen_then, head_node, joint_node, tested_node}
 use Rattle.bk_p_sub.specs.declared.statement.Statement.{Statement}
 use Rattle.bk_p_sub.specs.declared.statement.Statement.TheVariants.{High}
 use Rattle.bk_p_sub.specs.declared.statement.Around.{Around}
@@ -37,15 +40,24 @@ high_statement self s e h = subst (λ t. IsStatement s t) e h
 -- whether a term is built, and whether terms are
 abbrev pub is_built : Term → Bool
 is_built (BuiltTerm term height) = true
-is_built (HighTerm facts) = false
+is_built (HighTerm known) = false
 
 abbrev pub are_built : Terms → Bool
 are_built (BuiltTerms terms height) = true
 are_built (HighTerms free) = false
 
-pub high_term : (self : Term) (p : RawTree) → is_built self ≡ false → IsPiece p self → 1000 < tree_height p
+pub high_term : (self : Term) (p : RawTree) → is_built self ≡ false → IsTerm p self → 1000 < tree_height p
 high_term (BuiltTerm term height) p n h = absurd (true_false n)
-high_term (HighTerm facts) p n h = h.0
+high_term (HighTerm known) p n h = h.0
+
+-- what is known of a term that is not built
+abbrev pub known_of : Term → List Conjunct
+known_of (BuiltTerm term height) = []
+known_of (HighTerm known) = known.items
+
+pub high_known : (p : RawTree) (self : Term) → is_built self ≡ false → IsTerm p self → AreConjuncts (conjuncts p) (known_of self)
+high_known p (BuiltTerm term height) n h = absurd (true_false n)
+high_known p (HighTerm known) n h = h.1
 
 pub high_terms : (self : Terms) (us : RawTrees) → are_built self ≡ false → IsTerms us self → 1000 < trees_height us
 high_terms (BuiltTerms terms height) us n h = absurd (true_false n)
@@ -87,7 +99,7 @@ around_too_high at block form self s e h w =
     m
 
 -- and than its predicate
-pub under_too_high : (at : ℕ) (head : Head) (form : SubTree → SubNode) (test : Term) (p : RawTree) (s : SubTree) → is_built test ≡ false → form ≡ head_node head p → IsPiece p test → 1000 < sub_height (sub at (form s))
+pub under_too_high : (at : ℕ) (head : Head) (form : SubTree → SubNode) (test : Term) (p : RawTree) (s : SubTree) → is_built test ≡ false → form ≡ head_node head p → IsTerm p test → 1000 < sub_height (sub at (form s))
 under_too_high at head form test p s e f h =
     let k : 1000 < tree_height p = high_term test p e h in
     subst (λ g. 1000 < sub_node_height (g s)) (sym f) (omega (arith, k, head_height head p s))

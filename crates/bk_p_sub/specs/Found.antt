@@ -12,11 +12,10 @@ use Rattle.bk_raw.specs.Spelling.{Spells, Terms}
 use Rattle.bk_raw.specs.SubTree.{SubTree, sub, SubNode, sub_choice, sub_while, Branches, Choices}
 use Rattle.bk_raw.specs.SubSpelling.{Sub, Branched, Chosen}
 use Rattle.bk_p_expr.specs.Fronts.{Longest, Nothing}
-use Rattle.bk_p_expr.specs.Pieces.{IsPiece, IsTerms}
-use Rattle.bk_p_expr.specs.declared.piece.Piece.{Piece}
+use Rattle.bk_p_expr.specs.Pieces.{IsTerms}
 use Rattle.bk_p_expr.specs.declared.piece.Terms.{Terms as Built}
 use Rattle.bk_p_sub.specs.Longest.{Left}
-use Rattle.bk_p_sub.specs.Statements.{IsStatement, IsAround, IsBranches, IsChoices, tested_node, word_of}
+use Rattle.bk_p_sub.specs.Statements.{IsStatement, IsTerm, IsAround, IsBranches, IsChoices, tested_node, word_of}
 use Rattle.bk_p_sub.specs.declared.branches.Branches.{Branches as BuiltOnes}
 use Rattle.bk_p_sub.specs.declared.branches.Choices.{Choices as BuiltOthers}
 use Rattle.bk_p_sub.specs.declared.opening.Opening.{Opening}
@@ -27,6 +26,7 @@ use Rattle.bk_p_sub.specs.declared.statement.Around.TheVariants.{Under}
 use Rattle.bk_p_sub.specs.declared.statement.Head.TheVariants.{Pre as PreHead, Assert as AssertHead}
 use Rattle.bk_p_sub.specs.declared.statement.Test.TheVariants.{If as IfTest, Select as SelectTest}
 use Rattle.bk_p_sub.specs.declared.statement.Statement.{Statement}
+use Rattle.bk_p_sub.specs.declared.term.Term.{Term}
 
 -- ---- tokens in front
 -- a token of this kind is in front, and the rest stands behind it
@@ -53,8 +53,8 @@ abbrev pub is_behind_term : ℕ → Bool
 is_behind_term op = nat_eq op THEN || nat_eq op IN || nat_eq op DO || nat_eq op VARIANT || nat_eq op END
 
 -- the longest term in front, with this sign or word behind it
-abbrev pub FoundBefore : TokenKind → List Token → Piece → List Token → Type 0
-FoundBefore ahead tokens term rest = (t : RawTree) × Before Spells ahead tokens t rest × IsPiece t term
+abbrev pub FoundBefore : TokenKind → List Token → Term → List Token → Type 0
+FoundBefore ahead tokens term rest = (t : RawTree) × Before Spells ahead tokens t rest × IsTerm t term
 
 -- the longest list of terms in front
 abbrev pub FoundTerms : List Token → Built → List Token → Type 0
@@ -65,8 +65,8 @@ abbrev pub Enclosed : RawTree → List Token → Type 0
 Enclosed t = InParentheses (Spells t)
 
 -- the longest one in front
-abbrev pub FoundEnclosed : List Token → Piece → List Token → Type 0
-FoundEnclosed tokens term rest = (t : RawTree) × Longest Enclosed tokens t rest × IsPiece t term
+abbrev pub FoundEnclosed : List Token → Term → List Token → Type 0
+FoundEnclosed tokens term rest = (t : RawTree) × Longest Enclosed tokens t rest × IsTerm t term
 
 -- ---- substitutions
 -- the answer is the longest substitution in front of those that may stand in a place that asks so much, or that none is
@@ -94,16 +94,16 @@ ReadsBranches op tokens result = IfOk result (λ r. MatchOption r (Nothing (Bran
 abbrev pub ReadsChoices : {E : Type 0} → List Token → Result (Option (BuiltOthers × Bor (List Token))) E → Type 0
 ReadsChoices tokens result = IfOk result (λ r. MatchOption r (Nothing ChoicesEnd tokens) (λ p. (cs : Choices) × Longest ChoicesEnd tokens cs p.1.now × IsChoices cs p.0))
 
-abbrev pub ReadsLoopEnd : {E : Type 0} → List Token → Result (Option (Piece × Piece × Bor (List Token))) E → Type 0
-ReadsLoopEnd tokens result = IfOk result (λ r. MatchOption r (Nothing LoopEnd tokens) (λ p. (q : RawTree × RawTree) × Longest LoopEnd tokens q p.2.now × IsPiece q.0 p.0 × IsPiece q.1 p.1))
+abbrev pub ReadsLoopEnd : {E : Type 0} → List Token → Result (Option (Term × Term × Bor (List Token))) E → Type 0
+ReadsLoopEnd tokens result = IfOk result (λ r. MatchOption r (Nothing LoopEnd tokens) (λ p. (q : RawTree × RawTree) × Longest LoopEnd tokens q p.2.now × IsTerm q.0 p.0 × IsTerm q.1 p.1))
 
 -- the opening of an atom is read, up to this rest
 abbrev pub Opens : List Token → Opening → List Token → Type 0
 Opens tokens (Closed statement) rest = (s : SubTree) × Longest Atom tokens s rest × IsStatement s statement
 Opens tokens (Around block) rest = (form : SubTree → SubNode) × IsAround form block × Left Atom tokens (λ (s : SubTree). Sub s 0 ⌢ JustWord END) rest (λ s. sub (start tokens) (form s))
-Opens tokens (Tested test condition) rest = (p : RawTree) × IsPiece p condition × Left Atom tokens (λ (q : SubTree × Branches). Sub q.0 0 ⌢ BranchesEnd (word_of test) q.1) rest (λ q. sub (start tokens) (tested_node test p q.0 q.1))
+Opens tokens (Tested test condition) rest = (p : RawTree) × IsTerm p condition × Left Atom tokens (λ (q : SubTree × Branches). Sub q.0 0 ⌢ BranchesEnd (word_of test) q.1) rest (λ q. sub (start tokens) (tested_node test p q.0 q.1))
 Opens tokens Choice rest = Left Atom tokens (λ (q : SubTree × Choices). Sub q.0 0 ⌢ ChoicesEnd q.1) rest (λ q. sub (start tokens) (sub_choice q.0 q.1))
-Opens tokens (While condition) rest = (p : RawTree) × IsPiece p condition × Left Atom tokens (λ (q : SubTree × (RawTree × RawTree)). Sub q.0 0 ⌢ LoopEnd q.1) rest (λ q. sub (start tokens) (sub_while p q.0 q.1.0 q.1.1))
+Opens tokens (While condition) rest = (p : RawTree) × IsTerm p condition × Left Atom tokens (λ (q : SubTree × (RawTree × RawTree)). Sub q.0 0 ⌢ LoopEnd q.1) rest (λ q. sub (start tokens) (sub_while p q.0 q.1.0 q.1.1))
 
 -- the answer is how the atom in front begins, or that none is there
 abbrev pub Begins : {E : Type 0} → List Token → Result (Option (Opening × Bor (List Token))) E → Type 0
@@ -124,7 +124,7 @@ guard_end GuardWhile = DO
 guard_end _ = THEN
 
 -- how the block begins, with this test
-abbrev pub guard_begins : Guard → Piece → Opening
+abbrev pub guard_begins : Guard → Term → Opening
 guard_begins Pre test = Around (Under PreHead test)
 guard_begins Assert test = Around (Under AssertHead test)
 guard_begins If test = Tested IfTest test

@@ -1,10 +1,11 @@
 -- Substitutions on the way to being built, with their heights.
 use Rattle.std.specs.Prelude.{◌≡◌, ℕ, ◌<◌, ◌≤◌, None, Some}
 use Rattle.bk_ops.specs.declared.word.TheConstants.{ELSIF, WHEN}
-use Rattle.bk_raw.specs.RawTree.{RawTree}
+use Rattle.bk_raw.specs.FreeNames.{conjuncts}
+use Rattle.bk_raw.specs.RawTree.{RawTree, tree_height}
 use Rattle.bk_raw.specs.SubTree.{SubTree, SubNode, sub_begin, sub_pre, sub_assert, sub_any, sub_let, sub_var, sub_if, sub_select, sub_parallel, sub_sequence, sub_height, branches_height, choices_height, Branches, no_branches, else_branch, branch_and, Choices, no_choices, choice_and}
 use Rattle.bk_raw.specs.SubView.{branches_of, choices_of}
-use Rattle.bk_p_expr.specs.Pieces.{IsPiece}
+use Rattle.bk_p_expr.specs.Conjuncts.{AreConjuncts}
 use Rattle.bk_p_sub.specs.declared.statement.Statement.{Statement}
 use Rattle.bk_p_sub.specs.declared.statement.Statement.TheVariants.{Built, High}
 use Rattle.bk_p_sub.specs.declared.statement.Around.{Around}
@@ -15,6 +16,8 @@ use Rattle.bk_p_sub.specs.declared.statement.Joint.{Joint}
 use Rattle.bk_p_sub.specs.declared.statement.Joint.TheVariants.{Parallel, Sequence}
 use Rattle.bk_p_sub.specs.declared.statement.Test.{Test}
 use Rattle.bk_p_sub.specs.declared.statement.Test.TheVariants.{If, Select}
+use Rattle.bk_p_sub.specs.declared.term.Term.{Term}
+use Rattle.bk_p_sub.specs.declared.term.Term.TheVariants.{Built as BuiltTerm, High as HighTerm}
 use Rattle.bk_p_sub.specs.declared.branches.Branches.{Branches as BuiltOnes}
 use Rattle.bk_p_sub.specs.declared.branches.Branches.TheVariants.{Built as BuiltBranches, High as HighBranches}
 use Rattle.bk_p_sub.specs.declared.branches.Choices.{Choices as BuiltOthers}
@@ -22,8 +25,13 @@ use Rattle.bk_p_sub.specs.declared.branches.Choices.TheVariants.{Built as BuiltC
 
 -- it is the statement of this tree: the substitution itself with its height, or that the tree is more than 1000 high
 abbrev pub IsStatement : SubTree → Statement → Type 0
-IsStatement s (Built body height) = (body ≡ s) × (height ≡ sub_height s) × (height ≤ 1000)
+IsStatement s (Built body height) = (body.value ≡ s) × (height ≡ sub_height s) × (height ≤ 1000)
 IsStatement s High = 1000 < sub_height s
+
+-- it is the term of this tree: the term itself with its height, or, where the tree is more than 1000 high, its conjuncts
+abbrev pub IsTerm : RawTree → Term → Type 0
+IsTerm t (BuiltTerm term height) = (term.value ≡ t) × (height ≡ tree_height t) × (height ≤ 1000)
+IsTerm t (HighTerm known) = (1000 < tree_height t) × AreConjuncts (conjuncts t) known.items
 
 -- the same of further branches
 abbrev pub IsBranches : Branches → BuiltOnes → Type 0
@@ -75,7 +83,7 @@ head_node (Let xs) = sub_let xs.items
 abbrev pub IsAround : (SubTree → SubNode) → Around → Type 0
 IsAround form Begin = form ≡ sub_begin
 IsAround form (Var xs) = form ≡ sub_var xs.items
-IsAround form (Under head test) = (p : RawTree) × (form ≡ head_node head p) × IsPiece p test
+IsAround form (Under head test) = (p : RawTree) × (form ≡ head_node head p) × IsTerm p test
 
 -- what a sign makes of the substitutions beside it
 abbrev pub joint_node : Joint → SubTree → SubTree → SubNode

@@ -3,14 +3,12 @@
 ghost use Rattle.std.specs.Prelude.{◌≡◌, IfOk};
 ghost use Rattle.bk_raw.specs.RawTree.{RawTree};
 ghost use Rattle.bk_raw.specs.SubTree.{SubTree, Branches as BranchTrees, Choices as ChoiceTrees};
-ghost use Rattle.bk_p_expr.specs.Pieces.{IsPiece};
-ghost use Rattle.bk_p_sub.specs.Statements.{IsStatement, IsBranches, IsChoices, IsOpen, and_branch, and_else, and_choice};
+ghost use Rattle.bk_p_sub.specs.Statements.{IsStatement, IsBranches, IsChoices, IsTerm, IsOpen, and_branch, and_else, and_choice};
 
 use crate::statement::Statement;
+use crate::term::Term;
 use bk_io::Memory;
-use bk_p_expr::Piece;
 use bk_raw::{RawBranch, RawSub};
-use std::alloc::Global;
 
 /// Further branches of IF or SELECT, the last perhaps an ELSE, with the height of the highest. Where one is too high,
 /// none is kept.
@@ -22,39 +20,40 @@ pub(crate) enum Branches {
 
 impl Branches {
     /// These and one more, where no ELSE stands.
-    pub(crate) fn and(self, condition: Piece, body: Statement) -> Result<Branches, Memory>
+    pub(crate) fn and(self, condition: Term, body: Statement) -> Result<Branches, Memory>
         requires { IsOpen self }
         ensures open { IfOk result (λ r. IsOpen r) }
         ensures made { IfOk result (λ r. (bs : BranchTrees) (p : RawTree) (s : SubTree) → IsBranches bs self →
-            IsPiece p condition → IsStatement s body → IsBranches (and_branch bs p s) r) }
+            IsTerm p condition → IsStatement s body → IsBranches (and_branch bs p s) r) }
     {
         let Branches::Built(mut all, _, height) = self else {
             return Ok(Branches::High);
         };
-        let Piece::Built(condition, one) = condition else {
+        let Term::Built(condition, one) = condition else {
             return Ok(Branches::High);
         };
         let Statement::Built(body, two) = body else {
             return Ok(Branches::High);
         };
+        let condition = Box::into_inner(condition);
+        let body = Box::into_inner(body);
         all.push(RawBranch { condition, body })?;
         Ok(Branches::Built(all, None, height.max(one.max(two))))
     }
 
     /// These and ELSE, where none stands.
-    pub(crate) fn otherwise(self, alloc: Global, body: Statement) -> Result<Branches, Memory>
+    pub(crate) fn otherwise(self, body: Statement) -> Branches
         requires { IsOpen self }
-        ensures { IfOk result (λ r. (bs : BranchTrees) (s : SubTree) → IsBranches bs self → IsStatement s body →
-            IsBranches (and_else bs s) r) }
+        ensures { (bs : BranchTrees) (s : SubTree) → IsBranches bs self → IsStatement s body →
+            IsBranches (and_else bs s) result }
     {
         let Branches::Built(all, _, height) = self else {
-            return Ok(Branches::High);
+            return Branches::High;
         };
         let Statement::Built(body, other) = body else {
-            return Ok(Branches::High);
+            return Branches::High;
         };
-        let last = Box::new(alloc, body)?;
-        Ok(Branches::Built(all, Some(last), height.max(other)))
+        Branches::Built(all, Some(body), height.max(other))
     }
 }
 
@@ -77,7 +76,7 @@ impl Choices {
         let Statement::Built(body, other) = body else {
             return Ok(Choices::High);
         };
-        all.push(body)?;
+        all.push(Box::into_inner(body))?;
         Ok(Choices::Built(all, height.max(other)))
     }
 }

@@ -3,25 +3,26 @@
 ghost use Rattle.std.specs.Prelude.{◌≡◌, ◌&&◌, true, false, not, [], ◌∷◌, IfOk, MatchOption};
 ghost use Rattle.bk_raw.specs.FreeNames.{Defines, is_among};
 ghost use Rattle.bk_raw.specs.RawTree.{RawTree};
-ghost use Rattle.bk_p_expr.specs.Pieces.{IsPiece};
 ghost use Rattle.bk_p_sub.specs.Defining.{define_each, has_one_of, is_named};
+ghost use Rattle.bk_p_sub.specs.Statements.{IsTerm};
 
+use crate::term::Term;
 use bk_io::{Memory, Text};
-use bk_p_expr::{Conjunct, Piece, conjuncts};
+use bk_p_expr::{Conjunct, conjuncts};
 use bk_raw::RawName;
 use std::alloc::Global;
 
 /// Whether the predicate is `x = e` for each name in order, with none of the names free in an `e`.
-pub(crate) fn defines(alloc: Global, names: &[RawName], predicate: &Piece) -> Result<bool, Memory>
-    ensures defining { IfOk result (λ r. (p : RawTree) → IsPiece p predicate.now → r ≡ true → Defines names.now p) }
-    ensures not_defining { IfOk result (λ r. (p : RawTree) → IsPiece p predicate.now → r ≡ false → Defines names.now p → ⊥) }
+pub(crate) fn defines(alloc: Global, names: &[RawName], predicate: &Term) -> Result<bool, Memory>
+    ensures defining { IfOk result (λ r. (p : RawTree) → IsTerm p predicate.now → r ≡ true → Defines names.now p) }
+    ensures not_defining { IfOk result (λ r. (p : RawTree) → IsTerm p predicate.now → r ≡ false → Defines names.now p → ⊥) }
 {
     match predicate {
-        Piece::Built(term, _) => {
+        Term::Built(term, _) => {
             let known = conjuncts(alloc, term)?;
             Ok(define_each(names, &known))
         }
-        Piece::High(known) => Ok(define_each(names, known)),
+        Term::High(known) => Ok(define_each(names, known)),
     }
 }
 

@@ -7,10 +7,11 @@ ghost use Rattle.bk_raw.specs.Spelling.{Names, Spells, Terms as Listed};
 ghost use Rattle.bk_p_expr.specs.Fronts.{Longest, Nothing};
 ghost use Rattle.bk_p_sub.specs.Found.{Ahead, Before, FoundBefore, FoundTerms, NotAhead, is_behind_term};
 
+use crate::term::Term;
 use bk_form::{Token, TokenKind};
 use bk_io::Memory;
 use bk_ops::sign;
-use bk_p_expr::{Piece, Terms, front_term};
+use bk_p_expr::{Terms, front_term};
 use bk_raw::RawName;
 use std::alloc::Global;
 
@@ -152,13 +153,13 @@ pub(crate) fn term_before(
     alloc: Global,
     tokens: &[Token],
     op: u16,
-) -> Result<Option<(Piece, &[Token])>, Memory>
+) -> Result<Option<(Term, &[Token])>, Memory>
     requires { is_behind_term op ≡ true }
     ensures found { IfOk result (λ r. MatchOption r (Nothing (λ t. Spells t ⌢ JustWord op) tokens.now)
         (λ p. FoundBefore (TokenKind.Word op) tokens.now p.0 p.1.now)) }
     ensures shorter { IfOk result (λ r. IfSome r (λ p. length p.1.now < length tokens.now)) }
 {
-    let Some((term, after)) = front_term(alloc, tokens)? else {
+    let Some((term, after)) = Term::front(alloc, tokens)? else {
         return Ok(None);
     };
     let Some(rest) = after_word(after, op) else {

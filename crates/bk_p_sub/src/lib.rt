@@ -9,6 +9,7 @@ mod reader;
 mod statement;
 mod substitutions;
 mod target;
+mod term;
 
 pub use front::{after_sign, after_word, declared, first_token, names, start_of};
 pub use reader::{front_body, front_substitution, substitution};

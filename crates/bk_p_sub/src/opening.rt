@@ -8,10 +8,10 @@ use crate::defining::defines;
 use crate::front::{first_token, names_before, term_before};
 use crate::statement::{Around, Head, Statement, Test};
 use crate::target::target;
+use crate::term::Term;
 use bk_form::{Token, TokenKind};
 use bk_io::Memory;
 use bk_ops::word;
-use bk_p_expr::Piece;
 use std::alloc::Global;
 
 /// How a substitution begins, and what is to be read behind that.
@@ -22,11 +22,11 @@ pub(crate) enum Opening {
     /// A substitution and END.
     Around(Around),
     /// A substitution, further branches and END.
-    Tested(Test, Piece),
+    Tested(Test, Term),
     /// A substitution, further choices and END.
     Choice,
     /// A substitution, the invariant, the variant and END.
-    While(Piece),
+    While(Term),
 }
 
 /// How the atom in front begins.
@@ -71,7 +71,8 @@ fn opening_by<'a>(
     ensures shorter { IfOk result (λ r. IfSome r (λ p. length p.1.now ≤ length tokens.now)) }
 {
     if op == word::SKIP {
-        return Ok(Some((Opening::Closed(Statement::skip(first.start)), tokens)));
+        let skip = Statement::skip(alloc, first.start)?;
+        return Ok(Some((Opening::Closed(skip), tokens)));
     }
     if op == word::BEGIN {
         return Ok(Some((Opening::Around(Around::Begin), tokens)));
@@ -190,7 +191,7 @@ impl Guard {
     }
 
     /// How the block begins, with this test.
-    fn begins(self, test: Piece) -> Opening
+    fn begins(self, test: Term) -> Opening
         ensures { result ≡ guard_begins self test }
     {
         match self {

@@ -32,7 +32,7 @@ pub fn substitution(alloc: Global, tokens: &[Token], at: usize) -> Result<(RawSu
     }
     match sequence(alloc, rest)? {
         Some((statement, after)) => match statement {
-            Statement::Built(sub, _) => Ok((sub, tokens.len() - after.len())),
+            Statement::Built(sub, _) => Ok((Box::into_inner(sub), tokens.len() - after.len())),
             Statement::High => Err(SynFault::High),
         },
         None => Err(SynFault::At(at)),

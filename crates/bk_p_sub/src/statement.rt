@@ -4,13 +4,14 @@ ghost use Rattle.std.specs.Prelude.{◌≡◌, ◌+◌, ℕ, IfOk};
 ghost use Rattle.bk_raw.specs.RawTree.{RawTree, RawTrees};
 ghost use Rattle.bk_raw.specs.SubTree.{SubTree, SubNode, sub, sub_skip, sub_assign, sub_assign_at, sub_member, sub_such, sub_while, sub_choice, Branches as BranchTrees, Choices as ChoiceTrees, sub_height};
 ghost use Rattle.bk_raw.specs.SubView.{sub_node_of, sub_of};
-ghost use Rattle.bk_p_expr.specs.Pieces.{IsPiece, IsTerms};
-ghost use Rattle.bk_p_sub.specs.Statements.{IsStatement, IsAround, IsBranches, IsChoices, head_node, joint_node, tested_node, word_of};
+ghost use Rattle.bk_p_expr.specs.Pieces.{IsTerms};
+ghost use Rattle.bk_p_sub.specs.Statements.{IsStatement, IsTerm, IsAround, IsBranches, IsChoices, head_node, joint_node, tested_node, word_of};
 
 use crate::branches::{Branches, Choices};
+use crate::term::Term;
 use bk_io::Memory;
 use bk_ops::word;
-use bk_p_expr::{Piece, Terms};
+use bk_p_expr::Terms;
 use bk_raw::{RawBranch, RawName, RawSub, RawSubNode, RawTerm};
 use std::alloc::Global;
 
@@ -21,7 +22,7 @@ const HIGHEST: usize = 1000;
 #[derive(Drop)]
 pub enum Statement {
     /// The substitution, and how many nodes lie on its longest way down, its terms included.
-    Built(RawSub, usize),
+    Built(Box<RawSub>, usize),
     High,
 }
 
@@ -31,7 +32,7 @@ pub(crate) enum Around {
     Begin,
     Var(Vec<RawName>),
     /// A block with a predicate before its substitution.
-    Under(Head, Piece),
+    Under(Head, Term),
 }
 
 /// How a block begins whose predicate stands before its substitution.
@@ -58,65 +59,112 @@ pub(crate) enum Test {
 }
 
 /// The node as a substitution, where the highest of its parts is so high.
-fn built(at: usize, node: RawSubNode, height: usize) -> Statement
-    ensures { (s : SubTree) → sub_of at node ≡ s → sub_height s ≡ height + 1 → IsStatement s result }
+fn built(alloc: Global, at: usize, node: RawSubNode, height: usize) -> Result<Statement, Memory>
+    ensures { IfOk result (λ r. (s : SubTree) → sub_of at node ≡ s → sub_height s ≡ height + 1 →
+        IsStatement s r) }
+{
+    let whole = Box::new(alloc, RawSub { at, node })?;
+    Ok(limited(whole, height))
+}
+
+/// The substitution, where the highest of its parts is so high.
+fn limited(whole: Box<RawSub>, height: usize) -> Statement
+    ensures { (s : SubTree) → whole.value ≡ s → sub_height s ≡ height + 1 → IsStatement s result }
 {
     if height >= HIGHEST {
         return Statement::High;
     }
-    Statement::Built(RawSub { at, node }, height + 1)
+    Statement::Built(whole, height + 1)
 }
 
 impl Statement {
     /// `skip`.
-    pub(crate) fn skip(at: usize) -> Statement
-        ensures { IsStatement (sub at sub_skip) result }
+    pub(crate) fn skip(alloc: Global, at: usize) -> Result<Statement, Memory>
+        ensures { IfOk result (λ r. IsStatement (sub at sub_skip) r) }
     {
-        built(at, RawSubNode::Skip, 0)
+        built(alloc, at, RawSubNode::Skip, 0)
     }
 
     /// `x, y := e, f`.
-    pub(crate) fn assign(at: usize, names: Vec<RawName>, terms: Terms) -> Statement
-        ensures { (us : RawTrees) → IsTerms us terms → IsStatement (sub at (sub_assign names.items us)) result }
+    pub(crate) fn assign(
+        alloc: Global,
+        at: usize,
+        names: Vec<RawName>,
+        terms: Terms,
+    ) -> Result<Statement, Memory>
+        ensures { IfOk result (λ r. (us : RawTrees) → IsTerms us terms →
+            IsStatement (sub at (sub_assign names.items us)) r) }
     {
         let Terms::Built(terms, height) = terms else {
-            return Statement::High;
+            return Ok(Statement::High);
         };
-        built(at, RawSubNode::Assign(names, terms), height)
+        built(alloc, at, RawSubNode::Assign(names, terms), height)
     }
 
     /// `f(x) := e`.
-    pub(crate) fn assign_at(at: usize, name: RawName, place: Piece, value: Piece) -> Statement
-        ensures { (x e : RawTree) → IsPiece x place → IsPiece e value →
-            IsStatement (sub at (sub_assign_at name x e)) result }
+    pub(crate) fn assign_at(
+        alloc: Global,
+        at: usize,
+        name: RawName,
+        place: Term,
+        value: Term,
+    ) -> Result<Statement, Memory>
+        ensures { IfOk result (λ r. (x e : RawTree) → IsTerm x place → IsTerm e value →
+            IsStatement (sub at (sub_assign_at name x e)) r) }
     {
-        let Piece::Built(place, one) = place else {
-            return Statement::High;
+        let Term::Built(place, one) = place else {
+            return Ok(Statement::High);
         };
-        let Piece::Built(value, two) = value else {
-            return Statement::High;
+        let Term::Built(value, two) = value else {
+            return Ok(Statement::High);
         };
-        built(at, RawSubNode::AssignAt(name, place, value), one.max(two))
+        built(
+            alloc,
+            at,
+            RawSubNode::AssignAt(name, Box::into_inner(place), Box::into_inner(value)),
+            one.max(two),
+        )
     }
 
     /// `x :: e`.
-    pub(crate) fn member(at: usize, name: RawName, set: Piece) -> Statement
-        ensures { (e : RawTree) → IsPiece e set → IsStatement (sub at (sub_member name e)) result }
+    pub(crate) fn member(
+        alloc: Global,
+        at: usize,
+        name: RawName,
+        set: Term,
+    ) -> Result<Statement, Memory>
+        ensures { IfOk result (λ r. (e : RawTree) → IsTerm e set → IsStatement (sub at (sub_member name e)) r) }
     {
-        let Piece::Built(set, height) = set else {
-            return Statement::High;
+        let Term::Built(set, height) = set else {
+            return Ok(Statement::High);
         };
-        built(at, RawSubNode::BecomesMember(name, set), height)
+        built(
+            alloc,
+            at,
+            RawSubNode::BecomesMember(name, Box::into_inner(set)),
+            height,
+        )
     }
 
     /// `x, y :( p )`.
-    pub(crate) fn such(at: usize, names: Vec<RawName>, predicate: Piece) -> Statement
-        ensures { (p : RawTree) → IsPiece p predicate → IsStatement (sub at (sub_such names.items p)) result }
+    pub(crate) fn such(
+        alloc: Global,
+        at: usize,
+        names: Vec<RawName>,
+        predicate: Term,
+    ) -> Result<Statement, Memory>
+        ensures { IfOk result (λ r. (p : RawTree) → IsTerm p predicate →
+            IsStatement (sub at (sub_such names.items p)) r) }
     {
-        let Piece::Built(predicate, height) = predicate else {
-            return Statement::High;
+        let Term::Built(predicate, height) = predicate else {
+            return Ok(Statement::High);
         };
-        built(at, RawSubNode::BecomesSuch(names, predicate), height)
+        built(
+            alloc,
+            at,
+            RawSubNode::BecomesSuch(names, Box::into_inner(predicate)),
+            height,
+        )
     }
 
     /// A block around this one.
@@ -127,15 +175,19 @@ impl Statement {
         let Statement::Built(body, height) = self else {
             return Ok(Statement::High);
         };
-        let body = Box::new(alloc, body)?;
         match block {
-            Around::Begin => Ok(built(at, RawSubNode::Begin(body), height)),
-            Around::Var(names) => Ok(built(at, RawSubNode::Var(names, body), height)),
+            Around::Begin => built(alloc, at, RawSubNode::Begin(body), height),
+            Around::Var(names) => built(alloc, at, RawSubNode::Var(names, body), height),
             Around::Under(head, test) => {
-                let Piece::Built(test, other) = test else {
+                let Term::Built(test, other) = test else {
                     return Ok(Statement::High);
                 };
-                Ok(built(at, node_under(head, test, body), other.max(height)))
+                built(
+                    alloc,
+                    at,
+                    node_under(head, Box::into_inner(test), body),
+                    other.max(height),
+                )
             }
         }
     }
@@ -157,9 +209,7 @@ impl Statement {
         let Statement::Built(right, two) = other else {
             return Ok(Statement::High);
         };
-        let left = Box::new(alloc, left)?;
-        let right = Box::new(alloc, right)?;
-        Ok(built(at, node_joined(joint, left, right), one.max(two)))
+        built(alloc, at, node_joined(joint, left, right), one.max(two))
     }
 
     /// A test with this one behind it, and its further branches.
@@ -168,24 +218,23 @@ impl Statement {
         alloc: Global,
         at: usize,
         test: Test,
-        condition: Piece,
+        condition: Term,
         branches: Branches,
     ) -> Result<Statement, Memory>
         ensures { IfOk result (λ r. (p : RawTree) (s : SubTree) (bs : BranchTrees) → IsStatement s self →
-            IsPiece p condition → IsBranches bs branches → IsStatement (sub at (tested_node test p s bs)) r) }
+            IsTerm p condition → IsBranches bs branches → IsStatement (sub at (tested_node test p s bs)) r) }
     {
         let Statement::Built(body, one) = self else {
             return Ok(Statement::High);
         };
-        let Piece::Built(condition, two) = condition else {
+        let Term::Built(condition, two) = condition else {
             return Ok(Statement::High);
         };
         let Branches::Built(all, last, three) = branches else {
             return Ok(Statement::High);
         };
-        let body = Box::new(alloc, body)?;
-        let node = node_tested(test, condition, body, all, last);
-        Ok(built(at, node, one.max(two).max(three)))
+        let node = node_tested(test, Box::into_inner(condition), body, all, last);
+        built(alloc, at, node, one.max(two).max(three))
     }
 
     /// A choice of this one and further ones.
@@ -204,8 +253,7 @@ impl Statement {
         let Choices::Built(all, two) = choices else {
             return Ok(Statement::High);
         };
-        let body = Box::new(alloc, body)?;
-        Ok(built(at, RawSubNode::Choice(body, all), one.max(two)))
+        built(alloc, at, RawSubNode::Choice(body, all), one.max(two))
     }
 
     /// A loop around this one.
@@ -213,33 +261,38 @@ impl Statement {
         self,
         alloc: Global,
         at: usize,
-        condition: Piece,
-        invariant: Piece,
-        variant: Piece,
+        condition: Term,
+        invariant: Term,
+        variant: Term,
     ) -> Result<Statement, Memory>
         ensures { IfOk result (λ r. (p : RawTree) (s : SubTree) (i v : RawTree) → IsStatement s self →
-            IsPiece p condition → IsPiece i invariant → IsPiece v variant →
+            IsTerm p condition → IsTerm i invariant → IsTerm v variant →
             IsStatement (sub at (sub_while p s i v)) r) }
     {
         let Statement::Built(body, one) = self else {
             return Ok(Statement::High);
         };
-        let Piece::Built(condition, two) = condition else {
+        let Term::Built(condition, two) = condition else {
             return Ok(Statement::High);
         };
-        let Piece::Built(invariant, three) = invariant else {
+        let Term::Built(invariant, three) = invariant else {
             return Ok(Statement::High);
         };
-        let Piece::Built(variant, four) = variant else {
+        let Term::Built(variant, four) = variant else {
             return Ok(Statement::High);
         };
-        let body = Box::new(alloc, body)?;
         let height = one.max(two).max(three.max(four));
-        Ok(built(
+        built(
+            alloc,
             at,
-            RawSubNode::While(condition, body, invariant, variant),
+            RawSubNode::While(
+                Box::into_inner(condition),
+                body,
+                Box::into_inner(invariant),
+                Box::into_inner(variant),
+            ),
             height,
-        ))
+        )
     }
 }
 

@@ -4,17 +4,17 @@
 // the calls nest deeper: lists, branches and choices are read by loops.
 
 ghost use Rattle.std.specs.Prelude.{◌<◌, length, IfOk, IfSome};
-ghost use Rattle.bk_p_sub.specs.Found.{Reads, ReadsBranches, ReadsChoices, ReadsLoopEnd};
+ghost use Rattle.bk_p_sub.specs.Found.{Opens, Reads, ReadsBranches, ReadsChoices, ReadsLoopEnd};
 ghost use Rattle.bk_p_sub.specs.Statements.{word_of};
 
 use crate::branches::{Branches, Choices};
 use crate::front::{after_sign, after_word, start_of, term_before};
 use crate::opening::{Opening, opening_of};
 use crate::statement::{Joint, Statement, Test};
+use crate::term::Term;
 use bk_form::Token;
 use bk_io::Memory;
 use bk_ops::{sign, word};
-use bk_p_expr::Piece;
 use std::alloc::Global;
 
 /// Substitutions with `;` between.
@@ -106,19 +106,32 @@ fn atom(alloc: Global, tokens: &[Token]) -> Result<Option<(Statement, &[Token])>
             };
             Ok(Some((body.choice(alloc, at, choices)?, rest)))
         }
-        Opening::While(condition) => {
-            let Some((body, after)) = sequence(alloc, inside)? else {
-                return Ok(None);
-            };
-            let Some((invariant, variant, rest)) = loop_end(alloc, after)? else {
-                return Ok(None);
-            };
-            Ok(Some((
-                body.repeated(alloc, at, condition, invariant, variant)?,
-                rest,
-            )))
-        }
+        Opening::While(condition) => looped(alloc, tokens, inside, condition),
     }
+}
+
+/// The loop in front of the tokens, its condition read and its substitution inside.
+#[cycle(substitution)]
+fn looped<'a>(
+    alloc: Global,
+    tokens: &'a [Token],
+    inside: &'a [Token],
+    condition: Term,
+) -> Result<Option<(Statement, &'a [Token])>, Memory>
+    requires opens { Opens tokens.now (Opening.While condition) inside.now }
+    requires inside { length inside.now < length tokens.now }
+    ensures found { Reads 2 tokens.now result }
+    ensures shorter { IfOk result (λ r. IfSome r (λ p. length p.1.now < length tokens.now)) }
+{
+    let at = start_of(tokens);
+    let Some((body, after)) = sequence(alloc, inside)? else {
+        return Ok(None);
+    };
+    let Some((invariant, variant, rest)) = loop_end(alloc, after)? else {
+        return Ok(None);
+    };
+    let whole = body.repeated(alloc, at, condition, invariant, variant)?;
+    Ok(Some((whole, rest)))
 }
 
 /// Further branches of a test, each but ELSE with its word, and END.
@@ -150,7 +163,7 @@ fn branches(
         let Some(rest) = after_word(after, word::END) else {
             return Ok(None);
         };
-        return Ok(Some((all.otherwise(alloc, body)?, rest)));
+        return Ok(Some((all.otherwise(body), rest)));
     }
     let Some(rest) = after_word(rest, word::END) else {
         return Ok(None);
@@ -180,7 +193,7 @@ fn choices(alloc: Global, tokens: &[Token]) -> Result<Option<(Choices, &[Token])
 }
 
 /// The invariant and the variant of a loop, and END.
-fn loop_end(alloc: Global, tokens: &[Token]) -> Result<Option<(Piece, Piece, &[Token])>, Memory>
+fn loop_end(alloc: Global, tokens: &[Token]) -> Result<Option<(Term, Term, &[Token])>, Memory>
     ensures found { ReadsLoopEnd tokens.now result }
     ensures shorter { IfOk result (λ r. IfSome r (λ p. length p.2.now < length tokens.now)) }
 {

@@ -6,10 +6,10 @@ ghost use Rattle.bk_p_sub.specs.Found.{BeginsWithName, Enclosed, FoundEnclosed, 
 
 use crate::front::{after_sign, names, start_of, terms};
 use crate::statement::Statement;
+use crate::term::Term;
 use bk_form::Token;
 use bk_io::Memory;
 use bk_ops::sign;
-use bk_p_expr::{Piece, front_term};
 use bk_raw::RawName;
 use std::alloc::Global;
 
@@ -30,22 +30,22 @@ pub(crate) fn target(
         let Some((values, rest)) = terms(alloc, behind)? else {
             return Ok(None);
         };
-        return Ok(Some((Statement::assign(at, names, values), rest)));
+        return Ok(Some((Statement::assign(alloc, at, names, values)?, rest)));
     }
     if let Some(behind) = after_sign(rest, sign::MEMBER) {
         let Some((predicate, rest)) = enclosed(alloc, behind)? else {
             return Ok(None);
         };
-        return Ok(Some((Statement::such(at, names, predicate), rest)));
+        return Ok(Some((Statement::such(alloc, at, names, predicate)?, rest)));
     }
     let Some(name) = only(names) else {
         return Ok(None);
     };
     if let Some(behind) = after_sign(rest, sign::BECOMES_MEMBER) {
-        let Some((set, rest)) = front_term(alloc, behind)? else {
+        let Some((set, rest)) = Term::front(alloc, behind)? else {
             return Ok(None);
         };
-        return Ok(Some((Statement::member(at, name, set), rest)));
+        return Ok(Some((Statement::member(alloc, at, name, set)?, rest)));
     }
     let Some((place, behind)) = enclosed(alloc, rest)? else {
         return Ok(None);
@@ -53,10 +53,10 @@ pub(crate) fn target(
     let Some(behind) = after_sign(behind, sign::ASSIGN) else {
         return Ok(None);
     };
-    let Some((value, rest)) = front_term(alloc, behind)? else {
+    let Some((value, rest)) = Term::front(alloc, behind)? else {
         return Ok(None);
     };
-    Ok(Some((Statement::assign_at(at, name, place, value), rest)))
+    Ok(Some((Statement::assign_at(alloc, at, name, place, value)?, rest)))
 }
 
 /// The name, where it is the only one.
@@ -70,7 +70,7 @@ fn only(mut names: Vec<RawName>) -> Option<RawName>
 }
 
 /// A term in parentheses.
-fn enclosed(alloc: Global, tokens: &[Token]) -> Result<Option<(Piece, &[Token])>, Memory>
+fn enclosed(alloc: Global, tokens: &[Token]) -> Result<Option<(Term, &[Token])>, Memory>
     ensures found { IfOk result (λ r. MatchOption r (Nothing Enclosed tokens.now)
         (λ p. FoundEnclosed tokens.now p.0 p.1.now)) }
     ensures shorter { IfOk result (λ r. IfSome r (λ p. length p.1.now < length tokens.now)) }
@@ -78,7 +78,7 @@ fn enclosed(alloc: Global, tokens: &[Token]) -> Result<Option<(Piece, &[Token])>
     let Some(inside) = after_sign(tokens, sign::OPEN_PAREN) else {
         return Ok(None);
     };
-    let Some((term, behind)) = front_term(alloc, inside)? else {
+    let Some((term, behind)) = Term::front(alloc, inside)? else {
         return Ok(None);
     };
     let Some(rest) = after_sign(behind, sign::CLOSE_PAREN) else {

@@ -6,7 +6,7 @@ use Rattle.bk_p_sub.proofs.Words.{no_atom_word}
 use Rattle.bk_p_sub.proofs.opening.opening_by.Goals as goal
 
 pub returns-then-op-eq-SKIP-clause-found : goal.returns-then-op-eq-SKIP-clause-found
-returns-then-op-eq-SKIP-clause-found c = (sub c.args.first.now.start sub_skip, skip_found c.args.first.now c.args.tokens.now (c.requires ∙ (λ i. Word (c.if-op-eq-SKIP.true i))), c.skip.ensures)
+returns-then-op-eq-SKIP-clause-found c = (sub c.args.first.now.start sub_skip, skip_found c.args.first.now c.args.tokens.now (c.requires ∙ (λ i. Word (c.if-op-eq-SKIP.true i))), c.in_ok-skip.ensures)
 
 pub returns-then-op-eq-BEGIN-clause-found : goal.returns-then-op-eq-BEGIN-clause-found
 returns-then-op-eq-BEGIN-clause-found c = (sub_begin, refl, begin_opens c.args.first.now c.args.tokens.now (c.requires ∙ (λ i. Word (c.if-op-eq-BEGIN.true i))))

@@ -1,4 +1,4 @@
-use Rattle.std.proofs.Common.{refl, rules, subst}
+use Rattle.std.proofs.Common.{refl, rules, subst, arith}
 use Rattle.bk_form.specs.declared.token.TokenKind.TheVariants.{Word}
 use Rattle.bk_ops.specs.declared.word.TheConstants.{THEN}
 use Rattle.bk_raw.specs.Pieces.{◌⌢◌}
@@ -6,11 +6,10 @@ use Rattle.bk_raw.specs.RawTree.{RawTree}
 use Rattle.bk_raw.specs.Reading.{start}
 use Rattle.bk_raw.specs.SubTree.{SubTree, sub, sub_choice, sub_while, Branches, Choices}
 use Rattle.bk_raw.specs.SubSpelling.{Sub}
-use Rattle.bk_p_expr.specs.Pieces.{IsPiece}
 use Rattle.bk_p_expr.proofs.Choices.{if_none, if_some}
 use Rattle.bk_p_sub.specs.Longest.{Left}
 use Rattle.bk_p_sub.specs.Found.{Ahead, NotAhead, Atom, BranchesEnd, ChoicesEnd, FoundBefore, LoopEnd, Opens}
-use Rattle.bk_p_sub.specs.Statements.{tested_node, word_of}
+use Rattle.bk_p_sub.specs.Statements.{IsTerm, tested_node, word_of}
 use Rattle.bk_p_sub.proofs.Joined.{semicolons_begin, semicolons_go_on, semicolons_end, semicolons_end_before, semicolons_fail, bars_begin, bars_go_on, bars_end, bars_end_before, bars_fail}
 use Rattle.bk_p_sub.proofs.Blocks.{FoundSub, around_found, around_none_body, around_none_end, block_none_body, tested_found, tested_none, choice_found, choice_none, loop_found, loop_none, branch_word, branches_begin, branches_none_test, branches_none_body, branches_go_on, branches_none_else, branches_none_end, branches_else, branches_stop, branches_done, choices_begin, choices_none_body, choices_go_on, choices_stop, choices_done}
 use Rattle.bk_p_sub.proofs.substitutions.+substitution.Goals as goal
@@ -82,20 +81,20 @@ atom-returns-in_ok-around-in-Around-clause-found t c =
 pub atom-returns-in_default-3-clause-found : goal.atom-returns-in_default-3-clause-found
 atom-returns-in_default-3-clause-found t c =
     let f : Opens c.args.tokens.now c.in-Some.opening c.in-Some.inside.now = if_some _ _ _ _ c.in_ok-opening.ensures.found c.in-Some.is in
-    let o : (p : RawTree) × IsPiece p c.in-Tested.condition × Left Atom c.args.tokens.now (λ (q : SubTree × Branches). Sub q.0 0 ⌢ BranchesEnd (word_of c.in-Tested.test) q.1) c.in-Some.inside.now (λ q. sub (start c.args.tokens.now) (tested_node c.in-Tested.test p q.0 q.1)) = subst (λ o. Opens c.args.tokens.now o c.in-Some.inside.now) c.in-Tested.is f in
+    let o : (p : RawTree) × IsTerm p c.in-Tested.condition × Left Atom c.args.tokens.now (λ (q : SubTree × Branches). Sub q.0 0 ⌢ BranchesEnd (word_of c.in-Tested.test) q.1) c.in-Some.inside.now (λ q. sub (start c.args.tokens.now) (tested_node c.in-Tested.test p q.0 q.1)) = subst (λ o. Opens c.args.tokens.now o c.in-Some.inside.now) c.in-Tested.is f in
     block_none_body (BranchesEnd (word_of c.in-Tested.test)) c.args.tokens.now c.in-Some.inside.now (λ q. sub (start c.args.tokens.now) (tested_node c.in-Tested.test o.0 q.0 q.1)) o.2 (if_none _ _ _ c.in_ok-body-in-Tested.ensures.found c.in_default-3.is)
 
 pub atom-returns-in_default-4-clause-found : goal.atom-returns-in_default-4-clause-found
 atom-returns-in_default-4-clause-found t c =
     let f : Opens c.args.tokens.now c.in-Some.opening c.in-Some.inside.now = if_some _ _ _ _ c.in_ok-opening.ensures.found c.in-Some.is in
-    let o : (p : RawTree) × IsPiece p c.in-Tested.condition × Left Atom c.args.tokens.now (λ (q : SubTree × Branches). Sub q.0 0 ⌢ BranchesEnd (word_of c.in-Tested.test) q.1) c.in-Some.inside.now (λ q. sub (start c.args.tokens.now) (tested_node c.in-Tested.test p q.0 q.1)) = subst (λ o. Opens c.args.tokens.now o c.in-Some.inside.now) c.in-Tested.is f in
+    let o : (p : RawTree) × IsTerm p c.in-Tested.condition × Left Atom c.args.tokens.now (λ (q : SubTree × Branches). Sub q.0 0 ⌢ BranchesEnd (word_of c.in-Tested.test) q.1) c.in-Some.inside.now (λ q. sub (start c.args.tokens.now) (tested_node c.in-Tested.test p q.0 q.1)) = subst (λ o. Opens c.args.tokens.now o c.in-Some.inside.now) c.in-Tested.is f in
     let b : FoundSub 0 c.in-Some.inside.now c.in-Some-3.body c.in-Some-3.after.now = if_some _ _ _ _ c.in_ok-body-in-Tested.ensures.found c.in-Some-3.is in
     tested_none c.in-Tested.test c.args.tokens.now c.in-Some.inside.now c.in-Some-3.after.now c.in-Tested.condition c.in-Some-3.body o b (if_none _ _ _ c.in_ok-branches-in-Tested.ensures.found c.in_default-4.is)
 
 pub atom-returns-in_ok-tested-in-Tested-clause-found : goal.atom-returns-in_ok-tested-in-Tested-clause-found
 atom-returns-in_ok-tested-in-Tested-clause-found t c =
     let f : Opens c.args.tokens.now c.in-Some.opening c.in-Some.inside.now = if_some _ _ _ _ c.in_ok-opening.ensures.found c.in-Some.is in
-    let o : (p : RawTree) × IsPiece p c.in-Tested.condition × Left Atom c.args.tokens.now (λ (q : SubTree × Branches). Sub q.0 0 ⌢ BranchesEnd (word_of c.in-Tested.test) q.1) c.in-Some.inside.now (λ q. sub (start c.args.tokens.now) (tested_node c.in-Tested.test p q.0 q.1)) = subst (λ o. Opens c.args.tokens.now o c.in-Some.inside.now) c.in-Tested.is f in
+    let o : (p : RawTree) × IsTerm p c.in-Tested.condition × Left Atom c.args.tokens.now (λ (q : SubTree × Branches). Sub q.0 0 ⌢ BranchesEnd (word_of c.in-Tested.test) q.1) c.in-Some.inside.now (λ q. sub (start c.args.tokens.now) (tested_node c.in-Tested.test p q.0 q.1)) = subst (λ o. Opens c.args.tokens.now o c.in-Some.inside.now) c.in-Tested.is f in
     let b : FoundSub 0 c.in-Some.inside.now c.in-Some-3.body c.in-Some-3.after.now = if_some _ _ _ _ c.in_ok-body-in-Tested.ensures.found c.in-Some-3.is in
     tested_found c.in-Tested.test c.args.tokens.now c.in-Some.inside.now c.in-Some-3.after.now c.in-Some-4.rest.now c.start_of-at.result c.in-Tested.condition c.in-Some-3.body c.in_ok-tested-in-Tested.field-0 c.in-Some-4.branches c.start_of-at.ensures o b (if_some _ _ _ _ c.in_ok-branches-in-Tested.ensures.found c.in-Some-4.is) c.in_ok-tested-in-Tested.ensures
 
@@ -119,25 +118,23 @@ atom-returns-in_ok-choice-in-Choice-clause-found t c =
     let b : FoundSub 0 c.in-Some.inside.now c.in-Some-5.body c.in-Some-5.after.now = if_some _ _ _ _ c.in_ok-body-in-Choice.ensures.found c.in-Some-5.is in
     choice_found c.args.tokens.now c.in-Some.inside.now c.in-Some-5.after.now c.in-Some-6.rest.now c.start_of-at.result c.in-Some-5.body c.in_ok-choice-in-Choice.field-0 c.in-Some-6.choices c.start_of-at.ensures o b (if_some _ _ _ _ c.in_ok-choices-in-Choice.ensures.found c.in-Some-6.is) c.in_ok-choice-in-Choice.ensures
 
-pub atom-returns-in_default-7-clause-found : goal.atom-returns-in_default-7-clause-found
-atom-returns-in_default-7-clause-found t c =
+pub atom-looped-requires : goal.atom-looped-requires
+atom-looped-requires t c =
     let f : Opens c.args.tokens.now c.in-Some.opening c.in-Some.inside.now = if_some _ _ _ _ c.in_ok-opening.ensures.found c.in-Some.is in
-    let o : (p : RawTree) × IsPiece p c.in-While.condition × Left Atom c.args.tokens.now (λ (q : SubTree × (RawTree × RawTree)). Sub q.0 0 ⌢ LoopEnd q.1) c.in-Some.inside.now (λ q. sub (start c.args.tokens.now) (sub_while p q.0 q.1.0 q.1.1)) = subst (λ o. Opens c.args.tokens.now o c.in-Some.inside.now) c.in-While.is f in
-    block_none_body LoopEnd c.args.tokens.now c.in-Some.inside.now (λ q. sub (start c.args.tokens.now) (sub_while o.0 q.0 q.1.0 q.1.1)) o.2 (if_none _ _ _ c.in_ok-body-in-While.ensures.found c.in_default-7.is)
+    (omega arith, (subst (λ o. Opens c.args.tokens.now o c.in-Some.inside.now) c.in-While.is f, if_some _ _ _ _ c.in_ok-opening.ensures.shorter c.in-Some.is))
 
-pub atom-returns-in_default-8-clause-found : goal.atom-returns-in_default-8-clause-found
-atom-returns-in_default-8-clause-found t c =
-    let f : Opens c.args.tokens.now c.in-Some.opening c.in-Some.inside.now = if_some _ _ _ _ c.in_ok-opening.ensures.found c.in-Some.is in
-    let o : (p : RawTree) × IsPiece p c.in-While.condition × Left Atom c.args.tokens.now (λ (q : SubTree × (RawTree × RawTree)). Sub q.0 0 ⌢ LoopEnd q.1) c.in-Some.inside.now (λ q. sub (start c.args.tokens.now) (sub_while p q.0 q.1.0 q.1.1)) = subst (λ o. Opens c.args.tokens.now o c.in-Some.inside.now) c.in-While.is f in
-    let b : FoundSub 0 c.in-Some.inside.now c.in-Some-7.body c.in-Some-7.after.now = if_some _ _ _ _ c.in_ok-body-in-While.ensures.found c.in-Some-7.is in
-    loop_none c.args.tokens.now c.in-Some.inside.now c.in-Some-7.after.now c.in-While.condition c.in-Some-7.body o b (if_none _ _ _ c.in_ok-invariant-in-While.ensures.found c.in_default-8.is)
+pub looped-returns-in_default-clause-found : goal.looped-returns-in_default-clause-found
+looped-returns-in_default-clause-found t c = block_none_body LoopEnd c.args.tokens.now c.args.inside.now (λ q. sub (start c.args.tokens.now) (sub_while c.requires.opens.0 q.0 q.1.0 q.1.1)) c.requires.opens.2 (if_none _ _ _ c.in_ok-body.ensures.found c.in_default.is)
 
-pub atom-returns-in_ok-repeated-in-While-clause-found : goal.atom-returns-in_ok-repeated-in-While-clause-found
-atom-returns-in_ok-repeated-in-While-clause-found t c =
-    let f : Opens c.args.tokens.now c.in-Some.opening c.in-Some.inside.now = if_some _ _ _ _ c.in_ok-opening.ensures.found c.in-Some.is in
-    let o : (p : RawTree) × IsPiece p c.in-While.condition × Left Atom c.args.tokens.now (λ (q : SubTree × (RawTree × RawTree)). Sub q.0 0 ⌢ LoopEnd q.1) c.in-Some.inside.now (λ q. sub (start c.args.tokens.now) (sub_while p q.0 q.1.0 q.1.1)) = subst (λ o. Opens c.args.tokens.now o c.in-Some.inside.now) c.in-While.is f in
-    let b : FoundSub 0 c.in-Some.inside.now c.in-Some-7.body c.in-Some-7.after.now = if_some _ _ _ _ c.in_ok-body-in-While.ensures.found c.in-Some-7.is in
-    loop_found c.args.tokens.now c.in-Some.inside.now c.in-Some-7.after.now c.in-Some-8.rest.now c.start_of-at.result c.in-While.condition c.in-Some-8.invariant c.in-Some-8.variant c.in-Some-7.body c.in_ok-repeated-in-While.field-0 c.start_of-at.ensures o b (if_some _ _ _ _ c.in_ok-invariant-in-While.ensures.found c.in-Some-8.is) c.in_ok-repeated-in-While.ensures
+pub looped-returns-in_default-2-clause-found : goal.looped-returns-in_default-2-clause-found
+looped-returns-in_default-2-clause-found t c =
+    let b : FoundSub 0 c.args.inside.now c.in-Some.body c.in-Some.after.now = if_some _ _ _ _ c.in_ok-body.ensures.found c.in-Some.is in
+    loop_none c.args.tokens.now c.args.inside.now c.in-Some.after.now c.args.condition c.in-Some.body c.requires.opens b (if_none _ _ _ c.in_ok-invariant.ensures.found c.in_default-2.is)
+
+pub looped-returns-clause-found : goal.looped-returns-clause-found
+looped-returns-clause-found t c =
+    let b : FoundSub 0 c.args.inside.now c.in-Some.body c.in-Some.after.now = if_some _ _ _ _ c.in_ok-body.ensures.found c.in-Some.is in
+    loop_found c.args.tokens.now c.args.inside.now c.in-Some.after.now c.in-Some-2.rest.now c.start_of-at.result c.args.condition c.in-Some-2.invariant c.in-Some-2.variant c.in-Some.body c.in_ok-whole.whole c.start_of-at.ensures c.requires.opens b (if_some _ _ _ _ c.in_ok-invariant.ensures.found c.in-Some-2.is) c.in_ok-whole.ensures
 
 pub branches-loop-behind-init : goal.branches-loop-behind-init
 branches-loop-behind-init t c = branches_begin (word_of c.args.test) c.args.tokens.now _ (search rules) refl
@@ -177,7 +174,7 @@ branches-otherwise-requires t c = c.loop-behind.invariant.has_no_else
 pub branches-returns-in-Some-after_word-clause-found : goal.branches-returns-in-Some-after_word-clause-found
 branches-returns-in-Some-after_word-clause-found t c =
     let b : FoundSub 0 c.in-Some-after_word.behind.now c.in-Some-4.body c.in-Some-4.after.now = if_some _ _ _ _ c.in_ok-body-2.ensures.found c.in-Some-4.is in
-    branches_else (word_of c.args.test) (branch_word c.args.test) c.args.tokens.now c.loop-behind.all c.loop-behind.rest.now c.loop-behind.invariant c.in-Some-after_word.behind.now c.in-Some-4.after.now c.in-Some-after_word-2.rest.now c.in-Some-4.body c.in_ok-otherwise.field-0 c.in-Some-after_word.ensures.found b c.in-Some-after_word-2.ensures.found c.in_ok-otherwise.ensures
+    branches_else (word_of c.args.test) (branch_word c.args.test) c.args.tokens.now c.loop-behind.all c.loop-behind.rest.now c.loop-behind.invariant c.in-Some-after_word.behind.now c.in-Some-4.after.now c.in-Some-after_word-2.rest.now c.in-Some-4.body c.otherwise.result c.in-Some-after_word.ensures.found b c.in-Some-after_word-2.ensures.found c.otherwise.ensures
 
 pub branches-returns-in_default-after_word-3-clause-found : goal.branches-returns-in_default-after_word-3-clause-found
 branches-returns-in_default-after_word-3-clause-found t c = branches_stop (word_of c.args.test) (branch_word c.args.test) c.args.tokens.now c.loop-behind.all c.loop-behind.rest.now c.loop-behind.invariant (subst (λ k. NotAhead (Word k) c.loop-behind.rest.now) c.word.ensures c.in_default.ensures.found) c.in_default-after_word.ensures.found c.in_default-after_word-3.ensures.found

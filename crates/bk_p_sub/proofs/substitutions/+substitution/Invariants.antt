@@ -15,6 +15,9 @@ decreases-parallel l = 4 * length l.tokens.now + 2
 abbrev pub decreases-atom : goal.decreases-atom
 decreases-atom l = 4 * length l.tokens.now + 1
 
+abbrev pub decreases-looped : goal.decreases-looped
+decreases-looped l = 4 * length l.tokens.now
+
 abbrev pub decreases-branches : goal.decreases-branches
 decreases-branches l = 4 * length l.tokens.now
 

@@ -17,4 +17,4 @@ pub returns : goal.returns
 returns c = λ os s a b.
     let k : (c.in-Built.all.items ≡ os) × (parts_height (clause_operations os) ≤ 1000) = subst (λ p. AreOperations os p) c.in-Built.is a in
     let p = subst (λ q. IsStatement s q) c.in-Built-body.is b in
-    (c.in_ok-push.ensures.items ∙ (λ i. k.0 i ++ titled c.args.title (p.0 i) ∷ []), low_more (λ (o : RawOperation). sub_height o.body) os (titled c.args.title s) k.1 (omega (arith, p.1, p.2)))
+    (c.in_ok-push.ensures.items ∙ (λ i. k.0 i ++ titled c.args.title ((c.into_inner-body.ensures ∙ p.0) i) ∷ []), low_more (λ (o : RawOperation). sub_height o.body) os (titled c.args.title s) k.1 (omega (arith, p.1, p.2)))

@@ -2,8 +2,7 @@ use Rattle.std.proofs.Common.{◌≡◌, ◌≤◌, ◌<◌, ◌∙◌, None, su
 use Rattle.bk_raw.specs.RawTree.{tree_height}
 use Rattle.bk_raw.specs.SubTree.{no_branches, branch_and, sub_height, branches_height}
 use Rattle.bk_raw.specs.SubView.{branches_of}
-use Rattle.bk_p_expr.specs.Pieces.{IsPiece}
-use Rattle.bk_p_sub.specs.Statements.{IsStatement, IsBranches, IsOpen, followed_by}
+use Rattle.bk_p_sub.specs.Statements.{IsTerm, IsStatement, IsBranches, IsOpen, followed_by}
 use Rattle.bk_p_sub.specs.declared.branches.Branches.TheVariants.{Built}
 use Rattle.bk_p_sub.proofs.Heights.{is_built, high_statement, high_term, branches_too_high, branches_with_high, branches_of_last, followed_height}
 use Rattle.bk_p_sub.proofs.branches.Branches.and.Goals as goal
@@ -29,9 +28,9 @@ pub returns-clause-made : goal.returns-clause-made
 returns-clause-made c = λ bs p s h m k.
     let none : c.in-Built.field-1 ≡ None = subst (λ b. IsOpen b) c.in-Built.is c.requires in
     let is : (branches_of c.in-Built.all.items no_branches ≡ bs) × (c.in-Built.height ≡ branches_height bs) × (c.in-Built.height ≤ 1000) = subst (λ o. IsBranches bs (Built c.in-Built.all o c.in-Built.height)) none (subst (λ b. IsBranches bs b) c.in-Built.is h) in
-    let q : (c.in-Built-condition.condition ≡ p) × (c.in-Built-condition.one ≡ tree_height p) × (c.in-Built-condition.one ≤ 1000) = subst (λ t. IsPiece p t) c.in-Built-condition.is m in
-    let r : (c.in-Built-body.body ≡ s) × (c.in-Built-body.two ≡ sub_height s) × (c.in-Built-body.two ≤ 1000) = subst (λ t. IsStatement s t) c.in-Built-body.is k in (
-      (λ i. branches_of (c.in_ok-push.ensures.items i) no_branches) ∙ branches_of_last c.in-Built.all.items (record { condition = c.in-Built-condition.condition; body = c.in-Built-body.body }) ∙ (λ i. followed_by (is.0 i) (branch_and (q.0 i) (r.0 i) no_branches)),
+    let q : (c.in-Built-condition.condition.value ≡ p) × (c.in-Built-condition.one ≡ tree_height p) × (c.in-Built-condition.one ≤ 1000) = subst (λ t. IsTerm p t) c.in-Built-condition.is m in
+    let r : (c.in-Built-body.body.value ≡ s) × (c.in-Built-body.two ≡ sub_height s) × (c.in-Built-body.two ≤ 1000) = subst (λ t. IsStatement s t) c.in-Built-body.is k in (
+      (λ i. branches_of (c.in_ok-push.ensures.items i) no_branches) ∙ branches_of_last c.in-Built.all.items (record { condition = c.into_inner-condition.result; body = c.into_inner-body.result }) ∙ (λ i. followed_by (is.0 i) (branch_and ((c.into_inner-condition.ensures ∙ q.0) i) ((c.into_inner-body.ensures ∙ r.0) i) no_branches)),
       omega (arith, followed_height c.in-Built.all.items bs (branch_and p s no_branches) is.0, is.1, q.1, r.1, c.max.ensures, c.max-2.ensures),
       omega (arith, is.2, q.2, r.2, c.max.ensures, c.max-2.ensures),
     )

@@ -20,8 +20,8 @@ pub returns : goal.returns
 returns c = λ bs s h k.
     let none : c.in-Built.field-1 ≡ None = subst (λ b. IsOpen b) c.in-Built.is c.requires in
     let is : (branches_of c.in-Built.all.items no_branches ≡ bs) × (c.in-Built.height ≡ branches_height bs) × (c.in-Built.height ≤ 1000) = subst (λ o. IsBranches bs (Built c.in-Built.all o c.in-Built.height)) none (subst (λ b. IsBranches bs b) c.in-Built.is h) in
-    let r : (c.in-Built-body.body ≡ s) × (c.in-Built-body.other ≡ sub_height s) × (c.in-Built-body.other ≤ 1000) = subst (λ t. IsStatement s t) c.in-Built-body.is k in (
-      (λ i. branches_of c.in-Built.all.items (else_branch (c.in_ok-last.ensures.ok i))) ∙ branches_of_else c.in-Built.all.items c.in-Built-body.body ∙ (λ i. followed_by (is.0 i) (else_branch (r.0 i))),
+    let r : (c.in-Built-body.body.value ≡ s) × (c.in-Built-body.other ≡ sub_height s) × (c.in-Built-body.other ≤ 1000) = subst (λ t. IsStatement s t) c.in-Built-body.is k in (
+      branches_of_else c.in-Built.all.items c.in-Built-body.body.value ∙ (λ i. followed_by (is.0 i) (else_branch (r.0 i))),
       omega (arith, followed_height c.in-Built.all.items bs (else_branch s) is.0, is.1, r.1, c.max.ensures),
       omega (arith, is.2, r.2, c.max.ensures),
     )

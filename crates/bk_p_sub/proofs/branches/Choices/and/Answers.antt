@@ -16,8 +16,8 @@ returns-in_default-body c = λ cs s h k.
 pub returns : goal.returns
 returns c = λ cs s h k.
     let is : (choices_of c.in-Built.all.items ≡ cs) × (c.in-Built.height ≡ choices_height cs) × (c.in-Built.height ≤ 1000) = subst (λ b. IsChoices cs b) c.in-Built.is h in
-    let r : (c.in-Built-body.body ≡ s) × (c.in-Built-body.other ≡ sub_height s) × (c.in-Built-body.other ≤ 1000) = subst (λ t. IsStatement s t) c.in-Built-body.is k in (
-      (λ i. choices_of (c.in_ok-push.ensures.items i)) ∙ choices_of_last c.in-Built.all.items c.in-Built-body.body ∙ (λ i. chosen_then (is.0 i) (choice_and (r.0 i) no_choices)),
+    let r : (c.in-Built-body.body.value ≡ s) × (c.in-Built-body.other ≡ sub_height s) × (c.in-Built-body.other ≤ 1000) = subst (λ t. IsStatement s t) c.in-Built-body.is k in (
+      (λ i. choices_of (c.in_ok-push.ensures.items i)) ∙ choices_of_last c.in-Built.all.items c.into_inner.result ∙ (λ i. chosen_then (is.0 i) (choice_and ((c.into_inner.ensures ∙ r.0) i) no_choices)),
       omega (arith, chosen_height cs (choice_and s no_choices), is.1, r.1, c.max.ensures),
       omega (arith, is.2, r.2, c.max.ensures),
     )

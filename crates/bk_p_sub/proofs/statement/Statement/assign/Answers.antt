@@ -1,4 +1,5 @@
 use Rattle.std.proofs.Common.{◌≡◌, ◌≤◌, ◌<◌, subst, arith, ap}
+use Rattle.std.proofs.lemmas.Result.{IfOk-weaker}
 use Rattle.bk_raw.specs.RawTree.{trees_of, trees_height}
 use Rattle.bk_raw.specs.SubTree.{sub, sub_assign}
 use Rattle.bk_p_expr.specs.Pieces.{IsTerms}
@@ -11,6 +12,6 @@ returns-in_default c = λ us h.
     omega (arith, k)
 
 pub returns : goal.returns
-returns c = λ us h.
+returns c = IfOk-weaker c.built.result _ _ (λ new made us h.
     let k : (trees_of c.in-Built.terms.items ≡ us) × (c.in-Built.height ≡ trees_height us) × (c.in-Built.height ≤ 1000) = subst (λ t. IsTerms us t) c.in-Built.is h in
-    c.built.ensures (sub c.args.at (sub_assign c.args.names.items us)) (λ i. sub c.args.at (sub_assign c.args.names.items (k.0 i))) (omega (arith, k.1))
+    made (sub c.args.at (sub_assign c.args.names.items us)) (λ i. sub c.args.at (sub_assign c.args.names.items (k.0 i))) (omega (arith, k.1))) c.built.ensures

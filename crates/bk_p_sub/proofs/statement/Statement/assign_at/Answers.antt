@@ -1,7 +1,8 @@
-use Rattle.std.proofs.Common.{◌≡◌, ◌≤◌, ◌<◌, subst, arith, ap}
+use Rattle.std.proofs.Common.{◌∙◌, ◌≡◌, ◌≤◌, ◌<◌, subst, arith, ap}
+use Rattle.std.proofs.lemmas.Result.{IfOk-weaker}
 use Rattle.bk_raw.specs.RawTree.{tree_height}
 use Rattle.bk_raw.specs.SubTree.{sub, sub_assign_at}
-use Rattle.bk_p_expr.specs.Pieces.{IsPiece}
+use Rattle.bk_p_sub.specs.Statements.{IsTerm}
 use Rattle.bk_p_sub.proofs.Heights.{is_built, high_term}
 use Rattle.bk_p_sub.proofs.statement.Statement.assign_at.Goals as goal
 
@@ -16,7 +17,7 @@ returns-in_default-value c = λ x e h m.
     omega (arith, k)
 
 pub returns : goal.returns
-returns c = λ x e h m.
-    let k : (c.in-Built.place ≡ x) × (c.in-Built.one ≡ tree_height x) × (c.in-Built.one ≤ 1000) = subst (λ t. IsPiece x t) c.in-Built.is h in
-    let l : (c.in-Built-value.value ≡ e) × (c.in-Built-value.two ≡ tree_height e) × (c.in-Built-value.two ≤ 1000) = subst (λ t. IsPiece e t) c.in-Built-value.is m in
-    c.built.ensures (sub c.args.at (sub_assign_at c.args.name x e)) (λ i. sub c.args.at (sub_assign_at c.args.name (k.0 i) (l.0 i))) (omega (arith, k.1, l.1, c.max.ensures))
+returns c = IfOk-weaker c.built.result _ _ (λ new made x e h m.
+    let k : (c.in-Built.place.value ≡ x) × (c.in-Built.one ≡ tree_height x) × (c.in-Built.one ≤ 1000) = subst (λ t. IsTerm x t) c.in-Built.is h in
+    let l : (c.in-Built-value.value.value ≡ e) × (c.in-Built-value.two ≡ tree_height e) × (c.in-Built-value.two ≤ 1000) = subst (λ t. IsTerm e t) c.in-Built-value.is m in
+    made (sub c.args.at (sub_assign_at c.args.name x e)) (λ i. sub c.args.at (sub_assign_at c.args.name ((c.into_inner.ensures ∙ k.0) i) ((c.into_inner-2.ensures ∙ l.0) i))) (omega (arith, k.1, l.1, c.max.ensures))) c.built.ensures

@@ -1,4 +1,5 @@
-use Rattle.std.proofs.Common.{◌≡◌, ◌≤◌, ◌<◌, ◌∙◌, subst, arith}
+use Rattle.std.proofs.Common.{◌≡◌, ◌≤◌, ◌<◌, subst, arith}
+use Rattle.std.proofs.lemmas.Result.{IfOk-weaker}
 use Rattle.bk_raw.specs.SubTree.{sub, sub_choice, sub_height, choices_height}
 use Rattle.bk_raw.specs.SubView.{choices_of}
 use Rattle.bk_p_sub.specs.Statements.{IsStatement, IsChoices}
@@ -15,7 +16,7 @@ returns-in_default-choices c = λ s cs h m.
     omega (arith, k)
 
 pub returns : goal.returns
-returns c = λ s cs h m.
-    let k : (c.in-Built.body ≡ s) × (c.in-Built.one ≡ sub_height s) × (c.in-Built.one ≤ 1000) = subst (λ t. IsStatement s t) c.in-Built.is h in
+returns c = IfOk-weaker c.built.result _ _ (λ new made s cs h m.
+    let k : (c.in-Built.body.value ≡ s) × (c.in-Built.one ≡ sub_height s) × (c.in-Built.one ≤ 1000) = subst (λ t. IsStatement s t) c.in-Built.is h in
     let l : (choices_of c.in-Built-choices.all.items ≡ cs) × (c.in-Built-choices.two ≡ choices_height cs) × (c.in-Built-choices.two ≤ 1000) = subst (λ t. IsChoices cs t) c.in-Built-choices.is m in
-    c.built.ensures (sub c.args.at (sub_choice s cs)) (λ i. sub c.args.at (sub_choice ((c.in_ok-body.ensures.ok ∙ k.0) i) (l.0 i))) (omega (arith, k.1, l.1, c.max.ensures))
+    made (sub c.args.at (sub_choice s cs)) (λ i. sub c.args.at (sub_choice (k.0 i) (l.0 i))) (omega (arith, k.1, l.1, c.max.ensures))) c.built.ensures

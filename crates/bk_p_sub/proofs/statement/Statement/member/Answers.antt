@@ -1,7 +1,8 @@
-use Rattle.std.proofs.Common.{◌≡◌, ◌≤◌, ◌<◌, subst, arith, ap}
+use Rattle.std.proofs.Common.{◌∙◌, ◌≡◌, ◌≤◌, ◌<◌, subst, arith, ap}
+use Rattle.std.proofs.lemmas.Result.{IfOk-weaker}
 use Rattle.bk_raw.specs.RawTree.{tree_height}
 use Rattle.bk_raw.specs.SubTree.{sub, sub_member}
-use Rattle.bk_p_expr.specs.Pieces.{IsPiece}
+use Rattle.bk_p_sub.specs.Statements.{IsTerm}
 use Rattle.bk_p_sub.proofs.Heights.{is_built, high_term}
 use Rattle.bk_p_sub.proofs.statement.Statement.member.Goals as goal
 
@@ -11,6 +12,6 @@ returns-in_default c = λ e h.
     omega (arith, k)
 
 pub returns : goal.returns
-returns c = λ e h.
-    let k : (c.in-Built.set ≡ e) × (c.in-Built.height ≡ tree_height e) × (c.in-Built.height ≤ 1000) = subst (λ t. IsPiece e t) c.in-Built.is h in
-    c.built.ensures (sub c.args.at (sub_member c.args.name e)) (λ i. sub c.args.at (sub_member c.args.name (k.0 i))) (omega (arith, k.1))
+returns c = IfOk-weaker c.built.result _ _ (λ new made e h.
+    let k : (c.in-Built.set.value ≡ e) × (c.in-Built.height ≡ tree_height e) × (c.in-Built.height ≤ 1000) = subst (λ t. IsTerm e t) c.in-Built.is h in
+    made (sub c.args.at (sub_member c.args.name e)) (λ i. sub c.args.at (sub_member c.args.name ((c.into_inner.ensures ∙ k.0) i))) (omega (arith, k.1))) c.built.ensures

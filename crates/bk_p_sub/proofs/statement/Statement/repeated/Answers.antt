@@ -1,8 +1,8 @@
-use Rattle.std.proofs.Common.{◌≡◌, ◌≤◌, ◌<◌, ◌∙◌, subst, arith, ap}
+use Rattle.std.proofs.Common.{◌∙◌, ◌≡◌, ◌≤◌, ◌<◌, subst, arith, ap}
+use Rattle.std.proofs.lemmas.Result.{IfOk-weaker}
 use Rattle.bk_raw.specs.RawTree.{tree_height}
 use Rattle.bk_raw.specs.SubTree.{sub, sub_while, sub_height}
-use Rattle.bk_p_expr.specs.Pieces.{IsPiece}
-use Rattle.bk_p_sub.specs.Statements.{IsStatement}
+use Rattle.bk_p_sub.specs.Statements.{IsTerm, IsStatement}
 use Rattle.bk_p_sub.proofs.Heights.{is_built, high_statement, high_term}
 use Rattle.bk_p_sub.proofs.statement.Statement.repeated.Goals as goal
 
@@ -27,9 +27,9 @@ returns-in_default-variant c = λ p s i v h m n o.
     omega (arith, k)
 
 pub returns : goal.returns
-returns c = λ p s i v h m n o.
-    let k : (c.in-Built.body ≡ s) × (c.in-Built.one ≡ sub_height s) × (c.in-Built.one ≤ 1000) = subst (λ x. IsStatement s x) c.in-Built.is h in
-    let l : (c.in-Built-condition.condition ≡ p) × (c.in-Built-condition.two ≡ tree_height p) × (c.in-Built-condition.two ≤ 1000) = subst (λ x. IsPiece p x) c.in-Built-condition.is m in
-    let q : (c.in-Built-invariant.invariant ≡ i) × (c.in-Built-invariant.three ≡ tree_height i) × (c.in-Built-invariant.three ≤ 1000) = subst (λ x. IsPiece i x) c.in-Built-invariant.is n in
-    let r : (c.in-Built-variant.variant ≡ v) × (c.in-Built-variant.four ≡ tree_height v) × (c.in-Built-variant.four ≤ 1000) = subst (λ x. IsPiece v x) c.in-Built-variant.is o in
-    c.built.ensures (sub c.args.at (sub_while p s i v)) (λ j. sub c.args.at (sub_while (l.0 j) ((c.in_ok-body.ensures.ok ∙ k.0) j) (q.0 j) (r.0 j))) (omega (arith, k.1, l.1, q.1, r.1, c.max.ensures, c.max-2.ensures, c.max-height.ensures))
+returns c = IfOk-weaker c.built.result _ _ (λ new made p s i v h m n o.
+    let k : (c.in-Built.body.value ≡ s) × (c.in-Built.one ≡ sub_height s) × (c.in-Built.one ≤ 1000) = subst (λ x. IsStatement s x) c.in-Built.is h in
+    let l : (c.in-Built-condition.condition.value ≡ p) × (c.in-Built-condition.two ≡ tree_height p) × (c.in-Built-condition.two ≤ 1000) = subst (λ x. IsTerm p x) c.in-Built-condition.is m in
+    let q : (c.in-Built-invariant.invariant.value ≡ i) × (c.in-Built-invariant.three ≡ tree_height i) × (c.in-Built-invariant.three ≤ 1000) = subst (λ x. IsTerm i x) c.in-Built-invariant.is n in
+    let r : (c.in-Built-variant.variant.value ≡ v) × (c.in-Built-variant.four ≡ tree_height v) × (c.in-Built-variant.four ≤ 1000) = subst (λ x. IsTerm v x) c.in-Built-variant.is o in
+    made (sub c.args.at (sub_while p s i v)) (λ j. sub c.args.at (sub_while ((c.into_inner.ensures ∙ l.0) j) (k.0 j) ((c.into_inner-2.ensures ∙ q.0) j) ((c.into_inner-3.ensures ∙ r.0) j))) (omega (arith, k.1, l.1, q.1, r.1, c.max.ensures, c.max-2.ensures, c.max-height.ensures))) c.built.ensures

@@ -1,4 +1,5 @@
 use Rattle.std.proofs.Common.{◌≡◌, ◌≤◌, ◌<◌, ◌∙◌, subst, arith}
+use Rattle.std.proofs.lemmas.Result.{IfOk-weaker}
 use Rattle.bk_raw.specs.SubTree.{sub, sub_height}
 use Rattle.bk_p_sub.specs.Statements.{IsStatement, joint_node}
 use Rattle.bk_p_sub.proofs.Heights.{high_statement, joint_height}
@@ -15,7 +16,7 @@ returns-in_default-other c = λ s t h m.
     omega (arith, k, joint_height c.args.joint s t)
 
 pub returns : goal.returns
-returns c = λ s t h m.
-    let k : (c.in-Built.left ≡ s) × (c.in-Built.one ≡ sub_height s) × (c.in-Built.one ≤ 1000) = subst (λ x. IsStatement s x) c.in-Built.is h in
-    let l : (c.in-Built-other.right ≡ t) × (c.in-Built-other.two ≡ sub_height t) × (c.in-Built-other.two ≤ 1000) = subst (λ x. IsStatement t x) c.in-Built-other.is m in
-    c.built.ensures (sub c.args.at (joint_node c.args.joint s t)) ((λ i. sub c.args.at (c.node_joined.ensures i)) ∙ (λ i. sub c.args.at (joint_node c.args.joint ((c.in_ok-left.ensures.ok ∙ k.0) i) ((c.in_ok-right.ensures.ok ∙ l.0) i)))) (omega (arith, joint_height c.args.joint s t, k.1, l.1, c.max.ensures))
+returns c = IfOk-weaker c.built.result _ _ (λ new made s t h m.
+    let k : (c.in-Built.left.value ≡ s) × (c.in-Built.one ≡ sub_height s) × (c.in-Built.one ≤ 1000) = subst (λ x. IsStatement s x) c.in-Built.is h in
+    let l : (c.in-Built-other.right.value ≡ t) × (c.in-Built-other.two ≡ sub_height t) × (c.in-Built-other.two ≤ 1000) = subst (λ x. IsStatement t x) c.in-Built-other.is m in
+    made (sub c.args.at (joint_node c.args.joint s t)) ((λ i. sub c.args.at (c.node_joined.ensures i)) ∙ (λ i. sub c.args.at (joint_node c.args.joint (k.0 i) (l.0 i)))) (omega (arith, joint_height c.args.joint s t, k.1, l.1, c.max.ensures))) c.built.ensures
