@@ -13,8 +13,9 @@ pub mod PartsRead
 pub mod RulesRead
 pub mod ScriptRead
 pub mod FileRead
-pub mod Turns
 pub mod FileSteps
 pub mod NameKeys
 pub mod Seconds
 pub mod OneAnswer
+pub mod OneFault
+pub mod SomeScripts

@@ -3,35 +3,22 @@
 -- names. Of two files at fault in one of these the first is told.
 use Rattle.std.specs.Prelude.{◌≡◌, ◌≢◌, ◌⊎◌, ◌≤◌, ℕ, List, ◌∷◌, ◌++◌, length, map, All, Contains}
 use Rattle.std.specs.List.{AllZip, AllPairs, flat_map}
-use Rattle.std.specs.Str.{IsUtf8, IsValidUpTo}
 use Rattle.bk_form.specs.declared.token.Token.{Token}
-use Rattle.bk_lex.specs.Lexis.{AreTokens}
-use Rattle.bk_lex.specs.Faults.{IsFaultOf as IsLexFaultOf}
-use Rattle.bk_lex.specs.declared.fault.LexFault.TheVariants.{BadChar, OpenComment, NumberTooWide, Limit as LexLimit}
 use Rattle.bk_raw.specs.ScriptTree.{RawScript}
 use Rattle.bk_raw.specs.ScriptSpelling.{SpellsScripts}
 use Rattle.bk_raw.specs.Places.{IsScriptFaultAt}
-use Rattle.bk_raw.specs.Limits.{IsShallow, IsTooDeep, IsLowFile}
+use Rattle.bk_raw.specs.Limits.{IsLowFile}
+use Rattle.bk_files.specs.Files.{Has, IsFirst, IsShallowText, IsAtFault, IsPastLimit}
 use Rattle.bk_raw.specs.declared.script.NamePart.{NamePart}
 use Rattle.bk_p_proof.specs.TypedNames.{script_names, AreOfOneType, IsSecondType}
 use Rattle.bk_p_proof.specs.declared.fault.ScriptFault.{ScriptFault}
 use Rattle.bk_p_proof.specs.declared.fault.ScriptFault.TheVariants.{Fault, Limit, Memory}
 
--- ---- a file without a fault, step by step
--- these are its tokens, and they are not too many
-pub record IsCut (text : List ℕ) (tokens : List Token) : Type 0 where
-  pub cut : AreTokens text tokens
-  pub few : length tokens ≤ 1000000
-
--- and nowhere are too many brackets or blocks open
-pub record IsFlat (text : List ℕ) (tokens : List Token) : Type 0 where
-  pub cut : IsCut text tokens
-  pub shallow : IsShallow tokens
-
+-- ---- a file without a fault, step by step; its tokens are told before
 -- these scripts are written in it, and no script writes a name with two types
 pub record IsWritten (text : List ℕ) (scripts : List RawScript) : Type 0 where
   pub tokens : List Token
-  pub flat : IsFlat text tokens
+  pub shallow : IsShallowText text tokens
   pub spelled : SpellsScripts scripts tokens
   pub typed : All (λ s. AreOfOneType (script_names s)) scripts
 
@@ -48,40 +35,10 @@ pub record IsProofFile (text : List ℕ) (scripts : List RawScript) : Type 0 whe
   pub low : IsLow text scripts
   pub short : All IsShort scripts
 
--- ---- the first file at fault
-pub record IsFirst (Fine Faulty : List ℕ → Type 0) (texts : List (List ℕ)) (file : ℕ) : Type 0 where
-  pub before : List (List ℕ)
-  pub text : List ℕ
-  pub after : List (List ℕ)
-  pub splits : texts ≡ before ++ text ∷ after
-  pub counted : length before ≡ file
-  pub fine : All Fine before
-  pub faulty : Faulty text
-
--- there is one with which the text is this
-abbrev pub Has : {A : Type 0} → (List ℕ → A → Type 0) → List ℕ → Type 0
-Has {A} Is text = (x : A) × Is text x
-
 -- ---- faults
--- the longest front that is UTF-8 ends here
-abbrev pub IsNoUtf8 : ℕ → List ℕ → Type 0
-IsNoUtf8 place text = (IsUtf8 text → ⊥) × IsValidUpTo text place
-
--- no token can begin here, or it can't be told where the one ends that does
-abbrev pub IsNoToken : ℕ → List ℕ → Type 0
-IsNoToken place text = IsLexFaultOf text (BadChar place) ⊎ (IsLexFaultOf text (OpenComment place) ⊎ IsLexFaultOf text (NumberTooWide place))
-
--- the token past the greatest number of tokens begins somewhere
-abbrev pub HasTooMany : List ℕ → Type 0
-HasTooMany text = (place : ℕ) × IsLexFaultOf text (LexLimit place)
-
--- at some token too many brackets or blocks are open
-abbrev pub IsDeep : List ℕ → Type 0
-IsDeep text = (tokens : List Token) × IsCut text tokens × (place : ℕ) × IsTooDeep tokens place
-
 -- no scripts are written so, or a script writes a name with a second type
 abbrev pub IsUnwritten : ℕ → List ℕ → Type 0
-IsUnwritten place text = (tokens : List Token) × IsFlat text tokens × (IsScriptFaultAt (length text) tokens place ⊎ ((scripts : List RawScript) × SpellsScripts scripts tokens × IsSecondType scripts place))
+IsUnwritten place text = (tokens : List Token) × IsShallowText text tokens × (IsScriptFaultAt (length text) tokens place ⊎ ((scripts : List RawScript) × SpellsScripts scripts tokens × IsSecondType scripts place))
 
 -- a term is too high
 abbrev pub IsHigh : List ℕ → Type 0
@@ -119,13 +76,11 @@ pub record AreScriptsOf (texts : List (List ℕ)) (scripts : List RawScript) : T
 -- the first fault, or the first limit that is passed
 abbrev pub IsFaultOf : List (List ℕ) → ScriptFault → Type 0
 IsFaultOf texts (Fault number file place) =
-    ((number ≡ 1) × IsFirst IsUtf8 (IsNoUtf8 place) texts file)
-    ⊎ ((number ≡ 2) × All IsUtf8 texts × IsFirst (Has IsCut) (IsNoToken place) texts file)
-    ⊎ ((number ≡ 3) × All (Has IsFlat) texts × IsFirst (Has IsWritten) (IsUnwritten place) texts file)
+    IsAtFault texts number file place
+    ⊎ ((number ≡ 3) × All (Has IsShallowText) texts × IsFirst (Has IsWritten) (IsUnwritten place) texts file)
     ⊎ ((number ≡ 6) × ((files : List (List RawScript)) × AllZip IsProofFile texts files × IsTwiceNamed files file place))
 IsFaultOf texts (Limit number file) =
-    ((number ≡ 2) × All IsUtf8 texts × IsFirst (Has IsCut) HasTooMany texts file)
-    ⊎ ((number ≡ 3) × All (Has IsCut) texts × IsFirst (Has IsFlat) IsDeep texts file)
+    IsPastLimit texts number file
     ⊎ ((number ≡ 12) × All (Has IsWritten) texts × IsFirst (Has IsLow) IsHigh texts file)
     ⊎ ((number ≡ 8) × All (Has IsLow) texts × IsFirst (Has IsProofFile) IsLong texts file)
 IsFaultOf texts Memory = Unit {0}

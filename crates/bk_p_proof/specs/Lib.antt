@@ -5,6 +5,7 @@ pub mod Words
 pub mod TypedNames
 pub mod Spelled
 pub mod Files
+pub mod FilesTold
 pub mod Stages
 pub mod Keys
 pub mod Laws

@@ -1,17 +1,11 @@
 -- What is known of files between two passes over them. Only private contracts cite it.
 use Rattle.std.specs.Prelude.{ℕ, List}
-use Rattle.bk_lex.specs.Faults.{IsFaultOf as IsLexFaultOf}
-use Rattle.bk_lex.specs.declared.fault.LexFault.{LexFault}
 use Rattle.bk_raw.specs.ScriptTree.{RawScript}
-use Rattle.bk_p_proof.specs.Files.{Has, IsCut, IsWritten, IsLow, IsProofFile, IsFirst, IsUnwritten}
+use Rattle.bk_p_proof.specs.Files.{IsWritten, IsLow, IsProofFile, IsUnwritten}
 use Rattle.bk_p_proof.specs.Kept.{AreScripts}
 use Rattle.bk_p_proof.specs.declared.reading.FileScripts.{FileScripts}
 use Rattle.bk_p_proof.specs.declared.reading.SpellFault.{SpellFault}
 use Rattle.bk_p_proof.specs.declared.reading.SpellFault.TheVariants.{At, Memory}
-
--- this is what stands at fault in the first text of which it is not so
-abbrev pub IsFileFault : List (List ℕ) → ℕ → LexFault → Type 0
-IsFileFault texts file error = IsFirst (Has IsCut) (λ text. IsLexFaultOf text error) texts file
 
 -- a text at fault at this byte
 abbrev pub IsUnwrittenAt : List ℕ → SpellFault → Type 0

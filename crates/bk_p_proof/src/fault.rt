@@ -1,8 +1,10 @@
 //! Why proof files are not read.
 
 ghost use Rattle.std.specs.Prelude.{◌≡◌};
+ghost use Rattle.bk_p_proof.specs.FilesTold.{of_files};
 ghost use Rattle.bk_p_proof.specs.declared.fault.ScriptFault.TheVariants.{Memory as OutOfMemory};
 
+use bk_files::FileFault;
 use bk_io::Memory;
 use std::alloc::{AllocError, AllocFailed};
 use thiserror::Error;
@@ -41,5 +43,25 @@ impl<T: Drop> From<AllocFailed<T>> for ScriptFault {
 
     fn from(_: AllocFailed<T>) -> Self {
         ScriptFault::Memory
+    }
+}
+
+impl From<FileFault> for ScriptFault {
+    ghost from_gives = { λ told e. e ≡ of_files told };
+
+    fn from(told: FileFault) -> Self {
+        match told {
+            FileFault::Fault {
+                number,
+                file,
+                place,
+            } => ScriptFault::Fault {
+                number,
+                file,
+                place,
+            },
+            FileFault::Limit { number, file } => ScriptFault::Limit { number, file },
+            FileFault::Memory => ScriptFault::Memory,
+        }
     }
 }

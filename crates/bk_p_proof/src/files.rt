@@ -5,18 +5,18 @@ ghost use Rattle.std.specs.List.{AllZip, AllPairs, flat_map};
 ghost use Rattle.std.specs.Str.{IsUtf8};
 ghost use Rattle.bk_raw.specs.ScriptTree.{RawScript as WrittenScript};
 ghost use Rattle.bk_raw.specs.Places.{byte_at};
-ghost use Rattle.bk_p_proof.specs.Files.{AreScriptsOf, IsCut, IsFaultOf, IsFlat, IsShort, IsWritten, names_of};
+ghost use Rattle.bk_files.specs.Files.{IsCut, IsShallowText};
+ghost use Rattle.bk_p_proof.specs.Files.{AreScriptsOf, IsFaultOf, IsShort, IsWritten, names_of};
 ghost use Rattle.bk_p_proof.specs.Kept.{AreScripts};
-ghost use Rattle.bk_p_proof.specs.Stages.{IsFileFault, IsKeptOf, IsLowAs, IsProofFileAs, IsUnwrittenAt};
+ghost use Rattle.bk_p_proof.specs.Stages.{IsKeptOf, IsLowAs, IsProofFileAs, IsUnwrittenAt};
 
 use crate::differing::ScriptNames;
 use crate::fault::ScriptFault;
 use crate::reading::{FileScripts, SpellFault, file_scripts};
 use crate::second::second_type;
+use bk_files::cut;
 use bk_form::Token;
 use bk_io::Memory;
-use bk_lex::{LexFault, tokens};
-use bk_p_expr::too_deep;
 use bk_raw::RawScript;
 use std::alloc::Global;
 
@@ -32,29 +32,13 @@ pub fn scripts(alloc: Global, texts: &[Vec<u8>]) -> Result<Vec<RawScript>, Scrip
     ensures value { IfOk result (λ list. AreScriptsOf (map (λ text. text.items) texts.now) list.items) }
     ensures fault { IfErr result (IsFaultOf (map (λ text. text.items) texts.now)) }
 {
-    all_utf8(texts)?;
-    let files = all_tokens(alloc, texts)?;
-    all_shallow(texts, &files)?;
+    let files = cut(alloc, texts)?;
     let read = all_read(alloc, texts, &files)?;
     all_low(texts, &read)?;
     all_short(texts, &read)?;
     all_differ(alloc, texts, &read)?;
     let all = joined(alloc, read)?;
     Ok(all)
-}
-
-/// Looks for bytes that are no UTF-8.
-fn all_utf8(texts: &[Vec<u8>]) -> Result<(), ScriptFault>
-    requires countable { length texts.now < 2 ^ 32 }
-    ensures ok { IfOk result (λ _. All IsUtf8 (map (λ text. text.items) texts.now)) }
-    ensures fault { IfErr result (IsFaultOf (map (λ text. text.items) texts.now)) }
-{
-    for (file, text) in texts.iter().enumerate() {
-        if let Err(error) = str::from_utf8(text) {
-            return Err(fault(1, file, error.valid_up_to()));
-        }
-    }
-    Ok(())
 }
 
 /// The fault with this number.
@@ -79,53 +63,6 @@ fn limit(number: u8, file: usize) -> ScriptFault
     ScriptFault::Limit { number, file }
 }
 
-/// The tokens of each file.
-fn all_tokens(alloc: Global, texts: &[Vec<u8>]) -> Result<Vec<Vec<Token>>, ScriptFault>
-    requires countable { length texts.now < 2 ^ 32 }
-    requires utf8 { All IsUtf8 (map (λ text. text.items) texts.now) }
-    ensures ok { IfOk result (λ files. AllZip IsCut (map (λ text. text.items) texts.now) (map (λ f. f.items) files.items)) }
-    ensures fault { IfErr result (IsFaultOf (map (λ text. text.items) texts.now)) }
-{
-    let mut files = Vec::new(alloc);
-    for (file, text) in texts.iter().enumerate() {
-        match tokens(alloc, text) {
-            Ok(found) => files.push(found)?,
-            Err(error) => return Err(lexical(error, file)),
-        }
-    }
-    Ok(files)
-}
-
-/// What the fault of a file's tokens is among those of proof files.
-fn lexical(error: LexFault, file: usize) -> ScriptFault
-    requires { file < 2 ^ 32 }
-    ensures { (texts : List (List ℕ)) → IsFileFault texts file error → All IsUtf8 texts → IsFaultOf texts result }
-{
-    match error {
-        LexFault::NotUtf8(place) => fault(1, file, place),
-        LexFault::BadChar(place) => fault(2, file, place),
-        LexFault::OpenComment(place) => fault(2, file, place),
-        LexFault::NumberTooWide(place) => fault(2, file, place),
-        LexFault::Limit(_) => limit(2, file),
-        LexFault::Memory => ScriptFault::Memory,
-    }
-}
-
-/// Looks for tokens at which too many brackets or blocks are open.
-fn all_shallow(texts: &[Vec<u8>], files: &[Vec<Token>]) -> Result<(), ScriptFault>
-    requires countable { length texts.now < 2 ^ 32 }
-    requires cut { AllZip IsCut (map (λ text. text.items) texts.now) (map (λ f. f.items) files.now) }
-    ensures ok { IfOk result (λ _. AllZip IsFlat (map (λ text. text.items) texts.now) (map (λ f. f.items) files.now)) }
-    ensures fault { IfErr result (IsFaultOf (map (λ text. text.items) texts.now)) }
-{
-    for (file, tokens) in files.iter().enumerate() {
-        if too_deep(tokens).is_some() {
-            return Err(limit(3, file));
-        }
-    }
-    Ok(())
-}
-
 /// What each file is read as.
 fn all_read(
     alloc: Global,
@@ -133,7 +70,7 @@ fn all_read(
     files: &[Vec<Token>],
 ) -> Result<Vec<FileScripts>, ScriptFault>
     requires countable { length texts.now < 2 ^ 32 }
-    requires flat { AllZip IsFlat (map (λ text. text.items) texts.now) (map (λ f. f.items) files.now) }
+    requires shallow { AllZip IsShallowText (map (λ text. text.items) texts.now) (map (λ f. f.items) files.now) }
     ensures ok { IfOk result (λ read. AllZip IsKeptOf (map (λ text. text.items) texts.now) read.items) }
     ensures fault { IfErr result (IsFaultOf (map (λ text. text.items) texts.now)) }
 {
@@ -150,9 +87,9 @@ fn all_read(
 
 /// What a file of so many bytes is read as, or the byte where it is at fault.
 fn one_read(alloc: Global, tokens: &[Token], bytes: usize) -> Result<FileScripts, SpellFault>
-    ensures ok { (text : List ℕ) → length text ≡ bytes → IsFlat text tokens.now → IfOk result (λ f.
+    ensures ok { (text : List ℕ) → length text ≡ bytes → IsShallowText text tokens.now → IfOk result (λ f.
         (ss : List WrittenScript) × IsWritten text ss × AreScripts ss f.scripts.items f.is_high) }
-    ensures fault { (text : List ℕ) → length text ≡ bytes → IsFlat text tokens.now →
+    ensures fault { (text : List ℕ) → length text ≡ bytes → IsShallowText text tokens.now →
         IfErr result (IsUnwrittenAt text) }
 {
     match file_scripts(alloc, tokens) {

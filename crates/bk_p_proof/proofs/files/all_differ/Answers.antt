@@ -5,7 +5,8 @@ use Rattle.bk_p_expr.proofs.Choices.{if_none, if_some}
 use Rattle.bk_p_proof.specs.Files.{IsFaultOf, names_of}
 use Rattle.bk_p_proof.specs.Keys.{HasKeys, IsAgain}
 use Rattle.bk_p_proof.specs.Stages.{IsProofFileAs}
-use Rattle.bk_p_proof.proofs.FileSteps.{bytes_of, read_counted, all_names, scripts_of, names_on, twice_named, each_file}
+use Rattle.bk_files.proofs.FileSteps.{bytes_of, read_counted}
+use Rattle.bk_p_proof.proofs.FileSteps.{all_names, scripts_of, names_on, twice_named, each_file}
 use Rattle.bk_p_proof.proofs.files.all_differ.Goals as goal
 
 pub fault-requires : goal.fault-requires
@@ -19,7 +20,7 @@ returns-in-Some-clause-fault c =
     let f = c.index-read-file.result in
     let h = c.in_ok-place.ensures (all_names (take file read)) c.loop-file.invariant.keys c.loop-file.invariant.differ in
     let again : IsAgain (all_names (take file read)) f.scripts.items c.in-Some.place = subst (λ ss. IsAgain (all_names (take file read)) ss c.in-Some.place) c.deref.ensures.value (if_some _ _ _ _ h c.in-Some.is) in
-    subst (IsFaultOf texts) (sym c.fault.ensures) (inr (inr (inr (refl, (scripts_of read, each_file texts read c.requires.files, twice_named read file f c.in-Some.place c.loop-file-test.true c.index-read-file.is again)))))
+    subst (IsFaultOf texts) (sym c.fault.ensures) (inr (inr (refl, (scripts_of read, each_file texts read c.requires.files, twice_named read file f c.in-Some.place c.loop-file-test.true c.index-read-file.is again))))
 
 pub loop-file-preserved : goal.loop-file-preserved
 loop-file-preserved c =

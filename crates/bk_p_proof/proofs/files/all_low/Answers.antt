@@ -1,8 +1,10 @@
 use Rattle.std.proofs.Common.{List, ℕ, take, inl, inr, refl, sym, subst, arith}
-use Rattle.bk_p_proof.specs.Files.{Has, IsFaultOf, IsHigh, IsLow}
+use Rattle.bk_files.specs.Files.{Has}
+use Rattle.bk_p_proof.specs.Files.{IsFaultOf, IsHigh, IsLow}
 use Rattle.bk_p_proof.specs.Stages.{IsKeptOf, IsLowAs}
-use Rattle.bk_p_proof.proofs.FileSteps.{bytes_of, read_counted, first_beside, kept_written, low_has, low_kept, high_kept}
-use Rattle.bk_p_proof.proofs.Turns.{zip_has, zip_on, zip_end}
+use Rattle.bk_files.proofs.FileSteps.{bytes_of, read_counted, first_beside}
+use Rattle.bk_p_proof.proofs.FileSteps.{kept_written, low_has, low_kept, high_kept}
+use Rattle.bk_files.proofs.Turns.{zip_has, zip_on, zip_end}
 use Rattle.bk_p_proof.proofs.files.all_low.Goals as goal
 
 pub limit-requires : goal.limit-requires
@@ -14,7 +16,7 @@ returns-then-read-clause-fault c =
     let file : ℕ = c.loop-file.file in
     let fine = low_has (take file texts) (zip_has IsLowAs (take file texts) (take file c.args.read.now) c.loop-file.invariant) in
     let first = first_beside IsKeptOf (Has IsLow) IsHigh texts c.args.read.now file c.index-read-file.result c.loop-file-test.true c.index-read-file.is c.requires.kept (λ text k. high_kept text c.index-read-file.result c.if-read.true k) fine in
-    subst (IsFaultOf texts) (sym c.limit.ensures) (inr (inr (inl (refl, kept_written texts (zip_has IsKeptOf texts c.args.read.now c.requires.kept), first))))
+    subst (IsFaultOf texts) (sym c.limit.ensures) (inr (inl (refl, kept_written texts (zip_has IsKeptOf texts c.args.read.now c.requires.kept), first)))
 
 pub loop-file-preserved : goal.loop-file-preserved
 loop-file-preserved c = zip_on IsKeptOf IsLowAs (bytes_of c.args.texts.now) c.args.read.now c.loop-file.file c.index-read-file.result c.loop-file-test.true c.index-read-file.is c.requires.kept (λ text k. low_kept text c.index-read-file.result c.if-read.false k) c.loop-file.invariant

@@ -7,19 +7,19 @@ use Rattle.bk_p_proof.proofs.FileSteps.{typed_over, second_over}
 use Rattle.bk_p_proof.proofs.files.one_read.Goals as goal
 
 pub returns-in-Some-clause-fault : goal.returns-in-Some-clause-fault
-returns-in-Some-clause-fault c text long flat =
+returns-in-Some-clause-fault c text long shallow =
     let r = c.in-Ok.ensures.ok in
     let kept : IsSecondType c.in-Ok.read.scripts.items c.in-Some.place = subst (λ ks. IsSecondType ks c.in-Some.place) c.deref.ensures.value (if_some _ _ _ _ c.in_ok-place-in-Ok.ensures c.in-Some.is) in
-    (c.args.tokens.now, flat, inr (r.0, r.1, second_over r.0 c.in-Ok.read.scripts.items c.in-Ok.read.is_high c.in-Some.place r.2 kept))
+    (c.args.tokens.now, shallow, inr (r.0, r.1, second_over r.0 c.in-Ok.read.scripts.items c.in-Ok.read.is_high c.in-Some.place r.2 kept))
 
 pub returns-in-None-clause-ok : goal.returns-in-None-clause-ok
-returns-in-None-clause-ok c text long flat =
+returns-in-None-clause-ok c text long shallow =
     let r = c.in-Ok.ensures.ok in
     let typed = typed_over r.0 c.in-Ok.read.scripts.items c.in-Ok.read.is_high r.2 (subst (λ ks. All (λ s. AreOfOneType (script_names s)) ks) c.deref.ensures.value (if_none _ _ _ c.in_ok-place-in-Ok.ensures c.in-None.is)) in
-    (r.0, record { tokens = c.args.tokens.now; flat = flat; spelled = r.1; typed = typed }, r.2)
+    (r.0, record { tokens = c.args.tokens.now; shallow = shallow; spelled = r.1; typed = typed }, r.2)
 
 pub returns-in-Err-At-clause-fault : goal.returns-in-Err-At-clause-fault
-returns-in-Err-At-clause-fault c text long flat =
+returns-in-Err-At-clause-fault c text long shallow =
     let bad : IsScriptFault c.args.tokens.now c.in-Err-At.place = subst (IsMisspelled c.args.tokens.now) c.in-Err-At.field-0-is c.in-Err-At.ensures.fault in
     let byte : c.byte_of.result ≡ byte_at c.args.bytes c.args.tokens.now c.in-Err-At.place = rw c.in-Err-At.field-0-is at c.byte_of.ensures in
-    (c.args.tokens.now, flat, inl (c.in-Err-At.place, bad, byte ∙ ap (λ n. byte_at n c.args.tokens.now c.in-Err-At.place) (sym long)))
+    (c.args.tokens.now, shallow, inl (c.in-Err-At.place, bad, byte ∙ ap (λ n. byte_at n c.args.tokens.now c.in-Err-At.place) (sym long)))

@@ -1,10 +1,10 @@
 use Rattle.std.proofs.Common.{List, ℕ, take, subst}
 use Rattle.bk_lex.specs.Lexis.{AreTokens}
 use Rattle.bk_lex.specs.Faults.{IsFaultOf as IsLexFaultOf}
-use Rattle.bk_p_proof.specs.Files.{Has, IsCut}
-use Rattle.bk_p_proof.proofs.FileSteps.{bytes_of, tokens_of, at_text, tokens_on, first_text}
-use Rattle.bk_p_proof.proofs.Turns.{zip_has, zip_push}
-use Rattle.bk_p_proof.proofs.files.all_tokens.Goals as goal
+use Rattle.bk_files.specs.Files.{Has, IsCut}
+use Rattle.bk_files.proofs.FileSteps.{bytes_of, tokens_of, at_text, tokens_on, first_text}
+use Rattle.bk_files.proofs.Turns.{zip_has, zip_push}
+use Rattle.bk_files.proofs.cutting.all_tokens.Goals as goal
 
 pub returns-in-Err-clause-fault : goal.returns-in-Err-clause-fault
 returns-in-Err-clause-fault c =

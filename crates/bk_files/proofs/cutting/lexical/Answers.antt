@@ -1,5 +1,5 @@
-use Rattle.bk_p_proof.proofs.FileSteps.{comment_told, wide_told, utf8_told}
-use Rattle.bk_p_proof.proofs.files.lexical.Goals as goal
+use Rattle.bk_files.proofs.FileSteps.{comment_told, wide_told, utf8_told}
+use Rattle.bk_files.proofs.cutting.lexical.Goals as goal
 
 pub returns-in-OpenComment : goal.returns-in-OpenComment
 returns-in-OpenComment c texts h u = comment_told texts c.args.file _ c.args.error c.fault-in-OpenComment.result c.in-OpenComment.is c.fault-in-OpenComment.ensures h u

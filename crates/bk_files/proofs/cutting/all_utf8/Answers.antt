@@ -1,9 +1,9 @@
 use Rattle.std.proofs.Common.{List, ℕ, inl, refl, sym, subst}
 use Rattle.std.specs.Str.{IsUtf8, IsValidUpTo}
-use Rattle.bk_p_proof.specs.Files.{IsFaultOf, IsNoUtf8}
-use Rattle.bk_p_proof.proofs.FileSteps.{bytes_of, at_text, past_texts, ok_of, first_text}
-use Rattle.bk_p_proof.proofs.Turns.{all_on, all_end}
-use Rattle.bk_p_proof.proofs.files.all_utf8.Goals as goal
+use Rattle.bk_files.specs.Files.{IsFaultOf, IsNoUtf8}
+use Rattle.bk_files.proofs.FileSteps.{bytes_of, at_text, past_texts, ok_of, first_text}
+use Rattle.bk_files.proofs.Turns.{all_on, all_end}
+use Rattle.bk_files.proofs.cutting.all_utf8.Goals as goal
 
 pub returns-in-Err-clause-fault : goal.returns-in-Err-clause-fault
 returns-in-Err-clause-fault c =
