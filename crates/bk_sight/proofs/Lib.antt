@@ -1,0 +1,12 @@
+pub mod SubSizes
+pub mod Binding
+pub mod Seeing
+pub mod Declaring
+pub mod StandsAbove
+pub mod Planned
+pub mod FaultSteps
+pub mod FaultNames
+pub mod FaultLists
+pub mod FaultReadings
+pub mod Making
+pub mod TermsSeen
