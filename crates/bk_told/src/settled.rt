@@ -1,0 +1,121 @@
+// The types of all numbers, each by its way.
+
+ghost use Rattle.std.specs.Prelude.{◌≡◌, ◌+◌, ◌<◌, ◌≤◌, ◌&&◌, not, length, map, take, false, IfOk};
+ghost use Rattle.bk_raw.specs.Binders.{has_type};
+ghost use Rattle.bk_elab.specs.Visible.{typing_of};
+ghost use Rattle.bk_level.specs.Components.{or_next};
+ghost use Rattle.bk_sight.specs.Shown.{way_shown};
+ghost use Rattle.bk_level.specs.Ways as meant;
+
+use bk_form::Ty;
+use bk_io::Memory;
+use bk_sight::way::{Typing, Way};
+use std::alloc::Global;
+
+// The types after a round, and whether it has added one.
+#[derive(Drop)]
+struct Round {
+    types: Vec<Option<Ty>>,
+    has_added: bool,
+}
+
+/// The types of all numbers, those behind these numbers having these ways. Rounds go on while one adds a type: a name
+/// may be typed by one that is typed later in the text.
+pub fn settled(
+    alloc: Global,
+    max: i64,
+    known: Vec<Option<Ty>>,
+    ways: &[Way<'_>],
+) -> Result<Vec<Option<Ty>>, Memory>
+    ensures { IfOk result (λ types. typing_of types.items ≡
+        meant.settled max (length known.items) (map way_shown ways.now) (typing_of known.items)) }
+{
+    let first = known.len();
+    let mut types = with_room(known, ways)?;
+    for _ in 0..ways.len() {
+        let typing = Typing {
+            alloc,
+            max,
+            types: &types,
+        };
+        let round = next_round(typing, first, ways)?;
+        if !round.has_added {
+            return Ok(types);
+        }
+        types = round.types;
+    }
+    Ok(types)
+}
+
+// The types, and none for each of the ways.
+fn with_room(mut types: Vec<Option<Ty>>, ways: &[Way<'_>]) -> Result<Vec<Option<Ty>>, Memory>
+    ensures types { IfOk result (λ ts. typing_of ts.items ≡ typing_of types.items) }
+    ensures room { IfOk result (λ ts. length ts.items ≡ length types.items + length ways.now) }
+{
+    for _ in ways {
+        types.push(None)?;
+    }
+    Ok(types)
+}
+
+// The types after one round more: each number from this one on that has no type yet gets the one that its way gives.
+fn next_round(typing: Typing<'_>, first: usize, ways: &[Way<'_>]) -> Result<Round, Memory>
+    requires { length typing.types.now ≡ first + length ways.now }
+    ensures next { IfOk result (λ r. typing_of r.types.items ≡
+        meant.next_types typing.entry.max first (map way_shown ways.now) (typing_of typing.entry.types.now)) }
+    ensures room { IfOk result (λ r. length r.types.items ≡ first + length ways.now) }
+    ensures same { IfOk result (λ r. r.has_added ≡ false → typing_of r.types.items ≡ typing_of typing.entry.types.now) }
+{
+    let mut round = Round {
+        types: copies(typing, first)?,
+        has_added: false,
+    };
+    for (index, way) in ways.iter().enumerate() {
+        let next = next_type(typing, first + index, way)?;
+        round.has_added = round.has_added || is_new(typing, first + index, &next);
+        round.types.push(next)?;
+    }
+    Ok(round)
+}
+
+// The first so many types.
+fn copies(typing: Typing<'_>, count: usize) -> Result<Vec<Option<Ty>>, Memory>
+    requires { count ≤ length typing.types.now }
+    ensures { IfOk result (λ types. types.items ≡ take count typing.entry.types.now) }
+{
+    let mut found = Vec::new(typing.alloc);
+    for ty in &typing.types[..count] {
+        found.push(copy_of(typing.alloc, ty)?)?;
+    }
+    Ok(found)
+}
+
+// The same type again, if there is one.
+fn copy_of(alloc: Global, ty: &Option<Ty>) -> Result<Option<Ty>, Memory>
+    ensures { IfOk result (λ t. t ≡ ty.now) }
+{
+    match ty {
+        Some(ty) => Ok(Some(ty.copy(alloc)?)),
+        None => Ok(None),
+    }
+}
+
+// The type that a number has, or else the one that its way gives.
+fn next_type(typing: Typing<'_>, number: usize, way: &Way<'_>) -> Result<Option<Ty>, Memory>
+    requires { number < length typing.types.now }
+    ensures { IfOk result (λ t. t ≡ or_next (typing_of typing.entry.types.now number)
+        (meant.given_by typing.entry.max (typing_of typing.entry.types.now) (way_shown way.now))) }
+{
+    match &typing.types[number] {
+        Some(ty) => Ok(Some(ty.copy(typing.alloc)?)),
+        None => typing.given(way),
+    }
+}
+
+// Whether there is a type that the number did not have.
+fn is_new(typing: Typing<'_>, number: usize, next: &Option<Ty>) -> bool
+    requires { number < length typing.types.now }
+    ensures { result ≡ (has_type next.now && not (has_type (typing_of typing.entry.types.now number))) }
+{
+    next.is_some() && typing.types[number].is_none()
+}
