@@ -1,0 +1,10 @@
+use Rattle.std.proofs.Common.{◌≡◌, [], take, drop}
+use Rattle.bk_elab.specs.Blame.{blame, earlier}
+use Rattle.bk_elab.specs.Shown.{told}
+use Rattle.bk_elab.specs.Visible.{typing_of, visible_names}
+use Rattle.bk_level.specs.ValueFaults.{entry_value_faults, valued}
+use Rattle.bk_sight.specs.Shown.{refs}
+use Rattle.bk_clauses.proofs.values.entries_fault.Given as goal
+
+abbrev pub invariant-loop-index : goal.invariant-loop-index
+invariant-loop-index l = earlier (told l.fault) (blame (entry_value_faults l.typing.max (typing_of l.typing.types.now) (visible_names l.globals) (valued (visible_names l.globals) (refs (take l.index l.values))) (refs (drop l.index l.values)))) ≡ blame (entry_value_faults l.typing.max (typing_of l.typing.types.now) (visible_names l.globals) [] (refs l.values))
