@@ -1,0 +1,10 @@
+use Rattle.std.proofs.Common.{◌≡◌, drop}
+use Rattle.bk_elab.specs.Blame.{blame, earlier}
+use Rattle.bk_elab.specs.Shown.{told}
+use Rattle.bk_raw.specs.RawTree.{trees_of}
+use Rattle.bk_level.specs.SubFaults.{first_place}
+use Rattle.bk_judge.specs.Judged.{paired_by}
+use Rattle.bk_judge.proofs.judging.Judge.paired.Given as goal
+
+abbrev pub invariant-loop-index : goal.invariant-loop-index
+invariant-loop-index l = earlier (told l.fault) (blame (paired_by l.self (first_place l.names) (drop l.index l.names) (trees_of (drop l.index l.terms)))) ≡ blame (paired_by l.self (first_place l.names) l.names (trees_of l.terms))
