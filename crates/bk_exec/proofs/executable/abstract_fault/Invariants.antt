@@ -1,0 +1,10 @@
+use Rattle.std.proofs.Common.{◌≡◌, drop}
+use Rattle.bk_elab.specs.Blame.{blame, earlier}
+use Rattle.bk_elab.specs.Shown.{told}
+use Rattle.bk_level.specs.Components.{abstract_names}
+use Rattle.bk_level.specs.Executable.{abstract_faults}
+use Rattle.bk_sight.specs.Shown.{variables_shown}
+use Rattle.bk_exec.proofs.executable.abstract_fault.Given as goal
+
+abbrev pub invariant-loop-variable : goal.invariant-loop-variable
+invariant-loop-variable l = earlier (told l.fault) (blame (abstract_faults (abstract_names (variables_shown (drop l.variable-index l.component.variables.items))))) ≡ blame (abstract_faults (abstract_names (variables_shown l.component.variables.items)))

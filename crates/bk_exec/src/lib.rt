@@ -1,0 +1,5 @@
+//! Whether what an implementation does can be executed.
+#![tactic(auto)]
+
+pub mod arrays;
+pub mod executable;
