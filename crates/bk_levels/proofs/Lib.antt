@@ -1,0 +1,4 @@
+pub mod FaultHomes
+pub mod Assembling
+pub mod Rooms
+pub mod Leveling

@@ -1,0 +1,31 @@
+use Rattle.std.proofs.Common.{◌≡◌, ◌∙◌, ap, sym, subst, refl, [], ◌++◌, length, arith}
+use Rattle.std.proofs.lemmas.List.{length-map}
+use Rattle.bk_form.specs.Table.{Table}
+use Rattle.bk_dev.specs.Facts.{IsDevelopment}
+use Rattle.bk_levels.specs.Answered.{variables_added}
+use Rattle.bk_levels.proofs.Assembling.{listed-by, inhabited-by, sets-added, alone-table}
+use Rattle.bk_levels.proofs.levels.alone.Goals as goal
+
+pub add_sets-requires-clause-inhabited : goal.add_sets-requires-clause-inhabited
+add_sets-requires-clause-inhabited c =
+    inhabited-by (record { sets = c.args.added.sets.items; variables = variables_added c.args.added.variables.items }) [] c.deref.result.now (sym c.deref.ensures.value) c.requires.lawful.table.inhabited
+
+pub add_variables-requires-clause-listed : goal.add_variables-requires-clause-listed
+add_variables-requires-clause-listed c =
+    let t : Table = record { sets = c.args.added.sets.items; variables = variables_added c.args.added.variables.items } in
+    listed-by c.add_sets.new.table t [] c.args.added.variables.items
+    (ap (λ (x : Table). x.sets) (c.in_ok-add_sets.ensures ∙ sets-added c.new-table.result c.deref.result.now) ∙ (ap (λ (x : Table). x.sets ++ c.deref.result.now) c.new-table.ensures ∙ c.deref.ensures.value)) refl c.requires.lawful.table.listed
+
+pub add_variables-requires-clause-few : goal.add_variables-requires-clause-few
+add_variables-requires-clause-few c =
+    let none : length c.add_sets.new.table.variables ≡ 0 = ap (λ (x : Table). length x.variables) (c.in_ok-add_sets.ensures ∙ sets-added c.new-table.result c.deref.result.now) ∙ ap (λ (x : Table). length x.variables) c.new-table.ensures in
+    let long : length (variables_added c.args.added.variables.items) ≡ length c.args.added.variables.items = length-map c.args.added.variables.items (λ v. record { text = v.0; of_type = v.1 }) in
+    omega (arith, none, long, c.requires.lawful.table.few_variables)
+
+pub returns : goal.returns
+returns c =
+    ap (λ (t : Table). record { table = t; homes = c.args.added.homes.items; sets = c.args.added.sets.items; heads = c.args.added.heads.items; levels = c.args.added.own.items; values = c.args.added.values.items })
+    (alone-table c.new-table.result c.add_sets.new.table c.add_variables.new.table c.deref.result.now c.args.added.sets.items (variables_added c.args.added.variables.items) c.new-table.ensures c.deref.ensures.value c.in_ok-add_sets.ensures c.in_ok-add_variables.ensures)
+
+pub invariant_of-result : goal.invariant_of-result
+invariant_of-result c = subst IsDevelopment (sym (returns c)) c.requires
