@@ -1,0 +1,232 @@
+// What is answered of texts that stand below each other.
+//
+// A text may hold one @, which is no part of it: it stands before the byte where the fault is.
+
+ghost use Rattle.std.specs.Option.{option_map};
+ghost use Rattle.std.specs.Prelude.{◌≡◌, IfOk, IfSome, IsTrue, None};
+ghost use Rattle.bk_dev.specs.Facts.{IsDevelopment};
+ghost use Rattle.bk_level.specs.LevelLaws.{HomesStandInLevels};
+ghost use Rattle.bk_level.specs.VerdictLaws.{MayStandAbove};
+
+use crate::notation::notation;
+use bk_dev::Development;
+use bk_elab::ElabFault;
+use bk_io::Memory;
+use bk_levels::level;
+use bk_lex::tokens;
+use bk_p_comp::component;
+use bk_raw::{ComponentKind, RawComponent};
+use std::alloc::Global;
+
+/// MAXINT.
+pub(crate) const MAX: i64 = 2147483647;
+
+// A text that is read without its marker, and the byte of the marker, or the text's end.
+#[derive(Drop)]
+struct Marked {
+    text: Vec<u8>,
+    at: usize,
+}
+
+impl Marked {
+    // What is marked in the text.
+    fn of(alloc: Global, text: &str) -> Result<Marked, Memory> {
+        let mut marked = Marked {
+            text: Vec::new(alloc),
+            at: text.len(),
+        };
+        for (index, byte) in text.bytes().enumerate() {
+            if byte == b'@' {
+                marked.at = index;
+            } else {
+                marked.text.push(byte)?;
+            }
+        }
+        Ok(marked)
+    }
+}
+
+/// What is told of a text.
+#[derive(Clone, Copy, PartialEq, Eq, Debug)]
+pub(crate) enum Told {
+    Nothing,
+    /// The number of the fault and its byte.
+    Fault(u8, usize),
+    /// The number of the limit.
+    Limit(u8),
+    /// It is no component, or one that may not stand here.
+    Unread,
+}
+
+/// Why there is no development.
+#[derive(Clone, Copy, PartialEq, Eq, Debug)]
+pub(crate) enum Untold {
+    Refused,
+    Memory,
+}
+
+impl From<Memory> for Untold {
+    fn from(_: Memory) -> Self {
+        Untold::Memory
+    }
+}
+
+/// What is answered of a text: the development, where it is accepted, and what is told.
+#[derive(Drop)]
+pub(crate) struct Answer {
+    pub development: Option<Box<Development>>,
+    pub told: Told,
+}
+
+// Nothing but this is told.
+fn refused(told: Told) -> Answer
+    ensures { result.development ≡ None }
+{
+    Answer {
+        development: None,
+        told,
+    }
+}
+
+// Whether the component may stand below this.
+fn may_stand(raw: &RawComponent, above: &Option<Box<Development>>) -> bool
+    ensures { IfSome above.now (λ d. IsDevelopment d.value) → IsTrue result →
+        MayStandAbove raw.now.kind (option_map (λ d. d.value) above.now) }
+{
+    match raw.kind {
+        ComponentKind::Machine => above.is_none(),
+        ComponentKind::Refinement | ComponentKind::Implementation => match above {
+            Some(development) => !development.is_complete(),
+            None => false,
+        },
+    }
+}
+
+// The component that the text is, where it is one.
+fn read(alloc: Global, text: &[u8]) -> Result<Option<Box<RawComponent>>, Memory> {
+    let Ok(tokens) = tokens(alloc, text) else {
+        return Ok(None);
+    };
+    match component(alloc, tokens.as_slice()) {
+        Ok(component) => Ok(Some(Box::new(alloc, component)?)),
+        Err(_) => Ok(None),
+    }
+}
+
+// The development outside of its box.
+fn unboxed(development: Option<Box<Development>>) -> Option<Development>
+    ensures { result ≡ option_map (λ d. d.value) development }
+{
+    match development {
+        Some(development) => Some(Box::into_inner(development)),
+        None => None,
+    }
+}
+
+// The answer to a component below this.
+fn answer_to(
+    alloc: Global,
+    raw: &RawComponent,
+    above: Option<Box<Development>>,
+) -> Result<Answer, Memory>
+    requires stands { MayStandAbove raw.now.kind (option_map (λ d. d.value) above) }
+    requires homes { IfSome above (λ dev. HomesStandInLevels dev.value) }
+    ensures right { IfOk result (λ a. IfSome a.development (λ dev. IsDevelopment dev.value)) }
+    ensures homes { IfOk result (λ a. IfSome a.development (λ dev. HomesStandInLevels dev.value)) }
+{
+    match level(alloc, MAX, raw, unboxed(above)) {
+        Ok(development) => Ok(Answer {
+            development: Some(Box::new(alloc, development)?),
+            told: Told::Nothing,
+        }),
+        Err(ElabFault::Fault { number, place }) => Ok(refused(Told::Fault(number, place))),
+        Err(ElabFault::Limit(number)) => Ok(refused(Told::Limit(number))),
+        Err(ElabFault::Memory) => Err(Memory),
+    }
+}
+
+// The answer to a text below this.
+fn answer_below(
+    alloc: Global,
+    text: &[u8],
+    above: Option<Box<Development>>,
+) -> Result<Answer, Memory>
+    requires right { IfSome above (λ dev. IsDevelopment dev.value) }
+    requires homes { IfSome above (λ dev. HomesStandInLevels dev.value) }
+    ensures right { IfOk result (λ a. IfSome a.development (λ dev. IsDevelopment dev.value)) }
+    ensures homes { IfOk result (λ a. IfSome a.development (λ dev. HomesStandInLevels dev.value)) }
+{
+    let Some(raw) = read(alloc, text)? else {
+        return Ok(refused(Told::Unread));
+    };
+    if !may_stand(&raw, &above) {
+        return Ok(refused(Told::Unread));
+    }
+    answer_to(alloc, &raw, above)
+}
+
+// The levels of these texts, where they are a development's.
+fn levels(alloc: Global, texts: &[&str]) -> Result<Option<Box<Development>>, Memory>
+    ensures right { IfOk result (λ d. IfSome d (λ dev. IsDevelopment dev.value)) }
+    ensures homes { IfOk result (λ d. IfSome d (λ dev. HomesStandInLevels dev.value)) }
+{
+    let mut development: Option<Box<Development>> = None;
+    for text in texts {
+        let next = answer_below(alloc, text.as_bytes(), development)?;
+        if next.development.is_none() {
+            return Ok(None);
+        }
+        development = next.development;
+    }
+    Ok(development)
+}
+
+/// The answer to the text below the others.
+pub(crate) fn answer_of(alloc: Global, above: &[&str], text: &str) -> Result<Answer, Memory>
+    ensures right { IfOk result (λ a. IfSome a.development (λ dev. IsDevelopment dev.value)) }
+    ensures homes { IfOk result (λ a. IfSome a.development (λ dev. HomesStandInLevels dev.value)) }
+{
+    let marked = Marked::of(alloc, text)?;
+    let development = levels(alloc, above)?;
+    if development.is_none() && !above.is_empty() {
+        return Ok(refused(Told::Unread));
+    }
+    answer_below(alloc, marked.text.as_slice(), development)
+}
+
+/// Whether the text below the others is at fault with this number, at its marker; or is accepted, where the number is 0.
+pub(crate) fn is_told(
+    alloc: Global,
+    above: &[&str],
+    text: &str,
+    number: u8,
+) -> Result<bool, Memory> {
+    let marked = Marked::of(alloc, text)?;
+    let wanted = if number == 0 {
+        Told::Nothing
+    } else {
+        Told::Fault(number, marked.at)
+    };
+    Ok(answer_of(alloc, above, text)?.told == wanted)
+}
+
+// The substitutions of the operations, as they are noted.
+fn meaning(alloc: Global, front: &str, body: &str) -> Result<Option<Vec<u8>>, Memory> {
+    let text = format!(in alloc; "{front}{body} END")?;
+    match answer_of(alloc, [].as_slice(), text.as_str())?.development {
+        Some(development) => Ok(Some(notation(alloc, &development)?)),
+        None => Ok(None),
+    }
+}
+
+/// Whether both bodies are accepted behind the front, and are one substitution.
+pub(crate) fn are_one(
+    alloc: Global,
+    front: &str,
+    first: &str,
+    second: &str,
+) -> Result<bool, Memory> {
+    let first = meaning(alloc, front, first)?;
+    let second = meaning(alloc, front, second)?;
+    Ok(first.is_some() && first == second)
+}

@@ -1,0 +1,53 @@
+// The limit of names: a component declares 2000 at most, and more are told before any fault.
+
+use crate::answers::{Told, answer_of};
+use bk_io::Memory;
+use std::alloc::Global;
+use std::test::Fail;
+
+// A machine with so many sets, each of one element, and the rest behind them.
+fn machine_of(alloc: Global, sets: usize, rest: &str) -> Result<Vec<u8>, Memory> {
+    let mut text = Vec::from_slice(alloc, b"MACHINE A SETS S0 = {e0}")?;
+    for number in 1..sets {
+        let set = format!(in alloc; " ; S{number} = {{e{number}}}")?;
+        text.extend_from_slice(set.as_bytes())?;
+    }
+    text.extend_from_slice(rest.as_bytes())?;
+    Ok(text)
+}
+
+// What is told of it.
+fn told(alloc: Global, sets: usize, rest: &str) -> Result<Told, Memory> {
+    let text = machine_of(alloc, sets, rest)?;
+    let Ok(text) = str::from_utf8(text.as_slice()) else {
+        return Ok(Told::Unread);
+    };
+    Ok(answer_of(alloc, [].as_slice(), text)?.told)
+}
+
+#[test]
+fn names_of_sets(rt: HostRuntime) -> Result<(), Fail> {
+    let alloc = rt.alloc();
+    // 1000 sets and their 1000 elements.
+    assert!(rt; told(alloc, 1000, " END")? == Told::Nothing);
+    assert!(rt; told(alloc, 1001, " END")? == Told::Limit(5));
+    // One name more: a constant, a bound one, an operation.
+    for rest in [
+        " CONSTANTS c PROPERTIES c = 1 END",
+        " INVARIANT !x.(x : NAT => x = x) END",
+        " OPERATIONS op = skip END",
+        " OPERATIONS op(x) = PRE x : NAT THEN skip END END",
+    ] {
+        assert!(rt; told(alloc, 1000, rest)? == Told::Limit(5));
+    }
+    Ok(())
+}
+
+#[test]
+fn told_before_faults(rt: HostRuntime) -> Result<(), Fail> {
+    let alloc = rt.alloc();
+    let rest = " CONSTANTS S0 PROPERTIES y = 1 END";
+    assert!(rt; told(alloc, 1000, rest)? == Told::Limit(5));
+    assert!(rt; matches!(told(alloc, 999, rest)?, Told::Fault(6, _)));
+    Ok(())
+}

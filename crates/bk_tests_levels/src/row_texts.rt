@@ -1,0 +1,154 @@
+// The texts of the rows, byte by byte.
+
+// Row 16: Counter.mch.
+pub(crate) const COUNTER: &str = "MACHINE Counter\n\
+    VARIABLES n\n\
+    INVARIANT n : 0..10\n\
+    INITIALISATION n := 0\n\
+    OPERATIONS\n\
+    \x20 reset = n := 0 ;\n\
+    \x20 setmax = n := 10 ;\n\
+    \x20 r <-- get = r := n\n\
+    END\n\
+    ";
+
+// Row 16: Counter_r.ref.
+pub(crate) const COUNTER_R: &str = "REFINEMENT Counter_r REFINES Counter\n\
+    VARIABLES n\n\
+    INVARIANT n : 0..10\n\
+    INITIALISATION n := 0\n\
+    OPERATIONS\n\
+    \x20 reset = n := 0 ;\n\
+    \x20 setmax = n := 10 ;\n\
+    \x20 r <-- get = r := n\n\
+    END\n\
+    ";
+
+// Row 16: Counter_i.imp.
+pub(crate) const COUNTER_I: &str =
+    "IMPLEMENTATION Counter_i REFINES Counter_r CONCRETE_VARIABLES n\n\
+    INVARIANT n : 0..10\n\
+    INITIALISATION n := 0\n\
+    OPERATIONS\n\
+    \x20 reset = n := 0 ;\n\
+    \x20 setmax = n := 10 ;\n\
+    \x20 r <-- get = r := n\n\
+    END\n\
+    ";
+
+// Row 09: Table.mch.
+pub(crate) const TABLE: &str = "MACHINE Table\n\
+    VARIABLES f\n\
+    INVARIANT f : 0..9 --> INT\n\
+    INITIALISATION f := (0..9) * {0}\n\
+    OPERATIONS\n\
+    \x20 fill = f := (0..9) * {7} ;\n\
+    \x20 r <-- read(i) = PRE i : 0..9 THEN r := f(i) END\n\
+    END\n\
+    ";
+
+// Row 09: Table_i.imp.
+pub(crate) const TABLE_I: &str = "IMPLEMENTATION Table_i REFINES Table\n\
+    CONCRETE_VARIABLES tab\n\
+    INVARIANT tab : 0..9 --> INT & tab = f\n\
+    INITIALISATION tab := (0..9) * {0}\n\
+    OPERATIONS\n\
+    \x20 fill = VAR i IN i := 0 ;\n\
+    \x20   WHILE i < 10 DO tab(i) := 7 ; i := i + 1\n\
+    \x20   INVARIANT i : 0..10 & tab : 0..9 --> INT & !j.(j : 0..i - 1 => tab(j) = 7)\n\
+    \x20   VARIANT 10 - i END\n\
+    \x20 END ;\n\
+    \x20 r <-- read(i) = r := tab(i)\n\
+    END\n\
+    ";
+
+// Row 21: Lamp.mch.
+pub(crate) const LAMP: &str = "/* the machine */\n\
+    MACHINE Lamp\n\
+    SETS COLOR = {red, amber, green}\n\
+    VARIABLES col\n\
+    INVARIANT col : COLOR /* the lamp */\n\
+    INITIALISATION col := red\n\
+    OPERATIONS\n\
+    \x20 next = IF col = red THEN col := green ELSIF col = green THEN col := amber ELSE col := red END ;\n\
+    \x20 cc <-- show = BEGIN cc := col END\n\
+    END\n\
+    ";
+
+// Row 21: Lamp_i.imp.
+pub(crate) const LAMP_I: &str = "IMPLEMENTATION Lamp_i REFINES Lamp\n\
+    CONCRETE_VARIABLES col // concrete now\n\
+    INVARIANT col : COLOR /* the lamp */\n\
+    INITIALISATION col := red\n\
+    OPERATIONS\n\
+    \x20 next = IF col = red THEN col := green ELSIF col = green THEN col := amber ELSE col := red END ;\n\
+    \x20 cc <-- show = BEGIN cc := col END\n\
+    END\n\
+    ";
+
+// Row 22c: Tally.mch.
+pub(crate) const TALLY: &str = "MACHINE Tally\n\
+    VARIABLES n\n\
+    INVARIANT n : 0..10\n\
+    INITIALISATION n := 0\n\
+    OPERATIONS\n\
+    \x20 inc(k) = PRE k : 1..10 & n + k <= 10 THEN n := n + k END ;\n\
+    \x20 r <-- get = r := n\n\
+    END\n\
+    ";
+
+// Row 22c: Tally_i.imp.
+pub(crate) const TALLY_I: &str = "IMPLEMENTATION Tally_i REFINES Tally\n\
+    CONCRETE_VARIABLES n\n\
+    INVARIANT n : 0..10\n\
+    INITIALISATION n := 0\n\
+    OPERATIONS\n\
+    \x20 inc(k) = n := n + k ;\n\
+    \x20 r <-- get = r := n\n\
+    END\n\
+    ";
+
+// Row 22: A.mch.
+pub(crate) const TWICE_WRITTEN: &str =
+    "MACHINE A VARIABLES x INVARIANT x : 0..3 INITIALISATION x, x := 1, 2 END\n\
+    ";
+
+// Row 22d: A.mch.
+pub(crate) const TWICE_DECLARED: &str =
+    "MACHINE A VARIABLES n, n INVARIANT n : 0..3 INITIALISATION n := 0 END\n\
+    ";
+
+// Row 22e: Counter.mch.
+pub(crate) const COUNTER_E: &str = "MACHINE Counter\n\
+    VARIABLES n\n\
+    INVARIANT n : 0..10\n\
+    INITIALISATION n := 0\n\
+    OPERATIONS\n\
+    \x20 reset = n := 0 ;\n\
+    \x20 setmax = n := 10 ;\n\
+    \x20 r <-- get = r := n\n\
+    END\n\
+    ";
+
+// Row 22e: Counter_i.imp.
+pub(crate) const POWER_I: &str = "IMPLEMENTATION Counter_i REFINES Counter CONCRETE_VARIABLES n\n\
+    INVARIANT n : 0..10\n\
+    INITIALISATION n := 0\n\
+    OPERATIONS\n\
+    \x20 reset = n := 0 ;\n\
+    \x20 setmax = n := n ** 2 ;\n\
+    \x20 r <-- get = r := n\n\
+    END\n\
+    ";
+
+// Row 22f: Counter.mch.
+pub(crate) const UNSEEN: &str = "MACHINE Counter\n\
+    VARIABLES n\n\
+    INVARIANT n : 0..10\n\
+    INITIALISATION n := 0\n\
+    OPERATIONS\n\
+    \x20 reset = n := 0 ;\n\
+    \x20 setmax = n := 10 ;\n\
+    \x20 r <-- get = r := m\n\
+    END\n\
+    ";
