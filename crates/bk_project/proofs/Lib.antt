@@ -1,0 +1,9 @@
+pub mod Trimming
+pub mod ProjectFiles
+pub mod Steps
+pub mod Levels
+pub mod OneReading
+pub mod OneFile
+pub mod OneRefusal
+pub mod SomeLines
+pub mod SomeReading

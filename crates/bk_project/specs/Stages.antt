@@ -1,0 +1,56 @@
+-- What is known of component files between two passes over them. Only private contracts cite it.
+use Rattle.std.specs.Prelude.{◌≡◌, ◌<◌, ℕ, suc, Bool, true, false, List, Option, None, Some}
+use Rattle.bk_raw.specs.ComponentTree.{RawComponent}
+use Rattle.bk_dev.specs.Development.{Development, int_max}
+use Rattle.bk_level.specs.Above.{above_of}
+use Rattle.bk_level.specs.Verdict.{verdict_of, at_fault}
+use Rattle.bk_project.specs.Project.{IsLow, IsHigh}
+use Rattle.bk_files.specs.declared.fault.FileFault.{FileFault}
+use Rattle.bk_files.specs.declared.fault.FileFault.TheVariants.{Fault as FileAtFault, Limit as FilePastLimit, Memory as NoMemory}
+use Rattle.bk_project.specs.declared.project_file.LineKind.{LineKind}
+use Rattle.bk_project.specs.declared.project_file.LineKind.TheVariants.{Machine as MachineLine, Refinement as RefinementLine, Implementation as ImplementationLine, Proofs as ProofsLine}
+use Rattle.bk_project.specs.declared.reading.Read.{Read}
+use Rattle.bk_project.specs.declared.reading.Read.TheVariants.{Component, High}
+use Rattle.bk_project.specs.declared.refusal.Refusal.{Refusal}
+use Rattle.bk_project.specs.declared.refusal.Refusal.TheVariants.{Fault, Limit, Memory}
+
+-- what a text is read as
+abbrev pub IsReadOf : List ℕ → Read → Type 0
+IsReadOf text (Component c) = IsLow text c
+IsReadOf text High = IsHigh text
+
+-- what is told of a component of this file below these levels, where it keeps the limit of names
+abbrev pub IsNextRefusal : Option Development → RawComponent → ℕ → Refusal → Type 0
+IsNextRefusal above c file (Fault number told place) = (suc file ≡ told) × (verdict_of (int_max (above_of above)) above c ≡ at_fault (number, place))
+IsNextRefusal above c file (Limit number told) = ⊥
+IsNextRefusal above c file Memory = Unit {0}
+
+-- whether a line of this kind may stand behind lines of which this is the last for a component file
+abbrev pub may_follow : Option LineKind → LineKind → Bool
+may_follow last ProofsLine = true
+may_follow None MachineLine = true
+may_follow None RefinementLine = false
+may_follow None ImplementationLine = false
+may_follow (Some MachineLine) RefinementLine = true
+may_follow (Some MachineLine) ImplementationLine = true
+may_follow (Some RefinementLine) RefinementLine = true
+may_follow (Some RefinementLine) ImplementationLine = true
+may_follow (Some MachineLine) MachineLine = false
+may_follow (Some RefinementLine) MachineLine = false
+may_follow (Some ImplementationLine) MachineLine = false
+may_follow (Some ImplementationLine) RefinementLine = false
+may_follow (Some ImplementationLine) ImplementationLine = false
+may_follow (Some ProofsLine) MachineLine = false
+may_follow (Some ProofsLine) RefinementLine = false
+may_follow (Some ProofsLine) ImplementationLine = false
+
+-- the last line for a component file with one line more
+abbrev pub last_after : Option LineKind → LineKind → Option LineKind
+last_after last ProofsLine = last
+last_after last kind = Some kind
+
+-- it tells of one of the first 200 files
+abbrev pub IsOfFew : FileFault → Type 0
+IsOfFew (FileAtFault number file place) = file < 200
+IsOfFew (FilePastLimit number file) = file < 200
+IsOfFew NoMemory = Unit {0}
