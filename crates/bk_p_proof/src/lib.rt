@@ -20,3 +20,4 @@ mod typed;
 
 pub use fault::ScriptFault;
 pub use files::scripts;
+pub use second::typed_names;

@@ -24,8 +24,8 @@ pub(crate) fn second_type(alloc: Global, scripts: &[RawScript]) -> Result<Option
     Ok(None)
 }
 
-/// The names that a script brings, in order.
-fn typed_names(alloc: Global, script: &RawScript) -> Result<Vec<&RawTyped>, Memory>
+/// The names that a script brings by `fix` and `open`, each with its written type, in order.
+pub fn typed_names(alloc: Global, script: &RawScript) -> Result<Vec<&RawTyped>, Memory>
     ensures { IfOk result (λ all. map (λ x. x.now) all.items ≡ script_names script.now) }
 {
     let mut all = Vec::new(alloc);
