@@ -1,6 +1,6 @@
 // The texts of the rows, byte by byte.
 
-// Row 16: Counter.mch.
+// Counter.mch.
 pub(crate) const COUNTER: &str = "MACHINE Counter\n\
     VARIABLES n\n\
     INVARIANT n : 0..10\n\
@@ -12,7 +12,7 @@ pub(crate) const COUNTER: &str = "MACHINE Counter\n\
     END\n\
     ";
 
-// Row 16: Counter_r.ref.
+// Counter_r.ref.
 pub(crate) const COUNTER_R: &str = "REFINEMENT Counter_r REFINES Counter\n\
     VARIABLES n\n\
     INVARIANT n : 0..10\n\
@@ -24,7 +24,7 @@ pub(crate) const COUNTER_R: &str = "REFINEMENT Counter_r REFINES Counter\n\
     END\n\
     ";
 
-// Row 16: Counter_i.imp.
+// Counter_i.imp.
 pub(crate) const COUNTER_I: &str =
     "IMPLEMENTATION Counter_i REFINES Counter_r CONCRETE_VARIABLES n\n\
     INVARIANT n : 0..10\n\
@@ -36,7 +36,7 @@ pub(crate) const COUNTER_I: &str =
     END\n\
     ";
 
-// Row 09: Table.mch.
+// Table.mch.
 pub(crate) const TABLE: &str = "MACHINE Table\n\
     VARIABLES f\n\
     INVARIANT f : 0..9 --> INT\n\
@@ -47,7 +47,7 @@ pub(crate) const TABLE: &str = "MACHINE Table\n\
     END\n\
     ";
 
-// Row 09: Table_i.imp.
+// Table_i.imp.
 pub(crate) const TABLE_I: &str = "IMPLEMENTATION Table_i REFINES Table\n\
     CONCRETE_VARIABLES tab\n\
     INVARIANT tab : 0..9 --> INT & tab = f\n\
@@ -62,7 +62,7 @@ pub(crate) const TABLE_I: &str = "IMPLEMENTATION Table_i REFINES Table\n\
     END\n\
     ";
 
-// Row 21: Lamp.mch.
+// Lamp.mch.
 pub(crate) const LAMP: &str = "/* the machine */\n\
     MACHINE Lamp\n\
     SETS COLOR = {red, amber, green}\n\
@@ -75,7 +75,7 @@ pub(crate) const LAMP: &str = "/* the machine */\n\
     END\n\
     ";
 
-// Row 21: Lamp_i.imp.
+// Lamp_i.imp.
 pub(crate) const LAMP_I: &str = "IMPLEMENTATION Lamp_i REFINES Lamp\n\
     CONCRETE_VARIABLES col // concrete now\n\
     INVARIANT col : COLOR /* the lamp */\n\
@@ -86,7 +86,7 @@ pub(crate) const LAMP_I: &str = "IMPLEMENTATION Lamp_i REFINES Lamp\n\
     END\n\
     ";
 
-// Row 22c: Tally.mch.
+// Tally.mch.
 pub(crate) const TALLY: &str = "MACHINE Tally\n\
     VARIABLES n\n\
     INVARIANT n : 0..10\n\
@@ -97,7 +97,7 @@ pub(crate) const TALLY: &str = "MACHINE Tally\n\
     END\n\
     ";
 
-// Row 22c: Tally_i.imp.
+// Tally_i.imp.
 pub(crate) const TALLY_I: &str = "IMPLEMENTATION Tally_i REFINES Tally\n\
     CONCRETE_VARIABLES n\n\
     INVARIANT n : 0..10\n\
@@ -108,17 +108,17 @@ pub(crate) const TALLY_I: &str = "IMPLEMENTATION Tally_i REFINES Tally\n\
     END\n\
     ";
 
-// Row 22: A.mch.
+// A.mch.
 pub(crate) const TWICE_WRITTEN: &str =
     "MACHINE A VARIABLES x INVARIANT x : 0..3 INITIALISATION x, x := 1, 2 END\n\
     ";
 
-// Row 22d: A.mch.
+// A.mch.
 pub(crate) const TWICE_DECLARED: &str =
     "MACHINE A VARIABLES n, n INVARIANT n : 0..3 INITIALISATION n := 0 END\n\
     ";
 
-// Row 22e: Counter.mch.
+// Counter.mch.
 pub(crate) const COUNTER_E: &str = "MACHINE Counter\n\
     VARIABLES n\n\
     INVARIANT n : 0..10\n\
@@ -130,7 +130,7 @@ pub(crate) const COUNTER_E: &str = "MACHINE Counter\n\
     END\n\
     ";
 
-// Row 22e: Counter_i.imp.
+// Counter_i.imp.
 pub(crate) const POWER_I: &str = "IMPLEMENTATION Counter_i REFINES Counter CONCRETE_VARIABLES n\n\
     INVARIANT n : 0..10\n\
     INITIALISATION n := 0\n\
@@ -141,7 +141,7 @@ pub(crate) const POWER_I: &str = "IMPLEMENTATION Counter_i REFINES Counter CONCR
     END\n\
     ";
 
-// Row 22f: Counter.mch.
+// Counter.mch.
 pub(crate) const UNSEEN: &str = "MACHINE Counter\n\
     VARIABLES n\n\
     INVARIANT n : 0..10\n\
