@@ -1,0 +1,9 @@
+pub mod Turns
+pub mod Finds
+pub mod Bringing
+pub mod Shaped
+pub mod Sighted
+pub mod Small
+pub mod Certificates
+pub mod Alike
+pub mod Listed

@@ -1,0 +1,10 @@
+pub mod Sight
+pub mod Brought
+pub mod LawNames
+pub mod Widening
+pub mod Finding
+pub mod Parts
+pub mod Reading
+pub mod Grounding
+pub mod Examples
+pub mod Laws
