@@ -56,12 +56,12 @@ abbrev pub ends : Option LineKind → Bool
 ends (Some Implementation) = true
 ends _ = false
 
-abbrev is_lower : LineKind → Bool
+abbrev pub is_lower : LineKind → Bool
 is_lower Refinement = true
 is_lower Implementation = true
 is_lower _ = false
 
-lower : (last : Option LineKind) (k : LineKind) → is_some last ≡ true → goes_on last k ≡ true → (ends last ≡ false) × (is_lower k ≡ true)
+pub lower : (last : Option LineKind) (k : LineKind) → is_some last ≡ true → goes_on last k ≡ true → (ends last ≡ false) × (is_lower k ≡ true)
 lower None k s h = absurd (false≢true s)
 lower (Some Machine) Machine s h = absurd (false≢true h)
 lower (Some Machine) Refinement s h = (refl, refl)
@@ -80,7 +80,7 @@ lower (Some Proofs) Refinement s h = absurd (false≢true h)
 lower (Some Proofs) Implementation s h = absurd (false≢true h)
 lower (Some Proofs) Proofs s h = absurd (false≢true h)
 
-stands_first : (k : LineKind) (kind : ComponentKind) → goes_on None k ≡ true → is_for k kind ≡ true → MayStandAbove kind None
+pub stands_first : (k : LineKind) (kind : ComponentKind) → goes_on None k ≡ true → is_for k kind ≡ true → MayStandAbove kind None
 stands_first Machine AsMachine h f = tt
 stands_first Machine AsRefinement h f = absurd (false≢true f)
 stands_first Machine AsImplementation h f = absurd (false≢true f)
@@ -88,7 +88,7 @@ stands_first Refinement kind h f = absurd (false≢true h)
 stands_first Implementation kind h f = absurd (false≢true h)
 stands_first Proofs kind h f = absurd (false≢true h)
 
-stands_lower : (k : LineKind) (kind : ComponentKind) (dev : Development) → is_lower k ≡ true → is_for k kind ≡ true → IsDevelopment dev → is_complete dev ≡ false → MayStandAbove kind (Some dev)
+pub stands_lower : (k : LineKind) (kind : ComponentKind) (dev : Development) → is_lower k ≡ true → is_for k kind ≡ true → IsDevelopment dev → is_complete dev ≡ false → MayStandAbove kind (Some dev)
 stands_lower Machine kind dev h f d e = absurd (false≢true h)
 stands_lower Refinement AsMachine dev h f d e = absurd (false≢true f)
 stands_lower Refinement AsRefinement dev h f d e = (d, e)
@@ -98,7 +98,7 @@ stands_lower Implementation AsRefinement dev h f d e = absurd (false≢true f)
 stands_lower Implementation AsImplementation dev h f d e = (d, e)
 stands_lower Proofs kind dev h f d e = absurd (false≢true h)
 
-ends_with : (k : LineKind) (kind : ComponentKind) → is_for k kind ≡ true → is_implementing (kind_as kind) ≡ ends (Some k)
+pub ends_with : (k : LineKind) (kind : ComponentKind) → is_for k kind ≡ true → is_implementing (kind_as kind) ≡ ends (Some k)
 ends_with Machine AsMachine f = refl
 ends_with Machine AsRefinement f = refl
 ends_with Machine AsImplementation f = absurd (false≢true f)

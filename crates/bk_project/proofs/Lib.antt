@@ -7,3 +7,4 @@ pub mod OneFile
 pub mod OneRefusal
 pub mod SomeLines
 pub mod SomeReading
+pub mod Developments

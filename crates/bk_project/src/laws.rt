@@ -1,6 +1,6 @@
 //! What the definitions imply.
 
-ghost use Rattle.bk_project.specs.Laws.{LinesAreRead, LinesHaveOneRefusal, TextsAreRead, TextsHaveOneRefusal};
+ghost use Rattle.bk_project.specs.Laws.{LinesAreRead, LinesHaveOneRefusal, ReadAreDevelopments, ReadAreExecutable, TextsAreRead, TextsHaveOneRefusal};
 ghost use Rattle.bk_project.specs.Project.{ReadAsOne, FaultsExclude};
 ghost use Rattle.bk_project.specs.ProjectFile.{LinesAreOne, LinesExclude};
 
@@ -34,4 +34,10 @@ pub fn lines_are_read()
 /// The texts of component files are read as a development, or have a fault or limit.
 pub fn texts_are_read()
     ensures { TextsAreRead }
+{}
+
+/// What the texts of component files are read as is a development, which is in B0 where it ends in an implementation.
+pub fn what_is_read()
+    ensures development { ReadAreDevelopments }
+    ensures executable { ReadAreExecutable }
 {}
