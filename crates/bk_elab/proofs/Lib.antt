@@ -1,5 +1,3 @@
-pub mod Growing
-pub mod Parts
 pub mod Blamed
 pub mod Sizes
 pub mod Seen

@@ -2,7 +2,7 @@
 use Rattle.std.proofs.Common.{◌≡◌, ℕ, zero, suc, ◌+◌, ◌-◌, ◌<◌, ◌≤◌, List, [], ◌∷◌, ◌++◌, length, get_or, take, drop, refl, sym, ◌∙◌, ap, subst, Bool, true, false, cond, arith}
 use Rattle.std.specs.Prelude.{Option, None, Some, slice_get, ◌||◌, ◌&&◌, nat_le}
 use Rattle.std.proofs.lemmas.Bool.Decides.{nat_tests}
-use Rattle.std.proofs.lemmas.List.{take_all, take_more, drop_more}
+use Rattle.std.proofs.lemmas.List.{take_all, drop_more}
 use Rattle.std.proofs.lemmas.Option.{same_Some, slice_get-get_or}
 use Rattle.std.proofs.lemmas.Slice.Eq.{bytes_eq-Decides}
 use Rattle.std.specs.Option.{option_map}
@@ -13,8 +13,8 @@ use Rattle.bk_form.specs.declared.operator.Domain.TheVariants.{Enum}
 use Rattle.bk_form.specs.Role.{bind}
 use Rattle.bk_form.specs.Table.{Table, SetEntry, set_elements, variable_type}
 use Rattle.bk_raw.specs.Names.{Names, Meaning, local, global, set_name, element_name, nothing, Sight, unseen, seen, sight, behind, found, local_at, count_locals, pick, local_sight, untyped_name, bound_sight}
-use Rattle.bk_raw.specs.Binders.{Bound, locals}
-use Rattle.bk_raw.specs.ScopeReading.{ScopeNames, element_names, set_names, variable_meaning, scope_names, names_in}
+use Rattle.bk_raw.specs.Binders.{locals}
+use Rattle.bk_raw.specs.ScopeReading.{ScopeNames, element_names, set_names, variable_meaning, scope_names, names_in, last_from}
 use Rattle.bk_elab.specs.declared.sight.Local.{Local}
 use Rattle.bk_elab.specs.declared.sight.Outer.{Outer}
 use Rattle.bk_elab.specs.declared.sight.Outer.TheVariants.{OverTable, InSight}
@@ -25,7 +25,7 @@ use Rattle.bk_elab.specs.declared.sight.Visible.{Visible}
 use Rattle.bk_elab.specs.Visible.{typed_meaning, seen_names}
 use Rattle.bk_elab.specs.Sights.{bounds_of, names_of, outer_around, outer_names, among, set_in_front, seen_or, IsFirstAt}
 use Rattle.bk_elab.specs.declared.sight.Seen.{Seen}
-use Rattle.bk_elab.proofs.Seen.{entries-more, seen_last}
+use Rattle.bk_elab.proofs.Seen.{seen_last}
 
 -- ---- names that no binder around binds
 abbrev IsOuter : Meaning → Type 0
@@ -369,32 +369,20 @@ meaning-behind : (n : ℕ) (o : Option ValueType) → behind 0 (variable_meaning
 meaning-behind n None = refl
 meaning-behind n (Some t) = refl
 
-entry-next : (table : Table) (ps : List (List ℕ × ℕ)) (around : Names) (text : List ℕ) (i : ℕ) (d : List ℕ × ℕ) → i < length ps →
-    found 0 (scope_names table (take (i + 1) ps) around) text ≡ cond (bytes_eq (get_or ps i d).0 text) (sight 0 (variable_meaning (get_or ps i d).1 (variable_type table (get_or ps i d).1))) (found 0 (scope_names table (take i ps) around) text)
-entry-next table ps around text i d h =
-    ap (λ (qs : List (List ℕ × ℕ)). found 0 (scope_names table qs around) text) (take_more ps i d h)
-    ∙ (ap (λ (ns : Names). found 0 ns text) (entries-more table (take i ps) (get_or ps i d ∷ []) around)
-    ∙ ap (λ (j : ℕ). cond (bytes_eq (get_or ps i d).0 text) (sight 0 (variable_meaning (get_or ps i d).1 (variable_type table (get_or ps i d).1))) (found j (scope_names table (take i ps) around) text)) (meaning-behind (get_or ps i d).1 (variable_type table (get_or ps i d).1)))
+picked : (table : Table) (b : Bool) (n : ℕ) (o : Option ℕ) (other : Sight) → cond b (sight 0 (variable_meaning n (variable_type table n))) (seen_last table o other) ≡ seen_last table (cond b (Some n) o) other
+picked table true n o other = refl
+picked table false n o other = refl
 
--- the next entry, of those that the program goes through
-pub scope-here : (table : Table) (ps items : List (List ℕ × ℕ)) (around : Names) (text : List ℕ) (i : ℕ) (x : List ℕ × ℕ) → items ≡ ps → i < length items → x ≡ get_or items i x → bytes_eq x.0 text ≡ true →
-    found 0 (scope_names table (take (i + 1) ps) around) text ≡ seen_last table (Some x.1) (found 0 around text)
-scope-here table ps items around text i x same h g e =
-    ap (λ (qs : List (List ℕ × ℕ)). found 0 (scope_names table (take (i + 1) qs) around) text) (sym same)
-    ∙ (entry-next table items around text i x h
-    ∙ (ap (λ (y : List ℕ × ℕ). cond (bytes_eq y.0 text) (sight 0 (variable_meaning y.1 (variable_type table y.1))) (found 0 (scope_names table (take i items) around) text)) (sym g)
-    ∙ ap (λ (b : Bool). cond b (sight 0 (variable_meaning x.1 (variable_type table x.1))) (found 0 (scope_names table (take i items) around) text)) e))
+-- what the names of entries mean in front of others
+found-entries : (table : Table) (ps : List (List ℕ × ℕ)) (around : Names) (text : List ℕ) (o : Option ℕ) (other : Sight) → found 0 around text ≡ seen_last table o other → found 0 (scope_names table ps around) text ≡ seen_last table (last_from o ps text) other
+found-entries table [] around text o other h = h
+found-entries table (p ∷ ps) around text o other h =
+    let m = variable_meaning p.1 (variable_type table p.1) in
+    let next : found 0 (record { text = p.0; meaning = m } ∷ around) text ≡ seen_last table (cond (bytes_eq p.0 text) (Some p.1) o) other =
+    ap (λ (j : ℕ). cond (bytes_eq p.0 text) (sight 0 m) (found j around text)) (meaning-behind p.1 (variable_type table p.1)) ∙ (ap (λ (s : Sight). cond (bytes_eq p.0 text) (sight 0 m) s) h ∙ picked table (bytes_eq p.0 text) p.1 o other) in
+    found-entries table ps (record { text = p.0; meaning = m } ∷ around) text (cond (bytes_eq p.0 text) (Some p.1) o) other next
 
-pub scope-not : (table : Table) (ps items : List (List ℕ × ℕ)) (around : Names) (text : List ℕ) (i : ℕ) (x : List ℕ × ℕ) → items ≡ ps → i < length items → x ≡ get_or items i x → bytes_eq x.0 text ≡ false →
-    found 0 (scope_names table (take (i + 1) ps) around) text ≡ found 0 (scope_names table (take i ps) around) text
-scope-not table ps items around text i x same h g e =
-    ap (λ (qs : List (List ℕ × ℕ)). found 0 (scope_names table (take (i + 1) qs) around) text) (sym same)
-    ∙ (entry-next table items around text i x h
-    ∙ (ap (λ (y : List ℕ × ℕ). cond (bytes_eq y.0 text) (sight 0 (variable_meaning y.1 (variable_type table y.1))) (found 0 (scope_names table (take i items) around) text)) (sym g)
-    ∙ (ap (λ (b : Bool). cond b (sight 0 (variable_meaning x.1 (variable_type table x.1))) (found 0 (scope_names table (take i items) around) text)) e
-    ∙ ap (λ (qs : List (List ℕ × ℕ)). found 0 (scope_names table (take i qs) around) text) same)))
+pub found_in : (table : Table) (scope : ScopeNames) (text : List ℕ) → found 0 (names_in table scope) text ≡ seen_last table (last_from None scope.names text) (found 0 (set_names 0 table.sets) text)
+found_in table scope text = found-entries table scope.names (set_names 0 table.sets) text None (found 0 (set_names 0 table.sets) text) refl
 
-pub entries-all : (table : Table) (ps : List (List ℕ × ℕ)) (around : Names) (text : List ℕ) (i : ℕ) → length ps ≤ i → found 0 (scope_names table (take i ps) around) text ≡ found 0 (scope_names table ps around) text
-entries-all table ps around text i h = ap (λ (qs : List (List ℕ × ℕ)). found 0 (scope_names table qs around) text) (take_all i ps h)
-
-pub ruleset finding_outside = (entries-all)
+pub ruleset finding_outside = (found_in)

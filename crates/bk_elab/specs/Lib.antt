@@ -1,6 +1,3 @@
-pub mod Scope
-pub mod Terms
-pub mod Faults
 pub mod Blame
 pub mod Joins
 pub mod Expressions

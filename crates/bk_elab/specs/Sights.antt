@@ -1,5 +1,5 @@
 -- What the program's names in sight stand for.
-use Rattle.std.specs.Prelude.{◌≡◌, ◌<◌, ◌≤◌, ℕ, ℤ, zero, suc, length, Bool, true, false, ◌&&◌, ◌||◌, List, [], ◌∷◌, ◌++◌, map, take, drop, slice_get, Option, None, Some}
+use Rattle.std.specs.Prelude.{◌≡◌, ◌<◌, ℕ, ℤ, zero, suc, length, Bool, true, false, ◌&&◌, ◌||◌, List, [], ◌∷◌, ◌++◌, map, take, drop, slice_get, Option, None, Some}
 use Rattle.std.specs.Str.{bytes_eq}
 use Rattle.bk_val.specs.ValueType.{ValueType, pair_type}
 use Rattle.bk_form.specs.Formula.{Formula, formulas_of, for_all, for_some}
@@ -30,7 +30,7 @@ use Rattle.bk_elab.specs.declared.sight.Seen.TheVariants.{Unseen, Untyped, Typed
 use Rattle.bk_elab.specs.declared.visible.Sight.{Sight as TermsSight}
 use Rattle.bk_elab.specs.Blame.{blame}
 use Rattle.bk_elab.specs.Conjuncts.{IsRight}
-use Rattle.bk_elab.specs.Shown.{shown_outcome, told, IsRead}
+use Rattle.bk_elab.specs.Shown.{told, IsRead}
 use Rattle.bk_elab.specs.Visible.{seen_names}
 
 -- what is found of a name

@@ -1,13 +1,12 @@
 -- Names in sight, as the program keeps them: what each stands for, and the types that variables have by their numbers.
-use Rattle.std.specs.Prelude.{ℕ, ℤ, Bool, List, map, slice_get, Option, None, Some, ◌++◌}
+use Rattle.std.specs.Prelude.{ℕ, Bool, List, map, slice_get, Option, None, Some, ◌++◌}
 use Rattle.std.specs.Borrow.{Bor}
 use Rattle.bk_val.specs.ValueType.{ValueType}
-use Rattle.bk_form.specs.Formula.{Formula}
 use Rattle.bk_raw.specs.declared.term.RawName.{RawName}
 use Rattle.bk_raw.specs.RawTree.{RawTree}
 use Rattle.bk_raw.specs.Names.{Names, Meaning, global, set_name, element_name}
 use Rattle.bk_raw.specs.Outcome.{Reading, Asked}
-use Rattle.bk_raw.specs.Binders.{Bound, bound_names}
+use Rattle.bk_raw.specs.Binders.{bound_names}
 use Rattle.bk_raw.specs.TermReading.{part, reading, clues}
 use Rattle.bk_elab.specs.declared.sight.Visible.{Visible}
 use Rattle.bk_elab.specs.declared.sight.Standing.{Standing}

@@ -238,13 +238,7 @@ impl Tabled<'_> {
     fn find_outside(&self, text: &[u8]) -> Result<Seen, Memory>
         ensures { IfOk result (λ s. shown_sight s ≡ named.found 0 (names_in self.now.table.now self.now.scope.now) text.now) }
     {
-        let mut last = None;
-        for entry in self.scope.entries() {
-            if entry.0.as_bytes() == text {
-                last = Some(entry.1);
-            }
-        }
-        match last {
+        match self.scope.find(text) {
             Some(variable) => self.variable(variable),
             None => self.find_set(text),
         }

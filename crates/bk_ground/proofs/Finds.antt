@@ -4,56 +4,18 @@ use Rattle.std.specs.Prelude.{Option, Some, None, slice_get, decimal, ◌||◌, 
 use Rattle.std.specs.List.{list_any}
 use Rattle.std.specs.Option.{option_map}
 use Rattle.std.specs.Str.{bytes_eq}
-use Rattle.std.proofs.lemmas.List.{take_more, take_all}
 use Rattle.bk_val.specs.ValueType.{ValueType, enum_type}
 use Rattle.bk_form.specs.Formula.{variable}
 use Rattle.bk_form.specs.Table.{Table, SetEntry, variable_type}
 use Rattle.bk_raw.specs.Names.{Names, set_name, element_name, Sight, seen, sight, behind, found}
 use Rattle.bk_raw.specs.Printed.{set_type_of, type_read}
 use Rattle.bk_raw.specs.declared.script.RawTyped.{RawTyped}
-use Rattle.bk_raw.specs.ScopeReading.{ScopeNames, element_names, set_names, variable_meaning, scope_names, names_in}
+use Rattle.bk_raw.specs.ScopeReading.{ScopeNames, element_names, set_names, variable_meaning, scope_names, names_in, last_from}
 use Rattle.bk_elab.proofs.Seen.{seen_last}
-use Rattle.bk_ground.specs.Finding.{IsMeaning, last_from, in_set, set_or, set_among}
+use Rattle.bk_elab.proofs.Sighted.{found_in}
+use Rattle.bk_ground.specs.Finding.{IsMeaning, in_set, set_or, set_among}
 use Rattle.bk_ground.specs.Parts.{Around, NameMeans}
 use Rattle.bk_ground.specs.LawNames.{spelled_from}
-
--- ---- entries
-last-more : (o : Option ℕ) (ps : List (List ℕ × ℕ)) (p : List ℕ × ℕ) (text : List ℕ) → last_from o (ps ++ p ∷ []) text ≡ cond (bytes_eq p.0 text) (Some p.1) (last_from o ps text)
-last-more o [] p text = refl
-last-more o (q ∷ ps) p text = last-more (cond (bytes_eq q.0 text) (Some q.1) o) ps p text
-
-module _ (ps : List (List ℕ × ℕ)) (i : ℕ) (p : List ℕ × ℕ) (inside : i < length ps) (is : p ≡ get_or ps i p) (text : List ℕ) where
-  last-turn : last_from None (take (i + 1) ps) text ≡ cond (bytes_eq p.0 text) (Some p.1) (last_from None (take i ps) text)
-  last-turn = ap (λ qs. last_from None qs text) (take_more ps i p inside ∙ ap (λ q. take i ps ++ q ∷ []) (sym is)) ∙ last-more None (take i ps) p text
-
-  pub last_here : bytes_eq p.0 text ≡ true → last_from None (take (i + 1) ps) text ≡ Some p.1
-  last_here e = last-turn ∙ ap (λ b. cond b (Some p.1) (last_from None (take i ps) text)) e
-
-  pub last_past : bytes_eq p.0 text ≡ false → last_from None (take (i + 1) ps) text ≡ last_from None (take i ps) text
-  last_past e = last-turn ∙ ap (λ b. cond b (Some p.1) (last_from None (take i ps) text)) e
-
-pub last_all : (ps : List (List ℕ × ℕ)) (i : ℕ) (text : List ℕ) → length ps ≤ i → last_from None (take i ps) text ≡ last_from None ps text
-last_all ps i text l = ap (λ qs. last_from None qs text) (take_all i ps l)
-
-meaning-behind : (n : ℕ) (o : Option ValueType) → behind 0 (variable_meaning n o) ≡ 0
-meaning-behind n None = refl
-meaning-behind n (Some t) = refl
-
-picked : (table : Table) (b : Bool) (n : ℕ) (o : Option ℕ) (other : Sight) → cond b (sight 0 (variable_meaning n (variable_type table n))) (seen_last table o other) ≡ seen_last table (cond b (Some n) o) other
-picked table true n o other = refl
-picked table false n o other = refl
-
--- what the names of entries mean in front of others
-found-entries : (table : Table) (ps : List (List ℕ × ℕ)) (around : Names) (text : List ℕ) (o : Option ℕ) (other : Sight) → found 0 around text ≡ seen_last table o other → found 0 (scope_names table ps around) text ≡ seen_last table (last_from o ps text) other
-found-entries table [] around text o other h = h
-found-entries table (p ∷ ps) around text o other h =
-    let m = variable_meaning p.1 (variable_type table p.1) in
-    let next : found 0 (record { text = p.0; meaning = m } ∷ around) text ≡ seen_last table (cond (bytes_eq p.0 text) (Some p.1) o) other =
-    ap (λ (j : ℕ). cond (bytes_eq p.0 text) (sight 0 m) (found j around text)) (meaning-behind p.1 (variable_type table p.1)) ∙ (ap (λ (s : Sight). cond (bytes_eq p.0 text) (sight 0 m) s) h ∙ picked table (bytes_eq p.0 text) p.1 o other) in
-    found-entries table ps (record { text = p.0; meaning = m } ∷ around) text (cond (bytes_eq p.0 text) (Some p.1) o) other next
-
-pub found_in : (table : Table) (scope : ScopeNames) (text : List ℕ) → found 0 (names_in table scope) text ≡ seen_last table (last_from None scope.names text) (found 0 (set_names 0 table.sets) text)
-found_in table scope text = found-entries table scope.names (set_names 0 table.sets) text None (found 0 (set_names 0 table.sets) text) refl
 
 -- ---- sets
 pub element_in : (e : SetEntry) (text : List ℕ) → bytes_eq e.name text ≡ false → list_any (λ x. bytes_eq x text) e.elements ≡ true → in_set e text ≡ Some false

@@ -11,9 +11,9 @@ use Rattle.bk_raw.specs.WrittenType.{WrittenType, written_integer, written_bool,
 use Rattle.bk_raw.specs.declared.script.RawTyped.{RawTyped}
 use Rattle.bk_raw.specs.Printed.{type_read, power_of, product_of}
 use Rattle.bk_raw.specs.Names.{found}
-use Rattle.bk_raw.specs.ScopeReading.{ScopeNames, names_in}
+use Rattle.bk_raw.specs.ScopeReading.{ScopeNames, names_in, last_from}
 use Rattle.bk_ground.specs.Brought.{entry_for, type_of, type_in, type_scope, new_names}
-use Rattle.bk_ground.specs.Finding.{in_set, set_or, set_among, last_from}
+use Rattle.bk_ground.specs.Finding.{in_set, set_or, set_among}
 use Rattle.bk_ground.specs.Laws.{WidenedIsWellFormed}
 use Rattle.bk_ground.proofs.Finds.{set_type_found}
 

@@ -8,11 +8,6 @@ use Rattle.bk_form.specs.Table.{SetEntry}
 abbrev pub IsMeaning : {A : Type 0} → (A → Type 0) → Option A → Type 0
 IsMeaning {A} Means o = MatchOption o ((x : A) → Means x → ⊥) Means
 
--- the number of the last of the entries with the text, and else this
-abbrev pub last_from : Option ℕ → List (List ℕ × ℕ) → List ℕ → Option ℕ
-last_from o [] text = o
-last_from o (p ∷ ps) text = last_from (cond (bytes_eq p.0 text) (Some p.1) o) ps text
-
 -- whether the text is that of a set, where it is one's or an element's
 abbrev pub in_set : SetEntry → List ℕ → Option Bool
 in_set e text = cond (bytes_eq e.name text) (Some true) (cond (list_any (λ x. bytes_eq x text) e.elements) (Some false) None)

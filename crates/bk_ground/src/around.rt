@@ -15,7 +15,7 @@ ghost use Rattle.bk_ground.specs.Finding.{IsMeaning, set_among};
 ghost use Rattle.bk_ground.specs.Parts.{TermMeans, TermsMean, NameMeans, NamesMean};
 ghost use Rattle.bk_ground.specs.Reading.{around_of};
 
-use crate::found::{last_entry, set_named};
+use crate::found::set_named;
 use bk_elab::{ElabFault, formula};
 use bk_form::{Form, Ty, VarTable};
 use bk_io::Memory;
@@ -89,7 +89,7 @@ impl Around<'_> {
             ((n : ℕ) (t : ValueType) → found 0 (names_in self.now.table.now self.now.scope.now) text.now ≡ seen (variable n) t → ⊥)
             (λ p. found 0 (names_in self.now.table.now self.now.scope.now) text.now ≡ seen (variable p.0) p.1.now) }
     {
-        let Some(number) = last_entry(self.scope.entries(), text) else {
+        let Some(number) = self.scope.find(text) else {
             return None;
         };
         match self.table.ty(number) {
@@ -161,7 +161,7 @@ fn set_type(scope: &Scope, table: &VarTable, text: &[u8]) -> Option<Ty>
     ensures value { result ≡ set_type_of (found 0 (names_in table.now scope.now) text.now) }
     ensures listed { IfSome result (λ ty. IsTrue (lists_type table.now ty)) }
 {
-    match last_entry(scope.entries(), text) {
+    match scope.find(text) {
         Some(_) => None,
         None => set_of(table, text),
     }

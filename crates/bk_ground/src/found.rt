@@ -5,7 +5,7 @@ ghost use Rattle.std.specs.List.{list_any};
 ghost use Rattle.std.specs.Str.{bytes_eq};
 ghost use Rattle.bk_form.specs.Table.{SetEntry};
 ghost use Rattle.bk_ground.specs.Brought.{is_in_scope};
-ghost use Rattle.bk_ground.specs.Finding.{last_from, in_set, set_among};
+ghost use Rattle.bk_ground.specs.Finding.{in_set, set_among};
 
 use bk_form::VarTable;
 use bk_io::Text;
@@ -15,19 +15,6 @@ pub(crate) fn has_entry(entries: &[(Text, u32)], text: &[u8]) -> bool
     ensures { result ≡ is_in_scope entries.now text.now }
 {
     entries.iter().any(|entry| entry.0.as_bytes() == text)
-}
-
-// The number of the last of the entries with the text.
-pub(crate) fn last_entry(entries: &[(Text, u32)], text: &[u8]) -> Option<u32>
-    ensures { result ≡ last_from None entries.now text.now }
-{
-    let mut last = None;
-    for entry in entries {
-        if entry.0.as_bytes() == text {
-            last = Some(entry.1);
-        }
-    }
-    last
 }
 
 // The set with the text, where no set before it and none of their elements has it.

@@ -1,4 +1,5 @@
 mod Examples
+pub mod Numbered
 pub mod Neutral
 pub mod WrittenKinds
 pub mod Shapes

@@ -1,5 +1,6 @@
 -- What a term reads as by itself: in a scope, over a table of variables and sets. Scopes are this project's own.
-use Rattle.std.specs.Prelude.{ℕ, ℤ, suc, List, [], ◌∷◌, ◌++◌, Option, None, Some}
+use Rattle.std.specs.Prelude.{ℕ, ℤ, suc, cond, List, [], ◌∷◌, ◌++◌, Option, None, Some}
+use Rattle.std.specs.Str.{bytes_eq}
 use Rattle.bk_val.specs.ValueType.{ValueType}
 use Rattle.bk_form.specs.Table.{Table, SetEntry, variable_type}
 use Rattle.bk_form.specs.Formula.{Formula}
@@ -12,6 +13,11 @@ use Rattle.bk_raw.specs.TermReading.{place_of, reading}
 pub record ScopeNames : Type 0 where
   pub max : ℤ
   pub names : List (List ℕ × ℕ)
+
+-- the number of the last of the names with the text, and else this
+abbrev pub last_from : Option ℕ → List (List ℕ × ℕ) → List ℕ → Option ℕ
+last_from o [] text = o
+last_from o (p ∷ ps) text = last_from (cond (bytes_eq p.0 text) (Some p.1) o) ps text
 
 -- ---- the names in sight
 -- the elements of set s from the i-th on

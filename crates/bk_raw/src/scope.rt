@@ -1,8 +1,10 @@
 // The names that a term by itself may use.
 
-ghost use Rattle.std.specs.Prelude.{◌≡◌, ◌++◌, ◌∷◌, [], OnOk, OnErr};
+ghost use Rattle.std.specs.Prelude.{◌≡◌, ◌++◌, ◌∷◌, [], None, OnOk, OnErr};
+ghost use Rattle.bk_raw.specs.ScopeReading.{last_from};
 
 use bk_io::{Memory, Text};
+use indexmap::IndexMap;
 use std::alloc::Global;
 use std::marker::Model;
 
@@ -12,14 +14,21 @@ use std::marker::Model;
 pub struct Scope {
     max: i64,
     entries: Vec<(Text, u32)>,
+    // The number of the last entry with each text.
+    numbers: IndexMap<Vec<u8>, u32>,
 }
 
 impl Model for Scope {
-    ghost use Rattle.bk_raw.specs.ScopeReading.{ScopeNames};
+    ghost use Rattle.std.specs.Prelude.{◌≡◌, ℕ, List, None};
+    ghost use Rattle.std.specs.Str.{bytes_eq};
+    ghost use Rattle.indexmap.specs.IndexMap.{get_by};
+    ghost use Rattle.bk_raw.specs.ScopeReading.{ScopeNames, last_from};
 
     ghost Value = { ScopeNames };
 
     ghost view = { λ s. record { max = s.max; names = s.entries.items } };
+
+    ghost invariant = { λ s. (text : List ℕ) → get_by (λ k. bytes_eq text k.items) s.numbers ≡ last_from None s.entries.items text };
 }
 
 impl Scope {
@@ -30,6 +39,7 @@ impl Scope {
         Scope {
             max,
             entries: Vec::new(alloc),
+            numbers: IndexMap::new(alloc),
         }
     }
 
@@ -38,7 +48,13 @@ impl Scope {
         ensures ok { OnOk result (self.new ≡ record { max = self.old.max; names = self.old.names ++ (name, variable) ∷ [] }) }
         ensures err { OnErr result (self.new ≡ self.old) }
     {
+        let alloc = *self.entries.allocator();
+        let text = Vec::from_slice(alloc, name.as_bytes())?;
         self.entries.push((name, variable))?;
+        if self.numbers.insert(text, variable).is_err() {
+            self.entries.pop();
+            return Err(Memory);
+        }
         Ok(())
     }
 
@@ -49,10 +65,10 @@ impl Scope {
         self.max
     }
 
-    /// The names with the numbers of their variables, in the order of adding.
-    pub fn entries(&self) -> &[(Text, u32)]
-        ensures { result.now ≡ self.now.names }
+    /// The number of the variable of the last name with this text. It takes time in the length of the text.
+    pub fn find(&self, text: &[u8]) -> Option<u32>
+        ensures { result ≡ last_from None self.now.names text.now }
     {
-        &self.entries
+        self.numbers.get(text).copied()
     }
 }

@@ -1,10 +1,8 @@
-//! Tests of tokens, of operators, and of terms: how they are read and what they mean.
+//! Tests of tokens, of operators, and of how terms are read.
 #![tactic(auto)]
 
 #[cfg(test)]
 mod lexis;
-#[cfg(test)]
-mod meanings;
 #[cfg(test)]
 mod notation;
 #[cfg(test)]

@@ -1,22 +1,18 @@
-use Rattle.std.proofs.Common.{◌≡◌, ℕ, true, false, sym, ◌∙◌, ap, rules}
-use Rattle.std.specs.Prelude.{Option}
-use Rattle.std.specs.Str.{bytes_eq}
-use Rattle.bk_raw.specs.Names.{found}
+use Rattle.std.proofs.Common.{◌≡◌, sym, ap, ◌∙◌, subst}
+use Rattle.std.specs.Prelude.{IfOk}
+use Rattle.bk_raw.specs.Names.{Sight, found}
 use Rattle.bk_raw.specs.ScopeReading.{set_names}
+use Rattle.bk_elab.specs.Sights.{shown_sight}
 use Rattle.bk_elab.proofs.Seen.{seen_last}
-use Rattle.bk_elab.proofs.Sighted.{scope-here, scope-not}
+use Rattle.bk_elab.proofs.Sighted.{found_in}
 use Rattle.bk_elab.proofs.sight.Tabled.find_outside.Goals as goal
-use Rattle.bk_elab.proofs.sight.Tabled.find_outside.Goals.{then-eq, else-eq}
 
-pub loop-entry-preserved : goal.loop-entry-preserved
-loop-entry-preserved c =
-    elim c.if-eq.branch [
-      | then-eq w ↦
-          let same : bytes_eq c.entry-item.result.0 c.args.text.now ≡ true = let t = w.if-eq.true in search rules in
-          scope-here c.args.self.now.table.now c.args.self.now.scope.now.names c.entries-entry-items.result.now (set_names 0 c.args.self.now.table.now.sets) c.args.text.now c.loop-entry.entry-index c.entry-item.result c.entries-entry-items.ensures c.loop-entry-test.true c.entry-item.is same
-          ∙ ap (λ (o : Option ℕ). seen_last c.args.self.now.table.now o (found 0 (set_names 0 c.args.self.now.table.now.sets) c.args.text.now)) (sym w.last-is)
-      | else-eq w ↦
-          let other : bytes_eq c.entry-item.result.0 c.args.text.now ≡ false = let t = w.if-eq.false in search rules in
-          scope-not c.args.self.now.table.now c.args.self.now.scope.now.names c.entries-entry-items.result.now (set_names 0 c.args.self.now.table.now.sets) c.args.text.now c.loop-entry.entry-index c.entry-item.result c.entries-entry-items.ensures c.loop-entry-test.true c.entry-item.is other
-          ∙ (c.loop-entry.invariant ∙ ap (λ (o : Option ℕ). seen_last c.args.self.now.table.now o (found 0 (set_names 0 c.args.self.now.table.now.sets) c.args.text.now)) (sym w.last-is))
-    ]
+pub returns-in-Some : goal.returns-in-Some
+returns-in-Some c =
+    let told = found_in c.args.self.now.table.now c.args.self.now.scope.now c.args.text.now ∙ ap (λ o. seen_last c.args.self.now.table.now o (found 0 (set_names 0 c.args.self.now.table.now.sets) c.args.text.now)) (sym c.find.ensures ∙ c.in-Some.is) in
+    subst (λ (x : Sight). IfOk c.variable.result (λ s. shown_sight s ≡ x)) (sym told) c.variable.ensures
+
+pub returns-in-None : goal.returns-in-None
+returns-in-None c =
+    let told = found_in c.args.self.now.table.now c.args.self.now.scope.now c.args.text.now ∙ ap (λ o. seen_last c.args.self.now.table.now o (found 0 (set_names 0 c.args.self.now.table.now.sets) c.args.text.now)) (sym c.find.ensures ∙ c.in-None.is) in
+    subst (λ (x : Sight). IfOk c.find_set.result (λ s. shown_sight s ≡ x)) (sym told) c.find_set.ensures
