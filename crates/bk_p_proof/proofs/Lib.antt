@@ -19,3 +19,4 @@ pub mod Seconds
 pub mod OneAnswer
 pub mod OneFault
 pub mod SomeScripts
+pub mod OfTexts

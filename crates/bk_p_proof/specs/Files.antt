@@ -73,6 +73,14 @@ pub record AreScriptsOf (texts : List (List ℕ)) (scripts : List RawScript) : T
   pub joined : scripts ≡ flat_map (λ f. f) files
   pub distinct : AllPairs (λ a b. a ≢ b) (names_of scripts)
 
+-- the scripts are those of some texts
+abbrev pub AreOfTexts : List RawScript → Type 0
+AreOfTexts scripts = (texts : List (List ℕ)) × AreScriptsOf texts scripts
+
+-- the script stands in a proof file, whose tokens are at most 1000000
+abbrev pub StandsInFile : RawScript → Type 0
+StandsInFile s = (text : List ℕ) × (scripts : List RawScript) × IsProofFile text scripts × Contains scripts s
+
 -- the first fault, or the first limit that is passed
 abbrev pub IsFaultOf : List (List ℕ) → ScriptFault → Type 0
 IsFaultOf texts (Fault number file place) =

@@ -12,6 +12,7 @@ ghost use Rattle.bk_p_proof.specs.Stages.{IsKeptOf, IsLowAs, IsProofFileAs, IsUn
 
 use crate::differing::ScriptNames;
 use crate::fault::ScriptFault;
+use crate::held::Scripts;
 use crate::reading::{FileScripts, SpellFault, file_scripts};
 use crate::second::second_type;
 use bk_files::cut;
@@ -27,9 +28,9 @@ const RULES: usize = 1000000;
 ///
 /// Each fault and each limit is looked for in all of the files before the next one is: F1; F2 and limit 2; limit 3; F3; limit
 /// 12; limit 8; F6.
-pub fn scripts(alloc: Global, texts: &[Vec<u8>]) -> Result<Vec<RawScript>, ScriptFault>
+pub fn scripts(alloc: Global, texts: &[Vec<u8>]) -> Result<Scripts, ScriptFault>
     requires countable { length texts.now < 2 ^ 32 }
-    ensures value { IfOk result (λ list. AreScriptsOf (map (λ text. text.items) texts.now) list.items) }
+    ensures value { IfOk result (λ list. AreScriptsOf (map (λ text. text.items) texts.now) list) }
     ensures fault { IfErr result (IsFaultOf (map (λ text. text.items) texts.now)) }
 {
     let files = cut(alloc, texts)?;
@@ -38,7 +39,7 @@ pub fn scripts(alloc: Global, texts: &[Vec<u8>]) -> Result<Vec<RawScript>, Scrip
     all_short(texts, &read)?;
     all_differ(alloc, texts, &read)?;
     let all = joined(alloc, read)?;
-    Ok(all)
+    Ok(Scripts::of_texts(all))
 }
 
 /// The fault with this number.

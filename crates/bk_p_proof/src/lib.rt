@@ -5,6 +5,7 @@ mod certificate;
 mod differing;
 mod fault;
 mod files;
+mod held;
 mod law;
 pub mod laws;
 mod name;
@@ -20,4 +21,5 @@ mod typed;
 
 pub use fault::ScriptFault;
 pub use files::scripts;
+pub use held::Scripts;
 pub use second::typed_names;

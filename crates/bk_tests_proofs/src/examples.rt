@@ -3,7 +3,7 @@
 use crate::faults::is_fault;
 use crate::files::{have_rules, rules};
 use crate::texts::{TALLY, joined, read, read_one};
-use bk_p_proof::ScriptFault;
+use bk_p_proof::{ScriptFault, Scripts};
 use bk_raw::{RawLine, RawMultiple, RawScript, RulePart, RuleWord};
 use std::alloc::Global;
 use std::test::Fail;
@@ -28,7 +28,7 @@ const OPEN: &str = "((((((((((((((((((((((((((((((((((((((((((((((((((";
 const CLOSE: &str = "))))))))))))))))))))))))))))))))))))))))))))))))))";
 
 // The term that a law takes, in so many more parentheses than 350.
-fn picks(alloc: Global, open: &str, close: &str) -> Result<Vec<RawScript>, ScriptFault> {
+fn picks(alloc: Global, open: &str, close: &str) -> Result<Scripts, ScriptFault> {
     let pieces = [
         "proof Tally.inc.1\n  law O5(",
         OPEN,
@@ -152,7 +152,7 @@ fn has_certificate(script: &RawScript) -> bool {
 #[test]
 fn the_greatest_multiplier_is_kept(rt: HostRuntime) {
     let is_right = match read(rt.alloc(), &[CERTIFICATE]) {
-        Ok(list) => list.len() == 1 && has_certificate(&list[0]),
+        Ok(list) => list.all().len() == 1 && has_certificate(&list.all()[0]),
         Err(_) => false,
     };
     assert!(rt; is_right);

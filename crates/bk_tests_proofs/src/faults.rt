@@ -1,8 +1,7 @@
 // Faults of proof files, each with its file and its byte.
 
 use crate::texts::read;
-use bk_p_proof::{ScriptFault, scripts};
-use bk_raw::RawScript;
+use bk_p_proof::{ScriptFault, Scripts, scripts};
 use std::alloc::Global;
 use std::test::Fail;
 
@@ -115,7 +114,7 @@ fn the_first_fault_is_told(rt: HostRuntime) {
 }
 
 // A file with a character that begins nothing, and one whose last byte is no UTF-8.
-fn bad_bytes(alloc: Global) -> Result<Vec<RawScript>, ScriptFault> {
+fn bad_bytes(alloc: Global) -> Result<Scripts, ScriptFault> {
     let mut files = Vec::new(alloc);
     files.push(Vec::from_slice(alloc, b"?")?)?;
     files.push(Vec::from_slice(alloc, b"proof A.1 \xff")?)?;

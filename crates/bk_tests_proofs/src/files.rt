@@ -1,7 +1,7 @@
 // Proof files that are read.
 
 use crate::texts::{TABLE, TALLY, read};
-use bk_p_proof::ScriptFault;
+use bk_p_proof::{ScriptFault, Scripts};
 use bk_raw::{NamePart, RawScript, RuleWord};
 use std::alloc::Global;
 use std::test::Fail;
@@ -12,11 +12,12 @@ pub(crate) fn rules(alloc: Global, texts: &[&str], wanted: &[usize]) -> bool {
 }
 
 /// Whether these scripts are read, with so many rules.
-pub(crate) fn have_rules(list: Result<Vec<RawScript>, ScriptFault>, wanted: &[usize]) -> bool {
+pub(crate) fn have_rules(list: Result<Scripts, ScriptFault>, wanted: &[usize]) -> bool {
     match list {
         Ok(list) => {
-            list.len() == wanted.len()
+            list.all().len() == wanted.len()
                 && list
+                    .all()
                     .iter()
                     .zip(wanted)
                     .all(|(script, n)| script.rules.len() == *n)
@@ -111,7 +112,7 @@ fn is_first(script: &RawScript) -> bool {
 #[test]
 fn bytes_and_names_are_kept(rt: HostRuntime) {
     let is_right = match read(rt.alloc(), &[" proof A.07 hyp 3 end"]) {
-        Ok(list) => list.len() == 1 && is_first(&list[0]),
+        Ok(list) => list.all().len() == 1 && is_first(&list.all()[0]),
         Err(_) => false,
     };
     assert!(rt; is_right);

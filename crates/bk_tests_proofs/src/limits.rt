@@ -1,8 +1,7 @@
 // Limits of proof files.
 
 use crate::files::have_rules;
-use bk_p_proof::{ScriptFault, scripts};
-use bk_raw::RawScript;
+use bk_p_proof::{ScriptFault, Scripts, scripts};
 use std::alloc::{AllocError, Global};
 use std::test::Fail;
 
@@ -86,7 +85,7 @@ fn answer(alloc: Global, text: Result<Vec<u8>, AllocError>) -> Told {
 }
 
 // A file with one script, and then this one.
-fn read(alloc: Global, text: Result<Vec<u8>, AllocError>) -> Result<Vec<RawScript>, ScriptFault> {
+fn read(alloc: Global, text: Result<Vec<u8>, AllocError>) -> Result<Scripts, ScriptFault> {
     let mut files = Vec::new(alloc);
     files.push(Vec::from_slice(alloc, b"proof Z.1 end")?)?;
     files.push(text?)?;
@@ -126,7 +125,7 @@ fn rules_within_the_limit_and_past_it(rt: HostRuntime) {
 }
 
 // Three files with a million rules.
-fn million(alloc: Global) -> Result<Vec<RawScript>, ScriptFault> {
+fn million(alloc: Global) -> Result<Scripts, ScriptFault> {
     let mut files = Vec::new(alloc);
     files.push(rules(alloc, "A", 333333)?)?;
     files.push(rules(alloc, "B", 333332)?)?;
@@ -140,7 +139,7 @@ fn a_million_rules(rt: HostRuntime) {
 }
 
 // A file with a term that is too high, and one with a name that has two types.
-fn high_and_typed(alloc: Global) -> Result<Vec<RawScript>, ScriptFault> {
+fn high_and_typed(alloc: Global) -> Result<Scripts, ScriptFault> {
     let mut files = Vec::new(alloc);
     files.push(high(alloc, 1000)?)?;
     files.push(Vec::from_slice(alloc, b"proof B.1 fix x : S ; fix x : T end")?)?;

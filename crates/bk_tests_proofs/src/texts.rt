@@ -1,11 +1,10 @@
 // Proof files from texts, and what they are read as.
 
-use bk_p_proof::{ScriptFault, scripts};
-use bk_raw::RawScript;
+use bk_p_proof::{ScriptFault, Scripts, scripts};
 use std::alloc::{AllocError, Global};
 
 /// The scripts of these texts.
-pub(crate) fn read(alloc: Global, texts: &[&str]) -> Result<Vec<RawScript>, ScriptFault> {
+pub(crate) fn read(alloc: Global, texts: &[&str]) -> Result<Scripts, ScriptFault> {
     let mut files = Vec::new(alloc);
     for text in texts {
         files.push(Vec::from_slice(alloc, text.as_bytes())?)?;
@@ -29,7 +28,7 @@ pub(crate) fn joined(alloc: Global, pieces: &[&str]) -> Result<Vec<u8>, AllocErr
 pub(crate) fn read_one(
     alloc: Global,
     text: Result<Vec<u8>, AllocError>,
-) -> Result<Vec<RawScript>, ScriptFault> {
+) -> Result<Scripts, ScriptFault> {
     let mut files = Vec::new(alloc);
     files.push(text?)?;
     scripts(alloc, &files)
