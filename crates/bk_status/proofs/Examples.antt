@@ -2,7 +2,7 @@
 use Rattle.std.proofs.Common.{◌≡◌, [], ◌∷◌, refl, Some, None}
 use Rattle.std.specs.Prelude.{codes}
 use Rattle.std.specs.Fmt.{digits}
-use Rattle.bk_scripts.specs.declared.state.State.TheVariants.{Obvious, Proved, NoScript, BadStep}
+use Rattle.bk_status.specs.declared.state.State.TheVariants.{Obvious, Proved, NoScript, BadStep}
 use Rattle.bk_status.specs.declared.table.Row.{Row}
 use Rattle.bk_status.specs.Rows.{first_open}
 use Rattle.bk_status.specs.Examples.{TallyNeeds, StepperNeeds, SwapNeeds}

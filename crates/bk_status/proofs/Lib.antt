@@ -1,7 +1,9 @@
 pub mod Examples
+pub mod Names
+pub mod FirstPlaces
 pub mod Obviousness
+pub mod OneState
 pub mod Tables
 pub mod OneTable
 pub mod Within
-pub mod Sights
 pub mod Outcomes

@@ -6,18 +6,18 @@ use Rattle.bk_form.specs.Each.{Each}
 use Rattle.bk_dev.specs.Flattened.{flattened}
 use Rattle.bk_seq.specs.Sequents.{Sequent}
 use Rattle.bk_po.specs.Obligations.{numbered_obligations}
-use Rattle.bk_scripts.specs.WrittenRule.{Script}
-use Rattle.bk_scripts.specs.States.{IsState}
-use Rattle.bk_scripts.specs.declared.state.State.{State}
-use Rattle.bk_scripts.specs.declared.state.State.TheVariants.{Obvious, Proved}
-use Rattle.bk_scripts.proofs.OneState.{states_are_one}
+use Rattle.bk_raw.specs.ScriptTree.{RawScript}
+use Rattle.bk_status.specs.States.{IsState}
+use Rattle.bk_status.specs.declared.state.State.{State}
+use Rattle.bk_status.specs.declared.state.State.TheVariants.{Obvious, Proved}
+use Rattle.bk_status.proofs.OneState.{states_are_one}
 use Rattle.bk_status.specs.declared.table.Row.{Row}
 use Rattle.bk_status.specs.Rows.{IsRowOf, is_settled, first_open, IsProved}
-use Rattle.bk_status.specs.Laws.{AreNamedApart, TablesAreOne, ProvedTablesAreClosed}
+use Rattle.bk_status.specs.Laws.{TablesAreOne, ProvedTablesAreClosed}
 
-module _ (dev : Development) (scripts : List Script) (apart : AreNamedApart scripts) where
+module _ (dev : Development) (scripts : List RawScript) where
   one-state : (o : List ℕ × Sequent) (s t : State) → IsState (flattened dev) scripts o.0 o.1 s → IsState (flattened dev) scripts o.0 o.1 t → s ≡ t
-  one-state o s t h k = states_are_one (flattened dev) scripts o.0 o.1 s t apart h k
+  one-state o s t h k = states_are_one (flattened dev) scripts o.0 o.1 s t h k
 
   one-row : (o : List ℕ × Sequent) (r q : Row) → IsRowOf (flattened dev) scripts o r → IsRowOf (flattened dev) scripts o q → r ≡ q
   one-row o r q h k =
@@ -48,7 +48,7 @@ module _ (dev : Development) (scripts : List Script) (apart : AreNamedApart scri
       ap (λ b. cond (not b) (Some r) (first_open rs)) (settled o r.state h.0.state p.0) ∙ all-settled os rs h.1 p.1
 
 pub tables_are_one : TablesAreOne
-tables_are_one dev scripts rows others apart h k = one-table dev scripts apart (numbered_obligations dev) rows others h k
+tables_are_one dev scripts rows others h k = one-table dev scripts (numbered_obligations dev) rows others h k
 
 pub proved_tables_are_closed : ProvedTablesAreClosed
-proved_tables_are_closed dev scripts rows apart h p = all-settled dev scripts apart (numbered_obligations dev) rows h p
+proved_tables_are_closed dev scripts rows h p = all-settled dev scripts (numbered_obligations dev) rows h p

@@ -6,10 +6,10 @@ use Rattle.bk_seq.specs.Sequents.{Sequent, Types, IsWithin}
 use Rattle.bk_kernel.specs.Derivations.{IsVerdict}
 use Rattle.bk_kernel.specs.declared.rule.Rule.{Rule}
 use Rattle.bk_kernel.specs.declared.replaying.Verdict.{Verdict}
-use Rattle.bk_scripts.specs.WrittenRule.{Script}
-use Rattle.bk_scripts.specs.Grounding.{AreGrounded}
-use Rattle.bk_scripts.specs.States.{state_of}
-use Rattle.bk_scripts.specs.declared.state.State.{State}
+use Rattle.bk_raw.specs.ScriptTree.{RawScript}
+use Rattle.bk_ground.specs.Grounding.{IsGrounded}
+use Rattle.bk_status.specs.States.{state_of}
+use Rattle.bk_status.specs.declared.state.State.{State}
 
 -- its formulas are predicates over the table, and within the limits
 pub record IsReplayable (table : Table) (s : Sequent) : Type 0 where
@@ -17,9 +17,10 @@ pub record IsReplayable (table : Table) (s : Sequent) : Type 0 where
   pub within : IsWithin s
 
 -- the script's rules give the sequent this state
-pub record IsOutcome (dev : Development) (script : Script) (s : Sequent) (state : State) : Type 0 where
+pub record IsOutcome (dev : Development) (script : RawScript) (s : Sequent) (state : State) : Type 0 where
   pub rules : List Rule
-  pub grounded : AreGrounded dev script rules
+  pub table : Table
+  pub grounded : IsGrounded dev script rules table
   pub verdict : Verdict
-  pub verdict_is : IsVerdict dev.table rules s verdict
+  pub verdict_is : IsVerdict table rules s verdict
   pub state_is : state ≡ state_of verdict

@@ -8,19 +8,19 @@ use Rattle.bk_dev.specs.Flattened.{flattened}
 use Rattle.bk_seq.specs.Sequents.{Sequent}
 use Rattle.bk_po.specs.Obligations.{numbered_obligations}
 use Rattle.bk_po.specs.Laws.{IsCorrect}
-use Rattle.bk_scripts.specs.WrittenRule.{Script}
-use Rattle.bk_scripts.specs.States.{IsState}
-use Rattle.bk_scripts.specs.declared.state.State.{State}
-use Rattle.bk_scripts.specs.declared.state.State.TheVariants.{Obvious, Proved}
+use Rattle.bk_raw.specs.ScriptTree.{RawScript}
+use Rattle.bk_status.specs.States.{IsState}
+use Rattle.bk_status.specs.declared.state.State.{State}
+use Rattle.bk_status.specs.declared.state.State.TheVariants.{Obvious, Proved}
 use Rattle.bk_status.specs.declared.table.Row.{Row}
 
 -- a row for the obligation with this name and sequent: it has the name and the state; of a development whose substitutions are flat
-pub record IsRowOf (dev : Development) (scripts : List Script) (o : List ℕ × Sequent) (row : Row) : Type 0 where
+pub record IsRowOf (dev : Development) (scripts : List RawScript) (o : List ℕ × Sequent) (row : Row) : Type 0 where
   pub name : row.name ≡ o.0
   pub state : IsState dev scripts o.0 o.1 row.state
 
 -- each numbered obligation has one row, in order
-abbrev pub HasRows : Development → List Script → List Row → Type 0
+abbrev pub HasRows : Development → List RawScript → List Row → Type 0
 HasRows dev scripts rows = AllZip (IsRowOf (flattened dev) scripts) (numbered_obligations dev) rows
 
 -- ---- rows that need no more work
@@ -42,9 +42,9 @@ ShowCorrect dev rows = first_open rows ≡ None → (find : Finder) → IsSearch
 -- ---- obligations that need no more work
 -- the obligation with this name and sequent is obvious or has a replayed proof: it has a script, and the rules that the script stands for
 -- derive it
-abbrev pub IsProved : Development → List Script → List ℕ × Sequent → Type 0
+abbrev pub IsProved : Development → List RawScript → List ℕ × Sequent → Type 0
 IsProved dev scripts o = IsState (flattened dev) scripts o.0 o.1 Obvious ⊎ IsState (flattened dev) scripts o.0 o.1 Proved
 
 -- each numbered obligation is obvious or has a replayed proof
-abbrev pub AreProved : Development → List Script → Type 0
+abbrev pub AreProved : Development → List RawScript → Type 0
 AreProved dev scripts = Each (IsProved dev scripts) (numbered_obligations dev)

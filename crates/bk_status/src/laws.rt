@@ -1,11 +1,12 @@
 //! What status tables are worth. Each law is the contract of a function that does nothing.
 
 ghost use Rattle.bk_status.specs.Examples.{TallyNeeds, StepperNeeds, SwapNeeds};
-ghost use Rattle.bk_status.specs.Laws.{TablesAreOne, ClosedTablesProve, ClosedTablesAreValid, ProvedTablesAreClosed, GroundingsAgree, ShownObligationsAreValid, ObviousObligationsAreValid, ProvedObligationsAreValid, ProvedDevelopmentsAreCorrect};
+ghost use Rattle.bk_status.specs.Laws.{StatesAreOne, TablesAreOne, ClosedTablesProve, ClosedTablesAreValid, ProvedTablesAreClosed, ShownObligationsAreValid, ObviousObligationsAreValid, ProvedObligationsAreValid, ProvedDevelopmentsAreCorrect};
 
-/// A development has one table at most, over scripts of which no two have one name.
+/// A development has one table at most, since each of its obligations has one state at most.
 pub fn tables_are_one()
-    ensures { TablesAreOne }
+    ensures states { StatesAreOne }
+    ensures tables { TablesAreOne }
 {}
 
 /// A table without an open row says that each obligation is obvious or has a replayed proof, and so that each is valid.
@@ -17,11 +18,6 @@ pub fn closed_tables_prove()
 /// Where each obligation is so, the table has no open row.
 pub fn proved_tables_are_closed()
     ensures { ProvedTablesAreClosed }
-{}
-
-/// What the terms of a script mean does not change where each `||` is rewritten by copies.
-pub fn groundings_agree()
-    ensures { GroundingsAgree }
 {}
 
 /// Where each obligation is obvious or derived by rules, as where it has a replayed proof, each is valid, the machine

@@ -2,8 +2,11 @@
 #![tactic(auto)]
 
 pub mod laws;
+mod name;
+mod named;
 mod replayed;
+pub mod state;
 pub mod table;
 
-pub use bk_scripts::State;
+pub use state::State;
 pub use table::{Row, Table, status};

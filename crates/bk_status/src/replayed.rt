@@ -1,49 +1,45 @@
 //! The state of one obligation.
 
-ghost use Rattle.std.specs.Prelude.{◌≡◌, ◌≢◌, All, IfOk, MatchOption};
-ghost use Rattle.std.specs.List.{IsAmong};
+ghost use Rattle.std.specs.Prelude.{◌≡◌, IfOk};
 ghost use Rattle.bk_dev.specs.Flattened.{flattened};
 ghost use Rattle.bk_seq.specs.Sequents.{sequent_of};
-ghost use Rattle.bk_scripts.specs.States as meant;
-ghost use Rattle.bk_scripts.specs.States.{IsState};
+ghost use Rattle.bk_p_proof.specs.Files.{IsShort};
+ghost use Rattle.bk_status.specs.States as meant;
+ghost use Rattle.bk_status.specs.States.{IsState};
 ghost use Rattle.bk_status.specs.Replayable.{IsReplayable, IsOutcome};
 
+use crate::named::NamedScripts;
+use crate::state::State;
 use bk_dev::Development;
 use bk_form::VarTable;
+use bk_ground::ground;
 use bk_io::{Memory, Text};
 use bk_kernel::{Verdict, is_obvious, replay};
-use bk_scripts::{Script, State, ground};
+use bk_raw::RawScript;
 use bk_seq::Sequent;
 use std::alloc::Global;
 
-/// The state of the obligation with this name and sequent. Rules are replayed over the table with an entry for each copy.
+/// The state of the obligation with this name and sequent. Rules are replayed over the table that they speak of: that with an
+/// entry for each copy, and a variable more for each name that the script brings.
 pub(crate) fn state(
     alloc: Global,
     dev: &Development,
     types: &VarTable,
-    scripts: &[Script],
+    named: &NamedScripts,
     name: &Text,
     sequent: Sequent,
 ) -> Result<State, Memory>
     requires types { types.now ≡ (flattened dev.now).table }
     requires replayable { IsReplayable types.now (sequent_of sequent) }
-    ensures { IfOk result (IsState (flattened dev.now) scripts.now name.now (sequent_of sequent)) }
+    ensures { IfOk result (IsState (flattened dev.now) named.now name.now (sequent_of sequent)) }
 {
     if is_obvious(&sequent) {
         return Ok(State::Obvious);
     }
-    match script_named(scripts, name) {
+    match named.find(name) {
         Some(script) => Ok(outcome(alloc, dev, types, script, sequent)?),
         None => Ok(State::NoScript),
     }
-}
-
-// The first script with the name.
-fn script_named<'a>(scripts: &'a [Script], name: &Text) -> Option<&'a Script>
-    ensures { MatchOption result (All (λ script. script.name ≢ name.now) scripts.now)
-        (λ script. IsAmong scripts.now script.now × (script.now.name ≡ name.now)) }
-{
-    scripts.iter().find(|script| script.name.equal(name))
 }
 
 // What the script's rules make of the sequent.
@@ -51,16 +47,17 @@ fn outcome(
     alloc: Global,
     dev: &Development,
     types: &VarTable,
-    script: &Script,
+    script: &RawScript,
     sequent: Sequent,
 ) -> Result<State, Memory>
     requires types { types.now ≡ (flattened dev.now).table }
     requires replayable { IsReplayable types.now (sequent_of sequent) }
+    requires short { IsShort script.now }
     ensures { IfOk result (IsOutcome (flattened dev.now) script.now (sequent_of sequent)) }
 {
     dev.facts();
-    let (rules, _) = ground(alloc, script, dev)?;
-    let verdict = replay(alloc, types, sequent, &rules)?;
+    let (rules, table) = ground(alloc, script, dev, types)?;
+    let verdict = replay(alloc, &table, sequent, &rules)?;
     Ok(state_of(verdict))
 }
 

@@ -12,12 +12,14 @@ ghost use Rattle.bk_po.specs.Shown.{named_sequent};
 ghost use Rattle.bk_status.specs.Rows.{IsRowOf, HasRows, ShowCorrect};
 ghost use Rattle.bk_status.specs.Replayable.{IsReplayable};
 
+use crate::named::NamedScripts;
 use crate::replayed::state;
+use crate::state::State;
 use bk_dev::Development;
 use bk_form::VarTable;
 use bk_io::{Memory, Text};
+use bk_p_proof::Scripts;
 use bk_po::{Obligation, PoFault, obligation_table, obligations};
-use bk_scripts::{Script, State};
 use std::alloc::Global;
 
 /// An obligation's name, and how far it is proved.
@@ -52,9 +54,8 @@ fn is_settled(state: State) -> bool
 }
 
 /// The status table of a development: each obligation is obvious, or it is what the script of its name makes of it. A script
-/// for no obligation is ignored. Where two scripts have one name, either may be taken; those of proof files never have.
-/// Where no row is open the development is correct.
-pub fn status(alloc: Global, dev: &Development, scripts: &[Script]) -> Result<Table, PoFault>
+/// for no obligation is ignored. Where no row is open the development is correct.
+pub fn status(alloc: Global, dev: &Development, scripts: &Scripts) -> Result<Table, PoFault>
     ensures rows { IfOk result (λ table. HasRows dev.now scripts.now table.rows.items) }
     ensures correct { IfOk result (λ table. ShowCorrect dev.now table.rows.items) }
     ensures within { OnOk result (PassNoLimit (obligations dev.now)) }
@@ -63,7 +64,8 @@ pub fn status(alloc: Global, dev: &Development, scripts: &[Script]) -> Result<Ta
     dev.facts();
     let list = obligations(alloc, dev)?;
     let types = obligation_table(alloc, dev)?;
-    let rows = rows_of(alloc, dev, &types, scripts, list)?;
+    let named = NamedScripts::new(alloc, scripts)?;
+    let rows = rows_of(alloc, dev, &types, &named, list)?;
     Ok(Table { rows })
 }
 
@@ -71,16 +73,16 @@ fn rows_of(
     alloc: Global,
     dev: &Development,
     types: &VarTable,
-    scripts: &[Script],
+    named: &NamedScripts,
     list: Vec<Obligation>,
 ) -> Result<Vec<Row>, Memory>
     requires types { types.now ≡ (flattened dev.now).table }
     requires replayable { Each (λ o. IsReplayable types.now o.1) (map named_sequent list.items) }
-    ensures { IfOk result (λ rows. AllZip (IsRowOf (flattened dev.now) scripts.now) (map named_sequent list.items) rows.items) }
+    ensures { IfOk result (λ rows. AllZip (IsRowOf (flattened dev.now) named.now) (map named_sequent list.items) rows.items) }
 {
     let mut rows = Vec::new(alloc);
     for obligation in list {
-        rows.push(row_of(alloc, dev, types, scripts, obligation)?)?;
+        rows.push(row_of(alloc, dev, types, named, obligation)?)?;
     }
     Ok(rows)
 }
@@ -89,14 +91,14 @@ fn row_of(
     alloc: Global,
     dev: &Development,
     types: &VarTable,
-    scripts: &[Script],
+    named: &NamedScripts,
     obligation: Obligation,
 ) -> Result<Row, Memory>
     requires types { types.now ≡ (flattened dev.now).table }
     requires replayable { IsReplayable types.now (named_sequent obligation).1 }
-    ensures { IfOk result (IsRowOf (flattened dev.now) scripts.now (named_sequent obligation)) }
+    ensures { IfOk result (IsRowOf (flattened dev.now) named.now (named_sequent obligation)) }
 {
     let Obligation { name, sequent } = obligation;
-    let state = state(alloc, dev, types, scripts, &name, sequent)?;
+    let state = state(alloc, dev, types, named, &name, sequent)?;
     Ok(Row { name, state })
 }

@@ -8,4 +8,6 @@ mod proof_files;
 #[cfg(test)]
 mod status_tables;
 #[cfg(test)]
+mod texts;
+#[cfg(test)]
 mod whole_tables;

@@ -1,35 +1,28 @@
 // Proof files and their scripts.
 
-use bk_raw::{InfixOp, RawNode, RawTerm};
-use bk_scripts::{RawLine, RawPlace, RawRule, Script, ScriptFault, scripts};
-use std::alloc::{AllocError, Global};
+use crate::texts::{STEPPER, TALLY, read};
+use bk_p_proof::ScriptFault;
+use bk_raw::{InfixOp, RawLine, RawNode, RawPlace, RawRule, RawTerm, RulePart, RuleWord};
+use std::alloc::Global;
 use std::test::Fail;
 
-fn read(alloc: Global, texts: &[&[u8]]) -> Result<Vec<Script>, ScriptFault> {
-    let mut files = Vec::new(alloc);
-    for text in texts {
-        files.push(Vec::from_slice(alloc, text)?)?;
-    }
-    if files.len() > 1000 {
-        return Err(ScriptFault::Memory);
-    }
-    scripts(alloc, &files)
-}
-
-fn is(script: &Script, wanted: &(&str, usize)) -> bool {
-    script.name.as_bytes() == wanted.0.as_bytes() && script.rules.len() == wanted.1
-}
-
-// Whether these are the names and the numbers of rules of the scripts in the files.
-fn are(alloc: Global, texts: &[&[u8]], wanted: &[(&str, usize)]) -> bool {
-    match read(alloc, texts) {
-        Ok(list) => list.len() == wanted.len() && list.iter().zip(wanted).all(|(s, w)| is(s, w)),
+// Whether the scripts of the text have so many rules.
+fn have_rules(alloc: Global, text: &str, wanted: &[usize]) -> bool {
+    match read(alloc, &[text]) {
+        Ok(scripts) => {
+            scripts.all().len() == wanted.len()
+                && scripts
+                    .all()
+                    .iter()
+                    .zip(wanted)
+                    .all(|(script, count)| script.rules.len() == *count)
+        }
         Err(_) => false,
     }
 }
 
-// Whether this file is the first at fault.
-fn is_at_fault(alloc: Global, texts: &[&[u8]], wanted: u32) -> bool {
+// Whether the texts have this fault, in this file and at this byte.
+fn is_fault(alloc: Global, texts: &[&str], wanted: (u8, u32, usize)) -> bool {
     match read(alloc, texts) {
         Err(
             ScriptFault::Fault {
@@ -37,70 +30,9 @@ fn is_at_fault(alloc: Global, texts: &[&[u8]], wanted: u32) -> bool {
                 file,
                 place,
             },
-        ) => number == 15 && file == wanted && place == 0,
+        ) => number == wanted.0 && file == wanted.1 && place == wanted.2,
         _ => false,
     }
-}
-
-const TALLY: &str = "proof Tally.inc.1
-  law O5(n$0 + k, 0, 10) goal ; and ; lin 1, 2 : 1 * 1 + 1 * 3 + 1 * 5 ; hyp 3
-end
-proof Tally_i.inc.1
-  law O5(n$1 + k, 0, 10) goal ; and ; lin 2, 4 : 1 * 1 + 1 * 3 + 1 * 5 ;
-  lin 3, 5 : 1 * 1 + 1 * 3 + 1 * 4
-end
-proof Tally_i.inc.2
-  eq 3 goal 1 1 ; same
-end
-proof Tally_i.inc.chk.1
-  lin 2, 4 : 1 * 1 + 1 * 3 + 1 * 5
-end
-proof Tally_i.inc.chk.2
-  lin 2, 4 : 1 * 2 + 1 * 4 + 1 * 5
-end
-";
-
-#[test]
-fn scripts_of_the_tally(rt: HostRuntime) {
-    let wanted = [
-        ("Tally.inc.1", 4),
-        ("Tally_i.inc.1", 4),
-        ("Tally_i.inc.2", 2),
-        ("Tally_i.inc.chk.1", 1),
-        ("Tally_i.inc.chk.2", 1),
-    ];
-    assert!(rt; are(rt.alloc(), &[TALLY.as_bytes()], &wanted));
-}
-
-const STEPPER: &str = "proof Stepper.inc.1
-  law O5(n$0 + 1, 0, 10) goal ; and ; lin 1 : 1 * 1 + 1 * 3 ; lin 2 : 1 * 1 + 1 * 2
-end
-proof Stepper_i.inc.1
-  left ; and ; lin 3, 4 : 1 * 2 + 1 * 3 + 1 * 4 ; and ;
-  law O5(n$1 + 1, 0, 10) goal ; and ; lin 2 : 1 * 1 + 1 * 3 ;
-  lin 4 : 1 * 1 + 1 * 2 ; eq 3 goal 1 1 ; same
-end
-proof Stepper_i.inc.2
-  right ; and ; qe 3 goal 1 1 ; hyp 4 ; and ; hyp 2 ; hyp 3
-end
-proof Stepper_i.inc.chk.1
-  lin 2 : 1 * 1 + 1 * 3
-end
-proof Stepper_i.inc.chk.2
-  lin 2 : 1 * 2 + 1 * 3
-end
-";
-
-#[test]
-fn scripts_of_the_stepper(rt: HostRuntime) {
-    let wanted = [
-        ("Stepper.inc.1", 4),
-        ("Stepper_i.inc.1", 10),
-        ("Stepper_i.inc.2", 7),
-        ("Stepper_i.inc.chk.1", 1),
-        ("Stepper_i.inc.chk.2", 1),
-    ];
-    assert!(rt; are(rt.alloc(), &[STEPPER.as_bytes()], &wanted));
 }
 
 // ---- rules
@@ -152,8 +84,8 @@ fn is_goal(place: &RawPlace) -> bool {
 }
 
 fn is_law(rule: &RawRule) -> bool {
-    match rule {
-        RawRule::Law { name, picks, place } => {
+    match (&rule.word, rule.parts.as_slice()) {
+        (RuleWord::Law, [RulePart::Law(name, picks), RulePart::Place(place)]) => {
             name.as_bytes() == b"O5".as_slice() && are_picks(picks) && is_goal(place)
         }
         _ => false,
@@ -162,14 +94,19 @@ fn is_law(rule: &RawRule) -> bool {
 
 fn is_line(line: &RawLine, wanted: &[(i128, u128)]) -> bool {
     match line {
-        RawLine::Sum(multiples) => multiples.as_slice() == wanted,
+        RawLine::Sum(multiples) => {
+            multiples.len() == wanted.len()
+                && multiples.iter().zip(wanted).all(|(multiple, (multiplier, fact))| {
+                    multiple.multiplier == *multiplier && multiple.fact == *fact
+                })
+        }
         _ => false,
     }
 }
 
 fn is_certificate(rule: &RawRule, hypotheses: &[u128], line: &[(i128, u128)]) -> bool {
-    match rule {
-        RawRule::Lin { facts, lines } => {
+    match (&rule.word, rule.parts.as_slice()) {
+        (RuleWord::Lin, [RulePart::Certificate(facts, lines)]) => {
             facts.as_slice() == hypotheses && lines.len() == 1 && is_line(&lines[0], line)
         }
         _ => false,
@@ -177,16 +114,17 @@ fn is_certificate(rule: &RawRule, hypotheses: &[u128], line: &[(i128, u128)]) ->
 }
 
 fn is_hypothesis(rule: &RawRule, wanted: u128) -> bool {
-    match rule {
-        RawRule::Hyp(number) => *number == wanted,
+    match (&rule.word, rule.parts.as_slice()) {
+        (RuleWord::Hyp, [RulePart::Number(number)]) => *number == wanted,
         _ => false,
     }
 }
 
 fn are_first_rules(rules: &[RawRule]) -> bool {
     match rules {
-        [law, RawRule::And, lin, hyp] => {
+        [law, and, lin, hyp] => {
             is_law(law)
+                && matches!(&and.word, RuleWord::And)
                 && is_certificate(lin, &[1, 2], &[(1, 1), (1, 3), (1, 5)])
                 && is_hypothesis(hyp, 3)
         }
@@ -196,129 +134,83 @@ fn are_first_rules(rules: &[RawRule]) -> bool {
 
 #[test]
 fn rules_of_a_script(rt: HostRuntime) {
-    let found = read(rt.alloc(), &[TALLY.as_bytes()]);
-    assert!(rt; found.is_ok_and(|list| list.len() == 5 && are_first_rules(&list[0].rules)));
+    let is_right = match read(rt.alloc(), &[TALLY]) {
+        Ok(scripts) => match scripts.all() {
+            [first, ..] => are_first_rules(&first.rules),
+            _ => false,
+        },
+        Err(_) => false,
+    };
+    assert!(rt; is_right);
 }
 
-// ---- other texts
+// ---- texts
+#[test]
+fn scripts_of_the_adder_and_the_stepper(rt: HostRuntime) {
+    assert!(rt; have_rules(rt.alloc(), TALLY, &[4, 4, 2, 1, 1]));
+    assert!(rt; have_rules(rt.alloc(), STEPPER, &[4, 10, 7, 1, 1]));
+}
+
+// A text of one script, and how many rules it has.
+const ONE_SCRIPT: [(&str, usize); 16] = [
+    ("proof A.1 end", 0),
+    ("proof end.1 same end", 1),
+    ("proof A.1 law O5(end, 0, 1) goal end", 1),
+    ("proof A.1 law O5 goal end", 1),
+    ("proof A.1 law O5() goal end", 1),
+    ("proof A.1 lin : -1 * 1 | 1 / 2 end", 1),
+    ("proof A.INITIALISATION.1 eq 3 hyp 2 1 1 end", 1),
+    ("proof A . 007 imp end", 1),
+    ("proof A.1 split 4294967296 end", 1),
+    ("proof A.1 law O6(1, 2, 3) goal end", 1),
+    ("proof A.1 law O5(1 * 2, 0, 1) goal end", 1),
+    ("proof A.1 law O5(2147483648, 0, 1) goal end", 1),
+    ("proof A.1 not end", 1),
+    ("proof A.1 end // done", 0),
+    ("proof A.1 end /* done */", 0),
+    ("proof é.1 end", 0),
+];
+
 #[test]
 fn texts_that_are_proof_files(rt: HostRuntime) {
-    assert!(rt; are(rt.alloc(), &[b""], &[]));
-    for (text, name, rules) in [
-        ("proof A.1 end", "A.1", 0),
-        ("proof end.1 same end", "end.1", 1),
-        ("proof A.1 law O5(end, 0, 1) goal end", "A.1", 1),
-        ("proof A.1 law O5 goal end", "A.1", 1),
-        ("proof A.1 law O5() goal end", "A.1", 1),
-        ("proof A.1 lin : -1 * 1 | 1 / 2 end", "A.1", 1),
-        (
-            "proof A.INITIALISATION.1 eq 3 hyp 2 1 1 end",
-            "A.INITIALISATION.1",
-            1,
-        ),
-        ("proof A . 007 imp end", "A.7", 1),
-        ("proof A.1 split 4294967296 end", "A.1", 1),
-    ] {
-        assert!(rt;
-            are(rt.alloc(), &[text.as_bytes()], &[(name, rules)]),
-            "{text}"
-        );
+    assert!(rt; have_rules(rt.alloc(), "", &[]));
+    for (text, count) in ONE_SCRIPT {
+        assert!(rt; have_rules(rt.alloc(), text, &[count]), "{text}");
     }
 }
+
+// A text, and the byte where nothing is written that goes on so.
+const UNWRITTEN: [(&str, usize); 12] = [
+    ("proof A.1 hyp end", 10),
+    ("proof A.1 hyp 1", 15),
+    ("proof A. hyp 1 end", 13),
+    ("proof A.1 hyp 1 ; end", 16),
+    ("proof A.1 lin 1 : end", 10),
+    ("proof A.1 lin 1 : 1 * end", 10),
+    ("proof A.1 lin 1 : 1 / -2 end", 10),
+    ("proof A.1 eq 1 end", 10),
+    ("proof A.1 lin 1, : 1 * 1 end", 10),
+    ("proof A.1 law O5(1, 2, 3 goal end", 10),
+    ("proof A.1 end end", 14),
+    ("A.1 end", 0),
+];
 
 #[test]
 fn texts_that_are_none(rt: HostRuntime) {
-    assert!(rt; is_at_fault(rt.alloc(), &[b"\xff"], 0));
-    for text in [
-        "proof A.1 hyp end",
-        "proof A.1 hyp 1",
-        "proof A. hyp 1 end",
-        "proof A.1 hyp 1 ; end",
-        "proof A.1 lin 1 : end",
-        "proof A.1 lin 1 : 1 * end",
-        "proof A.1 lin 1 : 1 / -2 end",
-        "proof A.1 law O6(1, 2, 3) goal end",
-        "proof A.1 law O5(1 * 2, 0, 1) goal end",
-        "proof A.1 law O5(2147483648, 0, 1) goal end",
-        "proof A.1 not end",
-        "proof A.1 end // done",
-        "proof A.1 end /* done */",
-        "proof é.1 end",
-        "proof A.1 eq 1 end",
-        "proof A.1 lin 1, : 1 * 1 end",
-        "proof A.1 law O5(1, 2, 3 goal end",
-        "proof A.1 end end",
-        "A.1 end",
-    ] {
-        assert!(rt; is_at_fault(rt.alloc(), &[text.as_bytes()], 0), "{text}");
+    for (text, place) in UNWRITTEN {
+        assert!(rt; is_fault(rt.alloc(), &[text], (3, 0, place)), "{text}");
     }
-}
-
-// A law on 1 in so many parentheses, which stand in those of the law.
-fn in_parentheses(alloc: Global, count: usize) -> Result<String, AllocError> {
-    let open = "(".repeat(alloc, count)?;
-    let close = ")".repeat(alloc, count)?;
-    format!(in alloc; "proof A.1 law O5({open}1{close}, 0, 1) goal end")
-}
-
-#[test]
-fn a_term_stands_in_at_most_100_parentheses(rt: HostRuntime) -> Result<(), Fail> {
-    let deepest = in_parentheses(rt.alloc(), 99)?;
-    assert!(rt; are(rt.alloc(), &[deepest.as_bytes()], &[("A.1", 1)]));
-    let deeper = in_parentheses(rt.alloc(), 100)?;
-    assert!(rt; is_at_fault(rt.alloc(), &[deeper.as_bytes()], 0));
-    Ok(())
-}
-
-// A script of one rule, with so many multiples behind the first.
-fn long_rule(alloc: Global, rule: &str, more: usize) -> Result<String, AllocError> {
-    let others = " + 1 * 1".repeat(alloc, more)?;
-    format!(in alloc; "proof A.1 {rule}{others} end")
-}
-
-#[test]
-fn a_rule_has_at_most_1000_tokens(rt: HostRuntime) -> Result<(), Fail> {
-    let longest = long_rule(rt.alloc(), "lin 1, 2 : 1 * 1", 248)?;
-    assert!(rt; are(rt.alloc(), &[longest.as_bytes()], &[("A.1", 1)]));
-    let longer = long_rule(rt.alloc(), "lin : 1 * 1", 249)?;
-    assert!(rt; is_at_fault(rt.alloc(), &[longer.as_bytes()], 0));
-    Ok(())
-}
-
-#[test]
-fn scripts_of_several_files(rt: HostRuntime) {
-    let files: [&[u8]; 2] = [b"proof A.1 end", b"proof A.2 end"];
-    assert!(rt; are(rt.alloc(), &files, &[("A.1", 0), ("A.2", 0)]));
 }
 
 // Two scripts of one name, and a text that is no proof file before another such script.
 #[test]
-fn the_first_faulty_file_is_named(rt: HostRuntime) {
-    let table: [(&[&[u8]], u32); 3] = [
-        (&[b"proof A.01 end proof A.1 end"], 0),
-        (&[b"proof A.01 end", b"proof A.1 end"], 1),
-        (&[b"proof A.1 end", b"proof", b"proof A.1 end"], 1),
+fn the_first_fault_is_told(rt: HostRuntime) {
+    let table: [(&[&str], (u8, u32, usize)); 3] = [
+        (&["proof A.01 end proof A.1 end"], (6, 0, 21)),
+        (&["proof A.01 end", "proof A.1 end"], (6, 1, 6)),
+        (&["proof A.1 end", "proof", "proof A.1 end"], (3, 1, 0)),
     ];
-    for (files, wanted) in table {
-        assert!(rt; is_at_fault(rt.alloc(), files, wanted));
+    for (texts, wanted) in table {
+        assert!(rt; is_fault(rt.alloc(), texts, wanted));
     }
-}
-
-// So many scripts, each with a name of its own.
-fn many_scripts(alloc: Global, count: u32) -> Result<String, Fail> {
-    let mut text = String::new(alloc);
-    for number in 0..count {
-        write!(text, "proof A.{number} end ")?;
-    }
-    Ok(text)
-}
-
-#[test]
-fn a_file_has_at_most_10000_tokens(rt: HostRuntime) -> Result<(), Fail> {
-    let text = many_scripts(rt.alloc(), 2000)?;
-    let found = read(rt.alloc(), &[text.as_bytes()]);
-    assert!(rt; found.is_ok_and(|list| list.len() == 2000));
-    let longer = many_scripts(rt.alloc(), 2001)?;
-    assert!(rt; is_at_fault(rt.alloc(), &[longer.as_bytes()], 0));
-    Ok(())
 }

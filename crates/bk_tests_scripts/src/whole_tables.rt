@@ -1,46 +1,23 @@
 // Whole status tables, as they are printed.
 
+use crate::texts::{SWAP, TABLE, TALLY, read};
 use bk_dev::Development;
-use bk_developments::{chain, over, pick, spin, upper};
+use bk_developments::{chain, fill, over, pick, spin, swap, upper};
 use bk_examples::tally;
-use bk_scripts::{Script, ScriptFault, scripts};
 use bk_status::status;
 use bk_texts::table_text;
 use std::alloc::Global;
 use std::test::Fail;
 
-// The scripts of a proof file.
-fn read(alloc: Global, text: &str) -> Result<Vec<Script>, ScriptFault> {
-    let file = Vec::from_slice(alloc, text.as_bytes())?;
-    let files = vec![in alloc; file]?;
-    scripts(alloc, &files)
-}
-
-fn printed(alloc: Global, dev: &Development, scripts: &[Script]) -> Result<Vec<u8>, Fail> {
-    let table = status(alloc, dev, scripts)?;
+// The table of the development under the scripts of the text, as it is printed.
+fn printed(alloc: Global, dev: &Development, proofs: &str) -> Result<Vec<u8>, Fail> {
+    let scripts = read(alloc, &[proofs])?;
+    let table = status(alloc, dev, &scripts)?;
     let text = table_text(alloc, &table.rows)?;
     Ok(text)
 }
 
 // ---- the adder
-const TALLY_PROOFS: &str = "proof Tally.inc.1
-  law O5(n$0 + k, 0, 10) goal ; and ; lin 1, 2 : 1 * 1 + 1 * 3 + 1 * 5 ; hyp 3
-end
-proof Tally_i.inc.1
-  law O5(n$1 + k, 0, 10) goal ; and ; lin 2, 4 : 1 * 1 + 1 * 3 + 1 * 5 ;
-  lin 3, 5 : 1 * 1 + 1 * 3 + 1 * 4
-end
-proof Tally_i.inc.2
-  eq 3 goal 1 1 ; same
-end
-proof Tally_i.inc.chk.1
-  lin 2, 4 : 1 * 1 + 1 * 3 + 1 * 5
-end
-proof Tally_i.inc.chk.2
-  lin 2, 4 : 1 * 2 + 1 * 4 + 1 * 5
-end
-";
-
 const TALLY_TABLE: &str = "Tally.INITIALISATION.1 obvious
 Tally.inc.1 proved
 Tally.get.1 obvious
@@ -59,8 +36,7 @@ Tally_i.inc.chk.2 proved
 #[test]
 fn the_adder(rt: HostRuntime) -> Result<(), Fail> {
     let dev = tally(rt.alloc())?;
-    let scripts = read(rt.alloc(), TALLY_PROOFS)?;
-    let text = printed(rt.alloc(), &dev, &scripts)?;
+    let text = printed(rt.alloc(), &dev, TALLY)?;
     assert!(rt; text.as_slice() == TALLY_TABLE.as_bytes());
     Ok(())
 }
@@ -90,22 +66,88 @@ Tally_i.inc.chk.2 no script
 #[test]
 fn a_sum_that_is_too_wide(rt: HostRuntime) -> Result<(), Fail> {
     let dev = tally(rt.alloc())?;
-    let scripts = read(rt.alloc(), TOO_WIDE)?;
-    let text = printed(rt.alloc(), &dev, &scripts)?;
+    let text = printed(rt.alloc(), &dev, TOO_WIDE)?;
     assert!(rt; text.as_slice() == TOO_WIDE_TABLE.as_bytes());
+    Ok(())
+}
+
+// ---- scripts that bring names
+const SWAP_TABLE: &str = "Swap.INITIALISATION.1 obvious
+Swap.INITIALISATION.2 obvious
+Swap.swap.1 proved
+Swap.both.1 obvious
+Swap.both.2 obvious
+Swap_i.INITIALISATION.1 obvious
+Swap_i.INITIALISATION.2 obvious
+Swap_i.INITIALISATION.3 obvious
+Swap_i.INITIALISATION.4 obvious
+Swap_i.swap.1 proved
+Swap_i.both.1 obvious
+Swap_i.both.2 obvious
+Swap_i.both.3 obvious
+Swap_i.both.4 obvious
+Swap_i.both.5 obvious
+Swap_i.both.6 obvious
+16 obligations: 14 obvious, 2 proved, 0 open
+";
+
+// The machine's exchange is at once: its obligation speaks of a copy.
+#[test]
+fn an_exchange(rt: HostRuntime) -> Result<(), Fail> {
+    let dev = swap(rt.alloc())?;
+    let text = printed(rt.alloc(), &dev, SWAP)?;
+    assert!(rt; text.as_slice() == SWAP_TABLE.as_bytes());
+    Ok(())
+}
+
+// Ten scripts, with laws of sets and functions, for an array and a loop.
+#[test]
+fn an_array_that_is_filled(rt: HostRuntime) -> Result<(), Fail> {
+    let dev = fill(rt.alloc())?;
+    let text = printed(rt.alloc(), &dev, TABLE)?;
+    assert!(rt; text.ends_with(b" obvious, 10 proved, 0 open\n"));
+    Ok(())
+}
+
+// One name cannot be fixed while a hypothesis speaks of it.
+const FIXED_TWICE: &str = "proof Two.pick.1
+  fix u : INTEGER ; imp ; fix u : INTEGER ; imp ; hyp 3
+end
+";
+
+const FIXED_TWICE_TABLE: &str = "Two.INITIALISATION.1 obvious
+Two.pick.1 bad step 3
+2 obligations: 1 obvious, 0 proved, 1 open
+";
+
+#[test]
+fn a_name_that_is_fixed_twice(rt: HostRuntime) -> Result<(), Fail> {
+    let dev = pick(rt.alloc())?;
+    let text = printed(rt.alloc(), &dev, FIXED_TWICE)?;
+    assert!(rt; text.as_slice() == FIXED_TWICE_TABLE.as_bytes());
+    Ok(())
+}
+
+// Two names can.
+#[test]
+fn two_names_that_are_fixed(rt: HostRuntime) -> Result<(), Fail> {
+    let dev = pick(rt.alloc())?;
+    let proofs = FIXED_TWICE.replace(rt.alloc(), "imp ; fix u", "imp ; fix w")?;
+    let text = printed(rt.alloc(), &dev, &proofs)?;
+    assert!(rt; text.ends_with(b"\n2 obligations: 1 obvious, 1 proved, 0 open\n"));
     Ok(())
 }
 
 // ---- without scripts
 // Whether the text is the table of the development.
 fn is_table(alloc: Global, dev: &Development, wanted: &str) -> Result<bool, Fail> {
-    let text = printed(alloc, dev, &[])?;
+    let text = printed(alloc, dev, "")?;
     Ok(text.as_slice() == wanted.as_bytes())
 }
 
 // Whether the table ends so.
 fn ends_so(alloc: Global, dev: &Development, wanted: &str) -> Result<bool, Fail> {
-    let text = printed(alloc, dev, &[])?;
+    let text = printed(alloc, dev, "")?;
     Ok(text.ends_with(wanted.as_bytes()))
 }
 

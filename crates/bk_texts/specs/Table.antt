@@ -1,8 +1,8 @@
 -- What `status` writes: how far each obligation is proved, and how many are.
 use Rattle.std.specs.Prelude.{ℕ, Bool, true, false, not, List, ◌++◌, length, count_by, codes, decimal}
 use Rattle.std.specs.List.{flat_map}
-use Rattle.bk_scripts.specs.declared.state.State.{State}
-use Rattle.bk_scripts.specs.declared.state.State.TheVariants.{Obvious, Proved, NoScript, BadStep, Open, Extra}
+use Rattle.bk_status.specs.declared.state.State.{State}
+use Rattle.bk_status.specs.declared.state.State.TheVariants.{Obvious, Proved, NoScript, BadStep, Open, Extra}
 use Rattle.bk_status.specs.declared.table.Row.{Row}
 use Rattle.bk_status.specs.Rows.{is_settled}
 

@@ -9,7 +9,7 @@ use Rattle.bk_status.proofs.table.rows_of.Goals as goal
 
 pub returns : goal.returns
 returns c =
-    let stands = IsRowOf (flattened c.args.dev.now) c.args.scripts.now in
+    let stands = IsRowOf (flattened c.args.dev.now) c.args.named.now in
     let rest = into_iter_items c.loop-obligation.obligation-iterator in
     let none : rest ≡ [] = nil_from_length rest (omega (arith, c.in-None.ensures.steps.0)) in
     let whole = c.loop-obligation.invariant.completed [] (subst (λ os. AllZip stands (map named_sequent os) []) (sym none) tt) in

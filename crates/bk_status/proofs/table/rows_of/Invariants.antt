@@ -13,5 +13,5 @@ use Rattle.bk_status.proofs.table.rows_of.Given as goal
 abbrev pub invariant-loop-obligation : goal.invariant-loop-obligation
 invariant-loop-obligation l = record {
   replayable : Each (λ o. IsReplayable l.types o.1) (map named_sequent (into_iter_items l.obligation-iterator));
-  completed : (more : List Row) → AllZip (IsRowOf (flattened l.dev) l.scripts) (map named_sequent (into_iter_items l.obligation-iterator)) more → AllZip (IsRowOf (flattened l.dev) l.scripts) (map named_sequent l.fn.list.items) (l.rows.items ++ more);
+  completed : (more : List Row) → AllZip (IsRowOf (flattened l.dev) l.named) (map named_sequent (into_iter_items l.obligation-iterator)) more → AllZip (IsRowOf (flattened l.dev) l.named) (map named_sequent l.fn.list.items) (l.rows.items ++ more);
 }

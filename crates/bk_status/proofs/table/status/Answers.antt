@@ -20,7 +20,8 @@ returns-clause-rows c =
     let dev = c.args.dev.now in
     let scripts = c.args.scripts.now in
     let rows = c.in_ok-rows.rows.items in
-    subst (λ os. AllZip (IsRowOf (flattened dev) scripts) os rows) c.in_ok-list.ensures.value c.in_ok-rows.ensures
+    let listed = subst (λ ss. AllZip (IsRowOf (flattened dev) ss) (map named_sequent c.in_ok-list.list.items) rows) c.in_ok-named.ensures c.in_ok-rows.ensures in
+    subst (λ os. AllZip (IsRowOf (flattened dev) scripts) os rows) c.in_ok-list.ensures.value listed
 
 pub returns-clause-correct : goal.returns-clause-correct
 returns-clause-correct c = closed_tables_carry c.args.dev.now c.args.scripts.now c.in_ok-rows.rows.items c.facts.ensures (returns-clause-rows c)
