@@ -5,21 +5,21 @@ use Rattle.std.specs.Str.Lines.{lines}
 use Rattle.std.proofs.lemmas.List.{length-map}
 use Rattle.std.proofs.lemmas.List.Elements.{All-cons, All-nil}
 use Rattle.bk_io.specs.Files.{Files}
-use Rattle.bk_code.specs.declared.image.Image.{Image}
 use Rattle.bk_lines.specs.Lines.{kept_lines, is_skipped}
 use Rattle.bk_dev.specs.Development.{Head, Body, Development, level_at, last}
 use Rattle.bk_b0.specs.Translation.{translation, entries, init_code, operation_code}
-use Rattle.bk_front.specs.declared.project_file.ProjectLine.{ProjectLine}
-use Rattle.bk_front.specs.ProjectFile.{IsFileName, IsProjectLine, NamesFiles, AreProjectLines, is_proofs, files_of}
-use Rattle.bk_front.specs.Project.{Reads}
-use Rattle.bk_front.proofs.ProjectFiles.{names_once}
-use Rattle.bk_front.proofs.Readings.{projects_are_one}
-use Rattle.bk_scripts.specs.WrittenRule.{Script}
-use Rattle.bk_scripts.specs.Files.{AreScriptsOf}
-use Rattle.bk_scripts.specs.Laws.{ScriptsAreOne}
-use Rattle.bk_scripts.proofs.One.{one-for-texts}
+use Rattle.bk_dev.specs.Facts.{IsDevelopment}
+use Rattle.bk_level.specs.VerdictLaws.{HasRoom}
+use Rattle.bk_project.specs.declared.project_file.ProjectLine.{ProjectLine}
+use Rattle.bk_project.specs.ProjectFile.{IsFileName, IsProjectLine, AreLinesOf, is_proofs, component_lines, kinds_of}
+use Rattle.bk_project.specs.Project.{Reads}
+use Rattle.bk_project.proofs.ProjectFiles.{lines_are_one}
+use Rattle.bk_project.proofs.OneReading.{read_as_one}
+use Rattle.bk_raw.specs.ScriptTree.{RawScript}
+use Rattle.bk_p_proof.specs.Files.{AreScriptsOf}
+use Rattle.bk_p_proof.proofs.OneAnswer.{scripts_are_one}
 use Rattle.bk_calls.proofs.Lines.{lines_within}
-use Rattle.bk_verbs.specs.Project.{IsTold, AreTold, fetched, ReadsProject}
+use Rattle.bk_verbs.specs.Project.{IsTold, AreTold, files_of, fetched, ReadsComponents, ReadsProject}
 
 -- ---- what the files tell under a name is one text
 -- what stands in two equal options
@@ -42,16 +42,13 @@ all_told_once files (n ∷ ns) (t ∷ ts) [] h k = elim k [ ]
 all_told_once files (n ∷ ns) (t ∷ ts) (u ∷ us) h k = λ i. told_once files n t u h.0 k.0 i ∷ all_told_once files ns ts us h.1 k.1 i
 
 -- ---- the lines of a project file
-pub names_of : (text : List ℕ) (ls : List ProjectLine) → AreProjectLines text ls → NamesFiles text (files_of false ls) (files_of true ls)
-names_of text ls are = record { named = ls; are = are; components_are = refl; proofs_are = refl }
-
 file_names_in : (written : List (List ℕ)) (ls : List ProjectLine) → AllZip IsProjectLine written ls → All (λ l. IsFileName l.name) ls
 file_names_in [] [] h = All-nil (λ l. IsFileName l.name)
 file_names_in [] (l ∷ ls) h = elim h [ ]
 file_names_in (w ∷ ws) [] h = elim h [ ]
 file_names_in (w ∷ ws) (l ∷ ls) h = All-cons (λ x. IsFileName x.name) l ls h.0.is_name (file_names_in ws ls h.1)
 
-pub file_names : (text : List ℕ) (ls : List ProjectLine) → AreProjectLines text ls → All (λ l. IsFileName l.name) ls
+pub file_names : (text : List ℕ) (ls : List ProjectLine) → AreLinesOf text ls → All (λ l. IsFileName l.name) ls
 file_names text ls are = file_names_in (kept_lines text) ls are.written
 
 -- a project file has as many lines as it has bytes, at most
@@ -69,31 +66,39 @@ pub fewer_kept : {A : Type 0} (p : A → Bool) (xs : List A) → length (filter 
 fewer_kept p [] = omega arith
 fewer_kept p (x ∷ xs) = shorter_by (p x) x (filter p xs) xs (fewer_kept p xs)
 
-pub few_project_lines : (text : List ℕ) (ls : List ProjectLine) → length text ≤ 16777216 → AreProjectLines text ls → length ls ≤ 16777216
+pub few_project_lines : (text : List ℕ) (ls : List ProjectLine) → length text ≤ 16777216 → AreLinesOf text ls → length ls ≤ 16777216
 few_project_lines text ls short are =
     omega (arith, short, as_many (kept_lines text) ls are.written, fewer_kept (λ line. not (is_skipped line)) (lines text), lines_within text)
 
 -- ---- a project is read as one development and one list of scripts
-scripts_are_one : ScriptsAreOne
-scripts_are_one = one-for-texts
-
-module _ (with_proofs : Bool) (files : Files) (project : List ℕ) (dev other : Development) (scripts others : List Script) (h : ReadsProject with_proofs files project dev scripts) (k : ReadsProject with_proofs files project other others) where
-  same_names : (h.components ≡ k.components) × (h.proofs ≡ k.proofs)
-  same_names =
+-- the lines of a project file that is told, and the texts of the files that they name
+module _ (files : Files) (project : List ℕ) (dev other : Development) (h : ReadsComponents files project dev) (k : ReadsComponents files project other) where
+  pub same_lines : h.named ≡ k.named
+  same_lines =
       let text : h.text ≡ k.text = told_once files project h.text k.text h.told k.told in
-      names_once k.text h.components h.proofs k.components k.proofs (subst (λ x. NamesFiles x h.components h.proofs) text h.names) k.names
+      lines_are_one k.text h.named k.named (subst (λ x. AreLinesOf x h.named) text h.lines) k.lines
 
   same_texts : h.texts ≡ k.texts
-  same_texts = all_told_once files k.components h.texts k.texts (subst (λ x. AreTold files x h.texts) same_names.0 h.texts_told) k.texts_told
+  same_texts = all_told_once files (files_of false k.named) h.texts k.texts (subst (λ x. AreTold files (files_of false x) h.texts) same_lines h.texts_told) k.texts_told
 
+  pub one_reading : other ≡ dev
+  one_reading = sym (read_as_one (kinds_of k.named) k.texts dev other (subst (λ x. Reads (kinds_of x) k.texts dev) same_lines (subst (λ x. Reads (kinds_of h.named) x dev) same_texts h.reads)) k.reads)
+
+module _ (with_proofs : Bool) (files : Files) (project : List ℕ) (dev other : Development) (scripts others : List RawScript) (h : ReadsProject with_proofs files project dev scripts) (k : ReadsProject with_proofs files project other others) where
   same_proof_texts : h.proof_texts ≡ k.proof_texts
-  same_proof_texts = all_told_once files (fetched with_proofs k.proofs) h.proof_texts k.proof_texts (subst (λ x. AreTold files (fetched with_proofs x) h.proof_texts) same_names.1 h.proofs_told) k.proofs_told
+  same_proof_texts =
+      all_told_once files (fetched with_proofs (files_of true k.components.named)) h.proof_texts k.proof_texts
+      (subst (λ x. AreTold files (fetched with_proofs (files_of true x)) h.proof_texts) (same_lines files project dev other h.components k.components) h.proofs_told) k.proofs_told
 
   pub one_project : (other ≡ dev) × (others ≡ scripts)
   one_project = (
-    sym (projects_are_one k.texts dev other (subst (λ x. Reads x dev) same_texts h.reads) k.reads),
+    one_reading files project dev other h.components k.components,
     sym (scripts_are_one k.proof_texts scripts others (subst (λ x. AreScriptsOf x scripts) same_proof_texts h.scripts_are) k.scripts_are),
   )
+
+-- what is a development has room
+pub room_of : (dev : Development) → IsDevelopment dev → HasRoom dev
+room_of dev d = record { sets = d.lawful.table.few_sets; variables = d.room }
 
 -- ---- the translation
 entries_within : (dev : Development) (place : ℕ) (hs : List Head) (bs : List Body) → length (entries dev place hs bs) ≤ length hs
@@ -104,9 +109,6 @@ entries_within dev place (h ∷ hs) [] = omega arith
 pub entries_few : (dev : Development) → length (translation dev).ops ≤ length dev.heads
 entries_few dev = entries_within dev (length (init_code dev)) dev.heads (level_at dev (last dev)).bodies
 
-pub few_operations : (dev : Development) (image : Image) → length dev.heads ≤ 100 → image ≡ translation dev → length image.ops < 4294967296
-few_operations dev image few e = rw e (omega (arith, few, entries_within dev (length (init_code dev)) dev.heads (level_at dev (last dev)).bodies))
-
 -- ---- the call script
 pub few_lines : (text : List ℕ) → length text ≤ 16777216 → length (lines text) < 4294967296
 few_lines text h = omega (arith, h, lines_within text)
@@ -114,6 +116,12 @@ few_lines text h = omega (arith, h, lines_within text)
 -- ---- texts
 abbrev pub texts_of : List (Vec ℕ Global) → List (List ℕ)
 texts_of texts = map (λ text. text.items) texts
+
+-- a text for each component file
+pub component_texts : (ls given : List ProjectLine) (names : List (Bor (List ℕ))) (texts told : List (Vec ℕ Global)) → given ≡ ls → map (λ name. name.now) names ≡ files_of false ls → length texts ≡ length names → told ≡ texts → length told ≡ length (component_lines given)
+component_texts ls given names texts told e d f k =
+    let named : length (component_lines given) ≡ length (component_lines ls) = ap (λ x. length (component_lines x)) e in
+    omega (arith, named, ap length k, f, length-map names (λ name. name.now), ap length d, length-map (component_lines ls) (λ l. l.name))
 
 pub few_files : (b : Bool) (ls : List ProjectLine) → length ls ≤ 16777216 → length (files_of b ls) < 4294967296
 few_files true ls h = omega (arith, h, length-map (filter (λ l. is_proofs l.kind) ls) (λ l. l.name), fewer_kept (λ l. is_proofs l.kind) ls)

@@ -1,5 +1,5 @@
 -- Why the program stops, check by check.
-use Rattle.std.proofs.Common.{◌≡◌, ℕ, ◌<◌, ◌≤◌, ◌⊎◌, inl, inr, Bool, true, false, List, [], length, Result, Ok, Err, IfErr, IsErrAnd, refl, sym, ◌∙◌, ap, subst}
+use Rattle.std.proofs.Common.{◌≡◌, ℕ, ◌<◌, ◌≤◌, ◌⊎◌, inl, inr, Bool, true, false, List, [], length, Result, Ok, Err, OnOk, IfErr, IsErrAnd, refl, sym, ◌∙◌, ap, subst}
 use Rattle.bk_io.specs.Files.{Files}
 use Rattle.bk_code.specs.declared.image.Image.{Image}
 use Rattle.bk_image.specs.Encoding.{Encodes}
@@ -7,16 +7,15 @@ use Rattle.bk_dev.specs.Development.{Development}
 use Rattle.bk_gen.specs.declared.error.GenFault.{GenFault}
 use Rattle.bk_gen.specs.declared.error.GenFault.TheVariants.{CodeTooLong, TooManyCells, Memory as NoRoom}
 use Rattle.bk_b0.specs.Translation.{translation}
-use Rattle.bk_front.specs.declared.refusal.Refusal.{Refusal}
-use Rattle.bk_front.specs.declared.refusal.Refusal.TheVariants.{Memory as OutOfMemory}
-use Rattle.bk_front.specs.declared.project_file.ProjectLine.{ProjectLine}
-use Rattle.bk_front.specs.ProjectFile.{AreProjectLines, IsNoProject, files_of}
-use Rattle.bk_front.specs.Refusals.{not_built}
-use Rattle.bk_front.specs.Project.{Reads, IsRefusal}
-use Rattle.bk_scripts.specs.WrittenRule.{Script}
-use Rattle.bk_scripts.specs.Files.{AreScriptsOf, IsFaultOf as IsFaultOfProofs}
-use Rattle.bk_scripts.specs.declared.fault.ScriptFault.{ScriptFault}
-use Rattle.bk_scripts.specs.declared.fault.ScriptFault.TheVariants.{Fault as FaultOfProofs, Limit as LimitOfProofs, Memory as NoRoomForProofs}
+use Rattle.bk_project.specs.declared.refusal.Refusal.{Refusal}
+use Rattle.bk_project.specs.declared.refusal.Refusal.TheVariants.{Fault, Limit as LimitOfText, Memory as OutOfMemory}
+use Rattle.bk_project.specs.declared.project_file.ProjectLine.{ProjectLine}
+use Rattle.bk_project.specs.ProjectFile.{AreLinesOf, IsRefusalOfLines, kinds_of}
+use Rattle.bk_project.specs.Project.{Reads, IsRefusalOf}
+use Rattle.bk_raw.specs.ScriptTree.{RawScript}
+use Rattle.bk_p_proof.specs.Files.{AreScriptsOf, IsFaultOf as IsFaultOfProofs}
+use Rattle.bk_p_proof.specs.declared.fault.ScriptFault.{ScriptFault}
+use Rattle.bk_p_proof.specs.declared.fault.ScriptFault.TheVariants.{Fault as FaultOfProofs, Limit as LimitOfProofs, Memory as NoRoomForProofs}
 use Rattle.bk_calls.specs.declared.script.CallsFault.{CallsFault}
 use Rattle.bk_calls.specs.declared.script.CallsFault.TheVariants.{Line, NoOperation, Arguments, Number, Limit as PastLimit, Memory as NoMemory}
 use Rattle.bk_calls.specs.Script.{Cause, NoCall, UnknownName, WrongArguments, OutOfRange, IsBadLine, PassesLimit}
@@ -25,15 +24,19 @@ use Rattle.bk_verbs.specs.declared.stop.Stop.{Stop}
 use Rattle.bk_verbs.specs.declared.stop.Stop.TheVariants.{Usage, Missing, Refused, Limit, Unproved, Incomplete, BadCalls, BadImage, ReadFault, WriteFault, Memory}
 use Rattle.bk_verbs.specs.Causes.{IsOfReading, IsOfChecks}
 use Rattle.bk_words.specs.Tasks.{Task, Asks, has_proofs}
-use Rattle.bk_verbs.specs.Project.{IsTold, IsToldAsBytes, AreTold, fetched, ReadsProject}
-use Rattle.bk_verbs.specs.Stops.{IsOutside, StopsAtFile, StopsAtFiles, StopsAtTold, StopsAtComponents, StopsAtProject, StopsPastLimits, StopsAtObligations, HasTooManyCells, StopsPastCode, StopsAtScript, StopsAtCallScript, StopsAtLoading, StopsAtImage, StopsRead, StopsAtWork, StopsTask, StopsAt, name_at, stop_of_refusal, stop_of_proofs, stop_of_code, stop_of_calls}
-use Rattle.bk_verbs.proofs.Projects.{names_of}
+use Rattle.bk_verbs.specs.Project.{IsTold, IsToldAsBytes, AreTold, files_of, fetched, ReadsProject}
+use Rattle.bk_verbs.specs.Stops.{IsOutside, StopsAtFile, StopsAtFiles, StopsAtTold, StopsAtComponents, StopsAtProject, StopsPastLimits, StopsAtObligations, HasTooManyCells, StopsPastCode, StopsAtScript, StopsAtCallScript, StopsAtLoading, StopsAtImage, StopsRead, StopsAtWork, StopsTask, StopsAt, stop_of_refusal, stop_of_proofs, stop_of_code, stop_of_calls}
 use Rattle.bk_verbs.proofs.Fetching.{stops_before, stops_behind}
 
 -- what an error says may be weakened
 pub widen : {T : Type 0} (r : Result T Stop) (P Q : Stop → Type 0) → IfErr r P → ((s : Stop) → P s → Q s) → IfErr r Q
 widen (Ok t) P Q h f = tt
 widen (Err s) P Q h f = f s h
+
+-- and so may what is said of an answer
+pub widen_ok : {T : Type 0} (r : Result T Stop) (P Q : Type 0) → OnOk r P → (P → Q) → OnOk r Q
+widen_ok (Ok t) P Q h f = f h
+widen_ok (Err s) P Q h f = tt
 
 -- what is so of each error
 pub on_each : {T : Type 0} (r : Result T Stop) (P : Stop → Type 0) → ((s : Stop) → P s) → IfErr r P
@@ -57,10 +60,10 @@ outside_memory stop e = subst IsOutside (sym e) tt
 pub checks_read : (stop : Stop) → IsOfChecks stop → IsOfReading stop
 checks_read Usage h = h
 checks_read (Missing name) h = tt
-checks_read (Refused fault name) h = tt
+checks_read (Refused fault at name) h = tt
 checks_read (Limit limit name) h = tt
 checks_read (Unproved name) h = tt
-checks_read (Incomplete name) h = h
+checks_read (Incomplete name) h = tt
 checks_read (BadCalls line) h = tt
 checks_read (BadImage fault) h = tt
 checks_read ReadFault h = tt
@@ -69,13 +72,14 @@ checks_read Memory h = tt
 
 -- ---- the project
 module _ (with_proofs : Bool) (files : Files) (project text : List ℕ) (told : IsTold files project text) where
-  pub at_lines : (refusal : Refusal) (stop : Stop) → (refusal ≡ OutOfMemory) ⊎ ((refusal ≡ not_built 0) × IsNoProject text) → stop ≡ stop_of_refusal refusal project [] → IsOutside stop ⊎ StopsAtProject with_proofs files project stop
-  at_lines refusal stop (inl e) is = inl (outside_memory stop (is ∙ ap (λ r. stop_of_refusal r project []) e))
-  at_lines refusal stop (inr h) is = inr (inr (text, told, inl (is ∙ ap (λ r. stop_of_refusal r project []) h.0, h.1)))
+  pub at_lines : (refusal : Refusal) (stop : Stop) → IsRefusalOfLines text refusal → stop ≡ stop_of_refusal refusal project [] → IsOutside stop ⊎ StopsAtProject with_proofs files project stop
+  at_lines (Fault number file place) stop h is = inr (inr (text, told, inl (Fault number file place, tt, h, is)))
+  at_lines (LimitOfText number file) stop h is = inr (inr (text, told, inl (LimitOfText number file, tt, h, is)))
+  at_lines OutOfMemory stop h is = inl (outside_memory stop is)
 
-  module _ (ls : List ProjectLine) (are : AreProjectLines text ls) where
-    at_names : (stop : Stop) → StopsAtComponents files (files_of false ls) (fetched with_proofs (files_of true ls)) stop → IsOutside stop ⊎ StopsAtProject with_proofs files project stop
-    at_names stop h = inr (inr (text, told, inr (files_of false ls, files_of true ls, names_of text ls are, h)))
+  module _ (ls : List ProjectLine) (are : AreLinesOf text ls) where
+    at_names : (stop : Stop) → StopsAtComponents files project ls (fetched with_proofs (files_of true ls)) stop → IsOutside stop ⊎ StopsAtProject with_proofs files project stop
+    at_names stop h = inr (inr (text, told, inr (ls, are, h)))
 
     pub at_components : (names : List (List ℕ)) (stop : Stop) → names ≡ files_of false ls → IsOutside stop ⊎ StopsAtFiles files names stop → IsOutside stop ⊎ StopsAtProject with_proofs files project stop
     at_components names stop e (inl o) = inl o
@@ -88,37 +92,29 @@ module _ (with_proofs : Bool) (files : Files) (project text : List ℕ) (told : 
 
     -- the texts of the components and of the proof files
     module _ (names proofs texts proof_texts : List (List ℕ)) (e : names ≡ files_of false ls) (d : proofs ≡ fetched with_proofs (files_of true ls)) (t : AreTold files names texts) (u : AreTold files proofs proof_texts) where
-      at_told : (stop : Stop) → StopsAtTold (files_of false ls) (fetched with_proofs (files_of true ls)) texts proof_texts stop → IsOutside stop ⊎ StopsAtProject with_proofs files project stop
+      at_told : (stop : Stop) → StopsAtTold project ls (fetched with_proofs (files_of true ls)) texts proof_texts stop → IsOutside stop ⊎ StopsAtProject with_proofs files project stop
       at_told stop h = at_names stop (inr (texts, proof_texts, subst (λ x. AreTold files x texts) e t, subst (λ x. AreTold files x proof_texts) d u, h))
 
-      pub at_texts : (refusal : Refusal) (stop : Stop) → IsRefusal texts refusal → stop ≡ stop_of_refusal refusal project names → IsOutside stop ⊎ StopsAtProject with_proofs files project stop
-      at_texts refusal stop (inl h) is = inl (outside_memory stop (is ∙ ap (λ r. stop_of_refusal r project names) h))
-      at_texts refusal stop (inr (inl h)) is = at_told stop (inl (inl (is ∙ ap (λ r. stop_of_refusal r project names) h.0 ∙ ap (λ x. Refused 15 (name_at x 0)) e, h.1)))
-      at_texts refusal stop (inr (inr h)) is = at_told stop (inl (inr (is ∙ ap (λ r. stop_of_refusal r project names) h.0 ∙ ap (λ x. Refused 15 (name_at x 1)) e, h.1, h.2)))
+      pub at_texts : (refusal : Refusal) (stop : Stop) → IsRefusalOf (kinds_of ls) texts refusal → stop ≡ stop_of_refusal refusal project names → IsOutside stop ⊎ StopsAtProject with_proofs files project stop
+      at_texts (Fault number file place) stop h is = at_told stop (inl (Fault number file place, tt, h, is ∙ ap (λ x. stop_of_refusal (Fault number file place) project x) e))
+      at_texts (LimitOfText number file) stop h is = at_told stop (inl (LimitOfText number file, tt, h, is ∙ ap (λ x. stop_of_refusal (LimitOfText number file) project x) e))
+      at_texts OutOfMemory stop h is = inl (outside_memory stop is)
 
-      pub at_scripts : (dev : Development) (fault : ScriptFault) (stop : Stop) → Reads texts dev → IsFaultOfProofs proof_texts fault → stop ≡ stop_of_proofs fault proofs → IsOutside stop ⊎ StopsAtProject with_proofs files project stop
-      at_scripts dev (FaultOfProofs number file place) stop reads h is =
-          at_told stop (inr (dev, reads, (file, is ∙ ap (λ n. Refused n (name_at proofs file)) h.0 ∙ ap (λ x. Refused 15 (name_at x file)) d, h.2)))
-      at_scripts dev (LimitOfProofs number file) stop reads h is = elim h [ ]
+      pub at_scripts : (dev : Development) (fault : ScriptFault) (stop : Stop) → Reads (kinds_of ls) texts dev → IsFaultOfProofs proof_texts fault → stop ≡ stop_of_proofs fault proofs → IsOutside stop ⊎ StopsAtProject with_proofs files project stop
+      at_scripts dev (FaultOfProofs number file place) stop reads h is = at_told stop (inr (dev, reads, (FaultOfProofs number file place, tt, h, is ∙ ap (λ x. stop_of_proofs (FaultOfProofs number file place) x) d)))
+      at_scripts dev (LimitOfProofs number file) stop reads h is = at_told stop (inr (dev, reads, (LimitOfProofs number file, tt, h, is ∙ ap (λ x. stop_of_proofs (LimitOfProofs number file) x) d)))
       at_scripts dev NoRoomForProofs stop reads h is = inl (outside_memory stop is)
 
-      pub reads_project : (dev : Development) (scripts : List Script) → Reads texts dev → AreScriptsOf proof_texts scripts → ReadsProject with_proofs files project dev scripts
+      pub reads_project : (dev : Development) (scripts : List RawScript) → Reads (kinds_of ls) texts dev → AreScriptsOf proof_texts scripts → ReadsProject with_proofs files project dev scripts
       reads_project dev scripts reads are_scripts = record {
-        text = text;
-        told = told;
-        components = files_of false ls;
-        proofs = files_of true ls;
-        names = names_of text ls are;
-        texts = texts;
+        components = record { text = text; told = told; named = ls; lines = are; texts = texts; texts_told = subst (λ x. AreTold files x texts) e t; reads = reads };
         proof_texts = proof_texts;
-        texts_told = subst (λ x. AreTold files x texts) e t;
         proofs_told = subst (λ x. AreTold files x proof_texts) d u;
-        reads = reads;
         scripts_are = are_scripts;
       }
 
 -- ---- the obligations
-pub past_limits : (project : List ℕ) (dev : Development) (scripts : List Script) (stop : Stop) → IsOutside stop ⊎ StopsPastLimits project dev stop → IsOutside stop ⊎ StopsAtObligations project dev scripts stop
+pub past_limits : (project : List ℕ) (dev : Development) (scripts : List RawScript) (stop : Stop) → IsOutside stop ⊎ StopsPastLimits project dev stop → IsOutside stop ⊎ StopsAtObligations project dev scripts stop
 past_limits project dev scripts stop (inl o) = inl o
 past_limits project dev scripts stop (inr h) = inr (inl h)
 
@@ -145,7 +141,7 @@ module _ (files : Files) (project : List ℕ) (task : Task) (stop : Stop) where
   at_reading (inl o) = inl o
   at_reading (inr h) = inr (inl h)
 
-  pub at_read : (dev : Development) (scripts : List Script) → ReadsProject (has_proofs task) files project dev scripts → IsOutside stop ⊎ StopsRead files task dev scripts stop → IsOutside stop ⊎ StopsAtWork files project task stop
+  pub at_read : (dev : Development) (scripts : List RawScript) → ReadsProject (has_proofs task) files project dev scripts → IsOutside stop ⊎ StopsRead files task dev scripts stop → IsOutside stop ⊎ StopsAtWork files project task stop
   at_read dev scripts r (inl o) = inl o
   at_read dev scripts r (inr h) = inr (inr (dev, scripts, r, h))
 

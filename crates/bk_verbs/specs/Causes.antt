@@ -18,19 +18,18 @@ abbrev pub stop_of_words : WordsFault → Stop
 stop_of_words WordsRefused = Usage
 stop_of_words NoRoomForWords = Memory
 
--- what reading files and checking what they hold may stop with: neither wrong words nor a fault of the sink, nor so far at a
--- project without an implementation
+-- what reading files and checking what they hold may stop with: neither wrong words nor a fault of the sink
 abbrev pub IsOfReading : Stop → Type 0
 IsOfReading Usage = ⊥
-IsOfReading (Incomplete name) = ⊥
 IsOfReading WriteFault = ⊥
 IsOfReading _ = Unit {0}
 
 -- what checks of texts already read may stop with: no device has a part in it
 abbrev pub IsOfChecks : Stop → Type 0
-IsOfChecks (Refused fault name) = Unit {0}
+IsOfChecks (Refused fault at name) = Unit {0}
 IsOfChecks (Limit limit name) = Unit {0}
 IsOfChecks (Unproved name) = Unit {0}
+IsOfChecks (Incomplete name) = Unit {0}
 IsOfChecks (BadCalls line) = Unit {0}
 IsOfChecks (BadImage fault) = Unit {0}
 IsOfChecks Memory = Unit {0}

@@ -1,4 +1,4 @@
--- What is left to write once a task's files are read and checked. Only the contracts of private functions name what stands here.
+-- What is left to write once a task's files are read and checked.
 use Rattle.std.specs.Prelude.{ℕ, ◌≤◌, List, All, length, map, Option}
 use Rattle.bk_io.specs.Files.{Files}
 use Rattle.bk_io.specs.Pieces.{WroteFront}

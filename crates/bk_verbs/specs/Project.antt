@@ -1,5 +1,5 @@
 -- What the files of a project tell: its development, its scripts of proof, and the calls that a script asks for.
-use Rattle.std.specs.Prelude.{◌≡◌, ℕ, Bool, true, cond, List, [], length, ◌≤◌, All, Some}
+use Rattle.std.specs.Prelude.{◌≡◌, ℕ, Bool, true, false, cond, List, [], length, ◌≤◌, ◌<◌, ◌^◌, map, All, Some}
 use Rattle.std.specs.List.{AllZip}
 use Rattle.bk_io.specs.Bytes.{AreBytes}
 use Rattle.bk_io.specs.Files.{Files, file_named}
@@ -7,12 +7,16 @@ use Rattle.bk_code.specs.declared.image.Image.{Image}
 use Rattle.bk_code.specs.Session.{Request}
 use Rattle.bk_image.specs.Spelling.{HasSpelling}
 use Rattle.bk_dev.specs.Development.{Development, is_complete}
-use Rattle.bk_front.specs.ProjectFile.{NamesFiles}
-use Rattle.bk_front.specs.Project.{Reads}
+use Rattle.bk_dev.specs.Flattened.{flattened}
+use Rattle.bk_raw.specs.ScriptTree.{RawScript}
+use Rattle.bk_level.specs.VerdictLaws.{HasRoom}
+use Rattle.bk_project.specs.declared.project_file.ProjectLine.{ProjectLine}
+use Rattle.bk_project.specs.ProjectFile.{AreLinesOf, component_lines, proof_lines, kinds_of}
+use Rattle.bk_project.specs.Project.{Reads}
 use Rattle.bk_po.specs.Obligations.{obligations}
 use Rattle.bk_po.specs.Limits.{PassNoLimit}
-use Rattle.bk_scripts.specs.WrittenRule.{Script}
-use Rattle.bk_scripts.specs.Files.{AreScriptsOf}
+use Rattle.bk_p_proof.specs.Files.{AreScriptsOf}
+use Rattle.bk_ground.specs.Brought.{widened}
 use Rattle.bk_status.specs.Rows.{AreProved}
 use Rattle.bk_calls.specs.Script.{IsScript, most_calls}
 
@@ -36,34 +40,52 @@ abbrev pub HoldBytes : Files → Type 0
 HoldBytes files = All (λ file. AreBytes file.1) files
 
 -- ---- the project
+-- the names of the proof files, or of the component files, in the order of their lines
+abbrev pub files_of : Bool → List ProjectLine → List (List ℕ)
+files_of true named = map (λ l. l.name) (proof_lines named)
+files_of false named = map (λ l. l.name) (component_lines named)
+
 -- all of the files that are named, or none: what executes no proof does not fetch the proof files
 abbrev pub fetched : Bool → List (List ℕ) → List (List ℕ)
 fetched all names = cond all names []
 
--- the texts that the files tell under the names in the project file are those of the development, and, where proof files are fetched,
--- of the scripts of proof
-pub record ReadsProject (with_proofs : Bool) (files : Files) (project : List ℕ) (dev : Development) (scripts : List Script) : Type 0 where
+-- the texts that the files tell under the names of the component files in the project file are read as the development
+pub record ReadsComponents (files : Files) (project : List ℕ) (dev : Development) : Type 0 where
   pub text : List ℕ
   pub told : IsTold files project text
-  pub components : List (List ℕ)
-  pub proofs : List (List ℕ)
-  pub names : NamesFiles text components proofs
+  pub named : List ProjectLine
+  pub lines : AreLinesOf text named
   pub texts : List (List ℕ)
+  pub texts_told : AreTold files (files_of false named) texts
+  pub reads : Reads (kinds_of named) texts dev
+
+-- and those of the proof files, where these are fetched, are those of the scripts of proof
+pub record ReadsProject (with_proofs : Bool) (files : Files) (project : List ℕ) (dev : Development) (scripts : List RawScript) : Type 0 where
+  pub components : ReadsComponents files project dev
   pub proof_texts : List (List ℕ)
-  pub texts_told : AreTold files components texts
-  pub proofs_told : AreTold files (fetched with_proofs proofs) proof_texts
-  pub reads : Reads texts dev
+  pub proofs_told : AreTold files (fetched with_proofs (files_of true components.named)) proof_texts
   pub scripts_are : AreScriptsOf proof_texts scripts
+
+-- 32 bits number the variables of the development's obligations and those of the names that the script brings
+abbrev pub HasRoomFor : Development → RawScript → Type 0
+HasRoomFor dev script = length (widened (flattened dev).table (flattened dev) script).variables < 2 ^ 32
+
+-- 32 bits number the variables, with all copies that flattening makes, of each project of the files whose obligations pass no limit, and
+-- so they do with the names that one of its scripts brings
+abbrev pub HaveRoom : Files → Type 0
+HaveRoom files = (project : List ℕ) (dev : Development) (scripts : List RawScript) → ReadsProject true files project dev scripts →
+    PassNoLimit (obligations dev) → HasRoom dev × All (HasRoomFor dev) scripts
 
 -- ---- the obligations
 -- the obligations pass no limit, and each is obvious or has a replayed proof among the scripts
-pub record IsProved (dev : Development) (scripts : List Script) : Type 0 where
+pub record IsProved (dev : Development) (scripts : List RawScript) : Type 0 where
   pub within : PassNoLimit (obligations dev)
   pub proved : AreProved dev scripts
 
--- the last component is an implementation, and the obligations are proved
-pub record IsFinished (dev : Development) (scripts : List Script) : Type 0 where
+-- the last component is an implementation, the obligations are proved, and 32 bits number their variables
+pub record IsFinished (dev : Development) (scripts : List RawScript) : Type 0 where
   pub complete : is_complete dev ≡ true
+  pub room : HasRoom dev
   pub proved : IsProved dev scripts
 
 -- ---- the code

@@ -7,20 +7,23 @@ use Rattle.bk_image.specs.declared.fault.LoadFault.TheVariants.{Short, Magic, Ve
 use Rattle.bk_image.specs.Spelling.{HasSpelling}
 use Rattle.bk_image.specs.Faults.{place}
 use Rattle.bk_image.specs.Encoding.{Encodes, IsFault as IsFaultOfImage}
+use Rattle.bk_raw.specs.ScriptTree.{RawScript}
 use Rattle.bk_dev.specs.Development.{Development, level_at, last, is_complete}
 use Rattle.bk_gen.specs.declared.error.GenFault.{GenFault}
 use Rattle.bk_gen.specs.declared.error.GenFault.TheVariants.{CodeTooLong, TooManyCells, Memory as NoRoom}
 use Rattle.bk_b0.specs.Translation.{translation}
-use Rattle.bk_front.specs.declared.refusal.Refusal.{Refusal}
-use Rattle.bk_front.specs.declared.refusal.Refusal.TheVariants.{Fault, Limit as LimitOfText, Memory as OutOfMemory}
-use Rattle.bk_front.specs.ProjectFile.{NamesFiles, IsNoProject}
-use Rattle.bk_front.specs.Project.{IsMachineText, text_at, Reads}
+use Rattle.bk_project.specs.declared.project_file.ProjectLine.{ProjectLine}
+use Rattle.bk_project.specs.declared.refusal.Refusal.{Refusal}
+use Rattle.bk_project.specs.declared.refusal.Refusal.TheVariants.{Fault, Limit as LimitOfText, Memory as OutOfMemory}
+use Rattle.bk_project.specs.ProjectFile.{AreLinesOf, IsRefusalOfLines, kinds_of}
+use Rattle.bk_project.specs.Project.{Reads, IsRefusalOf}
+use Rattle.bk_project.specs.Laws.{IsOfProject}
 use Rattle.bk_po.specs.Obligations.{obligations}
 use Rattle.bk_po.specs.Limits.{first_too_large, PassTogether, PassNoLimit}
-use Rattle.bk_scripts.specs.WrittenRule.{Script}
-use Rattle.bk_scripts.specs.Files.{IsFirstFaulty}
-use Rattle.bk_scripts.specs.declared.fault.ScriptFault.{ScriptFault}
-use Rattle.bk_scripts.specs.declared.fault.ScriptFault.TheVariants.{Fault as FaultOfProofs, Limit as LimitOfProofs, Memory as NoRoomForProofs}
+use Rattle.bk_p_proof.specs.declared.fault.ScriptFault.{ScriptFault}
+use Rattle.bk_p_proof.specs.declared.fault.ScriptFault.TheVariants.{Fault as FaultOfProofs, Limit as LimitOfProofs, Memory as NoRoomForProofs}
+use Rattle.bk_p_proof.specs.Files.{IsFaultOf as IsFaultOfProofs}
+use Rattle.bk_p_proof.specs.Laws.{IsOfTexts}
 use Rattle.bk_status.specs.declared.table.Row.{Row}
 use Rattle.bk_status.specs.Rows.{HasRows, first_open}
 use Rattle.bk_calls.specs.Script.{Cause, IsBadLine, PassesLimit}
@@ -32,7 +35,7 @@ use Rattle.bk_verbs.specs.declared.status.Status.TheVariants.{Usage as UsageStat
 use Rattle.bk_verbs.specs.declared.stop.Stop.{Stop}
 use Rattle.bk_verbs.specs.declared.stop.Stop.TheVariants.{Usage, Missing, Refused, Limit, Unproved, Incomplete, BadCalls, BadImage, ReadFault, WriteFault, Memory}
 use Rattle.bk_words.specs.Tasks.{Task, check_task, status_task, po_task, code_task, build_task, run_task, exec_task, Asks, AskForNothing, has_proofs}
-use Rattle.bk_verbs.specs.Project.{IsTold, AreTold, IsToldAsBytes, fetched, ReadsProject, IsFinished, IsWithinCodeLimits}
+use Rattle.bk_verbs.specs.Project.{IsTold, AreTold, IsToldAsBytes, files_of, fetched, ReadsProject, IsFinished, IsWithinCodeLimits}
 
 -- a device failed, or there was no memory
 abbrev pub IsOutside : Stop → Type 0
@@ -45,7 +48,7 @@ IsOutside _ = ⊥
 abbrev pub status_of_stop : Stop → Status
 status_of_stop Usage = UsageStatus
 status_of_stop (Missing name) = MissingStatus
-status_of_stop (Refused fault name) = RefusedStatus
+status_of_stop (Refused fault at name) = RefusedStatus
 status_of_stop (Limit limit name) = RefusedStatus
 status_of_stop (Unproved name) = UnprovedStatus
 status_of_stop (Incomplete name) = IncompleteStatus
@@ -58,6 +61,10 @@ status_of_stop Memory = MemoryStatus
 -- what has this name, a file or an obligation, is refused for the fault with this number
 abbrev pub refusal_text : ℕ → List ℕ → List ℕ
 refusal_text fault name = codes "refused F" ++ decimal fault ++ codes " " ++ name
+
+-- the end of the line of a fault: where in the file it stands, a byte or a line of a project file
+abbrev pub place_text : ℕ → List ℕ
+place_text at = codes " at " ++ decimal at ++ codes "\n"
 
 -- why bytes are no image, in words
 abbrev pub fault_name : LoadFault → List ℕ
@@ -75,7 +82,7 @@ fault_name NoRoomForImage = []
 abbrev pub stop_text : Stop → List ℕ
 stop_text Usage = codes "usage: bkit VERB [FILE] [FILE] [--fuel N]\n"
 stop_text (Missing name) = codes "missing " ++ name ++ codes "\n"
-stop_text (Refused fault name) = refusal_text fault name ++ codes "\n"
+stop_text (Refused fault at name) = refusal_text fault name ++ place_text at
 stop_text (Limit limit name) = refusal_text 13 name ++ codes " limit " ++ decimal limit ++ codes "\n"
 stop_text (Unproved name) = codes "unproved " ++ name ++ codes "\n"
 stop_text (Incomplete name) = codes "incomplete " ++ name ++ codes "\n"
@@ -104,38 +111,57 @@ StopsAtFile files name stop =
 abbrev pub name_at : List (List ℕ) → ℕ → List ℕ
 name_at names n = slice_index_or names n []
 
--- the text of a component file is at fault: the machine's, or else the implementation's, which also has the faults of both together
-abbrev pub StopsAtTexts : (components texts : List (List ℕ)) → Stop → Type 0
-StopsAtTexts components texts stop =
-    ((stop ≡ Refused 15 (name_at components 0)) × (IsMachineText (text_at texts 0) → ⊥)) ⊎
-    ((stop ≡ Refused 15 (name_at components 1)) × IsMachineText (text_at texts 0) × ((dev : Development) → Reads texts dev → ⊥))
+-- the name of the file with this number: 0 for the project file, and behind it the component files
+abbrev pub name_of : ℕ → (project : List ℕ) (components : List (List ℕ)) → List ℕ
+name_of zero project components = project
+name_of (suc n) project components = name_at components n
+
+-- what a refusal stops the program with: a fault is told with its place
+abbrev pub stop_of_refusal : Refusal → (project : List ℕ) (components : List (List ℕ)) → Stop
+stop_of_refusal (Fault number file place) project components = Refused number place (name_of file project components)
+stop_of_refusal (LimitOfText number file) project components = Limit number (name_of file project components)
+stop_of_refusal OutOfMemory project components = Memory
+
+-- the project file has a fault, or passes a limit: the first
+abbrev pub StopsAtLines : (project text : List ℕ) → Stop → Type 0
+StopsAtLines project text stop = (refusal : Refusal) × IsOfProject refusal × IsRefusalOfLines text refusal × (stop ≡ stop_of_refusal refusal project [])
+
+-- the component files that these lines name have a fault, or pass a limit: the first of all
+abbrev pub StopsAtTexts : (project : List ℕ) → List ProjectLine → (texts : List (List ℕ)) → Stop → Type 0
+StopsAtTexts project named texts stop = (refusal : Refusal) × IsOfProject refusal × IsRefusalOf (kinds_of named) texts refusal × (stop ≡ stop_of_refusal refusal project (files_of false named))
+
+-- what a fault of the proof files stops the program with
+abbrev pub stop_of_proofs : ScriptFault → (proofs : List (List ℕ)) → Stop
+stop_of_proofs (FaultOfProofs number file place) proofs = Refused number place (name_at proofs file)
+stop_of_proofs (LimitOfProofs number file) proofs = Limit number (name_at proofs file)
+stop_of_proofs NoRoomForProofs proofs = Memory
 
 -- the files are fetched in order: the ones before are told, and this one is not
 abbrev pub StopsAtFiles : Files → List (List ℕ) → Stop → Type 0
 StopsAtFiles files [] stop = ⊥
 StopsAtFiles files (name ∷ names) stop = StopsAtFile files name stop ⊎ ((text : List ℕ) × IsTold files name text × StopsAtFiles files names stop)
 
--- the first proof file at fault: it is none, or has a script with a name that has one already
+-- the proof files have a fault, or pass a limit: the first of all
 abbrev pub StopsAtScripts : (proofs texts : List (List ℕ)) → Stop → Type 0
-StopsAtScripts proofs texts stop = (file : ℕ) × (stop ≡ Refused 15 (name_at proofs file)) × IsFirstFaulty texts file
+StopsAtScripts proofs texts stop = (fault : ScriptFault) × IsOfTexts fault × IsFaultOfProofs texts fault × (stop ≡ stop_of_proofs fault proofs)
 
 -- the components' texts are looked at, and then those of the proof files
-abbrev pub StopsAtTold : (components proofs texts proof_texts : List (List ℕ)) → Stop → Type 0
-StopsAtTold components proofs texts proof_texts stop =
-    StopsAtTexts components texts stop ⊎ ((dev : Development) × Reads texts dev × StopsAtScripts proofs proof_texts stop)
+abbrev pub StopsAtTold : (project : List ℕ) → List ProjectLine → (proofs texts proof_texts : List (List ℕ)) → Stop → Type 0
+StopsAtTold project named proofs texts proof_texts stop =
+    StopsAtTexts project named texts stop ⊎ ((dev : Development) × Reads (kinds_of named) texts dev × StopsAtScripts proofs proof_texts stop)
 
 -- all files are fetched, those of the components and then the proof files, before their texts are looked at
-abbrev pub StopsAtComponents : Files → (components proofs : List (List ℕ)) → Stop → Type 0
-StopsAtComponents files components proofs stop =
-    StopsAtFiles files (components ++ proofs) stop ⊎
-    ((texts : List (List ℕ)) × (proof_texts : List (List ℕ)) × AreTold files components texts × AreTold files proofs proof_texts ×
-    StopsAtTold components proofs texts proof_texts stop)
+abbrev pub StopsAtComponents : Files → (project : List ℕ) → List ProjectLine → (proofs : List (List ℕ)) → Stop → Type 0
+StopsAtComponents files project named proofs stop =
+    StopsAtFiles files (files_of false named ++ proofs) stop ⊎
+    ((texts : List (List ℕ)) × (proof_texts : List (List ℕ)) × AreTold files (files_of false named) texts × AreTold files proofs proof_texts ×
+    StopsAtTold project named proofs texts proof_texts stop)
 
 -- the project file's text is looked at, and then the files that it names
 abbrev pub StopsAtNames : (with_proofs : Bool) → Files → (project text : List ℕ) → Stop → Type 0
 StopsAtNames with_proofs files project text stop =
-    ((stop ≡ Refused 15 project) × IsNoProject text) ⊎
-    ((components : List (List ℕ)) × (proofs : List (List ℕ)) × NamesFiles text components proofs × StopsAtComponents files components (fetched with_proofs proofs) stop)
+    StopsAtLines project text stop ⊎
+    ((named : List ProjectLine) × AreLinesOf text named × StopsAtComponents files project named (fetched with_proofs (files_of true named)) stop)
 
 -- the project file is fetched first
 abbrev pub StopsAtProject : (with_proofs : Bool) → Files → (project : List ℕ) → Stop → Type 0
@@ -147,7 +173,7 @@ abbrev pub StopsIncomplete : Development → Stop → Type 0
 StopsIncomplete dev stop = (stop ≡ Incomplete (level_at dev (last dev)).name) × (is_complete dev ≡ false)
 
 -- the name stands in the first row of the status table that is neither obvious nor proved
-abbrev pub IsFirstOpen : Development → List Script → List ℕ → Type 0
+abbrev pub IsFirstOpen : Development → List RawScript → List ℕ → Type 0
 IsFirstOpen dev scripts name = (rows : List Row) × (row : Row) × HasRows dev scripts rows × (first_open rows ≡ Some row) × (row.name ≡ name)
 
 -- the limits of the obligations: 6, also for the height, with the name of the first obligation that is too large; 7 for all their sequents
@@ -158,13 +184,13 @@ StopsPastLimits project dev stop =
     ((limit : ℕ) × (stop ≡ Limit limit project) × PassTogether (obligations dev) limit)
 
 -- these limits, and then the first obligation that is neither obvious nor proved
-abbrev pub StopsAtObligations : (project : List ℕ) → Development → List Script → Stop → Type 0
+abbrev pub StopsAtObligations : (project : List ℕ) → Development → List RawScript → Stop → Type 0
 StopsAtObligations project dev scripts stop =
     StopsPastLimits project dev stop ⊎
     ((name : List ℕ) × (stop ≡ Unproved name) × PassNoLimit (obligations dev) × IsFirstOpen dev scripts name)
 
 -- the last component, and then the obligations
-abbrev pub StopsAtProof : (project : List ℕ) → Development → List Script → Stop → Type 0
+abbrev pub StopsAtProof : (project : List ℕ) → Development → List RawScript → Stop → Type 0
 StopsAtProof project dev scripts stop = StopsIncomplete dev stop ⊎ ((is_complete dev ≡ true) × StopsAtObligations project dev scripts stop)
 
 -- there are more cells than an image may have, or it has no spelling: a name is too long, or a number of sets, elements,
@@ -211,7 +237,7 @@ StopsAtImage files image calls stop =
 -- ---- tasks
 -- what stops a task whose project is read as this development and these scripts: `check` nothing, `status` and `po` the limits of the obligations,
 -- `code` the last component and the limits of the code, `build` the obligations and these limits, and `run` the calls too
-abbrev pub StopsRead : Files → Task → Development → List Script → Stop → Type 0
+abbrev pub StopsRead : Files → Task → Development → List RawScript → Stop → Type 0
 StopsRead files (check_task project) dev scripts stop = ⊥
 StopsRead files (status_task project) dev scripts stop = StopsPastLimits project dev stop
 StopsRead files (po_task project) dev scripts stop = StopsPastLimits project dev stop
@@ -224,7 +250,7 @@ StopsRead files (exec_task image calls fuel) dev scripts stop = ⊥
 abbrev pub StopsAtWork : Files → (project : List ℕ) → Task → Stop → Type 0
 StopsAtWork files project task stop =
     StopsAtProject (has_proofs task) files project stop ⊎
-    ((dev : Development) × (scripts : List Script) × ReadsProject (has_proofs task) files project dev scripts × StopsRead files task dev scripts stop)
+    ((dev : Development) × (scripts : List RawScript) × ReadsProject (has_proofs task) files project dev scripts × StopsRead files task dev scripts stop)
 
 -- the first check of the task that fails
 abbrev pub StopsTask : Files → Task → Stop → Type 0
@@ -241,23 +267,6 @@ abbrev pub StopsAt : Files → List (List ℕ) → Stop → Type 0
 StopsAt files words stop = ((stop ≡ Usage) × AskForNothing words) ⊎ ((task : Task) × Asks words task × StopsTask files task stop)
 
 -- ---- what the faults of other crates stop the program with
--- the name of the file with this number: 0 for the project file, and behind it the component files
-abbrev pub name_of : ℕ → (project : List ℕ) (components : List (List ℕ)) → List ℕ
-name_of zero project components = project
-name_of (suc n) project components = name_at components n
-
--- what a refusal stops the program with
-abbrev pub stop_of_refusal : Refusal → (project : List ℕ) (components : List (List ℕ)) → Stop
-stop_of_refusal (Fault number file place) project components = Refused number (name_of file project components)
-stop_of_refusal (LimitOfText number file) project components = Limit number (name_of file project components)
-stop_of_refusal OutOfMemory project components = Memory
-
--- what a fault of the proof files stops the program with
-abbrev pub stop_of_proofs : ScriptFault → (proofs : List (List ℕ)) → Stop
-stop_of_proofs (FaultOfProofs number file place) proofs = Refused number (name_at proofs file)
-stop_of_proofs (LimitOfProofs number file) proofs = Limit number (name_at proofs file)
-stop_of_proofs NoRoomForProofs proofs = Memory
-
 -- what a fault of the translation stops the program with
 abbrev pub stop_of_code : GenFault → (project : List ℕ) → Stop
 stop_of_code CodeTooLong project = Limit 9 project

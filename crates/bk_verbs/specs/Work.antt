@@ -5,12 +5,12 @@ use Rattle.bk_io.specs.Pieces.{written_with}
 use Rattle.bk_code.specs.declared.image.Image.{Image}
 use Rattle.bk_code.specs.Session.{Request, Told, Session}
 use Rattle.bk_image.specs.Encoding.{Encodes}
+use Rattle.bk_raw.specs.ScriptTree.{RawScript}
 use Rattle.bk_dev.specs.Development.{Development, is_complete}
 use Rattle.bk_b0.specs.Translation.{translation}
 use Rattle.bk_dev.specs.Flattened.{flattened}
 use Rattle.bk_po.specs.Obligations.{obligations, numbered_obligations}
 use Rattle.bk_po.specs.Limits.{PassNoLimit}
-use Rattle.bk_scripts.specs.WrittenRule.{Script}
 use Rattle.bk_status.specs.declared.table.Row.{Row}
 use Rattle.bk_status.specs.Rows.{HasRows}
 use Rattle.bk_calls.specs.Transcript.{transcript}
@@ -33,7 +33,7 @@ IsExecuted _ = ⊥
 
 -- ---- parts
 -- the text is the status table of the development, whose obligations pass no limit
-pub record IsTable (dev : Development) (scripts : List Script) (text : List ℕ) : Type 0 where
+pub record IsTable (dev : Development) (scripts : List RawScript) (text : List ℕ) : Type 0 where
   pub within : PassNoLimit (obligations dev)
   pub rows : List Row
   pub are : HasRows dev scripts rows
@@ -52,7 +52,7 @@ pub record IsListing (dev : Development) (text : List ℕ) : Type 0 where
   pub text_is : text ≡ listing (translation dev)
 
 -- the bytes are those of the translation's image, of a development whose obligations are proved
-pub record IsBuilt (dev : Development) (scripts : List Script) (bytes : List ℕ) : Type 0 where
+pub record IsBuilt (dev : Development) (scripts : List RawScript) (bytes : List ℕ) : Type 0 where
   pub finished : IsFinished dev scripts
   pub short : IsWithinCodeLimits (translation dev)
   pub encodes : Encodes bytes (translation dev)
@@ -67,7 +67,7 @@ pub record IsPlayed (files : Files) (calls : List ℕ) (fuel : ℕ) (image : Ima
   pub transcript_is : text ≡ transcript image fuel requests tolds
 
 -- it is so of the translation, of a development whose obligations are proved
-pub record IsRun (files : Files) (calls : List ℕ) (fuel : ℕ) (dev : Development) (scripts : List Script) (status : Status) (text : List ℕ) : Type 0 where
+pub record IsRun (files : Files) (calls : List ℕ) (fuel : ℕ) (dev : Development) (scripts : List RawScript) (status : Status) (text : List ℕ) : Type 0 where
   pub finished : IsFinished dev scripts
   pub short : IsWithinCodeLimits (translation dev)
   pub played : IsPlayed files calls fuel (translation dev) status text
@@ -82,7 +82,7 @@ pub record IsExec (files : Files) (image calls : List ℕ) (fuel : ℕ) (status 
 
 -- ---- tasks
 -- what the task gives where its project is read as this development and these scripts
-abbrev pub IsGiven : Files → Task → Development → List Script → Status → List ℕ → Type 0
+abbrev pub IsGiven : Files → Task → Development → List RawScript → Status → List ℕ → Type 0
 IsGiven files (check_task project) dev scripts status text = (status ≡ Done) × (text ≡ check_text dev)
 IsGiven files (status_task project) dev scripts status text = (status ≡ Done) × IsTable dev scripts text
 IsGiven files (po_task project) dev scripts status text = (status ≡ Done) × ShowsObligations dev text
@@ -94,7 +94,7 @@ IsGiven files (exec_task image calls fuel) dev scripts status text = ⊥
 -- the project is read, and that is given
 pub record IsDoneOn (files : Files) (project : List ℕ) (task : Task) (status : Status) (text : List ℕ) : Type 0 where
   pub dev : Development
-  pub scripts : List Script
+  pub scripts : List RawScript
   pub reads : ReadsProject (has_proofs task) files project dev scripts
   pub given : IsGiven files task dev scripts status text
 

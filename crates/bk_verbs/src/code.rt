@@ -3,8 +3,8 @@
 ghost use Rattle.std.specs.Prelude.{◌≡◌, ◌⊎◌, ◌<◌, ◌≤◌, length, Err, IfOk, IfErr};
 ghost use Rattle.bk_code.specs.Checks.{IsLoadable};
 ghost use Rattle.bk_image.specs.Spelling.{HasSpelling};
-ghost use Rattle.bk_b0.specs.Simple.{IsSimple};
 ghost use Rattle.bk_b0.specs.Translation.{translation};
+ghost use Rattle.bk_dev.specs.B0.{IsB0Development};
 ghost use Rattle.bk_gen.specs.declared.error.GenFault.TheVariants.{CodeTooLong, TooManyCells};
 ghost use Rattle.bk_verbs.specs.declared.stop.Stop.TheVariants.{Memory};
 ghost use Rattle.bk_verbs.specs.Causes.{IsOfChecks};
@@ -27,7 +27,7 @@ const LIMIT_OF_CELLS: u8 = 10;
 
 /// The image of a development's implementation, which has a spelling. The name is that of the project's file.
 pub(crate) fn image_of(alloc: Global, name: &str, dev: &Development) -> Result<Image, Stop>
-    requires { IsSimple dev.now }
+    requires { IsB0Development dev.now }
     ensures cause { IfErr result (λ stop. IsOutside stop ⊎ StopsPastCode name.now (translation dev.now) stop) }
     ensures checks { IfErr result IsOfChecks }
     ensures ok { IfOk result (λ image. image ≡ translation dev.now) }
@@ -42,7 +42,7 @@ pub(crate) fn image_of(alloc: Global, name: &str, dev: &Development) -> Result<I
 
 // The image of a development's implementation, unless it passes a limit.
 fn translated(alloc: Global, dev: &Development) -> Result<Image, GenFault>
-    requires { IsSimple dev.now }
+    requires { IsB0Development dev.now }
     ensures ok { IfOk result (λ image. image ≡ translation dev.now) }
     ensures loadable { IfOk result IsLoadable }
     ensures spelled { IfOk result HasSpelling }

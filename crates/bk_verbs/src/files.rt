@@ -3,23 +3,24 @@
 ghost use Rattle.std.specs.Prelude.{◌≡◌, ◌⊎◌, ◌≤◌, ◌<◌, ◌^◌, ℕ, Bool, true, List, All, length, map, [], Some, IfOk, IfErr};
 ghost use Rattle.bk_io.specs.Files.{Files};
 ghost use Rattle.bk_io.specs.Counts.{HasCause};
-ghost use Rattle.bk_b0.specs.Simple.{IsSimple};
-ghost use Rattle.bk_front.specs.ProjectFile.{IsFileName, AreProjectLines, files_of};
-ghost use Rattle.bk_front.specs.Project.{Reads, IsRefusal};
-ghost use Rattle.bk_front.specs.declared.refusal.Refusal.{Refusal};
-ghost use Rattle.bk_scripts.specs.Files.{AreScriptsOf, IsFaultOf};
-ghost use Rattle.bk_scripts.specs.declared.fault.ScriptFault.{ScriptFault};
+ghost use Rattle.bk_dev.specs.B0.{IsB0Development};
+ghost use Rattle.bk_dev.specs.Development.{is_complete};
+ghost use Rattle.bk_project.specs.ProjectFile.{IsFileName, AreLines, AreLinesOf, component_lines, kinds_of};
+ghost use Rattle.bk_project.specs.Project.{Reads, IsRefusalOf};
+ghost use Rattle.bk_project.specs.declared.refusal.Refusal.{Refusal};
+ghost use Rattle.bk_p_proof.specs.Files.{AreScriptsOf, IsFaultOf};
+ghost use Rattle.bk_p_proof.specs.declared.fault.ScriptFault.{ScriptFault};
 ghost use Rattle.bk_verbs.specs.declared.stop.Stop.TheVariants.{ReadFault, Memory};
 ghost use Rattle.bk_verbs.specs.Causes.{IsOfReading, IsOfChecks, CountsAbsence};
 ghost use Rattle.bk_verbs.specs.Stops.{IsOutside, StopsAtFile, StopsAtFiles, StopsAtProject};
 ghost use Rattle.bk_verbs.specs.Stops.{name_at, name_of, stop_of_refusal, stop_of_proofs};
-ghost use Rattle.bk_verbs.specs.Project.{IsTold, AreTold, fetched, ReadsProject};
+ghost use Rattle.bk_verbs.specs.Project.{IsTold, AreTold, files_of, fetched, ReadsProject};
 
 use crate::stop::Stop;
 use bk_dev::Development;
-use bk_front::{LineKind, ProjectLine, Refusal, lines, project};
 use bk_io::{Fetch, Shelf, Text};
-use bk_scripts::{Script, ScriptFault, scripts};
+use bk_p_proof::{ScriptFault, Scripts, scripts};
+use bk_project::{LineKind, ProjectLine, Refusal, lines, project};
 use std::alloc::Global;
 use std::str;
 
@@ -75,7 +76,7 @@ fn fetch_all<H: Shelf>(alloc: Global, names: &[&str], shelf: &mut H) -> Result<V
 pub(crate) struct Project {
     pub(crate) development: Development,
     /// The scripts of its proof files; none where these were not fetched.
-    pub(crate) scripts: Vec<Script>,
+    pub(crate) scripts: Scripts,
 }
 
 /// Reads a project: its file, the component files that it names, and with proofs also the proof files.
@@ -92,9 +93,8 @@ pub(crate) fn read_project<H: Shelf>(
     ensures missing { CountsAbsence (H.absences shelf.old) (H.absences shelf.new) result }
     ensures files { H.files shelf.new ≡ H.files shelf.old }
     ensures told { IfOk result (λ p. (files : Files) → H.files shelf.old ≡ Some files →
-        ReadsProject with_proofs files name.now p.development p.scripts.items) }
-    ensures simple { IfOk result (λ p. IsSimple p.development) }
-    ensures few { IfOk result (λ p. length p.development.heads ≤ 100) }
+        ReadsProject with_proofs files name.now p.development p.scripts) }
+    ensures executable { IfOk result (λ p. is_complete p.development ≡ true → IsB0Development p.development) }
 {
     let lines = read_lines(alloc, name, shelf)?;
     let components = names(alloc, &lines, false)?;
@@ -115,13 +115,14 @@ fn read_components(
     components: &[&str],
     texts: &[Vec<u8>],
 ) -> Result<Development, Stop>
-    requires two { length texts.now ≡ 2 }
-    ensures cause { IfErr result (λ stop. (refusal : Refusal) × IsRefusal (map (λ text. text.items) texts.now) refusal ×
+    requires lines { AreLines lines.now }
+    requires texts { length texts.now ≡ length (component_lines lines.now) }
+    ensures cause { IfErr result (λ stop. (refusal : Refusal) ×
+        IsRefusalOf (kinds_of lines.now) (map (λ text. text.items) texts.now) refusal ×
         (stop ≡ stop_of_refusal refusal name.now (map (λ component. component.now) components.now))) }
     ensures checks { IfErr result IsOfChecks }
-    ensures reads { IfOk result (Reads (map (λ text. text.items) texts.now)) }
-    ensures simple { IfOk result IsSimple }
-    ensures few { IfOk result (λ dev. length dev.heads ≤ 100) }
+    ensures reads { IfOk result (Reads (kinds_of lines.now) (map (λ text. text.items) texts.now)) }
+    ensures executable { IfOk result (λ dev. is_complete dev ≡ true → IsB0Development dev) }
 {
     match project(alloc, lines, texts) {
         Ok(development) => Ok(development),
@@ -130,12 +131,12 @@ fn read_components(
 }
 
 // The scripts of the proof files.
-fn read_scripts(alloc: Global, proofs: &[&str], texts: &[Vec<u8>]) -> Result<Vec<Script>, Stop>
+fn read_scripts(alloc: Global, proofs: &[&str], texts: &[Vec<u8>]) -> Result<Scripts, Stop>
     requires countable { length texts.now < 2 ^ 32 }
     ensures cause { IfErr result (λ stop. (fault : ScriptFault) × IsFaultOf (map (λ text. text.items) texts.now) fault ×
         (stop ≡ stop_of_proofs fault (map (λ proof. proof.now) proofs.now))) }
     ensures checks { IfErr result IsOfChecks }
-    ensures value { IfOk result (λ list. AreScriptsOf (map (λ text. text.items) texts.now) list.items) }
+    ensures value { IfOk result (AreScriptsOf (map (λ text. text.items) texts.now)) }
 {
     match scripts(alloc, texts) {
         Ok(scripts) => Ok(scripts),
@@ -151,7 +152,7 @@ fn read_lines<H: Shelf>(alloc: Global, name: &str, shelf: &mut H) -> Result<Vec<
     ensures failed { HasCause ReadFault (H.faults shelf.old) (H.faults shelf.new) result }
     ensures missing { CountsAbsence (H.absences shelf.old) (H.absences shelf.new) result }
     ensures files { H.files shelf.new ≡ H.files shelf.old }
-    ensures told { IfOk result (λ lines. (text : List ℕ) × AreProjectLines text lines.items ×
+    ensures told { IfOk result (λ lines. (text : List ℕ) × AreLinesOf text lines.items ×
         ((files : Files) → H.files shelf.old ≡ Some files → IsTold files name.now text)) }
     ensures few { IfOk result (λ lines. length lines.items ≤ 16777216) }
 {
@@ -218,9 +219,13 @@ fn refused(
         stop ≡ stop_of_refusal refusal project.now (map (λ name. name.now) components.now)) }
 {
     match refusal {
-        Refusal::Fault { number, file, .. } => {
+        Refusal::Fault {
+            number,
+            file,
+            place,
+        } => {
             let name = name_of(file, project, components);
-            Ok(Stop::Refused(number, owned(alloc, name)?))
+            Ok(Stop::Refused(number, place, owned(alloc, name)?))
         }
         Refusal::Limit { number, file } => {
             let name = name_of(file, project, components);
@@ -257,11 +262,17 @@ fn faulty(alloc: Global, fault: ScriptFault, proofs: &[&str]) -> Result<Stop, St
     ensures told { IfOk result (λ stop. stop ≡ stop_of_proofs fault (map (λ name. name.now) proofs.now)) }
 {
     match fault {
-        ScriptFault::Fault { number, file, .. } => {
-            Ok(Stop::Refused(number, owned(alloc, name_at(proofs, file))?))
+        ScriptFault::Fault {
+            number,
+            file,
+            place,
+        } => {
+            let proof = name_at(proofs, file);
+            Ok(Stop::Refused(number, place, owned(alloc, proof)?))
         }
         ScriptFault::Limit { number, file } => {
-            Ok(Stop::Limit(number, owned(alloc, name_at(proofs, file))?))
+            let proof = name_at(proofs, file);
+            Ok(Stop::Limit(number, owned(alloc, proof)?))
         }
         ScriptFault::Memory => Ok(Stop::Memory),
     }

@@ -2,7 +2,6 @@
 
 ghost use Rattle.std.specs.Prelude.{◌≡◌, ◌⊎◌, ◌<◌, true, length, map, IfOk, IfErr, OnOk};
 ghost use Rattle.bk_dev.specs.Development.{Development, level_at, last, is_complete};
-ghost use Rattle.bk_b0.specs.Simple.{IsSimple};
 ghost use Rattle.bk_po.specs.Obligations.{obligations, numbered_obligations};
 ghost use Rattle.bk_po.specs.Shown.{named_sequent};
 ghost use Rattle.bk_po.specs.Limits.{PassNoLimit, IsFaultOf};
@@ -24,19 +23,18 @@ const LIMIT_OF_OBLIGATION: u8 = 6;
 
 /// Asks that a project's last component is an implementation, and that each obligation is obvious or proved by its script.
 pub(crate) fn check_proved(alloc: Global, name: &str, project: &Project) -> Result<(), Stop>
-    requires simple { IsSimple project.now.development }
     ensures cause { IfErr result (λ stop.
-        IsOutside stop ⊎ StopsAtProof name.now project.now.development project.now.scripts.items stop) }
+        IsOutside stop ⊎ StopsAtProof name.now project.now.development project.now.scripts stop) }
     ensures checks { IfErr result IsOfChecks }
-    ensures ok { OnOk result (IsFinished project.now.development project.now.scripts.items) }
+    ensures ok { OnOk result (IsFinished project.now.development project.now.scripts) }
 {
+    project.development.facts();
     check_complete(alloc, &project.development)?;
     check_obligations(alloc, name, project)
 }
 
-/// Asks that the last component of a development is an implementation. So far each that is read has one.
+/// Asks that the last component of a development is an implementation.
 pub(crate) fn check_complete(alloc: Global, dev: &Development) -> Result<(), Stop>
-    requires { IsSimple dev.now }
     ensures cause { IfErr result (λ stop. IsOutside stop ⊎ StopsIncomplete dev.now stop) }
     ensures checks { IfErr result IsOfChecks }
     ensures ok { OnOk result (is_complete dev.now ≡ true) }
@@ -60,9 +58,9 @@ fn last_level(dev: &Development) -> &Level
 // Makes the obligations of a project's development, and asks that each is obvious or proved by its script.
 fn check_obligations(alloc: Global, name: &str, project: &Project) -> Result<(), Stop>
     ensures cause { IfErr result (λ stop.
-        IsOutside stop ⊎ StopsAtObligations name.now project.now.development project.now.scripts.items stop) }
+        IsOutside stop ⊎ StopsAtObligations name.now project.now.development project.now.scripts stop) }
     ensures checks { IfErr result IsOfChecks }
-    ensures ok { OnOk result (IsProved project.now.development project.now.scripts.items) }
+    ensures ok { OnOk result (IsProved project.now.development project.now.scripts) }
 {
     let table = table_of(alloc, name, project)?;
     match table.first_open() {
@@ -76,7 +74,7 @@ pub(crate) fn table_of(alloc: Global, name: &str, project: &Project) -> Result<T
     ensures cause { IfErr result (λ stop. IsOutside stop ⊎ StopsPastLimits name.now project.now.development stop) }
     ensures checks { IfErr result IsOfChecks }
     ensures rows { IfOk result (λ table.
-        HasRows project.now.development project.now.scripts.items table.rows.items) }
+        HasRows project.now.development project.now.scripts table.rows.items) }
     ensures within { OnOk result (PassNoLimit (obligations project.now.development)) }
 {
     match status(alloc, &project.development, &project.scripts) {

@@ -6,7 +6,7 @@ ghost use Rattle.bk_verbs.specs.declared.stop.Stop.TheVariants.{WriteFault};
 ghost use Rattle.bk_io.specs.Pieces.{written_with, WroteFront};
 ghost use Rattle.bk_verbs.specs.Causes.{stop_of_sink};
 ghost use Rattle.bk_image.specs.Faults.{place};
-ghost use Rattle.bk_verbs.specs.Stops.{status_of_stop, fault_name, refusal_text, stop_text, Reports};
+ghost use Rattle.bk_verbs.specs.Stops.{status_of_stop, fault_name, refusal_text, place_text, stop_text, Reports};
 
 use crate::status::Status;
 use bk_image::LoadFault;
@@ -25,8 +25,8 @@ pub enum Stop {
     Usage,
     /// The file with this name is not there.
     Missing(Text),
-    /// The file with this name has this fault.
-    Refused(u8, Text),
+    /// The file with this name has this fault at this place: a byte, or a line of a project file.
+    Refused(u8, usize, Text),
     /// The file, or the obligation, with this name passes this limit.
     Limit(u8, Text),
     /// The obligation with this name is the first that is not proved.
@@ -130,7 +130,7 @@ impl Stop {
         match self {
             Stop::Usage => Status::Usage,
             Stop::Missing(_) => Status::Missing,
-            Stop::Refused(_, _) | Stop::Limit(_, _) => Status::Refused,
+            Stop::Refused(_, _, _) | Stop::Limit(_, _) => Status::Refused,
             Stop::Unproved(_) => Status::Unproved,
             Stop::Incomplete(_) => Status::Incomplete,
             Stop::BadCalls(_) => Status::BadCalls,
@@ -159,9 +159,9 @@ impl Stop {
         match self {
             Stop::Usage => line.extend_from_slice(b"usage: bkit VERB [FILE] [FILE] [--fuel N]\n")?,
             Stop::Missing(name) => write_named(&mut line, b"missing ", name)?,
-            Stop::Refused(fault, name) => {
+            Stop::Refused(fault, at, name) => {
                 write_refusal(&mut line, *fault, name)?;
-                line.extend_from_slice(b"\n")?;
+                write_place(&mut line, *at)?;
             }
             Stop::Limit(limit, name) => {
                 write_refusal(&mut line, FAULT_OF_LIMITS, name)?;
@@ -199,6 +199,16 @@ fn write_refusal(line: &mut Vec<u8>, fault: u8, name: &Text) -> Result<(), Alloc
     line.extend_from_slice(Buffer::new().format(fault).as_bytes())?;
     line.extend_from_slice(b" ")?;
     line.extend_from_slice(name.as_bytes())?;
+    Ok(())
+}
+
+// Where the fault stands, and the end of the line.
+fn write_place(line: &mut Vec<u8>, at: usize) -> Result<(), AllocError>
+    ensures { OnOk result (line.new.items ≡ line.old.items ++ place_text at) }
+{
+    line.extend_from_slice(b" at ")?;
+    line.extend_from_slice(Buffer::new().format(at).as_bytes())?;
+    line.extend_from_slice(b"\n")?;
     Ok(())
 }
 

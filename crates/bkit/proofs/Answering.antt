@@ -4,13 +4,12 @@ use Rattle.bk_io.specs.Files.{Files}
 use Rattle.bk_io.specs.Pieces.{written_with, WroteFront}
 use Rattle.bk_io.specs.Counts.{Rose}
 use Rattle.bk_verbs.specs.declared.status.Status.{Status}
-use Rattle.bk_verbs.specs.declared.status.Status.TheVariants.{Incomplete as IncompleteStatus, Usage as UsageStatus, Missing as MissingStatus, ReadFault as ReadFaultStatus, WriteFault as WriteFaultStatus, Memory as MemoryStatus}
+use Rattle.bk_verbs.specs.declared.status.Status.TheVariants.{Usage as UsageStatus, Missing as MissingStatus, ReadFault as ReadFaultStatus, WriteFault as WriteFaultStatus, Memory as MemoryStatus}
 use Rattle.bk_verbs.specs.declared.stop.Stop.{Stop}
 use Rattle.bk_verbs.specs.declared.stop.Stop.TheVariants.{Usage, Missing, Refused, Limit, Unproved, Incomplete, BadCalls, BadImage, ReadFault, WriteFault, Memory}
-use Rattle.bk_verbs.specs.Causes.{IsOfReading, IsOfPlaying}
+use Rattle.bk_verbs.specs.Causes.{IsOfPlaying}
 use Rattle.bk_words.specs.Tasks.{Task, Asks}
 use Rattle.bk_verbs.specs.Work.{IsExecuted, WritesWork}
-use Rattle.bkit.specs.Run.{ComesSoFar}
 use Rattle.bk_verbs.specs.Stops.{IsOutside, StopsAt, status_of_stop, stop_text, IsCutShort, Reports}
 use Rattle.bkit.specs.Answer.{IsAnswer, IsAnswered, WritesAnswer, WritesLine}
 use Rattle.bk_verbs.proofs.Plays.{written_nothing}
@@ -53,33 +52,6 @@ stop_is_cut_short : (stop : Stop) → IsCutShort (status_of_stop stop) → IsOut
 stop_is_cut_short WriteFault h = tt
 stop_is_cut_short Memory h = tt
 stop_is_cut_short stop h = absurd h
-
-pub reading_so_far : (stop : Stop) → IsOfReading stop → ComesSoFar (status_of_stop stop)
-reading_so_far Usage h = tt
-reading_so_far (Missing name) h = tt
-reading_so_far (Refused fault name) h = tt
-reading_so_far (Limit limit name) h = tt
-reading_so_far (Unproved name) h = tt
-reading_so_far (Incomplete name) h = h
-reading_so_far (BadCalls line) h = tt
-reading_so_far (BadImage fault) h = tt
-reading_so_far ReadFault h = tt
-reading_so_far WriteFault h = tt
-reading_so_far Memory h = tt
-
-pub playing_so_far : (stop : Stop) → IsOfPlaying stop → ComesSoFar (status_of_stop stop)
-playing_so_far WriteFault h = tt
-playing_so_far Memory h = tt
-playing_so_far stop h = absurd h
-
-cut_short_so_far : (status : Status) → IsCutShort status → ComesSoFar status
-cut_short_so_far WriteFaultStatus h = tt
-cut_short_so_far MemoryStatus h = tt
-cut_short_so_far status h = absurd h
-
-pub reports_so_far : (stop : Stop) (status : Status) (before after : Option (List ℕ)) → ComesSoFar (status_of_stop stop) → Reports stop status before after → ComesSoFar status
-reports_so_far stop status before after c (inl r) = subst ComesSoFar (sym r.0) c
-reports_so_far stop status before after c (inr r) = cut_short_so_far status r.0
 
 -- ---- the answer
 only : (files : Files) (words : List (List ℕ)) (status : Status) (text : List ℕ) → IsAnswer files words status text → (other : Status) (others : List ℕ) → IsAnswer files words other others → (other ≡ status) × (others ≡ text)
@@ -177,15 +149,11 @@ executed_is_not_cut_short WriteFaultStatus h s = h
 executed_is_not_cut_short MemoryStatus h s = h
 executed_is_not_cut_short status h s = absurd s
 
-pub executed_so_far : (status : Status) → IsExecuted status → ComesSoFar status
-executed_so_far IncompleteStatus h = absurd h
-executed_so_far status h = tt
-
 -- where the program stops nothing is executed
 stop_is_not_executed : (stop : Stop) → IsExecuted (status_of_stop stop) → ⊥
 stop_is_not_executed Usage h = h
 stop_is_not_executed (Missing name) h = h
-stop_is_not_executed (Refused fault name) h = h
+stop_is_not_executed (Refused fault at name) h = h
 stop_is_not_executed (Limit limit name) h = h
 stop_is_not_executed (Unproved name) h = h
 stop_is_not_executed (Incomplete name) h = h

@@ -66,7 +66,7 @@ module _ (files others : Files) (project calls image bytes : List ℕ) (fuel : �
           by_code (inr l) = inr (k.0, k.1, l.1)
 
       by : StopsRead files (run_task project calls fuel) built.dev built.scripts stop → StopsAtCallScript files calls (translation built.dev) stop
-      by (inl k) = absurd (proof_finished project built.dev built.scripts built.reads.scripts_are.distinct stop k built.given.1.finished)
+      by (inl k) = absurd (proof_finished project built.dev built.scripts stop k built.given.1.finished)
       by (inr k) = at_calls k.1
 
   -- the call script stops the run
@@ -127,7 +127,7 @@ module _ (files others : Files) (project calls image bytes : List ℕ) (fuel : �
 stop_is_not_done : (stop : Stop) → Done ≡ status_of_stop stop → ⊥
 stop_is_not_done Usage e = absurd (cc)
 stop_is_not_done (Missing name) e = absurd (cc)
-stop_is_not_done (Refused fault name) e = absurd (cc)
+stop_is_not_done (Refused fault at name) e = absurd (cc)
 stop_is_not_done (Limit limit name) e = absurd (cc)
 stop_is_not_done (Unproved name) e = absurd (cc)
 stop_is_not_done (Incomplete name) e = absurd (cc)

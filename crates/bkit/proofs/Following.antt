@@ -1,18 +1,21 @@
 -- Where the obligations of a development in B0 are valid, the translation of its implementation follows the machine.
-use Rattle.std.proofs.Common.{ℕ, true, List}
+use Rattle.std.proofs.Common.{◌≡◌, ℕ, Bool, true, List}
 use Rattle.bk_io.specs.Files.{Files}
 use Rattle.bk_form.specs.Search.{Finder, IsSearch}
-use Rattle.bk_dev.specs.Development.{Development}
+use Rattle.bk_dev.specs.B0.{IsB0Development}
+use Rattle.bk_dev.specs.Development.{Development, is_complete}
+use Rattle.bk_dev.specs.Facts.{IsDevelopment}
 use Rattle.bk_b0.specs.Translation.{translation}
-use Rattle.bk_b0.proofs.SimpleInB0.{simple_is_in_b0}
-use Rattle.bk_front.proofs.Readings.{is_development, is_simple}
-use Rattle.bk_scripts.specs.WrittenRule.{Script}
+use Rattle.bk_project.specs.ProjectFile.{kinds_of}
+use Rattle.bk_project.proofs.Developments.{read_are_developments, read_are_executable}
+use Rattle.bk_raw.specs.ScriptTree.{RawScript}
 use Rattle.bk_sim.specs.Follows.{Follows}
-use Rattle.bk_sim.proofs.B0Code.{b0_follows}
+use Rattle.bk_sim.proofs.B0Code.{b0_follows, b0_ends}
 use Rattle.bk_po.proofs.Carrying.{valid_obligations_carry}
-use Rattle.bk_status.proofs.Tables.{proved_obligations_are_valid}
-use Rattle.bk_verbs.specs.Project.{ReadsProject, IsProved}
-use Rattle.bkit.specs.Following.{ValidObligationsFollow, ProvedDevelopmentsFollow}
+use Rattle.bk_status.proofs.Tables.{closed_tables_prove, proved_obligations_are_valid, proved_developments_are_correct}
+use Rattle.bk_level.specs.VerdictLaws.{HasRoom}
+use Rattle.bk_verbs.specs.Project.{ReadsProject, IsFinished}
+use Rattle.bkit.specs.Following.{ValidObligationsFollow, ProvedDevelopmentsFollow, ClosedTablesFollow}
 
 pub valid_obligations_follow : ValidObligationsFollow
 valid_obligations_follow find law dev d b valid =
@@ -22,7 +25,21 @@ valid_obligations_follow find law dev d b valid =
 pub proved_developments_follow : ProvedDevelopmentsFollow
 proved_developments_follow find law dev scripts d b h = valid_obligations_follow find law dev d b (proved_obligations_are_valid dev scripts d h)
 
--- ---- a project whose obligations are proved has code that follows its machine
-pub project_follows : (files : Files) (project : List ℕ) (dev : Development) (scripts : List Script) → ReadsProject true files project dev scripts → IsProved dev scripts → (find : Finder) → IsSearch find → Follows find dev (translation dev)
-project_follows files project dev scripts h proved find law =
-    proved_developments_follow find law dev scripts (is_development h.texts dev h.reads) (simple_is_in_b0 dev (is_simple h.texts dev h.reads)) proved.proved
+pub closed_tables_follow : ClosedTablesFollow
+closed_tables_follow find law dev scripts rows d b are closed =
+    let proved = closed_tables_prove dev scripts rows are closed in
+    let correct = proved_developments_are_correct find law dev scripts d proved in
+    (proved_developments_follow find law dev scripts d b proved, b0_ends find dev d b (correct.values b.complete) correct.keeps correct.carries)
+
+-- ---- what a project is read as is a development, and one in B0 where it ends in an implementation
+module _ (with_proofs : Bool) (files : Files) (project : List ℕ) (dev : Development) (scripts : List RawScript) (h : ReadsProject with_proofs files project dev scripts) (room : HasRoom dev) where
+  pub project_development : IsDevelopment dev
+  project_development = read_are_developments (kinds_of h.components.named) h.components.texts dev h.components.lines.are.chain h.components.reads room
+
+  pub project_in_b0 : is_complete dev ≡ true → IsB0Development dev
+  project_in_b0 complete = read_are_executable (kinds_of h.components.named) h.components.texts dev h.components.lines.are.chain h.components.reads room complete
+
+-- a project whose obligations are proved has code that follows its machine
+pub project_follows : (files : Files) (project : List ℕ) (dev : Development) (scripts : List RawScript) → ReadsProject true files project dev scripts → IsFinished dev scripts → (find : Finder) → IsSearch find → Follows find dev (translation dev)
+project_follows files project dev scripts h finished find law =
+    proved_developments_follow find law dev scripts (project_development true files project dev scripts h finished.room) (project_in_b0 true files project dev scripts h finished.room finished.complete) finished.proved.proved

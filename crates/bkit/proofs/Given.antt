@@ -14,7 +14,6 @@ use Rattle.bk_verbs.specs.Causes.{stop_of_words, IsOfReading, IsOfPlaying, Count
 use Rattle.bk_verbs.specs.Stops.{IsOutside, StopsAt, status_of_stop, stop_text, IsCutShort, Reports}
 use Rattle.bk_verbs.proofs.Plays.{written_nothing}
 use Rattle.bk_verbs.proofs.Fronts.{no_front}
-use Rattle.bkit.specs.Run.{ComesSoFar}
 use Rattle.bkit.proofs.Answering.{front_of_nothing}
 
 -- an error that is handed on is one
@@ -41,10 +40,6 @@ module _ (words : List (List ℕ)) (fault : WordsFault) (nothing : fault ≡ Wor
 pub words_are_wrong : (fault : WordsFault) → (stop_of_words fault ≡ Usage) ⊎ (stop_of_words fault ≡ Memory)
 words_are_wrong WordsRefused = inl refl
 words_are_wrong NoRoomForWords = inr refl
-
-pub words_so_far : (fault : WordsFault) → ComesSoFar (status_of_stop (stop_of_words fault))
-words_so_far WordsRefused = tt
-words_so_far NoRoomForWords = tt
 
 -- words are no cause of a fault of a device
 words_apart : {T : Type 0} (r : Result T Stop) (fault : WordsFault) (cause : Stop) → IsErrAnd r (λ e. e ≡ stop_of_words fault) → r ≡ Err cause → stop_of_words fault ≡ cause

@@ -1,55 +1,62 @@
--- What is executed ends within its code, and legal calls are done.
-use Rattle.std.proofs.Common.{◌≡◌, ℕ, zero, suc, ◌+◌, ◌<◌, ◌≤◌, ℤ, pos, Bool, true, ◌&&◌, int_le, List, [], ◌∷◌, ◌++◌, map, length, All, slice_index_or, Option, Some, None, refl, sym, ◌∙◌, ap, subst, arith}
-use Rattle.std.specs.Prelude.{slice_get, neg_ℤ, ◌≤ℤ◌}
+-- What is executed ends, within its code where it has no loop, and legal calls are done.
+use Rattle.std.proofs.Common.{◌≡◌, ℕ, zero, suc, ◌+◌, ◌<◌, ◌≤◌, ℤ, pos, negsuc, Bool, true, false, ◌&&◌, int_le, List, [], ◌∷◌, ◌++◌, map, length, All, slice_index_or, Option, Some, None, refl, sym, ◌∙◌, ap, subst, arith}
+use Rattle.std.specs.Prelude.{slice_get, neg_ℤ, ◌≤ℤ◌, nat_lt, option_map, position}
 use Rattle.std.specs.List.{AllZip}
+use Rattle.std.specs.Option.{option_map_or}
+use Rattle.std.specs.Str.{bytes_eq}
+use Rattle.std.proofs.lemmas.Bool.{false≢true}
+use Rattle.std.proofs.lemmas.Bool.Decides.{nat_tests}
 use Rattle.std.proofs.lemmas.List.{length-append}
 use Rattle.std.proofs.lemmas.List.Elements.{All-head, All-tail, All-cons, All-nil}
+use Rattle.std.proofs.lemmas.List.Quantifiers.{position-Some}
 use Rattle.std.proofs.lemmas.Int.{ints}
+use Rattle.std.proofs.lemmas.Option.{none-some}
 use Rattle.bk_val.specs.Value.{MathValue}
-use Rattle.bk_val.specs.ValueType.{int_type, is_value_of}
+use Rattle.bk_val.specs.ValueType.{ValueType, int_type, bool_type, enum_type, pair_type, set_type, is_value_of}
 use Rattle.bk_form.specs.Search.{Finder}
-use Rattle.bk_form.specs.Table.{set_size}
+use Rattle.bk_form.specs.Table.{SetEntry, set_size}
 use Rattle.bk_gsl.specs.State.{declared_type, are_values_for}
 use Rattle.bk_code.specs.declared.image.Image.{Image}
 use Rattle.bk_code.specs.declared.image.OpEntry.{OpEntry}
-use Rattle.bk_code.specs.Numbers.{IsWithin}
+use Rattle.bk_code.specs.Numbers.{IsWithin, truth_number}
 use Rattle.bk_code.specs.Step.{Config}
 use Rattle.bk_code.specs.Run.{End, Done, Trapped, OutOfFuel, Ends}
 use Rattle.bk_code.proofs.Runs.{one_end}
 use Rattle.bk_code.specs.Session.{call_start, first_start, outputs_of, given_out, Request, Told, Answers, Continues, Session}
+use Rattle.bk_dev.specs.B0.{IsScalarName, IsB0Development}
 use Rattle.bk_dev.specs.Development.{Head, Body, Development, blank_body, level_at, body_at, inputs_of, last}
-use Rattle.bk_dev.specs.Facts.{is_input, home_of, AllAre, IsHeadOf, IsLawful}
+use Rattle.bk_dev.specs.Facts.{IsLawful}
+use Rattle.bk_dev.specs.Layout.{is_scalar}
 use Rattle.bk_form.specs.Each.{Each}
 use Rattle.bk_dev.specs.Machine.{Abstract, Opens, Call, IsCall, is_in_int, are_in_int, Pre, Steps, After, LegalFrom}
-use Rattle.bk_b0.specs.Simple.{IsSimple}
-use Rattle.bk_b0.specs.Translation.{operation_code, operations_code, init_code, entries, translation}
-use Rattle.bk_b0.proofs.Whole.{type_at_home}
-use Rattle.bk_b0.specs.Kinds.{number_as, as_number}
+use Rattle.bk_b0.specs.Places.{kind_of_type}
+use Rattle.bk_b0.specs.Translation.{parameter_of, operation_code, operations_code, init_code, entries, translation}
+use Rattle.bk_b0.specs.Kinds.{number_as, as_number, is_of_kind}
+use Rattle.bk_b0.proofs.Numbers.{number-back, of-kind-value}
 use Rattle.bk_sim.specs.Shows.{Linked}
-use Rattle.bk_statements.specs.Within.{EndsWithin}
-use Rattle.bk_sim.specs.Within.{EndsInCode}
+use Rattle.bk_statements.specs.Within.{EndsWithin, HasNoLoop}
+use Rattle.bk_sim.specs.Within.{EndsWithoutLoops}
 use Rattle.bk_sim.specs.Follows.{IsEntry, as_values, replies, started, IsGood, IsStep, Follows}
-use Rattle.bk_dev.proofs.Levels.{each-at}
-use Rattle.bk_sim.proofs.SimpleInB0.{simple_ends}
-use Rattle.bk_calls.specs.Script.{AsksFor}
+use Rattle.bk_sim.proofs.B0Code.{b0_ends}
+use Rattle.bk_calls.specs.CallLine.{Argument, Number, Truth, Element}
+use Rattle.bk_calls.specs.Script.{value_of, AreValues, AsksFor}
 use Rattle.bk_status.proofs.Tables.{proved_developments_are_correct}
 use Rattle.bk_lines.specs.Lines.{kept_lines}
-use Rattle.bk_front.proofs.Readings.{is_development, is_simple}
 use Rattle.bk_verbs.specs.declared.status.Status.TheVariants.{Done as DoneStatus, Trapped as TrappedStatus}
 use Rattle.bk_verbs.specs.Session.{status_of, last_end, session_status}
-use Rattle.bkit.specs.Legal.{call_of, done_or, replied, AreLegal}
+use Rattle.bkit.specs.Legal.{call_of, done_or, replied, AreLegal, RunNoLoop, WouldEnd, EachCall, CallWouldEnd, EachWouldEnd, IsDoneWithin, CallEndsInTime, EachEndsInTime}
 use Rattle.bkit.specs.Laws.{ProjectsEnd, LegalCallsAreDone}
 use Rattle.bk_verbs.proofs.Plays.{IsDone}
 use Rattle.bk_verbs.proofs.Projects.{entries_few}
-use Rattle.bkit.proofs.Following.{project_follows}
+use Rattle.bkit.proofs.Following.{project_development, project_in_b0, project_follows}
 
 -- ---- ends
 pub projects_end : ProjectsEnd
-projects_end files project dev scripts h proved find law =
-    let facts = is_development h.texts dev h.reads in
-    let simple = is_simple h.texts dev h.reads in
-    let correct = proved_developments_are_correct find law dev scripts facts proved.proved in
-    simple_ends find dev facts simple (correct.values simple.complete) correct.keeps correct.carries
+projects_end files project dev scripts h finished find law =
+    let facts = project_development true files project dev scripts h finished.room in
+    let b0 = project_in_b0 true files project dev scripts h finished.room finished.complete in
+    let correct = proved_developments_are_correct find law dev scripts facts finished.proved.proved in
+    b0_ends find dev facts b0 (correct.values finished.complete) correct.keeps correct.carries
 
 some_entry : (ops : List OpEntry) (o : ℕ) (entry : OpEntry) → slice_get ops o ≡ Some entry → o < length ops
 some_entry [] o entry e = absurd (cc)
@@ -92,20 +99,23 @@ operation_within dev o entry there =
     (part_within dev (level_at dev (last dev)).bodies o inside)
     (back_within (init_code dev) (operations_code dev (level_at dev (last dev)).bodies))
 
--- ---- arguments of operations whose inputs are whole numbers
-abbrev AreWhole : Development → List ℕ → Type 0
-AreWhole dev xs = Each (λ x. declared_type dev.table x ≡ int_type) xs
+-- ---- arguments
+-- numbers that stand for values of these variables' types, one each
+abbrev AreOfKinds : Development → List ℕ → List ℤ → Type 0
+AreOfKinds dev [] [] = Unit {0}
+AreOfKinds dev (x ∷ xs) (z ∷ zs) = (is_of_kind dev (declared_type dev.table x) z ≡ true) × AreOfKinds dev xs zs
+AreOfKinds dev _ _ = ⊥
 
-inputs_whole : (dev : Development) → IsLawful dev → IsSimple dev → (xs : List ℕ) → AllAre (λ n. is_input (home_of dev n)) xs → AreWhole dev xs
-inputs_whole dev f s [] h = tt
-inputs_whole dev f s (x ∷ xs) h = (type_at_home dev f s is_input x refl h.0, inputs_whole dev f s xs h.1)
+-- the arguments of a request are such for the inputs of its operation
+abbrev Fits : Development → Request → Type 0
+Fits dev r = AreOfKinds dev (inputs_of dev r.op) r.args
 
-numbers_back : (dev : Development) (xs : List ℕ) (zs : List ℤ) → length zs ≡ length xs → AreWhole dev xs → map as_number (as_values dev xs zs) ≡ zs
-numbers_back dev [] [] e h = refl
-numbers_back dev [] (z ∷ zs) e h = absurd (omega (arith, e))
-numbers_back dev (x ∷ xs) [] e h = absurd (omega (arith, e))
-numbers_back dev (x ∷ xs) (z ∷ zs) e h =
-    ap (λ t. as_number (number_as t z) ∷ map as_number (as_values dev xs zs)) h.0 ∙ ap (λ ys. z ∷ ys) (numbers_back dev xs zs (omega (arith, e)) h.1)
+numbers_back : (dev : Development) (xs : List ℕ) (zs : List ℤ) → AreOfKinds dev xs zs → map as_number (as_values dev xs zs) ≡ zs
+numbers_back dev [] [] h = refl
+numbers_back dev [] (z ∷ zs) h = absurd h
+numbers_back dev (x ∷ xs) [] h = absurd h
+numbers_back dev (x ∷ xs) (z ∷ zs) h =
+    ap (λ y. y ∷ map as_number (as_values dev xs zs)) (number-back dev (declared_type dev.table x) z h.0) ∙ ap (λ ys. z ∷ ys) (numbers_back dev xs zs h.1)
 
 int_le-if : (x y : ℤ) → x ≤ℤ y → int_le x y ≡ true
 int_le-if x y h = grind (arith, ints)
@@ -113,49 +123,123 @@ int_le-if x y h = grind (arith, ints)
 and_both : (a b : Bool) → a ≡ true → b ≡ true → a && b ≡ true
 and_both a b h k = ap (λ x. x && b) h ∙ k
 
-types_right : (dev : Development) (xs : List ℕ) (zs : List ℤ) → length zs ≡ length xs → AreWhole dev xs → are_values_for dev.table xs (as_values dev xs zs) ≡ true
-types_right dev [] [] e h = refl
-types_right dev [] (z ∷ zs) e h = absurd (omega (arith, e))
-types_right dev (x ∷ xs) [] e h = absurd (omega (arith, e))
-types_right dev (x ∷ xs) (z ∷ zs) e h =
+types_right : (dev : Development) (xs : List ℕ) (zs : List ℤ) → AreOfKinds dev xs zs → are_values_for dev.table xs (as_values dev xs zs) ≡ true
+types_right dev [] [] h = refl
+types_right dev [] (z ∷ zs) h = absurd h
+types_right dev (x ∷ xs) [] h = absurd h
+types_right dev (x ∷ xs) (z ∷ zs) h =
     and_both (is_value_of (set_size dev.table) (declared_type dev.table x) (number_as (declared_type dev.table x) z)) (are_values_for dev.table xs (as_values dev xs zs))
-    (ap (λ t. is_value_of (set_size dev.table) t (number_as t z)) h.0) (types_right dev xs zs (omega (arith, e)) h.1)
+    (of-kind-value dev (declared_type dev.table x) z h.0) (types_right dev xs zs h.1)
 
-range_right : (dev : Development) (xs : List ℕ) (zs : List ℤ) → length zs ≡ length xs → AreWhole dev xs → All (IsWithin (pos 2147483647)) zs → are_in_int dev (as_values dev xs zs) ≡ true
-range_right dev [] [] e h a = refl
-range_right dev [] (z ∷ zs) e h a = absurd (omega (arith, e))
-range_right dev (x ∷ xs) [] e h a = absurd (omega (arith, e))
-range_right dev (x ∷ xs) (z ∷ zs) e h a =
-    let here = All-head (IsWithin (pos 2147483647)) z zs a in
-    and_both (is_in_int dev (number_as (declared_type dev.table x) z)) (are_in_int dev (as_values dev xs zs))
-    (ap (λ t. is_in_int dev (number_as t z)) h.0 ∙ and_both (int_le (neg_ℤ (pos 2147483647)) z) (int_le z (pos 2147483647)) (int_le-if (neg_ℤ (pos 2147483647)) z here.0) (int_le-if z (pos 2147483647) here.1))
-    (range_right dev xs zs (omega (arith, e)) h.1 (All-tail (IsWithin (pos 2147483647)) z zs a))
+in_range : (dev : Development) (t : ValueType) (z : ℤ) → is_of_kind dev t z ≡ true → is_in_int dev (number_as t z) ≡ true
+in_range dev int_type z h = h
+in_range dev bool_type z h = refl
+in_range dev (enum_type s) (pos i) h = refl
+in_range dev (enum_type s) (negsuc i) h = refl
+in_range dev (pair_type t u) z h = absurd (false≢true h)
+in_range dev (set_type t) z h = absurd (false≢true h)
 
--- ---- the calls of a session
-same_entry : (image : Image) (o : ℕ) (one other : OpEntry) → IsEntry image o one → IsEntry image o other → one ≡ other
-same_entry image o one other h k = ap (value one) (sym h ∙ k)
+range_right : (dev : Development) (xs : List ℕ) (zs : List ℤ) → AreOfKinds dev xs zs → are_in_int dev (as_values dev xs zs) ≡ true
+range_right dev [] [] h = refl
+range_right dev [] (z ∷ zs) h = absurd h
+range_right dev (x ∷ xs) [] h = absurd h
+range_right dev (x ∷ xs) (z ∷ zs) h =
+    and_both (is_in_int dev (number_as (declared_type dev.table x) z)) (are_in_int dev (as_values dev xs zs)) (in_range dev (declared_type dev.table x) z h.0) (range_right dev xs zs h.1)
+
+-- ---- what a call script asks for
+-- the elements of a set of the image are those of the table's
+same_size : (xs : List SetEntry) (s : ℕ) → length (slice_index_or (map (λ (x : SetEntry). x.elements) xs) s []) ≡ option_map_or length (option_map (λ (x : SetEntry). x.elements) (slice_get xs s)) 0
+same_size [] s = refl
+same_size (x ∷ xs) zero = refl
+same_size (x ∷ xs) (suc s) = same_size xs s
+
+some_number : (n z : ℤ) → Some n ≡ Some z → n ≡ z
+some_number n z e = cc
+
+nat_lt-if : (i n : ℕ) → i < n → nat_lt i n ≡ true
+nat_lt-if i n h = grind (arith, nat_tests)
+
+truth_kind : (dev : Development) (b : Bool) → is_of_kind dev bool_type (truth_number b) ≡ true
+truth_kind dev true = refl
+truth_kind dev false = refl
+
+module _ (dev : Development) (f : IsLawful dev) where
+  element_kind : (s i : ℕ) (name : List ℕ) → position (λ other. bytes_eq other name) (slice_index_or (translation dev).sets s []) ≡ Some i → is_of_kind dev (enum_type s) (pos i) ≡ true
+  element_kind s i name e =
+      let elements = slice_index_or (translation dev).sets s [] in
+      let inside : i < length elements = (position-Some (λ other. bytes_eq other name) elements i [] e).0 in
+      let size : length elements ≡ set_size dev.table s = same_size dev.sets s ∙ ap (λ (sets : List SetEntry). option_map_or length (option_map (λ (x : SetEntry). x.elements) (slice_get sets s)) 0) f.sets in
+      nat_lt-if i (set_size dev.table s) (omega (arith, inside, size))
+
+  set_kind : (s : ℕ) (name : List ℕ) (z : ℤ) (o : Option ℕ) → position (λ other. bytes_eq other name) (slice_index_or (translation dev).sets s []) ≡ o → option_map pos o ≡ Some z → is_of_kind dev (enum_type s) z ≡ true
+  set_kind s name z None at e = absurd (none-some z e)
+  set_kind s name z (Some i) at e = subst (λ n. is_of_kind dev (enum_type s) n ≡ true) (some_number (pos i) z e) (element_kind s i name at)
+
+  -- an argument of the kind of a scalar input
+  argument_kind : (t : ValueType) (argument : Argument) (z : ℤ) → is_scalar t ≡ true → value_of (translation dev) (kind_of_type t) argument ≡ Some z → IsWithin (pos 2147483647) z → is_of_kind dev t z ≡ true
+  argument_kind int_type (Number n) z h e w = and_both (int_le (neg_ℤ (pos 2147483647)) z) (int_le z (pos 2147483647)) (int_le-if (neg_ℤ (pos 2147483647)) z w.0) (int_le-if z (pos 2147483647) w.1)
+  argument_kind int_type (Truth b) z h e w = absurd (none-some z e)
+  argument_kind int_type (Element name) z h e w = absurd (none-some z e)
+  argument_kind bool_type (Number n) z h e w = absurd (none-some z e)
+  argument_kind bool_type (Truth b) z h e w = subst (λ n. is_of_kind dev bool_type n ≡ true) (some_number (truth_number b) z e) (truth_kind dev b)
+  argument_kind bool_type (Element name) z h e w = absurd (none-some z e)
+  argument_kind (enum_type s) (Number n) z h e w = absurd (none-some z e)
+  argument_kind (enum_type s) (Truth b) z h e w = absurd (none-some z e)
+  argument_kind (enum_type s) (Element name) z h e w = set_kind s name z (position (λ other. bytes_eq other name) (slice_index_or (translation dev).sets s [])) refl e
+  argument_kind (pair_type t u) argument z h e w = absurd (false≢true h)
+  argument_kind (set_type t) argument z h e w = absurd (false≢true h)
+
+  arguments_fit : (xs : List ℕ) (arguments : List Argument) (zs : List ℤ) → Each (IsScalarName dev) xs → AreValues (translation dev) (map (parameter_of dev) xs) arguments zs → All (IsWithin (pos 2147483647)) zs → AreOfKinds dev xs zs
+  arguments_fit [] [] [] s v w = tt
+  arguments_fit [] [] (z ∷ zs) s v w = absurd v
+  arguments_fit [] (a ∷ arguments) zs s v w = absurd v
+  arguments_fit (x ∷ xs) [] zs s v w = absurd v
+  arguments_fit (x ∷ xs) (a ∷ arguments) [] s v w = absurd v
+  arguments_fit (x ∷ xs) (a ∷ arguments) (z ∷ zs) s v w =
+      (argument_kind (declared_type dev.table x) a z s.0.1 v.0 (All-head (IsWithin (pos 2147483647)) z zs w), arguments_fit xs arguments zs s.1 v.1 (All-tail (IsWithin (pos 2147483647)) z zs w))
+
+-- the inputs of an operation's entry are those of its header
+no_head : Head
+no_head = record { name = []; inputs = []; outputs = 0 }
+
+same_entry_of : (one other : OpEntry) → Some one ≡ Some other → one ≡ other
+same_entry_of one other e = ap (value one) e
   where
     value : OpEntry → Option OpEntry → OpEntry
     value d None = d
     value d (Some x) = x
 
-module _ (find : Finder) (dev : Development) (f : IsLawful dev) (s : IsSimple dev) (follows : Follows find dev (translation dev)) where
-  no_head : Head
-  no_head = record { name = []; inputs = []; outputs = 0 }
+entry_inputs : (dev : Development) (place : ℕ) (hs : List Head) (bs : List Body) (o : ℕ) (entry : OpEntry) → slice_get (entries dev place hs bs) o ≡ Some entry → entry.inputs ≡ map (parameter_of dev) (slice_index_or hs o no_head).inputs
+entry_inputs dev place [] bs o entry e = absurd (cc)
+entry_inputs dev place (h ∷ hs) [] o entry e = absurd (cc)
+entry_inputs dev place (h ∷ hs) (b ∷ bs) zero entry e =
+    sym (ap (λ (x : OpEntry). x.inputs) (same_entry_of (record { name = h.name; start = place; inputs = map (parameter_of dev) h.inputs; outputs = map (parameter_of dev) b.outputs }) entry e))
+entry_inputs dev place (h ∷ hs) (b ∷ bs) (suc o) entry e = entry_inputs dev (place + length (operation_code dev b)) hs bs o entry e
 
-  -- a request with arguments within the range is a call
-  is_call : (r : Request) (entry : OpEntry) → IsEntry (translation dev) r.op entry → length r.args ≡ length entry.inputs → All (IsWithin (pos 2147483647)) r.args →
-      IsCall dev (call_of dev r) × (map as_number (call_of dev r).args ≡ r.args)
-  unfolding no_head
-  is_call r entry there counted within =
-      let below : r.op < length dev.heads = omega (arith, some_entry (translation dev).ops r.op entry there, entries_few dev) in
-      let known = follows.operations r.op below in
-      let many : length entry.inputs ≡ length (inputs_of dev r.op) = ap (λ x. length x.inputs) (same_entry (translation dev) r.op entry known.0 there known.1) ∙ known.2 in
-      let head : IsHeadOf dev (slice_index_or dev.heads r.op no_head) = each-at (IsHeadOf dev) dev.heads r.op no_head below f.heads in
-      let whole : AreWhole dev (inputs_of dev r.op) = inputs_whole dev f s (inputs_of dev r.op) head.inputs in
-      let as_many : length r.args ≡ length (inputs_of dev r.op) = counted ∙ many in (
-        record { op = below; types = types_right dev (inputs_of dev r.op) r.args as_many whole; range = range_right dev (inputs_of dev r.op) r.args as_many whole within },
-        numbers_back dev (inputs_of dev r.op) r.args as_many whole,
+request_fits : (dev : Development) → IsLawful dev → IsB0Development dev → (line : List ℕ) (r : Request) → AsksFor (translation dev) line r → Fits dev r
+unfolding no_head
+request_fits dev f b line r h =
+    let below : r.op < length dev.heads = omega (arith, some_entry (translation dev).ops r.op h.entry h.meant.stands, entries_few dev) in
+    let inputs = entry_inputs dev (length (init_code dev)) dev.heads (level_at dev (last dev)).bodies r.op h.entry h.meant.stands in
+    arguments_fit dev f (inputs_of dev r.op) h.arguments r.args (b.inputs r.op below) (subst (λ ps. AreValues (translation dev) ps h.arguments r.args) inputs h.values) h.range
+
+requests_fit : (dev : Development) → IsLawful dev → IsB0Development dev → (lines : List (List ℕ)) (rs : List Request) → AllZip (AsksFor (translation dev)) lines rs → All (Fits dev) rs
+requests_fit dev f b [] [] h = All-nil (Fits dev)
+requests_fit dev f b [] (r ∷ rs) h = elim h [ ]
+requests_fit dev f b (l ∷ ls) [] h = elim h [ ]
+requests_fit dev f b (l ∷ ls) (r ∷ rs) h = All-cons (Fits dev) r rs (request_fits dev f b l r h.0) (requests_fit dev f b ls rs h.1)
+
+-- ---- the calls of a session
+same_entry : (image : Image) (o : ℕ) (one other : OpEntry) → IsEntry image o one → IsEntry image o other → one ≡ other
+same_entry image o one other h k = same_entry_of one other (sym h ∙ k)
+
+module _ (find : Finder) (dev : Development) (follows : Follows find dev (translation dev)) where
+  -- a request with fitting arguments is a call
+  is_call : (r : Request) (entry : OpEntry) → IsEntry (translation dev) r.op entry → Fits dev r → IsCall dev (call_of dev r) × (map as_number (call_of dev r).args ≡ r.args)
+  is_call r entry there fit =
+      let below : r.op < length dev.heads = omega (arith, some_entry (translation dev).ops r.op entry there, entries_few dev) in (
+        record { op = below; types = types_right dev (inputs_of dev r.op) r.args fit; range = range_right dev (inputs_of dev r.op) r.args fit },
+        numbers_back dev (inputs_of dev r.op) r.args fit,
       )
 
   -- the first of the calls is legal
@@ -166,7 +250,11 @@ module _ (find : Finder) (dev : Development) (f : IsLawful dev) (s : IsSimple de
     legal_now OutOfFuel legal = legal
 
 -- ---- where the fuel is enough
-module _ (fuel : ℕ) (find : Finder) (dev : Development) (f : IsLawful dev) (s : IsSimple dev) (follows : Follows find dev (translation dev)) (in_code : EndsInCode find dev (translation dev)) (short : length (translation dev).code ≤ fuel) where
+-- no WHILE stands in the operation that is asked for
+abbrev NoLoop : Development → Request → Type 0
+NoLoop dev r = HasNoLoop (body_at dev (last dev) r.op).sub
+
+module _ (fuel : ℕ) (find : Finder) (dev : Development) (follows : Follows find dev (translation dev)) (in_code : EndsWithoutLoops find dev (translation dev)) (short : length (translation dev).code ≤ fuel) where
   -- what ends within its code is done with the fuel of a call
   done_within : (size : ℕ) (start d : Config) (e : End) → EndsWithin (translation dev) size start → size ≤ length (translation dev).code → Ends (translation dev) fuel start e d → IsDone e
   done_within size start d e w inside h =
@@ -185,40 +273,40 @@ module _ (fuel : ℕ) (find : Finder) (dev : Development) (f : IsLawful dev) (s 
     by_end OutOfFuel entry a start d outputs cells rs ts done good given legal goes rest = absurd done
 
   -- from linked cells, where each call is legal, all calls are done
-  all_done : (rs : List Request) (ts : List Told) (before : Abstract → Type 0) (a : Abstract) (m : List ℤ) (n : ℕ) → before a → Linked find dev a m → All (λ r. All (IsWithin (pos 2147483647)) r.args) rs →
+  all_done : (rs : List Request) (ts : List Told) (before : Abstract → Type 0) (a : Abstract) (m : List ℤ) (n : ℕ) → before a → Linked find dev a m → All (Fits dev) rs → All (NoLoop dev) rs →
       LegalFrom find dev before (map (call_of dev) rs) (replied dev rs ts) → Continues (translation dev) fuel (Done n) m rs ts → IsDone (last_end (Done n) ts)
-  all_done [] [] before a m n h linked within legal goes = tt
-  all_done [] (t ∷ ts) before a m n h linked within legal goes = absurd goes
-  all_done (r ∷ rs) [] before a m n h linked within legal goes = absurd goes
-  all_done (r ∷ rs) (t ∷ ts) before a m n h linked within legal goes =
+  all_done [] [] before a m n h linked fit none legal goes = tt
+  all_done [] (t ∷ ts) before a m n h linked fit none legal goes = absurd goes
+  all_done (r ∷ rs) [] before a m n h linked fit none legal goes = absurd goes
+  all_done (r ∷ rs) (t ∷ ts) before a m n h linked fit none legal goes =
       let c : Call = call_of dev r in
       let us : List MathValue = as_values dev (body_at dev 0 r.op).outputs t.outputs in
       let answers : Answers (translation dev) fuel r m t = goes.0 in
       let entry : OpEntry = answers.entry in
       let d : Config = answers.call.last in
-      let call = is_call find dev f s follows r entry answers.named answers.counted (All-head (λ x. All (IsWithin (pos 2147483647)) x.args) r rs within) in
-      let pre : Pre find dev c a = legal_now find dev f s follows before c (map (call_of dev) rs) us (replied dev rs ts) t.end legal a h in
+      let call = is_call find dev follows r entry answers.named (All-head (Fits dev) r rs fit) in
+      let pre : Pre find dev c a = legal_now find dev follows before c (map (call_of dev) rs) us (replied dev rs ts) t.end legal a h in
       let end : Ends (translation dev) fuel (started entry c m) t.end d = subst (λ zs. Ends (translation dev) fuel (call_start entry zs m) t.end d) (sym call.1) answers.call.ends in
-      let done = done_within (length (operation_code dev (body_at dev (last dev) r.op))) (started entry c m) d t.end (in_code.local a m c entry linked call.0 pre answers.named) (operation_within dev r.op entry answers.named) end in
+      let done = done_within (length (operation_code dev (body_at dev (last dev) r.op))) (started entry c m) d t.end (in_code.local a m c entry (All-head (NoLoop dev) r rs none) linked call.0 pre answers.named) (operation_within dev r.op entry answers.named) end in
       let good = (follows.local a m c entry linked call.0 pre answers.named).1 fuel t.end d end in
       by_end before c (map (call_of dev) rs) us (replied dev rs ts) t.end entry a (started entry c m) d t.outputs t.cells rs ts done good answers.call.given legal goes.1
       (λ k step given rest on.
       let same : replies dev r.op entry.outputs d.cells ≡ us = ap (as_values dev (body_at dev 0 r.op).outputs) (sym given) in
       let after : After find dev before c us step.0 = (a, h, subst (λ vs. Steps find dev c a vs step.0) same step.1) in
       let linked_there : Linked find dev step.0 t.cells = subst (λ zs. Linked find dev step.0 zs) (sym answers.call.cells) step.2 in
-      all_done rs ts (After find dev before c us) step.0 t.cells k after linked_there (All-tail (λ x. All (IsWithin (pos 2147483647)) x.args) r rs within) rest on)
+      all_done rs ts (After find dev before c us) step.0 t.cells k after linked_there (All-tail (Fits dev) r rs fit) (All-tail (NoLoop dev) r rs none) rest on)
 
   opening_done : (e : End) (d : Config) (cells : List ℤ) (rs : List Request) (ts : List Told) → IsDone e → IsGood (translation dev) fuel (first_start (translation dev)) (λ m. (a : Abstract) × Opens find dev a × Linked find dev a m) e d →
-      cells ≡ d.cells → All (λ r. All (IsWithin (pos 2147483647)) r.args) rs → LegalFrom find dev (Opens find dev) (map (call_of dev) rs) (replied dev rs ts) → Continues (translation dev) fuel e cells rs ts → IsDone (last_end e ts)
-  opening_done (Done n) d cells rs ts done good same within legal goes = all_done rs ts (Opens find dev) good.0 cells n good.1 (subst (λ zs. Linked find dev good.0 zs) (sym same) good.2) within legal goes
-  opening_done (Trapped kind place n) d cells rs ts done good same within legal goes = absurd done
-  opening_done OutOfFuel d cells rs ts done good same within legal goes = absurd done
+      cells ≡ d.cells → All (Fits dev) rs → All (NoLoop dev) rs → LegalFrom find dev (Opens find dev) (map (call_of dev) rs) (replied dev rs ts) → Continues (translation dev) fuel e cells rs ts → IsDone (last_end e ts)
+  opening_done (Done n) d cells rs ts done good same fit none legal goes = all_done rs ts (Opens find dev) good.0 cells n good.1 (subst (λ zs. Linked find dev good.0 zs) (sym same) good.2) fit none legal goes
+  opening_done (Trapped kind place n) d cells rs ts done good same fit none legal goes = absurd done
+  opening_done OutOfFuel d cells rs ts done good same fit none legal goes = absurd done
 
-  session_done : (rs : List Request) (tolds : List Told) → All (λ r. All (IsWithin (pos 2147483647)) r.args) rs → AreLegal find dev rs tolds → Session (translation dev) fuel rs tolds → session_status tolds ≡ DoneStatus
-  session_done rs [] within legal session = absurd session
-  session_done rs (t ∷ ts) within legal session =
-      let first = done_within (length (init_code dev)) (first_start (translation dev)) session.0.last t.end in_code.opening (init_within dev) session.0.ends in
-      status_done (last_end t.end ts) (opening_done t.end session.0.last t.cells rs ts first (follows.opening fuel t.end session.0.last session.0.ends) session.0.cells within legal session.1)
+  session_done : (rs : List Request) (tolds : List Told) → All (Fits dev) rs → RunNoLoop dev rs → AreLegal find dev rs tolds → Session (translation dev) fuel rs tolds → session_status tolds ≡ DoneStatus
+  session_done rs [] fit none legal session = absurd session
+  session_done rs (t ∷ ts) fit none legal session =
+      let first = done_within (length (init_code dev)) (first_start (translation dev)) session.0.last t.end (in_code.opening none.init) (init_within dev) session.0.ends in
+      status_done (last_end t.end ts) (opening_done t.end session.0.last t.cells rs ts first (follows.opening fuel t.end session.0.last session.0.ends) session.0.cells fit none.calls legal session.1)
     where
       status_done : (e : End) → IsDone e → status_of e ≡ DoneStatus
       status_done (Done n) h = refl
@@ -241,7 +329,7 @@ ends_there : (image : Image) (fuel : ℕ) (cells : List ℤ) (rs : List Request)
 ends_there image fuel cells rs [] goes = tt
 ends_there image fuel cells rs (t ∷ ts) goes = absurd goes
 
-module _ (fuel : ℕ) (find : Finder) (dev : Development) (f : IsLawful dev) (s : IsSimple dev) (follows : Follows find dev (translation dev)) where
+module _ (fuel : ℕ) (find : Finder) (dev : Development) (follows : Follows find dev (translation dev)) where
   module _ (before : Abstract → Type 0) (c : Call) (cs : List Call) (us : List MathValue) (more : List (List MathValue)) where
     by_good : (e : End) (entry : OpEntry) (a : Abstract) (start d : Config) (outputs : List ℤ) (cells : List ℤ) (rs : List Request) (ts : List Told) →
         IsGood (translation dev) fuel start (IsStep find dev c entry a) e d → outputs ≡ given_out entry.outputs e d.cells → LegalFrom find dev before (c ∷ cs) (done_or e (us ∷ more) []) →
@@ -253,19 +341,19 @@ module _ (fuel : ℕ) (find : Finder) (dev : Development) (f : IsLawful dev) (s 
     by_good OutOfFuel entry a start d outputs cells rs ts good given legal goes rest = ends_there (translation dev) fuel cells rs ts goes
 
   -- from linked cells, where each call is legal, no call traps
-  none_traps : (rs : List Request) (ts : List Told) (before : Abstract → Type 0) (a : Abstract) (m : List ℤ) (n : ℕ) → before a → Linked find dev a m → All (λ r. All (IsWithin (pos 2147483647)) r.args) rs →
+  none_traps : (rs : List Request) (ts : List Told) (before : Abstract → Type 0) (a : Abstract) (m : List ℤ) (n : ℕ) → before a → Linked find dev a m → All (Fits dev) rs →
       LegalFrom find dev before (map (call_of dev) rs) (replied dev rs ts) → Continues (translation dev) fuel (Done n) m rs ts → IsUntrapped (last_end (Done n) ts)
-  none_traps [] [] before a m n h linked within legal goes = tt
-  none_traps [] (t ∷ ts) before a m n h linked within legal goes = absurd goes
-  none_traps (r ∷ rs) [] before a m n h linked within legal goes = absurd goes
-  none_traps (r ∷ rs) (t ∷ ts) before a m n h linked within legal goes =
+  none_traps [] [] before a m n h linked fit legal goes = tt
+  none_traps [] (t ∷ ts) before a m n h linked fit legal goes = absurd goes
+  none_traps (r ∷ rs) [] before a m n h linked fit legal goes = absurd goes
+  none_traps (r ∷ rs) (t ∷ ts) before a m n h linked fit legal goes =
       let c : Call = call_of dev r in
       let us : List MathValue = as_values dev (body_at dev 0 r.op).outputs t.outputs in
       let answers : Answers (translation dev) fuel r m t = goes.0 in
       let entry : OpEntry = answers.entry in
       let d : Config = answers.call.last in
-      let call = is_call find dev f s follows r entry answers.named answers.counted (All-head (λ x. All (IsWithin (pos 2147483647)) x.args) r rs within) in
-      let pre : Pre find dev c a = legal_now find dev f s follows before c (map (call_of dev) rs) us (replied dev rs ts) t.end legal a h in
+      let call = is_call find dev follows r entry answers.named (All-head (Fits dev) r rs fit) in
+      let pre : Pre find dev c a = legal_now find dev follows before c (map (call_of dev) rs) us (replied dev rs ts) t.end legal a h in
       let end : Ends (translation dev) fuel (started entry c m) t.end d = subst (λ zs. Ends (translation dev) fuel (call_start entry zs m) t.end d) (sym call.1) answers.call.ends in
       let good = (follows.local a m c entry linked call.0 pre answers.named).1 fuel t.end d end in
       by_good before c (map (call_of dev) rs) us (replied dev rs ts) t.end entry a (started entry c m) d t.outputs t.cells rs ts good answers.call.given legal goes.1
@@ -273,35 +361,128 @@ module _ (fuel : ℕ) (find : Finder) (dev : Development) (f : IsLawful dev) (s 
       let same : replies dev r.op entry.outputs d.cells ≡ us = ap (as_values dev (body_at dev 0 r.op).outputs) (sym given) in
       let after : After find dev before c us step.0 = (a, h, subst (λ vs. Steps find dev c a vs step.0) same step.1) in
       let linked_there : Linked find dev step.0 t.cells = subst (λ zs. Linked find dev step.0 zs) (sym answers.call.cells) step.2 in
-      none_traps rs ts (After find dev before c us) step.0 t.cells k after linked_there (All-tail (λ x. All (IsWithin (pos 2147483647)) x.args) r rs within) rest on)
+      none_traps rs ts (After find dev before c us) step.0 t.cells k after linked_there (All-tail (Fits dev) r rs fit) rest on)
 
   opening_untrapped : (e : End) (d : Config) (cells : List ℤ) (rs : List Request) (ts : List Told) → IsGood (translation dev) fuel (first_start (translation dev)) (λ m. (a : Abstract) × Opens find dev a × Linked find dev a m) e d →
-      cells ≡ d.cells → All (λ r. All (IsWithin (pos 2147483647)) r.args) rs → LegalFrom find dev (Opens find dev) (map (call_of dev) rs) (replied dev rs ts) → Continues (translation dev) fuel e cells rs ts → IsUntrapped (last_end e ts)
-  opening_untrapped (Done n) d cells rs ts good same within legal goes = none_traps rs ts (Opens find dev) good.0 cells n good.1 (subst (λ zs. Linked find dev good.0 zs) (sym same) good.2) within legal goes
-  opening_untrapped (Trapped kind place n) d cells rs ts good same within legal goes = absurd good
-  opening_untrapped OutOfFuel d cells rs ts good same within legal goes = ends_there (translation dev) fuel cells rs ts goes
+      cells ≡ d.cells → All (Fits dev) rs → LegalFrom find dev (Opens find dev) (map (call_of dev) rs) (replied dev rs ts) → Continues (translation dev) fuel e cells rs ts → IsUntrapped (last_end e ts)
+  opening_untrapped (Done n) d cells rs ts good same fit legal goes = none_traps rs ts (Opens find dev) good.0 cells n good.1 (subst (λ zs. Linked find dev good.0 zs) (sym same) good.2) fit legal goes
+  opening_untrapped (Trapped kind place n) d cells rs ts good same fit legal goes = absurd good
+  opening_untrapped OutOfFuel d cells rs ts good same fit legal goes = ends_there (translation dev) fuel cells rs ts goes
 
-  session_untrapped : (rs : List Request) (tolds : List Told) → All (λ r. All (IsWithin (pos 2147483647)) r.args) rs → AreLegal find dev rs tolds → Session (translation dev) fuel rs tolds → session_status tolds ≡ TrappedStatus → ⊥
-  session_untrapped rs [] within legal session e = absurd session
-  session_untrapped rs (t ∷ ts) within legal session e =
-      untrapped_status (last_end t.end ts) (opening_untrapped t.end session.0.last t.cells rs ts (follows.opening fuel t.end session.0.last session.0.ends) session.0.cells within legal session.1) e
+  session_untrapped : (rs : List Request) (tolds : List Told) → All (Fits dev) rs → AreLegal find dev rs tolds → Session (translation dev) fuel rs tolds → session_status tolds ≡ TrappedStatus → ⊥
+  session_untrapped rs [] fit legal session e = absurd session
+  session_untrapped rs (t ∷ ts) fit legal session e =
+      untrapped_status (last_end t.end ts) (opening_untrapped t.end session.0.last t.cells rs ts (follows.opening fuel t.end session.0.last session.0.ends) session.0.cells fit legal session.1) e
 
-requests_within : (image : Image) (lines : List (List ℕ)) (rs : List Request) → AllZip (AsksFor image) lines rs → All (λ r. All (IsWithin (pos 2147483647)) r.args) rs
-requests_within image [] [] h = All-nil (λ r. All (IsWithin (pos 2147483647)) r.args)
-requests_within image [] (r ∷ rs) h = elim h [ ]
-requests_within image (l ∷ ls) [] h = elim h [ ]
-requests_within image (l ∷ ls) (r ∷ rs) h = All-cons (λ x. All (IsWithin (pos 2147483647)) x.args) r rs h.0.range (requests_within image ls rs h.1)
+-- ---- calls out of fuel
+would_end : (image : Image) (fuel : ℕ) (start : Config) (P : List ℤ → Type 0) (e : End) (d : Config) → IsGood image fuel start P e d → WouldEnd image fuel start e
+would_end image fuel start P (Done n) d good = tt
+would_end image fuel start P (Trapped kind place n) d good = tt
+would_end image fuel start P OutOfFuel d good = good
+
+-- behind a call that is not done there is none
+none_behind : (Holds : Request → List ℤ → Told → Type 0) (cells : List ℤ) (rs : List Request) → EachCall Holds cells rs []
+none_behind Holds cells [] = tt
+none_behind Holds cells (r ∷ rs) = tt
+
+module _ (fuel : ℕ) (find : Finder) (dev : Development) (follows : Follows find dev (translation dev)) where
+  -- of a call on linked cells whose precondition is true this is so
+  abbrev IsSoOfCalls : (Request → List ℤ → Told → Type 0) → Type 0
+  IsSoOfCalls Holds =
+      (r : Request) (entry : OpEntry) (a : Abstract) (m : List ℤ) (t : Told) (d : Config) → IsEntry (translation dev) r.op entry → Linked find dev a m → IsCall dev (call_of dev r) →
+      map as_number (call_of dev r).args ≡ r.args → Pre find dev (call_of dev r) a → Ends (translation dev) fuel (started entry (call_of dev r) m) t.end d → Holds r m t
+
+  module _ (Holds : Request → List ℤ → Told → Type 0) (holds : IsSoOfCalls Holds) where
+    -- after an end, by what is known where it is done
+    after_end : (e : End) (cells : List ℤ) (rs : List Request) (ts : List Told) → Continues (translation dev) fuel e cells rs ts → ((n : ℕ) → e ≡ Done n → EachCall Holds cells rs ts) → EachCall Holds cells rs ts
+    after_end (Done n) cells rs ts goes rest = rest n refl
+    after_end (Trapped kind place n) cells rs [] goes rest = none_behind Holds cells rs
+    after_end (Trapped kind place n) cells rs (t ∷ ts) goes rest = absurd goes
+    after_end OutOfFuel cells rs [] goes rest = none_behind Holds cells rs
+    after_end OutOfFuel cells rs (t ∷ ts) goes rest = absurd goes
+
+    -- from linked cells, where each call is legal, it is so of each
+    each_call : (rs : List Request) (ts : List Told) (before : Abstract → Type 0) (a : Abstract) (m : List ℤ) (n : ℕ) → before a → Linked find dev a m → All (Fits dev) rs →
+        LegalFrom find dev before (map (call_of dev) rs) (replied dev rs ts) → Continues (translation dev) fuel (Done n) m rs ts → EachCall Holds m rs ts
+    each_call [] [] before a m n h linked fit legal goes = tt
+    each_call [] (t ∷ ts) before a m n h linked fit legal goes = absurd goes
+    each_call (r ∷ rs) [] before a m n h linked fit legal goes = absurd goes
+    each_call (r ∷ rs) (t ∷ ts) before a m n h linked fit legal goes =
+        let c : Call = call_of dev r in
+        let us : List MathValue = as_values dev (body_at dev 0 r.op).outputs t.outputs in
+        let answers : Answers (translation dev) fuel r m t = goes.0 in
+        let entry : OpEntry = answers.entry in
+        let d : Config = answers.call.last in
+        let call = is_call find dev follows r entry answers.named (All-head (Fits dev) r rs fit) in
+        let pre : Pre find dev c a = legal_now find dev follows before c (map (call_of dev) rs) us (replied dev rs ts) t.end legal a h in
+        let end : Ends (translation dev) fuel (started entry c m) t.end d = subst (λ zs. Ends (translation dev) fuel (call_start entry zs m) t.end d) (sym call.1) answers.call.ends in
+        let good = (follows.local a m c entry linked call.0 pre answers.named).1 fuel t.end d end in (
+          holds r entry a m t d answers.named linked call.0 call.1 pre end,
+          after_end t.end t.cells rs ts goes.1 (λ k is.
+              let step : IsStep find dev c entry a d.cells = subst (λ e. IsGood (translation dev) fuel (started entry c m) (IsStep find dev c entry a) e d) is good in
+              let given : t.outputs ≡ outputs_of entry.outputs d.cells = answers.call.given ∙ ap (λ e. given_out entry.outputs e d.cells) is in
+              let rest : LegalFrom find dev (After find dev before c us) (map (call_of dev) rs) (replied dev rs ts) = (subst (λ e. LegalFrom find dev before (c ∷ map (call_of dev) rs) (done_or e (us ∷ replied dev rs ts) [])) is legal).1 in
+              let same : replies dev r.op entry.outputs d.cells ≡ us = ap (as_values dev (body_at dev 0 r.op).outputs) (sym given) in
+              let after : After find dev before c us step.0 = (a, h, subst (λ vs. Steps find dev c a vs step.0) same step.1) in
+              let linked_there : Linked find dev step.0 t.cells = subst (λ zs. Linked find dev step.0 zs) (sym answers.call.cells) step.2 in
+              each_call rs ts (After find dev before c us) step.0 t.cells k after linked_there (All-tail (Fits dev) r rs fit) rest (subst (λ e. Continues (translation dev) fuel e t.cells rs ts) is goes.1)),
+        )
+
+    -- the machine opens with these cells
+    abbrev Opened : List ℤ → Type 0
+    Opened m = (a : Abstract) × Opens find dev a × Linked find dev a m
+
+    -- behind an initialisation
+    behind_opening : (rs : List Request) (t : Told) (ts : List Told) → All (Fits dev) rs → AreLegal find dev rs (t ∷ ts) → Session (translation dev) fuel rs (t ∷ ts) → EachCall Holds t.cells rs ts
+    behind_opening rs t ts fit legal session =
+        let d : Config = session.0.last in
+        let good = follows.opening fuel t.end d session.0.ends in
+        after_end t.end t.cells rs ts session.1 (λ k is.
+        let first : Opened d.cells = subst (λ e. IsGood (translation dev) fuel (first_start (translation dev)) Opened e d) is good in
+        each_call rs ts (Opens find dev) first.0 t.cells k first.1 (subst (λ zs. Linked find dev first.0 zs) (sym session.0.cells) first.2) fit legal (subst (λ e. Continues (translation dev) fuel e t.cells rs ts) is session.1))
+
+  -- each call would end
+  call_would_end : IsSoOfCalls (CallWouldEnd (translation dev) fuel)
+  call_would_end r entry a m t d named linked call args pre end other there =
+      let good = (follows.local a m (call_of dev r) entry linked call pre named).1 fuel t.end d end in
+      let here : WouldEnd (translation dev) fuel (call_start entry r.args m) t.end =
+      subst (λ zs. WouldEnd (translation dev) fuel (call_start entry zs m) t.end) args (would_end (translation dev) fuel (started entry (call_of dev r) m) (IsStep find dev (call_of dev r) entry a) t.end d good) in
+      subst (λ x. WouldEnd (translation dev) fuel (call_start x r.args m) t.end) (same_entry (translation dev) r.op entry other named there) here
+
+  each_would_end : (rs : List Request) (tolds : List Told) → All (Fits dev) rs → AreLegal find dev rs tolds → Session (translation dev) fuel rs tolds → EachWouldEnd (translation dev) fuel rs tolds
+  each_would_end rs [] fit legal session = tt
+  each_would_end rs (t ∷ ts) fit legal session = (
+    would_end (translation dev) fuel (first_start (translation dev)) (λ m. (a : Abstract) × Opens find dev a × Linked find dev a m) t.end session.0.last (follows.opening fuel t.end session.0.last session.0.ends),
+    behind_opening (CallWouldEnd (translation dev) fuel) call_would_end rs t ts fit legal session,
+  )
+
+  -- and each without WHILE in time
+  module _ (in_code : EndsWithoutLoops find dev (translation dev)) where
+    in_time : (size : ℕ) (start d : Config) (e : End) → EndsWithin (translation dev) size start → Ends (translation dev) fuel start e d → IsDoneWithin size fuel e
+    in_time size start d e w end enough = (w.steps, (one_end (translation dev) fuel start e (Done w.steps) d w.end end (w.done fuel enough)).0)
+
+    call_in_time : IsSoOfCalls (CallEndsInTime dev fuel)
+    call_in_time r entry a m t d named linked call args pre end none =
+        in_time (length (operation_code dev (body_at dev (last dev) r.op))) (started entry (call_of dev r) m) d t.end (in_code.local a m (call_of dev r) entry none linked call pre named) end
+
+    each_in_time : (rs : List Request) (tolds : List Told) → All (Fits dev) rs → AreLegal find dev rs tolds → Session (translation dev) fuel rs tolds → EachEndsInTime dev fuel rs tolds
+    each_in_time rs [] fit legal session = tt
+    each_in_time rs (t ∷ ts) fit legal session = (
+      (λ none. in_time (length (init_code dev)) (first_start (translation dev)) session.0.last t.end (in_code.opening none) session.0.ends),
+      behind_opening (CallEndsInTime dev fuel) call_in_time rs t ts fit legal session,
+    )
 
 -- the calls of a project that is ready
 pub legal_calls_are_done : LegalCallsAreDone
 legal_calls_are_done files project calls fuel ready tolds session find law legal =
     let dev = ready.dev in
-    let reads = ready.reads in
-    let lawful : IsLawful dev = (is_development reads.texts dev reads.reads).lawful in
-    let simple : IsSimple dev = is_simple reads.texts dev reads.reads in
-    let follows : Follows find dev (translation dev) = project_follows files project dev ready.scripts reads ready.finished.proved find law in
-    let in_code : EndsInCode find dev (translation dev) = projects_end files project dev ready.scripts reads ready.finished.proved find law in
-    let within = requests_within (translation dev) (kept_lines ready.asks.text) ready.requests ready.asks.script in (
-      session_untrapped fuel find dev lawful simple follows ready.requests tolds within legal session,
-      (λ enough. session_done fuel find dev lawful simple follows in_code enough ready.requests tolds within legal session),
+    let lawful : IsLawful dev = (project_development true files project dev ready.scripts ready.reads ready.finished.room).lawful in
+    let b0 : IsB0Development dev = project_in_b0 true files project dev ready.scripts ready.reads ready.finished.room ready.finished.complete in
+    let follows : Follows find dev (translation dev) = project_follows files project dev ready.scripts ready.reads ready.finished find law in
+    let ends : EndsWithoutLoops find dev (translation dev) = projects_end files project dev ready.scripts ready.reads ready.finished find law in
+    let fit = requests_fit dev lawful b0 (kept_lines ready.asks.text) ready.requests ready.asks.script in (
+      session_untrapped fuel find dev follows ready.requests tolds fit legal session,
+      each_would_end fuel find dev follows ready.requests tolds fit legal session,
+      each_in_time fuel find dev follows ends ready.requests tolds fit legal session,
+      (λ none enough. session_done fuel find dev follows ends enough ready.requests tolds fit none legal session),
     )

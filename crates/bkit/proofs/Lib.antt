@@ -9,6 +9,5 @@ pub mod Runs
 pub mod Built
 pub mod SomeAnswer
 pub mod Possible
-pub mod Vectors
 pub mod SomeImage
 pub mod SomeTable

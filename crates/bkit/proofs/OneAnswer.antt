@@ -1,5 +1,5 @@
 -- The words and the told files have one answer at most: no two checks stop a task, and none does where it is done.
-use Rattle.std.proofs.Common.{◌≡◌, ℕ, ◌<◌, ◌≤◌, ◌⊎◌, inl, inr, List, [], ◌∷◌, ◌++◌, length, Option, Some, None, sym, ◌∙◌, ap, subst, arith, Bool, true, true≢false}
+use Rattle.std.proofs.Common.{◌≡◌, ℕ, ◌<◌, ◌≤◌, ◌⊎◌, inl, inr, List, [], ◌∷◌, ◌++◌, length, Option, Some, None, sym, ◌∙◌, ap, subst, arith, Bool, true, false, true≢false}
 use Rattle.std.proofs.lemmas.Option.{none-some}
 use Rattle.bk_io.specs.Files.{Files}
 use Rattle.bk_code.specs.declared.image.Image.{Image}
@@ -7,18 +7,23 @@ use Rattle.bk_code.specs.Session.{Request, Told, Session}
 use Rattle.bk_code.proofs.Sessions.{one_session}
 use Rattle.bk_dev.specs.Development.{Development}
 use Rattle.bk_b0.specs.Translation.{translation}
-use Rattle.bk_front.specs.ProjectFile.{NamesFiles}
-use Rattle.bk_front.specs.Project.{Reads}
-use Rattle.bk_front.proofs.ProjectFiles.{names_once}
-use Rattle.bk_front.proofs.Readings.{reads_machine}
+use Rattle.bk_project.specs.declared.project_file.ProjectLine.{ProjectLine}
+use Rattle.bk_project.specs.ProjectFile.{AreLinesOf, kinds_of}
+use Rattle.bk_project.specs.Project.{Reads}
+use Rattle.bk_project.specs.Laws.{IsOfProject}
+use Rattle.bk_project.proofs.ProjectFiles.{lines_are_one, lines_exclude}
+use Rattle.bk_project.proofs.OneFile.{lines_have_one_refusal}
+use Rattle.bk_project.proofs.OneReading.{faults_exclude as refusals_exclude}
+use Rattle.bk_project.proofs.OneRefusal.{texts_have_one_refusal}
 use Rattle.bk_po.specs.Obligations.{numbered, obligations}
 use Rattle.bk_po.specs.Limits.{PassTogether, PassNoLimit, all_nodes}
-use Rattle.bk_scripts.specs.WrittenRule.{Script}
-use Rattle.bk_scripts.specs.Files.{AreScriptsOf}
-use Rattle.bk_scripts.proofs.Prefixes.{faulty-one, faulty-have-none}
+use Rattle.bk_raw.specs.ScriptTree.{RawScript}
+use Rattle.bk_p_proof.specs.Files.{AreScriptsOf}
+use Rattle.bk_p_proof.specs.Laws.{IsOfTexts}
+use Rattle.bk_p_proof.proofs.OneAnswer.{faults_exclude as scripts_exclude}
+use Rattle.bk_p_proof.proofs.OneFault.{faults_are_one_of}
 use Rattle.bk_status.specs.declared.table.Row.{Row}
 use Rattle.bk_status.specs.Rows.{first_open, AreProved}
-use Rattle.bk_status.specs.Laws.{AreNamedApart}
 use Rattle.bk_status.proofs.OneTable.{tables_are_one, proved_tables_are_closed}
 use Rattle.bk_calls.specs.Script.{IsScript, most_calls}
 use Rattle.bk_calls.specs.Transcript.{transcript}
@@ -31,14 +36,14 @@ use Rattle.bk_image.proofs.Verdicts.{encodes_one, faults_exclude}
 use Rattle.bk_image.proofs.OneFault.{one_fault}
 use Rattle.bk_verbs.specs.declared.status.Status.{Status}
 use Rattle.bk_verbs.specs.declared.stop.Stop.{Stop}
-use Rattle.bk_verbs.specs.declared.stop.Stop.TheVariants.{Refused, Limit, Unproved, BadCalls, BadImage}
+use Rattle.bk_verbs.specs.declared.stop.Stop.TheVariants.{Limit, Unproved, BadCalls, BadImage}
 use Rattle.bk_verbs.specs.Session.{session_status}
 use Rattle.bk_words.specs.Tasks.{Task, check_task, status_task, po_task, code_task, build_task, run_task, exec_task, Asks, has_proofs}
-use Rattle.bk_verbs.specs.Project.{IsTold, AreTold, fetched, ReadsProject, IsProved, IsFinished, IsWithinCodeLimits, ReadsCalls}
+use Rattle.bk_verbs.specs.Project.{IsTold, AreTold, files_of, fetched, ReadsProject, IsProved, IsFinished, IsWithinCodeLimits, ReadsCalls}
 use Rattle.bk_texts.specs.Table.{table_text}
 use Rattle.bk_verbs.specs.Work.{IsPlayed, IsExec, IsGiven, IsDoneOn, IsWork}
 use Rattle.bkit.specs.Run.{IsReady}
-use Rattle.bk_verbs.specs.Stops.{StopsAtFile, StopsAtFiles, StopsAtTexts, StopsAtScripts, StopsAtTold, StopsAtComponents, StopsAtNames, StopsAtProject, StopsPastLimits, IsFirstOpen, StopsAtObligations, StopsAtProof, StopsPastCode, StopsAtScript, StopsAtCode, StopsAtCalls, StopsAtCallScript, StopsAtLoading, StopsAtImage, StopsRead, StopsAtWork, StopsTask, StopsAt, name_at, status_of_stop, stop_text}
+use Rattle.bk_verbs.specs.Stops.{StopsAtFile, StopsAtFiles, StopsAtLines, StopsAtTexts, StopsAtScripts, StopsAtTold, StopsAtComponents, StopsAtNames, StopsAtProject, StopsPastLimits, IsFirstOpen, StopsAtObligations, StopsAtProof, StopsPastCode, StopsAtScript, StopsAtCode, StopsAtCalls, StopsAtCallScript, StopsAtLoading, StopsAtImage, StopsRead, StopsAtWork, StopsTask, StopsAt, stop_of_refusal, stop_of_proofs, status_of_stop, stop_text}
 use Rattle.bkit.specs.Answer.{IsAnswer, IsWorkOf}
 use Rattle.bkit.specs.Laws.{HasOneAnswer}
 use Rattle.bk_verbs.proofs.Fetching.{both_told}
@@ -74,76 +79,79 @@ files_once files (n ∷ ns) s o (inl h) (inr k) = absurd (file_told files n s k.
 files_once files (n ∷ ns) s o (inr h) (inl k) = absurd (file_told files n o h.0 k h.1)
 files_once files (n ∷ ns) s o (inr h) (inr k) = files_once files ns s o h.2 k.2
 
--- ---- the components' texts and the proof files
-texts_read : (components texts : List (List ℕ)) (stop : Stop) (dev : Development) → StopsAtTexts components texts stop → Reads texts dev → ⊥
-texts_read components texts stop dev (inl h) r = h.1 (reads_machine texts dev r)
-texts_read components texts stop dev (inr h) r = h.2 dev r
+-- ---- the project file's text, the components' and the proof files
+lines_read : (project text : List ℕ) (stop : Stop) (named : List ProjectLine) → StopsAtLines project text stop → AreLinesOf text named → ⊥
+lines_read project text stop named h are = subst IsOfProject (lines_exclude text named h.0 are h.2) h.1
 
-texts_once : (components texts : List (List ℕ)) (s o : Stop) → StopsAtTexts components texts s → StopsAtTexts components texts o → s ≡ o
-texts_once components texts s o (inl h) (inl k) = h.0 ∙ sym k.0
-texts_once components texts s o (inr h) (inr k) = h.0 ∙ sym k.0
-texts_once components texts s o (inl h) (inr k) = absurd (h.1 k.1)
-texts_once components texts s o (inr h) (inl k) = absurd (k.1 h.1)
+lines_once : (project text : List ℕ) (s o : Stop) → StopsAtLines project text s → StopsAtLines project text o → s ≡ o
+lines_once project text s o h k = h.3 ∙ (ap (λ r. stop_of_refusal r project []) (lines_have_one_refusal text h.0 k.0 h.2 h.1 k.2 k.1) ∙ sym k.3)
 
-scripts_read : (proofs texts : List (List ℕ)) (stop : Stop) (scripts : List Script) → StopsAtScripts proofs texts stop → AreScriptsOf texts scripts → ⊥
-scripts_read proofs texts stop scripts h s = faulty-have-none texts h.0 scripts h.2 s
+texts_read : (project : List ℕ) (named : List ProjectLine) (texts : List (List ℕ)) (stop : Stop) (dev : Development) → StopsAtTexts project named texts stop → Reads (kinds_of named) texts dev → ⊥
+texts_read project named texts stop dev h r = subst IsOfProject (refusals_exclude (kinds_of named) texts dev h.0 r h.2) h.1
+
+texts_once : (project : List ℕ) (named : List ProjectLine) (texts : List (List ℕ)) (s o : Stop) → StopsAtTexts project named texts s → StopsAtTexts project named texts o → s ≡ o
+texts_once project named texts s o h k = h.3 ∙ (ap (λ r. stop_of_refusal r project (files_of false named)) (texts_have_one_refusal (kinds_of named) texts h.0 k.0 h.2 h.1 k.2 k.1) ∙ sym k.3)
+
+scripts_read : (proofs texts : List (List ℕ)) (stop : Stop) (scripts : List RawScript) → StopsAtScripts proofs texts stop → AreScriptsOf texts scripts → ⊥
+scripts_read proofs texts stop scripts h s = subst IsOfTexts (scripts_exclude texts scripts h.0 s h.2) h.1
 
 scripts_once : (proofs texts : List (List ℕ)) (s o : Stop) → StopsAtScripts proofs texts s → StopsAtScripts proofs texts o → s ≡ o
-scripts_once proofs texts s o h k = h.1 ∙ ap (λ n. Refused 15 (name_at proofs n)) (faulty-one texts h.0 k.0 h.2 k.2) ∙ sym k.1
+scripts_once proofs texts s o h k = h.3 ∙ (ap (λ f. stop_of_proofs f proofs) (faults_are_one_of texts h.0 k.0 h.2 h.1 k.2 k.1) ∙ sym k.3)
 
-module _ (components proofs texts proof_texts : List (List ℕ)) where
-  told_read : (stop : Stop) (dev : Development) (scripts : List Script) → StopsAtTold components proofs texts proof_texts stop → Reads texts dev → AreScriptsOf proof_texts scripts → ⊥
-  told_read stop dev scripts (inl h) r s = texts_read components texts stop dev h r
+module _ (project : List ℕ) (named : List ProjectLine) (proofs texts proof_texts : List (List ℕ)) where
+  told_read : (stop : Stop) (dev : Development) (scripts : List RawScript) → StopsAtTold project named proofs texts proof_texts stop → Reads (kinds_of named) texts dev → AreScriptsOf proof_texts scripts → ⊥
+  told_read stop dev scripts (inl h) r s = texts_read project named texts stop dev h r
   told_read stop dev scripts (inr h) r s = scripts_read proofs proof_texts stop scripts h.2 s
 
-  told_stop_once : (s o : Stop) → StopsAtTold components proofs texts proof_texts s → StopsAtTold components proofs texts proof_texts o → s ≡ o
-  told_stop_once s o (inl h) (inl k) = texts_once components texts s o h k
-  told_stop_once s o (inl h) (inr k) = absurd (texts_read components texts s k.0 h k.1)
-  told_stop_once s o (inr h) (inl k) = absurd (texts_read components texts o h.0 k h.1)
+  told_stop_once : (s o : Stop) → StopsAtTold project named proofs texts proof_texts s → StopsAtTold project named proofs texts proof_texts o → s ≡ o
+  told_stop_once s o (inl h) (inl k) = texts_once project named texts s o h k
+  told_stop_once s o (inl h) (inr k) = absurd (texts_read project named texts s k.0 h k.1)
+  told_stop_once s o (inr h) (inl k) = absurd (texts_read project named texts o h.0 k h.1)
   told_stop_once s o (inr h) (inr k) = scripts_once proofs proof_texts s o h.2 k.2
 
-module _ (files : Files) (components proofs : List (List ℕ)) where
+module _ (files : Files) (project : List ℕ) (named : List ProjectLine) (proofs : List (List ℕ)) where
+  abbrev components : List (List ℕ)
+  components = files_of false named
+
   -- what stops at texts that are told stops at the ones that are told
   same_told : (texts proof_texts others other_proofs : List (List ℕ)) (stop : Stop) → AreTold files components texts → AreTold files proofs proof_texts → AreTold files components others → AreTold files proofs other_proofs →
-      StopsAtTold components proofs texts proof_texts stop → StopsAtTold components proofs others other_proofs stop
+      StopsAtTold project named proofs texts proof_texts stop → StopsAtTold project named proofs others other_proofs stop
   same_told texts proof_texts others other_proofs stop t u v w h =
-      subst (λ x. StopsAtTold components proofs others x stop) (all_told_once files proofs proof_texts other_proofs u w)
-      (subst (λ x. StopsAtTold components proofs x proof_texts stop) (all_told_once files components texts others t v) h)
+      subst (λ x. StopsAtTold project named proofs others x stop) (all_told_once files proofs proof_texts other_proofs u w)
+      (subst (λ x. StopsAtTold project named proofs x proof_texts stop) (all_told_once files components texts others t v) h)
 
-  components_read : (texts proof_texts : List (List ℕ)) (stop : Stop) (dev : Development) (scripts : List Script) → StopsAtComponents files components proofs stop → AreTold files components texts → AreTold files proofs proof_texts → Reads texts dev → AreScriptsOf proof_texts scripts → ⊥
+  components_read : (texts proof_texts : List (List ℕ)) (stop : Stop) (dev : Development) (scripts : List RawScript) → StopsAtComponents files project named proofs stop → AreTold files components texts → AreTold files proofs proof_texts → Reads (kinds_of named) texts dev → AreScriptsOf proof_texts scripts → ⊥
   components_read texts proof_texts stop dev scripts (inl h) t u r s = files_told files (components ++ proofs) (texts ++ proof_texts) stop h (both_told files components proofs texts proof_texts t u)
-  components_read texts proof_texts stop dev scripts (inr h) t u r s = told_read components proofs texts proof_texts stop dev scripts (same_told h.0 h.1 texts proof_texts stop h.2 h.3 t u h.4) r s
+  components_read texts proof_texts stop dev scripts (inr h) t u r s = told_read project named proofs texts proof_texts stop dev scripts (same_told h.0 h.1 texts proof_texts stop h.2 h.3 t u h.4) r s
 
-  components_once : (s o : Stop) → StopsAtComponents files components proofs s → StopsAtComponents files components proofs o → s ≡ o
+  components_once : (s o : Stop) → StopsAtComponents files project named proofs s → StopsAtComponents files project named proofs o → s ≡ o
   components_once s o (inl h) (inl k) = files_once files (components ++ proofs) s o h k
   components_once s o (inl h) (inr k) = absurd (files_told files (components ++ proofs) (k.0 ++ k.1) s h (both_told files components proofs k.0 k.1 k.2 k.3))
   components_once s o (inr h) (inl k) = absurd (files_told files (components ++ proofs) (h.0 ++ h.1) o k (both_told files components proofs h.0 h.1 h.2 h.3))
-  components_once s o (inr h) (inr k) = told_stop_once components proofs k.0 k.1 s o (same_told h.0 h.1 k.0 k.1 s h.2 h.3 k.2 k.3 h.4) k.4
+  components_once s o (inr h) (inr k) = told_stop_once project named proofs k.0 k.1 s o (same_told h.0 h.1 k.0 k.1 s h.2 h.3 k.2 k.3 h.4) k.4
 
 -- ---- the project
 module _ (with_proofs : Bool) (files : Files) (project : List ℕ) where
-  -- the components and proof files of one project file are the same
-  same_components : (text : List ℕ) (components proofs others other_proofs : List (List ℕ)) (stop : Stop) → NamesFiles text components proofs → NamesFiles text others other_proofs →
-      StopsAtComponents files components (fetched with_proofs proofs) stop → StopsAtComponents files others (fetched with_proofs other_proofs) stop
-  same_components text components proofs others other_proofs stop a b h =
-      let e = names_once text components proofs others other_proofs a b in
-      subst (λ x. StopsAtComponents files others (fetched with_proofs x) stop) e.1 (subst (λ x. StopsAtComponents files x (fetched with_proofs proofs) stop) e.0 h)
+  -- the files of one project file are the same
+  same_components : (text : List ℕ) (one other : List ProjectLine) (stop : Stop) → AreLinesOf text one → AreLinesOf text other →
+      StopsAtComponents files project one (fetched with_proofs (files_of true one)) stop → StopsAtComponents files project other (fetched with_proofs (files_of true other)) stop
+  same_components text one other stop a b h = subst (λ x. StopsAtComponents files project x (fetched with_proofs (files_of true x)) stop) (lines_are_one text one other a b) h
 
-  names_read : (stop : Stop) (dev : Development) (scripts : List Script) (r : ReadsProject with_proofs files project dev scripts) → StopsAtNames with_proofs files project r.text stop → ⊥
-  names_read stop dev scripts r (inl h) = h.1 r.names.named r.names.are
+  names_read : (stop : Stop) (dev : Development) (scripts : List RawScript) (r : ReadsProject with_proofs files project dev scripts) → StopsAtNames with_proofs files project r.components.text stop → ⊥
+  names_read stop dev scripts r (inl h) = lines_read project r.components.text stop r.components.named h r.components.lines
   names_read stop dev scripts r (inr h) =
-      components_read files r.components (fetched with_proofs r.proofs) r.texts r.proof_texts stop dev scripts
-      (same_components r.text h.0 h.1 r.components r.proofs stop h.2 r.names h.3) r.texts_told r.proofs_told r.reads r.scripts_are
+      components_read files project r.components.named (fetched with_proofs (files_of true r.components.named)) r.components.texts r.proof_texts stop dev scripts
+      (same_components r.components.text h.0 r.components.named stop h.1 r.components.lines h.2) r.components.texts_told r.proofs_told r.components.reads r.scripts_are
 
   names_stop_once : (text : List ℕ) (s o : Stop) → StopsAtNames with_proofs files project text s → StopsAtNames with_proofs files project text o → s ≡ o
-  names_stop_once text s o (inl h) (inl k) = h.0 ∙ sym k.0
-  names_stop_once text s o (inl h) (inr k) = absurd (h.1 k.2.named k.2.are)
-  names_stop_once text s o (inr h) (inl k) = absurd (k.1 h.2.named h.2.are)
-  names_stop_once text s o (inr h) (inr k) = components_once files k.0 (fetched with_proofs k.1) s o (same_components text h.0 h.1 k.0 k.1 s h.2 k.2 h.3) k.3
+  names_stop_once text s o (inl h) (inl k) = lines_once project text s o h k
+  names_stop_once text s o (inl h) (inr k) = absurd (lines_read project text s k.0 h k.1)
+  names_stop_once text s o (inr h) (inl k) = absurd (lines_read project text o h.0 k h.1)
+  names_stop_once text s o (inr h) (inr k) = components_once files project k.0 (fetched with_proofs (files_of true k.0)) s o (same_components text h.0 k.0 s h.1 k.1 h.2) k.2
 
-  pub project_read : (stop : Stop) (dev : Development) (scripts : List Script) → StopsAtProject with_proofs files project stop → ReadsProject with_proofs files project dev scripts → ⊥
-  project_read stop dev scripts (inl h) r = file_told files project stop r.text h r.told
-  project_read stop dev scripts (inr h) r = names_read stop dev scripts r (subst (λ x. StopsAtNames with_proofs files project x stop) (told_once files project h.0 r.text h.1 r.told) h.2)
+  pub project_read : (stop : Stop) (dev : Development) (scripts : List RawScript) → StopsAtProject with_proofs files project stop → ReadsProject with_proofs files project dev scripts → ⊥
+  project_read stop dev scripts (inl h) r = file_told files project stop r.components.text h r.components.told
+  project_read stop dev scripts (inr h) r = names_read stop dev scripts r (subst (λ x. StopsAtNames with_proofs files project x stop) (told_once files project h.0 r.components.text h.1 r.components.told) h.2)
 
   project_once : (s o : Stop) → StopsAtProject with_proofs files project s → StopsAtProject with_proofs files project o → s ≡ o
   project_once s o (inl h) (inl k) = file_once files project s o h k
@@ -190,13 +198,13 @@ module _ (project : List ℕ) (dev : Development) where
   limits_once s o (inr h) (inl k) = absurd (none-some k.0 (sym h.2.sizes ∙ k.2))
   limits_once s o (inr h) (inr k) = h.1 ∙ (ap (λ n. Limit n project) (one_limit dev h.0 k.0 h.2 k.2) ∙ sym k.1)
 
-  module _ (scripts : List Script) (apart : AreNamedApart scripts) where
+  module _ (scripts : List RawScript) where
     open_or_proved : (name : List ℕ) → IsFirstOpen dev scripts name → AreProved dev scripts → ⊥
-    open_or_proved name h p = row_or_none h.1 (sym (proved_tables_are_closed dev scripts h.0 apart h.2 p) ∙ h.3)
+    open_or_proved name h p = row_or_none h.1 (sym (proved_tables_are_closed dev scripts h.0 h.2 p) ∙ h.3)
 
     open_once : (name other : List ℕ) → IsFirstOpen dev scripts name → IsFirstOpen dev scripts other → name ≡ other
     open_once name other h k =
-        let rows : h.0 ≡ k.0 = tables_are_one dev scripts h.0 k.0 apart h.2 k.2 in
+        let rows : h.0 ≡ k.0 = tables_are_one dev scripts h.0 k.0 h.2 k.2 in
         sym h.4 ∙ row_once h.1 k.1 (sym h.3 ∙ ap first_open rows ∙ k.3) ∙ k.4
 
     obligations_proved : (stop : Stop) → StopsAtObligations project dev scripts stop → IsProved dev scripts → ⊥
@@ -315,18 +323,18 @@ module _ (files : Files) (calls : List ℕ) (fuel : ℕ) where
       (p.2 ∙ (ap session_status e ∙ sym k.last), p.3 ∙ (ap (transcript image fuel k.requests) e ∙ sym k.transcript_is))
 
 -- ---- what is read
-module _ (project : List ℕ) (dev : Development) (scripts : List Script) (apart : AreNamedApart scripts) where
+module _ (project : List ℕ) (dev : Development) (scripts : List RawScript) where
   pub proof_finished : (stop : Stop) → StopsAtProof project dev scripts stop → IsFinished dev scripts → ⊥
   proof_finished stop (inl h) f = true≢false (sym f.complete ∙ h.1)
-  proof_finished stop (inr h) f = obligations_proved project dev scripts apart stop h.1 f.proved
+  proof_finished stop (inr h) f = obligations_proved project dev scripts stop h.1 f.proved
 
   proof_once : (s o : Stop) → StopsAtProof project dev scripts s → StopsAtProof project dev scripts o → s ≡ o
   proof_once s o (inl h) (inl k) = h.0 ∙ sym k.0
   proof_once s o (inl h) (inr k) = absurd (true≢false (sym k.0 ∙ h.1))
   proof_once s o (inr h) (inl k) = absurd (true≢false (sym h.0 ∙ k.1))
-  proof_once s o (inr h) (inr k) = obligations_once project dev scripts apart s o h.1 k.1
+  proof_once s o (inr h) (inr k) = obligations_once project dev scripts s o h.1 k.1
 
-module _ (files : Files) (dev : Development) (scripts : List Script) (apart : AreNamedApart scripts) where
+module _ (files : Files) (dev : Development) (scripts : List RawScript) where
   read_once : (task : Task) (s o : Stop) → StopsRead files task dev scripts s → StopsRead files task dev scripts o → s ≡ o
   read_once (check_task project) s o h k = absurd h
   read_once (status_task project) s o h k = limits_once project dev s o h k
@@ -335,13 +343,13 @@ module _ (files : Files) (dev : Development) (scripts : List Script) (apart : Ar
   read_once (code_task project) s o (inl h) (inr k) = absurd (true≢false (sym k.0 ∙ h.1))
   read_once (code_task project) s o (inr h) (inl k) = absurd (true≢false (sym h.0 ∙ k.1))
   read_once (code_task project) s o (inr h) (inr k) = code_limit_once project (translation dev) s o h.1 k.1
-  read_once (build_task project) s o (inl h) (inl k) = proof_once project dev scripts apart s o h k
-  read_once (build_task project) s o (inl h) (inr k) = absurd (proof_finished project dev scripts apart s h k.0)
-  read_once (build_task project) s o (inr h) (inl k) = absurd (proof_finished project dev scripts apart o k h.0)
+  read_once (build_task project) s o (inl h) (inl k) = proof_once project dev scripts s o h k
+  read_once (build_task project) s o (inl h) (inr k) = absurd (proof_finished project dev scripts s h k.0)
+  read_once (build_task project) s o (inr h) (inl k) = absurd (proof_finished project dev scripts o k h.0)
   read_once (build_task project) s o (inr h) (inr k) = code_limit_once project (translation dev) s o h.1 k.1
-  read_once (run_task project calls fuel) s o (inl h) (inl k) = proof_once project dev scripts apart s o h k
-  read_once (run_task project calls fuel) s o (inl h) (inr k) = absurd (proof_finished project dev scripts apart s h k.0)
-  read_once (run_task project calls fuel) s o (inr h) (inl k) = absurd (proof_finished project dev scripts apart o k h.0)
+  read_once (run_task project calls fuel) s o (inl h) (inl k) = proof_once project dev scripts s o h k
+  read_once (run_task project calls fuel) s o (inl h) (inr k) = absurd (proof_finished project dev scripts s h k.0)
+  read_once (run_task project calls fuel) s o (inr h) (inl k) = absurd (proof_finished project dev scripts o k h.0)
   read_once (run_task project calls fuel) s o (inr h) (inr k) = calls_once files project calls (translation dev) s o h.1 k.1
   read_once (exec_task image calls fuel) s o h k = absurd h
 
@@ -351,16 +359,16 @@ module _ (files : Files) (dev : Development) (scripts : List Script) (apart : Ar
   given_or_stops (po_task project) stop status text h g = limits_passed project dev stop h g.1.within
   given_or_stops (code_task project) stop status text (inl h) g = true≢false (sym g.1.complete ∙ h.1)
   given_or_stops (code_task project) stop status text (inr h) g = code_passed project (translation dev) stop h.1 g.1.short
-  given_or_stops (build_task project) stop status text (inl h) g = proof_finished project dev scripts apart stop h g.1.finished
+  given_or_stops (build_task project) stop status text (inl h) g = proof_finished project dev scripts stop h g.1.finished
   given_or_stops (build_task project) stop status text (inr h) g = code_passed project (translation dev) stop h.1 g.1.short
-  given_or_stops (run_task project calls fuel) stop status text (inl h) g = proof_finished project dev scripts apart stop h g.finished
+  given_or_stops (run_task project calls fuel) stop status text (inl h) g = proof_finished project dev scripts stop h g.finished
   given_or_stops (run_task project calls fuel) stop status text (inr h) g = calls_asked files project calls (translation dev) stop g.played.requests h.1 g.short g.played.asks
   given_or_stops (exec_task image calls fuel) stop status text h g = h
 
   given_once : (task : Task) (status other : Status) (text others : List ℕ) → IsGiven files task dev scripts status text → IsGiven files task dev scripts other others → (status ≡ other) × (text ≡ others)
   given_once (check_task project) status other text others h k = (h.0 ∙ sym k.0, h.1 ∙ sym k.1)
   given_once (status_task project) status other text others h k =
-      (h.0 ∙ sym k.0, h.1.text_is ∙ (ap table_text (tables_are_one dev scripts h.1.rows k.1.rows apart h.1.are k.1.are) ∙ sym k.1.text_is))
+      (h.0 ∙ sym k.0, h.1.text_is ∙ (ap table_text (tables_are_one dev scripts h.1.rows k.1.rows h.1.are k.1.are) ∙ sym k.1.text_is))
   given_once (po_task project) status other text others h k = (h.0 ∙ sym k.0, h.1.text_is ∙ sym k.1.text_is)
   given_once (code_task project) status other text others h k = (h.0 ∙ sym k.0, h.1.text_is ∙ sym k.1.text_is)
   given_once (build_task project) status other text others h k = (h.0 ∙ sym k.0, h.1.encodes.is ∙ sym k.1.encodes.is)
@@ -370,7 +378,7 @@ module _ (files : Files) (dev : Development) (scripts : List Script) (apart : Ar
 -- ---- tasks on projects
 module _ (files : Files) (project : List ℕ) (task : Task) where
   -- what is said of the development and the scripts that are read is said of those that are read
-  pub same_read : (P : Development → List Script → Type 0) (dev other : Development) (scripts others : List Script) → ReadsProject (has_proofs task) files project dev scripts →
+  pub same_read : (P : Development → List RawScript → Type 0) (dev other : Development) (scripts others : List RawScript) → ReadsProject (has_proofs task) files project dev scripts →
       ReadsProject (has_proofs task) files project other others → P dev scripts → P other others
   same_read P dev other scripts others r q h =
       let e = one_project (has_proofs task) files project dev other scripts others r q in
@@ -381,16 +389,16 @@ module _ (files : Files) (project : List ℕ) (task : Task) where
   work_stop_once s o (inl h) (inr k) = absurd (project_read (has_proofs task) files project s k.0 k.1 h k.2)
   work_stop_once s o (inr h) (inl k) = absurd (project_read (has_proofs task) files project o h.0 h.1 k h.2)
   work_stop_once s o (inr h) (inr k) =
-      read_once files k.0 k.1 k.2.scripts_are.distinct task s o (same_read (λ dev scripts. StopsRead files task dev scripts s) h.0 k.0 h.1 k.1 h.2 k.2 h.3) k.3
+      read_once files k.0 k.1 task s o (same_read (λ dev scripts. StopsRead files task dev scripts s) h.0 k.0 h.1 k.1 h.2 k.2 h.3) k.3
 
   done_or_stops : (stop : Stop) (status : Status) (text : List ℕ) → StopsAtWork files project task stop → IsDoneOn files project task status text → ⊥
   done_or_stops stop status text (inl h) d = project_read (has_proofs task) files project stop d.dev d.scripts h d.reads
   done_or_stops stop status text (inr h) d =
-      given_or_stops files d.dev d.scripts d.reads.scripts_are.distinct task stop status text (same_read (λ dev scripts. StopsRead files task dev scripts stop) h.0 d.dev h.1 d.scripts h.2 d.reads h.3) d.given
+      given_or_stops files d.dev d.scripts task stop status text (same_read (λ dev scripts. StopsRead files task dev scripts stop) h.0 d.dev h.1 d.scripts h.2 d.reads h.3) d.given
 
   done_once : (status other : Status) (text others : List ℕ) → IsDoneOn files project task status text → IsDoneOn files project task other others → (status ≡ other) × (text ≡ others)
   done_once status other text others h k =
-      given_once files k.dev k.scripts k.reads.scripts_are.distinct task status other text others
+      given_once files k.dev k.scripts task status other text others
       (same_read (λ dev scripts. IsGiven files task dev scripts status text) h.dev k.dev h.scripts k.scripts h.reads k.reads h.given) k.given
 
 -- ---- tasks
@@ -443,7 +451,7 @@ ready_or_stops files project calls fuel stop ready (inr h) =
     by (same_read files project (run_task project calls fuel) (λ dev scripts. StopsRead files (run_task project calls fuel) dev scripts stop) h.0 ready.dev h.1 ready.scripts h.2 ready.reads h.3)
   where
     by : StopsRead files (run_task project calls fuel) ready.dev ready.scripts stop → ⊥
-    by (inl k) = proof_finished project ready.dev ready.scripts ready.reads.scripts_are.distinct stop k ready.finished
+    by (inl k) = proof_finished project ready.dev ready.scripts stop k ready.finished
     by (inr k) = calls_asked files project calls (translation ready.dev) stop ready.requests k.1 ready.short ready.asks
 
 -- ---- the words

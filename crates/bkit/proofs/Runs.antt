@@ -30,8 +30,8 @@ writes_run files project calls fuel before after status w =
         reads = done.reads;
         only = λ other others k. one_project true files project done.dev other done.scripts others done.reads k;
         run = done.given;
-        follows = project_follows files project done.dev done.scripts done.reads done.given.finished.proved;
-        ends = projects_end files project done.dev done.scripts done.reads done.given.finished.proved;
+        follows = project_follows files project done.dev done.scripts done.reads done.given.finished;
+        ends = projects_end files project done.dev done.scripts done.reads done.given.finished;
       };
       appended = w.appended;
     }
@@ -71,5 +71,7 @@ done_where_legal files words project calls fuel old new status asks w ready told
     let is : status ≡ session_status tolds = p.2 ∙ ap session_status same in
     let ends = legal_calls_are_done files project calls fuel ready tolds session find law legal in (
       (λ e. ends.0 (sym is ∙ e)),
-      (λ enough. is ∙ ends.1 enough),
+      ends.1,
+      ends.2,
+      (λ none enough. is ∙ ends.3 none enough),
     )

@@ -1,9 +1,11 @@
 -- It cannot be that words and told files have no answer.
-use Rattle.std.proofs.Common.{◌≡◌, ℕ, zero, suc, ◌+◌, ◌<◌, ◌⊎◌, inl, inr, Bool, true, false, nat_eq, List, [], ◌∷◌, length, take, Option, Some, None, refl, sym, ◌∙◌, subst, arith}
+use Rattle.std.proofs.Common.{◌≡◌, ℕ, zero, suc, ◌<◌, ◌⊎◌, ◌^◌, inl, inr, Bool, true, false, nat_eq, List, [], ◌∷◌, length, map, All, Option, Some, None, refl, sym, ◌∙◌, subst, arith}
 use Rattle.std.specs.Prelude.{option_map, slice_get}
 use Rattle.std.specs.Option.{option_map_or}
 use Rattle.std.proofs.lemmas.Bool.{cases_lt}
-use Rattle.std.proofs.lemmas.List.{take_all}
+use Rattle.std.proofs.lemmas.Int.{ints}
+use Rattle.std.proofs.lemmas.List.{length-map}
+use Rattle.std.proofs.lemmas.Slice.Zip.{AllZip-long}
 use Rattle.std.proofs.lemmas.List.Elements.{All-head, All-tail}
 use Rattle.bk_io.specs.Bytes.{AreBytes}
 use Rattle.bk_io.specs.Files.{Files, file_named}
@@ -11,24 +13,30 @@ use Rattle.bk_code.specs.declared.image.Image.{Image}
 use Rattle.bk_code.specs.Checks.{IsChecked, IsLoadable}
 use Rattle.bk_code.proofs.Sessions.{some_session}
 use Rattle.bk_code.proofs.DeadCode.{loadable_is_checked}
-use Rattle.bk_image.specs.Spelling.{HasSpelling, spelling}
+use Rattle.bk_image.specs.Spelling.{FitsSet, HasSpelling, spelling}
 use Rattle.bk_dev.specs.Development.{Development, level_at, last, is_complete}
+use Rattle.bk_dev.specs.B0.{IsB0Development}
 use Rattle.bk_dev.specs.Facts.{IsLawful}
-use Rattle.bk_form.specs.Table.{SetEntry}
+use Rattle.bk_form.specs.Table.{SetEntry, set_size}
 use Rattle.bk_b0.specs.Translation.{translation}
-use Rattle.bk_b0.specs.Simple.{IsSimple}
-use Rattle.bk_b0.proofs.SimpleInB0.{simple_is_in_b0}
 use Rattle.bk_gen.specs.Laws.{HasElementsInRange}
 use Rattle.bk_gen.proofs.Loads.{translations_load}
-use Rattle.bk_front.specs.ProjectFile.{AreProjectLines, files_of}
-use Rattle.bk_front.specs.declared.project_file.ProjectLine.{ProjectLine}
-use Rattle.bk_front.specs.Project.{IsMachineText, text_at, Reads}
-use Rattle.bk_front.proofs.Readings.{is_development, is_simple}
+use Rattle.bk_project.specs.declared.project_file.ProjectLine.{ProjectLine}
+use Rattle.bk_project.specs.declared.refusal.Refusal.{Refusal}
+use Rattle.bk_project.specs.ProjectFile.{AreLinesOf, IsRefusalOfLines, component_lines, kinds_of}
+use Rattle.bk_project.specs.Project.{Reads, IsRefusalOf}
+use Rattle.bk_project.specs.Laws.{IsOfProject}
+use Rattle.bk_project.proofs.Levels.{chain_starts}
+use Rattle.bk_project.proofs.SomeLines.{lines_are_read}
+use Rattle.bk_project.proofs.SomeReading.{texts_are_read}
 use Rattle.bk_dev.specs.Flattened.{flattened}
 use Rattle.bk_po.specs.Obligations.{obligations, numbered, numbered_obligations}
 use Rattle.bk_po.specs.Limits.{first_too_large, all_nodes, PassNoLimit}
-use Rattle.bk_scripts.specs.WrittenRule.{Script}
-use Rattle.bk_scripts.specs.Files.{AreScriptsOf, IsFirstFaulty}
+use Rattle.bk_raw.specs.ScriptTree.{RawScript}
+use Rattle.bk_p_proof.specs.Files.{AreScriptsOf, IsFaultOf as IsFaultOfProofs}
+use Rattle.bk_p_proof.specs.Laws.{IsOfTexts}
+use Rattle.bk_p_proof.specs.declared.fault.ScriptFault.{ScriptFault}
+use Rattle.bk_p_proof.proofs.SomeScripts.{scripts_are_told}
 use Rattle.bk_status.specs.declared.table.Row.{Row}
 use Rattle.bk_status.specs.Rows.{HasRows, first_open}
 use Rattle.bk_status.proofs.Tables.{closed_tables_prove}
@@ -39,22 +47,24 @@ use Rattle.bk_calls.proofs.Scripts.{requests_fit}
 use Rattle.bk_verbs.specs.declared.status.Status.{Status}
 use Rattle.bk_verbs.specs.declared.status.Status.TheVariants.{Done, Usage as UsageStatus}
 use Rattle.bk_verbs.specs.declared.stop.Stop.{Stop}
-use Rattle.bk_verbs.specs.declared.stop.Stop.TheVariants.{Usage, Missing, Refused, Limit, Unproved, Incomplete, BadCalls, BadImage}
+use Rattle.bk_verbs.specs.declared.stop.Stop.TheVariants.{Usage, Missing, Limit, Unproved, Incomplete, BadCalls, BadImage}
 use Rattle.bk_words.specs.Tasks.{Task, check_task, status_task, po_task, code_task, build_task, run_task, exec_task, Asks, has_proofs}
-use Rattle.bk_verbs.specs.Project.{IsTold, AreTold, IsToldAsBytes, HoldBytes, fetched, ReadsProject, IsFinished, IsWithinCodeLimits}
+use Rattle.bk_level.specs.VerdictLaws.{HasRoom}
+use Rattle.bk_verbs.specs.Project.{IsTold, AreTold, IsToldAsBytes, HoldBytes, HasRoomFor, HaveRoom, files_of, fetched, ReadsComponents, ReadsProject, IsFinished, IsWithinCodeLimits}
 use Rattle.bk_texts.specs.Check.{check_text}
 use Rattle.bk_texts.specs.Table.{table_text}
 use Rattle.bk_texts.specs.Obligations.{obligations_text}
 use Rattle.bk_texts.specs.Listing.{listing}
 use Rattle.bk_verbs.specs.Session.{session_status}
 use Rattle.bk_verbs.specs.Work.{IsPlayed, IsGiven, IsDoneOn, IsWork}
-use Rattle.bk_verbs.specs.Stops.{StopsAtFile, StopsAtFiles, StopsAtTexts, StopsAtProject, StopsPastLimits, StopsAtProof, StopsPastCode, StopsAtCalls, StopsAtCallScript, StopsRead, StopsAtWork, StopsTask, name_at, status_of_stop, stop_text}
+use Rattle.bk_verbs.specs.Stops.{StopsAtFile, StopsAtFiles, StopsAtTexts, StopsAtProject, StopsPastLimits, StopsAtProof, StopsPastCode, StopsAtCalls, StopsAtCallScript, StopsRead, StopsAtWork, StopsTask, stop_of_refusal, stop_of_proofs, status_of_stop, stop_text}
 use Rattle.bkit.specs.Laws.{HasSomeAnswer}
+use Rattle.bkit.proofs.Following.{project_development, project_in_b0}
 use Rattle.bkit.proofs.Possible.{Possible, certain, and_then, decide}
 use Rattle.bkit.proofs.SomeImage.{some_verdict}
 use Rattle.bkit.proofs.SomeTable.{some_table}
 use Rattle.std.specs.Cmp.Lexicographic.{pointwise}
-use Rattle.bk_verbs.proofs.Projects.{names_of, some_once}
+use Rattle.bk_verbs.proofs.Projects.{some_once}
 use Rattle.bk_verbs.proofs.Fetching.{stops_before, stops_behind}
 
 -- a check stops, or what it looks for is there
@@ -99,81 +109,64 @@ held_bytes (f ∷ fs) h name text e = by (pointwise nat_eq name f.0) refl (held_
     by false t others = others (sym (passed f fs name t) ∙ e)
 
 -- ---- proof files
--- the first files have scripts; then all have, or there is a first that has none with those before it
-module _ (texts : List (List ℕ)) where
-  abbrev Scripted : ℕ → Type 0
-  Scripted n = (scripts : List Script) × AreScriptsOf (take n texts) scripts
-
-  abbrev Outcome : Type 0
-  Outcome = Scripted (length texts) ⊎ ((n : ℕ) × IsFirstFaulty texts n)
-
-  from_place : (left n : ℕ) → n + left ≡ length texts → Scripted n → Possible Outcome
-  from_place zero n e h = certain (inl (subst Scripted (omega (arith, e)) h))
-  from_place (suc left) n e h = and_then (decide (Scripted (n + 1))) (λ d. elim d [
-    | inl more ↦ from_place left (n + 1) (omega (arith, e)) more
-    | inr none ↦ certain (inr (n, record { inside = omega (arith, e); before = h.0; right = h.1; none = λ scripts k. none (scripts, k) }))
+-- texts have scripts, or a fault
+all_scripts : (texts : List (List ℕ)) → Possible (((scripts : List RawScript) × AreScriptsOf texts scripts) ⊎ ((fault : ScriptFault) × IsOfTexts fault × IsFaultOfProofs texts fault))
+all_scripts texts = and_then (decide ((scripts : List RawScript) × AreScriptsOf texts scripts)) (λ d. elim d [
+  | inl h ↦ certain (inl h)
+  | inr none ↦ and_then (decide ((fault : ScriptFault) × IsOfTexts fault × IsFaultOfProofs texts fault)) (λ f. elim f [
+    | inl h ↦ certain (inr h)
+    | inr neither ↦ λ never. scripts_are_told texts (λ scripts s. none (scripts, s)) (λ fault o h. neither (fault, o, h))
   ])
-
-no_files : (texts : List (List ℕ)) → AreScriptsOf (take 0 texts) []
-no_files texts = record { files = []; each = tt; joined = refl; distinct = λ i j d below inside. absurd (omega (arith, inside)) }
-
-all_scripts : (texts : List (List ℕ)) → Possible (((scripts : List Script) × AreScriptsOf texts scripts) ⊎ ((n : ℕ) × IsFirstFaulty texts n))
-all_scripts texts = and_then (from_place texts (length texts) 0 (omega arith) ([], no_files texts)) (λ o. elim o [
-  | inl h ↦ certain (inl (h.0, subst (λ x. AreScriptsOf x h.0) (take_all (length texts) texts (omega arith)) h.1))
-  | inr h ↦ certain (inr h)
 ])
 
 -- ---- the project
+-- a text for each component file, and one at least
+texts_counted : (files : Files) (text : List ℕ) (ls : List ProjectLine) (texts : List (List ℕ)) → AreLinesOf text ls → AreTold files (files_of false ls) texts → (length (kinds_of ls) ≡ length texts) × (0 < length texts)
+texts_counted files text ls texts are t =
+    let long : length texts ≡ length (files_of false ls) = AllZip-long (IsTold files) (files_of false ls) texts t in
+    let named = length-map (component_lines ls) (λ l. l.name) in
+    let kinds = length-map (component_lines ls) (λ l. l.kind) in
+    let some = chain_starts (kinds_of ls) are.are.chain in
+    (omega (arith, long, named, kinds), omega (arith, long, named, kinds, some))
+
 module _ (with_proofs : Bool) (files : Files) (project : List ℕ) where
   abbrev Read : Type 0
-  Read = Looks (StopsAtProject with_proofs files project) ((dev : Development) × (scripts : List Script) × ReadsProject with_proofs files project dev scripts)
+  Read = Looks (StopsAtProject with_proofs files project) ((dev : Development) × (scripts : List RawScript) × ReadsProject with_proofs files project dev scripts)
 
-  module _ (text : List ℕ) (told : IsTold files project text) (ls : List ProjectLine) (are : AreProjectLines text ls) (texts proof_texts : List (List ℕ))
+  module _ (text : List ℕ) (told : IsTold files project text) (ls : List ProjectLine) (are : AreLinesOf text ls) (texts proof_texts : List (List ℕ))
       (t : AreTold files (files_of false ls) texts) (u : AreTold files (fetched with_proofs (files_of true ls)) proof_texts) where
-    at_texts : (stop : Stop) → StopsAtTexts (files_of false ls) texts stop → Read
-    at_texts stop h = inl (stop, inr (text, told, inr (files_of false ls, files_of true ls, names_of text ls are, inr (texts, proof_texts, t, u, inl h))))
+    at_texts : (stop : Stop) → StopsAtTexts project ls texts stop → Read
+    at_texts stop h = inl (stop, inr (text, told, inr (ls, are, inr (texts, proof_texts, t, u, inl h))))
 
-    at_scripts : (dev : Development) (n : ℕ) → Reads texts dev → IsFirstFaulty proof_texts n → Read
-    at_scripts dev n r h =
-        let stop = Refused 15 (name_at (fetched with_proofs (files_of true ls)) n) in
-        inl (stop, inr (text, told, inr (files_of false ls, files_of true ls, names_of text ls are, inr (texts, proof_texts, t, u, inr (dev, r, (n, refl, h))))))
+    at_scripts : (dev : Development) (fault : ScriptFault) → Reads (kinds_of ls) texts dev → IsOfTexts fault → IsFaultOfProofs proof_texts fault → Read
+    at_scripts dev fault r o h =
+        let stop = stop_of_proofs fault (fetched with_proofs (files_of true ls)) in
+        inl (stop, inr (text, told, inr (ls, are, inr (texts, proof_texts, t, u, inr (dev, r, (fault, o, h, refl))))))
 
-    with_scripts : (dev : Development) → Reads texts dev → Possible Read
-    with_scripts dev r = and_then (all_scripts proof_texts) (λ o. elim o [
-      | inl h ↦ certain (inr (
-        dev,
-        h.0,
-        record {
-          text = text;
-          told = told;
-          components = files_of false ls;
-          proofs = files_of true ls;
-          names = names_of text ls are;
-          texts = texts;
-          proof_texts = proof_texts;
-          texts_told = t;
-          proofs_told = u;
-          reads = r;
-          scripts_are = h.1;
-        },
-      ))
-      | inr h ↦ certain (at_scripts dev h.0 r h.1)
-    ])
+    with_scripts : (dev : Development) → Reads (kinds_of ls) texts dev → Possible Read
+    with_scripts dev r =
+        let read : ReadsComponents files project dev = record { text = text; told = told; named = ls; lines = are; texts = texts; texts_told = t; reads = r } in
+        and_then (all_scripts proof_texts) (λ o. elim o [
+          | inl h ↦ certain (inr (dev, h.0, record { components = read; proof_texts = proof_texts; proofs_told = u; scripts_are = h.1 }))
+          | inr h ↦ certain (at_scripts dev h.0 r h.1 h.2)
+        ])
 
     with_texts : Possible Read
-    with_texts = and_then (decide (IsMachineText (text_at texts 0))) (λ m. elim m [
-      | inl machine ↦ and_then (decide ((dev : Development) × Reads texts dev)) (λ d. elim d [
-        | inl r ↦ with_scripts r.0 r.1
-        | inr none ↦ certain (at_texts (Refused 15 (name_at (files_of false ls) 1)) (inr (refl, machine, λ dev r. none (dev, r))))
-      ])
-      | inr none ↦ certain (at_texts (Refused 15 (name_at (files_of false ls) 0)) (inl (refl, none)))
-    ])
+    with_texts =
+        let counted = texts_counted files text ls texts are t in
+        and_then (decide ((dev : Development) × Reads (kinds_of ls) texts dev)) (λ d. elim d [
+          | inl r ↦ with_scripts r.0 r.1
+          | inr none ↦ and_then (decide ((refusal : Refusal) × IsOfProject refusal × IsRefusalOf (kinds_of ls) texts refusal)) (λ f. elim f [
+            | inl r ↦ certain (at_texts (stop_of_refusal r.0 project (files_of false ls)) (r.0, r.1, r.2, refl))
+            | inr neither ↦ λ never. texts_are_read (kinds_of ls) texts counted.0 counted.1 (λ dev r. none (dev, r)) (λ refusal o r. neither (refusal, o, r))
+          ])
+        ])
 
-  with_lines : (text : List ℕ) → IsTold files project text → (ls : List ProjectLine) → AreProjectLines text ls → Possible Read
+  with_lines : (text : List ℕ) → IsTold files project text → (ls : List ProjectLine) → AreLinesOf text ls → Possible Read
   with_lines text told ls are = elim (all_files files (files_of false ls)) [
-    | inl s ↦ certain (inl (s.0, inr (text, told, inr (files_of false ls, files_of true ls, names_of text ls are, inl (stops_before files (files_of false ls) (fetched with_proofs (files_of true ls)) s.0 s.1)))))
+    | inl s ↦ certain (inl (s.0, inr (text, told, inr (ls, are, inl (stops_before files (files_of false ls) (fetched with_proofs (files_of true ls)) s.0 s.1)))))
     | inr t ↦ elim (all_files files (fetched with_proofs (files_of true ls))) [
-      | inl s ↦ certain (inl (s.0, inr (text, told, inr (files_of false ls, files_of true ls, names_of text ls are, inl (stops_behind files (files_of false ls) (fetched with_proofs (files_of true ls)) t.0 s.0 t.1 s.1)))))
+      | inl s ↦ certain (inl (s.0, inr (text, told, inr (ls, are, inl (stops_behind files (files_of false ls) (fetched with_proofs (files_of true ls)) t.0 s.0 t.1 s.1)))))
       | inr u ↦ with_texts text told ls are t.0 u.0 t.1 u.1
     ]
   ]
@@ -181,9 +174,12 @@ module _ (with_proofs : Bool) (files : Files) (project : List ℕ) where
   read : Possible Read
   read = elim (file files project) [
     | inl s ↦ certain (inl (s.0, inl s.1))
-    | inr t ↦ and_then (decide ((ls : List ProjectLine) × AreProjectLines t.0 ls)) (λ d. elim d [
+    | inr t ↦ and_then (decide ((ls : List ProjectLine) × AreLinesOf t.0 ls)) (λ d. elim d [
       | inl h ↦ with_lines t.0 t.1 h.0 h.1
-      | inr none ↦ certain (inl (Refused 15 project, inr (t.0, t.1, inl (refl, λ ls are. none (ls, are)))))
+      | inr none ↦ and_then (decide ((refusal : Refusal) × IsOfProject refusal × IsRefusalOfLines t.0 refusal)) (λ f. elim f [
+        | inl r ↦ certain (inl (stop_of_refusal r.0 project [], inr (t.0, t.1, inl (r.0, r.1, r.2, refl))))
+        | inr neither ↦ λ never. lines_are_read t.0 (λ ls are. none (ls, are)) (λ refusal o r. neither (refusal, o, r))
+      ])
     ])
   ]
 
@@ -201,19 +197,19 @@ limits project dev = by (first_too_large (obligations dev)) refl
       ]
     ]
 
-module _ (project : List ℕ) (dev : Development) (texts : List (List ℕ)) (scripts : List Script) (are_scripts : AreScriptsOf texts scripts) where
+module _ (project : List ℕ) (dev : Development) (scripts : List RawScript) (room : PassNoLimit (obligations dev) → HasRoom dev × All (HasRoomFor dev) scripts) where
   proof : Possible (Looks (StopsAtProof project dev scripts) (IsFinished dev scripts))
   proof = by (is_complete dev) refl
     where
       rows_of : (complete : is_complete dev ≡ true) (within : PassNoLimit (obligations dev)) (rows : List Row) → HasRows dev scripts rows → (o : Option Row) → first_open rows ≡ o → Looks (StopsAtProof project dev scripts) (IsFinished dev scripts)
       rows_of complete within rows are (Some row) e = inl (Unproved row.name, inr (complete, inr (row.name, refl, within, (rows, row, are, e, refl))))
-      rows_of complete within rows are None e = inr (record { complete = complete; proved = record { within = within; proved = closed_tables_prove dev scripts rows are e } })
+      rows_of complete within rows are None e = inr (record { complete = complete; room = (room within).0; proved = record { within = within; proved = closed_tables_prove dev scripts rows are e } })
 
       by : (b : Bool) → is_complete dev ≡ b → Possible (Looks (StopsAtProof project dev scripts) (IsFinished dev scripts))
       by false e = certain (inl (Incomplete (level_at dev (last dev)).name, inl (refl, e)))
       by true e = elim (limits project dev) [
         | inl s ↦ certain (inl (s.0, inr (e, inl s.1)))
-        | inr within ↦ and_then (some_table dev texts scripts are_scripts) (λ t. certain (rows_of e within t.0 t.1 (first_open t.0) refl))
+        | inr within ↦ and_then (some_table dev scripts (room within).1) (λ t. certain (rows_of e within t.0 t.1 (first_open t.0) refl))
       ]
 
 -- ---- the code
@@ -229,15 +225,20 @@ code project image = elim (cases_lt 1000000 (length image.code)) [
   ]
 ]
 
--- a simple development has no sets, and so no elements
-no_elements : (dev : Development) → IsLawful dev → IsSimple dev → HasElementsInRange dev
-no_elements dev f s n i below =
-    let none : i < 0 = subst (λ (sets : List SetEntry). i < option_map_or length (option_map (λ e. e.elements) (slice_get sets n)) 0) (sym f.sets ∙ s.no_sets) below in
-    absurd (omega (arith, none))
+-- an image with a spelling has sets whose elements are numbers of the machine
+sizes : (xs : List SetEntry) → All FitsSet (map (λ (x : SetEntry). x.elements) xs) → (s : ℕ) → option_map_or length (option_map (λ (x : SetEntry). x.elements) (slice_get xs s)) 0 < 2 ^ 16
+sizes [] h s = omega arith
+sizes (x ∷ xs) h zero = (All-head FitsSet x.elements (map (λ (y : SetEntry). y.elements) xs) h).few
+sizes (x ∷ xs) h (suc s) = sizes xs (All-tail FitsSet x.elements (map (λ (y : SetEntry). y.elements) xs) h) s
+
+elements_in_range : (dev : Development) → IsLawful dev → IsWithinCodeLimits (translation dev) → HasElementsInRange dev
+elements_in_range dev f w s i below =
+    let small : set_size dev.table s < 2 ^ 16 = sizes dev.table.sets (subst (λ (sets : List SetEntry). All FitsSet (map (λ (x : SetEntry). x.elements) sets)) f.sets w.spelled.fits.sets) s in
+    omega (arith, ints, below, small)
 
 -- its translation passes the loader's checks
-simple_loads : (dev : Development) → IsLawful dev → IsSimple dev → IsWithinCodeLimits (translation dev) → IsLoadable (translation dev)
-simple_loads dev f s w = translations_load dev f (simple_is_in_b0 dev s) (no_elements dev f s) w.cells w.code
+translation_loads : (dev : Development) → IsLawful dev → IsB0Development dev → IsWithinCodeLimits (translation dev) → IsLoadable (translation dev)
+translation_loads dev f b w = translations_load dev f b (elements_in_range dev f w) w.cells w.code
 
 -- ---- sessions
 module _ (files : Files) (calls : List ℕ) (fuel : ℕ) (image : Image) (checked : IsChecked image) where
@@ -274,7 +275,7 @@ module _ (files : Files) (project : List ℕ) (task : Task) where
   Gives = Looks (StopsAtWork files project task) ((status : Status) × (text : List ℕ) × IsDoneOn files project task status text)
 
   -- once the project is read
-  after_reading : ((dev : Development) (scripts : List Script) → ReadsProject (has_proofs task) files project dev scripts →
+  after_reading : ((dev : Development) (scripts : List RawScript) → ReadsProject (has_proofs task) files project dev scripts →
       Possible (Looks (StopsRead files task dev scripts) ((status : Status) × (text : List ℕ) × IsGiven files task dev scripts status text))) → Possible Gives
   after_reading next = and_then (read (has_proofs task) files project) (λ r. elim r [
     | inl s ↦ certain (inl (s.0, inl s.1))
@@ -284,14 +285,14 @@ module _ (files : Files) (project : List ℕ) (task : Task) where
     ])
   ])
 
-module _ (files : Files) (bytes : HoldBytes files) where
+module _ (files : Files) (bytes : HoldBytes files) (room : HaveRoom files) where
   check_answers : (project : List ℕ) → Possible (Answers files (check_task project))
   check_answers project = after_reading files project (check_task project) (λ dev scripts r. certain (inr (Done, check_text dev, (refl, refl))))
 
   status_answers : (project : List ℕ) → Possible (Answers files (status_task project))
   status_answers project = after_reading files project (status_task project) (λ dev scripts r. elim (limits project dev) [
     | inl s ↦ certain (inl s)
-    | inr within ↦ and_then (some_table dev r.proof_texts scripts r.scripts_are) (λ t. certain (inr (Done, table_text t.0, (refl, record { within = within; rows = t.0; are = t.1; text_is = refl }))))
+    | inr within ↦ and_then (some_table dev scripts (room project dev scripts r within).1) (λ t. certain (inr (Done, table_text t.0, (refl, record { within = within; rows = t.0; are = t.1; text_is = refl }))))
   ])
 
   po_answers : (project : List ℕ) → Possible (Answers files (po_task project))
@@ -303,7 +304,7 @@ module _ (files : Files) (bytes : HoldBytes files) where
   code_answers : (project : List ℕ) → Possible (Answers files (code_task project))
   code_answers project = after_reading files project (code_task project) (λ dev scripts r. by dev scripts (is_complete dev) refl)
     where
-      by : (dev : Development) (scripts : List Script) (b : Bool) → is_complete dev ≡ b → Possible (Looks (StopsRead files (code_task project) dev scripts) ((status : Status) × (text : List ℕ) × IsGiven files (code_task project) dev scripts status text))
+      by : (dev : Development) (scripts : List RawScript) (b : Bool) → is_complete dev ≡ b → Possible (Looks (StopsRead files (code_task project) dev scripts) ((status : Status) × (text : List ℕ) × IsGiven files (code_task project) dev scripts status text))
       by dev scripts false e = certain (inl (Incomplete (level_at dev (last dev)).name, inl (refl, e)))
       by dev scripts true e = and_then (code project (translation dev)) (λ c. elim c [
         | inl s ↦ certain (inl (s.0, inr (e, s.1)))
@@ -311,12 +312,12 @@ module _ (files : Files) (bytes : HoldBytes files) where
       ])
 
   -- the translation of what is read passes the loader's checks
-  loadable : (with_proofs : Bool) (project : List ℕ) (dev : Development) (scripts : List Script) → ReadsProject with_proofs files project dev scripts → IsWithinCodeLimits (translation dev) → IsLoadable (translation dev)
-  loadable with_proofs project dev scripts r w =
-      simple_loads dev (is_development r.texts dev r.reads).lawful (is_simple r.texts dev r.reads) w
+  loadable : (with_proofs : Bool) (project : List ℕ) (dev : Development) (scripts : List RawScript) → ReadsProject with_proofs files project dev scripts → HasRoom dev → is_complete dev ≡ true → IsWithinCodeLimits (translation dev) → IsLoadable (translation dev)
+  loadable with_proofs project dev scripts r has complete w =
+      translation_loads dev (project_development with_proofs files project dev scripts r has).lawful (project_in_b0 with_proofs files project dev scripts r has complete) w
 
   build_answers : (project : List ℕ) → Possible (Answers files (build_task project))
-  build_answers project = after_reading files project (build_task project) (λ dev scripts r. and_then (proof project dev r.proof_texts scripts r.scripts_are) (λ p. elim p [
+  build_answers project = after_reading files project (build_task project) (λ dev scripts r. and_then (proof project dev scripts (room project dev scripts r)) (λ p. elim p [
     | inl s ↦ certain (inl (s.0, inl s.1))
     | inr finished ↦ and_then (code project (translation dev)) (λ c. elim c [
       | inl s ↦ certain (inl (s.0, inr (finished, s.1)))
@@ -328,7 +329,7 @@ module _ (files : Files) (bytes : HoldBytes files) where
           record {
             finished = finished;
             short = short;
-            encodes = record { loadable = loadable true project dev scripts r short; spelled = short.spelled; is = refl };
+            encodes = record { loadable = loadable true project dev scripts r finished.room finished.complete short; spelled = short.spelled; is = refl };
           },
         ),
       ))
@@ -336,7 +337,7 @@ module _ (files : Files) (bytes : HoldBytes files) where
   ]))
 
   run_answers : (project calls : List ℕ) (fuel : ℕ) → Possible (Answers files (run_task project calls fuel))
-  run_answers project calls fuel = after_reading files project (run_task project calls fuel) (λ dev scripts r. and_then (proof project dev r.proof_texts scripts r.scripts_are) (λ p. elim p [
+  run_answers project calls fuel = after_reading files project (run_task project calls fuel) (λ dev scripts r. and_then (proof project dev scripts (room project dev scripts r)) (λ p. elim p [
     | inl s ↦ certain (inl (s.0, inl s.1))
     | inr finished ↦ with_calls dev scripts r finished (file files calls)
   ]))
@@ -346,12 +347,12 @@ module _ (files : Files) (bytes : HoldBytes files) where
       script_stops dev stop w (inl h) = inl h
       script_stops dev stop w (inr h) = inr (h.0, h.1, inr (w, h.2))
 
-      with_calls : (dev : Development) (scripts : List Script) → ReadsProject true files project dev scripts → IsFinished dev scripts → Looks (StopsAtFile files calls) ((text : List ℕ) × IsTold files calls text) →
+      with_calls : (dev : Development) (scripts : List RawScript) → ReadsProject true files project dev scripts → IsFinished dev scripts → Looks (StopsAtFile files calls) ((text : List ℕ) × IsTold files calls text) →
           Possible (Looks (StopsRead files (run_task project calls fuel) dev scripts) ((status : Status) × (text : List ℕ) × IsGiven files (run_task project calls fuel) dev scripts status text))
       with_calls dev scripts r finished (inl s) = certain (inl (s.0, inr (finished, inl s.1)))
       with_calls dev scripts r finished (inr t) = and_then (code project (translation dev)) (λ c. elim c [
         | inl s ↦ certain (inl (s.0, inr (finished, inr (t.0, t.1, inl s.1))))
-        | inr short ↦ elim (played files calls fuel (translation dev) (loadable_is_checked (translation dev) (loadable true project dev scripts r short))) [
+        | inr short ↦ elim (played files calls fuel (translation dev) (loadable_is_checked (translation dev) (loadable true project dev scripts r finished.room finished.complete short))) [
           | inl s ↦ certain (inl (s.0, inr (finished, script_stops dev s.0 short s.1)))
           | inr p ↦ certain (inr (p.0, p.1, record { finished = finished; short = short; played = p.2 }))
         ]
@@ -387,8 +388,8 @@ module _ (files : Files) (bytes : HoldBytes files) where
 
 -- ---- words
 pub some_answer : HasSomeAnswer
-some_answer files words bytes never = decide ((task : Task) × Asks words task) (λ d. elim d [
-  | inl a ↦ task_answers files bytes a.0 (λ o. elim o [
+some_answer files words bytes room never = decide ((task : Task) × Asks words task) (λ d. elim d [
+  | inl a ↦ task_answers files bytes room a.0 (λ o. elim o [
     | inl s ↦ never (status_of_stop s.0) (stop_text s.0) (inl (s.0, inr (a.0, a.1, s.1), refl, refl))
     | inr w ↦ never w.0 w.1 (inr (a.0, a.1, w.2))
   ])

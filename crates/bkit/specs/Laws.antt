@@ -6,13 +6,13 @@ use Rattle.bk_code.specs.Session.{Told, Session}
 use Rattle.bk_form.specs.Search.{Finder, IsSearch}
 use Rattle.bk_dev.specs.Development.{Development}
 use Rattle.bk_b0.specs.Translation.{translation}
-use Rattle.bk_sim.specs.Within.{EndsInCode}
-use Rattle.bk_scripts.specs.WrittenRule.{Script}
+use Rattle.bk_sim.specs.Within.{EndsWithoutLoops}
+use Rattle.bk_raw.specs.ScriptTree.{RawScript}
 use Rattle.bk_verbs.specs.declared.status.Status.{Status}
 use Rattle.bk_verbs.specs.declared.status.Status.TheVariants.{Done, Trapped}
 use Rattle.bk_words.specs.Tasks.{build_task, run_task, exec_task, Asks}
-use Rattle.bkit.specs.Legal.{AreLegal}
-use Rattle.bk_verbs.specs.Project.{HoldBytes, ReadsProject, IsProved}
+use Rattle.bkit.specs.Legal.{AreLegal, RunNoLoop, EachWouldEnd, EachEndsInTime}
+use Rattle.bk_verbs.specs.Project.{HoldBytes, HaveRoom, ReadsProject, IsFinished}
 use Rattle.bkit.specs.Run.{IsReady}
 use Rattle.bk_verbs.specs.Session.{session_status}
 use Rattle.bkit.specs.Answer.{IsAnswer}
@@ -23,9 +23,10 @@ HasOneAnswer =
     (files : Files) (words : List (List ℕ)) (status other : Status) (text other_text : List ℕ) → IsAnswer files words status text →
     IsAnswer files words other other_text → (status ≡ other) × (text ≡ other_text)
 
--- and where files hold bytes it cannot be that they have none
+-- and where files hold bytes it cannot be that they have none, as long as 32 bits number the variables of each project that is read and whose
+-- obligations pass no limit, and the names that its scripts bring
 abbrev pub HasSomeAnswer : Type 0
-HasSomeAnswer = (files : Files) (words : List (List ℕ)) → HoldBytes files → ((status : Status) (text : List ℕ) → IsAnswer files words status text → ⊥) → ⊥
+HasSomeAnswer = (files : Files) (words : List (List ℕ)) → HoldBytes files → HaveRoom files → ((status : Status) (text : List ℕ) → IsAnswer files words status text → ⊥) → ⊥
 
 -- where `build` is done, `exec` on a file with the bytes that it writes has, with the same call script and fuel, the answer of `run`; the
 -- bytes must be few enough for a file
@@ -36,17 +37,20 @@ BuiltImagesRun =
     IsAnswer files build_words Done bytes → AreBytes bytes → length bytes ≤ 16777216 → file_named others image ≡ Some bytes → file_named others calls ≡ file_named files calls →
     (status : Status) (text : List ℕ) → IsAnswer files run_words status text ↔ IsAnswer others exec_words status text
 
--- the initialisation of a project whose obligations are proved, and each legal call, are done with a fuel equal to the length of their code,
--- Ret included, and with every larger one; also where the call script is at fault
+-- the initialisation of a project with an implementation whose obligations are proved, and each legal call, where no WHILE stands in
+-- them, are done with a fuel equal to the length of their code, Ret included, and with every larger one; also where the call script is
+-- at fault
 abbrev pub ProjectsEnd : Type 0
 ProjectsEnd =
-    (files : Files) (project : List ℕ) (dev : Development) (scripts : List Script) → ReadsProject true files project dev scripts → IsProved dev scripts →
-    (find : Finder) → IsSearch find → EndsInCode find dev (translation dev)
+    (files : Files) (project : List ℕ) (dev : Development) (scripts : List RawScript) → ReadsProject true files project dev scripts → IsFinished dev scripts →
+    (find : Finder) → IsSearch find → EndsWithoutLoops find dev (translation dev)
 
--- where each call of a session of a project is legal after those before it, none traps, and with a fuel of at least the length of the code
--- all are done
+-- where each call of a session of a project is legal after those before it, none traps, one out of fuel would end with more, one
+-- without WHILE is done with a fuel of at least the length of its code, and where no WHILE is run all are done with one of at least
+-- the length of the whole code
 abbrev pub LegalCallsAreDone : Type 0
 LegalCallsAreDone =
     (files : Files) (project calls : List ℕ) (fuel : ℕ) (ready : IsReady files project calls) (tolds : List Told) →
     Session (translation ready.dev) fuel ready.requests tolds → (find : Finder) → IsSearch find → AreLegal find ready.dev ready.requests tolds →
-    (session_status tolds ≢ Trapped) × (length (translation ready.dev).code ≤ fuel → session_status tolds ≡ Done)
+    (session_status tolds ≢ Trapped) × EachWouldEnd (translation ready.dev) fuel ready.requests tolds × EachEndsInTime ready.dev fuel ready.requests tolds ×
+    (RunNoLoop ready.dev ready.requests → length (translation ready.dev).code ≤ fuel → session_status tolds ≡ Done)

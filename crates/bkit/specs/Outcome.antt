@@ -10,7 +10,7 @@ use Rattle.bk_verbs.specs.Codes.{code_of}
 use Rattle.bk_words.specs.Tasks.{run_task, Asks, AskForNothing}
 use Rattle.bk_verbs.specs.Stops.{IsCutShort, stop_text}
 use Rattle.bk_verbs.specs.Work.{IsExecuted}
-use Rattle.bkit.specs.Run.{IsReady, WritesRun, IsDoneWhereLegal, ComesSoFar}
+use Rattle.bkit.specs.Run.{IsReady, WritesRun, IsDoneWhereLegal}
 use Rattle.bkit.specs.Answer.{IsAnswer, IsAnswered, WritesAnswer, WritesLine}
 
 -- what a shelf and a sink tell: the files and what was written, where they are told, and how often a read or a write failed and a file
@@ -43,7 +43,6 @@ pub record Outcome (words : List (List ℕ)) (old new : Devices) (status : Statu
   pub missing : status ≡ Missing → Rose old.absences new.absences
   pub usage : status ≡ Usage → AskForNothing words × (new.written ≡ written_with old.written (stop_text UsageStop))
   pub wrong_words : AskForNothing words → (status ≡ Usage) ⊎ (IsCutShort status × WroteFront (stop_text UsageStop) old.written new.written)
-  pub so_far : ComesSoFar status
 
 -- the exit code is that of such a status
 pub record HasOutcome (words : List (List ℕ)) (old new : Devices) (code : ℕ) : Type 0 where

@@ -1,6 +1,6 @@
 //! Laws of the definitions, as contracts of functions that do nothing.
 
-ghost use Rattle.bkit.specs.Following.{ValidObligationsFollow, ProvedDevelopmentsFollow, ExchangeIsRight};
+ghost use Rattle.bkit.specs.Following.{ValidObligationsFollow, ProvedDevelopmentsFollow, ClosedTablesFollow, ExchangeIsRight};
 ghost use Rattle.bkit.specs.Laws.{HasOneAnswer, HasSomeAnswer, BuiltImagesRun, ProjectsEnd, LegalCallsAreDone};
 
 /// The words and the told files have one answer at most.
@@ -8,7 +8,7 @@ pub fn answers_are_unique()
     ensures { HasOneAnswer }
 {}
 
-/// It cannot be that the words and the told files have no answer.
+/// It cannot be that the words and the told files have no answer, as long as 32 bits number what is read.
 pub fn answers_exist()
     ensures { HasSomeAnswer }
 {}
@@ -18,12 +18,13 @@ pub fn built_images_run()
     ensures { BuiltImagesRun }
 {}
 
-/// The initialisation of a proved project, and each legal call, end within the length of their code.
+/// The initialisation of a proved project, and each legal call, end within the length of their code where they have no loop.
 pub fn proved_projects_end()
     ensures { ProjectsEnd }
 {}
 
-/// Where each call of a project's session is legal after those before it, none traps, and with enough fuel all are done.
+/// Where each call of a project's session is legal after those before it, none traps, each would end with more fuel, and with
+/// enough fuel all are done where no loop is run.
 pub fn legal_calls_are_done()
     ensures { LegalCallsAreDone }
 {}
@@ -36,6 +37,11 @@ pub fn obligations_follow()
 /// Where each obligation is obvious or has a replayed proof, translated code follows the machine.
 pub fn proved_developments_follow()
     ensures { ProvedDevelopmentsFollow }
+{}
+
+/// Where the status table has no open row, translated code follows the machine, and what has no loop ends within its code.
+pub fn closed_tables_follow()
+    ensures { ClosedTablesFollow }
 {}
 
 /// A development with `||`, a local, a loop and an array: its obligations are valid, and so its translation follows it.

@@ -5,6 +5,12 @@
 pub mod laws;
 mod program;
 #[cfg(test)]
+mod project_tests;
+#[cfg(test)]
+mod row_files;
+#[cfg(test)]
+mod row_tests;
+#[cfg(test)]
 mod scripted_tests;
 #[cfg(test)]
 mod tests;

@@ -12,9 +12,9 @@ ghost use Rattle.bk_verbs.specs.declared.stop.Stop.TheVariants.{Usage, ReadFault
 ghost use Rattle.bk_verbs.specs.Codes.{code_of};
 ghost use Rattle.bk_words.specs.Tasks.{Task, run_task, Asks, AskForNothing};
 ghost use Rattle.bk_verbs.specs.Causes.{IsOfPlaying, CountsAbsence};
-ghost use Rattle.bk_verbs.specs.Stops.{IsOutside, StopsAt, IsCutShort, status_of_stop, stop_text};
+ghost use Rattle.bk_verbs.specs.Stops.{IsOutside, StopsAt, IsCutShort, stop_text};
 ghost use Rattle.bk_verbs.specs.Work.{IsExecuted, WritesWork};
-ghost use Rattle.bkit.specs.Run.{IsReady, WritesRun, IsDoneWhereLegal, ComesSoFar};
+ghost use Rattle.bkit.specs.Run.{IsReady, WritesRun, IsDoneWhereLegal};
 ghost use Rattle.bkit.specs.Answer.{IsAnswer, IsAnswered, WritesAnswer, WritesLine};
 ghost use Rattle.bkit.specs.Outcome.{devices, HasOutcome};
 
@@ -105,7 +105,6 @@ pub fn bkit<H: Shelf, K: Sink>(
         (K.written out.new ≡ written_with (K.written out.old) (stop_text Usage)) }
     ensures wrong_words { AskForNothing (map string_bytes words.now) → (result ≡ Status.Usage) ⊎
         (IsCutShort result × WroteFront (stop_text Usage) (K.written out.old) (K.written out.new)) }
-    ensures so_far { ComesSoFar result }
 {
     match perform(alloc, words, shelf, out) {
         Ok(status) => status,
@@ -138,7 +137,6 @@ fn perform<H: Shelf, K: Sink>(
         (task : Task) → Asks (map string_bytes words.now) task →
         WritesWork files task (K.written out.old) (K.written out.new) status) }
     ensures asked { IfOk result (λ status. (task : Task) × Asks (map string_bytes words.now) task) }
-    ensures so_far { IfErr result (λ stop. ComesSoFar (status_of_stop stop)) }
 {
     let command = asked(alloc, words)?;
     let work = prepare(alloc, command, shelf)?;

@@ -1,7 +1,7 @@
 // Runs of projects with inputs, conditions and scripts of proof, over files and a sink in memory.
 
 use crate::program::bkit;
-use bk_io::{MemShelf, MemSink, SureShelf, SureSink, have_distinct_names};
+use bk_io::{SureShelf, SureSink, have_distinct_names};
 use bk_verbs::Status;
 use std::alloc::Global;
 use std::string::String;
@@ -99,8 +99,8 @@ const STEPPER_PROOFS: &str = "proof Stepper.inc.1\n\
     \x20 lin 2 : 1 * 2 + 1 * 3\n\
     end\n";
 
-// A file's name, and its text; None where the file is not there.
-type File<'a> = (&'a str, Option<&'a str>);
+// A file's name, and its text.
+type File<'a> = (&'a str, &'a str);
 
 // The files of both projects, and the call script. This file stands in the place of the one with its name.
 fn files(alloc: Global, instead: File) -> Result<Vec<(String, Vec<u8>)>, Fail> {
@@ -117,11 +117,9 @@ fn files(alloc: Global, instead: File) -> Result<Vec<(String, Vec<u8>)>, Fail> {
         ("Stepper.prf", STEPPER_PROOFS),
         ("c.calls", TALLY_CALLS),
     ] {
-        let text = if name == changed { other } else { Some(own) };
-        if let Some(text) = text {
-            let bytes = text.as_bytes().to_vec(alloc)?;
-            files.push((String::from_str(alloc, name)?, bytes))?;
-        }
+        let text = if name == changed { other } else { own };
+        let bytes = text.as_bytes().to_vec(alloc)?;
+        files.push((String::from_str(alloc, name)?, bytes))?;
     }
     if have_distinct_names(&files) {
         Ok(files)
@@ -151,60 +149,6 @@ fn outcome(alloc: Global, project: &str, instead: File) -> Result<(Status, Vec<u
     Ok((status, sink.written().to_vec(alloc)?))
 }
 
-// ---- runs
-
-#[test]
-fn the_tally_is_run(rt: HostRuntime) -> Result<(), Fail> {
-    let cases = [
-        (TALLY_CALLS, Status::Done, TALLY_TRANSCRIPT),
-        (
-            "inc(7)\ninc(7)\nget\n",
-            Status::Done,
-            "inc\ninc\nget = 14\nend 3 calls, 16 steps\n",
-        ),
-        (
-            "inc(4)\ninc(-3)\nget\n",
-            Status::Done,
-            "inc\ninc\nget = 1\nend 3 calls, 16 steps\n",
-        ),
-        (
-            "inc(4)\ninc(2147483647)\n",
-            Status::Trapped,
-            "inc\ninc trapped Overflow at 5\nend 1 calls, 10 steps\n",
-        ),
-    ];
-    for (calls, expected, transcript) in cases {
-        let (status, written) = outcome(rt.alloc(), "t.prj", ("c.calls", Some(calls)))?;
-        assert_eq!(rt; status, expected);
-        assert_eq!(rt; written.as_slice(), transcript.as_bytes());
-    }
-    Ok(())
-}
-
-#[test]
-fn calls_of_the_tally_at_fault(rt: HostRuntime) -> Result<(), Fail> {
-    for line in ["inc", "inc(TRUE)", "dec", "inc(4", "inc(2147483648)"] {
-        let alloc = rt.alloc();
-        let mut calls = String::from_str(alloc, "inc(4)\n")?;
-        calls.push_str(line)?;
-        calls.push_str("\nget\n")?;
-        let (status, written) = outcome(alloc, "t.prj", ("c.calls", Some(&calls)))?;
-        assert_eq!(rt; status, Status::BadCalls, "{line}");
-        assert_eq!(rt; written.as_slice(), b"bad call line 2\n".as_slice());
-    }
-    Ok(())
-}
-
-#[test]
-fn the_stepper_is_run(rt: HostRuntime) -> Result<(), Fail> {
-    let calls = "inc\ninc\nget\n";
-    let (status, written) = outcome(rt.alloc(), "s.prj", ("c.calls", Some(calls)))?;
-    assert_eq!(rt; status, Status::Done);
-    let transcript = "inc\ninc\nget = 2\nend 3 calls, 26 steps\n";
-    assert_eq!(rt; written.as_slice(), transcript.as_bytes());
-    Ok(())
-}
-
 // ---- proofs
 
 // What a run writes where this piece of the proof file of the project is another.
@@ -220,7 +164,7 @@ fn with_proofs(
         ("Stepper.prf", STEPPER_PROOFS)
     };
     let changed = proofs.replace(alloc, from, to)?;
-    outcome(alloc, project, (name, Some(&changed)))
+    outcome(alloc, project, (name, &changed))
 }
 
 #[test]
@@ -254,6 +198,21 @@ fn obligations_that_are_not_proved(rt: HostRuntime) -> Result<(), Fail> {
         ),
         // a name of nothing
         ("t.prj", "n$0 + k", "n$0 + j", "unproved Tally.inc.1\n"),
+        // another law, and a law of no number
+        (
+            "t.prj",
+            "law O5(n$0",
+            "law O6(n$0",
+            "unproved Tally.inc.1\n",
+        ),
+        (
+            "t.prj",
+            "law O5(n$0",
+            "law Q5(n$0",
+            "unproved Tally.inc.1\n",
+        ),
+        // a type of nothing
+        ("t.prj", "hyp 3", "fix k : T", "unproved Tally.inc.1\n"),
         // a hypothesis of no number
         ("t.prj", "hyp 3", "hyp 4294967296", "unproved Tally.inc.1\n"),
     ];
@@ -265,7 +224,7 @@ fn obligations_that_are_not_proved(rt: HostRuntime) -> Result<(), Fail> {
     Ok(())
 }
 
-// A number of a name counts by its value, and scripts for no obligation are ignored.
+// A number of a name counts by its value, scripts for no obligation are ignored, and comments may stand anywhere.
 #[test]
 fn other_ways_to_write_proofs(rt: HostRuntime) -> Result<(), Fail> {
     let cases = [
@@ -278,6 +237,9 @@ fn other_ways_to_write_proofs(rt: HostRuntime) -> Result<(), Fail> {
             "proof Tally.inc.1",
             "proof Tally.get.1 hyp 9 end proof Tally.inc.1",
         ),
+        ("proof Tally.inc.1", "// a remark\nproof Tally.inc.1"),
+        ("hyp 3", "/* the invariant */ hyp 3"),
+        ("n$0 + k", "((n$0) + k)"),
     ];
     for (from, to) in cases {
         let (status, written) = with_proofs(rt.alloc(), "t.prj", from, to)?;
@@ -290,19 +252,72 @@ fn other_ways_to_write_proofs(rt: HostRuntime) -> Result<(), Fail> {
 #[test]
 fn proof_files_at_fault(rt: HostRuntime) -> Result<(), Fail> {
     let cases = [
-        ("hyp 3", "hip 3"),
-        ("hyp 3\nend", "hyp 3"),
-        ("lin 1, 2 :", "lin 1, 2"),
-        ("Tally_i.inc.2", "Tally_i.inc.1"),
-        ("Tally_i.inc.2", "Tally_i.inc.01"),
-        ("proof Tally.inc.1", "// a remark\nproof Tally.inc.1"),
-        ("law O5(n$0 + k, 0, 10)", "law O6(n$0 + k, 0, 10)"),
+        ("hyp 3", "hip 3", "refused F3 Tally.prf at 89\n"),
+        ("hyp 3\nend", "hyp 3", "refused F3 Tally.prf at 97\n"),
+        ("lin 1, 2 :", "lin 1, 2", "refused F3 Tally.prf at 54\n"),
+        (
+            "Tally_i.inc.2",
+            "Tally_i.inc.1",
+            "refused F6 Tally.prf at 239\n",
+        ),
+        (
+            "Tally_i.inc.2",
+            "Tally_i.inc.01",
+            "refused F6 Tally.prf at 239\n",
+        ),
     ];
-    for (from, to) in cases {
+    for (from, to, line) in cases {
         let (status, written) = with_proofs(rt.alloc(), "t.prj", from, to)?;
         assert_eq!(rt; status, Status::Refused, "{to}");
-        assert_eq!(rt; written.as_slice(), b"refused F15 Tally.prf\n".as_slice());
+        assert_eq!(rt; written.as_slice(), line.as_bytes());
     }
+    Ok(())
+}
+
+#[test]
+fn a_second_script_of_one_name(rt: HostRuntime) -> Result<(), Fail> {
+    let alloc = rt.alloc();
+    let mut proofs = String::from_str(alloc, TALLY_PROOFS)?;
+    proofs.push_str("proof Tally.inc.1\n  hyp 1\nend\n")?;
+    let (status, written) = outcome(alloc, "t.prj", ("Tally.prf", &proofs))?;
+    assert_eq!(rt; status, Status::Refused);
+    assert_eq!(rt;
+        written.as_slice(),
+        b"refused F6 Tally.prf at 412\n".as_slice()
+    );
+    Ok(())
+}
+
+#[test]
+fn a_proof_file_that_ends_in_a_name(rt: HostRuntime) -> Result<(), Fail> {
+    let proofs = "proof Tally.inc.1\n  law O5(n$";
+    let (status, written) = outcome(rt.alloc(), "t.prj", ("Tally.prf", proofs))?;
+    assert_eq!(rt; status, Status::Refused);
+    assert_eq!(rt;
+        written.as_slice(),
+        b"refused F2 Tally.prf at 28\n".as_slice()
+    );
+    Ok(())
+}
+
+// What a run of the tally writes where a term of its proofs stands in so many parentheses.
+fn in_parentheses(alloc: Global, count: usize) -> Result<Vec<u8>, Fail> {
+    let open = "(".repeat(alloc, count)?;
+    let close = ")".repeat(alloc, count)?;
+    let term = format!(in alloc; "{open}n$0 + k{close}")?;
+    Ok(with_proofs(alloc, "t.prj", "n$0 + k", &term)?.1)
+}
+
+// Those of the law are open around the term.
+#[test]
+fn parentheses_in_a_proof_file(rt: HostRuntime) -> Result<(), Fail> {
+    let written = in_parentheses(rt.alloc(), 399)?;
+    assert_eq!(rt; written.as_slice(), TALLY_TRANSCRIPT.as_bytes());
+    let written = in_parentheses(rt.alloc(), 400)?;
+    assert_eq!(rt;
+        written.as_slice(),
+        b"refused F13 Tally.prf limit 3\n".as_slice()
+    );
     Ok(())
 }
 
@@ -316,15 +331,15 @@ fn the_order_of_the_checks(rt: HostRuntime) -> Result<(), Fail> {
         ),
         (
             "machine Tally.mch\nproofs Tally.mch\nimplementation Tally.mch\n",
-            "refused F15 Tally.mch\n",
+            "refused F5 Tally.mch at 8\n",
         ),
         (
             "proofs Tally.prf\nmachine Tally.mch\nproofs c.calls\nimplementation Tally_i.imp\n",
-            "refused F15 c.calls\n",
+            "refused F3 c.calls at 0\n",
         ),
         (
             "machine Tally.mch\nimplementation Tally_i.imp\nproofs Tally.prf\nproofs Tally.prf\n",
-            "refused F15 Tally.prf\n",
+            "refused F6 Tally.prf at 6\n",
         ),
         (
             "machine Tally.mch\nimplementation Tally_i.imp\n",
@@ -332,15 +347,15 @@ fn the_order_of_the_checks(rt: HostRuntime) -> Result<(), Fail> {
         ),
         (
             "machine Tally.mch\nproof Tally.prf\nimplementation Tally_i.imp\n",
-            "refused F15 t.prj\n",
+            "refused F4 t.prj at 2\n",
         ),
         (
             "machine Tally.mch\nproofs Tally.prf\n",
-            "refused F15 t.prj\n",
+            "incomplete Tally\n",
         ),
     ];
     for (project, line) in cases {
-        let (_, written) = outcome(rt.alloc(), "t.prj", ("t.prj", Some(project)))?;
+        let (_, written) = outcome(rt.alloc(), "t.prj", ("t.prj", project))?;
         assert_eq!(rt; written.as_slice(), line.as_bytes());
     }
     Ok(())
@@ -351,79 +366,8 @@ fn the_order_of_the_checks(rt: HostRuntime) -> Result<(), Fail> {
 fn proofs_in_two_files(rt: HostRuntime) -> Result<(), Fail> {
     let project =
         "proofs Stepper.prf\nmachine Tally.mch\nimplementation Tally_i.imp\nproofs Tally.prf\n";
-    let (status, written) = outcome(rt.alloc(), "t.prj", ("t.prj", Some(project)))?;
+    let (status, written) = outcome(rt.alloc(), "t.prj", ("t.prj", project))?;
     assert_eq!(rt; status, Status::Done);
     assert_eq!(rt; written.as_slice(), TALLY_TRANSCRIPT.as_bytes());
-    Ok(())
-}
-
-// ---- devices that fail
-
-#[test]
-fn missing_files(rt: HostRuntime) -> Result<(), Fail> {
-    for (name, line) in [
-        ("t.prj", "missing t.prj\n"),
-        ("Tally.mch", "missing Tally.mch\n"),
-        ("Tally_i.imp", "missing Tally_i.imp\n"),
-        ("Tally.prf", "missing Tally.prf\n"),
-        ("c.calls", "missing c.calls\n"),
-    ] {
-        let (status, written) = outcome(rt.alloc(), "t.prj", (name, None))?;
-        assert_eq!(rt; status, Status::Missing, "{name}");
-        assert_eq!(rt; written.as_slice(), line.as_bytes());
-    }
-    Ok(())
-}
-
-// How a run of the tally ends whose fetch with this number, from 1, fails, and what it writes.
-fn with_failing_fetch(alloc: Global, number: u32) -> Result<(Status, Vec<u8>), Fail> {
-    let files = files(alloc, ("", None))?;
-    if !have_distinct_names(&files) {
-        return Err(Fail::from("two files have one name"));
-    }
-    let failing = vec![in alloc; u64::from(number)]?;
-    let mut shelf = MemShelf::new(files, failing);
-    let mut sink = SureSink::new(alloc, 64)?;
-    let words = run_words(alloc, "t.prj")?;
-    let status = bkit(alloc, &words, &mut shelf, &mut sink);
-    Ok((status, sink.written().to_vec(alloc)?))
-}
-
-#[test]
-fn fetches_that_fail(rt: HostRuntime) -> Result<(), Fail> {
-    for number in 1..6 {
-        let (status, written) = with_failing_fetch(rt.alloc(), number)?;
-        assert_eq!(rt; status, Status::ReadFault);
-        assert!(rt; written.is_empty());
-    }
-    Ok(())
-}
-
-// How a run of the tally ends whose put with this number, from 1, fails, and what it writes. A line is one put.
-fn with_failing_put(alloc: Global, number: u32) -> Result<(Status, Vec<u8>), Fail> {
-    let files = files(alloc, ("", None))?;
-    if !have_distinct_names(&files) {
-        return Err(Fail::from("two files have one name"));
-    }
-    let mut shelf = SureShelf::new(files);
-    let failing = vec![in alloc; u64::from(number)]?;
-    let mut sink = MemSink::new(alloc, 64, 64, failing)?;
-    let words = run_words(alloc, "t.prj")?;
-    let status = bkit(alloc, &words, &mut shelf, &mut sink);
-    Ok((status, sink.written().to_vec(alloc)?))
-}
-
-#[test]
-fn puts_that_fail(rt: HostRuntime) -> Result<(), Fail> {
-    for (number, text) in [
-        (1, ""),
-        (2, "inc\n"),
-        (3, "inc\ninc\n"),
-        (4, "inc\ninc\nget = 10\n"),
-    ] {
-        let (status, written) = with_failing_put(rt.alloc(), number)?;
-        assert_eq!(rt; status, Status::WriteFault);
-        assert_eq!(rt; written.as_slice(), text.as_bytes());
-    }
     Ok(())
 }

@@ -93,14 +93,6 @@ fn outcome(alloc: Global, words: &[&str], instead: File) -> Result<(Status, Vec<
 // ---- runs
 
 #[test]
-fn the_counter_is_run(rt: HostRuntime) -> Result<(), Fail> {
-    let (status, written) = outcome(rt.alloc(), &RUN, ("c.calls", Some(b"setmax\nget\n")))?;
-    assert_eq!(rt; status, Status::Done);
-    assert_eq!(rt; written.as_slice(), TRANSCRIPT.as_bytes());
-    Ok(())
-}
-
-#[test]
 fn call_scripts_are_run(rt: HostRuntime) -> Result<(), Fail> {
     let cases: [(&[u8], &str); 5] = [
         (b"", "end 0 calls, 3 steps\n"),
@@ -325,34 +317,84 @@ fn a_project_line_names_a_missing_file(rt: HostRuntime) -> Result<(), Fail> {
 
 #[test]
 fn texts_that_are_refused(rt: HostRuntime) -> Result<(), Fail> {
-    let cases: [(&str, &[u8], &str); 7] = [
-        ("c.prj", b"", "refused F15 c.prj\n"),
-        ("c.prj", b"machine Counter.mch\n", "refused F15 c.prj\n"),
-        ("Counter.mch", b"", "refused F15 Counter.mch\n"),
+    let cases: [(&str, &[u8], &str); 6] = [
+        ("c.prj", b"", "refused F4 c.prj at 1\n"),
+        ("Counter.mch", b"", "refused F3 Counter.mch at 0\n"),
         (
             "Counter.mch",
-            b"/* a counter */ MACHINE Counter VARIABLES n INVARIANT n : 0..10 INITIALISATION n := 0 \
+            b"/* a counter MACHINE Counter VARIABLES n INVARIANT n : 0..10 INITIALISATION n := 0 \
             OPERATIONS reset = n := 0 ; setmax = n := 10 ; r <-- get = r := n END",
-            "refused F15 Counter.mch\n",
+            "refused F2 Counter.mch at 0\n",
         ),
         (
             "Counter.mch",
             b"MACHINE Timer VARIABLES n INVARIANT n : 0..10 INITIALISATION n := 0 \
             OPERATIONS reset = n := 0 ; setmax = n := 10 ; r <-- get = r := n END",
-            "refused F15 Counter_i.imp\n",
+            "refused F5 Counter_i.imp at 15\n",
         ),
-        ("Counter_i.imp", b"\xff", "refused F15 Counter_i.imp\n"),
+        ("Counter_i.imp", b"\xff", "refused F1 Counter_i.imp at 0\n"),
         (
             "Counter_i.imp",
             b"IMPLEMENTATION Counter_i REFINES Counter VARIABLES n INVARIANT n : 0..10 INITIALISATION n := 0 \
             OPERATIONS reset = n := 0 ; setmax = n := 10 ; r <-- get = r := n END",
-            "refused F15 Counter_i.imp\n",
+            "refused F3 Counter_i.imp at 41\n",
         ),
     ];
     for (name, text, line) in cases {
         let (status, written) = outcome(rt.alloc(), &RUN, (name, Some(text)))?;
         assert_eq!(rt; status, Status::Refused, "{name}");
         assert_eq!(rt; written.as_slice(), line.as_bytes(), "{name}");
+    }
+    Ok(())
+}
+
+// A comment is read over.
+#[test]
+fn a_text_with_a_comment(rt: HostRuntime) -> Result<(), Fail> {
+    let text = b"/* a counter */ MACHINE Counter // of ten\n\
+        VARIABLES n INVARIANT n : 0..10 INITIALISATION n := 0 \
+        OPERATIONS reset = n := 0 ; setmax = n := 10 ; r <-- get = r := n END";
+    let (status, written) = outcome(rt.alloc(), &RUN, ("Counter.mch", Some(text)))?;
+    assert_eq!(rt; status, Status::Done);
+    assert_eq!(rt; written.as_slice(), TRANSCRIPT.as_bytes());
+    Ok(())
+}
+
+// What needs code asks for an implementation; what does not is done.
+#[test]
+fn a_machine_alone(rt: HostRuntime) -> Result<(), Fail> {
+    let cases: [(&[&str], Status, &str); 5] = [
+        (
+            &["check", "c.prj"],
+            Status::Done,
+            "ok Counter 1 components\n",
+        ),
+        (
+            &["status", "c.prj"],
+            Status::Done,
+            "Counter.INITIALISATION.1 obvious\n\
+            Counter.reset.1 obvious\n\
+            Counter.setmax.1 obvious\n\
+            Counter.get.1 obvious\n\
+            4 obligations: 4 obvious, 0 proved, 0 open\n",
+        ),
+        (
+            &["code", "c.prj"],
+            Status::Incomplete,
+            "incomplete Counter\n",
+        ),
+        (
+            &["build", "c.prj"],
+            Status::Incomplete,
+            "incomplete Counter\n",
+        ),
+        (&RUN, Status::Incomplete, "incomplete Counter\n"),
+    ];
+    for (words, expected, text) in cases {
+        let project = ("c.prj", Some(b"machine Counter.mch\n".as_slice()));
+        let (status, written) = outcome(rt.alloc(), words, project)?;
+        assert_eq!(rt; status, expected, "{text}");
+        assert_eq!(rt; written.as_slice(), text.as_bytes());
     }
     Ok(())
 }

@@ -15,7 +15,7 @@ returns-in_err-read-clause-cause g c =
 pub returns-clause-told : goal.returns-clause-told
 returns-clause-told g c files told = record {
   dev = c.in_ok-read.read.development;
-  scripts = c.in_ok-read.read.scripts.items;
+  scripts = c.in_ok-read.read.scripts;
   reads = c.in_ok-read.ensures.told files told;
   given = (refl, c.in_ok-line.ensures);
 }

@@ -2,13 +2,9 @@ use Rattle.std.proofs.Common.{◌≡◌, ◌≤◌, ◌<◌, length, ◌∙◌, 
 use Rattle.std.specs.Prelude.{IfOk}
 use Rattle.bk_code.specs.declared.image.Image.{Image}
 use Rattle.bk_b0.specs.CodeUnit.{unit_image}
-use Rattle.bk_b0.proofs.SimpleInB0.{simple_is_in_b0}
 use Rattle.bk_b0.proofs.Units.{units_are_translated}
 use Rattle.bk_verbs.specs.Stops.{HasTooManyCells}
 use Rattle.bk_verbs.proofs.code.translated.Goals as goal
-
-pub b0-requires : goal.b0-requires
-b0-requires c = simple_is_in_b0 c.args.dev.now c.requires
 
 pub returns-clause-ok : goal.returns-clause-ok
 returns-clause-ok c =

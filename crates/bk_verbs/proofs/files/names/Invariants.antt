@@ -1,5 +1,5 @@
 use Rattle.std.proofs.Common.{◌≡◌, ◌++◌, map, drop}
-use Rattle.bk_front.specs.ProjectFile.{files_of}
+use Rattle.bk_verbs.specs.Project.{files_of}
 use Rattle.bk_verbs.proofs.files.names.Given as goal
 
 -- the names so far and those of the rest are all

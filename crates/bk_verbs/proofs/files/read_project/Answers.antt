@@ -1,13 +1,14 @@
-use Rattle.std.proofs.Common.{◌≡◌, ◌⊎◌, ◌∙◌, All, true, false, length, Some, ap, subst, sym, rules}
+use Rattle.std.proofs.Common.{◌≡◌, ◌⊎◌, ◌∙◌, All, List, true, false, length, Some, ap, subst, sym, rules}
 use Rattle.bk_io.specs.Files.{Files}
-use Rattle.bk_front.specs.ProjectFile.{IsFileName, files_of}
-use Rattle.bk_front.specs.Project.{Reads, IsRefusal}
-use Rattle.bk_scripts.specs.Files.{AreScriptsOf, IsFaultOf}
+use Rattle.bk_project.specs.declared.project_file.ProjectLine.{ProjectLine}
+use Rattle.bk_project.specs.ProjectFile.{IsFileName, AreLines, kinds_of}
+use Rattle.bk_project.specs.Project.{Reads, IsRefusalOf}
+use Rattle.bk_p_proof.specs.Files.{AreScriptsOf, IsFaultOf}
 use Rattle.bk_verbs.specs.Stops.{IsOutside, StopsAtFiles, StopsAtProject, stop_of_refusal, stop_of_proofs}
 use Rattle.bk_verbs.proofs.Fetching.{nows}
-use Rattle.bk_verbs.specs.Project.{fetched}
+use Rattle.bk_verbs.specs.Project.{files_of, fetched}
 use Rattle.bk_verbs.specs.Causes.{IsOfReading}
-use Rattle.bk_verbs.proofs.Projects.{file_names, few_texts, texts_of}
+use Rattle.bk_verbs.proofs.Projects.{file_names, few_texts, texts_of, component_texts}
 use Rattle.bk_verbs.proofs.Stopping.{widen, handed_on, checks_read, at_components, at_proofs, at_texts, at_scripts, reads_project}
 use Rattle.bk_verbs.proofs.files.read_project.Goals as goal
 
@@ -46,6 +47,14 @@ returns-in_err-proof_texts-clause-cause g c =
     (c.in_ok-texts.ensures.told files (c.read_lines.ensures.files ∙ told))
     (h files (c.fetch_all.ensures.files ∙ (c.read_lines.ensures.files ∙ told))))
 
+pub read_components-requires-clause-lines : goal.read_components-requires-clause-lines
+read_components-requires-clause-lines g c = subst AreLines (sym c.deref-5.ensures.value) c.in_ok-lines.ensures.told.1.are
+
+pub read_components-requires-clause-texts : goal.read_components-requires-clause-texts
+read_components-requires-clause-texts g c =
+    component_texts c.in_ok-lines.lines.items c.deref-5.result.now c.deref-3.result.now c.in_ok-texts.texts.items c.deref-7.result.now c.deref-5.ensures.value
+    (ap nows c.deref-3.ensures.value ∙ (c.in_ok-components.ensures.ok ∙ ap (files_of false) c.deref.ensures.value)) c.in_ok-texts.ensures.each c.deref-7.ensures.value
+
 pub returns-in_err-read_components-clause-cause : goal.returns-in_err-read_components-clause-cause
 returns-in_err-read_components-clause-cause g c =
     let stop = c.in_err-read_components.field-0.0 in
@@ -62,7 +71,7 @@ returns-in_err-read_components-clause-cause g c =
     (c.in_ok-texts.ensures.told files (c.read_lines.ensures.files ∙ told))
     (c.in_ok-proof_texts.ensures.told files (c.fetch_all.ensures.files ∙ (c.read_lines.ensures.files ∙ told)))
     refusal stop
-    (subst (λ x. IsRefusal (texts_of x) refusal) c.deref-7.ensures.value cause.1)
+    (subst (λ x. IsRefusalOf (kinds_of c.in_ok-lines.lines.items) (texts_of x) refusal) c.deref-7.ensures.value (subst (λ (x : List ProjectLine). IsRefusalOf (kinds_of x) (texts_of c.deref-7.result.now) refusal) c.deref-5.ensures.value cause.1))
     (cause.2 ∙ ap (λ x. stop_of_refusal refusal c.args.name.now (nows x)) (c.deref-6.ensures.value ∙ sym c.deref-3.ensures.value)))
 
 pub returns-in_err-read_components-clause-reading : goal.returns-in_err-read_components-clause-reading
@@ -93,7 +102,7 @@ returns-in_err-read_scripts-clause-cause g c =
     (c.in_ok-texts.ensures.told files (c.read_lines.ensures.files ∙ told))
     (c.in_ok-proof_texts.ensures.told files (c.fetch_all.ensures.files ∙ (c.read_lines.ensures.files ∙ told)))
     dev fault stop
-    (subst (λ x. Reads (texts_of x) dev) c.deref-7.ensures.value c.in_ok-read_components.ensures.reads)
+    (subst (λ x. Reads (kinds_of c.in_ok-lines.lines.items) (texts_of x) dev) c.deref-7.ensures.value (subst (λ (x : List ProjectLine). Reads (kinds_of x) (texts_of c.deref-7.result.now) dev) c.deref-5.ensures.value c.in_ok-read_components.ensures.reads))
     (subst (λ x. IsFaultOf (texts_of x) fault) c.deref-9.ensures.value cause.1)
     (cause.2 ∙ ap (λ x. stop_of_proofs fault (nows x)) (c.deref-8.ensures.value ∙ sym c.deref-4.ensures.value)))
 
@@ -105,7 +114,7 @@ pub returns-clause-told : goal.returns-clause-told
 returns-clause-told g c files told =
     let texts = texts_of c.in_ok-texts.texts.items in
     let dev = c.in_ok-read_components.field-0 in
-    let scripts = c.in_ok-read_scripts.field-0.items in
+    let scripts = c.in_ok-read_scripts.field-0 in
     reads_project c.args.with_proofs files c.args.name.now c.in_ok-lines.ensures.told.0 (c.in_ok-lines.ensures.told.2 files told) c.in_ok-lines.lines.items c.in_ok-lines.ensures.told.1
     (nows c.deref-3.result.now) (nows c.deref-4.result.now) texts (texts_of c.in_ok-proof_texts.proof_texts.items)
     (ap nows c.deref-3.ensures.value ∙ (c.in_ok-components.ensures.ok ∙ ap (files_of false) c.deref.ensures.value))
@@ -113,5 +122,5 @@ returns-clause-told g c files told =
     (c.in_ok-texts.ensures.told files (c.read_lines.ensures.files ∙ told))
     (c.in_ok-proof_texts.ensures.told files (c.fetch_all.ensures.files ∙ (c.read_lines.ensures.files ∙ told)))
     dev scripts
-    (subst (λ x. Reads (texts_of x) dev) c.deref-7.ensures.value c.in_ok-read_components.ensures.reads)
+    (subst (λ x. Reads (kinds_of c.in_ok-lines.lines.items) (texts_of x) dev) c.deref-7.ensures.value (subst (λ (x : List ProjectLine). Reads (kinds_of x) (texts_of c.deref-7.result.now) dev) c.deref-5.ensures.value c.in_ok-read_components.ensures.reads))
     (subst (λ x. AreScriptsOf (texts_of x) scripts) c.deref-9.ensures.value c.in_ok-read_scripts.ensures.value)

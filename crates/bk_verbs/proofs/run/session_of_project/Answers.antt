@@ -1,4 +1,4 @@
-use Rattle.std.proofs.Common.{◌≡◌, ◌⊎◌, ◌∙◌, inl, inr, refl, Some, ap, subst}
+use Rattle.std.proofs.Common.{◌≡◌, ◌⊎◌, ◌∙◌, inl, inr, refl, Some, ap, subst, arith}
 use Rattle.bk_io.specs.Files.{Files}
 use Rattle.bk_words.specs.Tasks.{run_task}
 use Rattle.bk_verbs.specs.Stops.{IsOutside, StopsTask}
@@ -11,7 +11,6 @@ use Rattle.std.proofs.lemmas.List.{length-map}
 use Rattle.bk_code.proofs.DeadCode.{loadable_is_checked}
 use Rattle.bk_verbs.specs.Project.{IsWithinCodeLimits}
 use Rattle.bk_verbs.specs.Stops.{StopsAtScript}
-use Rattle.bk_verbs.proofs.Projects.{few_operations}
 use Rattle.bk_verbs.proofs.run.session_of_project.Goals as goal
 
 pub returns-in_err-read-clause-cause : goal.returns-in_err-read-clause-cause
@@ -26,36 +25,39 @@ returns-in_err-check_proved-clause-cause g c =
     handed_on c.from_residual-in_err-check_proved.result c.in_err-check_proved.field-0.0
     (λ stop. (files : Files) → g.H.Shelf.files c.args.shelf.now ≡ Some files → IsOutside stop ⊎ StopsTask files (run_task c.args.project.now c.args.script.now c.args.fuel) stop)
     c.from_residual-in_err-check_proved.ensures.1
-    (λ files told. at_read files c.args.project.now (run_task c.args.project.now c.args.script.now c.args.fuel) c.in_err-check_proved.field-0.0 c.in_ok-read.read.development c.in_ok-read.read.scripts.items (c.in_ok-read.ensures.told files told) (or_else_stops c.in_err-check_proved.field-0.0 _ _ c.in_err-check_proved.ensures.cause inl))
+    (λ files told. at_read files c.args.project.now (run_task c.args.project.now c.args.script.now c.args.fuel) c.in_err-check_proved.field-0.0 c.in_ok-read.read.development c.in_ok-read.read.scripts (c.in_ok-read.ensures.told files told) (or_else_stops c.in_err-check_proved.field-0.0 _ _ c.in_err-check_proved.ensures.cause inl))
 
 pub returns-in_err-text-clause-cause : goal.returns-in_err-text-clause-cause
 returns-in_err-text-clause-cause g c =
     handed_on c.from_residual-in_err-text.result c.in_err-text.field-0.0
     (λ stop. (files : Files) → g.H.Shelf.files c.args.shelf.now ≡ Some files → IsOutside stop ⊎ StopsTask files (run_task c.args.project.now c.args.script.now c.args.fuel) stop)
     c.from_residual-in_err-text.ensures.1
-    (λ files told. at_read files c.args.project.now (run_task c.args.project.now c.args.script.now c.args.fuel) c.in_err-text.field-0.0 c.in_ok-read.read.development c.in_ok-read.read.scripts.items (c.in_ok-read.ensures.told files told) (or_else_stops c.in_err-text.field-0.0 _ _ (c.in_err-text.ensures.cause files (c.read_project.ensures.files ∙ told)) (λ k. inr (c.in_ok-check_proved.ensures.ok, inl k))))
+    (λ files told. at_read files c.args.project.now (run_task c.args.project.now c.args.script.now c.args.fuel) c.in_err-text.field-0.0 c.in_ok-read.read.development c.in_ok-read.read.scripts (c.in_ok-read.ensures.told files told) (or_else_stops c.in_err-text.field-0.0 _ _ (c.in_err-text.ensures.cause files (c.read_project.ensures.files ∙ told)) (λ k. inr (c.in_ok-check_proved.ensures.ok, inl k))))
+
+pub image_of-requires : goal.image_of-requires
+image_of-requires g c = c.in_ok-read.ensures.executable c.in_ok-check_proved.ensures.ok.complete
 
 pub returns-in_err-image-clause-cause : goal.returns-in_err-image-clause-cause
 returns-in_err-image-clause-cause g c =
     handed_on c.from_residual-in_err-image.result c.in_err-image.field-0.0
     (λ stop. (files : Files) → g.H.Shelf.files c.args.shelf.now ≡ Some files → IsOutside stop ⊎ StopsTask files (run_task c.args.project.now c.args.script.now c.args.fuel) stop)
     c.from_residual-in_err-image.ensures.1
-    (λ files told. at_read files c.args.project.now (run_task c.args.project.now c.args.script.now c.args.fuel) c.in_err-image.field-0.0 c.in_ok-read.read.development c.in_ok-read.read.scripts.items (c.in_ok-read.ensures.told files told) (or_else_stops c.in_err-image.field-0.0 _ _ c.in_err-image.ensures.cause (λ k. inr (c.in_ok-check_proved.ensures.ok, inr (c.in_ok-text.text.items, c.in_ok-text.ensures.told files (c.read_project.ensures.files ∙ told), inl k)))))
+    (λ files told. at_read files c.args.project.now (run_task c.args.project.now c.args.script.now c.args.fuel) c.in_err-image.field-0.0 c.in_ok-read.read.development c.in_ok-read.read.scripts (c.in_ok-read.ensures.told files told) (or_else_stops c.in_err-image.field-0.0 _ _ c.in_err-image.ensures.cause (λ k. inr (c.in_ok-check_proved.ensures.ok, inr (c.in_ok-text.text.items, c.in_ok-text.ensures.told files (c.read_project.ensures.files ∙ told), inl k)))))
 
 pub returns-in_err-calls-clause-cause : goal.returns-in_err-calls-clause-cause
 returns-in_err-calls-clause-cause g c =
     handed_on c.from_residual-in_err-calls.result c.in_err-calls.field-0.0
     (λ stop. (files : Files) → g.H.Shelf.files c.args.shelf.now ≡ Some files → IsOutside stop ⊎ StopsTask files (run_task c.args.project.now c.args.script.now c.args.fuel) stop)
     c.from_residual-in_err-calls.ensures.1
-    (λ files told. at_read files c.args.project.now (run_task c.args.project.now c.args.script.now c.args.fuel) c.in_err-calls.field-0.0 c.in_ok-read.read.development c.in_ok-read.read.scripts.items (c.in_ok-read.ensures.told files told) (or_else_stops c.in_err-calls.field-0.0 _ _ c.in_err-calls.ensures.cause (λ k. inr (c.in_ok-check_proved.ensures.ok, inr (c.in_ok-text.text.items, c.in_ok-text.ensures.told files (c.read_project.ensures.files ∙ told), inr (subst IsWithinCodeLimits c.in_ok-image.ensures.ok c.in_ok-image.ensures.within, subst (λ i. StopsAtScript c.args.script.now c.in_ok-text.text.items i c.in_err-calls.field-0.0) c.in_ok-image.ensures.ok (subst (λ x. StopsAtScript c.args.script.now x c.in_ok-image.image c.in_err-calls.field-0.0) c.deref.ensures.value k)))))))
+    (λ files told. at_read files c.args.project.now (run_task c.args.project.now c.args.script.now c.args.fuel) c.in_err-calls.field-0.0 c.in_ok-read.read.development c.in_ok-read.read.scripts (c.in_ok-read.ensures.told files told) (or_else_stops c.in_err-calls.field-0.0 _ _ c.in_err-calls.ensures.cause (λ k. inr (c.in_ok-check_proved.ensures.ok, inr (c.in_ok-text.text.items, c.in_ok-text.ensures.told files (c.read_project.ensures.files ∙ told), inr (subst IsWithinCodeLimits c.in_ok-image.ensures.ok c.in_ok-image.ensures.within, subst (λ i. StopsAtScript c.args.script.now c.in_ok-text.text.items i c.in_err-calls.field-0.0) c.in_ok-image.ensures.ok (subst (λ x. StopsAtScript c.args.script.now x c.in_ok-image.image c.in_err-calls.field-0.0) c.deref.ensures.value k)))))))
 
 pub calls_of-requires-clause-few_operations : goal.calls_of-requires-clause-few_operations
-calls_of-requires-clause-few_operations g c = few_operations c.in_ok-read.read.development c.in_ok-image.image c.in_ok-read.ensures.few c.in_ok-image.ensures.ok
+calls_of-requires-clause-few_operations g c = omega (arith, c.in_ok-image.ensures.within.spelled.fits.few_ops)
 
 pub returns-clause-told : goal.returns-clause-told
 returns-clause-told g c files told tolds session = record {
   dev = c.in_ok-read.read.development;
-  scripts = c.in_ok-read.read.scripts.items;
+  scripts = c.in_ok-read.read.scripts;
   reads = c.in_ok-read.ensures.told files told;
   given = record {
     finished = c.in_ok-check_proved.ensures.ok;

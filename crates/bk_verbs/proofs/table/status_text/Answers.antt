@@ -18,12 +18,12 @@ returns-in_err-table-clause-cause g c =
     handed_on c.from_residual-in_err-table.result c.in_err-table.field-0.0
     (λ stop. (files : Files) → g.H.Shelf.files c.args.shelf.now ≡ Some files → IsOutside stop ⊎ StopsTask files (status_task c.args.project.now) stop)
     c.from_residual-in_err-table.ensures.1
-    (λ files told. at_read files c.args.project.now (status_task c.args.project.now) c.in_err-table.field-0.0 c.in_ok-read.read.development c.in_ok-read.read.scripts.items (c.in_ok-read.ensures.told files told) c.in_err-table.ensures.cause)
+    (λ files told. at_read files c.args.project.now (status_task c.args.project.now) c.in_err-table.field-0.0 c.in_ok-read.read.development c.in_ok-read.read.scripts (c.in_ok-read.ensures.told files told) c.in_err-table.ensures.cause)
 
 pub returns-clause-told : goal.returns-clause-told
 returns-clause-told g c files told = record {
   dev = c.in_ok-read.read.development;
-  scripts = c.in_ok-read.read.scripts.items;
+  scripts = c.in_ok-read.read.scripts;
   reads = c.in_ok-read.ensures.told files told;
   given = (
     refl,

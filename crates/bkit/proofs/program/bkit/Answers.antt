@@ -6,7 +6,7 @@ use Rattle.bk_words.specs.Tasks.{run_task}
 use Rattle.bk_verbs.specs.Stops.{stop_text}
 use Rattle.bk_verbs.specs.Work.{IsExecuted}
 use Rattle.bkit.proofs.Given.{wrong_words}
-use Rattle.bkit.proofs.Answering.{work_answers, stop_answers, stop_line, stop_front, reports_so_far, reports_read, reports_missing, reports_usage, silent, rose_first, rose_second, executed_is_no_fault, executed_is_not_cut_short, executed_so_far, reports_not_executed}
+use Rattle.bkit.proofs.Answering.{work_answers, stop_answers, stop_line, stop_front, reports_read, reports_missing, reports_usage, silent, rose_first, rose_second, executed_is_no_fault, executed_is_not_cut_short, reports_not_executed}
 use Rattle.bkit.proofs.Runs.{writes_run, ready_executed, done_where_legal}
 use Rattle.bkit.proofs.program.bkit.Goals as goal
 
@@ -28,9 +28,6 @@ pub returns-in-Err-clause-cut_short : goal.returns-in-Err-clause-cut_short
 returns-in-Err-clause-cut_short g c short files told status text answer =
     stop_front files (map (string_bytes {Z = Global}) c.args.words.now) (g.K.Sink.written c.args.out.now) (g.K.Sink.written c.perform.new.out) (g.K.Sink.written c.report.new.out) c.report.result c.in-Err.stop
     (c.in-Err.ensures.cause files told) c.report.ensures.reports short c.in-Err.ensures.silent status text answer (c.in-Err.ensures.front files told status text answer)
-
-pub returns-in-Err-clause-so_far : goal.returns-in-Err-clause-so_far
-returns-in-Err-clause-so_far g c = reports_so_far c.in-Err.stop c.report.result (g.K.Sink.written c.perform.new.out) (g.K.Sink.written c.report.new.out) c.in-Err.ensures.so_far c.report.ensures.reports
 
 pub returns-in-Err-clause-read_fault : goal.returns-in-Err-clause-read_fault
 returns-in-Err-clause-read_fault g c e =
@@ -104,9 +101,6 @@ returns-in-Ok-clause-missing g c e = absurd ((executed_is_no_fault c.in-Ok.statu
 
 pub returns-in-Ok-clause-usage : goal.returns-in-Ok-clause-usage
 returns-in-Ok-clause-usage g c e = absurd (subst IsExecuted e c.in-Ok.ensures.executed)
-
-pub returns-in-Ok-clause-so_far : goal.returns-in-Ok-clause-so_far
-returns-in-Ok-clause-so_far g c = executed_so_far c.in-Ok.status c.in-Ok.ensures.executed
 
 pub returns-in-Err-clause-run : goal.returns-in-Err-clause-run
 returns-in-Err-clause-run g c project calls fuel asks executed = absurd (reports_not_executed c.in-Err.stop c.report.result (g.K.Sink.written c.perform.new.out) (g.K.Sink.written c.report.new.out) c.report.ensures.reports executed)

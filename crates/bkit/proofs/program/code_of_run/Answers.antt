@@ -18,6 +18,5 @@ returns g c = record {
     missing = c.bkit.ensures.missing;
     usage = c.bkit.ensures.usage;
     wrong_words = c.bkit.ensures.wrong_words;
-    so_far = c.bkit.ensures.so_far;
   };
 }

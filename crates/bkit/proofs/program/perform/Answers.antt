@@ -9,13 +9,12 @@ use Rattle.bk_verbs.specs.declared.status.Status.{Status}
 use Rattle.bk_verbs.specs.declared.stop.Stop.TheVariants.{Usage, Memory}
 use Rattle.bk_verbs.specs.Causes.{stop_of_words, IsOfReading, IsOfPlaying}
 use Rattle.bk_verbs.proofs.Fronts.{no_front}
-use Rattle.bk_verbs.specs.Stops.{IsOutside, StopsAt, status_of_stop}
+use Rattle.bk_verbs.specs.Stops.{IsOutside, StopsAt}
 use Rattle.bk_verbs.specs.Work.{WritesWork}
 use Rattle.bk_verbs.proofs.Stopping.{handed_on, on_each, at_task}
-use Rattle.bkit.specs.Run.{ComesSoFar}
 use Rattle.bkit.specs.Answer.{IsAnswer}
-use Rattle.bkit.proofs.Answering.{reading_so_far, playing_so_far, outside_of_playing}
-use Rattle.bkit.proofs.Given.{words_read, words_write, words_missing, reading_write, playing_read, playing_missing, still_an_error, words_stop, words_usage, words_are_wrong, words_so_far}
+use Rattle.bkit.proofs.Answering.{outside_of_playing}
+use Rattle.bkit.proofs.Given.{words_read, words_write, words_missing, reading_write, playing_read, playing_missing, still_an_error, words_stop, words_usage, words_are_wrong}
 use Rattle.bkit.proofs.Written.{front_of_answer}
 use Rattle.bkit.proofs.program.perform.Goals as goal
 
@@ -36,10 +35,6 @@ pub returns-in_err-command-clause-wrong_words : goal.returns-in_err-command-clau
 returns-in_err-command-clause-wrong_words g c none =
     still_an_error c.from_residual.result (stop_of_words c.in_err-command.field-0.0) (λ stop. (stop ≡ Usage) ⊎ (stop ≡ Memory)) c.from_residual.ensures.1 (words_are_wrong c.in_err-command.field-0.0)
 
-pub returns-in_err-command-clause-so_far : goal.returns-in_err-command-clause-so_far
-returns-in_err-command-clause-so_far g c =
-    handed_on c.from_residual.result (stop_of_words c.in_err-command.field-0.0) (λ stop. ComesSoFar (status_of_stop stop)) c.from_residual.ensures.1 (words_so_far c.in_err-command.field-0.0)
-
 -- ---- what is read and checked
 pub returns-in_err-work-clause-cause : goal.returns-in_err-work-clause-cause
 returns-in_err-work-clause-cause g c =
@@ -50,10 +45,6 @@ returns-in_err-work-clause-cause g c =
 
 pub returns-in_err-work-clause-wrong_words : goal.returns-in_err-work-clause-wrong_words
 returns-in_err-work-clause-wrong_words g c none = absurd (none (task_of c.in_ok-command.command) c.in_ok-command.ensures.asked)
-
-pub returns-in_err-work-clause-so_far : goal.returns-in_err-work-clause-so_far
-returns-in_err-work-clause-so_far g c =
-    handed_on c.from_residual-in_err-work.result c.in_err-work.field-0.0 (λ stop. ComesSoFar (status_of_stop stop)) c.from_residual-in_err-work.ensures.1 (reading_so_far c.in_err-work.field-0.0 c.in_err-work.ensures.reading)
 
 -- ---- what is written
 pub returns-in_err-status-clause-front : goal.returns-in_err-status-clause-front
@@ -68,10 +59,6 @@ returns-in_err-status-clause-wrong_words g c none = absurd (none (task_of c.in_o
 
 pub returns-in_err-status-clause-unwritten : goal.returns-in_err-status-clause-unwritten
 returns-in_err-status-clause-unwritten g c none = absurd (none (task_of c.in_ok-command.command) c.in_ok-command.ensures.asked)
-
-pub returns-in_err-status-clause-so_far : goal.returns-in_err-status-clause-so_far
-returns-in_err-status-clause-so_far g c =
-    handed_on c.from_residual-in_err-status.result c.in_err-status.field-0.0 (λ stop. ComesSoFar (status_of_stop stop)) c.from_residual-in_err-status.ensures.1 (playing_so_far c.in_err-status.field-0.0 c.in_err-status.ensures.playing)
 
 -- ---- what is done
 pub returns-clause-wrong_words : goal.returns-clause-wrong_words

@@ -1,9 +1,0 @@
-pub mod Dividers
-pub mod Fronts
-pub mod Statements
-pub mod Operations
-pub mod Components
-pub mod ComponentCodes
-pub mod Contents
-pub mod Numbering
-pub mod Clauses

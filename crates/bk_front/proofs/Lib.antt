@@ -1,3 +1,0 @@
-pub mod Trimming
-pub mod ProjectFiles
-pub mod Readings

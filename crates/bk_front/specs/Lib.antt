@@ -1,4 +1,0 @@
-pub mod ProjectFile
-pub mod Refusals
-pub mod Trims
-pub mod Project

@@ -1,3 +1,0 @@
-pub mod Developments
-pub mod PairLaws
-pub mod Examples
