@@ -44,9 +44,8 @@ use Rattle.bk_status.proofs.Tables.{proved_developments_are_correct}
 use Rattle.bk_lines.specs.Lines.{kept_lines}
 use Rattle.bk_verbs.specs.declared.status.Status.TheVariants.{Done as DoneStatus, Trapped as TrappedStatus}
 use Rattle.bk_verbs.specs.Session.{status_of, last_end, session_status}
-use Rattle.bkit.specs.Legal.{call_of, done_or, replied, AreLegal, RunNoLoop, WouldEnd, EachCall, CallWouldEnd, EachWouldEnd, IsDoneWithin, CallEndsInTime, EachEndsInTime}
+use Rattle.bkit.specs.Legal.{call_of, reply_of, done_or, replied, AreLegal, RunNoLoop, IsUntrapped, WouldEnd, IsDoneWithin, CallEndsWell, EachLegalCall, LegalCallsEndWell}
 use Rattle.bkit.specs.Laws.{ProjectsEnd, LegalCallsAreDone}
-use Rattle.bk_verbs.proofs.Plays.{IsDone}
 use Rattle.bk_verbs.proofs.Projects.{entries_few}
 use Rattle.bkit.proofs.Following.{project_development, project_in_b0, project_follows}
 
@@ -242,247 +241,161 @@ module _ (find : Finder) (dev : Development) (follows : Follows find dev (transl
         numbers_back dev (inputs_of dev r.op) r.args fit,
       )
 
-  -- the first of the calls is legal
-  module _ (before : Abstract → Type 0) (c : Call) (cs : List Call) (us : List MathValue) (more : List (List MathValue)) where
-    legal_now : (e : End) → LegalFrom find dev before (c ∷ cs) (done_or e (us ∷ more) []) → (a : Abstract) → before a → Pre find dev c a
-    legal_now (Done n) legal = legal.0
-    legal_now (Trapped kind place n) legal = legal
-    legal_now OutOfFuel legal = legal
+-- ---- how a call ends
+would_end : (image : Image) (fuel : ℕ) (start : Config) (P : List ℤ → Type 0) (e : End) (d : Config) → IsGood image fuel start P e d → WouldEnd image fuel start e
+would_end image fuel start P (Done n) d good = tt
+would_end image fuel start P (Trapped kind place n) d good = tt
+would_end image fuel start P OutOfFuel d good = good
 
--- ---- where the fuel is enough
--- no WHILE stands in the operation that is asked for
-abbrev NoLoop : Development → Request → Type 0
-NoLoop dev r = HasNoLoop (body_at dev (last dev) r.op).sub
+untrapped : (image : Image) (fuel : ℕ) (start : Config) (P : List ℤ → Type 0) (e : End) (d : Config) → IsGood image fuel start P e d → IsUntrapped e
+untrapped image fuel start P (Done n) d good = tt
+untrapped image fuel start P (Trapped kind place n) d good = good
+untrapped image fuel start P OutOfFuel d good = tt
 
-module _ (fuel : ℕ) (find : Finder) (dev : Development) (follows : Follows find dev (translation dev)) (in_code : EndsWithoutLoops find dev (translation dev)) (short : length (translation dev).code ≤ fuel) where
-  -- what ends within its code is done with the fuel of a call
-  done_within : (size : ℕ) (start d : Config) (e : End) → EndsWithin (translation dev) size start → size ≤ length (translation dev).code → Ends (translation dev) fuel start e d → IsDone e
-  done_within size start d e w inside h =
-      let whole : Ends (translation dev) fuel start (Done w.steps) w.end = w.done fuel (through size (length (translation dev).code) fuel inside short) in
-      subst IsDone (sym (one_end (translation dev) fuel start e (Done w.steps) d w.end h whole).0) tt
+in_time : (image : Image) (fuel size : ℕ) (start d : Config) (e : End) → EndsWithin image size start → Ends image fuel start e d → IsDoneWithin size fuel e
+in_time image fuel size start d e w end enough = (w.steps, (one_end image fuel start e (Done w.steps) d w.end end (w.done fuel enough)).0)
 
-  -- a call that ends on linked cells, and the calls behind it
-  module _ (before : Abstract → Type 0) (c : Call) (cs : List Call) (us : List MathValue) (more : List (List MathValue)) where
-    by_end : (e : End) (entry : OpEntry) (a : Abstract) (start d : Config) (outputs : List ℤ) (cells : List ℤ) (rs : List Request) (ts : List Told) → IsDone e →
-        IsGood (translation dev) fuel start (IsStep find dev c entry a) e d → outputs ≡ given_out entry.outputs e d.cells → LegalFrom find dev before (c ∷ cs) (done_or e (us ∷ more) []) →
-        Continues (translation dev) fuel e cells rs ts →
-        ((n : ℕ) → IsStep find dev c entry a d.cells → outputs ≡ outputs_of entry.outputs d.cells → LegalFrom find dev (After find dev before c us) cs more → Continues (translation dev) fuel (Done n) cells rs ts → IsDone (last_end (Done n) ts)) →
-        IsDone (last_end e ts)
-    by_end (Done n) entry a start d outputs cells rs ts done good given legal goes rest = rest n good given legal.1 goes
-    by_end (Trapped kind place n) entry a start d outputs cells rs ts done good given legal goes rest = absurd done
-    by_end OutOfFuel entry a start d outputs cells rs ts done good given legal goes rest = absurd done
+-- ---- each legal call
+module _ (fuel : ℕ) (find : Finder) (dev : Development) (follows : Follows find dev (translation dev)) (in_code : EndsWithoutLoops find dev (translation dev)) where
+  -- a call on linked cells whose precondition is true ends well
+  call_ends_well : (r : Request) (entry : OpEntry) (a : Abstract) (m : List ℤ) (t : Told) (d : Config) → IsEntry (translation dev) r.op entry → Linked find dev a m → IsCall dev (call_of dev r) →
+      map as_number (call_of dev r).args ≡ r.args → Pre find dev (call_of dev r) a → Ends (translation dev) fuel (started entry (call_of dev r) m) t.end d → CallEndsWell dev fuel r m t
+  call_ends_well r entry a m t d named linked call args pre end =
+      let good = (follows.local a m (call_of dev r) entry linked call pre named).1 fuel t.end d end in
+      let here : WouldEnd (translation dev) fuel (call_start entry r.args m) t.end =
+      subst (λ zs. WouldEnd (translation dev) fuel (call_start entry zs m) t.end) args (would_end (translation dev) fuel (started entry (call_of dev r) m) (IsStep find dev (call_of dev r) entry a) t.end d good) in
+      record {
+        untrapped = untrapped (translation dev) fuel (started entry (call_of dev r) m) (IsStep find dev (call_of dev r) entry a) t.end d good;
+        more = λ other there. subst (λ x. WouldEnd (translation dev) fuel (call_start x r.args m) t.end) (same_entry (translation dev) r.op entry other named there) here;
+        in_time = λ none. in_time (translation dev) fuel (length (operation_code dev (body_at dev (last dev) r.op))) (started entry (call_of dev r) m) d t.end
+            (in_code.local a m (call_of dev r) entry none linked call pre named) end;
+      }
 
-  -- from linked cells, where each call is legal, all calls are done
-  all_done : (rs : List Request) (ts : List Told) (before : Abstract → Type 0) (a : Abstract) (m : List ℤ) (n : ℕ) → before a → Linked find dev a m → All (Fits dev) rs → All (NoLoop dev) rs →
-      LegalFrom find dev before (map (call_of dev) rs) (replied dev rs ts) → Continues (translation dev) fuel (Done n) m rs ts → IsDone (last_end (Done n) ts)
-  all_done [] [] before a m n h linked fit none legal goes = tt
-  all_done [] (t ∷ ts) before a m n h linked fit none legal goes = absurd goes
-  all_done (r ∷ rs) [] before a m n h linked fit none legal goes = absurd goes
-  all_done (r ∷ rs) (t ∷ ts) before a m n h linked fit none legal goes =
+  -- after an end each legal call ends well, by what is known where it is done
+  after_end : (before : Abstract → Type 0) (e : End) (cells : List ℤ) (rs : List Request) (ts : List Told) → Continues (translation dev) fuel e cells rs ts →
+      ((n : ℕ) → e ≡ Done n → EachLegalCall find dev (CallEndsWell dev fuel) before cells rs ts) → EachLegalCall find dev (CallEndsWell dev fuel) before cells rs ts
+  after_end before (Done n) cells rs ts goes rest = rest n refl
+  after_end before (Trapped kind place n) cells [] [] goes rest = tt
+  after_end before (Trapped kind place n) cells (r ∷ rs) [] goes rest = tt
+  after_end before (Trapped kind place n) cells rs (t ∷ ts) goes rest = absurd goes
+  after_end before OutOfFuel cells [] [] goes rest = tt
+  after_end before OutOfFuel cells (r ∷ rs) [] goes rest = tt
+  after_end before OutOfFuel cells rs (t ∷ ts) goes rest = absurd goes
+
+  -- from linked cells each legal call ends well
+  each_call : (rs : List Request) (ts : List Told) (before : Abstract → Type 0) (a : Abstract) (m : List ℤ) (n : ℕ) → before a → Linked find dev a m → All (Fits dev) rs →
+      Continues (translation dev) fuel (Done n) m rs ts → EachLegalCall find dev (CallEndsWell dev fuel) before m rs ts
+  each_call [] [] before a m n h linked fit goes = tt
+  each_call [] (t ∷ ts) before a m n h linked fit goes = absurd goes
+  each_call (r ∷ rs) [] before a m n h linked fit goes = absurd goes
+  each_call (r ∷ rs) (t ∷ ts) before a m n h linked fit goes = λ legal.
       let c : Call = call_of dev r in
-      let us : List MathValue = as_values dev (body_at dev 0 r.op).outputs t.outputs in
+      let us : List MathValue = reply_of dev r t in
       let answers : Answers (translation dev) fuel r m t = goes.0 in
       let entry : OpEntry = answers.entry in
       let d : Config = answers.call.last in
       let call = is_call find dev follows r entry answers.named (All-head (Fits dev) r rs fit) in
-      let pre : Pre find dev c a = legal_now find dev follows before c (map (call_of dev) rs) us (replied dev rs ts) t.end legal a h in
+      let pre : Pre find dev c a = legal a h in
       let end : Ends (translation dev) fuel (started entry c m) t.end d = subst (λ zs. Ends (translation dev) fuel (call_start entry zs m) t.end d) (sym call.1) answers.call.ends in
-      let done = done_within (length (operation_code dev (body_at dev (last dev) r.op))) (started entry c m) d t.end (in_code.local a m c entry (All-head (NoLoop dev) r rs none) linked call.0 pre answers.named) (operation_within dev r.op entry answers.named) end in
-      let good = (follows.local a m c entry linked call.0 pre answers.named).1 fuel t.end d end in
-      by_end before c (map (call_of dev) rs) us (replied dev rs ts) t.end entry a (started entry c m) d t.outputs t.cells rs ts done good answers.call.given legal goes.1
-      (λ k step given rest on.
-      let same : replies dev r.op entry.outputs d.cells ≡ us = ap (as_values dev (body_at dev 0 r.op).outputs) (sym given) in
-      let after : After find dev before c us step.0 = (a, h, subst (λ vs. Steps find dev c a vs step.0) same step.1) in
-      let linked_there : Linked find dev step.0 t.cells = subst (λ zs. Linked find dev step.0 zs) (sym answers.call.cells) step.2 in
-      all_done rs ts (After find dev before c us) step.0 t.cells k after linked_there (All-tail (Fits dev) r rs fit) (All-tail (NoLoop dev) r rs none) rest on)
+      let good = (follows.local a m c entry linked call.0 pre answers.named).1 fuel t.end d end in (
+        call_ends_well r entry a m t d answers.named linked call.0 call.1 pre end,
+        after_end (After find dev before c us) t.end t.cells rs ts goes.1 (λ k is.
+            let step : IsStep find dev c entry a d.cells = subst (λ e. IsGood (translation dev) fuel (started entry c m) (IsStep find dev c entry a) e d) is good in
+            let given : t.outputs ≡ outputs_of entry.outputs d.cells = answers.call.given ∙ ap (λ e. given_out entry.outputs e d.cells) is in
+            let same : replies dev r.op entry.outputs d.cells ≡ us = ap (as_values dev (body_at dev 0 r.op).outputs) (sym given) in
+            let after : After find dev before c us step.0 = (a, h, subst (λ vs. Steps find dev c a vs step.0) same step.1) in
+            let linked_there : Linked find dev step.0 t.cells = subst (λ zs. Linked find dev step.0 zs) (sym answers.call.cells) step.2 in
+            each_call rs ts (After find dev before c us) step.0 t.cells k after linked_there (All-tail (Fits dev) r rs fit) (subst (λ e. Continues (translation dev) fuel e t.cells rs ts) is goes.1)),
+      )
 
-  opening_done : (e : End) (d : Config) (cells : List ℤ) (rs : List Request) (ts : List Told) → IsDone e → IsGood (translation dev) fuel (first_start (translation dev)) (λ m. (a : Abstract) × Opens find dev a × Linked find dev a m) e d →
-      cells ≡ d.cells → All (Fits dev) rs → All (NoLoop dev) rs → LegalFrom find dev (Opens find dev) (map (call_of dev) rs) (replied dev rs ts) → Continues (translation dev) fuel e cells rs ts → IsDone (last_end e ts)
-  opening_done (Done n) d cells rs ts done good same fit none legal goes = all_done rs ts (Opens find dev) good.0 cells n good.1 (subst (λ zs. Linked find dev good.0 zs) (sym same) good.2) fit none legal goes
-  opening_done (Trapped kind place n) d cells rs ts done good same fit none legal goes = absurd done
-  opening_done OutOfFuel d cells rs ts done good same fit none legal goes = absurd done
+  -- the machine opens with these cells
+  abbrev Opened : List ℤ → Type 0
+  Opened m = (a : Abstract) × Opens find dev a × Linked find dev a m
 
-  session_done : (rs : List Request) (tolds : List Told) → All (Fits dev) rs → RunNoLoop dev rs → AreLegal find dev rs tolds → Session (translation dev) fuel rs tolds → session_status tolds ≡ DoneStatus
-  session_done rs [] fit none legal session = absurd session
-  session_done rs (t ∷ ts) fit none legal session =
-      let first = done_within (length (init_code dev)) (first_start (translation dev)) session.0.last t.end (in_code.opening none.init) (init_within dev) session.0.ends in
-      status_done (last_end t.end ts) (opening_done t.end session.0.last t.cells rs ts first (follows.opening fuel t.end session.0.last session.0.ends) session.0.cells fit none.calls legal session.1)
-    where
-      status_done : (e : End) → IsDone e → status_of e ≡ DoneStatus
-      status_done (Done n) h = refl
-      status_done (Trapped kind place n) h = absurd h
-      status_done OutOfFuel h = absurd h
+  legal_calls_end_well : (rs : List Request) (tolds : List Told) → All (Fits dev) rs → Session (translation dev) fuel rs tolds → LegalCallsEndWell find dev fuel rs tolds
+  legal_calls_end_well rs [] fit session = tt
+  legal_calls_end_well rs (t ∷ ts) fit session =
+      let start : Config = first_start (translation dev) in
+      let d : Config = session.0.last in
+      let good : IsGood (translation dev) fuel start Opened t.end d = follows.opening fuel t.end d session.0.ends in (
+        record {
+          untrapped = untrapped (translation dev) fuel start Opened t.end d good;
+          more = would_end (translation dev) fuel start Opened t.end d good;
+          in_time = λ none. in_time (translation dev) fuel (length (init_code dev)) start d t.end (in_code.opening none) session.0.ends;
+        },
+        after_end (Opens find dev) t.end t.cells rs ts session.1 (λ k is.
+            let first : Opened d.cells = subst (λ e. IsGood (translation dev) fuel start Opened e d) is good in
+            each_call rs ts (Opens find dev) first.0 t.cells k first.1 (subst (λ zs. Linked find dev first.0 zs) (sym session.0.cells) first.2) fit (subst (λ e. Continues (translation dev) fuel e t.cells rs ts) is session.1)),
+      )
 
--- ---- with any fuel
--- no trap
-abbrev IsUntrapped : End → Type 0
-IsUntrapped (Trapped kind place n) = ⊥
-IsUntrapped _ = Unit {0}
+-- ---- where all calls are legal
+module _ (find : Finder) (dev : Development) (fuel : ℕ) where
+  -- the first of the calls is legal
+  legal_now : (before : Abstract → Type 0) (c : Call) (cs : List Call) (us : List MathValue) (more : List (List MathValue)) (e : End) →
+      LegalFrom find dev before (c ∷ cs) (done_or e (us ∷ more) []) → (a : Abstract) → before a → Pre find dev c a
+  legal_now before c cs us more (Done n) legal = legal.0
+  legal_now before c cs us more (Trapped kind place n) legal = legal
+  legal_now before c cs us more OutOfFuel legal = legal
+
+  -- what each end has, the last one has
+  module _ (P : End → Type 0) (Q : Request → Type 0) (of_call : (r : Request) (m : List ℤ) (t : Told) → Q r → Answers (translation dev) fuel r m t → CallEndsWell dev fuel r m t → P t.end) where
+    of_last : (e : End) (before : Abstract → Type 0) (m : List ℤ) (rs : List Request) (ts : List Told) → P e → All Q rs → Continues (translation dev) fuel e m rs ts →
+        ((n : ℕ) → e ≡ Done n → LegalFrom find dev before (map (call_of dev) rs) (replied dev rs ts)) → EachLegalCall find dev (CallEndsWell dev fuel) before m rs ts → P (last_end e ts)
+    of_last e before m rs [] h all goes legal each = h
+    of_last (Done n) before m [] (t ∷ ts) h all goes legal each = absurd goes
+    of_last (Trapped kind place n) before m rs (t ∷ ts) h all goes legal each = absurd goes
+    of_last OutOfFuel before m rs (t ∷ ts) h all goes legal each = absurd goes
+    of_last (Done n) before m (r ∷ rs) (t ∷ ts) h all goes legal each =
+        let c : Call = call_of dev r in
+        let us : List MathValue = reply_of dev r t in
+        let cs : List Call = map (call_of dev) rs in
+        let more : List (List MathValue) = replied dev rs ts in
+        let here : LegalFrom find dev before (c ∷ cs) (done_or t.end (us ∷ more) []) = legal n refl in
+        let well = each (legal_now before c cs us more t.end here) in
+        of_last t.end (After find dev before c us) t.cells rs ts (of_call r m t (All-head Q r rs all) goes.0 well.0) (All-tail Q r rs all) goes.1
+        (λ k is. (subst (λ e. LegalFrom find dev before (c ∷ cs) (done_or e (us ∷ more) [])) is here).1) well.1
 
 untrapped_status : (e : End) → IsUntrapped e → status_of e ≡ TrappedStatus → ⊥
 untrapped_status (Done n) h k = absurd (cc)
 untrapped_status (Trapped kind place n) h k = h
 untrapped_status OutOfFuel h k = absurd (cc)
 
--- out of fuel nothing follows
-ends_there : (image : Image) (fuel : ℕ) (cells : List ℤ) (rs : List Request) (ts : List Told) → Continues image fuel OutOfFuel cells rs ts → IsUntrapped (last_end OutOfFuel ts)
-ends_there image fuel cells rs [] goes = tt
-ends_there image fuel cells rs (t ∷ ts) goes = absurd goes
+done_status : (e : End) → (n : ℕ) × (e ≡ Done n) → status_of e ≡ DoneStatus
+done_status e h = ap status_of h.1
 
-module _ (fuel : ℕ) (find : Finder) (dev : Development) (follows : Follows find dev (translation dev)) where
-  module _ (before : Abstract → Type 0) (c : Call) (cs : List Call) (us : List MathValue) (more : List (List MathValue)) where
-    by_good : (e : End) (entry : OpEntry) (a : Abstract) (start d : Config) (outputs : List ℤ) (cells : List ℤ) (rs : List Request) (ts : List Told) →
-        IsGood (translation dev) fuel start (IsStep find dev c entry a) e d → outputs ≡ given_out entry.outputs e d.cells → LegalFrom find dev before (c ∷ cs) (done_or e (us ∷ more) []) →
-        Continues (translation dev) fuel e cells rs ts →
-        ((n : ℕ) → IsStep find dev c entry a d.cells → outputs ≡ outputs_of entry.outputs d.cells → LegalFrom find dev (After find dev before c us) cs more → Continues (translation dev) fuel (Done n) cells rs ts → IsUntrapped (last_end (Done n) ts)) →
-        IsUntrapped (last_end e ts)
-    by_good (Done n) entry a start d outputs cells rs ts good given legal goes rest = rest n good given legal.1 goes
-    by_good (Trapped kind place n) entry a start d outputs cells rs ts good given legal goes rest = absurd good
-    by_good OutOfFuel entry a start d outputs cells rs ts good given legal goes rest = ends_there (translation dev) fuel cells rs ts goes
+-- no WHILE stands in the operation that is asked for
+abbrev NoLoop : Development → Request → Type 0
+NoLoop dev r = HasNoLoop (body_at dev (last dev) r.op).sub
 
-  -- from linked cells, where each call is legal, no call traps
-  none_traps : (rs : List Request) (ts : List Told) (before : Abstract → Type 0) (a : Abstract) (m : List ℤ) (n : ℕ) → before a → Linked find dev a m → All (Fits dev) rs →
-      LegalFrom find dev before (map (call_of dev) rs) (replied dev rs ts) → Continues (translation dev) fuel (Done n) m rs ts → IsUntrapped (last_end (Done n) ts)
-  none_traps [] [] before a m n h linked fit legal goes = tt
-  none_traps [] (t ∷ ts) before a m n h linked fit legal goes = absurd goes
-  none_traps (r ∷ rs) [] before a m n h linked fit legal goes = absurd goes
-  none_traps (r ∷ rs) (t ∷ ts) before a m n h linked fit legal goes =
-      let c : Call = call_of dev r in
-      let us : List MathValue = as_values dev (body_at dev 0 r.op).outputs t.outputs in
-      let answers : Answers (translation dev) fuel r m t = goes.0 in
-      let entry : OpEntry = answers.entry in
-      let d : Config = answers.call.last in
-      let call = is_call find dev follows r entry answers.named (All-head (Fits dev) r rs fit) in
-      let pre : Pre find dev c a = legal_now find dev follows before c (map (call_of dev) rs) us (replied dev rs ts) t.end legal a h in
-      let end : Ends (translation dev) fuel (started entry c m) t.end d = subst (λ zs. Ends (translation dev) fuel (call_start entry zs m) t.end d) (sym call.1) answers.call.ends in
-      let good = (follows.local a m c entry linked call.0 pre answers.named).1 fuel t.end d end in
-      by_good before c (map (call_of dev) rs) us (replied dev rs ts) t.end entry a (started entry c m) d t.outputs t.cells rs ts good answers.call.given legal goes.1
-      (λ k step given rest on.
-      let same : replies dev r.op entry.outputs d.cells ≡ us = ap (as_values dev (body_at dev 0 r.op).outputs) (sym given) in
-      let after : After find dev before c us step.0 = (a, h, subst (λ vs. Steps find dev c a vs step.0) same step.1) in
-      let linked_there : Linked find dev step.0 t.cells = subst (λ zs. Linked find dev step.0 zs) (sym answers.call.cells) step.2 in
-      none_traps rs ts (After find dev before c us) step.0 t.cells k after linked_there (All-tail (Fits dev) r rs fit) rest on)
+module _ (fuel : ℕ) (find : Finder) (dev : Development) where
+  session_untrapped : (rs : List Request) (tolds : List Told) → All (Fits dev) rs → AreLegal find dev rs tolds → Session (translation dev) fuel rs tolds → LegalCallsEndWell find dev fuel rs tolds → session_status tolds ≡ TrappedStatus → ⊥
+  session_untrapped rs [] fit legal session well e = absurd session
+  session_untrapped rs (t ∷ ts) fit legal session well e =
+      untrapped_status (last_end t.end ts)
+      (of_last find dev fuel IsUntrapped (Fits dev) (λ r m told fits answers ends. ends.untrapped) t.end (Opens find dev) t.cells rs ts well.0.untrapped fit session.1 (λ n is. legal) well.1) e
 
-  opening_untrapped : (e : End) (d : Config) (cells : List ℤ) (rs : List Request) (ts : List Told) → IsGood (translation dev) fuel (first_start (translation dev)) (λ m. (a : Abstract) × Opens find dev a × Linked find dev a m) e d →
-      cells ≡ d.cells → All (Fits dev) rs → LegalFrom find dev (Opens find dev) (map (call_of dev) rs) (replied dev rs ts) → Continues (translation dev) fuel e cells rs ts → IsUntrapped (last_end e ts)
-  opening_untrapped (Done n) d cells rs ts good same fit legal goes = none_traps rs ts (Opens find dev) good.0 cells n good.1 (subst (λ zs. Linked find dev good.0 zs) (sym same) good.2) fit legal goes
-  opening_untrapped (Trapped kind place n) d cells rs ts good same fit legal goes = absurd good
-  opening_untrapped OutOfFuel d cells rs ts good same fit legal goes = ends_there (translation dev) fuel cells rs ts goes
-
-  session_untrapped : (rs : List Request) (tolds : List Told) → All (Fits dev) rs → AreLegal find dev rs tolds → Session (translation dev) fuel rs tolds → session_status tolds ≡ TrappedStatus → ⊥
-  session_untrapped rs [] fit legal session e = absurd session
-  session_untrapped rs (t ∷ ts) fit legal session e =
-      untrapped_status (last_end t.end ts) (opening_untrapped t.end session.0.last t.cells rs ts (follows.opening fuel t.end session.0.last session.0.ends) session.0.cells fit legal session.1) e
-
--- ---- calls out of fuel
-would_end : (image : Image) (fuel : ℕ) (start : Config) (P : List ℤ → Type 0) (e : End) (d : Config) → IsGood image fuel start P e d → WouldEnd image fuel start e
-would_end image fuel start P (Done n) d good = tt
-would_end image fuel start P (Trapped kind place n) d good = tt
-would_end image fuel start P OutOfFuel d good = good
-
--- behind a call that is not done there is none
-none_behind : (Holds : Request → List ℤ → Told → Type 0) (cells : List ℤ) (rs : List Request) → EachCall Holds cells rs []
-none_behind Holds cells [] = tt
-none_behind Holds cells (r ∷ rs) = tt
-
-module _ (fuel : ℕ) (find : Finder) (dev : Development) (follows : Follows find dev (translation dev)) where
-  -- of a call on linked cells whose precondition is true this is so
-  abbrev IsSoOfCalls : (Request → List ℤ → Told → Type 0) → Type 0
-  IsSoOfCalls Holds =
-      (r : Request) (entry : OpEntry) (a : Abstract) (m : List ℤ) (t : Told) (d : Config) → IsEntry (translation dev) r.op entry → Linked find dev a m → IsCall dev (call_of dev r) →
-      map as_number (call_of dev r).args ≡ r.args → Pre find dev (call_of dev r) a → Ends (translation dev) fuel (started entry (call_of dev r) m) t.end d → Holds r m t
-
-  module _ (Holds : Request → List ℤ → Told → Type 0) (holds : IsSoOfCalls Holds) where
-    -- after an end, by what is known where it is done
-    after_end : (e : End) (cells : List ℤ) (rs : List Request) (ts : List Told) → Continues (translation dev) fuel e cells rs ts → ((n : ℕ) → e ≡ Done n → EachCall Holds cells rs ts) → EachCall Holds cells rs ts
-    after_end (Done n) cells rs ts goes rest = rest n refl
-    after_end (Trapped kind place n) cells rs [] goes rest = none_behind Holds cells rs
-    after_end (Trapped kind place n) cells rs (t ∷ ts) goes rest = absurd goes
-    after_end OutOfFuel cells rs [] goes rest = none_behind Holds cells rs
-    after_end OutOfFuel cells rs (t ∷ ts) goes rest = absurd goes
-
-    -- from linked cells, where each call is legal, it is so of each
-    each_call : (rs : List Request) (ts : List Told) (before : Abstract → Type 0) (a : Abstract) (m : List ℤ) (n : ℕ) → before a → Linked find dev a m → All (Fits dev) rs →
-        LegalFrom find dev before (map (call_of dev) rs) (replied dev rs ts) → Continues (translation dev) fuel (Done n) m rs ts → EachCall Holds m rs ts
-    each_call [] [] before a m n h linked fit legal goes = tt
-    each_call [] (t ∷ ts) before a m n h linked fit legal goes = absurd goes
-    each_call (r ∷ rs) [] before a m n h linked fit legal goes = absurd goes
-    each_call (r ∷ rs) (t ∷ ts) before a m n h linked fit legal goes =
-        let c : Call = call_of dev r in
-        let us : List MathValue = as_values dev (body_at dev 0 r.op).outputs t.outputs in
-        let answers : Answers (translation dev) fuel r m t = goes.0 in
-        let entry : OpEntry = answers.entry in
-        let d : Config = answers.call.last in
-        let call = is_call find dev follows r entry answers.named (All-head (Fits dev) r rs fit) in
-        let pre : Pre find dev c a = legal_now find dev follows before c (map (call_of dev) rs) us (replied dev rs ts) t.end legal a h in
-        let end : Ends (translation dev) fuel (started entry c m) t.end d = subst (λ zs. Ends (translation dev) fuel (call_start entry zs m) t.end d) (sym call.1) answers.call.ends in
-        let good = (follows.local a m c entry linked call.0 pre answers.named).1 fuel t.end d end in (
-          holds r entry a m t d answers.named linked call.0 call.1 pre end,
-          after_end t.end t.cells rs ts goes.1 (λ k is.
-              let step : IsStep find dev c entry a d.cells = subst (λ e. IsGood (translation dev) fuel (started entry c m) (IsStep find dev c entry a) e d) is good in
-              let given : t.outputs ≡ outputs_of entry.outputs d.cells = answers.call.given ∙ ap (λ e. given_out entry.outputs e d.cells) is in
-              let rest : LegalFrom find dev (After find dev before c us) (map (call_of dev) rs) (replied dev rs ts) = (subst (λ e. LegalFrom find dev before (c ∷ map (call_of dev) rs) (done_or e (us ∷ replied dev rs ts) [])) is legal).1 in
-              let same : replies dev r.op entry.outputs d.cells ≡ us = ap (as_values dev (body_at dev 0 r.op).outputs) (sym given) in
-              let after : After find dev before c us step.0 = (a, h, subst (λ vs. Steps find dev c a vs step.0) same step.1) in
-              let linked_there : Linked find dev step.0 t.cells = subst (λ zs. Linked find dev step.0 zs) (sym answers.call.cells) step.2 in
-              each_call rs ts (After find dev before c us) step.0 t.cells k after linked_there (All-tail (Fits dev) r rs fit) rest (subst (λ e. Continues (translation dev) fuel e t.cells rs ts) is goes.1)),
-        )
-
-    -- the machine opens with these cells
-    abbrev Opened : List ℤ → Type 0
-    Opened m = (a : Abstract) × Opens find dev a × Linked find dev a m
-
-    -- behind an initialisation
-    behind_opening : (rs : List Request) (t : Told) (ts : List Told) → All (Fits dev) rs → AreLegal find dev rs (t ∷ ts) → Session (translation dev) fuel rs (t ∷ ts) → EachCall Holds t.cells rs ts
-    behind_opening rs t ts fit legal session =
-        let d : Config = session.0.last in
-        let good = follows.opening fuel t.end d session.0.ends in
-        after_end t.end t.cells rs ts session.1 (λ k is.
-        let first : Opened d.cells = subst (λ e. IsGood (translation dev) fuel (first_start (translation dev)) Opened e d) is good in
-        each_call rs ts (Opens find dev) first.0 t.cells k first.1 (subst (λ zs. Linked find dev first.0 zs) (sym session.0.cells) first.2) fit legal (subst (λ e. Continues (translation dev) fuel e t.cells rs ts) is session.1))
-
-  -- each call would end
-  call_would_end : IsSoOfCalls (CallWouldEnd (translation dev) fuel)
-  call_would_end r entry a m t d named linked call args pre end other there =
-      let good = (follows.local a m (call_of dev r) entry linked call pre named).1 fuel t.end d end in
-      let here : WouldEnd (translation dev) fuel (call_start entry r.args m) t.end =
-      subst (λ zs. WouldEnd (translation dev) fuel (call_start entry zs m) t.end) args (would_end (translation dev) fuel (started entry (call_of dev r) m) (IsStep find dev (call_of dev r) entry a) t.end d good) in
-      subst (λ x. WouldEnd (translation dev) fuel (call_start x r.args m) t.end) (same_entry (translation dev) r.op entry other named there) here
-
-  each_would_end : (rs : List Request) (tolds : List Told) → All (Fits dev) rs → AreLegal find dev rs tolds → Session (translation dev) fuel rs tolds → EachWouldEnd (translation dev) fuel rs tolds
-  each_would_end rs [] fit legal session = tt
-  each_would_end rs (t ∷ ts) fit legal session = (
-    would_end (translation dev) fuel (first_start (translation dev)) (λ m. (a : Abstract) × Opens find dev a × Linked find dev a m) t.end session.0.last (follows.opening fuel t.end session.0.last session.0.ends),
-    behind_opening (CallWouldEnd (translation dev) fuel) call_would_end rs t ts fit legal session,
-  )
-
-  -- and each without WHILE in time
-  module _ (in_code : EndsWithoutLoops find dev (translation dev)) where
-    in_time : (size : ℕ) (start d : Config) (e : End) → EndsWithin (translation dev) size start → Ends (translation dev) fuel start e d → IsDoneWithin size fuel e
-    in_time size start d e w end enough = (w.steps, (one_end (translation dev) fuel start e (Done w.steps) d w.end end (w.done fuel enough)).0)
-
-    call_in_time : IsSoOfCalls (CallEndsInTime dev fuel)
-    call_in_time r entry a m t d named linked call args pre end none =
-        in_time (length (operation_code dev (body_at dev (last dev) r.op))) (started entry (call_of dev r) m) d t.end (in_code.local a m (call_of dev r) entry none linked call pre named) end
-
-    each_in_time : (rs : List Request) (tolds : List Told) → All (Fits dev) rs → AreLegal find dev rs tolds → Session (translation dev) fuel rs tolds → EachEndsInTime dev fuel rs tolds
-    each_in_time rs [] fit legal session = tt
-    each_in_time rs (t ∷ ts) fit legal session = (
-      (λ none. in_time (length (init_code dev)) (first_start (translation dev)) session.0.last t.end (in_code.opening none) session.0.ends),
-      behind_opening (CallEndsInTime dev fuel) call_in_time rs t ts fit legal session,
-    )
+  session_done : length (translation dev).code ≤ fuel → (rs : List Request) (tolds : List Told) → RunNoLoop dev rs → AreLegal find dev rs tolds → Session (translation dev) fuel rs tolds → LegalCallsEndWell find dev fuel rs tolds → session_status tolds ≡ DoneStatus
+  session_done enough rs [] none legal session well = absurd session
+  session_done enough rs (t ∷ ts) none legal session well =
+      done_status (last_end t.end ts)
+      (of_last find dev fuel (λ e. (n : ℕ) × (e ≡ Done n)) (NoLoop dev)
+      (λ r m told no_loop answers ends.
+      ends.in_time no_loop (through (length (operation_code dev (body_at dev (last dev) r.op))) (length (translation dev).code) fuel (operation_within dev r.op answers.entry answers.named) enough))
+      t.end (Opens find dev) t.cells rs ts (well.0.in_time none.init (through (length (init_code dev)) (length (translation dev).code) fuel (init_within dev) enough)) none.calls session.1 (λ n is. legal) well.1)
 
 -- the calls of a project that is ready
 pub legal_calls_are_done : LegalCallsAreDone
-legal_calls_are_done files project calls fuel ready tolds session find law legal =
+legal_calls_are_done files project calls fuel ready tolds session find law =
     let dev = ready.dev in
     let lawful : IsLawful dev = (project_development true files project dev ready.scripts ready.reads ready.finished.room).lawful in
     let b0 : IsB0Development dev = project_in_b0 true files project dev ready.scripts ready.reads ready.finished.room ready.finished.complete in
     let follows : Follows find dev (translation dev) = project_follows files project dev ready.scripts ready.reads ready.finished find law in
     let ends : EndsWithoutLoops find dev (translation dev) = projects_end files project dev ready.scripts ready.reads ready.finished find law in
-    let fit = requests_fit dev lawful b0 (kept_lines ready.asks.text) ready.requests ready.asks.script in (
-      session_untrapped fuel find dev follows ready.requests tolds fit legal session,
-      each_would_end fuel find dev follows ready.requests tolds fit legal session,
-      each_in_time fuel find dev follows ends ready.requests tolds fit legal session,
-      (λ none enough. session_done fuel find dev follows ends enough ready.requests tolds fit none legal session),
+    let fit = requests_fit dev lawful b0 (kept_lines ready.asks.text) ready.requests ready.asks.script in
+    let well : LegalCallsEndWell find dev fuel ready.requests tolds = legal_calls_end_well fuel find dev follows ends ready.requests tolds fit session in (
+      well,
+      λ legal. (
+        session_untrapped fuel find dev ready.requests tolds fit legal session well,
+        λ none enough. session_done fuel find dev enough ready.requests tolds none legal session well,
+      ),
     )

@@ -65,13 +65,9 @@ ready_executed files words project calls fuel old new status asks w ready =
     subst IsExecuted (sym p.2) (session_executed p.0)
 
 pub done_where_legal : (files : Files) (words : List (List ℕ)) (project calls : List ℕ) (fuel : ℕ) (old new : Option (List ℕ)) (status : Status) → Asks words (run_task project calls fuel) → WritesAnswer files words old new status → IsDoneWhereLegal files project calls fuel status
-done_where_legal files words project calls fuel old new status asks w ready tolds session find law legal =
+done_where_legal files words project calls fuel old new status asks w ready tolds session find law =
     let p = session_of_answer files words project calls fuel asks ready status w.text w.answer in
     let same = one_session (translation ready.dev) fuel ready.requests p.0 tolds p.1 session in
     let is : status ≡ session_status tolds = p.2 ∙ ap session_status same in
-    let ends = legal_calls_are_done files project calls fuel ready tolds session find law legal in (
-      (λ e. ends.0 (sym is ∙ e)),
-      ends.1,
-      ends.2,
-      (λ none enough. is ∙ ends.3 none enough),
-    )
+    let ends = legal_calls_are_done files project calls fuel ready tolds session find law in
+    (ends.0, λ legal. ((λ e. (ends.1 legal).0 (sym is ∙ e)), (λ none enough. is ∙ (ends.1 legal).1 none enough)))

@@ -11,7 +11,7 @@ use Rattle.bk_raw.specs.ScriptTree.{RawScript}
 use Rattle.bk_verbs.specs.declared.status.Status.{Status}
 use Rattle.bk_verbs.specs.declared.status.Status.TheVariants.{Done, Trapped}
 use Rattle.bk_words.specs.Tasks.{build_task, run_task, exec_task, Asks}
-use Rattle.bkit.specs.Legal.{AreLegal, RunNoLoop, EachWouldEnd, EachEndsInTime}
+use Rattle.bkit.specs.Legal.{AreLegal, RunNoLoop, LegalCallsEndWell}
 use Rattle.bk_verbs.specs.Project.{HoldBytes, HaveRoom, ReadsProject, IsFinished}
 use Rattle.bkit.specs.Run.{IsReady}
 use Rattle.bk_verbs.specs.Session.{session_status}
@@ -45,12 +45,13 @@ ProjectsEnd =
     (files : Files) (project : List ℕ) (dev : Development) (scripts : List RawScript) → ReadsProject true files project dev scripts → IsFinished dev scripts →
     (find : Finder) → IsSearch find → EndsWithoutLoops find dev (translation dev)
 
--- where each call of a session of a project is legal after those before it, none traps, one out of fuel would end with more, one
--- without WHILE is done with a fuel of at least the length of its code, and where no WHILE is run all are done with one of at least
--- the length of the whole code
+-- of a session of a project the initialisation, and each call that is legal after those before it, does not trap, out of fuel would end
+-- with more, and without WHILE is done with a fuel of at least the length of its code; and where all are legal none traps, and where no
+-- WHILE is run all are done with one of at least the length of the whole code
 abbrev pub LegalCallsAreDone : Type 0
 LegalCallsAreDone =
     (files : Files) (project calls : List ℕ) (fuel : ℕ) (ready : IsReady files project calls) (tolds : List Told) →
-    Session (translation ready.dev) fuel ready.requests tolds → (find : Finder) → IsSearch find → AreLegal find ready.dev ready.requests tolds →
-    (session_status tolds ≢ Trapped) × EachWouldEnd (translation ready.dev) fuel ready.requests tolds × EachEndsInTime ready.dev fuel ready.requests tolds ×
-    (RunNoLoop ready.dev ready.requests → length (translation ready.dev).code ≤ fuel → session_status tolds ≡ Done)
+    Session (translation ready.dev) fuel ready.requests tolds → (find : Finder) → IsSearch find →
+    LegalCallsEndWell find ready.dev fuel ready.requests tolds ×
+    (AreLegal find ready.dev ready.requests tolds →
+    (session_status tolds ≢ Trapped) × (RunNoLoop ready.dev ready.requests → length (translation ready.dev).code ≤ fuel → session_status tolds ≡ Done))

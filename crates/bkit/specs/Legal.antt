@@ -1,4 +1,4 @@
--- Which calls of a session are legal, by the replies of the calls before them, and which run no loop.
+-- Which calls of a session are legal, by the replies of the calls before them, which run no loop, and how legal calls end.
 use Rattle.std.specs.Prelude.{◌≡◌, ◌<◌, ◌≤◌, ℕ, ℤ, List, [], ◌∷◌, length, map, All}
 use Rattle.bk_val.specs.Value.{MathValue}
 use Rattle.bk_form.specs.Search.{Finder}
@@ -8,8 +8,8 @@ use Rattle.bk_code.specs.Step.{Config}
 use Rattle.bk_code.specs.Run.{End, Done, Trapped, OutOfFuel, Ends}
 use Rattle.bk_code.specs.Session.{Request, Told, call_start, first_start}
 use Rattle.bk_dev.specs.Development.{Development, level_at, body_at, inputs_of, last}
-use Rattle.bk_dev.specs.Machine.{Call, Legal}
-use Rattle.bk_b0.specs.Translation.{init_code, operation_code}
+use Rattle.bk_dev.specs.Machine.{Abstract, Opens, Call, Pre, After, Legal}
+use Rattle.bk_b0.specs.Translation.{init_code, operation_code, translation}
 use Rattle.bk_statements.specs.Within.{HasNoLoop}
 use Rattle.bk_sim.specs.Follows.{IsEntry, as_values}
 
@@ -23,9 +23,13 @@ done_or (Done n) this other = this
 done_or (Trapped kind place n) this other = other
 done_or OutOfFuel this other = other
 
+-- the values that a call replies
+abbrev pub reply_of : Development → Request → Told → List MathValue
+reply_of dev request told = as_values dev (body_at dev 0 request.op).outputs told.outputs
+
 -- the replies of the calls that are done
 abbrev pub replied : Development → List Request → List Told → List (List MathValue)
-replied dev (request ∷ requests) (told ∷ tolds) = done_or told.end (as_values dev (body_at dev 0 request.op).outputs told.outputs ∷ replied dev requests tolds) []
+replied dev (request ∷ requests) (told ∷ tolds) = done_or told.end (reply_of dev request told ∷ replied dev requests tolds) []
 replied dev _ _ = []
 
 -- what is told of the calls, behind the initialisation
@@ -43,24 +47,20 @@ pub record RunNoLoop (dev : Development) (requests : List Request) : Type 0 wher
   pub init : HasNoLoop (level_at dev (last dev)).init
   pub calls : All (λ r. HasNoLoop (body_at dev (last dev) r.op).sub) requests
 
+-- ---- how legal calls end
+-- no trap
+abbrev pub IsUntrapped : End → Type 0
+IsUntrapped (Trapped kind place n) = ⊥
+IsUntrapped _ = Unit {0}
+
 -- where the call that starts there is out of fuel, it is done with some larger fuel
 abbrev pub WouldEnd : Image → ℕ → Config → End → Type 0
 WouldEnd image fuel start OutOfFuel = (more : ℕ) × (n : ℕ) × (d : Config) × (fuel < more) × Ends image more start (Done n) d
 WouldEnd image fuel start _ = Unit {0}
 
--- this holds of each call that is told of, on the cells that the one before it left
-abbrev pub EachCall : (Request → List ℤ → Told → Type 0) → List ℤ → List Request → List Told → Type 0
-EachCall Holds cells (request ∷ requests) (told ∷ tolds) = Holds request cells told × EachCall Holds told.cells requests tolds
-EachCall Holds cells _ _ = Unit {0}
-
 -- a call of an operation of the image that is out of fuel would end
 abbrev pub CallWouldEnd : Image → ℕ → Request → List ℤ → Told → Type 0
 CallWouldEnd image fuel request cells told = (entry : OpEntry) → IsEntry image request.op entry → WouldEnd image fuel (call_start entry request.args cells) told.end
-
--- so would the initialisation, and each call behind it
-abbrev pub EachWouldEnd : Image → ℕ → List Request → List Told → Type 0
-EachWouldEnd image fuel requests [] = Unit {0}
-EachWouldEnd image fuel requests (told ∷ tolds) = WouldEnd image fuel (first_start image) told.end × EachCall (CallWouldEnd image fuel) told.cells requests tolds
 
 -- what ends so is done, where the fuel is at least so many steps
 abbrev pub IsDoneWithin : ℕ → ℕ → End → Type 0
@@ -71,8 +71,29 @@ abbrev pub CallEndsInTime : Development → ℕ → Request → List ℤ → Tol
 CallEndsInTime dev fuel request cells told =
     HasNoLoop (body_at dev (last dev) request.op).sub → IsDoneWithin (length (operation_code dev (body_at dev (last dev) request.op))) fuel told.end
 
--- so is an initialisation that has none, and each such call behind it
-abbrev pub EachEndsInTime : Development → ℕ → List Request → List Told → Type 0
-EachEndsInTime dev fuel requests [] = Unit {0}
-EachEndsInTime dev fuel requests (told ∷ tolds) =
-    (HasNoLoop (level_at dev (last dev)).init → IsDoneWithin (length (init_code dev)) fuel told.end) × EachCall (CallEndsInTime dev fuel) told.cells requests tolds
+-- a call on these cells does not trap, out of fuel it would be done with more, and without WHILE it is done with a fuel of at least the
+-- length of its code
+pub record CallEndsWell (dev : Development) (fuel : ℕ) (request : Request) (cells : List ℤ) (told : Told) : Type 0 where
+  pub untrapped : IsUntrapped told.end
+  pub more : CallWouldEnd (translation dev) fuel request cells told
+  pub in_time : CallEndsInTime dev fuel request cells told
+
+-- so is it of the initialisation
+pub record InitialisationEndsWell (dev : Development) (fuel : ℕ) (told : Told) : Type 0 where
+  pub untrapped : IsUntrapped told.end
+  pub more : WouldEnd (translation dev) fuel (first_start (translation dev)) told.end
+  pub in_time : HasNoLoop (level_at dev (last dev)).init → IsDoneWithin (length (init_code dev)) fuel told.end
+
+-- call by call: where a call's precondition is true in every state of before, Holds is so of it, on the cells that the one before it
+-- left, and so on from the states that it steps to with its replies; behind a call that is not legal nothing is said, and behind one
+-- that is not done nothing is told
+abbrev pub EachLegalCall : Finder → Development → (Request → List ℤ → Told → Type 0) → (Abstract → Type 0) → List ℤ → List Request → List Told → Type 0
+EachLegalCall find dev Holds before cells (request ∷ requests) (told ∷ tolds) =
+    ((a : Abstract) → before a → Pre find dev (call_of dev request) a) →
+    Holds request cells told × EachLegalCall find dev Holds (After find dev before (call_of dev request) (reply_of dev request told)) told.cells requests tolds
+EachLegalCall find dev Holds before cells _ _ = Unit {0}
+
+-- the initialisation ends well, and so does each call that is legal after those before it, whatever comes behind it
+abbrev pub LegalCallsEndWell : Finder → Development → ℕ → List Request → List Told → Type 0
+LegalCallsEndWell find dev fuel requests [] = Unit {0}
+LegalCallsEndWell find dev fuel requests (told ∷ tolds) = InitialisationEndsWell dev fuel told × EachLegalCall find dev (CallEndsWell dev fuel) (Opens find dev) told.cells requests tolds

@@ -11,7 +11,7 @@ use Rattle.bk_sim.specs.Within.{EndsWithoutLoops}
 use Rattle.bk_raw.specs.ScriptTree.{RawScript}
 use Rattle.bk_verbs.specs.declared.status.Status.{Status}
 use Rattle.bk_verbs.specs.declared.status.Status.TheVariants.{Done, Trapped}
-use Rattle.bkit.specs.Legal.{AreLegal, RunNoLoop, EachWouldEnd, EachEndsInTime}
+use Rattle.bkit.specs.Legal.{AreLegal, RunNoLoop, LegalCallsEndWell}
 use Rattle.bk_verbs.specs.Project.{ReadsProject, IsFinished, IsWithinCodeLimits, ReadsCalls}
 use Rattle.bk_verbs.specs.Work.{IsRun}
 
@@ -47,12 +47,13 @@ pub record WritesRun (files : Files) (project calls : List ℕ) (fuel : ℕ) (ol
   pub run : FollowsRun files project calls fuel status text
   pub appended : new ≡ written_with old text
 
--- for every search: where no check stops the run, and each call of its script is legal after those before it with the replies of the
--- session, no call traps, one out of fuel would end with more, one without WHILE is done with a fuel of at least the length of its
--- code, and where no WHILE is run all are done with one of at least the length of the whole code
+-- for every search: where no check stops the run, the initialisation, and each call of its script that is legal after those before it
+-- with the replies of the session, does not trap, out of fuel would end with more, and without WHILE is done with a fuel of at least the
+-- length of its code; and where all are legal none traps, and where no WHILE is run all are done with one of at least the length of the
+-- whole code
 abbrev pub IsDoneWhereLegal : Files → (project calls : List ℕ) (fuel : ℕ) → Status → Type 0
 IsDoneWhereLegal files project calls fuel status =
     (ready : IsReady files project calls) (tolds : List Told) → Session (translation ready.dev) fuel ready.requests tolds → (find : Finder) → IsSearch find →
-    AreLegal find ready.dev ready.requests tolds →
-    (status ≢ Trapped) × EachWouldEnd (translation ready.dev) fuel ready.requests tolds × EachEndsInTime ready.dev fuel ready.requests tolds ×
-    (RunNoLoop ready.dev ready.requests → length (translation ready.dev).code ≤ fuel → status ≡ Done)
+    LegalCallsEndWell find ready.dev fuel ready.requests tolds ×
+    (AreLegal find ready.dev ready.requests tolds →
+    (status ≢ Trapped) × (RunNoLoop ready.dev ready.requests → length (translation ready.dev).code ≤ fuel → status ≡ Done))

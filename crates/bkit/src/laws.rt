@@ -23,8 +23,8 @@ pub fn proved_projects_end()
     ensures { ProjectsEnd }
 {}
 
-/// Where each call of a project's session is legal after those before it, none traps, each would end with more fuel, and with
-/// enough fuel all are done where no loop is run.
+/// In a project's session the initialisation, and each call that is legal after those before it, does not trap, would end with more
+/// fuel, and without a loop is done with the length of its code; where all are legal and no loop is run, all are done with enough.
 pub fn legal_calls_are_done()
     ensures { LegalCallsAreDone }
 {}
