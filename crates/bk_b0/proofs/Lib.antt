@@ -4,7 +4,5 @@ pub mod TypedB0
 pub mod Typing
 pub mod ArrayTypes
 pub mod Shapes
-pub mod Whole
-pub mod SimpleInB0
 pub mod Units
 pub mod IntervalCounts

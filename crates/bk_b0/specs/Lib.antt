@@ -2,6 +2,5 @@ pub mod Kinds
 pub mod Cells
 pub mod Places
 pub mod Translation
-pub mod Simple
 pub mod CodeUnit
 pub mod Laws

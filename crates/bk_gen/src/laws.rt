@@ -1,19 +1,20 @@
 //! What small developments and substitutions are translated to. Each law is the contract of a function that does nothing.
 
+ghost use Rattle.bk_dev.specs.B0.{IsB0Development};
 ghost use Rattle.bk_dev.specs.Counter.{counter};
 ghost use Rattle.bk_gen.specs.Laws.{CounterCode, adder, AdderCode, TestsCode, LoopCode, FlattenedKeepsCode, TranslationsLoad};
 ghost use Rattle.bk_gen.specs.Samples.{ConstructsCode, TableCode, LampCode, LimitsCode};
-ghost use Rattle.bk_b0.specs.Simple.{IsSimple};
 
 /// A counter, to be checked by hand.
 pub fn counter()
-    ensures { CounterCode }
+    ensures code { CounterCode }
+    ensures in_b0 { IsB0Development counter }
 {}
 
 /// An operation with an input and an IF, to be checked by hand.
 pub fn adder()
     ensures code { AdderCode }
-    ensures simple { IsSimple adder }
+    ensures in_b0 { IsB0Development adder }
 {}
 
 /// Tests and loops, to be checked by hand.
@@ -28,11 +29,6 @@ pub fn samples()
     ensures table { TableCode }
     ensures lamp { LampCode }
     ensures limits { LimitsCode }
-{}
-
-/// The counter is over whole numbers alone.
-pub fn simple_counter()
-    ensures { IsSimple counter }
 {}
 
 /// Flattening leaves the code as it was, where no `||` stands in the last level.

@@ -1,4 +1,4 @@
--- The counter keeps its invariant, and its implementation carries it.
+-- The counter keeps its invariant, its implementation carries it, and so its code ends.
 use Rattle.std.proofs.Common.{◌≡◌, ◌<◌, ℕ, zero, suc, pos, [], length, ◌∷◌, refl, sym, subst, true, arith}
 use Rattle.bk_form.specs.Formula.{variable, literal, btrue}
 use Rattle.bk_form.specs.Search.{Finder}
@@ -12,9 +12,9 @@ use Rattle.bk_form.specs.Predicates.{AllHold}
 use Rattle.bk_dev.specs.Claims.{Establishes, KeepsFlat, Answered, CarriesFlat, Carries}
 use Rattle.bk_dev.specs.Counter.{counter_table, counter}
 use Rattle.bk_dev.proofs.CounterFacts.{counter_facts}
-use Rattle.bk_gen.proofs.Counters.{counter_is_simple}
+use Rattle.bk_gen.proofs.Counters.{counter_in_b0}
 use Rattle.bk_sim.specs.Laws.{CounterIsCarried, CounterEnds}
-use Rattle.bk_sim.proofs.SimpleInB0.{simple_ends}
+use Rattle.bk_sim.proofs.B0Code.{b0_ends}
 
 module _ (find : Finder) where
   abbrev invariant : State → Type 0
@@ -58,7 +58,7 @@ pub counter_is_carried : CounterIsCarried
 counter_is_carried find = ((λ e t h. tt), keeps find, carries find)
 
 pub counter_ends : CounterEnds
-counter_ends find = simple_ends find counter counter_facts counter_is_simple (counter_is_carried find).0 (counter_is_carried find).1 carried
+counter_ends find = b0_ends find counter counter_facts counter_in_b0 (counter_is_carried find).0 (counter_is_carried find).1 carried
   where
     carried : (j : ℕ) → suc j < length counter.levels → Carries find counter j
     carried zero h = (counter_is_carried find).2

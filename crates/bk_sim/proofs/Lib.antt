@@ -13,5 +13,4 @@ pub mod ExchangeFacts
 pub mod ExchangeCarried
 pub mod Settling
 pub mod Examples
-pub mod SimpleInB0
 pub mod Tower

@@ -6,7 +6,6 @@ use Rattle.bk_dev.specs.Facts.{IsDevelopment, IsLawful, LastIsFlat, OnlyLastIsIm
 use Rattle.bk_dev.specs.B0.{IsB0Development}
 use Rattle.bk_dev.specs.Claims.{Keeps, Carries, ValuesMeet}
 use Rattle.bk_dev.specs.Counter.{counter}
-use Rattle.bk_b0.specs.Simple.{IsSimple}
 use Rattle.bk_b0.specs.Translation.{translation}
 use Rattle.bk_code.specs.Checks.{IsLoadable}
 use Rattle.bk_code.specs.declared.image.Image.{Image}
@@ -15,7 +14,7 @@ use Rattle.bk_sim.specs.CounterCode.{counter_code}
 use Rattle.bk_sim.specs.Exchange.{exchange}
 use Rattle.bk_sim.specs.Tower.{tower}
 use Rattle.bk_sim.specs.Settling.{settling, settling_code, settled, unsettled, to_the_test, behind_the_start, onwards}
-use Rattle.bk_sim.specs.Within.{EndsInCode, EndsWithoutLoops}
+use Rattle.bk_sim.specs.Within.{EndsWithoutLoops}
 use Rattle.bk_form.specs.Table.{IsWellFormed}
 use Rattle.bk_dev.specs.Flattened.{flattened}
 
@@ -39,14 +38,6 @@ B0Follows = (find : Finder) (dev : Development) → IsDevelopment dev → IsB0De
 abbrev pub B0Ends : Type 0
 B0Ends = (find : Finder) (dev : Development) → IsDevelopment dev → IsB0Development dev → ValuesMeet find dev → Keeps find dev → ((j : ℕ) → suc j < length dev.levels → Carries find dev j) → EndsWithoutLoops find dev (translation dev)
 
--- what is translated so far is in B0, so that its translation follows the machine, with the same premises
-abbrev pub SimpleFollows : Type 0
-SimpleFollows = (find : Finder) (dev : Development) → IsDevelopment dev → IsSimple dev → ValuesMeet find dev → Keeps find dev → ((j : ℕ) → suc j < length dev.levels → Carries find dev j) → Follows find dev (translation dev)
-
--- and each of its calls is done with a fuel equal to the length of its code, since it has no loop
-abbrev pub SimpleEnds : Type 0
-SimpleEnds = (find : Finder) (dev : Development) → IsDevelopment dev → IsSimple dev → ValuesMeet find dev → Keeps find dev → ((j : ℕ) → suc j < length dev.levels → Carries find dev j) → EndsInCode find dev (translation dev)
-
 -- the counter meets what the headline asks
 abbrev pub CounterIsCarried : Type 0
 CounterIsCarried = (find : Finder) → ValuesMeet find counter × Keeps find counter × Carries find counter 0
@@ -55,9 +46,9 @@ CounterIsCarried = (find : Finder) → ValuesMeet find counter × Keeps find cou
 abbrev pub TranslationFollows : Type 0
 TranslationFollows = (find : Finder) → Follows find counter (translation counter)
 
--- each call of it is done within the length of its code
+-- and what has no loop, which is all of it, ends within its code
 abbrev pub CounterEnds : Type 0
-CounterEnds = (find : Finder) → EndsInCode find counter (translation counter)
+CounterEnds = (find : Finder) → EndsWithoutLoops find counter (translation counter)
 
 -- code that stores 9 for 10 does not follow the counter
 abbrev pub NineDoesNotFollow : Type 0

@@ -16,15 +16,6 @@ use Rattle.bk_statements.specs.Within.{EndsWithin, HasNoLoop}
 abbrev pub CallEnds : Development → Image → Call → OpEntry → List ℤ → Type 0
 CallEnds dev image c entry m = EndsWithin image (length (operation_code dev (body_at dev (last dev) c.op))) (started entry c m)
 
--- the initialisation ends within its code; so does each call, after calls that are done, up to the first whose precondition
--- may be false; and each whose precondition is true in a state that is linked to the cells
-pub record EndsInCode (find : Finder) (dev : Development) (image : Image) : Type 0 where
-  pub opening : EndsWithin image (length (init_code dev)) (first_start image)
-  pub session : (fuel : ℕ) (l m : List ℤ) (cs : List Call) (c : Call) (outs : List (List MathValue)) (entry : OpEntry) →
-      IsBegun image fuel l → AreCalls dev cs → IsCall dev c → AreDone dev image fuel l cs outs m → Legal find dev (cs ++ c ∷ []) outs → IsEntry image c.op entry →
-      CallEnds dev image c entry m
-  pub local : (a : Abstract) (m : List ℤ) (c : Call) (entry : OpEntry) → Linked find dev a m → IsCall dev c → Pre find dev c a → IsEntry image c.op entry → CallEnds dev image c entry m
-
 -- what has no loop ends within its code: the initialisation; a call of an operation, after calls that are done, up to the first
 -- whose precondition may be false; and one whose precondition is true in a state that is linked to the cells
 pub record EndsWithoutLoops (find : Finder) (dev : Development) (image : Image) : Type 0 where

@@ -1,6 +1,6 @@
 //! What follows a machine, and what does not. Each law is the contract of a function that does nothing.
 
-ghost use Rattle.bk_sim.specs.Laws.{CallsDecide, LawfulFollows, B0Follows, B0Ends, SimpleFollows, SimpleEnds, CounterIsCarried, TranslationFollows, CounterEnds, NineDoesNotFollow, FollowedWhereFlattened, ExchangeIsFollowed, WrongCodesDoNotFollow, TowerIsFollowed};
+ghost use Rattle.bk_sim.specs.Laws.{CallsDecide, LawfulFollows, B0Follows, B0Ends, CounterIsCarried, TranslationFollows, CounterEnds, NineDoesNotFollow, FollowedWhereFlattened, ExchangeIsFollowed, WrongCodesDoNotFollow, TowerIsFollowed};
 
 /// Code follows a machine where it opens well and each call goes well.
 pub fn calls_decide()
@@ -20,16 +20,6 @@ pub fn b0_follows()
 /// Where the claims hold, what has no loop ends within its code.
 pub fn b0_ends()
     ensures { B0Ends }
-{}
-
-/// The translation of a simple development follows its machine, where its obligations' claims hold.
-pub fn simple_follows()
-    ensures { SimpleFollows }
-{}
-
-/// Where the claims hold, each call of a simple development's translation is done with a fuel equal to the length of its code.
-pub fn simple_ends()
-    ensures { SimpleEnds }
 {}
 
 /// A counter, to be checked by hand.
