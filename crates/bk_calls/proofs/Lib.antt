@@ -15,3 +15,4 @@ pub mod Outputs
 pub mod Lengths
 pub mod Longest
 pub mod Transcripts
+pub mod SampleLists

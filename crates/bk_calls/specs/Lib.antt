@@ -6,3 +6,4 @@ pub mod Outcome
 pub mod Transcript
 pub mod Room
 pub mod Laws
+pub mod Sample

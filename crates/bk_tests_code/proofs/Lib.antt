@@ -1,2 +1,2 @@
 pub mod Chooser
-pub mod Simple
+pub mod InB0

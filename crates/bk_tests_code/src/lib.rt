@@ -6,6 +6,8 @@ mod choices;
 #[cfg(test)]
 mod replies;
 #[cfg(test)]
+mod sample_texts;
+#[cfg(test)]
 mod samples;
 #[cfg(test)]
 mod scripts;

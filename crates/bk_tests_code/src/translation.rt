@@ -25,19 +25,19 @@ fn counter_image(alloc: Global) -> Result<Image, Fail> {
     image_of(alloc, &counter)
 }
 
-#[tactic(auto, using(crate::proofs::Simple::tally_in_b0))]
+#[tactic(auto, using(crate::proofs::InB0::tally_in_b0))]
 fn tally_image(alloc: Global) -> Result<Image, Fail> {
     let tally = tally(alloc)?;
     image_of(alloc, &tally)
 }
 
-#[tactic(auto, using(crate::proofs::Simple::stepper_in_b0))]
+#[tactic(auto, using(crate::proofs::InB0::stepper_in_b0))]
 fn stepper_image(alloc: Global) -> Result<Image, Fail> {
     let stepper = stepper(alloc)?;
     image_of(alloc, &stepper)
 }
 
-#[tactic(auto, using(crate::proofs::Simple::chooser_in_b0))]
+#[tactic(auto, using(crate::proofs::InB0::chooser_in_b0))]
 fn chooser_image(alloc: Global) -> Result<Image, Fail> {
     let chooser = chooser(alloc)?;
     image_of(alloc, &chooser)

@@ -1,10 +1,10 @@
 -- The words ask for one task at most.
-use Rattle.std.proofs.Common.{◌≡◌, ℕ, false, true≢false, List, [], ◌∷◌, Option, Some, None, refl, sym, ◌∙◌, ap, subst, arith, codes}
+use Rattle.std.proofs.Common.{◌≡◌, ◌≤◌, ◌<◌, ◌^◌, ℕ, false, true≢false, List, [], ◌∷◌, Option, Some, None, refl, sym, ◌∙◌, ap, subst, arith, codes, decimal}
 use Rattle.std.specs.Str.{bytes_eq}
 use Rattle.std.proofs.lemmas.Slice.Eq.{bytes_eq-Decides}
 use Rattle.std.proofs.lemmas.Fmt.{decimal_injective}
 use Rattle.bk_words.specs.Words.{AreWords}
-use Rattle.bk_words.specs.Tasks.{Task, check_task, status_task, po_task, code_task, build_task, run_task, exec_task, IsFuel, IsTaskOf, Asks, AskForNothing}
+use Rattle.bk_words.specs.Tasks.{Task, check_task, status_task, po_task, code_task, build_task, run_task, exec_task, sample_task, most_variables, IsFuel, IsTaskOf, Asks, AskForNothing}
 use Rattle.bk_words.specs.Laws.{AskForOne}
 
 -- ---- lists
@@ -46,6 +46,7 @@ task_once verb files fuel0 (check_task project) (code_task project2) h k = absur
 task_once verb files fuel0 (check_task project) (build_task project2) h k = absurd (differ (codes "check") (codes "build") refl (sym h.0 ∙ k.0))
 task_once verb files fuel0 (check_task project) (run_task project2 calls2 fuel2) h k = absurd (differ (codes "check") (codes "run") refl (sym h.0 ∙ k.0))
 task_once verb files fuel0 (check_task project) (exec_task image2 calls2 fuel2) h k = absurd (differ (codes "check") (codes "exec") refl (sym h.0 ∙ k.0))
+task_once verb files fuel0 (check_task project) (sample_task variables2) h k = absurd (differ (codes "check") (codes "sample") refl (sym h.0 ∙ k.0))
 task_once verb files fuel0 (status_task project) (check_task project2) h k = absurd (differ (codes "status") (codes "check") refl (sym h.0 ∙ k.0))
 task_once verb files fuel0 (status_task project) (status_task project2) h k = ap status_task (first_of_both project project2 [] [] (sym h.1 ∙ k.1))
 task_once verb files fuel0 (status_task project) (po_task project2) h k = absurd (differ (codes "status") (codes "po") refl (sym h.0 ∙ k.0))
@@ -53,6 +54,7 @@ task_once verb files fuel0 (status_task project) (code_task project2) h k = absu
 task_once verb files fuel0 (status_task project) (build_task project2) h k = absurd (differ (codes "status") (codes "build") refl (sym h.0 ∙ k.0))
 task_once verb files fuel0 (status_task project) (run_task project2 calls2 fuel2) h k = absurd (differ (codes "status") (codes "run") refl (sym h.0 ∙ k.0))
 task_once verb files fuel0 (status_task project) (exec_task image2 calls2 fuel2) h k = absurd (differ (codes "status") (codes "exec") refl (sym h.0 ∙ k.0))
+task_once verb files fuel0 (status_task project) (sample_task variables2) h k = absurd (differ (codes "status") (codes "sample") refl (sym h.0 ∙ k.0))
 task_once verb files fuel0 (po_task project) (check_task project2) h k = absurd (differ (codes "po") (codes "check") refl (sym h.0 ∙ k.0))
 task_once verb files fuel0 (po_task project) (status_task project2) h k = absurd (differ (codes "po") (codes "status") refl (sym h.0 ∙ k.0))
 task_once verb files fuel0 (po_task project) (po_task project2) h k = ap po_task (first_of_both project project2 [] [] (sym h.1 ∙ k.1))
@@ -60,6 +62,7 @@ task_once verb files fuel0 (po_task project) (code_task project2) h k = absurd (
 task_once verb files fuel0 (po_task project) (build_task project2) h k = absurd (differ (codes "po") (codes "build") refl (sym h.0 ∙ k.0))
 task_once verb files fuel0 (po_task project) (run_task project2 calls2 fuel2) h k = absurd (differ (codes "po") (codes "run") refl (sym h.0 ∙ k.0))
 task_once verb files fuel0 (po_task project) (exec_task image2 calls2 fuel2) h k = absurd (differ (codes "po") (codes "exec") refl (sym h.0 ∙ k.0))
+task_once verb files fuel0 (po_task project) (sample_task variables2) h k = absurd (differ (codes "po") (codes "sample") refl (sym h.0 ∙ k.0))
 task_once verb files fuel0 (code_task project) (check_task project2) h k = absurd (differ (codes "code") (codes "check") refl (sym h.0 ∙ k.0))
 task_once verb files fuel0 (code_task project) (status_task project2) h k = absurd (differ (codes "code") (codes "status") refl (sym h.0 ∙ k.0))
 task_once verb files fuel0 (code_task project) (po_task project2) h k = absurd (differ (codes "code") (codes "po") refl (sym h.0 ∙ k.0))
@@ -67,6 +70,7 @@ task_once verb files fuel0 (code_task project) (code_task project2) h k = ap cod
 task_once verb files fuel0 (code_task project) (build_task project2) h k = absurd (differ (codes "code") (codes "build") refl (sym h.0 ∙ k.0))
 task_once verb files fuel0 (code_task project) (run_task project2 calls2 fuel2) h k = absurd (differ (codes "code") (codes "run") refl (sym h.0 ∙ k.0))
 task_once verb files fuel0 (code_task project) (exec_task image2 calls2 fuel2) h k = absurd (differ (codes "code") (codes "exec") refl (sym h.0 ∙ k.0))
+task_once verb files fuel0 (code_task project) (sample_task variables2) h k = absurd (differ (codes "code") (codes "sample") refl (sym h.0 ∙ k.0))
 task_once verb files fuel0 (build_task project) (check_task project2) h k = absurd (differ (codes "build") (codes "check") refl (sym h.0 ∙ k.0))
 task_once verb files fuel0 (build_task project) (status_task project2) h k = absurd (differ (codes "build") (codes "status") refl (sym h.0 ∙ k.0))
 task_once verb files fuel0 (build_task project) (po_task project2) h k = absurd (differ (codes "build") (codes "po") refl (sym h.0 ∙ k.0))
@@ -74,6 +78,7 @@ task_once verb files fuel0 (build_task project) (code_task project2) h k = absur
 task_once verb files fuel0 (build_task project) (build_task project2) h k = ap build_task (first_of_both project project2 [] [] (sym h.1 ∙ k.1))
 task_once verb files fuel0 (build_task project) (run_task project2 calls2 fuel2) h k = absurd (differ (codes "build") (codes "run") refl (sym h.0 ∙ k.0))
 task_once verb files fuel0 (build_task project) (exec_task image2 calls2 fuel2) h k = absurd (differ (codes "build") (codes "exec") refl (sym h.0 ∙ k.0))
+task_once verb files fuel0 (build_task project) (sample_task variables2) h k = absurd (differ (codes "build") (codes "sample") refl (sym h.0 ∙ k.0))
 task_once verb files fuel0 (run_task project calls fuel) (check_task project2) h k = absurd (differ (codes "run") (codes "check") refl (sym h.0 ∙ k.0))
 task_once verb files fuel0 (run_task project calls fuel) (status_task project2) h k = absurd (differ (codes "run") (codes "status") refl (sym h.0 ∙ k.0))
 task_once verb files fuel0 (run_task project calls fuel) (po_task project2) h k = absurd (differ (codes "run") (codes "po") refl (sym h.0 ∙ k.0))
@@ -83,6 +88,7 @@ task_once verb files fuel0 (run_task project calls fuel) (run_task project2 call
     ap (λ x. run_task x calls fuel) (first_of_both project project2 (calls ∷ []) (calls2 ∷ []) (sym h.1 ∙ k.1)) ∙
     (ap (λ x. run_task project2 x fuel) (second_of_both project project2 calls calls2 (sym h.1 ∙ k.1)) ∙ ap (λ x. run_task project2 calls2 x) (h.2 ∙ sym k.2))
 task_once verb files fuel0 (run_task project calls fuel) (exec_task image2 calls2 fuel2) h k = absurd (differ (codes "run") (codes "exec") refl (sym h.0 ∙ k.0))
+task_once verb files fuel0 (run_task project calls fuel) (sample_task variables2) h k = absurd (differ (codes "run") (codes "sample") refl (sym h.0 ∙ k.0))
 task_once verb files fuel0 (exec_task image calls fuel) (check_task project2) h k = absurd (differ (codes "exec") (codes "check") refl (sym h.0 ∙ k.0))
 task_once verb files fuel0 (exec_task image calls fuel) (status_task project2) h k = absurd (differ (codes "exec") (codes "status") refl (sym h.0 ∙ k.0))
 task_once verb files fuel0 (exec_task image calls fuel) (po_task project2) h k = absurd (differ (codes "exec") (codes "po") refl (sym h.0 ∙ k.0))
@@ -92,6 +98,29 @@ task_once verb files fuel0 (exec_task image calls fuel) (run_task project2 calls
 task_once verb files fuel0 (exec_task image calls fuel) (exec_task image2 calls2 fuel2) h k =
     ap (λ x. exec_task x calls fuel) (first_of_both image image2 (calls ∷ []) (calls2 ∷ []) (sym h.1 ∙ k.1)) ∙
     (ap (λ x. exec_task image2 x fuel) (second_of_both image image2 calls calls2 (sym h.1 ∙ k.1)) ∙ ap (λ x. exec_task image2 calls2 x) (h.2 ∙ sym k.2))
+task_once verb files fuel0 (exec_task image calls fuel) (sample_task variables2) h k = absurd (differ (codes "exec") (codes "sample") refl (sym h.0 ∙ k.0))
+task_once verb files fuel0 (sample_task variables) (check_task project2) h k = absurd (differ (codes "sample") (codes "check") refl (sym h.0 ∙ k.0))
+task_once verb files fuel0 (sample_task variables) (status_task project2) h k = absurd (differ (codes "sample") (codes "status") refl (sym h.0 ∙ k.0))
+task_once verb files fuel0 (sample_task variables) (po_task project2) h k = absurd (differ (codes "sample") (codes "po") refl (sym h.0 ∙ k.0))
+task_once verb files fuel0 (sample_task variables) (code_task project2) h k = absurd (differ (codes "sample") (codes "code") refl (sym h.0 ∙ k.0))
+task_once verb files fuel0 (sample_task variables) (build_task project2) h k = absurd (differ (codes "sample") (codes "build") refl (sym h.0 ∙ k.0))
+task_once verb files fuel0 (sample_task variables) (run_task project2 calls2 fuel2) h k = absurd (differ (codes "sample") (codes "run") refl (sym h.0 ∙ k.0))
+task_once verb files fuel0 (sample_task variables) (exec_task image2 calls2 fuel2) h k = absurd (differ (codes "sample") (codes "exec") refl (sym h.0 ∙ k.0))
+task_once verb files fuel0 (sample_task variables) (sample_task variables2) h k =
+    ap sample_task (decimal_injective variables variables2 (omega (arith, h.3)) (omega (arith, k.3)) (first_of_both (decimal variables) (decimal variables2) [] [] (sym h.1 ∙ k.1)))
+
+-- a text of a number that is no sample's size is asked for by no task of that verb
+pub no_sample : (size : List ℕ) (n : ℕ) → n < 2 ^ 64 → size ≡ decimal n → ((1 ≤ n) × (n ≤ most_variables) → ⊥) → (fuel : ℕ) (task : Task) → IsTaskOf (codes "sample") (size ∷ []) fuel task → ⊥
+no_sample size n fits written none fuel (check_task project) h = differ (codes "sample") (codes "check") refl h.0
+no_sample size n fits written none fuel (status_task project) h = differ (codes "sample") (codes "status") refl h.0
+no_sample size n fits written none fuel (po_task project) h = differ (codes "sample") (codes "po") refl h.0
+no_sample size n fits written none fuel (code_task project) h = differ (codes "sample") (codes "code") refl h.0
+no_sample size n fits written none fuel (build_task project) h = differ (codes "sample") (codes "build") refl h.0
+no_sample size n fits written none fuel (run_task project calls steps) h = differ (codes "sample") (codes "run") refl h.0
+no_sample size n fits written none fuel (exec_task image calls steps) h = differ (codes "sample") (codes "exec") refl h.0
+no_sample size n fits written none fuel (sample_task variables) h =
+    let same : n ≡ variables = decimal_injective n variables fits (omega (arith, h.3)) (sym written ∙ first_of_both size (decimal variables) [] [] h.1) in
+    none (omega (arith, h.2), omega (arith, h.3))
 
 -- ---- words
 -- the verb, the files and the text behind --fuel are one each

@@ -2,7 +2,8 @@
 use Rattle.std.specs.Prelude.{◌≡◌, ◌≤◌, ℕ, Bool, true, false, List, [], ◌∷◌, codes, decimal}
 use Rattle.bk_words.specs.Words.{AreWords}
 
--- what the program does. Files are named by their texts; fuel is how many steps the initialisation and each call may have
+-- what the program does. Files are named by their texts; fuel is how many steps the initialisation and each call may have; a sample has so
+-- many variables
 pub data Task : Type 0 where
   check_task : (project : List ℕ) → Task
   status_task : (project : List ℕ) → Task
@@ -11,6 +12,7 @@ pub data Task : Type 0 where
   build_task : (project : List ℕ) → Task
   run_task : (project calls : List ℕ) (fuel : ℕ) → Task
   exec_task : (image calls : List ℕ) (fuel : ℕ) → Task
+  sample_task : (variables : ℕ) → Task
 
 -- ---- fuel
 -- the most steps that may be asked for: 2 ^ 40
@@ -23,8 +25,14 @@ pub record IsFuel (text : List ℕ) (fuel : ℕ) : Type 0 where
   pub least : 1 ≤ fuel
   pub most : fuel ≤ most_fuel
 
+-- ---- samples
+-- the most variables that a sample may have
+abbrev pub most_variables : ℕ
+most_variables = 40
+
 -- ---- verbs
--- the verb with these files and this fuel is that of the task. What executes no code makes no use of the fuel
+-- the verb with these files and this fuel is that of the task. What executes no code makes no use of the fuel, nor does a sample, whose file
+-- is its number of variables in decimal digits without a leading zero
 abbrev pub IsTaskOf : (verb : List ℕ) (files : List (List ℕ)) (fuel : ℕ) → Task → Type 0
 IsTaskOf verb files fuel (check_task project) = (verb ≡ codes "check") × (files ≡ project ∷ [])
 IsTaskOf verb files fuel (status_task project) = (verb ≡ codes "status") × (files ≡ project ∷ [])
@@ -33,6 +41,7 @@ IsTaskOf verb files fuel (code_task project) = (verb ≡ codes "code") × (files
 IsTaskOf verb files fuel (build_task project) = (verb ≡ codes "build") × (files ≡ project ∷ [])
 IsTaskOf verb files fuel (run_task project calls steps) = (verb ≡ codes "run") × (files ≡ project ∷ calls ∷ []) × (steps ≡ fuel)
 IsTaskOf verb files fuel (exec_task image calls steps) = (verb ≡ codes "exec") × (files ≡ image ∷ calls ∷ []) × (steps ≡ fuel)
+IsTaskOf verb files fuel (sample_task variables) = (verb ≡ codes "sample") × (files ≡ decimal variables ∷ []) × (1 ≤ variables) × (variables ≤ most_variables)
 
 -- the words ask for the task: the command takes them, and the task is that of their verb, their files and their fuel
 pub record Asks (words : List (List ℕ)) (task : Task) : Type 0 where
@@ -59,3 +68,4 @@ has_proofs (code_task project) = false
 has_proofs (build_task project) = true
 has_proofs (run_task project calls fuel) = true
 has_proofs (exec_task image calls fuel) = false
+has_proofs (sample_task variables) = true

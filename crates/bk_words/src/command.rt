@@ -1,15 +1,18 @@
 //! What the words ask for: a verb with its files.
 
-ghost use Rattle.std.specs.Prelude.{◌≡◌, ◌≤◌, ◌<◌, ◌^◌, ℕ, [], ◌∷◌, decimal, IfSome, MatchOption};
+ghost use Rattle.std.specs.Prelude.{◌≡◌, ◌≤◌, ◌<◌, ◌^◌, ℕ, [], ◌∷◌, decimal, IfSome, MatchOption, codes};
 ghost use Rattle.clap.specs.Walk.{texts};
 ghost use Rattle.bk_words.specs.Tasks.{Task, most_fuel, IsFuel, IsTaskOf};
-ghost use Rattle.bk_words.specs.Asked.{task_of, HasSmallFuel};
+ghost use Rattle.bk_words.specs.Asked.{task_of, HasSmallNumbers};
 
 use crate::words::Words;
 use itoa::Buffer;
 
 /// The most steps that may be asked for: 2 ^ 40.
 const MOST_FUEL: u64 = 1099511627776;
+
+/// The most variables that a sample may have.
+const MOST_VARIABLES: u64 = 40;
 
 /// What the program does, a variant a verb. Files are named as the words name them; `fuel` is how many steps the
 /// initialisation and each call may have.
@@ -41,6 +44,10 @@ pub enum Command<'a> {
         calls: &'a str,
         fuel: u64,
     },
+    /// With so many variables.
+    Sample {
+        variables: u32,
+    },
 }
 
 /// The command that the words ask for, unless what stands behind `--fuel` is no number of steps, the verb is none of the
@@ -51,7 +58,7 @@ pub(crate) fn command_of<'a>(words: &Words<'a>) -> Option<Command<'a>>
         IsTaskOf words.now.verb.now (texts words.now.files.items) fuel task → ⊥)
         (λ command. (fuel : ℕ) × IsFuel words.now.fuel.now fuel ×
         IsTaskOf words.now.verb.now (texts words.now.files.items) fuel (task_of command)) }
-    ensures small { IfSome result HasSmallFuel }
+    ensures small { IfSome result HasSmallNumbers }
 {
     let fuel = fuel_of(words.fuel)?;
     match words.files.as_slice() {
@@ -61,12 +68,12 @@ pub(crate) fn command_of<'a>(words: &Words<'a>) -> Option<Command<'a>>
     }
 }
 
-// What a verb with a project asks for.
+// What a verb with a project, or with the size of a sample, asks for.
 fn of_project<'a>(verb: &str, project: &'a str) -> Option<Command<'a>>
     ensures meant { (fuel : ℕ) → MatchOption result
         ((task : Task) → IsTaskOf verb.now (project.now ∷ []) fuel task → ⊥)
         (λ command. IsTaskOf verb.now (project.now ∷ []) fuel (task_of command)) }
-    ensures small { IfSome result HasSmallFuel }
+    ensures small { IfSome result HasSmallNumbers }
 {
     match verb {
         "check" => Some(Command::Check { project }),
@@ -74,8 +81,25 @@ fn of_project<'a>(verb: &str, project: &'a str) -> Option<Command<'a>>
         "po" => Some(Command::Obligations { project }),
         "code" => Some(Command::Code { project }),
         "build" => Some(Command::Build { project }),
+        "sample" => of_sample(project),
         _ => None,
     }
+}
+
+// The sample of that size.
+fn of_sample<'a>(size: &str) -> Option<Command<'a>>
+    ensures meant { (fuel : ℕ) → MatchOption result
+        ((task : Task) → IsTaskOf (codes "sample") (size.now ∷ []) fuel task → ⊥)
+        (λ command. IsTaskOf (codes "sample") (size.now ∷ []) fuel (task_of command)) }
+    ensures small { IfSome result HasSmallNumbers }
+{
+    let variables = number_of(size)?;
+    if variables == 0 || variables > MOST_VARIABLES {
+        return None;
+    }
+    Some(Command::Sample {
+        variables: variables as u32,
+    })
 }
 
 // What a verb with a project or an image, and with a call script, asks for.
@@ -83,7 +107,7 @@ fn of_calls<'a>(verb: &str, file: &'a str, calls: &'a str, fuel: u64) -> Option<
     ensures meant { MatchOption result
         ((task : Task) → IsTaskOf verb.now (file.now ∷ calls.now ∷ []) fuel task → ⊥)
         (λ command. IsTaskOf verb.now (file.now ∷ calls.now ∷ []) fuel (task_of command)) }
-    ensures small { fuel ≤ most_fuel → IfSome result HasSmallFuel }
+    ensures small { fuel ≤ most_fuel → IfSome result HasSmallNumbers }
 {
     match verb {
         "run" => Some(Command::Run {

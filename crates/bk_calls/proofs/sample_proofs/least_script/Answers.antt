@@ -1,0 +1,9 @@
+use Rattle.std.proofs.Common.{append_assoc}
+use Rattle.bk_calls.specs.Sample.{least_script}
+use Rattle.bk_calls.proofs.sample_proofs.least_script.Goals as goal
+
+pub returns : goal.returns
+unfolding least_script
+returns c =
+    let h = simp (c.in_ok-least.ensures) at c.in_ok-format.ensures.ok in
+    simp append_assoc h

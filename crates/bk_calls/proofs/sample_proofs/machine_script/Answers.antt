@@ -1,0 +1,9 @@
+use Rattle.std.proofs.Common.{append_assoc}
+use Rattle.bk_calls.specs.Sample.{machine_script}
+use Rattle.bk_calls.proofs.sample_proofs.machine_script.Goals as goal
+
+pub returns : goal.returns
+unfolding machine_script
+returns c =
+    let h = simp (c.in_ok-range.ensures) at c.in_ok-format.ensures.ok in
+    simp append_assoc h
