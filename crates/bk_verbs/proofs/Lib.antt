@@ -4,3 +4,6 @@ pub mod Projects
 pub mod Fetching
 pub mod Stopping
 pub mod Prepared
+pub mod LastLines
+pub mod SampleStops
+pub mod Sampled

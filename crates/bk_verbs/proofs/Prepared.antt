@@ -9,7 +9,7 @@ use Rattle.bk_calls.specs.Transcript.{transcript}
 use Rattle.bk_verbs.specs.declared.status.Status.{Status}
 use Rattle.bk_verbs.specs.declared.status.Status.TheVariants.{Done}
 use Rattle.bk_verbs.specs.declared.work.Work.{Work}
-use Rattle.bk_verbs.specs.declared.work.Work.TheVariants.{Text, Play}
+use Rattle.bk_verbs.specs.declared.work.Work.TheVariants.{Text, Ended, Play}
 use Rattle.bk_words.specs.Tasks.{Task}
 use Rattle.bk_verbs.specs.Session.{Plays}
 use Rattle.bk_verbs.specs.Prepared.{IsPrepared, IsPlayable, CanBePlayed}
@@ -18,6 +18,9 @@ use Rattle.bk_verbs.specs.Work.{WritesWork}
 pub wrote_text : (files : Files) (task : Task) (text : Vec ℕ Global) (status : Status) (old new : Option (List ℕ)) → IsPrepared files task (Text text) → status ≡ Done → new ≡ written_with old text.items → WritesWork files task old new status
 wrote_text files task text status old new p e written =
     subst (λ x. WritesWork files task old new x) (sym e) (record { text = text.items; work = p; appended = written })
+
+pub ended_work : (files : Files) (task : Task) (text : Vec ℕ Global) (status : Status) (old new : Option (List ℕ)) → IsPrepared files task (Ended text status) → new ≡ written_with old text.items → WritesWork files task old new status
+ended_work files task text status old new p written = record { text = text.items; work = p; appended = written }
 
 pub played_work : (files : Files) (task : Task) (image : Image) (calls : Vec Call Global) (fuel : ℕ) (status : Status) (old new : Option (List ℕ)) → IsPrepared files task (Play image calls fuel) →
     Plays image fuel (map request_of calls.items) status old new → WritesWork files task old new status

@@ -1,5 +1,6 @@
 pub mod Codes
 pub mod Project
+pub mod Samples
 pub mod Session
 pub mod Work
 pub mod Prepared

@@ -10,19 +10,20 @@ use Rattle.bk_calls.specs.Script.{request_of}
 use Rattle.bk_calls.specs.Transcript.{transcript}
 use Rattle.bk_verbs.specs.declared.status.Status.TheVariants.{Done}
 use Rattle.bk_verbs.specs.declared.work.Work.{Work}
-use Rattle.bk_verbs.specs.declared.work.Work.TheVariants.{Text, Play}
+use Rattle.bk_verbs.specs.declared.work.Work.TheVariants.{Text, Ended, Play}
 use Rattle.bk_words.specs.Tasks.{Task, most_fuel}
 use Rattle.bk_verbs.specs.Session.{session_status, PlaysFront}
-use Rattle.bk_verbs.specs.Work.{IsWork}
+use Rattle.bk_verbs.specs.Work.{IsExecuted, IsWork}
 
 -- whatever a session of the image over the calls tells is what the task gives
 abbrev pub IsSessionOf : Files → Task → Image → (fuel : ℕ) → List Request → Type 0
 IsSessionOf files task image fuel requests =
     (tolds : List Told) → Session image fuel requests tolds → IsWork files task (session_status tolds) (transcript image fuel requests tolds)
 
--- a text that is left to write is what the task gives, and so is the transcript of a session that is left to play
+-- a text that is left to write is what the task gives, with its status, and so is the transcript of a session that is left to play
 abbrev pub IsPrepared : Files → Task → Work → Type 0
 IsPrepared files task (Text text) = IsWork files task Done text.items
+IsPrepared files task (Ended text status) = IsWork files task status text.items
 IsPrepared files task (Play image calls fuel) = IsSessionOf files task image fuel (map request_of calls.items)
 
 -- an image that is never stuck, calls that it takes, not too many of them, and no more fuel than may be asked for
@@ -32,12 +33,14 @@ pub record IsPlayable (image : Image) (requests : List Request) (fuel : ℕ) : T
   pub few : length requests ≤ 1000000
   pub small : fuel ≤ most_fuel
 
--- it is so of a session that is left to play
+-- it is so of a session that is left to play; one that is told of has ended
 abbrev pub CanBePlayed : Work → Type 0
 CanBePlayed (Text text) = Unit {0}
+CanBePlayed (Ended text status) = IsExecuted status
 CanBePlayed (Play image calls fuel) = IsPlayable image (map request_of calls.items) fuel
 
 -- what is written is a front of the text that is left to write, or of the transcript of the session that is left to play
 abbrev pub WritesFront : Work → (old new : Option (List ℕ)) → Type 0
 WritesFront (Text text) old new = WroteFront text.items old new
+WritesFront (Ended text status) old new = WroteFront text.items old new
 WritesFront (Play image calls fuel) old new = PlaysFront image fuel (map request_of calls.items) old new

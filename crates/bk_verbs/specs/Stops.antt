@@ -34,8 +34,9 @@ use Rattle.bk_verbs.specs.declared.status.Status.{Status}
 use Rattle.bk_verbs.specs.declared.status.Status.TheVariants.{Usage as UsageStatus, Missing as MissingStatus, Refused as RefusedStatus, Unproved as UnprovedStatus, Incomplete as IncompleteStatus, BadCalls as BadCallsStatus, BadImage as BadImageStatus, ReadFault as ReadFaultStatus, WriteFault as WriteFaultStatus, Memory as MemoryStatus}
 use Rattle.bk_verbs.specs.declared.stop.Stop.{Stop}
 use Rattle.bk_verbs.specs.declared.stop.Stop.TheVariants.{Usage, Missing, Refused, Limit, Unproved, Incomplete, BadCalls, BadImage, ReadFault, WriteFault, Memory}
-use Rattle.bk_words.specs.Tasks.{Task, check_task, status_task, po_task, code_task, build_task, run_task, exec_task, Asks, AskForNothing, has_proofs}
+use Rattle.bk_words.specs.Tasks.{Task, check_task, status_task, po_task, code_task, build_task, run_task, exec_task, sample_task, Asks, AskForNothing, has_proofs}
 use Rattle.bk_verbs.specs.Project.{IsTold, AreTold, IsToldAsBytes, files_of, fetched, ReadsProject, IsFinished, IsWithinCodeLimits}
+use Rattle.bk_verbs.specs.Samples.{sample_files, sample_project, sample_run}
 
 -- a device failed, or there was no memory
 abbrev pub IsOutside : Stop → Type 0
@@ -245,6 +246,7 @@ StopsRead files (code_task project) dev scripts stop = StopsIncomplete dev stop 
 StopsRead files (build_task project) dev scripts stop = StopsAtProof project dev scripts stop ⊎ (IsFinished dev scripts × StopsPastCode project (translation dev) stop)
 StopsRead files (run_task project calls fuel) dev scripts stop = StopsAtProof project dev scripts stop ⊎ (IsFinished dev scripts × StopsAtCalls files project calls (translation dev) stop)
 StopsRead files (exec_task image calls fuel) dev scripts stop = ⊥
+StopsRead files (sample_task variables) dev scripts stop = ⊥
 
 -- the project, and then what is asked of the development and the scripts that it reads as
 abbrev pub StopsAtWork : Files → (project : List ℕ) → Task → Stop → Type 0
@@ -252,7 +254,7 @@ StopsAtWork files project task stop =
     StopsAtProject (has_proofs task) files project stop ⊎
     ((dev : Development) × (scripts : List RawScript) × ReadsProject (has_proofs task) files project dev scripts × StopsRead files task dev scripts stop)
 
--- the first check of the task that fails
+-- the first check of the task that fails; for a sample those of its run, on its own files
 abbrev pub StopsTask : Files → Task → Stop → Type 0
 StopsTask files (check_task project) stop = StopsAtWork files project (check_task project) stop
 StopsTask files (status_task project) stop = StopsAtWork files project (status_task project) stop
@@ -261,6 +263,7 @@ StopsTask files (code_task project) stop = StopsAtWork files project (code_task 
 StopsTask files (build_task project) stop = StopsAtWork files project (build_task project) stop
 StopsTask files (run_task project calls fuel) stop = StopsAtWork files project (run_task project calls fuel) stop
 StopsTask files (exec_task image calls fuel) stop = StopsAtImage files image calls stop
+StopsTask files (sample_task variables) stop = StopsAtWork (sample_files variables) sample_project sample_run stop
 
 -- the words, and then the checks of the task that they ask for
 abbrev pub StopsAt : Files → List (List ℕ) → Stop → Type 0

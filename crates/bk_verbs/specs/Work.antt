@@ -1,5 +1,5 @@
 -- What a task gives where no check stops it, a case a verb.
-use Rattle.std.specs.Prelude.{◌≡◌, ℕ, true, List, Option}
+use Rattle.std.specs.Prelude.{◌≡◌, ℕ, true, List, ◌++◌, Option}
 use Rattle.bk_io.specs.Files.{Files}
 use Rattle.bk_io.specs.Pieces.{written_with}
 use Rattle.bk_code.specs.declared.image.Image.{Image}
@@ -16,13 +16,14 @@ use Rattle.bk_status.specs.Rows.{HasRows}
 use Rattle.bk_calls.specs.Transcript.{transcript}
 use Rattle.bk_verbs.specs.declared.status.Status.{Status}
 use Rattle.bk_verbs.specs.declared.status.Status.TheVariants.{Done, Trapped, OutOfFuel}
-use Rattle.bk_words.specs.Tasks.{Task, check_task, status_task, po_task, code_task, build_task, run_task, exec_task, has_proofs}
+use Rattle.bk_words.specs.Tasks.{Task, check_task, status_task, po_task, code_task, build_task, run_task, exec_task, sample_task, has_proofs}
 use Rattle.bk_verbs.specs.Project.{IsToldAsBytes, ReadsProject, IsFinished, IsWithinCodeLimits, ReadsCalls}
 use Rattle.bk_texts.specs.Check.{check_text}
 use Rattle.bk_texts.specs.Table.{table_text}
 use Rattle.bk_texts.specs.Obligations.{obligations_text}
 use Rattle.bk_texts.specs.Listing.{listing}
 use Rattle.bk_verbs.specs.Session.{session_status}
+use Rattle.bk_verbs.specs.Samples.{sample_files, sample_project, sample_table, sample_run, last_line}
 
 -- the statuses of work that is done: of all that was asked for, or up to a call that is not done
 abbrev pub IsExecuted : Status → Type 0
@@ -80,6 +81,18 @@ pub record IsExec (files : Files) (image calls : List ℕ) (fuel : ℕ) (status 
   pub encodes : Encodes bytes loaded
   pub played : IsPlayed files calls fuel loaded status text
 
+-- the project is read as a development whose obligations are proved, with these rows in its status table; the image is that of its
+-- translation, within the limits of code, and these calls are what the call script asks of it for
+pub record IsMadeReady (files : Files) (project calls : List ℕ) (rows : List Row) (image : Image) (requests : List Request) : Type 0 where
+  pub dev : Development
+  pub scripts : List RawScript
+  pub reads : ReadsProject true files project dev scripts
+  pub finished : IsFinished dev scripts
+  pub table : HasRows dev scripts rows
+  pub image_is : image ≡ translation dev
+  pub short : IsWithinCodeLimits (translation dev)
+  pub asks : ReadsCalls files calls (translation dev) requests
+
 -- ---- tasks
 -- what the task gives where its project is read as this development and these scripts
 abbrev pub IsGiven : Files → Task → Development → List RawScript → Status → List ℕ → Type 0
@@ -90,6 +103,7 @@ IsGiven files (code_task project) dev scripts status text = (status ≡ Done) ×
 IsGiven files (build_task project) dev scripts status text = (status ≡ Done) × IsBuilt dev scripts text
 IsGiven files (run_task project calls fuel) dev scripts status text = IsRun files calls fuel dev scripts status text
 IsGiven files (exec_task image calls fuel) dev scripts status text = ⊥
+IsGiven files (sample_task variables) dev scripts status text = ⊥
 
 -- the project is read, and that is given
 pub record IsDoneOn (files : Files) (project : List ℕ) (task : Task) (status : Status) (text : List ℕ) : Type 0 where
@@ -98,7 +112,15 @@ pub record IsDoneOn (files : Files) (project : List ℕ) (task : Task) (status :
   pub reads : ReadsProject (has_proofs task) files project dev scripts
   pub given : IsGiven files task dev scripts status text
 
--- the status and the text of the task
+-- the text is the last line of the sample's status table, and then that of the transcript of its run; the status is that of the run
+pub record IsSampled (variables : ℕ) (status : Status) (text : List ℕ) : Type 0 where
+  pub table : List ℕ
+  pub tabled : IsDoneOn (sample_files variables) sample_project sample_table Done table
+  pub transcript : List ℕ
+  pub run : IsDoneOn (sample_files variables) sample_project sample_run status transcript
+  pub text_is : text ≡ last_line table ++ last_line transcript
+
+-- the status and the text of the task; a sample has files of its own
 abbrev pub IsWork : Files → Task → Status → List ℕ → Type 0
 IsWork files (check_task project) status text = IsDoneOn files project (check_task project) status text
 IsWork files (status_task project) status text = IsDoneOn files project (status_task project) status text
@@ -107,6 +129,7 @@ IsWork files (code_task project) status text = IsDoneOn files project (code_task
 IsWork files (build_task project) status text = IsDoneOn files project (build_task project) status text
 IsWork files (run_task project calls fuel) status text = IsDoneOn files project (run_task project calls fuel) status text
 IsWork files (exec_task image calls fuel) status text = IsExec files image calls fuel status text
+IsWork files (sample_task variables) status text = IsSampled variables status text
 
 -- work that is done writes what it gives after what had been written
 pub record WritesWork (files : Files) (task : Task) (old new : Option (List ℕ)) (status : Status) : Type 0 where

@@ -10,6 +10,7 @@ mod listing;
 mod obligations;
 mod proof;
 mod run;
+mod sample;
 mod script;
 mod session;
 mod status;

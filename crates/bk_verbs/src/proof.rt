@@ -28,9 +28,22 @@ pub(crate) fn check_proved(alloc: Global, name: &str, project: &Project) -> Resu
     ensures checks { IfErr result IsOfChecks }
     ensures ok { OnOk result (IsFinished project.now.development project.now.scripts) }
 {
+    proved_table(alloc, name, project)?;
+    Ok(())
+}
+
+/// The status table of a project of which that is so.
+pub(crate) fn proved_table(alloc: Global, name: &str, project: &Project) -> Result<Table, Stop>
+    ensures cause { IfErr result (λ stop.
+        IsOutside stop ⊎ StopsAtProof name.now project.now.development project.now.scripts stop) }
+    ensures checks { IfErr result IsOfChecks }
+    ensures ok { OnOk result (IsFinished project.now.development project.now.scripts) }
+    ensures rows { IfOk result (λ table.
+        HasRows project.now.development project.now.scripts table.rows.items) }
+{
     project.development.facts();
     check_complete(alloc, &project.development)?;
-    check_obligations(alloc, name, project)
+    closed_table(alloc, name, project)
 }
 
 /// Asks that the last component of a development is an implementation.
@@ -55,17 +68,19 @@ fn last_level(dev: &Development) -> &Level
     &levels[levels.len() - 1]
 }
 
-// Makes the obligations of a project's development, and asks that each is obvious or proved by its script.
-fn check_obligations(alloc: Global, name: &str, project: &Project) -> Result<(), Stop>
+// The status table of a project, each of whose obligations is obvious or proved by its script.
+fn closed_table(alloc: Global, name: &str, project: &Project) -> Result<Table, Stop>
     ensures cause { IfErr result (λ stop.
         IsOutside stop ⊎ StopsAtObligations name.now project.now.development project.now.scripts stop) }
     ensures checks { IfErr result IsOfChecks }
     ensures ok { OnOk result (IsProved project.now.development project.now.scripts) }
+    ensures rows { IfOk result (λ table.
+        HasRows project.now.development project.now.scripts table.rows.items) }
 {
     let table = table_of(alloc, name, project)?;
     match table.first_open() {
         Some(row) => Err(Stop::Unproved(row.name.copy(alloc)?)),
-        None => Ok(()),
+        None => Ok(table),
     }
 }
 

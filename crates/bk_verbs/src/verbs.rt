@@ -3,7 +3,7 @@
 ghost use Rattle.std.specs.Prelude.{◌≡◌, ◌⊎◌, Some, IfOk, IfErr};
 ghost use Rattle.bk_io.specs.Files.{Files};
 ghost use Rattle.bk_io.specs.Counts.{HasCause};
-ghost use Rattle.bk_words.specs.Asked.{task_of, HasSmallFuel};
+ghost use Rattle.bk_words.specs.Asked.{task_of, HasSmallNumbers};
 ghost use Rattle.bk_verbs.specs.declared.stop.Stop.TheVariants.{ReadFault};
 ghost use Rattle.bk_verbs.specs.Causes.{IsOfReading, CountsAbsence};
 ghost use Rattle.bk_verbs.specs.Stops.{IsOutside, StopsTask};
@@ -15,6 +15,7 @@ use crate::exec::session_of_image;
 use crate::listing::listing_text;
 use crate::obligations::shown_obligations;
 use crate::run::session_of_project;
+use crate::sample::sample_lines;
 use crate::stop::Stop;
 use crate::table::status_text;
 use crate::work::Work;
@@ -28,9 +29,11 @@ use std::alloc::Global;
 /// reads the proof files too, makes the proof obligations, and writes the table that says of each whether it is obvious or
 /// proved by a replayed script. `po PROJECT` writes the obligations themselves. `code PROJECT` writes the instructions of the translated implementation, and `build PROJECT`,
 /// where each obligation is obvious or proved, its image. `run PROJECT CALLS` plays, where each is, the calls of the script
-/// on it; `exec IMAGE CALLS` plays them on the image that a file holds.
+/// on it; `exec IMAGE CALLS` plays them on the image that a file holds. `sample N` makes a development with N variables, and
+/// writes, where each of its obligations is proved, the last line of its status table and that of its session; the shelf is not
+/// asked.
 pub fn prepare<H: Shelf>(alloc: Global, command: Command<'_>, shelf: &mut H) -> Result<Work, Stop>
-    requires small { HasSmallFuel command }
+    requires small { HasSmallNumbers command }
     ensures cause { IfErr result (λ stop. (files : Files) → H.files shelf.old ≡ Some files →
         IsOutside stop ⊎ StopsTask files (task_of command.entry) stop) }
     ensures reading { IfErr result IsOfReading }
@@ -54,5 +57,6 @@ pub fn prepare<H: Shelf>(alloc: Global, command: Command<'_>, shelf: &mut H) -> 
         Command::Exec { image, calls, fuel } => {
             session_of_image(alloc, image, calls, fuel, shelf)
         }
+        Command::Sample { variables } => sample_lines(alloc, variables),
     }
 }

@@ -23,6 +23,11 @@ use std::alloc::Global;
 pub enum Work {
     /// This text.
     Text(Vec<u8>),
+    /// This text, which tells of a session that ended so.
+    Ended {
+        text: Vec<u8>,
+        status: Status,
+    },
     /// The transcript of a session of the image over these calls, of which each, and the initialisation, may have so many
     /// steps.
     Play {
@@ -46,6 +51,10 @@ pub fn write_work<K: Sink>(alloc: Global, work: Work, out: &mut K) -> Result<Sta
         Work::Text(text) => {
             put_all(out, &text)?;
             Ok(Status::Done)
+        }
+        Work::Ended { text, status } => {
+            put_all(out, &text)?;
+            Ok(status)
         }
         Work::Play { image, calls, fuel } => play(alloc, image, &calls, fuel, out),
     }

@@ -35,13 +35,15 @@ use Rattle.bk_image.specs.Laws.{AreBytes}
 use Rattle.bk_image.proofs.Verdicts.{encodes_one, faults_exclude}
 use Rattle.bk_image.proofs.OneFault.{one_fault}
 use Rattle.bk_verbs.specs.declared.status.Status.{Status}
+use Rattle.bk_verbs.specs.declared.status.Status.TheVariants.{Done as DoneStatus}
 use Rattle.bk_verbs.specs.declared.stop.Stop.{Stop}
 use Rattle.bk_verbs.specs.declared.stop.Stop.TheVariants.{Limit, Unproved, BadCalls, BadImage}
 use Rattle.bk_verbs.specs.Session.{session_status}
-use Rattle.bk_words.specs.Tasks.{Task, check_task, status_task, po_task, code_task, build_task, run_task, exec_task, Asks, has_proofs}
+use Rattle.bk_words.specs.Tasks.{Task, check_task, status_task, po_task, code_task, build_task, run_task, exec_task, sample_task, Asks, has_proofs}
 use Rattle.bk_verbs.specs.Project.{IsTold, AreTold, files_of, fetched, ReadsProject, IsProved, IsFinished, IsWithinCodeLimits, ReadsCalls}
 use Rattle.bk_texts.specs.Table.{table_text}
-use Rattle.bk_verbs.specs.Work.{IsPlayed, IsExec, IsGiven, IsDoneOn, IsWork}
+use Rattle.bk_verbs.specs.Work.{IsPlayed, IsExec, IsGiven, IsDoneOn, IsSampled, IsWork}
+use Rattle.bk_verbs.specs.Samples.{sample_files, sample_project, sample_table, sample_run, last_line}
 use Rattle.bkit.specs.Run.{IsReady}
 use Rattle.bk_verbs.specs.Stops.{StopsAtFile, StopsAtFiles, StopsAtLines, StopsAtTexts, StopsAtScripts, StopsAtTold, StopsAtComponents, StopsAtNames, StopsAtProject, StopsPastLimits, IsFirstOpen, StopsAtObligations, StopsAtProof, StopsPastCode, StopsAtScript, StopsAtCode, StopsAtCalls, StopsAtCallScript, StopsAtLoading, StopsAtImage, StopsRead, StopsAtWork, StopsTask, StopsAt, stop_of_refusal, stop_of_proofs, status_of_stop, stop_text}
 use Rattle.bkit.specs.Answer.{IsAnswer, IsWorkOf}
@@ -352,6 +354,7 @@ module _ (files : Files) (dev : Development) (scripts : List RawScript) where
   read_once (run_task project calls fuel) s o (inr h) (inl k) = absurd (proof_finished project dev scripts o k h.0)
   read_once (run_task project calls fuel) s o (inr h) (inr k) = calls_once files project calls (translation dev) s o h.1 k.1
   read_once (exec_task image calls fuel) s o h k = absurd h
+  read_once (sample_task variables) s o h k = absurd h
 
   given_or_stops : (task : Task) (stop : Stop) (status : Status) (text : List ℕ) → StopsRead files task dev scripts stop → IsGiven files task dev scripts status text → ⊥
   given_or_stops (check_task project) stop status text h g = h
@@ -364,6 +367,7 @@ module _ (files : Files) (dev : Development) (scripts : List RawScript) where
   given_or_stops (run_task project calls fuel) stop status text (inl h) g = proof_finished project dev scripts stop h g.finished
   given_or_stops (run_task project calls fuel) stop status text (inr h) g = calls_asked files project calls (translation dev) stop g.played.requests h.1 g.short g.played.asks
   given_or_stops (exec_task image calls fuel) stop status text h g = h
+  given_or_stops (sample_task variables) stop status text h g = h
 
   given_once : (task : Task) (status other : Status) (text others : List ℕ) → IsGiven files task dev scripts status text → IsGiven files task dev scripts other others → (status ≡ other) × (text ≡ others)
   given_once (check_task project) status other text others h k = (h.0 ∙ sym k.0, h.1 ∙ sym k.1)
@@ -374,6 +378,7 @@ module _ (files : Files) (dev : Development) (scripts : List RawScript) where
   given_once (build_task project) status other text others h k = (h.0 ∙ sym k.0, h.1.encodes.is ∙ sym k.1.encodes.is)
   given_once (run_task project calls fuel) status other text others h k = played_once files calls fuel (translation dev) status other text others h.played k.played
   given_once (exec_task image calls fuel) status other text others h k = absurd h
+  given_once (sample_task variables) status other text others h k = absurd h
 
 -- ---- tasks on projects
 module _ (files : Files) (project : List ℕ) (task : Task) where
@@ -401,6 +406,14 @@ module _ (files : Files) (project : List ℕ) (task : Task) where
       given_once files k.dev k.scripts task status other text others
       (same_read (λ dev scripts. IsGiven files task dev scripts status text) h.dev k.dev h.scripts k.scripts h.reads k.reads h.given) k.given
 
+-- ---- samples
+sampled_once : (variables : ℕ) (status other : Status) (text others : List ℕ) → IsSampled variables status text → IsSampled variables other others → (status ≡ other) × (text ≡ others)
+sampled_once variables status other text others h k =
+    let tables = done_once (sample_files variables) sample_project sample_table DoneStatus DoneStatus h.table k.table h.tabled k.tabled in
+    let runs = done_once (sample_files variables) sample_project sample_run status other h.transcript k.transcript h.run k.run in
+    let same : last_line h.table ++ last_line h.transcript ≡ last_line k.table ++ last_line k.transcript = λ i. last_line (tables.1 i) ++ last_line (runs.1 i) in
+    (runs.0, h.text_is ∙ (same ∙ sym k.text_is))
+
 -- ---- tasks
 module _ (files : Files) where
   exec_or_stops : (image calls : List ℕ) (fuel : ℕ) (stop : Stop) (status : Status) (text : List ℕ) → StopsAtImage files image calls stop → IsExec files image calls fuel status text → ⊥
@@ -425,6 +438,7 @@ module _ (files : Files) where
   task_stop_once (build_task project) s o h k = work_stop_once files project (build_task project) s o h k
   task_stop_once (run_task project calls fuel) s o h k = work_stop_once files project (run_task project calls fuel) s o h k
   task_stop_once (exec_task image calls fuel) s o h k = image_once files image calls s o h k
+  task_stop_once (sample_task variables) s o h k = work_stop_once (sample_files variables) sample_project sample_run s o h k
 
   pub work_or_stops : (task : Task) (stop : Stop) (status : Status) (text : List ℕ) → StopsTask files task stop → IsWork files task status text → ⊥
   work_or_stops (check_task project) stop status text h w = done_or_stops files project (check_task project) stop status text h w
@@ -434,6 +448,7 @@ module _ (files : Files) where
   work_or_stops (build_task project) stop status text h w = done_or_stops files project (build_task project) stop status text h w
   work_or_stops (run_task project calls fuel) stop status text h w = done_or_stops files project (run_task project calls fuel) stop status text h w
   work_or_stops (exec_task image calls fuel) stop status text h w = exec_or_stops image calls fuel stop status text h w
+  work_or_stops (sample_task variables) stop status text h w = done_or_stops (sample_files variables) sample_project sample_run stop status w.transcript h w.run
 
   pub work_once : (task : Task) (status other : Status) (text others : List ℕ) → IsWork files task status text → IsWork files task other others → (status ≡ other) × (text ≡ others)
   work_once (check_task project) status other text others h k = done_once files project (check_task project) status other text others h k
@@ -443,6 +458,7 @@ module _ (files : Files) where
   work_once (build_task project) status other text others h k = done_once files project (build_task project) status other text others h k
   work_once (run_task project calls fuel) status other text others h k = done_once files project (run_task project calls fuel) status other text others h k
   work_once (exec_task image calls fuel) status other text others h k = exec_once image calls fuel status other text others h k
+  work_once (sample_task variables) status other text others h k = sampled_once variables status other text others h k
 
 -- a run that is ready is stopped by no check
 pub ready_or_stops : (files : Files) (project calls : List ℕ) (fuel : ℕ) (stop : Stop) (ready : IsReady files project calls) → StopsTask files (run_task project calls fuel) stop → ⊥

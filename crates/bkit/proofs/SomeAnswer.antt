@@ -1,5 +1,5 @@
 -- It cannot be that words and told files have no answer.
-use Rattle.std.proofs.Common.{◌≡◌, ℕ, zero, suc, ◌<◌, ◌⊎◌, ◌^◌, inl, inr, Bool, true, false, nat_eq, List, [], ◌∷◌, length, map, All, Option, Some, None, refl, sym, ◌∙◌, subst, arith}
+use Rattle.std.proofs.Common.{◌≡◌, ℕ, zero, suc, ◌<◌, ◌⊎◌, ◌^◌, inl, inr, Bool, true, false, nat_eq, List, [], ◌∷◌, ◌++◌, length, map, All, Option, Some, None, refl, sym, ◌∙◌, subst, arith, codes}
 use Rattle.std.specs.Prelude.{option_map, slice_get}
 use Rattle.std.specs.Option.{option_map_or}
 use Rattle.std.proofs.lemmas.Bool.{cases_lt}
@@ -48,7 +48,7 @@ use Rattle.bk_verbs.specs.declared.status.Status.{Status}
 use Rattle.bk_verbs.specs.declared.status.Status.TheVariants.{Done, Usage as UsageStatus}
 use Rattle.bk_verbs.specs.declared.stop.Stop.{Stop}
 use Rattle.bk_verbs.specs.declared.stop.Stop.TheVariants.{Usage, Missing, Limit, Unproved, Incomplete, BadCalls, BadImage}
-use Rattle.bk_words.specs.Tasks.{Task, check_task, status_task, po_task, code_task, build_task, run_task, exec_task, Asks, has_proofs}
+use Rattle.bk_words.specs.Tasks.{Task, check_task, status_task, po_task, code_task, build_task, run_task, exec_task, sample_task, Asks, has_proofs}
 use Rattle.bk_level.specs.VerdictLaws.{HasRoom}
 use Rattle.bk_verbs.specs.Project.{IsTold, AreTold, IsToldAsBytes, HoldBytes, HasRoomFor, HaveRoom, files_of, fetched, ReadsComponents, ReadsProject, IsFinished, IsWithinCodeLimits}
 use Rattle.bk_texts.specs.Check.{check_text}
@@ -56,7 +56,8 @@ use Rattle.bk_texts.specs.Table.{table_text}
 use Rattle.bk_texts.specs.Obligations.{obligations_text}
 use Rattle.bk_texts.specs.Listing.{listing}
 use Rattle.bk_verbs.specs.Session.{session_status}
-use Rattle.bk_verbs.specs.Work.{IsPlayed, IsGiven, IsDoneOn, IsWork}
+use Rattle.bk_verbs.specs.Work.{IsPlayed, IsGiven, IsDoneOn, IsSampled, IsWork}
+use Rattle.bk_verbs.specs.Samples.{sample_files, sample_project, sample_table, sample_run, task_files, last_line}
 use Rattle.bk_verbs.specs.Stops.{StopsAtFile, StopsAtFiles, StopsAtTexts, StopsAtProject, StopsPastLimits, StopsAtProof, StopsPastCode, StopsAtCalls, StopsAtCallScript, StopsRead, StopsAtWork, StopsTask, stop_of_refusal, stop_of_proofs, status_of_stop, stop_text}
 use Rattle.bkit.specs.Laws.{HasSomeAnswer}
 use Rattle.bkit.proofs.Following.{project_development, project_in_b0}
@@ -285,7 +286,7 @@ module _ (files : Files) (project : List ℕ) (task : Task) where
     ])
   ])
 
-module _ (files : Files) (bytes : HoldBytes files) (room : HaveRoom files) where
+module _ (files : Files) (room : HaveRoom files) where
   check_answers : (project : List ℕ) → Possible (Answers files (check_task project))
   check_answers project = after_reading files project (check_task project) (λ dev scripts r. certain (inr (Done, check_text dev, (refl, refl))))
 
@@ -358,6 +359,7 @@ module _ (files : Files) (bytes : HoldBytes files) (room : HaveRoom files) where
         ]
       ])
 
+module _ (files : Files) (bytes : HoldBytes files) where
   -- what a told file holds are bytes
   bytes_of : (name text : List ℕ) → file_named files name ≡ Some text → AreBytes text
   bytes_of name text = held_bytes files bytes name text
@@ -377,19 +379,45 @@ module _ (files : Files) (bytes : HoldBytes files) (room : HaveRoom files) where
         ])
   ]
 
-  task_answers : (task : Task) → Possible (Answers files task)
-  task_answers (check_task project) = check_answers project
-  task_answers (status_task project) = status_answers project
-  task_answers (po_task project) = po_answers project
-  task_answers (code_task project) = code_answers project
-  task_answers (build_task project) = build_answers project
-  task_answers (run_task project calls fuel) = run_answers project calls fuel
-  task_answers (exec_task image calls fuel) = exec_answers image calls fuel
+-- ---- samples
+module _ (variables : ℕ) (room : HaveRoom (sample_files variables)) where
+  abbrev own : Files
+  own = sample_files variables
+
+  -- a run that is done has a status table
+  with_table : (status : Status) (text : List ℕ) → IsDoneOn own sample_project sample_run status text → Possible ((result : List ℕ) × IsSampled variables status result)
+  with_table status text run = and_then (some_table run.dev run.scripts (room sample_project run.dev run.scripts run.reads run.given.finished.proved.within).1) (λ t. certain (
+    last_line (table_text t.0) ++ last_line text,
+    record {
+      table = table_text t.0;
+      tabled = record { dev = run.dev; scripts = run.scripts; reads = run.reads; given = (refl, record { within = run.given.finished.proved.within; rows = t.0; are = t.1; text_is = refl }) };
+      transcript = text;
+      run = run;
+      text_is = refl;
+    },
+  ))
+
+  sample_answers : (files : Files) → Possible (Answers files (sample_task variables))
+  sample_answers files = and_then (run_answers own room sample_project (codes "sample.calls") 1000000) (λ a. elim a [
+    | inl s ↦ certain (inl s)
+    | inr w ↦ and_then (with_table w.0 w.1 w.2) (λ t. certain (inr (w.0, t.0, t.1)))
+  ])
+
+-- ---- all tasks
+task_answers : (files : Files) → HoldBytes files → (task : Task) → HaveRoom (task_files files task) → Possible (Answers files task)
+task_answers files bytes (check_task project) room = check_answers files room project
+task_answers files bytes (status_task project) room = status_answers files room project
+task_answers files bytes (po_task project) room = po_answers files room project
+task_answers files bytes (code_task project) room = code_answers files room project
+task_answers files bytes (build_task project) room = build_answers files room project
+task_answers files bytes (run_task project calls fuel) room = run_answers files room project calls fuel
+task_answers files bytes (exec_task image calls fuel) room = exec_answers files bytes image calls fuel
+task_answers files bytes (sample_task variables) room = sample_answers variables room files
 
 -- ---- words
 pub some_answer : HasSomeAnswer
 some_answer files words bytes room never = decide ((task : Task) × Asks words task) (λ d. elim d [
-  | inl a ↦ task_answers files bytes room a.0 (λ o. elim o [
+  | inl a ↦ task_answers files bytes a.0 (room a.0 a.1) (λ o. elim o [
     | inl s ↦ never (status_of_stop s.0) (stop_text s.0) (inl (s.0, inr (a.0, a.1, s.1), refl, refl))
     | inr w ↦ never w.0 w.1 (inr (a.0, a.1, w.2))
   ])

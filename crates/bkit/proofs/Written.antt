@@ -9,7 +9,7 @@ use Rattle.bk_words.specs.Tasks.{Task, Asks}
 use Rattle.bk_verbs.specs.declared.status.Status.{Status}
 use Rattle.bk_verbs.specs.declared.status.Status.TheVariants.{Done}
 use Rattle.bk_verbs.specs.declared.work.Work.{Work}
-use Rattle.bk_verbs.specs.declared.work.Work.TheVariants.{Text, Play}
+use Rattle.bk_verbs.specs.declared.work.Work.TheVariants.{Text, Ended, Play}
 use Rattle.bk_verbs.specs.Session.{session_status}
 use Rattle.bk_verbs.specs.Prepared.{IsPrepared, CanBePlayed, WritesFront}
 use Rattle.bkit.specs.Answer.{IsAnswer}
@@ -19,6 +19,8 @@ module _ (files : Files) (words : List (List ℕ)) (task : Task) (asks : Asks wo
   pub front_of_answer : (work : Work) → IsPrepared files task work → CanBePlayed work → WritesFront work old new → WroteFront text old new
   front_of_answer (Text bytes) p can front =
       subst (λ x. WroteFront x old new) ((one_answer files words Done status bytes.items text (answer_of_work files words task Done bytes.items asks p) answer).1) front
+  front_of_answer (Ended bytes ended) p can front =
+      subst (λ x. WroteFront x old new) ((one_answer files words ended status bytes.items text (answer_of_work files words task ended bytes.items asks p) answer).1) front
   front_of_answer (Play image calls fuel) p can front =
       let some = some_session image can.checked.depths fuel (map request_of calls.items) can.checked.numbered can.checked.fitting can.asked in
       let played = transcript image fuel (map request_of calls.items) some.0 in

@@ -10,10 +10,11 @@ use Rattle.bk_sim.specs.Within.{EndsWithoutLoops}
 use Rattle.bk_raw.specs.ScriptTree.{RawScript}
 use Rattle.bk_verbs.specs.declared.status.Status.{Status}
 use Rattle.bk_verbs.specs.declared.status.Status.TheVariants.{Done, Trapped}
-use Rattle.bk_words.specs.Tasks.{build_task, run_task, exec_task, Asks}
+use Rattle.bk_words.specs.Tasks.{Task, build_task, run_task, exec_task, Asks}
 use Rattle.bkit.specs.Legal.{AreLegal, RunNoLoop, LegalCallsEndWell}
 use Rattle.bk_verbs.specs.Project.{HoldBytes, HaveRoom, ReadsProject, IsFinished}
 use Rattle.bkit.specs.Run.{IsReady}
+use Rattle.bk_verbs.specs.Samples.{task_files}
 use Rattle.bk_verbs.specs.Session.{session_status}
 use Rattle.bkit.specs.Answer.{IsAnswer}
 
@@ -24,9 +25,11 @@ HasOneAnswer =
     IsAnswer files words other other_text → (status ≡ other) × (text ≡ other_text)
 
 -- and where files hold bytes it cannot be that they have none, as long as 32 bits number the variables of each project that is read and whose
--- obligations pass no limit, and the names that its scripts bring
+-- obligations pass no limit, and the names that its scripts bring: among the told files, or where the words ask for a sample among its own
 abbrev pub HasSomeAnswer : Type 0
-HasSomeAnswer = (files : Files) (words : List (List ℕ)) → HoldBytes files → HaveRoom files → ((status : Status) (text : List ℕ) → IsAnswer files words status text → ⊥) → ⊥
+HasSomeAnswer =
+    (files : Files) (words : List (List ℕ)) → HoldBytes files → ((task : Task) → Asks words task → HaveRoom (task_files files task)) →
+    ((status : Status) (text : List ℕ) → IsAnswer files words status text → ⊥) → ⊥
 
 -- where `build` is done, `exec` on a file with the bytes that it writes has, with the same call script and fuel, the answer of `run`; the
 -- bytes must be few enough for a file

@@ -15,6 +15,7 @@ use crate::row_files::{
     TWICE_PROOFS, TWO, TWO_MACHINE, TWO_OBLIGATIONS, UNKNOWN_NAME_MACHINE, WIDE_IMPLEMENTATION,
     WIDE_MACHINE, WIDE_PROOFS,
 };
+use bk_calls::sample;
 use bk_io::{MemShelf, MemSink, have_distinct_names};
 use bk_verbs::Status;
 use std::alloc::Global;
@@ -930,6 +931,79 @@ fn devices_that_fail(rt: HostRuntime) -> Result<(), Fail> {
         let (status, written) = outcome(alloc, &RUN, files, fault)?;
         assert_eq!(rt; status, wanted, "{text}");
         assert_eq!(rt; written.as_slice(), text.as_bytes());
+    }
+    Ok(())
+}
+
+// ---- samples
+
+const SAMPLES: [Row<'static>; 4] = [
+    Row {
+        name: "one variable",
+        words: &["sample", "1"],
+        files: &[],
+        given: &[],
+        status: Status::Done,
+        text: "12 obligations: 7 obvious, 5 proved, 0 open\nend 11 calls, 56 steps\n",
+    },
+    Row {
+        name: "one variable, with fuel of its own",
+        words: &["sample", "1", "--fuel", "1"],
+        files: &[],
+        given: &[],
+        status: Status::Done,
+        text: "12 obligations: 7 obvious, 5 proved, 0 open\nend 11 calls, 56 steps\n",
+    },
+    Row {
+        name: "seven variables",
+        words: &["sample", "7"],
+        files: &[],
+        given: &[],
+        status: Status::Done,
+        text: "336 obligations: 301 obvious, 35 proved, 0 open\nend 77 calls, 386 steps\n",
+    },
+    Row {
+        name: "forty variables",
+        words: &["sample", "40"],
+        files: &[],
+        given: &[],
+        status: Status::Done,
+        text: "9840 obligations: 9640 obvious, 200 proved, 0 open\nend 440 calls, 2201 steps\n",
+    },
+];
+
+#[test]
+fn samples_that_are_made(rt: HostRuntime) -> Result<(), Fail> {
+    compare(&rt, rt.alloc(), &SAMPLES)
+}
+
+// The files of a sample are a project as any other, whose last lines are those of the sample.
+#[test]
+fn files_of_samples(rt: HostRuntime) -> Result<(), Fail> {
+    let alloc = rt.alloc();
+    let cases: [(u32, &str, &str); 2] = [
+        (
+            1,
+            "\n12 obligations: 7 obvious, 5 proved, 0 open\n",
+            "\nend 11 calls, 56 steps\n",
+        ),
+        (
+            40,
+            "\n9840 obligations: 9640 obvious, 200 proved, 0 open\n",
+            "\nend 440 calls, 2201 steps\n",
+        ),
+    ];
+    for (variables, sums, closing) in cases {
+        let files = sample(alloc, variables)?.into_files(alloc)?;
+        let words = ["status", "sample.prj"];
+        let (status, written) = outcome(alloc, &words, files, Fault::Nothing)?;
+        assert_eq!(rt; status, Status::Done);
+        assert!(rt; written.ends_with(sums.as_bytes()));
+        let files = sample(alloc, variables)?.into_files(alloc)?;
+        let words = ["run", "sample.prj", "sample.calls"];
+        let (status, written) = outcome(alloc, &words, files, Fault::Nothing)?;
+        assert_eq!(rt; status, Status::Done);
+        assert!(rt; written.ends_with(closing.as_bytes()));
     }
     Ok(())
 }

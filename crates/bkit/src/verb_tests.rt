@@ -463,7 +463,7 @@ fn fuel(rt: HostRuntime) -> Result<(), Fail> {
 
 #[test]
 fn words_that_are_wrong(rt: HostRuntime) -> Result<(), Fail> {
-    let cases: [&[&str]; 28] = [
+    let cases: [&[&str]; 35] = [
         &[],
         &["run", "c.prj"],
         &["run"],
@@ -491,7 +491,14 @@ fn words_that_are_wrong(rt: HostRuntime) -> Result<(), Fail> {
         &["help"],
         &["--help"],
         &["--version"],
+        &["sample"],
+        &["sample", "0"],
         &["sample", "41"],
+        &["sample", "01"],
+        &["sample", "+1"],
+        &["sample", "one"],
+        &["sample", "1", "2"],
+        &["sample", "1", "--fuel", "0"],
     ];
     for words in cases {
         let (status, written) = outcome(rt.alloc(), words, &[("c.img", IMAGE)])?;

@@ -1,12 +1,17 @@
-use Rattle.std.proofs.Common.{◌≡◌, ◌⊎◌, Option, Some, Result, IfErr, sym, subst}
+use Rattle.std.proofs.Common.{◌≡◌, ◌⊎◌, ℕ, Option, Some, Result, Err, IfErr, sym, subst, arith}
 use Rattle.std.specs.Prelude.{IfOk}
 use Rattle.bk_io.specs.Files.{Files}
 use Rattle.bk_words.specs.declared.command.Command.{Command}
-use Rattle.bk_words.specs.Asked.{task_of, HasSmallFuel}
+use Rattle.bk_words.specs.Asked.{task_of, HasSmallNumbers}
 use Rattle.bk_verbs.specs.declared.stop.Stop.{Stop}
 use Rattle.bk_verbs.specs.declared.work.Work.{Work}
 use Rattle.bk_verbs.specs.Stops.{IsOutside, StopsTask}
+use Rattle.bk_io.specs.Counts.{HasCause}
+use Rattle.std.proofs.lemmas.Result.{IfOk-weaker}
+use Rattle.bk_verbs.specs.declared.stop.Stop.TheVariants.{ReadFault, Missing}
+use Rattle.bk_verbs.specs.Causes.{IsOfReading, IsOfChecks, CountsAbsence}
 use Rattle.bk_verbs.specs.Prepared.{IsPrepared}
+use Rattle.bk_verbs.proofs.Stopping.{widen, checks_read}
 use Rattle.bk_verbs.proofs.verbs.prepare.Goals as goal
 
 -- what is said of the command's variant is said of the command
@@ -16,6 +21,20 @@ module _ (known : Option Files) (result : Result Work Stop) (command is : Comman
 
   told_of : IfOk result (λ work. (files : Files) → known ≡ Some files → IsPrepared files (task_of is) work) → IfOk result (λ work. (files : Files) → known ≡ Some files → IsPrepared files (task_of command) work)
   told_of h = subst (λ (k : Command). IfOk result (λ work. (files : Files) → known ≡ Some files → IsPrepared files (task_of k) work)) (sym e) h
+
+-- checks of texts have no part in the devices
+module _ (result : Result Work Stop) (checks : IfErr result IsOfChecks) where
+  reading_of : IfErr result IsOfReading
+  reading_of = widen result IsOfChecks IsOfReading checks checks_read
+
+  not_of : (stop : Stop) → (IsOfChecks stop → ⊥) → result ≡ Err stop → ⊥
+  not_of stop other e = other (subst (λ (r : Result Work Stop). IfErr r IsOfChecks) e checks)
+
+  failed_of : (count : ℕ) → HasCause ReadFault count count result
+  failed_of count = record { later = omega arith; rose = λ e. absurd (not_of ReadFault (λ h. h) e) }
+
+  missing_of : (count : ℕ) → CountsAbsence count count result
+  missing_of count = record { later = omega arith; rose = λ name e. absurd (not_of (Missing name) (λ h. h) e) }
 
 pub returns-in-Check-clause-cause : goal.returns-in-Check-clause-cause
 returns-in-Check-clause-cause g c = cause_of (g.H.Shelf.files c.args.shelf.now) c.checked_text.result c.args.command _ c.in-Check.is c.checked_text.ensures.cause
@@ -48,7 +67,7 @@ pub returns-in-Build-clause-told : goal.returns-in-Build-clause-told
 returns-in-Build-clause-told g c = told_of (g.H.Shelf.files c.args.shelf.now) c.built_bytes.result c.args.command _ c.in-Build.is c.built_bytes.ensures.told
 
 pub session_of_project-requires : goal.session_of_project-requires
-session_of_project-requires g c = record { small = subst HasSmallFuel c.in-Run.is c.requires.small }
+session_of_project-requires g c = record { small = subst HasSmallNumbers c.in-Run.is c.requires.small }
 
 pub returns-in-Run-clause-cause : goal.returns-in-Run-clause-cause
 returns-in-Run-clause-cause g c = cause_of (g.H.Shelf.files c.args.shelf.now) c.session_of_project.result c.args.command _ c.in-Run.is c.session_of_project.ensures.cause
@@ -57,10 +76,32 @@ pub returns-in-Run-clause-told : goal.returns-in-Run-clause-told
 returns-in-Run-clause-told g c = told_of (g.H.Shelf.files c.args.shelf.now) c.session_of_project.result c.args.command _ c.in-Run.is c.session_of_project.ensures.told
 
 pub session_of_image-requires : goal.session_of_image-requires
-session_of_image-requires g c = record { small = subst HasSmallFuel c.in-Exec.is c.requires.small }
+session_of_image-requires g c = record { small = subst HasSmallNumbers c.in-Exec.is c.requires.small }
 
 pub returns-in-Exec-clause-cause : goal.returns-in-Exec-clause-cause
 returns-in-Exec-clause-cause g c = cause_of (g.H.Shelf.files c.args.shelf.now) c.session_of_image.result c.args.command _ c.in-Exec.is c.session_of_image.ensures.cause
 
 pub returns-in-Exec-clause-told : goal.returns-in-Exec-clause-told
 returns-in-Exec-clause-told g c = told_of (g.H.Shelf.files c.args.shelf.now) c.session_of_image.result c.args.command _ c.in-Exec.is c.session_of_image.ensures.told
+
+pub sample_lines-requires : goal.sample_lines-requires
+sample_lines-requires g c =
+    let small = subst HasSmallNumbers c.in-Sample.is c.requires.small in
+    record { least = small.0; most = small.1 }
+
+pub returns-in-Sample-clause-cause : goal.returns-in-Sample-clause-cause
+returns-in-Sample-clause-cause g c =
+    cause_of (g.H.Shelf.files c.args.shelf.now) c.sample_lines.result c.args.command _ c.in-Sample.is (widen c.sample_lines.result _ _ c.sample_lines.ensures.cause (λ stop h files told. h files))
+
+pub returns-in-Sample-clause-reading : goal.returns-in-Sample-clause-reading
+returns-in-Sample-clause-reading g c = reading_of c.sample_lines.result c.sample_lines.ensures.checks
+
+pub returns-in-Sample-clause-failed : goal.returns-in-Sample-clause-failed
+returns-in-Sample-clause-failed g c = failed_of c.sample_lines.result c.sample_lines.ensures.checks (g.H.Shelf.faults c.args.shelf.now)
+
+pub returns-in-Sample-clause-missing : goal.returns-in-Sample-clause-missing
+returns-in-Sample-clause-missing g c = missing_of c.sample_lines.result c.sample_lines.ensures.checks (g.H.Shelf.absences c.args.shelf.now)
+
+pub returns-in-Sample-clause-told : goal.returns-in-Sample-clause-told
+returns-in-Sample-clause-told g c =
+    told_of (g.H.Shelf.files c.args.shelf.now) c.sample_lines.result c.args.command _ c.in-Sample.is (IfOk-weaker c.sample_lines.result _ _ (λ work h files told. h files) c.sample_lines.ensures.told)

@@ -6,8 +6,8 @@ use Rattle.bk_io.specs.Pieces.{written_with}
 use Rattle.bk_calls.specs.Script.{request_of}
 use Rattle.bk_verbs.specs.declared.status.Status.TheVariants.{Done}
 use Rattle.bk_verbs.specs.Session.{Plays}
-use Rattle.bk_verbs.specs.Prepared.{IsPrepared}
-use Rattle.bk_verbs.proofs.Prepared.{wrote_text, played_work, playable}
+use Rattle.bk_verbs.specs.Prepared.{IsPrepared, CanBePlayed}
+use Rattle.bk_verbs.proofs.Prepared.{wrote_text, ended_work, played_work, playable}
 use Rattle.bk_verbs.proofs.work.write_work.Goals as goal
 
 pub play-requires-clause-checked : goal.play-requires-clause-checked
@@ -29,6 +29,14 @@ pub returns-in_ok-put_all-in-Text-clause-ok : goal.returns-in_ok-put_all-in-Text
 returns-in_ok-put_all-in-Text-clause-ok g c files task prepared =
     wrote_text files task c.in-Text.text Done (g.K.Sink.written c.args.out.now) (g.K.Sink.written c.put_all.new.sink) (subst (IsPrepared files task) c.in-Text.is prepared) refl
     (c.in_ok-put_all-in-Text.ensures.ok ∙ ap (written_with (g.K.Sink.written c.args.out.now)) c.deref.ensures.value)
+
+pub returns-in_ok-put_all-in-Ended-clause-ok : goal.returns-in_ok-put_all-in-Ended-clause-ok
+returns-in_ok-put_all-in-Ended-clause-ok g c files task prepared =
+    ended_work files task c.in-Ended.text c.in-Ended.status (g.K.Sink.written c.args.out.now) (g.K.Sink.written c.put_all-in-Ended.new.sink) (subst (IsPrepared files task) c.in-Ended.is prepared)
+    (c.in_ok-put_all-in-Ended.ensures.ok ∙ ap (written_with (g.K.Sink.written c.args.out.now)) c.deref-in-Ended.ensures.value)
+
+pub returns-in_ok-put_all-in-Ended-clause-executed : goal.returns-in_ok-put_all-in-Ended-clause-executed
+returns-in_ok-put_all-in-Ended-clause-executed g c = subst CanBePlayed c.in-Ended.is c.requires
 
 pub returns-in-Play-clause-ok : goal.returns-in-Play-clause-ok
 returns-in-Play-clause-ok g c =

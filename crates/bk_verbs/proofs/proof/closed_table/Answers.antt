@@ -3,7 +3,7 @@ use Rattle.std.specs.Option.{option_copied}
 use Rattle.bk_status.proofs.Tables.{closed_tables_prove}
 use Rattle.bk_verbs.specs.Stops.{IsOutside, StopsAtObligations}
 use Rattle.bk_verbs.proofs.Stopping.{handed_on, past_limits}
-use Rattle.bk_verbs.proofs.proof.check_obligations.Goals as goal
+use Rattle.bk_verbs.proofs.proof.closed_table.Goals as goal
 
 pub returns-in_err-table-clause-cause : goal.returns-in_err-table-clause-cause
 returns-in_err-table-clause-cause c =
@@ -12,8 +12,8 @@ returns-in_err-table-clause-cause c =
     c.from_residual.ensures.1
     (past_limits c.args.name.now c.args.project.now.development c.args.project.now.scripts c.in_err-table.field-0.0 c.in_err-table.ensures.cause)
 
-pub returns-clause-ok : goal.returns-clause-ok
-returns-clause-ok c =
+pub returns-in-None-clause-ok : goal.returns-in-None-clause-ok
+returns-in-None-clause-ok c =
     let dev = c.args.project.now.development in
     let scripts = c.args.project.now.scripts in
     record {

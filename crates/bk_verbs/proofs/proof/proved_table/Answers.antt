@@ -2,7 +2,7 @@ use Rattle.std.proofs.Common.{◌⊎◌, inl, inr}
 use Rattle.bk_verbs.specs.Stops.{IsOutside, StopsAtProof}
 use Rattle.bk_verbs.proofs.Projects.{room_of}
 use Rattle.bk_verbs.proofs.Stopping.{handed_on, widen, widen_ok, or_else_stops}
-use Rattle.bk_verbs.proofs.proof.check_proved.Goals as goal
+use Rattle.bk_verbs.proofs.proof.proved_table.Goals as goal
 
 -- the obligations are asked for where the last component is an implementation
 pub returns-in_err-check_complete-clause-cause : goal.returns-in_err-check_complete-clause-cause
@@ -14,11 +14,11 @@ returns-in_err-check_complete-clause-cause c =
 
 pub returns-clause-cause : goal.returns-clause-cause
 returns-clause-cause c =
-    widen c.check_obligations.result _ _ c.check_obligations.ensures.cause
+    widen c.closed_table.result _ _ c.closed_table.ensures.cause
     (λ stop h. or_else_stops stop _ _ h (λ k. inr (c.in_ok-check_complete.ensures.ok, k)))
 
 pub returns-clause-ok : goal.returns-clause-ok
 returns-clause-ok c =
     let dev = c.args.project.now.development in
-    widen_ok c.check_obligations.result _ _ c.check_obligations.ensures.ok
+    widen_ok c.closed_table.result _ _ c.closed_table.ensures.ok
     (λ proved. record { complete = c.in_ok-check_complete.ensures.ok; room = room_of dev c.facts.ensures; proved = proved })
