@@ -4,5 +4,6 @@
 pub mod all_ways;
 pub mod counting;
 mod group;
+mod same;
 pub mod settled;
 mod ways;

@@ -6,11 +6,20 @@ ghost use Rattle.bk_elab.specs.Visible.{typing_of};
 ghost use Rattle.bk_level.specs.Components.{or_next};
 ghost use Rattle.bk_sight.specs.Shown.{way_shown};
 ghost use Rattle.bk_level.specs.Ways as meant;
+ghost use Rattle.bk_told.specs.Told.{AreTold, IsKept};
 
+use crate::same::is_same_group;
 use bk_form::Ty;
 use bk_io::Memory;
-use bk_sight::way::{Typing, Way};
+use bk_sight::way::{Group, Typing, Way};
 use std::alloc::Global;
+
+// The types that the conjuncts of a predicate give to the names of a group.
+#[derive(Drop)]
+struct Told<'g, 'a> {
+    group: &'g Group<'a>,
+    types: Vec<Option<Ty>>,
+}
 
 // The types after a round, and whether it has added one.
 #[derive(Drop)]
@@ -70,8 +79,9 @@ fn next_round(typing: Typing<'_>, first: usize, ways: &[Way<'_>]) -> Result<Roun
         types: copies(typing, first)?,
         has_added: false,
     };
+    let mut last = None;
     for (index, way) in ways.iter().enumerate() {
-        let next = next_type(typing, first + index, way)?;
+        let next = next_type(typing, first + index, way, &mut last)?;
         round.has_added = round.has_added || is_new(typing, first + index, &next);
         round.types.push(next)?;
     }
@@ -101,14 +111,75 @@ fn copy_of(alloc: Global, ty: &Option<Ty>) -> Result<Option<Ty>, Memory>
 }
 
 // The type that a number has, or else the one that its way gives.
-fn next_type(typing: Typing<'_>, number: usize, way: &Way<'_>) -> Result<Option<Ty>, Memory>
-    requires { number < length typing.types.now }
-    ensures { IfOk result (λ t. t ≡ or_next (typing_of typing.entry.types.now number)
+fn next_type<'g, 'a>(
+    typing: Typing<'_>,
+    number: usize,
+    way: &'g Way<'a>,
+    last: &mut Option<Told<'g, 'a>>,
+) -> Result<Option<Ty>, Memory>
+    requires number { number < length typing.types.now }
+    requires told { IsKept typing.max (typing_of typing.types.now) last.now }
+    ensures next { IfOk result (λ t. t ≡ or_next (typing_of typing.entry.types.now number)
         (meant.given_by typing.entry.max (typing_of typing.entry.types.now) (way_shown way.now))) }
+    ensures told { IsKept typing.entry.max (typing_of typing.entry.types.now) last.new }
 {
     match &typing.types[number] {
         Some(ty) => Ok(Some(ty.copy(typing.alloc)?)),
-        None => typing.given(way),
+        None => given(typing, way, last),
+    }
+}
+
+// The type that a way gives. What is told of a group is kept for the names behind, which mostly are of the same group.
+fn given<'g, 'a>(
+    typing: Typing<'_>,
+    way: &'g Way<'a>,
+    last: &mut Option<Told<'g, 'a>>,
+) -> Result<Option<Ty>, Memory>
+    requires { IsKept typing.max (typing_of typing.types.now) last.now }
+    ensures given { IfOk result (λ t. t ≡
+        meant.given_by typing.entry.max (typing_of typing.entry.types.now) (way_shown way.now)) }
+    ensures told { IsKept typing.entry.max (typing_of typing.entry.types.now) last.new }
+{
+    let Way::Conjuncts(group, place) = way else {
+        return typing.given(way);
+    };
+    let told = told_of(typing, group, last.take())?;
+    let ty = type_at(typing.alloc, &told.types, *place)?;
+    *last = Some(told);
+    Ok(ty)
+}
+
+// What is told of a group, which is read unless it is the same as the last one.
+fn told_of<'g, 'a>(
+    typing: Typing<'_>,
+    group: &'g Group<'a>,
+    last: Option<Told<'g, 'a>>,
+) -> Result<Told<'g, 'a>, Memory>
+    requires { IsKept typing.max (typing_of typing.types.now) last }
+    ensures group { IfOk result (λ t. t.group.now ≡ group.now) }
+    ensures told { IfOk result (λ t. AreTold typing.entry.max (typing_of typing.entry.types.now) group.now t.types.items) }
+{
+    if let Some(told) = last {
+        if is_same_group(told.group, group) {
+            return Ok(Told {
+                group,
+                types: told.types,
+            });
+        }
+    }
+    let types = typing
+        .under(&group.around)
+        .typed_by(&group.names, group.predicate)?;
+    Ok(Told { group, types })
+}
+
+// The type at a place, if there is one.
+fn type_at(alloc: Global, types: &[Option<Ty>], place: usize) -> Result<Option<Ty>, Memory>
+    ensures { IfOk result (λ t. t ≡ typing_of types.now place) }
+{
+    match types.get(place) {
+        Some(ty) => copy_of(alloc, ty),
+        None => Ok(None),
     }
 }
 

@@ -19,14 +19,15 @@ loop-index-preserved c =
     record {
       next =
           ap (λ (xs : List (Option ValueType)). xs ++ nexts c.args.typing.max typing (c.args.first + (i + 1)) (map way_shown (drop (i + 1) ws))) c.in_ok-push.ensures.items
-          ∙ nexts_more c.args.typing.max typing c.args.first i found (take c.args.first ts ++ nexts c.args.typing.max typing c.args.first (map way_shown ws)) ws c.index-ways-index.result c.in_ok-next.next c.loop-index-test.true c.index-ways-index.is c.in_ok-next.ensures c.loop-index.invariant.next;
+          ∙ nexts_more c.args.typing.max typing c.args.first i found (take c.args.first ts ++ nexts c.args.typing.max typing c.args.first (map way_shown ws)) ws c.index-ways-index.result c.in_ok-next.next c.loop-index-test.true c.index-ways-index.is c.in_ok-next.ensures.next c.loop-index.invariant.next;
       same = λ e.
           elim c.if-round.branch [
             | then-round w ↦ absurd (false≢true (sym e ∙ w.round-is ∙ w.if-round.true))
             | else-round w ↦
                 c.in_ok-push.ensures.items
-                ∙ same_more ts found (c.args.first + i) (c.args.first + (i + 1)) c.in_ok-next.next _ (omega (arith, c.requires, c.loop-index-test.true)) (omega arith) c.in_ok-next.ensures (sym w.is_new.ensures ∙ sym w.round-is ∙ e) (c.loop-index.invariant.same w.if-round.false)
+                ∙ same_more ts found (c.args.first + i) (c.args.first + (i + 1)) c.in_ok-next.next _ (omega (arith, c.requires, c.loop-index-test.true)) (omega arith) c.in_ok-next.ensures.next (sym w.is_new.ensures ∙ sym w.round-is ∙ e) (c.loop-index.invariant.same w.if-round.false)
           ];
+      told = c.next_type.ensures.told;
     }
 
 pub returns : goal.returns
