@@ -25,7 +25,7 @@ use Rattle.bk_raw.proofs.Faults.{one-holds}
 use Rattle.bk_project.specs.declared.project_file.LineKind.{LineKind}
 use Rattle.bk_project.specs.declared.refusal.Refusal.{Refusal}
 use Rattle.bk_project.specs.declared.refusal.Refusal.TheVariants.{Fault, Limit}
-use Rattle.bk_project.specs.Chain.{Link, follows, links}
+use Rattle.bk_project.specs.Chain.{Link, may_stand_below, links}
 use Rattle.bk_project.specs.Project.{IsWritten, IsLow, IsChained, AreChained, DeclaresFew, AreLevels, Reads, IsUnwritten, IsHigh, IsUnchained, DeclaresMany, IsRefusalOf}
 use Rattle.bk_project.specs.Laws.{TextsAreRead, IsOfProject}
 
@@ -123,7 +123,7 @@ module _ (kinds : List LineKind) (texts : List (List ℕ)) (counted : length kin
       z = all_zipped IsLow texts h
 
       unchained : (before : List Link) (l : Link) (after : List Link) → links None kinds z.0 ≡ before ++ l ∷ after → All IsChained before → (IsChained l → ⊥) → ⊥
-      unchained before l after e k n = no_refusal (Fault 5 (suc (length before)) l.component.name.at) tt (length before, refl, inr (inr (inl (refl, counted, (z.0, z.1, the_first {Bad = IsUnchained l.component.name.at} before l after e k (not_true (follows l) n, refl))))))
+      unchained before l after e k n = no_refusal (Fault 5 (suc (length before)) l.component.name.at) tt (length before, refl, inr (inr (inl (refl, counted, (z.0, z.1, the_first {Bad = IsUnchained l.component.name.at} before l after e k (not_true (may_stand_below l) n, refl))))))
 
   no_height : All (Has IsWritten) texts → ⊥
   no_height w = all_or_first (Has IsLow) texts no_chain high

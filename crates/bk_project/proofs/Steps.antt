@@ -20,7 +20,7 @@ use Rattle.bk_files.proofs.Turns.{split_at, length_front, front_on, all_middle, 
 use Rattle.bk_project.specs.declared.project_file.LineKind.{LineKind}
 use Rattle.bk_project.specs.declared.reading.Read.{Read}
 use Rattle.bk_project.specs.declared.reading.Read.TheVariants.{Component, High}
-use Rattle.bk_project.specs.Chain.{Link, follows, links, is_for, names_above}
+use Rattle.bk_project.specs.Chain.{Link, may_stand_below, links, is_for, names_above}
 use Rattle.bk_project.specs.Project.{IsWritten, IsLow, IsHigh, IsUnwritten, IsChained, IsUnchained, AreChained}
 use Rattle.bk_project.specs.Stages.{IsReadOf, IsOfFew}
 use Rattle.bk_project.proofs.ProjectFiles.{and_front}
@@ -145,7 +145,7 @@ links_at kinds cs i k c e l f g =
     ∙ links_join None (take i kinds) (k ∷ drop (suc i) kinds) (take i cs) (c ∷ drop (suc i) cs) (fronts_counted kinds cs i e l)
 
 pub first_unchained : (kinds : List LineKind) (cs : List RawComponent) (i : ℕ) (k : LineKind) (c : RawComponent) → length kinds ≡ length cs → i < length cs → k ≡ get_or kinds i k → c ≡ get_or cs i c
-    → All IsChained (links None (take i kinds) (take i cs)) → follows (link_at cs i k c) ≡ false → IsFirst IsChained (IsUnchained c.name.at) (links None kinds cs) i
+    → All IsChained (links None (take i kinds) (take i cs)) → may_stand_below (link_at cs i k c) ≡ false → IsFirst IsChained (IsUnchained c.name.at) (links None kinds cs) i
 first_unchained kinds cs i k c e l f g fine wrong = record {
   before = links None (take i kinds) (take i cs);
   item = link_at cs i k c;
@@ -157,7 +157,7 @@ first_unchained kinds cs i k c e l f g fine wrong = record {
 }
 
 pub chained_on : (kinds : List LineKind) (cs : List RawComponent) (i : ℕ) (k : LineKind) (c : RawComponent) → length kinds ≡ length cs → i < length cs → k ≡ get_or kinds i k → c ≡ get_or cs i c
-    → All IsChained (links None (take i kinds) (take i cs)) → follows (link_at cs i k c) ≡ true → All IsChained (links None (take (i + 1) kinds) (take (i + 1) cs))
+    → All IsChained (links None (take i kinds) (take i cs)) → may_stand_below (link_at cs i k c) ≡ true → All IsChained (links None (take (i + 1) kinds) (take (i + 1) cs))
 chained_on kinds cs i k c e l f g fine right =
     let one = front_on kinds i k (omega (arith, e, l)) f in
     let two = front_on cs i c l g in

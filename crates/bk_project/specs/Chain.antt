@@ -28,8 +28,8 @@ pub record Link : Type 0 where
   pub component : RawComponent
 
 -- whether it may stand there
-abbrev pub follows : Link → Bool
-follows l = is_for l.kind l.component.kind && names_above l.above l.component.refines
+abbrev pub may_stand_below : Link → Bool
+may_stand_below l = is_for l.kind l.component.kind && names_above l.above l.component.refines
 
 -- the components one below the other
 abbrev pub links : Option RawComponent → List LineKind → List RawComponent → List Link

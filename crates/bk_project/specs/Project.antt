@@ -15,7 +15,7 @@ use Rattle.bk_level.specs.Above.{above_of}
 use Rattle.bk_level.specs.Components.{component_of}
 use Rattle.bk_level.specs.DeclaredNames.{declares_too_many}
 use Rattle.bk_level.specs.Verdict.{verdict_of, accepted, at_fault}
-use Rattle.bk_project.specs.Chain.{Link, follows, links}
+use Rattle.bk_project.specs.Chain.{Link, may_stand_below, links}
 use Rattle.bk_project.specs.declared.project_file.LineKind.{LineKind}
 use Rattle.bk_project.specs.declared.refusal.Refusal.{Refusal}
 use Rattle.bk_project.specs.declared.refusal.Refusal.TheVariants.{Fault, Limit, Memory}
@@ -35,7 +35,7 @@ pub record IsLow (text : List ℕ) (c : RawComponent) : Type 0 where
 -- ---- the components together
 -- each may stand where it does
 abbrev pub IsChained : Link → Type 0
-IsChained l = follows l ≡ true
+IsChained l = may_stand_below l ≡ true
 
 -- the texts' components, of which each may stand below the one before it; there is a kind for each text
 pub record AreChained (kinds : List LineKind) (texts : List (List ℕ)) (components : List RawComponent) : Type 0 where
@@ -71,7 +71,7 @@ IsHigh text = (c : RawComponent) × IsWritten text c × (IsLowComponent c → �
 
 -- a component that may not stand where it does, with the place of its name
 abbrev pub IsUnchained : ℕ → Link → Type 0
-IsUnchained place l = (follows l ≡ false) × (l.component.name.at ≡ place)
+IsUnchained place l = (may_stand_below l ≡ false) × (l.component.name.at ≡ place)
 
 -- a component that declares too many names
 abbrev pub DeclaresMany : RawComponent → Type 0

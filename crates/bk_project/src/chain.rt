@@ -8,12 +8,12 @@ use crate::project_file::LineKind;
 use bk_raw::{ComponentKind, RawComponent, RawName};
 
 /// Whether the component may stand below this one, in the file of a line of this kind.
-pub(crate) fn follows(
+pub(crate) fn may_stand_below(
     above: Option<&RawComponent>,
     kind: LineKind,
     component: &RawComponent,
 ) -> bool
-    ensures { result ≡ meant.follows (record { above = option_copied above.entry; kind = kind; component = component.now }) }
+    ensures { result ≡ meant.may_stand_below (record { above = option_copied above.entry; kind = kind; component = component.now }) }
 {
     is_for(kind, &component.kind) && names_above(above, &component.refines)
 }

@@ -19,7 +19,7 @@ ghost use Rattle.bk_project.specs.Project.{Reads, DeclaresFew, AreChained, IsLow
 ghost use Rattle.bk_project.specs.ProjectFile.{AreLines, IsChain, component_lines, kinds_of};
 ghost use Rattle.bk_project.specs.Stages.{IsOfFew, IsReadOf, IsNextRefusal};
 
-use crate::chain::follows;
+use crate::chain::may_stand_below;
 use crate::project_file::{LineKind, ProjectLine};
 use crate::refusal::Refusal;
 use bk_dev::Development;
@@ -195,7 +195,7 @@ fn all_chained(
 {
     let mut above = None;
     for (file, component) in components.iter().enumerate() {
-        if !follows(above, kinds[file], component) {
+        if !may_stand_below(above, kinds[file], component) {
             return Err(at_fault(5, file, component.name.at));
         }
         above = Some(component);
