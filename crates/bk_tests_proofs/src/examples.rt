@@ -2,7 +2,8 @@
 
 use crate::faults::is_fault;
 use crate::files::{have_rules, rules};
-use crate::texts::{TALLY, joined, read, read_one};
+use crate::texts::{joined, read, read_one};
+use bk_fixtures::proof_texts::TALLY;
 use bk_p_proof::{ScriptFault, Scripts};
 use bk_raw::{RawLine, RawMultiple, RawScript, RulePart, RuleWord};
 use std::alloc::Global;

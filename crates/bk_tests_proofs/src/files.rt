@@ -1,6 +1,7 @@
 // Proof files that are read.
 
-use crate::texts::{TABLE, TALLY, read};
+use crate::texts::read;
+use bk_fixtures::proof_texts::{TABLE, TALLY};
 use bk_p_proof::{ScriptFault, Scripts};
 use bk_raw::{NamePart, RawScript, RuleWord};
 use std::alloc::Global;

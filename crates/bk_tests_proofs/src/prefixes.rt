@@ -1,6 +1,7 @@
 // Each front of a proof file.
 
-use crate::texts::{TABLE, TALLY, read};
+use crate::texts::read;
+use bk_fixtures::proof_texts::{TABLE, TALLY};
 use bk_p_proof::ScriptFault;
 use std::alloc::Global;
 use std::test::Fail;

@@ -1,6 +1,7 @@
 // Proof files and their scripts.
 
-use crate::texts::{STEPPER, TALLY, read};
+use crate::texts::read;
+use bk_fixtures::proof_texts::{STEPPER, TALLY};
 use bk_p_proof::ScriptFault;
 use bk_raw::{InfixOp, RawLine, RawNode, RawPlace, RawRule, RawTerm, RulePart, RuleWord};
 use std::alloc::Global;

@@ -1,7 +1,8 @@
 // The status of the stepper's obligations under scripts for them.
 
-use crate::texts::{STEPPER, read};
+use crate::texts::read;
 use bk_examples::stepper;
+use bk_fixtures::proof_texts::STEPPER;
 use bk_status::{State, Table, status};
 use std::alloc::Global;
 use std::test::Fail;

@@ -1,9 +1,10 @@
 // Whole status tables, as they are printed.
 
-use crate::texts::{SWAP, TABLE, TALLY, read};
+use crate::texts::read;
 use bk_dev::Development;
 use bk_developments::{chain, fill, over, pick, spin, swap, upper};
 use bk_examples::tally;
+use bk_fixtures::proof_texts::{SWAP, TABLE, TALLY};
 use bk_status::status;
 use bk_texts::table_text;
 use std::alloc::Global;
