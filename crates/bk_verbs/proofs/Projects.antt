@@ -8,8 +8,6 @@ use Rattle.bk_io.specs.Files.{Files}
 use Rattle.bk_lines.specs.Lines.{kept_lines, is_skipped}
 use Rattle.bk_dev.specs.Development.{Head, Body, Development, level_at, last}
 use Rattle.bk_b0.specs.Translation.{translation, entries, init_code, operation_code}
-use Rattle.bk_dev.specs.Facts.{IsDevelopment}
-use Rattle.bk_level.specs.VerdictLaws.{HasRoom}
 use Rattle.bk_project.specs.declared.project_file.ProjectLine.{ProjectLine}
 use Rattle.bk_project.specs.ProjectFile.{IsFileName, IsProjectLine, AreLinesOf, is_proofs, component_lines, kinds_of}
 use Rattle.bk_project.specs.Project.{Reads}
@@ -95,10 +93,6 @@ module _ (with_proofs : Bool) (files : Files) (project : List ℕ) (dev other : 
     one_reading files project dev other h.components k.components,
     sym (scripts_are_one k.proof_texts scripts others (subst (λ x. AreScriptsOf x scripts) same_proof_texts h.scripts_are) k.scripts_are),
   )
-
--- what is a development has room
-pub room_of : (dev : Development) → IsDevelopment dev → HasRoom dev
-room_of dev d = record { sets = d.lawful.table.few_sets; variables = d.room }
 
 -- ---- the translation
 entries_within : (dev : Development) (place : ℕ) (hs : List Head) (bs : List Body) → length (entries dev place hs bs) ≤ length hs

@@ -23,7 +23,6 @@ use Rattle.bk_project.proofs.ProjectFiles.{lines_are_one}
 use Rattle.bk_p_proof.specs.declared.fault.ScriptFault.{ScriptFault}
 use Rattle.bk_p_proof.specs.declared.fault.ScriptFault.TheVariants.{Fault as FaultOfProofs, Limit as LimitOfProofs, Memory as NoRoomForProofs}
 use Rattle.bk_calls.specs.Sample.{sample_of, project_text}
-use Rattle.bk_verbs.specs.declared.status.Status.{Status}
 use Rattle.bk_verbs.specs.declared.stop.Stop.{Stop}
 use Rattle.bk_verbs.specs.declared.stop.Stop.TheVariants.{Usage, Missing, Refused, Limit, Unproved, Incomplete, BadCalls, BadImage, ReadFault, WriteFault, Memory}
 use Rattle.bk_verbs.specs.Causes.{IsOfReading, IsOfChecks, IsOfPlaying}
@@ -174,18 +173,7 @@ module _ (variables : ℕ) where
       never : (1 ≤ 0) → ⊥
       never h = omega (arith, h)
 
--- nor does a sink that never fails
-playing_is : (stop : Stop) → IsOfPlaying stop → (stop ≡ WriteFault → ⊥) → IsOfChecks stop
-playing_is WriteFault playing fault = absurd (fault refl)
-playing_is Memory playing fault = tt
-playing_is stop playing fault = absurd playing
-
-pub playing_checks : (stop : Stop) → IsOfPlaying stop → HasCause {T = Status} WriteFault 0 0 (Err stop) → IsOfChecks stop
-playing_checks stop playing cause = playing_is stop playing (λ e. never (cause.rose (λ i. Err (e i))))
-  where
-    never : (1 ≤ 0) → ⊥
-    never h = omega (arith, h)
-
+-- what writing may stop with is outside
 pub playing_outside : (stop : Stop) → IsOfPlaying stop → IsOutside stop
 playing_outside WriteFault playing = tt
 playing_outside Memory playing = tt

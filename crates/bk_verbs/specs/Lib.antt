@@ -1,6 +1,7 @@
 pub mod Codes
 pub mod Project
 pub mod Samples
+pub mod Player
 pub mod Session
 pub mod Work
 pub mod Prepared

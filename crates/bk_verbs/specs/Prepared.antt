@@ -1,11 +1,12 @@
 -- What is left to write once a task's files are read and checked.
-use Rattle.std.specs.Prelude.{ℕ, ◌≤◌, List, All, length, map, Option}
+use Rattle.std.specs.Prelude.{◌≡◌, ℕ, ◌≤◌, false, List, All, length, map, Option}
 use Rattle.bk_io.specs.Files.{Files}
 use Rattle.bk_io.specs.Pieces.{WroteFront}
 use Rattle.bk_code.specs.declared.image.Image.{Image}
 use Rattle.bk_code.specs.Checks.{IsChecked}
 use Rattle.bk_code.specs.Laws.{IsRequest}
 use Rattle.bk_code.specs.Session.{Request, Told, Session}
+use Rattle.bk_vm.specs.State.{State}
 use Rattle.bk_calls.specs.Script.{request_of}
 use Rattle.bk_calls.specs.Transcript.{transcript}
 use Rattle.bk_verbs.specs.declared.status.Status.TheVariants.{Done}
@@ -24,12 +25,14 @@ IsSessionOf files task image fuel requests =
 abbrev pub IsPrepared : Files → Task → Work → Type 0
 IsPrepared files task (Text text) = IsWork files task Done text.items
 IsPrepared files task (Ended text status) = IsWork files task status text.items
-IsPrepared files task (Play image calls fuel) = IsSessionOf files task image fuel (map request_of calls.items)
+IsPrepared files task (Play player calls fuel) = IsSessionOf files task player.image fuel (map request_of calls.items)
 
--- an image that is never stuck, calls that it takes, not too many of them, and no more fuel than may be asked for
-pub record IsPlayable (image : Image) (requests : List Request) (fuel : ℕ) : Type 0 where
-  pub checked : IsChecked image
-  pub asked : All (IsRequest image) requests
+-- a machine that has not begun, whose image is never stuck, calls that it takes, not too many of them, and no more fuel than may be
+-- asked for
+pub record IsPlayable (player : State) (requests : List Request) (fuel : ℕ) : Type 0 where
+  pub fresh : player.started ≡ false
+  pub checked : IsChecked player.image
+  pub asked : All (IsRequest player.image) requests
   pub few : length requests ≤ 1000000
   pub small : fuel ≤ most_fuel
 
@@ -37,10 +40,10 @@ pub record IsPlayable (image : Image) (requests : List Request) (fuel : ℕ) : T
 abbrev pub CanBePlayed : Work → Type 0
 CanBePlayed (Text text) = Unit {0}
 CanBePlayed (Ended text status) = IsExecuted status
-CanBePlayed (Play image calls fuel) = IsPlayable image (map request_of calls.items) fuel
+CanBePlayed (Play player calls fuel) = IsPlayable player (map request_of calls.items) fuel
 
 -- what is written is a front of the text that is left to write, or of the transcript of the session that is left to play
 abbrev pub WritesFront : Work → (old new : Option (List ℕ)) → Type 0
 WritesFront (Text text) old new = WroteFront text.items old new
 WritesFront (Ended text status) old new = WroteFront text.items old new
-WritesFront (Play image calls fuel) old new = PlaysFront image fuel (map request_of calls.items) old new
+WritesFront (Play player calls fuel) old new = PlaysFront player.image fuel (map request_of calls.items) old new

@@ -1,5 +1,5 @@
 -- What the files of a project tell: its development, its scripts of proof, and the calls that a script asks for.
-use Rattle.std.specs.Prelude.{◌≡◌, ℕ, Bool, true, false, cond, List, [], length, ◌≤◌, ◌<◌, ◌^◌, map, All, Some}
+use Rattle.std.specs.Prelude.{◌≡◌, ℕ, Bool, true, false, cond, List, [], length, ◌≤◌, map, All, Some}
 use Rattle.std.specs.List.{AllZip}
 use Rattle.bk_io.specs.Bytes.{AreBytes}
 use Rattle.bk_io.specs.Files.{Files, file_named}
@@ -7,16 +7,13 @@ use Rattle.bk_code.specs.declared.image.Image.{Image}
 use Rattle.bk_code.specs.Session.{Request}
 use Rattle.bk_image.specs.Spelling.{HasSpelling}
 use Rattle.bk_dev.specs.Development.{Development, is_complete}
-use Rattle.bk_dev.specs.Flattened.{flattened}
 use Rattle.bk_raw.specs.ScriptTree.{RawScript}
-use Rattle.bk_level.specs.VerdictLaws.{HasRoom}
 use Rattle.bk_project.specs.declared.project_file.ProjectLine.{ProjectLine}
 use Rattle.bk_project.specs.ProjectFile.{AreLinesOf, component_lines, proof_lines, kinds_of}
 use Rattle.bk_project.specs.Project.{Reads}
 use Rattle.bk_po.specs.Obligations.{obligations}
 use Rattle.bk_po.specs.Limits.{PassNoLimit}
 use Rattle.bk_p_proof.specs.Files.{AreScriptsOf}
-use Rattle.bk_ground.specs.Brought.{widened}
 use Rattle.bk_status.specs.Rows.{AreProved}
 use Rattle.bk_calls.specs.Script.{IsScript, most_calls}
 
@@ -40,10 +37,18 @@ abbrev pub HoldBytes : Files → Type 0
 HoldBytes files = All (λ file. AreBytes file.1) files
 
 -- ---- the project
--- the names of the proof files, or of the component files, in the order of their lines
+-- the names of the component files, in the order of their lines
+abbrev pub component_files : List ProjectLine → List (List ℕ)
+component_files named = map (λ l. l.name) (component_lines named)
+
+-- and those of the proof files
+abbrev pub proof_files : List ProjectLine → List (List ℕ)
+proof_files named = map (λ l. l.name) (proof_lines named)
+
+-- those of one of the two
 abbrev pub files_of : Bool → List ProjectLine → List (List ℕ)
-files_of true named = map (λ l. l.name) (proof_lines named)
-files_of false named = map (λ l. l.name) (component_lines named)
+files_of true named = proof_files named
+files_of false named = component_files named
 
 -- all of the files that are named, or none: what executes no proof does not fetch the proof files
 abbrev pub fetched : Bool → List (List ℕ) → List (List ℕ)
@@ -56,25 +61,15 @@ pub record ReadsComponents (files : Files) (project : List ℕ) (dev : Developme
   pub named : List ProjectLine
   pub lines : AreLinesOf text named
   pub texts : List (List ℕ)
-  pub texts_told : AreTold files (files_of false named) texts
+  pub texts_told : AreTold files (component_files named) texts
   pub reads : Reads (kinds_of named) texts dev
 
 -- and those of the proof files, where these are fetched, are those of the scripts of proof
 pub record ReadsProject (with_proofs : Bool) (files : Files) (project : List ℕ) (dev : Development) (scripts : List RawScript) : Type 0 where
   pub components : ReadsComponents files project dev
   pub proof_texts : List (List ℕ)
-  pub proofs_told : AreTold files (fetched with_proofs (files_of true components.named)) proof_texts
+  pub proofs_told : AreTold files (fetched with_proofs (proof_files components.named)) proof_texts
   pub scripts_are : AreScriptsOf proof_texts scripts
-
--- 32 bits number the variables of the development's obligations and those of the names that the script brings
-abbrev pub HasRoomFor : Development → RawScript → Type 0
-HasRoomFor dev script = length (widened (flattened dev).table (flattened dev) script).variables < 2 ^ 32
-
--- 32 bits number the variables, with all copies that flattening makes, of each project of the files whose obligations pass no limit, and
--- so they do with the names that one of its scripts brings
-abbrev pub HaveRoom : Files → Type 0
-HaveRoom files = (project : List ℕ) (dev : Development) (scripts : List RawScript) → ReadsProject true files project dev scripts →
-    PassNoLimit (obligations dev) → HasRoom dev × All (HasRoomFor dev) scripts
 
 -- ---- the obligations
 -- the obligations pass no limit, and each is obvious or has a replayed proof among the scripts
@@ -82,10 +77,9 @@ pub record IsProved (dev : Development) (scripts : List RawScript) : Type 0 wher
   pub within : PassNoLimit (obligations dev)
   pub proved : AreProved dev scripts
 
--- the last component is an implementation, the obligations are proved, and 32 bits number their variables
+-- the last component is an implementation, and the obligations are proved
 pub record IsFinished (dev : Development) (scripts : List RawScript) : Type 0 where
   pub complete : is_complete dev ≡ true
-  pub room : HasRoom dev
   pub proved : IsProved dev scripts
 
 -- ---- the code

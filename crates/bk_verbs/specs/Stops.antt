@@ -35,7 +35,7 @@ use Rattle.bk_verbs.specs.declared.status.Status.TheVariants.{Usage as UsageStat
 use Rattle.bk_verbs.specs.declared.stop.Stop.{Stop}
 use Rattle.bk_verbs.specs.declared.stop.Stop.TheVariants.{Usage, Missing, Refused, Limit, Unproved, Incomplete, BadCalls, BadImage, ReadFault, WriteFault, Memory}
 use Rattle.bk_words.specs.Tasks.{Task, check_task, status_task, po_task, code_task, build_task, run_task, exec_task, sample_task, Asks, AskForNothing, has_proofs}
-use Rattle.bk_verbs.specs.Project.{IsTold, AreTold, IsToldAsBytes, files_of, fetched, ReadsProject, IsFinished, IsWithinCodeLimits}
+use Rattle.bk_verbs.specs.Project.{IsTold, AreTold, IsToldAsBytes, component_files, proof_files, fetched, ReadsProject, IsFinished, IsWithinCodeLimits}
 use Rattle.bk_verbs.specs.Samples.{sample_files, sample_project, sample_run}
 
 -- a device failed, or there was no memory
@@ -129,7 +129,7 @@ StopsAtLines project text stop = (refusal : Refusal) × IsOfProject refusal × I
 
 -- the component files that these lines name have a fault, or pass a limit: the first of all
 abbrev pub StopsAtTexts : (project : List ℕ) → List ProjectLine → (texts : List (List ℕ)) → Stop → Type 0
-StopsAtTexts project named texts stop = (refusal : Refusal) × IsOfProject refusal × IsRefusalOf (kinds_of named) texts refusal × (stop ≡ stop_of_refusal refusal project (files_of false named))
+StopsAtTexts project named texts stop = (refusal : Refusal) × IsOfProject refusal × IsRefusalOf (kinds_of named) texts refusal × (stop ≡ stop_of_refusal refusal project (component_files named))
 
 -- what a fault of the proof files stops the program with
 abbrev pub stop_of_proofs : ScriptFault → (proofs : List (List ℕ)) → Stop
@@ -154,15 +154,15 @@ StopsAtTold project named proofs texts proof_texts stop =
 -- all files are fetched, those of the components and then the proof files, before their texts are looked at
 abbrev pub StopsAtComponents : Files → (project : List ℕ) → List ProjectLine → (proofs : List (List ℕ)) → Stop → Type 0
 StopsAtComponents files project named proofs stop =
-    StopsAtFiles files (files_of false named ++ proofs) stop ⊎
-    ((texts : List (List ℕ)) × (proof_texts : List (List ℕ)) × AreTold files (files_of false named) texts × AreTold files proofs proof_texts ×
+    StopsAtFiles files (component_files named ++ proofs) stop ⊎
+    ((texts : List (List ℕ)) × (proof_texts : List (List ℕ)) × AreTold files (component_files named) texts × AreTold files proofs proof_texts ×
     StopsAtTold project named proofs texts proof_texts stop)
 
 -- the project file's text is looked at, and then the files that it names
 abbrev pub StopsAtNames : (with_proofs : Bool) → Files → (project text : List ℕ) → Stop → Type 0
 StopsAtNames with_proofs files project text stop =
     StopsAtLines project text stop ⊎
-    ((named : List ProjectLine) × AreLinesOf text named × StopsAtComponents files project named (fetched with_proofs (files_of true named)) stop)
+    ((named : List ProjectLine) × AreLinesOf text named × StopsAtComponents files project named (fetched with_proofs (proof_files named)) stop)
 
 -- the project file is fetched first
 abbrev pub StopsAtProject : (with_proofs : Bool) → Files → (project : List ℕ) → Stop → Type 0

@@ -11,6 +11,7 @@ ghost use Rattle.bk_verbs.specs.Stops.{IsOutside, StopsAtLoading, StopsTask};
 ghost use Rattle.bk_verbs.specs.Prepared.{IsPrepared, CanBePlayed};
 
 use crate::files::fetch;
+use crate::player::Player;
 use crate::script::calls_of;
 use crate::stop::Stop;
 use crate::work::Work;
@@ -41,8 +42,9 @@ pub(crate) fn session_of_image<H: Shelf>(
     let loaded = loaded_image(alloc, bytes.as_bytes())?;
     let text = fetch(alloc, script, shelf)?;
     let calls = calls_of(alloc, script, &text, &loaded)?;
+    let player = Player::of_image(alloc, loaded)?;
     Ok(Work::Play {
-        image: loaded,
+        player,
         calls,
         fuel,
     })

@@ -8,6 +8,7 @@ mod exec;
 mod files;
 mod listing;
 mod obligations;
+mod player;
 mod proof;
 mod run;
 mod sample;
@@ -19,6 +20,7 @@ mod table;
 mod verbs;
 mod work;
 
+pub use player::Player;
 pub use status::Status;
 pub use stop::Stop;
 pub use verbs::prepare;

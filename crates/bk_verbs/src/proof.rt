@@ -41,7 +41,6 @@ pub(crate) fn proved_table(alloc: Global, name: &str, project: &Project) -> Resu
     ensures rows { IfOk result (λ table.
         HasRows project.now.development project.now.scripts table.rows.items) }
 {
-    project.development.facts();
     check_complete(alloc, &project.development)?;
     closed_table(alloc, name, project)
 }

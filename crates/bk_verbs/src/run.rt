@@ -1,6 +1,6 @@
 //! `run`: calls on a project whose obligations are proved.
 
-ghost use Rattle.std.specs.Prelude.{◌≡◌, ◌⊎◌, ◌≤◌, ℕ, All, length, map, Some, IfOk, IfErr};
+ghost use Rattle.std.specs.Prelude.{◌≡◌, ◌⊎◌, ◌≤◌, ℕ, false, All, length, map, Some, IfOk, IfErr};
 ghost use Rattle.bk_io.specs.Files.{Files};
 ghost use Rattle.bk_io.specs.Counts.{HasCause};
 ghost use Rattle.bk_code.specs.Checks.{IsChecked};
@@ -15,21 +15,22 @@ ghost use Rattle.bk_verbs.specs.Prepared.{IsPrepared, CanBePlayed};
 
 use crate::code::image_of;
 use crate::files::{fetch, read_project};
+use crate::player::Player;
 use crate::proof::proved_table;
 use crate::script::calls_of;
 use crate::stop::Stop;
 use crate::work::Work;
 use bk_calls::Call;
-use bk_code::Image;
 use bk_io::Shelf;
 use bk_status::Table;
 use std::alloc::Global;
 
-/// A project whose obligations are proved: its status table, its code, and the calls that a script asks for.
+/// A project whose obligations are proved: its status table, the session of its code before its initialisation, and the calls that a
+/// script asks for.
 #[derive(Drop)]
 pub(crate) struct Ready {
     pub(crate) table: Table,
-    pub(crate) image: Image,
+    pub(crate) player: Player,
     pub(crate) calls: Vec<Call>,
 }
 
@@ -53,7 +54,7 @@ pub(crate) fn session_of_project<H: Shelf>(
 {
     let ready = ready_project(alloc, project, script, shelf)?;
     Ok(Work::Play {
-        image: ready.image,
+        player: ready.player,
         calls: ready.calls,
         fuel,
     })
@@ -72,9 +73,10 @@ pub(crate) fn ready_project<H: Shelf>(
     ensures failed { HasCause ReadFault (H.faults shelf.old) (H.faults shelf.new) result }
     ensures missing { CountsAbsence (H.absences shelf.old) (H.absences shelf.new) result }
     ensures ready { IfOk result (λ ready. (files : Files) → H.files shelf.old ≡ Some files →
-        IsMadeReady files project.now script.now ready.table.rows.items ready.image (map request_of ready.calls.items)) }
-    ensures checked { IfOk result (λ ready. IsChecked ready.image) }
-    ensures requests { IfOk result (λ ready. All (IsRequest ready.image) (map request_of ready.calls.items)) }
+        IsMadeReady files project.now script.now ready.table.rows.items ready.player.image (map request_of ready.calls.items)) }
+    ensures fresh { IfOk result (λ ready. ready.player.started ≡ false) }
+    ensures checked { IfOk result (λ ready. IsChecked ready.player.image) }
+    ensures requests { IfOk result (λ ready. All (IsRequest ready.player.image) (map request_of ready.calls.items)) }
     ensures few { IfOk result (λ ready. length ready.calls.items ≤ 1000000) }
 {
     let read = read_project(alloc, project, true, shelf)?;
@@ -82,9 +84,10 @@ pub(crate) fn ready_project<H: Shelf>(
     let text = fetch(alloc, script, shelf)?;
     let image = image_of(alloc, project, &read.development)?;
     let calls = calls_of(alloc, script, &text, &image)?;
+    let player = Player::of_project(alloc, image, &read.development)?;
     Ok(Ready {
         table,
-        image,
+        player,
         calls,
     })
 }

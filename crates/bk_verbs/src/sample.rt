@@ -1,8 +1,7 @@
 //! `sample`: a development that the program makes itself, whose obligations it proves and whose code it runs.
 
-ghost use Rattle.std.specs.Prelude.{◌≡◌, ◌⊎◌, ◌≤◌, All, length, map, IfOk, IfErr, codes};
+ghost use Rattle.std.specs.Prelude.{◌≡◌, ◌⊎◌, ◌≤◌, false, All, length, map, IfOk, IfErr, codes};
 ghost use Rattle.bk_io.specs.Files.{Files};
-ghost use Rattle.bk_code.specs.Checks.{IsChecked};
 ghost use Rattle.bk_code.specs.Laws.{IsRequest};
 ghost use Rattle.bk_calls.specs.Script.{request_of};
 ghost use Rattle.bk_words.specs.Tasks.{sample_task, most_variables};
@@ -38,7 +37,7 @@ pub(crate) fn sample_lines(alloc: Global, variables: u32) -> Result<Work, Stop>
     let mut transcript = SureSink::new(alloc, 0)?;
     let status = play(
         alloc,
-        ready.image,
+        ready.player,
         &ready.calls,
         SAMPLE_FUEL,
         &mut transcript,
@@ -56,9 +55,9 @@ fn ready_sample(alloc: Global, variables: u32) -> Result<Ready, Stop>
     ensures cause { IfErr result (λ stop. IsOutside stop ⊎ StopsAtWork (sample_files variables) sample_project sample_run stop) }
     ensures checks { IfErr result IsOfChecks }
     ensures ready { IfOk result (λ ready. IsMadeReady (sample_files variables) sample_project (codes "sample.calls")
-        ready.table.rows.items ready.image (map request_of ready.calls.items)) }
-    ensures checked { IfOk result (λ ready. IsChecked ready.image) }
-    ensures requests { IfOk result (λ ready. All (IsRequest ready.image) (map request_of ready.calls.items)) }
+        ready.table.rows.items ready.player.image (map request_of ready.calls.items)) }
+    ensures fresh { IfOk result (λ ready. ready.player.started ≡ false) }
+    ensures requests { IfOk result (λ ready. All (IsRequest ready.player.image) (map request_of ready.calls.items)) }
     ensures few { IfOk result (λ ready. length ready.calls.items ≤ 1000000) }
 {
     let files = sample(alloc, variables)?.into_files(alloc)?;

@@ -5,7 +5,6 @@ ghost use Rattle.std.specs.Prelude.{◌≡◌, ◌<◌, ◌≤◌, ◌*◌, ◌+
 ghost use Rattle.std.specs.Prelude.{Some, IfOk, IfErr, OnOk, OnErr};
 ghost use Rattle.bk_io.specs.Counts.{HasCause};
 ghost use Rattle.bk_io.specs.Pieces.{written_with, WroteFront};
-ghost use Rattle.bk_code.specs.Checks.{IsChecked};
 ghost use Rattle.bk_code.specs.Laws.{IsRequest};
 ghost use Rattle.bk_vm.specs.Ends.{is_stop, end_of};
 ghost use Rattle.bk_vm.specs.State.{TakesCall};
@@ -19,12 +18,13 @@ ghost use Rattle.bk_verbs.specs.Work.{IsExecuted};
 ghost use Rattle.bk_verbs.specs.Session.{Plays, PlaysCalls, PlaysCall, HasOutputRoom, status_of};
 ghost use Rattle.bk_verbs.specs.Session.{PlaysFront, PlaysCallsFront, PlaysCallFront};
 
+use crate::player::Player;
 use crate::status::Status;
 use crate::stop::Stop;
 use bk_calls::{Call, ReplyLine, closing, reply, steps};
 use bk_code::Image;
 use bk_io::{Sink, SinkFault, put_all};
-use bk_vm::{CallEnd, Machine, calls_make_a_session};
+use bk_vm::{CallEnd, calls_make_a_session};
 use std::alloc::Global;
 
 // What the calls of a session came to: the last end, how many calls are done, and the steps of all.
@@ -39,56 +39,55 @@ struct Played {
 #[tactic(auto, using(crate::proofs::Fronts::nothing_played))]
 pub(crate) fn play<K: Sink>(
     alloc: Global,
-    image: Image,
+    mut player: Player,
     calls: &[Call],
     fuel: u64,
     out: &mut K,
 ) -> Result<Status, Stop>
-    requires checked { IsChecked image }
-    requires requests { All (IsRequest image) (map request_of calls.now) }
+    requires fresh { player.started ≡ false }
+    requires requests { All (IsRequest player.image) (map request_of calls.now) }
     requires few { length calls.now ≤ 1000000 }
     requires small { fuel ≤ most_fuel }
     ensures playing { IfErr result IsOfPlaying }
     ensures failed { HasCause WriteFault (K.faults out.old) (K.faults out.new) result }
     ensures front { OnErr result
-        (PlaysFront image fuel (map request_of calls.now) (K.written out.old) (K.written out.new)) }
+        (PlaysFront player.image fuel (map request_of calls.now) (K.written out.old) (K.written out.new)) }
     ensures executed { IfOk result IsExecuted }
     ensures ok { IfOk result (λ status.
-        Plays image fuel (map request_of calls.now) status (K.written out.old) (K.written out.new)) }
+        Plays player.image fuel (map request_of calls.now) status (K.written out.old) (K.written out.new)) }
 {
-    let mut line = ReplyLine::new(alloc, &image)?;
-    let mut outs = vec![in alloc; 0i64; most_outputs(&image)]?;
-    let mut machine = Machine::new(alloc, image)?;
-    let status = play_session(&mut machine, calls, fuel, &mut outs, &mut line, out)?;
+    let mut line = ReplyLine::new(alloc, player.image())?;
+    let mut outs = vec![in alloc; 0i64; most_outputs(player.image())]?;
+    let status = play_session(&mut player, calls, fuel, &mut outs, &mut line, out)?;
     Ok(status)
 }
 
-// The session of a machine that has not started.
+// The session of a player that has not started.
 fn play_session<K: Sink>(
-    machine: &mut Machine,
+    player: &mut Player,
     calls: &[Call],
     fuel: u64,
     outs: &mut [i64],
     line: &mut ReplyLine,
     out: &mut K,
 ) -> Result<Status, SinkFault>
-    requires fresh { machine.old.started ≡ false }
-    requires requests { All (IsRequest machine.old.image) (map request_of calls.now) }
+    requires fresh { player.old.started ≡ false }
+    requires requests { All (IsRequest player.old.image) (map request_of calls.now) }
     requires few { length calls.now ≤ 1000000 }
     requires small { fuel ≤ most_fuel }
-    requires outputs { HasOutputRoom machine.old.image (length outs.old) }
-    requires made { IsMadeFor machine.old.image line.old }
+    requires outputs { HasOutputRoom player.old.image (length outs.old) }
+    requires made { IsMadeFor player.old.image line.old }
     ensures failed { HasCause SinkFault.Failed (K.faults out.old) (K.faults out.new) result }
     ensures front { OnErr result
-        (PlaysFront machine.old.image fuel (map request_of calls.now) (K.written out.old) (K.written out.new)) }
+        (PlaysFront player.old.image fuel (map request_of calls.now) (K.written out.old) (K.written out.new)) }
     ensures executed { IfOk result IsExecuted }
     ensures ok { IfOk result (λ status.
-        Plays machine.old.image fuel (map request_of calls.now) status (K.written out.old) (K.written out.new)) }
+        Plays player.old.image fuel (map request_of calls.now) status (K.written out.old) (K.written out.new)) }
 {
     calls_make_a_session();
-    let start = machine.start(fuel);
-    answer(None, start, &[], machine.image(), line, out)?;
-    let played = play_calls(machine, start, calls, fuel, outs, line, out)?;
+    let start = player.start(fuel);
+    answer(None, start, &[], player.image(), line, out)?;
+    let played = play_calls(player, start, calls, fuel, outs, line, out)?;
     closing(played.done, steps(&start, fuel) + played.steps, line);
     put_all(out, line.bytes())?;
     Ok(status(played.end))
@@ -107,7 +106,7 @@ fn status(end: CallEnd) -> Status
 
 // The calls up to the first that is not done; none where the initialisation is not.
 fn play_calls<K: Sink>(
-    machine: &mut Machine,
+    player: &mut Player,
     start: CallEnd,
     calls: &[Call],
     fuel: u64,
@@ -115,19 +114,19 @@ fn play_calls<K: Sink>(
     line: &mut ReplyLine,
     out: &mut K,
 ) -> Result<Played, SinkFault>
-    requires started { machine.old.started ≡ true }
-    requires stopped { machine.old.stopped ≡ is_stop start }
-    requires requests { All (IsRequest machine.old.image) (map request_of calls.now) }
+    requires started { player.old.started ≡ true }
+    requires stopped { player.old.stopped ≡ is_stop start }
+    requires requests { All (IsRequest player.old.image) (map request_of calls.now) }
     requires few { length calls.now ≤ 1000000 }
     requires small { fuel ≤ most_fuel }
-    requires outputs { HasOutputRoom machine.old.image (length outs.old) }
-    requires made { IsMadeFor machine.old.image line.old }
+    requires outputs { HasOutputRoom player.old.image (length outs.old) }
+    requires made { IsMadeFor player.old.image line.old }
     ensures failed { HasCause SinkFault.Failed (K.faults out.old) (K.faults out.new) result }
     ensures front { OnErr result
-        (PlaysCallsFront machine.old.image fuel (map request_of calls.now) (end_of start) machine.old.cells
+        (PlaysCallsFront player.old.image fuel (map request_of calls.now) (end_of start) player.old.cells
         (K.written out.old) (K.written out.new)) }
     ensures ok { IfOk result (λ played.
-        PlaysCalls machine.old.image fuel (map request_of calls.now) (end_of start) machine.old.cells
+        PlaysCalls player.old.image fuel (map request_of calls.now) (end_of start) player.old.cells
         (end_of played.end) played.done played.steps (K.written out.old) (K.written out.new)) }
     ensures bound { IfOk result (λ played. played.steps ≤ most_fuel * length calls.now) }
 {
@@ -140,7 +139,7 @@ fn play_calls<K: Sink>(
         if played.end.is_stop() {
             break;
         }
-        let end = play_call(machine, call, fuel, outs, line, out)?;
+        let end = play_call(player, call, fuel, outs, line, out)?;
         played = Played {
             end,
             done: played.done + done_number(end),
@@ -163,69 +162,69 @@ fn done_number(end: CallEnd) -> u32
 
 // One call, whose outputs go to the first of these places.
 fn play_call<K: Sink>(
-    machine: &mut Machine,
+    player: &mut Player,
     call: &Call,
     fuel: u64,
     outs: &mut [i64],
     line: &mut ReplyLine,
     out: &mut K,
 ) -> Result<CallEnd, SinkFault>
-    requires started { machine.old.started ≡ true }
-    requires runs { machine.old.stopped ≡ false }
-    requires request { IsRequest machine.old.image (request_of call.now) }
+    requires started { player.old.started ≡ true }
+    requires runs { player.old.stopped ≡ false }
+    requires request { IsRequest player.old.image (request_of call.now) }
     requires small { fuel ≤ most_fuel }
-    requires outputs { HasOutputRoom machine.old.image (length outs.old) }
-    requires made { IsMadeFor machine.old.image line.old }
+    requires outputs { HasOutputRoom player.old.image (length outs.old) }
+    requires made { IsMadeFor player.old.image line.old }
     ensures failed { HasCause SinkFault.Failed (K.faults out.old) (K.faults out.new) result }
     ensures front { OnErr result
-        (PlaysCallFront machine.old.image fuel (request_of call.now) machine.old.cells
+        (PlaysCallFront player.old.image fuel (request_of call.now) player.old.cells
         (K.written out.old) (K.written out.new)) }
     ensures ok { IfOk result (λ end.
-        PlaysCall machine.old.image fuel (request_of call.now) machine.old.cells (end_of end) machine.new.cells
+        PlaysCall player.old.image fuel (request_of call.now) player.old.cells (end_of end) player.new.cells
         (K.written out.old) (K.written out.new)) }
-    ensures image { machine.new.image ≡ machine.old.image }
-    ensures started { machine.new.started ≡ true }
-    ensures stopped { IfOk result (λ end. machine.new.stopped ≡ is_stop end) }
+    ensures image { player.new.image ≡ player.old.image }
+    ensures started { player.new.started ≡ true }
+    ensures stopped { IfOk result (λ end. player.new.stopped ≡ is_stop end) }
     ensures bound { IfOk result (λ end. steps_of fuel (end_of end) ≤ most_fuel) }
-    ensures outputs { HasOutputRoom machine.new.image (length outs.new) }
-    ensures made { IsMadeFor machine.new.image line.new }
+    ensures outputs { HasOutputRoom player.new.image (length outs.new) }
+    ensures made { IsMadeFor player.new.image line.new }
 {
-    let count = output_count(machine.image(), call.op);
-    play_into(machine, call, fuel, &mut outs[..count], line, out)
+    let count = output_count(player.image(), call.op);
+    play_into(player, call, fuel, &mut outs[..count], line, out)
 }
 
 // One call, whose outputs go to these places.
 #[tactic(auto, using(crate::proofs::Plays::steps_bounded))]
 fn play_into<K: Sink>(
-    machine: &mut Machine,
+    player: &mut Player,
     call: &Call,
     fuel: u64,
     outs: &mut [i64],
     line: &mut ReplyLine,
     out: &mut K,
 ) -> Result<CallEnd, SinkFault>
-    requires started { machine.old.started ≡ true }
-    requires runs { machine.old.stopped ≡ false }
-    requires takes { TakesCall machine.old.image call.now.op call.now.args (length outs.old) }
+    requires started { player.old.started ≡ true }
+    requires runs { player.old.stopped ≡ false }
+    requires takes { TakesCall player.old.image call.now.op call.now.args (length outs.old) }
     requires small { fuel ≤ most_fuel }
-    requires made { IsMadeFor machine.old.image line.old }
+    requires made { IsMadeFor player.old.image line.old }
     ensures failed { HasCause SinkFault.Failed (K.faults out.old) (K.faults out.new) result }
     ensures front { OnErr result
-        (PlaysCallFront machine.old.image fuel (request_of call.now) machine.old.cells
+        (PlaysCallFront player.old.image fuel (request_of call.now) player.old.cells
         (K.written out.old) (K.written out.new)) }
     ensures ok { IfOk result (λ end.
-        PlaysCall machine.old.image fuel (request_of call.now) machine.old.cells (end_of end) machine.new.cells
+        PlaysCall player.old.image fuel (request_of call.now) player.old.cells (end_of end) player.new.cells
         (K.written out.old) (K.written out.new)) }
-    ensures image { machine.new.image ≡ machine.old.image }
-    ensures started { machine.new.started ≡ true }
-    ensures stopped { IfOk result (λ end. machine.new.stopped ≡ is_stop end) }
+    ensures image { player.new.image ≡ player.old.image }
+    ensures started { player.new.started ≡ true }
+    ensures stopped { IfOk result (λ end. player.new.stopped ≡ is_stop end) }
     ensures bound { IfOk result (λ end. steps_of fuel (end_of end) ≤ most_fuel) }
     ensures places { length outs.new ≡ length outs.old }
-    ensures made { IsMadeFor machine.new.image line.new }
+    ensures made { IsMadeFor player.new.image line.new }
 {
     calls_make_a_session();
-    let end = machine.call(call.op, call.args.as_slice(), outs, fuel);
-    answer(Some(call.op), end, outs, machine.image(), line, out)?;
+    let end = player.call(call.op, call.args.as_slice(), outs, fuel);
+    answer(Some(call.op), end, outs, player.image(), line, out)?;
     Ok(end)
 }
 

@@ -10,11 +10,11 @@ ghost use Rattle.bk_verbs.specs.Work.{IsExecuted};
 ghost use Rattle.bk_verbs.specs.Work.{WritesWork};
 ghost use Rattle.bk_verbs.specs.Prepared.{IsPrepared, CanBePlayed, WritesFront};
 
+use crate::player::Player;
 use crate::session::play;
 use crate::status::Status;
 use crate::stop::Stop;
 use bk_calls::Call;
-use bk_code::Image;
 use bk_io::{Sink, put_all};
 use std::alloc::Global;
 
@@ -28,10 +28,10 @@ pub enum Work {
         text: Vec<u8>,
         status: Status,
     },
-    /// The transcript of a session of the image over these calls, of which each, and the initialisation, may have so many
+    /// The transcript of the player's session over these calls, of which each, and the initialisation, may have so many
     /// steps.
     Play {
-        image: Image,
+        player: Player,
         calls: Vec<Call>,
         fuel: u64,
     },
@@ -56,6 +56,10 @@ pub fn write_work<K: Sink>(alloc: Global, work: Work, out: &mut K) -> Result<Sta
             put_all(out, &text)?;
             Ok(status)
         }
-        Work::Play { image, calls, fuel } => play(alloc, image, &calls, fuel, out),
+        Work::Play {
+            player,
+            calls,
+            fuel,
+        } => play(alloc, player, &calls, fuel, out),
     }
 }

@@ -14,7 +14,10 @@ use Rattle.bk_sim.proofs.B0Code.{b0_follows, b0_ends}
 use Rattle.bk_po.proofs.Carrying.{valid_obligations_carry}
 use Rattle.bk_status.proofs.Tables.{closed_tables_prove, proved_obligations_are_valid, proved_developments_are_correct}
 use Rattle.bk_level.specs.VerdictLaws.{HasRoom}
+use Rattle.bk_po.specs.Obligations.{obligations}
+use Rattle.bk_po.specs.Limits.{PassNoLimit}
 use Rattle.bk_verbs.specs.Project.{ReadsProject, IsFinished}
+use Rattle.bkit.proofs.Rooms.{project_has_room}
 use Rattle.bkit.specs.Following.{ValidObligationsFollow, ProvedDevelopmentsFollow, ClosedTablesFollow}
 
 pub valid_obligations_follow : ValidObligationsFollow
@@ -32,7 +35,10 @@ closed_tables_follow find law dev scripts rows d b are closed =
     (proved_developments_follow find law dev scripts d b proved, b0_ends find dev d b (correct.values b.complete) correct.keeps correct.carries)
 
 -- ---- what a project is read as is a development, and one in B0 where it ends in an implementation
-module _ (with_proofs : Bool) (files : Files) (project : List ℕ) (dev : Development) (scripts : List RawScript) (h : ReadsProject with_proofs files project dev scripts) (room : HasRoom dev) where
+module _ (with_proofs : Bool) (files : Files) (project : List ℕ) (dev : Development) (scripts : List RawScript) (h : ReadsProject with_proofs files project dev scripts) (within : PassNoLimit (obligations dev)) where
+  room : HasRoom dev
+  room = project_has_room with_proofs files project dev scripts h within
+
   pub project_development : IsDevelopment dev
   project_development = read_are_developments (kinds_of h.components.named) h.components.texts dev h.components.lines.are.chain h.components.reads room
 
@@ -42,4 +48,4 @@ module _ (with_proofs : Bool) (files : Files) (project : List ℕ) (dev : Develo
 -- a project whose obligations are proved has code that follows its machine
 pub project_follows : (files : Files) (project : List ℕ) (dev : Development) (scripts : List RawScript) → ReadsProject true files project dev scripts → IsFinished dev scripts → (find : Finder) → IsSearch find → Follows find dev (translation dev)
 project_follows files project dev scripts h finished find law =
-    proved_developments_follow find law dev scripts (project_development true files project dev scripts h finished.room) (project_in_b0 true files project dev scripts h finished.room finished.complete) finished.proved.proved
+    proved_developments_follow find law dev scripts (project_development true files project dev scripts h finished.proved.within) (project_in_b0 true files project dev scripts h finished.proved.within finished.complete) finished.proved.proved

@@ -44,7 +44,7 @@ use Rattle.bk_status.proofs.Tables.{proved_developments_are_correct}
 use Rattle.bk_lines.specs.Lines.{kept_lines}
 use Rattle.bk_verbs.specs.declared.status.Status.TheVariants.{Done as DoneStatus, Trapped as TrappedStatus}
 use Rattle.bk_verbs.specs.Session.{status_of, last_end, session_status}
-use Rattle.bkit.specs.Legal.{call_of, reply_of, done_or, replied, AreLegal, RunNoLoop, IsUntrapped, WouldEnd, IsDoneWithin, CallEndsWell, EachLegalCall, LegalCallsEndWell}
+use Rattle.bkit.specs.Legal.{call_of, reply_of, done_or, replied, AreLegal, RunNoLoop, IsUntrapped, WouldEnd, IsDoneWithin, LeavesLinked, CallEndsWell, EachLegalCall, LegalCallsEndWell}
 use Rattle.bkit.specs.Laws.{ProjectsEnd, LegalCallsAreDone}
 use Rattle.bk_verbs.proofs.Projects.{entries_few}
 use Rattle.bkit.proofs.Following.{project_development, project_in_b0, project_follows}
@@ -52,8 +52,8 @@ use Rattle.bkit.proofs.Following.{project_development, project_in_b0, project_fo
 -- ---- ends
 pub projects_end : ProjectsEnd
 projects_end files project dev scripts h finished find law =
-    let facts = project_development true files project dev scripts h finished.room in
-    let b0 = project_in_b0 true files project dev scripts h finished.room finished.complete in
+    let facts = project_development true files project dev scripts h finished.proved.within in
+    let b0 = project_in_b0 true files project dev scripts h finished.proved.within finished.complete in
     let correct = proved_developments_are_correct find law dev scripts facts finished.proved.proved in
     b0_ends find dev facts b0 (correct.values finished.complete) correct.keeps correct.carries
 
@@ -258,13 +258,14 @@ in_time image fuel size start d e w end enough = (w.steps, (one_end image fuel s
 -- ---- each legal call
 module _ (fuel : ℕ) (find : Finder) (dev : Development) (follows : Follows find dev (translation dev)) (in_code : EndsWithoutLoops find dev (translation dev)) where
   -- a call on linked cells whose precondition is true ends well
-  call_ends_well : (r : Request) (entry : OpEntry) (a : Abstract) (m : List ℤ) (t : Told) (d : Config) → IsEntry (translation dev) r.op entry → Linked find dev a m → IsCall dev (call_of dev r) →
-      map as_number (call_of dev r).args ≡ r.args → Pre find dev (call_of dev r) a → Ends (translation dev) fuel (started entry (call_of dev r) m) t.end d → CallEndsWell dev fuel r m t
-  call_ends_well r entry a m t d named linked call args pre end =
+  call_ends_well : (before : Abstract → Type 0) (r : Request) (entry : OpEntry) (a : Abstract) (m : List ℤ) (t : Told) (d : Config) → LeavesLinked find dev (After find dev before (call_of dev r) (reply_of dev r t)) t → IsEntry (translation dev) r.op entry → Linked find dev a m → IsCall dev (call_of dev r) →
+      map as_number (call_of dev r).args ≡ r.args → Pre find dev (call_of dev r) a → Ends (translation dev) fuel (started entry (call_of dev r) m) t.end d → CallEndsWell find dev fuel before r m t
+  call_ends_well before r entry a m t d leaves named linked call args pre end =
       let good = (follows.local a m (call_of dev r) entry linked call pre named).1 fuel t.end d end in
       let here : WouldEnd (translation dev) fuel (call_start entry r.args m) t.end =
       subst (λ zs. WouldEnd (translation dev) fuel (call_start entry zs m) t.end) args (would_end (translation dev) fuel (started entry (call_of dev r) m) (IsStep find dev (call_of dev r) entry a) t.end d good) in
       record {
+        answers = leaves;
         untrapped = untrapped (translation dev) fuel (started entry (call_of dev r) m) (IsStep find dev (call_of dev r) entry a) t.end d good;
         more = λ other there. subst (λ x. WouldEnd (translation dev) fuel (call_start x r.args m) t.end) (same_entry (translation dev) r.op entry other named there) here;
         in_time = λ none. in_time (translation dev) fuel (length (operation_code dev (body_at dev (last dev) r.op))) (started entry (call_of dev r) m) d t.end
@@ -273,7 +274,7 @@ module _ (fuel : ℕ) (find : Finder) (dev : Development) (follows : Follows fin
 
   -- after an end each legal call ends well, by what is known where it is done
   after_end : (before : Abstract → Type 0) (e : End) (cells : List ℤ) (rs : List Request) (ts : List Told) → Continues (translation dev) fuel e cells rs ts →
-      ((n : ℕ) → e ≡ Done n → EachLegalCall find dev (CallEndsWell dev fuel) before cells rs ts) → EachLegalCall find dev (CallEndsWell dev fuel) before cells rs ts
+      ((n : ℕ) → e ≡ Done n → EachLegalCall find dev (CallEndsWell find dev fuel) before cells rs ts) → EachLegalCall find dev (CallEndsWell find dev fuel) before cells rs ts
   after_end before (Done n) cells rs ts goes rest = rest n refl
   after_end before (Trapped kind place n) cells [] [] goes rest = tt
   after_end before (Trapped kind place n) cells (r ∷ rs) [] goes rest = tt
@@ -284,7 +285,7 @@ module _ (fuel : ℕ) (find : Finder) (dev : Development) (follows : Follows fin
 
   -- from linked cells each legal call ends well
   each_call : (rs : List Request) (ts : List Told) (before : Abstract → Type 0) (a : Abstract) (m : List ℤ) (n : ℕ) → before a → Linked find dev a m → All (Fits dev) rs →
-      Continues (translation dev) fuel (Done n) m rs ts → EachLegalCall find dev (CallEndsWell dev fuel) before m rs ts
+      Continues (translation dev) fuel (Done n) m rs ts → EachLegalCall find dev (CallEndsWell find dev fuel) before m rs ts
   each_call [] [] before a m n h linked fit goes = tt
   each_call [] (t ∷ ts) before a m n h linked fit goes = absurd goes
   each_call (r ∷ rs) [] before a m n h linked fit goes = absurd goes
@@ -297,15 +298,16 @@ module _ (fuel : ℕ) (find : Finder) (dev : Development) (follows : Follows fin
       let call = is_call find dev follows r entry answers.named (All-head (Fits dev) r rs fit) in
       let pre : Pre find dev c a = legal a h in
       let end : Ends (translation dev) fuel (started entry c m) t.end d = subst (λ zs. Ends (translation dev) fuel (call_start entry zs m) t.end d) (sym call.1) answers.call.ends in
-      let good = (follows.local a m c entry linked call.0 pre answers.named).1 fuel t.end d end in (
-        call_ends_well r entry a m t d answers.named linked call.0 call.1 pre end,
+      let good = (follows.local a m c entry linked call.0 pre answers.named).1 fuel t.end d end in
+      let leaves : LeavesLinked find dev (After find dev before c us) t = λ k is.
+      let step : IsStep find dev c entry a d.cells = subst (λ e. IsGood (translation dev) fuel (started entry c m) (IsStep find dev c entry a) e d) is good in
+      let given : t.outputs ≡ outputs_of entry.outputs d.cells = answers.call.given ∙ ap (λ e. given_out entry.outputs e d.cells) is in
+      let same : replies dev r.op entry.outputs d.cells ≡ us = ap (as_values dev (body_at dev 0 r.op).outputs) (sym given) in
+      (step.0, (a, h, subst (λ vs. Steps find dev c a vs step.0) same step.1), subst (λ zs. Linked find dev step.0 zs) (sym answers.call.cells) step.2) in (
+        call_ends_well before r entry a m t d leaves answers.named linked call.0 call.1 pre end,
         after_end (After find dev before c us) t.end t.cells rs ts goes.1 (λ k is.
-            let step : IsStep find dev c entry a d.cells = subst (λ e. IsGood (translation dev) fuel (started entry c m) (IsStep find dev c entry a) e d) is good in
-            let given : t.outputs ≡ outputs_of entry.outputs d.cells = answers.call.given ∙ ap (λ e. given_out entry.outputs e d.cells) is in
-            let same : replies dev r.op entry.outputs d.cells ≡ us = ap (as_values dev (body_at dev 0 r.op).outputs) (sym given) in
-            let after : After find dev before c us step.0 = (a, h, subst (λ vs. Steps find dev c a vs step.0) same step.1) in
-            let linked_there : Linked find dev step.0 t.cells = subst (λ zs. Linked find dev step.0 zs) (sym answers.call.cells) step.2 in
-            each_call rs ts (After find dev before c us) step.0 t.cells k after linked_there (All-tail (Fits dev) r rs fit) (subst (λ e. Continues (translation dev) fuel e t.cells rs ts) is goes.1)),
+            let there = leaves k is in
+            each_call rs ts (After find dev before c us) there.0 t.cells k there.1 there.2 (All-tail (Fits dev) r rs fit) (subst (λ e. Continues (translation dev) fuel e t.cells rs ts) is goes.1)),
       )
 
   -- the machine opens with these cells
@@ -317,15 +319,19 @@ module _ (fuel : ℕ) (find : Finder) (dev : Development) (follows : Follows fin
   legal_calls_end_well rs (t ∷ ts) fit session =
       let start : Config = first_start (translation dev) in
       let d : Config = session.0.last in
-      let good : IsGood (translation dev) fuel start Opened t.end d = follows.opening fuel t.end d session.0.ends in (
+      let good : IsGood (translation dev) fuel start Opened t.end d = follows.opening fuel t.end d session.0.ends in
+      let opens : LeavesLinked find dev (Opens find dev) t = λ k is.
+      let first : Opened d.cells = subst (λ e. IsGood (translation dev) fuel start Opened e d) is good in
+      (first.0, first.1, subst (λ zs. Linked find dev first.0 zs) (sym session.0.cells) first.2) in (
         record {
+          opens = opens;
           untrapped = untrapped (translation dev) fuel start Opened t.end d good;
           more = would_end (translation dev) fuel start Opened t.end d good;
           in_time = λ none. in_time (translation dev) fuel (length (init_code dev)) start d t.end (in_code.opening none) session.0.ends;
         },
         after_end (Opens find dev) t.end t.cells rs ts session.1 (λ k is.
-            let first : Opened d.cells = subst (λ e. IsGood (translation dev) fuel start Opened e d) is good in
-            each_call rs ts (Opens find dev) first.0 t.cells k first.1 (subst (λ zs. Linked find dev first.0 zs) (sym session.0.cells) first.2) fit (subst (λ e. Continues (translation dev) fuel e t.cells rs ts) is session.1)),
+            let first = opens k is in
+            each_call rs ts (Opens find dev) first.0 t.cells k first.1 first.2 fit (subst (λ e. Continues (translation dev) fuel e t.cells rs ts) is session.1)),
       )
 
 -- ---- where all calls are legal
@@ -338,9 +344,9 @@ module _ (find : Finder) (dev : Development) (fuel : ℕ) where
   legal_now before c cs us more OutOfFuel legal = legal
 
   -- what each end has, the last one has
-  module _ (P : End → Type 0) (Q : Request → Type 0) (of_call : (r : Request) (m : List ℤ) (t : Told) → Q r → Answers (translation dev) fuel r m t → CallEndsWell dev fuel r m t → P t.end) where
+  module _ (P : End → Type 0) (Q : Request → Type 0) (of_call : (before : Abstract → Type 0) (r : Request) (m : List ℤ) (t : Told) → Q r → Answers (translation dev) fuel r m t → CallEndsWell find dev fuel before r m t → P t.end) where
     of_last : (e : End) (before : Abstract → Type 0) (m : List ℤ) (rs : List Request) (ts : List Told) → P e → All Q rs → Continues (translation dev) fuel e m rs ts →
-        ((n : ℕ) → e ≡ Done n → LegalFrom find dev before (map (call_of dev) rs) (replied dev rs ts)) → EachLegalCall find dev (CallEndsWell dev fuel) before m rs ts → P (last_end e ts)
+        ((n : ℕ) → e ≡ Done n → LegalFrom find dev before (map (call_of dev) rs) (replied dev rs ts)) → EachLegalCall find dev (CallEndsWell find dev fuel) before m rs ts → P (last_end e ts)
     of_last e before m rs [] h all goes legal each = h
     of_last (Done n) before m [] (t ∷ ts) h all goes legal each = absurd goes
     of_last (Trapped kind place n) before m rs (t ∷ ts) h all goes legal each = absurd goes
@@ -352,7 +358,7 @@ module _ (find : Finder) (dev : Development) (fuel : ℕ) where
         let more : List (List MathValue) = replied dev rs ts in
         let here : LegalFrom find dev before (c ∷ cs) (done_or t.end (us ∷ more) []) = legal n refl in
         let well = each (legal_now before c cs us more t.end here) in
-        of_last t.end (After find dev before c us) t.cells rs ts (of_call r m t (All-head Q r rs all) goes.0 well.0) (All-tail Q r rs all) goes.1
+        of_last t.end (After find dev before c us) t.cells rs ts (of_call before r m t (All-head Q r rs all) goes.0 well.0) (All-tail Q r rs all) goes.1
         (λ k is. (subst (λ e. LegalFrom find dev before (c ∷ cs) (done_or e (us ∷ more) [])) is here).1) well.1
 
 untrapped_status : (e : End) → IsUntrapped e → status_of e ≡ TrappedStatus → ⊥
@@ -372,14 +378,14 @@ module _ (fuel : ℕ) (find : Finder) (dev : Development) where
   session_untrapped rs [] fit legal session well e = absurd session
   session_untrapped rs (t ∷ ts) fit legal session well e =
       untrapped_status (last_end t.end ts)
-      (of_last find dev fuel IsUntrapped (Fits dev) (λ r m told fits answers ends. ends.untrapped) t.end (Opens find dev) t.cells rs ts well.0.untrapped fit session.1 (λ n is. legal) well.1) e
+      (of_last find dev fuel IsUntrapped (Fits dev) (λ before r m told fits answers ends. ends.untrapped) t.end (Opens find dev) t.cells rs ts well.0.untrapped fit session.1 (λ n is. legal) well.1) e
 
   session_done : length (translation dev).code ≤ fuel → (rs : List Request) (tolds : List Told) → RunNoLoop dev rs → AreLegal find dev rs tolds → Session (translation dev) fuel rs tolds → LegalCallsEndWell find dev fuel rs tolds → session_status tolds ≡ DoneStatus
   session_done enough rs [] none legal session well = absurd session
   session_done enough rs (t ∷ ts) none legal session well =
       done_status (last_end t.end ts)
       (of_last find dev fuel (λ e. (n : ℕ) × (e ≡ Done n)) (NoLoop dev)
-      (λ r m told no_loop answers ends.
+      (λ before r m told no_loop answers ends.
       ends.in_time no_loop (through (length (operation_code dev (body_at dev (last dev) r.op))) (length (translation dev).code) fuel (operation_within dev r.op answers.entry answers.named) enough))
       t.end (Opens find dev) t.cells rs ts (well.0.in_time none.init (through (length (init_code dev)) (length (translation dev).code) fuel (init_within dev) enough)) none.calls session.1 (λ n is. legal) well.1)
 
@@ -387,8 +393,8 @@ module _ (fuel : ℕ) (find : Finder) (dev : Development) where
 pub legal_calls_are_done : LegalCallsAreDone
 legal_calls_are_done files project calls fuel ready tolds session find law =
     let dev = ready.dev in
-    let lawful : IsLawful dev = (project_development true files project dev ready.scripts ready.reads ready.finished.room).lawful in
-    let b0 : IsB0Development dev = project_in_b0 true files project dev ready.scripts ready.reads ready.finished.room ready.finished.complete in
+    let lawful : IsLawful dev = (project_development true files project dev ready.scripts ready.reads ready.finished.proved.within).lawful in
+    let b0 : IsB0Development dev = project_in_b0 true files project dev ready.scripts ready.reads ready.finished.proved.within ready.finished.complete in
     let follows : Follows find dev (translation dev) = project_follows files project dev ready.scripts ready.reads ready.finished find law in
     let ends : EndsWithoutLoops find dev (translation dev) = projects_end files project dev ready.scripts ready.reads ready.finished find law in
     let fit = requests_fit dev lawful b0 (kept_lines ready.asks.text) ready.requests ready.asks.script in

@@ -1,3 +1,4 @@
+pub mod Rooms
 pub mod Following
 pub mod ExchangeValid
 pub mod OneAnswer

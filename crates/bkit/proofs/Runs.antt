@@ -22,6 +22,8 @@ use Rattle.bkit.proofs.Legal.{projects_end, legal_calls_are_done}
 pub writes_run : (files : Files) (project calls : List ℕ) (fuel : ℕ) (before after : Option (List ℕ)) (status : Status) → WritesWork files (run_task project calls fuel) before after status → WritesRun files project calls fuel before after status
 writes_run files project calls fuel before after status w =
     let done : IsDoneOn files project (run_task project calls fuel) status w.text = w.work in
+    let played = done.given.played in
+    let ready : IsReady files project calls = record { dev = done.dev; scripts = done.scripts; reads = done.reads; finished = done.given.finished; short = done.given.short; requests = played.requests; asks = played.asks } in
     record {
       text = w.text;
       run = record {
@@ -32,6 +34,7 @@ writes_run files project calls fuel before after status w =
         run = done.given;
         follows = project_follows files project done.dev done.scripts done.reads done.given.finished;
         ends = projects_end files project done.dev done.scripts done.reads done.given.finished;
+        legal = λ find law. (legal_calls_are_done files project calls fuel ready played.tolds played.session find law).0;
       };
       appended = w.appended;
     }

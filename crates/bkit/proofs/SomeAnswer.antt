@@ -49,18 +49,19 @@ use Rattle.bk_verbs.specs.declared.status.Status.TheVariants.{Done, Usage as Usa
 use Rattle.bk_verbs.specs.declared.stop.Stop.{Stop}
 use Rattle.bk_verbs.specs.declared.stop.Stop.TheVariants.{Usage, Missing, Limit, Unproved, Incomplete, BadCalls, BadImage}
 use Rattle.bk_words.specs.Tasks.{Task, check_task, status_task, po_task, code_task, build_task, run_task, exec_task, sample_task, Asks, has_proofs}
-use Rattle.bk_level.specs.VerdictLaws.{HasRoom}
-use Rattle.bk_verbs.specs.Project.{IsTold, AreTold, IsToldAsBytes, HoldBytes, HasRoomFor, HaveRoom, files_of, fetched, ReadsComponents, ReadsProject, IsFinished, IsWithinCodeLimits}
+use Rattle.bk_verbs.specs.Project.{IsTold, AreTold, IsToldAsBytes, HoldBytes, files_of, fetched, ReadsComponents, ReadsProject, IsFinished, IsWithinCodeLimits}
 use Rattle.bk_texts.specs.Check.{check_text}
 use Rattle.bk_texts.specs.Table.{table_text}
 use Rattle.bk_texts.specs.Obligations.{obligations_text}
 use Rattle.bk_texts.specs.Listing.{listing}
 use Rattle.bk_verbs.specs.Session.{session_status}
 use Rattle.bk_verbs.specs.Work.{IsPlayed, IsGiven, IsDoneOn, IsSampled, IsWork}
-use Rattle.bk_verbs.specs.Samples.{sample_files, sample_project, sample_table, sample_run, task_files, last_line}
+use Rattle.bk_verbs.specs.Samples.{sample_files, sample_project, sample_run, last_line}
 use Rattle.bk_verbs.specs.Stops.{StopsAtFile, StopsAtFiles, StopsAtTexts, StopsAtProject, StopsPastLimits, StopsAtProof, StopsPastCode, StopsAtCalls, StopsAtCallScript, StopsRead, StopsAtWork, StopsTask, stop_of_refusal, stop_of_proofs, status_of_stop, stop_text}
 use Rattle.bkit.specs.Laws.{HasSomeAnswer}
 use Rattle.bkit.proofs.Following.{project_development, project_in_b0}
+use Rattle.bk_room.specs.Laws.{HasRoomFor}
+use Rattle.bkit.proofs.Rooms.{scripts_have_room}
 use Rattle.bkit.proofs.Possible.{Possible, certain, and_then, decide}
 use Rattle.bkit.proofs.SomeImage.{some_verdict}
 use Rattle.bkit.proofs.SomeTable.{some_table}
@@ -198,19 +199,19 @@ limits project dev = by (first_too_large (obligations dev)) refl
       ]
     ]
 
-module _ (project : List ℕ) (dev : Development) (scripts : List RawScript) (room : PassNoLimit (obligations dev) → HasRoom dev × All (HasRoomFor dev) scripts) where
+module _ (project : List ℕ) (dev : Development) (scripts : List RawScript) (room : PassNoLimit (obligations dev) → All (HasRoomFor dev) scripts) where
   proof : Possible (Looks (StopsAtProof project dev scripts) (IsFinished dev scripts))
   proof = by (is_complete dev) refl
     where
       rows_of : (complete : is_complete dev ≡ true) (within : PassNoLimit (obligations dev)) (rows : List Row) → HasRows dev scripts rows → (o : Option Row) → first_open rows ≡ o → Looks (StopsAtProof project dev scripts) (IsFinished dev scripts)
       rows_of complete within rows are (Some row) e = inl (Unproved row.name, inr (complete, inr (row.name, refl, within, (rows, row, are, e, refl))))
-      rows_of complete within rows are None e = inr (record { complete = complete; room = (room within).0; proved = record { within = within; proved = closed_tables_prove dev scripts rows are e } })
+      rows_of complete within rows are None e = inr (record { complete = complete; proved = record { within = within; proved = closed_tables_prove dev scripts rows are e } })
 
       by : (b : Bool) → is_complete dev ≡ b → Possible (Looks (StopsAtProof project dev scripts) (IsFinished dev scripts))
       by false e = certain (inl (Incomplete (level_at dev (last dev)).name, inl (refl, e)))
       by true e = elim (limits project dev) [
         | inl s ↦ certain (inl (s.0, inr (e, inl s.1)))
-        | inr within ↦ and_then (some_table dev scripts (room within).1) (λ t. certain (rows_of e within t.0 t.1 (first_open t.0) refl))
+        | inr within ↦ and_then (some_table dev scripts (room within)) (λ t. certain (rows_of e within t.0 t.1 (first_open t.0) refl))
       ]
 
 -- ---- the code
@@ -286,14 +287,14 @@ module _ (files : Files) (project : List ℕ) (task : Task) where
     ])
   ])
 
-module _ (files : Files) (room : HaveRoom files) where
+module _ (files : Files) where
   check_answers : (project : List ℕ) → Possible (Answers files (check_task project))
   check_answers project = after_reading files project (check_task project) (λ dev scripts r. certain (inr (Done, check_text dev, (refl, refl))))
 
   status_answers : (project : List ℕ) → Possible (Answers files (status_task project))
   status_answers project = after_reading files project (status_task project) (λ dev scripts r. elim (limits project dev) [
     | inl s ↦ certain (inl s)
-    | inr within ↦ and_then (some_table dev scripts (room project dev scripts r within).1) (λ t. certain (inr (Done, table_text t.0, (refl, record { within = within; rows = t.0; are = t.1; text_is = refl }))))
+    | inr within ↦ and_then (some_table dev scripts (scripts_have_room true files project dev scripts r within)) (λ t. certain (inr (Done, table_text t.0, (refl, record { within = within; rows = t.0; are = t.1; text_is = refl }))))
   ])
 
   po_answers : (project : List ℕ) → Possible (Answers files (po_task project))
@@ -313,12 +314,12 @@ module _ (files : Files) (room : HaveRoom files) where
       ])
 
   -- the translation of what is read passes the loader's checks
-  loadable : (with_proofs : Bool) (project : List ℕ) (dev : Development) (scripts : List RawScript) → ReadsProject with_proofs files project dev scripts → HasRoom dev → is_complete dev ≡ true → IsWithinCodeLimits (translation dev) → IsLoadable (translation dev)
-  loadable with_proofs project dev scripts r has complete w =
-      translation_loads dev (project_development with_proofs files project dev scripts r has).lawful (project_in_b0 with_proofs files project dev scripts r has complete) w
+  loadable : (project : List ℕ) (dev : Development) (scripts : List RawScript) → ReadsProject true files project dev scripts → IsFinished dev scripts → IsWithinCodeLimits (translation dev) → IsLoadable (translation dev)
+  loadable project dev scripts r finished w =
+      translation_loads dev (project_development true files project dev scripts r finished.proved.within).lawful (project_in_b0 true files project dev scripts r finished.proved.within finished.complete) w
 
   build_answers : (project : List ℕ) → Possible (Answers files (build_task project))
-  build_answers project = after_reading files project (build_task project) (λ dev scripts r. and_then (proof project dev scripts (room project dev scripts r)) (λ p. elim p [
+  build_answers project = after_reading files project (build_task project) (λ dev scripts r. and_then (proof project dev scripts (scripts_have_room true files project dev scripts r)) (λ p. elim p [
     | inl s ↦ certain (inl (s.0, inl s.1))
     | inr finished ↦ and_then (code project (translation dev)) (λ c. elim c [
       | inl s ↦ certain (inl (s.0, inr (finished, s.1)))
@@ -330,7 +331,7 @@ module _ (files : Files) (room : HaveRoom files) where
           record {
             finished = finished;
             short = short;
-            encodes = record { loadable = loadable true project dev scripts r finished.room finished.complete short; spelled = short.spelled; is = refl };
+            encodes = record { loadable = loadable project dev scripts r finished short; spelled = short.spelled; is = refl };
           },
         ),
       ))
@@ -338,7 +339,7 @@ module _ (files : Files) (room : HaveRoom files) where
   ]))
 
   run_answers : (project calls : List ℕ) (fuel : ℕ) → Possible (Answers files (run_task project calls fuel))
-  run_answers project calls fuel = after_reading files project (run_task project calls fuel) (λ dev scripts r. and_then (proof project dev scripts (room project dev scripts r)) (λ p. elim p [
+  run_answers project calls fuel = after_reading files project (run_task project calls fuel) (λ dev scripts r. and_then (proof project dev scripts (scripts_have_room true files project dev scripts r)) (λ p. elim p [
     | inl s ↦ certain (inl (s.0, inl s.1))
     | inr finished ↦ with_calls dev scripts r finished (file files calls)
   ]))
@@ -353,7 +354,7 @@ module _ (files : Files) (room : HaveRoom files) where
       with_calls dev scripts r finished (inl s) = certain (inl (s.0, inr (finished, inl s.1)))
       with_calls dev scripts r finished (inr t) = and_then (code project (translation dev)) (λ c. elim c [
         | inl s ↦ certain (inl (s.0, inr (finished, inr (t.0, t.1, inl s.1))))
-        | inr short ↦ elim (played files calls fuel (translation dev) (loadable_is_checked (translation dev) (loadable true project dev scripts r finished.room finished.complete short))) [
+        | inr short ↦ elim (played files calls fuel (translation dev) (loadable_is_checked (translation dev) (loadable project dev scripts r finished short))) [
           | inl s ↦ certain (inl (s.0, inr (finished, script_stops dev s.0 short s.1)))
           | inr p ↦ certain (inr (p.0, p.1, record { finished = finished; short = short; played = p.2 }))
         ]
@@ -380,13 +381,13 @@ module _ (files : Files) (bytes : HoldBytes files) where
   ]
 
 -- ---- samples
-module _ (variables : ℕ) (room : HaveRoom (sample_files variables)) where
+module _ (variables : ℕ) where
   abbrev own : Files
   own = sample_files variables
 
   -- a run that is done has a status table
   with_table : (status : Status) (text : List ℕ) → IsDoneOn own sample_project sample_run status text → Possible ((result : List ℕ) × IsSampled variables status result)
-  with_table status text run = and_then (some_table run.dev run.scripts (room sample_project run.dev run.scripts run.reads run.given.finished.proved.within).1) (λ t. certain (
+  with_table status text run = and_then (some_table run.dev run.scripts (scripts_have_room true own sample_project run.dev run.scripts run.reads run.given.finished.proved.within)) (λ t. certain (
     last_line (table_text t.0) ++ last_line text,
     record {
       table = table_text t.0;
@@ -398,26 +399,26 @@ module _ (variables : ℕ) (room : HaveRoom (sample_files variables)) where
   ))
 
   sample_answers : (files : Files) → Possible (Answers files (sample_task variables))
-  sample_answers files = and_then (run_answers own room sample_project (codes "sample.calls") 1000000) (λ a. elim a [
+  sample_answers files = and_then (run_answers own sample_project (codes "sample.calls") 1000000) (λ a. elim a [
     | inl s ↦ certain (inl s)
     | inr w ↦ and_then (with_table w.0 w.1 w.2) (λ t. certain (inr (w.0, t.0, t.1)))
   ])
 
 -- ---- all tasks
-task_answers : (files : Files) → HoldBytes files → (task : Task) → HaveRoom (task_files files task) → Possible (Answers files task)
-task_answers files bytes (check_task project) room = check_answers files room project
-task_answers files bytes (status_task project) room = status_answers files room project
-task_answers files bytes (po_task project) room = po_answers files room project
-task_answers files bytes (code_task project) room = code_answers files room project
-task_answers files bytes (build_task project) room = build_answers files room project
-task_answers files bytes (run_task project calls fuel) room = run_answers files room project calls fuel
-task_answers files bytes (exec_task image calls fuel) room = exec_answers files bytes image calls fuel
-task_answers files bytes (sample_task variables) room = sample_answers variables room files
+task_answers : (files : Files) → HoldBytes files → (task : Task) → Possible (Answers files task)
+task_answers files bytes (check_task project) = check_answers files project
+task_answers files bytes (status_task project) = status_answers files project
+task_answers files bytes (po_task project) = po_answers files project
+task_answers files bytes (code_task project) = code_answers files project
+task_answers files bytes (build_task project) = build_answers files project
+task_answers files bytes (run_task project calls fuel) = run_answers files project calls fuel
+task_answers files bytes (exec_task image calls fuel) = exec_answers files bytes image calls fuel
+task_answers files bytes (sample_task variables) = sample_answers variables files
 
 -- ---- words
 pub some_answer : HasSomeAnswer
-some_answer files words bytes room never = decide ((task : Task) × Asks words task) (λ d. elim d [
-  | inl a ↦ task_answers files bytes a.0 (room a.0 a.1) (λ o. elim o [
+some_answer files words bytes never = decide ((task : Task) × Asks words task) (λ d. elim d [
+  | inl a ↦ task_answers files bytes a.0 (λ o. elim o [
     | inl s ↦ never (status_of_stop s.0) (stop_text s.0) (inl (s.0, inr (a.0, a.1, s.1), refl, refl))
     | inr w ↦ never w.0 w.1 (inr (a.0, a.1, w.2))
   ])

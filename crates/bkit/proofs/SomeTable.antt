@@ -28,7 +28,7 @@ use Rattle.bk_status.specs.declared.state.State.{State}
 use Rattle.bk_status.specs.declared.state.State.TheVariants.{Obvious, Proved, NoScript, BadStep, Open, Extra}
 use Rattle.bk_status.specs.declared.table.Row.{Row}
 use Rattle.bk_status.specs.Rows.{IsRowOf, HasRows}
-use Rattle.bk_verbs.specs.Project.{HasRoomFor}
+use Rattle.bk_room.specs.Laws.{HasRoomFor}
 use Rattle.bkit.proofs.Possible.{Possible, certain, and_then, decide}
 
 -- ---- the rules that a script stands for

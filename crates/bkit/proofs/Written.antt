@@ -21,8 +21,8 @@ module _ (files : Files) (words : List (List ℕ)) (task : Task) (asks : Asks wo
       subst (λ x. WroteFront x old new) ((one_answer files words Done status bytes.items text (answer_of_work files words task Done bytes.items asks p) answer).1) front
   front_of_answer (Ended bytes ended) p can front =
       subst (λ x. WroteFront x old new) ((one_answer files words ended status bytes.items text (answer_of_work files words task ended bytes.items asks p) answer).1) front
-  front_of_answer (Play image calls fuel) p can front =
-      let some = some_session image can.checked.depths fuel (map request_of calls.items) can.checked.numbered can.checked.fitting can.asked in
-      let played = transcript image fuel (map request_of calls.items) some.0 in
+  front_of_answer (Play player calls fuel) p can front =
+      let some = some_session player.image can.checked.depths fuel (map request_of calls.items) can.checked.numbered can.checked.fitting can.asked in
+      let played = transcript player.image fuel (map request_of calls.items) some.0 in
       let work = p some.0 some.1 in
       subst (λ x. WroteFront x old new) ((one_answer files words (session_status some.0) status played text (answer_of_work files words task (session_status some.0) played asks work) answer).1) (front some.0 some.1)

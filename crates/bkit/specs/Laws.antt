@@ -10,11 +10,10 @@ use Rattle.bk_sim.specs.Within.{EndsWithoutLoops}
 use Rattle.bk_raw.specs.ScriptTree.{RawScript}
 use Rattle.bk_verbs.specs.declared.status.Status.{Status}
 use Rattle.bk_verbs.specs.declared.status.Status.TheVariants.{Done, Trapped}
-use Rattle.bk_words.specs.Tasks.{Task, build_task, run_task, exec_task, Asks}
+use Rattle.bk_words.specs.Tasks.{build_task, run_task, exec_task, Asks}
 use Rattle.bkit.specs.Legal.{AreLegal, RunNoLoop, LegalCallsEndWell}
-use Rattle.bk_verbs.specs.Project.{HoldBytes, HaveRoom, ReadsProject, IsFinished}
+use Rattle.bk_verbs.specs.Project.{HoldBytes, ReadsProject, IsFinished}
 use Rattle.bkit.specs.Run.{IsReady}
-use Rattle.bk_verbs.specs.Samples.{task_files}
 use Rattle.bk_verbs.specs.Session.{session_status}
 use Rattle.bkit.specs.Answer.{IsAnswer}
 
@@ -24,12 +23,10 @@ HasOneAnswer =
     (files : Files) (words : List (List ℕ)) (status other : Status) (text other_text : List ℕ) → IsAnswer files words status text →
     IsAnswer files words other other_text → (status ≡ other) × (text ≡ other_text)
 
--- and where files hold bytes it cannot be that they have none, as long as 32 bits number the variables of each project that is read and whose
--- obligations pass no limit, and the names that its scripts bring: among the told files, or where the words ask for a sample among its own
+-- and where files hold bytes it cannot be that they have none
 abbrev pub HasSomeAnswer : Type 0
 HasSomeAnswer =
-    (files : Files) (words : List (List ℕ)) → HoldBytes files → ((task : Task) → Asks words task → HaveRoom (task_files files task)) →
-    ((status : Status) (text : List ℕ) → IsAnswer files words status text → ⊥) → ⊥
+    (files : Files) (words : List (List ℕ)) → HoldBytes files → ((status : Status) (text : List ℕ) → IsAnswer files words status text → ⊥) → ⊥
 
 -- where `build` is done, `exec` on a file with the bytes that it writes has, with the same call script and fuel, the answer of `run`; the
 -- bytes must be few enough for a file
@@ -48,8 +45,8 @@ ProjectsEnd =
     (files : Files) (project : List ℕ) (dev : Development) (scripts : List RawScript) → ReadsProject true files project dev scripts → IsFinished dev scripts →
     (find : Finder) → IsSearch find → EndsWithoutLoops find dev (translation dev)
 
--- of a session of a project the initialisation, and each call that is legal after those before it, does not trap, out of fuel would end
--- with more, and without WHILE is done with a fuel of at least the length of its code; and where all are legal none traps, and where no
+-- of a session of a project the initialisation, and each call that is legal after those before it, leaves cells that are linked to a state
+-- which the machine reaches with the replies, does not trap, out of fuel would end with more, and without WHILE is done with a fuel of at least the length of its code; and where all are legal none traps, and where no
 -- WHILE is run all are done with one of at least the length of the whole code
 abbrev pub LegalCallsAreDone : Type 0
 LegalCallsAreDone =

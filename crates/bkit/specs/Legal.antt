@@ -12,6 +12,7 @@ use Rattle.bk_dev.specs.Machine.{Abstract, Opens, Call, Pre, After, Legal}
 use Rattle.bk_b0.specs.Translation.{init_code, operation_code, translation}
 use Rattle.bk_statements.specs.Within.{HasNoLoop}
 use Rattle.bk_sim.specs.Follows.{IsEntry, as_values}
+use Rattle.bk_sim.specs.Shows.{Linked}
 
 -- the machine's call that a request asks for
 abbrev pub call_of : Development → Request → Call
@@ -71,29 +72,37 @@ abbrev pub CallEndsInTime : Development → ℕ → Request → List ℤ → Tol
 CallEndsInTime dev fuel request cells told =
     HasNoLoop (body_at dev (last dev) request.op).sub → IsDoneWithin (length (operation_code dev (body_at dev (last dev) request.op))) fuel told.end
 
--- a call on these cells does not trap, out of fuel it would be done with more, and without WHILE it is done with a fuel of at least the
--- length of its code
-pub record CallEndsWell (dev : Development) (fuel : ℕ) (request : Request) (cells : List ℤ) (told : Told) : Type 0 where
+-- what is done leaves cells that are linked to one of these states of the machine
+abbrev pub LeavesLinked : Finder → Development → (Abstract → Type 0) → Told → Type 0
+LeavesLinked find dev states told = (n : ℕ) → told.end ≡ Done n → (a : Abstract) × states a × Linked find dev a told.cells
+
+-- a call on these cells, before which the machine may be in these states: where it is done, the machine steps from one of them, with the
+-- replies that are told, to a state that is linked to the cells; it does not trap, out of fuel it would be done with more, and without
+-- WHILE it is done with a fuel of at least the length of its code
+pub record CallEndsWell (find : Finder) (dev : Development) (fuel : ℕ) (before : Abstract → Type 0) (request : Request) (cells : List ℤ) (told : Told) : Type 0 where
+  pub answers : LeavesLinked find dev (After find dev before (call_of dev request) (reply_of dev request told)) told
   pub untrapped : IsUntrapped told.end
   pub more : CallWouldEnd (translation dev) fuel request cells told
   pub in_time : CallEndsInTime dev fuel request cells told
 
--- so is it of the initialisation
-pub record InitialisationEndsWell (dev : Development) (fuel : ℕ) (told : Told) : Type 0 where
+-- so is it of the initialisation, in which the machine opens
+pub record InitialisationEndsWell (find : Finder) (dev : Development) (fuel : ℕ) (told : Told) : Type 0 where
+  pub opens : LeavesLinked find dev (Opens find dev) told
   pub untrapped : IsUntrapped told.end
   pub more : WouldEnd (translation dev) fuel (first_start (translation dev)) told.end
   pub in_time : HasNoLoop (level_at dev (last dev)).init → IsDoneWithin (length (init_code dev)) fuel told.end
 
--- call by call: where a call's precondition is true in every state of before, Holds is so of it, on the cells that the one before it
--- left, and so on from the states that it steps to with its replies; behind a call that is not legal nothing is said, and behind one
--- that is not done nothing is told
-abbrev pub EachLegalCall : Finder → Development → (Request → List ℤ → Told → Type 0) → (Abstract → Type 0) → List ℤ → List Request → List Told → Type 0
+-- call by call: where a call's precondition is true in every state of before, Holds is so of it, from these states and on the cells that
+-- the one before it left, and so on from the states that it steps to with its replies; behind a call that is not legal nothing is said, and
+-- behind one that is not done nothing is told
+abbrev pub EachLegalCall : Finder → Development → ((Abstract → Type 0) → Request → List ℤ → Told → Type 0) → (Abstract → Type 0) → List ℤ → List Request → List Told → Type 0
 EachLegalCall find dev Holds before cells (request ∷ requests) (told ∷ tolds) =
     ((a : Abstract) → before a → Pre find dev (call_of dev request) a) →
-    Holds request cells told × EachLegalCall find dev Holds (After find dev before (call_of dev request) (reply_of dev request told)) told.cells requests tolds
+    Holds before request cells told × EachLegalCall find dev Holds (After find dev before (call_of dev request) (reply_of dev request told)) told.cells requests tolds
 EachLegalCall find dev Holds before cells _ _ = Unit {0}
 
--- the initialisation ends well, and so does each call that is legal after those before it, whatever comes behind it
+-- the initialisation ends well, and so does each call that is legal after those before it, whatever comes behind it: up to the first call
+-- whose precondition may be false the replies are those of a run of the machine
 abbrev pub LegalCallsEndWell : Finder → Development → ℕ → List Request → List Told → Type 0
 LegalCallsEndWell find dev fuel requests [] = Unit {0}
-LegalCallsEndWell find dev fuel requests (told ∷ tolds) = InitialisationEndsWell dev fuel told × EachLegalCall find dev (CallEndsWell dev fuel) (Opens find dev) told.cells requests tolds
+LegalCallsEndWell find dev fuel requests (told ∷ tolds) = InitialisationEndsWell find dev fuel told × EachLegalCall find dev (CallEndsWell find dev fuel) (Opens find dev) told.cells requests tolds

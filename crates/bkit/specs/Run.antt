@@ -40,6 +40,9 @@ pub record FollowsRun (files : Files) (project calls : List ℕ) (fuel : ℕ) (s
   -- for every search: the initialisation and each legal call, where no WHILE stands in them, are done with a fuel equal to the length
   -- of their code, Ret included, and with every larger one
   pub ends : (find : Finder) → IsSearch find → EndsWithoutLoops find dev (translation dev)
+  -- for every search: so it is of the session that the text tells, its replies and its ends, call by call up to the first that may not be
+  -- legal
+  pub legal : (find : Finder) → IsSearch find → LegalCallsEndWell find dev fuel run.played.requests run.played.tolds
 
 -- what is written is what had been written, and then the text of the run
 pub record WritesRun (files : Files) (project calls : List ℕ) (fuel : ℕ) (old new : Option (List ℕ)) (status : Status) : Type 0 where
@@ -48,8 +51,8 @@ pub record WritesRun (files : Files) (project calls : List ℕ) (fuel : ℕ) (ol
   pub appended : new ≡ written_with old text
 
 -- for every search: where no check stops the run, the initialisation, and each call of its script that is legal after those before it
--- with the replies of the session, does not trap, out of fuel would end with more, and without WHILE is done with a fuel of at least the
--- length of its code; and where all are legal none traps, and where no WHILE is run all are done with one of at least the length of the
+-- with the replies of the session, replies as the machine does, does not trap, out of fuel would end with more, and without WHILE is done
+-- with a fuel of at least the length of its code; and where all are legal none traps, and where no WHILE is run all are done with one of at least the length of the
 -- whole code
 abbrev pub IsDoneWhereLegal : Files → (project calls : List ℕ) (fuel : ℕ) → Status → Type 0
 IsDoneWhereLegal files project calls fuel status =

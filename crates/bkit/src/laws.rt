@@ -8,7 +8,7 @@ pub fn answers_are_unique()
     ensures { HasOneAnswer }
 {}
 
-/// It cannot be that the words and the told files have no answer, as long as 32 bits number what is read.
+/// It cannot be that the words and the told files have no answer.
 pub fn answers_exist()
     ensures { HasSomeAnswer }
 {}
@@ -23,8 +23,8 @@ pub fn proved_projects_end()
     ensures { ProjectsEnd }
 {}
 
-/// In a project's session the initialisation, and each call that is legal after those before it, does not trap, would end with more
-/// fuel, and without a loop is done with the length of its code; where all are legal and no loop is run, all are done with enough.
+/// In a project's session the initialisation, and each call that is legal after those before it, replies as the machine does, does not
+/// trap, would end with more fuel, and without a loop is done with the length of its code; where all are legal and no loop is run, all are done with enough.
 pub fn legal_calls_are_done()
     ensures { LegalCallsAreDone }
 {}

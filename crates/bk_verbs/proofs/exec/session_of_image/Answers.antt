@@ -3,8 +3,14 @@ use Rattle.bk_io.specs.Files.{Files}
 use Rattle.bk_words.specs.Tasks.{exec_task}
 use Rattle.bk_verbs.specs.Stops.{IsOutside, StopsTask}
 use Rattle.bk_verbs.proofs.Stopping.{handed_on, or_else_stops, at_image_file, at_loading, at_call_script}
-use Rattle.std.proofs.Common.{map, arith}
+use Rattle.std.proofs.Common.{map, arith, ap, All}
 use Rattle.bk_code.proofs.DeadCode.{loadable_is_checked}
+use Rattle.bk_code.specs.declared.image.Image.{Image}
+use Rattle.bk_code.specs.Checks.{IsChecked}
+use Rattle.bk_code.specs.Laws.{IsRequest}
+use Rattle.bk_code.specs.Session.{Session}
+use Rattle.bk_vm.specs.State.{State, fresh}
+use Rattle.bk_calls.specs.Transcript.{transcript}
 use Rattle.bk_calls.specs.Script.{request_of, IsScript}
 use Rattle.std.proofs.lemmas.List.{length-map}
 use Rattle.bk_io.specs.Bytes.{AreBytes}
@@ -48,6 +54,10 @@ returns-in_err-calls-clause-cause g c =
 pub calls_of-requires-clause-few_operations : goal.calls_of-requires-clause-few_operations
 calls_of-requires-clause-few_operations g c = omega (arith, c.in_ok-loaded.ensures.ok.spelled.fits.few_ops)
 
+-- the player runs the image that was loaded
+loaded_image : (p : State) (image : Image) → p ≡ fresh image → p.image ≡ image
+loaded_image p image e = ap (λ s. s.image) e
+
 pub returns-clause-told : goal.returns-clause-told
 returns-clause-told g c files told tolds session = record {
   bytes = c.as_bytes.result.now;
@@ -63,16 +73,20 @@ returns-clause-told g c files told tolds session = record {
       few = rw (length-map c.in_ok-calls.calls.items request_of) c.in_ok-calls.ensures.few;
     };
     tolds = tolds;
-    session = session;
+    session = subst (λ i. Session i c.args.fuel (map request_of c.in_ok-calls.calls.items) tolds) (loaded_image c.in_ok-player.player c.in_ok-loaded.loaded c.in_ok-player.ensures) session;
     last = refl;
-    transcript_is = refl;
+    transcript_is = ap (λ i. transcript i c.args.fuel (map request_of c.in_ok-calls.calls.items) tolds) (loaded_image c.in_ok-player.player c.in_ok-loaded.loaded c.in_ok-player.ensures);
   };
 }
 
+pub of_image-requires : goal.of_image-requires
+of_image-requires g c = loadable_is_checked c.in_ok-loaded.loaded c.in_ok-loaded.ensures.ok.loadable
+
 pub returns-clause-playable : goal.returns-clause-playable
 returns-clause-playable g c = record {
-  checked = loadable_is_checked c.in_ok-loaded.loaded c.in_ok-loaded.ensures.ok.loadable;
-  asked = c.in_ok-calls.ensures.requests;
+  fresh = ap (λ s. s.started) c.in_ok-player.ensures;
+  checked = subst IsChecked (sym (loaded_image c.in_ok-player.player c.in_ok-loaded.loaded c.in_ok-player.ensures)) (loadable_is_checked c.in_ok-loaded.loaded c.in_ok-loaded.ensures.ok.loadable);
+  asked = subst (λ i. All (IsRequest i) (map request_of c.in_ok-calls.calls.items)) (sym (loaded_image c.in_ok-player.player c.in_ok-loaded.loaded c.in_ok-player.ensures)) c.in_ok-calls.ensures.requests;
   few = rw (length-map c.in_ok-calls.calls.items request_of) c.in_ok-calls.ensures.few;
   small = c.requires.small;
 }

@@ -1,6 +1,5 @@
 use Rattle.std.proofs.Common.{◌⊎◌, inl, inr}
 use Rattle.bk_verbs.specs.Stops.{IsOutside, StopsAtProof}
-use Rattle.bk_verbs.proofs.Projects.{room_of}
 use Rattle.bk_verbs.proofs.Stopping.{handed_on, widen, widen_ok, or_else_stops}
 use Rattle.bk_verbs.proofs.proof.proved_table.Goals as goal
 
@@ -19,6 +18,5 @@ returns-clause-cause c =
 
 pub returns-clause-ok : goal.returns-clause-ok
 returns-clause-ok c =
-    let dev = c.args.project.now.development in
     widen_ok c.closed_table.result _ _ c.closed_table.ensures.ok
-    (λ proved. record { complete = c.in_ok-check_complete.ensures.ok; room = room_of dev c.facts.ensures; proved = proved })
+    (λ proved. record { complete = c.in_ok-check_complete.ensures.ok; proved = proved })

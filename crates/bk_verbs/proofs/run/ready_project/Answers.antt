@@ -3,7 +3,9 @@ use Rattle.bk_io.specs.Files.{Files}
 use Rattle.bk_words.specs.Tasks.{run_task}
 use Rattle.bk_verbs.specs.Stops.{IsOutside, StopsTask}
 use Rattle.bk_verbs.proofs.Stopping.{handed_on, or_else_stops, at_reading, at_read}
-use Rattle.std.proofs.Common.{map}
+use Rattle.std.proofs.Common.{map, ap, sym, All}
+use Rattle.bk_code.specs.Checks.{IsChecked}
+use Rattle.bk_code.specs.Laws.{IsRequest}
 use Rattle.bk_calls.specs.Script.{request_of, IsScript}
 use Rattle.std.proofs.lemmas.List.{length-map}
 use Rattle.bk_code.proofs.DeadCode.{loadable_is_checked}
@@ -59,7 +61,7 @@ returns-clause-ready g c files told = record {
   reads = c.in_ok-read.ensures.told files told;
   finished = c.in_ok-table.ensures.ok;
   table = c.in_ok-table.ensures.rows;
-  image_is = c.in_ok-image.ensures.ok;
+  image_is = ap (λ s. s.image) c.in_ok-player.ensures ∙ c.in_ok-image.ensures.ok;
   short = subst IsWithinCodeLimits c.in_ok-image.ensures.ok c.in_ok-image.ensures.within;
   asks = record {
     text = c.in_ok-text.text.items;
@@ -71,4 +73,13 @@ returns-clause-ready g c files told = record {
 }
 
 pub returns-clause-checked : goal.returns-clause-checked
-returns-clause-checked g c = loadable_is_checked c.in_ok-image.image c.in_ok-image.ensures.loadable
+returns-clause-checked g c = subst IsChecked (sym (ap (λ s. s.image) c.in_ok-player.ensures)) (loadable_is_checked c.in_ok-image.image c.in_ok-image.ensures.loadable)
+
+pub of_project-requires-clause-checked : goal.of_project-requires-clause-checked
+of_project-requires-clause-checked g c = loadable_is_checked c.in_ok-image.image c.in_ok-image.ensures.loadable
+
+pub returns-clause-fresh : goal.returns-clause-fresh
+returns-clause-fresh g c = ap (λ s. s.started) c.in_ok-player.ensures
+
+pub returns-clause-requests : goal.returns-clause-requests
+returns-clause-requests g c = subst (λ i. All (IsRequest i) (map request_of c.in_ok-calls.calls.items)) (sym (ap (λ s. s.image) c.in_ok-player.ensures)) c.in_ok-calls.ensures.requests

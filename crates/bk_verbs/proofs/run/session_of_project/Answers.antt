@@ -39,6 +39,7 @@ returns-clause-told g c files told tolds session =
 
 pub returns-clause-playable : goal.returns-clause-playable
 returns-clause-playable g c = record {
+  fresh = c.in_ok-ready.ensures.fresh;
   checked = c.in_ok-ready.ensures.checked;
   asked = c.in_ok-ready.ensures.requests;
   few = rw (length-map c.in_ok-ready.ready.calls.items request_of) c.in_ok-ready.ensures.few;

@@ -8,7 +8,7 @@ use Rattle.bk_verbs.proofs.session.play_calls.Given as goal
 
 abbrev pub invariant-loop-call : goal.invariant-loop-call
 invariant-loop-call g l =
-    Sofar l.fn.machine.image l.fuel (take l.call-index (map request_of l.calls)) (end_of l.fn.start) l.fn.machine.cells (end_of l.played.end) l.machine.cells l.played.done l.played.steps (g.K.Sink.written l.fn.out) (g.K.Sink.written l.out) ×
-    (l.machine.image ≡ l.fn.machine.image) × (l.machine.started ≡ true) × (l.machine.stopped ≡ is_stop l.played.end) ×
+    Sofar l.fn.player.image l.fuel (take l.call-index (map request_of l.calls)) (end_of l.fn.start) l.fn.player.cells (end_of l.played.end) l.player.cells l.played.done l.played.steps (g.K.Sink.written l.fn.out) (g.K.Sink.written l.out) ×
+    (l.player.image ≡ l.fn.player.image) × (l.player.started ≡ true) × (l.player.stopped ≡ is_stop l.played.end) ×
     (l.played.done ≤ l.call-index) × (l.played.steps ≤ 1099511627776 * l.call-index) ×
-    HasOutputRoom l.machine.image (length l.outs) × IsMadeFor l.machine.image l.line × (g.K.Sink.faults l.fn.out ≤ g.K.Sink.faults l.out)
+    HasOutputRoom l.player.image (length l.outs) × IsMadeFor l.player.image l.line × (g.K.Sink.faults l.fn.out ≤ g.K.Sink.faults l.out)

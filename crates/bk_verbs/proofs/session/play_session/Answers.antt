@@ -11,26 +11,26 @@ use Rattle.bk_verbs.proofs.session.play_session.Goals as goal
 pub returns-in_err-answer-clause-front : goal.returns-in_err-answer-clause-front
 returns-in_err-answer-clause-front g c =
     on_err c.from_residual.result _
-    (front_at_start c.calls_make_a_session.ensures.start c.args.machine.now.image c.args.fuel c.start-start.result c.start-start.new.self.cells c.start-start.ensures.ends (map request_of c.args.calls.now)
+    (front_at_start c.calls_make_a_session.ensures.start c.args.player.now.image c.args.fuel c.start-start.result c.start-start.new.self.cells c.start-start.ensures.ends (map request_of c.args.calls.now)
     (g.K.Sink.written c.args.out.now) (g.K.Sink.written c.answer.new.out)
-    (subst (λ x. WroteFront (reply_text x None (end_of c.start-start.result) []) (g.K.Sink.written c.args.out.now) (g.K.Sink.written c.answer.new.out)) {x = c.image.result.now} {y = c.args.machine.now.image} (search rules) c.in_err-answer.ensures.front))
+    (subst (λ x. WroteFront (reply_text x None (end_of c.start-start.result) []) (g.K.Sink.written c.args.out.now) (g.K.Sink.written c.answer.new.out)) {x = c.image.result.now} {y = c.args.player.now.image} (search rules) c.in_err-answer.ensures.front))
 
 pub returns-in_err-played-clause-front : goal.returns-in_err-played-clause-front
 returns-in_err-played-clause-front g c =
     on_err c.from_residual-in_err-played.result _
-    (front_at_calls c.calls_make_a_session.ensures.start c.args.machine.now.image c.args.fuel c.start-start.result c.start-start.new.self.cells c.start-start.ensures.ends (map request_of c.args.calls.now)
+    (front_at_calls c.calls_make_a_session.ensures.start c.args.player.now.image c.args.fuel c.start-start.result c.start-start.new.self.cells c.start-start.ensures.ends (map request_of c.args.calls.now)
     (g.K.Sink.written c.args.out.now) (g.K.Sink.written c.answer.new.out) (g.K.Sink.written c.play_calls.new.out)
     (search rules)
-    (subst (λ x. PlaysCallsFront x c.args.fuel (map request_of c.args.calls.now) (end_of c.start-start.result) c.start-start.new.self.cells (g.K.Sink.written c.answer.new.out) (g.K.Sink.written c.play_calls.new.out)) {x = c.start-start.new.self.image} {y = c.args.machine.now.image} (search rules) c.in_err-played.ensures.front))
+    (subst (λ x. PlaysCallsFront x c.args.fuel (map request_of c.args.calls.now) (end_of c.start-start.result) c.start-start.new.self.cells (g.K.Sink.written c.answer.new.out) (g.K.Sink.written c.play_calls.new.out)) {x = c.start-start.new.self.image} {y = c.args.player.now.image} (search rules) c.in_err-played.ensures.front))
 
 pub returns-in_err-put_all-clause-front : goal.returns-in_err-put_all-clause-front
 returns-in_err-put_all-clause-front g c =
     on_err c.from_residual-in_err-put_all.result _
-    (front_at_closing c.calls_make_a_session.ensures.start c.args.machine.now.image c.args.fuel c.start-start.result c.start-start.new.self.cells c.start-start.ensures.ends (map request_of c.args.calls.now)
+    (front_at_closing c.calls_make_a_session.ensures.start c.args.player.now.image c.args.fuel c.start-start.result c.start-start.new.self.cells c.start-start.ensures.ends (map request_of c.args.calls.now)
     (end_of c.in_ok-played.played.end) c.in_ok-played.played.done c.in_ok-played.played.steps (g.K.Sink.written c.args.out.now) (g.K.Sink.written c.answer.new.out) (g.K.Sink.written c.play_calls.new.out) (g.K.Sink.written c.put_all.new.sink)
     (search rules)
-    (subst (λ x. PlaysCalls x c.args.fuel (map request_of c.args.calls.now) (end_of c.start-start.result) c.start-start.new.self.cells (end_of c.in_ok-played.played.end) c.in_ok-played.played.done c.in_ok-played.played.steps (g.K.Sink.written c.answer.new.out) (g.K.Sink.written c.play_calls.new.out)) {x = c.start-start.new.self.image} {y = c.args.machine.now.image} (search rules) c.in_ok-played.ensures.ok)
+    (subst (λ x. PlaysCalls x c.args.fuel (map request_of c.args.calls.now) (end_of c.start-start.result) c.start-start.new.self.cells (end_of c.in_ok-played.played.end) c.in_ok-played.played.done c.in_ok-played.played.steps (g.K.Sink.written c.answer.new.out) (g.K.Sink.written c.play_calls.new.out)) {x = c.start-start.new.self.image} {y = c.args.player.now.image} (search rules) c.in_ok-played.ensures.ok)
     (subst (λ x. WroteFront x (g.K.Sink.written c.play_calls.new.out) (g.K.Sink.written c.put_all.new.sink)) {x = c.bytes.result.now} {y = closing_text c.in_ok-played.played.done (steps_of c.args.fuel (end_of c.start-start.result) + c.in_ok-played.played.steps)} (search rules) c.in_err-put_all.ensures.err))
 
 pub returns-clause-ok : goal.returns-clause-ok
-returns-clause-ok g c = plays_of c.calls_make_a_session.ensures.start c.args.machine.now.image c.args.machine.now.image c.start-start.new.self.image c.image.result.now c.args.fuel c.start-start.result c.start-start.new.self.cells (map request_of c.args.calls.now) c.status.result (end_of c.in_ok-played.played.end) c.in_ok-played.played.done c.in_ok-played.played.steps c.steps.result (g.K.Sink.written c.args.out.now) (g.K.Sink.written c.answer.new.out) (g.K.Sink.written c.play_calls.new.out) (g.K.Sink.written c.put_all.new.sink) (search rules) (search rules) (search rules) (search rules) (search rules) (search rules) (search rules) (search rules) (search rules)
+returns-clause-ok g c = plays_of c.calls_make_a_session.ensures.start c.args.player.now.image c.args.player.now.image c.start-start.new.self.image c.image.result.now c.args.fuel c.start-start.result c.start-start.new.self.cells (map request_of c.args.calls.now) c.status.result (end_of c.in_ok-played.played.end) c.in_ok-played.played.done c.in_ok-played.played.steps c.steps.result (g.K.Sink.written c.args.out.now) (g.K.Sink.written c.answer.new.out) (g.K.Sink.written c.play_calls.new.out) (g.K.Sink.written c.put_all.new.sink) (search rules) (search rules) (search rules) (search rules) (search rules) (search rules) (search rules) (search rules) (search rules)

@@ -10,20 +10,20 @@ use Rattle.bk_verbs.specs.Prepared.{IsPrepared, CanBePlayed}
 use Rattle.bk_verbs.proofs.Prepared.{wrote_text, ended_work, played_work, playable}
 use Rattle.bk_verbs.proofs.work.write_work.Goals as goal
 
-pub play-requires-clause-checked : goal.play-requires-clause-checked
-play-requires-clause-checked g c = (playable c.args.work c.in-Play.image c.in-Play.calls c.in-Play.fuel c.in-Play.is c.requires).checked
+pub play-requires-clause-fresh : goal.play-requires-clause-fresh
+play-requires-clause-fresh g c = (playable c.args.work c.in-Play.player c.in-Play.calls c.in-Play.fuel c.in-Play.is c.requires).fresh
 
 pub play-requires-clause-requests : goal.play-requires-clause-requests
 play-requires-clause-requests g c =
-    subst (λ x. All (IsRequest c.in-Play.image) (map request_of x)) (sym c.deref-in-Play.ensures.value) (playable c.args.work c.in-Play.image c.in-Play.calls c.in-Play.fuel c.in-Play.is c.requires).asked
+    subst (λ x. All (IsRequest c.in-Play.player.image) (map request_of x)) (sym c.deref-in-Play.ensures.value) (playable c.args.work c.in-Play.player c.in-Play.calls c.in-Play.fuel c.in-Play.is c.requires).asked
 
 pub play-requires-clause-few : goal.play-requires-clause-few
 play-requires-clause-few g c =
-    let few = (playable c.args.work c.in-Play.image c.in-Play.calls c.in-Play.fuel c.in-Play.is c.requires).few in
+    let few = (playable c.args.work c.in-Play.player c.in-Play.calls c.in-Play.fuel c.in-Play.is c.requires).few in
     omega (arith, few, length-map c.in-Play.calls.items request_of, ap length c.deref-in-Play.ensures.value)
 
 pub play-requires-clause-small : goal.play-requires-clause-small
-play-requires-clause-small g c = (playable c.args.work c.in-Play.image c.in-Play.calls c.in-Play.fuel c.in-Play.is c.requires).small
+play-requires-clause-small g c = (playable c.args.work c.in-Play.player c.in-Play.calls c.in-Play.fuel c.in-Play.is c.requires).small
 
 pub returns-in_ok-put_all-in-Text-clause-ok : goal.returns-in_ok-put_all-in-Text-clause-ok
 returns-in_ok-put_all-in-Text-clause-ok g c files task prepared =
@@ -42,6 +42,6 @@ pub returns-in-Play-clause-ok : goal.returns-in-Play-clause-ok
 returns-in-Play-clause-ok g c =
     IfOk-weaker c.play.result _ _
     (λ status plays files task prepared.
-    played_work files task c.in-Play.image c.in-Play.calls c.in-Play.fuel status (g.K.Sink.written c.args.out.now) (g.K.Sink.written c.play.new.out) (subst (IsPrepared files task) c.in-Play.is prepared)
-    (subst (λ x. Plays c.in-Play.image c.in-Play.fuel (map request_of x) status (g.K.Sink.written c.args.out.now) (g.K.Sink.written c.play.new.out)) c.deref-in-Play.ensures.value plays))
+    played_work files task c.in-Play.player c.in-Play.calls c.in-Play.fuel status (g.K.Sink.written c.args.out.now) (g.K.Sink.written c.play.new.out) (subst (IsPrepared files task) c.in-Play.is prepared)
+    (subst (λ x. Plays c.in-Play.player.image c.in-Play.fuel (map request_of x) status (g.K.Sink.written c.args.out.now) (g.K.Sink.written c.play.new.out)) c.deref-in-Play.ensures.value plays))
     c.play.ensures.ok
