@@ -28,7 +28,7 @@ build() {
     log=$(mktemp) || exit 1
     trap 'rm -f "$log"' EXIT
     mapfile -t all < <(libraries)
-    echo "bkit is not built yet. ${#all[@]} libraries and then the program are proved first; on four processors that takes about half an hour." >&2
+    echo "bkit is not built yet. ${#all[@]} libraries and then the program are proved first; on four processors that takes longer than an hour." >&2
     for name in "${all[@]}"; do
         count=$((count + 1))
         echo "proving $count of $((${#all[@]} + 1)): $name" >&2

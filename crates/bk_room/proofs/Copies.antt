@@ -1,7 +1,7 @@
 -- The copies that flattening makes are fewer than the nodes of the obligations.
-use Rattle.std.proofs.Common.{◌≡◌, ◌≤◌, ◌<◌, ℕ, zero, suc, ◌+◌, List, [], ◌∷◌, ◌++◌, map, length, length-append, refl, sym, ◌∙◌, ap, subst, Bool, true, false, cond, Option, Some, None, All, arith}
+use Rattle.std.proofs.Common.{◌≡◌, ◌≤◌, ◌<◌, ℕ, zero, suc, ◌+◌, List, [], ◌∷◌, ◌++◌, map, length, length-append, refl, sym, ◌∙◌, ap, subst, Bool, true, false, cond, All, arith}
 use Rattle.std.specs.Prelude.{slice_get, slice_index_or}
-use Rattle.std.specs.List.{flat_map, filter_map, cons_option}
+use Rattle.std.specs.List.{flat_map, filter_map}
 use Rattle.bk_form.specs.Table.{Table}
 use Rattle.bk_form.specs.Formula.{Formula, binary, unary, formula_size}
 use Rattle.bk_form.specs.Predicates.{equation}
@@ -21,6 +21,7 @@ use Rattle.bk_dev.specs.Development.{Body, Level, Development, blank_body, blank
 use Rattle.bk_dev.specs.Flattened.{copied_in_bodies, copied_in_level, copied_in_levels, flattened}
 use Rattle.bk_dev.proofs.Flattening.{flat-flat}
 use Rattle.bk_dev.proofs.FlatSame.{levels-many, level-is, body-is}
+use Rattle.bk_levels.proofs.Rooms.{fewer}
 use Rattle.bk_po.specs.declared.clause.Clause.{Clause}
 use Rattle.bk_po.specs.declared.clause.Clause.TheVariants.{PropertiesDefined, ValuesMeet, InvariantDefined, AssertionsDefined, AssertionsHold, Initialisation, InitialisationDefined, Operation, OperationDefined}
 use Rattle.bk_po.specs.Obligations.{Obligation, numbers_below, clauses_of, init_goal, operation_goal, obligation_of, level_obligations, obligations}
@@ -225,16 +226,8 @@ copies-counted dev few =
     flat-total F (length (flattened dev).levels) ∙ ap (total_below (λ j. all_nodes (F j))) (levels-many (length dev.table.variables) dev.levels) in
     omega (arith, levels-total dev.levels, each, all)
 
-entries-few : {A B : Type 0} (f : A → Option B) (xs : List A) → length (filter_map f xs) ≤ length xs
-entries-few {A} {B} f [] = omega arith
-entries-few {A} {B} f (x ∷ xs) = by_entry (entries-few f xs) (f x)
-  where
-    by_entry : length (filter_map f xs) ≤ length xs → (o : Option B) → length (cons_option o (filter_map f xs)) ≤ suc (length xs)
-    by_entry h None = omega (arith, h)
-    by_entry h (Some y) = omega (arith, h)
-
 -- with all copies there are at most 20000000 variables more, where the obligations pass no limit
 pub variables-bounded : (dev : Development) → All (λ (l : Level). length l.bodies ≤ length dev.heads) dev.levels → PassNoLimit (obligations dev) → length (flattened dev).table.variables ≤ length dev.table.variables + 20000000
 variables-bounded dev few pass =
     let more = filter_map (slice_get dev.table.variables) (copied_in_levels dev.levels) in
-    omega (arith, length-append dev.table.variables more, entries-few (slice_get dev.table.variables) (copied_in_levels dev.levels), copies-counted dev few, pass.nodes)
+    omega (arith, length-append dev.table.variables more, fewer (slice_get dev.table.variables) (copied_in_levels dev.levels), copies-counted dev few, pass.nodes)

@@ -1,6 +1,6 @@
 -- How many names the scripts of proof files bring, and how many variables a table has with those of a script.
-use Rattle.std.proofs.Common.{ℕ, ◌+◌, ◌≤◌, Bool, true, false, not, cond, List, [], ◌∷◌, ◌++◌, length, Option, Some, None, sym, subst, arith, length-append, All, filter, flat_map, filter_map}
-use Rattle.std.specs.List.{AllZip, list_any, cons_option}
+use Rattle.std.proofs.Common.{ℕ, ◌+◌, ◌≤◌, Bool, true, false, not, cond, List, [], ◌∷◌, ◌++◌, length, Option, sym, subst, arith, length-append, All, filter, flat_map, filter_map}
+use Rattle.std.specs.List.{AllZip, list_any}
 use Rattle.std.specs.Str.{bytes_eq}
 use Rattle.std.proofs.lemmas.List.Elements.{All-nil, All-append}
 use Rattle.bk_val.specs.ValueType.{ValueType}
@@ -11,6 +11,7 @@ use Rattle.bk_dev.specs.Development.{Development}
 use Rattle.bk_p_proof.specs.TypedNames.{script_names}
 use Rattle.bk_p_proof.specs.Files.{IsProofFile, AreScriptsOf}
 use Rattle.bk_ground.specs.Brought.{own_parameters, type_of, with_first, first_of_each, brought, is_in_scope, new_over, entry_for, widened_by, widened}
+use Rattle.bk_levels.proofs.Rooms.{fewer}
 use Rattle.bk_room.proofs.Written.{names-few}
 
 -- ---- files
@@ -46,15 +47,6 @@ filter-few : {X : Type 0} (p : X → Bool) (xs : List X) → length (filter p xs
 filter-few p [] = omega (arith)
 filter-few p (x ∷ xs) = kept-few (p x) x (filter p xs) xs (filter-few p xs)
 
--- nor is what is left of a list
-cons-few : {Y : Type 0} (o : Option Y) (ys : List Y) (n : ℕ) → length ys ≤ n → length (cons_option o ys) ≤ n + 1
-cons-few None ys n h = omega (arith, h)
-cons-few (Some y) ys n h = omega (arith, h)
-
-filter_map-few : {X Y : Type 0} (f : X → Option Y) (xs : List X) → length (filter_map f xs) ≤ length xs
-filter_map-few f [] = omega (arith)
-filter_map-few f (x ∷ xs) = omega (arith, cons-few (f x) (filter_map f xs) (length xs) (filter_map-few f xs))
-
 new-few : (own : List (List ℕ × ℕ)) (xs : List RawTyped) → length (new_over own xs) ≤ length xs
 new-few own xs = filter-few (λ x. not (is_in_scope own x.name.text)) xs
 
@@ -62,7 +54,7 @@ new-few own xs = filter-few (λ x. not (is_in_scope own x.name.text)) xs
 wider-few : (typed : RawTyped → Option ValueType) (own : List (List ℕ × ℕ)) (table : Table) (s : RawScript) → length (widened_by typed table (new_over own (brought s))).variables ≤ length table.variables + length (script_names s)
 wider-few typed own table s =
     let names = new_over own (brought s) in
-    omega (arith, length-append table.variables (filter_map (entry_for typed) names), filter_map-few (entry_for typed) names, new-few own (brought s), firsts-few [] (script_names s))
+    omega (arith, length-append table.variables (filter_map (entry_for typed) names), fewer (entry_for typed) names, new-few own (brought s), firsts-few [] (script_names s))
 
 pub widened-count : (table : Table) (dev : Development) (s : RawScript) → length (widened table dev s).variables ≤ length table.variables + length (script_names s)
 widened-count table dev s = wider-few (type_of table dev s) (own_parameters table dev s) table s

@@ -3,84 +3,72 @@
 ghost use Rattle.std.specs.Prelude.{IfOk};
 ghost use Rattle.bk_gsl.specs.Flat.{IsFlat};
 
-use bk_fixtures::{becomes, literal, with_number};
-use bk_form::{BinOp, Form, VarTable};
+use crate::written::{flat, form};
+use bk_form::VarTable;
 use bk_gsl::Sub;
 use bk_io::Memory;
 use bk_wp::{WpFault, boxed};
 use std::alloc::Global;
 use std::test::Fail;
 
-// `x0 = 2`
-fn is_two(alloc: Global) -> Result<Form, Memory> {
-    with_number(alloc, BinOp::Eq, 0, 2)
-}
+const BRANCH: &str = "IF ( x = 1 ) THEN x := 2 ELSE skip END";
 
-// x0 := 2
-fn becomes_two(alloc: Global) -> Result<Sub, Memory>
+// The substitution so many times, one after the other.
+fn repeated(alloc: Global, sub: &Sub, times: u32) -> Result<Sub, Memory>
+    requires { IsFlat sub.now }
     ensures { IfOk result (λ s. IsFlat s) }
 {
-    let term = literal(alloc, 2)?;
-    becomes(alloc, 0, term)
-}
-
-// IF x0 = 1 THEN x0 := 2 END
-fn branch(alloc: Global) -> Result<Sub, Memory>
-    ensures { IfOk result (λ s. IsFlat s) }
-{
-    let test = with_number(alloc, BinOp::Eq, 0, 1)?;
-    Sub::if_else(alloc, test, becomes_two(alloc)?, Sub::skip())
-}
-
-// So many branches one after the other.
-fn branches(alloc: Global, count: u32) -> Result<Sub, Memory>
-    ensures { IfOk result (λ s. IsFlat s) }
-{
-    if count == 0 {
+    if times == 0 {
         return Ok(Sub::skip());
     }
-    let others = branches(alloc, count - 1)?;
-    Sub::seq(alloc, branch(alloc)?, others)
+    let others = repeated(alloc, sub, times - 1)?;
+    Sub::seq(alloc, sub.copy(alloc)?, others)
 }
 
-// So many assignments one after the other.
-fn assignments(alloc: Global, count: u32) -> Result<Sub, Memory>
-    ensures { IfOk result (λ s. IsFlat s) }
-{
-    if count == 0 {
-        return Ok(Sub::skip());
-    }
-    let others = assignments(alloc, count - 1)?;
-    Sub::seq(alloc, becomes_two(alloc)?, others)
-}
-
-// How many nodes the box has before x0 = 2.
-fn nodes(alloc: Global, sub: &Sub) -> Result<u64, WpFault>
+// How many nodes the box has before `x = 2`.
+fn box_size(alloc: Global, table: &VarTable, sub: &Sub) -> Result<Result<u64, WpFault>, Fail>
     requires { IsFlat sub.now }
 {
-    let types = VarTable::new(alloc);
-    Ok(boxed(alloc, &types, sub, is_two(alloc)?)?.size())
+    let post = form(alloc, "( x = 2 )")?;
+    match boxed(alloc, table, sub, post) {
+        Ok(found) => Ok(Ok(found.size())),
+        Err(fault) => Ok(Err(fault)),
+    }
+}
+
+fn nodes_of(
+    alloc: Global,
+    table: &VarTable,
+    sub: &Sub,
+    times: u32,
+) -> Result<Result<u64, WpFault>, Fail>
+    requires { IsFlat sub.now }
+{
+    let whole = repeated(alloc, sub, times)?;
+    box_size(alloc, table, &whole)
+}
+
+// How many it has of the substitution so many times.
+fn nodes(alloc: Global, text: &str, times: u32) -> Result<Result<u64, WpFault>, Fail> {
+    let (table, sub) = flat(alloc, text)?;
+    nodes_of(alloc, &table, &sub, times)
 }
 
 // each branch doubles what is to hold behind it
 #[test]
 fn branches_in_sequence(rt: HostRuntime) -> Result<(), Fail> {
-    let alloc = rt.alloc();
-    assert_eq!(rt; nodes(alloc, &branches(alloc, 13)?)?, 106_486);
+    assert_eq!(rt; nodes(rt.alloc(), BRANCH, 13)?, Ok(106_486));
     Ok(())
 }
 
 #[test]
 fn one_branch_more_is_too_large(rt: HostRuntime) -> Result<(), Fail> {
-    let alloc = rt.alloc();
-    let found = nodes(alloc, &branches(alloc, 14)?).err();
-    assert!(rt; found == Some(WpFault::TooLarge));
+    assert_eq!(rt; nodes(rt.alloc(), BRANCH, 14)?, Err(WpFault::TooLarge));
     Ok(())
 }
 
 #[test]
 fn assignments_in_sequence(rt: HostRuntime) -> Result<(), Fail> {
-    let alloc = rt.alloc();
-    assert_eq!(rt; nodes(alloc, &assignments(alloc, 2000)?)?, 3);
+    assert_eq!(rt; nodes(rt.alloc(), "x := 2", 2000)?, Ok(3));
     Ok(())
 }

@@ -2,12 +2,18 @@
 #![tactic(auto)]
 
 #[cfg(test)]
-mod binders;
+mod evaluation;
+#[cfg(test)]
+mod evaluation_texts;
 #[cfg(test)]
 mod flattening;
 #[cfg(test)]
+mod flattening_texts;
+#[cfg(test)]
 mod growth;
 #[cfg(test)]
-mod spinning;
+mod transformer_texts;
 #[cfg(test)]
 mod transformers;
+#[cfg(test)]
+mod written;

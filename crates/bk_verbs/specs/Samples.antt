@@ -2,7 +2,7 @@
 use Rattle.std.specs.Prelude.{ℕ, Bool, false, cond, nat_eq, ◌||◌, List, [], ◌∷◌, codes}
 use Rattle.bk_io.specs.Files.{Files}
 use Rattle.bk_calls.specs.Sample.{sample_of, shelved}
-use Rattle.bk_words.specs.Tasks.{Task, check_task, status_task, po_task, code_task, build_task, run_task, exec_task, sample_task}
+use Rattle.bk_words.specs.Tasks.{Task, status_task, run_task}
 
 -- ---- files
 -- the files of the sample with so many variables, its call script among them
@@ -12,17 +12,6 @@ sample_files variables = shelved (sample_of variables)
 -- the name of each sample's project file
 abbrev pub sample_project : List ℕ
 sample_project = codes "sample.prj"
-
--- the files that a task works on: those that are told, or a sample's own
-abbrev pub task_files : Files → Task → Files
-task_files files (check_task project) = files
-task_files files (status_task project) = files
-task_files files (po_task project) = files
-task_files files (code_task project) = files
-task_files files (build_task project) = files
-task_files files (run_task project calls fuel) = files
-task_files files (exec_task image calls fuel) = files
-task_files files (sample_task variables) = sample_files variables
 
 -- ---- tasks
 -- the status table of a sample, on its own files

@@ -236,8 +236,8 @@ StopsAtImage files image calls stop =
     (StopsAtLoading bytes stop ⊎ ((loaded : Image) × Encodes bytes loaded × StopsAtCallScript files calls loaded stop)))
 
 -- ---- tasks
--- what stops a task whose project is read as this development and these scripts: `check` nothing, `status` and `po` the limits of the obligations,
--- `code` the last component and the limits of the code, `build` the obligations and these limits, and `run` the calls too
+-- what stops a task whose project is read as this development and these scripts: `check` nothing, `status` and `po` the limits of the
+-- obligations, `code` the last component and the limits of the code, `build` the obligations and these limits, and `run` the calls too
 abbrev pub StopsRead : Files → Task → Development → List RawScript → Stop → Type 0
 StopsRead files (check_task project) dev scripts stop = ⊥
 StopsRead files (status_task project) dev scripts stop = StopsPastLimits project dev stop
@@ -284,8 +284,3 @@ stop_of_calls (Arguments number) calls = BadCalls number
 stop_of_calls (Number number) calls = BadCalls number
 stop_of_calls PastLimit calls = Limit 11 calls
 stop_of_calls NoMemory calls = Memory
-
--- what a fault of an image stops the program with
-abbrev pub stop_of_load : LoadFault → Stop
-stop_of_load NoRoomForImage = Memory
-stop_of_load fault = BadImage fault

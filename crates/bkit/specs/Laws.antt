@@ -46,8 +46,9 @@ ProjectsEnd =
     (find : Finder) → IsSearch find → EndsWithoutLoops find dev (translation dev)
 
 -- of a session of a project the initialisation, and each call that is legal after those before it, leaves cells that are linked to a state
--- which the machine reaches with the replies, does not trap, out of fuel would end with more, and without WHILE is done with a fuel of at least the length of its code; and where all are legal none traps, and where no
--- WHILE is run all are done with one of at least the length of the whole code
+-- which the machine reaches with the replies, does not trap, out of fuel would end with more, and without WHILE is done with a fuel of at
+-- least the length of its code; and where all are legal none traps, and where no WHILE is run all are done with one of at least the length
+-- of the whole code
 abbrev pub LegalCallsAreDone : Type 0
 LegalCallsAreDone =
     (files : Files) (project calls : List ℕ) (fuel : ℕ) (ready : IsReady files project calls) (tolds : List Told) →

@@ -52,8 +52,8 @@ pub record WritesRun (files : Files) (project calls : List ℕ) (fuel : ℕ) (ol
 
 -- for every search: where no check stops the run, the initialisation, and each call of its script that is legal after those before it
 -- with the replies of the session, replies as the machine does, does not trap, out of fuel would end with more, and without WHILE is done
--- with a fuel of at least the length of its code; and where all are legal none traps, and where no WHILE is run all are done with one of at least the length of the
--- whole code
+-- with a fuel of at least the length of its code; and where all are legal none traps, and where no WHILE is run all are done with one of at
+-- least the length of the whole code
 abbrev pub IsDoneWhereLegal : Files → (project calls : List ℕ) (fuel : ℕ) → Status → Type 0
 IsDoneWhereLegal files project calls fuel status =
     (ready : IsReady files project calls) (tolds : List Told) → Session (translation ready.dev) fuel ready.requests tolds → (find : Finder) → IsSearch find →

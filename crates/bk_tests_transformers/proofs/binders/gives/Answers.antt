@@ -1,5 +1,0 @@
-use Rattle.bk_tests_transformers.proofs.Flat.{flat_without_loops}
-use Rattle.bk_tests_transformers.proofs.binders.gives.Goals as goal
-
-pub boxed-requires : goal.boxed-requires
-boxed-requires c = flat_without_loops c.args.sub.now c.requires

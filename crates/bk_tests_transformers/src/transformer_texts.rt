@@ -1,0 +1,72 @@
+// Substitutions with their boxes and diamonds.
+
+// A substitution, what is to hold behind it, its box and its diamond.
+pub(crate) const FORMS: [(&str, &str, &str, &str); 8] = [
+    ("skip", "( x < y )", "( x < y )", "( x < y )"),
+    ("x, y := y, x", "( x < y )", "( y < x )", "( y < x )"),
+    (
+        "PRE ( x = 1 ) THEN x := 2 END",
+        "( x = 2 )",
+        "( ( x = 1 ) & ( 2 = 2 ) )",
+        "( ( x = 1 ) => ( 2 = 2 ) )",
+    ),
+    (
+        "SELECT ( x = 1 ) THEN x := 2 END",
+        "( x = 2 )",
+        "( ( x = 1 ) => ( 2 = 2 ) )",
+        "( ( x = 1 ) & ( 2 = 2 ) )",
+    ),
+    (
+        "ASSERT ( x = 1 ) THEN x := 2 END",
+        "( x = 2 )",
+        "( ( x = 1 ) & ( ( x = 1 ) => ( 2 = 2 ) ) )",
+        "( ( x = 1 ) => ( ( x = 1 ) & ( 2 = 2 ) ) )",
+    ),
+    (
+        "CHOICE x := 2 OR skip END",
+        "( x = 1 )",
+        "( ( 2 = 1 ) & ( x = 1 ) )",
+        "( ( 2 = 1 ) or ( x = 1 ) )",
+    ),
+    (
+        "IF ( x = 1 ) THEN x := 2 ELSE skip END",
+        "( x = 2 )",
+        "( ( ( x = 1 ) => ( 2 = 2 ) ) & ( ( not ( x = 1 ) ) => ( x = 2 ) ) )",
+        "( ( ( x = 1 ) & ( 2 = 2 ) ) or ( ( not ( x = 1 ) ) & ( x = 2 ) ) )",
+    ),
+    ("y := x ; x := 2", "( x = y )", "( 2 = x )", "( 2 = x )"),
+];
+
+// Binders of no variable, and of a whole number and a truth value: the last one is the innermost.
+pub(crate) const BINDERS: [(&str, &str, &str, &str); 3] = [
+    (
+        "VAR IN x := 2 END",
+        "( x = 2 )",
+        "( ! ( 2 = 2 ) )",
+        "( # ( 2 = 2 ) )",
+    ),
+    (
+        ":( x = 1 )",
+        "( x = 2 )",
+        "( ! ( ( x = 1 ) => ( x = 2 ) ) )",
+        "( # ( ( x = 1 ) & ( x = 2 ) ) )",
+    ),
+    (
+        "VAR x, p IN skip END",
+        "( x = 2 )",
+        "( !ib ( b1 = 2 ) )",
+        "( #ib ( b1 = 2 ) )",
+    ),
+];
+
+// A loop that writes its variable back and never ends, what is to hold behind it, and its box: the invariant, that each turn
+// keeps it, that the variant is a natural number, that it falls, and what is to hold at the end.
+pub(crate) const LOOPS: [(&str, &str, &str); 1] = [(
+    "WHILE ( x < 10 ) DO x := x INVARIANT ( x : ( 0 .. 10 ) ) VARIANT ( 10 - x ) END",
+    "( x = 10 )",
+    "( ( ( ( ( x : ( 0 .. 10 ) )
+    & ( !i ( ( ( b0 : ( 0 .. 10 ) ) & ( b0 < 10 ) ) => ( b0 : ( 0 .. 10 ) ) ) ) )
+    & ( !i ( ( ( b0 : ( 0 .. 10 ) ) & ( b0 < 10 ) ) => ( ( 10 - b0 ) : NATURAL ) ) ) )
+    & ( !i ( ( ( b0 : ( 0 .. 10 ) ) & ( b0 < 10 ) ) => ( ( 10 - b0 ) < ( 10 - b0 ) ) ) ) )
+    & ( !i ( ( ( b0 : ( 0 .. 10 ) ) & ( not ( b0 < 10 ) ) ) => ( b0 = 10 ) ) ) )",
+)];
