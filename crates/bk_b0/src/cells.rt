@@ -78,7 +78,7 @@ fn add_parameters(heads: &[OpHead], bodies: &[Body], variables: &mut Vec<u32>) -
 fn add_locals(sub: &Sub, variables: &mut Vec<u32>) -> Result<(), Memory>
     ensures { OnOk result (variables.new.items ≡ variables.old.items ++ locals sub.now) }
 {
-    match &sub.node {
+    match &*sub.node {
         SubNode::Any(bound, body) => {
             variables.extend_from_slice(bound)?;
             add_locals(body, variables)

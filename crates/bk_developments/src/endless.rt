@@ -49,7 +49,7 @@ fn bodies(alloc: Global, n: u32, r: u32, sub: Sub) -> Result<Vec<Body>, Memory>
 fn machine(alloc: Global) -> Result<Level, Memory>
     ensures { IfOk result (λ l. l ≡ counting_level (codes "Counter") Machine 0 [] (with_spin 0 2 skip)) }
 {
-    let bodies = bodies(alloc, 0, 2, Sub::skip())?;
+    let bodies = bodies(alloc, 0, 2, Sub::skip(alloc)?)?;
     counting_level(alloc, b"Counter", Kind::Machine, 0, Vec::new(alloc), bodies)
 }
 

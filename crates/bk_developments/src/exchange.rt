@@ -29,7 +29,7 @@ fn one_and_two(alloc: Global) -> Result<Sub, Memory>
 {
     let one = literal(alloc, 1)?;
     let two = literal(alloc, 2)?;
-    Ok(Sub::assign(vec![in alloc; (0, one), (1, two)]?))
+    Sub::assign(alloc, vec![in alloc; (0, one), (1, two)]?)
 }
 
 // x := y || y := x
@@ -47,7 +47,7 @@ fn both_answered(alloc: Global) -> Result<Sub, Memory>
 {
     let x = variable(alloc, 0)?;
     let y = variable(alloc, 1)?;
-    Ok(Sub::assign(vec![in alloc; (4, x), (5, y)]?))
+    Sub::assign(alloc, vec![in alloc; (4, x), (5, y)]?)
 }
 
 fn machine_swap(alloc: Global) -> Result<Body, Memory>

@@ -214,7 +214,7 @@ fn step(alloc: Global, n: u32) -> Result<Sub, Memory>
     let next = with_number(alloc, BinOp::Add, n, 1)?;
     let yes = becomes(alloc, n, next)?;
     let test = with_number(alloc, BinOp::Lt, n, 10)?;
-    Sub::if_else(alloc, test, yes, Sub::skip())
+    Sub::if_else(alloc, test, yes, Sub::skip(alloc)?)
 }
 
 fn stepper_body(alloc: Global, n: u32) -> Result<Body, Memory>

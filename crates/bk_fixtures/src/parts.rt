@@ -19,5 +19,5 @@ pub fn text(alloc: Global, bytes: &[u8]) -> Result<Text, Memory>
 pub fn becomes(alloc: Global, x: u32, term: Form) -> Result<Sub, Memory>
     ensures { IfOk result (λ s. s ≡ assign ((x, term) ∷ [])) }
 {
-    Ok(Sub::assign(vec![in alloc; (x, term)]?))
+    Sub::assign(alloc, vec![in alloc; (x, term)]?)
 }

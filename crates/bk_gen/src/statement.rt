@@ -31,7 +31,7 @@ pub(crate) fn block_size(unit: &B0Unit, sub: &Sub) -> u64
 fn statement_size(unit: &B0Unit, sub: &Sub) -> u64
     ensures { result ≡ min (statement_size (unit_places unit.now) sub.now) (2 ^ 64 - 1) }
 {
-    match &sub.node {
+    match &*sub.node {
         SubNode::Assign(terms) => assignment_size(unit, terms),
         SubNode::Seq(first, second) => {
             statement_size(unit, first).saturating_add(statement_size(unit, second))
@@ -126,7 +126,7 @@ fn add_statement(unit: &B0Unit, sub: &Sub, code: &mut Vec<Inst>) -> Result<(), M
     requires short { length code.old.items + statement_size (unit_places unit.now) sub.now ≤ 1000000 }
     ensures { OnOk result (code.new.items ≡ code.old.items ++ placed_statement (unit_places unit.now) sub.now) }
 {
-    match &sub.node {
+    match &*sub.node {
         SubNode::Assign(terms) => add_assignment(unit, terms, code),
         SubNode::If(test, yes, no) => add_branches(unit, test, yes, no, code),
         SubNode::While { test, body, .. } => add_loop(unit, test, body, code),

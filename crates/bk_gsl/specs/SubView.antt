@@ -7,13 +7,13 @@ use Rattle.bk_gsl.specs.declared.substitution.SubNode.TheVariants.{Skip, Assign,
 abbrev pub sub_view : SubNode → Substitution
 sub_view Skip = skip
 sub_view (Assign ps) = assign ps.items
-sub_view (Pre p s) = pre p s.value
-sub_view (Guard p s) = guard p s.value
-sub_view (Choice s t) = choice s.value t.value
-sub_view (If p s t) = if_else p s.value t.value
-sub_view (Any zs s) = any zs.items s.value
-sub_view (Seq s t) = seq s.value t.value
-sub_view (Par s t) = par s.value t.value
-sub_view (While p s i v) = loop p s.value i v
-sub_view (Assert p s) = assert p s.value
+sub_view (Pre p s) = pre p s
+sub_view (Guard p s) = guard p s
+sub_view (Choice s t) = choice s t
+sub_view (If p s t) = if_else p s t
+sub_view (Any zs s) = any zs.items s
+sub_view (Seq s t) = seq s t
+sub_view (Par s t) = par s t
+sub_view (While p s i v) = loop p s i v
+sub_view (Assert p s) = assert p s
 sub_view (BecomesSuch xs p) = becomes_such xs.items p

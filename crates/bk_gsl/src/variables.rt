@@ -44,7 +44,7 @@ fn in_order(mut variables: Vec<u32>) -> Vec<u32>
 fn add_written(alloc: Global, sub: &Sub, found: &mut Vec<u32>) -> Result<(), Memory>
     ensures { OnOk result (found.new.items ≡ found.old.items ++ written sub.now) }
 {
-    match &sub.node {
+    match &*sub.node {
         SubNode::Skip => Ok(()),
         SubNode::Assign(terms) => add_firsts(terms, found),
         SubNode::Pre(_, s) => add_written(alloc, s, found),
@@ -80,7 +80,7 @@ fn add_written(alloc: Global, sub: &Sub, found: &mut Vec<u32>) -> Result<(), Mem
 fn add_read(alloc: Global, sub: &Sub, found: &mut Vec<u32>) -> Result<(), Memory>
     ensures { OnOk result (found.new.items ≡ found.old.items ++ read sub.now) }
 {
-    match &sub.node {
+    match &*sub.node {
         SubNode::Skip => Ok(()),
         SubNode::Assign(terms) => add_variables_of_terms(terms, found),
         SubNode::Pre(p, s) => {

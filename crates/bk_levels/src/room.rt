@@ -66,7 +66,7 @@ fn behind_bodies(alloc: Global, first: u32, bodies: &[Body]) -> Result<u32, Memo
 fn behind(alloc: Global, first: u32, sub: &Sub) -> Result<u32, Memory>
     ensures { IfOk result (λ number. number ≡ first + length (copied sub.now)) }
 {
-    match &sub.node {
+    match &*sub.node {
         SubNode::Pre(_, s) => behind(alloc, first, s),
         SubNode::Guard(_, s) => behind(alloc, first, s),
         SubNode::Choice(one, other) => {

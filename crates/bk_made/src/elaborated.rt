@@ -58,7 +58,7 @@ impl<'a> Elaboration<'a> {
     {
         let alloc = self.typing.alloc;
         match &sub.node {
-            RawSubNode::Skip => Ok(Sub::skip()),
+            RawSubNode::Skip => Sub::skip(alloc),
             RawSubNode::Assign(names, terms) => self.assignment(names, terms),
             RawSubNode::AssignAt(name, index, value) => self.element(name, index, value),
             RawSubNode::BecomesMember(name, domain) => self.member(name, domain),
@@ -136,7 +136,7 @@ impl<'a> Elaboration<'a> {
         let [branch, others @ ..] = branches else {
             return match last {
                 Some(last) => self.substitution(last),
-                None => Ok(Sub::skip()),
+                None => Sub::skip(self.typing.alloc),
             };
         };
         self.choice_by(&branch.condition, &branch.body, others, last)
@@ -284,12 +284,12 @@ impl<'a> Elaboration<'a> {
         let mut pairs = Vec::new(self.typing.alloc);
         for (index, name) in names.iter().enumerate() {
             let Some(term) = terms.get(index) else {
-                return Ok(Sub::assign(pairs));
+                return Sub::assign(self.typing.alloc, pairs);
             };
             let form = self.assigned(name, term)?;
             push_pair(&mut pairs, self.target_named(name).number(), form)?;
         }
-        Ok(Sub::assign(pairs))
+        Sub::assign(self.typing.alloc, pairs)
     }
 
     // The term for a written variable, where it takes the variable's type.
@@ -308,10 +308,10 @@ impl<'a> Elaboration<'a> {
         ensures { IfOk result (λ s. s ≡ node_read self.now (sub_assign_at name.now index.now value.now)) }
     {
         let Some(ty) = self.type_of(name)? else {
-            return Ok(Sub::skip());
+            return Sub::skip(self.typing.alloc);
         };
         let Some((first, second)) = parts_of(&ty) else {
-            return Ok(Sub::skip());
+            return Sub::skip(self.typing.alloc);
         };
         let index = term_form(self.typing, self.names, first, index)?;
         let value = term_form(self.typing, self.names, second, value)?;
@@ -370,7 +370,7 @@ impl<'a> Elaboration<'a> {
         for (index, name) in names.iter().enumerate() {
             pairs.push((self.target_named(name).number(), ahead(self.first, index)?))?;
         }
-        Ok(Sub::becomes_such(pairs, stated))
+        Sub::becomes_such(alloc, pairs, stated)
     }
 }
 
@@ -448,7 +448,7 @@ fn chosen_from(alloc: Global, variable: u32, taken: u32, domain: Form) -> Result
     let guard = binary_of(alloc, BinOp::In, value.copy(alloc)?, domain)?;
     let mut pairs = Vec::new(alloc);
     pairs.push((variable, value))?;
-    Sub::guard(alloc, guard, Sub::assign(pairs))
+    Sub::guard(alloc, guard, Sub::assign(alloc, pairs)?)
 }
 
 // f := f <+ {e |-> v}, where both are there.
@@ -461,24 +461,24 @@ fn overridden(
     ensures { IfOk result (λ s. s ≡ meant.overridden variable index value) }
 {
     let Some(index) = index else {
-        return Ok(Sub::skip());
+        return Sub::skip(alloc);
     };
     let Some(value) = value else {
-        return Ok(Sub::skip());
+        return Sub::skip(alloc);
     };
     let function = Form::make(alloc, Part::Var(variable))?;
     let pair = binary_of(alloc, BinOp::Maps, index, value)?;
     let single = unary_of(alloc, UnOp::Single, pair)?;
     let mut pairs = Vec::new(alloc);
     pairs.push((variable, binary_of(alloc, BinOp::Over, function, single)?))?;
-    Ok(Sub::assign(pairs))
+    Sub::assign(alloc, pairs)
 }
 
 // What stands for z : E ==> x := z where that has a fault.
 fn nothing_chosen(alloc: Global) -> Result<Sub, Memory>
     ensures { IfOk result (λ s. s ≡ meant.nothing_chosen) }
 {
-    Sub::guard(alloc, Form::make(alloc, Part::True)?, Sub::skip())
+    Sub::guard(alloc, Form::make(alloc, Part::True)?, Sub::skip(alloc)?)
 }
 
 // The formula of an operator and its operand.

@@ -53,7 +53,7 @@ fn without_par(alloc: Global, sub: &Sub, first: usize, found: &mut Vec<u32>) -> 
     ensures value { IfOk result (λ s. s ≡ flat_from (first + length found.old.items) sub.now) }
     ensures listed { OnOk result (found.new.items ≡ found.old.items ++ copied sub.now) }
 {
-    match &sub.node {
+    match &*sub.node {
         SubNode::Pre(p, s) => {
             let s = without_par(alloc, s, first, found)?;
             Sub::pre(alloc, p.copy(alloc)?, s)

@@ -21,7 +21,7 @@ pub(crate) fn first_overlap(alloc: Global, sub: &Sub) -> Result<Option<u32>, Mem
 fn add_overlaps(alloc: Global, sub: &Sub, found: &mut Vec<u32>) -> Result<(), Memory>
     ensures { OnOk result (found.new.items ≡ found.old.items ++ overlaps sub.now) }
 {
-    match &sub.node {
+    match &*sub.node {
         SubNode::Pre(_, s) => add_overlaps(alloc, s, found),
         SubNode::Guard(_, s) => add_overlaps(alloc, s, found),
         SubNode::Choice(one, other) => {

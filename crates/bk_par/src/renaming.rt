@@ -18,9 +18,9 @@ use std::alloc::Global;
 pub(crate) fn reading(alloc: Global, sub: &Sub, pairs: &[(u32, u32)]) -> Result<Sub, Memory>
     ensures { IfOk result (λ s. s ≡ reading (new_name pairs.now) sub.now) }
 {
-    match &sub.node {
-        SubNode::Skip => Ok(Sub::skip()),
-        SubNode::Assign(terms) => Ok(Sub::assign(renamed_terms(alloc, terms, pairs)?)),
+    match &*sub.node {
+        SubNode::Skip => Sub::skip(alloc),
+        SubNode::Assign(terms) => Sub::assign(alloc, renamed_terms(alloc, terms, pairs)?),
         SubNode::Pre(p, s) => {
             let (p, s) = reading_guarded(alloc, p, s, pairs)?;
             Sub::pre(alloc, p, s)
@@ -141,7 +141,7 @@ fn reading_such(
     ensures { IfOk result (λ s. s ≡ becomes_such olds.now (renamed (new_name pairs.now) predicate.now)) }
 {
     let predicate = rename(alloc, predicate, pairs)?;
-    Ok(Sub::becomes_such(Vec::from_slice(alloc, olds)?, predicate))
+    Sub::becomes_such(alloc, Vec::from_slice(alloc, olds)?, predicate)
 }
 
 // The terms with the variables renamed; the variables on the left stay.

@@ -44,7 +44,7 @@ fn outer_choice(alloc: Global) -> Result<Sub, Memory>
 {
     let test = with_number(alloc, BinOp::Lt, 3, 0)?;
     let yes = inner_choice(alloc)?;
-    Sub::if_else(alloc, test, yes, Sub::skip())
+    Sub::if_else(alloc, test, yes, Sub::skip(alloc)?)
 }
 
 fn not_zero(alloc: Global) -> Result<Form, Memory>
@@ -74,23 +74,23 @@ fn deciding(alloc: Global) -> Result<Body, Memory>
     ensures { IfOk result (λ b. b ≡ doing (if_else decision skip skip)) }
 {
     let test = decision(alloc)?;
-    let sub = Sub::if_else(alloc, test, Sub::skip(), Sub::skip())?;
+    let sub = Sub::if_else(alloc, test, Sub::skip(alloc)?, Sub::skip(alloc)?)?;
     body(alloc, sub)
 }
 
 fn idle_bodies(alloc: Global) -> Result<Vec<Body>, Memory>
     ensures { IfOk result (λ bodies. bodies.items ≡ idle_bodies) }
 {
-    let idle = body(alloc, Sub::skip())?;
-    let turn = body(alloc, Sub::skip())?;
-    let decide = body(alloc, Sub::skip())?;
+    let idle = body(alloc, Sub::skip(alloc)?)?;
+    let turn = body(alloc, Sub::skip(alloc)?)?;
+    let decide = body(alloc, Sub::skip(alloc)?)?;
     Ok(vec![in alloc; idle, turn, decide]?)
 }
 
 fn choosing_bodies(alloc: Global) -> Result<Vec<Body>, Memory>
     ensures { IfOk result (λ bodies. bodies.items ≡ choosing_bodies) }
 {
-    let idle = body(alloc, Sub::skip())?;
+    let idle = body(alloc, Sub::skip(alloc)?)?;
     let turn = body(alloc, outer_choice(alloc)?)?;
     let decide = deciding(alloc)?;
     Ok(vec![in alloc; idle, turn, decide]?)
@@ -114,7 +114,7 @@ fn bare_level(
         invariant: always(alloc)?,
         links: Vec::new(alloc),
         assertions: Vec::new(alloc),
-        init: Sub::skip(),
+        init: Sub::skip(alloc)?,
         bodies,
     })
 }

@@ -226,7 +226,7 @@ fn a_unit_has_these_parts(rt: HostRuntime) -> Result<(), Fail> {
     assert_eq!(rt; unit.sets().len(), 0);
     assert_eq!(rt; unit.heads().len(), 3);
     assert_eq!(rt; unit.bodies().len(), 3);
-    assert!(rt; matches!(&unit.init().node, SubNode::Assign(_)));
+    assert!(rt; matches!(&*unit.init().node, SubNode::Assign(_)));
     Ok(())
 }
 

@@ -15,7 +15,7 @@ fn copying(alloc: Global, x: u32, y: u32) -> Result<Sub, Memory> {
 // IF x5 THEN x6 := x7 ELSE skip END
 fn branched(alloc: Global) -> Result<Sub, Memory> {
     let test = variable(alloc, 5)?;
-    Sub::if_else(alloc, test, copying(alloc, 6, 7)?, Sub::skip())
+    Sub::if_else(alloc, test, copying(alloc, 6, 7)?, Sub::skip(alloc)?)
 }
 
 // PRE x1 THEN SELECT x2 THEN CHOICE x3 := x4 OR IF x5 THEN x6 := x7 ELSE skip END END END END
@@ -44,7 +44,7 @@ fn repeated(alloc: Global) -> Result<Sub, Memory> {
 // ASSERT x17 THEN x18 :(x18 = x19) END, where x19 stands for the old value of x18
 fn chosen(alloc: Global) -> Result<Sub, Memory> {
     let equation = of_variables(alloc, BinOp::Eq, 18, 19)?;
-    let inner = Sub::becomes_such(vec![in alloc; (18, 19)]?, equation);
+    let inner = Sub::becomes_such(alloc, vec![in alloc; (18, 19)]?, equation)?;
     Sub::assertion(alloc, variable(alloc, 17)?, inner)
 }
 

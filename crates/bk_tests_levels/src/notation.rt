@@ -67,7 +67,7 @@ impl Writer<'_> {
     }
 
     fn substitution(&mut self, sub: &Sub) -> Result<(), Memory> {
-        match &sub.node {
+        match &*sub.node {
             SubNode::Skip => return self.word(" skip"),
             SubNode::Assign(terms) => return self.assigned(terms),
             SubNode::BecomesSuch(pairs, predicate) => return self.such(pairs, predicate),

@@ -178,7 +178,7 @@ fn tests_are_executed(rt: HostRuntime) -> Result<(), Fail> {
     let alloc = rt.alloc();
     let sum = of_variables(alloc, BinOp::Add, 0, 1)?;
     let test = binary(alloc, BinOp::Eq, sum.copy(alloc)?, literal(alloc, 1)?)?;
-    let sub = Sub::if_else(alloc, test.copy(alloc)?, Sub::skip(), divide(alloc)?)?;
+    let sub = Sub::if_else(alloc, test.copy(alloc)?, Sub::skip(alloc)?, divide(alloc)?)?;
     let negated = unary(alloc, UnOp::Not, test)?;
     let otherwise = binary(alloc, BinOp::Imp, negated, divides(alloc)?)?;
     assert!(rt; is_asked(alloc, &sub, &otherwise)?);
@@ -319,7 +319,7 @@ fn locals(rt: HostRuntime) -> Result<(), Fail> {
 fn idle_local(alloc: Global) -> Result<Sub, Memory>
     ensures { IfOk result (λ s. IsFlat s) }
 {
-    Sub::any(alloc, vec![in alloc; 1]?, Sub::skip())
+    Sub::any(alloc, vec![in alloc; 1]?, Sub::skip(alloc)?)
 }
 
 #[test]
@@ -336,7 +336,7 @@ fn such_that(alloc: Global) -> Result<Sub, Memory>
 {
     let quotient = of_variables(alloc, BinOp::Div, 1, 3)?;
     let predicate = binary(alloc, BinOp::Eq, quotient, variable(alloc, 0)?)?;
-    Ok(Sub::becomes_such(vec![in alloc; (0, 3)]?, predicate))
+    Ok(Sub::becomes_such(alloc, vec![in alloc; (0, 3)]?, predicate)?)
 }
 
 #[test]
@@ -477,7 +477,7 @@ fn loops(rt: HostRuntime) -> Result<(), Fail> {
 #[test]
 fn loops_that_write_nothing(rt: HostRuntime) -> Result<(), Fail> {
     let alloc = rt.alloc();
-    let sub = loop_over(alloc, Sub::skip())?;
+    let sub = loop_over(alloc, Sub::skip(alloc)?)?;
     let condition = turn_asks(alloc, quotient_is_one(alloc)?, divides(alloc)?)?;
     assert!(rt; is_asked(alloc, &sub, &condition)?);
     Ok(())
@@ -491,7 +491,7 @@ fn waiting(alloc: Global) -> Result<Sub, Memory>
     Sub::while_loop(
         alloc,
         test,
-        Sub::skip(),
+        Sub::skip(alloc)?,
         below_one(alloc)?,
         variable(alloc, 0)?,
     )
@@ -559,7 +559,7 @@ fn boxes_of_loops(rt: HostRuntime) -> Result<(), Fail> {
 fn box_is_too_large(alloc: Global, nodes: u32) -> Result<bool, Memory>
     requires { 0 < nodes }
 {
-    let sub = Sub::any(alloc, vec![in alloc; 1]?, Sub::skip())?;
+    let sub = Sub::any(alloc, vec![in alloc; 1]?, Sub::skip(alloc)?)?;
     let found = boxed(alloc, &table(alloc)?, &sub, of_size(alloc, nodes)?);
     Ok(found.err() == Some(WpFault::TooLarge))
 }
@@ -575,7 +575,7 @@ fn condition_is_too_large(alloc: Global, nodes: u32) -> Result<bool, Memory>
         of_size(alloc, nodes)?,
     )?;
     let test = binary(alloc, BinOp::Eq, power, literal(alloc, 1)?)?;
-    let sub = Sub::pre(alloc, test, Sub::skip())?;
+    let sub = Sub::pre(alloc, test, Sub::skip(alloc)?)?;
     Ok(guarded(alloc, &table(alloc)?, &sub, None).err() == Some(WpFault::TooLarge))
 }
 

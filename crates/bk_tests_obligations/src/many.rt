@@ -39,7 +39,7 @@ fn machine(alloc: Global, asserted: Form) -> Result<Level, Memory>
         invariant: always(alloc)?,
         links: Vec::new(alloc),
         assertions: vec![in alloc; asserted]?,
-        init: Sub::skip(),
+        init: Sub::skip(alloc)?,
         bodies: Vec::new(alloc),
     })
 }

@@ -19,7 +19,7 @@ fn machine_operation(alloc: Global) -> Result<Vec<Body>, Memory>
     ensures { IfOk result (λ bodies. bodies.items ≡ family_machine.bodies) }
 {
     let outputs = vec![in alloc; 5, 6, 7, 8, 9, 10]?;
-    operation(alloc, Sub::skip(), outputs)
+    operation(alloc, Sub::skip(alloc)?, outputs)
 }
 
 /// The machine, whose operation does nothing.
@@ -35,7 +35,7 @@ pub(crate) fn machine(alloc: Global) -> Result<Level, Memory>
         Kind::Machine,
         Vec::new(alloc),
         invariant,
-        Sub::skip(),
+        Sub::skip(alloc)?,
         bodies,
     )
 }

@@ -265,7 +265,7 @@ fn simple(alloc: Global, draws: &mut Draws, locals: &[u32], end: u32) -> Result<
     ensures { IfOk result (IsDrawn locals.now end end) }
 {
     match draws.below(8) {
-        0 => Ok(Sub::skip()),
+        0 => Ok(Sub::skip(alloc)?),
         1 | 2 => truth_set(alloc, draws, locals, end),
         3 | 4 => element_set(alloc, draws, locals, end),
         _ => number_set(alloc, draws, locals, end),

@@ -156,7 +156,7 @@ fn assign(store: &mut Store, terms: &[(u32, Form)]) -> Result<(), Trap> {
 
 /// Runs a statement. A loop has at most 1000 turns.
 pub(crate) fn run(store: &mut Store, sub: &Sub) -> Result<(), Trap> {
-    match &sub.node {
+    match &*sub.node {
         SubNode::Assign(terms) => assign(store, terms),
         SubNode::Seq(first, second) => {
             run(store, first)?;

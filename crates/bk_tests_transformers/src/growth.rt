@@ -19,7 +19,7 @@ fn repeated(alloc: Global, sub: &Sub, times: u32) -> Result<Sub, Memory>
     ensures { IfOk result (λ s. IsFlat s) }
 {
     if times == 0 {
-        return Ok(Sub::skip());
+        return Ok(Sub::skip(alloc)?);
     }
     let others = repeated(alloc, sub, times - 1)?;
     Sub::seq(alloc, sub.copy(alloc)?, others)

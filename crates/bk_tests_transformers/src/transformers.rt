@@ -32,7 +32,7 @@ pub(crate) enum Transformer<'a> {
 fn has_no_loop(sub: &Sub) -> bool
     ensures { IsTrue result → HasNoLoop sub.now }
 {
-    match &sub.node {
+    match &*sub.node {
         SubNode::Skip | SubNode::Assign(_) | SubNode::BecomesSuch(_, _) => true,
         SubNode::Pre(_, s) => has_no_loop(s),
         SubNode::Guard(_, s) => has_no_loop(s),
@@ -164,7 +164,7 @@ fn before_skip(alloc: Global, nodes: u32) -> Result<[Result<bool, WpFault>; 2], 
     requires { 0 < nodes }
 {
     let post = of_size(alloc, nodes)?;
-    let skip = Sub::skip();
+    let skip = Sub::skip(alloc)?;
     Ok([box_is(alloc, &skip, &post), diamond_is(alloc, &skip, &post)])
 }
 

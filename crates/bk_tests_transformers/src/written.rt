@@ -295,7 +295,7 @@ fn loop_heads(alloc: Global, heads: &mut Vec<&str>) -> Result<(Form, Form), Unre
 
 fn simple(alloc: Global, words: &str) -> Result<Sub, Unread> {
     if words == "skip" {
-        return Ok(Sub::skip());
+        return Ok(Sub::skip(alloc)?);
     }
     if let Some((written, terms)) = words.split_once(":=") {
         return assignment(alloc, written, terms);
@@ -317,7 +317,7 @@ fn assignment(alloc: Global, written: &str, terms: &str) -> Result<Sub, Unread> 
         rest = others;
     }
     if rest.is_empty() {
-        Ok(Sub::assign(pairs))
+        Ok(Sub::assign(alloc, pairs)?)
     } else {
         Err(Unread::Text)
     }
@@ -330,7 +330,7 @@ fn such(alloc: Global, written: &str, predicate: &str) -> Result<Sub, Unread> {
     for variable in &variables {
         pairs.push((*variable, variable.saturating_add(OLD)))?;
     }
-    Ok(Sub::becomes_such(pairs, form(alloc, predicate)?))
+    Ok(Sub::becomes_such(alloc, pairs, form(alloc, predicate)?)?)
 }
 
 // The numbers of letters with commas between them.

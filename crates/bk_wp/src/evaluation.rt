@@ -54,7 +54,7 @@ fn conditions(
     ensures too_large { result ≡ Err TooLarge →
         IsWithinLimits (guarded types.now (option_copied arrays.entry) sub.now) → ⊥ }
 {
-    match &sub.node {
+    match &*sub.node {
         SubNode::Assign(terms) => evaluated_terms(alloc, types, arrays, terms),
         SubNode::Pre(p, s) | SubNode::Guard(p, s) | SubNode::Assert(p, s) => {
             let test = defined(alloc, types, p)?;

@@ -29,7 +29,7 @@ pub fn boxed(alloc: Global, types: &VarTable, sub: &Sub, post: Form) -> Result<F
     ensures within { OnOk result (IsWithinLimits (box types.now sub.now post)) }
     ensures too_large { result ≡ Err TooLarge → IsWithinLimits (box types.now sub.now post) → ⊥ }
 {
-    match &sub.node {
+    match &*sub.node {
         SubNode::Assign(terms) => Ok(replace(alloc, &post, terms)?),
         SubNode::Pre(p, s) => joined(alloc, BinOp::And, p, boxed(alloc, types, s, post)?),
         SubNode::Guard(p, s) => joined(alloc, BinOp::Imp, p, boxed(alloc, types, s, post)?),
@@ -78,7 +78,7 @@ pub fn diamond(alloc: Global, types: &VarTable, sub: &Sub, post: Form) -> Result
     ensures within { OnOk result (IsWithinLimits (diamond types.now sub.now post)) }
     ensures too_large { result ≡ Err TooLarge → IsWithinLimits (diamond types.now sub.now post) → ⊥ }
 {
-    match &sub.node {
+    match &*sub.node {
         SubNode::Assign(terms) => Ok(replace(alloc, &post, terms)?),
         SubNode::Pre(p, s) => joined(alloc, BinOp::Imp, p, diamond(alloc, types, s, post)?),
         SubNode::Guard(p, s) => joined(alloc, BinOp::And, p, diamond(alloc, types, s, post)?),

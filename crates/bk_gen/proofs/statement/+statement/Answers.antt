@@ -16,14 +16,12 @@ use Rattle.bk_gen.proofs.statement.+statement.Goals as goal
 pub add_statement-add_statement-requires-in-Seq : goal.add_statement-add_statement-requires-in-Seq
 add_statement-add_statement-requires-in-Seq t c =
     let p = unit_places c.args.unit.now in
-    let is : c.args.sub.now ≡ seq c.in-Seq.first.value c.in-Seq.second.value = sym c.sub.view_is ∙ ap sub_view c.in-Seq.is in
+    let is : c.args.sub.now ≡ seq c.in-Seq.first c.in-Seq.second = sym c.sub.view_is ∙ ap sub_view (sym c.deref.ensures ∙ c.in-Seq.is) in
     let has = subst (HasStatementCode p) is c.requires.has in
-    let fits : length c.args.code.now.items + (statement_size p c.in-Seq.first.value + statement_size p c.in-Seq.second.value) ≤ 1000000 = subst (λ s. length c.args.code.now.items + statement_size p s ≤ 1000000) is c.requires.short in
-    let first : c.deref-in-Seq.result.now ≡ c.in-Seq.first.value = c.deref-in-Seq.ensures in
-    let e1 : c.add_statement.new.code.items ≡ c.args.code.now.items ++ placed_statement p c.in-Seq.first.value = c.in_ok-add_statement-in-Seq.ensures ∙ ap (λ s. c.args.code.now.items ++ placed_statement p s) first in
-    let l1 : length c.add_statement.new.code.items ≡ length c.args.code.now.items + statement_size p c.in-Seq.first.value = longer c.args.code.now.items (placed_statement p c.in-Seq.first.value) c.add_statement.new.code.items (statement_size p c.in-Seq.first.value) e1 (statement_long p c.in-Seq.first.value has.0) in
-    let second : c.deref-in-Seq-2.result.now ≡ c.in-Seq.second.value = c.deref-in-Seq-2.ensures in
-    (search rules, (c.requires.ready, (subst (HasStatementCode p) (sym second) has.1, subst (λ s. length c.add_statement.new.code.items + statement_size p s ≤ 1000000) (sym second) (omega arith))))
+    let fits : length c.args.code.now.items + (statement_size p c.in-Seq.first + statement_size p c.in-Seq.second) ≤ 1000000 = subst (λ s. length c.args.code.now.items + statement_size p s ≤ 1000000) is c.requires.short in
+    let e1 : c.add_statement.new.code.items ≡ c.args.code.now.items ++ placed_statement p c.in-Seq.first = c.in_ok-add_statement-in-Seq.ensures in
+    let l1 : length c.add_statement.new.code.items ≡ length c.args.code.now.items + statement_size p c.in-Seq.first = longer c.args.code.now.items (placed_statement p c.in-Seq.first) c.add_statement.new.code.items (statement_size p c.in-Seq.first) e1 (statement_long p c.in-Seq.first has.0) in
+    (search rules, (c.requires.ready, (has.1, omega arith)))
 
 pub add_branches-add_statement-requires : goal.add_branches-add_statement-requires
 add_branches-add_statement-requires t c =

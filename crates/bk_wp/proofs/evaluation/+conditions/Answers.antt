@@ -14,11 +14,11 @@ returns-in_err-test-in-Pre-clause-too_large t c = λ e w.
     let table = c.args.types.now in
     let arrays = option_copied c.args.arrays in
     let p = c.in-Pre.p in
-    let s = c.in-Pre.s.value in
+    let s = c.in-Pre.s in
     let whole = both (defined table [] p) (where_true p (guarded table arrays s)) in
     let at = λ (x : Substitution) (h : c.args.sub.now ≡ x). subst (λ y. IsWithinLimits (guarded table arrays y)) h w in
     let asked : IsWithinLimits whole = elim c.in-Pre.is [
-      | inl h ↦ at (pre p s) (sym c.sub.view_is ∙ ap sub_view h)
-      | inr y ↦ elim y [ inl h ↦ at (guard p s) (sym c.sub.view_is ∙ ap sub_view h) | inr h ↦ at (assert p s) (sym c.sub.view_is ∙ ap sub_view h) ]
+      | inl h ↦ at (pre p s) (sym c.sub.view_is ∙ ap sub_view (sym c.deref.ensures ∙ h))
+      | inr y ↦ elim y [ inl h ↦ at (guard p s) (sym c.sub.view_is ∙ ap sub_view (sym c.deref.ensures ∙ h)) | inr h ↦ at (assert p s) (sym c.sub.view_is ∙ ap sub_view (sym c.deref.ensures ∙ h)) ]
     ] in
     c.in_err-test-in-Pre.ensures.too_large (grind arith) (within_both_left (defined table [] p) (where_true p (guarded table arrays s)) asked)

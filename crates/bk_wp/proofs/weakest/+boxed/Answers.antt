@@ -10,8 +10,7 @@ pub returns-in_err-boxed-in-Any-clause-too_large : goal.returns-in_err-boxed-in-
 returns-in_err-boxed-in-Any-clause-too_large t c = λ e w.
     let table = c.args.types.now in
     let zs = c.in-Any.locals.items in
-    let s = c.in-Any.s.value in
-    let is : c.args.sub.now ≡ any zs s = sym c.sub.view_is ∙ ap sub_view c.in-Any.is in
-    let body : c.deref-in-Any-2.result.now ≡ s = c.deref-in-Any-2.ensures in
+    let s = c.in-Any.s in
+    let is : c.args.sub.now ≡ any zs s = sym c.sub.view_is ∙ ap sub_view (sym c.deref.ensures ∙ c.in-Any.is) in
     let inner : IsWithinLimits (box table s c.args.post) = within_all_of table zs (box table s c.args.post) (subst (λ x. IsWithinLimits (box table x c.args.post)) is w) in
-    c.in_err-boxed-in-Any.ensures.too_large (grind arith) (subst (λ x. IsWithinLimits (box table x c.args.post)) (sym body) inner)
+    c.in_err-boxed-in-Any.ensures.too_large (grind arith) inner
