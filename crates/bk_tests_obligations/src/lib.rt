@@ -4,8 +4,6 @@
 #[cfg(test)]
 mod developments;
 #[cfg(test)]
-mod guarding;
-#[cfg(test)]
 mod many;
 #[cfg(test)]
 mod obligation_lists;
