@@ -2,10 +2,4 @@
 #![tactic(auto)]
 
 #[cfg(test)]
-mod developments;
-#[cfg(test)]
 mod guarding;
-#[cfg(test)]
-mod many;
-#[cfg(test)]
-mod obligation_lists;
