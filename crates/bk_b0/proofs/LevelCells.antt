@@ -10,6 +10,7 @@ use Rattle.bk_form.specs.Role.{gives, role}
 use Rattle.bk_form.specs.declared.arrays.ArrayRow.{ArrayRow}
 use Rattle.bk_form.specs.declared.arrays.ArrayDomain.{ArrayDomain}
 use Rattle.bk_form.specs.declared.operator.BinOp.TheVariants.{TotalFunctions}
+use Rattle.bk_form.proofs.Counted.{size-count}
 use Rattle.bk_form.proofs.Listed.{gives-same}
 use Rattle.bk_form.proofs.Members.{or-left, or-right}
 use Rattle.bk_form.proofs.Roles.{if_holds-gives}
@@ -84,7 +85,7 @@ module _ (dev : Development) where
       by_form (element s i) l w =
           let k = if_holds-gives _ (gives (enum_type s)) w.0 w.2 in
           let own : declared_type dev.table p.0 ≡ enum_type s = ap (λ o. unwrap_or o bool_type) w.1 ∙ sym (gives-same (enum_type s) w.0 k.1) in
-          (ap (λ t. is_of_kind dev t (pos i)) own ∙ k.0, sym (ap (λ t. number_as t (pos i)) own))
+          (ap (λ t. is_of_kind dev t (pos i)) own ∙ size-count dev.table s i k.0, sym (ap (λ t. number_as t (pos i)) own))
       by_form _ l w = absurd l
 
   values-kinds : (ps : List (ℕ × Formula)) → Each (IsValue dev) ps → ValuesHaveKinds dev ps

@@ -6,3 +6,4 @@ pub mod ArrayTypes
 pub mod Shapes
 pub mod Units
 pub mod IntervalCounts
+pub mod SetCounts

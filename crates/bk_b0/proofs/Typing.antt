@@ -9,6 +9,7 @@ use Rattle.bk_form.specs.Role.{Role, gives, predicate, if_holds, if_predicate, i
 use Rattle.bk_form.specs.declared.operator.UnOp.TheVariants.{Not, BoolOf, Neg as Minus, Single}
 use Rattle.bk_form.specs.declared.operator.BinOp.TheVariants.{And, Or, Eq as Equals, Lt as Below, Le as AtMost, Add as Plus, Sub as Less, Mul as By, Div as Over, Mod as Rest, Apply, Times, Over as Overridden, Maps, TotalFunctions}
 use Rattle.bk_form.specs.declared.arrays.ArrayRow.{ArrayRow}
+use Rattle.bk_form.proofs.Counted.{size-count}
 use Rattle.bk_form.proofs.Givers.{product-gives}
 use Rattle.bk_form.proofs.Listed.{gives-same}
 use Rattle.bk_form.proofs.Members.{and-both}
@@ -69,7 +70,7 @@ module _ (dev : Development) (typed_arrays : ArraysAreTyped dev) where
     typed-expression (variable x) t h b = (b.0, given-then (variable_type dev.table x) t h)
     typed-expression (literal z) t h b = (sym (gives-same int_type t h), b)
     typed-expression (truth_value z) t h b = sym (gives-same bool_type t h)
-    typed-expression (element s i) t h b = let w = if_holds-gives _ (gives (enum_type s)) t h in (sym (gives-same (enum_type s) t w.1), w.0)
+    typed-expression (element s i) t h b = let w = if_holds-gives _ (gives (enum_type s)) t h in (sym (gives-same (enum_type s) t w.1), size-count dev.table s i w.0)
     typed-expression (unary Minus a) t h b = let w = if_number-gives (gives int_type) (kind a) t h in (sym (gives-same int_type t w.1), typed-expression a int_type w.0 b)
     typed-expression (unary BoolOf p) t h b = let w = if_predicate-gives (gives bool_type) (kind p) t h in (sym (gives-same bool_type t w.1), typed-condition p w.0 b)
     typed-expression (binary Plus x y) t h b = let w = if_number-gives (if_number (gives int_type) (kind y)) (kind x) t h in let v = if_number-gives (gives int_type) (kind y) t w.1 in (sym (gives-same int_type t v.1), typed-expression x int_type w.0 b.0, typed-expression y int_type v.0 b.1)

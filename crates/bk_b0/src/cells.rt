@@ -2,6 +2,7 @@
 
 ghost use Rattle.std.specs.Prelude.{◌≡◌, pos, ◌+ℤ◌, ◌-ℤ◌, ◌++◌, length, map, IfOk, OnOk};
 ghost use Rattle.bk_form.specs.ArrayTable.{row_of};
+ghost use Rattle.bk_form.specs.Table.{set_size};
 ghost use Rattle.bk_form.specs.Operators.{count_of};
 ghost use Rattle.bk_dev.specs.Layout.{index_count, row_cells, locals, operation_variables};
 ghost use Rattle.bk_b0.specs.CodeUnit.{slot_with};
@@ -115,10 +116,21 @@ pub fn index_count(table: &VarTable, domain: ArrayDomain) -> u128
     match domain {
         ArrayDomain::Interval { low, high } => interval_count(low, high),
         ArrayDomain::Bool => 2,
-        ArrayDomain::Set(set) => match table.elements(set) {
-            Some(elements) => elements.len() as u128,
-            None => 0,
-        },
+        ArrayDomain::Set(set) => set_count(table, set),
+    }
+}
+
+// How many elements a set counts as having: one where it has no size yet.
+#[tactic(auto, using(crate::proofs::SetCounts::counts))]
+fn set_count(table: &VarTable, set: u32) -> u128
+    ensures { result ≡ set_size table.now set }
+{
+    if set as usize >= table.sets() {
+        return 0;
+    }
+    match table.size(set) {
+        0 => 1,
+        size => u128::from(size),
     }
 }
 

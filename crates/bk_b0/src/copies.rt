@@ -39,6 +39,7 @@ fn copied_set(alloc: Global, set: &EnumSet) -> Result<EnumSet, Memory>
     Ok(EnumSet {
         name: set.name.copy(alloc)?,
         elements: copied_texts(alloc, &set.elements)?,
+        size: set.size,
     })
 }
 

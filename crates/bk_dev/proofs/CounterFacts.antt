@@ -1,6 +1,7 @@
 -- The counter is a development.
-use Rattle.std.proofs.Common.{◌≡◌, ◌||◌, ℕ, zero, suc, pos, List, [], ◌∷◌, refl, sym, ap, subst, Bool, true, false, All, IsTrue, arith}
+use Rattle.std.proofs.Common.{◌<◌, ◌≡◌, ◌||◌, ℕ, zero, suc, pos, List, [], ◌∷◌, refl, sym, ap, subst, Bool, true, false, All, IsTrue, arith}
 use Rattle.std.specs.Prelude.{nat_eq, Some}
+use Rattle.std.proofs.lemmas.List.Elements.{All-nil}
 use Rattle.bk_val.specs.ValueType.{int_type}
 use Rattle.bk_form.specs.Table.{variable_type, lists_type, IsWellFormed}
 use Rattle.bk_form.specs.Formula.{variable, literal, binary, btrue}
@@ -35,7 +36,7 @@ names-bounds visible k v = record { closed = (tt, (tt, tt)); visible_only = λ n
 
 -- ---- the table
 pub table-facts : IsWellFormed counter_table
-table-facts = record { inhabited = λ k d h. absurd (omega (arith)); listed = listed; few_sets = omega (arith); few_variables = omega (arith) }
+table-facts = record { counted = λ k d h. absurd (omega (arith)); listed = listed; few_sets = omega (arith); few_variables = omega (arith) }
   where
     listed : All (λ v. IsTrue (lists_type counter_table v.of_type)) counter_table.variables
     listed zero d h = refl
@@ -148,6 +149,7 @@ pub counter_facts : IsDevelopment counter
 counter_facts = record {
   lawful = counter_lawful;
   only_last = two-levels counter refl refl;
+  sizes = λ h. All-nil (λ s. 0 < s.size);
   shapes = ((record { init = tt; bodies = (tt, (tt, (tt, tt))) }, (record { init = tt; bodies = (tt, (tt, (tt, tt))) }, tt)));
   binders_differ = (refl, (refl, tt));
   room = omega (arith);

@@ -24,7 +24,7 @@ module _ {A : Type 0} (P : A → Type 0) where
 
 pub flat-formed : (dev : Development) → IsWellFormed dev.table → length (flattened dev).table.variables < 2 ^ 32 → IsWellFormed (flattened dev).table
 flat-formed dev w room = record {
-  inhabited = w.inhabited;
+  counted = w.counted;
   listed = All-append (λ v. IsTrue (lists_type dev.table v.of_type)) dev.table.variables (filter_map (slice_get dev.table.variables) (copied_in_levels dev.levels)) w.listed (picked-all (λ v. IsTrue (lists_type dev.table v.of_type)) dev.table.variables w.listed (copied_in_levels dev.levels));
   few_sets = w.few_sets;
   few_variables = omega (arith, room);

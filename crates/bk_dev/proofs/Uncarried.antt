@@ -1,6 +1,7 @@
 -- The two are developments that do not carry: there is a state from which the implementation goes where the machine does not.
 use Rattle.std.proofs.Common.{◌≡◌, ◌<◌, inr, ℕ, zero, suc, pos, [], ◌∷◌, ◌++◌, length, refl, sym, ◌∙◌, ap, subst, Bool, true, false, arith}
 use Rattle.std.specs.Prelude.{Some, nat_eq, ◌^◌}
+use Rattle.std.proofs.lemmas.List.Elements.{All-nil}
 use Rattle.bk_val.specs.Value.{int}
 use Rattle.bk_val.specs.ValueType.{ValueType, int_type, is_value_of}
 use Rattle.bk_val.specs.CmpLaws.{same_value}
@@ -100,6 +101,7 @@ module _ (above below : Substitution) where
   turning-facts upper lower machine implementation differ room = record {
     lawful = turning-lawful upper lower;
     only_last = two-levels (turning above below) refl refl;
+    sizes = λ h. All-nil (λ s. 0 < s.size);
     shapes = (record { init = tt; bodies = (machine, tt) }, (record { init = tt; bodies = (implementation, tt) }, tt));
     binders_differ = differ;
     room = room;

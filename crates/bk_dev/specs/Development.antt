@@ -1,6 +1,7 @@
 -- A development: a machine, its chain of refinements and at most one implementation (B-Book, Theory of Abstract Machines and Refinement).
 use Rattle.std.specs.Prelude.{ℕ, ◌-◌, ℤ, pos, Bool, true, false, cond, List, [], length, slice_index_or}
 use Rattle.bk_form.specs.Table.{Table, SetEntry}
+use Rattle.bk_form.specs.Sized.{sized_from, with_sizes}
 use Rattle.bk_form.specs.Formula.{Formula, btrue}
 use Rattle.bk_gsl.specs.Substitution.{Substitution, skip, pre}
 use Rattle.bk_dev.specs.declared.kind.Kind.{Kind}
@@ -97,3 +98,8 @@ is_btrue _ = false
 -- the whole body, with its outermost precondition where there is one
 abbrev pub whole : Body → Substitution
 whole b = cond (is_btrue b.condition) b.sub (pre b.condition b.sub)
+
+-- ---- sizes
+-- the development in which each set without a size has the one for its number
+abbrev pub with_set_sizes : (ℕ → ℕ) → Development → Development
+with_set_sizes sizes dev = record dev { table = with_sizes sizes dev.table; sets = sized_from sizes 0 dev.sets }

@@ -3,6 +3,7 @@ use Rattle.std.specs.Prelude.{◌≡◌, ◌⊎◌, ◌<◌, ℕ, suc, nat_eq, p
 use Rattle.std.specs.List.{slice_get, flat_map}
 use Rattle.bk_val.specs.ValueType.{ValueType}
 use Rattle.bk_form.specs.Table.{Table, variable_type, IsWellFormed}
+use Rattle.bk_form.specs.Sized.{HasSizes}
 use Rattle.bk_form.specs.Formula.{Formula, literal, truth_value, element}
 use Rattle.bk_form.specs.Replacement.{occurs, IsClosed}
 use Rattle.bk_gsl.specs.Substitution.{Substitution, skip, assign, pre, guard, choice, if_else, any, seq, par, assert, becomes_such, loop}
@@ -320,6 +321,8 @@ OnlyLastIsImplementation dev = (k : ℕ) → suc k < length dev.levels → is_im
 pub record IsDevelopment (dev : Development) : Type 0 where
   pub lawful : IsLawful dev
   pub only_last : OnlyLastIsImplementation dev
+  -- where there is an implementation each set has a size
+  pub sizes : is_complete dev ≡ true → HasSizes dev.sets
   pub shapes : Each HasItsShape dev.levels
   -- no variable is bound twice, and none that is bound is an output
   pub binders_differ : AreDistinct (all_outputs dev ++ all_binders dev)

@@ -1,10 +1,12 @@
 -- The hypotheses of the obligations of a development.
-use Rattle.std.specs.Prelude.{ℕ, zero, suc, pos, ◌-ℤ◌, Bool, true, false, cond, List, [], ◌++◌, map, take, Option, Some}
+use Rattle.std.specs.Prelude.{ℕ, zero, suc, pos, ◌-ℤ◌, Bool, true, false, cond, List, [], ◌∷◌, ◌++◌, map, take, Option, Some}
 use Rattle.std.specs.List.{filter, flat_map}
 use Rattle.bk_val.specs.ValueType.{ValueType, int_type}
-use Rattle.bk_form.specs.Table.{variable_type}
-use Rattle.bk_form.specs.Formula.{Formula, variable, literal, binary}
+use Rattle.bk_form.specs.Table.{SetEntry, variable_type}
+use Rattle.bk_form.specs.Formula.{Formula, variable, literal, named, unary, binary}
+use Rattle.bk_form.specs.declared.operator.UnOp.TheVariants.{Card}
 use Rattle.bk_form.specs.declared.operator.BinOp.TheVariants.{Eq, In, Range}
+use Rattle.bk_form.specs.declared.operator.Domain.TheVariants.{Enum}
 use Rattle.bk_dev.specs.Development.{Level, Development, int_max, level_at, body_of, inputs_of, is_implementation}
 use Rattle.bk_form.specs.Predicates.{conjuncts, equation}
 
@@ -16,9 +18,23 @@ value_equation p = binary Eq (variable p.0) p.1
 abbrev pub properties_of : Development → ℕ → List Formula
 properties_of dev n = flat_map (λ l. conjuncts l.properties) (take n dev.levels)
 
--- the constants' values, at an implementation
+-- card(S) = n of set k, where it is deferred, as a set without elements' names is, and has a size
+abbrev pub size_equations_of : ℕ → List (List ℕ) → ℕ → List Formula
+size_equations_of k [] (suc n) = binary Eq (unary Card (named (Enum k))) (literal (pos (suc n))) ∷ []
+size_equations_of k _ _ = []
+
+-- those of sets one after another, from number k on
+abbrev pub size_equations_from : ℕ → List SetEntry → List Formula
+size_equations_from k [] = []
+size_equations_from k (s ∷ ss) = size_equations_of k s.elements s.size ++ size_equations_from (suc k) ss
+
+-- the sizes of the deferred sets
+abbrev pub size_equations : Development → List Formula
+size_equations dev = size_equations_from 0 dev.sets
+
+-- the sets' sizes and the constants' values, at an implementation
 abbrev pub values_at : Development → ℕ → List Formula
-values_at dev k = cond (is_implementation (level_at dev k)) (map value_equation dev.values) []
+values_at dev k = cond (is_implementation (level_at dev k)) (size_equations dev ++ map value_equation dev.values) []
 
 -- a level's invariant and links
 abbrev pub joining : Level → List Formula

@@ -1,11 +1,15 @@
 -- What holds of developments, and what a small machine reaches, as statements.
-use Rattle.std.specs.Prelude.{◌≡◌, ◌↔◌, pos, List, [], ◌∷◌, ◌<◌, ℕ, length}
+use Rattle.std.specs.Prelude.{◌≡◌, ◌↔◌, pos, true, List, [], ◌∷◌, ◌<◌, ℕ, length}
 use Rattle.bk_val.specs.Value.{MathValue, int}
 use Rattle.bk_form.specs.Search.{Finder}
 use Rattle.bk_dev.specs.Facts.{IsDevelopment, IsFlatDevelopment, IsLawful, LastIsFlat, OnlyLastIsImplementation}
 use Rattle.bk_dev.specs.Machine.{Abstract, Reach, Legal}
 use Rattle.bk_dev.specs.Counter.{counter, forbidden, setmax, get}
-use Rattle.bk_dev.specs.Development.{Development, body_at, level_at, last}
+use Rattle.bk_dev.specs.Development.{Development, body_at, level_at, last, is_complete, with_set_sizes}
+use Rattle.bk_dev.specs.Hypotheses.{size_equations}
+use Rattle.bk_form.specs.Predicates.{AllHold}
+use Rattle.bk_form.specs.Environment.{Environment}
+use Rattle.bk_form.specs.Sized.{AreSizes}
 use Rattle.bk_form.specs.Table.{IsWellFormed}
 use Rattle.bk_gsl.specs.Run.{Runs}
 use Rattle.bk_form.specs.Environment.{State}
@@ -64,3 +68,17 @@ pub record AreNotCarried : Type 0 where
   pub eager : (find : Finder) → Carries find eager 0 → ⊥
   pub other_facts : IsDevelopment one_after_the_other
   pub one_after_the_other : (find : Finder) → Carries find one_after_the_other 0 → ⊥
+
+-- ---- sizes of sets
+-- what sizes leave of developments
+pub record SizesKeepDevelopments : Type 0 where
+  -- a development with any sizes is one
+  pub development : (sizes : ℕ → ℕ) → AreSizes sizes → (dev : Development) → IsDevelopment dev → IsDevelopment (with_set_sizes sizes dev)
+  -- where there is an implementation there is one choice of sizes
+  pub whole : (sizes : ℕ → ℕ) (dev : Development) → IsDevelopment dev → is_complete dev ≡ true → with_set_sizes sizes dev ≡ dev
+  -- flattening makes no difference
+  pub flat : (sizes : ℕ → ℕ) (dev : Development) → flattened (with_set_sizes sizes dev) ≡ with_set_sizes sizes (flattened dev)
+
+-- what is said of the sizes is true
+abbrev pub SizesHold : Type 0
+SizesHold = (find : Finder) (dev : Development) → dev.sets ≡ dev.table.sets → (e : Environment) → e.table ≡ dev.table → AllHold find e (size_equations dev)

@@ -10,11 +10,13 @@ use bk_gsl::Sub;
 use bk_io::Text;
 use std::marker::Model;
 
-/// An enumerated set, as the SETS clause of the machine gives it.
+/// A set, as the SETS clause of the machine gives it: an enumerated set with its elements' names, or a deferred set, which has no
+/// names, and whose size is 0 until VALUES gives it one.
 #[derive(Drop)]
 pub struct EnumSet {
     pub name: Text,
     pub elements: Vec<Text>,
+    pub size: u32,
 }
 
 impl Model for EnumSet {
@@ -25,7 +27,7 @@ impl Model for EnumSet {
 
     ghost coded = { coded_set };
 
-    ghost view = { λ s. record { name = s.name; elements = s.elements.items } };
+    ghost view = { λ s. record { name = s.name; elements = s.elements.items; size = s.size } };
 }
 
 /// An operation's header, the same at every level: its name, its inputs by their numbers, and how many outputs it has.

@@ -1,6 +1,6 @@
 //! What holds of developments, and what a small machine reaches. Each law is the contract of a function that does nothing.
 
-ghost use Rattle.bk_dev.specs.Laws.{CounterIsDevelopment, ReachesTen, AnswersTen, LegalWhere, FlattenedIsLawful, FlattenedRuns, FlattenedKeepsCells, FlattenedStaysInB0, AreNotCarried};
+ghost use Rattle.bk_dev.specs.Laws.{CounterIsDevelopment, ReachesTen, AnswersTen, LegalWhere, FlattenedIsLawful, FlattenedRuns, FlattenedKeepsCells, FlattenedStaysInB0, SizesKeepDevelopments, SizesHold, AreNotCarried};
 
 /// A counter, to be checked by hand.
 pub fn counter()
@@ -21,4 +21,10 @@ pub fn flat_developments()
 /// Two developments whose implementations do not carry their machines.
 pub fn not_carried()
     ensures { AreNotCarried }
+{}
+
+/// A development stays one whatever sizes its deferred sets get, and what is said of the sizes is true.
+pub fn set_sizes()
+    ensures developments { SizesKeepDevelopments }
+    ensures hold { SizesHold }
 {}

@@ -9,7 +9,7 @@ use Rattle.std.specs.declared.cmp.Ordering.{Ordering}
 use Rattle.std.specs.declared.cmp.Ordering.TheVariants.{Less, Equal, Greater}
 use Rattle.bk_val.proofs.Elements.{same_elements}
 use Rattle.bk_val.proofs.SortedLists.{Below, below_all}
-use Rattle.bk_form.specs.Table.{Table, set_size, variable_type, lists_type}
+use Rattle.bk_form.specs.Table.{Table, listed_size, set_size, variable_type, lists_type}
 use Rattle.bk_form.specs.Formula.{Formula, variable, bound, literal, truth_value, element, empty_set, named, btrue, bfalse, unary, binary, for_all, for_some, comprehension, lambda}
 use Rattle.bk_form.specs.declared.operator.Domain.{Domain}
 use Rattle.bk_form.specs.declared.operator.Domain.TheVariants.{Bool as Booleans, Enum}
@@ -260,7 +260,7 @@ truth-meaning find e (variable n) h = absurd (given-none (variable_type e.table 
 truth-meaning find e (bound n) h = absurd (bound-none e.table (slice_get e.bound n) h)
 truth-meaning find e (literal z) h = absurd (gives-none int_type h)
 truth-meaning find e (truth_value b) h = absurd (gives-none bool_type h)
-truth-meaning find e (element s i) h = absurd (if_holds-none (nat_lt i (set_size e.table s)) (gives (enum_type s)) (gives-none (enum_type s)) h)
+truth-meaning find e (element s i) h = absurd (if_holds-none (nat_lt i (listed_size e.table s)) (gives (enum_type s)) (gives-none (enum_type s)) h)
 truth-meaning find e (empty_set t) h = absurd (empty-none e.table t h)
 truth-meaning find e (named d) h = absurd (named-none e.table d h)
 truth-meaning find e btrue h = refl

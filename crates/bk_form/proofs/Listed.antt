@@ -2,7 +2,7 @@
 use Rattle.std.proofs.Common.{◌≡◌, ℕ, nat_lt, List, [], ◌∷◌, refl, sym, ◌∙◌, subst, true, ◌&&◌}
 use Rattle.std.specs.Prelude.{Option, Some, None, slice_get}
 use Rattle.bk_val.specs.ValueType.{ValueType, int_type, bool_type, enum_type, pair_type, set_type}
-use Rattle.bk_form.specs.Table.{Table, lists_type, set_size, variable_type}
+use Rattle.bk_form.specs.Table.{Table, lists_type, listed_size, variable_type}
 use Rattle.bk_form.specs.Formula.{Formula, variable, bound, literal, truth_value, element, empty_set, named, btrue, bfalse, unary, binary, for_all, for_some, comprehension, lambda, Formulas, no_formulas, formula_and}
 use Rattle.bk_form.specs.Role.{Role, gives, predicate, if_holds, if_predicate, if_number, if_value, if_set, if_relation, same_type, given_by, bound_role, empty_role, element_role, named_role, role, roles, unary_role, binary_role, numbers_role, sets_role, product_role, domain_part_role, range_part_role, override_role, pair_role, image_role, application_role, composition_role, bind, gives_set, each_gives_set, are_ranges, element_type, element_types, tuple_type_onto, tuple_type}
 use Rattle.bk_form.specs.declared.operator.UnOp.{UnOp}
@@ -188,7 +188,7 @@ module _ (table : Table) where
       gives-listed around (literal z) t h = as_given int_type t h refl
       gives-listed around (truth_value b) t h = as_given bool_type t h refl
       gives-listed around (element s i) t h =
-          let k = if_holds-gives (nat_lt i (set_size table s)) (gives (enum_type s)) t h in
+          let k = if_holds-gives (nat_lt i (listed_size table s)) (gives (enum_type s)) t h in
           as_given (enum_type s) t k.1 (elements_listed s i (h ∙ sym k.1))
       gives-listed around (empty_set u) t h = empty-listed u t h
       gives-listed around (named d) t h = named-listed d t h

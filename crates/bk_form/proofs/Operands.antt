@@ -2,7 +2,7 @@
 use Rattle.std.proofs.Common.{◌≡◌, ℕ, List, [], ◌∷◌, refl, Bool, true, false, ◌&&◌, nat_lt}
 use Rattle.std.specs.Prelude.{Option, Some, None, slice_get}
 use Rattle.bk_val.specs.ValueType.{ValueType, int_type, bool_type, enum_type, pair_type, set_type}
-use Rattle.bk_form.specs.Table.{Table, lists_type, set_size, variable_type}
+use Rattle.bk_form.specs.Table.{Table, lists_type, listed_size, variable_type}
 use Rattle.bk_form.specs.Formula.{Formula, variable, bound, literal, truth_value, element, empty_set, named, btrue, bfalse, unary, binary, for_all, for_some, comprehension, lambda, Formulas, no_formulas, formula_and}
 use Rattle.bk_form.specs.Role.{Role, gives, ranges_over, predicate, if_holds, if_predicate, if_number, if_value, if_set, if_relation, if_domain, same_type, given_by, bound_role, empty_role, named_role, role, roles, unary_role, binary_role, product_role, bind, are_ranges, element_type, element_types, tuple_type_onto, tuple_type}
 use Rattle.bk_form.specs.declared.operator.UnOp.{UnOp}
@@ -283,7 +283,7 @@ module _ (table : Table) where
   named-l (Enum n) = holds-l (lists_type table (enum_type n)) (gives (set_type (enum_type n))) (λ q. q)
   named-l _ = refl
 
-  module _ (variables_listed : (n : ℕ) (t : ValueType) → variable_type table n ≡ Some t → Lists t) (elements_listed : (s i : ℕ) → nat_lt i (set_size table s) ≡ true → Lists (enum_type s)) where
+  module _ (variables_listed : (n : ℕ) (t : ValueType) → variable_type table n ≡ Some t → Lists t) (elements_listed : (s i : ℕ) → nat_lt i (listed_size table s) ≡ true → Lists (enum_type s)) where
     variable-l : (n : ℕ) (o : Option ValueType) → variable_type table n ≡ o → ListsRole (given_by o)
     variable-l n None e = tt
     variable-l n (Some t) e = variables_listed n t e
@@ -294,7 +294,7 @@ module _ (table : Table) where
       role-l around (bound n) = bound-l (slice_get around n)
       role-l around (literal z) = refl
       role-l around (truth_value b) = refl
-      role-l around (element s i) = holds-l (nat_lt i (set_size table s)) (gives (enum_type s)) (λ q. elements_listed s i q)
+      role-l around (element s i) = holds-l (nat_lt i (listed_size table s)) (gives (enum_type s)) (λ q. elements_listed s i q)
       role-l around (empty_set t) = empty-l t
       role-l around (named d) = named-l d
       role-l around btrue = tt

@@ -6,7 +6,7 @@ use Rattle.std.proofs.lemmas.List.Elements.{All-head, All-tail}
 use Rattle.std.proofs.lemmas.Bool.Decides.{nat_tests}
 use Rattle.bk_val.specs.Value.{MathValue, int, bool, elem, pair, set, none}
 use Rattle.bk_val.specs.ValueType.{ValueType, int_type, bool_type, enum_type, pair_type, set_type, base_of, is_value_of, are_of_types}
-use Rattle.bk_form.specs.Table.{Table, SetEntry, VariableEntry, set_size, variable_type, is_among_sets, lists_type, IsWellFormed}
+use Rattle.bk_form.specs.Table.{Table, VariableEntry, listed_size, set_size, variable_type, is_among_sets, lists_type, IsWellFormed}
 use Rattle.bk_form.specs.Formula.{Formula, variable, bound, literal, truth_value, element, empty_set, named, btrue, bfalse, unary, binary, for_all, for_some, comprehension, lambda, Formulas, no_formulas, formula_and}
 use Rattle.bk_form.specs.Search.{Finder}
 use Rattle.bk_form.specs.Environment.{Environment, Binding, bindings, bound_types, under, all_typed, IsTyped, State, IsTypedState, at_state}
@@ -15,6 +15,7 @@ use Rattle.bk_form.specs.Operators.{elements, set_value, elements_from, named_va
 use Rattle.bk_form.specs.Meaning.{Meaning, meaning, meanings, value, truth, bound_meaning, type_in, roles_of, range_types, chosen}
 use Rattle.bk_form.specs.declared.operator.Domain.{Domain}
 use Rattle.bk_form.specs.declared.operator.Domain.TheVariants.{Bool as Booleans, Enum}
+use Rattle.bk_form.proofs.Counted.{size-listed, listed-count, size-count}
 use Rattle.bk_form.proofs.Members.{Has, Has-map-then, Has-filter-then, Has-flat_map-then, elements-then, and-true, and-both}
 use Rattle.bk_form.proofs.Roles.{if_holds-gives, if_predicate-gives, if_value-gives, meaning-role, types-bind}
 use Rattle.bk_form.proofs.Givers.{quantifier-gives, value-meaning}
@@ -26,25 +27,6 @@ nat_eq-self : (n : ℕ) → nat_eq n n ≡ true
 nat_eq-self n = grind (arith, nat_tests)
 
 -- ---- the facts of a table
-size_at : List SetEntry → ℕ → ℕ
-size_at sets n = option_map_or length (option_map (λ s. s.elements) (slice_get sets n)) 0
-
--- a listed set has an element
-inhabited-at : (sets : List SetEntry) → All (λ s. 0 < length s.elements) sets → (n : ℕ) → nat_lt n (length sets) ≡ true → nat_lt 0 (size_at sets n) ≡ true
-unfolding size_at
-inhabited-at [] h n l = absurd (none n l)
-  where
-    none : (n : ℕ) → nat_lt n 0 ≡ true → ⊥
-    none n l = grind (arith, nat_tests)
-inhabited-at (s ∷ sets) h zero l = first (length s.elements) (All-head (λ s. 0 < length s.elements) s sets h)
-  where
-    first : (n : ℕ) → 0 < n → nat_lt 0 n ≡ true
-    first n h = grind (arith, nat_tests)
-inhabited-at (s ∷ sets) h (suc n) l = inhabited-at sets (All-tail (λ s. 0 < length s.elements) s sets h) n (smaller n (length sets) l)
-  where
-    smaller : (m n : ℕ) → nat_lt (suc m) (suc n) ≡ true → nat_lt m n ≡ true
-    smaller m n h = grind (arith, nat_tests)
-
 listed-at : (count : ℕ) (vars : List VariableEntry) → All (λ v. IsTrue (is_among_sets count v.of_type)) vars → (n : ℕ) (t : ValueType) → option_map (λ v. v.of_type) (slice_get vars n) ≡ Some t → is_among_sets count t ≡ true
 listed-at count [] h n t e = absurd (cc)
 listed-at count (v ∷ vars) h zero t e = let q : v.of_type ≡ t = cc in subst (λ x. is_among_sets count x ≡ true) q (true-then (is_among_sets count v.of_type) (All-head (λ v. IsTrue (is_among_sets count v.of_type)) v vars h))
@@ -56,29 +38,15 @@ listed-at count (v ∷ vars) h (suc n) t e = listed-at count vars (All-tail (λ 
 
 -- ---- base values
 pub base-of : (table : Table) → IsWellFormed table → (t : ValueType) → Lists table t → Of (set_size table) t (base_of t)
-unfolding size_at
 base-of table w int_type l = refl
 base-of table w bool_type l = refl
-base-of table w (enum_type n) l = and-true (nat_eq n n) (nat_lt 0 (set_size table n)) (nat_eq-self n) (inhabited-at table.sets w.inhabited n l)
+base-of table w (enum_type n) l = and-true (nat_eq n n) (nat_lt 0 (set_size table n)) (nat_eq-self n) (listed-count table n l)
 base-of table w (pair_type t u) l = let k = and-both (lists_type table t) (lists_type table u) l in and-true (is_value_of (set_size table) t (base_of t)) (is_value_of (set_size table) u (base_of u)) (base-of table w t k.0) (base-of table w u k.1)
 base-of table w (set_type t) l = refl
 
--- a set with elements is listed
-some-lists : (sets : List SetEntry) (s i : ℕ) → i < size_at sets s → nat_lt s (length sets) ≡ true
-unfolding size_at
-some-lists [] s i h = absurd (omega arith)
-some-lists (x ∷ xs) zero i h = grind (arith, nat_tests)
-some-lists (x ∷ xs) (suc s) i h = let k = some-lists xs s i h in grind (arith, nat_tests)
-
+-- a set of which an element types is listed
 element-lists : (table : Table) (s i : ℕ) → element_role table s i ≡ gives (enum_type s) → Lists table (enum_type s)
-unfolding size_at
-element-lists table s i h =
-    let k = if_holds-gives (nat_lt i (set_size table s)) (gives (enum_type s)) (enum_type s) h in
-    let l : i < set_size table s = below i (set_size table s) k.0 in
-    some-lists table.sets s i l
-  where
-    below : (i n : ℕ) → nat_lt i n ≡ true → i < n
-    below i n h = grind (arith, nat_tests)
+element-lists table s i h = size-listed table s i (if_holds-gives (nat_lt i (listed_size table s)) (gives (enum_type s)) (enum_type s) h).0
 
 -- ---- bound numbers
 typed-bind : (sizes : ℕ → ℕ) (ts : List ValueType) (vs : List MathValue) (bs : List Binding) → are_of_types sizes ts vs ≡ true → all_typed sizes bs ≡ true → all_typed sizes (bind (bindings ts vs) bs) ≡ true
@@ -180,8 +148,8 @@ module _ (find : Finder) where
     value-of e w h (literal z) t r = subst (λ x. Of (set_size e.table) x (int z)) (gives-same int_type t r) refl
     value-of e w h (truth_value b) t r = subst (λ x. Of (set_size e.table) x (bool b)) (gives-same bool_type t r) refl
     value-of e w h (element s i) t r =
-        let k = if_holds-gives (nat_lt i (set_size e.table s)) (gives (enum_type s)) t r in
-        subst (λ x. Of (set_size e.table) x (elem s i)) (gives-same (enum_type s) t k.1) (and-true (nat_eq s s) (nat_lt i (set_size e.table s)) (nat_eq-self s) k.0)
+        let k = if_holds-gives (nat_lt i (listed_size e.table s)) (gives (enum_type s)) t r in
+        subst (λ x. Of (set_size e.table) x (elem s i)) (gives-same (enum_type s) t k.1) (and-true (nat_eq s s) (nat_lt i (set_size e.table s)) (nat_eq-self s) (size-count e.table s i k.0))
     value-of e w h (empty_set u) t r = empty-of e.table u t r
     value-of e w h (named d) t r = named-of e.table d t r
     value-of e w h btrue t r = absurd (cc)

@@ -7,7 +7,7 @@ use Rattle.std.proofs.lemmas.Bool.Decides.{nat_tests}
 use Rattle.bk_val.specs.Value.{MathValue, MathValues, int, bool, elem, pair, set, none, more, is_rising}
 use Rattle.bk_val.specs.Sets.{has}
 use Rattle.bk_val.specs.ValueType.{ValueType, int_type, bool_type, enum_type, pair_type, set_type, base_of, is_value_of, are_values_of, are_of_types}
-use Rattle.bk_form.specs.Table.{Table, SetEntry, VariableEntry, lists_type, is_among_sets, set_size, variable_type, IsWellFormed}
+use Rattle.bk_form.specs.Table.{Table, VariableEntry, lists_type, is_among_sets, at_least_one, listed_size, set_size, variable_type, IsWellFormed}
 use Rattle.bk_form.specs.Formula.{Formula, variable, bound, literal, truth_value, element, empty_set, named, btrue, bfalse, unary, binary, for_all, for_some, comprehension, lambda, Formulas, no_formulas, formula_and}
 use Rattle.bk_form.specs.Search.{Finder, no_choice}
 use Rattle.bk_form.specs.Environment.{Environment, State, Binding, bindings}
@@ -18,6 +18,7 @@ use Rattle.bk_form.specs.declared.operator.BinOp.{BinOp}
 use Rattle.bk_form.specs.declared.operator.BinOp.TheVariants.{TotalFunctions, TotalInjections, PartialSurjections, TotalSurjections, Bijections}
 use Rattle.bk_form.specs.declared.operator.Domain.{Domain}
 use Rattle.bk_form.specs.declared.operator.Domain.TheVariants.{Integer, Natural, Natural1, Bool as Booleans, Enum}
+use Rattle.bk_form.proofs.Counted.{size-listed}
 use Rattle.bk_form.proofs.Members.{and-both}
 use Rattle.bk_form.proofs.Roles.{meaning-role, meanings-role, types-bind}
 use Rattle.bk_form.specs.Wider.{IsWider, IsTypedRole}
@@ -50,24 +51,6 @@ listed-at count [] h n t e = absurd (cc)
 listed-at count (v ∷ vars) h zero t e = let q : v.of_type ≡ t = cc in subst (λ x. is_among_sets count x ≡ true) q (true-then (is_among_sets count v.of_type) (All-head (λ v. IsTrue (is_among_sets count v.of_type)) v vars h))
 listed-at count (v ∷ vars) h (suc n) t e = listed-at count vars (All-tail (λ v. IsTrue (is_among_sets count v.of_type)) v vars h) n t e
 
-abbrev size_in : List SetEntry → ℕ → ℕ
-size_in sets n = option_map_or length (option_map (λ s. s.elements) (slice_get sets n)) 0
-
--- a set with an element is listed
-sized-listed : (sets : List SetEntry) (n i : ℕ) → nat_lt i (size_in sets n) ≡ true → nat_lt n (length sets) ≡ true
-sized-listed [] n i h = absurd (none i h)
-  where
-    none : (n : ℕ) → nat_lt n 0 ≡ true → ⊥
-    none n h = grind (arith, nat_tests)
-sized-listed (s ∷ sets) zero i h = first (length sets)
-  where
-    first : (m : ℕ) → nat_lt zero (suc m) ≡ true
-    first m = grind (arith, nat_tests)
-sized-listed (s ∷ sets) (suc n) i h = more n (length sets) (sized-listed sets n i h)
-  where
-    more : (m n : ℕ) → nat_lt m n ≡ true → nat_lt (suc m) (suc n) ≡ true
-    more m n h = grind (arith, nat_tests)
-
 among-more : (m n : ℕ) (t : ValueType) → m ≤ n → is_among_sets m t ≡ true → is_among_sets n t ≡ true
 among-more m n int_type h q = refl
 among-more m n bool_type h q = refl
@@ -94,8 +77,8 @@ module _ (small large : Table) (well : IsWellFormed small) (wider : IsWider smal
   pub variables_listed : (n : ℕ) (t : ValueType) → variable_type small n ≡ Some t → Lists small t
   variables_listed n t h = listed-at (length small.sets) small.variables well.listed n t h
 
-  elements_listed : (s i : ℕ) → nat_lt i (set_size small s) ≡ true → Lists small (enum_type s)
-  elements_listed s i h = sized-listed small.sets s i h
+  elements_listed : (s i : ℕ) → nat_lt i (listed_size small s) ≡ true → Lists small (enum_type s)
+  elements_listed s i h = size-listed small s i h
 
   sets-more : length small.sets ≤ length large.sets
   sets-more = let e : length large.sets ≡ length (small.sets ++ wider.sets.0) = ap length wider.sets.1 in omega (arith, length-append small.sets wider.sets.0)
@@ -104,7 +87,10 @@ module _ (small large : Table) (well : IsWellFormed small) (wider : IsWider smal
   lists-wider t h = among-more (length small.sets) (length large.sets) t sets-more h
 
   pub size-same : (n : ℕ) → Lists small (enum_type n) → set_size large n ≡ set_size small n
-  size-same n h = ap (λ ss. size_in ss n) wider.sets.1 ∙ ap (λ o. option_map_or length (option_map (λ s. s.elements) o) 0) (get-same small.sets wider.sets.0 n h)
+  size-same n h = ap (λ ss. option_map_or (λ s. at_least_one s.size) (slice_get ss n) 0) wider.sets.1 ∙ ap (λ o. option_map_or (λ s. at_least_one s.size) o 0) (get-same small.sets wider.sets.0 n h)
+
+  listed-same : (n : ℕ) → Lists small (enum_type n) → listed_size large n ≡ listed_size small n
+  listed-same n h = ap (λ ss. option_map_or (λ s. s.size) (slice_get ss n) 0) wider.sets.1 ∙ ap (λ o. option_map_or (λ s. s.size) o 0) (get-same small.sets wider.sets.0 n h)
 
   mutual
     -- a type of listed sets has the same values
@@ -234,8 +220,8 @@ module _ (small large : Table) (well : IsWellFormed small) (wider : IsWider smal
       meaning-wider b (literal z) h = refl
       meaning-wider b (truth_value z) h = refl
       meaning-wider b (element s i) h =
-          let k = holds-op (nat_lt i (set_size small s)) (gives (enum_type s)) h in
-          ap (λ n. of_value (if_holds (nat_lt i n) (gives (enum_type s))) (elem s i)) (size-same s (elements_listed s i k.0))
+          let k = holds-op (nat_lt i (listed_size small s)) (gives (enum_type s)) h in
+          ap (λ n. of_value (if_holds (nat_lt i n) (gives (enum_type s))) (elem s i)) (listed-same s (elements_listed s i k.0))
       meaning-wider b (empty_set t) h = ap (λ r. of_value r (set none)) (empty-same t h)
       meaning-wider b (named d) h = named-same d h
       meaning-wider b btrue h = refl

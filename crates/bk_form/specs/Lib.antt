@@ -24,4 +24,5 @@ pub mod Predicates
 pub mod Wider
 pub mod MemberLaws
 pub mod Settings
+pub mod Sized
 pub mod Operands

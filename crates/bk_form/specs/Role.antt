@@ -1,7 +1,7 @@
 -- The typing of formulas: what a formula stands for, by its form alone.
 use Rattle.std.specs.Prelude.{ℕ, nat_eq, nat_lt, Bool, true, false, ◌&&◌, List, [], ◌∷◌, map, Option, Some, None, slice_get}
 use Rattle.bk_val.specs.ValueType.{ValueType, int_type, bool_type, enum_type, pair_type, set_type}
-use Rattle.bk_form.specs.Table.{Table, set_size, variable_type, lists_type}
+use Rattle.bk_form.specs.Table.{Table, listed_size, variable_type, lists_type}
 use Rattle.bk_form.specs.Formula.{Formula, variable, bound, literal, truth_value, element, empty_set, named, btrue, bfalse, unary, binary, for_all, for_some, comprehension, lambda, Formulas, no_formulas, formula_and}
 use Rattle.bk_form.specs.declared.operator.UnOp.{UnOp}
 use Rattle.bk_form.specs.declared.operator.UnOp.TheVariants.{Not, BoolOf, Neg, Card, Min, Max, Dom, Ran, Id, Inverse, Single, Pow, Pow1}
@@ -192,9 +192,9 @@ abbrev pub empty_role : Table → ValueType → Role
 empty_role table (set_type t) = if_holds (lists_type table t) (gives (set_type t))
 empty_role table _ = untyped
 
--- an element gives its enumerated set, where the set has an element of that number
+-- an element gives its set, where the number is below the set's size: of a set without a size no element types
 abbrev pub element_role : Table → ℕ → ℕ → Role
-element_role table s i = if_holds (nat_lt i (set_size table s)) (gives (enum_type s))
+element_role table s i = if_holds (nat_lt i (listed_size table s)) (gives (enum_type s))
 
 -- BOOL and the enumerated sets are values; the others are infinite
 abbrev pub named_role : Table → Domain → Role

@@ -1,20 +1,22 @@
--- Tables of the enumerated sets and the variables that formulas speak of.
-use Rattle.std.specs.Prelude.{ℕ, ◌<◌, ◌≤◌, ◌^◌, Bool, true, ◌&&◌, nat_lt, IsTrue, All, List, [], ◌∷◌, ◌++◌, length, Option}
+-- Tables of the sets and the variables that formulas speak of.
+use Rattle.std.specs.Prelude.{◌≡◌, ◌⊎◌, ℕ, zero, suc, ◌<◌, ◌≤◌, ◌^◌, Bool, true, ◌&&◌, nat_lt, IsTrue, All, List, [], ◌∷◌, ◌++◌, length, Option}
 use Rattle.std.specs.List.{slice_get}
 use Rattle.std.specs.Option.{option_map, option_map_or}
 use Rattle.bk_val.specs.ValueType.{ValueType, int_type, bool_type, enum_type, pair_type, set_type}
 
--- an enumerated set: its name and its elements' names, as bytes
+-- an enumerated set with its elements' names, or a deferred set, whose elements have none; names are bytes
 pub record SetEntry : Type 0 where
   pub name : List ℕ
   pub elements : List (List ℕ)
+  -- how many elements it has; 0 for a deferred set without a size
+  pub size : ℕ
 
 -- a variable: its name as bytes, and the type of its values
 pub record VariableEntry : Type 0 where
   pub text : List ℕ
   pub of_type : ValueType
 
--- the enumerated sets and the variables, each by its number: its place in the list
+-- the sets and the variables, each by its number: its place in the list
 pub record Table : Type 0 where
   pub sets : List SetEntry
   pub variables : List VariableEntry
@@ -39,9 +41,18 @@ set_name t n = option_map (λ s. s.name) (slice_get t.sets n)
 abbrev pub set_elements : Table → ℕ → Option (List (List ℕ))
 set_elements t n = option_map (λ s. s.elements) (slice_get t.sets n)
 
--- how many elements set n has: 0 where it is not listed
+-- the size of set n: 0 where it has none, or is not listed
+abbrev pub listed_size : Table → ℕ → ℕ
+listed_size t n = option_map_or (λ s. s.size) (slice_get t.sets n) 0
+
+-- a number, and 1 for 0
+abbrev pub at_least_one : ℕ → ℕ
+at_least_one zero = 1
+at_least_one (suc n) = suc n
+
+-- how many elements set n counts as having where formulas are read: one where it has no size yet, 0 where it is not listed
 abbrev pub set_size : Table → ℕ → ℕ
-set_size t n = option_map_or length (set_elements t n) 0
+set_size t n = option_map_or (λ s. at_least_one s.size) (slice_get t.sets n) 0
 
 -- the name of variable n, if there is one
 abbrev pub variable_text : Table → ℕ → Option (List ℕ)
@@ -51,7 +62,7 @@ variable_text t n = option_map (λ v. v.text) (slice_get t.variables n)
 abbrev pub variable_type : Table → ℕ → Option ValueType
 variable_type t n = option_map (λ v. v.of_type) (slice_get t.variables n)
 
--- whether each enumerated set in the type is one of the first n
+-- whether each set in the type is one of the first n
 abbrev pub is_among_sets : ℕ → ValueType → Bool
 is_among_sets n int_type = true
 is_among_sets n bool_type = true
@@ -59,13 +70,17 @@ is_among_sets n (enum_type e) = nat_lt e n
 is_among_sets n (pair_type s t) = is_among_sets n s && is_among_sets n t
 is_among_sets n (set_type t) = is_among_sets n t
 
--- whether the table lists each enumerated set in the type
+-- whether the table lists each set in the type
 abbrev pub lists_type : Table → ValueType → Bool
 lists_type t s = is_among_sets (length t.sets) s
 
--- each listed set has an element, the types of the variables have only listed sets, and numbers of 32 bits reach all
+-- a deferred set, or one with as many elements as names
+abbrev pub IsCounted : SetEntry → Type 0
+IsCounted s = (s.elements ≡ []) ⊎ (s.size ≡ length s.elements)
+
+-- each enumerated set has as many elements as names, the types of the variables have only listed sets, and numbers of 32 bits reach all
 pub record IsWellFormed (t : Table) : Type 0 where
-  pub inhabited : All (λ s. 0 < length s.elements) t.sets
+  pub counted : All IsCounted t.sets
   pub listed : All (λ v. IsTrue (lists_type t v.of_type)) t.variables
   pub few_sets : length t.sets ≤ 2 ^ 32
   pub few_variables : length t.variables ≤ 2 ^ 32

@@ -4,9 +4,9 @@ use Rattle.std.specs.Coded.{Coded, code_by, coded×, coded_ℕ, coded_list}
 use Rattle.bk_val.specs.ValueType.{ValueType, coded_type}
 use Rattle.bk_form.specs.Table.{SetEntry, VariableEntry, Table}
 
--- an enumerated set is told by its name and its elements' names
+-- a set is told by its name, its elements' names and its size
 abbrev pub coded_set : Coded SetEntry
-coded_set = code_by (List ℕ × List (List ℕ)) (coded× (coded_list coded_ℕ) (coded_list (coded_list coded_ℕ))) (λ s. (s.name, s.elements)) (λ p. record { name = p.0; elements = p.1 }) (λ _. refl)
+coded_set = code_by (List ℕ × (List (List ℕ) × ℕ)) (coded× (coded_list coded_ℕ) (coded× (coded_list (coded_list coded_ℕ)) coded_ℕ)) (λ s. (s.name, (s.elements, s.size))) (λ p. record { name = p.0; elements = p.1.0; size = p.1.1 }) (λ _. refl)
 
 -- a variable is told by its name and its type
 abbrev pub coded_variable : Coded VariableEntry

@@ -3,6 +3,7 @@
 ghost use Rattle.bk_form.specs.Laws.{AllMeans, SomeMeans, IsIndependent, SearchExists, IsClassical, IsSoundTyping, ReplacementMeans, ComprehensionHas, LambdaHas, IntervalHas, TotalMeans, OntoMeans, NoTotalFunction, ChoicesAre, Examples, DefinedExamples, WideningMeans, WideningKeepsRoles, WideningKeepsDefined};
 ghost use Rattle.bk_form.specs.MemberLaws.{OperatorMembers, ArrowsMean, MeaningIsKnown};
 ghost use Rattle.bk_form.specs.Operands.{OperandsAreTyped};
+ghost use Rattle.bk_form.specs.Sized.{SizesKeepRoles, SizesFit, SetsAreCounted};
 
 /// What the quantifiers say.
 pub fn quantifiers()
@@ -75,4 +76,11 @@ pub fn wider_tables()
     ensures means { WideningMeans }
     ensures roles { WideningKeepsRoles }
     ensures defined { WideningKeepsDefined }
+{}
+
+/// What the sizes of deferred sets leave as it was, and that a set has as many elements as its size says.
+pub fn sized_tables()
+    ensures roles { SizesKeepRoles }
+    ensures fit { SizesFit }
+    ensures counted { SetsAreCounted }
 {}

@@ -1,19 +1,20 @@
-// Tables of the enumerated sets and the variables that formulas speak of.
+// Tables of the sets and the variables that formulas speak of.
 
 ghost use Rattle.std.specs.Prelude.{◌≡◌, ◌<◌, ◌^◌, length, Some, IfOk, IfSome, OnOk, OnErr, IsTrue};
 ghost use Rattle.std.specs.Option.{option_copied, option_map};
-ghost use Rattle.bk_form.specs.Table.{empty_table, with_set, with_variable, set_name, set_elements, variable_text, variable_type, lists_type, IsWellFormed};
+ghost use Rattle.bk_form.specs.Table.{empty_table, with_set, with_variable, set_name, set_elements, listed_size, variable_text, variable_type, lists_type, IsCounted, IsWellFormed};
 
 use crate::ty::Ty;
 use bk_io::{Memory, Text};
 use std::alloc::Global;
 use std::marker::Model;
 
-// An enumerated set: its name and its elements' names.
+// A set: its name, its elements' names, and how many elements it has. A deferred set has no names, and the size 0 until it has one.
 #[derive(Drop)]
 struct SetRow {
     name: Text,
     elements: Vec<Text>,
+    size: u32,
 }
 
 impl Model for SetRow {
@@ -24,7 +25,7 @@ impl Model for SetRow {
 
     ghost coded = { coded_set };
 
-    ghost view = { λ s. record { name = s.name; elements = s.elements.items } };
+    ghost view = { λ s. record { name = s.name; elements = s.elements.items; size = s.size } };
 }
 
 impl SetRow {
@@ -34,6 +35,7 @@ impl SetRow {
         Ok(SetRow {
             name: self.name.copy(alloc)?,
             elements: copy_texts(&self.elements, alloc)?,
+            size: self.size,
         })
     }
 }
@@ -67,8 +69,9 @@ impl VariableRow {
     }
 }
 
-/// The enumerated sets and the variables that formulas speak of, each by its number, which counts from 0 in the order
-/// of adding. Each set has an element, and the types of the variables have only listed sets.
+/// The sets and the variables that formulas speak of, each by its number, which counts from 0 in the order of adding.
+/// An enumerated set has as many elements as names, a deferred set has no names and perhaps no size yet; the types of the
+/// variables have only listed sets.
 #[derive(Drop)]
 pub struct VarTable {
     sets: Vec<SetRow>,
@@ -99,16 +102,17 @@ impl VarTable {
         }
     }
 
-    /// Adds an enumerated set, and answers its number.
-    pub fn add_set(&mut self, name: Text, elements: Vec<Text>) -> Result<u32, Memory>
-        requires inhabited { 0 < length elements.items }
+    /// Adds a set, and answers its number: an enumerated one with as many elements as names, or a deferred one without
+    /// names, whose size is 0 until it has one.
+    pub fn add_set(&mut self, name: Text, elements: Vec<Text>, size: u32) -> Result<u32, Memory>
+        requires counted { IsCounted (record { name = name; elements = elements.items; size = size }) }
         requires few { length self.old.sets < 2 ^ 32 }
         ensures number { IfOk result (λ n. n ≡ length self.old.sets) }
-        ensures ok { OnOk result (self.new ≡ with_set self.old (record { name = name; elements = elements.items })) }
+        ensures ok { OnOk result (self.new ≡ with_set self.old (record { name = name; elements = elements.items; size = size })) }
         ensures err { OnErr result (self.new ≡ self.old) }
     {
         let number = self.sets.len() as u32;
-        self.sets.push(SetRow { name, elements })?;
+        self.sets.push(SetRow { name, elements, size })?;
         Ok(number)
     }
 
@@ -149,7 +153,17 @@ impl VarTable {
         Some(&row.name)
     }
 
-    /// The names of a set's elements, in order.
+    /// How many elements a set has; 0 where it has no size yet.
+    pub fn size(&self, set: u32) -> u32
+        ensures { result ≡ listed_size self.now set }
+    {
+        match self.sets.get(set as usize) {
+            Some(row) => row.size,
+            None => 0,
+        }
+    }
+
+    /// The names of a set's elements, in order; a deferred set has none.
     pub fn elements(&self, set: u32) -> Option<&[Text]>
         ensures { option_copied result ≡ set_elements self.now set }
     {

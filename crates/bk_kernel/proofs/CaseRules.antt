@@ -2,12 +2,13 @@
 use Rattle.std.proofs.Common.{◌≡◌, ◌⊎◌, inl, inr, ℕ, zero, suc, ◌<◌, ℤ, pos, negsuc, ◌+ℤ◌, List, [], ◌∷◌, refl, sym, ◌∙◌, ap, subst, Bool, true, false, ◌&&◌, nat_eq, nat_lt, arith}
 use Rattle.std.proofs.lemmas.Bool.Decides.{nat_tests}
 use Rattle.std.proofs.lemmas.Int.{ints}
-use Rattle.std.specs.Prelude.{Some, int_le}
-use Rattle.std.specs.Option.{option_map}
+use Rattle.std.specs.Prelude.{Option, Some, None, int_le, length, slice_get, All}
+use Rattle.std.specs.Option.{option_map, option_map_or}
+use Rattle.std.proofs.lemmas.List.Elements.{All-head, All-tail}
 use Rattle.bk_val.specs.Value.{MathValue, int, bool, elem, pair}
 use Rattle.bk_val.specs.ValueType.{ValueType, int_type, bool_type, enum_type, pair_type, is_value_of, are_of_types}
 use Rattle.bk_val.specs.CmpLaws.{value_eq-self}
-use Rattle.bk_form.specs.Table.{Table, set_size, IsWellFormed}
+use Rattle.bk_form.specs.Table.{Table, SetEntry, at_least_one, set_elements, set_size, IsCounted, IsWellFormed}
 use Rattle.bk_form.specs.Formula.{Formula, bound, literal, truth_value, named, binary, for_all, for_some}
 use Rattle.bk_form.specs.Search.{Finder, IsSearch}
 use Rattle.bk_form.specs.Environment.{State, IsTyped, under, at_state}
@@ -29,7 +30,7 @@ use Rattle.bk_seq.specs.Sequents.{Sequent}
 use Rattle.bk_kernel.specs.declared.rule.Rule.{Rule}
 use Rattle.bk_kernel.specs.declared.rule.Rule.TheVariants.{Pair, Elems, Interval, Induct}
 use Rattle.bk_kernel.specs.Branches.{Branch, goal, more}
-use Rattle.bk_kernel.specs.Listing.{one_for_each, elements_of, all_of, listed_types, over_naturals, next_case}
+use Rattle.bk_kernel.specs.Listing.{one_for_each, elements_of, named_elements, all_of, listed_types, over_naturals, next_case}
 use Rattle.bk_kernel.specs.Rules.{branches}
 use Rattle.bk_form.specs.Each.{Each}
 use Rattle.bk_arith.specs.Cases.{equations, interval_cases}
@@ -44,6 +45,16 @@ use Rattle.bk_kernel.proofs.EachItem.{hold-item}
 listed_types-then : (r : Role) (w : ValueType × ValueType) → listed_types r ≡ Some w → r ≡ gives (pair_type w.0 w.1)
 listed_types-then (gives (pair_type t u)) w h = let k = some-same (t, u) w h in λ i. gives (pair_type ((k i).0) ((k i).1))
 listed_types-then _ w h = absurd (cc)
+
+-- a set whose elements have names has as many as names
+as-many-names : (sets : List SetEntry) → All IsCounted sets → (s : ℕ) (n : List ℕ) (ns : List (List ℕ)) → option_map (λ x. x.elements) (slice_get sets s) ≡ Some (n ∷ ns) → option_map_or (λ x. at_least_one x.size) (slice_get sets s) 0 ≡ length (n ∷ ns)
+as-many-names [] all s n ns h = absurd (cc)
+as-many-names (x ∷ sets) all zero n ns h = by_names x.elements (some-same x.elements (n ∷ ns) h) (All-head IsCounted x sets all)
+  where
+    by_names : (es : List (List ℕ)) → es ≡ n ∷ ns → (es ≡ []) ⊎ (x.size ≡ length es) → at_least_one x.size ≡ length (n ∷ ns)
+    by_names es q (inl k) = absurd (cc)
+    by_names es q (inr k) = ap at_least_one (k ∙ ap length q)
+as-many-names (x ∷ sets) all (suc s) n ns h = as-many-names sets (All-tail IsCounted x sets all) s n ns h
 
 module _ (table : Table) (well : IsWellFormed table) (find : Finder) (law : IsSearch find) (st : State) (typed : IsTyped (at_state table st)) where
   abbrev H : Formula → Type 0
@@ -97,7 +108,13 @@ module _ (table : Table) (well : IsWellFormed table) (find : Finder) (law : IsSe
 
   among-all : (e : Formula) (r : Role) (fs : List Formula) → role table [] e ≡ r → all_of table r ≡ Some fs → Among e fs
   among-all e (gives bool_type) fs h k = subst (Among e) (some-same (truth_value false ∷ truth_value true ∷ []) fs k) (among-booleans e (val e) refl (typed-value find (at_state table st) well typed e bool_type h))
-  among-all e (gives (enum_type s)) fs h k = subst (Among e) (some-same (elements_of s 0 (set_size table s)) fs k) (among-enum e (val e) refl s (typed-value find (at_state table st) well typed e (enum_type s) h))
+  among-all e (gives (enum_type s)) fs h k = by_names (set_elements table s) refl k
+    where
+      by_names : (o : Option (List (List ℕ))) → set_elements table s ≡ o → named_elements s o ≡ Some fs → Among e fs
+      by_names (Some (n ∷ ns)) q d =
+          let many : set_size table s ≡ length (n ∷ ns) = as-many-names table.sets well.counted s n ns q in
+          subst (Among e) (ap (elements_of s 0) many ∙ some-same (elements_of s 0 (length (n ∷ ns))) fs d) (among-enum e (val e) refl s (typed-value find (at_state table st) well typed e (enum_type s) h))
+      by_names _ q d = absurd (cc)
   among-all e _ fs h k = absurd (cc)
 
   -- ---- pairs

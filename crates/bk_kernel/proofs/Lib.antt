@@ -27,3 +27,4 @@ pub mod ElementLists
 pub mod Refusals
 pub mod LargeBranches
 pub mod LargeInstances
+pub mod SizedRules

@@ -1,7 +1,7 @@
 -- The cases that a term of a finite type may be in, and induction over the natural numbers.
-use Rattle.std.specs.Prelude.{ℕ, zero, suc, false, true, List, [], ◌∷◌, map, Option, Some, None}
+use Rattle.std.specs.Prelude.{ℕ, zero, suc, false, true, List, [], ◌∷◌, length, map, Option, Some, None}
 use Rattle.bk_val.specs.ValueType.{ValueType, int_type, bool_type, enum_type, pair_type}
-use Rattle.bk_form.specs.Table.{Table, set_size}
+use Rattle.bk_form.specs.Table.{Table, set_elements}
 use Rattle.bk_form.specs.Formula.{Formula, bound, truth_value, element, named, binary, for_all}
 use Rattle.bk_form.specs.Role.{Role, gives}
 use Rattle.bk_form.specs.declared.operator.BinOp.TheVariants.{And, Imp, In}
@@ -18,10 +18,15 @@ abbrev pub elements_of : ℕ → ℕ → ℕ → List Formula
 elements_of s i zero = []
 elements_of s i (suc n) = element s i ∷ elements_of s (suc i) n
 
+-- the elements of set s with these names; none are listed of a deferred set, which has no names
+abbrev pub named_elements : ℕ → Option (List (List ℕ)) → Option (List Formula)
+named_elements s (Some (n ∷ ns)) = Some (elements_of s 0 (length (n ∷ ns)))
+named_elements s _ = None
+
 -- what a term of BOOL or of an enumerated set may be: FALSE before TRUE
 abbrev pub all_of : Table → Role → Option (List Formula)
 all_of table (gives bool_type) = Some (truth_value false ∷ truth_value true ∷ [])
-all_of table (gives (enum_type s)) = Some (elements_of s 0 (set_size table s))
+all_of table (gives (enum_type s)) = named_elements s (set_elements table s)
 all_of table _ = None
 
 -- the types of the two parts of a pair

@@ -4,7 +4,7 @@ use Rattle.bk_form.specs.Table.{Table, IsWellFormed}
 use Rattle.bk_form.specs.Wider.{IsWider}
 use Rattle.bk_kernel.specs.declared.rule.Rule.{Rule}
 use Rattle.bk_kernel.specs.declared.replaying.Verdict.{Verdict}
-use Rattle.bk_seq.specs.Sequents.{Sequent, Types, IsValidSequent}
+use Rattle.bk_seq.specs.Sequents.{Sequent, Types, IsValidSequent, IsValidForAllSizes}
 use Rattle.bk_form.specs.Each.{Each}
 use Rattle.bk_kernel.specs.Rules.{IsInstance}
 use Rattle.bk_kernel.specs.Derivations.{Derives, IsVerdict}
@@ -28,3 +28,10 @@ DerivedWiderIsValid = (small large : Table) → IsWellFormed small → IsWellFor
 -- one thing is said of a list of rules and a sequent
 abbrev pub OneVerdict : Type 0
 OneVerdict = (table : Table) (rules : List Rule) (s : Sequent) (v w : Verdict) → IsVerdict table rules s v → IsVerdict table rules s w → v ≡ w
+
+-- ---- sets without sizes
+-- the same of validity for all sizes: a step and a derivation over a table are ones with any sizes
+pub record SoundForAllSizes : Type 0 where
+  pub steps : (table : Table) → IsWellFormed table → (s : Sequent) (rule : Rule) (news : List Sequent) → Types table s → IsInstance table s rule news → Each (IsValidForAllSizes table) news → IsValidForAllSizes table s
+  pub derived : (table : Table) → IsWellFormed table → (rules : List Rule) (s : Sequent) → Types table s → Derives table rules s → IsValidForAllSizes table s
+  pub wider : (small large : Table) → IsWellFormed small → IsWellFormed large → IsWider small large → (rules : List Rule) (s : Sequent) → Types small s → Derives large rules s → IsValidForAllSizes small s

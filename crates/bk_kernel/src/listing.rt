@@ -1,17 +1,17 @@
 //! The rules of pairs, of the cases of a term, and of induction. Each answers what the table says, none where the rule is no
 //! instance.
 
-ghost use Rattle.std.specs.Prelude.{◌≡◌, ◌∷◌, ◌++◌, [], true, false, Err, IfOk, OnOk};
+ghost use Rattle.std.specs.Prelude.{◌≡◌, ◌∷◌, ◌++◌, [], true, false, length, Some, Err, IfOk, OnOk};
 ghost use Rattle.bk_form.specs.Formula.{truth_value};
 ghost use Rattle.bk_form.specs.Role.{role};
 ghost use Rattle.bk_form.specs.Each.{Each};
-ghost use Rattle.bk_form.specs.Table.{set_size};
+ghost use Rattle.bk_form.specs.Table.{set_elements};
 ghost use Rattle.bk_bind.specs.Limits.{IsWithinLimits};
 ghost use Rattle.bk_bind.specs.declared.error.BindFault.TheVariants.{TooLarge};
 ghost use Rattle.bk_arith.specs.Cases.{equations, interval_cases};
 ghost use Rattle.bk_seq.specs.Sequents.{sequent_of};
 ghost use Rattle.bk_kernel.specs.declared.rule.Rule.TheVariants.{Pair, Elems, Interval, Induct};
-ghost use Rattle.bk_kernel.specs.Listing.{elements_of, all_of, listed_types, over_naturals, next_case};
+ghost use Rattle.bk_kernel.specs.Listing.{elements_of, named_elements, all_of, listed_types, over_naturals, next_case};
 ghost use Rattle.bk_kernel.specs.Rules.{branches};
 ghost use Rattle.bk_kernel.specs.Held.{held, form_in, list_in, IsTooLarge};
 
@@ -21,7 +21,7 @@ use crate::next::at_next;
 use bk_arith::{ArithFault, cases};
 use bk_bind::{BindFault, binary, for_all, for_some, open_body};
 use bk_form::{BinOp, Domain, Form, Part, Ty, TyView, VarTable, View};
-use bk_io::Memory;
+use bk_io::{Memory, Text};
 use bk_seq::{Sequent, numbered};
 use bk_types::{Role, role_of};
 use std::alloc::Global;
@@ -89,7 +89,7 @@ fn all_of(alloc: Global, types: &VarTable, form: &Form) -> Result<Option<Vec<For
     match role_of(alloc, form, &none, types)? {
         Role::Value(ty) => match ty.view() {
             TyView::Bool => Ok(Some(truth_values(alloc)?)),
-            TyView::Enum(set) => Ok(Some(elements(alloc, types, set)?)),
+            TyView::Enum(set) => elements(alloc, types, set),
             _ => Ok(None),
         },
         _ => Ok(None),
@@ -104,15 +104,33 @@ fn truth_values(alloc: Global) -> Result<Vec<Form>, Memory>
     Ok(Vec::from_array(alloc, [no, yes])?)
 }
 
-// The elements of the set in their order.
+// The elements of the set in their order, where they have names.
+fn elements(alloc: Global, types: &VarTable, set: u32) -> Result<Option<Vec<Form>>, Memory>
+    ensures { IfOk result (λ o. list_in o ≡ named_elements set (set_elements types.now set)) }
+{
+    match types.elements(set) {
+        Some(names) => listed_elements(alloc, set, names),
+        None => Ok(None),
+    }
+}
+
+// One for each name, where there is one.
+#[tactic(auto, using(crate::proofs::ElementLists::by_names))]
+fn listed_elements(alloc: Global, set: u32, names: &[Text]) -> Result<Option<Vec<Form>>, Memory>
+    ensures { IfOk result (λ o. list_in o ≡ named_elements set (Some names.now)) }
+{
+    if names.is_empty() {
+        return Ok(None);
+    }
+    Ok(Some(numbered_elements(alloc, set, names)?))
+}
+
+// The first elements of the set, one for each name.
 #[tactic(auto, using(crate::proofs::ElementLists::one_more))]
-fn elements(alloc: Global, types: &VarTable, set: u32) -> Result<Vec<Form>, Memory>
-    ensures { IfOk result (λ fs. fs.items ≡ elements_of set 0 (set_size types.now set)) }
+fn numbered_elements(alloc: Global, set: u32, names: &[Text]) -> Result<Vec<Form>, Memory>
+    ensures { IfOk result (λ fs. fs.items ≡ elements_of set 0 (length names.now)) }
 {
     let mut list = Vec::new(alloc);
-    let Some(names) = types.elements(set) else {
-        return Ok(list);
-    };
     for (index, _) in names.iter().enumerate() {
         let Ok(index) = u32::try_from(index) else {
             return Err(Memory);

@@ -1,7 +1,7 @@
 //! Laws of the rules. Each is the contract of a function that does nothing.
 
 ghost use Rattle.bk_kernel.specs.Next.{NextMeans};
-ghost use Rattle.bk_kernel.specs.RuleLaws.{RulesAreFunctions, RulesAreSound, DerivedIsValid, DerivedWiderIsValid, OneVerdict};
+ghost use Rattle.bk_kernel.specs.RuleLaws.{RulesAreFunctions, RulesAreSound, DerivedIsValid, DerivedWiderIsValid, SoundForAllSizes, OneVerdict};
 
 /// What the rules are: each makes one list of sequents, and the sequent is valid where all of the list are.
 pub fn rules()
@@ -23,4 +23,9 @@ pub fn one_verdict()
 /// A body at one more than its variable means at a number what the body means at the next one.
 pub fn next_means()
     ensures { NextMeans }
+{}
+
+/// The same of validity for all sizes of the sets that have none.
+pub fn sound_for_all_sizes()
+    ensures { SoundForAllSizes }
 {}

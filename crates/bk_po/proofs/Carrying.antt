@@ -19,10 +19,13 @@ use Rattle.bk_form.specs.Predicates.{IsPredicate, AllHold, conjuncts, equation}
 use Rattle.bk_gsl.proofs.States.{nat_eq-same}
 use Rattle.bk_dev.specs.declared.kind.Kind.{Kind}
 use Rattle.bk_dev.specs.declared.kind.Kind.TheVariants.{Machine, Refinement, Implementation}
-use Rattle.bk_dev.specs.Development.{Level, Development, level_at, body_of, body_at, inputs_of, is_implementing, is_implementation, is_complete, last}
+use Rattle.bk_dev.specs.Development.{Level, Development, level_at, body_of, body_at, inputs_of, is_implementing, is_implementation, is_complete, last, with_set_sizes}
 use Rattle.bk_dev.specs.Flattened.{flattened}
-use Rattle.bk_dev.specs.Hypotheses.{value_equation, properties_of, values_at, joining, facts, facts_of, joinings_of, conditions_of, is_number, in_machine_range, input_ranges, init_hypotheses, assertion_hypotheses, body_hypotheses, unasserted_hypotheses}
-use Rattle.bk_dev.specs.Facts.{IsValue, IsLink, IsStated, IsKindAt, IsLevelOf, IsLawful, IsFlatDevelopment, OnlyLastIsImplementation}
+use Rattle.bk_dev.specs.Hypotheses.{size_equations, value_equation, properties_of, values_at, joining, facts, facts_of, joinings_of, conditions_of, is_number, in_machine_range, input_ranges, init_hypotheses, assertion_hypotheses, body_hypotheses, unasserted_hypotheses}
+use Rattle.bk_dev.specs.Facts.{IsValue, IsLink, IsStated, IsKindAt, IsLevelOf, IsLawful, IsFlatDevelopment, OnlyLastIsImplementation, IsDevelopment}
+use Rattle.bk_dev.proofs.Sizes.{development-sized, development-whole, sizes_hold}
+use Rattle.bk_form.specs.Sized.{with_sizes}
+use Rattle.bk_seq.proofs.SizedValidity.{one-each, ones-are-sizes}
 use Rattle.bk_form.specs.Each.{Each}
 use Rattle.bk_dev.specs.Claims.{ValuesMeet}
 use Rattle.bk_wp.proofs.Steps.{implies-then, holds-assign}
@@ -33,9 +36,10 @@ use Rattle.bk_dev.proofs.FlatLevels.{flattened_lawful}
 use Rattle.bk_dev.proofs.FlatSame.{levels-many}
 use Rattle.bk_po.specs.declared.clause.Clause.{Clause}
 use Rattle.bk_po.specs.declared.clause.Clause.TheVariants.{PropertiesDefined, ValuesMeet as ValuesClause, InvariantDefined, AssertionsDefined, AssertionsHold, Initialisation, InitialisationDefined, Operation, OperationDefined}
-use Rattle.bk_po.specs.Obligations.{each_after, defined_in_turn, hypotheses_of, goal_of, conjunction, flat_obligations, numbered, AreValid}
+use Rattle.bk_po.specs.Obligations.{each_after, defined_in_turn, hypotheses_of, goal_of, conjunction, flat_obligations, numbered, numbered_obligations, AreValid}
 use Rattle.bk_seq.specs.Sequents.{split}
-use Rattle.bk_po.specs.Laws.{ValidObligationsCarry}
+use Rattle.bk_po.specs.Laws.{IsCorrect, ValidObligationsCarry, WholeIsCorrect}
+use Rattle.bk_po.proofs.Sizes.{sizes_keep_obligations, valid-at}
 use Rattle.bk_po.proofs.Lists.{each-so}
 use Rattle.bk_po.proofs.Clauses.{Stands}
 use Rattle.bk_po.proofs.Splitting.{IsSound, clause-met, split-holds, conjunction-true}
@@ -110,7 +114,7 @@ module _ (find : Finder) (law : IsSearch find) (dev : Development) (f : IsLawful
 
   -- ---- hypotheses
   no-values : (k : ℕ) → is_implementation (level_at dev k) ≡ false → (e : State) → AllHold find (at_state dev.table e) (values_at dev k)
-  no-values k i e = subst (λ x. AllHold find (at_state dev.table e) (cond x (map value_equation dev.values) [])) (sym i) tt
+  no-values k i e = subst (λ x. AllHold find (at_state dev.table e) (cond x (size_equations dev ++ map value_equation dev.values) [])) (sym i) tt
 
   no-ranges : (k o : ℕ) → is_implementation (level_at dev k) ≡ false → (e : State) → AllHold find (at_state dev.table e) (input_ranges dev k o)
   no-ranges k o i e = subst (λ x. AllHold find (at_state dev.table e) (cond x (map (in_machine_range dev) (filter (λ x. is_number (variable_type dev.table x)) (inputs_of dev o))) [])) (sym i) tt
@@ -211,7 +215,7 @@ module _ (find : Finder) (law : IsSearch find) (dev : Development) (f : IsLawful
       let all : suc (last dev) ≡ length dev.levels = omega (arith, some) in
       let levels = take (suc (last dev)) dev.levels in
       let goal = conjunction (map (λ l. l.properties) levels) in
-      let replaced = sym (holds-assign find dev.table dev.values (values-typed dev dev.values f.values) e goal) ∙ says (last dev) (omega (arith, some)) ValuesClause complete e t tt in
+      let replaced = sym (holds-assign find dev.table dev.values (values-typed dev dev.values f.values) e goal) ∙ says (last dev) (omega (arith, some)) ValuesClause complete e t (sizes_hold find dev f.sets (at_state dev.table e) refl) in
       let same : assigned find dev.table dev.values e ≡ e = λ i n. value-kept find dev.table e dev.values h n i in
       let true-there : holds find dev.table e goal ≡ true = subst (λ g. holds find dev.table g goal ≡ true) same replaced in
       subst (λ n. AllHold find (at_state dev.table e) (properties_of dev n)) all (all-parts find dev.table e levels (conjunction-true find dev.table e (map (λ l. l.properties) levels) true-there))
@@ -232,8 +236,9 @@ module _ (find : Finder) (law : IsSearch find) (dev : Development) (f : IsLawful
         (in-turn e t (level_at dev k).assertions predicates (says k h AssertionsDefined tt e t hyps), assertions-hold k h e t hyps);
   }
 
-pub valid_obligations_carry : ValidObligationsCarry
-valid_obligations_carry find law dev d valid =
+-- of sets with sizes
+valid-here : (find : Finder) → IsSearch find → (dev : Development) → IsDevelopment dev → AreValid (flattened dev).table (numbered_obligations dev) → IsCorrect find dev
+valid-here find law dev d valid =
     let flat : Development = flattened dev in
     let f : IsLawful flat = flattened_lawful.every dev d in
     let only : OnlyLastIsImplementation flat = flattened_lawful.only_last dev d.only_last in
@@ -246,3 +251,11 @@ valid_obligations_carry find law dev d valid =
       values = λ complete. values_moved dev d (λ g l. values-meet g l flat f only valid (complete-same dev d.lawful ∙ complete)) find law;
       stated = stated find law flat f only valid;
     }
+
+pub valid_obligations_carry : ValidObligationsCarry
+valid_obligations_carry find law dev d valid sizes p =
+    let here = valid-at sizes p (flattened dev).table (numbered_obligations dev) valid in
+    valid-here find law (with_set_sizes sizes dev) (development-sized sizes dev p d) (subst (AreValid (with_sizes sizes (flattened dev).table)) (sym (sizes_keep_obligations sizes dev d)) here)
+
+pub whole_is_correct : WholeIsCorrect
+whole_is_correct find dev d c h = subst (IsCorrect find) (development-whole one-each dev d c) (h one-each ones-are-sizes)

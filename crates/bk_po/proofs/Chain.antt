@@ -236,7 +236,7 @@ module _ (find : Finder) (law : IsSearch find) (dev : Development) (f : IsLawful
   not-last k h = only k h
 
   no-values : (k : ℕ) → is_implementation (level_at dev k) ≡ false → (e : State) → AllHold find (at_state dev.table e) (values_at dev k)
-  no-values k h e = subst (λ x. AllHold find (at_state dev.table e) (cond x (map Rattle.bk_dev.specs.Hypotheses.value_equation dev.values) [])) (sym h) tt
+  no-values k h e = subst (λ x. AllHold find (at_state dev.table e) (cond x (Rattle.bk_dev.specs.Hypotheses.size_equations dev ++ map Rattle.bk_dev.specs.Hypotheses.value_equation dev.values) [])) (sym h) tt
 
   no-ranges : (k o : ℕ) → is_implementation (level_at dev k) ≡ false → (e : State) → AllHold find (at_state dev.table e) (input_ranges dev k o)
   no-ranges k o h e = subst (λ x. AllHold find (at_state dev.table e) (cond x (map (Rattle.bk_dev.specs.Hypotheses.in_machine_range dev) (Rattle.std.specs.List.filter (λ x. Rattle.bk_dev.specs.Hypotheses.is_number (Rattle.bk_form.specs.Table.variable_type dev.table x)) (Rattle.bk_dev.specs.Development.inputs_of dev o))) [])) (sym h) tt

@@ -14,4 +14,4 @@ tally_asks = record { kept = refl; not_below = refl; not_above = refl }
 
 pub counter_is_valid : CounterIsValid
 counter_is_valid =
-    ((λ find law e typed hold. refl), ((λ find law e typed hold. refl), ((λ find law e typed hold. refl), ((λ find law e typed hold. hold.0), ((λ find law e typed hold. refl), ((λ find law e typed hold. refl), ((λ find law e typed hold. refl), ((λ find law e typed hold. refl), ((λ find law e typed hold. refl), ((λ find law e typed hold. refl), ((λ find law e typed hold. hold.1.0), ((λ find law e typed hold. hold.1.1.0), ((λ find law e typed hold. hold.1.1.0), tt)))))))))))))
+    ((λ sizes p find law e typed hold. refl), ((λ sizes p find law e typed hold. refl), ((λ sizes p find law e typed hold. refl), ((λ sizes p find law e typed hold. hold.0), ((λ sizes p find law e typed hold. refl), ((λ sizes p find law e typed hold. refl), ((λ sizes p find law e typed hold. refl), ((λ sizes p find law e typed hold. refl), ((λ sizes p find law e typed hold. refl), ((λ sizes p find law e typed hold. refl), ((λ sizes p find law e typed hold. hold.1.0), ((λ sizes p find law e typed hold. hold.1.1.0), ((λ sizes p find law e typed hold. hold.1.1.0), tt)))))))))))))

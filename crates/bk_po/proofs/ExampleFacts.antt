@@ -1,5 +1,6 @@
 -- The adder and the stepper are developments.
-use Rattle.std.proofs.Common.{◌≡◌, ◌⊎◌, inl, inr, ℕ, zero, suc, ℤ, pos, [], ◌∷◌, refl, subst, Bool, true, All, IsTrue, arith}
+use Rattle.std.proofs.Common.{◌<◌, ◌≡◌, ◌⊎◌, inl, inr, ℕ, zero, suc, ℤ, pos, [], ◌∷◌, refl, subst, Bool, true, All, IsTrue, arith}
+use Rattle.std.proofs.lemmas.List.Elements.{All-nil}
 use Rattle.bk_val.specs.ValueType.{int_type}
 use Rattle.bk_form.specs.Table.{lists_type, IsWellFormed}
 use Rattle.bk_form.specs.Formula.{Formula, variable, literal, binary, btrue}
@@ -45,7 +46,7 @@ module _ (visible : ℕ → Bool) where
 
 -- ---- the adder
 tally-table : IsWellFormed tally_table
-tally-table = record { inhabited = λ k d h. absurd (omega (arith)); listed = listed; few_sets = omega (arith); few_variables = omega (arith) }
+tally-table = record { counted = λ k d h. absurd (omega (arith)); listed = listed; few_sets = omega (arith); few_variables = omega (arith) }
   where
     listed : All (λ v. IsTrue (lists_type tally_table v.of_type)) tally_table.variables
     listed zero d h = refl
@@ -178,6 +179,7 @@ pub tally_facts : IsDevelopment tally
 tally_facts = record {
   lawful = tally_lawful;
   only_last = two-levels tally refl refl;
+  sizes = λ h. All-nil (λ s. 0 < s.size);
   shapes = ((record { init = tt; bodies = (tt, (tt, tt)) }, (record { init = tt; bodies = (tt, (tt, tt)) }, tt)));
   binders_differ = (refl, (refl, tt));
   room = omega (arith);
@@ -185,7 +187,7 @@ tally_facts = record {
 
 -- ---- the stepper
 stepper-table : IsWellFormed counter_table
-stepper-table = record { inhabited = λ k d h. absurd (omega (arith)); listed = listed; few_sets = omega (arith); few_variables = omega (arith) }
+stepper-table = record { counted = λ k d h. absurd (omega (arith)); listed = listed; few_sets = omega (arith); few_variables = omega (arith) }
   where
     listed : All (λ v. IsTrue (lists_type counter_table v.of_type)) counter_table.variables
     listed zero d h = refl
@@ -314,6 +316,7 @@ pub stepper_facts : IsDevelopment stepper
 stepper_facts = record {
   lawful = stepper_lawful;
   only_last = two-levels stepper refl refl;
+  sizes = λ h. All-nil (λ s. 0 < s.size);
   shapes = ((record { init = tt; bodies = ((tt, tt), (tt, tt)) }, (record { init = tt; bodies = ((tt, tt), (tt, tt)) }, tt)));
   binders_differ = (refl, (refl, tt));
   room = omega (arith);

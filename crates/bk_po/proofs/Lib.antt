@@ -28,3 +28,5 @@ pub mod Conditions
 pub mod Enough
 pub mod Joining
 pub mod Eager
+pub mod Sizes
+pub mod SizeEquations

@@ -27,7 +27,7 @@ use Rattle.bk_po.proofs.Clauses.{Stands, each-clause}
 use Rattle.bk_po.proofs.FlatParts.{upper_init, upper_body, whole_is_flat}
 use Rattle.bk_po.proofs.Lists.{flat-each, map-each, below-each, take-each, each-so}
 use Rattle.bk_po.proofs.Predicates.{conjunction-predicate, after-predicate, in-turn-predicate, links-predicate, beside-alike}
-use Rattle.bk_po.proofs.TypedHypotheses.{each-level, links-alike, properties-typed, init-typed, known-typed, assertion-typed, under-typed, operation-typed}
+use Rattle.bk_po.proofs.TypedHypotheses.{each-level, links-alike, sizes-typed, properties-typed, init-typed, known-typed, assertion-typed, under-typed, operation-typed}
 
 module _ (dev : Development) (f : IsFlattened dev) where
   abbrev HasPredicates : Obligation → Type 0
@@ -46,16 +46,16 @@ module _ (dev : Development) (f : IsFlattened dev) where
       let each = take-each (λ l. IsPredicate dev.table l.properties) (suc k) dev.levels (each-level dev f.lawful (λ l. IsPredicate dev.table l.properties) (λ k l h. h.properties) 0 dev.levels f.lawful.levels) in
       terms-predicate dev.table dev.values (conjunction (map (λ l. l.properties) first)) (values-typed dev.values f.lawful.values) (conjunction-predicate dev.table (map (λ l. l.properties) first) (map-each (IsPredicate dev.table) (λ l. l.properties) first each))
 
-  fact : (k : ℕ) → k < length dev.levels → IsLevelOf dev k (level_at dev k)
+  pub fact : (k : ℕ) → k < length dev.levels → IsLevelOf dev k (level_at dev k)
   fact k h = level_fact dev f.lawful k h
 
   abbrev no_head : Head
   no_head = record { name = []; inputs = []; outputs = 0 }
 
-  body-fact : (k : ℕ) → k < length dev.levels → (o : ℕ) → o < length dev.heads → IsBodyOf dev k (slice_index_or dev.heads o no_head) (body_at dev 0 o) (body_at dev k o)
+  pub body-fact : (k : ℕ) → k < length dev.levels → (o : ℕ) → o < length dev.heads → IsBodyOf dev k (slice_index_or dev.heads o no_head) (body_at dev 0 o) (body_at dev k o)
   body-fact k h o l = body-at dev k dev.heads (level_at dev 0).bodies (level_at dev k).bodies no_head o l (fact k h).bodies
 
-  whole-types : (k : ℕ) → k < length dev.levels → (o : ℕ) → o < length dev.heads → Types dev.table (whole (body_at dev k o))
+  pub whole-types : (k : ℕ) → k < length dev.levels → (o : ℕ) → o < length dev.heads → Types dev.table (whole (body_at dev k o))
   whole-types k h o l =
       let b = body_at dev k o in
       let w = body-fact k h o l in
@@ -87,7 +87,7 @@ module _ (dev : Development) (f : IsFlattened dev) where
       let answered = diamond-predicate dev.table f.lawful.table upper.sub joined upper-fact.sub.types (upper_body dev f j h o l) (joining-goal (suc j) h lower.outputs upper.outputs alike) in
       boxed (whole lower) (diamond dev.table upper.sub joined) (whole-types (suc j) h o l) (whole-flat (suc j) h o l) answered
 
-  stated : (k : ℕ) → k < length dev.levels → Each (IsPredicate dev.table) (level_at dev k).assertions
+  pub stated : (k : ℕ) → k < length dev.levels → Each (IsPredicate dev.table) (level_at dev k).assertions
   stated k h = each-so (IsStated dev k) (IsPredicate dev.table) (level_at dev k).assertions (λ p s. s.is_predicate) (fact k h).assertions
 
   -- ---- what is met is defined or fits
@@ -104,7 +104,7 @@ module _ (dev : Development) (f : IsFlattened dev) where
   -- ---- down the list
   hypotheses-typed : (k : ℕ) → k < length dev.levels → (c : Clause) → Each (IsPredicate dev.table) (hypotheses_of dev k c)
   hypotheses-typed k h PropertiesDefined = properties-typed dev f.lawful k
-  hypotheses-typed k h ValuesMeet = tt
+  hypotheses-typed k h ValuesMeet = sizes-typed dev f.lawful
   hypotheses-typed k h InvariantDefined = known-typed dev f.lawful k k
   hypotheses-typed k h AssertionsDefined = assertion-typed dev f.lawful k h
   hypotheses-typed k h AssertionsHold = assertion-typed dev f.lawful k h

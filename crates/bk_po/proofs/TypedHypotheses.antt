@@ -1,13 +1,16 @@
 -- Every hypothesis of a development's obligations is a predicate over its table.
-use Rattle.std.proofs.Common.{◌≡◌, ◌<◌, ℕ, zero, suc, List, [], ◌∷◌, ◌++◌, map, take, length, refl, ap, true, false, cond, Option, Some, None, ◌∙◌}
+use Rattle.std.proofs.Common.{◌≡◌, ◌<◌, ℕ, zero, suc, List, [], ◌∷◌, ◌++◌, map, take, length, refl, ap, true, false, cond, Option, Some, None, ◌∙◌, arith}
 use Rattle.std.specs.List.{filter, flat_map}
 use Rattle.bk_val.specs.ValueType.{ValueType, int_type, bool_type, enum_type, pair_type, set_type}
-use Rattle.bk_form.specs.Table.{variable_type}
+use Rattle.bk_form.specs.Table.{SetEntry, lists_type, variable_type}
+use Rattle.std.specs.Prelude.{◌+◌, ◌≤◌}
+use Rattle.std.proofs.lemmas.Bool.Decides.{nat_tests}
+use Rattle.bk_form.specs.declared.operator.UnOp.TheVariants.{Card}
 use Rattle.bk_form.specs.Formula.{Formula}
-use Rattle.bk_form.specs.Role.{predicate, gives, given_by, if_holds, equality_role, membership_role}
+use Rattle.bk_form.specs.Role.{predicate, gives, given_by, if_holds, unary_role, equality_role, membership_role}
 use Rattle.bk_form.specs.Predicates.{IsPredicate, conjuncts, equation}
 use Rattle.bk_dev.specs.Development.{Head, Body, Level, Development, blank_body, level_at, body_of, inputs_of, is_implementation}
-use Rattle.bk_dev.specs.Hypotheses.{value_equation, properties_of, values_at, joining, facts, facts_of, conditions_of, is_number, in_machine_range, input_ranges, init_hypotheses, invariant_hypotheses, assertion_hypotheses, operation_hypotheses}
+use Rattle.bk_dev.specs.Hypotheses.{size_equations_of, size_equations_from, size_equations, value_equation, properties_of, values_at, joining, facts, facts_of, conditions_of, is_number, in_machine_range, input_ranges, init_hypotheses, invariant_hypotheses, assertion_hypotheses, operation_hypotheses}
 use Rattle.bk_dev.specs.Facts.{AreAlike, IsStated, IsLink, IsValue, IsLevelOf, EachBody, EachLevel, IsLawful}
 use Rattle.bk_form.specs.Each.{Each}
 use Rattle.bk_form.proofs.Equations.{same_type-self}
@@ -68,9 +71,24 @@ module _ (dev : Development) (f : IsLawful dev) where
   pub equations-typed : ArePredicates (map value_equation dev.values)
   equations-typed = map-each (IsPredicate dev.table) value_equation dev.values (each-so (IsValue dev) (λ p. IsPredicate dev.table (value_equation p)) dev.values value-predicate f.values)
 
+  size-predicate : (k : ℕ) (es : List (List ℕ)) (n : ℕ) → k < length dev.table.sets → ArePredicates (size_equations_of k es n)
+  size-predicate k [] (suc n) h =
+      let q : lists_type dev.table (enum_type k) ≡ true = grind (arith, nat_tests) in
+      (ap (λ b. equality_role (unary_role Card (if_holds b (gives (set_type (enum_type k))))) (gives int_type)) q, tt)
+  size-predicate k [] zero h = tt
+  size-predicate k (e ∷ es) n h = tt
+
+  size-predicates : (k : ℕ) (ss : List SetEntry) → k + length ss ≤ length dev.table.sets → ArePredicates (size_equations_from k ss)
+  size-predicates k [] h = tt
+  size-predicates k (s ∷ ss) h =
+      append-each (IsPredicate dev.table) (size_equations_of k s.elements s.size) (size_equations_from (suc k) ss) (size-predicate k s.elements s.size (omega (arith, h))) (size-predicates (suc k) ss (omega (arith, h)))
+
+  pub sizes-typed : ArePredicates (size_equations dev)
+  sizes-typed = size-predicates 0 dev.sets (let e : length dev.sets ≡ length dev.table.sets = ap length f.sets in omega (arith, e))
+
   pub init-typed : (k : ℕ) → ArePredicates (init_hypotheses dev k)
   init-typed k =
-      let values : ArePredicates (values_at dev k) = elim (is_implementation (level_at dev k)) as (λ b. ArePredicates (cond b (map value_equation dev.values) [])) [ true ↦ equations-typed | false ↦ tt ] in
+      let values : ArePredicates (values_at dev k) = elim (is_implementation (level_at dev k)) as (λ b. ArePredicates (cond b (size_equations dev ++ map value_equation dev.values) [])) [ true ↦ append-each (IsPredicate dev.table) (size_equations dev) (map value_equation dev.values) sizes-typed equations-typed | false ↦ tt ] in
       append-each (IsPredicate dev.table) (properties_of dev (suc k)) (values_at dev k) (properties-typed (suc k)) values
 
   pub known-typed : (k n : ℕ) → ArePredicates (init_hypotheses dev k ++ facts_of dev n)

@@ -1,12 +1,13 @@
 -- What the obligations are and what they are worth, as statements.
 use Rattle.std.specs.Prelude.{◌≡◌, ◌<◌, ℕ, pos, suc, true, false, List, [], ◌∷◌, length, map, codes}
 use Rattle.bk_form.specs.Search.{Finder, IsSearch}
-use Rattle.bk_dev.specs.Development.{Development, is_complete}
+use Rattle.bk_dev.specs.Development.{Development, is_complete, with_set_sizes}
+use Rattle.bk_form.specs.Sized.{AreSizes}
 use Rattle.bk_dev.specs.Facts.{IsDevelopment, IsLawful, IsFlatDevelopment, OnlyLastIsImplementation}
 use Rattle.bk_dev.specs.Claims.{Keeps, Carries, ValuesMeet}
 use Rattle.bk_dev.specs.Counter.{counter}
 use Rattle.bk_seq.specs.Sequents.{Sequent}
-use Rattle.bk_po.specs.Obligations.{numbered_obligations, AreValid, HasValidObligations, operation_goal}
+use Rattle.bk_po.specs.Obligations.{numbered_obligations, AreValidForAllSizes, HasValidObligations, operation_goal}
 use Rattle.bk_po.specs.Typed.{HasTypedObligations}
 use Rattle.bk_po.specs.Examples.{tally, stepper}
 use Rattle.bk_po.specs.Levels.{BoxesHold, ConditionsHold, AllClean, LevelsAreCarried, IsWellStated}
@@ -34,13 +35,25 @@ pub record IsCorrect (find : Finder) (dev : Development) : Type 0 where
   pub values : is_complete dev ≡ true → ValuesMeet find dev
   pub stated : IsWellStated find (flattened dev)
 
+-- the development is correct with any sizes for the sets that have none; where there is an implementation, it is correct
+abbrev pub IsCorrectForAllSizes : Finder → Development → Type 0
+IsCorrectForAllSizes find dev = (sizes : ℕ → ℕ) → AreSizes sizes → IsCorrect find (with_set_sizes sizes dev)
+
 -- where each of these sequents is valid, over the table with all copies, the development is correct
 abbrev pub AreEnough : Development → List (List ℕ × Sequent) → Type 0
-AreEnough dev ss = AreValid (flattened dev).table ss → (find : Finder) → IsSearch find → IsCorrect find dev
+AreEnough dev ss = AreValidForAllSizes (flattened dev).table ss → (find : Finder) → IsSearch find → IsCorrectForAllSizes find dev
 
 -- where every obligation of a development is valid, it is correct
 abbrev pub ValidObligationsCarry : Type 0
-ValidObligationsCarry = (find : Finder) → IsSearch find → (dev : Development) → IsDevelopment dev → HasValidObligations dev → IsCorrect find dev
+ValidObligationsCarry = (find : Finder) → IsSearch find → (dev : Development) → IsDevelopment dev → HasValidObligations dev → IsCorrectForAllSizes find dev
+
+-- the obligations are the same with any sizes: where there is no implementation none speaks of sizes
+abbrev pub SizesKeepObligations : Type 0
+SizesKeepObligations = (sizes : ℕ → ℕ) (dev : Development) → IsDevelopment dev → numbered_obligations (with_set_sizes sizes dev) ≡ numbered_obligations dev
+
+-- where there is an implementation, what is correct for all sizes is correct
+abbrev pub WholeIsCorrect : Type 0
+WholeIsCorrect = (find : Finder) (dev : Development) → IsDevelopment dev → is_complete dev ≡ true → IsCorrectForAllSizes find dev → IsCorrect find dev
 
 -- the counter meets what this asks
 abbrev pub CounterIsValid : Type 0

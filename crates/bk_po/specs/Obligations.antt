@@ -8,7 +8,7 @@ use Rattle.bk_form.specs.Table.{Table}
 use Rattle.bk_dev.specs.Development.{Level, Development, level_at, body_at, is_implementation, is_btrue, whole}
 use Rattle.bk_form.specs.Each.{Each}
 use Rattle.bk_dev.specs.Flattened.{flattened}
-use Rattle.bk_dev.specs.Hypotheses.{properties_hypotheses, invariant_hypotheses, assertion_hypotheses, init_hypotheses, body_hypotheses, operation_hypotheses}
+use Rattle.bk_dev.specs.Hypotheses.{size_equations, properties_hypotheses, invariant_hypotheses, assertion_hypotheses, init_hypotheses, body_hypotheses, operation_hypotheses}
 use Rattle.bk_form.specs.Predicates.{equation}
 use Rattle.bk_dev.specs.Claims.{arrays_at, beside}
 use Rattle.bk_gsl.specs.Substitution.{Substitution}
@@ -16,7 +16,7 @@ use Rattle.bk_wd.specs.Joining.{both, where_true}
 use Rattle.bk_wd.specs.WellDefined.{defined}
 use Rattle.bk_wp.specs.Box.{box, diamond}
 use Rattle.bk_wp.specs.Guarded.{guarded}
-use Rattle.bk_seq.specs.Sequents.{Sequent, IsValidSequent, split}
+use Rattle.bk_seq.specs.Sequents.{Sequent, IsValidSequent, IsValidForAllSizes, split}
 use Rattle.bk_po.specs.declared.clause.Clause.{Clause}
 use Rattle.bk_po.specs.declared.clause.Clause.TheVariants.{PropertiesDefined, ValuesMeet, InvariantDefined, AssertionsDefined, AssertionsHold, Initialisation, InitialisationDefined, Operation, OperationDefined}
 
@@ -115,7 +115,7 @@ clause_name dev k (OperationDefined o) = head_name dev o ++ suffix (level_at dev
 -- under what it is to be shown
 abbrev pub hypotheses_of : Development → ℕ → Clause → List Formula
 hypotheses_of dev k PropertiesDefined = properties_hypotheses dev k
-hypotheses_of dev k ValuesMeet = []
+hypotheses_of dev k ValuesMeet = size_equations dev
 hypotheses_of dev k InvariantDefined = invariant_hypotheses dev k
 hypotheses_of dev k AssertionsDefined = assertion_hypotheses dev k
 hypotheses_of dev k AssertionsHold = assertion_hypotheses dev k
@@ -168,10 +168,14 @@ numbered os = flat_map (λ o. numbered_from 1 o.name (split o.hypotheses o.goal)
 abbrev pub numbered_obligations : Development → List (List ℕ × Sequent)
 numbered_obligations dev = numbered (obligations dev)
 
--- each is valid
+-- each is valid, of sets with sizes
 abbrev pub AreValid : Table → List (List ℕ × Sequent) → Type 0
 AreValid table ss = Each (λ s. IsValidSequent table s.1) ss
 
+-- each is valid whatever sizes those sets have that have none yet
+abbrev pub AreValidForAllSizes : Table → List (List ℕ × Sequent) → Type 0
+AreValidForAllSizes table ss = Each (λ s. IsValidForAllSizes table s.1) ss
+
 -- all sequents of the development are valid, over the table with all copies
 abbrev pub HasValidObligations : Development → Type 0
-HasValidObligations dev = AreValid (flattened dev).table (numbered_obligations dev)
+HasValidObligations dev = AreValidForAllSizes (flattened dev).table (numbered_obligations dev)

@@ -1,19 +1,19 @@
 //! The hypotheses of the obligations.
 
-ghost use Rattle.std.specs.Prelude.{◌≡◌, ◌++◌, ◌<◌, ◌≤◌, suc, cond, map, length, [], All, IfOk, OnOk};
+ghost use Rattle.std.specs.Prelude.{◌≡◌, ◌++◌, ◌<◌, ◌≤◌, ◌^◌, suc, cond, map, length, [], All, IfOk, OnOk};
 ghost use Rattle.std.specs.List.{flat_map, filter};
 ghost use Rattle.bk_form.specs.Formula.{formula_size};
 ghost use Rattle.bk_form.specs.Table.{variable_type};
 ghost use Rattle.bk_dev.specs.Development.{inputs_of, body_of, is_implementation};
-ghost use Rattle.bk_dev.specs.Hypotheses.{value_equation, properties_of, values_at, joining, facts_of, conditions_of, is_number, in_machine_range, input_ranges, init_hypotheses, body_hypotheses, operation_hypotheses};
+ghost use Rattle.bk_dev.specs.Hypotheses.{size_equations_of, size_equations_from, size_equations, value_equation, properties_of, values_at, joining, facts_of, conditions_of, is_number, in_machine_range, input_ranges, init_hypotheses, body_hypotheses, operation_hypotheses};
 ghost use Rattle.bk_form.specs.Predicates.{conjuncts, equation};
 ghost use Rattle.bk_po.specs.Obligations.{hypotheses_of};
 ghost use Rattle.bk_po.specs.Supposed.{IsKnownAt};
 
 use crate::clause::Clause;
 use crate::flattening::FlatDevelopment;
-use bk_dev::{Kind, Level};
-use bk_form::{BinOp, Form, Part, TyView, VarTable};
+use bk_dev::{EnumSet, Kind, Level};
+use bk_form::{BinOp, Domain, Form, Part, TyView, UnOp, VarTable};
 use bk_io::Memory;
 use bk_seq::add_conjuncts;
 use std::alloc::Global;
@@ -68,7 +68,7 @@ pub(crate) fn known_at(
     })
 }
 
-// The properties and, at an implementation, the constants' values.
+// The properties and, at an implementation, the sets' sizes and the constants' values.
 fn begins(
     alloc: Global,
     dev: &FlatDevelopment<'_>,
@@ -81,7 +81,7 @@ fn begins(
     dev.facts();
     let written = dev.written;
     let mut hyps = Form::copy_all(properties, alloc)?;
-    add_values(alloc, &written.values, dev.level(level), &mut hyps)?;
+    add_values(alloc, &written.sets, &written.values, dev.level(level), &mut hyps)?;
     Ok(hyps)
 }
 
@@ -110,7 +110,7 @@ pub(crate) fn supposed(
 {
     match clause {
         Clause::PropertiesDefined => Form::copy_all(&known.properties, alloc),
-        Clause::ValuesMeet => Ok(Vec::new(alloc)),
+        Clause::ValuesMeet => sizes(alloc, dev),
         Clause::InvariantDefined => Form::copy_all(&known.before, alloc),
         Clause::AssertionsDefined => Form::copy_all(&known.joined, alloc),
         Clause::AssertionsHold => Form::copy_all(&known.joined, alloc),
@@ -178,21 +178,62 @@ fn hypotheses_under(
     Ok(hyps)
 }
 
-// Adds the constants' values, at an implementation.
+// The sizes of the deferred sets.
+fn sizes(alloc: Global, dev: &FlatDevelopment<'_>) -> Result<Vec<Form>, Memory>
+    ensures { IfOk result (λ hyps. hyps.items ≡ size_equations dev.now) }
+{
+    dev.facts();
+    let written = dev.written;
+    let mut hyps = Vec::new(alloc);
+    add_sizes(alloc, &written.sets, &mut hyps)?;
+    Ok(hyps)
+}
+
+// Adds the sets' sizes and the constants' values, at an implementation.
 fn add_values(
     alloc: Global,
+    sets: &[EnumSet],
     values: &[(u32, Form)],
     level: &Level,
     hyps: &mut Vec<Form>,
 ) -> Result<(), Memory>
-    requires { All (λ p. formula_size p.1 ≡ 1) values.now }
+    requires few { length sets.now ≤ 2 ^ 32 }
+    requires small { All (λ p. formula_size p.1 ≡ 1) values.now }
     ensures { OnOk result (hyps.new.items ≡ hyps.old.items
-        ++ cond (is_implementation level.now) (map value_equation values.now) []) }
+        ++ cond (is_implementation level.now) (size_equations_from 0 sets.now ++ map value_equation values.now) []) }
 {
     if level.kind != Kind::Implementation {
         return Ok(());
     }
+    add_sizes(alloc, sets, hyps)?;
     add_value_equations(alloc, values, hyps)
+}
+
+// Adds the size of each deferred set that has one.
+#[tactic(auto, using(crate::proofs::SizeEquations::one_more))]
+fn add_sizes(alloc: Global, sets: &[EnumSet], hyps: &mut Vec<Form>) -> Result<(), Memory>
+    requires { length sets.now ≤ 2 ^ 32 }
+    ensures { OnOk result (hyps.new.items ≡ hyps.old.items ++ size_equations_from 0 sets.now) }
+{
+    for (number, set) in sets.iter().enumerate() {
+        add_size(alloc, number as u32, set, hyps)?;
+    }
+    Ok(())
+}
+
+// Adds card(S) = n, where the set is deferred and has a size.
+#[tactic(auto, using(crate::proofs::SizeEquations::of_one))]
+fn add_size(alloc: Global, number: u32, set: &EnumSet, hyps: &mut Vec<Form>) -> Result<(), Memory>
+    ensures { OnOk result (hyps.new.items ≡ hyps.old.items ++ size_equations_of number set.now.elements set.now.size) }
+{
+    if !set.elements.is_empty() || set.size == 0 {
+        return Ok(());
+    }
+    let name = Form::make(alloc, Part::Name(Domain::Enum(number)))?;
+    let count = Form::make(alloc, Part::Un(UnOp::Card, name))?;
+    let size = Form::make(alloc, Part::Int(i128::from(set.size)))?;
+    hyps.push(Form::make(alloc, Part::Bin(BinOp::Eq, count, size))?)?;
+    Ok(())
 }
 
 // Adds that each constant has its value.

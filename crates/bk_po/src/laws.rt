@@ -2,7 +2,7 @@
 
 ghost use Rattle.bk_po.specs.Examples.{TallyAsks};
 ghost use Rattle.bk_po.specs.WrittenLists.{OverHasThese, SwapHasThese, FillHasThese};
-ghost use Rattle.bk_po.specs.Laws.{CounterHasThese, CounterIsValid, ExamplesAreDevelopments, ValidObligationsCarry, ObligationsType, BoxesCarry, EveryLevelIsCarried, ConditionsAreClean, EagerAsksTheMachine};
+ghost use Rattle.bk_po.specs.Laws.{CounterHasThese, CounterIsValid, ExamplesAreDevelopments, ValidObligationsCarry, SizesKeepObligations, WholeIsCorrect, ObligationsType, BoxesCarry, EveryLevelIsCarried, ConditionsAreClean, EagerAsksTheMachine};
 
 /// The obligations of a counter, to be checked by hand.
 pub fn counter()
@@ -26,6 +26,13 @@ pub fn written_lists()
 /// What valid obligations are worth: the claims from which translated code follows its machine.
 pub fn obligations_carry()
     ensures { ValidObligationsCarry }
+{}
+
+/// Obligations and sizes of deferred sets: the obligations are the same with any, and where there is an implementation there is
+/// one choice of them.
+pub fn set_sizes()
+    ensures same { SizesKeepObligations }
+    ensures whole { WholeIsCorrect }
 {}
 
 /// The formulas of all obligations of a development are predicates: what is replayed on them keeps its worth.

@@ -11,7 +11,7 @@ use Rattle.bk_project.proofs.Developments.{read_are_developments, read_are_execu
 use Rattle.bk_raw.specs.ScriptTree.{RawScript}
 use Rattle.bk_sim.specs.Follows.{Follows}
 use Rattle.bk_sim.proofs.B0Code.{b0_follows, b0_ends}
-use Rattle.bk_po.proofs.Carrying.{valid_obligations_carry}
+use Rattle.bk_po.proofs.Carrying.{valid_obligations_carry, whole_is_correct}
 use Rattle.bk_status.proofs.Tables.{closed_tables_prove, proved_obligations_are_valid, proved_developments_are_correct}
 use Rattle.bk_level.specs.VerdictLaws.{HasRoom}
 use Rattle.bk_po.specs.Obligations.{obligations}
@@ -22,7 +22,7 @@ use Rattle.bk_program.specs.Following.{ValidObligationsFollow, ProvedDevelopment
 
 pub valid_obligations_follow : ValidObligationsFollow
 valid_obligations_follow find law dev d b valid =
-    let correct = valid_obligations_carry find law dev d valid in
+    let correct = whole_is_correct find dev d b.complete (valid_obligations_carry find law dev d valid) in
     b0_follows find dev d b (correct.values b.complete) correct.keeps correct.carries
 
 pub proved_developments_follow : ProvedDevelopmentsFollow
@@ -31,7 +31,7 @@ proved_developments_follow find law dev scripts d b h = valid_obligations_follow
 pub closed_tables_follow : ClosedTablesFollow
 closed_tables_follow find law dev scripts rows d b are closed =
     let proved = closed_tables_prove dev scripts rows are closed in
-    let correct = proved_developments_are_correct find law dev scripts d proved in
+    let correct = whole_is_correct find dev d b.complete (proved_developments_are_correct find law dev scripts d proved) in
     (proved_developments_follow find law dev scripts d b proved, b0_ends find dev d b (correct.values b.complete) correct.keeps correct.carries)
 
 -- ---- what a project is read as is a development, and one in B0 where it ends in an implementation

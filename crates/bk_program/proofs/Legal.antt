@@ -40,6 +40,7 @@ use Rattle.bk_sim.specs.Follows.{IsEntry, as_values, replies, started, IsGood, I
 use Rattle.bk_sim.proofs.B0Code.{b0_ends}
 use Rattle.bk_calls.specs.CallLine.{Argument, Number, Truth, Element}
 use Rattle.bk_calls.specs.Script.{value_of, AreValues, AsksFor}
+use Rattle.bk_po.proofs.Carrying.{whole_is_correct}
 use Rattle.bk_status.proofs.Tables.{proved_developments_are_correct}
 use Rattle.bk_lines.specs.Lines.{kept_lines}
 use Rattle.bk_verbs.specs.declared.status.Status.TheVariants.{Done as DoneStatus, Trapped as TrappedStatus}
@@ -54,7 +55,7 @@ pub projects_end : ProjectsEnd
 projects_end files project dev scripts h finished find law =
     let facts = project_development true files project dev scripts h finished.proved.within in
     let b0 = project_in_b0 true files project dev scripts h finished.proved.within finished.complete in
-    let correct = proved_developments_are_correct find law dev scripts facts finished.proved.proved in
+    let correct = whole_is_correct find dev facts finished.complete (proved_developments_are_correct find law dev scripts facts finished.proved.proved) in
     b0_ends find dev facts b0 (correct.values finished.complete) correct.keeps correct.carries
 
 some_entry : (ops : List OpEntry) (o : ℕ) (entry : OpEntry) → slice_get ops o ≡ Some entry → o < length ops

@@ -1,11 +1,13 @@
 -- The names in sight of a term by itself are those of the table; its formula types, and it has one or a fault.
 use Rattle.std.proofs.Common.{◌≡◌, ℕ, zero, suc, ◌+◌, ◌<◌, List, [], ◌∷◌, ◌++◌, length, refl, sym, ◌∙◌, ap, subst, Bool, true, false, arith, nat_lt}
-use Rattle.std.specs.Prelude.{Option, None, Some, slice_get}
-use Rattle.std.specs.Option.{option_map, option_map_or}
+use Rattle.std.specs.Prelude.{◌⊎◌, ◌≤◌, All, Option, None, Some, slice_get}
+use Rattle.std.specs.Option.{option_map_or}
+use Rattle.std.proofs.Common.{inl, inr}
+use Rattle.std.proofs.lemmas.List.Elements.{All-head, All-tail}
 use Rattle.std.proofs.lemmas.Option.{same_Some, slice_get_within}
 use Rattle.std.proofs.lemmas.Bool.Decides.{nat_tests}
 use Rattle.bk_val.specs.ValueType.{ValueType, enum_type}
-use Rattle.bk_form.specs.Table.{Table, SetEntry, set_size, variable_type, lists_type, IsWellFormed}
+use Rattle.bk_form.specs.Table.{Table, SetEntry, listed_size, variable_type, lists_type, IsCounted, IsWellFormed}
 use Rattle.bk_form.specs.Formula.{Formula}
 use Rattle.bk_form.specs.Role.{role, gives}
 use Rattle.bk_form.specs.Wider.{IsTypedRole}
@@ -29,17 +31,27 @@ use Rattle.bk_raw.proofs.RulesFit.{none-left, none-right, some-fault}
 less-then : (m n : ℕ) → m < n → nat_lt m n ≡ true
 less-then m n h = grind (arith, nat_tests)
 
+-- a set has no more names than elements
+names-below : (e : SetEntry) → IsCounted e → length e.elements ≤ e.size
+names-below e (inl h) = let none : length e.elements ≡ 0 = ap length h in omega (arith, none)
+names-below e (inr h) = omega (arith, h)
+
+each-counted : (es : List SetEntry) → All IsCounted es → (s : ℕ) (e : SetEntry) → slice_get es s ≡ Some e → IsCounted e
+each-counted [] all s e h = absurd (cc)
+each-counted (x ∷ es) all zero e h = let same : x ≡ e = cc in subst IsCounted same (All-head IsCounted x es all)
+each-counted (x ∷ es) all (suc s) e h = each-counted es (All-tail IsCounted x es all) s e h
+
 module _ (table : Table) where
   -- the elements of a listed set, in front of names that agree
-  element-agree : (s : ℕ) (size : ℕ) → set_size table s ≡ size → lists_type table (enum_type s) ≡ true → (i : ℕ) (xs : List (List ℕ)) → i + length xs ≡ size → (rest : Names) → Agree table [] rest → Agree table [] (element_names s i xs ++ rest)
+  element-agree : (s : ℕ) (size : ℕ) → listed_size table s ≡ size → lists_type table (enum_type s) ≡ true → (i : ℕ) (xs : List (List ℕ)) → i + length xs ≤ size → (rest : Names) → Agree table [] rest → Agree table [] (element_names s i xs ++ rest)
   element-agree s size e l i [] h rest g = g
   element-agree s size e l i (x ∷ xs) h rest g =
       let below : i < size = omega (arith, h) in
       (ap (nat_lt i) e ∙ less-then i size below, l, element-agree s size e l (suc i) xs (omega (arith, h)) rest g)
 
   -- what the s-th set of the table is
-  size-of : (s : ℕ) (e : SetEntry) → slice_get table.sets s ≡ Some e → set_size table s ≡ length e.elements
-  size-of s e h = ap (λ o. option_map_or length (option_map (λ x. x.elements) o) 0) h
+  size-of : (s : ℕ) (e : SetEntry) → slice_get table.sets s ≡ Some e → listed_size table s ≡ e.size
+  size-of s e h = ap (λ o. option_map_or (λ (x : SetEntry). x.size) o 0) h
 
   listed-set : (s : ℕ) (e : SetEntry) → slice_get table.sets s ≡ Some e → lists_type table (enum_type s) ≡ true
   listed-set s e h = less-then s (length table.sets) (slice_get_within table.sets s e h)
@@ -63,13 +75,14 @@ module _ (table : Table) where
       let same : suc s + i ≡ s + suc i = omega arith in
       ap (slice_get table.sets) same ∙ h (suc i) d g
 
-  set-agree : (s : ℕ) (es : List SetEntry) → StandFrom s es → Agree table [] (set_names s es)
-  set-agree s [] h = tt
-  set-agree s (e ∷ es) h =
+  set-agree : IsWellFormed table → (s : ℕ) (es : List SetEntry) → StandFrom s es → Agree table [] (set_names s es)
+  set-agree w s [] h = tt
+  set-agree w s (e ∷ es) h =
       let here = first-stands s e es h in
       let listed = listed-set s e here in
-      let counted : 0 + length e.elements ≡ length e.elements = omega arith in
-      (listed, element-agree s (length e.elements) (size-of s e here) listed 0 e.elements counted (set_names (suc s) es) (set-agree (suc s) es (later-stand s e es h)))
+      let few : length e.elements ≤ e.size = names-below e (each-counted table.sets w.counted s e here) in
+      let counted : 0 + length e.elements ≤ e.size = omega (arith, few) in
+      (listed, element-agree s e.size (size-of s e here) listed 0 e.elements counted (set_names (suc s) es) (set-agree w (suc s) es (later-stand s e es h)))
 
   variable-agree : IsWellFormed table → (n : ℕ) (o : Option ValueType) → variable_type table n ≡ o → (rest : Names) → Agree table [] rest → MeaningAgrees table [] (variable_meaning n o) (λ us. Agree table us rest)
   variable-agree w n None e rest h = h
@@ -80,7 +93,7 @@ module _ (table : Table) where
   scope-agree w (p ∷ ps) around h = scope-agree w ps (record { text = p.0; meaning = variable_meaning p.1 (variable_type table p.1) } ∷ around) (variable-agree w p.1 (variable_type table p.1) refl around h)
 
   pub names-agree : IsWellFormed table → (scope : ScopeNames) → Agree table [] (names_in table scope)
-  names-agree w scope = scope-agree w scope.names (set_names 0 table.sets) (set-agree 0 table.sets all-stand)
+  names-agree w scope = scope-agree w scope.names (set_names 0 table.sets) (set-agree w 0 table.sets all-stand)
 
   element-typed : (s i : ℕ) (xs : List (List ℕ)) (rest : Names) → AreTyped rest → AreTyped (element_names s i xs ++ rest)
   element-typed s i [] rest h = h

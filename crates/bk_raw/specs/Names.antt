@@ -3,7 +3,7 @@
 use Rattle.std.specs.Prelude.{◌≡◌, ℕ, zero, suc, ◌-◌, true, cond, ◌&&◌, nat_lt, nat_le, List, [], ◌∷◌, ◌++◌, Option, None, Some, codes, decimal}
 use Rattle.std.specs.Str.{bytes_eq}
 use Rattle.bk_val.specs.ValueType.{ValueType, enum_type, set_type}
-use Rattle.bk_form.specs.Table.{Table, variable_type, lists_type, set_size}
+use Rattle.bk_form.specs.Table.{Table, variable_type, lists_type, listed_size}
 use Rattle.bk_form.specs.Formula.{Formula, variable, bound, element, named}
 use Rattle.bk_form.specs.declared.operator.Domain.TheVariants.{Enum}
 
@@ -72,7 +72,7 @@ MeaningAgrees table (t ∷ ts) (local (Some u)) rest = (t ≡ u) × (lists_type 
 MeaningAgrees table ts (global n None) rest = rest ts
 MeaningAgrees table ts (global n (Some u)) rest = (variable_type table n ≡ Some u) × (lists_type table u ≡ true) × rest ts
 MeaningAgrees table ts (set_name s) rest = (lists_type table (enum_type s) ≡ true) × rest ts
-MeaningAgrees table ts (element_name s e) rest = (nat_lt e (set_size table s) ≡ true) × (lists_type table (enum_type s) ≡ true) × rest ts
+MeaningAgrees table ts (element_name s e) rest = (nat_lt e (listed_size table s) ≡ true) × (lists_type table (enum_type s) ≡ true) × rest ts
 MeaningAgrees table ts nothing rest = rest ts
 
 -- the names are those of the table, and of bound variables of these types, the innermost first: those that have a type have the

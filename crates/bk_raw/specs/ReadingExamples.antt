@@ -81,7 +81,7 @@ with_relation t = reading maxint x_and_relation t
 
 -- a table with one set s = {a}, and one variable n
 abbrev pub small_table : Table
-small_table = record { sets = record { name = 115 ∷ []; elements = (97 ∷ []) ∷ [] } ∷ []; variables = record { text = 110 ∷ []; of_type = int_type } ∷ [] }
+small_table = record { sets = record { name = 115 ∷ []; elements = (97 ∷ []) ∷ []; size = 1 } ∷ []; variables = record { text = 110 ∷ []; of_type = int_type } ∷ [] }
 
 -- a scope with the name n of that variable, the name a of it too, and a name m of none
 abbrev pub small_scope : ScopeNames

@@ -4,3 +4,4 @@ pub mod PathLaws
 pub mod Typing
 pub mod Widening
 pub mod SplitValidity
+pub mod SizedValidity

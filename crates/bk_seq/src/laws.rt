@@ -1,6 +1,6 @@
 //! Laws of validity, and of places in formulas. Each is the contract of a function that does nothing.
 
-ghost use Rattle.bk_seq.specs.Laws.{IsAssumed, Weakens, Contradicts, ValidityWidens, SplitKeepsValidity};
+ghost use Rattle.bk_seq.specs.Laws.{IsAssumed, Weakens, Contradicts, ValidityWidens, SplitKeepsValidity, SizesKeepSequents};
 ghost use Rattle.bk_seq.specs.PathLaws.{PutStands, PutKeepsRole, PutKeepsMeaning, PartsType};
 
 /// What every valid sequent allows.
@@ -26,4 +26,10 @@ pub fn wider_tables()
 /// A goal that is taken apart keeps the sequent as valid as it was.
 pub fn splits()
     ensures { SplitKeepsValidity }
+{}
+
+/// Validity for all sizes of the sets that have none: it is validity where each set has a size, and neither a wider table nor a
+/// goal that is taken apart makes a difference.
+pub fn sized_tables()
+    ensures { SizesKeepSequents }
 {}

@@ -5,7 +5,7 @@ use Rattle.std.specs.List.{slice_get}
 use Rattle.std.specs.Str.{bytes_eq}
 use Rattle.std.proofs.lemmas.Bool.Decides.{nat_tests}
 use Rattle.bk_val.specs.ValueType.{ValueType, int_type, bool_type, enum_type, pair_type, set_type}
-use Rattle.bk_form.specs.Table.{Table, variable_type, lists_type, set_size}
+use Rattle.bk_form.specs.Table.{Table, variable_type, lists_type, listed_size}
 use Rattle.bk_form.specs.Formula.{Formula, variable, bound, literal, truth_value, element, empty_set, named, btrue, bfalse, unary, binary, for_all, for_some, comprehension, lambda, Formulas, no_formulas, formula_and}
 use Rattle.bk_form.specs.Role.{Role, gives, predicate, role, roles, bind, if_predicate, if_value, all_listed, gives_set, each_gives_set, are_ranges, element_type, element_types, tuple_type, given_by, bound_role, empty_role, named_role, quantifier_role, comprehension_role, lambda_role}
 use Rattle.bk_form.specs.declared.operator.Domain.{Domain}
@@ -355,7 +355,7 @@ module _ (max : ℤ) (table : Table) (base : Names) (nolocals : HasNoLocals base
     formula-reads (truth_value b) around d l h s p = truth-reads b p (within around base)
     formula-reads (element k i) around d l h s p =
         let text = name_of_element table k i in
-        on-held (element k i) (is_predicate_node (name_node text)) (node_reading max (within around base) p (name_node text)) (nat_lt i (set_size table k)) (gives (enum_type k))
+        on-held (element k i) (is_predicate_node (name_node text)) (node_reading max (within around base) p (name_node text)) (nat_lt i (listed_size table k)) (gives (enum_type k))
         (λ y. name-reads max (within around base) p text (element k i) (enum_type k) h (found-inside around base nolocals text (printable-something text h) ∙ s))
     formula-reads (empty_set t) around d l h s p = empty-reads t p around h s
     formula-reads (named n) around d l h s p = domain-reads n p around h s

@@ -16,7 +16,7 @@ use Rattle.bk_show.specs.Stands.{HasNoLocals, Stands}
 -- the set S = {a, b}, and the variables r$1 and s, relations of numbers, and n
 abbrev pub table : Table
 table = record {
-  sets = record { name = codes "S"; elements = codes "a" ∷ codes "b" ∷ [] } ∷ [];
+  sets = record { name = codes "S"; elements = codes "a" ∷ codes "b" ∷ []; size = 2 } ∷ [];
   variables =
       record { text = codes "r$1"; of_type = set_type (pair_type int_type int_type) } ∷ record { text = codes "s"; of_type = set_type (pair_type int_type int_type) } ∷ record { text = codes "n"; of_type = int_type } ∷ [];
 }

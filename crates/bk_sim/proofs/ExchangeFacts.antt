@@ -1,5 +1,6 @@
 -- The exchange is a development, and in B0.
 use Rattle.std.proofs.Common.{◌≡◌, ◌⊎◌, inl, inr, ◌≤◌, ◌<◌, ◌||◌, ℕ, zero, suc, pos, [], ◌∷◌, refl, Bool, true, All, IsTrue, arith}
+use Rattle.std.proofs.lemmas.List.Elements.{All-nil}
 use Rattle.bk_val.specs.ValueType.{int_type, pair_type, set_type}
 use Rattle.bk_form.specs.Each.{Each}
 use Rattle.bk_form.specs.Table.{lists_type, IsWellFormed}
@@ -41,7 +42,7 @@ module _ (visible : ℕ → Bool) where
 
 -- ---- the table and the homes
 table-facts : IsWellFormed exchange_table
-table-facts = record { inhabited = λ k d h. absurd (omega (arith)); listed = listed; few_sets = omega (arith); few_variables = omega (arith) }
+table-facts = record { counted = λ k d h. absurd (omega (arith)); listed = listed; few_sets = omega (arith); few_variables = omega (arith) }
   where
     listed : All (λ v. IsTrue (lists_type exchange_table v.of_type)) exchange_table.variables
     listed zero d h = refl
@@ -199,6 +200,7 @@ pub exchange_facts : IsDevelopment exchange
 exchange_facts = record {
   lawful = exchange-lawful;
   only_last = two-levels exchange refl refl;
+  sizes = λ h. All-nil (λ s. 0 < s.size);
   shapes = (record { init = (tt, tt, tt, tt); bodies = ((tt, tt, tt, tt), tt) }, (record { init = (tt, tt, (tt, tt, tt)); bodies = ((inr tt, (tt, tt, (tt, tt, (tt, tt, (tt, tt, (tt, tt, tt)))))), tt) }, tt));
   binders_differ = (refl, tt);
   room = omega (arith);

@@ -27,7 +27,7 @@ use Rattle.bk_dev.specs.Development.{Head, Body, Level, Development, int_max, bl
 use Rattle.bk_form.specs.Each.{Each}
 use Rattle.bk_dev.specs.Facts.{is_constant, is_input, is_variable_of, is_variable_above, is_inner_of, home_of, AllAlike, HasItsValues, names_own, names_joined, IsSubOf, IsBodyOf, IsHeadOf, IsLink, IsLawful}
 use Rattle.bk_form.specs.Predicates.{AllHold, conjuncts, equation}
-use Rattle.bk_dev.specs.Hypotheses.{value_equation, properties_of, values_at, joining, joinings_of, conditions_of, is_number, in_machine_range, input_ranges, init_hypotheses, unasserted_hypotheses}
+use Rattle.bk_dev.specs.Hypotheses.{size_equations, value_equation, properties_of, values_at, joining, joinings_of, conditions_of, is_number, in_machine_range, input_ranges, init_hypotheses, unasserted_hypotheses}
 use Rattle.bk_dev.specs.Machine.{Abstract, HasValues, Opens, Call, IsCall, Gives, Pre}
 use Rattle.bk_dev.specs.Claims.{arrays_at, KeepsFlat, CarriesFlat, ValuesMeet}
 use Rattle.bk_dev.specs.Layout.{arrays_of, cell_of, cell_count, cell_variables}
@@ -45,6 +45,7 @@ use Rattle.bk_sim.specs.Follows.{IsEntry, as_values, replies, started, GoesWell,
 use Rattle.bk_sim.proofs.Chain.{linked_before, calls_decide}
 use Rattle.bk_sim.proofs.Ends.{done-well}
 use Rattle.bk_form.proofs.Members.{or-left, or-right}
+use Rattle.bk_dev.proofs.Sizes.{sizes_hold}
 use Rattle.bk_dev.proofs.Agree.{all-none, holds-same, joining-same, all-among}
 use Rattle.bk_form.proofs.Conjuncts.{true-append, true-first, parts-true, whole-true}
 use Rattle.bk_dev.proofs.Climb.{flat-then, flat-if, is_before, constant-before, input-before, variable-before, joined-before, own-before, one_of_three, map-same, Climbed, Carry, climbed, stays-before}
@@ -157,7 +158,7 @@ module _ (find : Finder) (dev : Development) (f : IsLawful dev) (b : IsB0Develop
 
   -- ---- hypotheses that hold where the constants have their values
   values-there : (k : ℕ) (e : State) → HasValues find dev e → AllHold find (at_state dev.table e) (values_at dev k)
-  values-there k e v = elim (is_implementation (level_at dev k)) as (λ c. AllHold find (at_state dev.table e) (cond c (map value_equation dev.values) [])) [ true ↦ v | false ↦ tt ]
+  values-there k e v = elim (is_implementation (level_at dev k)) as (λ c. AllHold find (at_state dev.table e) (cond c (size_equations dev ++ map value_equation dev.values) [])) [ true ↦ true-append find (at_state dev.table e) (size_equations dev) (map value_equation dev.values) (sizes_hold find dev f.sets (at_state dev.table e) refl) v | false ↦ tt ]
 
   properties-hold : (k : ℕ) (e : State) → IsTypedState dev.table e → HasValues find dev e → AllHold find (at_state dev.table e) (properties_of dev k)
   properties-hold k e t v = flat-if find dev e (λ l. conjuncts l.properties) k dev.levels (λ j p q. flat-then find dev e (λ l. conjuncts l.properties) (length dev.levels) dev.levels (meet e t v) j q q)

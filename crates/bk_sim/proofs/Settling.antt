@@ -1,6 +1,7 @@
 -- The settling development, and three codes that do not follow it: one stores what the local held before, one comes back behind the start of the test,
 -- and one does not come back.
 use Rattle.std.proofs.Common.{◌≡◌, inl, inr, ◌≤◌, ◌<◌, ◌||◌, ℕ, zero, suc, ℤ, pos, List, [], ◌∷◌, length, refl, sym, ◌∙◌, ap, subst, Bool, true, false, All, IsTrue, arith}
+use Rattle.std.proofs.lemmas.List.Elements.{All-nil}
 use Rattle.bk_val.specs.Value.{int}
 use Rattle.bk_val.specs.ValueType.{int_type}
 use Rattle.bk_form.specs.Each.{Each}
@@ -37,7 +38,7 @@ use Rattle.bk_dev.proofs.Levels.{two-levels}
 
 -- ---- it is a development
 table-facts : IsWellFormed settling_table
-table-facts = record { inhabited = λ k d h. absurd (omega (arith)); listed = listed; few_sets = omega (arith); few_variables = omega (arith) }
+table-facts = record { counted = λ k d h. absurd (omega (arith)); listed = listed; few_sets = omega (arith); few_variables = omega (arith) }
   where
     listed : All (λ v. IsTrue (lists_type settling_table v.of_type)) settling_table.variables
     listed zero d h = refl
@@ -205,6 +206,7 @@ settling_facts : IsDevelopment settling
 settling_facts = record {
   lawful = settling_lawful;
   only_last = two-levels settling refl refl;
+  sizes = λ h. All-nil (λ s. 0 < s.size);
   shapes = (record { init = tt; bodies = (tt, (tt, tt)) }, (record { init = tt; bodies = ((inr tt, (tt, tt, tt)), ((tt, tt, tt), tt)) }, tt));
   binders_differ = (refl, tt);
   room = omega (arith);

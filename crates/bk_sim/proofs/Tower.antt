@@ -20,7 +20,7 @@ use Rattle.bk_sim.proofs.B0Code.{lawful_follows}
 
 -- ---- it is lawful
 table-facts : IsWellFormed tower_table
-table-facts = record { inhabited = λ k d h. absurd (omega (arith)); listed = listed; few_sets = omega (arith); few_variables = omega (arith) }
+table-facts = record { counted = λ k d h. absurd (omega (arith)); listed = listed; few_sets = omega (arith); few_variables = omega (arith) }
   where
     listed : All (λ v. IsTrue (lists_type tower_table v.of_type)) tower_table.variables
     listed zero d h = refl

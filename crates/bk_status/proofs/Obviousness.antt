@@ -5,17 +5,16 @@ use Rattle.bk_dev.specs.Flattened.{flattened}
 use Rattle.bk_form.specs.Each.{Each}
 use Rattle.bk_dev.proofs.Room.{development-formed}
 use Rattle.bk_seq.specs.Sequents.{Sequent, Types}
-use Rattle.bk_kernel.proofs.Validity.{obvious_is_valid}
-use Rattle.bk_kernel.proofs.DerivedValid.{derived-wider-is-valid}
-use Rattle.bk_po.specs.Obligations.{AreValid, numbered_obligations}
+use Rattle.bk_kernel.proofs.SizedRules.{sound_for_all_sizes, obvious_for_all_sizes}
+use Rattle.bk_po.specs.Obligations.{AreValidForAllSizes, numbered_obligations}
 use Rattle.bk_po.proofs.TypedSequents.{obligations_type}
 use Rattle.bk_status.specs.Obvious.{AreObvious, IsShown}
 use Rattle.bk_status.specs.Laws.{ShownObligationsAreValid, ObviousObligationsAreValid}
 
 module _ (table : Table) where
-  shown-valid : IsWellFormed table → (ss : List (List ℕ × Sequent)) → Each (λ s. Types table s.1) ss → Each (λ s. IsShown table s.1) ss → AreValid table ss
+  shown-valid : IsWellFormed table → (ss : List (List ℕ × Sequent)) → Each (λ s. Types table s.1) ss → Each (λ s. IsShown table s.1) ss → AreValidForAllSizes table ss
   shown-valid formed [] h o = tt
-  shown-valid formed (s ∷ ss) h o = (elim o.0 [ inl plain ↦ obvious_is_valid table formed s.1.0 s.1.1 h.0.1 plain | inr d ↦ derived-wider-is-valid table d.wide formed d.formed d.wider d.rules s.1 h.0 d.derives ], shown-valid formed ss h.1 o.1)
+  shown-valid formed (s ∷ ss) h o = (elim o.0 [ inl plain ↦ obvious_for_all_sizes table formed s.1.0 s.1.1 h.0.1 plain | inr d ↦ sound_for_all_sizes.wider table d.wide formed d.formed d.wider d.rules s.1 h.0 d.derives ], shown-valid formed ss h.1 o.1)
 
   obvious-shown : (ss : List (List ℕ × Sequent)) → AreObvious ss → Each (λ s. IsShown table s.1) ss
   obvious-shown [] h = tt

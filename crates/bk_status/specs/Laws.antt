@@ -5,7 +5,7 @@ use Rattle.bk_seq.specs.Sequents.{Sequent}
 use Rattle.bk_dev.specs.Development.{Development}
 use Rattle.bk_dev.specs.Facts.{IsDevelopment}
 use Rattle.bk_po.specs.Obligations.{HasValidObligations}
-use Rattle.bk_po.specs.Laws.{IsCorrect}
+use Rattle.bk_po.specs.Laws.{IsCorrectForAllSizes}
 use Rattle.bk_raw.specs.ScriptTree.{RawScript}
 use Rattle.bk_status.specs.declared.state.State.{State}
 use Rattle.bk_status.specs.declared.table.Row.{Row}
@@ -47,4 +47,4 @@ ProvedObligationsAreValid = (dev : Development) (scripts : List RawScript) → I
 
 -- so that the development is correct
 abbrev pub ProvedDevelopmentsAreCorrect : Type 0
-ProvedDevelopmentsAreCorrect = (find : Finder) → IsSearch find → (dev : Development) (scripts : List RawScript) → IsDevelopment dev → AreProved dev scripts → IsCorrect find dev
+ProvedDevelopmentsAreCorrect = (find : Finder) → IsSearch find → (dev : Development) (scripts : List RawScript) → IsDevelopment dev → AreProved dev scripts → IsCorrectForAllSizes find dev

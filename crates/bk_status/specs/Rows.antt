@@ -7,7 +7,7 @@ use Rattle.bk_form.specs.Each.{Each}
 use Rattle.bk_dev.specs.Flattened.{flattened}
 use Rattle.bk_seq.specs.Sequents.{Sequent}
 use Rattle.bk_po.specs.Obligations.{numbered_obligations}
-use Rattle.bk_po.specs.Laws.{IsCorrect}
+use Rattle.bk_po.specs.Laws.{IsCorrectForAllSizes}
 use Rattle.bk_raw.specs.ScriptTree.{RawScript}
 use Rattle.bk_status.specs.States.{IsState}
 use Rattle.bk_status.specs.declared.state.State.{State}
@@ -37,7 +37,7 @@ first_open rows = find (λ row. not (is_settled row.state)) rows
 -- where no row is open the development is correct: the machine keeps its invariant, each level carries the one above, the constants' values meet
 -- the properties, and what is stated is defined
 abbrev pub ShowCorrect : Development → List Row → Type 0
-ShowCorrect dev rows = first_open rows ≡ None → (find : Finder) → IsSearch find → IsCorrect find dev
+ShowCorrect dev rows = first_open rows ≡ None → (find : Finder) → IsSearch find → IsCorrectForAllSizes find dev
 
 -- ---- obligations that need no more work
 -- the obligation with this name and sequent is obvious or has a replayed proof: it has a script, and the rules that the script stands for

@@ -40,7 +40,7 @@ all-from p [] h = All-nil (λ (x : VariableEntry). IsTrue (p x))
 all-from p (x ∷ xs) h = All-cons (λ (x : VariableEntry). IsTrue (p x)) x xs (and-first (p x) (list_all p xs) h) (all-from p xs (and-rest (p x) (list_all p xs) h))
 
 table-facts : IsWellFormed family_table
-table-facts = record { inhabited = λ k d h. absurd (omega (arith)); listed = all-listed; few_sets = omega (arith); few_variables = omega (arith) }
+table-facts = record { counted = λ k d h. absurd (omega (arith)); listed = all-listed; few_sets = omega (arith); few_variables = omega (arith) }
   where
     all-listed : All (λ v. IsTrue (lists_type family_table v.of_type)) family_table.variables
     all-listed = all-from (λ (v : VariableEntry). lists_type family_table v.of_type) family_table.variables refl

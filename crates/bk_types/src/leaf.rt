@@ -47,13 +47,14 @@ fn from_innermost(around: &[Ty], number: u32) -> Option<&Ty>
     around.get(place)
 }
 
-// An element gives its set, where the set has an element of this number.
+// An element gives its set, where its number is below the set's size.
 pub(crate) fn element_role(set: u32, index: u32, table: &VarTable) -> Role
     ensures { shown_role result ≡ typed.element_role table.now set index }
 {
-    match table.elements(set) {
-        Some(elements) if (index as usize) < elements.len() => Role::Value(Ty::enumerated(set)),
-        _ => Role::Nothing,
+    if index < table.size(set) {
+        Role::Value(Ty::enumerated(set))
+    } else {
+        Role::Nothing
     }
 }
 

@@ -3,7 +3,7 @@ use Rattle.std.proofs.Common.{◌≡◌, ℕ, zero, suc, ◌+◌, List, [], ◌�
 use Rattle.std.specs.Prelude.{slice_get}
 use Rattle.std.proofs.lemmas.Bool.Decides.{nat_tests}
 use Rattle.bk_val.specs.ValueType.{ValueType, int_type, enum_type, pair_type, set_type}
-use Rattle.bk_form.specs.Table.{Table, SetEntry, lists_type, set_size, IsWellFormed}
+use Rattle.bk_form.specs.Table.{Table, lists_type, listed_size, IsWellFormed}
 use Rattle.bk_form.specs.ArrayTable.{ArrayTable}
 use Rattle.bk_form.specs.Formula.{Formula, variable, bound, btrue, unary, binary, for_all, for_some, comprehension, lambda, Formulas, no_formulas, formula_and}
 use Rattle.bk_form.specs.Role.{Role, gives, predicate, untyped, if_holds, if_predicate, if_value, same_type, given_by, bound_role, unary_role, binary_role, connective_role, numbers_role, equality_role, membership_role, role, roles, bind, all_listed, gives_set, each_gives_set, are_ranges, element_type, element_types, tuple_type}
@@ -23,6 +23,7 @@ use Rattle.bk_form.proofs.Listed.{gives-listed}
 use Rattle.bk_form.proofs.Members.{and-true, and-both}
 use Rattle.bk_form.proofs.Operands.{holds-op, predicate-op, value-op, unary-op, binary-op}
 use Rattle.bk_form.proofs.Roles.{same_type-then, if_holds-gives}
+use Rattle.bk_form.proofs.Counted.{size-listed}
 use Rattle.bk_form.proofs.Widening.{type-listed}
 use Rattle.bk_bind.specs.Lifting.{lifted}
 use Rattle.bk_bind.proofs.Raised.{count-types, types-behind, role-lifted-under}
@@ -32,21 +33,6 @@ use Rattle.bk_wd.specs.WellDefined.{unary_own, ranges_onto, in_ranges, defined, 
 use Rattle.bk_wd.specs.Checked.{in_machine, in_domain, index_check, checked_own, checked}
 use Rattle.bk_wd.specs.Laws.{index_type, AreTypedArrays, ConditionsArePredicates}
 use Rattle.bk_wd.proofs.Parts.{both-role, where-role, not-role, over-role, numbers-are, relation-is, value-is, connective-is, unary-own-role, binary-defined-role}
-
--- a set with an element is listed
-sized-listed : (sets : List SetEntry) (n i : ℕ) → nat_lt i (Rattle.std.specs.Option.option_map_or length (Rattle.std.specs.Option.option_map (λ s. s.elements) (slice_get sets n)) 0) ≡ true → nat_lt n (length sets) ≡ true
-sized-listed [] n i h = absurd (none i h)
-  where
-    none : (n : ℕ) → nat_lt n 0 ≡ true → ⊥
-    none n h = grind (arith, nat_tests)
-sized-listed (s ∷ sets) zero i h = first (length sets)
-  where
-    first : (m : ℕ) → nat_lt zero (suc m) ≡ true
-    first m = grind (arith, nat_tests)
-sized-listed (s ∷ sets) (suc n) i h = more n (length sets) (sized-listed sets n i h)
-  where
-    more : (m n : ℕ) → nat_lt m n ≡ true → nat_lt (suc m) (suc n) ≡ true
-    more m n h = grind (arith, nat_tests)
 
 pub each-typed-role : (r : Role) → gives_set r ≡ true → IsTypedRole r
 each-typed-role untyped h = absurd (cc)
@@ -67,7 +53,7 @@ first-of-pair a b s c d h k = cc
 
 module _ (table : Table) (well : IsWellFormed table) where
   pub gives-l : (around : List ValueType) (f : Formula) (t : ValueType) → role table around f ≡ gives t → lists_type table t ≡ true
-  gives-l around f t h = gives-listed table (type-listed table well) (λ s i q. sized-listed table.sets s i (if_holds-gives (nat_lt i (set_size table s)) (gives (enum_type s)) (enum_type s) q).0) around f t h
+  gives-l around f t h = gives-listed table (type-listed table well) (λ s i q. size-listed table s i (if_holds-gives (nat_lt i (listed_size table s)) (gives (enum_type s)) (enum_type s) q).0) around f t h
 
   -- ---- ranges
   range-role : (around inner : List ValueType) (n m : ℕ) (r : Formula) → role table inner (lifted n 0 r) ≡ role table around r → gives_set (role table around r) ≡ true → slice_get inner m ≡ Some (element_type (role table around r)) → role table inner (binary In (bound m) (lifted n 0 r)) ≡ predicate

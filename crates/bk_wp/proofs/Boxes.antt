@@ -381,7 +381,7 @@ pub room-formed : (table : Table) → IsWellFormed table → length table.variab
 room-formed table f room =
     let long = length-append table.variables (number_entry ∷ []) in
     record {
-      inhabited = f.inhabited;
+      counted = f.counted;
       listed = All-append (λ v. IsTrue (lists_type table v.of_type)) table.variables (number_entry ∷ []) f.listed (All-cons (λ v. IsTrue (lists_type table v.of_type)) number_entry [] refl (All-nil (λ v. IsTrue (lists_type table v.of_type))));
       few_sets = f.few_sets;
       few_variables = omega (arith, room, long);

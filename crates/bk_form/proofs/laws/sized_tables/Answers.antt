@@ -1,0 +1,11 @@
+use Rattle.bk_form.proofs.Sizing.{sizes_keep_roles, sizes_fit, sets_are_counted}
+use Rattle.bk_form.proofs.laws.sized_tables.Goals as goal
+
+pub returns-clause-roles : goal.returns-clause-roles
+returns-clause-roles c = sizes_keep_roles
+
+pub returns-clause-fit : goal.returns-clause-fit
+returns-clause-fit c = sizes_fit
+
+pub returns-clause-counted : goal.returns-clause-counted
+returns-clause-counted c = sets_are_counted
