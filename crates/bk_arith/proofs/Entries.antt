@@ -5,9 +5,8 @@ use Rattle.std.proofs.lemmas.List.{take_more_set, drop-set-lt, append_assoc, dro
 use Rattle.std.proofs.lemmas.Int.{ints}
 use Rattle.bk_lin.specs.Inequality.{sum_of_coefs}
 use Rattle.bk_val.specs.Value.{fits_i128}
-use Rattle.bk_arith.specs.declared.joining.Join.{Join}
 use Rattle.bk_arith.specs.declared.joining.Join.TheVariants.{Sum, Difference}
-use Rattle.bk_arith.specs.Layout.{entry_of, entries_of}
+use Rattle.bk_arith.specs.Layout.{entries_of}
 
 abbrev pub zipped : (ℤ → ℤ → ℤ) → List ℤ → List ℤ → List ℤ
 zipped f (x ∷ xs) (y ∷ ys) = f x y ∷ zipped f xs ys
@@ -50,11 +49,6 @@ zipped-more f xs ys i v h k e =
 
 pub all_fit-end : (f : ℤ → ℤ → ℤ) (xs ys : List ℤ) (i : ℕ) → length xs ≤ i → all_fit f (drop i xs) (drop i ys) ≡ true
 all_fit-end f xs ys i h = ap (λ zs. all_fit f zs (drop i ys)) (drop_all i xs h)
-
-pub zipped-entries_of : (join : Join) (xs ys : List ℤ) → zipped (entry_of join) xs ys ≡ entries_of join xs ys
-zipped-entries_of join [] ys = refl
-zipped-entries_of join (x ∷ xs) [] = refl
-zipped-entries_of join (x ∷ xs) (y ∷ ys) = ap (λ zs. entry_of join x y ∷ zs) (zipped-entries_of join xs ys)
 
 pub zipped-map : (m : ℤ) (xs : List ℤ) → zipped (λ c d. m *ℤ c) xs xs ≡ map (λ c. m *ℤ c) xs
 zipped-map m [] = refl

@@ -43,7 +43,3 @@ width terms atoms (f ∷ fs) e h k all = sym (All-head (λ g. length g.coefs.ite
 pub handed_on : (r : Result (Unit {0}) ArithFault) (e : ArithFault) (P : ArithFault → Type 0) → IsErrAnd r (λ x. x ≡ e) → P e → IfErr r P
 handed_on (Ok v) e P h p = tt
 handed_on (Err x) e P h p = subst P (sym h) p
-
-pub weaker : (r : Result (Unit {0}) ArithFault) (P Q : ArithFault → Type 0) → ((e : ArithFault) → P e → Q e) → IfErr r P → IfErr r Q
-weaker (Ok v) P Q f p = tt
-weaker (Err e) P Q f p = f e p

@@ -15,10 +15,6 @@ if_both true true p h k = refl
 if_both true false p h k = absurd (cc)
 if_both false b p h k = absurd (cc)
 
-unless_first : (a b : Bool) (p : Inequality) → a ≡ false → (if a && b then Some p else None) ≡ None
-unless_first true b p h = absurd (cc)
-unless_first false b p h = refl
-
 unless_second : (a b : Bool) (p : Inequality) → b ≡ false → (if a && b then Some p else None) ≡ None
 unless_second true true p h = absurd (cc)
 unless_second true false p h = refl
@@ -26,9 +22,6 @@ unless_second false b p h = refl
 
 pub narrow : (z : ℤ) (cs : List ℤ) → fits_i128 z ≡ true → list_all fits_i128 cs ≡ true → if_narrow (shown cs z) ≡ Some (shown cs z)
 narrow z cs h k = if_both (fits_i128 z) (list_all fits_i128 cs) (shown cs z) h k
-
-pub wide_constant : (z : ℤ) (cs : List ℤ) → fits_i128 z ≡ false → if_narrow (shown cs z) ≡ None
-wide_constant z cs h = unless_first (fits_i128 z) (list_all fits_i128 cs) (shown cs z) h
 
 pub wide_coefs : (z : ℤ) (cs : List ℤ) → list_all fits_i128 cs ≡ false → if_narrow (shown cs z) ≡ None
 wide_coefs z cs h = unless_second (fits_i128 z) (list_all fits_i128 cs) (shown cs z) h
