@@ -3,7 +3,7 @@ use Rattle.std.proofs.Common.{◌≡◌, ℕ, suc, ◌<◌, refl, sym, ◌∙◌
 use Rattle.std.specs.Prelude.{ℤ}
 use Rattle.std.specs.List.{slice_split}
 use Rattle.std.specs.Option.{option_map}
-use Rattle.std.proofs.lemmas.List.{append-nil, append_assoc}
+use Rattle.std.proofs.lemmas.List.{append_assoc}
 use Rattle.bk_calls.specs.CallLine.{Argument, Number}
 use Rattle.bk_calls.specs.Reading.{kept, kept_argument, number_or, in_front_of, argument_in, arguments_in, is_comma, pieces_left, before_byte, after_byte}
 use Rattle.bk_calls.proofs.Cuts.{pieces_cut}
@@ -11,10 +11,6 @@ use Rattle.bk_calls.proofs.Cuts.{pieces_cut}
 pub number_held : (o : Option ℤ) (p : Option Argument) (n : ℤ) → Some n ≡ option_map kept o → Some (Number n) ≡ option_map kept_argument (number_or o p)
 number_held None p n h = absurd cc
 number_held (Some m) p n h = (let e : n ≡ kept m = cc in ap (λ k. Some (Number k)) e)
-
-pub none_held : (o : Option ℤ) (p : Option Argument) → None ≡ option_map kept o → number_or o p ≡ p
-none_held None p h = refl
-none_held (Some m) p h = absurd cc
 
 -- arguments with their numbers as they are held
 abbrev pub all_kept : Option (List Argument) → Option (List Argument)
@@ -35,9 +31,6 @@ one_more first a (Some b) (Some bs) h =
 pub no_more : (first : List Argument) (o : Option Argument) (os : Option (List Argument)) → None ≡ option_map kept_argument o → behind_those first (all_kept (in_front_of o os)) ≡ None
 no_more first None os h = refl
 no_more first (Some b) os h = absurd cc
-
-pub at_end : (first : List Argument) → behind_those first (all_kept (Some [])) ≡ Some first
-at_end first = ap (λ t. Some t) (append-nil first)
 
 -- ---- one piece of a text more
 cut_pieces : (text before : List ℕ) (after : Option (List ℕ)) → before ≡ before_byte 44 text → after ≡ after_byte 44 text → arguments_in (slice_split is_comma text) ≡ in_front_of (argument_in before) (arguments_in (pieces_left after))

@@ -1,5 +1,5 @@
 -- Numbers that are kept in 64 bits say the same of a line as the written ones.
-use Rattle.std.proofs.Common.{◌≡◌, ℕ, suc, ◌+◌, ◌^◌, ◌-◌, ◌≤◌, ◌<◌, min, leb, inl, inr, refl, sym, ◌∙◌, ap, subst, arith, true, false, List, [], ◌∷◌, ◌++◌, length, drop, get_or, map, drop-cons, drop_of_length-le, append_assoc, Option, Some, None, Ok, Err}
+use Rattle.std.proofs.Common.{◌≡◌, ℕ, suc, ◌+◌, ◌^◌, ◌-◌, ◌≤◌, min, leb, inl, inr, refl, sym, ◌∙◌, ap, arith, true, false, List, [], ◌∷◌, ◌++◌, length, drop, map, Option, Some, None, Ok, Err}
 use Rattle.std.specs.Prelude.{◌⊎◌, ◌&&◌, ℤ, pos, negsuc, neg_ℤ}
 use Rattle.std.specs.List.{list_all}
 use Rattle.std.specs.Option.{option_map}
@@ -143,28 +143,6 @@ uncounted image (input ∷ inputs) (a ∷ arguments) h = front_none (value_of im
 abbrev pub behind_numbers : List ℤ → Option (List ℤ) → Option (List ℤ)
 behind_numbers first os = option_map (λ others. first ++ others) os
 
-pub number_more : (first : List ℤ) (n : ℤ) (o : Option ℤ) (os : Option (List ℤ)) → Some n ≡ o → behind_numbers (first ++ (n ∷ [])) os ≡ behind_numbers first (in_front_of o os)
-number_more first n None os h = absurd cc
-number_more first n (Some m) None h = refl
-number_more first n (Some m) (Some ms) h =
-    let e : n ≡ m = cc in
-    ap (λ t. Some t) (append_assoc first (n ∷ []) ms) ∙ ap (λ k. Some (first ++ (k ∷ ms))) e
-
-pub number_none : (first : List ℤ) (o : Option ℤ) (os : Option (List ℤ)) → None ≡ o → behind_numbers first (in_front_of o os) ≡ None
-number_none first None os h = refl
-number_none first (Some m) os h = absurd cc
-
 -- the values of inputs and arguments from a place on
 abbrev pub values_from : Image → ℕ → List Parameter → List Held → Option (List ℤ)
 values_from image i inputs arguments = values_of image (drop i inputs) (map held (drop i arguments))
-
-pub values_at : (image : Image) (i : ℕ) (inputs : List Parameter) (arguments : List Held) (input : Parameter) (a : Held) → i < length inputs → i < length arguments →
-    values_from image i inputs arguments ≡ in_front_of (value_of image (get_or inputs i input).kind (held (get_or arguments i a))) (values_from image (i + 1) inputs arguments)
-values_at image i inputs arguments input a h k =
-    let next : suc i ≡ i + 1 = omega arith in
-    let parts : values_from image i inputs arguments ≡ in_front_of (value_of image (get_or inputs i input).kind (held (get_or arguments i a))) (values_from image (suc i) inputs arguments) =
-    ap (λ t. values_of image t (map held (drop i arguments))) (drop-cons inputs i input h) ∙ ap (λ t. values_of image (get_or inputs i input ∷ drop (suc i) inputs) (map held t)) (drop-cons arguments i a k) in
-    subst (λ j. values_from image i inputs arguments ≡ in_front_of (value_of image (get_or inputs i input).kind (held (get_or arguments i a))) (values_from image j inputs arguments)) next parts
-
-pub values_end : (image : Image) (i : ℕ) (inputs : List Parameter) (arguments : List Held) → length inputs ≤ i → length arguments ≤ i → values_from image i inputs arguments ≡ Some []
-values_end image i inputs arguments h k = ap (λ t. values_of image t (map held (drop i arguments))) (drop_of_length-le inputs h) ∙ ap (λ t. values_of image [] (map held t)) (drop_of_length-le arguments k)

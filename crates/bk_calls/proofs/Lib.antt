@@ -14,5 +14,4 @@ pub mod Limits
 pub mod Outputs
 pub mod Lengths
 pub mod Longest
-pub mod Transcripts
 pub mod SampleLists

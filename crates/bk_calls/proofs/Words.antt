@@ -4,7 +4,7 @@ use Rattle.std.specs.Prelude.{◌≢◌, ◌==◌, ◌||◌, All, position, unwr
 use Rattle.std.specs.List.{position_or_len}
 use Rattle.std.proofs.lemmas.Bool.{cases_Bool, cond-true, cond-false, not-true, or_parts, eqb-true, eqb-false, ne_eqb, eq-eqb}
 use Rattle.std.proofs.lemmas.List.{append-nil}
-use Rattle.std.proofs.lemmas.List.Elements.{All-nil, All-cons, All-head, All-tail}
+use Rattle.std.proofs.lemmas.List.Elements.{All-head, All-tail}
 use Rattle.bk_calls.specs.CallLine.{spaces}
 use Rattle.bk_calls.specs.Reading.{skip_spaces, is_plain, front, behind, is_empty, is_spaces, before_byte, after_byte}
 use Rattle.bk_calls.proofs.Places.{place_or_length}
@@ -66,14 +66,6 @@ front_behind (b ∷ bs) =
     elim (cases_Bool (is_plain b)) [
       | inl holds ↦ (let parts = front_yes b bs holds in rw (parts.0, parts.1) (ap (λ t. b ∷ t) (front_behind bs)))
       | inr fails ↦ (let parts = front_no b bs fails in rw (parts.0, parts.1) refl)
-    ]
-
-pub front_plain : (xs : List ℕ) → All Plain (front xs)
-front_plain [] = All-nil Plain
-front_plain (b ∷ bs) =
-    elim (cases_Bool (is_plain b)) [
-      | inl holds ↦ rw ((front_yes b bs holds).0) (All-cons Plain b (front bs) (plain_true b holds) (front_plain bs))
-      | inr fails ↦ rw ((front_no b bs fails).0) (All-nil Plain)
     ]
 
 -- a text that starts with no byte of a name
