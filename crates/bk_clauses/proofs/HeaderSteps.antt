@@ -1,5 +1,5 @@
 -- The headers of operations, one after another.
-use Rattle.std.proofs.Common.{◌≡◌, ℕ, suc, ◌+◌, ◌<◌, List, length, get_or, drop, sym, ◌∙◌, ap, Bool, true, false, cond, arith}
+use Rattle.std.proofs.Common.{◌≡◌, ℕ, suc, ◌+◌, ◌<◌, List, length, get_or, drop, sym, ◌∙◌, ap, Bool, true, cond, arith}
 use Rattle.std.specs.Prelude.{◌&&◌}
 use Rattle.std.specs.Str.{bytes_eq}
 use Rattle.bk_dev.specs.Development.{Head, Development}
@@ -22,8 +22,3 @@ heads-next dev heads o i h b every l e k inv =
 pub heads-passed : (dev : Development) (heads : List Head) (o : RawOperation) (i : ℕ) (h : Head) (b every : Bool) → i < length heads → h ≡ get_or heads i h → b ≡ alike dev i h o → b ≡ true → heads_as dev i (drop i heads) o ≡ every →
     heads_as dev (i + 1) (drop (i + 1) heads) o ≡ every
 heads-passed dev heads o i h b every l e k t inv = sym (ap (λ c. c && heads_as dev (i + 1) (drop (i + 1) heads) o) t) ∙ heads-next dev heads o i h b every l e k inv
-
--- one that isn't
-pub heads-failed : (dev : Development) (heads : List Head) (o : RawOperation) (i : ℕ) (h : Head) (b every : Bool) → i < length heads → h ≡ get_or heads i h → b ≡ alike dev i h o → b ≡ false → heads_as dev i (drop i heads) o ≡ every →
-    false ≡ every
-heads-failed dev heads o i h b every l e k t inv = sym (ap (λ c. c && heads_as dev (i + 1) (drop (i + 1) heads) o) t) ∙ heads-next dev heads o i h b every l e k inv

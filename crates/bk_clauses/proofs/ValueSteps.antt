@@ -1,39 +1,12 @@
 -- The values of constants, one entry after another.
-use Rattle.std.proofs.Common.{◌≡◌, ℕ, ◌+◌, ◌<◌, List, length, get_or, drop, refl, sym, ◌∙◌, ap, Bool, true, false}
-use Rattle.std.specs.Prelude.{Option, None, Some, ℤ, ◌||◌, ◌&&◌}
+use Rattle.std.proofs.Common.{◌≡◌, ℕ, refl, ◌∙◌, ap, Bool, true, false}
+use Rattle.std.specs.Prelude.{Option, None, Some, ℤ, ◌&&◌}
 use Rattle.std.specs.Bool.{then_some}
-use Rattle.std.specs.Borrow.{Bor}
 use Rattle.std.proofs.lemmas.Option.{some_pair_parts}
-use Rattle.bk_gsl.specs.State.{among}
 use Rattle.bk_form.specs.Formula.{Formula}
 use Rattle.bk_val.specs.ValueType.{ValueType}
-use Rattle.bk_raw.specs.declared.component.RawValue.{RawValue}
-use Rattle.bk_raw.specs.Names.{Names}
 use Rattle.bk_raw.specs.Outcome.{whole, hollow, single_of, pair_of, joint_of, Outcome, partial, ranging, holding, silent, ask_value}
-use Rattle.bk_level.specs.Typings.{target, is_variable}
 use Rattle.bk_level.specs.LevelOf.{is_value_form, is_of, where_value, value_in}
-use Rattle.bk_level.specs.ValueFaults.{valued}
-use Rattle.bk_sight.specs.Shown.{refs}
-use Rattle.bk_sight.proofs.FaultSteps.{next}
-use Rattle.bk_sight.proofs.FaultLists.{valued-here}
-
--- ---- entries for a constant
--- an entry is for it, or one behind it is
-pub valued-next : (globals : Names) (vs : List (Bor RawValue)) (i : ℕ) (v : Bor RawValue) (n : ℕ) (b every : Bool) → i < length vs → v ≡ get_or vs i v → b ≡ is_variable n (target globals v.now.name.text) →
-    among (valued globals (refs (drop i vs))) n ≡ every → (b || among (valued globals (refs (drop (i + 1) vs))) n) ≡ every
-valued-next globals vs i v n b every h e k inv =
-    ap (λ c. c || among (valued globals (refs (drop (i + 1) vs))) n) k
-    ∙ (sym (valued-here (target globals v.now.name.text) n (valued globals (refs (drop (i + 1) vs)))) ∙ (sym (next (λ l. among (valued globals (refs l)) n) vs i v h e) ∙ inv))
-
--- this one is
-pub valued-found : (globals : Names) (vs : List (Bor RawValue)) (i : ℕ) (v : Bor RawValue) (n : ℕ) (b every : Bool) → i < length vs → v ≡ get_or vs i v → b ≡ is_variable n (target globals v.now.name.text) → b ≡ true →
-    among (valued globals (refs (drop i vs))) n ≡ every → true ≡ every
-valued-found globals vs i v n b every h e k t inv = sym (ap (λ c. c || among (valued globals (refs (drop (i + 1) vs))) n) t) ∙ valued-next globals vs i v n b every h e k inv
-
--- this one isn't
-pub valued-passed : (globals : Names) (vs : List (Bor RawValue)) (i : ℕ) (v : Bor RawValue) (n : ℕ) (b every : Bool) → i < length vs → v ≡ get_or vs i v → b ≡ is_variable n (target globals v.now.name.text) → b ≡ false →
-    among (valued globals (refs (drop i vs))) n ≡ every → among (valued globals (refs (drop (i + 1) vs))) n ≡ every
-valued-passed globals vs i v n b every h e k t inv = sym (ap (λ c. c || among (valued globals (refs (drop (i + 1) vs))) n) t) ∙ valued-next globals vs i v n b every h e k inv
 
 -- ---- a value
 -- a term that is no value of any type has none
