@@ -250,9 +250,6 @@ module _ (find : Finder) (table : Table) (ps : List (ℕ × ℕ)) (s t : Substit
     | inr k ↦ subst (λ m. off m ≡ true) (sym (by-out n k)) h
   ]
 
-  right : Substitution
-  right = reading (copy_of ps) t
-
   module _ (e d : State) (at : (n : ℕ) → isc n ≡ false → d n ≡ e n) (h : (n : ℕ) → d (by n) ≡ d n) where
     -- where s has run from d, the right side reads what d has
     seen-left : (a : State) → Runs find table s d a → (λ n. a (by n)) ≡ d

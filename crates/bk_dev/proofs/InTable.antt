@@ -6,7 +6,6 @@ use Rattle.bk_dev.specs.Development.{Head, Body, Level, Development, level_at, l
 use Rattle.bk_form.specs.Each.{Each}
 use Rattle.bk_dev.specs.Facts.{AllAre, binders, is_input, is_variable_of, is_inner_of, home_of, IsHeadOf, IsSubOf, EachBody, IsLawful}
 use Rattle.bk_dev.specs.Layout.{locals, operation_variables, cell_variables}
-use Rattle.bk_dev.specs.Flattened.{flattened}
 use Rattle.bk_dev.proofs.Levels.{level_fact, last_level}
 use Rattle.bk_dev.proofs.FlatLevels.{passes-within}
 use Rattle.bk_dev.proofs.Staying.{all-at}
@@ -18,9 +17,6 @@ blank_head = record { name = []; inputs = []; outputs = 0 }
 module _ (dev : Development) (f : IsLawful dev) where
   abbrev old : ℕ
   old = length dev.table.variables
-
-  abbrev flat : Development
-  flat = flattened dev
 
   abbrev low : Level
   low = level_at dev (last dev)
@@ -46,9 +42,6 @@ module _ (dev : Development) (f : IsLawful dev) where
   outputs-in k (h ∷ hs) [] bs e = absurd e
   outputs-in k (h ∷ hs) (m ∷ ms) [] e = absurd e
   outputs-in k (h ∷ hs) (m ∷ ms) (c ∷ bs) e = (at-home (is_inner_of k) refl c.outputs e.0.outputs, outputs-in k hs ms bs e.1)
-
-  some : 0 < length dev.levels
-  some = f.some_level
 
   last-there : last dev < length dev.levels
   last-there = let h : 0 < length dev.levels = f.some_level in omega (arith, h)
