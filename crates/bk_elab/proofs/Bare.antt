@@ -234,12 +234,6 @@ values-bare k h (holding f) b = ap (λ (gs : List Fault). bare_reading (silently
 values-bare k h silent b = ap (λ (gs : List Fault). bare_reading (silently ([] ++ gs))) (unvalued-bare b)
 
 -- ---- two sides of one type
-whole-bare : (p : Partial) → option_map no_pair (whole_of p) ≡ option_map no_pair (whole_of (bare p))
-whole-bare (whole f t) = refl
-whole-bare hollow = refl
-whole-bare (single_of p) = refl
-whole-bare (pair_of p q) = refl
-whole-bare (joint_of j p q) = refl
 
 cond-bare : (c : Bool) (r s r' s' : Reading) → bare_reading r ≡ bare_reading r' → bare_reading s ≡ bare_reading s' → bare_reading (cond c r s) ≡ bare_reading (cond c r' s')
 cond-bare true r s r' s' h g = h

@@ -3,7 +3,7 @@ use Rattle.std.proofs.Common.{◌≡◌, ℕ, List, ◌++◌, refl, sym, ◌∙�
 use Rattle.std.specs.Option.{option_map}
 use Rattle.std.specs.Prelude.{Option, None, Some, ◌&&◌, is_some}
 use Rattle.bk_val.specs.ValueType.{ValueType, set_type, pair_type}
-use Rattle.bk_form.specs.Formula.{Formula, Formulas, formulas_of, comprehension, lambda}
+use Rattle.bk_form.specs.Formula.{Formula, Formulas, comprehension, lambda}
 use Rattle.bk_form.specs.Role.{tuple_type}
 use Rattle.bk_raw.specs.Binders.{Bound, Ranged, all_typed, types_of, as_bound, is_some_name, ranges_of, where_typed, if_holding, if_giving, untyped_faults, nameless, quantified, comprehended, abstracted}
 use Rattle.bk_raw.specs.Outcome.{Fault, whole, Outcome, partial, ranging, holding, silent, Reading, Asked, clean, ask_value}
@@ -70,9 +70,6 @@ types-some f o v bs e h = subst (λ x. TypesOf (option_map f x) bs) e h
 pub taken-none : {V : Type 0} (f : V → List Formula × ValueType) (o : Option V) (rs : List Ranged) → o ≡ None → AreTaken (option_map f o) rs → (is_some_name rs && all_typed (as_bound rs)) ≡ false
 taken-none f o rs e h = subst (λ x. AreTaken (option_map f x) rs) e h
 
-pub taken-some : {V : Type 0} (f : V → List Formula × ValueType) (o : Option V) (v : V) (rs : List Ranged) → o ≡ Some v → AreTaken (option_map f o) rs → AreTaken (Some (f v)) rs
-taken-some f o v rs e h = subst (λ x. AreTaken (option_map f x) rs) e h
-
 -- ---- quantifiers
 pub quantified-silent : (k : List ValueType → Formula → Formula) (fs : List Fault) (bs : List Bound) (p : Reading) (s : Step) → shown_outcome s.outcome ≡ silent →
     clean fs (where_typed (all_typed bs) (if_holding (λ q. holding (k (types_of bs) q)) p.outcome)) ≡ silent → told s.fault ≡ blame (fs ++ (untyped_faults bs ++ p.faults)) → IsRead s (quantified k fs bs p)
@@ -100,17 +97,6 @@ pub comprehended-silent : (at : ℕ) (fs : List Fault) (bs : List Ranged) (p : R
     clean fs (where_typed (is_some_name bs && all_typed (as_bound bs)) (if_holding (set_told bs) p.outcome)) ≡ silent → told s.fault ≡ blame (comprehension_faults at fs bs p) → IsRead s (comprehended at fs bs p)
 comprehended-silent at fs bs p s e h f = record { outcome = e ∙ sym h; fault = f }
 
-pub comprehended-made : (at : ℕ) (fs : List Fault) (bs : List Ranged) (p : Reading) (s : Step) (fault : Option ToldFault) (rs : List Formula) (t : ValueType) (f : Formula) → is_some fault ≡ false → told fault ≡ blame fs →
-    AreTaken (Some (rs, t)) bs → holding f ≡ p.outcome → shown_outcome s.outcome ≡ partial (whole (comprehension (formulas_of rs) f) (set_type t)) → told s.fault ≡ blame (comprehension_faults at fs bs p) → IsRead s (comprehended at fs bs p)
-comprehended-made at fs bs p s fault rs t f free same taken body e g = record {
-  outcome =
-      e ∙ ((λ i. partial (whole (comprehension (taken.1 i) f) (set_type (taken.2 i))))
-      ∙ (ap (if_holding (set_told bs)) body
-      ∙ (ap (λ (b : Bool). where_typed b (if_holding (set_told bs) p.outcome)) (sym taken.0)
-      ∙ sym (clean-open fault fs (where_typed (is_some_name bs && all_typed (as_bound bs)) (if_holding (set_told bs) p.outcome)) free same))));
-  fault = g;
-}
-
 -- ---- lambdas
 abbrev pub function_told : List Ranged → Formula → Formula → ValueType → Outcome
 function_told bs p f u = partial (whole (lambda (ranges_of bs) p f) (set_type (pair_type (tuple_type (types_of (as_bound bs))) u)))
@@ -121,16 +107,3 @@ lambda_faults at fs bs p there v = fs ++ (nameless at bs ++ (untyped_faults (as_
 pub abstracted-silent : (at : ℕ) (fs : List Fault) (bs : List Ranged) (p v : Reading) (there : ℕ) (s : Step) → shown_outcome s.outcome ≡ silent →
     clean fs (where_typed (is_some_name bs && all_typed (as_bound bs)) (if_holding (λ q. if_giving (function_told bs q) (ask_value there v.outcome).answer) p.outcome)) ≡ silent → told s.fault ≡ blame (lambda_faults at fs bs p there v) → IsRead s (abstracted at fs bs p there v)
 abstracted-silent at fs bs p v there s e h f = record { outcome = e ∙ sym h; fault = f }
-
-pub abstracted-made : (at : ℕ) (fs : List Fault) (bs : List Ranged) (p v : Reading) (there : ℕ) (s : Step) (fault : Option ToldFault) (rs : List Formula) (t : ValueType) (f g : Formula) (u : ValueType) → is_some fault ≡ false → told fault ≡ blame fs →
-    AreTaken (Some (rs, t)) bs → holding f ≡ p.outcome → Some (g, u) ≡ (ask_value there v.outcome).answer →
-    shown_outcome s.outcome ≡ partial (whole (lambda (formulas_of rs) f g) (set_type (pair_type t u))) → told s.fault ≡ blame (lambda_faults at fs bs p there v) → IsRead s (abstracted at fs bs p there v)
-abstracted-made at fs bs p v there s fault rs t f g u free same taken body value e h = record {
-  outcome =
-      e ∙ ((λ i. partial (whole (lambda (taken.1 i) f g) (set_type (pair_type (taken.2 i) u))))
-      ∙ (ap (λ (a : Option (Formula × ValueType)). if_giving (function_told bs f) a) value
-      ∙ (ap (if_holding (λ q. if_giving (function_told bs q) (ask_value there v.outcome).answer)) body
-      ∙ (ap (λ (b : Bool). where_typed b (if_holding (λ q. if_giving (function_told bs q) (ask_value there v.outcome).answer) p.outcome)) (sym taken.0)
-      ∙ sym (clean-open fault fs (where_typed (is_some_name bs && all_typed (as_bound bs)) (if_holding (λ q. if_giving (function_told bs q) (ask_value there v.outcome).answer) p.outcome)) free same)))));
-  fault = h;
-}

@@ -25,16 +25,13 @@ use Rattle.bk_elab.specs.declared.blame.Fault.{Fault as ToldFault}
 use Rattle.bk_elab.specs.declared.outcome.Step.{Step}
 use Rattle.bk_elab.specs.declared.sight.Reader.{Reader}
 use Rattle.bk_elab.specs.Shown.{told, IsRead}
-use Rattle.bk_elab.specs.Sights.{around_of, names_of, node_by, clue_type, tells_type, range_told, tells_range, given_at, AwaitsNone, AwaitsAt, taken_at, LacksNone, LacksAt, TellsNoType, TellsType, TellsNoRange, TellsRange}
+use Rattle.bk_elab.specs.Sights.{around_of, names_of, node_by, clue_type, tells_type, range_told, tells_range, given_at, AwaitsAt, taken_at, LacksAt, TellsNoType, TellsType, TellsNoRange, TellsRange}
 
 none-pair : (a b : RawTree) → ◌≡◌ {A = Option (RawTree × RawTree)} None (Some (a, b)) → ⊥
 none-pair a b h = let no : ◌≡◌ {A = Option (RawTree × RawTree)} None (Some (a, b)) = h in cc
 
 none-infix : (o : InfixOp) (a b : RawTree) → ◌≡◌ {A = Option (InfixOp × RawTree × RawTree)} None (Some (o, a, b)) → ⊥
 none-infix o a b h = let no : ◌≡◌ {A = Option (InfixOp × RawTree × RawTree)} None (Some (o, a, b)) = h in cc
-
-none-one : (a : RawTree) → None ≡ Some a → ⊥
-none-one a h = let no : None ≡ Some a = h in cc
 
 fst-same : (x y a b : RawTree) → ◌≡◌ {A = Option (RawTree × RawTree)} (Some (x, y)) (Some (a, b)) → x ≡ a
 fst-same x y a b h =
@@ -93,10 +90,6 @@ clues-one m names bs (raw at (raw_infix p x y)) a b o h =
     λ i. told_by (same i) bs (name_of (one i)) (clues m names (clues m names bs (one i)) (other i)) (reading m (inside bs names) (other i)).outcome
 clues-one m names bs (raw at _) a b o h = absurd (none-infix o a b h)
 
-pub clues-none : (m : ℤ) (names : Names) (bs : List Bound) (t : RawTree) → infix_sides t ≡ None → clues m names bs t ≡ bs
-clues-none m names bs (raw at (raw_infix p x y)) h = absurd (none-infix p x y (sym h))
-clues-none m names bs (raw at _) h = refl
-
 -- the same of ranges
 pub ranges-both : (m : ℤ) (names : Names) (all : List RawName) (i : ℕ) (bs : List Ranged) (t a b : RawTree) → and_sides t ≡ Some (a, b) →
     ranges m names all i bs t ≡ ranges m names all (i + length (conjuncts a)) (ranges m names all i bs a) b
@@ -118,10 +111,6 @@ ranges-one m names all i bs (raw at (raw_infix p x y)) a b o h =
     let other : y ≡ b = right-same p o x y a b h in
     λ j. ranges_by (same j) i bs (name_of (one j)) (ranges m names all (i + length (conjuncts (one j))) (ranges m names all i bs (one j)) (other j)) (names_one all (other j)) (part false (other j) (reading m names (other j))).outcome
 ranges-one m names all i bs (raw at _) a b o h = absurd (none-infix o a b h)
-
-pub ranges-none : (m : ℤ) (names : Names) (all : List RawName) (i : ℕ) (bs : List Ranged) (t : RawTree) → infix_sides t ≡ None → ranges m names all i bs t ≡ bs
-ranges-none m names all i bs (raw at (raw_infix p x y)) h = absurd (none-infix p x y (sym h))
-ranges-none m names all i bs (raw at _) h = refl
 
 -- and of what is left
 pub rest-both : (m : ℤ) (names : Names) (bs : List Ranged) (i : ℕ) (before : Option Reading) (t a b : RawTree) → and_sides t ≡ Some (a, b) →
@@ -159,14 +148,6 @@ pub premise-none : (m : ℤ) (names : Names) (bs : List Bound) (t : RawTree) →
 premise-none m names bs (raw at (raw_infix Implies x y)) h = absurd (none-pair x y (sym h))
 premise-none m names bs (raw at _) h = refl
 
--- what terms between two parts read as
-pub implies-read : (m : ℤ) (names : Names) (t a b : RawTree) → implies_sides t ≡ Some (a, b) → two_reading (Infix Implies) (place_of t) a b (reading m names a) (reading m names b) ≡ reading m names t
-implies-read m names (raw at (raw_infix Implies x y)) a b h =
-    let one : x ≡ a = fst-same x y a b h in
-    let other : y ≡ b = snd-same x y a b h in
-    λ i. two_reading (Infix Implies) at (sym one i) (sym other i) (reading m names (sym one i)) (reading m names (sym other i))
-implies-read m names (raw at _) a b h = absurd (none-pair a b h)
-
 pub and-read : (m : ℤ) (names : Names) (t a b : RawTree) → and_sides t ≡ Some (a, b) → two_reading (Infix And) (place_of t) a b (reading m names a) (reading m names b) ≡ reading m names t
 and-read m names (raw at (raw_infix And x y)) a b h =
     let one : x ≡ a = fst-same x y a b h in
@@ -186,22 +167,6 @@ infix-size (raw at (raw_infix p x y)) a b o h =
     subst (λ (z : RawTree). tree_size z + tree_size b < tree_size (raw at (raw_infix p x y))) one
     (subst (λ (z : RawTree). tree_size x + tree_size z < tree_size (raw at (raw_infix p x y))) other (omega arith))
 infix-size (raw at _) a b o h = absurd (none-infix o a b h)
-
-pub both-size : (t a b : RawTree) → and_sides t ≡ Some (a, b) → tree_size a + tree_size b < tree_size t
-both-size (raw at (raw_infix And x y)) a b h =
-    let one : x ≡ a = fst-same x y a b h in
-    let other : y ≡ b = snd-same x y a b h in
-    subst (λ (z : RawTree). tree_size z + tree_size b < tree_size (raw at (raw_infix And x y))) one
-    (subst (λ (z : RawTree). tree_size x + tree_size z < tree_size (raw at (raw_infix And x y))) other (omega arith))
-both-size (raw at _) a b h = absurd (none-pair a b h)
-
-pub implies-size : (t a b : RawTree) → implies_sides t ≡ Some (a, b) → tree_size a + tree_size b < tree_size t
-implies-size (raw at (raw_infix Implies x y)) a b h =
-    let one : x ≡ a = fst-same x y a b h in
-    let other : y ≡ b = snd-same x y a b h in
-    subst (λ (z : RawTree). tree_size z + tree_size b < tree_size (raw at (raw_infix Implies x y))) one
-    (subst (λ (z : RawTree). tree_size x + tree_size z < tree_size (raw at (raw_infix Implies x y))) other (omega arith))
-implies-size (raw at _) a b h = absurd (none-pair a b h)
 
 -- ---- types
 -- a conjunct other than `&` tells the type of a name
@@ -225,17 +190,9 @@ told-nothing StrictSubset d h = let no : true ≡ false = h in cc
 told-nothing Equal d h = let no : true ≡ false = h in cc
 told-nothing _ d h = refl
 
-pub typed-none : (x : List ℕ) (o : Option ValueType) (bs : List Bound) → AwaitsNone x bs → typed_by x o bs ≡ bs
-typed-none x None bs h = refl
-typed-none x (Some t) bs h = h t
-
 pub typed-place : (x : List ℕ) (o : Option ValueType) (bs : List Bound) (n : ℕ) → AwaitsAt x bs n → typed_by x o bs ≡ given_at n o bs
 typed-place x None bs n h = refl
 typed-place x (Some t) bs n h = h.1 t
-
--- a term between no parts
-pub typing-none : (bs : List Bound) (t : RawTree) → infix_sides t ≡ None → TellsNoType bs t
-typing-none bs t h = record { same = λ m names. clues-none m names bs t h }
 
 -- what a conjunct of a name tells
 typing-named : (m : ℤ) (names : Names) (bs : List Bound) (t a d : RawTree) (o : InfixOp) (x : List ℕ) → and_sides t ≡ None → infix_sides t ≡ Some (o, a, d) → name_of a ≡ Some x →
@@ -256,11 +213,6 @@ typing-nameless bs t a d o h k e = record {
 pub typing-other : (bs : List Bound) (t a d : RawTree) (o : InfixOp) (x : List ℕ) → and_sides t ≡ None → infix_sides t ≡ Some (o, a, d) → name_of a ≡ Some x → tells_type o ≡ false → TellsNoType bs t
 typing-other bs t a d o x h k e f = record {
   same = λ m names. typing-named m names bs t a d o x h k e ∙ ap (λ (u : Option ValueType). typed_by x u bs) (told-nothing o (reading m (inside bs names) d).outcome f);
-}
-
-pub typing-done : (bs : List Bound) (t a d : RawTree) (o : InfixOp) (x : List ℕ) → and_sides t ≡ None → infix_sides t ≡ Some (o, a, d) → name_of a ≡ Some x → AwaitsNone x bs → TellsNoType bs t
-typing-done bs t a d o x h k e f = record {
-  same = λ m names. typing-named m names bs t a d o x h k e ∙ typed-none x (clue_type o (reading m (inside bs names) d).outcome) bs f;
 }
 
 pub typing-here : (bs : List Bound) (t a d : RawTree) (o : InfixOp) (x : List ℕ) (n : ℕ) → and_sides t ≡ None → infix_sides t ≡ Some (o, a, d) → name_of a ≡ Some x → AwaitsAt x bs n → TellsType bs t o d n
@@ -300,16 +252,9 @@ ranged-other _ i bs None both false d h e = refl
 ranged-other _ i bs (Some x) both true d h e = refl
 ranged-other _ i bs (Some x) both false d h e = refl
 
-pub ranged-none : (x : List ℕ) (o : Option (Formula × ValueType)) (i : ℕ) (bs : List Ranged) → LacksNone x bs → ranged_by x o i bs ≡ bs
-ranged-none x None i bs h = refl
-ranged-none x (Some d) i bs h = h (d.0, d.1, i)
-
 pub ranged-place : (x : List ℕ) (o : Option (Formula × ValueType)) (i : ℕ) (bs : List Ranged) (n : ℕ) → LacksAt x bs n → ranged_by x o i bs ≡ taken_at n i o bs
 ranged-place x None i bs n h = refl
 ranged-place x (Some d) i bs n h = h.1 (d.0, d.1, i)
-
-pub ranging-none : (all : List RawName) (bs : List Ranged) (t : RawTree) → infix_sides t ≡ None → TellsNoRange all bs t
-ranging-none all bs t h = record { same = λ m names i. ranges-none m names all i bs t h }
 
 -- what a conjunct of a name gives, where its right side names no bound name
 ranging-named : (m : ℤ) (names : Names) (all : List RawName) (i : ℕ) (bs : List Ranged) (t a d : RawTree) (o : InfixOp) (x : List ℕ) → and_sides t ≡ None → infix_sides t ≡ Some (o, a, d) → name_of a ≡ Some x → names_one all d ≡ false →
@@ -347,11 +292,6 @@ ranging-other all bs t a d o h k e = record {
 pub ranging-formless : (all : List RawName) (bs : List Ranged) (t a d : RawTree) (o : InfixOp) (x : List ℕ) → and_sides t ≡ None → infix_sides t ≡ Some (o, a, d) → name_of a ≡ Some x → names_one all d ≡ false → gives_no_range d ≡ true → TellsNoRange all bs t
 ranging-formless all bs t a d o x h k e f g = record {
   same = λ m names i. ranging-named m names all i bs t a d o x h k e f ∙ ap (λ (r : Option (Formula × ValueType)). ranged_by x r i bs) (form-gives m names o d g);
-}
-
-pub ranging-done : (all : List RawName) (bs : List Ranged) (t a d : RawTree) (o : InfixOp) (x : List ℕ) → and_sides t ≡ None → infix_sides t ≡ Some (o, a, d) → name_of a ≡ Some x → names_one all d ≡ false → LacksNone x bs → TellsNoRange all bs t
-ranging-done all bs t a d o x h k e f g = record {
-  same = λ m names i. ranging-named m names all i bs t a d o x h k e f ∙ ranged-none x (range_told o (part false d (reading m names d)).outcome) i bs g;
 }
 
 pub ranging-here : (all : List RawName) (bs : List Ranged) (t a d : RawTree) (o : InfixOp) (x : List ℕ) (n : ℕ) → and_sides t ≡ None → infix_sides t ≡ Some (o, a, d) → name_of a ≡ Some x → names_one all d ≡ false → LacksAt x bs n → TellsRange all bs t o d n

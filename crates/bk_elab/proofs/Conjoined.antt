@@ -16,7 +16,7 @@ use Rattle.bk_elab.specs.declared.binder.Ranged.{Ranged as RangedName}
 use Rattle.bk_elab.specs.declared.outcome.Step.{Step}
 use Rattle.bk_elab.specs.declared.sight.Reader.{Reader}
 use Rattle.bk_elab.specs.Shown.{shown_outcome, IsRead}
-use Rattle.bk_elab.specs.Sights.{around_of, names_of, names_below, bounds_of, bounds_from, read_by, ranges_as, clue_type, range_told, given_at, taken_at, IsRest, TellsNoType, TellsType, TellsNoRange, TellsRange, Stands, StandsBelow}
+use Rattle.bk_elab.specs.Sights.{around_of, names_of, names_below, bounds_of, bounds_from, read_by, ranges_as, clue_type, range_told, given_at, taken_at, IsRest, TellsType, TellsNoRange, TellsRange, Stands, StandsBelow}
 use Rattle.bk_elab.proofs.Clued.{clues-both, ranges-both, rest-both, rest-alone, conjuncts-both, conjuncts-alone}
 use Rattle.bk_elab.proofs.Readings.{names-stand, names-split, below-stands}
 
@@ -27,9 +27,6 @@ pub clues-two : (first : ℕ) (old mid new : Reader) (t a b : RawTree) → and_s
     bounds_from first new ≡ clues (around_of old).max (names_below first old) (bounds_from first old) t
 clues-two first old mid new t a b k e h g =
     g ∙ ((λ i. clues (h.scope i).max (below-stands first old mid h i) (e i) b) ∙ sym (clues-both (around_of old).max (names_below first old) (bounds_from first old) t a b k))
-
-pub clues-silent : (first : ℕ) (r : Reader) (t : RawTree) → TellsNoType (bounds_from first r) t → bounds_from first r ≡ clues (around_of r).max (names_below first r) (bounds_from first r) t
-clues-silent first r t h = sym (h.same (around_of r).max (names_below first r))
 
 pub clue-taken : (first : ℕ) (old mid new : Reader) (t d : RawTree) (o : InfixOp) (n : ℕ) (read : Step) (ty : Option ValueType) → TellsType (bounds_from first old) t o d n →
     IsRead read (read_by old d) → Stands old mid → ty ≡ clue_type o (shown_outcome read.outcome) → bounds_from first new ≡ given_at n ty (bounds_from first mid) →

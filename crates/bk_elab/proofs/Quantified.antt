@@ -1,5 +1,5 @@
 -- What a quantifier reads as, from what its parts read as.
-use Rattle.std.proofs.Common.{◌≡◌, ℕ, suc, ◌≤◌, List, [], length, take, drop, refl, sym, ◌∙◌, ap, subst, Bool, true, false, ℤ, arith}
+use Rattle.std.proofs.Common.{◌≡◌, ℕ, suc, ◌≤◌, List, [], length, take, refl, sym, ◌∙◌, ap, Bool, true, false, ℤ, arith}
 use Rattle.std.specs.Prelude.{Option, None, Some}
 use Rattle.std.proofs.lemmas.List.{take_all}
 use Rattle.bk_form.specs.Role.{bind}
@@ -8,22 +8,18 @@ use Rattle.bk_raw.specs.declared.term.RawName.{RawName}
 use Rattle.bk_raw.specs.declared.term.RawBound.{RawBound}
 use Rattle.bk_raw.specs.Binders.{Bound, bound_names, inside, locals, twice, quantified}
 use Rattle.bk_raw.specs.Names.{Names, count_locals}
-use Rattle.bk_raw.specs.Outcome.{Fault, Reading}
 use Rattle.bk_raw.specs.Printed.{printed_bounds, wrong_bounds}
-use Rattle.bk_raw.specs.TermReading.{reading, part, place_of, clues}
-use Rattle.bk_raw.specs.declared.operator.InfixOp.TheVariants.{Implies}
+use Rattle.bk_raw.specs.TermReading.{reading, part, clues}
 use Rattle.bk_elab.specs.Conjuncts.{implies_sides}
-use Rattle.bk_elab.specs.declared.form.TwoParts.TheVariants.{Infix}
-use Rattle.bk_elab.specs.Forms.{two_reading}
 use Rattle.bk_elab.specs.Blame.{blame}
 use Rattle.bk_elab.specs.declared.blame.Fault.{Fault as ToldFault}
 use Rattle.bk_elab.specs.declared.outcome.Step.{Step}
 use Rattle.bk_elab.specs.declared.sight.Local.{Local}
 use Rattle.bk_elab.specs.declared.sight.Reader.{Reader}
 use Rattle.bk_elab.specs.Shown.{told, IsRead}
-use Rattle.bk_elab.specs.Sights.{around_of, names_of, names_below, bounds_of, bounds_from, outer_names, read_by, node_by, Stands, StandsBelow, quantifier, named_node, numbered_node, clues_by}
-use Rattle.bk_elab.proofs.Clued.{premise-clued, premise-none, implies-read}
-use Rattle.bk_elab.proofs.Readings.{names-split, below-stands, names-stand}
+use Rattle.bk_elab.specs.Sights.{around_of, names_of, names_below, bounds_of, bounds_from, outer_names, node_by, StandsBelow, quantifier, named_node, numbered_node, clues_by}
+use Rattle.bk_elab.proofs.Clued.{premise-clued, premise-none}
+use Rattle.bk_elab.proofs.Readings.{names-split, below-stands}
 use Rattle.bk_elab.proofs.Sighted.{all-counted}
 
 -- below all of its bound names a reader has the names that it had
@@ -35,19 +31,6 @@ names-below-all n old new e h =
 -- with these names from a place on it has them in front
 pub names-inside : (n : ℕ) (old new : Reader) (bs : List Bound) → n ≡ length old.locals.items → StandsBelow n old new → bounds_from n new ≡ bs → names_of new ≡ inside bs (names_of old)
 names-inside n old new bs e h b = names-split n new ∙ (λ i. inside (b i) (names-below-all n old new e h i))
-
--- the body is read with these names in front
-body-read : (n : ℕ) (old new : Reader) (bs : List Bound) (t : RawTree) → n ≡ length old.locals.items → StandsBelow n old new → bounds_from n new ≡ bs → read_by new t ≡ reading (around_of old).max (inside bs (names_of old)) t
-body-read n old new bs t e h b = λ i. reading (h.scope i).max (names-inside n old new bs e h b i) t
-
-pub finished : (universal : Bool) (n : ℕ) (old mid new : Reader) (bs : List Bound) (t : RawTree) (fs : List Fault) (fault : Option ToldFault) (body s : Step) →
-    n ≡ length old.locals.items → StandsBelow n old mid → bounds_from n mid ≡ bs → Stands mid new → told fault ≡ blame fs → IsRead body (part true t (read_by mid t)) →
-    ((gs : List Fault) (q : Reading) → told fault ≡ blame gs → IsRead body q → IsRead s (quantified (quantifier universal) gs (bounds_from n new) q)) →
-    IsRead s (quantified (quantifier universal) fs bs (part true t (reading (around_of old).max (inside bs (names_of old)) t)))
-finished universal n old mid new bs t fs fault body s e h b k g r f =
-    let same : bounds_from n new ≡ bs = ap (λ (ls : List Local). bounds_of (drop n ls)) k.locals ∙ b in
-    subst (λ (x : Reading). IsRead s (quantified (quantifier universal) fs bs (part true t x))) (body-read n old mid bs t e h b)
-    (subst (λ (cs : List Bound). IsRead s (quantified (quantifier universal) fs cs (part true t (read_by mid t)))) same (f fs (part true t (read_by mid t)) g r))
 
 pub named-read : (universal : Bool) (r : Reader) (at : ℕ) (xs : List RawName) (t : RawTree) (s : Step) →
     IsRead s (quantified (quantifier universal) (twice [] xs) (clues_by universal (around_of r).max (names_of r) (bound_names xs) t) (part true t (reading (around_of r).max (inside (clues_by universal (around_of r).max (names_of r) (bound_names xs) t) (names_of r)) t))) →
@@ -81,12 +64,6 @@ premise-missing first r t h = sym (premise-none (around_of r).max (names_below f
 pub premise-typed : (first : ℕ) (old new : Reader) (t a b : RawTree) → implies_sides t ≡ Some (a, b) → bounds_from first new ≡ clues (around_of old).max (names_below first old) (bounds_from first old) a →
     bounds_from first new ≡ clues_by true (around_of old).max (names_below first old) (bounds_from first old) t
 premise-typed first old new t a b h e = e ∙ sym (premise-clued (around_of old).max (names_below first old) (bounds_from first old) t a b h)
-
-pub implication-read : (mid new : Reader) (t a b : RawTree) (one other s : Step) → implies_sides t ≡ Some (a, b) → IsRead one (read_by mid a) → Stands mid new → IsRead other (read_by mid b) →
-    ((q p : Reading) → IsRead one q → IsRead other p → IsRead s (two_reading (Infix Implies) (place_of t) a b q p)) → IsRead s (read_by new t)
-implication-read mid new t a b one other s k h g e w =
-    subst (IsRead s) (implies-read (around_of mid).max (names_of mid) t a b k ∙ (λ i. reading (sym g.scope i).max (sym (names-stand mid new g) i) t))
-    (w (read_by mid a) (read_by mid b) h e)
 
 pub ruleset bodies = (exists-clues, premise-missing, premise-typed)
 

@@ -1,16 +1,15 @@
 -- Printed bound variables with their ranges, one after another.
-use Rattle.std.proofs.Common.{◌≡◌, ℕ, suc, ◌+◌, ◌<◌, ◌≤◌, List, [], ◌∷◌, ◌++◌, length, get_or, drop, map, append_assoc, refl, sym, ◌∙◌, ap, subst, true, false, arith}
-use Rattle.std.specs.Prelude.{Option, None, Some}
-use Rattle.std.proofs.lemmas.List.{drop_more, drop_all, map-append, append-nil}
+use Rattle.std.proofs.Common.{◌≡◌, ℕ, suc, ◌+◌, ◌<◌, List, [], ◌∷◌, ◌++◌, length, get_or, drop, map, append_assoc, sym, ◌∙◌, ap, subst, arith}
+use Rattle.std.specs.Prelude.{Option, Some}
+use Rattle.std.proofs.lemmas.List.{drop_more, map-append, append-nil}
 use Rattle.bk_form.specs.Formula.{Formula}
-use Rattle.bk_raw.specs.RawTree.{RawTree, raw_ranged_comprehension, raw_ranged_lambda}
 use Rattle.bk_raw.specs.RawView.{ranges_of}
 use Rattle.bk_raw.specs.declared.term.RawRange.{RawRange}
 use Rattle.bk_raw.specs.Names.{Names, count_locals}
 use Rattle.bk_raw.specs.Outcome.{Fault, Reading, ask_set}
-use Rattle.bk_raw.specs.Binders.{Ranged, as_bound, inside, comprehended, abstracted}
+use Rattle.bk_raw.specs.Binders.{Ranged}
 use Rattle.bk_raw.specs.Printed.{RangeRead, wrong_number, printed_ranges, wrong_ranges}
-use Rattle.bk_raw.specs.TermReading.{reading, part, place_of, range_reads}
+use Rattle.bk_raw.specs.TermReading.{reading, range_reads}
 use Rattle.bk_raw.specs.ScopeReading.{ScopeNames}
 use Rattle.bk_elab.specs.Blame.{blame, earlier}
 use Rattle.bk_elab.specs.declared.binder.Ranged.{Ranged as RangedName}
@@ -18,9 +17,9 @@ use Rattle.bk_elab.specs.declared.blame.Fault.{Fault as ToldFault}
 use Rattle.bk_elab.specs.declared.outcome.Step.{Step}
 use Rattle.bk_elab.specs.declared.sight.Reader.{Reader}
 use Rattle.bk_elab.specs.Shown.{told, IsRead}
-use Rattle.bk_elab.specs.Sights.{around_of, names_of, read_by, node_by, ranges_as, range_as, IsRangeOf, Stands}
-use Rattle.bk_elab.proofs.Blamed.{blame-joins, earlier-joins, earlier-none}
-use Rattle.bk_elab.proofs.Readings.{names-stand, read-after}
+use Rattle.bk_elab.specs.Sights.{around_of, names_of, read_by, ranges_as, range_as, IsRangeOf, Stands}
+use Rattle.bk_elab.proofs.Blamed.{blame-joins, earlier-joins}
+use Rattle.bk_elab.proofs.Readings.{read-after}
 use Rattle.bk_elab.proofs.Sighted.{all-counted}
 
 -- what the ranges read as
@@ -31,15 +30,6 @@ reads r rs = range_reads (around_of r).max (names_of r) (ranges_of rs)
 pub record RangesSoFar (r : Reader) (names : List RangedName) (first : Option ToldFault) (rs : List RawRange) (i : ℕ) : Type 0 where
   pub ranges : ranges_as names ++ printed_ranges (reads r (drop i rs)) ≡ printed_ranges (reads r rs)
   pub faults : earlier (told first) (blame (wrong_ranges (suc (length r.locals.items + i)) (reads r (drop i rs)))) ≡ blame (wrong_ranges (suc (length r.locals.items)) (reads r rs))
-
-plus-zero : (n : ℕ) → suc (n + 0) ≡ suc n
-plus-zero n = omega arith
-
-pub no-ranges : (r : Reader) (rs : List RawRange) → RangesSoFar r [] None rs 0
-no-ranges r rs = record {
-  ranges = refl;
-  faults = ap (λ (k : ℕ). blame (wrong_ranges k (reads r rs))) (plus-zero (length r.locals.items));
-}
 
 -- the faults of the first, and those of the others
 faults-first : (k : ℕ) (q : RangeRead) (qs : List RangeRead) → wrong_ranges k (q ∷ qs) ≡ wrong_ranges k (q ∷ []) ++ wrong_ranges (suc k) qs
@@ -102,45 +92,3 @@ module _ (old cur : Reader) (names more : List RangedName) (first next fault : O
 
   pub next-faults : earlier (told next) (blame (wrong_ranges (suc (count_locals (names_of old) + (i + 1))) (reads old (drop (i + 1) rs)))) ≡ blame (wrong_ranges (suc (count_locals (names_of old))) (reads old rs))
   next-faults = subst (λ (n : ℕ). earlier (told next) (blame (wrong_ranges (suc (n + (i + 1))) (reads old (drop (i + 1) rs)))) ≡ blame (wrong_ranges (suc n) (reads old rs))) (sym (all-counted old)) stepped.faults
-
-pub ranges-all : (r : Reader) (names : List RangedName) (first : Option ToldFault) (rs : List RawRange) (i : ℕ) → length rs ≤ i → RangesSoFar r names first rs i → ranges_as names ≡ printed_ranges (reads r rs)
-ranges-all r names first rs i l h =
-    sym (append-nil (ranges_as names)) ∙ (ap (λ (xs : List RawRange). ranges_as names ++ printed_ranges (reads r xs)) (sym (drop_all i rs l)) ∙ h.ranges)
-
-pub faults-all : (r : Reader) (names : List RangedName) (first : Option ToldFault) (rs : List RawRange) (i : ℕ) → length rs ≤ i → RangesSoFar r names first rs i → told first ≡ blame (wrong_ranges (suc (count_locals (names_of r))) (reads r rs))
-faults-all r names first rs i l h =
-    sym (earlier-none (told first))
-    ∙ (ap (λ (xs : List RawRange). earlier (told first) (blame (wrong_ranges (suc (length r.locals.items + i)) (reads r xs)))) (sym (drop_all i rs l))
-    ∙ (h.faults ∙ ap (λ (n : ℕ). blame (wrong_ranges (suc n) (reads r rs))) (sym (all-counted r))))
-
--- ---- comprehensions and lambdas
-pub numbered-comprehension-read : (r mid inner : Reader) (at : ℕ) (rs : List RawRange) (p : RawTree) (ns : List Ranged) (read body s : Step) (fault : Option ToldFault) →
-    ns ≡ printed_ranges (reads r rs) → told fault ≡ blame (wrong_ranges (suc (count_locals (names_of r))) (reads r rs)) → Stands r mid → names_of inner ≡ inside (as_bound ns) (names_of mid) → around_of inner ≡ around_of mid →
-    IsRead read (read_by inner p) → ((q : Reading) → IsRead read q → IsRead body (part true p q)) →
-    ((fs : List Fault) (q : Reading) → told fault ≡ blame fs → IsRead body q → IsRead s (comprehended at fs ns q)) →
-    IsRead s (node_by r at (raw_ranged_comprehension (ranges_of rs) p))
-numbered-comprehension-read r mid inner at rs p ns read body s fault e g h n k b w f =
-    let names : names_of inner ≡ inside (as_bound ns) (names_of r) = n ∙ ap (inside (as_bound ns)) (names-stand r mid h) in
-    let scope : around_of inner ≡ around_of r = k ∙ h.scope in
-    let same : read_by inner p ≡ reading (around_of r).max (inside (as_bound ns) (names_of r)) p = λ i. reading (scope i).max (names i) p in
-    subst (λ (q : List Ranged). IsRead s (comprehended at (wrong_ranges (suc (count_locals (names_of r))) (reads r rs)) q (part true p (reading (around_of r).max (inside (as_bound q) (names_of r)) p)))) e
-    (subst (λ (q : Reading). IsRead s (comprehended at (wrong_ranges (suc (count_locals (names_of r))) (reads r rs)) ns (part true p q))) same
-    (f (wrong_ranges (suc (count_locals (names_of r))) (reads r rs)) (part true p (read_by inner p)) g (w (read_by inner p) b)))
-
-pub numbered-lambda-read : (r mid inner last : Reader) (at : ℕ) (rs : List RawRange) (p v : RawTree) (ns : List Ranged) (read body other value s : Step) (fault : Option ToldFault) →
-    ns ≡ printed_ranges (reads r rs) → told fault ≡ blame (wrong_ranges (suc (count_locals (names_of r))) (reads r rs)) → Stands r mid → names_of inner ≡ inside (as_bound ns) (names_of mid) → around_of inner ≡ around_of mid →
-    IsRead read (read_by inner p) → ((q : Reading) → IsRead read q → IsRead body (part true p q)) → Stands inner last →
-    IsRead other (read_by last v) → ((q : Reading) → IsRead other q → IsRead value (part false v q)) →
-    ((fs : List Fault) (q t : Reading) → told fault ≡ blame fs → IsRead body q → IsRead value t → IsRead s (abstracted at fs ns q (place_of v) t)) →
-    IsRead s (node_by r at (raw_ranged_lambda (ranges_of rs) p v))
-numbered-lambda-read r mid inner last at rs p v ns read body other value s fault e g h n k b w l o x f =
-    let names : names_of inner ≡ inside (as_bound ns) (names_of r) = n ∙ ap (inside (as_bound ns)) (names-stand r mid h) in
-    let scope : around_of inner ≡ around_of r = k ∙ h.scope in
-    let same : read_by inner p ≡ reading (around_of r).max (inside (as_bound ns) (names_of r)) p = λ i. reading (scope i).max (names i) p in
-    let later : read_by last v ≡ reading (around_of r).max (inside (as_bound ns) (names_of r)) v = (λ i. reading (l.scope i).max (names-stand inner last l i) v) ∙ (λ i. reading (scope i).max (names i) v) in
-    subst (λ (q : List Ranged). IsRead s (abstracted at (wrong_ranges (suc (count_locals (names_of r))) (reads r rs)) q (part true p (reading (around_of r).max (inside (as_bound q) (names_of r)) p)) (place_of v) (part false v (reading (around_of r).max (inside (as_bound q) (names_of r)) v)))) e
-    (subst (λ (q : Reading). IsRead s (abstracted at (wrong_ranges (suc (count_locals (names_of r))) (reads r rs)) ns (part true p q) (place_of v) (part false v (reading (around_of r).max (inside (as_bound ns) (names_of r)) v)))) same
-    (subst (λ (q : Reading). IsRead s (abstracted at (wrong_ranges (suc (count_locals (names_of r))) (reads r rs)) ns (part true p (read_by inner p)) (place_of v) (part false v q))) later
-    (f (wrong_ranges (suc (count_locals (names_of r))) (reads r rs)) (part true p (read_by inner p)) (part false v (read_by last v)) g (w (read_by inner p) b) (x (read_by last v) o))))
-
-pub ruleset ranging = (no-ranges, ranges-all, faults-all)

@@ -155,13 +155,6 @@ both-kept old mid t a b ks ls ms k h g e ts kept =
     let later : AreKept (around_of mid).max (names_of mid) ls (conjuncts b ++ ts) = subst (λ (P : Type 0). P) (sym (kept-stand old mid ls (conjuncts b ++ ts) h)) (g (conjuncts b ++ ts) split) in
     subst (λ (P : Type 0). P) (kept-stand old mid ms ts h) (e ts later)
 
-pub both-left : {A E : Type 0} (r : Result A E) (old mid : Reader) (t a b : RawTree) (ks ls ms : List (Option Step)) → and_sides t ≡ Some (a, b) → Stands old mid →
-    ((ts : List RawTree) → AreKept (around_of old).max (names_of old) ks (conjuncts a ++ ts) → AreKept (around_of old).max (names_of old) ls ts) →
-    ((ts : List RawTree) → AreKept (around_of mid).max (names_of mid) ls (conjuncts b ++ ts) → AreKept (around_of mid).max (names_of mid) ms ts) →
-    OnOk r ((ts : List RawTree) → AreKept (around_of old).max (names_of old) ks (conjuncts t ++ ts) → AreKept (around_of old).max (names_of old) ms ts)
-both-left (Err x) old mid t a b ks ls ms k h g e = tt
-both-left (Ok x) old mid t a b ks ls ms k h g e = both-kept old mid t a b ks ls ms k h g e
-
 -- one conjunct
 kept-alone : (r : Reader) (t : RawTree) (ks : List (Option Step)) (ts : List RawTree) → and_sides t ≡ None → AreKept (around_of r).max (names_of r) ks (conjuncts t ++ ts) → AreKept (around_of r).max (names_of r) ks (t ∷ ts)
 kept-alone r t ks ts k h = subst (λ (us : List RawTree). AreKept (around_of r).max (names_of r) ks (us ++ ts)) (conjuncts-alone t k) h
@@ -283,7 +276,5 @@ left-alone r t ks ls k f ts h = f (around_of r).max (names_of r) t ts (kept-alon
 pub ruleset typing = (none-stays, clue-untold, clue-stays)
 
 pub ruleset conjunctions = (side-joined, one-read, one-left)
-
-pub ruleset lasting = (none-stays, range-lasting, range-stays)
 
 pub ruleset remaining = (rest-idle, left-alone, count-one)

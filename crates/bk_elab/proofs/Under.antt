@@ -1,15 +1,14 @@
 -- Terms under names in sight: what they read as, what is asked of them, and the types that conjuncts give.
-use Rattle.std.proofs.Common.{◌≡◌, ℕ, ◌+◌, ◌<◌, length, take, get_or, List, [], ◌∷◌, ◌++◌, map, refl, sym, ◌∙◌, ap, subst, Bool}
+use Rattle.std.proofs.Common.{◌≡◌, ℕ, ◌+◌, ◌<◌, length, take, get_or, List, [], ◌∷◌, ◌++◌, map, refl, sym, ◌∙◌, ap, subst}
 use Rattle.std.specs.Borrow.{Bor}
 use Rattle.std.specs.Prelude.{Option, None, Result, Ok, Err, IfOk}
 use Rattle.std.proofs.lemmas.List.{take_more}
 use Rattle.bk_val.specs.ValueType.{ValueType}
-use Rattle.bk_form.specs.Role.{bind}
 use Rattle.bk_raw.specs.declared.term.RawName.{RawName}
 use Rattle.bk_raw.specs.Binders.{Bound, bound_names, locals}
 use Rattle.bk_raw.specs.RawTree.{RawTree}
 use Rattle.bk_raw.specs.Outcome.{Outcome, Reading, Asked}
-use Rattle.bk_raw.specs.TermReading.{part, reading, clues}
+use Rattle.bk_raw.specs.TermReading.{clues}
 use Rattle.bk_elab.specs.Blame.{earlier}
 use Rattle.bk_elab.specs.declared.blame.Fault.{Fault as ToldFault}
 use Rattle.bk_elab.specs.declared.outcome.Step.{Step}
@@ -17,15 +16,9 @@ use Rattle.bk_elab.specs.declared.sight.Local.{Local}
 use Rattle.bk_elab.specs.declared.sight.Reader.{Reader}
 use Rattle.bk_elab.specs.declared.visible.Sight.{Sight}
 use Rattle.bk_elab.specs.Shown.{shown_outcome, told, IsRead, IsAsked}
-use Rattle.bk_elab.specs.Sights.{around_of, around_by, bounds_of, bounds_from, names_below, read_by, StandsBelow}
-use Rattle.bk_elab.specs.Visible.{reading_by, asked_behind, types_by}
+use Rattle.bk_elab.specs.Sights.{around_of, around_by, bounds_of, bounds_from, names_below, StandsBelow}
+use Rattle.bk_elab.specs.Visible.{asked_behind, types_by}
 use Rattle.bk_elab.proofs.Blamed.{blame-joins}
-
--- what a reader reads that no binder stands around
-pub read-under : (s : Sight) (r : Reader) (wanted : Bool) (t : RawTree) (read placed : Step) → r.locals.items ≡ [] → around_of r ≡ around_by s → IsRead read (read_by r t) →
-    ((q : Reading) → IsRead read q → IsRead placed (part wanted t q)) → IsRead placed (reading_by wanted s t)
-read-under s r wanted t read placed e a h f =
-    subst (λ (q : Reading). IsRead placed (part wanted t q)) (λ i. reading (a i).max (bind (locals (bounds_of (e i))) (a i).names) t) (f (read_by r t) h)
 
 -- what a place asks of it
 pub asked-under : {A : Type 0} (ask : Outcome → Asked A) (q : Reading) (read : Step) (answer other : Option A) (fault all : Option ToldFault) → IsRead read q →

@@ -15,15 +15,6 @@ left-none k (ranging f t there) b not = refl
 left-none k (holding p) b not = refl
 left-none k silent b not = refl
 
-pub right-none : (k : Partial → Partial → Reading) (a b : Outcome) → ((e : Partial) → b ≢ partial e) → on_values k a b ≡ silently (unvalued a ++ unvalued b)
-right-none k (partial p) (partial e) not = absurd (not e refl)
-right-none k (partial p) (ranging f t there) not = refl
-right-none k (partial p) (holding q) not = refl
-right-none k (partial p) silent not = refl
-right-none k (ranging f t there) b not = refl
-right-none k (holding q) b not = refl
-right-none k silent b not = refl
-
 -- the first of the faults of both is told
 pub both-unvalued : (a b : Outcome) (one two fault : Option ToldFault) (s : Step) (r : Reading) → r ≡ silently (unvalued a ++ unvalued b) → told one ≡ blame (unvalued a) → told two ≡ blame (unvalued b) → told fault ≡ earlier (told one) (told two) → shown_outcome s.outcome ≡ silent → s.fault ≡ fault → IsRead s r
 both-unvalued a b one two fault s r e h g j x y =

@@ -109,10 +109,6 @@ read_by r t = reading (around_of r).max (names_of r) t
 abbrev pub node_by : Reader → ℕ → RawTreeNode → Reading
 node_by r at node = node_reading (around_of r).max (names_of r) at node
 
--- a part where a predicate is wanted, or an expression
-abbrev pub part_by : Bool → Reader → RawTree → Reading
-part_by wanted r t = part wanted t (read_by r t)
-
 -- names with ranges
 abbrev pub ranges_as : List RangedName → List Ranged
 ranges_as rs = map (λ r. record { text = r.text.now; at = r.at; range = r.range }) rs
