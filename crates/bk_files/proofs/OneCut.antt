@@ -1,7 +1,6 @@
 -- Files whose tokens are told have no fault.
-use Rattle.std.specs.Prelude.{◌≡◌, ℕ, ◌+◌, List, All, refl}
+use Rattle.std.specs.Prelude.{ℕ, ◌+◌, List, All, refl}
 use Rattle.std.proofs.Common.{inl, inr, arith, subst}
-use Rattle.bk_form.specs.declared.token.Token.{Token}
 use Rattle.bk_lex.specs.declared.fault.LexFault.{LexFault}
 use Rattle.bk_lex.specs.declared.fault.LexFault.TheVariants.{BadChar, OpenComment, NumberTooWide, Limit as LexLimit}
 use Rattle.bk_lex.specs.Faults.{IsFaultOf as IsLexFaultOf}
@@ -15,10 +14,6 @@ use Rattle.bk_files.proofs.Turns.{all_middle}
 -- where all are so there is no first at fault
 pub no_first : {A : Type 0} (P Fine Faulty : A → Type 0) (items : List A) (place : ℕ) → All P items → ((x : A) → P x → Faulty x → ⊥) → IsFirst Fine Faulty items place → ⊥
 no_first P Fine Faulty items place h none f = none f.item (all_middle P f.before f.item f.after (subst (All P) f.splits h)) f.faulty
-
--- a text's tokens are one list
-pub same_tokens : (text : List ℕ) (tokens others : List Token) → IsShallowText text tokens → IsShallowText text others → tokens ≡ others
-same_tokens text tokens others h k = tokens_are_one text tokens others h.cut.cut k.cut.cut
 
 not_cut : (text : List ℕ) (fault : LexFault) → Has IsShallowText text → IsLexFaultOf text fault → IsOfText fault → ⊥
 not_cut text fault p h o = faults_have_no_tokens text fault p.0 h o p.1.cut.cut p.1.cut.few
