@@ -74,9 +74,6 @@ named-kind table _ t h = absurd (cc)
 named-value : (table : Table) (d : Domain) (t : ValueType) → named_role table d ≡ gives t → named_meaning table d ≡ of_value (gives t) (named_value (set_size table) d)
 named-value table d t h = λ i. record { role = h i; value = named_value (set_size table) d; truth = false; contains = λ v. named-has (set_size table) d (named-kind table d t h) v i }
 
-of-role : (m : Meaning) (r : Role) → m ≡ of_value m.role m.value → m.role ≡ r → m ≡ of_value r m.value
-of-role m r e h = e ∙ ap (λ x. of_value x m.value) h
-
 unary-value : (o : UnOp) (m : Meaning) (t : ValueType) → unary_role o m.role ≡ gives t → unary_meaning o m ≡ of_value (gives t) (unary_meaning o m).value
 unary-value Not m t h = let k = if_predicate-gives predicate m.role t h in absurd (cc k.1)
 unary-value Pow m t h = absurd (power-gives m.role t h)

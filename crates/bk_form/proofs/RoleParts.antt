@@ -1,9 +1,9 @@
 -- Where a rule of typing answers a predicate, a type or another domain, what its parts stand for.
 use Rattle.std.proofs.Common.{◌≡◌, inl, inr, refl, sym, ◌∙◌, ap, subst, Bool, true, false, ◌&&◌}
-use Rattle.bk_val.specs.ValueType.{ValueType, int_type, bool_type, pair_type, set_type}
+use Rattle.bk_val.specs.ValueType.{ValueType, int_type, pair_type, set_type}
 use Rattle.bk_form.specs.Role.{Role, gives, ranges_over, predicate, if_holds, if_predicate, if_number, if_value, if_set, if_relation, if_domain, same_type, unary_role, connective_role, numbers_role, equality_role, membership_role, arrow_role, sets_role, domain_part_role, range_part_role, override_role, pair_role, image_role, application_role, composition_role}
-use Rattle.bk_form.specs.declared.operator.UnOp.TheVariants.{BoolOf, Card, Max, Dom, Ran, Id, Inverse, Single, Pow}
-use Rattle.bk_form.proofs.Roles.{if_holds-gives, if_predicate-gives, if_number-gives, if_value-gives, if_set-gives, if_relation-gives, same_type-then}
+use Rattle.bk_form.specs.declared.operator.UnOp.TheVariants.{Card, Max, Dom, Ran, Id, Inverse, Pow}
+use Rattle.bk_form.proofs.Roles.{if_holds-gives, if_number-gives, if_value-gives, if_set-gives, if_relation-gives, same_type-then}
 use Rattle.bk_form.proofs.Members.{and-both}
 use Rattle.bk_form.proofs.Listed.{gives-same}
 use Rattle.bk_form.specs.Settings.{IsOver}
@@ -132,14 +132,8 @@ id-parts r t h = let k = if_set-gives (λ u. gives (set_type (pair_type u u))) r
 pub inverse-parts : (r : Role) (t : ValueType) → unary_role Inverse r ≡ gives t → (u : ValueType) × (w : ValueType) × (r ≡ gives (set_type (pair_type u w))) × (t ≡ set_type (pair_type w u))
 inverse-parts r t h = let k = if_relation-gives (λ u w. gives (set_type (pair_type w u))) r t h in (k.first, k.second, k.operand, sym (gives-same (set_type (pair_type k.second k.first)) t k.result))
 
-pub single-parts : (r : Role) (t : ValueType) → unary_role Single r ≡ gives t → (u : ValueType) × (r ≡ gives u) × (t ≡ set_type u)
-single-parts r t h = let k = if_value-gives (λ u. gives (set_type u)) r t h in (k.0, k.1, sym (gives-same (set_type k.0) t k.2))
-
 pub card-parts : (r : Role) (t : ValueType) → unary_role Card r ≡ gives t → (u : ValueType) × (r ≡ gives (set_type u)) × (t ≡ int_type)
 card-parts r t h = let k = if_set-gives (λ u. gives int_type) r t h in (k.0, k.1, sym (gives-same int_type t k.2))
-
-pub bool-parts : (r : Role) (t : ValueType) → unary_role BoolOf r ≡ gives t → (r ≡ predicate) × (t ≡ bool_type)
-bool-parts r t h = let k = if_predicate-gives (gives bool_type) r t h in (k.0, sym (gives-same bool_type t k.1))
 
 -- ---- the rules, where they give another domain
 over-same : (t u : ValueType) → ranges_over t ≡ ranges_over u → t ≡ u

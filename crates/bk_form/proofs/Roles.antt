@@ -64,8 +64,6 @@ same_type-then (set_type t) (set_type u) h = ap set_type (same_type-then t u h)
 same_type-then _ _ h = absurd (cc)
 
 -- ---- a formula's meaning has its role
-types_of : List Binding → List ValueType
-types_of bs = map (λ b. b.0) bs
 
 pub types-bind : (ts : List ValueType) (vs : List MathValue) (bs : List Binding) → map (λ b. b.0) (bind (bindings ts vs) bs) ≡ bind ts (map (λ b. b.0) bs)
 types-bind [] vs bs = refl
