@@ -1,10 +1,10 @@
 -- The names that a script brings, and their numbers, one by one.
-use Rattle.std.proofs.Common.{◌≡◌, ◌<◌, ◌≤◌, ◌+◌, ℕ, List, [], ◌∷◌, ◌++◌, take, map, length, get_or, refl, sym, ◌∙◌, ap, Bool, true, false, not, cond, arith, append_assoc, append-nil, if◌then◌else◌}
+use Rattle.std.proofs.Common.{◌≡◌, ◌<◌, ◌+◌, ℕ, List, [], ◌∷◌, ◌++◌, take, map, length, get_or, refl, sym, ◌∙◌, ap, Bool, true, false, not, cond, arith, append_assoc, append-nil, if◌then◌else◌}
 use Rattle.std.specs.Prelude.{Option, Some, None}
 use Rattle.std.specs.List.{list_any, filter_map, cons_option}
 use Rattle.std.specs.Option.{option_map}
 use Rattle.std.specs.Str.{bytes_eq}
-use Rattle.std.proofs.lemmas.List.{map-append, length-append, take_more, take_all}
+use Rattle.std.proofs.lemmas.List.{map-append, length-append, take_more}
 use Rattle.std.proofs.lemmas.List.Elements.{filter_map-append}
 use Rattle.indexmap.specs.IndexSet.{insert_key}
 use Rattle.bk_names.proofs.Places.{list_any-map}
@@ -43,9 +43,6 @@ module _ {R : Type 0} (now : R → RawTyped) (names : List R) (i : ℕ) (x : R) 
       map-append now first (x ∷ []) ∙ sym (turn ∙ ap (λ b. cond b (map now first) (map now first ++ now x ∷ [])) (sym seen-before ∙ e)),
       (ap (map f) (grown ∙ ap (λ b. if b then keys else keys ++ key ∷ []) e) ∙ map-append f keys (key ∷ [])) ∙ ((λ j. texts j ++ this j ∷ []) ∙ sym (ap (map (λ (y : RawTyped). y.name.text)) (map-append now first (x ∷ [])) ∙ map-append (λ (y : RawTyped). y.name.text) (map now first) (now x ∷ []))),
     )
-
-pub all_first : {R : Type 0} (now : R → RawTyped) (names : List R) (i : ℕ) → length names ≤ i → map now (take i names) ≡ map now names
-all_first now names i l = ap (map now) (take_all i names l)
 
 -- ---- new names
 new-one : (own : List (List ℕ × ℕ)) (x : RawTyped) (b : Bool) → is_in_scope own x.name.text ≡ b → new_over own (x ∷ []) ≡ cond b [] (x ∷ [])

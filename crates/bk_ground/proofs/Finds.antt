@@ -1,5 +1,5 @@
 -- What is found of a name among entries and among sets, one by one.
-use Rattle.std.proofs.Common.{◌≡◌, ◌<◌, ◌≤◌, ◌+◌, ◌-◌, ℕ, zero, suc, List, [], ◌∷◌, ◌++◌, take, drop, length, get_or, refl, sym, ◌∙◌, ap, Bool, true, false, cond, arith, is_some, true≢false}
+use Rattle.std.proofs.Common.{◌≡◌, ◌<◌, ◌+◌, ◌-◌, ℕ, zero, suc, List, [], ◌∷◌, ◌++◌, take, drop, length, get_or, refl, sym, ◌∙◌, ap, Bool, true, false, cond, arith, is_some, true≢false}
 use Rattle.std.specs.Prelude.{Option, Some, None, slice_get, decimal, ◌||◌, MatchOption}
 use Rattle.std.specs.List.{list_any}
 use Rattle.std.specs.Option.{option_map}
@@ -36,15 +36,6 @@ set_turn sets s text b l h = go sets s l h
     go (x ∷ xs) (suc k) l h =
         let more : suc (k + 1) ≡ suc k + 1 = omega arith in
         go xs k (omega (arith, l)) h ∙ ap (λ (m : ℕ). set_or s b (set_among (s + 1) (drop m (x ∷ xs)) text)) more
-
-pub set_past : (sets : List SetEntry) (s : ℕ) (text : List ℕ) → length sets ≤ s → set_among s (drop s sets) text ≡ None
-set_past sets s text l = go sets s l
-  where
-    go : (xs : List SetEntry) (k : ℕ) → length xs ≤ k → set_among s (drop k xs) text ≡ None
-    go [] zero l = refl
-    go [] (suc k) l = refl
-    go (x ∷ xs) zero l = absurd (omega (arith, l))
-    go (x ∷ xs) (suc k) l = go xs k (omega (arith, l))
 
 elements-lack : (s i : ℕ) (xs : List (List ℕ)) (rest : Names) (text : List ℕ) → list_any (λ x. bytes_eq x text) xs ≡ false → found 0 (element_names s i xs ++ rest) text ≡ found 0 rest text
 elements-lack s i [] rest text q = refl
@@ -153,6 +144,3 @@ spelled_past most i digits text l t e = spelled_turn most i digits l ∙ ap (λ 
 
 pub spelled_here : (most i : ℕ) (digits text : List ℕ) → i < most → text ≡ decimal (i + 1) → bytes_eq digits text ≡ true → spelled_from (i + 1) (most - i) digits ≡ Some (i + 1)
 spelled_here most i digits text l t e = spelled_turn most i digits l ∙ ap (λ b. cond b (Some (i + 1)) (spelled_from (i + 1 + 1) (most - (i + 1)) digits)) (ap (bytes_eq digits) (sym t) ∙ e)
-
-pub spelled_end : (most i : ℕ) (digits : List ℕ) → most ≤ i → spelled_from (i + 1) (most - i) digits ≡ None
-spelled_end most i digits l = let none : most - i ≡ 0 = omega arith in ap (λ k. spelled_from (i + 1) k digits) none

@@ -11,9 +11,6 @@ use Rattle.bk_ground.specs.Grounding.{Made}
 use Rattle.bk_kernel.specs.declared.rule.Rule.{Rule}
 
 module _ {A : Type 0} (P : RulePart → A → Type 0) where
-  -- the only part means what the parts mean
-  pub one_some : (parts : List Part) (p : Part) (o : Option A) → parts ≡ p ∷ [] → IsMeaning (P (part_of p)) o → IsMeaning (One P (map part_of parts)) o
-  one_some parts p o e h = subst (λ ps. IsMeaning (One P (map part_of ps)) o) (sym e) h
 
   pub one_none : (parts : List Part) → ((p : Part) → parts ≡ p ∷ [] → ⊥) → (x : A) → One P (map part_of parts) x → ⊥
   one_none [] lacks x h = h
@@ -26,15 +23,6 @@ module _ {A B : Type 0} (P : RulePart → A → Type 0) (Q : RulePart → B → 
   two_none (p ∷ []) lacks x h = h
   two_none (p ∷ q ∷ []) lacks x h = lacks p q refl
   two_none (p ∷ q ∷ r ∷ ps) lacks x h = h
-
-  pub two_first : (parts : List Part) (p q : Part) → parts ≡ p ∷ q ∷ [] → ((x : A) → P (part_of p) x → ⊥) → (x : A × B) → Two P Q (map part_of parts) x → ⊥
-  two_first parts p q e lacks x h = lacks x.0 (subst (λ ps. Two P Q (map part_of ps) x) e h).0
-
-  pub two_second : (parts : List Part) (p q : Part) → parts ≡ p ∷ q ∷ [] → ((x : B) → Q (part_of q) x → ⊥) → (x : A × B) → Two P Q (map part_of parts) x → ⊥
-  two_second parts p q e lacks x h = lacks x.1 (subst (λ ps. Two P Q (map part_of ps) x) e h).1
-
-  pub two_some : (parts : List Part) (p q : Part) (x : A) (y : B) → parts ≡ p ∷ q ∷ [] → P (part_of p) x → Q (part_of q) y → Two P Q (map part_of parts) (x, y)
-  two_some parts p q x y e h k = subst (λ ps. Two P Q (map part_of ps) (x, y)) (sym e) (h, k)
 
 -- the rule that is made of what parts mean, as `map` makes it
 pub made_by : {A : Type 0} (P : A → Type 0) (make : A → Rule) (o : Option A) (r : Option Rule) → IsMeaning P o → MatchOption o (r ≡ None) (λ x. IsSomeAnd r (λ y. y ≡ make x)) → IsMeaning (Made P make) r

@@ -1,8 +1,8 @@
 -- One more turn of a loop over a list of written things, each of which means something.
-use Rattle.std.proofs.Common.{◌≡◌, ◌<◌, ◌≤◌, ◌+◌, ℕ, zero, suc, List, [], ◌∷◌, ◌++◌, take, map, length, get_or, sym, ◌∙◌, ap, subst, arith}
+use Rattle.std.proofs.Common.{◌≡◌, ◌<◌, ◌+◌, ℕ, zero, suc, List, [], ◌∷◌, ◌++◌, take, map, length, get_or, sym, ◌∙◌, ap, subst, arith}
 use Rattle.std.specs.Prelude.{Option, Some, None, Result, Ok, Err, IfOk}
 use Rattle.std.specs.List.{AllZip}
-use Rattle.std.proofs.lemmas.List.{map-append, get_or-map, length-map, take_more, take_all}
+use Rattle.std.proofs.lemmas.List.{map-append, get_or-map, length-map, take_more}
 use Rattle.std.proofs.lemmas.Slice.Zip.{all_zipped_more}
 use Rattle.bk_ground.specs.Finding.{IsMeaning}
 
@@ -54,9 +54,3 @@ module _ {A : Type 0} (xs : List A) (i : ℕ) (d : A) (inside : i < length xs) w
 
   pub zip_lacks : {B : Type 0} (R : A → B → Type 0) → ((y : B) → R (get_or xs i d) y → ⊥) → (ys : List B) → AllZip R xs ys → ⊥
   zip_lacks R lacks ys h = let k = zip-at R xs ys i d inside h in lacks k.0 k.1
-
-pub zip_end : {A B : Type 0} (R : A → B → Type 0) (xs : List A) (i : ℕ) (ys : List B) → length xs ≤ i → AllZip R (take i xs) ys → AllZip R xs ys
-zip_end R xs i ys l h = subst (λ zs. AllZip R zs ys) (take_all i xs l) h
-
-pub mapped_end : {A B C : Type 0} (f : A → C) (R : C → B → Type 0) (xs : List A) (i : ℕ) (ys : List B) → length xs ≤ i → AllZip R (map f (take i xs)) ys → AllZip R (map f xs) ys
-mapped_end f R xs i ys l h = subst (λ zs. AllZip R (map f zs) ys) (take_all i xs l) h
