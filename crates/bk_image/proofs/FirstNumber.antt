@@ -6,7 +6,7 @@ use Rattle.bk_code.specs.declared.image.Image.{Image}
 use Rattle.bk_code.specs.declared.instruction.Inst.{Inst}
 use Rattle.bk_code.specs.Checks.{IsGoodEntry, IsNumbered}
 use Rattle.bk_image.specs.declared.fault.LoadFault.{LoadFault}
-use Rattle.bk_image.specs.declared.fault.LoadFault.TheVariants.{BadJump, BadSlot}
+use Rattle.bk_image.specs.declared.fault.LoadFault.TheVariants.{BadJump}
 use Rattle.bk_image.specs.Spelling.{entry, inst}
 use Rattle.bk_image.specs.Faults.{place, IsFirst, IsFaultIn, IsEntryFault, IsOneInstFault, ops_place, count_place, IsNumberFault}
 use Rattle.bk_image.specs.Soundness.{IsSound, AreSound}
@@ -27,26 +27,6 @@ ops_within image e f =
 
 pub code_within : (image : Image) (e : LoadFault) → IsCodeFault image e → count_place image + 4 ≤ place e
 code_within image e f = (within_in inst (IsOneInstFault image) (IsSound image) (inst_judges image) (count_place image + 4) image.code e f).0
-
-pub first_cells : (image : Image) → 1000000 < image.cells → IsFirst (IsNumberFault image) (BadSlot 6)
-first_cells image past = record { is = inl (refl, past); least = later }
-  where
-    later : (other : LoadFault) → IsNumberFault image other → 6 ≤ place other
-    later other (inl f) = subst (λ e. 6 ≤ place e) (sym f.0) (omega arith)
-    later other (inr (inl f)) = subst (λ e. 6 ≤ place e) (sym f.0) (omega arith)
-    later other (inr (inr (inl f))) = let h = ops_within image other f in omega (arith, h.0)
-    later other (inr (inr (inr (inl f)))) = subst (λ e. 6 ≤ place e) (sym f.0) (omega arith)
-    later other (inr (inr (inr (inr f)))) = omega (arith, code_within image other f)
-
-pub first_sets : (image : Image) → image.cells ≤ 1000000 → 65534 < length image.sets → IsFirst (IsNumberFault image) (BadSlot 10)
-first_sets image few past = record { is = inr (inl (refl, past)); least = later }
-  where
-    later : (other : LoadFault) → IsNumberFault image other → 10 ≤ place other
-    later other (inl f) = let h = f.1 in absurd (omega arith)
-    later other (inr (inl f)) = subst (λ e. 10 ≤ place e) (sym f.0) (omega arith)
-    later other (inr (inr (inl f))) = let h = ops_within image other f in omega (arith, h.0)
-    later other (inr (inr (inr (inl f)))) = subst (λ e. 10 ≤ place e) (sym f.0) (omega arith)
-    later other (inr (inr (inr (inr f)))) = omega (arith, code_within image other f)
 
 -- there are not too many cells and sets
 abbrev pub IsSmall : Image → Type 0

@@ -21,11 +21,6 @@ covers_itself Unknown = tt
 covers_itself (One d) = refl
 covers_itself Many = tt
 
-pub covers_unknown : (d : Depth) → Covers d Unknown
-covers_unknown Unknown = tt
-covers_unknown (One d) = tt
-covers_unknown Many = tt
-
 pub covers_through : (a b c : Depth) → Covers a b → Covers b c → Covers a c
 covers_through Many b c p q = tt
 covers_through Unknown b Unknown p q = tt
@@ -118,14 +113,6 @@ set_at known to r lt = get_or-set_same known to r Unknown lt
 
 set_other : (known : List Depth) (to at : ℕ) (r : Depth) → at ≢ to → depth_at (slice_set known to r) at ≡ depth_at known at
 set_other known to at r ne = get_or-set_other known to at r Unknown ne
-
--- a fact of each place, from that of the place that was set and of the others
-at_set : (P : ℕ → Depth → Type 0) (known : List Depth) (to : ℕ) (r : Depth) → to < length known → P to r → ((at : ℕ) → P at (depth_at known at)) → (at : ℕ) → P at (depth_at (slice_set known to r) at)
-at_set P known to r lt here others at =
-    elim (cases_eq at to) [
-      | inl same ↦ subst (λ k. P k (depth_at (slice_set known to r) k)) (sym same) (subst (P to) (sym (set_at known to r lt)) here)
-      | inr ne ↦ subst (P at) (sym (set_other known to at r ne)) (others at)
-    ]
 
 -- ---- a depth that comes to a place
 

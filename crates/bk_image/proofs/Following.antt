@@ -167,11 +167,6 @@ way_left image p new (Some to) long stands = flowed_left p new to (omega arith)
 
 -- ---- both
 
-pub followed_long : (p : Progress) (i : Inst) (at : ℕ) → length (followed p i at).known ≡ length p.known
-followed_long p i at =
-    let new = after i (depth_at p.known at) in
-    way_long (flowed_to p new (next_of i at)) new (target_of i at) ∙ way_long p new (next_of i at)
-
 pub followed_left : (image : Image) (p : Progress) (i : Inst) (at : ℕ) → length p.known ≡ length image.code → IsInside image at i → left (followed p i at) ≤ left p
 followed_left image p i at long inside =
     let new = after i (depth_at p.known at) in
@@ -262,9 +257,6 @@ popped image limit known work at h = record { long = h.long; so = h.so; closed =
 
 pub popped_place : (image : Image) (limit : ℕ) (known : List Depth) (work : List ℕ) (at : ℕ) → IsProgress image limit (record { known = known; work = work ++ at ∷ [] }) → at < length image.code
 popped_place image limit known work at h = All-contains (λ a. a < length image.code) (work ++ at ∷ []) at h.places (Contains-push work at)
-
-pub popped_left : (known : List Depth) (work : List ℕ) (at : ℕ) → left (record { known = known; work = work }) < left (record { known = known; work = work ++ at ∷ [] })
-popped_left known work at = omega (arith, length-append work (at ∷ []))
 
 -- all numbers are small
 pub near_within : (image : Image) (limit : ℕ) (p : Progress) (Busy : ℕ → Type 0) → IsProgressBut image limit p Busy → length image.code < 2 ^ 32 → (at : ℕ) (d : ℤ) → depth_at p.known at ≡ One d → IsWithin (pos (2 ^ 40)) d

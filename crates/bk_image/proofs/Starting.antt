@@ -94,9 +94,6 @@ length-marked reached (Some n) = length-set reached n true
 abbrev pub marked_from : List Bool → Inst → ℕ → List Bool
 marked_from reached i at = marked (marked reached (next_of i at)) (target_of i at)
 
-pub from_before : (reached : List Bool) (i : Inst) (at to : ℕ) → get_or reached to false ≡ true → get_or (marked_from reached i at) to false ≡ true
-from_before reached i at to h = marked_before (marked reached (next_of i at)) (target_of i at) to (marked_before reached (next_of i at) to h)
-
 pub from_some : (image : Image) (reached : List Bool) (i : Inst) (at to : ℕ) → slice_get image.code at ≡ Some i → HasPlaceAsTarget i at → get_or (marked_from reached i at) to false ≡ true → (get_or reached to false ≡ true) ⊎ Passes image at to
 from_some image reached i at to get low h =
     elim (marked_some (marked reached (next_of i at)) (target_of i at) to h) [
