@@ -35,10 +35,6 @@ all-each P [] h k d less = absurd (omega arith)
 all-each P (x ∷ xs) h zero d less = h.0
 all-each P (x ∷ xs) h (suc k) d less = all-each P xs h.1 k d (omega arith)
 
-pub each-all : {A : Type 0} (P : A → Type 0) (xs : List A) → All P xs → Each P xs
-each-all P [] h = tt
-each-all P (x ∷ xs) h = (h 0 x (omega arith), each-all P xs (λ k d less. h (suc k) d (omega arith)))
-
 module _ (find : Finder) (e : Environment) where
   pub hold-append : (ps qs : List Formula) → AllHold find e ps → AllHold find e qs → AllHold find e (ps ++ qs)
   hold-append [] qs h k = k

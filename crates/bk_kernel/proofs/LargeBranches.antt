@@ -11,27 +11,6 @@ use Rattle.bk_kernel.specs.Branches.{Branch, IsWithinBranch}
 use Rattle.bk_kernel.specs.Listing.{one_for_each}
 use Rattle.bk_kernel.specs.Held.{IsTooLarge}
 
-of-list : (cs : List Branch) → (Each IsWithinBranch cs → ⊥) → (entry : Option (List Branch)) → entry ≡ Some cs → IsTooLarge entry
-of-list cs large entry e bs h w = large (subst (λ x. Each IsWithinBranch x) (some-same bs cs (sym h ∙ e)) w)
-
--- the only branch
-pub only-large : (b : Branch) → (IsWithinBranch b → ⊥) → (entry : Option (List Branch)) → entry ≡ Some (b ∷ []) → IsTooLarge entry
-only-large b large entry e = of-list (b ∷ []) (λ w. large w.0) entry e
-
--- the first of two, or the second
-pub first-large : (b c : Branch) → (IsWithinBranch b → ⊥) → (entry : Option (List Branch)) → entry ≡ Some (b ∷ c ∷ []) → IsTooLarge entry
-first-large b c large entry e = of-list (b ∷ c ∷ []) (λ w. large w.0) entry e
-
-pub second-large : (b c : Branch) → (IsWithinBranch c → ⊥) → (entry : Option (List Branch)) → entry ≡ Some (b ∷ c ∷ []) → IsTooLarge entry
-second-large b c large entry e = of-list (b ∷ c ∷ []) (λ w. large w.1.0) entry e
-
--- a branch whose goal is too large, and one with a hypothesis that is
-pub goal-large : (ps : List Formula) (p : Formula) → (IsWithinLimits p → ⊥) → IsWithinBranch (ps, p) → ⊥
-goal-large ps p large w = large w.1
-
-pub hypothesis-large : (p q : Formula) → (IsWithinLimits p → ⊥) → IsWithinBranch (p ∷ [], q) → ⊥
-hypothesis-large p q large w = large w.0.0
-
 -- one for each of some equations
 cases-within : (goal : Formula) (ps : List Formula) → Each IsWithinBranch (one_for_each goal ps) → Each IsWithinLimits ps
 cases-within goal [] w = tt
@@ -44,5 +23,3 @@ elements-large goal term entry fs there large bs e w =
     let same : k.0 ≡ fs = some-same k.0 fs (sym k.1 ∙ there) in
     let small : Each IsWithinLimits (equations term k.0) = cases-within goal (equations term k.0) (subst (λ x. Each IsWithinBranch x) (sym k.2) w) in
     large (subst (λ gs. Each IsWithinLimits (equations term gs)) same small)
-
-pub ruleset large_branches = (only-large, first-large, second-large, goal-large, hypothesis-large)

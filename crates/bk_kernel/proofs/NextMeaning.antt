@@ -1,19 +1,17 @@
 -- What a body means at one more than its variable.
-use Rattle.std.proofs.Common.{◌≡◌, ℕ, zero, suc, ℤ, pos, ◌+ℤ◌, List, [], ◌∷◌, refl, sym, ◌∙◌, ap, arith, Bool, true, false, cond, nat_eq}
+use Rattle.std.proofs.Common.{◌≡◌, ℕ, zero, suc, ℤ, pos, ◌+ℤ◌, List, [], ◌∷◌, refl, ◌∙◌, ap, arith, Bool, true, false, cond, nat_eq}
 use Rattle.std.proofs.lemmas.Bool.Decides.{nat_tests}
-use Rattle.std.specs.Prelude.{None, slice_get}
+use Rattle.std.specs.Prelude.{slice_get}
 use Rattle.bk_val.specs.Value.{int}
 use Rattle.bk_val.specs.ValueType.{int_type}
 use Rattle.bk_form.specs.Table.{Table}
-use Rattle.bk_form.specs.Formula.{Formula, bound, literal, binary}
+use Rattle.bk_form.specs.Formula.{bound, literal, binary}
 use Rattle.bk_form.specs.declared.operator.BinOp.TheVariants.{Add}
 use Rattle.bk_form.specs.Search.{Finder}
-use Rattle.bk_form.specs.Environment.{State, Binding, under, at_state}
-use Rattle.bk_form.specs.Role.{role}
+use Rattle.bk_form.specs.Environment.{State, Binding}
 use Rattle.bk_form.specs.Meaning.{meaning, bound_meaning}
-use Rattle.bk_form.proofs.Roles.{meaning-role}
 use Rattle.bk_bind.proofs.UnderTerms.{here, Puts, meaning-rebound}
-use Rattle.bk_kernel.specs.Next.{raised, at_next, NextMeans}
+use Rattle.bk_kernel.specs.Next.{raised, NextMeans}
 
 module _ (find : Finder) (table : Table) (st : State) where
   eq-same : (m k : ℕ) → nat_eq (suc m) (suc k) ≡ nat_eq m k
@@ -52,13 +50,3 @@ module _ (find : Finder) (table : Table) (st : State) where
 
 pub next_means : NextMeans
 next_means find table st z p = meaning-rebound find table st raised (deeper-raised find table st) 0 ((int_type, int z) ∷ []) ((int_type, int (z +ℤ pos 1)) ∷ []) (first-raised find table st z) p
-
--- a body at one more has the role of the body
-pub next-role : (table : Table) (p : Formula) → role table (int_type ∷ []) (at_next p) ≡ role table (int_type ∷ []) p
-next-role table p =
-    let find : Finder = λ test. None in
-    let st : State = λ n. int (pos 0) in
-    let z = pos 0 in
-    sym (meaning-role find (under (at_state table st) (int_type ∷ []) (int z ∷ [])) (at_next p))
-    ∙ ap (λ m. m.role) (next_means find table st z p)
-    ∙ meaning-role find (under (at_state table st) (int_type ∷ []) (int (z +ℤ pos 1) ∷ [])) p

@@ -375,9 +375,6 @@ module _ (table : Table) (well : IsWellFormed table) (find : Finder) (law : IsSe
   by-truths : (a b : Formula) → role table [] a ≡ role table [] b → role table [] b ≡ predicate → truth find here a ≡ truth find here b → meaning find here b ≡ meaning find here a
   by-truths a b e p h = sym (same-truth find here a b (e ∙ p) p h)
 
-  typed-right : (i : Instance) → role table [] i.left ≡ role table [] i.right → role table [] i.left ≢ untyped → role table [] i.right ≢ untyped
-  typed-right i e t k = t (e ∙ k)
-
   sides-hold : (ps : List Formula) → Each (IsPredicate table) ps → AllHold find here ps → SidesHold find here ps
   sides-hold [] h k = tt
   sides-hold (p ∷ ps) h k = (h.0, k.0, sides-hold ps h.1 k.1)

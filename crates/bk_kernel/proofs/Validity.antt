@@ -67,10 +67,6 @@ passed : (test : ℤ → ℤ → Bool) (r s : Option ℤ) → both_pass test r s
 passed test (Some x) (Some y) h = record { left = x; right = y; is_left = refl; is_right = refl; passes = h }
 passed test _ _ h = absurd (cc)
 
--- the number that there is
-bounded-below : (low : ℤ) (x : ℤ) (r : Option ℤ) → r ≡ Some x → both_pass int_le (Some low) r ≡ true → int_le low x ≡ true
-bounded-below low x r e h = subst (λ s. both_pass int_le (Some low) s ≡ true) e h
-
 module _ (find : Finder) (e : Environment) (well : IsWellFormed e.table) (typed : IsTyped e) where
   typed-value : (a : Formula) (t : ValueType) → role e.table (bound_types e) a ≡ gives t → is_value_of (set_size e.table) t (value find e a) ≡ true
   typed-value a t h = sound_typing.typed find e well typed a t h
