@@ -43,14 +43,6 @@ whole-then : (b : Bool) (at : ℕ) (fs : List Fault) → cond b fs (or_whole at 
 whole-then true at fs h = (refl, h)
 whole-then false at fs h = whole-never at fs h
 
-and-left : (a b : Bool) → (a && b) ≡ true → a ≡ true
-and-left true b h = refl
-and-left false b h = absurd (cc)
-
-and-right : (a b : Bool) → (a && b) ≡ true → b ≡ true
-and-right true b h = h
-and-right false b h = absurd (cc)
-
 -- ---- what is told of a B0 term
 -- an expression of B0, below so high a term
 abbrev pub IsB0Term : Development → ℕ → Formula → Type 0
@@ -258,9 +250,6 @@ module _ (x : Executing) (dev : Development) (most : x.int_max ≡ int_max dev) 
       by (set_name k) s more = either-named (bytes_eq n.text text) (sight 0 (set_name k)) (found 0 (typed x.typing ns) text) refl more
       by (element_name k i) s more = either-named (bytes_eq n.text text) (sight 0 (element_name k i)) (found 0 (typed x.typing ns) text) tt more
       by nothing s more = absurd s
-
-  scalar-option : (o : Option ValueType) (u : ValueType) → o ≡ Some u → is_scalar_option o ≡ true → is_scalar u ≡ true
-  scalar-option o u e h = subst (λ p. is_scalar_option p ≡ true) e h
 
   -- a name of a scalar is an expression
   pub name-told : (at : ℕ) (s : Sight) → IsNamed x.typing s → is_scalar_option (outcome_type (name_reading at s).outcome) ≡ true → IsB0Outcome dev 1 (name_reading at s).outcome

@@ -123,9 +123,6 @@ level_outputs l = flat_map (λ b. b.outputs) l.bodies
 abbrev pub level_binders : Level → List ℕ
 level_binders l = binders l.init ++ flat_map (λ b. binders b.sub) l.bodies
 
-interval-from : (o a n : ℕ) → among (interval o a) n ≡ true → (o ≤ n) × (n < o + a)
-interval-from o a n h = among-interval o a n h
-
 one-more : (a b os ws : List ℕ) (base top o m w : ℕ) → AreDistinct (a ++ b) → ((n : ℕ) → among (a ++ b) n ≡ true → n < base) → os ≡ interval o m → ws ≡ interval (o + m) w → base ≤ o → o + (m + w) ≤ top → AreDistinct ((a ++ os) ++ (b ++ ws)) × ((n : ℕ) → among ((a ++ os) ++ (b ++ ws)) n ≡ true → n < top)
 one-more a b os ws base top o m w d u e k l t =
     let both : os ++ ws ≡ interval o (m + w) = (λ i. e i ++ k i) ∙ interval-join o m w in

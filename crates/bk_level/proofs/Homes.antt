@@ -1,10 +1,10 @@
 -- Where the variables of a component are at home, and what its initialisation sees.
-use Rattle.std.proofs.Common.{◌≡◌, ℕ, zero, suc, ◌+◌, ◌-◌, ◌<◌, ◌≤◌, List, [], ◌∷◌, ◌++◌, length, refl, sym, ◌∙◌, ap, subst, Bool, true, false, cond, ◌||◌, arith}
+use Rattle.std.proofs.Common.{◌≡◌, ℕ, zero, suc, ◌+◌, ◌-◌, ◌<◌, ◌≤◌, List, [], ◌∷◌, ◌++◌, length, refl, sym, ◌∙◌, ap, subst, Bool, true, false, cond, arith}
 use Rattle.std.specs.Prelude.{Option, None, Some, slice_get, ℤ}
 use Rattle.bk_dev.specs.declared.kind.Home.{Home}
 use Rattle.bk_dev.specs.declared.kind.Home.TheVariants.{Constant, Input, Abstract, Concrete, Inner}
 use Rattle.bk_dev.specs.Development.{Development}
-use Rattle.bk_dev.specs.Facts.{is_constant, is_variable_of, home_of}
+use Rattle.bk_dev.specs.Facts.{home_of}
 use Rattle.bk_level.specs.Binders.{binder_count, binder_texts}
 use Rattle.bk_raw.specs.ComponentTree.{RawOperation}
 use Rattle.bk_level.specs.Components.{Component, is_machine, initialisation}
@@ -53,9 +53,6 @@ homes-all int_max higher comp h =
     omega arith
 
 -- ---- which
--- a variable of the level
-abbrev pub variable_home : ℕ → Declared → Home
-variable_home k d = cond d.is_concrete (Concrete k) (Abstract k)
 
 pub as-home : {A : Type 0} → (h : Home) (xs : List A) (i : ℕ) → i < length xs → slice_get (homes_as h xs) i ≡ Some h
 as-home h [] i l = absurd (omega arith)
@@ -82,14 +79,6 @@ inside-input (x ∷ xs) rest (suc i) f = inside-input xs rest i f
 inside-inputs : (c : Bool) (xs : List (List ℕ)) (rest : List Home) (i : ℕ) → ((j : ℕ) → IsInside (slice_get rest j)) → IsInside (slice_get (cond c (homes_as Input xs) [] ++ rest) i)
 inside-inputs true xs rest i f = inside-input xs rest i f
 inside-inputs false xs rest i f = f i
-
-own-inside : (k : ℕ) (o : Option Home) → IsInside o → (is_constant o || is_variable_of k o) ≡ false
-own-inside k None h = refl
-own-inside k (Some Input) h = refl
-own-inside k (Some (Inner j)) h = refl
-own-inside k (Some Constant) h = absurd h
-own-inside k (Some (Abstract j)) h = absurd h
-own-inside k (Some (Concrete j)) h = absurd h
 
 -- a variable of level k
 abbrev pub IsHomeOf : ℕ → Option Home → Type 0

@@ -47,10 +47,6 @@ write-any : (k : ℕ) (o : Bool) (h : Option Home) → write_by k o None ≡ tru
 write-any k true h e = write-last (is_variable_of k h)
 write-any k false h e = absurd (cc)
 
-above-none : (k : ℕ) → is_variable_above k None ≡ false
-above-none zero = refl
-above-none (suc k) = refl
-
 abbrev joined_by : ℕ → Option Home → Bool
 joined_by k h = is_constant h || is_variable_of k h || is_variable_above k h
 

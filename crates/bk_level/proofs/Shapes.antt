@@ -41,10 +41,6 @@ not-inside : (b : Bool) {A : Type 0} → not b ≡ true → b ≡ true → A
 not-inside true h e = absurd (cc)
 not-inside false h e = absurd (cc)
 
--- what has no parts may stand anywhere
-plain : (kind : Kind) (inside : Bool) (s : Substitution) → LoopsStandIn kind s → MayStandIn kind s → IsUnordered s → IsShaped kind inside s
-plain kind inside s a b c = record { loops = a; may = b; unordered = λ e. c }
-
 over-shaped : (kind : Kind) (inside : Bool) (f : ℕ) (e v : Option Formula) → IsShaped kind inside (overridden f e v)
 over-shaped kind inside f None v = record { loops = tt; may = tt; unordered = λ e. tt }
 over-shaped kind inside f (Some e) None = record { loops = tt; may = tt; unordered = λ e. tt }
