@@ -7,7 +7,7 @@ use Rattle.bk_form.specs.declared.token.TokenKind.TheVariants.{Sign}
 use Rattle.std.proofs.lemmas.Str.{utf8_valid_len-IsValidUpTo}
 use Rattle.bk_lex.specs.Lexis.{Gap, blank, block, line, AreGaps, BeginsWith, Fits, Cut, AreTokens}
 use Rattle.bk_lex.specs.Faults.{IsOpenComment, BeginsNothing, BeginsTooWide, BeginsToken, IsFaultOf}
-use Rattle.bk_lex.specs.Parts.{NoGap, IsGapFault, IsTokenFault, IsFirstToken}
+use Rattle.bk_lex.specs.Parts.{IsGapFault, IsFirstToken}
 use Rattle.bk_lex.specs.declared.fault.LexFault.{LexFault}
 use Rattle.bk_lex.specs.declared.fault.LexFault.TheVariants.{NotUtf8, BadChar, OpenComment, NumberTooWide, Limit, Memory}
 use Rattle.bk_lex.proofs.Characters.{class_of}
@@ -53,20 +53,6 @@ gap_fault text found rest (OpenComment place) u l c f =
 gap_fault text found rest (NumberTooWide place) u l c f = absurd f
 gap_fault text found rest (Limit place) u l c f = absurd f
 gap_fault text found rest Memory u l c f = tt
-
-pub token_fault : (text : List ℕ) (found : List Token) (rest : List ℕ) (start : ℕ) (fault : LexFault) → IsUtf8 text → length found ≤ 1000000 → Cut (length text) text found rest → start + length rest ≡ length text → NoGap rest → 0 < length rest → IsTokenFault rest start fault → IsFaultOf text fault
-token_fault text found rest start (NotUtf8 place) u l c s n some f = absurd f
-token_fault text found rest start (BadChar place) u l c s n some f =
-    (u, found, record { rest = rest; cut = c; left = ap (λ p. p + length rest) f.0 ∙ s; this = record { some = some; no_gap = n.no_gap; no_token = f.1 } }, l)
-token_fault text found rest start (OpenComment place) u l c s n some f = absurd f
-token_fault text found rest start (NumberTooWide place) u l c s n some f =
-    (u, found, record { rest = rest; cut = c; left = ap (λ p. p + length rest) f.0 ∙ s; this = f.1 }, l)
-token_fault text found rest start (Limit place) u l c s n some f = absurd f
-token_fault text found rest start Memory u l c s n some f = tt
-
-pub limit_fault : (text : List ℕ) (found : List Token) (rest after : List ℕ) (start : ℕ) (kind : TokenKind) → IsUtf8 text → length found ≡ 1000000 → Cut (length text) text found rest → start + length rest ≡ length text → IsFirstToken kind rest after → IsFaultOf text (Limit start)
-limit_fault text found rest after start kind u l c s b =
-    (u, found, record { rest = rest; cut = c; left = s; this = record { kind = kind; after = after; begins = b.0; fits = b.1 } }, l)
 
 -- ---- two cuts of one text
 same_token : (u v : Token) → u.kind ≡ v.kind → u.start ≡ v.start → u.end ≡ v.end → u ≡ v

@@ -1,6 +1,6 @@
 -- Runs of bytes that pass a test, and where a text may be cut.
 use Rattle.std.proofs.Common.{◌≡◌, ℕ, zero, suc, ◌+◌, ◌-◌, ◌*◌, ◌<◌, ◌≤◌, Bool, true, false, cond, not, List, [], ◌∷◌, ◌++◌, length, get_or, take, drop, Option, Some, None, SomeIff, IsUtf8, refl, ap, sym, ◌∙◌, arith, subst, one-add, add-one, drop-cons, length-append, drop_of_length-le}
-use Rattle.std.specs.Prelude.{nat_eq, nat_le}
+use Rattle.std.specs.Prelude.{nat_eq}
 use Rattle.std.specs.List.{list_all, prefix_len, slice_get}
 use Rattle.std.specs.Str.{IsCharBoundary}
 use Rattle.std.proofs.lemmas.Bool.{and_parts, and_from, leb-true, not-false, eqb-true}
@@ -117,19 +117,6 @@ numeral_from-drop : (n : ℕ) (cs : List ℕ) (i : ℕ) → i < length cs → nu
 numeral_from-drop n cs i h =
     ap (λ ds. numeral_from n ds) (drop-cons cs i 0 h)
     ∙ ap (λ k. numeral_from (10 * n + (get_or cs i 0 - 48)) (drop k cs)) (sym (add-one i))
-
-digit_bounds : (c : ℕ) → is_digit c ≡ true → (48 ≤ c) × (c ≤ 57)
-digit_bounds c h =
-    let parts : (nat_le 48 c ≡ true) × (nat_le c 57 ≡ true) = and_parts (nat_le 48 c) (nat_le c 57) h in
-    (leb-true 48 c parts.0, leb-true c 57 parts.1)
-
-digit_in : (cs : List ℕ) (i : ℕ) → i < length cs → list_all is_digit cs ≡ true → (48 ≤ get_or cs i 0) × (get_or cs i 0 ≤ 57)
-digit_in [] i h a = absurd (omega arith)
-digit_in (c ∷ cs) zero h a = digit_bounds c (and_parts (is_digit c) (list_all is_digit cs) a).0
-digit_in (c ∷ cs) (suc i) h a = digit_in cs i (omega arith) (and_parts (is_digit c) (list_all is_digit cs) a).1
-
-pub digit_at : (cs : List ℕ) (i : ℕ) → i < length cs → is_numeral cs ≡ true → (48 ≤ get_or cs i 0) × (get_or cs i 0 ≤ 57)
-digit_at cs i h a = digit_in cs i h (numeral_all cs a)
 
 pub too_large : (bound : ℕ) (cs : List ℕ) (n i : ℕ) → i < length cs → numeral_from n (drop i cs) ≡ numeral_from 0 cs → bound ≤ 10 * n + (get_or cs i 0 - 48) → numeral_from 0 cs < bound → ⊥
 too_large bound cs n i h e big small =
