@@ -71,10 +71,6 @@ pub all_fit-row : (m : ℤ) (target coefs : List ℤ) (constant : ℤ) → 0 < l
 all_fit-row m [] coefs constant h = absurd (omega arith)
 all_fit-row m (t ∷ ts) coefs constant h = refl
 
-pub held_in-added : (m : ℤ) (target coefs : List ℤ) (constant : ℤ) → 0 < length target → held_in (added m target (constant ∷ coefs)) ≡ plus (held_in target) (times m (shown coefs constant))
-held_in-added m [] coefs constant h = absurd (omega arith)
-held_in-added m (t ∷ ts) coefs constant h = refl
-
 -- at the end of the loop nothing is left that could be too wide
 pub all_fit-end : (m : ℤ) (sums coefs : List ℤ) (i : ℕ) → length sums ≤ i → length coefs ≤ i → all_fit m (drop i sums) (drop i coefs) ≡ true
 all_fit-end m sums coefs i h k =

@@ -120,8 +120,6 @@ closed-if facts cert h =
     (ap (λ p. is_contradiction p) (last-same facts cert) ∙ contradiction-if (fact_at (facts_after (width_of facts) (inequalities facts) cert) (length facts + length cert)) h.1)
 
 -- ---- the answers of the check
-abbrev fault_of : List Fact → List Line → Option CertFault
-fault_of facts cert = certificate_fault (width_of facts) (inequalities facts) cert
 
 pub answer_at_fault : (facts : List Fact) (cert : List Line) (k : ℕ) (e : CertFault) → IsFirstFault facts cert k e → certificate_fault (width_of facts) (inequalities facts) cert ≡ Some e
 answer_at_fault facts cert k e p =

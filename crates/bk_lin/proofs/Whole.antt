@@ -39,11 +39,6 @@ pos-*ℤ_assoc (suc n) c x =
     suc_ℤ-*ℤ (pos n) (c *ℤ x) ∙ ap (λ s. s +ℤ c *ℤ x) (pos-*ℤ_assoc n c x)
     ∙ sym (+ℤ-*ℤ (pos n *ℤ c) c x) ∙ ap (λ s. s *ℤ x) (sym (suc_ℤ-*ℤ (pos n) c))
 
--- a number that is not negative is a natural
-pub natural : (z : ℤ) → pos 0 ≤ℤ z → (n : ℕ) × (z ≡ pos n)
-natural (pos n) h = (n, refl)
-natural (negsuc n) h = absurd (omega (arith, ints))
-
 pub 0≤-*ℤ : (m z : ℤ) → pos 0 ≤ℤ m → pos 0 ≤ℤ z → pos 0 ≤ℤ (m *ℤ z)
 0≤-*ℤ (pos m) (pos z) h k = let e = pos-*ℤ-pos m z in omega (arith, ints)
 0≤-*ℤ (pos m) (negsuc z) h k = absurd (omega (arith, ints))
