@@ -3,16 +3,16 @@ use Rattle.std.specs.Prelude.{◌≡◌, ℕ, ◌<◌, ◌≤◌, Bool, true, fa
 use Rattle.std.proofs.Common.{arith, sym, subst, ◌∙◌}
 use denote.Ref.{Bor}
 use Rattle.bk_form.specs.declared.token.Token.{Token}
-use Rattle.bk_ops.specs.declared.sign.TheConstants.{COMMA, SEMICOLON, CLOSE_PAREN}
-use Rattle.bk_raw.specs.RawTree.{RawTree, raw, raw_pair, raw_composition}
-use Rattle.bk_raw.specs.Reading.{next, sign, start, begins_with, within, moved, chain, arguments, parentheses, read}
+use Rattle.bk_ops.specs.declared.sign.TheConstants.{COMMA, CLOSE_PAREN}
+use Rattle.bk_raw.specs.RawTree.{RawTree, raw, raw_pair}
+use Rattle.bk_raw.specs.Reading.{next, sign, start, begins_with, within, chain, arguments, read}
 use Rattle.bk_p_expr.specs.Openings.{sign_of, form_of, divider_in, placed, divided, enclosed}
 use Rattle.bk_p_expr.specs.Pieces.{IsPiece}
 use Rattle.bk_p_expr.specs.Found.{Finds, FindsNone, Closes}
 use Rattle.bk_p_expr.specs.declared.divider.Divider.{Divider}
-use Rattle.bk_p_expr.specs.declared.divider.Divider.TheVariants.{Comma, Semicolon}
+use Rattle.bk_p_expr.specs.declared.divider.Divider.TheVariants.{Comma}
 use Rattle.bk_p_expr.specs.declared.divider.Inside.{Inside}
-use Rattle.bk_p_expr.specs.declared.divider.Inside.TheVariants.{Term, Arguments, Parentheses}
+use Rattle.bk_p_expr.specs.declared.divider.Inside.TheVariants.{Term, Arguments}
 use Rattle.bk_p_expr.specs.declared.piece.Piece.{Piece}
 use Rattle.bk_p_expr.proofs.Choices.{next_found, next_fails, next_under}
 use Rattle.bk_p_expr.proofs.Lists.{ChainSoFar, chain_begins, chain_goes_on, chain_fails, chain_ends, chain_stops}
@@ -30,19 +30,6 @@ arguments_by n false r at x us e h = λ i. next (h refl i) (λ y vs. next (sign 
 -- the arguments of a function
 pub arguments_is : (n : ℕ) (ts : List Token) → arguments n (read n) ts ≡ enclosed n Arguments CLOSE_PAREN ts
 arguments_is n ts = next_under (read n 0 ts) (λ x us. next (chain n (read n) COMMA raw_pair (start ts) x us) (λ y vs. next (sign CLOSE_PAREN vs) (λ _ ws. Some (y, ws)))) (λ r. r) (λ x us. next (divided n Arguments (divider_in Arguments us) (start ts) x us) (λ y vs. next (sign CLOSE_PAREN vs) (λ _ ws. Some (y, ws)))) refl (λ x us. arguments_by n (begins_with COMMA us) (chain n (read n) COMMA raw_pair (start ts) x us) (start ts) x us refl (λ b. chain_stops n n COMMA raw_pair (start ts) x us b))
-
-placed_by : (at : ℕ) (r : Option (RawTree × List Token)) → next r (λ x vs. next (sign CLOSE_PAREN vs) (λ _ ws. Some (moved at x, ws))) ≡ next (next r (λ x us. Some (moved at x, us))) (λ y vs. next (sign CLOSE_PAREN vs) (λ _ ws. Some (y, ws)))
-placed_by at None = refl
-placed_by at (Some p) = refl
-
-parentheses_by : (n at from : ℕ) (a b : Bool) (x : RawTree) (us : List Token) → cond a (next (chain n (read n) COMMA raw_pair from x us) (λ x vs. next (sign CLOSE_PAREN vs) (λ _ ws. Some (moved at x, ws)))) (cond b (next (chain n (read n) SEMICOLON raw_composition from x us) (λ x vs. next (sign CLOSE_PAREN vs) (λ _ ws. Some (moved at x, ws)))) (next (sign CLOSE_PAREN us) (λ _ vs. Some (x, vs)))) ≡ next (divided n (Parentheses at) (cond a (Some Comma) (cond b (Some Semicolon) None)) from x us) (λ y vs. next (sign CLOSE_PAREN vs) (λ _ ws. Some (y, ws)))
-parentheses_by n at from true b x us = placed_by at (chain n (read n) COMMA raw_pair from x us)
-parentheses_by n at from false true x us = placed_by at (chain n (read n) SEMICOLON raw_composition from x us)
-parentheses_by n at from false false x us = refl
-
--- what parentheses hold that begin a term
-pub parentheses_is : (n at : ℕ) (ts : List Token) → parentheses n (read n) at ts ≡ enclosed n (Parentheses at) CLOSE_PAREN ts
-parentheses_is n at ts = next_under (read n 0 ts) (λ x us. cond (begins_with COMMA us) (next (chain n (read n) COMMA raw_pair (start ts) x us) (λ x vs. next (sign CLOSE_PAREN vs) (λ _ ws. Some (moved at x, ws)))) (cond (begins_with SEMICOLON us) (next (chain n (read n) SEMICOLON raw_composition (start ts) x us) (λ x vs. next (sign CLOSE_PAREN vs) (λ _ ws. Some (moved at x, ws)))) (next (sign CLOSE_PAREN us) (λ _ vs. Some (x, vs))))) (λ r. r) (λ x us. next (divided n (Parentheses at) (divider_in (Parentheses at) us) (start ts) x us) (λ y vs. next (sign CLOSE_PAREN vs) (λ _ ws. Some (y, ws)))) refl (λ x us. parentheses_by n at (start ts) (begins_with COMMA us) (begins_with SEMICOLON us) x us)
 
 -- ---- the sign that closes
 pub closes : (reader : ℕ → Option (RawTree × List Token)) (least end : ℕ) (tree : RawTree) (piece : Piece) (rest : List Token) (r : Option (Piece × Bor (List Token))) → ((n : ℕ) → least ≤ n → reader n ≡ next (sign end rest) (λ _ us. Some (tree, us))) → IsPiece tree piece → Closes end rest r → IfSome r (λ p. p.0 ≡ piece) → MatchOption r (FindsNone reader least) (λ p. Finds reader least (λ t. t) p.0 p.1.now)

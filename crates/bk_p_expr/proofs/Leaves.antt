@@ -1,5 +1,5 @@
 -- Leaves: names, numbers and constant words.
-use Rattle.std.specs.Prelude.{◌≡◌, ℕ, ℤ, pos, negsuc, ◌≤ℤ◌, ◌<ℤ◌, List, Option, None, Some, MatchOption, refl}
+use Rattle.std.specs.Prelude.{◌≡◌, ℕ, ℤ, pos, negsuc, ◌≤ℤ◌, ◌<ℤ◌, List, None, Some, refl}
 use Rattle.std.proofs.Common.{arith, sym, subst, ◌∙◌}
 use Rattle.std.proofs.lemmas.Int.{ints}
 use Rattle.bk_form.specs.declared.token.Token.{Token}
@@ -64,10 +64,3 @@ no_leaf_word kind op e h = subst (λ k. IsNoLeaf k) (sym e) ((λ i. constant_of 
 
 pub no_leaf_sign : (kind : TokenKind) (op : ℕ) → kind ≡ Sign op → IsNoLeaf kind
 no_leaf_sign kind op e = let h : IsNoLeaf (Sign op) = tt in subst (λ k. IsNoLeaf k) (sym e) h
-
-pub word_same : (kind : TokenKind) (op at : ℕ) (r : Option Piece) → kind ≡ Word op → MatchOption r (constant_of kind ≡ None) (λ p. FindsLeaf kind at p) → MatchOption r (IsNoLeaf kind) (λ p. FindsLeaf kind at p)
-word_same kind op at None e h = no_leaf_word kind op e h
-word_same kind op at (Some p) e h = h
-
-pub leaf_same : (kind leaf : TokenKind) (at : ℕ) (r : Option Piece) → kind ≡ leaf → MatchOption r (IsNoLeaf leaf) (λ p. FindsLeaf leaf at p) → MatchOption r (IsNoLeaf kind) (λ p. FindsLeaf kind at p)
-leaf_same kind leaf at r e h = subst (λ k. MatchOption r (IsNoLeaf k) (λ p. FindsLeaf k at p)) (sym e) h

@@ -97,12 +97,6 @@ tight_first n t us x vs e = next_found (primary_at n (read n) t.kind t.start us)
 tight_fails_at : (n : ℕ) (t : Token) (us : List Token) → primary_at n (read n) t.kind t.start us ≡ None → tight n (read n) (t ∷ us) ≡ None
 tight_fails_at n t us e = next_fails (primary_at n (read n) t.kind t.start us) (λ y ws. postfixed n (read n) t.start y ws) e
 
-pub tight_empty : (n : ℕ) (ts : List Token) → ts ≡ [] → tight n (read n) ts ≡ None
-tight_empty n ts e = (λ i. tight n (read n) (e i))
-
-pub tight_fails : (ts : List Token) (t : Token) (us : List Token) → ts ≡ t ∷ us → FindsNone (λ n. primary_at n (read n) t.kind t.start us) (length us) → FindsNone (λ n. tight n (read n) ts) (length ts - 1)
-tight_fails ts t us e f n m = (λ i. tight n (read n) (e i)) ∙ tight_fails_at n t us (f n (omega (arith, ap length e, m)))
-
 pub tight_begins : (ts : List Token) (t : Token) (us : List Token) (piece : Piece) (vs : List Token) → ts ≡ t ∷ us → Finds (λ n. primary_at n (read n) t.kind t.start us) (length us) (λ x. x) piece vs → length vs ≤ length us → TightSoFar ts t.start piece vs
 tight_begins ts t us piece vs e f l = record {
   tree = f.tree;
@@ -130,9 +124,6 @@ tight_ends ts at piece rest s f = record {
   built = s.built;
 }
 
-pub tight_none : (ts : List Token) → ts ≡ [] → FindsNone (λ n. tight n (read n) ts) (length ts - 1)
-tight_none ts e n m = tight_empty n ts e
-
 -- ---- a leaf or a bracket in front
 pub tight_fails_all : (ts : List Token) → FindsNone (λ n. primary n ts) (length ts - 1) → FindsNone (λ n. tight n (read n) ts) (length ts - 1)
 tight_fails_all [] f n m = refl
@@ -159,10 +150,6 @@ pub unsigned_length : (ts : List Token) → length (unsigned ts) ≤ length ts
 unsigned_length [] = omega arith
 unsigned_length (t ∷ us) = unsigned_by (same_kind t.kind (Sign MINUS)) t us
 
-pub unsigned_plain : (ts : List Token) → begins_with MINUS ts ≡ false → unsigned ts ≡ ts
-unsigned_plain [] e = refl
-unsigned_plain (t ∷ us) e = λ i. cond (e i) us (t ∷ us)
-
 minus_by : (b : Bool) (t u : Token) (us vs : List Token) → cond {A = Option (Token × List Token)} b (Some (t, us)) None ≡ Some (u, vs) → (b ≡ true) × (us ≡ vs) × (t ≡ u)
 minus_by true t u us vs e = let s : (t, us) ≡ (u, vs) = some_same (t, us) (u, vs) e in (refl, (λ i. (s i).1), (λ i. (s i).0))
 minus_by false t u us vs e = cc
@@ -174,9 +161,6 @@ unsigned_minus (t ∷ us) u vs e = let m = minus_by (same_kind t.kind (Sign MINU
 pub start_minus : (ts : List Token) (u : Token) (vs : List Token) → sign MINUS ts ≡ Some (u, vs) → start ts ≡ u.start
 start_minus [] u vs e = cc
 start_minus (t ∷ us) u vs e = let m = minus_by (same_kind t.kind (Sign MINUS)) t u us vs e in (λ i. (m.2 i).start)
-
-pub signed_plain : (ts : List Token) (tree : RawTree) → begins_with MINUS ts ≡ false → with_sign ts tree ≡ (tree, tightest)
-signed_plain ts tree e = λ i. cond (e i) (raw (start ts) (signed (front_kind (unsigned ts)) tree), negated) (tree, tightest)
 
 pub signed_minus : (ts : List Token) (tree : RawTree) (u : Token) (vs : List Token) → begins_with MINUS ts ≡ true → sign MINUS ts ≡ Some (u, vs) → with_sign ts tree ≡ (raw u.start (signed (front_kind vs) tree), negated)
 signed_minus ts tree u vs b e = (λ i. cond (b i) (raw (start_minus ts u vs e i) (signed (front_kind (unsigned_minus ts u vs e i)) tree), negated) (tree, tightest))

@@ -72,13 +72,6 @@ product_none_last ts m x us t vs y ws a b c z = product_more m ts x us t vs a b 
 pub product_some : (ts : List Token) (m : ℕ) (x : WrittenType) (us : List Token) (t : Token) (vs : List Token) (y : WrittenType) (ws : List Token) (u : Token) (xs : List Token) → typed m ts ≡ Some (x, us) → sign TIMES us ≡ Some (t, vs) → typed m vs ≡ Some (y, ws) → sign CLOSE_PAREN ws ≡ Some (u, xs) → product m ts ≡ Some (written_product x y, xs)
 product_some ts m x us t vs y ws u xs a b c z = product_more m ts x us t vs a b ∙ next_found (typed m vs) y ws (λ u ws. next (sign CLOSE_PAREN ws) (λ _ xs. Some (written_product x u, xs))) c ∙ next_found (sign CLOSE_PAREN ws) u xs (λ _ xs. Some (written_product x y, xs)) z
 
--- ---- what begins with POW or a parenthesis
-pub typed_pow : (m : ℕ) (ts : List Token) (t : Token) (us : List Token) (found : Option (WrittenType × List Token)) → ts ≡ t ∷ us → t.kind ≡ Word POW → length ts ≤ m → ((k : ℕ) → length us ≤ k → power k us ≡ found) → typed m ts ≡ found
-typed_pow m ts t us found e k l h = typed_front m ts t us found e l (λ j r. (λ i. type_by j (k i) us) ∙ h j r)
-
-pub typed_paren : (m : ℕ) (ts : List Token) (t : Token) (us : List Token) (found : Option (WrittenType × List Token)) → ts ≡ t ∷ us → t.kind ≡ Sign OPEN_PAREN → length ts ≤ m → ((k : ℕ) → length us ≤ k → product k us ≡ found) → typed m ts ≡ found
-typed_paren m ts t us found e k l h = typed_front m ts t us found e l (λ j r. (λ i. type_by j (k i) us) ∙ h j r)
-
 -- ---- what begins with a name or another word
 pub typed_set : (m : ℕ) (ts : List Token) (t : Token) (us : List Token) (x : List ℕ) → ts ≡ t ∷ us → t.kind ≡ Name x → length ts ≤ m → typed m ts ≡ Some (written_set x, us)
 typed_set m ts t us x e k l = typed_front m ts t us (Some (written_set x, us)) e l (λ j r. (λ i. type_by j (k i) us))

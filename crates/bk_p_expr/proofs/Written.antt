@@ -13,7 +13,7 @@ use Rattle.bk_raw.specs.declared.operator.InfixOp.{InfixOp}
 use Rattle.bk_raw.specs.declared.operator.WordOp.{WordOp}
 use Rattle.bk_raw.specs.declared.operator.Constant.{Constant}
 use Rattle.bk_raw.specs.Reading.{same_kind, first_with, infix_of, word_of, constant_of}
-use Rattle.bk_raw.proofs.WrittenKinds.{infix_of-kind, word_of-kind, constant_of-kind}
+use Rattle.bk_raw.proofs.WrittenKinds.{infix_of-kind}
 
 pub same_kind-is : (k l : TokenKind) → same_kind k l ≡ true → k ≡ l
 same_kind-is (Sign op) (Sign other) e = ap (λ n. Sign n) (eqb-true op other e)
@@ -55,9 +55,6 @@ not_some : {A : Type 0} (r : Option A) → ((x : A) → r ≡ Some x → ⊥) �
 not_some None h = refl
 not_some (Some x) h = absurd (h x refl)
 
-pub infix_of-none : (kind : TokenKind) → ((o : InfixOp) → infix_kind o ≢ kind) → infix_of kind ≡ None
-infix_of-none kind h = not_some (infix_of kind) (λ o e. h o (infix_of-is kind o e))
-
 pub word_of-none : (kind : TokenKind) → ((o : WordOp) → word_kind o ≢ kind) → word_of kind ≡ None
 word_of-none kind h = not_some (word_of kind) (λ o e. h o (word_of-is kind o e))
 
@@ -69,12 +66,6 @@ constant_of_none kind h = constant_of-none kind h
 
 pub infix_of-some : (kind : TokenKind) (o : InfixOp) → infix_kind o ≡ kind → infix_of kind ≡ Some o
 infix_of-some kind o e = (λ i. infix_of (sym e i)) ∙ infix_of-kind o
-
-pub word_of-some : (kind : TokenKind) (o : WordOp) → word_kind o ≡ kind → word_of kind ≡ Some o
-word_of-some kind o e = (λ i. word_of (sym e i)) ∙ word_of-kind o
-
-pub constant_of-some : (kind : TokenKind) (o : Constant) → constant_kind o ≡ kind → constant_of kind ≡ Some o
-constant_of-some kind o e = (λ i. constant_of (sym e i)) ∙ constant_of-kind o
 
 pub not_true : (b : Bool) → (b ≡ true → ⊥) → b ≡ false
 not_true false h = refl

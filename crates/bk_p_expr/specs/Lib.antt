@@ -7,5 +7,4 @@ pub mod Openings
 pub mod PrintedTypes
 pub mod Found
 pub mod Roles
-pub mod Texts
 pub mod Fronts
