@@ -25,9 +25,6 @@ quotient_found tokens ts us rest k g a b c = between_found Digits (Sign DIVIDE) 
 pub quotient_no_first : (tokens : List Token) → Nothing Digits tokens → Nothing Quotient tokens
 quotient_no_first tokens n = between_no_first Digits (Sign DIVIDE) Digits tokens n
 
-pub quotient_no_sign : (tokens ts : List Token) (k : ℕ) → Ahead (Number (pos k)) tokens ts → NotAhead (Sign DIVIDE) ts → Nothing Quotient tokens
-quotient_no_sign tokens ts k a n = between_no_token Digits (Sign DIVIDE) Digits (free_cuts Digits (Begins (Sign DIVIDE)) digits_free) tokens ts k (digits_longest tokens ts k a) n
-
 pub quotient_no_second : (tokens ts us : List Token) (k : ℕ) → Ahead (Number (pos k)) tokens ts → Ahead (Sign DIVIDE) ts us → Nothing Digits us → Nothing Quotient tokens
 quotient_no_second tokens ts us k a b n = between_no_second Digits (Sign DIVIDE) Digits (free_cuts Digits (Begins (Sign DIVIDE)) digits_free) tokens ts us k (digits_longest tokens ts k a) b n
 
@@ -118,9 +115,6 @@ multiple_nothing tokens n = nothing_as Times Multiple tokens n (λ m vs p. ((m.m
 
 pub multiple_no_first : (tokens : List Token) → Nothing (λ z. Literal z 0) tokens → Nothing Multiple tokens
 multiple_no_first tokens n = multiple_nothing tokens (between_no_first (λ z. Literal z 0) (Sign TIMES) Digits tokens n)
-
-pub multiple_no_sign : (tokens ts : List Token) (z : ℤ) → Longest (λ y. Literal y 0) tokens z ts → NotAhead (Sign TIMES) ts → Nothing Multiple tokens
-multiple_no_sign tokens ts z h n = multiple_nothing tokens (between_no_token (λ z. Literal z 0) (Sign TIMES) Digits times_cut tokens ts z h n)
 
 pub multiple_no_second : (tokens ts us : List Token) (z : ℤ) → Longest (λ y. Literal y 0) tokens z ts → Ahead (Sign TIMES) ts us → Nothing Digits us → Nothing Multiple tokens
 multiple_no_second tokens ts us z h b n = multiple_nothing tokens (between_no_second (λ z. Literal z 0) (Sign TIMES) Digits times_cut tokens ts us z h b n)

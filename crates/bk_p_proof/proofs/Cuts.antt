@@ -22,18 +22,6 @@ tail_same x y xs ys e =
     let g : xs ≡ ys = cc in
     (f, g)
 
-nil_tail : (y : Token) (ys zs : List Token) → zs ≡ (y ∷ ys) ++ zs → ⊥
-nil_tail y ys zs e = omega (arith, ap length e, length-append ys zs)
-
-pub front_same : (xs ys zs : List Token) → xs ++ zs ≡ ys ++ zs → xs ≡ ys
-front_same [] [] zs e = refl
-front_same [] (y ∷ ys) zs e = absurd (nil_tail y ys zs e)
-front_same (x ∷ xs) [] zs e = absurd (nil_tail x xs zs (sym e))
-front_same (x ∷ xs) (y ∷ ys) zs e =
-    let s = tail_same x y (xs ++ zs) (ys ++ zs) e in
-    let t = front_same xs ys zs s.1 in
-    λ i. s.0 i ∷ t i
-
 -- ---- cutting
 -- where the longest one is read, and another one is written in front of tokens that such are, that is the same one
 abbrev pub CutsAt : {A : Type 0} → (A → Piece) → (List Token → Type 0) → Type 0
@@ -59,15 +47,6 @@ cuts_less Part P Q c f tokens rest front back x y h e p q = c tokens rest front 
 
 pub begins_halts : (stops : Stopper) (kind : TokenKind) → stepped stops 0 true kind ≡ None → (ts : List Token) → Begins kind ts → Halts (step stops) (0, true) ts
 begins_halts stops kind e ts b = subst (Halts (step stops) (0, true)) (sym b.1.1) (ap (stepped stops 0 true) b.1.2 ∙ e)
-
--- what is of one token is cut anywhere
-pub cuts_single : {A : Type 0} (Part : A → Piece) → ((x : A) (ts : List Token) → Part x ts → (t : Token) × (ts ≡ t ∷ [])) → ((x y : A) (ts : List Token) → Part x ts → Part y ts → x ≡ y) → CutsAt Part Anything
-cuts_single Part single one tokens rest front back x y h e p b =
-    let s = single x h.written h.spelled in
-    let t = single y front p in
-    let both : s.0 ∷ rest ≡ t.0 ∷ back = ap (λ us. us ++ rest) (sym s.1) ∙ sym h.splits ∙ e ∙ ap (λ us. us ++ back) t.1 in
-    let z = tail_same s.0 t.0 rest back both in
-    (one x y h.written h.spelled (subst (Part y) (t.1 ∙ ap (λ u. u ∷ []) (sym z.0) ∙ sym s.1) p), z.1)
 
 -- ---- one behind another
 module _ {A B : Type 0} (First : A → Piece) (Second : B → Piece) where

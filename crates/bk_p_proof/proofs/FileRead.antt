@@ -45,9 +45,6 @@ pub record ScriptsSoFar (tokens : List Token) (kept : List RawScript) (is_high :
   pub spelled : SpellsScripts scripts done
   pub kept_of : AreScripts scripts kept is_high
 
-pub scripts_begin : (tokens : List Token) → ScriptsSoFar tokens [] false tokens
-scripts_begin tokens = record { scripts = []; done = []; splits = refl; spelled = refl; kept_of = (refl, omega (arith)) }
-
 pub scripts_go_on : (tokens rest behind after : List Token) (kept : List RawScript) (s r : RawScript) (b c : Bool) → ScriptsSoFar tokens kept b rest → Longest OpensScript rest s behind → IsScript s r c → Ahead (Name (codes "end")) behind after → ScriptsSoFar tokens (kept ++ r ∷ []) (b || c) after
 scripts_go_on tokens rest behind after kept s r b c f h k a = record {
   scripts = f.scripts ++ s ∷ [];
@@ -56,9 +53,6 @@ scripts_go_on tokens rest behind after kept s r b c f h k a = record {
   spelled = row_last f.scripts s f.done (h.written ++ a.0 ∷ []) f.spelled (h.written, a.0 ∷ [], refl, h.spelled, (a.0, refl, a.2));
   kept_of = scripts_kept f.scripts kept s r b c f.kept_of k;
 }
-
-pub scripts_end : (tokens rest : List Token) (kept : List RawScript) (b : Bool) → ScriptsSoFar tokens kept b rest → rest ≡ [] → (ss : List RawScript) × SpellsScripts ss tokens × AreScripts ss kept b
-scripts_end tokens rest kept b f e = (f.scripts, subst (SpellsScripts f.scripts) (sym (f.splits ∙ ap (λ us. f.done ++ us) e ∙ append-nil f.done)) f.spelled, f.kept_of)
 
 -- ---- no scripts
 abbrev NoScript : List Token → Type 0

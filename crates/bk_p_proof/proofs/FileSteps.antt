@@ -1,18 +1,14 @@
 -- Steps over the files.
 use Rattle.std.specs.Prelude.{◌≡◌, ◌≢◌, ℕ, suc, ◌+◌, ◌<◌, Bool, true, false, List, ◌∷◌, ◌++◌, length, map, take, drop, All, Contains}
 use Rattle.std.specs.List.{AllZip, AllPairs, flat_map}
-use Rattle.std.proofs.Common.{inl, arith, ap, get_or, sym, subst, ◌∙◌}
+use Rattle.std.proofs.Common.{arith, ap, get_or, sym, subst, ◌∙◌}
 use Rattle.std.proofs.lemmas.List.{map-append, length-map}
 use Rattle.std.proofs.lemmas.List.Elements.{All-weaker}
 use Rattle.bk_raw.specs.declared.script.NamePart.{NamePart}
 use Rattle.bk_raw.specs.ScriptTree.{RawScript}
-use Rattle.bk_p_proof.specs.declared.fault.ScriptFault.{ScriptFault}
 use Rattle.bk_p_proof.specs.declared.reading.FileScripts.{FileScripts}
-use Rattle.bk_files.specs.Files.{Has, IsFaultOf as AreFilesAtFault}
-use Rattle.bk_files.specs.declared.fault.FileFault.{FileFault}
-use Rattle.bk_files.specs.declared.fault.FileFault.TheVariants.{Fault as FaultOfFile, Limit as LimitOfFile, Memory as NoMemory}
-use Rattle.bk_p_proof.specs.FilesTold.{of_files}
-use Rattle.bk_p_proof.specs.Files.{IsFaultOf, IsShort, IsWritten, IsLow, IsProofFile, IsHigh, IsLong, IsTwiceNamed, AreScriptsOf, names_of}
+use Rattle.bk_files.specs.Files.{Has}
+use Rattle.bk_p_proof.specs.Files.{IsShort, IsWritten, IsLow, IsProofFile, IsHigh, IsLong, IsTwiceNamed, AreScriptsOf, names_of}
 use Rattle.bk_p_proof.specs.Kept.{AreScripts, file_height, file_names}
 use Rattle.bk_p_proof.specs.Keys.{IsAgain}
 use Rattle.bk_p_proof.specs.Stages.{IsKeptOf, IsLowAs, IsProofFileAs}
@@ -102,9 +98,3 @@ scripts_told texts read all h e d = record {
   joined = e ∙ sym (joined_map (λ f. f.scripts.items) read);
   distinct = subst (λ ss. AllPairs (λ a b. a ≢ b) (names_of ss)) (sym e) d;
 }
-
--- ---- what is told before any script is read
-pub files_told : (texts : List (List ℕ)) (told : FileFault) (fault : ScriptFault) → fault ≡ of_files told → AreFilesAtFault texts told → IsFaultOf texts fault
-files_told texts (FaultOfFile number file place) fault e h = subst (IsFaultOf texts) (sym e) (inl h)
-files_told texts (LimitOfFile number file) fault e h = subst (IsFaultOf texts) (sym e) (inl h)
-files_told texts NoMemory fault e h = subst (IsFaultOf texts) (sym e) tt

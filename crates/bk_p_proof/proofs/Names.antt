@@ -63,12 +63,6 @@ part_longest tokens rest t p e k = record {
   longest = λ y front after f h. omega (arith, ap length (part_free p y (t ∷ []) front rest after (sym e ∙ f) (part_by t.kind p t k refl) h).1);
 }
 
-pub part_nothing : (tokens rest : List Token) (t : Token) → tokens ≡ t ∷ rest → part_named t.kind ≡ None → Nothing PartNamed tokens
-part_nothing tokens rest t e k y front after f h =
-    let n = part_back y front h in
-    let z = tail_same t n.0 rest after (sym e ∙ f ∙ ap (λ us. us ++ after) n.1) in
-    none_some y (sym k ∙ ap (λ u. part_named u.kind) z.0 ∙ n.2)
-
 -- ---- names
 part_cut : CutsAt PartNamed (Begins (Sign DOT))
 part_cut = free_cuts PartNamed (Begins (Sign DOT)) part_free

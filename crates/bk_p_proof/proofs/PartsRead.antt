@@ -65,26 +65,7 @@ cut_here one_law one_place (i ∷ ks) s = absurd s
 cut_here one_law _ ks s = absurd s
 cut_here _ j ks s = absurd s
 
--- the others are such parts too
-pub shape_tail : (k : PartKind) (ks : List PartKind) → IsShape (k ∷ ks) → IsShape ks
-shape_tail k [] s = tt
-shape_tail one_number (j ∷ ks) s = s
-shape_tail one_law (one_place ∷ []) s = tt
-shape_tail one_law (one_place ∷ i ∷ ks) s = absurd s
-shape_tail one_law (_ ∷ ks) s = absurd s
-shape_tail _ (j ∷ ks) s = absurd s
-
 -- ---- parts
-pub no_parts : (tokens : List Token) → Longest (Ruled []) tokens [] tokens
-no_parts tokens = record { written = []; splits = refl; spelled = refl; longest = longest }
-  where
-    longest : (other : List RulePart) (front after : List Token) → tokens ≡ front ++ after → Ruled [] other front → length tokens ≤ length after
-    longest [] front after e k = omega (arith, ap length (e ∙ ap (λ us. us ++ after) k))
-    longest (x ∷ xs) front after e k = absurd k
-
-pub no_first_part : (k : PartKind) (ks : List PartKind) (tokens : List Token) → Nothing (Spelled k) tokens → Nothing (Ruled (k ∷ ks)) tokens
-no_first_part k ks tokens n [] front after e p = p
-no_first_part k ks tokens n (q ∷ qs) front after e p = n q p.0 (p.1 ++ after) (e ∙ ap (λ us. us ++ after) p.2 ∙ append_assoc p.0 p.1 after) p.3
 
 parts_longest : (k : PartKind) (ks : List PartKind) → IsShape (k ∷ ks) → (tokens ts rest : List Token) (x : RulePart) (xs : List RulePart) → Longest (Spelled k) tokens x ts → Longest (Ruled ks) ts xs rest → (other : List RulePart) (front after : List Token) → tokens ≡ front ++ after → Ruled (k ∷ ks) other front → length rest ≤ length after
 parts_longest k ks s tokens ts rest x xs h g [] front after e p = absurd p
@@ -120,9 +101,6 @@ parts_kept x y xs ys true c h g =
     let n = names_kept part_height part_names x y true h in
     let m = names_kept parts_height parts_names xs ys c g in
     ((λ i. n i ++ m i), omega (arith, h.1))
-
-pub none_kept : AreParts [] [] false
-none_kept = (refl, omega (arith))
 
 -- ---- a first kind, and the others
 take_all : (ks : List Asked) → take (length ks) ks ≡ ks

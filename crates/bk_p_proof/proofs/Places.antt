@@ -11,7 +11,7 @@ use Rattle.bk_raw.proofs.Steps.{Piece}
 use Rattle.bk_raw.proofs.Patterns.{first}
 use Rattle.bk_raw.proofs.PartOne.{texts-same}
 use Rattle.bk_p_expr.specs.Fronts.{Longest, Nothing}
-use Rattle.bk_p_proof.specs.Ahead.{Ahead, NotAhead}
+use Rattle.bk_p_proof.specs.Ahead.{Ahead}
 use Rattle.bk_p_proof.proofs.Cuts.{IsPrefixFree, Anything, Both, both_longest, first_nothing, free_cuts, token_longest, token_nothing, tail_same}
 use Rattle.bk_p_proof.proofs.Tokens.{digits_free, digits_longest}
 
@@ -88,14 +88,6 @@ place_hypothesis tokens ts us rest i path a b h =
     longest : Longest (λ (q : ℕ × List ℕ). Just (Name (codes "hyp")) ⌢ Digits q.0 ⌢ InRow Digits q.1) tokens (i, path) rest → (p : RawPlace) (front after : List Token) → tokens ≡ front ++ after → Place p front → length rest ≤ length after
     longest k (in_goal q) front after e p = absurd (goal_hyp (sym (first_kinds (Name (codes "hyp")) (Name (codes "goal")) (InRow Digits q) tokens ts front after a e p)))
     longest k (in_hypothesis j q) front after e p = k.longest (j, q) front after e p
-
-pub place_none : (tokens : List Token) → NotAhead (Name (codes "goal")) tokens → NotAhead (Name (codes "hyp")) tokens → Nothing Place tokens
-place_none tokens n m (in_goal q) front after e p =
-    let f = first (Name (codes "goal")) (InRow Digits q) front p in
-    n f.token (f.rest ++ after) (e ∙ ap (λ us. us ++ after) f.is) f.same
-place_none tokens n m (in_hypothesis i q) front after e p =
-    let f = first (Name (codes "hyp")) (Digits i ⌢ InRow Digits q) front p in
-    m f.token (f.rest ++ after) (e ∙ ap (λ us. us ++ after) f.is) f.same
 
 pub place_no_number : (tokens ts : List Token) → Ahead (Name (codes "hyp")) tokens ts → Nothing Digits ts → Nothing Place tokens
 place_no_number tokens ts a n (in_goal q) front after e p = goal_hyp (sym (first_kinds (Name (codes "hyp")) (Name (codes "goal")) (InRow Digits q) tokens ts front after a e p))

@@ -4,7 +4,7 @@ use Rattle.std.specs.Str.{bytes_eq}
 use Rattle.std.proofs.Common.{sym, ◌∙◌, ap}
 use Rattle.std.proofs.lemmas.Slice.Eq.{bytes_eq-Decides}
 use Rattle.bk_form.specs.declared.token.TokenKind.{TokenKind}
-use Rattle.bk_form.specs.declared.token.TokenKind.TheVariants.{Name, LevelName, BoundName, Number, Sign, Word}
+use Rattle.bk_form.specs.declared.token.TokenKind.TheVariants.{Name, Word}
 use Rattle.bk_ops.specs.declared.word.TheConstants.{OR, NOT}
 use Rattle.bk_raw.specs.declared.script.RuleWord.{RuleWord}
 use Rattle.bk_raw.specs.declared.script.RuleWord.TheVariants.{Hyp, Not, Or}
@@ -49,9 +49,6 @@ in_second a b c d text w n e = first_here (a ++ b ++ c) d text w (first_here (a 
 in_third : (a b c d : Entries) (text : List ℕ) (w : RuleWord) → first_named a text ≡ None → first_named b text ≡ None → first_named c text ≡ Some w → first_named (a ++ b ++ c ++ d) text ≡ Some w
 in_third a b c d text w n m e = first_here (a ++ b ++ c) d text w (first_more (a ++ b) c text (first_more a b text n ∙ m) ∙ e)
 
-in_fourth : (a b c d : Entries) (text : List ℕ) → first_named a text ≡ None → first_named b text ≡ None → first_named c text ≡ None → first_named (a ++ b ++ c ++ d) text ≡ first_named d text
-in_fourth a b c d text n m o = first_more (a ++ b ++ c) d text (first_more (a ++ b) c text (first_more a b text n ∙ m) ∙ o)
-
 pub named_first : (text : List ℕ) (w : RuleWord) → first_named propositions text ≡ Some w → named_rule text ≡ Some w
 named_first text w e = in_first propositions hypotheses rewritings arithmetic text w e
 
@@ -60,9 +57,6 @@ named_second text w n e = in_second propositions hypotheses rewritings arithmeti
 
 pub named_third : (text : List ℕ) (w : RuleWord) → first_named propositions text ≡ None → first_named hypotheses text ≡ None → first_named rewritings text ≡ Some w → named_rule text ≡ Some w
 named_third text w n m e = in_third propositions hypotheses rewritings arithmetic text w n m e
-
-pub named_fourth : (text : List ℕ) → first_named propositions text ≡ None → first_named hypotheses text ≡ None → first_named rewritings text ≡ None → named_rule text ≡ first_named arithmetic text
-named_fourth text n m o = in_fourth propositions hypotheses rewritings arithmetic text n m o
 
 -- ---- the word of a rule
 abbrev AreNamed : Entries → Type 0
@@ -98,18 +92,6 @@ rule_named kind text w k e = first_sound (propositions ++ hypotheses ++ rewritin
 
 pub no_rule_named : (kind : TokenKind) (text : List ℕ) → kind ≡ Name text → named_rule text ≡ None → (w : RuleWord) → rule_kind w ≡ kind → ⊥
 no_rule_named kind text k e = no_rule kind (ap rule_by k ∙ e)
-
-pub no_rule_word : (kind : TokenKind) (n : ℕ) → kind ≡ Word n → nat_eq n NOT ≡ false → nat_eq n OR ≡ false → (w : RuleWord) → rule_kind w ≡ kind → ⊥
-no_rule_word kind n k a b = no_rule kind (ap rule_by k ∙ (λ i. cond (a i) (Some Not) (cond (b i) (Some Or) None)))
-
--- neither a name nor a word
-pub no_rule_kind : (kind : TokenKind) → ((x : List ℕ) → kind ≡ Name x → ⊥) → ((n : ℕ) → kind ≡ Word n → ⊥) → (w : RuleWord) → rule_kind w ≡ kind → ⊥
-no_rule_kind (Name x) n m w e = n x refl
-no_rule_kind (Word x) n m w e = m x refl
-no_rule_kind (LevelName x k) n m w e = no_rule (LevelName x k) refl w e
-no_rule_kind (BoundName k) n m w e = no_rule (BoundName k) refl w e
-no_rule_kind (Number z) n m w e = no_rule (Number z) refl w e
-no_rule_kind (Sign op) n m w e = no_rule (Sign op) refl w e
 
 pub named_found : (kind : TokenKind) (text : List ℕ) (o : Option RuleWord) → kind ≡ Name text → o ≡ named_rule text → MatchOption o ((w : RuleWord) → rule_kind w ≡ kind → ⊥) (λ w. rule_kind w ≡ kind)
 named_found kind text None k e = no_rule_named kind text k (sym e)

@@ -1,12 +1,12 @@
 -- A rule in front of tokens: its word, and its parts.
 use Rattle.std.specs.Prelude.{◌≡◌, ℕ, ◌≤◌, Bool, true, false, List, [], ◌∷◌, ◌++◌, length, refl}
-use Rattle.std.proofs.Common.{arith, sym, ◌∙◌, ap, subst}
+use Rattle.std.proofs.Common.{sym, ◌∙◌, ap, subst}
 use Rattle.bk_form.specs.declared.token.Token.{Token}
 use Rattle.bk_raw.specs.declared.script.RuleWord.{RuleWord}
 use Rattle.bk_raw.specs.ScriptTree.{rule_kind, shape_of, RulePart, RawRule}
 use Rattle.bk_raw.specs.ScriptSpelling.{Ruled, Rule}
 use Rattle.bk_raw.proofs.RuleOne.{word-same}
-use Rattle.bk_p_expr.specs.Fronts.{Longest, Nothing}
+use Rattle.bk_p_expr.specs.Fronts.{Longest}
 use Rattle.bk_p_proof.specs.Kept.{AreParts, IsRule}
 use Rattle.bk_p_proof.proofs.Cuts.{tail_same}
 
@@ -22,22 +22,6 @@ begun tokens behind t r front after i e p =
     let d = p.3 in
     let s = tail_same t d.0 behind (p.1 ++ after) (sym i ∙ e ∙ ap (λ us. us ++ after) (p.2 ∙ ap (λ us. us ++ p.1) d.1)) in
     record { same = ap (λ u. u.kind) s.0 ∙ d.2; back = p.1; splits = s.1; spelled = p.4 }
-
-pub no_rule_empty : (tokens : List Token) → tokens ≡ [] → Nothing Rule tokens
-no_rule_empty tokens i r front after e p =
-    let d = p.3 in
-    omega (arith, ap length (sym i ∙ e ∙ ap (λ us. us ++ after) (p.2 ∙ ap (λ us. us ++ p.1) d.1)))
-
-pub no_rule_word_here : (tokens behind : List Token) (t : Token) → tokens ≡ t ∷ behind → ((w : RuleWord) → rule_kind w ≡ t.kind → ⊥) → Nothing Rule tokens
-no_rule_word_here tokens behind t i n r front after e p =
-    let b = begun tokens behind t r front after i e p in
-    n r.word (sym b.same)
-
-pub no_rule_parts : (tokens behind : List Token) (t : Token) (w : RuleWord) → tokens ≡ t ∷ behind → rule_kind w ≡ t.kind → Nothing (Ruled (shape_of w)) behind → Nothing Rule tokens
-no_rule_parts tokens behind t w i k n r front after e p =
-    let b = begun tokens behind t r front after i e p in
-    let s = word-same r.word w (sym b.same ∙ sym k) in
-    n r.parts b.back after b.splits (subst (λ x. Ruled (shape_of x) r.parts b.back) s b.spelled)
 
 pub rule_found : (tokens behind rest : List Token) (t : Token) (w : RuleWord) (xs : List RulePart) → tokens ≡ t ∷ behind → rule_kind w ≡ t.kind → Longest (Ruled (shape_of w)) behind xs rest → Longest Rule tokens (record { word = w; at = t.start; parts = xs }) rest
 rule_found tokens behind rest t w xs i k h = record {

@@ -105,9 +105,6 @@ rules_end tokens rest qs b s n = (s.rules, any_longest Rule SEMICOLON tokens res
 pub rules_end_before : (tokens rest more : List Token) (qs : List RawRule) (b : Bool) → RulesSoFar tokens qs b rest → Ahead (Sign SEMICOLON) rest more → Nothing Rule more → RulesRead tokens qs b rest
 rules_end_before tokens rest more qs b s a n = (s.rules, any_longest Rule SEMICOLON tokens rest s.rules (row_ends_before Rule SEMICOLON rule_here tokens rest more s.rules s.row a n) s.row.shorter, s.kept_of)
 
-pub rules_shorter : (tokens rest : List Token) (qs : List RawRule) (b : Bool) → RulesSoFar tokens qs b rest → length rest ≤ length tokens
-rules_shorter tokens rest qs b s = omega (arith, s.row.shorter)
-
 -- ---- a script but for its end
 abbrev Named : List NamePart → Piece
 Named = Divided DOT PartNamed
@@ -149,16 +146,6 @@ opened tokens behind t s front after i e p =
     let z = tail_same t d.0 behind (p.1 ++ after) (sym i ∙ e ∙ ap (λ us. us ++ after) (p.2 ∙ ap (λ us. us ++ p.1) d.1)) in
     let n = b.3 in
     record { same = ap (λ u. u.kind) z.0 ∙ d.2; front = b.0; back = b.1; splits = z.1 ∙ ap (λ us. us ++ after) b.2 ∙ append_assoc b.0 b.1 after; named = n.4; ruled = b.4 }
-
-pub no_script_word : (tokens : List Token) → NotAhead (Name (codes "proof")) tokens → Nothing OpensScript tokens
-no_script_word tokens n s front after e p =
-    let d = p.3 in
-    n d.0 (p.1 ++ after) (e ∙ ap (λ us. us ++ after) (p.2 ∙ ap (λ us. us ++ p.1) d.1)) d.2
-
-pub no_script_name : (tokens behind : List Token) → Ahead (Name (codes "proof")) tokens behind → Nothing (Divided DOT PartNamed) behind → Nothing OpensScript tokens
-no_script_name tokens behind a n s front after e p =
-    let o = opened tokens behind a.0 s front after a.1 e p in
-    n s.name o.front (o.back ++ after) o.splits o.named
 
 script_longest : (tokens behind ts rest : List Token) (name : List NamePart) (rs : List RawRule) → Ahead (Name (codes "proof")) tokens behind → Longest Named behind name ts → Longest AnyRules ts rs rest → (s : RawScript) (front after : List Token) → tokens ≡ front ++ after → OpensScript s front → length rest ≤ length after
 script_longest tokens behind ts rest name rs a h g s front after e p = by_rules s.rules o.ruled

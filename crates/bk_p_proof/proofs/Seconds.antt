@@ -5,7 +5,7 @@ use Rattle.std.specs.Str.{bytes_eq}
 use Rattle.std.specs.Cmp.Lexicographic.{bytes_decides, nat_list_eq_equiv}
 use Rattle.std.proofs.Common.{inl, inr, ⊎_elim, arith, sym, ◌∙◌, ap, subst, is_some, true≢false, if◌then◌else◌}
 use Rattle.std.proofs.lemmas.List.{map-append, length-map, length-append, get_or-map, take_more, take_all, drop_more, take-append-drop}
-use Rattle.std.proofs.lemmas.List.Elements.{All-nil, All-push, All-more, All-weaker, All-contains, Contains-get_or, Contains-append_left, Contains-push, Contains-push_cases}
+use Rattle.std.proofs.lemmas.List.Elements.{All-push, All-more, All-weaker, All-contains, Contains-get_or, Contains-append_left, Contains-push, Contains-push_cases}
 use Rattle.std.proofs.lemmas.List.Quantifiers.{position-Some}
 use Rattle.std.proofs.lemmas.Map.Views.{list_any-from_Contains}
 use Rattle.indexmap.specs.IndexSet.{insert_key}
@@ -38,15 +38,6 @@ pub record Holders (done : List RawTyped) (texts : List (List ℕ)) (first : Lis
   pub agree : (z y : RawTyped) → Contains first z → Contains done y → z.name.text ≡ y.name.text → z.ty ≡ y.ty
   pub told : (y : RawTyped) → Contains done y → Contains texts y.name.text
   pub one_type : AreOfOneType done
-
-none_seen : Holders [] [] []
-none_seen = record {
-  named = refl;
-  among = All-nil (Contains []);
-  agree = λ z y c. absurd (omega (arith, c.1));
-  told = λ y c. absurd (omega (arith, c.1));
-  one_type = λ before after x e. absurd (omega (arith, ap length e, length-append before (x ∷ after)));
-}
 
 -- a name that was seen, with its type
 seen_again : (done : List RawTyped) (texts : List (List ℕ)) (first : List RawTyped) (x known : RawTyped) → Holders done texts first → Contains first known → known.name.text ≡ x.name.text → known.ty ≡ x.ty → Holders (done ++ x ∷ []) texts first
@@ -82,9 +73,6 @@ module _ {K R : Type 0} (f : K → List ℕ) (now : R → RawTyped) where
   -- the first k of the names have been seen
   abbrev pub Seen : List R → ℕ → List K → List R → Type 0
   Seen names k keys first = Holders (map now (take k names)) (map f keys) (map now first)
-
-  pub seen_none : (names : List R) → Seen names 0 [] []
-  seen_none names = none_seen
 
   one_further : (names : List R) (k : ℕ) (x : R) → k < length names → x ≡ get_or names k x → map now (take (k + 1) names) ≡ map now (take k names) ++ now x ∷ []
   one_further names k x l e = ap (map now) (take_more names k x l) ∙ map-append now (take k names) (get_or names k x ∷ []) ∙ ap (λ y. map now (take k names) ++ now y ∷ []) (sym e)
