@@ -18,9 +18,6 @@ use Rattle.bk_p_expr.specs.Fronts.{Longest, Nothing}
 use Rattle.bk_p_sub.specs.Longest.{Left}
 use Rattle.bk_p_sub.specs.Found.{Atom}
 
-abbrev pub node_of : SubTree → SubNode
-node_of (sub at u) = u
-
 -- ---- the number that tells an atom
 pub lead_by_front : (kind : TokenKind) (n m : ℕ) → (lead_by kind n ≡ 0 → ⊥) → ((n ≡ 0 → ⊥) → m ≡ n) → lead_by kind m ≡ lead_by kind n
 lead_by_front (Name x) n m h f = f h

@@ -106,9 +106,6 @@ names_not_before op tokens rest xs h n = not_before is_names Names of_names kind
 pub before_there : {A : Type 0} (Thing : A → Piece) (ahead : TokenKind) (tokens after rest : List Token) (x : A) → Longest Thing tokens x after → Ahead ahead after rest → Before Thing ahead tokens x rest
 before_there Thing ahead tokens after rest x h a = record { sign = a.0; same = a.2; found = subst (Longest Thing tokens x) a.1 h }
 
-pub ahead_shorter : (kind : TokenKind) (tokens rest : List Token) → Ahead kind tokens rest → length rest < length tokens
-ahead_shorter kind tokens rest a = omega (arith, ap length a.1)
-
 -- ---- terms
 -- as far as terms are read
 pub record TermsSoFar (tokens : List Token) (all : Built) (rest : List Token) : Type 0 where

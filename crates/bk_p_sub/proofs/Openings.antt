@@ -17,14 +17,13 @@ use Rattle.bk_raw.proofs.Exact.{one_for_its_tokens}
 use Rattle.bk_raw.proofs.Steps.{Piece, Stopper, stepped, Leads}
 use Rattle.bk_raw.proofs.TermRuns.{ends_term, ends_names, term, all-names, one-declared}
 use Rattle.bk_raw.proofs.Patterns.{Shape, last_token, token_and, part_and}
-use Rattle.bk_raw.proofs.SubParts.{ends_list, Part, of_name, of_names, of_term, of_sub, of_branches, of_choices, SubPartKind, is_name, is_names, is_term, is_sub, is_branches, is_choices, Written, shape_at, tag, parts, back}
-use Rattle.bk_raw.proofs.SubRuns.{sub-leads}
+use Rattle.bk_raw.proofs.SubParts.{Part, of_name, of_names, of_term, of_sub, of_branches, of_choices, SubPartKind, is_name, is_names, is_term, is_sub, is_branches, is_choices, Written, shape_at, tag, parts, back}
 use Rattle.bk_raw.proofs.SubLeads.{lead, lead_by}
-use Rattle.bk_raw.proofs.SubOne.{one-name, one-names, one-sub}
+use Rattle.bk_raw.proofs.SubOne.{one-name, one-names}
 use Rattle.bk_p_expr.specs.Fronts.{Longest, Nothing}
 use Rattle.bk_p_sub.specs.Longest.{Left}
 use Rattle.bk_p_sub.specs.Found.{Atom, Before, BranchesEnd, ChoicesEnd, LoopEnd}
-use Rattle.bk_p_sub.proofs.Steps.{longest_token, StopsOn, stops_on_just, stops_on_last, left_whole, left_part, left_token, left_nothing, cut_off}
+use Rattle.bk_p_sub.proofs.Steps.{longest_token, stops_on_just, stops_on_last, left_whole, left_part, left_token, left_nothing, cut_off}
 use Rattle.bk_p_sub.proofs.Rows.{longest_as}
 use Rattle.bk_p_sub.proofs.Atoms.{Shapes, ShapeOf, atom_there, shape_nothing, shape_longest, shape_left}
 
@@ -62,9 +61,6 @@ kind_names = record { stops = ends_names; leads = all-names; one = one-names; kn
 abbrev pub kind_name : Kind is_name Declared of_name
 kind_name = record { stops = ends_names; leads = one-declared; one = one-name; known = name_known; there = λ x ts h. h }
 
-abbrev pub kind_sub : Kind is_sub (λ s. Sub s 0) of_sub
-kind_sub = record { stops = ends_list; leads = λ s. sub-leads s 0; one = λ s t ts h k. one-sub s 0 t ts h k; known = subs_known; there = λ x ts h. h }
-
 -- a part and what stands behind it
 split_shape : {A : Type 0} (k : SubPartKind) (Thing : A → Piece) (of : A → Part) → Kind k Thing of → (shape : Shape SubPartKind) (ps : List Part) (ts : List Token) → ShapeOf (part_and k shape) ps ts → (x : A) × (qs : List Part) × (ps ≡ of x ∷ qs) × (Thing x ⌢ ShapeOf shape qs) ts
 split_shape k Thing of kind shape [] ts h = absurd h
@@ -74,10 +70,6 @@ split_shape k Thing of kind shape (p ∷ ps) ts h =
 
 join_shape : {A : Type 0} (k : SubPartKind) (Thing : A → Piece) (of : A → Part) → Kind k Thing of → (shape : Shape SubPartKind) (x : A) (qs : List Part) (ts : List Token) → (Thing x ⌢ ShapeOf shape qs) ts → ShapeOf (part_and k shape) (of x ∷ qs) ts
 join_shape k Thing of kind shape x qs ts h = (h.0, h.1, h.2, kind.there x h.0 h.3, h.4)
-
-stops_last : (stops : Stopper) (kind : TokenKind) → stepped stops 0 true kind ≡ None → StopsOn stops (ShapeOf (last_token kind))
-stops_last stops kind e [] back after h = stops_on_last {B = List Part} stops kind e [] back after h
-stops_last stops kind e (p ∷ ps) back after h = absurd h
 
 -- the longest part is read, where a token stands behind it that halts it
 pub shape_part : {A : Type 0} (k : SubPartKind) (Thing : A → Piece) (of : A → Part) (kind : Kind k Thing of) (ahead : TokenKind) (shape : Shape SubPartKind) → stepped kind.stops 0 true ahead ≡ None → (op : ℕ) (tokens ts rest : List Token) (make : List Part → List Part) (x : A) → Left (Shapes op) tokens (ShapeOf (part_and k (token_and ahead shape))) ts make → Longest Thing ts x rest → Left (Shapes op) tokens (ShapeOf (token_and ahead shape)) rest (λ ps. make (of x ∷ ps))
