@@ -1,7 +1,6 @@
 -- Where the obligations of a development are valid, the machine keeps its invariant, each level carries the one above, the constants' values
 -- meet the properties, and what is stated is defined.
 use Rattle.std.proofs.Common.{◌≡◌, ◌<◌, ◌≤◌, ℕ, zero, suc, List, [], ◌∷◌, ◌++◌, map, take, length, refl, sym, ◌∙◌, ap, subst, Bool, true, false, cond, nat_eq, nat_lt, arith}
-use Rattle.std.specs.Prelude.{slice_index_or}
 use Rattle.std.specs.List.{filter, flat_map}
 use Rattle.std.proofs.lemmas.Bool.Decides.{nat_tests}
 use Rattle.bk_val.specs.CmpLaws.{same_value}
@@ -85,12 +84,6 @@ machine-kind Implementation h = absurd (let less : 0 < 0 = h in omega (arith, le
 no-links : (find : Finder) (dev : Development) (e : State) (ls : List (ℕ × ℕ)) → Each (IsLink dev 0) ls → AllHold find (at_state dev.table e) (map equation ls)
 no-links find dev e [] h = tt
 no-links find dev e (l ∷ ls) h = absurd (let same : 0 ≡ suc h.0.above.0 = h.0.above.1 in omega (arith, same))
-
-each-take : {A : Type 0} (P : A → Type 0) (n : ℕ) (xs : List A) (k : ℕ) (d : A) → k < n → k < length xs → Each P (take n xs) → P (slice_index_or xs k d)
-each-take {A} P zero xs k d p q h = absurd (omega (arith, p))
-each-take {A} P (suc n) [] k d p q h = absurd (omega (arith, q))
-each-take {A} P (suc n) (x ∷ xs) zero d p q h = h.0
-each-take {A} P (suc n) (x ∷ xs) (suc k) d p q h = each-take P n xs k d (omega (arith, p)) (omega (arith, q)) h.1
 
 values-typed : (dev : Development) (ps : List (ℕ × Formula)) → Each (IsValue dev) ps → AreTypedTerms dev.table ps
 values-typed dev [] h = tt

@@ -122,10 +122,6 @@ last_arrays dev f k h i = by_test (nat_lt (suc k) (length dev.levels)) refl
         let same : last dev ≡ k = omega (arith, few, h) in
         ap (arrays_at dev) same
 
--- at an implementation they are there
-pub implementation_arrays : (dev : Development) (k : ℕ) → is_implementation (level_at dev k) ≡ true → arrays_at dev k ≡ Some (arrays_of dev)
-implementation_arrays dev k h = ap (λ b. cond b (Some (arrays_of dev)) None) h
-
 pub no_arrays : (dev : Development) (k : ℕ) → is_implementation (level_at dev k) ≡ false → arrays_at dev k ≡ None
 no_arrays dev k h = ap (λ b. cond b (Some (arrays_of dev)) None) h
 

@@ -1,5 +1,5 @@
 -- The goal that joins two levels: it is a predicate, and what it names.
-use Rattle.std.proofs.Common.{◌≡◌, ◌⊎◌, inl, inr, ℕ, List, [], ◌∷◌, map, sym, ◌∙◌, subst, Bool, true, false, not, cond, nat_eq}
+use Rattle.std.proofs.Common.{◌≡◌, ◌⊎◌, inl, inr, ℕ, List, [], ◌∷◌, map, sym, subst, Bool, true, false, not, cond, nat_eq}
 use Rattle.std.specs.List.{filter}
 use Rattle.bk_form.specs.Table.{Table}
 use Rattle.bk_form.specs.Formula.{Formula, binary}
@@ -11,18 +11,13 @@ use Rattle.bk_form.specs.Predicates.{IsPredicate, equation}
 use Rattle.bk_gsl.proofs.States.{nat_eq-same, nat_eq-self}
 use Rattle.bk_dev.specs.Development.{Level, is_btrue}
 use Rattle.bk_form.specs.Each.{Each}
-use Rattle.bk_dev.specs.Facts.{AreAlike, AllAlike}
+use Rattle.bk_dev.specs.Facts.{AreAlike}
 use Rattle.bk_dev.specs.Claims.{beside}
 use Rattle.bk_po.specs.Obligations.{joined_onto, joined_all, conjunction, joined_goal}
 use Rattle.bk_po.proofs.Predicates.{conjunction-predicate, links-predicate}
 
 -- ---- it is a predicate
 module _ (table : Table) where
-  pub beside-alike : (xs ys zs : List ℕ) → AllAlike table xs zs → AllAlike table ys zs → Each (λ p. AreAlike table p.0 p.1) (beside xs ys)
-  beside-alike [] ys zs h k = tt
-  beside-alike (x ∷ xs) [] zs h k = tt
-  beside-alike (x ∷ xs) (y ∷ ys) [] h k = absurd h
-  beside-alike (x ∷ xs) (y ∷ ys) (z ∷ zs) h k = ((h.0.0, h.0.1, k.0.1 ∙ sym k.0.2 ∙ h.0.2), beside-alike xs ys zs h.1 k.1)
 
   pub joined_goal-predicate : (l : Level) (outputs above : List ℕ) → IsPredicate table l.invariant → Each (λ p. AreAlike table p.0 p.1) l.links → Each (λ p. AreAlike table p.0 p.1) (beside outputs above) → IsPredicate table (joined_goal l outputs above)
   joined_goal-predicate l outputs above h k m =
