@@ -1,8 +1,7 @@
 -- Levels, one below the other.
-use Rattle.std.specs.Prelude.{◌≡◌, ◌<◌, ◌≤◌, ◌+◌, ℕ, suc, Bool, true, false, List, [], ◌∷◌, ◌++◌, length, take, drop, All, Option, None, Some, is_some, refl}
+use Rattle.std.specs.Prelude.{◌≡◌, ◌<◌, ◌+◌, ℕ, suc, Bool, true, false, List, [], ◌∷◌, ◌++◌, length, take, drop, All, Option, None, Some, is_some, refl}
 use Rattle.std.proofs.Common.{inl, inr, arith, ap, get_or, sym, subst, ◌∙◌}
 use Rattle.std.proofs.lemmas.Bool.{false≢true}
-use Rattle.std.proofs.lemmas.List.{take_all}
 use Rattle.std.proofs.lemmas.Slice.Zip.{AllZip-long}
 use Rattle.bk_dev.specs.B0.{IsB0Development}
 use Rattle.bk_dev.specs.Development.{Development, int_max, is_complete, is_implementing, is_implementation, level_at, last, blank_level}
@@ -27,7 +26,7 @@ use Rattle.bk_project.specs.declared.refusal.Refusal.{Refusal}
 use Rattle.bk_project.specs.declared.refusal.Refusal.TheVariants.{Fault, Limit, Memory}
 use Rattle.bk_project.specs.Chain.{is_for}
 use Rattle.bk_project.specs.ProjectFile.{IsChain}
-use Rattle.bk_project.specs.Project.{DeclaresFew, AreChained, AreLevels, IsLow, Reads, IsRefusalOf}
+use Rattle.bk_project.specs.Project.{DeclaresFew, AreChained, AreLevels, IsLow, IsRefusalOf}
 use Rattle.bk_project.specs.Stages.{IsNextRefusal}
 use Rattle.bk_project.proofs.ProjectFiles.{last_of, goes_on, all_go_on, right_goes_on, last_push, and_front, and_back}
 use Rattle.bk_project.proofs.Steps.{at_kind, of_kind}
@@ -189,6 +188,3 @@ level_refused kinds texts cs i c above (Fault number told place) chained few l e
     (i, h.0, inr (inr (inr (cs, chained, few, record { before = take i cs; component = c; after = drop (suc i) cs; splits = split_at cs i c l e; counted = length_front cs i l; above = above; levels = levels; told = h.1 }))))
 level_refused kinds texts cs i c above (Limit number told) chained few l e levels h = absurd h
 level_refused kinds texts cs i c above Memory chained few l e levels h = tt
-
-pub all_levels_read : (kinds : List LineKind) (texts : List (List ℕ)) (cs : List RawComponent) (n : ℕ) (dev : Development) → AreChained kinds texts cs → All DeclaresFew cs → length cs ≤ n → LevelsSoFar kinds cs n dev → Reads kinds texts dev
-all_levels_read kinds texts cs n dev chained few l so = record { components = cs; chained = chained; few = few; levels = subst (λ us. AreLevels None us (Some dev)) (take_all n cs l) so.levels }

@@ -214,27 +214,11 @@ pub record ReadSoFar (text rest : List ℕ) (number : ℕ) (named : List Project
   pub right : all_go_on None (kinds_of named) ≡ true
   pub last_is : last ≡ last_of None (kinds_of named)
 
-pub none_read : (text : List ℕ) → ReadSoFar text text 1 [] None
-none_read text = record { front = []; splits = refl; counted = refl; short = omega arith; written = tt; right = refl; last_is = refl }
-
 front_more : (text rest after line : List ℕ) (front : List (List ℕ)) → lines text ≡ front ++ lines rest → lines rest ≡ line ∷ lines after → lines text ≡ (front ++ line ∷ []) ++ lines after
 front_more text rest after line front s e = s ∙ ap (λ ls. front ++ ls) e ∙ sym (append_assoc front (line ∷ []) (lines after))
 
 counted_more : (front : List (List ℕ)) (line : List ℕ) (number : ℕ) → suc (length front) ≡ number → suc (length (front ++ line ∷ [])) ≡ number + 1
 counted_more front line number e = omega (arith, e, length-append front (line ∷ []))
-
-pub one_skipped : (text rest after line : List ℕ) (number : ℕ) (named : List ProjectLine) (last : Option LineKind) → ReadSoFar text rest number named last → lines rest ≡ line ∷ lines after → length after < length rest → is_skipped line ≡ true → ReadSoFar text after (number + 1) named last
-one_skipped text rest after line number named last h e less skipped =
-    let same : kept_of (h.front ++ line ∷ []) ≡ kept_of h.front = kept_join h.front (line ∷ []) ∙ ap (λ ls. kept_of h.front ++ ls) (kept_none line skipped) ∙ append-nil (kept_of h.front) in
-    record {
-      front = h.front ++ line ∷ [];
-      splits = front_more text rest after line h.front h.splits e;
-      counted = counted_more h.front line number h.counted;
-      short = omega (arith, less, h.short);
-      written = subst (λ ls. AllZip IsProjectLine ls named) (sym same) h.written;
-      right = h.right;
-      last_is = h.last_is;
-    }
 
 pub one_more : (text rest after line : List ℕ) (number : ℕ) (named more : List ProjectLine) (l : ProjectLine) (last : Option LineKind) → ReadSoFar text rest number named last → lines rest ≡ line ∷ lines after → length after < length rest → is_skipped line ≡ false → IsProjectLine line l → may_follow last l.kind ≡ true → more ≡ named ++ l ∷ [] → ReadSoFar text after (number + 1) more (last_after last l.kind)
 one_more text rest after line number named more l last h e less counts is follows new =

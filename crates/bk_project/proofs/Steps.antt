@@ -2,7 +2,7 @@
 use Rattle.std.specs.Prelude.{◌≡◌, ◌<◌, ◌≤◌, ◌+◌, ℕ, zero, suc, true, false, List, [], ◌∷◌, ◌++◌, length, map, take, drop, All, Option, None, Some, Result, Ok, Err, IfErr, refl}
 use Rattle.std.specs.List.{AllZip}
 use Rattle.std.specs.Result.{IsErrAnd}
-use Rattle.std.proofs.Common.{inl, inr, arith, ap, get_or, sym, subst, ◌∙◌, Vec, Global}
+use Rattle.std.proofs.Common.{arith, ap, get_or, sym, subst, ◌∙◌, Vec, Global}
 use Rattle.std.proofs.lemmas.List.{length-append, length-map, take_all}
 use Rattle.std.proofs.lemmas.List.Elements.{All-nil, All-cons, All-push, All-weaker}
 use Rattle.std.proofs.lemmas.Slice.Zip.{all_zipped_more, AllZip-long}
@@ -12,9 +12,7 @@ use Rattle.bk_raw.specs.ComponentTree.{RawComponent, component_height}
 use Rattle.bk_raw.specs.ComponentSpelling.{SpellsComponent}
 use Rattle.bk_raw.specs.Limits.{IsLowComponent, IsShallow, IsTooDeep}
 use Rattle.bk_raw.specs.Places.{IsComponentFault, byte_at}
-use Rattle.bk_files.specs.declared.fault.FileFault.{FileFault}
-use Rattle.bk_files.specs.declared.fault.FileFault.TheVariants.{Fault as FileAtFault, Limit as FilePastLimit, Memory as NoMemory}
-use Rattle.bk_files.specs.Files.{Has, IsFirst, IsShallowText, IsFaultOf as AreFilesAtFault}
+use Rattle.bk_files.specs.Files.{Has, IsFirst, IsShallowText}
 use Rattle.bk_files.proofs.FileSteps.{bytes_of}
 use Rattle.bk_files.proofs.Turns.{split_at, length_front, front_on, all_middle, zip_at, zip_has}
 use Rattle.bk_project.specs.declared.project_file.LineKind.{LineKind}
@@ -22,7 +20,7 @@ use Rattle.bk_project.specs.declared.reading.Read.{Read}
 use Rattle.bk_project.specs.declared.reading.Read.TheVariants.{Component, High}
 use Rattle.bk_project.specs.Chain.{Link, may_stand_below, links, is_for, names_above}
 use Rattle.bk_project.specs.Project.{IsWritten, IsLow, IsHigh, IsUnwritten, IsChained, IsUnchained, AreChained}
-use Rattle.bk_project.specs.Stages.{IsReadOf, IsOfFew}
+use Rattle.bk_project.specs.Stages.{IsReadOf}
 use Rattle.bk_project.proofs.ProjectFiles.{and_front}
 
 -- what a `?` hands on
@@ -44,14 +42,6 @@ first_item Fine Faulty items i x l e fine faulty = record {
 
 place_within : {A : Type 0} (Fine Faulty : A → Type 0) (items : List A) (place : ℕ) → IsFirst Fine Faulty items place → place < length items
 place_within Fine Faulty items place f = omega (arith, f.counted, ap length f.splits, length-append f.before (f.item ∷ f.after))
-
--- a fault of few files is of one of them
-pub few_files : (texts : List (List ℕ)) (fault : FileFault) → length texts ≤ 200 → AreFilesAtFault texts fault → IsOfFew fault
-few_files texts (FileAtFault number file place) few (inl h) = omega (arith, few, place_within _ _ texts file h.1)
-few_files texts (FileAtFault number file place) few (inr h) = omega (arith, few, place_within _ _ texts file h.2)
-few_files texts (FilePastLimit number file) few (inl h) = omega (arith, few, place_within _ _ texts file h.2)
-few_files texts (FilePastLimit number file) few (inr h) = omega (arith, few, place_within _ _ texts file h.2)
-few_files texts NoMemory few h = tt
 
 -- ---- what is read
 written_of : (text : List ℕ) (r : Read) → IsReadOf text r → Has IsWritten text
