@@ -450,9 +450,6 @@ values-from k a b p q l m i = (on_values k (l i) (m i)).outcome
 taken-of : (a : Outcome) (p : Partial) (u : ValueType) (f : Formula) → a ≡ partial p → filled p u ≡ Some f → taken a u ≡ Some f
 taken-of a p u f l e = ap (λ o. taken o u) l ∙ e
 
-of-taken-partial : (a : Outcome) (p : Partial) (u : ValueType) (f : Formula) → a ≡ partial p → taken a u ≡ Some f → filled p u ≡ Some f
-of-taken-partial a p u f l e = sym (ap (λ o. taken o u) l) ∙ e
-
 pub of-joint : (j : Joint) (at : ℕ) (a b : Outcome) (u : ValueType) (h : Formula) → ((on_values (joint j at) a b).outcome ≡ partial (whole h u)) ↔ (IsThere j u × ((f g : Formula) × One a b u f g × (h ≡ binary (joint_op j) f g)))
 of-joint j at a b u h = (
   (λ e.

@@ -1,5 +1,5 @@
 -- Lists with a divider between: what they lead to, and one way to take them apart.
-use Rattle.std.proofs.Common.{◌≡◌, ℕ, true, false, List, [], ◌∷◌, ◌++◌, Some, None, refl, sym, ◌∙◌, ap, subst, append_assoc}
+use Rattle.std.proofs.Common.{◌≡◌, ℕ, true, false, List, [], ◌∷◌, ◌++◌, Some, None, refl, sym, ◌∙◌, ap, subst}
 use Rattle.bk_form.specs.declared.token.Token.{Token}
 use Rattle.bk_form.specs.declared.token.TokenKind.TheVariants.{Sign}
 use Rattle.bk_raw.specs.Pieces.{JustSign, ◌⌢◌, Divided}
@@ -9,12 +9,6 @@ use Rattle.bk_raw.proofs.Patterns.{same-token, same-piece, stops-just}
 use Rattle.bk_raw.proofs.SubOne.{alone, nothing-token, stops-nothing}
 
 -- ---- to the right
-pub from-order : (A B K : Piece) (ts : List Token) → (A ⌢ B ⌢ K) ts → ((A ⌢ B) ⌢ K) ts
-from-order A B K ts h =
-    (h.0 ++ h.4.0, h.4.1, h.2 ∙ ap (λ b. h.0 ++ b) h.4.2 ∙ sym (append_assoc h.0 h.4.0 h.4.1), (h.0, h.4.0, refl, h.3, h.4.3), h.4.4)
-
-pub behind : (A K L : Piece) (ts : List Token) → ((r : List Token) → K r → L r) → (A ⌢ K) ts → (A ⌢ L) ts
-behind A K L ts f h = (h.0, h.1, h.2, h.3, f h.1 h.4)
 
 pub absent-then : (K : Piece) (ts : List Token) → ((λ us. us ≡ []) ⌢ K) ts → K ts
 absent-then K ts h = subst K (sym (h.2 ∙ ap (λ f. f ++ h.1) h.3)) h.4

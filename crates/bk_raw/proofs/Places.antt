@@ -6,7 +6,7 @@ use Rattle.std.proofs.lemmas.List.Elements.{All-nil, All-cons, All-head, All-tai
 use Rattle.bk_form.specs.declared.token.Token.{Token}
 use Rattle.bk_form.specs.declared.token.TokenKind.TheVariants.{Word}
 use Rattle.bk_ops.specs.declared.word.TheConstants.{END}
-use Rattle.bk_raw.specs.Pieces.{◌⌢◌, JustWord, Absent, InRow}
+use Rattle.bk_raw.specs.Pieces.{JustWord, InRow}
 use Rattle.bk_raw.specs.Numbers.{Differ}
 use Rattle.bk_raw.specs.declared.component.ComponentKind.{ComponentKind}
 use Rattle.bk_raw.specs.ComponentTree.{RawClause, RawComponent, word_number, clause_number, is_allowed}
@@ -42,9 +42,6 @@ with-next : (kind : ComponentKind) (done : List RawClause) (c : RawClause) (cs :
 with-next kind done c cs h = subst (AreClausesOf kind) (sym (append_assoc done (c ∷ []) cs)) h
 
 -- ---- clauses at one place
--- a clause, behind which a word of a component stands, or END, or nothing, is no shorter than another one
-alone-first : (c : RawClause) (a : List Token) → Clause c a → (Clause c ⌢ Absent) a
-alone-first c a h = (a, [], sym (append-nil a), h, refl)
 
 pub clause-no-longer : (c d : RawClause) (a r b q : List Token) → Clause c a → Clause d b → Halts (step ends_clause) (0, true) r → a ++ r ≡ b ++ q → (x : List Token) × (a ≡ b ++ x) × (q ≡ x ++ r)
 clause-no-longer c d a r b q h k s e =

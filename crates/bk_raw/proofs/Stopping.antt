@@ -86,9 +86,6 @@ pub record Admits (asked : ℕ) (rest : List Token) : Type 0 where
 pub admits_of_stops : (asked : ℕ) (rest : List Token) → Stops asked rest → Admits asked rest
 admits_of_stops asked rest s = record { postfix = s.postfix; operator = λ o p e l. omega (arith, s.operator o e, l, own_right p) }
 
-pub stops_more : (asked more : ℕ) (rest : List Token) → asked ≤ more → Stops asked rest → Stops more rest
-stops_more asked more rest l s = record { postfix = s.postfix; operator = λ o e. omega (arith, s.operator o e, l) }
-
 pub stops_end : (asked : ℕ) → Stops asked []
 stops_end asked = record { postfix = record { inverse = refl; bracket = refl; paren = refl }; operator = λ o e. none_some o e }
 

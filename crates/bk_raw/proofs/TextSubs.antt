@@ -176,9 +176,6 @@ are-stops stops t us n ts e = subst (Halts (step stops) (0, true)) (sym e) n
 abbrev behind_then : List Token
 behind_then = token 19 23 (Word ELSE) ∷ token 24 28 (Word SKIP) ∷ token 29 34 (Word ELSIF) ∷ token 35 36 (Name (codes "p")) ∷ token 37 38 (Sign EQUAL) ∷ token 39 40 (Number (pos 1)) ∷ token 41 45 (Word THEN) ∷ token 46 50 (Word SKIP) ∷ token 51 54 (Word END) ∷ []
 
-abbrev behind_else : List Token
-behind_else = token 29 34 (Word ELSIF) ∷ token 35 36 (Name (codes "p")) ∷ token 37 38 (Sign EQUAL) ∷ token 39 40 (Number (pos 1)) ∷ token 41 45 (Word THEN) ∷ token 46 50 (Word SKIP) ∷ token 51 54 (Word END) ∷ []
-
 -- a substitution in front of skip is skip
 behind-skip : (s : SubTree) (K : Piece) (at end : ℕ) (t : Token) (us : List Token) → StopsAt ends_list (0, true) K → stepped ends_list 0 true t.kind ≡ None → (Sub s 0 ⌢ K) (token at end (Word SKIP) ∷ t ∷ us) → K (t ∷ us)
 behind-skip s K at end t us sk n h =

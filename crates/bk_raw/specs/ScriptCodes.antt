@@ -123,10 +123,6 @@ place_back [] = in_goal []
 place_back (zero ∷ path) = in_goal path
 place_back (suc i ∷ path) = in_hypothesis i path
 
--- places in a sequent are told apart by their numbers
-abbrev pub coded_place : Coded RawPlace
-coded_place = code_by (List ℕ) (coded_list coded_ℕ) place_numbers place_back (elim [ in_goal path ↦ refl | in_hypothesis i path ↦ refl ])
-
 -- a multiple by its multiplier and its fact
 abbrev pub coded_multiple : Coded RawMultiple
 coded_multiple = code_by (ℤ × ℕ) (coded× coded_ℤ coded_ℕ) (λ m. (m.multiplier, m.fact)) (λ p. record { multiplier = p.0; fact = p.1 }) (λ _. refl)
