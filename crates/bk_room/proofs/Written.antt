@@ -88,9 +88,6 @@ mutual
   choices-at-least no_choices = any (Chosen no_choices)
   choices-at-least (choice_and s cs) = behind (joined (sub-at-least s 0) (choices-at-least cs))
 
-pub sub-bound : (s : SubTree) (asked : ℕ) (tokens : List Token) → Sub s asked tokens → binder_count s ≤ length tokens
-sub-bound s asked = sub-at-least s asked
-
 -- ---- components
 -- outputs have as many tokens
 outputs-bound : (xs : List RawName) → AtLeast (length xs) (Outputs xs)
@@ -234,6 +231,3 @@ names-few n (s ∷ ss) tokens few h =
     All-cons (λ s. length (script_names s) ≤ n) s ss
     (omega (arith, few, script-bound s h.0 h.3, ap length h.2, length-append h.0 h.1))
     (names-few n ss h.1 (omega (arith, few, ap length h.2, length-append h.0 h.1)) h.4)
-
-pub names-written : (scripts : List RawScript) (tokens : List Token) → SpellsScripts scripts tokens → All (λ s. length (script_names s) ≤ length tokens) scripts
-names-written scripts tokens h = names-few (length tokens) scripts tokens (omega (arith)) h
