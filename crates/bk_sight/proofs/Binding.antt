@@ -1,5 +1,5 @@
 -- Names that are bound stand in front of those around, the last one in front.
-use Rattle.std.proofs.Common.{◌≡◌, refl, sym, ap, ◌∙◌, ◌+◌, ◌<◌, ◌≤◌, ℕ, suc, List, [], ◌∷◌, ◌++◌, length, get_or, drop, arith, append_assoc}
+use Rattle.std.proofs.Common.{◌≡◌, refl, sym, ap, ◌∙◌, ◌+◌, ◌<◌, ◌≤◌, ℕ, suc, List, [], ◌∷◌, ◌++◌, length, get_or, drop, arith}
 use Rattle.std.proofs.lemmas.List.{drop_more, at_drop_all, get_or_default, map-append}
 use Rattle.std.specs.Borrow.{Bor}
 use Rattle.bk_form.specs.Role.{bind}
@@ -37,9 +37,6 @@ texts-drop first n bs d lt =
     ∙ bind-one (numbered_texts (suc (first + n)) (drop (n + 1) bs)) (as_variable (get_or bs n d) (first + n))
     ∙ ap (λ m. bind (numbered_texts m (drop (n + 1) bs)) [] ++ as_variable (get_or bs n d) (first + n) ∷ []) next
 
-pub names-drop : {A : Type 0} (n : ℕ) (ns : List A) (d : A) → n < length ns → bind (drop n ns) [] ≡ bind (drop (n + 1) ns) [] ++ get_or ns n d ∷ []
-names-drop n ns d lt = ap (λ ds. bind ds []) (drop_more ns n d lt) ∙ bind-one (drop (n + 1) ns) (get_or ns n d)
-
 -- ---- what a loop from behind has put together
 abbrev name_of : Visible → Named
 name_of v = record { text = v.text.now; meaning = meaning_of v.meaning }
@@ -51,17 +48,6 @@ names-append vs ws = map-append name_of vs ws
 pub names-push : (vs : List Visible) (v : Visible) (x y : List ℕ) (n m : ℕ) → visible_names (v ∷ []) ≡ as_variable x n ∷ [] → x ≡ y → n ≡ m → visible_names (vs ++ v ∷ []) ≡ visible_names vs ++ as_variable y m ∷ []
 names-push vs v x y n m is texts numbers =
     names-append vs (v ∷ []) ∙ ap (λ ys. visible_names vs ++ ys) is ∙ ap (λ z. visible_names vs ++ as_variable z n ∷ []) texts ∙ ap (λ k. visible_names vs ++ as_variable y k ∷ []) numbers
-
--- the next variable of those that are left
-pub push-step : (old new : List Visible) (v : Visible) (x : List ℕ) (n : ℕ) (before rest whole : Names)
-    → visible_names old ++ before ≡ whole → before ≡ as_variable x n ∷ rest → visible_names (v ∷ []) ≡ as_variable x n ∷ [] → new ≡ old ++ v ∷ []
-    → visible_names new ++ rest ≡ whole
-push-step old new v x n before rest whole inv more named pushed =
-    ap (λ ns. visible_names ns ++ rest) pushed
-    ∙ ap (λ ns. ns ++ rest) (names-append old (v ∷ []) ∙ ap (λ ys. visible_names old ++ ys) named)
-    ∙ append_assoc (visible_names old) (as_variable x n ∷ []) rest
-    ∙ ap (λ ys. visible_names old ++ ys) (sym more)
-    ∙ inv
 
 pub bound-step : (first old n number : ℕ) (bs : List RawName) (b : RawName) (names new : List Visible) (v : Visible)
     → old ≡ n + 1 → n < length bs → number ≡ first + n → b ≡ get_or bs n b → visible_names (v ∷ []) ≡ as_variable b.text number ∷ []

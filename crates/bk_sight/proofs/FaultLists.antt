@@ -3,7 +3,6 @@ use Rattle.std.proofs.Common.{◌≡◌, ◌≢◌, ◌⊎◌, inl, inr, subst, 
 use Rattle.std.specs.Prelude.{Option, None, Some, ℤ, IsTrue, ◌↔◌, ◌||◌, ◌&&◌, not, nat_eq, nat_lt, nat_le}
 use Rattle.std.specs.Str.{bytes_eq}
 use Rattle.std.specs.Borrow.{Bor}
-use Rattle.std.specs.List.{filter}
 use Rattle.std.proofs.lemmas.List.{append-nil, map-append, at_drop_more, drop_all}
 use Rattle.std.proofs.lemmas.Bool.Decides.{nat_tests}
 use Rattle.bk_gsl.specs.State.{among}
@@ -11,13 +10,12 @@ use Rattle.bk_form.specs.Formula.{Formula}
 use Rattle.bk_form.specs.Role.{same_type}
 use Rattle.bk_form.proofs.Roles.{same_type-then}
 use Rattle.bk_raw.proofs.Filled.{same_type-self}
-use Rattle.bk_val.specs.ValueType.{ValueType, int_type, bool_type, enum_type, pair_type, set_type}
+use Rattle.bk_val.specs.ValueType.{ValueType}
 use Rattle.bk_elab.specs.declared.sight.Visible.{Visible}
 use Rattle.bk_elab.specs.Visible.{visible_names, meaning_of}
 use Rattle.bk_raw.specs.declared.term.RawName.{RawName}
 use Rattle.bk_raw.specs.declared.component.RawValue.{RawValue}
 use Rattle.bk_raw.specs.ComponentTree.{RawSet}
-use Rattle.bk_raw.specs.RawTree.{RawTree}
 use Rattle.bk_raw.specs.Names.{Names}
 use Rattle.bk_raw.specs.Binders.{is_text}
 use Rattle.bk_raw.specs.Outcome.{Fault, no_type}
@@ -25,12 +23,12 @@ use Rattle.bk_elab.specs.Blame.{blame, earlier}
 use Rattle.bk_elab.proofs.Blamed.{earlier-none}
 use Rattle.bk_level.specs.Binders.{texts}
 use Rattle.bk_level.specs.Components.{set_names, WrittenVariable, abstract_names}
-use Rattle.bk_level.specs.Typings.{Typing, Target, unknown, no_variable, variable_target, target, as_number, is_variable, variable_named, interval}
+use Rattle.bk_level.specs.Typings.{Typing, Target, unknown, no_variable, variable_target, target, as_number, variable_named, interval}
 use Rattle.bk_level.specs.NameFaults.{named_texts, taken, variable_texts}
 use Rattle.bk_level.specs.Above.{names_at_level}
 use Rattle.bk_dev.specs.Development.{Development, Level}
 use Rattle.bk_level.specs.OperationFaults.{same_texts}
-use Rattle.bk_level.specs.SubFaults.{is_again, with_target, put_faults, term_faults}
+use Rattle.bk_level.specs.SubFaults.{is_again, with_target}
 use Rattle.bk_level.specs.LevelOf.{value_of, with_value}
 use Rattle.bk_level.specs.ValueFaults.{is_there, entry_value_faults, with_number, valued}
 use Rattle.bk_level.specs.ClauseFaults.{input_faults}
@@ -81,10 +79,6 @@ other-length (x ∷ xs) (y ∷ ys) h = ap (λ b. bytes_eq x y && b) (other-lengt
 pub texts-count : (xs : List RawName) → length (texts xs) ≡ length xs
 texts-count [] = refl
 texts-count (x ∷ xs) = ap suc (texts-count xs)
-
-pub named-count : (ns : Names) → length (named_texts ns) ≡ length ns
-named-count [] = refl
-named-count (n ∷ ns) = ap suc (named-count ns)
 
 pub visible-count : (vs : List Visible) → length (named_texts (visible_names vs)) ≡ length vs
 visible-count [] = refl
@@ -205,14 +199,6 @@ entries-next max typing globals vs i v right before now after whole h e seen k g
         ∙ (ap (λ b. cond b [] ((14, v.now.name.at) ∷ []) ++ entry_value_faults max typing globals (with_target t was) ys) (sym seen)
         ∙ ap (λ l. cond right [] ((14, v.now.name.at) ∷ []) ++ l) (entries-same max typing globals (with_target t was) is ys grown))
 
--- ---- writes
-pub outside-next : {A : Type 0} (p : A → Bool) (x : A) (xs : List A) → filter p (x ∷ xs) ≡ filter p (x ∷ []) ++ filter p xs
-outside-next p x xs = go (p x)
-  where
-    go : (b : Bool) → cond b (x ∷ filter p xs) (filter p xs) ≡ cond b (x ∷ []) [] ++ filter p xs
-    go true = refl
-    go false = refl
-
 -- ---- types
 either-bool : (b : Bool) → (b ≡ true) ⊎ (b ≡ false)
 either-bool true = inl refl
@@ -224,33 +210,12 @@ same-by true t u h = sym (subst (λ x. same_type t x ≡ true) (h.0 refl) (same_
 same-by false t u h = elim (either-bool (same_type t u)) [ inl e ↦ let k : false ≡ true = h.1 (same_type-then t u e) in absurd (cc) | inr e ↦ sym e ]
 
 -- ---- entries that are for a constant
-number-eq : (m n : ℕ) → nat_eq n m ≡ nat_eq m n
-number-eq m n = grind (arith, nat_tests)
-
--- an entry is for the constant, or a later one is
-pub valued-here : (t : Target) (n : ℕ) (ns : List ℕ) → among (with_number (as_number t) ns) n ≡ (is_variable n t || among ns n)
-valued-here unknown n ns = refl
-valued-here no_variable n ns = refl
-valued-here (variable_target m) n ns = ap (λ b. b || among ns n) (number-eq m n)
 
 -- a value with its constant, and those behind it
 pub value-next : (n : Option ℕ) (f : Option Formula) (vs : List (ℕ × Formula)) → with_value n f vs ≡ with_value n f [] ++ vs
 value-next None f vs = refl
 value-next (Some n) None vs = refl
 value-next (Some n) (Some f) vs = refl
-
--- ---- f(e) := v where f is no relation
-pub no-parts : (max : ℤ) (typing : Typing) (names : Names) (at : ℕ) (e v : RawTree) (t : ValueType) → ((a b : ValueType) → t ≢ set_type (pair_type a b)) →
-    put_faults max typing names at (Some t) e v ≡ no_type at ++ (term_faults max typing names None e ++ term_faults max typing names None v)
-no-parts max typing names at e v int_type h = refl
-no-parts max typing names at e v bool_type h = refl
-no-parts max typing names at e v (enum_type n) h = refl
-no-parts max typing names at e v (pair_type t u) h = refl
-no-parts max typing names at e v (set_type int_type) h = refl
-no-parts max typing names at e v (set_type bool_type) h = refl
-no-parts max typing names at e v (set_type (enum_type n)) h = refl
-no-parts max typing names at e v (set_type (set_type t)) h = refl
-no-parts max typing names at e v (set_type (pair_type t u)) h = absurd (h t u refl)
 
 -- ---- variables of levels
 pub variables-next : (dev : Development) (levels : List Level) (i : ℕ) (l : Level) (old more new : List Visible) (whole : List (List ℕ)) → i < length levels → l ≡ get_or levels i l → visible_names more ≡ names_at_level i dev.table l.vars → new ≡ old ++ more →

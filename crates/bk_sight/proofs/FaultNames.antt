@@ -17,7 +17,7 @@ use Rattle.bk_level.specs.Components.{operation_names}
 use Rattle.bk_level.specs.Typings.{Target, unknown, no_variable, variable_target, target}
 use Rattle.bk_level.specs.SubFaults.{target_faults, is_again, with_target, left_faults}
 use Rattle.bk_sight.specs.Shown.{refs}
-use Rattle.bk_sight.proofs.FaultSteps.{next, last, at-item, or-swap, or-false, told-more, told-both}
+use Rattle.bk_sight.proofs.FaultSteps.{next, last, or-swap, or-false, told-more, told-both}
 
 -- ---- texts
 or-assoc : (a b c : Bool) → ((a || b) || c) ≡ (a || (b || c))
@@ -92,12 +92,6 @@ twice-next f others xs i x again before now after whole h e seen k g inv =
         ∙ (ap (λ b. cond b ((6, (f x).at) ∷ []) [] ++ twice ((f x).text ∷ was) ys) known
         ∙ ap (λ l. cond again ((6, (f x).at) ∷ []) [] ++ l) (twice-same ((f x).text ∷ was) is ys grown))
 
--- the same where the next is read at its place
-pub twice-at : {X : Type 0} (f : X → RawName) (others : List (List ℕ)) (xs : List X) (i : ℕ) (d : X) (again : Bool) (before now after whole : Option Fault) → i < length xs →
-    again ≡ (is_text others (f (get_or xs i d)).text || is_text (texts (map f (take i xs))) (f (get_or xs i d)).text) → now ≡ blame (cond again ((6, (f (get_or xs i d)).at) ∷ []) []) → after ≡ earlier before now →
-    earlier before (blame (twice (texts (map f (take i xs)) ++ others) (map f (drop i xs)))) ≡ whole → earlier after (blame (twice (texts (map f (take (i + 1) xs)) ++ others) (map f (drop (i + 1) xs)))) ≡ whole
-twice-at f others xs i d again before now after whole h seen k g inv = twice-next f others xs i (get_or xs i d) again before now after whole h (at-item xs i d h) seen k g inv
-
 -- after all of them
 pub twice-end : {X : Type 0} (f : X → RawName) (others : List (List ℕ)) (xs : List X) (i : ℕ) (fault whole : Option Fault) → length xs ≤ i →
     earlier fault (blame (twice (texts (map f (take i xs)) ++ others) (map f (drop i xs)))) ≡ whole → fault ≡ whole
@@ -156,16 +150,6 @@ left-next names w old new xs i x t wrong again before now after whole h e kind g
         next (left_faults names w old) xs i x h e
         ∙ (ap (λ u. target_faults w x.at u ++ (cond (is_again old u) ((12, x.at) ∷ []) [] ++ left_faults names w (with_target u old) ys)) (sym kind)
         ∙ (ap (λ l. one ++ (other ++ l)) (sym (left-same names w new (with_target t old) ys grown)) ∙ sym (append_assoc one other (left_faults names w new ys))))
-
-none-again : (t : Target) → is_again [] t ≡ false
-none-again unknown = refl
-none-again no_variable = refl
-none-again (variable_target n) = refl
-
--- the faults of one name alone
-pub left-one : (names : Names) (w : ℕ → Bool) (x : RawName) → left_faults names w [] (x ∷ []) ≡ target_faults w x.at (target names x.text)
-left-one names w x =
-    ap (λ b. target_faults w x.at (target names x.text) ++ (cond b ((12, x.at) ∷ []) [] ++ [])) (none-again (target names x.text)) ∙ append-nil (target_faults w x.at (target names x.text))
 
 -- outputs, and then inputs
 pub header-twice : (xs ys : List RawName) → twice [] xs ++ twice (texts xs) ys ≡ twice [] (xs ++ ys)

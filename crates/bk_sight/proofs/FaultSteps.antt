@@ -1,7 +1,6 @@
 -- Loops that keep the first fault: what is told so far, and what is told of those that are left, is what is told of all.
 use Rattle.std.proofs.Common.{◌≡◌, ℕ, suc, ◌+◌, ◌<◌, ◌≤◌, List, [], ◌∷◌, ◌++◌, length, get_or, take, drop, refl, sym, ◌∙◌, ap, Bool, true, false, arith, append_assoc}
 use Rattle.std.specs.Prelude.{Option, ◌||◌}
-use Rattle.std.specs.List.{list_any}
 use Rattle.std.proofs.lemmas.List.{at_drop_more, take_more, get_or_default, drop_all}
 use Rattle.bk_raw.specs.Outcome.{Fault}
 use Rattle.bk_elab.specs.Blame.{blame, earlier}
@@ -23,10 +22,6 @@ pub suc-on : (a i : ℕ) → suc (a + i) ≡ a + (i + 1)
 suc-on a i = omega arith
 
 -- ---- tests
--- a test of one's own, where one of a list passes
-pub any_as : {X : Type 0} (F : List X → Bool) (p : X → Bool) → F [] ≡ false → ((x : X) (xs : List X) → F (x ∷ xs) ≡ (p x || F xs)) → (xs : List X) → list_any p xs ≡ F xs
-any_as F p none step [] = sym none
-any_as F p none step (x ∷ xs) = ap (λ b. p x || b) (any_as F p none step xs) ∙ sym (step x xs)
 
 pub or-swap : (a b c : Bool) → (a || (b || c)) ≡ (b || (a || c))
 or-swap true true c = refl

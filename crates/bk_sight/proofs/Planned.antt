@@ -1,24 +1,21 @@
 -- The plan of a component from its parts.
-use Rattle.std.proofs.Common.{◌≡◌, refl, sym, ap, ◌∙◌, ◌+◌, ◌<◌, ◌≤◌, ℕ, suc, Bool, cond, List, [], ◌∷◌, ◌++◌, length, map, take, get_or, drop, arith, append_assoc, ◌||◌, true, false}
+use Rattle.std.proofs.Common.{◌≡◌, refl, sym, ap, ◌∙◌, ◌+◌, ◌<◌, ◌≤◌, ℕ, Bool, cond, List, [], ◌∷◌, ◌++◌, length, map, take, get_or, drop, arith, append_assoc, ◌||◌, true, false}
 use Rattle.std.proofs.lemmas.List.{drop_more, take-append-le, take-map, length-append, length-map}
 use Rattle.std.specs.List.{list_any}
 use Rattle.std.specs.Str.{bytes_eq}
 use Rattle.bk_dev.specs.Development.{Development, Head}
 use Rattle.bk_raw.specs.Binders.{is_text}
 use Rattle.bk_raw.specs.Names.{Names}
-use Rattle.bk_raw.specs.declared.term.RawName.{RawName}
 use Rattle.bk_level.specs.Above.{upper_of}
 use Rattle.bk_level.specs.Binders.{binder_count}
 use Rattle.bk_level.specs.Components.{Component, WrittenVariable as WrittenMeant, is_machine, initialisation}
-use Rattle.bk_level.specs.Typings.{numbered, as_variable}
-use Rattle.bk_level.specs.Plan.{Declared as DeclaredMeant, Headed as HeadedMeant, Placed as PlacedMeant, Plan as PlanMeant, all_declared, declared_texts, own, own_one, is_headed, input_count, names_from, output_count, placed, operations_of, plan, plan_globals, plan_headed, sizes, other_sizes}
+use Rattle.bk_level.specs.Plan.{Declared as DeclaredMeant, Headed as HeadedMeant, Placed as PlacedMeant, Plan as PlanMeant, all_declared, declared_texts, own, own_one, is_headed, input_count, output_count, placed, operations_of, plan, plan_globals, plan_headed, sizes, other_sizes}
 use Rattle.bk_sight.specs.declared.component.WrittenVariable.{WrittenVariable}
 use Rattle.bk_sight.specs.declared.plan.Declared.{Declared}
-use Rattle.bk_sight.specs.declared.plan.Headed.{Headed}
 use Rattle.bk_sight.specs.declared.plan.Counts.{Counts}
 use Rattle.bk_sight.specs.declared.plan.Plan.{Plan}
 use Rattle.bk_elab.specs.Visible.{visible_names}
-use Rattle.bk_sight.specs.Shown.{declared_shown, headed_shown, placed_shown, variable_shown, variables_shown, plan_shown, IsCounted, IsPlanOf}
+use Rattle.bk_sight.specs.Shown.{declared_shown, placed_shown, variable_shown, variables_shown, plan_shown, IsCounted, IsPlanOf}
 
 -- ---- tests
 pub headed_any : (hs : List Head) (x : List ℕ) → list_any (λ (h : Head). bytes_eq h.name x) hs ≡ is_headed hs x
@@ -28,20 +25,6 @@ headed_any (h ∷ hs) x = ap (λ b. bytes_eq h.name x || b) (headed_any hs x)
 pub carried_any : (ds : List Declared) (x : List ℕ) → list_any (λ (d : Declared). bytes_eq d.text.now x) ds ≡ is_text (declared_texts (map declared_shown ds)) x
 carried_any [] x = refl
 carried_any (d ∷ ds) x = ap (λ b. bytes_eq d.text.now x || b) (carried_any ds x)
-
--- ---- numbers
--- the names from the n-th on, the first of all having this number
-pub numbered_more : (first n : ℕ) (xs : List RawName) (x : RawName) → n < length xs → x ≡ get_or xs n x → numbered (first + n) (drop n xs) ≡ as_variable x.text (first + n) ∷ numbered (first + (n + 1)) (drop (n + 1) xs)
-numbered_more first n xs x lt is =
-    let next : suc (first + n) ≡ first + (n + 1) = omega arith in
-    ap (λ ds. numbered (first + n) ds) (drop_more xs n x lt ∙ ap (λ y. y ∷ drop (n + 1) xs) (sym is))
-    ∙ ap (λ m. as_variable x.text (first + n) ∷ numbered m (drop (n + 1) xs)) next
-
-pub names_more : (first n : ℕ) (ds : List Declared) (d : Declared) → n < length ds → d ≡ get_or ds n d → names_from (first + n) (map declared_shown (drop n ds)) ≡ as_variable d.text.now (first + n) ∷ names_from (first + (n + 1)) (map declared_shown (drop (n + 1) ds))
-names_more first n ds d lt is =
-    let next : suc (first + n) ≡ first + (n + 1) = omega arith in
-    ap (λ es. names_from (first + n) (map declared_shown es)) (drop_more ds n d lt ∙ ap (λ y. y ∷ drop (n + 1) ds) (sym is))
-    ∙ ap (λ m. as_variable d.text.now (first + n) ∷ names_from m (map declared_shown (drop (n + 1) ds))) next
 
 -- ---- variables
 own_one_more : (F : List (List ℕ)) (upper : Names) (v : WrittenMeant) (vs : List WrittenMeant) → own F upper (v ∷ vs) ≡ own F upper (v ∷ []) ++ own F upper vs
@@ -80,10 +63,6 @@ own_within before old new more le pushed =
 pub headed_of_placed : (n b : ℕ) (hs : List HeadedMeant) → map (λ (o : PlacedMeant). o.headed) (placed n b hs) ≡ hs
 headed_of_placed n b [] = refl
 headed_of_placed n b (h ∷ hs) = ap (λ os. h ∷ os) (headed_of_placed (n + length h.operation.outputs) (b + binder_count h.operation.body) hs)
-
--- the operation of this place with its numbers, and those behind it
-pub placed_more : (n b i : ℕ) (hs : List Headed) (h : Headed) → i < length hs → h ≡ get_or hs i h → placed n b (map headed_shown (drop i hs)) ≡ record { headed = headed_shown h; outputs_at = n; binders_at = b } ∷ placed (n + length h.operation.now.outputs) (b + binder_count h.operation.now.body) (map headed_shown (drop (i + 1) hs))
-placed_more n b i hs h lt is = ap (λ ds. placed n b (map headed_shown ds)) (drop_more hs i h lt ∙ ap (λ y. y ∷ drop (i + 1) hs) (sym is))
 
 -- ---- the plan
 pub planned : (dev : Development) (c : Component) (level constants_at variables_at inputs_at outputs_at binders_at far : ℕ) (globals upper : Names) (variables : List DeclaredMeant) (headed : List HeadedMeant)

@@ -1,7 +1,6 @@
 -- What stands above a component, one set or one variable after the other.
 use Rattle.std.proofs.Common.{◌≡◌, refl, sym, ap, ◌∙◌, ◌+◌, ◌<◌, ◌≤◌, ℕ, zero, suc, List, [], ◌∷◌, ◌++◌, length, map, get_or, take, drop, Option, Some, None, arith, append_assoc}
 use Rattle.std.specs.List.{slice_get}
-use Rattle.std.specs.Borrow.{Bor}
 use Rattle.std.proofs.lemmas.List.{append-nil, drop_all, drop_more, map_more}
 use Rattle.std.proofs.lemmas.Option.{slice_get_within, get_or_from_slice_get, slice_get-get_or}
 use Rattle.std.specs.Option.{option_map}
@@ -9,14 +8,11 @@ use Rattle.bk_val.specs.ValueType.{ValueType, int_type}
 use Rattle.bk_form.specs.Table.{Table, SetEntry, VariableEntry, set_name as table_set_name, set_elements, variable_type}
 use Rattle.bk_dev.specs.declared.kind.Home.{Home}
 use Rattle.bk_dev.specs.declared.kind.Home.TheVariants.{Constant, Input, Abstract, Concrete, Inner}
-use Rattle.bk_raw.specs.ComponentTree.{RawSet}
 use Rattle.bk_raw.specs.Names.{Names, Named, set_name}
 use Rattle.bk_raw.specs.ScopeReading.{set_names, element_names}
 use Rattle.bk_level.specs.Above.{constants_from, text_of}
-use Rattle.bk_level.specs.Binders.{texts}
-use Rattle.bk_level.specs.Plan.{entries_of}
 use Rattle.bk_level.specs.Typings.{or_else}
-use Rattle.bk_sight.specs.Shown.{constant_at, refs, set_at, set_entry}
+use Rattle.bk_sight.specs.Shown.{constant_at, set_at, set_entry}
 
 -- a set that is not there, and one that is
 pub unnamed_set : (n : ℕ) (t : Table) → table_set_name t n ≡ None → set_at n t.sets ≡ []
@@ -129,10 +125,3 @@ nothing_left n (h ∷ hs) = refl
 -- nor behind the last variable
 pub constants_end : (n : ℕ) (hs : List Home) (vs : List VariableEntry) (old whole : Names) → length vs ≤ n → old ++ constants_from n (drop n hs) (drop n vs) ≡ whole → old ≡ whole
 constants_end n hs vs old whole le inv = sym (append-nil old) ∙ ap (λ ds. old ++ ds) (sym (nothing_left n (drop n hs))) ∙ ap (λ ds. old ++ constants_from n (drop n hs) ds) (sym (drop_all n vs le)) ∙ inv
-
--- a written set with its elements, and those behind it
-pub written_sets_more : (first n : ℕ) (ss : List (Bor RawSet)) (s : Bor RawSet) → n < length ss → s ≡ get_or ss n s → set_names (first + n) (entries_of (refs (drop n ss))) ≡ record { text = s.now.name.text; meaning = set_name (first + n) } ∷ (element_names (first + n) 0 (texts s.now.elements) ++ set_names (first + (n + 1)) (entries_of (refs (drop (n + 1) ss))))
-written_sets_more first n ss s lt is =
-    let next : suc (first + n) ≡ first + (n + 1) = omega arith in
-    ap (λ ds. set_names (first + n) (entries_of (refs ds))) (drop_more ss n s lt ∙ ap (λ y. y ∷ drop (n + 1) ss) (sym is))
-    ∙ ap (λ m. record { text = s.now.name.text; meaning = set_name (first + n) } ∷ (element_names (first + n) 0 (texts s.now.elements) ++ set_names m (entries_of (refs (drop (n + 1) ss))))) next
