@@ -170,15 +170,6 @@ module _ (find : Finder) (dev : Development) (f : IsLawful dev) (well : IsWellFo
       subst (λ l. AllHold find (at_state flat.table (filled e)) (joining l)) (sym (level-is dev j).1) (joining-up (filled e) e (filled-same e) j below (flat-then find dev e joining (length dev.levels) dev.levels h j below below)))
 
   -- ---- the constants' values meet the properties of the one where they do of the other
-  pub meet-up : ValuesMeet find flat → ValuesMeet find dev
-  meet-up m e t v =
-      let h = m (filled e) (filled-typed e t) (has-up e v) in
-      flat-if find dev e (λ l. conjuncts l.properties) (length dev.levels) dev.levels (λ j p q.
-      let count = many in
-      let there = flat-then find flat (filled e) (λ l. conjuncts l.properties) (length flat.levels) flat.levels h j (omega (arith, count, q)) (omega (arith, count, q)) in
-      let here : AllHold find (at_state flat.table (filled e)) (conjuncts (level_at dev j).properties) = subst (λ l. AllHold find (at_state flat.table (filled e)) (conjuncts l.properties)) (level-is dev j).1 there in
-      let w = level_fact dev f j q in
-      parts-true find (at_state dev.table e) (level_at dev j).properties (sym (holds-both (filled e) e (filled-same e) (level_at dev j).properties w.properties) ∙ whole-true find (at_state flat.table (filled e)) (level_at dev j).properties here))
 
   pub meet-down : ValuesMeet find dev → ValuesMeet find flat
   meet-down m e t v =
