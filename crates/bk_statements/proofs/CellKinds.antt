@@ -19,11 +19,6 @@ first-inside (suc k) [] i h l = absurd (omega (arith, h))
 first-inside (suc k) (z ∷ m) zero h l = omega arith
 first-inside (suc k) (z ∷ m) (suc i) h l = let rest = first-inside k m i (omega (arith, h)) (omega arith) in omega arith
 
-first-long : (k : ℕ) (m : List ℤ) → length (take k m) ≡ k → k ≤ length m
-first-long zero m h = omega arith
-first-long (suc k) [] h = absurd (omega (arith, h))
-first-long (suc k) (z ∷ m) h = let rest = first-long k m (omega (arith, h)) in omega arith
-
 first-passes : (test : ℤ → Bool) (k : ℕ) (m : List ℤ) (i : ℕ) (d : ℤ) → length (take k m) ≡ k → list_all test (take k m) ≡ true → i < k → test (slice_index_or m i d) ≡ true
 first-passes test zero m i d h q l = absurd (omega arith)
 first-passes test (suc k) [] i d h q l = absurd (omega (arith, h))
