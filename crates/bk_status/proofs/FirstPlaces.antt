@@ -41,14 +41,6 @@ module _ {K : Type 0} (f : K → List ℕ) (es : List (K × ℕ)) (k : K) (place
   same-place : bytes_eq other (f k) ≡ true → place_at other ≡ place_at (f k)
   same-place e = ap place_at ((bytes_decides other (f k)).0 e)
 
-  -- it is there
-  pub place_kept : (n : ℕ) → place_at (f k) ≡ Some n → place_at other ≡ found_or (place_at other) (bytes_eq other (f k)) place
-  place_kept n h = by (bytes_eq other (f k)) refl
-    where
-      by : (b : Bool) → bytes_eq other (f k) ≡ b → place_at other ≡ found_or (place_at other) b place
-      by true e = let there : place_at other ≡ Some n = same-place e ∙ h in there ∙ ap (λ o. found_or o true place) (sym there)
-      by false e = not-here (place_at other) place
-
   -- it isn't
   pub place_put : place_at (f k) ≡ None → lookup (λ q. bytes_eq other (f q)) (insert_entry (λ a b. bytes_eq (f a) (f b)) es k place) ≡ found_or (place_at other) (bytes_eq other (f k)) place
   place_put h = lookup_inserted f other k place es ∙ by (bytes_eq other (f k)) refl
