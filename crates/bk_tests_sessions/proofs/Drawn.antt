@@ -219,9 +219,6 @@ test_both ls d Or p q i h k = connected ls d Or p q (two-predicates (role family
 test_both ls d _ p q i h k = absurd i
 
 -- ---- statements
-rise-end : (a b c : ℕ) (ns : List ℕ) → b ≤ c → Rise a b ns → Rise a c ns
-rise-end a b c [] h r = omega (arith, h, r)
-rise-end a b c (n ∷ ns) h r = (r.0, rise-end (suc n) b c ns h r.1)
 
 rise-lower : (a b c : ℕ) (ns : List ℕ) → a ≤ b → Rise b c ns → Rise a c ns
 rise-lower a b c [] h r = omega (arith, h, r)
@@ -258,9 +255,6 @@ drawn_i ls from end f h n = drawn-target ls from end 0 f h (record { of_type = r
 pub drawn_j : (ls : List ℕ) (from end : ℕ) (f : Formula) → from ≤ end → IsNumber ls 900 f → IsDrawn ls from end (set_to 1 f)
 drawn_j ls from end f h n = drawn-target ls from end 1 f h (record { of_type = refl; may = writable-own ls 1 refl; scalar = refl }) n
 
-first-is-among : (b : Bool) (c : Bool) → b ≡ true → b || c ≡ true
-first-is-among b c h = ap (λ x. x || c) h
-
 pub drawn_local : (ls : List ℕ) (from end x : ℕ) (f : Formula) → from ≤ end → 17 ≤ x → x < 25 → among ls x ≡ true → IsNumber ls 900 f → IsDrawn ls from end (set_to x f)
 drawn_local ls from end x f h low high i n =
     let l = local_is x low high in
@@ -278,10 +272,6 @@ drawn_b ls from end p h t = record {
   b0 = t.executed;
   shallow = (omega (arith, t.depth), tt);
 }
-
--- f(a) := b
-written : Formula → Formula → Formula
-written a b = binary Over (variable 3) (unary Single (binary Maps a b))
 
 written-role : (a b : Role) → a ≡ gives int_type → b ≡ gives int_type → override_role (gives (set_type (pair_type int_type int_type))) (unary_role Single (pair_role a b)) ≡ gives (set_type (pair_type int_type int_type))
 written-role a b p q = rw (p, q) refl

@@ -29,10 +29,6 @@ number_named text = record { text = text; of_type = int_type }
 abbrev pub truth_named : List ℕ → VariableEntry
 truth_named text = record { text = text; of_type = bool_type }
 
--- the outputs of one component
-abbrev pub output_entries : List VariableEntry
-output_entries = number_named (codes "p") ∷ number_named (codes "q") ∷ truth_named (codes "r") ∷ number_named (codes "s") ∷ number_named (codes "t") ∷ number_named (codes "u") ∷ []
-
 -- i, j, b and f are 0 to 3, k is 4, the machine's outputs are 5 to 10, the implementation's 11 to 16, and eight locals are 17 to 24
 abbrev pub family_table : Table
 family_table = record {
