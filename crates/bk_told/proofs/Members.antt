@@ -90,10 +90,3 @@ members-end g xs i old us h invariant =
 pub variables-end : (g : Option Group) (ds : List MadeVariable) (i j : ℕ) (old us : List Way) → length ds ≤ j → old ++ variable_members g i (map declared_shown (drop j ds)) ≡ us → old ≡ us
 variables-end g ds i j old us h invariant =
     sym (append-nil old) ∙ ap (λ (es : List MadeVariable). old ++ variable_members g i (map declared_shown es)) (sym (drop_of_length-le ds h)) ∙ invariant
-
--- the i-th of a group's names goes on
-pub conjunct-step : (names : Names) (group : List RawName) (p : RawTree) (i : ℕ) (xs : List RawName) → i < length xs → conjunct_ways names group p i (drop i xs) ≡ by_conjuncts names group i p ∷ conjunct_ways names group p (i + 1) (drop (i + 1) xs)
-conjunct-step names group p i [] h = absurd (omega arith)
-conjunct-step names group p i (x ∷ xs) h =
-    let next : suc i ≡ i + 1 = omega arith in
-    at_drop_more (λ (ys : List RawName). conjunct_ways names group p i ys) (x ∷ xs) i x h ∙ ap (λ (j : ℕ). by_conjuncts names group i p ∷ conjunct_ways names group p j (drop (i + 1) (x ∷ xs))) next
