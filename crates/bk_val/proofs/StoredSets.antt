@@ -1,15 +1,13 @@
 -- Which lists are those of the elements of a set that can be held.
-use Rattle.std.proofs.Common.{◌≡◌, ℕ, ◌<◌, ◌≤◌, ◌^◌, ℤ, pos, Bool, true, List, [], ◌∷◌, take, length, refl, ap, arith, FitsSigned}
-use lib.IntN.{negsuc}
-use Rattle.std.specs.Int.{w128}
-use Rattle.std.proofs.lemmas.Bool.{and_parts, and_from, lt-ltb, cond_both}
+use Rattle.std.proofs.Common.{◌≡◌, ℕ, ◌≤◌, Bool, true, List, [], ◌∷◌, take, length, refl, ap}
+use Rattle.std.proofs.lemmas.Bool.{and_parts, and_from, cond_both}
 use Rattle.std.proofs.lemmas.List.{take_all}
 use Rattle.std.proofs.lemmas.List.Kept.{IsStrictlySortedBy-filter}
 use Rattle.std.specs.declared.cmp.Ordering.{Ordering}
 use Rattle.std.specs.declared.cmp.Ordering.TheVariants.{Less, Equal, Greater}
 use Rattle.std.specs.List.{AllByRecursion, filter}
 use Rattle.std.specs.List.Sorted.{IsStrictlySortedBy}
-use Rattle.bk_val.specs.Value.{MathValue, int, elem, pair, value_cmp, values_of, is_below, rises_from, is_rising, is_storable, are_storable, IsStrictlySorted, IsStoredSet}
+use Rattle.bk_val.specs.Value.{MathValue, value_cmp, values_of, is_below, rises_from, is_rising, is_storable, are_storable, IsStrictlySorted, IsStoredSet}
 use Rattle.bk_val.specs.Sets.{union_of, set_of}
 use Rattle.bk_val.proofs.SortedLists.{Below, below_all, sorted_union_of, all_union_of}
 use Rattle.bk_val.proofs.Elements.{all_set_of, sorted_set_of}
@@ -17,16 +15,6 @@ use Rattle.bk_val.proofs.Elements.{all_set_of, sorted_set_of}
 -- ---- single values
 abbrev pub IsStorable : MathValue → Type 0
 IsStorable v = is_storable v ≡ true
-
-pub storable_int : (z : ℤ) → FitsSigned w128 z → is_storable (int z) ≡ true
-storable_int (pos n) f = lt-ltb n (2 ^ 127) (omega (arith, f.sfits))
-storable_int (negsuc n) f = lt-ltb n (2 ^ 127) (omega (arith, f.sfits))
-
-pub storable_elem : (s i : ℕ) → s < 2 ^ 32 → i < 2 ^ 32 → is_storable (elem s i) ≡ true
-storable_elem s i h k = and_from _ _ (lt-ltb s (2 ^ 32) h) (lt-ltb i (2 ^ 32) k)
-
-pub storable_pair : (a b : MathValue) → is_storable a ≡ true → is_storable b ≡ true → is_storable (pair a b) ≡ true
-storable_pair a b h k = and_from _ _ h k
 
 -- ---- lists of values
 pub each_storable : (xs : List MathValue) → are_storable (values_of xs) ≡ true → AllByRecursion IsStorable xs
