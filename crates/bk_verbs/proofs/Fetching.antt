@@ -11,9 +11,6 @@ pub record Fetching (files : Files) (names rest texts : List (List ℕ)) : Type 
   pub told : (more : List (List ℕ)) → AreTold files rest more → AreTold files names (texts ++ more)
   pub stops : (stop : Stop) → StopsAtFiles files rest stop → StopsAtFiles files names stop
 
-pub none_fetched : (files : Files) (names : List (List ℕ)) → Fetching files names names []
-none_fetched files names = record { told = λ more h. h; stops = λ stop h. h }
-
 pub one_fetched : (files : Files) (names rest texts : List (List ℕ)) (name text : List ℕ) → Fetching files names (name ∷ rest) texts → IsTold files name text → Fetching files names rest (texts ++ text ∷ [])
 one_fetched files names rest texts name text h t = record {
   told = λ more k. subst (AreTold files names) (sym (append_assoc texts (text ∷ []) more)) (h.told (text ∷ more) (t, k));

@@ -1,5 +1,5 @@
 -- The last line of a text, as it is looked for from the end.
-use Rattle.std.proofs.Common.{◌≡◌, ◌≢◌, ℕ, ◌<◌, ◌≤◌, ◌-◌, ◌+◌, Bool, true, false, nat_eq, ◌||◌, List, [], ◌∷◌, ◌++◌, length, take, drop, get_or, refl, sym, ◌∙◌, ap, subst, arith, ne_eqb}
+use Rattle.std.proofs.Common.{◌≡◌, ℕ, ◌<◌, ◌≤◌, ◌-◌, ◌+◌, Bool, true, false, nat_eq, ◌||◌, List, [], ◌∷◌, ◌++◌, length, take, drop, get_or, refl, sym, ◌∙◌, ap, subst, arith}
 use Rattle.std.proofs.lemmas.List.{take-append-drop, drop_more, length-drop}
 use Rattle.bk_verbs.specs.Samples.{has_end_within, last_line}
 
@@ -13,11 +13,6 @@ pub short_line : (text : List ℕ) → length text ≤ 1 → has_end_within text
 short_line [] short = refl
 short_line (c ∷ []) short = refl
 short_line (c ∷ d ∷ cs) short = absurd (omega (arith, short))
-
--- a byte that ends no line may stand before
-pub longer_line : (c : ℕ) (text : List ℕ) → c ≢ 10 → has_end_within text ≡ false → has_end_within (c ∷ text) ≡ false
-longer_line c [] other none = refl
-longer_line c (d ∷ cs) other none = rw (ne_eqb c 10 other, none) refl
 
 -- a line feed that something stands behind ends a line within
 ends_within : (front : List ℕ) (d : ℕ) (cs : List ℕ) → has_end_within (front ++ 10 ∷ d ∷ cs) ≡ true
@@ -43,14 +38,6 @@ module _ (text : List ℕ) (start : ℕ) where
   -- the last byte alone
   pub last_byte : start ≡ length text - 1 → has_end_within (drop start text) ≡ false
   last_byte is = short_line (drop start text) (omega (arith, is, length-drop start text))
-
-  -- the byte before is none that ends a line
-  pub one_more : 0 < start → start ≤ length text → get_or text (start - 1) 0 ≢ 10 → has_end_within (drop start text) ≡ false → has_end_within (drop (start - 1) text) ≡ false
-  one_more some within other none =
-      let same : start - 1 + 1 ≡ start = omega (arith, some) in
-      let rest : drop (start - 1) text ≡ get_or text (start - 1) 0 ∷ drop start text =
-      subst (λ n. drop (start - 1) text ≡ get_or text (start - 1) 0 ∷ drop n text) same (drop_more text (start - 1) 0 (omega (arith, some, within))) in
-      rw rest (longer_line (get_or text (start - 1) 0) (drop start text) other none)
 
   -- the byte before ends one
   pub found_end : 0 < start → start < length text → get_or text (start - 1) 0 ≡ 10 → has_end_within (drop start text) ≡ false → drop start text ≡ last_line text

@@ -93,9 +93,6 @@ pub written_twice : (old : Option (List ℕ)) (xs ys : List ℕ) → written_wit
 written_twice None xs ys = refl
 written_twice (Some old) xs ys = ap Some (append_assoc old xs ys)
 
-pub sofar_start : (image : Image) (fuel : ℕ) (end : End) (cells : List ℤ) (old : Option (List ℕ)) → Sofar image fuel [] end cells end cells 0 0 old old
-sofar_start image fuel end cells old = record { tolds = []; reaches = (refl, refl); done_is = refl; steps_are = refl; written = written_nothing old }
-
 pub reaches_more : (image : Image) (fuel : ℕ) (e : End) (c : List ℤ) (rs : List Request) (ts : List Told) (f : End) (d : List ℤ) (r : Request) (t : Told) → Reaches image fuel e c rs ts f d → IsDone f → Answers image fuel r d t → Reaches image fuel e c (rs ++ r ∷ []) (ts ++ t ∷ []) t.end t.cells
 reaches_more image fuel e c [] [] f d r t h done answers = (subst IsDone (sym h.0) done, subst (λ x. Answers image fuel r x t) (sym h.1) answers, (refl, refl))
 reaches_more image fuel e c (q ∷ rs) (u ∷ ts) f d r t h done answers = (h.0, h.1, reaches_more image fuel u.end u.cells rs ts f d r t h.2 done answers)
