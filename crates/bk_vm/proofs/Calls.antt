@@ -9,16 +9,12 @@ use Rattle.bk_code.specs.declared.image.Parameter.{Parameter}
 use Rattle.bk_code.specs.Session.{placed}
 use Rattle.bk_code.specs.Checks.{IsChecked, IsGoodParameter, IsGoodEntry}
 use Rattle.bk_code.specs.Laws.{AreCells}
-use Rattle.bk_code.proofs.Sessions.{stands, All-slice_get, call_fitting}
+use Rattle.bk_code.proofs.Sessions.{All-slice_get, call_fitting}
 use Rattle.bk_vm.specs.declared.end.CallEnd.{CallEnd}
 use Rattle.bk_vm.specs.declared.end.CallEnd.TheVariants.{Done, Trap, OutOfFuel}
 use Rattle.bk_vm.specs.Ends.{EndsWith, CallEndsWith, outs_after}
 use Rattle.bk_vm.specs.Flows.{standing, IsReady}
 use Rattle.bk_vm.specs.State.{TakesCall}
-
--- the operation is one of the image
-pub op_stands : (image : Image) (op : ℕ) (args : List ℤ) (outs : ℕ) → TakesCall image op args outs → op < length image.ops
-op_stands image op args outs t = stands image.ops op t.entry t.named
 
 -- the entry that is read is the one that is called
 pub entry_is : (image : Image) (op : ℕ) (args : List ℤ) (outs : ℕ) (t : TakesCall image op args outs) (ops : List OpEntry) (read : OpEntry) →

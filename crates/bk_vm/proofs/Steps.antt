@@ -6,15 +6,13 @@ use Rattle.std.proofs.lemmas.Option.{slice_get-get_or}
 use Rattle.bk_code.specs.declared.image.Image.{Image}
 use Rattle.bk_code.specs.declared.instruction.Inst.{Inst}
 use Rattle.bk_code.specs.declared.instruction.Inst.TheVariants.{Push, Load, Store, ALoad, AStore, Add, Sub, Mul, Div, Mod, Neg, Eq, Lt, Le, Not, Jump, JumpZero, Ret}
-use Rattle.bk_code.specs.declared.instruction.Trap.{Trap}
 use Rattle.bk_code.specs.Numbers.{int_max, IsWithin}
-use Rattle.bk_code.specs.Step.{Config, GoesOn, Returns, Traps, calculated, is_index, element_cell, row, step}
+use Rattle.bk_code.specs.Step.{Config, Returns, calculated, is_index, element_cell, row, step}
 use Rattle.bk_code.specs.Run.{Leads}
 use Rattle.bk_code.specs.Checks.{IsLeaving, FlowsTo, pops, pushes}
-use Rattle.bk_code.specs.Laws.{AreCells}
 use Rattle.bk_code.proofs.Ranges.{abs_from_within, within_from_abs}
 use Rattle.bk_code.proofs.Runs.{keeps_fitting}
-use Rattle.bk_vm.specs.declared.end.CallEnd.TheVariants.{Done, Trap as TrapEnd, OutOfFuel}
+use Rattle.bk_vm.specs.declared.end.CallEnd.TheVariants.{Done, OutOfFuel}
 use Rattle.bk_vm.specs.declared.execute.Flow.{Flow}
 use Rattle.bk_vm.specs.declared.execute.Flow.TheVariants.{Next, Return, Trapped}
 use Rattle.bk_vm.specs.Depth.{tops}
@@ -102,31 +100,16 @@ ready_after image place stack cells (Next to depth) new written h is = record {
 ready_after image place stack cells Return new written h is = tt
 ready_after image place stack cells (Trapped kind) new written h is = tt
 
-pub leads_more : (image : Image) (n : ℕ) (c d e : Config) → Leads image n c d → GoesOn e ≡ step image d → Leads image (n + 1) c e
-leads_more image n c d e leads is = rw add-one (d, leads, sym is)
-
 pub done_ends : (image : Image) (fuel n : ℕ) (c : Config) (place : ℕ) (stack cells after : List ℤ) → n < fuel → Leads image n c (standing place stack cells) →
     Returns ≡ step image (standing place stack cells) → after ≡ cells → EndsWith image fuel c (Done (n + 1)) after
 done_ends image fuel n c place stack cells after below leads is left =
     rw add-one (record { last = standing place stack cells; ends = (omega arith, (leads, sym is)); left = left })
-
-pub trap_ends : (image : Image) (fuel n : ℕ) (c : Config) (place : ℕ) (stack cells after : List ℤ) (kind : Trap) → n < fuel → Leads image n c (standing place stack cells) →
-    Traps kind ≡ step image (standing place stack cells) → after ≡ cells → EndsWith image fuel c (TrapEnd kind place n) after
-trap_ends image fuel n c place stack cells after kind below leads is left =
-    record { last = standing place stack cells; ends = (below, leads, sym is, refl); left = left }
 
 pub fuel_ends : (image : Image) (fuel n : ℕ) (c : Config) (place : ℕ) (stack cells : List ℤ) → n ≤ fuel → fuel ≤ n → Leads image n c (standing place stack cells) →
     EndsWith image fuel c OutOfFuel cells
 fuel_ends image fuel n c place stack cells le ge leads =
     let same : n ≡ fuel = omega arith in
     record { last = standing place stack cells; ends = subst (λ k. Leads image k c (standing place stack cells)) same leads; left = refl }
-
--- the cells at a configuration that fits are those of the image
-pub ready_cells : (image : Image) (place : ℕ) (stack cells : List ℤ) → IsReady image (standing place stack cells) → AreCells image cells
-ready_cells image place stack cells h = record { many = h.fits.many; range = h.fits.cells }
-
-pub kept_cells : (image : Image) (place : ℕ) (stack cells after : List ℤ) → IsReady image (standing place stack cells) → after ≡ cells → AreCells image after
-kept_cells image place stack cells after h same = subst (AreCells image) (sym same) (ready_cells image place stack cells h)
 
 -- an element that is found has its index in the array
 pub found : (t : Bool) (x cell : ℕ) → (if t then Some x else None) ≡ Some cell → (t ≡ true) × (x ≡ cell)
