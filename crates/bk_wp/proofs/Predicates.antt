@@ -18,7 +18,7 @@ use Rattle.bk_gsl.specs.Typed.{AreListed, AreTypedTerms, AreTypedPairs, Types}
 use Rattle.bk_gsl.proofs.States.{nat_eq-same}
 use Rattle.bk_bind.specs.Closing.{closed_over, all_closed_over, closed_over_each}
 use Rattle.bk_wp.specs.Quantifiers.{types_of, all_of, some_of}
-use Rattle.bk_wp.specs.Box.{box, diamond, new_values, all_new, some_new}
+use Rattle.bk_wp.specs.Box.{diamond, new_values, all_new, some_new}
 use Rattle.bk_wp.specs.Shapes.{HasNoLoop}
 use Rattle.bk_wp.proofs.Closing.{declared-listed, closed-each, length-types}
 use Rattle.bk_form.proofs.Closed.{predicate-closed}
@@ -128,20 +128,6 @@ module _ (table : Table) (facts : IsWellFormed table) where
       let a = new-role xs p w h in
       let b = role-each zs r (predicate-closed table r k) l ∙ k in
       quantified zs (binary And (new_values xs p) (closed_over_each zs r)) l (λ i. connective_role (a i) (b i))
-
-  pub box-predicate : (s : Substitution) (r : Formula) → Types table s → HasNoLoop s → IsPredicate table r → IsPredicate table (box table s r)
-  box-predicate skip r w n h = h
-  box-predicate (assign ps) r w n h = terms-predicate table ps r w h
-  box-predicate (pre p s) r w n h = λ i. connective_role (w.0 i) (box-predicate s r w.1 n h i)
-  box-predicate (guard p s) r w n h = λ i. connective_role (w.0 i) (box-predicate s r w.1 n h i)
-  box-predicate (choice s t) r w n h = λ i. connective_role (box-predicate s r w.0 n.0 h i) (box-predicate t r w.1 n.1 h i)
-  box-predicate (if_else p s t) r w n h = λ i. connective_role (connective_role (w.0 i) (box-predicate s r w.1 n.0 h i)) (connective_role (unary_role Not (w.0 i)) (box-predicate t r w.2 n.1 h i))
-  box-predicate (any zs s) r w n h = all-predicate zs (box table s r) w.0 (box-predicate s r w.1 n h)
-  box-predicate (seq s t) r w n h = box-predicate s (box table t r) w.0 n.0 (box-predicate t r w.1 n.1 h)
-  box-predicate (par s t) r w n h = absurd n
-  box-predicate (assert p s) r w n h = λ i. connective_role (w.0 i) (connective_role (w.0 i) (box-predicate s r w.1 n h i))
-  box-predicate (becomes_such xs p) r w n h = all_new-predicate xs p r w.0 w.1 h
-  box-predicate (loop p s i v) r w n h = absurd n
 
   pub diamond-predicate : (s : Substitution) (r : Formula) → Types table s → HasNoLoop s → IsPredicate table r → IsPredicate table (diamond table s r)
   diamond-predicate skip r w n h = h
