@@ -17,7 +17,7 @@ use std::marker::Model;
 
 /// An implementation as it is executed: the variables with cells in the cells' order, the constants' values, the arrays, the
 /// elements' names, and the statements of the initialisation and of each operation. It is that of a development in B0, none of
-/// whose executed expressions has more than 998 operators on one way down.
+/// whose executed expressions has more than `MOST_OPERATORS` operators on one way down.
 #[derive(Drop)]
 pub struct B0Unit {
     table: VarTable,
