@@ -7,12 +7,6 @@ ghost use Rattle.bk_form.specs.Replacement.{replaced, all_replaced, looked_up};
 use crate::replacement::find;
 use bk_form::{Form, View};
 
-/// The most nodes that a formula may have that is made of others.
-pub const MOST_NODES: u64 = 200_000;
-
-/// The most nodes that may lie on one of its ways down.
-pub const GREATEST_HEIGHT: u32 = 2_000;
-
 // How many nodes the formula will have.
 #[tactic(auto, using(bk_form::proofs::Sizes::parts_are_smaller))]
 #[cycle(nodes)]

@@ -6,11 +6,11 @@ ghost use Rattle.bk_bind.specs.Closing.{closed_over, all_closed_over, closed_ove
 ghost use Rattle.bk_bind.specs.Limits.{IsWithinLimits};
 ghost use Rattle.bk_bind.specs.declared.error.BindFault.TheVariants.{TooLarge};
 
-use crate::bound::{GREATEST_HEIGHT, MOST_NODES};
 use crate::error::BindFault;
 use crate::lifting::{under_ranges, under_types};
 use bk_form::{Form, Part, Ty, View};
 use bk_io::Memory;
+use bk_limits::{GREATEST_HEIGHT, MOST_NODES};
 use std::alloc::Global;
 
 /// The formula with these variables bound together, the last one innermost: what stands in a quantifier over them. The

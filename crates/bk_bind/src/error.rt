@@ -8,7 +8,7 @@ use thiserror::Error;
 /// Why a formula was not made of others.
 #[derive(Clone, Copy, PartialEq, Eq, Debug, Error)]
 pub enum BindFault {
-    /// It would have more than 200000 nodes, or more than 2000 on some way down.
+    /// It would have more than `MOST_NODES` nodes, or more than `GREATEST_HEIGHT` on some way down.
     #[error("the formula is too large")]
     TooLarge,
     #[error("out of memory")]

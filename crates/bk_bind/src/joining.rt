@@ -5,9 +5,9 @@ ghost use Rattle.bk_form.specs.Formula.{unary, binary, for_all, for_some};
 ghost use Rattle.bk_bind.specs.Limits.{IsWithinLimits};
 ghost use Rattle.bk_bind.specs.declared.error.BindFault.TheVariants.{TooLarge};
 
-use crate::bound::{GREATEST_HEIGHT, MOST_NODES};
 use crate::error::BindFault;
 use bk_form::{BinOp, Form, Part, Ty, UnOp};
+use bk_limits::{GREATEST_HEIGHT, MOST_NODES};
 use std::alloc::Global;
 
 /// The same formula, where it is within the limits.

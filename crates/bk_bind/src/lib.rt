@@ -15,7 +15,6 @@ pub mod opening;
 pub mod renaming;
 pub mod replacement;
 
-pub use bound::{GREATEST_HEIGHT, MOST_NODES};
 pub use closing::{close, closed};
 pub use error::BindFault;
 pub use joining::{binary, bounded, for_all, for_some, unary};

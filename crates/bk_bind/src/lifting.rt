@@ -7,10 +7,10 @@ ghost use Rattle.bk_bind.specs.Lifting.{shifted, lifted, all_lifted};
 ghost use Rattle.bk_bind.specs.Limits.{IsWithinLimits};
 ghost use Rattle.bk_bind.specs.declared.error.BindFault.TheVariants.{TooLarge};
 
-use crate::bound::{GREATEST_HEIGHT, MOST_NODES};
 use crate::error::BindFault;
 use bk_form::{Form, Part, Ty, View};
 use bk_io::Memory;
+use bk_limits::{GREATEST_HEIGHT, MOST_NODES};
 use std::alloc::Global;
 
 /// The formula under `more` binders that stand around it from now on: its loose bound numbers go up by so many. `Memory`

@@ -8,11 +8,11 @@ ghost use Rattle.bk_bind.specs.Opening.{rebound, all_rebound, placed, opened};
 ghost use Rattle.bk_bind.specs.Limits.{IsWithinLimits};
 ghost use Rattle.bk_bind.specs.declared.error.BindFault.TheVariants.{TooLarge};
 
-use crate::bound::{GREATEST_HEIGHT, MOST_NODES};
 use crate::error::BindFault;
 use crate::lifting::{under_ranges, under_types};
 use bk_form::{Form, Part, Ty, View};
 use bk_io::Memory;
+use bk_limits::{GREATEST_HEIGHT, MOST_NODES};
 use std::alloc::Global;
 
 /// The body of a binder with a term in place of each of its bound variables, in their order: the last term stands in

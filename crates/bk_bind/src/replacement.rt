@@ -6,10 +6,11 @@ ghost use Rattle.bk_form.specs.Replacement.{replaced, all_replaced, looked_up};
 ghost use Rattle.bk_bind.specs.Limits.{IsWithinLimits};
 ghost use Rattle.bk_bind.specs.declared.error.BindFault.TheVariants.{TooLarge};
 
-use crate::bound::{GREATEST_HEIGHT, MOST_NODES, height_after, nodes_after};
+use crate::bound::{height_after, nodes_after};
 use crate::error::BindFault;
 use bk_form::{Form, Part, Ty, View};
 use bk_io::Memory;
+use bk_limits::{GREATEST_HEIGHT, MOST_NODES};
 use std::alloc::Global;
 
 /// The formula with the term of each pair in place of its variable, all at once; of several pairs for one variable the
