@@ -4,6 +4,7 @@ use Rattle.std.specs.List.{AllZip}
 use Rattle.std.specs.Option.{option_map}
 use Rattle.std.specs.Str.{bytes_eq}
 use Rattle.std.specs.Str.Lines.{lines}
+use Rattle.bk_limits.specs.declared.TheConstants.{MOST_CALLS}
 use Rattle.bk_code.specs.declared.image.Image.{Image}
 use Rattle.bk_code.specs.declared.image.OpEntry.{OpEntry}
 use Rattle.bk_code.specs.declared.image.Parameter.{Parameter}
@@ -123,7 +124,7 @@ pub record IsFirstFault (image : Image) (text : List ℕ) (number : ℕ) (cause 
 -- ---- the limit of calls
 -- the most calls that a script may ask for
 abbrev pub most_calls : ℕ
-most_calls = 1000000
+most_calls = MOST_CALLS
 
 -- those of some lines that are not skipped
 abbrev pub counted : List (List ℕ) → List (List ℕ)

@@ -8,6 +8,7 @@ use crate::sample_implementation::implementation_text;
 use crate::sample_machine::machine_text;
 use crate::sample_proofs::proof_text;
 use bk_code::Memory;
+use bk_limits::MOST_SAMPLE_VARIABLES;
 use std::alloc::Global;
 
 /// The lines of the project file.
@@ -26,7 +27,7 @@ fn file(alloc: Global, name: &str, text: String) -> Result<(String, Vec<u8>), Me
 /// `Sample_i`, scripts of proof for their obligations, and calls of the operations.
 pub fn sample(alloc: Global, n: u32) -> Result<Sample, Memory>
     requires least { 1 ≤ n }
-    requires most { n ≤ 40 }
+    requires most { n ≤ MOST_SAMPLE_VARIABLES }
     ensures { IfOk result (λ sample. sample ≡ sample_of n) }
 {
     let project = file(

@@ -3,6 +3,7 @@ ghost use Rattle.std.specs.Prelude.{◌≡◌, ◌≤◌, IfOk, string_bytes};
 ghost use Rattle.bk_calls.specs.Sample as texts;
 
 use bk_code::Memory;
+use bk_limits::MOST_SAMPLE_VARIABLES;
 use std::alloc::Global;
 
 // That a number that is not above 0 is at most the sum, by the hypotheses with the ranges of the variable and of the input.
@@ -28,7 +29,7 @@ fn range_rules(
 
 // That the machine keeps its invariant.
 fn machine_script(alloc: Global, n: u32, i: u32) -> Result<String, Memory>
-    requires { n ≤ 40 }
+    requires { n ≤ MOST_SAMPLE_VARIABLES }
     ensures { IfOk result (λ text. string_bytes text ≡ texts.machine_script n i) }
 {
     let range = range_rules(alloc, i, 0, i, n + 1)?;
@@ -38,7 +39,7 @@ fn machine_script(alloc: Global, n: u32, i: u32) -> Result<String, Memory>
 
 // That the implementation keeps its invariant.
 fn implementation_script(alloc: Global, n: u32, i: u32) -> Result<String, Memory>
-    requires most { n ≤ 40 }
+    requires most { n ≤ MOST_SAMPLE_VARIABLES }
     requires number { i ≤ n }
     ensures { IfOk result (λ text. string_bytes text ≡ texts.implementation_script n i) }
 {
@@ -52,7 +53,7 @@ fn implementation_script(alloc: Global, n: u32, i: u32) -> Result<String, Memory
 
 // That the variables of the machine and of the implementation stay equal.
 fn link_script(alloc: Global, n: u32, i: u32) -> Result<String, Memory>
-    requires most { n ≤ 40 }
+    requires most { n ≤ MOST_SAMPLE_VARIABLES }
     requires number { i ≤ n }
     ensures { IfOk result (λ text. string_bytes text ≡ texts.link_script n i) }
 {
@@ -63,7 +64,7 @@ fn link_script(alloc: Global, n: u32, i: u32) -> Result<String, Memory>
 
 // That the sum is not below the least number of a variable.
 fn least_script(alloc: Global, n: u32, i: u32) -> Result<String, Memory>
-    requires most { n ≤ 40 }
+    requires most { n ≤ MOST_SAMPLE_VARIABLES }
     requires number { i ≤ n }
     ensures { IfOk result (λ text. string_bytes text ≡ texts.least_script n i) }
 {
@@ -73,7 +74,7 @@ fn least_script(alloc: Global, n: u32, i: u32) -> Result<String, Memory>
 
 // That the sum is not above the greatest number of a variable.
 fn greatest_script(alloc: Global, n: u32, i: u32) -> Result<String, Memory>
-    requires most { n ≤ 40 }
+    requires most { n ≤ MOST_SAMPLE_VARIABLES }
     requires number { i ≤ n }
     ensures { IfOk result (λ text. string_bytes text ≡ texts.greatest_script n i) }
 {
@@ -86,7 +87,7 @@ fn greatest_script(alloc: Global, n: u32, i: u32) -> Result<String, Memory>
 
 // The scripts for one variable.
 fn scripts(alloc: Global, n: u32, i: u32) -> Result<String, Memory>
-    requires most { n ≤ 40 }
+    requires most { n ≤ MOST_SAMPLE_VARIABLES }
     requires number { i ≤ n }
     ensures { IfOk result (λ text. string_bytes text ≡ texts.scripts n i) }
 {
@@ -100,7 +101,7 @@ fn scripts(alloc: Global, n: u32, i: u32) -> Result<String, Memory>
 
 /// The text of the proof file.
 pub(crate) fn proof_text(alloc: Global, n: u32) -> Result<String, Memory>
-    requires { n ≤ 40 }
+    requires { n ≤ MOST_SAMPLE_VARIABLES }
     ensures { IfOk result (λ text. string_bytes text ≡ texts.proof_text n) }
 {
     let mut text = String::new(alloc);

@@ -14,12 +14,10 @@ use crate::line::call_parts;
 use crate::table::WordTable;
 use crate::value::{are_within, values};
 use bk_code::{Image, OpEntry, Parameter, Sequence};
+use bk_limits::MOST_CALLS;
 use bk_lines::{first_line, is_skipped};
 use std::alloc::{AllocError, AllocFailed, Global};
 use thiserror::Error;
-
-/// The most calls that a script may ask for.
-const MOST_CALLS: usize = 1000000;
 
 /// A call that a script asks for: an operation by its number in the image, from 0, and the arguments.
 #[derive(Drop)]
@@ -44,7 +42,7 @@ pub enum CallsFault {
     #[error("line {0} has a number out of range")]
     Number(u32),
     /// A call past the most that a script may ask for. A line at fault before it is told in its stead.
-    #[error("more than 1000000 calls")]
+    #[error("too many calls")]
     Limit,
     #[error("out of memory")]
     Memory,
@@ -74,7 +72,7 @@ impl<T: Drop> From<AllocFailed<T>> for CallsFault {
 /// of the input. An operation without inputs may have `()`. Spaces are free around these parts. Of two operations, or of
 /// two elements of a set, with one name the first is meant. The first line at fault is told: one that is written as no
 /// call, then an operation that the image does not have, then wrong arguments, then a number out of range. A script asks
-/// for at most 1000000 calls; whichever comes first, a line at fault or a call past the limit, is answered.
+/// for at most `MOST_CALLS` calls; whichever comes first, a line at fault or a call past the limit, is answered.
 pub fn calls(alloc: Global, text: &[u8], image: &Image) -> Result<Vec<Call>, CallsFault>
     requires few_lines { length (lines text.now) < 2 ^ 32 }
     requires few_operations { length image.now.ops < 2 ^ 32 }
