@@ -1,5 +1,6 @@
 -- What the loader checks of an image: its numbers, and the depth of the stack at each place.
 use Rattle.std.specs.Prelude.{◌≡◌, ℕ, zero, suc, ◌+◌, ◌-◌, ◌<◌, ◌≤◌, ◌^◌, ◌⊎◌, ℤ, pos, ◌+ℤ◌, ◌-ℤ◌, List, length, All, slice_get, slice_index, Some}
+use Rattle.bk_limits.specs.declared.TheConstants.{MOST_CELLS, STACK_ROOM}
 use Rattle.bk_code.specs.declared.image.Image.{Image}
 use Rattle.bk_code.specs.declared.image.OpEntry.{OpEntry}
 use Rattle.bk_code.specs.declared.image.Parameter.{Parameter}
@@ -59,7 +60,7 @@ IsLeaving _ = ⊥
 
 -- all numbers of an image are in their ranges, and its code ends with a Jump or a Ret
 pub record IsNumbered (image : Image) : Type 0 where
-  pub cells : image.cells ≤ 1000000
+  pub cells : image.cells ≤ MOST_CELLS
   pub ops : All (IsGoodEntry image) image.ops
   pub insts : (at : ℕ) (inst : Inst) → slice_get image.code at ≡ Some inst → IsGoodInst image at inst
   pub last : (at : ℕ) (inst : Inst) → slice_get image.code at ≡ Some inst → at + 1 ≡ length image.code → IsLeaving inst
@@ -101,13 +102,13 @@ abbrev pub IsEmptyAtEnd : Inst → ℕ → Type 0
 IsEmptyAtEnd Ret depth = depth ≡ 0
 IsEmptyAtEnd _ depth = Unit {0}
 
--- these are depths of the stack, one for each place: 0 where a call starts and at each Ret, at most 1000, enough for what
+-- these are depths of the stack, one for each place: 0 where a call starts and at each Ret, at most STACK_ROOM, enough for what
 -- an instruction pops, and carried on along each flow of control
 pub record IsDepths (image : Image) (depths : List ℕ) : Type 0 where
   pub long : length depths ≡ length image.code
   pub first : slice_index depths 0 ≡ 0
   pub starts : All (λ entry. slice_index depths entry.start ≡ 0) image.ops
-  pub limit : (at : ℕ) → at < length image.code → slice_index depths at ≤ 1000
+  pub limit : (at : ℕ) → at < length image.code → slice_index depths at ≤ STACK_ROOM
   pub enough : (at : ℕ) (inst : Inst) → slice_get image.code at ≡ Some inst → pops inst ≤ slice_index depths at
   pub flows : (at to : ℕ) (inst : Inst) → slice_get image.code at ≡ Some inst → FlowsTo inst at to → slice_index depths to ≡ slice_index depths at - pops inst + pushes inst
   pub returned : (at : ℕ) (inst : Inst) → slice_get image.code at ≡ Some inst → IsEmptyAtEnd inst (slice_index depths at)
