@@ -1,5 +1,6 @@
 -- B0, the part of the notation that has code: the expressions, conditions and statements of a development's last level.
 use Rattle.std.specs.Prelude.{◌≡◌, ◌⊎◌, ℕ, ◌+◌, ◌<◌, ◌≤◌, max, true, List, [], ◌∷◌, Option, Some, None, length}
+use Rattle.bk_limits.specs.declared.TheConstants.{MOST_OPERATORS}
 use Rattle.bk_form.specs.ArrayTable.{ArrayTable, row_of}
 use Rattle.bk_form.specs.Formula.{Formula, variable, literal, truth_value, element, unary, binary, btrue}
 use Rattle.bk_form.specs.Defined.{is_in_int}
@@ -107,9 +108,9 @@ operators_down (unary o a) = operators_down a
 operators_down (binary o a b) = max (operators_down a) (operators_down b) + 1
 operators_down _ = 0
 
--- so few that its value is calculated with at most 1000 numbers on the stack, also where an array's index lies below it
+-- so few that its value is calculated with at most STACK_ROOM numbers on the stack, also where an array's index lies below it
 abbrev pub IsShallow : Formula → Type 0
-IsShallow f = operators_down f ≤ 998
+IsShallow f = operators_down f ≤ MOST_OPERATORS
 
 -- of f(i) := v the index and the value, each by itself; a fill has a value without operators
 abbrev pub IsShallowWrite : Option (Formula × Formula) → Type 0
@@ -146,7 +147,7 @@ pub record IsB0Body (dev : Development) (b : Body) : Type 0 where
   pub shallow : EvaluatesShallow (arrays_of dev) b.sub
 
 -- the last level is an implementation in B0: its variables are scalars and arrays, inputs and outputs are scalars, and no executed
--- expression has more than 998 operators on two operands on one way down
+-- expression has more than MOST_OPERATORS operators on two operands on one way down
 pub record IsB0Development (dev : Development) : Type 0 where
   pub complete : is_complete dev ≡ true
   pub variables : Each (λ x. IsScalarName dev x ⊎ IsArrayName dev x) (level_at dev (last dev)).vars
