@@ -3,6 +3,7 @@
 -- first is told, and of a file whose tokens are at fault and too many what comes first in the text.
 use Rattle.std.specs.Prelude.{◌≡◌, ◌⊎◌, ◌≤◌, ℕ, List, ◌∷◌, ◌++◌, length, All}
 use Rattle.std.specs.Str.{IsUtf8, IsValidUpTo}
+use Rattle.bk_limits.specs.declared.TheConstants.{MOST_TOKENS}
 use Rattle.bk_form.specs.declared.token.Token.{Token}
 use Rattle.bk_lex.specs.Lexis.{AreTokens}
 use Rattle.bk_lex.specs.Faults.{IsFaultOf as IsLexFaultOf}
@@ -15,7 +16,7 @@ use Rattle.bk_files.specs.declared.fault.FileFault.TheVariants.{Fault, Limit, Me
 -- these are its tokens, and they are not too many
 pub record IsCut (text : List ℕ) (tokens : List Token) : Type 0 where
   pub cut : AreTokens text tokens
-  pub few : length tokens ≤ 1000000
+  pub few : length tokens ≤ MOST_TOKENS
 
 -- and nowhere are too many brackets or blocks open
 pub record IsShallowText (text : List ℕ) (tokens : List Token) : Type 0 where
