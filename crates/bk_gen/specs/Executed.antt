@@ -1,5 +1,6 @@
 -- What the code of a unit is made for: the formulas and statements of B0, with numbers that fit their instructions.
 use Rattle.std.specs.Prelude.{◌≡◌, ◌⊎◌, ◌≤◌, ◌+◌, ℕ, nat_eq, cond, ℤ, pos, List, [], ◌∷◌, ◌++◌, length, Option, Some, None, All}
+use Rattle.bk_limits.specs.declared.TheConstants.{MOST_CELLS}
 use Rattle.bk_form.specs.ArrayTable.{row_of}
 use Rattle.bk_form.specs.Formula.{Formula, variable, literal, truth_value, element, unary, binary}
 use Rattle.bk_form.specs.declared.arrays.ArrayRow.{ArrayRow}
@@ -177,6 +178,6 @@ HasStatementCode p _ = ⊥
 -- ---- units
 -- its cells, and those of each array, are few enough for an image, and its constants' values are literals that fit
 pub record IsReady (u : CodeUnit) : Type 0 where
-  pub few : slots_cells u.slots ≤ 1000000
-  pub arrays : (x : ℕ) (r : ArrayRow) → row_of u.arrays x ≡ Some r → index_count u.table r.domain ≤ 1000000
+  pub few : slots_cells u.slots ≤ MOST_CELLS
+  pub arrays : (x : ℕ) (r : ArrayRow) → row_of u.arrays x ≡ Some r → index_count u.table r.domain ≤ MOST_CELLS
   pub values : All (λ c. HasLeafCode c.1) u.values

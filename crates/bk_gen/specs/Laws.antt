@@ -1,5 +1,6 @@
 -- What small developments and substitutions are translated to, as statements.
 use Rattle.std.specs.Prelude.{◌≡◌, ℕ, ◌<◌, ◌≤◌, pos, neg_ℤ, ◌≤ℤ◌, List, [], ◌∷◌, length}
+use Rattle.bk_limits.specs.declared.TheConstants.{MOST_INSTRUCTIONS, MOST_CELLS}
 use Rattle.bk_form.specs.Table.{set_size}
 use Rattle.bk_form.specs.Formula.{variable, literal, binary, btrue}
 use Rattle.bk_form.specs.declared.operator.BinOp.TheVariants.{And, Or, Lt as Below, Add as Plus, Sub as Less, In, Range}
@@ -97,6 +98,6 @@ FlattenedKeepsCode = (dev : Development) → IsLawful dev → LastIsFlat dev →
 abbrev pub HasElementsInRange : Development → Type 0
 HasElementsInRange dev = (s i : ℕ) → i < set_size dev.table s → pos i ≤ℤ int_max dev
 
--- the translation of a lawful development in B0 passes the loader's checks, where it has at most 1000000 cells and as many instructions
+-- the translation of a lawful development in B0 passes the loader's checks, where it has at most MOST_CELLS cells and MOST_INSTRUCTIONS instructions
 abbrev pub TranslationsLoad : Type 0
-TranslationsLoad = (dev : Development) → IsLawful dev → IsB0Development dev → HasElementsInRange dev → cell_count dev ≤ 1000000 → length (translation dev).code ≤ 1000000 → IsLoadable (translation dev)
+TranslationsLoad = (dev : Development) → IsLawful dev → IsB0Development dev → HasElementsInRange dev → cell_count dev ≤ MOST_CELLS → length (translation dev).code ≤ MOST_INSTRUCTIONS → IsLoadable (translation dev)

@@ -1,5 +1,6 @@
 -- Which images have a spelling within the limits.
 use Rattle.std.specs.Prelude.{◌⊎◌, ◌<◌, ◌≤◌, ◌^◌, All, length}
+use Rattle.bk_limits.specs.declared.TheConstants.{MOST_CELLS, MOST_SETS}
 use Rattle.bk_dev.specs.Development.{Head}
 use Rattle.bk_image.specs.Spelling.{IsCountable, FitsSet, HasSpelling}
 use Rattle.bk_b0.specs.CodeUnit.{CodeUnit, slots_cells, unit_image}
@@ -11,7 +12,7 @@ pub record FitsHead (h : Head) : Type 0 where
 
 -- sets, elements, operations, inputs and outputs, and their names, fit the fields that count them
 pub record FitsFields (u : CodeUnit) : Type 0 where
-  pub few_sets : length u.sets ≤ 65534
+  pub few_sets : length u.sets ≤ MOST_SETS
   pub sets : All (λ s. FitsSet s.elements) u.sets
   pub few_operations : length u.heads < 2 ^ 16
   pub heads : All FitsHead u.heads
@@ -19,4 +20,4 @@ pub record FitsFields (u : CodeUnit) : Type 0 where
 
 -- there are more cells than an image may have, or the image has no spelling
 abbrev pub PassesCells : CodeUnit → Type 0
-PassesCells u = (1000000 < slots_cells u.slots) ⊎ (HasSpelling (unit_image u) → ⊥)
+PassesCells u = (MOST_CELLS < slots_cells u.slots) ⊎ (HasSpelling (unit_image u) → ⊥)

@@ -12,6 +12,7 @@ use crate::leaf::{leaf, slot_of};
 use bk_b0::{B0Unit, index_count};
 use bk_code::{Inst, Memory};
 use bk_form::{ArrayDomain, ArrayRow, Form, View};
+use bk_limits::MOST_CELLS;
 
 // E of {E}, and any other formula itself.
 pub(crate) fn operand(form: &Form) -> &Form
@@ -55,7 +56,7 @@ fn least_index(domain: ArrayDomain) -> i64
 
 // How many cells an array has.
 pub(crate) fn cells_of(unit: &B0Unit, domain: ArrayDomain) -> u32
-    requires { index_count unit.now.table domain ≤ 1000000 }
+    requires { index_count unit.now.table domain ≤ MOST_CELLS }
     ensures { result ≡ index_count unit.now.table domain }
 {
     index_count(unit.table(), domain) as u32
@@ -91,7 +92,7 @@ fn add_load(unit: &B0Unit, variable: u32, code: &mut Vec<Inst>) -> Result<(), Me
 // The instruction that reads an array with this domain.
 fn loading(unit: &B0Unit, variable: u32, domain: ArrayDomain) -> Inst
     requires ready { IsReady unit.now }
-    requires few { index_count unit.now.table domain ≤ 1000000 }
+    requires few { index_count unit.now.table domain ≤ MOST_CELLS }
     ensures { result ≡ ALoad (first_of variable unit.now.slots) (least_index domain) (index_count unit.now.table domain) }
 {
     Inst::ALoad {
@@ -104,7 +105,7 @@ fn loading(unit: &B0Unit, variable: u32, domain: ArrayDomain) -> Inst
 // The instruction that writes to an array with this domain.
 pub(crate) fn storing(unit: &B0Unit, variable: u32, domain: ArrayDomain) -> Inst
     requires ready { IsReady unit.now }
-    requires few { index_count unit.now.table domain ≤ 1000000 }
+    requires few { index_count unit.now.table domain ≤ MOST_CELLS }
     ensures { result ≡ AStore (first_of variable unit.now.slots) (least_index domain) (index_count unit.now.table domain) }
 {
     Inst::AStore {

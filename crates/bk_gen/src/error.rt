@@ -8,10 +8,10 @@ use thiserror::Error;
 /// Why there is no image.
 #[derive(Clone, Copy, PartialEq, Eq, Debug, Error)]
 pub enum GenFault {
-    /// There would be more than 1000000 instructions.
+    /// There would be more than `MOST_INSTRUCTIONS` instructions.
     #[error("the code is too long")]
     CodeTooLong,
-    /// There would be more than 1000000 cells.
+    /// There would be more than `MOST_CELLS` cells.
     #[error("there are too many cells")]
     TooManyCells,
     #[error("out of memory")]

@@ -7,6 +7,7 @@ ghost use Rattle.bk_gen.specs.Spelled.{FitsHead, FitsFields};
 use bk_b0::B0Unit;
 use bk_dev::{Body, OpHead};
 use bk_io::Text;
+use bk_limits::MOST_SETS;
 
 /// How many items, and how many bytes of a name, a field can count.
 const COUNTED: usize = 65536;
@@ -15,7 +16,7 @@ const COUNTED: usize = 65536;
 pub(crate) fn fits_fields(unit: &B0Unit) -> bool
     ensures { IsTrue result ↔ FitsFields unit.now }
 {
-    unit.sets().len() <= 65534
+    unit.sets().len() <= MOST_SETS
         && unit.sets().iter().all(|set| names_fit(&set.elements))
         && unit.heads().len() < COUNTED
         && unit.heads().iter().all(|head| head_fits(head))

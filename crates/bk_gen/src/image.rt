@@ -23,10 +23,11 @@ use bk_code::{
 use bk_dev::{Body, EnumSet, OpHead};
 use bk_form::{TyView, VarTable};
 use bk_io::Text;
+use bk_limits::{MOST_CELLS, MOST_INSTRUCTIONS};
 use std::alloc::Global;
 
-/// The most instructions, and the most cells, that an image may have.
-const MOST: u64 = 1000000;
+/// The most cells, as wide as they are counted here.
+const CELLS: u64 = MOST_CELLS as u64;
 
 /// The image of an implementation: what the definition of the translation says of it. It passes the loader's checks and has a
 /// spelling. The length of the code is looked at before the number of cells; an image whose names or counts do not fit their
@@ -35,15 +36,15 @@ pub fn translate(alloc: Global, unit: &B0Unit) -> Result<Image, GenFault>
     ensures ok { IfOk result (λ image. image ≡ unit_image unit.now) }
     ensures checked { IfOk result IsLoadable }
     ensures spelled { IfOk result HasSpelling }
-    ensures too_long { result ≡ Err CodeTooLong → 1000000 < length (unit_code unit.now) }
-    ensures too_many { result ≡ Err TooManyCells → (length (unit_code unit.now) ≤ 1000000) × PassesCells unit.now }
-    ensures within { IfOk result (λ image. (length image.code ≤ 1000000) × (image.cells ≤ 1000000)) }
+    ensures too_long { result ≡ Err CodeTooLong → MOST_INSTRUCTIONS < length (unit_code unit.now) }
+    ensures too_many { result ≡ Err TooManyCells → (length (unit_code unit.now) ≤ MOST_INSTRUCTIONS) × PassesCells unit.now }
+    ensures within { IfOk result (λ image. (length image.code ≤ MOST_INSTRUCTIONS) × (image.cells ≤ MOST_CELLS)) }
 {
     unit.facts();
-    if code_size(unit) > MOST {
+    if code_size(unit) > MOST_INSTRUCTIONS {
         return Err(GenFault::CodeTooLong);
     }
-    if cell_count(unit.slots()) > MOST {
+    if cell_count(unit.slots()) > CELLS {
         return Err(GenFault::TooManyCells);
     }
     if !fits_fields(unit) {
@@ -109,7 +110,7 @@ fn image_of(alloc: Global, unit: &B0Unit) -> Result<Image, Memory>
     requires bodies { All (λ b. HasStatementCode (unit_places unit.now) b.sub) unit.now.bodies }
     requires paired { length unit.now.heads ≡ length unit.now.bodies }
     requires short { block_size (unit_places unit.now) unit.now.init
-        + blocks_size (unit_places unit.now) unit.now.bodies ≤ 1000000 }
+        + blocks_size (unit_places unit.now) unit.now.bodies ≤ MOST_INSTRUCTIONS }
     ensures { IfOk result (λ image. image ≡ unit_image unit.now) }
 {
     let mut code = Vec::new(alloc);
@@ -134,7 +135,7 @@ fn add_operations(
     code: &mut Vec<Inst>,
 ) -> Result<Vec<OpEntry>, Memory>
     requires ready { IsReady unit.now }
-    requires short { length code.old.items + blocks_size (unit_places unit.now) bodies.now ≤ 1000000 }
+    requires short { length code.old.items + blocks_size (unit_places unit.now) bodies.now ≤ MOST_INSTRUCTIONS }
     requires has { All (λ b. HasStatementCode (unit_places unit.now) b.sub) bodies.now }
     requires paired { length heads.now ≡ length bodies.now }
     ensures code { OnOk result

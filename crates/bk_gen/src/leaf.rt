@@ -9,6 +9,7 @@ ghost use Rattle.bk_gen.specs.Executed.{HasLeafCode, IsReady, constant_or_cell};
 use bk_b0::{B0Unit, Slot};
 use bk_code::Inst;
 use bk_form::{Form, View};
+use bk_limits::MOST_CELLS;
 
 // The instruction that leaves the number of a name or a literal on the stack.
 pub(crate) fn leaf(unit: &B0Unit, form: &Form) -> Inst
@@ -61,16 +62,16 @@ fn literal_number(form: &Form) -> i64
 pub(crate) fn slot_of(unit: &B0Unit, variable: u32) -> u32
     requires { IsReady unit.now }
     ensures value { result ≡ first_of variable unit.now.slots }
-    ensures few { result ≤ 1000000 }
+    ensures few { result ≤ MOST_CELLS }
 {
     first_cell(unit.slots(), variable)
 }
 
 // The first cell of a variable among these, or behind them all.
 fn first_cell(slots: &[Slot], variable: u32) -> u32
-    requires { slots_cells slots.now ≤ 1000000 }
+    requires { slots_cells slots.now ≤ MOST_CELLS }
     ensures value { result ≡ first_of variable slots.now }
-    ensures few { result ≤ 1000000 }
+    ensures few { result ≤ MOST_CELLS }
 {
     let mut first = 0u128;
     for slot in slots {

@@ -17,6 +17,7 @@ use bk_b0::{B0Unit, index_count};
 use bk_code::{Inst, Memory};
 use bk_form::{ArrayRow, BinOp, Form, View};
 use bk_gsl::{Sub, SubNode};
+use bk_limits::MOST_INSTRUCTIONS;
 
 // ---- how many instructions there are
 
@@ -109,7 +110,7 @@ fn fill_size(cells: u128) -> u64
 pub(crate) fn add_block(unit: &B0Unit, sub: &Sub, code: &mut Vec<Inst>) -> Result<(), Memory>
     requires ready { IsReady unit.now }
     requires has { HasStatementCode (unit_places unit.now) sub.now }
-    requires short { length code.old.items + block_size (unit_places unit.now) sub.now ≤ 1000000 }
+    requires short { length code.old.items + block_size (unit_places unit.now) sub.now ≤ MOST_INSTRUCTIONS }
     ensures { OnOk result (code.new.items ≡ code.old.items ++ placed_block (unit_places unit.now) sub.now) }
 {
     add_statement(unit, sub, code)?;
@@ -123,7 +124,7 @@ pub(crate) fn add_block(unit: &B0Unit, sub: &Sub, code: &mut Vec<Inst>) -> Resul
 fn add_statement(unit: &B0Unit, sub: &Sub, code: &mut Vec<Inst>) -> Result<(), Memory>
     requires ready { IsReady unit.now }
     requires has { HasStatementCode (unit_places unit.now) sub.now }
-    requires short { length code.old.items + statement_size (unit_places unit.now) sub.now ≤ 1000000 }
+    requires short { length code.old.items + statement_size (unit_places unit.now) sub.now ≤ MOST_INSTRUCTIONS }
     ensures { OnOk result (code.new.items ≡ code.old.items ++ placed_statement (unit_places unit.now) sub.now) }
 {
     match &*sub.node {
@@ -155,7 +156,7 @@ fn add_branches(
     requires has_yes { HasStatementCode (unit_places unit.now) yes.now }
     requires has_no { HasStatementCode (unit_places unit.now) no.now }
     requires short { length code.old.items + (value_size test.now
-        + (statement_size (unit_places unit.now) yes.now + statement_size (unit_places unit.now) no.now) + 2) ≤ 1000000 }
+        + (statement_size (unit_places unit.now) yes.now + statement_size (unit_places unit.now) no.now) + 2) ≤ MOST_INSTRUCTIONS }
     ensures { OnOk result (code.new.items ≡ code.old.items
         ++ placed_statement (unit_places unit.now) (if_else test.now yes.now no.now)) }
 {
@@ -178,7 +179,7 @@ fn add_loop(unit: &B0Unit, test: &Form, body: &Sub, code: &mut Vec<Inst>) -> Res
     requires has_test { HasCode (unit_places unit.now) test.now }
     requires has_body { HasStatementCode (unit_places unit.now) body.now }
     requires short { length code.old.items
-        + (value_size test.now + statement_size (unit_places unit.now) body.now + 2) ≤ 1000000 }
+        + (value_size test.now + statement_size (unit_places unit.now) body.now + 2) ≤ MOST_INSTRUCTIONS }
     ensures { OnOk result (code.new.items ≡ code.old.items
         ++ placed_statement (unit_places unit.now) (loop test.now body.now btrue btrue)) }
 {
@@ -197,7 +198,7 @@ fn add_loop(unit: &B0Unit, test: &Form, body: &Sub, code: &mut Vec<Inst>) -> Res
 fn add_assignment(unit: &B0Unit, terms: &[(u32, Form)], code: &mut Vec<Inst>) -> Result<(), Memory>
     requires ready { IsReady unit.now }
     requires has { HasAssignmentCode (unit_places unit.now) terms.now }
-    requires short { length code.old.items + assignment_size (unit_places unit.now) terms.now ≤ 1000000 }
+    requires short { length code.old.items + assignment_size (unit_places unit.now) terms.now ≤ MOST_INSTRUCTIONS }
     ensures { OnOk result (code.new.items ≡ code.old.items ++ placed_assignment (unit_places unit.now) terms.now) }
 {
     match terms {
@@ -211,7 +212,7 @@ fn add_store(unit: &B0Unit, variable: u32, term: &Form, code: &mut Vec<Inst>) ->
     requires ready { IsReady unit.now }
     requires has { HasStoreCode (unit_places unit.now) variable (row_of unit.now.arrays variable) term.now }
     requires short { length code.old.items
-        + store_size ((unit_places unit.now).cells variable) (row_of unit.now.arrays variable) term.now ≤ 1000000 }
+        + store_size ((unit_places unit.now).cells variable) (row_of unit.now.arrays variable) term.now ≤ MOST_INSTRUCTIONS }
     ensures { OnOk result (code.new.items ≡ code.old.items
         ++ placed_store (unit_places unit.now) variable (row_of unit.now.arrays variable) term.now) }
 {
@@ -236,7 +237,7 @@ fn add_written(
     requires ready { IsReady unit.now }
     requires found { row_of unit.now.arrays variable ≡ Some row.now }
     requires has { HasArrayCode (unit_places unit.now) term.now }
-    requires short { length code.old.items + written_size ((unit_places unit.now).cells variable) term.now ≤ 1000000 }
+    requires short { length code.old.items + written_size ((unit_places unit.now).cells variable) term.now ≤ MOST_INSTRUCTIONS }
     ensures { OnOk result (code.new.items ≡ code.old.items ++ written_code (unit_places unit.now) variable row.now term.now) }
 {
     match term.view() {
@@ -257,7 +258,7 @@ fn add_change(
     requires ready { IsReady unit.now }
     requires found { row_of unit.now.arrays variable ≡ Some row.now }
     requires has { HasChangeCode (unit_places unit.now) op part.now }
-    requires short { length code.old.items + change_size ((unit_places unit.now).cells variable) op part.now ≤ 1000000 }
+    requires short { length code.old.items + change_size ((unit_places unit.now).cells variable) op part.now ≤ MOST_INSTRUCTIONS }
     ensures { OnOk result (code.new.items ≡ code.old.items ++ change_code (unit_places unit.now) variable row.now op part.now) }
 {
     match op {
@@ -279,7 +280,7 @@ fn add_element_write(
     requires found { row_of unit.now.arrays variable ≡ Some row.now }
     requires has_index { HasCode (unit_places unit.now) index.now }
     requires has_value { HasCode (unit_places unit.now) value.now }
-    requires short { length code.old.items + (value_size index.now + value_size value.now + 1) ≤ 1000000 }
+    requires short { length code.old.items + (value_size index.now + value_size value.now + 1) ≤ MOST_INSTRUCTIONS }
     ensures { OnOk result (code.new.items ≡ code.old.items
         ++ (placed_value (unit_places unit.now) index.now ++ placed_value (unit_places unit.now) value.now
         ++ placed_write (unit_places unit.now) variable row.now)) }

@@ -14,6 +14,7 @@ use crate::leaf::leaf;
 use bk_b0::B0Unit;
 use bk_code::{Inst, Memory};
 use bk_form::{BinOp, Form, UnOp, View};
+use bk_limits::MOST_INSTRUCTIONS;
 
 // How many instructions the code of an expression or a condition has, or 2^64 - 1 if they are more.
 pub(crate) fn value_size(form: &Form) -> u64
@@ -56,7 +57,7 @@ fn operator_size(op: BinOp) -> u64
 pub(crate) fn add_value(unit: &B0Unit, form: &Form, code: &mut Vec<Inst>) -> Result<(), Memory>
     requires ready { IsReady unit.now }
     requires has { HasCode (unit_places unit.now) form.now }
-    requires short { length code.old.items + value_size form.now ≤ 1000000 }
+    requires short { length code.old.items + value_size form.now ≤ MOST_INSTRUCTIONS }
     ensures { OnOk result (code.new.items ≡ code.old.items ++ placed_value (unit_places unit.now) form.now) }
 {
     match form.view() {
@@ -103,7 +104,7 @@ fn add_operation(
     requires has_left { HasCode (unit_places unit.now) left.now }
     requires has_right { HasCode (unit_places unit.now) right.now }
     requires has { IsOperator (unit_places unit.now) op left.now }
-    requires short { length code.old.items + (value_size left.now + value_size right.now + operator_size op) ≤ 1000000 }
+    requires short { length code.old.items + (value_size left.now + value_size right.now + operator_size op) ≤ MOST_INSTRUCTIONS }
     ensures { OnOk result (code.new.items ≡ code.old.items ++ operated (unit_places unit.now) op left.now right.now) }
 {
     match op {
@@ -126,7 +127,7 @@ fn add_calculation(
     requires ready { IsReady unit.now }
     requires has_left { HasCode (unit_places unit.now) left.now }
     requires has_right { HasCode (unit_places unit.now) right.now }
-    requires short { length code.old.items + (value_size left.now + value_size right.now) ≤ 1000000 }
+    requires short { length code.old.items + (value_size left.now + value_size right.now) ≤ MOST_INSTRUCTIONS }
     ensures { OnOk result (code.new.items ≡ code.old.items
         ++ (placed_value (unit_places unit.now) left.now ++ placed_value (unit_places unit.now) right.now ++ calculation op ∷ [])) }
 {
@@ -163,7 +164,7 @@ fn add_element(
     requires ready { IsReady unit.now }
     requires has_index { HasCode (unit_places unit.now) index.now }
     requires array { IsArrayAt (unit_places unit.now) array.now }
-    requires short { length code.old.items + value_size index.now ≤ 1000000 }
+    requires short { length code.old.items + value_size index.now ≤ MOST_INSTRUCTIONS }
     ensures { OnOk result (code.new.items ≡ code.old.items
         ++ (placed_value (unit_places unit.now) index.now ++ read_code (unit_places unit.now) array.now)) }
 {
@@ -178,7 +179,7 @@ fn add_both(unit: &B0Unit, left: &Form, right: &Form, code: &mut Vec<Inst>) -> R
     requires ready { IsReady unit.now }
     requires has_left { HasCode (unit_places unit.now) left.now }
     requires has_right { HasCode (unit_places unit.now) right.now }
-    requires short { length code.old.items + (value_size left.now + value_size right.now + 3) ≤ 1000000 }
+    requires short { length code.old.items + (value_size left.now + value_size right.now + 3) ≤ MOST_INSTRUCTIONS }
     ensures { OnOk result (code.new.items ≡ code.old.items ++ operated (unit_places unit.now) Both left.now right.now) }
 {
     add_value(unit, left, code)?;
@@ -197,7 +198,7 @@ fn add_either(unit: &B0Unit, left: &Form, right: &Form, code: &mut Vec<Inst>) ->
     requires ready { IsReady unit.now }
     requires has_left { HasCode (unit_places unit.now) left.now }
     requires has_right { HasCode (unit_places unit.now) right.now }
-    requires short { length code.old.items + (value_size left.now + value_size right.now + 3) ≤ 1000000 }
+    requires short { length code.old.items + (value_size left.now + value_size right.now + 3) ≤ MOST_INSTRUCTIONS }
     ensures { OnOk result (code.new.items ≡ code.old.items ++ operated (unit_places unit.now) Either left.now right.now) }
 {
     add_value(unit, left, code)?;
