@@ -2,6 +2,7 @@
 use Rattle.std.specs.Prelude.{◌≡◌, ◌≢◌, ℕ, ◌+◌, ◌<◌, ◌≤◌, ◌^◌, ◌⊎◌, ℤ, pos, ◌+ℤ◌, List, [], ◌∷◌, ◌++◌, length, take, Some, slice_get}
 use Rattle.std.specs.List.{flat_map}
 use Rattle.std.specs.Int.{w16}
+use Rattle.bk_limits.specs.declared.TheConstants.{MOST_CELLS, MOST_SETS}
 use Rattle.bk_code.specs.declared.image.Image.{Image}
 use Rattle.bk_code.specs.declared.image.OpEntry.{OpEntry}
 use Rattle.bk_code.specs.declared.image.Parameter.{Parameter}
@@ -141,7 +142,7 @@ count_place image = 10 + length (sets image.sets) + length (entries image.ops)
 -- the faults of the numbers: too many cells, too many sets, one of an operation, no instruction, or one of an instruction
 abbrev pub IsNumberFault : Image → LoadFault → Type 0
 IsNumberFault image e =
-    ((e ≡ BadSlot 6) × (1000000 < image.cells)) ⊎ ((e ≡ BadSlot 10) × (65534 < length image.sets))
+    ((e ≡ BadSlot 6) × (MOST_CELLS < image.cells)) ⊎ ((e ≡ BadSlot 10) × (MOST_SETS < length image.sets))
     ⊎ IsFaultIn entry (IsEntryFault image) (ops_place image) image.ops e
     ⊎ ((e ≡ BadJump (count_place image)) × (length image.code ≡ 0))
     ⊎ IsFaultIn inst (IsOneInstFault image) (count_place image + 4) image.code e

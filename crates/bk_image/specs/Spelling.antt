@@ -2,6 +2,7 @@
 use Rattle.std.specs.Prelude.{ℕ, ◌+◌, ◌<◌, ◌≤◌, ◌^◌, ℤ, List, [], ◌∷◌, ◌++◌, length, All, FitsSigned}
 use Rattle.std.specs.List.{flat_map}
 use Rattle.std.specs.Int.{Width, w16, w32, w64, to_be_bytes, cast_unsigned}
+use Rattle.bk_limits.specs.declared.TheConstants.{MOST_SETS}
 use Rattle.bk_code.specs.declared.image.Image.{Image}
 use Rattle.bk_code.specs.declared.image.OpEntry.{OpEntry}
 use Rattle.bk_code.specs.declared.image.Parameter.{Parameter}
@@ -166,4 +167,4 @@ pub record FitsFields (image : Image) : Type 0 where
 -- and there are at most 65,534 sets
 pub record HasSpelling (image : Image) : Type 0 where
   pub fits : FitsFields image
-  pub few_sets : length image.sets ≤ 65534
+  pub few_sets : length image.sets ≤ MOST_SETS

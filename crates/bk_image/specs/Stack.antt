@@ -1,5 +1,6 @@
 -- The faults of the stack: the depths that the code's flows give to its places.
 use Rattle.std.specs.Prelude.{◌≡◌, ◌≢◌, ℕ, zero, suc, ◌+◌, ◌<◌, ◌⊎◌, ℤ, pos, ◌+ℤ◌, ◌-ℤ◌, ◌<ℤ◌, ◌≤ℤ◌, Some, slice_get}
+use Rattle.bk_limits.specs.declared.TheConstants.{STACK_ROOM}
 use Rattle.bk_code.specs.declared.image.Image.{Image}
 use Rattle.bk_code.specs.declared.instruction.Inst.{Inst}
 use Rattle.bk_code.specs.declared.instruction.Inst.TheVariants.{Ret}
@@ -22,12 +23,12 @@ HasDepth image (suc n) to d =
 -- with this depth the instruction pops below 0, the stack is too deep, or it isn't empty at the end; an instruction that
 -- pops nothing is at no fault below 0
 abbrev pub BreaksRules : Inst → ℤ → Type 0
-BreaksRules i d = ((0 < pops i) × (d <ℤ pos (pops i))) ⊎ (pos 1000 <ℤ d) ⊎ ((i ≡ Ret) × (d ≢ pos 0))
+BreaksRules i d = ((0 < pops i) × (d <ℤ pos (pops i))) ⊎ (pos STACK_ROOM <ℤ d) ⊎ ((i ≡ Ret) × (d ≢ pos 0))
 
 -- with this depth it breaks none
 pub record IsAllowed (i : Inst) (d : ℤ) : Type 0 where
   pub enough : 0 < pops i → pos (pops i) ≤ℤ d
-  pub limit : d ≤ℤ pos 1000
+  pub limit : d ≤ℤ pos STACK_ROOM
   pub empty : i ≡ Ret → d ≡ pos 0
 
 -- the place has two depths

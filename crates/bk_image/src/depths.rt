@@ -12,7 +12,11 @@ ghost use Rattle.bk_image.specs.Judging.{IsFirstWrong};
 
 use crate::numbers::{code_begin, inst_size};
 use bk_code::{Image, Inst, Memory};
+use bk_limits::STACK_ROOM;
 use std::alloc::Global;
+
+/// The deepest that the stack may be, as depths are counted here.
+const DEEPEST: i64 = STACK_ROOM as i64;
 
 /// What is known of the depth of the stack at a place: nothing, one number, or that it is more than one.
 #[derive(Clone, Copy)]
@@ -319,7 +323,7 @@ fn is_allowed(inst: Inst, depth: i64) -> bool
     if popped > 0 && depth < popped {
         return false;
     }
-    if depth > 1000 {
+    if depth > DEEPEST {
         return false;
     }
     match inst {

@@ -11,15 +11,10 @@ ghost use Rattle.bk_image.specs.Faults.{IsFirst, IsFaultIn, IsParameterFault, Is
 
 use crate::LoadFault;
 use bk_code::{CellKind, Image, Inst, NameText, NameTexts, OpEntry, Parameter};
+use bk_limits::{MOST_CELLS, MOST_SETS};
 
 /// MAXINT; the least number is its negation.
 const MAX: i64 = 2147483647;
-
-/// The greatest number of cells.
-const CELLS: u32 = 1000000;
-
-/// The greatest number of sets.
-const SETS: usize = 65534;
 
 fn is_in_range(n: i64) -> bool
     ensures { IsTrue result ↔ IsWithin (pos 2147483647) n }
@@ -290,19 +285,19 @@ pub fn code_begin(image: &Image) -> usize
 }
 
 fn has_too_many_sets(image: &Image) -> bool
-    ensures { MatchBool result (65534 < length image.now.sets) (length image.now.sets ≤ 65534) }
+    ensures { MatchBool result (MOST_SETS < length image.now.sets) (length image.now.sets ≤ MOST_SETS) }
 {
-    image.sets.as_slice().len() > SETS
+    image.sets.as_slice().len() > MOST_SETS
 }
 
 /// The first number of an image that is outside its range.
 pub fn number_fault(image: &Image) -> Option<LoadFault>
     requires few { length image.now.code < 2 ^ 32 }
     requires room { length (spell.spelling image.now) < 2 ^ 64 }
-    ensures { MatchOption result (checks.IsNumbered image.now × (length image.now.sets ≤ 65534))
+    ensures { MatchOption result (checks.IsNumbered image.now × (length image.now.sets ≤ MOST_SETS))
         (λ e. IsFirst (IsNumberFault image.now) e) }
 {
-    if image.cells > CELLS {
+    if image.cells > MOST_CELLS {
         return Some(LoadFault::BadSlot(6));
     }
     if has_too_many_sets(image) {
