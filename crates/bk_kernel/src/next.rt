@@ -8,9 +8,10 @@ ghost use Rattle.bk_bind.specs.Opening.{rebound, all_rebound};
 ghost use Rattle.bk_bind.specs.declared.error.BindFault.TheVariants.{TooLarge};
 ghost use Rattle.bk_kernel.specs.Next.{raised, at_next};
 
-use bk_bind::{BindFault, MOST_NODES, bounded};
+use bk_bind::{BindFault, bounded};
 use bk_form::{BinOp, Form, Part, Ty, View};
 use bk_io::Memory;
+use bk_limits::MOST_NODES;
 use std::alloc::Global;
 
 /// The body with one more than its innermost variable in the place of the variable. `Memory` comes too where the machine's words

@@ -3,8 +3,8 @@
 ghost use Rattle.std.specs.Prelude.{◌↔◌, All, IsTrue};
 ghost use Rattle.bk_bind.specs.Limits.{IsWithinLimits};
 
-use bk_bind::{GREATEST_HEIGHT, MOST_NODES};
 use bk_form::Form;
+use bk_limits::{GREATEST_HEIGHT, MOST_NODES};
 
 /// Whether the formula is within the limits of an obligation's formulas.
 pub(crate) fn is_within(form: &Form) -> bool
