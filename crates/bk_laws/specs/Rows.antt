@@ -1,6 +1,7 @@
 -- Rows of laws: their instances at some picks, and what is wrong with picks.
 use Rattle.std.specs.Prelude.{◌≡◌, ◌≢◌, ◌⊎◌, ◌<◌, ◌≤◌, ℕ, nat_eq, Bool, true, false, not, ◌&&◌, ◌||◌, ◌+◌, ◌-◌, ◌^◌, min, cond, List, [], ◌∷◌, map, length, Option, Some, None, slice_get, unwrap_or}
 use Rattle.std.specs.List.{find, list_any}
+use Rattle.bk_limits.specs.declared.TheConstants.{MOST_NODES}
 use Rattle.bk_form.specs.Formula.{Formula, btrue, formula_size}
 use Rattle.bk_laws.specs.Patterns.{Pattern, letter, formula_of, asks_empty, is_empty_set}
 
@@ -31,9 +32,9 @@ built row picks = record {
 abbrev pub pick_at : List Formula → ℕ → Formula
 pick_at picks k = unwrap_or (slice_get picks k) btrue
 
--- at most 200000 nodes: so an instance has fewer than 2^32
+-- at most MOST_NODES nodes: so an instance has fewer than 2^32
 abbrev pub IsSmall : Formula → Type 0
-IsSmall f = formula_size f ≤ 200000
+IsSmall f = formula_size f ≤ MOST_NODES
 
 -- letter k of the row stands for an empty set
 abbrev pub wants_empty : Row → ℕ → Bool
