@@ -1,5 +1,6 @@
 -- Small components as they are written, and the developments that they are, to be checked by hand.
 use Rattle.std.specs.Prelude.{ℕ, ℤ, pos, List, [], ◌∷◌, ◌++◌, Option, None, Some}
+use Rattle.bk_limits.specs.declared.TheConstants.{MAXINT}
 use Rattle.bk_val.specs.ValueType.{int_type, enum_type}
 use Rattle.bk_form.specs.Table.{VariableEntry}
 use Rattle.bk_form.specs.Formula.{variable, literal, element, named, binary, btrue}
@@ -27,7 +28,7 @@ use Rattle.bk_level.specs.Verdict.{Verdict, level_below, verdict_of}
 
 -- MAXINT
 abbrev pub maxint : ℤ
-maxint = pos 2147483647
+maxint = MAXINT
 
 -- ---- pieces
 -- a name where it is declared

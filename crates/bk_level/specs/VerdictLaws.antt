@@ -68,7 +68,7 @@ abbrev pub AcceptedIsDevelopment : Type 0
 AcceptedIsDevelopment = (above : Option Development) (written : RawComponent) (dev : Development) → MayStandAbove written.kind above → HomesStandInLevels (above_of above) → verdict_of (machine_max (above_of above)) above written ≡ accepted dev → HasRoom dev → IsDevelopment dev
 
 -- ---- B0
--- an implementation that is accepted is in B0, where no tree in it is higher than 1000
+-- an implementation that is accepted is in B0, where no tree in it is higher than GREATEST_TREE_HEIGHT
 abbrev pub AcceptedIsInB0 : Type 0
 AcceptedIsInB0 = (above : Option Development) (written : RawComponent) (dev : Development) → MayStandAbove written.kind above → written.kind ≡ Implementation → IsLowComponent written → verdict_of (machine_max (above_of above)) above written ≡ accepted dev → IsB0Development dev
 
