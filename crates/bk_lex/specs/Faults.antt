@@ -1,6 +1,7 @@
 -- Where a text is at fault.
 use Rattle.std.specs.Prelude.{◌≡◌, ◌≢◌, ℕ, ◌+◌, ◌≤◌, ◌<◌, List, ◌++◌, length, codes}
 use Rattle.std.specs.Str.{IsUtf8, IsValidUpTo}
+use Rattle.bk_limits.specs.declared.TheConstants.{MOST_TOKENS}
 use Rattle.bk_form.specs.declared.token.Token.{Token}
 use Rattle.bk_form.specs.declared.token.TokenKind.{TokenKind}
 use Rattle.bk_lex.specs.Lexis.{Gap, gap_text, IsGap, IsWritten, Fits, BeginsWith, Cut}
@@ -40,11 +41,11 @@ pub record StandsAt (text : List ℕ) (place : ℕ) (found : List Token) (This :
   pub left : place + length rest ≡ length text
   pub this : This rest
 
--- the fault is that of the text: at most 1000000 tokens stand before it
+-- the fault is that of the text: at most MOST_TOKENS tokens stand before it
 abbrev pub IsFaultOf : List ℕ → LexFault → Type 0
 IsFaultOf text (NotUtf8 place) = (IsUtf8 text → ⊥) × IsValidUpTo text place
-IsFaultOf text (BadChar place) = IsUtf8 text × (found : List Token) × StandsAt text place found BeginsNothing × (length found ≤ 1000000)
-IsFaultOf text (OpenComment place) = IsUtf8 text × (found : List Token) × StandsAt text place found IsOpenComment × (length found ≤ 1000000)
-IsFaultOf text (NumberTooWide place) = IsUtf8 text × (found : List Token) × StandsAt text place found BeginsTooWide × (length found ≤ 1000000)
-IsFaultOf text (Limit place) = IsUtf8 text × (found : List Token) × StandsAt text place found BeginsToken × (length found ≡ 1000000)
+IsFaultOf text (BadChar place) = IsUtf8 text × (found : List Token) × StandsAt text place found BeginsNothing × (length found ≤ MOST_TOKENS)
+IsFaultOf text (OpenComment place) = IsUtf8 text × (found : List Token) × StandsAt text place found IsOpenComment × (length found ≤ MOST_TOKENS)
+IsFaultOf text (NumberTooWide place) = IsUtf8 text × (found : List Token) × StandsAt text place found BeginsTooWide × (length found ≤ MOST_TOKENS)
+IsFaultOf text (Limit place) = IsUtf8 text × (found : List Token) × StandsAt text place found BeginsToken × (length found ≡ MOST_TOKENS)
 IsFaultOf text Memory = Unit {0}

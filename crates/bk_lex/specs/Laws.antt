@@ -1,5 +1,6 @@
 -- What the definitions imply.
 use Rattle.std.specs.Prelude.{◌≡◌, ℕ, ◌≤◌, List, length}
+use Rattle.bk_limits.specs.declared.TheConstants.{MOST_TOKENS}
 use Rattle.bk_form.specs.declared.token.Token.{Token}
 use Rattle.bk_lex.specs.Lexis.{AreTokens}
 use Rattle.bk_lex.specs.Faults.{IsFaultOf}
@@ -19,9 +20,9 @@ IsOfText (NumberTooWide place) = Unit {0}
 IsOfText (Limit place) = Unit {0}
 IsOfText Memory = ⊥
 
--- the text has no list of at most 1000000 tokens, unless only memory was wanting
+-- the text has no list of at most MOST_TOKENS tokens, unless only memory was wanting
 abbrev pub HasNoTokens : List ℕ → LexFault → Type 0
-HasNoTokens text fault = IsOfText fault → (tokens : List Token) → AreTokens text tokens → length tokens ≤ 1000000 → ⊥
+HasNoTokens text fault = IsOfText fault → (tokens : List Token) → AreTokens text tokens → length tokens ≤ MOST_TOKENS → ⊥
 
 -- a text has at most one fault
 abbrev pub FaultsAreOne : Type 0

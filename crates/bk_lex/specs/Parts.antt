@@ -4,6 +4,7 @@ use Rattle.std.specs.List.{list_all}
 use Rattle.std.specs.Str.{encode_utf8_all, IsCharBoundary, IsUtf8}
 use Rattle.std.specs.Char.{encode_utf8}
 use Rattle.unicode_ident.specs.Ident.{is_xid_continue}
+use Rattle.bk_limits.specs.declared.TheConstants.{MOST_TOKENS}
 use Rattle.bk_form.specs.declared.token.Token.{Token}
 use Rattle.bk_form.specs.declared.token.TokenKind.{TokenKind}
 use Rattle.bk_lex.specs.Lexis.{Gap, gap_text, IsGap, AreGaps, NoComment, IsIdentifier, is_digit, is_numeral, IsWritten, BeginsWith, Fits, AreTokens, sign_number}
@@ -96,9 +97,9 @@ IsFirstToken kind text rest = BeginsWith kind text rest × Fits kind
 abbrev pub NoSignOfLength : ℕ → List ℕ → Type 0
 NoSignOfLength count text = (op : ℕ) (written after : List ℕ) → length written ≡ count → sign_number written ≡ Some op → text ≢ written ++ after
 
--- these are the text's tokens, at most 1000000
+-- these are the text's tokens, at most MOST_TOKENS
 abbrev pub IsAnswer : List ℕ → List Token → Type 0
-IsAnswer text tokens = AreTokens text tokens × (length tokens ≤ 1000000)
+IsAnswer text tokens = AreTokens text tokens × (length tokens ≤ MOST_TOKENS)
 
 -- the first bytes, so many, are characters that continue an identifier, and no such one stands behind them
 pub record ContinuesUpTo (text : List ℕ) (count : ℕ) : Type 0 where

@@ -13,17 +13,15 @@ use crate::part::{first_dollar, first_identifier, first_numeral, first_sign};
 use crate::table::Tables;
 use bk_form::{Token, TokenKind};
 use bk_io::Text;
+use bk_limits::MOST_TOKENS;
 use std::alloc::Global;
-
-/// The greatest number of tokens.
-const LIMIT: usize = 1000000;
 
 /// The tokens of a text.
 ///
 /// Each is the longest that fits where it stands. Blanks and comments stand between them.
 pub fn tokens(alloc: Global, text: &[u8]) -> Result<Vec<Token>, LexFault>
     ensures ok { IfOk result (λ found. AreTokens text.now found.items) }
-    ensures limit { IfOk result (λ found. length found.items ≤ 1000000) }
+    ensures limit { IfOk result (λ found. length found.items ≤ MOST_TOKENS) }
     ensures fault { IfErr result (IsFaultOf text.now) }
     ensures none { IfErr result (HasNoTokens text.now) }
 {
@@ -42,7 +40,7 @@ fn cut(alloc: Global, text: &str) -> Result<Vec<Token>, LexFault>
     while !rest.is_empty() {
         let start = text.len() - rest.len();
         let (kind, after) = first_token(alloc, &tables, rest, start)?;
-        if found.len() == LIMIT {
+        if found.len() == MOST_TOKENS {
             return Err(LexFault::Limit(start));
         }
         let end = text.len() - after.len();
