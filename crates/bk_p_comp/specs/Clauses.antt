@@ -1,5 +1,6 @@
 -- A component's header and its clauses, on the way to being built.
 use Rattle.std.specs.Prelude.{◌≡◌, ◌≢◌, ℕ, ◌<◌, ◌≤◌, All, Bool, true, false, List, [], ◌∷◌, ◌++◌, map}
+use Rattle.bk_limits.specs.declared.TheConstants.{GREATEST_TREE_HEIGHT}
 use Rattle.bk_form.specs.declared.token.Token.{Token}
 use Rattle.bk_raw.specs.ComponentTree.{RawClause, RawComponent, clause_number, is_allowed, parts_height}
 use Rattle.bk_raw.specs.Numbers.{greatest}
@@ -39,8 +40,8 @@ clauses_height cs = greatest (map (λ c. parts_height c.parts) cs)
 
 -- these are the clauses, unless one is too high
 abbrev pub AreKeptUnless : Bool → List RawClause → List RawClause → Type 0
-AreKeptUnless false kept cs = (kept ≡ cs) × (clauses_height cs ≤ 1000)
-AreKeptUnless true kept cs = 1000 < clauses_height cs
+AreKeptUnless false kept cs = (kept ≡ cs) × (clauses_height cs ≤ GREATEST_TREE_HEIGHT)
+AreKeptUnless true kept cs = GREATEST_TREE_HEIGHT < clauses_height cs
 
 -- these clauses are read: their numbers are kept, and the clauses themselves unless one is too high
 abbrev pub AreDone : List RawClause → Done → Type 0

@@ -1,5 +1,6 @@
 -- Why no component is read.
 use Rattle.std.specs.Prelude.{◌<◌, List}
+use Rattle.bk_limits.specs.declared.TheConstants.{GREATEST_TREE_HEIGHT}
 use Rattle.bk_form.specs.declared.token.Token.{Token}
 use Rattle.bk_raw.specs.ComponentTree.{RawComponent, component_height}
 use Rattle.bk_raw.specs.ComponentSpelling.{SpellsComponent}
@@ -13,5 +14,5 @@ use Rattle.bk_p_expr.specs.declared.fault.SynFault.TheVariants.{At, Depth, High,
 abbrev pub IsFaultOfComponent : List Token → SynFault → Type 0
 IsFaultOfComponent tokens (At place) = IsShallow tokens × IsComponentFault tokens place
 IsFaultOfComponent tokens (Depth place) = IsTooDeep tokens place
-IsFaultOfComponent tokens High = IsShallow tokens × (c : RawComponent) × SpellsComponent c tokens × (1000 < component_height c)
+IsFaultOfComponent tokens High = IsShallow tokens × (c : RawComponent) × SpellsComponent c tokens × (GREATEST_TREE_HEIGHT < component_height c)
 IsFaultOfComponent tokens Memory = Unit {0}

@@ -1,6 +1,7 @@
 -- What stands behind the word of a clause, on the way to being built.
 use Rattle.std.specs.Prelude.{◌≡◌, ◌<◌, ◌≤◌, List, All, Option, Result, IfOk, MatchOption}
 use denote.Ref.{Bor}
+use Rattle.bk_limits.specs.declared.TheConstants.{GREATEST_TREE_HEIGHT}
 use Rattle.bk_form.specs.declared.token.Token.{Token}
 use Rattle.bk_raw.specs.ComponentTree.{ClauseParts, clause_sets, clause_values, clause_operations, parts_height, RawOperation}
 use Rattle.bk_raw.specs.ComponentView.{parts_of}
@@ -24,20 +25,20 @@ IsComplete _ = Unit {0}
 abbrev pub Standing : ClauseWord → ClauseParts → List Token → Type 0
 Standing word parts tokens = Parts word parts tokens × IsComplete parts
 
--- these parts are kept, or that one of their terms or substitutions is more than 1000 high
+-- these parts are kept, or that one of their terms or substitutions is more than GREATEST_TREE_HEIGHT high
 abbrev pub AreKept : ClauseParts → Behind → Type 0
-AreKept parts (Built kept) = (parts_of kept ≡ parts) × (parts_height parts ≤ 1000)
-AreKept parts High = 1000 < parts_height parts
+AreKept parts (Built kept) = (parts_of kept ≡ parts) × (parts_height parts ≤ GREATEST_TREE_HEIGHT)
+AreKept parts High = GREATEST_TREE_HEIGHT < parts_height parts
 
 -- the same of entries of VALUES
 abbrev pub AreValues : List RawValue → ValueEntries → Type 0
-AreValues vs (BuiltValues all) = (all.items ≡ vs) × (parts_height (clause_values vs) ≤ 1000)
-AreValues vs HighValues = 1000 < parts_height (clause_values vs)
+AreValues vs (BuiltValues all) = (all.items ≡ vs) × (parts_height (clause_values vs) ≤ GREATEST_TREE_HEIGHT)
+AreValues vs HighValues = GREATEST_TREE_HEIGHT < parts_height (clause_values vs)
 
 -- and of operations
 abbrev pub AreOperations : List RawOperation → OperationEntries → Type 0
-AreOperations os (BuiltOperations all) = (all.items ≡ os) × (parts_height (clause_operations os) ≤ 1000)
-AreOperations os HighOperations = 1000 < parts_height (clause_operations os)
+AreOperations os (BuiltOperations all) = (all.items ≡ os) × (parts_height (clause_operations os) ≤ GREATEST_TREE_HEIGHT)
+AreOperations os HighOperations = GREATEST_TREE_HEIGHT < parts_height (clause_operations os)
 
 -- the answer is the longest that may stand behind the word in front of the tokens, or that none is
 abbrev pub ReadsParts : {E : Type 0} → ClauseWord → List Token → Result (Option (Behind × Bor (List Token))) E → Type 0
