@@ -1,5 +1,6 @@
 -- Why no term is read.
 use Rattle.std.specs.Prelude.{◌≡◌, ℕ, ◌<◌, List}
+use Rattle.bk_limits.specs.declared.TheConstants.{GREATEST_TREE_HEIGHT}
 use Rattle.bk_form.specs.declared.token.Token.{Token}
 use Rattle.bk_raw.specs.RawTree.{RawTree, tree_height}
 use Rattle.bk_p_expr.specs.Depth.{IsShallowFrom, IsTooDeepFrom}
@@ -16,5 +17,5 @@ NothingSpelled tokens at = (tree : RawTree) (next : ℕ) → SpellsBetween token
 abbrev pub IsTermFault : List Token → ℕ → SynFault → Type 0
 IsTermFault tokens at (At place) = IsShallowFrom tokens at × (place ≡ at) × NothingSpelled tokens at
 IsTermFault tokens at (Depth place) = IsTooDeepFrom tokens at place
-IsTermFault tokens at High = IsShallowFrom tokens at × (tree : RawTree) × (next : ℕ) × IsLongest tokens at next tree × (1000 < tree_height tree)
+IsTermFault tokens at High = IsShallowFrom tokens at × (tree : RawTree) × (next : ℕ) × IsLongest tokens at next tree × (GREATEST_TREE_HEIGHT < tree_height tree)
 IsTermFault tokens at Memory = Unit {0}

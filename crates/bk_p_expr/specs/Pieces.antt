@@ -1,5 +1,6 @@
 -- Terms on the way to being built, with their heights.
 use Rattle.std.specs.Prelude.{◌≡◌, ℕ, ◌<◌, ◌≤◌, List, [], ◌∷◌}
+use Rattle.bk_limits.specs.declared.TheConstants.{GREATEST_TREE_HEIGHT}
 use Rattle.bk_raw.specs.RawTree.{RawTree, raw, RawTreeNode, raw_word, raw_negative, raw_infix, raw_inverse, raw_image, raw_apply, raw_composition, raw_pair, raw_comprehension, raw_lambda, raw_for_all, raw_exists, raw_typed_for_all, raw_typed_exists, RawTrees, no_trees, tree_and, RawRanges, no_ranges, range_and, tree_height, trees_height, ranges_height, trees_of}
 use Rattle.bk_raw.specs.RawView.{ranges_of}
 use Rattle.bk_raw.specs.FreeNames.{conjuncts}
@@ -16,20 +17,20 @@ use Rattle.bk_p_expr.specs.declared.piece.Around.TheVariants.{Word, Negative, In
 use Rattle.bk_p_expr.specs.declared.piece.Between.{Between}
 use Rattle.bk_p_expr.specs.declared.piece.Between.TheVariants.{Infix, Image, Apply, Composition, Pair, Lambda}
 
--- the piece is that of this tree: the term itself with its height, or, where the tree is more than 1000 high, its conjuncts
+-- the piece is that of this tree: the term itself with its height, or, where the tree is more than GREATEST_TREE_HEIGHT high, its conjuncts
 abbrev pub IsPiece : RawTree → Piece → Type 0
-IsPiece tree (Built term height) = (term.value ≡ tree) × (height ≡ tree_height tree) × (height ≤ 1000)
-IsPiece tree (High known) = (1000 < tree_height tree) × AreConjuncts (conjuncts tree) known.items
+IsPiece tree (Built term height) = (term.value ≡ tree) × (height ≡ tree_height tree) × (height ≤ GREATEST_TREE_HEIGHT)
+IsPiece tree (High known) = (GREATEST_TREE_HEIGHT < tree_height tree) × AreConjuncts (conjuncts tree) known.items
 
 -- the same of a list of trees, of which only the free names are kept where one is too high
 abbrev pub IsTerms : RawTrees → Terms → Type 0
-IsTerms trees (BuiltTerms terms height) = (trees_of terms.items ≡ trees) × (height ≡ trees_height trees) × (height ≤ 1000)
-IsTerms trees (HighTerms free) = (1000 < trees_height trees) × (free.items ≡ free_names_of trees)
+IsTerms trees (BuiltTerms terms height) = (trees_of terms.items ≡ trees) × (height ≡ trees_height trees) × (height ≤ GREATEST_TREE_HEIGHT)
+IsTerms trees (HighTerms free) = (GREATEST_TREE_HEIGHT < trees_height trees) × (free.items ≡ free_names_of trees)
 
 -- and of bound variables with their ranges
 abbrev pub IsRanges : RawRanges → Ranges → Type 0
-IsRanges ranges (BuiltRanges all height) = (ranges_of all.items ≡ ranges) × (height ≡ ranges_height ranges) × (height ≤ 1000)
-IsRanges ranges (HighRanges free) = (1000 < ranges_height ranges) × (free.items ≡ free_names_of_ranges ranges)
+IsRanges ranges (BuiltRanges all height) = (ranges_of all.items ≡ ranges) × (height ≡ ranges_height ranges) × (height ≤ GREATEST_TREE_HEIGHT)
+IsRanges ranges (HighRanges free) = (GREATEST_TREE_HEIGHT < ranges_height ranges) × (free.items ≡ free_names_of_ranges ranges)
 
 -- the one list and then the other
 abbrev pub and_trees : RawTrees → RawTrees → RawTrees

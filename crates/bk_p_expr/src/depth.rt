@@ -5,10 +5,8 @@ ghost use Rattle.bk_raw.specs.Brackets.{opens_bracket, closes_bracket, open_behi
 ghost use Rattle.bk_raw.specs.Limits.{IsShallow, IsTooDeep};
 
 use bk_form::{Token, TokenKind};
+use bk_limits::MOST_OPEN;
 use bk_ops::{sign, word};
-
-/// The greatest depth.
-const DEEPEST: usize = 400;
 
 /// The first token at which more brackets, or more blocks, are open than may be.
 pub fn too_deep(tokens: &[Token]) -> Option<usize>
@@ -20,7 +18,7 @@ pub fn too_deep(tokens: &[Token]) -> Option<usize>
         let kind = &tokens[place].kind;
         brackets = brackets_behind(brackets, kind);
         blocks = blocks_behind(blocks, kind);
-        if brackets > DEEPEST || blocks > DEEPEST {
+        if brackets > MOST_OPEN || blocks > MOST_OPEN {
             return Some(place);
         }
     }
@@ -28,7 +26,7 @@ pub fn too_deep(tokens: &[Token]) -> Option<usize>
 }
 
 fn brackets_behind(before: usize, kind: &TokenKind) -> usize
-    requires { before ≤ 400 }
+    requires { before ≤ MOST_OPEN }
     ensures { result ≡ open_behind opens_bracket closes_bracket before kind.now }
 {
     match kind {
@@ -38,7 +36,7 @@ fn brackets_behind(before: usize, kind: &TokenKind) -> usize
 }
 
 fn brackets_behind_sign(before: usize, op: u16) -> usize
-    requires { before ≤ 400 }
+    requires { before ≤ MOST_OPEN }
     ensures { result ≡ open_behind opens_bracket closes_bracket before (TokenKind.Sign op) }
 {
     match op {
@@ -49,7 +47,7 @@ fn brackets_behind_sign(before: usize, op: u16) -> usize
 }
 
 fn blocks_behind(before: usize, kind: &TokenKind) -> usize
-    requires { before ≤ 400 }
+    requires { before ≤ MOST_OPEN }
     ensures { result ≡ open_behind opens_block closes_block before kind.now }
 {
     match kind {
@@ -59,7 +57,7 @@ fn blocks_behind(before: usize, kind: &TokenKind) -> usize
 }
 
 fn blocks_behind_word(before: usize, op: u16) -> usize
-    requires { before ≤ 400 }
+    requires { before ≤ MOST_OPEN }
     ensures { result ≡ open_behind opens_block closes_block before (TokenKind.Word op) }
 {
     match op {

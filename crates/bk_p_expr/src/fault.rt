@@ -13,10 +13,10 @@ pub enum SynFault {
     /// Nothing is written from this token on.
     #[error("nothing can be read at token {0}")]
     At(usize),
-    /// The first token at which more than 400 brackets, or more than 400 blocks, are open.
+    /// The first token at which more than `MOST_OPEN` brackets, or more than `MOST_OPEN` blocks, are open.
     #[error("too many are open at token {0}")]
     Depth(usize),
-    /// The tree would be more than 1000 nodes high.
+    /// The tree would be more than `GREATEST_TREE_HEIGHT` nodes high.
     #[error("too high")]
     High,
     #[error("out of memory")]

@@ -14,11 +14,12 @@ use crate::free::{
     name_alone, names_of_conjuncts, without,
 };
 use bk_io::{Memory, Text};
+use bk_limits::GREATEST_TREE_HEIGHT;
 use bk_raw::{InfixOp, RawBound, RawName, RawNode, RawRange, RawTerm, WordOp};
 use std::alloc::Global;
 
 /// The greatest height of a tree that is built.
-const HIGHEST: usize = 1000;
+const HIGHEST: usize = GREATEST_TREE_HEIGHT;
 
 /// A term with the height of its tree, or that one is written whose tree is too high.
 #[derive(Drop)]
@@ -65,7 +66,7 @@ impl Piece {
     /// A term that is not too high.
     fn built(alloc: Global, at: usize, node: RawNode, height: usize) -> Result<Piece, Memory>
         ensures { IfOk result (λ r. (tree : RawTree) → tree_of at node ≡ tree → height ≡ tree_height tree →
-            height ≤ 1000 → IsPiece tree r) }
+            height ≤ GREATEST_TREE_HEIGHT → IsPiece tree r) }
     {
         let term = Box::new(alloc, RawTerm { at, node })?;
         Ok(Piece::Built(term, height))
@@ -86,7 +87,7 @@ impl Piece {
 
     /// A term that is too high, and in which these names stand free. It is not joined by `&`.
     fn too_high(alloc: Global, free: Vec<Text>) -> Result<Piece, Memory>
-        ensures { IfOk result (λ r. (tree : RawTree) → 1000 < tree_height tree → conjuncts tree ≡ tree ∷ [] →
+        ensures { IfOk result (λ r. (tree : RawTree) → GREATEST_TREE_HEIGHT < tree_height tree → conjuncts tree ≡ tree ∷ [] →
             definition tree ≡ (None, tree) → free.items ≡ free_names tree → IsPiece tree r) }
     {
         let mut known = Vec::new(alloc);
@@ -169,7 +170,7 @@ fn name_of(alloc: Global, piece: &Piece) -> Result<Option<Text>, Memory>
 impl Around {
     /// What is kept of a term around this one that is too high.
     fn too_high(self, alloc: Global, inside: Piece) -> Result<Piece, Memory>
-        ensures { IfOk result (λ r. (at : ℕ) (tree : RawTree) → 1000 < tree_height (raw at (around_node self tree)) →
+        ensures { IfOk result (λ r. (at : ℕ) (tree : RawTree) → GREATEST_TREE_HEIGHT < tree_height (raw at (around_node self tree)) →
             IsPiece tree inside → IsPiece (raw at (around_node self tree)) r) }
     {
         let free = inside.free(alloc)?;
@@ -189,7 +190,7 @@ impl Around {
 impl Between {
     /// What is kept of a term of these two that is too high.
     fn too_high(self, alloc: Global, left: Piece, right: Piece) -> Result<Piece, Memory>
-        ensures { IfOk result (λ r. (at : ℕ) (a b : RawTree) → 1000 < tree_height (raw at (between_node self a b)) →
+        ensures { IfOk result (λ r. (at : ℕ) (a b : RawTree) → GREATEST_TREE_HEIGHT < tree_height (raw at (between_node self a b)) →
             IsPiece a left → IsPiece b right → IsPiece (raw at (between_node self a b)) r) }
     {
         match self {
@@ -218,7 +219,7 @@ fn both_free(alloc: Global, left: Piece, right: Piece) -> Result<Vec<Text>, Memo
 
 /// What is kept of an operator's term that is too high.
 fn infix_too_high(alloc: Global, op: InfixOp, left: Piece, right: Piece) -> Result<Piece, Memory>
-    ensures { IfOk result (λ r. (at : ℕ) (a b : RawTree) → 1000 < tree_height (raw at (raw_infix op a b)) →
+    ensures { IfOk result (λ r. (at : ℕ) (a b : RawTree) → GREATEST_TREE_HEIGHT < tree_height (raw at (raw_infix op a b)) →
         IsPiece a left → IsPiece b right → IsPiece (raw at (raw_infix op a b)) r) }
 {
     match op {
@@ -234,7 +235,7 @@ fn infix_too_high(alloc: Global, op: InfixOp, left: Piece, right: Piece) -> Resu
 
 /// What is kept of a conjunction that is too high.
 fn conjunction(alloc: Global, left: Piece, right: Piece) -> Result<Piece, Memory>
-    ensures { IfOk result (λ r. (at : ℕ) (a b : RawTree) → 1000 < tree_height (raw at (raw_infix And a b)) →
+    ensures { IfOk result (λ r. (at : ℕ) (a b : RawTree) → GREATEST_TREE_HEIGHT < tree_height (raw at (raw_infix And a b)) →
         IsPiece a left → IsPiece b right → IsPiece (raw at (raw_infix And a b)) r) }
 {
     let mut known = left.known(alloc)?;
@@ -245,7 +246,7 @@ fn conjunction(alloc: Global, left: Piece, right: Piece) -> Result<Piece, Memory
 
 /// What is kept of an equation that is too high.
 fn equation(alloc: Global, left: Piece, right: Piece) -> Result<Piece, Memory>
-    ensures { IfOk result (λ r. (at : ℕ) (a b : RawTree) → 1000 < tree_height (raw at (raw_infix Equal a b)) →
+    ensures { IfOk result (λ r. (at : ℕ) (a b : RawTree) → GREATEST_TREE_HEIGHT < tree_height (raw at (raw_infix Equal a b)) →
         IsPiece a left → IsPiece b right → IsPiece (raw at (raw_infix Equal a b)) r) }
 {
     let Some(name) = name_of(alloc, &left)? else {
@@ -314,7 +315,7 @@ impl Terms {
 
     /// What is kept of these terms and one more where one is too high.
     fn and_too_high(self, alloc: Global, piece: Piece) -> Result<Terms, Memory>
-        ensures { IfOk result (λ r. (trees : RawTrees) (tree : RawTree) → 1000 < trees_height (and_tree trees tree) →
+        ensures { IfOk result (λ r. (trees : RawTrees) (tree : RawTree) → GREATEST_TREE_HEIGHT < trees_height (and_tree trees tree) →
             IsTerms trees self → IsPiece tree piece → IsTerms (and_tree trees tree) r) }
     {
         let free = self.free(alloc)?;
@@ -383,7 +384,7 @@ impl Ranges {
     /// What is kept of these and one more where a range is too high.
     fn and_too_high(self, alloc: Global, piece: Piece) -> Result<Ranges, Memory>
         ensures { IfOk result (λ r. (ranges : RawRanges) (at number : ℕ) (tree : RawTree) →
-            1000 < ranges_height (and_range ranges at number tree) → IsRanges ranges self → IsPiece tree piece →
+            GREATEST_TREE_HEIGHT < ranges_height (and_range ranges at number tree) → IsRanges ranges self → IsPiece tree piece →
             IsRanges (and_range ranges at number tree) r) }
     {
         let free = self.free(alloc)?;
@@ -405,7 +406,7 @@ impl Ranges {
     /// What is kept of `{$1:d | p}` where it is too high.
     fn comprehension_too_high(self, alloc: Global, body: Piece) -> Result<Piece, Memory>
         ensures { IfOk result (λ r. (at : ℕ) (ranges : RawRanges) (p : RawTree) →
-            1000 < tree_height (raw at (raw_ranged_comprehension ranges p)) → IsRanges ranges self → IsPiece p body →
+            GREATEST_TREE_HEIGHT < tree_height (raw at (raw_ranged_comprehension ranges p)) → IsRanges ranges self → IsPiece p body →
             IsPiece (raw at (raw_ranged_comprehension ranges p)) r) }
     {
         let one = self.free(alloc)?;
@@ -417,7 +418,7 @@ impl Ranges {
     /// What is kept of `%($1:d).(p | e)` where it is too high.
     fn lambda_too_high(self, alloc: Global, body: Piece, value: Piece) -> Result<Piece, Memory>
         ensures { IfOk result (λ r. (at : ℕ) (ranges : RawRanges) (p e : RawTree) →
-            1000 < tree_height (raw at (raw_ranged_lambda ranges p e)) → IsRanges ranges self → IsPiece p body →
+            GREATEST_TREE_HEIGHT < tree_height (raw at (raw_ranged_lambda ranges p e)) → IsRanges ranges self → IsPiece p body →
             IsPiece e value → IsPiece (raw at (raw_ranged_lambda ranges p e)) r) }
     {
         let one = self.free(alloc)?;

@@ -15,6 +15,7 @@ use crate::piece::Piece;
 use crate::terms::{LOOSEST, longest};
 use bk_form::Token;
 use bk_io::Memory;
+use bk_limits::GREATEST_TREE_HEIGHT;
 use bk_raw::RawTerm;
 use std::alloc::Global;
 
@@ -24,7 +25,7 @@ use std::alloc::Global;
 #[tactic(auto, using(crate::proofs::Places::term_found, crate::proofs::Places::term_low, crate::proofs::Places::term_high, crate::proofs::Places::term_none, crate::proofs::Places::nothing_behind))]
 pub fn term(alloc: Global, tokens: &[Token], at: usize) -> Result<(RawTerm, usize), SynFault>
     ensures ok { IfOk result (λ read. IsLongest tokens.now at read.1 read.0) }
-    ensures high { IfOk result (λ read. tree_height read.0 ≤ 1000) }
+    ensures high { IfOk result (λ read. tree_height read.0 ≤ GREATEST_TREE_HEIGHT) }
     ensures deep { IfOk result (λ read. IsShallowFrom tokens.now at) }
     ensures fault { IfErr result (IsTermFault tokens.now at) }
 {
