@@ -3,6 +3,7 @@
 -- names. Of two files at fault in one of these the first is told.
 use Rattle.std.specs.Prelude.{◌≡◌, ◌≢◌, ◌⊎◌, ◌≤◌, ℕ, List, ◌∷◌, ◌++◌, length, map, All, Contains}
 use Rattle.std.specs.List.{AllZip, AllPairs, flat_map}
+use Rattle.bk_limits.specs.declared.TheConstants.{MOST_RULES}
 use Rattle.bk_form.specs.declared.token.Token.{Token}
 use Rattle.bk_raw.specs.ScriptTree.{RawScript}
 use Rattle.bk_raw.specs.ScriptSpelling.{SpellsScripts}
@@ -29,7 +30,7 @@ pub record IsLow (text : List ℕ) (scripts : List RawScript) : Type 0 where
 
 -- and no script has too many rules
 abbrev pub IsShort : RawScript → Type 0
-IsShort s = length s.rules ≤ 1000000
+IsShort s = length s.rules ≤ MOST_RULES
 
 pub record IsProofFile (text : List ℕ) (scripts : List RawScript) : Type 0 where
   pub low : IsLow text scripts
@@ -77,7 +78,7 @@ pub record AreScriptsOf (texts : List (List ℕ)) (scripts : List RawScript) : T
 abbrev pub AreOfTexts : List RawScript → Type 0
 AreOfTexts scripts = (texts : List (List ℕ)) × AreScriptsOf texts scripts
 
--- the script stands in a proof file, whose tokens are at most 1000000
+-- the script stands in a proof file, whose tokens are at most MOST_TOKENS
 abbrev pub StandsInFile : RawScript → Type 0
 StandsInFile s = (text : List ℕ) × (scripts : List RawScript) × IsProofFile text scripts × Contains scripts s
 

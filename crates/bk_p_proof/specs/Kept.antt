@@ -2,6 +2,7 @@
 -- cite it.
 use Rattle.std.specs.Prelude.{◌≡◌, ◌<◌, ◌≤◌, ℕ, Bool, true, false, List, map}
 use Rattle.std.specs.List.{flat_map}
+use Rattle.bk_limits.specs.declared.TheConstants.{GREATEST_TREE_HEIGHT}
 use Rattle.bk_raw.specs.Numbers.{greatest}
 use Rattle.bk_raw.specs.declared.script.RawTyped.{RawTyped}
 use Rattle.bk_raw.specs.ScriptTree.{RulePart, part_height, RawRule, RawScript, script_height}
@@ -9,8 +10,8 @@ use Rattle.bk_p_proof.specs.TypedNames.{part_names, rule_names, script_names}
 
 -- this is kept, and told to be too high or not
 abbrev pub IsKept : {A B : Type 0} → (A → ℕ) → (A → B) → A → A → Bool → Type 0
-IsKept height names x kept false = (kept ≡ x) × (height x ≤ 1000)
-IsKept height names x kept true = (names kept ≡ names x) × (1000 < height x)
+IsKept height names x kept false = (kept ≡ x) × (height x ≤ GREATEST_TREE_HEIGHT)
+IsKept height names x kept true = (names kept ≡ names x) × (GREATEST_TREE_HEIGHT < height x)
 
 -- the height of the highest term of parts
 abbrev pub parts_height : List RulePart → ℕ

@@ -18,11 +18,9 @@ use crate::second::second_type;
 use bk_files::cut;
 use bk_form::Token;
 use bk_io::Memory;
+use bk_limits::MOST_RULES;
 use bk_raw::RawScript;
 use std::alloc::Global;
-
-/// The greatest number of a script's rules.
-const RULES: usize = 1000000;
 
 /// The scripts of proof files, in order. Files count from 0.
 ///
@@ -148,7 +146,7 @@ fn are_short(scripts: &[RawScript]) -> bool
     ensures { IsTrue result ↔ All IsShort scripts.now }
 {
     for script in scripts {
-        if script.rules.len() > RULES {
+        if script.rules.len() > MOST_RULES {
             return false;
         }
     }
