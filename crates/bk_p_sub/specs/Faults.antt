@@ -1,5 +1,6 @@
 -- The longest substitution that is written from a place on, and why none is read.
 use Rattle.std.specs.Prelude.{◌≡◌, ℕ, ◌+◌, ◌<◌, List, ◌++◌, length}
+use Rattle.bk_limits.specs.declared.TheConstants.{GREATEST_TREE_HEIGHT}
 use Rattle.bk_form.specs.declared.token.Token.{Token}
 use Rattle.bk_raw.specs.Laws.{IsLongestSub}
 use Rattle.bk_raw.specs.SubTree.{SubTree, sub_height}
@@ -27,5 +28,5 @@ NothingSpelled tokens at = (s : SubTree) (before written after : List Token) →
 abbrev pub IsSubFault : List Token → ℕ → SynFault → Type 0
 IsSubFault tokens at (At place) = IsShallowFrom tokens at × (place ≡ at) × NothingSpelled tokens at
 IsSubFault tokens at (Depth place) = IsTooDeepFrom tokens at place
-IsSubFault tokens at High = IsShallowFrom tokens at × (s : SubTree) × (next : ℕ) × IsLongestFrom tokens at next s × (1000 < sub_height s)
+IsSubFault tokens at High = IsShallowFrom tokens at × (s : SubTree) × (next : ℕ) × IsLongestFrom tokens at next s × (GREATEST_TREE_HEIGHT < sub_height s)
 IsSubFault tokens at Memory = Unit {0}

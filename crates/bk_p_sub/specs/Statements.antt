@@ -1,5 +1,6 @@
 -- Substitutions on the way to being built, with their heights.
 use Rattle.std.specs.Prelude.{◌≡◌, ℕ, ◌<◌, ◌≤◌, None, Some}
+use Rattle.bk_limits.specs.declared.TheConstants.{GREATEST_TREE_HEIGHT}
 use Rattle.bk_ops.specs.declared.word.TheConstants.{ELSIF, WHEN}
 use Rattle.bk_raw.specs.FreeNames.{conjuncts}
 use Rattle.bk_raw.specs.RawTree.{RawTree, tree_height}
@@ -23,21 +24,21 @@ use Rattle.bk_p_sub.specs.declared.branches.Branches.TheVariants.{Built as Built
 use Rattle.bk_p_sub.specs.declared.branches.Choices.{Choices as BuiltOthers}
 use Rattle.bk_p_sub.specs.declared.branches.Choices.TheVariants.{Built as BuiltChoices, High as HighChoices}
 
--- it is the statement of this tree: the substitution itself with its height, or that the tree is more than 1000 high
+-- it is the statement of this tree: the substitution itself with its height, or that the tree is more than GREATEST_TREE_HEIGHT high
 abbrev pub IsStatement : SubTree → Statement → Type 0
-IsStatement s (Built body height) = (body.value ≡ s) × (height ≡ sub_height s) × (height ≤ 1000)
-IsStatement s High = 1000 < sub_height s
+IsStatement s (Built body height) = (body.value ≡ s) × (height ≡ sub_height s) × (height ≤ GREATEST_TREE_HEIGHT)
+IsStatement s High = GREATEST_TREE_HEIGHT < sub_height s
 
--- it is the term of this tree: the term itself with its height, or, where the tree is more than 1000 high, its conjuncts
+-- it is the term of this tree: the term itself with its height, or, where the tree is more than GREATEST_TREE_HEIGHT high, its conjuncts
 abbrev pub IsTerm : RawTree → Term → Type 0
-IsTerm t (BuiltTerm term height) = (term.value ≡ t) × (height ≡ tree_height t) × (height ≤ 1000)
-IsTerm t (HighTerm known) = (1000 < tree_height t) × AreConjuncts (conjuncts t) known.items
+IsTerm t (BuiltTerm term height) = (term.value ≡ t) × (height ≡ tree_height t) × (height ≤ GREATEST_TREE_HEIGHT)
+IsTerm t (HighTerm known) = (GREATEST_TREE_HEIGHT < tree_height t) × AreConjuncts (conjuncts t) known.items
 
 -- the same of further branches
 abbrev pub IsBranches : Branches → BuiltOnes → Type 0
-IsBranches bs (BuiltBranches all None height) = (branches_of all.items no_branches ≡ bs) × (height ≡ branches_height bs) × (height ≤ 1000)
-IsBranches bs (BuiltBranches all (Some last) height) = (branches_of all.items (else_branch last.value) ≡ bs) × (height ≡ branches_height bs) × (height ≤ 1000)
-IsBranches bs HighBranches = 1000 < branches_height bs
+IsBranches bs (BuiltBranches all None height) = (branches_of all.items no_branches ≡ bs) × (height ≡ branches_height bs) × (height ≤ GREATEST_TREE_HEIGHT)
+IsBranches bs (BuiltBranches all (Some last) height) = (branches_of all.items (else_branch last.value) ≡ bs) × (height ≡ branches_height bs) × (height ≤ GREATEST_TREE_HEIGHT)
+IsBranches bs HighBranches = GREATEST_TREE_HEIGHT < branches_height bs
 
 -- no ELSE stands among them
 abbrev pub IsOpen : BuiltOnes → Type 0
@@ -46,8 +47,8 @@ IsOpen HighBranches = Unit {0}
 
 -- and of further choices
 abbrev pub IsChoices : Choices → BuiltOthers → Type 0
-IsChoices cs (BuiltChoices all height) = (choices_of all.items ≡ cs) × (height ≡ choices_height cs) × (height ≤ 1000)
-IsChoices cs HighChoices = 1000 < choices_height cs
+IsChoices cs (BuiltChoices all height) = (choices_of all.items ≡ cs) × (height ≡ choices_height cs) × (height ≤ GREATEST_TREE_HEIGHT)
+IsChoices cs HighChoices = GREATEST_TREE_HEIGHT < choices_height cs
 
 -- the one branches and then the others
 abbrev pub followed_by : Branches → Branches → Branches

@@ -10,13 +10,11 @@ ghost use Rattle.bk_p_sub.specs.Statements.{IsStatement, IsTerm, IsAround, IsBra
 use crate::branches::{Branches, Choices};
 use crate::term::Term;
 use bk_io::Memory;
+use bk_limits::GREATEST_TREE_HEIGHT;
 use bk_ops::word;
 use bk_p_expr::Terms;
 use bk_raw::{RawBranch, RawName, RawSub, RawSubNode, RawTerm};
 use std::alloc::Global;
-
-/// The greatest height of a tree that is built.
-const HIGHEST: usize = 1000;
 
 /// A substitution with the height of its tree, or that one is written whose tree is too high.
 #[derive(Drop)]
@@ -71,7 +69,7 @@ fn built(alloc: Global, at: usize, node: RawSubNode, height: usize) -> Result<St
 fn limited(whole: Box<RawSub>, height: usize) -> Statement
     ensures { (s : SubTree) → whole.value ≡ s → sub_height s ≡ height + 1 → IsStatement s result }
 {
-    if height >= HIGHEST {
+    if height >= GREATEST_TREE_HEIGHT {
         return Statement::High;
     }
     Statement::Built(whole, height + 1)
