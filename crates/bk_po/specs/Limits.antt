@@ -1,5 +1,6 @@
 -- How large the obligations of a development may be, and which of them is at fault.
 use Rattle.std.specs.Prelude.{◌≡◌, ◌<◌, ◌≤◌, ◌⊎◌, ℕ, ◌+◌, max, nat_lt, Bool, ◌||◌, cond, List, [], ◌∷◌, length, Option, Some, None}
+use Rattle.bk_limits.specs.declared.TheConstants.{MOST_NODES, MOST_OBLIGATIONS, GREATEST_HEIGHT, MOST_NODES_TOGETHER}
 use Rattle.bk_form.specs.Formula.{formula_size, formula_height, formulas_size, formulas_height, formulas_of}
 use Rattle.bk_po.specs.Obligations.{Obligation, numbered}
 use Rattle.bk_wp.specs.declared.error.WpFault.{WpFault}
@@ -15,9 +16,9 @@ nodes_of o = formulas_size (formulas_of o.hypotheses) + formula_size o.goal
 abbrev pub height_of : Obligation → ℕ
 height_of o = max (formulas_height (formulas_of o.hypotheses)) (formula_height o.goal)
 
--- more than 200000 nodes, or more than 2000 on some way down
+-- more than MOST_NODES nodes, or more than GREATEST_HEIGHT on some way down
 abbrev pub is_too_large : Obligation → Bool
-is_too_large o = nat_lt 200000 (nodes_of o) || nat_lt 2000 (height_of o)
+is_too_large o = nat_lt MOST_NODES (nodes_of o) || nat_lt GREATEST_HEIGHT (height_of o)
 
 -- the name of the first that is too large
 abbrev pub first_too_large : List Obligation → Option (List ℕ)
@@ -29,16 +30,16 @@ abbrev pub all_nodes : List Obligation → ℕ
 all_nodes [] = 0
 all_nodes (o ∷ os) = nodes_of o + all_nodes os
 
--- none is too large, and they have at most 20000 sequents and at most 20000000 nodes together
+-- none is too large, and they have at most MOST_OBLIGATIONS sequents and at most MOST_NODES_TOGETHER nodes together
 pub record PassNoLimit (os : List Obligation) : Type 0 where
   pub sizes : first_too_large os ≡ None
-  pub sequents : length (numbered os) ≤ 20000
-  pub nodes : all_nodes os ≤ 20000000
+  pub sequents : length (numbered os) ≤ MOST_OBLIGATIONS
+  pub nodes : all_nodes os ≤ MOST_NODES_TOGETHER
 
 -- none is too large, and there are too many sequents (limit 7), or else too many nodes (limit 14)
 pub record PassTogether (os : List Obligation) (limit : ℕ) : Type 0 where
   pub sizes : first_too_large os ≡ None
-  pub passed : ((limit ≡ 7) × (20000 < length (numbered os))) ⊎ ((limit ≡ 14) × (length (numbered os) ≤ 20000) × (20000000 < all_nodes os))
+  pub passed : ((limit ≡ 7) × (MOST_OBLIGATIONS < length (numbered os))) ⊎ ((limit ≡ 14) × (length (numbered os) ≤ MOST_OBLIGATIONS) × (MOST_NODES_TOGETHER < all_nodes os))
 
 -- what a fault says of the obligations
 abbrev pub IsFaultOf : List Obligation → PoFault → Type 0

@@ -10,11 +10,11 @@ use thiserror::Error;
 /// Why the obligations of a development were not made.
 #[derive(Debug, Drop, Error)]
 pub enum PoFault {
-    /// The obligation with this name, which has no number yet, is the first with more than 200000 nodes, or more than
-    /// 2000 on some way down.
+    /// The obligation with this name, which has no number yet, is the first with more than `MOST_NODES` nodes, or more than
+    /// `GREATEST_HEIGHT` on some way down.
     #[error("an obligation is too large")]
     TooLarge { name: Text },
-    /// The limit with this number is passed by all obligations together: 7, of 20000 sequents, or 14, of 20000000 nodes.
+    /// The limit with this number is passed by all obligations together: 7, of `MOST_OBLIGATIONS` sequents, or 14, of `MOST_NODES_TOGETHER` nodes.
     #[error("the obligations pass limit {0}")]
     TooMany(u8),
     #[error("out of memory")]

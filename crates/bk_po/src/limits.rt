@@ -8,21 +8,10 @@ ghost use Rattle.bk_po.specs.declared.error.PoFault.TheVariants.{TooMany};
 use crate::error::PoFault;
 use crate::splits::count;
 use crate::whole::WholeObligation;
-
-/// The most nodes that an obligation may have.
-const MOST_NODES: u64 = 200_000;
-
-/// The most nodes that may lie on a way down its formulas.
-const GREATEST_HEIGHT: u32 = 2_000;
-
-/// The most sequents that all obligations may have together.
-const MOST_SEQUENTS: u64 = 20_000;
+use bk_limits::{GREATEST_HEIGHT, MOST_NODES, MOST_NODES_TOGETHER, MOST_OBLIGATIONS};
 
 /// The number of the limit of sequents.
 const LIMIT_OF_SEQUENTS: u8 = 7;
-
-/// The most nodes that all obligations may have together.
-const MOST_NODES_TOGETHER: u64 = 20_000_000;
 
 /// The number of the limit of nodes.
 const LIMIT_OF_NODES: u8 = 14;
@@ -64,7 +53,7 @@ pub(crate) fn check_together(wholes: &[WholeObligation]) -> Result<(), PoFault>
     ensures fault { IfErr result (IsFaultOf wholes.now) }
     ensures spent { IfErr result (λ fault. fault ≡ TooMany 7 ⊎ fault ≡ TooMany 14) }
 {
-    if all_sequents(wholes) > MOST_SEQUENTS {
+    if all_sequents(wholes) > MOST_OBLIGATIONS {
         return Err(PoFault::TooMany(LIMIT_OF_SEQUENTS));
     }
     if all_nodes(wholes) > MOST_NODES_TOGETHER {
