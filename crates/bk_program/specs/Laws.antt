@@ -1,5 +1,6 @@
 -- What holds of answers and of projects, as statements.
 use Rattle.std.specs.Prelude.{◌≡◌, ◌≢◌, ◌↔◌, ℕ, ◌≤◌, true, List, length, Some}
+use Rattle.bk_limits.specs.declared.TheConstants.{MOST_BYTES}
 use Rattle.bk_io.specs.Bytes.{AreBytes}
 use Rattle.bk_io.specs.Files.{Files, file_named}
 use Rattle.bk_code.specs.Session.{Told, Session}
@@ -34,7 +35,7 @@ abbrev pub BuiltImagesRun : Type 0
 BuiltImagesRun =
     (files others : Files) (build_words run_words exec_words : List (List ℕ)) (project calls image bytes : List ℕ) (fuel : ℕ) →
     Asks build_words (build_task project) → Asks run_words (run_task project calls fuel) → Asks exec_words (exec_task image calls fuel) →
-    IsAnswer files build_words Done bytes → AreBytes bytes → length bytes ≤ 16777216 → file_named others image ≡ Some bytes → file_named others calls ≡ file_named files calls →
+    IsAnswer files build_words Done bytes → AreBytes bytes → length bytes ≤ MOST_BYTES → file_named others image ≡ Some bytes → file_named others calls ≡ file_named files calls →
     (status : Status) (text : List ℕ) → IsAnswer files run_words status text ↔ IsAnswer others exec_words status text
 
 -- the initialisation of a project with an implementation whose obligations are proved, and each legal call, where no WHILE stands in
