@@ -4,6 +4,7 @@ use Rattle.std.specs.Prelude.{◌≡◌, ◌≢◌, ◌⊎◌, ℕ, suc, ◌<◌
 use Rattle.std.specs.List.{AllZip}
 use Rattle.std.specs.Str.{IsUtf8, IsValidUpTo}
 use Rattle.std.specs.Str.Lines.{lines}
+use Rattle.bk_limits.specs.declared.TheConstants.{MOST_COMPONENTS}
 use Rattle.bk_lines.specs.Lines.{is_skipped, kept_lines}
 use Rattle.bk_project.specs.declared.project_file.ProjectLine.{ProjectLine}
 use Rattle.bk_project.specs.declared.project_file.LineKind.{LineKind}
@@ -76,7 +77,7 @@ IsRightSoFar kinds = (kinds ≡ []) ⊎ IsChain kinds
 -- the lines name a project's files
 pub record AreLines (named : List ProjectLine) : Type 0 where
   pub chain : IsChain (kinds_of named)
-  pub few : length (component_lines named) ≤ 200
+  pub few : length (component_lines named) ≤ MOST_COMPONENTS
 
 -- the lines that count are these
 pub record AreLinesOf (text : List ℕ) (named : List ProjectLine) : Type 0 where
@@ -114,7 +115,7 @@ pub record NamesTooMany (text : List ℕ) : Type 0 where
   pub named : List ProjectLine
   pub written : AllZip IsProjectLine (kept_lines text) named
   pub chain : IsChain (kinds_of named)
-  pub many : 200 < length (component_lines named)
+  pub many : MOST_COMPONENTS < length (component_lines named)
 
 -- the first fault, or the limit that is passed; the project file is file 0
 abbrev pub IsRefusalOfLines : List ℕ → Refusal → Type 0

@@ -1,5 +1,6 @@
 -- What is known of component files between two passes over them. Only private contracts cite it.
 use Rattle.std.specs.Prelude.{◌≡◌, ◌<◌, ℕ, suc, Bool, true, false, List, Option, None, Some}
+use Rattle.bk_limits.specs.declared.TheConstants.{MOST_COMPONENTS}
 use Rattle.bk_raw.specs.ComponentTree.{RawComponent}
 use Rattle.bk_dev.specs.Development.{Development, int_max}
 use Rattle.bk_level.specs.Above.{above_of}
@@ -49,8 +50,8 @@ abbrev pub last_after : Option LineKind → LineKind → Option LineKind
 last_after last ProofsLine = last
 last_after last kind = Some kind
 
--- it tells of one of the first 200 files
+-- it tells of one of the first MOST_COMPONENTS files
 abbrev pub IsOfFew : FileFault → Type 0
-IsOfFew (FileAtFault number file place) = file < 200
-IsOfFew (FilePastLimit number file) = file < 200
+IsOfFew (FileAtFault number file place) = file < MOST_COMPONENTS
+IsOfFew (FilePastLimit number file) = file < MOST_COMPONENTS
 IsOfFew NoMemory = Unit {0}

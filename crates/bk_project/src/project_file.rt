@@ -10,11 +10,9 @@ ghost use Rattle.bk_project.specs.Trims.{trim_front, trim_back};
 
 use crate::refusal::Refusal;
 use bk_io::Text;
+use bk_limits::MOST_COMPONENTS;
 use bk_lines::{first_line, is_skipped};
 use std::alloc::Global;
-
-/// The greatest number of lines for component files.
-const COMPONENTS: usize = 200;
 
 /// A line of a project file, which names a file.
 #[derive(Drop)]
@@ -84,7 +82,7 @@ pub fn lines(alloc: Global, text: &[u8]) -> Result<Vec<ProjectLine>, Refusal>
     if last.is_none() {
         return Err(at_fault(4, number));
     }
-    if component_count(&lines) > COMPONENTS {
+    if component_count(&lines) > MOST_COMPONENTS {
         return Err(Refusal::Limit { number: 4, file: 0 });
     }
     Ok(lines)

@@ -28,13 +28,11 @@ use bk_files::{FileFault, cut};
 use bk_form::Token;
 use bk_io::Memory;
 use bk_levels::{level, passes_limit_of_names};
+use bk_limits::{MAXINT, MOST_COMPONENTS};
 use bk_p_comp::component;
 use bk_p_expr::SynFault;
 use bk_raw::RawComponent;
 use std::alloc::Global;
-
-/// MAXINT.
-const MAX_INT: i64 = 2147483647;
 
 /// What a component file is read as.
 #[derive(Drop)]
@@ -81,7 +79,7 @@ fn component_kinds(alloc: Global, lines: &[ProjectLine]) -> Result<Vec<LineKind>
 
 /// The components that the files are written for.
 fn all_components(alloc: Global, texts: &[Vec<u8>]) -> Result<Vec<RawComponent>, Refusal>
-    requires countable { length texts.now ≤ 200 }
+    requires countable { length texts.now ≤ MOST_COMPONENTS }
     ensures each { IfOk result (λ cs. AllZip IsLow (map (λ text. text.items) texts.now) cs.items) }
     ensures refusal { (kinds : List Kind) → IfErr result (IsRefusalOf kinds (map (λ text. text.items) texts.now)) }
 {
@@ -111,7 +109,7 @@ fn refusal_of(fault: FileFault) -> Refusal
 
 /// The fault with this number in a component file, of which the first is 0 here.
 fn at_fault(number: u8, file: usize, place: usize) -> Refusal
-    requires { file < 200 }
+    requires { file < MOST_COMPONENTS }
     ensures { result ≡ Fault number (suc file) place }
 {
     Refusal::Fault {
@@ -123,7 +121,7 @@ fn at_fault(number: u8, file: usize, place: usize) -> Refusal
 
 /// The limit with this number, passed by a component file, of which the first is 0 here.
 fn past_limit(number: u8, file: usize) -> Refusal
-    requires { file < 200 }
+    requires { file < MOST_COMPONENTS }
     ensures { result ≡ Limit number (suc file) }
 {
     Refusal::Limit {
@@ -134,7 +132,7 @@ fn past_limit(number: u8, file: usize) -> Refusal
 
 /// What each file is read as.
 fn all_read(alloc: Global, texts: &[Vec<u8>], files: &[Vec<Token>]) -> Result<Vec<Read>, Refusal>
-    requires countable { length texts.now ≤ 200 }
+    requires countable { length texts.now ≤ MOST_COMPONENTS }
     requires shallow { AllZip IsShallowText (map (λ text. text.items) texts.now) (map (λ f. f.items) files.now) }
     ensures each { IfOk result (λ read. AllZip IsReadOf (map (λ text. text.items) texts.now) read.items) }
     ensures refusal { (kinds : List Kind) → IfErr result (IsRefusalOf kinds (map (λ text. text.items) texts.now)) }
@@ -166,7 +164,7 @@ fn byte_of(tokens: &[Token], place: usize, length: usize) -> usize
 
 /// The components, where none is too high.
 fn all_low(alloc: Global, texts: &[Vec<u8>], read: Vec<Read>) -> Result<Vec<RawComponent>, Refusal>
-    requires countable { length texts.now ≤ 200 }
+    requires countable { length texts.now ≤ MOST_COMPONENTS }
     requires read { AllZip IsReadOf (map (λ text. text.items) texts.now) read.items }
     ensures each { IfOk result (λ cs. AllZip IsLow (map (λ text. text.items) texts.now) cs.items) }
     ensures refusal { (kinds : List Kind) → IfErr result (IsRefusalOf kinds (map (λ text. text.items) texts.now)) }
@@ -187,7 +185,7 @@ fn all_chained(
     texts: &[Vec<u8>],
     components: &[RawComponent],
 ) -> Result<(), Refusal>
-    requires countable { length texts.now ≤ 200 }
+    requires countable { length texts.now ≤ MOST_COMPONENTS }
     requires long { length kinds.now ≡ length texts.now }
     requires each { AllZip IsLow (map (λ text. text.items) texts.now) components.now }
     ensures chained { IfOk result (λ _. AreChained kinds.now (map (λ text. text.items) texts.now) components.now) }
@@ -210,7 +208,7 @@ fn all_few(
     texts: &[Vec<u8>],
     components: &[RawComponent],
 ) -> Result<(), Refusal>
-    requires countable { length texts.now ≤ 200 }
+    requires countable { length texts.now ≤ MOST_COMPONENTS }
     requires chained { AreChained kinds.now (map (λ text. text.items) texts.now) components.now }
     ensures few { IfOk result (λ _. All DeclaresFew components.now) }
     ensures refusal { IfErr result (IsRefusalOf kinds.now (map (λ text. text.items) texts.now)) }
@@ -231,7 +229,7 @@ fn all_levels(
     components: &[RawComponent],
 ) -> Result<Development, Refusal>
     requires chain { IsChain kinds.now }
-    requires countable { length texts.now ≤ 200 }
+    requires countable { length texts.now ≤ MOST_COMPONENTS }
     requires chained { AreChained kinds.now (map (λ text. text.items) texts.now) components.now }
     requires few { All DeclaresFew components.now }
     ensures development { IfOk result (Reads kinds.now (map (λ text. text.items) texts.now)) }
@@ -256,7 +254,7 @@ fn next_level(
     requires homes { HomesStandInLevels (above_of above) }
     requires few { DeclaresFew component.now }
     requires low { IsLowComponent component.now }
-    requires file { file < 200 }
+    requires file { file < MOST_COMPONENTS }
     ensures level { IfOk result (λ dev. verdict_of (int_max (above_of above)) above component.now ≡ accepted dev) }
     ensures development { IfOk result IsDevelopment }
     ensures homes { IfOk result HomesStandInLevels }
@@ -264,7 +262,7 @@ fn next_level(
     ensures complete { IfOk result (λ dev. is_complete dev ≡ is_implementing (kind_as component.now.kind)) }
     ensures refusal { IfErr result (IsNextRefusal above component.now file) }
 {
-    match level(alloc, MAX_INT, component, above) {
+    match level(alloc, MAXINT, component, above) {
         Ok(dev) => Ok(dev),
         Err(ElabFault::Fault { number, place }) => Err(at_fault(number, file, place)),
         Err(ElabFault::Limit(number)) => Err(past_limit(number, file)),
