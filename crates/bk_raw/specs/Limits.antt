@@ -1,5 +1,6 @@
 -- How deep and how high what is written may be.
 use Rattle.std.specs.Prelude.{ℕ, ◌+◌, ◌<◌, ◌≤◌, List, length, map, take}
+use Rattle.bk_limits.specs.declared.TheConstants.{MOST_OPEN, GREATEST_TREE_HEIGHT}
 use Rattle.bk_form.specs.declared.token.Token.{Token}
 use Rattle.bk_raw.specs.Brackets.{open_brackets, open_blocks}
 use Rattle.bk_raw.specs.Numbers.{greatest}
@@ -7,9 +8,9 @@ use Rattle.bk_raw.specs.SubTree.{SubTree, sub_height}
 use Rattle.bk_raw.specs.ComponentTree.{RawComponent, component_height}
 use Rattle.bk_raw.specs.ScriptTree.{RawScript, script_height}
 
--- behind these tokens at most 400 brackets are open, and at most 400 blocks
+-- behind these tokens at most MOST_OPEN brackets are open, and at most MOST_OPEN blocks
 abbrev pub IsWithinDepth : List Token → Type 0
-IsWithinDepth tokens = (open_brackets tokens ≤ 400) × (open_blocks tokens ≤ 400)
+IsWithinDepth tokens = (open_brackets tokens ≤ MOST_OPEN) × (open_blocks tokens ≤ MOST_OPEN)
 
 -- so it is behind each of the tokens
 abbrev pub IsShallow : List Token → Type 0
@@ -21,14 +22,14 @@ pub record IsTooDeep (tokens : List Token) (place : ℕ) : Type 0 where
   pub deep : IsWithinDepth (take (place + 1) tokens) → ⊥
   pub first : (n : ℕ) → n ≤ place → IsWithinDepth (take n tokens)
 
--- at most 1000 nodes lie on any way down the substitution, its terms included
+-- at most GREATEST_TREE_HEIGHT nodes lie on any way down the substitution, its terms included
 abbrev pub IsLowSub : SubTree → Type 0
-IsLowSub s = sub_height s ≤ 1000
+IsLowSub s = sub_height s ≤ GREATEST_TREE_HEIGHT
 
 -- and on any way down a term or a substitution of the component
 abbrev pub IsLowComponent : RawComponent → Type 0
-IsLowComponent c = component_height c ≤ 1000
+IsLowComponent c = component_height c ≤ GREATEST_TREE_HEIGHT
 
 -- and on any way down a term of the proof file
 abbrev pub IsLowFile : List RawScript → Type 0
-IsLowFile ss = greatest (map script_height ss) ≤ 1000
+IsLowFile ss = greatest (map script_height ss) ≤ GREATEST_TREE_HEIGHT

@@ -1,5 +1,6 @@
 -- Small cases of what terms read as, to be checked by hand.
 use Rattle.std.specs.Prelude.{◌≡◌, ℕ, ℤ, pos, negsuc, [], ◌∷◌, None, Some}
+use Rattle.bk_limits.specs.declared.TheConstants.{MAXINT}
 use Rattle.bk_val.specs.ValueType.{int_type, pair_type, set_type}
 use Rattle.bk_form.specs.Formula.{variable, bound, literal, empty_set, named, btrue, unary, binary, for_all, comprehension, lambda, no_formulas, formula_and}
 use Rattle.bk_form.specs.declared.operator.UnOp.TheVariants.{Not as Negation, Single, Pow as PowerOf}
@@ -21,7 +22,7 @@ use Rattle.bk_raw.specs.ScopeReading.{ScopeNames, formula_in}
 
 -- MAXINT
 abbrev pub maxint : ℤ
-maxint = pos 2147483647
+maxint = MAXINT
 
 -- the name x, whose variable 4 is a set of numbers
 abbrev pub x_is_set : Names
