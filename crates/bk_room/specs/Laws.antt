@@ -1,7 +1,8 @@
--- What has room, as statements: 32 bits number the variables of what is read, since limits bound them. A component declares at most 2000
--- names, there are at most 200 of them, what substitutions bind is written in tokens, of which a file has at most 1000000, and each copy
--- that flattening makes is an equation in a goal, of at most 20000000 nodes in all.
+-- What has room, as statements: 32 bits number the variables of what is read, since limits bound them. A component declares at most MOST_NAMES
+-- names, there are at most MOST_COMPONENTS of them, what substitutions bind is written in tokens, of which a file has at most MOST_TOKENS, and each copy
+-- that flattening makes is an equation in a goal, of at most MOST_NODES_TOGETHER nodes in all.
 use Rattle.std.specs.Prelude.{◌<◌, ◌≤◌, ◌^◌, ℕ, List, length, All}
+use Rattle.bk_limits.specs.declared.TheConstants.{MOST_COMPONENTS}
 use Rattle.bk_dev.specs.Development.{Development}
 use Rattle.bk_dev.specs.Flattened.{flattened}
 use Rattle.bk_raw.specs.ScriptTree.{RawScript}
@@ -21,10 +22,10 @@ HasRoomFor dev script = length (widened (flattened dev).table (flattened dev) sc
 -- 32 bits number the sets and variables, with all copies, of what component files are read as, if its obligations pass no limit
 abbrev pub ReadHaveRoom : Type 0
 ReadHaveRoom =
-    (kinds : List LineKind) (texts : List (List ℕ)) (dev : Development) → IsChain kinds → length kinds ≤ 200 → Reads kinds texts dev → PassNoLimit (obligations dev) → HasRoom dev
+    (kinds : List LineKind) (texts : List (List ℕ)) (dev : Development) → IsChain kinds → length kinds ≤ MOST_COMPONENTS → Reads kinds texts dev → PassNoLimit (obligations dev) → HasRoom dev
 
 -- and so they do with the names that one of its scripts brings
 abbrev pub ReadScriptsHaveRoom : Type 0
 ReadScriptsHaveRoom =
-    (kinds : List LineKind) (texts : List (List ℕ)) (dev : Development) → IsChain kinds → length kinds ≤ 200 → Reads kinds texts dev → PassNoLimit (obligations dev) →
+    (kinds : List LineKind) (texts : List (List ℕ)) (dev : Development) → IsChain kinds → length kinds ≤ MOST_COMPONENTS → Reads kinds texts dev → PassNoLimit (obligations dev) →
     (proof_texts : List (List ℕ)) (scripts : List RawScript) → AreScriptsOf proof_texts scripts → All (HasRoomFor dev) scripts
