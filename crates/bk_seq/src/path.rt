@@ -9,9 +9,10 @@ ghost use Rattle.bk_bind.specs.Limits.{IsWithinLimits};
 ghost use Rattle.bk_bind.specs.declared.error.BindFault.TheVariants.{TooLarge};
 ghost use Rattle.bk_seq.specs.Paths.{numbered_item, with_item, child, with_child, sub_at, put_at};
 
-use bk_bind::{BindFault, MOST_NODES, bounded};
+use bk_bind::{BindFault, bounded};
 use bk_form::{Form, Part, View};
 use bk_io::Memory;
+use bk_limits::MOST_NODES;
 use std::alloc::Global;
 
 /// The formula at the path; None exactly where the path leaves the tree or enters a binder's body. Takes no memory.
