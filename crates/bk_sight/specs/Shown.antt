@@ -2,6 +2,7 @@
 use Rattle.std.specs.Prelude.{◌≡◌, ◌+◌, ℕ, cond, suc, min, Bool, List, [], ◌∷◌, length, map, slice_get, Box, Option, None, Some}
 use Rattle.std.specs.Option.{option_copied, option_map}
 use Rattle.std.specs.Borrow.{Bor}
+use Rattle.bk_limits.specs.declared.TheConstants.{MOST_NAMES}
 use Rattle.bk_form.specs.Role.{bind}
 use Rattle.bk_form.specs.Table.{SetEntry}
 use Rattle.bk_dev.specs.Development.{Development}
@@ -130,7 +131,7 @@ branches_shown bs last = branches_of bs (last_branch last)
 
 -- as far as names are counted
 abbrev pub capped : ℕ → ℕ
-capped n = min n 2001
+capped n = min n (MOST_NAMES + 1)
 
 -- ---- plans
 abbrev pub declared_shown : Declared → DeclaredMeant
