@@ -7,11 +7,11 @@ use crate::rule_texts::{
 };
 use crate::rules::results;
 use crate::stating::{no_steps, steps};
-use bk_bind::GREATEST_HEIGHT;
 use bk_fixtures::{always, unary};
 use bk_form::{Form, UnOp, VarTable};
 use bk_io::Memory;
 use bk_kernel::{Rule, StepFault};
+use bk_limits::GREATEST_HEIGHT;
 use bk_seq::Sequent;
 use std::alloc::Global;
 use std::test::Fail;

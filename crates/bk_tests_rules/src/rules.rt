@@ -7,13 +7,13 @@ ghost use Rattle.bk_seq.specs.Sequents.{sequent_of, Types, IsWithin};
 ghost use Rattle.bk_form.specs.Each.{Each};
 ghost use Rattle.bk_form.specs.Predicates.{IsPredicate};
 
-use bk_bind::{GREATEST_HEIGHT, MOST_NODES};
 use bk_fixtures::{
     binary, interval, literal, of_variables, text, unary, variable, with_number, within,
 };
 use bk_form::{BinOp, Form, Ty, UnOp, VarTable};
 use bk_io::Memory;
 use bk_kernel::{Place, Rule, StepFault, Verdict, replay, step};
+use bk_limits::{GREATEST_HEIGHT, MOST_NODES};
 use bk_lin::Line;
 use bk_seq::Sequent;
 use bk_types::{Role, role_of};
