@@ -8,12 +8,10 @@ ghost use Rattle.bk_raw.specs.SubView.{choices_of};
 ghost use Rattle.bk_level.specs.DeclaredNames as meant;
 ghost use Rattle.bk_sight.specs.Shown.{branches_shown, capped, component_shown, refs};
 
+use bk_limits::MOST_NAMES;
 use bk_raw::{RawBranch, RawNode, RawOperation, RawRange, RawSub, RawSubNode, RawTerm};
 use bk_sight::binders::last_of;
 use bk_sight::component::Component;
-
-/// The most names that a component may declare.
-const MOST_NAMES: usize = 2000;
 
 /// More names than may be declared, which is as far as they are counted.
 const TOO_MANY: usize = MOST_NAMES + 1;
@@ -27,8 +25,8 @@ pub fn declares_too_many(component: &Component<'_>) -> bool
 
 // Both together, as far as they are counted.
 fn sum(left: usize, right: usize) -> usize
-    requires one { left ≤ 2001 }
-    requires other { right ≤ 2001 }
+    requires one { left ≤ MOST_NAMES + 1 }
+    requires other { right ≤ MOST_NAMES + 1 }
     ensures { result ≡ capped (left + right) }
 {
     (left + right).min(TOO_MANY)
