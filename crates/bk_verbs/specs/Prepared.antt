@@ -1,5 +1,6 @@
 -- What is left to write once a task's files are read and checked.
 use Rattle.std.specs.Prelude.{◌≡◌, ℕ, ◌≤◌, false, List, All, length, map, Option}
+use Rattle.bk_limits.specs.declared.TheConstants.{MOST_CALLS}
 use Rattle.bk_io.specs.Files.{Files}
 use Rattle.bk_io.specs.Pieces.{WroteFront}
 use Rattle.bk_code.specs.declared.image.Image.{Image}
@@ -33,7 +34,7 @@ pub record IsPlayable (player : State) (requests : List Request) (fuel : ℕ) : 
   pub fresh : player.started ≡ false
   pub checked : IsChecked player.image
   pub asked : All (IsRequest player.image) requests
-  pub few : length requests ≤ 1000000
+  pub few : length requests ≤ MOST_CALLS
   pub small : fuel ≤ most_fuel
 
 -- it is so of a session that is left to play; one that is told of has ended

@@ -1,6 +1,7 @@
 -- What the files of a project tell: its development, its scripts of proof, and the calls that a script asks for.
 use Rattle.std.specs.Prelude.{◌≡◌, ℕ, Bool, true, false, cond, List, [], length, ◌≤◌, map, All, Some}
 use Rattle.std.specs.List.{AllZip}
+use Rattle.bk_limits.specs.declared.TheConstants.{MOST_BYTES, MOST_INSTRUCTIONS, MOST_CELLS}
 use Rattle.bk_io.specs.Bytes.{AreBytes}
 use Rattle.bk_io.specs.Files.{Files, file_named}
 use Rattle.bk_code.specs.declared.image.Image.{Image}
@@ -18,10 +19,10 @@ use Rattle.bk_status.specs.Rows.{AreProved}
 use Rattle.bk_calls.specs.Script.{IsScript, most_calls}
 
 -- ---- files
--- the files tell this text under the name, and it has at most 16777216 bytes
+-- the files tell this text under the name, and it has at most MOST_BYTES bytes
 pub record IsTold (files : Files) (name text : List ℕ) : Type 0 where
   pub stands : file_named files name ≡ Some text
-  pub short : length text ≤ 16777216
+  pub short : length text ≤ MOST_BYTES
 
 -- the files tell these texts under the names, in order
 abbrev pub AreTold : Files → List (List ℕ) → List (List ℕ) → Type 0
@@ -83,15 +84,15 @@ pub record IsFinished (dev : Development) (scripts : List RawScript) : Type 0 wh
   pub proved : IsProved dev scripts
 
 -- ---- the code
--- at most 1000000 instructions and at most 1000000 cells, and a spelling in bytes: each name has at most 65535 bytes, and the parts are
+-- at most MOST_INSTRUCTIONS instructions and at most MOST_CELLS cells, and a spelling in bytes: each name has at most 65535 bytes, and the parts are
 -- few enough to be counted in their fields
 pub record IsWithinCodeLimits (image : Image) : Type 0 where
-  pub code : length image.code ≤ 1000000
-  pub cells : image.cells ≤ 1000000
+  pub code : length image.code ≤ MOST_INSTRUCTIONS
+  pub cells : image.cells ≤ MOST_CELLS
   pub spelled : HasSpelling image
 
 -- ---- the calls
--- the call script that the files tell asks for these calls of the image, at most 1000000
+-- the call script that the files tell asks for these calls of the image, at most MOST_CALLS
 pub record ReadsCalls (files : Files) (calls : List ℕ) (image : Image) (requests : List Request) : Type 0 where
   pub text : List ℕ
   pub told : IsTold files calls text

@@ -1,5 +1,6 @@
 -- The sample: the files that it has, the tasks that are done with them, and the last line of what these give.
 use Rattle.std.specs.Prelude.{ℕ, Bool, false, cond, nat_eq, ◌||◌, List, [], ◌∷◌, codes}
+use Rattle.bk_limits.specs.declared.TheConstants.{FUEL}
 use Rattle.bk_io.specs.Files.{Files}
 use Rattle.bk_calls.specs.Sample.{sample_of, shelved}
 use Rattle.bk_words.specs.Tasks.{Task, status_task, run_task}
@@ -18,9 +19,9 @@ sample_project = codes "sample.prj"
 abbrev pub sample_table : Task
 sample_table = status_task sample_project
 
--- its run, with 1000000 steps for the initialisation and for each call
+-- its run, with FUEL steps for the initialisation and for each call
 abbrev pub sample_run : Task
-sample_run = run_task sample_project (codes "sample.calls") 1000000
+sample_run = run_task sample_project (codes "sample.calls") FUEL
 
 -- ---- the last line
 -- whether a line feed (10) stands in the text before its last byte

@@ -1,5 +1,6 @@
 -- Why the program stops before its work is done: the causes, in the order of the checks, and the lines that say so.
 use Rattle.std.specs.Prelude.{◌≡◌, ◌≢◌, ℕ, zero, suc, ◌<◌, ◌≤◌, ◌⊎◌, Bool, true, false, List, [], ◌∷◌, ◌++◌, length, slice_index_or, codes, decimal, Option, Some, None}
+use Rattle.bk_limits.specs.declared.TheConstants.{MOST_BYTES, MOST_INSTRUCTIONS, MOST_CELLS}
 use Rattle.bk_io.specs.Files.{Files, file_named, IsLonger}
 use Rattle.bk_code.specs.declared.image.Image.{Image}
 use Rattle.bk_image.specs.declared.fault.LoadFault.{LoadFault}
@@ -103,10 +104,10 @@ Reports stop status old new =
     ((status ≡ status_of_stop stop) × (new ≡ written_with old (stop_text stop))) ⊎ (IsCutShort status × WroteFront (stop_text stop) old new)
 
 -- ---- the checks, the later ones first: each check stops the program, or what it finds is looked at by the next
--- the file is not there, or has more than 16777216 bytes
+-- the file is not there, or has more than MOST_BYTES bytes
 abbrev pub StopsAtFile : Files → List ℕ → Stop → Type 0
 StopsAtFile files name stop =
-    ((stop ≡ Missing name) × (file_named files name ≡ None)) ⊎ ((stop ≡ Limit 1 name) × IsLonger (file_named files name) 16777216)
+    ((stop ≡ Missing name) × (file_named files name ≡ None)) ⊎ ((stop ≡ Limit 1 name) × IsLonger (file_named files name) MOST_BYTES)
 
 -- the name with this number, from 0
 abbrev pub name_at : List (List ℕ) → ℕ → List ℕ
@@ -197,13 +198,13 @@ StopsAtProof project dev scripts stop = StopsIncomplete dev stop ⊎ ((is_comple
 -- there are more cells than an image may have, or it has no spelling: a name is too long, or a number of sets, elements,
 -- operations, inputs or outputs is too large
 abbrev pub HasTooManyCells : Image → Type 0
-HasTooManyCells image = (1000000 < image.cells) ⊎ (HasSpelling image → ⊥)
+HasTooManyCells image = (MOST_CELLS < image.cells) ⊎ (HasSpelling image → ⊥)
 
 -- the limits of the code: 9 for its instructions, and 10 for its cells
 abbrev pub StopsPastCode : (project : List ℕ) → Image → Stop → Type 0
 StopsPastCode project image stop =
-    ((stop ≡ Limit 9 project) × (1000000 < length image.code)) ⊎
-    ((stop ≡ Limit 10 project) × (length image.code ≤ 1000000) × HasTooManyCells image)
+    ((stop ≡ Limit 9 project) × (MOST_INSTRUCTIONS < length image.code)) ⊎
+    ((stop ≡ Limit 10 project) × (length image.code ≤ MOST_INSTRUCTIONS) × HasTooManyCells image)
 
 -- the call script: a line at fault, or a call past the limit, whichever comes first
 abbrev pub StopsAtScript : (calls text : List ℕ) → Image → Stop → Type 0

@@ -17,6 +17,7 @@ use bk_b0::b0;
 use bk_code::Image;
 use bk_dev::Development;
 use bk_gen::{GenFault, translate};
+use bk_limits::{MOST_CELLS, MOST_INSTRUCTIONS};
 use std::alloc::Global;
 
 /// The number of the limit of instructions.
@@ -46,10 +47,10 @@ fn translated(alloc: Global, dev: &Development) -> Result<Image, GenFault>
     ensures ok { IfOk result (λ image. image ≡ translation dev.now) }
     ensures loadable { IfOk result IsLoadable }
     ensures spelled { IfOk result HasSpelling }
-    ensures within { IfOk result (λ image. (length image.code ≤ 1000000) × (image.cells ≤ 1000000)) }
-    ensures too_long { result ≡ Err CodeTooLong → 1000000 < length (translation dev.now).code }
+    ensures within { IfOk result (λ image. (length image.code ≤ MOST_INSTRUCTIONS) × (image.cells ≤ MOST_CELLS)) }
+    ensures too_long { result ≡ Err CodeTooLong → MOST_INSTRUCTIONS < length (translation dev.now).code }
     ensures too_many { result ≡ Err TooManyCells →
-        (length (translation dev.now).code ≤ 1000000) × HasTooManyCells (translation dev.now) }
+        (length (translation dev.now).code ≤ MOST_INSTRUCTIONS) × HasTooManyCells (translation dev.now) }
 {
     let unit = b0(alloc, dev)?;
     translate(alloc, &unit)

@@ -19,13 +19,11 @@ ghost use Rattle.bk_verbs.specs.Project.{IsTold, AreTold, files_of, fetched, Rea
 use crate::stop::Stop;
 use bk_dev::Development;
 use bk_io::{Fetch, Shelf, Text};
+use bk_limits::MOST_BYTES;
 use bk_p_proof::{ScriptFault, Scripts, scripts};
 use bk_project::{LineKind, ProjectLine, Refusal, lines, project};
 use std::alloc::Global;
 use std::str;
-
-/// The greatest length of a file in bytes.
-const LENGTH_LIMIT: usize = 16777216;
 
 /// The number of that limit.
 const LIMIT_OF_LENGTH: u8 = 1;
@@ -40,10 +38,10 @@ pub(crate) fn fetch<H: Shelf>(alloc: Global, name: &str, shelf: &mut H) -> Resul
     ensures files { H.files shelf.new ≡ H.files shelf.old }
     ensures told { IfOk result (λ text. (files : Files) → H.files shelf.old ≡ Some files →
         IsTold files name.now text.items) }
-    ensures short { IfOk result (λ text. length text.items ≤ 16777216) }
+    ensures short { IfOk result (λ text. length text.items ≤ MOST_BYTES) }
 {
     let mut text = Vec::new(alloc);
-    match shelf.fetch(name, LENGTH_LIMIT, &mut text) {
+    match shelf.fetch(name, MOST_BYTES, &mut text) {
         Ok(()) => Ok(text),
         Err(Fetch::Missing) => Err(Stop::Missing(owned(alloc, name)?)),
         Err(Fetch::TooLong) => Err(Stop::Limit(LIMIT_OF_LENGTH, owned(alloc, name)?)),
@@ -154,7 +152,7 @@ fn read_lines<H: Shelf>(alloc: Global, name: &str, shelf: &mut H) -> Result<Vec<
     ensures files { H.files shelf.new ≡ H.files shelf.old }
     ensures told { IfOk result (λ lines. (text : List ℕ) × AreLinesOf text lines.items ×
         ((files : Files) → H.files shelf.old ≡ Some files → IsTold files name.now text)) }
-    ensures few { IfOk result (λ lines. length lines.items ≤ 16777216) }
+    ensures few { IfOk result (λ lines. length lines.items ≤ MOST_BYTES) }
 {
     let text = fetch(alloc, name, shelf)?;
     match lines(alloc, &text) {

@@ -22,6 +22,7 @@ use crate::stop::Stop;
 use crate::work::Work;
 use bk_calls::Call;
 use bk_io::Shelf;
+use bk_limits::MOST_CALLS;
 use bk_status::Table;
 use std::alloc::Global;
 
@@ -77,7 +78,7 @@ pub(crate) fn ready_project<H: Shelf>(
     ensures fresh { IfOk result (λ ready. ready.player.started ≡ false) }
     ensures checked { IfOk result (λ ready. IsChecked ready.player.image) }
     ensures requests { IfOk result (λ ready. All (IsRequest ready.player.image) (map request_of ready.calls.items)) }
-    ensures few { IfOk result (λ ready. length ready.calls.items ≤ 1000000) }
+    ensures few { IfOk result (λ ready. length ready.calls.items ≤ MOST_CALLS) }
 {
     let read = read_project(alloc, project, true, shelf)?;
     let table = proved_table(alloc, project, &read)?;

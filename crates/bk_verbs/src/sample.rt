@@ -17,11 +17,9 @@ use crate::stop::Stop;
 use crate::work::Work;
 use bk_calls::{SAMPLE_CALLS, SAMPLE_PROJECT, sample};
 use bk_io::{SureShelf, SureSink};
+use bk_limits::{FUEL, MOST_CALLS};
 use bk_texts::table_text;
 use std::alloc::Global;
-
-/// How many steps the initialisation and each call of a sample may have.
-const SAMPLE_FUEL: u64 = 1000000;
 
 /// The last line of a sample's status table and that of its session, which is played.
 pub(crate) fn sample_lines(alloc: Global, variables: u32) -> Result<Work, Stop>
@@ -35,13 +33,7 @@ pub(crate) fn sample_lines(alloc: Global, variables: u32) -> Result<Work, Stop>
     let ready = ready_sample(alloc, variables)?;
     let table = table_text(alloc, &ready.table.rows)?;
     let mut transcript = SureSink::new(alloc, 0)?;
-    let status = play(
-        alloc,
-        ready.player,
-        &ready.calls,
-        SAMPLE_FUEL,
-        &mut transcript,
-    )?;
+    let status = play(alloc, ready.player, &ready.calls, FUEL, &mut transcript)?;
     let mut text = Vec::new(alloc);
     text.extend_from_slice(last_line(&table))?;
     text.extend_from_slice(last_line(transcript.written()))?;
@@ -58,7 +50,7 @@ fn ready_sample(alloc: Global, variables: u32) -> Result<Ready, Stop>
         ready.table.rows.items ready.player.image (map request_of ready.calls.items)) }
     ensures fresh { IfOk result (λ ready. ready.player.started ≡ false) }
     ensures requests { IfOk result (λ ready. All (IsRequest ready.player.image) (map request_of ready.calls.items)) }
-    ensures few { IfOk result (λ ready. length ready.calls.items ≤ 1000000) }
+    ensures few { IfOk result (λ ready. length ready.calls.items ≤ MOST_CALLS) }
 {
     let files = sample(alloc, variables)?.into_files(alloc)?;
     let mut shelf = SureShelf::new(files);

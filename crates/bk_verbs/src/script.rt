@@ -11,6 +11,7 @@ use crate::files::owned;
 use crate::stop::Stop;
 use bk_calls::{Call, CallsFault, calls};
 use bk_code::Image;
+use bk_limits::MOST_BYTES;
 use std::alloc::Global;
 
 /// The number of the limit of calls.
@@ -23,7 +24,7 @@ pub(crate) fn calls_of(
     text: &[u8],
     image: &Image,
 ) -> Result<Vec<Call>, Stop>
-    requires short { length text.now ≤ 16777216 }
+    requires short { length text.now ≤ MOST_BYTES }
     requires few_operations { length image.now.ops < 2 ^ 32 }
     ensures cause { IfErr result (λ stop. IsOutside stop ⊎ StopsAtScript name.now text.now image.now stop) }
     ensures checks { IfErr result IsOfChecks }

@@ -24,6 +24,7 @@ use crate::stop::Stop;
 use bk_calls::{Call, ReplyLine, closing, reply, steps};
 use bk_code::Image;
 use bk_io::{Sink, SinkFault, put_all};
+use bk_limits::MOST_CALLS;
 use bk_vm::{CallEnd, calls_make_a_session};
 use std::alloc::Global;
 
@@ -46,7 +47,7 @@ pub(crate) fn play<K: Sink>(
 ) -> Result<Status, Stop>
     requires fresh { player.started ≡ false }
     requires requests { All (IsRequest player.image) (map request_of calls.now) }
-    requires few { length calls.now ≤ 1000000 }
+    requires few { length calls.now ≤ MOST_CALLS }
     requires small { fuel ≤ most_fuel }
     ensures playing { IfErr result IsOfPlaying }
     ensures failed { HasCause WriteFault (K.faults out.old) (K.faults out.new) result }
@@ -73,7 +74,7 @@ fn play_session<K: Sink>(
 ) -> Result<Status, SinkFault>
     requires fresh { player.old.started ≡ false }
     requires requests { All (IsRequest player.old.image) (map request_of calls.now) }
-    requires few { length calls.now ≤ 1000000 }
+    requires few { length calls.now ≤ MOST_CALLS }
     requires small { fuel ≤ most_fuel }
     requires outputs { HasOutputRoom player.old.image (length outs.old) }
     requires made { IsMadeFor player.old.image line.old }
@@ -117,7 +118,7 @@ fn play_calls<K: Sink>(
     requires started { player.old.started ≡ true }
     requires stopped { player.old.stopped ≡ is_stop start }
     requires requests { All (IsRequest player.old.image) (map request_of calls.now) }
-    requires few { length calls.now ≤ 1000000 }
+    requires few { length calls.now ≤ MOST_CALLS }
     requires small { fuel ≤ most_fuel }
     requires outputs { HasOutputRoom player.old.image (length outs.old) }
     requires made { IsMadeFor player.old.image line.old }
