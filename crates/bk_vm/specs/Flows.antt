@@ -1,5 +1,6 @@
 -- What the code that executes one instruction tells.
 use Rattle.std.specs.Prelude.{◌≡◌, ℕ, ◌+◌, ◌-◌, ◌^◌, ◌≤◌, ℤ, pos, List, length, All}
+use Rattle.bk_limits.specs.declared.TheConstants.{STACK_ROOM}
 use Rattle.bk_code.specs.declared.image.Image.{Image}
 use Rattle.bk_code.specs.declared.instruction.Inst.{Inst}
 use Rattle.bk_code.specs.declared.instruction.Inst.TheVariants.{Add, Sub, Mul, Div, Mod, Neg, Eq, Lt, Le, Not}
@@ -49,9 +50,9 @@ standing place stack cells = record { place = place; stack = stack; cells = cell
 pub record IsExecutable (image : Image) (place : ℕ) (inst : Inst) (depth : ℕ) (stack cells : List ℤ) : Type 0 where
   pub operands : IsGoodInst image place inst
   pub enough : pops inst ≤ depth
-  pub deep : depth ≤ 1000
-  pub room : depth - pops inst + pushes inst ≤ 1000
-  pub long : length stack ≡ 1000
+  pub deep : depth ≤ STACK_ROOM
+  pub room : depth - pops inst + pushes inst ≤ STACK_ROOM
+  pub long : length stack ≡ STACK_ROOM
   pub range : All IsSmall (tops depth stack)
   pub kept : AreCells image cells
 

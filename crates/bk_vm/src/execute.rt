@@ -14,6 +14,7 @@ ghost use Rattle.bk_vm.specs.Flows.{IsSmall, IsComputation, IsExecutable, KeepsA
 use crate::CallEnd;
 use crate::arithmetic::{difference, negation, product, quotient, remainder, sum};
 use bk_code::{Image, Inst, Trap};
+use bk_limits::STACK_ROOM;
 
 /// Where control goes after an instruction, and the depth of the stack there.
 #[derive(Clone, Copy)]
@@ -57,11 +58,11 @@ fn take_two(stack: &[i64], depth: usize) -> (i64, i64, usize)
 #[inline]
 fn settle(place: usize, stack: &mut [i64], depth: usize, answer: Result<i64, Trap>) -> Flow
     requires place { place < 2 ^ 32 }
-    requires room { depth < 1000 }
-    requires long { length stack.old ≡ 1000 }
+    requires room { depth < STACK_ROOM }
+    requires long { length stack.old ≡ STACK_ROOM }
     ensures outcome { (cells : List ℤ) →
         outcome_of result stack.new cells ≡ table.calculated (place + 1) (tops depth stack.old) cells answer }
-    ensures long { length stack.new ≡ 1000 }
+    ensures long { length stack.new ≡ STACK_ROOM }
 {
     match answer {
         Ok(number) => {
@@ -81,12 +82,12 @@ fn compute(image: &Image, inst: Inst, place: usize, stack: &mut [i64], depth: us
     requires computes { IsComputation inst }
     requires place { place < 2 ^ 32 }
     requires enough { pops inst ≤ depth }
-    requires room { depth ≤ 1000 }
-    requires long { length stack.old ≡ 1000 }
+    requires room { depth ≤ STACK_ROOM }
+    requires long { length stack.old ≡ STACK_ROOM }
     requires range { All IsSmall (tops depth stack.old) }
     ensures outcome { (cells : List ℤ) →
         outcome_of result stack.new cells ≡ table.row (int_max image.now) inst place (tops depth stack.old) cells }
-    ensures long { length stack.new ≡ 1000 }
+    ensures long { length stack.new ≡ STACK_ROOM }
 {
     match inst {
         Inst::Neg => {
@@ -173,14 +174,14 @@ fn load_element(
 ) -> Flow
     requires place { place < 2 ^ 32 }
     requires enough { 1 ≤ depth }
-    requires room { depth ≤ 1000 }
-    requires long { length stack.old ≡ 1000 }
+    requires room { depth ≤ STACK_ROOM }
+    requires long { length stack.old ≡ STACK_ROOM }
     requires range { All IsSmall (tops depth stack.old) }
     requires low { IsSmall low }
     requires array { base + count ≤ length cells.now }
     ensures outcome { (max : ℤ) → outcome_of result stack.new cells.now ≡
         table.row max (Inst.ALoad base low count) place (tops depth stack.old) cells.now }
-    ensures long { length stack.new ≡ 1000 }
+    ensures long { length stack.new ≡ STACK_ROOM }
 {
     let (index, rest) = take_one(stack, depth);
     match element(base, low, count, index) {
@@ -238,7 +239,7 @@ fn execute(
     ensures outcome { outcome_of result stack.new cells.new ≡
         table.row (int_max image.now) inst place (tops depth stack.old) cells.old }
     ensures kept { KeepsAtEnd result cells.old cells.new }
-    ensures long { length stack.new ≡ 1000 }
+    ensures long { length stack.new ≡ STACK_ROOM }
 {
     match inst {
         Inst::Push(number) => settle(place, stack, depth, Ok(number)),
@@ -286,12 +287,12 @@ fn step(
     cells: &mut [i64],
 ) -> Flow
     requires code { code.now ≡ image.now.code }
-    requires long { length stack.old ≡ 1000 }
+    requires long { length stack.old ≡ STACK_ROOM }
     requires ready { IsReady image.now (standing place (tops depth stack.old) cells.old) }
     ensures outcome { outcome_of result stack.new cells.new ≡
         table.step image.now (standing place (tops depth stack.old) cells.old) }
     ensures kept { KeepsAtEnd result cells.old cells.new }
-    ensures long { length stack.new ≡ 1000 }
+    ensures long { length stack.new ≡ STACK_ROOM }
     ensures ready { IsReadyAfter image.now result stack.new cells.new }
 {
     execute(image, code[place], place, stack, depth, cells)
@@ -299,11 +300,11 @@ fn step(
 
 /// Runs the code from a place, with an empty stack, until it returns, traps or is out of fuel.
 pub fn run(image: &Image, start: usize, stack: &mut [i64], cells: &mut [i64], fuel: u64) -> CallEnd
-    requires long { length stack.old ≡ 1000 }
+    requires long { length stack.old ≡ STACK_ROOM }
     requires ready { IsReady image.now (standing start [] cells.old) }
     ensures ends { EndsWith image.now fuel (standing start [] cells.old) result cells.new }
     ensures kept { AreCells image.now cells.new }
-    ensures long { length stack.new ≡ 1000 }
+    ensures long { length stack.new ≡ STACK_ROOM }
 {
     let code = image.code.as_slice();
     let mut place = start;

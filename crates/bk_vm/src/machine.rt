@@ -5,16 +5,15 @@ ghost use Rattle.bk_code.specs.Laws.{AreCells};
 ghost use Rattle.bk_code.specs.Session.{first_start};
 ghost use Rattle.bk_vm.specs.Ends.{EndsWith, CallEndsWith, is_stop};
 ghost use Rattle.bk_vm.specs.State.{fresh, IsMachine, TakesCall};
+ghost use Rattle.bk_limits.specs.declared.TheConstants.{STACK_ROOM};
 
 use crate::CallEnd;
 use crate::execute::run;
 use crate::operation::run_operation;
 use bk_code::{Image, Memory};
+use bk_limits::STACK_ROOM;
 use std::alloc::Global;
 use std::marker::Model;
-
-/// How many numbers the stack of a call has room for.
-const ROOM: usize = 1000;
 
 /// A machine that runs the code of one image. Its cells stay as they are between calls. Only `new` takes memory.
 #[derive(Drop)]
@@ -34,7 +33,7 @@ impl Model for Machine {
 
     ghost view = { λ m. record { image = m.image; cells = m.cells.items; started = m.started; stopped = m.stopped } };
 
-    ghost invariant = { λ m. IsMachine m.image m.cells.items m.started × (length m.stack.items ≡ 1000) };
+    ghost invariant = { λ m. IsMachine m.image m.cells.items m.started × (length m.stack.items ≡ STACK_ROOM) };
 }
 
 impl Machine {
@@ -44,7 +43,7 @@ impl Machine {
         ensures { IfOk result (λ m. m ≡ fresh image) }
     {
         let cells = vec![in alloc; 0i64; image.cells as usize]?;
-        let stack = vec![in alloc; 0i64; ROOM]?;
+        let stack = vec![in alloc; 0i64; STACK_ROOM]?;
         Ok(Machine {
             image,
             cells,

@@ -9,6 +9,7 @@ ghost use Rattle.bk_vm.specs.State.{TakesCall};
 use crate::CallEnd;
 use crate::execute::run;
 use bk_code::{Image, Parameter};
+use bk_limits::STACK_ROOM;
 
 /// Runs an operation with these arguments, and writes its outputs where it is done.
 pub fn run_operation(
@@ -23,10 +24,10 @@ pub fn run_operation(
     requires checked { IsChecked image.now }
     requires takes { TakesCall image.now op args.now (length outs.old) }
     requires cells { AreCells image.now cells.old }
-    requires room { length stack.old ≡ 1000 }
+    requires room { length stack.old ≡ STACK_ROOM }
     ensures ends { CallEndsWith image.now op args.now fuel cells.old outs.old result cells.new outs.new }
     ensures kept { AreCells image.now cells.new }
-    ensures room { length stack.new ≡ 1000 }
+    ensures room { length stack.new ≡ STACK_ROOM }
 {
     let entry = &image.ops.as_slice()[op as usize];
     place_arguments(entry.inputs.as_slice(), args, cells);
