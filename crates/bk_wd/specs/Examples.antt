@@ -1,5 +1,6 @@
 -- Small cases of WD and Chk, to be checked by hand.
 use Rattle.std.specs.Prelude.{◌≡◌, ℕ, ℤ, pos, [], ◌∷◌, codes}
+use Rattle.bk_limits.specs.declared.TheConstants.{MAXINT}
 use Rattle.bk_val.specs.ValueType.{int_type, bool_type, pair_type, set_type}
 use Rattle.bk_form.specs.Table.{Table}
 use Rattle.bk_form.specs.ArrayTable.{ArrayTable}
@@ -66,7 +67,7 @@ pub record WellDefinedExamples : Type 0 where
 
 -- MAXINT of this project
 abbrev pub int_max : ℤ
-int_max = pos 2147483647
+int_max = MAXINT
 
 -- the arrays f over 0..9 and g over BOOL, which are the variables 0 and 1
 abbrev pub two_arrays : ArrayTable
