@@ -1,5 +1,6 @@
 -- What the words ask for: one of the program's verbs, with the files that it works on.
 use Rattle.std.specs.Prelude.{◌≡◌, ◌≤◌, ℕ, Bool, true, false, List, [], ◌∷◌, codes, decimal}
+use Rattle.bk_limits.specs.declared.TheConstants.{MOST_FUEL, MOST_SAMPLE_VARIABLES}
 use Rattle.bk_words.specs.Words.{AreWords}
 
 -- what the program does. Files are named by their texts; fuel is how many steps the initialisation and each call may have; a sample has so
@@ -17,7 +18,7 @@ pub data Task : Type 0 where
 -- ---- fuel
 -- the most steps that may be asked for: 2 ^ 40
 abbrev pub most_fuel : ℕ
-most_fuel = 1099511627776
+most_fuel = MOST_FUEL
 
 -- the text is that of a number of steps from 1 on, in decimal digits without a leading zero
 pub record IsFuel (text : List ℕ) (fuel : ℕ) : Type 0 where
@@ -28,7 +29,7 @@ pub record IsFuel (text : List ℕ) (fuel : ℕ) : Type 0 where
 -- ---- samples
 -- the most variables that a sample may have
 abbrev pub most_variables : ℕ
-most_variables = 40
+most_variables = MOST_SAMPLE_VARIABLES
 
 -- ---- verbs
 -- the verb with these files and this fuel is that of the task. What executes no code makes no use of the fuel, nor does a sample, whose file

@@ -5,6 +5,7 @@ use Rattle.clap.specs.Walk.{Rule}
 use Rattle.clap.specs.Words.{App, Kinds, Row, Text, new_app, new_rule, with_rule, matches_of, first_of, all_of, fault_of}
 use Rattle.clap.specs.Simple.{on_top}
 use Rattle.clap.specs.declared.builder.action.ArgAction.TheVariants.{Append}
+use Rattle.bk_limits.specs.declared.TheConstants.{FUEL_TEXT}
 
 -- ---- the command
 -- the verb, which has to stand there
@@ -15,9 +16,9 @@ verb_rule = record (new_rule (codes "VERB")) { required = true }
 abbrev pub file_rule : Rule
 file_rule = record (new_rule (codes "FILE")) { action = Some Append; range = Some (record { start_inclusive = 0; end_inclusive = usize_max }) }
 
--- `--fuel N`, 1000000 where it is not there
+-- `--fuel N`, FUEL where it is not there
 abbrev pub fuel_rule : Rule
-fuel_rule = record (new_rule (codes "fuel")) { long = Some (codes "fuel"); defaults = codes "1000000" ∷ [] }
+fuel_rule = record (new_rule (codes "fuel")) { long = Some (codes "fuel"); defaults = FUEL_TEXT.now ∷ [] }
 
 -- the one command of the program, without the flags for help and version; its words do not begin with the program's name
 unfoldable pub program_command : App

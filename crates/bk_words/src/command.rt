@@ -6,13 +6,8 @@ ghost use Rattle.bk_words.specs.Tasks.{Task, most_fuel, IsFuel, IsTaskOf};
 ghost use Rattle.bk_words.specs.Asked.{task_of, HasSmallNumbers};
 
 use crate::words::Words;
+use bk_limits::{MOST_FUEL, MOST_SAMPLE_VARIABLES};
 use itoa::Buffer;
-
-/// The most steps that may be asked for: 2 ^ 40.
-const MOST_FUEL: u64 = 1099511627776;
-
-/// The most variables that a sample may have.
-const MOST_VARIABLES: u64 = 40;
 
 /// What the program does, a variant a verb. Files are named as the words name them; `fuel` is how many steps the
 /// initialisation and each call may have.
@@ -94,7 +89,7 @@ fn of_sample<'a>(size: &str) -> Option<Command<'a>>
     ensures small { IfSome result HasSmallNumbers }
 {
     let variables = number_of(size)?;
-    if variables == 0 || variables > MOST_VARIABLES {
+    if variables == 0 || variables > MOST_SAMPLE_VARIABLES {
         return None;
     }
     Some(Command::Sample {

@@ -7,12 +7,10 @@ ghost use Rattle.clap.specs.Walk.{rows_of, texts};
 ghost use Rattle.bk_words.specs.Words.{program_command, refusal_kinds, found_rows, AreWords};
 ghost use Rattle.bk_words.specs.declared.words.WordsFault.TheVariants.{Refused};
 
+use bk_limits::FUEL_TEXT;
 use clap::error::ErrorKind;
 use clap::{Arg, ArgAction, ArgMatches, Command};
 use std::alloc::{AllocError, AllocFailed, Global};
-
-/// How many steps the initialisation and each call may have where the words say nothing of it.
-const DEFAULT_FUEL: &str = "1000000";
 
 /// The words of the command line. Fuel is the text behind `--fuel`, or else the default.
 #[derive(Drop)]
@@ -61,7 +59,7 @@ fn command<'a>(alloc: Global) -> Result<Command<'a>, AllocError>
         .num_args(0..);
     let fuel = Arg::new(alloc, "fuel")
         .long("fuel")
-        .default_value(DEFAULT_FUEL);
+        .default_value(FUEL_TEXT);
     Command::new(alloc, "bkit")
         .no_binary_name(true)
         .disable_help_flag(true)
