@@ -10,7 +10,7 @@ use thiserror::Error;
 /// Why a box, a diamond or an evaluation condition was not made.
 #[derive(Clone, Copy, PartialEq, Eq, Debug, Error)]
 pub enum WpFault {
-    /// It would have more than 200000 nodes, or more than 2000 on some way down.
+    /// It would have more than `MOST_NODES` nodes, or more than `GREATEST_HEIGHT` on some way down.
     #[error("the formula is too large")]
     TooLarge,
     #[error("out of memory")]
