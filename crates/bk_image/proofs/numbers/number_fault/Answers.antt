@@ -23,7 +23,7 @@ returns-in-Some c =
     let image = c.args.image.now in
     let e = c.in-Some.fault in
     let ops = subst (λ ops. IsFirst (IsFaultIn entry (IsEntryFault image) c.ops_begin-ops.result ops) e) c.as_slice.ensures c.in-Some.ensures in
-    first_ops image e (c.if-image-gt-CELLS.false, c.if-has_too_many_sets.ensures) (subst (λ at. IsFirst (IsFaultIn entry (IsEntryFault image) at image.ops) e) c.ops_begin-ops.ensures ops)
+    first_ops image e (c.if-image-gt-MOST_CELLS.false, c.if-has_too_many_sets.ensures) (subst (λ at. IsFirst (IsFaultIn entry (IsEntryFault image) at image.ops) e) c.ops_begin-ops.ensures ops)
 
 pub entries_end-count-requires : goal.entries_end-count-requires
 entries_end-count-requires c =
@@ -35,7 +35,7 @@ returns-then-is_empty c =
     let good = subst (λ ops. All (IsGoodEntry image) ops) c.as_slice.ensures c.in_default.ensures in
     let none = ap length (sym c.as_slice-3.ensures) ∙ eqb-true (length c.as_slice-3.result.now) 0 (sym c.is_empty.ensures ∙ c.if-is_empty.true) in
     let count : c.entries_end-count.result ≡ count_place image = omega (arith, ops_end image, c.ops_begin-ops.ensures, c.entries_end-count.ensures, ap (λ ops. length (flat_map entry ops)) c.as_slice-2.ensures) in
-    subst (λ at. IsFirst (IsNumberFault image) (BadJump at)) (sym count) (first_empty image (c.if-image-gt-CELLS.false, c.if-has_too_many_sets.ensures) good none)
+    subst (λ at. IsFirst (IsNumberFault image) (BadJump at)) (sym count) (first_empty image (c.if-image-gt-MOST_CELLS.false, c.if-has_too_many_sets.ensures) good none)
 
 pub overflow_add-count : goal.overflow_add-count
 overflow_add-count c =
@@ -54,4 +54,4 @@ returns c =
     let some : 0 < length image.code = omega (arith, other, same) in
     let count : c.entries_end-count.result ≡ count_place image = omega (arith, ops_end image, c.ops_begin-ops.ensures, c.entries_end-count.ensures, ap (λ ops. length (flat_map entry ops)) c.as_slice-2.ensures) in
     let judged = subst (λ at. MatchOption c.code_fault.result (AreSound image image.code (length image.code)) (λ e. IsFirst (IsFaultIn inst (IsOneInstFault image) (at + 4) image.code) e)) count c.code_fault.ensures in
-    judged_code image c.code_fault.result (c.if-image-gt-CELLS.false, c.if-has_too_many_sets.ensures) good some c.requires.few judged
+    judged_code image c.code_fault.result (c.if-image-gt-MOST_CELLS.false, c.if-has_too_many_sets.ensures) good some c.requires.few judged

@@ -40,8 +40,8 @@ returns-then-is_none-clause-refusal c =
     let utf8 = (ok_of _ _ _ c.in_default.field-0 c.from_utf8.ensures.cases c.in_default.is).1 in
     subst (IsRefusalOfLines c.args.text.now) (sym c.at_fault-then-is_none.ensures) (refl, inr (refl, utf8, inr (no_machine c.args.text.now c.loop-line.rest.now c.loop-line.number c.loop-line.lines.items c.loop-line.last c.loop-line.invariant (search rules) (search rules))))
 
-pub returns-then-component_count-gt-COMPONENTS-clause-refusal : goal.returns-then-component_count-gt-COMPONENTS-clause-refusal
-returns-then-component_count-gt-COMPONENTS-clause-refusal c =
+pub returns-then-component_count-gt-MOST_COMPONENTS-clause-refusal : goal.returns-then-component_count-gt-MOST_COMPONENTS-clause-refusal
+returns-then-component_count-gt-MOST_COMPONENTS-clause-refusal c =
     let utf8 = (ok_of _ _ _ c.in_default.field-0 c.from_utf8.ensures.cases c.in_default.is).1 in
     let many : 200 < length (component_lines c.loop-line.lines.items) = search rules in
     (refl, refl, utf8, too_many c.args.text.now c.loop-line.rest.now c.loop-line.number c.loop-line.lines.items c.loop-line.last c.loop-line.invariant (search rules) (search rules) many)
