@@ -9,7 +9,7 @@ ghost use Rattle.bk_files.specs.Stages.{IsFileFault};
 use crate::fault::FileFault;
 use bk_form::Token;
 use bk_lex::{LexFault, tokens};
-use bk_p_expr::too_deep;
+use bk_raw::too_deep;
 use std::alloc::Global;
 
 /// The tokens of each file, in order. Files count from 0.

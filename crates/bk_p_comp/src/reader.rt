@@ -10,9 +10,9 @@ use crate::header::header;
 use crate::plain::before_addition;
 use bk_form::Token;
 use bk_ops::word;
-use bk_p_expr::{SynFault, too_deep};
+use bk_p_expr::SynFault;
 use bk_p_sub::after_word;
-use bk_raw::RawComponent;
+use bk_raw::{RawComponent, too_deep};
 use std::alloc::Global;
 
 /// The component that all of the tokens are written for.

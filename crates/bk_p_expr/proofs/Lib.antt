@@ -1,4 +1,3 @@
-pub mod Counting
 pub mod Choices
 pub mod Types
 pub mod Leaves

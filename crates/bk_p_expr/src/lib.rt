@@ -2,7 +2,6 @@
 #![tactic(auto)]
 
 mod bars;
-mod depth;
 mod divider;
 mod fault;
 mod free;
@@ -13,7 +12,6 @@ mod printed_type;
 mod reader;
 mod terms;
 
-pub use depth::too_deep;
 pub use fault::SynFault;
 pub use free::{Conjunct, conjuncts};
 pub use piece::{Piece, Terms};

@@ -9,14 +9,13 @@ ghost use Rattle.bk_p_expr.specs.Faults.{IsTermFault};
 ghost use Rattle.bk_p_expr.specs.Fronts.{Longest, Nothing};
 ghost use Rattle.bk_p_expr.specs.Pieces.{IsPiece};
 
-use crate::depth::too_deep;
 use crate::fault::SynFault;
 use crate::piece::Piece;
 use crate::terms::{LOOSEST, longest};
 use bk_form::Token;
 use bk_io::Memory;
 use bk_limits::GREATEST_TREE_HEIGHT;
-use bk_raw::RawTerm;
+use bk_raw::{RawTerm, too_deep};
 use std::alloc::Global;
 
 /// The term that is written from the token at `at` on, as long as there is one, and the place of the token behind it.

@@ -10,8 +10,8 @@ use crate::statement::Statement;
 use crate::substitutions::{parallel, sequence};
 use bk_form::Token;
 use bk_io::Memory;
-use bk_p_expr::{SynFault, too_deep};
-use bk_raw::RawSub;
+use bk_p_expr::SynFault;
+use bk_raw::{RawSub, too_deep};
 use std::alloc::Global;
 
 /// The longest substitution that is written from the token at `at` on, and the place of the token behind it.

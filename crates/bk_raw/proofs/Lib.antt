@@ -1,3 +1,4 @@
+pub mod Counting
 mod Examples
 pub mod Numbered
 pub mod Neutral

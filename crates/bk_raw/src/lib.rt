@@ -2,6 +2,7 @@
 #![tactic(auto)]
 
 pub mod component;
+mod depth;
 pub mod kind;
 pub mod laws;
 pub mod operator;
@@ -15,6 +16,7 @@ pub mod written;
 pub use component::{
     ClauseParts, ClauseWord, ComponentKind, RawClause, RawComponent, RawOperation, RawSet, RawValue,
 };
+pub use depth::too_deep;
 pub use kind::Strengths;
 pub use operator::{Constant, InfixOp, WordOp};
 pub use scope::Scope;

@@ -1,8 +1,8 @@
 use Rattle.std.proofs.Common.{◌≡◌, ◌+◌, take, arith}
 use Rattle.bk_raw.specs.Brackets.{opens_bracket, closes_bracket, opens_block, closes_block, open_brackets, open_blocks}
-use Rattle.bk_p_expr.proofs.Counting.{count_step, within_more}
-use Rattle.bk_p_expr.proofs.depth.too_deep.Goals as goal
-use Rattle.bk_p_expr.proofs.depth.too_deep.Goals.{then-brackets-gt-MOST_OPEN-via-then-brackets-gt-MOST_OPEN, then-brackets-gt-MOST_OPEN-via-else-brackets-gt-MOST_OPEN+then-blocks-gt-MOST_OPEN}
+use Rattle.bk_raw.proofs.Counting.{count_step, within_more}
+use Rattle.bk_raw.proofs.depth.too_deep.Goals as goal
+use Rattle.bk_raw.proofs.depth.too_deep.Goals.{then-brackets-gt-MOST_OPEN-via-then-brackets-gt-MOST_OPEN, then-brackets-gt-MOST_OPEN-via-else-brackets-gt-MOST_OPEN+then-blocks-gt-MOST_OPEN}
 
 pub loop-place-preserved : goal.loop-place-preserved
 loop-place-preserved c =

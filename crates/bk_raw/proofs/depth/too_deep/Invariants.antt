@@ -1,7 +1,7 @@
 use Rattle.std.proofs.Common.{◌≡◌, ℕ, ◌≤◌, take}
 use Rattle.bk_raw.specs.Brackets.{open_brackets, open_blocks}
 use Rattle.bk_raw.specs.Limits.{IsWithinDepth}
-use Rattle.bk_p_expr.proofs.depth.too_deep.Given as goal
+use Rattle.bk_raw.proofs.depth.too_deep.Given as goal
 
 abbrev pub invariant-loop-place : goal.invariant-loop-place
 invariant-loop-place l = record {
