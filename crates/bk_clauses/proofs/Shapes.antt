@@ -7,8 +7,8 @@ use Rattle.bk_raw.specs.declared.substitution.RawBranch.{RawBranch}
 use Rattle.bk_raw.specs.Outcome.{Fault}
 use Rattle.bk_raw.specs.SubTree.{SubTree}
 use Rattle.bk_raw.specs.SubView.{choices_of}
-use Rattle.bk_elab.specs.Blame.{blame, earlier}
-use Rattle.bk_elab.proofs.Blamed.{blame-joins}
+use Rattle.bk_raw.specs.Blame.{blame, earlier}
+use Rattle.bk_raw.proofs.Blamed.{blame-joins}
 use Rattle.bk_level.specs.OperationFaults.{shape_faults, branches_shape, choices_shape}
 use Rattle.bk_sight.specs.Shown.{branches_shown}
 

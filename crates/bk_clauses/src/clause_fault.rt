@@ -4,7 +4,7 @@ ghost use Rattle.std.specs.Option.{option_copied};
 ghost use Rattle.std.specs.Prelude.{◌≡◌, [], None, cond, map, IfOk};
 ghost use Rattle.bk_raw.specs.Binders.{has_type};
 ghost use Rattle.bk_raw.specs.Outcome as wanted;
-ghost use Rattle.bk_elab.specs.Blame.{blame};
+ghost use Rattle.bk_raw.specs.Blame.{blame};
 ghost use Rattle.bk_elab.specs.Shown.{told};
 ghost use Rattle.bk_elab.specs.Visible.{meaning_of, typing_of, visible_names};
 ghost use Rattle.bk_level.specs.ClauseFaults as meant;
@@ -23,7 +23,7 @@ use bk_sight::types::is_flat;
 use bk_sight::way::Typing;
 
 /// The first fault of the component's clauses.
-#[tactic(auto, using(bk_elab::proofs::Blamed::blames))]
+#[tactic(auto, using(bk_raw::proofs::Blamed::blames))]
 pub fn clause_fault(
     typing: Typing<'_>,
     component: &Component<'_>,

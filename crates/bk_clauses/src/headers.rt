@@ -3,7 +3,7 @@
 ghost use Rattle.std.specs.Option.{option_copied};
 ghost use Rattle.std.specs.Prelude.{◌≡◌, ◌&&◌, true, cond, map, IfOk};
 ghost use Rattle.std.specs.Str.{bytes_eq};
-ghost use Rattle.bk_elab.specs.Blame.{blame};
+ghost use Rattle.bk_raw.specs.Blame.{blame};
 ghost use Rattle.bk_elab.specs.Shown.{told};
 ghost use Rattle.bk_elab.specs.Visible.{visible_names};
 ghost use Rattle.bk_level.specs.Binders.{texts};
@@ -56,7 +56,7 @@ fn missing_start(component: &Component<'_>, plan: &Plan<'_>) -> Option<Fault>
 }
 
 // That of where the parts of bodies stand.
-#[tactic(auto, using(bk_elab::proofs::Blamed::blames))]
+#[tactic(auto, using(bk_raw::proofs::Blamed::blames))]
 fn bodies_shape(component: &Component<'_>) -> Option<Fault>
     ensures { told result ≡ blame (meant.bodies_shape component.now.kind (refs component.now.operations.items)) }
 {
@@ -68,7 +68,7 @@ fn bodies_shape(component: &Component<'_>) -> Option<Fault>
 }
 
 // That of headers: below the machine they are the machine's, and every operation stands at every level.
-#[tactic(auto, using(bk_elab::proofs::Blamed::blames))]
+#[tactic(auto, using(bk_raw::proofs::Blamed::blames))]
 fn lower_fault(
     alloc: Global,
     above: Above<'_>,
@@ -175,7 +175,7 @@ fn first_token(operation: &RawOperation) -> usize
 }
 
 // That of the machine's operations that are missing, at the component.
-#[tactic(auto, using(bk_elab::proofs::Blamed::blames))]
+#[tactic(auto, using(bk_raw::proofs::Blamed::blames))]
 fn missing_fault(above: Above<'_>, component: &Component<'_>) -> Option<Fault>
     ensures { told result ≡ blame (meant.missing_faults component.now.at
         (texts (written.operation_names (refs component.now.operations.items))) (above_shown above.entry).heads) }

@@ -1,7 +1,7 @@
 // Names of a component that stand twice.
 
 ghost use Rattle.std.specs.Prelude.{◌≡◌, ◌||◌, ◌++◌, ◌∷◌, [], cond, map, IfOk};
-ghost use Rattle.bk_elab.specs.Blame.{blame};
+ghost use Rattle.bk_raw.specs.Blame.{blame};
 ghost use Rattle.bk_elab.specs.Shown.{told};
 ghost use Rattle.bk_elab.specs.Visible.{visible_names};
 ghost use Rattle.bk_raw.specs.Binders.{is_text, twice};
@@ -68,7 +68,7 @@ fn is_level(above: Above<'_>, text: &[u8]) -> bool
 }
 
 // That of names that stand before, or among these others.
-#[tactic(auto, using(bk_elab::proofs::Blamed::blames))]
+#[tactic(auto, using(bk_raw::proofs::Blamed::blames))]
 fn twice_after(others: &[Visible<'_>], names: &[&RawName]) -> Option<Fault>
     ensures { told result ≡ blame (twice (meant.named_texts (visible_names others.now)) (refs names.now)) }
 {
@@ -139,7 +139,7 @@ fn level_variables<'a>(
 }
 
 // That of sets, elements and constants that have one of these names.
-#[tactic(auto, using(bk_elab::proofs::Blamed::blames))]
+#[tactic(auto, using(bk_raw::proofs::Blamed::blames))]
 fn taken(names: &[Visible<'_>], component: &Component<'_>) -> Option<Fault>
     ensures { told result ≡ blame (meant.taken (meant.named_texts (visible_names names.now))
         (written.set_names (component_shown component.now).sets ++ (component_shown component.now).constants)) }
@@ -160,7 +160,7 @@ fn taken_sets(names: &[Visible<'_>], sets: &[&RawSet]) -> Option<Fault>
 }
 
 // That of a set and its elements.
-#[tactic(auto, using(bk_elab::proofs::Blamed::blames))]
+#[tactic(auto, using(bk_raw::proofs::Blamed::blames))]
 fn taken_set(names: &[Visible<'_>], set: &RawSet) -> Option<Fault>
     ensures { told result ≡ blame (
         cond (is_text (meant.named_texts (visible_names names.now)) set.now.name.text) ((6, set.now.name.at) ∷ []) []
@@ -202,7 +202,7 @@ fn taken_one(names: &[Visible<'_>], name: &RawName) -> Option<Fault>
 }
 
 // That of variables that come from above as concrete and are declared as abstract.
-#[tactic(auto, using(bk_elab::proofs::Blamed::blames))]
+#[tactic(auto, using(bk_raw::proofs::Blamed::blames))]
 fn abstract_fault(standing: &[Declared<'_>], component: &Component<'_>) -> Option<Fault>
     ensures { told result ≡ blame (meant.taken (declared_texts (map declared_shown standing.now))
         (written.abstract_names (component_shown component.now).variables)) }
@@ -228,7 +228,7 @@ fn abstract_one(standing: &[Declared<'_>], variable: WrittenVariable<'_>) -> Opt
 }
 
 // That of operations that have one name.
-#[tactic(auto, using(bk_elab::proofs::Blamed::blames))]
+#[tactic(auto, using(bk_raw::proofs::Blamed::blames))]
 fn operations_fault(operations: &[&RawOperation]) -> Option<Fault>
     ensures { told result ≡ blame (twice [] (written.operation_names (refs operations.now))) }
 {
@@ -261,7 +261,7 @@ pub(crate) fn is_named(operations: &[&RawOperation], text: &[u8]) -> bool
 }
 
 // That of the inputs and outputs of an operation together.
-#[tactic(auto, using(bk_elab::proofs::Blamed::blames))]
+#[tactic(auto, using(bk_raw::proofs::Blamed::blames))]
 fn headers_fault(operations: &[&RawOperation]) -> Option<Fault>
     ensures { told result ≡ blame (meant.header_twice (refs operations.now)) }
 {
@@ -273,7 +273,7 @@ fn headers_fault(operations: &[&RawOperation]) -> Option<Fault>
 }
 
 // That of one operation: outputs stand before inputs.
-#[tactic(auto, using(bk_elab::proofs::Blamed::blames))]
+#[tactic(auto, using(bk_raw::proofs::Blamed::blames))]
 fn header_fault(operation: &RawOperation) -> Option<Fault>
     ensures { told result ≡ blame (twice [] (operation.now.outputs ++ operation.now.inputs)) }
 {

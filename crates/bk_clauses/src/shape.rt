@@ -4,7 +4,7 @@
 ghost use Rattle.std.specs.Option.{option_copied};
 ghost use Rattle.std.specs.Prelude.{◌≡◌};
 ghost use Rattle.bk_raw.specs.SubView.{choices_of};
-ghost use Rattle.bk_elab.specs.Blame.{blame};
+ghost use Rattle.bk_raw.specs.Blame.{blame};
 ghost use Rattle.bk_elab.specs.Shown.{told};
 ghost use Rattle.bk_level.specs.OperationFaults as meant;
 ghost use Rattle.bk_sight.specs.Shown.{branches_shown};
@@ -28,7 +28,7 @@ pub(crate) fn unless(holds: bool, at: usize) -> Option<Fault>
 }
 
 // The first fault of where a substitution stands, in a component of a kind, perhaps inside `||`.
-#[tactic(auto, using(bk_sight::proofs::SubSizes::parts_are_smaller, bk_elab::proofs::Blamed::blames))]
+#[tactic(auto, using(bk_sight::proofs::SubSizes::parts_are_smaller, bk_raw::proofs::Blamed::blames))]
 #[cycle(shape)]
 pub(crate) fn shape_fault(kind: Kind, inside: bool, sub: &RawSub) -> Option<Fault>
     ensures { told result ≡ blame (meant.shape_faults kind inside sub.now) }
@@ -75,7 +75,7 @@ pub(crate) fn shape_fault(kind: Kind, inside: bool, sub: &RawSub) -> Option<Faul
 }
 
 // That of further branches.
-#[tactic(auto, using(bk_sight::proofs::SubSizes::parts_are_smaller, bk_elab::proofs::Blamed::blames))]
+#[tactic(auto, using(bk_sight::proofs::SubSizes::parts_are_smaller, bk_raw::proofs::Blamed::blames))]
 #[cycle(shape)]
 fn branches_shape(
     kind: Kind,
@@ -97,7 +97,7 @@ fn branches_shape(
 }
 
 // That of further choices.
-#[tactic(auto, using(bk_sight::proofs::SubSizes::parts_are_smaller, bk_elab::proofs::Blamed::blames))]
+#[tactic(auto, using(bk_sight::proofs::SubSizes::parts_are_smaller, bk_raw::proofs::Blamed::blames))]
 #[cycle(shape)]
 fn choices_shape(kind: Kind, inside: bool, choices: &[RawSub]) -> Option<Fault>
     ensures { told result ≡ blame (meant.choices_shape kind inside (choices_of choices.now)) }

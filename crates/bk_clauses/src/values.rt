@@ -1,7 +1,7 @@
 // The values of constants.
 
 ghost use Rattle.std.specs.Prelude.{◌≡◌, ◌&&◌, ◌++◌, [], not, IfOk, OnOk};
-ghost use Rattle.bk_elab.specs.Blame.{blame};
+ghost use Rattle.bk_raw.specs.Blame.{blame};
 ghost use Rattle.bk_elab.specs.Shown.{told};
 ghost use Rattle.bk_elab.specs.Visible.{meaning_of, typing_of, visible_names};
 ghost use Rattle.bk_gsl.specs.State.{among};
@@ -41,7 +41,7 @@ pub fn value_fault(
 
 // That of the entries: one for no constant, one that is no value of its constant, and one for a constant that stands
 // before.
-#[tactic(auto, using(bk_elab::proofs::Blamed::blames))]
+#[tactic(auto, using(bk_raw::proofs::Blamed::blames))]
 fn entries_fault<'a>(
     typing: Typing<'a>,
     globals: &'a [Visible<'a>],

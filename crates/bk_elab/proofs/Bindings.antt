@@ -14,10 +14,10 @@ use Rattle.bk_elab.specs.declared.binder.Ranged.{Ranged as RangedName}
 use Rattle.bk_raw.specs.FreeNames.{is_among}
 use Rattle.bk_raw.specs.Outcome.{Fault, Outcome, silent, clean, no_type}
 use Rattle.bk_raw.specs.declared.term.RawName.{RawName}
-use Rattle.bk_elab.specs.Blame.{blame, earlier}
+use Rattle.bk_raw.specs.Blame.{blame, earlier}
 use Rattle.bk_elab.specs.declared.sight.Local.{Local}
 use Rattle.bk_elab.specs.Sights.{bounds_of, ranges_as, TypesOf}
-use Rattle.bk_elab.proofs.Blamed.{blame-joins, earlier-joins}
+use Rattle.bk_raw.proofs.Blamed.{blame-joins, earlier-joins}
 use Rattle.bk_elab.proofs.Twice.{texts_onto}
 
 -- ---- names that stand twice

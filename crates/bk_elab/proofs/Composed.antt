@@ -6,11 +6,11 @@ use Rattle.bk_val.specs.ValueType.{ValueType}
 use Rattle.bk_form.specs.Formula.{Formula}
 use Rattle.bk_raw.specs.Outcome.{Fault, silent, Asked, silently}
 use Rattle.bk_raw.specs.OperatorReadings.{composed}
-use Rattle.bk_elab.specs.Blame.{blame, earlier}
+use Rattle.bk_raw.specs.Blame.{blame, earlier}
 use Rattle.bk_elab.specs.declared.blame.Fault.{Fault as ToldFault}
 use Rattle.bk_elab.specs.declared.outcome.Step.{Step}
 use Rattle.bk_elab.specs.Shown.{shown_outcome, told, IsRead, IsAsked}
-use Rattle.bk_elab.proofs.Blamed.{blame-joins}
+use Rattle.bk_raw.proofs.Blamed.{blame-joins}
 
 -- a relation with the types of its parts
 abbrev pub Related : Type 0

@@ -1,4 +1,3 @@
-pub mod Blamed
 pub mod Sizes
 pub mod Seen
 pub mod Twice

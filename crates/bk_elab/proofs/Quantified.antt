@@ -11,7 +11,7 @@ use Rattle.bk_raw.specs.Names.{Names, count_locals}
 use Rattle.bk_raw.specs.Printed.{printed_bounds, wrong_bounds}
 use Rattle.bk_raw.specs.TermReading.{reading, part, clues}
 use Rattle.bk_elab.specs.Conjuncts.{implies_sides}
-use Rattle.bk_elab.specs.Blame.{blame}
+use Rattle.bk_raw.specs.Blame.{blame}
 use Rattle.bk_elab.specs.declared.blame.Fault.{Fault as ToldFault}
 use Rattle.bk_elab.specs.declared.outcome.Step.{Step}
 use Rattle.bk_elab.specs.declared.sight.Local.{Local}

@@ -11,14 +11,14 @@ use Rattle.bk_raw.specs.Binders.{Ranged}
 use Rattle.bk_raw.specs.Printed.{RangeRead, wrong_number, printed_ranges, wrong_ranges}
 use Rattle.bk_raw.specs.TermReading.{reading, range_reads}
 use Rattle.bk_raw.specs.ScopeReading.{ScopeNames}
-use Rattle.bk_elab.specs.Blame.{blame, earlier}
+use Rattle.bk_raw.specs.Blame.{blame, earlier}
 use Rattle.bk_elab.specs.declared.binder.Ranged.{Ranged as RangedName}
 use Rattle.bk_elab.specs.declared.blame.Fault.{Fault as ToldFault}
 use Rattle.bk_elab.specs.declared.outcome.Step.{Step}
 use Rattle.bk_elab.specs.declared.sight.Reader.{Reader}
 use Rattle.bk_elab.specs.Shown.{told, IsRead}
 use Rattle.bk_elab.specs.Sights.{around_of, names_of, read_by, ranges_as, range_as, IsRangeOf, Stands}
-use Rattle.bk_elab.proofs.Blamed.{blame-joins, earlier-joins}
+use Rattle.bk_raw.proofs.Blamed.{blame-joins, earlier-joins}
 use Rattle.bk_elab.proofs.Readings.{read-after}
 use Rattle.bk_elab.proofs.Sighted.{all-counted}
 

@@ -9,7 +9,7 @@ use Rattle.bk_raw.specs.Binders.{Bound, bound_names, locals}
 use Rattle.bk_raw.specs.RawTree.{RawTree}
 use Rattle.bk_raw.specs.Outcome.{Outcome, Reading, Asked}
 use Rattle.bk_raw.specs.TermReading.{clues}
-use Rattle.bk_elab.specs.Blame.{earlier}
+use Rattle.bk_raw.specs.Blame.{earlier}
 use Rattle.bk_elab.specs.declared.blame.Fault.{Fault as ToldFault}
 use Rattle.bk_elab.specs.declared.outcome.Step.{Step}
 use Rattle.bk_elab.specs.declared.sight.Local.{Local}
@@ -18,7 +18,7 @@ use Rattle.bk_elab.specs.declared.visible.Sight.{Sight}
 use Rattle.bk_elab.specs.Shown.{shown_outcome, told, IsRead, IsAsked}
 use Rattle.bk_elab.specs.Sights.{around_of, around_by, bounds_of, bounds_from, names_below, StandsBelow}
 use Rattle.bk_elab.specs.Visible.{asked_behind, types_by}
-use Rattle.bk_elab.proofs.Blamed.{blame-joins}
+use Rattle.bk_raw.proofs.Blamed.{blame-joins}
 
 -- what a place asks of it
 pub asked-under : {A : Type 0} (ask : Outcome → Asked A) (q : Reading) (read : Step) (answer other : Option A) (fault all : Option ToldFault) → IsRead read q →

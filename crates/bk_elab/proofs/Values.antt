@@ -3,11 +3,11 @@ use Rattle.std.proofs.Common.{◌≡◌, ◌≢◌, ◌++◌, refl, sym, ◌∙�
 use Rattle.std.specs.Prelude.{Option}
 use Rattle.bk_raw.specs.Outcome.{Partial, Outcome, partial, ranging, holding, silent, Reading, silently, unvalued}
 use Rattle.bk_raw.specs.OperatorReadings.{on_values}
-use Rattle.bk_elab.specs.Blame.{blame, earlier}
+use Rattle.bk_raw.specs.Blame.{blame, earlier}
 use Rattle.bk_elab.specs.declared.blame.Fault.{Fault as ToldFault}
 use Rattle.bk_elab.specs.declared.outcome.Step.{Step}
 use Rattle.bk_elab.specs.Shown.{shown_outcome, told, IsRead}
-use Rattle.bk_elab.proofs.Blamed.{blame-joins}
+use Rattle.bk_raw.proofs.Blamed.{blame-joins}
 
 pub left-none : (k : Partial → Partial → Reading) (a b : Outcome) → ((e : Partial) → a ≢ partial e) → on_values k a b ≡ silently (unvalued a ++ unvalued b)
 left-none k (partial e) b not = absurd (not e refl)

@@ -8,11 +8,11 @@ use Rattle.bk_raw.specs.Outcome.{Fault, Outcome}
 use Rattle.bk_raw.specs.TermReading.{place_of}
 use Rattle.bk_raw.specs.ScopeReading.{ScopeNames, ask_formula, reading_in, formula_in}
 use Rattle.bk_raw.proofs.ScopeRight.{formula-speaks}
-use Rattle.bk_elab.specs.Blame.{blame, earlier}
+use Rattle.bk_raw.specs.Blame.{blame, earlier}
 use Rattle.bk_elab.specs.declared.blame.Fault.{Fault as ToldFault}
 use Rattle.bk_elab.specs.declared.outcome.Step.{Step}
 use Rattle.bk_elab.specs.Shown.{shown_outcome, told, IsRead, IsAsked}
-use Rattle.bk_elab.proofs.Blamed.{blame-joins, blame-none}
+use Rattle.bk_raw.proofs.Blamed.{blame-joins, blame-none}
 
 -- what a term by itself is asked, of what was read
 asked-of : (table : Table) (scope : ScopeNames) (t : RawTree) (read : Step) (answer : Option Formula) (fault : Option ToldFault) → IsRead read (reading_in table scope t) → IsAsked answer fault (ask_formula (place_of t) (shown_outcome read.outcome)) → IsAsked answer fault (ask_formula (place_of t) (reading_in table scope t).outcome)

@@ -1,4 +1,3 @@
-pub mod Blame
 pub mod Joins
 pub mod Expressions
 pub mod ExpressionView

@@ -1,7 +1,7 @@
 -- What the program's faults and outcomes stand for.
 use Rattle.std.specs.Prelude.{◌≡◌, List, Option, None, Some}
 use Rattle.bk_raw.specs.Outcome.{Fault, Outcome, partial, ranging, holding, silent, Reading, Asked}
-use Rattle.bk_elab.specs.Blame.{blame}
+use Rattle.bk_raw.specs.Blame.{blame}
 use Rattle.bk_elab.specs.declared.blame.Fault.{Fault as ToldFault}
 use Rattle.bk_elab.specs.declared.error.ElabFault.{ElabFault}
 use Rattle.bk_elab.specs.declared.error.ElabFault.TheVariants.{Fault as FaultAt, Limit, Memory}

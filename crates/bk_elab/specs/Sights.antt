@@ -28,7 +28,7 @@ use Rattle.bk_elab.specs.declared.sight.Reader.{Reader}
 use Rattle.bk_elab.specs.declared.sight.Seen.{Seen}
 use Rattle.bk_elab.specs.declared.sight.Seen.TheVariants.{Unseen, Untyped, Typed}
 use Rattle.bk_elab.specs.declared.visible.Sight.{Sight as TermsSight}
-use Rattle.bk_elab.specs.Blame.{blame}
+use Rattle.bk_raw.specs.Blame.{blame}
 use Rattle.bk_elab.specs.Conjuncts.{IsRight}
 use Rattle.bk_elab.specs.Shown.{told, IsRead}
 use Rattle.bk_elab.specs.Visible.{seen_names}

@@ -8,7 +8,7 @@ ghost use Rattle.bk_raw.specs.Binders.{quantified, unranged, as_bound, inside};
 ghost use Rattle.bk_raw.specs.Binders as bound;
 ghost use Rattle.bk_raw.specs.Outcome.{Fault as FaultAt, Reading, ask_domain, ask_value};
 ghost use Rattle.bk_raw.specs.Printed.{wrong_number, printed_bounds, wrong_bounds, with_place};
-ghost use Rattle.bk_elab.specs.Blame.{blame};
+ghost use Rattle.bk_raw.specs.Blame.{blame};
 ghost use Rattle.bk_elab.specs.Conjuncts.{and_sides};
 ghost use Rattle.bk_elab.specs.Shown.{shown_outcome, told, IsRead};
 ghost use Rattle.bk_elab.specs.Sights.{names_of, bounds_from, ranges_as, quantifier, TypesOf, bounds_of, clue_type, range_told, AreTaken, IsRest, StandsBelow, StandsCut, tells_type, tells_range, with_last, AwaitsNone, AwaitsAt, given_at, LacksNone, LacksAt, taken_at, range_as, IsRangeOf, TellsNoType, TellsType, TellsNoRange, TellsRange};
@@ -44,7 +44,7 @@ pub struct Conjunct<'a> {
 }
 
 /// The first fault of names in a list: each name that stood before is at fault.
-#[tactic(auto, using(crate::proofs::Blamed::blames, crate::proofs::Bindings::bindings))]
+#[tactic(auto, using(bk_raw::proofs::Blamed::blames, crate::proofs::Bindings::bindings))]
 pub fn twice(names: &[RawName]) -> Option<Fault>
     ensures { told result ≡ blame (bound.twice [] names.now) }
 {
@@ -169,7 +169,7 @@ pub(crate) fn ranging_conjunct<'a>(
 }
 
 // The first fault of bound names without types, from a place on.
-#[tactic(auto, using(crate::proofs::Blamed::blames, crate::proofs::Bindings::bindings))]
+#[tactic(auto, using(bk_raw::proofs::Blamed::blames, crate::proofs::Bindings::bindings))]
 pub(crate) fn untyped(locals: &[Local<'_>]) -> Option<Fault>
     ensures { told result ≡ blame (bound.untyped_faults (bounds_of locals.now)) }
 {
@@ -233,7 +233,7 @@ pub(crate) fn take_range(
 impl<'a> Reader<'a> {
     // A quantifier over the bound names from a place on, which go out of sight, and a body. Its binder has this first
     // fault.
-    #[tactic(auto, using(crate::proofs::Blamed::blames, crate::proofs::Bindings::cleans))]
+    #[tactic(auto, using(bk_raw::proofs::Blamed::blames, crate::proofs::Bindings::cleans))]
     pub(crate) fn quantified(
         &mut self,
         universal: bool,
@@ -381,7 +381,7 @@ fn range_type(alloc: Global, name: &Ranged<'_>) -> Result<Option<Ty>, Memory>
 }
 
 // A printed bound variable at an index of its binder with its range, which was read, and the first of its faults.
-#[tactic(auto, using(crate::proofs::Blamed::blames))]
+#[tactic(auto, using(bk_raw::proofs::Blamed::blames))]
 pub(crate) fn ranged_of<'a>(
     alloc: Global,
     range: &RawRange,
@@ -431,7 +431,7 @@ fn wrong_number(at: usize, number: u32, standing: usize, index: usize) -> Option
 }
 
 // The first fault of printed bound variables whose numbers are not the next behind those that stand.
-#[tactic(auto, using(crate::proofs::Blamed::blames))]
+#[tactic(auto, using(bk_raw::proofs::Blamed::blames))]
 fn wrong_bounds(bounds: &[RawBound], standing: usize) -> Option<Fault>
     ensures { told result ≡ blame (wrong_bounds (suc standing) bounds.now) }
 {
@@ -595,7 +595,7 @@ fn set_over(alloc: Global, elements: Option<Ty>) -> Result<Option<Ty>, Memory>
 }
 
 // One conjunct more.
-#[tactic(auto, using(crate::proofs::Blamed::blames))]
+#[tactic(auto, using(bk_raw::proofs::Blamed::blames))]
 fn conjoined(alloc: Global, before: Step, conjunct: Step) -> Result<Step, Memory>
     ensures { IfOk result (λ s. (r t : Reading) → IsRead before r → IsRead conjunct t → IsRead s
         (bound.conjoined r t)) }
@@ -624,7 +624,7 @@ pub(crate) fn with_conjunct(
 }
 
 // `{x | P}` at a byte: a set, where each name has a range and what is left of P is a predicate.
-#[tactic(auto, using(crate::proofs::Blamed::blames, crate::proofs::Bindings::cleans))]
+#[tactic(auto, using(bk_raw::proofs::Blamed::blames, crate::proofs::Bindings::cleans))]
 pub(crate) fn comprehended(
     alloc: Global,
     at: usize,
@@ -651,7 +651,7 @@ pub(crate) fn comprehended(
 }
 
 // `%x.(P | E)` at a byte: a relation, where also E gives a type; E stands at a byte of its own.
-#[tactic(auto, using(crate::proofs::Blamed::blames, crate::proofs::Bindings::cleans))]
+#[tactic(auto, using(bk_raw::proofs::Blamed::blames, crate::proofs::Bindings::cleans))]
 pub(crate) fn abstracted(
     alloc: Global,
     at: usize,
@@ -688,7 +688,7 @@ pub(crate) fn abstracted(
 }
 
 // The first fault of a binder at a byte: its own, that of its names, or that of its parts.
-#[tactic(auto, using(crate::proofs::Blamed::blames))]
+#[tactic(auto, using(bk_raw::proofs::Blamed::blames))]
 fn binder_fault(
     at: usize,
     fault: Option<Fault>,
@@ -714,7 +714,7 @@ fn nameless(at: usize, names: &[Ranged<'_>]) -> Option<Fault>
 }
 
 // The first fault of bound names without ranges.
-#[tactic(auto, using(crate::proofs::Blamed::blames, crate::proofs::Bindings::bindings))]
+#[tactic(auto, using(bk_raw::proofs::Blamed::blames, crate::proofs::Bindings::bindings))]
 fn unranged(names: &[Ranged<'_>]) -> Option<Fault>
     ensures { told result ≡ blame (bound.untyped_faults (bound.as_bound (ranges_as names.now))) }
 {

@@ -1,7 +1,7 @@
 // Of several faults, the one that is told.
 
 ghost use Rattle.std.specs.Prelude.{◌≡◌};
-ghost use Rattle.bk_elab.specs.Blame as blamed;
+ghost use Rattle.bk_raw.specs.Blame as blamed;
 ghost use Rattle.bk_elab.specs.Shown.{fault_of, told};
 
 /// A fault: its number, and the byte where it stands.

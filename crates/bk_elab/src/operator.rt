@@ -6,7 +6,7 @@ ghost use Rattle.bk_form.specs.Formula.{binary};
 ghost use Rattle.bk_form.specs.declared.operator.BinOp.TheVariants.{Eq, In, Times as Product};
 ghost use Rattle.bk_raw.specs.Outcome.{Fault as FaultAt, Partial, whole, whole_of, partial, ranging, plainly, Reading};
 ghost use Rattle.bk_raw.specs.OperatorReadings as meant;
-ghost use Rattle.bk_elab.specs.Blame.{blame};
+ghost use Rattle.bk_raw.specs.Blame.{blame};
 ghost use Rattle.bk_elab.specs.Joins.{joint_of_join};
 ghost use Rattle.bk_elab.specs.Shapes.{both_numbers, compared_by, gives_int, is_arrow_or_number, negated_by, IsAlike};
 ghost use Rattle.bk_elab.specs.Shown.{shown_outcome, told, IsRead, IsAsked};
@@ -109,7 +109,7 @@ fn negated(alloc: Global, negative: bool, form: Form) -> Result<Form, Memory>
 }
 
 // Two predicates.
-#[tactic(auto, using(crate::proofs::Blamed::blames))]
+#[tactic(auto, using(bk_raw::proofs::Blamed::blames))]
 pub(crate) fn connected(alloc: Global, op: BinOp, left: Told, right: Told) -> Result<Step, Memory>
     ensures { IfOk result (λ s. IsRead s (meant.connected op (shown_outcome left) (shown_outcome right))) }
 {
@@ -125,7 +125,7 @@ pub(crate) fn connected(alloc: Global, op: BinOp, left: Told, right: Told) -> Re
 }
 
 // Two numbers, where they are.
-#[tactic(auto, using(crate::proofs::Blamed::blames))]
+#[tactic(auto, using(bk_raw::proofs::Blamed::blames))]
 fn numbers(
     alloc: Global,
     at: Places,
@@ -183,7 +183,7 @@ fn turned_by(alloc: Global, op: BinOp, turned: bool, one: Form, other: Form) -> 
 }
 
 // An operator on two numbers that gives a number.
-#[tactic(auto, using(crate::proofs::Blamed::blames))]
+#[tactic(auto, using(bk_raw::proofs::Blamed::blames))]
 fn calculated(alloc: Global, op: BinOp, at: Places, left: Told, right: Told) -> Result<Step, Memory>
     ensures { IfOk result (λ s. IsRead s
         (meant.calculated op int_type at.left at.right (shown_outcome left) (shown_outcome right))) }
@@ -199,7 +199,7 @@ fn calculated(alloc: Global, op: BinOp, at: Places, left: Told, right: Told) -> 
 }
 
 // `a .. b`.
-#[tactic(auto, using(crate::proofs::Blamed::blames))]
+#[tactic(auto, using(bk_raw::proofs::Blamed::blames))]
 fn interval(alloc: Global, at: Places, left: Told, right: Told) -> Result<Step, Memory>
     ensures { IfOk result (λ s. IsRead s (meant.calculated BinOp.Range (set_type int_type) at.left at.right
         (shown_outcome left) (shown_outcome right))) }
@@ -215,7 +215,7 @@ fn interval(alloc: Global, at: Places, left: Told, right: Told) -> Result<Step, 
 }
 
 // A relation or function between two domains.
-#[tactic(auto, using(crate::proofs::Blamed::blames))]
+#[tactic(auto, using(bk_raw::proofs::Blamed::blames))]
 fn arrow(alloc: Global, op: BinOp, at: Places, left: Told, right: Told) -> Result<Step, Memory>
     ensures { IfOk result (λ s. IsRead s
         (meant.arrow op at.whole at.left at.right (shown_outcome left) (shown_outcome right))) }
@@ -237,7 +237,7 @@ fn arrow(alloc: Global, op: BinOp, at: Places, left: Told, right: Told) -> Resul
 }
 
 // `E : D`, or its negation: D ranges over a type that E takes.
-#[tactic(auto, using(crate::proofs::Blamed::blames))]
+#[tactic(auto, using(bk_raw::proofs::Blamed::blames))]
 fn member(
     alloc: Global,
     negative: bool,
@@ -265,7 +265,7 @@ fn member(
 }
 
 // `E <: D`, which is `E : POW(D)`, or its negation.
-#[tactic(auto, using(crate::proofs::Blamed::blames))]
+#[tactic(auto, using(bk_raw::proofs::Blamed::blames))]
 fn subset(
     alloc: Global,
     negative: bool,
@@ -294,7 +294,7 @@ fn subset(
 }
 
 // `S <<: T`, which is `S : POW(T) & not(S = T)`: T is a set value, whose type S takes.
-#[tactic(auto, using(crate::proofs::Blamed::blames))]
+#[tactic(auto, using(bk_raw::proofs::Blamed::blames))]
 fn strict_subset(alloc: Global, at: Places, left: Told, right: Told) -> Result<Step, Memory>
     ensures { IfOk result (λ s. IsRead s (meant.strictly at.left at.right (shown_outcome left) (shown_outcome right))) }
 {
@@ -320,7 +320,7 @@ fn strict_subset(alloc: Global, at: Places, left: Told, right: Told) -> Result<S
 // ---- two sides of one type
 
 // Two expressions, or the first of the faults of domains that are no values.
-#[tactic(auto, using(crate::proofs::Blamed::blames))]
+#[tactic(auto, using(bk_raw::proofs::Blamed::blames))]
 fn expressions(left: Told, right: Told) -> Result<(Expression, Expression), Step>
     ensures { MatchResult result
         (λ p. (shown_outcome left ≡ partial p.0) × (shown_outcome right ≡ partial p.1))
@@ -593,7 +593,7 @@ fn no_number(at: usize, there: usize, ty: &Ty) -> Option<Fault>
 }
 
 // A product of numbers.
-#[tactic(auto, using(crate::proofs::Blamed::blames))]
+#[tactic(auto, using(bk_raw::proofs::Blamed::blames))]
 fn multiplied(alloc: Global, place: usize, form: Form, right: Told) -> Result<Step, Memory>
     ensures { IfOk result (λ s. (at x : ℕ) → IsRead s
         (meant.times at x place (partial (whole form int_type)) (shown_outcome right))) }
@@ -679,7 +679,7 @@ fn domain_product(
 // ---- relations
 
 // `S <| r` and `S <<| r`: a relation, and a set of its first parts.
-#[tactic(auto, using(crate::proofs::Blamed::blames))]
+#[tactic(auto, using(bk_raw::proofs::Blamed::blames))]
 fn left_part(alloc: Global, op: BinOp, at: Places, left: Told, right: Told) -> Result<Step, Memory>
     ensures { IfOk result (λ s. IsRead s
         (meant.left_part op at.left at.right (shown_outcome left) (shown_outcome right))) }
@@ -698,7 +698,7 @@ fn left_part(alloc: Global, op: BinOp, at: Places, left: Told, right: Told) -> R
 }
 
 // `r |> S` and `r |>> S`: a relation, and a set of its second parts.
-#[tactic(auto, using(crate::proofs::Blamed::blames))]
+#[tactic(auto, using(bk_raw::proofs::Blamed::blames))]
 fn right_part(alloc: Global, op: BinOp, at: Places, left: Told, right: Told) -> Result<Step, Memory>
     ensures { IfOk result (λ s. IsRead s
         (meant.right_part op at.left at.right (shown_outcome left) (shown_outcome right))) }
@@ -717,7 +717,7 @@ fn right_part(alloc: Global, op: BinOp, at: Places, left: Told, right: Told) -> 
 }
 
 // `r[S]`: a relation, and a set of its first parts.
-#[tactic(auto, using(crate::proofs::Blamed::blames))]
+#[tactic(auto, using(bk_raw::proofs::Blamed::blames))]
 pub(crate) fn image(alloc: Global, at: Places, left: Told, right: Told) -> Result<Step, Memory>
     ensures { IfOk result (λ s. IsRead s
         (meant.image_reading at.left at.right (shown_outcome left) (shown_outcome right))) }
@@ -736,7 +736,7 @@ pub(crate) fn image(alloc: Global, at: Places, left: Told, right: Told) -> Resul
 }
 
 // `f(x)`: a relation, and one of its first parts.
-#[tactic(auto, using(crate::proofs::Blamed::blames))]
+#[tactic(auto, using(bk_raw::proofs::Blamed::blames))]
 pub(crate) fn application(
     alloc: Global,
     at: Places,

@@ -6,8 +6,8 @@ ghost use Rattle.bk_raw.specs.Outcome as wanted;
 ghost use Rattle.bk_raw.specs.Outcome.{Reading, Fault as FaultAt};
 ghost use Rattle.bk_raw.specs.ScopeReading.{ask_formula};
 ghost use Rattle.bk_raw.specs.TermReading.{behind_faults, spoilt_by};
-ghost use Rattle.bk_elab.specs.Blame.{blame};
-ghost use Rattle.bk_elab.specs.Blame as blamed;
+ghost use Rattle.bk_raw.specs.Blame.{blame};
+ghost use Rattle.bk_raw.specs.Blame as blamed;
 ghost use Rattle.bk_elab.specs.Shown.{shown_outcome, told, IsRead, IsAsked};
 
 use crate::blame::{Fault, earlier};
@@ -95,7 +95,7 @@ impl Step {
     }
 
     // The same behind the first of the faults of the parts.
-    #[tactic(auto, using(crate::proofs::Blamed::blames))]
+    #[tactic(auto, using(bk_raw::proofs::Blamed::blames))]
     pub(crate) fn behind(self, fault: Option<Fault>) -> Step
         ensures { (fs : List FaultAt) (r : Reading) → told fault ≡ blame fs → IsRead self r →
             IsRead result (behind_faults fs r) }
@@ -107,7 +107,7 @@ impl Step {
     }
 
     // The same, where a fault leaves nothing to tell.
-    #[tactic(auto, using(crate::proofs::Blamed::blames))]
+    #[tactic(auto, using(bk_raw::proofs::Blamed::blames))]
     pub(crate) fn spoilt_by(self, fault: Option<Fault>) -> Step
         ensures { (fs : List FaultAt) (r : Reading) → told fault ≡ blame fs → IsRead self r →
             IsRead result (spoilt_by fs r) }
@@ -121,7 +121,7 @@ impl Step {
 
 impl<T: Drop> Asked<T> {
     // The same behind the first of the faults of the part.
-    #[tactic(auto, using(crate::proofs::Blamed::blames))]
+    #[tactic(auto, using(bk_raw::proofs::Blamed::blames))]
     pub(crate) fn behind(self, fault: Option<Fault>) -> Asked<T>
         ensures answer { result.answer ≡ self.answer }
         ensures fault { told result.fault ≡ blamed.earlier (told fault) (told self.fault) }

@@ -19,7 +19,7 @@ use std::alloc::Global;
 
 // A part in a place where a predicate is wanted, or an expression: the other one is at fault, and what lies in it is
 // still judged.
-#[tactic(auto, using(crate::proofs::Blamed::blames, crate::proofs::Placed::places))]
+#[tactic(auto, using(bk_raw::proofs::Blamed::blames, crate::proofs::Placed::places))]
 pub(crate) fn placed(wanted: bool, term: &RawTerm, read: Step) -> Step
     ensures { (r : Reading) → IsRead read r → IsRead result (part wanted term.now r) }
 {

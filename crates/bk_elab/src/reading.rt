@@ -10,7 +10,7 @@ ghost use Rattle.bk_raw.specs.Printed.{printed_ranges, wrong_ranges};
 ghost use Rattle.bk_raw.specs.RawTree.{RawTree, trees_of};
 ghost use Rattle.bk_raw.specs.RawView.{ranges_of};
 ghost use Rattle.bk_raw.specs.TermReading as meant;
-ghost use Rattle.bk_elab.specs.Blame.{blame};
+ghost use Rattle.bk_raw.specs.Blame.{blame};
 ghost use Rattle.bk_elab.specs.Conjuncts.{and_sides};
 ghost use Rattle.bk_elab.specs.Forms.{one_node, two_node};
 ghost use Rattle.bk_elab.specs.Kept.{IsKept, AreKept, StaysKept, StayKept};

@@ -118,7 +118,7 @@ fn negation(alloc: Global, part: Told) -> Result<Step, Memory>
 }
 
 // `bool(P)`.
-#[tactic(auto, using(crate::proofs::Blamed::blames))]
+#[tactic(auto, using(bk_raw::proofs::Blamed::blames))]
 fn truth_of(alloc: Global, part: Told) -> Result<Step, Memory>
     ensures { IfOk result (λ s. IsRead s (meant.word_reading WordOp.BoolOf 0 0 (shown_outcome part))) }
 {
@@ -133,7 +133,7 @@ fn truth_of(alloc: Global, part: Told) -> Result<Step, Memory>
 }
 
 // `card(S)` of a set.
-#[tactic(auto, using(crate::proofs::Blamed::blames))]
+#[tactic(auto, using(bk_raw::proofs::Blamed::blames))]
 fn count(alloc: Global, place: usize, part: Told) -> Result<Step, Memory>
     ensures { IfOk result (λ s. IsRead s (meant.word_reading WordOp.Card 0 place (shown_outcome part))) }
 {
@@ -148,7 +148,7 @@ fn count(alloc: Global, place: usize, part: Told) -> Result<Step, Memory>
 }
 
 // `min(S)` and `max(S)` of a set of numbers.
-#[tactic(auto, using(crate::proofs::Blamed::blames))]
+#[tactic(auto, using(bk_raw::proofs::Blamed::blames))]
 fn extreme(alloc: Global, op: UnOp, place: usize, part: Told) -> Result<Step, Memory>
     ensures { IfOk result (λ s. IsRead s
         (of_one (meant.number_made op) (ask place (shown_outcome part) (set_type int_type)))) }
@@ -162,7 +162,7 @@ fn extreme(alloc: Global, op: UnOp, place: usize, part: Told) -> Result<Step, Me
 }
 
 // `-a` of a number.
-#[tactic(auto, using(crate::proofs::Blamed::blames))]
+#[tactic(auto, using(bk_raw::proofs::Blamed::blames))]
 pub(crate) fn negative(alloc: Global, place: usize, part: Told) -> Result<Step, Memory>
     ensures { IfOk result (λ s. IsRead s (meant.negative_reading place (shown_outcome part))) }
 {
@@ -174,7 +174,7 @@ pub(crate) fn negative(alloc: Global, place: usize, part: Told) -> Result<Step, 
 }
 
 // `succ(E)` is `E + 1`, and `pred(E)` is `E - 1`.
-#[tactic(auto, using(crate::proofs::Blamed::blames))]
+#[tactic(auto, using(bk_raw::proofs::Blamed::blames))]
 fn stepped(alloc: Global, op: BinOp, place: usize, part: Told) -> Result<Step, Memory>
     ensures { IfOk result (λ s. IsRead s (of_one (meant.stepped op) (ask place (shown_outcome part) int_type))) }
 {
@@ -189,7 +189,7 @@ fn stepped(alloc: Global, op: BinOp, place: usize, part: Told) -> Result<Step, M
 }
 
 // `dom(r)` of a relation.
-#[tactic(auto, using(crate::proofs::Blamed::blames))]
+#[tactic(auto, using(bk_raw::proofs::Blamed::blames))]
 fn domain(alloc: Global, place: usize, part: Told) -> Result<Step, Memory>
     ensures { IfOk result (λ s. IsRead s (meant.word_reading WordOp.Dom 0 place (shown_outcome part))) }
 {
@@ -204,7 +204,7 @@ fn domain(alloc: Global, place: usize, part: Told) -> Result<Step, Memory>
 }
 
 // `ran(r)` of a relation.
-#[tactic(auto, using(crate::proofs::Blamed::blames))]
+#[tactic(auto, using(bk_raw::proofs::Blamed::blames))]
 fn range(alloc: Global, place: usize, part: Told) -> Result<Step, Memory>
     ensures { IfOk result (λ s. IsRead s (meant.word_reading WordOp.Ran 0 place (shown_outcome part))) }
 {
@@ -219,7 +219,7 @@ fn range(alloc: Global, place: usize, part: Told) -> Result<Step, Memory>
 }
 
 // `r~` of a relation.
-#[tactic(auto, using(crate::proofs::Blamed::blames))]
+#[tactic(auto, using(bk_raw::proofs::Blamed::blames))]
 pub(crate) fn inverse(alloc: Global, place: usize, part: Told) -> Result<Step, Memory>
     ensures { IfOk result (λ s. IsRead s (meant.inverse_reading place (shown_outcome part))) }
 {
@@ -235,7 +235,7 @@ pub(crate) fn inverse(alloc: Global, place: usize, part: Told) -> Result<Step, M
 }
 
 // `id(S)` of a set.
-#[tactic(auto, using(crate::proofs::Blamed::blames))]
+#[tactic(auto, using(bk_raw::proofs::Blamed::blames))]
 fn identity(alloc: Global, place: usize, part: Told) -> Result<Step, Memory>
     ensures { IfOk result (λ s. IsRead s (meant.word_reading WordOp.Id 0 place (shown_outcome part))) }
 {

@@ -6,7 +6,7 @@ ghost use Rattle.bk_raw.specs.FreeNames.{stands_free, is_among, is_free_in_some,
 ghost use Rattle.bk_raw.specs.RawTree.{trees_of};
 ghost use Rattle.bk_raw.specs.RawView.{ranges_of};
 ghost use Rattle.bk_raw.specs.TermReading as meant;
-ghost use Rattle.bk_elab.specs.Blame.{blame};
+ghost use Rattle.bk_raw.specs.Blame.{blame};
 ghost use Rattle.bk_elab.specs.Conjuncts.{and_sides, infix_sides, implies_sides, shown_pair, shown_infix};
 ghost use Rattle.bk_elab.specs.Shapes.{strict_here};
 ghost use Rattle.bk_elab.specs.Shown.{told};
@@ -146,7 +146,7 @@ fn strict_at(at: usize, op: InfixOp) -> Option<Fault>
 }
 
 // The first `<<:` in a term.
-#[tactic(auto, using(crate::proofs::Sizes::parts_are_smaller, crate::proofs::Blamed::blames, crate::proofs::Strict::strict_parts))]
+#[tactic(auto, using(crate::proofs::Sizes::parts_are_smaller, bk_raw::proofs::Blamed::blames, crate::proofs::Strict::strict_parts))]
 #[cycle(strict)]
 fn first_strict(term: &RawTerm) -> Option<Fault>
     ensures { told result ≡ blame (meant.stricts term.now) }
@@ -182,7 +182,7 @@ fn first_strict(term: &RawTerm) -> Option<Fault>
 }
 
 // The first `<<:` in one of the terms.
-#[tactic(auto, using(crate::proofs::Sizes::parts_are_smaller, crate::proofs::Blamed::blames, crate::proofs::Strict::strict_parts))]
+#[tactic(auto, using(crate::proofs::Sizes::parts_are_smaller, bk_raw::proofs::Blamed::blames, crate::proofs::Strict::strict_parts))]
 #[cycle(strict)]
 fn first_strict_of(terms: &[RawTerm]) -> Option<Fault>
     ensures { told result ≡ blame (meant.all_stricts (trees_of terms.now)) }
@@ -195,7 +195,7 @@ fn first_strict_of(terms: &[RawTerm]) -> Option<Fault>
 }
 
 // The first `<<:` in one of the ranges.
-#[tactic(auto, using(crate::proofs::Sizes::parts_are_smaller, crate::proofs::Blamed::blames, crate::proofs::Strict::strict_parts))]
+#[tactic(auto, using(crate::proofs::Sizes::parts_are_smaller, bk_raw::proofs::Blamed::blames, crate::proofs::Strict::strict_parts))]
 #[cycle(strict)]
 fn first_strict_in(ranges: &[RawRange]) -> Option<Fault>
     ensures { told result ≡ blame (meant.ranges_stricts (ranges_of ranges.now)) }

@@ -14,10 +14,10 @@ use Rattle.bk_form.specs.Formula.{Formula}
 use Rattle.bk_exec.specs.Executed.{fill_sides, only, whole_told}
 use Rattle.bk_raw.specs.Names.{Names}
 use Rattle.bk_raw.specs.Outcome.{Fault}
-use Rattle.bk_elab.specs.Blame.{blame, earlier}
+use Rattle.bk_raw.specs.Blame.{blame, earlier}
 use Rattle.bk_elab.specs.Visible.{visible_names, meaning_of}
 use Rattle.bk_elab.specs.declared.sight.Visible.{Visible}
-use Rattle.bk_elab.proofs.Blamed.{blame-joins, earlier-joins, earlier-none}
+use Rattle.bk_raw.proofs.Blamed.{blame-joins, earlier-joins, earlier-none}
 use Rattle.bk_level.specs.Components.{WrittenVariable, abstract_names}
 use Rattle.bk_level.specs.ClauseFaults.{is_flat, declared_at, place_or}
 use Rattle.bk_level.specs.ValueFaults.{is_there}

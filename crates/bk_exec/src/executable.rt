@@ -5,7 +5,7 @@ ghost use Rattle.std.specs.Prelude.{◌≡◌, ◌+◌, ◌++◌, ◌∷◌, [],
 ghost use Rattle.bk_raw.specs.RawTree.{trees_of, raw_apply, raw_infix};
 ghost use Rattle.bk_raw.specs.SubTree.{sub_var, branch_and};
 ghost use Rattle.bk_raw.specs.Binders.{second};
-ghost use Rattle.bk_elab.specs.Blame.{blame};
+ghost use Rattle.bk_raw.specs.Blame.{blame};
 ghost use Rattle.bk_elab.specs.Conjuncts.{shown_pair};
 ghost use Rattle.bk_elab.specs.Shown.{told};
 ghost use Rattle.bk_elab.specs.Visible.{meaning_of, typing_of, visible_names};
@@ -277,7 +277,7 @@ impl<'a> Executing<'a> {
 
     // The first fault of a statement: skip, `x := E`, `f(e) := E`, a fill, `S ; T`, BEGIN, VAR, IF, WHILE and ASSERT, whose
     // predicate is not executed; nor are a loop's invariant and variant.
-    #[tactic(auto, using(bk_sight::proofs::SubSizes::parts_are_smaller, crate::proofs::Branching::branch_whole, bk_elab::proofs::Blamed::blames))]
+    #[tactic(auto, using(bk_sight::proofs::SubSizes::parts_are_smaller, crate::proofs::Branching::branch_whole, bk_raw::proofs::Blamed::blames))]
     #[cycle(executing)]
     fn statement(&self, sub: &RawSub) -> Result<Option<Fault>, Memory>
         ensures { IfOk result (λ fault. told fault ≡ blame (statement_by self.now sub.now)) }
@@ -309,7 +309,7 @@ impl<'a> Executing<'a> {
     }
 
     // That of a branch of IF, and of those behind it.
-    #[tactic(auto, using(bk_sight::proofs::SubSizes::parts_are_smaller, crate::proofs::Branching::branch_whole, bk_elab::proofs::Blamed::blames))]
+    #[tactic(auto, using(bk_sight::proofs::SubSizes::parts_are_smaller, crate::proofs::Branching::branch_whole, bk_raw::proofs::Blamed::blames))]
     #[cycle(executing)]
     fn branch(
         &self,
@@ -329,7 +329,7 @@ impl<'a> Executing<'a> {
     }
 
     // That of further branches.
-    #[tactic(auto, using(bk_sight::proofs::SubSizes::parts_are_smaller, crate::proofs::Branching::branch_whole, bk_elab::proofs::Blamed::blames))]
+    #[tactic(auto, using(bk_sight::proofs::SubSizes::parts_are_smaller, crate::proofs::Branching::branch_whole, bk_raw::proofs::Blamed::blames))]
     #[cycle(executing)]
     fn branches(
         &self,
@@ -349,7 +349,7 @@ impl<'a> Executing<'a> {
     }
 
     // That of a body under locals.
-    #[tactic(auto, using(bk_sight::proofs::SubSizes::parts_are_smaller, crate::proofs::Branching::branch_whole, bk_elab::proofs::Blamed::blames))]
+    #[tactic(auto, using(bk_sight::proofs::SubSizes::parts_are_smaller, crate::proofs::Branching::branch_whole, bk_raw::proofs::Blamed::blames))]
     #[cycle(executing)]
     fn local(&self, names: &[RawName], body: &RawSub) -> Result<Option<Fault>, Memory>
         ensures { IfOk result (λ fault. told fault ≡ blame (meant.statement_in (executing self.now.typing self.now.arrays.now)
@@ -506,7 +506,7 @@ impl<'a> Executing<'a> {
 
     // The first fault of an expression: literals within INT, constants, elements, TRUE, FALSE, scalar names, `f(e)`, `+`,
     // `-`, `*`, `/`, mod, unary minus, succ, pred and bool(C).
-    #[tactic(auto, using(bk_elab::proofs::Sizes::parts_are_smaller, bk_elab::proofs::Blamed::blames, crate::proofs::Executing::wholes))]
+    #[tactic(auto, using(bk_elab::proofs::Sizes::parts_are_smaller, bk_raw::proofs::Blamed::blames, crate::proofs::Executing::wholes))]
     #[cycle(expressions)]
     fn expression(&self, term: &RawTerm) -> Result<Option<Fault>, Memory>
         ensures { IfOk result (λ fault. told fault ≡ blame (expression_by self.now term.now)) }
@@ -536,7 +536,7 @@ impl<'a> Executing<'a> {
     }
 
     // That of two expressions.
-    #[tactic(auto, using(bk_elab::proofs::Sizes::parts_are_smaller, bk_elab::proofs::Blamed::blames, crate::proofs::Executing::wholes))]
+    #[tactic(auto, using(bk_elab::proofs::Sizes::parts_are_smaller, bk_raw::proofs::Blamed::blames, crate::proofs::Executing::wholes))]
     #[cycle(expressions)]
     fn expressions(&self, left: &RawTerm, right: &RawTerm) -> Result<Option<Fault>, Memory>
         ensures { IfOk result (λ fault. told fault ≡ blame (expression_by self.now left.now ++ expression_by self.now right.now)) }
@@ -546,7 +546,7 @@ impl<'a> Executing<'a> {
     }
 
     // That of several expressions.
-    #[tactic(auto, using(bk_elab::proofs::Sizes::parts_are_smaller, bk_elab::proofs::Blamed::blames, crate::proofs::Executing::wholes))]
+    #[tactic(auto, using(bk_elab::proofs::Sizes::parts_are_smaller, bk_raw::proofs::Blamed::blames, crate::proofs::Executing::wholes))]
     #[cycle(expressions)]
     fn all_expressions(&self, terms: &[RawTerm]) -> Result<Option<Fault>, Memory>
         ensures { IfOk result (λ fault. told fault ≡ blame (meant.all_expression_faults
@@ -561,7 +561,7 @@ impl<'a> Executing<'a> {
     }
 
     // That of `f(e)` at a byte.
-    #[tactic(auto, using(bk_elab::proofs::Sizes::parts_are_smaller, bk_elab::proofs::Blamed::blames, crate::proofs::Executing::wholes))]
+    #[tactic(auto, using(bk_elab::proofs::Sizes::parts_are_smaller, bk_raw::proofs::Blamed::blames, crate::proofs::Executing::wholes))]
     #[cycle(expressions)]
     fn application(
         &self,
@@ -584,7 +584,7 @@ impl<'a> Executing<'a> {
     }
 
     // The first fault of a condition: `=` and `/=` on scalars of one type, `<`, `<=`, `>`, `>=` on integers, `&`, `or`, `not`.
-    #[tactic(auto, using(bk_elab::proofs::Sizes::parts_are_smaller, bk_elab::proofs::Blamed::blames, crate::proofs::Executing::wholes))]
+    #[tactic(auto, using(bk_elab::proofs::Sizes::parts_are_smaller, bk_raw::proofs::Blamed::blames, crate::proofs::Executing::wholes))]
     #[cycle(expressions)]
     fn condition(&self, term: &RawTerm) -> Result<Option<Fault>, Memory>
         ensures { IfOk result (λ fault. told fault ≡ blame (condition_by self.now term.now)) }
@@ -597,7 +597,7 @@ impl<'a> Executing<'a> {
     }
 
     // That of an operator between two sides at a byte.
-    #[tactic(auto, using(bk_elab::proofs::Sizes::parts_are_smaller, bk_elab::proofs::Blamed::blames, crate::proofs::Executing::wholes))]
+    #[tactic(auto, using(bk_elab::proofs::Sizes::parts_are_smaller, bk_raw::proofs::Blamed::blames, crate::proofs::Executing::wholes))]
     #[cycle(expressions)]
     fn comparison(
         &self,
@@ -622,7 +622,7 @@ impl<'a> Executing<'a> {
     }
 
     // That of two conditions.
-    #[tactic(auto, using(bk_elab::proofs::Sizes::parts_are_smaller, bk_elab::proofs::Blamed::blames, crate::proofs::Executing::wholes))]
+    #[tactic(auto, using(bk_elab::proofs::Sizes::parts_are_smaller, bk_raw::proofs::Blamed::blames, crate::proofs::Executing::wholes))]
     #[cycle(expressions)]
     fn conditions(&self, left: &RawTerm, right: &RawTerm) -> Result<Option<Fault>, Memory>
         ensures { IfOk result (λ fault. told fault ≡ blame (condition_by self.now left.now ++ condition_by self.now right.now)) }

@@ -11,7 +11,7 @@ use Rattle.bk_raw.specs.Outcome.{Fault}
 use Rattle.bk_raw.specs.RawTree.{RawTree, RawTrees, no_trees, tree_and, trees_of}
 use Rattle.bk_raw.specs.SubTree.{SubTree}
 use Rattle.bk_raw.specs.SubView.{choices_of}
-use Rattle.bk_elab.specs.Blame.{blame, earlier}
+use Rattle.bk_raw.specs.Blame.{blame, earlier}
 use Rattle.bk_level.specs.Binders.{binder_count}
 use Rattle.bk_level.specs.Typings.{Typing, target, type_at, numbered}
 use Rattle.bk_level.specs.SubFaults.{term_faults, predicate_faults, assign_faults, writable_within, sub_faults, shared_faults}

@@ -7,7 +7,7 @@ ghost use Rattle.bk_raw.specs.Outcome as wanted;
 ghost use Rattle.bk_raw.specs.RawTree.{trees_of};
 ghost use Rattle.bk_raw.specs.SubTree.{sub_assign};
 ghost use Rattle.bk_raw.specs.SubView.{choices_of};
-ghost use Rattle.bk_elab.specs.Blame.{blame};
+ghost use Rattle.bk_raw.specs.Blame.{blame};
 ghost use Rattle.bk_elab.specs.Shown.{told};
 ghost use Rattle.bk_elab.specs.Visible.{typing_of, visible_names};
 ghost use Rattle.bk_judge.specs.Judged.{faults_by, branches_by, choices_by, binder_by, loop_by, parallel_by, condition_by, paired_by, unpaired_by, element_by, member_by, such_by, term_by, node_by};
@@ -54,7 +54,7 @@ impl<'a> Judge<'a> {
     }
 
     /// The first fault of a substitution.
-    #[tactic(auto, using(bk_sight::proofs::SubSizes::parts_are_smaller, bk_elab::proofs::Blamed::blames))]
+    #[tactic(auto, using(bk_sight::proofs::SubSizes::parts_are_smaller, bk_raw::proofs::Blamed::blames))]
     #[cycle(judging)]
     pub fn substitution(&self, sub: &RawSub) -> Result<Option<Fault>, Memory>
         ensures { IfOk result (λ fault. told fault ≡ blame (faults_by self.now sub.now)) }
@@ -104,7 +104,7 @@ impl<'a> Judge<'a> {
     }
 
     // That of further branches.
-    #[tactic(auto, using(bk_sight::proofs::SubSizes::parts_are_smaller, bk_elab::proofs::Blamed::blames))]
+    #[tactic(auto, using(bk_sight::proofs::SubSizes::parts_are_smaller, bk_raw::proofs::Blamed::blames))]
     #[cycle(judging)]
     fn branches(
         &self,
@@ -129,7 +129,7 @@ impl<'a> Judge<'a> {
     }
 
     // That of further choices.
-    #[tactic(auto, using(bk_sight::proofs::SubSizes::parts_are_smaller, bk_elab::proofs::Blamed::blames))]
+    #[tactic(auto, using(bk_sight::proofs::SubSizes::parts_are_smaller, bk_raw::proofs::Blamed::blames))]
     #[cycle(judging)]
     fn choices(&self, choices: &[RawSub]) -> Result<Option<Fault>, Memory>
         ensures { IfOk result (λ fault. told fault ≡ blame (choices_by self.now (choices_of choices.now))) }
@@ -144,7 +144,7 @@ impl<'a> Judge<'a> {
     }
 
     // That of ANY and LET, where there is a predicate, or else of VAR.
-    #[tactic(auto, using(bk_sight::proofs::SubSizes::parts_are_smaller, bk_elab::proofs::Blamed::blames))]
+    #[tactic(auto, using(bk_sight::proofs::SubSizes::parts_are_smaller, bk_raw::proofs::Blamed::blames))]
     #[cycle(judging)]
     fn binder(
         &self,
@@ -174,7 +174,7 @@ impl<'a> Judge<'a> {
     }
 
     // That of WHILE.
-    #[tactic(auto, using(bk_sight::proofs::SubSizes::parts_are_smaller, bk_elab::proofs::Blamed::blames))]
+    #[tactic(auto, using(bk_sight::proofs::SubSizes::parts_are_smaller, bk_raw::proofs::Blamed::blames))]
     #[cycle(judging)]
     fn repetition(
         &self,
@@ -197,7 +197,7 @@ impl<'a> Judge<'a> {
     }
 
     // That of `||`.
-    #[tactic(auto, using(bk_sight::proofs::SubSizes::parts_are_smaller, bk_elab::proofs::Blamed::blames))]
+    #[tactic(auto, using(bk_sight::proofs::SubSizes::parts_are_smaller, bk_raw::proofs::Blamed::blames))]
     #[cycle(judging)]
     fn parallel(&self, left: &RawSub, right: &RawSub) -> Result<Option<Fault>, Memory>
         ensures { IfOk result (λ fault. told fault ≡ blame (parallel_by self.now left.now right.now)) }

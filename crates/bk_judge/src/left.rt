@@ -5,7 +5,7 @@ ghost use Rattle.std.specs.Prelude.{◌≡◌, ◌+◌, ◌++◌, ◌∷◌, [],
 ghost use Rattle.bk_form.specs.Role.{bind};
 ghost use Rattle.bk_gsl.specs.State.{among};
 ghost use Rattle.bk_raw.specs.SubView.{choices_of};
-ghost use Rattle.bk_elab.specs.Blame.{blame};
+ghost use Rattle.bk_raw.specs.Blame.{blame};
 ghost use Rattle.bk_elab.specs.Shown.{told};
 ghost use Rattle.bk_elab.specs.Visible.{visible_names};
 ghost use Rattle.bk_sight.specs.Shown.{branches_shown, target_shown};
@@ -153,7 +153,7 @@ fn push_target(found: &mut Vec<u32>, target: Target) -> Result<(), Memory>
 }
 
 // The first fault of what both sides of `||` write: a name on the right whose variable the left writes.
-#[tactic(auto, using(bk_elab::proofs::Blamed::blames))]
+#[tactic(auto, using(bk_raw::proofs::Blamed::blames))]
 pub(crate) fn shared_fault(left: &[Write], right: &[Write]) -> Option<Fault>
     ensures { told result ≡ blame (meant.shared_faults (map (λ w. w.variable) left.now) (writes_shown right.now)) }
 {

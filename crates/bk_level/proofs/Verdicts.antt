@@ -2,8 +2,8 @@
 use Rattle.std.proofs.Common.{◌≡◌, ℕ, ◌+◌, ◌-◌, List, [], ◌∷◌, ◌++◌, length, refl, sym, ◌∙◌, ap, subst, Bool, true, false, arith}
 use Rattle.std.specs.Prelude.{Option, None, Some, ℤ, take, codes, decimal}
 use Rattle.bk_dev.specs.Development.{Development}
-use Rattle.bk_elab.specs.Blame.{blame, first_of, IsBlameOf}
-use Rattle.bk_elab.proofs.Blamed.{blame-right}
+use Rattle.bk_raw.specs.Blame.{blame, first_of, IsBlameOf}
+use Rattle.bk_raw.proofs.Blamed.{blame-right}
 use Rattle.bk_raw.specs.Names.{level_name}
 use Rattle.bk_raw.specs.Outcome.{Fault}
 use Rattle.bk_level.specs.Components.{Component}

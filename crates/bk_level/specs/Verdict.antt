@@ -1,7 +1,7 @@
 -- What a component below a development is answered: the development with one more level, or the one fault or limit that is told.
 use Rattle.std.specs.Prelude.{◌≡◌, ℕ, ℤ, Bool, true, false, List, [], ◌∷◌, ◌++◌, Option, None, Some}
 use Rattle.bk_dev.specs.Development.{Development}
-use Rattle.bk_elab.specs.Blame.{blame}
+use Rattle.bk_raw.specs.Blame.{blame}
 use Rattle.bk_raw.specs.ComponentTree.{RawComponent}
 use Rattle.bk_raw.specs.Outcome.{Fault}
 use Rattle.bk_level.specs.Components.{Component, component_of}

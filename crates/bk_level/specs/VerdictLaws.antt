@@ -2,7 +2,7 @@
 -- implementation is in B0.
 use Rattle.std.specs.Prelude.{◌≡◌, ◌<◌, ◌≤◌, ◌^◌, ℕ, ℤ, true, false, List, [], length, Option, None, Some}
 use Rattle.bk_form.specs.declared.token.Token.{Token}
-use Rattle.bk_elab.specs.Blame.{IsBlameOf}
+use Rattle.bk_raw.specs.Blame.{IsBlameOf}
 use Rattle.bk_dev.specs.Development.{Development, int_max as machine_max, is_complete}
 use Rattle.bk_form.specs.Formula.{Formula}
 use Rattle.bk_form.specs.Replacement.{occurs}

@@ -14,7 +14,7 @@ use Rattle.bk_dev.specs.Layout.{has_scalars}
 use Rattle.bk_gsl.specs.State.{among}
 use Rattle.bk_raw.specs.Binders.{or_bool}
 use Rattle.bk_raw.specs.Outcome.{Fault}
-use Rattle.bk_elab.specs.Blame.{blame}
+use Rattle.bk_raw.specs.Blame.{blame}
 use Rattle.bk_level.proofs.Listed.{of_entry, entry-type, variable-entry}
 use Rattle.bk_level.proofs.Stands.{get-right}
 use Rattle.bk_form.specs.Formula.{Formula}

@@ -7,7 +7,7 @@ use Rattle.bk_gsl.specs.State.{among}
 use Rattle.bk_raw.specs.Names.{Names}
 use Rattle.bk_raw.specs.SubTree.{SubTree}
 use Rattle.bk_raw.specs.Outcome.{Fault}
-use Rattle.bk_elab.specs.Blame.{blame, earlier}
+use Rattle.bk_raw.specs.Blame.{blame, earlier}
 use Rattle.bk_elab.specs.Visible.{typing_of, visible_names}
 use Rattle.bk_dev.specs.Development.{Development}
 use Rattle.bk_dev.specs.Facts.{AllAre, is_variable_of, home_of, writes_own}

@@ -5,7 +5,7 @@ ghost use Rattle.bk_form.specs.Table.{lists_type};
 ghost use Rattle.bk_dev.specs.B0.{IsB0Development};
 ghost use Rattle.bk_dev.specs.Development.{int_max, is_implementing};
 ghost use Rattle.bk_dev.specs.Facts.{IsDevelopment};
-ghost use Rattle.bk_elab.specs.Blame.{blame};
+ghost use Rattle.bk_raw.specs.Blame.{blame};
 ghost use Rattle.bk_elab.specs.Shown.{told};
 ghost use Rattle.bk_elab.specs.Visible.{typing_of};
 ghost use Rattle.bk_raw.specs.Binders.{or_bool};

@@ -3,7 +3,7 @@
 ghost use Rattle.std.specs.Prelude.{◌≡◌, [], length, map, IfOk};
 ghost use Rattle.bk_dev.specs.Development.{Development};
 ghost use Rattle.bk_dev.specs.Facts.{writes_own};
-ghost use Rattle.bk_elab.specs.Blame.{blame};
+ghost use Rattle.bk_raw.specs.Blame.{blame};
 ghost use Rattle.bk_elab.specs.Shown.{told};
 ghost use Rattle.bk_elab.specs.Visible.{typing_of, visible_names};
 ghost use Rattle.bk_levels.specs.Answered.{WritesOwn, bodies_judged, body_judged};
@@ -95,7 +95,7 @@ fn start_fault(
 }
 
 // That of all bodies.
-#[tactic(auto, using(bk_elab::proofs::Blamed::blames))]
+#[tactic(auto, using(bk_raw::proofs::Blamed::blames))]
 fn bodies_fault(typing: Typing<'_>, plan: &Plan<'_>) -> Result<Option<Fault>, Memory>
     ensures { IfOk result (λ fault. (dev : Development) → WritesOwn plan.now dev → told fault ≡
         blame (bodies_judged typing.entry (typing_of typing.entry.types.now) plan.now dev (map placed_shown plan.now.operations.items))) }

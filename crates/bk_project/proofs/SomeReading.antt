@@ -8,7 +8,7 @@ use Rattle.bk_form.specs.declared.token.Token.{Token}
 use Rattle.bk_raw.specs.ComponentTree.{RawComponent}
 use Rattle.bk_raw.specs.Outcome.{Fault as StaticFault}
 use Rattle.bk_raw.specs.Places.{byte_at}
-use Rattle.bk_elab.specs.Blame.{blame}
+use Rattle.bk_raw.specs.Blame.{blame}
 use Rattle.bk_dev.specs.Development.{Development, int_max}
 use Rattle.bk_level.specs.Above.{above_of}
 use Rattle.bk_level.specs.Components.{component_of}

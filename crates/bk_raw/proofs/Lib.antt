@@ -1,3 +1,4 @@
+pub mod Blamed
 pub mod Counting
 mod Examples
 pub mod Numbered

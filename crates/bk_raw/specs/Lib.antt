@@ -34,6 +34,7 @@ pub mod Texts
 pub mod Laws
 pub mod Names
 pub mod Outcome
+pub mod Blame
 pub mod OperatorReadings
 pub mod Binders
 pub mod Printed

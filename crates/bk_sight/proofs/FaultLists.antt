@@ -19,8 +19,8 @@ use Rattle.bk_raw.specs.ComponentTree.{RawSet}
 use Rattle.bk_raw.specs.Names.{Names}
 use Rattle.bk_raw.specs.Binders.{is_text}
 use Rattle.bk_raw.specs.Outcome.{Fault, no_type}
-use Rattle.bk_elab.specs.Blame.{blame, earlier}
-use Rattle.bk_elab.proofs.Blamed.{earlier-none}
+use Rattle.bk_raw.specs.Blame.{blame, earlier}
+use Rattle.bk_raw.proofs.Blamed.{earlier-none}
 use Rattle.bk_level.specs.Binders.{texts}
 use Rattle.bk_level.specs.Components.{set_names, WrittenVariable, abstract_names}
 use Rattle.bk_level.specs.Typings.{Typing, Target, unknown, no_variable, variable_target, target, as_number, variable_named, interval}

@@ -10,8 +10,8 @@ use Rattle.bk_raw.specs.ComponentTree.{RawOperation}
 use Rattle.bk_raw.specs.Names.{Names}
 use Rattle.bk_raw.specs.Binders.{is_text, twice}
 use Rattle.bk_raw.specs.Outcome.{Fault}
-use Rattle.bk_elab.specs.Blame.{blame, earlier}
-use Rattle.bk_elab.proofs.Blamed.{earlier-none}
+use Rattle.bk_raw.specs.Blame.{blame, earlier}
+use Rattle.bk_raw.proofs.Blamed.{earlier-none}
 use Rattle.bk_level.specs.Binders.{texts}
 use Rattle.bk_level.specs.Components.{operation_names}
 use Rattle.bk_level.specs.Typings.{Target, unknown, no_variable, variable_target, target}

@@ -3,8 +3,8 @@ use Rattle.std.proofs.Common.{◌≡◌, ℕ, suc, ◌+◌, ◌<◌, ◌≤◌, 
 use Rattle.std.specs.Prelude.{Option, ◌||◌}
 use Rattle.std.proofs.lemmas.List.{at_drop_more, take_more, get_or_default, drop_all}
 use Rattle.bk_raw.specs.Outcome.{Fault}
-use Rattle.bk_elab.specs.Blame.{blame, earlier}
-use Rattle.bk_elab.proofs.Blamed.{blame-joins, earlier-joins, earlier-none}
+use Rattle.bk_raw.specs.Blame.{blame, earlier}
+use Rattle.bk_raw.proofs.Blamed.{blame-joins, earlier-joins, earlier-none}
 
 -- ---- lists
 -- the next of what is left

@@ -3,7 +3,7 @@ use Rattle.std.specs.Borrow.{Bor}
 use Rattle.bk_raw.specs.declared.term.RawName.{RawName}
 use Rattle.bk_raw.specs.ComponentTree.{RawSet}
 use Rattle.bk_raw.specs.Names.{Names}
-use Rattle.bk_elab.specs.Blame.{blame}
+use Rattle.bk_raw.specs.Blame.{blame}
 use Rattle.bk_elab.specs.Shown.{told}
 use Rattle.bk_elab.specs.Visible.{typing_of, visible_names}
 use Rattle.bk_elab.specs.declared.sight.Visible.{Visible}

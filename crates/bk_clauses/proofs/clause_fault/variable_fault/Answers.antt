@@ -1,6 +1,6 @@
 use Rattle.std.proofs.Common.{◌∙◌, ap, refl, ℕ, ◌+◌, List, [], cond, map}
 use Rattle.bk_raw.specs.Outcome.{no_type}
-use Rattle.bk_elab.specs.Blame.{blame}
+use Rattle.bk_raw.specs.Blame.{blame}
 use Rattle.bk_elab.specs.Shown.{told}
 use Rattle.bk_elab.specs.Visible.{typing_of}
 use Rattle.bk_raw.specs.Binders.{has_type}

@@ -1,5 +1,5 @@
 use Rattle.std.proofs.Common.{◌≡◌, ◌++◌, map, take, drop}
-use Rattle.bk_elab.specs.Blame.{blame, earlier}
+use Rattle.bk_raw.specs.Blame.{blame, earlier}
 use Rattle.bk_elab.specs.Shown.{told}
 use Rattle.bk_elab.specs.Visible.{visible_names}
 use Rattle.bk_raw.specs.Binders.{twice}

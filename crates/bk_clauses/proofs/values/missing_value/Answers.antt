@@ -1,5 +1,5 @@
 use Rattle.std.proofs.Common.{◌∙◌, [], ◌∷◌, List, ap, refl, cond}
-use Rattle.bk_elab.specs.Blame.{blame}
+use Rattle.bk_raw.specs.Blame.{blame}
 use Rattle.bk_elab.specs.Shown.{told}
 use Rattle.bk_elab.specs.Visible.{visible_names, meaning_of}
 use Rattle.bk_elab.specs.declared.sight.Visible.{Visible}

@@ -2,10 +2,10 @@ use Rattle.std.proofs.Common.{◌≡◌, ℕ, List, [], true, false, sym, ◌∙
 use Rattle.std.specs.Prelude.{take}
 use Rattle.bk_raw.specs.FreeNames.{is_among}
 use Rattle.bk_raw.specs.Binders.{twice}
-use Rattle.bk_elab.specs.Blame.{blame}
+use Rattle.bk_raw.specs.Blame.{blame}
 use Rattle.bk_elab.specs.Shown.{told}
 use Rattle.bk_elab.proofs.Bindings.{twice-more}
-use Rattle.bk_elab.proofs.Blamed.{earlier-none}
+use Rattle.bk_raw.proofs.Blamed.{earlier-none}
 use Rattle.bk_elab.proofs.binder.twice.Goals as goal
 use Rattle.bk_elab.proofs.binder.twice.Goals.{then-is_among, else-is_among}
 

@@ -1,4 +1,4 @@
-use Rattle.bk_elab.proofs.Blamed.{blame-right, blame-joins}
+use Rattle.bk_raw.proofs.Blamed.{blame-right, blame-joins}
 use Rattle.bk_elab.proofs.laws.blame_is_first.Goals as goal
 
 pub returns-clause-first : goal.returns-clause-first

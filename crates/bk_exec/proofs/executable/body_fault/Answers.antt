@@ -5,7 +5,7 @@ use Rattle.bk_raw.specs.Names.{Names}
 use Rattle.bk_raw.specs.ComponentTree.{RawOperation}
 use Rattle.bk_level.specs.Plan.{body_scope}
 use Rattle.bk_sight.specs.Shown.{plan_shown, placed_shown}
-use Rattle.bk_elab.specs.Blame.{blame}
+use Rattle.bk_raw.specs.Blame.{blame}
 use Rattle.bk_level.specs.Executable.{statement_faults}
 use Rattle.bk_exec.specs.Executed.{executing}
 use Rattle.bk_exec.proofs.executable.body_fault.Goals as goal

@@ -1,5 +1,5 @@
 use Rattle.std.proofs.Common.{◌∙◌, ap, refl, List, length, get_or, map, arith}
-use Rattle.bk_elab.specs.Blame.{blame}
+use Rattle.bk_raw.specs.Blame.{blame}
 use Rattle.bk_elab.specs.Shown.{told}
 use Rattle.bk_elab.specs.Visible.{visible_names}
 use Rattle.bk_raw.specs.ComponentTree.{RawOperation}

@@ -4,7 +4,7 @@ use Rattle.bk_raw.specs.Printed.{printed_ranges, wrong_ranges}
 use Rattle.bk_raw.specs.RawTree.{tree_size, trees_size, ranges_size, trees_of}
 use Rattle.bk_raw.specs.RawView.{ranges_of}
 use Rattle.bk_raw.specs.TermReading.{extension_reading, range_reads}
-use Rattle.bk_elab.specs.Blame.{blame, earlier}
+use Rattle.bk_raw.specs.Blame.{blame, earlier}
 use Rattle.bk_elab.specs.Shown.{told}
 use Rattle.bk_elab.specs.Sights.{around_of, names_of, ranges_as, Stands}
 use Rattle.bk_elab.proofs.Elements.{SetSoFar}

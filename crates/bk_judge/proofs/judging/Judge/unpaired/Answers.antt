@@ -1,7 +1,7 @@
 use Rattle.std.proofs.Common.{◌∙◌, ap, sym, refl, ℕ, [], ◌∷◌, List}
 use Rattle.std.specs.Prelude.{None}
 use Rattle.bk_raw.specs.RawTree.{RawTree, trees_of}
-use Rattle.bk_elab.specs.Blame.{blame}
+use Rattle.bk_raw.specs.Blame.{blame}
 use Rattle.bk_elab.specs.Shown.{told}
 use Rattle.bk_judge.specs.Judged.{term_by, unpaired_by}
 use Rattle.bk_sight.proofs.FaultSteps.{told-next, told-both, told-end}

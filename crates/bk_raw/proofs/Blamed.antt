@@ -3,7 +3,7 @@ use Rattle.std.proofs.Common.{◌≡◌, inl, inr, ℕ, List, [], ◌∷◌, ◌
 use Rattle.std.specs.Prelude.{Option, None, Some}
 use Rattle.std.proofs.lemmas.Bool.Decides.{nat_tests}
 use Rattle.bk_raw.specs.Outcome.{Fault}
-use Rattle.bk_elab.specs.Blame.{rank, is_before, first_of, blame, earlier, IsOneOf, NoneIsBefore, IsBlameOf}
+use Rattle.bk_raw.specs.Blame.{rank, is_before, first_of, blame, earlier, IsOneOf, NoneIsBefore, IsBlameOf}
 
 not-itself : (a p : ℕ) → (nat_lt a a || (nat_eq a a && nat_lt p p)) ≡ false
 not-itself a p = grind (arith, nat_tests)
