@@ -6,7 +6,7 @@ use Rattle.std.proofs.lemmas.Int.{ints}
 use Rattle.std.proofs.Math.Nat.{div-le_self, mod-le}
 use Rattle.bk_code.specs.declared.instruction.Trap.{Trap}
 use Rattle.bk_code.specs.declared.instruction.Trap.TheVariants.{DivZero, ModRange}
-use Rattle.bk_code.specs.Numbers.{IsWithin, bounded, quotient, remainder, truth_number}
+use Rattle.bk_code.specs.Numbers.{default_max, IsRange, IsWithin, bounded, quotient, remainder, truth_number}
 
 pub within_from_abs : (m : ℕ) (n : ℤ) → unsigned_abs n ≤ m → IsWithin (pos m) n
 within_from_abs m (pos n) h = (omega (arith, ints), omega (arith, ints))
@@ -44,6 +44,10 @@ within-truth_number m false h = within_from_abs m (pos 0) (omega arith)
 pub abs_within : (m : ℕ) (max n : ℤ) → max ≤ℤ pos m → IsWithin max n → unsigned_abs n ≤ m
 abs_within m (pos k) n le h = omega (arith, ints, le, abs_from_within k n h)
 abs_within m (negsuc k) n le h = absurd (omega (arith, ints, h.0, h.1))
+
+-- the range where none is said is one
+pub default_range : IsRange default_max
+default_range = record { least = omega (arith, ints); greatest = omega (arith, ints) }
 
 -- 0 lies within each range, and so do the numbers of the truth values
 pub zero_within : (max : ℤ) → pos 1 ≤ℤ max → IsWithin max (pos 0)

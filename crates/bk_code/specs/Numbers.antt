@@ -9,6 +9,10 @@ use Rattle.bk_code.specs.declared.instruction.Trap.TheVariants.{Overflow, DivZer
 abbrev pub int_max : Image → ℤ
 int_max image = image.max
 
+-- MAXINT where no range is said
+abbrev pub default_max : ℤ
+default_max = pos 2147483647
+
 -- MAXINT may be each number from 1, since TRUE is 1, to the greatest with which a sum of two numbers of the range fits 64 bits
 pub record IsRange (max : ℤ) : Type 0 where
   pub least : pos 1 ≤ℤ max

@@ -3,6 +3,9 @@ ghost use Rattle.std.specs.Prelude.{◌≡◌};
 
 use crate::{Inst, Sequence};
 
+/// MAXINT where no range is said.
+pub const DEFAULT_MAX: i64 = 2147483647;
+
 /// A name as bytes.
 pub type NameText = Sequence<u8>;
 
