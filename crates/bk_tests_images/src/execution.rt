@@ -7,8 +7,6 @@ use bk_vm::{CallEnd, Machine};
 use std::alloc::Global;
 use std::test::Fail;
 
-const MAX: i64 = 2147483647;
-
 // A machine whose initialisation is a Ret, and whose operation has this code.
 fn machine(alloc: Global, body: &[Inst]) -> Result<Machine, Fail>
     ensures { IfOk result (λ m. m.started ≡ false) }
@@ -21,13 +19,15 @@ fn machine(alloc: Global, body: &[Inst]) -> Result<Machine, Fail>
 fn takes(machine: &Machine, args: &[i64]) -> bool
     ensures { IsTrue result → CanCall machine.now args.now }
 {
+    let max = machine.image().int_max();
+    let least = -max;
     let ops = machine.image().ops.as_slice();
     machine.is_started()
         && !machine.is_stopped()
         && ops.len() == 1
         && ops[0].inputs.as_slice().len() == args.len()
         && ops[0].outputs.as_slice().len() == 1
-        && args.iter().all(|n| -MAX <= *n && *n <= MAX)
+        && args.iter().all(|n| least <= *n && *n <= max)
 }
 
 // How a call of a body ends, and its output, which is 7 before.
