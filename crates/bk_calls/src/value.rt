@@ -65,6 +65,7 @@ pub fn values(
 }
 
 fn is_within(image: &Image, number: i64) -> bool
+    requires { numbers.IsRange (numbers.int_max image.now) }
     ensures { result ≡ numbers.is_within (numbers.int_max image.now) number }
 {
     let max = image.int_max();
@@ -73,6 +74,7 @@ fn is_within(image: &Image, number: i64) -> bool
 
 /// Whether numbers lie within the range of an image.
 pub fn are_within(image: &Image, values: &[i64]) -> bool
+    requires { numbers.IsRange (numbers.int_max image.now) }
     ensures { result ≡ list_all (numbers.is_within (numbers.int_max image.now)) values.now }
 {
     values.iter().all(|number| is_within(image, *number))
