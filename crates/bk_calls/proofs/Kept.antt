@@ -69,7 +69,7 @@ values_kept image (input ∷ inputs) (a ∷ arguments) =
 
 -- ---- the range
 within_then : (max n : ℤ) → is_within max n ≡ true → IsWithin max n
-within_then max n h = grind (arith, ints)
+within_then max n h = (grind (arith, ints), grind (arith, ints))
 
 outside : (max n : ℤ) → (IsWithin max n → ⊥) → is_within max n ≡ false
 outside max n h = false_from_ne_true (is_within max n) (λ yes. h (within_then max n yes))

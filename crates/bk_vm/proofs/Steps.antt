@@ -108,7 +108,7 @@ fits_from_small (pos n) h = let low : n < 2 ^ 62 = omega (arith, ints, h.1) in f
 fits_from_small (negsuc n) h = let low : suc n < 2 ^ 62 = omega (arith, ints, h.0) in fits_signed_from_abs w64 (negsuc n) (omega (arith, low))
 
 within_if : (max n : ℤ) → is_within max n ≡ true → IsWithin max n
-within_if max n h = grind (arith, ints)
+within_if max n h = (grind (arith, ints), grind (arith, ints))
 
 within_small : (max n : ℤ) → IsSmall max → IsWithin max n → IsSmall n
 within_small max n m h = within_from_abs 4611686018427387903 n (abs_within 4611686018427387903 max n m.1 h)
