@@ -65,16 +65,15 @@ pub fn values(
 }
 
 fn is_within(image: &Image, number: i64) -> bool
-    requires { numbers.IsRange (numbers.int_max image.now) }
     ensures { result ≡ numbers.is_within (numbers.int_max image.now) number }
 {
-    let max = image.int_max();
+    let max = i128::from(image.int_max());
+    let number = i128::from(number);
     -max <= number && number <= max
 }
 
 /// Whether numbers lie within the range of an image.
 pub fn are_within(image: &Image, values: &[i64]) -> bool
-    requires { numbers.IsRange (numbers.int_max image.now) }
     ensures { result ≡ list_all (numbers.is_within (numbers.int_max image.now)) values.now }
 {
     values.iter().all(|number| is_within(image, *number))
