@@ -134,7 +134,7 @@ fn has_index_outside(image: &Image, low: i64, count: u32) -> bool
     requires some { 0 < count }
     ensures { MatchBool result (HasIndexOutside (int_max image.now) low count)
         (IsWithin (int_max image.now) low
-            × IsWithin (int_max image.now) (low +ℤ pos count -ℤ pos 1)) }
+        × IsWithin (int_max image.now) (low +ℤ pos count -ℤ pos 1)) }
 {
     !is_in_range(image, low) || !is_in_range(image, low + i64::from(count) - 1)
 }
