@@ -14,7 +14,7 @@ use Rattle.bk_form.specs.Operators.{is_equal}
 use Rattle.bk_form.specs.Defined.{is_in_int}
 use Rattle.bk_form.proofs.Members.{and-both, and-true, or-cases, both_ways}
 use Rattle.bk_code.specs.Numbers.{is_within, bounded, quotient, remainder, truth_number, int_max as code_max}
-use Rattle.bk_dev.specs.Development.{Development, int_max}
+use Rattle.bk_dev.specs.Development.{Development, int_max, IsRange}
 use Rattle.bk_b0.specs.Kinds.{number_as, as_number, is_of_kind}
 use Rattle.bk_b0.specs.Translation.{translation}
 
@@ -46,12 +46,9 @@ bounds-then max z h = let w = and-both (int_le (pos 0 -ℤ max) z) (int_le z max
 pub bounds-if : (max z : ℤ) → (pos 0 -ℤ max) ≤ℤ z → z ≤ℤ max → is_in_int max z ≡ true
 bounds-if max z h k = and-true (int_le (pos 0 -ℤ max) z) (int_le z max) (le-if (pos 0 -ℤ max) z h) (le-if z max k)
 
--- ---- the greatest number: that it is 1 at least, and one for a development and its code
-greatest-natural : (dev : Development) → pos 0 ≤ℤ int_max dev
-greatest-natural dev = le-then (pos 0) (int_max dev) refl
-
-pub one-natural : (dev : Development) → pos 1 ≤ℤ int_max dev
-one-natural dev = le-then (pos 1) (int_max dev) refl
+-- ---- the greatest number: that it is not negative, and one for a development and its code
+greatest-natural : (dev : Development) → IsRange (int_max dev) → pos 0 ≤ℤ int_max dev
+greatest-natural dev range = let one : pos 1 ≤ℤ int_max dev = range.least in omega (arith, ints, one)
 
 pub translated-greatest : (dev : Development) → code_max (translation dev) ≡ int_max dev
 translated-greatest dev = refl
@@ -59,8 +56,8 @@ translated-greatest dev = refl
 zero-within : (max : ℤ) → pos 0 ≤ℤ max → is_in_int max (pos 0) ≡ true
 zero-within max h = bounds-if max (pos 0) (omega (arith, ints)) h
 
-pub zero-in : (dev : Development) → is_in_int (int_max dev) (pos 0) ≡ true
-zero-in dev = zero-within (int_max dev) (greatest-natural dev)
+pub zero-in : (dev : Development) → IsRange (int_max dev) → is_in_int (int_max dev) (pos 0) ≡ true
+zero-in dev range = zero-within (int_max dev) (greatest-natural dev range)
 
 pub negated-in : (max z : ℤ) → is_in_int max z ≡ true → is_in_int max (pos 0 -ℤ z) ≡ true
 negated-in max z h =

@@ -2,7 +2,7 @@
 use Rattle.std.proofs.Common.{◌≡◌, ℕ, ◌+◌, List, [], ◌∷◌, ◌++◌, map, length, refl, ap, cond, nat_eq}
 use Rattle.bk_form.specs.ArrayTable.{row_of}
 use Rattle.bk_gsl.specs.State.{declared_type}
-use Rattle.bk_dev.specs.Development.{Development, level_at, last}
+use Rattle.bk_dev.specs.Development.{Development, int_max, level_at, last}
 use Rattle.bk_dev.specs.Layout.{arrays_of, cells_of, cell_variables, cell_among, cells_in}
 use Rattle.bk_b0.specs.Places.{kind_of_type, placed_block, placed_entries, placed_bodies}
 use Rattle.bk_b0.specs.Translation.{places_of}
@@ -31,6 +31,7 @@ pub units_are_translated : UnitsAreTranslated
 units_are_translated dev =
     let low = level_at dev (last dev) in
     λ i. record {
+      max = int_max dev;
       cells = count-is dev (cell_variables dev) i;
       sets = map (λ s. s.elements) dev.sets;
       ops = placed_entries (places-are dev i) (length (placed_block (places-are dev i) low.init)) dev.heads low.bodies;

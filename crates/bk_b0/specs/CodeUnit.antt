@@ -75,6 +75,7 @@ unit_code u = placed_block (unit_places u) u.init ++ placed_bodies (unit_places 
 -- its image
 abbrev pub unit_image : CodeUnit → Image
 unit_image u = record {
+  max = u.arrays.max;
   cells = slots_cells u.slots;
   sets = map (λ s. s.elements) u.sets;
   ops = placed_entries (unit_places u) (length (placed_block (unit_places u) u.init)) u.heads u.bodies;

@@ -5,7 +5,7 @@ use Rattle.bk_form.specs.Formula.{Formula}
 use Rattle.bk_form.specs.declared.arrays.ArrayRow.{ArrayRow}
 use Rattle.bk_gsl.specs.Substitution.{Substitution}
 use Rattle.bk_gsl.specs.State.{declared_type}
-use Rattle.bk_dev.specs.Development.{Head, Body, Development, level_at, last}
+use Rattle.bk_dev.specs.Development.{Head, Body, Development, int_max, level_at, last}
 use Rattle.bk_dev.specs.Layout.{arrays_of, cells_of, cell_of, cell_count}
 use Rattle.bk_code.specs.declared.image.Image.{Image}
 use Rattle.bk_code.specs.declared.image.OpEntry.{OpEntry}
@@ -80,6 +80,7 @@ init_code dev = placed_block (places_of dev) (level_at dev (last dev)).init
 -- the image of the last level: the initialisation's code, and that of each operation in the machine's order
 abbrev pub translation : Development → Image
 translation dev = record {
+  max = int_max dev;
   cells = cell_count dev;
   sets = map (λ s. s.elements) dev.sets;
   ops = entries dev (length (init_code dev)) dev.heads (level_at dev (last dev)).bodies;

@@ -1,14 +1,15 @@
 -- Numbers that are kept in 64 bits say the same of a line as the written ones.
-use Rattle.std.proofs.Common.{◌≡◌, ℕ, suc, ◌+◌, ◌^◌, ◌-◌, ◌≤◌, min, leb, inl, inr, refl, sym, ◌∙◌, ap, arith, true, false, List, [], ◌∷◌, ◌++◌, length, drop, map, Option, Some, None, Ok, Err}
-use Rattle.std.specs.Prelude.{◌⊎◌, ◌&&◌, ℤ, pos, negsuc, neg_ℤ}
+use Rattle.std.proofs.Common.{◌≡◌, ℕ, suc, ◌+◌, ◌^◌, ◌-◌, ◌≤◌, ◌<◌, min, leb, inl, inr, refl, sym, ◌∙◌, ap, subst, arith, true, false, List, [], ◌∷◌, ◌++◌, length, drop, get_or, map, drop-cons, drop_of_length-le, append_assoc, Option, Some, None, Ok, Err}
+use Rattle.std.specs.Prelude.{◌⊎◌, ◌&&◌, ℤ, pos, negsuc, neg_ℤ, ◌≤ℤ◌}
 use Rattle.std.specs.List.{list_all}
 use Rattle.std.specs.Option.{option_map}
-use Rattle.std.proofs.lemmas.Bool.{cases_Bool, cases_lt, and_parts, cond-false, leb-true, lt-leb}
+use Rattle.std.proofs.lemmas.Bool.{cases_Bool, cases_lt, and_parts, cond-false, false_from_ne_true}
+use Rattle.std.proofs.lemmas.Int.{ints}
 use Rattle.bk_code.specs.declared.image.Image.{Image}
 use Rattle.bk_code.specs.declared.image.Parameter.{Parameter}
 use Rattle.bk_code.specs.declared.image.CellKind.{CellKind}
 use Rattle.bk_code.specs.declared.image.CellKind.TheVariants.{Integer, Bool as Truths, Set}
-use Rattle.bk_code.specs.Numbers.{int_max, is_within}
+use Rattle.bk_code.specs.Numbers.{int_max, IsRange, IsWithin, is_within}
 use Rattle.bk_calls.specs.CallLine.{Argument, Number, Truth, Element}
 use Rattle.bk_calls.specs.declared.argument.Argument.{Argument as Held}
 use Rattle.bk_calls.specs.Held.{held}
@@ -67,66 +68,86 @@ values_kept image (input ∷ inputs) (a ∷ arguments) =
     (value_kept image input.kind a) (values_kept image inputs arguments)
 
 -- ---- the range
-past_range : (image : Image) (n : ℕ) → 2147483647 ≤ n → is_within (int_max image) (negsuc n) ≡ false
-past_range image n h = ap (λ b. b && true) (lt-leb n 2147483646 (omega arith))
+within_then : (max n : ℤ) → is_within max n ≡ true → IsWithin max n
+within_then max n h = (grind (arith, ints), grind (arith, ints))
 
-kept_within : (image : Image) (n : ℤ) → is_within (int_max image) (kept n) ≡ is_within (int_max image) n
-kept_within image (pos n) = grind arith
-kept_within image (negsuc n) =
+outside : (max n : ℤ) → (IsWithin max n → ⊥) → is_within max n ≡ false
+outside max n h = false_from_ne_true (is_within max n) (λ yes. h (within_then max n yes))
+
+kept_within : (image : Image) (n : ℤ) → IsRange (int_max image) → is_within (int_max image) (kept n) ≡ is_within (int_max image) n
+kept_within image (pos n) range =
+    let most : int_max image ≤ℤ pos 4611686018427387903 = range.greatest in
+    elim (cases_lt n 9223372036854775807) [
+      | inl lt ↦ (let e : min n (2 ^ 63 - 1) ≡ n = omega arith in ap (λ k. is_within (int_max image) (pos k)) e)
+      | inr ge ↦ (
+          let e : min n (2 ^ 63 - 1) ≡ 9223372036854775807 = omega arith in
+          outside (int_max image) (pos (min n (2 ^ 63 - 1))) (λ w. let high = w.1 in omega (arith, ints, high, most, e))
+          ∙ sym (outside (int_max image) (pos n) (λ w. let high = w.1 in omega (arith, ints, high, most, ge))))
+    ]
+kept_within image (negsuc n) range =
+    let most : int_max image ≤ℤ pos 4611686018427387903 = range.greatest in
     elim (cases_lt n 9223372036854775807) [
       | inl lt ↦ (let e : min (n + 1) (2 ^ 63 - 1) ≡ suc n = omega arith in ap (λ k. is_within (int_max image) (neg_ℤ (pos k))) e)
       | inr ge ↦ (
           let e : min (n + 1) (2 ^ 63 - 1) ≡ 9223372036854775807 = omega arith in
-          ap (λ k. is_within (int_max image) (neg_ℤ (pos k))) e ∙ sym (past_range image n (omega arith)))
+          ap (λ k. is_within (int_max image) (neg_ℤ (pos k))) e
+          ∙ (outside (int_max image) (neg_ℤ (pos 9223372036854775807)) (λ w. let low = w.0 in omega (arith, ints, low, most))
+          ∙ sym (outside (int_max image) (negsuc n) (λ w. let low = w.0 in omega (arith, ints, low, most, ge)))))
     ]
 
-within_kept : (image : Image) (n : ℤ) → is_within (int_max image) n ≡ true → kept n ≡ n
-within_kept image (pos n) h = (let low : n ≤ 2147483647 = leb-true n 2147483647 h in ap pos (omega arith))
-within_kept image (negsuc n) h =
-    let low : n ≤ 2147483646 = leb-true n 2147483646 (and_parts (leb n 2147483646) true h).0 in
+within_kept : (image : Image) (n : ℤ) → IsRange (int_max image) → is_within (int_max image) n ≡ true → kept n ≡ n
+within_kept image (pos n) range h =
+    let most : int_max image ≤ℤ pos 4611686018427387903 = range.greatest in
+    let high : pos n ≤ℤ int_max image = (within_then (int_max image) (pos n) h).1 in
+    let low : n ≤ 4611686018427387903 = omega (arith, ints, high, most) in
+    ap pos (omega arith)
+within_kept image (negsuc n) range h =
+    let most : int_max image ≤ℤ pos 4611686018427387903 = range.greatest in
+    let low : neg_ℤ (int_max image) ≤ℤ negsuc n = (within_then (int_max image) (negsuc n) h).0 in
+    let few : n ≤ 4611686018427387902 = omega (arith, ints, low, most) in
     let e : min (n + 1) (2 ^ 63 - 1) ≡ suc n = omega arith in
     ap (λ k. neg_ℤ (pos k)) e
 
-one_within : (image : Image) (n m : ℤ) → IsKept n m → is_within (int_max image) m ≡ is_within (int_max image) n
-one_within image n m (inl h) = ap (is_within (int_max image)) h
-one_within image n m (inr h) = ap (is_within (int_max image)) h ∙ kept_within image n
+one_within : (image : Image) (n m : ℤ) → IsRange (int_max image) → IsKept n m → is_within (int_max image) m ≡ is_within (int_max image) n
+one_within image n m range (inl h) = ap (is_within (int_max image)) h
+one_within image n m range (inr h) = ap (is_within (int_max image)) h ∙ kept_within image n range
 
-one_same : (image : Image) (n m : ℤ) → IsKept n m → is_within (int_max image) n ≡ true → m ≡ n
-one_same image n m (inl h) within = h
-one_same image n m (inr h) within = h ∙ within_kept image n within
+one_same : (image : Image) (n m : ℤ) → IsRange (int_max image) → IsKept n m → is_within (int_max image) n ≡ true → m ≡ n
+one_same image n m range (inl h) within = h
+one_same image n m range (inr h) within = h ∙ within_kept image n range within
 
-all_within : (image : Image) (ns ms : List ℤ) → AreKept ns ms → list_all (is_within (int_max image)) ms ≡ list_all (is_within (int_max image)) ns
-all_within image [] [] h = refl
-all_within image [] (m ∷ ms) h = absurd h
-all_within image (n ∷ ns) [] h = absurd h
-all_within image (n ∷ ns) (m ∷ ms) h =
-    ap (λ b. b && list_all (is_within (int_max image)) ms) (one_within image n m h.0) ∙ ap (λ b. is_within (int_max image) n && b) (all_within image ns ms h.1)
+all_within : (image : Image) (ns ms : List ℤ) → IsRange (int_max image) → AreKept ns ms → list_all (is_within (int_max image)) ms ≡ list_all (is_within (int_max image)) ns
+all_within image [] [] range h = refl
+all_within image [] (m ∷ ms) range h = absurd h
+all_within image (n ∷ ns) [] range h = absurd h
+all_within image (n ∷ ns) (m ∷ ms) range h =
+    ap (λ b. b && list_all (is_within (int_max image)) ms) (one_within image n m range h.0) ∙ ap (λ b. is_within (int_max image) n && b) (all_within image ns ms range h.1)
 
-all_same : (image : Image) (ns ms : List ℤ) → AreKept ns ms → list_all (is_within (int_max image)) ns ≡ true → ms ≡ ns
-all_same image [] [] h within = refl
-all_same image [] (m ∷ ms) h within = absurd h
-all_same image (n ∷ ns) [] h within = absurd h
-all_same image (n ∷ ns) (m ∷ ms) h within =
+all_same : (image : Image) (ns ms : List ℤ) → IsRange (int_max image) → AreKept ns ms → list_all (is_within (int_max image)) ns ≡ true → ms ≡ ns
+all_same image [] [] range h within = refl
+all_same image [] (m ∷ ms) range h within = absurd h
+all_same image (n ∷ ns) [] range h within = absurd h
+all_same image (n ∷ ns) (m ∷ ms) range h within =
     let parts = and_parts (is_within (int_max image) n) (list_all (is_within (int_max image)) ns) within in
-    ap (λ k. k ∷ ms) (one_same image n m h.0 parts.0) ∙ ap (λ t. n ∷ t) (all_same image ns ms h.1 parts.1)
+    ap (λ k. k ∷ ms) (one_same image n m range h.0 parts.0) ∙ ap (λ t. n ∷ t) (all_same image ns ms range h.1 parts.1)
 
-ranged_kept : (image : Image) (op : ℕ) (ns ms : List ℤ) → AreKept ns ms → ranged image op ms ≡ ranged image op ns
-ranged_kept image op ns ms h =
+ranged_kept : (image : Image) (op : ℕ) (ns ms : List ℤ) → IsRange (int_max image) → AreKept ns ms → ranged image op ms ≡ ranged image op ns
+ranged_kept image op ns ms range h =
     elim (cases_Bool (list_all (is_within (int_max image)) ns)) [
-      | inl holds ↦ ap (ranged image op) (all_same image ns ms h holds)
-      | inr fails ↦ cond-false (list_all (is_within (int_max image)) ms) (Ok (record { op = op; args = ms })) (Err OutOfRange) (all_within image ns ms h ∙ fails)
+      | inl holds ↦ ap (ranged image op) (all_same image ns ms range h holds)
+      | inr fails ↦ cond-false (list_all (is_within (int_max image)) ms) (Ok (record { op = op; args = ms })) (Err OutOfRange) (all_within image ns ms range h ∙ fails)
           ∙ sym (cond-false (list_all (is_within (int_max image)) ns) (Ok (record { op = op; args = ns })) (Err OutOfRange) fails)
     ]
 
-from_kept : (image : Image) (op : ℕ) (o p : Option (List ℤ)) → AllKept o p → from_values image op p ≡ from_values image op o
-from_kept image op None None h = refl
-from_kept image op None (Some ms) h = absurd h
-from_kept image op (Some ns) None h = absurd h
-from_kept image op (Some ns) (Some ms) h = ranged_kept image op ns ms h
+from_kept : (image : Image) (op : ℕ) (o p : Option (List ℤ)) → IsRange (int_max image) → AllKept o p → from_values image op p ≡ from_values image op o
+from_kept image op None None range h = refl
+from_kept image op None (Some ms) range h = absurd h
+from_kept image op (Some ns) None range h = absurd h
+from_kept image op (Some ns) (Some ms) range h = ranged_kept image op ns ms range h
 
-pub kept_values : (image : Image) (op : ℕ) (inputs : List Parameter) (arguments : List Argument) →
+pub kept_values : (image : Image) (op : ℕ) (inputs : List Parameter) (arguments : List Argument) → IsRange (int_max image) →
     from_values image op (values_of image inputs (map kept_argument arguments)) ≡ from_values image op (values_of image inputs arguments)
-kept_values image op inputs arguments = from_kept image op (values_of image inputs arguments) (values_of image inputs (map kept_argument arguments)) (values_kept image inputs arguments)
+kept_values image op inputs arguments range = from_kept image op (values_of image inputs arguments) (values_of image inputs (map kept_argument arguments)) range (values_kept image inputs arguments)
 
 -- ---- one argument more is read
 pub uncounted : (image : Image) (inputs : List Parameter) (arguments : List Argument) → (length arguments ≡ length inputs → ⊥) → None ≡ values_of image inputs arguments

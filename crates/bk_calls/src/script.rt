@@ -3,6 +3,7 @@ ghost use Rattle.std.specs.Prelude.{◌≡◌, ℕ, ◌<◌, ◌≤◌, ◌^◌,
 ghost use Rattle.std.specs.Str.{bytes_eq};
 ghost use Rattle.std.specs.Str.Lines.{lines};
 ghost use Rattle.bk_code.specs.Laws.{IsRequest};
+ghost use Rattle.bk_code.specs.Numbers.{int_max, IsRange};
 ghost use Rattle.bk_code.specs.Session.{Request};
 ghost use Rattle.bk_calls.specs.Reading as reading;
 ghost use Rattle.bk_calls.specs.Script.{Cause, IsScript, IsBadLine, PassesLimit, most_calls, request_of};
@@ -76,6 +77,7 @@ impl<T: Drop> From<AllocFailed<T>> for CallsFault {
 pub fn calls(alloc: Global, text: &[u8], image: &Image) -> Result<Vec<Call>, CallsFault>
     requires few_lines { length (lines text.now) < 2 ^ 32 }
     requires few_operations { length image.now.ops < 2 ^ 32 }
+    requires range { IsRange (int_max image.now) }
     ensures ok { IfOk result (λ calls. IsScript image.now text.now (map request_of calls.items)) }
     ensures requests { IfOk result (λ calls. All (IsRequest image.now) (map request_of calls.items)) }
     ensures few { IfOk result (λ calls. length calls.items ≤ most_calls) }
@@ -94,6 +96,7 @@ pub fn calls(alloc: Global, text: &[u8], image: &Image) -> Result<Vec<Call>, Cal
 fn read_calls(alloc: Global, text: &[u8], image: &Image) -> Result<Vec<Call>, CallsFault>
     requires few_lines { length (lines text.now) < 2 ^ 32 }
     requires few_operations { length image.now.ops < 2 ^ 32 }
+    requires range { IsRange (int_max image.now) }
     ensures ok { IfOk result
         (λ calls. reading.read_lines image.now 0 0 (lines text.now) ≡ Ok (map request_of calls.items)) }
     ensures err { IfErr result (IsFaultOf image.now text.now) }
@@ -125,6 +128,7 @@ fn read_line(
     image: &Image,
 ) -> Result<Call, CallsFault>
     requires few_operations { length image.now.ops < 2 ^ 32 }
+    requires range { IsRange (int_max image.now) }
     ensures ok { IfOk result (λ call. reading.read_line image.now line.now ≡ Ok (request_of call)) }
     ensures err { IfErr result (IsFaultOfLine (reading.read_line image.now line.now) number) }
 {

@@ -67,7 +67,8 @@ pub fn values(
 fn is_within(image: &Image, number: i64) -> bool
     ensures { result ≡ numbers.is_within (numbers.int_max image.now) number }
 {
-    let max = image.int_max();
+    let max = i128::from(image.int_max());
+    let number = i128::from(number);
     -max <= number && number <= max
 }
 

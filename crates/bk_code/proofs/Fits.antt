@@ -12,10 +12,10 @@ use Rattle.bk_code.specs.declared.instruction.Inst.{Inst}
 use Rattle.bk_code.specs.declared.instruction.Inst.TheVariants.{Push, Load, Store, ALoad, AStore, Add, Sub, Mul, Div, Mod, Neg, Eq, Lt, Le, Not, Jump, JumpZero, Ret}
 use Rattle.bk_code.specs.declared.instruction.Trap.{Trap}
 use Rattle.bk_code.specs.declared.instruction.Trap.TheVariants.{Index}
-use Rattle.bk_code.specs.Numbers.{int_max, IsWithin, bounded, quotient, remainder, truth_number}
+use Rattle.bk_code.specs.Numbers.{int_max, IsRange, IsWithin, bounded, quotient, remainder, truth_number}
 use Rattle.bk_code.specs.Step.{Config, Outcome, GoesOn, Returns, Traps, Stuck, next, calculated, loaded, stored, jumped, is_index, element_cell, row, step}
 use Rattle.bk_code.specs.Checks.{IsGoodInst, IsTarget, IsLeaving, IsNumbered, IsDepths, IsFitting, pops, pushes, FlowsTo}
-use Rattle.bk_code.proofs.Ranges.{GivesWithin, bounded_within, quotient_within, remainder_within, within-truth_number}
+use Rattle.bk_code.proofs.Ranges.{GivesWithin, bounded_within, quotient_within, remainder_within, truth_within}
 
 -- what an instruction leads to is not stuck, and fits where it goes on
 abbrev pub IsSafe : Image → List ℕ → Outcome → Type 0
@@ -26,6 +26,7 @@ IsSafe image depths Stuck = ⊥
 
 -- what is known where an instruction is executed
 pub record IsHere (image : Image) (depths : List ℕ) (inst : Inst) (at : ℕ) (stack cells : List ℤ) : Type 0 where
+  pub range : IsRange (int_max image)
   pub good : IsGoodInst image at inst
   pub stands : at < length image.code
   pub last : at + 1 ≡ length image.code → IsLeaving inst
@@ -90,7 +91,7 @@ compared_safe : (image : Image) (depths : List ℕ) (inst : Inst) (at : ℕ) (a 
     IsHere image depths inst at (b ∷ a ∷ rest) cells → (IsLeaving inst → ⊥) → FlowsTo inst at (at + 1) →
     pops inst ≡ 2 → pushes inst ≡ 1 → IsFitting image depths (record { place = at + 1; stack = truth_number t ∷ rest; cells = cells })
 compared_safe image depths inst at a b rest cells t h stays flow popped pushed =
-    two_safe image depths inst at a b rest cells (Ok (truth_number t)) h stays flow popped pushed (within-truth_number 2147483647 t (omega arith))
+    two_safe image depths inst at a b rest cells (Ok (truth_number t)) h stays flow popped pushed (truth_within (int_max image) t h.range.least)
 
 -- an operation on the topmost number
 one_safe : (image : Image) (depths : List ℕ) (inst : Inst) (at : ℕ) (a : ℤ) (rest cells : List ℤ) (r : Result ℤ Trap) →
@@ -180,10 +181,10 @@ row_safe image depths Mul at (b ∷ []) cells h = absurd (omega (arith, h.enough
 row_safe image depths Mul at (b ∷ a ∷ stack) cells h = two_safe image depths Mul at a b stack cells (bounded (int_max image) (a *ℤ b)) h (λ l. l) refl refl refl (bounded_within (int_max image) (a *ℤ b))
 row_safe image depths Div at [] cells h = absurd (omega (arith, h.enough))
 row_safe image depths Div at (b ∷ []) cells h = absurd (omega (arith, h.enough))
-row_safe image depths Div at (b ∷ a ∷ stack) cells h = two_safe image depths Div at a b stack cells (quotient a b) h (λ l. l) refl refl refl (quotient_within 2147483647 a b (second image a b stack h.stack_range))
+row_safe image depths Div at (b ∷ a ∷ stack) cells h = two_safe image depths Div at a b stack cells (quotient a b) h (λ l. l) refl refl refl (quotient_within (int_max image) a b (second image a b stack h.stack_range))
 row_safe image depths Mod at [] cells h = absurd (omega (arith, h.enough))
 row_safe image depths Mod at (b ∷ []) cells h = absurd (omega (arith, h.enough))
-row_safe image depths Mod at (b ∷ a ∷ stack) cells h = two_safe image depths Mod at a b stack cells (remainder a b) h (λ l. l) refl refl refl (remainder_within 2147483647 a b (second image a b stack h.stack_range))
+row_safe image depths Mod at (b ∷ a ∷ stack) cells h = two_safe image depths Mod at a b stack cells (remainder a b) h (λ l. l) refl refl refl (remainder_within (int_max image) a b (second image a b stack h.stack_range))
 row_safe image depths Neg at [] cells h = absurd (omega (arith, h.enough))
 row_safe image depths Neg at (a ∷ stack) cells h = one_safe image depths Neg at a stack cells (bounded (int_max image) (neg_ℤ a)) h (λ l. l) refl refl refl (bounded_within (int_max image) (neg_ℤ a))
 row_safe image depths Eq at [] cells h = absurd (omega (arith, h.enough))
@@ -196,7 +197,7 @@ row_safe image depths Le at [] cells h = absurd (omega (arith, h.enough))
 row_safe image depths Le at (b ∷ []) cells h = absurd (omega (arith, h.enough))
 row_safe image depths Le at (b ∷ a ∷ stack) cells h = compared_safe image depths Le at a b stack cells (int_le a b) h (λ l. l) refl refl refl
 row_safe image depths Not at [] cells h = absurd (omega (arith, h.enough))
-row_safe image depths Not at (a ∷ stack) cells h = one_safe image depths Not at a stack cells (Ok (truth_number (int_eq a (pos 0)))) h (λ l. l) refl refl refl (within-truth_number 2147483647 (int_eq a (pos 0)) (omega arith))
+row_safe image depths Not at (a ∷ stack) cells h = one_safe image depths Not at a stack cells (Ok (truth_number (int_eq a (pos 0)))) h (λ l. l) refl refl refl (truth_within (int_max image) (int_eq a (pos 0)) h.range.least)
 row_safe image depths (Jump distance) at stack cells h =
     jumped_safe image depths (Jump distance) at (pos at +ℤ distance) stack stack cells h h.good (λ to is. is) (omega arith) h.stack_range
 row_safe image depths (JumpZero distance) at [] cells h = absurd (omega (arith, h.enough))
@@ -210,6 +211,7 @@ row_safe image depths Ret at stack cells h = tt
 here : (image : Image) (depths : List ℕ) (inst : Inst) (c : Config) → IsNumbered image → IsDepths image depths → IsFitting image depths c →
     slice_get image.code c.place ≡ Some inst → IsHere image depths inst c.place c.stack c.cells
 here image depths inst c numbered deep fits is = record {
+  range = numbered.range;
   good = numbered.insts c.place inst is;
   stands = fits.place;
   last = λ e. numbered.last c.place inst is e;

@@ -13,7 +13,7 @@ use Rattle.bk_code.specs.Run.{End, Done, Trapped, OutOfFuel}
 use Rattle.bk_code.specs.Session.{placed, call_start, first_start, Request, Told, given_out, Tells, Continues}
 use Rattle.bk_code.specs.Checks.{IsNumbered, IsDepths, IsFitting, IsGoodEntry}
 use Rattle.bk_code.specs.Laws.{AreCells, IsRequest, IsFirstFitting, IsCallFitting, HasOneSession, HasSomeSession}
-use Rattle.bk_code.proofs.Ranges.{within_from_abs}
+use Rattle.bk_code.proofs.Ranges.{zero_within}
 use Rattle.bk_code.proofs.Runs.{one_end, has_some_end}
 
 pub length-placed : (inputs : List Parameter) (args cells : List ℤ) → length (placed inputs args cells) ≡ length cells
@@ -48,7 +48,7 @@ first_fitting image depths numbered deep = record {
   deep = sym deep.first;
   stack = All-nil (IsWithin (int_max image));
   many = length-replicate image.cells (pos 0);
-  cells = All-replicate (IsWithin (int_max image)) image.cells (pos 0) (within_from_abs 2147483647 (pos 0) (omega arith));
+  cells = All-replicate (IsWithin (int_max image)) image.cells (pos 0) (zero_within (int_max image) numbered.range.least);
 }
 
 pub call_fitting : IsCallFitting

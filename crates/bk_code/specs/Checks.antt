@@ -8,7 +8,7 @@ use Rattle.bk_code.specs.declared.image.CellKind.{CellKind}
 use Rattle.bk_code.specs.declared.image.CellKind.TheVariants.{Integer, Bool, Set}
 use Rattle.bk_code.specs.declared.instruction.Inst.{Inst}
 use Rattle.bk_code.specs.declared.instruction.Inst.TheVariants.{Push, Load, Store, ALoad, AStore, Neg, Not, Jump, JumpZero, Ret}
-use Rattle.bk_code.specs.Numbers.{int_max, IsWithin}
+use Rattle.bk_code.specs.Numbers.{int_max, IsRange, IsWithin}
 use Rattle.bk_code.specs.Step.{Config}
 
 -- the kind is one of the image: a set's number is that of one of its sets
@@ -60,6 +60,7 @@ IsLeaving _ = ⊥
 
 -- all numbers of an image are in their ranges, and its code ends with a Jump or a Ret
 pub record IsNumbered (image : Image) : Type 0 where
+  pub range : IsRange (int_max image)
   pub cells : image.cells ≤ MOST_CELLS
   pub ops : All (IsGoodEntry image) image.ops
   pub insts : (at : ℕ) (inst : Inst) → slice_get image.code at ≡ Some inst → IsGoodInst image at inst

@@ -1,5 +1,5 @@
 -- What holds of steps, ends and sessions.
-use Rattle.std.specs.Prelude.{◌≡◌, ◌≢◌, ◌↔◌, ℕ, suc, ◌+◌, ◌<◌, ◌≤◌, ℤ, List, [], ◌∷◌, length, All, Some, slice_get, slice_set}
+use Rattle.std.specs.Prelude.{◌≡◌, ◌≢◌, ◌↔◌, ℕ, suc, ◌+◌, ◌<◌, ◌≤◌, ℤ, pos, List, [], ◌∷◌, length, All, Some, slice_get, slice_set}
 use Rattle.bk_code.specs.declared.image.Image.{Image}
 use Rattle.bk_code.specs.declared.image.OpEntry.{OpEntry}
 use Rattle.bk_code.specs.declared.instruction.Inst.TheVariants.{Push, Store, Ret}
@@ -120,7 +120,7 @@ LoadableIsChecked = (image : Image) → IsLoadable image → IsChecked image
 
 -- an instruction that nothing reaches, and that would pop a number which is not there
 abbrev pub dead_store : Image
-dead_store = record { cells = 1; sets = []; ops = []; code = Ret ∷ Store 0 ∷ Ret ∷ [] }
+dead_store = record { max = pos 1; cells = 1; sets = []; ops = []; code = Ret ∷ Store 0 ∷ Ret ∷ [] }
 
 -- the loader refuses this image, although no run can come to that instruction
 abbrev pub RefusesDeadStore : Type 0

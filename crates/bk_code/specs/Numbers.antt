@@ -7,7 +7,16 @@ use Rattle.bk_code.specs.declared.instruction.Trap.TheVariants.{Overflow, DivZer
 
 -- MAXINT, the greatest number of an image; the least is its negation
 abbrev pub int_max : Image → ℤ
-int_max image = pos 2147483647
+int_max image = image.max
+
+-- MAXINT where no range is said
+abbrev pub default_max : ℤ
+default_max = pos 2147483647
+
+-- MAXINT may be each number from 1, since TRUE is 1, to the greatest with which a sum of two numbers of the range fits 64 bits
+pub record IsRange (max : ℤ) : Type 0 where
+  pub least : pos 1 ≤ℤ max
+  pub greatest : max ≤ℤ pos 4611686018427387903
 
 -- the number lies in the range -max .. max
 abbrev pub IsWithin : ℤ → ℤ → Type 0

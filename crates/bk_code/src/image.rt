@@ -3,6 +3,9 @@ ghost use Rattle.std.specs.Prelude.{◌≡◌};
 
 use crate::{Inst, Sequence};
 
+/// MAXINT where no range is said.
+pub const DEFAULT_MAX: i64 = 2147483647;
+
 /// A name as bytes.
 pub type NameText = Sequence<u8>;
 
@@ -48,6 +51,8 @@ pub struct OpEntry {
 /// A program of the machine. The initialisation's code starts at place 0.
 #[derive(Drop)]
 pub struct Image {
+    /// MAXINT: the numbers are those from `-max` to `max`.
+    pub max: i64,
     pub cells: u32,
     pub sets: ElemNames,
     pub ops: OpEntries,
@@ -61,6 +66,6 @@ impl Image {
     pub fn int_max(&self) -> i64
         ensures { result ≡ int_max self.now }
     {
-        2147483647
+        self.max
     }
 }

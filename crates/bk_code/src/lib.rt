@@ -9,8 +9,8 @@ mod list;
 
 pub use error::Memory;
 pub use image::{
-    CellKind, Code, ElemNames, Image, NameText, NameTexts, OpEntries, OpEntry, Parameter,
-    Parameters,
+    CellKind, Code, DEFAULT_MAX, ElemNames, Image, NameText, NameTexts, OpEntries, OpEntry,
+    Parameter, Parameters,
 };
 pub use instruction::{Inst, Trap};
 pub use laws::{

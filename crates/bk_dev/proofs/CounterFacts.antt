@@ -14,6 +14,7 @@ use Rattle.bk_gsl.specs.Typed.{IsTerm}
 use Rattle.bk_dev.specs.Facts.{AllAlike, is_constant, is_variable_of, is_inner_of, home_of, Names, names_constants, names_joined, names_own, writes_own, IsSubOf, IsBodyOf, IsLevelOf, IsHeadOf, IsDevelopment, IsLawful}
 use Rattle.bk_dev.specs.Counter.{reset_name, setmax_name, get_name, counter_table, setting, counter}
 use Rattle.bk_dev.proofs.Levels.{two-levels}
+use Rattle.bk_dev.proofs.DefaultRange.{default_range}
 
 -- ---- what formulas name
 -- nothing at all
@@ -134,6 +135,7 @@ head-facts name outputs = record { inputs = tt; distinct = tt }
 
 counter_lawful : IsLawful counter
 counter_lawful = record {
+  range = default_range;
   some_level = omega (arith);
   table = table-facts;
   sets = refl;

@@ -399,6 +399,7 @@ module _ (dev : Development) (f : IsLawful dev) (well : IsWellFormed (flattened 
       let e = many in
       let copies = copies-typed dev.table flat.table f.table wider dev.table.variables (copied_in_levels dev.levels) refl listed in
       record {
+        range = f.range;
         some_level = subst (λ n. 0 < n) (sym (levels-many old dev.levels)) f.some_level;
         table = well;
         sets = f.sets;

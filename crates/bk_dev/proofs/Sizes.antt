@@ -129,6 +129,7 @@ module _ (sizes : ℕ → ℕ) (dev : Development) where
 
   pub lawful-sized : IsLawful dev → IsLawful sized
   lawful-sized f = record {
+    range = f.range;
     some_level = f.some_level;
     table = well-sized sizes dev.table f.table;
     sets = ap (sized_from sizes 0) f.sets;

@@ -23,6 +23,7 @@ use Rattle.bk_dev.specs.Claims.{Carries, Answered}
 use Rattle.bk_dev.specs.Uncarried.{turning, is_five, eager, one_after_the_other}
 use Rattle.bk_dev.specs.Laws.{AreNotCarried}
 use Rattle.bk_dev.proofs.Levels.{two-levels}
+use Rattle.bk_dev.proofs.DefaultRange.{default_range}
 
 -- ---- they are developments
 module _ (above below : Substitution) where
@@ -86,6 +87,7 @@ module _ (above below : Substitution) where
 
   turning-lawful : IsSubOf (turning above below) 0 [] [] above → IsSubOf (turning above below) 1 [] [] below → IsLawful (turning above below)
   turning-lawful upper lower = record {
+    range = default_range;
     some_level = omega (arith);
     table = table-facts;
     sets = refl;

@@ -8,7 +8,7 @@ use Rattle.bk_gsl.specs.Substitution.{assign}
 use Rattle.bk_dev.specs.declared.kind.Kind.{Kind}
 use Rattle.bk_dev.specs.declared.kind.Kind.TheVariants.{Machine, Implementation}
 use Rattle.bk_dev.specs.declared.kind.Home.TheVariants.{Abstract, Inner, Concrete}
-use Rattle.bk_dev.specs.Development.{Body, Level, Development}
+use Rattle.bk_dev.specs.Development.{Body, Level, Development, default_max}
 use Rattle.bk_dev.specs.Machine.{Call}
 
 -- a number of a level, whose text is its name, a dollar sign and the level
@@ -59,6 +59,7 @@ counter_level condition name kind n r links = record {
 -- the counter whose setmax has this precondition
 abbrev pub counter_with : Formula → Development
 counter_with condition = record {
+  max = default_max;
   table = counter_table;
   homes = Abstract 0 ∷ Concrete 1 ∷ Inner 0 ∷ Inner 1 ∷ [];
   sets = [];

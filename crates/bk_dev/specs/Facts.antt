@@ -15,7 +15,7 @@ use Rattle.bk_dev.specs.declared.kind.Kind.{Kind}
 use Rattle.bk_dev.specs.declared.kind.Kind.TheVariants.{Machine, Refinement, Implementation}
 use Rattle.bk_dev.specs.declared.kind.Home.{Home}
 use Rattle.bk_dev.specs.declared.kind.Home.TheVariants.{Constant, Input, Abstract, Inner, Concrete}
-use Rattle.bk_dev.specs.Development.{Head, Body, Level, Development, int_max, level_at, last, is_complete, is_implementation, body_at}
+use Rattle.bk_dev.specs.Development.{Head, Body, Level, Development, int_max, IsRange, level_at, last, is_complete, is_implementation, body_at}
 use Rattle.bk_form.specs.Each.{Each}
 use Rattle.bk_gsl.specs.Flat.{IsFlat}
 use Rattle.bk_dev.specs.Flattened.{flattened}
@@ -287,6 +287,7 @@ all_outputs dev = flat_map (λ l. flat_map (λ b. b.outputs) l.bodies) dev.level
 
 -- what flattening keeps: it is well typed, and each name is visible where it is used; implementations may stand one below the other
 pub record IsLawful (dev : Development) : Type 0 where
+  pub range : IsRange (int_max dev)
   pub some_level : 0 < length dev.levels
   pub table : IsWellFormed dev.table
   pub sets : dev.sets ≡ dev.table.sets

@@ -7,7 +7,7 @@ use Rattle.bk_gsl.specs.Substitution.{Substitution, assign, if_else, seq, par, a
 use Rattle.bk_dev.specs.declared.kind.Kind.{Kind}
 use Rattle.bk_dev.specs.declared.kind.Kind.TheVariants.{Machine, Implementation}
 use Rattle.bk_dev.specs.declared.kind.Home.TheVariants.{Abstract, Concrete}
-use Rattle.bk_dev.specs.Development.{Level, Development}
+use Rattle.bk_dev.specs.Development.{Level, Development, default_max}
 use Rattle.bk_dev.specs.Counter.{counter_table, machine_name, implementation_name}
 
 -- a level with these two variables, whose operation does this
@@ -27,6 +27,7 @@ turning_level name kind n r links turn = record {
 -- a machine and its implementation whose operations do these
 abbrev pub turning : Substitution → Substitution → Development
 turning above below = record {
+  max = default_max;
   table = counter_table;
   homes = Abstract 0 ∷ Concrete 1 ∷ Abstract 0 ∷ Concrete 1 ∷ [];
   sets = [];

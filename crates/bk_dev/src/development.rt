@@ -10,6 +10,9 @@ use bk_gsl::Sub;
 use bk_io::Text;
 use std::marker::Model;
 
+/// MAXINT where no range is said.
+pub const DEFAULT_MAX: i64 = 2147483647;
+
 /// A set, as the SETS clause of the machine gives it: an enumerated set with its elements' names, or a deferred set, which has no
 /// names, and whose size is 0 until VALUES gives it one.
 #[derive(Drop)]
@@ -116,6 +119,8 @@ impl Model for Level {
 /// stands nowhere outside its binder.
 #[derive(Drop)]
 pub struct Development {
+    /// MAXINT, from 1 to 4611686018427387903: the numbers of an implementation are those from `-max` to `max`.
+    pub max: i64,
     pub table: VarTable,
     /// Where each variable of the table is at home.
     pub homes: Vec<Home>,
@@ -137,6 +142,7 @@ impl Model for Development {
     ghost coded = { coded_development };
 
     ghost view = { λ d. record {
+      max = d.max;
       table = d.table;
       homes = d.homes.items;
       sets = d.sets.items;
@@ -146,6 +152,7 @@ impl Model for Development {
     } };
 
     ghost invariant = { λ d. IsDevelopment (record {
+      max = d.max;
       table = d.table;
       homes = d.homes.items;
       sets = d.sets.items;
@@ -167,7 +174,7 @@ impl Development {
     pub fn int_max(&self) -> i64
         ensures { result ≡ int_max self.now }
     {
-        2147483647
+        self.max
     }
 
     /// Whether the last level is an implementation.

@@ -9,5 +9,5 @@ pub mod laws;
 
 pub use arrays::{has_scalars, indices};
 pub use clues::{Found, clue_in, linked};
-pub use development::{Body, Development, EnumSet, Level, OpHead};
+pub use development::{Body, DEFAULT_MAX, Development, EnumSet, Level, OpHead};
 pub use kind::{Home, Kind};

@@ -38,7 +38,7 @@ plain-low (truth_value b) h = refl
 plain-low (element s i) h = refl
 plain-low _ h = absurd h
 
-module _ (dev : Development) (image : Image) (most : code_max image ≡ int_max dev) (many : image.cells ≡ cell_count dev) (fit : HasElementsInRange dev) (constants : ValuesHaveKinds dev dev.values) (arrays_there : ArraysHaveCells dev)
+module _ (dev : Development) (image : Image) (most : code_max image ≡ int_max dev) (one : pos 1 ≤ℤ int_max dev) (many : image.cells ≡ cell_count dev) (fit : HasElementsInRange dev) (constants : ValuesHaveKinds dev dev.values) (arrays_there : ArraysHaveCells dev)
     (domains : (x : ℕ) (r : ArrayRow) → row_of (arrays_of dev) x ≡ Some r → IsDomain dev r.domain) where
   abbrev AreKnown : Formula → Type 0
   AreKnown f = (n : ℕ) → occurs n f ≡ true → IsKnown dev n
@@ -61,7 +61,7 @@ module _ (dev : Development) (image : Image) (most : code_max image ≡ int_max 
     where
       by_test : (among (firsts ps) x || among (cell_variables dev) x ≡ true → IsPiece image (name_code dev x ps) d (d + 1) top) → (b : Bool) → (b || among (firsts ps) x) || among (cell_variables dev) x ≡ true →
           IsPiece image (cond b (Push (literal_number p.1) ∷ []) (name_code dev x ps)) d (d + 1) top
-      by_test rest true k = push-piece (literal_number p.1) d top (kind-within dev fit (declared_type dev.table p.0) (literal_number p.1) have.0) low
+      by_test rest true k = push-piece (literal_number p.1) d top (kind-within dev fit one (declared_type dev.table p.0) (literal_number p.1) have.0) low
       by_test rest false k = rest k
 
   array-operands : (x : ℕ) (r : ArrayRow) → row_of (arrays_of dev) x ≡ Some r → IsArray image (cell_of dev x) (least_index r.domain) (cells_of dev x)
@@ -98,8 +98,8 @@ module _ (dev : Development) (image : Image) (most : code_max image ≡ int_max 
     expression-piece (truth_value b) t d top typed known low = push-piece (truth_number b) d top (truth-within b) (omega (arith, low))
       where
         truth-within : (b : Bool) → IsWithin (int_max dev) (truth_number b)
-        truth-within true = small-within dev 1 (omega arith)
-        truth-within false = small-within dev 0 (omega arith)
+        truth-within true = small-within dev one 1 (omega arith)
+        truth-within false = small-within dev one 0 (omega arith)
     expression-piece (element s i) t d top typed known low = push-piece (pos i) d top (element-within dev fit s i typed.1) (omega (arith, low))
     expression-piece (unary Minus a) t d top typed known low = after-one (value_code dev a) Neg d top tt tt refl refl (omega (arith, low)) (expression-piece a int_type d top typed.1 known low)
     expression-piece (unary BoolOf p) t d top typed known low = condition-piece p d top typed.1 known low
@@ -123,11 +123,11 @@ module _ (dev : Development) (image : Image) (most : code_max image ≡ int_max 
         subst (λ c. IsPiece image c d (d + 1) top) (sym (append_assoc (value_code dev p) (JumpZero (pos (length (value_code dev q) + 2)) ∷ value_code dev q) (Jump (pos 2) ∷ Push (pos 0) ∷ [])))
         (joined_piece image (value_code dev p) (JumpZero (pos (length (value_code dev q) + 2)) ∷ value_code dev q ++ Jump (pos 2) ∷ Push (pos 0) ∷ []) d (d + 1) (d + 1) top
         (condition-piece p d top typed.0 (λ n h. known n (known-first n p q h)) (omega (arith, low)))
-        (fork_piece image (value_code dev q) (Push (pos 0) ∷ []) d (d + 1) top (omega (arith, low)) (condition-piece q d top typed.1 (λ n h. known n (known-second n p q h)) (omega (arith, low))) (push-piece (pos 0) d top (small-within dev 0 (omega arith)) (omega (arith, low)))))
+        (fork_piece image (value_code dev q) (Push (pos 0) ∷ []) d (d + 1) top (omega (arith, low)) (condition-piece q d top typed.1 (λ n h. known n (known-second n p q h)) (omega (arith, low))) (push-piece (pos 0) d top (small-within dev one 0 (omega arith)) (omega (arith, low)))))
     condition-piece (binary Or p q) d top typed known low =
         joined_piece image (value_code dev p) (JumpZero (pos 3) ∷ Push (pos 1) ∷ Jump (pos (length (value_code dev q) + 1)) ∷ value_code dev q) d (d + 1) (d + 1) top
         (condition-piece p d top typed.0 (λ n h. known n (known-first n p q h)) (omega (arith, low)))
-        (fork_piece image (Push (pos 1) ∷ []) (value_code dev q) d (d + 1) top (omega (arith, low)) (push-piece (pos 1) d top (small-within dev 1 (omega arith)) (omega (arith, low))) (condition-piece q d top typed.1 (λ n h. known n (known-second n p q h)) (omega (arith, low))))
+        (fork_piece image (Push (pos 1) ∷ []) (value_code dev q) d (d + 1) top (omega (arith, low)) (push-piece (pos 1) d top (small-within dev one 1 (omega arith)) (omega (arith, low))) (condition-piece q d top typed.1 (λ n h. known n (known-second n p q h)) (omega (arith, low))))
     condition-piece f d top typed known low = absurd typed
 
   -- ---- assignments

@@ -5,7 +5,7 @@ use Rattle.bk_gsl.specs.Substitution.{Substitution}
 use Rattle.bk_gsl.specs.State.{among}
 use Rattle.bk_gsl.specs.Typed.{Types}
 use Rattle.bk_gsl.proofs.States.{clash}
-use Rattle.bk_dev.specs.Development.{Development, level_at, body_at, inputs_of, last}
+use Rattle.bk_dev.specs.Development.{Development, level_at, body_at, inputs_of, last, int_max, IsRange}
 use Rattle.bk_dev.specs.Facts.{names_own, names_joined, writes_own, StaysIn, IsSubOf, IsLawful}
 use Rattle.bk_dev.specs.Layout.{locals, cell_variables}
 use Rattle.bk_dev.proofs.Levels.{last_level, last_paired}
@@ -26,6 +26,7 @@ pub record IsPlaced (dev : Development) (s : Substitution) : Type 0 where
   pub inner : (n : ℕ) → among (locals s) n ≡ true → IsCell dev n
 
 pub record HasFacts (dev : Development) : Type 0 where
+  pub range : IsRange (int_max dev)
   pub table : IsWellFormed dev.table
   pub sets : dev.sets ≡ dev.table.sets
   pub constants : ValuesHaveKinds dev dev.values
@@ -56,6 +57,7 @@ module _ (dev : Development) (f : IsLawful dev) (b : IsB0Development dev) where
 
   pub lawful_facts : HasFacts dev
   lawful_facts = record {
+    range = f.range;
     table = f.table;
     sets = f.sets;
     constants = constants-have dev f;

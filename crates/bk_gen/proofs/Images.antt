@@ -12,6 +12,7 @@ use Rattle.bk_code.specs.declared.instruction.Inst.TheVariants.{Push, Load, Stor
 use Rattle.bk_code.specs.Checks.{IsGoodEntry, IsGoodInst, IsNumbered, IsDepths, IsEmptyAtEnd, IsOpen, IsLoadable, FlowsTo, pops, pushes}
 use Rattle.bk_gen.proofs.Pieces.{Lands, Suits, IsGiven}
 use Rattle.bk_gen.proofs.Blocks.{IsBlocks}
+use Rattle.bk_code.specs.Numbers.{int_max, IsRange}
 
 -- ---- depths as a list
 abbrev pub listed : (ℕ → ℕ) → ℕ → List ℕ
@@ -36,7 +37,7 @@ pub record IsStart (image : Image) (depths : ℕ → ℕ) (entry : OpEntry) : Ty
   pub empty : depths entry.start ≡ 0
 
 -- ---- the image
-module _ (image : Image) (b : IsBlocks image image.code) (few : image.cells ≤ 1000000) (some : 0 < length image.code) (short : length image.code ≤ 1000000) (good : All (IsGoodEntry image) image.ops) (starts : Each (IsStart image b.depths) image.ops) where
+module _ (image : Image) (range : IsRange (int_max image)) (b : IsBlocks image image.code) (few : image.cells ≤ 1000000) (some : 0 < length image.code) (short : length image.code ≤ 1000000) (good : All (IsGoodEntry image) image.ops) (starts : Each (IsStart image b.depths) image.ops) where
   abbrev size : ℕ
   size = length image.code
 
@@ -78,6 +79,7 @@ module _ (image : Image) (b : IsBlocks image image.code) (few : image.cells ≤ 
 
   numbered : IsNumbered image
   numbered = record {
+    range = range;
     cells = few;
     ops = good;
     insts = λ at inst is. good-inst at inst (b.suits at inst is);

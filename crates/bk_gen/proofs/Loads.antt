@@ -17,7 +17,7 @@ use Rattle.bk_code.specs.declared.image.Image.{Image}
 use Rattle.bk_code.specs.declared.image.OpEntry.{OpEntry}
 use Rattle.bk_code.specs.declared.instruction.Inst.{Inst}
 use Rattle.bk_code.specs.declared.instruction.Inst.TheVariants.{Ret}
-use Rattle.bk_code.specs.Numbers.{int_max as code_max}
+use Rattle.bk_code.specs.Numbers.{int_max as code_max, IsRange as IsCodeRange}
 use Rattle.bk_b0.proofs.Numbers.{translated-greatest}
 use Rattle.bk_code.specs.Checks.{IsKind, IsGoodParameter, IsGoodEntry, IsLeaving, IsLoadable}
 use Rattle.bk_b0.specs.Places.{kind_of_type}
@@ -43,7 +43,7 @@ module _ (dev : Development) (f : HasFacts dev) (b : IsB0Development dev) (fit :
   -- ---- the pieces
   placed-piece : (s : Substitution) → IsPlaced dev s → IsB0 dev s → EvaluatesShallow (arrays_of dev) s → IsPiece image (statement_code dev s) 0 0 1000
   placed-piece s p b0 few =
-      statement-piece dev image most cells fit f.constants f.arrays (λ x r found. array-domain dev f.table f.typed fit x r found)
+      statement-piece dev image most f.range.least cells fit f.constants f.arrays (λ x r found. array-domain dev f.range.least f.table f.typed fit x r found)
       s p.scope p.above p.writable p.stays (typed-b0 dev f.typed s p.types b0) few p.known p.settable p.inner
 
   init-piece : IsPiece image (statement_code dev (level_at dev (last dev)).init) 0 0 1000
@@ -114,7 +114,7 @@ module _ (dev : Development) (f : HasFacts dev) (b : IsB0Development dev) (fit :
   parameter-good : (x : ℕ) → IsScalarName dev x → among (cell_variables dev) x ≡ true → IsGoodParameter image (parameter_of dev x)
   parameter-good x scalar there = record {
     kind = declared-good x;
-    slot = scalar-slot dev image most cells fit f.constants f.arrays (λ y r found. array-domain dev f.table f.typed fit y r found) x scalar.0 there;
+    slot = scalar-slot dev image most f.range.least cells fit f.constants f.arrays (λ y r found. array-domain dev f.range.least f.table f.typed fit y r found) x scalar.0 there;
   }
 
   parameters-good : (xs : List ℕ) → AreGood xs → All (IsGoodParameter image) (map (parameter_of dev) xs)
@@ -162,7 +162,7 @@ module _ (dev : Development) (f : HasFacts dev) (b : IsB0Development dev) (fit :
           let own : length (init_code dev) ≡ length (statement_code dev (level_at dev (last dev)).init) + 1 = length-append (statement_code dev (level_at dev (last dev)).init) (Ret ∷ []) in
           let good : All (IsGoodEntry image) image.ops = subst (All (IsGoodEntry image)) (sym ops) (entries-good (length (init_code dev)) dev.heads bodies long inputs-good outputs-good) in
           let begin : Begin all.depths (length (init_code dev)) dev.heads bodies = q.begin dev.heads (length (init_code dev)) all.depths (λ i low. blocks-second image (init_code dev) rest first q.blocks i) in
-          image_loads image (record { depths = all.depths; first = all.first; low = all.low; suits = subst (λ c. (at : ℕ) (inst : Inst) → slice_get c at ≡ Some inst → Suits image all.depths (length c) at inst) (sym code) all.suits; given = subst (λ c. (at : ℕ) → at < length c → IsGiven c all.depths at) (sym code) all.given; ends = subst (λ c. (at : ℕ) (inst : Inst) → slice_get c at ≡ Some inst → at + 1 ≡ length c → IsLeaving inst) (sym code) all.ends })
+          image_loads image (subst IsCodeRange (sym most) (record { least = f.range.least; greatest = f.range.greatest })) (record { depths = all.depths; first = all.first; low = all.low; suits = subst (λ c. (at : ℕ) (inst : Inst) → slice_get c at ≡ Some inst → Suits image all.depths (length c) at inst) (sym code) all.suits; given = subst (λ c. (at : ℕ) → at < length c → IsGiven c all.depths at) (sym code) all.given; ends = subst (λ c. (at : ℕ) (inst : Inst) → slice_get c at ≡ Some inst → at + 1 ≡ length c → IsLeaving inst) (sym code) all.ends })
           (subst (λ n. n ≤ 1000000) (sym cells) few) (omega (arith, long, own)) short good
           (starts-from all.depths image.ops good (subst (Each (λ entry. all.depths entry.start ≡ 0)) (sym ops) begin))
 

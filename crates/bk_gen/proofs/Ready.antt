@@ -10,7 +10,7 @@ use Rattle.bk_form.specs.declared.operator.UnOp.TheVariants.{Not, BoolOf, Neg as
 use Rattle.bk_form.specs.declared.operator.BinOp.TheVariants.{And, Or, Eq as Equal, Lt as Less, Le as LessOrEqual, Add as Sum, Sub as Difference, Mul as Product, Div as Quotient, Mod as Remainder, Apply}
 use Rattle.bk_gsl.specs.Substitution.{Substitution, skip, assign, if_else, any, seq, assert, loop}
 use Rattle.bk_dev.specs.B0.{IsExpression, IsCondition, IsFillValue, IsTermFor, IsAssignment, IsB0, IsB0Body, IsB0Development}
-use Rattle.bk_dev.specs.Development.{Body, Development, int_max, level_at, last}
+use Rattle.bk_dev.specs.Development.{Body, Development, int_max, level_at, last, IsRange}
 use Rattle.bk_dev.specs.Facts.{IsLiteral, IsValue, IsLawful}
 use Rattle.bk_dev.specs.Layout.{arrays_of, index_count, cells_of, cell_variables, cell_count}
 use Rattle.bk_dev.proofs.Levels.{last_paired}
@@ -24,10 +24,10 @@ use Rattle.bk_gen.specs.Executed.{FitsPush, HasLeafCode, HasCode, HasStoreCode, 
 use Rattle.bk_gen.proofs.Slots.{cells-below, array-cells, within-range}
 
 -- ---- formulas and statements of B0
-module _ (dev : Development) where
+module _ (dev : Development) (range : IsRange (int_max dev)) where
   -- every number of the machine fits an instruction
   wide : (z : ℤ) → IsWithin (int_max dev) z → FitsPush z
-  wide z h = let low : neg_ℤ (int_max dev) ≤ℤ z = h.0 in let high : z ≤ℤ int_max dev = h.1 in (omega (arith, ints, low), omega (arith, ints, high))
+  wide z h = let most : int_max dev ≤ℤ pos 4611686018427387903 = range.greatest in let low : neg_ℤ (int_max dev) ≤ℤ z = h.0 in let high : z ≤ℤ int_max dev = h.1 in (omega (arith, ints, low, most), omega (arith, ints, high, most))
 
   abbrev places : Places
   places = places_of dev
@@ -90,7 +90,7 @@ module _ (dev : Development) where
 
   -- ---- constants
   literal-code : (f : Formula) → IsLiteral dev f → HasLeafCode f
-  literal-code (literal z) h = let low : (pos 0 -ℤ int_max dev) ≤ℤ z = h.0 in let high : z ≤ℤ int_max dev = h.1 in (omega (arith, ints, low), omega (arith, ints, high))
+  literal-code (literal z) h = let most : int_max dev ≤ℤ pos 4611686018427387903 = range.greatest in let low : (pos 0 -ℤ int_max dev) ≤ℤ z = h.0 in let high : z ≤ℤ int_max dev = h.1 in (omega (arith, ints, low, most), omega (arith, ints, high, most))
   literal-code (truth_value b) h = tt
   literal-code (element s i) h = tt
   literal-code f h = absurd h
@@ -123,13 +123,13 @@ module _ (dev : Development) where
 
 -- ---- every unit
 pub unit_ready : (u : CodeUnit) → IsCodeUnit u → slots_cells u.slots ≤ 1000000 → IsReady u
-unit_ready u w = subst (λ v. slots_cells v.slots ≤ 1000000 → IsReady v) (sym w.is) (ready w.dev w.lawful w.in_b0)
+unit_ready u w = subst (λ v. slots_cells v.slots ≤ 1000000 → IsReady v) (sym w.is) (ready w.dev w.lawful.range w.lawful w.in_b0)
 
 pub unit_init : (u : CodeUnit) → IsCodeUnit u → HasStatementCode (unit_places u) u.init
-unit_init u w = subst (λ v. HasStatementCode (unit_places v) v.init) (sym w.is) (init-has w.dev w.lawful w.in_b0)
+unit_init u w = subst (λ v. HasStatementCode (unit_places v) v.init) (sym w.is) (init-has w.dev w.lawful.range w.lawful w.in_b0)
 
 pub unit_bodies : (u : CodeUnit) → IsCodeUnit u → All (λ b. HasStatementCode (unit_places u) b.sub) u.bodies
-unit_bodies u w = subst (λ v. All (λ b. HasStatementCode (unit_places v) b.sub) v.bodies) (sym w.is) (bodies-have w.dev w.lawful w.in_b0)
+unit_bodies u w = subst (λ v. All (λ b. HasStatementCode (unit_places v) b.sub) v.bodies) (sym w.is) (bodies-have w.dev w.lawful.range w.lawful w.in_b0)
 
 pub unit_paired : (u : CodeUnit) → IsCodeUnit u → length u.heads ≡ length u.bodies
 unit_paired u w = subst (λ v. length v.heads ≡ length v.bodies) (sym w.is) (last_paired w.dev w.lawful)

@@ -27,7 +27,7 @@ use Rattle.bk_code.specs.Numbers.{IsWithin}
 use Rattle.bk_b0.specs.Places.{least_index}
 use Rattle.bk_b0.specs.Kinds.{is_of_kind, index_type}
 use Rattle.bk_b0.specs.Cells.{ArraysAreTyped}
-use Rattle.bk_b0.proofs.Numbers.{bounds-then, le-then, eq-then, one-natural}
+use Rattle.bk_b0.proofs.Numbers.{bounds-then, le-then, eq-then}
 use Rattle.bk_b0.proofs.LevelCells.{clue, row-is}
 use Rattle.bk_gen.specs.Laws.{HasElementsInRange}
 
@@ -53,21 +53,21 @@ module _ (dev : Development) where
   pub within-range : (z : ℤ) → is_in_int (int_max dev) z ≡ true → IsWithin (int_max dev) z
   within-range z h = let w = bounds-then (int_max dev) z h in let low : (pos 0 -ℤ int_max dev) ≤ℤ z = w.0 in (omega (arith, ints, low), w.1)
 
-  pub small-within : (n : ℕ) → n ≤ 1 → IsWithin (int_max dev) (pos n)
-  small-within n h = let one : pos 1 ≤ℤ int_max dev = one-natural dev in (omega (arith, ints, h, one), omega (arith, ints, h, one))
+  pub small-within : pos 1 ≤ℤ int_max dev → (n : ℕ) → n ≤ 1 → IsWithin (int_max dev) (pos n)
+  small-within one n h = (omega (arith, ints, h, one), omega (arith, ints, h, one))
 
   module _ (fit : HasElementsInRange dev) where
     pub element-within : (s i : ℕ) → nat_lt i (set_size dev.table s) ≡ true → IsWithin (int_max dev) (pos i)
     element-within s i h = let low : i < set_size dev.table s = grind (arith, nat_tests) in (omega (arith, ints), fit s i low)
 
-    pub kind-within : (t : ValueType) (z : ℤ) → is_of_kind dev t z ≡ true → IsWithin (int_max dev) z
-    kind-within int_type z h = within-range z h
-    kind-within bool_type z h = elim (or-cases (int_eq z (pos 0)) (int_eq z (pos 1)) h) [
-      | inl e ↦ subst (IsWithin (int_max dev)) (sym (eq-then z (pos 0) e)) (small-within 0 (omega arith))
-      | inr e ↦ subst (IsWithin (int_max dev)) (sym (eq-then z (pos 1) e)) (small-within 1 (omega arith))
+    pub kind-within : pos 1 ≤ℤ int_max dev → (t : ValueType) (z : ℤ) → is_of_kind dev t z ≡ true → IsWithin (int_max dev) z
+    kind-within one int_type z h = within-range z h
+    kind-within one bool_type z h = elim (or-cases (int_eq z (pos 0)) (int_eq z (pos 1)) h) [
+      | inl e ↦ subst (IsWithin (int_max dev)) (sym (eq-then z (pos 0) e)) (small-within one 0 (omega arith))
+      | inr e ↦ subst (IsWithin (int_max dev)) (sym (eq-then z (pos 1) e)) (small-within one 1 (omega arith))
     ]
-    kind-within (enum_type s) (pos i) h = element-within s i h
-    kind-within _ _ h = absurd (cc)
+    kind-within one (enum_type s) (pos i) h = element-within s i h
+    kind-within one _ _ h = absurd (cc)
 
   -- ---- arrays
   -- a domain has an index, and its first and last are numbers of the machine
@@ -98,21 +98,21 @@ module _ (dev : Development) where
   from-interval None q d h = absurd (cc)
   from-interval (Some a) None d h = absurd (cc)
 
-  elements-domain : HasElementsInRange dev → (n : ℕ) → 0 < set_size dev.table n → IsDomain (OfElements n)
-  elements-domain fit n some = by_size (set_size dev.table n) refl
+  elements-domain : pos 1 ≤ℤ int_max dev → HasElementsInRange dev → (n : ℕ) → 0 < set_size dev.table n → IsDomain (OfElements n)
+  elements-domain one fit n some = by_size (set_size dev.table n) refl
     where
       by_size : (k : ℕ) → set_size dev.table n ≡ k → IsDomain (OfElements n)
       by_size zero e = absurd (omega (arith, some, e))
       by_size (suc k) e =
           let top : pos k ≤ℤ int_max dev = fit n k (omega (arith, e)) in
           let same : pos 0 +ℤ pos (set_size dev.table n) -ℤ pos 1 ≡ pos k = omega (arith, ints, e) in
-          record { some = some; least = small-within 0 (omega arith); greatest = subst (IsWithin (int_max dev)) (sym same) (omega (arith, ints), top) }
+          record { some = some; least = small-within one 0 (omega arith); greatest = subst (IsWithin (int_max dev)) (sym same) (omega (arith, ints), top) }
 
-  from-formula : HasElementsInRange dev → (g : Formula) (d : ArrayDomain) → indices_of (int_max dev) dev.values g ≡ Some d → ((n : ℕ) → d ≡ OfElements n → 0 < set_size dev.table n) → IsDomain d
-  from-formula fit (binary Range a b) d h listed = from-interval (bound_of dev.values a) (bound_of dev.values b) d h
-  from-formula fit (named Booleans) d h listed = let same : OfBooleans ≡ d = cc in subst IsDomain same (record { some = omega arith; least = small-within 0 (omega arith); greatest = small-within 1 (omega arith) })
-  from-formula fit (named (Enum n)) d h listed = let same : OfElements n ≡ d = cc in subst IsDomain same (elements-domain fit n (listed n (sym same)))
-  from-formula fit _ d h listed = absurd (cc)
+  from-formula : pos 1 ≤ℤ int_max dev → HasElementsInRange dev → (g : Formula) (d : ArrayDomain) → indices_of (int_max dev) dev.values g ≡ Some d → ((n : ℕ) → d ≡ OfElements n → 0 < set_size dev.table n) → IsDomain d
+  from-formula one fit (binary Range a b) d h listed = from-interval (bound_of dev.values a) (bound_of dev.values b) d h
+  from-formula one fit (named Booleans) d h listed = let same : OfBooleans ≡ d = cc in subst IsDomain same (record { some = omega arith; least = small-within one 0 (omega arith); greatest = small-within one 1 (omega arith) })
+  from-formula one fit (named (Enum n)) d h listed = let same : OfElements n ≡ d = cc in subst IsDomain same (elements-domain one fit n (listed n (sym same)))
+  from-formula one fit _ d h listed = absurd (cc)
 
   row-domain : (x : ℕ) (c : Clue) (r : ArrayRow) → row_by dev x c ≡ Some r → (g : Formula) × (indices_of (int_max dev) dev.values g ≡ Some r.domain)
   row-domain x (in_domain (binary TotalFunctions d e)) r h = by_test (has_scalars (variable_type dev.table x)) h
@@ -134,10 +134,10 @@ module _ (dev : Development) where
   pub variable-listed : IsWellFormed dev.table → (n : ℕ) (t : ValueType) → variable_type dev.table n ≡ Some t → IsTrue (lists_type dev.table t)
   variable-listed w n t h = listed-at dev.table.variables w.listed n t h
 
-  pub array-domain : IsWellFormed dev.table → ArraysAreTyped dev → HasElementsInRange dev → (x : ℕ) (r : ArrayRow) → row_of (arrays_of dev) x ≡ Some r → IsDomain r.domain
-  array-domain w typed fit x r found =
+  pub array-domain : pos 1 ≤ℤ int_max dev → IsWellFormed dev.table → ArraysAreTyped dev → HasElementsInRange dev → (x : ℕ) (r : ArrayRow) → row_of (arrays_of dev) x ≡ Some r → IsDomain r.domain
+  array-domain one w typed fit x r found =
       let g = row-domain x (clue dev x) r (row-is dev x r found).1 in
-      from-formula fit g.0 r.domain g.1 (λ n e. by_elements n e)
+      from-formula one fit g.0 r.domain g.1 (λ n e. by_elements n e)
     where
       by_elements : (n : ℕ) → r.domain ≡ OfElements n → 0 < set_size dev.table n
       by_elements n e =

@@ -7,7 +7,7 @@ use Rattle.std.proofs.lemmas.Int.{ints, fits_signed_from_abs}
 use Rattle.std.proofs.lemmas.List.Elements.{All-nil, All-cons, All-head, All-tail, All-map}
 use Rattle.std.proofs.lemmas.Option.{slice_get_within}
 use Rattle.bk_form.specs.Table.{SetEntry, set_size}
-use Rattle.bk_dev.specs.Development.{Head, Body, Development}
+use Rattle.bk_dev.specs.Development.{Head, Body, Development, int_max, default_max}
 use Rattle.bk_code.specs.declared.image.Image.{Image}
 use Rattle.bk_code.specs.declared.image.Parameter.{Parameter}
 use Rattle.bk_code.specs.declared.image.CellKind.{CellKind}
@@ -24,13 +24,13 @@ use Rattle.bk_gen.specs.Laws.{HasElementsInRange}
 use Rattle.bk_gen.specs.Spelled.{FitsHead, FitsFields}
 
 -- ---- signed numbers
-fits-64 : (image : Image) (z : ℤ) → neg_ℤ (code_max image) ≤ℤ z → z ≤ℤ code_max image → FitsSigned w64 z
-fits-64 image (pos n) h k = let low : n < 2 ^ 31 = omega (arith, ints, k) in fits_signed_from_abs w64 (pos n) (omega (arith, low))
-fits-64 image (negsuc n) h k = let low : suc n < 2 ^ 31 = omega (arith, ints, h) in fits_signed_from_abs w64 (negsuc n) (omega (arith, low))
+fits-64 : (max z : ℤ) → max ≤ℤ pos 4611686018427387903 → neg_ℤ max ≤ℤ z → z ≤ℤ max → FitsSigned w64 z
+fits-64 max (pos n) most h k = let low : n < 2 ^ 62 = omega (arith, ints, k, most) in fits_signed_from_abs w64 (pos n) (omega (arith, low))
+fits-64 max (negsuc n) most h k = let low : suc n < 2 ^ 62 = omega (arith, ints, h, most) in fits_signed_from_abs w64 (negsuc n) (omega (arith, low))
 
-fits-32 : (image : Image) (z : ℤ) → neg_ℤ (code_max image) ≤ℤ z → z ≤ℤ code_max image → FitsSigned w32 z
-fits-32 image (pos n) h k = let low : n < 2 ^ 31 = omega (arith, ints, k) in fits_signed_from_abs w32 (pos n) (omega (arith, low))
-fits-32 image (negsuc n) h k = let low : suc n < 2 ^ 31 = omega (arith, ints, h) in fits_signed_from_abs w32 (negsuc n) (omega (arith, low))
+fits-32 : (z : ℤ) → neg_ℤ (pos 2000000) ≤ℤ z → z ≤ℤ pos 2000000 → FitsSigned w32 z
+fits-32 (pos n) h k = let low : n < 2 ^ 31 = omega (arith, ints, k) in fits_signed_from_abs w32 (pos n) (omega (arith, low))
+fits-32 (negsuc n) h k = let low : suc n < 2 ^ 31 = omega (arith, ints, h) in fits_signed_from_abs w32 (negsuc n) (omega (arith, low))
 
 -- ---- any image
 pub record FitsNames (entry : OpEntry) : Type 0 where
@@ -38,7 +38,7 @@ pub record FitsNames (entry : OpEntry) : Type 0 where
   pub inputs : IsCountable entry.inputs
   pub outputs : IsCountable entry.outputs
 
-module _ (image : Image) (n : IsNumbered image) (short : length image.code ≤ 1000000) (few_sets : length image.sets ≤ 65534) (sets : All FitsSet image.sets) (few_ops : IsCountable image.ops) (names : All FitsNames image.ops) where
+module _ (image : Image) (n : IsNumbered image) (usual : code_max image ≡ default_max) (short : length image.code ≤ 1000000) (few_sets : length image.sets ≤ 65534) (sets : All FitsSet image.sets) (few_ops : IsCountable image.ops) (names : All FitsNames image.ops) where
   kind-fits : (kind : CellKind) → IsKind image kind → kind_number kind < 2 ^ 16
   kind-fits Integer h = omega arith
   kind-fits BoolKind h = omega arith
@@ -68,16 +68,16 @@ module _ (image : Image) (n : IsNumbered image) (short : length image.code ≤ 1
   array-fits base low count h =
       let cells : base + count ≤ image.cells = h.cells in
       let few : image.cells ≤ 1000000 = n.cells in
-      record { first_cell = omega (arith, cells, few); least = fits-64 image low h.least.0 h.least.1; size = omega (arith, cells, few) }
+      record { first_cell = omega (arith, cells, few); least = fits-64 (code_max image) low n.range.greatest h.least.0 h.least.1; size = omega (arith, cells, few) }
 
   jump-fits : (at : ℕ) (distance : ℤ) → at < length image.code → IsTarget image (pos at +ℤ distance) → FitsSigned w32 distance
   jump-fits at distance low t =
       let is : pos at +ℤ distance ≡ pos t.place = t.is in
       let stands : t.place < length image.code = t.stands in
-      fits-32 image distance (omega (arith, ints, low, is, stands, short)) (omega (arith, ints, low, is, stands, short))
+      fits-32 distance (omega (arith, ints, low, is, stands, short)) (omega (arith, ints, low, is, stands, short))
 
   inst-fits : (at : ℕ) (inst : Inst) → at < length image.code → IsGoodInst image at inst → FitsInst inst
-  inst-fits at (Push z) low h = fits-64 image z h.0 h.1
+  inst-fits at (Push z) low h = fits-64 (code_max image) z n.range.greatest h.0 h.1
   inst-fits at (Load slot) low h = let few : image.cells ≤ 1000000 = n.cells in omega (arith, h, few)
   inst-fits at (Store slot) low h = let few : image.cells ≤ 1000000 = n.cells in omega (arith, h, few)
   inst-fits at (ALoad base least count) low h = array-fits base least count h
@@ -95,6 +95,7 @@ module _ (image : Image) (n : IsNumbered image) (short : length image.code ≤ 1
       let few : image.cells ≤ 1000000 = n.cells in
       record {
         fits = record {
+          max = usual;
           cells = omega (arith, few);
           few_sets = omega (arith, few_sets);
           sets = sets;
@@ -115,7 +116,8 @@ size-fits (x ∷ xs) h (suc n) = size-fits xs (All-tail (λ s. FitsSet s.element
 pub elements-fit : (dev : Development) → dev.sets ≡ dev.table.sets → FitsFields (unit_of dev) → HasElementsInRange dev
 elements-fit dev same h s i low =
     let small : set_size dev.table s < 2 ^ 16 = size-fits dev.table.sets (subst (λ (xs : List SetEntry). All (λ s. FitsSet s.elements) xs) same h.sets) s in
-    omega (arith, ints, low, small)
+    let usual : int_max dev ≡ default_max = h.max in
+    omega (arith, ints, low, small, usual)
 
 map-long : (f : ℕ → Parameter) (xs : List ℕ) → length (map f xs) ≡ length xs
 map-long f [] = refl
@@ -146,7 +148,7 @@ pub unit_spelled : (u : CodeUnit) → IsNumbered (unit_image u) → FitsFields u
 unit_spelled u n h short =
     let few : length u.heads < 2 ^ 16 = h.few_operations in
     let sets : length u.sets ≤ 65534 = h.few_sets in
-    has_spelling (unit_image u) n short (omega (arith, sets, sets-long u.sets)) (All-map FitsSet (λ (s : SetEntry). s.elements) u.sets h.sets)
+    has_spelling (unit_image u) n h.max short (omega (arith, sets, sets-long u.sets)) (All-map FitsSet (λ (s : SetEntry). s.elements) u.sets h.sets)
     (omega (arith, few, entries-few (unit_places u) (length (placed_block (unit_places u) u.init)) u.heads u.bodies)) (entries-named (unit_places u) (length (placed_block (unit_places u) u.init)) u.heads u.bodies h.heads h.outputs)
 
 -- ---- what has a spelling fits
@@ -188,6 +190,7 @@ spelled_fits u e s =
     let sets : length (map (λ (s : SetEntry). s.elements) u.sets) ≤ 65534 = s.few_sets in
     let few : length (placed_entries p place u.heads u.bodies) < 2 ^ 16 = s.fits.few_ops in
     record {
+      max = s.fits.max;
       few_sets = omega (arith, sets, sets-long u.sets);
       sets = all-sets u.sets s.fits.sets;
       few_operations = omega (arith, few, entries-long p place u.heads u.bodies e);

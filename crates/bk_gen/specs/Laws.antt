@@ -9,7 +9,7 @@ use Rattle.bk_dev.specs.declared.kind.Kind.{Kind}
 use Rattle.bk_dev.specs.declared.kind.Kind.TheVariants.{Machine, Implementation}
 use Rattle.bk_dev.specs.declared.kind.Home.TheVariants.{Input, Abstract, Concrete}
 use Rattle.bk_dev.specs.B0.{IsB0Development}
-use Rattle.bk_dev.specs.Development.{Level, Development, int_max}
+use Rattle.bk_dev.specs.Development.{Level, Development, int_max, default_max}
 use Rattle.bk_dev.specs.Layout.{cell_count}
 use Rattle.bk_dev.specs.Counter.{number_at, counter, reset_name, setmax_name, get_name}
 use Rattle.bk_code.specs.Checks.{IsLoadable}
@@ -22,6 +22,7 @@ use Rattle.bk_dev.specs.Flattened.{flattened}
 -- the counter's code: the initialisation, reset, setmax and get
 abbrev pub CounterCode : Type 0
 CounterCode = translation counter ≡ record {
+  max = default_max;
   cells = 2;
   sets = [];
   ops = record { name = reset_name; start = 3; inputs = []; outputs = [] }
@@ -60,6 +61,7 @@ adding n k = if_else (binary Below (variable n) (literal (pos 10))) (assign ((n,
 -- A and A_i with n$0 and n$1; add(k) adds its input to an n below 10
 abbrev pub adder : Development
 adder = record {
+  max = default_max;
   table = record { sets = []; variables = number_at 110 48 ∷ number_at 110 49 ∷ number_at 107 48 ∷ [] };
   homes = Abstract 0 ∷ Concrete 1 ∷ Input ∷ [];
   sets = [];
@@ -71,6 +73,7 @@ adder = record {
 -- n of the implementation is in cell 0, and the input in cell 1
 abbrev pub AdderCode : Type 0
 AdderCode = translation adder ≡ record {
+  max = default_max;
   cells = 2;
   sets = [];
   ops = record { name = add_name; start = 3; inputs = record { kind = Integer; slot = 1 } ∷ []; outputs = [] } ∷ [];

@@ -11,7 +11,7 @@ use Rattle.bk_gsl.specs.Substitution.{Substitution, skip, assign, if_else, any, 
 use Rattle.bk_dev.specs.declared.kind.Kind.{Kind}
 use Rattle.bk_dev.specs.declared.kind.Kind.TheVariants.{Machine, Implementation}
 use Rattle.bk_dev.specs.declared.kind.Home.TheVariants.{Input, Abstract, Inner, Concrete}
-use Rattle.bk_dev.specs.Development.{Body, Level, Development}
+use Rattle.bk_dev.specs.Development.{Body, Level, Development, default_max}
 use Rattle.bk_code.specs.declared.image.CellKind.TheVariants.{Integer, Set}
 use Rattle.bk_code.specs.declared.instruction.Inst.TheVariants.{Push, Load, Store, ALoad, AStore, Add, Sub, Mul, Div, Mod, Neg, Eq, Lt, Le, Not as Invert, Jump, JumpZero, Ret}
 use Rattle.bk_b0.specs.Places.{Places, placed_value, placed_statement}
@@ -111,6 +111,7 @@ filling tab i = any (i ∷ []) (seq (assign ((i, literal (pos 0)) ∷ []))
 -- f is the variable 0, and tab the variable 1; fill has the local 2, read(i) the input 3 and the outputs 4 and 5
 abbrev pub numbers : Development
 numbers = record {
+  max = default_max;
   table = record { sets = []; variables = named_entry (codes "f$0") array_type ∷ named_entry (codes "tab$1") array_type ∷ named_entry (codes "$1") int_type ∷ named_entry (codes "i") int_type ∷ named_entry (codes "r$0") int_type ∷ named_entry (codes "r$1") int_type ∷ [] };
   homes = Abstract 0 ∷ Concrete 1 ∷ Inner 1 ∷ Input ∷ Inner 0 ∷ Inner 1 ∷ [];
   sets = [];
@@ -125,6 +126,7 @@ numbers = record {
 -- tab is in the cells 0 to 9, the local of fill in 10, the input of read in 11 and its output in 12
 abbrev pub TableCode : Type 0
 TableCode = translation numbers ≡ record {
+  max = default_max;
   cells = 13;
   sets = [];
   ops = record { name = codes "fill"; start = 21; inputs = []; outputs = [] }
@@ -158,6 +160,7 @@ lamp_level name kind c output = plain_level name kind c (binary In (variable c) 
 -- col is the variable 0 above and 1 below; show has the outputs 2 and 3
 abbrev pub lamp : Development
 lamp = record {
+  max = default_max;
   table = record {
     sets = record { name = codes "COLOR"; elements = codes "red" ∷ codes "amber" ∷ codes "green" ∷ [] } ∷ [];
     variables = named_entry (codes "col$0") (enum_type 0) ∷ named_entry (codes "col$1") (enum_type 0) ∷ named_entry (codes "cc$0") (enum_type 0) ∷ named_entry (codes "cc$1") (enum_type 0) ∷ [];
@@ -172,6 +175,7 @@ lamp = record {
 -- col is in the cell 0, and the output in 1; a colour is its number from 0
 abbrev pub LampCode : Type 0
 LampCode = translation lamp ≡ record {
+  max = default_max;
   cells = 2;
   sets = (codes "red" ∷ codes "amber" ∷ codes "green" ∷ []) ∷ [];
   ops = record { name = codes "next"; start = 3; inputs = []; outputs = [] }
@@ -196,6 +200,7 @@ large_level name kind f n init = record (plain_level name kind f (is_large f) in
 -- the array is the variable 0 above and 2 below, the number 1 and 3; the implementation is initialised so
 abbrev pub large : Substitution → Development
 large init = record {
+  max = default_max;
   table = record { sets = []; variables = named_entry (codes "f$0") array_type ∷ named_entry (codes "n$0") int_type ∷ named_entry (codes "f$1") array_type ∷ named_entry (codes "n$1") int_type ∷ [] };
   homes = Abstract 0 ∷ Abstract 0 ∷ Concrete 1 ∷ Concrete 1 ∷ [];
   sets = [];

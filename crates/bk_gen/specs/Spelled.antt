@@ -1,7 +1,7 @@
 -- Which images have a spelling within the limits.
 use Rattle.std.specs.Prelude.{◌⊎◌, ◌<◌, ◌≤◌, ◌^◌, All, length}
 use Rattle.bk_limits.specs.declared.TheConstants.{MOST_CELLS, MOST_SETS}
-use Rattle.bk_dev.specs.Development.{Head}
+use Rattle.bk_dev.specs.Development.{Head, default_max}
 use Rattle.bk_image.specs.Spelling.{IsCountable, FitsSet, HasSpelling}
 use Rattle.bk_b0.specs.CodeUnit.{CodeUnit, slots_cells, unit_image}
 
@@ -10,8 +10,10 @@ pub record FitsHead (h : Head) : Type 0 where
   pub name : IsCountable h.name
   pub inputs : IsCountable h.inputs
 
--- sets, elements, operations, inputs and outputs, and their names, fit the fields that count them
+-- sets, elements, operations, inputs and outputs, and their names, fit the fields that count them, and the range is the one that
+-- needs no field
 pub record FitsFields (u : CodeUnit) : Type 0 where
+  pub max : u.arrays.max ≡ default_max
   pub few_sets : length u.sets ≤ MOST_SETS
   pub sets : All (λ s. FitsSet s.elements) u.sets
   pub few_operations : length u.heads < 2 ^ 16

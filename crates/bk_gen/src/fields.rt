@@ -1,26 +1,37 @@
 //! Whether names and counts fit the fields that an image has for them.
 
-ghost use Rattle.std.specs.Prelude.{◌↔◌, IsTrue};
+ghost use Rattle.std.specs.Prelude.{◌≡◌, ◌↔◌, IsTrue};
+ghost use Rattle.bk_dev.specs.Development.{default_max};
 ghost use Rattle.bk_image.specs.Spelling.{IsCountable, FitsSet};
 ghost use Rattle.bk_gen.specs.Spelled.{FitsHead, FitsFields};
 
 use bk_b0::B0Unit;
-use bk_dev::{Body, OpHead};
+use bk_dev::{Body, DEFAULT_MAX, OpHead};
 use bk_io::Text;
 use bk_limits::MOST_SETS;
 
 /// How many items, and how many bytes of a name, a field can count.
 const COUNTED: usize = 65536;
 
-/// Whether sets, elements, operations, inputs and outputs, and their names, fit the fields that count them.
+/// Whether sets, elements, operations, inputs and outputs, and their names, fit the fields that count them, and the range needs
+/// none.
 pub(crate) fn fits_fields(unit: &B0Unit) -> bool
     ensures { IsTrue result ↔ FitsFields unit.now }
 {
-    unit.sets().len() <= MOST_SETS
+    has_default_range(unit)
+        && unit.sets().len() <= MOST_SETS
         && unit.sets().iter().all(|set| names_fit(&set.elements))
         && unit.heads().len() < COUNTED
         && unit.heads().iter().all(|head| head_fits(head))
         && unit.bodies().iter().all(|body| outputs_fit(body))
+}
+
+// Whether the range is the one that needs no field.
+fn has_default_range(unit: &B0Unit) -> bool
+    ensures { IsTrue result ↔ (unit.now.arrays.max ≡ default_max) }
+{
+    let arrays = unit.arrays();
+    arrays.max() == DEFAULT_MAX
 }
 
 // Whether there are few enough names, and each is short enough.

@@ -31,7 +31,7 @@ const CELLS: u64 = MOST_CELLS as u64;
 
 /// The image of an implementation: what the definition of the translation says of it. It passes the loader's checks and has a
 /// spelling. The length of the code is looked at before the number of cells; an image whose names or counts do not fit their
-/// fields counts as one with too many.
+/// fields counts as one with too many, and so does one with another MAXINT than `DEFAULT_MAX`, for which there is no field yet.
 pub fn translate(alloc: Global, unit: &B0Unit) -> Result<Image, GenFault>
     ensures ok { IfOk result (λ image. image ≡ unit_image unit.now) }
     ensures checked { IfOk result IsLoadable }
@@ -92,6 +92,14 @@ fn few_cells(unit: &B0Unit) -> u32
     cell_count(unit.slots()) as u32
 }
 
+// The greatest number of the code.
+fn max_of(unit: &B0Unit) -> i64
+    ensures { result ≡ unit.now.arrays.max }
+{
+    let arrays = unit.arrays();
+    arrays.max()
+}
+
 // A number, or 2^64 - 1 if that is less.
 fn at_most_64_bits(number: u128) -> u64
     ensures { result ≡ min number (2 ^ 64 - 1) }
@@ -118,6 +126,7 @@ fn image_of(alloc: Global, unit: &B0Unit) -> Result<Image, Memory>
     let ops = add_operations(alloc, unit, unit.heads(), unit.bodies(), &mut code)?;
     let sets = element_names(alloc, unit.sets())?;
     Ok(Image {
+        max: max_of(unit),
         cells: few_cells(unit),
         sets: ElemNames::from_vec(sets),
         ops: OpEntries::from_vec(ops),

@@ -4,6 +4,7 @@ use Rattle.std.specs.Prelude.{All, MatchOption, slice_get}
 use Rattle.std.proofs.lemmas.Option.{get_or_from_slice_get, slice_get_within, slice_get-get_or}
 use Rattle.bk_code.specs.declared.image.Image.{Image}
 use Rattle.bk_code.specs.declared.instruction.Inst.{Inst}
+use Rattle.bk_code.specs.Numbers.{int_max, IsRange}
 use Rattle.bk_code.specs.Checks.{IsGoodEntry, IsNumbered}
 use Rattle.bk_image.specs.declared.fault.LoadFault.{LoadFault}
 use Rattle.bk_image.specs.declared.fault.LoadFault.TheVariants.{BadJump}
@@ -68,10 +69,11 @@ first_inst image e small good some first = record { is = inr (inr (inr (inr firs
 sound_at : (image : Image) (k : ℕ) (i : Inst) → AreSound image image.code (length image.code) → slice_get image.code k ≡ Some i → IsSound image k i
 sound_at image k i sound get = subst (IsSound image k) (get_or_from_slice_get image.code k i i get) (sound k i (slice_get_within image.code k i get))
 
-pub judged_code : (image : Image) (r : Option LoadFault) → IsSmall image → All (IsGoodEntry image) image.ops → 0 < length image.code → length image.code < 2 ^ 32
+pub judged_code : (image : Image) (r : Option LoadFault) → IsRange (int_max image) → IsSmall image → All (IsGoodEntry image) image.ops → 0 < length image.code → length image.code < 2 ^ 32
     → MatchOption r (AreSound image image.code (length image.code)) (λ e. IsFirst (IsCodeFault image) e) → MatchOption r (IsNumbered image × (length image.sets ≤ 65534)) (λ e. IsFirst (IsNumberFault image) e)
-judged_code image None small good some short h = (
+judged_code image None range small good some short h = (
   record {
+    range = range;
     cells = small.0;
     ops = good;
     insts = λ k i get. (sound_at image k i h get).good;
@@ -81,7 +83,7 @@ judged_code image None small good some short h = (
   },
   small.1,
 )
-judged_code image (Some e) small good some short h = first_inst image e small good some h
+judged_code image (Some e) range small good some short h = first_inst image e small good some h
 
 -- where all numbers are right, none is at fault
 pub no_number_fault : (image : Image) (e : LoadFault) → IsNumbered image → length image.sets ≤ 65534 → IsNumberFault image e → ⊥

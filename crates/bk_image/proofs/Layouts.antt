@@ -8,6 +8,7 @@ use Rattle.std.proofs.lemmas.List.{length-append, length-replicate, length-take,
 use Rattle.std.proofs.lemmas.List.Elements.{All-nil, All-cons, All-head, All-tail, All-take, All-append, All-replicate}
 use Rattle.bk_code.specs.declared.image.Image.{Image}
 use Rattle.bk_code.specs.declared.image.OpEntry.{OpEntry}
+use Rattle.bk_code.specs.Numbers.{default_max}
 use Rattle.bk_code.specs.declared.instruction.Inst.{Inst}
 use Rattle.bk_code.specs.declared.instruction.Inst.TheVariants.{Ret}
 use Rattle.bk_image.specs.declared.fault.LoadFault.{LoadFault}
@@ -80,7 +81,7 @@ unfolding spelling
 spelling_is image = ap (λ (h : List ℕ). h ++ flat_map inst image.code) (header_is image) ∙ append_assoc start (body_header image) (flat_map inst image.code)
 
 abbrev from_code : ℕ → List (List (List ℕ)) → List OpEntry → Read (List Inst) → Read Image
-from_code cells sets ops read = read >>= λ code. Ok (record { cells = cells; sets = sets; ops = ops; code = code.0 }, code.1)
+from_code cells sets ops read = read >>= λ code. Ok (record { max = default_max; cells = cells; sets = sets; ops = ops; code = code.0 }, code.1)
 
 abbrev from_ops : ℕ → ℕ → List (List (List ℕ)) → Read (List OpEntry) → Read Image
 from_ops len cells sets read = read >>= λ ops. from_code cells sets ops.0 (code_at len ops.1)
@@ -94,7 +95,7 @@ parts_take len bytes x fits e =
     let a = bind_ok (number_at len w32 bytes) (λ cells. from_sets len cells.0 (counted_at len (set_at len) cells.1)) x e in
     let b = bind_ok (counted_at len (set_at len) a.0.1) (λ sets. from_ops len a.0.0 sets.0 (counted_at len (entry_at len) sets.1)) x a.2 in
     let c = bind_ok (counted_at len (entry_at len) b.0.1) (λ ops. from_code a.0.0 b.0.0 ops.0 (code_at len ops.1)) x b.2 in
-    let d = bind_ok (code_at len c.0.1) (λ code. Ok (record { cells = a.0.0; sets = b.0.0; ops = c.0.0; code = code.0 }, code.1)) x c.2 in
+    let d = bind_ok (code_at len c.0.1) (λ code. Ok (record { max = default_max; cells = a.0.0; sets = b.0.0; ops = c.0.0; code = code.0 }, code.1)) x c.2 in
     let m = bind_ok (number_at len w32 c.0.1) (λ n. items_at (inst_at len) n.0 n.1) d.0 d.1 in
     let ta = (number_reads len w32 wide32).takes bytes a.0 fits a.1 in
     let tb = (sets_reads len).takes a.0.1 b.0 ta.0.rest_fits b.1 in
@@ -106,9 +107,9 @@ parts_take len bytes x fits e =
     let abc = Takes-then bytes (number w32 a.0.0 ++ sets b.0.0) b.0.1 (entries c.0.0) c.0.1 ab tc.0 in
     let abcm = Takes-then bytes (number w32 a.0.0 ++ sets b.0.0 ++ entries c.0.0) c.0.1 (number w32 (length d.0.0)) m.0.1 abc counted in
     let all = Takes-then bytes (number w32 a.0.0 ++ sets b.0.0 ++ entries c.0.0 ++ number w32 (length d.0.0)) m.0.1 (flat_map inst d.0.0) d.0.1 abcm td.0 in
-    let made : Image × List ℕ = (record { cells = a.0.0; sets = b.0.0; ops = c.0.0; code = d.0.0 }, d.0.1) in
+    let made : Image × List ℕ = (record { max = default_max; cells = a.0.0; sets = b.0.0; ops = c.0.0; code = d.0.0 }, d.0.1) in
     subst (λ (y : Image × List ℕ). Takes bytes (body y.0) y.1 × FitsFields y.0) (ok_is made x d.2)
-    (all, record { cells = ta.1; few_sets = tb.1.0; sets = tb.1.1; few_ops = tc.1.0; ops = tc.1.1; few_insts = omega (arith, tm.1, td.1.0); insts = td.1.1 })
+    (all, record { max = refl; cells = ta.1; few_sets = tb.1.0; sets = tb.1.1; few_ops = tc.1.0; ops = tc.1.1; few_insts = omega (arith, tm.1, td.1.0); insts = td.1.1 })
 
 -- the parts up to the number of instructions are read again, whatever is read behind them
 parts_front : (len : ℕ) (image : Image) (rest : List ℕ) → FitsFields image
@@ -137,7 +138,7 @@ record PartsStop (len : ℕ) (bytes : List ℕ) (e : LoadFault) : Type 0 where
 
 -- an image with as many instructions as the count says, of which the first ones were read
 filled : ℕ → List (List (List ℕ)) → List OpEntry → ℕ → List Inst → Image
-filled cells sets ops n read = record { cells = cells; sets = sets; ops = ops; code = read ++ replicate (n - length read) Ret }
+filled cells sets ops n read = record { max = default_max; cells = cells; sets = sets; ops = ops; code = read ++ replicate (n - length read) Ret }
 
 filled_stop : (len : ℕ) (bytes : List ℕ) (e : LoadFault) (cells : ℕ) (sets' : List (List (List ℕ))) (ops : List OpEntry) (n : ℕ) (after : List ℕ)
     → Takes bytes (number w32 cells ++ sets sets' ++ entries ops ++ number w32 n) after → cells < 2 ^ 32 → AreSets sets' → AreEntries ops → n < 2 ^ 32 → StopsAt len n after e → PartsStop len bytes e
@@ -147,6 +148,7 @@ filled_stop len bytes e cells sets' ops n after t small are entered few s =
     record {
       image = filled cells sets' ops n s.read;
       fits = record {
+        max = refl;
         cells = small;
         few_sets = are.0;
         sets = are.1;
@@ -196,7 +198,7 @@ parts_failing len bytes e fits h =
                   | inr c ↦
                       let tc = (entries_reads len).takes b.0.1 c.0 tb.0.rest_fits c.1 in
                       let abc = Takes-then bytes (number w32 a.0.0 ++ sets b.0.0) b.0.1 (entries c.0.0) c.0.1 ab tc.0 in
-                      elim (bind_err (code_at len c.0.1) (λ code. Ok (record { cells = a.0.0; sets = b.0.0; ops = c.0.0; code = code.0 }, code.1)) e c.2) [
+                      elim (bind_err (code_at len c.0.1) (λ code. Ok (record { max = default_max; cells = a.0.0; sets = b.0.0; ops = c.0.0; code = code.0 }, code.1)) e c.2) [
                         | inl stop ↦ code_stop len bytes e a.0.0 b.0.0 c.0.0 c.0.1 abc ta.1 tb.1 tc.1 stop
                         | inr d ↦ absurd cc
                       ]
@@ -268,7 +270,7 @@ image_again : (len : ℕ) (image : Image) (rest : List ℕ) → FitsFields image
 image_again len image rest fits =
     let regrouped : spelling image ++ rest ≡ start ++ (body_header image ++ (flat_map inst image.code ++ rest)) = ap (λ (s : List ℕ). s ++ rest) (spelling_is image) ∙ simp append_assoc in
     ap (image_at len) regrouped ∙ image_front len (body_header image ++ (flat_map inst image.code ++ rest)) ∙ parts_front len image (flat_map inst image.code ++ rest) fits
-    ∙ rw (items_again len (inst_at len) inst FitsInst (inst_reads len) image.code rest fits.insts) refl
+    ∙ rw (items_again len (inst_at len) inst FitsInst (inst_reads len) image.code rest fits.insts) (λ i. Ok (record { max = sym fits.max i; cells = image.cells; sets = image.sets; ops = image.ops; code = image.code }, rest))
 
 -- ---- all of the bytes
 

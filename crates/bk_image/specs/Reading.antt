@@ -4,6 +4,7 @@
 use Rattle.std.specs.Prelude.{◌≡◌, ℕ, zero, suc, ◌-◌, List, [], ◌∷◌, length, take, drop, ℤ, Option, Some, None, Result, Ok, Err, nat_lt, ◌==◌, if◌then◌else◌}
 use Rattle.std.specs.Int.{Width, w16, w32, w64, byte_len, from_be_bytes, cast_signed}
 use Rattle.bk_code.specs.declared.image.Image.{Image}
+use Rattle.bk_code.specs.Numbers.{default_max}
 use Rattle.bk_code.specs.declared.image.OpEntry.{OpEntry}
 use Rattle.bk_code.specs.declared.image.Parameter.{Parameter}
 use Rattle.bk_code.specs.declared.image.CellKind.{CellKind}
@@ -161,7 +162,7 @@ parts_at len bytes = do
   sets ← counted_at len (set_at len) cells.1
   ops ← counted_at len (entry_at len) sets.1
   code ← code_at len ops.1
-  Ok (record { cells = cells.0; sets = sets.0; ops = ops.0; code = code.0 }, code.1)
+  Ok (record { max = default_max; cells = cells.0; sets = sets.0; ops = ops.0; code = code.0 }, code.1)
 
 -- an image, whatever stands behind it
 unfoldable pub image_at : ℕ → List ℕ → Read Image

@@ -1,9 +1,10 @@
 -- The one spelling of an image. All numbers have their highest byte first.
-use Rattle.std.specs.Prelude.{ℕ, ◌+◌, ◌<◌, ◌≤◌, ◌^◌, ℤ, List, [], ◌∷◌, ◌++◌, length, All, FitsSigned}
+use Rattle.std.specs.Prelude.{◌≡◌, ℕ, ◌+◌, ◌<◌, ◌≤◌, ◌^◌, ℤ, List, [], ◌∷◌, ◌++◌, length, All, FitsSigned}
 use Rattle.std.specs.List.{flat_map}
 use Rattle.std.specs.Int.{Width, w16, w32, w64, to_be_bytes, cast_unsigned}
 use Rattle.bk_limits.specs.declared.TheConstants.{MOST_SETS}
 use Rattle.bk_code.specs.declared.image.Image.{Image}
+use Rattle.bk_code.specs.Numbers.{int_max, default_max}
 use Rattle.bk_code.specs.declared.image.OpEntry.{OpEntry}
 use Rattle.bk_code.specs.declared.image.Parameter.{Parameter}
 use Rattle.bk_code.specs.declared.image.CellKind.{CellKind}
@@ -154,8 +155,9 @@ FitsInst (Jump distance) = FitsSigned w32 distance
 FitsInst (JumpZero distance) = FitsSigned w32 distance
 FitsInst _ = Unit {0}
 
--- each number of the image fits its field
+-- each number of the image fits its field; MAXINT has none in version 1, and is the one where no range is said
 pub record FitsFields (image : Image) : Type 0 where
+  pub max : int_max image ≡ default_max
   pub cells : image.cells < 2 ^ 32
   pub few_sets : IsCountable image.sets
   pub sets : All FitsSet image.sets
@@ -164,7 +166,7 @@ pub record FitsFields (image : Image) : Type 0 where
   pub few_insts : length image.code < 2 ^ 32
   pub insts : All FitsInst image.code
 
--- and there are at most 65,534 sets
+-- and there are at most 65,534 sets. An image with another MAXINT than where no range is said has no spelling yet
 pub record HasSpelling (image : Image) : Type 0 where
   pub fits : FitsFields image
   pub few_sets : length image.sets ≤ MOST_SETS

@@ -3,7 +3,7 @@
 //! `at` is the place where a part begins.
 ghost use Rattle.std.specs.Prelude.{◌≡◌, ◌<◌, ◌≤◌, ◌+◌, ◌*◌, ◌^◌, ◌↔◌, IsTrue, length, All, pos, ◌+ℤ◌, ◌-ℤ◌, MatchOption, MatchBool};
 ghost use Rattle.std.specs.List.{flat_map};
-ghost use Rattle.bk_code.specs.Numbers.{IsWithin};
+ghost use Rattle.bk_code.specs.Numbers.{int_max, IsRange, IsWithin};
 ghost use Rattle.bk_code.specs.Checks as checks;
 ghost use Rattle.bk_image.specs.Spelling as spell;
 ghost use Rattle.bk_image.specs.Soundness.{IsSound, AreSound};
@@ -13,13 +13,12 @@ use crate::LoadFault;
 use bk_code::{CellKind, Image, Inst, NameText, NameTexts, OpEntry, Parameter};
 use bk_limits::{MOST_CELLS, MOST_SETS};
 
-/// MAXINT; the least number is its negation.
-const MAX: i64 = 2147483647;
-
-fn is_in_range(n: i64) -> bool
-    ensures { IsTrue result ↔ IsWithin (pos 2147483647) n }
+fn is_in_range(image: &Image, n: i64) -> bool
+    requires { IsRange (int_max image.now) }
+    ensures { IsTrue result ↔ IsWithin (int_max image.now) n }
 {
-    -MAX <= n && n <= MAX
+    let max = image.int_max();
+    -max <= n && n <= max
 }
 
 fn is_kind(image: &Image, kind: CellKind) -> bool
@@ -125,17 +124,20 @@ fn entries_fault(image: &Image, at: usize, entries: &[OpEntry]) -> Option<LoadFa
 }
 
 // Whether an index of an array is outside the range.
-fn has_index_outside(low: i64, count: u32) -> bool
-    requires { 0 < count }
-    ensures { MatchBool result (HasIndexOutside (pos 2147483647) low count)
-        (IsWithin (pos 2147483647) low × IsWithin (pos 2147483647) (low +ℤ pos count -ℤ pos 1)) }
+fn has_index_outside(image: &Image, low: i64, count: u32) -> bool
+    requires range { IsRange (int_max image.now) }
+    requires some { 0 < count }
+    ensures { MatchBool result (HasIndexOutside (int_max image.now) low count)
+        (IsWithin (int_max image.now) low
+        × IsWithin (int_max image.now) (low +ℤ pos count -ℤ pos 1)) }
 {
-    !is_in_range(low) || !is_in_range(low + i64::from(count) - 1)
+    !is_in_range(image, low) || !is_in_range(image, low + i64::from(count) - 1)
 }
 
 #[tactic(auto, using(crate::proofs::Arrays::inside))]
 fn array_fault(image: &Image, at: usize, base: u32, low: i64, count: u32) -> Option<LoadFault>
-    requires { at + 16 < 2 ^ 64 }
+    requires range { IsRange (int_max image.now) }
+    requires room { at + 16 < 2 ^ 64 }
     ensures { MatchOption result (checks.IsArray image.now base low count)
         (λ e. IsFirst (IsArrayFault image.now at base low count) e) }
 {
@@ -145,7 +147,7 @@ fn array_fault(image: &Image, at: usize, base: u32, low: i64, count: u32) -> Opt
     if count == 0 {
         return Some(LoadFault::BadSlot(at + 12));
     }
-    if has_index_outside(low, count) {
+    if has_index_outside(image, low, count) {
         return Some(LoadFault::BadSlot(at + 4));
     }
     None
@@ -162,13 +164,14 @@ fn is_target(image: &Image, from: usize, distance: i32) -> bool
 // An operand that is at fault. The instruction stands at the place `from` of the code.
 #[tactic(auto, using(crate::proofs::Sizes::inst_size))]
 fn operand_fault(image: &Image, from: usize, at: usize, inst: Inst) -> Option<LoadFault>
+    requires range { IsRange (int_max image.now) }
     requires place { from < 2 ^ 32 }
     requires room { at + length (spell.inst inst) < 2 ^ 64 }
     ensures { MatchOption result (checks.IsGoodInst image.now from inst)
         (λ e. IsFirst (IsOperandFault image.now from at inst) e) }
 {
     match inst {
-        Inst::Push(n) if !is_in_range(n) => Some(LoadFault::BadSlot(at + 1)),
+        Inst::Push(n) if !is_in_range(image, n) => Some(LoadFault::BadSlot(at + 1)),
         Inst::Load(slot) if slot >= image.cells => Some(LoadFault::BadSlot(at + 1)),
         Inst::Store(slot) if slot >= image.cells => Some(LoadFault::BadSlot(at + 1)),
         Inst::ALoad { base, low, count } => array_fault(image, at + 1, base, low, count),
@@ -188,6 +191,7 @@ fn is_leaving(inst: Inst) -> bool
 }
 
 fn inst_fault(image: &Image, from: usize, at: usize, inst: Inst) -> Option<LoadFault>
+    requires range { IsRange (int_max image.now) }
     requires place { from < 2 ^ 32 }
     requires room { at + length (spell.inst inst) < 2 ^ 64 }
     ensures { MatchOption result (IsSound image.now from inst)
@@ -214,6 +218,7 @@ pub fn inst_size(inst: Inst) -> usize
 }
 
 fn code_fault(image: &Image, at: usize) -> Option<LoadFault>
+    requires range { IsRange (int_max image.now) }
     requires few { length image.now.code < 2 ^ 32 }
     requires room { at + length (flat_map spell.inst image.now.code) < 2 ^ 64 }
     ensures { MatchOption result (AreSound image.now image.now.code (length image.now.code))
@@ -292,6 +297,7 @@ fn has_too_many_sets(image: &Image) -> bool
 
 /// The first number of an image that is outside its range.
 pub fn number_fault(image: &Image) -> Option<LoadFault>
+    requires range { IsRange (int_max image.now) }
     requires few { length image.now.code < 2 ^ 32 }
     requires room { length (spell.spelling image.now) < 2 ^ 64 }
     ensures { MatchOption result (checks.IsNumbered image.now × (length image.now.sets ≤ MOST_SETS))

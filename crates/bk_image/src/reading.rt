@@ -8,8 +8,8 @@ ghost use Rattle.bk_image.specs.Reading.{Gives, number_at, signed_at, text_at, s
 
 use crate::LoadFault;
 use bk_code::{
-    CellKind, Code, ElemNames, Image, Inst, NameText, NameTexts, OpEntries, OpEntry, Parameter,
-    Parameters, Sequence,
+    CellKind, Code, DEFAULT_MAX, ElemNames, Image, Inst, NameText, NameTexts, OpEntries, OpEntry,
+    Parameter, Parameters, Sequence,
 };
 use std::alloc::Global;
 
@@ -380,6 +380,7 @@ fn all_parts_at(alloc: Global, len: usize, bytes: &[u8]) -> Result<(Image, &[u8]
     let (ops, rest) = all_operations_at(alloc, len, rest)?;
     let (code, rest) = counted_code_at(alloc, len, rest)?;
     let image = Image {
+        max: DEFAULT_MAX,
         cells,
         sets,
         ops,

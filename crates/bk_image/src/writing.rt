@@ -204,7 +204,8 @@ fn put_header(out: &mut Vec<u8>, image: &Image) -> Result<(), Memory>
     put_u32(out, image.code.as_slice().len() as u32)
 }
 
-/// The one spelling of an image that the loader takes.
+/// The one spelling of an image that the loader takes. It is in version 1, which has no field for MAXINT: an image with another one
+/// than `DEFAULT_MAX` has no spelling, as one with too many sets has none.
 #[tactic(auto, unfolding(crate::specs::Spelling::spelling))]
 pub fn write(alloc: Global, image: &Image) -> Result<Vec<u8>, Memory>
     requires loadable { IsLoadable image.now }

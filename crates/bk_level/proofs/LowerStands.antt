@@ -170,6 +170,7 @@ lower-development int_max higher comp d going stand below none room values all-v
     0 higher.levels l (omega arith) lawful.levels (subst (λ k. IsLevelOf new k l) number new-level) in
     record {
       lawful = record {
+        range = lawful.range;
         some_level = omega arith;
         table = record {
           inhabited = All-append (λ (s : SetEntry). 0 < length s.elements) higher.table.sets (entries_of comp.sets) lawful.table.inhabited (all-inhabited comp.sets (none-left (set_faults comp.sets) more said));

@@ -38,6 +38,7 @@ use Rattle.bk_level.proofs.Homes.{homes-all}
 use Rattle.bk_level.proofs.NewLevel.{new-clauses}
 use Rattle.bk_level.proofs.Machines.{machines-right, machine-shapes}
 use Rattle.bk_level.proofs.Verdicts.{answer-right}
+use Rattle.bk_dev.proofs.DefaultRange.{default_range}
 
 -- ---- tables
 all-from : {A : Type 0} (P : A → Type 0) (xs : List A) → ((i : ℕ) (x : A) → slice_get xs i ≡ Some x → P x) → All P xs
@@ -104,6 +105,7 @@ machine-development int_max comp machine no-values none room =
     let going : is_complete new ≡ false = not-implementing comp.kind machine in
     record {
       lawful = record {
+        range = default_range;
         some_level = (let m : 0 < 1 = omega arith in m);
         table = record { inhabited = all-inhabited comp.sets (none-left (set_faults comp.sets) more said); listed = all-listed new.table st.listed; few_sets = room.sets; few_variables = few new room };
         sets = refl;

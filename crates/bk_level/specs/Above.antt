@@ -4,14 +4,14 @@ use Rattle.std.specs.Prelude.{ℕ, suc, ◌-◌, Bool, true, false, List, [], �
 use Rattle.bk_form.specs.Table.{Table, VariableEntry, variable_type, variable_text, empty_table}
 use Rattle.bk_dev.specs.declared.kind.Home.{Home}
 use Rattle.bk_dev.specs.declared.kind.Home.TheVariants.{Constant, Concrete}
-use Rattle.bk_dev.specs.Development.{Development, Level, level_at, body_at, last}
+use Rattle.bk_dev.specs.Development.{Development, Level, level_at, body_at, last, default_max}
 use Rattle.bk_raw.specs.Names.{Names, level_name}
 use Rattle.bk_raw.specs.ScopeReading.{set_names}
 use Rattle.bk_level.specs.Typings.{Typing, or_else, as_variable}
 
--- a development without a level, which stands above a machine
+-- a development without a level, which stands above a machine; its MAXINT is the one where no range is said
 abbrev pub no_development : Development
-no_development = record { table = empty_table; homes = []; sets = []; heads = []; levels = []; values = [] }
+no_development = record { max = default_max; table = empty_table; homes = []; sets = []; heads = []; levels = []; values = [] }
 
 -- the levels above
 abbrev pub above_of : Option Development → Development

@@ -222,6 +222,7 @@ made int_max dev c p =
     let typing = types_at int_max dev c p in
     let table = table_of int_max dev c p in
     record {
+      max = dev.max;
       table = table;
       homes = dev.homes ++ new_homes p c;
       sets = table.sets;

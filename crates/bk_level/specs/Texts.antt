@@ -9,7 +9,7 @@ use Rattle.bk_form.specs.declared.operator.Domain.TheVariants.{Enum}
 use Rattle.bk_gsl.specs.Substitution.{Substitution, assign, any, seq, par}
 use Rattle.bk_dev.specs.declared.kind.Kind.TheVariants.{Machine, Refinement, Implementation}
 use Rattle.bk_dev.specs.declared.kind.Home.TheVariants.{Constant, Input, Abstract, Concrete, Inner}
-use Rattle.bk_dev.specs.Development.{Level, Development, level_at, body_at}
+use Rattle.bk_dev.specs.Development.{Level, Development, level_at, body_at, default_max}
 use Rattle.bk_dev.specs.Counter.{counter, number_at, counter_level, machine_name, implementation_name, reset_name, setmax_name, get_name}
 use Rattle.bk_raw.specs.declared.operator.InfixOp.{InfixOp}
 use Rattle.bk_raw.specs.declared.operator.InfixOp.TheVariants.{Member, Times, TotalFunctions, Interval}
@@ -113,6 +113,7 @@ counter_code_text = component AsImplementation implementation_name (Some (name_a
 -- both, numbered level by level
 abbrev pub counter_made : Development
 counter_made = record {
+  max = default_max;
   table = record { sets = []; variables = number_at 110 48 ∷ number_at 114 48 ∷ number_at 110 49 ∷ number_at 114 49 ∷ [] };
   homes = Abstract 0 ∷ Inner 0 ∷ Concrete 1 ∷ Inner 1 ∷ [];
   sets = [];
@@ -248,6 +249,7 @@ refinement_level = record {
 -- M and R
 abbrev pub refined : Development
 refined = record {
+  max = default_max;
   table = record {
     sets = record { name = s_text; elements = a_text ∷ b_text ∷ [] } ∷ [];
     variables = machine_entries ++ record { text = 118 ∷ 36 ∷ 49 ∷ []; of_type = enum_type 0 } ∷ record { text = 117 ∷ 36 ∷ 49 ∷ []; of_type = int_type } ∷ record { text = t_text; of_type = int_type } ∷ [];

@@ -123,11 +123,12 @@ alone-table start first now given ss vs none same e k =
 
 -- the development below one that is taken apart as old
 pub below-made : (above old : Development) (a : Added) (first now : Table) (given sets : List SetEntry) (homes : List Home) (levels : List Level) → old ≡ above → above.sets ≡ above.table.sets → given ≡ a.sets.items → first ≡ with_sets old.table given → now ≡ with_variables first (variables_added a.variables.items) →
-    sets ≡ old.sets ++ a.sets.items → homes ≡ old.homes ++ a.homes.items → levels ≡ old.levels ++ a.own.items → record { table = now; homes = homes; sets = sets; heads = old.heads; levels = levels; values = a.values.items } ≡ development_below above a
+    sets ≡ old.sets ++ a.sets.items → homes ≡ old.homes ++ a.homes.items → levels ≡ old.levels ++ a.own.items → record { max = old.max; table = now; homes = homes; sets = sets; heads = old.heads; levels = levels; values = a.values.items } ≡ development_below above a
 below-made above old a first now given sets homes levels is same g e k s h l =
     let table : now ≡ record { sets = old.table.sets ++ given; variables = old.table.variables ++ variables_added a.variables.items } = table-made old.table first given (variables_added a.variables.items) now e k in
-    (λ i. record { table = table i; homes = h i; sets = s i; heads = old.heads; levels = l i; values = a.values.items })
+    (λ i. record { max = old.max; table = table i; homes = h i; sets = s i; heads = old.heads; levels = l i; values = a.values.items })
     ∙ ((λ i. record {
+      max = (is i).max;
       table = record { sets = (is i).table.sets ++ g i; variables = (is i).table.variables ++ variables_added a.variables.items };
       homes = (is i).homes ++ a.homes.items;
       sets = (is i).sets ++ a.sets.items;
@@ -155,6 +156,7 @@ entry-more typing n ys y found after number ty h k e a =
 -- with these headers
 abbrev assembled : Added → Development → List Head → Development
 assembled a dev heads = record {
+  max = dev.max;
   table = record { sets = dev.table.sets ++ a.sets.items; variables = dev.table.variables ++ variables_added a.variables.items };
   homes = dev.homes ++ a.homes.items;
   sets = dev.table.sets ++ a.sets.items;
@@ -185,6 +187,7 @@ module _ (a : Added) (max : ℤ) (dev : Development) (c : Component) (p : Plan) 
 
   made-as : (heads : List Head) → heads ≡ (plan dev c).heads → assembled a dev heads ≡ level_below max dev c
   made-as heads h = λ i. record {
+    max = dev.max;
     table = record { sets = dev.table.sets ++ made.sets i; variables = dev.table.variables ++ variables-are i };
     homes = dev.homes ++ homes-are i;
     sets = dev.table.sets ++ made.sets i;

@@ -3,7 +3,7 @@ use Rattle.std.specs.Prelude.{◌≡◌, ℕ, ℤ, Bool, cond, List, [], ◌∷�
 use Rattle.bk_val.specs.ValueType.{ValueType}
 use Rattle.bk_form.specs.Table.{Table, SetEntry, VariableEntry, with_set, with_variable}
 use Rattle.bk_gsl.specs.State.{among}
-use Rattle.bk_dev.specs.Development.{Development}
+use Rattle.bk_dev.specs.Development.{Development, default_max}
 use Rattle.bk_dev.specs.Facts.{home_of, is_variable_of, writes_own}
 use Rattle.bk_elab.specs.declared.error.ElabFault.{ElabFault}
 use Rattle.bk_elab.specs.declared.error.ElabFault.TheVariants.{Fault as FaultAt, Limit, Memory}
@@ -70,9 +70,10 @@ pub record IsMadeBy (a : Added) (int_max : ℤ) (typing : Typing) (p : Plan) (c 
   pub own : a.own.items ≡ level_made int_max typing p c ∷ []
   pub values : a.values.items ≡ values_made int_max typing p.globals c.values
 
--- the development of what a machine adds
+-- the development of what a machine adds, in the range where none is said
 abbrev pub development_of : Added → Development
 development_of a = record {
+  max = default_max;
   table = record { sets = a.sets.items; variables = variables_added a.variables.items };
   homes = a.homes.items;
   sets = a.sets.items;
@@ -84,6 +85,7 @@ development_of a = record {
 -- the development above with what another component adds
 abbrev pub development_below : Development → Added → Development
 development_below dev a = record {
+  max = dev.max;
   table = record { sets = dev.table.sets ++ a.sets.items; variables = dev.table.variables ++ variables_added a.variables.items };
   homes = dev.homes ++ a.homes.items;
   sets = dev.table.sets ++ a.sets.items;

@@ -28,7 +28,7 @@ ghost use Rattle.bk_level.specs.VerdictLaws.{MayStandAbove, HasRoom};
 use crate::room::count_all;
 use crate::static_fault::static_fault;
 use bk_clauses::values::values_made;
-use bk_dev::{Development, EnumSet, Home, Kind, Level, OpHead};
+use bk_dev::{DEFAULT_MAX, Development, EnumSet, Home, Kind, Level, OpHead};
 use bk_elab::{ElabFault, Fault, earlier};
 use bk_exec::arrays::array_domains;
 use bk_exec::executable::executable_fault;
@@ -86,6 +86,16 @@ pub fn level(
     }
     let made = counted(alloc, above, judged.added)?;
     Ok(made)
+}
+
+/// MAXINT of the levels above, or where there are none the one where no range is said.
+pub fn max_of(above: &Option<Development>) -> i64
+    ensures { result ≡ int_max (above_of above.now) }
+{
+    match above {
+        Some(development) => development.int_max(),
+        None => DEFAULT_MAX,
+    }
 }
 
 /// Whether a component declares more names than the limit of names allows. `level` tells so too; who reads several
@@ -348,6 +358,7 @@ fn alone(alloc: Global, added: Added) -> Result<Development, Memory>
     add_sets(alloc, &mut table, &added.sets)?;
     add_variables(&mut table, added.variables)?;
     Ok(Development {
+        max: DEFAULT_MAX,
         table,
         homes: added.homes,
         sets: added.sets,
@@ -364,6 +375,7 @@ fn below(alloc: Global, above: Development, added: Added) -> Result<Development,
     ensures { IfOk result (λ dev. dev ≡ development_below above added) }
 {
     let Development {
+        max,
         mut table,
         mut homes,
         mut sets,
@@ -380,6 +392,7 @@ fn below(alloc: Global, above: Development, added: Added) -> Result<Development,
     homes.append(&mut new_homes)?;
     levels.append(&mut own)?;
     Ok(Development {
+        max,
         table,
         homes,
         sets,

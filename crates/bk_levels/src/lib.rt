@@ -5,4 +5,4 @@ mod levels;
 mod room;
 mod static_fault;
 
-pub use levels::{level, passes_limit_of_names};
+pub use levels::{level, max_of, passes_limit_of_names};

@@ -16,6 +16,7 @@ use Rattle.bk_wp.proofs.Steps.{or-cases}
 use Rattle.bk_po.specs.Examples.{between, plus, getting, inc_head, get_head, tally_table, may_add, adding, tally, stepping, stepper}
 use Rattle.bk_po.specs.Laws.{ExamplesAreDevelopments}
 use Rattle.bk_dev.proofs.Levels.{two-levels}
+use Rattle.bk_dev.proofs.DefaultRange.{default_range}
 
 -- ---- what formulas name
 module _ (visible : ℕ → Bool) where
@@ -164,6 +165,7 @@ tally-implementation = record {
 
 tally_lawful : IsLawful tally
 tally_lawful = record {
+  range = default_range;
   some_level = omega (arith);
   table = tally-table;
   sets = refl;
@@ -301,6 +303,7 @@ stepper-implementation = record {
 
 stepper_lawful : IsLawful stepper
 stepper_lawful = record {
+  range = default_range;
   some_level = omega (arith);
   table = stepper-table;
   sets = refl;

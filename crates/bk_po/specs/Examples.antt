@@ -9,7 +9,7 @@ use Rattle.bk_gsl.specs.Substitution.{skip, assign, if_else}
 use Rattle.bk_dev.specs.declared.kind.Kind.{Kind}
 use Rattle.bk_dev.specs.declared.kind.Kind.TheVariants.{Machine, Implementation}
 use Rattle.bk_dev.specs.declared.kind.Home.TheVariants.{Input, Abstract, Inner, Concrete}
-use Rattle.bk_dev.specs.Development.{Head, Body, Level, Development}
+use Rattle.bk_dev.specs.Development.{Head, Body, Level, Development, default_max}
 use Rattle.bk_dev.specs.Counter.{number_at, counter_table, setting}
 use Rattle.bk_po.specs.Obligations.{numbered_obligations}
 
@@ -63,6 +63,7 @@ adding condition n = setting condition n (plus (variable n) (variable 4))
 -- the machine Tally, whose inc(k) adds k to n, and its implementation
 abbrev pub tally : Development
 tally = record {
+  max = default_max;
   table = tally_table;
   homes = Abstract 0 ∷ Concrete 1 ∷ Inner 0 ∷ Inner 1 ∷ Input ∷ [];
   sets = [];
@@ -79,6 +80,7 @@ stepping n = record { condition = btrue; sub = if_else (binary Lt (variable n) (
 -- the machine Stepper, whose inc adds 1 to n below 10, and its implementation
 abbrev pub stepper : Development
 stepper = record {
+  max = default_max;
   table = counter_table;
   homes = Abstract 0 ∷ Concrete 1 ∷ Inner 0 ∷ Inner 1 ∷ [];
   sets = [];

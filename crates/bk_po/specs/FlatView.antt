@@ -9,6 +9,7 @@ use Rattle.bk_po.specs.declared.flattening.FlatDevelopment.TheInside.{Inside}
 -- what it was made of, with its own table and levels
 abbrev pub flat_view : Inside → Development
 flat_view d = record {
+  max = d.written.now.max;
   table = d.table;
   homes = d.written.now.homes ++ copy_homes 0 d.written.now.levels;
   sets = d.written.now.sets;

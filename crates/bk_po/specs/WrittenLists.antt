@@ -10,7 +10,7 @@ use Rattle.bk_form.specs.declared.operator.Domain.TheVariants.{Integer, Natural}
 use Rattle.bk_gsl.specs.Substitution.{Substitution, assign, any, seq, par, loop}
 use Rattle.bk_dev.specs.declared.kind.Kind.TheVariants.{Machine, Implementation}
 use Rattle.bk_dev.specs.declared.kind.Home.TheVariants.{Abstract, Concrete, Input, Inner}
-use Rattle.bk_dev.specs.Development.{Head, Body, Development}
+use Rattle.bk_dev.specs.Development.{Head, Body, Development, default_max}
 use Rattle.bk_po.specs.Obligations.{numbered_obligations}
 
 -- ---- formulas in few words
@@ -62,6 +62,7 @@ is_whole e = binary In e (named Integer)
 -- over = x := 2147483648, and x := 2147483647 ; x := x + 1
 abbrev pub over : Development
 over = record {
+  max = default_max;
   table = record { sets = []; variables = whole_number (codes "x$0") ∷ whole_number (codes "x$1") ∷ [] };
   homes = Abstract 0 ∷ Concrete 1 ∷ [];
   sets = [];
@@ -107,6 +108,7 @@ swap_table = record {
 -- x, y := 1, 2 at first; swap = x := y || y := x, and VAR t IN t := x ; x := y ; y := t END; a, b <-- both = a, b := x, y
 abbrev pub swap : Development
 swap = record {
+  max = default_max;
   table = swap_table;
   homes = Abstract 0 ∷ Abstract 0 ∷ Concrete 1 ∷ Concrete 1 ∷ Inner 0 ∷ Inner 0 ∷ Inner 1 ∷ Inner 1 ∷ Inner 1 ∷ [];
   sets = [];
@@ -215,6 +217,7 @@ fill_table = record {
 -- fill = f := (0..9) * {7}, and VAR i IN i := 0 ; WHILE .. END END; r <-- read(i) = PRE i : 0..9 THEN r := f(i) END, and r := tab(i)
 abbrev pub fill : Development
 fill = record {
+  max = default_max;
   table = fill_table;
   homes = Abstract 0 ∷ Concrete 1 ∷ Input ∷ Inner 0 ∷ Inner 1 ∷ Inner 1 ∷ [];
   sets = [];

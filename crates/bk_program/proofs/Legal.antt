@@ -24,7 +24,7 @@ use Rattle.bk_code.specs.Run.{End, Done, Trapped, OutOfFuel, Ends}
 use Rattle.bk_code.proofs.Runs.{one_end}
 use Rattle.bk_code.specs.Session.{call_start, first_start, outputs_of, given_out, Request, Told, Answers, Continues, Session}
 use Rattle.bk_dev.specs.B0.{IsScalarName, IsB0Development}
-use Rattle.bk_dev.specs.Development.{Head, Body, Development, blank_body, level_at, body_at, inputs_of, last}
+use Rattle.bk_dev.specs.Development.{Head, Body, Development, blank_body, level_at, body_at, inputs_of, last, int_max}
 use Rattle.bk_dev.specs.Facts.{IsLawful}
 use Rattle.bk_dev.specs.Layout.{is_scalar}
 use Rattle.bk_form.specs.Each.{Each}
@@ -32,7 +32,7 @@ use Rattle.bk_dev.specs.Machine.{Abstract, Opens, Call, IsCall, is_in_int, are_i
 use Rattle.bk_b0.specs.Places.{kind_of_type}
 use Rattle.bk_b0.specs.Translation.{parameter_of, operation_code, operations_code, init_code, entries, translation}
 use Rattle.bk_b0.specs.Kinds.{number_as, as_number, is_of_kind}
-use Rattle.bk_b0.proofs.Numbers.{number-back, of-kind-value}
+use Rattle.bk_b0.proofs.Numbers.{number-back, of-kind-value, bounds-if}
 use Rattle.bk_sim.specs.Shows.{Linked}
 use Rattle.bk_statements.specs.Within.{EndsWithin, HasNoLoop}
 use Rattle.bk_sim.specs.Within.{EndsWithoutLoops}
@@ -117,9 +117,6 @@ numbers_back dev (x ∷ xs) [] h = absurd h
 numbers_back dev (x ∷ xs) (z ∷ zs) h =
     ap (λ y. y ∷ map as_number (as_values dev xs zs)) (number-back dev (declared_type dev.table x) z h.0) ∙ ap (λ ys. z ∷ ys) (numbers_back dev xs zs h.1)
 
-int_le-if : (x y : ℤ) → x ≤ℤ y → int_le x y ≡ true
-int_le-if x y h = grind (arith, ints)
-
 and_both : (a b : Bool) → a ≡ true → b ≡ true → a && b ≡ true
 and_both a b h k = ap (λ x. x && b) h ∙ k
 
@@ -176,8 +173,8 @@ module _ (dev : Development) (f : IsLawful dev) where
   set_kind s name z (Some i) at e = subst (λ n. is_of_kind dev (enum_type s) n ≡ true) (some_number (pos i) z e) (element_kind s i name at)
 
   -- an argument of the kind of a scalar input
-  argument_kind : (t : ValueType) (argument : Argument) (z : ℤ) → is_scalar t ≡ true → value_of (translation dev) (kind_of_type t) argument ≡ Some z → IsWithin (pos 2147483647) z → is_of_kind dev t z ≡ true
-  argument_kind int_type (Number n) z h e w = and_both (int_le (neg_ℤ (pos 2147483647)) z) (int_le z (pos 2147483647)) (int_le-if (neg_ℤ (pos 2147483647)) z w.0) (int_le-if z (pos 2147483647) w.1)
+  argument_kind : (t : ValueType) (argument : Argument) (z : ℤ) → is_scalar t ≡ true → value_of (translation dev) (kind_of_type t) argument ≡ Some z → IsWithin (int_max dev) z → is_of_kind dev t z ≡ true
+  argument_kind int_type (Number n) z h e w = let low : neg_ℤ (int_max dev) ≤ℤ z = w.0 in bounds-if (int_max dev) z (omega (arith, ints, low)) w.1
   argument_kind int_type (Truth b) z h e w = absurd (none-some z e)
   argument_kind int_type (Element name) z h e w = absurd (none-some z e)
   argument_kind bool_type (Number n) z h e w = absurd (none-some z e)
@@ -189,14 +186,14 @@ module _ (dev : Development) (f : IsLawful dev) where
   argument_kind (pair_type t u) argument z h e w = absurd (false≢true h)
   argument_kind (set_type t) argument z h e w = absurd (false≢true h)
 
-  arguments_fit : (xs : List ℕ) (arguments : List Argument) (zs : List ℤ) → Each (IsScalarName dev) xs → AreValues (translation dev) (map (parameter_of dev) xs) arguments zs → All (IsWithin (pos 2147483647)) zs → AreOfKinds dev xs zs
+  arguments_fit : (xs : List ℕ) (arguments : List Argument) (zs : List ℤ) → Each (IsScalarName dev) xs → AreValues (translation dev) (map (parameter_of dev) xs) arguments zs → All (IsWithin (int_max dev)) zs → AreOfKinds dev xs zs
   arguments_fit [] [] [] s v w = tt
   arguments_fit [] [] (z ∷ zs) s v w = absurd v
   arguments_fit [] (a ∷ arguments) zs s v w = absurd v
   arguments_fit (x ∷ xs) [] zs s v w = absurd v
   arguments_fit (x ∷ xs) (a ∷ arguments) [] s v w = absurd v
   arguments_fit (x ∷ xs) (a ∷ arguments) (z ∷ zs) s v w =
-      (argument_kind (declared_type dev.table x) a z s.0.1 v.0 (All-head (IsWithin (pos 2147483647)) z zs w), arguments_fit xs arguments zs s.1 v.1 (All-tail (IsWithin (pos 2147483647)) z zs w))
+      (argument_kind (declared_type dev.table x) a z s.0.1 v.0 (All-head (IsWithin (int_max dev)) z zs w), arguments_fit xs arguments zs s.1 v.1 (All-tail (IsWithin (int_max dev)) z zs w))
 
 -- the inputs of an operation's entry are those of its header
 no_head : Head

@@ -14,7 +14,7 @@ use Rattle.bk_code.specs.Checks.{IsChecked, IsLoadable}
 use Rattle.bk_code.proofs.Sessions.{some_session}
 use Rattle.bk_code.proofs.DeadCode.{loadable_is_checked}
 use Rattle.bk_image.specs.Spelling.{FitsSet, HasSpelling, spelling}
-use Rattle.bk_dev.specs.Development.{Development, level_at, last, is_complete}
+use Rattle.bk_dev.specs.Development.{Development, level_at, last, is_complete, int_max, default_max}
 use Rattle.bk_dev.specs.B0.{IsB0Development}
 use Rattle.bk_dev.specs.Facts.{IsLawful}
 use Rattle.bk_form.specs.Table.{SetEntry, set_size}
@@ -236,7 +236,8 @@ sizes (x ∷ xs) h (suc s) = sizes xs (All-tail FitsSet x.elements (map (λ (y :
 elements_in_range : (dev : Development) → IsLawful dev → IsWithinCodeLimits (translation dev) → HasElementsInRange dev
 elements_in_range dev f w s i below =
     let small : set_size dev.table s < 2 ^ 16 = sizes dev.table.sets (subst (λ (sets : List SetEntry). All FitsSet (map (λ (x : SetEntry). x.elements) sets)) f.sets w.spelled.fits.sets) s in
-    omega (arith, ints, below, small)
+    let most : int_max dev ≡ default_max = w.spelled.fits.max in
+    omega (arith, ints, below, small, most)
 
 -- its translation passes the loader's checks
 translation_loads : (dev : Development) → IsLawful dev → IsB0Development dev → IsWithinCodeLimits (translation dev) → IsLoadable (translation dev)

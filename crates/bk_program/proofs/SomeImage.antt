@@ -1,6 +1,6 @@
 -- Bytes encode an image or have a fault: it cannot be that neither is so.
 use Rattle.std.proofs.Common.{◌≡◌, ◌≢◌, ℕ, zero, suc, ◌+◌, ◌-◌, ◌<◌, ◌≤◌, ◌⊎◌, inl, inr, ℤ, pos, negsuc, List, [], ◌∷◌, ◌++◌, length, get_or, slice_index, Some, refl, sym, ◌∙◌, subst, arith}
-use Rattle.std.specs.Prelude.{◌+ℤ◌, ◌-ℤ◌, ◌<ℤ◌, ◌≤ℤ◌, All, slice_get}
+use Rattle.std.specs.Prelude.{◌+ℤ◌, ◌-ℤ◌, ◌<ℤ◌, ◌≤ℤ◌, All, slice_get, neg_ℤ}
 use Rattle.std.proofs.lemmas.Int.{ints}
 use Rattle.std.proofs.lemmas.Bool.{cases_lt}
 use Rattle.std.proofs.lemmas.List.{append-nil}
@@ -12,7 +12,7 @@ use Rattle.bk_code.specs.declared.image.CellKind.{CellKind}
 use Rattle.bk_code.specs.declared.image.CellKind.TheVariants.{Integer, Bool as TruthValue, Set}
 use Rattle.bk_code.specs.declared.instruction.Inst.{Inst}
 use Rattle.bk_code.specs.declared.instruction.Inst.TheVariants.{Push, Load, Store, ALoad, AStore, Add, Sub, Mul, Div, Mod, Neg, Eq, Lt, Le, Not, Jump, JumpZero, Ret}
-use Rattle.bk_code.specs.Numbers.{int_max, IsWithin}
+use Rattle.bk_code.specs.Numbers.{int_max, IsRange, IsWithin}
 use Rattle.bk_code.specs.Checks.{IsKind, IsGoodParameter, IsGoodEntry, IsArray, IsTarget, IsGoodInst, IsLeaving, IsNumbered, pops, pushes, FlowsTo, IsEmptyAtEnd, IsDepths, LeadsThrough, IsRoot, IsOpen, IsLoadable}
 use Rattle.bk_image.specs.declared.fault.LoadFault.{LoadFault}
 use Rattle.bk_image.specs.declared.fault.LoadFault.TheVariants.{Short, Magic, Version, BadInst, BadJump, BadSlot, Stack, Extra, Memory as NoRoom}
@@ -25,6 +25,7 @@ use Rattle.bk_image.proofs.Following.{inside, flows_go}
 use Rattle.bk_image.proofs.Starting.{in_range}
 use Rattle.bk_image.proofs.Verdicts.{Kind, number_kind, number_fault_of}
 use Rattle.bk_program.proofs.Possible.{Possible, certain, and_then, decide, least, by_smaller, choose}
+use Rattle.bk_code.proofs.Ranges.{default_range}
 
 -- one of two whole numbers is the greater
 ordered : (a b : ℤ) → (a ≤ℤ b) ⊎ (b <ℤ a)
@@ -90,8 +91,8 @@ module _ (image : Image) where
 
   good_number : (n : ℤ) → ((IsWithin (int_max image) n → ⊥) → ⊥) → IsWithin (int_max image) n
   good_number n never = (
-    at_most (negsuc 2147483646) n (λ low. never (λ w. omega (arith, ints, low, w.0))),
-    at_most n (pos 2147483647) (λ high. never (λ w. omega (arith, ints, high, w.1))),
+    at_most (neg_ℤ (int_max image)) n (λ low. never (λ w. omega (arith, ints, low, w.0))),
+    at_most n (int_max image) (λ high. never (λ w. omega (arith, ints, high, w.1))),
   )
 
   good_target : (t : ℤ) → ((IsTarget image t → ⊥) → ⊥) → IsTarget image t
@@ -166,6 +167,7 @@ module _ (image : Image) where
   module _ (fits : FitsFields image) (never : (e : LoadFault) → IsNumberFault image e → ⊥) where
     numbered : IsNumbered image
     numbered = record {
+      range = subst IsRange (sym fits.max) default_range;
       cells = elim (cases_lt 1000000 image.cells) [
         | inl many ↦ absurd (never (BadSlot 6) (inl (refl, many)))
         | inr few ↦ few

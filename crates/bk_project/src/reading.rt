@@ -12,6 +12,8 @@ ghost use Rattle.bk_level.specs.Components.{kind_as};
 ghost use Rattle.bk_level.specs.LevelLaws.{HomesStandInLevels};
 ghost use Rattle.bk_level.specs.Verdict.{verdict_of, accepted};
 ghost use Rattle.bk_level.specs.VerdictLaws.{MayStandAbove};
+ghost use Rattle.bk_levels.specs.Answered.{SaysOfComponent};
+ghost use Rattle.bk_raw.specs.declared.component.ComponentKind.TheVariants.{Implementation};
 ghost use Rattle.bk_files.specs.Files.{IsShallowText, IsFaultOf as AreFilesAtFault};
 ghost use Rattle.bk_project.specs.declared.project_file.LineKind.{LineKind as Kind};
 ghost use Rattle.bk_project.specs.declared.refusal.Refusal.TheVariants.{Fault, Limit};
@@ -27,8 +29,8 @@ use bk_elab::ElabFault;
 use bk_files::{FileFault, cut};
 use bk_form::Token;
 use bk_io::Memory;
-use bk_levels::{level, passes_limit_of_names};
-use bk_limits::{MAXINT, MOST_COMPONENTS};
+use bk_levels::{level, max_of, passes_limit_of_names};
+use bk_limits::MOST_COMPONENTS;
 use bk_p_comp::component;
 use bk_p_expr::SynFault;
 use bk_raw::RawComponent;
@@ -262,10 +264,28 @@ fn next_level(
     ensures complete { IfOk result (λ dev. is_complete dev ≡ is_implementing (kind_as component.now.kind)) }
     ensures refusal { IfErr result (IsNextRefusal above component.now file) }
 {
-    match level(alloc, MAXINT, component, above) {
+    match level_in_range(alloc, component, above) {
         Ok(dev) => Ok(dev),
         Err(ElabFault::Fault { number, place }) => Err(at_fault(number, file, place)),
         Err(ElabFault::Limit(number)) => Err(past_limit(number, file)),
         Err(ElabFault::Memory) => Err(Refusal::Memory),
     }
+}
+
+// The component as one more level, in the range of those above.
+fn level_in_range(
+    alloc: Global,
+    component: &RawComponent,
+    above: Option<Development>,
+) -> Result<Development, ElabFault>
+    requires above { MayStandAbove component.now.kind above }
+    requires homes { HomesStandInLevels (above_of above) }
+    ensures level { IfOk result (λ dev. verdict_of (int_max (above_of above)) above component.now ≡ accepted dev) }
+    ensures fault { IfErr result (SaysOfComponent (verdict_of (int_max (above_of above)) above component.now)) }
+    ensures development { IfOk result IsDevelopment }
+    ensures homes { IfOk result HomesStandInLevels }
+    ensures executable { IfOk result (λ dev. component.now.kind ≡ Implementation → IsLowComponent component.now → IsB0Development dev) }
+{
+    let max = max_of(&above);
+    level(alloc, max, component, above)
 }

@@ -21,6 +21,7 @@ use Rattle.bk_dev.specs.Facts.{is_constant, is_variable_of, home_of, Names, name
 use Rattle.bk_dev.proofs.CounterFacts.{names-none, names-number, names-one}
 use Rattle.bk_sim.specs.Exchange.{exchange_table, set_to, zero_to_two, machine_level, counting_down, swapping, code_level, exchange}
 use Rattle.bk_dev.proofs.Levels.{two-levels}
+use Rattle.bk_dev.proofs.DefaultRange.{default_range}
 
 -- ---- what formulas name
 module _ (visible : ℕ → Bool) where
@@ -185,6 +186,7 @@ code-facts =
 
 exchange-lawful : IsLawful exchange
 exchange-lawful = record {
+  range = default_range;
   some_level = omega (arith);
   table = table-facts;
   sets = refl;

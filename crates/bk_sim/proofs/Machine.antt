@@ -242,7 +242,7 @@ module _ (find : Finder) (dev : Development) (f : IsLawful dev) (b : IsB0Develop
   zeros = replicate (cell_count dev) (pos 0)
 
   zeros-fit : KindsHold dev zeros
-  zeros-fit = zeros-kinds dev (cell_variables dev) (λ x h. zero-fits dev f.table (arrays-typed dev f) (arrays-scalar dev) x (shapes dev b x h))
+  zeros-fit = zeros-kinds dev (cell_variables dev) (λ x h. zero-fits dev f.range f.table (arrays-typed dev f) (arrays-scalar dev) x (shapes dev b x h))
 
   abbrev first_scope : ℕ → Bool
   first_scope = names_own dev (last dev) [] []

@@ -35,6 +35,7 @@ use Rattle.bk_sim.specs.Settling.{settling_table, by_local, by_loop, settling_by
 use Rattle.bk_sim.specs.Laws.{WrongCodesDoNotFollow}
 use Rattle.bk_sim.proofs.ExchangeFacts.{names-both}
 use Rattle.bk_dev.proofs.Levels.{two-levels}
+use Rattle.bk_dev.proofs.DefaultRange.{default_range}
 
 -- ---- it is a development
 table-facts : IsWellFormed settling_table
@@ -123,6 +124,7 @@ module _ (second : Substitution) where
 
   settling-lawful : IsSubOf dev 1 [] [] second → IsLawful dev
   settling-lawful given = record {
+    range = default_range;
     some_level = omega (arith);
     table = table-facts;
     sets = refl;

@@ -23,7 +23,7 @@ use Rattle.bk_form.proofs.Typed.{set-of}
 use Rattle.bk_form.proofs.Valued.{base-of}
 use Rattle.bk_gsl.specs.State.{value_at, declared_type, are_values_for, among, over, firsts}
 use Rattle.bk_gsl.proofs.States.{nat_eq-same, nat_eq-self, or-false, clash}
-use Rattle.bk_dev.specs.Development.{Development}
+use Rattle.bk_dev.specs.Development.{Development, int_max, IsRange}
 use Rattle.bk_form.specs.Each.{Each}
 use Rattle.bk_dev.specs.Facts.{is_constant, home_of, AreDistinct, IsLiteral, IsValue}
 use Rattle.bk_form.specs.Predicates.{AllHold}
@@ -63,12 +63,12 @@ module _ (dev : Development) where
   value-back (set_type t) v s h = absurd (cc)
   value-back _ _ s h = absurd (cc)
 
-  zero-kind : IsWellFormed dev.table → (t : ValueType) → is_scalar t ≡ true → IsTrue (lists_type dev.table t) → is_of_kind dev t (pos 0) ≡ true
-  zero-kind w int_type s h = zero-in dev
-  zero-kind w bool_type s h = refl
-  zero-kind w (enum_type n) s h = (and-both (nat_eq n n) (nat_lt 0 (set_size dev.table n)) (base-of dev.table w (enum_type n) h)).1
-  zero-kind w (pair_type t u) s h = absurd (cc)
-  zero-kind w (set_type t) s h = absurd (cc)
+  zero-kind : IsRange (int_max dev) → IsWellFormed dev.table → (t : ValueType) → is_scalar t ≡ true → IsTrue (lists_type dev.table t) → is_of_kind dev t (pos 0) ≡ true
+  zero-kind range w int_type s h = zero-in dev range
+  zero-kind range w bool_type s h = refl
+  zero-kind range w (enum_type n) s h = (and-both (nat_eq n n) (nat_lt 0 (set_size dev.table n)) (base-of dev.table w (enum_type n) h)).1
+  zero-kind range w (pair_type t u) s h = absurd (cc)
+  zero-kind range w (set_type t) s h = absurd (cc)
 
   listed-at : (vs : List VariableEntry) → All (λ v. IsTrue (lists_type dev.table v.of_type)) vs → (n : ℕ) (t : ValueType) → option_map (λ v. v.of_type) (slice_get vs n) ≡ Some t → IsTrue (lists_type dev.table t)
   listed-at [] a n t h = absurd (cc)
@@ -212,13 +212,13 @@ zeros-kinds dev (x ∷ xs) h =
       subst (AreOfKinds dev xs) (sym (drop-zeros k n (k + n) refl)) (zeros-kinds dev xs (λ y q. h y (or-right (nat_eq y x) (among xs y) q))),
     )
 
-module _ (dev : Development) (w : IsWellFormed dev.table) (typed : ArraysAreTyped dev) (scalars : (x : ℕ) (r : ArrayRow) → row_of (arrays_of dev) x ≡ Some r → has_scalars (variable_type dev.table x) ≡ true) where
+module _ (dev : Development) (range : IsRange (int_max dev)) (w : IsWellFormed dev.table) (typed : ArraysAreTyped dev) (scalars : (x : ℕ) (r : ArrayRow) → row_of (arrays_of dev) x ≡ Some r → has_scalars (variable_type dev.table x) ≡ true) where
   pub zero-fits : (x : ℕ) → IsScalarName dev x ⊎ IsArrayName dev x → is_of_kind dev (cell_type dev x) (pos 0) ≡ true
   zero-fits x (inl s) = subst (λ t. is_of_kind dev t (pos 0) ≡ true) (sym (scalar-type dev x s.0)) (by_type (variable_type dev.table x) refl s.1)
     where
       by_type : (o : Option ValueType) → variable_type dev.table x ≡ o → is_scalar (unwrap_or o bool_type) ≡ true → is_of_kind dev (unwrap_or o bool_type) (pos 0) ≡ true
       by_type None h k = refl
-      by_type (Some t) h k = zero-kind dev w t k (variable-listed dev w x t h)
+      by_type (Some t) h k = zero-kind dev range w t k (variable-listed dev w x t h)
   zero-fits x (inr a) =
       let t = typed x a.0 a.1 in
       let d = a.0.domain in
@@ -226,7 +226,7 @@ module _ (dev : Development) (w : IsWellFormed dev.table) (typed : ArraysAreType
       let cells : cell_type dev x ≡ t.0 = ap (λ o. row_type o (declared_type dev.table x)) a.1 ∙ ap element_type own in
       let plain : is_scalar t.0 ≡ true = sym (ap has_scalars t.1) ∙ scalars x a.0 a.1 in
       let listed = variable-listed dev w x (set_type (pair_type (index_type d) t.0)) t.1 in
-      subst (λ u. is_of_kind dev u (pos 0) ≡ true) (sym cells) (zero-kind dev w t.0 plain (and-both (lists_type dev.table (index_type d)) (lists_type dev.table t.0) listed).1)
+      subst (λ u. is_of_kind dev u (pos 0) ≡ true) (sym cells) (zero-kind dev range w t.0 plain (and-both (lists_type dev.table (index_type d)) (lists_type dev.table t.0) listed).1)
 
 -- ---- arguments
 module _ (dev : Development) where

@@ -17,6 +17,7 @@ use Rattle.bk_dev.proofs.CounterFacts.{names-none, names-number}
 use Rattle.bk_sim.specs.Tower.{tower_table, tower}
 use Rattle.bk_sim.specs.Laws.{TowerIsFollowed}
 use Rattle.bk_sim.proofs.B0Code.{lawful_follows}
+use Rattle.bk_dev.proofs.DefaultRange.{default_range}
 
 -- ---- it is lawful
 table-facts : IsWellFormed tower_table
@@ -138,6 +139,7 @@ last-facts =
 
 tower-lawful : IsLawful tower
 tower-lawful = record {
+  range = default_range;
   some_level = omega (arith);
   table = table-facts;
   sets = refl;

@@ -7,6 +7,7 @@ use Rattle.bk_code.specs.declared.image.Parameter.{Parameter}
 use Rattle.bk_code.specs.declared.image.CellKind.TheVariants.{Integer}
 use Rattle.bk_code.specs.declared.instruction.Inst.{Inst}
 use Rattle.bk_code.specs.declared.instruction.Inst.TheVariants.{Push, Load, Store, Ret}
+use Rattle.bk_dev.specs.Development.{default_max}
 
 -- an operation without inputs
 abbrev pub entry_at : List ℕ → ℕ → List Parameter → OpEntry
@@ -31,6 +32,7 @@ storing n rest = Push (pos n) ∷ Store 0 ∷ Ret ∷ rest
 -- setmax stores this number; n of the implementation is in cell 0, and the output of get in cell 1
 abbrev pub counter_code : ℕ → Image
 counter_code n = record {
+  max = default_max;
   cells = 2;
   sets = [];
   ops = reset_entry ∷ setmax_entry ∷ get_entry ∷ [];

@@ -9,7 +9,7 @@ use Rattle.bk_form.specs.declared.operator.Domain.TheVariants.{Integer}
 use Rattle.bk_gsl.specs.Substitution.{Substitution, assign, any, seq, par, loop}
 use Rattle.bk_dev.specs.declared.kind.Kind.TheVariants.{Machine, Implementation}
 use Rattle.bk_dev.specs.declared.kind.Home.TheVariants.{Abstract, Concrete, Inner}
-use Rattle.bk_dev.specs.Development.{Level, Development}
+use Rattle.bk_dev.specs.Development.{Level, Development, default_max}
 
 -- a variable that holds a whole number
 abbrev pub number_named : List ℕ → VariableEntry
@@ -89,6 +89,7 @@ code_level = record {
 -- the machine with || and its implementation
 abbrev pub exchange : Development
 exchange = record {
+  max = default_max;
   table = exchange_table;
   homes = Abstract 0 ∷ Abstract 0 ∷ Concrete 1 ∷ Concrete 1 ∷ Concrete 1 ∷ Inner 1 ∷ [];
   sets = [];

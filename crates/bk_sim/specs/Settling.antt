@@ -7,7 +7,7 @@ use Rattle.bk_gsl.specs.Substitution.{Substitution, any, seq, loop}
 use Rattle.bk_dev.specs.declared.kind.Kind.{Kind}
 use Rattle.bk_dev.specs.declared.kind.Kind.TheVariants.{Machine, Implementation}
 use Rattle.bk_dev.specs.declared.kind.Home.TheVariants.{Abstract, Concrete, Inner}
-use Rattle.bk_dev.specs.Development.{Level, Development}
+use Rattle.bk_dev.specs.Development.{Level, Development, default_max}
 use Rattle.bk_dev.specs.Machine.{Call}
 use Rattle.bk_code.specs.declared.image.Image.{Image}
 use Rattle.bk_code.specs.declared.image.OpEntry.{OpEntry}
@@ -46,6 +46,7 @@ by_loop = seq (set_to 1 (literal (pos 0))) (loop (binary Lt (variable 1) (litera
 -- the development whose second operation has this body at the implementation; at the machine both are n := 10
 abbrev pub settling_by : Substitution → Development
 settling_by second = record {
+  max = default_max;
   table = settling_table;
   homes = Abstract 0 ∷ Concrete 1 ∷ Inner 1 ∷ [];
   sets = [];
@@ -77,6 +78,7 @@ loop_entry = entry_at (codes "by_loop") 8 []
 -- n is in cell 0 and t in cell 1; the first operation has these four instructions, and the loop's way back goes this far
 abbrev pub settling_code : List Inst → ℤ → Image
 settling_code settle back = record {
+  max = default_max;
   cells = 2;
   sets = [];
   ops = local_entry ∷ loop_entry ∷ [];

@@ -5,7 +5,7 @@ use Rattle.bk_form.specs.Formula.{literal, btrue}
 use Rattle.bk_dev.specs.declared.kind.Kind.{Kind}
 use Rattle.bk_dev.specs.declared.kind.Kind.TheVariants.{Machine, Implementation}
 use Rattle.bk_dev.specs.declared.kind.Home.TheVariants.{Abstract, Concrete}
-use Rattle.bk_dev.specs.Development.{Level, Development}
+use Rattle.bk_dev.specs.Development.{Level, Development, default_max}
 use Rattle.bk_sim.specs.Exchange.{number_named, set_to}
 
 -- n$0 of the machine, n$1 of the implementation and n$2 of the one below it
@@ -29,6 +29,7 @@ tower_level name kind n links = record {
 -- the machine, its implementation, and one more implementation
 abbrev pub tower : Development
 tower = record {
+  max = default_max;
   table = tower_table;
   homes = Abstract 0 ∷ Concrete 1 ∷ Concrete 2 ∷ [];
   sets = [];

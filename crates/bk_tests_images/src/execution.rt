@@ -1,13 +1,12 @@
-ghost use Rattle.std.specs.Prelude.{◌≡◌, ◌≤◌, ◌+◌, IfOk, IsTrue, false};
+ghost use Rattle.std.specs.Prelude.{◌≡◌, ◌≤◌, ◌+◌, ◌↔◌, IfOk, IsTrue, false};
+ghost use Rattle.bk_code.specs.Numbers.{int_max, IsWithin};
 ghost use Rattle.bk_tests_images.specs.Calls.{CanCall};
 
 use crate::encoding::image;
-use bk_code::{Inst, Trap};
+use bk_code::{Image, Inst, Trap};
 use bk_vm::{CallEnd, Machine};
 use std::alloc::Global;
 use std::test::Fail;
-
-const MAX: i64 = 2147483647;
 
 // A machine whose initialisation is a Ret, and whose operation has this code.
 fn machine(alloc: Global, body: &[Inst]) -> Result<Machine, Fail>
@@ -17,17 +16,27 @@ fn machine(alloc: Global, body: &[Inst]) -> Result<Machine, Fail>
     Ok(Machine::new(alloc, image)?)
 }
 
+// Whether a number lies in the range of an image.
+fn is_within(image: &Image, number: i64) -> bool
+    ensures { IsTrue result ↔ IsWithin (int_max image.now) number }
+{
+    let max = i128::from(image.int_max());
+    let number = i128::from(number);
+    -max <= number && number <= max
+}
+
 // Whether the operation may be called with these arguments.
 fn takes(machine: &Machine, args: &[i64]) -> bool
     ensures { IsTrue result → CanCall machine.now args.now }
 {
-    let ops = machine.image().ops.as_slice();
+    let image = machine.image();
+    let ops = image.ops.as_slice();
     machine.is_started()
         && !machine.is_stopped()
         && ops.len() == 1
         && ops[0].inputs.as_slice().len() == args.len()
         && ops[0].outputs.as_slice().len() == 1
-        && args.iter().all(|n| -MAX <= *n && *n <= MAX)
+        && args.iter().all(|n| is_within(image, *n))
 }
 
 // How a call of a body ends, and its output, which is 7 before.

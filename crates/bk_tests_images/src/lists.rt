@@ -17,12 +17,13 @@ fn an_image_keeps_its_lists(rt: HostRuntime) -> Result<(), Fail> {
         outputs: Parameters::from_vec(Vec::new(alloc)),
     };
     let image = Image {
+        max: 127,
         cells: 4,
         sets: ElemNames::from_vec(Vec::new(alloc)),
         ops: OpEntries::from_vec(vec![in alloc; entry]?),
         code: Code::from_vec(vec![in alloc; Inst::Ret, Inst::Ret]?),
     };
-    assert_eq!(rt; image.int_max(), 2147483647);
+    assert_eq!(rt; image.int_max(), 127);
     assert!(rt; image.ops.as_slice()[0].name.as_slice() == b"go".as_slice());
     assert!(rt; image.ops.as_slice()[0].inputs.as_slice() == [input].as_slice());
     assert_eq!(rt; image.code.into_vec().len(), 2);

@@ -12,14 +12,11 @@ use crate::notation::notation;
 use bk_dev::Development;
 use bk_elab::ElabFault;
 use bk_io::Memory;
-use bk_levels::level;
+use bk_levels::{level, max_of};
 use bk_lex::tokens;
 use bk_p_comp::component;
 use bk_raw::{ComponentKind, RawComponent};
 use std::alloc::Global;
-
-/// MAXINT.
-pub(crate) const MAX: i64 = 2147483647;
 
 // A text that is read without its marker, and the byte of the marker, or the text's end.
 #[derive(Drop)]
@@ -134,7 +131,9 @@ fn answer_to(
     ensures right { IfOk result (λ a. IfSome a.development (λ dev. IsDevelopment dev.value)) }
     ensures homes { IfOk result (λ a. IfSome a.development (λ dev. HomesStandInLevels dev.value)) }
 {
-    match level(alloc, MAX, raw, unboxed(above)) {
+    let above = unboxed(above);
+    let max = max_of(&above);
+    match level(alloc, max, raw, above) {
         Ok(development) => Ok(Answer {
             development: Some(Box::new(alloc, development)?),
             told: Told::Nothing,

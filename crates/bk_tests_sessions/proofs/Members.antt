@@ -25,6 +25,7 @@ use Rattle.bk_dev.specs.Flattened.{copied_in_levels}
 use Rattle.bk_dev.specs.Facts.{AllAre, AreDistinct, is_constant, is_variable_of, is_inner_of, home_of, Names, names_constants, names_joined, names_own, binders, all_binders, all_outputs, IsSubOf, IsLevelOf, IsLawful, IsDevelopment}
 use Rattle.bk_tests_sessions.proofs.Drawn.{names_literal, names_truth, names_both, names_under, local_is}
 use Rattle.bk_tests_sessions.specs.Drawn.{family_table, family_homes, zero_to_two, element_at, answering, is_array, all_zero, family_machine, family_code, family, machine_outputs, code_outputs, Rise, IsDrawn, IsFamily}
+use Rattle.bk_dev.proofs.DefaultRange.{default_range}
 
 -- ---- the table and the homes
 and-first : (a b : Bool) → a && b ≡ true → a ≡ true
@@ -199,6 +200,7 @@ code-facts s d =
 
 family-lawful : (s : Substitution) → IsDrawn [] 17 25 s → IsLawful (family s)
 family-lawful s d = record {
+  range = default_range;
   some_level = omega (arith);
   table = table-facts;
   sets = refl;

@@ -18,7 +18,7 @@ use Rattle.bk_dev.specs.declared.kind.Home.{Home}
 use Rattle.bk_dev.specs.declared.kind.Kind.TheVariants.{Machine, Implementation}
 use Rattle.bk_dev.specs.declared.kind.Home.TheVariants.{Input, Concrete, Inner}
 use Rattle.bk_dev.specs.B0.{IsExpression, IsCondition, IsB0, operators_down, EvaluatesShallow}
-use Rattle.bk_dev.specs.Development.{Level, Development}
+use Rattle.bk_dev.specs.Development.{Level, Development, default_max}
 use Rattle.bk_dev.specs.Facts.{Names, StaysIn, binders, LoopsStandIn, MayStandIn, names_joined, names_own, writes_own}
 use Rattle.bk_dev.specs.Layout.{arrays_of}
 
@@ -113,6 +113,7 @@ family_code s = record {
 -- the development whose step does s
 abbrev pub family : Substitution → Development
 family s = record {
+  max = default_max;
   table = family_table;
   homes = family_homes;
   sets = [];

@@ -1,13 +1,14 @@
 // What both kinds of developments are built from.
 
 ghost use Rattle.std.specs.Prelude.{◌≡◌, IfOk, [], ◌∷◌, false};
+ghost use Rattle.bk_dev.specs.Development.{default_max};
 ghost use Rattle.bk_dev.specs.Facts.{IsDevelopment};
 ghost use Rattle.bk_form.specs.Formula.{variable, literal, binary, btrue, named};
 ghost use Rattle.bk_form.specs.declared.operator.BinOp.TheVariants.{In, TotalFunctions};
 ghost use Rattle.bk_form.specs.declared.operator.Domain.TheVariants.{Integer};
 ghost use Rattle.bk_tests_sessions.specs.Drawn.{set_to, zero_to_two, all_zero};
 
-use bk_dev::{Body, Development, Home, Kind, Level, OpHead};
+use bk_dev::{Body, DEFAULT_MAX, Development, Home, Kind, Level, OpHead};
 use bk_fixtures::{always, becomes, binary, interval, leaf, literal, text, unary, variable};
 use bk_form::{BinOp, Domain, Form, Part, UnOp, VarTable};
 use bk_gsl::Sub;
@@ -136,7 +137,7 @@ pub(crate) fn with_links(level: Level, links: Vec<(u32, u32)>) -> Level
     Level { links, ..level }
 }
 
-/// A development without sets and values.
+/// A development without sets and values, in the range where none is said.
 pub(crate) fn development(
     alloc: Global,
     table: VarTable,
@@ -145,6 +146,7 @@ pub(crate) fn development(
     levels: Vec<Level>,
 ) -> Development
     requires { IsDevelopment (record {
+      max = default_max;
       table = table;
       homes = homes.items;
       sets = [];
@@ -153,6 +155,7 @@ pub(crate) fn development(
       values = [];
     }) }
     ensures { result ≡ record {
+      max = default_max;
       table = table;
       homes = homes.items;
       sets = [];
@@ -162,6 +165,7 @@ pub(crate) fn development(
     } }
 {
     Development {
+        max: DEFAULT_MAX,
         table,
         homes,
         sets: Vec::new(alloc),

@@ -1,16 +1,21 @@
 -- From the checks of an image to the execution of one instruction, and from steps to a call's end.
 use Rattle.std.proofs.Common.{◌≡◌, ℕ, ◌+◌, ◌-◌, ◌^◌, ◌<◌, ◌≤◌, ◌⊎◌, inl, inr, refl, sym, subst, arith, Bool, true, false, List, ◌∷◌, length, get_or, Some, None, Ok, ℤ, pos, add-one}
-use Rattle.std.specs.Prelude.{slice_get, slice_index, if◌then◌else◌}
+use Rattle.std.specs.Prelude.{slice_get, slice_index, if◌then◌else◌, Err, suc, negsuc, ◌≤ℤ◌, neg_ℤ, FitsSigned}
+use Rattle.std.specs.Int.{w64}
+use Rattle.std.proofs.lemmas.Int.{ints, fits_signed_from_abs}
 use Rattle.std.proofs.lemmas.List.Elements.{All-weaker}
 use Rattle.std.proofs.lemmas.Option.{slice_get-get_or}
 use Rattle.bk_code.specs.declared.image.Image.{Image}
 use Rattle.bk_code.specs.declared.instruction.Inst.{Inst}
 use Rattle.bk_code.specs.declared.instruction.Inst.TheVariants.{Push, Load, Store, ALoad, AStore, Add, Sub, Mul, Div, Mod, Neg, Eq, Lt, Le, Not, Jump, JumpZero, Ret}
-use Rattle.bk_code.specs.Numbers.{int_max, IsWithin}
-use Rattle.bk_code.specs.Step.{Config, Returns, calculated, is_index, element_cell, row, step}
+use Rattle.bk_code.specs.declared.instruction.Trap.{Trap}
+use Rattle.bk_code.specs.declared.instruction.Trap.TheVariants.{Overflow}
+use Rattle.bk_code.specs.Numbers.{int_max, default_max, IsRange, IsWithin, is_within, bounded}
+use Rattle.bk_code.specs.Step.{Config, GoesOn, Returns, Traps, calculated, is_index, element_cell, row, step}
 use Rattle.bk_code.specs.Run.{Leads}
-use Rattle.bk_code.specs.Checks.{IsLeaving, FlowsTo, pops, pushes}
-use Rattle.bk_code.proofs.Ranges.{abs_from_within, within_from_abs}
+use Rattle.bk_code.specs.Checks.{IsLeaving, FlowsTo, IsGoodInst, pops, pushes}
+use Rattle.bk_code.specs.Laws.{AreCells}
+use Rattle.bk_code.proofs.Ranges.{abs_within, within_from_abs}
 use Rattle.bk_code.proofs.Runs.{keeps_fitting}
 use Rattle.bk_vm.specs.declared.end.CallEnd.TheVariants.{Done, OutOfFuel}
 use Rattle.bk_vm.specs.declared.execute.Flow.{Flow}
@@ -18,7 +23,7 @@ use Rattle.bk_vm.specs.declared.execute.Flow.TheVariants.{Next, Return, Trapped}
 use Rattle.bk_vm.specs.Depth.{tops}
 use Rattle.bk_vm.specs.Ends.{EndsWith}
 use Rattle.bk_vm.proofs.Tops.{length-tops}
-use Rattle.bk_vm.specs.Flows.{IsSmall, outcome_of, standing, IsExecutable, IsReady, IsReadyAfter}
+use Rattle.bk_vm.specs.Flows.{IsSmall, HasRange, HasSmallLow, outcome_of, standing, IsExecutable, IsReady, IsReadyAfter}
 
 -- an instruction that pushes more than it pops goes on to the next place
 grows : (inst : Inst) (at : ℕ) → (pushes inst ≤ pops inst) ⊎ (FlowsTo inst at (at + 1) × (IsLeaving inst → ⊥))
@@ -59,11 +64,61 @@ room image place stack cells inst h is =
           omega arith)
     ]
 
--- a number within the range fits 32 bits
-small : (image : Image) (n : ℤ) → IsWithin (int_max image) n → IsSmall n
-small image n h =
-    let within : IsWithin (pos (2 ^ 31 - 1)) n = h in
-    within_from_abs (2 ^ 31) n (omega (arith, abs_from_within (2 ^ 31 - 1) n within))
+-- a number within a range lies in the widest one, and so does the range's greatest number
+small : (max n : ℤ) → IsRange max → IsWithin max n → IsSmall n
+small max n range h = within_from_abs 4611686018427387903 n (abs_within 4611686018427387903 max n range.greatest h)
+
+range_small : (max : ℤ) → IsRange max → IsSmall max
+range_small max range = let least = range.least in (omega (arith, ints, least), range.greatest)
+
+-- and so does the least index of an array
+low_small : (image : Image) (place : ℕ) (inst : Inst) → IsRange (int_max image) → IsGoodInst image place inst → HasSmallLow inst
+low_small image place (Push n) range good = tt
+low_small image place (Load slot) range good = tt
+low_small image place (Store slot) range good = tt
+low_small image place (ALoad base low count) range good = small (int_max image) low range good.least
+low_small image place (AStore base low count) range good = small (int_max image) low range good.least
+low_small image place Add range good = tt
+low_small image place Sub range good = tt
+low_small image place Mul range good = tt
+low_small image place Div range good = tt
+low_small image place Mod range good = tt
+low_small image place Neg range good = tt
+low_small image place Eq range good = tt
+low_small image place Lt range good = tt
+low_small image place Le range good = tt
+low_small image place Not range good = tt
+low_small image place (Jump distance) range good = tt
+low_small image place (JumpZero distance) range good = tt
+low_small image place Ret range good = tt
+
+-- ---- the range of a loop
+pub default_is : (image : Image) (is_default : Bool) → HasRange image is_default → is_default ≡ true → default_max ≡ int_max image
+default_is image is_default h is = sym (h.usual is)
+
+pub in_default_range : (image : Image) (c : Config) → IsReady image c → int_max image ≡ default_max → HasRange image true
+in_default_range image c h is = record { small = range_small (int_max image) h.numbered.range; usual = λ _. is }
+
+pub in_other_range : (image : Image) (c : Config) → IsReady image c → HasRange image false
+in_other_range image c h = record { small = range_small (int_max image) h.numbered.range; usual = λ is. absurd cc }
+
+-- a number that does not fit 64 bits is outside each range
+fits_from_small : (z : ℤ) → IsSmall z → FitsSigned w64 z
+fits_from_small (pos n) h = let low : n < 2 ^ 62 = omega (arith, ints, h.1) in fits_signed_from_abs w64 (pos n) (omega (arith, low))
+fits_from_small (negsuc n) h = let low : suc n < 2 ^ 62 = omega (arith, ints, h.0) in fits_signed_from_abs w64 (negsuc n) (omega (arith, low))
+
+within_if : (max n : ℤ) → is_within max n ≡ true → IsWithin max n
+within_if max n h = (grind (arith, ints), grind (arith, ints))
+
+within_small : (max n : ℤ) → IsSmall max → IsWithin max n → IsSmall n
+within_small max n m h = within_from_abs 4611686018427387903 n (abs_within 4611686018427387903 max n m.1 h)
+
+overflows : (t : Bool) (max n : ℤ) → is_within max n ≡ t → (IsWithin max n → ⊥) → Err Overflow ≡ (if t then Ok n else Err Overflow)
+overflows true max n is past = absurd (past (within_if max n is))
+overflows false max n is past = refl
+
+pub too_wide : (image : Image) (is_default : Bool) (n : ℤ) → HasRange image is_default → (FitsSigned w64 n → ⊥) → Err Overflow ≡ bounded (int_max image) n
+too_wide image is_default n h wide = overflows (is_within (int_max image) n) (int_max image) n refl (λ w. wide (fits_from_small n (within_small (int_max image) n h.small w)))
 
 pub executable : (image : Image) (place depth : ℕ) (stack cells : List ℤ) (inst : Inst) → length stack ≡ 1000 →
     IsReady image (standing place (tops depth stack) cells) →
@@ -76,11 +131,12 @@ executable image place depth stack cells inst long h is =
     let pop : pops inst ≤ slice_index h.depths place = h.deep.enough place inst is in
     record {
       operands = h.numbered.insts place inst is;
+      low = low_small image place inst h.numbered.range (h.numbered.insts place inst is);
       enough = omega arith;
       deep = omega arith;
       room = rw many at roomy;
       long = long;
-      range = All-weaker (IsWithin (int_max image)) IsSmall (small image) (tops depth stack) h.fits.stack;
+      range = All-weaker (IsWithin (int_max image)) IsSmall (λ n w. small (int_max image) n h.numbered.range w) (tops depth stack) h.fits.stack;
       kept = record { many = h.fits.many; range = h.fits.cells };
     }
 

@@ -1,10 +1,10 @@
 -- What the code that executes one instruction tells.
-use Rattle.std.specs.Prelude.{◌≡◌, ℕ, ◌+◌, ◌-◌, ◌^◌, ◌≤◌, ℤ, pos, List, length, All}
+use Rattle.std.specs.Prelude.{◌≡◌, ℕ, ◌+◌, ◌-◌, ◌^◌, ◌≤◌, ℤ, pos, Bool, true, List, length, All}
 use Rattle.bk_limits.specs.declared.TheConstants.{STACK_ROOM}
 use Rattle.bk_code.specs.declared.image.Image.{Image}
 use Rattle.bk_code.specs.declared.instruction.Inst.{Inst}
-use Rattle.bk_code.specs.declared.instruction.Inst.TheVariants.{Add, Sub, Mul, Div, Mod, Neg, Eq, Lt, Le, Not}
-use Rattle.bk_code.specs.Numbers.{IsWithin}
+use Rattle.bk_code.specs.declared.instruction.Inst.TheVariants.{ALoad, AStore, Add, Sub, Mul, Div, Mod, Neg, Eq, Lt, Le, Not}
+use Rattle.bk_code.specs.Numbers.{int_max, default_max, IsWithin}
 use Rattle.bk_code.specs.Step.{Config, Outcome, Returns, Traps, next}
 use Rattle.bk_code.specs.Checks.{IsNumbered, IsDepths, IsFitting, IsGoodInst, pops, pushes}
 use Rattle.bk_code.specs.Laws.{AreCells}
@@ -24,9 +24,20 @@ KeepsAtEnd (Next place depth) before after = Unit {0}
 KeepsAtEnd Return before after = after ≡ before
 KeepsAtEnd (Trapped kind) before after = after ≡ before
 
--- the number fits 32 bits, so that no sum, difference or product of two such leaves 64 bits
+-- the number lies in the widest range, so that no sum or difference of two such leaves 64 bits
 abbrev pub IsSmall : ℤ → Type 0
-IsSmall = IsWithin (pos (2 ^ 31))
+IsSmall = IsWithin (pos 4611686018427387903)
+
+-- the range of an image is one of those, and it is the default one where that is said
+pub record HasRange (image : Image) (is_default : Bool) : Type 0 where
+  pub small : IsSmall (int_max image)
+  pub usual : is_default ≡ true → int_max image ≡ default_max
+
+-- the least index of an array whose element is read or written lies in the widest range
+abbrev pub HasSmallLow : Inst → Type 0
+HasSmallLow (ALoad base low count) = IsSmall low
+HasSmallLow (AStore base low count) = IsSmall low
+HasSmallLow _ = Unit {0}
 
 -- the instruction takes one or two numbers from the stack and pushes one, and does nothing else
 abbrev pub IsComputation : Inst → Type 0
@@ -49,6 +60,7 @@ standing place stack cells = record { place = place; stack = stack; cells = cell
 -- an instruction may be executed at a place: its operands are good, the stack has what it pops and room for what it pushes
 pub record IsExecutable (image : Image) (place : ℕ) (inst : Inst) (depth : ℕ) (stack cells : List ℤ) : Type 0 where
   pub operands : IsGoodInst image place inst
+  pub low : HasSmallLow inst
   pub enough : pops inst ≤ depth
   pub deep : depth ≤ STACK_ROOM
   pub room : depth - pops inst + pushes inst ≤ STACK_ROOM

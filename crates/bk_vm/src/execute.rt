@@ -1,7 +1,8 @@
 //! The execution of code, one instruction after another.
 //!
 //! The loop of `run` is the machine's speed. The stack is a slice and a depth that is passed by value, so that with all
-//! functions of this file inlined the place, the depth and what was calculated stay in registers.
+//! functions of this file inlined the place, the depth and what was calculated stay in registers. There are two loops of this text:
+//! one for the default MAXINT, which is a constant there, and one for each other.
 ghost use Rattle.std.specs.Prelude.{◌≡◌, ◌≤◌, ◌<◌, ◌^◌, ◌+◌, ℕ, ℤ, pos, ◌+ℤ◌, ◌≤ℤ◌, length, List, [], ◌∷◌, All, Result, Ok, Some, None, IfSome, if◌then◌else◌};
 ghost use Rattle.bk_code.specs.Checks.{IsTarget, IsArray, pops};
 ghost use Rattle.bk_code.specs.Laws.{AreCells};
@@ -9,11 +10,11 @@ ghost use Rattle.bk_code.specs.Numbers.{int_max};
 ghost use Rattle.bk_code.specs.Step as table;
 ghost use Rattle.bk_vm.specs.Depth.{tops};
 ghost use Rattle.bk_vm.specs.Ends.{EndsWith};
-ghost use Rattle.bk_vm.specs.Flows.{IsSmall, IsComputation, IsExecutable, KeepsAtEnd, outcome_of, standing, IsReady, IsReadyAfter};
+ghost use Rattle.bk_vm.specs.Flows.{IsSmall, HasRange, IsComputation, IsExecutable, KeepsAtEnd, outcome_of, standing, IsReady, IsReadyAfter};
 
 use crate::CallEnd;
 use crate::arithmetic::{difference, negation, product, quotient, remainder, sum};
-use bk_code::{Image, Inst, Trap};
+use bk_code::{DEFAULT_MAX, Image, Inst, Trap};
 use bk_limits::STACK_ROOM;
 
 /// Where control goes after an instruction, and the depth of the stack there.
@@ -78,7 +79,14 @@ fn settle(place: usize, stack: &mut [i64], depth: usize, answer: Result<i64, Tra
 
 // Executes an instruction that takes one or two numbers and pushes one.
 #[inline]
-fn compute(image: &Image, inst: Inst, place: usize, stack: &mut [i64], depth: usize) -> Flow
+fn compute<const DEFAULT: bool>(
+    image: &Image,
+    inst: Inst,
+    place: usize,
+    stack: &mut [i64],
+    depth: usize,
+) -> Flow
+    requires greatest { HasRange image.now DEFAULT }
     requires computes { IsComputation inst }
     requires place { place < 2 ^ 32 }
     requires enough { pops inst ≤ depth }
@@ -92,7 +100,7 @@ fn compute(image: &Image, inst: Inst, place: usize, stack: &mut [i64], depth: us
     match inst {
         Inst::Neg => {
             let (a, rest) = take_one(stack, depth);
-            settle(place, stack, rest, negation(image, a))
+            settle(place, stack, rest, negation::<DEFAULT>(image, a))
         }
         Inst::Not => {
             let (a, rest) = take_one(stack, depth);
@@ -100,15 +108,15 @@ fn compute(image: &Image, inst: Inst, place: usize, stack: &mut [i64], depth: us
         }
         Inst::Add => {
             let (a, b, rest) = take_two(stack, depth);
-            settle(place, stack, rest, sum(image, a, b))
+            settle(place, stack, rest, sum::<DEFAULT>(image, a, b))
         }
         Inst::Sub => {
             let (a, b, rest) = take_two(stack, depth);
-            settle(place, stack, rest, difference(image, a, b))
+            settle(place, stack, rest, difference::<DEFAULT>(image, a, b))
         }
         Inst::Mul => {
             let (a, b, rest) = take_two(stack, depth);
-            settle(place, stack, rest, product(image, a, b))
+            settle(place, stack, rest, product::<DEFAULT>(image, a, b))
         }
         Inst::Div => {
             let (a, b, rest) = take_two(stack, depth);
@@ -226,7 +234,7 @@ fn store_element(
 
 // Executes an instruction at a place.
 #[inline]
-fn execute(
+fn execute<const DEFAULT: bool>(
     image: &Image,
     inst: Inst,
     place: usize,
@@ -234,6 +242,7 @@ fn execute(
     depth: usize,
     cells: &mut [i64],
 ) -> Flow
+    requires greatest { HasRange image.now DEFAULT }
     requires place { place < 2 ^ 32 }
     requires executable { IsExecutable image.now place inst depth stack.old cells.old }
     ensures outcome { outcome_of result stack.new cells.new ≡
@@ -272,13 +281,13 @@ fn execute(
             Flow::Next { place, depth: rest }
         }
         Inst::Ret => Flow::Return,
-        _ => compute(image, inst, place, stack, depth),
+        _ => compute::<DEFAULT>(image, inst, place, stack, depth),
     }
 }
 
 // One step of the code from a place.
 #[inline]
-fn step(
+fn step<const DEFAULT: bool>(
     image: &Image,
     code: &[Inst],
     place: usize,
@@ -286,6 +295,7 @@ fn step(
     depth: usize,
     cells: &mut [i64],
 ) -> Flow
+    requires greatest { HasRange image.now DEFAULT }
     requires code { code.now ≡ image.now.code }
     requires long { length stack.old ≡ STACK_ROOM }
     requires ready { IsReady image.now (standing place (tops depth stack.old) cells.old) }
@@ -295,10 +305,11 @@ fn step(
     ensures long { length stack.new ≡ STACK_ROOM }
     ensures ready { IsReadyAfter image.now result stack.new cells.new }
 {
-    execute(image, code[place], place, stack, depth, cells)
+    execute::<DEFAULT>(image, code[place], place, stack, depth, cells)
 }
 
 /// Runs the code from a place, with an empty stack, until it returns, traps or is out of fuel.
+#[tactic(auto, using(crate::proofs::Steps::in_default_range, crate::proofs::Steps::in_other_range))]
 pub fn run(image: &Image, start: usize, stack: &mut [i64], cells: &mut [i64], fuel: u64) -> CallEnd
     requires long { length stack.old ≡ STACK_ROOM }
     requires ready { IsReady image.now (standing start [] cells.old) }
@@ -306,12 +317,34 @@ pub fn run(image: &Image, start: usize, stack: &mut [i64], cells: &mut [i64], fu
     ensures kept { AreCells image.now cells.new }
     ensures long { length stack.new ≡ STACK_ROOM }
 {
+    if image.int_max() == DEFAULT_MAX {
+        run_in::<true>(image, start, stack, cells, fuel)
+    } else {
+        run_in::<false>(image, start, stack, cells, fuel)
+    }
+}
+
+// The same in the range that is said.
+fn run_in<const DEFAULT: bool>(
+    image: &Image,
+    start: usize,
+    stack: &mut [i64],
+    cells: &mut [i64],
+    fuel: u64,
+) -> CallEnd
+    requires greatest { HasRange image.now DEFAULT }
+    requires long { length stack.old ≡ 1000 }
+    requires ready { IsReady image.now (standing start [] cells.old) }
+    ensures ends { EndsWith image.now fuel (standing start [] cells.old) result cells.new }
+    ensures kept { AreCells image.now cells.new }
+    ensures long { length stack.new ≡ 1000 }
+{
     let code = image.code.as_slice();
     let mut place = start;
     let mut depth = 0;
     let mut steps = 0;
     while steps < fuel {
-        match step(image, code, place, stack, depth, cells) {
+        match step::<DEFAULT>(image, code, place, stack, depth, cells) {
             Flow::Next {
                 place: next,
                 depth: deep,

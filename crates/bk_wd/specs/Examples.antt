@@ -65,7 +65,7 @@ pub record WellDefinedExamples : Type 0 where
   -- !x.({y | y : x..9 & 6 / y = 2} = {}) asks !x.!y.(y : x..9 => not(y = 0)): the range's x stands one binder further out
   pub raised : (table : Table) → defined table [] (for_all (int_type ∷ []) (binary Eq (comprehension (formula_and (up_to_nine (bound 0)) no_formulas) (quotient (bound 0))) (empty_set (set_type int_type)))) ≡ for_all (int_type ∷ []) (for_all (int_type ∷ []) (binary Imp (binary In (bound 0) (up_to_nine (bound 1))) (not_zero (bound 0))))
 
--- MAXINT of this project
+-- MAXINT where no range is said
 abbrev pub int_max : ℤ
 int_max = MAXINT
 

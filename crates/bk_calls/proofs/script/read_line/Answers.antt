@@ -19,7 +19,7 @@ returns-in_err-args-clause-err c =
     let given : Some arguments ≡ all_kept (arguments_in (pieces c.in_ok-name.inside.now)) = ap (option_map (λ arguments. map held arguments.items)) (sym c.in_ok-arguments.ensures.ok_part) ∙ c.in_ok-arguments_of.ensures in
     let named : Some c.in_ok-op.op ≡ named_op image c.in_ok-name.name.now = sym c.in_ok-op.ensures.ok_part ∙ c.named_op.ensures in
     let found : None ≡ values_of image inputs arguments = ap (option_map (λ values. values.items)) (sym c.in_err-args.ensures.ok_part) ∙ c.in_ok-values.ensures ∙ ap (λ t. values_of image inputs (map held t)) c.deref.ensures.value in
-    let is : read_line image line ≡ Err WrongArguments = read_from image line c.in_ok-name.name.now c.in_ok-name.inside.now arguments c.in_ok-op.op inputs parts given named c.inputs-inputs.ensures None found in
+    let is : read_line image line ≡ Err WrongArguments = read_from image line c.in_ok-name.name.now c.in_ok-name.inside.now arguments c.in_ok-op.op inputs c.requires.range parts given named c.inputs-inputs.ensures None found in
     search (rules, is)
 
 pub returns-then-not-are_within-clause-err : goal.returns-then-not-are_within-clause-err
@@ -34,7 +34,7 @@ returns-then-not-are_within-clause-err c =
     let named : Some c.in_ok-op.op ≡ named_op image c.in_ok-name.name.now = sym c.in_ok-op.ensures.ok_part ∙ c.named_op.ensures in
     let found : Some numbers ≡ values_of image inputs arguments = ap (option_map (λ values. values.items)) (sym c.in_ok-args.ensures.ok_part) ∙ c.in_ok-values.ensures ∙ ap (λ t. values_of image inputs (map held t)) c.deref.ensures.value in
     let out : list_all (is_within (int_max image)) numbers ≡ false = ap (list_all (is_within (int_max image))) (sym c.deref-2.ensures.value) ∙ sym c.are_within.ensures ∙ c.if-not-are_within.true in
-    (refl, read_from image line c.in_ok-name.name.now c.in_ok-name.inside.now arguments c.in_ok-op.op inputs parts given named c.inputs-inputs.ensures (Some numbers) found ∙ leaves image c.in_ok-op.op numbers out)
+    (refl, read_from image line c.in_ok-name.name.now c.in_ok-name.inside.now arguments c.in_ok-op.op inputs c.requires.range parts given named c.inputs-inputs.ensures (Some numbers) found ∙ leaves image c.in_ok-op.op numbers out)
 
 pub returns-clause-ok : goal.returns-clause-ok
 returns-clause-ok c =
@@ -48,5 +48,5 @@ returns-clause-ok c =
     let named : Some c.in_ok-op.op ≡ named_op image c.in_ok-name.name.now = sym c.in_ok-op.ensures.ok_part ∙ c.named_op.ensures in
     let found : Some numbers ≡ values_of image inputs arguments = ap (option_map (λ values. values.items)) (sym c.in_ok-args.ensures.ok_part) ∙ c.in_ok-values.ensures ∙ ap (λ t. values_of image inputs (map held t)) c.deref.ensures.value in
     let fits : list_all (is_within (int_max image)) numbers ≡ true = ap (list_all (is_within (int_max image))) (sym c.deref-2.ensures.value) ∙ sym c.are_within.ensures ∙ c.if-not-are_within.false in
-    read_from image line c.in_ok-name.name.now c.in_ok-name.inside.now arguments c.in_ok-op.op inputs parts given named c.inputs-inputs.ensures (Some numbers) found
+    read_from image line c.in_ok-name.name.now c.in_ok-name.inside.now arguments c.in_ok-op.op inputs c.requires.range parts given named c.inputs-inputs.ensures (Some numbers) found
     ∙ fits_as image c.in_ok-op.op numbers (request_of record { op = c.in_ok-op.op; args = c.from_vec-args.result }) refl c.from_vec-args.ensures fits

@@ -1,5 +1,7 @@
-use Rattle.std.proofs.Common.{arith, ap, length}
+use Rattle.std.proofs.Common.{arith, ap, subst, sym, length}
 use Rattle.std.proofs.lemmas.Result.{err_from_is_err_and}
+use Rattle.bk_code.specs.Numbers.{IsRange}
+use Rattle.bk_code.proofs.Ranges.{default_range}
 use Rattle.bk_image.proofs.Layouts.{layout_take}
 use Rattle.bk_image.proofs.Verdicts.{layout_fault_of, number_fault_of}
 use Rattle.bk_image.proofs.loader.load_in_rounds.Goals as goal
@@ -12,6 +14,10 @@ returns-in_err-image-clause-fault c =
 pub number_fault-requires-clause-few : goal.number_fault-requires-clause-few
 number_fault-requires-clause-few c =
     (layout_take c.args.bytes.now c.in_ok-image.image (λ i. omega (arith, c.type_inv.bytes i)) c.in_ok-image.ensures.read).1.few_insts
+
+pub number_fault-requires-clause-range : goal.number_fault-requires-clause-range
+number_fault-requires-clause-range c =
+    subst IsRange (sym (layout_take c.args.bytes.now c.in_ok-image.image (λ i. omega (arith, c.type_inv.bytes i)) c.in_ok-image.ensures.read).1.max) default_range
 
 pub number_fault-requires-clause-room : goal.number_fault-requires-clause-room
 number_fault-requires-clause-room c =

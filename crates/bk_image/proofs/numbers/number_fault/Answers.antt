@@ -54,4 +54,4 @@ returns c =
     let some : 0 < length image.code = omega (arith, other, same) in
     let count : c.entries_end-count.result ≡ count_place image = omega (arith, ops_end image, c.ops_begin-ops.ensures, c.entries_end-count.ensures, ap (λ ops. length (flat_map entry ops)) c.as_slice-2.ensures) in
     let judged = subst (λ at. MatchOption c.code_fault.result (AreSound image image.code (length image.code)) (λ e. IsFirst (IsFaultIn inst (IsOneInstFault image) (at + 4) image.code) e)) count c.code_fault.ensures in
-    judged_code image c.code_fault.result (c.if-image-gt-MOST_CELLS.false, c.if-has_too_many_sets.ensures) good some c.requires.few judged
+    judged_code image c.code_fault.result c.requires.range (c.if-image-gt-MOST_CELLS.false, c.if-has_too_many_sets.ensures) good some c.requires.few judged

@@ -5,6 +5,7 @@ use Rattle.bk_dev.specs.Facts.{IsDevelopment}
 use Rattle.bk_levels.specs.Answered.{variables_added}
 use Rattle.bk_levels.proofs.Assembling.{listed-by, inhabited-by, sets-added, alone-table}
 use Rattle.bk_levels.proofs.levels.alone.Goals as goal
+use Rattle.bk_dev.specs.Development.{default_max}
 
 pub add_sets-requires-clause-inhabited : goal.add_sets-requires-clause-inhabited
 add_sets-requires-clause-inhabited c =
@@ -24,7 +25,7 @@ add_variables-requires-clause-few c =
 
 pub returns : goal.returns
 returns c =
-    ap (λ (t : Table). record { table = t; homes = c.args.added.homes.items; sets = c.args.added.sets.items; heads = c.args.added.heads.items; levels = c.args.added.own.items; values = c.args.added.values.items })
+    ap (λ (t : Table). record { max = default_max; table = t; homes = c.args.added.homes.items; sets = c.args.added.sets.items; heads = c.args.added.heads.items; levels = c.args.added.own.items; values = c.args.added.values.items })
     (alone-table c.new-table.result c.add_sets.new.table c.add_variables.new.table c.deref.result.now c.args.added.sets.items (variables_added c.args.added.variables.items) c.new-table.ensures c.deref.ensures.value c.in_ok-add_sets.ensures c.in_ok-add_variables.ensures)
 
 pub invariant_of-result : goal.invariant_of-result

@@ -2,10 +2,10 @@ use Rattle.std.proofs.Common.{◌≡◌, ◌-◌, ◌≤◌, [], length}
 use Rattle.bk_code.specs.Run.{Leads}
 use Rattle.bk_vm.specs.Depth.{tops}
 use Rattle.bk_vm.specs.Flows.{standing, IsReady}
-use Rattle.bk_vm.proofs.execute.run.Given as goal
+use Rattle.bk_vm.proofs.execute.run_in.Given as goal
 
 abbrev pub invariant-loop-steps : goal.invariant-loop-steps
-invariant-loop-steps l = record {
+invariant-loop-steps g l = record {
   within : l.steps ≤ l.fuel;
   leads : Leads l.image l.steps (standing l.fn.start [] l.fn.cells) (standing l.place (tops l.depth l.stack) l.cells);
   ready : IsReady l.image (standing l.place (tops l.depth l.stack) l.cells);
@@ -14,4 +14,4 @@ invariant-loop-steps l = record {
 }
 
 abbrev pub decreases-loop-steps : goal.decreases-loop-steps
-decreases-loop-steps l = l.fuel - l.steps
+decreases-loop-steps g l = l.fuel - l.steps
