@@ -1,6 +1,7 @@
 -- The whole numbers that the machine computes with.
 use Rattle.std.specs.Prelude.{ℤ, pos, neg_ℤ, ◌≤ℤ◌, Bool, ◌&&◌, int_le, Result, Ok, Err, if◌then◌else◌, int_div, int_rem}
 use Rattle.std.specs.Ordering.{int_eq}
+use Rattle.bk_limits.specs.declared.TheConstants.{MAXINT, GREATEST_MAXINT}
 use Rattle.bk_code.specs.declared.image.Image.{Image}
 use Rattle.bk_code.specs.declared.instruction.Trap.{Trap}
 use Rattle.bk_code.specs.declared.instruction.Trap.TheVariants.{Overflow, DivZero, ModRange}
@@ -11,12 +12,12 @@ int_max image = image.max
 
 -- MAXINT where no range is said
 abbrev pub default_max : ℤ
-default_max = pos 2147483647
+default_max = MAXINT
 
 -- MAXINT may be each number from 1, since TRUE is 1, to the greatest with which a sum of two numbers of the range fits 64 bits
 pub record IsRange (max : ℤ) : Type 0 where
   pub least : pos 1 ≤ℤ max
-  pub greatest : max ≤ℤ pos 4611686018427387903
+  pub greatest : max ≤ℤ GREATEST_MAXINT
 
 -- the number lies in the range -max .. max
 abbrev pub IsWithin : ℤ → ℤ → Type 0

@@ -2,9 +2,10 @@
 ghost use Rattle.std.specs.Prelude.{◌≡◌};
 
 use crate::{Inst, Sequence};
+use bk_limits::MAXINT;
 
 /// MAXINT where no range is said.
-pub const DEFAULT_MAX: i64 = 2147483647;
+pub const DEFAULT_MAX: i64 = MAXINT;
 
 /// A name as bytes.
 pub type NameText = Sequence<u8>;

@@ -1,5 +1,6 @@
 -- A development: a machine, its chain of refinements and at most one implementation (B-Book, Theory of Abstract Machines and Refinement).
 use Rattle.std.specs.Prelude.{ℕ, ◌-◌, ℤ, pos, ◌≤ℤ◌, Bool, true, false, cond, List, [], length, slice_index_or}
+use Rattle.bk_limits.specs.declared.TheConstants.{MAXINT, GREATEST_MAXINT}
 use Rattle.bk_form.specs.Table.{Table, SetEntry}
 use Rattle.bk_form.specs.Sized.{sized_from, with_sizes}
 use Rattle.bk_form.specs.Formula.{Formula, btrue}
@@ -55,12 +56,12 @@ int_max dev = dev.max
 
 -- MAXINT where no range is said
 abbrev pub default_max : ℤ
-default_max = pos 2147483647
+default_max = MAXINT
 
 -- MAXINT may be each number from 1, since TRUE is 1, to the greatest with which a sum of two numbers of the range fits 64 bits
 pub record IsRange (max : ℤ) : Type 0 where
   pub least : pos 1 ≤ℤ max
-  pub greatest : max ≤ℤ pos 4611686018427387903
+  pub greatest : max ≤ℤ GREATEST_MAXINT
 
 -- what stands for a body that is not there: skip, with no precondition
 abbrev pub blank_body : Body

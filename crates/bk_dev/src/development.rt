@@ -8,10 +8,11 @@ use crate::kind::{Home, Kind};
 use bk_form::{Form, VarTable};
 use bk_gsl::Sub;
 use bk_io::Text;
+use bk_limits::MAXINT;
 use std::marker::Model;
 
 /// MAXINT where no range is said.
-pub const DEFAULT_MAX: i64 = 2147483647;
+pub const DEFAULT_MAX: i64 = MAXINT;
 
 /// A set, as the SETS clause of the machine gives it: an enumerated set with its elements' names, or a deferred set, which has no
 /// names, and whose size is 0 until VALUES gives it one.
@@ -119,7 +120,7 @@ impl Model for Level {
 /// stands nowhere outside its binder.
 #[derive(Drop)]
 pub struct Development {
-    /// MAXINT, from 1 to 4611686018427387903: the numbers of an implementation are those from `-max` to `max`.
+    /// MAXINT, from 1 to `GREATEST_MAXINT`: the numbers of an implementation are those from `-max` to `max`.
     pub max: i64,
     pub table: VarTable,
     /// Where each variable of the table is at home.

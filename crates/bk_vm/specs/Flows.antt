@@ -1,6 +1,6 @@
 -- What the code that executes one instruction tells.
 use Rattle.std.specs.Prelude.{◌≡◌, ℕ, ◌+◌, ◌-◌, ◌^◌, ◌≤◌, ℤ, pos, Bool, true, List, length, All}
-use Rattle.bk_limits.specs.declared.TheConstants.{STACK_ROOM}
+use Rattle.bk_limits.specs.declared.TheConstants.{STACK_ROOM, GREATEST_MAXINT}
 use Rattle.bk_code.specs.declared.image.Image.{Image}
 use Rattle.bk_code.specs.declared.instruction.Inst.{Inst}
 use Rattle.bk_code.specs.declared.instruction.Inst.TheVariants.{ALoad, AStore, Add, Sub, Mul, Div, Mod, Neg, Eq, Lt, Le, Not}
@@ -26,7 +26,7 @@ KeepsAtEnd (Trapped kind) before after = after ≡ before
 
 -- the number lies in the widest range, so that no sum or difference of two such leaves 64 bits
 abbrev pub IsSmall : ℤ → Type 0
-IsSmall = IsWithin (pos 4611686018427387903)
+IsSmall = IsWithin GREATEST_MAXINT
 
 -- the range of an image is one of those, and it is the default one where that is said
 pub record HasRange (image : Image) (is_default : Bool) : Type 0 where
