@@ -5,6 +5,7 @@ ghost use Rattle.bk_raw.specs.Blame.{blame};
 ghost use Rattle.bk_elab.specs.Shown.{told};
 ghost use Rattle.bk_elab.specs.Visible.{visible_names};
 ghost use Rattle.bk_raw.specs.Binders.{is_text, twice};
+ghost use Rattle.bk_raw.specs.Faults.{twice_named};
 ghost use Rattle.bk_level.specs.Above.{names_at_level};
 ghost use Rattle.bk_level.specs.Binders.{texts};
 ghost use Rattle.bk_level.specs.Components as written;
@@ -163,7 +164,7 @@ fn taken_sets(names: &[Visible<'_>], sets: &[&RawSet]) -> Option<Fault>
 #[tactic(auto, using(bk_raw::proofs::Blamed::blames))]
 fn taken_set(names: &[Visible<'_>], set: &RawSet) -> Option<Fault>
     ensures { told result ≡ blame (
-        cond (is_text (meant.named_texts (visible_names names.now)) set.now.name.text) ((6, set.now.name.at) ∷ []) []
+        cond (is_text (meant.named_texts (visible_names names.now)) set.now.name.text) (twice_named set.now.name.at ∷ []) []
         ++ meant.taken (meant.named_texts (visible_names names.now)) set.now.elements) }
 {
     let own = taken_one(names, &set.name);
@@ -196,7 +197,7 @@ fn taken_constants(names: &[Visible<'_>], constants: &[&RawName]) -> Option<Faul
 // That of a name that is one of these.
 fn taken_one(names: &[Visible<'_>], name: &RawName) -> Option<Fault>
     ensures { told result ≡ blame (
-        cond (is_text (meant.named_texts (visible_names names.now)) name.now.text) ((6, name.now.at) ∷ []) []) }
+        cond (is_text (meant.named_texts (visible_names names.now)) name.now.text) (twice_named name.now.at ∷ []) []) }
 {
     second_if(is_visible(names, name.text.as_bytes()), name.at)
 }
@@ -242,7 +243,7 @@ fn operations_fault(operations: &[&RawOperation]) -> Option<Fault>
 // That of an operation whose name one of those before has.
 fn named_again(before: &[&RawOperation], operation: &RawOperation) -> Option<Fault>
     ensures { told result ≡ blame (
-        cond (is_text (texts (written.operation_names (refs before.now))) operation.now.name.text) ((6, operation.now.name.at) ∷ []) []) }
+        cond (is_text (texts (written.operation_names (refs before.now))) operation.now.name.text) (twice_named operation.now.name.at ∷ []) []) }
 {
     let again = is_named(before, operation.name.text.as_bytes());
     second_if(again, operation.name.at)

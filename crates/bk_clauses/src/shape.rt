@@ -11,7 +11,7 @@ ghost use Rattle.bk_sight.specs.Shown.{branches_shown};
 
 use bk_dev::Kind;
 use bk_elab::{Fault, earlier};
-use bk_raw::{RawBranch, RawSub, RawSubNode};
+use bk_raw::{FaultKind, RawBranch, RawSub, RawSubNode};
 use bk_sight::binders::last_of;
 
 // The fault of an operation or a substitution, unless the test holds.
@@ -22,7 +22,7 @@ pub(crate) fn unless(holds: bool, at: usize) -> Option<Fault>
         return None;
     }
     Some(Fault {
-        number: 10,
+        kind: FaultKind::WrongOperation,
         place: at,
     })
 }

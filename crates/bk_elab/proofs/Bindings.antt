@@ -12,12 +12,13 @@ use Rattle.bk_raw.specs.Printed.{printed_bounds, type_read, wrong_number, wrong_
 use Rattle.bk_raw.specs.declared.term.RawBound.{RawBound}
 use Rattle.bk_elab.specs.declared.binder.Ranged.{Ranged as RangedName}
 use Rattle.bk_raw.specs.FreeNames.{is_among}
-use Rattle.bk_raw.specs.Outcome.{Fault, Outcome, silent, clean, no_type}
+use Rattle.bk_raw.specs.Outcome.{Outcome, silent, clean, no_type}
 use Rattle.bk_raw.specs.declared.term.RawName.{RawName}
 use Rattle.bk_raw.specs.Blame.{blame, earlier}
 use Rattle.bk_elab.specs.declared.sight.Local.{Local}
 use Rattle.bk_elab.specs.Sights.{bounds_of, ranges_as, TypesOf}
 use Rattle.bk_raw.proofs.Blamed.{blame-joins, earlier-joins}
+use Rattle.bk_raw.specs.Faults.{Fault, twice_named, without_type}
 use Rattle.bk_elab.proofs.Twice.{texts_onto}
 
 -- ---- names that stand twice
@@ -50,7 +51,7 @@ one-blamed false f = refl
 
 -- what is told of the names from the i-th on
 pub twice-step : (xs : List RawName) (i : ℕ) (d : RawName) → i < length xs → blame (twice (texts_onto [] (take i xs)) (drop i xs)) ≡
-    earlier (cond (is_among (get_or xs i d).text (take i xs)) (Some (6, (get_or xs i d).at)) None) (blame (twice (texts_onto [] (take (i + 1) xs)) (drop (i + 1) xs)))
+    earlier (cond (is_among (get_or xs i d).text (take i xs)) (Some (twice_named ((get_or xs i d).at))) None) (blame (twice (texts_onto [] (take (i + 1) xs)) (drop (i + 1) xs)))
 twice-step xs i d h = go (get_or xs i d) (texts_onto [] (take i xs)) (drop_more xs i d h)
     (ap (λ (n : ℕ). texts_onto [] (take n xs)) (suc-of i) ∙ texts-last [] xs i d h)
     (texts-among [] (take i xs) (get_or xs i d).text ∙ or-false (is_among (get_or xs i d).text (take i xs)))
@@ -59,51 +60,51 @@ twice-step xs i d h = go (get_or xs i d) (texts_onto [] (take i xs)) (drop_more 
     suc-of n = omega arith
 
     go : (x : RawName) (onto : List (List ℕ)) → drop i xs ≡ x ∷ drop (i + 1) xs → texts_onto [] (take (i + 1) xs) ≡ x.text ∷ onto → is_text onto x.text ≡ is_among x.text (take i xs) →
-        blame (twice onto (drop i xs)) ≡ earlier (cond (is_among x.text (take i xs)) (Some (6, x.at)) None) (blame (twice (texts_onto [] (take (i + 1) xs)) (drop (i + 1) xs)))
+        blame (twice onto (drop i xs)) ≡ earlier (cond (is_among x.text (take i xs)) (Some (twice_named x.at)) None) (blame (twice (texts_onto [] (take (i + 1) xs)) (drop (i + 1) xs)))
     go x onto next more seen =
         ap (λ (ys : List RawName). blame (twice onto ys)) next
-        ∙ (blame-joins (cond (is_text onto x.text) ((6, x.at) ∷ []) []) (twice (x.text ∷ onto) (drop (i + 1) xs))
-        ∙ (ap (λ (o : Option Fault). earlier o (blame (twice (x.text ∷ onto) (drop (i + 1) xs)))) (one-blamed (is_text onto x.text) (6, x.at))
-        ∙ (ap (λ (b : Bool). earlier (cond b (Some (6, x.at)) None) (blame (twice (x.text ∷ onto) (drop (i + 1) xs)))) seen
-        ∙ ap (λ (ts : List (List ℕ)). earlier (cond (is_among x.text (take i xs)) (Some (6, x.at)) None) (blame (twice ts (drop (i + 1) xs)))) (sym more))))
+        ∙ (blame-joins (cond (is_text onto x.text) (twice_named x.at ∷ []) []) (twice (x.text ∷ onto) (drop (i + 1) xs))
+        ∙ (ap (λ (o : Option Fault). earlier o (blame (twice (x.text ∷ onto) (drop (i + 1) xs)))) (one-blamed (is_text onto x.text) (twice_named x.at))
+        ∙ (ap (λ (b : Bool). earlier (cond b (Some (twice_named x.at)) None) (blame (twice (x.text ∷ onto) (drop (i + 1) xs)))) seen
+        ∙ ap (λ (ts : List (List ℕ)). earlier (cond (is_among x.text (take i xs)) (Some (twice_named x.at)) None) (blame (twice ts (drop (i + 1) xs)))) (sym more))))
 
 -- what is told of one name more, and what is told so far
 pub twice-more : (xs : List RawName) (i : ℕ) (x : RawName) (b : Bool) (before after whole : Option Fault) → i < length xs → x ≡ get_or xs i x → is_among x.text (take i xs) ≡ b →
-    earlier before (blame (twice (texts_onto [] (take i xs)) (drop i xs))) ≡ whole → after ≡ earlier before (cond b (Some (6, x.at)) None) →
+    earlier before (blame (twice (texts_onto [] (take i xs)) (drop i xs))) ≡ whole → after ≡ earlier before (cond b (Some (twice_named x.at)) None) →
     earlier after (blame (twice (texts_onto [] (take (i + 1) xs)) (drop (i + 1) xs))) ≡ whole
 twice-more xs i x b before after whole h g e k f =
     let rest : Option Fault = blame (twice (texts_onto [] (take (i + 1) xs)) (drop (i + 1) xs)) in
-    let this : cond (is_among (get_or xs i x).text (take i xs)) (Some (6, (get_or xs i x).at)) None ≡ cond b (Some (6, x.at)) None =
-    ap (λ (y : RawName). cond (is_among y.text (take i xs)) (Some (6, y.at)) None) (sym g) ∙ ap (λ (c : Bool). cond c (Some (6, x.at)) None) e in
+    let this : cond (is_among (get_or xs i x).text (take i xs)) (Some (twice_named ((get_or xs i x).at))) None ≡ cond b (Some (twice_named x.at)) None =
+    ap (λ (y : RawName). cond (is_among y.text (take i xs)) (Some (twice_named y.at)) None) (sym g) ∙ ap (λ (c : Bool). cond c (Some (twice_named x.at)) None) e in
     ap (λ (o : Option Fault). earlier o rest) f
-    ∙ (earlier-joins before (cond b (Some (6, x.at)) None) rest
+    ∙ (earlier-joins before (cond b (Some (twice_named x.at)) None) rest
     ∙ (ap (λ (o : Option Fault). earlier before (earlier o rest)) (sym this)
     ∙ (ap (earlier before) (sym (twice-step xs i x h)) ∙ k)))
 
 -- ---- names without types
-untyped-one : (o : Option ValueType) (at : ℕ) → blame (cond (has_type o) [] (no_type at)) ≡ cond (has_type o) None (Some (8, at))
+untyped-one : (o : Option ValueType) (at : ℕ) → blame (cond (has_type o) [] (no_type at)) ≡ cond (has_type o) None (Some (without_type at))
 untyped-one None at = refl
 untyped-one (Some t) at = refl
 
-pub untyped-step : (b : Bound) (bs : List Bound) → blame (untyped_faults (b ∷ bs)) ≡ earlier (cond (has_type b.of_type) None (Some (8, b.at))) (blame (untyped_faults bs))
+pub untyped-step : (b : Bound) (bs : List Bound) → blame (untyped_faults (b ∷ bs)) ≡ earlier (cond (has_type b.of_type) None (Some (without_type b.at))) (blame (untyped_faults bs))
 untyped-step b bs = blame-joins (cond (has_type b.of_type) [] (no_type b.at)) (untyped_faults bs) ∙ ap (λ (o : Option Fault). earlier o (blame (untyped_faults bs))) (untyped-one b.of_type b.at)
 
 -- of a type that is missing or not
-missing : (o : Option ValueType) (at : ℕ) → ◌≡◌ {A = Option Fault} (cond (has_type o) None (Some (8, at))) (cond (is_none o) (Some (8, at)) None)
+missing : (o : Option ValueType) (at : ℕ) → ◌≡◌ {A = Option Fault} (cond (has_type o) None (Some (without_type at))) (cond (is_none o) (Some (without_type at)) None)
 missing None at = refl
 missing (Some t) at = refl
 
 -- what is told of one name more without a type, and what is told so far
 untyped-onto : (x : Bound) (xs : List Bound) (b : Bool) (before after whole : Option Fault) → is_none x.of_type ≡ b →
-    earlier before (blame (untyped_faults (x ∷ xs))) ≡ whole → after ≡ earlier before (cond b (Some (8, x.at)) None) → earlier after (blame (untyped_faults xs)) ≡ whole
+    earlier before (blame (untyped_faults (x ∷ xs))) ≡ whole → after ≡ earlier before (cond b (Some (without_type x.at)) None) → earlier after (blame (untyped_faults xs)) ≡ whole
 untyped-onto x xs b before after whole e k f =
     ap (λ (o : Option Fault). earlier o (blame (untyped_faults xs))) f
-    ∙ (earlier-joins before (cond b (Some (8, x.at)) None) (blame (untyped_faults xs))
-    ∙ (ap (λ (o : Option Fault). earlier before (earlier o (blame (untyped_faults xs)))) (ap (λ (c : Bool). cond {A = Option Fault} c (Some (8, x.at)) None) (sym e) ∙ sym (missing x.of_type x.at))
+    ∙ (earlier-joins before (cond b (Some (without_type x.at)) None) (blame (untyped_faults xs))
+    ∙ (ap (λ (o : Option Fault). earlier before (earlier o (blame (untyped_faults xs)))) (ap (λ (c : Bool). cond {A = Option Fault} c (Some (without_type x.at)) None) (sym e) ∙ sym (missing x.of_type x.at))
     ∙ (ap (earlier before) (sym (untyped-step x xs)) ∙ k)))
 
 pub untyped-more : (ls : List Local) (i : ℕ) (x : Local) (b : Bool) (before after whole : Option Fault) → i < length ls → x ≡ get_or ls i x → is_none x.ty ≡ b →
-    earlier before (blame (untyped_faults (bounds_of (drop i ls)))) ≡ whole → after ≡ earlier before (cond b (Some (8, x.at)) None) → earlier after (blame (untyped_faults (bounds_of (drop (i + 1) ls)))) ≡ whole
+    earlier before (blame (untyped_faults (bounds_of (drop i ls)))) ≡ whole → after ≡ earlier before (cond b (Some (without_type x.at)) None) → earlier after (blame (untyped_faults (bounds_of (drop (i + 1) ls)))) ≡ whole
 untyped-more ls i x b before after whole h g e k f =
     let next : drop i ls ≡ x ∷ drop (i + 1) ls = drop_more ls i x h ∙ ap (λ (y : Local). y ∷ drop (i + 1) ls) (sym g) in
     untyped-onto (record { text = x.text.now; at = x.at; of_type = x.ty }) (bounds_of (drop (i + 1) ls)) b before after whole e
@@ -114,7 +115,7 @@ range-missing None = refl
 range-missing (Some r) = refl
 
 pub unranged-next : (ls : List RangedName) (i : ℕ) (x : RangedName) (b : Bool) (before after whole : Option Fault) → i < length ls → x ≡ get_or ls i x → is_none x.range ≡ b →
-    earlier before (blame (untyped_faults (as_bound (ranges_as (drop i ls))))) ≡ whole → after ≡ earlier before (cond b (Some (8, x.at)) None) → earlier after (blame (untyped_faults (as_bound (ranges_as (drop (i + 1) ls))))) ≡ whole
+    earlier before (blame (untyped_faults (as_bound (ranges_as (drop i ls))))) ≡ whole → after ≡ earlier before (cond b (Some (without_type x.at)) None) → earlier after (blame (untyped_faults (as_bound (ranges_as (drop (i + 1) ls))))) ≡ whole
 unranged-next ls i x b before after whole h g e k f =
     let next : drop i ls ≡ x ∷ drop (i + 1) ls = drop_more ls i x h ∙ ap (λ (y : RangedName). y ∷ drop (i + 1) ls) (sym g) in
     untyped-onto (record { text = x.text.now; at = x.at; of_type = range_type x.range }) (as_bound (ranges_as (drop (i + 1) ls))) b before after whole (range-missing x.range ∙ e)

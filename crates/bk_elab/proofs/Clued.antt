@@ -17,10 +17,11 @@ use Rattle.bk_elab.specs.Forms.{two_reading}
 use Rattle.bk_elab.specs.Kept.{gives_no_range}
 use Rattle.bk_elab.proofs.Lasting.{form-gives}
 use Rattle.bk_raw.specs.Names.{Names}
-use Rattle.bk_raw.specs.Outcome.{Fault, Outcome, Reading}
+use Rattle.bk_raw.specs.Outcome.{Outcome, Reading}
 use Rattle.bk_raw.specs.Binders.{Bound, typed_by, told_by, Ranged, unranged, as_bound, inside, ranged_by, ranges_by, is_and, is_used, left_over, twice, comprehended, abstracted, body_of}
 use Rattle.bk_raw.specs.TermReading.{clues, premise_clues, ranges, rest, reading, part, place_of, name_of, names_one}
 use Rattle.bk_raw.specs.Blame.{blame}
+use Rattle.bk_raw.specs.Faults.{Fault}
 use Rattle.bk_elab.specs.declared.blame.Fault.{Fault as ToldFault}
 use Rattle.bk_elab.specs.declared.outcome.Step.{Step}
 use Rattle.bk_elab.specs.declared.sight.Reader.{Reader}

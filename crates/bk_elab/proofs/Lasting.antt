@@ -14,12 +14,13 @@ use Rattle.bk_raw.specs.declared.term.RawName.{RawName}
 use Rattle.bk_raw.specs.RawTree.{RawTree, raw, RawTreeNode, raw_constant, raw_word, raw_infix, raw_pair, raw_empty_set, raw_extension, RawTrees, no_trees, tree_and}
 use Rattle.bk_raw.specs.FreeNames.{conjuncts}
 use Rattle.bk_raw.specs.Names.{Names}
-use Rattle.bk_raw.specs.Outcome.{Fault, Joint, union_joint, inter_joint, minus_joint, over_joint, Partial, whole, hollow, single_of, pair_of, joint_of, whole_of, Outcome, partial, ranging, holding, silent, Reading, silently, plainly, ask_value, ask_set, ask_domain, of_answer, of_answers, joins}
+use Rattle.bk_raw.specs.Outcome.{Joint, union_joint, inter_joint, minus_joint, over_joint, Partial, whole, hollow, single_of, pair_of, joint_of, whole_of, Outcome, partial, ranging, holding, silent, Reading, silently, plainly, ask_value, ask_set, ask_domain, of_answer, of_answers, joins}
 use Rattle.bk_raw.specs.OperatorReadings.{word_reading, domain_made, infix_reading, times, joint, minus, minus_by, one_type_by, joined, on_values, paired, pair_reading, singled, single_reading, extended}
 use Rattle.bk_raw.specs.Binders.{Bound, bound_names, inside, as_single, Ranged, unranged, ranged_as, ranged_by, ranges_by, first_range, as_bound, range_type}
 use Rattle.bk_raw.specs.TermReading.{place_of, is_predicate, is_alike, part, name_of, names_one, takes_predicate, is_connective, strict_faults, behind_faults, spoilt_by, from_one, from_two, reading, node_reading, elements_reading, extension_reading, ranges}
 use Rattle.bk_raw.proofs.BoundNames.{no-name, or-cases, either}
 use Rattle.bk_raw.proofs.Filled.{and-both}
+use Rattle.bk_raw.specs.Faults.{Fault, not_predicate}
 use Rattle.bk_elab.specs.Conjuncts.{IsRight}
 use Rattle.bk_elab.specs.declared.form.TwoParts.TheVariants.{Infix}
 use Rattle.bk_elab.specs.declared.outcome.Step.{Step}
@@ -47,14 +48,14 @@ IsHollow _ = ⊥
 part-domain : (w : Bool) (t : RawTree) (r : Reading) → IsDomain r.outcome → IsDomain (part w t r).outcome
 part-domain w t r h = by (is_alike w (is_predicate t))
   where
-    by : (c : Bool) → IsDomain (cond c r (silently ((9, place_of t) ∷ r.faults))).outcome
+    by : (c : Bool) → IsDomain (cond c r (silently (not_predicate (place_of t) ∷ r.faults))).outcome
     by true = h
     by false = tt
 
 part-hollow : (w : Bool) (t : RawTree) (r : Reading) → IsHollow r.outcome → IsHollow (part w t r).outcome
 part-hollow w t r h = by (is_alike w (is_predicate t))
   where
-    by : (c : Bool) → IsHollow (cond c r (silently ((9, place_of t) ∷ r.faults))).outcome
+    by : (c : Bool) → IsHollow (cond c r (silently (not_predicate (place_of t) ∷ r.faults))).outcome
     by true = h
     by false = tt
 
@@ -309,7 +310,7 @@ hollow-gives o (ranging f t there) h = absurd h
 hollow-gives o (holding f) h = absurd h
 
 predicate-gives : (o : InfixOp) (d : RawTree) (r : Reading) → is_predicate d ≡ true → range_told o (part false d r).outcome ≡ None
-predicate-gives o d r h = ap (λ (c : Bool). range_told o (cond (is_alike false c) r (silently ((9, place_of d) ∷ r.faults))).outcome) h ∙ silent-gives o
+predicate-gives o d r h = ap (λ (c : Bool). range_told o (cond (is_alike false c) r (silently (not_predicate (place_of d) ∷ r.faults))).outcome) h ∙ silent-gives o
 
 -- a right side of such a form gives no range
 pub form-gives : (m : ℤ) (names : Names) (o : InfixOp) (d : RawTree) → gives_no_range d ≡ true → range_told o (part false d (reading m names d)).outcome ≡ None
@@ -346,7 +347,7 @@ none-gives _ (holding f) h = no-name h
 pub lasting-gives : (o : InfixOp) (d : RawTree) (r : Reading) → is_lasting o r.outcome ≡ true → range_told o (part false d r).outcome ≡ None
 lasting-gives o d r h = by (is_alike false (is_predicate d))
   where
-    by : (c : Bool) → range_told o (cond c r (silently ((9, place_of d) ∷ r.faults))).outcome ≡ None
+    by : (c : Bool) → range_told o (cond c r (silently (not_predicate (place_of d) ∷ r.faults))).outcome ≡ None
     by true = none-gives o r.outcome h
     by false = silent-gives o
 
@@ -399,8 +400,8 @@ lasting-joins o at a d r q s h e = by o q.outcome refl h
     silent-same k = both-same q s (sym k ∙ bare-silent s.outcome (ap bare_outcome k ∙ ap (λ (z : Reading). z.outcome) e)) faults
 
     element : (f : Formula) (t : ValueType) → partial (whole f t) ≡ q.outcome → is_set_type t ≡ false → (c : Bool) →
-        from_two (infix_reading Member at (place_of a) (place_of d)) (part false a r) (cond c q (silently ((9, place_of d) ∷ q.faults))) ≡ from_two (infix_reading Member at (place_of a) (place_of d)) (part false a r) (cond c s (silently ((9, place_of d) ∷ s.faults)))
-    element f t k h false = ap (λ (fs : List Fault). from_two (infix_reading Member at (place_of a) (place_of d)) (part false a r) (silently ((9, place_of d) ∷ fs))) faults
+        from_two (infix_reading Member at (place_of a) (place_of d)) (part false a r) (cond c q (silently (not_predicate (place_of d) ∷ q.faults))) ≡ from_two (infix_reading Member at (place_of a) (place_of d)) (part false a r) (cond c s (silently (not_predicate (place_of d) ∷ s.faults)))
+    element f t k h false = ap (λ (fs : List Fault). from_two (infix_reading Member at (place_of a) (place_of d)) (part false a r) (silently (not_predicate (place_of d) ∷ fs))) faults
     element f t k h true =
         let same = ap (λ (z : Outcome). infix_reading Member at (place_of a) (place_of d) (part false a r).outcome z) (sym k)
         ∙ same-element (place_of a) (place_of d) (part false a r).outcome s.outcome f t h (ap bare_outcome k ∙ ap (λ (z : Reading). z.outcome) e) in

@@ -3,6 +3,7 @@ use Rattle.std.proofs.Common.{◌≡◌, ◌∷◌, refl, Bool, true, false, con
 use Rattle.bk_raw.specs.Outcome.{Reading, silently}
 use Rattle.bk_raw.specs.RawTree.{RawTree}
 use Rattle.bk_raw.specs.TermReading.{part, place_of, is_predicate, is_alike}
+use Rattle.bk_raw.specs.Faults.{not_predicate}
 
 alike : (wanted b : Bool) (x y : Reading) → b ≡ wanted → cond (is_alike wanted b) x y ≡ x
 alike true true x y e = refl
@@ -18,10 +19,10 @@ unlike false true x y e = refl
 
 -- it is what is wanted
 pub part-same : (wanted : Bool) (t : RawTree) (r : Reading) → is_predicate t ≡ wanted → part wanted t r ≡ r
-part-same wanted t r e = alike wanted (is_predicate t) r (silently ((9, place_of t) ∷ r.faults)) e
+part-same wanted t r e = alike wanted (is_predicate t) r (silently (not_predicate (place_of t) ∷ r.faults)) e
 
 -- it is the other one
-pub part-other : (wanted : Bool) (t : RawTree) (r : Reading) → (is_predicate t ≡ wanted → ⊥) → part wanted t r ≡ silently ((9, place_of t) ∷ r.faults)
-part-other wanted t r e = unlike wanted (is_predicate t) r (silently ((9, place_of t) ∷ r.faults)) e
+pub part-other : (wanted : Bool) (t : RawTree) (r : Reading) → (is_predicate t ≡ wanted → ⊥) → part wanted t r ≡ silently (not_predicate (place_of t) ∷ r.faults)
+part-other wanted t r e = unlike wanted (is_predicate t) r (silently (not_predicate (place_of t) ∷ r.faults)) e
 
 pub ruleset places = (part-same, part-other)

@@ -6,7 +6,7 @@ use Rattle.bk_form.specs.Formula.{Formula}
 use Rattle.bk_raw.specs.RawView.{ranges_of}
 use Rattle.bk_raw.specs.declared.term.RawRange.{RawRange}
 use Rattle.bk_raw.specs.Names.{Names, count_locals}
-use Rattle.bk_raw.specs.Outcome.{Fault, Reading, ask_set}
+use Rattle.bk_raw.specs.Outcome.{Reading, ask_set}
 use Rattle.bk_raw.specs.Binders.{Ranged}
 use Rattle.bk_raw.specs.Printed.{RangeRead, wrong_number, printed_ranges, wrong_ranges}
 use Rattle.bk_raw.specs.TermReading.{reading, range_reads}
@@ -19,6 +19,7 @@ use Rattle.bk_elab.specs.declared.sight.Reader.{Reader}
 use Rattle.bk_elab.specs.Shown.{told, IsRead}
 use Rattle.bk_elab.specs.Sights.{around_of, names_of, read_by, ranges_as, range_as, IsRangeOf, Stands}
 use Rattle.bk_raw.proofs.Blamed.{blame-joins, earlier-joins}
+use Rattle.bk_raw.specs.Faults.{Fault}
 use Rattle.bk_elab.proofs.Readings.{read-after}
 use Rattle.bk_elab.proofs.Sighted.{all-counted}
 

@@ -6,7 +6,8 @@ use Rattle.bk_form.specs.declared.operator.UnOp.TheVariants.{Not}
 use Rattle.bk_form.specs.declared.operator.BinOp.{BinOp}
 use Rattle.bk_raw.specs.declared.operator.InfixOp.{InfixOp}
 use Rattle.bk_raw.specs.declared.operator.InfixOp.TheVariants.{Relations, PartialFunctions, TotalFunctions, PartialInjections, TotalInjections, PartialSurjections, TotalSurjections, Bijections, Interval, Plus, Divide, Mod, Power, StrictSubset}
-use Rattle.bk_raw.specs.Outcome.{Fault, Partial, whole, Outcome, Asked, ask, whole_of, filled}
+use Rattle.bk_raw.specs.Outcome.{Partial, whole, Outcome, Asked, ask, whole_of, filled}
+use Rattle.bk_raw.specs.Faults.{Fault, not_predicate}
 use Rattle.bk_elab.specs.declared.operator.Places.{Places}
 use Rattle.bk_elab.specs.declared.operator.Alike.{Alike}
 use Rattle.bk_elab.specs.declared.operator.Alike.TheVariants.{Both, Neither, Different}
@@ -72,5 +73,5 @@ IsAlike a p q = IsAlikeBy a (whole_of p) (whole_of q) p q
 
 -- the fault of an operator at a byte within a side of `<<:`, if it is one itself
 abbrev pub strict_here : ℕ → InfixOp → List Fault
-strict_here at StrictSubset = (9, at) ∷ []
+strict_here at StrictSubset = not_predicate at ∷ []
 strict_here at _ = []

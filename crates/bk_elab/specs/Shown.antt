@@ -1,7 +1,8 @@
 -- What the program's faults and outcomes stand for.
 use Rattle.std.specs.Prelude.{◌≡◌, List, Option, None, Some}
-use Rattle.bk_raw.specs.Outcome.{Fault, Outcome, partial, ranging, holding, silent, Reading, Asked}
+use Rattle.bk_raw.specs.Outcome.{Outcome, partial, ranging, holding, silent, Reading, Asked}
 use Rattle.bk_raw.specs.Blame.{blame}
+use Rattle.bk_raw.specs.Faults.{Fault, told_as}
 use Rattle.bk_elab.specs.declared.blame.Fault.{Fault as ToldFault}
 use Rattle.bk_elab.specs.declared.error.ElabFault.{ElabFault}
 use Rattle.bk_elab.specs.declared.error.ElabFault.TheVariants.{Fault as FaultAt, Limit, Memory}
@@ -11,7 +12,7 @@ use Rattle.bk_elab.specs.declared.outcome.Step.{Step}
 
 -- a fault, as its number and its place
 abbrev pub fault_of : ToldFault → Fault
-fault_of f = (f.number, f.place)
+fault_of f = (f.kind, f.place)
 
 -- the fault that is told, if one is
 abbrev pub told : Option ToldFault → Option Fault
@@ -32,7 +33,7 @@ pub record IsRead (s : Step) (r : Reading) : Type 0 where
 
 -- what an answer other than a formula says of the faults in a term: the first of them; no limit is told of a term
 abbrev pub SaysOf : List Fault → ElabFault → Type 0
-SaysOf faults (FaultAt number place) = blame faults ≡ Some (number, place)
+SaysOf faults (FaultAt number place) = (f : Fault) × (blame faults ≡ Some f) × (told_as f ≡ (number, place))
 SaysOf faults (Limit n) = ⊥
 SaysOf faults Memory = Unit {0}
 

@@ -6,9 +6,10 @@ ghost use Rattle.bk_val.specs.ValueType.{ValueType};
 ghost use Rattle.bk_form.specs.Formula.{Formula, comprehension, lambda, formulas_of, formulas_size};
 ghost use Rattle.bk_raw.specs.Binders.{quantified, unranged, as_bound, inside};
 ghost use Rattle.bk_raw.specs.Binders as bound;
-ghost use Rattle.bk_raw.specs.Outcome.{Fault as FaultAt, Reading, ask_domain, ask_value};
+ghost use Rattle.bk_raw.specs.Outcome.{Reading, ask_domain, ask_value};
 ghost use Rattle.bk_raw.specs.Printed.{wrong_number, printed_bounds, wrong_bounds, with_place};
 ghost use Rattle.bk_raw.specs.Blame.{blame};
+ghost use Rattle.bk_raw.specs.Faults.{Fault as FaultAt};
 ghost use Rattle.bk_elab.specs.Conjuncts.{and_sides};
 ghost use Rattle.bk_elab.specs.Shown.{shown_outcome, told, IsRead};
 ghost use Rattle.bk_elab.specs.Sights.{names_of, bounds_from, ranges_as, quantifier, TypesOf, bounds_of, clue_type, range_told, AreTaken, IsRest, StandsBelow, StandsCut, tells_type, tells_range, with_last, AwaitsNone, AwaitsAt, given_at, LacksNone, LacksAt, taken_at, range_as, IsRangeOf, TellsNoType, TellsType, TellsNoRange, TellsRange};
@@ -24,7 +25,7 @@ use crate::sight::{Local, Reader, unknown};
 use crate::written::{infix_sides, is_among, name_of, names_one};
 use bk_form::{BinOp, Form, Part, Ty, TyView, UnOp};
 use bk_io::Memory;
-use bk_raw::{InfixOp, RawBound, RawName, RawRange, RawTerm};
+use bk_raw::{FaultKind, InfixOp, RawBound, RawName, RawRange, RawTerm};
 use std::alloc::Global;
 
 /// A bound name with its range, the type of the range's elements, and the number of the conjunct that gives it.
@@ -52,7 +53,7 @@ pub fn twice(names: &[RawName]) -> Option<Fault>
     for (index, name) in names.iter().enumerate() {
         if is_among(name.text.as_bytes(), &names[..index]) {
             let second = Fault {
-                number: 6,
+                kind: FaultKind::TwiceNamed,
                 place: name.at,
             };
             fault = earlier(fault, Some(second));

@@ -4,10 +4,12 @@ ghost use Rattle.std.specs.Prelude.{◌≡◌};
 ghost use Rattle.bk_raw.specs.Blame as blamed;
 ghost use Rattle.bk_elab.specs.Shown.{fault_of, told};
 
-/// A fault: its number, and the byte where it stands.
+use bk_raw::FaultKind;
+
+/// A fault, and the byte where it stands.
 #[derive(Clone, Copy, PartialEq, Eq, Debug)]
 pub struct Fault {
-    pub number: u8,
+    pub kind: FaultKind,
     pub place: usize,
 }
 
@@ -26,23 +28,22 @@ pub fn earlier(one: Option<Fault>, other: Option<Fault>) -> Option<Fault>
 fn is_before(one: Fault, other: Fault) -> bool
     ensures { result ≡ blamed.is_before (fault_of one) (fault_of other) }
 {
-    let (first, second) = (rank(one.number), rank(other.number));
+    let (first, second) = (rank(one.kind), rank(other.kind));
     first < second || first == second && one.place < other.place
 }
 
-// When faults of this number are asked: 6, 7, 9, 8, 10, 12, 14, 11, and then all others.
-fn rank(number: u8) -> u8
-    ensures { result ≡ blamed.rank number }
+// When faults of this kind are asked.
+fn rank(kind: FaultKind) -> u8
+    ensures { result ≡ blamed.rank kind }
 {
-    match number {
-        6 => 0,
-        7 => 1,
-        9 => 2,
-        8 => 3,
-        10 => 4,
-        12 => 5,
-        14 => 6,
-        11 => 7,
-        _ => 8,
+    match kind {
+        FaultKind::TwiceNamed => 0,
+        FaultKind::UnknownName => 1,
+        FaultKind::NotPredicate => 2,
+        FaultKind::NoType => 3,
+        FaultKind::WrongOperation => 4,
+        FaultKind::WrongWrite => 5,
+        FaultKind::WrongValue => 6,
+        FaultKind::NotB0 => 7,
     }
 }

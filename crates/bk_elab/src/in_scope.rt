@@ -34,7 +34,7 @@ pub fn formula(
     let first = earlier(read.fault, asked.fault);
     if let Some(fault) = first {
         return Err(ElabFault::Fault {
-            number: fault.number,
+            number: fault.kind.number(),
             place: fault.place,
         });
     }

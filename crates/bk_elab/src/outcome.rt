@@ -3,17 +3,19 @@
 ghost use Rattle.std.specs.Prelude.{◌≡◌, ◌≢◌, List, IfOk, MatchOption, []};
 ghost use Rattle.bk_val.specs.ValueType.{ValueType, pair_type, set_type};
 ghost use Rattle.bk_raw.specs.Outcome as wanted;
-ghost use Rattle.bk_raw.specs.Outcome.{Reading, Fault as FaultAt};
+ghost use Rattle.bk_raw.specs.Outcome.{Reading};
 ghost use Rattle.bk_raw.specs.ScopeReading.{ask_formula};
 ghost use Rattle.bk_raw.specs.TermReading.{behind_faults, spoilt_by};
 ghost use Rattle.bk_raw.specs.Blame.{blame};
 ghost use Rattle.bk_raw.specs.Blame as blamed;
+ghost use Rattle.bk_raw.specs.Faults.{Fault as FaultAt};
 ghost use Rattle.bk_elab.specs.Shown.{shown_outcome, told, IsRead, IsAsked};
 
 use crate::blame::{Fault, earlier};
 use crate::partial::{Expression, Node};
 use bk_form::{Form, Ty, TyView};
 use bk_io::Memory;
+use bk_raw::FaultKind;
 use std::alloc::Global;
 
 /// What a term turns out to be.
@@ -49,7 +51,7 @@ pub fn no_type(at: usize) -> Option<Fault>
     ensures { told result ≡ blame (wanted.no_type at) }
 {
     Some(Fault {
-        number: 8,
+        kind: FaultKind::NoType,
         place: at,
     })
 }

@@ -9,6 +9,7 @@ ghost use Rattle.bk_raw.specs.Printed.{type_read, typed_empty};
 ghost use Rattle.bk_raw.specs.Names.{global};
 ghost use Rattle.bk_raw.specs.ScopeReading.{names_in, set_names, variable_meaning};
 ghost use Rattle.bk_raw.specs.TermReading as meant;
+ghost use Rattle.bk_raw.specs.Faults.{unknown_name};
 ghost use Rattle.bk_elab.specs.Shown.{told, IsRead};
 ghost use Rattle.bk_elab.specs.Visible.{typing_of, typed_meaning, seen_names};
 ghost use Rattle.bk_elab.specs.Sights.{around_of, names_of, shown_sight, seen_or, set_in_front, outer_names, among, IsFirstAt};
@@ -17,7 +18,7 @@ use crate::blame::Fault;
 use crate::outcome::{Step, no_type};
 use bk_form::{Domain, Form, Part, Ty, TyView, VarTable, View};
 use bk_io::{Memory, Text};
-use bk_raw::{RawType, RawTypeNode, Scope};
+use bk_raw::{FaultKind, RawType, RawTypeNode, Scope};
 use itoa::Buffer;
 use std::alloc::Global;
 
@@ -379,10 +380,10 @@ fn seen_at(at: usize, found: Seen) -> Step
 
 // A name that is not in sight.
 pub(crate) fn unknown(at: usize) -> Option<Fault>
-    ensures { told result ≡ Some (7, at) }
+    ensures { told result ≡ Some (unknown_name at) }
 {
     Some(Fault {
-        number: 7,
+        kind: FaultKind::UnknownName,
         place: at,
     })
 }

@@ -7,13 +7,14 @@ ghost use Rattle.bk_raw.specs.RawTree.{trees_of};
 ghost use Rattle.bk_raw.specs.RawView.{ranges_of};
 ghost use Rattle.bk_raw.specs.TermReading as meant;
 ghost use Rattle.bk_raw.specs.Blame.{blame};
+ghost use Rattle.bk_raw.specs.Faults.{not_predicate};
 ghost use Rattle.bk_elab.specs.Conjuncts.{and_sides, infix_sides, implies_sides, shown_pair, shown_infix};
 ghost use Rattle.bk_elab.specs.Shapes.{strict_here};
 ghost use Rattle.bk_elab.specs.Shown.{told};
 
 use crate::blame::{Fault, earlier};
 use bk_io::Text;
-use bk_raw::{Constant, InfixOp, RawName, RawNode, RawRange, RawTerm, WordOp};
+use bk_raw::{Constant, FaultKind, InfixOp, RawName, RawNode, RawRange, RawTerm, WordOp};
 
 // Whether a predicate stands behind the word.
 pub(crate) fn takes_predicate(op: WordOp) -> bool
@@ -117,10 +118,10 @@ fn makes_predicate(op: InfixOp) -> bool
 
 // An expression where a predicate stands, or the reverse, or a `<<:` within a side of another one.
 pub(crate) fn misplaced(at: usize) -> Option<Fault>
-    ensures { told result ≡ Some (9, at) }
+    ensures { told result ≡ Some (not_predicate at) }
 {
     Some(Fault {
-        number: 9,
+        kind: FaultKind::NotPredicate,
         place: at,
     })
 }

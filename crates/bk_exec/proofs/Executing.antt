@@ -13,11 +13,11 @@ use Rattle.bk_raw.specs.declared.operator.InfixOp.TheVariants.{Times}
 use Rattle.bk_form.specs.Formula.{Formula}
 use Rattle.bk_exec.specs.Executed.{fill_sides, only, whole_told}
 use Rattle.bk_raw.specs.Names.{Names}
-use Rattle.bk_raw.specs.Outcome.{Fault}
 use Rattle.bk_raw.specs.Blame.{blame, earlier}
 use Rattle.bk_elab.specs.Visible.{visible_names, meaning_of}
 use Rattle.bk_elab.specs.declared.sight.Visible.{Visible}
 use Rattle.bk_raw.proofs.Blamed.{blame-joins, earlier-joins, earlier-none}
+use Rattle.bk_raw.specs.Faults.{Fault, not_b0}
 use Rattle.bk_level.specs.Components.{WrittenVariable, abstract_names}
 use Rattle.bk_level.specs.ClauseFaults.{is_flat, declared_at, place_or}
 use Rattle.bk_level.specs.ValueFaults.{is_there}
@@ -229,7 +229,7 @@ fill-own x names declared t d v b h k e = e ∙ sym (fill-is x names declared t 
 -- ---- assignments
 -- of one term an assignment is B0, and of no other list
 abbrev pub assigned_by : Executing → Names → ℕ → RawName → Option RawTree → List Fault
-assigned_by x names at v None = (11, at) ∷ []
+assigned_by x names at v None = not_b0 at ∷ []
 assigned_by x names at v (Some t) = cond (is_scalar_option (type_named x.typing names v.text)) (expression_faults x names t) (not_executable (is_fill x names (array_of x (variable_named names v.text)) t) at)
 
 pub assigned-only : (x : Executing) (names : Names) (at : ℕ) (v : RawName) (ts : List RawTree) → assigned_faults x names at (v ∷ []) (trees_of ts) ≡ assigned_by x names at v (only ts)

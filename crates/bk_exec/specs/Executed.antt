@@ -5,7 +5,7 @@ use Rattle.bk_raw.specs.declared.operator.InfixOp.TheVariants.{Times}
 use Rattle.bk_raw.specs.RawTree.{RawTree, raw, raw_infix, raw_extension, no_trees, tree_and}
 use Rattle.bk_raw.specs.SubTree.{SubTree, Branches}
 use Rattle.bk_raw.specs.Names.{Names}
-use Rattle.bk_raw.specs.Outcome.{Fault}
+use Rattle.bk_raw.specs.Faults.{Fault, not_b0}
 use Rattle.bk_elab.specs.Visible.{typing_of, visible_names}
 use Rattle.bk_level.specs.Executable.{Executing as Meant, expression_faults, condition_faults, statement_faults, branches_executable}
 use Rattle.bk_exec.specs.declared.executable.Executing.{Executing}
@@ -56,5 +56,5 @@ fill_sides _ = None
 
 -- what is told of a formula that is no B0: what is told of its inside, or the formula
 abbrev pub whole_told : ℕ → Option Fault → Option Fault
-whole_told at None = Some (11, at)
+whole_told at None = Some (not_b0 at)
 whole_told at (Some f) = Some f

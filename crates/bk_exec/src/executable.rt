@@ -20,7 +20,9 @@ ghost use Rattle.bk_level.specs.Typings.{target_in, type_at, type_named, variabl
 use bk_elab::{Fault, Standing, Visible, earlier};
 use bk_form::{BinOp, Domain, Form, Ty, TyView, View};
 use bk_io::Memory;
-use bk_raw::{Constant, InfixOp, RawBranch, RawName, RawNode, RawSub, RawSubNode, RawTerm, WordOp};
+use bk_raw::{
+    Constant, FaultKind, InfixOp, RawBranch, RawName, RawNode, RawSub, RawSubNode, RawTerm, WordOp,
+};
 use bk_sight::binders::{binder_count, last_of};
 use bk_sight::component::{Blank, Component};
 use bk_sight::number::ahead;
@@ -48,7 +50,7 @@ fn not_executable(holds: bool, at: usize) -> Option<Fault>
         return None;
     }
     Some(Fault {
-        number: 11,
+        kind: FaultKind::NotB0,
         place: at,
     })
 }

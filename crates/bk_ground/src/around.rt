@@ -7,7 +7,7 @@ ghost use Rattle.bk_val.specs.ValueType.{ValueType, enum_type};
 ghost use Rattle.bk_form.specs.Formula.{variable};
 ghost use Rattle.bk_form.specs.Table.{lists_type};
 ghost use Rattle.bk_raw.specs.Names.{found, seen};
-ghost use Rattle.bk_raw.specs.Outcome.{Fault};
+ghost use Rattle.bk_raw.specs.Faults.{Fault};
 ghost use Rattle.bk_raw.specs.Printed.{set_type_of, type_read};
 ghost use Rattle.bk_raw.specs.ScopeReading.{names_in};
 ghost use Rattle.bk_elab.specs.Shown.{SaysOf};

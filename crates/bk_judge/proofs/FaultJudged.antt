@@ -7,11 +7,11 @@ use Rattle.bk_gsl.specs.State.{firsts}
 use Rattle.bk_raw.specs.declared.substitution.RawBranch.{RawBranch}
 use Rattle.bk_raw.specs.declared.term.RawName.{RawName}
 use Rattle.bk_raw.specs.Names.{Names}
-use Rattle.bk_raw.specs.Outcome.{Fault}
 use Rattle.bk_raw.specs.RawTree.{RawTree, RawTrees, no_trees, tree_and, trees_of}
 use Rattle.bk_raw.specs.SubTree.{SubTree}
 use Rattle.bk_raw.specs.SubView.{choices_of}
 use Rattle.bk_raw.specs.Blame.{blame, earlier}
+use Rattle.bk_raw.specs.Faults.{Fault, wrong_write}
 use Rattle.bk_level.specs.Binders.{binder_count}
 use Rattle.bk_level.specs.Typings.{Typing, target, type_at, numbered}
 use Rattle.bk_level.specs.SubFaults.{term_faults, predicate_faults, assign_faults, writable_within, sub_faults, shared_faults}
@@ -25,7 +25,7 @@ use Rattle.bk_judge.specs.Written.{writes_shown}
 -- terms without names
 only-terms : (j : Judge) (first : ℕ) (es : RawTrees) → unpaired_by j first 0 es ≡ assign_faults j.typing.max (typing_by j) (names_by j) first [] es
 only-terms j first no_trees = refl
-only-terms j first (tree_and e es) = ap (λ l. (12, first) ∷ (term_faults j.typing.max (typing_by j) (names_by j) None e ++ l)) (only-terms j first es)
+only-terms j first (tree_and e es) = ap (λ l. wrong_write first ∷ (term_faults j.typing.max (typing_by j) (names_by j) None e ++ l)) (only-terms j first es)
 
 -- names with terms, and then what is left over, are all
 pub assigned : (j : Judge) (first : ℕ) (xs : List RawName) (es : RawTrees) → paired_by j first xs es ++ unpaired_by j first (length xs) es ≡ assign_faults j.typing.max (typing_by j) (names_by j) first xs es
@@ -50,7 +50,7 @@ paired-next j first xs es i x e before now after whole h a k b told join inv =
     (next (λ l. paired_by j first l (trees_of (drop i es))) xs i x h a ∙ next (λ l. paired_by j first (x ∷ drop (i + 1) xs) (trees_of l)) es i e k b) told join inv
 
 -- a name without a term
-pub paired-missing : (j : Judge) (first : ℕ) (xs : List RawName) (es : List RawTree) (i : ℕ) (x : RawName) → i < length xs → x ≡ get_or xs i x → length es ≤ i → paired_by j first (drop i xs) (trees_of (drop i es)) ≡ (12, first) ∷ []
+pub paired-missing : (j : Judge) (first : ℕ) (xs : List RawName) (es : List RawTree) (i : ℕ) (x : RawName) → i < length xs → x ≡ get_or xs i x → length es ≤ i → paired_by j first (drop i xs) (trees_of (drop i es)) ≡ wrong_write first ∷ []
 paired-missing j first xs es i x h a k =
     next (λ l. paired_by j first l (trees_of (drop i es))) xs i x h a ∙ ap (λ l. paired_by j first (x ∷ drop (i + 1) xs) (trees_of l)) (drop_all i es k)
 

@@ -6,8 +6,8 @@ use Rattle.bk_raw.specs.declared.term.RawName.{RawName}
 use Rattle.bk_raw.specs.RawTree.{RawTree, RawTrees, no_trees, tree_and}
 use Rattle.bk_raw.specs.SubTree.{SubTree, SubNode, sub_assign_at, sub_member, sub_such, sub_while, sub_parallel, Branches, Choices}
 use Rattle.bk_raw.specs.Names.{Names}
-use Rattle.bk_raw.specs.Outcome.{Fault}
 use Rattle.bk_raw.specs.Binders.{twice}
+use Rattle.bk_raw.specs.Faults.{Fault, wrong_write}
 use Rattle.bk_elab.specs.Visible.{typing_of, visible_names}
 use Rattle.bk_level.specs.Typings.{Typing, numbered, target, type_at}
 use Rattle.bk_level.specs.SubFaults.{predicate_faults, term_faults, declared_faults, writable_within, sub_faults, node_faults, branches_faults, choices_faults}
@@ -71,12 +71,12 @@ term_by j t e = term_faults j.typing.max (typing_by j) (names_by j) t e
 abbrev pub paired_by : Judge → ℕ → List RawName → RawTrees → List Fault
 paired_by j first [] es = []
 paired_by j first (x ∷ xs) (tree_and e es) = term_faults j.typing.max (typing_by j) (names_by j) (type_at (typing_by j) (target (names_by j) x.text)) e ++ paired_by j first xs es
-paired_by j first (x ∷ xs) no_trees = (12, first) ∷ []
+paired_by j first (x ∷ xs) no_trees = wrong_write first ∷ []
 
 -- those of the terms behind the first so many, for which there is no name
 abbrev pub unpaired_by : Judge → ℕ → ℕ → RawTrees → List Fault
 unpaired_by j first n no_trees = []
-unpaired_by j first zero (tree_and e es) = (12, first) ∷ (term_faults j.typing.max (typing_by j) (names_by j) None e ++ unpaired_by j first zero es)
+unpaired_by j first zero (tree_and e es) = wrong_write first ∷ (term_faults j.typing.max (typing_by j) (names_by j) None e ++ unpaired_by j first zero es)
 unpaired_by j first (suc n) (tree_and e es) = unpaired_by j first n es
 
 -- those of f(e) := v

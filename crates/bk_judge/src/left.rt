@@ -6,6 +6,7 @@ ghost use Rattle.bk_form.specs.Role.{bind};
 ghost use Rattle.bk_gsl.specs.State.{among};
 ghost use Rattle.bk_raw.specs.SubView.{choices_of};
 ghost use Rattle.bk_raw.specs.Blame.{blame};
+ghost use Rattle.bk_raw.specs.Faults.{wrong_write};
 ghost use Rattle.bk_elab.specs.Shown.{told};
 ghost use Rattle.bk_elab.specs.Visible.{visible_names};
 ghost use Rattle.bk_sight.specs.Shown.{branches_shown, target_shown};
@@ -121,7 +122,7 @@ pub(crate) fn write_fault(
 
 // The fault of a written variable that is one of these.
 fn again_fault(before: &[u32], at: usize, target: Target) -> Option<Fault>
-    ensures { told result ≡ blame (cond (meant.is_again before.now (target_shown target)) ((12, at) ∷ []) []) }
+    ensures { told result ≡ blame (cond (meant.is_again before.now (target_shown target)) (wrong_write at ∷ []) []) }
 {
     match target {
         Target::Variable(variable) => wrong_write_if(is_among(before, variable), at),

@@ -21,11 +21,11 @@ use Rattle.bk_raw.specs.ComponentTree.{RawOperation, RawComponent}
 use Rattle.bk_raw.specs.SubTree.{sub_height}
 use Rattle.bk_raw.specs.Limits.{IsLowComponent}
 use Rattle.bk_raw.specs.Names.{Names}
-use Rattle.bk_raw.specs.Outcome.{Fault}
 use Rattle.bk_raw.specs.Binders.{is_text}
 use Rattle.bk_raw.specs.Speaking.{AreTyped}
 use Rattle.bk_raw.proofs.Filled.{and-both}
 use Rattle.bk_raw.proofs.RulesFit.{none-left, none-right}
+use Rattle.bk_raw.specs.Faults.{Fault}
 use Rattle.bk_level.specs.Components.{WrittenVariable, Component, component_of, kind_as, is_machine, initialisation, operation_names, abstract_names}
 use Rattle.bk_level.specs.Typings.{Typing, or_else, interval, typed, variable_named}
 use Rattle.bk_level.specs.Binders.{binder_count, texts}

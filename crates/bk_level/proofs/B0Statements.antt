@@ -26,13 +26,14 @@ use Rattle.bk_raw.specs.RawTree.{RawTree, raw, raw_name, raw_number, raw_constan
 use Rattle.bk_raw.specs.SubTree.{SubTree, sub, SubNode, sub_skip, sub_assign, sub_assign_at, sub_begin, sub_assert, sub_if, sub_var, sub_while, sub_sequence, Branches, no_branches, else_branch, branch_and, sub_height, sub_node_height, branches_height}
 use Rattle.std.specs.Str.{bytes_eq}
 use Rattle.bk_raw.specs.Names.{Names, Meaning, local, global, set_name, element_name, nothing, Sight, unseen, untyped_name, seen, found}
-use Rattle.bk_raw.specs.Outcome.{Fault, no_type, whole, hollow, single_of, pair_of, joint_of, filled, where_holds, Outcome, partial, ranging, holding, silent, Reading, silently, ask, ask_domain, ask_predicate, fitting}
+use Rattle.bk_raw.specs.Outcome.{no_type, whole, hollow, single_of, pair_of, joint_of, filled, where_holds, Outcome, partial, ranging, holding, silent, Reading, silently, ask, ask_domain, ask_predicate, fitting}
 use Rattle.bk_raw.specs.OperatorReadings.{int_min, constant_reading, times, single_reading}
 use Rattle.bk_raw.specs.Binders.{twice, has_type}
 use Rattle.bk_raw.specs.Speaking.{Fits, HasType, AreTyped}
 use Rattle.bk_raw.specs.TermReading.{place_of, is_predicate, is_alike, part, name_reading, reading}
 use Rattle.bk_raw.proofs.ReadingFits.{reading-speaks}
 use Rattle.bk_raw.proofs.RulesFit.{none-left, none-right, some-fault}
+use Rattle.bk_raw.specs.Faults.{Fault, unknown_name, without_type, not_predicate, wrong_write}
 use Rattle.bk_level.specs.Typings.{or_else, interval, numbered, with_type, typed, target_in, Target, unknown, no_variable, variable_target, target, as_number, number_of, type_at, is_variable, predicate_read, outcome_of, term_read}
 use Rattle.bk_level.specs.Binders.{binder_count}
 use Rattle.bk_level.specs.Elaborated.{with_pair, paired_as, assigned_pairs, overridden, put_read, elaborated, elaborated_node, else_part}
@@ -53,7 +54,7 @@ use Rattle.bk_level.proofs.B0Terms.{exec-true, IsB0Term, IsB0Outcome, IsB0Predic
 part-fits : (w : Bool) (t : RawTree) (r : Reading) → (r.faults ≡ [] → Fits (is_predicate t) r.outcome) → (part w t r).faults ≡ [] → Fits w (part w t r).outcome
 part-fits w t r f e = by w (is_predicate t) f e
   where
-    by : (w is : Bool) → (r.faults ≡ [] → Fits is r.outcome) → (cond (is_alike w is) r (silently ((9, place_of t) ∷ r.faults))).faults ≡ [] → Fits w (cond (is_alike w is) r (silently ((9, place_of t) ∷ r.faults))).outcome
+    by : (w is : Bool) → (r.faults ≡ [] → Fits is r.outcome) → (cond (is_alike w is) r (silently (not_predicate (place_of t) ∷ r.faults))).faults ≡ [] → Fits w (cond (is_alike w is) r (silently (not_predicate (place_of t) ∷ r.faults))).outcome
     by true true f e = f e
     by false false f e = f e
     by true false f e = absurd (cc)
@@ -66,12 +67,12 @@ predicate-told dev h (ranging g u there) f a = absurd f
 predicate-told dev h silent f a = absurd f
 
 fitted : (at : ℕ) (o : Option Formula) → (fitting at o).faults ≡ [] → (f : Formula) × ((fitting at o).answer ≡ Some f)
-fitted at None e = some-fault (8, at) [] e
+fitted at None e = some-fault (without_type at) [] e
 fitted at (Some f) e = (f, refl)
 
 term-told : (at : ℕ) (o : Outcome) (t : ValueType) → Fits false o → (ask at o t).faults ≡ [] → (f : Formula) × ((ask at o t).answer ≡ Some f)
 term-told at (partial p) t f e = fitted at (filled p t) e
-term-told at (ranging g u there) t f e = some-fault (8, there) [] e
+term-told at (ranging g u there) t f e = some-fault (without_type there) [] e
 term-told at (holding p) t f e = absurd f
 term-told at silent t f e = absurd f
 
@@ -206,7 +207,7 @@ module _ (x : Executing) (dev : Development) (most : x.int_max ≡ int_max dev) 
     where
       by : (b : Bool) → (fitting there (where_holds b (Some (binary Product f (unary Single g))))).faults ≡ [] → (fitting there (where_holds b (Some (binary Product f (unary Single g))))).answer ≡ Some (binary Product domain (unary Single g))
       by true k = let same : f ≡ domain = let q : Some f ≡ Some domain = d in cc in ap (λ c. Some (binary Product c (unary Single g))) same
-      by false k = some-fault (8, there) [] k
+      by false k = some-fault (without_type there) [] k
   fill-times (partial (whole f int_type)) domain g w at pd pe there ty d k = absurd (cc)
   fill-times (partial (whole f bool_type)) domain g w at pd pe there ty d k = absurd (cc)
   fill-times (partial (whole f (enum_type s))) domain g w at pd pe there ty d k = absurd (cc)
@@ -215,7 +216,7 @@ module _ (x : Executing) (dev : Development) (most : x.int_max ≡ int_max dev) 
   fill-times (partial (single_of p)) domain g w at pd pe there ty d k = absurd (cc)
   fill-times (partial (pair_of p q)) domain g w at pd pe there ty d k = absurd (cc)
   fill-times (partial (joint_of j p q)) domain g w at pd pe there ty d k = absurd (cc)
-  fill-times (ranging f t other) domain g w at pd pe there ty d k = some-fault (8, other) [] k
+  fill-times (ranging f t other) domain g w at pd pe there ty d k = some-fault (without_type other) [] k
   fill-times (holding p) domain g w at pd pe there ty d k = absurd (cc)
   fill-times silent domain g w at pd pe there ty d k = absurd (cc)
 
@@ -259,8 +260,8 @@ module _ (x : Executing) (dev : Development) (most : x.int_max ≡ int_max dev) 
         by nothing true h e more = absurd (cc)
 
     written-number : (writable : ℕ → Bool) (at : ℕ) (t : Target) → target_faults writable at t ≡ [] → (k : ℕ) × (t ≡ variable_target k)
-    written-number writable at unknown h = some-fault (7, at) [] h
-    written-number writable at no_variable h = some-fault (12, at) [] h
+    written-number writable at unknown h = some-fault (unknown_name at) [] h
+    written-number writable at no_variable h = some-fault (wrong_write at) [] h
     written-number writable at (variable_target k) h = (k, refl)
 
     shallow-of : (f : Formula) (h : ℕ) → operators_down f + 1 ≤ h → h + 1 ≤ 1000 → IsShallow f
@@ -339,7 +340,7 @@ module _ (x : Executing) (dev : Development) (most : x.int_max ≡ int_max dev) 
         let lefts = left_faults names writable [] (v ∷ []) in
         let terms = assign_faults x.int_max x.typing names v.at (v ∷ []) (tree_and e no_trees) in
         let first = target_faults writable v.at (target names v.text) in
-        let rest = cond (is_again [] (target names v.text)) ((12, v.at) ∷ []) [] ++ [] in
+        let rest = cond (is_again [] (target names v.text)) (wrong_write v.at ∷ []) [] ++ [] in
         let number = written-number writable v.at (target names v.text) (none-left first rest (none-left lefts terms none)) in
         let has = target-type names t v.text number.0 number.1 in
         let asked = none-left (term_faults x.int_max x.typing names (type_at x.typing (target names v.text)) e) [] (none-right lefts terms none) in
@@ -405,7 +406,7 @@ module _ (x : Executing) (dev : Development) (most : x.int_max ≡ int_max dev) 
 
       has-it : (c : Bool) (at : ℕ) (fs : List Fault) → cond c [] (no_type at) ++ fs ≡ [] → (c ≡ true) × (fs ≡ [])
       has-it true at fs h = (refl, h)
-      has-it false at fs h = some-fault (8, at) fs h
+      has-it false at fs h = some-fault (without_type at) fs h
 
       or-scalar : (a b : Option Way) (m : ℕ) (w : Way) → or_next a b ≡ Some w → ((v : Way) → a ≡ Some v → is_scalar_option (x.typing m) ≡ true) → (b ≡ Some w → is_scalar_option (x.typing m) ≡ true) → m ≡ m → is_scalar_option (x.typing m) ≡ true
       or-scalar None b m w e f g r = g e

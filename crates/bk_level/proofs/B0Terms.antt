@@ -19,10 +19,11 @@ use Rattle.bk_raw.specs.declared.operator.Constant.{Constant}
 use Rattle.bk_raw.specs.declared.operator.Constant.TheVariants.{True, False, MaxInt, MinInt}
 use Rattle.bk_raw.specs.RawTree.{RawTree, raw, RawTreeNode, raw_name, raw_number, raw_constant, raw_word, raw_negative, raw_infix, raw_inverse, raw_image, raw_apply, raw_composition, raw_pair, raw_extension, tree_height, node_height}
 use Rattle.bk_raw.specs.Names.{Names, Meaning, local, global, set_name, element_name, nothing, Sight, unseen, untyped_name, seen, found, sight}
-use Rattle.bk_raw.specs.Outcome.{Fault, Partial, whole, hollow, single_of, pair_of, joint_of, filled, where_holds, Outcome, partial, ranging, holding, silent, Reading, ask, ask_predicate, fitting, of_answer, of_answers}
+use Rattle.bk_raw.specs.Outcome.{Partial, whole, hollow, single_of, pair_of, joint_of, filled, where_holds, Outcome, partial, ranging, holding, silent, Reading, ask, ask_predicate, fitting, of_answer, of_answers}
 use Rattle.bk_raw.specs.OperatorReadings.{int_min, on_values, constant_reading, calculated, compared, connected, equal, negated, turned, minus, times, apply_reading, stepped}
 use Rattle.bk_raw.specs.TermReading.{place_of, is_predicate, is_alike, part, name_reading, reading, node_reading}
 use Rattle.bk_raw.proofs.RulesFit.{none-left, none-right}
+use Rattle.bk_raw.specs.Faults.{Fault, not_predicate}
 use Rattle.bk_level.specs.Typings.{Typing, with_type, typed, target_in, target, as_number, variable_named}
 use Rattle.bk_level.specs.Settled.{IsSettled, StandsIn, AreOf}
 use Rattle.bk_level.specs.ValueFaults.{is_there}
@@ -76,14 +77,14 @@ module _ (dev : Development) where
   part-term false h r s a c = c
 
   pub term-part : (w : Bool) (t : RawTree) (h : ℕ) (r : Reading) → IsB0Outcome dev h r.outcome → IsB0Outcome dev h (part w t r).outcome
-  term-part w t h r a = part-term (is_alike w (is_predicate t)) h r (record { outcome = silent; faults = (9, place_of t) ∷ r.faults }) a tt
+  term-part w t h r a = part-term (is_alike w (is_predicate t)) h r (record { outcome = silent; faults = not_predicate (place_of t) ∷ r.faults }) a tt
 
   part-predicate : (b : Bool) (h : ℕ) (r : Reading) (s : Reading) → IsB0Predicate dev h r.outcome → IsB0Predicate dev h s.outcome → IsB0Predicate dev h (cond b r s).outcome
   part-predicate true h r s a c = a
   part-predicate false h r s a c = c
 
   pub predicate-part : (w : Bool) (t : RawTree) (h : ℕ) (r : Reading) → IsB0Predicate dev h r.outcome → IsB0Predicate dev h (part w t r).outcome
-  predicate-part w t h r a = part-predicate (is_alike w (is_predicate t)) h r (record { outcome = silent; faults = (9, place_of t) ∷ r.faults }) a tt
+  predicate-part w t h r a = part-predicate (is_alike w (is_predicate t)) h r (record { outcome = silent; faults = not_predicate (place_of t) ∷ r.faults }) a tt
 
   filled-term : (b : Bool) (h : ℕ) (f : Formula) → IsB0Term dev h f → Answers (IsB0Term dev h) (where_holds b (Some f))
   filled-term true h f a = a

@@ -3,8 +3,8 @@ use Rattle.std.proofs.Common.{◌≡◌, ℕ, List, [], ◌∷◌, ◌++◌, ref
 use Rattle.bk_gsl.specs.State.{among}
 use Rattle.bk_raw.specs.declared.term.RawName.{RawName}
 use Rattle.bk_raw.specs.Names.{Names}
-use Rattle.bk_raw.specs.Outcome.{Fault}
 use Rattle.bk_raw.proofs.RulesFit.{none-left, none-right, some-fault}
+use Rattle.bk_raw.specs.Faults.{Fault, unknown_name, wrong_write}
 use Rattle.bk_level.specs.Typings.{Target, unknown, no_variable, variable_target, target, number_of}
 use Rattle.bk_level.specs.SubFaults.{target_faults, writable_faults, is_again, with_target, left_faults}
 
@@ -21,15 +21,15 @@ pub record FirstFree (names : Names) (writable : ℕ → Bool) (before : List �
 
 by-test : (at : ℕ) (c : Bool) → writable_faults c at ≡ [] → c ≡ true
 by-test at true e = refl
-by-test at false e = some-fault (12, at) [] e
+by-test at false e = some-fault (wrong_write at) [] e
 
-first-by : (names : Names) (writable : ℕ → Bool) (before : List ℕ) (x : RawName) (xs : List RawName) (v : Target) → target_faults writable x.at v ++ (cond (is_again before v) ((12, x.at) ∷ []) [] ++ left_faults names writable (with_target v before) xs) ≡ [] → FirstFree names writable before x xs v
-first-by names writable before x xs unknown e = some-fault (7, x.at) (left_faults names writable before xs) e
-first-by names writable before x xs no_variable e = some-fault (12, x.at) (left_faults names writable before xs) e
+first-by : (names : Names) (writable : ℕ → Bool) (before : List ℕ) (x : RawName) (xs : List RawName) (v : Target) → target_faults writable x.at v ++ (cond (is_again before v) (wrong_write x.at ∷ []) [] ++ left_faults names writable (with_target v before) xs) ≡ [] → FirstFree names writable before x xs v
+first-by names writable before x xs unknown e = some-fault (unknown_name x.at) (left_faults names writable before xs) e
+first-by names writable before x xs no_variable e = some-fault (wrong_write x.at) (left_faults names writable before xs) e
 first-by names writable before x xs (variable_target n) e =
-    let rest = cond (among before n) ((12, x.at) ∷ []) [] ++ left_faults names writable (n ∷ before) xs in
+    let rest = cond (among before n) (wrong_write x.at ∷ []) [] ++ left_faults names writable (n ∷ before) xs in
     let first = none-left (writable_faults (writable n) x.at) rest e in
-    let later = not-among (among before n) (12, x.at) (left_faults names writable (n ∷ before) xs) (none-right (writable_faults (writable n) x.at) rest e) in
+    let later = not-among (among before n) (wrong_write x.at) (left_faults names writable (n ∷ before) xs) (none-right (writable_faults (writable n) x.at) rest e) in
     record { none = first; free = by-test x.at (writable n) first; new = later.0; rest = later.1 }
 
 pub first-free : (names : Names) (writable : ℕ → Bool) (before : List ℕ) (x : RawName) (xs : List RawName) → left_faults names writable before (x ∷ xs) ≡ [] → FirstFree names writable before x xs (target names x.text)

@@ -13,9 +13,10 @@ use Rattle.bk_dev.specs.Facts.{IsKindAt, IsValue, HasItsValues, IsDevelopment}
 use Rattle.bk_dev.specs.Flattened.{copied_in_levels, flattened}
 use Rattle.bk_raw.specs.declared.component.ClauseWord.TheVariants.{Values}
 use Rattle.bk_raw.specs.ComponentTree.{RawSet, RawComponent}
-use Rattle.bk_raw.specs.Outcome.{Fault, no_type}
+use Rattle.bk_raw.specs.Outcome.{no_type}
 use Rattle.bk_raw.specs.declared.term.RawName.{RawName}
 use Rattle.bk_raw.proofs.RulesFit.{none-left, none-right, some-fault}
+use Rattle.bk_raw.specs.Faults.{Fault, without_type}
 use Rattle.bk_level.specs.Components.{Component, component_of, kind_as, is_machine, values_in, listed as clause_list}
 use Rattle.bk_level.specs.Binders.{texts}
 use Rattle.bk_level.specs.Above.{no_development}
@@ -55,7 +56,7 @@ has-name (x ∷ xs) h = omega arith
 
 named-or : (c : Bool) (at : ℕ) (fs : List Fault) → cond c [] (no_type at) ++ fs ≡ [] → (c ≡ true) × (fs ≡ [])
 named-or true at fs h = (refl, h)
-named-or false at fs h = some-fault (8, at) fs h
+named-or false at fs h = some-fault (without_type at) fs h
 
 -- sets without fault have elements
 pub all-inhabited : (ss : List RawSet) → set_faults ss ≡ [] → All (λ (s : SetEntry). 0 < length s.elements) (entries_of ss)

@@ -12,9 +12,10 @@ use Rattle.bk_dev.specs.Development.{Head, Body, Development}
 use Rattle.bk_dev.specs.Facts.{MayStandIn, AllAre, AreDistinct, is_input, home_of, AreAlike, AllAlike, EachBody, IsHeadOf}
 use Rattle.bk_raw.specs.declared.term.RawName.{RawName}
 use Rattle.bk_raw.specs.ComponentTree.{RawOperation}
-use Rattle.bk_raw.specs.Outcome.{Fault, no_type}
+use Rattle.bk_raw.specs.Outcome.{no_type}
 use Rattle.bk_raw.specs.Binders.{has_type}
 use Rattle.bk_raw.proofs.RulesFit.{none-left, none-right, some-fault}
+use Rattle.bk_raw.specs.Faults.{Fault, without_type}
 use Rattle.bk_level.specs.Components.{Component, is_machine, initialisation, inner_body}
 use Rattle.bk_level.specs.Settled.{AreOf, AreSeen, IsSettled}
 use Rattle.bk_level.specs.Typings.{Typing, interval, numbered}
@@ -49,7 +50,7 @@ numbered-seen v n (x ∷ xs) f = (f n (omega arith) (omega arith), numbered-seen
 module _ (table : Table) (typing : Typing) (settled : IsSettled table typing) where
   has-it : (c : Bool) (at : ℕ) (fs : List Fault) → cond c [] (no_type at) ++ fs ≡ [] → (c ≡ true) × (fs ≡ [])
   has-it true at fs h = (refl, h)
-  has-it false at fs h = some-fault (8, at) fs h
+  has-it false at fs h = some-fault (without_type at) fs h
 
   alike-itself : (o : Option ValueType) (n : ℕ) → typing n ≡ o → has_type o ≡ true → AreAlike table n n
   alike-itself None n e h = absurd (cc)

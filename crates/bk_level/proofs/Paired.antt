@@ -11,11 +11,11 @@ use Rattle.bk_dev.specs.Development.{Head, Development}
 use Rattle.bk_raw.specs.declared.term.RawName.{RawName}
 use Rattle.bk_raw.specs.ComponentTree.{RawOperation}
 use Rattle.bk_raw.specs.Names.{Names}
-use Rattle.bk_raw.specs.Outcome.{Fault}
 use Rattle.bk_raw.specs.Binders.{is_text, twice}
 use Rattle.bk_raw.proofs.BoundNames.{either}
 use Rattle.bk_raw.proofs.Filled.{and-both}
 use Rattle.bk_raw.proofs.RulesFit.{none-left, none-right, some-fault}
+use Rattle.bk_raw.specs.Faults.{Fault, twice_named, wrong_operation}
 use Rattle.bk_level.specs.Components.{first_token, operation_names}
 use Rattle.bk_level.specs.Settled.{AreOf, AreSeen}
 use Rattle.bk_level.specs.Typings.{or_else, as_variable, as_number, variable_target, target, variable_named}
@@ -55,7 +55,7 @@ pub by-input : (table : Table) (ns : List ℕ) → inputs_named table ns ≡ nam
 by-input table [] = refl
 by-input table (n ∷ ns) = ap (λ l. as_variable (text_of table n) n ∷ l) (by-input table ns)
 
-not-again : (c : Bool) (at : ℕ) → cond {A = List Fault} c ((6, at) ∷ []) [] ≡ [] → c ≡ false
+not-again : (c : Bool) (at : ℕ) → cond {A = List Fault} c (twice_named at ∷ []) [] ≡ [] → c ≡ false
 not-again true at h = absurd (cc)
 not-again false at h = refl
 
@@ -70,7 +70,7 @@ weaken names t n [] [] before h k p = tt
 weaken names t n [] (m ∷ ms) before h k p = absurd p
 weaken names t n (x ∷ xs) [] before h k p = absurd p
 weaken names t n (x ∷ xs) (m ∷ ms) before h k p =
-    let now : List Fault = cond (is_text before x.text) ((6, x.at) ∷ []) [] in
+    let now : List Fault = cond (is_text before x.text) (twice_named x.at ∷ []) [] in
     let no = not-again (is_text before x.text) x.at (none-left now (twice (x.text ∷ before) xs) k) in
     let apart = differs t x.text before h no in (
       ap (λ c. as_number (cond c (variable_target n) (target names x.text))) apart ∙ p.0,
@@ -84,7 +84,7 @@ paired f (n ∷ ns) [] e before k = absurd (cc)
 paired f (n ∷ ns) (x ∷ xs) e before k =
     let a : f n ≡ x.text = cc in
     let r : named_texts (names_by f ns) ≡ texts xs = cc in
-    let rest = none-right (cond (is_text before x.text) ((6, x.at) ∷ []) []) (twice (x.text ∷ before) xs) k in (
+    let rest = none-right (cond (is_text before x.text) (twice_named x.at ∷ []) []) (twice (x.text ∷ before) xs) k in (
       ap (λ c. as_number (cond c (variable_target n) (target (names_by f ns) x.text))) ((bytes_eq-Decides (f n) x.text).1 a),
       weaken (names_by f ns) (f n) n xs ns (x.text ∷ before) (or-left (bytes_eq x.text (f n)) (is_text before (f n)) ((bytes_eq-Decides x.text (f n)).1 (sym a))) rest (paired f ns xs r (x.text ∷ before) rest),
     )
@@ -99,12 +99,12 @@ paired-length names (x ∷ xs) (m ∷ ms) p = ap suc (paired-length names xs ms 
 pub twice-front : (before : List (List ℕ)) (xs ys : List RawName) → twice before (xs ++ ys) ≡ [] → twice before xs ≡ []
 twice-front before [] ys h = refl
 twice-front before (x ∷ xs) ys h =
-    let now : List Fault = cond (is_text before x.text) ((6, x.at) ∷ []) [] in
+    let now : List Fault = cond (is_text before x.text) (twice_named x.at ∷ []) [] in
     ap (λ l. l ++ twice (x.text ∷ before) xs) (none-left now (twice (x.text ∷ before) (xs ++ ys)) h) ∙ twice-front (x.text ∷ before) xs ys (none-right now (twice (x.text ∷ before) (xs ++ ys)) h)
 
 pub twice-behind : (before : List (List ℕ)) (xs ys : List RawName) → twice before (xs ++ ys) ≡ [] → (b : List (List ℕ)) × (twice b ys ≡ [])
 twice-behind before [] ys h = (before, h)
-twice-behind before (x ∷ xs) ys h = twice-behind (x.text ∷ before) xs ys (none-right (cond (is_text before x.text) ((6, x.at) ∷ []) []) (twice (x.text ∷ before) (xs ++ ys)) h)
+twice-behind before (x ∷ xs) ys h = twice-behind (x.text ∷ before) xs ys (none-right (cond (is_text before x.text) (twice_named x.at ∷ []) []) (twice (x.text ∷ before) (xs ++ ys)) h)
 
 -- ---- inputs
 pub inputs-alone : (table : Table) (far : ℕ) (names : Names) (xs : List RawName) → AreOf table (inputs_by far names xs)
@@ -122,7 +122,7 @@ inputs-seen v far names (x ∷ xs) (m ∷ ms) p f =
 -- ---- operations by their names
 pub unless-then : (b : Bool) (at : ℕ) (fs : List Fault) → unless b at ++ fs ≡ [] → (b ≡ true) × (fs ≡ [])
 unless-then true at fs h = (refl, h)
-unless-then false at fs h = some-fault (10, at) fs h
+unless-then false at fs h = some-fault (wrong_operation at) fs h
 
 pub found-in : (x : List ℕ) (os : List RawOperation) → is_text (texts (operation_names os)) x ≡ true → IsIn (operation_named x os) os × (bytes_eq (operation_named x os).name.text x ≡ true)
 found-in x [] h = absurd (cc)

@@ -14,9 +14,10 @@ use Rattle.bk_raw.specs.declared.term.RawName.{RawName}
 use Rattle.bk_raw.specs.SubTree.{SubTree, sub, SubNode, sub_skip, sub_assign, sub_assign_at, sub_member, sub_such, sub_begin, sub_pre, sub_assert, sub_if, sub_choice, sub_select, sub_any, sub_let, sub_var, sub_while, sub_parallel, sub_sequence}
 use Rattle.bk_raw.specs.Names.{Names, global}
 use Rattle.bk_raw.specs.Speaking.{HasType, AreTyped}
-use Rattle.bk_raw.specs.Outcome.{Fault, no_type}
+use Rattle.bk_raw.specs.Outcome.{no_type}
 use Rattle.bk_raw.specs.Binders.{has_type}
 use Rattle.bk_raw.proofs.RulesFit.{some-fault}
+use Rattle.bk_raw.specs.Faults.{Fault, without_type}
 use Rattle.bk_level.specs.Components.{outermost, inner_body}
 use Rattle.bk_level.specs.Typings.{Typing, or_else, numbered, typed, variable_named}
 use Rattle.bk_level.specs.Elaborated.{elaborated}
@@ -84,7 +85,7 @@ inner-shape kind inside (sub at (sub_sequence s t)) h = h
 -- ---- inputs
 has-it : (c : Bool) (at : ℕ) (fs : List Fault) → cond c [] (no_type at) ++ fs ≡ [] → (c ≡ true) × (fs ≡ [])
 has-it true at fs h = (refl, h)
-has-it false at fs h = some-fault (8, at) fs h
+has-it false at fs h = some-fault (without_type at) fs h
 
 typed-number : (o : Option ValueType) (n : ℕ) → has_type o ≡ true → HasType (global n o)
 typed-number None n h = absurd (cc)

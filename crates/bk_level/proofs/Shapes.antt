@@ -14,9 +14,10 @@ use Rattle.bk_dev.specs.Facts.{IsGuard, MaySequence, MayLoop, LoopsStandIn, MayS
 use Rattle.bk_raw.specs.RawTree.{RawTree}
 use Rattle.bk_raw.specs.SubTree.{SubTree, sub, SubNode, sub_skip, sub_assign, sub_assign_at, sub_member, sub_such, sub_begin, sub_pre, sub_assert, sub_if, sub_choice, sub_select, sub_any, sub_let, sub_var, sub_while, sub_parallel, sub_sequence, Branches, no_branches, else_branch, branch_and, Choices, no_choices, choice_and}
 use Rattle.bk_raw.specs.Names.{Names}
-use Rattle.bk_raw.specs.Outcome.{Fault, ask_domain}
+use Rattle.bk_raw.specs.Outcome.{ask_domain}
 use Rattle.bk_raw.proofs.RulesFit.{none-left, none-right, some-fault}
 use Rattle.bk_raw.proofs.Filled.{and-both}
+use Rattle.bk_raw.specs.Faults.{Fault, wrong_operation}
 use Rattle.bk_level.specs.Typings.{Typing, numbered, target, number_of, type_at, predicate_read, outcome_of, term_read}
 use Rattle.bk_level.specs.Binders.{binder_count}
 use Rattle.bk_level.specs.Elaborated.{overridden, put_read, all_one_type, chosen_where, chosen_in, elaborated, elaborated_node, else_part, choices, selected}
@@ -25,7 +26,7 @@ use Rattle.bk_level.specs.ShapeLaws.{IsShaped}
 
 unless-then : (b : Bool) (at : ℕ) (fs : List Fault) → unless b at ++ fs ≡ [] → (b ≡ true) × (fs ≡ [])
 unless-then true at fs h = (refl, h)
-unless-then false at fs h = some-fault (10, at) fs h
+unless-then false at fs h = some-fault (wrong_operation at) fs h
 
 sequence-then : (kind : Kind) → may_sequence kind ≡ true → MaySequence kind
 sequence-then Machine h = absurd (cc)

@@ -12,7 +12,7 @@ use Rattle.bk_dev.specs.declared.kind.Home.TheVariants.{Constant, Input, Abstrac
 use Rattle.bk_dev.specs.Facts.{is_constant, is_variable_of, is_variable_above, home_of, names_own, names_joined}
 use Rattle.bk_raw.specs.declared.term.RawName.{RawName}
 use Rattle.bk_raw.specs.Names.{Names, global}
-use Rattle.bk_raw.specs.Outcome.{Fault, no_type}
+use Rattle.bk_raw.specs.Outcome.{no_type}
 use Rattle.bk_raw.specs.Binders.{has_type}
 use Rattle.bk_raw.specs.Speaking.{HasType, AreTyped}
 use Rattle.bk_level.specs.Settled.{AreSeen, IsBelow}
@@ -24,6 +24,7 @@ use Rattle.bk_level.proofs.SubTypes.{elaborated-types}
 use Rattle.bk_level.proofs.SubMay.{elaborated-stays}
 use Rattle.bk_level.specs.Components.{WrittenVariable, Component, initialisation}
 use Rattle.bk_raw.specs.ScopeReading.{element_names, set_names}
+use Rattle.bk_raw.specs.Faults.{Fault, without_type}
 use Rattle.bk_level.specs.Above.{constants_from, globals_of}
 use Rattle.bk_level.specs.Plan.{Declared, names_from, entries_of, Plan, plan, operations_of, level_names, scope, joined}
 use Rattle.bk_level.specs.LevelOf.{types_at, made}
@@ -94,7 +95,7 @@ module _ (typing : Typing) where
 
   has-it : (c : Bool) (at : ℕ) (fs : List Fault) → cond c [] (no_type at) ++ fs ≡ [] → (c ≡ true) × (fs ≡ [])
   has-it true at fs h = (refl, h)
-  has-it false at fs h = some-fault (8, at) fs h
+  has-it false at fs h = some-fault (without_type at) fs h
 
   typed-join : (a b : Names) → AreTyped (typed typing a) → AreTyped (typed typing b) → AreTyped (typed typing (a ++ b))
   typed-join [] b h k = k

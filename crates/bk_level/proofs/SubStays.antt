@@ -15,7 +15,7 @@ use Rattle.bk_dev.specs.Facts.{AllAre, AreDistinct, AreNew, AssignsIn, Names as 
 use Rattle.bk_raw.specs.declared.term.RawName.{RawName}
 use Rattle.bk_raw.specs.RawTree.{RawTree, RawTrees, no_trees, tree_and}
 use Rattle.bk_raw.specs.Names.{Names, Meaning, local, global, set_name, element_name, nothing, level_name}
-use Rattle.bk_raw.specs.Outcome.{Fault, ask_domain, ask_predicate}
+use Rattle.bk_raw.specs.Outcome.{ask_domain, ask_predicate}
 use Rattle.bk_raw.specs.TermReading.{place_of, part, reading}
 use Rattle.bk_raw.specs.RightReading.{Whenever}
 use Rattle.bk_raw.specs.Built.{NamesHave, IsVisible}
@@ -32,6 +32,7 @@ use Rattle.bk_raw.proofs.Filled.{Gives}
 use Rattle.bk_raw.proofs.RulesBuilt.{ask_predicate-has, ask-has}
 use Rattle.bk_raw.proofs.RulesFit.{none-left, none-right, some-fault}
 use Rattle.bk_raw.proofs.ReadingBuilt.{reading-has, part-has, visible-built}
+use Rattle.bk_raw.specs.Faults.{Fault, wrong_write}
 use Rattle.bk_level.proofs.SubTypes.{predicate-typed, term-typed}
 
 pub nat_eq-then : (m n : ℕ) → nat_eq m n ≡ true → m ≡ n
@@ -368,7 +369,7 @@ module _ (int_max : ℤ) (typing : Typing) where
 shared-none : (left : List ℕ) (ws : List (ℕ × ℕ)) (m : ℕ) → shared_faults left ws ≡ [] → among (firsts ws) m ≡ true → among left m ≡ false
 shared-none left [] m e h = absurd (cc)
 shared-none left (w ∷ ws) m e h =
-    let k = shared-first (among left w.0) (12, w.1) (shared_faults left ws) e in
+    let k = shared-first (among left w.0) (wrong_write w.1) (shared_faults left ws) e in
     elim (or-cases (nat_eq m w.0) (among (firsts ws) m) h) [ inl l ↦ subst (λ y. among left y ≡ false) (sym (nat_eq-then m w.0 l)) k.0 | inr l ↦ shared-none left ws m k.1 l ]
   where
     shared-first : (c : Bool) (x : Fault) (fs : List Fault) → cond c (x ∷ []) [] ++ fs ≡ [] → (c ≡ false) × (fs ≡ [])

@@ -16,7 +16,7 @@ use Rattle.bk_gsl.specs.Typed.{IsTerm, IsListed, AreListed, AreTypedTerms, AreTy
 use Rattle.bk_raw.specs.declared.term.RawName.{RawName}
 use Rattle.bk_raw.specs.RawTree.{RawTree, RawTrees, no_trees, tree_and}
 use Rattle.bk_raw.specs.Names.{Names, Meaning, local, global, set_name, element_name, nothing, Agree, MeaningAgrees, level_name}
-use Rattle.bk_raw.specs.Outcome.{Fault, no_type, ask_domain, ask_predicate}
+use Rattle.bk_raw.specs.Outcome.{no_type, ask_domain, ask_predicate}
 use Rattle.bk_raw.specs.Binders.{twice, has_type}
 use Rattle.bk_raw.specs.TermReading.{place_of, part, reading}
 use Rattle.bk_raw.specs.RightReading.{Whenever}
@@ -32,6 +32,7 @@ use Rattle.bk_raw.proofs.Filled.{Gives, and-both, same_type-self}
 use Rattle.bk_raw.proofs.Asks.{Right, IsDomain, ask-right, ask_domain-right, ask_predicate-right}
 use Rattle.bk_raw.proofs.ReadingRight.{reading-right, part-right}
 use Rattle.bk_raw.proofs.RulesFit.{none-left, none-right, some-fault}
+use Rattle.bk_raw.specs.Faults.{Fault, unknown_name, without_type, wrong_write}
 
 module _ (int_max : ℤ) (table : Table) (typing : Typing) (settled : IsSettled table typing) where
   -- ---- names
@@ -72,7 +73,7 @@ module _ (int_max : ℤ) (table : Table) (typing : Typing) (settled : IsSettled 
 
   has-it : (c : Bool) (at : ℕ) (fs : List Fault) → cond c [] (no_type at) ++ fs ≡ [] → (c ≡ true) × (fs ≡ [])
   has-it true at fs h = (refl, h)
-  has-it false at fs h = some-fault (8, at) fs h
+  has-it false at fs h = some-fault (without_type at) fs h
 
   pub inner-typed : (n : ℕ) (xs : List RawName) (names : Names) → declared_faults typing n xs ≡ [] → AreTyped (typed typing names) → AreTyped (typed typing (bind (numbered n xs) names))
   inner-typed n [] names e h = h
@@ -110,8 +111,8 @@ module _ (int_max : ℤ) (table : Table) (typing : Typing) (settled : IsSettled 
   HasTypeAt x = (t : ValueType) × (type_at typing x ≡ Some t)
 
   written-typed : (writable : ℕ → Bool) (at : ℕ) (x : Target) → IsTypedTarget x → target_faults writable at x ≡ [] → HasTypeAt x
-  written-typed writable at unknown h e = some-fault (7, at) [] e
-  written-typed writable at no_variable h e = some-fault (12, at) [] e
+  written-typed writable at unknown h e = some-fault (unknown_name at) [] e
+  written-typed writable at no_variable h e = some-fault (wrong_write at) [] e
   written-typed writable at (variable_target n) h e = h
 
   at-type : (x : Target) (t : ValueType) → type_at typing x ≡ Some t → (variable_type table (number_of x) ≡ Some t) × (lists_type table t ≡ true)

@@ -17,11 +17,12 @@ use Rattle.bk_dev.specs.Facts.{AreDistinct, is_constant, home_of, IsLiteral, IsV
 use Rattle.bk_raw.specs.declared.component.RawValue.{RawValue}
 use Rattle.bk_raw.specs.declared.term.RawName.{RawName}
 use Rattle.bk_raw.specs.Names.{Names}
-use Rattle.bk_raw.specs.Outcome.{Fault, Partial, whole, hollow, single_of, pair_of, joint_of, Outcome, partial, ranging, holding, silent}
+use Rattle.bk_raw.specs.Outcome.{Partial, whole, hollow, single_of, pair_of, joint_of, Outcome, partial, ranging, holding, silent}
 use Rattle.bk_raw.specs.RightReading.{IsRight}
 use Rattle.bk_raw.specs.ScopeReading.{set_names}
 use Rattle.bk_raw.proofs.Filled.{and-both}
 use Rattle.bk_raw.proofs.RulesFit.{none-left, none-right, some-fault}
+use Rattle.bk_raw.specs.Faults.{Fault, wrong_value}
 use Rattle.bk_level.specs.Components.{Component}
 use Rattle.bk_level.specs.Typings.{Typing, numbered, variable_in, Target, unknown, no_variable, variable_target, target, as_number, type_at, type_named, variable_named, outcome_of}
 use Rattle.bk_level.specs.SubFaults.{is_again, with_target}
@@ -38,9 +39,9 @@ use Rattle.bk_level.proofs.States.{globals-seen}
 use Rattle.bk_level.proofs.Links.{named-seen}
 
 -- ---- what is told of one entry
-entry-then : (c : Bool) (at : ℕ) (fs : List Fault) → cond {A = List Fault} c [] ((14, at) ∷ []) ++ fs ≡ [] → (c ≡ true) × (fs ≡ [])
+entry-then : (c : Bool) (at : ℕ) (fs : List Fault) → cond {A = List Fault} c [] (wrong_value at ∷ []) ++ fs ≡ [] → (c ≡ true) × (fs ≡ [])
 entry-then true at fs h = (refl, h)
-entry-then false at fs h = some-fault (14, at) fs h
+entry-then false at fs h = some-fault (wrong_value at) fs h
 
 there-then : (o : Option Formula) → is_there o ≡ true → (f : Formula) × (o ≡ Some f)
 there-then None h = absurd (cc)
@@ -130,7 +131,7 @@ constants-in k (Concrete j ∷ hs) (v ∷ vs) (suc i) h l = let e : suc k + i �
 constants-in k (Inner j ∷ hs) (v ∷ vs) (suc i) h l = let e : suc k + i ≡ k + suc i = omega arith in subst (λ n. IsNumberIn n (constants_from (suc k) hs vs)) e (constants-in (suc k) hs vs i h (omega arith))
 
 -- ---- constants without a value
-missing-then : (c : Bool) (at : ℕ) → cond {A = List Fault} c ((14, at) ∷ []) [] ≡ [] → c ≡ false
+missing-then : (c : Bool) (at : ℕ) → cond {A = List Fault} c (wrong_value at ∷ []) [] ≡ [] → c ≡ false
 missing-then true at h = absurd (cc)
 missing-then false at h = refl
 
@@ -141,7 +142,7 @@ not-false false h = absurd (cc)
 has-value : (at : ℕ) (entries : List ℕ) (ns : Names) (n : ℕ) → without_value at entries ns ≡ [] → IsNumberIn n ns → among entries n ≡ true
 has-value at entries [] n h i = absurd i
 has-value at entries (m ∷ ms) n h i =
-    let now : List Fault = cond (is_missing entries (variable_in m.meaning)) ((14, at) ∷ []) [] in
+    let now : List Fault = cond (is_missing entries (variable_in m.meaning)) (wrong_value at ∷ []) [] in
     let no = missing-then (is_missing entries (variable_in m.meaning)) at (none-left now (without_value at entries ms) h) in
     elim i [
       | inl e ↦ not-false (among entries n) (sym (ap (is_missing entries) e) ∙ no)

@@ -5,7 +5,7 @@ use Rattle.bk_dev.specs.Development.{Development}
 use Rattle.bk_raw.specs.Blame.{blame, first_of, IsBlameOf}
 use Rattle.bk_raw.proofs.Blamed.{blame-right}
 use Rattle.bk_raw.specs.Names.{level_name}
-use Rattle.bk_raw.specs.Outcome.{Fault}
+use Rattle.bk_raw.specs.Faults.{Fault}
 use Rattle.bk_level.specs.Components.{Component}
 use Rattle.bk_level.specs.Above.{stem}
 use Rattle.bk_level.specs.DeclaredNames.{declares_too_many}

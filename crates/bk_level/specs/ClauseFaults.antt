@@ -1,4 +1,4 @@
--- Faults 7, 8 and 9 of a component's clauses, and declared names without a type (8).
+-- The faults of the formulas in a component's clauses, and declared names without a type.
 use Rattle.std.specs.Prelude.{ℕ, suc, ℤ, Bool, true, false, cond, List, [], ◌∷◌, ◌++◌, Option, None, Some}
 use Rattle.std.specs.Str.{bytes_eq}
 use Rattle.bk_val.specs.ValueType.{ValueType, pair_type, set_type}
@@ -7,9 +7,10 @@ use Rattle.bk_raw.specs.declared.term.RawName.{RawName}
 use Rattle.bk_raw.specs.RawTree.{RawTree}
 use Rattle.bk_raw.specs.ComponentTree.{RawSet}
 use Rattle.bk_raw.specs.Names.{Names}
-use Rattle.bk_raw.specs.Outcome.{Fault, no_type, ask_value}
+use Rattle.bk_raw.specs.Outcome.{no_type, ask_value}
 use Rattle.bk_raw.specs.Binders.{has_type}
 use Rattle.bk_raw.specs.TermReading.{place_of}
+use Rattle.bk_raw.specs.Faults.{Fault}
 use Rattle.bk_level.specs.Components.{WrittenVariable, Component}
 use Rattle.bk_level.specs.Typings.{Typing, target_in, type_at, outcome_of}
 use Rattle.bk_level.specs.SubFaults.{predicate_faults, value_faults}

@@ -1,4 +1,4 @@
--- Fault 11: what an implementation has that is not B0, the part of the notation that has code. A statement that is none is told by
+-- What is not B0: what an implementation has that is not B0, the part of the notation that has code. A statement that is none is told by
 -- itself; a formula that is none is told where nothing inside it is none. It is told where no other fault is.
 use Rattle.std.specs.Prelude.{ℕ, suc, ◌+◌, ℤ, pos, ◌-ℤ◌, int_le, Bool, true, false, cond, ◌&&◌, ◌||◌, nat_eq, List, [], ◌∷◌, ◌++◌, length, Option, None, Some}
 use Rattle.bk_val.specs.ValueType.{ValueType, int_type}
@@ -19,7 +19,8 @@ use Rattle.bk_raw.specs.declared.term.RawName.{RawName}
 use Rattle.bk_raw.specs.RawTree.{RawTree, raw, RawTreeNode, raw_name, raw_number, raw_constant, raw_word, raw_negative, raw_infix, raw_inverse, raw_image, raw_apply, raw_composition, raw_pair, raw_extension, RawTrees, no_trees, tree_and}
 use Rattle.bk_raw.specs.SubTree.{SubTree, sub, SubNode, sub_skip, sub_assign, sub_assign_at, sub_begin, sub_assert, sub_if, sub_var, sub_while, sub_sequence, Branches, no_branches, else_branch, branch_and}
 use Rattle.bk_raw.specs.Names.{Names}
-use Rattle.bk_raw.specs.Outcome.{Fault, Outcome, partial, whole, ask_domain}
+use Rattle.bk_raw.specs.Outcome.{Outcome, partial, whole, ask_domain}
+use Rattle.bk_raw.specs.Faults.{Fault, not_b0}
 use Rattle.bk_level.specs.Components.{WrittenVariable, Component, abstract_names, initialisation}
 use Rattle.bk_level.specs.Typings.{Typing, numbered, target_in, variable_named, type_at, type_named, outcome_of}
 use Rattle.bk_level.specs.Binders.{binder_count}
@@ -31,7 +32,7 @@ use Rattle.bk_level.specs.ValueFaults.{is_there}
 -- a fault, unless the test holds
 abbrev pub not_executable : Bool → ℕ → List Fault
 not_executable true at = []
-not_executable false at = (11, at) ∷ []
+not_executable false at = not_b0 at ∷ []
 
 -- ---- types
 -- whether it is there, and one of numbers, truth values or elements
@@ -153,7 +154,7 @@ gives_scalar x names e = is_scalar_option (type_given x names e)
 
 -- what is inside a formula that is no B0, or where that is all B0, the formula
 abbrev pub or_whole : ℕ → List Fault → List Fault
-or_whole at [] = (11, at) ∷ []
+or_whole at [] = not_b0 at ∷ []
 or_whole at (f ∷ fs) = f ∷ fs
 
 -- whether it is => or <=>
@@ -184,7 +185,7 @@ abbrev mutual
   expression_in x names at (raw_composition a b) = or_whole at (expression_faults x names a ++ expression_faults x names b)
   expression_in x names at (raw_pair a b) = or_whole at (expression_faults x names a ++ expression_faults x names b)
   expression_in x names at (raw_extension ts) = or_whole at (all_expression_faults x names ts)
-  expression_in x names at _ = (11, at) ∷ []
+  expression_in x names at _ = not_b0 at ∷ []
 
   -- = and /= on scalars of one type, <, <=, >, >= on integers, &, or, not
   pub condition_faults : Executing → Names → RawTree → List Fault
@@ -196,7 +197,7 @@ abbrev mutual
       cond (joins_conditions o) (condition_faults x names a ++ condition_faults x names b)
       (cond (is_order o || (is_equation o && (gives_scalar x names a && gives_scalar x names b))) (expression_faults x names a ++ expression_faults x names b)
       (or_whole at (cond (is_implication o) (condition_faults x names a ++ condition_faults x names b) (expression_faults x names a ++ expression_faults x names b))))
-  condition_in x names at _ = (11, at) ∷ []
+  condition_in x names at _ = not_b0 at ∷ []
 
   -- several expressions
   pub all_expression_faults : Executing → Names → RawTrees → List Fault
@@ -230,7 +231,7 @@ is_fill x names (Some domain) _ = false
 abbrev pub assigned_faults : Executing → Names → ℕ → List RawName → RawTrees → List Fault
 assigned_faults x names at (v ∷ []) (tree_and e no_trees) =
     cond (is_scalar_option (type_named x.typing names v.text)) (expression_faults x names e) (not_executable (is_fill x names (array_of x (variable_named names v.text)) e) at)
-assigned_faults x names at _ _ = (11, at) ∷ []
+assigned_faults x names at _ _ = not_b0 at ∷ []
 
 abbrev mutual
   -- skip, x := E, f(e) := E, a fill, S ; T, BEGIN, VAR, IF, WHILE and ASSERT, whose predicate is not executed; nor are a loop's invariant
@@ -248,7 +249,7 @@ abbrev mutual
   statement_in x names n at (sub_var vs s) = statement_faults x (bind (numbered n vs) names) (n + length vs) s
   statement_in x names n at (sub_while p s i v) = condition_faults x names p ++ statement_faults x names n s
   statement_in x names n at (sub_sequence s t) = statement_faults x names n s ++ statement_faults x names (n + binder_count s) t
-  statement_in x names n at _ = (11, at) ∷ []
+  statement_in x names n at _ = not_b0 at ∷ []
 
   pub branches_executable : Executing → Names → ℕ → Branches → List Fault
   branches_executable x names n no_branches = []
@@ -259,7 +260,7 @@ abbrev mutual
 -- each name of VARIABLES
 abbrev pub abstract_faults : List RawName → List Fault
 abstract_faults [] = []
-abstract_faults (x ∷ xs) = (11, x.at) ∷ abstract_faults xs
+abstract_faults (x ∷ xs) = not_b0 x.at ∷ abstract_faults xs
 
 -- a variable that is neither scalar nor array: at its declaration, or at the component's name where it only comes from above
 abbrev pub stored_faults : Executing → ℕ → List WrittenVariable → ℕ → List Declared → List Fault

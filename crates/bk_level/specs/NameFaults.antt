@@ -1,11 +1,11 @@
--- Fault 6: names of a component that stand twice. (Names that a term or a substitution binds are judged where they are read.)
+-- Names of a component that stand twice. (Names that a term or a substitution binds are judged where they are read.)
 use Rattle.std.specs.Prelude.{ℕ, suc, cond, List, [], ◌∷◌, ◌++◌}
 use Rattle.bk_dev.specs.Development.{Level, Development}
 use Rattle.bk_raw.specs.declared.term.RawName.{RawName}
 use Rattle.bk_raw.specs.ComponentTree.{RawOperation}
 use Rattle.bk_raw.specs.Names.{Names}
-use Rattle.bk_raw.specs.Outcome.{Fault}
 use Rattle.bk_raw.specs.Binders.{is_text, twice}
+use Rattle.bk_raw.specs.Faults.{Fault, twice_named}
 use Rattle.bk_level.specs.Components.{Component, set_names, abstract_names, operation_names}
 use Rattle.bk_level.specs.Above.{names_at_level, globals_of, upper_of}
 use Rattle.bk_level.specs.Plan.{declared_texts, carried}
@@ -18,7 +18,7 @@ named_texts (n ∷ ns) = n.text ∷ named_texts ns
 -- each name that is one of these
 abbrev pub taken : List (List ℕ) → List RawName → List Fault
 taken before [] = []
-taken before (x ∷ xs) = cond (is_text before x.text) ((6, x.at) ∷ []) [] ++ taken before xs
+taken before (x ∷ xs) = cond (is_text before x.text) (twice_named x.at ∷ []) [] ++ taken before xs
 
 -- the names of the variables of all levels from k on
 abbrev pub variable_texts : ℕ → Development → List Level → List (List ℕ)

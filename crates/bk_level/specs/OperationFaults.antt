@@ -1,4 +1,4 @@
--- Fault 10: where substitutions may stand, headers that differ from the machine's, and a missing initialisation.
+-- Wrong operations: where substitutions may stand, headers that differ from the machine's, and a missing initialisation.
 use Rattle.std.specs.Prelude.{ℕ, suc, Bool, true, false, cond, not, ◌&&◌, List, [], ◌∷◌, ◌++◌, Option, None, Some}
 use Rattle.std.specs.Str.{bytes_eq}
 use Rattle.bk_dev.specs.declared.kind.Kind.{Kind}
@@ -7,8 +7,8 @@ use Rattle.bk_dev.specs.Development.{Head, Development, is_implementing}
 use Rattle.bk_raw.specs.declared.term.RawName.{RawName}
 use Rattle.bk_raw.specs.ComponentTree.{RawOperation}
 use Rattle.bk_raw.specs.SubTree.{SubTree, sub, SubNode, sub_skip, sub_assign, sub_assign_at, sub_member, sub_such, sub_begin, sub_pre, sub_assert, sub_if, sub_choice, sub_select, sub_any, sub_let, sub_var, sub_while, sub_parallel, sub_sequence, Branches, no_branches, else_branch, branch_and, Choices, no_choices, choice_and}
-use Rattle.bk_raw.specs.Outcome.{Fault}
 use Rattle.bk_raw.specs.Binders.{is_text}
+use Rattle.bk_raw.specs.Faults.{Fault, wrong_operation}
 use Rattle.bk_level.specs.Components.{Component, first_token, operation_names, is_machine, initialisation}
 use Rattle.bk_level.specs.Binders.{texts}
 use Rattle.bk_level.specs.Above.{inputs_named, outputs_named}
@@ -18,7 +18,7 @@ use Rattle.bk_level.specs.NameFaults.{named_texts}
 -- a fault, unless the test holds
 abbrev pub unless : Bool → ℕ → List Fault
 unless true at = []
-unless false at = (10, at) ∷ []
+unless false at = wrong_operation at ∷ []
 
 -- ---- what may stand where
 -- whether a component of this kind may have ; and VAR: any but the machine
@@ -98,7 +98,7 @@ lower_faults false dev c = header_faults dev c.operations ++ missing_faults c.at
 -- ---- all
 -- no initialisation where variables stand
 abbrev pub missing_init : ℕ → Option SubTree → List Declared → List Fault
-missing_init at None (d ∷ ds) = (10, at) ∷ []
+missing_init at None (d ∷ ds) = wrong_operation at ∷ []
 missing_init at _ _ = []
 
 -- those of a component

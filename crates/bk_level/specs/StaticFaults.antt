@@ -1,8 +1,8 @@
 -- All faults of a component but those of B0.
 use Rattle.std.specs.Prelude.{ℕ, ℤ, Bool, List, [], ◌∷◌, ◌++◌, length}
+use Rattle.bk_raw.specs.Faults.{Fault}
 use Rattle.bk_dev.specs.Development.{Development}
 use Rattle.bk_dev.specs.Facts.{writes_own}
-use Rattle.bk_raw.specs.Outcome.{Fault}
 use Rattle.bk_level.specs.Components.{Component, initialisation}
 use Rattle.bk_level.specs.Typings.{Typing, interval}
 use Rattle.bk_level.specs.SubFaults.{declared_faults, sub_faults}

@@ -1,4 +1,4 @@
--- The faults of a written substitution: of names (6, 7), of formulas (8, 9) and of writes (12). Where it may stand (10) is asked by itself.
+-- The faults of a written substitution: of names, of formulas and of writes. Where it may stand is asked by itself.
 use Rattle.std.specs.Prelude.{ℕ, suc, ℤ, ◌+◌, Bool, true, false, cond, not, ◌||◌, List, [], ◌∷◌, ◌++◌, length, Option, None, Some}
 use Rattle.std.specs.List.{filter}
 use Rattle.bk_val.specs.ValueType.{ValueType, int_type, pair_type, set_type}
@@ -9,9 +9,10 @@ use Rattle.bk_raw.specs.declared.term.RawName.{RawName}
 use Rattle.bk_raw.specs.RawTree.{RawTree, RawTrees, no_trees, tree_and}
 use Rattle.bk_raw.specs.SubTree.{SubTree, sub, SubNode, sub_skip, sub_assign, sub_assign_at, sub_member, sub_such, sub_begin, sub_pre, sub_assert, sub_if, sub_choice, sub_select, sub_any, sub_let, sub_var, sub_while, sub_parallel, sub_sequence, Branches, no_branches, else_branch, branch_and, Choices, no_choices, choice_and}
 use Rattle.bk_raw.specs.Names.{Names}
-use Rattle.bk_raw.specs.Outcome.{Fault, no_type, ask, ask_value, ask_domain}
+use Rattle.bk_raw.specs.Outcome.{no_type, ask, ask_value, ask_domain}
 use Rattle.bk_raw.specs.Binders.{twice, has_type}
 use Rattle.bk_raw.specs.TermReading.{place_of}
+use Rattle.bk_raw.specs.Faults.{Fault, twice_named, unknown_name, without_type, wrong_write}
 use Rattle.bk_level.specs.Typings.{Typing, interval, numbered, numbered_old, Target, unknown, no_variable, variable_target, target, number_of, type_at, predicate_reading, term_reading, outcome_of}
 use Rattle.bk_level.specs.Binders.{binder_count}
 
@@ -37,12 +38,12 @@ domain_faults int_max typing names e = value_faults int_max typing names e ++ (a
 -- unless the variable may be written
 abbrev pub writable_faults : Bool → ℕ → List Fault
 writable_faults true at = []
-writable_faults false at = (12, at) ∷ []
+writable_faults false at = wrong_write at ∷ []
 
 -- a name that is not visible, or that is none of a variable that may be written
 abbrev pub target_faults : (ℕ → Bool) → ℕ → Target → List Fault
-target_faults writable at unknown = (7, at) ∷ []
-target_faults writable at no_variable = (12, at) ∷ []
+target_faults writable at unknown = unknown_name at ∷ []
+target_faults writable at no_variable = wrong_write at ∷ []
 target_faults writable at (variable_target n) = writable_faults (writable n) at
 
 -- whether the variable stands before
@@ -59,14 +60,14 @@ with_target _ before = before
 abbrev pub left_faults : Names → (ℕ → Bool) → List ℕ → List RawName → List Fault
 left_faults names writable before [] = []
 left_faults names writable before (x ∷ xs) =
-    target_faults writable x.at (target names x.text) ++ (cond (is_again before (target names x.text)) ((12, x.at) ∷ []) [] ++ left_faults names writable (with_target (target names x.text) before) xs)
+    target_faults writable x.at (target names x.text) ++ (cond (is_again before (target names x.text)) (wrong_write x.at ∷ []) [] ++ left_faults names writable (with_target (target names x.text) before) xs)
 
 -- x, y := E, F: each term takes its variable's type; lists of different length are at fault at the first name
 abbrev pub assign_faults : ℤ → Typing → Names → ℕ → List RawName → RawTrees → List Fault
 assign_faults int_max typing names first [] no_trees = []
 assign_faults int_max typing names first (x ∷ xs) (tree_and e es) = term_faults int_max typing names (type_at typing (target names x.text)) e ++ assign_faults int_max typing names first xs es
-assign_faults int_max typing names first (x ∷ xs) no_trees = (12, first) ∷ []
-assign_faults int_max typing names first [] (tree_and e es) = (12, first) ∷ (term_faults int_max typing names None e ++ assign_faults int_max typing names first [] es)
+assign_faults int_max typing names first (x ∷ xs) no_trees = wrong_write first ∷ []
+assign_faults int_max typing names first [] (tree_and e es) = wrong_write first ∷ (term_faults int_max typing names None e ++ assign_faults int_max typing names first [] es)
 
 -- where the first name stands
 abbrev pub first_place : List RawName → ℕ
@@ -151,7 +152,7 @@ abbrev mutual
 -- what both sides of || write: each name on the right whose variable the left writes
 abbrev pub shared_faults : List ℕ → List (ℕ × ℕ) → List Fault
 shared_faults left [] = []
-shared_faults left (w ∷ ws) = cond (among left w.0) ((12, w.1) ∷ []) [] ++ shared_faults left ws
+shared_faults left (w ∷ ws) = cond (among left w.0) (wrong_write w.1 ∷ []) [] ++ shared_faults left ws
 
 -- ---- substitutions
 -- whether a variable may be written where k from n on are bound

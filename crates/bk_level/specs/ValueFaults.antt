@@ -1,10 +1,10 @@
--- Fault 14: the values of constants.
+-- Wrong values: the values of constants.
 use Rattle.std.specs.Prelude.{ℕ, ℤ, Bool, true, false, cond, not, ◌&&◌, List, [], ◌∷◌, ◌++◌, Option, None, Some}
 use Rattle.bk_gsl.specs.State.{among}
 use Rattle.bk_dev.specs.Development.{is_implementing}
 use Rattle.bk_raw.specs.declared.component.RawValue.{RawValue}
 use Rattle.bk_raw.specs.Names.{Names}
-use Rattle.bk_raw.specs.Outcome.{Fault}
+use Rattle.bk_raw.specs.Faults.{Fault, wrong_value}
 use Rattle.bk_level.specs.Components.{Component}
 use Rattle.bk_level.specs.Typings.{Typing, variable_in, target, variable_named}
 use Rattle.bk_level.specs.SubFaults.{is_again, with_target}
@@ -21,7 +21,7 @@ is_there (Some x) = true
 abbrev pub entry_value_faults : ℤ → Typing → Names → List ℕ → List RawValue → List Fault
 entry_value_faults int_max typing globals before [] = []
 entry_value_faults int_max typing globals before (v ∷ vs) =
-    cond (is_there (value_of int_max typing globals v) && not (is_again before (target globals v.name.text))) [] ((14, v.name.at) ∷ []) ++ entry_value_faults int_max typing globals (with_target (target globals v.name.text) before) vs
+    cond (is_there (value_of int_max typing globals v) && not (is_again before (target globals v.name.text))) [] (wrong_value v.name.at ∷ []) ++ entry_value_faults int_max typing globals (with_target (target globals v.name.text) before) vs
 
 -- the number of a constant, if it is there
 abbrev pub with_number : Option ℕ → List ℕ → List ℕ
@@ -41,7 +41,7 @@ is_missing entries (Some n) = not (among entries n)
 -- constants without a value, at the implementation's name
 abbrev pub without_value : ℕ → List ℕ → Names → List Fault
 without_value at entries [] = []
-without_value at entries (n ∷ ns) = cond (is_missing entries (variable_in n.meaning)) ((14, at) ∷ []) [] ++ without_value at entries ns
+without_value at entries (n ∷ ns) = cond (is_missing entries (variable_in n.meaning)) (wrong_value at ∷ []) [] ++ without_value at entries ns
 
 -- those of an implementation
 abbrev pub value_faults_of : ℤ → Typing → Plan → Component → List Fault

@@ -3,7 +3,7 @@ use Rattle.std.specs.Prelude.{◌≡◌, ℕ, ℤ, Bool, true, false, List, [], 
 use Rattle.bk_dev.specs.Development.{Development}
 use Rattle.bk_raw.specs.Blame.{blame}
 use Rattle.bk_raw.specs.ComponentTree.{RawComponent}
-use Rattle.bk_raw.specs.Outcome.{Fault}
+use Rattle.bk_raw.specs.Faults.{Fault, told_as}
 use Rattle.bk_level.specs.Components.{Component, component_of}
 use Rattle.bk_level.specs.Above.{above_of}
 use Rattle.bk_level.specs.Plan.{plan}
@@ -24,10 +24,14 @@ all_faults int_max dev c = static_faults int_max dev c ++ executable_faults int_
 pub data Verdict : Type 0 where
   -- the component is right, and these are all levels
   accepted : Development → Verdict
-  -- the first fault: of the least number, in the order of the numbers, and of these at the least byte
+  -- the fault that is asked first, and of one kind that at the least byte
   at_fault : Fault → Verdict
   -- the limit of this number is passed
   past_limit : ℕ → Verdict
+
+-- a fault is answered that is told by this number and at this byte
+abbrev pub IsAtFault : Verdict → ℕ → ℕ → Type 0
+IsAtFault v number place = (f : Fault) × (v ≡ at_fault f) × (told_as f ≡ (number, place))
 
 -- by the fault that is told, if there is one
 abbrev pub judged : Development → Option Fault → Verdict

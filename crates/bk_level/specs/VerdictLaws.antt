@@ -18,7 +18,7 @@ use Rattle.bk_raw.specs.ComponentTree.{RawComponent}
 use Rattle.bk_raw.specs.ComponentSpelling.{SpellsComponent}
 use Rattle.bk_raw.specs.Limits.{IsLowComponent}
 use Rattle.bk_raw.specs.Names.{level_name}
-use Rattle.bk_raw.specs.Outcome.{Fault}
+use Rattle.bk_raw.specs.Faults.{Fault}
 use Rattle.bk_level.specs.Components.{Component}
 use Rattle.bk_level.specs.Above.{above_of, stem}
 use Rattle.bk_level.specs.DeclaredNames.{declares_too_many}

@@ -13,7 +13,6 @@ use Rattle.bk_dev.specs.Development.{Head, Level, Development, is_implementing, 
 use Rattle.bk_dev.specs.Layout.{has_scalars}
 use Rattle.bk_gsl.specs.State.{among}
 use Rattle.bk_raw.specs.Binders.{or_bool}
-use Rattle.bk_raw.specs.Outcome.{Fault}
 use Rattle.bk_raw.specs.Blame.{blame}
 use Rattle.bk_level.proofs.Listed.{of_entry, entry-type, variable-entry}
 use Rattle.bk_level.proofs.Stands.{get-right}
@@ -26,6 +25,7 @@ use Rattle.bk_level.specs.Components.{Component, component_of, kind_as, is_machi
 use Rattle.bk_raw.specs.ComponentTree.{RawComponent}
 use Rattle.bk_raw.specs.declared.component.ComponentKind.{ComponentKind}
 use Rattle.bk_raw.specs.declared.component.ComponentKind.TheVariants.{Machine, Refinement, Implementation}
+use Rattle.bk_raw.specs.Faults.{Fault}
 use Rattle.bk_level.specs.DeclaredNames.{declares_too_many}
 use Rattle.bk_level.specs.VerdictLaws.{MayStandAbove, HasRoom}
 use Rattle.bk_level.specs.Binders.{texts, binder_texts}

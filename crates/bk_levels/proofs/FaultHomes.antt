@@ -6,8 +6,8 @@ use Rattle.bk_form.proofs.Members.{both_ways, or-cases}
 use Rattle.bk_gsl.specs.State.{among}
 use Rattle.bk_raw.specs.Names.{Names}
 use Rattle.bk_raw.specs.SubTree.{SubTree}
-use Rattle.bk_raw.specs.Outcome.{Fault}
 use Rattle.bk_raw.specs.Blame.{blame, earlier}
+use Rattle.bk_raw.specs.Faults.{Fault}
 use Rattle.bk_elab.specs.Visible.{typing_of, visible_names}
 use Rattle.bk_dev.specs.Development.{Development}
 use Rattle.bk_dev.specs.Facts.{AllAre, is_variable_of, home_of, writes_own}

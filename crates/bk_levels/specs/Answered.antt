@@ -2,13 +2,13 @@
 use Rattle.std.specs.Prelude.{◌≡◌, ℕ, ℤ, Bool, cond, List, [], ◌∷◌, ◌++◌, length, map, Option, None, Some}
 use Rattle.bk_val.specs.ValueType.{ValueType}
 use Rattle.bk_form.specs.Table.{Table, SetEntry, VariableEntry, with_set, with_variable}
+use Rattle.bk_raw.specs.Faults.{Fault}
 use Rattle.bk_gsl.specs.State.{among}
 use Rattle.bk_dev.specs.Development.{Development, default_max}
 use Rattle.bk_dev.specs.Facts.{home_of, is_variable_of, writes_own}
 use Rattle.bk_elab.specs.declared.error.ElabFault.{ElabFault}
 use Rattle.bk_elab.specs.declared.error.ElabFault.TheVariants.{Fault as FaultAt, Limit, Memory}
 use Rattle.bk_elab.specs.Visible.{visible_names}
-use Rattle.bk_raw.specs.Outcome.{Fault}
 use Rattle.bk_level.specs.Components.{Component, is_machine}
 use Rattle.bk_level.specs.Typings.{Typing, interval}
 use Rattle.bk_level.specs.Plan.{Placed, Plan, entries_of, machine_heads, body_scope}
@@ -16,7 +16,7 @@ use Rattle.bk_level.specs.LevelOf.{entries_from, new_texts, new_homes, level_mad
 use Rattle.bk_level.specs.ClauseFaults.{input_faults}
 use Rattle.bk_level.specs.SubFaults.{declared_faults, sub_faults}
 use Rattle.bk_level.specs.StaticFaults.{outputs_of}
-use Rattle.bk_level.specs.Verdict.{Verdict, at_fault, past_limit}
+use Rattle.bk_level.specs.Verdict.{Verdict, IsAtFault, past_limit}
 use Rattle.bk_sight.specs.Shown.{plan_shown}
 use Rattle.bk_levels.specs.declared.levels.Added.{Added}
 use Rattle.bk_sight.specs.declared.plan.Plan.{Plan as PlanKept}
@@ -25,7 +25,7 @@ use Rattle.bk_sight.specs.declared.way.Typing.{Typing as TypingKept}
 -- ---- the answer
 -- what is told where the answer is no development: the fault or the limit; want of memory tells nothing
 abbrev pub SaysOfComponent : Verdict → ElabFault → Type 0
-SaysOfComponent verdict (FaultAt number place) = verdict ≡ at_fault (number, place)
+SaysOfComponent verdict (FaultAt number place) = IsAtFault verdict number place
 SaysOfComponent verdict (Limit n) = verdict ≡ past_limit n
 SaysOfComponent verdict Memory = Unit {0}
 

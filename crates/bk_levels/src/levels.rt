@@ -80,7 +80,7 @@ pub fn level(
     let judged = part_of(alloc, max, higher, &component, &blank)?;
     if let Some(fault) = judged.fault {
         return Err(ElabFault::Fault {
-            number: fault.number,
+            number: fault.kind.number(),
             place: fault.place,
         });
     }

@@ -8,7 +8,7 @@ use Rattle.bk_raw.specs.ComponentTree.{RawComponent}
 use Rattle.bk_raw.specs.ComponentSpelling.{SpellsComponent}
 use Rattle.bk_raw.specs.Limits.{IsLowComponent}
 use Rattle.bk_raw.specs.Places.{IsComponentFaultAt}
-use Rattle.bk_raw.specs.Outcome.{Fault as StaticFault}
+use Rattle.bk_raw.specs.Faults.{Fault as StaticFault}
 use Rattle.bk_raw.proofs.Places.{component-places-are-one}
 use Rattle.bk_lex.proofs.Cutting.{tokens_are_one}
 use Rattle.bk_dev.specs.Development.{Development, int_max}

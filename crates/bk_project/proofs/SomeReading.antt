@@ -6,7 +6,7 @@ use Rattle.std.proofs.lemmas.List.Elements.{All-head, All-tail}
 use Rattle.std.proofs.lemmas.Slice.Zip.{AllZip-long}
 use Rattle.bk_form.specs.declared.token.Token.{Token}
 use Rattle.bk_raw.specs.ComponentTree.{RawComponent}
-use Rattle.bk_raw.specs.Outcome.{Fault as StaticFault}
+use Rattle.bk_raw.specs.Faults.{Fault as StaticFault}
 use Rattle.bk_raw.specs.Places.{byte_at}
 use Rattle.bk_raw.specs.Blame.{blame}
 use Rattle.bk_dev.specs.Development.{Development, int_max}

@@ -19,16 +19,17 @@ use Rattle.bk_raw.specs.RawTree.{RawTree, raw, RawTreeNode, raw_name, raw_level_
 use Rattle.bk_raw.specs.FreeNames.{is_among, conjuncts}
 use Rattle.bk_raw.specs.Additions.{HasNoAddition, NodeHasNoAddition, TreesHaveNoAddition}
 use Rattle.bk_raw.specs.Names.{Names, local, Sight, unseen, untyped_name, seen, sight, found, level_name}
-use Rattle.bk_raw.specs.Outcome.{Fault, Joint, union_joint, inter_joint, minus_joint, over_joint, joins, Partial, whole, hollow, single_of, pair_of, joint_of, filled, whole_of, Outcome, partial, ranging, holding, silent, Reading, silently, plainly, giving, no_type, fitting, ask, ask_value, ask_set, ask_relation, ask_domain, ask_predicate, unvalued, of_one}
+use Rattle.bk_raw.specs.Outcome.{Joint, union_joint, inter_joint, minus_joint, over_joint, joins, Partial, whole, hollow, single_of, pair_of, joint_of, filled, whole_of, Outcome, partial, ranging, holding, silent, Reading, silently, plainly, giving, no_type, fitting, ask, ask_value, ask_set, ask_relation, ask_domain, ask_predicate, unvalued, of_one}
 use Rattle.bk_raw.specs.OperatorReadings.{constant_reading, word_reading, negative_reading, inverse_reading, depending, on_values, equal, negated, one_type_by, joined, joint, is_number, minus_by, minus, times, unmatched, no_number, ungiven, composed, image_reading, apply_reading, composition_reading, paired, pair_reading, infix_reading, singled, single_reading, extended}
 use Rattle.bk_raw.specs.Binders.{Bound, bound_names, inside, has_type, untyped_faults, is_text, twice, Ranged, unranged, first_range, ranged_as, ranged_by, as_single, ranges_by, as_bound, is_used_by, is_used, is_some_name, nameless, left_over, body_of}
 use Rattle.bk_raw.specs.TermReading.{place_of, is_predicate, is_alike, part, name_of, name_reading, names_one, takes_predicate, is_connective, stricts, stricts_in, ranges_stricts, all_stricts, strict_faults, from_one, from_two, reading, node_reading, extension_reading, elements_reading, clues, premise_clues, ranges, rest, rest_in}
 use Rattle.bk_raw.specs.Speaking.{IsTold}
-use Rattle.bk_raw.specs.FormFaults.{with_names, part_faults, form_faults, node_faults, each_faults, but_types, is_in_sight, FormTellsFaults}
+use Rattle.bk_raw.specs.FormFaults.{with_names, part_faults, form_faults, node_faults, each_faults, but_types, is_of_type, is_in_sight, FormTellsFaults}
 use Rattle.bk_raw.proofs.RulesFit.{none-left, none-right}
 use Rattle.bk_raw.proofs.ReadingClean.{IsAnswer, ask_set-fair, ask_value-fair, reading-clean}
 use Rattle.bk_raw.proofs.BoundNames.{no-name, or-cases, or-left, or-right, is_bound, names-bound, unranged-bound, clues-bound, premise-bound, ranges-bound}
 use Rattle.bk_raw.proofs.ReadingKept.{raised, found-raised}
+use Rattle.bk_raw.specs.Faults.{Fault, twice_named, unknown_name, not_predicate}
 
 -- ---- faults but for those of types
 append-nil : {A : Type 0} (xs : List A) → xs ++ [] ≡ xs
@@ -41,7 +42,7 @@ cond-joined false x xs ys zs e = ap (λ ws. x ∷ ws) e
 
 but-append : (xs ys : List Fault) → but_types (xs ++ ys) ≡ but_types xs ++ but_types ys
 but-append [] ys = refl
-but-append (x ∷ xs) ys = cond-joined (nat_eq x.0 8) x (but_types xs) (but_types ys) (but_types (xs ++ ys)) (but-append xs ys)
+but-append (x ∷ xs) ys = cond-joined (is_of_type x.0) x (but_types xs) (but_types ys) (but_types (xs ++ ys)) (but-append xs ys)
 
 -- they are all of types
 abbrev Eights : List Fault → Type 0
@@ -276,13 +277,13 @@ constant-eights max at _ = refl
 keep-append : (xs ys : List Fault) → Kept xs → Kept ys → Kept (xs ++ ys)
 keep-append xs ys h k = both-are xs ys xs ys h k
 
-six-kept : (c : Bool) (at : ℕ) → Kept (cond c ((6, at) ∷ []) [])
+six-kept : (c : Bool) (at : ℕ) → Kept (cond c (twice_named at ∷ []) [])
 six-kept true at = refl
 six-kept false at = refl
 
 twice-kept : (before : List (List ℕ)) (xs : List RawName) → Kept (twice before xs)
 twice-kept before [] = refl
-twice-kept before (x ∷ xs) = keep-append (cond (is_text before x.text) ((6, x.at) ∷ []) []) (twice (x.text ∷ before) xs) (six-kept (is_text before x.text) x.at) (twice-kept (x.text ∷ before) xs)
+twice-kept before (x ∷ xs) = keep-append (cond (is_text before x.text) (twice_named x.at ∷ []) []) (twice (x.text ∷ before) xs) (six-kept (is_text before x.text) x.at) (twice-kept (x.text ∷ before) xs)
 
 eight-gone : (c : Bool) (at : ℕ) → Eights (cond c [] (no_type at))
 eight-gone true at = refl
@@ -302,7 +303,7 @@ mutual
   node-kept : (node : RawTreeNode) (at : ℕ) → Kept (stricts_in at node)
   node-kept (raw_word o a) at = stricts-kept a
   node-kept (raw_negative a) at = stricts-kept a
-  node-kept (raw_infix StrictSubset a b) at = keep-append ((9, at) ∷ stricts a) (stricts b) (ap (λ fs. (9, at) ∷ fs) (stricts-kept a)) (stricts-kept b)
+  node-kept (raw_infix StrictSubset a b) at = keep-append (not_predicate at ∷ stricts a) (stricts b) (ap (λ fs. not_predicate at ∷ fs) (stricts-kept a)) (stricts-kept b)
   node-kept (raw_infix _ a b) at = keep-append (stricts a) (stricts b) (stricts-kept a) (stricts-kept b)
   node-kept (raw_inverse a) at = stricts-kept a
   node-kept (raw_image a b) at = keep-append (stricts a) (stricts b) (stricts-kept a) (stricts-kept b)
@@ -358,34 +359,34 @@ mutual
   wider-none (raw at node) v w h e = wider-node node at v w h e
 
   wider-node : (node : RawTreeNode) (at : ℕ) (v w : List ℕ → Bool) → IsWider v w → node_faults v at node ≡ [] → node_faults w at node ≡ []
-  wider-node (raw_name x) at v w h e = name-none (v x) (w x) (7, at) (h x) e
-  wider-node (raw_level_name x n) at v w h e = name-none (v (level_name x n)) (w (level_name x n)) (7, at) (h (level_name x n)) e
-  wider-node (raw_word o a) at v w h e = part-none (is_alike (takes_predicate o) (is_predicate a)) (9, place_of a) (form_faults v a) (form_faults w a) (wider-none a v w h) e
-  wider-node (raw_negative a) at v w h e = part-none (is_alike false (is_predicate a)) (9, place_of a) (form_faults v a) (form_faults w a) (wider-none a v w h) e
+  wider-node (raw_name x) at v w h e = name-none (v x) (w x) (unknown_name at) (h x) e
+  wider-node (raw_level_name x n) at v w h e = name-none (v (level_name x n)) (w (level_name x n)) (unknown_name at) (h (level_name x n)) e
+  wider-node (raw_word o a) at v w h e = part-none (is_alike (takes_predicate o) (is_predicate a)) (not_predicate (place_of a)) (form_faults v a) (form_faults w a) (wider-none a v w h) e
+  wider-node (raw_negative a) at v w h e = part-none (is_alike false (is_predicate a)) (not_predicate (place_of a)) (form_faults v a) (form_faults w a) (wider-none a v w h) e
   wider-node (raw_infix o a b) at v w h e =
       append-none (strict_faults o a b) (part_faults (is_connective o) a (form_faults v a) ++ part_faults (is_connective o) b (form_faults v b)) (strict_faults o a b) (part_faults (is_connective o) a (form_faults w a) ++ part_faults (is_connective o) b (form_faults w b)) (same-none (strict_faults o a b))
       (append-none (part_faults (is_connective o) a (form_faults v a)) (part_faults (is_connective o) b (form_faults v b)) (part_faults (is_connective o) a (form_faults w a)) (part_faults (is_connective o) b (form_faults w b))
-      (part-none (is_alike (is_connective o) (is_predicate a)) (9, place_of a) (form_faults v a) (form_faults w a) (wider-none a v w h))
-      (part-none (is_alike (is_connective o) (is_predicate b)) (9, place_of b) (form_faults v b) (form_faults w b) (wider-none b v w h))) e
-  wider-node (raw_inverse a) at v w h e = part-none (is_alike false (is_predicate a)) (9, place_of a) (form_faults v a) (form_faults w a) (wider-none a v w h) e
-  wider-node (raw_image a b) at v w h e = append-none (part_faults false a (form_faults v a)) (part_faults false b (form_faults v b)) (part_faults false a (form_faults w a)) (part_faults false b (form_faults w b)) (part-none (is_alike false (is_predicate a)) (9, place_of a) (form_faults v a) (form_faults w a) (wider-none a v w h)) (part-none (is_alike false (is_predicate b)) (9, place_of b) (form_faults v b) (form_faults w b) (wider-none b v w h)) e
-  wider-node (raw_apply a b) at v w h e = append-none (part_faults false a (form_faults v a)) (part_faults false b (form_faults v b)) (part_faults false a (form_faults w a)) (part_faults false b (form_faults w b)) (part-none (is_alike false (is_predicate a)) (9, place_of a) (form_faults v a) (form_faults w a) (wider-none a v w h)) (part-none (is_alike false (is_predicate b)) (9, place_of b) (form_faults v b) (form_faults w b) (wider-none b v w h)) e
-  wider-node (raw_composition a b) at v w h e = append-none (part_faults false a (form_faults v a)) (part_faults false b (form_faults v b)) (part_faults false a (form_faults w a)) (part_faults false b (form_faults w b)) (part-none (is_alike false (is_predicate a)) (9, place_of a) (form_faults v a) (form_faults w a) (wider-none a v w h)) (part-none (is_alike false (is_predicate b)) (9, place_of b) (form_faults v b) (form_faults w b) (wider-none b v w h)) e
-  wider-node (raw_pair a b) at v w h e = append-none (part_faults false a (form_faults v a)) (part_faults false b (form_faults v b)) (part_faults false a (form_faults w a)) (part_faults false b (form_faults w b)) (part-none (is_alike false (is_predicate a)) (9, place_of a) (form_faults v a) (form_faults w a) (wider-none a v w h)) (part-none (is_alike false (is_predicate b)) (9, place_of b) (form_faults v b) (form_faults w b) (wider-none b v w h)) e
+      (part-none (is_alike (is_connective o) (is_predicate a)) (not_predicate (place_of a)) (form_faults v a) (form_faults w a) (wider-none a v w h))
+      (part-none (is_alike (is_connective o) (is_predicate b)) (not_predicate (place_of b)) (form_faults v b) (form_faults w b) (wider-none b v w h))) e
+  wider-node (raw_inverse a) at v w h e = part-none (is_alike false (is_predicate a)) (not_predicate (place_of a)) (form_faults v a) (form_faults w a) (wider-none a v w h) e
+  wider-node (raw_image a b) at v w h e = append-none (part_faults false a (form_faults v a)) (part_faults false b (form_faults v b)) (part_faults false a (form_faults w a)) (part_faults false b (form_faults w b)) (part-none (is_alike false (is_predicate a)) (not_predicate (place_of a)) (form_faults v a) (form_faults w a) (wider-none a v w h)) (part-none (is_alike false (is_predicate b)) (not_predicate (place_of b)) (form_faults v b) (form_faults w b) (wider-none b v w h)) e
+  wider-node (raw_apply a b) at v w h e = append-none (part_faults false a (form_faults v a)) (part_faults false b (form_faults v b)) (part_faults false a (form_faults w a)) (part_faults false b (form_faults w b)) (part-none (is_alike false (is_predicate a)) (not_predicate (place_of a)) (form_faults v a) (form_faults w a) (wider-none a v w h)) (part-none (is_alike false (is_predicate b)) (not_predicate (place_of b)) (form_faults v b) (form_faults w b) (wider-none b v w h)) e
+  wider-node (raw_composition a b) at v w h e = append-none (part_faults false a (form_faults v a)) (part_faults false b (form_faults v b)) (part_faults false a (form_faults w a)) (part_faults false b (form_faults w b)) (part-none (is_alike false (is_predicate a)) (not_predicate (place_of a)) (form_faults v a) (form_faults w a) (wider-none a v w h)) (part-none (is_alike false (is_predicate b)) (not_predicate (place_of b)) (form_faults v b) (form_faults w b) (wider-none b v w h)) e
+  wider-node (raw_pair a b) at v w h e = append-none (part_faults false a (form_faults v a)) (part_faults false b (form_faults v b)) (part_faults false a (form_faults w a)) (part_faults false b (form_faults w b)) (part-none (is_alike false (is_predicate a)) (not_predicate (place_of a)) (form_faults v a) (form_faults w a) (wider-none a v w h)) (part-none (is_alike false (is_predicate b)) (not_predicate (place_of b)) (form_faults v b) (form_faults w b) (wider-none b v w h)) e
   wider-node (raw_extension ts) at v w h e = wider-each ts v w h e
-  wider-node (raw_comprehension xs p) at v w h e = append-none (twice [] xs) (part_faults true p (form_faults (with_names xs v) p)) (twice [] xs) (part_faults true p (form_faults (with_names xs w) p)) (same-none (twice [] xs)) (part-none (is_alike true (is_predicate p)) (9, place_of p) (form_faults (with_names xs v) p) (form_faults (with_names xs w) p) (wider-none p (with_names xs v) (with_names xs w) (wider-inside xs v w h))) e
+  wider-node (raw_comprehension xs p) at v w h e = append-none (twice [] xs) (part_faults true p (form_faults (with_names xs v) p)) (twice [] xs) (part_faults true p (form_faults (with_names xs w) p)) (same-none (twice [] xs)) (part-none (is_alike true (is_predicate p)) (not_predicate (place_of p)) (form_faults (with_names xs v) p) (form_faults (with_names xs w) p) (wider-none p (with_names xs v) (with_names xs w) (wider-inside xs v w h))) e
   wider-node (raw_lambda xs p s) at v w h e =
       append-none (twice [] xs) (part_faults true p (form_faults (with_names xs v) p) ++ part_faults false s (form_faults (with_names xs v) s)) (twice [] xs) (part_faults true p (form_faults (with_names xs w) p) ++ part_faults false s (form_faults (with_names xs w) s)) (same-none (twice [] xs))
       (append-none (part_faults true p (form_faults (with_names xs v) p)) (part_faults false s (form_faults (with_names xs v) s)) (part_faults true p (form_faults (with_names xs w) p)) (part_faults false s (form_faults (with_names xs w) s))
-      (part-none (is_alike true (is_predicate p)) (9, place_of p) (form_faults (with_names xs v) p) (form_faults (with_names xs w) p) (wider-none p (with_names xs v) (with_names xs w) (wider-inside xs v w h)))
-      (part-none (is_alike false (is_predicate s)) (9, place_of s) (form_faults (with_names xs v) s) (form_faults (with_names xs w) s) (wider-none s (with_names xs v) (with_names xs w) (wider-inside xs v w h)))) e
-  wider-node (raw_for_all xs p) at v w h e = append-none (twice [] xs) (part_faults true p (form_faults (with_names xs v) p)) (twice [] xs) (part_faults true p (form_faults (with_names xs w) p)) (same-none (twice [] xs)) (part-none (is_alike true (is_predicate p)) (9, place_of p) (form_faults (with_names xs v) p) (form_faults (with_names xs w) p) (wider-none p (with_names xs v) (with_names xs w) (wider-inside xs v w h))) e
-  wider-node (raw_exists xs p) at v w h e = append-none (twice [] xs) (part_faults true p (form_faults (with_names xs v) p)) (twice [] xs) (part_faults true p (form_faults (with_names xs w) p)) (same-none (twice [] xs)) (part-none (is_alike true (is_predicate p)) (9, place_of p) (form_faults (with_names xs v) p) (form_faults (with_names xs w) p) (wider-none p (with_names xs v) (with_names xs w) (wider-inside xs v w h))) e
+      (part-none (is_alike true (is_predicate p)) (not_predicate (place_of p)) (form_faults (with_names xs v) p) (form_faults (with_names xs w) p) (wider-none p (with_names xs v) (with_names xs w) (wider-inside xs v w h)))
+      (part-none (is_alike false (is_predicate s)) (not_predicate (place_of s)) (form_faults (with_names xs v) s) (form_faults (with_names xs w) s) (wider-none s (with_names xs v) (with_names xs w) (wider-inside xs v w h)))) e
+  wider-node (raw_for_all xs p) at v w h e = append-none (twice [] xs) (part_faults true p (form_faults (with_names xs v) p)) (twice [] xs) (part_faults true p (form_faults (with_names xs w) p)) (same-none (twice [] xs)) (part-none (is_alike true (is_predicate p)) (not_predicate (place_of p)) (form_faults (with_names xs v) p) (form_faults (with_names xs w) p) (wider-none p (with_names xs v) (with_names xs w) (wider-inside xs v w h))) e
+  wider-node (raw_exists xs p) at v w h e = append-none (twice [] xs) (part_faults true p (form_faults (with_names xs v) p)) (twice [] xs) (part_faults true p (form_faults (with_names xs w) p)) (same-none (twice [] xs)) (part-none (is_alike true (is_predicate p)) (not_predicate (place_of p)) (form_faults (with_names xs v) p) (form_faults (with_names xs w) p) (wider-none p (with_names xs v) (with_names xs w) (wider-inside xs v w h))) e
   wider-node _ at v w h e = refl
 
   wider-each : (ts : RawTrees) (v w : List ℕ → Bool) → IsWider v w → each_faults v ts ≡ [] → each_faults w ts ≡ []
   wider-each no_trees v w h e = refl
-  wider-each (tree_and t ts) v w h e = append-none (part_faults false t (form_faults v t)) (each_faults v ts) (part_faults false t (form_faults w t)) (each_faults w ts) (part-none (is_alike false (is_predicate t)) (9, place_of t) (form_faults v t) (form_faults w t) (wider-none t v w h)) (wider-each ts v w h) e
+  wider-each (tree_and t ts) v w h e = append-none (part_faults false t (form_faults v t)) (each_faults v ts) (part_faults false t (form_faults w t)) (each_faults w ts) (part-none (is_alike false (is_predicate t)) (not_predicate (place_of t)) (form_faults v t) (form_faults w t) (wider-none t v w h)) (wider-each ts v w h) e
 
 -- ---- names in sight
 raised-visible : (s : Sight) → is_in_sight (raised s) ≡ is_in_sight s
@@ -423,15 +424,15 @@ Visible ns v = (x : List ℕ) → is_in_sight (found 0 ns x) ≡ v x
 within : (bs : List Bound) (xs : List RawName) (ns : Names) (v : List ℕ → Bool) → ((x : List ℕ) → is_bound x bs ≡ is_among x xs) → Visible ns v → Visible (inside bs ns) (with_names xs v)
 within bs xs ns v h k x = inside-visible bs ns x ∙ (λ i. h x i || k x i)
 
-sight-form : (at : ℕ) (s : Sight) → but_types (name_reading at s).faults ≡ cond (is_in_sight s) [] ((7, at) ∷ [])
+sight-form : (at : ℕ) (s : Sight) → but_types (name_reading at s).faults ≡ cond (is_in_sight s) [] (unknown_name at ∷ [])
 sight-form at unseen = refl
 sight-form at untyped_name = refl
 sight-form at (seen f t) = refl
 
 -- ---- parts
-kind-form : (c : Bool) (p : ℕ) (r : Reading) (fs : List Fault) → but_types r.faults ≡ fs → but_types (cond c r (silently ((9, p) ∷ r.faults))).faults ≡ cond c fs ((9, p) ∷ fs)
+kind-form : (c : Bool) (p : ℕ) (r : Reading) (fs : List Fault) → but_types r.faults ≡ fs → but_types (cond c r (silently (not_predicate p ∷ r.faults))).faults ≡ cond c fs (not_predicate p ∷ fs)
 kind-form true p r fs h = h
-kind-form false p r fs h = ap (λ gs. (9, p) ∷ gs) h
+kind-form false p r fs h = ap (λ gs. not_predicate p ∷ gs) h
 
 part-form : (wanted : Bool) (t : RawTree) (r : Reading) (fs : List Fault) → but_types r.faults ≡ fs → but_types (part wanted t r).faults ≡ part_faults wanted t fs
 part-form wanted t r fs h = kind-form (is_alike wanted (is_predicate t)) (place_of t) r fs h
@@ -525,19 +526,19 @@ single-answer None h = h
 single-answer (Some d) h = tt
 
 -- what is told is of the right kind
-kind-told : (c : Bool) (p : ℕ) (r : Reading) → IsTold (cond c r (silently ((9, p) ∷ r.faults))).outcome → (c ≡ true) × IsTold r.outcome
+kind-told : (c : Bool) (p : ℕ) (r : Reading) → IsTold (cond c r (silently (not_predicate p ∷ r.faults))).outcome → (c ≡ true) × IsTold r.outcome
 kind-told true p r h = (refl, h)
 kind-told false p r h = absurd h
 
 name-clean : (a : RawTree) (x : List ℕ) (w : List ℕ → Bool) → name_of a ≡ Some x → w x ≡ true → part_faults false a (form_faults w a) ≡ []
-name-clean (raw at (raw_name y)) x w e h = ap (λ b. cond b [] ((7, at) ∷ [])) (ap w (same_Some y x e) ∙ h)
+name-clean (raw at (raw_name y)) x w e h = ap (λ b. cond b [] (unknown_name at ∷ [])) (ap w (same_Some y x e) ∙ h)
 name-clean (raw at _) x w e h = absurd (cc)
 
 -- x o D, where x is bound and D has no fault
 conjunct-clean : (a d : RawTree) (x : List ℕ) (w : List ℕ → Bool) → name_of a ≡ Some x → w x ≡ true → is_alike false (is_predicate d) ≡ true → form_faults w d ≡ [] → part_faults false a (form_faults w a) ++ part_faults false d (form_faults w d) ≡ []
 conjunct-clean a d x w n h k e =
     let first = name-clean a x w n h in
-    let second : part_faults false d (form_faults w d) ≡ [] = (λ i. cond (k i) (e i) ((9, place_of d) ∷ e i)) in
+    let second : part_faults false d (form_faults w d) ≡ [] = (λ i. cond (k i) (e i) (not_predicate (place_of d) ∷ e i)) in
     (λ i. first i ++ second i)
 
 -- the conjunct x o D is clean where D is told outside of the binder
@@ -582,8 +583,8 @@ module _ (max : ℤ) where
     form-right (raw at node) ns v h vis = node-form node at ns v h vis
 
     node-form : (node : RawTreeNode) (at : ℕ) (ns : Names) (v : List ℕ → Bool) → NodeHasNoAddition node → Visible ns v → but_types (node_reading max ns at node).faults ≡ node_faults v at node
-    node-form (raw_name x) at ns v h vis = sight-form at (found 0 ns x) ∙ ap (λ b. cond b [] ((7, at) ∷ [])) (vis x)
-    node-form (raw_level_name x n) at ns v h vis = sight-form at (found 0 ns (level_name x n)) ∙ ap (λ b. cond b [] ((7, at) ∷ [])) (vis (level_name x n))
+    node-form (raw_name x) at ns v h vis = sight-form at (found 0 ns x) ∙ ap (λ b. cond b [] (unknown_name at ∷ [])) (vis x)
+    node-form (raw_level_name x n) at ns v h vis = sight-form at (found 0 ns (level_name x n)) ∙ ap (λ b. cond b [] (unknown_name at ∷ [])) (vis (level_name x n))
     node-form (raw_bound_name k) at ns v h vis = absurd h
     node-form (raw_number z) at ns v h vis = refl
     node-form (raw_constant c) at ns v h vis = ap but_types (constant-eights max at c)

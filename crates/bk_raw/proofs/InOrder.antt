@@ -10,13 +10,14 @@ use Rattle.bk_raw.specs.declared.term.RawName.{RawName}
 use Rattle.bk_raw.specs.RawTree.{RawTree, raw, RawTreeNode, raw_infix}
 use Rattle.bk_raw.specs.FreeNames.{conjuncts}
 use Rattle.bk_raw.specs.Names.{Names}
-use Rattle.bk_raw.specs.Outcome.{Fault, Outcome, Reading, ask_value, ask_set}
+use Rattle.bk_raw.specs.Outcome.{Outcome, Reading, ask_value, ask_set}
 use Rattle.bk_raw.specs.Binders.{Bound, is_text, twice, Ranged, unranged, first_range, ranged_as, ranged_by, as_single, ranges_by, is_used, left_over}
 use Rattle.bk_raw.specs.TermReading.{part, name_of, names_one, reading, node_reading, clues, ranges, rest, rest_in}
 use Rattle.bk_raw.specs.GivesTakes.{expression}
 use Rattle.bk_raw.specs.ConjunctsInOrder.{typed_in_order, where_named, range_of, range_given, first_of, numbered, first_given, ranged_first, left_in_order, ConjunctsInOrder}
 use Rattle.bk_raw.proofs.RulesFit.{none-left, none-right}
 use Rattle.bk_raw.proofs.BoundNames.{no-name, or-right, either}
+use Rattle.bk_raw.specs.Faults.{Fault, twice_named}
 
 -- ---- types
 typed-append : (max : ℤ) (names : Names) (bs : List Bound) (cs ds : List RawTree) → typed_in_order max names bs (cs ++ ds) ≡ typed_in_order max names (typed_in_order max names bs cs) ds
@@ -172,11 +173,11 @@ module _ (max : ℤ) (names : Names) (all : List RawName) where
   once-of : (before : List (List ℕ)) (xs : List RawName) → twice before xs ≡ [] → AreOnce before (unranged xs)
   once-of before [] h = tt
   once-of before (x ∷ xs) h =
-      let here : List Fault = cond (is_text before x.text) ((6, x.at) ∷ []) [] in
+      let here : List Fault = cond (is_text before x.text) (twice_named x.at ∷ []) [] in
       let later = twice (x.text ∷ before) xs in
       (untwiced (is_text before x.text) x.at (none-left here later h), once-of (x.text ∷ before) xs (none-right here later h))
     where
-      untwiced : (t : Bool) (at : ℕ) → cond {A = List Fault} t ((6, at) ∷ []) [] ≡ [] → t ≡ false
+      untwiced : (t : Bool) (at : ℕ) → cond {A = List Fault} t (twice_named at ∷ []) [] ≡ [] → t ≡ false
       untwiced true at e = absurd (cc)
       untwiced false at e = refl
 

@@ -7,7 +7,7 @@ use Rattle.bk_form.specs.Formula.{Formula, for_all, for_some}
 use Rattle.bk_form.specs.declared.operator.BinOp.TheVariants.{And as Conjunction}
 use Rattle.bk_raw.specs.RawTree.{RawTree, raw, RawTreeNode, raw_name, raw_level_name, raw_bound_name, raw_number, raw_constant, raw_word, raw_negative, raw_infix, raw_inverse, raw_image, raw_apply, raw_composition, raw_pair, raw_empty_set, raw_extension, raw_comprehension, raw_lambda, raw_for_all, raw_exists, raw_typed_empty, raw_typed_for_all, raw_typed_exists, raw_ranged_comprehension, raw_ranged_lambda, RawTrees, no_trees, tree_and}
 use Rattle.bk_raw.specs.Names.{Names, Meaning, local, global, set_name, element_name, nothing, Sight, unseen, untyped_name, seen, sight, behind, found, pick, local_at, local_sight, count_locals, bound_sight, level_name}
-use Rattle.bk_raw.specs.Outcome.{Fault, Outcome, partial, ranging, holding, silent, Reading, silently, clean, no_type, ask_value, ask_predicate}
+use Rattle.bk_raw.specs.Outcome.{Outcome, partial, ranging, holding, silent, Reading, silently, clean, no_type, ask_value, ask_predicate}
 use Rattle.bk_raw.specs.OperatorReadings.{word_reading, negative_reading, infix_reading, inverse_reading, image_reading, apply_reading, composition_reading, pair_reading, single_reading, extended}
 use Rattle.bk_raw.specs.Binders.{Bound, bound_names, inside, has_type, all_typed, untyped_faults, twice, types_of, where_typed, if_holding, if_giving, quantified, Ranged, unranged, as_bound, is_used, is_some_name, nameless, conjoined, with_conjunct, left_over, is_and, body_of, comprehended, abstracted}
 use Rattle.bk_raw.specs.TermReading.{place_of, is_predicate, is_alike, part, name_reading, takes_predicate, is_connective, is_not, makes_predicate, is_predicate_node, spoilt_by, strict_faults, from_one, from_two, reading, node_reading, extension_reading, elements_reading, range_reads, clues, premise_clues, ranges, rest, rest_in}
@@ -16,6 +16,7 @@ use Rattle.bk_raw.specs.Speaking.{Fits, HasType, AreTyped, Speaks}
 use Rattle.bk_raw.proofs.Filled.{and-true, and-both}
 use Rattle.bk_raw.proofs.RulesFit.{none-left, none-right, some-fault, Answered, ask_value-answers, constant-fits, word-fits, negative-fits, inverse-fits, infix-fits, image-fits, apply-fits, composition-fits, pair-fits, connected-fits, single-fits, extended-fits}
 use Rattle.bk_raw.specs.FreeNames.{conjuncts}
+use Rattle.bk_raw.specs.Faults.{Fault, unknown_name, without_type, not_predicate}
 
 -- ---- names
 abbrev IsNoUntyped : Sight → Type 0
@@ -40,7 +41,7 @@ found-typed i [] text h = tt
 found-typed i (n ∷ ns) text h = either-typed (bytes_eq n.text text) (sight i n.meaning) (found (behind i n.meaning) ns text) (sight-typed i n.meaning h.0) (found-typed (behind i n.meaning) ns text h.1)
 
 sight-speaks : (at : ℕ) (s : Sight) → IsNoUntyped s → Speaks false (name_reading at s)
-sight-speaks at unseen h e = some-fault (7, at) [] e
+sight-speaks at unseen h e = some-fault (unknown_name at) [] e
 sight-speaks at untyped_name h e = absurd h
 sight-speaks at (seen f t) h e = tt
 
@@ -72,12 +73,12 @@ bound-typed count names k h = either-typed (nat_le 1 k && nat_le k count) (local
 
 empty-speaks : (at : ℕ) (o : Option ValueType) → Speaks false (typed_empty at o)
 empty-speaks at (Some (set_type t)) e = tt
-empty-speaks at _ e = some-fault (8, at) [] e
+empty-speaks at _ e = some-fault (without_type at) [] e
 
 -- ---- bound names
 cond-none : (c : Bool) (at : ℕ) (fs : List Fault) → cond c [] (no_type at) ++ fs ≡ [] → (c ≡ true) × (fs ≡ [])
 cond-none true at fs h = (refl, h)
-cond-none false at fs h = some-fault (8, at) fs h
+cond-none false at fs h = some-fault (without_type at) fs h
 
 all-typed : (bs : List Bound) → untyped_faults bs ≡ [] → all_typed bs ≡ true
 all-typed [] h = refl
@@ -103,7 +104,7 @@ either-speaks true wanted is r x fs h k = subst (λ b. Speaks b r) (h refl) k
 either-speaks false wanted is r x fs h k = λ e. some-fault x fs e
 
 part-speaks : (wanted : Bool) (t : RawTree) (r : Reading) → Speaks (is_predicate t) r → Speaks wanted (part wanted t r)
-part-speaks wanted t r h = either-speaks (is_alike wanted (is_predicate t)) wanted (is_predicate t) r (9, place_of t) r.faults (alike-same wanted (is_predicate t)) h
+part-speaks wanted t r h = either-speaks (is_alike wanted (is_predicate t)) wanted (is_predicate t) r (not_predicate (place_of t)) r.faults (alike-same wanted (is_predicate t)) h
 
 from_one-speaks : (wanted kind : Bool) (k : Outcome → Reading) (r : Reading) → Speaks wanted r → ((o : Outcome) → Fits wanted o → Speaks kind (k o)) → Speaks kind (from_one k r)
 from_one-speaks wanted kind k r h f e = f r.outcome (h (none-left r.faults (k r.outcome).faults e)) (none-right r.faults (k r.outcome).faults e)
@@ -135,7 +136,7 @@ quantified-speaks k fs bs body h e =
     clean-fits true fs (where_typed (all_typed bs) (if_holding (λ p. holding (k (types_of bs) p)) body.outcome)) (none-left fs (untyped_faults bs ++ body.faults) e) (where-fits true (all_typed bs) (if_holding (λ p. holding (k (types_of bs) p)) body.outcome) typed (if_holding-fits true (λ p. holding (k (types_of bs) p)) body.outcome (λ p. tt) (h typed (none-right (untyped_faults bs) body.faults later))))
 
 named-some : (bs : List Ranged) (at : ℕ) → nameless at bs ≡ [] → is_some_name bs ≡ true
-named-some [] at h = some-fault (8, at) [] h
+named-some [] at h = some-fault (without_type at) [] h
 named-some (b ∷ bs) at h = refl
 
 comprehended-speaks : (at : ℕ) (fs : List Fault) (bs : List Ranged) (body : Reading) → (all_typed (as_bound bs) ≡ true → Speaks true body) → Speaks false (comprehended at fs bs body)
@@ -249,7 +250,7 @@ module _ (int_max : ℤ) where
         (λ typed. part-speaks false e (reading int_max (inside (as_bound rs) names) e) (reading-speaks e (inside (as_bound rs) names) (inside-typed (as_bound rs) names typed h)))
 
     extension-speaks : (ts : RawTrees) (at : ℕ) (names : Names) → AreTyped names → Speaks false (extension_reading int_max names at ts)
-    extension-speaks no_trees at names h = λ e. some-fault (8, at) [] e
+    extension-speaks no_trees at names h = λ e. some-fault (without_type at) [] e
     extension-speaks (tree_and t ts) at names h = elements-speak ts at names (from_one single_reading (part false t (reading int_max names t))) h (from_one-speaks false false single_reading (part false t (reading int_max names t)) (part-speaks false t (reading int_max names t) (reading-speaks t names h)) single-fits)
 
     elements-speak : (ts : RawTrees) (at : ℕ) (names : Names) (before : Reading) → AreTyped names → Speaks false before → Speaks false (elements_reading int_max names at before ts)

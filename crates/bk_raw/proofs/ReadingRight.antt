@@ -8,7 +8,7 @@ use Rattle.bk_form.specs.declared.operator.BinOp.TheVariants.{And as Conjunction
 use Rattle.bk_raw.specs.declared.operator.InfixOp.TheVariants.{Implies}
 use Rattle.bk_raw.specs.RawTree.{RawTree, raw, RawTreeNode, raw_name, raw_level_name, raw_bound_name, raw_number, raw_constant, raw_word, raw_negative, raw_infix, raw_inverse, raw_image, raw_apply, raw_composition, raw_pair, raw_empty_set, raw_extension, raw_comprehension, raw_lambda, raw_for_all, raw_exists, raw_typed_empty, raw_typed_for_all, raw_typed_exists, raw_ranged_comprehension, raw_ranged_lambda, RawTrees, no_trees, tree_and, RawRanges, no_ranges, range_and}
 use Rattle.bk_raw.specs.Names.{Names, Sight, unseen, untyped_name, seen, found, count_locals, bound_sight, Agree, level_name}
-use Rattle.bk_raw.specs.Outcome.{Fault, Reading, silently}
+use Rattle.bk_raw.specs.Outcome.{Reading, silently}
 use Rattle.bk_raw.specs.OperatorReadings.{infix_reading, single_reading, extended}
 use Rattle.bk_raw.specs.Binders.{Bound, bound_names, inside, types_of, twice, Ranged, unranged, as_bound, is_used, with_conjunct, left_over, is_and, body_of}
 use Rattle.bk_raw.specs.TermReading.{place_of, is_predicate, is_alike, part, name_of, name_reading, takes_predicate, is_connective, strict_faults, from_one, from_two, reading, node_reading, extension_reading, elements_reading, range_reads, clues, premise_clues, ranges, rest, rest_in, names_one}
@@ -21,6 +21,7 @@ use Rattle.bk_raw.proofs.BindersRight.{AreListed, names-listed, told_by-listed, 
 use Rattle.bk_raw.proofs.PrintedRight.{bound-right, empty-right, bounds-listed, AreRightReads, ranges-of-right}
 use Rattle.bk_raw.specs.declared.term.RawName.{RawName}
 use Rattle.bk_raw.specs.FreeNames.{conjuncts}
+use Rattle.bk_raw.specs.Faults.{Fault, not_predicate}
 
 module _ (int_max : ℤ) (table : Table) where
   sight-reads : (around : List ValueType) (at : ℕ) (s : Sight) → IsRightSight table around s → Right table around (name_reading at s).outcome
@@ -33,7 +34,7 @@ module _ (int_max : ℤ) (table : Table) where
   either-right around false r fs h = tt
 
   pub part-right : (around : List ValueType) (wanted : Bool) (t : RawTree) (r : Reading) → Right table around r.outcome → Right table around (part wanted t r).outcome
-  part-right around wanted t r h = either-right around (is_alike wanted (is_predicate t)) r ((9, place_of t) ∷ r.faults) h
+  part-right around wanted t r h = either-right around (is_alike wanted (is_predicate t)) r (not_predicate (place_of t) ∷ r.faults) h
 
   abbrev Before : List ValueType → Option Reading → Type 0
   Before around before = Whenever (λ r. Right table around r.outcome) before

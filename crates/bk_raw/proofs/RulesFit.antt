@@ -12,10 +12,11 @@ use Rattle.bk_raw.specs.declared.operator.WordOp.{WordOp}
 use Rattle.bk_raw.specs.declared.operator.WordOp.TheVariants.{Not, BoolOf, Card, Min, Max, Dom, Ran, Id, Succ, Pred, Pow, Pow1, Fin, Fin1}
 use Rattle.bk_raw.specs.declared.operator.Constant.{Constant}
 use Rattle.bk_raw.specs.declared.operator.Constant.TheVariants.{Btrue, Bfalse}
-use Rattle.bk_raw.specs.Outcome.{Fault, Joint, union_joint, inter_joint, minus_joint, over_joint, joins, Partial, whole, hollow, single_of, pair_of, joint_of, filled, whole_of, Outcome, partial, ranging, holding, silent, Reading, silently, plainly, giving, no_type, Asked, fitting, ask, ask_value, ask_set, ask_relation, ask_domain, ask_predicate, unvalued, of_answer, of_one, of_answers, of_both}
+use Rattle.bk_raw.specs.Outcome.{Joint, union_joint, inter_joint, minus_joint, over_joint, joins, Partial, whole, hollow, single_of, pair_of, joint_of, filled, whole_of, Outcome, partial, ranging, holding, silent, Reading, silently, plainly, giving, no_type, Asked, fitting, ask, ask_value, ask_set, ask_relation, ask_domain, ask_predicate, unvalued, of_answer, of_one, of_answers, of_both}
 use Rattle.bk_raw.specs.OperatorReadings.{constant_reading, word_reading, negative_reading, inverse_reading, depending, dependent, on_values, connected, compared, calculated, one_type_by, one_type, equal, in_domain, in_power, arrow, joined, joint, is_number, minus_by, minus, times, left_part, right_part, image_reading, apply_reading, composed, composition_reading, paired, pair_reading, negated, infix_reading, singled, single_reading, extended, unmatched, no_number, ungiven}
 use Rattle.bk_raw.specs.TermReading.{makes_predicate, is_connective, is_not, takes_predicate, is_truth_word}
 use Rattle.bk_raw.specs.Speaking.{Fits, Speaks}
+use Rattle.bk_raw.specs.Faults.{Fault, without_type}
 
 -- ---- lists without faults
 pub none-left : {A : Type 0} (xs ys : List A) → xs ++ ys ≡ [] → xs ≡ []
@@ -38,42 +39,42 @@ abbrev pub Answers : {A : Type 0} → Asked A → Type 0
 Answers a = a.faults ≡ [] → Answered a.answer
 
 fitting-answers : (at : ℕ) (f : Option Formula) → Answers (fitting at f)
-fitting-answers at None h = some-fault (8, at) [] h
+fitting-answers at None h = some-fault (without_type at) [] h
 fitting-answers at (Some f) h = tt
 
 pub ask-answers : (at : ℕ) (o : Outcome) (t : ValueType) → Fits false o → Answers (ask at o t)
 ask-answers at (partial p) t f h = fitting-answers at (filled p t) h
-ask-answers at (ranging g u there) t f h = some-fault (8, there) [] h
+ask-answers at (ranging g u there) t f h = some-fault (without_type there) [] h
 ask-answers at (holding p) t f h = absurd f
 ask-answers at silent t f h = absurd f
 
 pub ask_value-answers : (at : ℕ) (o : Outcome) → Fits false o → Answers (ask_value at o)
 ask_value-answers at (partial (whole f t)) k h = tt
-ask_value-answers at (partial hollow) k h = some-fault (8, at) [] h
-ask_value-answers at (partial (single_of p)) k h = some-fault (8, at) [] h
-ask_value-answers at (partial (pair_of p q)) k h = some-fault (8, at) [] h
-ask_value-answers at (partial (joint_of j p q)) k h = some-fault (8, at) [] h
-ask_value-answers at (ranging g u there) k h = some-fault (8, there) [] h
+ask_value-answers at (partial hollow) k h = some-fault (without_type at) [] h
+ask_value-answers at (partial (single_of p)) k h = some-fault (without_type at) [] h
+ask_value-answers at (partial (pair_of p q)) k h = some-fault (without_type at) [] h
+ask_value-answers at (partial (joint_of j p q)) k h = some-fault (without_type at) [] h
+ask_value-answers at (ranging g u there) k h = some-fault (without_type there) [] h
 ask_value-answers at (holding p) k h = absurd k
 ask_value-answers at silent k h = absurd k
 
 pub ask_set-answers : (at : ℕ) (o : Outcome) → Fits false o → Answers (ask_set at o)
 ask_set-answers at (partial (whole f (set_type t))) k h = tt
-ask_set-answers at (partial _) k h = some-fault (8, at) [] h
-ask_set-answers at (ranging g u there) k h = some-fault (8, there) [] h
+ask_set-answers at (partial _) k h = some-fault (without_type at) [] h
+ask_set-answers at (ranging g u there) k h = some-fault (without_type there) [] h
 ask_set-answers at (holding p) k h = absurd k
 ask_set-answers at silent k h = absurd k
 
 pub ask_relation-answers : (at : ℕ) (o : Outcome) → Fits false o → Answers (ask_relation at o)
 ask_relation-answers at (partial (whole f (set_type (pair_type t u)))) k h = tt
-ask_relation-answers at (partial _) k h = some-fault (8, at) [] h
-ask_relation-answers at (ranging g u there) k h = some-fault (8, there) [] h
+ask_relation-answers at (partial _) k h = some-fault (without_type at) [] h
+ask_relation-answers at (ranging g u there) k h = some-fault (without_type there) [] h
 ask_relation-answers at (holding p) k h = absurd k
 ask_relation-answers at silent k h = absurd k
 
 pub ask_domain-answers : (at : ℕ) (o : Outcome) → Fits false o → Answers (ask_domain at o)
 ask_domain-answers at (partial (whole f (set_type t))) k h = tt
-ask_domain-answers at (partial _) k h = some-fault (8, at) [] h
+ask_domain-answers at (partial _) k h = some-fault (without_type at) [] h
 ask_domain-answers at (ranging g u there) k h = tt
 ask_domain-answers at (holding p) k h = absurd k
 ask_domain-answers at silent k h = absurd k
@@ -109,17 +110,17 @@ dependent-fits kind t k a at o f g h e = depending-fits kind t k a.faults a.answ
 
 pub values-fit : (kind : Bool) (k : Partial → Partial → Reading) (a b : Outcome) → ((p q : Partial) → Speaks kind (k p q)) → Fits false a → Fits false b → Speaks kind (on_values k a b)
 values-fit kind k (partial p) (partial q) f g h e = f p q e
-values-fit kind k (partial p) (ranging v t there) f g h e = some-fault (8, there) [] e
+values-fit kind k (partial p) (ranging v t there) f g h e = some-fault (without_type there) [] e
 values-fit kind k (partial p) (holding q) f g h e = absurd h
 values-fit kind k (partial p) silent f g h e = absurd h
-values-fit kind k (ranging v t there) b f g h e = some-fault (8, there) (unvalued b) e
+values-fit kind k (ranging v t there) b f g h e = some-fault (without_type there) (unvalued b) e
 values-fit kind k (holding q) b f g h e = absurd g
 values-fit kind k silent b f g h e = absurd g
 
 -- where a test fails there is a fault
 tested-fits : (kind c : Bool) (r : Reading) (x : ℕ) → Speaks kind r → Speaks kind (cond c r (silently (no_type x)))
 tested-fits kind true r x f e = f e
-tested-fits kind false r x f e = some-fault (8, x) [] e
+tested-fits kind false r x f e = some-fault (without_type x) [] e
 
 one_type_by-fits : (kind : Bool) (test : ValueType → Bool) (k : Formula → Formula → ValueType → Outcome) (neither : Reading) (at : ℕ) → ((f g : Formula) (t : ValueType) → Fits kind (k f g t)) → Speaks kind neither → (v w : Option (Formula × ValueType)) (p q : Partial) → Speaks kind (one_type_by test k neither at v w p q)
 one_type_by-fits kind test k neither at f n (Some v) w p q = tested-fits kind (test v.1) (of_one (λ g. k v.0 g v.1) (fitting at (filled q v.1))) at (one-fits kind (λ g. k v.0 g v.1) (fitting at (filled q v.1)) (λ g. f v.0 g v.1) (fitting-answers at (filled q v.1)))
@@ -139,28 +140,28 @@ minus_cond false r s f g = g
 minus_by-fits : (at x y : ℕ) (v w : Option (Formula × ValueType)) (p q : Partial) → Speaks false (minus_by at x y v w p q)
 minus_by-fits at x y (Some v) w p q = minus_cond (is_number v.1) (of_one (λ g. partial (whole (binary Sub v.0 g) int_type)) (fitting y (filled q int_type))) (joint minus_joint at p q)
     (one-fits false (λ g. partial (whole (binary Sub v.0 g) int_type)) (fitting y (filled q int_type)) (λ g. tt) (fitting-answers y (filled q int_type))) (joint-fits minus_joint at p q)
-minus_by-fits at x y None (Some w) p q = minus_cond (is_number w.1) (silently (no_type x)) (joint minus_joint at p q) (λ e. some-fault (8, x) [] e) (joint-fits minus_joint at p q)
+minus_by-fits at x y None (Some w) p q = minus_cond (is_number w.1) (silently (no_type x)) (joint minus_joint at p q) (λ e. some-fault (without_type x) [] e) (joint-fits minus_joint at p q)
 minus_by-fits at x y None None p q = joint-fits minus_joint at p q
 
 minus-fits : (at x y : ℕ) (p q : Partial) → Speaks false (minus at x y p q)
 minus-fits at x y p q = minus_by-fits at x y (whole_of p) (whole_of q) p q
 
 unmatched-fits : (at : ℕ) (b : Outcome) → Fits false b → Speaks false (silently (unmatched at b))
-unmatched-fits at (partial q) h e = some-fault (8, at) [] e
-unmatched-fits at (ranging g u there) h e = some-fault (8, at) [] e
+unmatched-fits at (partial q) h e = some-fault (without_type at) [] e
+unmatched-fits at (ranging g u there) h e = some-fault (without_type at) [] e
 unmatched-fits at (holding p) h e = absurd h
 unmatched-fits at silent h e = absurd h
 
 no_number-fits : (at there : ℕ) (u : ValueType) → Speaks false (silently (no_number at there u))
-no_number-fits at there int_type e = some-fault (8, there) [] e
-no_number-fits at there _ e = some-fault (8, at) [] e
+no_number-fits at there int_type e = some-fault (without_type there) [] e
+no_number-fits at there _ e = some-fault (without_type at) [] e
 
 ungiven-fits : (at x : ℕ) (b : Outcome) → Fits false b → Speaks false (silently (ungiven at x b))
-ungiven-fits at x (partial (whole g int_type)) h e = some-fault (8, x) [] e
-ungiven-fits at x (partial (whole g (set_type u))) h e = some-fault (8, x) [] e
-ungiven-fits at x (partial (whole g _)) h e = some-fault (8, at) [] e
-ungiven-fits at x (partial _) h e = some-fault (8, x) [] e
-ungiven-fits at x (ranging g u there) h e = some-fault (8, x) [] e
+ungiven-fits at x (partial (whole g int_type)) h e = some-fault (without_type x) [] e
+ungiven-fits at x (partial (whole g (set_type u))) h e = some-fault (without_type x) [] e
+ungiven-fits at x (partial (whole g _)) h e = some-fault (without_type at) [] e
+ungiven-fits at x (partial _) h e = some-fault (without_type x) [] e
+ungiven-fits at x (ranging g u there) h e = some-fault (without_type x) [] e
 ungiven-fits at x (holding p) h e = absurd h
 ungiven-fits at x silent h e = absurd h
 
@@ -168,7 +169,7 @@ times-fits : (at x y : ℕ) (a b : Outcome) → Fits false a → Fits false b �
 times-fits at x y (partial (whole f int_type)) b g h e = one-fits false (λ g. partial (whole (binary Mul f g) int_type)) (ask y b int_type) (λ g. tt) (ask-answers y b int_type h) e
 times-fits at x y (partial (whole f (set_type t))) (partial (whole v (set_type u))) g h e = tt
 times-fits at x y (partial (whole f (set_type t))) (ranging v u there) g h e = tt
-times-fits at x y (partial (whole f (set_type t))) (partial _) g h e = some-fault (8, y) [] e
+times-fits at x y (partial (whole f (set_type t))) (partial _) g h e = some-fault (without_type y) [] e
 times-fits at x y (partial (whole f (set_type t))) (holding p) g h e = absurd h
 times-fits at x y (partial (whole f (set_type t))) silent g h e = absurd h
 times-fits at x y (ranging f t there) (partial (whole v (set_type u))) g h e = tt
@@ -177,10 +178,10 @@ times-fits at x y (ranging f t there) (partial (whole v int_type)) g h e = no_nu
 times-fits at x y (ranging f t there) (partial (whole v bool_type)) g h e = no_number-fits at there bool_type e
 times-fits at x y (ranging f t there) (partial (whole v (enum_type n))) g h e = no_number-fits at there (enum_type n) e
 times-fits at x y (ranging f t there) (partial (whole v (pair_type u w))) g h e = no_number-fits at there (pair_type u w) e
-times-fits at x y (ranging f t there) (partial hollow) g h e = some-fault (8, y) [] e
-times-fits at x y (ranging f t there) (partial (single_of p)) g h e = some-fault (8, y) [] e
-times-fits at x y (ranging f t there) (partial (pair_of p q)) g h e = some-fault (8, y) [] e
-times-fits at x y (ranging f t there) (partial (joint_of j p q)) g h e = some-fault (8, y) [] e
+times-fits at x y (ranging f t there) (partial hollow) g h e = some-fault (without_type y) [] e
+times-fits at x y (ranging f t there) (partial (single_of p)) g h e = some-fault (without_type y) [] e
+times-fits at x y (ranging f t there) (partial (pair_of p q)) g h e = some-fault (without_type y) [] e
+times-fits at x y (ranging f t there) (partial (joint_of j p q)) g h e = some-fault (without_type y) [] e
 times-fits at x y (ranging f t there) (holding p) g h e = absurd h
 times-fits at x y (ranging f t there) silent g h e = absurd h
 times-fits at x y (partial (whole f bool_type)) b g h e = unmatched-fits at b h e
@@ -248,7 +249,7 @@ calculated-fits : (o : BinOp) (t : ValueType) (x y : ℕ) (a b : Outcome) → Fi
 calculated-fits o t x y a b f g = both-fit false _ (ask x a int_type) (ask y b int_type) (λ p q. tt) (ask-answers x a int_type f) (ask-answers y b int_type g)
 
 equal-fits : (k : Formula → Formula → Formula) (at : ℕ) (a b : Outcome) → Fits false a → Fits false b → Speaks true (on_values (equal k at) a b)
-equal-fits k at a b f g = values-fit true (equal k at) a b (λ p q. one_type-fits true (λ t. true) (λ u v t. holding (k u v)) (silently (no_type at)) at (λ u v t. tt) (λ e. some-fault (8, at) [] e) p q) f g
+equal-fits k at a b f g = values-fit true (equal k at) a b (λ p q. one_type-fits true (λ t. true) (λ u v t. holding (k u v)) (silently (no_type at)) at (λ u v t. tt) (λ e. some-fault (without_type at) [] e) p q) f g
 
 in_domain-fits : (k : Formula → Formula → Formula) (x y : ℕ) (a b : Outcome) → Fits false a → Fits false b → Speaks true (in_domain k x y a b)
 in_domain-fits k x y a b f g = dependent-fits true _ _ (ask_domain y b) x a (λ r s. tt) (ask_domain-answers y b g) f
@@ -307,7 +308,7 @@ infix-fits Power at x y a b f g = calculated-fits _ _ x y a b f g
 
 pub single-fits : (a : Outcome) → Fits false a → Speaks false (single_reading a)
 single-fits (partial p) f e = tt
-single-fits (ranging g t there) f e = some-fault (8, there) [] e
+single-fits (ranging g t there) f e = some-fault (without_type there) [] e
 single-fits (holding p) f e = absurd f
 single-fits silent f e = absurd f
 

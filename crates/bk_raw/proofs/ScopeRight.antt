@@ -26,6 +26,7 @@ use Rattle.bk_raw.proofs.ReadingRight.{reading-right}
 use Rattle.bk_raw.proofs.ReadingFits.{reading-speaks}
 use Rattle.bk_raw.proofs.ReadingClean.{reading-clean}
 use Rattle.bk_raw.proofs.RulesFit.{none-left, none-right, some-fault}
+use Rattle.bk_raw.specs.Faults.{without_type}
 
 -- ---- names
 less-then : (m n : ℕ) → m < n → nat_lt m n ≡ true
@@ -138,10 +139,10 @@ module _ (table : Table) where
   asked-speaks at true (ranging g t there) h e = absurd h
   asked-speaks at true silent h e = absurd h
   asked-speaks at false (partial (whole g t)) h e = (g, refl)
-  asked-speaks at false (partial hollow) h e = some-fault (8, at) [] e
-  asked-speaks at false (partial (single_of p)) h e = some-fault (8, at) [] e
-  asked-speaks at false (partial (pair_of p q)) h e = some-fault (8, at) [] e
-  asked-speaks at false (partial (joint_of j p q)) h e = some-fault (8, at) [] e
+  asked-speaks at false (partial hollow) h e = some-fault (without_type at) [] e
+  asked-speaks at false (partial (single_of p)) h e = some-fault (without_type at) [] e
+  asked-speaks at false (partial (pair_of p q)) h e = some-fault (without_type at) [] e
+  asked-speaks at false (partial (joint_of j p q)) h e = some-fault (without_type at) [] e
   asked-speaks at false (ranging g t there) h e = (g, refl)
   asked-speaks at false (holding p) h e = absurd h
   asked-speaks at false silent h e = absurd h

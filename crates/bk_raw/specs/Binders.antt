@@ -11,8 +11,9 @@ use Rattle.bk_raw.specs.declared.operator.InfixOp.{InfixOp}
 use Rattle.bk_raw.specs.declared.operator.InfixOp.TheVariants.{And, Equal, Member, Subset, StrictSubset}
 use Rattle.bk_raw.specs.declared.term.RawName.{RawName}
 use Rattle.bk_raw.specs.Names.{Names, Named, local}
-use Rattle.bk_raw.specs.Outcome.{Fault, whole, Outcome, partial, holding, silent, Reading, plainly, clean, no_type, ask_value, ask_set, ask_domain}
+use Rattle.bk_raw.specs.Outcome.{whole, Outcome, partial, holding, silent, Reading, plainly, clean, no_type, ask_value, ask_set, ask_domain}
 use Rattle.bk_raw.specs.OperatorReadings.{connected}
+use Rattle.bk_raw.specs.Faults.{Fault, twice_named}
 
 -- ---- names with types
 -- a bound name, where it is declared, and its type once it has one
@@ -99,7 +100,7 @@ is_text (x ∷ xs) text = bytes_eq x text || is_text xs text
 -- each name that stood before
 abbrev pub twice : List (List ℕ) → List RawName → List Fault
 twice before [] = []
-twice before (x ∷ xs) = cond (is_text before x.text) ((6, x.at) ∷ []) [] ++ twice (x.text ∷ before) xs
+twice before (x ∷ xs) = cond (is_text before x.text) (twice_named x.at ∷ []) [] ++ twice (x.text ∷ before) xs
 
 -- a name without a type is at fault where it is declared
 abbrev pub untyped_faults : List Bound → List Fault

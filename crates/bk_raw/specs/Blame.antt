@@ -1,17 +1,21 @@
 -- Of several faults, the one that is told.
-use Rattle.std.specs.Prelude.{◌≡◌, ℕ, suc, Bool, false, cond, ◌&&◌, ◌||◌, nat_eq, nat_lt, List, [], ◌∷◌, ◌⊎◌, Option, None, Some}
-use Rattle.bk_raw.specs.Outcome.{Fault}
+use Rattle.std.specs.Prelude.{◌≡◌, ℕ, Bool, false, cond, ◌&&◌, ◌||◌, nat_eq, nat_lt, List, [], ◌∷◌, ◌⊎◌, Option, None, Some}
+use Rattle.bk_raw.specs.declared.fault.FaultKind.{FaultKind}
+use Rattle.bk_raw.specs.declared.fault.FaultKind.TheVariants.{TwiceNamed, UnknownName, NoType, NotPredicate, WrongOperation, NotB0, WrongWrite, WrongValue}
+use Rattle.bk_raw.specs.Faults.{Fault}
 
--- the place of a number in a list of numbers, or behind all of them
-abbrev pub rank_in : ℕ → List ℕ → ℕ
-rank_in n [] = 0
-rank_in n (m ∷ ms) = cond (nat_eq n m) 0 (suc (rank_in n ms))
+-- the order in which faults are asked: of names, of formulas, of operations and writes, of values, and what is not B0 last
+abbrev pub rank : FaultKind → ℕ
+rank TwiceNamed = 0
+rank UnknownName = 1
+rank NotPredicate = 2
+rank NoType = 3
+rank WrongOperation = 4
+rank WrongWrite = 5
+rank WrongValue = 6
+rank NotB0 = 7
 
--- which of the numbers it is
-abbrev pub rank : ℕ → ℕ
-rank n = rank_in n (6 ∷ 7 ∷ 9 ∷ 8 ∷ 10 ∷ 12 ∷ 14 ∷ 11 ∷ [])
-
--- an earlier number, or the same and an earlier place
+-- asked earlier, or of one kind and at an earlier place
 abbrev pub is_before : Fault → Fault → Bool
 is_before f g = nat_lt (rank f.0) (rank g.0) || (nat_eq (rank f.0) (rank g.0) && nat_lt f.1 g.1)
 
@@ -20,7 +24,7 @@ abbrev pub first_of : Fault → Option Fault → Fault
 first_of f None = f
 first_of f (Some g) = cond (is_before g f) g f
 
--- of faults, the one that is told: the least number, and of one number the least place
+-- of faults, the one that is told: the one that is asked first, and of one kind the least place
 abbrev pub blame : List Fault → Option Fault
 blame [] = None
 blame (f ∷ fs) = Some (first_of f (blame fs))

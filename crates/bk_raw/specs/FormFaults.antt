@@ -1,14 +1,16 @@
 -- The faults that a term's form alone tells, whatever types its names have: a name that stands twice in one binder, a name that is not in
 -- sight, a term of the wrong kind, and a `<<:` within a side of another one. Which they are is this project's own.
 use Rattle.std.specs.Prelude.{◌≡◌, ℕ, ℤ, Bool, true, false, cond, ◌||◌, nat_eq, List, [], ◌∷◌, ◌++◌}
+use Rattle.bk_raw.specs.declared.fault.FaultKind.{FaultKind}
+use Rattle.bk_raw.specs.declared.fault.FaultKind.TheVariants.{NoType}
 use Rattle.bk_raw.specs.declared.term.RawName.{RawName}
 use Rattle.bk_raw.specs.RawTree.{RawTree, raw, RawTreeNode, raw_name, raw_level_name, raw_word, raw_negative, raw_infix, raw_inverse, raw_image, raw_apply, raw_composition, raw_pair, raw_extension, raw_comprehension, raw_lambda, raw_for_all, raw_exists, RawTrees, no_trees, tree_and}
 use Rattle.bk_raw.specs.FreeNames.{is_among}
 use Rattle.bk_raw.specs.Additions.{HasNoAddition}
 use Rattle.bk_raw.specs.Names.{Names, Sight, unseen, found, level_name}
-use Rattle.bk_raw.specs.Outcome.{Fault}
 use Rattle.bk_raw.specs.Binders.{twice}
 use Rattle.bk_raw.specs.TermReading.{place_of, is_predicate, is_alike, takes_predicate, is_connective, strict_faults, reading}
+use Rattle.bk_raw.specs.Faults.{Fault, unknown_name, not_predicate}
 
 -- the names in sight within a binder of these names
 abbrev pub with_names : List RawName → (List ℕ → Bool) → List ℕ → Bool
@@ -16,7 +18,7 @@ with_names xs visible x = is_among x xs || visible x
 
 -- the faults of a part in a place for a predicate, or for an expression: those within, and that it is of the other kind
 abbrev pub part_faults : Bool → RawTree → List Fault → List Fault
-part_faults wanted t fs = cond (is_alike wanted (is_predicate t)) fs ((9, place_of t) ∷ fs)
+part_faults wanted t fs = cond (is_alike wanted (is_predicate t)) fs (not_predicate (place_of t) ∷ fs)
 
 abbrev mutual
   -- the faults of a term by its form, where the test tells which names are in sight
@@ -24,8 +26,8 @@ abbrev mutual
   form_faults visible (raw at node) = node_faults visible at node
 
   pub node_faults : (List ℕ → Bool) → ℕ → RawTreeNode → List Fault
-  node_faults visible at (raw_name x) = cond (visible x) [] ((7, at) ∷ [])
-  node_faults visible at (raw_level_name x n) = cond (visible (level_name x n)) [] ((7, at) ∷ [])
+  node_faults visible at (raw_name x) = cond (visible x) [] (unknown_name at ∷ [])
+  node_faults visible at (raw_level_name x n) = cond (visible (level_name x n)) [] (unknown_name at ∷ [])
   node_faults visible at (raw_word o a) = part_faults (takes_predicate o) a (form_faults visible a)
   node_faults visible at (raw_negative a) = part_faults false a (form_faults visible a)
   node_faults visible at (raw_infix o a b) = strict_faults o a b ++ (part_faults (is_connective o) a (form_faults visible a) ++ part_faults (is_connective o) b (form_faults visible b))
@@ -45,10 +47,15 @@ abbrev mutual
   each_faults visible no_trees = []
   each_faults visible (tree_and t ts) = part_faults false t (form_faults visible t) ++ each_faults visible ts
 
+-- a type is missing
+abbrev pub is_of_type : FaultKind → Bool
+is_of_type NoType = true
+is_of_type _ = false
+
 -- the faults but for those of types
 abbrev pub but_types : List Fault → List Fault
 but_types [] = []
-but_types (f ∷ fs) = cond (nat_eq f.0 8) (but_types fs) (f ∷ but_types fs)
+but_types (f ∷ fs) = cond (is_of_type f.0) (but_types fs) (f ∷ but_types fs)
 
 -- something stands under the name
 abbrev pub is_in_sight : Sight → Bool

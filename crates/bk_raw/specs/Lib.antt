@@ -33,6 +33,7 @@ pub mod Limits
 pub mod Texts
 pub mod Laws
 pub mod Names
+pub mod Faults
 pub mod Outcome
 pub mod Blame
 pub mod OperatorReadings

@@ -15,7 +15,8 @@ use Rattle.bk_raw.specs.declared.operator.WordOp.{WordOp}
 use Rattle.bk_raw.specs.declared.operator.WordOp.TheVariants.{Not, BoolOf, Card, Min, Max, Dom, Ran, Id, Succ, Pred, Pow, Pow1, Fin, Fin1}
 use Rattle.bk_raw.specs.declared.operator.Constant.{Constant}
 use Rattle.bk_raw.specs.declared.operator.Constant.TheVariants.{Bool as BoolWord, True, False, Integer, Natural, Natural1, Int, Nat, Nat1, MaxInt, MinInt, Btrue, Bfalse}
-use Rattle.bk_raw.specs.Outcome.{Fault, Joint, union_joint, inter_joint, minus_joint, over_joint, joint_op, joins, Partial, whole, single_of, pair_of, joint_of, filled, whole_of, Outcome, partial, ranging, holding, Reading, silently, plainly, giving, no_type, Asked, fitting, ask, ask_set, ask_relation, ask_domain, ask_predicate, unvalued, of_answer, of_one, of_both}
+use Rattle.bk_raw.specs.Outcome.{Joint, union_joint, inter_joint, minus_joint, over_joint, joint_op, joins, Partial, whole, single_of, pair_of, joint_of, filled, whole_of, Outcome, partial, ranging, holding, Reading, silently, plainly, giving, no_type, Asked, fitting, ask, ask_set, ask_relation, ask_domain, ask_predicate, unvalued, of_answer, of_one, of_both}
+use Rattle.bk_raw.specs.Faults.{Fault}
 
 -- ---- leaves
 -- MININT, where int_max is MAXINT

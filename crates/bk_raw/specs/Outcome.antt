@@ -7,10 +7,7 @@ use Rattle.bk_form.specs.Role.{same_type}
 use Rattle.bk_form.specs.declared.operator.BinOp.{BinOp}
 use Rattle.bk_form.specs.declared.operator.BinOp.TheVariants.{Union as Joining, Inter, Minus as Without, Over, Maps}
 use Rattle.bk_form.specs.declared.operator.UnOp.TheVariants.{Single}
-
--- a fault's number, and the byte where it stands
-abbrev pub Fault : Type 0
-Fault = ℕ × ℕ
+use Rattle.bk_raw.specs.Faults.{Fault, without_type}
 
 -- the operators that make one set of two of its type
 pub data Joint : Type 0 where
@@ -107,7 +104,7 @@ clean (f ∷ fs) o = silent
 
 -- the fault of a formula or name without a type
 abbrev pub no_type : ℕ → List Fault
-no_type at = (8, at) ∷ []
+no_type at = without_type at ∷ []
 
 -- ---- what a place asks of a part: the formula, or what is at fault
 -- the answer of a part to what its place asks, if it has one, and the faults that this adds to those in the part

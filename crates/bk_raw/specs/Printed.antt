@@ -6,8 +6,9 @@ use Rattle.bk_form.specs.declared.operator.Domain.TheVariants.{Enum}
 use Rattle.bk_raw.specs.WrittenType.{WrittenType, written_integer, written_bool, written_set, written_power, written_product}
 use Rattle.bk_raw.specs.declared.term.RawBound.{RawBound}
 use Rattle.bk_raw.specs.Names.{Names, Sight, seen, found}
-use Rattle.bk_raw.specs.Outcome.{Fault, Reading, silently, giving, no_type, ask_set}
+use Rattle.bk_raw.specs.Outcome.{Reading, silently, giving, no_type, ask_set}
 use Rattle.bk_raw.specs.Binders.{Bound, Ranged}
+use Rattle.bk_raw.specs.Faults.{Fault, unknown_name}
 
 -- ---- types
 -- the type of the elements of the set that a name stands for, if it stands for one
@@ -41,7 +42,7 @@ typed_empty at _ = silently (no_type at)
 -- ---- bound variables
 -- a bound variable's number is the next from the outside, k; any other is a name that is not in sight
 abbrev pub wrong_number : ℕ → ℕ → ℕ → List Fault
-wrong_number at n k = cond (nat_eq n k) [] ((7, at) ∷ [])
+wrong_number at n k = cond (nat_eq n k) [] (unknown_name at ∷ [])
 
 -- the same of bound variables with their types, the first of which is the k-th
 abbrev pub wrong_bounds : ℕ → List RawBound → List Fault

@@ -19,6 +19,7 @@ use Rattle.bk_raw.specs.Names.{Names, global}
 use Rattle.bk_raw.specs.Outcome.{Reading, whole, partial, ranging, holding}
 use Rattle.bk_raw.specs.TermReading.{reading}
 use Rattle.bk_raw.specs.ScopeReading.{ScopeNames, formula_in}
+use Rattle.bk_raw.specs.Faults.{twice_named, unknown_name, without_type, not_predicate}
 
 -- MAXINT
 abbrev pub maxint : ℤ
@@ -99,11 +100,11 @@ name_first letter = raw 0 (raw_name (letter ∷ []))
 pub record ReadingExamples : Type 0 where
   -- ---- operators
   -- 1 + TRUE is at fault at TRUE
-  pub sum : (alone (infix_at 0 Plus (one_at 0) (word_at 4 True))).faults ≡ (8, 4) ∷ []
+  pub sum : (alone (infix_at 0 Plus (one_at 0) (word_at 4 True))).faults ≡ without_type 4 ∷ []
   -- {} = x: the empty set takes the type of x
   pub equal : (with_set (infix_at 0 Equal (empty_at 0) (x_at 5))).outcome ≡ holding (binary Eq (empty_set (set_type int_type)) (variable 4))
   -- {} = {} has no type, at the whole
-  pub neither : (alone (infix_at 0 Equal (empty_at 0) (empty_at 5))).faults ≡ (8, 0) ∷ []
+  pub neither : (alone (infix_at 0 Equal (empty_at 0) (empty_at 5))).faults ≡ without_type 0 ∷ []
   -- x /= {} is not(x = {})
   pub unequal : (with_set (infix_at 0 NotEqual (x_at 0) (empty_at 5))).outcome ≡ holding (unary Negation (binary Eq (variable 4) (empty_set (set_type int_type))))
   -- 1 > 2 is 2 < 1
@@ -112,29 +113,29 @@ pub record ReadingExamples : Type 0 where
   pub difference : (with_set (infix_at 0 Minus (x_at 0) (empty_at 4))).outcome
       ≡ partial (whole (binary Without (variable 4) (empty_set (set_type int_type))) (set_type int_type))
   -- {} * x has no type, at {}
-  pub product : (with_set (infix_at 0 Times (empty_at 0) (x_at 5))).faults ≡ (8, 0) ∷ []
+  pub product : (with_set (infix_at 0 Times (empty_at 0) (x_at 5))).faults ≡ without_type 0 ∷ []
   -- x * NATURAL is a domain, and 1 * NATURAL is at fault at NATURAL
   pub domains : (with_set (infix_at 0 Times (x_at 0) (word_at 4 Natural))).outcome
       ≡ ranging (binary Product (variable 4) (named NaturalNumbers)) (pair_type int_type int_type) 4
-  pub number_of_domains : (alone (infix_at 0 Times (one_at 0) (word_at 4 Natural))).faults ≡ (8, 4) ∷ []
+  pub number_of_domains : (alone (infix_at 0 Times (one_at 0) (word_at 4 Natural))).faults ≡ without_type 4 ∷ []
   -- NATURAL * 1 is of numbers, since 1 gives first, and so at fault at NATURAL; NATURAL * TRUE at the whole, and NATURAL * {} at {}
-  pub domain_of_numbers : (alone (infix_at 0 Times (word_at 1 Natural) (one_at 12))).faults ≡ (8, 1) ∷ []
-  pub domain_of_truth : (alone (infix_at 0 Times (word_at 1 Natural) (word_at 12 True))).faults ≡ (8, 0) ∷ []
-  pub domain_of_none : (alone (infix_at 0 Times (word_at 1 Natural) (empty_at 12))).faults ≡ (8, 12) ∷ []
+  pub domain_of_numbers : (alone (infix_at 0 Times (word_at 1 Natural) (one_at 12))).faults ≡ without_type 1 ∷ []
+  pub domain_of_truth : (alone (infix_at 0 Times (word_at 1 Natural) (word_at 12 True))).faults ≡ without_type 0 ∷ []
+  pub domain_of_none : (alone (infix_at 0 Times (word_at 1 Natural) (empty_at 12))).faults ≡ without_type 12 ∷ []
   -- beside a fault in one side nothing is told of the other
-  pub product_of_fault : (alone (infix_at 0 Times (empty_at 0) (infix_at 6 Plus (one_at 6) (word_at 10 True)))).faults ≡ (8, 10) ∷ []
+  pub product_of_fault : (alone (infix_at 0 Times (empty_at 0) (infix_at 6 Plus (one_at 6) (word_at 10 True)))).faults ≡ without_type 10 ∷ []
   -- {1, 1} is {1} \/ {1}
   pub extension : (alone (raw 0 (raw_extension (tree_and (one_at 1) (tree_and (one_at 4) no_trees))))).outcome
       ≡ partial (whole (binary Joining (unary Single (literal (pos 1))) (unary Single (literal (pos 1)))) (set_type int_type))
   -- succ(1) is 1 + 1; min({}) is typed, card({}) is not; FIN is POW
   pub successor : (alone (raw 0 (raw_word Succ (one_at 5)))).outcome ≡ partial (whole (binary Add (literal (pos 1)) (literal (pos 1))) int_type)
   pub least_of_none : (alone (raw 0 (raw_word Min (empty_at 4)))).faults ≡ []
-  pub count_of_none : (alone (raw 0 (raw_word Card (empty_at 5)))).faults ≡ (8, 5) ∷ []
+  pub count_of_none : (alone (raw 0 (raw_word Card (empty_at 5)))).faults ≡ without_type 5 ∷ []
   pub finite_sets : (with_set (raw 0 (raw_word Fin (x_at 4)))).outcome ≡ ranging (unary PowerOf (variable 4)) (set_type int_type) 0
   -- x <<: x is x : POW(x) & not(x = x), and 1 <<: x is at fault at 1
   pub strict : (with_set (infix_at 0 StrictSubset (x_at 0) (x_at 6))).outcome
       ≡ holding (binary Conjunction (binary In (variable 4) (unary PowerOf (variable 4))) (unary Negation (binary Eq (variable 4) (variable 4))))
-  pub no_set : (with_set (infix_at 0 StrictSubset (one_at 0) (x_at 6))).faults ≡ (8, 0) ∷ []
+  pub no_set : (with_set (infix_at 0 StrictSubset (one_at 0) (x_at 6))).faults ≡ without_type 0 ∷ []
   -- MAXINT and NAT are numbers and intervals of literals
   pub greatest : (alone (word_at 0 MaxInt)).outcome ≡ partial (whole (literal (pos 2147483647)) int_type)
   pub least : (alone (word_at 0 MinInt)).outcome ≡ partial (whole (literal (negsuc 2147483646)) int_type)
@@ -149,36 +150,36 @@ pub record ReadingExamples : Type 0 where
   pub couple : (alone (infix_at 0 Maplet (one_at 0) (one_at 6))).outcome ≡ partial (whole (binary Maps (literal (pos 1)) (literal (pos 1))) (pair_type int_type int_type))
   -- ---- faults
   -- 1(1) is at fault at the 1 that is applied; min({TRUE}) at {TRUE}, f(1, TRUE) at the pair and card({{}}) at {{}}, as wholes
-  pub no_function : (alone (raw 0 (raw_apply (one_at 0) (one_at 2)))).faults ≡ (8, 0) ∷ []
-  pub no_set_of_numbers : (alone (raw 0 (raw_word Min (single_at 4 (word_at 5 True))))).faults ≡ (8, 4) ∷ []
-  pub no_argument : (with_relation (raw 0 (raw_apply (f_at 0) (raw 2 (raw_pair (one_at 2) (word_at 5 True)))))).faults ≡ (8, 2) ∷ []
-  pub no_type_within : (alone (raw 0 (raw_word Card (single_at 5 (empty_at 6))))).faults ≡ (8, 5) ∷ []
+  pub no_function : (alone (raw 0 (raw_apply (one_at 0) (one_at 2)))).faults ≡ without_type 0 ∷ []
+  pub no_set_of_numbers : (alone (raw 0 (raw_word Min (single_at 4 (word_at 5 True))))).faults ≡ without_type 4 ∷ []
+  pub no_argument : (with_relation (raw 0 (raw_apply (f_at 0) (raw 2 (raw_pair (one_at 2) (word_at 5 True)))))).faults ≡ without_type 2 ∷ []
+  pub no_type_within : (alone (raw 0 (raw_word Card (single_at 5 (empty_at 6))))).faults ≡ without_type 5 ∷ []
   -- x <<: bool(x <<: x): the inner <<: is at fault, and bool(..) is no set
-  pub strict_within : (with_set (infix_at 0 StrictSubset (x_at 0) (raw 6 (raw_word BoolOf (infix_at 11 StrictSubset (x_at 11) (x_at 17)))))).faults ≡ (9, 11) ∷ (8, 6) ∷ []
+  pub strict_within : (with_set (infix_at 0 StrictSubset (x_at 0) (raw 6 (raw_word BoolOf (infix_at 11 StrictSubset (x_at 11) (x_at 17)))))).faults ≡ not_predicate 11 ∷ without_type 6 ∷ []
   -- an unknown name
-  pub name : (alone (x_at 7)).faults ≡ (7, 7) ∷ []
+  pub name : (alone (x_at 7)).faults ≡ unknown_name 7 ∷ []
   -- NATURAL as a value
-  pub domain : (with_set (infix_at 0 Equal (x_at 0) (word_at 4 Natural))).faults ≡ (8, 4) ∷ []
+  pub domain : (with_set (infix_at 0 Equal (x_at 0) (word_at 4 Natural))).faults ≡ without_type 4 ∷ []
   -- an expression where a predicate stands
-  pub kind : (with_set (infix_at 0 Implies (x_at 0) (x_at 5))).faults ≡ (9, 0) ∷ (9, 5) ∷ []
+  pub kind : (with_set (infix_at 0 Implies (x_at 0) (x_at 5))).faults ≡ not_predicate 0 ∷ not_predicate 5 ∷ []
   -- a name without a type silences what is around it, and other parts are still judged
   pub silent : (reading maxint x_has_no_type (infix_at 0 Times (raw 0 (raw_extension (tree_and (one_at 1) no_trees))) (x_at 6))).faults ≡ []
-  pub judged : (reading maxint x_has_no_type (infix_at 0 Plus (word_at 0 True) (x_at 7))).faults ≡ (8, 0) ∷ []
+  pub judged : (reading maxint x_has_no_type (infix_at 0 Plus (word_at 0 True) (x_at 7))).faults ≡ without_type 0 ∷ []
   -- ---- binders
   -- !x.(x : NATURAL => 1 <= x)
   pub quantifier : (alone (raw 0 (raw_for_all (x_declared 1 ∷ []) (infix_at 4 Implies (infix_at 4 Member (x_at 4) (word_at 8 Natural)) (infix_at 19 AtMost (one_at 19) (x_at 24)))))).outcome
       ≡ holding (for_all (int_type ∷ []) (binary Imp (binary In (bound 0) (named NaturalNumbers)) (binary Le (literal (pos 1)) (bound 0))))
   -- !x.(1 <= x) leaves x without a type
-  pub untyped : (alone (raw 0 (raw_for_all (x_declared 1 ∷ []) (infix_at 4 AtMost (one_at 4) (x_at 9))))).faults ≡ (8, 1) ∷ []
+  pub untyped : (alone (raw 0 (raw_for_all (x_declared 1 ∷ []) (infix_at 4 AtMost (one_at 4) (x_at 9))))).faults ≡ without_type 1 ∷ []
   -- #x.(x <: {1}) types x by {1}
   pub typed_by_subset : (alone (raw 0 (raw_exists (x_declared 1 ∷ []) (infix_at 4 Subset (x_at 4) (single_at 9 (one_at 10)))))).faults ≡ []
   -- #(x, x).(x = 1): the second x stands twice, and has no type
-  pub twice : (alone (raw 0 (raw_exists (x_declared 2 ∷ x_declared 5 ∷ []) (infix_at 9 Equal (x_at 9) (one_at 13))))).faults ≡ (6, 5) ∷ (8, 5) ∷ []
+  pub twice : (alone (raw 0 (raw_exists (x_declared 2 ∷ x_declared 5 ∷ []) (infix_at 9 Equal (x_at 9) (one_at 13))))).faults ≡ twice_named 5 ∷ without_type 5 ∷ []
   -- #x.(x <<: {1}) types x by {1}
   pub typed_by_strict : (alone (raw 0 (raw_exists (x_declared 1 ∷ []) (infix_at 4 StrictSubset (x_at 4) (raw 10 (raw_extension (tree_and (one_at 11) no_trees))))))).faults
       ≡ []
   -- #x.(x <<: NATURAL) types x too, and is at fault at NATURAL alone, which is no value
-  pub typed_by_domain : (alone (raw 0 (raw_exists (x_declared 1 ∷ []) (infix_at 4 StrictSubset (x_at 4) (word_at 10 Natural))))).faults ≡ (8, 10) ∷ []
+  pub typed_by_domain : (alone (raw 0 (raw_exists (x_declared 1 ∷ []) (infix_at 4 StrictSubset (x_at 4) (word_at 10 Natural))))).faults ≡ without_type 10 ∷ []
   -- {x | x : 1 .. 1 & 1 <= x}: the range is taken from the first conjunct
   pub ranged : (alone (raw 0 (raw_comprehension (x_declared 1 ∷ []) (infix_at 5 And (infix_at 5 Member (x_at 5) (infix_at 9 Interval (one_at 9) (one_at 14))) (infix_at 18 AtMost (one_at 18) (x_at 23)))))).outcome
       ≡ partial (whole (comprehension (formula_and (binary Range (literal (pos 1)) (literal (pos 1))) no_formulas) (binary Le (literal (pos 1)) (bound 0))) (set_type int_type))
@@ -189,7 +190,7 @@ pub record ReadingExamples : Type 0 where
   pub function : (alone (raw 0 (raw_lambda (x_declared 1 ∷ []) (infix_at 4 Member (x_at 4) (infix_at 8 Interval (one_at 8) (one_at 13))) (x_at 17)))).outcome
       ≡ partial (whole (lambda (formula_and (binary Range (literal (pos 1)) (literal (pos 1))) no_formulas) btrue (bound 0)) (set_type (pair_type int_type int_type)))
   -- {x | x : x}: the range names a bound name
-  pub names_itself : (with_set (raw 0 (raw_comprehension (x_declared 1 ∷ []) (infix_at 5 Member (x_at 5) (x_at 9))))).faults ≡ (8, 1) ∷ []
+  pub names_itself : (with_set (raw 0 (raw_comprehension (x_declared 1 ∷ []) (infix_at 5 Member (x_at 5) (x_at 9))))).faults ≡ without_type 1 ∷ []
   -- ---- printed formulas
   pub typed_empty : (alone (raw 0 (raw_typed_empty (written_power written_integer)))).outcome ≡ partial (whole (empty_set (set_type int_type)) (set_type int_type))
   -- !($1:INTEGER).($1 <= 1)
@@ -202,9 +203,9 @@ pub record ReadingExamples : Type 0 where
   -- the variable's name hides the element's, and a name of no variable is none
   pub variable_name : (formula_in small_table small_scope (name_first 97)).answer ≡ Some (variable 0)
   pub set_name : (formula_in small_table small_scope (name_first 115)).answer ≡ Some (named (Enum 0))
-  pub no_name : (formula_in small_table small_scope (name_first 109)).faults ≡ (7, 0) ∷ []
+  pub no_name : (formula_in small_table small_scope (name_first 109)).faults ≡ unknown_name 0 ∷ []
   -- an entry of no variable hides the variable, and the element
-  pub hidden_variable : (formula_in small_table hiding_scope (name_first 110)).faults ≡ (7, 0) ∷ []
-  pub hidden_element : (formula_in small_table hiding_scope (name_first 97)).faults ≡ (7, 0) ∷ []
+  pub hidden_variable : (formula_in small_table hiding_scope (name_first 110)).faults ≡ unknown_name 0 ∷ []
+  pub hidden_element : (formula_in small_table hiding_scope (name_first 97)).faults ≡ unknown_name 0 ∷ []
   -- {} alone has no type
-  pub no_formula : (formula_in small_table small_scope (empty_at 3)).faults ≡ (8, 3) ∷ []
+  pub no_formula : (formula_in small_table small_scope (empty_at 3)).faults ≡ without_type 3 ∷ []

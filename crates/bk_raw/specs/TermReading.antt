@@ -12,11 +12,12 @@ use Rattle.bk_raw.specs.declared.operator.Constant.TheVariants.{Btrue, Bfalse}
 use Rattle.bk_raw.specs.declared.term.RawName.{RawName}
 use Rattle.bk_raw.specs.RawTree.{RawTree, raw, RawTreeNode, raw_name, raw_level_name, raw_bound_name, raw_number, raw_constant, raw_word, raw_negative, raw_infix, raw_inverse, raw_image, raw_apply, raw_composition, raw_pair, raw_empty_set, raw_extension, raw_comprehension, raw_lambda, raw_for_all, raw_exists, raw_typed_empty, raw_typed_for_all, raw_typed_exists, raw_ranged_comprehension, raw_ranged_lambda, RawTrees, no_trees, tree_and, RawRanges, no_ranges, range_and}
 use Rattle.bk_raw.specs.Names.{Names, Sight, unseen, untyped_name, seen, found, count_locals, bound_sight, level_name}
-use Rattle.bk_raw.specs.Outcome.{Fault, hollow, Outcome, partial, Reading, silently, plainly, giving, clean, no_type}
+use Rattle.bk_raw.specs.Outcome.{hollow, Outcome, partial, Reading, silently, plainly, giving, clean, no_type}
 use Rattle.bk_raw.specs.OperatorReadings.{constant_reading, word_reading, negative_reading, inverse_reading, infix_reading, image_reading, apply_reading, composition_reading, pair_reading, single_reading, extended}
 use Rattle.bk_raw.specs.Binders.{Bound, bound_names, inside, told_by, twice, quantified, Ranged, unranged, ranges_by, as_bound, is_used, left_over, is_and, body_of, comprehended, abstracted}
 use Rattle.bk_raw.specs.Printed.{type_read, typed_empty, wrong_bounds, printed_bounds, RangeRead, printed_ranges, wrong_ranges}
 use Rattle.bk_raw.specs.FreeNames.{conjuncts, stands_free}
+use Rattle.bk_raw.specs.Faults.{Fault, unknown_name, not_predicate}
 
 -- ---- what a term is by its form alone
 -- the byte where a term stands
@@ -105,7 +106,7 @@ abbrev mutual
   pub stricts_in : ℕ → RawTreeNode → List Fault
   stricts_in at (raw_word o a) = stricts a
   stricts_in at (raw_negative a) = stricts a
-  stricts_in at (raw_infix StrictSubset a b) = (9, at) ∷ stricts a ++ stricts b
+  stricts_in at (raw_infix StrictSubset a b) = not_predicate at ∷ stricts a ++ stricts b
   stricts_in at (raw_infix o a b) = stricts a ++ stricts b
   stricts_in at (raw_inverse a) = stricts a
   stricts_in at (raw_image a b) = stricts a ++ stricts b
@@ -144,11 +145,11 @@ is_alike false b = not b
 
 -- a part in a place where a predicate is wanted, or an expression: the other one is at fault, and what lies in it is still judged
 abbrev pub part : Bool → RawTree → Reading → Reading
-part wanted t r = cond (is_alike wanted (is_predicate t)) r (silently ((9, place_of t) ∷ r.faults))
+part wanted t r = cond (is_alike wanted (is_predicate t)) r (silently (not_predicate (place_of t) ∷ r.faults))
 
 -- what a name at a byte reads as. A name without a type silences what is around it, and is told where it is declared
 abbrev pub name_reading : ℕ → Sight → Reading
-name_reading at unseen = silently ((7, at) ∷ [])
+name_reading at unseen = silently (unknown_name at ∷ [])
 name_reading at untyped_name = silently []
 name_reading at (seen f t) = giving f t
 

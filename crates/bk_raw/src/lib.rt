@@ -3,6 +3,7 @@
 
 pub mod component;
 mod depth;
+mod fault;
 pub mod kind;
 pub mod laws;
 pub mod operator;
@@ -17,6 +18,7 @@ pub use component::{
     ClauseParts, ClauseWord, ComponentKind, RawClause, RawComponent, RawOperation, RawSet, RawValue,
 };
 pub use depth::too_deep;
+pub use fault::FaultKind;
 pub use kind::Strengths;
 pub use operator::{Constant, InfixOp, WordOp};
 pub use scope::Scope;

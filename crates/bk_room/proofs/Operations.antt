@@ -5,10 +5,10 @@ use Rattle.std.proofs.lemmas.Slice.Eq.{bytes_eq-Decides}
 use Rattle.std.proofs.lemmas.List.Elements.{All-nil}
 use Rattle.bk_dev.specs.Development.{Head, Level, Development}
 use Rattle.bk_raw.specs.ComponentTree.{RawOperation}
-use Rattle.bk_raw.specs.Outcome.{Fault}
 use Rattle.bk_raw.specs.Binders.{is_text, twice}
 use Rattle.bk_raw.proofs.BoundNames.{either, or-neither}
 use Rattle.bk_raw.proofs.RulesFit.{none-left, none-right}
+use Rattle.bk_raw.specs.Faults.{Fault, twice_named}
 use Rattle.bk_level.specs.Binders.{texts}
 use Rattle.bk_level.specs.Components.{Component, operation_names}
 use Rattle.bk_level.specs.Plan.{Headed, is_headed, operation_named, size_of, sizes, machine_heads, machine_headed, lower_headed, other_headed, output_count}
@@ -42,7 +42,7 @@ none-of : (a b : Bool) → a ≡ false → b ≡ false → (a || b) ≡ false
 none-of true b h k = absurd (cc)
 none-of false b h k = k
 
-not-again : (c : Bool) (at : ℕ) → cond {A = List Fault} c ((6, at) ∷ []) [] ≡ [] → c ≡ false
+not-again : (c : Bool) (at : ℕ) → cond {A = List Fault} c (twice_named at ∷ []) [] ≡ [] → c ≡ false
 not-again true at h = absurd (cc)
 not-again false at h = refl
 
@@ -51,7 +51,7 @@ not-again false at h = refl
 not-headed : (before : List (List ℕ)) (n : ℕ) (os : List RawOperation) → twice before (operation_names os) ≡ [] → (x : List ℕ) → is_text before x ≡ true → is_headed (machine_heads n os) x ≡ false
 not-headed before n [] h x e = refl
 not-headed before n (o ∷ os) h x e =
-    let now : List Fault = cond (is_text before o.name.text) ((6, o.name.at) ∷ []) [] in
+    let now : List Fault = cond (is_text before o.name.text) (twice_named o.name.at ∷ []) [] in
     let later = twice (o.name.text ∷ before) (operation_names os) in
     let new = not-again (is_text before o.name.text) o.name.at (none-left now later h) in
     none-of (bytes_eq o.name.text x) (is_headed (machine_heads (n + length o.inputs) os) x) (differs-from o.name.text x before new e)
@@ -61,7 +61,7 @@ not-headed before n (o ∷ os) h x e =
 pub machine-apart : (before : List (List ℕ)) (n : ℕ) (os : List RawOperation) → twice before (operation_names os) ≡ [] → AreNamedApart (machine_heads n os)
 machine-apart before n [] h = tt
 machine-apart before n (o ∷ os) h =
-    let now : List Fault = cond (is_text before o.name.text) ((6, o.name.at) ∷ []) [] in
+    let now : List Fault = cond (is_text before o.name.text) (twice_named o.name.at ∷ []) [] in
     let rest = none-right now (twice (o.name.text ∷ before) (operation_names os)) h in (
       not-headed (o.name.text ∷ before) (n + length o.inputs) os rest o.name.text (or-left (bytes_eq o.name.text o.name.text) (is_text before o.name.text) ((bytes_eq-Decides o.name.text o.name.text).1 refl)),
       machine-apart (o.name.text ∷ before) (n + length o.inputs) os rest,

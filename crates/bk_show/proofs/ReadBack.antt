@@ -20,13 +20,14 @@ use Rattle.bk_form.specs.declared.token.TokenKind.TheVariants.{BoundName}
 use Rattle.bk_show.specs.Items.{Item, blank, plain, sign, level_text}
 use Rattle.bk_show.proofs.Tokens.{after}
 use Rattle.bk_raw.specs.Names.{Names, Named, Meaning, local, global, set_name, element_name, nothing, unseen, seen, found, sight, behind, count_locals, local_at, local_sight, bound_sight}
-use Rattle.bk_raw.specs.Outcome.{Fault, Reading, partial, whole, holding, plainly, giving, clean, no_type, ask_value}
+use Rattle.bk_raw.specs.Outcome.{Reading, partial, whole, holding, plainly, giving, clean, no_type, ask_value}
 use Rattle.bk_raw.specs.Binders.{Bound, locals, inside, types_of, all_typed, untyped_faults, if_holding, where_typed, quantified, Ranged, as_bound, ranges_of, is_some_name, comprehended, abstracted, if_giving}
 use Rattle.bk_raw.specs.Printed.{type_read, set_type_of, power_of, product_of, typed_empty, wrong_bounds, printed_bounds, RangeRead, printed_ranges, wrong_ranges}
 use Rattle.bk_raw.specs.TermReading.{reading, node_reading, name_reading, is_predicate, is_predicate_node, part, place_of, range_reads}
 use Rattle.bk_show.specs.Shown.{name_of_variable, name_of_set, name_of_element, enclosed_if, truth_word, typed_items, UnaryForm, word_form, negative_form, inverse_form, single_form, unary_form, BinaryForm, infix_form, image_form, apply_form, composition_form, binary_form, Sides, is_bare, is_infix, items, ranges_items, range_items}
 use Rattle.bk_show.proofs.Trees.{node_by, name_node, inside_at, domain_node, written_type, raw_bounds, behind_comma, unary_node, binary_node, quantified_at, comprehended_at, premise_at, value_at, past_comma, shown_node, shown_ranges}
 use Rattle.bk_form.specs.Replacement.{count}
+use Rattle.bk_raw.specs.Faults.{Fault, unknown_name}
 use Rattle.bk_show.specs.Readable.{IsPlainName, IsPrintable, SetsAreNamed, AllSetsAreNamed, DomainIsNamed, IsReadable, AreReadable}
 use Rattle.bk_show.specs.Binders.{HasSomeRange}
 use Rattle.bk_show.specs.Stands.{IsGlobal, HasNoLocals, TypeStands, TypesStand, DomainStands, Stands, EachStands}
@@ -156,7 +157,7 @@ module _ (max : ℤ) (table : Table) (base : Names) (nolocals : HasNoLocals base
       let more = bounds-read ts h.1 s.1 around q (suc k) in
       let e = type-reads t h.0 s.0 around in
       let bs = printed_bounds (within around base) (raw_bounds table q (suc k) ts) in (
-        ap (λ b. cond b [] ((7, p) ∷ []) ++ wrong_bounds (suc k) (raw_bounds table q (suc k) ts)) (nat-self k) ∙ more.0,
+        ap (λ b. cond b [] (unknown_name p ∷ []) ++ wrong_bounds (suc k) (raw_bounds table q (suc k) ts)) (nat-self k) ∙ more.0,
         subst (λ o. AreBound (record { text = []; at = p; of_type = o } ∷ bs) (t ∷ ts)) (sym e) (ap (λ us. t ∷ us) more.1.0, more.1.1, more.1.2, ap (λ ns. record { text = []; meaning = local (Some t) } ∷ ns) more.1.3),
       )
 
@@ -201,7 +202,7 @@ module _ (max : ℤ) (table : Table) (base : Names) (nolocals : HasNoLocals base
   range-behind : (p k place : ℕ) (f : Formula) (t : ValueType) (y : Reading) (more : List RangeRead) (rs : Formulas) (ts : List ValueType) → y ≡ giving f (set_type t) → RangesRead (suc k) more rs ts → RangesRead k (record { at = p; number = k; place = place; reading = y } ∷ more) (formula_and f rs) (t ∷ ts)
   range-behind p k place f t y more rs ts e h =
       subst (λ z. RangesRead k (record { at = p; number = k; place = place; reading = z } ∷ more) (formula_and f rs) (t ∷ ts)) (sym e)
-      (ap (λ b. cond b [] ((7, p) ∷ []) ++ wrong_ranges (suc k) more) (nat-self k) ∙ h.0, ap (formula_and f) h.1, (ap (λ us. t ∷ us) h.2.0, h.2.1, h.2.2, ap (λ ns. record { text = []; meaning = local (Some t) } ∷ ns) h.2.3))
+      (ap (λ b. cond b [] (unknown_name p ∷ []) ++ wrong_ranges (suc k) more) (nat-self k) ∙ h.0, ap (formula_and f) h.1, (ap (λ us. t ∷ us) h.2.0, h.2.1, h.2.2, ap (λ ns. record { text = []; meaning = local (Some t) } ∷ ns) h.2.3))
 
   -- a comprehension or lambda has a range
   ranges-then : (around : List ValueType) (rs : Formulas) → are_ranges (roles table around rs) ≡ true → HasSomeRange rs × (each_gives_set (roles table around rs) ≡ true)

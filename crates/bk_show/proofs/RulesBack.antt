@@ -15,6 +15,7 @@ use Rattle.bk_raw.specs.RawTree.{RawTree, RawTreeNode, raw_word, raw_negative, r
 use Rattle.bk_raw.specs.Outcome.{Outcome, Reading, ranging, holding, silently, plainly, giving}
 use Rattle.bk_raw.specs.OperatorReadings.{infix_reading, word_reading, negative_reading, inverse_reading, image_reading, apply_reading, composition_reading, single_reading}
 use Rattle.bk_raw.specs.TermReading.{is_alike, is_predicate, is_predicate_node, place_of, part, from_one, from_two, spoilt_by, strict_faults, is_connective, takes_predicate}
+use Rattle.bk_raw.specs.Faults.{not_predicate}
 use Rattle.bk_show.specs.Shown.{UnaryForm, word_form, negative_form, inverse_form, single_form, unary_form, BinaryForm, infix_form, image_form, apply_form, composition_form, binary_form}
 
 pub nat-self : (n : ℕ) → nat_eq n n ≡ true
@@ -46,12 +47,12 @@ module _ (r : Role) (f : Formula) (t : RawTree) (x : Reading) (h : Reads r f (is
   pub value-part : (u : ValueType) → r ≡ gives u → part false t x ≡ giving f u
   value-part u e =
       let k : Reads (gives u) f (is_predicate t) x = subst (λ q. Reads q f (is_predicate t) x) e h in
-      ap (λ b. cond (is_alike false b) x (silently ((9, place_of t) ∷ x.faults))) k.1 ∙ k.0
+      ap (λ b. cond (is_alike false b) x (silently (not_predicate (place_of t) ∷ x.faults))) k.1 ∙ k.0
 
   pub predicate-part : r ≡ predicate → part true t x ≡ plainly (holding f)
   predicate-part e =
       let k : Reads predicate f (is_predicate t) x = subst (λ q. Reads q f (is_predicate t) x) e h in
-      ap (λ b. cond (is_alike true b) x (silently ((9, place_of t) ∷ x.faults))) k.1 ∙ k.0
+      ap (λ b. cond (is_alike true b) x (silently (not_predicate (place_of t) ∷ x.faults))) k.1 ∙ k.0
 
   abbrev pub AsDomain : ValueType → Type 0
   AsDomain u = (part false t x ≡ giving f (set_type u)) ⊎ ((there : ℕ) × (part false t x ≡ plainly (ranging f u there)))
@@ -61,7 +62,7 @@ module _ (r : Role) (f : Formula) (t : RawTree) (x : Reading) (h : Reads r f (is
     | inl e ↦ inl (value-part (set_type u) e)
     | inr e ↦
         (let k : Reads (ranges_over u) f (is_predicate t) x = subst (λ q. Reads q f (is_predicate t) x) e h in
-        inr (k.0, ap (λ b. cond (is_alike false b) x (silently ((9, place_of t) ∷ x.faults))) k.2 ∙ k.1))
+        inr (k.0, ap (λ b. cond (is_alike false b) x (silently (not_predicate (place_of t) ∷ x.faults))) k.2 ∙ k.1))
   ]
 
 -- ---- rules by what they ask of a role
@@ -249,9 +250,9 @@ module _ (a b : Formula) (ra rb : Role) (ta tb : RawTree) (xa xb : Reading) (ha 
       on-product f false x ra rb
       (λ t u e g. both (gives (set_type (pair_type t u))) f false k false (giving a (set_type t)) (giving b (set_type u)) (value-part ra a ta xa ha (set_type t) e) (value-part rb b tb xb hb (set_type u) g) (h1 t u))
       (λ t u e g. let s : Reads (ranges_over u) b (is_predicate tb) xb = subst (λ q. Reads q b (is_predicate tb) xb) g hb in
-      both (ranges_over (pair_type t u)) f false k false (giving a (set_type t)) (plainly (ranging b u s.0)) (value-part ra a ta xa ha (set_type t) e) (ap (λ c. cond (is_alike false c) xb (silently ((9, place_of tb) ∷ xb.faults))) s.2 ∙ s.1) (h2 t u s.0))
+      both (ranges_over (pair_type t u)) f false k false (giving a (set_type t)) (plainly (ranging b u s.0)) (value-part ra a ta xa ha (set_type t) e) (ap (λ c. cond (is_alike false c) xb (silently (not_predicate (place_of tb) ∷ xb.faults))) s.2 ∙ s.1) (h2 t u s.0))
       (λ t u e g. let s : Reads (ranges_over t) a (is_predicate ta) xa = subst (λ q. Reads q a (is_predicate ta) xa) e ha in
-      let p : part false ta xa ≡ plainly (ranging a t s.0) = ap (λ c. cond (is_alike false c) xa (silently ((9, place_of ta) ∷ xa.faults))) s.2 ∙ s.1 in
+      let p : part false ta xa ≡ plainly (ranging a t s.0) = ap (λ c. cond (is_alike false c) xa (silently (not_predicate (place_of ta) ∷ xa.faults))) s.2 ∙ s.1 in
       elim (domain-part rb b tb xb hb u g) [
         | inl q ↦ both (ranges_over (pair_type t u)) f false k false (plainly (ranging a t s.0)) (giving b (set_type u)) p q (h3 t u s.0)
         | inr q ↦ both (ranges_over (pair_type t u)) f false k false (plainly (ranging a t s.0)) (plainly (ranging b u q.0)) p q.1 (h4 t u s.0 q.0)

@@ -18,9 +18,10 @@ use Rattle.bk_raw.specs.declared.component.RawValue.{RawValue}
 use Rattle.bk_raw.specs.ComponentTree.{RawSet}
 use Rattle.bk_raw.specs.Names.{Names}
 use Rattle.bk_raw.specs.Binders.{is_text}
-use Rattle.bk_raw.specs.Outcome.{Fault, no_type}
+use Rattle.bk_raw.specs.Outcome.{no_type}
 use Rattle.bk_raw.specs.Blame.{blame, earlier}
 use Rattle.bk_raw.proofs.Blamed.{earlier-none}
+use Rattle.bk_raw.specs.Faults.{Fault, twice_named, wrong_value}
 use Rattle.bk_level.specs.Binders.{texts}
 use Rattle.bk_level.specs.Components.{set_names, WrittenVariable, abstract_names}
 use Rattle.bk_level.specs.Typings.{Typing, Target, unknown, no_variable, variable_target, target, as_number, variable_named, interval}
@@ -102,13 +103,13 @@ same-next names written i d w t whole h k e same inv =
 pub taken-join : (ts : List (List ℕ)) (xs ys : List RawName) → taken ts (xs ++ ys) ≡ taken ts xs ++ taken ts ys
 taken-join ts [] ys = refl
 taken-join ts (x ∷ xs) ys =
-    let one = cond (is_text ts x.text) ((6, x.at) ∷ []) [] in
+    let one = cond (is_text ts x.text) (twice_named x.at ∷ []) [] in
     ap (λ l. one ++ l) (taken-join ts xs ys) ∙ sym (append_assoc one (taken ts xs) (taken ts ys))
 
 -- those of a set, and of those behind it
-pub taken-set : (ts : List (List ℕ)) (s : RawSet) (ss : List RawSet) → taken ts (set_names (s ∷ ss)) ≡ (cond (is_text ts s.name.text) ((6, s.name.at) ∷ []) [] ++ taken ts s.elements) ++ taken ts (set_names ss)
+pub taken-set : (ts : List (List ℕ)) (s : RawSet) (ss : List RawSet) → taken ts (set_names (s ∷ ss)) ≡ (cond (is_text ts s.name.text) (twice_named s.name.at ∷ []) [] ++ taken ts s.elements) ++ taken ts (set_names ss)
 taken-set ts s ss =
-    let one = cond (is_text ts s.name.text) ((6, s.name.at) ∷ []) [] in
+    let one = cond (is_text ts s.name.text) (twice_named s.name.at ∷ []) [] in
     ap (λ l. one ++ l) (taken-join ts s.elements (set_names ss)) ∙ sym (append_assoc one (taken ts s.elements) (taken ts (set_names ss)))
 
 -- those of an abstract variable, and of those behind it
@@ -119,7 +120,7 @@ taken-abstract ts v vs = go v.is_concrete
     rest = taken ts (abstract_names vs)
 
     one : List Fault
-    one = cond (is_text ts v.name.text) ((6, v.name.at) ∷ []) []
+    one = cond (is_text ts v.name.text) (twice_named v.name.at ∷ []) []
 
     go : (b : Bool) → taken ts (cond b (abstract_names vs) (v.name ∷ abstract_names vs)) ≡ taken ts (cond b [] (v.name ∷ [])) ++ rest
     go true = refl
@@ -165,16 +166,16 @@ entries-same max typing globals ns ms [] h = refl
 entries-same max typing globals ns ms (v ∷ vs) h =
     let t = target globals v.name.text in
     let there = is_there (value_of max typing globals v) in
-    ap (λ b. cond (there && not b) [] ((14, v.name.at) ∷ []) ++ entry_value_faults max typing globals (with_target t ns) vs) (again-same ns ms t h)
-    ∙ ap (λ l. cond (there && not (is_again ms t)) [] ((14, v.name.at) ∷ []) ++ l) (entries-same max typing globals (with_target t ns) (with_target t ms) vs (with-same ns ms t h))
+    ap (λ b. cond (there && not b) [] (wrong_value v.name.at ∷ []) ++ entry_value_faults max typing globals (with_target t ns) vs) (again-same ns ms t h)
+    ∙ ap (λ l. cond (there && not (is_again ms t)) [] (wrong_value v.name.at ∷ []) ++ l) (entries-same max typing globals (with_target t ns) (with_target t ms) vs (with-same ns ms t h))
 
 -- one entry more
 pub entries-next : (max : ℤ) (typing : Typing) (globals : Names) (vs : List (Bor RawValue)) (i : ℕ) (v : Bor RawValue) (right : Bool) (before now after whole : Option Fault) → i < length vs → v ≡ get_or vs i v →
-    right ≡ (is_there (value_of max typing globals v.now) && not (is_again (valued globals (refs (take i vs))) (target globals v.now.name.text))) → now ≡ blame (cond right [] ((14, v.now.name.at) ∷ [])) → after ≡ earlier before now →
+    right ≡ (is_there (value_of max typing globals v.now) && not (is_again (valued globals (refs (take i vs))) (target globals v.now.name.text))) → now ≡ blame (cond right [] (wrong_value v.now.name.at ∷ [])) → after ≡ earlier before now →
     earlier before (blame (entry_value_faults max typing globals (valued globals (refs (take i vs))) (refs (drop i vs)))) ≡ whole →
     earlier after (blame (entry_value_faults max typing globals (valued globals (refs (take (i + 1) vs))) (refs (drop (i + 1) vs)))) ≡ whole
 entries-next max typing globals vs i v right before now after whole h e seen k g inv =
-    told-more (entry_value_faults max typing globals was (refs (drop i vs))) (cond right [] ((14, v.now.name.at) ∷ [])) (entry_value_faults max typing globals is ys) before now after whole step k g inv
+    told-more (entry_value_faults max typing globals was (refs (drop i vs))) (cond right [] (wrong_value v.now.name.at ∷ [])) (entry_value_faults max typing globals is ys) before now after whole step k g inv
   where
     was : List ℕ
     was = valued globals (refs (take i vs))
@@ -193,11 +194,11 @@ entries-next max typing globals vs i v right before now after whole h e seen k g
         sym (ap (λ l. among l n) (last (λ l. valued globals (refs l)) vs i v h e) ∙ (ap (λ l. among (valued globals l) n) (map-append (λ x. x.now) (take i vs) (v ∷ []))
         ∙ (valued-push globals (refs (take i vs)) v.now n ∙ number-among t was n)))
 
-    step : entry_value_faults max typing globals was (refs (drop i vs)) ≡ cond right [] ((14, v.now.name.at) ∷ []) ++ entry_value_faults max typing globals is ys
+    step : entry_value_faults max typing globals was (refs (drop i vs)) ≡ cond right [] (wrong_value v.now.name.at ∷ []) ++ entry_value_faults max typing globals is ys
     step =
         next (λ l. entry_value_faults max typing globals was (refs l)) vs i v h e
-        ∙ (ap (λ b. cond b [] ((14, v.now.name.at) ∷ []) ++ entry_value_faults max typing globals (with_target t was) ys) (sym seen)
-        ∙ ap (λ l. cond right [] ((14, v.now.name.at) ∷ []) ++ l) (entries-same max typing globals (with_target t was) is ys grown))
+        ∙ (ap (λ b. cond b [] (wrong_value v.now.name.at ∷ []) ++ entry_value_faults max typing globals (with_target t was) ys) (sym seen)
+        ∙ ap (λ l. cond right [] (wrong_value v.now.name.at ∷ []) ++ l) (entries-same max typing globals (with_target t was) is ys grown))
 
 -- ---- types
 either-bool : (b : Bool) → (b ≡ true) ⊎ (b ≡ false)

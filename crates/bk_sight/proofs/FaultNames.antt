@@ -9,9 +9,9 @@ use Rattle.bk_raw.specs.declared.term.RawName.{RawName}
 use Rattle.bk_raw.specs.ComponentTree.{RawOperation}
 use Rattle.bk_raw.specs.Names.{Names}
 use Rattle.bk_raw.specs.Binders.{is_text, twice}
-use Rattle.bk_raw.specs.Outcome.{Fault}
 use Rattle.bk_raw.specs.Blame.{blame, earlier}
 use Rattle.bk_raw.proofs.Blamed.{earlier-none}
+use Rattle.bk_raw.specs.Faults.{Fault, twice_named, wrong_write}
 use Rattle.bk_level.specs.Binders.{texts}
 use Rattle.bk_level.specs.Components.{operation_names}
 use Rattle.bk_level.specs.Typings.{Target, unknown, no_variable, variable_target, target}
@@ -42,8 +42,8 @@ texts-join (x ∷ xs) ys = ap (λ l. x.text ∷ l) (texts-join xs ys)
 pub twice-same : (ts us : List (List ℕ)) (xs : List RawName) → ((t : List ℕ) → is_text ts t ≡ is_text us t) → twice ts xs ≡ twice us xs
 twice-same ts us [] h = refl
 twice-same ts us (x ∷ xs) h =
-    ap (λ b. cond b ((6, x.at) ∷ []) [] ++ twice (x.text ∷ ts) xs) (h x.text)
-    ∙ ap (λ l. cond (is_text us x.text) ((6, x.at) ∷ []) [] ++ l) (twice-same (x.text ∷ ts) (x.text ∷ us) xs (λ t. ap (λ b. bytes_eq x.text t || b) (h t)))
+    ap (λ b. cond b (twice_named x.at ∷ []) [] ++ twice (x.text ∷ ts) xs) (h x.text)
+    ∙ ap (λ l. cond (is_text us x.text) (twice_named x.at ∷ []) [] ++ l) (twice-same (x.text ∷ ts) (x.text ∷ us) xs (λ t. ap (λ b. bytes_eq x.text t || b) (h t)))
 
 -- a text between others is one in front of them
 front : (ts us : List (List ℕ)) (x t : List ℕ) → is_text (ts ++ x ∷ us) t ≡ is_text (x ∷ (ts ++ us)) t
@@ -54,17 +54,17 @@ front ts us x t =
 pub twice-join : (before : List (List ℕ)) (xs ys : List RawName) → twice before (xs ++ ys) ≡ twice before xs ++ twice (texts xs ++ before) ys
 twice-join before [] ys = refl
 twice-join before (x ∷ xs) ys =
-    let one = cond (is_text before x.text) ((6, x.at) ∷ []) [] in
+    let one = cond (is_text before x.text) (twice_named x.at ∷ []) [] in
     ap (λ l. one ++ l) (twice-join (x.text ∷ before) xs ys)
     ∙ (sym (append_assoc one (twice (x.text ∷ before) xs) (twice (texts xs ++ x.text ∷ before) ys))
     ∙ ap (λ l. (one ++ twice (x.text ∷ before) xs) ++ l) (twice-same (texts xs ++ x.text ∷ before) (x.text ∷ (texts xs ++ before)) ys (front (texts xs) before x.text)))
 
 -- one name more, where the names of a list are these, and others stand before
 pub twice-next : {X : Type 0} (f : X → RawName) (others : List (List ℕ)) (xs : List X) (i : ℕ) (x : X) (again : Bool) (before now after whole : Option Fault) → i < length xs → x ≡ get_or xs i x →
-    again ≡ (is_text others (f x).text || is_text (texts (map f (take i xs))) (f x).text) → now ≡ blame (cond again ((6, (f x).at) ∷ []) []) → after ≡ earlier before now →
+    again ≡ (is_text others (f x).text || is_text (texts (map f (take i xs))) (f x).text) → now ≡ blame (cond again (twice_named ((f x).at) ∷ []) []) → after ≡ earlier before now →
     earlier before (blame (twice (texts (map f (take i xs)) ++ others) (map f (drop i xs)))) ≡ whole → earlier after (blame (twice (texts (map f (take (i + 1) xs)) ++ others) (map f (drop (i + 1) xs)))) ≡ whole
 twice-next f others xs i x again before now after whole h e seen k g inv =
-    told-more (twice was (map f (drop i xs))) (cond again ((6, (f x).at) ∷ []) []) (twice is ys) before now after whole step k g inv
+    told-more (twice was (map f (drop i xs))) (cond again (twice_named ((f x).at) ∷ []) []) (twice is ys) before now after whole step k g inv
   where
     was : List (List ℕ)
     was = texts (map f (take i xs)) ++ others
@@ -86,11 +86,11 @@ twice-next f others xs i x again before now after whole h e seen k g inv =
     known : is_text was (f x).text ≡ again
     known = is_text-join (texts (map f (take i xs))) others (f x).text ∙ (or-comm (is_text (texts (map f (take i xs))) (f x).text) (is_text others (f x).text) ∙ sym seen)
 
-    step : twice was (map f (drop i xs)) ≡ cond again ((6, (f x).at) ∷ []) [] ++ twice is ys
+    step : twice was (map f (drop i xs)) ≡ cond again (twice_named ((f x).at) ∷ []) [] ++ twice is ys
     step =
         next (λ l. twice was (map f l)) xs i x h e
-        ∙ (ap (λ b. cond b ((6, (f x).at) ∷ []) [] ++ twice ((f x).text ∷ was) ys) known
-        ∙ ap (λ l. cond again ((6, (f x).at) ∷ []) [] ++ l) (twice-same ((f x).text ∷ was) is ys grown))
+        ∙ (ap (λ b. cond b (twice_named ((f x).at) ∷ []) [] ++ twice ((f x).text ∷ was) ys) known
+        ∙ ap (λ l. cond again (twice_named ((f x).at) ∷ []) [] ++ l) (twice-same ((f x).text ∷ was) is ys grown))
 
 -- after all of them
 pub twice-end : {X : Type 0} (f : X → RawName) (others : List (List ℕ)) (xs : List X) (i : ℕ) (fault whole : Option Fault) → length xs ≤ i →
@@ -126,12 +126,12 @@ pub left-same : (names : Names) (w : ℕ → Bool) (ts us : List ℕ) (xs : List
 left-same names w ts us [] h = refl
 left-same names w ts us (x ∷ xs) h =
     let t = target names x.text in
-    ap (λ b. target_faults w x.at t ++ (cond b ((12, x.at) ∷ []) [] ++ left_faults names w (with_target t ts) xs)) (again-same ts us t h)
-    ∙ ap (λ l. target_faults w x.at t ++ (cond (is_again us t) ((12, x.at) ∷ []) [] ++ l)) (left-same names w (with_target t ts) (with_target t us) xs (with-same ts us t h))
+    ap (λ b. target_faults w x.at t ++ (cond b (wrong_write x.at ∷ []) [] ++ left_faults names w (with_target t ts) xs)) (again-same ts us t h)
+    ∙ ap (λ l. target_faults w x.at t ++ (cond (is_again us t) (wrong_write x.at ∷ []) [] ++ l)) (left-same names w (with_target t ts) (with_target t us) xs (with-same ts us t h))
 
 -- one name more
 pub left-next : (names : Names) (w : ℕ → Bool) (old new : List ℕ) (xs : List RawName) (i : ℕ) (x : RawName) (t : Target) (wrong again before now after whole : Option Fault) → i < length xs → x ≡ get_or xs i x → t ≡ target names x.text →
-    ((n : ℕ) → among new n ≡ among (with_target t old) n) → wrong ≡ blame (target_faults w x.at t) → again ≡ blame (cond (is_again old t) ((12, x.at) ∷ []) []) → now ≡ earlier wrong again → after ≡ earlier before now →
+    ((n : ℕ) → among new n ≡ among (with_target t old) n) → wrong ≡ blame (target_faults w x.at t) → again ≡ blame (cond (is_again old t) (wrong_write x.at ∷ []) []) → now ≡ earlier wrong again → after ≡ earlier before now →
     earlier before (blame (left_faults names w old (drop i xs))) ≡ whole → earlier after (blame (left_faults names w new (drop (i + 1) xs))) ≡ whole
 left-next names w old new xs i x t wrong again before now after whole h e kind grown a b c d inv =
     told-more (left_faults names w old (drop i xs)) (one ++ other) (left_faults names w new ys) before now after whole step (told-both one other wrong again now a b c) d inv
@@ -143,12 +143,12 @@ left-next names w old new xs i x t wrong again before now after whole h e kind g
     one = target_faults w x.at t
 
     other : List Fault
-    other = cond (is_again old t) ((12, x.at) ∷ []) []
+    other = cond (is_again old t) (wrong_write x.at ∷ []) []
 
     step : left_faults names w old (drop i xs) ≡ (one ++ other) ++ left_faults names w new ys
     step =
         next (left_faults names w old) xs i x h e
-        ∙ (ap (λ u. target_faults w x.at u ++ (cond (is_again old u) ((12, x.at) ∷ []) [] ++ left_faults names w (with_target u old) ys)) (sym kind)
+        ∙ (ap (λ u. target_faults w x.at u ++ (cond (is_again old u) (wrong_write x.at ∷ []) [] ++ left_faults names w (with_target u old) ys)) (sym kind)
         ∙ (ap (λ l. one ++ (other ++ l)) (sym (left-same names w new (with_target t old) ys grown)) ∙ sym (append_assoc one other (left_faults names w new ys))))
 
 -- outputs, and then inputs

@@ -2,6 +2,7 @@ use Rattle.std.proofs.Common.{refl, List, [], ◌∷◌, cond}
 use Rattle.std.specs.Borrow.{Bor}
 use Rattle.bk_raw.specs.declared.term.RawName.{RawName}
 use Rattle.bk_raw.specs.Binders.{is_text}
+use Rattle.bk_raw.specs.Faults.{twice_named}
 use Rattle.bk_elab.specs.Shown.{told}
 use Rattle.bk_elab.specs.Visible.{visible_names}
 use Rattle.bk_level.specs.NameFaults.{named_texts, taken}
@@ -12,5 +13,5 @@ use Rattle.bk_clauses.proofs.name_fault.taken_constants.Goals as goal
 pub loop-constant-preserved : goal.loop-constant-preserved
 loop-constant-preserved c =
     let ts = named_texts (visible_names c.args.names.now) in
-    told-item (λ (l : List (Bor RawName)). taken ts (refs l)) (λ (x : Bor RawName). cond (is_text ts x.now.text) ((6, x.now.at) ∷ []) []) c.args.constants.now c.loop-constant.constant-index c.constant-item.result (told c.loop-constant.fault) (told c.taken_one.result) (told c.earlier-fault.result) _
+    told-item (λ (l : List (Bor RawName)). taken ts (refs l)) (λ (x : Bor RawName). cond (is_text ts x.now.text) (twice_named x.now.at ∷ []) []) c.args.constants.now c.loop-constant.constant-index c.constant-item.result (told c.loop-constant.fault) (told c.taken_one.result) (told c.earlier-fault.result) _
     (λ _ _. refl) c.loop-constant-test.true c.constant-item.is c.taken_one.ensures c.earlier-fault.ensures c.loop-constant.invariant

@@ -5,6 +5,7 @@ use Rattle.bk_elab.specs.Shown.{told}
 use Rattle.bk_elab.specs.Visible.{visible_names}
 use Rattle.bk_level.specs.NameFaults.{named_texts, taken}
 use Rattle.bk_raw.specs.ComponentTree.{RawSet}
+use Rattle.bk_raw.specs.Faults.{twice_named}
 use Rattle.bk_level.specs.Components.{set_names}
 use Rattle.bk_sight.specs.Shown.{refs}
 use Rattle.bk_sight.proofs.FaultSteps.{told-item}
@@ -14,5 +15,5 @@ use Rattle.bk_clauses.proofs.name_fault.taken_sets.Goals as goal
 pub loop-set-preserved : goal.loop-set-preserved
 loop-set-preserved c =
     let ts = named_texts (visible_names c.args.names.now) in
-    told-item (λ (l : List (Bor RawSet)). taken ts (set_names (refs l))) (λ (s : Bor RawSet). cond (is_text ts s.now.name.text) ((6, s.now.name.at) ∷ []) [] ++ taken ts s.now.elements) c.args.sets.now c.loop-set.set-index c.set-item.result (told c.loop-set.fault) (told c.taken_set.result) (told c.earlier-fault.result) _
+    told-item (λ (l : List (Bor RawSet)). taken ts (set_names (refs l))) (λ (s : Bor RawSet). cond (is_text ts s.now.name.text) (twice_named s.now.name.at ∷ []) [] ++ taken ts s.now.elements) c.args.sets.now c.loop-set.set-index c.set-item.result (told c.loop-set.fault) (told c.taken_set.result) (told c.earlier-fault.result) _
     (λ s l. taken-set ts s.now (refs l)) c.loop-set-test.true c.set-item.is c.taken_set.ensures c.earlier-fault.ensures c.loop-set.invariant

@@ -1,7 +1,7 @@
 use Rattle.std.proofs.Common.{◌∙◌, ap, sym, ℕ, [], ◌∷◌}
 use Rattle.std.specs.Prelude.{Option}
-use Rattle.bk_raw.specs.Outcome.{Fault}
 use Rattle.bk_raw.specs.Blame.{blame, earlier}
+use Rattle.bk_raw.specs.Faults.{Fault, wrong_write}
 use Rattle.bk_elab.specs.Shown.{told}
 use Rattle.bk_level.specs.SubFaults.{first_place}
 use Rattle.bk_judge.proofs.FaultJudged.{paired-next, paired-missing}
@@ -17,6 +17,6 @@ returns-then-index-terms c =
     let first : ℕ = first_place c.args.names.now in
     c.earlier.ensures
     ∙ (ap (λ (o : Option Fault). earlier (told c.loop-index.fault) o)
-    (c.wrong_write.ensures ∙ (ap (λ (n : ℕ). blame ((12, n) ∷ [])) c.first_place.ensures
+    (c.wrong_write.ensures ∙ (ap (λ (n : ℕ). blame (wrong_write n ∷ [])) c.first_place.ensures
     ∙ ap blame (sym (paired-missing c.args.self.now first c.args.names.now c.args.terms.now c.loop-index.index c.index-names-index.result c.loop-index-test.true c.index-names-index.is c.if-index-terms.true))))
     ∙ c.loop-index.invariant)

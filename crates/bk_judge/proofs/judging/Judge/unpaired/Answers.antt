@@ -2,6 +2,7 @@ use Rattle.std.proofs.Common.{◌∙◌, ap, sym, refl, ℕ, [], ◌∷◌, List
 use Rattle.std.specs.Prelude.{None}
 use Rattle.bk_raw.specs.RawTree.{RawTree, trees_of}
 use Rattle.bk_raw.specs.Blame.{blame}
+use Rattle.bk_raw.specs.Faults.{wrong_write}
 use Rattle.bk_elab.specs.Shown.{told}
 use Rattle.bk_judge.specs.Judged.{term_by, unpaired_by}
 use Rattle.bk_sight.proofs.FaultSteps.{told-next, told-both, told-end}
@@ -11,9 +12,9 @@ use Rattle.bk_judge.proofs.judging.Judge.unpaired.Goals as goal
 pub loop-term-preserved : goal.loop-term-preserved
 loop-term-preserved c =
     let j = c.args.self.now in
-    told-next (λ (l : List RawTree). unpaired_by j c.args.first 0 (trees_of l)) ((12, c.args.first) ∷ term_by j None c.term-item.result) c.terms_behind-others.result.now c.loop-term.term-index c.term-item.result
+    told-next (λ (l : List RawTree). unpaired_by j c.args.first 0 (trees_of l)) (wrong_write c.args.first ∷ term_by j None c.term-item.result) c.terms_behind-others.result.now c.loop-term.term-index c.term-item.result
     (told c.loop-term.fault) (told c.earlier.result) (told c.earlier-fault.result) _ refl c.loop-term-test.true c.term-item.is
-    (told-both ((12, c.args.first) ∷ []) (term_by j None c.term-item.result) (told c.wrong_write.result) (told c.in_ok-within.within) (told c.earlier.result) c.wrong_write.ensures c.in_ok-within.ensures c.earlier.ensures)
+    (told-both (wrong_write c.args.first ∷ []) (term_by j None c.term-item.result) (told c.wrong_write.result) (told c.in_ok-within.within) (told c.earlier.result) c.wrong_write.ensures c.in_ok-within.ensures c.earlier.ensures)
     c.earlier-fault.ensures c.loop-term.invariant
 
 pub returns : goal.returns
