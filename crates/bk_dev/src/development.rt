@@ -125,6 +125,8 @@ pub struct Development {
     pub levels: Vec<Level>,
     /// The constants' values, in the order of the VALUES clause.
     pub values: Vec<(u32, Form)>,
+    /// Of each level, how many sets, and how many variables of the table, there are with it and the levels above.
+    pub extents: Vec<(usize, usize)>,
 }
 
 impl Model for Development {
@@ -143,6 +145,7 @@ impl Model for Development {
       heads = d.heads.items;
       levels = d.levels.items;
       values = d.values.items;
+      extents = d.extents.items;
     } };
 
     ghost invariant = { λ d. IsDevelopment (record {
@@ -152,6 +155,7 @@ impl Model for Development {
       heads = d.heads.items;
       levels = d.levels.items;
       values = d.values.items;
+      extents = d.extents.items;
     }) };
 }
 

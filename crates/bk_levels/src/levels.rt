@@ -347,6 +347,8 @@ fn alone(alloc: Global, added: Added) -> Result<Development, Memory>
     let mut table = VarTable::new(alloc);
     add_sets(alloc, &mut table, &added.sets)?;
     add_variables(&mut table, added.variables)?;
+    let mut extents = Vec::new(alloc);
+    extents.push(extent_of(&table))?;
     Ok(Development {
         table,
         homes: added.homes,
@@ -354,6 +356,7 @@ fn alone(alloc: Global, added: Added) -> Result<Development, Memory>
         heads: added.heads,
         levels: added.own,
         values: added.values,
+        extents,
     })
 }
 
@@ -370,6 +373,7 @@ fn below(alloc: Global, above: Development, added: Added) -> Result<Development,
         heads,
         mut levels,
         values: _,
+        mut extents,
     } = above;
     add_sets(alloc, &mut table, &added.sets)?;
     add_variables(&mut table, added.variables)?;
@@ -379,6 +383,7 @@ fn below(alloc: Global, above: Development, added: Added) -> Result<Development,
     sets.append(&mut new_sets)?;
     homes.append(&mut new_homes)?;
     levels.append(&mut own)?;
+    extents.push(extent_of(&table))?;
     Ok(Development {
         table,
         homes,
@@ -386,7 +391,15 @@ fn below(alloc: Global, above: Development, added: Added) -> Result<Development,
         heads,
         levels,
         values: added.values,
+        extents,
     })
+}
+
+// How many sets and variables a table has.
+fn extent_of(table: &VarTable) -> (usize, usize)
+    ensures { result ≡ (length table.now.sets, length table.now.variables) }
+{
+    (table.sets(), table.variables())
 }
 
 // The sets go into the table.

@@ -151,6 +151,7 @@ pub(crate) fn development(
       heads = heads.items;
       levels = levels.items;
       values = [];
+      extents = [];
     }) }
     ensures { result ≡ record {
       table = table;
@@ -159,6 +160,7 @@ pub(crate) fn development(
       heads = heads.items;
       levels = levels.items;
       values = [];
+      extents = [];
     } }
 {
     Development {
@@ -168,5 +170,6 @@ pub(crate) fn development(
         heads,
         levels,
         values: Vec::new(alloc),
+        extents: Vec::new(alloc),
     }
 }
