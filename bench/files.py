@@ -140,17 +140,27 @@ def read_rules(folder):
     scripts(folder, STEPS[:2], " ;\n".join(["same"] * rules))
 
 
+def ends(first):
+    """The last rules of such a script, where the next hypothesis has this number."""
+    return [
+        "law O5(n$0 + 1, 0, 10) hyp 3 1",
+        f"law G2(0 <= n$0 + 1, n$0 + 1 <= 10) hyp {first}",
+        f"cases {first + 1}",
+        f"lin 1, {first + 2} : 1 * 1 + 1 * 3",
+        f"lin 2, {first + 2} : 1 * 1 + 1 * 2",
+    ]
+
+
 def tried_rules(folder):
     """Rules that all fit, in three files: of two and two rules the first adds a hypothesis and the second drops it again."""
-    ends = [
-        "law O5(n$0 + 1, 0, 10) hyp 3 1",
-        "law G2(0 <= n$0 + 1, n$0 + 1 <= 10) hyp 4",
-        "cases 5",
-        "lin 1, 6 : 1 * 1 + 1 * 3",
-        "lin 2, 6 : 1 * 1 + 1 * 2",
-    ]
-    pairs = (RULES // len(STEPS) - 1 - len(ends)) // 2 + 1
-    scripts(folder, STEPS, " ;\n".join(["contra"] + ["contra ; drop 4"] * pairs + ends))
+    pairs = (RULES // len(STEPS) - 1 - len(ends(4))) // 2 + 1
+    scripts(folder, STEPS, " ;\n".join(["contra"] + ["contra ; drop 4"] * pairs + ends(4)))
+
+
+def piled_rules(folder):
+    """Rules that all fit, in three files, and each add a hypothesis."""
+    denials = RULES // len(STEPS) - len(ends(4)) + 1
+    scripts(folder, STEPS, " ;\n".join(["contra"] * denials + ends(3 + denials)))
 
 
 def calls(folder):
@@ -783,6 +793,7 @@ CASES = {
     "obligations": obligations,
     "read": read_rules,
     "tried": tried_rules,
+    "piled": piled_rules,
     "calls": calls,
     "loop": loop,
     "long_component": long_component,

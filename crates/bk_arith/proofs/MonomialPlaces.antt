@@ -1,11 +1,11 @@
 -- The first monomial of some atoms: what is added to it, and what stays without it.
-use Rattle.std.proofs.Common.{◌≡◌, ℕ, suc, ◌+◌, ◌+ℤ◌, List, [], ◌∷◌, ◌++◌, take, drop, refl, ◌∙◌, ap, Bool, true, false, cond, arith}
+use Rattle.std.proofs.Common.{◌≡◌, ℕ, suc, ◌+◌, pos, ◌+ℤ◌, ◌-ℤ◌, List, [], ◌∷◌, ◌++◌, take, drop, refl, ◌∙◌, ap, Bool, true, false, cond, arith}
 use Rattle.std.specs.Prelude.{Option, Some, None, slice_get, slice_set}
 use Rattle.std.specs.List.{position_from}
 use Rattle.std.specs.Option.{option_map}
 use Rattle.std.specs.Ordering.{int_eq}
 use Rattle.bk_arith.specs.ClosedSum.{if_fits}
-use Rattle.bk_arith.specs.Polynomials.{Monomial, same_atoms, added, taken}
+use Rattle.bk_arith.specs.Polynomials.{Monomial, same_atoms, added, negated_behind, subtracted, taken}
 
 map-map : {A B C : Type 0} (f : B → C) (g : A → B) (o : Option A) → option_map f (option_map g o) ≡ option_map (λ x. f (g x)) o
 map-map f g None = refl
@@ -20,6 +20,7 @@ pub record Placed (t : Monomial) (us : List Monomial) (i : ℕ) : Type 0 where
   pub item : Monomial
   pub is_item : slice_get us i ≡ Some item
   pub adds : added t us ≡ option_map (λ c. slice_set us i (c, item.1)) (if_fits (t.0 +ℤ item.0))
+  pub subtracts : subtracted t us ≡ option_map (λ c. slice_set us i (c, item.1)) (if_fits (item.0 -ℤ t.0))
   pub takes : taken t us ≡ cond (int_eq t.0 item.0) (Some (take i us ++ drop (suc i) us)) None
 
 abbrev Found : Monomial → ℕ → List Monomial → ℕ → Type 0
@@ -38,6 +39,7 @@ placed t n (u ∷ us) j h = by_test (placed t (n + 1) us j) (same_atoms t.1 u.1)
             item = u;
             is_item = refl;
             adds = ap (λ b. cond b (option_map (λ c. (c, u.1) ∷ us) (if_fits (t.0 +ℤ u.0))) (option_map (λ r. u ∷ r) (added t us))) e;
+            subtracts = ap (λ b. cond b (option_map (λ c. (c, u.1) ∷ us) (if_fits (u.0 -ℤ t.0))) (option_map (λ r. u ∷ r) (subtracted t us))) e;
             takes = ap (λ b. cond b (cond (int_eq t.0 u.0) (Some us) None) (option_map (λ r. u ∷ r) (taken t us))) e;
           },
         )
@@ -55,6 +57,10 @@ placed t n (u ∷ us) j h = by_test (placed t (n + 1) us j) (same_atoms t.1 u.1)
                 ap (λ b. cond b (option_map (λ c. (c, u.1) ∷ us) (if_fits (t.0 +ℤ u.0))) (option_map (λ r. u ∷ r) (added t us))) e
                 ∙ ap (option_map (λ r. u ∷ r)) p.adds
                 ∙ map-map (λ r. u ∷ r) (λ c. slice_set us i (c, p.item.1)) (if_fits (t.0 +ℤ p.item.0));
+            subtracts =
+                ap (λ b. cond b (option_map (λ c. (c, u.1) ∷ us) (if_fits (u.0 -ℤ t.0))) (option_map (λ r. u ∷ r) (subtracted t us))) e
+                ∙ ap (option_map (λ r. u ∷ r)) p.subtracts
+                ∙ map-map (λ r. u ∷ r) (λ c. slice_set us i (c, p.item.1)) (if_fits (p.item.0 -ℤ t.0));
             takes =
                 ap (λ b. cond b (cond (int_eq t.0 u.0) (Some us) None) (option_map (λ r. u ∷ r) (taken t us))) e
                 ∙ ap (option_map (λ r. u ∷ r)) p.takes
@@ -63,14 +69,20 @@ placed t n (u ∷ us) j h = by_test (placed t (n + 1) us j) (same_atoms t.1 u.1)
         )
 
 -- none is
-pub unplaced : (t : Monomial) (n : ℕ) (us : List Monomial) → position_from (λ m. same_atoms t.1 m.1) n us ≡ None → (added t us ≡ Some (us ++ t ∷ [])) × (taken t us ≡ None)
-unplaced t n [] h = (refl, refl)
+abbrev Last : Monomial → List Monomial → Type 0
+Last t us = (added t us ≡ Some (us ++ t ∷ [])) × (taken t us ≡ None) × (subtracted t us ≡ negated_behind t us)
+
+pub unplaced : (t : Monomial) (n : ℕ) (us : List Monomial) → position_from (λ m. same_atoms t.1 m.1) n us ≡ None → Last t us
+unplaced t n [] h = (refl, refl, refl)
 unplaced t n (u ∷ us) h = by_test (unplaced t (n + 1) us) (same_atoms t.1 u.1) refl h
   where
-    by_test : (position_from (λ m. same_atoms t.1 m.1) (n + 1) us ≡ None → (added t us ≡ Some (us ++ t ∷ [])) × (taken t us ≡ None)) → (b : Bool) → same_atoms t.1 u.1 ≡ b → cond b (Some n) (position_from (λ m. same_atoms t.1 m.1) (n + 1) us) ≡ None → (added t (u ∷ us) ≡ Some (u ∷ (us ++ t ∷ []))) × (taken t (u ∷ us) ≡ None)
+    by_test : (position_from (λ m. same_atoms t.1 m.1) (n + 1) us ≡ None → Last t us) → (b : Bool) → same_atoms t.1 u.1 ≡ b → cond b (Some n) (position_from (λ m. same_atoms t.1 m.1) (n + 1) us) ≡ None → Last t (u ∷ us)
     by_test on true e k = absurd (cc)
     by_test on false e k =
         let rest = on k in (
           ap (λ b. cond b (option_map (λ c. (c, u.1) ∷ us) (if_fits (t.0 +ℤ u.0))) (option_map (λ r. u ∷ r) (added t us))) e ∙ ap (option_map (λ r. u ∷ r)) rest.0,
           ap (λ b. cond b (cond (int_eq t.0 u.0) (Some us) None) (option_map (λ r. u ∷ r) (taken t us))) e ∙ ap (option_map (λ r. u ∷ r)) rest.1,
+          ap (λ b. cond b (option_map (λ c. (c, u.1) ∷ us) (if_fits (u.0 -ℤ t.0))) (option_map (λ r. u ∷ r) (subtracted t us))) e
+              ∙ ap (option_map (λ r. u ∷ r)) rest.2
+              ∙ map-map (λ r. u ∷ r) (λ c. us ++ (c, t.1) ∷ []) (if_fits (pos 0 -ℤ t.0)),
         )

@@ -22,7 +22,7 @@ use Rattle.bk_form.specs.declared.operator.UnOp.TheVariants.{Neg}
 use Rattle.bk_form.specs.declared.operator.BinOp.{BinOp}
 use Rattle.bk_form.specs.declared.operator.BinOp.TheVariants.{Add, Sub, Mul}
 use Rattle.bk_form.proofs.Members.{and-both}
-use Rattle.bk_arith.specs.Polynomials.{Monomial, removed, left_over, same_atoms, added, times_each, product, multiple, atom, unary_polynomial, both, binary_polynomial, polynomial, taken, is_zero, same_polynomials, are_same, equal_polynomials}
+use Rattle.bk_arith.specs.Polynomials.{Monomial, removed, left_over, same_atoms, added, subtracted, all_subtracted, times_each, product, multiple, atom, unary_polynomial, both, binary_polynomial, polynomial, taken, is_zero, same_polynomials, are_same, equal_polynomials}
 use Rattle.bk_arith.proofs.Options.{chained, mapped, cond-then, some-same}
 
 fits-same : (y z : ℤ) → if_fits y ≡ Some z → y ≡ z
@@ -102,6 +102,58 @@ module _ (find : Finder) (e : Environment) where
           let w = mapped (λ x. u ∷ x) (added t us) r k in
           ap total (sym w.2) ∙ ap (λ x. term u +ℤ x) (on w.0 w.1) ∙ turned (term u) (term t) (total us)
 
+  -- what a coefficient is a difference of
+  less-times : (d u t a : ℤ) → u -ℤ t ≡ d → t *ℤ a +ℤ d *ℤ a ≡ u *ℤ a
+  less-times d u t a h =
+      let e : t +ℤ d ≡ u = omega (arith, ints, h) in
+      sym (+ℤ-*ℤ t d a) ∙ ap (λ x. x *ℤ a) e
+
+  subtracted-total : (t : Monomial) (us r : List Monomial) → subtracted t us ≡ Some r → total us ≡ term t +ℤ total r
+  subtracted-total t [] r h =
+      let w = mapped (λ (c : ℤ). (let m : List Monomial = (c, t.1) ∷ [] in m)) (if_fits (pos 0 -ℤ t.0)) r h in
+      sym (zero-*ℤ (atoms t.1))
+      ∙ sym (less-times w.0 (pos 0) t.0 (atoms t.1) (fits-same (pos 0 -ℤ t.0) w.0 w.1))
+      ∙ ap (λ x. term t +ℤ x) (alone (w.0 *ℤ atoms t.1))
+      ∙ ap (λ x. term t +ℤ total x) w.2
+    where
+      alone : (x : ℤ) → x ≡ x +ℤ pos 0
+      alone x = omega (arith, ints)
+  subtracted-total t (u ∷ us) r h = at (same_atoms t.1 u.1) refl h (λ x k. subtracted-total t us x k)
+    where
+      turned : (p q r : ℤ) → p +ℤ (q +ℤ r) ≡ q +ℤ (p +ℤ r)
+      turned p q r = omega (arith, ints)
+
+      regrouped : (p q r : ℤ) → (p +ℤ q) +ℤ r ≡ p +ℤ (q +ℤ r)
+      regrouped p q r = omega (arith, ints)
+
+      parted : (c : ℤ) → if_fits (u.0 -ℤ t.0) ≡ Some c → same_atoms t.1 u.1 ≡ true → total (u ∷ us) ≡ term t +ℤ total ((c, u.1) ∷ us)
+      parted c k q =
+          ap (λ x. x +ℤ total us) (sym (less-times c u.0 t.0 (atoms u.1) (fits-same (u.0 -ℤ t.0) c k)))
+          ∙ regrouped (t.0 *ℤ atoms u.1) (c *ℤ atoms u.1) (total us)
+          ∙ ap (λ x. t.0 *ℤ x +ℤ (c *ℤ atoms u.1 +ℤ total us)) (sym (same-product t.1 u.1 q))
+
+      at : (b : Bool) → same_atoms t.1 u.1 ≡ b → cond b (option_map (λ c. (c, u.1) ∷ us) (if_fits (u.0 -ℤ t.0))) (option_map (λ x. u ∷ x) (subtracted t us)) ≡ Some r → ((x : List Monomial) → subtracted t us ≡ Some x → total us ≡ term t +ℤ total x) → total (u ∷ us) ≡ term t +ℤ total r
+      at true q k on =
+          let w = mapped (λ (c : ℤ). (let m : List Monomial = (c, u.1) ∷ us in m)) (if_fits (u.0 -ℤ t.0)) r k in
+          parted w.0 w.1 q ∙ ap (λ x. term t +ℤ total x) w.2
+      at false q k on =
+          let w = mapped (λ x. u ∷ x) (subtracted t us) r k in
+          ap (λ x. term u +ℤ x) (on w.0 w.1) ∙ turned (term u) (term t) (total w.0) ∙ ap (λ x. term t +ℤ total x) w.2
+
+  all-subtracted-total : (ts us r : List Monomial) → all_subtracted ts us ≡ Some r → total us ≡ total ts +ℤ total r
+  all-subtracted-total [] us r h = ap total (some-same us r h) ∙ alone (total r)
+    where
+      alone : (x : ℤ) → x ≡ pos 0 +ℤ x
+      alone x = omega (arith, ints)
+  all-subtracted-total (t ∷ ts) us r h =
+      let k = chained (all_subtracted ts) (subtracted t us) r h in
+      subtracted-total t us k.0 k.1
+      ∙ ap (λ x. term t +ℤ x) (all-subtracted-total ts k.0 r k.2)
+      ∙ regrouped (term t) (total ts) (total r)
+    where
+      regrouped : (p q r : ℤ) → p +ℤ (q +ℤ r) ≡ (p +ℤ q) +ℤ r
+      regrouped p q r = omega (arith, ints)
+
   -- a product of two monomials
   four : (a b x y : ℤ) → (a *ℤ b) *ℤ (x *ℤ y) ≡ (a *ℤ x) *ℤ (b *ℤ y)
   four a b x y = sym (*ℤ_assoc a b (x *ℤ y)) ∙ ap (λ w. a *ℤ w) (swapped b x y) ∙ *ℤ_assoc a x (b *ℤ y)
@@ -171,11 +223,11 @@ module _ (find : Finder) (e : Environment) where
       sum : (x y : ℤ) → pos 1 *ℤ y +ℤ x ≡ x +ℤ y
       sum x y = omega (arith, ints)
   binary-total Sub a b r f g h =
-      let k = both-then (λ p q. multiple (negsuc 0) q p) (polynomial a) (polynomial b) r h in
-      multiple-total (negsuc 0) k.1 k.0 r k.4 ∙ (λ i. negsuc 0 *ℤ g k.1 k.3 i +ℤ f k.0 k.2 i) ∙ difference (num a) (num b)
+      let k = both-then (λ p q. all_subtracted q p) (polynomial a) (polynomial b) r h in
+      difference (num a) (num b) (total r) (sym (f k.0 k.2) ∙ all-subtracted-total k.1 k.0 r k.4 ∙ ap (λ x. x +ℤ total r) (g k.1 k.3))
     where
-      difference : (x y : ℤ) → negsuc 0 *ℤ y +ℤ x ≡ x -ℤ y
-      difference x y = omega (arith, ints)
+      difference : (x y z : ℤ) → x ≡ y +ℤ z → z ≡ x -ℤ y
+      difference x y z e = omega (arith, ints, e)
   binary-total Mul a b r f g h =
       let k = both-then (λ p q. product p q []) (polynomial a) (polynomial b) r h in
       product-total k.0 k.1 [] r k.4 ∙ (λ i. f k.0 k.2 i *ℤ g k.1 k.3 i +ℤ pos 0) ∙ plain (num a *ℤ num b)

@@ -1,5 +1,5 @@
 -- The first stored monomial of some atoms: what is added to it, and what stays without it.
-use Rattle.std.proofs.Common.{◌≡◌, ℕ, zero, suc, ◌<◌, ℤ, ◌+ℤ◌, List, [], ◌∷◌, ◌++◌, take, drop, length, get_or, refl, sym, ◌∙◌, ap, subst, true, false, cond, arith}
+use Rattle.std.proofs.Common.{◌≡◌, ℕ, zero, suc, ◌<◌, ℤ, ◌+ℤ◌, ◌-ℤ◌, List, [], ◌∷◌, ◌++◌, take, drop, length, get_or, refl, sym, ◌∙◌, ap, subst, true, false, cond, arith}
 use Rattle.std.proofs.lemmas.Int.{ints}
 use Rattle.std.specs.Prelude.{Option, Some, None, slice_get, slice_set}
 use Rattle.std.specs.List.{position_from, remove}
@@ -8,7 +8,7 @@ use Rattle.std.specs.Ordering.{int_eq}
 use Rattle.std.proofs.lemmas.List.{take-map, map-append, map-set}
 use Rattle.bk_arith.specs.ClosedSum.{if_fits}
 use Rattle.bk_arith.specs.declared.multiplying.Monomial.{Monomial as StoredMonomial}
-use Rattle.bk_arith.specs.Polynomials.{Monomial, same_atoms, added, taken}
+use Rattle.bk_arith.specs.Polynomials.{Monomial, same_atoms, added, negated_behind, subtracted, taken}
 use Rattle.bk_arith.specs.Layout.{monomial_of, polynomial_of}
 use Rattle.bk_arith.proofs.Options.{some-same}
 use Rattle.bk_arith.proofs.MonomialPlaces.{Placed, placed, unplaced}
@@ -38,6 +38,7 @@ mapped-same f g same (Some x) = ap (λ y. Some y) (same x)
 pub record Standing (t : Monomial) (ms : List StoredMonomial) (i : ℕ) : Type 0 where
   pub within : i < length ms
   pub adds : (m k : StoredMonomial) → m ≡ get_or ms i m → k ≡ get_or ms i k → added t (polynomial_of ms) ≡ option_map (λ c. polynomial_of (slice_set ms i (record { coefficient = c; atoms = m.atoms }))) (if_fits (t.0 +ℤ k.coefficient))
+  pub subtracts : (m k : StoredMonomial) → m ≡ get_or ms i m → k ≡ get_or ms i k → subtracted t (polynomial_of ms) ≡ option_map (λ c. polynomial_of (slice_set ms i (record { coefficient = c; atoms = m.atoms }))) (if_fits (k.coefficient -ℤ t.0))
   pub takes : (m : StoredMonomial) → m ≡ get_or ms i m → taken t (polynomial_of ms) ≡ cond (int_eq t.0 m.coefficient) (Some (polynomial_of (remove ms i))) None
 
 pub standing : (t : Monomial) (ms : List StoredMonomial) (i : ℕ) → position_from (λ m. same_atoms t.1 m.1) 0 (polynomial_of ms) ≡ Some i → Standing t ms i
@@ -56,6 +57,13 @@ standing t ms i h =
           ∙ (λ n. option_map (λ c. slice_set (polynomial_of ms) i (c, (item n).1)) (if_fits (t.0 +ℤ (other n).0)))
           ∙ mapped-same (λ c. slice_set (polynomial_of ms) i (c, m.atoms.items)) (λ c. polynomial_of (slice_set ms i (record { coefficient = c; atoms = m.atoms })))
           (λ c. sym (map-set monomial_of ms i (record { coefficient = c; atoms = m.atoms }))) (if_fits (t.0 +ℤ k.coefficient));
+      subtracts = λ m k e f.
+          let item : p.item ≡ monomial_of m = at.1 m e in
+          let other : p.item ≡ monomial_of k = at.1 k f in
+          p.subtracts
+          ∙ (λ n. option_map (λ c. slice_set (polynomial_of ms) i (c, (item n).1)) (if_fits ((other n).0 -ℤ t.0)))
+          ∙ mapped-same (λ c. slice_set (polynomial_of ms) i (c, m.atoms.items)) (λ c. polynomial_of (slice_set ms i (record { coefficient = c; atoms = m.atoms })))
+          (λ c. sym (map-set monomial_of ms i (record { coefficient = c; atoms = m.atoms }))) (if_fits (k.coefficient -ℤ t.0));
       takes = λ m e.
           let item : p.item ≡ monomial_of m = at.1 m e in
           p.takes
@@ -69,6 +77,12 @@ added-last t ms h = (unplaced (monomial_of t) 0 (polynomial_of ms) h).0 ∙ ap (
 
 pub taken-nothing : (t : StoredMonomial) (ms : List StoredMonomial) → position_from (λ m. same_atoms t.atoms.items m.1) 0 (polynomial_of ms) ≡ None → taken (monomial_of t) (polynomial_of ms) ≡ None
 taken-nothing t ms h = (unplaced (monomial_of t) 0 (polynomial_of ms) h).1
+
+pub subtracted-last : (t : StoredMonomial) (ms : List StoredMonomial) → position_from (λ m. same_atoms t.atoms.items m.1) 0 (polynomial_of ms) ≡ None → subtracted (monomial_of t) (polynomial_of ms) ≡ negated_behind (monomial_of t) (polynomial_of ms)
+subtracted-last t ms h = (unplaced (monomial_of t) 0 (polynomial_of ms) h).2
+
+pub pushed : (m : StoredMonomial) (ms : List StoredMonomial) → polynomial_of (ms ++ m ∷ []) ≡ polynomial_of ms ++ monomial_of m ∷ []
+pushed m ms = map-append monomial_of ms (m ∷ [])
 
 -- ---- whether two coefficients are equal
 pub int_eq-same : (x y : ℤ) → x ≡ y → int_eq x y ≡ true

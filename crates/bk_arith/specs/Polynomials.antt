@@ -1,5 +1,5 @@
 -- Terms multiplied out: polynomials over atoms.
-use Rattle.std.specs.Prelude.{◌≡◌, ◌⊎◌, ℤ, pos, negsuc, ◌+ℤ◌, ◌*ℤ◌, Bool, true, false, cond, List, [], ◌∷◌, ◌++◌, Option, Some, None}
+use Rattle.std.specs.Prelude.{◌≡◌, ◌⊎◌, ℤ, pos, negsuc, ◌+ℤ◌, ◌-ℤ◌, ◌*ℤ◌, Bool, true, false, cond, List, [], ◌∷◌, ◌++◌, Option, Some, None}
 use Rattle.std.specs.List.{list_all}
 use Rattle.std.specs.Ordering.{int_eq}
 use Rattle.std.specs.Option.{option_map, option_and_then}
@@ -54,6 +54,20 @@ product (t ∷ ts) us q = option_and_then (product ts us) (times_each t us q)
 abbrev pub multiple : ℤ → List Monomial → List Monomial → Option (List Monomial)
 multiple z p q = product ((z, []) ∷ []) p q
 
+-- a monomial with the other sign, behind others
+abbrev pub negated_behind : Monomial → List Monomial → Option (List Monomial)
+negated_behind t us = option_map (λ c. us ++ (c, t.1) ∷ []) (if_fits (pos 0 -ℤ t.0))
+
+-- one monomial subtracted: from the one of the same atoms, or behind all; the number that arises fits 128 bits, else there is none
+abbrev pub subtracted : Monomial → List Monomial → Option (List Monomial)
+subtracted t [] = negated_behind t []
+subtracted t (u ∷ us) = cond (same_atoms t.1 u.1) (option_map (λ c. (c, u.1) ∷ us) (if_fits (u.0 -ℤ t.0))) (option_map (λ r. u ∷ r) (subtracted t us))
+
+-- a polynomial, subtracted from another coefficient by coefficient
+abbrev pub all_subtracted : List Monomial → List Monomial → Option (List Monomial)
+all_subtracted [] q = Some q
+all_subtracted (t ∷ ts) q = option_and_then (all_subtracted ts) (subtracted t q)
+
 -- one times a formula
 abbrev pub atom : Formula → Option (List Monomial)
 atom f = Some ((pos 1, f ∷ []) ∷ [])
@@ -70,7 +84,7 @@ both f p q = option_and_then (λ p. option_and_then (f p) q) p
 -- of an operator on two terms: sums, differences and products are read, and every other such term is an atom
 abbrev pub binary_polynomial : BinOp → Option (List Monomial) → Option (List Monomial) → Formula → Option (List Monomial)
 binary_polynomial Add p q whole = both (λ p q. multiple (pos 1) q p) p q
-binary_polynomial Sub p q whole = both (λ p q. multiple (negsuc 0) q p) p q
+binary_polynomial Sub p q whole = both (λ p q. all_subtracted q p) p q
 binary_polynomial Mul p q whole = both (λ p q. product p q []) p q
 binary_polynomial _ p q whole = atom whole
 

@@ -1,9 +1,9 @@
 //! Terms multiplied out, as polynomials over atoms: sums of monomials in order of first occurrence.
 
-ghost use Rattle.std.specs.Prelude.{◌≡◌, ◌⊎◌, ◌++◌, ◌+ℤ◌, ◌*ℤ◌, ◌∷◌, [], pos, Some, IfOk, IfErr, MatchResult};
+ghost use Rattle.std.specs.Prelude.{◌≡◌, ◌⊎◌, ◌++◌, ◌+ℤ◌, ◌-ℤ◌, ◌*ℤ◌, ◌∷◌, [], pos, Some, IfOk, IfErr, MatchResult};
 ghost use Rattle.std.specs.List.{list_all, position_from};
 ghost use Rattle.bk_arith.specs.ClosedSum.{if_fits};
-ghost use Rattle.bk_arith.specs.Polynomials.{added, times_each, product, multiple, polynomial, removed, same_atoms, taken, is_zero, same_polynomials, equal_polynomials, IsTooWide};
+ghost use Rattle.bk_arith.specs.Polynomials.{added, negated_behind, subtracted, all_subtracted, times_each, product, multiple, polynomial, removed, same_atoms, taken, is_zero, same_polynomials, equal_polynomials, IsTooWide};
 ghost use Rattle.bk_arith.specs.Layout.{monomial_of, polynomial_of, polynomial_in, formulas_in, IsPolynomialFault};
 
 use crate::error::ArithFault;
@@ -52,7 +52,7 @@ fn read(alloc: Global, form: &Form) -> Result<Vec<Monomial>, ArithFault>
         View::Bin(BinOp::Sub, left, right) => {
             let left = read(alloc, left)?;
             let right = read(alloc, right)?;
-            multiple(alloc, -1, &right, left)
+            all_subtracted(alloc, &right, left)
         }
         View::Bin(BinOp::Mul, left, right) => {
             let left = read(alloc, left)?;
@@ -176,6 +176,65 @@ fn added(
     let sum = sum_of(monomial.coefficient, onto[index].coefficient).ok_or(ArithFault::TooWide)?;
     onto[index].coefficient = sum;
     Ok(onto)
+}
+
+// A polynomial, subtracted from another coefficient by coefficient.
+fn all_subtracted(
+    alloc: Global,
+    list: &[Monomial],
+    from: Vec<Monomial>,
+) -> Result<Vec<Monomial>, ArithFault>
+    ensures { MatchResult result
+        (λ p. all_subtracted (polynomial_of list.now) (polynomial_of from.items) ≡ Some (polynomial_of p.items))
+        (λ e. IsPolynomialFault (all_subtracted (polynomial_of list.now) (polynomial_of from.items)) e) }
+{
+    let [first, others @ ..] = list else {
+        return Ok(from);
+    };
+    let rest = subtracted(alloc, first, from)?;
+    all_subtracted(alloc, others, rest)
+}
+
+// One monomial subtracted: from the one of the same atoms, or from 0 behind all.
+fn subtracted(
+    alloc: Global,
+    monomial: &Monomial,
+    mut from: Vec<Monomial>,
+) -> Result<Vec<Monomial>, ArithFault>
+    ensures { MatchResult result
+        (λ p. subtracted (monomial_of monomial.now) (polynomial_of from.items) ≡ Some (polynomial_of p.items))
+        (λ e. IsPolynomialFault (subtracted (monomial_of monomial.now) (polynomial_of from.items)) e) }
+{
+    let Some(index) = place_of(alloc, &monomial.atoms, &from)? else {
+        return negated_behind(alloc, monomial, from);
+    };
+    let difference = difference_of(from[index].coefficient, monomial.coefficient).ok_or(
+        ArithFault::TooWide,
+    )?;
+    from[index].coefficient = difference;
+    Ok(from)
+}
+
+// The monomial with the other sign, behind all.
+fn negated_behind(
+    alloc: Global,
+    monomial: &Monomial,
+    mut list: Vec<Monomial>,
+) -> Result<Vec<Monomial>, ArithFault>
+    ensures { MatchResult result
+        (λ p. negated_behind (monomial_of monomial.now) (polynomial_of list.items) ≡ Some (polynomial_of p.items))
+        (λ e. IsPolynomialFault (negated_behind (monomial_of monomial.now) (polynomial_of list.items)) e) }
+{
+    let coefficient = difference_of(0, monomial.coefficient).ok_or(ArithFault::TooWide)?;
+    let atoms = Form::copy_all(&monomial.atoms, alloc)?;
+    list.push(Monomial { coefficient, atoms })?;
+    Ok(list)
+}
+
+fn difference_of(left: i128, right: i128) -> Option<i128>
+    ensures { result ≡ if_fits (left -ℤ right) }
+{
+    left.checked_sub(right)
 }
 
 // The first monomial of these atoms.

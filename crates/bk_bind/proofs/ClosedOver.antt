@@ -45,28 +45,11 @@ pub height_closed_each : (zs : List ℕ) (f : Formula) → formula_height (close
 height_closed_each [] f = refl
 height_closed_each (z ∷ zs) f = height_closed z (length zs) (closed_over_each zs f) ∙ height_closed_each zs f
 
--- ---- what the program needs
-pub all_closed_over-of : (z k : ℕ) (fs : List Formula) → all_closed_over z k (formulas_of fs) ≡ formulas_of (map (closed_over z k) fs)
-all_closed_over-of z k [] = refl
-all_closed_over-of z k (f ∷ fs) = λ i. formula_and (closed_over z k f) (all_closed_over-of z k fs i)
-
--- a formula of the list has no more nodes then than the list
-pub closed_size_at : (z k : ℕ) (fs : List Formula) (i : ℕ) (d : Formula) → i < length fs → formula_size (closed_over z k (get_or fs i d)) ≤ formulas_size (all_closed_over z k (formulas_of fs))
-closed_size_at z k [] i d h = absurd (omega arith)
-closed_size_at z k (f ∷ fs) zero d h = omega arith
-closed_size_at z k (f ∷ fs) (suc i) d h = let rest : formula_size (closed_over z k (get_or fs i d)) ≤ formulas_size (all_closed_over z k (formulas_of fs)) = closed_size_at z k fs i d (omega arith) in omega arith
-
-pub small_closed : (z k : ℕ) (zs : List ℕ) (f : Formula) → formula_size f < 2 ^ 32 → formula_size (closed_over z k (closed_over_each zs f)) < 2 ^ 32
-small_closed z k zs f h = omega (arith, h, size_closed z k (closed_over_each zs f), size_closed_each zs f)
-
+-- ---- limits
 pub within_closed : (zs : List ℕ) (f : Formula) → formula_size f ≤ 200000 → formula_height f ≤ 2000 → IsWithinLimits (closed_over_each zs f)
 within_closed zs f h g = record { nodes = omega (arith, h, size_closed_each zs f); height = omega (arith, g, height_closed_each zs f) }
 
 pub limits_of_closed : (zs : List ℕ) (f : Formula) → IsWithinLimits (closed_over_each zs f) → IsWithinLimits f
 limits_of_closed zs f w = record { nodes = omega (arith, w.nodes, size_closed_each zs f); height = omega (arith, w.height, height_closed_each zs f) }
-
-pub ruleset closing = (size_pos, size_at, closed_size_at, all_closed_over-of)
-
-pub ruleset closed_sizes = (size_closed, size_closed_each, small_closed)
 
 pub ruleset closed_limits = (within_closed, limits_of_closed)

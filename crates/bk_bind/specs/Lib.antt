@@ -2,6 +2,7 @@ pub mod Limits
 pub mod Same
 pub mod Valid
 pub mod Closing
+pub mod Together
 pub mod Opening
 pub mod Lifting
 pub mod Renaming

@@ -1,8 +1,10 @@
 //! Variables made bound.
 
-ghost use Rattle.std.specs.Prelude.{◌≡◌, ◌<◌, ◌^◌, map, Err, IfOk, OnOk};
+ghost use Rattle.std.specs.Prelude.{◌≡◌, ℕ, ◌+◌, ◌<◌, ◌^◌, nat_eq, map, Err, IfOk, OnOk};
+ghost use Rattle.std.specs.HashMap.{get};
 ghost use Rattle.bk_form.specs.Formula.{bound, formula_size, formulas_size, formulas_of};
-ghost use Rattle.bk_bind.specs.Closing.{closed_over, all_closed_over, closed_over_each};
+ghost use Rattle.bk_bind.specs.Closing.{closed_over_each};
+ghost use Rattle.bk_bind.specs.Together.{place_above, bound_together, all_bound_together};
 ghost use Rattle.bk_bind.specs.Limits.{IsWithinLimits};
 ghost use Rattle.bk_bind.specs.declared.error.BindFault.TheVariants.{TooLarge};
 
@@ -12,6 +14,7 @@ use bk_form::{Form, Part, Ty, View};
 use bk_io::Memory;
 use bk_limits::{GREATEST_HEIGHT, MOST_NODES};
 use std::alloc::Global;
+use std::collections::HashMap;
 
 /// The formula with these variables bound together, the last one innermost: what stands in a quantifier over them. The
 /// formula holds no loose bound number: whoever gives it sees to that. `Memory` comes too where 32 bits do not number the
@@ -36,93 +39,104 @@ pub fn closed(alloc: Global, form: &Form, variables: &[u32]) -> Result<Form, Mem
     closed_over_each(alloc, form, variables)
 }
 
-// The last variable is bound first, and becomes the innermost one.
-#[tactic(auto, using(crate::proofs::ClosedOver::closed_sizes))]
+// All variables are bound in one walk through the formula.
 fn closed_over_each(alloc: Global, form: &Form, variables: &[u32]) -> Result<Form, Memory>
     requires { formula_size form.now < 2 ^ 32 }
     ensures { IfOk result (λ f. f ≡ closed_over_each variables.now form.now) }
 {
-    match variables {
-        [] => form.copy(alloc),
-        [first, others @ ..] => {
-            let inner = closed_over_each(alloc, form, others)?;
-            closed_over(alloc, &inner, *first, others.len())
-        }
-    }
+    let places = places_of(alloc, variables)?;
+    bound_together(alloc, form, &places, 0)
 }
 
-// The formula with the variable bound at this place, where so many variables are bound within.
-#[tactic(auto, using(crate::proofs::ClosedOver::closing))]
+// The place of each variable: how many are bound within it. Of equal ones the last counts.
+fn places_of(alloc: Global, variables: &[u32]) -> Result<HashMap<u32, usize>, Memory>
+    ensures { IfOk result (λ places. (n : ℕ) → get nat_eq places n ≡ place_above 0 variables.now n) }
+{
+    let mut places = HashMap::new(alloc);
+    let mut within = variables.len();
+    for variable in variables {
+        within -= 1;
+        places.insert(*variable, within)?;
+    }
+    Ok(places)
+}
+
+// The formula with the variables bound at their places, where it is under so many binders of its own.
+#[tactic(auto, using(crate::proofs::Together::closing))]
 #[cycle(closing)]
-fn closed_over(alloc: Global, form: &Form, variable: u32, place: usize) -> Result<Form, Memory>
-    requires { formula_size (closed_over variable place form.now) < 2 ^ 32 }
-    ensures { IfOk result (λ f. f ≡ closed_over variable place form.now) }
+fn bound_together(
+    alloc: Global,
+    form: &Form,
+    places: &HashMap<u32, usize>,
+    own: usize,
+) -> Result<Form, Memory>
+    requires { formula_size (bound_together (get nat_eq places.now) own form.now) < 2 ^ 32 }
+    ensures { IfOk result (λ f. f ≡ bound_together (get nat_eq places.now) own form.now) }
 {
     match form.view() {
-        View::Var(number) => {
-            if number == variable {
-                return bound_at(alloc, place);
-            }
-            form.copy(alloc)
-        }
+        View::Var(number) => match places.get(&number) {
+            Some(place) => bound_at(alloc, *place, own),
+            None => form.copy(alloc),
+        },
         View::Un(op, operand) => {
-            let operand = closed_over(alloc, operand, variable, place)?;
+            let operand = bound_together(alloc, operand, places, own)?;
             Form::make(alloc, Part::Un(op, operand))
         }
         View::Bin(op, left, right) => {
-            let left = closed_over(alloc, left, variable, place)?;
-            let right = closed_over(alloc, right, variable, place)?;
+            let left = bound_together(alloc, left, places, own)?;
+            let right = bound_together(alloc, right, places, own)?;
             Form::make(alloc, Part::Bin(op, left, right))
         }
         View::All(types, body) => {
-            let body = closed_over(alloc, body, variable, under_types(types, place)?)?;
+            let body = bound_together(alloc, body, places, under_types(types, own)?)?;
             Form::make(alloc, Part::All(Ty::copy_all(types, alloc)?, body))
         }
         View::Some(types, body) => {
-            let body = closed_over(alloc, body, variable, under_types(types, place)?)?;
+            let body = bound_together(alloc, body, places, under_types(types, own)?)?;
             Form::make(alloc, Part::Some(Ty::copy_all(types, alloc)?, body))
         }
         View::Compr(ranges, body) => {
-            let body = closed_over(alloc, body, variable, under_ranges(ranges, place)?)?;
-            let ranges = all_closed_over(alloc, ranges, variable, place)?;
+            let body = bound_together(alloc, body, places, under_ranges(ranges, own)?)?;
+            let ranges = all_bound_together(alloc, ranges, places, own)?;
             Form::make(alloc, Part::Compr(ranges, body))
         }
         View::Lam(ranges, body, value) => {
-            let inner = under_ranges(ranges, place)?;
-            let body = closed_over(alloc, body, variable, inner)?;
-            let value = closed_over(alloc, value, variable, inner)?;
-            let ranges = all_closed_over(alloc, ranges, variable, place)?;
+            let inner = under_ranges(ranges, own)?;
+            let body = bound_together(alloc, body, places, inner)?;
+            let value = bound_together(alloc, value, places, inner)?;
+            let ranges = all_bound_together(alloc, ranges, places, own)?;
             Form::make(alloc, Part::Lam(ranges, body, value))
         }
         _ => form.copy(alloc),
     }
 }
 
-// The formulas with the variable bound.
-#[tactic(auto, using(crate::proofs::ClosedOver::closing))]
+// The formulas with the variables bound.
+#[tactic(auto, using(crate::proofs::Together::closing))]
 #[cycle(closing)]
-fn all_closed_over(
+fn all_bound_together(
     alloc: Global,
     forms: &[Form],
-    variable: u32,
-    place: usize,
+    places: &HashMap<u32, usize>,
+    own: usize,
 ) -> Result<Vec<Form>, Memory>
-    requires { formulas_size (all_closed_over variable place (formulas_of forms.now)) < 2 ^ 32 }
-    ensures { IfOk result (λ fs. fs.items ≡ map (closed_over variable place) forms.now) }
+    requires { formulas_size (all_bound_together (get nat_eq places.now) own (formulas_of forms.now)) < 2 ^ 32 }
+    ensures { IfOk result (λ fs. fs.items ≡ map (bound_together (get nat_eq places.now) own) forms.now) }
 {
     let mut closed = Vec::new(alloc);
     for form in forms {
-        closed.push(closed_over(alloc, form, variable, place)?)?;
+        closed.push(bound_together(alloc, form, places, own)?)?;
     }
     Ok(closed)
 }
 
-// The bound number of this place.
-fn bound_at(alloc: Global, place: usize) -> Result<Form, Memory>
-    ensures { IfOk result (λ f. f ≡ bound place) }
+// The bound number of a variable at this place, under so many binders. `Memory` comes too where 32 bits do not number it.
+fn bound_at(alloc: Global, place: usize, own: usize) -> Result<Form, Memory>
+    ensures { IfOk result (λ f. f ≡ bound (place + own)) }
 {
-    if place > u32::MAX as usize {
+    let number = place.checked_add(own).ok_or(Memory)?;
+    if number > u32::MAX as usize {
         return Err(Memory);
     }
-    Form::make(alloc, Part::Bound(place as u32))
+    Form::make(alloc, Part::Bound(number as u32))
 }

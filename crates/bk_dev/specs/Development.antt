@@ -49,6 +49,8 @@ pub record Development : Type 0 where
   pub levels : List Level
   -- the constants' values, in the order of the VALUES clause
   pub values : List (ℕ × Formula)
+  -- of each level, how many sets, and how many variables of the table, there are with it and the levels above
+  pub extents : List (ℕ × ℕ)
 
 -- MAXINT; MININT is its negation
 abbrev pub int_max : Development → ℤ
@@ -74,6 +76,10 @@ blank_level = record { name = []; kind = Refinement; vars = []; properties = btr
 -- the level of this number, 0 being the machine's
 abbrev pub level_at : Development → ℕ → Level
 level_at dev k = slice_index_or dev.levels k blank_level
+
+-- how many sets, and how many variables of the table, there are with level k and those above it; none where there is no such level
+abbrev pub extent_at : Development → ℕ → ℕ × ℕ
+extent_at dev k = slice_index_or dev.extents k (0, 0)
 
 -- operation o of the component
 abbrev pub body_of : Level → ℕ → Body

@@ -61,6 +61,21 @@ coded_body = code_by (Formula × (Substitution × List ℕ)) (coded× coded_form
 abbrev pub coded_level : Coded Level
 coded_level = code_by ((List ℕ × (Kind × (List ℕ × List (ℕ × ℕ)))) × (Formula × (Formula × (List Formula × (Substitution × List Body))))) (coded× (coded× (coded_list coded_ℕ) (coded× coded_kind (coded× (coded_list coded_ℕ) (coded_list (coded× coded_ℕ coded_ℕ))))) (coded× coded_formula (coded× coded_formula (coded× (coded_list coded_formula) (coded× coded_substitution (coded_list coded_body)))))) (λ l. ((l.name, (l.kind, (l.vars, l.links))), (l.properties, (l.invariant, (l.assertions, (l.init, l.bodies)))))) (λ p. record { name = p.0.0; kind = p.0.1.0; vars = p.0.1.1.0; links = p.0.1.1.1; properties = p.1.0; invariant = p.1.1.0; assertions = p.1.1.1.0; init = p.1.1.1.1.0; bodies = p.1.1.1.1.1 }) (λ _. refl)
 
--- a development is told by its MAXINT, table, homes, sets, headers, levels and the constants' values
+-- a development is told by its MAXINT, table, homes, sets, headers, levels, the constants' values and the levels' extents
 abbrev pub coded_development : Coded Development
-coded_development = code_by (ℤ × (Table × (List Home × (List SetEntry × (List Head × (List Level × List (ℕ × Formula))))))) (coded× coded_ℤ (coded× coded_table (coded× (coded_list coded_home) (coded× (coded_list coded_set) (coded× (coded_list coded_head) (coded× (coded_list coded_level) (coded_list (coded× coded_ℕ coded_formula)))))))) (λ d. (d.max, (d.table, (d.homes, (d.sets, (d.heads, (d.levels, d.values))))))) (λ p. record { max = p.0; table = p.1.0; homes = p.1.1.0; sets = p.1.1.1.0; heads = p.1.1.1.1.0; levels = p.1.1.1.1.1.0; values = p.1.1.1.1.1.1 }) (λ _. refl)
+coded_development =
+  code_by (ℤ × (Table × (List Home × (List SetEntry × (List Head × (List Level × (List (ℕ × Formula) × List (ℕ × ℕ))))))))
+    (coded× coded_ℤ (coded× coded_table (coded× (coded_list coded_home) (coded× (coded_list coded_set) (coded× (coded_list coded_head)
+      (coded× (coded_list coded_level) (coded× (coded_list (coded× coded_ℕ coded_formula)) (coded_list (coded× coded_ℕ coded_ℕ)))))))))
+    (λ d. (d.max, (d.table, (d.homes, (d.sets, (d.heads, (d.levels, (d.values, d.extents))))))))
+    (λ p. record {
+      max = p.0;
+      table = p.1.0;
+      homes = p.1.1.0;
+      sets = p.1.1.1.0;
+      heads = p.1.1.1.1.0;
+      levels = p.1.1.1.1.1.0;
+      values = p.1.1.1.1.1.1.0;
+      extents = p.1.1.1.1.1.1.1;
+    })
+    (λ _. refl)

@@ -131,6 +131,8 @@ pub struct Development {
     pub levels: Vec<Level>,
     /// The constants' values, in the order of the VALUES clause.
     pub values: Vec<(u32, Form)>,
+    /// Of each level, how many sets, and how many variables of the table, there are with it and the levels above.
+    pub extents: Vec<(usize, usize)>,
 }
 
 impl Model for Development {
@@ -150,6 +152,7 @@ impl Model for Development {
       heads = d.heads.items;
       levels = d.levels.items;
       values = d.values.items;
+      extents = d.extents.items;
     } };
 
     ghost invariant = { λ d. IsDevelopment (record {
@@ -160,6 +163,7 @@ impl Model for Development {
       heads = d.heads.items;
       levels = d.levels.items;
       values = d.values.items;
+      extents = d.extents.items;
     }) };
 }
 

@@ -205,12 +205,15 @@ impl Form {
         Ok(copies)
     }
 
-    /// Whether the two are the same formula.
+    /// Whether the two are the same formula. Those of different sizes or heights are told apart without a walk through them.
     #[tactic(auto, using(crate::proofs::Sizes::parts_are_equal))]
     #[cycle(equal)]
     pub fn equal(&self, other: &Form) -> bool
         ensures { IsTrue result ↔ (self.now ≡ other.now) }
     {
+        if self.nodes() != other.nodes() || self.depth() != other.depth() {
+            return false;
+        }
         match (&self.shared.part, &other.shared.part) {
             (Part::Var(m), Part::Var(n)) => m == n,
             (Part::Bound(m), Part::Bound(n)) => m == n,

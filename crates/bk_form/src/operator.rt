@@ -1,7 +1,7 @@
 // The operators of formulas, and the sets that have names.
 
 /// An operator on one formula.
-#[derive(Clone, Copy, PartialEq, Eq, Debug)]
+#[derive(Clone, Copy, PartialEq, Eq, Hash, Debug)]
 pub enum UnOp {
     /// `not(P)`: negation.
     Not,
@@ -32,7 +32,7 @@ pub enum UnOp {
 }
 
 /// An operator on two formulas.
-#[derive(Clone, Copy, PartialEq, Eq, Debug)]
+#[derive(Clone, Copy, PartialEq, Eq, Hash, Debug)]
 pub enum BinOp {
     /// `P & Q`: conjunction.
     And,
@@ -109,7 +109,7 @@ pub enum BinOp {
 }
 
 /// A set that has a name, whose elements a bound name may range over.
-#[derive(Clone, Copy, PartialEq, Eq, Debug)]
+#[derive(Clone, Copy, PartialEq, Eq, Hash, Debug)]
 pub enum Domain {
     /// `INTEGER`: all whole numbers.
     Integer,

@@ -3,8 +3,8 @@ use Rattle.std.proofs.Common.{◌≡◌, ◌<◌, ◌≤◌, ◌+◌, ℕ, zero,
 use Rattle.std.specs.Prelude.{Option, Some, None, slice_index_or, replicate, ℤ}
 use Rattle.std.specs.List.{filter_map, flat_map, position_or_len, AllZip}
 use Rattle.std.specs.Str.{bytes_eq}
-use Rattle.std.proofs.lemmas.List.{take_more, length-take}
-use Rattle.bk_form.specs.Table.{Table}
+use Rattle.std.proofs.lemmas.List.{take_more, length-take, map-append}
+use Rattle.bk_form.specs.Table.{Table, SetEntry}
 use Rattle.bk_val.specs.ValueType.{ValueType}
 use Rattle.bk_gsl.specs.Flat.{copied}
 use Rattle.bk_raw.specs.declared.script.NamePart.{NamePart}
@@ -14,12 +14,12 @@ use Rattle.bk_raw.specs.ScriptTree.{RulePart, RawRule, RawScript}
 use Rattle.bk_raw.specs.ScopeReading.{ScopeNames}
 use Rattle.bk_dev.specs.declared.kind.Home.{Home}
 use Rattle.bk_dev.specs.declared.kind.Home.TheVariants.{Constant, Input, Abstract, Concrete, Inner}
-use Rattle.bk_dev.specs.Development.{Body, Level, Development, blank_body, body_of, inputs_of, int_max}
+use Rattle.bk_dev.specs.Development.{Body, Level, Development, blank_body, body_of, extent_at, inputs_of, int_max}
 use Rattle.bk_dev.specs.Flattened.{copied_in_level, flat_bodies, flat_levels, copy_homes, flattened}
 use Rattle.bk_dev.proofs.FlatSame.{levels-many}
 use Rattle.bk_kernel.specs.declared.rule.Rule.{Rule}
 use Rattle.bk_kernel.specs.declared.rule.Rule.TheVariants.{Unread}
-use Rattle.bk_ground.specs.Sight.{part_text, part_at, level_of, operation_of, constants_from, parameters_to, entry, outer_scope, parameter_scope}
+use Rattle.bk_ground.specs.Sight.{part_text, part_at, level_of, operation_of, constants_from, no_variable, hiding, set_texts, lower_sets, parameters_to, entry, outer_scope, parameter_scope}
 use Rattle.bk_ground.specs.Brought.{own_variables, own_parameters, new_over, brought, hidden, widened_by, type_in, numbered, widened, script_scope}
 use Rattle.bk_ground.specs.Grounding.{AreRulesOf, RuleMeans, StandsFor}
 use Rattle.bk_ground.specs.Finding.{IsMeaning}
@@ -66,21 +66,41 @@ pub constant_past : (hs : List Home) (i : ℕ) (d : Home) → i < length hs → 
 constant_past hs i d l c = constant-turn hs i d l ∙ (ap (λ xs. constants_from 0 (take i hs) ++ xs) (no-constant i (get_or hs i d) c) ∙ append-nil (constants_from 0 (take i hs)))
 
 -- copies are no constants
-copies-none : (n m k : ℕ) (hs : List Home) → constants_from n (replicate m (Inner k) ++ hs) ≡ constants_from (n + m) hs
-copies-none n zero k hs = let none : n + 0 ≡ n = omega arith in ap (λ j. constants_from j hs) (sym none)
-copies-none n (suc m) k hs = let one : suc n + m ≡ n + suc m = omega arith in copies-none (suc n) m k hs ∙ ap (λ j. constants_from j hs) one
+copies-none : (n m c k : ℕ) (hs : List Home) → ((j i : ℕ) → constants_from j (take i hs) ≡ []) → constants_from n (take m (replicate c (Inner k) ++ hs)) ≡ []
+copies-none n m zero k hs none = none n m
+copies-none n zero (suc c) k hs none = refl
+copies-none n (suc m) (suc c) k hs none = copies-none (suc n) m c k hs none
 
-copied-none : (n k : ℕ) (ls : List Level) → constants_from n (copy_homes k ls) ≡ []
-copied-none n k [] = refl
-copied-none n k (l ∷ ls) = copies-none n (length (copied_in_level l)) k (copy_homes (suc k) ls) ∙ copied-none (n + length (copied_in_level l)) (suc k) ls
+copied-none : (n m k : ℕ) (ls : List Level) → constants_from n (take m (copy_homes k ls)) ≡ []
+copied-none n zero k [] = refl
+copied-none n (suc m) k [] = refl
+copied-none n m k (l ∷ ls) = copies-none n m (length (copied_in_level l)) k (copy_homes (suc k) ls) (λ j i. copied-none j i (suc k) ls)
 
-constants-same : (n : ℕ) (hs : List Home) (ls : List Level) → constants_from n (hs ++ copy_homes 0 ls) ≡ constants_from n hs
-constants-same n [] ls = copied-none n 0 ls
-constants-same n (Constant ∷ hs) ls = ap (λ xs. n ∷ xs) (constants-same (suc n) hs ls)
-constants-same n (Input ∷ hs) ls = constants-same (suc n) hs ls
-constants-same n (Abstract k ∷ hs) ls = constants-same (suc n) hs ls
-constants-same n (Concrete k ∷ hs) ls = constants-same (suc n) hs ls
-constants-same n (Inner k ∷ hs) ls = constants-same (suc n) hs ls
+-- of so many homes the constants are the same
+constants-same : (n m : ℕ) (hs : List Home) (ls : List Level) → constants_from n (take m (hs ++ copy_homes 0 ls)) ≡ constants_from n (take m hs)
+constants-same n zero [] ls = copied-none n zero 0 ls
+constants-same n (suc m) [] ls = copied-none n (suc m) 0 ls
+constants-same n zero (h ∷ hs) ls = refl
+constants-same n (suc m) (Constant ∷ hs) ls = ap (λ xs. n ∷ xs) (constants-same (suc n) m hs ls)
+constants-same n (suc m) (Input ∷ hs) ls = constants-same (suc n) m hs ls
+constants-same n (suc m) (Abstract k ∷ hs) ls = constants-same (suc n) m hs ls
+constants-same n (suc m) (Concrete k ∷ hs) ls = constants-same (suc n) m hs ls
+constants-same n (suc m) (Inner k ∷ hs) ls = constants-same (suc n) m hs ls
+
+-- ---- names that mean nothing
+texts-more : (ss : List SetEntry) (s : SetEntry) → set_texts (ss ++ s ∷ []) ≡ set_texts ss ++ s.name ∷ s.elements
+texts-more [] s = append-nil (s.name ∷ s.elements)
+texts-more (r ∷ ss) s = ap (λ xs. (r.name ∷ r.elements) ++ xs) (texts-more ss s) ∙ sym (append_assoc (r.name ∷ r.elements) (set_texts ss) (s.name ∷ s.elements))
+
+-- those of one set more
+texts_turn : (ss : List SetEntry) (i : ℕ) (d : SetEntry) → i < length ss → hiding (set_texts (take (i + 1) ss)) ≡ hiding (set_texts (take i ss)) ++ hiding ((get_or ss i d).name ∷ (get_or ss i d).elements)
+texts_turn ss i d l = ap (λ xs. hiding (set_texts xs)) (take_more ss i d l) ∙ (ap hiding (texts-more (take i ss) (get_or ss i d)) ∙ map-append (λ (x : List ℕ). (x, no_variable)) (set_texts (take i ss)) ((get_or ss i d).name ∷ (get_or ss i d).elements))
+
+pub one_set_hidden : (ss : List SetEntry) (i : ℕ) (d : SetEntry) (es fs gs : List (List ℕ × ℕ)) → es ≡ hiding (set_texts (take i ss)) → fs ≡ es ++ ((get_or ss i d).name, no_variable) ∷ [] → gs ≡ fs ++ hiding (get_or ss i d).elements → i < length ss →
+    gs ≡ hiding (set_texts (take (i + 1) ss))
+one_set_hidden ss i d es fs gs e f g l =
+    g ∙ (ap (λ xs. xs ++ hiding (get_or ss i d).elements) (f ∙ ap (λ xs. xs ++ ((get_or ss i d).name, no_variable) ∷ []) e)
+    ∙ (append_assoc (hiding (set_texts (take i ss))) (((get_or ss i d).name, no_variable) ∷ []) (hiding (get_or ss i d).elements) ∙ sym (texts_turn ss i d l)))
 
 -- ---- names of levels
 place-same : (named : List ℕ → Bool) (k : ℕ) (ls : List Level) → position_or_len (λ (l : Level). named l.name) (flat_levels k ls) ≡ position_or_len (λ (l : Level). named l.name) ls
@@ -121,9 +141,9 @@ parameters-same dev k (Some o) = ap (λ xs. xs ++ inputs_of dev o) (outputs-same
 outer-same : (table : Table) (dev : Development) (k : Option ℕ) → outer_scope table (flattened dev) k ≡ outer_scope table dev k
 outer-same table dev None = refl
 outer-same table dev (Some k) =
-    let constants = constants-same 0 dev.homes dev.levels in
+    let constants = constants-same 0 (extent_at dev k).1 dev.homes dev.levels in
     let variables = vars-same (length dev.table.variables) (suc k) dev.levels in
-    λ i. filter_map (entry table) (constants i ++ variables i)
+    λ i. hiding (lower_sets dev k) ++ filter_map (entry table) (constants i ++ variables i)
 
 parameter-same : (table : Table) (dev : Development) (k o : Option ℕ) → parameter_scope table (flattened dev) k o ≡ parameter_scope table dev k o
 parameter-same table dev None o = refl

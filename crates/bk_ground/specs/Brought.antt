@@ -12,7 +12,7 @@ use Rattle.bk_raw.specs.Printed.{type_read}
 use Rattle.bk_raw.specs.ScopeReading.{ScopeNames, names_in}
 use Rattle.bk_dev.specs.Development.{Development, int_max}
 use Rattle.bk_p_proof.specs.TypedNames.{script_names}
-use Rattle.bk_ground.specs.Sight.{level_of, operation_of, outer_scope, parameter_scope}
+use Rattle.bk_ground.specs.Sight.{level_of, operation_of, no_variable, outer_scope, parameter_scope}
 
 -- ---- names
 -- one name more, where none of those that there are has its text
@@ -48,10 +48,6 @@ abbrev pub new_names : Table → Development → RawScript → List RawTyped
 new_names table dev s = new_over (own_parameters table dev s) (brought s)
 
 -- ---- their types
--- a number that no variable has in a table that is not full
-abbrev pub no_variable : ℕ
-no_variable = 4294967295
-
 -- names that mean nothing, and hide what they would mean else
 abbrev pub hidden : List RawTyped → List (List ℕ × ℕ)
 hidden xs = map (λ x. (x.name.text, no_variable)) xs

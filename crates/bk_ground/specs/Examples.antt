@@ -48,10 +48,16 @@ above = fixing (Letters (codes "Counter") ∷ Letters (codes "get") ∷ Numeral 
 -- a development with a constant c, the variable 4, and an input c, the variable 5, of reset; there is a set k with the element e
 abbrev pub with_input : Development
 with_input = record counter {
-  table = record { sets = record { name = codes "k"; elements = codes "e" ∷ [] } ∷ []; variables = counter.table.variables ++ record { text = codes "c"; of_type = int_type } ∷ record { text = codes "c"; of_type = int_type } ∷ [] };
+  table = record { sets = record { name = codes "k"; elements = codes "e" ∷ []; size = 1 } ∷ []; variables = counter.table.variables ++ record { text = codes "c"; of_type = int_type } ∷ record { text = codes "c"; of_type = int_type } ∷ [] };
   homes = counter.homes ++ Constant ∷ Input ∷ [];
   heads = record { name = codes "reset"; inputs = 5 ∷ []; outputs = 0 } ∷ [];
+  sets = record { name = codes "k"; elements = codes "e" ∷ []; size = 1 } ∷ [];
+  extents = (1, 6) ∷ (1, 6) ∷ [];
 }
+
+-- the same where k, e and c are the implementation's
+abbrev pub with_lower : Development
+with_lower = record with_input { extents = (0, 4) ∷ (1, 6) ∷ [] }
 
 -- Counter.reset.1 ; c, the input, and e of subsets of k
 abbrev pub resetting : RawScript
@@ -83,6 +89,11 @@ pub record GroundingExamples : Type 0 where
   -- the input is meant and not the constant; without the operation it is the constant
   pub input_meant : found 0 (names_in around_reset.table around_reset.scope) (codes "c") ≡ seen (variable 5) int_type
   pub constant_meant : found 0 (names_in (widened with_input.table with_input getting) (script_scope with_input.table with_input getting)) (codes "c") ≡ seen (variable 4) int_type
+  -- the implementation's constant is meant at its own obligations, and nothing is at the machine's, where its set and element are hidden too
+  pub own_constant : found 0 (names_in (widened with_lower.table with_lower below) (script_scope with_lower.table with_lower below)) (codes "c") ≡ seen (variable 4) int_type
+  pub lower_constant : found 0 (names_in (widened with_lower.table with_lower getting) (script_scope with_lower.table with_lower getting)) (codes "c") ≡ unseen
+  pub lower_set : found 0 (names_in (widened with_lower.table with_lower getting) (script_scope with_lower.table with_lower getting)) (codes "k") ≡ unseen
+  pub lower_element : found 0 (names_in (widened with_lower.table with_lower getting) (script_scope with_lower.table with_lower getting)) (codes "e") ≡ unseen
   -- a name without a type means nothing
   pub w_is_unseen : found 0 (names_in around_below.table around_below.scope) (codes "w") ≡ unseen
   -- ---- laws

@@ -6,15 +6,13 @@ ghost use Rattle.bk_ground.specs.Widening.{IsWidened};
 
 use crate::around::type_in;
 use crate::found::has_entry;
+use crate::sight::NO_VARIABLE;
 use bk_form::VarTable;
 use bk_io::{Memory, Text};
 use bk_p_proof::typed_names;
 use bk_raw::{RawScript, RawTyped, Scope};
 use indexmap::IndexSet;
 use std::alloc::Global;
-
-// The number of a name that has no type: no variable has it.
-const NO_VARIABLE: u32 = u32::MAX;
 
 // The names that a script brings, each once.
 pub(crate) fn brought(alloc: Global, script: &RawScript) -> Result<Vec<&RawTyped>, Memory>

@@ -1,13 +1,13 @@
-// What a script is for, and the variables that its terms may name.
+// What a script is for, and what its terms may name.
 
-ghost use Rattle.std.specs.Prelude.{◌≡◌, ◌<◌, ◌↔◌, ◌++◌, IfOk, IfSome, IsTrue, OnOk, length};
+ghost use Rattle.std.specs.Prelude.{◌≡◌, ◌<◌, ◌↔◌, ◌++◌, IfOk, IfSome, IsTrue, OnOk, length, map, take, drop};
 ghost use Rattle.std.specs.List.{filter_map, flat_map, position};
 ghost use Rattle.std.specs.Str.{bytes_eq};
-ghost use Rattle.bk_dev.specs.Development.{body_of, inputs_of};
+ghost use Rattle.bk_dev.specs.Development.{extent_at, body_of, inputs_of};
 ghost use Rattle.bk_dev.specs.declared.kind.Home.TheVariants.{Constant};
 ghost use Rattle.bk_ground.specs.Sight as meant;
 
-use bk_dev::{Development, Home, Level};
+use bk_dev::{Development, EnumSet, Home, Level};
 use bk_form::VarTable;
 use bk_io::{Memory, Text};
 use bk_raw::NamePart;
@@ -78,7 +78,10 @@ fn part_text(alloc: Global, part: &NamePart) -> Result<Vec<u8>, Memory>
     }
 }
 
-// Constants, and the variables of the levels down to this one.
+// The number of a name that means nothing: no variable has it.
+pub(crate) const NO_VARIABLE: u32 = u32::MAX;
+
+// Constants and variables of the levels down to this one. Sets and elements of the levels below are hidden.
 pub(crate) fn outer_entries(
     alloc: Global,
     dev: &Development,
@@ -91,9 +94,66 @@ pub(crate) fn outer_entries(
     let Some(level) = level else {
         return Ok(Vec::new(alloc));
     };
-    let mut variables = constants(alloc, &dev.homes)?;
+    let (sets, entries) = extent_at(dev, level);
+    let mut scope = hidden_sets(alloc, behind(&dev.sets, sets))?;
+    let mut variables = constants(alloc, first(&dev.homes, entries))?;
     add_variables(&mut variables, &dev.levels[..level + 1])?;
-    entries_of(alloc, table, &variables)
+    let mut more = entries_of(alloc, table, &variables)?;
+    scope.append(&mut more)?;
+    Ok(scope)
+}
+
+// How many sets and variables there are with this level and those above it.
+fn extent_at(dev: &Development, level: usize) -> (usize, usize)
+    ensures { result ≡ extent_at dev.now level }
+{
+    match dev.extents.get(level) {
+        Some(extent) => *extent,
+        None => (0, 0),
+    }
+}
+
+// So many homes, if there are as many.
+fn first(homes: &[Home], count: usize) -> &[Home]
+    ensures { result.now ≡ take count homes.now }
+{
+    if count >= homes.len() {
+        return homes;
+    }
+    &homes[..count]
+}
+
+// The sets behind so many.
+fn behind(sets: &[EnumSet], count: usize) -> &[EnumSet]
+    ensures { result.now ≡ drop count sets.now }
+{
+    if count >= sets.len() {
+        return &[];
+    }
+    &sets[count..]
+}
+
+// The names of sets and of their elements, which mean nothing.
+#[tactic(auto, using(crate::proofs::Sighted::one_set_hidden))]
+fn hidden_sets(alloc: Global, sets: &[EnumSet]) -> Result<Vec<(Text, u32)>, Memory>
+    ensures { IfOk result (λ entries. entries.items ≡ meant.hiding (meant.set_texts sets.now)) }
+{
+    let mut entries = Vec::new(alloc);
+    for set in sets {
+        entries.push((set.name.copy(alloc)?, NO_VARIABLE))?;
+        hide(alloc, &mut entries, &set.elements)?;
+    }
+    Ok(entries)
+}
+
+// Adds texts that mean nothing.
+fn hide(alloc: Global, entries: &mut Vec<(Text, u32)>, texts: &[Text]) -> Result<(), Memory>
+    ensures { OnOk result (entries.new.items ≡ entries.old.items ++ meant.hiding texts.now) }
+{
+    for text in texts {
+        entries.push((text.copy(alloc)?, NO_VARIABLE))?;
+    }
+    Ok(())
 }
 
 // Outputs and inputs of an operation at the levels down to this one.

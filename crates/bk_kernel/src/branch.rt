@@ -91,31 +91,36 @@ pub(crate) fn one_for_each(
     Ok(branches)
 }
 
-/// The sequents of branches of another one, in their order.
+/// The sequents of branches of another one, in their order. The last takes its hypotheses over, so that a rule with one branch
+/// copies none.
 pub(crate) fn sequents_with(
     alloc: Global,
-    sequent: &Sequent,
-    branches: &[Branch],
+    sequent: Sequent,
+    mut branches: Vec<Branch>,
 ) -> Result<Vec<Sequent>, Memory>
     ensures { IfOk result (λ news. map sequent_of news.items ≡
-        map (λ b. extended (sequent_of sequent.now) (branch_of b)) branches.now) }
+        map (λ b. extended (sequent_of sequent) (branch_of b)) branches.items) }
 {
     let mut news = Vec::new(alloc);
+    let Some(last) = branches.pop() else {
+        return Ok(news);
+    };
     for branch in branches {
-        news.push(sequent_with(alloc, sequent, branch)?)?;
+        news.push(sequent_with(alloc, sequent.copy(alloc)?, branch)?)?;
     }
+    news.push(sequent_with(alloc, sequent, last)?)?;
     Ok(news)
 }
 
 // The sequent of a branch of another one.
-fn sequent_with(alloc: Global, sequent: &Sequent, branch: &Branch) -> Result<Sequent, Memory>
-    ensures { IfOk result (λ s. sequent_of s ≡ extended (sequent_of sequent.now) (branch_of branch.now)) }
+fn sequent_with(alloc: Global, sequent: Sequent, branch: Branch) -> Result<Sequent, Memory>
+    ensures { IfOk result (λ s. sequent_of s ≡ extended (sequent_of sequent) (branch_of branch)) }
 {
-    let mut hyps = Form::copy_all(&sequent.hyps, alloc)?;
+    let mut hyps = sequent.hyps;
     push_all(alloc, &mut hyps, &branch.more)?;
     Ok(Sequent {
         hyps,
-        goal: branch.goal.copy(alloc)?,
+        goal: branch.goal,
     })
 }
 

@@ -48,7 +48,7 @@ pub fn step(
         IsInstance types.now (sequent_of sequent) rule.now news → ⊥ }
 {
     let Some(number) = dropped(rule) else {
-        return extending(alloc, types, &sequent, rule);
+        return extending(alloc, types, sequent, rule);
     };
     dropping(alloc, &sequent, number)
 }
@@ -100,16 +100,16 @@ fn without_item(alloc: Global, forms: &[Form], number: u32) -> Result<Option<Vec
 fn extending(
     alloc: Global,
     types: &VarTable,
-    sequent: &Sequent,
+    sequent: Sequent,
     rule: &Rule,
 ) -> Result<Vec<Sequent>, StepFault>
-    requires { IsWithin (sequent_of sequent.now) }
-    ensures value { IfOk result (λ news. IsExtension types.now (sequent_of sequent.now)
-        (branches types.now (sequent_of sequent.now) rule.now) (map sequent_of news.items)) }
+    requires { IsWithin (sequent_of sequent) }
+    ensures value { IfOk result (λ news. IsExtension types.now (sequent_of sequent)
+        (branches types.now (sequent_of sequent) rule.now) (map sequent_of news.items)) }
     ensures no_instance { result ≡ Err NoInstance →
-        HasNoFine types.now (branches types.now (sequent_of sequent.now) rule.now) }
+        HasNoFine types.now (branches types.now (sequent_of sequent) rule.now) }
 {
-    match added(alloc, types, sequent, rule) {
+    match added(alloc, types, &sequent, rule) {
         Ok(found) => extended(alloc, types, sequent, found),
         Err(BindFault::TooLarge) => Err(StepFault::NoInstance),
         Err(BindFault::Memory) => Err(StepFault::Memory),
@@ -121,10 +121,10 @@ fn extending(
 fn extended(
     alloc: Global,
     types: &VarTable,
-    sequent: &Sequent,
+    sequent: Sequent,
     found: Option<Vec<Branch>>,
 ) -> Result<Vec<Sequent>, StepFault>
-    ensures value { IfOk result (λ news. IsExtension types.now (sequent_of sequent.now)
+    ensures value { IfOk result (λ news. IsExtension types.now (sequent_of sequent)
         (held found) (map sequent_of news.items)) }
     ensures no_instance { result ≡ Err NoInstance → HasNoFine types.now (held found) }
 {
@@ -134,7 +134,7 @@ fn extended(
     if !are_fine(alloc, types, &branches)? {
         return Err(StepFault::NoInstance);
     }
-    Ok(sequents_with(alloc, sequent, &branches)?)
+    Ok(sequents_with(alloc, sequent, branches)?)
 }
 
 // What the rule adds to the sequent; None where it is no instance, and of the rule that drops a hypothesis.

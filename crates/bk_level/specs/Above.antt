@@ -11,7 +11,7 @@ use Rattle.bk_level.specs.Typings.{Typing, or_else, as_variable}
 
 -- a development without a level, which stands above a machine; its MAXINT is the one where no range is said
 abbrev pub no_development : Development
-no_development = record { max = default_max; table = empty_table; homes = []; sets = []; heads = []; levels = []; values = [] }
+no_development = record { max = default_max; table = empty_table; homes = []; sets = []; heads = []; levels = []; values = []; extents = [] }
 
 -- the levels above
 abbrev pub above_of : Option Development → Development

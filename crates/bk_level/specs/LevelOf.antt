@@ -229,4 +229,5 @@ made int_max dev c p =
       heads = p.heads;
       levels = dev.levels ++ level_made int_max typing p c ∷ [];
       values = values_made int_max typing p.globals c.values;
+      extents = dev.extents ++ (length table.sets, length table.variables) ∷ [];
     }

@@ -122,11 +122,11 @@ alone-table start first now given ss vs none same e k =
     table-made start first given vs now e k ∙ (λ i. record { sets = (none i).sets ++ same i; variables = (none i).variables ++ vs })
 
 -- the development below one that is taken apart as old
-pub below-made : (above old : Development) (a : Added) (first now : Table) (given sets : List SetEntry) (homes : List Home) (levels : List Level) → old ≡ above → above.sets ≡ above.table.sets → given ≡ a.sets.items → first ≡ with_sets old.table given → now ≡ with_variables first (variables_added a.variables.items) →
-    sets ≡ old.sets ++ a.sets.items → homes ≡ old.homes ++ a.homes.items → levels ≡ old.levels ++ a.own.items → record { max = old.max; table = now; homes = homes; sets = sets; heads = old.heads; levels = levels; values = a.values.items } ≡ development_below above a
-below-made above old a first now given sets homes levels is same g e k s h l =
+pub below-made : (above old : Development) (a : Added) (first now : Table) (given sets : List SetEntry) (homes : List Home) (levels : List Level) (extents : List (ℕ × ℕ)) → old ≡ above → above.sets ≡ above.table.sets → given ≡ a.sets.items → first ≡ with_sets old.table given → now ≡ with_variables first (variables_added a.variables.items) →
+    sets ≡ old.sets ++ a.sets.items → homes ≡ old.homes ++ a.homes.items → levels ≡ old.levels ++ a.own.items → extents ≡ old.extents ++ (length now.sets, length now.variables) ∷ [] → record { max = old.max; table = now; homes = homes; sets = sets; heads = old.heads; levels = levels; values = a.values.items; extents = extents } ≡ development_below above a
+below-made above old a first now given sets homes levels extents is same g e k s h l x =
     let table : now ≡ record { sets = old.table.sets ++ given; variables = old.table.variables ++ variables_added a.variables.items } = table-made old.table first given (variables_added a.variables.items) now e k in
-    (λ i. record { max = old.max; table = table i; homes = h i; sets = s i; heads = old.heads; levels = l i; values = a.values.items })
+    (λ i. record { max = old.max; table = table i; homes = h i; sets = s i; heads = old.heads; levels = l i; values = a.values.items; extents = (x ∙ ap (λ (t : Table). old.extents ++ (length t.sets, length t.variables) ∷ []) table) i })
     ∙ ((λ i. record {
       max = (is i).max;
       table = record { sets = (is i).table.sets ++ g i; variables = (is i).table.variables ++ variables_added a.variables.items };
@@ -135,6 +135,7 @@ below-made above old a first now given sets homes levels is same g e k s h l =
       heads = (is i).heads;
       levels = (is i).levels ++ a.own.items;
       values = a.values.items;
+      extents = (is i).extents ++ (length ((is i).table.sets ++ g i), length ((is i).table.variables ++ variables_added a.variables.items)) ∷ [];
     })
     ∙ ap (λ (xs : List SetEntry). record (development_below above a) { sets = xs ++ a.sets.items }) same)
 
@@ -163,6 +164,7 @@ assembled a dev heads = record {
   heads = heads;
   levels = dev.levels ++ a.own.items;
   values = a.values.items;
+  extents = dev.extents ++ (length (dev.table.sets ++ a.sets.items), length (dev.table.variables ++ variables_added a.variables.items)) ∷ [];
 }
 
 -- a plan without its headers
@@ -194,6 +196,7 @@ module _ (a : Added) (max : ℤ) (dev : Development) (c : Component) (p : Plan) 
     heads = h i;
     levels = dev.levels ++ own-is i;
     values = values-are i;
+    extents = dev.extents ++ (length (dev.table.sets ++ made.sets i), length (dev.table.variables ++ variables-are i)) ∷ [];
   }
 
   heads-are : is_machine c.kind ≡ true → a.heads.items ≡ (plan dev c).heads

@@ -80,6 +80,7 @@ development_of a = record {
   heads = a.heads.items;
   levels = a.own.items;
   values = a.values.items;
+  extents = (length a.sets.items, length (variables_added a.variables.items)) ∷ [];
 }
 
 -- the development above with what another component adds
@@ -92,6 +93,7 @@ development_below dev a = record {
   heads = dev.heads;
   levels = dev.levels ++ a.own.items;
   values = a.values.items;
+  extents = dev.extents ++ (length (dev.table.sets ++ a.sets.items), length (dev.table.variables ++ variables_added a.variables.items)) ∷ [];
 }
 
 -- the levels above, if there are some, with what a component adds

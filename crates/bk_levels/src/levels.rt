@@ -357,6 +357,8 @@ fn alone(alloc: Global, added: Added) -> Result<Development, Memory>
     let mut table = VarTable::new(alloc);
     add_sets(alloc, &mut table, &added.sets)?;
     add_variables(&mut table, added.variables)?;
+    let mut extents = Vec::new(alloc);
+    extents.push(extent_of(&table))?;
     Ok(Development {
         max: DEFAULT_MAX,
         table,
@@ -365,6 +367,7 @@ fn alone(alloc: Global, added: Added) -> Result<Development, Memory>
         heads: added.heads,
         levels: added.own,
         values: added.values,
+        extents,
     })
 }
 
@@ -382,6 +385,7 @@ fn below(alloc: Global, above: Development, added: Added) -> Result<Development,
         heads,
         mut levels,
         values: _,
+        mut extents,
     } = above;
     add_sets(alloc, &mut table, &added.sets)?;
     add_variables(&mut table, added.variables)?;
@@ -391,6 +395,7 @@ fn below(alloc: Global, above: Development, added: Added) -> Result<Development,
     sets.append(&mut new_sets)?;
     homes.append(&mut new_homes)?;
     levels.append(&mut own)?;
+    extents.push(extent_of(&table))?;
     Ok(Development {
         max,
         table,
@@ -399,7 +404,15 @@ fn below(alloc: Global, above: Development, added: Added) -> Result<Development,
         heads,
         levels,
         values: added.values,
+        extents,
     })
+}
+
+// How many sets and variables a table has.
+fn extent_of(table: &VarTable) -> (usize, usize)
+    ensures { result ≡ (length table.now.sets, length table.now.variables) }
+{
+    (table.sets(), table.variables())
 }
 
 // The sets go into the table.

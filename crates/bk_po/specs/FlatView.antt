@@ -16,6 +16,7 @@ flat_view d = record {
   heads = d.written.now.heads;
   levels = d.levels.items;
   values = d.written.now.values;
+  extents = d.written.now.extents;
 }
 
 -- it is flat, and the arrays are those of its last level

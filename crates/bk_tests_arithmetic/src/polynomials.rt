@@ -73,6 +73,23 @@ fn numbers_that_do_not_fit(rt: HostRuntime) -> Result<(), Fail> {
     Ok(())
 }
 
+// `-1 - (-B - 1)` is B, the largest number, though `B + 1` does not fit; and 0 less that is none.
+#[test]
+fn differences_coefficient_by_coefficient(rt: HostRuntime) -> Result<(), Fail> {
+    let alloc = rt.alloc();
+    let largest = literal(alloc, LARGEST)?;
+    let one = literal(alloc, 1)?;
+    let least = binary(alloc, BinOp::Sub, literal(alloc, -LARGEST)?, one)?;
+    let from_nought = binary(alloc, BinOp::Sub, literal(alloc, 0)?, least.copy(alloc)?)?;
+    let from_below = binary(alloc, BinOp::Sub, literal(alloc, -1)?, least)?;
+    assert_eq!(rt; polynomial(alloc, &from_below, &largest), Ok(true));
+    assert_eq!(rt;
+        polynomial(alloc, &from_nought, &largest),
+        Err(ArithFault::TooWide)
+    );
+    Ok(())
+}
+
 #[test]
 fn numbers_of_intervals(rt: HostRuntime) -> Result<(), Fail> {
     let alloc = rt.alloc();

@@ -120,6 +120,7 @@ family s = record {
   heads = record { name = codes "step"; inputs = 4 ∷ []; outputs = 6 } ∷ [];
   levels = family_machine ∷ family_code s ∷ [];
   values = [];
+  extents = [];
 }
 
 -- ---- what is drawn

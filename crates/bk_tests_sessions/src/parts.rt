@@ -153,6 +153,7 @@ pub(crate) fn development(
       heads = heads.items;
       levels = levels.items;
       values = [];
+      extents = [];
     }) }
     ensures { result ≡ record {
       max = default_max;
@@ -162,6 +163,7 @@ pub(crate) fn development(
       heads = heads.items;
       levels = levels.items;
       values = [];
+      extents = [];
     } }
 {
     Development {
@@ -172,5 +174,6 @@ pub(crate) fn development(
         heads,
         levels,
         values: Vec::new(alloc),
+        extents: Vec::new(alloc),
     }
 }

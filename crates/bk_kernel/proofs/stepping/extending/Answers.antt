@@ -6,4 +6,4 @@ use Rattle.bk_kernel.proofs.stepping.extending.Goals as goal
 
 pub returns-in-Err-TooLarge-clause-no_instance : goal.returns-in-Err-TooLarge-clause-no_instance
 returns-in-Err-TooLarge-clause-no_instance c h =
-    large-not-fine c.args.types.now (branches c.args.types.now (sequent_of c.args.sequent.now) c.args.rule.now) (c.in-Err-TooLarge.ensures.too_large (ap (λ e. Err e) c.in-Err-TooLarge.field-0-is))
+    large-not-fine c.args.types.now (branches c.args.types.now (sequent_of c.args.sequent) c.args.rule.now) (c.in-Err-TooLarge.ensures.too_large (ap (λ e. Err e) c.in-Err-TooLarge.field-0-is))

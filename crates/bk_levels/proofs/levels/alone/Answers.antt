@@ -1,4 +1,4 @@
-use Rattle.std.proofs.Common.{◌≡◌, ◌∙◌, ap, sym, subst, refl, [], ◌++◌, length, arith}
+use Rattle.std.proofs.Common.{◌≡◌, ◌∙◌, ap, sym, subst, refl, [], ◌∷◌, ◌++◌, length, arith}
 use Rattle.std.proofs.lemmas.List.{length-map}
 use Rattle.bk_form.specs.Table.{Table}
 use Rattle.bk_dev.specs.Facts.{IsDevelopment}
@@ -25,8 +25,12 @@ add_variables-requires-clause-few c =
 
 pub returns : goal.returns
 returns c =
-    ap (λ (t : Table). record { max = default_max; table = t; homes = c.args.added.homes.items; sets = c.args.added.sets.items; heads = c.args.added.heads.items; levels = c.args.added.own.items; values = c.args.added.values.items })
-    (alone-table c.new-table.result c.add_sets.new.table c.add_variables.new.table c.deref.result.now c.args.added.sets.items (variables_added c.args.added.variables.items) c.new-table.ensures c.deref.ensures.value c.in_ok-add_sets.ensures c.in_ok-add_variables.ensures)
+    let a = c.args.added in
+    let extents : c.push.new.self.items ≡ (length c.add_variables.new.table.sets, length c.add_variables.new.table.variables) ∷ [] =
+    c.in_ok-push.ensures.items ∙ (λ i. c.new-extents.ensures.items i ++ c.extent_of.ensures i ∷ []) in
+    (λ i. record { max = default_max; table = c.add_variables.new.table; homes = a.homes.items; sets = a.sets.items; heads = a.heads.items; levels = a.own.items; values = a.values.items; extents = extents i })
+    ∙ ap (λ (t : Table). record { max = default_max; table = t; homes = a.homes.items; sets = a.sets.items; heads = a.heads.items; levels = a.own.items; values = a.values.items; extents = (length t.sets, length t.variables) ∷ [] })
+    (alone-table c.new-table.result c.add_sets.new.table c.add_variables.new.table c.deref.result.now a.sets.items (variables_added a.variables.items) c.new-table.ensures c.deref.ensures.value c.in_ok-add_sets.ensures c.in_ok-add_variables.ensures)
 
 pub invariant_of-result : goal.invariant_of-result
 invariant_of-result c = subst IsDevelopment (sym (returns c)) c.requires

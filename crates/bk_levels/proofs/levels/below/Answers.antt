@@ -1,4 +1,4 @@
-use Rattle.std.proofs.Common.{◌≡◌, ◌≤◌, ◌+◌, ◌^◌, ◌++◌, ◌∙◌, ap, sym, subst, refl, List, length, arith, ℕ, length-append}
+use Rattle.std.proofs.Common.{◌≡◌, ◌≤◌, ◌+◌, ◌^◌, ◌++◌, ◌∷◌, [], ◌∙◌, ap, sym, subst, refl, List, length, arith, ℕ, length-append}
 use Rattle.std.proofs.lemmas.List.{length-map}
 use Rattle.bk_form.specs.Table.{Table, SetEntry}
 use Rattle.bk_dev.specs.Development.{Development}
@@ -33,9 +33,9 @@ add_variables-requires-clause-few c =
     omega (arith, same, long, length-append c.args.above.table.variables (variables_added c.args.added.variables.items), c.requires.development.lawful.table.few_variables)
 
 pub invariant_of-result : goal.invariant_of-result
-invariant_of-result c = subst IsDevelopment (sym (below-made c.args.above _ c.args.added c.add_sets.new.table c.add_variables.new.table c.deref.result.now c.append.new.self.items c.append-2.new.self.items c.append-3.new.self.items c.above.view_is c.requires.sets c.deref.ensures.value
-    c.in_ok-add_sets.ensures c.in_ok-add_variables.ensures c.in_ok-append.ensures.items c.in_ok-append-2.ensures.items c.in_ok-append-3.ensures.items)) c.requires.development
+invariant_of-result c = subst IsDevelopment (sym (below-made c.args.above _ c.args.added c.add_sets.new.table c.add_variables.new.table c.deref.result.now c.append.new.self.items c.append-2.new.self.items c.append-3.new.self.items c.push.new.self.items c.above.view_is c.requires.sets c.deref.ensures.value
+    c.in_ok-add_sets.ensures c.in_ok-add_variables.ensures c.in_ok-append.ensures.items c.in_ok-append-2.ensures.items c.in_ok-append-3.ensures.items (c.in_ok-push.ensures.items ∙ ap (λ (e : ℕ × ℕ). _ ++ e ∷ []) c.extent_of.ensures))) c.requires.development
 
 pub returns : goal.returns
-returns c = below-made c.args.above _ c.args.added c.add_sets.new.table c.add_variables.new.table c.deref.result.now c.append.new.self.items c.append-2.new.self.items c.append-3.new.self.items c.above.view_is c.requires.sets c.deref.ensures.value
-    c.in_ok-add_sets.ensures c.in_ok-add_variables.ensures c.in_ok-append.ensures.items c.in_ok-append-2.ensures.items c.in_ok-append-3.ensures.items
+returns c = below-made c.args.above _ c.args.added c.add_sets.new.table c.add_variables.new.table c.deref.result.now c.append.new.self.items c.append-2.new.self.items c.append-3.new.self.items c.push.new.self.items c.above.view_is c.requires.sets c.deref.ensures.value
+    c.in_ok-add_sets.ensures c.in_ok-add_variables.ensures c.in_ok-append.ensures.items c.in_ok-append-2.ensures.items c.in_ok-append-3.ensures.items (c.in_ok-push.ensures.items ∙ ap (λ (e : ℕ × ℕ). _ ++ e ∷ []) c.extent_of.ensures)

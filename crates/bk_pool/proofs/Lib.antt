@@ -1,0 +1,12 @@
+mod Lists
+mod Pooled
+mod Deciding
+mod KeyDecided
+mod Keyed
+mod Held
+mod Shared
+mod Wider
+mod Placed
+mod Ranged
+mod Binders
+mod Again
