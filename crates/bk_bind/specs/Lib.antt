@@ -4,6 +4,5 @@ pub mod Valid
 pub mod Closing
 pub mod Together
 pub mod Opening
-pub mod Lifting
 pub mod Renaming
 pub mod Laws

@@ -1,4 +1,4 @@
--- How many members a set has: the set of some values has one more with a new value in front, and turns only on which values they are.
+-- How many elements a set has.
 use Rattle.std.proofs.Common.{◌≡◌, refl, sym, ◌∙◌, ap, subst, Bool, true, false, ◌||◌, suc, length, List, [], ◌∷◌}
 use Rattle.std.specs.BTreeSet.{insert_key}
 use Rattle.bk_val.specs.Value.{MathValue, value_cmp, IsStrictlySorted}
