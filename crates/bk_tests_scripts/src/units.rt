@@ -1,8 +1,9 @@
 // The executable part of the counter.
 
 use crate::counter::counter;
-use bk_b0::{Slot, b0};
-use bk_gsl::SubNode;
+use bk_b0::{B0Unit, Slot, b0};
+use bk_gsl::{Sub, SubNode};
+use std::alloc::Global;
 use std::test::Fail;
 
 const SLOTS: [Slot; 2] = [
@@ -16,20 +17,34 @@ const SLOTS: [Slot; 2] = [
     },
 ];
 
+fn counter_unit(alloc: Global) -> Result<B0Unit, Fail> {
+    let dev = counter(alloc)?;
+    if dev.is_complete() {
+        Ok(b0(alloc, &dev)?)
+    } else {
+        Err(Fail::from("no implementation"))
+    }
+}
+
+// It has four variables and three operations, and no constants, arrays or sets.
+fn has_these_counts(unit: &B0Unit) -> bool {
+    unit.values().is_empty()
+        && unit.arrays().rows().is_empty()
+        && unit.table().variables() == 4
+        && unit.sets().is_empty()
+        && unit.heads().len() == 3
+        && unit.bodies().len() == 3
+}
+
+fn is_assignment(sub: &Sub) -> bool {
+    matches!(&*sub.node, SubNode::Assign(_))
+}
+
 #[test]
 fn a_unit_has_these_parts(rt: HostRuntime) -> Result<(), Fail> {
-    let dev = counter(rt.alloc())?;
-    if !dev.is_complete() {
-        return Err(Fail::from("no implementation"));
-    }
-    let unit = b0(rt.alloc(), &dev)?;
+    let unit = counter_unit(rt.alloc())?;
     assert!(rt; unit.slots() == SLOTS.as_slice());
-    assert_eq!(rt; unit.values().len(), 0);
-    assert_eq!(rt; unit.arrays().rows().len(), 0);
-    assert_eq!(rt; unit.table().variables(), 4);
-    assert_eq!(rt; unit.sets().len(), 0);
-    assert_eq!(rt; unit.heads().len(), 3);
-    assert_eq!(rt; unit.bodies().len(), 3);
-    assert!(rt; matches!(&*unit.init().node, SubNode::Assign(_)));
+    assert!(rt; has_these_counts(&unit));
+    assert!(rt; is_assignment(unit.init()));
     Ok(())
 }
