@@ -4,8 +4,12 @@
 #[cfg(test)]
 mod arithmetic;
 #[cfg(test)]
+mod arithmetic_texts;
+#[cfg(test)]
 mod certificates;
 #[cfg(test)]
 mod facts;
 #[cfg(test)]
 mod polynomials;
+#[cfg(test)]
+mod written;

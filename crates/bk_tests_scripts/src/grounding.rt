@@ -1,61 +1,16 @@
 // What written rules stand for where no table of states shows it: for no obligation, with the number of no hypothesis, with a new
 // variable, and with a multiplier below 0.
 
-ghost use Rattle.std.specs.Prelude.{◌≡◌, length};
-ghost use Rattle.bk_project.specs.ProjectFile.{component_lines};
-
+use crate::counter::{bytes, counter};
 use bk_dev::Development;
 use bk_ground::ground;
-use bk_io::Memory;
 use bk_kernel::Rule;
 use bk_lin::Line;
 use bk_p_proof::{ScriptFault, Scripts, scripts};
 use bk_po::obligation_table;
-use bk_project::{LineKind, ProjectLine, Refusal, lines, project};
 use std::alloc::Global;
 use std::test::Fail;
 
-// ---- the counter, whose four variables have the numbers from 0 to 3
-const PROJECT: &str = "machine Counter.mch\nimplementation Counter_i.imp\n";
-
-const TEXTS: &[&str] = &[
-    "MACHINE Counter VARIABLES n INVARIANT n : 0..10 INITIALISATION n := 0
-    OPERATIONS reset = n := 0 ; setmax = n := 10 ; r <-- get = r := n END",
-    "IMPLEMENTATION Counter_i REFINES Counter CONCRETE_VARIABLES n INVARIANT n : 0..10 INITIALISATION n := 0
-    OPERATIONS reset = n := 0 ; setmax = n := 10 ; r <-- get = r := n END",
-];
-
-fn bytes(alloc: Global, texts: &[&str]) -> Result<Vec<Vec<u8>>, Memory> {
-    let mut files = Vec::new(alloc);
-    for text in texts {
-        files.push(Vec::from_slice(alloc, text.as_bytes())?)?;
-    }
-    Ok(files)
-}
-
-// How many of the lines are for component files.
-fn component_count(lines: &[ProjectLine]) -> usize
-    ensures { result ≡ length (component_lines lines.now) }
-{
-    let mut count: usize = 0;
-    for line in lines {
-        if line.kind != LineKind::Proofs {
-            count += 1;
-        }
-    }
-    count
-}
-
-// What the texts are read as.
-fn development(alloc: Global, texts: &[Vec<u8>]) -> Result<Development, Refusal> {
-    let lines = lines(alloc, PROJECT.as_bytes())?;
-    if component_count(&lines) != texts.len() {
-        return Err(Refusal::Memory);
-    }
-    project(alloc, &lines, texts)
-}
-
-// ---- rules
 // The scripts of a proof file.
 fn read(alloc: Global, text: &str) -> Result<Scripts, ScriptFault> {
     let files = bytes(alloc, &[text])?;
@@ -164,8 +119,7 @@ const ROWS: &[(&str, Meant)] = &[
 #[test]
 fn what_written_rules_stand_for(rt: HostRuntime) -> Result<(), Fail> {
     let alloc = rt.alloc();
-    let texts = bytes(alloc, TEXTS)?;
-    let dev = development(alloc, &texts)?;
+    let dev = counter(alloc)?;
     for (text, meant) in ROWS {
         assert!(rt; stands_for(alloc, &dev, text, *meant)?, "{text}");
     }
