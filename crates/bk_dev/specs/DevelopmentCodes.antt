@@ -64,9 +64,9 @@ coded_level = code_by ((List ℕ × (Kind × (List ℕ × List (ℕ × ℕ)))) �
 -- a development is told by its MAXINT, table, homes, sets, headers, levels, the constants' values and the levels' extents
 abbrev pub coded_development : Coded Development
 coded_development =
-  code_by (ℤ × (Table × (List Home × (List SetEntry × (List Head × (List Level × (List (ℕ × Formula) × List (ℕ × ℕ))))))))
+    code_by (ℤ × (Table × (List Home × (List SetEntry × (List Head × (List Level × (List (ℕ × Formula) × List (ℕ × ℕ))))))))
     (coded× coded_ℤ (coded× coded_table (coded× (coded_list coded_home) (coded× (coded_list coded_set) (coded× (coded_list coded_head)
-      (coded× (coded_list coded_level) (coded× (coded_list (coded× coded_ℕ coded_formula)) (coded_list (coded× coded_ℕ coded_ℕ)))))))))
+    (coded× (coded_list coded_level) (coded× (coded_list (coded× coded_ℕ coded_formula)) (coded_list (coded× coded_ℕ coded_ℕ)))))))))
     (λ d. (d.max, (d.table, (d.homes, (d.sets, (d.heads, (d.levels, (d.values, d.extents))))))))
     (λ p. record {
       max = p.0;

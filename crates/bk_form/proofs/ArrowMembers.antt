@@ -233,7 +233,6 @@ arrow-in-parts find e f a b h =
 
 -- ---- f <+ {x |-> y}
 module _ (find : Finder) (e : Environment) (c : IsSetting find e) (f x y : Formula) (t u : ValueType) (types : GivesIn e (binary Over f (unary Single (binary Maps x y))) (set_type (pair_type t u))) where
-
   abbrev after : Formula
   after = binary Over f (unary Single (binary Maps x y))
 

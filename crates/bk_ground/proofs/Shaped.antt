@@ -11,7 +11,6 @@ use Rattle.bk_ground.specs.Grounding.{Made}
 use Rattle.bk_kernel.specs.declared.rule.Rule.{Rule}
 
 module _ {A : Type 0} (P : RulePart → A → Type 0) where
-
   pub one_none : (parts : List Part) → ((p : Part) → parts ≡ p ∷ [] → ⊥) → (x : A) → One P (map part_of parts) x → ⊥
   one_none [] lacks x h = h
   one_none (p ∷ []) lacks x h = lacks p refl

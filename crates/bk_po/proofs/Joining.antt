@@ -18,7 +18,6 @@ use Rattle.bk_po.proofs.Predicates.{conjunction-predicate, links-predicate}
 
 -- ---- it is a predicate
 module _ (table : Table) where
-
   pub joined_goal-predicate : (l : Level) (outputs above : List ℕ) → IsPredicate table l.invariant → Each (λ p. AreAlike table p.0 p.1) l.links → Each (λ p. AreAlike table p.0 p.1) (beside outputs above) → IsPredicate table (joined_goal l outputs above)
   joined_goal-predicate l outputs above h k m =
       conjunction-predicate table (l.invariant ∷ conjunction (map equation l.links) ∷ conjunction (map equation (beside outputs above)) ∷ [])

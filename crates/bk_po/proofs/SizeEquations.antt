@@ -43,4 +43,5 @@ one-sized k (suc n) (e ∷ es) h some = absurd (none (length es) h)
     none n h = grind (arith, nat_tests)
 
 pub ruleset one_more = (sizes-next, sizes-end)
+
 pub ruleset of_one = (none-named, none-sized, one-sized)

@@ -81,7 +81,13 @@ fn begins(
     dev.facts();
     let written = dev.written;
     let mut hyps = Form::copy_all(properties, alloc)?;
-    add_values(alloc, &written.sets, &written.values, dev.level(level), &mut hyps)?;
+    add_values(
+        alloc,
+        &written.sets,
+        &written.values,
+        dev.level(level),
+        &mut hyps,
+    )?;
     Ok(hyps)
 }
 

@@ -48,10 +48,10 @@ sizes_keep_sequents = record {
     (λ v sizes p. subst (λ t. IsValidSequent t s) (sym (sizes_fit.whole sizes table h)) v),
   );
   wider = λ small large well fine wider s types.
-    let same = λ (sizes : ℕ → ℕ). validity_widens (with_sizes sizes small) (with_sizes sizes large) (well-sized sizes small well) (well-sized sizes large fine) (sizes_fit.wider sizes small large wider) s (types-sized sizes small s types) in (
-    (λ v sizes p. (same sizes).0 (v sizes p)),
-    (λ v sizes p. (same sizes).1 (v sizes p)),
-  );
+      let same = λ (sizes : ℕ → ℕ). validity_widens (with_sizes sizes small) (with_sizes sizes large) (well-sized sizes small well) (well-sized sizes large fine) (sizes_fit.wider sizes small large wider) s (types-sized sizes small s types) in (
+        (λ v sizes p. (same sizes).0 (v sizes p)),
+        (λ v sizes p. (same sizes).1 (v sizes p)),
+      );
   split = λ table s. (
     (λ v. each-for-all table (split s.0 s.1) (λ sizes p. (split_keeps_validity (with_sizes sizes table) s.0 s.1).0 (v sizes p))),
     (λ v sizes p. (split_keeps_validity (with_sizes sizes table) s.0 s.1).1 (each-at sizes p table (split s.0 s.1) v)),

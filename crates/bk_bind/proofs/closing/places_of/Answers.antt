@@ -13,12 +13,14 @@ loop-variable-preserved c =
     let within : ℕ = c.loop-variable.within - 1 in
     let counted = c.loop-variable.invariant.0 in
     let one : c.loop-variable.within ≡ suc within = omega (arith, counted, c.loop-variable-test.true) in
-    let fewer : within ≡ length variables - (i + 1) = omega (arith, counted) in
-    (fewer, λ n.
-        c.in_ok-insert.ensures.updates.0 n
-        ∙ (ap (cond (nat_eq z n) (Some within)) (c.loop-variable.invariant.1 n ∙ ap (λ w. place_above w (take i variables) n) one)
-        ∙ (sym (place_of_one_more (take i variables) z within n)
-        ∙ ap (λ zs. place_above within zs n) (sym (take_more variables i 0 c.loop-variable-test.true)))))
+    let fewer : within ≡ length variables - (i + 1) = omega (arith, counted) in (
+      fewer,
+      λ n.
+          c.in_ok-insert.ensures.updates.0 n
+          ∙ (ap (cond (nat_eq z n) (Some within)) (c.loop-variable.invariant.1 n ∙ ap (λ w. place_above w (take i variables) n) one)
+          ∙ (sym (place_of_one_more (take i variables) z within n)
+          ∙ ap (λ zs. place_above within zs n) (sym (take_more variables i 0 c.loop-variable-test.true)))),
+    )
 
 pub returns : goal.returns
 returns c = λ n.
