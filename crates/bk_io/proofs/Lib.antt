@@ -1,2 +1,4 @@
+mod Cuts
 mod Gains
+mod Telling
 mod Written

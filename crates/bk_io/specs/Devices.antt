@@ -1,6 +1,8 @@
 -- What contracts see of the devices in memory.
 use Rattle.std.specs.Prelude.{ℕ, List}
 use Rattle.bk_io.specs.Files.{Files, files_of}
+use Rattle.bk_io.specs.Parts.{pieces_in}
+use Rattle.bk_io.specs.Pieces.{Piece}
 use Rattle.bk_io.specs.declared.mem_shelf.MemShelf.{MemShelf}
 use Rattle.bk_io.specs.declared.mem_shelf.SureShelf.{SureShelf}
 use Rattle.bk_io.specs.declared.mem_sink.MemSink.{MemSink}
@@ -38,6 +40,10 @@ sure_absences shelf = shelf.absences
 abbrev pub sink_written : MemSink → List ℕ
 sink_written sink = sink.store.bytes.items
 
+-- in which pieces
+abbrev pub sink_pieces : MemSink → List Piece
+sink_pieces sink = pieces_in sink.store.parts.items sink.store.bytes.items
+
 -- how many bytes it takes with no further memory
 abbrev pub sink_room : MemSink → ℕ
 sink_room sink = sink.store.room
@@ -61,6 +67,10 @@ sink_faults sink = sink.schedule.faults
 -- what a sure sink has taken
 abbrev pub sure_written : SureSink → List ℕ
 sure_written sink = sink.store.bytes.items
+
+-- in which pieces
+abbrev pub sure_pieces : SureSink → List Piece
+sure_pieces sink = pieces_in sink.store.parts.items sink.store.bytes.items
 
 -- how many bytes it takes with no further memory
 abbrev pub sure_room : SureSink → ℕ

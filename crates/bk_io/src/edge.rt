@@ -113,6 +113,8 @@ impl<'a, P> StdSink<'a, P> {
 impl<P: Print> Sink for StdSink<'_, P> {
     ghost written = { λ _. None };
 
+    ghost pieces = { λ _. None };
+
     ghost faults = { std_faults };
 
     fn put(&mut self, piece: &[u8]) -> Result<usize, SinkFault>

@@ -2,8 +2,10 @@
 #![tactic(auto)]
 
 mod edge;
+pub mod laws;
 mod mem_shelf;
 mod mem_sink;
+mod part;
 mod schedule;
 mod shelf;
 mod sink;
@@ -13,6 +15,7 @@ mod text;
 pub use edge::{FileShelf, StdSink};
 pub use mem_shelf::{MemShelf, SureShelf, have_distinct_names};
 pub use mem_sink::{MemSink, SureSink};
+pub use part::Part;
 pub use shelf::{Fetch, Shelf};
 pub use sink::{Sink, SinkFault, put_all};
 pub use text::{Memory, Text};

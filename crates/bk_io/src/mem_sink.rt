@@ -1,8 +1,10 @@
 // Sinks over bytes in memory.
 ghost use Rattle.std.specs.Prelude.{◌≡◌, ◌↔◌, ◌+◌, ◌-◌, ◌^◌, ◌<◌, ◌≤◌, ◌++◌, [], All, Contains, Some, min, length, take, vec_len, vec_capacity, OnOk, OnErr, IfOk, IfErr};
 ghost use Rattle.bk_io.specs.Counts.{counted, CountsCalls, HasCause, Rose};
-ghost use Rattle.bk_io.specs.Pieces.{IsTaken};
+ghost use Rattle.bk_io.specs.Parts.{pieces_in};
+ghost use Rattle.bk_io.specs.Pieces.{IsTaken, taken_of};
 
+use crate::part::Part;
 use crate::schedule::Schedule;
 use crate::store::Store;
 use crate::{Memory, Sink, SinkFault};
@@ -18,7 +20,7 @@ pub struct MemSink {
 }
 
 impl MemSink {
-    ghost use Rattle.bk_io.specs.Devices.{sink_written, sink_room, sink_step, sink_failing, sink_calls, sink_faults};
+    ghost use Rattle.bk_io.specs.Devices.{sink_written, sink_pieces, sink_room, sink_step, sink_failing, sink_calls, sink_faults};
 
     /// A sink with memory for `room` bytes, which takes at most `step` bytes of a piece. The puts whose numbers,
     /// from 1, are in `failing` fail.
@@ -31,6 +33,7 @@ impl MemSink {
         requires step { 0 < step }
         requires numbers { All (λ n. n < 2 ^ 64 - 1) failing.items }
         ensures written { IfOk result (λ sink. sink_written sink ≡ []) }
+        ensures pieces { IfOk result (λ sink. sink_pieces sink ≡ []) }
         ensures room { IfOk result (λ sink. sink_room sink ≡ room) }
         ensures step { IfOk result (λ sink. sink_step sink ≡ step) }
         ensures failing { IfOk result (λ sink. sink_failing sink ≡ failing.items) }
@@ -50,12 +53,21 @@ impl MemSink {
     {
         self.store.bytes()
     }
+
+    /// What it took at each put that it took bytes of, in order.
+    pub fn parts(&self) -> &[Part]
+        ensures { pieces_in result.now (sink_written self.now) ≡ sink_pieces self.now }
+    {
+        self.store.parts()
+    }
 }
 
 impl Sink for MemSink {
-    ghost use Rattle.bk_io.specs.Devices.{sink_written, sink_room, sink_step, sink_failing, sink_calls, sink_faults};
+    ghost use Rattle.bk_io.specs.Devices.{sink_written, sink_pieces, sink_room, sink_step, sink_failing, sink_calls, sink_faults};
 
     ghost written = { λ sink. Some (sink_written sink) };
+
+    ghost pieces = { λ sink. Some (sink_pieces sink) };
 
     ghost faults = { sink_faults };
 
@@ -78,12 +90,14 @@ impl Sink for MemSink {
         ensures same_failing { sink_failing self.new ≡ sink_failing self.old }
         ensures same_step { sink_step self.new ≡ sink_step self.old }
         ensures same_room { sink_room self.new ≡ sink_room self.old }
+        ensures told { IfOk result (λ n. sink_pieces self.new ≡ sink_pieces self.old ++ taken_of piece.now n) }
+        ensures untold { OnErr result (sink_pieces self.new ≡ sink_pieces self.old) }
     {
         if self.schedule.fails() {
             return Err(SinkFault::Failed);
         }
         let count = self.step.min(piece.len());
-        self.store.append(&piece[..count])?;
+        self.store.append(piece, count)?;
         Ok(count)
     }
 }
@@ -95,11 +109,12 @@ pub struct SureSink {
 }
 
 impl SureSink {
-    ghost use Rattle.bk_io.specs.Devices.{sure_written, sure_room};
+    ghost use Rattle.bk_io.specs.Devices.{sure_written, sure_pieces, sure_room};
 
     /// A sink with memory for `room` bytes.
     pub fn new(alloc: Global, room: usize) -> Result<SureSink, Memory>
         ensures written { IfOk result (λ sink. sure_written sink ≡ []) }
+        ensures pieces { IfOk result (λ sink. sure_pieces sink ≡ []) }
         ensures room { IfOk result (λ sink. sure_room sink ≡ room) }
     {
         Ok(SureSink {
@@ -113,12 +128,21 @@ impl SureSink {
     {
         self.store.bytes()
     }
+
+    /// What it took at each put that it took bytes of, in order.
+    pub fn parts(&self) -> &[Part]
+        ensures { pieces_in result.now (sure_written self.now) ≡ sure_pieces self.now }
+    {
+        self.store.parts()
+    }
 }
 
 impl Sink for SureSink {
-    ghost use Rattle.bk_io.specs.Devices.{sure_written, sure_room};
+    ghost use Rattle.bk_io.specs.Devices.{sure_written, sure_pieces, sure_room};
 
     ghost written = { λ sink. Some (sure_written sink) };
+
+    ghost pieces = { λ sink. Some (sure_pieces sink) };
 
     ghost faults = { λ _. 0 };
 
@@ -131,8 +155,10 @@ impl Sink for SureSink {
         ensures memory { IfErr result (λ e. e ≡ SinkFault.Memory) }
         ensures full { OnErr result (sure_room self.old < length (sure_written self.old) + length piece.now) }
         ensures same_room { sure_room self.new ≡ sure_room self.old }
+        ensures told { IfOk result (λ n. sure_pieces self.new ≡ sure_pieces self.old ++ taken_of piece.now n) }
+        ensures untold { OnErr result (sure_pieces self.new ≡ sure_pieces self.old) }
     {
-        self.store.append(piece)?;
+        self.store.append(piece, piece.len())?;
         Ok(piece.len())
     }
 }

@@ -1,8 +1,8 @@
 // The devices on real files and in memory.
 
 use bk_io::{
-    Fetch, FileShelf, MemShelf, MemSink, Shelf, Sink, SinkFault, StdSink, SureShelf, SureSink,
-    Text, have_distinct_names, put_all,
+    Fetch, FileShelf, MemShelf, MemSink, Part, Shelf, Sink, SinkFault, StdSink, SureShelf,
+    SureSink, Text, have_distinct_names, put_all,
 };
 use std::alloc::Global;
 use std::fs;
@@ -100,6 +100,11 @@ fn a_sure_shelf(rt: HostRuntime) -> Result<(), Fail> {
     Ok(())
 }
 
+// So many bytes, and whether they are a whole piece.
+fn part(count: usize, is_whole: bool) -> Part {
+    Part { count, is_whole }
+}
+
 // The first and the third put fail.
 #[test]
 fn a_sink_in_memory(rt: HostRuntime) -> Result<(), Fail> {
@@ -118,6 +123,8 @@ fn a_sink_in_memory(rt: HostRuntime) -> Result<(), Fail> {
             "{text}"
         );
     }
+    let parts = vec![in rt.alloc(); part(3, false), part(1, true)]?;
+    assert!(rt; sink.parts() == parts.as_slice());
     Ok(())
 }
 
@@ -137,6 +144,7 @@ fn a_sure_sink(rt: HostRuntime) -> Result<(), Fail> {
             "{text}"
         );
     }
+    assert!(rt; sink.parts().iter().all(|part| part.is_whole));
     Ok(())
 }
 
@@ -148,6 +156,8 @@ fn a_text_is_put_whole(rt: HostRuntime) -> Result<(), Fail> {
     let second = put_all(&mut sink, b"end");
     assert!(rt; first.is_ok() && second == Err(SinkFault::Failed));
     assert!(rt; sink.written() == b"sets".as_slice());
+    let parts = vec![in rt.alloc(); part(3, false), part(1, true)]?;
+    assert!(rt; sink.parts() == parts.as_slice());
     Ok(())
 }
 
