@@ -6,7 +6,8 @@ use Rattle.bk_form.specs.Formula.{Formula, variable, bound, unary, binary, for_a
 use Rattle.bk_form.specs.Role.{bind}
 use Rattle.bk_form.specs.Replacement.{count, IsClosed, AreClosed}
 use Rattle.bk_bind.specs.Closing.{closed_over, all_closed_over, closed_over_each}
-use Rattle.bk_bind.specs.Opening.{rebound, all_rebound, placed}
+use Rattle.bk_form.specs.Rebound.{rebound, all_rebound}
+use Rattle.bk_bind.specs.Opening.{placed}
 use Rattle.bk_bind.specs.Laws.{OpeningGivesBack}
 
 -- ---- loose bound numbers of a formula with a variable bound

@@ -4,7 +4,7 @@ use Rattle.std.proofs.lemmas.Bool.Decides.{nat_tests}
 use Rattle.bk_form.specs.Formula.{Formula, bound, unary, binary, for_all, for_some, comprehension, lambda, Formulas, no_formulas, formula_and, formula_size, formula_height, formulas_size, formulas_height, formulas_of}
 use Rattle.bk_form.specs.Replacement.{count}
 use Rattle.bk_form.proofs.Sizes.{size_pos, size_at}
-use Rattle.bk_bind.specs.Lifting.{shifted, lifted, all_lifted}
+use Rattle.bk_form.specs.Lifting.{shifted, lifted, all_lifted}
 use Rattle.bk_bind.specs.Limits.{IsWithinLimits}
 
 -- ---- one bound number
@@ -64,6 +64,11 @@ mutual
 
 pub small_lifted : (n k : ℕ) (f : Formula) → formula_size f ≤ 200000 → formula_size (lifted n k f) < 2 ^ 32
 small_lifted n k f h = omega (arith, h, size_lifted n k f)
+
+pub few_lifted : (n k : ℕ) (f : Formula) → formula_size f < 2 ^ 32 → formula_size (lifted n k f) < 2 ^ 32
+few_lifted n k f h = omega (arith, h, size_lifted n k f)
+
+pub ruleset raised = (few_lifted)
 
 pub within_lifted : (n k : ℕ) (f : Formula) → formula_size f ≤ 200000 → formula_height f ≤ 2000 → IsWithinLimits (lifted n k f)
 within_lifted n k f h g = record { nodes = omega (arith, h, size_lifted n k f); height = omega (arith, g, height_lifted n k f) }

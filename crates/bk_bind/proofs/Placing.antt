@@ -6,7 +6,8 @@ use Rattle.std.proofs.lemmas.Option.{slice_get_past}
 use Rattle.bk_form.specs.Formula.{Formula, bound, formula_and, formula_size, formulas_size, formulas_of}
 use Rattle.bk_form.specs.Role.{bind}
 use Rattle.bk_form.proofs.Sizes.{size_pos, size_at}
-use Rattle.bk_bind.specs.Opening.{rebound, all_rebound, placed}
+use Rattle.bk_form.specs.Rebound.{rebound, all_rebound}
+use Rattle.bk_bind.specs.Opening.{placed}
 
 -- ---- the terms from the last to the first
 -- behind the terms stands what was there before

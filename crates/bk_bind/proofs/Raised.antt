@@ -13,7 +13,7 @@ use Rattle.bk_form.specs.Replacement.{occurs, any_occurs, count, IsClosed, AreCl
 use Rattle.bk_form.specs.Meaning.{meaning, meanings, range_types, bound_meaning, unary_meaning, binary_meaning, all_meaning, some_meaning, comprehension_meaning, lambda_meaning}
 use Rattle.bk_form.proofs.Agreement.{length-ranges}
 use Rattle.bk_form.proofs.Members.{or-cases, or-left, or-right}
-use Rattle.bk_bind.specs.Lifting.{lifted, all_lifted}
+use Rattle.bk_form.specs.Lifting.{lifted, all_lifted}
 
 -- ---- what they mean
 record InsertedBindings (n k : ℕ) (a b : List Binding) : Type 0 where

@@ -15,7 +15,8 @@ use Rattle.bk_form.proofs.Agreement.{length-ranges, meaning-closed}
 use Rattle.bk_form.proofs.Closed.{term-closed}
 use Rattle.bk_form.proofs.Roles.{meaning-role, types-bind}
 use Rattle.bk_form.proofs.Givers.{value-meaning}
-use Rattle.bk_bind.specs.Opening.{rebound, all_rebound, placed, opened}
+use Rattle.bk_form.specs.Rebound.{rebound, all_rebound}
+use Rattle.bk_bind.specs.Opening.{placed, opened}
 use Rattle.bk_bind.specs.Laws.{TermsGive, OpeningMeans, OpeningKeepsRole}
 use Rattle.bk_bind.proofs.ListedTypes.{listed-type}
 

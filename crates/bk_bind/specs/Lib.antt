@@ -3,6 +3,5 @@ pub mod Same
 pub mod Valid
 pub mod Closing
 pub mod Opening
-pub mod Lifting
 pub mod Renaming
 pub mod Laws

@@ -20,7 +20,7 @@ pub use closing::{close, closed};
 pub use error::BindFault;
 pub use joining::{binary, bounded, for_all, for_some, unary};
 pub use law::{LawFault, LawInstance};
-pub use lifting::lift;
+pub use lifting::{lift, raise};
 pub use occurrence::free_in;
 pub use opening::open_body;
 pub use renaming::rename;

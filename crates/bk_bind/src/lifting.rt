@@ -3,7 +3,7 @@
 ghost use Rattle.std.specs.Prelude.{◌≡◌, ◌<◌, ◌+◌, ◌^◌, length, map, Err, IfOk, OnOk};
 ghost use Rattle.bk_form.specs.Formula.{formula_size, formulas_size, formulas_of};
 ghost use Rattle.bk_form.specs.Replacement.{count};
-ghost use Rattle.bk_bind.specs.Lifting.{shifted, lifted, all_lifted};
+ghost use Rattle.bk_form.specs.Lifting.{shifted, lifted, all_lifted};
 ghost use Rattle.bk_bind.specs.Limits.{IsWithinLimits};
 ghost use Rattle.bk_bind.specs.declared.error.BindFault.TheVariants.{TooLarge};
 
@@ -25,6 +25,15 @@ pub fn lift(alloc: Global, form: &Form, more: u32) -> Result<Form, BindFault>
         return Err(BindFault::TooLarge);
     }
     Ok(lifted(alloc, form, more, 0)?)
+}
+
+/// The same of a formula that may pass the limits.
+#[tactic(auto, using(crate::proofs::Lifted::raised))]
+pub fn raise(alloc: Global, form: &Form, more: u32) -> Result<Form, Memory>
+    ensures { IfOk result (λ f. f ≡ lifted more 0 form.now) }
+{
+    let _nodes = form.size();
+    lifted(alloc, form, more, 0)
 }
 
 // The formula with its loose bound numbers raised, where `own` of the variables that are bound around it are its own.

@@ -4,7 +4,8 @@ ghost use Rattle.std.specs.Prelude.{◌≡◌, ◌<◌, ◌^◌, ◌-◌, [], sl
 ghost use Rattle.std.specs.Option.{option_copied};
 ghost use Rattle.bk_form.specs.Formula.{bound, formula_size, formulas_size, formula_height, formulas_height, formulas_of};
 ghost use Rattle.bk_form.specs.Role.{bind};
-ghost use Rattle.bk_bind.specs.Opening.{rebound, all_rebound, placed, opened};
+ghost use Rattle.bk_form.specs.Rebound.{rebound, all_rebound};
+ghost use Rattle.bk_bind.specs.Opening.{placed, opened};
 ghost use Rattle.bk_bind.specs.Limits.{IsWithinLimits};
 ghost use Rattle.bk_bind.specs.declared.error.BindFault.TheVariants.{TooLarge};
 

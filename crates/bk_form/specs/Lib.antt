@@ -17,6 +17,9 @@ pub mod Operators
 pub mod Environment
 pub mod Meaning
 pub mod Replacement
+pub mod Rebound
+pub mod Lifting
+pub mod Expansion
 pub mod Defined
 pub mod Laws
 pub mod Each

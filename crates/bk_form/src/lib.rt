@@ -11,7 +11,7 @@ pub mod ty;
 
 pub use arrays::{ArrayDomain, ArrayRow, Arrays};
 pub use form::{Form, Part, View};
-pub use operator::{BinOp, Domain, UnOp};
+pub use operator::{BinOp, Domain, SeqSign, UnOp};
 pub use table::VarTable;
 pub use token::{Token, TokenKind};
 pub use ty::{Ty, TyView};

@@ -122,3 +122,28 @@ pub enum Domain {
     /// The enumerated set of this number.
     Enum(u32),
 }
+
+/// A word or sign of sequences, which stands for formulas of the other operators.
+#[derive(Clone, Copy, PartialEq, Eq, Debug)]
+pub enum SeqSign {
+    /// `s : seq(D)`: s is a sequence of members of D.
+    Member,
+    /// `size(s)`: how many members a sequence has.
+    Size,
+    /// `first(s)`: the first of them.
+    First,
+    /// `last(s)`: the last of them.
+    Last,
+    /// `front(s)`: all but the last.
+    Front,
+    /// `tail(s)`: all but the first.
+    Tail,
+    /// `rev(s)`: the members in the other order.
+    Rev,
+    /// `s <- x`: x after all of s.
+    Append,
+    /// `x -> s`: x before all of s.
+    Prepend,
+    /// `s ^ t`: the members of s, then those of t.
+    Concat,
+}

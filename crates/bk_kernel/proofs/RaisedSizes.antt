@@ -4,7 +4,7 @@ use Rattle.bk_form.specs.Formula.{Formula, bound, literal, unary, binary, for_al
 use Rattle.bk_form.specs.declared.operator.BinOp.TheVariants.{Add}
 use Rattle.bk_form.specs.Replacement.{count}
 use Rattle.bk_form.proofs.Sizes.{size_pos, size_at}
-use Rattle.bk_bind.specs.Opening.{rebound, all_rebound}
+use Rattle.bk_form.specs.Rebound.{rebound, all_rebound}
 use Rattle.bk_kernel.specs.Next.{raised, at_next}
 
 -- ---- lists of formulas

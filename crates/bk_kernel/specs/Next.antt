@@ -8,7 +8,7 @@ use Rattle.bk_form.specs.declared.operator.BinOp.TheVariants.{Add}
 use Rattle.bk_form.specs.Search.{Finder}
 use Rattle.bk_form.specs.Environment.{State, under, at_state}
 use Rattle.bk_form.specs.Meaning.{meaning}
-use Rattle.bk_bind.specs.Opening.{rebound}
+use Rattle.bk_form.specs.Rebound.{rebound}
 
 -- one more than the variable, in place of the bound number m that stands under k binders
 abbrev pub raised : ℕ → ℕ → Formula

@@ -4,7 +4,7 @@ ghost use Rattle.std.specs.Prelude.{◌≡◌, ◌<◌, ◌+◌, ◌^◌, length
 ghost use Rattle.bk_form.specs.Formula.{formula_size, formulas_size, formulas_of};
 ghost use Rattle.bk_form.specs.Replacement.{count};
 ghost use Rattle.bk_bind.specs.Limits.{IsWithinLimits};
-ghost use Rattle.bk_bind.specs.Opening.{rebound, all_rebound};
+ghost use Rattle.bk_form.specs.Rebound.{rebound, all_rebound};
 ghost use Rattle.bk_bind.specs.declared.error.BindFault.TheVariants.{TooLarge};
 ghost use Rattle.bk_kernel.specs.Next.{raised, at_next};
 

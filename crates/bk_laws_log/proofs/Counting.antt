@@ -26,7 +26,7 @@ use Rattle.bk_form.proofs.SetMembers.{two-sets, in-inter, in-power}
 use Rattle.bk_laws.proofs.Truths.{or-assoc, or-none, and-none, apart}
 use Rattle.bk_laws.proofs.Numbers.{le-if}
 use Rattle.bk_laws.proofs.ByForm.{by_truth, by_value}
-use Rattle.bk_laws_log.proofs.Members.{count-more, same-set, set-of-sorted}
+use Rattle.bk_form.proofs.ElementCounts.{count-more, same-set, set-of-sorted}
 use Rattle.bk_laws_log.specs.Order.{o22, o23, o24, o25, o26, o27, o28, o29, o30}
 
 pub true-o22 : IsTrueRow o22

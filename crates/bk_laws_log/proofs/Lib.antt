@@ -2,7 +2,6 @@ pub mod Answered
 pub mod Counting
 pub mod Largest
 pub mod Logic
-pub mod Members
 pub mod Order
 pub mod Smallest
 pub mod True

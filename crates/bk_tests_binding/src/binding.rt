@@ -1,7 +1,7 @@
 // Variables made bound, bodies of binders opened, formulas under more binders, and variables in place of variables.
 
 use crate::binding_texts::{CLOSED, LETTERS, LIFTED, OPENED, RENAMED};
-use bk_bind::{close, closed, lift, open_body, rename};
+use bk_bind::{close, closed, lift, open_body, raise, rename};
 use bk_bracketed::{Unread, formula};
 use bk_form::Form;
 use std::alloc::Global;
@@ -51,8 +51,10 @@ fn bodies_opened(rt: HostRuntime) -> Result<(), Fail> {
 fn under_more_binders(rt: HostRuntime) -> Result<(), Fail> {
     let alloc = rt.alloc();
     for (given, more, wanted) in LIFTED {
-        let found = lift(alloc, &form(alloc, given)?, more)?;
-        assert!(rt; found.equal(&form(alloc, wanted)?), "{wanted}");
+        let given = form(alloc, given)?;
+        let wanted_form = form(alloc, wanted)?;
+        assert!(rt; lift(alloc, &given, more)?.equal(&wanted_form), "{wanted}");
+        assert!(rt; raise(alloc, &given, more)?.equal(&wanted_form), "{wanted}");
     }
     Ok(())
 }

@@ -25,7 +25,7 @@ use Rattle.bk_form.proofs.Roles.{meaning-role, meanings-role, types-bind}
 use Rattle.bk_form.proofs.Valued.{under-typed, typed-value, sound_typing}
 use Rattle.bk_form.proofs.Agreement.{length-ranges}
 use Rattle.bk_form.specs.Wider.{IsTypedRole}
-use Rattle.bk_bind.specs.Lifting.{lifted}
+use Rattle.bk_form.specs.Lifting.{lifted}
 use Rattle.bk_bind.proofs.Raised.{bindings-behind, meaning-lifted-under}
 use Rattle.bk_wd.specs.Joining.{both, where_true, all_over}
 use Rattle.bk_wd.specs.Operands.{right_met, sides_asked}

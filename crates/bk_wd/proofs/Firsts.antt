@@ -7,7 +7,7 @@ use Rattle.bk_form.specs.Formula.{Formula, bound, binary, formulas_of}
 use Rattle.bk_form.specs.Replacement.{count}
 use Rattle.bk_form.specs.declared.operator.BinOp.TheVariants.{And, In}
 use Rattle.bk_bind.specs.Limits.{IsWithinLimits}
-use Rattle.bk_bind.specs.Lifting.{lifted}
+use Rattle.bk_form.specs.Lifting.{lifted}
 use Rattle.bk_bind.proofs.Within.{within_right}
 use Rattle.bk_wd.specs.Joining.{both}
 use Rattle.bk_wd.specs.WellDefined.{ranges_onto, defined, all_defined}

@@ -16,7 +16,7 @@ use Rattle.bk_form.specs.declared.arrays.ArrayRow.{ArrayRow}
 use Rattle.bk_form.specs.declared.arrays.ArrayDomain.{ArrayDomain}
 use Rattle.bk_form.specs.declared.arrays.ArrayDomain.TheVariants.{Interval}
 use Rattle.bk_form.proofs.Members.{or-cases, or-left, or-right}
-use Rattle.bk_bind.specs.Lifting.{lifted}
+use Rattle.bk_form.specs.Lifting.{lifted}
 use Rattle.bk_bind.proofs.Raised.{lifted-occurs, lifted-closed, count-types}
 use Rattle.bk_wd.specs.Joining.{both, where_true, all_over}
 use Rattle.bk_wd.specs.Operands.{WhenMet, always_met, met_where_true, met_where_false, right_met, sides_asked}

@@ -25,7 +25,7 @@ use Rattle.bk_form.proofs.Operands.{holds-op, predicate-op, value-op, unary-op, 
 use Rattle.bk_form.proofs.Roles.{same_type-then, if_holds-gives}
 use Rattle.bk_form.proofs.Counted.{size-listed}
 use Rattle.bk_form.proofs.Widening.{type-listed}
-use Rattle.bk_bind.specs.Lifting.{lifted}
+use Rattle.bk_form.specs.Lifting.{lifted}
 use Rattle.bk_bind.proofs.Raised.{count-types, types-behind, role-lifted-under}
 use Rattle.bk_wd.specs.Joining.{both, where_true, all_over}
 use Rattle.bk_wd.specs.Operands.{right_met, sides_asked}

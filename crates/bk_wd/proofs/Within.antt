@@ -7,7 +7,7 @@ use Rattle.bk_form.specs.Replacement.{count}
 use Rattle.bk_form.specs.declared.operator.UnOp.TheVariants.{Not}
 use Rattle.bk_form.specs.declared.operator.BinOp.TheVariants.{And, Imp, In}
 use Rattle.bk_bind.specs.Limits.{IsWithinLimits}
-use Rattle.bk_bind.specs.Lifting.{lifted}
+use Rattle.bk_form.specs.Lifting.{lifted}
 use Rattle.bk_bind.proofs.Within.{within_operand, within_left, within_right, within_body}
 use Rattle.bk_wd.specs.Joining.{both, where_true, all_over}
 use Rattle.bk_wd.specs.Operands.{WhenMet, always_met, met_where_true, met_where_false, sides_asked}

@@ -10,7 +10,7 @@ use Rattle.bk_form.specs.declared.operator.UnOp.TheVariants.{Not, Min, Max, Dom,
 use Rattle.bk_form.specs.declared.operator.BinOp.{BinOp}
 use Rattle.bk_form.specs.declared.operator.BinOp.TheVariants.{And, Eq, Le, In, PartialFunctions, Times, Div, Mod, Power, Apply}
 use Rattle.bk_form.specs.declared.operator.Domain.TheVariants.{Integer, Bool as Booleans, Enum}
-use Rattle.bk_bind.specs.Lifting.{lifted}
+use Rattle.bk_form.specs.Lifting.{lifted}
 use Rattle.bk_wd.specs.Joining.{both, where_true, all_over}
 use Rattle.bk_wd.specs.Operands.{right_met, sides_asked, not_zero, has_remainder}
 

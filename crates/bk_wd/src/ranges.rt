@@ -5,7 +5,7 @@ ghost use Rattle.bk_form.specs.Formula.{bound, binary, formulas_of};
 ghost use Rattle.bk_form.specs.Role.{gives, role, roles, bind, element_type, element_types};
 ghost use Rattle.bk_form.specs.Replacement.{count};
 ghost use Rattle.bk_form.specs.declared.operator.BinOp.TheVariants.{In};
-ghost use Rattle.bk_bind.specs.Lifting.{lifted};
+ghost use Rattle.bk_form.specs.Lifting.{lifted};
 ghost use Rattle.bk_bind.specs.Limits.{IsWithinLimits};
 ghost use Rattle.bk_bind.specs.declared.error.BindFault.TheVariants.{TooLarge};
 ghost use Rattle.bk_wd.specs.WellDefined.{ranges_onto, in_ranges, all_in_ranges};

@@ -14,7 +14,7 @@ use Rattle.bk_form.specs.declared.operator.BinOp.TheVariants.{And, Imp, In, Part
 use Rattle.bk_form.proofs.Closed.{predicate-closed}
 use Rattle.bk_form.proofs.Replaced.{role-under}
 use Rattle.bk_bind.specs.Closing.{closed_over, all_closed_over, closed_over_each}
-use Rattle.bk_bind.specs.Lifting.{lifted, all_lifted}
+use Rattle.bk_form.specs.Lifting.{lifted, all_lifted}
 use Rattle.bk_bind.proofs.Raised.{count-types}
 use Rattle.bk_wd.specs.Joining.{both, where_true, all_over}
 use Rattle.bk_wd.specs.Operands.{WhenMet, always_met, met_where_true, met_where_false, right_met, sides_asked}

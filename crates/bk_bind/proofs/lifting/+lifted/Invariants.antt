@@ -1,6 +1,6 @@
 use Rattle.std.proofs.Common.{◌≡◌, ◌+◌, ◌*◌, take, map}
 use Rattle.bk_form.specs.Formula.{formula_size, formulas_size, formulas_of}
-use Rattle.bk_bind.specs.Lifting.{lifted}
+use Rattle.bk_form.specs.Lifting.{lifted}
 use Rattle.bk_bind.proofs.lifting.+lifted.Given as goal
 
 abbrev pub decreases-lifted : goal.decreases-lifted

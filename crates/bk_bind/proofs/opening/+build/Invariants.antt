@@ -1,7 +1,8 @@
 use Rattle.std.proofs.Common.{◌≡◌, ◌+◌, ◌*◌, [], take, map}
 use Rattle.bk_form.specs.Formula.{formula_size, formulas_size, formulas_of}
 use Rattle.bk_form.specs.Role.{bind}
-use Rattle.bk_bind.specs.Opening.{rebound, placed}
+use Rattle.bk_form.specs.Rebound.{rebound}
+use Rattle.bk_bind.specs.Opening.{placed}
 use Rattle.bk_bind.proofs.opening.+build.Given as goal
 
 abbrev pub decreases-build : goal.decreases-build

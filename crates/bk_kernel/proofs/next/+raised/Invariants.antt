@@ -1,6 +1,6 @@
 use Rattle.std.proofs.Common.{◌≡◌, ◌+◌, ◌*◌, take, map}
 use Rattle.bk_form.specs.Formula.{formula_size, formulas_size, formulas_of}
-use Rattle.bk_bind.specs.Opening.{rebound}
+use Rattle.bk_form.specs.Rebound.{rebound}
 use Rattle.bk_kernel.specs.Next.{raised}
 use Rattle.bk_kernel.proofs.next.+raised.Given as goal
 

@@ -1,7 +1,7 @@
 -- Formulas under more binders than before.
 use Rattle.std.specs.Prelude.{ℕ, ◌+◌, nat_lt, cond}
 use Rattle.bk_form.specs.Formula.{Formula, bound, Formulas}
-use Rattle.bk_bind.specs.Opening.{rebound, all_rebound}
+use Rattle.bk_form.specs.Rebound.{rebound, all_rebound}
 
 -- a bound number under n more binders, which stand outside the k of its own formula: a loose one goes up by n, any other stays
 abbrev pub shifted : ℕ → ℕ → ℕ → Formula

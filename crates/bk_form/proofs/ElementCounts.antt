@@ -1,5 +1,5 @@
--- How many members a set has: the set of some values has one more with a new value in front, and turns only on which values they are.
-use Rattle.std.proofs.Common.{◌≡◌, ◌⊎◌, inl, inr, refl, sym, ◌∙◌, ap, subst, Bool, true, false, ◌||◌, suc, length, List, [], ◌∷◌}
+-- How many elements a set has.
+use Rattle.std.proofs.Common.{◌≡◌, refl, sym, ◌∙◌, ap, subst, Bool, true, false, ◌||◌, suc, length, List, [], ◌∷◌}
 use Rattle.std.specs.BTreeSet.{insert_key}
 use Rattle.bk_val.specs.Value.{MathValue, value_cmp, IsStrictlySorted}
 use Rattle.bk_val.specs.Sets.{has, set_of}
@@ -7,10 +7,6 @@ use Rattle.bk_val.specs.CmpLaws.{value_cmp-equal, value_eq-self}
 use Rattle.bk_val.proofs.SortedLists.{by_rank}
 use Rattle.bk_val.proofs.Elements.{same_elements, sorted_set_of, has-set_of}
 use Rattle.bk_form.specs.Operators.{is_equal}
-
-true-or-false : (b : Bool) → (b ≡ true) ⊎ (b ≡ false)
-true-or-false true = inl refl
-true-or-false false = inr refl
 
 neither : (a b : Bool) → (a || b) ≡ false → (a ≡ false) × (b ≡ false)
 neither true b h = absurd (cc)
