@@ -3,6 +3,7 @@ pub mod ClosedValues
 pub mod Entries
 pub mod Narrow
 pub mod Faults
+pub mod StatedFacts
 pub mod Products
 pub mod AtomLists
 pub mod SideValues

@@ -1,5 +1,5 @@
 -- Which certificates prove a goal from hypotheses by linear arithmetic, and what is wrong with the others.
-use Rattle.std.specs.Prelude.{ℕ, Bool, if◌then◌else◌, List, [], ◌∷◌, ◌++◌, length, map, Option, Some, unwrap_or, is_none}
+use Rattle.std.specs.Prelude.{ℕ, Bool, if◌then◌else◌, List, [], ◌∷◌, ◌++◌, length, map, Option, Some, None, unwrap_or, is_none}
 use Rattle.std.specs.List.{list_any, flat_map, position_from}
 use Rattle.std.specs.Option.{option_or, option_map, some_prefix}
 use Rattle.bk_form.specs.Formula.{Formula}
@@ -26,6 +26,13 @@ terms_of hyps goal = flat_map (λ s. unwrap_or s []) (statements hyps goal)
 -- the facts as linear forms over all their atoms
 abbrev pub readings : List Formula → List (Option Inequality)
 readings terms = map (reading (atoms_of terms)) terms
+
+-- what is wrong with the facts alone, if anything is: the first formula that is no comparison, else that a fact is not read within
+-- 128 bits
+abbrev pub facts_fault : List Formula → Formula → Option ArithFault
+facts_fault hyps goal =
+    option_or (option_map NotLinear (first_unread hyps goal))
+    (if list_any is_none (readings (terms_of hyps goal)) then Some TooWide else None)
 
 -- what is wrong with facts and a certificate, if anything is: that a fact is not read within 128 bits, else the certificate's
 -- fault over the facts' linear forms

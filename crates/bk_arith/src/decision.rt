@@ -37,7 +37,7 @@ pub fn linear(alloc: Global, hyps: &[Form], goal: &Form, cert: &[Line]) -> Resul
 }
 
 // The facts of the hypotheses in order, then of the negated goal.
-fn stated_terms<'a>(
+pub(crate) fn stated_terms<'a>(
     alloc: Global,
     hyps: &'a [Form],
     goal: &'a Form,
@@ -82,7 +82,11 @@ fn check_terms(alloc: Global, terms: &[Term<'_>], cert: &[Line]) -> Result<(), A
     check_facts(alloc, &facts, atoms.len(), cert)
 }
 
-fn read_all(alloc: Global, terms: &[Term<'_>], atoms: &[Form]) -> Result<Vec<Fact>, ArithFault>
+pub(crate) fn read_all(
+    alloc: Global,
+    terms: &[Term<'_>],
+    atoms: &[Form],
+) -> Result<Vec<Fact>, ArithFault>
     ensures facts { IfOk result
         (λ fs. inequalities fs.items ≡ some_prefix (map (reading atoms.now) (map term_of terms.now))) }
     ensures all { OnOk result (list_any is_none (map (reading atoms.now) (map term_of terms.now)) ≡ false) }

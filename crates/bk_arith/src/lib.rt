@@ -11,10 +11,12 @@ pub mod laws;
 mod multiplying;
 mod occurrence;
 mod reading;
+mod stating;
 mod sum;
 
 pub use decision::linear;
 pub use error::ArithFault;
 pub use interval::cases;
 pub use multiplying::polynomial;
+pub use stating::{facts, is_comparison};
 pub use sum::closed;

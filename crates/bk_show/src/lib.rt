@@ -1,4 +1,4 @@
-//! Formulas as text that reads back as the same formulas.
+//! Formulas as text that reads back as the same formulas, and types as text.
 #![tactic(auto)]
 
 mod binder;
@@ -9,3 +9,4 @@ pub mod notation;
 mod ty;
 
 pub use form::show;
+pub use ty::show_type;

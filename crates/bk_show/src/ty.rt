@@ -1,12 +1,22 @@
 // The text of types.
 
-ghost use Rattle.std.specs.Prelude.{◌≡◌, ◌++◌, OnOk};
+ghost use Rattle.std.specs.Prelude.{◌≡◌, ◌++◌, IfOk, OnOk};
 ghost use Rattle.bk_show.specs.Items.{text_of};
 ghost use Rattle.bk_show.specs.Shown.{type_items};
 
 use crate::name::name_of_set;
 use bk_form::{Ty, TyView, VarTable};
 use bk_io::Memory;
+use std::alloc::Global;
+
+/// The text of a type, with the names of the table: `INTEGER`, `BOOL`, the name of a set, `(INTEGER * BOOL)`, `POW(INTEGER)`.
+pub fn show_type(alloc: Global, ty: &Ty, table: &VarTable) -> Result<Vec<u8>, Memory>
+    ensures { IfOk result (λ text. text.items ≡ text_of (type_items table.now ty.now)) }
+{
+    let mut out = Vec::new(alloc);
+    write_type(&mut out, table, ty)?;
+    Ok(out)
+}
 
 // Writes a type behind what is written.
 #[tactic(auto, using(crate::proofs::Written::types))]

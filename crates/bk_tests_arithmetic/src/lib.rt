@@ -6,4 +6,6 @@ mod arithmetic;
 #[cfg(test)]
 mod certificates;
 #[cfg(test)]
+mod facts;
+#[cfg(test)]
 mod polynomials;

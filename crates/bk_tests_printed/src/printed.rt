@@ -3,13 +3,15 @@
 use crate::drawing::write_predicate;
 use crate::draws::Draws;
 use crate::names::{LETTERS, scope, table};
-use crate::texts::{BINDERS, LACKING, LEAVES, OBLIGATIONS, ONE_OPERAND, PARENTHESES, TWO_OPERANDS};
-use bk_bracketed::{Unread, formula};
+use crate::texts::{
+    BINDERS, LACKING, LEAVES, OBLIGATIONS, ONE_OPERAND, PARENTHESES, TWO_OPERANDS, TYPES,
+};
+use bk_bracketed::{Unread, formula, type_of};
 use bk_form::Form;
 use bk_lex::tokens;
 use bk_p_expr::term;
 use bk_raw::RawTerm;
-use bk_show::show;
+use bk_show::{show, show_type};
 use std::alloc::Global;
 use std::process::Abort;
 use std::test::Fail;
@@ -85,6 +87,16 @@ fn what_the_table_lacks(rt: HostRuntime) -> Result<(), Fail> {
     for (written, wanted) in LACKING {
         let form = formula(rt.alloc(), LETTERS, written)?;
         assert!(rt; prints_as(rt.alloc(), &form, wanted)?, "{written}");
+    }
+    Ok(())
+}
+
+#[test]
+fn types(rt: HostRuntime) -> Result<(), Fail> {
+    let table = table(rt.alloc())?;
+    for (written, wanted) in TYPES {
+        let text = show_type(rt.alloc(), &type_of(rt.alloc(), written)?, &table)?;
+        assert!(rt; text.as_slice() == wanted.as_bytes(), "{wanted}");
     }
     Ok(())
 }

@@ -162,3 +162,13 @@ pub(crate) const LACKING: [(&str, &str); 3] = [
     ("( n : D )", "n$0 : "),
     ("( n = d0 )", "n$0 = "),
 ];
+
+// Types.
+pub(crate) const TYPES: [(&str, &str); 6] = [
+    ("i", "INTEGER"),
+    ("b", "BOOL"),
+    ("c", "COLOR"),
+    ("Pi", "POW(INTEGER)"),
+    ("Xib", "(INTEGER * BOOL)"),
+    ("PXPic", "POW((POW(INTEGER) * COLOR))"),
+];
