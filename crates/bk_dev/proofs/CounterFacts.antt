@@ -13,6 +13,7 @@ use Rattle.bk_dev.specs.Development.{Body, level_at, body_at}
 use Rattle.bk_gsl.specs.Typed.{IsTerm}
 use Rattle.bk_dev.specs.Facts.{AllAlike, is_constant, is_variable_of, is_inner_of, home_of, Names, names_constants, names_joined, names_own, writes_own, IsSubOf, IsBodyOf, IsLevelOf, IsHeadOf, IsDevelopment, IsLawful}
 use Rattle.bk_dev.specs.Counter.{reset_name, setmax_name, get_name, counter_table, setting, counter}
+use Rattle.bk_dev.proofs.HomesThere.{homes-stand}
 use Rattle.bk_dev.proofs.Levels.{two-levels}
 
 -- ---- what formulas name
@@ -36,7 +37,7 @@ names-bounds visible k v = record { closed = (tt, (tt, tt)); visible_only = λ n
 
 -- ---- the table
 pub table-facts : IsWellFormed counter_table
-table-facts = record { counted = λ k d h. absurd (omega (arith)); listed = listed; few_sets = omega (arith); few_variables = omega (arith) }
+table-facts = record { counted = λ k d h. absurd (omega (arith)); listed = listed }
   where
     listed : All (λ v. IsTrue (lists_type counter_table v.of_type)) counter_table.variables
     listed zero d h = refl
@@ -153,4 +154,6 @@ counter_facts = record {
   shapes = ((record { init = tt; bodies = (tt, (tt, (tt, tt))) }, (record { init = tt; bodies = (tt, (tt, (tt, tt))) }, tt)));
   binders_differ = (refl, (refl, tt));
   room = omega (arith);
+  few_sets = omega (arith);
+  homes_there = homes-stand 2 counter.homes refl;
 }

@@ -24,6 +24,7 @@ use Rattle.bk_dev.proofs.FlatLevels.{own-old}
 use Rattle.bk_dev.proofs.FlatSame.{arrays-same, clue-same, complete-same, declared-same, low-same}
 use Rattle.bk_dev.proofs.InTable.{at-home, binders-in, blank_head, low-vars}
 use Rattle.bk_dev.proofs.Levels.{head-at, last_level}
+use Rattle.bk_dev.proofs.Room.{flat-formed}
 
 -- ---- what is in B0 has no ||
 b0-flat : (dev : Development) (s : Substitution) → IsB0 dev s → IsFlat s
@@ -214,4 +215,4 @@ module _ (dev : Development) (f : IsLawful dev) (b : IsB0Development dev) (well 
       }
 
 pub flattened_stays_in_b0 : FlattenedStaysInB0
-flattened_stays_in_b0 dev f well b = flat-in-b0 dev f b well
+flattened_stays_in_b0 dev f b = flat-in-b0 dev f b (flat-formed dev f.table)

@@ -27,7 +27,7 @@ use Rattle.bk_gsl.proofs.Reading.{among-cases}
 use Rattle.bk_form.proofs.Widening.{variable-wider}
 use Rattle.bk_gsl.proofs.WiderRuns.{predicate-wider, term-wider, types-wider}
 use Rattle.bk_dev.proofs.Flattening.{flat-flat, flat-loops, RangeIs, flat-binders, CopiesAt, copies-left, copies-right, flat-types, flat-stays}
-use Rattle.bk_dev.proofs.Room.{development-formed}
+use Rattle.bk_dev.proofs.Room.{flat-formed, development-formed}
 use Rattle.std.specs.Option.{option_map}
 use Rattle.bk_dev.proofs.FlatSame.{levels-many}
 
@@ -418,7 +418,7 @@ only-last dev only k h =
 
 pub flattened_lawful : FlattenedIsLawful
 flattened_lawful = record {
-  lawful = λ dev f well. lawful dev f well;
+  lawful = λ dev f. lawful dev f (flat-formed dev f.table);
   flat = flattened-flat;
   every = λ dev d. lawful dev d.lawful (development-formed dev d);
   only_last = only-last;

@@ -19,6 +19,7 @@ use Rattle.bk_dev.proofs.Levels.{level_fact, body-at, head-at}
 use Rattle.bk_dev.proofs.Flattening.{CopiesAt, copies-left, copies-right}
 use Rattle.bk_dev.proofs.FlatRuns.{Below, runs-flat-back}
 use Rattle.bk_dev.proofs.FlatLevels.{wider, own-old, within, listed, copies-typed, passes-within}
+use Rattle.bk_dev.proofs.Room.{flat-formed}
 
 -- where the copies of a body, or of a level, begin
 body-place : (table : Table) (old : ℕ) (bs : List Body) (j : ℕ) → old ≤ j → CopiesAt table j (copied_in_bodies bs) → (o : ℕ) →
@@ -84,4 +85,7 @@ module _ (find : Finder) (dev : Development) (f : IsLawful dev) (well : IsWellFo
       sub-runs k (slice_index_or dev.heads o no_head).inputs (body_at dev k o).outputs x.inputs b.outputs (body_at dev k o).sub b.sub place.0 place.2 place.3 e g (subst (λ y. Runs find wide y e g) there r)
 
 pub flattened_runs : FlattenedRuns
-flattened_runs = record { init = λ find dev f well k h e g r. init-runs find dev f well k h e g r; operations = λ find dev f well k h o m e g r. body-runs find dev f well k h o m e g r }
+flattened_runs = record {
+  init = λ find dev f k h e g r. init-runs find dev f (flat-formed dev f.table) k h e g r;
+  operations = λ find dev f k h o m e g r. body-runs find dev f (flat-formed dev f.table) k h o m e g r;
+}

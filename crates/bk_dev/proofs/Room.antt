@@ -1,5 +1,5 @@
--- The table with all copies is well-formed where 32 bits number its variables.
-use Rattle.std.proofs.Common.{◌≡◌, ℕ, zero, suc, List, [], ◌∷◌, refl, subst, All, IsTrue, arith, Some, None, Option, ◌<◌, ◌^◌, length}
+-- The table with all copies is well-formed; numbers of 32 bits reach all variables.
+use Rattle.std.proofs.Common.{◌≡◌, ℕ, zero, suc, List, [], ◌∷◌, ◌++◌, refl, subst, All, IsTrue, arith, Some, None, Option, ◌<◌, ◌≤◌, ◌^◌, length, length-append}
 use Rattle.std.specs.Prelude.{slice_get}
 use Rattle.std.specs.List.{filter_map, cons_option}
 use Rattle.std.proofs.lemmas.List.Elements.{All-nil, All-cons, All-head, All-tail, All-append}
@@ -22,13 +22,17 @@ module _ {A : Type 0} (P : A → Type 0) where
       by_entry rest None q = rest
       by_entry rest (Some x) q = All-cons P x (filter_map (slice_get xs) ns) (at-all xs h n x q) rest
 
-pub flat-formed : (dev : Development) → IsWellFormed dev.table → length (flattened dev).table.variables < 2 ^ 32 → IsWellFormed (flattened dev).table
-flat-formed dev w room = record {
+pub flat-formed : (dev : Development) → IsWellFormed dev.table → IsWellFormed (flattened dev).table
+flat-formed dev w = record {
   counted = w.counted;
   listed = All-append (λ v. IsTrue (lists_type dev.table v.of_type)) dev.table.variables (filter_map (slice_get dev.table.variables) (copied_in_levels dev.levels)) w.listed (picked-all (λ v. IsTrue (lists_type dev.table v.of_type)) dev.table.variables w.listed (copied_in_levels dev.levels));
-  few_sets = w.few_sets;
-  few_variables = omega (arith, room);
 }
 
 pub development-formed : (dev : Development) → IsDevelopment dev → IsWellFormed (flattened dev).table
-development-formed dev d = flat-formed dev d.lawful.table d.room
+development-formed dev d = flat-formed dev d.lawful.table
+
+-- those of the development itself
+pub few-variables : (dev : Development) → IsDevelopment dev → length dev.table.variables ≤ 2 ^ 32
+few-variables dev d =
+    let room : length (dev.table.variables ++ filter_map (slice_get dev.table.variables) (copied_in_levels dev.levels)) < 2 ^ 32 = d.room in
+    omega (arith, room, length-append dev.table.variables (filter_map (slice_get dev.table.variables) (copied_in_levels dev.levels)))

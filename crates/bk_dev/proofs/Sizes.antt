@@ -1,5 +1,5 @@
 -- Developments whose sets get sizes.
-use Rattle.std.proofs.Common.{◌≡◌, ℕ, zero, suc, ◌<◌, ◌+◌, pos, List, [], ◌∷◌, ◌++◌, refl, sym, ◌∙◌, ap, subst, true, false, Bool, arith}
+use Rattle.std.proofs.Common.{◌≡◌, ℕ, zero, suc, ◌<◌, ◌≤◌, ◌^◌, ◌+◌, pos, List, [], ◌∷◌, ◌++◌, length, refl, sym, ◌∙◌, ap, subst, true, false, Bool, arith}
 use Rattle.std.specs.Prelude.{Option, Some, slice_get}
 use Rattle.std.specs.Option.{option_map_or}
 use Rattle.bk_val.specs.Value.{int}
@@ -18,7 +18,7 @@ use Rattle.bk_form.specs.Wider.{IsTypedRole}
 use Rattle.bk_form.specs.Sized.{sized_from, with_sizes, AreSizes}
 use Rattle.bk_form.specs.declared.operator.UnOp.TheVariants.{Card}
 use Rattle.bk_form.specs.declared.operator.Domain.TheVariants.{Enum}
-use Rattle.bk_form.proofs.Sizing.{role-sized, well-sized, sized-whole, sizes_fit, sets_are_counted}
+use Rattle.bk_form.proofs.Sizing.{role-sized, sized-length, well-sized, sized-whole, sizes_fit, sets_are_counted}
 use Rattle.bk_gsl.specs.Substitution.{Substitution, skip, assign, pre, guard, choice, if_else, any, seq, par, assert, becomes_such, loop}
 use Rattle.bk_gsl.specs.Typed.{IsTerm, AreTypedTerms, Types}
 use Rattle.bk_dev.specs.Development.{Head, Body, Level, Development, level_at, is_complete, with_set_sizes}
@@ -148,6 +148,8 @@ module _ (sizes : ℕ → ℕ) (dev : Development) where
     shapes = d.shapes;
     binders_differ = d.binders_differ;
     room = d.room;
+    few_sets = subst (λ n. n ≤ 2 ^ 32) (sym (sized-length sizes 0 dev.table.sets)) d.few_sets;
+    homes_there = d.homes_there;
   }
 
   pub development-whole : IsDevelopment dev → is_complete dev ≡ true → sized ≡ dev

@@ -22,6 +22,7 @@ use Rattle.bk_dev.proofs.CounterFacts.{names-none, names-number, names-one, firs
 use Rattle.bk_dev.specs.Claims.{Carries, Answered}
 use Rattle.bk_dev.specs.Uncarried.{turning, is_five, eager, one_after_the_other}
 use Rattle.bk_dev.specs.Laws.{AreNotCarried}
+use Rattle.bk_dev.proofs.HomesThere.{homes-stand}
 use Rattle.bk_dev.proofs.Levels.{two-levels}
 
 -- ---- they are developments
@@ -105,6 +106,8 @@ module _ (above below : Substitution) where
     shapes = (record { init = tt; bodies = (machine, tt) }, (record { init = tt; bodies = (implementation, tt) }, tt));
     binders_differ = differ;
     room = room;
+    few_sets = omega (arith);
+    homes_there = homes-stand 2 (turning above below).homes refl;
   }
 
 names-five : (visible : ℕ → Bool) (k : ℕ) → visible k ≡ true → Names visible (is_five k)

@@ -8,7 +8,8 @@ use Rattle.bk_gsl.specs.Substitution.{Substitution}
 use Rattle.bk_gsl.specs.State.{holds}
 use Rattle.bk_gsl.specs.Run.{Runs, Ends}
 use Rattle.bk_gsl.specs.Clean.{Clean}
-use Rattle.bk_dev.specs.Development.{Development, level_at, body_at, is_implementation, whole}
+use Rattle.bk_dev.specs.Development.{Development, level_at, body_at, last, is_implementation, whole}
+use Rattle.bk_dev.specs.Facts.{AreDistinct, seconds}
 use Rattle.bk_dev.specs.Flattened.{flattened}
 use Rattle.bk_dev.specs.Hypotheses.{properties_of, joining, init_hypotheses, unasserted_hypotheses}
 use Rattle.bk_form.specs.Predicates.{AllHold, equation}
@@ -62,6 +63,25 @@ pub record CarriesFlat (find : Finder) (dev : Development) (j : ℕ) : Type 0 wh
 abbrev pub Carries : Finder → Development → ℕ → Type 0
 Carries find dev j = CarriesFlat find (flattened dev) j
 
+-- ---- from equal values
+-- level suc j carries level j from states in which the outputs of both have the same values, and at the start linked variables: a body
+-- that does not set an output leaves it as it was, below and above
+pub record CarriesFromEqual (find : Finder) (dev : Development) (j : ℕ) : Type 0 where
+  pub init : (e : State) → IsTypedState dev.table e → AllHold find (at_state dev.table e) (init_hypotheses dev (suc j)) →
+      AllHold find (at_state dev.table e) (map equation (level_at dev (suc j)).links) →
+      Establishes find dev (suc j) (level_at dev (suc j)).init e (Answered find dev (suc j) (level_at dev j).init [] [])
+  pub operations : (o : ℕ) → o < length dev.heads → (e : State) → IsTypedState dev.table e →
+      AllHold find (at_state dev.table e) (unasserted_hypotheses dev (suc j) o) →
+      AllHold find (at_state dev.table e) (map equation (beside (body_at dev (suc j) o).outputs (body_at dev j o).outputs)) →
+      Establishes find dev (suc j) (whole (body_at dev (suc j) o)) e
+      (Answered find dev (suc j) (body_at dev j o).sub (body_at dev (suc j) o).outputs (body_at dev j o).outputs)
+
+-- so the last level does, and no two of its variables are linked to one
+pub record LastCarriesFromEqual (find : Finder) (dev : Development) : Type 0 where
+  pub carries : (j : ℕ) → suc j ≡ last dev → CarriesFromEqual find dev j
+  pub apart : AreDistinct (seconds (level_at dev (last dev)).links)
+
+-- ---- values
 -- the constants' values meet all properties
 abbrev pub ValuesMeet : Finder → Development → Type 0
 ValuesMeet find dev = (e : State) → IsTypedState dev.table e → HasValues find dev e → AllHold find (at_state dev.table e) (properties_of dev (length dev.levels))

@@ -1,5 +1,5 @@
 -- What holds of every development: its numbers name entries, its formulas type, and names stay where they may stand.
-use Rattle.std.specs.Prelude.{◌≡◌, ◌⊎◌, ◌<◌, ℕ, suc, nat_eq, pos, ◌-ℤ◌, ◌≤ℤ◌, Bool, true, false, not, ◌||◌, List, [], ◌∷◌, ◌++◌, length, Option, Some, ◌^◌}
+use Rattle.std.specs.Prelude.{◌≡◌, ◌⊎◌, ◌<◌, ◌≤◌, ℕ, suc, nat_eq, pos, ◌-ℤ◌, ◌≤ℤ◌, Bool, true, false, not, ◌||◌, List, [], ◌∷◌, ◌++◌, length, Option, Some, ◌^◌}
 use Rattle.std.specs.List.{slice_get, flat_map}
 use Rattle.bk_val.specs.ValueType.{ValueType}
 use Rattle.bk_form.specs.Table.{Table, variable_type, IsWellFormed}
@@ -42,9 +42,20 @@ abbrev pub is_inner_of : ℕ → Option Home → Bool
 is_inner_of k (Some (Inner j)) = nat_eq j k
 is_inner_of k _ = false
 
+-- a home's level is one of the first k
+abbrev pub StandsBelow : ℕ → Option Home → Type 0
+StandsBelow k (Some (Abstract j)) = j < k
+StandsBelow k (Some (Concrete j)) = j < k
+StandsBelow k (Some (Inner j)) = j < k
+StandsBelow k _ = Unit {0}
+
 -- where variable n of the table is at home
 abbrev pub home_of : Development → ℕ → Option Home
 home_of dev n = slice_get dev.homes n
+
+-- each variable that is at home at a level is at home at one that is there
+abbrev pub HomesAreThere : Development → Type 0
+HomesAreThere dev = (n : ℕ) → StandsBelow (length dev.levels) (home_of dev n)
 
 -- each of these variables passes the test
 abbrev pub AllAre : (ℕ → Bool) → List ℕ → Type 0
@@ -328,3 +339,6 @@ pub record IsDevelopment (dev : Development) : Type 0 where
   pub binders_differ : AreDistinct (all_outputs dev ++ all_binders dev)
   -- 32 bits number all its variables and all copies that flattening makes, and leave a number for the variant of a loop
   pub room : length (flattened dev).table.variables < 2 ^ 32
+  -- and all its sets
+  pub few_sets : length dev.table.sets ≤ 2 ^ 32
+  pub homes_there : HomesAreThere dev

@@ -1,5 +1,5 @@
 -- What holds of developments, and what a small machine reaches, as statements.
-use Rattle.std.specs.Prelude.{◌≡◌, ◌↔◌, pos, true, List, [], ◌∷◌, ◌<◌, ℕ, length}
+use Rattle.std.specs.Prelude.{◌≡◌, ◌↔◌, pos, true, List, [], ◌∷◌, ◌<◌, ◌≤◌, ℕ, suc, length}
 use Rattle.bk_val.specs.Value.{MathValue, int}
 use Rattle.bk_form.specs.Search.{Finder}
 use Rattle.bk_dev.specs.Facts.{IsDevelopment, IsFlatDevelopment, IsLawful, LastIsFlat, OnlyLastIsImplementation}
@@ -10,13 +10,13 @@ use Rattle.bk_dev.specs.Hypotheses.{size_equations}
 use Rattle.bk_form.specs.Predicates.{AllHold}
 use Rattle.bk_form.specs.Environment.{Environment}
 use Rattle.bk_form.specs.Sized.{AreSizes}
-use Rattle.bk_form.specs.Table.{IsWellFormed}
 use Rattle.bk_gsl.specs.Run.{Runs}
 use Rattle.bk_form.specs.Environment.{State}
 use Rattle.bk_dev.specs.B0.{IsB0Development}
 use Rattle.bk_dev.specs.Layout.{arrays_of, cell_count, cell_of, cells_of}
 use Rattle.bk_dev.specs.Flattened.{flattened}
-use Rattle.bk_dev.specs.Claims.{Carries}
+use Rattle.bk_dev.specs.Claims.{CarriesFlat, Carries, CarriesFromEqual, LastCarriesFromEqual}
+use Rattle.bk_dev.specs.Climbing.{IsKept, StartsCall, IsCalled, StartsOpening, IsOpened}
 use Rattle.bk_dev.specs.Uncarried.{eager, one_after_the_other}
 
 -- the counter is a development
@@ -37,18 +37,21 @@ pub record LegalWhere : Type 0 where
   pub not_allowed : (find : Finder) → Legal find forbidden (setmax ∷ []) [] → ⊥
 
 -- ---- flat developments
--- the flattened of a lawful development is lawful, where 32 bits still number its variables, and no || is left
+-- the flattened of a lawful development is lawful, and no || is left
 pub record FlattenedIsLawful : Type 0 where
-  pub lawful : (dev : Development) → IsLawful dev → IsWellFormed (flattened dev).table → IsLawful (flattened dev)
+  pub lawful : (dev : Development) → IsLawful dev → IsLawful (flattened dev)
   pub flat : (dev : Development) → IsFlatDevelopment (flattened dev)
   -- so the flattened of every development is lawful
   pub every : (dev : Development) → IsDevelopment dev → IsLawful (flattened dev)
   pub only_last : (dev : Development) → OnlyLastIsImplementation dev → OnlyLastIsImplementation (flattened dev)
 
--- what the flattened of a development runs, over the table with all copies, the development runs over its own, from the same state to the same
+-- what the flattened of a development runs, over the table with all copies, the development runs over its own, from the same state to
+-- the same
 pub record FlattenedRuns : Type 0 where
-  pub init : (find : Finder) (dev : Development) → IsLawful dev → IsWellFormed (flattened dev).table → (k : ℕ) → k < length dev.levels → (e g : State) → Runs find (flattened dev).table (level_at (flattened dev) k).init e g → Runs find dev.table (level_at dev k).init e g
-  pub operations : (find : Finder) (dev : Development) → IsLawful dev → IsWellFormed (flattened dev).table → (k : ℕ) → k < length dev.levels → (o : ℕ) → o < length dev.heads → (e g : State) → Runs find (flattened dev).table (body_at (flattened dev) k o).sub e g → Runs find dev.table (body_at dev k o).sub e g
+  pub init : (find : Finder) (dev : Development) → IsLawful dev → (k : ℕ) → k < length dev.levels → (e g : State) →
+      Runs find (flattened dev).table (level_at (flattened dev) k).init e g → Runs find dev.table (level_at dev k).init e g
+  pub operations : (find : Finder) (dev : Development) → IsLawful dev → (k : ℕ) → k < length dev.levels → (o : ℕ) → o < length dev.heads →
+      (e g : State) → Runs find (flattened dev).table (body_at (flattened dev) k o).sub e g → Runs find dev.table (body_at dev k o).sub e g
 
 -- where no || stands in the last level, flattening leaves it as it was, with its arrays and its cells
 pub record FlattenedKeepsCells : Type 0 where
@@ -59,7 +62,7 @@ pub record FlattenedKeepsCells : Type 0 where
 
 -- a development in B0 is in B0 after flattening
 abbrev pub FlattenedStaysInB0 : Type 0
-FlattenedStaysInB0 = (dev : Development) → IsLawful dev → IsWellFormed (flattened dev).table → IsB0Development dev → IsB0Development (flattened dev)
+FlattenedStaysInB0 = (dev : Development) → IsLawful dev → IsB0Development dev → IsB0Development (flattened dev)
 
 -- ---- what must not carry
 -- an implementation that runs where the machine does not end, and one that takes || as ;: both are developments
@@ -68,6 +71,17 @@ pub record AreNotCarried : Type 0 where
   pub eager : (find : Finder) → Carries find eager 0 → ⊥
   pub other_facts : IsDevelopment one_after_the_other
   pub one_after_the_other : (find : Finder) → Carries find one_after_the_other 0 → ⊥
+
+-- ---- runs of the last level
+-- where each level carries the one above from equal values, a call of the last level's body is one of the machine's
+abbrev pub CallsClimb : Type 0
+CallsClimb = (find : Finder) (dev : Development) → IsKept find dev → ((j : ℕ) → suc j ≤ last dev → CarriesFromEqual find dev j) →
+    (o : ℕ) → o < length dev.heads → (e : State) → StartsCall find dev o e → IsCalled find dev o e
+
+-- so is its initialisation, where the levels above carry from all states
+abbrev pub OpeningsClimb : Type 0
+OpeningsClimb = (find : Finder) (dev : Development) → IsKept find dev → ((j : ℕ) → suc j < last dev → CarriesFlat find dev j) →
+    LastCarriesFromEqual find dev → (e : State) → StartsOpening find dev e → IsOpened find dev e
 
 -- ---- sizes of sets
 -- what sizes leave of developments

@@ -8,6 +8,7 @@ pub mod B0
 pub mod Facts
 pub mod Machine
 pub mod Claims
+pub mod Climbing
 pub mod Counter
 pub mod Laws
 pub mod Uncarried

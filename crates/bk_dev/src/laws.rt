@@ -1,6 +1,6 @@
 //! What holds of developments, and what a small machine reaches. Each law is the contract of a function that does nothing.
 
-ghost use Rattle.bk_dev.specs.Laws.{CounterIsDevelopment, ReachesTen, AnswersTen, LegalWhere, FlattenedIsLawful, FlattenedRuns, FlattenedKeepsCells, FlattenedStaysInB0, SizesKeepDevelopments, SizesHold, AreNotCarried};
+ghost use Rattle.bk_dev.specs.Laws.{CounterIsDevelopment, ReachesTen, AnswersTen, LegalWhere, FlattenedIsLawful, FlattenedRuns, FlattenedKeepsCells, FlattenedStaysInB0, CallsClimb, OpeningsClimb, SizesKeepDevelopments, SizesHold, AreNotCarried};
 
 /// A counter, to be checked by hand.
 pub fn counter()
@@ -21,6 +21,12 @@ pub fn flat_developments()
 /// Two developments whose implementations do not carry their machines.
 pub fn not_carried()
     ensures { AreNotCarried }
+{}
+
+/// Where the levels carry, runs of the last level's bodies and of its initialisation are runs of the machine's.
+pub fn last_level()
+    ensures calls { CallsClimb }
+    ensures openings { OpeningsClimb }
 {}
 
 /// A development stays one whatever sizes its deferred sets get, and what is said of the sizes is true.

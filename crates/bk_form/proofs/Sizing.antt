@@ -166,8 +166,6 @@ well-sized sizes table w =
     record {
       counted = all-counted sizes 0 table.sets w.counted;
       listed = subst (λ n. All (λ (v : VariableEntry). IsTrue (is_among_sets n v.of_type)) table.variables) (sym same) w.listed;
-      few_sets = subst (λ n. Rattle.std.specs.Prelude.◌≤◌ n (Rattle.std.specs.Prelude.◌^◌ 2 32)) (sym same) w.few_sets;
-      few_variables = w.few_variables;
     }
 
 pub sizes_fit : SizesFit

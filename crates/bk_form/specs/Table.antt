@@ -78,9 +78,12 @@ lists_type t s = is_among_sets (length t.sets) s
 abbrev pub IsCounted : SetEntry → Type 0
 IsCounted s = (s.elements ≡ []) ⊎ (s.size ≡ length s.elements)
 
--- each enumerated set has as many elements as names, the types of the variables have only listed sets, and numbers of 32 bits reach all
+-- each enumerated set has as many elements as names, and the types of the variables have only listed sets
 pub record IsWellFormed (t : Table) : Type 0 where
   pub counted : All IsCounted t.sets
   pub listed : All (λ v. IsTrue (lists_type t v.of_type)) t.variables
+
+-- numbers of 32 bits reach all sets and all variables
+pub record IsNumberable (t : Table) : Type 0 where
   pub few_sets : length t.sets ≤ 2 ^ 32
   pub few_variables : length t.variables ≤ 2 ^ 32

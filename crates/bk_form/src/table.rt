@@ -2,7 +2,7 @@
 
 ghost use Rattle.std.specs.Prelude.{◌≡◌, ◌<◌, ◌^◌, length, Some, IfOk, IfSome, OnOk, OnErr, IsTrue};
 ghost use Rattle.std.specs.Option.{option_copied, option_map};
-ghost use Rattle.bk_form.specs.Table.{empty_table, with_set, with_variable, set_name, set_elements, listed_size, variable_text, variable_type, lists_type, IsCounted, IsWellFormed};
+ghost use Rattle.bk_form.specs.Table.{empty_table, with_set, with_variable, set_name, set_elements, listed_size, variable_text, variable_type, lists_type, IsCounted, IsWellFormed, IsNumberable};
 
 use crate::ty::Ty;
 use bk_io::{Memory, Text};
@@ -79,7 +79,7 @@ pub struct VarTable {
 }
 
 impl Model for VarTable {
-    ghost use Rattle.bk_form.specs.Table.{Table, IsWellFormed};
+    ghost use Rattle.bk_form.specs.Table.{Table, IsWellFormed, IsNumberable};
     ghost use Rattle.bk_form.specs.TableCodes.{coded_table};
 
     ghost Value = { Table };
@@ -88,7 +88,8 @@ impl Model for VarTable {
 
     ghost view = { λ t. record { sets = t.sets.items; variables = t.variables.items } };
 
-    ghost invariant = { λ t. IsWellFormed (record { sets = t.sets.items; variables = t.variables.items }) };
+    ghost invariant = { λ t. IsWellFormed (record { sets = t.sets.items; variables = t.variables.items }) ×
+        IsNumberable (record { sets = t.sets.items; variables = t.variables.items }) };
 }
 
 impl VarTable {
@@ -112,7 +113,11 @@ impl VarTable {
         ensures err { OnErr result (self.new ≡ self.old) }
     {
         let number = self.sets.len() as u32;
-        self.sets.push(SetRow { name, elements, size })?;
+        self.sets.push(SetRow {
+            name,
+            elements,
+            size,
+        })?;
         Ok(number)
     }
 
@@ -133,6 +138,7 @@ impl VarTable {
     pub fn sets(&self) -> usize
         ensures value { result ≡ length self.now.sets }
         ensures facts { IsWellFormed self.now }
+        ensures few { IsNumberable self.now }
     {
         self.sets.len()
     }
@@ -141,6 +147,7 @@ impl VarTable {
     pub fn variables(&self) -> usize
         ensures value { result ≡ length self.now.variables }
         ensures facts { IsWellFormed self.now }
+        ensures few { IsNumberable self.now }
     {
         self.variables.len()
     }

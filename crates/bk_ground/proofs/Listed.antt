@@ -80,6 +80,4 @@ pub widened_is_well_formed : WidenedIsWellFormed
 widened_is_well_formed table dev s w few = record {
   counted = w.counted;
   listed = All-append (IsListed table) table.variables (filter_map (entry_for (type_of table dev s)) (new_names table dev s)) w.listed (all-listed table (type_scope table dev s) (new_names table dev s));
-  few_sets = w.few_sets;
-  few_variables = few;
 }

@@ -3,7 +3,7 @@ use Rattle.std.proofs.Common.{◌≡◌, List, [], ◌++◌, refl, sym, ap, subs
 use Rattle.std.specs.Prelude.{Option, None, Some, ℤ}
 use Rattle.bk_form.specs.Each.{Each}
 use Rattle.bk_dev.specs.Development.{Development, is_complete, is_implementing, int_max as machine_max}
-use Rattle.bk_dev.specs.Facts.{IsValue, HasItsValues, IsDevelopment}
+use Rattle.bk_dev.specs.Facts.{IsValue, HasItsValues, IsDevelopment, HomesAreThere}
 use Rattle.bk_raw.specs.declared.component.ComponentKind.{ComponentKind}
 use Rattle.bk_raw.specs.declared.component.ComponentKind.TheVariants.{Machine, Refinement, Implementation}
 use Rattle.bk_raw.specs.ComponentTree.{RawComponent}
@@ -18,7 +18,6 @@ use Rattle.bk_level.specs.OperationFaults.{operation_faults}
 use Rattle.bk_level.specs.StaticFaults.{init_faults, all_body_faults, static_faults}
 use Rattle.bk_level.specs.ValueFaults.{value_faults_of}
 use Rattle.bk_level.specs.Executable.{executable_faults}
-use Rattle.bk_level.specs.LevelLaws.{HomesStandInLevels}
 use Rattle.bk_level.specs.Verdict.{accepted, verdict_of}
 use Rattle.bk_level.specs.VerdictLaws.{MayStandAbove, HasRoom, AcceptedIsDevelopment}
 use Rattle.bk_level.proofs.Verdicts.{answer-right}
@@ -27,7 +26,7 @@ use Rattle.bk_level.proofs.LowerStands.{ready-above, lower-development, refineme
 use Rattle.bk_level.proofs.ValuesStand.{values-stand}
 
 -- an implementation below a development
-pub implementation-accepted : (above : Development) (written : RawComponent) (dev : Development) → IsDevelopment above → is_complete above ≡ false → HomesStandInLevels above → written.kind ≡ Implementation → verdict_of (machine_max above) (Some above) written ≡ accepted dev → HasRoom dev → IsDevelopment dev
+pub implementation-accepted : (above : Development) (written : RawComponent) (dev : Development) → IsDevelopment above → is_complete above ≡ false → HomesAreThere above → written.kind ≡ Implementation → verdict_of (machine_max above) (Some above) written ≡ accepted dev → HasRoom dev → IsDevelopment dev
 implementation-accepted above written dev d going stand kind e room =
     let comp = component_of written in
     let most = machine_max above in
@@ -46,7 +45,7 @@ implementation-accepted above written dev d going stand kind e room =
     let valued = values-stand above comp (ready-above above d.lawful) implements values-none in
     subst IsDevelopment (sym right.2) (lower-development most above comp d going stand below none (subst HasRoom right.2 room) valued.0 (subst (HasItsValues (made most above comp p)) (sym implements) valued.1))
 
-by-kind : (kind : ComponentKind) (above : Option Development) (written : RawComponent) (dev : Development) → written.kind ≡ kind → MayStandAbove kind above → HomesStandInLevels (above_of above) → verdict_of (machine_max (above_of above)) above written ≡ accepted dev → HasRoom dev → IsDevelopment dev
+by-kind : (kind : ComponentKind) (above : Option Development) (written : RawComponent) (dev : Development) → written.kind ≡ kind → MayStandAbove kind above → HomesAreThere (above_of above) → verdict_of (machine_max (above_of above)) above written ≡ accepted dev → HasRoom dev → IsDevelopment dev
 by-kind Machine None written dev kind m stand e room = machine-accepted (machine_max (above_of None)) written dev kind e room
 by-kind Machine (Some above) written dev kind m stand e room = absurd m
 by-kind Refinement None written dev kind m stand e room = absurd m

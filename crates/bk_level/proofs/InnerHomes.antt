@@ -7,13 +7,13 @@ use Rattle.bk_gsl.specs.State.{among}
 use Rattle.bk_dev.specs.declared.kind.Home.{Home}
 use Rattle.bk_dev.specs.declared.kind.Home.TheVariants.{Constant, Input, Abstract, Concrete, Inner}
 use Rattle.bk_dev.specs.Development.{Development}
-use Rattle.bk_dev.specs.Facts.{AllAre, is_variable_of, is_inner_of, is_constant, home_of}
+use Rattle.bk_dev.specs.Facts.{AllAre, is_variable_of, is_inner_of, is_constant, home_of, StandsBelow, HomesAreThere}
 use Rattle.bk_level.specs.Components.{Component, is_machine, initialisation}
 use Rattle.bk_level.specs.Typings.{interval}
 use Rattle.bk_level.specs.Binders.{binder_count, binder_texts}
 use Rattle.bk_level.specs.Plan.{Plan, plan, input_count, output_count}
 use Rattle.bk_level.specs.LevelOf.{homes_as, variable_homes, new_homes, input_texts, output_texts, bound_texts, made}
-use Rattle.bk_level.specs.LevelLaws.{body_count, StandsBelow, HomesStandInLevels}
+use Rattle.bk_level.specs.LevelLaws.{body_count}
 use Rattle.bk_level.proofs.Counted.{length-join, join-count, outputs-count, binder-count, bodies-count, inputs-count}
 use Rattle.bk_level.proofs.Stands.{get-left, get-right, split-at}
 use Rattle.bk_level.proofs.Homes.{as-count, variables-count, input-homes, as-home, IsHomeOf, IsInside, old-home, new-home, constant-home, variable-home, inside-home}
@@ -101,7 +101,7 @@ module _ (int_max : ℤ) (higher : Development) (comp : Component) (homes-so : l
   not-old (Some (Concrete j)) h e = let l : j < p.level = h in let k : j ≡ p.level = nat_eq-then j p.level e in omega arith
 
   -- no other variable is at home at the level, where those above are at home at levels above
-  pub no-others : HomesStandInLevels higher → (n : ℕ) → is_variable_of p.level (home_of new n) ≡ true → among (interval p.variables_at (length p.variables)) n ≡ true
+  pub no-others : HomesAreThere higher → (n : ℕ) → is_variable_of p.level (home_of new n) ≡ true → among (interval p.variables_at (length p.variables)) n ≡ true
   no-others stand n h =
       let In = among (interval p.variables_at (length p.variables)) n ≡ true in
       split-at In n base (λ a. absurd (not-old (home_of higher n) (stand n) (sym (ap (is_variable_of p.level) (old-home int_max higher comp homes-so n a)) ∙ h)))

@@ -11,7 +11,7 @@ use Rattle.bk_gsl.specs.State.{among}
 use Rattle.bk_dev.specs.declared.kind.Kind.{Kind}
 use Rattle.bk_dev.specs.declared.kind.Kind.TheVariants.{Machine, Refinement, Implementation}
 use Rattle.bk_dev.specs.Development.{Head, Body, Level, Development, level_at, last, blank_level, is_complete, is_implementation, is_implementing}
-use Rattle.bk_dev.specs.Facts.{AllAre, AreDistinct, binders, is_variable_of, is_variable_above, is_inner_of, home_of, EachBody, EachLevel, IsKindAt, IsHeadOf, IsLevelOf, IsValue, HasItsValues, HasItsShape, all_binders, all_outputs, IsLawful, IsDevelopment}
+use Rattle.bk_dev.specs.Facts.{AllAre, AreDistinct, binders, is_variable_of, is_variable_above, is_inner_of, home_of, EachBody, EachLevel, IsKindAt, IsHeadOf, IsLevelOf, IsValue, HasItsValues, HasItsShape, all_binders, all_outputs, IsLawful, IsDevelopment, HomesAreThere}
 use Rattle.bk_dev.proofs.FlatLevels.{passes-within}
 use Rattle.bk_dev.proofs.Levels.{last_level}
 use Rattle.bk_dev.proofs.Staying.{all-at}
@@ -29,7 +29,7 @@ use Rattle.bk_level.specs.OperationFaults.{operation_faults}
 use Rattle.bk_level.specs.StaticFaults.{init_faults, all_body_faults, static_faults}
 use Rattle.bk_level.specs.ValueFaults.{value_faults_of}
 use Rattle.bk_level.specs.Executable.{executable_faults}
-use Rattle.bk_level.specs.LevelLaws.{IsReady, StandApart, HomesStandInLevels}
+use Rattle.bk_level.specs.LevelLaws.{IsReady, StandApart}
 use Rattle.bk_level.specs.Sources.{ListsItsTypes}
 use Rattle.bk_level.specs.Verdict.{accepted, verdict_of}
 use Rattle.bk_level.specs.VerdictLaws.{HasRoom, AcceptedRefinementIsDevelopment}
@@ -39,10 +39,10 @@ use Rattle.bk_level.proofs.Listed.{of_entry, variable-entry}
 use Rattle.bk_level.proofs.Stands.{get-left, get-right, split-at, stands}
 use Rattle.bk_level.proofs.Homes.{homes-all}
 use Rattle.bk_level.proofs.OldLevels.{head-kept, levels-kept}
-use Rattle.bk_level.proofs.NewHomes.{new-pass, index-left}
+use Rattle.bk_level.proofs.NewHomes.{new-pass, index-left, homes-stay}
 use Rattle.bk_level.proofs.NewLevel.{index-last, new-clauses}
 use Rattle.bk_level.proofs.Lowers.{lowers-right}
-use Rattle.bk_level.proofs.MachineStands.{all-listed, all-inhabited, few}
+use Rattle.bk_level.proofs.MachineStands.{all-listed, all-inhabited}
 use Rattle.bk_level.proofs.Verdicts.{answer-right}
 
 -- ---- what stands above is ready
@@ -123,7 +123,7 @@ lower-kind Refinement n e h = h
 lower-kind Implementation n e h = h
 
 -- ---- the development
-pub lower-development : (int_max : ℤ) (higher : Development) (comp : Component) → IsDevelopment higher → is_complete higher ≡ false → HomesStandInLevels higher → is_machine comp.kind ≡ false → static_faults int_max higher comp ≡ []
+pub lower-development : (int_max : ℤ) (higher : Development) (comp : Component) → IsDevelopment higher → is_complete higher ≡ false → HomesAreThere higher → is_machine comp.kind ≡ false → static_faults int_max higher comp ≡ []
     → HasRoom (made int_max higher comp (plan higher comp)) → Each (IsValue (made int_max higher comp (plan higher comp))) (made int_max higher comp (plan higher comp)).values → HasItsValues (made int_max higher comp (plan higher comp)) (is_implementing comp.kind)
     → IsDevelopment (made int_max higher comp (plan higher comp))
 lower-development int_max higher comp d going stand below none room values all-valued =
@@ -174,8 +174,6 @@ lower-development int_max higher comp d going stand below none room values all-v
         table = record {
           inhabited = All-append (λ (s : SetEntry). 0 < length s.elements) higher.table.sets (entries_of comp.sets) lawful.table.inhabited (all-inhabited comp.sets (none-left (set_faults comp.sets) more said));
           listed = all-listed new.table st.listed;
-          few_sets = room.sets;
-          few_variables = few new room;
         };
         sets = refl;
         homes = homes-all int_max higher comp lawful.homes;
@@ -191,6 +189,8 @@ lower-development int_max higher comp d going stand below none room values all-v
       shapes = each-join HasItsShape higher.levels (l ∷ []) d.shapes (record { init = level.shape; bodies = right.shapes }, tt);
       binders_differ = (stands-apart int_max higher comp (apart-above higher d)).differ;
       room = room.variables;
+      few_sets = room.sets;
+      homes_there = homes-stay int_max higher comp lawful.homes stand;
     }
   where
     other : (j : ℕ) → j < length higher.levels → nat_eq (length higher.levels) j ≡ false

@@ -35,6 +35,7 @@ use Rattle.bk_level.proofs.Counted.{length-join, stands-apart}
 use Rattle.bk_level.proofs.Listed.{of_entry, variable-entry}
 use Rattle.bk_level.proofs.Stands.{stands}
 use Rattle.bk_level.proofs.Homes.{homes-all}
+use Rattle.bk_level.proofs.NewHomes.{homes-stay}
 use Rattle.bk_level.proofs.NewLevel.{new-clauses}
 use Rattle.bk_level.proofs.Machines.{machines-right, machine-shapes}
 use Rattle.bk_level.proofs.Verdicts.{answer-right}
@@ -62,12 +63,6 @@ all-inhabited [] h = All-nil (λ (s : SetEntry). 0 < length s.elements)
 all-inhabited (s ∷ ss) h =
     let k = named-or (has_name s.elements) s.name.at (set_faults ss) h in
     All-cons (λ (s : SetEntry). 0 < length s.elements) (record { name = s.name.text; elements = texts s.elements }) (entries_of ss) (has-name s.elements k.0) (all-inhabited ss k.1)
-
-pub few : (dev : Development) → HasRoom dev → length dev.table.variables ≤ 2 ^ 32
-few dev room =
-    let r : length (dev.table.variables ++ filter_map (slice_get dev.table.variables) (copied_in_levels dev.levels)) < 2 ^ 32 = room.variables in
-    let long = length-join dev.table.variables (filter_map (slice_get dev.table.variables) (copied_in_levels dev.levels)) in
-    omega arith
 
 -- ---- nothing above
 types-of-none : (n : ℕ) (t : ValueType) → variable_type empty_table n ≡ Some t → lists_type empty_table t ≡ true
@@ -105,7 +100,7 @@ machine-development int_max comp machine no-values none room =
     record {
       lawful = record {
         some_level = (let m : 0 < 1 = omega arith in m);
-        table = record { inhabited = all-inhabited comp.sets (none-left (set_faults comp.sets) more said); listed = all-listed new.table st.listed; few_sets = room.sets; few_variables = few new room };
+        table = record { inhabited = all-inhabited comp.sets (none-left (set_faults comp.sets) more said); listed = all-listed new.table st.listed };
         sets = refl;
         homes = homes-all int_max no_development comp refl;
         heads = right.heads;
@@ -133,6 +128,8 @@ machine-development int_max comp machine no-values none room =
       shapes = (record { init = level.shape; bodies = machine-shapes int_max no_development comp none-ready machine none }, tt);
       binders_differ = apart.differ;
       room = room.variables;
+      few_sets = room.sets;
+      homes_there = homes-stay int_max no_development comp refl (λ n. tt);
     }
 
 pub machine-accepted : AcceptedMachineIsDevelopment

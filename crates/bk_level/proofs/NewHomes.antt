@@ -5,13 +5,13 @@ use Rattle.std.proofs.lemmas.Bool.Decides.{nat_tests}
 use Rattle.bk_dev.specs.declared.kind.Home.{Home}
 use Rattle.bk_dev.specs.declared.kind.Home.TheVariants.{Constant, Input, Abstract, Concrete, Inner}
 use Rattle.bk_dev.specs.Development.{Head, Level, Development, level_at, blank_level}
-use Rattle.bk_dev.specs.Facts.{is_variable_of, home_of, IsLawful}
+use Rattle.bk_dev.specs.Facts.{is_variable_of, home_of, IsLawful, StandsBelow, HomesAreThere}
 use Rattle.bk_dev.proofs.Levels.{level_fact}
 use Rattle.bk_level.specs.Components.{Component, is_machine, initialisation}
 use Rattle.bk_level.specs.Binders.{binder_texts}
 use Rattle.bk_level.specs.Plan.{Declared, Plan, plan, entries_of, machine_heads}
 use Rattle.bk_level.specs.LevelOf.{homes_as, variable_homes, new_homes, new_texts, entries_from, types_at, level_made, input_texts, output_texts, bound_texts}
-use Rattle.bk_level.specs.LevelLaws.{OldLevelsStay, StandsBelow, HomesStandInLevels, HomesStay}
+use Rattle.bk_level.specs.LevelLaws.{OldLevelsStay, HomesStay}
 use Rattle.bk_level.specs.Verdict.{level_below}
 use Rattle.bk_level.proofs.Counted.{length-join}
 use Rattle.bk_level.proofs.Stands.{get-left, get-right, split-at}

@@ -8,7 +8,7 @@ use Rattle.bk_gsl.specs.Substitution.{Substitution}
 use Rattle.bk_dev.specs.declared.kind.Kind.{Kind}
 use Rattle.bk_dev.specs.declared.kind.Home.{Home}
 use Rattle.bk_dev.specs.Development.{Level, Development, level_at, blank_level}
-use Rattle.bk_dev.specs.Facts.{AllAre, LoopsStandIn, binders, is_variable_of, is_variable_above, is_inner_of, home_of, AreAlike, IsLink, IsSubOf, IsKindAt}
+use Rattle.bk_dev.specs.Facts.{AllAre, LoopsStandIn, binders, is_variable_of, is_variable_above, is_inner_of, home_of, AreAlike, IsLink, IsSubOf, IsKindAt, HomesAreThere}
 use Rattle.bk_raw.specs.Outcome.{Fault}
 use Rattle.bk_raw.proofs.RulesFit.{none-left, none-right}
 use Rattle.bk_level.specs.Components.{Component, is_machine, initialisation}
@@ -21,7 +21,7 @@ use Rattle.bk_level.specs.NameFaults.{name_faults}
 use Rattle.bk_level.specs.OperationFaults.{shape_faults, bodies_shape, lower_faults, missing_init, operation_faults}
 use Rattle.bk_level.specs.StaticFaults.{init_faults, all_body_faults, static_faults}
 use Rattle.bk_level.specs.ValueFaults.{value_faults_of}
-use Rattle.bk_level.specs.LevelLaws.{IsIn, IsReady, HomesStandInLevels, HasClauses, NewLevelHasClauses, body_count}
+use Rattle.bk_level.specs.LevelLaws.{IsIn, IsReady, HasClauses, NewLevelHasClauses, body_count}
 use Rattle.bk_level.proofs.Intervals.{binds-interval, interval-distinct}
 use Rattle.bk_level.proofs.Shapes.{sub-shaped}
 use Rattle.bk_level.proofs.Listed.{of_entry, variable-entry}

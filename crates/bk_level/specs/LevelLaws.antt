@@ -1,14 +1,12 @@
 -- What is shown of levels, step by step.
-use Rattle.std.specs.Prelude.{◌≡◌, ◌⊎◌, ◌<◌, ◌≤◌, ℕ, ℤ, ◌+◌, true, false, List, [], ◌∷◌, ◌++◌, length, Option, Some}
+use Rattle.std.specs.Prelude.{◌≡◌, ◌⊎◌, ◌<◌, ◌≤◌, ℕ, ℤ, ◌+◌, true, false, List, [], ◌∷◌, ◌++◌, length}
 use Rattle.std.specs.List.{flat_map}
 use Rattle.bk_form.specs.Each.{Each}
 use Rattle.bk_form.specs.Predicates.{IsPredicate}
 use Rattle.bk_gsl.specs.State.{among}
 use Rattle.bk_gsl.specs.Typed.{Types}
-use Rattle.bk_dev.specs.declared.kind.Home.{Home}
-use Rattle.bk_dev.specs.declared.kind.Home.TheVariants.{Abstract, Concrete, Inner}
 use Rattle.bk_dev.specs.Development.{Head, Body, Level, Development, level_at}
-use Rattle.bk_dev.specs.Facts.{AllAre, Names, IsStated, binders, AreDistinct, all_outputs, all_binders, is_variable_of, names_constants, StaysIn, names_own, names_joined, writes_own, is_variable_above, home_of, IsLevelOf, IsLawful, IsKindAt, IsLink, IsSubOf, MayStandIn, IsHeadOf, AllAlike, IsBodyOf, EachBody}
+use Rattle.bk_dev.specs.Facts.{AllAre, Names, IsStated, binders, AreDistinct, all_outputs, all_binders, is_variable_of, names_constants, StaysIn, names_own, names_joined, writes_own, is_variable_above, home_of, IsLevelOf, IsLawful, IsKindAt, IsLink, IsSubOf, MayStandIn, IsHeadOf, AllAlike, IsBodyOf, EachBody, HomesAreThere}
 use Rattle.bk_raw.specs.Speaking.{AreTyped}
 use Rattle.bk_level.specs.Components.{Component, is_machine, initialisation}
 use Rattle.bk_level.specs.Typings.{Typing, interval, typed}
@@ -107,18 +105,6 @@ abbrev pub LinksAreRight : Type 0
 LinksAreRight = (int_max : ℤ) (dev : Development) (c : Component) → IsReady dev → (n m : ℕ) → IsIn (n, m) (level_made int_max (types_at int_max dev c (plan dev c)) (plan dev c) c).links
     → (is_variable_of (plan dev c).level (home_of (level_below int_max dev c) n) ≡ true) × (types_at int_max dev c (plan dev c) n ≡ known dev m)
 
--- ---- homes in levels
--- a home's level is one of so many
-abbrev pub StandsBelow : ℕ → Option Home → Type 0
-StandsBelow k (Some (Abstract j)) = j < k
-StandsBelow k (Some (Concrete j)) = j < k
-StandsBelow k (Some (Inner j)) = j < k
-StandsBelow k _ = Unit {0}
-
--- each variable is at home at a level that is there
-abbrev pub HomesStandInLevels : Development → Type 0
-HomesStandInLevels dev = (n : ℕ) → StandsBelow (length dev.levels) (home_of dev n)
-
 -- ---- the level
 -- what a component at level k is, but for its bodies
 pub record HasClauses (dev : Development) (k : ℕ) (l : Level) : Type 0 where
@@ -137,7 +123,7 @@ pub record HasClauses (dev : Development) (k : ℕ) (l : Level) : Type 0 where
 
 -- without faults a component of its kind is so
 abbrev pub NewLevelHasClauses : Type 0
-NewLevelHasClauses = (int_max : ℤ) (dev : Development) (c : Component) → IsReady dev → HomesStandInLevels dev → IsKindAt (length dev.levels) c.kind → static_faults int_max dev c ≡ []
+NewLevelHasClauses = (int_max : ℤ) (dev : Development) (c : Component) → IsReady dev → HomesAreThere dev → IsKindAt (length dev.levels) c.kind → static_faults int_max dev c ≡ []
     → HasClauses (level_below int_max dev c) (length dev.levels) (level_made int_max (types_at int_max dev c (plan dev c)) (plan dev c) c)
 
 -- ---- operations
@@ -179,4 +165,4 @@ OldLevelsStay = (int_max : ℤ) (dev : Development) (c : Component) → IsLawful
 
 -- with each component, faults or not, this stays so
 abbrev pub HomesStay : Type 0
-HomesStay = (int_max : ℤ) (dev : Development) (c : Component) → length dev.homes ≡ length dev.table.variables → HomesStandInLevels dev → HomesStandInLevels (level_below int_max dev c)
+HomesStay = (int_max : ℤ) (dev : Development) (c : Component) → length dev.homes ≡ length dev.table.variables → HomesAreThere dev → HomesAreThere (level_below int_max dev c)

@@ -10,14 +10,13 @@ use Rattle.bk_raw.specs.Outcome.{Fault}
 use Rattle.bk_elab.specs.Blame.{blame, earlier}
 use Rattle.bk_elab.specs.Visible.{typing_of, visible_names}
 use Rattle.bk_dev.specs.Development.{Development}
-use Rattle.bk_dev.specs.Facts.{AllAre, is_variable_of, home_of, writes_own}
+use Rattle.bk_dev.specs.Facts.{AllAre, is_variable_of, home_of, writes_own, HomesAreThere}
 use Rattle.bk_level.specs.Components.{Component, initialisation}
 use Rattle.bk_level.specs.Typings.{Typing, interval}
 use Rattle.bk_level.specs.Plan.{Placed, Plan, plan, operations_of, scope, body_scope}
 use Rattle.bk_level.specs.ClauseFaults.{input_faults, clause_faults}
 use Rattle.bk_level.specs.SubFaults.{declared_faults, sub_faults}
 use Rattle.bk_level.specs.LevelOf.{made}
-use Rattle.bk_level.specs.LevelLaws.{HomesStandInLevels}
 use Rattle.bk_level.specs.NameFaults.{name_faults}
 use Rattle.bk_level.specs.OperationFaults.{operation_faults}
 use Rattle.bk_level.specs.ValueFaults.{value_faults_of}
@@ -36,7 +35,7 @@ has-all : (p : ℕ → Bool) (ns : List ℕ) (n : ℕ) → AllAre p ns → among
 has-all p [] n h e = absurd (cc)
 has-all p (m ∷ ns) n h e = elim (or-cases (nat_eq n m) (among ns n) e) [ inl a ↦ subst (λ k. p k ≡ true) (sym (nat_eq-then n m a)) h.0 | inr b ↦ has-all p ns n h.1 b ]
 
-own-writes : (int_max : ℤ) (higher : Development) (comp : Component) → length higher.homes ≡ length higher.table.variables → HomesStandInLevels higher → (n : ℕ) →
+own-writes : (int_max : ℤ) (higher : Development) (comp : Component) → length higher.homes ≡ length higher.table.variables → HomesAreThere higher → (n : ℕ) →
     is_variable_of (plan higher comp).level (home_of (made int_max higher comp (plan higher comp)) n) ≡ among (interval (plan higher comp).variables_at (length (plan higher comp).variables)) n
 own-writes int_max higher comp homes-so stand n =
     let new = made int_max higher comp (plan higher comp) in
@@ -44,7 +43,7 @@ own-writes int_max higher comp homes-so stand n =
     (λ h. has-all (λ m. is_variable_of (plan higher comp).level (home_of new m)) (interval (plan higher comp).variables_at (length (plan higher comp).variables)) n (vars-at-home int_max higher comp homes-so) h)
 
 -- the plan that is kept tells the level's variables
-pub kept-writes : (p : PlanKept) (int_max : ℤ) (higher : Development) (comp : Component) → plan_shown p ≡ record (plan higher comp) { heads = [] } → length higher.homes ≡ length higher.table.variables → HomesStandInLevels higher →
+pub kept-writes : (p : PlanKept) (int_max : ℤ) (higher : Development) (comp : Component) → plan_shown p ≡ record (plan higher comp) { heads = [] } → length higher.homes ≡ length higher.table.variables → HomesAreThere higher →
     WritesOwn p (made int_max higher comp (plan higher comp))
 kept-writes p int_max higher comp e homes-so stand n =
     let new = made int_max higher comp (plan higher comp) in
@@ -96,7 +95,7 @@ body-meant max typing v o p dev upper names l s a b c d e w =
     (funs (writable_by (v ∷ o ∷ [])) (writes_own dev p.level (outputs_of l)) (λ n. own-two v o p dev a b w n ∙ ap (λ (ns : List ℕ). writes_own dev p.level ns n) same))
 
 -- ---- all of them
-pub planned : (t : TypingKept) (p : PlanKept) (higher : Development) (comp : Component) → IsPlanOf p higher comp → length higher.homes ≡ length higher.table.variables → HomesStandInLevels higher →
+pub planned : (t : TypingKept) (p : PlanKept) (higher : Development) (comp : Component) → IsPlanOf p higher comp → length higher.homes ≡ length higher.table.variables → HomesAreThere higher →
     (names clauses operations start bodies values written started shaped stated every : Option Fault) →
     names ≡ blame (name_faults higher comp) →
     clauses ≡ blame (clause_faults t.max (typing_of t.types.now) (plan_shown p) comp) →

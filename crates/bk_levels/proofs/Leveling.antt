@@ -3,7 +3,7 @@ use Rattle.std.proofs.Common.{◌≡◌, ℤ, refl, sym, ◌∙◌, ap, subst, f
 use Rattle.std.specs.Prelude.{Option, None, Some}
 use Rattle.bk_dev.specs.Development.{Development, int_max as machine_max}
 use Rattle.bk_dev.specs.B0.{IsB0Development}
-use Rattle.bk_dev.specs.Facts.{IsDevelopment}
+use Rattle.bk_dev.specs.Facts.{IsDevelopment, HomesAreThere}
 use Rattle.bk_elab.specs.Blame.{blame}
 use Rattle.bk_raw.specs.ComponentTree.{RawComponent}
 use Rattle.bk_raw.specs.declared.component.ComponentKind.{ComponentKind}
@@ -12,7 +12,6 @@ use Rattle.bk_raw.specs.Limits.{IsLowComponent}
 use Rattle.bk_level.specs.Above.{above_of}
 use Rattle.bk_level.specs.Components.{Component, component_of, is_machine}
 use Rattle.bk_level.specs.DeclaredNames.{declares_too_many}
-use Rattle.bk_level.specs.LevelLaws.{HomesStandInLevels}
 use Rattle.bk_level.specs.Verdict.{accepted, all_faults, level_below, verdict_of}
 use Rattle.bk_level.specs.VerdictLaws.{MayStandAbove, HasRoom}
 use Rattle.bk_level.proofs.B0Levels.{always-b0}
@@ -44,13 +43,13 @@ at-sets Implementation (Some dev) may = may.0.lawful.sets
 pub record IsLevelled (max : ℤ) (above : Option Development) (raw : RawComponent) (new : Development) : Type 0 where
   pub verdict : verdict_of max above raw ≡ accepted new
   pub development : IsDevelopment new
-  pub homes : HomesStandInLevels new
+  pub homes : HomesAreThere new
   pub room : HasRoom new
   pub executable : raw.kind ≡ Implementation → IsLowComponent raw → IsB0Development new
 
 -- with what a component without faults adds, where it is counted
 pub levelled : (max m : ℤ) (above : Option Development) (raw : RawComponent) (k : Component) (dev : Development) (a : Added) → m ≡ max → k ≡ component_of raw → dev ≡ above_of above → max ≡ machine_max (above_of above) →
-    MayStandAbove raw.kind above → HomesStandInLevels (above_of above) → false ≡ declares_too_many k → None ≡ blame (all_faults m dev k) → IsAddedBy a dev (is_machine k.kind) (level_below m dev k) →
+    MayStandAbove raw.kind above → HomesAreThere (above_of above) → false ≡ declares_too_many k → None ≡ blame (all_faults m dev k) → IsAddedBy a dev (is_machine k.kind) (level_below m dev k) →
     HasRoom (development_below (above_of above) a) → IsLevelled max above raw (with_level above a)
 levelled max m above raw k dev a same-max shown higher most may stand few none added room =
     let told : IsAddedBy a (above_of above) (is_machine (component_of raw).kind) (level_below max dev k) = subst (λ (P : Type 0). P) (λ i. IsAddedBy a (higher i) (is_machine (shown i).kind) (level_below (same-max i) dev k)) added in
@@ -59,11 +58,11 @@ levelled max m above raw k dev a same-max shown higher most may stand few none a
     let same : verdict_of (machine_max (above_of above)) above raw ≡ accepted (with_level above a) = ap (λ (m : ℤ). verdict_of m above raw) (sym most) ∙ answer in
     let counted : HasRoom (with_level above a) = room-made raw.kind above a may room in
     let all : length dev.homes ≡ length dev.table.variables = subst (λ (d : Development). length d.homes ≡ length d.table.variables) (sym higher) (at-home raw.kind above may) in
-    let within : HomesStandInLevels dev = subst HomesStandInLevels (sym higher) stand in
+    let within : HomesAreThere dev = subst HomesAreThere (sym higher) stand in
     record {
       verdict = answer;
       development = always-development above raw (with_level above a) may stand same counted;
-      homes = subst HomesStandInLevels (sym is) (homes-stay max dev k all within);
+      homes = subst HomesAreThere (sym is) (homes-stay max dev k all within);
       room = counted;
       executable = λ kind low. always-b0 above raw (with_level above a) may kind low same;
     }

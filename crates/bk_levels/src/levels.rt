@@ -4,7 +4,7 @@ ghost use Rattle.std.specs.Prelude.{◌≡◌, ◌<◌, ◌≤◌, ◌+◌, ◌^
 ghost use Rattle.bk_form.specs.Table.{lists_type};
 ghost use Rattle.bk_dev.specs.B0.{IsB0Development};
 ghost use Rattle.bk_dev.specs.Development.{int_max, is_implementing};
-ghost use Rattle.bk_dev.specs.Facts.{IsDevelopment};
+ghost use Rattle.bk_dev.specs.Facts.{IsDevelopment, HomesAreThere};
 ghost use Rattle.bk_elab.specs.Blame.{blame};
 ghost use Rattle.bk_elab.specs.Shown.{told};
 ghost use Rattle.bk_elab.specs.Visible.{typing_of};
@@ -17,7 +17,6 @@ ghost use Rattle.bk_level.specs.Binders.{texts};
 ghost use Rattle.bk_level.specs.Components.{component_of, is_machine};
 ghost use Rattle.bk_level.specs.DeclaredNames as names;
 ghost use Rattle.bk_level.specs.Executable.{executable_faults};
-ghost use Rattle.bk_level.specs.LevelLaws.{HomesStandInLevels};
 ghost use Rattle.bk_level.specs.LevelOf.{entries_from, types_at};
 ghost use Rattle.bk_level.specs.Plan as planned;
 ghost use Rattle.bk_level.specs.Plan.{entries_of, operations_of};
@@ -60,12 +59,12 @@ pub fn level(
     above: Option<Development>,
 ) -> Result<Development, ElabFault>
     requires above { MayStandAbove raw.now.kind above }
-    requires homes { HomesStandInLevels (above_of above) }
+    requires homes { HomesAreThere (above_of above) }
     requires range { max ≡ int_max (above_of above) }
     ensures level { IfOk result (λ dev. meant.verdict_of max above raw.now ≡ meant.accepted dev) }
     ensures fault { IfErr result (SaysOfComponent (meant.verdict_of max above raw.now)) }
     ensures development { IfOk result (λ dev. IsDevelopment dev) }
-    ensures homes { IfOk result (λ dev. HomesStandInLevels dev) }
+    ensures homes { IfOk result (λ dev. HomesAreThere dev) }
     ensures room { IfOk result (λ dev. HasRoom dev) }
     ensures executable { IfOk result (λ dev. raw.now.kind ≡ Implementation → IsLowComponent raw.now → IsB0Development dev) }
 {
@@ -136,7 +135,7 @@ fn part_of(
 ) -> Result<Judged, Memory>
     requires blank { is_blank component.now.at blank.now }
     requires alone { is_machine component.now.kind ≡ true → above_shown above ≡ no_development }
-    requires homes { HomesStandInLevels (above_shown above) }
+    requires homes { HomesAreThere (above_shown above) }
     requires all_at_home { length (above_shown above).homes ≡ length (above_shown above).table.variables }
     requires range { max ≡ int_max (above_shown above) }
     ensures added { IfOk result (λ p. IsAddedBy p.added (above_shown above.entry) (is_machine component.now.kind)
@@ -157,7 +156,7 @@ fn part_of(
 fn part_given(alloc: Global, max: i64, given: Given<'_>) -> Result<Judged, Memory>
     requires blank { is_blank given.component.now.at given.blank.now }
     requires alone { is_machine given.component.now.kind ≡ true → above_shown given.above ≡ no_development }
-    requires homes { HomesStandInLevels (above_shown given.above) }
+    requires homes { HomesAreThere (above_shown given.above) }
     requires all_at_home { length (above_shown given.above).homes ≡ length (above_shown given.above).table.variables }
     requires range { max ≡ int_max (above_shown given.above) }
     ensures added { IfOk result (λ p. IsAddedBy p.added (above_shown given.entry.above) (is_machine given.entry.component.now.kind)

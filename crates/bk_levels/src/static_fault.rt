@@ -2,13 +2,12 @@
 
 ghost use Rattle.std.specs.Prelude.{◌≡◌, [], length, map, IfOk};
 ghost use Rattle.bk_dev.specs.Development.{Development};
-ghost use Rattle.bk_dev.specs.Facts.{writes_own};
+ghost use Rattle.bk_dev.specs.Facts.{writes_own, HomesAreThere};
 ghost use Rattle.bk_elab.specs.Blame.{blame};
 ghost use Rattle.bk_elab.specs.Shown.{told};
 ghost use Rattle.bk_elab.specs.Visible.{typing_of, visible_names};
 ghost use Rattle.bk_levels.specs.Answered.{WritesOwn, bodies_judged, body_judged};
 ghost use Rattle.bk_level.specs.Components.{initialisation};
-ghost use Rattle.bk_level.specs.LevelLaws.{HomesStandInLevels};
 ghost use Rattle.bk_level.specs.Plan.{plan as plan_of, scope};
 ghost use Rattle.bk_sight.specs.Shown.{above_shown, component_shown, is_blank, placed_shown, plan_shown, IsPlanOf};
 ghost use Rattle.bk_level.specs.StaticFaults as meant;
@@ -40,7 +39,7 @@ pub(crate) fn static_fault(
     requires blank { is_blank component.now.at blank.now }
     requires planned { IsPlanOf plan.now (above_shown above) (component_shown component.now) }
     requires all_at_home { length (above_shown above).homes ≡ length (above_shown above).table.variables }
-    requires homes { HomesStandInLevels (above_shown above) }
+    requires homes { HomesAreThere (above_shown above) }
     ensures { IfOk result (λ fault. told fault ≡ blame (meant.planned_faults typing.entry.max (above_shown above.entry)
         (component_shown component.now) (plan_of (above_shown above.entry) (component_shown component.now))
         (typing_of typing.entry.types.now))) }

@@ -15,6 +15,7 @@ use Rattle.bk_dev.specs.Counter.{counter_table}
 use Rattle.bk_wp.proofs.Steps.{or-cases}
 use Rattle.bk_po.specs.Examples.{between, plus, getting, inc_head, get_head, tally_table, may_add, adding, tally, stepping, stepper}
 use Rattle.bk_po.specs.Laws.{ExamplesAreDevelopments}
+use Rattle.bk_dev.proofs.HomesThere.{homes-stand}
 use Rattle.bk_dev.proofs.Levels.{two-levels}
 
 -- ---- what formulas name
@@ -46,7 +47,7 @@ module _ (visible : ℕ → Bool) where
 
 -- ---- the adder
 tally-table : IsWellFormed tally_table
-tally-table = record { counted = λ k d h. absurd (omega (arith)); listed = listed; few_sets = omega (arith); few_variables = omega (arith) }
+tally-table = record { counted = λ k d h. absurd (omega (arith)); listed = listed }
   where
     listed : All (λ v. IsTrue (lists_type tally_table v.of_type)) tally_table.variables
     listed zero d h = refl
@@ -183,11 +184,13 @@ tally_facts = record {
   shapes = ((record { init = tt; bodies = (tt, (tt, tt)) }, (record { init = tt; bodies = (tt, (tt, tt)) }, tt)));
   binders_differ = (refl, (refl, tt));
   room = omega (arith);
+  few_sets = omega (arith);
+  homes_there = homes-stand 2 tally.homes refl;
 }
 
 -- ---- the stepper
 stepper-table : IsWellFormed counter_table
-stepper-table = record { counted = λ k d h. absurd (omega (arith)); listed = listed; few_sets = omega (arith); few_variables = omega (arith) }
+stepper-table = record { counted = λ k d h. absurd (omega (arith)); listed = listed }
   where
     listed : All (λ v. IsTrue (lists_type counter_table v.of_type)) counter_table.variables
     listed zero d h = refl
@@ -320,6 +323,8 @@ stepper_facts = record {
   shapes = ((record { init = tt; bodies = ((tt, tt), (tt, tt)) }, (record { init = tt; bodies = ((tt, tt), (tt, tt)) }, tt)));
   binders_differ = (refl, (refl, tt));
   room = omega (arith);
+  few_sets = omega (arith);
+  homes_there = homes-stand 2 stepper.homes refl;
 }
 
 -- ---- both are developments

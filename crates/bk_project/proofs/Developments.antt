@@ -7,7 +7,7 @@ use Rattle.std.proofs.lemmas.List.Elements.{All-head, All-tail}
 use Rattle.bk_form.specs.Table.{VariableEntry}
 use Rattle.bk_dev.specs.B0.{IsB0Development}
 use Rattle.bk_dev.specs.Development.{Level, Development, int_max, is_complete}
-use Rattle.bk_dev.specs.Facts.{IsDevelopment}
+use Rattle.bk_dev.specs.Facts.{IsDevelopment, HomesAreThere}
 use Rattle.bk_dev.specs.Flattened.{copied_in_levels, flattened}
 use Rattle.bk_raw.specs.declared.component.ComponentKind.{ComponentKind}
 use Rattle.bk_raw.specs.ComponentTree.{RawComponent}
@@ -16,7 +16,6 @@ use Rattle.bk_level.specs.Above.{above_of}
 use Rattle.bk_level.specs.Components.{Component, component_of}
 use Rattle.bk_level.specs.Plan.{plan, entries_of}
 use Rattle.bk_level.specs.LevelOf.{types_at, entries_from, new_texts, level_made}
-use Rattle.bk_level.specs.LevelLaws.{HomesStandInLevels}
 use Rattle.bk_level.specs.Verdict.{verdict_of, accepted, level_below}
 use Rattle.bk_level.specs.VerdictLaws.{MayStandAbove, HasRoom}
 use Rattle.bk_level.proofs.Verdicts.{answer-right}
@@ -93,7 +92,7 @@ room_back dev (c ∷ cs) all h room =
 -- what is known of levels of which the last is for a line of this kind
 record IsRead (k : LineKind) (dev : Development) : Type 0 where
   development : IsDevelopment dev
-  homes : HomesStandInLevels dev
+  homes : HomesAreThere dev
   complete : is_complete dev ≡ ends (Some k)
   executable : is_complete dev ≡ true → IsB0Development dev
 
@@ -110,7 +109,7 @@ may_stand (Some j) (Some dev) k kind s g f =
     let both = lower (Some j) k refl g in
     stands_lower k kind dev both.1 f s.development (s.complete ∙ both.0)
 
-homes_above : (last : Option LineKind) (above : Option Development) → Stands last above → (length (above_of above).homes ≡ length (above_of above).table.variables) × HomesStandInLevels (above_of above)
+homes_above : (last : Option LineKind) (above : Option Development) → Stands last above → (length (above_of above).homes ≡ length (above_of above).table.variables) × HomesAreThere (above_of above)
 homes_above None None s = (refl, λ n. tt)
 homes_above None (Some dev) s = absurd s
 homes_above (Some j) None s = absurd s
@@ -124,7 +123,7 @@ next_read last above k c dev s g f low e room =
     let right = answer-right.right (int_max higher) higher (component_of c) dev e in
     record {
       development = always-development above c dev may homes.1 e room;
-      homes = subst HomesStandInLevels (sym right.2) (homes-stay (int_max higher) higher (component_of c) homes.0 homes.1);
+      homes = subst HomesAreThere (sym right.2) (homes-stay (int_max higher) higher (component_of c) homes.0 homes.1);
       complete = complete_of above c dev e ∙ ends_with k c.kind f;
       executable = λ complete. always-b0 above c dev may (implements c.kind (sym (complete_of above c dev e) ∙ complete)) low e;
     }

@@ -4,12 +4,11 @@ ghost use Rattle.std.specs.Prelude.{◌≡◌, ◌<◌, ◌≤◌, suc, true, Li
 ghost use Rattle.std.specs.List.{AllZip};
 ghost use Rattle.bk_dev.specs.B0.{IsB0Development};
 ghost use Rattle.bk_dev.specs.Development.{int_max, is_complete, is_implementing};
-ghost use Rattle.bk_dev.specs.Facts.{IsDevelopment};
+ghost use Rattle.bk_dev.specs.Facts.{IsDevelopment, HomesAreThere};
 ghost use Rattle.bk_raw.specs.Limits.{IsLowComponent};
 ghost use Rattle.bk_raw.specs.Places.{byte_at};
 ghost use Rattle.bk_level.specs.Above.{above_of};
 ghost use Rattle.bk_level.specs.Components.{kind_as};
-ghost use Rattle.bk_level.specs.LevelLaws.{HomesStandInLevels};
 ghost use Rattle.bk_level.specs.Verdict.{verdict_of, accepted};
 ghost use Rattle.bk_level.specs.VerdictLaws.{MayStandAbove};
 ghost use Rattle.bk_files.specs.Files.{IsShallowText, IsFaultOf as AreFilesAtFault};
@@ -253,13 +252,13 @@ fn next_level(
     component: &RawComponent,
 ) -> Result<Development, Refusal>
     requires above { MayStandAbove component.now.kind above }
-    requires homes { HomesStandInLevels (above_of above) }
+    requires homes { HomesAreThere (above_of above) }
     requires few { DeclaresFew component.now }
     requires low { IsLowComponent component.now }
     requires file { file < 200 }
     ensures level { IfOk result (λ dev. verdict_of (int_max (above_of above)) above component.now ≡ accepted dev) }
     ensures development { IfOk result IsDevelopment }
-    ensures homes { IfOk result HomesStandInLevels }
+    ensures homes { IfOk result HomesAreThere }
     ensures executable { IfOk result (λ dev. is_complete dev ≡ true → IsB0Development dev) }
     ensures complete { IfOk result (λ dev. is_complete dev ≡ is_implementing (kind_as component.now.kind)) }
     ensures refusal { IfErr result (IsNextRefusal above component.now file) }

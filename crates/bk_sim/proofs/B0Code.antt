@@ -1,18 +1,18 @@
 -- The translation of every development in B0 follows it, with || in the levels above or without.
-use Rattle.std.proofs.Common.{◌≡◌, ◌<◌, ◌≤◌, ℕ, suc, ℤ, List, length, sym, ap, subst, arith}
+use Rattle.std.proofs.Common.{◌≡◌, ◌⊎◌, inl, inr, ◌<◌, ℕ, suc, ℤ, List, length, sym, ap, subst, arith}
 use Rattle.bk_form.specs.Search.{Finder}
 use Rattle.bk_form.specs.Table.{IsWellFormed}
 use Rattle.bk_dev.specs.B0.{IsB0Development}
 use Rattle.bk_dev.specs.Development.{Level, Development, level_at, body_of, body_at, last}
 use Rattle.bk_dev.specs.Facts.{IsLawful, LastIsFlat}
 use Rattle.bk_dev.specs.Flattened.{flattened}
-use Rattle.bk_dev.specs.Claims.{CarriesFlat, Keeps, Carries, ValuesMeet}
+use Rattle.bk_dev.specs.Claims.{CarriesFlat, Keeps, Carries, ValuesMeet, LastCarriesFromEqual}
 use Rattle.bk_dev.specs.Machine.{Abstract, Call, IsCall, Pre}
 use Rattle.bk_dev.proofs.FlatB0.{flattened_stays_in_b0, last-flat}
 use Rattle.bk_dev.proofs.FlatLevels.{lawful}
 use Rattle.bk_dev.proofs.FlatSame.{levels-many}
 use Rattle.bk_dev.proofs.InTable.{low-vars}
-use Rattle.bk_dev.proofs.Room.{development-formed}
+use Rattle.bk_dev.proofs.Room.{flat-formed}
 use Rattle.bk_code.specs.declared.image.Image.{Image}
 use Rattle.bk_code.specs.declared.image.OpEntry.{OpEntry}
 use Rattle.bk_code.specs.Session.{first_start}
@@ -22,7 +22,7 @@ use Rattle.bk_sim.specs.Shows.{Linked}
 use Rattle.bk_sim.specs.Follows.{IsEntry, started, Follows}
 use Rattle.bk_statements.specs.Within.{HasNoLoop, EndsWithin}
 use Rattle.bk_sim.specs.Within.{CallEnds, EndsWithoutLoops}
-use Rattle.bk_sim.specs.Laws.{LawfulFollows, B0Follows, B0Ends}
+use Rattle.bk_sim.specs.Laws.{LawfulFollows, EqualFollows, B0Follows, B0Ends}
 use Rattle.bk_sim.proofs.Chain.{linked_before}
 use Rattle.bk_sim.proofs.Machine.{image-follows, image-ends}
 use Rattle.bk_sim.proofs.Moving.{low-level, meet-down, pre-up, linked-up, call-up, follows-down}
@@ -52,17 +52,17 @@ module _ (find : Finder) (dev : Development) (f : IsLawful dev) (b : LastIsFlat 
   }
 
 -- ---- the flattened, whose substitutions are taken as they are, and so the development
-module _ (find : Finder) (dev : Development) (f : IsLawful dev) (well : IsWellFormed (flattened dev).table) (b : IsB0Development dev) (meet : ValuesMeet find dev) (keeps : Keeps find dev) (carries : (j : ℕ) → suc j < length dev.levels → Carries find dev j) where
+module _ (find : Finder) (dev : Development) (f : IsLawful dev) (well : IsWellFormed (flattened dev).table) (b : IsB0Development dev) (meet : ValuesMeet find dev) (keeps : Keeps find dev) (carries : (j : ℕ) → suc (suc j) < length dev.levels → Carries find dev j) (lasts : ((j : ℕ) → suc j ≡ last (flattened dev) → CarriesFlat find (flattened dev) j) ⊎ LastCarriesFromEqual find (flattened dev)) where
   flat-law : IsLawful (flattened dev)
   flat-law = lawful dev f well
 
   flat-in-b0 : IsB0Development (flattened dev)
-  flat-in-b0 = flattened_stays_in_b0 dev f well b
+  flat-in-b0 = flattened_stays_in_b0 dev f b
 
   many : length (flattened dev).levels ≡ length dev.levels
   many = levels-many (length dev.table.variables) dev.levels
 
-  flat-carries : (j : ℕ) → suc j ≤ last (flattened dev) → CarriesFlat find (flattened dev) j
+  flat-carries : (j : ℕ) → suc j < last (flattened dev) → CarriesFlat find (flattened dev) j
   flat-carries j h =
       let some : 0 < length (flattened dev).levels = flat-law.some_level in
       let same = many in
@@ -73,21 +73,38 @@ module _ (find : Finder) (dev : Development) (f : IsLawful dev) (well : IsWellFo
 
   followed : Follows find dev (translation dev)
   followed = follows-down find dev f well (last-flat dev b) (translation dev)
-      (subst (Follows find (flattened dev)) codes (image-follows find (flattened dev) flat-law flat-in-b0 (meet-down find dev f well meet) keeps flat-carries))
+      (subst (Follows find (flattened dev)) codes (image-follows find (flattened dev) flat-law flat-in-b0 (meet-down find dev f well meet) keeps flat-carries lasts))
 
   ended : EndsWithoutLoops find dev (translation dev)
   ended = unlooped-down find dev f (last-flat dev b) well (translation dev) followed
-      (subst (EndsWithoutLoops find (flattened dev)) codes (image-ends find (flattened dev) flat-law flat-in-b0 (meet-down find dev f well meet) keeps flat-carries))
+      (subst (EndsWithoutLoops find (flattened dev)) codes (image-ends find (flattened dev) flat-law flat-in-b0 (meet-down find dev f well meet) keeps flat-carries lasts))
+
+-- where the last level carries the one above it from all states
+module _ (find : Finder) (dev : Development) (f : IsLawful dev) (carries : (j : ℕ) → suc j < length dev.levels → Carries find dev j) where
+  above-last : (j : ℕ) → suc (suc j) < length dev.levels → Carries find dev j
+  above-last j h = carries j (omega (arith, h))
+
+  at-last : (j : ℕ) → suc j ≡ last (flattened dev) → CarriesFlat find (flattened dev) j
+  at-last j h =
+      let same = levels-many (length dev.table.variables) dev.levels in
+      let some : 0 < length dev.levels = f.some_level in
+      carries j (omega (arith, h, same, some))
 
 pub lawful_follows : LawfulFollows
 lawful_follows = record {
-  follows = λ find dev f well b meet keeps carries. followed find dev f well b meet keeps carries;
-  ends = λ find dev f well b meet keeps carries. ended find dev f well b meet keeps carries;
+  follows = λ find dev f b meet keeps carries. followed find dev f (flat-formed dev f.table) b meet keeps (above-last find dev f carries) (inl (at-last find dev f carries));
+  ends = λ find dev f b meet keeps carries. ended find dev f (flat-formed dev f.table) b meet keeps (above-last find dev f carries) (inl (at-last find dev f carries));
+}
+
+pub equal_follows : EqualFollows
+equal_follows = record {
+  follows = λ find dev c. followed find dev c.lawful (flat-formed dev c.lawful.table) c.in_b0 c.values c.keeps c.carries (inr c.last_carries);
+  ends = λ find dev c. ended find dev c.lawful (flat-formed dev c.lawful.table) c.in_b0 c.values c.keeps c.carries (inr c.last_carries);
 }
 
 -- ---- every development
 pub b0_follows : B0Follows
-b0_follows find dev d b meet keeps carries = followed find dev d.lawful (development-formed dev d) b meet keeps carries
+b0_follows find dev d b meet keeps carries = lawful_follows.follows find dev d.lawful b meet keeps carries
 
 pub b0_ends : B0Ends
-b0_ends find dev d b meet keeps carries = ended find dev d.lawful (development-formed dev d) b meet keeps carries
+b0_ends find dev d b meet keeps carries = lawful_follows.ends find dev d.lawful b meet keeps carries

@@ -20,6 +20,7 @@ use Rattle.bk_dev.specs.Development.{inputs_of}
 use Rattle.bk_dev.specs.Facts.{is_constant, is_variable_of, home_of, Names, names_constants, names_joined, names_own, IsSubOf, IsLevelOf, IsLawful, IsDevelopment}
 use Rattle.bk_dev.proofs.CounterFacts.{names-none, names-number, names-one}
 use Rattle.bk_sim.specs.Exchange.{exchange_table, set_to, zero_to_two, machine_level, counting_down, swapping, code_level, exchange}
+use Rattle.bk_dev.proofs.HomesThere.{homes-stand}
 use Rattle.bk_dev.proofs.Levels.{two-levels}
 
 -- ---- what formulas name
@@ -42,7 +43,7 @@ module _ (visible : ℕ → Bool) where
 
 -- ---- the table and the homes
 table-facts : IsWellFormed exchange_table
-table-facts = record { counted = λ k d h. absurd (omega (arith)); listed = listed; few_sets = omega (arith); few_variables = omega (arith) }
+table-facts = record { counted = λ k d h. absurd (omega (arith)); listed = listed }
   where
     listed : All (λ v. IsTrue (lists_type exchange_table v.of_type)) exchange_table.variables
     listed zero d h = refl
@@ -204,6 +205,8 @@ exchange_facts = record {
   shapes = (record { init = (tt, tt, tt, tt); bodies = ((tt, tt, tt, tt), tt) }, (record { init = (tt, tt, (tt, tt, tt)); bodies = ((inr tt, (tt, tt, (tt, tt, (tt, tt, (tt, tt, (tt, tt, tt)))))), tt) }, tt));
   binders_differ = (refl, tt);
   room = omega (arith);
+  few_sets = omega (arith);
+  homes_there = homes-stand 2 exchange.homes refl;
 }
 
 -- ---- in B0

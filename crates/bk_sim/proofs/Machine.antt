@@ -1,13 +1,13 @@
 -- The translation of a development in B0 follows its machine.
-use Rattle.std.proofs.Common.{◌≡◌, ◌⊎◌, inl, inr, ◌<◌, ◌≤◌, ℕ, zero, suc, ◌+◌, ℤ, pos, ◌-ℤ◌, int_le, List, [], ◌∷◌, ◌++◌, length, map, replicate, refl, sym, ◌∙◌, ap, subst, Bool, true, false, cond, ◌||◌, ◌&&◌, nat_eq, nat_lt, arith, Some, None, Option}
+use Rattle.std.proofs.Common.{◌≡◌, ◌⊎◌, inl, inr, ◌<◌, ◌≤◌, ℕ, zero, suc, ◌+◌, ℤ, pos, ◌-ℤ◌, ◌-◌, int_le, List, [], ◌∷◌, ◌++◌, length, map, replicate, refl, sym, ◌∙◌, ap, subst, Bool, true, false, cond, ◌||◌, ◌&&◌, nat_eq, nat_lt, arith, Some, None, Option}
 use Rattle.std.specs.Prelude.{slice_index_or, slice_get}
 use Rattle.std.specs.List.{filter}
 use Rattle.std.proofs.lemmas.Bool.Decides.{nat_tests}
 use Rattle.std.proofs.lemmas.Option.{same_Some}
 use Rattle.std.proofs.lemmas.List.{length-map}
 use Rattle.bk_val.specs.Value.{int}
-use Rattle.bk_val.specs.ValueType.{ValueType, int_type, base_of}
-use Rattle.bk_form.specs.Table.{Table, variable_type}
+use Rattle.bk_val.specs.ValueType.{ValueType, int_type, base_of, is_value_of}
+use Rattle.bk_form.specs.Table.{Table, set_size, variable_type}
 use Rattle.bk_form.specs.Formula.{Formula, variable, literal, binary, btrue}
 use Rattle.bk_form.specs.ArrayTable.{row_of}
 use Rattle.bk_form.specs.Search.{Finder}
@@ -16,20 +16,24 @@ use Rattle.bk_form.specs.Meaning.{within as is_within}
 use Rattle.bk_form.specs.declared.operator.BinOp.TheVariants.{In, Range}
 use Rattle.bk_form.proofs.Domains.{interval-members}
 use Rattle.bk_gsl.specs.Substitution.{Substitution, pre}
-use Rattle.bk_gsl.specs.State.{holds, declared_type, among}
+use Rattle.bk_gsl.specs.State.{holds, declared_type, are_values_for, with_value, with_values, among, firsts}
 use Rattle.bk_gsl.specs.Run.{Runs, Ends}
 use Rattle.bk_gsl.specs.Clean.{Clean}
-use Rattle.bk_gsl.proofs.States.{cases, clash, over-at, over-off, nat_eq-self, nat_eq-same}
+use Rattle.bk_gsl.proofs.States.{cases, clash, over-at, over-off, nat_eq-self, nat_eq-same, with_values-out, with_values-typed}
 use Rattle.bk_gsl.proofs.Runs.{run-typed}
 use Rattle.bk_dev.specs.declared.kind.Home.{Home}
 use Rattle.bk_dev.specs.declared.kind.Home.TheVariants.{Constant, Input, Abstract as AbstractHome, Concrete, Inner}
-use Rattle.bk_dev.specs.Development.{Head, Body, Level, Development, int_max, blank_body, level_at, body_of, body_at, inputs_of, last, is_btrue, is_implementation, whole}
+use Rattle.bk_dev.specs.Development.{Head, Body, Level, Development, int_max, blank_body, level_at, body_of, body_at, inputs_of, last, is_btrue, is_implementing, is_implementation, whole}
 use Rattle.bk_form.specs.Each.{Each}
-use Rattle.bk_dev.specs.Facts.{is_constant, is_input, is_variable_of, is_variable_above, is_inner_of, home_of, AllAlike, HasItsValues, names_own, names_joined, IsSubOf, IsBodyOf, IsHeadOf, IsLink, IsLawful}
+use Rattle.bk_dev.specs.Facts.{is_constant, is_input, is_variable_of, is_variable_above, is_inner_of, home_of, AreDistinct, seconds, AllAlike, HasItsValues, IsKindAt, IsLevelOf, names_own, names_joined, IsSubOf, IsBodyOf, IsHeadOf, IsLink, IsLawful}
 use Rattle.bk_form.specs.Predicates.{AllHold, conjuncts, equation}
 use Rattle.bk_dev.specs.Hypotheses.{size_equations, value_equation, properties_of, values_at, joining, joinings_of, conditions_of, is_number, in_machine_range, input_ranges, init_hypotheses, unasserted_hypotheses}
 use Rattle.bk_dev.specs.Machine.{Abstract, HasValues, Opens, Call, IsCall, Gives, Pre}
-use Rattle.bk_dev.specs.Claims.{arrays_at, KeepsFlat, CarriesFlat, ValuesMeet}
+use Rattle.bk_dev.specs.Claims.{arrays_at, beside, Establishes, Answered, KeepsFlat, CarriesFlat, ValuesMeet, LastCarriesFromEqual}
+use Rattle.bk_dev.specs.declared.kind.Kind.{Kind}
+use Rattle.bk_dev.specs.declared.kind.Kind.TheVariants.{Machine, Refinement, Implementation}
+use Rattle.bk_val.specs.CmpLaws.{value_eq-self}
+use Rattle.bk_form.specs.Operators.{is_equal}
 use Rattle.bk_dev.specs.Layout.{arrays_of, cell_of, cell_count, cell_variables}
 use Rattle.bk_code.specs.declared.image.Image.{Image}
 use Rattle.bk_code.specs.declared.image.OpEntry.{OpEntry}
@@ -44,11 +48,11 @@ use Rattle.bk_statements.specs.Within.{HasNoLoop}
 use Rattle.bk_sim.specs.Follows.{IsEntry, as_values, replies, started, GoesWell, IsDone, IsStep, HasOperations, OpensWell, CallsGoWell, Follows}
 use Rattle.bk_sim.proofs.Chain.{linked_before, calls_decide}
 use Rattle.bk_sim.proofs.Ends.{done-well}
-use Rattle.bk_form.proofs.Members.{or-left, or-right}
+use Rattle.bk_form.proofs.Members.{or-cases, or-left, or-right, and-true}
 use Rattle.bk_dev.proofs.Sizes.{sizes_hold}
 use Rattle.bk_dev.proofs.Agree.{all-none, holds-same, joining-same, all-among}
 use Rattle.bk_form.proofs.Conjuncts.{true-append, true-first, parts-true, whole-true}
-use Rattle.bk_dev.proofs.Climb.{flat-then, flat-if, is_before, constant-before, input-before, variable-before, joined-before, own-before, one_of_three, map-same, Climbed, Carry, climbed, stays-before}
+use Rattle.bk_dev.proofs.Climb.{flat-then, flat-if, is_before, constant-before, input-before, variable-before, inner-before, above-before, joined-before, own-before, one_of_three, map-same, Climbed, Carry, climbed, stays-before}
 use Rattle.bk_statements.specs.Placed.{Stands}
 use Rattle.bk_dev.specs.B0.{IsScalarName, IsB0Body, IsB0Development}
 use Rattle.bk_b0.specs.Cells.{IsCell, ValuesHaveKinds}
@@ -137,7 +141,7 @@ alike-declared dev (x ∷ xs) (y ∷ ys) h k =
     let rest = alike-declared dev xs ys h.1 k in
     λ i. number_as (same i) (slice_index_or k (cell_of dev x) (pos 0)) ∷ rest i
 
-module _ (find : Finder) (dev : Development) (f : IsLawful dev) (b : IsB0Development dev) (meet : ValuesMeet find dev) (keeps : KeepsFlat find dev) (carries : (j : ℕ) → suc j ≤ last dev → CarriesFlat find dev j) where
+module _ (find : Finder) (dev : Development) (f : IsLawful dev) (b : IsB0Development dev) (meet : ValuesMeet find dev) (keeps : KeepsFlat find dev) (carries : (j : ℕ) → suc j < last dev → CarriesFlat find dev j) (lasts : ((j : ℕ) → suc j ≡ last dev → CarriesFlat find dev j) ⊎ LastCarriesFromEqual find dev) where
   abbrev low : Level
   low = level_at dev (last dev)
 
@@ -219,6 +223,39 @@ module _ (find : Finder) (dev : Development) (f : IsLawful dev) (b : IsB0Develop
       let lower = body_fact o h (last dev) (omega arith) in
       (entry_of dev w.start head body, w.is, length-map head.inputs (parameter_of dev), length-map body.outputs (parameter_of dev) ∙ lower.as_many_outputs ∙ sym upper.as_many_outputs)
 
+  -- a machine is no implementation
+  lower : 0 < last dev
+  lower = by_test (last dev) refl
+    where
+      kind : (l : Level) → IsKindAt 0 l.kind → is_implementation l ≡ true → ⊥
+      kind l k h = of l.kind k h
+        where
+          of : (q : Kind) → IsKindAt 0 q → is_implementing q ≡ true → ⊥
+          of Implementation k h = omega (arith, k)
+          of Machine k h = absurd (cc)
+          of Refinement k h = absurd (cc)
+
+      by_test : (n : ℕ) → last dev ≡ n → 0 < n
+      by_test zero h = absurd (kind (level_at dev 0) (level_fact dev f 0 (within 0 (omega arith))).kind (subst (λ n. is_implementation (level_at dev n) ≡ true) h b.complete))
+      by_test (suc n) h = omega arith
+
+  next-or-last : (k : ℕ) → suc k ≤ last dev → (suc k < last dev) ⊎ (suc k ≡ last dev)
+  next-or-last k m = by_test (nat_lt (suc k) (last dev)) refl
+    where
+      by_test : (t : Bool) → nat_lt (suc k) (last dev) ≡ t → (suc k < last dev) ⊎ (suc k ≡ last dev)
+      by_test true q = inl (grind (arith, nat_tests))
+      by_test false q = inr (grind (arith, nat_tests))
+
+  -- each level carries the one above it, the last one from equal values
+  carry-body : (k : ℕ) → suc k ≤ last dev → (o : ℕ) → o < length dev.heads → (x : State) → IsTypedState dev.table x → AllHold find (at_state dev.table x) (unasserted_hypotheses dev (suc k) o) →
+      (suc k ≡ last dev → AllHold find (at_state dev.table x) (map equation (beside (body_at dev (suc k) o).outputs (body_at dev k o).outputs))) →
+      Establishes find dev (suc k) (whole (body_at dev (suc k) o)) x (Answered find dev (suc k) (body_at dev k o).sub (body_at dev (suc k) o).outputs (body_at dev k o).outputs)
+  carry-body k m o is x t h eq = elim (next-or-last k m) [ inl p ↦ (carries k p).operations o is x t h | inr p ↦ elim lasts [ inl c ↦ (c k p).operations o is x t h | inr c ↦ (c.carries k p).operations o is x t h (eq p) ] ]
+
+  carry-opening : (k : ℕ) → suc k ≤ last dev → (x : State) → IsTypedState dev.table x → AllHold find (at_state dev.table x) (init_hypotheses dev (suc k)) → (AreDistinct (seconds low.links) → suc k ≡ last dev → AllHold find (at_state dev.table x) (map equation (level_at dev (suc k)).links)) →
+      Establishes find dev (suc k) (level_at dev (suc k)).init x (Answered find dev (suc k) (level_at dev k).init [] [])
+  carry-opening k m x t h eq = elim (next-or-last k m) [ inl p ↦ (carries k p).init x t h | inr p ↦ elim lasts [ inl c ↦ (c k p).init x t h | inr c ↦ (c.carries k p).init x t h (eq c.apart p) ] ]
+
   -- the last level is an implementation
   arrays-last : (k : ℕ) → last dev ≡ k → arrays_at dev k ≡ Some (arrays_of dev)
   arrays-last k h = ap (λ c. cond c (Some (arrays_of dev)) None) (subst (λ n. is_implementation (level_at dev n) ≡ true) h b.complete)
@@ -250,8 +287,12 @@ module _ (find : Finder) (dev : Development) (f : IsLawful dev) (b : IsB0Develop
   abbrev base : State
   base n = base_of (declared_type dev.table n)
 
+  abbrev first_laid : State
+  first_laid = laid dev first_scope zeros base
+
+  -- what the last level's variables are linked to has their values
   abbrev first_state : State
-  first_state = laid dev first_scope zeros base
+  first_state = with_values first_laid (seconds low.links) (map first_laid (firsts low.links))
 
   abbrev inits : ℕ → Substitution
   inits k = (level_at dev k).init
@@ -259,31 +300,102 @@ module _ (find : Finder) (dev : Development) (f : IsLawful dev) (b : IsB0Develop
   abbrev no_outputs : ℕ → List ℕ
   no_outputs k = []
 
+  low_fact : IsLevelOf dev (last dev) low
+  low_fact = level_fact dev f (last dev) (within (last dev) (omega arith))
+
+  typed-laid : IsTypedState dev.table first_laid
+  typed-laid = laid-is-typed [] [] (λ n h. none-among n h) (λ n h. none-among n h) zeros zeros-fit base (base-typed dev f.table)
+
+  values-laid : HasValues find dev first_laid
+  values-laid = laid-values [] [] (λ n h. none-among n h) (λ n h. none-among n h) zeros zeros-fit base
+
+  linked-types : (ls : List (ℕ × ℕ)) → Each (IsLink dev (last dev)) ls → are_values_for dev.table (seconds ls) (map first_laid (firsts ls)) ≡ true
+  linked-types [] e = refl
+  linked-types (p ∷ ls) e = and-true (is_value_of (set_size dev.table) (declared_type dev.table p.1) (first_laid p.0)) (are_values_for dev.table (seconds ls) (map first_laid (firsts ls)))
+      (subst (λ t. is_value_of (set_size dev.table) t (first_laid p.0) ≡ true) (sym (declared-is dev p.1 e.0.alike.0 e.0.alike.2)) (typed-laid.typed p.0 e.0.alike.0 e.0.alike.1)) (linked-types ls e.1)
+
   typed-first : IsTypedState dev.table first_state
-  typed-first = laid-is-typed [] [] (λ n h. none-among n h) (λ n h. none-among n h) zeros zeros-fit base (base-typed dev f.table)
+  typed-first = with_values-typed dev.table first_laid typed-laid (seconds low.links) (map first_laid (firsts low.links)) (linked-types low.links low_fact.links)
+
+  -- a variable that is linked to is at home above
+  linked-above : (ls : List (ℕ × ℕ)) → Each (IsLink dev (last dev)) ls → (n : ℕ) → among (seconds ls) n ≡ true → is_variable_above (last dev) (home_of dev n) ≡ true
+  linked-above [] e n h = absurd (cc)
+  linked-above (p ∷ ls) e n h = elim (or-cases (nat_eq n p.1) (among (seconds ls) n) h) [
+    | inl q ↦ subst (λ m. is_variable_above (last dev) (home_of dev m) ≡ true) (sym (nat_eq-same n p.1 q)) (subst (λ j. is_variable_above j (home_of dev p.1) ≡ true) (sym e.0.above.1) e.0.above.2)
+    | inr q ↦ linked-above ls e.1 n q
+  ]
+
+  unlinked : (n : ℕ) → is_variable_above (last dev) (home_of dev n) ≡ false → first_state n ≡ first_laid n
+  unlinked n h = with_values-out first_laid (seconds low.links) (map first_laid (firsts low.links)) n (elim (cases (among (seconds low.links) n)) [ inl q ↦ clash (is_variable_above (last dev) (home_of dev n)) (linked-above low.links low_fact.links n q) h | inr q ↦ q ])
+
+  constant-not-above : (k : ℕ) (o : Option Home) → is_constant o ≡ true → is_variable_above k o ≡ false
+  constant-not-above zero o h = refl
+  constant-not-above (suc k) None h = refl
+  constant-not-above (suc k) (Some Constant) h = refl
+  constant-not-above (suc k) (Some Input) h = refl
+  constant-not-above (suc k) (Some (AbstractHome i)) h = absurd (cc)
+  constant-not-above (suc k) (Some (Concrete i)) h = absurd (cc)
+  constant-not-above (suc k) (Some (Inner i)) h = refl
+
+  own-not-above : (k : ℕ) (o : Option Home) → is_variable_of k o ≡ true → is_variable_above k o ≡ false
+  own-not-above zero o h = refl
+  own-not-above (suc k) None h = refl
+  own-not-above (suc k) (Some Constant) h = refl
+  own-not-above (suc k) (Some Input) h = refl
+  own-not-above (suc k) (Some (AbstractHome i)) h = grind (arith, nat_tests)
+  own-not-above (suc k) (Some (Concrete i)) h = grind (arith, nat_tests)
+  own-not-above (suc k) (Some (Inner i)) h = refl
 
   values-first : HasValues find dev first_state
-  values-first = laid-values [] [] (λ n h. none-among n h) (λ n h. none-among n h) zeros zeros-fit base
+  values-first = values-same dev find first_state first_laid dev.values f.values (λ n h. unlinked n (constant-not-above (last dev) (home_of dev n) h)) values-laid
+
+  shown-first : (n : ℕ) → first_scope n ≡ true → first_state n ≡ seen dev zeros n
+  shown-first n h = unlinked n (one_of_four (is_constant (home_of dev n)) (among [] n) (is_variable_of (last dev) (home_of dev n)) (among [] n) (is_variable_above (last dev) (home_of dev n) ≡ false) h
+      (λ q. constant-not-above (last dev) (home_of dev n) q) (λ q. absurd (cc)) (λ q. own-not-above (last dev) (home_of dev n) q) (λ q. absurd (cc)))
+      ∙ over-at first_scope (seen dev zeros) base n h
+
+  -- linked variables start with the same values
+  links-first : AreDistinct (seconds low.links) → (x : State) → ((n : ℕ) → is_before (suc (last dev)) (home_of dev n) ≡ true → x n ≡ first_state n) → AllHold find (at_state dev.table x) (map equation low.links)
+  links-first apart x same = each low.links low_fact.links (λ n h. h) (values-at low.links apart first_laid)
+    where
+      values-at : (ls : List (ℕ × ℕ)) → AreDistinct (seconds ls) → (s : State) → map (with_values s (seconds ls) (map first_laid (firsts ls))) (seconds ls) ≡ map first_laid (firsts ls)
+      values-at [] d s = refl
+      values-at (p ∷ ls) d s =
+          let first : with_values (with_value s p.1 (first_laid p.0)) (seconds ls) (map first_laid (firsts ls)) p.1 ≡ first_laid p.0 = with_values-out (with_value s p.1 (first_laid p.0)) (seconds ls) (map first_laid (firsts ls)) p.1 d.0 ∙ ap (λ t. cond t (first_laid p.0) (s p.1)) (nat_eq-self p.1) in
+          let rest = values-at ls d.1 (with_value s p.1 (first_laid p.0)) in
+          λ i. first i ∷ rest i
+
+      each : (ls : List (ℕ × ℕ)) → Each (IsLink dev (last dev)) ls → ((n : ℕ) → among (seconds ls) n ≡ true → among (seconds ls) n ≡ true) → map first_state (seconds ls) ≡ map first_laid (firsts ls) → AllHold find (at_state dev.table x) (map equation ls)
+      each [] e h v = tt
+      each (p ∷ ls) e h v =
+          let here : first_state p.1 ≡ first_laid p.0 = cc v in
+          let rest : map first_state (seconds ls) ≡ map first_laid (firsts ls) = cc v in
+          let up : is_variable_above (last dev) (home_of dev p.1) ≡ true = subst (λ j. is_variable_above j (home_of dev p.1) ≡ true) (sym e.0.above.1) e.0.above.2 in
+          let equal : x p.0 ≡ x p.1 = same p.0 (variable-before (suc (last dev)) (last dev) (omega arith) (home_of dev p.0) e.0.below) ∙ unlinked p.0 (own-not-above (last dev) (home_of dev p.0) e.0.below) ∙ sym here ∙ sym (same p.1 (above-before (suc (last dev)) (last dev) (omega arith) (home_of dev p.1) up)) in
+          (ap (is_equal (x p.0)) (sym equal) ∙ value_eq-self (x p.0), each ls e.1 (λ n q. q) rest)
+
+  links-there : (k : ℕ) → (x : State) → ((n : ℕ) → is_before (suc (suc k)) (home_of dev n) ≡ true → x n ≡ first_state n) → AreDistinct (seconds low.links) → suc k ≡ last dev → AllHold find (at_state dev.table x) (map equation (level_at dev (suc k)).links)
+  links-there k x same apart h = subst (λ j. AllHold find (at_state dev.table x) (map equation (level_at dev j).links)) (sym h) (links-first apart x (subst (λ j. (n : ℕ) → is_before (suc j) (home_of dev n) ≡ true → x n ≡ first_state n) h same))
 
   carry-init : Carry find dev inits no_outputs first_state
-  carry-init k m x y t same r = ((carries k m).init x t (init-hyps (suc k) x t (values-from (suc (suc k)) x first_state same values-first))).results y r
+  carry-init k m x y t same r = (carry-opening k m x t (init-hyps (suc k) x t (values-from (suc (suc k)) x first_state same values-first)) (links-there k x same)).results y r
 
   init-clean : Clean find dev.table (Some (arrays_of dev)) low.init first_state
   init-clean = at (last dev) refl
     where
       at : (k : ℕ) → last dev ≡ k → Clean find dev.table (Some (arrays_of dev)) (level_at dev k).init first_state
       at zero h = subst (λ o. Clean find dev.table o (level_at dev 0).init first_state) (arrays-last 0 h) (keeps.init first_state typed-first (init-hyps 0 first_state typed-first values-first)).clean
-      at (suc k) h = subst (λ o. Clean find dev.table o (level_at dev (suc k)).init first_state) (arrays-last (suc k) h) ((carries k (omega (arith, h))).init first_state typed-first (init-hyps (suc k) first_state typed-first values-first)).clean
+      at (suc k) h = subst (λ o. Clean find dev.table o (level_at dev (suc k)).init first_state) (arrays-last (suc k) h) (carry-opening k (omega (arith, h)) first_state typed-first (init-hyps (suc k) first_state typed-first values-first) (links-there k first_state (λ n q. refl))).clean
 
   init-ends : Ends find dev.table low.init first_state
   init-ends = at (last dev) refl
     where
       at : (k : ℕ) → last dev ≡ k → Ends find dev.table (level_at dev k).init first_state
       at zero h = (keeps.init first_state typed-first (init-hyps 0 first_state typed-first values-first)).ends
-      at (suc k) h = ((carries k (omega (arith, h))).init first_state typed-first (init-hyps (suc k) first_state typed-first values-first)).ends
+      at (suc k) h = (carry-opening k (omega (arith, h)) first_state typed-first (init-hyps (suc k) first_state typed-first values-first) (links-there k first_state (λ n q. refl))).ends
 
   init-run : IsReturned find dev image first_scope low.init (length (init_code dev)) 0 zeros first_state
-  init-run = openings_follow find dev image (translated-greatest dev) f b 0 zeros first_state (stands-first image 0 (init_code dev) (operations_code dev low.bodies) whole-stands) zeros-fit (λ n h. over-at first_scope (seen dev zeros) base n h) init-clean init-ends
+  init-run = openings_follow find dev image (translated-greatest dev) f b 0 zeros first_state (stands-first image 0 (init_code dev) (operations_code dev low.bodies) whole-stands) zeros-fit shown-first init-clean init-ends
 
   -- what the cells of the level's variables show
   vars-shown : (inputs outputs : List ℕ) (k : List ℤ) (top : State) → ((n : ℕ) → names_own dev (last dev) inputs outputs n ≡ true → top n ≡ seen dev k n) → (n : ℕ) → among low.vars n ≡ true → top n ≡ shown dev k n
@@ -355,17 +467,104 @@ module _ (find : Finder) (dev : Development) (f : IsLawful dev) (b : IsB0Develop
     abbrev scope_here : ℕ → Bool
     scope_here = names_own dev (last dev) head.inputs (outs (last dev))
 
+    abbrev laid_here : State
+    laid_here = laid dev scope_here start_cells e0
+
+    -- the outputs of the level above the last start with the values of the last one's
+    abbrev next : ℕ
+    next = last dev - 1
+
+    next-is : suc next ≡ last dev
+    next-is = let p = lower in omega (arith, p)
+
     abbrev e : State
-    e = laid dev scope_here start_cells e0
+    e = with_values laid_here (outs next) (map laid_here (outs (last dev)))
+
+    typed-laid-here : IsTypedState dev.table laid_here
+    typed-laid-here = laid-is-typed head.inputs (outs (last dev)) ins-there outs-there start_cells start-kinds e0 l.typed
+
+    output-types : (xs ys zs : List ℕ) → AllAlike dev.table xs zs → AllAlike dev.table ys zs → are_values_for dev.table xs (map laid_here ys) ≡ true
+    output-types [] [] [] p q = refl
+    output-types [] [] (z ∷ zs) p q = absurd p
+    output-types [] (y ∷ ys) [] p q = absurd q
+    output-types [] (y ∷ ys) (z ∷ zs) p q = absurd p
+    output-types (x ∷ xs) ys [] p q = absurd p
+    output-types (x ∷ xs) [] (z ∷ zs) p q = absurd q
+    output-types (x ∷ xs) (y ∷ ys) (z ∷ zs) p q =
+        let one : declared_type dev.table x ≡ declared_type dev.table y = declared-is dev x p.0.0 p.0.1 ∙ sym (declared-is dev z p.0.0 p.0.2) ∙ declared-is dev z q.0.0 q.0.2 ∙ sym (declared-is dev y q.0.0 q.0.1) in
+        and-true (is_value_of (set_size dev.table) (declared_type dev.table x) (laid_here y)) (are_values_for dev.table xs (map laid_here ys))
+        (subst (λ t. is_value_of (set_size dev.table) t (laid_here y) ≡ true) (sym (one ∙ declared-is dev y q.0.0 q.0.1)) (typed-laid-here.typed y q.0.0 q.0.1)) (output-types xs ys zs p.1 q.1)
+
+    next-within : next ≤ last dev
+    next-within = let p = next-is in omega (arith, p)
 
     typed-e : IsTypedState dev.table e
-    typed-e = laid-is-typed head.inputs (outs (last dev)) ins-there outs-there start_cells start-kinds e0 l.typed
+    typed-e = with_values-typed dev.table laid_here typed-laid-here (outs next) (map laid_here (outs (last dev))) (output-types (outs next) (outs (last dev)) (outs 0) (fact next next-within).output_types (fact (last dev) (omega arith)).output_types)
+
+    -- all else is as it was
+    laid-kept : (n : ℕ) → is_inner_of next (home_of dev n) ≡ false → e n ≡ laid_here n
+    laid-kept n h = with_values-out laid_here (outs next) (map laid_here (outs (last dev))) n (all-none (λ y. is_inner_of next (home_of dev y)) (outs next) (fact next next-within).outputs n h)
+
+    constant-not-inner : (j : ℕ) (o : Option Home) → is_constant o ≡ true → is_inner_of j o ≡ false
+    constant-not-inner j None h = refl
+    constant-not-inner j (Some Constant) h = refl
+    constant-not-inner j (Some Input) h = refl
+    constant-not-inner j (Some (AbstractHome i)) h = refl
+    constant-not-inner j (Some (Concrete i)) h = refl
+    constant-not-inner j (Some (Inner i)) h = absurd (cc)
+
+    input-not-inner : (j : ℕ) (o : Option Home) → is_input o ≡ true → is_inner_of j o ≡ false
+    input-not-inner j None h = refl
+    input-not-inner j (Some Constant) h = refl
+    input-not-inner j (Some Input) h = refl
+    input-not-inner j (Some (AbstractHome i)) h = refl
+    input-not-inner j (Some (Concrete i)) h = refl
+    input-not-inner j (Some (Inner i)) h = absurd (cc)
+
+    inner-above : (j k : ℕ) → j < k → (o : Option Home) → is_inner_of k o ≡ true → is_inner_of j o ≡ false
+    inner-above j k p None h = refl
+    inner-above j k p (Some Constant) h = refl
+    inner-above j k p (Some Input) h = refl
+    inner-above j k p (Some (AbstractHome i)) h = refl
+    inner-above j k p (Some (Concrete i)) h = refl
+    inner-above j k p (Some (Inner i)) h = grind (arith, nat_tests)
+
+    scope-kept : (n : ℕ) → scope_here n ≡ true → e n ≡ laid_here n
+    scope-kept n h = laid-kept n (one_of_four (is_constant (home_of dev n)) (among head.inputs n) (is_variable_of (last dev) (home_of dev n)) (among (outs (last dev)) n) (is_inner_of next (home_of dev n) ≡ false) h
+        (λ q. constant-not-inner next (home_of dev n) q)
+        (λ q. input-not-inner next (home_of dev n) (is-input n q))
+        (λ q. variable_not_inner (last dev) next (home_of dev n) q)
+        (λ q. inner-above next (last dev) (let p = next-is in omega (arith, p)) (home_of dev n) (all-among (λ x. is_inner_of (last dev) (home_of dev x)) (outs (last dev)) (fact (last dev) (omega arith)).outputs n q)))
 
     values-e : HasValues find dev e
-    values-e = laid-values head.inputs (outs (last dev)) ins-there outs-there start_cells start-kinds e0
+    values-e = values-same dev find e laid_here dev.values f.values (λ n h. laid-kept n (constant-not-inner next (home_of dev n) h)) (laid-values head.inputs (outs (last dev)) ins-there outs-there start_cells start-kinds e0)
 
     shown-e : (n : ℕ) → scope_here n ≡ true → e n ≡ seen dev start_cells n
-    shown-e n h = over-at scope_here (seen dev start_cells) e0 n h
+    shown-e n h = scope-kept n h ∙ over-at scope_here (seen dev start_cells) e0 n h
+
+    -- the outputs of the last two levels have the same values
+    outputs-equal : (k : ℕ) → (x : State) → ((n : ℕ) → is_before (suc (suc k)) (home_of dev n) ≡ true → x n ≡ e n) → suc k ≡ last dev → AllHold find (at_state dev.table x) (map equation (beside (outs (suc k)) (outs k)))
+    outputs-equal k x same h =
+        let here : k ≡ next = let p = next-is in omega (arith, h, p) in
+        subst (λ j. AllHold find (at_state dev.table x) (map equation (beside (outs (suc k)) (outs j)))) (sym here) (subst (λ j. AllHold find (at_state dev.table x) (map equation (beside (outs j) (outs next)))) (sym h)
+        (each (outs (last dev)) (outs next) (many-outputs next next-within) (fact next next-within).distinct_outputs laid_here
+        (λ n q. same n (inner-before (suc (suc k)) (last dev) (omega (arith, h)) (home_of dev n) (last-inner n q)) ∙ laid-kept n (inner-above next (last dev) (let p = next-is in omega (arith, p)) (home_of dev n) (last-inner n q)))
+        (λ n q. same n (inner-before (suc (suc k)) next (let p = next-is in omega (arith, h, p)) (home_of dev n) (all-among (λ y. is_inner_of next (home_of dev y)) (outs next) (fact next next-within).outputs n q)))))
+      where
+        last-inner : (n : ℕ) → among (outs (last dev)) n ≡ true → is_inner_of (last dev) (home_of dev n) ≡ true
+        last-inner n q = all-among (λ y. is_inner_of (last dev) (home_of dev y)) (outs (last dev)) (fact (last dev) (omega arith)).outputs n q
+
+        many-outputs : (j : ℕ) → j ≤ last dev → length (outs (last dev)) ≡ length (outs j)
+        many-outputs j m = (fact (last dev) (omega arith)).as_many_outputs ∙ sym (fact j m).as_many_outputs
+
+        each : (xs ys : List ℕ) → length xs ≡ length ys → AreDistinct ys → (s : State) → ((n : ℕ) → among xs n ≡ true → x n ≡ laid_here n) → ((n : ℕ) → among ys n ≡ true → x n ≡ with_values s ys (map laid_here xs) n) → AllHold find (at_state dev.table x) (map equation (beside xs ys))
+        each [] ys l d s p q = tt
+        each (a ∷ xs) [] l d s p q = absurd (omega (arith, l))
+        each (a ∷ xs) (z ∷ ys) l d s p q =
+            let low_value = p a (or-left (nat_eq a a) (among xs a) (nat_eq-self a)) in
+            let high_value : x z ≡ laid_here a = q z (or-left (nat_eq z z) (among ys z) (nat_eq-self z)) ∙ with_values-out (with_value s z (laid_here a)) ys (map laid_here xs) z d.0 ∙ ap (λ t. cond t (laid_here a) (s z)) (nat_eq-self z) in
+            let equal : x a ≡ x z = low_value ∙ sym high_value in
+            (ap (is_equal (x a)) (sym equal) ∙ value_eq-self (x a), each xs ys (omega (arith, l)) d.1 (with_value s z (laid_here a)) (λ n k. p n (or-right (nat_eq n a) (among xs n) k)) (λ n k. q n (or-right (nat_eq n z) (among ys n) k)))
 
     input-in : (n : ℕ) → among head.inputs n ≡ true → scope_here n ≡ true
     input-in n h =
@@ -388,13 +587,13 @@ module _ (find : Finder) (dev : Development) (f : IsLawful dev) (b : IsB0Develop
           let before : e0 n ≡ shown dev mem n = pointwise low.vars e0 (shown dev mem) l.cells.variables n listed in
           shown-e n q ∙ given-other dev head.inputs (map as_number c.args) are-inputs mem n no_input ∙ seen-cell dev n mem dev.values (var-cell dev f n listed).0 ∙ sym before
           )
-      | inr q ↦ over-off scope_here (seen dev start_cells) e0 n q
+      | inr q ↦ laid-kept n (variable_not_inner j next (home_of dev n) h) ∙ over-off scope_here (seen dev start_cells) e0 n q
     ]
 
     constant-kept : (n : ℕ) → is_constant (home_of dev n) ≡ true → e n ≡ e0 n
     constant-kept n h = elim (cases (scope_here n)) [
       | inl q ↦ shown-e n q ∙ sym (values-then dev find start_cells e0 dev.values f.values constants l.values n (values.1 n h))
-      | inr q ↦ over-off scope_here (seen dev start_cells) e0 n q
+      | inr q ↦ laid-kept n (constant-not-inner next (home_of dev n) h) ∙ over-off scope_here (seen dev start_cells) e0 n q
     ]
 
     above-kept : (j n : ℕ) → is_variable_above j (home_of dev n) ≡ true → e n ≡ e0 n
@@ -472,11 +671,11 @@ module _ (find : Finder) (dev : Development) (f : IsLawful dev) (b : IsB0Develop
         subst (λ i. holds find dev.table e (condition i) ≡ true) (sym none) (true_before e (gives e typed-e (λ n h. refl)))
     conditions-hold (suc k) m j p =
         let above : (i : ℕ) → i ≤ k → holds find dev.table e (condition i) ≡ true = conditions-hold k (omega arith) in
-        let here = ends-condition find dev.table (condition (suc k)) (sub (suc k)) e ((carries k m).operations c.op is.op e typed-e (hyps k m above e typed-e (λ n h. refl))).ends in
+        let here = ends-condition find dev.table (condition (suc k)) (sub (suc k)) e (carry-body k m c.op is.op e typed-e (hyps k m above e typed-e (λ n h. refl)) (outputs-equal k e (λ n h. refl))).ends in
         elim (below-or-same j k p) [ inl q ↦ above j q | inr q ↦ subst (λ i. holds find dev.table e (condition i) ≡ true) (sym q) here ]
 
     carry-call : Carry find dev sub outs e
-    carry-call k m x y t same r = ((carries k m).operations c.op is.op x t (hyps k m (conditions-hold k (omega arith)) x t same)).results y (whole-runs find dev.table (body_at dev (suc k) c.op) x y r)
+    carry-call k m x y t same r = (carry-body k m c.op is.op x t (hyps k m (conditions-hold k (omega arith)) x t same) (outputs-equal k x same)).results y (whole-runs find dev.table (body_at dev (suc k) c.op) x y r)
 
     abbrev last_body : Body
     last_body = body_at dev (last dev) c.op
@@ -494,7 +693,7 @@ module _ (find : Finder) (dev : Development) (f : IsLawful dev) (b : IsB0Develop
         at zero h = subst (λ o. Clean find dev.table o (sub 0) e) (arrays-last 0 h) (keeps.operations c.op is.op e typed-e (properties-hold 1 e typed-e values-e) invariant-e (true_before e (gives e typed-e (λ n q. refl)))).clean
         at (suc k) h =
             let below : suc k ≤ last dev = omega (arith, h) in
-            of_whole (suc k) (subst (λ o. Clean find dev.table o (whole (body_at dev (suc k) c.op)) e) (arrays-last (suc k) h) ((carries k below).operations c.op is.op e typed-e (hyps k below (conditions-hold k (omega arith)) e typed-e (λ n q. refl))).clean)
+            of_whole (suc k) (subst (λ o. Clean find dev.table o (whole (body_at dev (suc k) c.op)) e) (arrays-last (suc k) h) (carry-body k below c.op is.op e typed-e (hyps k below (conditions-hold k (omega arith)) e typed-e (λ n q. refl)) (outputs-equal k e (λ n q. refl))).clean)
 
     body-ends : Ends find dev.table last_body.sub e
     body-ends = at (last dev) refl
@@ -506,7 +705,7 @@ module _ (find : Finder) (dev : Development) (f : IsLawful dev) (b : IsB0Develop
         at zero h = (keeps.operations c.op is.op e typed-e (properties-hold 1 e typed-e values-e) invariant-e (true_before e (gives e typed-e (λ n q. refl)))).ends
         at (suc k) h =
             let below : suc k ≤ last dev = omega (arith, h) in
-            of_whole (suc k) ((carries k below).operations c.op is.op e typed-e (hyps k below (conditions-hold k (omega arith)) e typed-e (λ n q. refl))).ends
+            of_whole (suc k) (carry-body k below c.op is.op e typed-e (hyps k below (conditions-hold k (omega arith)) e typed-e (λ n q. refl)) (outputs-equal k e (λ n q. refl))).ends
 
     body-run : (place : ℕ) → Stands image place (operation_code dev last_body) → IsReturned find dev image scope_here last_body.sub (length (operation_code dev last_body)) place start_cells e
     body-run place stands = operations_follow find dev image (translated-greatest dev) f b c.op is.op place start_cells e stands start-kinds shown-e body-clean body-ends

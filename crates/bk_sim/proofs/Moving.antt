@@ -42,6 +42,7 @@ use Rattle.bk_form.proofs.Widening.{widening_means, variable-wider, variables_li
 use Rattle.bk_dev.proofs.FlatSame.{levels-many, level-is, body-is, maps-same, low-same, declared-same}
 use Rattle.bk_sim.proofs.FlatShown.{kinds-down, kinds-up, shown-same}
 use Rattle.bk_dev.proofs.InTable.{blank_head, vars-in, inputs-in, outputs-in, low-vars, cells-in-table}
+use Rattle.bk_dev.proofs.Room.{flat-formed}
 
 -- ---- ends
 good-so : (image : Image) (fuel : ℕ) (start : Config) (P Q : List ℤ → Type 0) → ((m : List ℤ) → P m → Q m) → (end : End) (d : Config) → IsGood image fuel start P end d → IsGood image fuel start Q end d
@@ -204,7 +205,7 @@ module _ (find : Finder) (dev : Development) (f : IsLawful dev) (well : IsWellFo
   shows-down e a h = sym (ap (map e) high-same) ∙ h
 
   opens-down : (a : Abstract) → Opens find flat a → Opens find dev a
-  opens-down a h = (h.0, h.1, typed-down h.0 h.2, has-down h.0 h.3, flattened_runs.init find dev f well 0 f.some_level h.0 h.1 h.4, shows-down h.1 a h.5)
+  opens-down a h = (h.0, h.1, typed-down h.0 h.2, has-down h.0 h.3, flattened_runs.init find dev f 0 f.some_level h.0 h.1 h.4, shows-down h.1 a h.5)
 
   gives-down : (c : Call) (a : Abstract) (e : State) → Gives find flat c a e → Gives find dev c a e
   gives-down c a e g = record { typed = typed-down e g.typed; values = has-down e g.values; shown = shows-down e a g.shown; args = g.args }
@@ -219,7 +220,7 @@ module _ (find : Finder) (dev : Development) (f : IsLawful dev) (well : IsWellFo
     s.0,
     s.1,
     gives-down c a s.0 s.2,
-    flattened_runs.operations find dev f well 0 f.some_level c.op low s.0 s.1 s.3,
+    flattened_runs.operations find dev f 0 f.some_level c.op low s.0 s.1 s.3,
     sym (ap (map s.1) (outputs-same c.op)) ∙ s.4,
     shows-down s.1 b s.5,
   )
@@ -320,4 +321,4 @@ module _ (find : Finder) (dev : Development) (f : IsLawful dev) (well : IsWellFo
       follows-down = calls_decide find dev image operations opening calls
 
 pub followed_where_flattened : FollowedWhereFlattened
-followed_where_flattened find dev f b well image h = follows-down find dev f well b image h
+followed_where_flattened find dev f b image h = follows-down find dev f (flat-formed dev f.table) b image h

@@ -34,11 +34,12 @@ use Rattle.bk_gen.proofs.Loads.{translations_load}
 use Rattle.bk_sim.specs.Settling.{settling_table, by_local, by_loop, settling_by, settling, call_by_local, call_by_loop, local_entry, loop_entry, settling_code, settled, unsettled, to_the_test, behind_the_start, onwards}
 use Rattle.bk_sim.specs.Laws.{WrongCodesDoNotFollow}
 use Rattle.bk_sim.proofs.ExchangeFacts.{names-both}
+use Rattle.bk_dev.proofs.HomesThere.{homes-stand}
 use Rattle.bk_dev.proofs.Levels.{two-levels}
 
 -- ---- it is a development
 table-facts : IsWellFormed settling_table
-table-facts = record { counted = λ k d h. absurd (omega (arith)); listed = listed; few_sets = omega (arith); few_variables = omega (arith) }
+table-facts = record { counted = λ k d h. absurd (omega (arith)); listed = listed }
   where
     listed : All (λ v. IsTrue (lists_type settling_table v.of_type)) settling_table.variables
     listed zero d h = refl
@@ -210,6 +211,8 @@ settling_facts = record {
   shapes = (record { init = tt; bodies = (tt, (tt, tt)) }, (record { init = tt; bodies = ((inr tt, (tt, tt, tt)), ((tt, tt, tt), tt)) }, tt));
   binders_differ = (refl, tt);
   room = omega (arith);
+  few_sets = omega (arith);
+  homes_there = homes-stand 2 settling.homes refl;
 }
 
 settling_in_b0 : IsB0Development settling

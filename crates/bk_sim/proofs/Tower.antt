@@ -20,7 +20,7 @@ use Rattle.bk_sim.proofs.B0Code.{lawful_follows}
 
 -- ---- it is lawful
 table-facts : IsWellFormed tower_table
-table-facts = record { counted = λ k d h. absurd (omega (arith)); listed = listed; few_sets = omega (arith); few_variables = omega (arith) }
+table-facts = record { counted = λ k d h. absurd (omega (arith)); listed = listed }
   where
     listed : All (λ v. IsTrue (lists_type tower_table v.of_type)) tower_table.variables
     listed zero d h = refl
@@ -223,11 +223,10 @@ pub tower_is_followed : TowerIsFollowed
 tower_is_followed = record {
   lawful = tower-lawful;
   no_development = no-development;
-  formed = table-facts;
   in_b0 = tower-in-b0;
   meets = λ find e t h. tt;
   keeps = keeps;
   carries = carries;
-  follows = λ find. lawful_follows.follows find tower tower-lawful table-facts tower-in-b0 (λ e t h. tt) (keeps find) (carries find);
-  ends = λ find. lawful_follows.ends find tower tower-lawful table-facts tower-in-b0 (λ e t h. tt) (keeps find) (carries find);
+  follows = λ find. lawful_follows.follows find tower tower-lawful tower-in-b0 (λ e t h. tt) (keeps find) (carries find);
+  ends = λ find. lawful_follows.ends find tower tower-lawful tower-in-b0 (λ e t h. tt) (keeps find) (carries find);
 }

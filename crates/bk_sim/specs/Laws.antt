@@ -4,7 +4,7 @@ use Rattle.bk_form.specs.Search.{Finder, IsSearch}
 use Rattle.bk_dev.specs.Development.{Development}
 use Rattle.bk_dev.specs.Facts.{IsDevelopment, IsLawful, LastIsFlat, OnlyLastIsImplementation}
 use Rattle.bk_dev.specs.B0.{IsB0Development}
-use Rattle.bk_dev.specs.Claims.{Keeps, Carries, ValuesMeet}
+use Rattle.bk_dev.specs.Claims.{Keeps, Carries, ValuesMeet, LastCarriesFromEqual}
 use Rattle.bk_dev.specs.Counter.{counter}
 use Rattle.bk_b0.specs.Translation.{translation}
 use Rattle.bk_code.specs.Checks.{IsLoadable}
@@ -15,19 +15,35 @@ use Rattle.bk_sim.specs.Exchange.{exchange}
 use Rattle.bk_sim.specs.Tower.{tower}
 use Rattle.bk_sim.specs.Settling.{settling, settling_code, settled, unsettled, to_the_test, behind_the_start, onwards}
 use Rattle.bk_sim.specs.Within.{EndsWithoutLoops}
-use Rattle.bk_form.specs.Table.{IsWellFormed}
 use Rattle.bk_dev.specs.Flattened.{flattened}
 
 -- code that opens well and whose calls go well one by one follows: sessions need nothing more
 abbrev pub CallsDecide : Type 0
 CallsDecide = (find : Finder) (dev : Development) (image : Image) → HasOperations dev image → OpensWell find dev image → CallsGoWell find dev image → Follows find dev image
 
--- of a lawful development in B0, with a chain of any length, an implementation below an implementation too, with || in the levels above or without: where 32 bits number its variables with
--- all copies, the machine keeps its invariant, each level carries the one above and the constants' values meet the properties, the
+-- of a lawful development in B0, with a chain of any length, an implementation below an implementation too, with || in the levels above
+-- or without: where the machine keeps its invariant, each level carries the one above and the constants' values meet the properties, the
 -- translation follows the machine, and what has no loop ends within its code
 pub record LawfulFollows : Type 0 where
-  pub follows : (find : Finder) (dev : Development) → IsLawful dev → IsWellFormed (flattened dev).table → IsB0Development dev → ValuesMeet find dev → Keeps find dev → ((j : ℕ) → suc j < length dev.levels → Carries find dev j) → Follows find dev (translation dev)
-  pub ends : (find : Finder) (dev : Development) → IsLawful dev → IsWellFormed (flattened dev).table → IsB0Development dev → ValuesMeet find dev → Keeps find dev → ((j : ℕ) → suc j < length dev.levels → Carries find dev j) → EndsWithoutLoops find dev (translation dev)
+  pub follows : (find : Finder) (dev : Development) → IsLawful dev → IsB0Development dev → ValuesMeet find dev → Keeps find dev →
+      ((j : ℕ) → suc j < length dev.levels → Carries find dev j) → Follows find dev (translation dev)
+  pub ends : (find : Finder) (dev : Development) → IsLawful dev → IsB0Development dev → ValuesMeet find dev → Keeps find dev →
+      ((j : ℕ) → suc j < length dev.levels → Carries find dev j) → EndsWithoutLoops find dev (translation dev)
+
+-- a lawful development in B0 whose constants' values meet the properties, whose machine keeps its invariant, and each level of which
+-- carries the one above, but the last one only from equal values
+pub record CarriesToLast (find : Finder) (dev : Development) : Type 0 where
+  pub lawful : IsLawful dev
+  pub in_b0 : IsB0Development dev
+  pub values : ValuesMeet find dev
+  pub keeps : Keeps find dev
+  pub carries : (j : ℕ) → suc (suc j) < length dev.levels → Carries find dev j
+  pub last_carries : LastCarriesFromEqual find (flattened dev)
+
+-- its translation follows it too
+pub record EqualFollows : Type 0 where
+  pub follows : (find : Finder) (dev : Development) → CarriesToLast find dev → Follows find dev (translation dev)
+  pub ends : (find : Finder) (dev : Development) → CarriesToLast find dev → EndsWithoutLoops find dev (translation dev)
 
 -- the headline, for every development in B0: where the machine keeps its invariant, each level carries the one above and the constants'
 -- values meet the properties, the translation follows the machine
@@ -56,7 +72,7 @@ NineDoesNotFollow = (find : Finder) → Follows find counter (counter_code 9) �
 
 -- where no || stands in the last level, whatever follows the flattened development follows the development
 abbrev pub FollowedWhereFlattened : Type 0
-FollowedWhereFlattened = (find : Finder) (dev : Development) → IsLawful dev → LastIsFlat dev → IsWellFormed (flattened dev).table → (image : Image) → Follows find (flattened dev) image → Follows find dev image
+FollowedWhereFlattened = (find : Finder) (dev : Development) → IsLawful dev → LastIsFlat dev → (image : Image) → Follows find (flattened dev) image → Follows find dev image
 
 -- the exchange, with || at the machine, and with a fill, VAR, a loop and an array that is read in its code, meets every premise, so that its
 -- translation follows it; the loader takes it
@@ -87,7 +103,6 @@ pub record WrongCodesDoNotFollow : Type 0 where
 pub record TowerIsFollowed : Type 0 where
   pub lawful : IsLawful tower
   pub no_development : OnlyLastIsImplementation tower → ⊥
-  pub formed : IsWellFormed (flattened tower).table
   pub in_b0 : IsB0Development tower
   pub meets : (find : Finder) → ValuesMeet find tower
   pub keeps : (find : Finder) → Keeps find tower

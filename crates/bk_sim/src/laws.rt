@@ -1,6 +1,6 @@
 //! What follows a machine, and what does not. Each law is the contract of a function that does nothing.
 
-ghost use Rattle.bk_sim.specs.Laws.{CallsDecide, LawfulFollows, B0Follows, B0Ends, CounterIsCarried, TranslationFollows, CounterEnds, NineDoesNotFollow, FollowedWhereFlattened, ExchangeIsFollowed, WrongCodesDoNotFollow, TowerIsFollowed};
+ghost use Rattle.bk_sim.specs.Laws.{CallsDecide, LawfulFollows, EqualFollows, B0Follows, B0Ends, CounterIsCarried, TranslationFollows, CounterEnds, NineDoesNotFollow, FollowedWhereFlattened, ExchangeIsFollowed, WrongCodesDoNotFollow, TowerIsFollowed};
 
 /// Code follows a machine where it opens well and each call goes well.
 pub fn calls_decide()
@@ -48,4 +48,9 @@ pub fn wrong_codes()
 /// An implementation below an implementation, to be checked by hand.
 pub fn tower()
     ensures { TowerIsFollowed }
+{}
+
+/// Code follows a machine also where the last level carries the one above it only from equal values.
+pub fn equal_follows()
+    ensures { EqualFollows }
 {}

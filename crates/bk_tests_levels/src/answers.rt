@@ -4,8 +4,7 @@
 
 ghost use Rattle.std.specs.Option.{option_map};
 ghost use Rattle.std.specs.Prelude.{◌≡◌, IfOk, IfSome, IsTrue, None};
-ghost use Rattle.bk_dev.specs.Facts.{IsDevelopment};
-ghost use Rattle.bk_level.specs.LevelLaws.{HomesStandInLevels};
+ghost use Rattle.bk_dev.specs.Facts.{IsDevelopment, HomesAreThere};
 ghost use Rattle.bk_level.specs.VerdictLaws.{MayStandAbove};
 
 use crate::notation::notation;
@@ -130,9 +129,9 @@ fn answer_to(
     above: Option<Box<Development>>,
 ) -> Result<Answer, Memory>
     requires stands { MayStandAbove raw.now.kind (option_map (λ d. d.value) above) }
-    requires homes { IfSome above (λ dev. HomesStandInLevels dev.value) }
+    requires homes { IfSome above (λ dev. HomesAreThere dev.value) }
     ensures right { IfOk result (λ a. IfSome a.development (λ dev. IsDevelopment dev.value)) }
-    ensures homes { IfOk result (λ a. IfSome a.development (λ dev. HomesStandInLevels dev.value)) }
+    ensures homes { IfOk result (λ a. IfSome a.development (λ dev. HomesAreThere dev.value)) }
 {
     match level(alloc, MAX, raw, unboxed(above)) {
         Ok(development) => Ok(Answer {
@@ -152,9 +151,9 @@ fn answer_below(
     above: Option<Box<Development>>,
 ) -> Result<Answer, Memory>
     requires right { IfSome above (λ dev. IsDevelopment dev.value) }
-    requires homes { IfSome above (λ dev. HomesStandInLevels dev.value) }
+    requires homes { IfSome above (λ dev. HomesAreThere dev.value) }
     ensures right { IfOk result (λ a. IfSome a.development (λ dev. IsDevelopment dev.value)) }
-    ensures homes { IfOk result (λ a. IfSome a.development (λ dev. HomesStandInLevels dev.value)) }
+    ensures homes { IfOk result (λ a. IfSome a.development (λ dev. HomesAreThere dev.value)) }
 {
     let Some(raw) = read(alloc, text)? else {
         return Ok(refused(Told::Unread));
@@ -168,7 +167,7 @@ fn answer_below(
 // The levels of these texts, where they are a development's.
 fn levels(alloc: Global, texts: &[&str]) -> Result<Option<Box<Development>>, Memory>
     ensures right { IfOk result (λ d. IfSome d (λ dev. IsDevelopment dev.value)) }
-    ensures homes { IfOk result (λ d. IfSome d (λ dev. HomesStandInLevels dev.value)) }
+    ensures homes { IfOk result (λ d. IfSome d (λ dev. HomesAreThere dev.value)) }
 {
     let mut development: Option<Box<Development>> = None;
     for text in texts {
@@ -184,7 +183,7 @@ fn levels(alloc: Global, texts: &[&str]) -> Result<Option<Box<Development>>, Mem
 /// The answer to the text below the others.
 pub(crate) fn answer_of(alloc: Global, above: &[&str], text: &str) -> Result<Answer, Memory>
     ensures right { IfOk result (λ a. IfSome a.development (λ dev. IsDevelopment dev.value)) }
-    ensures homes { IfOk result (λ a. IfSome a.development (λ dev. HomesStandInLevels dev.value)) }
+    ensures homes { IfOk result (λ a. IfSome a.development (λ dev. HomesAreThere dev.value)) }
 {
     let marked = Marked::of(alloc, text)?;
     let development = levels(alloc, above)?;

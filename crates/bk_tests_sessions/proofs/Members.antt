@@ -15,6 +15,7 @@ use Rattle.bk_form.specs.declared.operator.Domain.TheVariants.{Integer}
 use Rattle.bk_gsl.proofs.States.{nat_eq-same}
 use Rattle.bk_gsl.specs.State.{among}
 use Rattle.bk_gsl.specs.Substitution.{Substitution, skip, seq}
+use Rattle.bk_dev.proofs.HomesThere.{homes-stand}
 use Rattle.bk_dev.proofs.CounterFacts.{names-none, names-one}
 use Rattle.bk_dev.proofs.Levels.{two-levels}
 use Rattle.bk_dev.specs.B0.{IsScalarName, IsArrayName, IsB0Development}
@@ -40,7 +41,7 @@ all-from p [] h = All-nil (λ (x : VariableEntry). IsTrue (p x))
 all-from p (x ∷ xs) h = All-cons (λ (x : VariableEntry). IsTrue (p x)) x xs (and-first (p x) (list_all p xs) h) (all-from p xs (and-rest (p x) (list_all p xs) h))
 
 table-facts : IsWellFormed family_table
-table-facts = record { counted = λ k d h. absurd (omega (arith)); listed = all-listed; few_sets = omega (arith); few_variables = omega (arith) }
+table-facts = record { counted = λ k d h. absurd (omega (arith)); listed = all-listed }
   where
     all-listed : All (λ v. IsTrue (lists_type family_table v.of_type)) family_table.variables
     all-listed = all-from (λ (v : VariableEntry). lists_type family_table v.of_type) family_table.variables refl
@@ -267,6 +268,8 @@ family_facts s d = record {
   shapes = (record { init = tt; bodies = (tt, tt) }, (record { init = (tt, tt, (tt, tt, (tt, tt, tt))); bodies = ((tt, d.shape, (tt, tt, (tt, tt, (tt, tt, (tt, tt, (tt, tt, tt)))))), tt) }, tt));
   binders_differ = all-differ s d;
   room = subst (λ (ns : List ℕ). length (family_table.variables ++ filter_map (slice_get family_table.variables) ns) < 2 ^ 32) (sym (nothing-copied s d)) room-enough;
+  few_sets = omega (arith);
+  homes_there = homes-stand 2 family_homes refl;
 }
 
 -- ---- in B0

@@ -383,8 +383,6 @@ room-formed table f room =
     record {
       counted = f.counted;
       listed = All-append (λ v. IsTrue (lists_type table v.of_type)) table.variables (number_entry ∷ []) f.listed (All-cons (λ v. IsTrue (lists_type table v.of_type)) number_entry [] refl (All-nil (λ v. IsTrue (lists_type table v.of_type))));
-      few_sets = f.few_sets;
-      few_variables = omega (arith, room, long);
     }
 
 pub guarded_is_predicate : GuardedIsPredicate

@@ -2,6 +2,7 @@ use Rattle.std.proofs.Common.{◌≡◌, ◌∙◌, ap, sym, subst, refl, [], �
 use Rattle.std.proofs.lemmas.List.{length-map}
 use Rattle.bk_form.specs.Table.{Table}
 use Rattle.bk_dev.specs.Facts.{IsDevelopment}
+use Rattle.bk_dev.proofs.Room.{few-variables}
 use Rattle.bk_levels.specs.Answered.{variables_added}
 use Rattle.bk_levels.proofs.Assembling.{listed-by, inhabited-by, sets-added, alone-table}
 use Rattle.bk_levels.proofs.levels.alone.Goals as goal
@@ -20,7 +21,7 @@ pub add_variables-requires-clause-few : goal.add_variables-requires-clause-few
 add_variables-requires-clause-few c =
     let none : length c.add_sets.new.table.variables ≡ 0 = ap (λ (x : Table). length x.variables) (c.in_ok-add_sets.ensures ∙ sets-added c.new-table.result c.deref.result.now) ∙ ap (λ (x : Table). length x.variables) c.new-table.ensures in
     let long : length (variables_added c.args.added.variables.items) ≡ length c.args.added.variables.items = length-map c.args.added.variables.items (λ v. record { text = v.0; of_type = v.1 }) in
-    omega (arith, none, long, c.requires.lawful.table.few_variables)
+    omega (arith, none, long, few-variables _ c.requires)
 
 pub returns : goal.returns
 returns c =

@@ -3,6 +3,7 @@ use Rattle.std.proofs.lemmas.List.{length-map}
 use Rattle.bk_form.specs.Table.{Table, SetEntry}
 use Rattle.bk_dev.specs.Development.{Development}
 use Rattle.bk_dev.specs.Facts.{IsDevelopment}
+use Rattle.bk_dev.proofs.Room.{few-variables}
 use Rattle.bk_levels.specs.Answered.{variables_added, with_sets}
 use Rattle.bk_levels.proofs.Assembling.{listed-by, inhabited-by, sets-added, below-made}
 use Rattle.bk_levels.proofs.levels.below.Goals as goal
@@ -15,7 +16,7 @@ add_sets-requires-clause-inhabited c =
 pub add_sets-requires-clause-few : goal.add_sets-requires-clause-few
 add_sets-requires-clause-few c =
     subst (λ (t : Table). length t.sets + length c.deref.result.now ≤ 2 ^ 32) (sym (ap (λ (d : Development). d.table) c.above.view_is))
-    (subst (λ (n : ℕ). n ≤ 2 ^ 32) (length-append c.args.above.table.sets c.args.added.sets.items ∙ ap (λ (ss : List SetEntry). length c.args.above.table.sets + length ss) (sym c.deref.ensures.value)) c.requires.development.lawful.table.few_sets)
+    (subst (λ (n : ℕ). n ≤ 2 ^ 32) (length-append c.args.above.table.sets c.args.added.sets.items ∙ ap (λ (ss : List SetEntry). length c.args.above.table.sets + length ss) (sym c.deref.ensures.value)) c.requires.development.few_sets)
 
 pub add_variables-requires-clause-listed : goal.add_variables-requires-clause-listed
 add_variables-requires-clause-listed c =
@@ -30,7 +31,7 @@ add_variables-requires-clause-few c =
     let first : c.add_sets.new.table ≡ with_sets c.args.above.table c.deref.result.now = c.in_ok-add_sets.ensures ∙ ap (λ (d : Development). with_sets d.table c.deref.result.now) c.above.view_is in
     let same : length c.add_sets.new.table.variables ≡ length c.args.above.table.variables = ap (λ (x : Table). length x.variables) (first ∙ sets-added c.args.above.table c.deref.result.now) in
     let long : length (variables_added c.args.added.variables.items) ≡ length c.args.added.variables.items = length-map c.args.added.variables.items (λ v. record { text = v.0; of_type = v.1 }) in
-    omega (arith, same, long, length-append c.args.above.table.variables (variables_added c.args.added.variables.items), c.requires.development.lawful.table.few_variables)
+    omega (arith, same, long, length-append c.args.above.table.variables (variables_added c.args.added.variables.items), few-variables _ c.requires.development)
 
 pub invariant_of-result : goal.invariant_of-result
 invariant_of-result c = subst IsDevelopment (sym (below-made c.args.above _ c.args.added c.add_sets.new.table c.add_variables.new.table c.deref.result.now c.append.new.self.items c.append-2.new.self.items c.append-3.new.self.items c.above.view_is c.requires.sets c.deref.ensures.value

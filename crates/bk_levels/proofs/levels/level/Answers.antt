@@ -1,11 +1,11 @@
 use Rattle.std.proofs.Common.{◌≡◌, ◌∙◌, sym, ap, subst, refl, length, ℤ, to_z-of_z}
 use Rattle.std.specs.Option.{option_copied}
 use Rattle.bk_dev.specs.Development.{Development}
+use Rattle.bk_dev.specs.Facts.{HomesAreThere}
 use Rattle.bk_elab.specs.Blame.{blame}
 use Rattle.bk_elab.specs.Shown.{told}
 use Rattle.bk_level.specs.Above.{above_of}
 use Rattle.bk_level.specs.Components.{Component, is_machine}
-use Rattle.bk_level.specs.LevelLaws.{HomesStandInLevels}
 use Rattle.bk_level.specs.Verdict.{all_faults}
 use Rattle.bk_sight.specs.Shown.{component_shown}
 use Rattle.bk_levels.proofs.Assembling.{limit-told, fault-told, machine-alone}
@@ -22,7 +22,7 @@ part_of-requires-clause-alone c = λ h.
     ap above_of c.as_ref.ensures.value ∙ machine-alone c.args.raw.now.kind c.args.above c.requires.above (sym (ap (λ (k : Component). is_machine k.kind) c.in_ok-component.ensures) ∙ h)
 
 pub part_of-requires-clause-homes : goal.part_of-requires-clause-homes
-part_of-requires-clause-homes c = subst HomesStandInLevels (sym (ap above_of c.as_ref.ensures.value)) c.requires.homes
+part_of-requires-clause-homes c = subst HomesAreThere (sym (ap above_of c.as_ref.ensures.value)) c.requires.homes
 
 pub part_of-requires-clause-all_at_home : goal.part_of-requires-clause-all_at_home
 part_of-requires-clause-all_at_home c = at-home-of (ap above_of c.as_ref.ensures.value) (at-home c.args.raw.now.kind c.args.above c.requires.above)
