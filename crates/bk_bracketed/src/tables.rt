@@ -17,7 +17,7 @@ const MOST: usize = 1000;
 pub fn table_of(alloc: Global, types: &[&str]) -> Result<VarTable, Unread> {
     let mut table = VarTable::new(alloc);
     let elements = vec![in alloc; text(alloc, b"c0")?, text(alloc, b"c1")?]?;
-    table.add_set(text(alloc, b"C")?, elements)?;
+    table.add_set(text(alloc, b"C")?, elements, 2)?;
     for ty in types {
         add(&mut table, text(alloc, b"x")?, type_of(alloc, ty)?)?;
     }

@@ -163,11 +163,11 @@ abbrev pub lamp : Development
 lamp = record {
   max = default_max;
   table = record {
-    sets = record { name = codes "COLOR"; elements = codes "red" ∷ codes "amber" ∷ codes "green" ∷ [] } ∷ [];
+    sets = record { name = codes "COLOR"; elements = codes "red" ∷ codes "amber" ∷ codes "green" ∷ []; size = 3 } ∷ [];
     variables = named_entry (codes "col$0") (enum_type 0) ∷ named_entry (codes "col$1") (enum_type 0) ∷ named_entry (codes "cc$0") (enum_type 0) ∷ named_entry (codes "cc$1") (enum_type 0) ∷ [];
   };
   homes = Abstract 0 ∷ Concrete 1 ∷ Inner 0 ∷ Inner 1 ∷ [];
-  sets = record { name = codes "COLOR"; elements = codes "red" ∷ codes "amber" ∷ codes "green" ∷ [] } ∷ [];
+  sets = record { name = codes "COLOR"; elements = codes "red" ∷ codes "amber" ∷ codes "green" ∷ []; size = 3 } ∷ [];
   heads = record { name = codes "next"; inputs = []; outputs = 0 } ∷ record { name = codes "show"; inputs = []; outputs = 1 } ∷ [];
   levels = lamp_level (codes "Lamp") Machine 0 2 ∷ lamp_level (codes "Lamp_i") Implementation 1 3 ∷ [];
   values = [];

@@ -6,7 +6,7 @@ use Rattle.std.proofs.lemmas.Bool.Decides.{nat_tests}
 use Rattle.std.proofs.lemmas.List.Elements.{All-append, All-head, All-tail}
 use Rattle.bk_val.specs.ValueType.{ValueType}
 use Rattle.bk_form.specs.Each.{Each}
-use Rattle.bk_form.specs.Table.{Table, SetEntry, VariableEntry, variable_type, lists_type, IsWellFormed}
+use Rattle.bk_form.specs.Table.{Table, SetEntry, VariableEntry, variable_type, lists_type, IsCounted, IsWellFormed}
 use Rattle.bk_gsl.specs.State.{among}
 use Rattle.bk_dev.specs.declared.kind.Kind.{Kind}
 use Rattle.bk_dev.specs.declared.kind.Kind.TheVariants.{Machine, Refinement, Implementation}
@@ -36,13 +36,13 @@ use Rattle.bk_level.specs.VerdictLaws.{HasRoom, AcceptedRefinementIsDevelopment}
 use Rattle.bk_level.proofs.Apart.{join-cases}
 use Rattle.bk_level.proofs.Counted.{length-join, stands-apart}
 use Rattle.bk_level.proofs.Listed.{of_entry, variable-entry}
-use Rattle.bk_level.proofs.Stands.{get-left, get-right, split-at, stands}
+use Rattle.bk_level.proofs.Stands.{get-left, get-right, split-at, stands, entries-counted}
 use Rattle.bk_level.proofs.Homes.{homes-all}
 use Rattle.bk_level.proofs.OldLevels.{head-kept, levels-kept}
 use Rattle.bk_level.proofs.NewHomes.{new-pass, index-left, homes-stay}
 use Rattle.bk_level.proofs.NewLevel.{index-last, new-clauses}
 use Rattle.bk_level.proofs.Lowers.{lowers-right}
-use Rattle.bk_level.proofs.MachineStands.{all-listed, all-inhabited}
+use Rattle.bk_level.proofs.MachineStands.{all-listed, all-sized}
 use Rattle.bk_level.proofs.Verdicts.{answer-right}
 
 -- ---- what stands above is ready
@@ -64,6 +64,7 @@ ready-above dev lawful =
     let next : suc (last dev) ≡ length dev.levels = omega arith in
     record {
       listed = types-above dev.table lawful.table;
+      counted = lawful.table.counted;
       homes = lawful.homes;
       upper = subst (λ k. AreSeen (λ n. is_variable_above k (home_of dev n)) (upper_of dev)) next (seen-level (λ n. is_variable_of (last dev) (home_of dev n)) (last dev) dev.table (level_at dev (last dev)).vars (last_level dev lawful).vars);
     }
@@ -138,7 +139,7 @@ lower-development int_max higher comp d going stand below none room values all-v
     let after = operation_faults higher comp p ++ (init_faults int_max higher comp typing p ++ (all_body_faults int_max higher comp typing p (operations_of p comp) ++ value_faults_of int_max typing p comp)) in
     let said = none-left clauses after (none-right (name_faults higher comp) (clauses ++ after) none) in
     let more = constant_faults typing p.constants_at comp.constants ++ (variable_faults typing comp.name.at comp.variables p.variables_at p.variables ++ (stated_faults int_max typing p.globals comp.properties ++ (stated_faults int_max typing (joined p) comp.invariant ++ (all_stated_faults int_max typing (joined p) comp.assertions ++ entry_faults int_max typing p.globals comp.values)))) in
-    let st = stands int_max higher comp ready.listed in
+    let st = stands int_max higher comp ready.listed ready.counted in
     let level = new-clauses int_max higher comp ready stand (lower-kind comp.kind (length higher.levels) below some) none in
     let right = lowers-right int_max higher comp ready lawful below none in
     let at : (j : ℕ) → j < length higher.levels → level_at new j ≡ level_at higher j = λ j h. index-left higher.levels (l ∷ []) j blank_level h in
@@ -173,7 +174,7 @@ lower-development int_max higher comp d going stand below none room values all-v
         range = lawful.range;
         some_level = omega arith;
         table = record {
-          inhabited = All-append (λ (s : SetEntry). 0 < length s.elements) higher.table.sets (entries_of comp.sets) lawful.table.inhabited (all-inhabited comp.sets (none-left (set_faults comp.sets) more said));
+          counted = All-append IsCounted higher.table.sets (entries_of comp.sets) lawful.table.counted (entries-counted comp.sets);
           listed = all-listed new.table st.listed;
         };
         sets = refl;

@@ -5,7 +5,8 @@ use Rattle.std.specs.List.{filter_map}
 use Rattle.std.proofs.lemmas.List.Elements.{All-nil, All-cons}
 use Rattle.bk_val.specs.ValueType.{ValueType}
 use Rattle.bk_form.specs.Each.{Each}
-use Rattle.bk_form.specs.Table.{Table, SetEntry, VariableEntry, variable_type, lists_type, empty_table, IsWellFormed}
+use Rattle.bk_form.specs.Table.{Table, SetEntry, VariableEntry, variable_type, lists_type, empty_table, IsCounted, IsWellFormed}
+use Rattle.bk_form.specs.Sized.{HasSizes}
 use Rattle.bk_dev.specs.declared.kind.Kind.{Kind}
 use Rattle.bk_dev.specs.declared.kind.Kind.TheVariants.{Machine, Refinement, Implementation}
 use Rattle.bk_dev.specs.Development.{Development, is_complete, is_implementing}
@@ -34,7 +35,7 @@ use Rattle.bk_level.specs.Verdict.{accepted, verdict_of}
 use Rattle.bk_level.specs.VerdictLaws.{HasRoom, AcceptedMachineIsDevelopment}
 use Rattle.bk_level.proofs.Counted.{length-join, stands-apart}
 use Rattle.bk_level.proofs.Listed.{of_entry, variable-entry}
-use Rattle.bk_level.proofs.Stands.{stands}
+use Rattle.bk_level.proofs.Stands.{stands, entries-counted}
 use Rattle.bk_level.proofs.Homes.{homes-all}
 use Rattle.bk_level.proofs.NewHomes.{homes-stay}
 use Rattle.bk_level.proofs.NewLevel.{new-clauses}
@@ -59,19 +60,19 @@ named-or : (c : Bool) (at : ℕ) (fs : List Fault) → cond c [] (no_type at) ++
 named-or true at fs h = (refl, h)
 named-or false at fs h = some-fault (without_type at) fs h
 
--- sets without fault have elements
-pub all-inhabited : (ss : List RawSet) → set_faults ss ≡ [] → All (λ (s : SetEntry). 0 < length s.elements) (entries_of ss)
-all-inhabited [] h = All-nil (λ (s : SetEntry). 0 < length s.elements)
-all-inhabited (s ∷ ss) h =
+-- sets without fault have a size
+pub all-sized : (ss : List RawSet) → set_faults ss ≡ [] → HasSizes (entries_of ss)
+all-sized [] h = All-nil (λ (s : SetEntry). 0 < s.size)
+all-sized (s ∷ ss) h =
     let k = named-or (has_name s.elements) s.name.at (set_faults ss) h in
-    All-cons (λ (s : SetEntry). 0 < length s.elements) (record { name = s.name.text; elements = texts s.elements }) (entries_of ss) (has-name s.elements k.0) (all-inhabited ss k.1)
+    All-cons (λ (s : SetEntry). 0 < s.size) (record { name = s.name.text; elements = texts s.elements; size = length (texts s.elements) }) (entries_of ss) (has-name s.elements k.0) (all-sized ss k.1)
 
 -- ---- nothing above
 types-of-none : (n : ℕ) (t : ValueType) → variable_type empty_table n ≡ Some t → lists_type empty_table t ≡ true
 types-of-none n t e = let none : of_entry (slice_get [] n) ≡ Some t = sym (variable-entry empty_table n) ∙ e in absurd (cc)
 
 none-ready : IsReady no_development
-none-ready = record { listed = types-of-none; homes = refl; upper = tt }
+none-ready = record { listed = types-of-none; counted = All-nil IsCounted; homes = refl; upper = tt }
 
 not-implementing : (k : Kind) → is_machine k ≡ true → is_implementing k ≡ false
 not-implementing Machine e = refl
@@ -93,7 +94,7 @@ machine-development int_max comp machine no-values none room =
     let after = operation_faults no_development comp p ++ (init_faults int_max no_development comp typing p ++ (all_body_faults int_max no_development comp typing p (operations_of p comp) ++ value_faults_of int_max typing p comp)) in
     let said = none-left clauses after (none-right (name_faults no_development comp) (clauses ++ after) none) in
     let more = constant_faults typing p.constants_at comp.constants ++ (variable_faults typing comp.name.at comp.variables p.variables_at p.variables ++ (stated_faults int_max typing p.globals comp.properties ++ (stated_faults int_max typing (joined p) comp.invariant ++ (all_stated_faults int_max typing (joined p) comp.assertions ++ entry_faults int_max typing p.globals comp.values)))) in
-    let st = stands int_max no_development comp types-of-none in
+    let st = stands int_max no_development comp types-of-none (All-nil IsCounted) in
     let level = new-clauses int_max no_development comp none-ready (λ n. tt) (machine-first comp.kind machine) none in
     let right = machines-right int_max no_development comp none-ready machine none in
     let apart = stands-apart int_max no_development comp (record { differ = tt; below = λ n e. absurd (cc) }) in
@@ -103,7 +104,7 @@ machine-development int_max comp machine no-values none room =
       lawful = record {
         range = default_range;
         some_level = (let m : 0 < 1 = omega arith in m);
-        table = record { inhabited = all-inhabited comp.sets (none-left (set_faults comp.sets) more said); listed = all-listed new.table st.listed };
+        table = record { counted = entries-counted comp.sets; listed = all-listed new.table st.listed };
         sets = refl;
         homes = homes-all int_max no_development comp refl;
         heads = right.heads;
@@ -128,6 +129,7 @@ machine-development int_max comp machine no-values none room =
         complete = subst (HasItsValues new) (sym going) value-none;
       };
       only_last = λ k h. (let m : suc k < 1 = h in absurd (omega arith));
+      sizes = λ h. all-sized comp.sets (none-left (set_faults comp.sets) more said);
       shapes = (record { init = level.shape; bodies = machine-shapes int_max no_development comp none-ready machine none }, tt);
       binders_differ = apart.differ;
       room = room.variables;

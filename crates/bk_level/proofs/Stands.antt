@@ -1,12 +1,13 @@
 -- The table that a component gives has the types that are told, and its scopes have the table's sets and elements.
-use Rattle.std.proofs.Common.{◌≡◌, ℕ, zero, suc, ◌+◌, ◌-◌, ◌<◌, ◌≤◌, List, [], ◌∷◌, ◌++◌, length, refl, sym, ◌∙◌, ap, subst, Bool, true, false, cond, ◌&&◌, arith}
+use Rattle.std.proofs.Common.{◌≡◌, inr, ℕ, zero, suc, ◌+◌, ◌-◌, ◌<◌, ◌≤◌, List, [], ◌∷◌, ◌++◌, length, refl, sym, ◌∙◌, ap, subst, Bool, true, false, cond, ◌&&◌, All, arith}
 use Rattle.std.specs.Prelude.{Option, None, Some, nat_lt, slice_get, ℤ}
-use Rattle.std.specs.Option.{option_map, option_map_or}
+use Rattle.std.specs.Option.{option_map_or}
 use Rattle.std.proofs.lemmas.Bool.Decides.{nat_tests}
+use Rattle.std.proofs.lemmas.List.Elements.{All-nil, All-cons, All-head, All-tail}
 use Rattle.std.proofs.lemmas.Option.{slice_get_within}
 use Rattle.bk_val.specs.ValueType.{ValueType, int_type, bool_type, enum_type, pair_type, set_type}
 use Rattle.bk_form.specs.Role.{bind}
-use Rattle.bk_form.specs.Table.{Table, SetEntry, VariableEntry, variable_type, lists_type, is_among_sets, set_size}
+use Rattle.bk_form.specs.Table.{Table, SetEntry, VariableEntry, variable_type, lists_type, is_among_sets, listed_size, IsCounted}
 use Rattle.bk_dev.specs.declared.kind.Kind.{Kind}
 use Rattle.bk_dev.specs.declared.kind.Home.{Home}
 use Rattle.bk_dev.specs.declared.kind.Home.TheVariants.{Constant, Input, Abstract, Concrete, Inner}
@@ -17,10 +18,11 @@ use Rattle.bk_raw.specs.Names.{Names}
 use Rattle.bk_raw.specs.Binders.{or_bool}
 use Rattle.bk_level.specs.Settled.{AreOf}
 use Rattle.bk_level.specs.Typings.{Typing, numbered, variable_named}
-use Rattle.bk_level.specs.Binders.{binder_count}
+use Rattle.bk_level.specs.Binders.{binder_count, texts}
 use Rattle.bk_level.specs.Ways.{Way, no_way, by_conjuncts, same_as, conjunct_ways, assigned_ways, ways, next_types, rounds, settled, no_ways, ways_by, way_from, given_by, way_at}
 use Rattle.bk_raw.proofs.Filled.{and-both}
-use Rattle.bk_raw.specs.ComponentTree.{RawOperation}
+use Rattle.bk_raw.proofs.ScopeRight.{names-below}
+use Rattle.bk_raw.specs.ComponentTree.{RawSet, RawOperation}
 use Rattle.bk_level.specs.Components.{or_next, Component, outermost, is_machine, initialisation}
 use Rattle.bk_level.specs.Above.{inputs_named, constants_from, globals_of, known, names_at_level}
 use Rattle.bk_raw.specs.ScopeReading.{element_names, set_names}
@@ -57,20 +59,24 @@ module _ (table : Table) where
   of-bind [] b h k = k
   of-bind (n ∷ ns) b h k = of-bind ns (n ∷ b) h.1 (h.0, k)
 
-  elements-of : (s i : ℕ) (xs : List (List ℕ)) → lists_type table (enum_type s) ≡ true → i + length xs ≤ set_size table s → AreOf table (element_names s i xs)
+  elements-of : (s i : ℕ) (xs : List (List ℕ)) → lists_type table (enum_type s) ≡ true → i + length xs ≤ listed_size table s → AreOf table (element_names s i xs)
   elements-of s i [] l h = tt
-  elements-of s i (x ∷ xs) l h = ((lt-true i (set_size table s) (omega arith), l), elements-of s (suc i) xs l (omega arith))
+  elements-of s i (x ∷ xs) l h = ((lt-true i (listed_size table s) (omega arith), l), elements-of s (suc i) xs l (omega arith))
 
-  sets-of : (before es after : List SetEntry) (s : ℕ) → table.sets ≡ before ++ (es ++ after) → s ≡ length before → AreOf table (set_names s es)
-  sets-of before [] after s h k = tt
-  sets-of before (e ∷ es) after s h k =
+  sets-of : (before es after : List SetEntry) (s : ℕ) → table.sets ≡ before ++ (es ++ after) → s ≡ length before → All IsCounted es → AreOf table (set_names s es)
+  sets-of before [] after s h k counted = tt
+  sets-of before (e ∷ es) after s h k counted =
       let long : length table.sets ≡ length (before ++ e ∷ (es ++ after)) = ap length h in
       let sum = length-join before (e ∷ (es ++ after)) in
       let listed : lists_type table (enum_type s) ≡ true = lt-true s (length table.sets) (omega arith) in
       let get : slice_get table.sets s ≡ Some e = (λ i. slice_get (h i) (k i)) ∙ there before e (es ++ after) in
-      let size : set_size table s ≡ length e.elements = ap (λ o. option_map_or length (option_map (λ s. s.elements) o) 0) get in
-      let more = length-join before (e ∷ []) in
-      (listed, of-join (element_names s 0 e.elements) (set_names (suc s) es) (elements-of s 0 e.elements listed (omega arith)) (sets-of (before ++ e ∷ []) es after (suc s) (h ∙ sym (join-assoc before (e ∷ []) (es ++ after))) (omega arith)))
+      let size : listed_size table s ≡ e.size = ap (λ o. option_map_or (λ (s : SetEntry). s.size) o 0) get in
+      let few : length e.elements ≤ e.size = names-below e (All-head IsCounted e es counted) in
+      let more = length-join before (e ∷ []) in (
+        listed,
+        of-join (element_names s 0 e.elements) (set_names (suc s) es) (elements-of s 0 e.elements listed (omega (arith, few, size)))
+            (sets-of (before ++ e ∷ []) es after (suc s) (h ∙ sym (join-assoc before (e ∷ []) (es ++ after))) (omega arith) (All-tail IsCounted e es counted)),
+      )
 
   constants-of : (n : ℕ) (hs : List Home) (vs : List VariableEntry) → AreOf table (constants_from n hs vs)
   constants-of n [] vs = tt
@@ -181,16 +187,21 @@ module _ (table : Table) where
         (binders-of (n + length h.operation.outputs) (b + binder_count h.operation.body) hs k.1)
 
 -- ---- a component
+-- its sets have as many elements as names
+pub entries-counted : (ss : List RawSet) → All IsCounted (entries_of ss)
+entries-counted [] = All-nil IsCounted
+entries-counted (s ∷ ss) = All-cons IsCounted (record { name = s.name.text; elements = texts s.elements; size = length (texts s.elements) }) (entries_of ss) (inr refl) (entries-counted ss)
+
 pub upper-stands : (int_max : ℤ) (higher : Development) (comp : Component) → AreOf (table_of int_max higher comp (plan higher comp)) (plan higher comp).upper
 upper-stands int_max higher comp = variables-of (table_of int_max higher comp (plan higher comp)) (last higher) higher.table (level_at higher (last higher)).vars
 
-pub globals-stand : (int_max : ℤ) (higher : Development) (comp : Component) → AreOf (table_of int_max higher comp (plan higher comp)) (plan higher comp).globals
-globals-stand int_max higher comp =
+pub globals-stand : (int_max : ℤ) (higher : Development) (comp : Component) → All IsCounted higher.table.sets → AreOf (table_of int_max higher comp (plan higher comp)) (plan higher comp).globals
+globals-stand int_max higher comp counted =
     let table = table_of int_max higher comp (plan higher comp) in
     let olds = higher.table.sets in
     let news = entries_of comp.sets in
-    let new = sets-of table olds news [] (length olds) (ap (λ l. olds ++ l) (sym (empty-last news))) refl in
-    let old = of-join table (set_names 0 olds) (constants_from 0 higher.homes higher.table.variables) (sets-of table [] olds news 0 refl refl) (constants-of table 0 higher.homes higher.table.variables) in
+    let new = sets-of table olds news [] (length olds) (ap (λ l. olds ++ l) (sym (empty-last news))) refl (entries-counted comp.sets) in
+    let old = of-join table (set_names 0 olds) (constants_from 0 higher.homes higher.table.variables) (sets-of table [] olds news 0 refl refl counted) (constants-of table 0 higher.homes higher.table.variables) in
     numbered-of table (length higher.table.variables) comp.constants (set_names (length olds) news ++ globals_of higher) (of-join table (set_names (length olds) news) (globals_of higher) new old)
 
 pub headed-stand : (int_max : ℤ) (higher : Development) (comp : Component) → AreHeaded (table_of int_max higher comp (plan higher comp)) (plan higher comp).headed
@@ -202,25 +213,25 @@ headed-stand int_max higher comp =
     let others = other_headed far higher.heads comp.operations in
     either-headed table (is_machine comp.kind) (machine_headed p.inputs_at comp.operations) (lower ++ others) (machine-of table p.inputs_at comp.operations) (headed-join table lower others (lower-of table far higher 0 higher.heads comp.operations) (other-of table far higher.heads comp.operations))
 
-pub scope-stands : (int_max : ℤ) (higher : Development) (comp : Component) → AreOf (table_of int_max higher comp (plan higher comp)) (scope (plan higher comp))
-scope-stands int_max higher comp = let p = plan higher comp in let table = table_of int_max higher comp p in of-join table (level_names p) p.globals (declared-of table p.variables_at p.variables) (globals-stand int_max higher comp)
+pub scope-stands : (int_max : ℤ) (higher : Development) (comp : Component) → All IsCounted higher.table.sets → AreOf (table_of int_max higher comp (plan higher comp)) (scope (plan higher comp))
+scope-stands int_max higher comp counted = let p = plan higher comp in let table = table_of int_max higher comp p in of-join table (level_names p) p.globals (declared-of table p.variables_at p.variables) (globals-stand int_max higher comp counted)
 
-pub all-ways : (int_max : ℤ) (higher : Development) (comp : Component) → AreWaysOf (table_of int_max higher comp (plan higher comp)) (all_ways (plan higher comp) comp)
-all-ways int_max higher comp =
+pub all-ways : (int_max : ℤ) (higher : Development) (comp : Component) → All IsCounted higher.table.sets → AreWaysOf (table_of int_max higher comp (plan higher comp)) (all_ways (plan higher comp) comp)
+all-ways int_max higher comp counted =
     let p = plan higher comp in
     let table = table_of int_max higher comp p in
     let b = p.binders_at + binder_count (initialisation comp) in
     let os = placed p.outputs_at b p.headed in
-    let here = scope-stands int_max higher comp in
+    let here = scope-stands int_max higher comp counted in
     let heads = headed-stand int_max higher comp in
-    let both = of-join table p.upper p.globals (upper-stands int_max higher comp) (globals-stand int_max higher comp) in
+    let both = of-join table p.upper p.globals (upper-stands int_max higher comp) (globals-stand int_max higher comp counted) in
     let w5 = all_binder_ways p os in
     let w4 = ways (scope p) p.binders_at (initialisation comp) in
     let w3 = all_output_ways comp.kind p os in
     let w2 = cond (is_machine comp.kind) (all_input_ways p os) [] in
     let w1 = variable_ways (p.upper ++ p.globals) comp.invariant (fresh p.upper comp.variables) 0 p.variables in
     let w0 = ways_by p.globals comp.properties comp.constants in
-    ways-join table w0 (w1 ++ (w2 ++ (w3 ++ (w4 ++ w5)))) (by-of table p.globals comp.properties comp.constants (globals-stand int_max higher comp))
+    ways-join table w0 (w1 ++ (w2 ++ (w3 ++ (w4 ++ w5)))) (by-of table p.globals comp.properties comp.constants (globals-stand int_max higher comp counted))
     (ways-join table w1 (w2 ++ (w3 ++ (w4 ++ w5))) (variable-of table (p.upper ++ p.globals) comp.invariant (fresh p.upper comp.variables) 0 p.variables both)
     (ways-join table w2 (w3 ++ (w4 ++ w5)) (either-ways table (is_machine comp.kind) (all_input_ways p os) [] (input-ways table p here p.outputs_at b p.headed) tt)
     (ways-join table w3 (w4 ++ w5) (outputs-of table p here comp.kind p.outputs_at b p.headed heads)
@@ -265,7 +276,7 @@ split-at P n b f g = by-test (nat_lt n b) refl
 same-some : {A : Type 0} (y x : A) → Some y ≡ Some x → y ≡ x
 same-some y x e = cc
 
-module _ (int_max : ℤ) (higher : Development) (comp : Component) (olds-listed : ListsItsTypes higher.table) where
+module _ (int_max : ℤ) (higher : Development) (comp : Component) (olds-listed : ListsItsTypes higher.table) (olds-counted : All IsCounted higher.table.sets) where
   abbrev table : Table
   table = table_of int_max higher comp (plan higher comp)
 
@@ -284,7 +295,7 @@ module _ (int_max : ℤ) (higher : Development) (comp : Component) (olds-listed 
   told : AreTold table (base + length fresh_texts) typing
   told =
       let e = all-count higher comp in
-      settled-told int_max table (base + length fresh_texts) base (all_ways (plan higher comp) comp) (known higher) (all-ways int_max higher comp) (omega arith)
+      settled-told int_max table (base + length fresh_texts) base (all_ways (plan higher comp) comp) (known higher) (all-ways int_max higher comp olds-counted) (omega arith)
       (record { listed = λ n t k. grown t (olds-listed n t k); below = λ n t k. (let l = type-below higher.table n t k in omega arith) })
 
   old-type : (n : ℕ) → n < base → variable_type table n ≡ variable_type higher.table n
@@ -316,4 +327,4 @@ module _ (int_max : ℤ) (higher : Development) (comp : Component) (olds-listed 
       subst (λ u. lists_type table u ≡ true) same (or-listed n (typing n) refl))
 
   pub stands : Stands int_max higher comp
-  stands = record { settled = record { types = types-stand; listed = λ n t e. told.listed n t e }; listed = types-listed; globals = globals-stand int_max higher comp; upper = upper-stands int_max higher comp }
+  stands = record { settled = record { types = types-stand; listed = λ n t e. told.listed n t e }; listed = types-listed; globals = globals-stand int_max higher comp olds-counted; upper = upper-stands int_max higher comp }

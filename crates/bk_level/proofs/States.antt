@@ -1,9 +1,9 @@
 -- Properties, invariant and assertions; links.
-use Rattle.std.proofs.Common.{◌≡◌, ℕ, ◌+◌, ◌<◌, ◌≤◌, List, [], ◌∷◌, ◌++◌, length, refl, sym, ◌∙◌, ap, subst, Bool, true, ◌||◌, arith, nat_eq}
+use Rattle.std.proofs.Common.{◌≡◌, ℕ, ◌+◌, ◌<◌, ◌≤◌, List, [], ◌∷◌, ◌++◌, length, refl, sym, ◌∙◌, ap, subst, Bool, true, ◌||◌, All, arith, nat_eq}
 use Rattle.std.specs.Prelude.{Option, None, Some, slice_get, ℤ}
 use Rattle.std.proofs.lemmas.Bool.Decides.{nat_tests}
 use Rattle.std.proofs.lemmas.Option.{slice_get_past}
-use Rattle.bk_form.specs.Table.{Table}
+use Rattle.bk_form.specs.Table.{Table, IsCounted}
 use Rattle.bk_form.specs.Formula.{btrue}
 use Rattle.bk_form.specs.Predicates.{IsPredicate}
 use Rattle.bk_dev.specs.declared.kind.Home.{Home}
@@ -68,11 +68,11 @@ joined-seen int_max higher comp ready =
     (seen-declared visible p.variables_at p.variables (λ m a b. joined-variable p.level (home_of new m) (variable-home int_max higher comp ready.homes m a b)))
     (seen-join visible p.upper p.globals (upper-seen int_max higher comp ready) (globals-seen int_max higher comp ready.homes visible (λ n e. ap (joined_by p.level) e)))
 
-pub joined-stands : (int_max : ℤ) (higher : Development) (comp : Component) → AreOf (made int_max higher comp (plan higher comp)).table (joined (plan higher comp))
-joined-stands int_max higher comp =
+pub joined-stands : (int_max : ℤ) (higher : Development) (comp : Component) → All IsCounted higher.table.sets → AreOf (made int_max higher comp (plan higher comp)).table (joined (plan higher comp))
+joined-stands int_max higher comp counted =
     let p = plan higher comp in
     let table = (made int_max higher comp p).table in
-    of-join table (level_names p) (p.upper ++ p.globals) (declared-of table p.variables_at p.variables) (of-join table p.upper p.globals (upper-stands int_max higher comp) (globals-stand int_max higher comp))
+    of-join table (level_names p) (p.upper ++ p.globals) (declared-of table p.variables_at p.variables) (of-join table p.upper p.globals (upper-stands int_max higher comp) (globals-stand int_max higher comp counted))
 
 module _ (int_max : ℤ) (table : Table) (typing : Typing) (settled : IsSettled table typing) (visible : ℕ → Bool) (names : Names) (of : AreOf table names) (seen : AreSeen visible names) where
   stated-typed : (o : Option RawTree) → IsPredicate table (stated_as int_max typing names o)
@@ -92,14 +92,14 @@ states-right int_max higher comp ready =
     let p = plan higher comp in
     let new = made int_max higher comp p in
     let typing = types_at int_max higher comp p in
-    let st = (stands int_max higher comp ready.listed).settled in
+    let st = (stands int_max higher comp ready.listed ready.counted).settled in
     let globals = globals-seen int_max higher comp ready.homes (names_constants new) (λ n e. ap is_constant e) in
     record {
-      properties = stated-typed int_max new.table typing st (names_constants new) p.globals (globals-stand int_max higher comp) globals comp.properties;
-      properties_names = stated-names int_max new.table typing st (names_constants new) p.globals (globals-stand int_max higher comp) globals comp.properties;
+      properties = stated-typed int_max new.table typing st (names_constants new) p.globals (globals-stand int_max higher comp ready.counted) globals comp.properties;
+      properties_names = stated-names int_max new.table typing st (names_constants new) p.globals (globals-stand int_max higher comp ready.counted) globals comp.properties;
       invariant = record {
-        is_predicate = stated-typed int_max new.table typing st (names_joined new p.level) (joined p) (joined-stands int_max higher comp) (joined-seen int_max higher comp ready) comp.invariant;
-        names = stated-names int_max new.table typing st (names_joined new p.level) (joined p) (joined-stands int_max higher comp) (joined-seen int_max higher comp ready) comp.invariant;
+        is_predicate = stated-typed int_max new.table typing st (names_joined new p.level) (joined p) (joined-stands int_max higher comp ready.counted) (joined-seen int_max higher comp ready) comp.invariant;
+        names = stated-names int_max new.table typing st (names_joined new p.level) (joined p) (joined-stands int_max higher comp ready.counted) (joined-seen int_max higher comp ready) comp.invariant;
       };
-      assertions = all-stated int_max new p.level typing st (joined p) (joined-stands int_max higher comp) (joined-seen int_max higher comp ready) comp.assertions;
+      assertions = all-stated int_max new p.level typing st (joined p) (joined-stands int_max higher comp ready.counted) (joined-seen int_max higher comp ready) comp.assertions;
     }

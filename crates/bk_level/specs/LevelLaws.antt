@@ -1,7 +1,8 @@
 -- What is shown of levels, step by step.
-use Rattle.std.specs.Prelude.{◌≡◌, ◌⊎◌, ◌<◌, ◌≤◌, ℕ, ℤ, ◌+◌, true, false, List, [], ◌∷◌, ◌++◌, length}
+use Rattle.std.specs.Prelude.{◌≡◌, ◌⊎◌, ◌<◌, ◌≤◌, ℕ, ℤ, ◌+◌, true, false, List, [], ◌∷◌, ◌++◌, length, All}
 use Rattle.std.specs.List.{flat_map}
 use Rattle.bk_form.specs.Each.{Each}
+use Rattle.bk_form.specs.Table.{IsCounted}
 use Rattle.bk_form.specs.Predicates.{IsPredicate}
 use Rattle.bk_gsl.specs.State.{among}
 use Rattle.bk_gsl.specs.Typed.{Types}
@@ -51,6 +52,7 @@ HomesAreAll = (int_max : ℤ) (dev : Development) (c : Component) → length dev
 -- what is asked of the levels above: each is so of a development
 pub record IsReady (dev : Development) : Type 0 where
   pub listed : ListsItsTypes dev.table
+  pub counted : All IsCounted dev.table.sets
   pub homes : length dev.homes ≡ length dev.table.variables
   -- the last level's variables are at home there
   pub upper : AreSeen (λ n. is_variable_above (length dev.levels) (home_of dev n)) (upper_of dev)

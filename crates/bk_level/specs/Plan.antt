@@ -18,10 +18,10 @@ use Rattle.bk_level.specs.Binders.{binder_count, texts}
 use Rattle.bk_level.specs.Above.{globals_of, upper_of, inputs_named, outputs_named, is_concrete}
 
 -- ---- sets
--- sets with their elements
+-- sets with their elements, of which there are as many as names
 abbrev pub entries_of : List RawSet → List SetEntry
 entries_of [] = []
-entries_of (s ∷ ss) = record { name = s.name.text; elements = texts s.elements } ∷ entries_of ss
+entries_of (s ∷ ss) = record { name = s.name.text; elements = texts s.elements; size = length (texts s.elements) } ∷ entries_of ss
 
 -- ---- variables
 -- a variable of the level: its name, the variable of that name at the level above, and whether it is concrete

@@ -1,7 +1,7 @@
 -- Words of the laws: when the types that are told of numbers are those of a table, and when names are those of a table and may be seen.
 use Rattle.std.specs.Prelude.{◌≡◌, ◌<◌, ℕ, Bool, true, nat_lt, List, [], ◌∷◌, Some}
 use Rattle.bk_val.specs.ValueType.{ValueType, enum_type}
-use Rattle.bk_form.specs.Table.{Table, variable_type, lists_type, set_size}
+use Rattle.bk_form.specs.Table.{Table, variable_type, lists_type, listed_size}
 use Rattle.bk_raw.specs.Names.{Names, Meaning, local, global, set_name, element_name, nothing}
 use Rattle.bk_level.specs.Typings.{Typing}
 
@@ -15,7 +15,7 @@ abbrev pub StandsIn : Table → Meaning → Type 0
 StandsIn table (local t) = ⊥
 StandsIn table (global n t) = Unit {0}
 StandsIn table (set_name s) = lists_type table (enum_type s) ≡ true
-StandsIn table (element_name s e) = (nat_lt e (set_size table s) ≡ true) × (lists_type table (enum_type s) ≡ true)
+StandsIn table (element_name s e) = (nat_lt e (listed_size table s) ≡ true) × (lists_type table (enum_type s) ≡ true)
 StandsIn table nothing = ⊥
 
 -- so it is of each name

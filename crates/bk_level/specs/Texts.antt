@@ -252,11 +252,11 @@ abbrev pub refined : Development
 refined = record {
   max = default_max;
   table = record {
-    sets = record { name = s_text; elements = a_text ∷ b_text ∷ [] } ∷ [];
+    sets = record { name = s_text; elements = a_text ∷ b_text ∷ []; size = 2 } ∷ [];
     variables = machine_entries ++ record { text = 118 ∷ 36 ∷ 49 ∷ []; of_type = enum_type 0 } ∷ record { text = 117 ∷ 36 ∷ 49 ∷ []; of_type = int_type } ∷ record { text = t_text; of_type = int_type } ∷ [];
   };
   homes = Constant ∷ Concrete 0 ∷ Input ∷ Concrete 1 ∷ Abstract 1 ∷ Inner 1 ∷ [];
-  sets = record { name = s_text; elements = a_text ∷ b_text ∷ [] } ∷ [];
+  sets = record { name = s_text; elements = a_text ∷ b_text ∷ []; size = 2 } ∷ [];
   heads = record { name = step_text; inputs = 2 ∷ []; outputs = 0 } ∷ [];
   levels = machine_level ∷ refinement_level ∷ [];
   values = [];

@@ -7,7 +7,7 @@ use Rattle.std.proofs.lemmas.List.{append-nil, take_more, length-map, map-append
 use Rattle.std.proofs.Math.ListN.{get_or-map}
 use Rattle.std.proofs.lemmas.List.Elements.{All-get_or}
 use Rattle.bk_val.specs.ValueType.{ValueType}
-use Rattle.bk_form.specs.Table.{Table, SetEntry, VariableEntry, with_set, with_variable, variable_type, lists_type, is_among_sets, empty_table}
+use Rattle.bk_form.specs.Table.{Table, SetEntry, VariableEntry, IsCounted, with_set, with_variable, variable_type, lists_type, is_among_sets, empty_table}
 use Rattle.bk_dev.specs.declared.kind.Home.{Home}
 use Rattle.bk_dev.specs.Development.{Head, Level, Development, is_implementing, int_max as machine_max}
 use Rattle.bk_dev.specs.Layout.{has_scalars}
@@ -102,14 +102,14 @@ listed-by now t olds vs e k all = λ i d h.
     let one : IsTrue (lists_type t (get_or t.variables (length olds + i) (entry_of d)).of_type) = all (length olds + i) (entry_of d) within in
     subst (λ (ss : List SetEntry). IsTrue (is_among_sets (length ss) (get_or vs i d).1)) (sym e) (subst (λ (v : VariableEntry). IsTrue (lists_type t v.of_type)) there one)
 
-pub inhabited-by : (t : Table) (olds ss : List SetEntry) → t.sets ≡ olds ++ ss → All (λ (s : SetEntry). 0 < length s.elements) t.sets → All (λ (s : SetEntry). 0 < length s.elements) ss
-inhabited-by t olds ss k all = λ i d h.
+pub counted-by : (t : Table) (olds ss : List SetEntry) → t.sets ≡ olds ++ ss → All IsCounted t.sets → All IsCounted ss
+counted-by t olds ss k all = λ i d h.
     let back : (length olds + i) - length olds ≡ i = omega arith in
     let there : get_or t.sets (length olds + i) d ≡ get_or ss i d =
     ap (λ (es : List SetEntry). get_or es (length olds + i) d) k
     ∙ (get_or-append_right olds ss (length olds) (length olds + i) d refl (omega arith) ∙ ap (λ (j : ℕ). get_or ss j d) back) in
     let within : length olds + i < length t.sets = omega (arith, ap length k, length-append olds ss) in
-    subst (λ (s : SetEntry). 0 < length s.elements) there (all (length olds + i) d within)
+    subst IsCounted there (all (length olds + i) d within)
 
 -- the table of what is made
 pub table-made : (t first : Table) (ss : List SetEntry) (vs : List VariableEntry) (now : Table) → first ≡ with_sets t ss → now ≡ with_variables first vs → now ≡ record { sets = t.sets ++ ss; variables = t.variables ++ vs }

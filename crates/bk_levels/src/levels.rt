@@ -1,7 +1,7 @@
 //! A component as one more level of a development.
 
 ghost use Rattle.std.specs.Prelude.{◌≡◌, ◌<◌, ◌≤◌, ◌+◌, ◌^◌, ◌∷◌, [], All, IsTrue, true, length, map, IfOk, IfErr, OnOk};
-ghost use Rattle.bk_form.specs.Table.{lists_type};
+ghost use Rattle.bk_form.specs.Table.{lists_type, IsCounted};
 ghost use Rattle.bk_dev.specs.B0.{IsB0Development};
 ghost use Rattle.bk_dev.specs.Development.{int_max, is_implementing};
 ghost use Rattle.bk_dev.specs.Facts.{IsDevelopment, HomesAreThere};
@@ -270,13 +270,18 @@ fn written_sets(alloc: Global, sets: &[&RawSet]) -> Result<Vec<EnumSet>, Memory>
     Ok(found)
 }
 
-// A set with its elements.
+// A set with its elements, where 32 bits number them.
 fn written_set(alloc: Global, set: &RawSet) -> Result<EnumSet, Memory>
     ensures { IfOk result (λ made. made ∷ [] ≡ entries_of (set.now ∷ [])) }
 {
+    let elements = texts_of(alloc, &set.elements)?;
+    let Ok(size) = u32::try_from(elements.len()) else {
+        return Err(Memory);
+    };
     Ok(EnumSet {
         name: set.name.text.copy(alloc)?,
-        elements: texts_of(alloc, &set.elements)?,
+        elements,
+        size,
     })
 }
 
@@ -416,14 +421,14 @@ fn extent_of(table: &VarTable) -> (usize, usize)
 
 // The sets go into the table.
 fn add_sets(alloc: Global, table: &mut VarTable, sets: &[EnumSet]) -> Result<(), Memory>
-    requires inhabited { All (λ s. 0 < length s.elements) sets.now }
+    requires counted { All IsCounted sets.now }
     requires few { length table.old.sets + length sets.now ≤ 2 ^ 32 }
     ensures { OnOk result (table.new ≡ with_sets table.old sets.now) }
 {
     for set in sets {
         let name = set.name.copy(alloc)?;
         let elements = copies(alloc, &set.elements)?;
-        table.add_set(name, elements)?;
+        table.add_set(name, elements, set.size)?;
     }
     Ok(())
 }

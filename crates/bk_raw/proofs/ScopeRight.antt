@@ -33,7 +33,7 @@ less-then : (m n : ℕ) → m < n → nat_lt m n ≡ true
 less-then m n h = grind (arith, nat_tests)
 
 -- a set has no more names than elements
-names-below : (e : SetEntry) → IsCounted e → length e.elements ≤ e.size
+pub names-below : (e : SetEntry) → IsCounted e → length e.elements ≤ e.size
 names-below e (inl h) = let none : length e.elements ≡ 0 = ap length h in omega (arith, none)
 names-below e (inr h) = omega (arith, h)
 

@@ -61,11 +61,11 @@ types_step n table old new t lt inv is pushed =
 -- the set of this number with its elements, and those behind it
 pub sets_more : (es : List SetEntry) (n : ℕ) → n < length es → set_names n (drop n es) ≡ set_at n es ++ set_names (n + 1) (drop (n + 1) es)
 sets_more es n lt =
-    let e : SetEntry = get_or es n (record { name = []; elements = [] }) in
+    let e : SetEntry = get_or es n (record { name = []; elements = []; size = 0 }) in
     let next : suc n ≡ n + 1 = omega arith in
-    ap (λ ds. set_names n ds) (drop_more es n (record { name = []; elements = [] }) lt)
+    ap (λ ds. set_names n ds) (drop_more es n (record { name = []; elements = []; size = 0 }) lt)
     ∙ ap (λ m. set_entry n (Some e) ++ set_names m (drop (n + 1) es)) next
-    ∙ ap (λ o. set_entry n o ++ set_names (n + 1) (drop (n + 1) es)) (sym (slice_get-get_or es n (record { name = []; elements = [] }) lt))
+    ∙ ap (λ o. set_entry n o ++ set_names (n + 1) (drop (n + 1) es)) (sym (slice_get-get_or es n (record { name = []; elements = []; size = 0 }) lt))
 
 -- the names of sets, as far as a loop has put them together
 pub sets_step : (n : ℕ) (es : List SetEntry) (old new whole : Names) → n < length es → old ++ set_names n (drop n es) ≡ whole → new ≡ old ++ set_at n es → new ++ set_names (n + 1) (drop (n + 1) es) ≡ whole

@@ -81,7 +81,7 @@ fn colours(alloc: Global) -> Result<VarTable, Memory> {
     let mut table = VarTable::new(alloc);
     let red = text(alloc, b"red")?;
     let colours = vec![in alloc; red, text(alloc, b"green")?]?;
-    table.add_set(text(alloc, b"COLOUR")?, colours)?;
+    table.add_set(text(alloc, b"COLOUR")?, colours, 2)?;
     table.add_variable(text(alloc, b"x")?, Ty::int())?;
     table.add_variable(text(alloc, b"c")?, Ty::enumerated(0))?;
     Ok(table)
@@ -92,7 +92,7 @@ fn tables_are_numbered(rt: HostRuntime) -> Result<(), Fail> {
     let alloc = rt.alloc();
     let mut table = VarTable::new(alloc);
     let red = vec![in alloc; text(alloc, b"red")?]?;
-    assert_eq!(rt; table.add_set(text(alloc, b"COLOUR")?, red)?, 0);
+    assert_eq!(rt; table.add_set(text(alloc, b"COLOUR")?, red, 1)?, 0);
     assert_eq!(rt; table.add_variable(text(alloc, b"x")?, Ty::int())?, 0);
     assert_eq!(rt;
         table.add_variable(text(alloc, b"c")?, Ty::enumerated(0))?,

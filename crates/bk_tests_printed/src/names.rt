@@ -32,7 +32,7 @@ const MOST: usize = 1000;
 pub(crate) fn table(alloc: Global) -> Result<VarTable, Unread> {
     let mut table = VarTable::new(alloc);
     let elements = vec![in alloc; text(alloc, b"red")?, text(alloc, b"green")?]?;
-    table.add_set(text(alloc, b"COLOR")?, elements)?;
+    table.add_set(text(alloc, b"COLOR")?, elements, 2)?;
     for (name, ty) in VARIABLES {
         add(
             &mut table,

@@ -70,7 +70,7 @@ fn with_colours(alloc: Global) -> Result<VarTable, Memory>
 {
     let mut table = VarTable::new(alloc);
     let elements = colours(alloc)?;
-    table.add_set(text(alloc, b"COLOR")?, elements)?;
+    table.add_set(text(alloc, b"COLOR")?, elements, 2)?;
     Ok(table)
 }
 

@@ -4,13 +4,13 @@ use Rattle.bk_form.specs.Table.{Table}
 use Rattle.bk_dev.specs.Facts.{IsDevelopment}
 use Rattle.bk_dev.proofs.Room.{few-variables}
 use Rattle.bk_levels.specs.Answered.{variables_added}
-use Rattle.bk_levels.proofs.Assembling.{listed-by, inhabited-by, sets-added, alone-table}
+use Rattle.bk_levels.proofs.Assembling.{listed-by, counted-by, sets-added, alone-table}
 use Rattle.bk_levels.proofs.levels.alone.Goals as goal
 use Rattle.bk_dev.specs.Development.{default_max}
 
-pub add_sets-requires-clause-inhabited : goal.add_sets-requires-clause-inhabited
-add_sets-requires-clause-inhabited c =
-    inhabited-by (record { sets = c.args.added.sets.items; variables = variables_added c.args.added.variables.items }) [] c.deref.result.now (sym c.deref.ensures.value) c.requires.lawful.table.inhabited
+pub add_sets-requires-clause-counted : goal.add_sets-requires-clause-counted
+add_sets-requires-clause-counted c =
+    counted-by (record { sets = c.args.added.sets.items; variables = variables_added c.args.added.variables.items }) [] c.deref.result.now (sym c.deref.ensures.value) c.requires.lawful.table.counted
 
 pub add_variables-requires-clause-listed : goal.add_variables-requires-clause-listed
 add_variables-requires-clause-listed c =

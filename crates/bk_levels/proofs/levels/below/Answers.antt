@@ -5,13 +5,13 @@ use Rattle.bk_dev.specs.Development.{Development}
 use Rattle.bk_dev.specs.Facts.{IsDevelopment}
 use Rattle.bk_dev.proofs.Room.{few-variables}
 use Rattle.bk_levels.specs.Answered.{variables_added, with_sets}
-use Rattle.bk_levels.proofs.Assembling.{listed-by, inhabited-by, sets-added, below-made}
+use Rattle.bk_levels.proofs.Assembling.{listed-by, counted-by, sets-added, below-made}
 use Rattle.bk_levels.proofs.levels.below.Goals as goal
 
-pub add_sets-requires-clause-inhabited : goal.add_sets-requires-clause-inhabited
-add_sets-requires-clause-inhabited c =
-    inhabited-by (record { sets = c.args.above.table.sets ++ c.args.added.sets.items; variables = c.args.above.table.variables ++ variables_added c.args.added.variables.items }) c.args.above.table.sets c.deref.result.now
-    (ap (λ (ss : List SetEntry). c.args.above.table.sets ++ ss) (sym c.deref.ensures.value)) c.requires.development.lawful.table.inhabited
+pub add_sets-requires-clause-counted : goal.add_sets-requires-clause-counted
+add_sets-requires-clause-counted c =
+    counted-by (record { sets = c.args.above.table.sets ++ c.args.added.sets.items; variables = c.args.above.table.variables ++ variables_added c.args.added.variables.items }) c.args.above.table.sets c.deref.result.now
+    (ap (λ (ss : List SetEntry). c.args.above.table.sets ++ ss) (sym c.deref.ensures.value)) c.requires.development.lawful.table.counted
 
 pub add_sets-requires-clause-few : goal.add_sets-requires-clause-few
 add_sets-requires-clause-few c =
