@@ -120,7 +120,7 @@ counter_made = record {
   heads = counter.heads;
   levels = counter_level btrue machine_name Machine 0 1 [] ∷ counter_level btrue implementation_name Implementation 2 3 ((2, 0) ∷ []) ∷ [];
   values = [];
-  extents = [];
+  extents = (0, 2) ∷ (0, 4) ∷ [];
 }
 
 -- ---- a set, a constant and a concrete variable
@@ -260,7 +260,7 @@ refined = record {
   heads = record { name = step_text; inputs = 2 ∷ []; outputs = 0 } ∷ [];
   levels = machine_level ∷ refinement_level ∷ [];
   values = [];
-  extents = [];
+  extents = (1, 3) ∷ (1, 6) ∷ [];
 }
 
 -- ---- answers
