@@ -10,14 +10,14 @@ use Rattle.std.proofs.lemmas.List.Elements.{All-nil, All-cons, All-head, All-tai
 use Rattle.bk_val.specs.Value.{MathValue, int, elem, value_cmp}
 use Rattle.bk_val.specs.Sets.{set_of}
 use Rattle.bk_val.specs.ValueType.{ValueType, enum_type, set_type, pair_type}
-use Rattle.bk_form.specs.Table.{Table, SetEntry, VariableEntry, listed_size, set_size, lists_type, is_among_sets, IsCounted, IsWellFormed}
+use Rattle.bk_form.specs.Table.{Table, SetEntry, VariableEntry, listed_size, set_size, texts_from, texts_of_elements, lists_type, is_among_sets, IsCounted, IsWellFormed}
 use Rattle.bk_form.specs.Formula.{Formula, variable, bound, literal, truth_value, element, empty_set, named, btrue, bfalse, unary, binary, for_all, for_some, comprehension, lambda, Formulas, no_formulas, formula_and}
 use Rattle.bk_form.specs.Role.{Role, untyped, gives, gives_set, each_gives_set, predicate, if_holds, if_predicate, if_value, bound_role, empty_role, named_role, all_listed, role, roles, unary_role, binary_role, quantifier_role, comprehension_role, lambda_role, bind, are_ranges, element_types, tuple_type}
 use Rattle.bk_form.specs.Operators.{elements_from}
 use Rattle.bk_form.specs.declared.operator.Domain.{Domain}
 use Rattle.bk_form.specs.declared.operator.Domain.TheVariants.{Enum}
 use Rattle.bk_form.specs.Wider.{IsTypedRole, IsWider}
-use Rattle.bk_form.specs.Sized.{or_else, sized_from, with_sizes, HasSizes, AreSizes, SizesKeepRoles, SizesFit, SetsAreCounted}
+use Rattle.bk_form.specs.Sized.{or_else, sized_from, with_sizes, HasSizes, AreSizes, SizesKeepRoles, SizesFit, SetsAreCounted, ElementsHaveTexts}
 use Rattle.bk_form.proofs.Members.{list_of-values_of, and-both}
 use Rattle.bk_form.proofs.Operands.{holds-op, predicate-op, value-op, unary-op, binary-op}
 use Rattle.bk_form.proofs.Counted.{none-below}
@@ -197,3 +197,16 @@ as-many s i (suc n) = ap suc (as-many s (suc i) n)
 
 pub sets_are_counted : SetsAreCounted
 sets_are_counted find e n = ap (λ xs. int (pos (length xs))) (list_of-values_of (set_of (elements_from n 0 (set_size e.table n))) ∙ in-order n 0 (set_size e.table n)) ∙ ap (λ k. int (pos k)) (as-many n 0 (set_size e.table n))
+
+-- ---- texts of elements
+texts_from-length : (name : List ℕ) (i n : ℕ) → length (texts_from name i n) ≡ n
+texts_from-length name i zero = refl
+texts_from-length name i (suc n) = ap suc (texts_from-length name (suc i) n)
+
+each-has-text : (name : List ℕ) (n : ℕ) (xs : List (List ℕ)) → (xs ≡ []) ⊎ (n ≡ length xs) → length (texts_of_elements name n xs) ≡ n
+each-has-text name n [] h = texts_from-length name 0 n
+each-has-text name n (x ∷ xs) (inl e) = absurd (cc)
+each-has-text name n (x ∷ xs) (inr e) = sym e
+
+pub elements_have_texts : ElementsHaveTexts
+elements_have_texts s h = each-has-text s.name s.size s.elements h

@@ -1,8 +1,8 @@
 -- Tables whose sets get sizes: a deferred set may be read with any number of elements, at least one.
-use Rattle.std.specs.Prelude.{◌≡◌, ℕ, zero, suc, ◌<◌, All, List, [], ◌∷◌, pos}
+use Rattle.std.specs.Prelude.{◌≡◌, ℕ, zero, suc, ◌<◌, All, List, [], ◌∷◌, length, pos}
 use Rattle.bk_val.specs.Value.{int}
 use Rattle.bk_val.specs.ValueType.{ValueType}
-use Rattle.bk_form.specs.Table.{Table, SetEntry, set_size, IsWellFormed}
+use Rattle.bk_form.specs.Table.{Table, SetEntry, set_size, element_texts, IsCounted, IsWellFormed}
 use Rattle.bk_form.specs.Formula.{Formula, named, unary}
 use Rattle.bk_form.specs.Search.{Finder}
 use Rattle.bk_form.specs.Environment.{Environment}
@@ -52,3 +52,7 @@ pub record SizesFit : Type 0 where
 -- the number of elements of a set is its size
 abbrev pub SetsAreCounted : Type 0
 SetsAreCounted = (find : Finder) (e : Environment) (n : ℕ) → value find e (unary Card (named (Enum n))) ≡ int (pos (set_size e.table n))
+
+-- there is a text for each element
+abbrev pub ElementsHaveTexts : Type 0
+ElementsHaveTexts = (s : SetEntry) → IsCounted s → length (element_texts s) ≡ s.size

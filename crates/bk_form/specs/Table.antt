@@ -1,5 +1,5 @@
 -- Tables of the sets and the variables that formulas speak of.
-use Rattle.std.specs.Prelude.{◌≡◌, ◌⊎◌, ℕ, zero, suc, ◌<◌, ◌≤◌, ◌^◌, Bool, true, ◌&&◌, nat_lt, IsTrue, All, List, [], ◌∷◌, ◌++◌, length, Option}
+use Rattle.std.specs.Prelude.{◌≡◌, ◌⊎◌, ℕ, zero, suc, ◌<◌, ◌≤◌, ◌^◌, Bool, true, ◌&&◌, nat_lt, IsTrue, All, List, [], ◌∷◌, ◌++◌, length, decimal, Option}
 use Rattle.std.specs.List.{slice_get}
 use Rattle.std.specs.Option.{option_map, option_map_or}
 use Rattle.bk_val.specs.ValueType.{ValueType, int_type, bool_type, enum_type, pair_type, set_type}
@@ -50,6 +50,23 @@ abbrev pub at_least_one : ℕ → ℕ
 at_least_one zero = 1
 at_least_one (suc n) = suc n
 
+-- ---- names of elements
+-- NAME$i, NAME$(i + 1) and so on, so many
+abbrev pub texts_from : List ℕ → ℕ → ℕ → List (List ℕ)
+texts_from name i zero = []
+texts_from name i (suc n) = (name ++ 36 ∷ decimal i) ∷ texts_from name (suc i) n
+
+-- the written names of a set's elements; where none are written, NAME$0, NAME$1 and so on, as many as the size says
+abbrev pub texts_of_elements : List ℕ → ℕ → List (List ℕ) → List (List ℕ)
+texts_of_elements name size [] = texts_from name 0 size
+texts_of_elements name size (x ∷ xs) = x ∷ xs
+
+-- how the elements of a set are written in formulas, replies and images: those of an enumerated set by their names, those of a
+-- deferred set by its name and their numbers
+abbrev pub element_texts : SetEntry → List (List ℕ)
+element_texts s = texts_of_elements s.name s.size s.elements
+
+-- ---- sizes
 -- how many elements set n counts as having where formulas are read: one where it has no size yet, 0 where it is not listed
 abbrev pub set_size : Table → ℕ → ℕ
 set_size t n = option_map_or (λ s. at_least_one s.size) (slice_get t.sets n) 0

@@ -1,4 +1,4 @@
-use Rattle.bk_form.proofs.Sizing.{sizes_keep_roles, sizes_fit, sets_are_counted}
+use Rattle.bk_form.proofs.Sizing.{sizes_keep_roles, sizes_fit, sets_are_counted, elements_have_texts}
 use Rattle.bk_form.proofs.laws.sized_tables.Goals as goal
 
 pub returns-clause-roles : goal.returns-clause-roles
@@ -9,3 +9,6 @@ returns-clause-fit c = sizes_fit
 
 pub returns-clause-counted : goal.returns-clause-counted
 returns-clause-counted c = sets_are_counted
+
+pub returns-clause-texts : goal.returns-clause-texts
+returns-clause-texts c = elements_have_texts
