@@ -1,5 +1,5 @@
 -- What holds of developments, and what a small machine reaches, as statements.
-use Rattle.std.specs.Prelude.{◌≡◌, ◌↔◌, pos, true, List, [], ◌∷◌, ◌<◌, ◌≤◌, ℕ, suc, length}
+use Rattle.std.specs.Prelude.{◌≡◌, ◌↔◌, pos, true, List, [], ◌∷◌, ◌<◌, ◌≤◌, ℕ, suc, length, All}
 use Rattle.bk_val.specs.Value.{MathValue, int}
 use Rattle.bk_form.specs.Search.{Finder}
 use Rattle.bk_dev.specs.Facts.{IsDevelopment, IsFlatDevelopment, IsLawful, LastIsFlat, OnlyLastIsImplementation}
@@ -9,7 +9,7 @@ use Rattle.bk_dev.specs.Development.{Development, body_at, level_at, last, is_co
 use Rattle.bk_dev.specs.Hypotheses.{size_equations}
 use Rattle.bk_form.specs.Predicates.{AllHold}
 use Rattle.bk_form.specs.Environment.{Environment}
-use Rattle.bk_form.specs.Sized.{AreSizes}
+use Rattle.bk_form.specs.Sized.{AreSizes, HasSizes}
 use Rattle.bk_gsl.specs.Run.{Runs}
 use Rattle.bk_form.specs.Environment.{State}
 use Rattle.bk_dev.specs.B0.{IsB0Development}
@@ -88,8 +88,11 @@ OpeningsClimb = (find : Finder) (dev : Development) → IsKept find dev → ((j 
 pub record SizesKeepDevelopments : Type 0 where
   -- a development with any sizes is one
   pub development : (sizes : ℕ → ℕ) → AreSizes sizes → (dev : Development) → IsDevelopment dev → IsDevelopment (with_set_sizes sizes dev)
-  -- where there is an implementation there is one choice of sizes
-  pub whole : (sizes : ℕ → ℕ) (dev : Development) → IsDevelopment dev → is_complete dev ≡ true → with_set_sizes sizes dev ≡ dev
+  -- where each set has a size there is one choice of sizes
+  pub whole : (sizes : ℕ → ℕ) (dev : Development) → IsDevelopment dev → HasSizes dev.sets → with_set_sizes sizes dev ≡ dev
+  -- each set has a size where there is an implementation, and where the elements of each are written
+  pub complete : (dev : Development) → IsDevelopment dev → is_complete dev ≡ true → HasSizes dev.sets
+  pub written : (dev : Development) → IsDevelopment dev → All (λ s. 0 < length s.elements) dev.sets → HasSizes dev.sets
   -- flattening makes no difference
   pub flat : (sizes : ℕ → ℕ) (dev : Development) → flattened (with_set_sizes sizes dev) ≡ with_set_sizes sizes (flattened dev)
 
