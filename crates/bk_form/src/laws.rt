@@ -3,6 +3,7 @@
 ghost use Rattle.bk_form.specs.Laws.{AllMeans, SomeMeans, IsIndependent, SearchExists, IsClassical, IsSoundTyping, ReplacementMeans, ComprehensionHas, LambdaHas, IntervalHas, TotalMeans, OntoMeans, NoTotalFunction, ChoicesAre, Examples, DefinedExamples, WideningMeans, WideningKeepsRoles, WideningKeepsDefined};
 ghost use Rattle.bk_form.specs.MemberLaws.{OperatorMembers, ArrowsMean, MeaningIsKnown};
 ghost use Rattle.bk_form.specs.Operands.{OperandsAreTyped};
+ghost use Rattle.bk_form.specs.PoolLaws.{PoolLaws};
 ghost use Rattle.bk_form.specs.Sized.{SizesKeepRoles, SizesFit, OneSizeIsGiven, SetsAreCounted, ElementsHaveTexts};
 
 /// What the quantifiers say.
@@ -86,4 +87,9 @@ pub fn sized_tables()
     ensures one { OneSizeIsGiven }
     ensures counted { SetsAreCounted }
     ensures texts { ElementsHaveTexts }
+{}
+
+/// All parts of a member of a pool stand in it, and a formula whose parts stand there may go last.
+pub fn pools()
+    ensures { PoolLaws }
 {}
