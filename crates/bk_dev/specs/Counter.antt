@@ -66,7 +66,7 @@ counter_with condition = record {
   heads = record { name = reset_name; inputs = []; outputs = 0 } ∷ record { name = setmax_name; inputs = []; outputs = 0 } ∷ record { name = get_name; inputs = []; outputs = 1 } ∷ [];
   levels = counter_level condition machine_name Machine 0 2 [] ∷ counter_level btrue implementation_name Implementation 1 3 ((1, 0) ∷ []) ∷ [];
   values = [];
-  extents = [];
+  extents = (0, 3) ∷ (0, 4) ∷ [];
 }
 
 -- the counter whose setmax may always be called

@@ -19,6 +19,7 @@ use Rattle.bk_dev.specs.Development.{Head, Body, Level, Development, int_max, Is
 use Rattle.bk_form.specs.Each.{Each}
 use Rattle.bk_gsl.specs.Flat.{IsFlat}
 use Rattle.bk_dev.specs.Flattened.{flattened}
+use Rattle.bk_dev.specs.Extents.{HasItsExtents}
 
 -- ---- homes
 -- the home of a constant
@@ -343,3 +344,4 @@ pub record IsDevelopment (dev : Development) : Type 0 where
   -- and all its sets
   pub few_sets : length dev.table.sets ≤ 2 ^ 32
   pub homes_there : HomesAreThere dev
+  pub extents : HasItsExtents dev

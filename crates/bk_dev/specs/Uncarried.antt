@@ -34,7 +34,7 @@ turning above below = record {
   heads = record { name = 116 ∷ 117 ∷ 114 ∷ 110 ∷ []; inputs = []; outputs = 0 } ∷ [];
   levels = turning_level machine_name Machine 0 2 [] above ∷ turning_level implementation_name Implementation 1 3 ((1, 0) ∷ (3, 2) ∷ []) below ∷ [];
   values = [];
-  extents = [];
+  extents = (0, 3) ∷ (0, 4) ∷ [];
 }
 
 -- the variable is 5

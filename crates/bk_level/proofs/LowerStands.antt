@@ -41,6 +41,7 @@ use Rattle.bk_level.proofs.Homes.{homes-all}
 use Rattle.bk_level.proofs.OldLevels.{head-kept, levels-kept}
 use Rattle.bk_level.proofs.NewHomes.{new-pass, index-left, homes-stay}
 use Rattle.bk_level.proofs.NewLevel.{index-last, new-clauses}
+use Rattle.bk_level.proofs.NewExtents.{lower-extents}
 use Rattle.bk_level.proofs.Lowers.{lowers-right}
 use Rattle.bk_level.proofs.MachineStands.{all-listed, all-sized}
 use Rattle.bk_level.proofs.Verdicts.{answer-right}
@@ -193,6 +194,7 @@ lower-development int_max higher comp d going stand below none room values all-v
       room = room.variables;
       few_sets = room.sets;
       homes_there = homes-stay int_max higher comp lawful.homes stand;
+      extents = lower-extents int_max higher comp d.extents some;
     }
   where
     other : (j : ℕ) → j < length higher.levels → nat_eq (length higher.levels) j ≡ false
