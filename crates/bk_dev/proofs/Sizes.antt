@@ -152,6 +152,12 @@ module _ (sizes : ℕ → ℕ) (dev : Development) where
     room = d.room;
     few_sets = subst (λ n. n ≤ 2 ^ 32) (sym (sized-length sizes 0 dev.table.sets)) d.few_sets;
     homes_there = d.homes_there;
+    extents = record {
+      one_each = d.extents.one_each;
+      whole = d.extents.whole ∙ ap (λ (n : ℕ). (n, length dev.table.variables)) (sym (sized-length sizes 0 dev.table.sets));
+      sets = d.extents.sets;
+      variables = d.extents.variables;
+    };
   }
 
   pub development-whole : IsDevelopment dev → HasSizes dev.sets → sized ≡ dev

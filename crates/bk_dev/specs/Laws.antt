@@ -29,7 +29,8 @@ ReachesTen = (find : Finder) (a : Abstract) → Reach find counter (setmax ∷ [
 
 -- get then answers 10, and nothing else
 abbrev pub AnswersTen : Type 0
-AnswersTen = (find : Finder) (us : List MathValue) → ((a : Abstract) × Reach find counter (setmax ∷ get ∷ []) ([] ∷ us ∷ []) a) ↔ (us ≡ int (pos 10) ∷ [])
+AnswersTen = (find : Finder) (us : List MathValue) →
+    ((a : Abstract) × Reach find counter (setmax ∷ get ∷ []) ([] ∷ us ∷ []) a) ↔ (us ≡ int (pos 10) ∷ [])
 
 -- setmax is legal where it has no precondition, and not where its precondition is never true
 pub record LegalWhere : Type 0 where
@@ -55,9 +56,11 @@ pub record FlattenedRuns : Type 0 where
 
 -- where no || stands in the last level, flattening leaves it as it was, with its arrays and its cells
 pub record FlattenedKeepsCells : Type 0 where
-  pub level : (dev : Development) → IsLawful dev → LastIsFlat dev → level_at (flattened dev) (last (flattened dev)) ≡ level_at dev (last dev)
+  pub level : (dev : Development) → IsLawful dev → LastIsFlat dev →
+      level_at (flattened dev) (last (flattened dev)) ≡ level_at dev (last dev)
   pub arrays : (dev : Development) → IsLawful dev → LastIsFlat dev → arrays_of (flattened dev) ≡ arrays_of dev
-  pub cells : (dev : Development) → IsLawful dev → LastIsFlat dev → (x : ℕ) → (cell_of (flattened dev) x ≡ cell_of dev x) × (cells_of (flattened dev) x ≡ cells_of dev x)
+  pub cells : (dev : Development) → IsLawful dev → LastIsFlat dev → (x : ℕ) →
+      (cell_of (flattened dev) x ≡ cell_of dev x) × (cells_of (flattened dev) x ≡ cells_of dev x)
   pub count : (dev : Development) → IsLawful dev → LastIsFlat dev → cell_count (flattened dev) ≡ cell_count dev
 
 -- a development in B0 is in B0 after flattening
@@ -98,4 +101,5 @@ pub record SizesKeepDevelopments : Type 0 where
 
 -- what is said of the sizes is true
 abbrev pub SizesHold : Type 0
-SizesHold = (find : Finder) (dev : Development) → dev.sets ≡ dev.table.sets → (e : Environment) → e.table ≡ dev.table → AllHold find e (size_equations dev)
+SizesHold = (find : Finder) (dev : Development) → dev.sets ≡ dev.table.sets → (e : Environment) → e.table ≡ dev.table →
+    AllHold find e (size_equations dev)

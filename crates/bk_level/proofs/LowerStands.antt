@@ -11,7 +11,7 @@ use Rattle.bk_gsl.specs.State.{among}
 use Rattle.bk_dev.specs.declared.kind.Kind.{Kind}
 use Rattle.bk_dev.specs.declared.kind.Kind.TheVariants.{Machine, Refinement, Implementation}
 use Rattle.bk_dev.specs.Development.{Head, Body, Level, Development, level_at, last, blank_level, is_complete, is_implementation, is_implementing}
-use Rattle.bk_dev.specs.Facts.{AllAre, AreDistinct, binders, is_variable_of, is_variable_above, is_inner_of, home_of, EachBody, EachLevel, IsKindAt, IsHeadOf, IsLevelOf, IsValue, HasItsValues, HasItsShape, all_binders, all_outputs, IsLawful, IsDevelopment, HomesAreThere}
+use Rattle.bk_dev.specs.Facts.{AllAre, AreDistinct, binders, is_variable_of, is_variable_above, is_inner_of, home_of, EachBody, EachLevel, IsKindAt, IsHeadOf, IsLevelOf, IsValue, HasItsValues, HasItsShape, all_binders, all_outputs, IsLawful, IsDevelopment}
 use Rattle.bk_dev.proofs.FlatLevels.{passes-within}
 use Rattle.bk_dev.proofs.Levels.{last_level}
 use Rattle.bk_dev.proofs.Staying.{all-at}
@@ -41,6 +41,7 @@ use Rattle.bk_level.proofs.Homes.{homes-all}
 use Rattle.bk_level.proofs.OldLevels.{head-kept, levels-kept}
 use Rattle.bk_level.proofs.NewHomes.{new-pass, index-left, homes-stay}
 use Rattle.bk_level.proofs.NewLevel.{index-last, new-clauses}
+use Rattle.bk_level.proofs.NewExtents.{lower-extents}
 use Rattle.bk_level.proofs.Lowers.{lowers-right}
 use Rattle.bk_level.proofs.MachineStands.{all-listed, all-sized}
 use Rattle.bk_level.proofs.Verdicts.{answer-right}
@@ -124,10 +125,10 @@ lower-kind Refinement n e h = h
 lower-kind Implementation n e h = h
 
 -- ---- the development
-pub lower-development : (int_max : ℤ) (higher : Development) (comp : Component) → IsDevelopment higher → is_complete higher ≡ false → HomesAreThere higher → is_machine comp.kind ≡ false → static_faults int_max higher comp ≡ []
+pub lower-development : (int_max : ℤ) (higher : Development) (comp : Component) → IsDevelopment higher → is_complete higher ≡ false → is_machine comp.kind ≡ false → static_faults int_max higher comp ≡ []
     → HasRoom (made int_max higher comp (plan higher comp)) → Each (IsValue (made int_max higher comp (plan higher comp))) (made int_max higher comp (plan higher comp)).values → HasItsValues (made int_max higher comp (plan higher comp)) (is_implementing comp.kind)
     → IsDevelopment (made int_max higher comp (plan higher comp))
-lower-development int_max higher comp d going stand below none room values all-valued =
+lower-development int_max higher comp d going below none room values all-valued =
     let p = plan higher comp in
     let new = made int_max higher comp p in
     let typing = types_at int_max higher comp p in
@@ -140,7 +141,7 @@ lower-development int_max higher comp d going stand below none room values all-v
     let said = none-left clauses after (none-right (name_faults higher comp) (clauses ++ after) none) in
     let more = constant_faults typing p.constants_at comp.constants ++ (variable_faults typing comp.name.at comp.variables p.variables_at p.variables ++ (stated_faults int_max typing p.globals comp.properties ++ (stated_faults int_max typing (joined p) comp.invariant ++ (all_stated_faults int_max typing (joined p) comp.assertions ++ entry_faults int_max typing p.globals comp.values)))) in
     let st = stands int_max higher comp ready.listed ready.counted in
-    let level = new-clauses int_max higher comp ready stand (lower-kind comp.kind (length higher.levels) below some) none in
+    let level = new-clauses int_max higher comp ready d.homes_there (lower-kind comp.kind (length higher.levels) below some) none in
     let right = lowers-right int_max higher comp ready lawful below none in
     let at : (j : ℕ) → j < length higher.levels → level_at new j ≡ level_at higher j = λ j h. index-left higher.levels (l ∷ []) j blank_level h in
     let machine-so : (level_at new 0).bodies ≡ (level_at higher 0).bodies = ap (λ (m : Level). m.bodies) (at 0 some) in
@@ -192,14 +193,15 @@ lower-development int_max higher comp d going stand below none room values all-v
       binders_differ = (stands-apart int_max higher comp (apart-above higher d)).differ;
       room = room.variables;
       few_sets = room.sets;
-      homes_there = homes-stay int_max higher comp lawful.homes stand;
+      homes_there = homes-stay int_max higher comp lawful.homes d.homes_there;
+      extents = lower-extents int_max higher comp d.extents some;
     }
   where
     other : (j : ℕ) → j < length higher.levels → nat_eq (length higher.levels) j ≡ false
     other j h = grind (arith, nat_tests)
 
 pub refinement-accepted : AcceptedRefinementIsDevelopment
-refinement-accepted int_max higher written dev d going stand kind e room =
+refinement-accepted int_max higher written dev d going kind e room =
     let comp = component_of written in
     let right = answer-right.right int_max higher comp dev e in
     let new = made int_max higher comp (plan higher comp) in
@@ -209,4 +211,4 @@ refinement-accepted int_max higher written dev d going stand kind e room =
     let implements : is_implementing comp.kind ≡ false = ap (λ k. is_implementing (kind_as k)) kind in
     let value-none : new.values ≡ [] = ap (values_made int_max typing (plan higher comp).globals) no-values in
     let none = none-left (static_faults int_max higher comp) (executable_faults int_max higher comp) right.1 in
-    subst IsDevelopment (sym right.2) (lower-development int_max higher comp d going stand below none (subst HasRoom right.2 room) (subst (Each (IsValue new)) (sym value-none) tt) (subst (HasItsValues new) (sym implements) value-none))
+    subst IsDevelopment (sym right.2) (lower-development int_max higher comp d going below none (subst HasRoom right.2 room) (subst (Each (IsValue new)) (sym value-none) tt) (subst (HasItsValues new) (sym implements) value-none))

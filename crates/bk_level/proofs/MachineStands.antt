@@ -39,6 +39,7 @@ use Rattle.bk_level.proofs.Stands.{stands, entries-counted}
 use Rattle.bk_level.proofs.Homes.{homes-all}
 use Rattle.bk_level.proofs.NewHomes.{homes-stay}
 use Rattle.bk_level.proofs.NewLevel.{new-clauses}
+use Rattle.bk_level.proofs.NewExtents.{machine-extents}
 use Rattle.bk_level.proofs.Machines.{machines-right, machine-shapes}
 use Rattle.bk_level.proofs.Verdicts.{answer-right}
 use Rattle.bk_dev.proofs.DefaultRange.{default_range}
@@ -135,6 +136,7 @@ machine-development int_max comp machine no-values none room =
       room = room.variables;
       few_sets = room.sets;
       homes_there = homes-stay int_max no_development comp refl (λ n. tt);
+      extents = machine-extents int_max comp;
     }
 
 pub machine-accepted : AcceptedMachineIsDevelopment
