@@ -44,6 +44,7 @@ use Rattle.bk_level.proofs.NewLevel.{index-last, new-clauses}
 use Rattle.bk_level.proofs.Lowers.{lowers-right}
 use Rattle.bk_level.proofs.MachineStands.{all-listed, all-sized}
 use Rattle.bk_level.proofs.Verdicts.{answer-right}
+use Rattle.bk_level.proofs.ValuesStand.{sizes-above}
 
 -- ---- what stands above is ready
 seen-level : (v : ℕ → Bool) (k : ℕ) (table : Table) (ns : List ℕ) → AllAre v ns → AreSeen v (names_at_level k table ns)
@@ -136,8 +137,14 @@ lower-development int_max higher comp d going stand below none room values all-v
     let some = lawful.some_level in
     let ready = ready-above higher lawful in
     let clauses = clause_faults int_max typing p comp in
-    let after = operation_faults higher comp p ++ (init_faults int_max higher comp typing p ++ (all_body_faults int_max higher comp typing p (operations_of p comp) ++ value_faults_of int_max typing p comp)) in
-    let said = none-left clauses after (none-right (name_faults higher comp) (clauses ++ after) none) in
+    let operations = operation_faults higher comp p in
+    let begun = init_faults int_max higher comp typing p in
+    let behind = all_body_faults int_max higher comp typing p (operations_of p comp) in
+    let last-faults = value_faults_of int_max higher typing p comp in
+    let after = operations ++ (begun ++ (behind ++ last-faults)) in
+    let all-none = none-right (name_faults higher comp) (clauses ++ after) none in
+    let said = none-left clauses after all-none in
+    let values-none = none-right behind last-faults (none-right begun (behind ++ last-faults) (none-right operations (begun ++ (behind ++ last-faults)) (none-right clauses after all-none))) in
     let more = constant_faults typing p.constants_at comp.constants ++ (variable_faults typing comp.name.at comp.variables p.variables_at p.variables ++ (stated_faults int_max typing p.globals comp.properties ++ (stated_faults int_max typing (joined p) comp.invariant ++ (all_stated_faults int_max typing (joined p) comp.assertions ++ entry_faults int_max typing p.globals comp.values)))) in
     let st = stands int_max higher comp ready.listed ready.counted in
     let level = new-clauses int_max higher comp ready stand (lower-kind comp.kind (length higher.levels) below some) none in
@@ -188,6 +195,7 @@ lower-development int_max higher comp d going stand below none room values all-v
       };
       only_last = λ k h. (let j : k < length higher.levels = omega arith in
           ap is_implementation (at k j) ∙ split-at (is_implementation (level_at higher k) ≡ false) (suc k) (length higher.levels) (λ a. d.only_last k a) (λ a. (let e : k ≡ last higher = omega arith in ap (λ m. is_implementation (level_at higher m)) e ∙ going)));
+      sizes = λ h. All-append (λ (s : SetEntry). 0 < s.size) higher.table.sets (entries_of comp.sets) (sizes-above int_max higher typing p comp (sym complete-so ∙ h) values-none) (all-sized comp.sets (none-left (set_faults comp.sets) more said));
       shapes = each-join HasItsShape higher.levels (l ∷ []) d.shapes (record { init = level.shape; bodies = right.shapes }, tt);
       binders_differ = (stands-apart int_max higher comp (apart-above higher d)).differ;
       room = room.variables;

@@ -225,7 +225,7 @@ module _ (int_max : ℤ) (higher : Development) (comp : Component) (ready : IsRe
       let operations = operation_faults higher comp p in
       let begun = init_faults int_max higher comp typing p in
       let bodies = all_body_faults int_max higher comp typing p (operations_of p comp) in
-      let values = value_faults_of int_max typing p comp in
+      let values = value_faults_of int_max higher typing p comp in
       let missing = missing_init comp.at comp.init p.variables in
       let start = shape_faults comp.kind false (initialisation comp) in
       let shapes = bodies_shape comp.kind comp.operations in
