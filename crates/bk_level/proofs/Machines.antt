@@ -115,7 +115,7 @@ module _ (int_max : ℤ) (higher : Development) (comp : Component) (ready : IsRe
       let inputs = input_faults typing (numbered i o.inputs) o.inputs in
       let outputs = declared_faults typing n o.outputs in
       let body = sub_faults int_max typing p.upper (body_scope p h) (writes int_max higher comp p (outputs_of h)) b o.body in
-      let st = stands int_max higher comp ready.listed ready.counted in (
+      let st = stands int_max higher comp ready.table in (
         new-bodies int_max higher comp ready none (record { name = o.name.text; inputs = interval i (length o.inputs); outputs = length o.outputs }) (body_made int_max typing p h) h
             (record { outputs = h2; all_outputs = omega arith; binders = h4; all_binders = omega arith })
             (record {

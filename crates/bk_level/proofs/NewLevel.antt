@@ -61,11 +61,11 @@ link-stands int_max higher comp ready l h =
     let split = above-split (length higher.levels) (home_of higher l.1) up in
     let there = entry-there higher.table.variables l.1 low in
     let type : variable_type higher.table l.1 ≡ Some there.0 = variable-entry higher.table l.1 ∙ there.1 in
-    let st = stands int_max higher comp ready.listed ready.counted in
+    let st = stands int_max higher comp ready.table in
     record {
       below = right.0;
       above = (split.0, split.1, ap (is_variable_of split.0) (old-home int_max higher comp ready.homes l.1 low) ∙ split.2);
-      alike = (there.0, st.settled.types l.0 there.0 (right.1 ∙ type), st.settled.types l.1 there.0 (low-type int_max higher comp ready.listed ready.counted l.1 low ∙ type));
+      alike = (there.0, st.settled.types l.0 there.0 (right.1 ∙ type), st.settled.types l.1 there.0 (low-type int_max higher comp ready.table l.1 low ∙ type));
     }
 
 -- ---- where the initialisation may stand

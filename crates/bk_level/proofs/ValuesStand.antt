@@ -274,8 +274,8 @@ module _ (higher : Development) (comp : Component) (ready : IsReady higher) wher
       let rest = values_made most typing names vs in
       let made-so : values_made most typing names (v ∷ vs) ≡ (n, f.0) ∷ rest = ap (λ a. with_value a o rest) named-so ∙ ap (λ a. with_value (Some n) a rest) f.1 in
       let valued-so : valued names (v ∷ vs) ≡ n ∷ valued names vs = ap (λ a. with_number a (valued names vs)) named-so in
-      let st = stands most higher comp ready.listed ready.counted in
-      let right : IsRight new.table [] (partial (whole f.0 w.0)) = subst (IsRight new.table []) w.2 (outcome-right most new.table typing st.settled names false v.value (globals-stand most higher comp ready.counted)) in
+      let st = stands most higher comp ready.table in
+      let right : IsRight new.table [] (partial (whole f.0 w.0)) = subst (IsRight new.table []) w.2 (outcome-right most new.table typing st.settled names false v.value (globals-stand most higher comp ready.table.counted)) in
       let constant = named-seen (λ x. is_constant (home_of new x)) names v.name.text n (globals-seen most higher comp ready.homes (λ x. is_constant (home_of new x)) (λ x e. ap is_constant e)) named-so in
       let one : IsValue new (n, f.0) = record { constant = constant; is_literal = form-literal new f.0 w.3; of_type = (w.0, st.settled.types n w.0 m.2, right.0) } in (
         subst (Each (IsValue new)) (sym made-so) (one, r.0),
