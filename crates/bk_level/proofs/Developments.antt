@@ -40,7 +40,7 @@ implementation-accepted above written dev d going kind e room =
     let operations = operation_faults above comp p in
     let begun = init_faults most above comp typing p in
     let bodies = all_body_faults most above comp typing p (operations_of p comp) in
-    let values = value_faults_of most typing p comp in
+    let values = value_faults_of most above typing p comp in
     let values-none = none-right bodies values (none-right begun (bodies ++ values) (none-right operations (begun ++ (bodies ++ values)) (none-right clauses (operations ++ (begun ++ (bodies ++ values))) (none-right (name_faults above comp) (clauses ++ (operations ++ (begun ++ (bodies ++ values)))) none)))) in
     let valued = values-stand above comp (ready-above above d.lawful) implements values-none in
     subst IsDevelopment (sym right.2) (lower-development most above comp d going below none (subst HasRoom right.2 room) valued.0 (subst (HasItsValues (made most above comp p)) (sym implements) valued.1))
