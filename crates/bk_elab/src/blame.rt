@@ -37,13 +37,18 @@ fn rank(kind: FaultKind) -> u8
     ensures { result ≡ blamed.rank kind }
 {
     match kind {
-        FaultKind::TwiceNamed => 0,
-        FaultKind::UnknownName => 1,
-        FaultKind::NotPredicate => 2,
-        FaultKind::NoType => 3,
-        FaultKind::WrongOperation => 4,
-        FaultKind::WrongWrite => 5,
-        FaultKind::WrongValue => 6,
-        FaultKind::NotB0 => 7,
+        FaultKind::NotUtf8 => 0,
+        FaultKind::NoToken => 1,
+        FaultKind::NoTree => 2,
+        FaultKind::WrongLine => 3,
+        FaultKind::WrongChain => 4,
+        FaultKind::TwiceNamed => 5,
+        FaultKind::UnknownName => 6,
+        FaultKind::NotPredicate => 7,
+        FaultKind::NoType => 8,
+        FaultKind::WrongOperation => 9,
+        FaultKind::WrongWrite => 10,
+        FaultKind::WrongValue => 11,
+        FaultKind::NotB0 => 12,
     }
 }

@@ -9,6 +9,8 @@ use Rattle.bk_lex.specs.Lexis.{AreTokens}
 use Rattle.bk_lex.specs.Faults.{IsFaultOf as IsLexFaultOf}
 use Rattle.bk_lex.specs.declared.fault.LexFault.TheVariants.{BadChar, OpenComment, NumberTooWide, Limit as LexLimit}
 use Rattle.bk_raw.specs.Limits.{IsShallow, IsTooDeep}
+use Rattle.bk_raw.specs.declared.fault.FaultKind.TheVariants.{NotUtf8, NoToken}
+use Rattle.bk_raw.specs.Faults.{number_of_fault}
 use Rattle.bk_files.specs.declared.fault.FileFault.{FileFault}
 use Rattle.bk_files.specs.declared.fault.FileFault.TheVariants.{Fault, Limit, Memory}
 
@@ -59,8 +61,8 @@ IsDeep text = (tokens : List Token) × IsCut text tokens × (place : ℕ) × IsT
 -- the fault of this number is the first, and stands at this byte of this file; files count from 0
 abbrev pub IsAtFault : List (List ℕ) → ℕ → ℕ → ℕ → Type 0
 IsAtFault texts number file place =
-    ((number ≡ 1) × IsFirst IsUtf8 (IsNoUtf8 place) texts file)
-    ⊎ ((number ≡ 2) × All IsUtf8 texts × IsFirst (Has IsCut) (IsNoToken place) texts file)
+    ((number ≡ number_of_fault NotUtf8) × IsFirst IsUtf8 (IsNoUtf8 place) texts file)
+    ⊎ ((number ≡ number_of_fault NoToken) × All IsUtf8 texts × IsFirst (Has IsCut) (IsNoToken place) texts file)
 
 -- the limit of this number is the first that is passed, by this file
 abbrev pub IsPastLimit : List (List ℕ) → ℕ → ℕ → Type 0

@@ -3,13 +3,14 @@
 ghost use Rattle.std.specs.Prelude.{◌≡◌, ◌<◌, ◌^◌, List, ℕ, length, map, All, IfOk, IfErr};
 ghost use Rattle.std.specs.List.{AllZip};
 ghost use Rattle.std.specs.Str.{IsUtf8};
+ghost use Rattle.bk_raw.specs.Faults.{number_of_fault};
 ghost use Rattle.bk_files.specs.Files.{IsCut, IsFaultOf, IsShallowText};
 ghost use Rattle.bk_files.specs.Stages.{IsFileFault};
 
 use crate::fault::FileFault;
 use bk_form::Token;
 use bk_lex::{LexFault, tokens};
-use bk_raw::too_deep;
+use bk_raw::{FaultKind, too_deep};
 use std::alloc::Global;
 
 /// The tokens of each file, in order. Files count from 0.
@@ -34,20 +35,20 @@ fn all_utf8(texts: &[Vec<u8>]) -> Result<(), FileFault>
 {
     for (file, text) in texts.iter().enumerate() {
         if let Err(error) = str::from_utf8(text) {
-            return Err(fault(1, file, error.valid_up_to()));
+            return Err(fault(FaultKind::NotUtf8, file, error.valid_up_to()));
         }
     }
     Ok(())
 }
 
-/// The fault with this number.
-fn fault(number: u8, file: usize, place: usize) -> FileFault
+/// The fault of this kind.
+fn fault(kind: FaultKind, file: usize, place: usize) -> FileFault
     requires { file < 2 ^ 32 }
-    ensures { result ≡ FileFault.Fault number file place }
+    ensures { result ≡ FileFault.Fault (number_of_fault kind) file place }
 {
     let file = file as u32;
     FileFault::Fault {
-        number,
+        number: kind.number(),
         file,
         place,
     }
@@ -85,10 +86,10 @@ fn lexical(error: LexFault, file: usize) -> FileFault
     ensures { (texts : List (List ℕ)) → IsFileFault texts file error → All IsUtf8 texts → IsFaultOf texts result }
 {
     match error {
-        LexFault::NotUtf8(place) => fault(1, file, place),
-        LexFault::BadChar(place) => fault(2, file, place),
-        LexFault::OpenComment(place) => fault(2, file, place),
-        LexFault::NumberTooWide(place) => fault(2, file, place),
+        LexFault::NotUtf8(place) => fault(FaultKind::NotUtf8, file, place),
+        LexFault::BadChar(place) => fault(FaultKind::NoToken, file, place),
+        LexFault::OpenComment(place) => fault(FaultKind::NoToken, file, place),
+        LexFault::NumberTooWide(place) => fault(FaultKind::NoToken, file, place),
         LexFault::Limit(_) => limit(2, file),
         LexFault::Memory => FileFault::Memory,
     }

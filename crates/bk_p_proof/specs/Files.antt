@@ -9,6 +9,8 @@ use Rattle.bk_raw.specs.ScriptTree.{RawScript}
 use Rattle.bk_raw.specs.ScriptSpelling.{SpellsScripts}
 use Rattle.bk_raw.specs.Places.{IsScriptFaultAt}
 use Rattle.bk_raw.specs.Limits.{IsLowFile}
+use Rattle.bk_raw.specs.declared.fault.FaultKind.TheVariants.{NoTree, TwiceNamed}
+use Rattle.bk_raw.specs.Faults.{number_of_fault}
 use Rattle.bk_files.specs.Files.{Has, IsFirst, IsShallowText, IsAtFault, IsPastLimit}
 use Rattle.bk_raw.specs.declared.script.NamePart.{NamePart}
 use Rattle.bk_p_proof.specs.TypedNames.{script_names, AreOfOneType, IsSecondType}
@@ -86,8 +88,8 @@ StandsInFile s = (text : List ℕ) × (scripts : List RawScript) × IsProofFile 
 abbrev pub IsFaultOf : List (List ℕ) → ScriptFault → Type 0
 IsFaultOf texts (Fault number file place) =
     IsAtFault texts number file place
-    ⊎ ((number ≡ 3) × All (Has IsShallowText) texts × IsFirst (Has IsWritten) (IsUnwritten place) texts file)
-    ⊎ ((number ≡ 6) × ((files : List (List RawScript)) × AllZip IsProofFile texts files × IsTwiceNamed files file place))
+    ⊎ ((number ≡ number_of_fault NoTree) × All (Has IsShallowText) texts × IsFirst (Has IsWritten) (IsUnwritten place) texts file)
+    ⊎ ((number ≡ number_of_fault TwiceNamed) × ((files : List (List RawScript)) × AllZip IsProofFile texts files × IsTwiceNamed files file place))
 IsFaultOf texts (Limit number file) =
     IsPastLimit texts number file
     ⊎ ((number ≡ 12) × All (Has IsWritten) texts × IsFirst (Has IsLow) IsHigh texts file)

@@ -5,6 +5,7 @@ ghost use Rattle.std.specs.List.{AllZip, AllPairs, flat_map};
 ghost use Rattle.std.specs.Str.{IsUtf8};
 ghost use Rattle.bk_raw.specs.ScriptTree.{RawScript as WrittenScript};
 ghost use Rattle.bk_raw.specs.Places.{byte_at};
+ghost use Rattle.bk_raw.specs.Faults.{number_of_fault};
 ghost use Rattle.bk_files.specs.Files.{IsCut, IsShallowText};
 ghost use Rattle.bk_p_proof.specs.Files.{AreScriptsOf, IsFaultOf, IsShort, IsWritten, names_of};
 ghost use Rattle.bk_p_proof.specs.Kept.{AreScripts};
@@ -19,7 +20,7 @@ use bk_files::cut;
 use bk_form::Token;
 use bk_io::Memory;
 use bk_limits::MOST_RULES;
-use bk_raw::RawScript;
+use bk_raw::{FaultKind, RawScript};
 use std::alloc::Global;
 
 /// The scripts of proof files, in order. Files count from 0.
@@ -40,14 +41,14 @@ pub fn scripts(alloc: Global, texts: &[Vec<u8>]) -> Result<Scripts, ScriptFault>
     Ok(Scripts::of_texts(all))
 }
 
-/// The fault with this number.
-fn fault(number: u8, file: usize, place: usize) -> ScriptFault
+/// The fault of this kind.
+fn fault(kind: FaultKind, file: usize, place: usize) -> ScriptFault
     requires { file < 2 ^ 32 }
-    ensures { result ≡ ScriptFault.Fault number file place }
+    ensures { result ≡ ScriptFault.Fault (number_of_fault kind) file place }
 {
     let file = file as u32;
     ScriptFault::Fault {
-        number,
+        number: kind.number(),
         file,
         place,
     }
@@ -77,7 +78,7 @@ fn all_read(
     for (file, tokens) in files.iter().enumerate() {
         match one_read(alloc, tokens, texts[file].len()) {
             Ok(read) => all.push(read)?,
-            Err(SpellFault::At(place)) => return Err(fault(3, file, place)),
+            Err(SpellFault::At(place)) => return Err(fault(FaultKind::NoTree, file, place)),
             Err(SpellFault::Memory) => return Err(ScriptFault::Memory),
         }
     }
@@ -163,7 +164,7 @@ fn all_differ(alloc: Global, texts: &[Vec<u8>], read: &[FileScripts]) -> Result<
     let mut names = ScriptNames::new(alloc);
     for (file, read) in read.iter().enumerate() {
         if let Some(place) = names.twice(alloc, &read.scripts)? {
-            return Err(fault(6, file, place));
+            return Err(fault(FaultKind::TwiceNamed, file, place));
         }
     }
     Ok(())

@@ -8,6 +8,8 @@ use Rattle.bk_form.specs.declared.token.Token.{Token}
 use Rattle.bk_raw.specs.ComponentTree.{RawComponent}
 use Rattle.bk_raw.specs.ComponentSpelling.{SpellsComponent}
 use Rattle.bk_raw.specs.Limits.{IsLowComponent}
+use Rattle.bk_raw.specs.declared.fault.FaultKind.TheVariants.{NoTree, WrongChain}
+use Rattle.bk_raw.specs.Faults.{number_of_fault}
 use Rattle.bk_raw.specs.Places.{IsComponentFaultAt}
 use Rattle.bk_dev.specs.Development.{Development, int_max}
 use Rattle.bk_files.specs.Files.{Has, IsFirst, IsShallowText, IsAtFault, IsPastLimit}
@@ -92,8 +94,8 @@ pub record IsLevelFault (components : List RawComponent) (number file place : �
 abbrev pub IsProjectFault : List LineKind → List (List ℕ) → ℕ → ℕ → ℕ → Type 0
 IsProjectFault kinds texts number file place =
     IsAtFault texts number file place
-    ⊎ ((number ≡ 3) × All (Has IsShallowText) texts × IsFirst (Has IsWritten) (IsUnwritten place) texts file)
-    ⊎ ((number ≡ 5) × (length kinds ≡ length texts) × ((cs : List RawComponent) × AllZip IsLow texts cs × IsFirst IsChained (IsUnchained place) (links None kinds cs) file))
+    ⊎ ((number ≡ number_of_fault NoTree) × All (Has IsShallowText) texts × IsFirst (Has IsWritten) (IsUnwritten place) texts file)
+    ⊎ ((number ≡ number_of_fault WrongChain) × (length kinds ≡ length texts) × ((cs : List RawComponent) × AllZip IsLow texts cs × IsFirst IsChained (IsUnchained place) (links None kinds cs) file))
     ⊎ ((cs : List RawComponent) × AreChained kinds texts cs × All DeclaresFew cs × IsLevelFault cs number file place)
 
 -- the limit of this number is the first that is passed

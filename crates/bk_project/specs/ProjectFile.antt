@@ -6,6 +6,8 @@ use Rattle.std.specs.Str.{IsUtf8, IsValidUpTo}
 use Rattle.std.specs.Str.Lines.{lines}
 use Rattle.bk_limits.specs.declared.TheConstants.{MOST_COMPONENTS}
 use Rattle.bk_lines.specs.Lines.{is_skipped, kept_lines}
+use Rattle.bk_raw.specs.declared.fault.FaultKind.TheVariants.{NotUtf8, WrongLine}
+use Rattle.bk_raw.specs.Faults.{number_of_fault}
 use Rattle.bk_project.specs.declared.project_file.ProjectLine.{ProjectLine}
 use Rattle.bk_project.specs.declared.project_file.LineKind.{LineKind}
 use Rattle.bk_project.specs.declared.project_file.LineKind.TheVariants.{Machine, Refinement, Implementation, Proofs}
@@ -120,8 +122,8 @@ pub record NamesTooMany (text : List ℕ) : Type 0 where
 -- the first fault, or the limit that is passed; the project file is file 0
 abbrev pub IsRefusalOfLines : List ℕ → Refusal → Type 0
 IsRefusalOfLines text (Fault number file place) = (file ≡ 0) ×
-    (((number ≡ 1) × (IsUtf8 text → ⊥) × IsValidUpTo text place)
-    ⊎ ((number ≡ 4) × IsUtf8 text × (IsWrongLine text place ⊎ HasNoMachine text place)))
+    (((number ≡ number_of_fault NotUtf8) × (IsUtf8 text → ⊥) × IsValidUpTo text place)
+    ⊎ ((number ≡ number_of_fault WrongLine) × IsUtf8 text × (IsWrongLine text place ⊎ HasNoMachine text place)))
 IsRefusalOfLines text (Limit number file) = (number ≡ 4) × (file ≡ 0) × IsUtf8 text × NamesTooMany text
 IsRefusalOfLines text Memory = Unit {0}
 

@@ -2,6 +2,7 @@
 
 ghost use Rattle.std.specs.Prelude.{◌≡◌, ◌≢◌, ◌↔◌, ◌<◌, ◌∷◌, ◌++◌, [], List, ℕ, length, map, IsTrue, IfSome, MatchOption, IfOk, IfErr};
 ghost use Rattle.std.specs.Str.{IsUtf8};
+ghost use Rattle.bk_raw.specs.Faults.{number_of_fault};
 ghost use Rattle.bk_project.specs.declared.project_file.LineKind.{LineKind};
 ghost use Rattle.bk_project.specs.ProjectFile.{first_or, IsLine, word_of, AreLinesOf, IsRefusalOfLines, kinds_of, component_lines};
 ghost use Rattle.bk_project.specs.declared.refusal.Refusal.TheVariants.{Fault};
@@ -12,6 +13,7 @@ use crate::refusal::Refusal;
 use bk_io::Text;
 use bk_limits::MOST_COMPONENTS;
 use bk_lines::{first_line, is_skipped};
+use bk_raw::FaultKind;
 use std::alloc::Global;
 
 /// A line of a project file, which names a file.
@@ -53,7 +55,7 @@ pub fn lines(alloc: Global, text: &[u8]) -> Result<Vec<ProjectLine>, Refusal>
     ensures refusal { IfErr result (IsRefusalOfLines text.now) }
 {
     if let Err(error) = str::from_utf8(text) {
-        return Err(at_fault(1, error.valid_up_to()));
+        return Err(at_fault(FaultKind::NotUtf8, error.valid_up_to()));
     }
     let mut lines: Vec<ProjectLine> = Vec::new(alloc);
     let mut last = None;
@@ -66,10 +68,10 @@ pub fn lines(alloc: Global, text: &[u8]) -> Result<Vec<ProjectLine>, Refusal>
             continue;
         }
         let Some((kind, name)) = kind_and_name(line) else {
-            return Err(at_fault(4, number));
+            return Err(at_fault(FaultKind::WrongLine, number));
         };
         if !may_follow(last, kind) {
-            return Err(at_fault(4, number));
+            return Err(at_fault(FaultKind::WrongLine, number));
         }
         lines.push(ProjectLine {
             kind,
@@ -80,7 +82,7 @@ pub fn lines(alloc: Global, text: &[u8]) -> Result<Vec<ProjectLine>, Refusal>
         number += 1;
     }
     if last.is_none() {
-        return Err(at_fault(4, number));
+        return Err(at_fault(FaultKind::WrongLine, number));
     }
     if component_count(&lines) > MOST_COMPONENTS {
         return Err(Refusal::Limit { number: 4, file: 0 });
@@ -88,12 +90,12 @@ pub fn lines(alloc: Global, text: &[u8]) -> Result<Vec<ProjectLine>, Refusal>
     Ok(lines)
 }
 
-/// The fault with this number in the project file.
-fn at_fault(number: u8, place: usize) -> Refusal
-    ensures { result ≡ Fault number 0 place }
+/// The fault of this kind in the project file.
+fn at_fault(kind: FaultKind, place: usize) -> Refusal
+    ensures { result ≡ Fault (number_of_fault kind) 0 place }
 {
     Refusal::Fault {
-        number,
+        number: kind.number(),
         file: 0,
         place,
     }

@@ -5,6 +5,7 @@ ghost use Rattle.std.specs.List.{AllZip};
 ghost use Rattle.bk_dev.specs.B0.{IsB0Development};
 ghost use Rattle.bk_dev.specs.Development.{int_max, is_complete, is_implementing};
 ghost use Rattle.bk_dev.specs.Facts.{IsDevelopment};
+ghost use Rattle.bk_raw.specs.Faults.{number_of_fault};
 ghost use Rattle.bk_raw.specs.Limits.{IsLowComponent};
 ghost use Rattle.bk_raw.specs.Places.{byte_at};
 ghost use Rattle.bk_level.specs.Above.{above_of};
@@ -32,7 +33,7 @@ use bk_levels::{level, max_of, passes_limit_of_names};
 use bk_limits::MOST_COMPONENTS;
 use bk_p_comp::component;
 use bk_p_expr::SynFault;
-use bk_raw::RawComponent;
+use bk_raw::{FaultKind, RawComponent};
 use std::alloc::Global;
 
 /// What a component file is read as.
@@ -102,14 +103,22 @@ fn refusal_of(fault: FileFault) -> Refusal
             number,
             file,
             place,
-        } => at_fault(number, file as usize, place),
+        } => with_number(number, file as usize, place),
         FileFault::Limit { number, file } => past_limit(number, file as usize),
         FileFault::Memory => Refusal::Memory,
     }
 }
 
-/// The fault with this number in a component file, of which the first is 0 here.
-fn at_fault(number: u8, file: usize, place: usize) -> Refusal
+/// The fault of this kind in a component file, of which the first is 0 here.
+fn at_fault(kind: FaultKind, file: usize, place: usize) -> Refusal
+    requires { file < MOST_COMPONENTS }
+    ensures { result ≡ Fault (number_of_fault kind) (suc file) place }
+{
+    with_number(kind.number(), file, place)
+}
+
+/// The fault with this number.
+fn with_number(number: u8, file: usize, place: usize) -> Refusal
     requires { file < MOST_COMPONENTS }
     ensures { result ≡ Fault number (suc file) place }
 {
@@ -144,7 +153,11 @@ fn all_read(alloc: Global, texts: &[Vec<u8>], files: &[Vec<Token>]) -> Result<Ve
             Ok(component) => all.push(Read::Component(component))?,
             Err(SynFault::High) => all.push(Read::High)?,
             Err(SynFault::At(place)) => {
-                return Err(at_fault(3, file, byte_of(tokens, place, texts[file].len())));
+                return Err(at_fault(
+                    FaultKind::NoTree,
+                    file,
+                    byte_of(tokens, place, texts[file].len()),
+                ));
             }
             Err(SynFault::Depth(_)) => return Err(past_limit(3, file)),
             Err(SynFault::Memory) => return Err(Refusal::Memory),
@@ -195,7 +208,7 @@ fn all_chained(
     let mut above = None;
     for (file, component) in components.iter().enumerate() {
         if !may_stand_below(above, kinds[file], component) {
-            return Err(at_fault(5, file, component.name.at));
+            return Err(at_fault(FaultKind::WrongChain, file, component.name.at));
         }
         above = Some(component);
     }
@@ -263,7 +276,7 @@ fn next_level(
 {
     match level_in_range(alloc, component, above) {
         Ok(dev) => Ok(dev),
-        Err(ElabFault::Fault { number, place }) => Err(at_fault(number, file, place)),
+        Err(ElabFault::Fault { number, place }) => Err(with_number(number, file, place)),
         Err(ElabFault::Limit(number)) => Err(past_limit(number, file)),
         Err(ElabFault::Memory) => Err(Refusal::Memory),
     }

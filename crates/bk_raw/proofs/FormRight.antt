@@ -24,7 +24,7 @@ use Rattle.bk_raw.specs.OperatorReadings.{constant_reading, word_reading, negati
 use Rattle.bk_raw.specs.Binders.{Bound, bound_names, inside, has_type, untyped_faults, is_text, twice, Ranged, unranged, first_range, ranged_as, ranged_by, as_single, ranges_by, as_bound, is_used_by, is_used, is_some_name, nameless, left_over, body_of}
 use Rattle.bk_raw.specs.TermReading.{place_of, is_predicate, is_alike, part, name_of, name_reading, names_one, takes_predicate, is_connective, stricts, stricts_in, ranges_stricts, all_stricts, strict_faults, from_one, from_two, reading, node_reading, extension_reading, elements_reading, clues, premise_clues, ranges, rest, rest_in}
 use Rattle.bk_raw.specs.Speaking.{IsTold}
-use Rattle.bk_raw.specs.FormFaults.{with_names, part_faults, form_faults, node_faults, each_faults, but_types, is_of_type, is_in_sight, FormTellsFaults}
+use Rattle.bk_raw.specs.FormFaults.{with_names, part_faults, form_faults, node_faults, each_faults, but_types, is_missing_type, is_in_sight, FormTellsFaults}
 use Rattle.bk_raw.proofs.RulesFit.{none-left, none-right}
 use Rattle.bk_raw.proofs.ReadingClean.{IsAnswer, ask_set-fair, ask_value-fair, reading-clean}
 use Rattle.bk_raw.proofs.BoundNames.{no-name, or-cases, or-left, or-right, is_bound, names-bound, unranged-bound, clues-bound, premise-bound, ranges-bound}
@@ -42,7 +42,7 @@ cond-joined false x xs ys zs e = ap (λ ws. x ∷ ws) e
 
 but-append : (xs ys : List Fault) → but_types (xs ++ ys) ≡ but_types xs ++ but_types ys
 but-append [] ys = refl
-but-append (x ∷ xs) ys = cond-joined (is_of_type x.0) x (but_types xs) (but_types ys) (but_types (xs ++ ys)) (but-append xs ys)
+but-append (x ∷ xs) ys = cond-joined (is_missing_type x.0) x (but_types xs) (but_types ys) (but_types (xs ++ ys)) (but-append xs ys)
 
 -- they are all of types
 abbrev Eights : List Fault → Type 0

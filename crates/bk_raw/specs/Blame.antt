@@ -1,19 +1,24 @@
 -- Of several faults, the one that is told.
 use Rattle.std.specs.Prelude.{◌≡◌, ℕ, Bool, false, cond, ◌&&◌, ◌||◌, nat_eq, nat_lt, List, [], ◌∷◌, ◌⊎◌, Option, None, Some}
 use Rattle.bk_raw.specs.declared.fault.FaultKind.{FaultKind}
-use Rattle.bk_raw.specs.declared.fault.FaultKind.TheVariants.{TwiceNamed, UnknownName, NoType, NotPredicate, WrongOperation, NotB0, WrongWrite, WrongValue}
+use Rattle.bk_raw.specs.declared.fault.FaultKind.TheVariants.{NotUtf8, NoToken, NoTree, WrongLine, WrongChain, TwiceNamed, UnknownName, NoType, NotPredicate, WrongOperation, NotB0, WrongWrite, WrongValue}
 use Rattle.bk_raw.specs.Faults.{Fault}
 
--- the order in which faults are asked: of names, of formulas, of operations and writes, of values, and what is not B0 last
+-- the order in which faults are asked: of files, of names, of formulas, of operations and writes, of values, and what is not B0 last
 abbrev pub rank : FaultKind → ℕ
-rank TwiceNamed = 0
-rank UnknownName = 1
-rank NotPredicate = 2
-rank NoType = 3
-rank WrongOperation = 4
-rank WrongWrite = 5
-rank WrongValue = 6
-rank NotB0 = 7
+rank NotUtf8 = 0
+rank NoToken = 1
+rank NoTree = 2
+rank WrongLine = 3
+rank WrongChain = 4
+rank TwiceNamed = 5
+rank UnknownName = 6
+rank NotPredicate = 7
+rank NoType = 8
+rank WrongOperation = 9
+rank WrongWrite = 10
+rank WrongValue = 11
+rank NotB0 = 12
 
 -- asked earlier, or of one kind and at an earlier place
 abbrev pub is_before : Fault → Fault → Bool

@@ -1,7 +1,7 @@
 -- What can be wrong with what is written, each with the byte where it stands, and the numbers under which faults are told.
 use Rattle.std.specs.Prelude.{ℕ}
 use Rattle.bk_raw.specs.declared.fault.FaultKind.{FaultKind}
-use Rattle.bk_raw.specs.declared.fault.FaultKind.TheVariants.{TwiceNamed, UnknownName, NoType, NotPredicate, WrongOperation, NotB0, WrongWrite, WrongValue}
+use Rattle.bk_raw.specs.declared.fault.FaultKind.TheVariants.{NotUtf8, NoToken, NoTree, WrongLine, WrongChain, TwiceNamed, UnknownName, NoType, NotPredicate, WrongOperation, NotB0, WrongWrite, WrongValue}
 
 -- what is wrong, and the byte where it stands
 abbrev pub Fault : Type 0
@@ -31,16 +31,21 @@ wrong_operation at = (WrongOperation, at)
 abbrev pub not_b0 : ℕ → Fault
 not_b0 at = (NotB0, at)
 
--- a write to what may not be written there, a name written twice, lists of different lengths
+-- a write to what may not be written there, a name written twice or on both sides of `||`, lists of different lengths
 abbrev pub wrong_write : ℕ → Fault
 wrong_write at = (WrongWrite, at)
 
--- a constant without a value, or with one that it may not have
+-- a constant without a value, with two, or with one that it may not have, or a value for what is no constant
 abbrev pub wrong_value : ℕ → Fault
 wrong_value at = (WrongValue, at)
 
 -- the number under which it is told
 abbrev pub number_of_fault : FaultKind → ℕ
+number_of_fault NotUtf8 = 1
+number_of_fault NoToken = 2
+number_of_fault NoTree = 3
+number_of_fault WrongLine = 4
+number_of_fault WrongChain = 5
 number_of_fault TwiceNamed = 6
 number_of_fault UnknownName = 7
 number_of_fault NoType = 8

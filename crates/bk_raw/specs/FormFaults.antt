@@ -47,15 +47,15 @@ abbrev mutual
   each_faults visible no_trees = []
   each_faults visible (tree_and t ts) = part_faults false t (form_faults visible t) ++ each_faults visible ts
 
--- a type is missing
-abbrev pub is_of_type : FaultKind → Bool
-is_of_type NoType = true
-is_of_type _ = false
+-- it is that a type is missing
+abbrev pub is_missing_type : FaultKind → Bool
+is_missing_type NoType = true
+is_missing_type _ = false
 
 -- the faults but for those of types
 abbrev pub but_types : List Fault → List Fault
 but_types [] = []
-but_types (f ∷ fs) = cond (is_of_type f.0) (but_types fs) (f ∷ but_types fs)
+but_types (f ∷ fs) = cond (is_missing_type f.0) (but_types fs) (f ∷ but_types fs)
 
 -- something stands under the name
 abbrev pub is_in_sight : Sight → Bool

@@ -3,9 +3,19 @@
 ghost use Rattle.std.specs.Prelude.{◌≡◌};
 ghost use Rattle.bk_raw.specs.Faults.{number_of_fault};
 
-/// What is wrong with a component, a substitution or a term whose tokens have a tree.
+/// What is wrong with a file, and with a component, a substitution or a term whose tokens have a tree.
 #[derive(Clone, Copy, PartialEq, Eq, Debug)]
 pub enum FaultKind {
+    /// Bytes are no UTF-8.
+    NotUtf8,
+    /// No token can begin, or one begins that does not end or is too great a number.
+    NoToken,
+    /// No tree has these tokens.
+    NoTree,
+    /// A line of a project file is not one that may stand there.
+    WrongLine,
+    /// A component is not of its line's kind, or does not refine the one above it.
+    WrongChain,
     /// A name stands twice.
     TwiceNamed,
     /// A name is not in sight.
@@ -18,9 +28,9 @@ pub enum FaultKind {
     WrongOperation,
     /// An implementation has something that is not B0.
     NotB0,
-    /// Something is written that may not be.
+    /// Something is written that may not be, or twice at once.
     WrongWrite,
-    /// A constant has no value, or not one that it may have.
+    /// A constant has no value, two, or not one that it may have, or what is given one is no constant.
     WrongValue,
 }
 
@@ -30,6 +40,11 @@ impl FaultKind {
         ensures { result ≡ number_of_fault self }
     {
         match self {
+            FaultKind::NotUtf8 => 1,
+            FaultKind::NoToken => 2,
+            FaultKind::NoTree => 3,
+            FaultKind::WrongLine => 4,
+            FaultKind::WrongChain => 5,
             FaultKind::TwiceNamed => 6,
             FaultKind::UnknownName => 7,
             FaultKind::NoType => 8,
