@@ -1,5 +1,5 @@
 -- Tables whose sets get sizes.
-use Rattle.std.proofs.Common.{◌≡◌, ◌⊎◌, inl, inr, ℕ, zero, suc, ◌<◌, ◌+◌, List, [], ◌∷◌, ◌++◌, length, map, refl, sym, ◌∙◌, ap, subst, true, false, cond, nat_eq, nat_lt, eqb-refl, arith, All, IsTrue, pos}
+use Rattle.std.proofs.Common.{◌≡◌, ◌⊎◌, inl, inr, ℕ, zero, suc, ◌<◌, ◌+◌, List, [], ◌∷◌, ◌++◌, length, map, refl, sym, ◌∙◌, ap, subst, true, false, cond, nat_eq, nat_lt, eq-eqb, arith, All, IsTrue, pos}
 use Rattle.std.specs.Prelude.{Option, Some, None, slice_get}
 use Rattle.std.specs.Option.{option_map_or}
 use Rattle.std.specs.Ordering.{nat_cmp, ordering_then, match_ordering}
@@ -189,8 +189,8 @@ or_else-this : (m n : ℕ) → m ≡ 0 → or_else m n ≡ n
 or_else-this zero n h = refl
 or_else-this (suc m) n h = absurd (omega (arith, h))
 
-this-number : (n size : ℕ) → only_size n size n ≡ size
-this-number n size = rw (eqb-refl n) refl
+this-number : (n size m : ℕ) → m ≡ n → only_size n size m ≡ size
+this-number n size m h = let e : nat_eq m n ≡ true = eq-eqb m n h in rw e refl
 
 other-number : (n size m : ℕ) → n < m → only_size n size m ≡ 0
 other-number n size m h = let e : nat_eq m n ≡ false = grind (arith, nat_tests) in rw e refl
@@ -205,20 +205,18 @@ past-one n size k (s ∷ ss) h =
     let same : or_else s.size (only_size n size k) ≡ s.size = ap (or_else s.size) (other-number n size k h) ∙ or_else-none s.size in
     λ i. record s { size = same i } ∷ past-one n size (suc k) ss (omega arith) i
 
-sized-one : (size k n : ℕ) (ss : List SetEntry) → option_map_or (λ s. s.size) (slice_get ss n) 0 ≡ 0 → sized_from (only_size (n + k) size) k ss ≡ sized_at n size ss
-sized-one size k n [] h = refl
-sized-one size k zero (s ∷ ss) h =
-    let this : or_else s.size (only_size k size k) ≡ size = or_else-this s.size (only_size k size k) h ∙ this-number k size in
-    λ i. record s { size = this i } ∷ past-one k size (suc k) ss (omega arith) i
-sized-one size k (suc n) (s ∷ ss) h =
-    let same : or_else s.size (only_size (suc n + k) size k) ≡ s.size = ap (or_else s.size) (earlier-number (suc n + k) size k (omega arith)) ∙ or_else-none s.size in
-    let e : suc n + k ≡ n + suc k = omega arith in
-    λ i. record s { size = same i } ∷ (ap (λ m. sized_from (only_size m size) (suc k) ss) e ∙ sized-one size (suc k) n ss h) i
+sized-one : (size m k n : ℕ) (ss : List SetEntry) → m ≡ n + k → option_map_or (λ s. s.size) (slice_get ss n) 0 ≡ 0 → sized_from (only_size m size) k ss ≡ sized_at n size ss
+sized-one size m k n [] e h = refl
+sized-one size m k zero (s ∷ ss) e h =
+    let this : or_else s.size (only_size m size k) ≡ size = or_else-this s.size (only_size m size k) h ∙ this-number m size k (omega arith) in
+    λ i. record s { size = this i } ∷ past-one m size (suc k) ss (omega arith) i
+sized-one size m k (suc n) (s ∷ ss) e h =
+    let same : or_else s.size (only_size m size k) ≡ s.size = ap (or_else s.size) (earlier-number m size k (omega arith)) ∙ or_else-none s.size in
+    λ i. record s { size = same i } ∷ sized-one size m (suc k) n ss (omega arith) h i
 
 pub one_size_is_given : OneSizeIsGiven
 one_size_is_given table n size h =
-    let e : n ≡ n + 0 = omega arith in
-    let all : sized_from (only_size n size) 0 table.sets ≡ sized_at n size table.sets = ap (λ m. sized_from (only_size m size) 0 table.sets) e ∙ sized-one size 0 n table.sets h in
+    let all : sized_from (only_size n size) 0 table.sets ≡ sized_at n size table.sets = sized-one size n 0 n table.sets (omega arith) h in
     λ i. record { sets = all i; variables = table.variables }
 
 -- ---- the number of elements

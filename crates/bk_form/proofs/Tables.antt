@@ -1,5 +1,5 @@
 -- A table with one more set or variable, or with the size of a set.
-use Rattle.std.proofs.Common.{◌≡◌, ℕ, zero, suc, ◌<◌, ◌≤◌, ◌^◌, IsTrue, List, [], ◌∷◌, ◌++◌, length, refl, sym, ap, subst, inl, All, arith, length-append, slice_index_or}
+use Rattle.std.proofs.Common.{◌≡◌, ℕ, zero, suc, ◌<◌, ◌≤◌, ◌^◌, IsTrue, List, [], ◌∷◌, ◌++◌, length, refl, sym, ◌∙◌, ap, subst, inl, All, arith, length-append, slice_index_or}
 use Rattle.std.specs.Prelude.{Some, slice_get, slice_set}
 use Rattle.std.specs.Option.{option_map}
 use Rattle.std.proofs.lemmas.List.Elements.{All-append, All-cons, All-head, All-nil, All-tail}
@@ -34,11 +34,14 @@ sized_at-length [] n size = refl
 sized_at-length (s ∷ ss) zero size = refl
 sized_at-length (s ∷ ss) (suc n) size = ap suc (sized_at-length ss n size)
 
--- a write of the size is the write of the set
-pub sized_at-set : (ss : List SetEntry) (n size : ℕ) (d : SetEntry) → n < length ss → slice_set ss n (record (slice_index_or ss n d) { size = size }) ≡ sized_at n size ss
+-- the size is that of the entry that is written
+sized_at-set : (ss : List SetEntry) (n size : ℕ) (d : SetEntry) → n < length ss → slice_set ss n (record (slice_index_or ss n d) { size = size }) ≡ sized_at n size ss
 sized_at-set [] n size d h = absurd (omega arith)
 sized_at-set (s ∷ ss) zero size d h = refl
 sized_at-set (s ∷ ss) (suc n) size d h = ap (λ l. s ∷ l) (sized_at-set ss n size d (omega arith))
+
+pub size-written : (t : Table) (n size : ℕ) (s : SetEntry) → n < length t.sets → s ≡ slice_index_or t.sets n s → record t { sets = slice_set t.sets n (record s { size = size }) } ≡ with_size t n size
+size-written t n size s h e = λ i. record t { sets = (ap (λ r. slice_set t.sets n (record r { size = size })) e ∙ sized_at-set t.sets n size s h) i }
 
 listed-at : (ss : List SetEntry) (n : ℕ) → option_map (λ s. s.elements) (slice_get ss n) ≡ Some [] → n < length ss
 listed-at [] n h = absurd (cc)
