@@ -1,6 +1,5 @@
 pub mod Blamed
 pub mod Counting
-mod Examples
 pub mod Numbered
 pub mod Neutral
 pub mod WrittenKinds
