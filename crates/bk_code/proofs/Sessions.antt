@@ -52,12 +52,12 @@ first_fitting image depths numbered deep = record {
 }
 
 pub call_fitting : IsCallFitting
-call_fitting image depths op entry args cells numbered deep named callable kept = record {
-  place = (All-slice_get (IsGoodEntry image) image.ops op entry numbered.ops named).start;
-  deep = sym (All-slice_get (λ e. slice_index depths e.start ≡ 0) image.ops op entry deep.starts named);
+call_fitting image depths request cells numbered deep r kept = record {
+  place = (All-slice_get (IsGoodEntry image) image.ops request.op r.entry numbered.ops r.named).start;
+  deep = sym (All-slice_get (λ e. slice_index depths e.start ≡ 0) image.ops request.op r.entry deep.starts r.named);
   stack = All-nil (IsWithin (int_max image));
-  many = length-placed entry.inputs args cells ∙ kept.many;
-  cells = All-placed (IsWithin (int_max image)) entry.inputs args cells callable.range kept.range;
+  many = length-placed r.entry.inputs request.args cells ∙ kept.many;
+  cells = All-placed (IsWithin (int_max image)) r.entry.inputs request.args cells r.callable.range kept.range;
 }
 
 -- a call from a configuration that fits tells something, and its cells are those of the image
@@ -82,7 +82,7 @@ continues image depths fuel (Done n) cells [] numbered deep kept asked = ([], tt
 continues image depths fuel (Done n) cells (request ∷ requests) numbered deep kept asked =
     let r = All-head (IsRequest image) request requests asked in
     let h = has_told image depths fuel r.entry.outputs (call_start r.entry request.args cells) numbered deep
-    (call_fitting image depths request.op r.entry request.args cells numbered deep r.named r.callable kept) in
+    (call_fitting image depths request cells numbered deep r kept) in
     let rest = continues image depths fuel h.told.end h.told.cells requests numbered deep h.kept (All-tail (IsRequest image) request requests asked) in
     (h.told ∷ rest.0, (record { entry = r.entry; named = r.named; counted = r.callable.counted; call = h.tells }, rest.1))
 continues image depths fuel (Trapped kind place n) cells requests numbered deep kept asked = ([], tt)

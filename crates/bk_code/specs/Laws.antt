@@ -89,18 +89,17 @@ pub record AreCells (image : Image) (cells : List ℤ) : Type 0 where
   pub many : length cells ≡ image.cells
   pub range : All (IsWithin (int_max image)) cells
 
--- a call of a checked image starts at a configuration that fits
-abbrev pub IsCallFitting : Type 0
-IsCallFitting =
-    (image : Image) (depths : List ℕ) (op : ℕ) (entry : OpEntry) (args cells : List ℤ) → IsNumbered image →
-    IsDepths image depths → slice_get image.ops op ≡ Some entry → IsCallable image entry args →
-    AreCells image cells → IsFitting image depths (call_start entry args cells)
-
 -- the request is for an operation of the image, with arguments that it takes
 pub record IsRequest (image : Image) (request : Request) : Type 0 where
   pub entry : OpEntry
   pub named : slice_get image.ops request.op ≡ Some entry
   pub callable : IsCallable image entry request.args
+
+-- a call of a checked image starts at a configuration that fits
+abbrev pub IsCallFitting : Type 0
+IsCallFitting =
+    (image : Image) (depths : List ℕ) (request : Request) (cells : List ℤ) → IsNumbered image → IsDepths image depths →
+    (r : IsRequest image request) → AreCells image cells → IsFitting image depths (call_start r.entry request.args cells)
 
 -- a session tells one thing at most
 abbrev pub HasOneSession : Type 0

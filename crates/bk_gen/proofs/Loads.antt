@@ -12,6 +12,7 @@ use Rattle.bk_gsl.specs.State.{among, declared_type}
 use Rattle.bk_gsl.proofs.States.{nat_eq-self}
 use Rattle.bk_dev.specs.Development.{Head, Body, Development, int_max, blank_body, level_at, body_at, inputs_of, last}
 use Rattle.bk_form.specs.Each.{Each}
+use Rattle.bk_dev.specs.Facts.{IsLawful}
 use Rattle.bk_dev.specs.Layout.{arrays_of, cell_variables, cell_count}
 use Rattle.bk_code.specs.declared.image.Image.{Image}
 use Rattle.bk_code.specs.declared.image.OpEntry.{OpEntry}
@@ -28,7 +29,7 @@ use Rattle.bk_b0.proofs.Typing.{typed-b0}
 use Rattle.bk_dev.proofs.InTable.{blank_head}
 use Rattle.bk_gen.proofs.Facts.{IsPlaced, HasFacts, lawful_facts}
 use Rattle.bk_b0.proofs.Shapes.{each-among}
-use Rattle.bk_gen.specs.Laws.{HasElementsInRange, TranslationsLoad}
+use Rattle.bk_gen.specs.Laws.{HasElementsInRange}
 use Rattle.bk_gen.proofs.Slots.{variable-listed, array-domain}
 use Rattle.bk_gen.proofs.Pieces.{IsPiece, Suits, IsGiven}
 use Rattle.bk_gen.proofs.Codes.{scalar-slot, statement-piece}
@@ -173,5 +174,6 @@ sets-long (x ∷ xs) = ap suc (sets-long xs)
 pub facts_load : (dev : Development) → HasFacts dev → IsB0Development dev → HasElementsInRange dev → cell_count dev ≤ 1000000 → length (translation dev).code ≤ 1000000 → IsLoadable (translation dev)
 facts_load dev f b fit few short = loads dev f b fit (translation dev) (translated-greatest dev) refl (sets-long dev.sets ∙ ap length f.sets) refl refl few short
 
-pub translations_load : TranslationsLoad
+pub translations_load : (dev : Development) → IsLawful dev → IsB0Development dev → HasElementsInRange dev →
+    cell_count dev ≤ 1000000 → length (translation dev).code ≤ 1000000 → IsLoadable (translation dev)
 translations_load dev f b fit few short = facts_load dev (lawful_facts dev f b) b fit few short

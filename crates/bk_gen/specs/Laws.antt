@@ -102,6 +102,14 @@ FlattenedKeepsCode = (dev : Development) → IsLawful dev → LastIsFlat dev →
 abbrev pub HasElementsInRange : Development → Type 0
 HasElementsInRange dev = (s i : ℕ) → i < set_size dev.table s → pos i ≤ℤ int_max dev
 
--- the translation of a lawful development in B0 passes the loader's checks, where it has at most MOST_CELLS cells and MOST_INSTRUCTIONS instructions
+-- a lawful development in B0 with at most MOST_CELLS cells and MOST_INSTRUCTIONS instructions
+pub record IsWithinLoader (dev : Development) : Type 0 where
+  pub lawful : IsLawful dev
+  pub in_b0 : IsB0Development dev
+  pub elements : HasElementsInRange dev
+  pub cells : cell_count dev ≤ MOST_CELLS
+  pub code : length (translation dev).code ≤ MOST_INSTRUCTIONS
+
+-- its translation passes the loader's checks
 abbrev pub TranslationsLoad : Type 0
-TranslationsLoad = (dev : Development) → IsLawful dev → IsB0Development dev → HasElementsInRange dev → cell_count dev ≤ MOST_CELLS → length (translation dev).code ≤ MOST_INSTRUCTIONS → IsLoadable (translation dev)
+TranslationsLoad = (dev : Development) → IsWithinLoader dev → IsLoadable (translation dev)

@@ -207,6 +207,6 @@ agree bytes e f (inr (inl (image, p, later))) (inr (inl (other, q, also))) ne nf
     later_agree other e f (subst (λ i. Later i e) same later) also
 
 pub one_fault : HasOneFault
-one_fault bytes e f fits p q ne nf =
+one_fault bytes e f fits h k =
     let small = bytes_fit bytes fits in
-    agree bytes e f (says bytes e small p) (says bytes f small q) ne nf
+    agree bytes e f (says bytes e small h.is) (says bytes f small k.is) h.no_want k.no_want

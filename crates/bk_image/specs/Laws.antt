@@ -22,7 +22,11 @@ AreBytes bytes = All (λ byte. byte < 256) bytes
 abbrev pub FaultsExclude : Type 0
 FaultsExclude = (bytes : List ℕ) (image : Image) (e : LoadFault) → AreBytes bytes → Encodes bytes image → IsFault bytes e → e ≡ faults.Memory
 
+-- the fault is one of the bytes, and no want of memory
+pub record IsFaultOfBytes (bytes : List ℕ) (e : LoadFault) : Type 0 where
+  pub is : IsFault bytes e
+  pub no_want : e ≢ faults.Memory
+
 -- bytes have one fault at most, but for want of memory
 abbrev pub HasOneFault : Type 0
-HasOneFault =
-    (bytes : List ℕ) (e f : LoadFault) → AreBytes bytes → IsFault bytes e → IsFault bytes f → e ≢ faults.Memory → f ≢ faults.Memory → e ≡ f
+HasOneFault = (bytes : List ℕ) (e f : LoadFault) → AreBytes bytes → IsFaultOfBytes bytes e → IsFaultOfBytes bytes f → e ≡ f

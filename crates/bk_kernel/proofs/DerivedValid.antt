@@ -28,5 +28,6 @@ module _ (small large : Table) (well : IsWellFormed small) (wider : IsWider smal
   types-wider s h = (predicates-wider s.0 h.0, predicate-wider s.1 h.1)
 
 pub derived-wider-is-valid : DerivedWiderIsValid
-derived-wider-is-valid small large well fine wider rules s types h =
-    (validity_widens small large well fine wider s types).1 (derived-is-valid large fine rules s (types-wider small large well wider s types) h)
+derived-wider-is-valid small large rules s h =
+    (validity_widens small large h.small_formed h.large_formed h.wider s h.types).1
+    (derived-is-valid large h.large_formed rules s (types-wider small large h.small_formed h.wider s h.types) h.derives)

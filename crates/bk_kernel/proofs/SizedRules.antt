@@ -185,8 +185,14 @@ pub sound_for_all_sizes : SoundForAllSizes
 sound_for_all_sizes = record {
   steps = λ table well s rule news types h valid sizes p. rules-are-sound (with_sizes sizes table) (well-sized sizes table well) s rule news (types-sized sizes table s types) (step-kept sizes table s rule news h) (each-at sizes p table news valid);
   derived = λ table well rules s types h sizes p. derived-is-valid (with_sizes sizes table) (well-sized sizes table well) rules s (types-sized sizes table s types) (derived-kept sizes table rules s h);
-  wider = λ small large well fine wider rules s types h sizes p.
-      derived-wider-is-valid (with_sizes sizes small) (with_sizes sizes large) (well-sized sizes small well) (well-sized sizes large fine) (sizes_fit.wider sizes small large wider) rules s (types-sized sizes small s types) (derived-kept sizes large rules s h);
+  wider = λ small large rules s h sizes p.
+      derived-wider-is-valid (with_sizes sizes small) (with_sizes sizes large) rules s (record {
+        small_formed = well-sized sizes small h.small_formed;
+        large_formed = well-sized sizes large h.large_formed;
+        wider = sizes_fit.wider sizes small large h.wider;
+        types = types-sized sizes small s h.types;
+        derives = derived-kept sizes large rules s h.derives;
+      });
 }
 
 pub obvious_for_all_sizes : ObviousForAllSizes

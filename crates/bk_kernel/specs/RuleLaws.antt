@@ -21,9 +21,17 @@ RulesAreSound = (table : Table) → IsWellFormed table → (s : Sequent) (rule :
 abbrev pub DerivedIsValid : Type 0
 DerivedIsValid = (table : Table) → IsWellFormed table → (rules : List Rule) (s : Sequent) → Types table s → Derives table rules s → IsValidSequent table s
 
--- what is derived over a table with more variables, as the names of a script are, is valid without them
+-- the rules derive a sequent of the small table over one with more variables, as the names of a script are
+pub record DerivesWider (small large : Table) (rules : List Rule) (s : Sequent) : Type 0 where
+  pub small_formed : IsWellFormed small
+  pub large_formed : IsWellFormed large
+  pub wider : IsWider small large
+  pub types : Types small s
+  pub derives : Derives large rules s
+
+-- what is derived so is valid without them
 abbrev pub DerivedWiderIsValid : Type 0
-DerivedWiderIsValid = (small large : Table) → IsWellFormed small → IsWellFormed large → IsWider small large → (rules : List Rule) (s : Sequent) → Types small s → Derives large rules s → IsValidSequent small s
+DerivedWiderIsValid = (small large : Table) (rules : List Rule) (s : Sequent) → DerivesWider small large rules s → IsValidSequent small s
 
 -- one thing is said of a list of rules and a sequent
 abbrev pub OneVerdict : Type 0
@@ -34,4 +42,4 @@ OneVerdict = (table : Table) (rules : List Rule) (s : Sequent) (v w : Verdict) �
 pub record SoundForAllSizes : Type 0 where
   pub steps : (table : Table) → IsWellFormed table → (s : Sequent) (rule : Rule) (news : List Sequent) → Types table s → IsInstance table s rule news → Each (IsValidForAllSizes table) news → IsValidForAllSizes table s
   pub derived : (table : Table) → IsWellFormed table → (rules : List Rule) (s : Sequent) → Types table s → Derives table rules s → IsValidForAllSizes table s
-  pub wider : (small large : Table) → IsWellFormed small → IsWellFormed large → IsWider small large → (rules : List Rule) (s : Sequent) → Types small s → Derives large rules s → IsValidForAllSizes small s
+  pub wider : (small large : Table) (rules : List Rule) (s : Sequent) → DerivesWider small large rules s → IsValidForAllSizes small s

@@ -146,17 +146,21 @@ module _ (int_max : ℤ) (higher : Development) (comp : Component) (ready : IsRe
       let joined-count = length-join mine others in
       let long = ways-long in
       let alike = lower-alike outs n o.outputs m.outputs outs-paired bodies.0.output_types (omega arith) (omega arith) (λ j l. from j (omega arith) ∙ (get-left mine others j (omega arith) ∙ ap (λ w. slice_get w j) mine-so)) in (
-        new-bodies int_max higher comp ready none h m q
-            (record { outputs = h2; all_outputs = omega arith; binders = h4; all_binders = omega arith })
-            (record {
-              outputs = omega arith;
-              binders = omega arith;
-              of = inputs-alone new.table far ins o.inputs;
-              typed_inputs = lower-typed typing far ins o.inputs inputs-none;
-              seen = inputs-seen (among h.inputs) far ins o.inputs h.inputs ins-paired (λ v e. e);
-              below = λ v e. (let inside = passes-within higher.homes is_input refl v (all-at (λ x. is_input (home_of higher x)) h.inputs heads.0.inputs v e) in let so = ready.homes in omega arith);
-            })
-            (paired-length outs o.outputs m.outputs outs-paired ∙ bodies.0.as_many_outputs) alike own (shapes-all comp.kind comp.operations shapes o found.0),
+        new-bodies int_max higher comp ready none h m q (record {
+          within = record { outputs = h2; all_outputs = omega arith; binders = h4; all_binders = omega arith };
+          placed = record {
+            outputs = omega arith;
+            binders = omega arith;
+            of = inputs-alone new.table far ins o.inputs;
+            typed_inputs = lower-typed typing far ins o.inputs inputs-none;
+            seen = inputs-seen (among h.inputs) far ins o.inputs h.inputs ins-paired (λ v e. e);
+            below = λ v e. (let inside = passes-within higher.homes is_input refl v (all-at (λ x. is_input (home_of higher x)) h.inputs heads.0.inputs v e) in let so = ready.homes in omega arith);
+          };
+          counted = paired-length outs o.outputs m.outputs outs-paired ∙ bodies.0.as_many_outputs;
+          alike = alike;
+          no_faults = own;
+          no_shapes = shapes-all comp.kind comp.operations shapes o found.0;
+        }),
         each-lower twice-none shapes (suc k) (n + c) (b + binder_count o.body) hs ms (omega arith) (omega arith) (omega arith) (omega arith)
             (λ r i. (and-both (cond (bytes_eq h.name r.name.text) (is_same_header higher k h r) true) (heads_as higher (suc k) hs r) (agree r i)).1) there.1 heads.1 bodies.1
             (λ j. (let e : k + suc j ≡ suc k + j = omega arith in at (suc j) ∙ ap (body_at higher 0) e))

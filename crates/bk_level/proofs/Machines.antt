@@ -116,17 +116,21 @@ module _ (int_max : ℤ) (higher : Development) (comp : Component) (ready : IsRe
       let outputs = declared_faults typing n o.outputs in
       let body = sub_faults int_max typing p.upper (body_scope p h) (writes int_max higher comp p (outputs_of h)) b o.body in
       let st = stands int_max higher comp ready.table in (
-        new-bodies int_max higher comp ready none (record { name = o.name.text; inputs = interval i (length o.inputs); outputs = length o.outputs }) (body_made int_max typing p h) h
-            (record { outputs = h2; all_outputs = omega arith; binders = h4; all_binders = omega arith })
-            (record {
-              outputs = omega arith;
-              binders = omega arith;
-              of = numbered-alone new.table i o.inputs;
-              typed_inputs = machine-typed typing i o.inputs (none-left inputs (outputs ++ body) own);
-              seen = numbered-seen (among (interval i (length o.inputs))) i o.inputs (λ m a c. interval-has i (length o.inputs) m a c);
-              below = λ m e. (let r = (among-interval i (length o.inputs) m e).1 in omega arith);
-            })
-            refl (outputs-alike new.table typing st.settled n o.outputs (none-left outputs body (none-right inputs (outputs ++ body) own))) own (none-left (shape_faults comp.kind false o.body) (bodies_shape comp.kind os) shape),
+        new-bodies int_max higher comp ready none (record { name = o.name.text; inputs = interval i (length o.inputs); outputs = length o.outputs }) (body_made int_max typing p h) h (record {
+          within = record { outputs = h2; all_outputs = omega arith; binders = h4; all_binders = omega arith };
+          placed = record {
+            outputs = omega arith;
+            binders = omega arith;
+            of = numbered-alone new.table i o.inputs;
+            typed_inputs = machine-typed typing i o.inputs (none-left inputs (outputs ++ body) own);
+            seen = numbered-seen (among (interval i (length o.inputs))) i o.inputs (λ m a c. interval-has i (length o.inputs) m a c);
+            below = λ m e. (let r = (among-interval i (length o.inputs) m e).1 in omega arith);
+          };
+          counted = refl;
+          alike = outputs-alike new.table typing st.settled n o.outputs (none-left outputs body (none-right inputs (outputs ++ body) own));
+          no_faults = own;
+          no_shapes = none-left (shape_faults comp.kind false o.body) (bodies_shape comp.kind os) shape;
+        }),
         each-body (i + length o.inputs) (n + length o.outputs) (b + binder_count o.body) os (omega arith) (omega arith) (omega arith) (omega arith) (omega arith) (omega arith)
             (none-right (body_faults int_max higher comp typing p h) later faults) (none-right (shape_faults comp.kind false o.body) (bodies_shape comp.kind os) shape),
       )

@@ -29,7 +29,7 @@ interval-length n zero = refl
 interval-length n (suc k) = ap suc (interval-length (suc n) k)
 
 pub new-bodies : NewBodiesAreBodies
-new-bodies int_max higher comp ready none head machine o within placed many alike faults shape =
+new-bodies int_max higher comp ready none head machine o h =
     let p = plan higher comp in
     let new = made int_max higher comp p in
     let typing = types_at int_max higher comp p in
@@ -40,14 +40,14 @@ new-bodies int_max higher comp ready none head machine o within placed many alik
     let clauses = clause_faults int_max typing p comp in
     let rest = operation_faults higher comp p ++ (init_faults int_max higher comp typing p ++ (all_body_faults int_max higher comp typing p (operations_of p comp) ++ value_faults_of int_max higher typing p comp)) in
     let said = none-left clauses rest (none-right (name_faults higher comp) (clauses ++ rest) none) in
-    let right = bodies-right int_max higher comp ready said head.inputs o placed faults in
+    let right = bodies-right int_max higher comp ready said head.inputs o h.placed h.no_faults in
     let parts = body-parts int_max new.table typing p.upper (body_scope p o) o.binders_at (names_own new p.level head.inputs outs) (names_joined new p.level) (writes_own new p.level outs) s (right.types, right.stays) in
-    let shaped = sub-shaped comp.kind int_max typing p.upper (inner_body s) false (body_scope p o) o.binders_at (inner-shape comp.kind false s shape) in
+    let shaped = sub-shaped comp.kind int_max typing p.upper (inner_body s) false (body_scope p o) o.binders_at (inner-shape comp.kind false s h.no_shapes) in
     let at : (level_at new p.level).kind ≡ comp.kind = ap (λ (m : Level). m.kind) (index-last higher.levels l blank_level) in
-    let w0 = within.outputs in
-    let w1 = within.all_outputs in
-    let w2 = within.binders in
-    let w3 = within.all_binders in
+    let w0 = h.within.outputs in
+    let w1 = h.within.all_outputs in
+    let w2 = h.within.binders in
+    let w3 = h.within.all_binders in
     let fewer = inner-count s in
     record {
       condition = parts.condition;
@@ -60,6 +60,6 @@ new-bodies int_max higher comp ready none head machine o within placed many alik
       };
       outputs = all-inner int_max higher comp ready.homes o.outputs_at count (omega arith) (omega arith);
       distinct_outputs = interval-distinct o.outputs_at count;
-      as_many_outputs = interval-length o.outputs_at count ∙ many;
-      output_types = alike;
+      as_many_outputs = interval-length o.outputs_at count ∙ h.counted;
+      output_types = h.alike;
     }

@@ -134,11 +134,22 @@ pub record IsWithin (dev : Development) (c : Component) (o : Placed) : Type 0 wh
   pub binders : (plan dev c).binders_at ≤ o.binders_at
   pub all_binders : o.binders_at + binder_count o.headed.operation.body ≤ (plan dev c).binders_at + (binder_count (initialisation c) + body_count (plan dev c).headed)
 
--- without faults it has the machine's header, where its outputs have the types of the machine's
+-- it stands within the level, with the machine's inputs, and with outputs that are as many as its header's and have the types of the
+-- machine's, and is without faults
+pub record IsNewBody (int_max : ℤ) (dev : Development) (c : Component) (head : Head) (machine : Body) (o : Placed) : Type 0 where
+  pub within : IsWithin dev c o
+  pub placed : IsPlaced int_max dev c head.inputs o
+  pub counted : length o.headed.operation.outputs ≡ head.outputs
+  pub alike : AllAlike (level_below int_max dev c).table (outputs_of o) machine.outputs
+  pub no_faults : body_faults int_max dev c (types_at int_max dev c (plan dev c)) (plan dev c) o ≡ []
+  pub no_shapes : shape_faults c.kind false o.headed.operation.body ≡ []
+
+-- then it has the machine's header
 abbrev pub NewBodiesAreBodies : Type 0
-NewBodiesAreBodies = (int_max : ℤ) (dev : Development) (c : Component) → IsReady dev → static_faults int_max dev c ≡ [] → (head : Head) (machine : Body) (o : Placed) → IsWithin dev c o → IsPlaced int_max dev c head.inputs o → length o.headed.operation.outputs ≡ head.outputs
-    → AllAlike (level_below int_max dev c).table (outputs_of o) machine.outputs → body_faults int_max dev c (types_at int_max dev c (plan dev c)) (plan dev c) o ≡ [] → shape_faults c.kind false o.headed.operation.body ≡ []
-    → IsBodyOf (level_below int_max dev c) (plan dev c).level head machine (body_made int_max (types_at int_max dev c (plan dev c)) (plan dev c) o)
+NewBodiesAreBodies = (int_max : ℤ) (dev : Development) (c : Component) → IsReady dev → static_faults int_max dev c ≡ [] →
+    (head : Head) (machine : Body) (o : Placed) → IsNewBody int_max dev c head machine o →
+    IsBodyOf (level_below int_max dev c) (plan dev c).level head machine
+    (body_made int_max (types_at int_max dev c (plan dev c)) (plan dev c) o)
 
 -- the operations of a machine without faults are those of its headers, whose inputs are inputs and differ
 pub record MachineRight (int_max : ℤ) (dev : Development) (c : Component) : Type 0 where

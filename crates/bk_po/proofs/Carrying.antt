@@ -190,14 +190,14 @@ module _ (find : Finder) (law : IsSearch find) (dev : Development) (f : IsLawful
   pub boxes-hold : BoxesHold find dev
   boxes-hold = record {
     inits = λ k h e t hyps. says k h Initialisation tt e t hyps;
-    machine = λ o l e t h i c. says 0 f.some_level (Operation o) l e t (machine-hyps 1 o e t h i (own-condition o e c));
+    machine = λ o l e s c. says 0 f.some_level (Operation o) l e s.typed (machine-hyps 1 o e s.typed s.properties s.invariant (own-condition o e c));
     operations = λ j h o l e t hyps. says (suc j) h (Operation o) l e t (body-hyps (suc j) h o e t hyps);
   }
 
   pub conditions-hold : ConditionsHold find dev
   conditions-hold = record {
     inits = λ k h e t hyps. says k h InitialisationDefined tt e t hyps;
-    machine = λ o l e t h i. says 0 f.some_level (OperationDefined o) l e t (machine-hyps 0 o e t h i (no-conditions o e));
+    machine = λ o l e s. says 0 f.some_level (OperationDefined o) l e s.typed (machine-hyps 0 o e s.typed s.properties s.invariant (no-conditions o e));
     operations = λ j h o l e t hyps. says (suc j) h (OperationDefined o) l e t (body-hyps (suc j) h o e t hyps);
   }
 
@@ -237,7 +237,8 @@ valid-here find law dev d valid =
     let only : OnlyLastIsImplementation flat = flattened_lawful.only_last dev d.only_last in
     let levels : IsFlatDevelopment flat = flattened_lawful.flat dev in
     let boxes = boxes-hold find law flat f only valid in
-    let carried = boxes_carry find law flat f only levels boxes (conditions_are_clean find law flat f only levels boxes (conditions-hold find law flat f only valid)) in
+    let carried = boxes_carry find law flat (record { lawful = f; only_last = only; flat = levels }) boxes
+    (conditions_are_clean find law flat (record { lawful = f; only_last = only; flat = levels }) boxes (conditions-hold find law flat f only valid)) in
     record {
       keeps = carried.keeps;
       carries = λ j h. carried.carries j (subst (λ n. suc j < n) (sym (levels-many (length dev.table.variables) dev.levels)) h);

@@ -21,7 +21,7 @@ use Rattle.bk_dev.specs.Development.{Head, Body, Level, Development, level_at, b
 use Rattle.bk_form.specs.Each.{Each}
 use Rattle.bk_dev.specs.Facts.{AllAre, binders, is_constant, is_input, is_variable_of, is_variable_above, is_inner_of, home_of, names_own, names_joined, writes_own, IsLink, AreAlike, IsSubOf, IsBodyOf, IsLevelOf, IsLawful, IsFlatDevelopment, OnlyLastIsImplementation}
 use Rattle.bk_dev.specs.Hypotheses.{properties_of, values_at, joining, joinings_of, conditions_of, input_ranges, init_hypotheses, unasserted_hypotheses}
-use Rattle.bk_dev.specs.Claims.{beside, JoinsAt, CarriesFlat}
+use Rattle.bk_dev.specs.Claims.{beside, JoinsAt, CarriesFlat, IsBetweenCalls}
 use Rattle.bk_gsl.specs.Apart.{AreApart, LocalsAreApart}
 use Rattle.bk_wp.specs.Box.{box, diamond}
 use Rattle.bk_gsl.specs.Flat.{IsFlat}
@@ -284,9 +284,9 @@ module _ (find : Finder) (law : IsSearch find) (dev : Development) (f : IsLawful
   machine-init e t h = let l = level 0 f.some_level in
       box-is-sound find law dev.table f.table (level_at dev 0).init (flat.init 0 f.some_level) l.init.types (level_at dev 0).invariant (predicate-closed dev.table (level_at dev 0).invariant l.invariant.is_predicate) (machine-apart [] [] (level_at dev 0).init l.init) e t (boxes.inits 0 f.some_level e t h)
 
-  pub machine-operation : (o : ℕ) → o < length dev.heads → (e : State) → IsTypedState dev.table e → AllHold find (at_state dev.table e) (properties_of dev 1) → holds find dev.table e (level_at dev 0).invariant ≡ true → holds find dev.table e (body_at dev 0 o).condition ≡ true → AllMeet find dev.table (body_at dev 0 o).sub (level_at dev 0).invariant e
-  machine-operation o m e t h i c = let b = body 0 f.some_level o m in
-      box-is-sound find law dev.table f.table (body_at dev 0 o).sub (flat.bodies 0 f.some_level o m) b.sub.types (level_at dev 0).invariant (predicate-closed dev.table (level_at dev 0).invariant (level 0 f.some_level).invariant.is_predicate) (machine-apart (head o).inputs (body_at dev 0 o).outputs (body_at dev 0 o).sub b.sub) e t (boxes.machine o m e t h i c)
+  pub machine-operation : (o : ℕ) → o < length dev.heads → (e : State) → IsBetweenCalls find dev e → holds find dev.table e (body_at dev 0 o).condition ≡ true → AllMeet find dev.table (body_at dev 0 o).sub (level_at dev 0).invariant e
+  machine-operation o m e s c = let b = body 0 f.some_level o m in
+      box-is-sound find law dev.table f.table (body_at dev 0 o).sub (flat.bodies 0 f.some_level o m) b.sub.types (level_at dev 0).invariant (predicate-closed dev.table (level_at dev 0).invariant (level 0 f.some_level).invariant.is_predicate) (machine-apart (head o).inputs (body_at dev 0 o).outputs (body_at dev 0 o).sub b.sub) e s.typed (boxes.machine o m e s c)
 
   -- ---- below it: the levels from the machine down, each ending by its own box
   abbrev AnsweredBy : ℕ → Substitution → List ℕ → List ℕ → State → Type 0

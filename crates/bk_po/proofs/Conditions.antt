@@ -87,13 +87,13 @@ module _ (find : Finder) (law : IsSearch find) (dev : Development) (f : IsLawful
   pub all-clean : AllClean find dev
   all-clean = record {
     inits = by_level;
-    conditions = λ o l e t h i. whole-defined find law dev f (arrays_at dev 0) (body_at dev 0 o) (body find law dev f only flat boxes 0 f.some_level o l).condition e t (asked.machine o l e t h i);
-    machine = λ o l e t h i c.
+    conditions = λ o l e s. whole-defined find law dev f (arrays_at dev 0) (body_at dev 0 o) (body find law dev f only flat boxes 0 f.some_level o l).condition e s.typed (asked.machine o l e s);
+    machine = λ o l e s c.
         let b = body find law dev f only flat boxes 0 f.some_level o l in
         guarded_is_clean find law dev.table f.table (arrays_at dev 0) (body_at dev 0 o).sub (flat.bodies 0 f.some_level o l) b.sub.types (level_at dev 0).invariant
         (predicate-closed dev.table (level_at dev 0).invariant (level find law dev f only flat boxes 0 f.some_level).invariant.is_predicate)
-        (machine-apart find law dev f only flat boxes (head find law dev f only flat boxes o).inputs (body_at dev 0 o).outputs (body_at dev 0 o).sub b.sub) e t (boxes.machine o l e t h i c)
-        (whole-asked find law dev f (arrays_at dev 0) (body_at dev 0 o) b.condition e t c (asked.machine o l e t h i));
+        (machine-apart find law dev f only flat boxes (head find law dev f only flat boxes o).inputs (body_at dev 0 o).outputs (body_at dev 0 o).sub b.sub) e s.typed (boxes.machine o l e s c)
+        (whole-asked find law dev f (arrays_at dev 0) (body_at dev 0 o) b.condition e s.typed c (asked.machine o l e s));
     operations = lower-clean;
   }
     where
@@ -102,4 +102,4 @@ module _ (find : Finder) (law : IsSearch find) (dev : Development) (f : IsLawful
       by_level (suc j) h = lower-init-clean j h
 
 pub conditions_are_clean : ConditionsAreClean
-conditions_are_clean find law dev f only flat boxes asked = all-clean find law dev f only flat boxes asked
+conditions_are_clean find law dev c boxes asked = all-clean find law dev c.lawful c.only_last c.flat boxes asked

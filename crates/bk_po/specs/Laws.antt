@@ -69,10 +69,17 @@ abbrev pub ObligationsType : Type 0
 ObligationsType = (dev : Development) → IsDevelopment dev → HasTypedObligations dev
 
 -- ---- all levels at once
--- where the boxes of all levels are true and what is met is defined or fits, the machine keeps its invariant and each level carries the one
--- above; of a lawful development without ||, and nothing else is asked of it
+-- a lawful development without ||, of which the last level alone may be an implementation
+pub record IsFlatChain (dev : Development) : Type 0 where
+  pub lawful : IsLawful dev
+  pub only_last : OnlyLastIsImplementation dev
+  pub flat : IsFlatDevelopment dev
+
+-- where the boxes of all its levels are true and what is met is defined or fits, the machine keeps its invariant and each level
+-- carries the one above
 abbrev pub BoxesCarry : Type 0
-BoxesCarry = (find : Finder) → IsSearch find → (dev : Development) → IsLawful dev → OnlyLastIsImplementation dev → IsFlatDevelopment dev → BoxesHold find dev → AllClean find dev → LevelsAreCarried find dev
+BoxesCarry = (find : Finder) → IsSearch find → (dev : Development) → IsFlatChain dev → BoxesHold find dev → AllClean find dev →
+    LevelsAreCarried find dev
 
 -- so of every development, by that of its flattened, of which Keeps and Carries speak
 abbrev pub EveryLevelIsCarried : Type 0
@@ -80,7 +87,8 @@ EveryLevelIsCarried = (find : Finder) → IsSearch find → (dev : Development) 
 
 -- what is asked beside the boxes says, together with them, that what is met is defined or fits
 abbrev pub ConditionsAreClean : Type 0
-ConditionsAreClean = (find : Finder) → IsSearch find → (dev : Development) → IsLawful dev → OnlyLastIsImplementation dev → IsFlatDevelopment dev → BoxesHold find dev → ConditionsHold find dev → AllClean find dev
+ConditionsAreClean = (find : Finder) → IsSearch find → (dev : Development) → IsFlatChain dev → BoxesHold find dev →
+    ConditionsHold find dev → AllClean find dev
 
 -- the boxes of all levels are asked together: an implementation that is not carried may have a true main goal, where the machine's is false
 pub record EagerAsksTheMachine : Type 0 where

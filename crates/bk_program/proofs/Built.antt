@@ -143,8 +143,8 @@ built_of files words project bytes asks (inl h) = absurd (stop_is_not_done h.0 h
 built_of files words project bytes asks (inr h) = same_task files words (λ task. IsWork files task Done bytes) h.0 (build_task project) h.1 asks h.2
 
 pub built_images_run : BuiltImagesRun
-built_images_run files others build_words run_words exec_words project calls image bytes fuel builds runs execs answer are short stands same status text =
-    let built = built_of files build_words project bytes builds answer in (
-      forth files others project calls image bytes fuel built are short stands same run_words exec_words runs execs status text,
-      back files others project calls image bytes fuel built are short stands same run_words exec_words runs execs status text,
+built_images_run files others build_words run_words exec_words project calls image bytes fuel asks h status text =
+    let built = built_of files build_words project bytes asks.build h.done in (
+      forth files others project calls image bytes fuel built h.are h.short h.stands h.same run_words exec_words asks.run asks.exec status text,
+      back files others project calls image bytes fuel built h.are h.short h.stands h.same run_words exec_words asks.run asks.exec status text,
     )

@@ -286,7 +286,7 @@ module _ (bytes : List ℕ) (are : AreBytes bytes) where
   loaded_or_not stop image h e = h.2 (faults_exclude bytes image h.0 are e h.3)
 
   loading_once : (s o : Stop) → StopsAtLoading bytes s → StopsAtLoading bytes o → s ≡ o
-  loading_once s o h k = h.1 ∙ (ap BadImage (one_fault bytes h.0 k.0 are h.3 k.3 h.2 k.2) ∙ sym k.1)
+  loading_once s o h k = h.1 ∙ (ap BadImage (one_fault bytes h.0 k.0 are (record { is = h.3; no_want = h.2 }) (record { is = k.3; no_want = k.2 })) ∙ sym k.1)
 
 module _ (files : Files) (image calls : List ℕ) where
   -- what stops behind the image's file, by its bytes

@@ -7,13 +7,21 @@ use Rattle.bk_raw.specs.ScriptTree.{RawScript}
 use Rattle.bk_project.specs.ProjectFile.{kinds_of}
 use Rattle.bk_po.specs.Obligations.{obligations}
 use Rattle.bk_po.specs.Limits.{PassNoLimit}
-use Rattle.bk_room.specs.Laws.{HasRoomFor}
+use Rattle.bk_room.specs.Laws.{HasRoomFor, ReadWithinLimits}
 use Rattle.bk_room.proofs.Projects.{few_kinds, read_have_room, read_scripts_have_room}
 use Rattle.bk_verbs.specs.Project.{ReadsProject}
 
 module _ (with_proofs : Bool) (files : Files) (project : List ℕ) (dev : Development) (scripts : List RawScript) (h : ReadsProject with_proofs files project dev scripts) (within : PassNoLimit (obligations dev)) where
+  read : ReadWithinLimits (kinds_of h.components.named) h.components.texts dev
+  read = record {
+    chain = h.components.lines.are.chain;
+    few = few_kinds h.components.named h.components.lines.are;
+    reads = h.components.reads;
+    within = within;
+  }
+
   pub project_has_room : HasRoom dev
-  project_has_room = read_have_room (kinds_of h.components.named) h.components.texts dev h.components.lines.are.chain (few_kinds h.components.named h.components.lines.are) h.components.reads within
+  project_has_room = read_have_room (kinds_of h.components.named) h.components.texts dev read
 
   pub scripts_have_room : All (HasRoomFor dev) scripts
-  scripts_have_room = read_scripts_have_room (kinds_of h.components.named) h.components.texts dev h.components.lines.are.chain (few_kinds h.components.named h.components.lines.are) h.components.reads within h.proof_texts scripts h.scripts_are
+  scripts_have_room = read_scripts_have_room (kinds_of h.components.named) h.components.texts dev read h.proof_texts scripts h.scripts_are

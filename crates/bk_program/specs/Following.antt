@@ -25,10 +25,17 @@ ProvedDevelopmentsFollow =
     (find : Finder) → IsSearch find → (dev : Development) (scripts : List RawScript) → IsDevelopment dev → IsB0Development dev → AreProved dev scripts →
     Follows find dev (translation dev)
 
--- and so it does where the status table has no open row; what has no loop then ends within its code
+-- a development in B0 whose status table, with these scripts, has no open row
+pub record HasClosedTable (dev : Development) (scripts : List RawScript) : Type 0 where
+  pub facts : IsDevelopment dev
+  pub in_b0 : IsB0Development dev
+  pub rows : List Row
+  pub are : HasRows dev scripts rows
+  pub closed : first_open rows ≡ None
+
+-- so it does there; what has no loop then ends within its code
 abbrev pub ClosedTablesFollow : Type 0
-ClosedTablesFollow =
-    (find : Finder) → IsSearch find → (dev : Development) (scripts : List RawScript) (rows : List Row) → IsDevelopment dev → IsB0Development dev → HasRows dev scripts rows → first_open rows ≡ None →
+ClosedTablesFollow = (find : Finder) → IsSearch find → (dev : Development) (scripts : List RawScript) → HasClosedTable dev scripts →
     Follows find dev (translation dev) × EndsWithoutLoops find dev (translation dev)
 
 -- the exchange, with || at the machine, and with a fill, VAR, a loop and an array that is read in its code: its obligations are valid, and so

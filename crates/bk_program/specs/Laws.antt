@@ -29,13 +29,25 @@ abbrev pub HasSomeAnswer : Type 0
 HasSomeAnswer =
     (files : Files) (words : List (List ℕ)) → HoldBytes files → ((status : Status) (text : List ℕ) → IsAnswer files words status text → ⊥) → ⊥
 
--- where `build` is done, `exec` on a file with the bytes that it writes has, with the same call script and fuel, the answer of `run`; the
--- bytes must be few enough for a file
+-- words that ask to build a project, to run it, and to run an image, with one call script and one fuel
+pub record AskOfOne (build_words run_words exec_words : List (List ℕ)) (project image calls : List ℕ) (fuel : ℕ) : Type 0 where
+  pub build : Asks build_words (build_task project)
+  pub run : Asks run_words (run_task project calls fuel)
+  pub exec : Asks exec_words (exec_task image calls fuel)
+
+-- `build` is done with these bytes, few enough for a file; among the other files the image has them, and the call script is the same
+pub record IsImageBuilt (files others : Files) (build_words : List (List ℕ)) (image calls bytes : List ℕ) : Type 0 where
+  pub done : IsAnswer files build_words Done bytes
+  pub are : AreBytes bytes
+  pub short : length bytes ≤ MOST_BYTES
+  pub stands : file_named others image ≡ Some bytes
+  pub same : file_named others calls ≡ file_named files calls
+
+-- then `exec` on the image has the answer of `run` on the project
 abbrev pub BuiltImagesRun : Type 0
 BuiltImagesRun =
     (files others : Files) (build_words run_words exec_words : List (List ℕ)) (project calls image bytes : List ℕ) (fuel : ℕ) →
-    Asks build_words (build_task project) → Asks run_words (run_task project calls fuel) → Asks exec_words (exec_task image calls fuel) →
-    IsAnswer files build_words Done bytes → AreBytes bytes → length bytes ≤ MOST_BYTES → file_named others image ≡ Some bytes → file_named others calls ≡ file_named files calls →
+    AskOfOne build_words run_words exec_words project image calls fuel → IsImageBuilt files others build_words image calls bytes →
     (status : Status) (text : List ℕ) → IsAnswer files run_words status text ↔ IsAnswer others exec_words status text
 
 -- the initialisation of a project with an implementation whose obligations are proved, and each legal call, where no WHILE stands in

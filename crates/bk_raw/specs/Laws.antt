@@ -82,13 +82,24 @@ ScriptPlacesAreOne =
 abbrev pub ScriptFaultsExclude : Type 0
 ScriptFaultsExclude = (tokens : List Token) (ss : List RawScript) (place : ℕ) → SpellsScripts ss tokens → IsScriptFault tokens place → ⊥
 
--- whole scripts in front, behind which no whole one stands, and behind them the longest one but for its end, or nothing, are
--- the longest whole front
+-- the tokens begin with whole scripts, behind which no whole one stands, and behind them with the longest script but for its
+-- end, or with nothing
+pub record BeginsWithScripts (tokens done open_one : List Token) : Type 0 where
+  pub scripts : List RawScript
+  pub are : SpellsScripts scripts done
+  pub behind : List Token
+  pub cut : tokens ≡ done ++ behind
+  pub no_other : (s : RawScript) (front after : List Token) → behind ≡ front ++ after → Scripted s front → ⊥
+  pub begins : IsOpenOrNone open_one
+  pub rest : List Token
+  pub cut_behind : behind ≡ open_one ++ rest
+  pub longest : (s : RawScript) (front after : List Token) → behind ≡ front ++ after →
+      OpensScript s front → length front ≤ length open_one
+
+-- they are the longest whole front
 abbrev pub ScriptsTellPlace : Type 0
-ScriptsTellPlace =
-    (ss : List RawScript) (tokens done behind open_one rest : List Token) → tokens ≡ done ++ behind → SpellsScripts ss done →
-    ((s : RawScript) (front after : List Token) → behind ≡ front ++ after → Scripted s front → ⊥) → behind ≡ open_one ++ rest → IsOpenOrNone open_one →
-    ((s : RawScript) (front after : List Token) → behind ≡ front ++ after → OpensScript s front → length front ≤ length open_one) → IsLongestWhole IsWholeScripts tokens (length done + length open_one)
+ScriptsTellPlace = (tokens done open_one : List Token) → BeginsWithScripts tokens done open_one →
+    IsLongestWhole IsWholeScripts tokens (length done + length open_one)
 
 -- ---- one of both
 -- something holds, or does not

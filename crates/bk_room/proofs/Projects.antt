@@ -32,15 +32,15 @@ module _ (kinds : List LineKind) (texts : List (List ℕ)) (dev : Development) (
       omega (arith, bounds.1, variables-bounded dev bounds.2 within)
 
 pub read_have_room : ReadHaveRoom
-read_have_room kinds texts dev chain few h within =
-    let sets : length dev.table.sets ≤ 2 ^ 32 = omega (arith, few_sets kinds texts dev chain few h) in
-    let variables : length (flattened dev).table.variables < 2 ^ 32 = omega (arith, few_variables kinds texts dev chain few h within) in
+read_have_room kinds texts dev r =
+    let sets : length dev.table.sets ≤ 2 ^ 32 = omega (arith, few_sets kinds texts dev r.chain r.few r.reads) in
+    let variables : length (flattened dev).table.variables < 2 ^ 32 = omega (arith, few_variables kinds texts dev r.chain r.few r.reads r.within) in
     record { sets = sets; variables = variables }
 
 pub read_scripts_have_room : ReadScriptsHaveRoom
-read_scripts_have_room kinds texts dev chain few h within proof_texts scripts are =
+read_scripts_have_room kinds texts dev r proof_texts scripts are =
     All-weaker (λ s. length (script_names s) ≤ 1000000) (HasRoomFor dev) (λ s names.
     let room : length (widened (flattened dev).table (flattened dev) s).variables < 2 ^ 32 =
-    omega (arith, names, widened-count (flattened dev).table (flattened dev) s, few_variables kinds texts dev chain few h within) in
+    omega (arith, names, widened-count (flattened dev).table (flattened dev) s, few_variables kinds texts dev r.chain r.few r.reads r.within) in
     room)
     scripts (scripts-bounded proof_texts scripts are)

@@ -19,13 +19,18 @@ use Rattle.bk_project.specs.Project.{Reads}
 abbrev pub HasRoomFor : Development → RawScript → Type 0
 HasRoomFor dev script = length (widened (flattened dev).table (flattened dev) script).variables < 2 ^ 32
 
+-- component files that are a chain of at most MOST_COMPONENTS, and are read as a development whose obligations pass no limit
+pub record ReadWithinLimits (kinds : List LineKind) (texts : List (List ℕ)) (dev : Development) : Type 0 where
+  pub chain : IsChain kinds
+  pub few : length kinds ≤ MOST_COMPONENTS
+  pub reads : Reads kinds texts dev
+  pub within : PassNoLimit (obligations dev)
+
 -- 32 bits number the sets and variables, with all copies, of what component files are read as, if its obligations pass no limit
 abbrev pub ReadHaveRoom : Type 0
-ReadHaveRoom =
-    (kinds : List LineKind) (texts : List (List ℕ)) (dev : Development) → IsChain kinds → length kinds ≤ MOST_COMPONENTS → Reads kinds texts dev → PassNoLimit (obligations dev) → HasRoom dev
+ReadHaveRoom = (kinds : List LineKind) (texts : List (List ℕ)) (dev : Development) → ReadWithinLimits kinds texts dev → HasRoom dev
 
 -- and so they do with the names that one of its scripts brings
 abbrev pub ReadScriptsHaveRoom : Type 0
-ReadScriptsHaveRoom =
-    (kinds : List LineKind) (texts : List (List ℕ)) (dev : Development) → IsChain kinds → length kinds ≤ MOST_COMPONENTS → Reads kinds texts dev → PassNoLimit (obligations dev) →
+ReadScriptsHaveRoom = (kinds : List LineKind) (texts : List (List ℕ)) (dev : Development) → ReadWithinLimits kinds texts dev →
     (proof_texts : List (List ℕ)) (scripts : List RawScript) → AreScriptsOf proof_texts scripts → All (HasRoomFor dev) scripts

@@ -92,8 +92,10 @@ module _ (find : Finder) (dev : Development) (f : IsLawful dev) (carries : (j : 
 
 pub lawful_follows : LawfulFollows
 lawful_follows = record {
-  follows = λ find dev f b meet keeps carries. followed find dev f (flat-formed dev f.table) b meet keeps (above-last find dev f carries) (inl (at-last find dev f carries));
-  ends = λ find dev f b meet keeps carries. ended find dev f (flat-formed dev f.table) b meet keeps (above-last find dev f carries) (inl (at-last find dev f carries));
+  follows = λ find dev f c.
+      followed find dev f (flat-formed dev f.table) c.in_b0 c.values c.keeps (above-last find dev f c.carries) (inl (at-last find dev f c.carries));
+  ends = λ find dev f c.
+      ended find dev f (flat-formed dev f.table) c.in_b0 c.values c.keeps (above-last find dev f c.carries) (inl (at-last find dev f c.carries));
 }
 
 pub equal_follows : EqualFollows
@@ -104,7 +106,7 @@ equal_follows = record {
 
 -- ---- every development
 pub b0_follows : B0Follows
-b0_follows find dev d b meet keeps carries = lawful_follows.follows find dev d.lawful b meet keeps carries
+b0_follows find dev d c = lawful_follows.follows find dev d.lawful c
 
 pub b0_ends : B0Ends
-b0_ends find dev d b meet keeps carries = lawful_follows.ends find dev d.lawful b meet keeps carries
+b0_ends find dev d c = lawful_follows.ends find dev d.lawful c

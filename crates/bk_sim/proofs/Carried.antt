@@ -58,7 +58,8 @@ pub counter_is_carried : CounterIsCarried
 counter_is_carried find = ((λ e t h. tt), keeps find, carries find)
 
 pub counter_ends : CounterEnds
-counter_ends find = b0_ends find counter counter_facts counter_in_b0 (counter_is_carried find).0 (counter_is_carried find).1 carried
+counter_ends find = b0_ends find counter counter_facts
+    (record { in_b0 = counter_in_b0; values = (counter_is_carried find).0; keeps = (counter_is_carried find).1; carries = carried })
   where
     carried : (j : ℕ) → suc j < length counter.levels → Carries find counter j
     carried zero h = (counter_is_carried find).2

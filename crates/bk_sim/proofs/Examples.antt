@@ -26,7 +26,17 @@ exchange_is_followed = record {
   meets = exchange_meets;
   keeps = exchange_keeps;
   carries = exchange_carries;
-  follows = λ find law. b0_follows find exchange exchange_facts exchange_in_b0 (exchange_meets find) (exchange_keeps find law) (exchange_carries find law);
-  ends = λ find law. b0_ends find exchange exchange_facts exchange_in_b0 (exchange_meets find) (exchange_keeps find law) (exchange_carries find law);
+  follows = λ find law. b0_follows find exchange exchange_facts (record {
+    in_b0 = exchange_in_b0;
+    values = exchange_meets find;
+    keeps = exchange_keeps find law;
+    carries = exchange_carries find law;
+  });
+  ends = λ find law. b0_ends find exchange exchange_facts (record {
+    in_b0 = exchange_in_b0;
+    values = exchange_meets find;
+    keeps = exchange_keeps find law;
+    carries = exchange_carries find law;
+  });
   loads = translations_load exchange exchange_facts.lawful exchange_in_b0 no-elements (omega (arith, cells)) (omega (arith, long));
 }

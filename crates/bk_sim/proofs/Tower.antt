@@ -229,6 +229,6 @@ tower_is_followed = record {
   meets = λ find e t h. tt;
   keeps = keeps;
   carries = carries;
-  follows = λ find. lawful_follows.follows find tower tower-lawful tower-in-b0 (λ e t h. tt) (keeps find) (carries find);
-  ends = λ find. lawful_follows.ends find tower tower-lawful tower-in-b0 (λ e t h. tt) (keeps find) (carries find);
+  follows = λ find. lawful_follows.follows find tower tower-lawful (record { in_b0 = tower-in-b0; values = λ e t h. tt; keeps = keeps find; carries = carries find });
+  ends = λ find. lawful_follows.ends find tower tower-lawful (record { in_b0 = tower-in-b0; values = λ e t h. tt; keeps = keeps find; carries = carries find });
 }

@@ -21,14 +21,18 @@ use Rattle.bk_dev.specs.Flattened.{flattened}
 abbrev pub CallsDecide : Type 0
 CallsDecide = (find : Finder) (dev : Development) (image : Image) → HasOperations dev image → OpensWell find dev image → CallsGoWell find dev image → Follows find dev image
 
--- of a lawful development in B0, with a chain of any length, an implementation below an implementation too, with || in the levels above
--- or without: where the machine keeps its invariant, each level carries the one above and the constants' values meet the properties, the
--- translation follows the machine, and what has no loop ends within its code
+-- it is in B0, the constants' values meet the properties, the machine keeps its invariant, and each level carries the one above
+pub record IsCarried (find : Finder) (dev : Development) : Type 0 where
+  pub in_b0 : IsB0Development dev
+  pub values : ValuesMeet find dev
+  pub keeps : Keeps find dev
+  pub carries : (j : ℕ) → suc j < length dev.levels → Carries find dev j
+
+-- of a lawful development that is so, with a chain of any length, an implementation below an implementation too, with || in the
+-- levels above or without: the translation follows the machine, and what has no loop ends within its code
 pub record LawfulFollows : Type 0 where
-  pub follows : (find : Finder) (dev : Development) → IsLawful dev → IsB0Development dev → ValuesMeet find dev → Keeps find dev →
-      ((j : ℕ) → suc j < length dev.levels → Carries find dev j) → Follows find dev (translation dev)
-  pub ends : (find : Finder) (dev : Development) → IsLawful dev → IsB0Development dev → ValuesMeet find dev → Keeps find dev →
-      ((j : ℕ) → suc j < length dev.levels → Carries find dev j) → EndsWithoutLoops find dev (translation dev)
+  pub follows : (find : Finder) (dev : Development) → IsLawful dev → IsCarried find dev → Follows find dev (translation dev)
+  pub ends : (find : Finder) (dev : Development) → IsLawful dev → IsCarried find dev → EndsWithoutLoops find dev (translation dev)
 
 -- a lawful development in B0 whose constants' values meet the properties, whose machine keeps its invariant, and each level of which
 -- carries the one above, but the last one only from equal values
@@ -48,11 +52,11 @@ pub record EqualFollows : Type 0 where
 -- the headline, for every development in B0: where the machine keeps its invariant, each level carries the one above and the constants'
 -- values meet the properties, the translation follows the machine
 abbrev pub B0Follows : Type 0
-B0Follows = (find : Finder) (dev : Development) → IsDevelopment dev → IsB0Development dev → ValuesMeet find dev → Keeps find dev → ((j : ℕ) → suc j < length dev.levels → Carries find dev j) → Follows find dev (translation dev)
+B0Follows = (find : Finder) (dev : Development) → IsDevelopment dev → IsCarried find dev → Follows find dev (translation dev)
 
 -- what has no loop ends within its code: each call of an operation without a loop is done with a fuel equal to the length of its code
 abbrev pub B0Ends : Type 0
-B0Ends = (find : Finder) (dev : Development) → IsDevelopment dev → IsB0Development dev → ValuesMeet find dev → Keeps find dev → ((j : ℕ) → suc j < length dev.levels → Carries find dev j) → EndsWithoutLoops find dev (translation dev)
+B0Ends = (find : Finder) (dev : Development) → IsDevelopment dev → IsCarried find dev → EndsWithoutLoops find dev (translation dev)
 
 -- the counter meets what the headline asks
 abbrev pub CounterIsCarried : Type 0

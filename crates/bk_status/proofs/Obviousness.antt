@@ -14,7 +14,14 @@ use Rattle.bk_status.specs.Laws.{ShownObligationsAreValid, ObviousObligationsAre
 module _ (table : Table) where
   shown-valid : IsWellFormed table → (ss : List (List ℕ × Sequent)) → Each (λ s. Types table s.1) ss → Each (λ s. IsShown table s.1) ss → AreValidForAllSizes table ss
   shown-valid formed [] h o = tt
-  shown-valid formed (s ∷ ss) h o = (elim o.0 [ inl plain ↦ obvious_for_all_sizes table formed s.1.0 s.1.1 h.0.1 plain | inr d ↦ sound_for_all_sizes.wider table d.wide formed d.formed d.wider d.rules s.1 h.0 d.derives ], shown-valid formed ss h.1 o.1)
+  shown-valid formed (s ∷ ss) h o = (
+    elim o.0 [
+      | inl plain ↦ obvious_for_all_sizes table formed s.1.0 s.1.1 h.0.1 plain
+      | inr d ↦ sound_for_all_sizes.wider table d.wide d.rules s.1
+          (record { small_formed = formed; large_formed = d.formed; wider = d.wider; types = h.0; derives = d.derives })
+    ],
+    shown-valid formed ss h.1 o.1,
+  )
 
   obvious-shown : (ss : List (List ℕ × Sequent)) → AreObvious ss → Each (λ s. IsShown table s.1) ss
   obvious-shown [] h = tt

@@ -39,7 +39,8 @@ call_ready image op args outs cells t checked kept read inputs written same from
       numbered = checked.numbered;
       depths = checked.depths;
       deep = checked.fitting;
-      fits = call_fitting image checked.depths op t.entry args cells checked.numbered checked.fitting t.named t.callable kept;
+      fits = call_fitting image checked.depths (record { op = op; args = args }) cells checked.numbered checked.fitting
+          (record { entry = t.entry; named = t.named; callable = t.callable }) kept;
     })
 
 pub call_ends : (image : Image) (op : ℕ) (args : List ℤ) (outs : ℕ) (cells : List ℤ) (t : TakesCall image op args outs) (fuel : ℕ)

@@ -1,5 +1,5 @@
 -- Substitutions with locals and x :(P).
-use Rattle.std.proofs.Common.{ap, ◌≡◌, inl, inr, ℕ, List, [], ◌∷◌, Bool, true, false, ◌||◌, cond, nat_eq}
+use Rattle.std.proofs.Common.{ap, ◌≡◌, ◌↔◌, not, inl, inr, ℕ, List, [], ◌∷◌, Bool, true, false, ◌||◌, cond, nat_eq}
 use Rattle.bk_form.specs.Table.{Table, IsWellFormed}
 use Rattle.bk_form.specs.Formula.{Formula, variable, unary, binary, named}
 use Rattle.bk_form.specs.declared.operator.UnOp.TheVariants.{Not}
@@ -7,20 +7,21 @@ use Rattle.bk_form.specs.declared.operator.BinOp.TheVariants.{And, Imp, Lt, In}
 use Rattle.bk_form.specs.declared.operator.Domain.TheVariants.{Natural}
 use Rattle.bk_form.specs.Role.{unary_role}
 use Rattle.bk_form.specs.Search.{Finder, IsSearch}
+use Rattle.bk_form.specs.Predicates.{IsPredicate}
 use Rattle.bk_form.specs.Environment.{State}
 use Rattle.bk_form.specs.Replacement.{replaced, occurs, IsClosed, looked_up}
 use Rattle.bk_val.specs.ValueType.{int_type}
 use Rattle.bk_form.proofs.Members.{or-left, or-right}
 use Rattle.bk_gsl.specs.Substitution.{Substitution, skip, assign, pre, guard, choice, if_else, any, seq, par, assert, becomes_such, loop}
-use Rattle.bk_gsl.specs.State.{among}
+use Rattle.bk_gsl.specs.State.{holds, among}
 use Rattle.bk_gsl.specs.Reads.{read}
 use Rattle.bk_gsl.specs.Writes.{writes}
 use Rattle.bk_gsl.specs.Typed.{Types}
 use Rattle.bk_gsl.proofs.States.{cases, clash}
 use Rattle.bk_wp.specs.Box.{variant_before, box, diamond}
 use Rattle.bk_wp.specs.Shapes.{HasNoLoop}
-use Rattle.bk_gsl.specs.Apart.{AreApart}
-use Rattle.bk_wp.specs.Laws.{BoxMeans, DiamondMeans, DiamondIsConjugate}
+use Rattle.bk_gsl.specs.Apart.{AreApart, LocalsAreApart}
+use Rattle.bk_wp.specs.Laws.{AllMeet, SomeMeets}
 use Rattle.bk_form.proofs.Closed.{predicate-closed, term-closed, closed-replaced}
 use Rattle.bk_wp.proofs.Steps.{terms-closed}
 use Rattle.bk_wp.proofs.Quantified.{closed-all, closed-written, closed-some, closed-all-new, closed-some-new, all_of-true, some_of-true, some_of-false, all_new-true, some_new-true, some_new-false}
@@ -124,16 +125,22 @@ module _ (find : Finder) (law : IsSearch find) (table : Table) (facts : IsWellFo
       ((λ e. some_new-true find law table facts e xs p r w.0 d c), λ e. some_new-false find law table facts e xs p r w.0 d c)
   fine-diamond later (loop p s i v) r y w a l c = absurd y
 
-pub box-means : BoxMeans
+pub box-means : (find : Finder) → IsSearch find → (table : Table) → IsWellFormed table → (s : Substitution) → HasNoLoop s →
+    Types table s → (r : Formula) → IsPredicate table r → LocalsAreApart s r → (e : State) →
+    (holds find table e (box table s r) ≡ true) ↔ AllMeet find table s r e
 box-means find law table facts s y w r t a e =
     let g = fine-box find law table facts (λ n. occurs n r) s r y w a (λ n h. h) (predicate-closed table r t) in (
       (λ h. box-then find table Everywhere (λ s w e f o q. tt) (λ e zs vs o q. tt) s r w g e tt h),
       (λ m. box-if find table Everywhere s r y w g e m),
     )
 
-pub diamond-means : DiamondMeans
+pub diamond-means : (find : Finder) → IsSearch find → (table : Table) → IsWellFormed table → (s : Substitution) → HasNoLoop s →
+    Types table s → (r : Formula) → IsPredicate table r → LocalsAreApart s r → (e : State) →
+    (holds find table e (diamond table s r) ≡ true) ↔ SomeMeets find table s r e
 diamond-means find law table facts s y w r t a e = diamond-exact find table s r w (fine-diamond find law table facts (λ n. occurs n r) s r y w a (λ n h. h) (predicate-closed table r t)) e
 
-pub diamond-is-conjugate : DiamondIsConjugate
+pub diamond-is-conjugate : (find : Finder) → IsSearch find → (table : Table) → IsWellFormed table → (s : Substitution) → HasNoLoop s →
+    Types table s → (r : Formula) → IsPredicate table r → LocalsAreApart s r → (e : State) →
+    holds find table e (diamond table s r) ≡ not (holds find table e (box table s (unary Not r)))
 diamond-is-conjugate find law table facts s y w r t a e =
     conjugate find table s r w (fine-diamond find law table facts (λ n. occurs n r) s r y w a (λ n h. h) (predicate-closed table r t)) e (box-means find law table facts s y w (unary Not r) (ap (unary_role Not) t) a e)

@@ -45,7 +45,6 @@ use Rattle.bk_gsl.proofs.States.{nat_eq-same}
 use Rattle.bk_gsl.proofs.WiderRuns.{predicate-wider, term-wider}
 use Rattle.bk_wp.specs.Box.{box, all_new, new_values, variant_before}
 use Rattle.bk_wp.specs.Guarded.{over_variables, over_written, box_where, evaluated, checked_write, checked_at, evaluated_term, evaluated_onto, such_condition, guarded}
-use Rattle.bk_wp.specs.Laws.{GuardedIsPredicate}
 use Rattle.bk_wp.specs.Quantifiers.{types_of, all_of, all_written}
 use Rattle.bk_wp.proofs.Predicates.{types-listed, all-predicate, all_new-predicate, terms-predicate, new-role}
 
@@ -385,5 +384,7 @@ room-formed table f room =
       listed = All-append (λ v. IsTrue (lists_type table v.of_type)) table.variables (number_entry ∷ []) f.listed (All-cons (λ v. IsTrue (lists_type table v.of_type)) number_entry [] refl (All-nil (λ v. IsTrue (lists_type table v.of_type))));
     }
 
-pub guarded_is_predicate : GuardedIsPredicate
+pub guarded_is_predicate : (table : Table) → IsWellFormed table → length table.variables < 2 ^ 32 → (arrays : Option ArrayTable) →
+    ((a : ArrayTable) → arrays ≡ Some a → AreTypedArrays table a) → (s : Substitution) → IsFlat s → Types table s →
+    IsPredicate table (guarded table arrays s)
 guarded_is_predicate table well room arrays typed s n w = guarded-is table well (room-formed table well room) arrays typed s w n

@@ -35,14 +35,13 @@ use Rattle.bk_gsl.specs.Run.{Runs, old_of, with_old}
 use Rattle.bk_gsl.specs.Typed.{IsTerm, AreListed, AreTypedTerms, AreTypedPairs, Types}
 use Rattle.bk_gsl.specs.Clean.{IsEvaluable, write_of, IsCleanWrite, IsCleanAt, IsCleanTerm, AreCleanTerms, Reached, Clean}
 use Rattle.bk_gsl.specs.Flat.{IsFlat}
-use Rattle.bk_gsl.specs.Apart.{AreApart}
+use Rattle.bk_gsl.specs.Apart.{AreApart, LocalsAreApart}
 use Rattle.bk_gsl.proofs.Listed.{writes-listed}
 use Rattle.bk_gsl.proofs.Reading.{among-left, among-right, among-outside, among-map, occurs-variables}
 use Rattle.bk_gsl.proofs.Runs.{run-typed, changes-only}
 use Rattle.bk_gsl.proofs.States.{nat_eq-same, with_values-typed}
 use Rattle.bk_wp.specs.Box.{variant_before, box, new_values}
 use Rattle.bk_wp.specs.Guarded.{over_variables, over_written, box_where, evaluated, checked_write, checked_at, evaluated_term, evaluated_onto, such_condition, guarded}
-use Rattle.bk_wp.specs.Laws.{GuardedIsClean}
 use Rattle.bk_wp.specs.Quantifiers.{types_of, all_written}
 use Rattle.bk_wp.proofs.Binders.{ReadLater, box-closed, box-later}
 use Rattle.bk_wp.proofs.Closing.{closed-each, closed-under}
@@ -459,5 +458,8 @@ module _ (find : Finder) (law : IsSearch find) (table : Table) (facts : IsWellFo
             let h2 = (and-both ((a && b) && c) d h1).0 in
             and-both a b (and-both (a && b) c h2).0
 
-pub guarded_is_clean : GuardedIsClean
+pub guarded_is_clean : (find : Finder) → IsSearch find → (table : Table) → IsWellFormed table →
+    (arrays : Option ArrayTable) (s : Substitution) → IsFlat s → Types table s → (r : Formula) → IsClosed 0 r → LocalsAreApart s r →
+    (e : State) → IsTypedState table e → holds find table e (box table s r) ≡ true →
+    holds find table e (guarded table arrays s) ≡ true → Clean find table arrays s e
 guarded_is_clean find law table facts arrays s y w r c a e o h k = clean-all find law table facts arrays s (λ n. occurs n r) r y w a (λ n q. q) c e o h k

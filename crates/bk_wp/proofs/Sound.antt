@@ -19,8 +19,8 @@ use Rattle.bk_gsl.proofs.Listed.{among-listed, writes-listed}
 use Rattle.bk_gsl.proofs.Runs.{run-typed}
 use Rattle.bk_wp.specs.Box.{variant_before, box}
 use Rattle.bk_gsl.specs.Flat.{IsFlat}
-use Rattle.bk_gsl.specs.Apart.{AreApart}
-use Rattle.bk_wp.specs.Laws.{AllMeet, BoxIsSound}
+use Rattle.bk_gsl.specs.Apart.{AreApart, LocalsAreApart}
+use Rattle.bk_wp.specs.Laws.{AllMeet}
 use Rattle.bk_form.proofs.Closed.{predicate-closed, term-closed, closed-replaced}
 use Rattle.bk_wp.proofs.Steps.{or-cases}
 use Rattle.bk_wp.proofs.Quantified.{all_of-true, all_new-true}
@@ -90,5 +90,7 @@ module _ (find : Finder) (law : IsSearch find) (table : Table) (facts : IsWellFo
 pub sound-later : (find : Finder) → IsSearch find → (table : Table) → IsWellFormed table → (later : ℕ → Bool) (s : Substitution) (r : Formula) → IsFlat s → Types table s → AreApart later s → ReadLater later r → IsClosed 0 r → (e : State) → IsTypedState table e → holds find table e (box table s r) ≡ true → AllMeet find table s r e
 sound-later find law table facts later s r y w a l c e o h = box-then find table (IsTypedState table) (kept find law table facts) (set find law table facts) s r w (fine-box find law table facts later s r y w a l c) e o h
 
-pub box-is-sound : BoxIsSound
+pub box-is-sound : (find : Finder) → IsSearch find → (table : Table) → IsWellFormed table → (s : Substitution) → IsFlat s →
+    Types table s → (r : Formula) → IsClosed 0 r → LocalsAreApart s r → (e : State) → IsTypedState table e →
+    holds find table e (box table s r) ≡ true → AllMeet find table s r e
 box-is-sound find law table facts s y w r t a e o h = sound-later find law table facts (λ n. occurs n r) s r y w a (λ n q. q) t e o h

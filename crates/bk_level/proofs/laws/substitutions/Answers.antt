@@ -8,10 +8,13 @@ pub returns-clause-binders : goal.returns-clause-binders
 returns-clause-binders c = λ int_max typing above names n s. binds-distinct s int_max typing above names n
 
 pub returns-clause-types : goal.returns-clause-types
-returns-clause-types c = λ int_max table typing settled above names a o t writable n s e. elaborated-types int_max table typing settled above a s names writable n o t e
+returns-clause-types c = λ int_max table typing above names h writable n s e.
+    elaborated-types int_max table typing h.settled above h.above_of s names writable n h.names_of h.have_types e
 
 pub returns-clause-stay : goal.returns-clause-stay
-returns-clause-stay c = λ int_max table typing settled higher names a o t above visible writable g v n b s e. elaborated-stays int_max table typing settled higher a above g s names visible writable n o t v b e
+returns-clause-stay c = λ int_max table typing higher names h above visible writable n k s e.
+    elaborated-stays int_max table typing h.settled higher h.above_of above k.above_seen s names visible writable n
+    h.names_of h.have_types k.seen k.below e
 
 pub returns-clause-shapes : goal.returns-clause-shapes
 returns-clause-shapes c = λ kind inside int_max typing above names n s e. sub-shaped kind int_max typing above s inside names n e
