@@ -1,3 +1,4 @@
+pub mod ElementTexts
 pub mod Operated
 pub mod Lengths
 pub mod Emitted

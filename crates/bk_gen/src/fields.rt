@@ -37,6 +37,7 @@ fn has_default_range(unit: &B0Unit) -> bool
 }
 
 // Whether a set has few enough elements, and the text of each is short enough.
+#[tactic(auto, using(crate::proofs::ElementTexts::unwritten, crate::proofs::ElementTexts::written))]
 fn elements_fit(set: &EnumSet) -> bool
     ensures { IsTrue result ↔ FitsSet (element_texts set.now) }
 {
@@ -47,6 +48,7 @@ fn elements_fit(set: &EnumSet) -> bool
 }
 
 // Whether there are few enough numbers below the count, and the name with each of them is short enough.
+#[tactic(auto, using(crate::proofs::ElementTexts::numbers_long))]
 fn numbers_fit(name: &Text, count: u32) -> bool
     ensures { IsTrue result ↔ FitsSet (texts_from name.now 0 count) }
 {

@@ -21,6 +21,7 @@ pub(crate) fn element_names(alloc: Global, sets: &[EnumSet]) -> Result<Vec<NameT
 }
 
 // The written names of a set's elements; where none are written, the set's name with their numbers.
+#[tactic(auto, using(crate::proofs::ElementTexts::unwritten, crate::proofs::ElementTexts::written))]
 fn texts_of_set(alloc: Global, set: &EnumSet) -> Result<NameTexts, Memory>
     ensures { IfOk result (λ texts. texts ≡ element_texts set.now) }
 {

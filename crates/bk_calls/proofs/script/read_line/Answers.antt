@@ -1,6 +1,7 @@
-use Rattle.std.proofs.Common.{◌≡◌, refl, sym, ◌∙◌, ap, subst, map, true, false, Some, None, Err, rules}
+use Rattle.std.proofs.Common.{◌≡◌, refl, sym, ◌∙◌, ap, subst, to_z, of_z, map, true, false, Some, None, Err, rules}
 use Rattle.std.specs.Prelude.{pos, ◌≤ℤ◌, FitsSigned}
 use Rattle.std.specs.Int.{w64}
+use Rattle.std.proofs.lemmas.Int.{to_z-of_z}
 use Rattle.std.specs.List.{list_all}
 use Rattle.std.specs.Option.{option_map}
 use Rattle.bk_code.specs.Numbers.{int_max, is_within}
@@ -16,8 +17,8 @@ pub returns-in_err-args-clause-err : goal.returns-in_err-args-clause-err
 returns-in_err-args-clause-err c =
     let line = c.args.line.now in
     let image = c.args.image.now in
-    let fits : FitsSigned w64 c.int_max-max.result = search rules in
-    let most : int_max image ≤ℤ pos 9223372036854775807 = subst (λ max. max ≤ℤ pos 9223372036854775807) c.int_max-max.ensures (narrow_max c.int_max-max.result fits) in
+    let narrow : FitsSigned w64 c.int_max-max.result = search rules in
+    let most : int_max image ≤ℤ pos 9223372036854775807 = subst (λ max. max ≤ℤ pos 9223372036854775807) c.int_max-max.ensures (narrow_max c.int_max-max.result narrow) in
     let inputs = c.inputs-inputs.result.now in
     let arguments = map held c.in_ok-arguments.arguments.items in
     let parts : Some (c.in_ok-name.name.now, c.in_ok-name.inside.now) ≡ call_parts line = ap (option_map (λ parts. (parts.0.now, parts.1.now))) (sym c.in_ok-name.ensures.ok_part) ∙ c.call_parts.ensures in
@@ -31,8 +32,8 @@ pub returns-then-not-are_within-clause-err : goal.returns-then-not-are_within-cl
 returns-then-not-are_within-clause-err c =
     let line = c.args.line.now in
     let image = c.args.image.now in
-    let fits : FitsSigned w64 c.int_max-max.result = search rules in
-    let most : int_max image ≤ℤ pos 9223372036854775807 = subst (λ max. max ≤ℤ pos 9223372036854775807) c.int_max-max.ensures (narrow_max c.int_max-max.result fits) in
+    let narrow : FitsSigned w64 c.int_max-max.result = search rules in
+    let most : int_max image ≤ℤ pos 9223372036854775807 = subst (λ max. max ≤ℤ pos 9223372036854775807) c.int_max-max.ensures (narrow_max c.int_max-max.result narrow) in
     let inputs = c.inputs-inputs.result.now in
     let arguments = map held c.in_ok-arguments.arguments.items in
     let numbers = c.in_ok-args.args.items in
@@ -40,15 +41,17 @@ returns-then-not-are_within-clause-err c =
     let given : Some arguments ≡ all_kept (arguments_in (pieces c.in_ok-name.inside.now)) = ap (option_map (λ arguments. map held arguments.items)) (sym c.in_ok-arguments.ensures.ok_part) ∙ c.in_ok-arguments_of.ensures in
     let named : Some c.in_ok-op.op ≡ named_op image c.in_ok-name.name.now = sym c.in_ok-op.ensures.ok_part ∙ c.named_op.ensures in
     let found : Some numbers ≡ values_of image inputs arguments = ap (option_map (λ values. values.items)) (sym c.in_ok-args.ensures.ok_part) ∙ c.in_ok-values.ensures ∙ ap (λ t. values_of image inputs (map held t)) c.deref.ensures.value in
-    let out : list_all (is_within (int_max image)) numbers ≡ false = ap (λ max. list_all (is_within max) numbers) (sym c.int_max-max.ensures) ∙ (ap (list_all (is_within c.int_max-max.result)) (sym c.deref-2.ensures.value) ∙ (sym c.are_within.ensures ∙ c.if-not-are_within.true)) in
+    let max = to_z w64 (of_z w64 c.int_max-max.result) in
+    let back : max ≡ c.int_max-max.result = to_z-of_z w64 c.int_max-max.result narrow in
+    let out : list_all (is_within (int_max image)) numbers ≡ false = ap (λ m. list_all (is_within m) numbers) (sym (back ∙ c.int_max-max.ensures)) ∙ (ap (list_all (is_within max)) (sym c.deref-2.ensures.value) ∙ (sym c.are_within.ensures ∙ c.if-not-are_within.true)) in
     (refl, read_from image line c.in_ok-name.name.now c.in_ok-name.inside.now arguments c.in_ok-op.op inputs most parts given named c.inputs-inputs.ensures (Some numbers) found ∙ leaves image c.in_ok-op.op numbers out)
 
 pub returns-clause-ok : goal.returns-clause-ok
 returns-clause-ok c =
     let line = c.args.line.now in
     let image = c.args.image.now in
-    let fits : FitsSigned w64 c.int_max-max.result = search rules in
-    let most : int_max image ≤ℤ pos 9223372036854775807 = subst (λ max. max ≤ℤ pos 9223372036854775807) c.int_max-max.ensures (narrow_max c.int_max-max.result fits) in
+    let narrow : FitsSigned w64 c.int_max-max.result = search rules in
+    let most : int_max image ≤ℤ pos 9223372036854775807 = subst (λ max. max ≤ℤ pos 9223372036854775807) c.int_max-max.ensures (narrow_max c.int_max-max.result narrow) in
     let inputs = c.inputs-inputs.result.now in
     let arguments = map held c.in_ok-arguments.arguments.items in
     let numbers = c.in_ok-args.args.items in
@@ -56,6 +59,8 @@ returns-clause-ok c =
     let given : Some arguments ≡ all_kept (arguments_in (pieces c.in_ok-name.inside.now)) = ap (option_map (λ arguments. map held arguments.items)) (sym c.in_ok-arguments.ensures.ok_part) ∙ c.in_ok-arguments_of.ensures in
     let named : Some c.in_ok-op.op ≡ named_op image c.in_ok-name.name.now = sym c.in_ok-op.ensures.ok_part ∙ c.named_op.ensures in
     let found : Some numbers ≡ values_of image inputs arguments = ap (option_map (λ values. values.items)) (sym c.in_ok-args.ensures.ok_part) ∙ c.in_ok-values.ensures ∙ ap (λ t. values_of image inputs (map held t)) c.deref.ensures.value in
-    let fits : list_all (is_within (int_max image)) numbers ≡ true = ap (λ max. list_all (is_within max) numbers) (sym c.int_max-max.ensures) ∙ (ap (list_all (is_within c.int_max-max.result)) (sym c.deref-2.ensures.value) ∙ (sym c.are_within.ensures ∙ c.if-not-are_within.false)) in
+    let max = to_z w64 (of_z w64 c.int_max-max.result) in
+    let back : max ≡ c.int_max-max.result = to_z-of_z w64 c.int_max-max.result narrow in
+    let fits : list_all (is_within (int_max image)) numbers ≡ true = ap (λ m. list_all (is_within m) numbers) (sym (back ∙ c.int_max-max.ensures)) ∙ (ap (list_all (is_within max)) (sym c.deref-2.ensures.value) ∙ (sym c.are_within.ensures ∙ c.if-not-are_within.false)) in
     read_from image line c.in_ok-name.name.now c.in_ok-name.inside.now arguments c.in_ok-op.op inputs most parts given named c.inputs-inputs.ensures (Some numbers) found
     ∙ fits_as image c.in_ok-op.op numbers (request_of record { op = c.in_ok-op.op; args = c.from_vec-args.result }) refl c.from_vec-args.ensures fits
