@@ -170,13 +170,13 @@ module _ (int_max : ℤ) (higher : Development) (comp : Component) (most : int_m
   domains n d h = domain-declared new n d h
 
   abbrev Placed-at : ℕ → List Way → Type 0
-  Placed-at n us = StandsAt x new most (stands int_max higher comp ready.table).settled arrays domains base top ws no-array untold n us
+  Placed-at n us = StandsAt x new most lawful.range (stands int_max higher comp ready.table).settled arrays domains base top ws no-array untold n us
 
   left-at : (n : ℕ) (us vs : List Way) → Placed-at n (us ++ vs) → Placed-at n us
-  left-at n us vs h = stands-left x new most (stands int_max higher comp ready.table).settled arrays domains base top ws no-array untold n us vs h
+  left-at n us vs h = stands-left x new most lawful.range (stands int_max higher comp ready.table).settled arrays domains base top ws no-array untold n us vs h
 
   right-at : (n k : ℕ) (us vs : List Way) → length us ≡ k → Placed-at n (us ++ vs) → Placed-at (n + k) vs
-  right-at n k us vs e h = stands-right x new most (stands int_max higher comp ready.table).settled arrays domains base top ws no-array untold n k us vs e h
+  right-at n k us vs e h = stands-right x new most lawful.range (stands int_max higher comp ready.table).settled arrays domains base top ws no-array untold n k us vs e h
 
   all-at-base : Placed-at base ws
   all-at-base i l = let e : base + i - base ≡ i = omega arith in ap (way_at ws) e
@@ -240,7 +240,7 @@ module _ (int_max : ℤ) (higher : Development) (comp : Component) (most : int_m
       let settled = (stands int_max higher comp ready.table).settled in
       let names-of = numbered-of new.table q.outputs_at o.outputs inner (of-bind new.table q.headed.inputs (scope p) of (scope-stands int_max higher comp ready.table.counted)) in
       let names-typed = inner-typed int_max new.table typing settled q.outputs_at o.outputs inner (none-left declared body rest) (typed-bind typing q.headed.inputs (scope p) typed-inputs (scope-typed int_max higher comp ready said)) in
-      let read = b0-statement x new most settled arrays domains base top ws no-array untold p.upper o.body (body_scope p q) (writes int_max higher comp p (outputs_of q)) q.binders_at names-of names-typed (none-right declared body rest) run stand low high small in
+      let read = b0-statement x new most lawful.range settled arrays domains base top ws no-array untold p.upper o.body (body_scope p q) (writes int_max higher comp p (outputs_of q)) q.binders_at names-of names-typed (none-right declared body rest) run stand low high small in
       let bare = no-condition o.body x (body_scope p q) q.binders_at run in
       let same = inner-read o.body int_max typing p.upper (body_scope p q) q.binders_at bare in
       record {
@@ -335,7 +335,7 @@ module _ (int_max : ℤ) (higher : Development) (comp : Component) (most : int_m
       let settled = (stands int_max higher comp ready.table).settled in
       let w4 = ways (scope p) p.binders_at (initialisation comp) in
       let w5 = all_binder_ways p os in
-      let begins = b0-statement x new most settled arrays domains base top ws no-array untold p.upper (initialisation comp) (scope p) (writes int_max higher comp p []) p.binders_at (scope-stands int_max higher comp ready.table.counted) (scope-typed int_max higher comp ready said) begun-none
+      let begins = b0-statement x new most lawful.range settled arrays domains base top ws no-array untold p.upper (initialisation comp) (scope p) (writes int_max higher comp p []) p.binders_at (scope-stands int_max higher comp ready.table.counted) (scope-typed int_max higher comp ready said) begun-none
       (none-left run-start run-bodies r2) (left-at p.binders_at w4 w5 binders-at) (omega arith) (omega arith) small in
       let behind = right-at p.binders_at (binder_count (initialisation comp)) w4 w5 (ways-count (initialisation comp) (scope p) p.binders_at) binders-at in
       let each = each-b0 small-bodies (twice-none int_max higher comp ready lawful below none names-none) said 0 p.outputs_at first higher.heads (omega arith) (omega arith) agree missing-none

@@ -15,7 +15,7 @@ use Rattle.bk_form.specs.Defined.{is_in_int}
 use Rattle.bk_gsl.specs.Substitution.{Substitution, assign}
 use Rattle.bk_gsl.specs.Clean.{write_of}
 use Rattle.bk_gsl.proofs.States.{nat_eq-self, nat_eq-same}
-use Rattle.bk_dev.specs.Development.{Development, int_max}
+use Rattle.bk_dev.specs.Development.{Development, int_max, IsRange}
 use Rattle.bk_dev.specs.Layout.{arrays_of, is_scalar}
 use Rattle.bk_dev.specs.B0.{IsScalarName, IsArrayName, IsDeclaredDomain, IsCondition, IsFillValue, IsFill, IsTermFor, IsB0, operators_down, IsShallow, IsShallowWrite, IsShallowTerm, EvaluatesShallow}
 use Rattle.bk_raw.specs.declared.operator.Constant.{Constant}
@@ -123,13 +123,13 @@ same-whole : (f g : Formula) (t u : ValueType) → partial (whole f t) ≡ parti
 same-whole f g t u e = cc
 
 -- ---- terms and conditions
-module _ (x : Executing) (dev : Development) (most : x.int_max ≡ int_max dev) (settled : IsSettled dev.table x.typing) (arrays : (n : ℕ) → is_there (x.array n) ≡ true → IsArrayName dev n) where
+module _ (x : Executing) (dev : Development) (most : x.int_max ≡ int_max dev) (range : IsRange (int_max dev)) (settled : IsSettled dev.table x.typing) (arrays : (n : ℕ) → is_there (x.array n) ≡ true → IsArrayName dev n) where
   abbrev term-at : Names → RawTree → Outcome
   term-at names e = outcome_of x.int_max x.typing names e
 
   -- an expression in its place
   place-told : (names : Names) (e : RawTree) → AreOf dev.table names → expression_faults x names e ≡ [] → IsB0Outcome dev (tree_height e) (term-at names e)
-  place-told names e h k = term-part dev false e (tree_height e) (reading x.int_max (typed x.typing names) e) (b0-expression x dev most settled arrays e names h k)
+  place-told names e h k = term-part dev false e (tree_height e) (reading x.int_max (typed x.typing names) e) (b0-expression x dev most range settled arrays e names h k)
 
   term-fits : (names : Names) (e : RawTree) → AreTyped (typed x.typing names) → value_faults x.int_max x.typing names e ≡ [] → Fits false (term-at names e)
   term-fits names e t k = part-fits false e (reading x.int_max (typed x.typing names) e) (reading-speaks x.int_max e (typed x.typing names) t) k
@@ -154,14 +154,14 @@ module _ (x : Executing) (dev : Development) (most : x.int_max ≡ int_max dev) 
   stated-told names p h t k b =
       let read = reading x.int_max (typed x.typing names) p in
       predicate-told dev (tree_height p) (part true p read).outcome (part-fits true p read (reading-speaks x.int_max p (typed x.typing names) t) k)
-      (predicate-part dev true p (tree_height p) read (b0-condition x dev most settled arrays p names h b))
+      (predicate-part dev true p (tree_height p) read (b0-condition x dev most range settled arrays p names h b))
 
   -- ---- fills
   fill-constant : (at : ℕ) (c : Constant) → is_literal_word c ≡ true → (f : Formula) (u : ValueType) → (part false (raw at (raw_constant c)) (constant_reading x.int_max at c)).outcome ≡ partial (whole f u) → IsFillValue dev f
   fill-constant at True h f u e = subst (IsFillValue dev) (same-whole (truth_value true) f bool_type u e) tt
   fill-constant at False h f u e = subst (IsFillValue dev) (same-whole (truth_value false) f bool_type u e) tt
-  fill-constant at MaxInt h f u e = subst (IsFillValue dev) (same-whole (literal x.int_max) f int_type u e) (most-told x dev most settled arrays)
-  fill-constant at MinInt h f u e = subst (IsFillValue dev) (same-whole (literal (int_min x.int_max)) f int_type u e) (least-told x dev most settled arrays)
+  fill-constant at MaxInt h f u e = subst (IsFillValue dev) (same-whole (literal x.int_max) f int_type u e) (most-told x dev most range settled arrays)
+  fill-constant at MinInt h f u e = subst (IsFillValue dev) (same-whole (literal (int_min x.int_max)) f int_type u e) (least-told x dev most range settled arrays)
   fill-constant at c h f u e = absurd (cc)
 
   fill-name : (at : ℕ) (s : Sight) → IsNamed x.typing s → is_scalar_option (outcome_type (name_reading at s).outcome) ≡ true → (f : Formula) (u : ValueType) → (name_reading at s).outcome ≡ partial (whole f u) → IsFillValue dev f
@@ -176,7 +176,7 @@ module _ (x : Executing) (dev : Development) (most : x.int_max ≡ int_max dev) 
   fill-value : (names : Names) (e : RawTree) → AreOf dev.table names → is_fill_value x names e ≡ true → (f : Formula) (u : ValueType) → term-at names e ≡ partial (whole f u) → IsFillValue dev f
   fill-value names (raw at (raw_number z)) h k f u e = subst (IsFillValue dev) (same-whole (literal z) f int_type u e) (subst (λ m. is_in_int m z ≡ true) most k)
   fill-value names (raw at (raw_constant c)) h k f u e = fill-constant at c k f u e
-  fill-value names (raw at (raw_name n)) h k f u e = fill-name at (found 0 (typed x.typing names) n) (found-named x dev most settled arrays names h n) k f u e
+  fill-value names (raw at (raw_name n)) h k f u e = fill-name at (found 0 (typed x.typing names) n) (found-named x dev most range settled arrays names h n) k f u e
   fill-value names (raw at node) h k f u e = absurd (cc)
 
   scalar-whole : (o : Outcome) → is_scalar_option (outcome_type o) ≡ true → (g : Formula) × ((w : ValueType) × (o ≡ partial (whole g w)))

@@ -1,6 +1,7 @@
 -- A term without fault 11 reads as an expression or a condition of B0, with fewer operators on one way down than it is high.
-use Rattle.std.proofs.Common.{◌≡◌, ℕ, ◌+◌, ◌≤◌, List, [], ◌∷◌, ◌++◌, max, refl, sym, ◌∙◌, ap, subst, Bool, true, false, ◌&&◌, cond, arith}
-use Rattle.std.specs.Prelude.{Option, None, Some, ℤ, pos}
+use Rattle.std.proofs.Common.{◌≡◌, ℕ, ◌+◌, ◌≤◌, ◌≤ℤ◌, List, [], ◌∷◌, ◌++◌, max, refl, sym, ◌∙◌, ap, subst, Bool, true, false, ◌&&◌, cond, arith}
+use Rattle.std.specs.Prelude.{Option, None, Some, ℤ, pos, neg_ℤ, ◌-ℤ◌, int_le}
+use Rattle.std.proofs.lemmas.Int.{ints}
 use Rattle.std.specs.Str.{bytes_eq}
 use Rattle.bk_val.specs.ValueType.{ValueType, int_type, bool_type, enum_type, pair_type, set_type}
 use Rattle.bk_form.specs.Formula.{Formula, variable, literal, element, named, unary, binary}
@@ -9,7 +10,7 @@ use Rattle.bk_form.specs.Role.{same_type}
 use Rattle.bk_form.specs.declared.operator.UnOp.TheVariants.{Not as Negation, BoolOf as TruthOf, Neg}
 use Rattle.bk_form.specs.declared.operator.BinOp.{BinOp}
 use Rattle.bk_form.specs.declared.operator.BinOp.TheVariants.{And as Conjunction, Or as Disjunction, Eq, Lt, Le, Add, Sub, Mul, Div, Mod as Remainder, Minus as Without, Apply as ApplyTo}
-use Rattle.bk_dev.specs.Development.{Development, int_max}
+use Rattle.bk_dev.specs.Development.{Development, int_max, IsRange}
 use Rattle.bk_dev.specs.Layout.{is_scalar}
 use Rattle.bk_dev.specs.B0.{IsArrayName, IsExpression, IsCondition, operators_down}
 use Rattle.bk_raw.specs.declared.operator.InfixOp.{InfixOp}
@@ -43,6 +44,29 @@ whole-never at (f ∷ fs) h = absurd (cc)
 whole-then : (b : Bool) (at : ℕ) (fs : List Fault) → cond b fs (or_whole at fs) ≡ [] → (b ≡ true) × (fs ≡ [])
 whole-then true at fs h = (refl, h)
 whole-then false at fs h = whole-never at fs h
+
+-- ---- numbers of the range
+le-so : (x y : ℤ) → x ≤ℤ y → int_le x y ≡ true
+le-so x y h = grind (arith, ints)
+
+within-so : (most z : ℤ) → (pos 0 -ℤ most) ≤ℤ z → z ≤ℤ most → is_in_int most z ≡ true
+within-so most z low high = λ i. le-so (pos 0 -ℤ most) z low i && le-so z most high i
+
+-- MAXINT is at least 1
+one-within : (most : ℤ) → IsRange most → is_in_int most (pos 1) ≡ true
+one-within most range =
+    let least : pos 1 ≤ℤ most = range.least in
+    within-so most (pos 1) (omega (arith, ints, least)) least
+
+most-within : (most : ℤ) → IsRange most → is_in_int most most ≡ true
+most-within most range =
+    let least : pos 1 ≤ℤ most = range.least in
+    within-so most most (omega (arith, ints, least)) (omega (arith, ints))
+
+least-within : (most : ℤ) → IsRange most → is_in_int most (int_min most) ≡ true
+least-within most range =
+    let least : pos 1 ≤ℤ most = range.least in
+    within-so most (neg_ℤ most) (omega (arith, ints)) (omega (arith, ints, least))
 
 -- ---- what is told of a B0 term
 -- an expression of B0, below so high a term
@@ -232,7 +256,7 @@ abbrev pub IsNamed : Typing → Sight → Type 0
 IsNamed typing (seen f u) = IsNamedAs typing f u
 IsNamed typing _ = Unit {0}
 
-module _ (x : Executing) (dev : Development) (most : x.int_max ≡ int_max dev) (settled : IsSettled dev.table x.typing) (arrays : (n : ℕ) → is_there (x.array n) ≡ true → IsArrayName dev n) where
+module _ (x : Executing) (dev : Development) (most : x.int_max ≡ int_max dev) (range : IsRange (int_max dev)) (settled : IsSettled dev.table x.typing) (arrays : (n : ℕ) → is_there (x.array n) ≡ true → IsArrayName dev n) where
   either-named : (b : Bool) (s t : Sight) → IsNamed x.typing s → IsNamed x.typing t → IsNamed x.typing (cond b s t)
   either-named true s t h k = h
   either-named false s t h k = k
@@ -308,7 +332,7 @@ module _ (x : Executing) (dev : Development) (most : x.int_max ≡ int_max dev) 
   -- ---- words
   stepped-told : (o : BinOp) (h : ℕ) → ((f g : Formula) → IsExpression dev f → IsExpression dev g → IsExpression dev (binary o f g)) → (a : Option Formula) → Answers (IsB0Term dev h) a → IsB0Outcome dev (h + 1) (of_answer (stepped o) a)
   stepped-told o h is None k = tt
-  stepped-told o h is (Some f) k = (is f (literal (pos 1)) k.0 refl, omega (arith, k.1))
+  stepped-told o h is (Some f) k = (is f (literal (pos 1)) k.0 (one-within (int_max dev) range), omega (arith, k.1))
 
   negative-told : (h : ℕ) (a : Option Formula) → Answers (IsB0Term dev h) a → IsB0Outcome dev (h + 1) (of_answer (λ f. partial (whole (unary Neg f) int_type)) a)
   negative-told h None k = tt
@@ -326,10 +350,10 @@ module _ (x : Executing) (dev : Development) (most : x.int_max ≡ int_max dev) 
   number-told z h = subst (λ m. is_in_int m z ≡ true) most h
 
   pub most-told : is_in_int (int_max dev) x.int_max ≡ true
-  most-told = subst (λ m. is_in_int (int_max dev) m ≡ true) (sym most) refl
+  most-told = subst (λ m. is_in_int (int_max dev) m ≡ true) (sym most) (most-within (int_max dev) range)
 
   pub least-told : is_in_int (int_max dev) (int_min x.int_max) ≡ true
-  least-told = subst (λ m. is_in_int (int_max dev) (int_min m) ≡ true) (sym most) refl
+  least-told = subst (λ m. is_in_int (int_max dev) (int_min m) ≡ true) (sym most) (least-within (int_max dev) range)
 
   constant-told : (at : ℕ) (c : Constant) → is_literal_word c ≡ true → IsB0Outcome dev 1 (constant_reading x.int_max at c).outcome
   constant-told at True h = (tt, omega arith)

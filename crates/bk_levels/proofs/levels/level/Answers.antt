@@ -3,6 +3,7 @@ use Rattle.std.specs.Option.{option_copied}
 use Rattle.bk_dev.specs.Development.{Development}
 use Rattle.bk_dev.specs.Facts.{HomesAreThere}
 use Rattle.bk_raw.specs.Blame.{blame}
+use Rattle.bk_raw.specs.Faults.{Fault}
 use Rattle.bk_elab.specs.Shown.{told}
 use Rattle.bk_level.specs.Above.{above_of}
 use Rattle.bk_level.specs.Components.{Component, is_machine}
@@ -34,8 +35,13 @@ pub returns-in-Some-clause-fault : goal.returns-in-Some-clause-fault
 returns-in-Some-clause-fault c =
     let dev = above_of (option_copied c.as_ref.result) in
     let k = component_shown c.in_ok-component.component in
-    fault-told c.args.max c.args.above c.args.raw.now k dev c.in_ok-component.ensures (ap above_of c.as_ref.ensures.value) (c.in-Some.fault.number, c.in-Some.fault.place) (sym c.if-declares_too_many.false ∙ c.declares_too_many.ensures)
-    (sym (ap told c.in-Some.is) ∙ (c.in_ok-judged.ensures.fault ∙ ap (λ (m : ℤ). blame (all_faults m dev k)) (to_z-of_z c.ranges.max)))
+    let f : Fault = (c.in-Some.fault.kind, c.in-Some.fault.place) in
+    (
+      f,
+      fault-told c.args.max c.args.above c.args.raw.now k dev c.in_ok-component.ensures (ap above_of c.as_ref.ensures.value) f (sym c.if-declares_too_many.false ∙ c.declares_too_many.ensures)
+          (sym (ap told c.in-Some.is) ∙ (c.in_ok-judged.ensures.fault ∙ ap (λ (m : ℤ). blame (all_faults m dev k)) (to_z-of_z c.ranges.max))),
+      λ i. (sym c.number.ensures i, c.in-Some.fault.place),
+    )
 
 pub counted-requires-clause-sets : goal.counted-requires-clause-sets
 counted-requires-clause-sets c = at-sets c.args.raw.now.kind c.args.above c.requires.above
