@@ -1,6 +1,7 @@
 -- The executable part of a development finds each name where the development does.
 use Rattle.std.proofs.Common.{◌≡◌, ℕ, ◌+◌, List, [], ◌∷◌, ◌++◌, map, length, refl, ap, cond, nat_eq}
 use Rattle.bk_form.specs.ArrayTable.{row_of}
+use Rattle.bk_form.specs.Table.{element_texts}
 use Rattle.bk_gsl.specs.State.{declared_type}
 use Rattle.bk_dev.specs.Development.{Development, int_max, level_at, last}
 use Rattle.bk_dev.specs.Layout.{arrays_of, cells_of, cell_variables, cell_among, cells_in}
@@ -33,7 +34,7 @@ units_are_translated dev =
     λ i. record {
       max = int_max dev;
       cells = count-is dev (cell_variables dev) i;
-      sets = map (λ s. s.elements) dev.sets;
+      sets = map element_texts dev.sets;
       ops = placed_entries (places-are dev i) (length (placed_block (places-are dev i) low.init)) dev.heads low.bodies;
       code = placed_block (places-are dev i) low.init ++ placed_bodies (places-are dev i) low.bodies;
     }

@@ -1,6 +1,6 @@
 -- The executable part of an implementation: what its translation reads.
 use Rattle.std.specs.Prelude.{◌≡◌, ℕ, ◌+◌, nat_eq, cond, List, [], ◌∷◌, ◌++◌, map, length}
-use Rattle.bk_form.specs.Table.{Table, SetEntry}
+use Rattle.bk_form.specs.Table.{Table, SetEntry, element_texts}
 use Rattle.bk_form.specs.ArrayTable.{ArrayTable, row_of}
 use Rattle.bk_form.specs.Formula.{Formula}
 use Rattle.bk_gsl.specs.Substitution.{Substitution}
@@ -77,7 +77,7 @@ abbrev pub unit_image : CodeUnit → Image
 unit_image u = record {
   max = u.arrays.max;
   cells = slots_cells u.slots;
-  sets = map (λ s. s.elements) u.sets;
+  sets = map element_texts u.sets;
   ops = placed_entries (unit_places u) (length (placed_block (unit_places u) u.init)) u.heads u.bodies;
   code = unit_code u;
 }

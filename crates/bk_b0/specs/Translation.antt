@@ -1,6 +1,7 @@
 -- The translation of an implementation to stack code, as lists of instructions.
 use Rattle.std.specs.Prelude.{ℕ, List, ◌++◌, map, length, Option}
 use Rattle.bk_form.specs.ArrayTable.{row_of}
+use Rattle.bk_form.specs.Table.{element_texts}
 use Rattle.bk_form.specs.Formula.{Formula}
 use Rattle.bk_form.specs.declared.arrays.ArrayRow.{ArrayRow}
 use Rattle.bk_gsl.specs.Substitution.{Substitution}
@@ -82,7 +83,7 @@ abbrev pub translation : Development → Image
 translation dev = record {
   max = int_max dev;
   cells = cell_count dev;
-  sets = map (λ s. s.elements) dev.sets;
+  sets = map element_texts dev.sets;
   ops = entries dev (length (init_code dev)) dev.heads (level_at dev (last dev)).bodies;
   code = init_code dev ++ operations_code dev (level_at dev (last dev)).bodies;
 }

@@ -1,20 +1,24 @@
 -- Numbers that are kept in 64 bits say the same of a line as the written ones.
-use Rattle.std.proofs.Common.{◌≡◌, ℕ, suc, ◌+◌, ◌^◌, ◌-◌, ◌≤◌, ◌<◌, min, leb, inl, inr, refl, sym, ◌∙◌, ap, subst, arith, true, false, List, [], ◌∷◌, ◌++◌, length, drop, get_or, map, drop-cons, drop_of_length-le, append_assoc, Option, Some, None, Ok, Err}
-use Rattle.std.specs.Prelude.{◌⊎◌, ◌&&◌, ℤ, pos, negsuc, neg_ℤ, ◌≤ℤ◌}
+use Rattle.std.proofs.Common.{◌≡◌, ℕ, zero, suc, ◌+◌, ◌^◌, ◌-◌, ◌≤◌, ◌<◌, Bool, inl, inr, refl, sym, ◌∙◌, ap, subst, arith, true, false, List, [], ◌∷◌, ◌++◌, length, drop, get_or, map, drop-cons, drop_of_length-le, append_assoc, Option, Some, None, Ok, Err}
+use Rattle.std.specs.Prelude.{◌⊎◌, ◌&&◌, nat_lt, ℤ, pos, negsuc, neg_ℤ, ◌≤ℤ◌, FitsSigned, if◌then◌else◌}
+use Rattle.std.specs.Int.{w64}
+use Rattle.std.specs.Int.Signed.{mag}
 use Rattle.std.specs.List.{list_all}
 use Rattle.std.specs.Option.{option_map}
-use Rattle.std.proofs.lemmas.Bool.{cases_Bool, cases_lt, and_parts, cond-false, false_from_ne_true}
+use Rattle.std.proofs.lemmas.Bool.{cases_Bool, cases_lt, and_parts, cond-true, cond-false, false_from_ne_true}
+use Rattle.std.proofs.lemmas.Bool.Decides.{nat_tests}
 use Rattle.std.proofs.lemmas.Int.{ints}
 use Rattle.bk_code.specs.declared.image.Image.{Image}
 use Rattle.bk_code.specs.declared.image.Parameter.{Parameter}
 use Rattle.bk_code.specs.declared.image.CellKind.{CellKind}
 use Rattle.bk_code.specs.declared.image.CellKind.TheVariants.{Integer, Bool as Truths, Set}
-use Rattle.bk_code.specs.Numbers.{int_max, IsRange, IsWithin, is_within}
+use Rattle.bk_code.specs.Numbers.{int_max, IsWithin, is_within}
 use Rattle.bk_calls.specs.CallLine.{Argument, Number, Truth, Element}
 use Rattle.bk_calls.specs.declared.argument.Argument.{Argument as Held}
 use Rattle.bk_calls.specs.Held.{held}
 use Rattle.bk_calls.specs.Script.{value_of, OutOfRange}
-use Rattle.bk_calls.specs.Reading.{kept, kept_argument, in_front_of, values_of, ranged, from_values}
+use Rattle.bk_lex.specs.Lexis.{is_numeral, numeral_from}
+use Rattle.bk_calls.specs.Reading.{least, kept, kept_argument, digits_number, in_front_of, values_of, ranged, from_values}
 
 -- the number is that one, or is kept for it
 abbrev IsKept : ℤ → ℤ → Type 0
@@ -74,80 +78,119 @@ within_then max n h = (grind (arith, ints), grind (arith, ints))
 outside : (max n : ℤ) → (IsWithin max n → ⊥) → is_within max n ≡ false
 outside max n h = false_from_ne_true (is_within max n) (λ yes. h (within_then max n yes))
 
-kept_within : (image : Image) (n : ℤ) → IsRange (int_max image) → is_within (int_max image) (kept n) ≡ is_within (int_max image) n
-kept_within image (pos n) range =
-    let most : int_max image ≤ℤ pos 4611686018427387903 = range.greatest in
-    elim (cases_lt n 9223372036854775807) [
-      | inl lt ↦ (let e : min n (2 ^ 63 - 1) ≡ n = omega arith in ap (λ k. is_within (int_max image) (pos k)) e)
-      | inr ge ↦ (
-          let e : min n (2 ^ 63 - 1) ≡ 9223372036854775807 = omega arith in
-          outside (int_max image) (pos (min n (2 ^ 63 - 1))) (λ w. let high = w.1 in omega (arith, ints, high, most, e))
-          ∙ sym (outside (int_max image) (pos n) (λ w. let high = w.1 in omega (arith, ints, high, most, ge))))
+-- the greatest number of 64 bits is the most that a range has
+pub narrow_max : (max : ℤ) → FitsSigned w64 max → max ≤ℤ pos 9223372036854775807
+narrow_max (pos n) fits = let small : n < 2 ^ 63 = fits.sfits in omega (arith, ints, small)
+narrow_max (negsuc n) fits = omega (arith, ints)
+
+nat_lt_if : (i n : ℕ) → i < n → nat_lt i n ≡ true
+nat_lt_if i n h = grind (arith, nat_tests)
+
+nat_lt_not : (i n : ℕ) → n ≤ i → nat_lt i n ≡ false
+nat_lt_not i n h = grind (arith, nat_tests)
+
+kept_narrow : (n : ℤ) → mag n < 2 ^ 63 → kept n ≡ n
+kept_narrow n h = cond-true (nat_lt (mag n) (2 ^ 63)) n least (nat_lt_if (mag n) (2 ^ 63) h)
+
+kept_wide : (n : ℤ) → 2 ^ 63 ≤ mag n → kept n ≡ least
+kept_wide n h = cond-false (nat_lt (mag n) (2 ^ 63)) n least (nat_lt_not (mag n) (2 ^ 63) h)
+
+-- a number within the range has 64 bits, and the least of them lies outside
+within_narrow : (max n : ℤ) → max ≤ℤ pos 9223372036854775807 → IsWithin max n → mag n < 2 ^ 63
+within_narrow max (pos n) most w = let high : pos n ≤ℤ max = w.1 in let small : n < 2 ^ 63 = omega (arith, ints, high, most) in small
+within_narrow max (negsuc n) most w = let low : neg_ℤ max ≤ℤ negsuc n = w.0 in let small : n < 2 ^ 63 = omega (arith, ints, low, most) in small
+
+least_outside : (max : ℤ) → max ≤ℤ pos 9223372036854775807 → IsWithin max least → ⊥
+least_outside max most w = let low : neg_ℤ max ≤ℤ negsuc 9223372036854775807 = w.0 in omega (arith, ints, low, most)
+
+kept_within : (image : Image) (n : ℤ) → int_max image ≤ℤ pos 9223372036854775807 → is_within (int_max image) (kept n) ≡ is_within (int_max image) n
+kept_within image n most =
+    elim (cases_lt (mag n) (2 ^ 63)) [
+      | inl lt ↦ ap (is_within (int_max image)) (kept_narrow n lt)
+      | inr ge ↦ ap (is_within (int_max image)) (kept_wide n ge)
+          ∙ (outside (int_max image) least (least_outside (int_max image) most)
+          ∙ sym (outside (int_max image) n (λ w. omega (arith, ge, within_narrow (int_max image) n most w))))
     ]
-kept_within image (negsuc n) range =
-    let most : int_max image ≤ℤ pos 4611686018427387903 = range.greatest in
-    elim (cases_lt n 9223372036854775807) [
-      | inl lt ↦ (let e : min (n + 1) (2 ^ 63 - 1) ≡ suc n = omega arith in ap (λ k. is_within (int_max image) (neg_ℤ (pos k))) e)
-      | inr ge ↦ (
-          let e : min (n + 1) (2 ^ 63 - 1) ≡ 9223372036854775807 = omega arith in
-          ap (λ k. is_within (int_max image) (neg_ℤ (pos k))) e
-          ∙ (outside (int_max image) (neg_ℤ (pos 9223372036854775807)) (λ w. let low = w.0 in omega (arith, ints, low, most))
-          ∙ sym (outside (int_max image) (negsuc n) (λ w. let low = w.0 in omega (arith, ints, low, most, ge)))))
+
+within_kept : (image : Image) (n : ℤ) → int_max image ≤ℤ pos 9223372036854775807 → is_within (int_max image) n ≡ true → kept n ≡ n
+within_kept image n most h = kept_narrow n (within_narrow (int_max image) n most (within_then (int_max image) n h))
+
+-- ---- digits behind a minus
+pub wide_numeral : (n : ℕ) → 2 ^ 63 ≤ n → kept (pos n) ≡ least
+wide_numeral n h = kept_wide (pos n) h
+
+pub narrow_numeral : (n : ℕ) → n < 2 ^ 63 → kept (pos n) ≡ pos n
+narrow_numeral n h = kept_narrow (pos n) h
+
+pub least_negated : (n : ℕ) → kept (pos n) ≡ least → kept (neg_ℤ (pos n)) ≡ least
+least_negated zero h = h
+least_negated (suc m) h =
+    elim (cases_lt (suc m) (2 ^ 63)) [
+      | inl lt ↦ (let e : pos (suc m) ≡ least = sym (narrow_numeral (suc m) lt) ∙ h in absurd (omega (arith, ints, e)))
+      | inr ge ↦ elim (cases_lt m (2 ^ 63)) [
+        | inl lt ↦ (let e : m ≡ 9223372036854775807 = omega (arith, lt, ge) in kept_narrow (negsuc m) lt ∙ ap negsuc e)
+        | inr more ↦ kept_wide (negsuc m) more
+      ]
     ]
 
-within_kept : (image : Image) (n : ℤ) → IsRange (int_max image) → is_within (int_max image) n ≡ true → kept n ≡ n
-within_kept image (pos n) range h =
-    let most : int_max image ≤ℤ pos 4611686018427387903 = range.greatest in
-    let high : pos n ≤ℤ int_max image = (within_then (int_max image) (pos n) h).1 in
-    let low : n ≤ 4611686018427387903 = omega (arith, ints, high, most) in
-    ap pos (omega arith)
-within_kept image (negsuc n) range h =
-    let most : int_max image ≤ℤ pos 4611686018427387903 = range.greatest in
-    let low : neg_ℤ (int_max image) ≤ℤ negsuc n = (within_then (int_max image) (negsuc n) h).0 in
-    let few : n ≤ 4611686018427387902 = omega (arith, ints, low, most) in
-    let e : min (n + 1) (2 ^ 63 - 1) ≡ suc n = omega arith in
-    ap (λ k. neg_ℤ (pos k)) e
+pub kept_negated : (n : ℕ) → (kept (pos n) ≡ least → ⊥) → kept (neg_ℤ (pos n)) ≡ neg_ℤ (kept (pos n))
+kept_negated zero h = refl
+kept_negated (suc m) h =
+    elim (cases_lt (suc m) (2 ^ 63)) [
+      | inl lt ↦ (let low : m < 2 ^ 63 = omega (arith, lt) in kept_narrow (negsuc m) low ∙ ap neg_ℤ (sym (narrow_numeral (suc m) lt)))
+      | inr ge ↦ absurd (h (wide_numeral (suc m) ge))
+    ]
 
-one_within : (image : Image) (n m : ℤ) → IsRange (int_max image) → IsKept n m → is_within (int_max image) m ≡ is_within (int_max image) n
-one_within image n m range (inl h) = ap (is_within (int_max image)) h
-one_within image n m range (inr h) = ap (is_within (int_max image)) h ∙ kept_within image n range
+minus_of : (is : Bool) (n : ℕ) (k r : ℤ) → Some k ≡ option_map kept (if is then Some (pos n) else None) → ((n : ℕ) → k ≡ kept (pos n) → r ≡ kept (neg_ℤ (pos n))) →
+    Some r ≡ option_map kept (option_map neg_ℤ (if is then Some (pos n) else None))
+minus_of true n k r is minus = (let e : k ≡ kept (pos n) = cc in ap (λ z. Some z) (minus n e))
+minus_of false n k r is minus = absurd cc
 
-one_same : (image : Image) (n m : ℤ) → IsRange (int_max image) → IsKept n m → is_within (int_max image) n ≡ true → m ≡ n
-one_same image n m range (inl h) within = h
-one_same image n m range (inr h) within = h ∙ within_kept image n range within
+pub minus_kept : (digits : List ℕ) (k r : ℤ) → Some k ≡ option_map kept (digits_number digits) → ((n : ℕ) → k ≡ kept (pos n) → r ≡ kept (neg_ℤ (pos n))) →
+    Some r ≡ option_map kept (option_map neg_ℤ (digits_number digits))
+minus_kept digits k r is minus = minus_of (is_numeral digits) (numeral_from 0 digits) k r is minus
 
-all_within : (image : Image) (ns ms : List ℤ) → IsRange (int_max image) → AreKept ns ms → list_all (is_within (int_max image)) ms ≡ list_all (is_within (int_max image)) ns
-all_within image [] [] range h = refl
-all_within image [] (m ∷ ms) range h = absurd h
-all_within image (n ∷ ns) [] range h = absurd h
-all_within image (n ∷ ns) (m ∷ ms) range h =
-    ap (λ b. b && list_all (is_within (int_max image)) ms) (one_within image n m range h.0) ∙ ap (λ b. is_within (int_max image) n && b) (all_within image ns ms range h.1)
+-- ---- the numbers of a line
+one_within : (image : Image) (n m : ℤ) → int_max image ≤ℤ pos 9223372036854775807 → IsKept n m → is_within (int_max image) m ≡ is_within (int_max image) n
+one_within image n m most (inl h) = ap (is_within (int_max image)) h
+one_within image n m most (inr h) = ap (is_within (int_max image)) h ∙ kept_within image n most
 
-all_same : (image : Image) (ns ms : List ℤ) → IsRange (int_max image) → AreKept ns ms → list_all (is_within (int_max image)) ns ≡ true → ms ≡ ns
-all_same image [] [] range h within = refl
-all_same image [] (m ∷ ms) range h within = absurd h
-all_same image (n ∷ ns) [] range h within = absurd h
-all_same image (n ∷ ns) (m ∷ ms) range h within =
+one_same : (image : Image) (n m : ℤ) → int_max image ≤ℤ pos 9223372036854775807 → IsKept n m → is_within (int_max image) n ≡ true → m ≡ n
+one_same image n m most (inl h) within = h
+one_same image n m most (inr h) within = h ∙ within_kept image n most within
+
+all_within : (image : Image) (ns ms : List ℤ) → int_max image ≤ℤ pos 9223372036854775807 → AreKept ns ms → list_all (is_within (int_max image)) ms ≡ list_all (is_within (int_max image)) ns
+all_within image [] [] most h = refl
+all_within image [] (m ∷ ms) most h = absurd h
+all_within image (n ∷ ns) [] most h = absurd h
+all_within image (n ∷ ns) (m ∷ ms) most h =
+    ap (λ b. b && list_all (is_within (int_max image)) ms) (one_within image n m most h.0) ∙ ap (λ b. is_within (int_max image) n && b) (all_within image ns ms most h.1)
+
+all_same : (image : Image) (ns ms : List ℤ) → int_max image ≤ℤ pos 9223372036854775807 → AreKept ns ms → list_all (is_within (int_max image)) ns ≡ true → ms ≡ ns
+all_same image [] [] most h within = refl
+all_same image [] (m ∷ ms) most h within = absurd h
+all_same image (n ∷ ns) [] most h within = absurd h
+all_same image (n ∷ ns) (m ∷ ms) most h within =
     let parts = and_parts (is_within (int_max image) n) (list_all (is_within (int_max image)) ns) within in
-    ap (λ k. k ∷ ms) (one_same image n m range h.0 parts.0) ∙ ap (λ t. n ∷ t) (all_same image ns ms range h.1 parts.1)
+    ap (λ k. k ∷ ms) (one_same image n m most h.0 parts.0) ∙ ap (λ t. n ∷ t) (all_same image ns ms most h.1 parts.1)
 
-ranged_kept : (image : Image) (op : ℕ) (ns ms : List ℤ) → IsRange (int_max image) → AreKept ns ms → ranged image op ms ≡ ranged image op ns
-ranged_kept image op ns ms range h =
+ranged_kept : (image : Image) (op : ℕ) (ns ms : List ℤ) → int_max image ≤ℤ pos 9223372036854775807 → AreKept ns ms → ranged image op ms ≡ ranged image op ns
+ranged_kept image op ns ms most h =
     elim (cases_Bool (list_all (is_within (int_max image)) ns)) [
-      | inl holds ↦ ap (ranged image op) (all_same image ns ms range h holds)
-      | inr fails ↦ cond-false (list_all (is_within (int_max image)) ms) (Ok (record { op = op; args = ms })) (Err OutOfRange) (all_within image ns ms range h ∙ fails)
+      | inl holds ↦ ap (ranged image op) (all_same image ns ms most h holds)
+      | inr fails ↦ cond-false (list_all (is_within (int_max image)) ms) (Ok (record { op = op; args = ms })) (Err OutOfRange) (all_within image ns ms most h ∙ fails)
           ∙ sym (cond-false (list_all (is_within (int_max image)) ns) (Ok (record { op = op; args = ns })) (Err OutOfRange) fails)
     ]
 
-from_kept : (image : Image) (op : ℕ) (o p : Option (List ℤ)) → IsRange (int_max image) → AllKept o p → from_values image op p ≡ from_values image op o
-from_kept image op None None range h = refl
-from_kept image op None (Some ms) range h = absurd h
-from_kept image op (Some ns) None range h = absurd h
-from_kept image op (Some ns) (Some ms) range h = ranged_kept image op ns ms range h
+from_kept : (image : Image) (op : ℕ) (o p : Option (List ℤ)) → int_max image ≤ℤ pos 9223372036854775807 → AllKept o p → from_values image op p ≡ from_values image op o
+from_kept image op None None most h = refl
+from_kept image op None (Some ms) most h = absurd h
+from_kept image op (Some ns) None most h = absurd h
+from_kept image op (Some ns) (Some ms) most h = ranged_kept image op ns ms most h
 
-pub kept_values : (image : Image) (op : ℕ) (inputs : List Parameter) (arguments : List Argument) → IsRange (int_max image) →
+pub kept_values : (image : Image) (op : ℕ) (inputs : List Parameter) (arguments : List Argument) → int_max image ≤ℤ pos 9223372036854775807 →
     from_values image op (values_of image inputs (map kept_argument arguments)) ≡ from_values image op (values_of image inputs arguments)
-kept_values image op inputs arguments range = from_kept image op (values_of image inputs arguments) (values_of image inputs (map kept_argument arguments)) range (values_kept image inputs arguments)
+kept_values image op inputs arguments most = from_kept image op (values_of image inputs arguments) (values_of image inputs (map kept_argument arguments)) most (values_kept image inputs arguments)
 
 -- ---- one argument more is read
 pub uncounted : (image : Image) (inputs : List Parameter) (arguments : List Argument) → (length arguments ≡ length inputs → ⊥) → None ≡ values_of image inputs arguments

@@ -1,13 +1,13 @@
 -- What is read of a line, from its parts.
 use Rattle.std.proofs.Common.{◌≡◌, ℕ, ◌+◌, refl, sym, ◌∙◌, ap, true, false, eqb, List, [], ◌∷◌, ◌++◌, map, length, Option, Some, None, Result, Ok, Err}
-use Rattle.std.specs.Prelude.{◌≢◌, ℤ, option_and_then, slice_get}
+use Rattle.std.specs.Prelude.{◌≢◌, ℤ, pos, ◌≤ℤ◌, option_and_then, slice_get}
 use Rattle.std.specs.List.{list_all}
 use Rattle.std.specs.Option.{option_map}
 use Rattle.std.proofs.lemmas.Bool.{cond-true, cond-false, ne_eqb}
 use Rattle.std.proofs.lemmas.List.{append_assoc}
 use Rattle.bk_code.specs.declared.image.Image.{Image}
 use Rattle.bk_code.specs.declared.image.Parameter.{Parameter}
-use Rattle.bk_code.specs.Numbers.{int_max, IsRange, is_within}
+use Rattle.bk_code.specs.Numbers.{int_max, is_within}
 use Rattle.bk_code.specs.Session.{Request}
 use Rattle.bk_lines.specs.Lines.{is_skipped}
 use Rattle.bk_calls.specs.CallLine.{Argument}
@@ -20,14 +20,14 @@ kept_is : (held : List Argument) (o : Option (List Argument)) → Some held ≡ 
 kept_is held None h = absurd cc
 kept_is held (Some written) h = (written, refl, cc)
 
-pub read_from : (image : Image) (line name inside : List ℕ) (held : List Argument) (op : ℕ) (inputs : List Parameter) → IsRange (int_max image) → Some (name, inside) ≡ call_parts line → Some held ≡ all_kept (arguments_in (pieces inside)) →
+pub read_from : (image : Image) (line name inside : List ℕ) (held : List Argument) (op : ℕ) (inputs : List Parameter) → int_max image ≤ℤ pos 9223372036854775807 → Some (name, inside) ≡ call_parts line → Some held ≡ all_kept (arguments_in (pieces inside)) →
     Some op ≡ named_op image name → inputs ≡ inputs_of (slice_get image.ops op) → (found : Option (List ℤ)) → found ≡ values_of image inputs held → read_line image line ≡ from_values image op found
-read_from image line name inside held op inputs range parts arguments named entry found values =
+read_from image line name inside held op inputs most parts arguments named entry found values =
     let written = kept_is held (arguments_in (pieces inside)) arguments in
     let call : call_of line ≡ Some (name, written.0) = ap (option_and_then with_arguments) (sym parts) ∙ ap (option_map (λ given. (name, given))) written.1 in
     let ins = inputs_of (slice_get image.ops op) in
     let same : values_of image ins (map kept_argument written.0) ≡ found = ap (values_of image ins) written.2 ∙ ap (λ t. values_of image t held) (sym entry) ∙ sym values in
-    ap (from_call image) call ∙ ap (from_op image written.0) (sym named) ∙ sym (kept_values image op ins written.0 range) ∙ ap (from_values image op) same
+    ap (from_call image) call ∙ ap (from_op image written.0) (sym named) ∙ sym (kept_values image op ins written.0 most) ∙ ap (from_values image op) same
 
 pub fits_as : (image : Image) (op : ℕ) (numbers : List ℤ) (request : Request) → request.op ≡ op → request.args ≡ numbers → list_all (is_within (int_max image)) numbers ≡ true → from_values image op (Some numbers) ≡ Ok request
 fits_as image op numbers request same args h =

@@ -1,5 +1,6 @@
 -- How a script is read, line by line and part by part. Only the contracts of private functions name what stands here.
-use Rattle.std.specs.Prelude.{ℕ, ◌+◌, ◌^◌, ◌-◌, min, ℤ, pos, negsuc, neg_ℤ, Bool, true, false, not, ◌&&◌, ◌||◌, ◌==◌, List, [], ◌∷◌, ◌++◌, codes, Option, Some, None, Result, Ok, Err, if◌then◌else◌, position, option_and_then, slice_get}
+use Rattle.std.specs.Prelude.{ℕ, ◌+◌, ◌^◌, ◌-◌, nat_lt, ℤ, pos, negsuc, neg_ℤ, Bool, true, false, not, ◌&&◌, ◌||◌, ◌==◌, List, [], ◌∷◌, ◌++◌, codes, Option, Some, None, Result, Ok, Err, if◌then◌else◌, position, option_and_then, slice_get}
+use Rattle.std.specs.Int.Signed.{mag}
 use Rattle.std.specs.List.{slice_split, list_all}
 use Rattle.std.specs.Option.{option_map}
 use Rattle.std.specs.Str.{bytes_eq, is_utf8, chars}
@@ -115,10 +116,13 @@ pieces_left None = []
 pieces_left (Some text) = slice_split is_comma text
 
 -- ---- numbers of 64 bits
--- a number, or else the nearest one that is kept, the greatest being 2 ^ 63 - 1 and the least its negation
+-- the least number of 64 bits, which lies in no range whose greatest number has 64 bits
+abbrev pub least : ℤ
+least = negsuc (2 ^ 63 - 1)
+
+-- a number of 64 bits, and that least one for each other number
 abbrev pub kept : ℤ → ℤ
-kept (pos n) = pos (min n (2 ^ 63 - 1))
-kept (negsuc n) = neg_ℤ (pos (min (n + 1) (2 ^ 63 - 1)))
+kept n = if nat_lt (mag n) (2 ^ 63) then n else least
 
 -- an argument with its number so
 abbrev pub kept_argument : Argument → Argument

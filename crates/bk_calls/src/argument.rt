@@ -1,5 +1,5 @@
 //! Names and arguments of calls.
-ghost use Rattle.std.specs.Prelude.{◌≡◌, ◌<◌, ◌^◌, ◌-◌, min, pos, IsTrue, IfOk, SomeIff, map};
+ghost use Rattle.std.specs.Prelude.{◌≡◌, ◌<◌, ◌^◌, ℕ, ℤ, pos, neg_ℤ, IsTrue, IfOk, SomeIff, map};
 ghost use Rattle.std.specs.List.{list_all};
 ghost use Rattle.std.specs.Option.{option_map};
 ghost use Rattle.std.specs.Str.{chars};
@@ -12,7 +12,8 @@ use crate::table::WordTable;
 use std::alloc::{AllocError, Global};
 use unicode_ident::{is_xid_continue, is_xid_start};
 
-/// What is written as an argument of a call. A number that has no 64 bits is the greatest or the least that is kept.
+/// What is written as an argument of a call. The least number of 64 bits, which lies in no range, stands for all numbers that
+/// 64 bits do not hold.
 #[derive(Clone, Copy)]
 pub enum Argument<'a> {
     Number(i64),
@@ -67,15 +68,25 @@ fn numeral(digits: &[u8]) -> Option<u64>
     Some(number)
 }
 
-// The number that digits stand for, or the greatest of 64 bits with a sign.
+// The number that digits stand for, or the least of 64 bits where these do not hold it.
 fn bounded_numeral(digits: &[u8]) -> i64
     requires { IsTrue (lexis.is_numeral digits.now) }
-    ensures { result ≡ pos (min (lexis.numeral_from 0 digits.now) (2 ^ 63 - 1)) }
+    ensures { result ≡ reading.kept (pos (lexis.numeral_from 0 digits.now)) }
 {
     match numeral(digits) {
         Some(number) if number < 1 << 63 => number as i64,
-        _ => i64::MAX,
+        _ => i64::MIN,
     }
+}
+
+// The negation of a number from 0, for which the least of 64 bits may stand.
+fn negated(number: i64) -> i64
+    ensures { (n : ℕ) → number ≡ reading.kept (pos n) → result ≡ reading.kept (neg_ℤ (pos n)) }
+{
+    if number == i64::MIN {
+        return number;
+    }
+    -number
 }
 
 fn digits_number(text: &[u8]) -> Option<i64>
@@ -93,7 +104,7 @@ fn whole_number(text: &[u8]) -> Option<i64>
     ensures { result ≡ option_map reading.kept (reading.whole_number text.now) }
 {
     match text.split_first() {
-        Some((b'-', digits)) => Some(-digits_number(digits)?),
+        Some((b'-', digits)) => Some(negated(digits_number(digits)?)),
         _ => digits_number(text),
     }
 }

@@ -3,7 +3,6 @@ ghost use Rattle.std.specs.Prelude.{◌≡◌, ℕ, ◌<◌, ◌≤◌, ◌^◌,
 ghost use Rattle.std.specs.Str.{bytes_eq};
 ghost use Rattle.std.specs.Str.Lines.{lines};
 ghost use Rattle.bk_code.specs.Laws.{IsRequest};
-ghost use Rattle.bk_code.specs.Numbers.{int_max, IsRange};
 ghost use Rattle.bk_code.specs.Session.{Request};
 ghost use Rattle.bk_calls.specs.Reading as reading;
 ghost use Rattle.bk_calls.specs.Script.{Cause, IsScript, IsBadLine, PassesLimit, most_calls, request_of};
@@ -77,7 +76,6 @@ impl<T: Drop> From<AllocFailed<T>> for CallsFault {
 pub fn calls(alloc: Global, text: &[u8], image: &Image) -> Result<Vec<Call>, CallsFault>
     requires few_lines { length (lines text.now) < 2 ^ 32 }
     requires few_operations { length image.now.ops < 2 ^ 32 }
-    requires range { IsRange (int_max image.now) }
     ensures ok { IfOk result (λ calls. IsScript image.now text.now (map request_of calls.items)) }
     ensures requests { IfOk result (λ calls. All (IsRequest image.now) (map request_of calls.items)) }
     ensures few { IfOk result (λ calls. length calls.items ≤ most_calls) }
@@ -96,7 +94,6 @@ pub fn calls(alloc: Global, text: &[u8], image: &Image) -> Result<Vec<Call>, Cal
 fn read_calls(alloc: Global, text: &[u8], image: &Image) -> Result<Vec<Call>, CallsFault>
     requires few_lines { length (lines text.now) < 2 ^ 32 }
     requires few_operations { length image.now.ops < 2 ^ 32 }
-    requires range { IsRange (int_max image.now) }
     ensures ok { IfOk result
         (λ calls. reading.read_lines image.now 0 0 (lines text.now) ≡ Ok (map request_of calls.items)) }
     ensures err { IfErr result (IsFaultOf image.now text.now) }
@@ -128,7 +125,6 @@ fn read_line(
     image: &Image,
 ) -> Result<Call, CallsFault>
     requires few_operations { length image.now.ops < 2 ^ 32 }
-    requires range { IsRange (int_max image.now) }
     ensures ok { IfOk result (λ call. reading.read_line image.now line.now ≡ Ok (request_of call)) }
     ensures err { IfErr result (IsFaultOfLine (reading.read_line image.now line.now) number) }
 {
@@ -136,8 +132,9 @@ fn read_line(
     let arguments = arguments_of(alloc, words, inside)?.ok_or(CallsFault::Line(number))?;
     let op = named_op(image, name).ok_or(CallsFault::NoOperation(number))?;
     let inputs = inputs(image, op);
+    let max = image.int_max();
     let args = values(alloc, image, inputs, &arguments)?.ok_or(CallsFault::Arguments(number))?;
-    if !are_within(image, &args) {
+    if !are_within(max, &args) {
         return Err(CallsFault::Number(number));
     }
     let args = Sequence::from_vec(args);

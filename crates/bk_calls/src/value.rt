@@ -64,17 +64,17 @@ pub fn values(
     Ok(Some(values))
 }
 
-fn is_within(image: &Image, number: i64) -> bool
-    ensures { result ≡ numbers.is_within (numbers.int_max image.now) number }
+fn is_within(max: i64, number: i64) -> bool
+    ensures { result ≡ numbers.is_within max number }
 {
-    let max = i128::from(image.int_max());
+    let max = i128::from(max);
     let number = i128::from(number);
     -max <= number && number <= max
 }
 
-/// Whether numbers lie within the range of an image.
-pub fn are_within(image: &Image, values: &[i64]) -> bool
-    ensures { result ≡ list_all (numbers.is_within (numbers.int_max image.now)) values.now }
+/// Whether numbers lie within the range up to this greatest number.
+pub fn are_within(max: i64, values: &[i64]) -> bool
+    ensures { result ≡ list_all (numbers.is_within max) values.now }
 {
-    values.iter().all(|number| is_within(image, *number))
+    values.iter().all(|number| is_within(max, *number))
 }

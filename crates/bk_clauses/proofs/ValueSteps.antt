@@ -1,12 +1,20 @@
--- The values of constants, one entry after another.
-use Rattle.std.proofs.Common.{◌≡◌, ℕ, refl, ◌∙◌, ap, Bool, true, false}
+-- The values of constants, one entry after another, and the sizes of sets, one set after another.
+use Rattle.std.proofs.Common.{◌≡◌, ℕ, suc, ◌+◌, ◌<◌, ◌≤◌, List, [], ◌∷◌, ◌++◌, length, get_or, drop, refl, ◌∙◌, ap, Bool, true, false, cond, arith}
 use Rattle.std.specs.Prelude.{Option, None, Some, ℤ, ◌&&◌}
 use Rattle.std.specs.Bool.{then_some}
-use Rattle.std.proofs.lemmas.Option.{some_pair_parts}
+use Rattle.std.specs.Option.{option_map_or}
+use Rattle.std.proofs.lemmas.Option.{some_pair_parts, slice_get-get_or}
 use Rattle.bk_form.specs.Formula.{Formula}
+use Rattle.bk_form.specs.Table.{Table, SetEntry, listed_size}
 use Rattle.bk_val.specs.ValueType.{ValueType}
+use Rattle.bk_raw.specs.declared.component.RawValue.{RawValue}
+use Rattle.bk_raw.specs.Names.{Names}
+use Rattle.bk_raw.specs.Blame.{blame, earlier}
+use Rattle.bk_raw.specs.Faults.{Fault, wrong_value}
 use Rattle.bk_raw.specs.Outcome.{whole, hollow, single_of, pair_of, joint_of, Outcome, partial, ranging, holding, silent, ask_value}
 use Rattle.bk_level.specs.LevelOf.{is_value_form, is_of, where_value, value_in}
+use Rattle.bk_level.specs.ValueFaults.{lacks_size, without_size}
+use Rattle.bk_sight.proofs.FaultSteps.{at-item, told-next-at, told-end}
 
 -- ---- a value
 -- a term that is no value of any type has none
@@ -40,3 +48,20 @@ value-kept max t at o f u b k e = kept b ∙ (ap (λ c. where_value c f) k ∙ v
     kept : (c : Bool) → then_some c f ≡ where_value c f
     kept true = refl
     kept false = refl
+
+-- ---- sizes
+-- one set more
+pub size-next : (at : ℕ) (globals : Names) (vs : List RawValue) (table : Table) (n : ℕ) (lacks : Bool) (before now after whole : Option Fault) → n < length table.sets → lacks ≡ lacks_size globals vs n (listed_size table n) →
+    now ≡ blame (cond lacks (wrong_value at ∷ []) []) → after ≡ earlier before now → earlier before (blame (without_size at globals vs n (drop n table.sets))) ≡ whole → earlier after (blame (without_size at globals vs (n + 1) (drop (n + 1) table.sets))) ≡ whole
+size-next at globals vs table n lacks before now after whole h is k f inv =
+    let blank : SetEntry = record { name = []; elements = []; size = 0 } in
+    let s = get_or table.sets n blank in
+    let size : listed_size table n ≡ s.size = ap (λ o. option_map_or (λ (e : SetEntry). e.size) o 0) (slice_get-get_or table.sets n blank h) in
+    let next : suc n ≡ n + 1 = omega arith in
+    let one : List Fault = cond (lacks_size globals vs n s.size) (wrong_value at ∷ []) [] in
+    told-next-at (λ (m : ℕ) (ss : List SetEntry). without_size at globals vs m ss) one table.sets n s before now after whole (ap (λ m. one ++ without_size at globals vs m (drop (n + 1) table.sets)) next) h (at-item table.sets n blank h)
+    (k ∙ ap (λ b. blame (cond b (wrong_value at ∷ []) [])) (is ∙ ap (lacks_size globals vs n) size)) f inv
+
+-- after all of them
+pub size-end : (at : ℕ) (globals : Names) (vs : List RawValue) (sets : List SetEntry) (n : ℕ) (fault whole : Option Fault) → length sets ≤ n → earlier fault (blame (without_size at globals vs n (drop n sets))) ≡ whole → fault ≡ whole
+size-end at globals vs sets n fault whole h inv = told-end (without_size at globals vs n) sets n fault whole refl h inv

@@ -1,14 +1,15 @@
-// The values of constants.
+// The values of constants, and the sizes of deferred sets.
 
 ghost use Rattle.std.specs.Prelude.{◌≡◌, ◌&&◌, ◌++◌, [], not, IfOk, OnOk};
 ghost use Rattle.bk_raw.specs.Blame.{blame};
 ghost use Rattle.bk_elab.specs.Shown.{told};
 ghost use Rattle.bk_elab.specs.Visible.{meaning_of, typing_of, visible_names};
+ghost use Rattle.bk_form.specs.Table.{listed_size};
 ghost use Rattle.bk_gsl.specs.State.{among};
 ghost use Rattle.bk_level.specs.LevelOf as made;
-ghost use Rattle.bk_sight.specs.Shown.{refs, component_shown, plan_shown};
+ghost use Rattle.bk_sight.specs.Shown.{refs, above_shown, component_shown, plan_shown};
 ghost use Rattle.bk_level.specs.SubFaults.{is_again};
-ghost use Rattle.bk_level.specs.Typings.{target, type_named, variable_in, variable_named};
+ghost use Rattle.bk_level.specs.Typings.{set_named, target, type_named, variable_in, variable_named};
 ghost use Rattle.bk_level.specs.ValueFaults as meant;
 
 use bk_dev::Kind;
@@ -16,26 +17,30 @@ use bk_elab::{Fault, Standing, Visible, earlier};
 use bk_form::{Form, Ty, View};
 use bk_io::Memory;
 use bk_raw::RawValue;
+use bk_sight::above::Above;
 use bk_sight::component::Component;
 use bk_sight::faults::{wrong_value_if, wrong_value_unless};
 use bk_sight::plan::Plan;
-use bk_sight::sight::{Target, target_named, variable_of};
+use bk_sight::sight::{Target, set_named, target_named, variable_of};
 use bk_sight::way::Typing;
 
 /// The first fault of an implementation's values.
 pub fn value_fault(
     typing: Typing<'_>,
+    above: Above<'_>,
     component: &Component<'_>,
     plan: &Plan<'_>,
 ) -> Result<Option<Fault>, Memory>
-    ensures { IfOk result (λ fault. told fault ≡ blame (meant.value_faults_of typing.entry.max (typing_of typing.entry.types.now)
-        (plan_shown plan.now) (component_shown component.now))) }
+    ensures { IfOk result (λ fault. told fault ≡ blame (meant.value_faults_of typing.entry.max (above_shown above.entry)
+        (typing_of typing.entry.types.now) (plan_shown plan.now) (component_shown component.now))) }
 {
     if component.kind != Kind::Implementation {
         return Ok(None);
     }
     let entries = entries_fault(typing, &plan.globals, &component.values)?;
-    let missing = missing_value(&plan.globals, component);
+    let values = missing_value(&plan.globals, component);
+    let sizes = missing_size(above, &plan.globals, component);
+    let missing = earlier(values, sizes);
     Ok(earlier(entries, missing))
 }
 
@@ -113,6 +118,53 @@ fn lacks_value(globals: &[Visible<'_>], values: &[&RawValue], name: Visible<'_>)
     match name.meaning {
         Standing::Variable(constant) => !is_valued(globals, values, constant),
         _ => false,
+    }
+}
+
+// That of sets above without a size, at the implementation's name.
+fn missing_size(
+    above: Above<'_>,
+    globals: &[Visible<'_>],
+    component: &Component<'_>,
+) -> Option<Fault>
+    ensures { told result ≡ blame (meant.without_size component.now.name.now.at (visible_names globals.now)
+        (refs component.now.values.items) 0 (above_shown above.entry).table.sets) }
+{
+    let mut fault = None;
+    for set in 0..above.sets() {
+        let is_missing = lacks_size(above, globals, &component.values, set as u32);
+        fault = earlier(fault, wrong_value_if(is_missing, component.name.at));
+    }
+    fault
+}
+
+// Whether a set has no size, and none of these entries is for it.
+fn lacks_size(above: Above<'_>, globals: &[Visible<'_>], values: &[&RawValue], set: u32) -> bool
+    ensures { result ≡ meant.lacks_size (visible_names globals.now) (refs values.now) set
+        (listed_size (above_shown above.entry).table set) }
+{
+    above.size(set) == 0 && !is_entered(globals, values, set)
+}
+
+// Whether one of these entries is for the set.
+fn is_entered(globals: &[Visible<'_>], values: &[&RawValue], set: u32) -> bool
+    ensures { result ≡ meant.is_entered (visible_names globals.now) (refs values.now) set }
+{
+    for entry in values {
+        if is_for(globals, entry, set) {
+            return true;
+        }
+    }
+    false
+}
+
+// Whether an entry is for the set.
+fn is_for(globals: &[Visible<'_>], entry: &RawValue, set: u32) -> bool
+    ensures { result ≡ meant.is_number set (set_named (visible_names globals.now) entry.now.name.text) }
+{
+    match set_named(globals, entry.name.text.as_bytes()) {
+        Some(named) => named == set,
+        None => false,
     }
 }
 

@@ -24,7 +24,7 @@ use Rattle.bk_form.specs.Each.{Each}
 use Rattle.bk_dev.specs.Facts.{is_constant, IsValue, IsLiteral, is_input, is_variable_of, is_inner_of, home_of, names_own, names_joined, is_variable_above, IsLevelOf, IsBodyOf, IsHeadOf, IsLink, IsLawful}
 use Rattle.bk_dev.specs.Hypotheses.{size_equations, value_equation, properties_of, values_at, joining, joinings_of, conditions_of, is_number, in_machine_range, input_ranges, init_hypotheses, unasserted_hypotheses}
 use Rattle.bk_dev.specs.Machine.{HasValues}
-use Rattle.bk_dev.specs.Claims.{arrays_at, beside, Establishes, Answered, KeepsFlat, CarriesFlat, CarriesFromEqual, LastCarriesFromEqual, ValuesMeet}
+use Rattle.bk_dev.specs.Claims.{arrays_at, beside, IsBetweenCalls, Establishes, Answered, KeepsFlat, CarriesFlat, CarriesFromEqual, LastCarriesFromEqual, ValuesMeet}
 use Rattle.bk_dev.specs.Layout.{arrays_of}
 use Rattle.bk_dev.proofs.Levels.{each-at, body-at, level_fact}
 use Rattle.bk_dev.proofs.InTable.{blank_head}
@@ -196,6 +196,9 @@ module _ (find : Finder) (dev : Development) (f : IsLawful dev) (complete : is_c
     invariant-e : holds find dev.table e high.invariant ≡ true
     invariant-e = whole-true find (at_state dev.table e) high.invariant (true-first find (at_state dev.table e) (conjuncts high.invariant) (map equation high.links) (joining-e 0 (within 0 (omega arith))))
 
+    between : IsBetweenCalls find dev e
+    between = record { typed = start.typed; properties = properties-hold 1 e start.typed start.values; invariant = invariant-e }
+
     body-clean : Clean find dev.table (Some (arrays_of dev)) (sub (last dev)) e
     body-clean = at (last dev) refl
       where
@@ -203,7 +206,7 @@ module _ (find : Finder) (dev : Development) (f : IsLawful dev) (complete : is_c
         of_whole k = elim (is_btrue (condition k)) as (λ t. Clean find dev.table (Some (arrays_of dev)) (cond t (sub k) (pre (condition k) (sub k))) e → Clean find dev.table (Some (arrays_of dev)) (sub k) e) [ true ↦ λ h. h | false ↦ λ h. h.1 ]
 
         at : (k : ℕ) → last dev ≡ k → Clean find dev.table (Some (arrays_of dev)) (sub k) e
-        at zero h = subst (λ z. Clean find dev.table z (sub 0) e) (arrays-last 0 h) (keeps.operations o is e start.typed (properties-hold 1 e start.typed start.values) invariant-e start.condition).clean
+        at zero h = subst (λ z. Clean find dev.table z (sub 0) e) (arrays-last 0 h) (keeps.operations o is e between start.condition).clean
         at (suc k) h =
             let below : suc k ≤ last dev = omega (arith, h) in
             of_whole (suc k) (subst (λ z. Clean find dev.table z (whole (body_at dev (suc k) o)) e) (arrays-last (suc k) h) ((carries k below).operations o is e start.typed (hyps k below (conditions-hold k (omega arith)) e start.typed (λ n q. refl)) (outputs-equal k below e (λ n q. refl))).clean)
@@ -215,7 +218,7 @@ module _ (find : Finder) (dev : Development) (f : IsLawful dev) (complete : is_c
         of_whole k = elim (is_btrue (condition k)) as (λ t. Ends find dev.table (cond t (sub k) (pre (condition k) (sub k))) e → Ends find dev.table (sub k) e) [ true ↦ λ h. h | false ↦ λ h. h.1 ]
 
         at : (k : ℕ) → last dev ≡ k → Ends find dev.table (sub k) e
-        at zero h = (keeps.operations o is e start.typed (properties-hold 1 e start.typed start.values) invariant-e start.condition).ends
+        at zero h = (keeps.operations o is e between start.condition).ends
         at (suc k) h =
             let below : suc k ≤ last dev = omega (arith, h) in
             of_whole (suc k) ((carries k below).operations o is e start.typed (hyps k below (conditions-hold k (omega arith)) e start.typed (λ n q. refl)) (outputs-equal k below e (λ n q. refl))).ends
@@ -235,7 +238,7 @@ module _ (find : Finder) (dev : Development) (f : IsLawful dev) (complete : is_c
       invariant-before = holds-same find dev.table c.before e (names_joined dev 0) high.invariant (level_fact dev f 0 (within 0 (omega arith))).invariant.names (λ n h. c.same n (joined-before dev 1 0 (omega arith) n h)) ∙ invariant-e
 
       invariant-after : holds find dev.table c.after high.invariant ≡ true
-      invariant-after = (keeps.operations o is c.before c.typed (properties-hold 1 c.before c.typed values-before) invariant-before condition-before).results c.after c.runs
+      invariant-after = (keeps.operations o is c.before (record { typed = c.typed; properties = properties-hold 1 c.before c.typed values-before; invariant = invariant-before }) condition-before).results c.after c.runs
 
       joined : (j : ℕ) → j < length dev.levels → AllHold find (at_state dev.table c.after) (joining (level_at dev j))
       joined zero h =

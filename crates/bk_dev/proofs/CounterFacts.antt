@@ -13,6 +13,7 @@ use Rattle.bk_dev.specs.Development.{Body, level_at, body_at}
 use Rattle.bk_gsl.specs.Typed.{IsTerm}
 use Rattle.bk_dev.specs.Facts.{AllAlike, is_constant, is_variable_of, is_inner_of, home_of, Names, names_constants, names_joined, names_own, writes_own, IsSubOf, IsBodyOf, IsLevelOf, IsHeadOf, IsDevelopment, IsLawful}
 use Rattle.bk_dev.specs.Counter.{reset_name, setmax_name, get_name, counter_table, setting, counter}
+use Rattle.bk_dev.proofs.Extents.{two-extents}
 use Rattle.bk_dev.proofs.HomesThere.{homes-stand}
 use Rattle.bk_dev.proofs.Levels.{two-levels}
 use Rattle.bk_dev.proofs.DefaultRange.{default_range}
@@ -158,4 +159,5 @@ counter_facts = record {
   room = omega (arith);
   few_sets = omega (arith);
   homes_there = homes-stand 2 counter.homes refl;
+  extents = two-extents counter 0 3 refl refl (omega (arith)) (omega (arith));
 }

@@ -1,11 +1,12 @@
 -- Developments whose sets get sizes.
-use Rattle.std.proofs.Common.{◌≡◌, ℕ, zero, suc, ◌<◌, ◌≤◌, ◌^◌, ◌+◌, pos, List, [], ◌∷◌, ◌++◌, length, refl, sym, ◌∙◌, ap, subst, true, false, Bool, arith}
+use Rattle.std.proofs.Common.{◌≡◌, inl, inr, All, ℕ, zero, suc, ◌<◌, ◌≤◌, ◌^◌, ◌+◌, pos, List, [], ◌∷◌, ◌++◌, length, refl, sym, ◌∙◌, ap, subst, true, false, Bool, arith}
 use Rattle.std.specs.Prelude.{Option, Some, slice_get}
 use Rattle.std.specs.Option.{option_map_or}
+use Rattle.std.proofs.lemmas.List.Elements.{All-nil, All-cons, All-head, All-tail}
 use Rattle.bk_val.specs.Value.{int}
 use Rattle.bk_val.specs.ValueType.{ValueType}
 use Rattle.bk_val.specs.CmpLaws.{value_eq-self}
-use Rattle.bk_form.specs.Table.{Table, SetEntry, at_least_one, set_size}
+use Rattle.bk_form.specs.Table.{Table, SetEntry, at_least_one, set_size, IsCounted}
 use Rattle.bk_form.specs.Formula.{Formula, named, unary, literal}
 use Rattle.bk_form.specs.Search.{Finder}
 use Rattle.bk_form.specs.Environment.{Environment}
@@ -15,7 +16,7 @@ use Rattle.bk_form.specs.Operators.{is_equal}
 use Rattle.bk_form.specs.Each.{Each}
 use Rattle.bk_form.specs.Predicates.{IsPredicate, AllHold}
 use Rattle.bk_form.specs.Wider.{IsTypedRole}
-use Rattle.bk_form.specs.Sized.{sized_from, with_sizes, AreSizes}
+use Rattle.bk_form.specs.Sized.{sized_from, with_sizes, AreSizes, HasSizes}
 use Rattle.bk_form.specs.declared.operator.UnOp.TheVariants.{Card}
 use Rattle.bk_form.specs.declared.operator.Domain.TheVariants.{Enum}
 use Rattle.bk_form.proofs.Sizing.{role-sized, sized-length, well-sized, sized-whole, sizes_fit, sets_are_counted}
@@ -151,18 +152,38 @@ module _ (sizes : ℕ → ℕ) (dev : Development) where
     room = d.room;
     few_sets = subst (λ n. n ≤ 2 ^ 32) (sym (sized-length sizes 0 dev.table.sets)) d.few_sets;
     homes_there = d.homes_there;
+    extents = record {
+      one_each = d.extents.one_each;
+      whole = d.extents.whole ∙ ap (λ (n : ℕ). (n, length dev.table.variables)) (sym (sized-length sizes 0 dev.table.sets));
+      sets = d.extents.sets;
+      variables = d.extents.variables;
+    };
   }
 
-  pub development-whole : IsDevelopment dev → is_complete dev ≡ true → sized ≡ dev
-  development-whole d c =
-      let same = sized-whole sizes 0 dev.sets (d.sizes c) in
+  pub development-whole : IsDevelopment dev → HasSizes dev.sets → sized ≡ dev
+  development-whole d each =
+      let same = sized-whole sizes 0 dev.sets each in
       let too : sized_from sizes 0 dev.table.sets ≡ dev.table.sets = subst (λ ss. sized_from sizes 0 ss ≡ ss) d.lawful.sets same in
       λ i. record dev { table = record dev.table { sets = too i }; sets = same i }
+
+-- a set with written elements has as many
+written-has : (s : SetEntry) → IsCounted s → 0 < length s.elements → 0 < s.size
+written-has s (inl none) h = let no : 0 < 0 = subst (λ es. 0 < length es) none h in absurd (omega arith)
+written-has s (inr same) h = subst (λ n. 0 < n) (sym same) h
+
+written-have : (ss : List SetEntry) → All IsCounted ss → All (λ s. 0 < length s.elements) ss → HasSizes ss
+written-have [] counted h = All-nil (λ (s : SetEntry). 0 < s.size)
+written-have (s ∷ ss) counted h =
+    let first = written-has s (All-head IsCounted s ss counted) (All-head (λ (s : SetEntry). 0 < length s.elements) s ss h) in
+    let rest = written-have ss (All-tail IsCounted s ss counted) (All-tail (λ (s : SetEntry). 0 < length s.elements) s ss h) in
+    All-cons (λ (s : SetEntry). 0 < s.size) s ss first rest
 
 pub sizes_keep_developments : SizesKeepDevelopments
 sizes_keep_developments = record {
   development = λ sizes p dev d. development-sized sizes dev p d;
   whole = development-whole;
+  complete = λ dev d c. d.sizes c;
+  written = λ dev d h. written-have dev.sets (subst (All IsCounted) (sym d.lawful.sets) d.lawful.table.counted) h;
   flat = λ sizes dev. refl;
 }
 

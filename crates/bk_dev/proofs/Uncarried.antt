@@ -22,6 +22,7 @@ use Rattle.bk_dev.proofs.CounterFacts.{names-none, names-number, names-one, firs
 use Rattle.bk_dev.specs.Claims.{Carries, Answered}
 use Rattle.bk_dev.specs.Uncarried.{turning, is_five, eager, one_after_the_other}
 use Rattle.bk_dev.specs.Laws.{AreNotCarried}
+use Rattle.bk_dev.proofs.Extents.{two-extents}
 use Rattle.bk_dev.proofs.HomesThere.{homes-stand}
 use Rattle.bk_dev.proofs.Levels.{two-levels}
 use Rattle.bk_dev.proofs.DefaultRange.{default_range}
@@ -110,6 +111,7 @@ module _ (above below : Substitution) where
     room = room;
     few_sets = omega (arith);
     homes_there = homes-stand 2 (turning above below).homes refl;
+    extents = two-extents (turning above below) 0 3 refl refl (omega (arith)) (omega (arith));
   }
 
 names-five : (visible : ℕ → Bool) (k : ℕ) → visible k ≡ true → Names visible (is_five k)

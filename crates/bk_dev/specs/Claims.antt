@@ -26,13 +26,20 @@ pub record Establishes (find : Finder) (dev : Development) (k : ℕ) (s : Substi
   pub clean : Clean find dev.table (arrays_at dev k) s e
   pub results : (f : State) → Runs find dev.table s e f → P f
 
+-- a state between calls of the machine's operations
+pub record IsBetweenCalls (find : Finder) (dev : Development) (e : State) : Type 0 where
+  pub typed : IsTypedState dev.table e
+  pub properties : AllHold find (at_state dev.table e) (properties_of dev 1)
+  pub invariant : holds find dev.table e (level_at dev 0).invariant ≡ true
+
 -- of a development whose substitutions are flat
 pub record KeepsFlat (find : Finder) (dev : Development) : Type 0 where
   pub init : (e : State) → IsTypedState dev.table e → AllHold find (at_state dev.table e) (init_hypotheses dev 0) →
       Establishes find dev 0 (level_at dev 0).init e (λ f. holds find dev.table f (level_at dev 0).invariant ≡ true)
-  pub conditions : (o : ℕ) → o < length dev.heads → (e : State) → IsTypedState dev.table e → AllHold find (at_state dev.table e) (properties_of dev 1) → holds find dev.table e (level_at dev 0).invariant ≡ true →
+  pub conditions : (o : ℕ) → o < length dev.heads → (e : State) → IsBetweenCalls find dev e →
       Defined find (at_state dev.table e) (body_at dev 0 o).condition
-  pub operations : (o : ℕ) → o < length dev.heads → (e : State) → IsTypedState dev.table e → AllHold find (at_state dev.table e) (properties_of dev 1) → holds find dev.table e (level_at dev 0).invariant ≡ true → holds find dev.table e (body_at dev 0 o).condition ≡ true →
+  pub operations : (o : ℕ) → o < length dev.heads → (e : State) → IsBetweenCalls find dev e →
+      holds find dev.table e (body_at dev 0 o).condition ≡ true →
       Establishes find dev 0 (body_at dev 0 o).sub e (λ f. holds find dev.table f (level_at dev 0).invariant ≡ true)
 
 -- the machine's initialisation and operations keep its invariant
@@ -56,10 +63,13 @@ Answered find dev k upper outputs above f = (g : State) × Runs find dev.table u
 pub record CarriesFlat (find : Finder) (dev : Development) (j : ℕ) : Type 0 where
   pub init : (e : State) → IsTypedState dev.table e → AllHold find (at_state dev.table e) (init_hypotheses dev (suc j)) →
       Establishes find dev (suc j) (level_at dev (suc j)).init e (Answered find dev (suc j) (level_at dev j).init [] [])
-  pub operations : (o : ℕ) → o < length dev.heads → (e : State) → IsTypedState dev.table e → AllHold find (at_state dev.table e) (unasserted_hypotheses dev (suc j) o) →
-      Establishes find dev (suc j) (whole (body_at dev (suc j) o)) e (Answered find dev (suc j) (body_at dev j o).sub (body_at dev (suc j) o).outputs (body_at dev j o).outputs)
+  pub operations : (o : ℕ) → o < length dev.heads → (e : State) → IsTypedState dev.table e →
+      AllHold find (at_state dev.table e) (unasserted_hypotheses dev (suc j) o) →
+      Establishes find dev (suc j) (whole (body_at dev (suc j) o)) e
+      (Answered find dev (suc j) (body_at dev j o).sub (body_at dev (suc j) o).outputs (body_at dev j o).outputs)
 
--- level suc j carries level j: each of its whole bodies ends, is clean, and from each of its results the body above has one in which the levels join
+-- level suc j carries level j: each of its whole bodies ends, is clean, and from each of its results the body above has one in which the
+-- levels join
 abbrev pub Carries : Finder → Development → ℕ → Type 0
 Carries find dev j = CarriesFlat find (flattened dev) j
 
@@ -84,4 +94,5 @@ pub record LastCarriesFromEqual (find : Finder) (dev : Development) : Type 0 whe
 -- ---- values
 -- the constants' values meet all properties
 abbrev pub ValuesMeet : Finder → Development → Type 0
-ValuesMeet find dev = (e : State) → IsTypedState dev.table e → HasValues find dev e → AllHold find (at_state dev.table e) (properties_of dev (length dev.levels))
+ValuesMeet find dev = (e : State) → IsTypedState dev.table e → HasValues find dev e →
+    AllHold find (at_state dev.table e) (properties_of dev (length dev.levels))

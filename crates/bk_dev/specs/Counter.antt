@@ -53,7 +53,11 @@ counter_level condition name kind n r links = record {
   links = links;
   assertions = [];
   init = assign ((n, literal (pos 0)) ∷ []);
-  bodies = setting btrue n (literal (pos 0)) ∷ setting condition n (literal (pos 10)) ∷ record { condition = btrue; sub = assign ((r, variable n) ∷ []); outputs = r ∷ [] } ∷ [];
+  bodies =
+      setting btrue n (literal (pos 0))
+      ∷ setting condition n (literal (pos 10))
+      ∷ record { condition = btrue; sub = assign ((r, variable n) ∷ []); outputs = r ∷ [] }
+      ∷ [];
 }
 
 -- the counter whose setmax has this precondition
@@ -63,10 +67,17 @@ counter_with condition = record {
   table = counter_table;
   homes = Abstract 0 ∷ Concrete 1 ∷ Inner 0 ∷ Inner 1 ∷ [];
   sets = [];
-  heads = record { name = reset_name; inputs = []; outputs = 0 } ∷ record { name = setmax_name; inputs = []; outputs = 0 } ∷ record { name = get_name; inputs = []; outputs = 1 } ∷ [];
-  levels = counter_level condition machine_name Machine 0 2 [] ∷ counter_level btrue implementation_name Implementation 1 3 ((1, 0) ∷ []) ∷ [];
+  heads =
+      record { name = reset_name; inputs = []; outputs = 0 }
+      ∷ record { name = setmax_name; inputs = []; outputs = 0 }
+      ∷ record { name = get_name; inputs = []; outputs = 1 }
+      ∷ [];
+  levels =
+      counter_level condition machine_name Machine 0 2 []
+      ∷ counter_level btrue implementation_name Implementation 1 3 ((1, 0) ∷ [])
+      ∷ [];
   values = [];
-  extents = [];
+  extents = (0, 3) ∷ (0, 4) ∷ [];
 }
 
 -- the counter whose setmax may always be called

@@ -49,7 +49,7 @@ pub record Development : Type 0 where
   pub levels : List Level
   -- the constants' values, in the order of the VALUES clause
   pub values : List (ℕ × Formula)
-  -- of each level, how many sets, and how many variables of the table, there are with it and the levels above
+  -- of each level, how many of the table's sets, from the first on, are of it and of the levels above, and how many of its variables
   pub extents : List (ℕ × ℕ)
 
 -- MAXINT; MININT is its negation
@@ -71,13 +71,24 @@ blank_body = record { condition = btrue; sub = skip; outputs = [] }
 
 -- what stands for a component that is not there: one that states nothing and does nothing
 abbrev pub blank_level : Level
-blank_level = record { name = []; kind = Refinement; vars = []; properties = btrue; invariant = btrue; links = []; assertions = []; init = skip; bodies = [] }
+blank_level = record {
+  name = [];
+  kind = Refinement;
+  vars = [];
+  properties = btrue;
+  invariant = btrue;
+  links = [];
+  assertions = [];
+  init = skip;
+  bodies = [];
+}
 
 -- the level of this number, 0 being the machine's
 abbrev pub level_at : Development → ℕ → Level
 level_at dev k = slice_index_or dev.levels k blank_level
 
--- how many sets, and how many variables of the table, there are with level k and those above it; none where there is no such level
+-- how many of the table's sets and of its variables, from the first on, are of level k and of those above it; none where there is no such
+-- level
 abbrev pub extent_at : Development → ℕ → ℕ × ℕ
 extent_at dev k = slice_index_or dev.extents k (0, 0)
 

@@ -47,19 +47,43 @@ home_of_numbers (suc (suc (suc (suc n))), k) = Inner k
 
 -- a home is told by its numbers
 abbrev pub coded_home : Coded Home
-coded_home = code_by (ℕ × ℕ) (coded× coded_ℕ coded_ℕ) home_numbers home_of_numbers (elim [ Constant ↦ refl | Input ↦ refl | Abstract k ↦ refl | Concrete k ↦ refl | Inner k ↦ refl ])
+coded_home =
+    code_by (ℕ × ℕ) (coded× coded_ℕ coded_ℕ) home_numbers home_of_numbers
+    (elim [ Constant ↦ refl | Input ↦ refl | Abstract k ↦ refl | Concrete k ↦ refl | Inner k ↦ refl ])
 
 -- a header is told by its name, its inputs and how many outputs it has
 abbrev pub coded_head : Coded Head
-coded_head = code_by (List ℕ × (List ℕ × ℕ)) (coded× (coded_list coded_ℕ) (coded× (coded_list coded_ℕ) coded_ℕ)) (λ h. (h.name, (h.inputs, h.outputs))) (λ p. record { name = p.0; inputs = p.1.0; outputs = p.1.1 }) (λ _. refl)
+coded_head =
+    code_by (List ℕ × (List ℕ × ℕ)) (coded× (coded_list coded_ℕ) (coded× (coded_list coded_ℕ) coded_ℕ))
+    (λ h. (h.name, (h.inputs, h.outputs))) (λ p. record { name = p.0; inputs = p.1.0; outputs = p.1.1 }) (λ _. refl)
 
 -- an operation at one level is told by its precondition, the rest and its outputs
 abbrev pub coded_body : Coded Body
-coded_body = code_by (Formula × (Substitution × List ℕ)) (coded× coded_formula (coded× coded_substitution (coded_list coded_ℕ))) (λ b. (b.condition, (b.sub, b.outputs))) (λ p. record { condition = p.0; sub = p.1.0; outputs = p.1.1 }) (λ _. refl)
+coded_body =
+    code_by (Formula × (Substitution × List ℕ)) (coded× coded_formula (coded× coded_substitution (coded_list coded_ℕ)))
+    (λ b. (b.condition, (b.sub, b.outputs))) (λ p. record { condition = p.0; sub = p.1.0; outputs = p.1.1 }) (λ _. refl)
 
 -- a level's name, kind, variables and links, and what it states and does
 abbrev pub coded_level : Coded Level
-coded_level = code_by ((List ℕ × (Kind × (List ℕ × List (ℕ × ℕ)))) × (Formula × (Formula × (List Formula × (Substitution × List Body))))) (coded× (coded× (coded_list coded_ℕ) (coded× coded_kind (coded× (coded_list coded_ℕ) (coded_list (coded× coded_ℕ coded_ℕ))))) (coded× coded_formula (coded× coded_formula (coded× (coded_list coded_formula) (coded× coded_substitution (coded_list coded_body)))))) (λ l. ((l.name, (l.kind, (l.vars, l.links))), (l.properties, (l.invariant, (l.assertions, (l.init, l.bodies)))))) (λ p. record { name = p.0.0; kind = p.0.1.0; vars = p.0.1.1.0; links = p.0.1.1.1; properties = p.1.0; invariant = p.1.1.0; assertions = p.1.1.1.0; init = p.1.1.1.1.0; bodies = p.1.1.1.1.1 }) (λ _. refl)
+coded_level =
+    code_by
+    ((List ℕ × (Kind × (List ℕ × List (ℕ × ℕ)))) × (Formula × (Formula × (List Formula × (Substitution × List Body)))))
+    (coded×
+    (coded× (coded_list coded_ℕ) (coded× coded_kind (coded× (coded_list coded_ℕ) (coded_list (coded× coded_ℕ coded_ℕ)))))
+    (coded× coded_formula (coded× coded_formula (coded× (coded_list coded_formula) (coded× coded_substitution (coded_list coded_body))))))
+    (λ l. ((l.name, (l.kind, (l.vars, l.links))), (l.properties, (l.invariant, (l.assertions, (l.init, l.bodies))))))
+    (λ p. record {
+      name = p.0.0;
+      kind = p.0.1.0;
+      vars = p.0.1.1.0;
+      links = p.0.1.1.1;
+      properties = p.1.0;
+      invariant = p.1.1.0;
+      assertions = p.1.1.1.0;
+      init = p.1.1.1.1.0;
+      bodies = p.1.1.1.1.1;
+    })
+    (λ _. refl)
 
 -- a development is told by its MAXINT, table, homes, sets, headers, levels, the constants' values and the levels' extents
 abbrev pub coded_development : Coded Development

@@ -19,6 +19,7 @@ use Rattle.bk_dev.specs.Development.{Head, Body, Level, Development, int_max, Is
 use Rattle.bk_form.specs.Each.{Each}
 use Rattle.bk_gsl.specs.Flat.{IsFlat}
 use Rattle.bk_dev.specs.Flattened.{flattened}
+use Rattle.bk_dev.specs.Extents.{HasItsExtents}
 
 -- ---- homes
 -- the home of a constant
@@ -76,7 +77,8 @@ pub record Names (visible : ℕ → Bool) (f : Formula) : Type 0 where
 -- different variables that may be written, each with a term that may stand there
 abbrev pub AssignsIn : (ℕ → Bool) → (ℕ → Bool) → List (ℕ × Formula) → Type 0
 AssignsIn visible writable [] = Unit {0}
-AssignsIn visible writable (p ∷ ps) = (writable p.0 ≡ true) × Names visible p.1 × (among (firsts ps) p.0 ≡ false) × AssignsIn visible writable ps
+AssignsIn visible writable (p ∷ ps) =
+    (writable p.0 ≡ true) × Names visible p.1 × (among (firsts ps) p.0 ≡ false) × AssignsIn visible writable ps
 
 -- the second of each pair: the numbers that stand for old values in x :(P)
 abbrev pub seconds : List (ℕ × ℕ) → List ℕ
@@ -97,12 +99,17 @@ StaysIn visible above writable (pre p s) = Names visible p × StaysIn visible ab
 StaysIn visible above writable (guard p s) = Names visible p × StaysIn visible above writable s
 StaysIn visible above writable (choice s t) = StaysIn visible above writable s × StaysIn visible above writable t
 StaysIn visible above writable (if_else p s t) = Names visible p × StaysIn visible above writable s × StaysIn visible above writable t
-StaysIn visible above writable (any zs s) = AreNew visible zs × AreDistinct zs × StaysIn (λ n. among zs n || visible n) above (λ n. among zs n || writable n) s
+StaysIn visible above writable (any zs s) =
+    AreNew visible zs × AreDistinct zs × StaysIn (λ n. among zs n || visible n) above (λ n. among zs n || writable n) s
 StaysIn visible above writable (seq s t) = StaysIn visible above writable s × StaysIn visible above writable t
-StaysIn visible above writable (par s t) = StaysIn visible above writable s × StaysIn visible above writable t × AllAre (λ n. not (among (written t) n)) (written s)
+StaysIn visible above writable (par s t) =
+    StaysIn visible above writable s × StaysIn visible above writable t × AllAre (λ n. not (among (written t) n)) (written s)
 StaysIn visible above writable (assert p s) = Names visible p × StaysIn visible above writable s
-StaysIn visible above writable (becomes_such xs p) = AllAre writable (firsts xs) × AreDistinct (firsts xs) × AreNew visible (seconds xs) × AreDistinct (seconds xs) × Names (λ n. among (seconds xs) n || visible n) p
-StaysIn visible above writable (loop p s i v) = Names visible p × StaysIn visible above writable s × Names (λ n. above n || visible n) i × Names (λ n. above n || visible n) v
+StaysIn visible above writable (becomes_such xs p) =
+    AllAre writable (firsts xs) × AreDistinct (firsts xs) × AreNew visible (seconds xs) × AreDistinct (seconds xs)
+    × Names (λ n. among (seconds xs) n || visible n) p
+StaysIn visible above writable (loop p s i v) =
+    Names visible p × StaysIn visible above writable s × Names (λ n. above n || visible n) i × Names (λ n. above n || visible n) v
 
 -- the variables that it binds
 abbrev pub binders : Substitution → List ℕ
@@ -285,7 +292,8 @@ pub record IsValue (dev : Development) (p : ℕ × Formula) : Type 0 where
 
 -- where there is an implementation each constant has one value, and else none
 abbrev pub HasItsValues : Development → Bool → Type 0
-HasItsValues dev true = AreDistinct (firsts dev.values) × ((n : ℕ) → is_constant (home_of dev n) ≡ true → among (firsts dev.values) n ≡ true)
+HasItsValues dev true =
+    AreDistinct (firsts dev.values) × ((n : ℕ) → is_constant (home_of dev n) ≡ true → among (firsts dev.values) n ≡ true)
 HasItsValues dev false = dev.values ≡ []
 
 -- every variable that is bound, everywhere in the development
@@ -343,3 +351,4 @@ pub record IsDevelopment (dev : Development) : Type 0 where
   -- and all its sets
   pub few_sets : length dev.table.sets ≤ 2 ^ 32
   pub homes_there : HomesAreThere dev
+  pub extents : HasItsExtents dev

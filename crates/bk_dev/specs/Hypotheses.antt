@@ -67,7 +67,9 @@ in_machine_range dev x = binary In (variable x) (binary Range (literal (pos 0 -�
 
 -- the integer inputs of an operation at an implementation are numbers of the machine
 abbrev pub input_ranges : Development → ℕ → ℕ → List Formula
-input_ranges dev k o = cond (is_implementation (level_at dev k)) (map (in_machine_range dev) (filter (λ x. is_number (variable_type dev.table x)) (inputs_of dev o))) []
+input_ranges dev k o =
+    cond (is_implementation (level_at dev k))
+    (map (in_machine_range dev) (filter (λ x. is_number (variable_type dev.table x)) (inputs_of dev o))) []
 
 -- ---- the hypotheses, by the obligation's row
 -- of the definedness of a level's properties

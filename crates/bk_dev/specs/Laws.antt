@@ -1,5 +1,5 @@
 -- What holds of developments, and what a small machine reaches, as statements.
-use Rattle.std.specs.Prelude.{◌≡◌, ◌↔◌, pos, true, List, [], ◌∷◌, ◌<◌, ◌≤◌, ℕ, suc, length}
+use Rattle.std.specs.Prelude.{◌≡◌, ◌↔◌, pos, true, List, [], ◌∷◌, ◌<◌, ◌≤◌, ℕ, suc, length, All}
 use Rattle.bk_val.specs.Value.{MathValue, int}
 use Rattle.bk_form.specs.Search.{Finder}
 use Rattle.bk_dev.specs.Facts.{IsDevelopment, IsFlatDevelopment, IsLawful, LastIsFlat, OnlyLastIsImplementation}
@@ -9,7 +9,7 @@ use Rattle.bk_dev.specs.Development.{Development, body_at, level_at, last, is_co
 use Rattle.bk_dev.specs.Hypotheses.{size_equations}
 use Rattle.bk_form.specs.Predicates.{AllHold}
 use Rattle.bk_form.specs.Environment.{Environment}
-use Rattle.bk_form.specs.Sized.{AreSizes}
+use Rattle.bk_form.specs.Sized.{AreSizes, HasSizes}
 use Rattle.bk_gsl.specs.Run.{Runs}
 use Rattle.bk_form.specs.Environment.{State}
 use Rattle.bk_dev.specs.B0.{IsB0Development}
@@ -29,7 +29,8 @@ ReachesTen = (find : Finder) (a : Abstract) → Reach find counter (setmax ∷ [
 
 -- get then answers 10, and nothing else
 abbrev pub AnswersTen : Type 0
-AnswersTen = (find : Finder) (us : List MathValue) → ((a : Abstract) × Reach find counter (setmax ∷ get ∷ []) ([] ∷ us ∷ []) a) ↔ (us ≡ int (pos 10) ∷ [])
+AnswersTen = (find : Finder) (us : List MathValue) →
+    ((a : Abstract) × Reach find counter (setmax ∷ get ∷ []) ([] ∷ us ∷ []) a) ↔ (us ≡ int (pos 10) ∷ [])
 
 -- setmax is legal where it has no precondition, and not where its precondition is never true
 pub record LegalWhere : Type 0 where
@@ -55,9 +56,11 @@ pub record FlattenedRuns : Type 0 where
 
 -- where no || stands in the last level, flattening leaves it as it was, with its arrays and its cells
 pub record FlattenedKeepsCells : Type 0 where
-  pub level : (dev : Development) → IsLawful dev → LastIsFlat dev → level_at (flattened dev) (last (flattened dev)) ≡ level_at dev (last dev)
+  pub level : (dev : Development) → IsLawful dev → LastIsFlat dev →
+      level_at (flattened dev) (last (flattened dev)) ≡ level_at dev (last dev)
   pub arrays : (dev : Development) → IsLawful dev → LastIsFlat dev → arrays_of (flattened dev) ≡ arrays_of dev
-  pub cells : (dev : Development) → IsLawful dev → LastIsFlat dev → (x : ℕ) → (cell_of (flattened dev) x ≡ cell_of dev x) × (cells_of (flattened dev) x ≡ cells_of dev x)
+  pub cells : (dev : Development) → IsLawful dev → LastIsFlat dev → (x : ℕ) →
+      (cell_of (flattened dev) x ≡ cell_of dev x) × (cells_of (flattened dev) x ≡ cells_of dev x)
   pub count : (dev : Development) → IsLawful dev → LastIsFlat dev → cell_count (flattened dev) ≡ cell_count dev
 
 -- a development in B0 is in B0 after flattening
@@ -88,11 +91,15 @@ OpeningsClimb = (find : Finder) (dev : Development) → IsKept find dev → ((j 
 pub record SizesKeepDevelopments : Type 0 where
   -- a development with any sizes is one
   pub development : (sizes : ℕ → ℕ) → AreSizes sizes → (dev : Development) → IsDevelopment dev → IsDevelopment (with_set_sizes sizes dev)
-  -- where there is an implementation there is one choice of sizes
-  pub whole : (sizes : ℕ → ℕ) (dev : Development) → IsDevelopment dev → is_complete dev ≡ true → with_set_sizes sizes dev ≡ dev
+  -- where each set has a size there is one choice of sizes
+  pub whole : (sizes : ℕ → ℕ) (dev : Development) → IsDevelopment dev → HasSizes dev.sets → with_set_sizes sizes dev ≡ dev
+  -- each set has a size where there is an implementation, and where the elements of each are written
+  pub complete : (dev : Development) → IsDevelopment dev → is_complete dev ≡ true → HasSizes dev.sets
+  pub written : (dev : Development) → IsDevelopment dev → All (λ s. 0 < length s.elements) dev.sets → HasSizes dev.sets
   -- flattening makes no difference
   pub flat : (sizes : ℕ → ℕ) (dev : Development) → flattened (with_set_sizes sizes dev) ≡ with_set_sizes sizes (flattened dev)
 
 -- what is said of the sizes is true
 abbrev pub SizesHold : Type 0
-SizesHold = (find : Finder) (dev : Development) → dev.sets ≡ dev.table.sets → (e : Environment) → e.table ≡ dev.table → AllHold find e (size_equations dev)
+SizesHold = (find : Finder) (dev : Development) → dev.sets ≡ dev.table.sets → (e : Environment) → e.table ≡ dev.table →
+    AllHold find e (size_equations dev)

@@ -65,7 +65,9 @@ is_typing typeless p = list_all (λ n. not (occurs n (right_side p))) typeless &
 -- the first conjunct that gives the variable a type says what it is; each such conjunct gives its variable a type for those after it
 abbrev pub first_clue : ℕ → List ℕ → List Formula → Clue
 first_clue x typeless [] = silent
-first_clue x typeless (p ∷ ps) = cond (is_typing typeless p) (or_next (clue_of x p) (first_clue x (filter (λ n. not (among (spoken_of p) n)) typeless) ps)) (first_clue x typeless ps)
+first_clue x typeless (p ∷ ps) =
+    cond (is_typing typeless p) (or_next (clue_of x p) (first_clue x (filter (λ n. not (among (spoken_of p) n)) typeless) ps))
+    (first_clue x typeless ps)
 
 -- the level's variables that have no type from above
 abbrev pub untyped : Level → List ℕ
@@ -127,7 +129,8 @@ array_row x None = None
 
 -- f : a..b --> D, f : BOOL --> D or f : S --> D, with scalars in D
 abbrev pub row_by : Development → ℕ → Clue → Option ArrayRow
-row_by dev x (in_domain (binary TotalFunctions d e)) = cond (has_scalars (variable_type dev.table x)) (array_row x (indices_of (int_max dev) dev.values d)) None
+row_by dev x (in_domain (binary TotalFunctions d e)) =
+    cond (has_scalars (variable_type dev.table x)) (array_row x (indices_of (int_max dev) dev.values d)) None
 row_by dev x _ = None
 
 -- the levels from the last to the first, in front of those that are done
@@ -137,7 +140,10 @@ reversed (l ∷ ls) done = reversed ls (l ∷ done)
 
 -- the arrays among the last level's variables, in their order
 abbrev pub arrays_of : Development → ArrayTable
-arrays_of dev = record { max = int_max dev; rows = filter_map (λ x. row_by dev x (typing_clue (Some x) (reversed dev.levels []))) (level_at dev (last dev)).vars }
+arrays_of dev = record {
+  max = int_max dev;
+  rows = filter_map (λ x. row_by dev x (typing_clue (Some x) (reversed dev.levels []))) (level_at dev (last dev)).vars;
+}
 
 -- ---- cells
 -- how many indices a domain has
@@ -173,7 +179,8 @@ abbrev pub operation_variables : List Head → List Body → List ℕ
 operation_variables (h ∷ hs) (b ∷ bs) = h.inputs ++ b.outputs ++ locals b.sub ++ operation_variables hs bs
 operation_variables _ _ = []
 
--- the variables with cells, in the cells' order: the last level's, the initialisation's locals, and for each operation its inputs, outputs and locals
+-- the variables with cells, in the cells' order: the last level's, the initialisation's locals, and for each operation its inputs, outputs
+-- and locals
 abbrev pub cell_variables : Development → List ℕ
 cell_variables dev = let l = level_at dev (last dev) in l.vars ++ locals l.init ++ operation_variables dev.heads l.bodies
 

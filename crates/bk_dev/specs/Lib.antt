@@ -5,6 +5,7 @@ pub mod Hypotheses
 pub mod Layout
 pub mod ClueView
 pub mod B0
+pub mod Extents
 pub mod Facts
 pub mod Machine
 pub mod Claims

@@ -23,7 +23,8 @@ ShowsAbstract dev e a = map e (level_at dev 0).vars ≡ a
 
 -- some typed state with the constants at their values runs the machine's initialisation to one that shows a
 abbrev pub Opens : Finder → Development → Abstract → Type 0
-Opens find dev a = (e f : State) × IsTypedState dev.table e × HasValues find dev e × Runs find dev.table (level_at dev 0).init e f × ShowsAbstract dev f a
+Opens find dev a =
+    (e f : State) × IsTypedState dev.table e × HasValues find dev e × Runs find dev.table (level_at dev 0).init e f × ShowsAbstract dev f a
 
 -- an operation's number, and its arguments
 pub record Call : Type 0 where
@@ -43,7 +44,9 @@ Pre find dev c a = (e : State) → Gives find dev c a e → holds find dev.table
 
 -- the body without that precondition can go from a to b with these outputs
 abbrev pub Steps : Finder → Development → Call → Abstract → List MathValue → Abstract → Type 0
-Steps find dev c a us b = (e f : State) × Gives find dev c a e × Runs find dev.table (body_at dev 0 c.op).sub e f × (map f (body_at dev 0 c.op).outputs ≡ us) × ShowsAbstract dev f b
+Steps find dev c a us b =
+    (e f : State) × Gives find dev c a e × Runs find dev.table (body_at dev 0 c.op).sub e f
+    × (map f (body_at dev 0 c.op).outputs ≡ us) × ShowsAbstract dev f b
 
 -- some state of before steps to it
 abbrev pub After : Finder → Development → (Abstract → Type 0) → Call → List MathValue → Abstract → Type 0
@@ -63,7 +66,8 @@ Reach find dev cs us a = ReachFrom find dev (Opens find dev) cs us a
 abbrev pub LegalFrom : Finder → Development → (Abstract → Type 0) → List Call → List (List MathValue) → Type 0
 LegalFrom find dev before [] us = Unit {0}
 LegalFrom find dev before (c ∷ cs) [] = (a : Abstract) → before a → Pre find dev c a
-LegalFrom find dev before (c ∷ cs) (us ∷ more) = ((a : Abstract) → before a → Pre find dev c a) × LegalFrom find dev (After find dev before c us) cs more
+LegalFrom find dev before (c ∷ cs) (us ∷ more) =
+    ((a : Abstract) → before a → Pre find dev c a) × LegalFrom find dev (After find dev before c us) cs more
 
 -- each call's precondition is true in every state that the calls before it reach with these outputs; calls behind the first without
 -- outputs are not asked

@@ -1,5 +1,5 @@
--- Two developments whose implementation does not carry the machine, to be checked by hand. Each level has the numbers n and r, from 0 and 1 on,
--- which the implementation links to the machine's, and one operation, turn.
+-- Two developments whose implementation does not carry the machine, to be checked by hand. Each level has the numbers n and r, from 0 and
+-- 1 on, which the implementation links to the machine's, and one operation, turn.
 use Rattle.std.specs.Prelude.{ℕ, pos, List, [], ◌∷◌}
 use Rattle.bk_form.specs.Formula.{Formula, variable, literal, binary, btrue}
 use Rattle.bk_form.specs.declared.operator.BinOp.TheVariants.{Eq}
@@ -32,9 +32,12 @@ turning above below = record {
   homes = Abstract 0 ∷ Concrete 1 ∷ Abstract 0 ∷ Concrete 1 ∷ [];
   sets = [];
   heads = record { name = 116 ∷ 117 ∷ 114 ∷ 110 ∷ []; inputs = []; outputs = 0 } ∷ [];
-  levels = turning_level machine_name Machine 0 2 [] above ∷ turning_level implementation_name Implementation 1 3 ((1, 0) ∷ (3, 2) ∷ []) below ∷ [];
+  levels =
+      turning_level machine_name Machine 0 2 [] above
+      ∷ turning_level implementation_name Implementation 1 3 ((1, 0) ∷ (3, 2) ∷ []) below
+      ∷ [];
   values = [];
-  extents = [];
+  extents = (0, 3) ∷ (0, 4) ∷ [];
 }
 
 -- the variable is 5
@@ -52,4 +55,7 @@ eager = turning (assert (is_five 0) (to_zero 0)) (if_else (is_five 1) (to_zero 1
 
 -- n := r || r := n at the machine, and n := r ; r := n at the implementation
 abbrev pub one_after_the_other : Development
-one_after_the_other = turning (par (assign ((0, variable 2) ∷ [])) (assign ((2, variable 0) ∷ []))) (seq (assign ((1, variable 3) ∷ [])) (assign ((3, variable 1) ∷ [])))
+one_after_the_other =
+    turning
+    (par (assign ((0, variable 2) ∷ [])) (assign ((2, variable 0) ∷ [])))
+    (seq (assign ((1, variable 3) ∷ [])) (assign ((3, variable 1) ∷ [])))

@@ -131,7 +131,7 @@ pub struct Development {
     pub levels: Vec<Level>,
     /// The constants' values, in the order of the VALUES clause.
     pub values: Vec<(u32, Form)>,
-    /// Of each level, how many sets, and how many variables of the table, there are with it and the levels above.
+    /// Of each level, how many of the table's sets, from the first on, are of it and of the levels above, and how many of its variables.
     pub extents: Vec<(usize, usize)>,
 }
 

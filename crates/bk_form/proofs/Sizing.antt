@@ -1,23 +1,24 @@
 -- Tables whose sets get sizes.
-use Rattle.std.proofs.Common.{◌≡◌, ◌⊎◌, inl, inr, ℕ, zero, suc, ◌<◌, ◌+◌, List, [], ◌∷◌, ◌++◌, length, map, refl, sym, ◌∙◌, ap, subst, true, nat_lt, arith, rules, All, IsTrue, pos}
+use Rattle.std.proofs.Common.{◌≡◌, ◌⊎◌, inl, inr, ℕ, zero, suc, ◌<◌, ◌+◌, List, [], ◌∷◌, ◌++◌, length, map, refl, sym, ◌∙◌, ap, subst, true, false, cond, nat_eq, nat_lt, eq-eqb, arith, All, IsTrue, pos}
 use Rattle.std.specs.Prelude.{Option, Some, None, slice_get}
 use Rattle.std.specs.Option.{option_map_or}
 use Rattle.std.specs.Ordering.{nat_cmp, ordering_then, match_ordering}
 use Rattle.std.specs.Cmp.{nat_cmp_is}
 use Rattle.std.specs.BTreeSet.{insert_key}
 use Rattle.std.specs.declared.cmp.Ordering.TheVariants.{Less, Equal}
+use Rattle.std.proofs.lemmas.Bool.Decides.{nat_tests}
 use Rattle.std.proofs.lemmas.List.Elements.{All-nil, All-cons, All-head, All-tail}
 use Rattle.bk_val.specs.Value.{MathValue, int, elem, value_cmp}
 use Rattle.bk_val.specs.Sets.{set_of}
 use Rattle.bk_val.specs.ValueType.{ValueType, enum_type, set_type, pair_type}
-use Rattle.bk_form.specs.Table.{Table, SetEntry, VariableEntry, listed_size, set_size, texts_from, texts_of_elements, lists_type, is_among_sets, IsCounted, IsWellFormed}
+use Rattle.bk_form.specs.Table.{Table, SetEntry, VariableEntry, sized_at, listed_size, set_size, texts_from, texts_of_elements, lists_type, is_among_sets, IsCounted, IsWellFormed}
 use Rattle.bk_form.specs.Formula.{Formula, variable, bound, literal, truth_value, element, empty_set, named, btrue, bfalse, unary, binary, for_all, for_some, comprehension, lambda, Formulas, no_formulas, formula_and}
 use Rattle.bk_form.specs.Role.{Role, untyped, gives, gives_set, each_gives_set, predicate, if_holds, if_predicate, if_value, bound_role, empty_role, named_role, all_listed, role, roles, unary_role, binary_role, quantifier_role, comprehension_role, lambda_role, bind, are_ranges, element_types, tuple_type}
 use Rattle.bk_form.specs.Operators.{elements_from}
 use Rattle.bk_form.specs.declared.operator.Domain.{Domain}
 use Rattle.bk_form.specs.declared.operator.Domain.TheVariants.{Enum}
 use Rattle.bk_form.specs.Wider.{IsTypedRole, IsWider}
-use Rattle.bk_form.specs.Sized.{or_else, sized_from, with_sizes, HasSizes, AreSizes, SizesKeepRoles, SizesFit, SetsAreCounted, ElementsHaveTexts}
+use Rattle.bk_form.specs.Sized.{or_else, sized_from, with_sizes, HasSizes, AreSizes, only_size, SizesKeepRoles, SizesFit, OneSizeIsGiven, SetsAreCounted, ElementsHaveTexts}
 use Rattle.bk_form.proofs.Members.{list_of-values_of, and-both}
 use Rattle.bk_form.proofs.Operands.{holds-op, predicate-op, value-op, unary-op, binary-op}
 use Rattle.bk_form.proofs.Counted.{none-below}
@@ -178,6 +179,45 @@ sizes_fit = record {
   whole = λ sizes table h. λ i. record { sets = sized-whole sizes 0 table.sets h i; variables = table.variables };
   each = λ sizes p table. sized-each sizes p 0 table.sets;
 }
+
+-- ---- one size
+or_else-none : (m : ℕ) → or_else m 0 ≡ m
+or_else-none zero = refl
+or_else-none (suc m) = refl
+
+or_else-this : (m n : ℕ) → m ≡ 0 → or_else m n ≡ n
+or_else-this zero n h = refl
+or_else-this (suc m) n h = absurd (omega (arith, h))
+
+this-number : (n size m : ℕ) → m ≡ n → only_size n size m ≡ size
+this-number n size m h = let e : nat_eq m n ≡ true = eq-eqb m n h in rw e refl
+
+other-number : (n size m : ℕ) → n < m → only_size n size m ≡ 0
+other-number n size m h = let e : nat_eq m n ≡ false = grind (arith, nat_tests) in rw e refl
+
+earlier-number : (n size m : ℕ) → m < n → only_size n size m ≡ 0
+earlier-number n size m h = let e : nat_eq m n ≡ false = grind (arith, nat_tests) in rw e refl
+
+-- past the number nothing changes
+past-one : (n size k : ℕ) (ss : List SetEntry) → n < k → sized_from (only_size n size) k ss ≡ ss
+past-one n size k [] h = refl
+past-one n size k (s ∷ ss) h =
+    let same : or_else s.size (only_size n size k) ≡ s.size = ap (or_else s.size) (other-number n size k h) ∙ or_else-none s.size in
+    λ i. record s { size = same i } ∷ past-one n size (suc k) ss (omega arith) i
+
+sized-one : (size m k n : ℕ) (ss : List SetEntry) → m ≡ n + k → option_map_or (λ s. s.size) (slice_get ss n) 0 ≡ 0 → sized_from (only_size m size) k ss ≡ sized_at n size ss
+sized-one size m k n [] e h = refl
+sized-one size m k zero (s ∷ ss) e h =
+    let this : or_else s.size (only_size m size k) ≡ size = or_else-this s.size (only_size m size k) h ∙ this-number m size k (omega arith) in
+    λ i. record s { size = this i } ∷ past-one m size (suc k) ss (omega arith) i
+sized-one size m k (suc n) (s ∷ ss) e h =
+    let same : or_else s.size (only_size m size k) ≡ s.size = ap (or_else s.size) (earlier-number m size k (omega arith)) ∙ or_else-none s.size in
+    λ i. record s { size = same i } ∷ sized-one size m (suc k) n ss (omega arith) h i
+
+pub one_size_is_given : OneSizeIsGiven
+one_size_is_given table n size h =
+    let all : sized_from (only_size n size) 0 table.sets ≡ sized_at n size table.sets = sized-one size n 0 n table.sets (omega arith) h in
+    λ i. record { sets = all i; variables = table.variables }
 
 -- ---- the number of elements
 next-above : (s i : ℕ) → value_cmp (elem s i) (elem s (suc i)) ≡ Less

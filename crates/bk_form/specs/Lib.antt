@@ -28,4 +28,9 @@ pub mod Wider
 pub mod MemberLaws
 pub mod Settings
 pub mod Sized
+pub mod Parts
+pub mod Pools
+pub mod PoolKeys
+pub mod PoolCodes
+pub mod PoolLaws
 pub mod Operands

@@ -1,8 +1,8 @@
 -- Tables whose sets get sizes: a deferred set may be read with any number of elements, at least one.
-use Rattle.std.specs.Prelude.{◌≡◌, ℕ, zero, suc, ◌<◌, All, List, [], ◌∷◌, length, pos}
+use Rattle.std.specs.Prelude.{◌≡◌, ℕ, zero, suc, ◌<◌, cond, nat_eq, All, List, [], ◌∷◌, length, pos}
 use Rattle.bk_val.specs.Value.{int}
 use Rattle.bk_val.specs.ValueType.{ValueType}
-use Rattle.bk_form.specs.Table.{Table, SetEntry, set_size, element_texts, IsCounted, IsWellFormed}
+use Rattle.bk_form.specs.Table.{Table, SetEntry, with_size, listed_size, set_size, element_texts, IsCounted, IsWellFormed}
 use Rattle.bk_form.specs.Formula.{Formula, named, unary}
 use Rattle.bk_form.specs.Search.{Finder}
 use Rattle.bk_form.specs.Environment.{Environment}
@@ -34,6 +34,10 @@ HasSizes ss = All (λ s. 0 < s.size) ss
 abbrev pub AreSizes : (ℕ → ℕ) → Type 0
 AreSizes sizes = (n : ℕ) → 0 < sizes n
 
+-- this size for one set, and none for the others
+abbrev pub only_size : ℕ → ℕ → ℕ → ℕ
+only_size n size m = cond (nat_eq m n) size 0
+
 -- ---- laws
 -- a formula that types has the same role with any sizes
 abbrev pub SizesKeepRoles : Type 0
@@ -48,6 +52,10 @@ pub record SizesFit : Type 0 where
   pub whole : (sizes : ℕ → ℕ) (table : Table) → HasSizes table.sets → with_sizes sizes table ≡ table
   -- with sizes each set has one
   pub each : (sizes : ℕ → ℕ) → AreSizes sizes → (table : Table) → HasSizes (with_sizes sizes table).sets
+
+-- a size for one set that has none
+abbrev pub OneSizeIsGiven : Type 0
+OneSizeIsGiven = (table : Table) (n size : ℕ) → listed_size table n ≡ 0 → with_sizes (only_size n size) table ≡ with_size table n size
 
 -- the number of elements of a set is its size
 abbrev pub SetsAreCounted : Type 0

@@ -1,5 +1,5 @@
 -- Tables of the sets and the variables that formulas speak of.
-use Rattle.std.specs.Prelude.{◌≡◌, ◌⊎◌, ℕ, zero, suc, ◌<◌, ◌≤◌, ◌^◌, Bool, true, ◌&&◌, nat_lt, IsTrue, All, List, [], ◌∷◌, ◌++◌, length, decimal, Option}
+use Rattle.std.specs.Prelude.{◌≡◌, ◌⊎◌, ℕ, zero, suc, ◌<◌, ◌≤◌, ◌^◌, Bool, true, ◌&&◌, nat_lt, IsTrue, All, List, [], ◌∷◌, ◌++◌, length, decimal, Option, Some}
 use Rattle.std.specs.List.{slice_get}
 use Rattle.std.specs.Option.{option_map, option_map_or}
 use Rattle.bk_val.specs.ValueType.{ValueType, int_type, bool_type, enum_type, pair_type, set_type}
@@ -33,6 +33,16 @@ with_set t s = record t { sets = t.sets ++ s ∷ [] }
 abbrev pub with_variable : Table → VariableEntry → Table
 with_variable t v = record t { variables = t.variables ++ v ∷ [] }
 
+-- the sets, of which number n has this size
+abbrev pub sized_at : ℕ → ℕ → List SetEntry → List SetEntry
+sized_at n size [] = []
+sized_at zero size (s ∷ ss) = record s { size = size } ∷ ss
+sized_at (suc n) size (s ∷ ss) = s ∷ sized_at n size ss
+
+-- the table whose set n has this size
+abbrev pub with_size : Table → ℕ → ℕ → Table
+with_size t n size = record t { sets = sized_at n size t.sets }
+
 -- the name of set n, if there is one
 abbrev pub set_name : Table → ℕ → Option (List ℕ)
 set_name t n = option_map (λ s. s.name) (slice_get t.sets n)
@@ -40,6 +50,10 @@ set_name t n = option_map (λ s. s.name) (slice_get t.sets n)
 -- the elements' names of set n, if there is one
 abbrev pub set_elements : Table → ℕ → Option (List (List ℕ))
 set_elements t n = option_map (λ s. s.elements) (slice_get t.sets n)
+
+-- set n is listed, and no names are written for its elements
+abbrev pub IsDeferred : Table → ℕ → Type 0
+IsDeferred t n = set_elements t n ≡ Some []
 
 -- the size of set n: 0 where it has none, or is not listed
 abbrev pub listed_size : Table → ℕ → ℕ

@@ -3,7 +3,8 @@
 ghost use Rattle.bk_form.specs.Laws.{AllMeans, SomeMeans, IsIndependent, SearchExists, IsClassical, IsSoundTyping, ReplacementMeans, ComprehensionHas, LambdaHas, IntervalHas, TotalMeans, OntoMeans, NoTotalFunction, ChoicesAre, Examples, DefinedExamples, WideningMeans, WideningKeepsRoles, WideningKeepsDefined};
 ghost use Rattle.bk_form.specs.MemberLaws.{OperatorMembers, ArrowsMean, MeaningIsKnown};
 ghost use Rattle.bk_form.specs.Operands.{OperandsAreTyped};
-ghost use Rattle.bk_form.specs.Sized.{SizesKeepRoles, SizesFit, SetsAreCounted, ElementsHaveTexts};
+ghost use Rattle.bk_form.specs.PoolLaws.{PoolLaws};
+ghost use Rattle.bk_form.specs.Sized.{SizesKeepRoles, SizesFit, OneSizeIsGiven, SetsAreCounted, ElementsHaveTexts};
 
 /// What the quantifiers say.
 pub fn quantifiers()
@@ -78,10 +79,17 @@ pub fn wider_tables()
     ensures defined { WideningKeepsDefined }
 {}
 
-/// What the sizes of deferred sets leave as it was, and that a set has as many elements, and texts for them, as its size says.
+/// What the sizes of deferred sets leave as it was, that a table gets them one by one, and that a set has as many elements, and
+/// texts for them, as its size says.
 pub fn sized_tables()
     ensures roles { SizesKeepRoles }
     ensures fit { SizesFit }
+    ensures one { OneSizeIsGiven }
     ensures counted { SetsAreCounted }
     ensures texts { ElementsHaveTexts }
+{}
+
+/// All parts of a member of a pool stand in it, and a formula whose parts stand there may go last.
+pub fn pools()
+    ensures { PoolLaws }
 {}

@@ -2,7 +2,7 @@
 
 ghost use Rattle.std.specs.Prelude.{◌≡◌, ◌<◌, ◌^◌, length, Some, IfOk, IfSome, OnOk, OnErr, IsTrue};
 ghost use Rattle.std.specs.Option.{option_copied, option_map};
-ghost use Rattle.bk_form.specs.Table.{empty_table, with_set, with_variable, set_name, set_elements, listed_size, variable_text, variable_type, lists_type, IsCounted, IsWellFormed, IsNumberable};
+ghost use Rattle.bk_form.specs.Table.{empty_table, with_set, with_size, with_variable, set_name, set_elements, listed_size, variable_text, variable_type, lists_type, IsCounted, IsDeferred, IsWellFormed, IsNumberable};
 
 use crate::ty::Ty;
 use bk_io::{Memory, Text};
@@ -119,6 +119,14 @@ impl VarTable {
             size,
         })?;
         Ok(number)
+    }
+
+    /// Gives a deferred set this number of elements, whatever it had before.
+    pub fn give_size(&mut self, set: u32, size: u32)
+        requires deferred { IsDeferred self.old set }
+        ensures { self.new ≡ with_size self.old set size }
+    {
+        self.sets[set as usize].size = size;
     }
 
     /// Adds a variable, and answers its number.

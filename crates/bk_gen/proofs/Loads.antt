@@ -5,7 +5,7 @@ use Rattle.std.proofs.lemmas.Bool.Decides.{nat_tests}
 use Rattle.std.proofs.lemmas.List.{length-append}
 use Rattle.std.proofs.lemmas.List.Elements.{All-nil, All-cons, All-head, All-tail}
 use Rattle.bk_val.specs.ValueType.{ValueType, bool_type, enum_type}
-use Rattle.bk_form.specs.Table.{SetEntry, variable_type, lists_type}
+use Rattle.bk_form.specs.Table.{SetEntry, element_texts, variable_type, lists_type}
 use Rattle.bk_form.proofs.Members.{or-left, or-right}
 use Rattle.bk_gsl.specs.Substitution.{Substitution}
 use Rattle.bk_gsl.specs.State.{among, declared_type}
@@ -166,7 +166,7 @@ module _ (dev : Development) (f : HasFacts dev) (b : IsB0Development dev) (fit :
           (subst (λ n. n ≤ 1000000) (sym cells) few) (omega (arith, long, own)) short good
           (starts-from all.depths image.ops good (subst (Each (λ entry. all.depths entry.start ≡ 0)) (sym ops) begin))
 
-sets-long : (xs : List SetEntry) → length (map (λ (s : SetEntry). s.elements) xs) ≡ length xs
+sets-long : (xs : List SetEntry) → length (map element_texts xs) ≡ length xs
 sets-long [] = refl
 sets-long (x ∷ xs) = ap suc (sets-long xs)
 

@@ -1,6 +1,7 @@
 -- The code of a last level without || is the same after flattening.
 use Rattle.std.proofs.Common.{◌≡◌, ◌<◌, ℕ, ◌+◌, pos, List, [], ◌∷◌, ◌++◌, length, map, refl, ◌∙◌, ap, true, cond, nat_eq, Some, None, Option}
 use Rattle.bk_form.specs.ArrayTable.{row_of}
+use Rattle.bk_form.specs.Table.{element_texts}
 use Rattle.bk_form.specs.Formula.{Formula, variable, unary, binary}
 use Rattle.bk_form.specs.declared.arrays.ArrayRow.{ArrayRow}
 use Rattle.bk_form.specs.declared.operator.UnOp.TheVariants.{Not, BoolOf, Neg as Minus, Single}
@@ -123,7 +124,7 @@ module _ (dev : Development) (some : 0 < length dev.levels) (init : IsFlat (leve
       let count = count-same dev some init bodies vars in
       let ops = ap (λ (l : Level). entries flat (length (init_code flat)) dev.heads l.bodies) low ∙ entries-same (length (init_code flat)) (length (init_code dev)) (ap length openings) dev.heads (level_at dev (last dev)).bodies h k in
       let code = ap (λ (l : Level). init_code flat ++ operations_code flat l.bodies) low ∙ (λ i. openings i ++ all-operations (level_at dev (last dev)).bodies i) in
-      λ i. record { max = int_max dev; cells = count i; sets = map (λ s. s.elements) dev.sets; ops = ops i; code = code i }
+      λ i. record { max = int_max dev; cells = count i; sets = map element_texts dev.sets; ops = ops i; code = code i }
 
 pub codes-same : FlattenedKeepsCode
 codes-same dev f b = translation-same dev f.some_level b.init b.bodies (low-vars dev f) (inputs-in dev f dev.heads f.heads) (outputs-in dev f (last dev) dev.heads (level_at dev 0).bodies (level_at dev (last dev)).bodies (last_level dev f).bodies)

@@ -2,11 +2,12 @@
 use Rattle.std.proofs.Common.{◌≡◌, ◌≤◌, ◌<◌, ◌^◌, ℕ, zero, suc, ◌+◌, ℤ, pos, negsuc, neg_ℤ, ◌+ℤ◌, ◌≤ℤ◌, List, [], ◌∷◌, map, length, Some, refl, ap, subst, arith, All}
 use Rattle.std.specs.Prelude.{slice_get, FitsSigned}
 use Rattle.std.specs.Int.{w32, w64}
-use Rattle.std.specs.Option.{option_map, option_map_or}
+use Rattle.std.specs.Option.{option_map_or}
 use Rattle.std.proofs.lemmas.Int.{ints, fits_signed_from_abs}
 use Rattle.std.proofs.lemmas.List.Elements.{All-nil, All-cons, All-head, All-tail, All-map}
 use Rattle.std.proofs.lemmas.Option.{slice_get_within}
-use Rattle.bk_form.specs.Table.{SetEntry, set_size}
+use Rattle.bk_form.specs.Table.{SetEntry, set_size, at_least_one, element_texts, IsCounted}
+use Rattle.bk_form.proofs.Sizing.{elements_have_texts}
 use Rattle.bk_dev.specs.Development.{Head, Body, Development, int_max, default_max}
 use Rattle.bk_code.specs.declared.image.Image.{Image}
 use Rattle.bk_code.specs.declared.image.Parameter.{Parameter}
@@ -108,14 +109,22 @@ module _ (image : Image) (n : IsNumbered image) (usual : code_max image ≡ defa
       }
 
 -- ---- the image of a unit
-size-fits : (xs : List SetEntry) → All (λ s. FitsSet s.elements) xs → (n : ℕ) → option_map_or length (option_map (λ (s : SetEntry). s.elements) (slice_get xs n)) 0 < 2 ^ 16
-size-fits [] h n = omega arith
-size-fits (x ∷ xs) h zero = (All-head (λ s. FitsSet s.elements) x xs h).few
-size-fits (x ∷ xs) h (suc n) = size-fits xs (All-tail (λ s. FitsSet s.elements) x xs h) n
+-- a size that 16 bits count is small also where none counts as one
+one-small : (size : ℕ) → size < 2 ^ 16 → at_least_one size < 2 ^ 16
+one-small zero h = omega arith
+one-small (suc n) h = h
 
-pub elements-fit : (dev : Development) → dev.sets ≡ dev.table.sets → FitsFields (unit_of dev) → HasElementsInRange dev
-elements-fit dev same h s i low =
-    let small : set_size dev.table s < 2 ^ 16 = size-fits dev.table.sets (subst (λ (xs : List SetEntry). All (λ s. FitsSet s.elements) xs) same h.sets) s in
+pub size-fits : (xs : List SetEntry) → All IsCounted xs → All (λ s. FitsSet (element_texts s)) xs → (n : ℕ) → option_map_or (λ (s : SetEntry). at_least_one s.size) (slice_get xs n) 0 < 2 ^ 16
+size-fits [] c h n = omega arith
+size-fits (x ∷ xs) c h zero =
+    let few : length (element_texts x) < 2 ^ 16 = (All-head (λ s. FitsSet (element_texts s)) x xs h).few in
+    let each : length (element_texts x) ≡ x.size = elements_have_texts x (All-head IsCounted x xs c) in
+    one-small x.size (subst (λ n. n < 2 ^ 16) each few)
+size-fits (x ∷ xs) c h (suc n) = size-fits xs (All-tail IsCounted x xs c) (All-tail (λ s. FitsSet (element_texts s)) x xs h) n
+
+pub elements-fit : (dev : Development) → dev.sets ≡ dev.table.sets → All IsCounted dev.table.sets → FitsFields (unit_of dev) → HasElementsInRange dev
+elements-fit dev same counted h s i low =
+    let small : set_size dev.table s < 2 ^ 16 = size-fits dev.table.sets counted (subst (λ (xs : List SetEntry). All (λ s. FitsSet (element_texts s)) xs) same h.sets) s in
     let usual : int_max dev ≡ default_max = h.max in
     omega (arith, ints, low, small, usual)
 
@@ -123,7 +132,7 @@ map-long : (f : ℕ → Parameter) (xs : List ℕ) → length (map f xs) ≡ len
 map-long f [] = refl
 map-long f (x ∷ xs) = ap suc (map-long f xs)
 
-sets-long : (xs : List SetEntry) → length (map (λ (s : SetEntry). s.elements) xs) ≡ length xs
+sets-long : (xs : List SetEntry) → length (map element_texts xs) ≡ length xs
 sets-long [] = refl
 sets-long (x ∷ xs) = ap suc (sets-long xs)
 
@@ -148,13 +157,13 @@ pub unit_spelled : (u : CodeUnit) → IsNumbered (unit_image u) → FitsFields u
 unit_spelled u n h short =
     let few : length u.heads < 2 ^ 16 = h.few_operations in
     let sets : length u.sets ≤ 65534 = h.few_sets in
-    has_spelling (unit_image u) n h.max short (omega (arith, sets, sets-long u.sets)) (All-map FitsSet (λ (s : SetEntry). s.elements) u.sets h.sets)
+    has_spelling (unit_image u) n h.max short (omega (arith, sets, sets-long u.sets)) (All-map FitsSet element_texts u.sets h.sets)
     (omega (arith, few, entries-few (unit_places u) (length (placed_block (unit_places u) u.init)) u.heads u.bodies)) (entries-named (unit_places u) (length (placed_block (unit_places u) u.init)) u.heads u.bodies h.heads h.outputs)
 
 -- ---- what has a spelling fits
-all-sets : (xs : List SetEntry) → All FitsSet (map (λ (s : SetEntry). s.elements) xs) → All (λ (s : SetEntry). FitsSet s.elements) xs
-all-sets [] h = All-nil (λ (s : SetEntry). FitsSet s.elements)
-all-sets (x ∷ xs) h = All-cons (λ (s : SetEntry). FitsSet s.elements) x xs (All-head FitsSet x.elements (map (λ (s : SetEntry). s.elements) xs) h) (all-sets xs (All-tail FitsSet x.elements (map (λ (s : SetEntry). s.elements) xs) h))
+pub all-sets : (xs : List SetEntry) → All FitsSet (map element_texts xs) → All (λ (s : SetEntry). FitsSet (element_texts s)) xs
+all-sets [] h = All-nil (λ (s : SetEntry). FitsSet (element_texts s))
+all-sets (x ∷ xs) h = All-cons (λ (s : SetEntry). FitsSet (element_texts s)) x xs (All-head FitsSet (element_texts x) (map element_texts xs) h) (all-sets xs (All-tail FitsSet (element_texts x) (map element_texts xs) h))
 
 module _ (p : Places) where
   entries-long : (place : ℕ) (hs : List Head) (bs : List Body) → length hs ≡ length bs → length (placed_entries p place hs bs) ≡ length hs
@@ -187,7 +196,7 @@ pub spelled_fits : (u : CodeUnit) → length u.heads ≡ length u.bodies → Has
 spelled_fits u e s =
     let p = unit_places u in
     let place = length (placed_block p u.init) in
-    let sets : length (map (λ (s : SetEntry). s.elements) u.sets) ≤ 65534 = s.few_sets in
+    let sets : length (map element_texts u.sets) ≤ 65534 = s.few_sets in
     let few : length (placed_entries p place u.heads u.bodies) < 2 ^ 16 = s.fits.few_ops in
     record {
       max = s.fits.max;

@@ -68,7 +68,7 @@ adder = record {
   heads = record { name = add_name; inputs = 2 ∷ []; outputs = 0 } ∷ [];
   levels = adder_level (65 ∷ []) Machine 0 [] (adding 0 2) ∷ adder_level (65 ∷ 95 ∷ 105 ∷ []) Implementation 1 ((1, 0) ∷ []) (adding 1 2) ∷ [];
   values = [];
-  extents = [];
+  extents = (0, 3) ∷ (0, 3) ∷ [];
 }
 
 -- n of the implementation is in cell 0, and the input in cell 1

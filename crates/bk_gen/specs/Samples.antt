@@ -121,7 +121,7 @@ numbers = record {
       ∷ plain_level (codes "Table_i") Implementation 1 (binary And (is_array 1) (binary Equal (variable 1) (variable 0))) (assign ((1, filled_with 0) ∷ [])) (plain_body (filling 1 2) [] ∷ plain_body (assign ((5, binary Apply (variable 1) (variable 3)) ∷ [])) (5 ∷ []) ∷ [])
       ∷ [];
   values = [];
-  extents = [];
+  extents = (0, 5) ∷ (0, 6) ∷ [];
 }
 
 -- tab is in the cells 0 to 9, the local of fill in 10, the input of read in 11 and its output in 12
@@ -171,7 +171,7 @@ lamp = record {
   heads = record { name = codes "next"; inputs = []; outputs = 0 } ∷ record { name = codes "show"; inputs = []; outputs = 1 } ∷ [];
   levels = lamp_level (codes "Lamp") Machine 0 2 ∷ lamp_level (codes "Lamp_i") Implementation 1 3 ∷ [];
   values = [];
-  extents = [];
+  extents = (1, 3) ∷ (1, 4) ∷ [];
 }
 
 -- col is in the cell 0, and the output in 1; a colour is its number from 0
@@ -209,7 +209,7 @@ large init = record {
   heads = [];
   levels = large_level (codes "Large") Machine 0 1 skip ∷ large_level (codes "Large_i") Implementation 2 3 init ∷ [];
   values = [];
-  extents = [];
+  extents = (0, 2) ∷ (0, 4) ∷ [];
 }
 
 -- f := (0..999999) * {0}

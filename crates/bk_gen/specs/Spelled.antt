@@ -1,6 +1,7 @@
 -- Which images have a spelling within the limits.
 use Rattle.std.specs.Prelude.{◌⊎◌, ◌<◌, ◌≤◌, ◌^◌, All, length}
 use Rattle.bk_limits.specs.declared.TheConstants.{MOST_CELLS, MOST_SETS}
+use Rattle.bk_form.specs.Table.{element_texts}
 use Rattle.bk_dev.specs.Development.{Head, default_max}
 use Rattle.bk_image.specs.Spelling.{IsCountable, FitsSet, HasSpelling}
 use Rattle.bk_b0.specs.CodeUnit.{CodeUnit, slots_cells, unit_image}
@@ -15,7 +16,7 @@ pub record FitsHead (h : Head) : Type 0 where
 pub record FitsFields (u : CodeUnit) : Type 0 where
   pub max : u.arrays.max ≡ default_max
   pub few_sets : length u.sets ≤ MOST_SETS
-  pub sets : All (λ s. FitsSet s.elements) u.sets
+  pub sets : All (λ s. FitsSet (element_texts s)) u.sets
   pub few_operations : length u.heads < 2 ^ 16
   pub heads : All FitsHead u.heads
   pub outputs : All (λ b. IsCountable b.outputs) u.bodies

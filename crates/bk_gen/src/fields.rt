@@ -1,14 +1,16 @@
 //! Whether names and counts fit the fields that an image has for them.
 
-ghost use Rattle.std.specs.Prelude.{◌≡◌, ◌↔◌, IsTrue};
+ghost use Rattle.std.specs.Prelude.{◌≡◌, ◌↔◌, ◌++◌, ◌∷◌, IsTrue, All, decimal};
+ghost use Rattle.bk_form.specs.Table.{element_texts, texts_from};
 ghost use Rattle.bk_dev.specs.Development.{default_max};
 ghost use Rattle.bk_image.specs.Spelling.{IsCountable, FitsSet};
 ghost use Rattle.bk_gen.specs.Spelled.{FitsHead, FitsFields};
 
 use bk_b0::B0Unit;
-use bk_dev::{Body, DEFAULT_MAX, OpHead};
+use bk_dev::{Body, DEFAULT_MAX, EnumSet, OpHead};
 use bk_io::Text;
 use bk_limits::MOST_SETS;
+use itoa::Buffer;
 
 /// How many items, and how many bytes of a name, a field can count.
 const COUNTED: usize = 65536;
@@ -20,7 +22,7 @@ pub(crate) fn fits_fields(unit: &B0Unit) -> bool
 {
     has_default_range(unit)
         && unit.sets().len() <= MOST_SETS
-        && unit.sets().iter().all(|set| names_fit(&set.elements))
+        && unit.sets().iter().all(|set| elements_fit(set))
         && unit.heads().len() < COUNTED
         && unit.heads().iter().all(|head| head_fits(head))
         && unit.bodies().iter().all(|body| outputs_fit(body))
@@ -32,6 +34,43 @@ fn has_default_range(unit: &B0Unit) -> bool
 {
     let arrays = unit.arrays();
     arrays.max() == DEFAULT_MAX
+}
+
+// Whether a set has few enough elements, and the text of each is short enough.
+fn elements_fit(set: &EnumSet) -> bool
+    ensures { IsTrue result ↔ FitsSet (element_texts set.now) }
+{
+    if set.elements.is_empty() {
+        return numbers_fit(&set.name, set.size);
+    }
+    names_fit(&set.elements)
+}
+
+// Whether there are few enough numbers below the count, and the name with each of them is short enough.
+fn numbers_fit(name: &Text, count: u32) -> bool
+    ensures { IsTrue result ↔ FitsSet (texts_from name.now 0 count) }
+{
+    (count as usize) < COUNTED && each_fits(name, count)
+}
+
+// Whether a name with each number below the count is short enough.
+fn each_fits(name: &Text, count: u32) -> bool
+    ensures { IsTrue result ↔ All (λ text. IsCountable text) (texts_from name.now 0 count) }
+{
+    for number in 0..count {
+        if !number_fits(name, number) {
+            return false;
+        }
+    }
+    true
+}
+
+// Whether a name with this number behind it is short enough.
+fn number_fits(name: &Text, number: u32) -> bool
+    ensures { IsTrue result ↔ IsCountable (name.now ++ 36 ∷ decimal number) }
+{
+    let mut digits = Buffer::new();
+    name.as_bytes().len() + 1 + digits.format(number).len() < COUNTED
 }
 
 // Whether there are few enough names, and each is short enough.

@@ -14,15 +14,15 @@ ghost use Rattle.bk_gen.specs.declared.error.GenFault.TheVariants.{CodeTooLong, 
 use crate::GenFault;
 use crate::fields::fits_fields;
 use crate::leaf::slot_of;
+use crate::names::element_names;
 use crate::statement::{add_block, block_size};
 use bk_b0::{B0Unit, Slot};
 use bk_code::{
-    CellKind, Code, ElemNames, Image, Inst, Memory, NameText, NameTexts, OpEntries, OpEntry,
-    Parameter, Parameters,
+    CellKind, Code, ElemNames, Image, Inst, Memory, NameText, OpEntries, OpEntry, Parameter,
+    Parameters,
 };
-use bk_dev::{Body, EnumSet, OpHead};
+use bk_dev::{Body, OpHead};
 use bk_form::{TyView, VarTable};
-use bk_io::Text;
 use bk_limits::{MOST_CELLS, MOST_INSTRUCTIONS};
 use std::alloc::Global;
 
@@ -213,26 +213,4 @@ fn kind_of(table: &VarTable, variable: u32) -> CellKind
         },
         None => CellKind::Bool,
     }
-}
-
-// The names of the elements of each set, in the order of the sets.
-fn element_names(alloc: Global, sets: &[EnumSet]) -> Result<Vec<NameTexts>, Memory>
-    ensures { IfOk result (λ names. names.items ≡ map (λ s. s.elements) sets.now) }
-{
-    let mut names = Vec::new(alloc);
-    for set in sets {
-        names.push(texts_of(alloc, &set.elements)?)?;
-    }
-    Ok(names)
-}
-
-// Copies of names.
-fn texts_of(alloc: Global, names: &[Text]) -> Result<NameTexts, Memory>
-    ensures { IfOk result (λ copies. copies ≡ names.now) }
-{
-    let mut copies = Vec::new(alloc);
-    for name in names {
-        copies.push(NameText::from_vec(Vec::from_slice(alloc, name.as_bytes())?))?;
-    }
-    Ok(NameTexts::from_vec(copies))
 }

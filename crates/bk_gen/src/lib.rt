@@ -8,6 +8,7 @@ mod image;
 mod jumps;
 pub mod laws;
 mod leaf;
+mod names;
 mod statement;
 mod value;
 

@@ -26,7 +26,9 @@ write_of x f = None
 
 -- a write to an array asks the index and both expressions; every other term for it, a fill of the whole array say, is evaluated
 abbrev pub IsCleanWrite : Finder → Table → ArrayTable → ArrayRow → State → Option (Formula × Formula) → Formula → Type 0
-IsCleanWrite find table arrays row e (Some w) f = Fits find (at_state table e) arrays w.0 × (is_index (Some row) (value_at find table e w.0) ≡ true) × Fits find (at_state table e) arrays w.1
+IsCleanWrite find table arrays row e (Some w) f =
+    Fits find (at_state table e) arrays w.0 × (is_index (Some row) (value_at find table e w.0) ≡ true)
+    × Fits find (at_state table e) arrays w.1
 IsCleanWrite find table arrays row e None f = Fits find (at_state table e) arrays f
 
 -- the term for x in an implementation: where x is an array a write to it, and else an expression whose numbers fit
@@ -57,13 +59,18 @@ Clean find table arrays (assign ps) e = AreCleanTerms find table arrays e ps
 Clean find table arrays (pre p s) e = Defined find (at_state table e) p × Clean find table arrays s e
 Clean find table arrays (guard p s) e = Defined find (at_state table e) p × (holds find table e p ≡ true → Clean find table arrays s e)
 Clean find table arrays (choice s t) e = Clean find table arrays s e × Clean find table arrays t e
-Clean find table arrays (if_else p s t) e = IsEvaluable find table arrays e p × (holds find table e p ≡ true → Clean find table arrays s e) × (holds find table e p ≡ false → Clean find table arrays t e)
-Clean find table arrays (any zs s) e = (vs : List MathValue) → are_values_for table zs vs ≡ true → Clean find table arrays s (with_values e zs vs)
+Clean find table arrays (if_else p s t) e =
+    IsEvaluable find table arrays e p × (holds find table e p ≡ true → Clean find table arrays s e)
+    × (holds find table e p ≡ false → Clean find table arrays t e)
+Clean find table arrays (any zs s) e = (vs : List MathValue) → are_values_for table zs vs ≡ true →
+    Clean find table arrays s (with_values e zs vs)
 Clean find table arrays (seq s t) e = Clean find table arrays s e × ((g : State) → Runs find table s e g → Clean find table arrays t g)
 -- clean where the left side is and, where the left side has a result, the right side is too
 Clean find table arrays (par s t) e = Clean find table arrays s e × ((g : State) → Runs find table s e g → Clean find table arrays t e)
 Clean find table arrays (assert p s) e = Defined find (at_state table e) p × Clean find table arrays s e
-Clean find table arrays (becomes_such xs p) e = (vs : List MathValue) → are_values_for table (firsts xs) vs ≡ true → Defined find (at_state table (with_old xs e vs)) p
+Clean find table arrays (becomes_such xs p) e = (vs : List MathValue) → are_values_for table (firsts xs) vs ≡ true →
+    Defined find (at_state table (with_old xs e vs)) p
 -- at each state that some number of turns reaches
 Clean find table arrays (loop p s i v) e = (n : ℕ) (f : State) → Reached (Runs find table s) (λ x. holds find table x p) n e f →
-    Defined find (at_state table f) i × IsEvaluable find table arrays f p × (holds find table f p ≡ true → Clean find table arrays s f × Defined find (at_state table f) v)
+    Defined find (at_state table f) i × IsEvaluable find table arrays f p
+    × (holds find table f p ≡ true → Clean find table arrays s f × Defined find (at_state table f) v)

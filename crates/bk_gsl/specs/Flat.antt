@@ -71,7 +71,8 @@ flat_from k (choice s t) = choice (flat_from k s) (flat_from (k + length (copied
 flat_from k (if_else p s t) = if_else p (flat_from k s) (flat_from (k + length (copied s)) t)
 flat_from k (any zs s) = any zs (flat_from k s)
 flat_from k (seq s t) = seq (flat_from k s) (flat_from (k + length (copied s)) t)
-flat_from k (par s t) = by_copies (copies_from (k + length (copied s) + length (copied t)) (writes s)) (flat_from k s) (flat_from (k + length (copied s)) t)
+flat_from k (par s t) =
+    by_copies (copies_from (k + length (copied s) + length (copied t)) (writes s)) (flat_from k s) (flat_from (k + length (copied s)) t)
 flat_from k (assert p s) = assert p (flat_from k s)
 flat_from k (loop p s i v) = loop p (flat_from k s) i v
 flat_from k s = s

@@ -19,16 +19,20 @@ use Rattle.bk_gsl.specs.Avoids.{Avoids}
 
 -- outside what it writes a run changes nothing
 abbrev pub ChangesOnlyWrites : Type 0
-ChangesOnlyWrites = (find : Finder) (table : Table) (s : Substitution) (e f : State) → Runs find table s e f → (n : ℕ) → among (writes s) n ≡ false → f n ≡ e n
+ChangesOnlyWrites = (find : Finder) (table : Table) (s : Substitution) (e f : State) → Runs find table s e f → (n : ℕ) →
+    among (writes s) n ≡ false → f n ≡ e n
 
 -- a run from a typed state ends in a typed state
 abbrev pub KeepsTypes : Type 0
-KeepsTypes = (find : Finder) (table : Table) → IsWellFormed table → (s : Substitution) → Types table s → (e f : State) → IsTypedState table e → Runs find table s e f → IsTypedState table f
+KeepsTypes = (find : Finder) (table : Table) → IsWellFormed table → (s : Substitution) → Types table s → (e f : State) →
+    IsTypedState table e → Runs find table s e f → IsTypedState table f
 
 -- a precondition changes no run, and nothing ends where it is false
 pub record PreconditionMeans : Type 0 where
-  pub runs : (find : Finder) (table : Table) (p : Formula) (s : Substitution) (e f : State) → Runs find table (pre p s) e f ↔ Runs find table s e f
-  pub ends : (find : Finder) (table : Table) (p : Formula) (s : Substitution) (e : State) → holds find table e p ≡ false → Ends find table (pre p s) e → ⊥
+  pub runs : (find : Finder) (table : Table) (p : Formula) (s : Substitution) (e f : State) →
+      Runs find table (pre p s) e f ↔ Runs find table s e f
+  pub ends : (find : Finder) (table : Table) (p : Formula) (s : Substitution) (e : State) → holds find table e p ≡ false →
+      Ends find table (pre p s) e → ⊥
 
 -- x := y || y := x
 abbrev pub swap : ℕ → ℕ → Substitution
@@ -45,7 +49,8 @@ PutsBack = (find : Finder) (table : Table) (z : ℕ) (s : Substitution) (e f : S
 
 -- WHILE 0 < x0 DO x0 := x0 - 1 END
 abbrev pub count_down : Substitution
-count_down = loop (binary Lt (literal (pos 0)) (variable 0)) (assign ((0, binary Sub (variable 0) (literal (pos 1))) ∷ [])) btrue (variable 0)
+count_down =
+    loop (binary Lt (literal (pos 0)) (variable 0)) (assign ((0, binary Sub (variable 0) (literal (pos 1))) ∷ [])) btrue (variable 0)
 
 -- it ends from every number, and leaves 0 from one that is not negative
 pub record CountsDown : Type 0 where
@@ -60,20 +65,30 @@ NeverEnds = (find : Finder) (table : Table) (e : State) → Ends find table (loo
 -- a substitution that types runs, ends and is clean over the one table exactly where it does over the other
 pub record WideningKeepsRuns : Type 0 where
   pub types : (small large : Table) → IsWellFormed small → IsWider small large → (s : Substitution) → Types small s → Types large s
-  pub runs : (small large : Table) → IsWellFormed small → IsWider small large → (find : Finder) (s : Substitution) → Types small s → (e f : State) → Runs find large s e f ↔ Runs find small s e f
-  pub ends : (small large : Table) → IsWellFormed small → IsWider small large → (find : Finder) (s : Substitution) → Types small s → (e : State) → Ends find large s e ↔ Ends find small s e
-  pub clean : (small large : Table) → IsWellFormed small → IsWider small large → (find : Finder) (arrays : Option ArrayTable) (s : Substitution) → Types small s → (e : State) → Clean find large arrays s e ↔ Clean find small arrays s e
+  pub runs : (small large : Table) → IsWellFormed small → IsWider small large → (find : Finder) (s : Substitution) → Types small s →
+      (e f : State) → Runs find large s e f ↔ Runs find small s e f
+  pub ends : (small large : Table) → IsWellFormed small → IsWider small large → (find : Finder) (s : Substitution) → Types small s →
+      (e : State) → Ends find large s e ↔ Ends find small s e
+  pub clean : (small large : Table) → IsWellFormed small → IsWider small large →
+      (find : Finder) (arrays : Option ArrayTable) (s : Substitution) → Types small s → (e : State) →
+      Clean find large arrays s e ↔ Clean find small arrays s e
 
 -- ---- what decides, and what does not matter
 -- from a state that agrees with another in all that it reads it ends and is clean where it does from the other; and where it runs from the
 -- other to some state, it runs from the one to a state that agrees with that wherever the two agreed before
 pub record ReadDecides : Type 0 where
-  pub runs : (find : Finder) (table : Table) (s : Substitution) (d e f : State) → AgreeOn (read s) d e → Runs find table s e f → (g : State) × Runs find table s d g × ((n : ℕ) → d n ≡ e n → g n ≡ f n)
-  pub ends : (find : Finder) (table : Table) (s : Substitution) (d e : State) → AgreeOn (read s) d e → Ends find table s e → Ends find table s d
-  pub clean : (find : Finder) (table : Table) (arrays : Option ArrayTable) (s : Substitution) (d e : State) → AgreeOn (read s) d e → Clean find table arrays s e → Clean find table arrays s d
+  pub runs : (find : Finder) (table : Table) (s : Substitution) (d e f : State) → AgreeOn (read s) d e → Runs find table s e f →
+      (g : State) × Runs find table s d g × ((n : ℕ) → d n ≡ e n → g n ≡ f n)
+  pub ends : (find : Finder) (table : Table) (s : Substitution) (d e : State) → AgreeOn (read s) d e → Ends find table s e →
+      Ends find table s d
+  pub clean : (find : Finder) (table : Table) (arrays : Option ArrayTable) (s : Substitution) (d e : State) → AgreeOn (read s) d e →
+      Clean find table arrays s e → Clean find table arrays s d
 
 -- from a state that differs only in variables which it avoids it runs as before and leaves them, and it ends and is clean from there too
 pub record AvoidedDoesNotMatter : Type 0 where
-  pub runs : (find : Finder) (table : Table) (off : ℕ → Bool) (s : Substitution) → Avoids off s → (d e f : State) → Runs find table s e f → Runs find table s (over off d e) (over off d f)
-  pub ends : (find : Finder) (table : Table) (off : ℕ → Bool) (s : Substitution) → Avoids off s → (d e : State) → Ends find table s e → Ends find table s (over off d e)
-  pub clean : (find : Finder) (table : Table) (off : ℕ → Bool) (arrays : Option ArrayTable) (s : Substitution) → Avoids off s → (d e : State) → Clean find table arrays s e → Clean find table arrays s (over off d e)
+  pub runs : (find : Finder) (table : Table) (off : ℕ → Bool) (s : Substitution) → Avoids off s → (d e f : State) → Runs find table s e f →
+      Runs find table s (over off d e) (over off d f)
+  pub ends : (find : Finder) (table : Table) (off : ℕ → Bool) (s : Substitution) → Avoids off s → (d e : State) → Ends find table s e →
+      Ends find table s (over off d e)
+  pub clean : (find : Finder) (table : Table) (off : ℕ → Bool) (arrays : Option ArrayTable) (s : Substitution) → Avoids off s →
+      (d e : State) → Clean find table arrays s e → Clean find table arrays s (over off d e)

@@ -40,14 +40,20 @@ Runs find table (assign ps) e f = f ≡ assigned find table ps e
 Runs find table (pre p s) e f = Runs find table s e f
 Runs find table (guard p s) e f = (holds find table e p ≡ true) × Runs find table s e f
 Runs find table (choice s t) e f = Runs find table s e f ⊎ Runs find table t e f
-Runs find table (if_else p s t) e f = ((holds find table e p ≡ true) × Runs find table s e f) ⊎ ((holds find table e p ≡ false) × Runs find table t e f)
+Runs find table (if_else p s t) e f =
+    ((holds find table e p ≡ true) × Runs find table s e f) ⊎ ((holds find table e p ≡ false) × Runs find table t e f)
 -- locals take every value of their types at the start, and are put back afterwards
-Runs find table (any zs s) e f = (vs : List MathValue) × (are_values_for table zs vs ≡ true) × ((g : State) × Runs find table s (with_values e zs vs) g × (f ≡ over (among zs) e g))
+Runs find table (any zs s) e f =
+    (vs : List MathValue) × (are_values_for table zs vs ≡ true)
+    × ((g : State) × Runs find table s (with_values e zs vs) g × (f ≡ over (among zs) e g))
 Runs find table (seq s t) e f = (g : State) × Runs find table s e g × Runs find table t g f
 -- both sides start from one state; what the left side writes is the left side's
-Runs find table (par s t) e f = (g : State) × (h : State) × Runs find table s e g × Runs find table t e h × (f ≡ over (among (written s)) g h)
+Runs find table (par s t) e f =
+    (g : State) × (h : State) × Runs find table s e g × Runs find table t e h × (f ≡ over (among (written s)) g h)
 Runs find table (assert p s) e f = Runs find table s e f
-Runs find table (becomes_such xs p) e f = (vs : List MathValue) × (are_values_for table (firsts xs) vs ≡ true) × (holds find table (with_old xs e vs) p ≡ true) × (f ≡ with_values e (firsts xs) vs)
+Runs find table (becomes_such xs p) e f =
+    (vs : List MathValue) × (are_values_for table (firsts xs) vs ≡ true) × (holds find table (with_old xs e vs) p ≡ true)
+    × (f ≡ with_values e (firsts xs) vs)
 Runs find table (loop p s i v) e f = (n : ℕ) × Turns (Runs find table s) (λ x. holds find table x p) n e f
 
 -- every execution from e ends, and each precondition and assertion that is met is true
@@ -57,7 +63,8 @@ Ends find table (assign ps) e = Unit {0}
 Ends find table (pre p s) e = (holds find table e p ≡ true) × Ends find table s e
 Ends find table (guard p s) e = holds find table e p ≡ true → Ends find table s e
 Ends find table (choice s t) e = Ends find table s e × Ends find table t e
-Ends find table (if_else p s t) e = (holds find table e p ≡ true → Ends find table s e) × (holds find table e p ≡ false → Ends find table t e)
+Ends find table (if_else p s t) e =
+    (holds find table e p ≡ true → Ends find table s e) × (holds find table e p ≡ false → Ends find table t e)
 Ends find table (any zs s) e = (vs : List MathValue) → are_values_for table zs vs ≡ true → Ends find table s (with_values e zs vs)
 Ends find table (seq s t) e = Ends find table s e × ((g : State) → Runs find table s e g → Ends find table t g)
 Ends find table (par s t) e = Ends find table s e × Ends find table t e

@@ -62,7 +62,8 @@ substitution_code (seq s t) = gcons (gnum 6) (gcons (substitution_code s) (subst
 substitution_code (par s t) = gcons (gnum 7) (gcons (substitution_code s) (substitution_code t))
 substitution_code (assert p s) = gcons (gnum 8) (gcons (formula_code p) (substitution_code s))
 substitution_code (becomes_such xs p) = gcons (gnum 9) (gcons (pairs_code xs) (formula_code p))
-substitution_code (loop p s i v) = gcons (gnum 10) (gcons (formula_code p) (gcons (substitution_code s) (gcons (formula_code i) (formula_code v))))
+substitution_code (loop p s i v) =
+    gcons (gnum 10) (gcons (formula_code p) (gcons (substitution_code s) (gcons (formula_code i) (formula_code v))))
 
 -- the substitution that has this code; what it gives for other trees does not matter
 abbrev pub substitution_back : Gv → Substitution
@@ -70,13 +71,18 @@ substitution_back (gcons (gnum zero) a) = assign (terms_back a)
 substitution_back (gcons (gnum (suc zero)) (gcons a b)) = pre (formula_back a) (substitution_back b)
 substitution_back (gcons (gnum (suc (suc zero))) (gcons a b)) = guard (formula_back a) (substitution_back b)
 substitution_back (gcons (gnum (suc (suc (suc zero)))) (gcons a b)) = choice (substitution_back a) (substitution_back b)
-substitution_back (gcons (gnum (suc (suc (suc (suc zero))))) (gcons a (gcons b c))) = if_else (formula_back a) (substitution_back b) (substitution_back c)
+substitution_back (gcons (gnum (suc (suc (suc (suc zero))))) (gcons a (gcons b c))) =
+    if_else (formula_back a) (substitution_back b) (substitution_back c)
 substitution_back (gcons (gnum (suc (suc (suc (suc (suc zero)))))) (gcons a b)) = any (variables_back a) (substitution_back b)
 substitution_back (gcons (gnum (suc (suc (suc (suc (suc (suc zero))))))) (gcons a b)) = seq (substitution_back a) (substitution_back b)
-substitution_back (gcons (gnum (suc (suc (suc (suc (suc (suc (suc zero)))))))) (gcons a b)) = par (substitution_back a) (substitution_back b)
-substitution_back (gcons (gnum (suc (suc (suc (suc (suc (suc (suc (suc zero))))))))) (gcons a b)) = assert (formula_back a) (substitution_back b)
-substitution_back (gcons (gnum (suc (suc (suc (suc (suc (suc (suc (suc (suc zero)))))))))) (gcons a b)) = becomes_such (pairs_back a) (formula_back b)
-substitution_back (gcons (gnum (suc (suc (suc (suc (suc (suc (suc (suc (suc (suc n))))))))))) (gcons a (gcons b (gcons c d)))) = loop (formula_back a) (substitution_back b) (formula_back c) (formula_back d)
+substitution_back (gcons (gnum (suc (suc (suc (suc (suc (suc (suc zero)))))))) (gcons a b)) =
+    par (substitution_back a) (substitution_back b)
+substitution_back (gcons (gnum (suc (suc (suc (suc (suc (suc (suc (suc zero))))))))) (gcons a b)) =
+    assert (formula_back a) (substitution_back b)
+substitution_back (gcons (gnum (suc (suc (suc (suc (suc (suc (suc (suc (suc zero)))))))))) (gcons a b)) =
+    becomes_such (pairs_back a) (formula_back b)
+substitution_back (gcons (gnum (suc (suc (suc (suc (suc (suc (suc (suc (suc (suc n))))))))))) (gcons a (gcons b (gcons c d)))) =
+    loop (formula_back a) (substitution_back b) (formula_back c) (formula_back d)
 substitution_back _ = skip
 
 -- the code of a substitution gives the substitution back
@@ -92,8 +98,12 @@ substitution_back-code (seq s t) = λ i. seq (substitution_back-code s i) (subst
 substitution_back-code (par s t) = λ i. par (substitution_back-code s i) (substitution_back-code t i)
 substitution_back-code (assert p s) = λ i. assert (formula_back-code p i) (substitution_back-code s i)
 substitution_back-code (becomes_such xs p) = λ i. becomes_such (pairs_back-code xs i) (formula_back-code p i)
-substitution_back-code (loop p s i v) = λ j. loop (formula_back-code p j) (substitution_back-code s j) (formula_back-code i j) (formula_back-code v j)
+substitution_back-code (loop p s i v) =
+    λ j. loop (formula_back-code p j) (substitution_back-code s j) (formula_back-code i j) (formula_back-code v j)
 
 -- a substitution is told by its code
 abbrev pub coded_substitution : Coded Substitution
-coded_substitution = record { code = substitution_code; inj = λ a b e. sym (substitution_back-code a) ∙ ap substitution_back e ∙ substitution_back-code b }
+coded_substitution = record {
+  code = substitution_code;
+  inj = λ a b e. sym (substitution_back-code a) ∙ ap substitution_back e ∙ substitution_back-code b;
+}

@@ -28,7 +28,8 @@ AreTypedTerms table (p ∷ ps) = ((t : ValueType) × (variable_type table p.0 �
 -- each number for an old value has its variable's type
 abbrev pub AreTypedPairs : Table → List (ℕ × ℕ) → Type 0
 AreTypedPairs table [] = Unit {0}
-AreTypedPairs table (x ∷ xs) = ((t : ValueType) × (variable_type table x.0 ≡ Some t) × (variable_type table x.1 ≡ Some t)) × AreTypedPairs table xs
+AreTypedPairs table (x ∷ xs) =
+    ((t : ValueType) × (variable_type table x.0 ≡ Some t) × (variable_type table x.1 ≡ Some t)) × AreTypedPairs table xs
 
 -- all its formulas and variables type
 abbrev pub Types : Table → Substitution → Type 0

@@ -42,14 +42,21 @@ abbrev pub left_of : List ℕ → List ℕ → List ℕ
 left_of text [] = text
 left_of text (n ∷ counts) = left_of (drop n text) counts
 
+-- each count is one of what is left in its turn
+abbrev pub AreTaken : List ℕ → List ℕ → Type 0
+AreTaken text [] = Unit {0}
+AreTaken text (n ∷ counts) = IsTaken text n × AreTaken (drop n text) counts
+
 -- the whole text was put as one piece
 pub record PutWhole (text : List ℕ) (old new : Option (List Piece)) : Type 0 where
   pub counts : List ℕ
+  pub taken : AreTaken text counts
   pub nothing_left : left_of text counts ≡ []
   pub pieces : new ≡ pieces_with old (pieces_of text counts)
 
 -- a front of the text was put so, and something is left
 pub record PutFront (text : List ℕ) (old new : Option (List Piece)) : Type 0 where
   pub counts : List ℕ
+  pub taken : AreTaken text counts
   pub some_left : 0 < length (left_of text counts)
   pub pieces : new ≡ pieces_with old (pieces_of text counts)

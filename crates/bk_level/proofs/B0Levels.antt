@@ -144,7 +144,7 @@ module _ (int_max : ℤ) (higher : Development) (comp : Component) (most : int_m
 
   -- ---- what statements are shown from
   st : (n : ℕ) (t : ValueType) → typing n ≡ Some t → is_scalar t ≡ true → IsScalarName new n
-  st n t e s = scalar-name new n t ((stands int_max higher comp ready.listed ready.counted).settled.types n t e) s
+  st n t e s = scalar-name new n t ((stands int_max higher comp ready.table).settled.types n t e) s
 
   scalar-there : (n : ℕ) (o : Option ValueType) → typing n ≡ o → is_scalar_option o ≡ true → IsScalarName new n
   scalar-there n None e s = absurd (cc)
@@ -170,13 +170,13 @@ module _ (int_max : ℤ) (higher : Development) (comp : Component) (most : int_m
   domains n d h = domain-declared new n d h
 
   abbrev Placed-at : ℕ → List Way → Type 0
-  Placed-at n us = StandsAt x new most (stands int_max higher comp ready.listed ready.counted).settled arrays domains base top ws no-array untold n us
+  Placed-at n us = StandsAt x new most (stands int_max higher comp ready.table).settled arrays domains base top ws no-array untold n us
 
   left-at : (n : ℕ) (us vs : List Way) → Placed-at n (us ++ vs) → Placed-at n us
-  left-at n us vs h = stands-left x new most (stands int_max higher comp ready.listed ready.counted).settled arrays domains base top ws no-array untold n us vs h
+  left-at n us vs h = stands-left x new most (stands int_max higher comp ready.table).settled arrays domains base top ws no-array untold n us vs h
 
   right-at : (n k : ℕ) (us vs : List Way) → length us ≡ k → Placed-at n (us ++ vs) → Placed-at (n + k) vs
-  right-at n k us vs e h = stands-right x new most (stands int_max higher comp ready.listed ready.counted).settled arrays domains base top ws no-array untold n k us vs e h
+  right-at n k us vs e h = stands-right x new most (stands int_max higher comp ready.table).settled arrays domains base top ws no-array untold n k us vs e h
 
   all-at-base : Placed-at base ws
   all-at-base i l = let e : base + i - base ≡ i = omega arith in ap (way_at ws) e
@@ -237,8 +237,8 @@ module _ (int_max : ℤ) (higher : Development) (comp : Component) (most : int_m
       let body = sub_faults int_max typing p.upper (body_scope p q) (writes int_max higher comp p (outputs_of q)) q.binders_at o.body in
       let declared = declared_faults typing q.outputs_at o.outputs in
       let rest = none-right (input_faults typing q.headed.inputs o.inputs) (declared ++ body) faults in
-      let settled = (stands int_max higher comp ready.listed ready.counted).settled in
-      let names-of = numbered-of new.table q.outputs_at o.outputs inner (of-bind new.table q.headed.inputs (scope p) of (scope-stands int_max higher comp ready.counted)) in
+      let settled = (stands int_max higher comp ready.table).settled in
+      let names-of = numbered-of new.table q.outputs_at o.outputs inner (of-bind new.table q.headed.inputs (scope p) of (scope-stands int_max higher comp ready.table.counted)) in
       let names-typed = inner-typed int_max new.table typing settled q.outputs_at o.outputs inner (none-left declared body rest) (typed-bind typing q.headed.inputs (scope p) typed-inputs (scope-typed int_max higher comp ready said)) in
       let read = b0-statement x new most settled arrays domains base top ws no-array untold p.upper o.body (body_scope p q) (writes int_max higher comp p (outputs_of q)) q.binders_at names-of names-typed (none-right declared body rest) run stand low high small in
       let bare = no-condition o.body x (body_scope p q) q.binders_at run in
@@ -305,7 +305,7 @@ module _ (int_max : ℤ) (higher : Development) (comp : Component) (most : int_m
       let operations = operation_faults higher comp p in
       let begun = init_faults int_max higher comp typing p in
       let bodies = all_body_faults int_max higher comp typing p os in
-      let values = value_faults_of int_max typing p comp in
+      let values = value_faults_of int_max higher typing p comp in
       let missing = missing_init comp.at comp.init p.variables in
       let start = shape_faults comp.kind false (initialisation comp) in
       let shapes = bodies_shape comp.kind comp.operations in
@@ -332,10 +332,10 @@ module _ (int_max : ℤ) (higher : Development) (comp : Component) (most : int_m
       let run-bodies = operations_executable x p os in
       let r1 = none-right run-abstract (run-stored ++ (run-start ++ run-bodies)) run in
       let r2 = none-right run-stored (run-start ++ run-bodies) r1 in
-      let settled = (stands int_max higher comp ready.listed ready.counted).settled in
+      let settled = (stands int_max higher comp ready.table).settled in
       let w4 = ways (scope p) p.binders_at (initialisation comp) in
       let w5 = all_binder_ways p os in
-      let begins = b0-statement x new most settled arrays domains base top ws no-array untold p.upper (initialisation comp) (scope p) (writes int_max higher comp p []) p.binders_at (scope-stands int_max higher comp ready.counted) (scope-typed int_max higher comp ready said) begun-none
+      let begins = b0-statement x new most settled arrays domains base top ws no-array untold p.upper (initialisation comp) (scope p) (writes int_max higher comp p []) p.binders_at (scope-stands int_max higher comp ready.table.counted) (scope-typed int_max higher comp ready said) begun-none
       (none-left run-start run-bodies r2) (left-at p.binders_at w4 w5 binders-at) (omega arith) (omega arith) small in
       let behind = right-at p.binders_at (binder_count (initialisation comp)) w4 w5 (ways-count (initialisation comp) (scope p) p.binders_at) binders-at in
       let each = each-b0 small-bodies (twice-none int_max higher comp ready lawful below none names-none) said 0 p.outputs_at first higher.heads (omega arith) (omega arith) agree missing-none

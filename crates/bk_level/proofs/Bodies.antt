@@ -44,7 +44,7 @@ scope-typed int_max higher comp ready all-said =
     let said = none-right (set_faults comp.sets) (constant_faults typing p.constants_at comp.constants ++ (vars ++ more)) all-said in
     let constants-none = none-left (constant_faults typing p.constants_at comp.constants) (vars ++ more) said in
     let vars-none = none-left vars more (none-right (constant_faults typing p.constants_at comp.constants) (vars ++ more) said) in
-    let old-typed : (m : ℕ) → m < base → has_type (typing m) ≡ true = λ m h. ap has_type (low-type int_max higher comp ready.listed ready.counted m h ∙ variable-entry old.table m) ∙ entry-typed old.table.variables m h in
+    let old-typed : (m : ℕ) → m < base → has_type (typing m) ≡ true = λ m h. ap has_type (low-type int_max higher comp ready.table m h ∙ variable-entry old.table m) ∙ entry-typed old.table.variables m h in
     typed-all typing (level_names p) p.globals (typed-declared typing comp.name.at comp.variables p.variables_at p.variables vars-none)
     (typed-new typing base comp.constants (set_names (length old.table.sets) (entries_of comp.sets) ++ globals_of old) constants-none
     (typed-all typing (set_names (length old.table.sets) (entries_of comp.sets)) (globals_of old) (typed-sets typing (length old.table.sets) (entries_of comp.sets))
@@ -112,14 +112,14 @@ bodies-right int_max higher comp ready said inputs o placed none =
     let typing = types_at int_max higher comp p in
     let xs = o.headed.operation.outputs in
     let outs = outputs_of o in
-    let st = stands int_max higher comp ready.listed ready.counted in
+    let st = stands int_max higher comp ready.table in
     let visible : ℕ → Bool = names_own new p.level inputs outs in
     let inner = bind o.headed.inputs (scope p) in
     let body = sub_faults int_max typing p.upper (body_scope p o) (writes int_max higher comp p outs) o.binders_at o.headed.operation.body in
     let declared = declared_faults typing o.outputs_at xs in
     let rest = none-right (input_faults typing o.headed.inputs o.headed.operation.inputs) (declared ++ body) none in
     let clean = none-right declared body rest in
-    let of = numbered-of new.table o.outputs_at xs inner (of-bind new.table o.headed.inputs (scope p) placed.of (scope-stands int_max higher comp ready.counted)) in
+    let of = numbered-of new.table o.outputs_at xs inner (of-bind new.table o.headed.inputs (scope p) placed.of (scope-stands int_max higher comp ready.table.counted)) in
     let types = inner-typed int_max new.table typing st.settled o.outputs_at xs inner (none-left declared body rest) (typed-bind typing o.headed.inputs (scope p) placed.typed_inputs (scope-typed int_max higher comp ready said)) in
     let by : (n : ℕ) (h : Option Home) → home_of new n ≡ h → own_in p.level (among inputs n) (among outs n) h ≡ true → visible n ≡ true = λ n h e t. ap (own_in p.level (among inputs n) (among outs n)) e ∙ t in
     let scope-seen = seen-join visible (level_names p) p.globals

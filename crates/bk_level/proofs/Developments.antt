@@ -3,7 +3,7 @@ use Rattle.std.proofs.Common.{◌≡◌, List, [], ◌++◌, refl, sym, ap, subs
 use Rattle.std.specs.Prelude.{Option, None, Some, ℤ}
 use Rattle.bk_form.specs.Each.{Each}
 use Rattle.bk_dev.specs.Development.{Development, is_complete, is_implementing, int_max as machine_max}
-use Rattle.bk_dev.specs.Facts.{IsValue, HasItsValues, IsDevelopment, HomesAreThere}
+use Rattle.bk_dev.specs.Facts.{IsValue, HasItsValues, IsDevelopment}
 use Rattle.bk_raw.specs.declared.component.ComponentKind.{ComponentKind}
 use Rattle.bk_raw.specs.declared.component.ComponentKind.TheVariants.{Machine, Refinement, Implementation}
 use Rattle.bk_raw.specs.ComponentTree.{RawComponent}
@@ -26,8 +26,8 @@ use Rattle.bk_level.proofs.LowerStands.{ready-above, lower-development, refineme
 use Rattle.bk_level.proofs.ValuesStand.{values-stand}
 
 -- an implementation below a development
-pub implementation-accepted : (above : Development) (written : RawComponent) (dev : Development) → IsDevelopment above → is_complete above ≡ false → HomesAreThere above → written.kind ≡ Implementation → verdict_of (machine_max above) (Some above) written ≡ accepted dev → HasRoom dev → IsDevelopment dev
-implementation-accepted above written dev d going stand kind e room =
+pub implementation-accepted : (above : Development) (written : RawComponent) (dev : Development) → IsDevelopment above → is_complete above ≡ false → written.kind ≡ Implementation → verdict_of (machine_max above) (Some above) written ≡ accepted dev → HasRoom dev → IsDevelopment dev
+implementation-accepted above written dev d going kind e room =
     let comp = component_of written in
     let most = machine_max above in
     let right = answer-right.right most above comp dev e in
@@ -40,18 +40,18 @@ implementation-accepted above written dev d going stand kind e room =
     let operations = operation_faults above comp p in
     let begun = init_faults most above comp typing p in
     let bodies = all_body_faults most above comp typing p (operations_of p comp) in
-    let values = value_faults_of most typing p comp in
+    let values = value_faults_of most above typing p comp in
     let values-none = none-right bodies values (none-right begun (bodies ++ values) (none-right operations (begun ++ (bodies ++ values)) (none-right clauses (operations ++ (begun ++ (bodies ++ values))) (none-right (name_faults above comp) (clauses ++ (operations ++ (begun ++ (bodies ++ values)))) none)))) in
     let valued = values-stand above comp (ready-above above d.lawful) implements values-none in
-    subst IsDevelopment (sym right.2) (lower-development most above comp d going stand below none (subst HasRoom right.2 room) valued.0 (subst (HasItsValues (made most above comp p)) (sym implements) valued.1))
+    subst IsDevelopment (sym right.2) (lower-development most above comp d going below none (subst HasRoom right.2 room) valued.0 (subst (HasItsValues (made most above comp p)) (sym implements) valued.1))
 
-by-kind : (kind : ComponentKind) (above : Option Development) (written : RawComponent) (dev : Development) → written.kind ≡ kind → MayStandAbove kind above → HomesAreThere (above_of above) → verdict_of (machine_max (above_of above)) above written ≡ accepted dev → HasRoom dev → IsDevelopment dev
-by-kind Machine None written dev kind m stand e room = machine-accepted (machine_max (above_of None)) written dev kind e room
-by-kind Machine (Some above) written dev kind m stand e room = absurd m
-by-kind Refinement None written dev kind m stand e room = absurd m
-by-kind Refinement (Some above) written dev kind m stand e room = refinement-accepted (machine_max above) above written dev m.0 m.1 stand kind e room
-by-kind Implementation None written dev kind m stand e room = absurd m
-by-kind Implementation (Some above) written dev kind m stand e room = implementation-accepted above written dev m.0 m.1 stand kind e room
+by-kind : (kind : ComponentKind) (above : Option Development) (written : RawComponent) (dev : Development) → written.kind ≡ kind → MayStandAbove kind above → verdict_of (machine_max (above_of above)) above written ≡ accepted dev → HasRoom dev → IsDevelopment dev
+by-kind Machine None written dev kind m e room = machine-accepted (machine_max (above_of None)) written dev kind e room
+by-kind Machine (Some above) written dev kind m e room = absurd m
+by-kind Refinement None written dev kind m e room = absurd m
+by-kind Refinement (Some above) written dev kind m e room = refinement-accepted (machine_max above) above written dev m.0 m.1 kind e room
+by-kind Implementation None written dev kind m e room = absurd m
+by-kind Implementation (Some above) written dev kind m e room = implementation-accepted above written dev m.0 m.1 kind e room
 
 pub always-development : AcceptedIsDevelopment
-always-development above written dev m stand e room = by-kind written.kind above written dev refl m stand e room
+always-development above written dev m e room = by-kind written.kind above written dev refl m e room

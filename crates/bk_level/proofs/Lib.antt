@@ -23,6 +23,7 @@ pub mod NewHomes
 pub mod InnerHomes
 pub mod Parts
 pub mod NewLevel
+pub mod NewExtents
 pub mod NewBodies
 pub mod Machines
 pub mod MachineStands

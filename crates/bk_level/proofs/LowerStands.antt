@@ -1,17 +1,16 @@
 -- A component below a development makes a development with it, where its values are right.
-use Rattle.std.proofs.Common.{◌≡◌, inl, inr, ℕ, zero, suc, ◌+◌, ◌-◌, ◌<◌, ◌≤◌, List, [], ◌∷◌, ◌++◌, length, refl, sym, ◌∙◌, ap, subst, Bool, true, false, cond, All, IsTrue, arith, nat_eq}
-use Rattle.std.specs.Prelude.{Option, None, Some, ℤ, slice_get, slice_index_or}
+use Rattle.std.proofs.Common.{◌≡◌, inl, inr, ℕ, suc, ◌+◌, ◌-◌, ◌<◌, ◌≤◌, List, [], ◌∷◌, ◌++◌, length, refl, sym, ◌∙◌, ap, subst, Bool, true, false, cond, arith, nat_eq}
+use Rattle.std.specs.Prelude.{Option, None, ℤ, slice_index_or}
 use Rattle.std.specs.List.{flat_map}
 use Rattle.std.proofs.lemmas.Bool.Decides.{nat_tests}
-use Rattle.std.proofs.lemmas.List.Elements.{All-append, All-head, All-tail}
-use Rattle.bk_val.specs.ValueType.{ValueType}
+use Rattle.std.proofs.lemmas.List.Elements.{All-append}
 use Rattle.bk_form.specs.Each.{Each}
-use Rattle.bk_form.specs.Table.{Table, SetEntry, VariableEntry, variable_type, lists_type, IsCounted, IsWellFormed}
+use Rattle.bk_form.specs.Table.{Table, SetEntry, variable_type, IsCounted}
 use Rattle.bk_gsl.specs.State.{among}
 use Rattle.bk_dev.specs.declared.kind.Kind.{Kind}
 use Rattle.bk_dev.specs.declared.kind.Kind.TheVariants.{Machine, Refinement, Implementation}
 use Rattle.bk_dev.specs.Development.{Head, Body, Level, Development, level_at, last, blank_level, is_complete, is_implementation, is_implementing}
-use Rattle.bk_dev.specs.Facts.{AllAre, AreDistinct, binders, is_variable_of, is_variable_above, is_inner_of, home_of, EachBody, EachLevel, IsKindAt, IsHeadOf, IsLevelOf, IsValue, HasItsValues, HasItsShape, all_binders, all_outputs, IsLawful, IsDevelopment, HomesAreThere}
+use Rattle.bk_dev.specs.Facts.{AllAre, AreDistinct, binders, is_variable_of, is_variable_above, is_inner_of, home_of, EachBody, EachLevel, IsKindAt, IsHeadOf, IsLevelOf, IsValue, HasItsValues, HasItsShape, all_binders, all_outputs, IsLawful, IsDevelopment}
 use Rattle.bk_dev.proofs.FlatLevels.{passes-within}
 use Rattle.bk_dev.proofs.Levels.{last_level}
 use Rattle.bk_dev.proofs.Staying.{all-at}
@@ -30,41 +29,32 @@ use Rattle.bk_level.specs.StaticFaults.{init_faults, all_body_faults, static_fau
 use Rattle.bk_level.specs.ValueFaults.{value_faults_of}
 use Rattle.bk_level.specs.Executable.{executable_faults}
 use Rattle.bk_level.specs.LevelLaws.{IsReady, StandApart}
-use Rattle.bk_level.specs.Sources.{ListsItsTypes}
 use Rattle.bk_level.specs.Verdict.{accepted, verdict_of}
 use Rattle.bk_level.specs.VerdictLaws.{HasRoom, AcceptedRefinementIsDevelopment}
 use Rattle.bk_level.proofs.Apart.{join-cases}
 use Rattle.bk_level.proofs.Counted.{length-join, stands-apart}
-use Rattle.bk_level.proofs.Listed.{of_entry, variable-entry}
 use Rattle.bk_level.proofs.Stands.{get-left, get-right, split-at, stands, entries-counted}
 use Rattle.bk_level.proofs.Homes.{homes-all}
 use Rattle.bk_level.proofs.OldLevels.{head-kept, levels-kept}
 use Rattle.bk_level.proofs.NewHomes.{new-pass, index-left, homes-stay}
 use Rattle.bk_level.proofs.NewLevel.{index-last, new-clauses}
+use Rattle.bk_level.proofs.NewExtents.{lower-extents}
 use Rattle.bk_level.proofs.Lowers.{lowers-right}
 use Rattle.bk_level.proofs.MachineStands.{all-listed, all-sized}
 use Rattle.bk_level.proofs.Verdicts.{answer-right}
+use Rattle.bk_level.proofs.ValuesStand.{sizes-above}
 
 -- ---- what stands above is ready
 seen-level : (v : ℕ → Bool) (k : ℕ) (table : Table) (ns : List ℕ) → AllAre v ns → AreSeen v (names_at_level k table ns)
 seen-level v k table [] h = tt
 seen-level v k table (n ∷ ns) h = (h.0, seen-level v k table ns h.1)
 
-entry-listed : (table : Table) (vs : List VariableEntry) → All (λ v. IsTrue (lists_type table v.of_type)) vs → (n : ℕ) (t : ValueType) → of_entry (slice_get vs n) ≡ Some t → lists_type table t ≡ true
-entry-listed table [] h n t e = absurd (cc)
-entry-listed table (v ∷ vs) h zero t e = let q : v.of_type ≡ t = cc in subst (λ x. lists_type table x ≡ true) q (All-head (λ v. IsTrue (lists_type table v.of_type)) v vs h)
-entry-listed table (v ∷ vs) h (suc n) t e = entry-listed table vs (All-tail (λ v. IsTrue (lists_type table v.of_type)) v vs h) n t e
-
-types-above : (t : Table) → IsWellFormed t → ListsItsTypes t
-types-above t w n u e = entry-listed t t.variables w.listed n u (sym (variable-entry t n) ∙ e)
-
 pub ready-above : (dev : Development) → IsLawful dev → IsReady dev
 ready-above dev lawful =
     let some = lawful.some_level in
     let next : suc (last dev) ≡ length dev.levels = omega arith in
     record {
-      listed = types-above dev.table lawful.table;
-      counted = lawful.table.counted;
+      table = lawful.table;
       homes = lawful.homes;
       upper = subst (λ k. AreSeen (λ n. is_variable_above k (home_of dev n)) (upper_of dev)) next (seen-level (λ n. is_variable_of (last dev) (home_of dev n)) (last dev) dev.table (level_at dev (last dev)).vars (last_level dev lawful).vars);
     }
@@ -124,10 +114,10 @@ lower-kind Refinement n e h = h
 lower-kind Implementation n e h = h
 
 -- ---- the development
-pub lower-development : (int_max : ℤ) (higher : Development) (comp : Component) → IsDevelopment higher → is_complete higher ≡ false → HomesAreThere higher → is_machine comp.kind ≡ false → static_faults int_max higher comp ≡ []
+pub lower-development : (int_max : ℤ) (higher : Development) (comp : Component) → IsDevelopment higher → is_complete higher ≡ false → is_machine comp.kind ≡ false → static_faults int_max higher comp ≡ []
     → HasRoom (made int_max higher comp (plan higher comp)) → Each (IsValue (made int_max higher comp (plan higher comp))) (made int_max higher comp (plan higher comp)).values → HasItsValues (made int_max higher comp (plan higher comp)) (is_implementing comp.kind)
     → IsDevelopment (made int_max higher comp (plan higher comp))
-lower-development int_max higher comp d going stand below none room values all-valued =
+lower-development int_max higher comp d going below none room values all-valued =
     let p = plan higher comp in
     let new = made int_max higher comp p in
     let typing = types_at int_max higher comp p in
@@ -136,11 +126,17 @@ lower-development int_max higher comp d going stand below none room values all-v
     let some = lawful.some_level in
     let ready = ready-above higher lawful in
     let clauses = clause_faults int_max typing p comp in
-    let after = operation_faults higher comp p ++ (init_faults int_max higher comp typing p ++ (all_body_faults int_max higher comp typing p (operations_of p comp) ++ value_faults_of int_max typing p comp)) in
-    let said = none-left clauses after (none-right (name_faults higher comp) (clauses ++ after) none) in
+    let operations = operation_faults higher comp p in
+    let begun = init_faults int_max higher comp typing p in
+    let behind = all_body_faults int_max higher comp typing p (operations_of p comp) in
+    let last-faults = value_faults_of int_max higher typing p comp in
+    let after = operations ++ (begun ++ (behind ++ last-faults)) in
+    let all-none = none-right (name_faults higher comp) (clauses ++ after) none in
+    let said = none-left clauses after all-none in
+    let values-none = none-right behind last-faults (none-right begun (behind ++ last-faults) (none-right operations (begun ++ (behind ++ last-faults)) (none-right clauses after all-none))) in
     let more = constant_faults typing p.constants_at comp.constants ++ (variable_faults typing comp.name.at comp.variables p.variables_at p.variables ++ (stated_faults int_max typing p.globals comp.properties ++ (stated_faults int_max typing (joined p) comp.invariant ++ (all_stated_faults int_max typing (joined p) comp.assertions ++ entry_faults int_max typing p.globals comp.values)))) in
-    let st = stands int_max higher comp ready.listed ready.counted in
-    let level = new-clauses int_max higher comp ready stand (lower-kind comp.kind (length higher.levels) below some) none in
+    let st = stands int_max higher comp ready.table in
+    let level = new-clauses int_max higher comp ready d.homes_there (lower-kind comp.kind (length higher.levels) below some) none in
     let right = lowers-right int_max higher comp ready lawful below none in
     let at : (j : ℕ) → j < length higher.levels → level_at new j ≡ level_at higher j = λ j h. index-left higher.levels (l ∷ []) j blank_level h in
     let machine-so : (level_at new 0).bodies ≡ (level_at higher 0).bodies = ap (λ (m : Level). m.bodies) (at 0 some) in
@@ -188,18 +184,20 @@ lower-development int_max higher comp d going stand below none room values all-v
       };
       only_last = λ k h. (let j : k < length higher.levels = omega arith in
           ap is_implementation (at k j) ∙ split-at (is_implementation (level_at higher k) ≡ false) (suc k) (length higher.levels) (λ a. d.only_last k a) (λ a. (let e : k ≡ last higher = omega arith in ap (λ m. is_implementation (level_at higher m)) e ∙ going)));
+      sizes = λ h. All-append (λ (s : SetEntry). 0 < s.size) higher.table.sets (entries_of comp.sets) (sizes-above int_max higher typing p comp (sym complete-so ∙ h) values-none) (all-sized comp.sets (none-left (set_faults comp.sets) more said));
       shapes = each-join HasItsShape higher.levels (l ∷ []) d.shapes (record { init = level.shape; bodies = right.shapes }, tt);
       binders_differ = (stands-apart int_max higher comp (apart-above higher d)).differ;
       room = room.variables;
       few_sets = room.sets;
-      homes_there = homes-stay int_max higher comp lawful.homes stand;
+      homes_there = homes-stay int_max higher comp lawful.homes d.homes_there;
+      extents = lower-extents int_max higher comp d.extents some;
     }
   where
     other : (j : ℕ) → j < length higher.levels → nat_eq (length higher.levels) j ≡ false
     other j h = grind (arith, nat_tests)
 
 pub refinement-accepted : AcceptedRefinementIsDevelopment
-refinement-accepted int_max higher written dev d going stand kind e room =
+refinement-accepted int_max higher written dev d going kind e room =
     let comp = component_of written in
     let right = answer-right.right int_max higher comp dev e in
     let new = made int_max higher comp (plan higher comp) in
@@ -209,4 +207,4 @@ refinement-accepted int_max higher written dev d going stand kind e room =
     let implements : is_implementing comp.kind ≡ false = ap (λ k. is_implementing (kind_as k)) kind in
     let value-none : new.values ≡ [] = ap (values_made int_max typing (plan higher comp).globals) no-values in
     let none = none-left (static_faults int_max higher comp) (executable_faults int_max higher comp) right.1 in
-    subst IsDevelopment (sym right.2) (lower-development int_max higher comp d going stand below none (subst HasRoom right.2 room) (subst (Each (IsValue new)) (sym value-none) tt) (subst (HasItsValues new) (sym implements) value-none))
+    subst IsDevelopment (sym right.2) (lower-development int_max higher comp d going below none (subst HasRoom right.2 room) (subst (Each (IsValue new)) (sym value-none) tt) (subst (HasItsValues new) (sym implements) value-none))

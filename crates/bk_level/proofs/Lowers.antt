@@ -83,12 +83,12 @@ module _ (int_max : ℤ) (higher : Development) (comp : Component) (ready : IsRe
   lower-alike names n (x ∷ xs) (m ∷ ms) q a h k f =
       let alike = a.0 in
       let t = alike.0 in
-      let st = stands int_max higher comp ready.listed ready.counted in
+      let st = stands int_max higher comp ready.table in
       let low = type-below higher.table m t alike.1 in
       let at : n - base ≡ (n - base) + 0 = omega arith in
       let there : slice_get ws (n - base) ≡ Some (same_as m) = ap (slice_get ws) at ∙ (f 0 (omega arith) ∙ ap (λ o. Some (way_from o)) q.0) in
       let same = rounds-same int_max (length ws) base ws (known higher) n m (omega arith) h (omega arith) low (ap or_no_way there) (none-past higher n h) in (
-        (t, st.settled.types n t (same ∙ alike.1), st.settled.types m t (low-type int_max higher comp ready.listed ready.counted m low ∙ alike.1)),
+        (t, st.settled.types n t (same ∙ alike.1), st.settled.types m t (low-type int_max higher comp ready.table m low ∙ alike.1)),
         lower-alike names (suc n) xs ms q.1 a.1 (omega arith) (omega arith) (λ j l. (let e : (suc n - base) + j ≡ (n - base) + suc j = omega arith in ap (slice_get ws) e ∙ f (suc j) (omega arith))),
       )
 
@@ -225,7 +225,7 @@ module _ (int_max : ℤ) (higher : Development) (comp : Component) (ready : IsRe
       let operations = operation_faults higher comp p in
       let begun = init_faults int_max higher comp typing p in
       let bodies = all_body_faults int_max higher comp typing p (operations_of p comp) in
-      let values = value_faults_of int_max typing p comp in
+      let values = value_faults_of int_max higher typing p comp in
       let missing = missing_init comp.at comp.init p.variables in
       let start = shape_faults comp.kind false (initialisation comp) in
       let shapes = bodies_shape comp.kind comp.operations in

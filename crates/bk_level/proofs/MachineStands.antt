@@ -3,9 +3,8 @@ use Rattle.std.proofs.Common.{◌≡◌, ℕ, zero, suc, ◌+◌, ◌<◌, ◌�
 use Rattle.std.specs.Prelude.{Option, None, Some, ℤ, slice_get}
 use Rattle.std.specs.List.{filter_map}
 use Rattle.std.proofs.lemmas.List.Elements.{All-nil, All-cons}
-use Rattle.bk_val.specs.ValueType.{ValueType}
 use Rattle.bk_form.specs.Each.{Each}
-use Rattle.bk_form.specs.Table.{Table, SetEntry, VariableEntry, variable_type, lists_type, empty_table, IsCounted, IsWellFormed}
+use Rattle.bk_form.specs.Table.{Table, SetEntry, VariableEntry, lists_type, empty_table, IsCounted, IsWellFormed}
 use Rattle.bk_form.specs.Sized.{HasSizes}
 use Rattle.bk_dev.specs.declared.kind.Kind.{Kind}
 use Rattle.bk_dev.specs.declared.kind.Kind.TheVariants.{Machine, Refinement, Implementation}
@@ -39,6 +38,7 @@ use Rattle.bk_level.proofs.Stands.{stands, entries-counted}
 use Rattle.bk_level.proofs.Homes.{homes-all}
 use Rattle.bk_level.proofs.NewHomes.{homes-stay}
 use Rattle.bk_level.proofs.NewLevel.{new-clauses}
+use Rattle.bk_level.proofs.NewExtents.{machine-extents}
 use Rattle.bk_level.proofs.Machines.{machines-right, machine-shapes}
 use Rattle.bk_level.proofs.Verdicts.{answer-right}
 use Rattle.bk_dev.proofs.DefaultRange.{default_range}
@@ -68,11 +68,12 @@ all-sized (s ∷ ss) h =
     All-cons (λ (s : SetEntry). 0 < s.size) (record { name = s.name.text; elements = texts s.elements; size = length (texts s.elements) }) (entries_of ss) (has-name s.elements k.0) (all-sized ss k.1)
 
 -- ---- nothing above
-types-of-none : (n : ℕ) (t : ValueType) → variable_type empty_table n ≡ Some t → lists_type empty_table t ≡ true
-types-of-none n t e = let none : of_entry (slice_get [] n) ≡ Some t = sym (variable-entry empty_table n) ∙ e in absurd (cc)
-
 none-ready : IsReady no_development
-none-ready = record { listed = types-of-none; counted = All-nil IsCounted; homes = refl; upper = tt }
+none-ready = record {
+  table = record { counted = All-nil IsCounted; listed = All-nil (λ (v : VariableEntry). IsTrue (lists_type empty_table v.of_type)) };
+  homes = refl;
+  upper = tt;
+}
 
 not-implementing : (k : Kind) → is_machine k ≡ true → is_implementing k ≡ false
 not-implementing Machine e = refl
@@ -91,10 +92,10 @@ machine-development int_max comp machine no-values none room =
     let new = made int_max no_development comp p in
     let typing = types_at int_max no_development comp p in
     let clauses = clause_faults int_max typing p comp in
-    let after = operation_faults no_development comp p ++ (init_faults int_max no_development comp typing p ++ (all_body_faults int_max no_development comp typing p (operations_of p comp) ++ value_faults_of int_max typing p comp)) in
+    let after = operation_faults no_development comp p ++ (init_faults int_max no_development comp typing p ++ (all_body_faults int_max no_development comp typing p (operations_of p comp) ++ value_faults_of int_max no_development typing p comp)) in
     let said = none-left clauses after (none-right (name_faults no_development comp) (clauses ++ after) none) in
     let more = constant_faults typing p.constants_at comp.constants ++ (variable_faults typing comp.name.at comp.variables p.variables_at p.variables ++ (stated_faults int_max typing p.globals comp.properties ++ (stated_faults int_max typing (joined p) comp.invariant ++ (all_stated_faults int_max typing (joined p) comp.assertions ++ entry_faults int_max typing p.globals comp.values)))) in
-    let st = stands int_max no_development comp types-of-none (All-nil IsCounted) in
+    let st = stands int_max no_development comp none-ready.table in
     let level = new-clauses int_max no_development comp none-ready (λ n. tt) (machine-first comp.kind machine) none in
     let right = machines-right int_max no_development comp none-ready machine none in
     let apart = stands-apart int_max no_development comp (record { differ = tt; below = λ n e. absurd (cc) }) in
@@ -135,6 +136,7 @@ machine-development int_max comp machine no-values none room =
       room = room.variables;
       few_sets = room.sets;
       homes_there = homes-stay int_max no_development comp refl (λ n. tt);
+      extents = machine-extents int_max comp;
     }
 
 pub machine-accepted : AcceptedMachineIsDevelopment

@@ -115,7 +115,7 @@ module _ (int_max : ℤ) (higher : Development) (comp : Component) (ready : IsRe
       let inputs = input_faults typing (numbered i o.inputs) o.inputs in
       let outputs = declared_faults typing n o.outputs in
       let body = sub_faults int_max typing p.upper (body_scope p h) (writes int_max higher comp p (outputs_of h)) b o.body in
-      let st = stands int_max higher comp ready.listed ready.counted in (
+      let st = stands int_max higher comp ready.table in (
         new-bodies int_max higher comp ready none (record { name = o.name.text; inputs = interval i (length o.inputs); outputs = length o.outputs }) (body_made int_max typing p h) h
             (record { outputs = h2; all_outputs = omega arith; binders = h4; all_binders = omega arith })
             (record {
@@ -162,7 +162,7 @@ module _ (int_max : ℤ) (higher : Development) (comp : Component) (ready : IsRe
       let operations = operation_faults higher comp p in
       let begun = init_faults int_max higher comp typing p in
       let bodies = all_body_faults int_max higher comp typing p (operations_of p comp) in
-      let values = value_faults_of int_max typing p comp in
+      let values = value_faults_of int_max higher typing p comp in
       let missing = missing_init comp.at comp.init p.variables in
       let start = shape_faults comp.kind false (initialisation comp) in
       let shapes = bodies_shape comp.kind comp.operations in
@@ -185,7 +185,7 @@ machine-shapes int_max higher comp ready machine none =
     let first = p.binders_at + binder_count (initialisation comp) in
     let clauses = clause_faults int_max typing p comp in
     let operations = operation_faults higher comp p in
-    let after = init_faults int_max higher comp typing p ++ (all_body_faults int_max higher comp typing p (operations_of p comp) ++ value_faults_of int_max typing p comp) in
+    let after = init_faults int_max higher comp typing p ++ (all_body_faults int_max higher comp typing p (operations_of p comp) ++ value_faults_of int_max higher typing p comp) in
     let operations-none = none-left operations after (none-right clauses (operations ++ after) (none-right (name_faults higher comp) (clauses ++ (operations ++ after)) none)) in
     let missing = missing_init comp.at comp.init p.variables in
     let start = shape_faults comp.kind false (initialisation comp) in

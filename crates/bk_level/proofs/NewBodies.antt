@@ -38,7 +38,7 @@ new-bodies int_max higher comp ready none head machine o within placed many alik
     let outs = outputs_of o in
     let count = length o.headed.operation.outputs in
     let clauses = clause_faults int_max typing p comp in
-    let rest = operation_faults higher comp p ++ (init_faults int_max higher comp typing p ++ (all_body_faults int_max higher comp typing p (operations_of p comp) ++ value_faults_of int_max typing p comp)) in
+    let rest = operation_faults higher comp p ++ (init_faults int_max higher comp typing p ++ (all_body_faults int_max higher comp typing p (operations_of p comp) ++ value_faults_of int_max higher typing p comp)) in
     let said = none-left clauses rest (none-right (name_faults higher comp) (clauses ++ rest) none) in
     let right = bodies-right int_max higher comp ready said head.inputs o placed faults in
     let parts = body-parts int_max new.table typing p.upper (body_scope p o) o.binders_at (names_own new p.level head.inputs outs) (names_joined new p.level) (writes_own new p.level outs) s (right.types, right.stays) in

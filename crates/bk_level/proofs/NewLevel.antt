@@ -61,11 +61,11 @@ link-stands int_max higher comp ready l h =
     let split = above-split (length higher.levels) (home_of higher l.1) up in
     let there = entry-there higher.table.variables l.1 low in
     let type : variable_type higher.table l.1 ≡ Some there.0 = variable-entry higher.table l.1 ∙ there.1 in
-    let st = stands int_max higher comp ready.listed ready.counted in
+    let st = stands int_max higher comp ready.table in
     record {
       below = right.0;
       above = (split.0, split.1, ap (is_variable_of split.0) (old-home int_max higher comp ready.homes l.1 low) ∙ split.2);
-      alike = (there.0, st.settled.types l.0 there.0 (right.1 ∙ type), st.settled.types l.1 there.0 (low-type int_max higher comp ready.listed ready.counted l.1 low ∙ type));
+      alike = (there.0, st.settled.types l.0 there.0 (right.1 ∙ type), st.settled.types l.1 there.0 (low-type int_max higher comp ready.table l.1 low ∙ type));
     }
 
 -- ---- where the initialisation may stand
@@ -85,7 +85,7 @@ new-clauses int_max higher comp ready stand kind none =
     let l = level_made int_max typing p comp in
     let clauses = clause_faults int_max typing p comp in
     let operations = operation_faults higher comp p in
-    let after = init_faults int_max higher comp typing p ++ (all_body_faults int_max higher comp typing p (operations_of p comp) ++ value_faults_of int_max typing p comp) in
+    let after = init_faults int_max higher comp typing p ++ (all_body_faults int_max higher comp typing p (operations_of p comp) ++ value_faults_of int_max higher typing p comp) in
     let operations-none = none-left operations after (none-right clauses (operations ++ after) (none-right (name_faults higher comp) (clauses ++ (operations ++ after)) none)) in
     let states = states-right int_max higher comp ready in
     let starts = starts-right int_max higher comp ready none in

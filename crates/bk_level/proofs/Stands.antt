@@ -1,5 +1,5 @@
 -- The table that a component gives has the types that are told, and its scopes have the table's sets and elements.
-use Rattle.std.proofs.Common.{◌≡◌, inr, ℕ, zero, suc, ◌+◌, ◌-◌, ◌<◌, ◌≤◌, List, [], ◌∷◌, ◌++◌, length, refl, sym, ◌∙◌, ap, subst, Bool, true, false, cond, ◌&&◌, All, arith}
+use Rattle.std.proofs.Common.{◌≡◌, inr, ℕ, zero, suc, ◌+◌, ◌-◌, ◌<◌, ◌≤◌, List, [], ◌∷◌, ◌++◌, length, refl, sym, ◌∙◌, ap, subst, Bool, true, false, cond, ◌&&◌, All, IsTrue, arith}
 use Rattle.std.specs.Prelude.{Option, None, Some, nat_lt, slice_get, ℤ}
 use Rattle.std.specs.Option.{option_map_or}
 use Rattle.std.proofs.lemmas.Bool.Decides.{nat_tests}
@@ -7,7 +7,7 @@ use Rattle.std.proofs.lemmas.List.Elements.{All-nil, All-cons, All-head, All-tai
 use Rattle.std.proofs.lemmas.Option.{slice_get_within}
 use Rattle.bk_val.specs.ValueType.{ValueType, int_type, bool_type, enum_type, pair_type, set_type}
 use Rattle.bk_form.specs.Role.{bind}
-use Rattle.bk_form.specs.Table.{Table, SetEntry, VariableEntry, variable_type, lists_type, is_among_sets, listed_size, IsCounted}
+use Rattle.bk_form.specs.Table.{Table, SetEntry, VariableEntry, variable_type, lists_type, is_among_sets, listed_size, IsCounted, IsWellFormed}
 use Rattle.bk_dev.specs.declared.kind.Kind.{Kind}
 use Rattle.bk_dev.specs.declared.kind.Home.{Home}
 use Rattle.bk_dev.specs.declared.kind.Home.TheVariants.{Constant, Input, Abstract, Concrete, Inner}
@@ -276,7 +276,15 @@ split-at P n b f g = by-test (nat_lt n b) refl
 same-some : {A : Type 0} (y x : A) → Some y ≡ Some x → y ≡ x
 same-some y x e = cc
 
-module _ (int_max : ℤ) (higher : Development) (comp : Component) (olds-listed : ListsItsTypes higher.table) (olds-counted : All IsCounted higher.table.sets) where
+entry-listed : (table : Table) (vs : List VariableEntry) → All (λ v. IsTrue (lists_type table v.of_type)) vs → (n : ℕ) (t : ValueType) → of_entry (slice_get vs n) ≡ Some t → lists_type table t ≡ true
+entry-listed table [] h n t e = absurd (cc)
+entry-listed table (v ∷ vs) h zero t e = let q : v.of_type ≡ t = cc in subst (λ x. lists_type table x ≡ true) q (All-head (λ v. IsTrue (lists_type table v.of_type)) v vs h)
+entry-listed table (v ∷ vs) h (suc n) t e = entry-listed table vs (All-tail (λ v. IsTrue (lists_type table v.of_type)) v vs h) n t e
+
+types-above : (t : Table) → IsWellFormed t → ListsItsTypes t
+types-above t w n u e = entry-listed t t.variables w.listed n u (sym (variable-entry t n) ∙ e)
+
+module _ (int_max : ℤ) (higher : Development) (comp : Component) (well : IsWellFormed higher.table) where
   abbrev table : Table
   table = table_of int_max higher comp (plan higher comp)
 
@@ -295,8 +303,8 @@ module _ (int_max : ℤ) (higher : Development) (comp : Component) (olds-listed 
   told : AreTold table (base + length fresh_texts) typing
   told =
       let e = all-count higher comp in
-      settled-told int_max table (base + length fresh_texts) base (all_ways (plan higher comp) comp) (known higher) (all-ways int_max higher comp olds-counted) (omega arith)
-      (record { listed = λ n t k. grown t (olds-listed n t k); below = λ n t k. (let l = type-below higher.table n t k in omega arith) })
+      settled-told int_max table (base + length fresh_texts) base (all_ways (plan higher comp) comp) (known higher) (all-ways int_max higher comp well.counted) (omega arith)
+      (record { listed = λ n t k. grown t (types-above higher.table well n t k); below = λ n t k. (let l = type-below higher.table n t k in omega arith) })
 
   old-type : (n : ℕ) → n < base → variable_type table n ≡ variable_type higher.table n
   old-type n h = variable-entry table n ∙ (ap of_entry (get-left higher.table.variables (entries_from typing base fresh_texts) n h) ∙ sym (variable-entry higher.table n))
@@ -318,7 +326,7 @@ module _ (int_max : ℤ) (higher : Development) (comp : Component) (olds-listed 
 
   types-listed : (n : ℕ) (t : ValueType) → variable_type table n ≡ Some t → lists_type table t ≡ true
   types-listed n t e = split-at (lists_type table t ≡ true) n base
-      (λ h. grown t (olds-listed n t (sym (old-type n h) ∙ e)))
+      (λ h. grown t (types-above higher.table well n t (sym (old-type n h) ∙ e)))
       (λ h.
       let all = type-below table n t e in
       let count = length-join higher.table.variables (entries_from typing base fresh_texts) in
@@ -327,4 +335,4 @@ module _ (int_max : ℤ) (higher : Development) (comp : Component) (olds-listed 
       subst (λ u. lists_type table u ≡ true) same (or-listed n (typing n) refl))
 
   pub stands : Stands int_max higher comp
-  stands = record { settled = record { types = types-stand; listed = λ n t e. told.listed n t e }; listed = types-listed; globals = globals-stand int_max higher comp olds-counted; upper = upper-stands int_max higher comp }
+  stands = record { settled = record { types = types-stand; listed = λ n t e. told.listed n t e }; listed = types-listed; globals = globals-stand int_max higher comp well.counted; upper = upper-stands int_max higher comp }

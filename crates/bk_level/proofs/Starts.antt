@@ -171,11 +171,11 @@ starts-right int_max higher comp ready none =
     let typing = types_at int_max higher comp p in
     let base = length old.table.variables in
     let visible : ℕ → Bool = names_own new p.level [] [] in
-    let st = stands int_max higher comp ready.listed ready.counted in
+    let st = stands int_max higher comp ready.table in
     let clauses = clause_faults int_max typing p comp in
     let operations = operation_faults higher comp p in
     let start = sub_faults int_max typing p.upper (scope p) (writes int_max higher comp p []) p.binders_at (initialisation comp) in
-    let after = all_body_faults int_max higher comp typing p (operations_of p comp) ++ value_faults_of int_max typing p comp in
+    let after = all_body_faults int_max higher comp typing p (operations_of p comp) ++ value_faults_of int_max higher typing p comp in
     let e1 = none-right (name_faults higher comp) (clauses ++ (operations ++ (start ++ after))) none in
     let all-said = none-left clauses (operations ++ (start ++ after)) e1 in
     let begun = none-left start after (none-right operations (start ++ after) (none-right clauses (operations ++ (start ++ after)) e1)) in
@@ -184,7 +184,7 @@ starts-right int_max higher comp ready none =
     let said = none-right (set_faults comp.sets) (constant_faults typing p.constants_at comp.constants ++ (vars ++ more)) all-said in
     let constants-none = none-left (constant_faults typing p.constants_at comp.constants) (vars ++ more) said in
     let vars-none = none-left vars more (none-right (constant_faults typing p.constants_at comp.constants) (vars ++ more) said) in
-    let old-typed : (m : ℕ) → m < base → has_type (typing m) ≡ true = λ m h. ap has_type (low-type int_max higher comp ready.listed ready.counted m h ∙ variable-entry old.table m) ∙ entry-typed old.table.variables m h in
+    let old-typed : (m : ℕ) → m < base → has_type (typing m) ≡ true = λ m h. ap has_type (low-type int_max higher comp ready.table m h ∙ variable-entry old.table m) ∙ entry-typed old.table.variables m h in
     let names-typed = typed-all typing (level_names p) p.globals (typed-declared typing comp.name.at comp.variables p.variables_at p.variables vars-none)
     (typed-new typing base comp.constants (set_names (length old.table.sets) (entries_of comp.sets) ++ globals_of old) constants-none
     (typed-all typing (set_names (length old.table.sets) (entries_of comp.sets)) (globals_of old) (typed-sets typing (length old.table.sets) (entries_of comp.sets))
@@ -201,6 +201,6 @@ starts-right int_max higher comp ready none =
     (λ a. (let past : length old.homes ≤ n = (let hs = ready.homes in omega arith) in absurd (above-none (length old.levels) (ap (is_variable_above (length old.levels)) (sym (slice_get_past old.homes n past)) ∙ h)))) in
     let upper-seen = seen-more (λ n. is_variable_above (length old.levels) (home_of old n)) (names_joined new p.level) p.upper old-above ready.upper in
     record {
-      types = elaborated-types int_max new.table typing st.settled p.upper (upper-stands int_max higher comp) (initialisation comp) (scope p) (writes int_max higher comp p []) p.binders_at (scope-stands int_max higher comp ready.counted) names-typed begun;
-      stays = elaborated-stays int_max new.table typing st.settled p.upper (upper-stands int_max higher comp) (names_joined new p.level) upper-seen (initialisation comp) (scope p) visible (writes int_max higher comp p []) p.binders_at (scope-stands int_max higher comp ready.counted) names-typed seen low begun;
+      types = elaborated-types int_max new.table typing st.settled p.upper (upper-stands int_max higher comp) (initialisation comp) (scope p) (writes int_max higher comp p []) p.binders_at (scope-stands int_max higher comp ready.table.counted) names-typed begun;
+      stays = elaborated-stays int_max new.table typing st.settled p.upper (upper-stands int_max higher comp) (names_joined new p.level) upper-seen (initialisation comp) (scope p) visible (writes int_max higher comp p []) p.binders_at (scope-stands int_max higher comp ready.table.counted) names-typed seen low begun;
     }

@@ -92,14 +92,14 @@ states-right int_max higher comp ready =
     let p = plan higher comp in
     let new = made int_max higher comp p in
     let typing = types_at int_max higher comp p in
-    let st = (stands int_max higher comp ready.listed ready.counted).settled in
+    let st = (stands int_max higher comp ready.table).settled in
     let globals = globals-seen int_max higher comp ready.homes (names_constants new) (λ n e. ap is_constant e) in
     record {
-      properties = stated-typed int_max new.table typing st (names_constants new) p.globals (globals-stand int_max higher comp ready.counted) globals comp.properties;
-      properties_names = stated-names int_max new.table typing st (names_constants new) p.globals (globals-stand int_max higher comp ready.counted) globals comp.properties;
+      properties = stated-typed int_max new.table typing st (names_constants new) p.globals (globals-stand int_max higher comp ready.table.counted) globals comp.properties;
+      properties_names = stated-names int_max new.table typing st (names_constants new) p.globals (globals-stand int_max higher comp ready.table.counted) globals comp.properties;
       invariant = record {
-        is_predicate = stated-typed int_max new.table typing st (names_joined new p.level) (joined p) (joined-stands int_max higher comp ready.counted) (joined-seen int_max higher comp ready) comp.invariant;
-        names = stated-names int_max new.table typing st (names_joined new p.level) (joined p) (joined-stands int_max higher comp ready.counted) (joined-seen int_max higher comp ready) comp.invariant;
+        is_predicate = stated-typed int_max new.table typing st (names_joined new p.level) (joined p) (joined-stands int_max higher comp ready.table.counted) (joined-seen int_max higher comp ready) comp.invariant;
+        names = stated-names int_max new.table typing st (names_joined new p.level) (joined p) (joined-stands int_max higher comp ready.table.counted) (joined-seen int_max higher comp ready) comp.invariant;
       };
-      assertions = all-stated int_max new p.level typing st (joined p) (joined-stands int_max higher comp ready.counted) (joined-seen int_max higher comp ready) comp.assertions;
+      assertions = all-stated int_max new p.level typing st (joined p) (joined-stands int_max higher comp ready.table.counted) (joined-seen int_max higher comp ready) comp.assertions;
     }

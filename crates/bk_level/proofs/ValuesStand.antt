@@ -1,13 +1,16 @@
--- The values of an implementation's constants: each constant has one, and it is of its type.
+-- The values of an implementation's constants: each constant has one, and it is of its type. And each set above has a size.
 use Rattle.std.proofs.Common.{◌≡◌, ◌⊎◌, inl, inr, ℕ, zero, suc, ◌+◌, ◌-◌, ◌<◌, ◌≤◌, ◌≤ℤ◌, List, [], ◌∷◌, ◌++◌, length, refl, sym, ◌∙◌, ap, subst, Bool, true, false, cond, not, ◌&&◌, ◌||◌, arith, nat_eq}
 use Rattle.std.specs.Prelude.{Option, None, Some, ℤ, pos, ◌-ℤ◌, int_le, slice_get}
+use Rattle.std.specs.Str.{bytes_eq}
 use Rattle.std.proofs.lemmas.Bool.Decides.{nat_tests}
 use Rattle.std.proofs.lemmas.Int.{ints}
+use Rattle.std.proofs.lemmas.List.Elements.{All-nil, All-cons}
 use Rattle.bk_val.specs.ValueType.{ValueType}
 use Rattle.bk_form.specs.Each.{Each}
 use Rattle.bk_form.specs.Formula.{Formula, variable, bound, literal, truth_value, element, empty_set, named, btrue, bfalse, unary, binary, for_all, for_some, comprehension, lambda}
 use Rattle.bk_form.specs.Role.{bind, same_type}
-use Rattle.bk_form.specs.Table.{VariableEntry}
+use Rattle.bk_form.specs.Table.{SetEntry, VariableEntry}
+use Rattle.bk_form.specs.Sized.{HasSizes}
 use Rattle.bk_form.proofs.Roles.{same_type-then}
 use Rattle.bk_gsl.specs.State.{among, firsts}
 use Rattle.bk_dev.specs.declared.kind.Home.{Home}
@@ -16,7 +19,7 @@ use Rattle.bk_dev.specs.Development.{Development, is_implementing, int_max as ma
 use Rattle.bk_dev.specs.Facts.{AreDistinct, is_constant, home_of, IsLiteral, IsValue, HasItsValues}
 use Rattle.bk_raw.specs.declared.component.RawValue.{RawValue}
 use Rattle.bk_raw.specs.declared.term.RawName.{RawName}
-use Rattle.bk_raw.specs.Names.{Names}
+use Rattle.bk_raw.specs.Names.{Names, Meaning, local, global, set_name, element_name, nothing}
 use Rattle.bk_raw.specs.Outcome.{Partial, whole, hollow, single_of, pair_of, joint_of, Outcome, partial, ranging, holding, silent}
 use Rattle.bk_raw.specs.RightReading.{IsRight}
 use Rattle.bk_raw.specs.ScopeReading.{set_names}
@@ -24,12 +27,12 @@ use Rattle.bk_raw.proofs.Filled.{and-both}
 use Rattle.bk_raw.proofs.RulesFit.{none-left, none-right, some-fault}
 use Rattle.bk_raw.specs.Faults.{Fault, wrong_value}
 use Rattle.bk_level.specs.Components.{Component}
-use Rattle.bk_level.specs.Typings.{Typing, numbered, variable_in, Target, unknown, no_variable, variable_target, target, as_number, type_at, type_named, variable_named, outcome_of}
+use Rattle.bk_level.specs.Typings.{Typing, numbered, variable_in, Target, unknown, no_variable, variable_target, target_in, target, set_in, set_named, as_number, type_at, type_named, variable_named, outcome_of}
 use Rattle.bk_level.specs.SubFaults.{is_again, with_target}
 use Rattle.bk_level.specs.Above.{constants_from, globals_of}
-use Rattle.bk_level.specs.Plan.{entries_of, plan}
+use Rattle.bk_level.specs.Plan.{entries_of, Plan, plan}
 use Rattle.bk_level.specs.LevelOf.{is_value_form, is_of, where_value, value_in, value_of, with_value, values_made, types_at, made}
-use Rattle.bk_level.specs.ValueFaults.{is_there, entry_value_faults, with_number, valued, is_missing, without_value, value_faults_of}
+use Rattle.bk_level.specs.ValueFaults.{is_there, entry_value_faults, with_number, valued, is_missing, without_value, is_number, is_entered, lacks_size, without_size, missing_values, value_faults_of}
 use Rattle.bk_level.specs.LevelLaws.{IsReady}
 use Rattle.bk_level.proofs.SubStays.{nat_eq-then, or-cases, or-left, or-right}
 use Rattle.bk_level.proofs.SubTypes.{outcome-right}
@@ -173,6 +176,59 @@ not-inside (Some (Abstract j)) h e = absurd (cc)
 not-inside (Some (Concrete j)) h e = absurd (cc)
 not-inside (Some (Inner j)) h e = absurd (cc)
 
+-- ---- sets without a size
+-- the name of a variable is no set's
+no-set : (ns : Names) (x : List ℕ) (n : ℕ) → target ns x ≡ variable_target n → set_named ns x ≡ None
+no-set [] x n h = absurd (cc)
+no-set (m ∷ ms) x n h = by-test (bytes_eq m.text x) m.meaning (no-set ms x n) h
+  where
+    by-test : (c : Bool) (w : Meaning) → (target ms x ≡ variable_target n → set_named ms x ≡ None) → cond c (target_in w) (target ms x) ≡ variable_target n → cond c (set_in w) (set_named ms x) ≡ None
+    by-test true (local t) rest h = refl
+    by-test true (global k t) rest h = refl
+    by-test true (set_name s) rest h = absurd (cc)
+    by-test true (element_name s e) rest h = refl
+    by-test true nothing rest h = refl
+    by-test false w rest h = rest h
+
+-- what has a value is a constant, and so no entry is for a set
+none-entered : (int_max : ℤ) (typing : Typing) (names : Names) (before : List ℕ) (vs : List RawValue) → entry_value_faults int_max typing names before vs ≡ [] → (n : ℕ) → is_entered names vs n ≡ false
+none-entered int_max typing names before [] h n = refl
+none-entered int_max typing names before (v ∷ vs) h n =
+    let g = target names v.name.text in
+    let o = value_of int_max typing names v in
+    let k = entry-then (is_there o && not (is_again before g)) v.name.at (entry_value_faults int_max typing names (with_target g before) vs) h in
+    let f = there-then o (and-both (is_there o) (not (is_again before g)) k.0).0 in
+    let w = value-then int_max (type_named typing names v.name.text) (outcome_of int_max typing names v.value) f.0 f.1 in
+    let m = number-then typing g w.0 w.1 in
+    ap (λ a. is_number n a || is_entered names vs n) (no-set names v.name.text m.0 m.1) ∙ none-entered int_max typing names (with_target g before) vs k.1 n
+
+has-size : (n : ℕ) (b : Bool) → b ≡ false → (nat_eq n 0 && not b) ≡ false → 0 < n
+has-size zero b e h = let k : true ≡ false = sym (ap not e) ∙ h in absurd (cc)
+has-size (suc n) b e h = omega arith
+
+sized : (at : ℕ) (names : Names) (vs : List RawValue) → ((n : ℕ) → is_entered names vs n ≡ false) → (n : ℕ) (ss : List SetEntry) → without_size at names vs n ss ≡ [] → HasSizes ss
+sized at names vs none n [] h = All-nil (λ (s : SetEntry). 0 < s.size)
+sized at names vs none n (s ∷ ss) h =
+    let now : List Fault = cond (lacks_size names vs n s.size) (wrong_value at ∷ []) [] in
+    let rest = without_size at names vs (suc n) ss in
+    All-cons (λ (s : SetEntry). 0 < s.size) s ss (has-size s.size (is_entered names vs n) (none n) (missing-then (lacks_size names vs n s.size) at (none-left now rest h))) (sized at names vs none (suc n) ss (none-right now rest h))
+
+-- the faults of an implementation's entries, and those of what has none
+value-parts : (int_max : ℤ) (higher : Development) (typing : Typing) (p : Plan) (comp : Component) → is_implementing comp.kind ≡ true → value_faults_of int_max higher typing p comp ≡ [] → (entry_value_faults int_max typing p.globals [] comp.values ≡ []) × (missing_values higher p comp ≡ [])
+value-parts int_max higher typing p comp kind h =
+    let entries = entry_value_faults int_max typing p.globals [] comp.values in
+    let missing = missing_values higher p comp in
+    let all : entries ++ missing ≡ [] = sym (ap (λ c. cond c (entries ++ missing) []) kind) ∙ h in
+    (none-left entries missing all, none-right entries missing all)
+
+-- each set above an implementation without faults has a size
+pub sizes-above : (int_max : ℤ) (higher : Development) (typing : Typing) (p : Plan) (comp : Component) → is_implementing comp.kind ≡ true → value_faults_of int_max higher typing p comp ≡ [] → HasSizes higher.table.sets
+sizes-above int_max higher typing p comp kind h =
+    let told = value-parts int_max higher typing p comp kind h in
+    let missing = without_value comp.name.at (valued p.globals comp.values) p.globals in
+    let unsized = without_size comp.name.at p.globals comp.values 0 higher.table.sets in
+    sized comp.name.at p.globals comp.values (none-entered int_max typing p.globals [] comp.values told.0) 0 higher.table.sets (none-right missing unsized told.1)
+
 -- ---- the values
 module _ (higher : Development) (comp : Component) (ready : IsReady higher) where
   abbrev most : ℤ
@@ -218,8 +274,8 @@ module _ (higher : Development) (comp : Component) (ready : IsReady higher) wher
       let rest = values_made most typing names vs in
       let made-so : values_made most typing names (v ∷ vs) ≡ (n, f.0) ∷ rest = ap (λ a. with_value a o rest) named-so ∙ ap (λ a. with_value (Some n) a rest) f.1 in
       let valued-so : valued names (v ∷ vs) ≡ n ∷ valued names vs = ap (λ a. with_number a (valued names vs)) named-so in
-      let st = stands most higher comp ready.listed ready.counted in
-      let right : IsRight new.table [] (partial (whole f.0 w.0)) = subst (IsRight new.table []) w.2 (outcome-right most new.table typing st.settled names false v.value (globals-stand most higher comp ready.counted)) in
+      let st = stands most higher comp ready.table in
+      let right : IsRight new.table [] (partial (whole f.0 w.0)) = subst (IsRight new.table []) w.2 (outcome-right most new.table typing st.settled names false v.value (globals-stand most higher comp ready.table.counted)) in
       let constant = named-seen (λ x. is_constant (home_of new x)) names v.name.text n (globals-seen most higher comp ready.homes (λ x. is_constant (home_of new x)) (λ x e. ap is_constant e)) named-so in
       let one : IsValue new (n, f.0) = record { constant = constant; is_literal = form-literal new f.0 w.3; of_type = (w.0, st.settled.types n w.0 m.2, right.0) } in (
         subst (Each (IsValue new)) (sym made-so) (one, r.0),
@@ -243,12 +299,12 @@ module _ (higher : Development) (comp : Component) (ready : IsReady higher) wher
           by-case false q = refl
           by-case true q = let s : x ≡ n = nat_eq-then x n q in let w : among before n ≡ true = ap (among before) (sym s) ∙ e in absurd (cc)
 
-  pub values-stand : is_implementing comp.kind ≡ true → value_faults_of most typing (plan higher comp) comp ≡ [] → Each (IsValue new) new.values × HasItsValues new true
+  pub values-stand : is_implementing comp.kind ≡ true → value_faults_of most higher typing (plan higher comp) comp ≡ [] → Each (IsValue new) new.values × HasItsValues new true
   values-stand kind h =
-      let entries = entry_value_faults most typing names [] comp.values in
+      let told = value-parts most higher typing (plan higher comp) comp kind h in
       let missing = without_value comp.name.at (valued names comp.values) names in
-      let all : entries ++ missing ≡ [] = sym (ap (λ c. cond c (entries ++ missing) []) kind) ∙ h in
-      let r = values-right [] comp.values (none-left entries missing all) in (
+      let unsized = without_size comp.name.at names comp.values 0 higher.table.sets in
+      let r = values-right [] comp.values told.0 in (
         r.0,
-        (subst AreDistinct (sym r.1) r.2, λ n c. ap (λ l. among l n) r.1 ∙ has-value comp.name.at (valued names comp.values) names n (none-right entries missing all) (constant-in n c)),
+        (subst AreDistinct (sym r.1) r.2, λ n c. ap (λ l. among l n) r.1 ∙ has-value comp.name.at (valued names comp.values) names n (none-left missing unsized told.1) (constant-in n c)),
       )

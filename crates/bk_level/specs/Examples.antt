@@ -13,7 +13,7 @@ use Rattle.bk_raw.specs.ComponentTree.{clause_sets, clause_names, clause_term}
 use Rattle.bk_raw.specs.declared.component.ComponentKind.TheVariants.{Machine as AsMachine}
 use Rattle.bk_raw.specs.Faults.{twice_named, unknown_name, without_type, not_predicate, wrong_operation, not_b0, wrong_write, wrong_value}
 use Rattle.bk_level.specs.Verdict.{accepted, at_fault, past_limit}
-use Rattle.bk_level.specs.Texts.{name_at, term_at, number, infix_at, up_to, is_in, takes, takes_at, clause, operation, component, counter_text, counter_code_text, counter_made, a_text, b_text, c_text, f_text, s_text, t_text, u_text, v_text, x_text, step_text, in_set, step_with, machine_of, machine_with, machine_text, by_local, both_start, refinement_of, step_by, started, with_operations, stepping, refinement_text, refined, below, first_level, machine_verdict, lower_verdict, step_done, code_with, code_doing, c_is, filled_at, array_code}
+use Rattle.bk_level.specs.Texts.{name_at, term_at, number, infix_at, up_to, is_in, takes, takes_at, clause, operation, component, counter_text, counter_code_text, counter_made, a_text, b_text, c_text, f_text, s_text, t_text, u_text, v_text, x_text, step_text, in_set, step_with, machine_of, machine_with, machine_text, by_local, both_start, refinement_of, step_by, started, with_operations, stepping, refinement_text, refined, below, first_level, machine_verdict, lower_verdict, step_done, code_with, code_doing, c_is, d_is, above_code, deferred_verdict, filled_at, array_code}
 
 -- v := a and v := b
 abbrev pub to_a : SubTree
@@ -127,6 +127,11 @@ pub record FaultsAreTold : Type 0 where
   pub other_value : lower_verdict (code_with (takes_at 40 v_text a_text) (c_is (term_at 34 a_text) ∷ [])) ≡ at_fault (wrong_value 30)
   pub value_twice : lower_verdict (code_with (takes_at 40 v_text a_text) (c_is (number 34 5) ∷ record { name = name_at 36 c_text; value = number 37 5 } ∷ [])) ≡ at_fault (wrong_value 36)
   pub right_value : lower_verdict (code_doing (takes_at 40 v_text a_text)) ≡ accepted (below first_level (code_doing (takes_at 40 v_text a_text)))
+  -- a deferred set above without a size, one without a size that has an entry, and one with a size
+  pub no_size : deferred_verdict 0 (c_is (number 34 5) ∷ []) ≡ at_fault (wrong_value 8)
+  pub entry_of_set : deferred_verdict 0 (c_is (number 34 5) ∷ d_is ∷ []) ≡ at_fault (wrong_value 36)
+  pub right_size : deferred_verdict 4 (c_is (number 34 5) ∷ [])
+      ≡ accepted (below (above_code 4) (code_doing (takes_at 40 v_text a_text)))
   -- ---- 11
   -- v :: S is not B0, which is told after a wrong value
   pub not_code : lower_verdict (code_doing (sub 40 (sub_member (name_at 40 v_text) (term_at 44 s_text)))) ≡ at_fault (not_b0 40)

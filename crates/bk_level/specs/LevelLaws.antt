@@ -1,8 +1,8 @@
 -- What is shown of levels, step by step.
-use Rattle.std.specs.Prelude.{◌≡◌, ◌⊎◌, ◌<◌, ◌≤◌, ℕ, ℤ, ◌+◌, true, false, List, [], ◌∷◌, ◌++◌, length, All}
+use Rattle.std.specs.Prelude.{◌≡◌, ◌⊎◌, ◌<◌, ◌≤◌, ℕ, ℤ, ◌+◌, true, false, List, [], ◌∷◌, ◌++◌, length}
 use Rattle.std.specs.List.{flat_map}
 use Rattle.bk_form.specs.Each.{Each}
-use Rattle.bk_form.specs.Table.{IsCounted}
+use Rattle.bk_form.specs.Table.{IsWellFormed}
 use Rattle.bk_form.specs.Predicates.{IsPredicate}
 use Rattle.bk_gsl.specs.State.{among}
 use Rattle.bk_gsl.specs.Typed.{Types}
@@ -20,7 +20,6 @@ use Rattle.bk_level.specs.ClauseFaults.{clause_faults}
 use Rattle.bk_level.specs.OperationFaults.{shape_faults}
 use Rattle.bk_level.specs.StaticFaults.{outputs_of, body_faults, static_faults}
 use Rattle.bk_level.specs.Settled.{AreOf, AreSeen, IsBelow}
-use Rattle.bk_level.specs.Sources.{ListsItsTypes}
 use Rattle.bk_level.specs.Verdict.{level_below}
 
 -- ---- what is bound
@@ -51,8 +50,7 @@ HomesAreAll = (int_max : ℤ) (dev : Development) (c : Component) → length dev
 
 -- what is asked of the levels above: each is so of a development
 pub record IsReady (dev : Development) : Type 0 where
-  pub listed : ListsItsTypes dev.table
-  pub counted : All IsCounted dev.table.sets
+  pub table : IsWellFormed dev.table
   pub homes : length dev.homes ≡ length dev.table.variables
   -- the last level's variables are at home there
   pub upper : AreSeen (λ n. is_variable_above (length dev.levels) (home_of dev n)) (upper_of dev)

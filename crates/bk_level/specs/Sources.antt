@@ -1,7 +1,7 @@
 -- What the names of ways are, and when all types that are told are listed.
-use Rattle.std.specs.Prelude.{◌≡◌, ◌<◌, ◌≤◌, ℕ, ℤ, ◌+◌, true, List, [], ◌∷◌, length, Some, All}
+use Rattle.std.specs.Prelude.{◌≡◌, ◌<◌, ◌≤◌, ℕ, ℤ, ◌+◌, true, List, [], ◌∷◌, length, Some}
 use Rattle.bk_val.specs.ValueType.{ValueType}
-use Rattle.bk_form.specs.Table.{Table, variable_type, lists_type, IsCounted}
+use Rattle.bk_form.specs.Table.{Table, variable_type, lists_type, IsWellFormed}
 use Rattle.bk_dev.specs.Development.{Development}
 use Rattle.bk_level.specs.Components.{Component}
 use Rattle.bk_level.specs.Typings.{Typing}
@@ -36,14 +36,14 @@ SettledTypesAreListed = (int_max : ℤ) (table : Table) (top n : ℕ) (ws : List
 abbrev pub ListsItsTypes : Table → Type 0
 ListsItsTypes table = (n : ℕ) (t : ValueType) → variable_type table n ≡ Some t → lists_type table t ≡ true
 
--- where they do above, and each enumerated set there has as many elements as names, they do with the component, and the types that are told are those of the new table; a component's scopes have
--- its sets and elements
+-- with the component the types of the variables have only sets of the table, and the types that are told are those of the table; a
+-- component's scopes have its sets and elements
 pub record Stands (int_max : ℤ) (dev : Development) (c : Component) : Type 0 where
   pub settled : IsSettled (table_of int_max dev c (plan dev c)) (types_at int_max dev c (plan dev c))
   pub listed : ListsItsTypes (table_of int_max dev c (plan dev c))
   pub globals : AreOf (table_of int_max dev c (plan dev c)) (plan dev c).globals
   pub upper : AreOf (table_of int_max dev c (plan dev c)) (plan dev c).upper
 
--- so it is of every component, with faults or without
+-- so it is of every component, with faults or without, where the table above is well formed
 abbrev pub ComponentsStand : Type 0
-ComponentsStand = (int_max : ℤ) (dev : Development) (c : Component) → ListsItsTypes dev.table → All IsCounted dev.table.sets → Stands int_max dev c
+ComponentsStand = (int_max : ℤ) (dev : Development) (c : Component) → IsWellFormed dev.table → Stands int_max dev c

@@ -45,7 +45,7 @@ planned_faults int_max dev c p typing =
     ++ (operation_faults dev c p
     ++ (init_faults int_max dev c typing p
     ++ (all_body_faults int_max dev c typing p (operations_of p c)
-    ++ value_faults_of int_max typing p c))))
+    ++ value_faults_of int_max dev typing p c))))
 
 -- those of a component below these levels
 abbrev pub static_faults : ℤ → Development → Component → List Fault

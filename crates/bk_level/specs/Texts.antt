@@ -2,7 +2,7 @@
 use Rattle.std.specs.Prelude.{ℕ, ℤ, pos, List, [], ◌∷◌, ◌++◌, Option, None, Some}
 use Rattle.bk_limits.specs.declared.TheConstants.{MAXINT}
 use Rattle.bk_val.specs.ValueType.{int_type, enum_type}
-use Rattle.bk_form.specs.Table.{VariableEntry}
+use Rattle.bk_form.specs.Table.{SetEntry, VariableEntry, with_set}
 use Rattle.bk_form.specs.Formula.{variable, literal, element, named, binary, btrue}
 use Rattle.bk_form.specs.declared.operator.BinOp.TheVariants.{In, Range}
 use Rattle.bk_form.specs.declared.operator.Domain.TheVariants.{Enum}
@@ -300,6 +300,27 @@ code_with init values = code_of [] init values
 -- the same with c = 5
 abbrev pub code_doing : SubTree → RawComponent
 code_doing init = code_with init (c_is (number 34 5) ∷ [])
+
+-- a deferred set D of this size above, with M
+abbrev pub d_text : List ℕ
+d_text = 68 ∷ []
+
+abbrev pub deferred : ℕ → SetEntry
+deferred size = record { name = d_text; elements = []; size = size }
+
+abbrev pub deferring : ℕ → Development → Development
+deferring size dev = record dev { table = with_set dev.table (deferred size); sets = dev.sets ++ deferred size ∷ [] }
+
+abbrev pub above_code : ℕ → Option Development
+above_code size = Some (deferring size (below None machine_text))
+
+-- what an implementation below them is answered that starts with v := a and has these values
+abbrev pub deferred_verdict : ℕ → List RawValue → Verdict
+deferred_verdict size values = verdict_of maxint (above_code size) (code_with (takes_at 40 v_text a_text) values)
+
+-- D = 3
+abbrev pub d_is : RawValue
+d_is = record { name = name_at 36 d_text; value = number 38 3 }
 
 -- f := (0 .. top) * {0}
 abbrev pub filled_at : ℕ → ℕ → SubTree

@@ -5,7 +5,7 @@ use Rattle.bk_val.specs.ValueType.{ValueType}
 use Rattle.bk_form.specs.Formula.{Formula, btrue}
 use Rattle.bk_raw.specs.declared.term.RawName.{RawName}
 use Rattle.bk_raw.specs.RawTree.{RawTree}
-use Rattle.bk_raw.specs.Names.{Names, Named, Meaning, global, nothing, level_name}
+use Rattle.bk_raw.specs.Names.{Names, Named, Meaning, global, set_name, nothing, level_name}
 use Rattle.bk_raw.specs.Outcome.{Outcome, Reading, ask, ask_predicate}
 use Rattle.bk_raw.specs.TermReading.{place_of, part, reading}
 
@@ -82,6 +82,16 @@ as_number _ = None
 -- the variable of this name, if it is one's
 abbrev pub variable_named : Names → List ℕ → Option ℕ
 variable_named names x = as_number (target names x)
+
+-- the set of a meaning, if it is one's name
+abbrev pub set_in : Meaning → Option ℕ
+set_in (set_name s) = Some s
+set_in _ = None
+
+-- the set of this name, if it is one's: the first name with the text is meant
+abbrev pub set_named : Names → List ℕ → Option ℕ
+set_named [] text = None
+set_named (n ∷ ns) text = cond (bytes_eq n.text text) (set_in n.meaning) (set_named ns text)
 
 -- whether it is the variable m
 abbrev pub is_variable : ℕ → Target → Bool

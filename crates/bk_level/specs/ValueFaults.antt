@@ -1,12 +1,13 @@
--- Wrong values: the values of constants.
-use Rattle.std.specs.Prelude.{ℕ, ℤ, Bool, true, false, cond, not, ◌&&◌, List, [], ◌∷◌, ◌++◌, Option, None, Some}
+-- Wrong values: the values of constants, and the sizes of deferred sets.
+use Rattle.std.specs.Prelude.{ℕ, suc, nat_eq, ℤ, Bool, true, false, cond, not, ◌&&◌, ◌||◌, List, [], ◌∷◌, ◌++◌, Option, None, Some}
+use Rattle.bk_form.specs.Table.{SetEntry}
 use Rattle.bk_gsl.specs.State.{among}
-use Rattle.bk_dev.specs.Development.{is_implementing}
+use Rattle.bk_dev.specs.Development.{Development, is_implementing}
 use Rattle.bk_raw.specs.declared.component.RawValue.{RawValue}
 use Rattle.bk_raw.specs.Names.{Names}
 use Rattle.bk_raw.specs.Faults.{Fault, wrong_value}
 use Rattle.bk_level.specs.Components.{Component}
-use Rattle.bk_level.specs.Typings.{Typing, variable_in, target, variable_named}
+use Rattle.bk_level.specs.Typings.{Typing, variable_in, target, variable_named, set_named}
 use Rattle.bk_level.specs.SubFaults.{is_again, with_target}
 use Rattle.bk_level.specs.Plan.{Plan}
 use Rattle.bk_level.specs.LevelOf.{value_of}
@@ -43,6 +44,33 @@ abbrev pub without_value : ℕ → List ℕ → Names → List Fault
 without_value at entries [] = []
 without_value at entries (n ∷ ns) = cond (is_missing entries (variable_in n.meaning)) (wrong_value at ∷ []) [] ++ without_value at entries ns
 
+-- whether it is there, and this number
+abbrev pub is_number : ℕ → Option ℕ → Bool
+is_number n None = false
+is_number n (Some m) = nat_eq m n
+
+-- whether one of the entries is for the set of this number
+abbrev pub is_entered : Names → List RawValue → ℕ → Bool
+is_entered globals [] n = false
+is_entered globals (v ∷ vs) n = is_number n (set_named globals v.name.text) || is_entered globals vs n
+
+-- whether the set of this number, which has so many elements, has no size and no entry
+abbrev pub lacks_size : Names → List RawValue → ℕ → ℕ → Bool
+lacks_size globals vs n size = nat_eq size 0 && not (is_entered globals vs n)
+
+-- sets without a size, the first of which has the number n, at the implementation's name
+abbrev pub without_size : ℕ → Names → List RawValue → ℕ → List SetEntry → List Fault
+without_size at globals vs n [] = []
+without_size at globals vs n (s ∷ ss) =
+    cond (lacks_size globals vs n s.size) (wrong_value at ∷ []) [] ++ without_size at globals vs (suc n) ss
+
+-- constants without a value, and sets of the levels above without a size
+abbrev pub missing_values : Development → Plan → Component → List Fault
+missing_values dev p c =
+    without_value c.name.at (valued p.globals c.values) p.globals
+    ++ without_size c.name.at p.globals c.values 0 dev.table.sets
+
 -- those of an implementation
-abbrev pub value_faults_of : ℤ → Typing → Plan → Component → List Fault
-value_faults_of int_max typing p c = cond (is_implementing c.kind) (entry_value_faults int_max typing p.globals [] c.values ++ without_value c.name.at (valued p.globals c.values) p.globals) []
+abbrev pub value_faults_of : ℤ → Development → Typing → Plan → Component → List Fault
+value_faults_of int_max dev typing p c =
+    cond (is_implementing c.kind) (entry_value_faults int_max typing p.globals [] c.values ++ missing_values dev p c) []

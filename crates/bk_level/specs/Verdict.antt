@@ -30,8 +30,8 @@ pub data Verdict : Type 0 where
   past_limit : ℕ → Verdict
 
 -- a fault is answered that is told by this number and at this byte
-abbrev pub IsAtFault : Verdict → ℕ → ℕ → Type 0
-IsAtFault v number place = (f : Fault) × (v ≡ at_fault f) × (told_as f ≡ (number, place))
+abbrev pub AnswersFault : Verdict → ℕ → ℕ → Type 0
+AnswersFault v number place = (f : Fault) × (v ≡ at_fault f) × (told_as f ≡ (number, place))
 
 -- by the fault that is told, if there is one
 abbrev pub judged : Development → Option Fault → Verdict

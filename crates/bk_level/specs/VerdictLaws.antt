@@ -9,7 +9,7 @@ use Rattle.bk_form.specs.Replacement.{occurs}
 use Rattle.bk_gsl.specs.State.{among}
 use Rattle.bk_gsl.specs.Substitution.{Substitution}
 use Rattle.bk_gsl.specs.Apart.{LocalsAreApart}
-use Rattle.bk_dev.specs.Facts.{IsDevelopment, IsSubOf, binders, HomesAreThere}
+use Rattle.bk_dev.specs.Facts.{IsDevelopment, IsSubOf, binders}
 use Rattle.bk_dev.specs.Flattened.{flattened}
 use Rattle.bk_dev.specs.B0.{IsB0Development}
 use Rattle.bk_raw.specs.declared.component.ComponentKind.TheVariants.{Machine, Refinement, Implementation}
@@ -60,11 +60,11 @@ AcceptedMachineIsDevelopment = (int_max : ℤ) (written : RawComponent) (dev : D
 
 -- a development with a refinement that is accepted below it is one
 abbrev pub AcceptedRefinementIsDevelopment : Type 0
-AcceptedRefinementIsDevelopment = (int_max : ℤ) (above : Development) (written : RawComponent) (dev : Development) → IsDevelopment above → is_complete above ≡ false → HomesAreThere above → written.kind ≡ Refinement → verdict_of int_max (Some above) written ≡ accepted dev → HasRoom dev → IsDevelopment dev
+AcceptedRefinementIsDevelopment = (int_max : ℤ) (above : Development) (written : RawComponent) (dev : Development) → IsDevelopment above → is_complete above ≡ false → written.kind ≡ Refinement → verdict_of int_max (Some above) written ≡ accepted dev → HasRoom dev → IsDevelopment dev
 
 -- what is accepted is a development
 abbrev pub AcceptedIsDevelopment : Type 0
-AcceptedIsDevelopment = (above : Option Development) (written : RawComponent) (dev : Development) → MayStandAbove written.kind above → HomesAreThere (above_of above) → verdict_of (machine_max (above_of above)) above written ≡ accepted dev → HasRoom dev → IsDevelopment dev
+AcceptedIsDevelopment = (above : Option Development) (written : RawComponent) (dev : Development) → MayStandAbove written.kind above → verdict_of (machine_max (above_of above)) above written ≡ accepted dev → HasRoom dev → IsDevelopment dev
 
 -- ---- B0
 -- an implementation that is accepted is in B0, where no tree in it is higher than GREATEST_TREE_HEIGHT

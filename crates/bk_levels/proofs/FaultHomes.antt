@@ -102,7 +102,7 @@ pub planned : (t : TypingKept) (p : PlanKept) (higher : Development) (comp : Com
     operations ≡ blame (operation_faults higher comp (plan higher comp)) →
     ((dev : Development) → WritesOwn p dev → start ≡ blame (sub_faults t.max (typing_of t.types.now) (visible_names p.upper.items) (scope (plan_shown p)) (writes_own dev p.level []) p.binders_at (initialisation comp))) →
     ((dev : Development) → WritesOwn p dev → bodies ≡ blame (bodies_judged t (typing_of t.types.now) p dev (map placed_shown p.operations.items))) →
-    values ≡ blame (value_faults_of t.max (typing_of t.types.now) (plan_shown p) comp) →
+    values ≡ blame (value_faults_of t.max higher (typing_of t.types.now) (plan_shown p) comp) →
     written ≡ earlier bodies values → started ≡ earlier start written → shaped ≡ earlier operations started → stated ≡ earlier clauses shaped → every ≡ earlier names stated →
     every ≡ blame (planned_faults t.max higher comp (plan higher comp) (typing_of t.types.now))
 planned t p higher comp is homes-so stand names clauses operations start bodies values written started shaped stated every a b c d e f g1 g2 g3 g4 g5 =
@@ -114,8 +114,8 @@ planned t p higher comp is homes-so stand names clauses operations start bodies 
     let d2 : start ≡ blame (init_faults t.max higher comp typing own) = d new w ∙ ap (λ (q : Plan). blame (sub_faults t.max typing q.upper (scope q) (writes_own new q.level []) q.binders_at (initialisation comp))) is.shown in
     let e2 : bodies ≡ blame (all_body_faults t.max higher comp typing own (operations_of own comp)) =
     e new w ∙ ap blame (bodies-meant t typing p higher comp (map placed_shown p.operations.items) is.shown ∙ ap (λ (os : List Placed). all_body_faults t.max higher comp typing own os) is.operations) in
-    let f2 : values ≡ blame (value_faults_of t.max typing own comp) = f ∙ ap (λ (q : Plan). blame (value_faults_of t.max typing q comp)) is.shown in
-    let bv = value_faults_of t.max typing own comp in
+    let f2 : values ≡ blame (value_faults_of t.max higher typing own comp) = f ∙ ap (λ (q : Plan). blame (value_faults_of t.max higher typing q comp)) is.shown in
+    let bv = value_faults_of t.max higher typing own comp in
     let bb = all_body_faults t.max higher comp typing own (operations_of own comp) in
     let bi = init_faults t.max higher comp typing own in
     let bo = operation_faults higher comp own in

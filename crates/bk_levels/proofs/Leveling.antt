@@ -16,7 +16,6 @@ use Rattle.bk_level.specs.Verdict.{accepted, all_faults, level_below, verdict_of
 use Rattle.bk_level.specs.VerdictLaws.{MayStandAbove, HasRoom}
 use Rattle.bk_level.proofs.B0Levels.{always-b0}
 use Rattle.bk_level.proofs.Developments.{always-development}
-use Rattle.bk_level.proofs.NewHomes.{homes-stay}
 use Rattle.bk_levels.specs.Answered.{development_below, with_level, IsAddedBy}
 use Rattle.bk_levels.specs.declared.levels.Added.{Added}
 use Rattle.bk_levels.proofs.Assembling.{level-told, with-level-is, room-made}
@@ -29,6 +28,15 @@ at-home Refinement None may = absurd may
 at-home Refinement (Some dev) may = may.0.lawful.homes
 at-home Implementation None may = absurd may
 at-home Implementation (Some dev) may = may.0.lawful.homes
+
+-- at a level that is there
+pub at-levels : (kind : ComponentKind) (above : Option Development) → MayStandAbove kind above → HomesAreThere (above_of above)
+at-levels Machine None may = λ n. tt
+at-levels Machine (Some dev) may = absurd may
+at-levels Refinement None may = absurd may
+at-levels Refinement (Some dev) may = may.0.homes_there
+at-levels Implementation None may = absurd may
+at-levels Implementation (Some dev) may = may.0.homes_there
 
 -- the sets are those of the table
 pub at-sets : (kind : ComponentKind) (above : Option Development) → MayStandAbove kind above → (above_of above).sets ≡ (above_of above).table.sets
@@ -43,26 +51,22 @@ at-sets Implementation (Some dev) may = may.0.lawful.sets
 pub record IsLevelled (max : ℤ) (above : Option Development) (raw : RawComponent) (new : Development) : Type 0 where
   pub verdict : verdict_of max above raw ≡ accepted new
   pub development : IsDevelopment new
-  pub homes : HomesAreThere new
   pub room : HasRoom new
   pub executable : raw.kind ≡ Implementation → IsLowComponent raw → IsB0Development new
 
 -- with what a component without faults adds, where it is counted
 pub levelled : (max m : ℤ) (above : Option Development) (raw : RawComponent) (k : Component) (dev : Development) (a : Added) → m ≡ max → k ≡ component_of raw → dev ≡ above_of above → max ≡ machine_max (above_of above) →
-    MayStandAbove raw.kind above → HomesAreThere (above_of above) → false ≡ declares_too_many k → None ≡ blame (all_faults m dev k) → IsAddedBy a dev (is_machine k.kind) (level_below m dev k) →
+    MayStandAbove raw.kind above → false ≡ declares_too_many k → None ≡ blame (all_faults m dev k) → IsAddedBy a dev (is_machine k.kind) (level_below m dev k) →
     HasRoom (development_below (above_of above) a) → IsLevelled max above raw (with_level above a)
-levelled max m above raw k dev a same-max shown higher most may stand few none added room =
+levelled max m above raw k dev a same-max shown higher most may few none added room =
     let told : IsAddedBy a (above_of above) (is_machine (component_of raw).kind) (level_below max dev k) = subst (λ (P : Type 0). P) (λ i. IsAddedBy a (higher i) (is_machine (shown i).kind) (level_below (same-max i) dev k)) added in
     let is : with_level above a ≡ level_below max dev k = with-level-is raw.kind above a (level_below max dev k) may told in
     let answer : verdict_of max above raw ≡ accepted (with_level above a) = level-told max above raw k dev shown higher few (none ∙ ap (λ (n : ℤ). blame (all_faults n dev k)) same-max) ∙ ap accepted (sym is) in
     let same : verdict_of (machine_max (above_of above)) above raw ≡ accepted (with_level above a) = ap (λ (m : ℤ). verdict_of m above raw) (sym most) ∙ answer in
     let counted : HasRoom (with_level above a) = room-made raw.kind above a may room in
-    let all : length dev.homes ≡ length dev.table.variables = subst (λ (d : Development). length d.homes ≡ length d.table.variables) (sym higher) (at-home raw.kind above may) in
-    let within : HomesAreThere dev = subst HomesAreThere (sym higher) stand in
     record {
       verdict = answer;
-      development = always-development above raw (with_level above a) may stand same counted;
-      homes = subst HomesAreThere (sym is) (homes-stay max dev k all within);
+      development = always-development above raw (with_level above a) may same counted;
       room = counted;
       executable = λ kind low. always-b0 above raw (with_level above a) may kind low same;
     }

@@ -16,7 +16,7 @@ use Rattle.bk_level.specs.LevelOf.{entries_from, new_texts, new_homes, level_mad
 use Rattle.bk_level.specs.ClauseFaults.{input_faults}
 use Rattle.bk_level.specs.SubFaults.{declared_faults, sub_faults}
 use Rattle.bk_level.specs.StaticFaults.{outputs_of}
-use Rattle.bk_level.specs.Verdict.{Verdict, IsAtFault, past_limit}
+use Rattle.bk_level.specs.Verdict.{Verdict, AnswersFault, past_limit}
 use Rattle.bk_sight.specs.Shown.{plan_shown}
 use Rattle.bk_levels.specs.declared.levels.Added.{Added}
 use Rattle.bk_sight.specs.declared.plan.Plan.{Plan as PlanKept}
@@ -25,7 +25,7 @@ use Rattle.bk_sight.specs.declared.way.Typing.{Typing as TypingKept}
 -- ---- the answer
 -- what is told where the answer is no development: the fault or the limit; want of memory tells nothing
 abbrev pub SaysOfComponent : Verdict → ElabFault → Type 0
-SaysOfComponent verdict (FaultAt number place) = IsAtFault verdict number place
+SaysOfComponent verdict (FaultAt number place) = AnswersFault verdict number place
 SaysOfComponent verdict (Limit n) = verdict ≡ past_limit n
 SaysOfComponent verdict Memory = Unit {0}
 

@@ -59,12 +59,10 @@ pub fn level(
     above: Option<Development>,
 ) -> Result<Development, ElabFault>
     requires above { MayStandAbove raw.now.kind above }
-    requires homes { HomesAreThere (above_of above) }
     requires range { max ≡ int_max (above_of above) }
     ensures level { IfOk result (λ dev. meant.verdict_of max above raw.now ≡ meant.accepted dev) }
     ensures fault { IfErr result (SaysOfComponent (meant.verdict_of max above raw.now)) }
     ensures development { IfOk result (λ dev. IsDevelopment dev) }
-    ensures homes { IfOk result (λ dev. HomesAreThere dev) }
     ensures room { IfOk result (λ dev. HasRoom dev) }
     ensures executable { IfOk result (λ dev. raw.now.kind ≡ Implementation → IsLowComponent raw.now → IsB0Development dev) }
 {

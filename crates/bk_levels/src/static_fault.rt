@@ -50,7 +50,7 @@ pub(crate) fn static_fault(
     let operations = operation_fault(alloc, above, component, plan, blank)?;
     let start = start_fault(typing, component, plan, blank)?;
     let bodies = bodies_fault(typing, plan)?;
-    let values = value_fault(typing, component, plan)?;
+    let values = value_fault(typing, above, component, plan)?;
     let written = earlier(bodies, values);
     let started = earlier(start, written);
     let shaped = earlier(operations, started);

@@ -15,8 +15,8 @@ module _ (find : Finder) (law : IsSearch find) (dev : Development) (f : IsLawful
   keeps : KeepsFlat find dev
   keeps = record {
     init = λ e t h. let m = machine-init find law dev f only flat boxes e t h in record { ends = m.0; clean = clean.inits 0 f.some_level e t h; results = m.1 };
-    conditions = clean.conditions;
-    operations = λ o l e t h i c. let m = machine-operation find law dev f only flat boxes o l e t h i c in record { ends = m.0; clean = clean.machine o l e t h i c; results = m.1 };
+    conditions = λ o l e s. clean.conditions o l e s.typed s.properties s.invariant;
+    operations = λ o l e s c. let m = machine-operation find law dev f only flat boxes o l e s.typed s.properties s.invariant c in record { ends = m.0; clean = clean.machine o l e s.typed s.properties s.invariant c; results = m.1 };
   }
 
 pub boxes_carry : BoxesCarry

@@ -15,6 +15,7 @@ use Rattle.bk_dev.specs.Counter.{counter_table}
 use Rattle.bk_wp.proofs.Steps.{or-cases}
 use Rattle.bk_po.specs.Examples.{between, plus, getting, inc_head, get_head, tally_table, may_add, adding, tally, stepping, stepper}
 use Rattle.bk_po.specs.Laws.{ExamplesAreDevelopments}
+use Rattle.bk_dev.proofs.Extents.{two-extents}
 use Rattle.bk_dev.proofs.HomesThere.{homes-stand}
 use Rattle.bk_dev.proofs.Levels.{two-levels}
 use Rattle.bk_dev.proofs.DefaultRange.{default_range}
@@ -188,6 +189,7 @@ tally_facts = record {
   room = omega (arith);
   few_sets = omega (arith);
   homes_there = homes-stand 2 tally.homes refl;
+  extents = two-extents tally 0 5 refl refl (omega (arith)) (omega (arith));
 }
 
 -- ---- the stepper
@@ -328,6 +330,7 @@ stepper_facts = record {
   room = omega (arith);
   few_sets = omega (arith);
   homes_there = homes-stand 2 stepper.homes refl;
+  extents = two-extents stepper 0 3 refl refl (omega (arith)) (omega (arith));
 }
 
 -- ---- both are developments

@@ -70,7 +70,7 @@ tally = record {
   heads = inc_head (4 ∷ []) ∷ get_head ∷ [];
   levels = small_level (codes "Tally") Machine 0 [] (adding may_add 0) (getting 2 0) ∷ small_level (codes "Tally_i") Implementation 1 ((1, 0) ∷ []) (adding btrue 1) (getting 3 1) ∷ [];
   values = [];
-  extents = [];
+  extents = (0, 5) ∷ (0, 5) ∷ [];
 }
 
 -- ---- the stepper
@@ -88,7 +88,7 @@ stepper = record {
   heads = inc_head [] ∷ get_head ∷ [];
   levels = small_level (codes "Stepper") Machine 0 [] (stepping 0) (getting 2 0) ∷ small_level (codes "Stepper_i") Implementation 1 ((1, 0) ∷ []) (stepping 1) (getting 3 1) ∷ [];
   values = [];
-  extents = [];
+  extents = (0, 3) ∷ (0, 4) ∷ [];
 }
 
 -- ---- what the adder asks

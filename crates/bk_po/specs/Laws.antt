@@ -2,7 +2,7 @@
 use Rattle.std.specs.Prelude.{◌≡◌, ◌<◌, ℕ, pos, suc, true, false, List, [], ◌∷◌, length, map, codes}
 use Rattle.bk_form.specs.Search.{Finder, IsSearch}
 use Rattle.bk_dev.specs.Development.{Development, is_complete, with_set_sizes}
-use Rattle.bk_form.specs.Sized.{AreSizes}
+use Rattle.bk_form.specs.Sized.{AreSizes, HasSizes}
 use Rattle.bk_dev.specs.Facts.{IsDevelopment, IsLawful, IsFlatDevelopment, OnlyLastIsImplementation}
 use Rattle.bk_dev.specs.Claims.{Keeps, Carries, ValuesMeet}
 use Rattle.bk_dev.specs.Counter.{counter}
@@ -35,7 +35,7 @@ pub record IsCorrect (find : Finder) (dev : Development) : Type 0 where
   pub values : is_complete dev ≡ true → ValuesMeet find dev
   pub stated : IsWellStated find (flattened dev)
 
--- the development is correct with any sizes for the sets that have none; where there is an implementation, it is correct
+-- the development is correct with any sizes for the sets that have none
 abbrev pub IsCorrectForAllSizes : Finder → Development → Type 0
 IsCorrectForAllSizes find dev = (sizes : ℕ → ℕ) → AreSizes sizes → IsCorrect find (with_set_sizes sizes dev)
 
@@ -51,9 +51,9 @@ ValidObligationsCarry = (find : Finder) → IsSearch find → (dev : Development
 abbrev pub SizesKeepObligations : Type 0
 SizesKeepObligations = (sizes : ℕ → ℕ) (dev : Development) → IsDevelopment dev → numbered_obligations (with_set_sizes sizes dev) ≡ numbered_obligations dev
 
--- where there is an implementation, what is correct for all sizes is correct
+-- where each set has a size, what is correct for all sizes is correct
 abbrev pub WholeIsCorrect : Type 0
-WholeIsCorrect = (find : Finder) (dev : Development) → IsDevelopment dev → is_complete dev ≡ true → IsCorrectForAllSizes find dev → IsCorrect find dev
+WholeIsCorrect = (find : Finder) (dev : Development) → IsDevelopment dev → HasSizes dev.sets → IsCorrectForAllSizes find dev → IsCorrect find dev
 
 -- the counter meets what this asks
 abbrev pub CounterIsValid : Type 0

@@ -71,7 +71,7 @@ over = record {
       record { name = codes "Over"; kind = Machine; vars = 0 ∷ []; properties = btrue; invariant = is_whole (variable 0); links = []; assertions = []; init = becomes 0 (number 0); bodies = plain_body (becomes 0 (number 2147483648)) [] ∷ [] } ∷
       record { name = codes "Over_i"; kind = Implementation; vars = 1 ∷ []; properties = btrue; invariant = is_whole (variable 1); links = (1, 0) ∷ []; assertions = []; init = becomes 1 (number 0); bodies = plain_body (seq (becomes 1 greatest) (becomes 1 (binary Add (variable 1) (number 1)))) [] ∷ [] } ∷ [];
   values = [];
-  extents = [];
+  extents = (0, 1) ∷ (0, 2) ∷ [];
 }
 
 -- MAXINT + 1
@@ -140,7 +140,7 @@ swap = record {
             plain_body (seq (becomes 6 (variable 2)) (becomes 7 (variable 3))) (6 ∷ 7 ∷ []) ∷ [];
       } ∷ [];
   values = [];
-  extents = [];
+  extents = (0, 6) ∷ (0, 9) ∷ [];
 }
 
 -- what is known at the machine, and at the implementation
@@ -248,7 +248,7 @@ fill = record {
         bodies = plain_body (any (5 ∷ []) (seq (becomes 5 (number 0)) filling)) [] ∷ plain_body (becomes 4 (binary Apply (variable 1) (variable 2))) (4 ∷ []) ∷ [];
       } ∷ [];
   values = [];
-  extents = [];
+  extents = (0, 4) ∷ (0, 6) ∷ [];
 }
 
 -- what is known where the implementation's operations begin, and where read does

@@ -14,7 +14,8 @@ use Rattle.std.proofs.lemmas.Option.{none-some}
 use Rattle.bk_val.specs.Value.{MathValue}
 use Rattle.bk_val.specs.ValueType.{ValueType, int_type, bool_type, enum_type, pair_type, set_type, is_value_of}
 use Rattle.bk_form.specs.Search.{Finder}
-use Rattle.bk_form.specs.Table.{SetEntry, set_size}
+use Rattle.bk_form.specs.Table.{SetEntry, set_size, at_least_one, element_texts, IsCounted}
+use Rattle.bk_form.proofs.Sizing.{elements_have_texts}
 use Rattle.bk_gsl.specs.State.{declared_type, are_values_for}
 use Rattle.bk_code.specs.declared.image.Image.{Image}
 use Rattle.bk_code.specs.declared.image.OpEntry.{OpEntry}
@@ -144,11 +145,15 @@ range_right dev (x ∷ xs) (z ∷ zs) h =
     and_both (is_in_int dev (number_as (declared_type dev.table x) z)) (are_in_int dev (as_values dev xs zs)) (in_range dev (declared_type dev.table x) z h.0) (range_right dev xs zs h.1)
 
 -- ---- what a call script asks for
--- the elements of a set of the image are those of the table's
-same_size : (xs : List SetEntry) (s : ℕ) → length (slice_index_or (map (λ (x : SetEntry). x.elements) xs) s []) ≡ option_map_or length (option_map (λ (x : SetEntry). x.elements) (slice_get xs s)) 0
-same_size [] s = refl
-same_size (x ∷ xs) zero = refl
-same_size (x ∷ xs) (suc s) = same_size xs s
+-- a set of the image has no more elements than that of the table
+at_least : (n : ℕ) → n ≤ at_least_one n
+at_least zero = omega arith
+at_least (suc n) = omega arith
+
+within_size : (xs : List SetEntry) → All IsCounted xs → (s : ℕ) → length (slice_index_or (map element_texts xs) s []) ≤ option_map_or (λ (x : SetEntry). at_least_one x.size) (slice_get xs s) 0
+within_size [] c s = omega arith
+within_size (x ∷ xs) c zero = subst (λ n. n ≤ at_least_one x.size) (sym (elements_have_texts x (All-head IsCounted x xs c))) (at_least x.size)
+within_size (x ∷ xs) c (suc s) = within_size xs (All-tail IsCounted x xs c) s
 
 some_number : (n z : ℤ) → Some n ≡ Some z → n ≡ z
 some_number n z e = cc
@@ -165,7 +170,8 @@ module _ (dev : Development) (f : IsLawful dev) where
   element_kind s i name e =
       let elements = slice_index_or (translation dev).sets s [] in
       let inside : i < length elements = (position-Some (λ other. bytes_eq other name) elements i [] e).0 in
-      let size : length elements ≡ set_size dev.table s = same_size dev.sets s ∙ ap (λ (sets : List SetEntry). option_map_or length (option_map (λ (x : SetEntry). x.elements) (slice_get sets s)) 0) f.sets in
+      let within : length (slice_index_or (map element_texts dev.sets) s []) ≤ option_map_or (λ (x : SetEntry). at_least_one x.size) (slice_get dev.sets s) 0 = within_size dev.sets (subst (All IsCounted) (sym f.sets) f.table.counted) s in
+      let size : length elements ≤ set_size dev.table s = subst (λ (sets : List SetEntry). length elements ≤ option_map_or (λ (x : SetEntry). at_least_one x.size) (slice_get sets s) 0) f.sets within in
       nat_lt-if i (set_size dev.table s) (omega (arith, inside, size))
 
   set_kind : (s : ℕ) (name : List ℕ) (z : ℤ) (o : Option ℕ) → position (λ other. bytes_eq other name) (slice_index_or (translation dev).sets s []) ≡ o → option_map pos o ≡ Some z → is_of_kind dev (enum_type s) z ≡ true

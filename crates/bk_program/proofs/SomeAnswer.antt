@@ -1,7 +1,5 @@
 -- It cannot be that words and told files have no answer.
-use Rattle.std.proofs.Common.{◌≡◌, ℕ, zero, suc, ◌<◌, ◌⊎◌, ◌^◌, inl, inr, Bool, true, false, nat_eq, List, [], ◌∷◌, ◌++◌, length, map, All, Option, Some, None, refl, sym, ◌∙◌, subst, arith, codes}
-use Rattle.std.specs.Prelude.{option_map, slice_get}
-use Rattle.std.specs.Option.{option_map_or}
+use Rattle.std.proofs.Common.{◌≡◌, ℕ, ◌⊎◌, inl, inr, Bool, true, false, nat_eq, List, [], ◌∷◌, ◌++◌, length, map, All, Option, Some, None, refl, sym, ◌∙◌, subst, arith, codes}
 use Rattle.std.proofs.lemmas.Bool.{cases_lt}
 use Rattle.std.proofs.lemmas.Int.{ints}
 use Rattle.std.proofs.lemmas.List.{length-map}
@@ -17,10 +15,11 @@ use Rattle.bk_image.specs.Spelling.{FitsSet, HasSpelling, spelling}
 use Rattle.bk_dev.specs.Development.{Development, level_at, last, is_complete, int_max, default_max}
 use Rattle.bk_dev.specs.B0.{IsB0Development}
 use Rattle.bk_dev.specs.Facts.{IsLawful}
-use Rattle.bk_form.specs.Table.{SetEntry, set_size}
+use Rattle.bk_form.specs.Table.{SetEntry, set_size, element_texts}
 use Rattle.bk_b0.specs.Translation.{translation}
 use Rattle.bk_gen.specs.Laws.{HasElementsInRange}
 use Rattle.bk_gen.proofs.Loads.{translations_load}
+use Rattle.bk_gen.proofs.Spellings.{size-fits, all-sets}
 use Rattle.bk_project.specs.declared.project_file.ProjectLine.{ProjectLine}
 use Rattle.bk_project.specs.declared.refusal.Refusal.{Refusal}
 use Rattle.bk_project.specs.ProjectFile.{AreLinesOf, IsRefusalOfLines, component_lines, kinds_of}
@@ -228,14 +227,10 @@ code project image = elim (cases_lt 1000000 (length image.code)) [
 ]
 
 -- an image with a spelling has sets whose elements are numbers of the machine
-sizes : (xs : List SetEntry) → All FitsSet (map (λ (x : SetEntry). x.elements) xs) → (s : ℕ) → option_map_or length (option_map (λ (x : SetEntry). x.elements) (slice_get xs s)) 0 < 2 ^ 16
-sizes [] h s = omega arith
-sizes (x ∷ xs) h zero = (All-head FitsSet x.elements (map (λ (y : SetEntry). y.elements) xs) h).few
-sizes (x ∷ xs) h (suc s) = sizes xs (All-tail FitsSet x.elements (map (λ (y : SetEntry). y.elements) xs) h) s
-
 elements_in_range : (dev : Development) → IsLawful dev → IsWithinCodeLimits (translation dev) → HasElementsInRange dev
 elements_in_range dev f w s i below =
-    let small : set_size dev.table s < 2 ^ 16 = sizes dev.table.sets (subst (λ (sets : List SetEntry). All FitsSet (map (λ (x : SetEntry). x.elements) sets)) f.sets w.spelled.fits.sets) s in
+    let fit : All (λ (x : SetEntry). FitsSet (element_texts x)) dev.table.sets = subst (λ (sets : List SetEntry). All (λ (x : SetEntry). FitsSet (element_texts x)) sets) f.sets (all-sets dev.sets w.spelled.fits.sets) in
+    let small : set_size dev.table s < 2 ^ 16 = size-fits dev.table.sets f.table.counted fit s in
     let most : int_max dev ≡ default_max = w.spelled.fits.max in
     omega (arith, ints, below, small, most)
 

@@ -7,7 +7,7 @@ use Rattle.std.proofs.lemmas.List.Elements.{All-head, All-tail}
 use Rattle.bk_form.specs.Table.{VariableEntry}
 use Rattle.bk_dev.specs.B0.{IsB0Development}
 use Rattle.bk_dev.specs.Development.{Level, Development, int_max, is_complete}
-use Rattle.bk_dev.specs.Facts.{IsDevelopment, HomesAreThere}
+use Rattle.bk_dev.specs.Facts.{IsDevelopment}
 use Rattle.bk_dev.specs.Flattened.{copied_in_levels, flattened}
 use Rattle.bk_raw.specs.declared.component.ComponentKind.{ComponentKind}
 use Rattle.bk_raw.specs.ComponentTree.{RawComponent}
@@ -19,7 +19,6 @@ use Rattle.bk_level.specs.LevelOf.{types_at, entries_from, new_texts, level_made
 use Rattle.bk_level.specs.Verdict.{verdict_of, accepted, level_below}
 use Rattle.bk_level.specs.VerdictLaws.{MayStandAbove, HasRoom}
 use Rattle.bk_level.proofs.Verdicts.{answer-right}
-use Rattle.bk_level.proofs.NewHomes.{homes-stay}
 use Rattle.bk_level.proofs.Developments.{always-development}
 use Rattle.bk_level.proofs.B0Levels.{always-b0}
 use Rattle.bk_levels.proofs.Rooms.{levels-joined}
@@ -92,7 +91,6 @@ room_back dev (c ∷ cs) all h room =
 -- what is known of levels of which the last is for a line of this kind
 record IsRead (k : LineKind) (dev : Development) : Type 0 where
   development : IsDevelopment dev
-  homes : HomesAreThere dev
   complete : is_complete dev ≡ ends (Some k)
   executable : is_complete dev ≡ true → IsB0Development dev
 
@@ -109,21 +107,11 @@ may_stand (Some j) (Some dev) k kind s g f =
     let both = lower (Some j) k refl g in
     stands_lower k kind dev both.1 f s.development (s.complete ∙ both.0)
 
-homes_above : (last : Option LineKind) (above : Option Development) → Stands last above → (length (above_of above).homes ≡ length (above_of above).table.variables) × HomesAreThere (above_of above)
-homes_above None None s = (refl, λ n. tt)
-homes_above None (Some dev) s = absurd s
-homes_above (Some j) None s = absurd s
-homes_above (Some j) (Some dev) s = (s.development.lawful.homes, s.homes)
-
 next_read : (last : Option LineKind) (above : Option Development) (k : LineKind) (c : RawComponent) (dev : Development) → Stands last above → goes_on last k ≡ true → is_for k c.kind ≡ true → IsLowComponent c → verdict_of (int_max (above_of above)) above c ≡ accepted dev → HasRoom dev → IsRead k dev
 next_read last above k c dev s g f low e room =
-    let higher : Development = above_of above in
     let may = may_stand last above k c.kind s g f in
-    let homes = homes_above last above s in
-    let right = answer-right.right (int_max higher) higher (component_of c) dev e in
     record {
-      development = always-development above c dev may homes.1 e room;
-      homes = subst HomesAreThere (sym right.2) (homes-stay (int_max higher) higher (component_of c) homes.0 homes.1);
+      development = always-development above c dev may e room;
       complete = complete_of above c dev e ∙ ends_with k c.kind f;
       executable = λ complete. always-b0 above c dev may (implements c.kind (sym (complete_of above c dev e) ∙ complete)) low e;
     }

@@ -5,7 +5,7 @@ use Rattle.std.proofs.lemmas.Bool.{false≢true}
 use Rattle.std.proofs.lemmas.Slice.Zip.{AllZip-long}
 use Rattle.bk_dev.specs.B0.{IsB0Development}
 use Rattle.bk_dev.specs.Development.{Development, int_max, is_complete, is_implementing, is_implementation, level_at, last, blank_level}
-use Rattle.bk_dev.specs.Facts.{IsDevelopment, HomesAreThere}
+use Rattle.bk_dev.specs.Facts.{IsDevelopment}
 use Rattle.bk_raw.specs.declared.component.ComponentKind.{ComponentKind}
 use Rattle.bk_raw.specs.declared.component.ComponentKind.TheVariants.{Machine as AsMachine, Refinement as AsRefinement, Implementation as AsImplementation}
 use Rattle.bk_raw.specs.ComponentTree.{RawComponent}
@@ -147,7 +147,6 @@ line_of kinds texts cs i c chain h l e =
 pub record LevelsSoFar (kinds : List LineKind) (cs : List RawComponent) (n : ℕ) (dev : Development) : Type 0 where
   pub levels : AreLevels None (take n cs) (Some dev)
   pub development : IsDevelopment dev
-  pub homes : HomesAreThere dev
   pub complete : is_complete dev ≡ ends (last_of None (take n kinds))
   pub some : is_some (last_of None (take n kinds)) ≡ true
   pub executable : is_complete dev ≡ true → IsB0Development dev
@@ -157,14 +156,13 @@ levels_push above [] last c dev h v = (dev, subst (λ a. verdict_of (int_max (ab
 levels_push above (d ∷ cs) last c dev h v = (h.0, h.1, levels_push (Some h.0) cs last c dev h.2 v)
 
 pub level_on : (kinds : List LineKind) (texts : List (List ℕ)) (cs : List RawComponent) (i : ℕ) (c : RawComponent) (above : Option Development) (dev : Development) → IsChain kinds → AreChained kinds texts cs → i < length cs → c ≡ get_or cs i c → AreLevels None (take i cs) above
-    → verdict_of (int_max (above_of above)) above c ≡ accepted dev → IsDevelopment dev → HomesAreThere dev → is_complete dev ≡ is_implementing (kind_as c.kind) → (is_complete dev ≡ true → IsB0Development dev) → LevelsSoFar kinds cs (i + 1) dev
-level_on kinds texts cs i c above dev chain h l e levels told d homes complete executable =
+    → verdict_of (int_max (above_of above)) above c ≡ accepted dev → IsDevelopment dev → is_complete dev ≡ is_implementing (kind_as c.kind) → (is_complete dev ≡ true → IsB0Development dev) → LevelsSoFar kinds cs (i + 1) dev
+level_on kinds texts cs i c above dev chain h l e levels told d complete executable =
     let line = line_of kinds texts cs i c chain h l e in
     let last : last_of None (take (i + 1) kinds) ≡ Some line.kind = ap (last_of None) (front_on kinds i line.kind line.inside line.is) ∙ last_push None (take i kinds) line.kind in
     record {
       levels = subst (λ us. AreLevels None us (Some dev)) (sym (front_on cs i c l e)) (levels_push None (take i cs) above c dev levels told);
       development = d;
-      homes = homes;
       complete = complete ∙ ends_with line.kind c.kind line.fits ∙ ap ends (sym last);
       some = ap is_some last;
       executable = executable;

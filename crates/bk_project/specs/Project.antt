@@ -16,7 +16,7 @@ use Rattle.bk_files.specs.Files.{Has, IsFirst, IsShallowText, IsAtFault, IsPastL
 use Rattle.bk_level.specs.Above.{above_of}
 use Rattle.bk_level.specs.Components.{component_of}
 use Rattle.bk_level.specs.DeclaredNames.{declares_too_many}
-use Rattle.bk_level.specs.Verdict.{verdict_of, accepted, IsAtFault}
+use Rattle.bk_level.specs.Verdict.{verdict_of, accepted, AnswersFault}
 use Rattle.bk_project.specs.Chain.{Link, may_stand_below, links}
 use Rattle.bk_project.specs.declared.project_file.LineKind.{LineKind}
 use Rattle.bk_project.specs.declared.refusal.Refusal.{Refusal}
@@ -88,7 +88,7 @@ pub record IsLevelFault (components : List RawComponent) (number file place : �
   pub counted : length before ≡ file
   pub above : Option Development
   pub levels : AreLevels None before above
-  pub told : IsAtFault (verdict_of (int_max (above_of above)) above component) number place
+  pub told : AnswersFault (verdict_of (int_max (above_of above)) above component) number place
 
 -- the fault of this number, in this of the files, is the first; component files count from 0 here
 abbrev pub IsProjectFault : List LineKind → List (List ℕ) → ℕ → ℕ → ℕ → Type 0

@@ -4,7 +4,7 @@ use Rattle.bk_limits.specs.declared.TheConstants.{MOST_COMPONENTS}
 use Rattle.bk_raw.specs.ComponentTree.{RawComponent}
 use Rattle.bk_dev.specs.Development.{Development, int_max}
 use Rattle.bk_level.specs.Above.{above_of}
-use Rattle.bk_level.specs.Verdict.{verdict_of, IsAtFault}
+use Rattle.bk_level.specs.Verdict.{verdict_of, AnswersFault}
 use Rattle.bk_project.specs.Project.{IsLow, IsHigh}
 use Rattle.bk_files.specs.declared.fault.FileFault.{FileFault}
 use Rattle.bk_files.specs.declared.fault.FileFault.TheVariants.{Fault as FileAtFault, Limit as FilePastLimit, Memory as NoMemory}
@@ -22,7 +22,7 @@ IsReadOf text High = IsHigh text
 
 -- what is told of a component of this file below these levels, where it keeps the limit of names
 abbrev pub IsNextRefusal : Option Development → RawComponent → ℕ → Refusal → Type 0
-IsNextRefusal above c file (Fault number told place) = (suc file ≡ told) × IsAtFault (verdict_of (int_max (above_of above)) above c) number place
+IsNextRefusal above c file (Fault number told place) = (suc file ≡ told) × AnswersFault (verdict_of (int_max (above_of above)) above c) number place
 IsNextRefusal above c file (Limit number told) = ⊥
 IsNextRefusal above c file Memory = Unit {0}
 

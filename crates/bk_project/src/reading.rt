@@ -4,7 +4,7 @@ ghost use Rattle.std.specs.Prelude.{◌≡◌, ◌<◌, ◌≤◌, suc, true, Li
 ghost use Rattle.std.specs.List.{AllZip};
 ghost use Rattle.bk_dev.specs.B0.{IsB0Development};
 ghost use Rattle.bk_dev.specs.Development.{int_max, is_complete, is_implementing};
-ghost use Rattle.bk_dev.specs.Facts.{IsDevelopment, HomesAreThere};
+ghost use Rattle.bk_dev.specs.Facts.{IsDevelopment};
 ghost use Rattle.bk_raw.specs.Faults.{number_of_fault};
 ghost use Rattle.bk_raw.specs.Limits.{IsLowComponent};
 ghost use Rattle.bk_raw.specs.Places.{byte_at};
@@ -265,13 +265,11 @@ fn next_level(
     component: &RawComponent,
 ) -> Result<Development, Refusal>
     requires above { MayStandAbove component.now.kind above }
-    requires homes { HomesAreThere (above_of above) }
     requires few { DeclaresFew component.now }
     requires low { IsLowComponent component.now }
     requires file { file < MOST_COMPONENTS }
     ensures level { IfOk result (λ dev. verdict_of (int_max (above_of above)) above component.now ≡ accepted dev) }
     ensures development { IfOk result IsDevelopment }
-    ensures homes { IfOk result HomesAreThere }
     ensures executable { IfOk result (λ dev. is_complete dev ≡ true → IsB0Development dev) }
     ensures complete { IfOk result (λ dev. is_complete dev ≡ is_implementing (kind_as component.now.kind)) }
     ensures refusal { IfErr result (IsNextRefusal above component.now file) }
@@ -291,11 +289,9 @@ fn level_in_range(
     above: Option<Development>,
 ) -> Result<Development, ElabFault>
     requires above { MayStandAbove component.now.kind above }
-    requires homes { HomesStandInLevels (above_of above) }
     ensures level { IfOk result (λ dev. verdict_of (int_max (above_of above)) above component.now ≡ accepted dev) }
     ensures fault { IfErr result (SaysOfComponent (verdict_of (int_max (above_of above)) above component.now)) }
     ensures development { IfOk result IsDevelopment }
-    ensures homes { IfOk result HomesStandInLevels }
     ensures executable { IfOk result (λ dev. component.now.kind ≡ Implementation → IsLowComponent component.now → IsB0Development dev) }
 {
     let max = max_of(&above);

@@ -174,7 +174,7 @@ new-fits int_max higher comp first none apart above =
     let names = name_faults higher comp in
     let clauses = clause_faults int_max typing p comp in
     let operations = operation_faults higher comp p in
-    let rest = init_faults int_max higher comp typing p ++ (all_body_faults int_max higher comp typing p (operations_of p comp) ++ value_faults_of int_max typing p comp) in
+    let rest = init_faults int_max higher comp typing p ++ (all_body_faults int_max higher comp typing p (operations_of p comp) ++ value_faults_of int_max higher typing p comp) in
     let names-none = none-left names (clauses ++ (operations ++ rest)) none in
     let operations-none = none-left operations rest (none-right clauses (operations ++ rest) (none-right names (clauses ++ (operations ++ rest)) none)) in
     fits (is_machine comp.kind) p.inputs_at (far_of higher comp) higher comp first apart above (once higher comp names-none) (headers-none higher comp operations-none)

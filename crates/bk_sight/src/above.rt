@@ -2,6 +2,7 @@
 
 ghost use Rattle.std.specs.Option.{option_copied};
 ghost use Rattle.std.specs.Prelude.{◌≡◌, ◌++◌, ◌∷◌, [], ◌≤◌, ◌^◌, length, map, IfOk, OnOk, Some};
+ghost use Rattle.bk_form.specs.Table.{listed_size};
 ghost use Rattle.bk_dev.specs.Facts.{home_of};
 ghost use Rattle.bk_dev.specs.Development.{last};
 ghost use Rattle.bk_raw.specs.Names.{set_name, element_name};
@@ -56,6 +57,16 @@ impl<'a> Above<'a> {
     {
         match self.development {
             Some(development) => development.table.sets(),
+            None => 0,
+        }
+    }
+
+    // How many elements a set has; 0 where it has no size.
+    pub fn size(&self, set: u32) -> u32
+        ensures { result ≡ listed_size (above_shown self.now).table set }
+    {
+        match self.development {
+            Some(development) => development.table.size(set),
             None => 0,
         }
     }

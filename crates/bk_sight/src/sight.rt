@@ -88,6 +88,28 @@ pub fn variable_of(names: &[Visible<'_>], text: &[u8]) -> Option<u32>
     target_named(names, text).variable()
 }
 
+// The set of this name, if it is one's: the first with its text is meant.
+pub fn set_named(names: &[Visible<'_>], text: &[u8]) -> Option<u32>
+    ensures { result ≡ meant.set_named (visible_names names.now) text.now }
+{
+    for name in names {
+        if name.text == text {
+            return set_of(name.meaning);
+        }
+    }
+    None
+}
+
+// The set that a meaning is, if it is one.
+fn set_of(meaning: Standing) -> Option<u32>
+    ensures { result ≡ meant.set_in (meaning_of meaning) }
+{
+    match meaning {
+        Standing::Set(set) => Some(set),
+        _ => None,
+    }
+}
+
 // The names of a list that a binder binds go in front of those around: they have the numbers from this one on, and the
 // last is innermost.
 pub fn bound<'a>(

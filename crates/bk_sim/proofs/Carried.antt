@@ -35,8 +35,8 @@ module _ (find : Finder) where
   keeps : KeepsFlat find counter
   keeps = record {
     init = λ e t h. record { ends = tt; clean = (tt, tt); results = λ g r. subst invariant (sym r) refl };
-    conditions = λ o l e t h i. subst (λ p. Defined find (at_state counter_table e) p) (sym (conditions o l)) tt;
-    operations = λ o l e t h i c. keeps-operation o l e i;
+    conditions = λ o l e s. subst (λ p. Defined find (at_state counter_table e) p) (sym (conditions o l)) tt;
+    operations = λ o l e s c. keeps-operation o l e s.invariant;
   }
 
   abbrev answered : ℕ → State → Type 0

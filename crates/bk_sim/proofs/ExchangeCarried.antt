@@ -85,8 +85,8 @@ module _ (find : Finder) (law : IsSearch find) where
   keeps : KeepsFlat find flat
   keeps = record {
     init = λ e t h. record { ends = λ vs a g. (tt, λ k r. tt); clean = λ vs a. ((tt, tt, refl), λ g. ((tt, tt), λ k r. (tt, tt))); results = λ f r. refl };
-    conditions = λ o l e t h i. conditions o l e;
-    operations = λ o l e t h i c. kept o l e;
+    conditions = λ o l e s. conditions o l e;
+    operations = λ o l e s c. kept o l e;
   }
 
   -- ---- the loop

@@ -20,6 +20,7 @@ use Rattle.bk_dev.specs.Development.{inputs_of}
 use Rattle.bk_dev.specs.Facts.{is_constant, is_variable_of, home_of, Names, names_constants, names_joined, names_own, IsSubOf, IsLevelOf, IsLawful, IsDevelopment}
 use Rattle.bk_dev.proofs.CounterFacts.{names-none, names-number, names-one}
 use Rattle.bk_sim.specs.Exchange.{exchange_table, set_to, zero_to_two, machine_level, counting_down, swapping, code_level, exchange}
+use Rattle.bk_dev.proofs.Extents.{two-extents}
 use Rattle.bk_dev.proofs.HomesThere.{homes-stand}
 use Rattle.bk_dev.proofs.Levels.{two-levels}
 use Rattle.bk_dev.proofs.DefaultRange.{default_range}
@@ -209,6 +210,7 @@ exchange_facts = record {
   room = omega (arith);
   few_sets = omega (arith);
   homes_there = homes-stand 2 exchange.homes refl;
+  extents = two-extents exchange 0 2 refl refl (omega (arith)) (omega (arith));
 }
 
 -- ---- in B0

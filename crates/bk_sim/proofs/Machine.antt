@@ -29,7 +29,7 @@ use Rattle.bk_dev.specs.Facts.{is_constant, is_input, is_variable_of, is_variabl
 use Rattle.bk_form.specs.Predicates.{AllHold, conjuncts, equation}
 use Rattle.bk_dev.specs.Hypotheses.{size_equations, value_equation, properties_of, values_at, joining, joinings_of, conditions_of, is_number, in_machine_range, input_ranges, init_hypotheses, unasserted_hypotheses}
 use Rattle.bk_dev.specs.Machine.{Abstract, HasValues, Opens, Call, IsCall, Gives, Pre}
-use Rattle.bk_dev.specs.Claims.{arrays_at, beside, Establishes, Answered, KeepsFlat, CarriesFlat, ValuesMeet, LastCarriesFromEqual}
+use Rattle.bk_dev.specs.Claims.{arrays_at, beside, IsBetweenCalls, Establishes, Answered, KeepsFlat, CarriesFlat, ValuesMeet, LastCarriesFromEqual}
 use Rattle.bk_dev.specs.declared.kind.Kind.{Kind}
 use Rattle.bk_dev.specs.declared.kind.Kind.TheVariants.{Machine, Refinement, Implementation}
 use Rattle.bk_val.specs.CmpLaws.{value_eq-self}
@@ -683,6 +683,9 @@ module _ (find : Finder) (dev : Development) (f : IsLawful dev) (b : IsB0Develop
     invariant-e : holds find dev.table e high.invariant ≡ true
     invariant-e = whole-true find (at_state dev.table e) high.invariant (true-first find (at_state dev.table e) (conjuncts high.invariant) (map equation high.links) (joining-e 0 (within 0 (omega arith))))
 
+    between : IsBetweenCalls find dev e
+    between = record { typed = typed-e; properties = properties-hold 1 e typed-e values-e; invariant = invariant-e }
+
     body-clean : Clean find dev.table (Some (arrays_of dev)) last_body.sub e
     body-clean = at (last dev) refl
       where
@@ -690,7 +693,7 @@ module _ (find : Finder) (dev : Development) (f : IsLawful dev) (b : IsB0Develop
         of_whole k = elim (is_btrue (condition k)) as (λ t. Clean find dev.table (Some (arrays_of dev)) (cond t (sub k) (pre (condition k) (sub k))) e → Clean find dev.table (Some (arrays_of dev)) (sub k) e) [ true ↦ λ h. h | false ↦ λ h. h.1 ]
 
         at : (k : ℕ) → last dev ≡ k → Clean find dev.table (Some (arrays_of dev)) (sub k) e
-        at zero h = subst (λ o. Clean find dev.table o (sub 0) e) (arrays-last 0 h) (keeps.operations c.op is.op e typed-e (properties-hold 1 e typed-e values-e) invariant-e (true_before e (gives e typed-e (λ n q. refl)))).clean
+        at zero h = subst (λ o. Clean find dev.table o (sub 0) e) (arrays-last 0 h) (keeps.operations c.op is.op e between (true_before e (gives e typed-e (λ n q. refl)))).clean
         at (suc k) h =
             let below : suc k ≤ last dev = omega (arith, h) in
             of_whole (suc k) (subst (λ o. Clean find dev.table o (whole (body_at dev (suc k) c.op)) e) (arrays-last (suc k) h) (carry-body k below c.op is.op e typed-e (hyps k below (conditions-hold k (omega arith)) e typed-e (λ n q. refl)) (outputs-equal k e (λ n q. refl))).clean)
@@ -702,7 +705,7 @@ module _ (find : Finder) (dev : Development) (f : IsLawful dev) (b : IsB0Develop
         of_whole k = elim (is_btrue (condition k)) as (λ t. Ends find dev.table (cond t (sub k) (pre (condition k) (sub k))) e → Ends find dev.table (sub k) e) [ true ↦ λ h. h | false ↦ λ h. h.1 ]
 
         at : (k : ℕ) → last dev ≡ k → Ends find dev.table (sub k) e
-        at zero h = (keeps.operations c.op is.op e typed-e (properties-hold 1 e typed-e values-e) invariant-e (true_before e (gives e typed-e (λ n q. refl)))).ends
+        at zero h = (keeps.operations c.op is.op e between (true_before e (gives e typed-e (λ n q. refl)))).ends
         at (suc k) h =
             let below : suc k ≤ last dev = omega (arith, h) in
             of_whole (suc k) (carry-body k below c.op is.op e typed-e (hyps k below (conditions-hold k (omega arith)) e typed-e (λ n q. refl)) (outputs-equal k e (λ n q. refl))).ends
@@ -720,7 +723,7 @@ module _ (find : Finder) (dev : Development) (f : IsLawful dev) (b : IsB0Develop
         let before : HasValues find dev w.before = values-from 1 w.before e w.same values-e in
         let held : HasValues find dev w.after = values-from 0 w.after w.before (λ n h. stays-before find dev f head.inputs sub outs (λ i m. (fact i m).sub) (λ i m. (fact i m).outputs) as_many 0 0 (omega arith) (omega arith) w.before w.after w.runs n h) before in
         let inv-before : holds find dev.table w.before high.invariant ≡ true = holds-same find dev.table w.before e (names_joined dev 0) high.invariant (level_fact dev f 0 (within 0 (omega arith))).invariant.names (λ n h. w.same n (joined-before dev 1 0 (omega arith) n h)) ∙ invariant-e in
-        let inv-after = (keeps.operations c.op is.op w.before w.typed (properties-hold 1 w.before w.typed before) inv-before (true_before w.before given_before)).results w.after w.runs in
+        let inv-after = (keeps.operations c.op is.op w.before (record { typed = w.typed; properties = properties-hold 1 w.before w.typed before; invariant = inv-before }) (true_before w.before given_before)).results w.after w.runs in
         let linked = linked-after k kinds head.inputs sub outs e top w (vars-shown head.inputs (outs (last dev)) k top shows) zero-fact.sub inv-after held in
         let replied : replies dev c.op (map (parameter_of dev) (outs (last dev))) k ≡ map (λ x. number_as (declared_type dev.table x) (slice_index_or k (cell_of dev x) (pos 0))) (outs (last dev)) = alike-declared dev (outs (last dev)) (outs 0) (fact (last dev) (omega arith)).output_types k in
         let lower : map top (outs (last dev)) ≡ map (λ x. number_as (declared_type dev.table x) (slice_index_or k (cell_of dev x) (pos 0))) (outs (last dev)) =

@@ -34,6 +34,7 @@ use Rattle.bk_gen.proofs.Loads.{translations_load}
 use Rattle.bk_sim.specs.Settling.{settling_table, by_local, by_loop, settling_by, settling, call_by_local, call_by_loop, local_entry, loop_entry, settling_code, settled, unsettled, to_the_test, behind_the_start, onwards}
 use Rattle.bk_sim.specs.Laws.{WrongCodesDoNotFollow}
 use Rattle.bk_sim.proofs.ExchangeFacts.{names-both}
+use Rattle.bk_dev.proofs.Extents.{two-extents}
 use Rattle.bk_dev.proofs.HomesThere.{homes-stand}
 use Rattle.bk_dev.proofs.Levels.{two-levels}
 use Rattle.bk_dev.proofs.DefaultRange.{default_range}
@@ -215,6 +216,7 @@ settling_facts = record {
   room = omega (arith);
   few_sets = omega (arith);
   homes_there = homes-stand 2 settling.homes refl;
+  extents = two-extents settling 0 1 refl refl (omega (arith)) (omega (arith));
 }
 
 settling_in_b0 : IsB0Development settling

@@ -187,8 +187,8 @@ module _ (find : Finder) where
   keeps : KeepsFlat find tower
   keeps = record {
     init = λ e t h. record { ends = tt; clean = (tt, tt); results = λ g r. refl };
-    conditions = λ o l e t h i. subst (λ p. Defined find (at_state tower_table e) p) (sym (conditions o l)) tt;
-    operations = λ o l e t h i c. keeps-operation o l e;
+    conditions = λ o l e s. subst (λ p. Defined find (at_state tower_table e) p) (sym (conditions o l)) tt;
+    operations = λ o l e s c. keeps-operation o l e;
   }
 
   abbrev answered : ℕ → ℕ → State → Type 0

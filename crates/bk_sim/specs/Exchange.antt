@@ -96,5 +96,5 @@ exchange = record {
   heads = record { name = codes "swap"; inputs = []; outputs = 0 } ∷ [];
   levels = machine_level ∷ code_level ∷ [];
   values = [];
-  extents = [];
+  extents = (0, 2) ∷ (0, 6) ∷ [];
 }

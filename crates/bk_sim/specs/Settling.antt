@@ -53,7 +53,7 @@ settling_by second = record {
   heads = record { name = codes "by_local"; inputs = []; outputs = 0 } ∷ record { name = codes "by_loop"; inputs = []; outputs = 0 } ∷ [];
   levels = settling_level (codes "Settling") Machine 0 [] (set_to 0 (literal (pos 10))) (set_to 0 (literal (pos 10))) ∷ settling_level (codes "Settling_i") Implementation 1 ((1, 0) ∷ []) by_local second ∷ [];
   values = [];
-  extents = [];
+  extents = (0, 1) ∷ (0, 3) ∷ [];
 }
 
 -- by the local and by the loop

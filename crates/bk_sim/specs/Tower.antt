@@ -36,5 +36,5 @@ tower = record {
   heads = record { name = codes "fill"; inputs = []; outputs = 0 } ∷ [];
   levels = tower_level (codes "Tower") Machine 0 [] ∷ tower_level (codes "Tower_i") Implementation 1 ((1, 0) ∷ []) ∷ tower_level (codes "Tower_j") Implementation 2 ((2, 1) ∷ []) ∷ [];
   values = [];
-  extents = [];
+  extents = (0, 1) ∷ (0, 2) ∷ (0, 3) ∷ [];
 }

@@ -102,6 +102,22 @@ fn tables_are_numbered(rt: HostRuntime) -> Result<(), Fail> {
 }
 
 #[test]
+fn deferred_sets_get_sizes(rt: HostRuntime) -> Result<(), Fail> {
+    let alloc = rt.alloc();
+    let mut table = VarTable::new(alloc);
+    table.add_set(text(alloc, b"DAY")?, Vec::new(alloc), 0)?;
+    table.add_set(text(alloc, b"KEY")?, Vec::new(alloc), 0)?;
+    table.give_size(1, 65535);
+    assert_eq!(rt; (table.sets(), table.size(0), table.size(1)), (2, 0, 65535));
+    table.give_size(0, 7);
+    assert_eq!(rt; (table.size(0), table.size(1)), (7, 65535));
+    assert_eq!(rt; table.elements(0).ok_or("no set")?.len(), 0);
+    let set = table.set_name(1).ok_or("no set")?;
+    assert_eq!(rt; set.as_bytes(), b"KEY".as_slice());
+    Ok(())
+}
+
+#[test]
 fn tables_are_copied(rt: HostRuntime) -> Result<(), Fail> {
     let copy = colours(rt.alloc())?.copy(rt.alloc())?;
     assert_eq!(rt; (copy.sets(), copy.variables()), (1, 2));

@@ -4,7 +4,7 @@
 
 ghost use Rattle.std.specs.Option.{option_map};
 ghost use Rattle.std.specs.Prelude.{◌≡◌, IfOk, IfSome, IsTrue, None};
-ghost use Rattle.bk_dev.specs.Facts.{IsDevelopment, HomesAreThere};
+ghost use Rattle.bk_dev.specs.Facts.{IsDevelopment};
 ghost use Rattle.bk_level.specs.VerdictLaws.{MayStandAbove};
 
 use crate::notation::notation;
@@ -127,10 +127,8 @@ fn answer_to(
     raw: &RawComponent,
     above: Option<Box<Development>>,
 ) -> Result<Answer, Memory>
-    requires stands { MayStandAbove raw.now.kind (option_map (λ d. d.value) above) }
-    requires homes { IfSome above (λ dev. HomesAreThere dev.value) }
-    ensures right { IfOk result (λ a. IfSome a.development (λ dev. IsDevelopment dev.value)) }
-    ensures homes { IfOk result (λ a. IfSome a.development (λ dev. HomesAreThere dev.value)) }
+    requires { MayStandAbove raw.now.kind (option_map (λ d. d.value) above) }
+    ensures { IfOk result (λ a. IfSome a.development (λ dev. IsDevelopment dev.value)) }
 {
     let above = unboxed(above);
     let max = max_of(&above);
@@ -151,10 +149,8 @@ fn answer_below(
     text: &[u8],
     above: Option<Box<Development>>,
 ) -> Result<Answer, Memory>
-    requires right { IfSome above (λ dev. IsDevelopment dev.value) }
-    requires homes { IfSome above (λ dev. HomesAreThere dev.value) }
-    ensures right { IfOk result (λ a. IfSome a.development (λ dev. IsDevelopment dev.value)) }
-    ensures homes { IfOk result (λ a. IfSome a.development (λ dev. HomesAreThere dev.value)) }
+    requires { IfSome above (λ dev. IsDevelopment dev.value) }
+    ensures { IfOk result (λ a. IfSome a.development (λ dev. IsDevelopment dev.value)) }
 {
     let Some(raw) = read(alloc, text)? else {
         return Ok(refused(Told::Unread));
@@ -167,8 +163,7 @@ fn answer_below(
 
 // The levels of these texts, where they are a development's.
 fn levels(alloc: Global, texts: &[&str]) -> Result<Option<Box<Development>>, Memory>
-    ensures right { IfOk result (λ d. IfSome d (λ dev. IsDevelopment dev.value)) }
-    ensures homes { IfOk result (λ d. IfSome d (λ dev. HomesAreThere dev.value)) }
+    ensures { IfOk result (λ d. IfSome d (λ dev. IsDevelopment dev.value)) }
 {
     let mut development: Option<Box<Development>> = None;
     for text in texts {
@@ -183,8 +178,7 @@ fn levels(alloc: Global, texts: &[&str]) -> Result<Option<Box<Development>>, Mem
 
 /// The answer to the text below the others.
 pub(crate) fn answer_of(alloc: Global, above: &[&str], text: &str) -> Result<Answer, Memory>
-    ensures right { IfOk result (λ a. IfSome a.development (λ dev. IsDevelopment dev.value)) }
-    ensures homes { IfOk result (λ a. IfSome a.development (λ dev. HomesAreThere dev.value)) }
+    ensures { IfOk result (λ a. IfSome a.development (λ dev. IsDevelopment dev.value)) }
 {
     let marked = Marked::of(alloc, text)?;
     let development = levels(alloc, above)?;

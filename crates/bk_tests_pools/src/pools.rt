@@ -3,8 +3,7 @@
 use crate::pool_texts::{AFTER, BEFORE, LETTERS, SHARED};
 use bk_bind::replace;
 use bk_bracketed::{Unread, formula};
-use bk_form::Form;
-use bk_pool::Pool;
+use bk_form::{Form, Pool};
 use std::alloc::Global;
 use std::test::Fail;
 

@@ -6,7 +6,7 @@ use Rattle.std.proofs.lemmas.List.{append-nil}
 use Rattle.std.proofs.lemmas.List.Elements.{All-nil, All-cons}
 use Rattle.bk_val.specs.ValueType.{int_type, bool_type, pair_type, set_type}
 use Rattle.bk_form.specs.Each.{Each}
-use Rattle.bk_form.specs.Table.{VariableEntry, lists_type, IsWellFormed}
+use Rattle.bk_form.specs.Table.{SetEntry, VariableEntry, lists_type, IsWellFormed}
 use Rattle.bk_form.specs.Formula.{variable, literal, named, unary, binary}
 use Rattle.bk_form.specs.declared.arrays.ArrayDomain.TheVariants.{Interval}
 use Rattle.bk_form.specs.declared.operator.BinOp.TheVariants.{In, TotalFunctions, Range, Times, Apply}
@@ -15,6 +15,7 @@ use Rattle.bk_form.specs.declared.operator.Domain.TheVariants.{Integer}
 use Rattle.bk_gsl.proofs.States.{nat_eq-same}
 use Rattle.bk_gsl.specs.State.{among}
 use Rattle.bk_gsl.specs.Substitution.{Substitution, skip, seq}
+use Rattle.bk_dev.proofs.Extents.{two-extents}
 use Rattle.bk_dev.proofs.HomesThere.{homes-stand}
 use Rattle.bk_dev.proofs.CounterFacts.{names-none, names-one}
 use Rattle.bk_dev.proofs.Levels.{two-levels}
@@ -267,11 +268,13 @@ pub family_facts : (s : Substitution) → IsDrawn [] 17 25 s → IsDevelopment (
 family_facts s d = record {
   lawful = family-lawful s d;
   only_last = two-levels (family s) refl refl;
+  sizes = λ h. All-nil (λ (x : SetEntry). 0 < x.size);
   shapes = (record { init = tt; bodies = (tt, tt) }, (record { init = (tt, tt, (tt, tt, (tt, tt, tt))); bodies = ((tt, d.shape, (tt, tt, (tt, tt, (tt, tt, (tt, tt, (tt, tt, tt)))))), tt) }, tt));
   binders_differ = all-differ s d;
   room = subst (λ (ns : List ℕ). length (family_table.variables ++ filter_map (slice_get family_table.variables) ns) < 2 ^ 32) (sym (nothing-copied s d)) room-enough;
   few_sets = omega (arith);
   homes_there = homes-stand 2 family_homes refl;
+  extents = two-extents (family s) 0 11 refl refl (omega (arith)) (omega (arith));
 }
 
 -- ---- in B0

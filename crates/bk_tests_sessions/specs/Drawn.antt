@@ -49,6 +49,10 @@ family_homes = Concrete 1 ∷ Concrete 1 ∷ Concrete 1 ∷ Concrete 1 ∷ Input
     ∷ Inner 1 ∷ Inner 1 ∷ Inner 1 ∷ Inner 1 ∷ Inner 1 ∷ Inner 1
     ∷ Inner 1 ∷ Inner 1 ∷ Inner 1 ∷ Inner 1 ∷ Inner 1 ∷ Inner 1 ∷ Inner 1 ∷ Inner 1 ∷ []
 
+-- the machine sees the first eleven, and the implementation all
+abbrev pub family_extents : List (ℕ × ℕ)
+family_extents = (0, 11) ∷ (0, 25) ∷ []
+
 -- ---- the components
 abbrev pub machine_outputs : List ℕ
 machine_outputs = 5 ∷ 6 ∷ 7 ∷ 8 ∷ 9 ∷ 10 ∷ []
@@ -120,7 +124,7 @@ family s = record {
   heads = record { name = codes "step"; inputs = 4 ∷ []; outputs = 6 } ∷ [];
   levels = family_machine ∷ family_code s ∷ [];
   values = [];
-  extents = [];
+  extents = family_extents;
 }
 
 -- ---- what is drawn

@@ -167,6 +167,12 @@ fn homes(alloc: Global) -> Result<Vec<Home>, Memory>
     ]?)
 }
 
+fn extents(alloc: Global) -> Result<Vec<(usize, usize)>, Memory>
+    ensures { IfOk result (λ extents. extents.items ≡ exchange.extents) }
+{
+    Ok(vec![in alloc; (0, 2), (0, 6)]?)
+}
+
 fn levels(alloc: Global) -> Result<Vec<Level>, Memory>
     ensures { IfOk result (λ levels. levels.items ≡ exchange.levels) }
 {
@@ -184,5 +190,6 @@ pub(crate) fn exchange(alloc: Global) -> Result<Development, Memory>
     let heads = header(alloc, b"swap", Vec::new(alloc), 0)?;
     let homes = homes(alloc)?;
     let table = table(alloc)?;
-    Ok(development(alloc, table, homes, heads, levels))
+    let extents = extents(alloc)?;
+    Ok(development(alloc, table, homes, heads, levels, extents))
 }

@@ -6,7 +6,7 @@ ghost use Rattle.bk_tests_sessions.specs.Drawn.{family_machine, family_code, fam
 
 use crate::components::{implementation, machine};
 use crate::parts::{development, header};
-use crate::table::{homes, table};
+use crate::table::{extents, homes, table};
 use bk_dev::{Development, Level};
 use bk_gsl::Sub;
 use bk_io::Memory;
@@ -33,5 +33,6 @@ pub(crate) fn family(alloc: Global, sub: Sub) -> Result<Development, Memory>
     let heads = header(alloc, b"step", inputs, 6)?;
     let homes = homes(alloc)?;
     let table = table(alloc)?;
-    Ok(development(alloc, table, homes, heads, levels))
+    let extents = extents(alloc)?;
+    Ok(development(alloc, table, homes, heads, levels, extents))
 }

@@ -144,6 +144,7 @@ pub(crate) fn development(
     homes: Vec<Home>,
     heads: Vec<OpHead>,
     levels: Vec<Level>,
+    extents: Vec<(usize, usize)>,
 ) -> Development
     requires { IsDevelopment (record {
       max = default_max;
@@ -153,7 +154,7 @@ pub(crate) fn development(
       heads = heads.items;
       levels = levels.items;
       values = [];
-      extents = [];
+      extents = extents.items;
     }) }
     ensures { result ≡ record {
       max = default_max;
@@ -163,7 +164,7 @@ pub(crate) fn development(
       heads = heads.items;
       levels = levels.items;
       values = [];
-      extents = [];
+      extents = extents.items;
     } }
 {
     Development {
@@ -174,6 +175,6 @@ pub(crate) fn development(
         heads,
         levels,
         values: Vec::new(alloc),
-        extents: Vec::new(alloc),
+        extents,
     }
 }

@@ -2,7 +2,7 @@
 
 ghost use Rattle.std.specs.Prelude.{◌≡◌, ◌<◌, ◌^◌, length, IfOk, OnOk};
 ghost use Rattle.bk_form.specs.Table.{with_variable};
-ghost use Rattle.bk_tests_sessions.specs.Drawn.{number_named, truth_named, family_table, first_rows, family_homes};
+ghost use Rattle.bk_tests_sessions.specs.Drawn.{number_named, truth_named, family_table, first_rows, family_homes, family_extents};
 
 use bk_dev::Home;
 use bk_fixtures::text;
@@ -123,4 +123,11 @@ pub(crate) fn homes(alloc: Global) -> Result<Vec<Home>, Memory>
         Home::Inner(1),
         Home::Inner(1),
     ]?)
+}
+
+/// How many of the variables are the machine's, and how many there are.
+pub(crate) fn extents(alloc: Global) -> Result<Vec<(usize, usize)>, Memory>
+    ensures { IfOk result (λ extents. extents.items ≡ family_extents) }
+{
+    Ok(vec![in alloc; (0, 11), (0, 25)]?)
 }

@@ -2,7 +2,6 @@
 
 ghost use Rattle.std.specs.Prelude.{◌≡◌, ◌⊎◌, ◌≤◌, ◌<◌, ◌^◌, All, length, map, IfOk, IfErr};
 ghost use Rattle.bk_code.specs.Laws.{IsRequest};
-ghost use Rattle.bk_code.specs.Numbers.{int_max, IsRange};
 ghost use Rattle.bk_calls.specs.Script.{IsScript, request_of, most_calls};
 ghost use Rattle.bk_verbs.specs.declared.stop.Stop.TheVariants.{Memory};
 ghost use Rattle.bk_verbs.specs.Causes.{IsOfChecks};
@@ -27,7 +26,6 @@ pub(crate) fn calls_of(
 ) -> Result<Vec<Call>, Stop>
     requires short { length text.now ≤ MOST_BYTES }
     requires few_operations { length image.now.ops < 2 ^ 32 }
-    requires range { IsRange (int_max image.now) }
     ensures cause { IfErr result (λ stop. IsOutside stop ⊎ StopsAtScript name.now text.now image.now stop) }
     ensures checks { IfErr result IsOfChecks }
     ensures ok { IfOk result (λ calls. IsScript image.now text.now (map request_of calls.items)) }

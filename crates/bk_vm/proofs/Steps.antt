@@ -1,6 +1,6 @@
 -- From the checks of an image to the execution of one instruction, and from steps to a call's end.
 use Rattle.std.proofs.Common.{◌≡◌, ℕ, ◌+◌, ◌-◌, ◌^◌, ◌<◌, ◌≤◌, ◌⊎◌, inl, inr, refl, sym, subst, arith, Bool, true, false, List, ◌∷◌, length, get_or, Some, None, Ok, ℤ, pos, add-one}
-use Rattle.std.specs.Prelude.{slice_get, slice_index, if◌then◌else◌, Err, suc, negsuc, ◌≤ℤ◌, neg_ℤ, FitsSigned}
+use Rattle.std.specs.Prelude.{slice_get, slice_index, if◌then◌else◌, Err, suc, negsuc, ◌≤ℤ◌, ◌+ℤ◌, ◌-ℤ◌, neg_ℤ, FitsSigned}
 use Rattle.std.specs.Int.{w64}
 use Rattle.std.proofs.lemmas.Int.{ints, fits_signed_from_abs}
 use Rattle.std.proofs.lemmas.List.Elements.{All-weaker}
@@ -106,6 +106,27 @@ in_other_range image c h = record { small = range_small (int_max image) h.number
 fits_from_small : (z : ℤ) → IsSmall z → FitsSigned w64 z
 fits_from_small (pos n) h = let low : n < 2 ^ 62 = omega (arith, ints, h.1) in fits_signed_from_abs w64 (pos n) (omega (arith, low))
 fits_from_small (negsuc n) h = let low : suc n < 2 ^ 62 = omega (arith, ints, h.0) in fits_signed_from_abs w64 (negsuc n) (omega (arith, low))
+
+-- a sum and a difference of two numbers of the widest range fit 64 bits
+fits_from_wide : (z : ℤ) → neg_ℤ (pos 9223372036854775806) ≤ℤ z → z ≤ℤ pos 9223372036854775806 → FitsSigned w64 z
+fits_from_wide (pos n) h k = let low : n < 2 ^ 63 = omega (arith, ints, k) in fits_signed_from_abs w64 (pos n) (omega (arith, low))
+fits_from_wide (negsuc n) h k = let low : suc n < 2 ^ 63 = omega (arith, ints, h) in fits_signed_from_abs w64 (negsuc n) (omega (arith, low))
+
+pub sum_fits : (a b : ℤ) → IsSmall a → IsSmall b → FitsSigned w64 (a +ℤ b)
+sum_fits a b h k =
+    let low : neg_ℤ (pos 4611686018427387903) ≤ℤ a = h.0 in
+    let high : a ≤ℤ pos 4611686018427387903 = h.1 in
+    let least : neg_ℤ (pos 4611686018427387903) ≤ℤ b = k.0 in
+    let most : b ≤ℤ pos 4611686018427387903 = k.1 in
+    fits_from_wide (a +ℤ b) (omega (arith, ints, low, least)) (omega (arith, ints, high, most))
+
+pub difference_fits : (a b : ℤ) → IsSmall a → IsSmall b → FitsSigned w64 (a -ℤ b)
+difference_fits a b h k =
+    let low : neg_ℤ (pos 4611686018427387903) ≤ℤ a = h.0 in
+    let high : a ≤ℤ pos 4611686018427387903 = h.1 in
+    let least : neg_ℤ (pos 4611686018427387903) ≤ℤ b = k.0 in
+    let most : b ≤ℤ pos 4611686018427387903 = k.1 in
+    fits_from_wide (a -ℤ b) (omega (arith, ints, low, most)) (omega (arith, ints, high, least))
 
 within_if : (max n : ℤ) → is_within max n ≡ true → IsWithin max n
 within_if max n h = (grind (arith, ints), grind (arith, ints))

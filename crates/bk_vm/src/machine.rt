@@ -5,7 +5,6 @@ ghost use Rattle.bk_code.specs.Laws.{AreCells};
 ghost use Rattle.bk_code.specs.Session.{first_start};
 ghost use Rattle.bk_vm.specs.Ends.{EndsWith, CallEndsWith, is_stop};
 ghost use Rattle.bk_vm.specs.State.{fresh, IsMachine, TakesCall};
-ghost use Rattle.bk_limits.specs.declared.TheConstants.{STACK_ROOM};
 
 use crate::CallEnd;
 use crate::execute::run;
@@ -27,6 +26,7 @@ pub struct Machine {
 
 impl Model for Machine {
     ghost use Rattle.std.specs.Prelude.{◌≡◌, length};
+    ghost use Rattle.bk_limits.specs.declared.TheConstants.{STACK_ROOM};
     ghost use Rattle.bk_vm.specs.State.{State, IsMachine};
 
     ghost Value = { State };

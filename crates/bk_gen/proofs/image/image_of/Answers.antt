@@ -1,6 +1,6 @@
 use Rattle.std.proofs.Common.{◌≡◌, ◌+◌, ◌++◌, List, map, length, sym, ◌∙◌, ap, subst, arith, All}
 use Rattle.bk_dev.specs.Development.{Body}
-use Rattle.bk_form.specs.Table.{SetEntry}
+use Rattle.bk_form.specs.Table.{element_texts}
 use Rattle.bk_b0.specs.CodeUnit.{unit_places}
 use Rattle.bk_b0.specs.Places.{placed_block, placed_entries, placed_bodies}
 use Rattle.bk_gen.specs.Executed.{HasStatementCode}
@@ -37,4 +37,4 @@ returns c =
     let first : c.add_block.new.code.items ≡ placed_block p u.init = c.in_ok-add_block.ensures ∙ (λ i. c.new-code.ensures.items i ++ placed_block p (c.init.ensures i)) in
     let code : c.add_operations.new.code.items ≡ placed_block p u.init ++ placed_bodies p u.bodies = c.in_ok-ops.ensures.code ∙ (λ i. first i ++ placed_bodies p (c.bodies.ensures i)) in
     let ops : c.in_ok-ops.ops.items ≡ placed_entries p (length (placed_block p u.init)) u.heads u.bodies = c.in_ok-ops.ensures.entries ∙ (λ i. placed_entries p (length (first i)) (c.heads.ensures i) (c.bodies.ensures i)) in
-    λ i. record { max = c.max_of.ensures i; cells = c.few_cells.ensures i; sets = (c.from_vec.ensures ∙ (c.in_ok-sets.ensures ∙ ap (map (λ (s : SetEntry). s.elements)) c.sets.ensures)) i; ops = (c.from_vec-2.ensures ∙ ops) i; code = (c.from_vec-3.ensures ∙ code) i }
+    λ i. record { max = c.max_of.ensures i; cells = c.few_cells.ensures i; sets = (c.from_vec.ensures ∙ (c.in_ok-sets.ensures ∙ ap (map element_texts) c.sets.ensures)) i; ops = (c.from_vec-2.ensures ∙ ops) i; code = (c.from_vec-3.ensures ∙ code) i }

@@ -12,4 +12,4 @@ returns-clause-words c = record { select = refl; choose = refl; choose_one = ref
 
 pub returns-clause-faults : goal.returns-clause-faults
 unfolding digits
-returns-clause-faults c = record { concrete_first = refl; concrete_again = refl; variable_above = refl; element_above = refl; both_clauses = refl; header = refl; component_twice = refl; unknown = refl; unknown_in_other = refl; old_value = refl; no_predicate = refl; longer = refl; constant = refl; variable_untyped = refl; set_alone = refl; untyped_name = refl; no_start = refl; sequence = refl; inside = refl; shorter = refl; other_operation = refl; missing = refl; input = refl; twice = refl; lengths = refl; both_write = refl; no_value = refl; large_value = refl; other_value = refl; value_twice = refl; right_value = refl; not_code = refl; value_first = refl; power = refl; branches = refl; fill = refl; other_fill = refl; many = refl }
+returns-clause-faults c = record { concrete_first = refl; concrete_again = refl; variable_above = refl; element_above = refl; both_clauses = refl; header = refl; component_twice = refl; unknown = refl; unknown_in_other = refl; old_value = refl; no_predicate = refl; longer = refl; constant = refl; variable_untyped = refl; set_alone = refl; untyped_name = refl; no_start = refl; sequence = refl; inside = refl; shorter = refl; other_operation = refl; missing = refl; input = refl; twice = refl; lengths = refl; both_write = refl; no_value = refl; large_value = refl; other_value = refl; value_twice = refl; right_value = refl; no_size = refl; entry_of_set = refl; right_size = refl; not_code = refl; value_first = refl; power = refl; branches = refl; fill = refl; other_fill = refl; many = refl }

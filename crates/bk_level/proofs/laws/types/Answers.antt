@@ -6,4 +6,4 @@ pub returns-clause-settled : goal.returns-clause-settled
 returns-clause-settled c = λ int_max table top n ws typing. settled-told int_max table top n ws typing
 
 pub returns-clause-stand : goal.returns-clause-stand
-returns-clause-stand c = λ int_max higher comp h k. stands int_max higher comp h k
+returns-clause-stand c = λ int_max higher comp h. stands int_max higher comp h

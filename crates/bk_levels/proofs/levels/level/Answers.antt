@@ -9,7 +9,7 @@ use Rattle.bk_level.specs.Components.{Component, is_machine}
 use Rattle.bk_level.specs.Verdict.{all_faults}
 use Rattle.bk_sight.specs.Shown.{component_shown}
 use Rattle.bk_levels.proofs.Assembling.{limit-told, fault-told, machine-alone}
-use Rattle.bk_levels.proofs.Leveling.{at-home, at-sets, levelled, IsLevelled}
+use Rattle.bk_levels.proofs.Leveling.{at-home, at-levels, at-sets, levelled, IsLevelled}
 use Rattle.bk_levels.proofs.levels.level.Goals as goal
 
 pub returns-then-declares_too_many-clause-fault : goal.returns-then-declares_too_many-clause-fault
@@ -22,7 +22,7 @@ part_of-requires-clause-alone c = λ h.
     ap above_of c.as_ref.ensures.value ∙ machine-alone c.args.raw.now.kind c.args.above c.requires.above (sym (ap (λ (k : Component). is_machine k.kind) c.in_ok-component.ensures) ∙ h)
 
 pub part_of-requires-clause-homes : goal.part_of-requires-clause-homes
-part_of-requires-clause-homes c = subst HomesAreThere (sym (ap above_of c.as_ref.ensures.value)) c.requires.homes
+part_of-requires-clause-homes c = subst HomesAreThere (sym (ap above_of c.as_ref.ensures.value)) (at-levels c.args.raw.now.kind c.args.above c.requires.above)
 
 pub part_of-requires-clause-all_at_home : goal.part_of-requires-clause-all_at_home
 part_of-requires-clause-all_at_home c = at-home-of (ap above_of c.as_ref.ensures.value) (at-home c.args.raw.now.kind c.args.above c.requires.above)
@@ -43,11 +43,11 @@ counted-requires-clause-sets c = at-sets c.args.raw.now.kind c.args.above c.requ
 pub counted-requires-clause-room : goal.counted-requires-clause-room
 counted-requires-clause-room c = λ room.
     (levelled c.args.max _ c.args.above c.args.raw.now (component_shown c.in_ok-component.component) (above_of (option_copied c.as_ref.result)) c.in_ok-judged.judged.added (to_z-of_z c.ranges.max) c.in_ok-component.ensures (ap above_of c.as_ref.ensures.value)
-    c.requires.range c.requires.above c.requires.homes (sym c.if-declares_too_many.false ∙ c.declares_too_many.ensures) (sym (ap told c.in_default.is) ∙ c.in_ok-judged.ensures.fault) c.in_ok-judged.ensures.added room).development
+    c.requires.range c.requires.above (sym c.if-declares_too_many.false ∙ c.declares_too_many.ensures) (sym (ap told c.in_default.is) ∙ c.in_ok-judged.ensures.fault) c.in_ok-judged.ensures.added room).development
 
 pub returns : goal.returns
 returns c =
     let all = subst (IsLevelled c.args.max c.args.above c.args.raw.now) (sym c.in_ok-made.ensures.made)
     (levelled c.args.max _ c.args.above c.args.raw.now (component_shown c.in_ok-component.component) (above_of (option_copied c.as_ref.result)) c.in_ok-judged.judged.added (to_z-of_z c.ranges.max) c.in_ok-component.ensures (ap above_of c.as_ref.ensures.value)
-    c.requires.range c.requires.above c.requires.homes (sym c.if-declares_too_many.false ∙ c.declares_too_many.ensures) (sym (ap told c.in_default.is) ∙ c.in_ok-judged.ensures.fault) c.in_ok-judged.ensures.added c.in_ok-made.ensures.room) in
-    record { level = all.verdict; fault = tt; development = all.development; homes = all.homes; room = all.room; executable = all.executable }
+    c.requires.range c.requires.above (sym c.if-declares_too_many.false ∙ c.declares_too_many.ensures) (sym (ap told c.in_default.is) ∙ c.in_ok-judged.ensures.fault) c.in_ok-judged.ensures.added c.in_ok-made.ensures.room) in
+    record { level = all.verdict; fault = tt; development = all.development; room = all.room; executable = all.executable }

@@ -33,7 +33,7 @@ pub loop-file-init : goal.loop-file-init
 loop-file-init c =
     let some = some_component c.args.kinds.now (bytes_of c.args.texts.now) c.args.components.now c.requires.chain c.requires.chained in
     let e = c.in_ok-dev.ensures in
-    level_on c.args.kinds.now (bytes_of c.args.texts.now) c.args.components.now 0 c.index-components-0.result None c.in_ok-dev.dev c.requires.chain c.requires.chained some c.index-components-0.is refl e.level e.development e.homes e.complete e.executable
+    level_on c.args.kinds.now (bytes_of c.args.texts.now) c.args.components.now 0 c.index-components-0.result None c.in_ok-dev.dev c.requires.chain c.requires.chained some c.index-components-0.is refl e.level e.development e.complete e.executable
 
 pub next_level-requires-in-loop-file-clause-above : goal.next_level-requires-in-loop-file-clause-above
 next_level-requires-in-loop-file-clause-above c = next_stands c.args.kinds.now (bytes_of c.args.texts.now) c.args.components.now c.loop-file.file c.index-components-file.result c.loop-file.dev c.requires.chain c.requires.chained c.loop-file-test.true c.index-components-file.is c.loop-file.invariant
@@ -53,4 +53,4 @@ returns-in_err-dev-2-clause-refusal c =
 pub loop-file-preserved : goal.loop-file-preserved
 loop-file-preserved c =
     let e = c.in_ok-dev-2.ensures in
-    level_on c.args.kinds.now (bytes_of c.args.texts.now) c.args.components.now c.loop-file.file c.index-components-file.result (Some c.loop-file.dev) c.in_ok-dev-2.dev c.requires.chain c.requires.chained c.loop-file-test.true c.index-components-file.is c.loop-file.invariant.levels e.level e.development e.homes e.complete e.executable
+    level_on c.args.kinds.now (bytes_of c.args.texts.now) c.args.components.now c.loop-file.file c.index-components-file.result (Some c.loop-file.dev) c.in_ok-dev-2.dev c.requires.chain c.requires.chained c.loop-file-test.true c.index-components-file.is c.loop-file.invariant.levels e.level e.development e.complete e.executable

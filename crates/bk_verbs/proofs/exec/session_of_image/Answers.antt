@@ -17,8 +17,6 @@ use Rattle.bk_io.specs.Bytes.{AreBytes}
 use Rattle.bk_verbs.specs.Project.{IsTold, IsToldAsBytes}
 use Rattle.bk_verbs.specs.Stops.{StopsAtScript}
 use Rattle.bk_verbs.proofs.exec.session_of_image.Goals as goal
-use Rattle.bk_code.specs.Numbers.{IsRange}
-use Rattle.bk_code.proofs.Ranges.{default_range}
 
 -- what a file holds, as bytes
 held_bytes : (files : Files) (name fetched held bytes : List ℕ) → held ≡ fetched → bytes ≡ held → IsTold files name fetched → AreBytes held → IsToldAsBytes files name bytes
@@ -55,9 +53,6 @@ returns-in_err-calls-clause-cause g c =
 -- an image that is loaded has as many operations as a field of two bytes can count
 pub calls_of-requires-clause-few_operations : goal.calls_of-requires-clause-few_operations
 calls_of-requires-clause-few_operations g c = omega (arith, c.in_ok-loaded.ensures.ok.spelled.fits.few_ops)
-
-pub calls_of-requires-clause-range : goal.calls_of-requires-clause-range
-calls_of-requires-clause-range g c = subst IsRange (sym c.in_ok-loaded.ensures.ok.spelled.fits.max) default_range
 
 -- the player runs the image that was loaded
 loaded_image : (p : State) (image : Image) → p ≡ fresh image → p.image ≡ image

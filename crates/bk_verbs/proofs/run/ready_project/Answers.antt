@@ -12,8 +12,6 @@ use Rattle.bk_code.proofs.DeadCode.{loadable_is_checked}
 use Rattle.bk_verbs.specs.Project.{IsWithinCodeLimits}
 use Rattle.bk_verbs.specs.Stops.{StopsAtScript}
 use Rattle.bk_verbs.proofs.run.ready_project.Goals as goal
-use Rattle.bk_code.specs.Numbers.{IsRange}
-use Rattle.bk_code.proofs.Ranges.{default_range}
 
 pub returns-in_err-read-clause-cause : goal.returns-in_err-read-clause-cause
 returns-in_err-read-clause-cause g c =
@@ -55,9 +53,6 @@ returns-in_err-calls-clause-cause g c =
 
 pub calls_of-requires-clause-few_operations : goal.calls_of-requires-clause-few_operations
 calls_of-requires-clause-few_operations g c = omega (arith, c.in_ok-image.ensures.within.spelled.fits.few_ops)
-
-pub calls_of-requires-clause-range : goal.calls_of-requires-clause-range
-calls_of-requires-clause-range g c = subst IsRange (sym c.in_ok-image.ensures.within.spelled.fits.max) default_range
 
 pub returns-clause-ready : goal.returns-clause-ready
 returns-clause-ready g c files told = record {
