@@ -35,7 +35,7 @@ not_b0 at = (NotB0, at)
 abbrev pub wrong_write : ℕ → Fault
 wrong_write at = (WrongWrite, at)
 
--- a constant without a value, with two, or with one that it may not have, or a value for what is no constant
+-- a constant without a value, with two, or with one that it may not have, a value for what is no constant, or a set without a size
 abbrev pub wrong_value : ℕ → Fault
 wrong_value at = (WrongValue, at)
 

@@ -30,7 +30,7 @@ pub enum FaultKind {
     NotB0,
     /// Something is written that may not be, or twice at once.
     WrongWrite,
-    /// A constant has no value, two, or not one that it may have, or what is given one is no constant.
+    /// A constant has no value, two, or not one that it may have, what is given one is no constant, or a set has no size.
     WrongValue,
 }
 
