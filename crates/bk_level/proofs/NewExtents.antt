@@ -1,5 +1,5 @@
 -- What the levels see of the table, with one level more.
-use Rattle.std.proofs.Common.{◌≡◌, ◌<◌, ◌≤◌, ◌+◌, ℕ, suc, List, [], ◌∷◌, ◌++◌, length, refl, sym, ◌∙◌, ap, subst, arith}
+use Rattle.std.proofs.Common.{◌≡◌, ◌<◌, ◌≤◌, ◌+◌, ℕ, suc, [], ◌∷◌, ◌++◌, length, refl, sym, ◌∙◌, ap, subst, arith}
 use Rattle.std.specs.Prelude.{ℤ, slice_index_or}
 use Rattle.bk_dev.specs.Development.{Level, Development, extent_at, last}
 use Rattle.bk_dev.specs.Extents.{HasItsExtents}
