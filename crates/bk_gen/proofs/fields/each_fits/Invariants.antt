@@ -6,4 +6,4 @@ use Rattle.bk_gen.proofs.fields.each_fits.Given as goal
 
 -- they all fit just where those from this number on do
 abbrev pub invariant-loop-number : goal.invariant-loop-number
-invariant-loop-number l = All (λ text. IsCountable text) (texts_from l.name.now l.number (l.count - l.number)) ↔ All (λ text. IsCountable text) (texts_from l.name.now 0 l.count)
+invariant-loop-number l = All (λ text. IsCountable text) (texts_from l.name l.number (l.count - l.number)) ↔ All (λ text. IsCountable text) (texts_from l.name 0 l.count)

@@ -4,7 +4,9 @@ use Rattle.bk_form.specs.Table.{texts_from}
 use Rattle.bk_gen.proofs.names.numbered_texts.Goals as goal
 
 pub loop-number-init : goal.loop-number-init
-loop-number-init c = let all : c.args.count - 0 ≡ c.args.count = omega arith in ap (texts_from c.args.name.now 0) all
+loop-number-init c =
+    let all : c.args.count - 0 ≡ c.args.count = omega arith in
+    λ i. c.new-texts.ensures.items i ++ texts_from c.args.name.now 0 (all i)
 
 pub loop-number-preserved : goal.loop-number-preserved
 loop-number-preserved c =
