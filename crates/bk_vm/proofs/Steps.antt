@@ -1,8 +1,8 @@
 -- From the checks of an image to the execution of one instruction, and from steps to a call's end.
-use Rattle.std.proofs.Common.{◌≡◌, ℕ, ◌+◌, ◌-◌, ◌^◌, ◌<◌, ◌≤◌, ◌⊎◌, inl, inr, refl, sym, subst, arith, Bool, true, false, List, ◌∷◌, length, get_or, Some, None, Ok, ℤ, pos, add-one}
+use Rattle.std.proofs.Common.{◌≡◌, ℕ, ◌+◌, ◌-◌, ◌^◌, ◌<◌, ◌≤◌, ◌⊎◌, inl, inr, refl, sym, subst, arith, Bool, true, false, List, ◌∷◌, length, get_or, Some, None, Ok, ℤ, pos, add-one, ap, ◌∙◌, to_z, of_z}
 use Rattle.std.specs.Prelude.{slice_get, slice_index, if◌then◌else◌, Err, suc, negsuc, ◌≤ℤ◌, ◌+ℤ◌, ◌-ℤ◌, neg_ℤ, FitsSigned}
 use Rattle.std.specs.Int.{w64}
-use Rattle.std.proofs.lemmas.Int.{ints, fits_signed_from_abs}
+use Rattle.std.proofs.lemmas.Int.{ints, fits_signed_from_abs, to_z-of_z}
 use Rattle.std.proofs.lemmas.List.Elements.{All-weaker}
 use Rattle.std.proofs.lemmas.Option.{slice_get-get_or}
 use Rattle.bk_code.specs.declared.image.Image.{Image}
@@ -127,6 +127,25 @@ difference_fits a b h k =
     let least : neg_ℤ (pos 4611686018427387903) ≤ℤ b = k.0 in
     let most : b ≤ℤ pos 4611686018427387903 = k.1 in
     fits_from_wide (a -ℤ b) (omega (arith, ints, low, most)) (omega (arith, ints, high, least))
+
+small_fits : (a : ℤ) → IsSmall a → FitsSigned w64 a
+small_fits a h =
+    let low : neg_ℤ (pos 4611686018427387903) ≤ℤ a = h.0 in
+    let high : a ≤ℤ pos 4611686018427387903 = h.1 in
+    fits_from_wide a (omega (arith, ints, low)) (omega (arith, ints, high))
+
+-- what the machine's sums and differences of such numbers are
+pub sum_is : (a b : ℤ) → IsSmall a → IsSmall b → to_z w64 (of_z w64 (to_z w64 (of_z w64 a) +ℤ to_z w64 (of_z w64 b))) ≡ a +ℤ b
+sum_is a b h k =
+    ap (λ x. to_z w64 (of_z w64 (x +ℤ to_z w64 (of_z w64 b)))) (to_z-of_z w64 a (small_fits a h))
+    ∙ ap (λ y. to_z w64 (of_z w64 (a +ℤ y))) (to_z-of_z w64 b (small_fits b k))
+    ∙ to_z-of_z w64 (a +ℤ b) (sum_fits a b h k)
+
+pub difference_is : (a b : ℤ) → IsSmall a → IsSmall b → to_z w64 (of_z w64 (to_z w64 (of_z w64 a) -ℤ to_z w64 (of_z w64 b))) ≡ a -ℤ b
+difference_is a b h k =
+    ap (λ x. to_z w64 (of_z w64 (x -ℤ to_z w64 (of_z w64 b)))) (to_z-of_z w64 a (small_fits a h))
+    ∙ ap (λ y. to_z w64 (of_z w64 (a -ℤ y))) (to_z-of_z w64 b (small_fits b k))
+    ∙ to_z-of_z w64 (a -ℤ b) (difference_fits a b h k)
 
 within_if : (max n : ℤ) → is_within max n ≡ true → IsWithin max n
 within_if max n h = (grind (arith, ints), grind (arith, ints))

@@ -1,9 +1,7 @@
-use Rattle.std.proofs.Common.{◌+ℤ◌, FitsSigned, w64}
-use Rattle.std.proofs.lemmas.Int.{to_z-of_z}
-use Rattle.bk_vm.proofs.Steps.{sum_fits}
+use Rattle.std.proofs.Common.{◌∙◌, ap}
+use Rattle.bk_code.specs.Numbers.{int_max, bounded}
+use Rattle.bk_vm.proofs.Steps.{sum_is}
 use Rattle.bk_vm.proofs.arithmetic.sum.Goals as goal
 
 pub returns : goal.returns
-returns g c =
-    let fits : FitsSigned w64 (c.args.a +ℤ c.args.b) = sum_fits c.args.a c.args.b c.requires.first c.requires.second in
-    simp (to_z-of_z, fits) at c.bounded.ensures
+returns g c = c.bounded.ensures ∙ ap (bounded (int_max c.args.image.now)) (sum_is c.args.a c.args.b c.requires.first c.requires.second)
