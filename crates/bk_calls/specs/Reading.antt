@@ -33,6 +33,7 @@ abbrev pub behind : List ℕ → List ℕ
 behind [] = []
 behind (b ∷ bs) = if is_plain b then behind bs else b ∷ bs
 
+-- there is no byte
 abbrev pub is_empty : List ℕ → Bool
 is_empty [] = true
 is_empty (b ∷ bs) = false
@@ -52,6 +53,7 @@ after_byte c [] = None
 after_byte c (b ∷ bs) = if b == c then Some bs else after_byte c bs
 
 -- ---- names
+-- there is no number
 abbrev pub is_none : Option ℕ → Bool
 is_none None = true
 is_none (Some n) = false
@@ -102,6 +104,7 @@ abbrev pub arguments_in : List (List ℕ) → Option (List Argument)
 arguments_in [] = Some []
 arguments_in (text ∷ texts) = in_front_of (argument_in text) (arguments_in texts)
 
+-- the byte is a comma
 abbrev pub is_comma : ℕ → Bool
 is_comma b = b == 44
 

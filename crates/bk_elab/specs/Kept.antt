@@ -152,6 +152,7 @@ AreKept m names _ _ = ⊥
 abbrev pub StaysKept : ℤ → Names → List Bound → Option Step → RawTree → Type 0
 StaysKept m names bs k t = (cs : List Bound) → Grows bs cs → IsKept m (inside cs names) k t
 
+-- what is kept of these terms stays right where more bound names get their types
 abbrev pub StayKept : ℤ → Names → List Bound → List (Option Step) → List RawTree → Type 0
 StayKept m names bs ks ts = (cs : List Bound) → Grows bs cs → AreKept m (inside cs names) ks ts
 

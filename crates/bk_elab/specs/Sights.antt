@@ -67,6 +67,7 @@ abbrev pub outer_around : Outer → Around
 outer_around (OverTable s t) = record { max = s.now.max; names = names_in t.now s.now }
 outer_around (InSight m ns ts) = record { max = m; names = seen_names ts.now ns.now }
 
+-- what lies around the term: the scope of its reader
 abbrev pub around_of : Reader → Around
 around_of r = outer_around r.scope
 

@@ -8,6 +8,7 @@ use Rattle.bk_form.specs.declared.operator.SeqSign.{SeqSign}
 use Rattle.bk_form.specs.declared.operator.SeqSign.TheVariants.{Member, Size, First, Last, Front, Tail, Rev, Append, Prepend, Concat}
 
 -- ---- the forms that expansions are made of
+-- the number 1 as a formula
 abbrev pub one : Formula
 one = literal (pos 1)
 

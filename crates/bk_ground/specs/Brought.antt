@@ -36,6 +36,7 @@ is_in_scope scope text = list_any (λ p. bytes_eq p.0 text) scope
 abbrev pub own_variables : Table → Development → RawScript → List (List ℕ × ℕ)
 own_variables table dev s = outer_scope table dev (level_of dev s.name)
 
+-- the inputs and outputs that the script's obligation speaks of
 abbrev pub own_parameters : Table → Development → RawScript → List (List ℕ × ℕ)
 own_parameters table dev s = parameter_scope table dev (level_of dev s.name) (operation_of dev s.name)
 
@@ -44,6 +45,7 @@ own_parameters table dev s = parameter_scope table dev (level_of dev s.name) (op
 abbrev pub new_over : List (List ℕ × ℕ) → List RawTyped → List RawTyped
 new_over own xs = filter (λ x. not (is_in_scope own x.name.text)) xs
 
+-- the names that the script brings and that are no inputs or outputs
 abbrev pub new_names : Table → Development → RawScript → List RawTyped
 new_names table dev s = new_over (own_parameters table dev s) (brought s)
 
@@ -60,6 +62,7 @@ type_scope table dev s = record { max = int_max dev; names = own_variables table
 abbrev pub type_in : Table → ScopeNames → RawTyped → Option ValueType
 type_in table scope x = type_read (names_in table scope) x.ty
 
+-- the type of a name that the script brings
 abbrev pub type_of : Table → Development → RawScript → RawTyped → Option ValueType
 type_of table dev s x = type_in table (type_scope table dev s) x
 

@@ -67,12 +67,15 @@ resetting = fixing (Letters (codes "Counter") ∷ Letters (codes "reset") ∷ Nu
 abbrev pub getting : RawScript
 getting = fixing (Letters (codes "Counter") ∷ Letters (codes "get") ∷ Numeral 1 ∷ []) []
 
+-- what lies around a script of the counter's implementation
 abbrev pub around_below : Around
 around_below = around_script counter.table counter below
 
+-- what lies around a script of an operation with an input
 abbrev pub around_reset : Around
 around_reset = around_script with_input.table with_input resetting
 
+-- small scripts, names and rules with what they stand for
 pub record GroundingExamples : Type 0 where
   -- ---- names
   pub its_level : level_of counter below.name ≡ Some 1

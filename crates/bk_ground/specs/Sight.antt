@@ -1,6 +1,7 @@
 -- What a script is for, and what its terms may name: sets, elements, constants and variables of its obligation's level and of those above,
 -- and outputs and inputs of its operation. An obligation's name is that of its component, then that of an
 -- operation or a word for a clause, perhaps wd or chk, and a number, with dots between.
+-- Source: B Language Reference Manual, visibility.
 use Rattle.std.specs.Prelude.{ℕ, zero, suc, List, [], ◌∷◌, ◌++◌, take, drop, map, Option, Some, None, decimal}
 use Rattle.std.specs.List.{filter_map, flat_map, position}
 use Rattle.std.specs.Option.{option_map}

@@ -1,4 +1,5 @@
 -- The faults of the formulas in a component's clauses, and declared names without a type.
+-- Source: B Language Reference Manual; the places are this project's.
 use Rattle.std.specs.Prelude.{ℕ, suc, ℤ, Bool, true, false, cond, List, [], ◌∷◌, ◌++◌, Option, None, Some}
 use Rattle.std.specs.Str.{bytes_eq}
 use Rattle.bk_val.specs.ValueType.{ValueType, pair_type, set_type}

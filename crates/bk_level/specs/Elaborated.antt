@@ -72,6 +72,7 @@ abbrev mutual
   pub elaborated : ℤ → Typing → Names → Names → ℕ → SubTree → Substitution
   elaborated int_max typing above names n (sub at node) = elaborated_node int_max typing above names n node
 
+  -- the substitution that a written one stands for, by its form
   pub elaborated_node : ℤ → Typing → Names → Names → ℕ → SubNode → Substitution
   elaborated_node int_max typing above names n sub_skip = skip
   elaborated_node int_max typing above names n (sub_assign xs es) = assign (assigned_pairs int_max typing names xs es)

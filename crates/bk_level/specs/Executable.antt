@@ -1,5 +1,6 @@
 -- What is not B0: what an implementation has that is not B0, the part of the notation that has code. A statement that is none is told by
 -- itself; a formula that is none is told where nothing inside it is none. It is told where no other fault is.
+-- Source: B Language Reference Manual, B0; the places are this project's.
 use Rattle.std.specs.Prelude.{ℕ, suc, ◌+◌, ℤ, pos, ◌-ℤ◌, int_le, Bool, true, false, cond, ◌&&◌, ◌||◌, nat_eq, List, [], ◌∷◌, ◌++◌, length, Option, None, Some}
 use Rattle.bk_val.specs.ValueType.{ValueType, int_type}
 use Rattle.bk_form.specs.ArrayTable.{row_of}

@@ -1,5 +1,6 @@
 -- What numbers the names of a component have, and what is in sight where. Constants come first, then variables (those that come from
 -- above first), inputs at the machine, outputs, what the initialisation binds, and what the bodies bind, in the machine's order.
+-- Source: B Language Reference Manual, visibility; the numbers are this project's.
 use Rattle.std.specs.Prelude.{ℕ, suc, ◌+◌, Bool, true, false, cond, ◌||◌, List, [], ◌∷◌, ◌++◌, length, Option, None, Some}
 use Rattle.std.specs.Str.{bytes_eq}
 use Rattle.bk_form.specs.Role.{bind}

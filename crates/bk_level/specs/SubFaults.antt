@@ -1,4 +1,5 @@
 -- The faults of a written substitution: of names, of formulas and of writes. Where it may stand is asked by itself.
+-- Source: B Language Reference Manual; the places are this project's.
 use Rattle.std.specs.Prelude.{ℕ, suc, ℤ, ◌+◌, Bool, true, false, cond, not, ◌||◌, List, [], ◌∷◌, ◌++◌, length, Option, None, Some}
 use Rattle.std.specs.List.{filter}
 use Rattle.bk_val.specs.ValueType.{ValueType, int_type, pair_type, set_type}

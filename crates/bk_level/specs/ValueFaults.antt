@@ -1,4 +1,5 @@
 -- Wrong values: the values of constants.
+-- Source: B Language Reference Manual; the places are this project's.
 use Rattle.std.specs.Prelude.{ℕ, ℤ, Bool, true, false, cond, not, ◌&&◌, List, [], ◌∷◌, ◌++◌, Option, None, Some}
 use Rattle.bk_gsl.specs.State.{among}
 use Rattle.bk_dev.specs.Development.{is_implementing}

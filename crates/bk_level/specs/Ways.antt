@@ -1,6 +1,7 @@
 -- How the names that a component declares come to their types. Each number has a way to its type, and as many rounds as there are
 -- numbers follow all ways: so a name may be typed by one that is typed later in the text. A type that a name has come to stays; names
 -- that only wait for each other have none.
+-- Source: B Language Reference Manual, typing.
 use Rattle.std.specs.Prelude.{ℕ, zero, suc, ℤ, ◌+◌, ◌-◌, cond, nat_lt, List, [], ◌∷◌, ◌++◌, length, Option, None, Some}
 use Rattle.std.specs.List.{slice_get}
 use Rattle.bk_val.specs.ValueType.{ValueType}

@@ -47,6 +47,7 @@ ReadsThis reader least result = IfOk result (λ r. MatchOption r (FindsNone read
 abbrev pub FindsOperand : List Token → Piece → ℕ → List Token → Type 0
 FindsOperand tokens piece strength rest = Finds (λ n. operand n (read n) tokens) (length tokens - 1) (λ t. (t, strength)) piece rest
 
+-- no front of the tokens is an operand
 abbrev pub NoOperand : List Token → Type 0
 NoOperand tokens = FindsNone (λ n. operand n (read n) tokens) (length tokens - 1)
 

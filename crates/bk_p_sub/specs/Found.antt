@@ -81,9 +81,11 @@ Atom s = Sub s 2
 abbrev pub BranchesEnd : ℕ → Branches → List Token → Type 0
 BranchesEnd op bs = Branched op bs ⌢ JustWord END
 
+-- the tokens are further branches of CHOICE and END
 abbrev pub ChoicesEnd : Choices → List Token → Type 0
 ChoicesEnd cs = Chosen cs ⌢ JustWord END
 
+-- the tokens are what follows the body of a loop: INVARIANT, VARIANT and END
 abbrev pub LoopEnd : RawTree × RawTree → List Token → Type 0
 LoopEnd q = JustWord INVARIANT ⌢ Spells q.0 ⌢ JustWord VARIANT ⌢ Spells q.1 ⌢ JustWord END
 
@@ -91,9 +93,11 @@ LoopEnd q = JustWord INVARIANT ⌢ Spells q.0 ⌢ JustWord VARIANT ⌢ Spells q.
 abbrev pub ReadsBranches : {E : Type 0} → ℕ → List Token → Result (Option (BuiltOnes × Bor (List Token))) E → Type 0
 ReadsBranches op tokens result = IfOk result (λ r. MatchOption r (Nothing (BranchesEnd op) tokens) (λ p. (bs : Branches) × Longest (BranchesEnd op) tokens bs p.1.now × IsBranches bs p.0))
 
+-- a reading answers the longest end of a CHOICE that begins the tokens, or that there is none
 abbrev pub ReadsChoices : {E : Type 0} → List Token → Result (Option (BuiltOthers × Bor (List Token))) E → Type 0
 ReadsChoices tokens result = IfOk result (λ r. MatchOption r (Nothing ChoicesEnd tokens) (λ p. (cs : Choices) × Longest ChoicesEnd tokens cs p.1.now × IsChoices cs p.0))
 
+-- a reading answers the longest end of a loop that begins the tokens, or that there is none
 abbrev pub ReadsLoopEnd : {E : Type 0} → List Token → Result (Option (Term × Term × Bor (List Token))) E → Type 0
 ReadsLoopEnd tokens result = IfOk result (λ r. MatchOption r (Nothing LoopEnd tokens) (λ p. (q : RawTree × RawTree) × Longest LoopEnd tokens q p.2.now × IsTerm q.0 p.0 × IsTerm q.1 p.1))
 

@@ -1,4 +1,5 @@
 -- What the obligations are and what they are worth, as statements.
+-- Source: B-Book, refinement.
 use Rattle.std.specs.Prelude.{◌≡◌, ◌<◌, ℕ, pos, suc, true, false, List, [], ◌∷◌, length, map, codes}
 use Rattle.bk_form.specs.Search.{Finder, IsSearch}
 use Rattle.bk_dev.specs.Development.{Development, is_complete, with_set_sizes}

@@ -136,6 +136,7 @@ goal_of dev k InitialisationDefined = evaluation_goal dev k (level_at dev k).ini
 goal_of dev k (Operation o) = operation_goal dev k o
 goal_of dev k (OperationDefined o) = evaluation_goal dev k (whole (body_at dev k o))
 
+-- an obligation of these three parts
 abbrev pub obligation : List ℕ → List Formula → Formula → Obligation
 obligation name hypotheses goal = record { name = name; hypotheses = hypotheses; goal = goal }
 

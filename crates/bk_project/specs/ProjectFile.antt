@@ -58,6 +58,7 @@ is_proofs _ = false
 abbrev pub component_lines : List ProjectLine → List ProjectLine
 component_lines named = filter (λ l. not (is_proofs l.kind)) named
 
+-- the lines that name a proof file
 abbrev pub proof_lines : List ProjectLine → List ProjectLine
 proof_lines named = filter (λ l. is_proofs l.kind) named
 

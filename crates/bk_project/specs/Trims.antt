@@ -6,6 +6,7 @@ abbrev pub trim_front : List ℕ → List ℕ
 trim_front [] = []
 trim_front (c ∷ cs) = cond (nat_eq c 32) (trim_front cs) (c ∷ cs)
 
+-- there is no character
 abbrev pub is_empty : List ℕ → Bool
 is_empty [] = true
 is_empty (c ∷ cs) = false

@@ -1,4 +1,5 @@
 -- What tokens a component is written as: its words, its signs and its parts' tokens in order.
+-- Source: B Language Reference Manual.
 use Rattle.std.specs.Prelude.{◌≡◌, ◌≢◌, true, List, [], ◌∷◌, Option, None, Some, All, map}
 use Rattle.bk_form.specs.declared.token.Token.{Token}
 use Rattle.bk_form.specs.declared.token.TokenKind.TheVariants.{Word}

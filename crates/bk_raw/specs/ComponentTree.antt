@@ -1,4 +1,5 @@
 -- Components of the B notation as they are written, as mathematical trees.
+-- Source: B Language Reference Manual.
 use Rattle.std.specs.Prelude.{ℕ, List, map, Option, Bool, true, false, nat_lt}
 use Rattle.bk_form.specs.declared.token.TokenKind.{TokenKind}
 use Rattle.bk_raw.specs.Brackets.{is_word}

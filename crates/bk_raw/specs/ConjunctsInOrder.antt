@@ -44,6 +44,7 @@ abbrev pub first_of : Option (Formula × ValueType × ℕ) → Option (Formula �
 first_of (Some r) s = Some r
 first_of None s = s
 
+-- a range that was found, with the number of its conjunct
 abbrev pub numbered : ℕ → Option (Formula × ValueType) → Option (Formula × ValueType × ℕ)
 numbered i None = None
 numbered i (Some d) = Some (d.0, d.1, i)

@@ -55,6 +55,7 @@ pub record PremisesAreMet : Type 0 where
   pub stands : Stands table scope sample
   pub text : shown table sample ≡ codes "!($1:POW(S)).(#($2:INTEGER).((b : $1) & ((r$1(n) = $2) & ($1 = {:POW(S)}))))"
 
+-- small formulas with their texts
 pub record Examples : Type 0 where
   -- a binary form has parentheses inside another one, and none where it is the whole
   pub whole : shown table (binary Sub (binary Sub n (number 1)) (binary Sub n n)) ≡ codes "(n - 1) - (n - n)"

@@ -43,5 +43,6 @@ kind_text (Word op) = slice_index_or word_texts (op - 57) []
 abbrev pub plain : TokenKind → Item
 plain kind = lexeme kind (kind_text kind)
 
+-- the sign or word with a number
 abbrev pub sign : ℕ → Item
 sign op = plain (Sign op)

@@ -38,6 +38,7 @@ or_empty (Some text) = text
 abbrev pub name_of_variable : Table → ℕ → List ℕ
 name_of_variable table n = or_empty (variable_text table n)
 
+-- the name of a set in the table, empty where there is none
 abbrev pub name_of_set : Table → ℕ → List ℕ
 name_of_set table n = or_empty (set_name table n)
 
@@ -55,6 +56,7 @@ abbrev pub behind_dollar : List ℕ → Option (List ℕ)
 behind_dollar [] = None
 behind_dollar (c ∷ cs) = cond (nat_eq c 36) (Some cs) (behind_dollar cs)
 
+-- the text in front of the first dollar
 abbrev pub before_dollar : List ℕ → List ℕ
 before_dollar [] = []
 before_dollar (c ∷ cs) = cond (nat_eq c 36) [] (c ∷ before_dollar cs)
@@ -68,6 +70,7 @@ kind_by text (Some digits) = LevelName (before_dollar text) (numeral_from 0 digi
 abbrev pub name_kind : List ℕ → TokenKind
 name_kind text = kind_by text (behind_dollar text)
 
+-- a name as one item, with or without a level
 abbrev pub name_item : List ℕ → Item
 name_item text = lexeme (name_kind text) text
 

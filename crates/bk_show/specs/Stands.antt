@@ -29,10 +29,12 @@ TypeStands table names (pair_type t u) = TypeStands table names t × TypeStands 
 TypeStands table names (set_type t) = TypeStands table names t
 TypeStands table names _ = Unit {0}
 
+-- each of these types stands in the table by its names
 abbrev pub TypesStand : Table → Names → List ValueType → Type 0
 TypesStand table names [] = Unit {0}
 TypesStand table names (t ∷ ts) = TypeStands table names t × TypesStand table names ts
 
+-- the set that a domain names stands in the table by its name
 abbrev pub DomainStands : Table → Names → Domain → Type 0
 DomainStands table names (Enum s) = SetStands table names s
 DomainStands table names _ = Unit {0}

@@ -47,6 +47,7 @@ IsOutside Memory = Unit {0}
 IsOutside _ = ⊥
 
 -- ---- what is answered
+-- the status of a stop
 abbrev pub status_of_stop : Stop → Status
 status_of_stop Usage = UsageStatus
 status_of_stop (Missing name) = MissingStatus

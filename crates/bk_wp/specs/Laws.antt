@@ -1,4 +1,5 @@
 -- Laws of box and diamond, as statements.
+-- Source: B-Book.
 use Rattle.std.specs.Prelude.{◌≡◌, ◌↔◌, ◌⊎◌, ◌<◌, ◌^◌, length, true, not, Option, Some}
 use Rattle.bk_form.specs.Table.{Table, IsWellFormed}
 use Rattle.bk_form.specs.Formula.{Formula, unary}
