@@ -48,7 +48,7 @@ abbrev pub dollar_untyped : List Bound → Bool
 dollar_untyped [] = false
 dollar_untyped (b ∷ bs) = (not (has_type b.of_type) && has_dollar b.text) || dollar_untyped bs
 
--- whether $k is one of so many bound variables behind the first ones
+-- whether $k is one of so many bound variables after the first ones
 abbrev pub is_own : ℕ → ℕ → ℕ → Bool
 is_own first count k = nat_lt first k && nat_le k (first + count)
 

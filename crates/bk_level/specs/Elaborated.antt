@@ -68,7 +68,7 @@ old_pairs names n (x ∷ xs) = (number_of (target names x.text), n) ∷ old_pair
 
 -- ---- substitutions
 abbrev mutual
-  -- under names in sight, what is bound having the numbers from n on; invariants and variants of loops see the names above besides
+  -- under names in scope, what is bound having the numbers from n on; invariants and variants of loops see the names above besides
   pub elaborated : ℤ → Typing → Names → Names → ℕ → SubTree → Substitution
   elaborated int_max typing above names n (sub at node) = elaborated_node int_max typing above names n node
 

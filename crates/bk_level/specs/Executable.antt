@@ -273,7 +273,7 @@ abbrev pub output_scalars : Executing → ℕ → List RawName → List Fault
 output_scalars x n [] = []
 output_scalars x n (y ∷ ys) = not_executable (is_scalar_option (x.typing n)) y.at ++ output_scalars x (suc n) ys
 
--- inputs that are no scalars; these are their names in sight, in order
+-- inputs that are no scalars; these are their names in scope, in order
 abbrev pub input_scalars : Executing → Names → List RawName → List Fault
 input_scalars x (n ∷ ns) (y ∷ ys) = not_executable (is_scalar_option (type_at x.typing (target_in n.meaning))) y.at ++ input_scalars x ns ys
 input_scalars x _ _ = []

@@ -80,7 +80,7 @@ abbrev pub InitialisationsAreRight : Type 0
 InitialisationsAreRight = (int_max : ℤ) (dev : Development) (c : Component) → IsReady dev → static_faults int_max dev c ≡ [] → StartsRight int_max dev c
 
 -- ---- bodies
--- an operation whose numbers stand behind the level's, and whose inputs have types and are these
+-- an operation whose numbers stand after the level's, and whose inputs have types and are these
 pub record IsPlaced (int_max : ℤ) (dev : Development) (c : Component) (inputs : List ℕ) (o : Placed) : Type 0 where
   pub outputs : (plan dev c).inputs_at ≤ o.outputs_at
   pub binders : o.outputs_at + length o.headed.operation.outputs ≤ o.binders_at

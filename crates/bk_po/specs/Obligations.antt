@@ -100,7 +100,7 @@ head_name dev o = (slice_index_or dev.heads o (record { name = []; inputs = []; 
 abbrev pub suffix : Level → List ℕ
 suffix l = cond (is_implementation l) (codes ".chk") (codes ".wd")
 
--- what stands in the name behind the component
+-- what stands in the name after the component
 abbrev pub clause_name : Development → ℕ → Clause → List ℕ
 clause_name dev k PropertiesDefined = codes "PROPERTIES.wd"
 clause_name dev k ValuesMeet = codes "VALUES"

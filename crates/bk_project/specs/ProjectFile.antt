@@ -91,7 +91,7 @@ pub record AreLinesOf (text : List ℕ) (named : List ProjectLine) : Type 0 wher
 abbrev pub kept_of : List (List ℕ) → List (List ℕ)
 kept_of ls = filter (λ line. not (is_skipped line)) ls
 
--- this line, of number place from 1 on, is the first that is no line of a project, or has no place behind those before it
+-- this line, of number place from 1 on, is the first that is no line of a project, or has no place after those before it
 pub record IsWrongLine (text : List ℕ) (place : ℕ) : Type 0 where
   pub before : List (List ℕ)
   pub line : List ℕ

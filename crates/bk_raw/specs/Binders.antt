@@ -33,7 +33,7 @@ abbrev pub locals : List Bound → List Named
 locals [] = []
 locals (b ∷ bs) = record { text = b.text; meaning = local b.of_type } ∷ locals bs
 
--- the names in sight inside the binder
+-- the names in scope inside the binder
 abbrev pub inside : List Bound → Names → Names
 inside bs names = bind (locals bs) names
 

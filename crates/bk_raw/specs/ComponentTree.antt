@@ -26,7 +26,7 @@ pub record RawOperation : Type 0 where
   pub inputs : List RawName
   pub body : SubTree
 
--- what stands behind a clause's word
+-- what stands after a clause's word
 pub data ClauseParts : Type 0 where
   clause_sets : List RawSet → ClauseParts
   clause_names : List RawName → ClauseParts

@@ -8,7 +8,7 @@ ghost use Rattle.bk_raw.specs.Faults.{number_of_fault};
 pub enum FaultKind {
     /// A name stands twice.
     TwiceNamed,
-    /// A name is not in sight.
+    /// A name is not in scope.
     UnknownName,
     /// A formula or a name has no type.
     NoType,

@@ -36,7 +36,7 @@ number k = literal (pos k)
 abbrev below : Formula
 below = binary Range (number 0) (number 3)
 
--- names in sight that are those of the table
+-- names in scope that are those of the table
 abbrev pub scope : Names
 scope =
     record { text = codes "b"; meaning = element_name 0 1 } ∷ record { text = codes "a"; meaning = element_name 0 0 } ∷ record { text = codes "S"; meaning = set_name 0 } ∷ record { text = codes "n"; meaning = global 2 (Some int_type) } ∷

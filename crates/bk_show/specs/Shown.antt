@@ -51,7 +51,7 @@ nth_name (Some names) i = or_empty (slice_get names i)
 abbrev pub name_of_element : Table → ℕ → ℕ → List ℕ
 name_of_element table s i = nth_name (set_elements table s) i
 
--- what stands behind the first dollar sign, if there is one, and what before it
+-- what stands after the first dollar sign, if there is one, and what before it
 abbrev pub behind_dollar : List ℕ → Option (List ℕ)
 behind_dollar [] = None
 behind_dollar (c ∷ cs) = cond (nat_eq c 36) (Some cs) (behind_dollar cs)
@@ -61,7 +61,7 @@ abbrev pub before_dollar : List ℕ → List ℕ
 before_dollar [] = []
 before_dollar (c ∷ cs) = cond (nat_eq c 36) [] (c ∷ before_dollar cs)
 
--- the kind of a name, by what stands behind its dollar sign
+-- the kind of a name, by what stands after its dollar sign
 abbrev pub kind_by : List ℕ → Option (List ℕ) → TokenKind
 kind_by text None = Name text
 kind_by text (Some digits) = LevelName (before_dollar text) (numeral_from 0 digits)
@@ -232,7 +232,7 @@ abbrev pub bounds_items : Table → ℕ → List ValueType → List Item
 bounds_items table k [] = []
 bounds_items table k (t ∷ ts) = typed_items table k t ++ comma_before ts (bounds_items table (suc k) ts)
 
--- (x:T,y:U).(P), behind the sign of a quantifier: the variables that it binds under d others, and its body
+-- (x:T,y:U).(P), after the sign of a quantifier: the variables that it binds under d others, and its body
 abbrev pub binder_items : Table → ℕ → List ValueType → List Item → List Item
 binder_items table d ts xs = enclosed (bounds_items table (suc d) ts) ++ sign DOT ∷ enclosed xs
 

@@ -127,7 +127,7 @@ abbrev pub last_branch : Option SubTree → Branches
 last_branch None = no_branches
 last_branch (Some s) = else_branch s
 
--- further branches of IF or SELECT, and what stands behind ELSE
+-- further branches of IF or SELECT, and what stands after ELSE
 abbrev pub branches_shown : List RawBranch → Option SubTree → Branches
 branches_shown bs last = branches_of bs (last_branch last)
 
@@ -152,7 +152,7 @@ placed_shown p = record {
   binders_at = p.binders_at;
 }
 
--- the first numbers below these levels, and a number behind all that the component's operations have
+-- the first numbers below these levels, and a number after all that the component's operations have
 pub record IsCounted (n : Counts) (above : Development) (c : Clauses) (own : ℕ) : Type 0 where
   pub constants : n.constants_at ≡ length above.table.variables
   pub variables : n.variables_at ≡ n.constants_at + length c.constants

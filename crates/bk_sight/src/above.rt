@@ -1,4 +1,4 @@
-// What stands above a component, and the names that it leaves in sight.
+// What stands above a component, and the names that it leaves in scope.
 
 ghost use Rattle.std.specs.Option.{option_copied};
 ghost use Rattle.std.specs.Prelude.{◌≡◌, ◌++◌, ◌∷◌, [], ◌≤◌, ◌^◌, length, map, IfOk, OnOk, Some};
@@ -140,7 +140,7 @@ impl<'a> Above<'a> {
         Ok(names)
     }
 
-    // A set with its elements goes behind the names.
+    // A set with its elements goes after the names.
     fn push_set(&self, names: &mut Vec<Visible<'a>>, set: u32) -> Result<(), Memory>
         ensures { OnOk result (visible_names names.new.items ≡
             visible_names names.old.items ++ set_at set (above_shown self.now).table.sets) }
@@ -159,7 +159,7 @@ impl<'a> Above<'a> {
         Ok(())
     }
 
-    // The constants go behind the names.
+    // The constants go after the names.
     fn push_constants(&self, names: &mut Vec<Visible<'a>>) -> Result<(), Memory>
         ensures { OnOk result (visible_names names.new.items ≡ visible_names names.old.items ++
             meant.constants_from 0 (above_shown self.now).homes (above_shown self.now).table.variables) }
@@ -174,7 +174,7 @@ impl<'a> Above<'a> {
         Ok(())
     }
 
-    // The name of a constant goes behind the names; other homes give none.
+    // The name of a constant goes after the names; other homes give none.
     fn push_constant(
         &self,
         names: &mut Vec<Visible<'a>>,
@@ -275,7 +275,7 @@ fn stem(level: usize, text: &[u8]) -> &[u8]
     &text[..text.len().saturating_sub(behind)]
 }
 
-// A set's name goes behind the names.
+// A set's name goes after the names.
 fn push_set_name<'a>(names: &mut Vec<Visible<'a>>, set: u32, text: &'a [u8]) -> Result<(), Memory>
     ensures { OnOk result (visible_names names.new.items ≡
         visible_names names.old.items ++ record { text = text.now; meaning = set_name set } ∷ []) }
@@ -287,7 +287,7 @@ fn push_set_name<'a>(names: &mut Vec<Visible<'a>>, set: u32, text: &'a [u8]) -> 
     Ok(())
 }
 
-// A set's elements go behind the names.
+// A set's elements go after the names.
 fn push_elements<'a>(
     names: &mut Vec<Visible<'a>>,
     set: u32,
@@ -302,7 +302,7 @@ fn push_elements<'a>(
     Ok(())
 }
 
-// An element goes behind the names.
+// An element goes after the names.
 fn push_element<'a>(
     names: &mut Vec<Visible<'a>>,
     set: u32,
@@ -322,7 +322,7 @@ fn push_element<'a>(
     Ok(())
 }
 
-// The component's sets, whose first has this number, each with its elements, go behind the names.
+// The component's sets, whose first has this number, each with its elements, go after the names.
 pub fn push_written_sets<'a>(
     names: &mut Vec<Visible<'a>>,
     first: u32,
@@ -339,7 +339,7 @@ pub fn push_written_sets<'a>(
     Ok(())
 }
 
-// A written set's elements go behind the names.
+// A written set's elements go after the names.
 fn push_written_elements<'a>(
     names: &mut Vec<Visible<'a>>,
     set: u32,

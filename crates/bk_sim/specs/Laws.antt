@@ -87,7 +87,7 @@ pub record ExchangeIsFollowed : Type 0 where
   pub loads : IsLoadable (translation exchange)
 
 -- the settling development is in B0, and its code is this; code that gives n what the local held before does not follow it, nor does
--- code whose loop comes back one instruction behind the start of its test, nor does code whose loop does not come back; the loader
+-- code whose loop comes back one instruction after the start of its test, nor does code whose loop does not come back; the loader
 -- takes the last
 pub record WrongCodesDoNotFollow : Type 0 where
   pub facts : IsDevelopment settling
