@@ -54,11 +54,11 @@ product (t ∷ ts) us q = option_and_then (product ts us) (times_each t us q)
 abbrev pub multiple : ℤ → List Monomial → List Monomial → Option (List Monomial)
 multiple z p q = product ((z, []) ∷ []) p q
 
--- a monomial with the other sign, behind others
+-- a monomial with the other sign, after others
 abbrev pub negated_behind : Monomial → List Monomial → Option (List Monomial)
 negated_behind t us = option_map (λ c. us ++ (c, t.1) ∷ []) (if_fits (pos 0 -ℤ t.0))
 
--- one monomial subtracted: from the one of the same atoms, or behind all; the number that arises fits 128 bits, else there is none
+-- one monomial subtracted: from the one of the same atoms, or after all; the number that arises fits 128 bits, else there is none
 abbrev pub subtracted : Monomial → List Monomial → Option (List Monomial)
 subtracted t [] = negated_behind t []
 subtracted t (u ∷ us) = cond (same_atoms t.1 u.1) (option_map (λ c. (c, u.1) ∷ us) (if_fits (u.0 -ℤ t.0))) (option_map (λ r. u ∷ r) (subtracted t us))

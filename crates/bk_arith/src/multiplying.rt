@@ -159,7 +159,7 @@ fn joined(alloc: Global, left: &[Form], right: &[Form]) -> Result<Vec<Form>, Mem
     Ok(list)
 }
 
-// One more monomial: to the one of the same atoms, or behind all.
+// One more monomial: to the one of the same atoms, or after all.
 fn added(
     alloc: Global,
     monomial: Monomial,
@@ -195,7 +195,7 @@ fn all_subtracted(
     all_subtracted(alloc, others, rest)
 }
 
-// One monomial subtracted: from the one of the same atoms, or from 0 behind all.
+// One monomial subtracted: from the one of the same atoms, or from 0 after all.
 fn subtracted(
     alloc: Global,
     monomial: &Monomial,
@@ -215,7 +215,7 @@ fn subtracted(
     Ok(from)
 }
 
-// The monomial with the other sign, behind all.
+// The monomial with the other sign, after all.
 fn negated_behind(
     alloc: Global,
     monomial: &Monomial,

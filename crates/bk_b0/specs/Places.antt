@@ -111,7 +111,7 @@ placed_statement p s = []
 abbrev pub placed_parameter : Places → ℕ → Parameter
 placed_parameter p x = record { kind = p.kind x; slot = p.first_cell x }
 
--- the code of a statement, with a Ret behind it
+-- the code of a statement, with a Ret after it
 abbrev pub placed_block : Places → Substitution → List Inst
 placed_block p s = placed_statement p s ++ Ret ∷ []
 
@@ -120,7 +120,7 @@ abbrev pub placed_entries : Places → ℕ → List Head → List Body → List 
 placed_entries p place (h ∷ hs) (b ∷ bs) = record { name = h.name; start = place; inputs = map (placed_parameter p) h.inputs; outputs = map (placed_parameter p) b.outputs } ∷ placed_entries p (place + length (placed_block p b.sub)) hs bs
 placed_entries p place _ _ = []
 
--- the code of bodies, one behind the other
+-- the code of bodies, one after the other
 abbrev pub placed_bodies : Places → List Body → List Inst
 placed_bodies p [] = []
 placed_bodies p (b ∷ bs) = placed_block p b.sub ++ placed_bodies p bs

@@ -62,7 +62,7 @@ statement_code dev s = placed_statement (places_of dev) s
 abbrev pub parameter_of : Development → ℕ → Parameter
 parameter_of dev x = placed_parameter (places_of dev) x
 
--- the code of a body, with a Ret behind it
+-- the code of a body, with a Ret after it
 abbrev pub operation_code : Development → Body → List Inst
 operation_code dev b = placed_block (places_of dev) b.sub
 
@@ -70,11 +70,11 @@ operation_code dev b = placed_block (places_of dev) b.sub
 abbrev pub entries : Development → ℕ → List Head → List Body → List OpEntry
 entries dev place hs bs = placed_entries (places_of dev) place hs bs
 
--- the code of bodies, one behind the other
+-- the code of bodies, one after the other
 abbrev pub operations_code : Development → List Body → List Inst
 operations_code dev bs = placed_bodies (places_of dev) bs
 
--- the code of the last level's initialisation, with a Ret behind it
+-- the code of the last level's initialisation, with a Ret after it
 abbrev pub init_code : Development → List Inst
 init_code dev = placed_block (places_of dev) (level_at dev (last dev)).init
 

@@ -1,4 +1,5 @@
 -- When a sequent is valid.
+-- Source: B-Book, sequents.
 use Rattle.std.specs.Prelude.{◌≡◌, true, List}
 use Rattle.bk_form.specs.Table.{Table}
 use Rattle.bk_form.specs.Formula.{Formula}

@@ -85,7 +85,7 @@ fn numbered(alloc: Global, word: &str) -> Result<Form, Unread> {
     }
 }
 
-// The number behind this letter.
+// The number after this letter.
 fn behind(word: &str, letter: &str) -> Option<u32> {
     word.strip_prefix(letter)?.parse::<u32>().ok()
 }

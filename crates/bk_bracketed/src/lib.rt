@@ -1,8 +1,8 @@
 //! Formulas and types that tests write as texts.
 //!
-//! Words stand between blanks. An operator stands in brackets with its operands, before, between or behind them, as in
+//! Words stand between blanks. An operator stands in brackets with its operands, before, between or after them, as in
 //! `( not ( x = 0 ) )` and `( 1 .. x )`. In the words of a type `i` is INTEGER, `b` BOOL, `c` the enumerated set 0, `d` the
-//! enumerated set 7, `P` POW of the type behind it, and `X` the pairs of the two types behind it, as in `PXib`.
+//! enumerated set 7, `P` POW of the type after it, and `X` the pairs of the two types after it, as in `PXib`.
 //!
 //! | word | formula |
 //! |---|---|

@@ -1,4 +1,4 @@
--- How a call is written on a line of a script: a name, and behind it arguments in parentheses, divided by commas.
+-- How a call is written on a line of a script: a name, and after it arguments in parentheses, divided by commas.
 -- Identifiers, numerals and the words of the notation are those of its lexis; a line's only blanks are spaces.
 use Rattle.std.specs.Prelude.{◌≡◌, ℕ, ℤ, pos, neg_ℤ, ◌⊎◌, Bool, true, false, List, [], ◌∷◌, ◌++◌, replicate, codes, None}
 use Rattle.std.specs.Str.{IsUtf8}
@@ -33,7 +33,7 @@ IsWritten (Truth true) text = text ≡ codes "TRUE"
 IsWritten (Truth false) text = text ≡ codes "FALSE"
 IsWritten (Element name) text = IsName text × (name ≡ text)
 
--- the text is that argument; spaces are free in front of it and behind it
+-- the text is that argument; spaces are free in front of it and after it
 pub record IsArgument (argument : Argument) (text : List ℕ) : Type 0 where
   pub before : ℕ
   pub written : List ℕ
@@ -48,7 +48,7 @@ AreArguments (only ∷ []) text = IsArgument only text
 AreArguments (one ∷ next ∷ others) text =
     (first : List ℕ) × (rest : List ℕ) × (text ≡ first ++ codes "," ++ rest) × IsArgument one first × AreArguments (next ∷ others) rest
 
--- what stands behind a name: the arguments in parentheses. Where there are none, the parentheses may be left out
+-- what stands after a name: the arguments in parentheses. Where there are none, the parentheses may be left out
 abbrev pub IsArgumentList : List Argument → List ℕ → Type 0
 IsArgumentList arguments list =
     ((arguments ≡ []) × (list ≡ [])) ⊎

@@ -15,7 +15,7 @@ use Rattle.bk_calls.specs.CallLine.{Argument, Number, Truth, Element}
 use Rattle.bk_calls.specs.Script.{Cause, NoCall, UnknownName, WrongArguments, OutOfRange, value_of, most_calls}
 
 -- ---- words of a line
--- a text behind the spaces that it starts with
+-- a text after the spaces that it starts with
 abbrev pub skip_spaces : List ℕ → List ℕ
 skip_spaces [] = []
 skip_spaces (b ∷ bs) = if b == 32 then skip_spaces bs else b ∷ bs
@@ -24,16 +24,17 @@ skip_spaces (b ∷ bs) = if b == 32 then skip_spaces bs else b ∷ bs
 abbrev pub is_plain : ℕ → Bool
 is_plain b = not (b == 32 || (b == 40 || (b == 41 || b == 44)))
 
--- the longest front of a text that is all of such bytes, and what stands behind it
+-- the longest front of a text that is all of such bytes, and what stands after it
 abbrev pub front : List ℕ → List ℕ
 front [] = []
 front (b ∷ bs) = if is_plain b then b ∷ front bs else []
 
--- what stands behind that front
+-- what stands after that front
 abbrev pub behind : List ℕ → List ℕ
 behind [] = []
 behind (b ∷ bs) = if is_plain b then behind bs else b ∷ bs
 
+-- there is no byte
 abbrev pub is_empty : List ℕ → Bool
 is_empty [] = true
 is_empty (b ∷ bs) = false
@@ -53,6 +54,7 @@ after_byte c [] = None
 after_byte c (b ∷ bs) = if b == c then Some bs else after_byte c bs
 
 -- ---- names
+-- there is no number
 abbrev pub is_none : Option ℕ → Bool
 is_none None = true
 is_none (Some n) = false
@@ -103,6 +105,7 @@ abbrev pub arguments_in : List (List ℕ) → Option (List Argument)
 arguments_in [] = Some []
 arguments_in (text ∷ texts) = in_front_of (argument_in text) (arguments_in texts)
 
+-- the byte is a comma
 abbrev pub is_comma : ℕ → Bool
 is_comma b = b == 44
 
@@ -131,7 +134,7 @@ kept_argument (Truth b) = Truth b
 kept_argument (Element name) = Element name
 
 -- ---- calls
--- whether there is a closing parenthesis with only spaces behind it, by what stands behind the first one
+-- whether there is a closing parenthesis with only spaces after it, by what stands after the first one
 abbrev pub closing : Option (List ℕ) → Bool
 closing None = false
 closing (Some rest) = is_spaces rest
@@ -141,7 +144,7 @@ abbrev pub inside_of : List ℕ → Option (List ℕ)
 inside_of [] = Some []
 inside_of (b ∷ bs) = if (b == 40) && closing (after_byte 41 bs) then Some (before_byte 41 bs) else None
 
--- a name, and what stands in the parentheses behind it
+-- a name, and what stands in the parentheses after it
 abbrev pub named_with : List ℕ → Option (List ℕ) → Option (List ℕ × List ℕ)
 named_with name (Some inside) = if is_name name then Some (name, inside) else None
 named_with name None = None
@@ -209,7 +212,7 @@ abbrev pub in_front : List Request → Result (List Request) Stop → Result (Li
 in_front requests (Ok others) = Ok (requests ++ others)
 in_front requests (Err stop) = Err stop
 
--- what is read from a line with that number on, behind so many calls: its request before the others
+-- what is read from a line with that number on, after so many calls: its request before the others
 abbrev pub from_line : Result Request Cause → ℕ → ℕ → Result (List Request) Stop → Result (List Request) Stop
 from_line (Ok request) number asked rest = if asked == most_calls then Err AtLimit else in_front (request ∷ []) rest
 from_line (Err cause) number asked rest = Err (AtFault number cause)

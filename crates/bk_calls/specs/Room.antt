@@ -12,7 +12,7 @@ pub record Line : Type 0 where
   pub bytes : List ℕ
   pub room : ℕ
 
--- the line has memory for that text behind its present bytes
+-- the line has memory for that text after its present bytes
 abbrev pub HasRoom : Line → List ℕ → Type 0
 HasRoom line text = length line.bytes + length text ≤ line.room
 
@@ -40,7 +40,7 @@ longest_given image outputs = given_text (map (λ output. longest_value image ou
 abbrev pub longest_done : Image → OpEntry → List ℕ
 longest_done image entry = entry.name ++ longest_given image entry.outputs ++ codes "\n"
 
--- the longest text behind the name of what was called where it is not done, the place being a number of 32 bits
+-- the longest text after the name of what was called where it is not done, the place being a number of 32 bits
 abbrev pub longest_stop : List ℕ
 longest_stop = codes " trapped Overflow at 4294967295\n"
 

@@ -22,19 +22,24 @@ numbers n = range_with_len 1 n
 abbrev pub list : (part : ℕ → List ℕ) (between : List ℕ) → ℕ → List ℕ
 list part between n = join_by part between (numbers n)
 
+-- the name of the i-th variable
 abbrev pub variable : ℕ → List ℕ
 variable i = codes "x" ++ decimal i
 
+-- the names of the first n variables, as a list
 abbrev pub variables : ℕ → List ℕ
 variables n = list variable (codes ", ") n
 
+-- the conjunct that types the i-th variable
 abbrev pub range : ℕ → List ℕ
 range i = codes "x" ++ decimal i ++ codes " : 0..100"
 
+-- these conjuncts of the first n variables
 abbrev pub ranges : ℕ → List ℕ
 ranges n = list range (codes " &\n  ") n
 
 -- ---- the project
+-- the project file of the sample
 abbrev pub project_text : List ℕ
 project_text =
     codes "machine Sample.mch\n" ++
@@ -42,17 +47,21 @@ project_text =
     codes "proofs Sample.prf\n"
 
 -- ---- the machine
+-- what each variable starts with
 abbrev pub zero_value : ℕ → List ℕ
 zero_value i = codes "0"
 
+-- a start value for each of the first n variables
 abbrev pub zeros : ℕ → List ℕ
 zeros n = list zero_value (codes ", ") n
 
+-- the two operations of the machine on the i-th variable: one adds, one answers
 abbrev pub machine_operations : ℕ → List ℕ
 machine_operations i =
     codes "  add_" ++ decimal i ++ codes "(k) = PRE k : 1..10 & x" ++ decimal i ++ codes " + k <= 100 THEN x" ++ decimal i ++ codes " := x" ++ decimal i ++ codes " + k END ;\n" ++
     codes "  r <-- get_" ++ decimal i ++ codes " = r := x" ++ decimal i
 
+-- the text of the sample's machine
 unfoldable pub machine_text : ℕ → List ℕ
 machine_text n =
     codes "MACHINE Sample\n" ++
@@ -63,17 +72,21 @@ machine_text n =
     codes "END\n"
 
 -- ---- the implementation
+-- the assignment that starts the i-th variable of the implementation
 abbrev pub assignment : ℕ → List ℕ
 assignment i = codes "x" ++ decimal i ++ codes " := 0"
 
+-- these assignments of the first n variables, in sequence
 abbrev pub assignments : ℕ → List ℕ
 assignments n = list assignment (codes " ;\n  ") n
 
+-- the two operations of the implementation on the i-th variable
 abbrev pub implementation_operations : ℕ → List ℕ
 implementation_operations i =
     codes "  add_" ++ decimal i ++ codes "(k) = x" ++ decimal i ++ codes " := x" ++ decimal i ++ codes " + k ;\n" ++
     codes "  r <-- get_" ++ decimal i ++ codes " = r := x" ++ decimal i
 
+-- the text of the sample's implementation
 unfoldable pub implementation_text : ℕ → List ℕ
 implementation_text n =
     codes "IMPLEMENTATION Sample_i REFINES Sample\n" ++
@@ -135,13 +148,16 @@ greatest_script n i =
     codes "  lin " ++ decimal (n + i) ++ codes ", " ++ decimal (3 * n + 1) ++ codes " : 1 * 2 + 1 * 4 + 1 * 5\n" ++
     codes "end\n"
 
+-- the five scripts that the i-th variable needs
 unfoldable pub scripts : (n i : ℕ) → List ℕ
 scripts n i = machine_script n i ++ implementation_script n i ++ link_script n i ++ least_script n i ++ greatest_script n i
 
+-- the text of the sample's proof file
 unfoldable pub proof_text : ℕ → List ℕ
 proof_text n = flat_map (scripts n) (numbers n)
 
 -- ---- the calls
+-- a call that adds to the i-th variable a number from 1 to 10
 unfoldable pub addition : ℕ → List ℕ
 addition i = codes "add_" ++ decimal i ++ codes "(" ++ decimal (1 + i % 10) ++ codes ")\n"
 
@@ -149,6 +165,7 @@ addition i = codes "add_" ++ decimal i ++ codes "(" ++ decimal (1 + i % 10) ++ c
 unfoldable pub calls_of : ℕ → List ℕ
 calls_of i = repeat 10 (addition i) ++ codes "get_" ++ decimal i ++ codes "\n"
 
+-- the text of the sample's call script
 unfoldable pub calls_text : ℕ → List ℕ
 calls_text n = flat_map calls_of (numbers n)
 

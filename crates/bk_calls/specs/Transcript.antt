@@ -40,7 +40,7 @@ abbrev pub value_texts : Image → List Parameter → List ℤ → List (List �
 value_texts image (output ∷ outputs) (n ∷ numbers) = value_text image output.kind n ∷ value_texts image outputs numbers
 value_texts image _ _ = []
 
--- what stands behind the name of an operation that is done: nothing where it has no outputs
+-- what stands after the name of an operation that is done: nothing where it has no outputs
 abbrev pub given_text : List (List ℕ) → List ℕ
 given_text [] = []
 given_text (value ∷ values) = codes " = " ++ join_by (λ text. text) (codes ", ") (value ∷ values)

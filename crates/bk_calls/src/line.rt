@@ -6,7 +6,7 @@ ghost use Rattle.bk_calls.specs.Reading as reading;
 use crate::argument::is_name;
 use crate::table::WordTable;
 
-/// A text behind the spaces that it starts with.
+/// A text after the spaces that it starts with.
 pub fn skip_spaces(text: &[u8]) -> &[u8]
     ensures { result.now ≡ reading.skip_spaces text.now }
 {
@@ -30,7 +30,7 @@ fn is_plain(byte: u8) -> bool
     !(byte == b' ' || byte == b'(' || byte == b')' || byte == b',')
 }
 
-/// The longest front of a text that is all of bytes of a name or an argument, and what stands behind it.
+/// The longest front of a text that is all of bytes of a name or an argument, and what stands after it.
 pub fn split_word(text: &[u8]) -> (&[u8], &[u8])
     ensures front { result.0.now ≡ reading.front text.now }
     ensures behind { result.1.now ≡ reading.behind text.now }
@@ -63,7 +63,7 @@ pub fn cut(text: &[u8], byte: u8) -> (&[u8], Option<&[u8]>)
     cut_at(text, place, byte)
 }
 
-// Whether only spaces stand behind a parenthesis that closes.
+// Whether only spaces stand after a parenthesis that closes.
 fn is_closing(rest: Option<&[u8]>) -> bool
     ensures { result ≡ reading.closing (option_copied rest.entry) }
 {
@@ -88,7 +88,7 @@ fn inside_of(list: &[u8]) -> Option<&[u8]>
     }
 }
 
-/// The name that a line calls, and what stands in the parentheses behind it.
+/// The name that a line calls, and what stands in the parentheses after it.
 pub fn call_parts<'a>(words: &WordTable, line: &'a [u8]) -> Option<(&'a [u8], &'a [u8])>
     ensures { option_map (λ parts. (parts.0.now, parts.1.now)) result ≡ reading.call_parts line.now }
 {

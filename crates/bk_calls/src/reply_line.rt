@@ -54,7 +54,7 @@ impl ReplyLine {
         self.bytes.clear();
     }
 
-    // Writes a text behind the present bytes.
+    // Writes a text after the present bytes.
     pub(crate) fn write(&mut self, text: &[u8])
         requires { HasRoom self.old text.now }
         ensures bytes { self.new.bytes ≡ self.old.bytes ++ text.now }

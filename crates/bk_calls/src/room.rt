@@ -8,7 +8,7 @@ use bk_code::{CellKind, Image, NameText, OpEntry, Parameter};
 /// The longest number of 64 bits.
 const LONGEST_NUMBER: &[u8] = b"-9223372036854775808";
 
-/// The longest text behind the name of what was called where it is not done.
+/// The longest text after the name of what was called where it is not done.
 const LONGEST_STOP: &[u8] = b" trapped Overflow at 4294967295\n";
 
 /// The longest last line of a session.

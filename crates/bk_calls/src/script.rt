@@ -67,7 +67,7 @@ impl<T: Drop> From<AllocFailed<T>> for CallsFault {
 /// The calls that a script asks for, in order.
 ///
 /// A script's lines end at a line feed, with or without a carriage return before it. Empty lines and lines that start
-/// with `#` are skipped. Every other line is the name of an operation of the image, and behind it the arguments in
+/// with `#` are skipped. Every other line is the name of an operation of the image, and after it the arguments in
 /// parentheses, divided by commas: decimal digits with an optional `-`, `TRUE`, `FALSE` or an element's name, by the kind
 /// of the input. An operation without inputs may have `()`. Spaces are free around these parts. Of two operations, or of
 /// two elements of a set, with one name the first is meant. The first line at fault is told: one that is written as no

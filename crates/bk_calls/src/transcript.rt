@@ -81,7 +81,7 @@ pub(crate) fn separator(index: usize) -> &'static [u8]
     if index == 0 { b" = " } else { b", " }
 }
 
-// The values of outputs, behind the name of an operation, with room for the longest ones.
+// The values of outputs, after the name of an operation, with room for the longest ones.
 fn write_outputs(line: &mut ReplyLine, image: &Image, outputs: &[Parameter], values: &[i64])
     requires counted { length values.now ≡ length outputs.now }
     requires room { HasRoom line.old (longest_given image.now outputs.now) }
@@ -143,7 +143,7 @@ fn trap_name(kind: Trap) -> &'static [u8]
     }
 }
 
-// What stands behind a name where the call traps.
+// What stands after a name where the call traps.
 fn write_trap(line: &mut ReplyLine, kind: Trap, at: u32)
     requires { HasRoom line.old (codes " trapped " ++ texts.trap_text kind ++ codes " at " ++ decimal at
         ++ codes "\n") }
@@ -186,7 +186,7 @@ pub fn reply(op: Option<u32>, end: &CallEnd, outs: &[i64], image: &Image, line: 
     }
 }
 
-// The last line, behind the present bytes.
+// The last line, after the present bytes.
 fn write_closing(line: &mut ReplyLine, calls: u32, steps: u64)
     requires { HasRoom line.old (texts.closing_text calls steps) }
     ensures bytes { line.new.bytes ≡ line.old.bytes ++ texts.closing_text calls steps }

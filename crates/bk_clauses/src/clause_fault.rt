@@ -129,7 +129,7 @@ fn numbered_variable(
     no_type_unless(typing.has(number), place_of(component, variable))
 }
 
-/// That of inputs without a type; these are their names in sight, in order.
+/// That of inputs without a type; these are their names in scope, in order.
 pub fn input_fault<'a>(
     typing: Typing<'a>,
     names: &'a [Visible<'a>],
@@ -148,7 +148,7 @@ pub fn input_fault<'a>(
     fault
 }
 
-// That of an input, which is this name in sight.
+// That of an input, which is this name in scope.
 fn untyped_input(typing: Typing<'_>, name: Visible<'_>, input: &RawName) -> Option<Fault>
     ensures { told result ≡ blame (
         cond (is_typed (typing_of typing.entry.types.now) (meaning_of name.entry.meaning)) [] (wanted.no_type input.now.at)) }

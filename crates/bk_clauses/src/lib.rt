@@ -1,4 +1,4 @@
-//! Faults of names, headers, clauses and values of a component.
+//! Static checks of the names, headers, clauses and values of a component: the first fault of each.
 #![tactic(auto)]
 
 pub mod clause_fault;

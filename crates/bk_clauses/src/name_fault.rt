@@ -81,14 +81,14 @@ fn twice_after(others: &[Visible<'_>], names: &[&RawName]) -> Option<Fault>
     fault
 }
 
-// Whether one of the names in sight, or one of those before, has the text.
+// Whether one of the names in scope, or one of those before, has the text.
 fn is_seen(others: &[Visible<'_>], before: &[&RawName], text: &[u8]) -> bool
     ensures { result ≡ (is_text (meant.named_texts (visible_names others.now)) text.now || is_text (texts (refs before.now)) text.now) }
 {
     is_visible(others, text) || is_among(before, text)
 }
 
-// Whether one of the names in sight has the text.
+// Whether one of the names in scope has the text.
 fn is_visible(names: &[Visible<'_>], text: &[u8]) -> bool
     ensures { result ≡ is_text (meant.named_texts (visible_names names.now)) text.now }
 {

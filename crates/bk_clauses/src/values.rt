@@ -240,7 +240,7 @@ pub fn values_made<'a>(
     Ok(found)
 }
 
-// A constant with its value, where an entry gives one, goes behind those that were found.
+// A constant with its value, where an entry gives one, goes after those that were found.
 fn push_value<'a>(
     typing: Typing<'a>,
     globals: &'a [Visible<'a>],

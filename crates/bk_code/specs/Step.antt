@@ -48,7 +48,7 @@ jumped (negsuc n) stack cells = Stuck
 abbrev pub is_index : ℤ → ℕ → ℤ → Bool
 is_index low count index = int_le low index && int_lt index (low +ℤ pos count)
 
--- the cell of the element at an index: as far behind the array's base as the index is above low
+-- the cell of the element at an index: as far after the array's base as the index is above low
 abbrev pub element_cell : ℕ → ℤ → ℤ → ℕ
 element_cell base low index = base + unsigned_abs (index -ℤ low)
 

@@ -2,7 +2,7 @@
 ghost use Rattle.bk_code.specs.CellValues.{StandsForOne};
 ghost use Rattle.bk_code.specs.Laws.{StoresPushed, EndsAtReturn, IsOutOfFuelBelow, IsTrapOutOfFuel, StaysDone, StaysTrapped, HasOneEnd, IsNeverStuck, KeepsFitting, HasSomeEnd, IsFirstFitting, IsCallFitting, HasOneSession, HasSomeSession, LoadableIsChecked, RefusesDeadStore};
 
-/// A Push with a Store behind it writes a cell and leaves the stack alone.
+/// A Push with a Store after it writes a cell and leaves the stack alone.
 pub fn pushes_store()
     ensures { StoresPushed }
 {}

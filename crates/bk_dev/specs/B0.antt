@@ -1,4 +1,5 @@
 -- B0, the part of the notation that has code: the expressions, conditions and statements of a development's last level.
+-- Source: B Language Reference Manual, B0.
 use Rattle.std.specs.Prelude.{◌≡◌, ◌⊎◌, ℕ, ◌+◌, ◌<◌, ◌≤◌, max, true, List, [], ◌∷◌, Option, Some, None, length}
 use Rattle.bk_limits.specs.declared.TheConstants.{MOST_OPERATORS}
 use Rattle.bk_form.specs.ArrayTable.{ArrayTable, row_of}
@@ -19,6 +20,7 @@ use Rattle.bk_dev.specs.Layout.{in_domain, typing_clue, reversed, arrays_of, is_
 abbrev pub IsScalarName : Development → ℕ → Type 0
 IsScalarName dev x = (row_of (arrays_of dev) x ≡ None) × (is_scalar (declared_type dev.table x) ≡ true)
 
+-- the variable is an array of the implementation
 abbrev pub IsArrayName : Development → ℕ → Type 0
 IsArrayName dev x = (row : ArrayRow) × (row_of (arrays_of dev) x ≡ Some row)
 

@@ -1,4 +1,5 @@
 -- What the obligations of a development say: the machine keeps its invariant, and each level carries the one above.
+-- Source: B-Book, proof obligations and refinement.
 use Rattle.std.specs.Prelude.{◌≡◌, ◌<◌, ℕ, suc, true, cond, List, [], ◌∷◌, ◌++◌, length, map, Option, Some, None}
 use Rattle.bk_form.specs.ArrayTable.{ArrayTable}
 use Rattle.bk_form.specs.Search.{Finder}

@@ -1,4 +1,5 @@
 -- Runs of the last level of a chain, as states see them: a call of an operation, and the initialisation.
+-- Source: B-Book, refinement.
 use Rattle.std.specs.Prelude.{◌≡◌, ◌≤◌, ℕ, suc, true, List, map, length, Some}
 use Rattle.std.specs.List.{filter}
 use Rattle.bk_form.specs.Table.{variable_type}

@@ -26,15 +26,19 @@ counter_table = record {
 abbrev pub machine_name : List ℕ
 machine_name = 67 ∷ 111 ∷ 117 ∷ 110 ∷ 116 ∷ 101 ∷ 114 ∷ []
 
+-- Counter_i
 abbrev pub implementation_name : List ℕ
 implementation_name = 67 ∷ 111 ∷ 117 ∷ 110 ∷ 116 ∷ 101 ∷ 114 ∷ 95 ∷ 105 ∷ []
 
+-- reset
 abbrev pub reset_name : List ℕ
 reset_name = 114 ∷ 101 ∷ 115 ∷ 101 ∷ 116 ∷ []
 
+-- setmax
 abbrev pub setmax_name : List ℕ
 setmax_name = 115 ∷ 101 ∷ 116 ∷ 109 ∷ 97 ∷ 120 ∷ []
 
+-- get
 abbrev pub get_name : List ℕ
 get_name = 103 ∷ 101 ∷ 116 ∷ []
 

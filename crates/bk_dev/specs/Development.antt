@@ -108,10 +108,12 @@ inputs_of dev o = (slice_index_or dev.heads o (record { name = []; inputs = []; 
 abbrev pub last : Development → ℕ
 last dev = length dev.levels - 1
 
+-- it is the kind of an implementation
 abbrev pub is_implementing : Kind → Bool
 is_implementing Implementation = true
 is_implementing _ = false
 
+-- the level is an implementation
 abbrev pub is_implementation : Level → Bool
 is_implementation l = is_implementing l.kind
 

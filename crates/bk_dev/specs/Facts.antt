@@ -1,4 +1,5 @@
 -- What holds of every development: its numbers name entries, its formulas type, and names stay where they may stand.
+-- Source: B-Book; B Language Reference Manual; what numbers are asked is this project's.
 use Rattle.std.specs.Prelude.{◌≡◌, ◌⊎◌, ◌<◌, ◌≤◌, ℕ, suc, nat_eq, pos, ◌-ℤ◌, ◌≤ℤ◌, Bool, true, false, not, ◌||◌, List, [], ◌∷◌, ◌++◌, length, Option, Some, ◌^◌}
 use Rattle.std.specs.List.{slice_get, flat_map}
 use Rattle.bk_val.specs.ValueType.{ValueType}

@@ -29,7 +29,7 @@ flat_bodies k (b ∷ bs) = record b { sub = flat_from k b.sub } ∷ flat_bodies 
 abbrev pub flat_level : ℕ → Level → Level
 flat_level k l = record l { init = flat_from k l.init; bodies = flat_bodies (k + length (copied l.init)) l.bodies }
 
--- components one after another without ||, each with its copies' numbers behind those before
+-- components one after another without ||, each with its copies' numbers after those before
 abbrev pub flat_levels : ℕ → List Level → List Level
 flat_levels k [] = []
 flat_levels k (l ∷ ls) = flat_level k l ∷ flat_levels (k + length (copied_in_level l)) ls

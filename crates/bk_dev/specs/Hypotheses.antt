@@ -1,4 +1,5 @@
 -- The hypotheses of the obligations of a development.
+-- Source: B-Book, proof obligations; the order is this project's.
 use Rattle.std.specs.Prelude.{ℕ, zero, suc, pos, ◌-ℤ◌, Bool, true, false, cond, List, [], ◌∷◌, ◌++◌, map, take, Option, Some}
 use Rattle.std.specs.List.{filter, flat_map}
 use Rattle.bk_val.specs.ValueType.{ValueType, int_type}

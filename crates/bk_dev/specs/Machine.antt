@@ -69,7 +69,7 @@ LegalFrom find dev before (c ∷ cs) [] = (a : Abstract) → before a → Pre fi
 LegalFrom find dev before (c ∷ cs) (us ∷ more) =
     ((a : Abstract) → before a → Pre find dev c a) × LegalFrom find dev (After find dev before c us) cs more
 
--- each call's precondition is true in every state that the calls before it reach with these outputs; calls behind the first without
+-- each call's precondition is true in every state that the calls before it reach with these outputs; calls after the first without
 -- outputs are not asked
 abbrev pub Legal : Finder → Development → List Call → List (List MathValue) → Type 0
 Legal find dev cs us = LegalFrom find dev (Opens find dev) cs us

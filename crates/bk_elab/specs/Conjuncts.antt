@@ -25,6 +25,7 @@ abbrev pub shown_pair : Option (Bor RawTree × Bor RawTree) → Option (RawTree 
 shown_pair None = None
 shown_pair (Some p) = Some (p.0.now, p.1.now)
 
+-- the operator and the sides, as contracts see them
 abbrev pub shown_infix : Option (InfixOp × Bor RawTree × Bor RawTree) → Option (InfixOp × RawTree × RawTree)
 shown_infix None = None
 shown_infix (Some p) = Some (p.0, p.1.now, p.2.now)

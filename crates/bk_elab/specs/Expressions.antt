@@ -16,6 +16,7 @@ expression_size (pair_of p q) = expression_size p + expression_size q + 1
 expression_size (joint_of j p q) = expression_size p + expression_size q + 1
 
 -- ---- codes
+-- the number of an operator that joins two sets or relations
 abbrev pub joint_code : Joint → ℕ
 joint_code union_joint = 0
 joint_code inter_joint = 1

@@ -48,7 +48,7 @@ abbrev pub dollar_untyped : List Bound → Bool
 dollar_untyped [] = false
 dollar_untyped (b ∷ bs) = (not (has_type b.of_type) && has_dollar b.text) || dollar_untyped bs
 
--- whether $k is one of so many bound variables behind the first ones
+-- whether $k is one of so many bound variables after the first ones
 abbrev pub is_own : ℕ → ℕ → ℕ → Bool
 is_own first count k = nat_lt first k && nat_le k (first + count)
 
@@ -152,6 +152,7 @@ AreKept m names _ _ = ⊥
 abbrev pub StaysKept : ℤ → Names → List Bound → Option Step → RawTree → Type 0
 StaysKept m names bs k t = (cs : List Bound) → Grows bs cs → IsKept m (inside cs names) k t
 
+-- what is kept of these terms stays right where more bound names get their types
 abbrev pub StayKept : ℤ → Names → List Bound → List (Option Step) → List RawTree → Type 0
 StayKept m names bs ks ts = (cs : List Bound) → Grows bs cs → AreKept m (inside cs names) ks ts
 

@@ -1,4 +1,4 @@
--- What the program's names in sight stand for.
+-- What the program's names in scope stand for.
 use Rattle.std.specs.Prelude.{◌≡◌, ◌<◌, ℕ, ℤ, zero, suc, length, Bool, true, false, ◌&&◌, ◌||◌, List, [], ◌∷◌, ◌++◌, map, take, drop, slice_get, Option, None, Some}
 use Rattle.std.specs.Str.{bytes_eq}
 use Rattle.bk_val.specs.ValueType.{ValueType, pair_type}
@@ -48,7 +48,7 @@ seen_or (Some s) other = shown_sight s
 abbrev pub set_in_front : ℕ → SetEntry → Names → Names
 set_in_front s e rest = record { text = e.name; meaning = set_name s } ∷ (element_names s 0 e.elements ++ rest)
 
--- ---- the names in sight of a reader
+-- ---- the names in scope of a reader
 -- bound names, in the order in which they are declared
 abbrev pub bounds_of : List Local → List Bound
 bounds_of ls = map (λ l. record { text = l.text.now; at = l.at; of_type = l.ty }) ls
@@ -67,6 +67,7 @@ abbrev pub outer_around : Outer → Around
 outer_around (OverTable s t) = record { max = s.now.max; names = names_in t.now s.now }
 outer_around (InSight m ns ts) = record { max = m; names = seen_names ts.now ns.now }
 
+-- what lies around the term: the scope of its reader
 abbrev pub around_of : Reader → Around
 around_of r = outer_around r.scope
 
@@ -78,7 +79,7 @@ around_by s = record { max = s.max; names = seen_names s.types.now s.names.now }
 abbrev pub outer_names : Reader → Names
 outer_names r = (around_of r).names
 
--- all names in sight
+-- all names in scope
 abbrev pub names_of : Reader → Names
 names_of r = bind (locals (bounds_of r.locals.items)) (outer_names r)
 

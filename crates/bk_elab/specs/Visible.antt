@@ -1,4 +1,4 @@
--- Names in sight, as the program keeps them: what each stands for, and the types that variables have by their numbers.
+-- Names in scope, as the program keeps them: what each stands for, and the types that variables have by their numbers.
 use Rattle.std.specs.Prelude.{ℕ, Bool, List, map, slice_get, Option, None, Some, ◌++◌}
 use Rattle.std.specs.Borrow.{Bor}
 use Rattle.bk_val.specs.ValueType.{ValueType}
@@ -46,7 +46,7 @@ seen_names ts vs = map (λ v. record { text = v.text.now; meaning = typed_meanin
 abbrev pub reading_by : Bool → Sight → RawTree → Reading
 reading_by wanted s t = part wanted t (reading s.max (seen_names s.types.now s.names.now) t)
 
--- what a place asks, behind the faults in a term
+-- what a place asks, after the faults in a term
 abbrev pub asked_behind : {A : Type 0} → Reading → Asked A → Asked A
 asked_behind r a = record { answer = a.answer; faults = r.faults ++ a.faults }
 

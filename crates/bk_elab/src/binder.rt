@@ -62,7 +62,7 @@ pub fn twice(names: &[RawName]) -> Option<Fault>
     fault
 }
 
-// The names go behind the bound names around, without types.
+// The names go after the bound names around, without types.
 pub(crate) fn push_untyped<'a>(reader: &mut Reader<'a>, names: &'a [RawName]) -> Result<(), Memory>
     ensures bounds { OnOk result (bounds_from (length reader.old.locals.items) reader.new ≡
         bound.bound_names names.now) }
@@ -267,7 +267,7 @@ impl<'a> Reader<'a> {
         })
     }
 
-    // The bound name at a place behind another one has the type that was found.
+    // The bound name at a place after another one has the type that was found.
     #[tactic(auto, using(crate::proofs::Awaited::awaited))]
     pub(crate) fn take_type(&mut self, first: usize, place: usize, found: Option<Ty>)
         requires { first + place < length self.old.locals.items }
@@ -298,7 +298,7 @@ impl<'a> Reader<'a> {
         self.locals.truncate(first);
     }
 
-    // These names go behind the bound names around.
+    // These names go after the bound names around.
     #[tactic(auto, using(crate::proofs::Bindings::bindings))]
     fn push_all(&mut self, mut added: Vec<Local<'a>>) -> Result<(), Memory>
         ensures names { OnOk result (names_of self.new ≡ inside (bounds_of added.entry.items) (names_of self.old)) }
@@ -311,7 +311,7 @@ impl<'a> Reader<'a> {
         Ok(())
     }
 
-    // Printed bound variables go behind the names in sight; the first of their faults is answered.
+    // Printed bound variables go after the names in scope; the first of their faults is answered.
     pub(crate) fn push_numbered(&mut self, bounds: &'a [RawBound]) -> Result<Option<Fault>, Memory>
         ensures fault { IfOk result (λ f. told f ≡
             blame (wrong_bounds (suc (length self.old.locals.items)) bounds.now)) }
@@ -343,7 +343,7 @@ impl<'a> Reader<'a> {
         Ok(found)
     }
 
-    // The names are in sight with the types of their ranges.
+    // The names are in scope with the types of their ranges.
     pub(crate) fn push_ranged(&mut self, names: &[Ranged<'a>]) -> Result<(), Memory>
         ensures names { OnOk result (names_of self.new ≡
             inside (as_bound (ranges_as names.now)) (names_of self.old)) }
@@ -417,8 +417,8 @@ fn numbered_range(found: Option<(Form, Ty)>, number: usize) -> Option<(Form, Ty,
     }
 }
 
-// The number of the bound variable at an index of its binder is the next from the outside behind those that stand and
-// those before it; any other is a name that is not in sight.
+// The number of the bound variable at an index of its binder is the next from the outside after those that stand and
+// those before it; any other is a name that is not in scope.
 fn wrong_number(at: usize, number: u32, standing: usize, index: usize) -> Option<Fault>
     ensures { told result ≡ blame (wrong_number at number (suc (standing + index))) }
 {
@@ -431,7 +431,7 @@ fn wrong_number(at: usize, number: u32, standing: usize, index: usize) -> Option
     unknown(at)
 }
 
-// The first fault of printed bound variables whose numbers are not the next behind those that stand.
+// The first fault of printed bound variables whose numbers are not the next after those that stand.
 #[tactic(auto, using(bk_raw::proofs::Blamed::blames))]
 fn wrong_bounds(bounds: &[RawBound], standing: usize) -> Option<Fault>
     ensures { told result ≡ blame (wrong_bounds (suc standing) bounds.now) }

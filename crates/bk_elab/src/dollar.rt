@@ -45,7 +45,7 @@ fn has_dollar(text: &[u8]) -> bool
     false
 }
 
-// Whether `$k` is one of so many bound variables behind the first ones.
+// Whether `$k` is one of so many bound variables after the first ones.
 fn is_own(first: usize, count: usize, number: u32) -> bool
     ensures { result ≡ is_own first count number }
 {

@@ -1,4 +1,4 @@
-//! What written terms mean: formulas over the names in sight, or the first of their faults.
+//! What written terms mean: formulas over the names in scope, or the first of their faults.
 #![tactic(auto)]
 
 pub mod binder;

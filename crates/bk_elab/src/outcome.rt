@@ -96,7 +96,7 @@ impl Step {
         }
     }
 
-    // The same behind the first of the faults of the parts.
+    // The same after the first of the faults of the parts.
     #[tactic(auto, using(bk_raw::proofs::Blamed::blames))]
     pub(crate) fn behind(self, fault: Option<Fault>) -> Step
         ensures { (fs : List FaultAt) (r : Reading) → told fault ≡ blame fs → IsRead self r →
@@ -122,7 +122,7 @@ impl Step {
 }
 
 impl<T: Drop> Asked<T> {
-    // The same behind the first of the faults of the part.
+    // The same after the first of the faults of the part.
     #[tactic(auto, using(bk_raw::proofs::Blamed::blames))]
     pub(crate) fn behind(self, fault: Option<Fault>) -> Asked<T>
         ensures answer { result.answer ≡ self.answer }

@@ -1,4 +1,4 @@
-// What a term reads as under the names in sight.
+// What a term reads as under the names in scope.
 
 ghost use Rattle.std.specs.Option.{option_copied};
 ghost use Rattle.std.specs.Prelude.{◌≡◌, ◌+◌, ◌++◌, ◌≤◌, suc, List, None, IfOk, OnOk, length, Option};
@@ -294,7 +294,7 @@ impl<'a> Reader<'a> {
         )
     }
 
-    // The names with their ranges, and what is left of the predicate; the names are in sight behind it.
+    // The names with their ranges, and what is left of the predicate; the names are in scope after it.
     #[tactic(auto, using(crate::proofs::Readings::readings, crate::proofs::Sizes::parts_are_smaller))]
     #[cycle(reading)]
     fn range_names(&mut self, names: &'a [RawName], body: &'a RawTerm) -> Result<Body<'a>, Memory>
@@ -438,7 +438,7 @@ impl<'a> Reader<'a> {
     }
 
     // The conjuncts of a term give ranges to the names, all of which are bound. The first conjunct has this number;
-    // the number of the first one behind the term is answered. The right sides that serve for the body are kept, one
+    // the number of the first one after the term is answered. The right sides that serve for the body are kept, one
     // entry a conjunct.
     #[tactic(auto, using(crate::proofs::Conjoined::ranging, crate::proofs::Readings::readings, crate::proofs::Sizes::parts_are_smaller))]
     #[cycle(reading)]
@@ -499,8 +499,8 @@ impl<'a> Reader<'a> {
         Ok(None)
     }
 
-    // The conjuncts that gave no range go behind those that are left so far, joined to the left; the right sides that
-    // are kept are not read again. The first conjunct has this number; the number of the first one behind the term is
+    // The conjuncts that gave no range go after those that are left so far, joined to the left; the right sides that
+    // are kept are not read again. The first conjunct has this number; the number of the first one after the term is
     // answered.
     #[tactic(auto, using(crate::proofs::Remembered::remaining, crate::proofs::Readings::readings, crate::proofs::Sizes::parts_are_smaller))]
     #[cycle(reading)]

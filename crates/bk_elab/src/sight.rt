@@ -1,4 +1,4 @@
-// The names in sight of a term.
+// The names in scope of a term.
 
 ghost use Rattle.std.specs.Prelude.{◌≡◌, Some, List, IfOk, ℕ, false, MatchOption, slice_get};
 ghost use Rattle.std.specs.Str.{bytes_eq};
@@ -31,14 +31,14 @@ pub struct Local<'a> {
     pub ty: Option<Ty>,
 }
 
-/// A name in sight, and what it stands for.
+/// A name in scope, and what it stands for.
 #[derive(Clone, Copy)]
 pub struct Visible<'a> {
     pub text: &'a [u8],
     pub meaning: Standing,
 }
 
-/// What a name in sight stands for: a variable by its number, an enumerated set, or an element of one.
+/// What a name in scope stands for: a variable by its number, an enumerated set, or an element of one.
 #[derive(Clone, Copy, PartialEq, Eq, Debug)]
 pub enum Standing {
     Variable(u32),
@@ -58,15 +58,15 @@ pub enum Outer<'a> {
 /// What is found of a name.
 #[derive(Drop)]
 pub enum Seen {
-    /// It is not in sight.
+    /// It is not in scope.
     Unseen,
-    /// It is in sight and has no type.
+    /// It is in scope and has no type.
     Untyped,
     /// Its formula and type.
     Typed(Form, Ty),
 }
 
-/// Reads terms: the names in sight, and what they are read over.
+/// Reads terms: the names in scope, and what they are read over.
 #[derive(Drop)]
 pub struct Reader<'a> {
     pub alloc: Global,
@@ -167,7 +167,7 @@ impl<'a> Reader<'a> {
         Ok(seen_at(at, seen))
     }
 
-    // A name at a level, which is written with a dollar sign and the level's number behind it.
+    // A name at a level, which is written with a dollar sign and the level's number after it.
     pub(crate) fn level_name(&self, at: usize, name: &Text, level: u32) -> Result<Step, Memory>
         ensures { IfOk result (λ s. IsRead s
             (meant.name_reading at (found 0 (names_of self.now) (level_name name.now level)))) }
@@ -378,7 +378,7 @@ fn seen_at(at: usize, found: Seen) -> Step
     }
 }
 
-// A name that is not in sight.
+// A name that is not in scope.
 pub(crate) fn unknown(at: usize) -> Option<Fault>
     ensures { told result ≡ Some (unknown_name at) }
 {

@@ -1,4 +1,4 @@
-//! Terms under names in sight, some of which may have no type yet.
+//! Terms under names in scope, some of which may have no type yet.
 
 ghost use Rattle.std.specs.Prelude.{◌≡◌, true, false, map, IfOk};
 ghost use Rattle.bk_raw.specs.Outcome.{ask, ask_value, ask_domain, ask_predicate};
@@ -17,7 +17,7 @@ use bk_raw::{RawName, RawTerm};
 use std::alloc::Global;
 use std::collections::VecDeque;
 
-/// What terms are read under: MAXINT, the names in sight, the innermost first, and the types of their variables, as far
+/// What terms are read under: MAXINT, the names in scope, the innermost first, and the types of their variables, as far
 /// as they have one. What uses a name without a type is no formula, and no fault of its own.
 #[derive(Clone, Copy)]
 pub struct Sight<'a> {

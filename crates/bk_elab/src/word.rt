@@ -1,4 +1,4 @@
-// What constant words read as, and what words and a minus sign make of the part behind them.
+// What constant words read as, and what words and a minus sign make of the part after them.
 
 ghost use Rattle.std.specs.Prelude.{◌≡◌, IfOk};
 ghost use Rattle.bk_val.specs.ValueType.{int_type, bool_type, set_type};
@@ -77,7 +77,7 @@ fn numbers_between(alloc: Global, low: i128, high: i128) -> Result<Step, Memory>
     Ok(Step::giving(interval, Ty::set(alloc, Ty::int())?))
 }
 
-// What a word at a byte makes of the part behind it, which stands at a byte of its own.
+// What a word at a byte makes of the part after it, which stands at a byte of its own.
 pub(crate) fn word(
     alloc: Global,
     op: WordOp,

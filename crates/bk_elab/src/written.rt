@@ -16,7 +16,7 @@ use crate::blame::{Fault, earlier};
 use bk_io::Text;
 use bk_raw::{Constant, FaultKind, InfixOp, RawName, RawNode, RawRange, RawTerm, WordOp};
 
-// Whether a predicate stands behind the word.
+// Whether a predicate stands after the word.
 pub(crate) fn takes_predicate(op: WordOp) -> bool
     ensures { result ≡ meant.takes_predicate op }
 {

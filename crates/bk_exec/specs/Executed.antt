@@ -24,7 +24,7 @@ executing t arrays = record { int_max = t.max; typing = typing_of t.types.now; a
 abbrev pub meant_by : Executing → Meant
 meant_by x = executing x.typing x.arrays.now
 
--- the names in sight
+-- the names in scope
 abbrev pub names_of : Executing → Names
 names_of x = visible_names x.names.now
 

@@ -32,7 +32,7 @@ use bk_sight::sight::{bound, variable_of};
 use bk_sight::types::is_flat;
 use bk_sight::way::Typing;
 
-// What is executed: the types of numbers, the arrays with the domains that they are declared with, the names in sight,
+// What is executed: the types of numbers, the arrays with the domains that they are declared with, the names in scope,
 // and the first number of what is bound.
 #[derive(Clone, Copy)]
 struct Executing<'a> {
@@ -236,7 +236,7 @@ fn output_scalars(
     Ok(fault)
 }
 
-// That of inputs that are no scalars; these are their names in sight, in order.
+// That of inputs that are no scalars; these are their names in scope, in order.
 fn input_scalars(typing: Typing<'_>, names: &[Visible<'_>], inputs: &[RawName]) -> Option<Fault>
     ensures { (x : meant.Executing) → x.typing ≡ typing_of typing.entry.types.now →
         told result ≡ blame (meant.input_scalars x (visible_names names.now) inputs.now) }
@@ -263,7 +263,7 @@ fn is_flat_name(typing: Typing<'_>, name: Visible<'_>) -> bool
 }
 
 impl<'a> Executing<'a> {
-    // What stands behind a statement that binds so much.
+    // What stands after a statement that binds so much.
     fn behind(self, count: usize) -> Result<Executing<'a>, Memory>
         ensures { IfOk result (λ x. x ≡ record self.entry { first = self.entry.first + count }) }
     {
@@ -310,7 +310,7 @@ impl<'a> Executing<'a> {
         }
     }
 
-    // That of a branch of IF, and of those behind it.
+    // That of a branch of IF, and of those after it.
     #[tactic(auto, using(bk_sight::proofs::SubSizes::parts_are_smaller, crate::proofs::Branching::branch_whole, bk_raw::proofs::Blamed::blames))]
     #[cycle(executing)]
     fn branch(

@@ -1,4 +1,4 @@
-//! Whether what an implementation does can be executed.
+//! The B0 check: whether what an implementation does can be executed.
 #![tactic(auto)]
 
 pub mod arrays;

@@ -1,4 +1,5 @@
 -- Formulas in which each operator that is met is inside its domain, read from left to right; and executed expressions whose numbers stay within MININT .. MAXINT.
+-- Source: after the well-definedness of the B Language Reference Manual.
 use Rattle.std.specs.Prelude.{◌≡◌, ◌⊎◌, ℤ, pos, ◌-ℤ◌, Bool, true, false, not, ◌&&◌, int_lt, int_le, List, [], ◌∷◌, map, Option, Some, None}
 use Rattle.bk_val.specs.Value.{MathValue, int}
 use Rattle.bk_val.specs.ValueType.{are_of_types}

@@ -8,6 +8,7 @@ use Rattle.bk_form.specs.declared.operator.SeqSign.{SeqSign}
 use Rattle.bk_form.specs.declared.operator.SeqSign.TheVariants.{Member, Size, First, Last, Front, Tail, Rev, Append, Prepend, Concat}
 
 -- ---- the forms that expansions are made of
+-- the number 1 as a formula
 abbrev pub one : Formula
 one = literal (pos 1)
 
@@ -56,7 +57,7 @@ tail s = function_on one (one_less s) (binary Apply (raised s) (binary Add (boun
 abbrev pub rev : Formula → Formula
 rev s = function_on one (card_of s) (binary Apply (raised s) (binary Sub (one_more (raised s)) (bound 0)))
 
--- s, and behind it x
+-- s, and after it x
 abbrev pub append : Formula → Formula → Formula
 append s x = binary Union s (pair_alone (one_more s) x)
 
@@ -64,16 +65,16 @@ append s x = binary Union s (pair_alone (one_more s) x)
 abbrev pub later : Formula → Formula
 later s = function_on (literal (pos 2)) (one_more s) (binary Apply (raised s) (binary Sub (bound 0) one))
 
--- x, and behind it s
+-- x, and after it s
 abbrev pub prepend : Formula → Formula → Formula
 prepend x s = binary Union (pair_alone one x) (later s)
 
--- the members of t, behind those of s
+-- the members of t, after those of s
 abbrev pub behind : Formula → Formula → Formula
 behind s t =
     function_on (one_more s) (binary Add (card_of s) (card_of t)) (binary Apply (raised t) (binary Sub (bound 0) (card_of (raised s))))
 
--- s, and behind it t
+-- s, and after it t
 abbrev pub concat : Formula → Formula → Formula
 concat s t = binary Union s (behind s t)
 

@@ -1,4 +1,5 @@
 -- Formulas of the B Method as mathematical trees.
+-- Source: B-Book; the encoding is this project's.
 use Rattle.std.specs.Prelude.{ℕ, ℤ, Bool, ◌+◌, max, List, [], ◌∷◌}
 use Rattle.bk_val.specs.ValueType.{ValueType}
 use Rattle.bk_form.specs.declared.operator.BinOp.{BinOp}

@@ -1,4 +1,5 @@
 -- Laws of the meaning of formulas, as statements. Each is the contract of a public function.
+-- Source: B-Book.
 use Rattle.std.specs.Prelude.{◌≡◌, ◌↔◌, ◌⊎◌, ℕ, ℤ, pos, negsuc, int_le, Bool, true, false, ◌&&◌, List, [], ◌∷◌, map, Some}
 use Rattle.bk_val.specs.Value.{MathValue, int, bool, pair, set, none, more}
 use Rattle.bk_val.specs.ValueType.{ValueType, int_type, set_type, base_of, is_value_of, are_of_types}

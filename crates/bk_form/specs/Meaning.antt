@@ -1,4 +1,5 @@
 -- What a formula means in an environment: its value, its truth, and which values are in it as a domain.
+-- Source: B-Book, set theory.
 use Rattle.std.specs.Prelude.{ℕ, Bool, true, false, not, ◌&&◌, List, [], ◌∷◌, map, Option, Some, None, slice_get}
 use Rattle.std.specs.List.{filter}
 use Rattle.bk_val.specs.Value.{MathValue, int, bool, elem, pair, set, none}

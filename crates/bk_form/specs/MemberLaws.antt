@@ -1,4 +1,5 @@
 -- What is in the sets that the operators make, and what the arrows say, as statements.
+-- Source: B-Book, relations and functions.
 use Rattle.std.specs.Prelude.{◌≡◌, ◌↔◌, ◌<◌, ℕ, Bool, true, false, ◌&&◌, ◌||◌, not}
 use Rattle.bk_val.specs.Value.{MathValue, bool, elem, pair}
 use Rattle.bk_val.specs.Sets.{has}

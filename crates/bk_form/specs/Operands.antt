@@ -1,4 +1,5 @@
 -- Where an operator types, what its operands stand for, and what it stands for itself.
+-- Source: B-Book, type checking.
 use Rattle.std.specs.Prelude.{◌≡◌, ◌⊎◌, List}
 use Rattle.bk_val.specs.ValueType.{ValueType, int_type, bool_type, pair_type, set_type}
 use Rattle.bk_form.specs.Table.{Table}
@@ -24,6 +25,7 @@ abbrev pub RangesOverRelations : ValueType → ValueType → Role → Type 0
 RangesOverRelations t u r = r ≡ ranges_over (set_type (pair_type t u))
 
 -- ---- one operand: what it stands for, and what the whole does
+-- what the operand of an operator on one operand stands for, and what the whole does
 abbrev pub IsOfOne : UnOp → Role → Role → Type 0
 IsOfOne Not a whole = (a ≡ predicate) × (whole ≡ predicate)
 IsOfOne BoolOf a whole = (a ≡ predicate) × (whole ≡ gives bool_type)
@@ -40,6 +42,7 @@ IsOfOne Pow a whole = (t : ValueType) × IsOver t a × (whole ≡ ranges_over (s
 IsOfOne Pow1 a whole = (t : ValueType) × IsOver t a × (whole ≡ ranges_over (set_type t))
 
 -- ---- two operands
+-- both operands and the whole are predicates
 abbrev pub AreTwoPredicates : Role → Role → Role → Type 0
 AreTwoPredicates a b whole = (a ≡ predicate) × (b ≡ predicate) × (whole ≡ predicate)
 
@@ -47,15 +50,19 @@ AreTwoPredicates a b whole = (a ≡ predicate) × (b ≡ predicate) × (whole �
 abbrev pub AreTwoNumbers : Role → Role → Role → Role → Type 0
 AreTwoNumbers r a b whole = (a ≡ gives int_type) × (b ≡ gives int_type) × (whole ≡ r)
 
+-- both operands are of one type, and the whole is a predicate
 abbrev pub AreTwoValues : Role → Role → Role → Type 0
 AreTwoValues a b whole = (t : ValueType) × (a ≡ gives t) × (b ≡ gives t) × (whole ≡ predicate)
 
+-- the first operand is of a type that the second ranges over, and the whole is a predicate
 abbrev pub IsMembership : Role → Role → Role → Type 0
 IsMembership a b whole = (t : ValueType) × (a ≡ gives t) × IsOver t b × (whole ≡ predicate)
 
+-- the whole ranges over the relations between what the operands range over
 abbrev pub IsArrow : Role → Role → Role → Type 0
 IsArrow a b whole = (t : ValueType) × (u : ValueType) × IsOver t a × IsOver u b × RangesOverRelations t u whole
 
+-- both operands and the whole are sets of one type
 abbrev pub AreTwoSets : Role → Role → Role → Type 0
 AreTwoSets a b whole = (t : ValueType) × IsSetOf t a × IsSetOf t b × IsSetOf t whole
 
@@ -67,21 +74,27 @@ IsProduct a b whole = (t : ValueType) × (u : ValueType) × ((IsSetOf t a × IsS
 abbrev pub IsDomainPart : Role → Role → Role → Type 0
 IsDomainPart r a whole = (t : ValueType) × (u : ValueType) × IsRelationOf t u r × IsSetOf t a × IsRelationOf t u whole
 
+-- a relation and a set of its second parts give a relation of the same type
 abbrev pub IsRangePart : Role → Role → Role → Type 0
 IsRangePart r a whole = (t : ValueType) × (u : ValueType) × IsRelationOf t u r × IsSetOf u a × IsRelationOf t u whole
 
+-- both operands and the whole are relations of one type
 abbrev pub IsOverriding : Role → Role → Role → Type 0
 IsOverriding a b whole = (t : ValueType) × (u : ValueType) × IsRelationOf t u a × IsRelationOf t u b × IsRelationOf t u whole
 
+-- the whole is a pair of the operands' types
 abbrev pub IsPair : Role → Role → Role → Type 0
 IsPair a b whole = (t : ValueType) × (u : ValueType) × (a ≡ gives t) × (b ≡ gives u) × (whole ≡ gives (pair_type t u))
 
+-- a relation and a set of its first parts give a set of its second parts
 abbrev pub IsImage : Role → Role → Role → Type 0
 IsImage r a whole = (t : ValueType) × (u : ValueType) × IsRelationOf t u r × IsSetOf t a × IsSetOf u whole
 
+-- a relation and one of its first parts give one of its second parts
 abbrev pub IsApplication : Role → Role → Role → Type 0
 IsApplication f a whole = (t : ValueType) × (u : ValueType) × IsRelationOf t u f × (a ≡ gives t) × (whole ≡ gives u)
 
+-- two relations that meet in the middle give one from the first parts of one to the second parts of the other
 abbrev pub IsComposition : Role → Role → Role → Type 0
 IsComposition a b whole = (t : ValueType) × (u : ValueType) × (v : ValueType) × IsRelationOf t u a × IsRelationOf u v b × IsRelationOf t v whole
 

@@ -1,4 +1,5 @@
 -- The operators on values, and the tests of domains, as in set theory. Outside its domain an operator gives the base value.
+-- Source: B-Book; B Language Reference Manual.
 use Rattle.std.specs.Prelude.{ℕ, zero, suc, nat_eq, nat_lt, ℤ, pos, negsuc, ◌+ℤ◌, ◌-ℤ◌, ◌*ℤ◌, int_lt, int_le, Bool, true, false, not, ◌&&◌, ◌||◌, cond, List, [], ◌∷◌, length, map, unwrap_or}
 use Rattle.std.specs.List.{filter, list_all, flat_map}
 use Rattle.std.specs.Ordering.{eq_by_cmp}

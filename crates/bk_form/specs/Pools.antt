@@ -1,5 +1,5 @@
 -- Pools: lists of different formulas in which the parts of each stand before it (hash consing: A. P. Ershov, On programming of
--- arithmetic operations, 1958, has the list of different subexpressions, each behind its operands).
+-- arithmetic operations, 1958, has the list of different subexpressions, each after its operands).
 use Rattle.std.specs.Prelude.{◌≡◌, ℕ, ◌<◌, List, ◌++◌, Some, slice_get}
 use Rattle.bk_form.specs.Formula.{Formula}
 use Rattle.bk_form.specs.Parts.{PartsAre, IsPart}

@@ -1,4 +1,5 @@
 -- Predicates, their parts, and lists of them.
+-- Source: B-Book.
 use Rattle.std.specs.Prelude.{◌≡◌, ℕ, true, List, [], ◌∷◌, ◌++◌}
 use Rattle.bk_form.specs.Table.{Table}
 use Rattle.bk_form.specs.Formula.{Formula, variable, btrue, binary}

@@ -1,4 +1,5 @@
 -- Formulas in place of variables, all at once.
+-- Source: B-Book, substitution.
 use Rattle.std.specs.Prelude.{◌≡◌, ◌⊎◌, ℕ, suc, ◌+◌, ◌<◌, nat_eq, Bool, false, ◌||◌, cond, List, [], ◌∷◌, length, Some}
 use Rattle.bk_val.specs.ValueType.{ValueType}
 use Rattle.bk_form.specs.Table.{Table, variable_type}

@@ -1,4 +1,5 @@
 -- The typing of formulas: what a formula stands for, by its form alone.
+-- Source: B-Book, type checking; B Language Reference Manual.
 use Rattle.std.specs.Prelude.{ℕ, nat_eq, nat_lt, Bool, true, false, ◌&&◌, List, [], ◌∷◌, map, Option, Some, None, slice_get}
 use Rattle.bk_val.specs.ValueType.{ValueType, int_type, bool_type, enum_type, pair_type, set_type}
 use Rattle.bk_form.specs.Table.{Table, listed_size, variable_type, lists_type}

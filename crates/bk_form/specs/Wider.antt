@@ -1,4 +1,4 @@
--- A table that begins with another: the same sets and variables by the same numbers, and perhaps more behind them.
+-- A table that begins with another: the same sets and variables by the same numbers, and perhaps more after them.
 use Rattle.std.specs.Prelude.{◌≡◌, List, ◌++◌}
 use Rattle.bk_form.specs.Table.{Table, SetEntry, VariableEntry}
 use Rattle.bk_form.specs.Role.{Role, untyped}

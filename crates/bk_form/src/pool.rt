@@ -67,7 +67,7 @@ impl Pool {
         self.members.len() as u64
     }
 
-    /// The formula again, made of members: those of its parts, itself among them, that were not in the pool are put behind the
+    /// The formula again, made of members: those of its parts, itself among them, that were not in the pool are put after the
     /// others first. It walks the whole formula, with equal parts as often as they stand there. After `Memory` the pool may have
     /// some of the parts more.
     pub fn share(&mut self, form: &Form) -> Result<Form, Memory>
@@ -80,7 +80,7 @@ impl Pool {
         self.members[n].copy(alloc)
     }
 
-    /// No formula stands twice, and each stands behind its parts. It does nothing: callers learn this of the list.
+    /// No formula stands twice, and each stands after its parts. It does nothing: callers learn this of the list.
     pub fn is_pool(&self)
         ensures { IsPool self.now }
     {
@@ -196,7 +196,7 @@ fn add(
     put(types, ranges, members, key, member)
 }
 
-// The number of the formula, after its parts and it were put behind the others where they were not there yet.
+// The number of the formula, after its parts and it were put after the others where they were not there yet.
 #[tactic(auto, using(crate::proofs::Sizes::parts_are_smaller))]
 #[cycle(number)]
 fn number(

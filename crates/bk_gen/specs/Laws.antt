@@ -110,6 +110,7 @@ pub record IsWithinLoader (dev : Development) : Type 0 where
   pub cells : cell_count dev ≤ MOST_CELLS
   pub code : length (translation dev).code ≤ MOST_INSTRUCTIONS
 
--- its translation passes the loader's checks
+-- the translation of a lawful development in B0 passes the loader's checks, where it has at most MOST_CELLS cells and
+-- MOST_INSTRUCTIONS instructions
 abbrev pub TranslationsLoad : Type 0
 TranslationsLoad = (dev : Development) → IsWithinLoader dev → IsLoadable (translation dev)

@@ -34,9 +34,11 @@ sample_places = record {
 abbrev pub first_number : Formula
 first_number = variable 7
 
+-- the second number of the samples
 abbrev pub second_number : Formula
 second_number = variable 8
 
+-- the first number is less than the second
 abbrev pub is_below : Formula
 is_below = binary Less first_number second_number
 
@@ -44,9 +46,11 @@ is_below = binary Less first_number second_number
 abbrev pub set_one : Substitution
 set_one = assign ((7, literal (pos 1)) ∷ [])
 
+-- the second number becomes 2
 abbrev pub set_two : Substitution
 set_two = assign ((8, literal (pos 2)) ∷ [])
 
+-- each construct with its code
 pub record ConstructsCode : Type 0 where
   pub number : placed_value sample_places (literal (neg_ℤ (pos 7))) ≡ Push (neg_ℤ (pos 7)) ∷ []
   pub falsity : placed_value sample_places (truth_value false) ≡ Push (pos 0) ∷ []
@@ -87,6 +91,7 @@ filled_with n = binary Times (binary Range (literal (pos 0)) (literal (pos 9))) 
 abbrev pub named_entry : List ℕ → ValueType → VariableEntry
 named_entry text t = record { text = text; of_type = t }
 
+-- arrays of numbers over an interval
 abbrev pub array_type : ValueType
 array_type = set_type (pair_type int_type int_type)
 
@@ -98,6 +103,7 @@ is_array f = binary In (variable f) (binary TotalFunctions (binary Range (litera
 abbrev pub plain_level : List ℕ → Kind → ℕ → Formula → Substitution → List Body → Level
 plain_level name kind v invariant init bodies = record { name = name; kind = kind; vars = v ∷ []; properties = btrue; invariant = invariant; links = []; assertions = []; init = init; bodies = bodies }
 
+-- a body without a precondition
 abbrev pub plain_body : Substitution → List ℕ → Body
 plain_body s outputs = record { condition = btrue; sub = s; outputs = outputs }
 
@@ -155,6 +161,7 @@ shows c n = assign ((c, colour n) ∷ [])
 abbrev pub turning : ℕ → Substitution
 turning c = if_else (binary Equal (variable c) (colour 0)) (shows c 2) (if_else (binary Equal (variable c) (colour 2)) (shows c 1) (shows c 0))
 
+-- a level of the lamp
 abbrev pub lamp_level : List ℕ → Kind → ℕ → ℕ → Level
 lamp_level name kind c output = plain_level name kind c (binary In (variable c) (named (Enum 0))) (shows c 0) (plain_body (turning c) [] ∷ plain_body (assign ((output, variable c) ∷ [])) (output ∷ []) ∷ [])
 

@@ -67,7 +67,7 @@ fn each_fits(name: &Text, count: u32) -> bool
     true
 }
 
-// Whether a name with this number behind it is short enough.
+// Whether a name with this number after it is short enough.
 fn number_fits(name: &Text, number: u32) -> bool
     ensures { IsTrue result ↔ IsCountable (name.now ++ 36 ∷ decimal number) }
 {

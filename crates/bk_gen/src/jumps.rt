@@ -6,7 +6,7 @@ ghost use Rattle.bk_code.specs.declared.instruction.Inst.TheVariants.{Jump, Jump
 use bk_code::{Inst, Memory};
 use bk_limits::MOST_INSTRUCTIONS;
 
-// Lets the test at a place lead behind the code so far, where its number is 0.
+// Lets the test at a place lead after the code so far, where its number is 0.
 pub(crate) fn set_test(code: &mut Vec<Inst>, at: usize)
     requires stands { at < length code.old.items }
     requires short { length code.old.items ≤ MOST_INSTRUCTIONS }
@@ -16,7 +16,7 @@ pub(crate) fn set_test(code: &mut Vec<Inst>, at: usize)
     code[at] = Inst::JumpZero(distance);
 }
 
-// Lets the jump at a place lead behind the code so far.
+// Lets the jump at a place lead after the code so far.
 pub(crate) fn set_jump(code: &mut Vec<Inst>, at: usize)
     requires stands { at < length code.old.items }
     requires short { length code.old.items ≤ MOST_INSTRUCTIONS }

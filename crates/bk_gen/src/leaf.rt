@@ -67,7 +67,7 @@ pub(crate) fn slot_of(unit: &B0Unit, variable: u32) -> u32
     first_cell(unit.slots(), variable)
 }
 
-// The first cell of a variable among these, or behind them all.
+// The first cell of a variable among these, or after them all.
 fn first_cell(slots: &[Slot], variable: u32) -> u32
     requires { slots_cells slots.now ≤ MOST_CELLS }
     ensures value { result ≡ first_of variable slots.now }

@@ -53,7 +53,7 @@ fn numbered_texts(alloc: Global, name: &Text, count: u32) -> Result<NameTexts, M
     Ok(NameTexts::from_vec(texts))
 }
 
-// A name with a number behind it.
+// A name with a number after it.
 fn numbered_text(alloc: Global, name: &Text, number: u32) -> Result<NameText, Memory>
     ensures { IfOk result (λ text. text ≡ name.now ++ 36 ∷ decimal number) }
 {

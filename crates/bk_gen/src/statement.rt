@@ -172,7 +172,7 @@ fn add_branches(
     Ok(())
 }
 
-// Adds the code of `WHILE test DO body END`: behind the body a jump leads back to the test.
+// Adds the code of `WHILE test DO body END`: after the body a jump leads back to the test.
 #[cycle(statement)]
 fn add_loop(unit: &B0Unit, test: &Form, body: &Sub, code: &mut Vec<Inst>) -> Result<(), Memory>
     requires ready { IsReady unit.now }

@@ -19,7 +19,7 @@ use Rattle.bk_ground.specs.Sight.{level_of, operation_of, no_variable, outer_sco
 abbrev pub with_first : List RawTyped → RawTyped → List RawTyped
 with_first firsts x = cond (list_any (λ y. bytes_eq x.name.text y.name.text) firsts) firsts (firsts ++ x ∷ [])
 
--- the first name with each text, in order, behind these
+-- the first name with each text, in order, after these
 abbrev pub first_of_each : List RawTyped → List RawTyped → List RawTyped
 first_of_each firsts [] = firsts
 first_of_each firsts (x ∷ xs) = first_of_each (with_first firsts x) xs
@@ -32,10 +32,11 @@ brought s = first_of_each [] (script_names s)
 abbrev pub is_in_scope : List (List ℕ × ℕ) → List ℕ → Bool
 is_in_scope scope text = list_any (λ p. bytes_eq p.0 text) scope
 
--- what the script's component and operation have in sight: variables, then outputs and inputs
+-- what the script's component and operation have in scope: variables, then outputs and inputs
 abbrev pub own_variables : Table → Development → RawScript → List (List ℕ × ℕ)
 own_variables table dev s = outer_scope table dev (level_of dev s.name)
 
+-- the inputs and outputs that the script's obligation speaks of
 abbrev pub own_parameters : Table → Development → RawScript → List (List ℕ × ℕ)
 own_parameters table dev s = parameter_scope table dev (level_of dev s.name) (operation_of dev s.name)
 
@@ -44,6 +45,7 @@ own_parameters table dev s = parameter_scope table dev (level_of dev s.name) (op
 abbrev pub new_over : List (List ℕ × ℕ) → List RawTyped → List RawTyped
 new_over own xs = filter (λ x. not (is_in_scope own x.name.text)) xs
 
+-- the names that the script brings and that are no inputs or outputs
 abbrev pub new_names : Table → Development → RawScript → List RawTyped
 new_names table dev s = new_over (own_parameters table dev s) (brought s)
 
@@ -60,6 +62,7 @@ type_scope table dev s = record { max = int_max dev; names = own_variables table
 abbrev pub type_in : Table → ScopeNames → RawTyped → Option ValueType
 type_in table scope x = type_read (names_in table scope) x.ty
 
+-- the type of a name that the script brings
 abbrev pub type_of : Table → Development → RawScript → RawTyped → Option ValueType
 type_of table dev s x = type_in table (type_scope table dev s) x
 
@@ -92,7 +95,7 @@ abbrev pub numbered : (RawTyped → Option ValueType) → ℕ → List RawTyped 
 numbered typed n [] = []
 numbered typed n (x ∷ xs) = (x.name.text, number_of n (typed x)) ∷ numbered typed (next_number n (typed x)) xs
 
--- the new names stand behind all others
+-- the new names stand after all others
 abbrev pub script_scope : Table → Development → RawScript → ScopeNames
 script_scope table dev s = record {
   max = int_max dev;

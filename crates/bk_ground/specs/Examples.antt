@@ -63,16 +63,19 @@ with_lower = record with_input { extents = (0, 4) ∷ (1, 6) ∷ [] }
 abbrev pub resetting : RawScript
 resetting = fixing (Letters (codes "Counter") ∷ Letters (codes "reset") ∷ Numeral 1 ∷ []) (typed (codes "c") written_integer ∷ typed (codes "e") (written_power (written_set (codes "k"))) ∷ [])
 
--- Counter.get.1 in it: no input is in sight
+-- Counter.get.1 in it: no input is in scope
 abbrev pub getting : RawScript
 getting = fixing (Letters (codes "Counter") ∷ Letters (codes "get") ∷ Numeral 1 ∷ []) []
 
+-- what lies around a script of the counter's implementation
 abbrev pub around_below : Around
 around_below = around_script counter.table counter below
 
+-- what lies around a script of an operation with an input
 abbrev pub around_reset : Around
 around_reset = around_script with_input.table with_input resetting
 
+-- small scripts, names and rules with what they stand for
 pub record GroundingExamples : Type 0 where
   -- ---- names
   pub its_level : level_of counter below.name ≡ Some 1
@@ -82,7 +85,7 @@ pub record GroundingExamples : Type 0 where
   pub wide_below : (widened counter.table counter below).variables ≡ counter.table.variables ++ record { text = codes "u"; of_type = int_type } ∷ []
   -- n$0, n$1, r$0, r$1, u, and w, which means nothing
   pub scope_below : (script_scope counter.table counter below).names ≡ (codes "n$0", 0) ∷ (codes "n$1", 1) ∷ (codes "r$0", 2) ∷ (codes "r$1", 3) ∷ (codes "u", 4) ∷ (codes "w", 4294967295) ∷ []
-  -- at the machine's level nothing of the implementation is in sight
+  -- at the machine's level nothing of the implementation is in scope
   pub scope_above : (script_scope counter.table counter above).names ≡ (codes "n$0", 0) ∷ (codes "r$0", 2) ∷ []
   -- an input that is brought is no new name; an element's name is new, and its type is a set of elements of k
   pub new_reset : map (λ x. x.name.text) (new_names with_input.table with_input resetting) ≡ codes "e" ∷ []

@@ -12,7 +12,7 @@ IsMeaning {A} Means o = MatchOption o ((x : A) → Means x → ⊥) Means
 abbrev pub in_set : SetEntry → List ℕ → Option Bool
 in_set e text = cond (bytes_eq e.name text) (Some true) (cond (list_any (λ x. bytes_eq x text) e.elements) (Some false) None)
 
--- the set, where the text is its name; else what is found behind it, where the text is no element's either
+-- the set, where the text is its name; else what is found after it, where the text is no element's either
 abbrev pub set_or : ℕ → Option Bool → Option ℕ → Option ℕ
 set_or s (Some true) rest = Some s
 set_or s (Some false) rest = None

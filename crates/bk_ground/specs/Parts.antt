@@ -28,6 +28,7 @@ pub record Around : Type 0 where
 abbrev pub NumberMeans : ℕ → ℕ → Type 0
 NumberMeans written n = (n ≡ written) × (written < 2 ^ 32)
 
+-- each written number means the number beside it
 abbrev pub NumbersMean : List ℕ → Vec ℕ → Type 0
 NumbersMean written ns = AllZip NumberMeans written ns.items
 
@@ -35,6 +36,7 @@ NumbersMean written ns = AllZip NumberMeans written ns.items
 abbrev pub TermMeans : Around → RawTree → Formula → Type 0
 TermMeans around tree f = (formula_in around.table around.scope tree).answer ≡ Some f
 
+-- each written term means the formula beside it
 abbrev pub TermsMean : Around → List RawTree → Vec Formula → Type 0
 TermsMean around trees fs = AllZip (TermMeans around) trees fs.items
 
@@ -44,6 +46,7 @@ pub record NameMeans (around : Around) (x : RawTyped) (n : ℕ) : Type 0 where
   pub meant : found 0 (names_in around.table around.scope) x.name.text ≡ seen (variable n) of_type
   pub typed : type_read (names_in around.table around.scope) x.ty ≡ Some of_type
 
+-- each written name means the variable beside it
 abbrev pub NamesMean : Around → List RawTyped → Vec ℕ → Type 0
 NamesMean around xs ns = AllZip (NameMeans around) xs ns.items
 
@@ -64,22 +67,27 @@ LineMeans (quotient k g) (Div fact by) = NumberMeans k fact × (by ≡ pos g) ×
 LineMeans _ _ = ⊥
 
 -- ---- parts
+-- the part is a number that means this one
 abbrev pub NumberPart : RulePart → ℕ → Type 0
 NumberPart (part_number i) n = NumberMeans i n
 NumberPart _ n = ⊥
 
+-- the part is a term that means this formula
 abbrev pub TermPart : Around → RulePart → Formula → Type 0
 TermPart around (part_term t) f = TermMeans around t f
 TermPart around _ f = ⊥
 
+-- the part is a list of terms that mean these formulas
 abbrev pub TermsPart : Around → RulePart → Vec Formula → Type 0
 TermsPart around (part_terms ts) fs = TermsMean around ts fs
 TermsPart around _ fs = ⊥
 
+-- the part is a list of names that mean these variables
 abbrev pub NamesPart : Around → RulePart → Vec ℕ → Type 0
 NamesPart around (part_typed xs) ns = NamesMean around xs ns
 NamesPart around _ ns = ⊥
 
+-- the part is a place that means this one
 abbrev pub PlacePart : RulePart → Place → Type 0
 PlacePart (part_place p) place = PlaceMeans p place
 PlacePart _ place = ⊥
@@ -101,14 +109,17 @@ CertificatePart (part_certificate ks ls) p = NumbersMean ks p.0 × AllZip LineMe
 CertificatePart _ p = ⊥
 
 -- ---- the parts of a rule: none, one, or two
+-- the rule has no part
 abbrev pub NoParts : List RulePart → Type 0
 NoParts [] = Unit {0}
 NoParts _ = ⊥
 
+-- the rule has one part, which means this
 abbrev pub One : {A : Type 0} → (RulePart → A → Type 0) → List RulePart → A → Type 0
 One P (p ∷ []) x = P p x
 One P _ x = ⊥
 
+-- the rule has two parts, which mean these
 abbrev pub Two : {A B : Type 0} → (RulePart → A → Type 0) → (RulePart → B → Type 0) → List RulePart → A × B → Type 0
 Two P Q (p ∷ q ∷ []) x = P p x.0 × Q q x.1
 Two P Q _ x = ⊥

@@ -1,6 +1,7 @@
 -- What a script is for, and what its terms may name: sets, elements, constants and variables of its obligation's level and of those above,
 -- and outputs and inputs of its operation. An obligation's name is that of its component, then that of an
 -- operation or a word for a clause, perhaps wd or chk, and a number, with dots between.
+-- Source: B Language Reference Manual, visibility.
 use Rattle.std.specs.Prelude.{ℕ, zero, suc, List, [], ◌∷◌, ◌++◌, take, drop, map, Option, Some, None, decimal}
 use Rattle.std.specs.List.{filter_map, flat_map, position}
 use Rattle.std.specs.Option.{option_map}
@@ -28,7 +29,7 @@ part_at (p ∷ ps) (suc n) = part_at ps n
 abbrev pub level_of : Development → List NamePart → Option ℕ
 level_of dev name = position (λ l. bytes_eq l.name (part_at name 0)) dev.levels
 
--- the operation that stands behind it
+-- the operation that stands after it
 abbrev pub operation_of : Development → List NamePart → Option ℕ
 operation_of dev name = position (λ h. bytes_eq h.name (part_at name 1)) dev.heads
 
@@ -80,7 +81,7 @@ abbrev pub outer_scope : Table → Development → Option ℕ → List (List ℕ
 outer_scope table dev None = []
 outer_scope table dev (Some k) = hiding (lower_sets dev k) ++ filter_map (entry table) (constants_to dev k ++ variables_to dev k)
 
--- outputs and inputs of the script's operation. They stand behind the others, since of two with one text the last is meant
+-- outputs and inputs of the script's operation. They stand after the others, since of two with one text the last is meant
 abbrev pub parameter_scope : Table → Development → Option ℕ → Option ℕ → List (List ℕ × ℕ)
 parameter_scope table dev None o = []
 parameter_scope table dev (Some k) o = filter_map (entry table) (parameters_to dev k o)

@@ -54,7 +54,7 @@ fn rules_over(
     Ok((rules, wide))
 }
 
-// The variables in sight, and outputs and inputs of the script's operation.
+// The variables in scope, and outputs and inputs of the script's operation.
 fn sights(
     alloc: Global,
     script: &RawScript,

@@ -36,7 +36,7 @@ fn level_named(dev: &Development, text: &[u8]) -> Option<usize>
         .position(|level| level.name.as_bytes() == text)
 }
 
-// The operation that stands in the name behind it.
+// The operation that stands in the name after it.
 pub(crate) fn operation_of(
     alloc: Global,
     dev: &Development,
@@ -123,7 +123,7 @@ fn first(homes: &[Home], count: usize) -> &[Home]
     &homes[..count]
 }
 
-// The sets behind so many.
+// The sets after so many.
 fn behind(sets: &[EnumSet], count: usize) -> &[EnumSet]
     ensures { result.now ≡ drop count sets.now }
 {

@@ -1,4 +1,5 @@
 -- The rewriting of || by copies: S || T becomes @c.(c = x ==> (S ; T with c for x)), with x the variables that S writes.
+-- Source: after the B-Book's rules for ||.
 use Rattle.std.specs.Prelude.{ℕ, suc, ◌+◌, nat_eq, cond, List, [], ◌∷◌, ◌++◌, length}
 use Rattle.std.specs.List.{slice_get, filter_map}
 use Rattle.bk_form.specs.Table.{Table}

@@ -1,4 +1,5 @@
 -- Laws of substitutions, as statements.
+-- Source: B-Book.
 use Rattle.std.specs.Prelude.{◌≡◌, ◌↔◌, ℕ, ℤ, pos, false, [], ◌∷◌, Option, Bool}
 use Rattle.bk_val.specs.Value.{int}
 use Rattle.bk_form.specs.Table.{Table, IsWellFormed}

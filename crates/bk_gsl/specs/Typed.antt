@@ -1,4 +1,5 @@
 -- Substitutions whose formulas type in a table.
+-- Source: B-Book, type checking.
 use Rattle.std.specs.Prelude.{◌≡◌, ℕ, List, [], ◌∷◌, Some}
 use Rattle.bk_val.specs.ValueType.{ValueType, int_type}
 use Rattle.bk_form.specs.Table.{Table, variable_type}

@@ -1,4 +1,5 @@
 -- The variables that a substitution writes.
+-- Source: B-Book.
 use Rattle.std.specs.Prelude.{ℕ, nat_eq, nat_lt, not, cond, List, [], ◌∷◌, ◌++◌}
 use Rattle.std.specs.List.{filter}
 use Rattle.bk_gsl.specs.Substitution.{Substitution, skip, assign, pre, guard, choice, if_else, any, seq, par, assert, becomes_such, loop}

@@ -21,7 +21,7 @@ pub record IsMagicFault (bytes : List ℕ) : Type 0 where
   pub stands : 4 ≤ length bytes
   pub other : take 4 bytes ≢ magic
 
--- behind the first four bytes stands this version, which is not 1
+-- after the first four bytes stands this version, which is not 1
 pub record IsVersionFault (bytes : List ℕ) (version : ℕ) : Type 0 where
   pub rest : List ℕ
   pub is : bytes ≡ magic ++ number w16 version ++ rest
@@ -94,7 +94,7 @@ abbrev pub IsParameterFault : Image → ℕ → ℕ → Parameter → LoadFault 
 IsParameterFault image k at p e =
     ((e ≡ BadSlot at) × (IsKind image p.kind → ⊥)) ⊎ ((e ≡ BadSlot (at + 2)) × (image.cells ≤ p.slot))
 
--- the inputs or the outputs, that stand behind their number
+-- the inputs or the outputs, that stand after their number
 abbrev pub IsParametersFault : Image → ℕ → List Parameter → LoadFault → Type 0
 IsParametersFault image at ps e = IsFaultIn parameter (IsParameterFault image) (at + 2) ps e
 
@@ -115,7 +115,7 @@ IsArrayFault image at base low count e =
     ((e ≡ BadSlot at) × (image.cells < base + count)) ⊎ ((e ≡ BadSlot (at + 4)) × HasIndexOutside (int_max image) low count)
     ⊎ ((e ≡ BadSlot (at + 12)) × (count ≡ 0))
 
--- the operands, which stand behind the opcode; k is the instruction's place in the code, and at is where the opcode stands
+-- the operands, which stand after the opcode; k is the instruction's place in the code, and at is where the opcode stands
 abbrev pub IsOperandFault : Image → ℕ → ℕ → Inst → LoadFault → Type 0
 IsOperandFault image k at (Push n) e = (e ≡ BadSlot (at + 1)) × (IsWithin (int_max image) n → ⊥)
 IsOperandFault image k at (Load slot) e = (e ≡ BadSlot (at + 1)) × (image.cells ≤ slot)
@@ -126,7 +126,7 @@ IsOperandFault image k at (Jump distance) e = (e ≡ BadJump at) × (IsTarget im
 IsOperandFault image k at (JumpZero distance) e = (e ≡ BadJump at) × (IsTarget image (pos k +ℤ distance) → ⊥)
 IsOperandFault image k at _ e = ⊥
 
--- an operand is at fault, or the instruction is the last and control goes on behind it
+-- an operand is at fault, or the instruction is the last and control goes on after it
 abbrev pub IsOneInstFault : Image → ℕ → ℕ → Inst → LoadFault → Type 0
 IsOneInstFault image k at i e =
     IsOperandFault image k at i e ⊎ ((e ≡ BadJump at) × (k + 1 ≡ length image.code) × (IsLeaving i → ⊥))
@@ -135,7 +135,7 @@ IsOneInstFault image k at i e =
 abbrev pub ops_place : Image → ℕ
 ops_place image = 10 + length (sets image.sets) + 2
 
--- where the number of instructions stands, behind the operations
+-- where the number of instructions stands, after the operations
 abbrev pub count_place : Image → ℕ
 count_place image = 10 + length (sets image.sets) + length (entries image.ops)
 

@@ -12,7 +12,7 @@ use Rattle.bk_image.specs.declared.depths.Depth.TheVariants.{Unknown, One, Many}
 use Rattle.bk_image.specs.declared.depths.Depths.{Depths}
 use Rattle.bk_image.specs.Stack.{depth_after, IsAllowed, BreaksRules}
 
--- what is known behind an instruction, from what is known before it
+-- what is known after an instruction, from what is known before it
 abbrev pub after : Inst → Depth → Depth
 after i Unknown = Unknown
 after i (One d) = One (depth_after i d)

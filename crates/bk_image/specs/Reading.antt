@@ -31,11 +31,11 @@ abbrev pub Gives : {X Y : Type 0} → (X → Y) → Result X LoadFault → Resul
 Gives view (Ok x) read = read ≡ Ok (view x)
 Gives view (Err e) read = Fails e read
 
--- a value, and the bytes behind it
+-- a value, and the bytes after it
 abbrev pub Read : Type 0 → Type 0
 Read A = Result (A × List ℕ) LoadFault
 
--- the number of this width with which the bytes begin, most significant byte first, and the bytes behind it; len is the length of the whole file
+-- the number of this width with which the bytes begin, most significant byte first, and the bytes after it; len is the length of the whole file
 unfoldable pub number_at : ℕ → Width → List ℕ → Read ℕ
 number_at len w bytes = if nat_lt (length bytes) (byte_len w) then Err (Short len) else Ok (from_be_bytes w (take (byte_len w) bytes), drop (byte_len w) bytes)
 
@@ -120,7 +120,7 @@ plain_at fault (Some i) bytes = Ok (i, bytes)
 abbrev pub made : {A : Type 0} → (A → Inst) → Read A → Read Inst
 made make read = read >>= λ x. Ok (make x.0, x.1)
 
--- what stands behind an opcode; the fault is for a byte that is none
+-- what stands after an opcode; the fault is for a byte that is none
 unfoldable pub operands_at : ℕ → LoadFault → ℕ → List ℕ → Read Inst
 operands_at len fault n bytes =
     if n == 0x01 then made Push (signed_at len w64 bytes) else
@@ -155,7 +155,7 @@ code_at len bytes = do
   n ← number_at len w32 bytes
   items_at (inst_at len) n.0 n.1
 
--- what stands behind magic and version
+-- what stands after magic and version
 unfoldable pub parts_at : ℕ → List ℕ → Read Image
 parts_at len bytes = do
   cells ← number_at len w32 bytes
@@ -164,7 +164,7 @@ parts_at len bytes = do
   code ← code_at len ops.1
   Ok (record { max = default_max; cells = cells.0; sets = sets.0; ops = ops.0; code = code.0 }, code.1)
 
--- an image, whatever stands behind it
+-- an image, whatever stands after it
 unfoldable pub image_at : ℕ → List ℕ → Read Image
 image_at len bytes = do
   magic ← magic_at len bytes

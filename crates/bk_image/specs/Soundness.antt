@@ -5,7 +5,7 @@ use Rattle.bk_code.specs.declared.image.Image.{Image}
 use Rattle.bk_code.specs.declared.instruction.Inst.{Inst}
 use Rattle.bk_code.specs.Checks.{IsGoodInst, IsLeaving}
 
--- the instruction at a place is good, and is no last one behind which control goes on
+-- the instruction at a place is good, and is no last one after which control goes on
 pub record IsSound (image : Image) (k : ℕ) (i : Inst) : Type 0 where
   pub good : IsGoodInst image k i
   pub last : k + 1 ≡ length image.code → IsLeaving i

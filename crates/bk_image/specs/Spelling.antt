@@ -75,7 +75,7 @@ opcode (Jump distance) = 0x10
 opcode (JumpZero distance) = 0x11
 opcode Ret = 0x12
 
--- the bytes behind it
+-- the bytes after it
 abbrev pub operands : Inst → List ℕ
 operands (Push n) = signed w64 n
 operands (Load slot) = number w32 slot

@@ -8,7 +8,7 @@ use Rattle.bk_code.specs.Checks.{IsRoot, IsOpen, FlowsTo, pops, pushes}
 use Rattle.bk_image.specs.Spelling.{inst as spell_inst}
 use Rattle.bk_image.specs.Faults.{place_of, count_place}
 
--- the depth behind an instruction, from the one before it; it may come out below 0
+-- the depth after an instruction, from the one before it; it may come out below 0
 abbrev pub depth_after : Inst → ℤ → ℤ
 depth_after i d = d -ℤ pos (pops i) +ℤ pos (pushes i)
 

@@ -61,7 +61,7 @@ fn depth_after(inst: Inst, depth: i64) -> i64
     depth - i64::from(pops(inst)) + i64::from(pushes(inst))
 }
 
-// What is known behind an instruction.
+// What is known after an instruction.
 fn after(inst: Inst, depth: Depth) -> Depth
     requires { (d : ℤ) → depth ≡ One d → IsWithin (pos (2 ^ 40)) d }
     ensures { result ≡ progress.after inst depth }

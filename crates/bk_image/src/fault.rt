@@ -31,7 +31,7 @@ pub enum LoadFault {
     /// At the instruction the stack has no depth that is one number, or one that breaks the rules.
     #[error("Stack at {0}")]
     Stack(usize),
-    /// The byte is the first one behind the image.
+    /// The byte is the first one after the image.
     #[error("Extra at {0}")]
     Extra(usize),
     #[error("out of memory")]

@@ -1,6 +1,6 @@
 //! The layout of an image, read from left to right.
 //!
-//! Each function answers what it read and the bytes behind it. `len` is the length of the whole file, where a file that
+//! Each function answers what it read and the bytes after it. `len` is the length of the whole file, where a file that
 //! ends too early is at fault.
 ghost use Rattle.std.specs.Prelude.{◌≡◌, ◌<◌, ◌^◌, length, Some, None};
 ghost use Rattle.std.specs.Int.{w16, w32, w64};

@@ -27,7 +27,7 @@ pub record Piece : Type 0 where
 abbrev pub taken_of : List ℕ → ℕ → List Piece
 taken_of piece n = cond (nat_eq n 0) [] (record { bytes = take n piece; is_whole = nat_eq n (length piece) } ∷ [])
 
--- the pieces with these behind them, where they are told
+-- the pieces with these after them, where they are told
 abbrev pub pieces_with : Option (List Piece) → List Piece → Option (List Piece)
 pieces_with told pieces = option_map (λ old. old ++ pieces) told
 

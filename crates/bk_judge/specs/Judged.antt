@@ -18,7 +18,7 @@ use Rattle.bk_judge.specs.declared.judging.Judge.{Judge}
 abbrev pub typing_by : Judge → Typing
 typing_by j = typing_of j.typing.types.now
 
--- the names in sight
+-- the names in scope
 abbrev pub names_by : Judge → Names
 names_by j = visible_names j.names.now
 
@@ -73,7 +73,7 @@ paired_by j first [] es = []
 paired_by j first (x ∷ xs) (tree_and e es) = term_faults j.typing.max (typing_by j) (names_by j) (type_at (typing_by j) (target (names_by j) x.text)) e ++ paired_by j first xs es
 paired_by j first (x ∷ xs) no_trees = wrong_write first ∷ []
 
--- those of the terms behind the first so many, for which there is no name
+-- those of the terms after the first so many, for which there is no name
 abbrev pub unpaired_by : Judge → ℕ → ℕ → RawTrees → List Fault
 unpaired_by j first n no_trees = []
 unpaired_by j first zero (tree_and e es) = wrong_write first ∷ (term_faults j.typing.max (typing_by j) (names_by j) None e ++ unpaired_by j first zero es)

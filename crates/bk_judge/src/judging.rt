@@ -29,7 +29,7 @@ use bk_sight::types::parts_of;
 use bk_sight::way::Typing;
 
 /// What a substitution is judged by: the types of numbers, the names of the level above, which invariants and variants of
-/// loops see, the names in sight, the numbers that may be written, and the first number of what it binds.
+/// loops see, the names in scope, the numbers that may be written, and the first number of what it binds.
 #[derive(Clone, Copy)]
 pub struct Judge<'a> {
     pub typing: Typing<'a>,
@@ -40,7 +40,7 @@ pub struct Judge<'a> {
 }
 
 impl<'a> Judge<'a> {
-    // The judge of what stands behind a substitution that binds so much.
+    // The judge of what stands after a substitution that binds so much.
     fn behind(self, count: usize) -> Result<Judge<'a>, Memory>
         ensures { IfOk result (λ j. j ≡ record self.entry { first = self.entry.first + count }) }
     {
@@ -308,7 +308,7 @@ impl<'a> Judge<'a> {
         Ok(fault)
     }
 
-    // That of the terms behind the first so many, for which there is no name: the first name is at fault.
+    // That of the terms after the first so many, for which there is no name: the first name is at fault.
     fn unpaired(
         &self,
         first: usize,
@@ -448,7 +448,7 @@ pub fn declared_fault(
     Ok(fault)
 }
 
-// The terms behind the first so many.
+// The terms after the first so many.
 fn terms_behind(count: usize, terms: &[RawTerm]) -> &[RawTerm]
     ensures { result.now ≡ drop count terms.now }
 {

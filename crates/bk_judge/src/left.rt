@@ -75,7 +75,7 @@ pub(crate) fn with_interval(
 
 // ---- faults
 
-// The fault of a written name that is not in sight, or that is none of a variable that may be written.
+// The fault of a written name that is not in scope, or that is none of a variable that may be written.
 fn target_fault(writable: &[Interval], at: usize, target: Target) -> Option<Fault>
     ensures { told result ≡ blame (meant.target_faults (writable_by writable.now) at (target_shown target)) }
 {
@@ -142,7 +142,7 @@ fn is_among(numbers: &[u32], number: u32) -> bool
     false
 }
 
-// The variable of a target, if it is one, goes behind those that were found.
+// The variable of a target, if it is one, goes after those that were found.
 fn push_target(found: &mut Vec<u32>, target: Target) -> Result<(), Memory>
     ensures { OnOk result ((n : ℕ) → among found.new.items n ≡
         among (meant.with_target (target_shown target) found.old.items) n) }
@@ -180,7 +180,7 @@ fn writes(found: &[Write], variable: u32) -> bool
 
 // ---- what is written
 
-// The variables of written names go behind those that were found.
+// The variables of written names go after those that were found.
 fn push_written(
     names: &[Visible<'_>],
     written: &[RawName],
@@ -198,7 +198,7 @@ fn push_written(
     Ok(())
 }
 
-// The one written name's variable goes behind those that were found.
+// The one written name's variable goes after those that were found.
 fn push_write(names: &[Visible<'_>], name: &RawName, found: &mut Vec<Write>) -> Result<(), Memory>
     ensures { OnOk result (writes_shown found.new.items ≡
         writes_shown found.old.items ++ meant.written_names (visible_names names.now) (name.now ∷ [])) }
@@ -210,7 +210,7 @@ fn push_write(names: &[Visible<'_>], name: &RawName, found: &mut Vec<Write>) -> 
     Ok(())
 }
 
-// Of these writes, those of variables that are none of the interval's go behind those that were found.
+// Of these writes, those of variables that are none of the interval's go after those that were found.
 fn push_outside(own: Interval, inside: &[Write], found: &mut Vec<Write>) -> Result<(), Memory>
     ensures { OnOk result (writes_shown found.new.items ≡
         writes_shown found.old.items ++ meant.outside own.first own.count (writes_shown inside.now)) }
@@ -221,7 +221,7 @@ fn push_outside(own: Interval, inside: &[Write], found: &mut Vec<Write>) -> Resu
     Ok(())
 }
 
-// A write goes behind those that were found, unless its variable is one of the interval's.
+// A write goes after those that were found, unless its variable is one of the interval's.
 fn push_unless_own(own: Interval, write: Write, found: &mut Vec<Write>) -> Result<(), Memory>
     ensures { OnOk result (writes_shown found.new.items ≡
         writes_shown found.old.items ++ meant.outside own.first own.count (writes_shown (write ∷ []))) }
@@ -232,7 +232,7 @@ fn push_unless_own(own: Interval, write: Write, found: &mut Vec<Write>) -> Resul
     Ok(())
 }
 
-// The variables that a substitution writes go behind those that were found, each with the place of the name; what is
+// The variables that a substitution writes go after those that were found, each with the place of the name; what is
 // bound has the numbers from this one on.
 #[tactic(auto, using(bk_sight::proofs::SubSizes::parts_are_smaller))]
 #[cycle(written)]

@@ -1,4 +1,4 @@
-//! Faults of the substitutions of a component.
+//! Static checks of the substitutions of a component: the first fault.
 #![tactic(auto)]
 
 pub mod judging;

@@ -1,4 +1,5 @@
 -- Lists of rules: what they leave open, and what is said of them.
+-- Source: B-Book, proof.
 use Rattle.std.specs.Prelude.{◌≡◌, ◌<◌, ◌-◌, ◌^◌, ℕ, min, List, [], ◌∷◌, ◌++◌, take, length, Some}
 use Rattle.bk_form.specs.Table.{Table}
 use Rattle.bk_seq.specs.Paths.{numbered_item}

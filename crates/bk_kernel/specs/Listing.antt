@@ -1,4 +1,5 @@
 -- The cases that a term of a finite type may be in, and induction over the natural numbers.
+-- Source: B-Book, induction.
 use Rattle.std.specs.Prelude.{ℕ, zero, suc, false, true, List, [], ◌∷◌, length, map, Option, Some, None}
 use Rattle.bk_val.specs.ValueType.{ValueType, int_type, bool_type, enum_type, pair_type}
 use Rattle.bk_form.specs.Table.{Table, set_elements}

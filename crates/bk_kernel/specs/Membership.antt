@@ -1,4 +1,5 @@
 -- What the members of comprehensions and lambdas meet.
+-- Source: B-Book, set comprehension.
 use Rattle.std.specs.Prelude.{ℕ, zero, suc, ◌-◌, List, [], ◌∷◌, ◌++◌, Option, Some, None}
 use Rattle.std.specs.Option.{option_map, option_and_then}
 use Rattle.bk_form.specs.Formula.{Formula, btrue, binary, comprehension, lambda, Formulas, formula_and}

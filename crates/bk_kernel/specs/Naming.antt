@@ -1,4 +1,5 @@
 -- Terms for the variables of a binder, and names for them.
+-- Source: B-Book.
 use Rattle.std.specs.Prelude.{ℕ, nat_eq, Bool, true, false, not, ◌&&◌, List, [], ◌∷◌, map}
 use Rattle.std.specs.List.{list_any, list_all}
 use Rattle.bk_val.specs.ValueType.{ValueType}

@@ -1,4 +1,5 @@
 -- What may come for a formula where it stands in a sequent: for each way of rewriting the law at that formula.
+-- Source: after the B-Book.
 use Rattle.std.specs.Prelude.{ℕ, nat_lt, Bool, true, false, ◌&&◌, cond, List, [], ◌∷◌, ◌++◌, map, Option, Some, None, is_some}
 use Rattle.std.specs.Option.{option_map, option_and_then}
 use Rattle.bk_val.specs.ValueType.{ValueType, set_type, pair_type}

@@ -29,7 +29,7 @@ pub record DerivesWider (small large : Table) (rules : List Rule) (s : Sequent) 
   pub types : Types small s
   pub derives : Derives large rules s
 
--- what is derived so is valid without them
+-- what is derived over a table with more variables, as the names of a script are, is valid without them
 abbrev pub DerivedWiderIsValid : Type 0
 DerivedWiderIsValid = (small large : Table) (rules : List Rule) (s : Sequent) → DerivesWider small large rules s → IsValidSequent small s
 

@@ -1,4 +1,5 @@
 -- The rules of proof, as one table: what a rule makes of a sequent, if anything.
+-- Source: after the B-Book's rules of inference.
 use Rattle.std.specs.Prelude.{◌≡◌, ℕ, zero, suc, pos, List, [], ◌∷◌, map, Option, Some, None}
 use Rattle.std.specs.Option.{option_map, option_and_then}
 use Rattle.bk_form.specs.Each.{Each}

@@ -124,7 +124,7 @@ fn sequent_with(alloc: Global, sequent: Sequent, branch: Branch) -> Result<Seque
     })
 }
 
-/// The formulas go behind the others.
+/// The formulas go after the others.
 pub(crate) fn push_all(alloc: Global, forms: &mut Vec<Form>, more: &[Form]) -> Result<(), Memory>
     ensures { OnOk result (forms.new.items ≡ forms.old.items ++ more.now) }
 {

@@ -27,7 +27,7 @@ pub(crate) fn two_types(alloc: Global, first: Ty, second: Ty) -> Result<Vec<Ty>,
     Ok(Vec::from_array(alloc, [first, second])?)
 }
 
-/// The formula goes behind the others.
+/// The formula goes after the others.
 pub(crate) fn append(forms: &mut Vec<Form>, form: Form) -> Result<(), Memory>
     ensures { OnOk result (forms.new.items ≡ forms.old.items ++ form ∷ []) }
 {

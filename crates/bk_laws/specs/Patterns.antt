@@ -25,18 +25,23 @@ an_empty p = p
 abbrev pub number : ℕ → Pattern
 number n = fixed (literal (pos n))
 
+-- btrue
 abbrev pub always : Pattern
 always = fixed btrue
 
+-- bfalse
 abbrev pub never : Pattern
 never = fixed bfalse
 
+-- TRUE or FALSE
 abbrev pub truth_word : Bool → Pattern
 truth_word b = fixed (truth_value b)
 
+-- NATURAL
 abbrev pub naturals : Pattern
 naturals = fixed (named Natural)
 
+-- NATURAL1
 abbrev pub positives : Pattern
 positives = fixed (named Natural1)
 

@@ -92,9 +92,11 @@ pub record Equation : Type 0 where
   pub right : Pattern
   pub sides : List Pattern
 
+-- left and right without a side
 abbrev pub same : Pattern → Pattern → Equation
 same l r = record { left = l; right = r; sides = [] }
 
+-- left and right with sides
 abbrev pub same_if : Pattern → Pattern → List Pattern → Equation
 same_if l r ps = record { left = l; right = r; sides = ps }
 
@@ -102,17 +104,22 @@ same_if l r ps = record { left = l; right = r; sides = ps }
 abbrev pub row_with : ℕ → ℕ → Equation → Row
 row_with name letters q = record { name = name; letters = letters; left = q.left; right = q.right; sides = q.sides }
 
+-- the row of a law with one letter
 abbrev pub row_of_one : ℕ → (Pattern → Equation) → Row
 row_of_one name q = row_with name 1 (q (letter 0))
 
+-- the row of a law with two letters
 abbrev pub row_of_two : ℕ → (Pattern → Pattern → Equation) → Row
 row_of_two name q = row_with name 2 (q (letter 0) (letter 1))
 
+-- the row of a law with three letters
 abbrev pub row_of_three : ℕ → (Pattern → Pattern → Pattern → Equation) → Row
 row_of_three name q = row_with name 3 (q (letter 0) (letter 1) (letter 2))
 
+-- the row of a law with four letters
 abbrev pub row_of_four : ℕ → (Pattern → Pattern → Pattern → Pattern → Equation) → Row
 row_of_four name q = row_with name 4 (q (letter 0) (letter 1) (letter 2) (letter 3))
 
+-- the row of a law with five letters
 abbrev pub row_of_five : ℕ → (Pattern → Pattern → Pattern → Pattern → Pattern → Equation) → Row
 row_of_five name q = row_with name 5 (q (letter 0) (letter 1) (letter 2) (letter 3) (letter 4))

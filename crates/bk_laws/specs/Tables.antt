@@ -47,6 +47,7 @@ made at m n (Two o) = two o (at m) (at n)
 abbrev pub max_depth : ℕ
 max_depth = 8
 
+-- the pattern at a place of the list, btrue where there is none
 abbrev pub made_of : (ℕ → Pattern) → Option Pat → Pattern
 made_of at None = fixed btrue
 made_of at (Some p) = made at p.first p.second (kind_of p.op)

@@ -1,5 +1,6 @@
 -- The laws of arrows and functions: row Mn has the number 300 + n. x, y and z are any terms, f and g relations, S is a set value, A and B are sets or domains,
 -- and o is an empty set.
+-- Source: after the B-Book's laws of functions.
 use Rattle.std.specs.Prelude.{List, [], ◌∷◌}
 use Rattle.bk_form.specs.declared.operator.UnOp.TheVariants.{Not, Dom, Ran, Id, Inverse, Single, Pow}
 use Rattle.bk_form.specs.declared.operator.BinOp.TheVariants.{And, Eq, In, Relations, PartialFunctions, TotalFunctions, PartialInjections, TotalInjections, PartialSurjections, TotalSurjections, Bijections, Union, Inter, Times, DomRes, DomSub, Over, Maps, Apply, Comp}

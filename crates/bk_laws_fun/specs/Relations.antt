@@ -1,5 +1,6 @@
 -- The laws of relations: row Mn has the number 300 + n. x and y are any terms, r, s and t relations, S and T set values, A is a set or a domain,
 -- and o and p are empty sets.
+-- Source: after the B-Book's laws of relations.
 use Rattle.std.specs.Prelude.{List, [], ◌∷◌}
 use Rattle.bk_form.specs.declared.operator.UnOp.TheVariants.{Not, Dom, Ran, Id, Inverse, Single, Pow}
 use Rattle.bk_form.specs.declared.operator.BinOp.TheVariants.{And, Or, Eq, In, PartialFunctions, Union, Inter, Minus, Times, DomRes, RanRes, DomSub, RanSub, Over, Maps, Image, Apply, Comp}

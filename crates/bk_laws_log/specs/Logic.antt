@@ -1,4 +1,5 @@
 -- The laws of logic: row Gn has the number n. P, Q and R are predicates, x and y any terms.
+-- Source: after the B-Book's laws of predicates and equality.
 use Rattle.std.specs.Prelude.{List, true, [], ◌∷◌, false}
 use Rattle.bk_form.specs.declared.operator.UnOp.TheVariants.{Not, BoolOf}
 use Rattle.bk_form.specs.declared.operator.BinOp.TheVariants.{And, Or, Imp, Iff, Eq}

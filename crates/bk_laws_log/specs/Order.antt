@@ -1,4 +1,5 @@
 -- The laws of order and counting: row On has the number 100 + n. a, b, c and q are integers, x is any term, S and T are sets, and o is an empty set.
+-- Source: after the B-Book's laws of numbers, card, min and max.
 use Rattle.std.specs.Prelude.{List, [], ◌∷◌}
 use Rattle.bk_form.specs.declared.operator.UnOp.TheVariants.{Not, Card, Min, Max, Single, Pow}
 use Rattle.bk_form.specs.declared.operator.BinOp.TheVariants.{And, Or, Eq, Lt, Le, In, Union, Inter, Minus, Range, Add, Sub, Mul, Div, Mod, Power}

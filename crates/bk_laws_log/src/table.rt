@@ -24,7 +24,7 @@ pub(crate) fn all_laws() -> Table
     }
 }
 
-// Behind each pattern stands its number, and the formula with the letters a, b, c.
+// After each pattern stands its number, and the formula with the letters a, b, c.
 const PATTERNS: [Pat; 149] = [
     pattern!(op::LETTER, 0), // 0: a
     pattern!(op::NOT, 0), // 1: not(a)

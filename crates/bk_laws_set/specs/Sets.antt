@@ -1,5 +1,6 @@
 -- The laws of sets: row Sn has the number 200 + n. x, y, z and w are any terms, a, b, c and q integers, S, T and U set values, A and B sets or domains,
 -- and o is an empty set.
+-- Source: after the B-Book's laws of membership, inclusion, union, intersection, difference and intervals.
 use Rattle.std.specs.Prelude.{List, [], ◌∷◌}
 use Rattle.bk_form.specs.declared.operator.UnOp.TheVariants.{Not, Single, Pow, Pow1}
 use Rattle.bk_form.specs.declared.operator.BinOp.TheVariants.{And, Or, Eq, Lt, Le, In, Union, Inter, Minus, Times, Maps, Range, Add}

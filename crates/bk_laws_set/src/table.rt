@@ -24,7 +24,7 @@ pub(crate) fn all_laws() -> Table
     }
 }
 
-// Behind each pattern stands its number, and the formula with the letters a, b, c.
+// After each pattern stands its number, and the formula with the letters a, b, c.
 const PATTERNS: [Pat; 106] = [
     pattern!(op::LETTER, 0), // 0: a
     pattern!(op::LETTER, 1), // 1: b

@@ -1,4 +1,4 @@
--- What stands above a component, and the names that it leaves in sight: sets, elements and constants of all levels, and the variables
+-- What stands above a component, and the names that it leaves in scope: sets, elements and constants of all levels, and the variables
 -- of the last.
 use Rattle.std.specs.Prelude.{ℕ, suc, ◌-◌, Bool, true, false, List, [], ◌∷◌, ◌++◌, length, take, Option, None, Some}
 use Rattle.bk_form.specs.Table.{Table, VariableEntry, variable_type, variable_text, empty_table}

@@ -1,4 +1,5 @@
 -- The faults of the formulas in a component's clauses, and declared names without a type.
+-- Source: B Language Reference Manual; the places are this project's.
 use Rattle.std.specs.Prelude.{ℕ, suc, ℤ, Bool, true, false, cond, List, [], ◌∷◌, ◌++◌, Option, None, Some}
 use Rattle.std.specs.Str.{bytes_eq}
 use Rattle.bk_val.specs.ValueType.{ValueType, pair_type, set_type}
@@ -54,7 +55,7 @@ abbrev pub variable_faults : Typing → ℕ → List WrittenVariable → ℕ →
 variable_faults typing at vs n [] = []
 variable_faults typing at vs n (d ∷ ds) = cond (has_type (typing n)) [] (no_type (place_or at (declared_at vs d.text))) ++ variable_faults typing at vs (suc n) ds
 
--- inputs without a type; these are their names in sight, in order
+-- inputs without a type; these are their names in scope, in order
 abbrev pub input_faults : Typing → Names → List RawName → List Fault
 input_faults typing (n ∷ ns) (x ∷ xs) = cond (has_type (type_at typing (target_in n.meaning))) [] (no_type x.at) ++ input_faults typing ns xs
 input_faults typing _ _ = []

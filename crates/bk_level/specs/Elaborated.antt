@@ -68,10 +68,11 @@ old_pairs names n (x ∷ xs) = (number_of (target names x.text), n) ∷ old_pair
 
 -- ---- substitutions
 abbrev mutual
-  -- under names in sight, what is bound having the numbers from n on; invariants and variants of loops see the names above besides
+  -- under names in scope, what is bound having the numbers from n on; invariants and variants of loops see the names above besides
   pub elaborated : ℤ → Typing → Names → Names → ℕ → SubTree → Substitution
   elaborated int_max typing above names n (sub at node) = elaborated_node int_max typing above names n node
 
+  -- the substitution that a written one stands for, by its form
   pub elaborated_node : ℤ → Typing → Names → Names → ℕ → SubNode → Substitution
   elaborated_node int_max typing above names n sub_skip = skip
   elaborated_node int_max typing above names n (sub_assign xs es) = assign (assigned_pairs int_max typing names xs es)

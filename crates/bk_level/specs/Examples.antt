@@ -19,6 +19,7 @@ use Rattle.bk_level.specs.Texts.{name_at, term_at, number, infix_at, up_to, is_i
 abbrev pub to_a : SubTree
 to_a = takes_at 70 v_text a_text
 
+-- v := b, at byte 80
 abbrev pub to_b : SubTree
 to_b = takes_at 80 v_text b_text
 
@@ -26,6 +27,7 @@ to_b = takes_at 80 v_text b_text
 abbrev pub is_a : RawTree
 is_a = infix_at 66 Equal (term_at 66 x_text) (term_at 68 a_text)
 
+-- x = b, at byte 76
 abbrev pub is_b : RawTree
 is_b = infix_at 76 Equal (term_at 76 x_text) (term_at 78 b_text)
 

@@ -1,5 +1,6 @@
 -- What is not B0: what an implementation has that is not B0, the part of the notation that has code. A statement that is none is told by
 -- itself; a formula that is none is told where nothing inside it is none. It is told where no other fault is.
+-- Source: B Language Reference Manual, B0; the places are this project's.
 use Rattle.std.specs.Prelude.{ℕ, suc, ◌+◌, ℤ, pos, ◌-ℤ◌, int_le, Bool, true, false, cond, ◌&&◌, ◌||◌, nat_eq, List, [], ◌∷◌, ◌++◌, length, Option, None, Some}
 use Rattle.bk_val.specs.ValueType.{ValueType, int_type}
 use Rattle.bk_form.specs.ArrayTable.{row_of}
@@ -272,7 +273,7 @@ abbrev pub output_scalars : Executing → ℕ → List RawName → List Fault
 output_scalars x n [] = []
 output_scalars x n (y ∷ ys) = not_executable (is_scalar_option (x.typing n)) y.at ++ output_scalars x (suc n) ys
 
--- inputs that are no scalars; these are their names in sight, in order
+-- inputs that are no scalars; these are their names in scope, in order
 abbrev pub input_scalars : Executing → Names → List RawName → List Fault
 input_scalars x (n ∷ ns) (y ∷ ys) = not_executable (is_scalar_option (type_at x.typing (target_in n.meaning))) y.at ++ input_scalars x ns ys
 input_scalars x _ _ = []

@@ -73,11 +73,12 @@ pub record StartsRight (int_max : ℤ) (dev : Development) (c : Component) : Typ
   pub types : Types (level_below int_max dev c).table (level_made int_max (types_at int_max dev c (plan dev c)) (plan dev c) c).init
   pub stays : StaysIn (names_own (level_below int_max dev c) (plan dev c).level [] []) (names_joined (level_below int_max dev c) (plan dev c).level) (writes_own (level_below int_max dev c) (plan dev c).level []) (level_made int_max (types_at int_max dev c (plan dev c)) (plan dev c) c).init
 
+-- where a component has no fault, its initialisation may stand there
 abbrev pub InitialisationsAreRight : Type 0
 InitialisationsAreRight = (int_max : ℤ) (dev : Development) (c : Component) → IsReady dev → static_faults int_max dev c ≡ [] → StartsRight int_max dev c
 
 -- ---- bodies
--- an operation whose numbers stand behind the level's, and whose inputs have types and are these
+-- an operation whose numbers stand after the level's, and whose inputs have types and are these
 pub record IsPlaced (int_max : ℤ) (dev : Development) (c : Component) (inputs : List ℕ) (o : Placed) : Type 0 where
   pub outputs : (plan dev c).inputs_at ≤ o.outputs_at
   pub binders : o.outputs_at + length o.headed.operation.outputs ≤ o.binders_at
@@ -91,6 +92,7 @@ pub record BodyRight (int_max : ℤ) (dev : Development) (c : Component) (inputs
   pub types : Types (level_below int_max dev c).table (elaborated int_max (types_at int_max dev c (plan dev c)) (plan dev c).upper (body_scope (plan dev c) o) o.binders_at o.headed.operation.body)
   pub stays : StaysIn (names_own (level_below int_max dev c) (plan dev c).level inputs (outputs_of o)) (names_joined (level_below int_max dev c) (plan dev c).level) (writes_own (level_below int_max dev c) (plan dev c).level (outputs_of o)) (elaborated int_max (types_at int_max dev c (plan dev c)) (plan dev c).upper (body_scope (plan dev c) o) o.binders_at o.headed.operation.body)
 
+-- where a component has no fault, the bodies of its operations may stand there
 abbrev pub BodiesAreRight : Type 0
 BodiesAreRight = (int_max : ℤ) (dev : Development) (c : Component) → IsReady dev → clause_faults int_max (types_at int_max dev c (plan dev c)) (plan dev c) c ≡ [] → (inputs : List ℕ) (o : Placed) → IsPlaced int_max dev c inputs o → body_faults int_max dev c (types_at int_max dev c (plan dev c)) (plan dev c) o ≡ [] → BodyRight int_max dev c inputs o
 
@@ -144,7 +146,7 @@ pub record IsNewBody (int_max : ℤ) (dev : Development) (c : Component) (head :
   pub no_faults : body_faults int_max dev c (types_at int_max dev c (plan dev c)) (plan dev c) o ≡ []
   pub no_shapes : shape_faults c.kind false o.headed.operation.body ≡ []
 
--- then it has the machine's header
+-- without faults it has the machine's header, where its outputs have the types of the machine's
 abbrev pub NewBodiesAreBodies : Type 0
 NewBodiesAreBodies = (int_max : ℤ) (dev : Development) (c : Component) → IsReady dev → static_faults int_max dev c ≡ [] →
     (head : Head) (machine : Body) (o : Placed) → IsNewBody int_max dev c head machine o →
@@ -157,6 +159,7 @@ pub record MachineRight (int_max : ℤ) (dev : Development) (c : Component) : Ty
   pub own_inputs : AreDistinct (flat_map (λ h. h.inputs) (plan dev c).heads)
   pub bodies : EachBody (level_below int_max dev c) (plan dev c).level (plan dev c).heads (level_made int_max (types_at int_max dev c (plan dev c)) (plan dev c) c).bodies (level_made int_max (types_at int_max dev c (plan dev c)) (plan dev c) c).bodies
 
+-- what a machine without a fault makes is the first level of a development
 abbrev pub MachinesAreRight : Type 0
 MachinesAreRight = (int_max : ℤ) (dev : Development) (c : Component) → IsReady dev → is_machine c.kind ≡ true → static_faults int_max dev c ≡ [] → MachineRight int_max dev c
 
@@ -166,6 +169,7 @@ pub record LowerRight (int_max : ℤ) (dev : Development) (c : Component) : Type
   pub bodies : EachBody (level_below int_max dev c) (plan dev c).level dev.heads (level_at dev 0).bodies (level_made int_max (types_at int_max dev c (plan dev c)) (plan dev c) c).bodies
   pub shapes : Each (λ (b : Body). MayStandIn c.kind b.sub) (level_made int_max (types_at int_max dev c (plan dev c)) (plan dev c) c).bodies
 
+-- what another component without a fault makes is one more level of a development
 abbrev pub LowersAreRight : Type 0
 LowersAreRight = (int_max : ℤ) (dev : Development) (c : Component) → IsReady dev → IsLawful dev → is_machine c.kind ≡ false → static_faults int_max dev c ≡ [] → LowerRight int_max dev c
 

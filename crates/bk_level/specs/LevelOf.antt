@@ -1,4 +1,5 @@
 -- The level that a component is, below a development: types, the table, homes, the level with its bodies, and values.
+-- Source: B-Book.
 use Rattle.std.specs.Prelude.{ℕ, suc, ℤ, ◌-ℤ◌, pos, int_le, Bool, true, false, cond, ◌&&◌, List, [], ◌∷◌, ◌++◌, length, Option, None, Some}
 use Rattle.bk_val.specs.ValueType.{ValueType}
 use Rattle.bk_form.specs.Formula.{Formula, literal, truth_value, element, btrue}

@@ -1,4 +1,5 @@
 -- Names of a component that stand twice. (Names that a term or a substitution binds are judged where they are read.)
+-- Source: B Language Reference Manual; the places are this project's.
 use Rattle.std.specs.Prelude.{ℕ, suc, cond, List, [], ◌∷◌, ◌++◌}
 use Rattle.bk_dev.specs.Development.{Level, Development}
 use Rattle.bk_raw.specs.declared.term.RawName.{RawName}

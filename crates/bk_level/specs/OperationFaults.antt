@@ -1,4 +1,5 @@
 -- Wrong operations: where substitutions may stand, headers that differ from the machine's, and a missing initialisation.
+-- Source: B Language Reference Manual; the places are this project's.
 use Rattle.std.specs.Prelude.{ℕ, suc, Bool, true, false, cond, not, ◌&&◌, List, [], ◌∷◌, ◌++◌, Option, None, Some}
 use Rattle.std.specs.Str.{bytes_eq}
 use Rattle.bk_dev.specs.declared.kind.Kind.{Kind}

@@ -1,5 +1,6 @@
--- What numbers the names of a component have, and what is in sight where. Constants come first, then variables (those that come from
+-- What numbers the names of a component have, and what is in scope where. Constants come first, then variables (those that come from
 -- above first), inputs at the machine, outputs, what the initialisation binds, and what the bodies bind, in the machine's order.
+-- Source: B Language Reference Manual, visibility; the numbers are this project's.
 use Rattle.std.specs.Prelude.{ℕ, suc, ◌+◌, Bool, true, false, cond, ◌||◌, List, [], ◌∷◌, ◌++◌, length, Option, None, Some}
 use Rattle.std.specs.Str.{bytes_eq}
 use Rattle.bk_form.specs.Role.{bind}
@@ -136,7 +137,7 @@ abbrev pub other_sizes : List Head → List RawOperation → ℕ
 other_sizes hs [] = 0
 other_sizes hs (o ∷ os) = cond (is_headed hs o.name.text) 0 (size_of o) + other_sizes hs os
 
--- an input below is the machine's input of its name; one that the machine's header lacks has a number behind all others, and so no type
+-- an input below is the machine's input of its name; one that the machine's header lacks has a number after all others, and so no type
 abbrev pub inputs_by : ℕ → Names → List RawName → Names
 inputs_by far names [] = []
 inputs_by far names (x ∷ xs) = as_variable x.text (or_else far (variable_named names x.text)) ∷ inputs_by far names xs

@@ -1,4 +1,5 @@
 -- The faults of a written substitution: of names, of formulas and of writes. Where it may stand is asked by itself.
+-- Source: B Language Reference Manual; the places are this project's.
 use Rattle.std.specs.Prelude.{ℕ, suc, ℤ, ◌+◌, Bool, true, false, cond, not, ◌||◌, List, [], ◌∷◌, ◌++◌, length, Option, None, Some}
 use Rattle.std.specs.List.{filter}
 use Rattle.bk_val.specs.ValueType.{ValueType, int_type, pair_type, set_type}
@@ -160,7 +161,7 @@ abbrev pub writable_within : ℕ → ℕ → (ℕ → Bool) → ℕ → Bool
 writable_within n k writable m = among (interval n k) m || writable m
 
 abbrev mutual
-  -- under names in sight, of which some variables may be written; what is bound has the numbers from n on, and invariants and variants
+  -- under names in scope, of which some variables may be written; what is bound has the numbers from n on, and invariants and variants
   -- of loops see the names above besides
   pub sub_faults : ℤ → Typing → Names → Names → (ℕ → Bool) → ℕ → SubTree → List Fault
   sub_faults int_max typing above names writable n (sub at node) = node_faults int_max typing above names writable n node

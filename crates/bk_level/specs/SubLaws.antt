@@ -23,7 +23,7 @@ pub record AreNamesOf (table : Table) (typing : Typing) (above names : Names) : 
   pub names_of : AreOf table names
   pub have_types : AreTyped (typed typing names)
 
--- there a substitution without a fault types in the table
+-- where the types are those of a table, a substitution without a fault types in it
 abbrev pub SubstitutionsType : Type 0
 SubstitutionsType = (int_max : ℤ) (table : Table) (typing : Typing) (above names : Names) → AreNamesOf table typing above names →
     (writable : ℕ → Bool) (n : ℕ) (s : SubTree) → sub_faults int_max typing above names writable n s ≡ [] →
@@ -35,7 +35,8 @@ pub record MayBeSeen (above visible : ℕ → Bool) (higher names : Names) (n : 
   pub seen : AreSeen visible names
   pub below : IsBelow n visible
 
--- there a substitution without a fault names, writes and binds what it may
+-- where the names are variables that may be seen, whose numbers are below the counter, a substitution without a fault names,
+-- writes and binds what it may
 abbrev pub SubstitutionsStay : Type 0
 SubstitutionsStay = (int_max : ℤ) (table : Table) (typing : Typing) (higher names : Names) → AreNamesOf table typing higher names →
     (above visible writable : ℕ → Bool) (n : ℕ) → MayBeSeen above visible higher names n →

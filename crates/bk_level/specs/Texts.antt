@@ -76,9 +76,11 @@ abbrev pub component : ComponentKind → List ℕ → Option RawName → List Ra
 component kind name refines clauses = record { at = 0; kind = kind; name = name_at 8 name; refines = refines; clauses = clauses }
 
 -- ---- the counter
+-- the text n
 abbrev pub n_text : List ℕ
 n_text = 110 ∷ []
 
+-- the text r
 abbrev pub r_text : List ℕ
 r_text = 114 ∷ []
 
@@ -124,33 +126,43 @@ counter_made = record {
 }
 
 -- ---- a set, a constant and a concrete variable
+-- the text S
 abbrev pub s_text : List ℕ
 s_text = 83 ∷ []
 
+-- the text a
 abbrev pub a_text : List ℕ
 a_text = 97 ∷ []
 
+-- the text b
 abbrev pub b_text : List ℕ
 b_text = 98 ∷ []
 
+-- the text c
 abbrev pub c_text : List ℕ
 c_text = 99 ∷ []
 
+-- the text t
 abbrev pub t_text : List ℕ
 t_text = 116 ∷ []
 
+-- the text u
 abbrev pub u_text : List ℕ
 u_text = 117 ∷ []
 
+-- the text v
 abbrev pub v_text : List ℕ
 v_text = 118 ∷ []
 
+-- the text x
 abbrev pub x_text : List ℕ
 x_text = 120 ∷ []
 
+-- the text f
 abbrev pub f_text : List ℕ
 f_text = 102 ∷ []
 
+-- the text step
 abbrev pub step_text : List ℕ
 step_text = 115 ∷ 116 ∷ 101 ∷ 112 ∷ []
 
@@ -301,16 +313,19 @@ code_with init values = code_of [] init values
 abbrev pub code_doing : SubTree → RawComponent
 code_doing init = code_with init (c_is (number 34 5) ∷ [])
 
--- a deferred set D of this size above, with M
+-- D
 abbrev pub d_text : List ℕ
 d_text = 68 ∷ []
 
+-- a deferred set D of this size
 abbrev pub deferred : ℕ → SetEntry
 deferred size = record { name = d_text; elements = []; size = size }
 
+-- the development with that set
 abbrev pub deferring : ℕ → Development → Development
 deferring size dev = record dev { table = with_set dev.table (deferred size); sets = dev.sets ++ deferred size ∷ [] }
 
+-- M, with that set
 abbrev pub above_code : ℕ → Option Development
 above_code size = Some (deferring size (below None machine_text))
 

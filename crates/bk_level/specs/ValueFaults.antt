@@ -1,4 +1,5 @@
 -- Wrong values: the values of constants, and the sizes of deferred sets.
+-- Source: B Language Reference Manual; the places are this project's.
 use Rattle.std.specs.Prelude.{ℕ, suc, nat_eq, ℤ, Bool, true, false, cond, not, ◌&&◌, ◌||◌, List, [], ◌∷◌, ◌++◌, Option, None, Some}
 use Rattle.bk_form.specs.Table.{SetEntry}
 use Rattle.bk_gsl.specs.State.{among}

@@ -1,6 +1,7 @@
 -- How the names that a component declares come to their types. Each number has a way to its type, and as many rounds as there are
 -- numbers follow all ways: so a name may be typed by one that is typed later in the text. A type that a name has come to stays; names
 -- that only wait for each other have none.
+-- Source: B Language Reference Manual, typing.
 use Rattle.std.specs.Prelude.{ℕ, zero, suc, ℤ, ◌+◌, ◌-◌, cond, nat_lt, List, [], ◌∷◌, ◌++◌, length, Option, None, Some}
 use Rattle.std.specs.List.{slice_get}
 use Rattle.bk_val.specs.ValueType.{ValueType}
@@ -16,7 +17,7 @@ use Rattle.bk_level.specs.Components.{or_next}
 use Rattle.bk_level.specs.Typings.{Typing, numbered, numbered_old, typed, target, is_variable, variable_named, outcome_of}
 use Rattle.bk_level.specs.Binders.{binder_count}
 
--- where a type comes from, with the names in sight there
+-- where a type comes from, with the names in scope there
 pub data Way : Type 0 where
   -- from nowhere
   no_way : Way
@@ -70,7 +71,7 @@ among_terms names m [] es = None
 among_terms names m (x ∷ xs) (tree_and e es) = cond (is_variable m (target names x.text)) (Some (by_term names e)) (among_terms names m xs es)
 among_terms names m (x ∷ xs) no_trees = cond (is_variable m (target names x.text)) (Some no_way) (among_terms names m xs no_trees)
 
--- of x, y :(P), with the names in sight in P
+-- of x, y :(P), with the names in scope in P
 abbrev pub among_such : Names → Names → ℕ → List RawName → RawTree → Option Way
 among_such names inner m [] p = None
 among_such names inner m (x ∷ xs) p = cond (is_variable m (target names x.text)) (Some (by_conjuncts inner (x ∷ []) 0 p)) (among_such names inner m xs p)

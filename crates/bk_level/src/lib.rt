@@ -1,4 +1,4 @@
-//! Levels of a development, as they are written.
+//! Static semantics of a component: which level of a development it makes, or which fault is reported.
 #![tactic(auto)]
 
 pub mod laws;

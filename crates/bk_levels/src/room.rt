@@ -28,7 +28,7 @@ pub(crate) fn count_all(alloc: Global, above: Above<'_>, added: &Added) -> Resul
     Ok(())
 }
 
-// The number behind the copies that flattening makes in these levels; past 32 bits it is `Memory`.
+// The number after the copies that flattening makes in these levels; past 32 bits it is `Memory`.
 #[tactic(auto, using(crate::proofs::Rooms::steps))]
 fn behind_levels(alloc: Global, first: u32, levels: &[Level]) -> Result<u32, Memory>
     ensures { IfOk result (λ number. number ≡ first + length (copied_in_levels levels.now)) }
@@ -40,7 +40,7 @@ fn behind_levels(alloc: Global, first: u32, levels: &[Level]) -> Result<u32, Mem
     Ok(number)
 }
 
-// Behind those of one level.
+// After those of one level.
 #[tactic(auto, using(crate::proofs::Rooms::steps))]
 fn behind_level(alloc: Global, first: u32, level: &Level) -> Result<u32, Memory>
     ensures { IfOk result (λ number. number ≡ first + length (copied_in_level level.now)) }
@@ -49,7 +49,7 @@ fn behind_level(alloc: Global, first: u32, level: &Level) -> Result<u32, Memory>
     behind_bodies(alloc, number, &level.bodies)
 }
 
-// Behind those of several bodies.
+// After those of several bodies.
 #[tactic(auto, using(crate::proofs::Rooms::steps))]
 fn behind_bodies(alloc: Global, first: u32, bodies: &[Body]) -> Result<u32, Memory>
     ensures { IfOk result (λ number. number ≡ first + length (copied_in_bodies bodies.now)) }
@@ -61,7 +61,7 @@ fn behind_bodies(alloc: Global, first: u32, bodies: &[Body]) -> Result<u32, Memo
     Ok(number)
 }
 
-// Behind those of a substitution.
+// After those of a substitution.
 #[tactic(auto, using(crate::proofs::Rooms::steps))]
 fn behind(alloc: Global, first: u32, sub: &Sub) -> Result<u32, Memory>
     ensures { IfOk result (λ number. number ≡ first + length (copied sub.now)) }

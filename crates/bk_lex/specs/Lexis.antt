@@ -1,5 +1,6 @@
 -- The tokens of the B notation, and how a text is cut into them.
 -- Texts are lists of bytes in UTF-8. What an identifier is comes from Unicode Standard Annex 31 (XID_Start, XID_Continue).
+-- Source: B Language Reference Manual, and for identifiers Unicode Standard Annex 31.
 use Rattle.std.specs.Prelude.{◌≡◌, ◌≢◌, ℕ, pos, ◌+◌, ◌-◌, ◌*◌, ◌^◌, ◌≤◌, ◌<◌, Bool, true, false, not, cond, ◌&&◌, ◌||◌, nat_eq, nat_le, IsTrue, List, [], ◌∷◌, ◌++◌, length, Option, Some, None, codes}
 use Rattle.std.specs.List.{list_all}
 use Rattle.std.specs.Str.{bytes_eq, encode_utf8_all, IsUtf8}
@@ -29,7 +30,7 @@ abbrev pub is_numeral : List ℕ → Bool
 is_numeral [] = false
 is_numeral (c ∷ cs) = is_digit c && list_all is_digit cs
 
--- the number that decimal digits stand for, behind digits that stand for n
+-- the number that decimal digits stand for, after digits that stand for n
 abbrev pub numeral_from : ℕ → List ℕ → ℕ
 numeral_from n [] = n
 numeral_from n (c ∷ cs) = numeral_from (10 * n + (c - 48)) cs
@@ -39,11 +40,11 @@ abbrev pub number_in : ℕ → List (List ℕ) → List ℕ → Option ℕ
 number_in n [] text = None
 number_in n (first ∷ others) text = cond (bytes_eq text first) (Some n) (number_in (n + 1) others text)
 
--- signs are numbered from 0, words behind them
+-- signs are numbered from 0, words after them
 abbrev pub sign_number : List ℕ → Option ℕ
 sign_number text = number_in 0 sign_texts text
 
--- the number of a reserved word; the first is 57, behind the signs
+-- the number of a reserved word; the first is 57, after the signs
 abbrev pub word_number : List ℕ → Option ℕ
 word_number text = number_in 57 word_texts text
 
@@ -98,7 +99,7 @@ ends_line (c ∷ cs) = nat_eq c 10
 abbrev pub stays_in_line : ℕ → Bool
 stays_in_line c = not (nat_eq c 10)
 
--- this stands in front of a text. A comment ends at the first */ behind its /*, or with its line
+-- this stands in front of a text. A comment ends at the first */ after its /*, or with its line
 abbrev pub IsGap : Gap → List ℕ → Type 0
 IsGap (blank c) after = IsTrue (is_blank c)
 IsGap (block body) after = (front back : List ℕ) → body ++ codes "*/" ≡ front ++ codes "*/" ++ back → length body ≤ length front
@@ -116,7 +117,7 @@ pub record NoComment (text : List ℕ) : Type 0 where
 
 -- ---- how a text is cut
 -- the text begins with a token of the kind, written as long as any that it begins with and not the begin of a comment, and
--- the rest stands behind it
+-- the rest stands after it
 pub record BeginsWith (kind : TokenKind) (text rest : List ℕ) : Type 0 where
   pub written : List ℕ
   pub spelling : IsWritten kind written
@@ -124,8 +125,8 @@ pub record BeginsWith (kind : TokenKind) (text rest : List ℕ) : Type 0 where
   pub longest : (other : TokenKind) (more after : List ℕ) → IsWritten other more → text ≡ more ++ after → length more ≤ length written
   pub comment : NoComment text
 
--- the text's front is cut into these tokens, with only blanks and comments between and behind them, and the rest stands
--- behind that. The whole text, of which this is the end, has total bytes: where so many bytes are left, there is its place
+-- the text's front is cut into these tokens, with only blanks and comments between and after them, and the rest stands
+-- after that. The whole text, of which this is the end, has total bytes: where so many bytes are left, there is its place
 abbrev pub Cut : ℕ → List ℕ → List Token → List ℕ → Type 0
 Cut total text [] rest = (gaps : List Gap) × AreGaps gaps text rest
 Cut total text (token ∷ tokens) rest =

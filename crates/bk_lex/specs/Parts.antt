@@ -29,11 +29,11 @@ pub record IsFirstNumeral (text digits rest : List ℕ) : Type 0 where
   pub numeral : is_numeral digits ≡ true
   pub ends : begins is_digit rest ≡ false
 
--- the same behind $
+-- the same after $
 abbrev pub IsFirstDollar : List ℕ → List ℕ → List ℕ → Type 0
 IsFirstDollar text digits rest = (numeral : List ℕ) × (text ≡ 36 ∷ numeral) × IsFirstNumeral numeral digits rest
 
--- the text begins with no $ that has digits behind it
+-- the text begins with no $ that has digits after it
 abbrev pub BeginsNoDollar : List ℕ → Type 0
 BeginsNoDollar text = (digits after : List ℕ) → is_numeral digits ≡ true → text ≢ 36 ∷ (digits ++ after)
 
@@ -67,11 +67,11 @@ pub record NoGap (text : List ℕ) : Type 0 where
   pub no_gap : (gap : Gap) (after : List ℕ) → IsGap gap after → text ≢ gap_text gap ++ after
   pub comment : NoComment text
 
--- the rest is what stands behind all the blanks and comments in front
+-- the rest is what stands after all the blanks and comments in front
 abbrev pub IsBehindGaps : List ℕ → List ℕ → Type 0
 IsBehindGaps text rest = (gaps : List Gap) × AreGaps gaps text rest × NoGap rest × (length rest ≤ length text) × IsUtf8 rest
 
--- a comment that is not closed, behind blanks and comments
+-- a comment that is not closed, after blanks and comments
 abbrev pub IsGapFault : ℕ → List ℕ → LexFault → Type 0
 IsGapFault total text (NotUtf8 place) = ⊥
 IsGapFault total text (BadChar place) = ⊥
@@ -89,7 +89,7 @@ IsTokenFault text start (NumberTooWide place) = (place ≡ start) × BeginsTooWi
 IsTokenFault text start (Limit place) = ⊥
 IsTokenFault text start Memory = Unit {0}
 
--- a token that fits, and what stands behind it
+-- a token that fits, and what stands after it
 abbrev pub IsFirstToken : TokenKind → List ℕ → List ℕ → Type 0
 IsFirstToken kind text rest = BeginsWith kind text rest × Fits kind
 
@@ -101,7 +101,7 @@ NoSignOfLength count text = (op : ℕ) (written after : List ℕ) → length wri
 abbrev pub IsAnswer : List ℕ → List Token → Type 0
 IsAnswer text tokens = AreTokens text tokens × (length tokens ≤ MOST_TOKENS)
 
--- the first bytes, so many, are characters that continue an identifier, and no such one stands behind them
+-- the first bytes, so many, are characters that continue an identifier, and no such one stands after them
 pub record ContinuesUpTo (text : List ℕ) (count : ℕ) : Type 0 where
   pub boundary : IsCharBoundary text count
   pub characters : List ℕ

@@ -38,7 +38,7 @@ fn is_blank(c: u8) -> bool
     matches!(c, b' ' | b'\t' | b'\n' | b'\r')
 }
 
-/// What stands behind the comment that the text begins with, if it begins with one.
+/// What stands after the comment that the text begins with, if it begins with one.
 fn after_comment(text: &str, total: usize) -> Result<Option<&str>, LexFault>
     requires { length text.now ≤ total }
     ensures { MatchResult result

@@ -81,7 +81,7 @@ fn first_token<'a>(
     Ok((TokenKind::Sign(op), rest))
 }
 
-/// The token that begins with this identifier, and what stands behind it.
+/// The token that begins with this identifier, and what stands after it.
 fn first_name<'a>(
     alloc: Global,
     tables: &Tables,

@@ -53,7 +53,7 @@ fn is_digit(c: u8) -> bool
     c.is_ascii_digit()
 }
 
-/// The digits behind the `$` that the text begins with, and the rest.
+/// The digits after the `$` that the text begins with, and the rest.
 pub(crate) fn first_dollar(text: &str) -> Option<(&[u8], &str)>
     ensures { MatchOption result (BeginsNoDollar text.now) (λ pair. IsFirstDollar text.now pair.0.now pair.1.now) }
 {

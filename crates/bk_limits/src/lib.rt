@@ -55,7 +55,7 @@ pub const MOST_STEPS_OF_LINE: u64 = 10_000_000;
 /// The fuel: how many steps the initialisation, and each call, may take where nothing else is asked for.
 pub const FUEL: u64 = 1_000_000;
 
-/// The fuel as it is written behind `--fuel`.
+/// The fuel as it is written after `--fuel`.
 pub const FUEL_TEXT: &str = "1000000";
 
 /// The most fuel that may be asked for, in steps: 2 ^ 40.

@@ -17,7 +17,7 @@ use Rattle.bk_made.specs.declared.elaborated.Elaboration.{Elaboration}
 abbrev pub types_by : Elaboration → Typing
 types_by e = typing_of e.typing.types.now
 
--- the place behind a substitution, which has bound its numbers
+-- the place after a substitution, which has bound its numbers
 abbrev pub behind_by : Elaboration → SubTree → Elaboration
 behind_by e s = record e { first = e.first + binder_count s }
 

@@ -30,7 +30,7 @@ use bk_sight::way::Typing;
 use std::alloc::Global;
 
 /// What a substitution is read by: the types of numbers, the names of the level above, which invariants and variants of
-/// loops see, the names in sight, and the first number of what it binds.
+/// loops see, the names in scope, and the first number of what it binds.
 #[derive(Clone, Copy)]
 pub struct Elaboration<'a> {
     pub typing: Typing<'a>,
@@ -40,7 +40,7 @@ pub struct Elaboration<'a> {
 }
 
 impl<'a> Elaboration<'a> {
-    // The place behind a substitution, which has bound its numbers.
+    // The place after a substitution, which has bound its numbers.
     fn behind(self, sub: &RawSub) -> Result<Elaboration<'a>, Memory>
         ensures { IfOk result (λ e. e ≡ behind_by self.entry sub.now) }
     {
@@ -104,7 +104,7 @@ impl<'a> Elaboration<'a> {
         }
     }
 
-    // Two substitutions, the second behind the first.
+    // Two substitutions, the second after the first.
     #[tactic(auto, using(bk_sight::proofs::SubSizes::parts_are_smaller, crate::proofs::Branching::branch_whole))]
     #[cycle(elaborating)]
     fn both(&self, left: &RawSub, right: &RawSub) -> Result<(Sub, Sub), Memory>
@@ -173,7 +173,7 @@ impl<'a> Elaboration<'a> {
         self.choice_by(&branch.condition, &branch.body, others, last)
     }
 
-    // The choice of what is read so far and these, joined to the left. They stand behind `previous`.
+    // The choice of what is read so far and these, joined to the left. They stand after `previous`.
     #[tactic(auto, using(bk_sight::proofs::SubSizes::parts_are_smaller, crate::proofs::Branching::branch_whole))]
     #[cycle(elaborating)]
     fn choices(&self, before: Sub, previous: &RawSub, choices: &[RawSub]) -> Result<Sub, Memory>

@@ -1,4 +1,4 @@
-//! What a component adds to a development.
+//! Elaboration of substitutions, and of the level that a component adds to a development.
 #![tactic(auto)]
 
 mod elaborated;

@@ -138,7 +138,7 @@ fn links(alloc: Global, plan: &Plan<'_>) -> Result<Vec<(u32, u32)>, Memory>
     Ok(found)
 }
 
-// The variable with the one of its name above goes behind the links that were found, where there is one.
+// The variable with the one of its name above goes after the links that were found, where there is one.
 fn push_link(found: &mut Vec<(u32, u32)>, number: u32, higher: Option<u32>) -> Result<(), Memory>
     ensures { OnOk result (found.new.items ≡ found.old.items ++ planned.link_of number higher []) }
 {
@@ -199,7 +199,7 @@ pub fn new_texts(
     Ok(found)
 }
 
-// The names of constants go behind the texts that were found.
+// The names of constants go after the texts that were found.
 fn push_constant_texts(
     alloc: Global,
     found: &mut Vec<Text>,
@@ -280,7 +280,7 @@ fn push_bound_texts(
     Ok(())
 }
 
-// Names at a level go behind the texts that were found.
+// Names at a level go after the texts that were found.
 fn push_at_level(
     alloc: Global,
     found: &mut Vec<Text>,
@@ -314,7 +314,7 @@ pub fn new_homes(
     Ok(found)
 }
 
-// The homes of variables of a level go behind those that were found.
+// The homes of variables of a level go after those that were found.
 fn push_variable_homes(
     found: &mut Vec<Home>,
     level: u32,
@@ -352,7 +352,7 @@ fn home_of(level: u32, variable: Declared<'_>) -> Home
     Home::Abstract(level)
 }
 
-// So many times the same home goes behind those that were found.
+// So many times the same home goes after those that were found.
 fn push_homes(found: &mut Vec<Home>, home: Home, count: usize) -> Result<(), Memory>
     ensures { OnOk result (found.new.items ≡ found.old.items ++ replicate count home) }
 {

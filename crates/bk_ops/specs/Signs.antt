@@ -1,4 +1,5 @@
 -- The signs of the notation.
+-- Source: B Language Reference Manual.
 use Rattle.std.specs.Prelude.{ℕ, List, [], ◌∷◌, codes}
 
 -- in the order of their numbers

@@ -1,4 +1,5 @@
 -- The words of the notation: those of clauses, those of formulas, and those that are reserved.
+-- Source: B Language Reference Manual.
 use Rattle.std.specs.Prelude.{ℕ, List, [], ◌∷◌, codes}
 
 -- in the order of their numbers

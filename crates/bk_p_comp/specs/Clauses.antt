@@ -12,11 +12,11 @@ use Rattle.bk_p_expr.specs.Fronts.{Longest, Nothing}
 use Rattle.bk_p_comp.specs.Parts.{AreKept, IsComplete}
 use Rattle.bk_p_comp.specs.declared.header.Headed.{Headed}
 
--- behind these clauses of a component of the kind, this one may be the next, whatever additions it has
+-- after these clauses of a component of the kind, this one may be the next, whatever additions it has
 abbrev pub CompleteFollow : ComponentKind → List RawClause → RawClause → List Token → Type 0
 CompleteFollow kind done c tokens = Clause c tokens × (is_allowed kind c.word ≡ true) × IsComplete c.parts × All (λ n. clause_number c.word ≢ n) (map (λ d. clause_number d.word) done)
 
--- behind the first clauses these stand one after another, each the longest that may be the next one there, and behind them
+-- after the first clauses these stand one after another, each the longest that may be the next one there, and after them
 -- none may
 abbrev pub ReadOn : ComponentKind → List RawClause → List RawClause → List Token → List Token → Type 0
 ReadOn kind done [] tokens rest = (tokens ≡ rest) × Nothing (CompleteFollow kind done) tokens

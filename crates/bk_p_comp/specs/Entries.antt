@@ -22,11 +22,11 @@ CompleteSet s tokens = Set s tokens × HasElements s
 abbrev pub titled : OperationTitle → SubTree → RawOperation
 titled t s = record { outputs = t.outputs.items; name = t.name; inputs = t.inputs.items; body = s }
 
--- what stands behind its title: = and the body
+-- what stands after its title: = and the body
 abbrev pub Bodied : SubTree → List Token → Type 0
 Bodied s = JustSign EQUAL ⌢ Sub s 1
 
--- the outputs in front: the names with <-- behind them, or none, where the names have none behind them
+-- the outputs in front: the names with <-- after them, or none, where the names have none after them
 abbrev pub IsOutputs : List Token → List RawName → List Token → Type 0
 IsOutputs tokens [] rest = (rest ≡ tokens) × Nothing (λ xs. Names xs ⌢ JustSign OUTPUTS) tokens
 IsOutputs tokens (x ∷ xs) rest = Longest (λ ys. Names ys ⌢ JustSign OUTPUTS) tokens (x ∷ xs) rest

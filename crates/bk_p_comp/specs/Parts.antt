@@ -1,4 +1,4 @@
--- What stands behind the word of a clause, on the way to being built.
+-- What stands after the word of a clause, on the way to being built.
 use Rattle.std.specs.Prelude.{◌≡◌, ◌<◌, ◌≤◌, List, All, Option, Result, IfOk, MatchOption}
 use denote.Ref.{Bor}
 use Rattle.bk_limits.specs.declared.TheConstants.{GREATEST_TREE_HEIGHT}
@@ -21,7 +21,7 @@ abbrev pub IsComplete : ClauseParts → Type 0
 IsComplete (clause_sets ss) = All HasElements ss
 IsComplete _ = Unit {0}
 
--- what may stand behind this word
+-- what may stand after this word
 abbrev pub Standing : ClauseWord → ClauseParts → List Token → Type 0
 Standing word parts tokens = Parts word parts tokens × IsComplete parts
 
@@ -40,6 +40,6 @@ abbrev pub AreOperations : List RawOperation → OperationEntries → Type 0
 AreOperations os (BuiltOperations all) = (all.items ≡ os) × (parts_height (clause_operations os) ≤ GREATEST_TREE_HEIGHT)
 AreOperations os HighOperations = GREATEST_TREE_HEIGHT < parts_height (clause_operations os)
 
--- the answer is the longest that may stand behind the word in front of the tokens, or that none is
+-- the answer is the longest that may stand after the word in front of the tokens, or that none is
 abbrev pub ReadsParts : {E : Type 0} → ClauseWord → List Token → Result (Option (Behind × Bor (List Token))) E → Type 0
 ReadsParts word tokens result = IfOk result (λ r. MatchOption r (Nothing (Standing word) tokens) (λ p. (x : ClauseParts) × Longest (Standing word) tokens x p.1.now × AreKept x p.0))

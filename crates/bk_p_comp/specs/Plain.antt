@@ -23,7 +23,7 @@ abbrev pub is_colon : TokenKind → Bool
 is_colon (Sign op) = nat_eq op MEMBER
 is_colon _ = false
 
--- an addition: such a token, or the colon of {:T}, which stands directly behind a brace
+-- an addition: such a token, or the colon of {:T}, which stands directly after a brace
 abbrev pub is_addition : (behind_brace : Bool) → TokenKind → Bool
 is_addition behind_brace kind = is_printed kind || (behind_brace && is_colon kind)
 

@@ -1,4 +1,4 @@
-// Clauses of a component, one behind another.
+// Clauses of a component, one after another.
 
 ghost use Rattle.std.specs.Prelude.{◌≡◌, ◌≢◌, ◌<◌, ◌++◌, [], ◌∷◌, ℕ, List, length, IfOk, IfSome, MatchOption};
 ghost use Rattle.bk_raw.specs.ComponentTree.{RawClause as ClauseTree, clause_number, is_allowed, word_number};
@@ -62,7 +62,7 @@ pub(crate) struct Next {
     pub(crate) parts: Behind,
 }
 
-/// The clauses in front, each the longest that may be the next one, and what stands behind them.
+/// The clauses in front, each the longest that may be the next one, and what stands after them.
 pub(crate) fn clauses<'a>(
     alloc: Global,
     kind: &ComponentKind,
@@ -86,7 +86,7 @@ pub(crate) fn clauses<'a>(
     Ok((done, rest))
 }
 
-/// The longest clause in front that may be the next one, and what stands behind it.
+/// The longest clause in front that may be the next one, and what stands after it.
 fn next_clause<'a>(
     alloc: Global,
     kind: &ComponentKind,

@@ -26,7 +26,7 @@ use bk_p_sub::{Statement, after_sign, declared, front_body, names};
 use bk_raw::{RawName, RawOperation, RawSet, RawValue};
 use std::alloc::Global;
 
-/// Sets with their elements, and what stands behind them.
+/// Sets with their elements, and what stands after them.
 pub(crate) fn sets(
     alloc: Global,
     tokens: &[Token],
@@ -75,7 +75,7 @@ fn set(alloc: Global, tokens: &[Token]) -> Result<Option<(RawSet, &[Token])>, Me
     Ok(Some((RawSet { name, elements }, rest)))
 }
 
-/// Terms, and what stands behind them.
+/// Terms, and what stands after them.
 pub(crate) fn assertions(
     alloc: Global,
     tokens: &[Token],
@@ -126,7 +126,7 @@ impl ValueEntries {
     }
 }
 
-/// Entries of VALUES, and what stands behind them.
+/// Entries of VALUES, and what stands after them.
 pub(crate) fn values(
     alloc: Global,
     tokens: &[Token],
@@ -207,7 +207,7 @@ impl OperationEntries {
     }
 }
 
-/// Operations, and what stands behind them.
+/// Operations, and what stands after them.
 pub(crate) fn operations(
     alloc: Global,
     tokens: &[Token],
@@ -254,7 +254,7 @@ fn operation(
     Ok(Some((title, body, rest)))
 }
 
-/// `outs <-- name(ins)` of an operation. Where `<--` does not stand behind the names, they are no outputs.
+/// `outs <-- name(ins)` of an operation. Where `<--` does not stand after the names, they are no outputs.
 fn title(alloc: Global, tokens: &[Token]) -> Result<Option<(OperationTitle, &[Token])>, Memory>
     ensures found { IfOk result (λ r. MatchOption r (Nothing Operation tokens.now)
         (λ p. Left Operation tokens.now Bodied p.1.now (titled p.0))) }
@@ -279,7 +279,7 @@ fn title(alloc: Global, tokens: &[Token]) -> Result<Option<(OperationTitle, &[To
     )))
 }
 
-/// `outs <--`, or nothing where the sign does not stand behind the names; None where no name is in front.
+/// `outs <--`, or nothing where the sign does not stand after the names; None where no name is in front.
 fn outputs(alloc: Global, tokens: &[Token]) -> Result<Option<(Vec<RawName>, &[Token])>, Memory>
     ensures found { IfOk result (λ r. MatchOption r (Nothing Names tokens.now)
         (λ p. IsOutputs tokens.now p.0.items p.1.now)) }

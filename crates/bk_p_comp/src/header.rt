@@ -20,7 +20,7 @@ pub(crate) struct Headed {
     pub(crate) refines: Option<RawName>,
 }
 
-/// The header in front, and what stands behind it.
+/// The header in front, and what stands after it.
 pub(crate) fn header(alloc: Global, tokens: &[Token]) -> Result<Option<(Headed, &[Token])>, Memory>
     ensures found { IfOk result (λ r. MatchOption r (HasNoHeader tokens.now) (λ p. IsHeaded tokens.now p.0 p.1.now)) }
     ensures shorter { IfOk result (λ r. IfSome r (λ p. length p.1.now < length tokens.now)) }

@@ -1,4 +1,4 @@
-// What stands behind the word of a clause.
+// What stands after the word of a clause.
 
 ghost use Rattle.std.specs.Prelude.{◌<◌, length, IfOk, IfSome};
 ghost use Rattle.bk_p_comp.specs.Parts.{ReadsParts};
@@ -18,7 +18,7 @@ pub(crate) enum Behind {
     High,
 }
 
-/// What stands behind the word, and what stands behind that.
+/// What stands after the word, and what stands after that.
 pub(crate) fn parts<'a>(
     alloc: Global,
     word: &ClauseWord,

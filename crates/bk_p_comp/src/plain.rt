@@ -21,7 +21,7 @@ pub(crate) fn before_addition(tokens: &[Token]) -> &[Token]
     tokens
 }
 
-/// `$n`, `x$n` but `x$0`, `btrue` and `bfalse`, and `:` directly behind a brace.
+/// `$n`, `x$n` but `x$0`, `btrue` and `bfalse`, and `:` directly after a brace.
 fn is_addition(behind_brace: bool, kind: &TokenKind) -> bool
     ensures { result ≡ is_addition behind_brace kind.now }
 {

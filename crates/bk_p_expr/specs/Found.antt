@@ -47,14 +47,15 @@ ReadsThis reader least result = IfOk result (λ r. MatchOption r (FindsNone read
 abbrev pub FindsOperand : List Token → Piece → ℕ → List Token → Type 0
 FindsOperand tokens piece strength rest = Finds (λ n. operand n (read n) tokens) (length tokens - 1) (λ t. (t, strength)) piece rest
 
+-- no front of the tokens is an operand
 abbrev pub NoOperand : List Token → Type 0
 NoOperand tokens = FindsNone (λ n. operand n (read n) tokens) (length tokens - 1)
 
--- the sign in front, and what stands behind it
+-- the sign in front, and what stands after it
 abbrev pub Closes : {A : Type 0} → ℕ → List Token → Option (A × Bor (List Token)) → Type 0
 Closes end tokens result = MatchOption result (sign end tokens ≡ None) (λ p. (t : Token) × (sign end tokens ≡ Some (t, p.1.now)))
 
--- bound variables with their ranges, and the sign behind
+-- bound variables with their ranges, and the sign after
 pub record FindsRanges (tokens : List Token) (end : ℕ) (all : Ranges) (rest : List Token) : Type 0 where
   pub trees : RawRanges
   pub found : (n : ℕ) → length tokens ≤ n → ranged n end tokens ≡ Some (trees, rest)
@@ -66,7 +67,7 @@ IsSuffix form Inverse = form ≡ raw_inverse
 IsSuffix form (Image piece) = (tree : RawTree) × (form ≡ (λ t. raw_image t tree)) × IsPiece tree piece
 IsSuffix form (Apply piece) = (tree : RawTree) × (form ≡ (λ t. raw_apply t tree)) × IsPiece tree piece
 
--- what stands behind a term
+-- what stands after a term
 pub record FindsSuffix (tokens : List Token) (suffix : Suffix) (rest : List Token) : Type 0 where
   pub form : RawTree → RawTreeNode
   pub found : (n : ℕ) → length tokens ≤ n → suffixed n tokens ≡ Some (form, rest)
@@ -98,7 +99,7 @@ IsNoLeaf (Word op) = constant_of (Word op) ≡ None
 abbrev pub SameFrom : ℕ → (ℕ → Option (RawTree × List Token)) → (ℕ → Option (RawTree × List Token)) → Type 0
 SameFrom least one other = (n : ℕ) → least ≤ n → one n ≡ other n
 
--- a term that starts at this byte is read whole by its opening, or is what is read behind it
+-- a term that starts at this byte is read whole by its opening, or is what is read after it
 abbrev pub Opens : (ℕ → Option (RawTree × List Token)) → ℕ → ℕ → Opening → List Token → Type 0
 Opens whole least at (Closed piece) rest = Finds whole least (λ t. t) piece rest
 Opens whole least at (Around form end) rest = SameFrom least whole (λ n. surrounded n at (around_node form) end rest)

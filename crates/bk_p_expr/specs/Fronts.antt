@@ -2,7 +2,7 @@
 use Rattle.std.specs.Prelude.{◌≡◌, ◌≤◌, List, ◌++◌, length}
 use Rattle.bk_form.specs.declared.token.Token.{Token}
 
--- this one is written in front of the tokens, the rest stands behind it, and no other one in front takes more tokens
+-- this one is written in front of the tokens, the rest stands after it, and no other one in front takes more tokens
 pub record Longest {A : Type 0} (Written : A → List Token → Type 0) (tokens : List Token) (x : A) (rest : List Token) : Type 0 where
   pub written : List Token
   pub splits : tokens ≡ written ++ rest

@@ -1,4 +1,4 @@
--- How a term begins and what is read behind that: the places of the reader of terms between which functions are cut.
+-- How a term begins and what is read after that: the places of the reader of terms between which functions are cut.
 use Rattle.std.specs.Prelude.{◌≡◌, ℕ, ◌≤◌, cond, List, [], ◌∷◌, Option, None, Some}
 use Rattle.bk_form.specs.declared.token.Token.{Token}
 use Rattle.bk_form.specs.declared.token.TokenKind.TheVariants.{Sign}
@@ -39,7 +39,7 @@ placed Term tree = tree
 placed Arguments tree = tree
 placed (Parentheses at) tree = moved at tree
 
--- a first term with what follows it behind this divider, if one stands there
+-- a first term with what follows it after this divider, if one stands there
 abbrev pub divided : ℕ → Inside → Option Divider → ℕ → RawTree → Reader RawTree
 divided n inside None at first ts = Some (first, ts)
 divided n inside (Some d) at first ts = next (chain n (read n) (sign_of d) (form_of d) at first ts) (λ x us. Some (placed inside x, us))
@@ -48,7 +48,7 @@ divided n inside (Some d) at first ts = next (chain n (read n) (sign_of d) (form
 abbrev pub enclosed : ℕ → Inside → ℕ → Reader RawTree
 enclosed n inside end ts = next (read n 0 ts) (λ first us. next (divided n inside (divider_in inside us) (start ts) first us) (λ x vs. next (sign end vs) (λ _ ws. Some (x, ws))))
 
--- ---- behind the opening of a term that starts at a byte
+-- ---- after the opening of a term that starts at a byte
 -- a term and the sign that closes it, with a node around
 abbrev pub surrounded : ℕ → ℕ → (RawTree → RawTreeNode) → ℕ → Reader RawTree
 surrounded n at form end ts = next (enclosed n Term end ts) (λ x us. Some (raw at (form x), us))
@@ -57,7 +57,7 @@ surrounded n at form end ts = next (enclosed n Term end ts) (λ x us. Some (raw 
 abbrev pub listed : ℕ → ℕ → Reader RawTree
 listed n at ts = next (terms n (read n) ts) (λ xs us. next (sign CLOSE_BRACE us) (λ _ vs. Some (raw at (raw_extension xs), vs)))
 
--- $1:d,$2:e and the sign behind
+-- $1:d,$2:e and the sign after
 abbrev pub ranged : ℕ → ℕ → Reader RawRanges
 ranged n end ts = next (ranges n (read n) ts) (λ rs us. next (sign end us) (λ _ vs. Some (rs, vs)))
 
@@ -101,7 +101,7 @@ typed_empty n at ts = at_byte at (next (within MEMBER CLOSE_BRACE (typed n) ts) 
 abbrev pub named_set : ℕ → ℕ → Reader RawTree
 named_set n at ts = at_byte at (next (names ts) (λ xs us. next (within BAR CLOSE_BRACE (read n 0) us) (λ p vs. Some (raw_comprehension xs p, vs))))
 
--- what stands behind the sign of a quantifier
+-- what stands after the sign of a quantifier
 abbrev pub quantified_by : ℕ → ℕ → Quantifier → Reader RawTree
 quantified_by n at quantifier ts = at_byte at (quantified n (read n) (plain_form quantifier) (typed_form quantifier) ts)
 
@@ -112,12 +112,12 @@ binders n quantifier ts = cond (begins_bound_in ts)
     (next (binder ts) (λ xs us. Some (plain_form quantifier xs, us)))
 
 -- ---- around a leaf or a bracket
--- what stands behind a minus sign, if one stands there
+-- what stands after a minus sign, if one stands there
 abbrev pub unsigned : List Token → List Token
 unsigned [] = []
 unsigned (t ∷ ts) = cond (same_kind t.kind (Sign MINUS)) ts (t ∷ ts)
 
--- what the sign in front makes of the term behind it, and how tightly that binds
+-- what the sign in front makes of the term after it, and how tightly that binds
 abbrev pub with_sign : List Token → RawTree → RawTree × ℕ
 with_sign ts x = cond (begins_with MINUS ts) (raw (start ts) (signed (front_kind (unsigned ts)) x), negated) (x, tightest)
 
@@ -129,7 +129,7 @@ suffixed n ts =
     cond (begins_with OPEN_PAREN ts) (next (sign OPEN_PAREN ts) (λ _ us. next (arguments n (read n) us) (λ x vs. Some ((λ t. raw_apply t x), vs)))) None))
 
 -- ---- operators
--- the operator in front, with what stands behind it, where so much is asked of its strength and of that of its left operand
+-- the operator in front, with what stands after it, where so much is asked of its strength and of that of its left operand
 -- so much is known
 abbrev pub Fits : ℕ → ℕ → List Token → InfixOp → List Token → Type 0
 Fits asked strength ts o us = (t : Token) × (ts ≡ t ∷ us) × (infix_kind o ≡ t.kind) × (asked ≤ (binding o).own) × ((binding o).left ≤ strength)

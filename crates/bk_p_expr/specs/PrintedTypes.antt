@@ -5,11 +5,11 @@ use Rattle.bk_raw.specs.WrittenType.{WrittenType, written_power, written_product
 use Rattle.bk_raw.specs.declared.term.RawBound.{RawBound}
 use Rattle.bk_raw.specs.Reading.{Reader, next, sign, within, typed, bound}
 
--- (T) behind POW
+-- (T) after POW
 abbrev pub power : ℕ → Reader WrittenType
 power m ts = next (within OPEN_PAREN CLOSE_PAREN (typed m) ts) (λ t us. Some (written_power t, us))
 
--- T * U) behind a parenthesis
+-- T * U) after a parenthesis
 abbrev pub product : ℕ → Reader WrittenType
 product m ts = next (typed m ts) (λ t us. next (sign TIMES us) (λ _ vs. next (typed m vs) (λ u ws. next (sign CLOSE_PAREN ws) (λ _ xs. Some (written_product t u, xs)))))
 

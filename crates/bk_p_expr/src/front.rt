@@ -9,7 +9,7 @@ use bk_ops::sign;
 use bk_raw::RawName;
 use std::alloc::Global;
 
-/// The sign of this number in front, and what stands behind it.
+/// The sign of this number in front, and what stands after it.
 pub(crate) fn after_sign(tokens: &[Token], op: u16) -> Option<(&Token, &[Token])>
     ensures begins { MatchOption result (begins_with op tokens.now ≡ false) (λ p. begins_with op tokens.now ≡ true) }
     ensures found { MatchOption result (sign op tokens.now ≡ None) (λ p. sign op tokens.now ≡ Some (p.0.now, p.1.now)) }
@@ -22,7 +22,7 @@ pub(crate) fn after_sign(tokens: &[Token], op: u16) -> Option<(&Token, &[Token])
     }
 }
 
-/// The token in front, and what stands behind it.
+/// The token in front, and what stands after it.
 pub(crate) fn first_token(tokens: &[Token]) -> Option<(&Token, &[Token])>
     ensures { MatchOption result (tokens.now ≡ []) (λ p. tokens.now ≡ p.0.now ∷ p.1.now) }
 {
@@ -39,7 +39,7 @@ pub(crate) fn begins(tokens: &[Token], op: u16) -> bool
     after_sign(tokens, op).is_some()
 }
 
-/// A name in front, and what stands behind it.
+/// A name in front, and what stands after it.
 pub(crate) fn declared(
     alloc: Global,
     tokens: &[Token],
@@ -61,7 +61,7 @@ pub(crate) fn declared(
     }
 }
 
-/// `$n:` in front: where it stands, the number, and what stands behind it.
+/// `$n:` in front: where it stands, the number, and what stands after it.
 pub(crate) fn bound_name(tokens: &[Token]) -> Option<(usize, u32, &[Token])>
     ensures found { MatchOption result (bound tokens.now ≡ None) (λ p. bound tokens.now ≡ Some ((p.0, p.1), p.2.now)) }
     ensures shorter { IfSome result (λ p. length p.2.now < length tokens.now) }
@@ -74,7 +74,7 @@ pub(crate) fn bound_name(tokens: &[Token]) -> Option<(usize, u32, &[Token])>
     Some((first.start, *number, rest))
 }
 
-/// Names with commas between, and what stands behind them.
+/// Names with commas between, and what stands after them.
 #[tactic(auto, using(crate::proofs::Lists::names_begins, crate::proofs::Lists::names_goes_on, crate::proofs::Lists::names_ends, crate::proofs::Lists::names_fails))]
 pub(crate) fn declared_names(
     alloc: Global,
@@ -98,7 +98,7 @@ pub(crate) fn declared_names(
     }
 }
 
-/// The names that a quantifier or a lambda binds, and what stands behind them.
+/// The names that a quantifier or a lambda binds, and what stands after them.
 #[tactic(auto, using(crate::proofs::Binders::binder_none_inside, crate::proofs::Binders::binder_none_last, crate::proofs::Binders::binder_some, crate::proofs::Binders::binder_alone))]
 pub(crate) fn bound_names(
     alloc: Global,

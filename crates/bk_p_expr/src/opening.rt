@@ -20,7 +20,7 @@ use bk_ops::sign;
 use bk_raw::{Constant, RawBound, RawName, RawNode, WordOp};
 use std::alloc::Global;
 
-/// How a term begins, and what is to be read behind that.
+/// How a term begins, and what is to be read after that.
 #[derive(Drop)]
 pub(crate) enum Opening {
     /// Nothing: the term has no terms inside.
@@ -33,7 +33,7 @@ pub(crate) enum Opening {
     Extension,
     /// `$1:d | p}`.
     Described,
-    /// `.(p | e)`, behind these names.
+    /// `.(p | e)`, after these names.
     Lambda(Vec<RawName>),
     /// `$1:d).(p | e)`.
     RangedLambda,
@@ -126,7 +126,7 @@ fn constant(alloc: Global, at: usize, kind: &TokenKind) -> Result<Option<Piece>,
     Ok(Some(Piece::leaf(alloc, at, RawNode::Constant(constant))?))
 }
 
-/// How a bracket goes on behind its first sign.
+/// How a bracket goes on after its first sign.
 fn bracket(
     alloc: Global,
     op: u16,
@@ -147,7 +147,7 @@ fn bracket(
     }
 }
 
-/// How a set goes on behind its open brace.
+/// How a set goes on after its open brace.
 fn brace(alloc: Global, at: usize, tokens: &[Token]) -> Result<Option<(Opening, &[Token])>, Memory>
     ensures found { Begins (λ n. at_byte at (braces n (read n) tokens.now)) (length tokens.now) at result }
     ensures shorter { IfOk result (λ r. IfSome r (λ p. length p.1.now ≤ length tokens.now)) }
@@ -168,7 +168,7 @@ fn brace(alloc: Global, at: usize, tokens: &[Token]) -> Result<Option<(Opening, 
     comprehension(alloc, at, tokens)
 }
 
-/// `:T}` behind a brace.
+/// `:T}` after a brace.
 fn typed_empty(
     alloc: Global,
     at: usize,
@@ -190,7 +190,7 @@ fn typed_empty(
     Ok(Some((Opening::Closed(set), rest)))
 }
 
-/// `x, y |` behind a brace.
+/// `x, y |` after a brace.
 fn comprehension(
     alloc: Global,
     at: usize,
@@ -238,7 +238,7 @@ impl Quantifier {
     }
 }
 
-/// What a quantifier binds, and `.(` behind it.
+/// What a quantifier binds, and `.(` after it.
 fn quantified(
     alloc: Global,
     at: usize,
@@ -281,7 +281,7 @@ fn binders(
     Ok(Some((quantifier.plain(names), rest)))
 }
 
-/// What stands behind `.(`.
+/// What stands after `.(`.
 pub(crate) fn behind_dot(tokens: &[Token]) -> Option<&[Token]>
     ensures found { MatchOption result (dot_paren tokens.now ≡ None)
         (λ p. (t : RawToken) × (dot_paren tokens.now ≡ Some (t, p.now))) }
@@ -292,7 +292,7 @@ pub(crate) fn behind_dot(tokens: &[Token]) -> Option<&[Token]>
     Some(inside)
 }
 
-/// What stands behind the parenthesis of `($n`.
+/// What stands after the parenthesis of `($n`.
 fn behind_numbered(tokens: &[Token]) -> Option<&[Token]>
     ensures found { MatchOption result (begins_bound_in tokens.now ≡ false) (λ p. begins_bound_in tokens.now ≡ true) }
     ensures inside { IfSome result (λ p. (t : RawToken) × (sign OPEN_PAREN tokens.now ≡ Some (t, p.now))) }

@@ -12,7 +12,7 @@ use bk_ops::{sign, word};
 use bk_raw::{RawBound, RawType, RawTypeNode};
 use std::alloc::Global;
 
-/// A type in front, and what stands behind it.
+/// A type in front, and what stands after it.
 #[tactic(auto, using(crate::proofs::Types::typed_empty_list, crate::proofs::Types::typed_set, crate::proofs::Types::typed_integer, crate::proofs::Types::typed_bool, crate::proofs::Types::typed_none_word, crate::proofs::Types::typed_none_sign))]
 #[cycle(types)]
 pub(crate) fn written_type(
@@ -36,7 +36,7 @@ pub(crate) fn written_type(
     Ok(Some((RawType { node }, rest)))
 }
 
-/// `(T)` behind `POW`.
+/// `(T)` after `POW`.
 #[tactic(auto, using(crate::proofs::Types::power_none, crate::proofs::Types::power_none_inside, crate::proofs::Types::power_none_last, crate::proofs::Types::power_some))]
 #[cycle(types)]
 fn power(alloc: Global, tokens: &[Token]) -> Result<Option<(RawType, &[Token])>, Memory>
@@ -56,7 +56,7 @@ fn power(alloc: Global, tokens: &[Token]) -> Result<Option<(RawType, &[Token])>,
     Ok(Some((RawType { node }, rest)))
 }
 
-/// `T * U)` behind a parenthesis.
+/// `T * U)` after a parenthesis.
 #[tactic(auto, using(crate::proofs::Types::product_none, crate::proofs::Types::product_none_times, crate::proofs::Types::product_none_right, crate::proofs::Types::product_none_last, crate::proofs::Types::product_some))]
 #[cycle(types)]
 fn product(alloc: Global, tokens: &[Token]) -> Result<Option<(RawType, &[Token])>, Memory>
@@ -81,7 +81,7 @@ fn product(alloc: Global, tokens: &[Token]) -> Result<Option<(RawType, &[Token])
     Ok(Some((RawType { node }, rest)))
 }
 
-/// `$1:T,$2:U` in front, and what stands behind it.
+/// `$1:T,$2:U` in front, and what stands after it.
 #[tactic(auto, using(crate::proofs::Lists::bounds_begins, crate::proofs::Lists::bounds_goes_on, crate::proofs::Lists::bounds_ends, crate::proofs::Lists::bounds_fails))]
 pub(crate) fn typed_names(
     alloc: Global,
@@ -105,7 +105,7 @@ pub(crate) fn typed_names(
     }
 }
 
-/// `$n:T` in front, and what stands behind it.
+/// `$n:T` in front, and what stands after it.
 #[tactic(auto, using(crate::proofs::Binders::typed_name_none, crate::proofs::Binders::typed_name_none_type, crate::proofs::Binders::typed_name_some))]
 fn typed_name(alloc: Global, tokens: &[Token]) -> Result<Option<(RawBound, &[Token])>, Memory>
     ensures found { ReadsThis (λ m. typed_bound m tokens.now) (length tokens.now - 1) result }

@@ -18,9 +18,9 @@ use bk_limits::GREATEST_TREE_HEIGHT;
 use bk_raw::{RawTerm, too_deep};
 use std::alloc::Global;
 
-/// The term that is written from the token at `at` on, as long as there is one, and the place of the token behind it.
+/// The term that is written from the token at `at` on, as long as there is one, and the place of the token after it.
 ///
-/// The text of a larger thing may go on behind it: `a , b` read from 0 is `a` and 1.
+/// The text of a larger thing may go on after it: `a , b` read from 0 is `a` and 1.
 #[tactic(auto, using(crate::proofs::Places::term_found, crate::proofs::Places::term_low, crate::proofs::Places::term_high, crate::proofs::Places::term_none, crate::proofs::Places::nothing_behind))]
 pub fn term(alloc: Global, tokens: &[Token], at: usize) -> Result<(RawTerm, usize), SynFault>
     ensures ok { IfOk result (λ read. IsLongest tokens.now at read.1 read.0) }
@@ -43,7 +43,7 @@ pub fn term(alloc: Global, tokens: &[Token], at: usize) -> Result<(RawTerm, usiz
     }
 }
 
-/// The longest term in front of the tokens, and what stands behind it, for readers of larger things. It does not look at
+/// The longest term in front of the tokens, and what stands after it, for readers of larger things. It does not look at
 /// how much is open: such a reader asks `too_deep` of all its tokens first, and once.
 pub fn front_term(alloc: Global, tokens: &[Token]) -> Result<Option<(Piece, &[Token])>, Memory>
     ensures found { IfOk result (λ r. MatchOption r (Nothing Spells tokens.now)

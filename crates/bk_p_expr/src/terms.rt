@@ -1,6 +1,6 @@
 // The longest term in front of tokens.
 //
-// Each function answers what it reads and the tokens behind it, or None where that does not stand there. What it reads
+// Each function answers what it reads and the tokens after it, or None where that does not stand there. What it reads
 // is what the function of the same meaning in bk_raw's reader gives. Only brackets make the calls nest deeper: operators
 // are read by loops, those that join to the right by a list of operands.
 
@@ -47,7 +47,7 @@ fn start_of(tokens: &[Token]) -> usize
     }
 }
 
-/// What was read, where this sign stands behind it, and what stands behind the sign.
+/// What was read, where this sign stands after it, and what stands after the sign.
 fn closed(piece: Piece, tokens: &[Token], end: u16) -> Option<(Piece, &[Token])>
     ensures same { IfSome result (λ p. p.0 ≡ piece) }
     ensures found { Closes end tokens.now result }
@@ -140,7 +140,7 @@ fn joined(alloc: Global, mut bases: Vec<(usize, Piece)>, last: Piece) -> Result<
     Ok(right)
 }
 
-/// A leaf or a bracket with what stands behind it, perhaps with a minus sign before, and how tightly it binds.
+/// A leaf or a bracket with what stands after it, perhaps with a minus sign before, and how tightly it binds.
 #[cycle(term)]
 fn operand(alloc: Global, tokens: &[Token]) -> Result<Option<(Piece, u8, &[Token])>, Memory>
     ensures found { IfOk result (λ r. MatchOption r (NoOperand tokens.now)
@@ -174,7 +174,7 @@ fn behind_minus(tokens: &[Token]) -> &[Token]
     }
 }
 
-/// What a minus sign in front makes of the term behind it, if one stands there, and how tightly that binds. Of a number
+/// What a minus sign in front makes of the term after it, if one stands there, and how tightly that binds. Of a number
 /// by itself it makes a number.
 fn signed(alloc: Global, tokens: &[Token], piece: Piece) -> Result<(Piece, u8), Memory>
     ensures made { IfOk result (λ r. (tree : RawTree) → IsPiece tree piece →
@@ -204,7 +204,7 @@ fn negated(alloc: Global, at: usize, behind: &[Token], piece: Piece) -> Result<P
     }
 }
 
-/// What stands behind a term.
+/// What stands after a term.
 #[derive(Drop)]
 enum Suffix {
     Inverse,
@@ -213,7 +213,7 @@ enum Suffix {
 }
 
 impl Suffix {
-    /// The term with this behind it.
+    /// The term with this after it.
     fn behind(self, alloc: Global, at: usize, piece: Piece) -> Result<Piece, Memory>
         ensures { IfOk result (λ r. (form : RawTree → RawTreeNode) (tree : RawTree) → IsSuffix form self →
             IsPiece tree piece → IsPiece (raw at (form tree)) r) }
@@ -346,7 +346,7 @@ fn extension(
     }
 }
 
-/// `$1:d,$2:e` and the sign behind.
+/// `$1:d,$2:e` and the sign after.
 #[cycle(term)]
 fn ranges(alloc: Global, tokens: &[Token], end: u16) -> Result<Option<(Ranges, &[Token])>, Memory>
     ensures found { IfOk result (λ r. MatchOption r (FindsNone (λ n. ranged n end tokens.now) (length tokens.now))

@@ -8,7 +8,7 @@ use Rattle.bk_raw.specs.declared.script.NamePart.TheVariants.{Letters, Numeral}
 use Rattle.bk_form.specs.declared.token.Token.{Token}
 use Rattle.bk_form.specs.declared.token.TokenKind.{TokenKind}
 
--- a token of this kind is in front, and the rest stands behind it
+-- a token of this kind is in front, and the rest stands after it
 abbrev pub Ahead : TokenKind → List Token → List Token → Type 0
 Ahead kind tokens rest = (t : Token) × (tokens ≡ t ∷ rest) × (t.kind ≡ kind)
 

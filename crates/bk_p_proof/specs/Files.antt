@@ -34,6 +34,7 @@ pub record IsLow (text : List ℕ) (scripts : List RawScript) : Type 0 where
 abbrev pub IsShort : RawScript → Type 0
 IsShort s = length s.rules ≤ MOST_RULES
 
+-- the text is written as these scripts, each term low enough and each script short enough
 pub record IsProofFile (text : List ℕ) (scripts : List RawScript) : Type 0 where
   pub low : IsLow text scripts
   pub short : All IsShort scripts
@@ -52,6 +53,7 @@ abbrev pub IsLong : List ℕ → Type 0
 IsLong text = (scripts : List RawScript) × IsLow text scripts × (All IsShort scripts → ⊥)
 
 -- ---- names
+-- the names of the scripts, in order
 abbrev pub names_of : List RawScript → List (List NamePart)
 names_of scripts = map (λ s. s.name) scripts
 

@@ -17,6 +17,7 @@ IsKept height names x kept true = (names kept ≡ names x) × (GREATEST_TREE_HEI
 abbrev pub parts_height : List RulePart → ℕ
 parts_height ps = greatest (map part_height ps)
 
+-- the names that parts of a rule bring, with their types
 abbrev pub parts_names : List RulePart → List RawTyped
 parts_names ps = flat_map part_names ps
 
@@ -24,9 +25,11 @@ parts_names ps = flat_map part_names ps
 abbrev pub rule_height : RawRule → ℕ
 rule_height r = parts_height r.parts
 
+-- the greatest height of a term in the rules
 abbrev pub rules_height : List RawRule → ℕ
 rules_height rs = greatest (map rule_height rs)
 
+-- the names that rules bring, with their types
 abbrev pub rules_names : List RawRule → List RawTyped
 rules_names rs = flat_map rule_names rs
 
@@ -34,24 +37,31 @@ rules_names rs = flat_map rule_names rs
 abbrev pub file_height : List RawScript → ℕ
 file_height ss = greatest (map script_height ss)
 
+-- for each script the names that it brings, with their types
 abbrev pub file_names : List RawScript → List (List RawTyped)
 file_names ss = map script_names ss
 
 -- ---- what is kept
+-- what was read is this part, with its height and its names
 abbrev pub IsPart : RulePart → RulePart → Bool → Type 0
 IsPart = IsKept part_height part_names
 
+-- what was read are these parts, with their height and their names
 abbrev pub AreParts : List RulePart → List RulePart → Bool → Type 0
 AreParts = IsKept parts_height parts_names
 
+-- what was read is this rule, with its height and its names
 abbrev pub IsRule : RawRule → RawRule → Bool → Type 0
 IsRule = IsKept rule_height rule_names
 
+-- what was read are these rules, with their height and their names
 abbrev pub AreRules : List RawRule → List RawRule → Bool → Type 0
 AreRules = IsKept rules_height rules_names
 
+-- what was read is this script, with its height and its names
 abbrev pub IsScript : RawScript → RawScript → Bool → Type 0
 IsScript = IsKept script_height script_names
 
+-- what was read are these scripts, with their height and their names
 abbrev pub AreScripts : List RawScript → List RawScript → Bool → Type 0
 AreScripts = IsKept file_height file_names

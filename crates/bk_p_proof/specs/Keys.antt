@@ -12,6 +12,7 @@ abbrev pub part_key : NamePart → List ℕ
 part_key (Letters text) = 1 ∷ (to_le_bytes w64 (length text) ++ text)
 part_key (Numeral n) = 2 ∷ to_le_bytes w128 n
 
+-- the numbers by which a name of a script is told apart from others
 abbrev pub name_key : List NamePart → List ℕ
 name_key name = flat_map part_key name
 

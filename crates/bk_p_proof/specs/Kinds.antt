@@ -1,4 +1,4 @@
--- What parts are asked behind a rule's word. Only private contracts cite it.
+-- What parts are asked after a rule's word. Only private contracts cite it.
 use Rattle.std.specs.Prelude.{ℕ, List, [], ◌∷◌}
 use Rattle.bk_form.specs.declared.token.Token.{Token}
 use Rattle.bk_ops.specs.declared.sign.TheConstants.{COMMA, MEMBER, DIVIDE, BAR}
@@ -21,7 +21,7 @@ kind_of Typed = typed_names
 kind_of Law = one_law
 kind_of Certificate = certificate
 
--- such parts follow a word: behind a part that is not the last one, it can be told where that one ends
+-- such parts follow a word: after a part that is not the last one, it can be told where that one ends
 abbrev pub IsShape : List Kind → Type 0
 IsShape [] = Unit {0}
 IsShape (k ∷ []) = Unit {0}

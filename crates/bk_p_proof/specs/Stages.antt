@@ -20,5 +20,6 @@ IsKeptOf text file = (ss : List RawScript) × IsWritten text ss × AreScripts ss
 abbrev pub IsLowAs : List ℕ → FileScripts → Type 0
 IsLowAs text file = IsLow text file.scripts.items
 
+-- the text is a proof file of the scripts that were read
 abbrev pub IsProofFileAs : List ℕ → FileScripts → Type 0
 IsProofFileAs text file = IsProofFile text file.scripts.items

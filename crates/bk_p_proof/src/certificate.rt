@@ -1,6 +1,6 @@
 // Certificates of linear arithmetic.
 //
-// Where no further one stands behind a sign between two, the list ends before the sign.
+// Where no further one stands after a sign between two, the list ends before the sign.
 
 ghost use Rattle.std.specs.Prelude.{◌≡◌, ◌<◌, ◌≤◌, ℕ, pos, map, length, IfOk, IfSome, MatchOption};
 ghost use Rattle.bk_ops.specs.declared.sign.TheConstants.{BAR, COMMA, PLUS};
@@ -19,7 +19,7 @@ use bk_ops::sign;
 use bk_raw::{RawLine, RawMultiple};
 use std::alloc::Global;
 
-/// The numbers of hypotheses, `:`, and the lines of a certificate in front, and what stands behind them.
+/// The numbers of hypotheses, `:`, and the lines of a certificate in front, and what stands after them.
 pub(crate) fn certificate(
     alloc: Global,
     tokens: &[Token],
@@ -38,7 +38,7 @@ pub(crate) fn certificate(
     Ok(Some((facts, lines, rest)))
 }
 
-/// Numbers with commas between, none at all where no number is in front, and what stands behind them.
+/// Numbers with commas between, none at all where no number is in front, and what stands after them.
 fn facts(alloc: Global, tokens: &[Token]) -> Result<(Vec<u128>, &[Token]), Memory>
     ensures found { IfOk result (λ p. Longest (AnyDivided COMMA Digits) tokens.now p.0.items p.1.now) }
     ensures shorter { IfOk result (λ p. length p.1.now ≤ length tokens.now) }
@@ -59,7 +59,7 @@ fn facts(alloc: Global, tokens: &[Token]) -> Result<(Vec<u128>, &[Token]), Memor
     Ok((all, rest))
 }
 
-/// Lines with `|` between, and what stands behind them.
+/// Lines with `|` between, and what stands after them.
 fn lines(alloc: Global, tokens: &[Token]) -> Result<Option<(Vec<RawLine>, &[Token])>, Memory>
     ensures found { IfOk result (λ r. MatchOption r (Nothing (Divided BAR Line) tokens.now)
         (λ p. Longest (Divided BAR Line) tokens.now (map line_of p.0.items) p.1.now)) }
@@ -81,7 +81,7 @@ fn lines(alloc: Global, tokens: &[Token]) -> Result<Option<(Vec<RawLine>, &[Toke
     Ok(Some((all, rest)))
 }
 
-/// A line in front, and what stands behind it.
+/// A line in front, and what stands after it.
 fn line(alloc: Global, tokens: &[Token]) -> Result<Option<(RawLine, &[Token])>, Memory>
     ensures found { IfOk result (λ r. MatchOption r (Nothing Line tokens.now)
         (λ p. Longest Line tokens.now (line_of p.0) p.1.now)) }
@@ -96,7 +96,7 @@ fn line(alloc: Global, tokens: &[Token]) -> Result<Option<(RawLine, &[Token])>, 
     Ok(Some((RawLine::Sum(multiples), rest)))
 }
 
-/// `k / g` in front, and what stands behind it.
+/// `k / g` in front, and what stands after it.
 fn quotient(tokens: &[Token]) -> Option<(u128, u128, &[Token])>
     ensures found { MatchOption result (Nothing Quotient tokens.now) (λ p. Longest Quotient tokens.now (p.0, p.1) p.2.now) }
     ensures shorter { IfSome result (λ p. length p.2.now < length tokens.now) }
@@ -113,7 +113,7 @@ fn quotient(tokens: &[Token]) -> Option<(u128, u128, &[Token])>
     Some((fact, by, rest))
 }
 
-/// `m * k` with `+` between, and what stands behind them.
+/// `m * k` with `+` between, and what stands after them.
 fn multiples(
     alloc: Global,
     tokens: &[Token],
@@ -138,7 +138,7 @@ fn multiples(
     Ok(Some((all, rest)))
 }
 
-/// `m * k` in front, and what stands behind it.
+/// `m * k` in front, and what stands after it.
 fn multiple(tokens: &[Token]) -> Option<(RawMultiple, &[Token])>
     ensures found { MatchOption result (Nothing Multiple tokens.now) (λ p. Longest Multiple tokens.now p.0 p.1.now) }
     ensures shorter { IfSome result (λ p. length p.1.now < length tokens.now) }
@@ -155,7 +155,7 @@ fn multiple(tokens: &[Token]) -> Option<(RawMultiple, &[Token])>
     Some((RawMultiple { multiplier, fact }, rest))
 }
 
-/// A number in front, perhaps with a minus sign, and what stands behind it.
+/// A number in front, perhaps with a minus sign, and what stands after it.
 fn literal(tokens: &[Token]) -> Option<(i128, &[Token])>
     ensures found { MatchOption result (Nothing (λ z. Literal z 0) tokens.now)
         (λ p. Longest (λ z. Literal z 0) tokens.now p.0 p.1.now) }
@@ -173,7 +173,7 @@ fn literal(tokens: &[Token]) -> Option<(i128, &[Token])>
     Some((number, rest))
 }
 
-/// A number in front, and what stands behind it.
+/// A number in front, and what stands after it.
 fn natural(tokens: &[Token]) -> Option<(i128, &[Token])>
     ensures found { MatchOption result (Nothing Digits tokens.now)
         (λ p. (n : ℕ) × (p.0 ≡ pos n) × Ahead (Number (pos n)) tokens.now p.1.now) }

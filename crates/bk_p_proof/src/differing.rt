@@ -60,7 +60,7 @@ fn key_of(alloc: Global, name: &[NamePart]) -> Result<Vec<u8>, Memory>
     Ok(key)
 }
 
-/// Puts the key of a part behind the others.
+/// Puts the key of a part after the others.
 fn add_part(key: &mut Vec<u8>, part: &NamePart) -> Result<(), Memory>
     ensures key { OnOk result (key.new.items ≡ key.old.items ++ part_key part.now) }
     ensures fits { OnOk result (FitsKey part.now) }

@@ -15,7 +15,7 @@ use bk_ops::sign;
 use bk_p_expr::Terms;
 use std::alloc::Global;
 
-/// The name of a law and its terms in front, and what stands behind them.
+/// The name of a law and its terms in front, and what stands after them.
 pub(crate) fn law(
     alloc: Global,
     tokens: &[Token],
@@ -34,7 +34,7 @@ pub(crate) fn law(
     Ok(Some((name, terms, rest)))
 }
 
-/// Terms in parentheses, and what stands behind them; none, where no such are in front.
+/// Terms in parentheses, and what stands after them; none, where no such are in front.
 fn picked(alloc: Global, tokens: &[Token]) -> Result<(Terms, &[Token]), Memory>
     ensures found { IfOk result (λ p. (ts : List RawTree) × Longest Picked tokens.now ts p.1.now ×
         IsTerms (trees_of ts) p.0) }

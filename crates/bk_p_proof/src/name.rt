@@ -16,10 +16,10 @@ use bk_ops::{sign, words};
 use bk_raw::NamePart;
 use std::alloc::Global;
 
-/// The number of the first word, behind those of the signs.
+/// The number of the first word, after those of the signs.
 const FIRST_WORD: u16 = 57;
 
-/// A name in front, with dots between its parts, and what stands behind it. Where no part stands behind a dot, it ends
+/// A name in front, with dots between its parts, and what stands after it. Where no part stands after a dot, it ends
 /// before the dot.
 pub(crate) fn name(
     alloc: Global,
@@ -45,7 +45,7 @@ pub(crate) fn name(
     Ok(Some((all, rest)))
 }
 
-/// A part of a name in front, and what stands behind it.
+/// A part of a name in front, and what stands after it.
 fn part(alloc: Global, tokens: &[Token]) -> Result<Option<(NamePart, &[Token])>, Memory>
     ensures found { IfOk result (λ r. MatchOption r (Nothing PartNamed tokens.now)
         (λ p. Longest PartNamed tokens.now p.0 p.1.now)) }

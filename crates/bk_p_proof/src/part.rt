@@ -43,7 +43,7 @@ pub(crate) enum PartKind {
     Certificate,
 }
 
-/// Parts of these kinds in front, whether one of their terms is too high, and what stands behind them.
+/// Parts of these kinds in front, whether one of their terms is too high, and what stands after them.
 pub(crate) fn parts<'a>(
     alloc: Global,
     kinds: &[PartKind],
@@ -68,7 +68,7 @@ pub(crate) fn parts<'a>(
     Ok(Some((others, is_high || are_high, rest)))
 }
 
-/// A part of this kind in front, whether one of its terms is too high, and what stands behind it.
+/// A part of this kind in front, whether one of its terms is too high, and what stands after it.
 fn part(
     alloc: Global,
     kind: PartKind,

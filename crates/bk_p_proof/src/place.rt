@@ -12,7 +12,7 @@ use bk_io::Memory;
 use bk_raw::RawPlace;
 use std::alloc::Global;
 
-/// `goal` or `hyp i` and the numbers of children in front, and what stands behind them.
+/// `goal` or `hyp i` and the numbers of children in front, and what stands after them.
 pub(crate) fn place(alloc: Global, tokens: &[Token]) -> Result<Option<(RawPlace, &[Token])>, Memory>
     ensures found { IfOk result (λ r. MatchOption r (Nothing Place tokens.now)
         (λ p. Longest Place tokens.now (place_of p.0) p.1.now)) }
@@ -32,7 +32,7 @@ pub(crate) fn place(alloc: Global, tokens: &[Token]) -> Result<Option<(RawPlace,
     Ok(Some((RawPlace::Hyp(number, children), rest)))
 }
 
-/// The numbers in front, as many as there are, and what stands behind them.
+/// The numbers in front, as many as there are, and what stands after them.
 fn path(alloc: Global, tokens: &[Token]) -> Result<(Vec<u128>, &[Token]), Memory>
     ensures found { IfOk result (λ p. Longest (InRow Digits) tokens.now p.0.items p.1.now) }
     ensures shorter { IfOk result (λ p. length p.1.now ≤ length tokens.now) }

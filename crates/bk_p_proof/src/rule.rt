@@ -16,7 +16,7 @@ use bk_ops::word;
 use bk_raw::{RawRule, RuleWord};
 use std::alloc::Global;
 
-/// A rule in front, whether one of its terms is too high, and what stands behind it.
+/// A rule in front, whether one of its terms is too high, and what stands after it.
 pub(crate) fn rule(
     alloc: Global,
     tokens: &[Token],
@@ -176,7 +176,7 @@ fn of_arithmetic(text: &[u8]) -> Option<RuleWord>
     }
 }
 
-/// What the parts behind a rule's word are.
+/// What the parts after a rule's word are.
 fn shape(word: &RuleWord) -> &'static [PartKind]
     ensures shape { map kind_of result.now ≡ shape_of word.now }
     ensures told { IsShape (map kind_of result.now) }

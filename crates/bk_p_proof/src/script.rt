@@ -18,7 +18,7 @@ use bk_ops::sign;
 use bk_raw::{RawRule, RawScript};
 use std::alloc::Global;
 
-/// A script in front but for its `end`, whether one of its terms is too high, and what stands behind it.
+/// A script in front but for its `end`, whether one of its terms is too high, and what stands after it.
 pub(crate) fn open_script(
     alloc: Global,
     tokens: &[Token],
@@ -56,7 +56,7 @@ fn start_of(tokens: &[Token]) -> usize
 }
 
 /// Rules with semicolons between, none where no rule is in front, whether one of their terms is too high, and what stands
-/// behind them. Where no rule stands behind a semicolon, they end before it.
+/// after them. Where no rule stands after a semicolon, they end before it.
 fn rules(alloc: Global, tokens: &[Token]) -> Result<(Vec<RawRule>, bool, &[Token]), Memory>
     ensures found { IfOk result (λ p. (rs : List WrittenRule) × Longest (AnyDivided SEMICOLON Rule) tokens.now rs p.2.now ×
         AreRules rs p.0.items p.1) }

@@ -13,7 +13,7 @@ use bk_ops::sign;
 use bk_p_expr::{Terms, front_term};
 use std::alloc::Global;
 
-/// Terms with commas between, and what stands behind them. Where no term stands behind a comma, they end before it.
+/// Terms with commas between, and what stands after them. Where no term stands after a comma, they end before it.
 pub(crate) fn terms(alloc: Global, tokens: &[Token]) -> Result<Option<(Terms, &[Token])>, Memory>
     ensures found { IfOk result (λ r. MatchOption r (Nothing SomeTerms tokens.now)
         (λ p. (ts : List RawTree) × Longest SomeTerms tokens.now ts p.1.now × IsTerms (trees_of ts) p.0)) }

@@ -12,7 +12,7 @@ use bk_io::{Memory, Text};
 use bk_raw::RawName;
 use std::alloc::Global;
 
-/// The token in front, and what stands behind it.
+/// The token in front, and what stands after it.
 pub(crate) fn first_token(tokens: &[Token]) -> Option<(&Token, &[Token])>
     ensures { MatchOption result (tokens.now ≡ []) (λ p. tokens.now ≡ p.0.now ∷ p.1.now) }
 {
@@ -22,7 +22,7 @@ pub(crate) fn first_token(tokens: &[Token]) -> Option<(&Token, &[Token])>
     Some((first, rest))
 }
 
-/// What stands behind the sign of this number, if it stands in front.
+/// What stands after the sign of this number, if it stands in front.
 pub(crate) fn after_sign(tokens: &[Token], op: u16) -> Option<&[Token]>
     ensures found { MatchOption result (NotAhead (TokenKind.Sign op) tokens.now)
         (λ p. Ahead (TokenKind.Sign op) tokens.now p.now) }
@@ -37,7 +37,7 @@ pub(crate) fn after_sign(tokens: &[Token], op: u16) -> Option<&[Token]>
     Some(rest)
 }
 
-/// What stands behind the name with these letters, if it stands in front.
+/// What stands after the name with these letters, if it stands in front.
 pub(crate) fn after_name<'a>(tokens: &'a [Token], text: &[u8]) -> Option<&'a [Token]>
     ensures found { MatchOption result (NotAhead (TokenKind.Name text.now) tokens.now)
         (λ p. Ahead (TokenKind.Name text.now) tokens.now p.now) }
@@ -72,7 +72,7 @@ pub(crate) fn is_name(kind: &TokenKind, text: &[u8]) -> bool
     }
 }
 
-/// The number in front, and what stands behind it.
+/// The number in front, and what stands after it.
 pub(crate) fn digits(tokens: &[Token]) -> Option<(u128, &[Token])>
     ensures found { MatchOption result (Nothing Digits tokens.now) (λ p. Ahead (Number (pos p.0)) tokens.now p.1.now) }
     ensures shorter { IfSome result (λ p. length p.1.now < length tokens.now) }
@@ -96,7 +96,7 @@ fn number_of(kind: &TokenKind) -> Option<u128>
     }
 }
 
-/// A name in front, and what stands behind it.
+/// A name in front, and what stands after it.
 pub(crate) fn declared(
     alloc: Global,
     tokens: &[Token],

@@ -15,7 +15,7 @@ use bk_ops::{sign, word};
 use bk_raw::{RawType, RawTypeNode, RawTyped};
 use std::alloc::Global;
 
-/// `x : T` with commas between in front, and what stands behind them. Where none stands behind a comma, they end before it.
+/// `x : T` with commas between in front, and what stands after them. Where none stands after a comma, they end before it.
 pub(crate) fn typed_names(
     alloc: Global,
     tokens: &[Token],
@@ -40,7 +40,7 @@ pub(crate) fn typed_names(
     Ok(Some((all, rest)))
 }
 
-/// `x : T` in front, and what stands behind it.
+/// `x : T` in front, and what stands after it.
 fn typed_name(alloc: Global, tokens: &[Token]) -> Result<Option<(RawTyped, &[Token])>, Memory>
     ensures found { IfOk result (λ r. MatchOption r (Nothing TypedName tokens.now)
         (λ p. Longest TypedName tokens.now p.0 p.1.now)) }
@@ -58,7 +58,7 @@ fn typed_name(alloc: Global, tokens: &[Token]) -> Result<Option<(RawTyped, &[Tok
     Ok(Some((RawTyped { name, ty }, rest)))
 }
 
-/// A type in front, and what stands behind it.
+/// A type in front, and what stands after it.
 #[cycle(types)]
 fn written_type(alloc: Global, tokens: &[Token]) -> Result<Option<(RawType, &[Token])>, Memory>
     ensures found { IfOk result (λ r. MatchOption r (Nothing Typed tokens.now)

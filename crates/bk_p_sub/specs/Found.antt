@@ -29,7 +29,7 @@ use Rattle.bk_p_sub.specs.declared.statement.Statement.{Statement}
 use Rattle.bk_p_sub.specs.declared.term.Term.{Term}
 
 -- ---- tokens in front
--- a token of this kind is in front, and the rest stands behind it
+-- a token of this kind is in front, and the rest stands after it
 abbrev pub Ahead : TokenKind → List Token → List Token → Type 0
 Ahead kind tokens rest = (t : Token) × (tokens ≡ t ∷ rest) × (t.kind ≡ kind)
 
@@ -41,18 +41,18 @@ NotAhead kind tokens = (t : Token) (rest : List Token) → tokens ≡ t ∷ rest
 abbrev pub BeginsWithName : List Token → Type 0
 BeginsWithName tokens = (x : List ℕ) × (rest : List Token) × Ahead (Name x) tokens rest
 
--- the longest one in front of the tokens, and a token of this kind directly behind it
+-- the longest one in front of the tokens, and a token of this kind directly after it
 pub record Before {A : Type 0} (Written : A → List Token → Type 0) (ahead : TokenKind) (tokens : List Token) (x : A) (rest : List Token) : Type 0 where
   pub sign : Token
   pub same : sign.kind ≡ ahead
   pub found : Longest Written tokens x (sign ∷ rest)
 
 -- ---- terms
--- a word that stands behind a term in a block
+-- a word that stands after a term in a block
 abbrev pub is_behind_term : ℕ → Bool
 is_behind_term op = nat_eq op THEN || nat_eq op IN || nat_eq op DO || nat_eq op VARIANT || nat_eq op END
 
--- the longest term in front, with this sign or word behind it
+-- the longest term in front, with this sign or word after it
 abbrev pub FoundBefore : TokenKind → List Token → Term → List Token → Type 0
 FoundBefore ahead tokens term rest = (t : RawTree) × Before Spells ahead tokens t rest × IsTerm t term
 
@@ -77,13 +77,15 @@ Reads m tokens result = IfOk result (λ r. MatchOption r (Nothing (λ s. Sub s m
 abbrev pub Atom : SubTree → List Token → Type 0
 Atom s = Sub s 2
 
--- what stands behind the first substitution of a block
+-- what stands after the first substitution of a block
 abbrev pub BranchesEnd : ℕ → Branches → List Token → Type 0
 BranchesEnd op bs = Branched op bs ⌢ JustWord END
 
+-- the tokens are further branches of CHOICE and END
 abbrev pub ChoicesEnd : Choices → List Token → Type 0
 ChoicesEnd cs = Chosen cs ⌢ JustWord END
 
+-- the tokens are what follows the body of a loop: INVARIANT, VARIANT and END
 abbrev pub LoopEnd : RawTree × RawTree → List Token → Type 0
 LoopEnd q = JustWord INVARIANT ⌢ Spells q.0 ⌢ JustWord VARIANT ⌢ Spells q.1 ⌢ JustWord END
 
@@ -91,9 +93,11 @@ LoopEnd q = JustWord INVARIANT ⌢ Spells q.0 ⌢ JustWord VARIANT ⌢ Spells q.
 abbrev pub ReadsBranches : {E : Type 0} → ℕ → List Token → Result (Option (BuiltOnes × Bor (List Token))) E → Type 0
 ReadsBranches op tokens result = IfOk result (λ r. MatchOption r (Nothing (BranchesEnd op) tokens) (λ p. (bs : Branches) × Longest (BranchesEnd op) tokens bs p.1.now × IsBranches bs p.0))
 
+-- a reading answers the longest end of a CHOICE that begins the tokens, or that there is none
 abbrev pub ReadsChoices : {E : Type 0} → List Token → Result (Option (BuiltOthers × Bor (List Token))) E → Type 0
 ReadsChoices tokens result = IfOk result (λ r. MatchOption r (Nothing ChoicesEnd tokens) (λ p. (cs : Choices) × Longest ChoicesEnd tokens cs p.1.now × IsChoices cs p.0))
 
+-- a reading answers the longest end of a loop that begins the tokens, or that there is none
 abbrev pub ReadsLoopEnd : {E : Type 0} → List Token → Result (Option (Term × Term × Bor (List Token))) E → Type 0
 ReadsLoopEnd tokens result = IfOk result (λ r. MatchOption r (Nothing LoopEnd tokens) (λ p. (q : RawTree × RawTree) × Longest LoopEnd tokens q p.2.now × IsTerm q.0 p.0 × IsTerm q.1 p.1))
 
@@ -109,7 +113,7 @@ Opens tokens (While condition) rest = (p : RawTree) × IsTerm p condition × Lef
 abbrev pub Begins : {E : Type 0} → List Token → Result (Option (Opening × Bor (List Token))) E → Type 0
 Begins tokens result = IfOk result (λ r. MatchOption r (Nothing Atom tokens) (λ p. Opens tokens p.0 p.1.now))
 
--- ---- words with a test behind them
+-- ---- words with a test after them
 -- the word
 abbrev pub guard_kind : Guard → TokenKind
 guard_kind Pre = Word PRE
@@ -118,7 +122,7 @@ guard_kind If = Word IF
 guard_kind Select = Word SELECT
 guard_kind GuardWhile = Word WHILE
 
--- the word behind the test
+-- the word after the test
 abbrev pub guard_end : Guard → ℕ
 guard_end GuardWhile = DO
 guard_end _ = THEN

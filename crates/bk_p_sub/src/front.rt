@@ -25,7 +25,7 @@ pub fn start_of(tokens: &[Token]) -> usize
     }
 }
 
-/// The token in front, and what stands behind it.
+/// The token in front, and what stands after it.
 pub fn first_token(tokens: &[Token]) -> Option<(&Token, &[Token])>
     ensures { MatchOption result (tokens.now ≡ []) (λ p. tokens.now ≡ p.0.now ∷ p.1.now) }
 {
@@ -35,7 +35,7 @@ pub fn first_token(tokens: &[Token]) -> Option<(&Token, &[Token])>
     Some((first, rest))
 }
 
-/// What stands behind the sign of this number, if it stands in front.
+/// What stands after the sign of this number, if it stands in front.
 pub fn after_sign(tokens: &[Token], op: u16) -> Option<&[Token]>
     ensures found { MatchOption result (NotAhead (TokenKind.Sign op) tokens.now)
         (λ p. Ahead (TokenKind.Sign op) tokens.now p.now) }
@@ -50,7 +50,7 @@ pub fn after_sign(tokens: &[Token], op: u16) -> Option<&[Token]>
     Some(rest)
 }
 
-/// What stands behind the word of this number, if it stands in front.
+/// What stands after the word of this number, if it stands in front.
 pub fn after_word(tokens: &[Token], op: u16) -> Option<&[Token]>
     ensures found { MatchOption result (NotAhead (TokenKind.Word op) tokens.now)
         (λ p. Ahead (TokenKind.Word op) tokens.now p.now) }
@@ -85,7 +85,7 @@ fn is_word(kind: &TokenKind, op: u16) -> bool
     }
 }
 
-/// A name in front, and what stands behind it.
+/// A name in front, and what stands after it.
 pub fn declared(alloc: Global, tokens: &[Token]) -> Result<Option<(RawName, &[Token])>, Memory>
     ensures found { IfOk result (λ r. MatchOption r (name tokens.now ≡ None)
         (λ p. name tokens.now ≡ Some (p.0, p.1.now))) }
@@ -104,7 +104,7 @@ pub fn declared(alloc: Global, tokens: &[Token]) -> Result<Option<(RawName, &[To
     }
 }
 
-/// Names with commas between, and what stands behind them.
+/// Names with commas between, and what stands after them.
 pub fn names(alloc: Global, tokens: &[Token]) -> Result<Option<(Vec<RawName>, &[Token])>, Memory>
     ensures found { IfOk result (λ r. MatchOption r (Nothing Names tokens.now)
         (λ p. Longest Names tokens.now p.0.items p.1.now)) }
@@ -126,7 +126,7 @@ pub fn names(alloc: Global, tokens: &[Token]) -> Result<Option<(Vec<RawName>, &[
     Ok(Some((all, rest)))
 }
 
-/// Terms with commas between, and what stands behind them.
+/// Terms with commas between, and what stands after them.
 pub(crate) fn terms(alloc: Global, tokens: &[Token]) -> Result<Option<(Terms, &[Token])>, Memory>
     ensures found { IfOk result (λ r. MatchOption r (Nothing Listed tokens.now)
         (λ p. FoundTerms tokens.now p.0 p.1.now)) }
@@ -148,7 +148,7 @@ pub(crate) fn terms(alloc: Global, tokens: &[Token]) -> Result<Option<(Terms, &[
     Ok(Some((all, rest)))
 }
 
-/// A term and the word of this number behind it, and what stands behind the word.
+/// A term and the word of this number after it, and what stands after the word.
 pub(crate) fn term_before(
     alloc: Global,
     tokens: &[Token],
@@ -168,7 +168,7 @@ pub(crate) fn term_before(
     Ok(Some((term, rest)))
 }
 
-/// Names and the word of this number behind them, and what stands behind the word.
+/// Names and the word of this number after them, and what stands after the word.
 pub(crate) fn names_before(
     alloc: Global,
     tokens: &[Token],

@@ -14,7 +14,7 @@ use bk_io::Memory;
 use bk_ops::word;
 use std::alloc::Global;
 
-/// How a substitution begins, and what is to be read behind that.
+/// How a substitution begins, and what is to be read after that.
 #[derive(Drop)]
 pub(crate) enum Opening {
     /// Nothing: there is no substitution inside.
@@ -95,7 +95,7 @@ fn opening_by<'a>(
     guarded(alloc, guard, first, tokens)
 }
 
-/// What stands behind VAR, up to IN.
+/// What stands after VAR, up to IN.
 fn variables<'a>(
     alloc: Global,
     first: &Token,
@@ -111,7 +111,7 @@ fn variables<'a>(
     Ok(Some((Opening::Around(Around::Var(names)), rest)))
 }
 
-/// What stands behind ANY, up to THEN.
+/// What stands after ANY, up to THEN.
 fn values<'a>(
     alloc: Global,
     first: &Token,
@@ -130,7 +130,7 @@ fn values<'a>(
     Ok(Some((Opening::Around(Around::Under(Head::Any(names), test)), rest)))
 }
 
-/// What stands behind LET, up to IN.
+/// What stands after LET, up to IN.
 fn definitions<'a>(
     alloc: Global,
     first: &Token,
@@ -153,7 +153,7 @@ fn definitions<'a>(
     Ok(Some((Opening::Around(Around::Under(Head::Let(names), test)), rest)))
 }
 
-/// A word that begins a block, with a test behind it.
+/// A word that begins a block, with a test after it.
 #[derive(Clone, Copy)]
 pub(crate) enum Guard {
     Pre,
@@ -179,7 +179,7 @@ impl Guard {
         }
     }
 
-    /// The word behind the test.
+    /// The word after the test.
     fn end(self) -> u16
         ensures word { result ≡ guard_end self }
         ensures behind { is_behind_term result ≡ true }
@@ -204,7 +204,7 @@ impl Guard {
     }
 }
 
-/// What stands behind such a word, up to the word behind its test.
+/// What stands after such a word, up to the word after its test.
 fn guarded<'a>(
     alloc: Global,
     guard: Guard,

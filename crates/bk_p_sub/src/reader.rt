@@ -14,9 +14,9 @@ use bk_p_expr::SynFault;
 use bk_raw::{RawSub, too_deep};
 use std::alloc::Global;
 
-/// The longest substitution that is written from the token at `at` on, and the place of the token behind it.
+/// The longest substitution that is written from the token at `at` on, and the place of the token after it.
 ///
-/// The text of a larger thing may go on behind it: `skip END` read from 0 is `skip` and 1. The printed additions of terms
+/// The text of a larger thing may go on after it: `skip END` read from 0 is `skip` and 1. The printed additions of terms
 /// are read too.
 pub fn substitution(alloc: Global, tokens: &[Token], at: usize) -> Result<(RawSub, usize), SynFault>
     ensures ok { IfOk result (λ read. IsLongestFrom tokens.now at read.1 read.0) }
@@ -39,7 +39,7 @@ pub fn substitution(alloc: Global, tokens: &[Token], at: usize) -> Result<(RawSu
     }
 }
 
-/// The longest substitution in front of the tokens, and what stands behind it, for readers of larger things. It does not
+/// The longest substitution in front of the tokens, and what stands after it, for readers of larger things. It does not
 /// look at how much is open: such a reader asks `too_deep` of all its tokens first, and once.
 pub fn front_substitution(
     alloc: Global,

@@ -210,7 +210,7 @@ impl Statement {
         built(alloc, at, node_joined(joint, left, right), one.max(two))
     }
 
-    /// A test with this one behind it, and its further branches.
+    /// A test with this one after it, and its further branches.
     pub(crate) fn tested(
         self,
         alloc: Global,

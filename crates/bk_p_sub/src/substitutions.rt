@@ -1,6 +1,6 @@
 // The longest substitution in front of tokens.
 //
-// Each function answers what it reads and the tokens behind it, or None where that does not stand there. Only blocks make
+// Each function answers what it reads and the tokens after it, or None where that does not stand there. Only blocks make
 // the calls nest deeper: lists, branches and choices are read by loops.
 
 ghost use Rattle.std.specs.Prelude.{◌<◌, length, IfOk, IfSome};

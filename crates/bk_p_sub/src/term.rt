@@ -23,7 +23,7 @@ pub(crate) enum Term {
 }
 
 impl Term {
-    /// The longest term in front of the tokens, and what stands behind it.
+    /// The longest term in front of the tokens, and what stands after it.
     pub(crate) fn front(alloc: Global, tokens: &[Token]) -> Result<Option<(Term, &[Token])>, Memory>
         ensures found { IfOk result (λ r. MatchOption r (Nothing Spells tokens.now)
             (λ p. (t : RawTree) × Longest Spells tokens.now t p.1.now × IsTerm t p.0)) }

@@ -8,7 +8,7 @@ use Rattle.bk_form.specs.Table.{Table, variable_text, variable_type, with_variab
 abbrev pub with_copies : Table → ℕ → List ℕ → Table
 with_copies table first xs = record table { variables = table.variables ++ filter_map (slice_get (take first table.variables)) xs }
 
--- the table with an entry of this name and this type behind it, where both are known
+-- the table with an entry of this name and this type after it, where both are known
 abbrev pub put_behind : Table → Option (List ℕ) → Option ValueType → Table
 put_behind table (Some a) (Some t) = with_variable table (record { text = a; of_type = t })
 put_behind table _ _ = table

@@ -9,7 +9,7 @@ use Rattle.bk_gsl.specs.State.{holds, are_values_for, with_values}
 use Rattle.bk_gsl.specs.Run.{Runs}
 use Rattle.bk_gsl.specs.Clean.{Reached}
 
--- from this state: nothing is met behind a precondition, a guard or an assertion that is false, nor in a branch whose test fails
+-- from this state: nothing is met after a precondition, a guard or an assertion that is false, nor in a branch whose test fails
 abbrev pub LeftsRun : Finder → Table → Substitution → State → Type 0
 LeftsRun find table (pre p s) e = holds find table e p ≡ true → LeftsRun find table s e
 LeftsRun find table (guard p s) e = holds find table e p ≡ true → LeftsRun find table s e

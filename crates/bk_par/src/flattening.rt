@@ -20,7 +20,7 @@ use bk_io::Memory;
 use std::alloc::Global;
 
 /// The substitution with each `S || T` rewritten by copies: `@c.(c = x ==> (S ; T'))`, with x the variables that S writes,
-/// in rising order, c new variables of their types, and T' reading c for x. The table gets an entry for each copy, behind its
+/// in rising order, c new variables of their types, and T' reading c for x. The table gets an entry for each copy, after its
 /// own. Where both sides of some `||` write a variable, the smallest such is the fault, and the table is as it was; after
 /// `Memory`, which comes too where 32 bits do not number the copies, it has its old entries and perhaps some of the new ones.
 #[tactic(auto, using(crate::proofs::Whole::flattening))]

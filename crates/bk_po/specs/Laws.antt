@@ -1,4 +1,5 @@
 -- What the obligations are and what they are worth, as statements.
+-- Source: B-Book, refinement.
 use Rattle.std.specs.Prelude.{◌≡◌, ◌<◌, ℕ, pos, suc, true, false, List, [], ◌∷◌, length, map, codes}
 use Rattle.bk_form.specs.Search.{Finder, IsSearch}
 use Rattle.bk_dev.specs.Development.{Development, is_complete, with_set_sizes}
@@ -75,8 +76,8 @@ pub record IsFlatChain (dev : Development) : Type 0 where
   pub only_last : OnlyLastIsImplementation dev
   pub flat : IsFlatDevelopment dev
 
--- where the boxes of all its levels are true and what is met is defined or fits, the machine keeps its invariant and each level
--- carries the one above
+-- where the boxes of all levels are true and what is met is defined or fits, the machine keeps its invariant and each level
+-- carries the one above; of a lawful development without ||, and nothing else is asked of it
 abbrev pub BoxesCarry : Type 0
 BoxesCarry = (find : Finder) → IsSearch find → (dev : Development) → IsFlatChain dev → BoxesHold find dev → AllClean find dev →
     LevelsAreCarried find dev

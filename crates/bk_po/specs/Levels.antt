@@ -1,4 +1,5 @@
 -- What the obligations of all levels say, each by itself; of developments whose substitutions are flat.
+-- Source: B-Book, refinement.
 use Rattle.std.specs.Prelude.{◌≡◌, ◌<◌, ℕ, suc, true, List, [], ◌∷◌, length}
 use Rattle.std.specs.List.{flat_map}
 use Rattle.bk_form.specs.Formula.{Formula}

@@ -100,7 +100,7 @@ head_name dev o = (slice_index_or dev.heads o (record { name = []; inputs = []; 
 abbrev pub suffix : Level → List ℕ
 suffix l = cond (is_implementation l) (codes ".chk") (codes ".wd")
 
--- what stands in the name behind the component
+-- what stands in the name after the component
 abbrev pub clause_name : Development → ℕ → Clause → List ℕ
 clause_name dev k PropertiesDefined = codes "PROPERTIES.wd"
 clause_name dev k ValuesMeet = codes "VALUES"
@@ -136,6 +136,7 @@ goal_of dev k InitialisationDefined = evaluation_goal dev k (level_at dev k).ini
 goal_of dev k (Operation o) = operation_goal dev k o
 goal_of dev k (OperationDefined o) = evaluation_goal dev k (whole (body_at dev k o))
 
+-- an obligation of these three parts
 abbrev pub obligation : List ℕ → List Formula → Formula → Obligation
 obligation name hypotheses goal = record { name = name; hypotheses = hypotheses; goal = goal }
 

@@ -147,6 +147,7 @@ swap = record {
 abbrev pub known_above : List Formula
 known_above = is_small (variable 0) ∷ is_small (variable 1) ∷ []
 
+-- what is known below: the numbers of both levels are small and linked
 abbrev pub known_below : List Formula
 known_below = is_small (variable 0) ∷ is_small (variable 1) ∷ is_small (variable 2) ∷ is_small (variable 3) ∷ same 2 0 ∷ same 3 1 ∷ []
 
@@ -255,6 +256,7 @@ fill = record {
 abbrev pub known_fill : List Formula
 known_fill = is_array (variable 0) ∷ is_array (variable 1) ∷ same 1 0 ∷ []
 
+-- what is known where an element is read: the arrays are linked and the index is in range
 abbrev pub known_read : List Formula
 known_read = is_array (variable 0) ∷ is_array (variable 1) ∷ same 1 0 ∷ from_to (variable 2) 0 9 ∷ binary In (variable 2) (up_to least greatest) ∷ []
 
@@ -266,6 +268,7 @@ over_both p = for_all (functions ∷ int_type ∷ []) p
 abbrev pub so_far_there : Formula
 so_far_there = so_far (bound 0) (bound 1) (bound 1) (bound 2)
 
+-- the invariant of the loop while its test is true
 abbrev pub going : Formula
 going = binary And so_far_there (binary Lt (bound 0) (number 10))
 

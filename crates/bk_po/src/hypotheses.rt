@@ -91,7 +91,7 @@ fn begins(
     Ok(hyps)
 }
 
-// The formulas, and others behind them.
+// The formulas, and others after them.
 fn followed_by(alloc: Global, forms: &[Form], others: &[Form]) -> Result<Vec<Form>, Memory>
     ensures { IfOk result (λ list. list.items ≡ forms.now ++ others.now) }
 {

@@ -170,7 +170,7 @@ fn name(
     }
 }
 
-// The component's name, and this behind it.
+// The component's name, and this after it.
 fn named_after(alloc: Global, level: &Level, clause: &[u8]) -> Result<Text, Memory>
     ensures { IfOk result (λ name. name ≡ level.now.name ++ codes "." ++ clause.now) }
 {
@@ -180,7 +180,7 @@ fn named_after(alloc: Global, level: &Level, clause: &[u8]) -> Result<Text, Memo
     Ok(Text::from_bytes(name))
 }
 
-// The same with .wd behind it, and at an implementation with .chk.
+// The same with .wd after it, and at an implementation with .chk.
 fn defined_after(alloc: Global, level: &Level, clause: &[u8]) -> Result<Text, Memory>
     ensures { IfOk result (λ name. name ≡ level.now.name ++ codes "." ++ (clause.now ++ suffix level.now)) }
 {

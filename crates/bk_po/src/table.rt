@@ -9,7 +9,7 @@ use bk_form::VarTable;
 use bk_io::Memory;
 use std::alloc::Global;
 
-/// The table over which the formulas of a development's obligations type: its own, with an entry behind for each copy that flattening makes.
+/// The table over which the formulas of a development's obligations type: its own, with an entry after for each copy that flattening makes.
 pub fn obligation_table(alloc: Global, dev: &Development) -> Result<VarTable, Memory>
     ensures { IfOk result (λ table. table ≡ (flattened dev.now).table) }
 {

@@ -33,7 +33,7 @@ pub record HasClosedTable (dev : Development) (scripts : List RawScript) : Type 
   pub are : HasRows dev scripts rows
   pub closed : first_open rows ≡ None
 
--- so it does there; what has no loop then ends within its code
+-- the translation follows the machine where the status table has no open row; what has no loop then ends within its code
 abbrev pub ClosedTablesFollow : Type 0
 ClosedTablesFollow = (find : Finder) → IsSearch find → (dev : Development) (scripts : List RawScript) → HasClosedTable dev scripts →
     Follows find dev (translation dev) × EndsWithoutLoops find dev (translation dev)

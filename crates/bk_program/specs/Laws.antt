@@ -43,7 +43,8 @@ pub record IsImageBuilt (files others : Files) (build_words : List (List ℕ)) (
   pub stands : file_named others image ≡ Some bytes
   pub same : file_named others calls ≡ file_named files calls
 
--- then `exec` on the image has the answer of `run` on the project
+-- where `build` is done, `exec` on a file with the bytes that it writes has, with the same call script and fuel, the answer
+-- of `run`; the bytes must be few enough for a file
 abbrev pub BuiltImagesRun : Type 0
 BuiltImagesRun =
     (files others : Files) (build_words run_words exec_words : List (List ℕ)) (project calls image bytes : List ℕ) (fuel : ℕ) →

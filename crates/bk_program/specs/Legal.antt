@@ -33,7 +33,7 @@ abbrev pub replied : Development → List Request → List Told → List (List M
 replied dev (request ∷ requests) (told ∷ tolds) = done_or told.end (reply_of dev request told ∷ replied dev requests tolds) []
 replied dev _ _ = []
 
--- what is told of the calls, behind the initialisation
+-- what is told of the calls, after the initialisation
 abbrev pub of_calls : List Told → List Told
 of_calls [] = []
 of_calls (told ∷ tolds) = tolds
@@ -93,15 +93,15 @@ pub record InitialisationEndsWell (find : Finder) (dev : Development) (fuel : �
   pub in_time : HasNoLoop (level_at dev (last dev)).init → IsDoneWithin (length (init_code dev)) fuel told.end
 
 -- call by call: where a call's precondition is true in every state of before, Holds is so of it, from these states and on the cells that
--- the one before it left, and so on from the states that it steps to with its replies; behind a call that is not legal nothing is said, and
--- behind one that is not done nothing is told
+-- the one before it left, and so on from the states that it steps to with its replies; after a call that is not legal nothing is said, and
+-- after one that is not done nothing is told
 abbrev pub EachLegalCall : Finder → Development → ((Abstract → Type 0) → Request → List ℤ → Told → Type 0) → (Abstract → Type 0) → List ℤ → List Request → List Told → Type 0
 EachLegalCall find dev Holds before cells (request ∷ requests) (told ∷ tolds) =
     ((a : Abstract) → before a → Pre find dev (call_of dev request) a) →
     Holds before request cells told × EachLegalCall find dev Holds (After find dev before (call_of dev request) (reply_of dev request told)) told.cells requests tolds
 EachLegalCall find dev Holds before cells _ _ = Unit {0}
 
--- the initialisation ends well, and so does each call that is legal after those before it, whatever comes behind it: up to the first call
+-- the initialisation ends well, and so does each call that is legal after those before it, whatever comes after it: up to the first call
 -- whose precondition may be false the replies are those of a run of the machine
 abbrev pub LegalCallsEndWell : Finder → Development → ℕ → List Request → List Told → Type 0
 LegalCallsEndWell find dev fuel requests [] = Unit {0}

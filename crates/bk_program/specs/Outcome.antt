@@ -22,6 +22,7 @@ pub record Devices : Type 0 where
   pub write_faults : ℕ
   pub absences : ℕ
 
+-- the devices as contracts see them
 abbrev pub devices : Option Files → Option (List ℕ) → (read_faults write_faults absences : ℕ) → Devices
 devices files written read_faults write_faults absences =
     record { files = files; written = written; read_faults = read_faults; write_faults = write_faults; absences = absences }

@@ -1,5 +1,6 @@
 -- The chain of a project's components: each is of the kind that its line says, and names the component above as the one that it
 -- refines.
+-- Source: B-Book, refinement; B Language Reference Manual.
 use Rattle.std.specs.Prelude.{Bool, true, false, ◌&&◌, bytes_eq, List, [], ◌∷◌, Option, None, Some}
 use Rattle.bk_raw.specs.declared.component.ComponentKind.{ComponentKind}
 use Rattle.bk_raw.specs.declared.component.ComponentKind.TheVariants.{Machine, Refinement, Implementation}

@@ -63,7 +63,7 @@ pub record Reads (kinds : List LineKind) (texts : List (List ℕ)) (dev : Develo
   pub levels : AreLevels None components (Some dev)
 
 -- ---- faults
--- no component is written so: this is the place of the first token behind the longest front of whole parts, or the end
+-- no component is written so: this is the place of the first token after the longest front of whole parts, or the end
 abbrev pub IsUnwritten : ℕ → List ℕ → Type 0
 IsUnwritten place text = (tokens : List Token) × IsShallowText text tokens × IsComponentFaultAt (length text) tokens place
 

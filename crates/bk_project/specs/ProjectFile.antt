@@ -60,6 +60,7 @@ is_proofs _ = false
 abbrev pub component_lines : List ProjectLine → List ProjectLine
 component_lines named = filter (λ l. not (is_proofs l.kind)) named
 
+-- the lines that name a proof file
 abbrev pub proof_lines : List ProjectLine → List ProjectLine
 proof_lines named = filter (λ l. is_proofs l.kind) named
 
@@ -92,7 +93,7 @@ pub record AreLinesOf (text : List ℕ) (named : List ProjectLine) : Type 0 wher
 abbrev pub kept_of : List (List ℕ) → List (List ℕ)
 kept_of ls = filter (λ line. not (is_skipped line)) ls
 
--- this line, of number place from 1 on, is the first that is no line of a project, or has no place behind those before it
+-- this line, of number place from 1 on, is the first that is no line of a project, or has no place after those before it
 pub record IsWrongLine (text : List ℕ) (place : ℕ) : Type 0 where
   pub before : List (List ℕ)
   pub line : List ℕ

@@ -26,7 +26,7 @@ IsNextRefusal above c file (Fault number told place) = (suc file ≡ told) × An
 IsNextRefusal above c file (Limit number told) = ⊥
 IsNextRefusal above c file Memory = Unit {0}
 
--- whether a line of this kind may stand behind lines of which this is the last for a component file
+-- whether a line of this kind may stand after lines of which this is the last for a component file
 abbrev pub may_follow : Option LineKind → LineKind → Bool
 may_follow last ProofsLine = true
 may_follow None MachineLine = true

@@ -101,7 +101,7 @@ fn at_fault(kind: FaultKind, place: usize) -> Refusal
     }
 }
 
-/// Whether a line of this kind may stand behind others, of which this is the last for a component file.
+/// Whether a line of this kind may stand after others, of which this is the last for a component file.
 fn may_follow(last: Option<LineKind>, kind: LineKind) -> bool
     ensures { result ≡ may_follow last kind }
 {
@@ -114,7 +114,7 @@ fn may_follow(last: Option<LineKind>, kind: LineKind) -> bool
     }
 }
 
-/// The last line for a component file, where one of this kind stands behind the others.
+/// The last line for a component file, where one of this kind stands after the others.
 fn last_after(last: Option<LineKind>, kind: LineKind) -> Option<LineKind>
     ensures { result ≡ last_after last kind }
 {
@@ -183,7 +183,7 @@ fn file_name<'a>(line: &'a [u8], word: &[u8]) -> Option<&'a [u8]>
     Some(name)
 }
 
-// What stands behind the word in a line that begins with it.
+// What stands after the word in a line that begins with it.
 #[tactic(auto, using(crate::proofs::Trimming::stands_behind, crate::proofs::Trimming::stands_nowhere))]
 fn behind<'a>(line: &'a [u8], word: &[u8]) -> Option<&'a [u8]>
     ensures { MatchOption result ((rest : List ℕ) → line.now ≢ word.now ++ rest)

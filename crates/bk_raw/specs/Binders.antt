@@ -1,5 +1,6 @@
 -- The names that a quantifier, a comprehension or a lambda binds: how they get types. That typing predicates stand among the conjuncts,
 -- for `!` left of `=>`, is the B Language Reference Manual's; which of them count is this project's own.
+-- Source: B-Book.
 use Rattle.std.specs.Prelude.{ℕ, Bool, true, false, cond, ◌&&◌, ◌||◌, nat_eq, List, [], ◌∷◌, ◌++◌, Option, None, Some}
 use Rattle.std.specs.Str.{bytes_eq}
 use Rattle.bk_val.specs.ValueType.{ValueType, bool_type, pair_type, set_type}
@@ -32,7 +33,7 @@ abbrev pub locals : List Bound → List Named
 locals [] = []
 locals (b ∷ bs) = record { text = b.text; meaning = local b.of_type } ∷ locals bs
 
--- the names in sight inside the binder
+-- the names in scope inside the binder
 abbrev pub inside : List Bound → Names → Names
 inside bs names = bind (locals bs) names
 

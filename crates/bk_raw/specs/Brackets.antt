@@ -45,20 +45,20 @@ abbrev pub one_less : ℕ → ℕ
 one_less zero = zero
 one_less (suc n) = n
 
--- how many are open behind a token, where so many are open before it and the tests say what opens and what closes. It does
+-- how many are open after a token, where so many are open before it and the tests say what opens and what closes. It does
 -- not fall below 0
 abbrev pub open_behind : (TokenKind → Bool) → (TokenKind → Bool) → ℕ → TokenKind → ℕ
 open_behind opening closing n kind = cond (opening kind) (n + 1) (cond (closing kind) (n - 1) n)
 
--- how many are open behind these tokens, where so many are open before them
+-- how many are open after these tokens, where so many are open before them
 abbrev pub count_open : (TokenKind → Bool) → (TokenKind → Bool) → ℕ → List Token → ℕ
 count_open opening closing n [] = n
 count_open opening closing n (token ∷ tokens) = count_open opening closing (open_behind opening closing n token.kind) tokens
 
--- how many brackets are open behind these tokens
+-- how many brackets are open after these tokens
 abbrev pub open_brackets : List Token → ℕ
 open_brackets tokens = count_open opens_bracket closes_bracket 0 tokens
 
--- how many blocks are open behind them
+-- how many blocks are open after them
 abbrev pub open_blocks : List Token → ℕ
 open_blocks tokens = count_open opens_block closes_block 0 tokens

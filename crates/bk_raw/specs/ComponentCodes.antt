@@ -90,7 +90,7 @@ coded_operation = code_by (List RawName × (RawName × (List RawName × SubTree)
 abbrev Lists : Type 0
 Lists = ℕ × (List RawSet × (List RawName × (List RawTree × (List RawValue × (List SubTree × List RawOperation)))))
 
--- the lists of what stands behind a clause's word
+-- the lists of what stands after a clause's word
 abbrev parts_lists : ClauseParts → Lists
 parts_lists (clause_sets ss) = (0, (ss, ([], ([], ([], ([], []))))))
 parts_lists (clause_names xs) = (1, ([], (xs, ([], ([], ([], []))))))
@@ -121,7 +121,7 @@ parts_back-lists (clause_values vs) = refl
 parts_back-lists (clause_sub s) = refl
 parts_back-lists (clause_operations os) = refl
 
--- what stands behind words is told apart by its lists
+-- what stands after words is told apart by its lists
 abbrev coded_parts : Coded ClauseParts
 coded_parts = code_by Lists (coded× coded_ℕ (coded× (coded_list coded_set) (coded× (coded_list coded_name) (coded× (coded_list coded_tree) (coded× (coded_list coded_value) (coded× (coded_list coded_sub) (coded_list coded_operation))))))) parts_lists parts_back parts_back-lists
 

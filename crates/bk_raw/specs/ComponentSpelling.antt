@@ -1,4 +1,5 @@
 -- What tokens a component is written as: its words, its signs and its parts' tokens in order.
+-- Source: B Language Reference Manual.
 use Rattle.std.specs.Prelude.{◌≡◌, ◌≢◌, true, List, [], ◌∷◌, Option, None, Some, All, map}
 use Rattle.bk_form.specs.declared.token.Token.{Token}
 use Rattle.bk_form.specs.declared.token.TokenKind.TheVariants.{Word}
@@ -18,7 +19,7 @@ use Rattle.bk_raw.specs.ComponentTree.{RawSet, RawOperation, ClauseParts, clause
 use Rattle.bk_raw.specs.declared.component.RawValue.{RawValue}
 
 -- ---- parts of clauses
--- = { a, b } behind a set's name, or nothing
+-- = { a, b } after a set's name, or nothing
 abbrev pub Elements : List RawName → List Token → Type 0
 Elements [] = Absent
 Elements (x ∷ xs) = JustSign EQUAL ⌢ JustSign OPEN_BRACE ⌢ Names (x ∷ xs) ⌢ JustSign CLOSE_BRACE
@@ -46,7 +47,7 @@ abbrev pub Operation : RawOperation → List Token → Type 0
 Operation o = Outputs o.outputs ⌢ Declared o.name ⌢ Inputs o.inputs ⌢ JustSign EQUAL ⌢ Sub o.body 1
 
 -- ---- clauses
--- what stands behind the word of a clause
+-- what stands after the word of a clause
 abbrev pub Parts : ClauseWord → ClauseParts → List Token → Type 0
 Parts Sets (clause_sets ss) = Divided SEMICOLON Set ss
 Parts Constants (clause_names xs) = Names xs
@@ -62,7 +63,7 @@ Parts Initialisation (clause_sub s) = Sub s 0
 Parts Operations (clause_operations os) = Divided SEMICOLON Operation os
 Parts _ _ = Never
 
--- a clause: its word, and what stands behind it
+-- a clause: its word, and what stands after it
 abbrev pub Clause : RawClause → List Token → Type 0
 Clause c = JustAt c.at (Word (word_number c.word)) ⌢ Parts c.word c.parts
 
@@ -99,7 +100,7 @@ pub record AreClausesOf (kind : ComponentKind) (clauses : List RawClause) : Type
   pub plain : All (λ c. ArePlain c.parts) clauses
   pub once : Differ (map (λ c. clause_number c.word) clauses)
 
--- the tokens are those of the component but for its END: the header, and the clauses one behind another
+-- the tokens are those of the component but for its END: the header, and the clauses one after another
 pub record OpensComponent (c : RawComponent) (tokens : List Token) : Type 0 where
   pub written : (Header c ⌢ InRow Clause c.clauses) tokens
   pub made : AreClausesOf c.kind c.clauses

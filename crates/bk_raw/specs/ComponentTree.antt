@@ -1,4 +1,5 @@
 -- Components of the B notation as they are written, as mathematical trees.
+-- Source: B Language Reference Manual.
 use Rattle.std.specs.Prelude.{ℕ, List, map, Option, Bool, true, false, nat_lt}
 use Rattle.bk_form.specs.declared.token.TokenKind.{TokenKind}
 use Rattle.bk_raw.specs.Brackets.{is_word}
@@ -25,7 +26,7 @@ pub record RawOperation : Type 0 where
   pub inputs : List RawName
   pub body : SubTree
 
--- what stands behind a clause's word
+-- what stands after a clause's word
 pub data ClauseParts : Type 0 where
   clause_sets : List RawSet → ClauseParts
   clause_names : List RawName → ClauseParts

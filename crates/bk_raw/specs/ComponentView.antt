@@ -3,7 +3,7 @@ use Rattle.bk_raw.specs.ComponentTree.{ClauseParts as WrittenParts, clause_sets,
 use Rattle.bk_raw.specs.declared.component.ClauseParts.{ClauseParts}
 use Rattle.bk_raw.specs.declared.component.ClauseParts.TheVariants.{Sets, Names, Term, Terms, Values, Substitution, Operations}
 
--- what stands behind the word of a clause
+-- what stands after the word of a clause
 abbrev pub parts_of : ClauseParts → WrittenParts
 parts_of (Sets ss) = clause_sets ss.items
 parts_of (Names xs) = clause_names xs.items

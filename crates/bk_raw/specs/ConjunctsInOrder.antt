@@ -44,6 +44,7 @@ abbrev pub first_of : Option (Formula × ValueType × ℕ) → Option (Formula �
 first_of (Some r) s = Some r
 first_of None s = s
 
+-- a range that was found, with the number of its conjunct
 abbrev pub numbered : ℕ → Option (Formula × ValueType) → Option (Formula × ValueType × ℕ)
 numbered i None = None
 numbered i (Some d) = Some (d.0, d.1, i)
@@ -58,7 +59,7 @@ abbrev pub ranged_first : ℤ → Names → List RawName → List RawTree → Li
 ranged_first max names all cs [] = []
 ranged_first max names all cs (x ∷ xs) = record { text = x.text; at = x.at; range = first_given max names all x.text 0 cs } ∷ ranged_first max names all cs xs
 
--- the conjuncts that gave no range, in order, joined to the left behind those before
+-- the conjuncts that gave no range, in order, joined to the left after those before
 abbrev pub left_in_order : ℤ → Names → List Ranged → ℕ → Option Reading → List RawTree → Option Reading
 left_in_order max names rs i before [] = before
 left_in_order max names rs i before (c ∷ cs) = left_in_order max names rs (suc i) (left_over (is_used i rs) before (part true c (reading max names c))) cs

@@ -11,7 +11,7 @@ Fault = FaultKind × ℕ
 abbrev pub twice_named : ℕ → Fault
 twice_named at = (TwiceNamed, at)
 
--- a name that is not in sight
+-- a name that is not in scope
 abbrev pub unknown_name : ℕ → Fault
 unknown_name at = (UnknownName, at)
 

@@ -12,7 +12,7 @@ use Rattle.bk_raw.specs.Binders.{twice}
 use Rattle.bk_raw.specs.TermReading.{place_of, is_predicate, is_alike, takes_predicate, is_connective, strict_faults, reading}
 use Rattle.bk_raw.specs.Faults.{Fault, unknown_name, not_predicate}
 
--- the names in sight within a binder of these names
+-- the names in scope within a binder of these names
 abbrev pub with_names : List RawName → (List ℕ → Bool) → List ℕ → Bool
 with_names xs visible x = is_among x xs || visible x
 
@@ -21,7 +21,7 @@ abbrev pub part_faults : Bool → RawTree → List Fault → List Fault
 part_faults wanted t fs = cond (is_alike wanted (is_predicate t)) fs (not_predicate (place_of t) ∷ fs)
 
 abbrev mutual
-  -- the faults of a term by its form, where the test tells which names are in sight
+  -- the faults of a term by its form, where the test tells which names are in scope
   pub form_faults : (List ℕ → Bool) → RawTree → List Fault
   form_faults visible (raw at node) = node_faults visible at node
 
@@ -63,6 +63,6 @@ is_in_sight unseen = false
 is_in_sight _ = true
 
 -- all faults of a term but those of types are told by its form, in the order of the text: names and types do not matter, but for which
--- names are in sight. The term has none of the additions with which formulas are printed
+-- names are in scope. The term has none of the additions with which formulas are printed
 abbrev pub FormTellsFaults : Type 0
 FormTellsFaults = (max : ℤ) (names : Names) (t : RawTree) → HasNoAddition t → but_types (reading max names t).faults ≡ form_faults (λ x. is_in_sight (found 0 names x)) t

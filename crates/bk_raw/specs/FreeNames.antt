@@ -1,4 +1,5 @@
 -- Whether a name stands free in a term as it is written, and how LET defines its names.
+-- Source: B Language Reference Manual.
 use Rattle.std.specs.Prelude.{◌≡◌, ℕ, Bool, false, not, ◌&&◌, ◌||◌, List, [], ◌∷◌, ◌++◌, All}
 use Rattle.std.specs.Str.{bytes_eq}
 use Rattle.bk_raw.specs.declared.operator.InfixOp.TheVariants.{And, Equal}

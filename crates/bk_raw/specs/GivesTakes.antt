@@ -26,6 +26,7 @@ use Rattle.bk_raw.specs.declared.term.RawName.{RawName}
 abbrev pub expression : ℤ → Names → RawTree → Outcome
 expression max names t = (part false t (reading max names t)).outcome
 
+-- what a predicate reads as
 abbrev pub statement : ℤ → Names → RawTree → Outcome
 statement max names t = (part true t (reading max names t)).outcome
 

@@ -59,8 +59,8 @@ PlacesAreOne =
 abbrev pub FaultsExclude : Type 0
 FaultsExclude = (tokens : List Token) (c : RawComponent) (place : ℕ) → SpellsComponent c tokens → IsComponentFault tokens place → ⊥
 
--- behind the header clauses are read one after another, each the longest that can be the next one, until none can follow: the
--- longest whole front ends behind what is read, and one token later where END stands there
+-- after the header clauses are read one after another, each the longest that can be the next one, until none can follow: the
+-- longest whole front ends after what is read, and one token later where END stands there
 abbrev pub ReadingTellsPlace : Type 0
 ReadingTellsPlace =
     (c : RawComponent) (tokens header behind rest : List Token) (place : ℕ) → tokens ≡ header ++ behind → Header c header → AreReadOn c.kind [] c.clauses behind rest →
@@ -82,7 +82,7 @@ ScriptPlacesAreOne =
 abbrev pub ScriptFaultsExclude : Type 0
 ScriptFaultsExclude = (tokens : List Token) (ss : List RawScript) (place : ℕ) → SpellsScripts ss tokens → IsScriptFault tokens place → ⊥
 
--- the tokens begin with whole scripts, behind which no whole one stands, and behind them with the longest script but for its
+-- the tokens begin with whole scripts, after which no whole one stands, and after them with the longest script but for its
 -- end, or with nothing
 pub record BeginsWithScripts (tokens done open_one : List Token) : Type 0 where
   pub scripts : List RawScript
@@ -96,7 +96,8 @@ pub record BeginsWithScripts (tokens done open_one : List Token) : Type 0 where
   pub longest : (s : RawScript) (front after : List Token) → behind ≡ front ++ after →
       OpensScript s front → length front ≤ length open_one
 
--- they are the longest whole front
+-- whole scripts in front, after which no whole one stands, and after them the longest one but for its end, or nothing, are
+-- the longest whole front
 abbrev pub ScriptsTellPlace : Type 0
 ScriptsTellPlace = (tokens done open_one : List Token) → BeginsWithScripts tokens done open_one →
     IsLongestWhole IsWholeScripts tokens (length done + length open_one)

@@ -8,11 +8,11 @@ use Rattle.bk_raw.specs.SubTree.{SubTree, sub_height}
 use Rattle.bk_raw.specs.ComponentTree.{RawComponent, component_height}
 use Rattle.bk_raw.specs.ScriptTree.{RawScript, script_height}
 
--- behind these tokens at most MOST_OPEN brackets are open, and at most MOST_OPEN blocks
+-- after these tokens at most MOST_OPEN brackets are open, and at most MOST_OPEN blocks
 abbrev pub IsWithinDepth : List Token → Type 0
 IsWithinDepth tokens = (open_brackets tokens ≤ MOST_OPEN) × (open_blocks tokens ≤ MOST_OPEN)
 
--- so it is behind each of the tokens
+-- so it is after each of the tokens
 abbrev pub IsShallow : List Token → Type 0
 IsShallow tokens = (n : ℕ) → n ≤ length tokens → IsWithinDepth (take n tokens)
 

@@ -1,4 +1,4 @@
--- The names in sight of a term, and what they stand for. That an inner name hides an outer one is the B-Book's; numbers of bound
+-- The names in scope of a term, and what they stand for. That an inner name hides an outer one is the B-Book's; numbers of bound
 -- variables, which count outward, are this project's own.
 use Rattle.std.specs.Prelude.{◌≡◌, ℕ, zero, suc, ◌-◌, true, cond, ◌&&◌, nat_lt, nat_le, List, [], ◌∷◌, ◌++◌, Option, None, Some, codes, decimal}
 use Rattle.std.specs.Str.{bytes_eq}
@@ -30,15 +30,15 @@ pub record Named : Type 0 where
 abbrev pub Names : Type 0
 Names = List Named
 
--- a name at a level is written with a dollar sign and the level's number behind it
+-- a name at a level is written with a dollar sign and the level's number after it
 abbrev pub level_name : List ℕ → ℕ → List ℕ
 level_name name level = name ++ (codes "$" ++ decimal level)
 
 -- what is found of a name
 pub data Sight : Type 0 where
-  -- it is not in sight
+  -- it is not in scope
   unseen : Sight
-  -- it is in sight and has no type
+  -- it is in scope and has no type
   untyped_name : Sight
   -- its formula and type
   seen : Formula → ValueType → Sight
@@ -53,7 +53,7 @@ sight i (set_name s) = seen (named (Enum s)) (set_type (enum_type s))
 sight i (element_name s e) = seen (element s e) (enum_type s)
 sight i nothing = unseen
 
--- how many locals stand before the names behind this one
+-- how many locals stand before the names after this one
 abbrev pub behind : ℕ → Meaning → ℕ
 behind i (local t) = suc i
 behind i _ = i

@@ -32,7 +32,7 @@ abbrev pub JustWord : ℕ → List Token → Type 0
 JustWord op = Just (Word op)
 
 infixr 40 ◌⌢◌
--- one piece, and another one directly behind it
+-- one piece, and another one directly after it
 abbrev pub ◌⌢◌ : (List Token → Type 0) → (List Token → Type 0) → List Token → Type 0
 ◌⌢◌ First Second tokens = (front back : List Token) × (tokens ≡ front ++ back) × First front × Second back
 
@@ -52,7 +52,7 @@ abbrev pub AnyDivided : {A : Type 0} → ℕ → (A → List Token → Type 0) �
 AnyDivided op Written [] = Absent
 AnyDivided op Written (x ∷ xs) = Divided op Written (x ∷ xs)
 
--- any number of them, one directly behind another
+-- any number of them, one directly after another
 abbrev pub InRow : {A : Type 0} → (A → List Token → Type 0) → List A → List Token → Type 0
 InRow Written [] = Absent
 InRow Written (x ∷ xs) = Written x ⌢ InRow Written xs

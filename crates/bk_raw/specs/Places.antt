@@ -1,5 +1,5 @@
 -- Where tokens that are written as no component, or as no proof file, are at fault: at the first token past their longest
--- whole front, or behind all of them.
+-- whole front, or after all of them.
 use Rattle.std.specs.Prelude.{◌≡◌, ◌⊎◌, ◌≤◌, ℕ, zero, suc, List, [], ◌∷◌, ◌++◌, length}
 use Rattle.bk_form.specs.declared.token.Token.{Token}
 use Rattle.bk_raw.specs.declared.component.ComponentKind.{ComponentKind}
@@ -34,7 +34,7 @@ pub record IsScriptFault (tokens : List Token) (place : ℕ) : Type 0 where
   pub first : IsLongestWhole IsWholeScripts tokens place
 
 -- ---- in bytes
--- the byte where the token starts before which so many stand; behind the last one the length of the text
+-- the byte where the token starts before which so many stand; after the last one the length of the text
 abbrev pub byte_at : (text_length : ℕ) → List Token → ℕ → ℕ
 byte_at text_length [] place = text_length
 byte_at text_length (t ∷ ts) zero = t.start
@@ -49,11 +49,11 @@ abbrev pub IsScriptFaultAt : (text_length : ℕ) → List Token → (byte : ℕ)
 IsScriptFaultAt text_length tokens byte = (place : ℕ) × IsScriptFault tokens place × (byte ≡ byte_at text_length tokens place)
 
 -- ---- reading clause by clause
--- behind these clauses of a component of the kind, this clause can be the next one, and these are its tokens
+-- after these clauses of a component of the kind, this clause can be the next one, and these are its tokens
 abbrev pub CanFollow : ComponentKind → List RawClause → RawClause → List Token → List Token → Type 0
 CanFollow kind done c tokens front = ((rest : List Token) × (tokens ≡ front ++ rest)) × Clause c front × AreClausesOf kind (done ++ c ∷ [])
 
--- behind the first clauses these ones stand one after another, each the longest that can be the next one there, and behind
+-- after the first clauses these ones stand one after another, each the longest that can be the next one there, and after
 -- them, where the last tokens are left, none can follow
 abbrev pub AreReadOn : ComponentKind → List RawClause → List RawClause → List Token → List Token → Type 0
 AreReadOn kind done [] tokens rest = (tokens ≡ rest) × AreClausesOf kind done × ((d : RawClause) (other : List Token) → CanFollow kind done d tokens other → ⊥)

@@ -40,7 +40,7 @@ typed_empty at (Some (set_type t)) = giving (empty_set (set_type t)) (set_type t
 typed_empty at _ = silently (no_type at)
 
 -- ---- bound variables
--- a bound variable's number is the next from the outside, k; any other is a name that is not in sight
+-- a bound variable's number is the next from the outside, k; any other is a name that is not in scope
 abbrev pub wrong_number : ℕ → ℕ → ℕ → List Fault
 wrong_number at n k = cond (nat_eq n k) [] (unknown_name at ∷ [])
 

@@ -1,4 +1,5 @@
 -- Terms of the B notation as they are written, as mathematical trees.
+-- Source: B Language Reference Manual.
 use Rattle.std.specs.Prelude.{ℕ, ℤ, ◌+◌, max, List, [], ◌∷◌}
 use Rattle.bk_raw.specs.WrittenType.{WrittenType}
 use Rattle.bk_raw.specs.declared.operator.InfixOp.{InfixOp}

@@ -17,7 +17,7 @@ use Rattle.bk_raw.specs.declared.term.RawName.{RawName}
 use Rattle.bk_raw.specs.declared.term.RawBound.{RawBound}
 use Rattle.bk_raw.specs.RawTree.{RawTree, raw, RawTreeNode, raw_name, raw_level_name, raw_bound_name, raw_number, raw_constant, raw_word, raw_negative, raw_infix, raw_inverse, raw_image, raw_apply, raw_composition, raw_pair, raw_empty_set, raw_extension, raw_comprehension, raw_lambda, raw_for_all, raw_exists, raw_typed_empty, raw_typed_for_all, raw_typed_exists, raw_ranged_comprehension, raw_ranged_lambda, RawTrees, no_trees, tree_and, RawRanges, no_ranges, range_and}
 
--- what is read from the front of tokens, with the tokens behind it, if anything is
+-- what is read from the front of tokens, with the tokens after it, if anything is
 abbrev pub Reader : Type 0 → Type 0
 Reader A = List Token → Option (A × List Token)
 
@@ -50,7 +50,7 @@ abbrev pub constant_of : TokenKind → Option Constant
 constant_of kind = first_with constant_kind constant_operators kind
 
 -- ---- one thing after another
--- what is read behind the first thing, where that is read
+-- what is read after the first thing, where that is read
 abbrev pub next : {A B : Type 0} → Option (A × List Token) → (A → List Token → Option (B × List Token)) → Option (B × List Token)
 next None f = None
 next (Some p) f = f p.0 p.1
@@ -111,7 +111,7 @@ typed zero ts = None
 typed (suc n) [] = None
 typed (suc n) (t ∷ ts) = typed_at (typed n) t.kind ts
 
--- what stands behind the number of a bound variable
+-- what stands after the number of a bound variable
 abbrev pub numbered : TokenKind → ℕ → Reader (ℕ × ℕ)
 numbered (BoundName n) at ts = next (sign MEMBER ts) (λ _ us. Some ((at, n), us))
 numbered _ at ts = None
@@ -139,16 +139,16 @@ or_else (Some x) other = Some x
 abbrev pub moved : ℕ → RawTree → RawTree
 moved at (raw _ node) = raw at node
 
--- what goes on at a sign with a term of strength 0 behind it, as long as it does, to the left
+-- what goes on at a sign with a term of strength 0 after it, as long as it does, to the left
 abbrev pub chain : ℕ → TermReader → ℕ → (RawTree → RawTree → RawTreeNode) → ℕ → RawTree → Reader RawTree
 chain zero reader op make at left ts = Some (left, ts)
 chain (suc m) reader op make at left ts = cond (begins_with op ts) (next (sign op ts) (λ _ us. next (reader 0 us) (λ right vs. chain m reader op make at (raw at (make left right)) vs))) (Some (left, ts))
 
--- what stands behind a function's open parenthesis, and the parenthesis that closes it
+-- what stands after a function's open parenthesis, and the parenthesis that closes it
 abbrev pub arguments : ℕ → TermReader → Reader RawTree
 arguments m reader ts = next (reader 0 ts) (λ first us. next (chain m reader COMMA raw_pair (start ts) first us) (λ x vs. next (sign CLOSE_PAREN vs) (λ _ ws. Some (x, ws))))
 
--- what stands behind an open parenthesis that begins a term, and the parenthesis that closes it
+-- what stands after an open parenthesis that begins a term, and the parenthesis that closes it
 abbrev pub parentheses : ℕ → TermReader → ℕ → Reader RawTree
 parentheses m reader at ts = next (reader 0 ts) (λ first us.
     cond (begins_with COMMA us) (next (chain m reader COMMA raw_pair (start ts) first us) (λ x vs. next (sign CLOSE_PAREN vs) (λ _ ws. Some (moved at x, ws)))) (
@@ -175,12 +175,12 @@ abbrev pub begins_bound : List Token → Bool
 begins_bound [] = false
 begins_bound (t ∷ ts) = is_bound t.kind
 
--- whether one stands behind an open parenthesis
+-- whether one stands after an open parenthesis
 abbrev pub begins_bound_in : List Token → Bool
 begins_bound_in [] = false
 begins_bound_in (t ∷ ts) = same_kind t.kind (Sign OPEN_PAREN) && begins_bound ts
 
--- what stands behind an open brace, and the brace that closes it
+-- what stands after an open brace, and the brace that closes it
 abbrev pub braces : ℕ → TermReader → Reader RawTreeNode
 braces m reader ts =
     cond (begins_with CLOSE_BRACE ts) (next (sign CLOSE_BRACE ts) (λ _ us. Some (raw_empty_set, us))) (
@@ -198,13 +198,13 @@ body reader ts = next (sign DOT ts) (λ _ us. within OPEN_PAREN CLOSE_PAREN (rea
 abbrev pub body_and_value : TermReader → Reader (RawTree × RawTree)
 body_and_value reader ts = next (sign DOT ts) (λ _ us. next (within OPEN_PAREN BAR (reader 0) us) (λ p vs. next (reader 0 vs) (λ e ws. next (sign CLOSE_PAREN ws) (λ _ xs. Some ((p, e), xs)))))
 
--- what stands behind the sign of a quantifier
+-- what stands after the sign of a quantifier
 abbrev pub quantified : ℕ → TermReader → (List RawName → RawTree → RawTreeNode) → (List RawBound → RawTree → RawTreeNode) → Reader RawTreeNode
 quantified m reader plain numbers ts = cond (begins_bound_in ts)
     (next (within OPEN_PAREN CLOSE_PAREN (bounds m) ts) (λ bs us. next (body reader us) (λ p vs. Some (numbers bs p, vs))))
     (next (binder ts) (λ xs us. next (body reader us) (λ p vs. Some (plain xs p, vs))))
 
--- what stands behind a lambda's sign
+-- what stands after a lambda's sign
 abbrev pub lambda : ℕ → TermReader → Reader RawTreeNode
 lambda m reader ts = cond (begins_bound_in ts)
     (next (within OPEN_PAREN CLOSE_PAREN (ranges m reader) ts) (λ rs us. next (body_and_value reader us) (λ q vs. Some (raw_ranged_lambda rs q.0 q.1, vs))))
@@ -236,7 +236,7 @@ primary_at m reader (Sign op) at ts =
     cond (nat_eq op EXISTS) (at_byte at (quantified m reader raw_exists raw_typed_exists ts)) (
     cond (nat_eq op LAMBDA) (at_byte at (lambda m reader ts)) None))))
 
--- what stands behind a term: ~, [s] and (x), at most so many
+-- what stands after a term: ~, [s] and (x), at most so many
 abbrev pub postfixed : ℕ → TermReader → ℕ → RawTree → Reader RawTree
 postfixed zero reader at t ts = Some (t, ts)
 postfixed (suc m) reader at t ts =
@@ -245,12 +245,12 @@ postfixed (suc m) reader at t ts =
     cond (begins_with OPEN_PAREN ts) (or_else (next (sign OPEN_PAREN ts) (λ _ us. next (arguments m reader us) (λ x vs. postfixed m reader at (raw at (raw_apply t x)) vs))) (Some (t, ts))) (
     Some (t, ts))))
 
--- a leaf or a bracket with what stands behind it
+-- a leaf or a bracket with what stands after it
 abbrev pub tight : ℕ → TermReader → Reader RawTree
 tight m reader [] = None
 tight m reader (t ∷ ts) = next (primary_at m reader t.kind t.start ts) (λ x us. postfixed m reader t.start x us)
 
--- what a minus sign makes of the term behind it, whose first token is of this kind: of a number by itself a number
+-- what a minus sign makes of the term after it, whose first token is of this kind: of a number by itself a number
 abbrev pub signed : TokenKind → RawTree → RawTreeNode
 signed (Number (pos n)) (raw at (raw_number z)) = raw_number (neg_ℤ (pos n))
 signed _ t = raw_negative t
@@ -273,7 +273,7 @@ joined_by more reader asked at left strength t ts (Some o) = cond (nat_le asked 
     (or_else (next (reader (binding o).right ts) (λ right us. more (raw at (raw_infix o left right)) (binding o).own us)) (Some (left, t ∷ ts)))
     (Some (left, t ∷ ts))
 
--- operators with their right operands behind a term of some strength, where so much is asked, at most so many
+-- operators with their right operands after a term of some strength, where so much is asked, at most so many
 abbrev pub joined : ℕ → TermReader → ℕ → ℕ → RawTree → ℕ → Reader RawTree
 joined zero reader asked at left strength ts = Some (left, ts)
 joined (suc m) reader asked at left strength [] = Some (left, [])

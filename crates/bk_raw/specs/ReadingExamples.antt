@@ -97,6 +97,7 @@ hiding_scope = record { max = maxint; names = (110 ∷ [], 0) ∷ (110 ∷ [], 9
 abbrev pub name_first : ℕ → RawTree
 name_first letter = raw 0 (raw_name (letter ∷ []))
 
+-- small terms with what they read as, and with their faults
 pub record ReadingExamples : Type 0 where
   -- ---- operators
   -- 1 + TRUE is at fault at TRUE

@@ -37,7 +37,7 @@ ReadingsNameVisible =
     (int_max : ℤ) (visible : ℕ → Bool) (names : Names) → NamesHave (IsVisible visible) names → (t : RawTree) → OutcomeHas (IsVisible visible) (reading int_max names t).outcome
 
 -- ---- terms by themselves
--- the names in sight of a term by itself are those of the table, and all have types
+-- the names in scope of a term by itself are those of the table, and all have types
 pub record ScopesAgree : Type 0 where
   pub agree : (table : Table) → IsWellFormed table → (scope : ScopeNames) → Agree table [] (names_in table scope)
   pub typed : (table : Table) (scope : ScopeNames) → AreTyped (names_in table scope)

@@ -34,6 +34,7 @@ united at s (tree_and t ts) = united at (raw at (raw_infix Union s (single_set t
 abbrev pub between : ℕ → ℤ → ℤ → RawTree
 between at a b = raw at (raw_infix Interval (raw at (raw_number a)) (raw at (raw_number b)))
 
+-- forms of the notation that mean what another form means
 pub record Rewritings : Type 0 where
   -- a /= b is not(a = b), a /: b is not(a : b), and a /<: b is not(a <: b)
   pub unequal : (at : ℕ) (a b : RawTree) → MeanAlike (raw at (raw_infix NotEqual a b)) (negation_at at (raw at (raw_infix Equal a b)))

@@ -19,7 +19,7 @@ abbrev pub last_from : Option ℕ → List (List ℕ × ℕ) → List ℕ → Op
 last_from o [] text = o
 last_from o (p ∷ ps) text = last_from (cond (bytes_eq p.0 text) (Some p.1) o) ps text
 
--- ---- the names in sight
+-- ---- the names in scope
 -- the elements of set s from the i-th on
 abbrev pub element_names : ℕ → ℕ → List (List ℕ) → Names
 element_names s i [] = []
@@ -40,7 +40,7 @@ abbrev pub scope_names : Table → List (List ℕ × ℕ) → Names → Names
 scope_names table [] around = around
 scope_names table (p ∷ ps) around = scope_names table ps (record { text = p.0; meaning = variable_meaning p.1 (variable_type table p.1) } ∷ around)
 
--- all names in sight: those of the scope, and around them the sets of the table and their elements
+-- all names in scope: those of the scope, and around them the sets of the table and their elements
 abbrev pub names_in : Table → ScopeNames → Names
 names_in table scope = scope_names table scope.names (set_names 0 table.sets)
 

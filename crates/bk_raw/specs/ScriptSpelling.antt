@@ -92,7 +92,7 @@ OpensScript s = JustAt s.at (Name (codes "proof")) ⌢ Starting s.name_at (Divid
 abbrev pub Scripted : RawScript → List Token → Type 0
 Scripted s = OpensScript s ⌢ Just (Name (codes "end"))
 
--- the tokens are those of the scripts of a proof file, one behind another
+-- the tokens are those of the scripts of a proof file, one after another
 abbrev pub SpellsScripts : List RawScript → List Token → Type 0
 SpellsScripts = InRow Scripted
 

@@ -74,7 +74,7 @@ pub data PartKind : Type 0 where
   -- the numbers of hypotheses, and the lines of a certificate
   certificate : PartKind
 
--- what the parts behind a rule's word are
+-- what the parts after a rule's word are
 abbrev pub shape_of : RuleWord → List PartKind
 shape_of Hyp = one_number ∷ []
 shape_of Eval = perhaps_place ∷ []

@@ -54,7 +54,7 @@ abbrev mutual
   pub Term : RawTree → ℕ → List Token → Type 0
   Term (raw at node) asked = Placed at asked (Bare node)
 
-  -- what stands behind a function, or left of a comma in parentheses: a term, or several with commas between, which are
+  -- what stands after a function, or left of a comma in parentheses: a term, or several with commas between, which are
   -- pairs to the left
   pub Listed : RawTree → List Token → Type 0
   Listed (raw at node) tokens = Placed at 0 (Bare node) tokens ⊎ Starting at (Commas node) tokens

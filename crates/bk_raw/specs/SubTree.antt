@@ -1,4 +1,5 @@
 -- Substitutions of the B notation as they are written, as mathematical trees.
+-- Source: B Language Reference Manual.
 use Rattle.std.specs.Prelude.{ℕ, ◌+◌, max, List}
 use Rattle.bk_raw.specs.RawTree.{RawTree, RawTrees, tree_height, trees_height}
 use Rattle.bk_raw.specs.declared.term.RawName.{RawName}

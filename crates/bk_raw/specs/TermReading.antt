@@ -56,7 +56,7 @@ abbrev pub is_not : WordOp → Bool
 is_not Not = true
 is_not _ = false
 
--- whether a predicate stands behind the word
+-- whether a predicate stands after the word
 abbrev pub takes_predicate : WordOp → Bool
 takes_predicate Not = true
 takes_predicate BoolOf = true
@@ -170,7 +170,7 @@ abbrev pub from_two : (Outcome → Outcome → Reading) → Reading → Reading 
 from_two k a b = behind_faults (a.faults ++ b.faults) (k a.outcome b.outcome)
 
 abbrev mutual
-  -- what a term reads as under names in sight, MAXINT being int_max
+  -- what a term reads as under names in scope, MAXINT being int_max
   pub reading : ℤ → Names → RawTree → Reading
   reading int_max names (raw at node) = node_reading int_max names at node
 
@@ -246,7 +246,7 @@ abbrev mutual
       ranges_by o i bs (name_of a) (ranges int_max names all (i + length (conjuncts a)) (ranges int_max names all i bs a) d) (names_one all d) (part false d (reading int_max names d)).outcome
   ranges int_max names all i bs _ = bs
 
-  -- the conjuncts that gave no range, behind those before the i-th
+  -- the conjuncts that gave no range, after those before the i-th
   pub rest : ℤ → Names → List Ranged → ℕ → Option Reading → RawTree → Option Reading
   rest int_max names bs i before (raw at node) = rest_in int_max names bs i before (part true (raw at node) (node_reading int_max names at node)) node
 

@@ -105,6 +105,7 @@ abbrev pub one_script_tree : RawScript
 one_script_tree = record { at = 0; name_at = 6; name = Letters (codes "A") ∷ Numeral 1 ∷ []; rules = record { word = Hyp; at = 10; parts = part_number 1 ∷ [] } ∷ [] }
 
 -- ---- what is written
+-- token lists, each with the tree that it is written for
 pub record TextsAreWritten : Type 0 where
   -- || binds tighter than ;
   pub both_dividers : SpellsSub two_and_tree two_and
@@ -114,6 +115,7 @@ pub record TextsAreWritten : Type 0 where
   pub script : SpellsScripts (one_script_tree ∷ []) one_script
 
 -- ---- what is refused: where the tokens are at fault, in bytes, they are written for no component and no proof file
+-- token lists that are written for no tree, each with the byte of its fault
 pub record TextsAreRefused : Type 0 where
   -- the second END
   pub second_end : IsComponentFaultAt 17 end_twice 14

@@ -21,6 +21,7 @@ written_type_size (written_power t) = written_type_size t + 1
 written_type_size (written_product t u) = written_type_size t + written_type_size u + 1
 
 -- ---- the code of a written type, by which a proof tells two apart
+-- the code of a text
 abbrev pub text_code : List ℕ → Gv
 text_code [] = gnil
 text_code (c ∷ cs) = gcons (gnum c) (text_code cs)

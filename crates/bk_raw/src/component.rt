@@ -68,7 +68,7 @@ pub struct RawOperation {
     pub body: RawSub,
 }
 
-/// What stands behind the word of a clause.
+/// What stands after the word of a clause.
 #[derive(Drop)]
 pub enum ClauseParts {
     /// Of SETS.

@@ -18,7 +18,7 @@ pub enum FaultKind {
     WrongChain,
     /// A name stands twice.
     TwiceNamed,
-    /// A name is not in sight.
+    /// A name is not in scope.
     UnknownName,
     /// A formula or a name has no type.
     NoType,

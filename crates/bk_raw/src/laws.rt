@@ -68,7 +68,7 @@ pub fn script_faults_exclude()
     ensures { ScriptFaultsExclude }
 {}
 
-/// Whole scripts, and the longest one but for its end behind them, tell the place.
+/// Whole scripts, and the longest one but for its end after them, tell the place.
 pub fn scripts_tell_place()
     ensures { ScriptsTellPlace }
 {}

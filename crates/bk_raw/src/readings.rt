@@ -26,7 +26,7 @@ pub fn readings_name_visible()
     ensures { ReadingsNameVisible }
 {}
 
-/// The names in sight of a term by itself.
+/// The names in scope of a term by itself.
 pub fn scopes_agree()
     ensures { ScopesAgree }
 {}
@@ -67,7 +67,7 @@ pub fn readings_are_kept()
     ensures { ReadingsAreKept }
 {}
 
-/// What is told of a term was made of names that are in sight and have types.
+/// What is told of a term was made of names that are in scope and have types.
 pub fn told_names_are_seen()
     ensures { ToldNamesAreSeen }
 {}

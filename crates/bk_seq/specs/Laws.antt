@@ -1,4 +1,5 @@
 -- Laws of validity, as statements.
+-- Source: B-Book, sequents.
 use Rattle.std.specs.Prelude.{ℕ, List, ◌∷◌, ◌↔◌}
 use Rattle.bk_form.specs.Table.{Table, IsWellFormed}
 use Rattle.bk_form.specs.Formula.{Formula, bfalse, unary}

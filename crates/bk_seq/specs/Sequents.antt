@@ -1,4 +1,5 @@
 -- Sequents as a hypothesis list and a goal, and what is asked of their formulas.
+-- Source: B-Book, sequents.
 use Rattle.std.specs.Prelude.{ℕ, List, [], ◌∷◌, ◌++◌}
 use Rattle.bk_form.specs.Table.{Table}
 use Rattle.bk_form.specs.Formula.{Formula, binary, btrue}

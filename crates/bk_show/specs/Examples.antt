@@ -36,7 +36,7 @@ number k = literal (pos k)
 abbrev below : Formula
 below = binary Range (number 0) (number 3)
 
--- names in sight that are those of the table
+-- names in scope that are those of the table
 abbrev pub scope : Names
 scope =
     record { text = codes "b"; meaning = element_name 0 1 } ∷ record { text = codes "a"; meaning = element_name 0 0 } ∷ record { text = codes "S"; meaning = set_name 0 } ∷ record { text = codes "n"; meaning = global 2 (Some int_type) } ∷
@@ -55,6 +55,7 @@ pub record PremisesAreMet : Type 0 where
   pub stands : Stands table scope sample
   pub text : shown table sample ≡ codes "!($1:POW(S)).(#($2:INTEGER).((b : $1) & ((r$1(n) = $2) & ($1 = {:POW(S)}))))"
 
+-- small formulas with their texts
 pub record Examples : Type 0 where
   -- a binary form has parentheses inside another one, and none where it is the whole
   pub whole : shown table (binary Sub (binary Sub n (number 1)) (binary Sub n n)) ≡ codes "(n - 1) - (n - n)"

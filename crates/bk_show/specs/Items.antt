@@ -15,13 +15,13 @@ abbrev pub item_text : Item → List ℕ
 item_text blank = 32 ∷ []
 item_text (lexeme kind text) = text
 
--- the letters of items one behind another
+-- the letters of items one after another
 abbrev pub text_of : List Item → List ℕ
 text_of [] = []
 text_of (x ∷ xs) = item_text x ++ text_of xs
 
 -- ---- tokens with the letters that their kind has
--- a name at a level is written with a dollar sign and the level's number behind it
+-- a name at a level is written with a dollar sign and the level's number after it
 abbrev pub level_text : List ℕ → ℕ → List ℕ
 level_text name level = name ++ 36 ∷ decimal level
 
@@ -30,7 +30,7 @@ abbrev pub number_text : ℤ → List ℕ
 number_text (pos n) = decimal n
 number_text (negsuc n) = []
 
--- the letters of a token; words are numbered behind the signs
+-- the letters of a token; words are numbered after the signs
 abbrev pub kind_text : TokenKind → List ℕ
 kind_text (Name text) = text
 kind_text (LevelName text n) = level_text text n
@@ -43,5 +43,6 @@ kind_text (Word op) = slice_index_or word_texts (op - 57) []
 abbrev pub plain : TokenKind → Item
 plain kind = lexeme kind (kind_text kind)
 
+-- the sign or word with a number
 abbrev pub sign : ℕ → Item
 sign op = plain (Sign op)

@@ -38,6 +38,7 @@ or_empty (Some text) = text
 abbrev pub name_of_variable : Table → ℕ → List ℕ
 name_of_variable table n = or_empty (variable_text table n)
 
+-- the name of a set in the table, empty where there is none
 abbrev pub name_of_set : Table → ℕ → List ℕ
 name_of_set table n = or_empty (set_name table n)
 
@@ -50,16 +51,17 @@ nth_name (Some names) i = or_empty (slice_get names i)
 abbrev pub name_of_element : Table → ℕ → ℕ → List ℕ
 name_of_element table s i = nth_name (set_elements table s) i
 
--- what stands behind the first dollar sign, if there is one, and what before it
+-- what stands after the first dollar sign, if there is one, and what before it
 abbrev pub behind_dollar : List ℕ → Option (List ℕ)
 behind_dollar [] = None
 behind_dollar (c ∷ cs) = cond (nat_eq c 36) (Some cs) (behind_dollar cs)
 
+-- the text in front of the first dollar
 abbrev pub before_dollar : List ℕ → List ℕ
 before_dollar [] = []
 before_dollar (c ∷ cs) = cond (nat_eq c 36) [] (c ∷ before_dollar cs)
 
--- the kind of a name, by what stands behind its dollar sign
+-- the kind of a name, by what stands after its dollar sign
 abbrev pub kind_by : List ℕ → Option (List ℕ) → TokenKind
 kind_by text None = Name text
 kind_by text (Some digits) = LevelName (before_dollar text) (numeral_from 0 digits)
@@ -68,6 +70,7 @@ kind_by text (Some digits) = LevelName (before_dollar text) (numeral_from 0 digi
 abbrev pub name_kind : List ℕ → TokenKind
 name_kind text = kind_by text (behind_dollar text)
 
+-- a name as one item, with or without a level
 abbrev pub name_item : List ℕ → Item
 name_item text = lexeme (name_kind text) text
 
@@ -229,7 +232,7 @@ abbrev pub bounds_items : Table → ℕ → List ValueType → List Item
 bounds_items table k [] = []
 bounds_items table k (t ∷ ts) = typed_items table k t ++ comma_before ts (bounds_items table (suc k) ts)
 
--- (x:T,y:U).(P), behind the sign of a quantifier: the variables that it binds under d others, and its body
+-- (x:T,y:U).(P), after the sign of a quantifier: the variables that it binds under d others, and its body
 abbrev pub binder_items : Table → ℕ → List ValueType → List Item → List Item
 binder_items table d ts xs = enclosed (bounds_items table (suc d) ts) ++ sign DOT ∷ enclosed xs
 

@@ -1,4 +1,4 @@
--- Names in sight under which a printed formula reads back.
+-- Names in scope under which a printed formula reads back.
 use Rattle.std.specs.Prelude.{◌≡◌, ℕ, List, [], ◌∷◌, Some}
 use Rattle.bk_val.specs.ValueType.{ValueType, enum_type, pair_type, set_type}
 use Rattle.bk_form.specs.Table.{Table, variable_type}
@@ -13,7 +13,7 @@ abbrev pub IsGlobal : Meaning → Type 0
 IsGlobal (local t) = ⊥
 IsGlobal _ = Unit {0}
 
--- no name in sight is that of a bound variable
+-- no name in scope is that of a bound variable
 abbrev pub HasNoLocals : Names → Type 0
 HasNoLocals [] = Unit {0}
 HasNoLocals (n ∷ ns) = IsGlobal n.meaning × HasNoLocals ns
@@ -29,10 +29,12 @@ TypeStands table names (pair_type t u) = TypeStands table names t × TypeStands 
 TypeStands table names (set_type t) = TypeStands table names t
 TypeStands table names _ = Unit {0}
 
+-- each of these types stands in the table by its names
 abbrev pub TypesStand : Table → Names → List ValueType → Type 0
 TypesStand table names [] = Unit {0}
 TypesStand table names (t ∷ ts) = TypeStands table names t × TypesStand table names ts
 
+-- the set that a domain names stands in the table by its name
 abbrev pub DomainStands : Table → Names → Domain → Type 0
 DomainStands table names (Enum s) = SetStands table names s
 DomainStands table names _ = Unit {0}

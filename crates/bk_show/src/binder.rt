@@ -17,7 +17,7 @@ pub(crate) fn comma(index: usize) -> &'static [u8]
     if index == 0 { b"" } else { b"," }
 }
 
-// Writes the number of a bound variable behind what is written.
+// Writes the number of a bound variable after what is written.
 pub(crate) fn write_bound(out: &mut Vec<u8>, number: u128) -> Result<(), Memory>
     ensures { OnOk result (out.new.items ≡ out.old.items ++ kind_text (BoundName number)) }
 {

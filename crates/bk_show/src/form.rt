@@ -46,7 +46,7 @@ fn is_bare(form: &Form) -> bool
     matches!(form.view(), View::Var(_) | View::Bound(_))
 }
 
-// Writes a formula under so many bound variables behind what is written.
+// Writes a formula under so many bound variables after what is written.
 #[tactic(auto, using(crate::proofs::FormTexts::leaves))]
 #[cycle(form)]
 fn write_form(out: &mut Vec<u8>, table: &VarTable, around: u128, form: &Form) -> Result<(), Memory>

@@ -18,7 +18,7 @@ pub fn show_type(alloc: Global, ty: &Ty, table: &VarTable) -> Result<Vec<u8>, Me
     Ok(out)
 }
 
-// Writes a type behind what is written.
+// Writes a type after what is written.
 #[tactic(auto, using(crate::proofs::Written::types))]
 pub(crate) fn write_type(out: &mut Vec<u8>, table: &VarTable, ty: &Ty) -> Result<(), Memory>
     ensures { OnOk result (out.new.items ≡ out.old.items ++ text_of (type_items table.now ty.now)) }

@@ -87,6 +87,7 @@ abbrev pub is_blank : ℕ → Blank → Type 0
 is_blank at b = (b.start ≡ skipping at) × no_operation_of b
 
 -- ---- what stands above
+-- the levels above, as contracts see them
 abbrev pub above_shown : Above → Development
 above_shown a = above_of (option_copied a.development)
 
@@ -95,6 +96,7 @@ abbrev pub set_entry : ℕ → Option SetEntry → Names
 set_entry s None = []
 set_entry s (Some e) = record { text = e.name; meaning = set_name s } ∷ element_names s 0 e.elements
 
+-- the set with a number among the sets of a table
 abbrev pub set_at : ℕ → List SetEntry → Names
 set_at s es = set_entry s (slice_get es s)
 
@@ -125,7 +127,7 @@ abbrev pub last_branch : Option SubTree → Branches
 last_branch None = no_branches
 last_branch (Some s) = else_branch s
 
--- further branches of IF or SELECT, and what stands behind ELSE
+-- further branches of IF or SELECT, and what stands after ELSE
 abbrev pub branches_shown : List RawBranch → Option SubTree → Branches
 branches_shown bs last = branches_of bs (last_branch last)
 
@@ -134,12 +136,15 @@ abbrev pub capped : ℕ → ℕ
 capped n = min n (MOST_NAMES + 1)
 
 -- ---- plans
+-- a declared name, as contracts see it
 abbrev pub declared_shown : Declared → DeclaredMeant
 declared_shown d = record { text = d.text.now; higher = d.higher; is_concrete = d.is_concrete }
 
+-- the header of an operation, as contracts see it
 abbrev pub headed_shown : Headed → HeadedMeant
 headed_shown h = record { operation = h.operation.now; inputs = visible_names h.inputs.items; machine_outputs = visible_names h.machine_outputs.items }
 
+-- an operation with the numbers of its names, as contracts see it
 abbrev pub placed_shown : Placed → PlacedMeant
 placed_shown p = record {
   headed = record { operation = p.operation.now; inputs = visible_names p.inputs.items; machine_outputs = visible_names p.machine_outputs.items };
@@ -147,7 +152,7 @@ placed_shown p = record {
   binders_at = p.binders_at;
 }
 
--- the first numbers below these levels, and a number behind all that the component's operations have
+-- the first numbers below these levels, and a number after all that the component's operations have
 pub record IsCounted (n : Counts) (above : Development) (c : Clauses) (own : ℕ) : Type 0 where
   pub constants : n.constants_at ≡ length above.table.variables
   pub variables : n.variables_at ≡ n.constants_at + length c.constants
@@ -181,6 +186,7 @@ pub record IsPlanOf (p : Plan) (dev : Development) (c : Clauses) : Type 0 where
 abbrev pub such_shown : Such → RawName → WayMeant
 such_shown s x = by_conjuncts (bind (numbered_old s.first s.names.now) (visible_names s.around.value.items)) (x ∷ []) 0 s.predicate.now
 
+-- where a name takes its type from, as contracts see it
 abbrev pub way_shown : Way → WayMeant
 way_shown Nowhere = no_way
 way_shown (Term names e) = by_term (visible_names names.value.items) e.now
@@ -209,6 +215,7 @@ pub record IsGroup (g : Group) (around_it : Names) (p : RawTree) (xs : List RawN
   pub names : refs g.names.items ≡ xs
   pub predicate : g.predicate.now ≡ p
 
+-- names with the predicate that may type them, or neither
 abbrev pub IsGroupOf : Option Group → Names → Option RawTree → List RawName → Type 0
 IsGroupOf None names None xs = Unit {0}
 IsGroupOf (Some g) names (Some p) xs = IsGroup g names p xs

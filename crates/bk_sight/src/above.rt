@@ -1,4 +1,4 @@
-// What stands above a component, and the names that it leaves in sight.
+// What stands above a component, and the names that it leaves in scope.
 
 ghost use Rattle.std.specs.Option.{option_copied};
 ghost use Rattle.std.specs.Prelude.{◌≡◌, ◌++◌, ◌∷◌, [], ◌≤◌, ◌^◌, length, map, IfOk, OnOk, Some};
@@ -61,7 +61,7 @@ impl<'a> Above<'a> {
         }
     }
 
-    // How many elements a set has; 0 where it has no size.
+    /// How many elements a set has; 0 where it has no size.
     pub fn size(&self, set: u32) -> u32
         ensures { result ≡ listed_size (above_shown self.now).table set }
     {
@@ -151,7 +151,7 @@ impl<'a> Above<'a> {
         Ok(names)
     }
 
-    // A set with its elements goes behind the names.
+    // A set with its elements goes after the names.
     fn push_set(&self, names: &mut Vec<Visible<'a>>, set: u32) -> Result<(), Memory>
         ensures { OnOk result (visible_names names.new.items ≡
             visible_names names.old.items ++ set_at set (above_shown self.now).table.sets) }
@@ -170,7 +170,7 @@ impl<'a> Above<'a> {
         Ok(())
     }
 
-    // The constants go behind the names.
+    // The constants go after the names.
     fn push_constants(&self, names: &mut Vec<Visible<'a>>) -> Result<(), Memory>
         ensures { OnOk result (visible_names names.new.items ≡ visible_names names.old.items ++
             meant.constants_from 0 (above_shown self.now).homes (above_shown self.now).table.variables) }
@@ -185,7 +185,7 @@ impl<'a> Above<'a> {
         Ok(())
     }
 
-    // The name of a constant goes behind the names; other homes give none.
+    // The name of a constant goes after the names; other homes give none.
     fn push_constant(
         &self,
         names: &mut Vec<Visible<'a>>,
@@ -286,7 +286,7 @@ fn stem(level: usize, text: &[u8]) -> &[u8]
     &text[..text.len().saturating_sub(behind)]
 }
 
-// A set's name goes behind the names.
+// A set's name goes after the names.
 fn push_set_name<'a>(names: &mut Vec<Visible<'a>>, set: u32, text: &'a [u8]) -> Result<(), Memory>
     ensures { OnOk result (visible_names names.new.items ≡
         visible_names names.old.items ++ record { text = text.now; meaning = set_name set } ∷ []) }
@@ -298,7 +298,7 @@ fn push_set_name<'a>(names: &mut Vec<Visible<'a>>, set: u32, text: &'a [u8]) -> 
     Ok(())
 }
 
-// A set's elements go behind the names.
+// A set's elements go after the names.
 fn push_elements<'a>(
     names: &mut Vec<Visible<'a>>,
     set: u32,
@@ -313,7 +313,7 @@ fn push_elements<'a>(
     Ok(())
 }
 
-// An element goes behind the names.
+// An element goes after the names.
 fn push_element<'a>(
     names: &mut Vec<Visible<'a>>,
     set: u32,
@@ -333,7 +333,7 @@ fn push_element<'a>(
     Ok(())
 }
 
-// The component's sets, whose first has this number, each with its elements, go behind the names.
+// The component's sets, whose first has this number, each with its elements, go after the names.
 pub fn push_written_sets<'a>(
     names: &mut Vec<Visible<'a>>,
     first: u32,
@@ -350,7 +350,7 @@ pub fn push_written_sets<'a>(
     Ok(())
 }
 
-// A written set's elements go behind the names.
+// A written set's elements go after the names.
 fn push_written_elements<'a>(
     names: &mut Vec<Visible<'a>>,
     set: u32,

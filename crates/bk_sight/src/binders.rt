@@ -43,7 +43,7 @@ pub fn binder_count(sub: &RawSub) -> Result<usize, Memory>
     }
 }
 
-// What stands behind ELSE, where there is one.
+// What stands after ELSE, where there is one.
 pub fn last_of(last: &Option<Box<RawSub>>) -> Option<&RawSub>
     ensures { option_copied result ≡ unboxed last.now }
 {
@@ -92,7 +92,7 @@ fn both(left: usize, right: usize) -> Result<usize, Memory>
     }
 }
 
-// The texts of all that a substitution binds go behind those that were found.
+// The texts of all that a substitution binds go after those that were found.
 #[tactic(auto, using(crate::proofs::SubSizes::parts_are_smaller))]
 #[cycle(texts)]
 pub fn push_binder_texts(alloc: Global, found: &mut Vec<Text>, sub: &RawSub) -> Result<(), Memory>
@@ -166,7 +166,7 @@ fn push_choices_texts(
     push_choices_texts(alloc, found, others)
 }
 
-// A name's text goes behind those that were found.
+// A name's text goes after those that were found.
 pub fn push_text(alloc: Global, found: &mut Vec<Text>, name: &RawName) -> Result<(), Memory>
     ensures { OnOk result (found.new.items ≡ found.old.items ++ name.now.text ∷ []) }
 {
@@ -174,7 +174,7 @@ pub fn push_text(alloc: Global, found: &mut Vec<Text>, name: &RawName) -> Result
     Ok(())
 }
 
-// The texts of names go behind those that were found.
+// The texts of names go after those that were found.
 pub fn push_texts(alloc: Global, found: &mut Vec<Text>, names: &[RawName]) -> Result<(), Memory>
     ensures { OnOk result (found.new.items ≡ found.old.items ++ meant.texts names.now) }
 {
@@ -184,7 +184,7 @@ pub fn push_texts(alloc: Global, found: &mut Vec<Text>, names: &[RawName]) -> Re
     Ok(())
 }
 
-// The texts `x$0` of names go behind those that were found.
+// The texts `x$0` of names go after those that were found.
 fn push_old_texts(alloc: Global, found: &mut Vec<Text>, names: &[RawName]) -> Result<(), Memory>
     ensures { OnOk result (found.new.items ≡ found.old.items ++ meant.old_texts names.now) }
 {

@@ -134,7 +134,7 @@ fn kind_of(kind: &ComponentKind) -> Kind
     }
 }
 
-// Items go behind those that were found.
+// Items go after those that were found.
 fn push_all<'a, T>(found: &mut Vec<&'a T>, items: &'a [T]) -> Result<(), Memory>
     ensures { OnOk result (map (λ x. x.now) found.new.items ≡ map (λ x. x.now) found.old.items ++ items.now) }
 {
@@ -252,7 +252,7 @@ fn variables<'a>(
     Ok(found)
 }
 
-// Names of a clause of variables go behind those that were found.
+// Names of a clause of variables go after those that were found.
 fn push_variables<'a>(
     found: &mut Vec<WrittenVariable<'a>>,
     names: &'a [RawName],
@@ -333,7 +333,7 @@ fn declared<'a>(alloc: Global, clauses: &'a [RawClause]) -> Result<Vec<&'a RawNa
     Ok(found)
 }
 
-// The sets of a clause, each with its elements, go behind the names that were found.
+// The sets of a clause, each with its elements, go after the names that were found.
 fn push_sets<'a>(found: &mut Vec<&'a RawName>, clause: &'a RawClause) -> Result<(), Memory>
     ensures { OnOk result (map (λ x. x.now) found.new.items ≡
         map (λ x. x.now) found.old.items ++ meant.set_names (meant.if_clause Sets meant.sets_in clause.now)) }

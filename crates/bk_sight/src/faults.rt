@@ -41,7 +41,7 @@ pub fn wrong_write_if(holds: bool, at: usize) -> Option<Fault>
     if holds { wrong_write(at) } else { None }
 }
 
-// The fault of a name that is not in sight.
+// The fault of a name that is not in scope.
 pub fn unknown_name(at: usize) -> Option<Fault>
     ensures { told result ≡ blame (unknown_name at ∷ []) }
 {

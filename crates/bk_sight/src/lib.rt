@@ -1,4 +1,4 @@
-//! The names of a written component, their numbers, and where each is in sight.
+//! The names of a written component, their numbers, and where each is in scope.
 #![tactic(auto)]
 
 pub mod above;

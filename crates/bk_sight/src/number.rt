@@ -4,7 +4,7 @@ ghost use Rattle.std.specs.Prelude.{◌≡◌, ◌+◌, IfOk};
 
 use bk_io::Memory;
 
-// The number that stands so far behind the first.
+// The number that stands so far after the first.
 pub fn ahead(first: u32, count: usize) -> Result<u32, Memory>
     ensures { IfOk result (λ number. number ≡ first + count) }
 {

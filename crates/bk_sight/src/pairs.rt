@@ -6,7 +6,7 @@ ghost use Rattle.bk_level.specs.Elaborated as meant;
 use bk_form::Form;
 use bk_io::Memory;
 
-// The variable with its formula goes behind the pairs that were found, where there is a formula.
+// The variable with its formula goes after the pairs that were found, where there is a formula.
 pub fn push_pair(
     found: &mut Vec<(u32, Form)>,
     variable: u32,

@@ -1,4 +1,4 @@
-// What numbers the names of a component have, and what is in sight where.
+// What numbers the names of a component have, and what is in scope where.
 
 ghost use Rattle.std.specs.Prelude.{◌≡◌, ◌+◌, ◌++◌, ◌∷◌, [], take, ◌≤◌, length, map, cond, IfOk, OnOk};
 ghost use Rattle.bk_form.specs.Role.{bind};
@@ -172,7 +172,7 @@ impl<'a> Plan<'a> {
 
 // ---- first numbers
 
-/// The first numbers of a component's constants, variables, inputs and outputs, and a number behind all that it has.
+/// The first numbers of a component's constants, variables, inputs and outputs, and a number after all that it has.
 #[derive(Clone, Copy)]
 pub struct Counts {
     pub constants_at: u32,
@@ -302,7 +302,7 @@ fn all_declared<'a>(
     Ok(found)
 }
 
-// A variable that the component declares goes behind the others, unless one of the first so many has its name.
+// A variable that the component declares goes after the others, unless one of the first so many has its name.
 fn push_own<'a>(
     found: &mut Vec<Declared<'a>>,
     before: usize,
@@ -499,7 +499,7 @@ fn lower_headed<'a>(
     Ok(found)
 }
 
-// The operations that the machine lacks go behind the others.
+// The operations that the machine lacks go after the others.
 fn push_others<'a>(
     alloc: Global,
     heads: &[OpHead],
@@ -522,7 +522,7 @@ fn push_others<'a>(
     Ok(())
 }
 
-// An input below is the machine's input of its name; one that the machine's header lacks has a number behind all others,
+// An input below is the machine's input of its name; one that the machine's header lacks has a number after all others,
 // and so no type.
 fn inputs_by<'a>(
     alloc: Global,

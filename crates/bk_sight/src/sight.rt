@@ -1,4 +1,4 @@
-// Names in sight: what is bound goes in front of the names around it.
+// Names in scope: what is bound goes in front of the names around it.
 
 ghost use Rattle.std.specs.Prelude.{◌≡◌, ◌++◌, IfOk};
 ghost use Rattle.bk_form.specs.Role.{bind};
@@ -19,7 +19,7 @@ use std::alloc::Global;
 /// What a name on the left of a substitution is.
 #[derive(Clone, Copy, PartialEq, Eq, Debug)]
 pub enum Target {
-    /// It is not in sight.
+    /// It is not in scope.
     Unknown,
     /// A set or an element.
     Constant,
@@ -88,7 +88,7 @@ pub fn variable_of(names: &[Visible<'_>], text: &[u8]) -> Option<u32>
     target_named(names, text).variable()
 }
 
-// The set of this name, if it is one's: the first with its text is meant.
+/// The set of this name, if it is one's: the first with its text is meant.
 pub fn set_named(names: &[Visible<'_>], text: &[u8]) -> Option<u32>
     ensures { result ≡ meant.set_named (visible_names names.now) text.now }
 {
@@ -174,7 +174,7 @@ pub fn old_texts(alloc: Global, names: &[RawName]) -> Result<Vec<Text>, Memory>
     Ok(found)
 }
 
-// A name at a level, which is written with a dollar sign and the level's number behind it.
+// A name at a level, which is written with a dollar sign and the level's number after it.
 pub fn at_level(alloc: Global, name: &[u8], level: u32) -> Result<Text, Memory>
     ensures { IfOk result (λ text. text ≡ level_name name.now level) }
 {

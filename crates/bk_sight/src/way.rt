@@ -15,7 +15,7 @@ use bk_raw::{RawName, RawTerm};
 use std::alloc::Global;
 use std::rc::Rc;
 
-/// Where a type comes from, with the names in sight there.
+/// Where a type comes from, with the names in scope there.
 #[derive(Drop)]
 pub enum Way<'a> {
     /// From nowhere.
@@ -132,7 +132,7 @@ impl<'a> Typing<'a> {
         at(self.alloc, &types, place)
     }
 
-    // The type that the conjuncts of P give to a written name of `x :(P)`, the old values being in sight.
+    // The type that the conjuncts of P give to a written name of `x :(P)`, the old values being in scope.
     fn of_such(&self, such: &Such<'_>, name: &RawName) -> Result<Option<Ty>, Memory>
         ensures { IfOk result (λ t. t ≡ meant.given_by self.now.max (typing_of self.now.types.now) (such_shown such.now name.now)) }
     {

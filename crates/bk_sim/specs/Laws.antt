@@ -28,8 +28,9 @@ pub record IsCarried (find : Finder) (dev : Development) : Type 0 where
   pub keeps : Keeps find dev
   pub carries : (j : ℕ) → suc j < length dev.levels → Carries find dev j
 
--- of a lawful development that is so, with a chain of any length, an implementation below an implementation too, with || in the
--- levels above or without: the translation follows the machine, and what has no loop ends within its code
+-- of a lawful development in B0, with a chain of any length, an implementation below an implementation too, with || in the
+-- levels above or without: where the machine keeps its invariant, each level carries the one above and the constants' values
+-- meet the properties, the translation follows the machine, and what has no loop ends within its code
 pub record LawfulFollows : Type 0 where
   pub follows : (find : Finder) (dev : Development) → IsLawful dev → IsCarried find dev → Follows find dev (translation dev)
   pub ends : (find : Finder) (dev : Development) → IsLawful dev → IsCarried find dev → EndsWithoutLoops find dev (translation dev)
@@ -91,7 +92,7 @@ pub record ExchangeIsFollowed : Type 0 where
   pub loads : IsLoadable (translation exchange)
 
 -- the settling development is in B0, and its code is this; code that gives n what the local held before does not follow it, nor does
--- code whose loop comes back one instruction behind the start of its test, nor does code whose loop does not come back; the loader
+-- code whose loop comes back one instruction after the start of its test, nor does code whose loop does not come back; the loader
 -- takes the last
 pub record WrongCodesDoNotFollow : Type 0 where
   pub facts : IsDevelopment settling

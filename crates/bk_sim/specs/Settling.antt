@@ -98,10 +98,10 @@ unsettled = Load 1 ∷ Push (pos 10) ∷ Store 1 ∷ Store 0 ∷ []
 abbrev pub to_the_test : ℤ
 to_the_test = negsuc 7
 
--- the jump back over seven, one instruction behind it
+-- the jump back over seven, one instruction after it
 abbrev pub behind_the_start : ℤ
 behind_the_start = negsuc 6
 
--- no jump back, but one to the next instruction, as behind IF: the loop's body is run once at most
+-- no jump back, but one to the next instruction, as after IF: the loop's body is run once at most
 abbrev pub onwards : ℤ
 onwards = pos 1

@@ -1,4 +1,5 @@
 -- What the cells of the machine's memory show, and when they are linked to an abstract state.
+-- Source: B-Book, refinement.
 use Rattle.std.specs.Prelude.{◌≡◌, ℤ, List, map, length}
 use Rattle.bk_form.specs.Search.{Finder}
 use Rattle.bk_form.specs.Environment.{State, IsTypedState, at_state}

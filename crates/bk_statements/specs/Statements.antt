@@ -21,7 +21,7 @@ use Rattle.bk_statements.specs.Placed.{Stands, at_place}
 use Rattle.bk_statements.specs.Shown.{ShownIn, KindsHold}
 use Rattle.bk_b0.specs.Cells.{IsKnown, IsCell, ValuesHaveKinds, ArraysHaveCells, ArraysAreTyped}
 
--- the code goes to the place behind it, with cells that show a state to which the statement runs: after a VAR the state has put
+-- the code goes to the place after it, with cells that show a state to which the statement runs: after a VAR the state has put
 -- its locals back, and the cells have not, so that only what is in scope is shown; without loops in at most as many steps as
 -- it has instructions
 pub record IsFollowed (find : Finder) (dev : Development) (image : Image) (scope : ℕ → Bool) (s : Substitution) (place : ℕ) (m : List ℤ) (e : State) : Type 0 where

@@ -9,6 +9,7 @@ abbrev pub place_from : ℕ → List RawScript → List ℕ → Option ℕ
 place_from n [] name = None
 place_from n (s ∷ scripts) name = cond (bytes_eq name (name_text s.name)) (Some n) (place_from (suc n) scripts name)
 
+-- the place of the first script with a name
 abbrev pub place_of : List RawScript → List ℕ → Option ℕ
 place_of scripts name = place_from 0 scripts name
 

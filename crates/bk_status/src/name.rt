@@ -32,7 +32,7 @@ fn text_of(alloc: Global, first: &NamePart, rest: &[NamePart]) -> Result<Vec<u8>
     Ok(text)
 }
 
-// Puts the letters of a part behind the text.
+// Puts the letters of a part after the text.
 fn add_part(text: &mut Vec<u8>, part: &NamePart) -> Result<(), Memory>
     ensures { OnOk result (text.new.items ≡ text.old.items ++ part_text part.now) }
 {

@@ -9,7 +9,7 @@ use std::fs;
 use std::process::Abort;
 use std::test::Fail;
 
-// Whether this is the answer for a file of at most so many bytes, and the text that stands behind "so far: " then.
+// Whether this is the answer for a file of at most so many bytes, and the text that stands after "so far: " then.
 fn fetches<S: Shelf>(
     alloc: Global,
     shelf: &mut S,
@@ -24,7 +24,7 @@ fn fetches<S: Shelf>(
     Ok(answer == wanted && into.as_slice() == expected.as_bytes())
 }
 
-// A file and the most bytes, what is answered, and the text that stands behind then.
+// A file and the most bytes, what is answered, and the text that stands after then.
 type FetchRow = (&'static str, usize, Result<(), Fetch>, &'static str);
 
 fn compare<S: Shelf>(

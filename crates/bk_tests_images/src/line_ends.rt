@@ -3,7 +3,7 @@
 use bk_lines::{first_line, is_skipped};
 use std::process::Abort;
 
-// Whether the text has these lines, and nothing behind the last.
+// Whether the text has these lines, and nothing after the last.
 fn has_lines(text: &[u8], lines: &[&[u8]]) -> bool {
     let mut rest = text;
     for line in lines {

@@ -17,7 +17,7 @@ const COUNTER: [u8; 124] = [
     2, 0, 0, 0, 0, 3, 0, 0, 0, 1, 0x12, // get
 ];
 
-// Code behind this stands at byte 18. There are two cells, no set and no operation.
+// Code after this stands at byte 18. There are two cells, no set and no operation.
 const HEADER: [u8; 14] = [0x42, 0x4B, 0x49, 0x4D, 0, 1, 0, 0, 0, 2, 0, 0, 0, 0];
 
 const PUSH: [u8; 9] = [1, 0, 0, 0, 0, 0, 0, 0, 0];
@@ -131,7 +131,7 @@ fn fault_of_empty_sets(
     Ok(fault(alloc, &bytes))
 }
 
-// A number of sets, the bytes behind them, and the fault.
+// A number of sets, the bytes after them, and the fault.
 type SetsRow = (u16, &'static [u8], Option<LoadFault>);
 
 fn compare_sets(rt: &impl Abort, alloc: Global, rows: &[SetsRow]) -> Result<(), Fail> {
@@ -278,7 +278,7 @@ fn arrays(rt: HostRuntime) -> Result<(), Fail> {
 }
 
 const DEPTHS: [CodeRow; 2] = [
-    // Nothing reaches the Store behind the Ret.
+    // Nothing reaches the Store after the Ret.
     (3, &[RET, 3, 0, 0, 0, 0, RET], Some(LoadFault::Stack(19))),
     // The place reaches itself alone.
     (2, &[RET, 0x10, 0, 0, 0, 0], None),
@@ -289,7 +289,7 @@ fn depths_of_places(rt: HostRuntime) -> Result<(), Fail> {
     compare_code(&rt, rt.alloc(), &DEPTHS)
 }
 
-// A Jump to a Store at the place 3, and from behind it a Jump back to the place 1, where a first instruction stands before a
+// A Jump to a Store at the place 3, and from after it a Jump back to the place 1, where a first instruction stands before a
 // Ret.
 const BELOW_ZERO: [CodeRow; 3] = [
     // The Push stands at a depth of -1 and pops nothing; the Store pops below 0.
@@ -327,7 +327,7 @@ fn only_a_pop_falls_below_zero(rt: HostRuntime) -> Result<(), Fail> {
     compare_code(&rt, rt.alloc(), &BELOW_ZERO)
 }
 
-// A Push and a Jump back to it, alone and behind a Ret.
+// A Push and a Jump back to it, alone and after a Ret.
 const TWO_DEPTHS: [CodeRow; 2] = [
     (
         2,

@@ -43,7 +43,7 @@ fn sign(op: BinOp) -> &'static str {
     }
 }
 
-// What stands before, between and behind the operands of an operator.
+// What stands before, between and after the operands of an operator.
 fn marks(op: BinOp, is_part: bool) -> (&'static str, &'static str, &'static str) {
     match op {
         BinOp::Image => ("", "[", "]"),
@@ -54,7 +54,7 @@ fn marks(op: BinOp, is_part: bool) -> (&'static str, &'static str, &'static str)
     }
 }
 
-// What stands in front of an operator's one operand, and what behind it.
+// What stands in front of an operator's one operand, and what after it.
 fn brackets(op: UnOp) -> (&'static str, &'static str) {
     match op {
         UnOp::Not => ("not(", ")"),

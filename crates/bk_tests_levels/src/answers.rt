@@ -239,7 +239,7 @@ fn meaning(alloc: Global, front: &str, body: &str) -> Result<Option<Vec<u8>>, Me
     }
 }
 
-/// Whether both bodies are accepted behind the front, and are one substitution.
+/// Whether both bodies are accepted after the front, and are one substitution.
 pub(crate) fn are_one(
     alloc: Global,
     front: &str,

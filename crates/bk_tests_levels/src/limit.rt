@@ -6,7 +6,7 @@ use std::alloc::Global;
 use std::process::Abort;
 use std::test::Fail;
 
-// A machine with so many sets, each of one element, and the rest behind them.
+// A machine with so many sets, each of one element, and the rest after them.
 fn machine_of(alloc: Global, sets: usize, rest: &str) -> Result<Vec<u8>, Memory> {
     let mut text = Vec::from_slice(alloc, b"MACHINE A SETS S0 = {e0}")?;
     for number in 1..sets {
@@ -34,7 +34,7 @@ const ONE_MORE: [&str; 4] = [
     " OPERATIONS op(x) = PRE x : NAT THEN skip END END",
 ];
 
-// Sees what is told of so many sets with each of these behind them.
+// Sees what is told of so many sets with each of these after them.
 fn compare(
     rt: &impl Abort,
     alloc: Global,

@@ -1,4 +1,4 @@
-// Names that are declared twice, and names that are not in sight.
+// Names that are declared twice, and names that are not in scope.
 
 use crate::above::{MACHINE_C, MACHINE_E, MACHINE_M, MACHINE_W, REFINEMENT_R1_2};
 use crate::answers::{Group, compare, compare_below};

@@ -95,7 +95,7 @@ impl Writer<'_> {
         self.formula(variant)
     }
 
-    // What stands behind its parts.
+    // What stands after its parts.
     fn ended(&mut self, sub: &Sub) -> Result<(), Memory> {
         match &*sub.node {
             SubNode::Skip | SubNode::Assign(_) | SubNode::BecomesSuch(_, _) => Ok(()),

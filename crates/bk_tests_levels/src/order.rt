@@ -9,7 +9,7 @@ const FAULT_6_IN_MACHINES: [&str; 10] = [
     "MACHINE A VARIABLES n INVARIANT n : 0..10 INITIALISATION n := 0 OPERATIONS one(k) = \
         PRE k : 0..3 THEN ANY y, @y WHERE y : 0..3 THEN skip END END ; two(m) = PRE m : \
         0..3 THEN n := zz END END",
-    // A fault 6 behind a fault 7.
+    // A fault 6 after a fault 7.
     "MACHINE A VARIABLES n INVARIANT n : 0..10 INITIALISATION n := 0 OPERATIONS one(k) = \
         PRE k : 0..3 THEN n := zz END ; two(m) = PRE m : 0..3 THEN ANY y, @y WHERE y : \
         0..3 THEN skip END END END",
@@ -17,7 +17,7 @@ const FAULT_6_IN_MACHINES: [&str; 10] = [
     "MACHINE A VARIABLES n INVARIANT n : 0..10 INITIALISATION n := 0 OPERATIONS one(k) = \
         PRE k : 0..3 THEN ANY y, @y WHERE y : 0..3 THEN skip END END ; two(m) = PRE m : \
         0..3 THEN n := (1 = 1) END END",
-    // A fault 6 behind a fault 9.
+    // A fault 6 after a fault 9.
     "MACHINE A VARIABLES n INVARIANT n : 0..10 INITIALISATION n := 0 OPERATIONS one(k) = \
         PRE k : 0..3 THEN n := (1 = 1) END ; two(m) = PRE m : 0..3 THEN ANY y, @y WHERE y \
         : 0..3 THEN skip END END END",
@@ -25,7 +25,7 @@ const FAULT_6_IN_MACHINES: [&str; 10] = [
     "MACHINE A VARIABLES n INVARIANT n : 0..10 INITIALISATION n := 0 OPERATIONS one(k) = \
         PRE k : 0..3 THEN ANY y, @y WHERE y : 0..3 THEN skip END END ; two(m) = PRE m : \
         0..3 THEN n := TRUE END END",
-    // A fault 6 behind a fault 8.
+    // A fault 6 after a fault 8.
     "MACHINE A VARIABLES n INVARIANT n : 0..10 INITIALISATION n := 0 OPERATIONS one(k) = \
         PRE k : 0..3 THEN n := TRUE END ; two(m) = PRE m : 0..3 THEN ANY y, @y WHERE y : \
         0..3 THEN skip END END END",
@@ -33,7 +33,7 @@ const FAULT_6_IN_MACHINES: [&str; 10] = [
     "MACHINE A VARIABLES n INVARIANT n : 0..10 INITIALISATION n := 0 OPERATIONS one(k) = \
         PRE k : 0..3 THEN ANY y, @y WHERE y : 0..3 THEN skip END END ; two(m) = PRE m : \
         0..3 THEN BEGIN n := 0 ; n := 1 END END END",
-    // A fault 6 behind a fault 10.
+    // A fault 6 after a fault 10.
     "MACHINE A VARIABLES n INVARIANT n : 0..10 INITIALISATION n := 0 OPERATIONS one(k) = \
         PRE k : 0..3 THEN BEGIN n := 0 ; n := 1 END END ; two(m) = PRE m : 0..3 THEN ANY \
         y, @y WHERE y : 0..3 THEN skip END END END",
@@ -41,7 +41,7 @@ const FAULT_6_IN_MACHINES: [&str; 10] = [
     "MACHINE A VARIABLES n INVARIANT n : 0..10 INITIALISATION n := 0 OPERATIONS one(k) = \
         PRE k : 0..3 THEN ANY y, @y WHERE y : 0..3 THEN skip END END ; two(m) = PRE m : \
         0..3 THEN m := 1 END END",
-    // A fault 6 behind a fault 12.
+    // A fault 6 after a fault 12.
     "MACHINE A VARIABLES n INVARIANT n : 0..10 INITIALISATION n := 0 OPERATIONS one(k) = \
         PRE k : 0..3 THEN k := 1 END ; two(m) = PRE m : 0..3 THEN ANY y, @y WHERE y : 0..3 \
         THEN skip END END END",
@@ -52,7 +52,7 @@ const FAULT_6_IN_IMPLEMENTATIONS: [&str; 14] = [
     "IMPLEMENTATION I REFINES M CONCRETE_VARIABLES k INVARIANT k : INT VALUES c = 5 \
         INITIALISATION v := a ; k := 0 OPERATIONS step(x) = BEGIN VAR t, @t IN t := 1 END \
         END ; r <-- get(y) = BEGIN k := zz ; r := c END END",
-    // A fault 6 behind a fault 7.
+    // A fault 6 after a fault 7.
     "IMPLEMENTATION I REFINES M CONCRETE_VARIABLES k INVARIANT k : INT VALUES c = 5 \
         INITIALISATION v := a ; k := 0 OPERATIONS step(x) = BEGIN k := zz END ; r <-- \
         get(y) = BEGIN VAR t, @t IN t := 1 END ; r := c END END",
@@ -60,7 +60,7 @@ const FAULT_6_IN_IMPLEMENTATIONS: [&str; 14] = [
     "IMPLEMENTATION I REFINES M CONCRETE_VARIABLES k INVARIANT k : INT VALUES c = 5 \
         INITIALISATION v := a ; k := 0 OPERATIONS step(x) = BEGIN VAR t, @t IN t := 1 END \
         END ; r <-- get(y) = BEGIN k := (1 = 1) ; r := c END END",
-    // A fault 6 behind a fault 9.
+    // A fault 6 after a fault 9.
     "IMPLEMENTATION I REFINES M CONCRETE_VARIABLES k INVARIANT k : INT VALUES c = 5 \
         INITIALISATION v := a ; k := 0 OPERATIONS step(x) = BEGIN k := (1 = 1) END ; r <-- \
         get(y) = BEGIN VAR t, @t IN t := 1 END ; r := c END END",
@@ -68,7 +68,7 @@ const FAULT_6_IN_IMPLEMENTATIONS: [&str; 14] = [
     "IMPLEMENTATION I REFINES M CONCRETE_VARIABLES k INVARIANT k : INT VALUES c = 5 \
         INITIALISATION v := a ; k := 0 OPERATIONS step(x) = BEGIN VAR t, @t IN t := 1 END \
         END ; r <-- get(y) = BEGIN k := TRUE ; r := c END END",
-    // A fault 6 behind a fault 8.
+    // A fault 6 after a fault 8.
     "IMPLEMENTATION I REFINES M CONCRETE_VARIABLES k INVARIANT k : INT VALUES c = 5 \
         INITIALISATION v := a ; k := 0 OPERATIONS step(x) = BEGIN k := TRUE END ; r <-- \
         get(y) = BEGIN VAR t, @t IN t := 1 END ; r := c END END",
@@ -76,7 +76,7 @@ const FAULT_6_IN_IMPLEMENTATIONS: [&str; 14] = [
     "IMPLEMENTATION I REFINES M CONCRETE_VARIABLES k INVARIANT k : INT VALUES c = 5 \
         INITIALISATION v := a ; k := 0 OPERATIONS step(x) = BEGIN VAR t, @t IN t := 1 END \
         END ; r <-- get(y) = BEGIN skip ; r := c END ; more = skip END",
-    // A fault 6 behind a fault 10.
+    // A fault 6 after a fault 10.
     "IMPLEMENTATION I REFINES M CONCRETE_VARIABLES k INVARIANT k : INT VALUES c = 5 \
         INITIALISATION v := a ; k := 0 OPERATIONS more = skip ; step(x) = BEGIN skip END ; \
         r <-- get(y) = BEGIN VAR t, @t IN t := 1 END ; r := c END END",
@@ -84,7 +84,7 @@ const FAULT_6_IN_IMPLEMENTATIONS: [&str; 14] = [
     "IMPLEMENTATION I REFINES M CONCRETE_VARIABLES k INVARIANT k : INT VALUES c = 5 \
         INITIALISATION v := a ; k := 0 OPERATIONS step(x) = BEGIN VAR t, @t IN t := 1 END \
         END ; r <-- get(y) = BEGIN y := a ; r := c END END",
-    // A fault 6 behind a fault 12.
+    // A fault 6 after a fault 12.
     "IMPLEMENTATION I REFINES M CONCRETE_VARIABLES k INVARIANT k : INT VALUES c = 5 \
         INITIALISATION v := a ; k := 0 OPERATIONS step(x) = BEGIN x := a END ; r <-- \
         get(y) = BEGIN VAR t, @t IN t := 1 END ; r := c END END",
@@ -92,7 +92,7 @@ const FAULT_6_IN_IMPLEMENTATIONS: [&str; 14] = [
     "IMPLEMENTATION I REFINES M CONCRETE_VARIABLES k INVARIANT k : INT VALUES c = 5 ; c = \
         5 INITIALISATION v := a ; k := 0 OPERATIONS step(x) = BEGIN VAR t, @t IN t := 1 \
         END END ; r <-- get(y) = BEGIN skip ; r := c END END",
-    // A fault 6 behind a fault 14.
+    // A fault 6 after a fault 14.
     "IMPLEMENTATION I REFINES M CONCRETE_VARIABLES k INVARIANT k : INT VALUES c = 5 ; c = \
         5 INITIALISATION v := a ; k := 0 OPERATIONS step(x) = BEGIN skip END ; r <-- \
         get(y) = BEGIN VAR t, @t IN t := 1 END ; r := c END END",
@@ -100,7 +100,7 @@ const FAULT_6_IN_IMPLEMENTATIONS: [&str; 14] = [
     "IMPLEMENTATION I REFINES M CONCRETE_VARIABLES k INVARIANT k : INT VALUES c = 5 \
         INITIALISATION v := a ; k := 0 OPERATIONS step(x) = BEGIN VAR t, @t IN t := 1 END \
         END ; r <-- get(y) = BEGIN k := (2 ** 2) ; r := c END END",
-    // A fault 6 behind a fault 11.
+    // A fault 6 after a fault 11.
     "IMPLEMENTATION I REFINES M CONCRETE_VARIABLES k INVARIANT k : INT VALUES c = 5 \
         INITIALISATION v := a ; k := 0 OPERATIONS step(x) = BEGIN k := (2 ** 2) END ; r \
         <-- get(y) = BEGIN VAR t, @t IN t := 1 END ; r := c END END",
@@ -122,27 +122,27 @@ const FAULT_7_IN_MACHINES: [&str; 8] = [
     // A fault 7 before a fault 9.
     "MACHINE A VARIABLES n INVARIANT n : 0..10 INITIALISATION n := 0 OPERATIONS one(k) = \
         PRE k : 0..3 THEN n := @zz END ; two(m) = PRE m : 0..3 THEN n := (1 = 1) END END",
-    // A fault 7 behind a fault 9.
+    // A fault 7 after a fault 9.
     "MACHINE A VARIABLES n INVARIANT n : 0..10 INITIALISATION n := 0 OPERATIONS one(k) = \
         PRE k : 0..3 THEN n := (1 = 1) END ; two(m) = PRE m : 0..3 THEN n := @zz END END",
     // A fault 7 before a fault 8.
     "MACHINE A VARIABLES n INVARIANT n : 0..10 INITIALISATION n := 0 OPERATIONS one(k) = \
         PRE k : 0..3 THEN n := @zz END ; two(m) = PRE m : 0..3 THEN n := TRUE END END",
-    // A fault 7 behind a fault 8.
+    // A fault 7 after a fault 8.
     "MACHINE A VARIABLES n INVARIANT n : 0..10 INITIALISATION n := 0 OPERATIONS one(k) = \
         PRE k : 0..3 THEN n := TRUE END ; two(m) = PRE m : 0..3 THEN n := @zz END END",
     // A fault 7 before a fault 10.
     "MACHINE A VARIABLES n INVARIANT n : 0..10 INITIALISATION n := 0 OPERATIONS one(k) = \
         PRE k : 0..3 THEN n := @zz END ; two(m) = PRE m : 0..3 THEN BEGIN n := 0 ; n := 1 \
         END END END",
-    // A fault 7 behind a fault 10.
+    // A fault 7 after a fault 10.
     "MACHINE A VARIABLES n INVARIANT n : 0..10 INITIALISATION n := 0 OPERATIONS one(k) = \
         PRE k : 0..3 THEN BEGIN n := 0 ; n := 1 END END ; two(m) = PRE m : 0..3 THEN n := \
         @zz END END",
     // A fault 7 before a fault 12.
     "MACHINE A VARIABLES n INVARIANT n : 0..10 INITIALISATION n := 0 OPERATIONS one(k) = \
         PRE k : 0..3 THEN n := @zz END ; two(m) = PRE m : 0..3 THEN m := 1 END END",
-    // A fault 7 behind a fault 12.
+    // A fault 7 after a fault 12.
     "MACHINE A VARIABLES n INVARIANT n : 0..10 INITIALISATION n := 0 OPERATIONS one(k) = \
         PRE k : 0..3 THEN k := 1 END ; two(m) = PRE m : 0..3 THEN n := @zz END END",
 ];
@@ -152,7 +152,7 @@ const FAULT_7_IN_IMPLEMENTATIONS: [&str; 12] = [
     "IMPLEMENTATION I REFINES M CONCRETE_VARIABLES k INVARIANT k : INT VALUES c = 5 \
         INITIALISATION v := a ; k := 0 OPERATIONS step(x) = BEGIN k := @zz END ; r <-- \
         get(y) = BEGIN k := (1 = 1) ; r := c END END",
-    // A fault 7 behind a fault 9.
+    // A fault 7 after a fault 9.
     "IMPLEMENTATION I REFINES M CONCRETE_VARIABLES k INVARIANT k : INT VALUES c = 5 \
         INITIALISATION v := a ; k := 0 OPERATIONS step(x) = BEGIN k := (1 = 1) END ; r <-- \
         get(y) = BEGIN k := @zz ; r := c END END",
@@ -160,7 +160,7 @@ const FAULT_7_IN_IMPLEMENTATIONS: [&str; 12] = [
     "IMPLEMENTATION I REFINES M CONCRETE_VARIABLES k INVARIANT k : INT VALUES c = 5 \
         INITIALISATION v := a ; k := 0 OPERATIONS step(x) = BEGIN k := @zz END ; r <-- \
         get(y) = BEGIN k := TRUE ; r := c END END",
-    // A fault 7 behind a fault 8.
+    // A fault 7 after a fault 8.
     "IMPLEMENTATION I REFINES M CONCRETE_VARIABLES k INVARIANT k : INT VALUES c = 5 \
         INITIALISATION v := a ; k := 0 OPERATIONS step(x) = BEGIN k := TRUE END ; r <-- \
         get(y) = BEGIN k := @zz ; r := c END END",
@@ -168,7 +168,7 @@ const FAULT_7_IN_IMPLEMENTATIONS: [&str; 12] = [
     "IMPLEMENTATION I REFINES M CONCRETE_VARIABLES k INVARIANT k : INT VALUES c = 5 \
         INITIALISATION v := a ; k := 0 OPERATIONS step(x) = BEGIN k := @zz END ; r <-- \
         get(y) = BEGIN skip ; r := c END ; more = skip END",
-    // A fault 7 behind a fault 10.
+    // A fault 7 after a fault 10.
     "IMPLEMENTATION I REFINES M CONCRETE_VARIABLES k INVARIANT k : INT VALUES c = 5 \
         INITIALISATION v := a ; k := 0 OPERATIONS more = skip ; step(x) = BEGIN skip END ; \
         r <-- get(y) = BEGIN k := @zz ; r := c END END",
@@ -176,7 +176,7 @@ const FAULT_7_IN_IMPLEMENTATIONS: [&str; 12] = [
     "IMPLEMENTATION I REFINES M CONCRETE_VARIABLES k INVARIANT k : INT VALUES c = 5 \
         INITIALISATION v := a ; k := 0 OPERATIONS step(x) = BEGIN k := @zz END ; r <-- \
         get(y) = BEGIN y := a ; r := c END END",
-    // A fault 7 behind a fault 12.
+    // A fault 7 after a fault 12.
     "IMPLEMENTATION I REFINES M CONCRETE_VARIABLES k INVARIANT k : INT VALUES c = 5 \
         INITIALISATION v := a ; k := 0 OPERATIONS step(x) = BEGIN x := a END ; r <-- \
         get(y) = BEGIN k := @zz ; r := c END END",
@@ -184,7 +184,7 @@ const FAULT_7_IN_IMPLEMENTATIONS: [&str; 12] = [
     "IMPLEMENTATION I REFINES M CONCRETE_VARIABLES k INVARIANT k : INT VALUES c = 5 ; c = \
         5 INITIALISATION v := a ; k := 0 OPERATIONS step(x) = BEGIN k := @zz END ; r <-- \
         get(y) = BEGIN skip ; r := c END END",
-    // A fault 7 behind a fault 14.
+    // A fault 7 after a fault 14.
     "IMPLEMENTATION I REFINES M CONCRETE_VARIABLES k INVARIANT k : INT VALUES c = 5 ; c = \
         5 INITIALISATION v := a ; k := 0 OPERATIONS step(x) = BEGIN skip END ; r <-- \
         get(y) = BEGIN k := @zz ; r := c END END",
@@ -192,7 +192,7 @@ const FAULT_7_IN_IMPLEMENTATIONS: [&str; 12] = [
     "IMPLEMENTATION I REFINES M CONCRETE_VARIABLES k INVARIANT k : INT VALUES c = 5 \
         INITIALISATION v := a ; k := 0 OPERATIONS step(x) = BEGIN k := @zz END ; r <-- \
         get(y) = BEGIN k := (2 ** 2) ; r := c END END",
-    // A fault 7 behind a fault 11.
+    // A fault 7 after a fault 11.
     "IMPLEMENTATION I REFINES M CONCRETE_VARIABLES k INVARIANT k : INT VALUES c = 5 \
         INITIALISATION v := a ; k := 0 OPERATIONS step(x) = BEGIN k := (2 ** 2) END ; r \
         <-- get(y) = BEGIN k := @zz ; r := c END END",
@@ -214,21 +214,21 @@ const FAULT_9_IN_MACHINES: [&str; 6] = [
     // A fault 9 before a fault 8.
     "MACHINE A VARIABLES n INVARIANT n : 0..10 INITIALISATION n := 0 OPERATIONS one(k) = \
         PRE k : 0..3 THEN n := (@1 = 1) END ; two(m) = PRE m : 0..3 THEN n := TRUE END END",
-    // A fault 9 behind a fault 8.
+    // A fault 9 after a fault 8.
     "MACHINE A VARIABLES n INVARIANT n : 0..10 INITIALISATION n := 0 OPERATIONS one(k) = \
         PRE k : 0..3 THEN n := TRUE END ; two(m) = PRE m : 0..3 THEN n := (@1 = 1) END END",
     // A fault 9 before a fault 10.
     "MACHINE A VARIABLES n INVARIANT n : 0..10 INITIALISATION n := 0 OPERATIONS one(k) = \
         PRE k : 0..3 THEN n := (@1 = 1) END ; two(m) = PRE m : 0..3 THEN BEGIN n := 0 ; n \
         := 1 END END END",
-    // A fault 9 behind a fault 10.
+    // A fault 9 after a fault 10.
     "MACHINE A VARIABLES n INVARIANT n : 0..10 INITIALISATION n := 0 OPERATIONS one(k) = \
         PRE k : 0..3 THEN BEGIN n := 0 ; n := 1 END END ; two(m) = PRE m : 0..3 THEN n := \
         (@1 = 1) END END",
     // A fault 9 before a fault 12.
     "MACHINE A VARIABLES n INVARIANT n : 0..10 INITIALISATION n := 0 OPERATIONS one(k) = \
         PRE k : 0..3 THEN n := (@1 = 1) END ; two(m) = PRE m : 0..3 THEN m := 1 END END",
-    // A fault 9 behind a fault 12.
+    // A fault 9 after a fault 12.
     "MACHINE A VARIABLES n INVARIANT n : 0..10 INITIALISATION n := 0 OPERATIONS one(k) = \
         PRE k : 0..3 THEN k := 1 END ; two(m) = PRE m : 0..3 THEN n := (@1 = 1) END END",
 ];
@@ -238,7 +238,7 @@ const FAULT_9_IN_IMPLEMENTATIONS: [&str; 10] = [
     "IMPLEMENTATION I REFINES M CONCRETE_VARIABLES k INVARIANT k : INT VALUES c = 5 \
         INITIALISATION v := a ; k := 0 OPERATIONS step(x) = BEGIN k := (@1 = 1) END ; r \
         <-- get(y) = BEGIN k := TRUE ; r := c END END",
-    // A fault 9 behind a fault 8.
+    // A fault 9 after a fault 8.
     "IMPLEMENTATION I REFINES M CONCRETE_VARIABLES k INVARIANT k : INT VALUES c = 5 \
         INITIALISATION v := a ; k := 0 OPERATIONS step(x) = BEGIN k := TRUE END ; r <-- \
         get(y) = BEGIN k := (@1 = 1) ; r := c END END",
@@ -246,7 +246,7 @@ const FAULT_9_IN_IMPLEMENTATIONS: [&str; 10] = [
     "IMPLEMENTATION I REFINES M CONCRETE_VARIABLES k INVARIANT k : INT VALUES c = 5 \
         INITIALISATION v := a ; k := 0 OPERATIONS step(x) = BEGIN k := (@1 = 1) END ; r \
         <-- get(y) = BEGIN skip ; r := c END ; more = skip END",
-    // A fault 9 behind a fault 10.
+    // A fault 9 after a fault 10.
     "IMPLEMENTATION I REFINES M CONCRETE_VARIABLES k INVARIANT k : INT VALUES c = 5 \
         INITIALISATION v := a ; k := 0 OPERATIONS more = skip ; step(x) = BEGIN skip END ; \
         r <-- get(y) = BEGIN k := (@1 = 1) ; r := c END END",
@@ -254,7 +254,7 @@ const FAULT_9_IN_IMPLEMENTATIONS: [&str; 10] = [
     "IMPLEMENTATION I REFINES M CONCRETE_VARIABLES k INVARIANT k : INT VALUES c = 5 \
         INITIALISATION v := a ; k := 0 OPERATIONS step(x) = BEGIN k := (@1 = 1) END ; r \
         <-- get(y) = BEGIN y := a ; r := c END END",
-    // A fault 9 behind a fault 12.
+    // A fault 9 after a fault 12.
     "IMPLEMENTATION I REFINES M CONCRETE_VARIABLES k INVARIANT k : INT VALUES c = 5 \
         INITIALISATION v := a ; k := 0 OPERATIONS step(x) = BEGIN x := a END ; r <-- \
         get(y) = BEGIN k := (@1 = 1) ; r := c END END",
@@ -262,7 +262,7 @@ const FAULT_9_IN_IMPLEMENTATIONS: [&str; 10] = [
     "IMPLEMENTATION I REFINES M CONCRETE_VARIABLES k INVARIANT k : INT VALUES c = 5 ; c = \
         5 INITIALISATION v := a ; k := 0 OPERATIONS step(x) = BEGIN k := (@1 = 1) END ; r \
         <-- get(y) = BEGIN skip ; r := c END END",
-    // A fault 9 behind a fault 14.
+    // A fault 9 after a fault 14.
     "IMPLEMENTATION I REFINES M CONCRETE_VARIABLES k INVARIANT k : INT VALUES c = 5 ; c = \
         5 INITIALISATION v := a ; k := 0 OPERATIONS step(x) = BEGIN skip END ; r <-- \
         get(y) = BEGIN k := (@1 = 1) ; r := c END END",
@@ -270,7 +270,7 @@ const FAULT_9_IN_IMPLEMENTATIONS: [&str; 10] = [
     "IMPLEMENTATION I REFINES M CONCRETE_VARIABLES k INVARIANT k : INT VALUES c = 5 \
         INITIALISATION v := a ; k := 0 OPERATIONS step(x) = BEGIN k := (@1 = 1) END ; r \
         <-- get(y) = BEGIN k := (2 ** 2) ; r := c END END",
-    // A fault 9 behind a fault 11.
+    // A fault 9 after a fault 11.
     "IMPLEMENTATION I REFINES M CONCRETE_VARIABLES k INVARIANT k : INT VALUES c = 5 \
         INITIALISATION v := a ; k := 0 OPERATIONS step(x) = BEGIN k := (2 ** 2) END ; r \
         <-- get(y) = BEGIN k := (@1 = 1) ; r := c END END",
@@ -293,14 +293,14 @@ const FAULT_8_IN_MACHINES: [&str; 4] = [
     "MACHINE A VARIABLES n INVARIANT n : 0..10 INITIALISATION n := 0 OPERATIONS one(k) = \
         PRE k : 0..3 THEN n := @TRUE END ; two(m) = PRE m : 0..3 THEN BEGIN n := 0 ; n := \
         1 END END END",
-    // A fault 8 behind a fault 10.
+    // A fault 8 after a fault 10.
     "MACHINE A VARIABLES n INVARIANT n : 0..10 INITIALISATION n := 0 OPERATIONS one(k) = \
         PRE k : 0..3 THEN BEGIN n := 0 ; n := 1 END END ; two(m) = PRE m : 0..3 THEN n := \
         @TRUE END END",
     // A fault 8 before a fault 12.
     "MACHINE A VARIABLES n INVARIANT n : 0..10 INITIALISATION n := 0 OPERATIONS one(k) = \
         PRE k : 0..3 THEN n := @TRUE END ; two(m) = PRE m : 0..3 THEN m := 1 END END",
-    // A fault 8 behind a fault 12.
+    // A fault 8 after a fault 12.
     "MACHINE A VARIABLES n INVARIANT n : 0..10 INITIALISATION n := 0 OPERATIONS one(k) = \
         PRE k : 0..3 THEN k := 1 END ; two(m) = PRE m : 0..3 THEN n := @TRUE END END",
 ];
@@ -310,7 +310,7 @@ const FAULT_8_IN_IMPLEMENTATIONS: [&str; 8] = [
     "IMPLEMENTATION I REFINES M CONCRETE_VARIABLES k INVARIANT k : INT VALUES c = 5 \
         INITIALISATION v := a ; k := 0 OPERATIONS step(x) = BEGIN k := @TRUE END ; r <-- \
         get(y) = BEGIN skip ; r := c END ; more = skip END",
-    // A fault 8 behind a fault 10.
+    // A fault 8 after a fault 10.
     "IMPLEMENTATION I REFINES M CONCRETE_VARIABLES k INVARIANT k : INT VALUES c = 5 \
         INITIALISATION v := a ; k := 0 OPERATIONS more = skip ; step(x) = BEGIN skip END ; \
         r <-- get(y) = BEGIN k := @TRUE ; r := c END END",
@@ -318,7 +318,7 @@ const FAULT_8_IN_IMPLEMENTATIONS: [&str; 8] = [
     "IMPLEMENTATION I REFINES M CONCRETE_VARIABLES k INVARIANT k : INT VALUES c = 5 \
         INITIALISATION v := a ; k := 0 OPERATIONS step(x) = BEGIN k := @TRUE END ; r <-- \
         get(y) = BEGIN y := a ; r := c END END",
-    // A fault 8 behind a fault 12.
+    // A fault 8 after a fault 12.
     "IMPLEMENTATION I REFINES M CONCRETE_VARIABLES k INVARIANT k : INT VALUES c = 5 \
         INITIALISATION v := a ; k := 0 OPERATIONS step(x) = BEGIN x := a END ; r <-- \
         get(y) = BEGIN k := @TRUE ; r := c END END",
@@ -326,7 +326,7 @@ const FAULT_8_IN_IMPLEMENTATIONS: [&str; 8] = [
     "IMPLEMENTATION I REFINES M CONCRETE_VARIABLES k INVARIANT k : INT VALUES c = 5 ; c = \
         5 INITIALISATION v := a ; k := 0 OPERATIONS step(x) = BEGIN k := @TRUE END ; r <-- \
         get(y) = BEGIN skip ; r := c END END",
-    // A fault 8 behind a fault 14.
+    // A fault 8 after a fault 14.
     "IMPLEMENTATION I REFINES M CONCRETE_VARIABLES k INVARIANT k : INT VALUES c = 5 ; c = \
         5 INITIALISATION v := a ; k := 0 OPERATIONS step(x) = BEGIN skip END ; r <-- \
         get(y) = BEGIN k := @TRUE ; r := c END END",
@@ -334,7 +334,7 @@ const FAULT_8_IN_IMPLEMENTATIONS: [&str; 8] = [
     "IMPLEMENTATION I REFINES M CONCRETE_VARIABLES k INVARIANT k : INT VALUES c = 5 \
         INITIALISATION v := a ; k := 0 OPERATIONS step(x) = BEGIN k := @TRUE END ; r <-- \
         get(y) = BEGIN k := (2 ** 2) ; r := c END END",
-    // A fault 8 behind a fault 11.
+    // A fault 8 after a fault 11.
     "IMPLEMENTATION I REFINES M CONCRETE_VARIABLES k INVARIANT k : INT VALUES c = 5 \
         INITIALISATION v := a ; k := 0 OPERATIONS step(x) = BEGIN k := (2 ** 2) END ; r \
         <-- get(y) = BEGIN k := @TRUE ; r := c END END",
@@ -357,7 +357,7 @@ const FAULT_10_IN_MACHINES: [&str; 2] = [
     "MACHINE A VARIABLES n INVARIANT n : 0..10 INITIALISATION n := 0 OPERATIONS one(k) = \
         PRE k : 0..3 THEN BEGIN @n := 0 ; n := 1 END END ; two(m) = PRE m : 0..3 THEN m := \
         1 END END",
-    // A fault 10 behind a fault 12.
+    // A fault 10 after a fault 12.
     "MACHINE A VARIABLES n INVARIANT n : 0..10 INITIALISATION n := 0 OPERATIONS one(k) = \
         PRE k : 0..3 THEN k := 1 END ; two(m) = PRE m : 0..3 THEN BEGIN @n := 0 ; n := 1 \
         END END END",
@@ -368,7 +368,7 @@ const FAULT_10_IN_IMPLEMENTATIONS: [&str; 6] = [
     "IMPLEMENTATION I REFINES M CONCRETE_VARIABLES k INVARIANT k : INT VALUES c = 5 \
         INITIALISATION v := a ; k := 0 OPERATIONS @more = skip ; step(x) = BEGIN skip END \
         ; r <-- get(y) = BEGIN y := a ; r := c END END",
-    // A fault 10 behind a fault 12.
+    // A fault 10 after a fault 12.
     "IMPLEMENTATION I REFINES M CONCRETE_VARIABLES k INVARIANT k : INT VALUES c = 5 \
         INITIALISATION v := a ; k := 0 OPERATIONS step(x) = BEGIN x := a END ; r <-- \
         get(y) = BEGIN skip ; r := c END ; @more = skip END",
@@ -376,7 +376,7 @@ const FAULT_10_IN_IMPLEMENTATIONS: [&str; 6] = [
     "IMPLEMENTATION I REFINES M CONCRETE_VARIABLES k INVARIANT k : INT VALUES c = 5 ; c = \
         5 INITIALISATION v := a ; k := 0 OPERATIONS @more = skip ; step(x) = BEGIN skip \
         END ; r <-- get(y) = BEGIN skip ; r := c END END",
-    // A fault 10 behind a fault 14.
+    // A fault 10 after a fault 14.
     "IMPLEMENTATION I REFINES M CONCRETE_VARIABLES k INVARIANT k : INT VALUES c = 5 ; c = \
         5 INITIALISATION v := a ; k := 0 OPERATIONS step(x) = BEGIN skip END ; r <-- \
         get(y) = BEGIN skip ; r := c END ; @more = skip END",
@@ -384,7 +384,7 @@ const FAULT_10_IN_IMPLEMENTATIONS: [&str; 6] = [
     "IMPLEMENTATION I REFINES M CONCRETE_VARIABLES k INVARIANT k : INT VALUES c = 5 \
         INITIALISATION v := a ; k := 0 OPERATIONS @more = skip ; step(x) = BEGIN skip END \
         ; r <-- get(y) = BEGIN k := (2 ** 2) ; r := c END END",
-    // A fault 10 behind a fault 11.
+    // A fault 10 after a fault 11.
     "IMPLEMENTATION I REFINES M CONCRETE_VARIABLES k INVARIANT k : INT VALUES c = 5 \
         INITIALISATION v := a ; k := 0 OPERATIONS step(x) = BEGIN k := (2 ** 2) END ; r \
         <-- get(y) = BEGIN skip ; r := c END ; @more = skip END",
@@ -407,7 +407,7 @@ const FAULT_12_IN_IMPLEMENTATIONS: [&str; 4] = [
     "IMPLEMENTATION I REFINES M CONCRETE_VARIABLES k INVARIANT k : INT VALUES c = 5 ; c = \
         5 INITIALISATION v := a ; k := 0 OPERATIONS step(x) = BEGIN @x := a END ; r <-- \
         get(y) = BEGIN skip ; r := c END END",
-    // A fault 12 behind a fault 14.
+    // A fault 12 after a fault 14.
     "IMPLEMENTATION I REFINES M CONCRETE_VARIABLES k INVARIANT k : INT VALUES c = 5 ; c = \
         5 INITIALISATION v := a ; k := 0 OPERATIONS step(x) = BEGIN skip END ; r <-- \
         get(y) = BEGIN @y := a ; r := c END END",
@@ -415,7 +415,7 @@ const FAULT_12_IN_IMPLEMENTATIONS: [&str; 4] = [
     "IMPLEMENTATION I REFINES M CONCRETE_VARIABLES k INVARIANT k : INT VALUES c = 5 \
         INITIALISATION v := a ; k := 0 OPERATIONS step(x) = BEGIN @x := a END ; r <-- \
         get(y) = BEGIN k := (2 ** 2) ; r := c END END",
-    // A fault 12 behind a fault 11.
+    // A fault 12 after a fault 11.
     "IMPLEMENTATION I REFINES M CONCRETE_VARIABLES k INVARIANT k : INT VALUES c = 5 \
         INITIALISATION v := a ; k := 0 OPERATIONS step(x) = BEGIN k := (2 ** 2) END ; r \
         <-- get(y) = BEGIN @y := a ; r := c END END",
@@ -437,7 +437,7 @@ const FAULT_14_IN_IMPLEMENTATIONS: [&str; 2] = [
     "IMPLEMENTATION I REFINES M CONCRETE_VARIABLES k INVARIANT k : INT VALUES c = 5 ; @c = \
         5 INITIALISATION v := a ; k := 0 OPERATIONS step(x) = BEGIN skip END ; r <-- \
         get(y) = BEGIN k := (2 ** 2) ; r := c END END",
-    // A fault 14 behind a fault 11.
+    // A fault 14 after a fault 11.
     "IMPLEMENTATION I REFINES M CONCRETE_VARIABLES k INVARIANT k : INT VALUES c = 5 ; @c = \
         5 INITIALISATION v := a ; k := 0 OPERATIONS step(x) = BEGIN k := (2 ** 2) END ; r \
         <-- get(y) = BEGIN skip ; r := c END END",

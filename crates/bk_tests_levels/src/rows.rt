@@ -31,7 +31,7 @@ const FIRST_FAULTS: [(&[&str], &str, Told); 5] = [
     (&[], TWICE_DECLARED, Told::Fault(6, 23)),
     // A power in an implementation.
     (&[COUNTER_E], POWER_I, Told::Fault(11, 150)),
-    // A name that is not in sight; nothing stands below it.
+    // A name that is not in scope; nothing stands below it.
     (&[], UNSEEN, Told::Fault(7, 140)),
 ];
 

@@ -43,8 +43,8 @@ pub(crate) const SHARED: [(&str, u64); 37] = [
     ("( ( x : INTEGER ) & ( TRUE = FALSE ) )", 47),
 ];
 
-// What `IF n < 5 THEN skip ELSE skip END` asks for a condition y to hold behind it, x being n.
+// What `IF n < 5 THEN skip ELSE skip END` asks for a condition y to hold after it, x being n.
 pub(crate) const BEFORE: &str = "( ( ( x < 5 ) => y ) & ( ( not ( x < 5 ) ) => y ) )";
 
-// The condition behind all of them.
+// The condition after all of them.
 pub(crate) const AFTER: &str = "( x = 0 )";

@@ -3,7 +3,7 @@
 use crate::draws::Draws;
 use bk_io::Memory;
 
-// Operators, behind an open parenthesis and their left operand.
+// Operators, after an open parenthesis and their left operand.
 const CALCULATIONS: [&str; 6] = ["+", "-", "*", "/", "mod", "**"];
 
 const COMPARISONS: [&str; 3] = ["=", "<", "<="];

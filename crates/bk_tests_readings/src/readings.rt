@@ -19,7 +19,7 @@ use bk_raw::{RawTerm, Scope};
 use std::alloc::{AllocError, Global};
 use std::test::Fail;
 
-// ---- the names in sight
+// ---- the names in scope
 
 // One variable more.
 fn declare(alloc: Global, table: &mut VarTable, name: &str, ty: Ty) -> Result<(), Memory>
@@ -130,7 +130,7 @@ fn declare_relation_of_pairs(alloc: Global, table: &mut VarTable) -> Result<(), 
     declare_set(alloc, table, "w", triple)
 }
 
-// All names in sight.
+// All names in scope.
 fn sight(alloc: Global) -> Result<VarTable, Memory> {
     let mut table = with_colours(alloc)?;
     declare_scalars(alloc, &mut table)?;

@@ -1,6 +1,6 @@
-// Rules and sequents as texts. A rule is its word, then numbers or names, then a place, and behind ` : ` its terms between
+// Rules and sequents as texts. A rule is its word, then numbers or names, then a place, and after ` : ` its terms between
 // commas, as in `eq 2 hyp 1 1`, `fix u w`, `inst 1 : ( x + 1 ), s`, or `law 201 goal 1 : x, s, t`. A law is told by its number.
-// The numbers of `lin` are those of hypotheses, and behind ` : ` stand its lines between `|`: the facts that are added up, or
+// The numbers of `lin` are those of hypotheses, and after ` : ` stand its lines between `|`: the facts that are added up, or
 // `1 / 2` for the first fact divided by two.
 
 use bk_bracketed::{Unread, formula};
@@ -121,7 +121,7 @@ fn place(alloc: Global, spot: Spot<'_>) -> Result<Place, Unread> {
 }
 
 // ---- rules
-// A rule has many variants, and each exit behind one that is owned lets go of all of them: so a rule is made last, and kept in
+// A rule has many variants, and each exit after one that is owned lets go of all of them: so a rule is made last, and kept in
 // a list.
 
 // The rules of a script.

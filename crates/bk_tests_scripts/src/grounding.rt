@@ -91,7 +91,7 @@ const ROWS: &[(&str, Meant)] = &[
         "proof Counter.reset.1 split 4294967295 end",
         Meant::Split(4294967295),
     ),
-    // behind a rule that means nothing
+    // after a rule that means nothing
     (
         "proof Counter.reset.1 fix x : T ; cut x = x end",
         Meant::Nothing,

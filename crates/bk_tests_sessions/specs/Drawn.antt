@@ -1,5 +1,5 @@
 -- A family of developments for tests, one for each statement of the operation `step`. The implementation has the numbers i and j,
--- the truth value b and the array f : 0..2; step has an input k and, behind its statement, answers i, j, b and the elements of f.
+-- the truth value b and the array f : 0..2; step has an input k and, after its statement, answers i, j, b and the elements of f.
 -- The machine does nothing.
 use Rattle.std.specs.Prelude.{◌≡◌, ◌≤◌, ◌<◌, ℕ, suc, pos, Bool, true, false, ◌||◌, List, [], ◌∷◌, take, codes}
 use Rattle.bk_val.specs.ValueType.{int_type, bool_type, pair_type, set_type}

@@ -26,7 +26,7 @@ fn same(one: &RawTerm, other: &RawTerm) -> bool {
     }
 }
 
-// The term at the front of the text, and the place of the token behind it.
+// The term at the front of the text, and the place of the token after it.
 fn read(alloc: Global, text: &str) -> Result<Box<(RawTerm, usize)>, SynFault> {
     read_from(alloc, text, 0)
 }
@@ -50,7 +50,7 @@ fn reads_as(alloc: Global, text: &str, end: usize, other: &str) -> bool {
     found.1 == end && same(&found.0, &wanted.0)
 }
 
-// A text, the token behind the term that it begins with, and a text of the same term.
+// A text, the token after the term that it begins with, and a text of the same term.
 const ASSOCIATED: [(&str, usize, &str); 12] = [
     ("a - b - c", 5, "(a - b) - c"),
     ("a |-> b |-> c", 5, "(a |-> b) |-> c"),
@@ -219,7 +219,7 @@ fn is_kind(alloc: Global, text: &str, end: usize, name: &str, count: usize) -> b
     found.1 == end && kind.as_bytes() == name.as_bytes() && listed == count
 }
 
-// A text, the token behind the term that it begins with, what this is, and how many parts it lists.
+// A text, the token after the term that it begins with, what this is, and how many parts it lists.
 const SETS_AND_QUANTIFIERS: [(&str, usize, &str, usize); 12] = [
     ("{}", 2, "empty set", 0),
     ("{a}", 3, "extension", 1),

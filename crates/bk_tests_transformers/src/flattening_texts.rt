@@ -1,6 +1,6 @@
 // Substitutions with `||`: the boxes of the rewritten, how many copies there are, and what both sides write.
 
-// A substitution, what is to hold behind it, and the box of the rewritten. A copy is the number that is bound before `b0 = x`.
+// A substitution, what is to hold after it, and the box of the rewritten. A copy is the number that is bound before `b0 = x`.
 pub(crate) const REWRITTEN: [(&str, &str, &str); 12] = [
     (
         "x := y || y := x",

@@ -54,7 +54,7 @@ fn nodes(alloc: Global, text: &str, times: u32) -> Result<Result<u64, WpFault>, 
     nodes_of(alloc, &table, &sub, times)
 }
 
-// each branch doubles what is to hold behind it
+// each branch doubles what is to hold after it
 #[test]
 fn branches_in_sequence(rt: HostRuntime) -> Result<(), Fail> {
     assert_eq!(rt; nodes(rt.alloc(), BRANCH, 13)?, Ok(106_486));

@@ -1,6 +1,6 @@
 // Substitutions with their boxes and diamonds.
 
-// A substitution, what is to hold behind it, its box and its diamond.
+// A substitution, what is to hold after it, its box and its diamond.
 pub(crate) const FORMS: [(&str, &str, &str, &str); 8] = [
     ("skip", "( x < y )", "( x < y )", "( x < y )"),
     ("x, y := y, x", "( x < y )", "( y < x )", "( y < x )"),
@@ -71,7 +71,7 @@ pub(crate) const BINDERS: [(&str, &str, &str, &str); 5] = [
     ),
 ];
 
-// A loop that never ends, what is to hold behind it, and its box: the invariant, that each turn keeps it, that the variant is a
+// A loop that never ends, what is to hold after it, and its box: the invariant, that each turn keeps it, that the variant is a
 // natural number, that it falls, and what is to hold at the end. The first writes its variable back, the second writes nothing.
 pub(crate) const LOOPS: [(&str, &str, &str); 2] = [
     (

@@ -1,4 +1,4 @@
-// Every text that a component's text begins with has an answer, and no fault stands behind its end.
+// Every text that a component's text begins with has an answer, and no fault stands after its end.
 
 use bk_lex::tokens;
 use bk_p_comp::component;

@@ -6,7 +6,7 @@ use bk_p_sub::substitution;
 use std::alloc::Global;
 use std::process::Abort;
 
-// The place of the token behind the substitution that the text begins with.
+// The place of the token after the substitution that the text begins with.
 fn end(alloc: Global, text: &str) -> Result<usize, SynFault> {
     match tokens(alloc, text.as_bytes()) {
         Ok(found) => {
@@ -31,7 +31,7 @@ fn fails(alloc: Global, text: &str, wanted: SynFault) -> bool {
     }
 }
 
-// A text, and the place of the token behind the substitution that it begins with.
+// A text, and the place of the token after the substitution that it begins with.
 const ENDS: [(&str, usize); 12] = [
     ("skip END", 1),
     ("x := 1 || y := 2 ; z := 3", 11),

@@ -1,4 +1,4 @@
--- What `code` writes: the instructions of an image with their places, behind the name of the operation that they belong to.
+-- What `code` writes: the instructions of an image with their places, after the name of the operation that they belong to.
 use Rattle.std.specs.Prelude.{ℕ, ◌+◌, ◌-◌, ℤ, List, [], ◌∷◌, ◌++◌, length, take, drop, codes, decimal}
 use Rattle.std.specs.Fmt.{signed_decimal}
 use Rattle.bk_code.specs.declared.image.Image.{Image}

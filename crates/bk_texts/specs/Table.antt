@@ -39,6 +39,6 @@ sums_text rows =
     decimal (length rows) ++ codes " obligations: " ++ decimal (count_states is_obvious_state rows) ++ codes " obvious, " ++
     decimal (count_states is_proved_state rows) ++ codes " proved, " ++ decimal (count_states (λ state. not (is_settled state)) rows) ++ codes " open\n"
 
--- a line for each row, and behind them the sums
+-- a line for each row, and after them the sums
 abbrev pub table_text : List Row → List ℕ
 table_text rows = flat_map row_text rows ++ sums_text rows

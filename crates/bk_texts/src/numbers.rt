@@ -6,7 +6,7 @@ ghost use Rattle.std.specs.Fmt.{signed_decimal};
 use itoa::Buffer;
 use std::alloc::AllocError;
 
-/// Writes a count behind a word.
+/// Writes a count after a word.
 pub(crate) fn write_count(text: &mut Vec<u8>, before: &[u8], count: usize) -> Result<(), AllocError>
     ensures { OnOk result (text.new.items ≡ text.old.items ++ (before.now ++ decimal count)) }
 {
@@ -15,7 +15,7 @@ pub(crate) fn write_count(text: &mut Vec<u8>, before: &[u8], count: usize) -> Re
     Ok(())
 }
 
-/// Writes a whole number behind a word.
+/// Writes a whole number after a word.
 pub(crate) fn write_number(text: &mut Vec<u8>, before: &[u8], number: i64) -> Result<(), AllocError>
     ensures { OnOk result (text.new.items ≡ text.old.items ++ (before.now ++ signed_decimal number)) }
 {

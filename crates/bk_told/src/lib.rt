@@ -1,4 +1,4 @@
-//! From what each name of a component takes its type, and the types that so are told.
+//! Type inference for the declared names of a component: what gives each name its type, and the types that follow.
 #![tactic(auto)]
 
 pub mod all_ways;

@@ -21,7 +21,7 @@ pub fn is_same_group(left: &Group<'_>, right: &Group<'_>) -> bool
         && is_same_term(left.predicate, right.predicate)
 }
 
-// Whether these are the same names in sight.
+// Whether these are the same names in scope.
 fn are_same_visible(left: &[Visible<'_>], right: &[Visible<'_>]) -> bool
     ensures { IsTrue result → visible_names left.now ≡ visible_names right.now }
 {
@@ -36,7 +36,7 @@ fn are_same_visible(left: &[Visible<'_>], right: &[Visible<'_>]) -> bool
     true
 }
 
-// Whether this is the same name in sight.
+// Whether this is the same name in scope.
 fn is_same_visible(left: Visible<'_>, right: Visible<'_>) -> bool
     ensures text { IsTrue result → left.entry.text.now ≡ right.entry.text.now }
     ensures meaning { IsTrue result → left.entry.meaning ≡ right.entry.meaning }

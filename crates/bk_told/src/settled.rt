@@ -28,7 +28,7 @@ struct Round {
     has_added: bool,
 }
 
-/// The types of all numbers, those behind these numbers having these ways. Rounds go on while one adds a type: a name
+/// The types of all numbers, those after these numbers having these ways. Rounds go on while one adds a type: a name
 /// may be typed by one that is typed later in the text.
 pub fn settled(
     alloc: Global,
@@ -129,7 +129,7 @@ fn next_type<'g, 'a>(
     }
 }
 
-// The type that a way gives. What is told of a group is kept for the names behind, which mostly are of the same group.
+// The type that a way gives. What is told of a group is kept for the names after, which mostly are of the same group.
 fn given<'g, 'a>(
     typing: Typing<'_>,
     way: &'g Way<'a>,

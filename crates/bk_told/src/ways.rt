@@ -21,7 +21,7 @@ use bk_sight::way::{Such, Way};
 use std::alloc::Global;
 use std::rc::Rc;
 
-/// The names in sight of a substitution, and the first number of what it binds.
+/// The names in scope of a substitution, and the first number of what it binds.
 #[derive(Drop)]
 pub struct Place<'a> {
     pub names: Rc<Vec<Visible<'a>>>,
@@ -29,7 +29,7 @@ pub struct Place<'a> {
 }
 
 impl<'a> Place<'a> {
-    // The place behind a substitution.
+    // The place after a substitution.
     fn behind(&self, count: usize) -> Result<Place<'a>, Memory>
         ensures names { IfOk result (λ p. p.names.value.items ≡ self.now.names.value.items) }
         ensures first { IfOk result (λ p. p.first ≡ self.now.first + count) }
@@ -56,7 +56,7 @@ impl<'a> Place<'a> {
 
 // ---- what a substitution binds
 
-// The ways of all that a substitution binds go behind those that were found: names of ANY and LET have their types by
+// The ways of all that a substitution binds go after those that were found: names of ANY and LET have their types by
 // their predicate, names of VAR by their first assignment.
 #[tactic(auto, using(bk_sight::proofs::SubSizes::parts_are_smaller))]
 #[cycle(ways)]

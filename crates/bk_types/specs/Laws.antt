@@ -1,4 +1,5 @@
 -- What typing is for.
+-- Source: B-Book, type checking.
 use Rattle.std.specs.Prelude.{◌≡◌, true}
 use Rattle.bk_val.specs.ValueType.{ValueType, is_value_of}
 use Rattle.bk_form.specs.Table.{set_size, IsWellFormed}

@@ -144,7 +144,7 @@ fn role_inside(
     Ok(role)
 }
 
-// The types go behind the others.
+// The types go after the others.
 fn push_all(alloc: Global, around: &mut Vec<Ty>, types: &[Ty]) -> Result<(), Memory>
     ensures { OnOk result (around.new.items ≡ around.old.items ++ types.now) }
 {
@@ -234,7 +234,7 @@ fn range_types(
     Ok(Some(types))
 }
 
-// The types of the ranges' elements go behind the others, where each range is a set value.
+// The types of the ranges' elements go after the others, where each range is a set value.
 #[tactic(auto, using(bk_form::proofs::Sizes::parts_are_smaller, crate::proofs::Operands::ranges))]
 #[cycle(role)]
 fn push_elements(

@@ -1,4 +1,5 @@
 -- What an operator on whole numbers gives, without bound, and 0 outside its domain.
+-- Source: B Language Reference Manual.
 use Rattle.std.specs.Prelude.{zero, ℤ, pos, negsuc, ◌%◌, ◌+ℤ◌, ◌-ℤ◌, ◌*ℤ◌, int_div}
 use Rattle.std.specs.Int.{int_pow}
 use Rattle.bk_val.specs.declared.arithmetic.NumOp.{NumOp}

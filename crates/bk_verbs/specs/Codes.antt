@@ -3,6 +3,7 @@ use Rattle.std.specs.Prelude.{ℕ}
 use Rattle.bk_verbs.specs.declared.status.Status.{Status}
 use Rattle.bk_verbs.specs.declared.status.Status.TheVariants.{Done, Usage, Missing, Refused, Unproved, Incomplete, BadCalls, Trapped, OutOfFuel, BadImage, ReadFault, WriteFault, Memory}
 
+-- the exit code of a status
 abbrev pub code_of : Status → ℕ
 code_of Done = 0
 code_of Usage = 1

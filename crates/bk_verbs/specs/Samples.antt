@@ -30,7 +30,7 @@ has_end_within [] = false
 has_end_within (c ∷ []) = false
 has_end_within (c ∷ d ∷ cs) = nat_eq c 10 || has_end_within (d ∷ cs)
 
--- the last line of a text, with the line feed that ends it: the text, or what stands behind its first bytes, once no line ends within
+-- the last line of a text, with the line feed that ends it: the text, or what stands after its first bytes, once no line ends within
 abbrev pub last_line : List ℕ → List ℕ
 last_line [] = []
 last_line (c ∷ cs) = cond (has_end_within (c ∷ cs)) (last_line cs) (c ∷ cs)

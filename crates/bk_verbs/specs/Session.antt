@@ -9,6 +9,7 @@ use Rattle.bk_verbs.specs.declared.status.Status.{Status}
 use Rattle.bk_verbs.specs.declared.status.Status.TheVariants.{Done as DoneStatus, Trapped as TrappedStatus, OutOfFuel as OutOfFuelStatus}
 
 -- ---- the status of a session
+-- the status of the end of a call
 abbrev pub status_of : End → Status
 status_of (Done n) = DoneStatus
 status_of (Trapped kind place n) = TrappedStatus

@@ -47,6 +47,7 @@ IsOutside Memory = Unit {0}
 IsOutside _ = ⊥
 
 -- ---- what is answered
+-- the status of a stop
 abbrev pub status_of_stop : Stop → Status
 status_of_stop Usage = UsageStatus
 status_of_stop (Missing name) = MissingStatus
@@ -113,7 +114,7 @@ StopsAtFile files name stop =
 abbrev pub name_at : List (List ℕ) → ℕ → List ℕ
 name_at names n = slice_index_or names n []
 
--- the name of the file with this number: 0 for the project file, and behind it the component files
+-- the name of the file with this number: 0 for the project file, and after it the component files
 abbrev pub name_of : ℕ → (project : List ℕ) (components : List (List ℕ)) → List ℕ
 name_of zero project components = project
 name_of (suc n) project components = name_at components n

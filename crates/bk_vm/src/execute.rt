@@ -55,7 +55,7 @@ fn take_two(stack: &[i64], depth: usize) -> (i64, i64, usize)
     (a, b, rest)
 }
 
-// Puts what was calculated on a stack of this depth and goes on behind a place, or traps.
+// Puts what was calculated on a stack of this depth and goes on after a place, or traps.
 #[inline]
 fn settle(place: usize, stack: &mut [i64], depth: usize, answer: Result<i64, Trap>) -> Flow
     requires place { place < 2 ^ 32 }

@@ -1,4 +1,5 @@
 -- What is asked of the sides of an operator on two formulas, and conditions that several operators ask.
+-- Source: B-Book.
 use Rattle.std.specs.Prelude.{pos}
 use Rattle.bk_form.specs.Formula.{Formula, literal, unary, binary}
 use Rattle.bk_form.specs.declared.operator.UnOp.TheVariants.{Not}

@@ -1,4 +1,5 @@
 -- WD(F), the formula that says that F is defined: that each operator which is met from left to right is inside its domain.
+-- Source: after the B-Book's well-definedness.
 use Rattle.std.specs.Prelude.{ℕ, pos, List}
 use Rattle.bk_val.specs.ValueType.{ValueType, int_type, bool_type, enum_type, pair_type, set_type}
 use Rattle.bk_form.specs.Table.{Table}

@@ -54,7 +54,7 @@ pub record Asks (words : List (List ℕ)) (task : Task) : Type 0 where
   pub is_fuel : IsFuel text fuel
   pub meant : IsTaskOf verb files fuel task
 
--- the words ask for nothing: the command refuses them, or what stands behind --fuel is no such number, or the verb is none of
+-- the words ask for nothing: the command refuses them, or what stands after --fuel is no such number, or the verb is none of
 -- the verbs, or it has too few files or too many
 abbrev pub AskForNothing : List (List ℕ) → Type 0
 AskForNothing words = (task : Task) → Asks words task → ⊥

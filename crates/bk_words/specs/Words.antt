@@ -35,7 +35,7 @@ refusal_kinds words = fault_of program_command words
 unfoldable pub found_rows : List Text → List Row
 found_rows words = matches_of program_command words
 
--- the command takes the words: with this verb, these files and this text behind `--fuel`
+-- the command takes the words: with this verb, these files and this text after `--fuel`
 pub record AreWords (words : List Text) (verb : Text) (files : List Text) (fuel : Text) : Type 0 where
   pub taken : refusal_kinds words ≡ []
   pub verb_is : first_of (codes "VERB") (found_rows words) ≡ Some verb

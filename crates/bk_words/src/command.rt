@@ -45,7 +45,7 @@ pub enum Command<'a> {
     },
 }
 
-/// The command that the words ask for, unless what stands behind `--fuel` is no number of steps, the verb is none of the
+/// The command that the words ask for, unless what stands after `--fuel` is no number of steps, the verb is none of the
 /// table, or it has too few files or too many.
 pub(crate) fn command_of<'a>(words: &Words<'a>) -> Option<Command<'a>>
     ensures meant { MatchOption result

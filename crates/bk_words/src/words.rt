@@ -12,7 +12,7 @@ use clap::error::ErrorKind;
 use clap::{Arg, ArgAction, ArgMatches, Command};
 use std::alloc::{AllocError, AllocFailed, Global};
 
-/// The words of the command line. Fuel is the text behind `--fuel`, or else the default.
+/// The words of the command line. Fuel is the text after `--fuel`, or else the default.
 #[derive(Drop)]
 pub(crate) struct Words<'a> {
     pub(crate) verb: &'a str,
@@ -94,7 +94,7 @@ fn words_fault(kind: ErrorKind) -> WordsFault
     }
 }
 
-/// Reads the words of the command line, without the program's name. What stands behind `--fuel` is any text here.
+/// Reads the words of the command line, without the program's name. What stands after `--fuel` is any text here.
 pub(crate) fn read_words<'a>(alloc: Global, given: &'a [String]) -> Result<Words<'a>, WordsFault>
     ensures read { IfOk result (λ words.
         AreWords (map string_bytes given.now) words.verb.now (texts words.files.items) words.fuel.now) }

@@ -1,5 +1,6 @@
 -- W(S), what a substitution is asked beside its box: that each formula that it meets is defined or, in an implementation, that the
 -- expressions which it executes fit the machine instead.
+-- Source: after the B-Book's well-definedness.
 use Rattle.std.specs.Prelude.{ℕ, List, [], ◌∷◌, Option, Some, None}
 use Rattle.bk_form.specs.Table.{Table}
 use Rattle.bk_form.specs.ArrayTable.{ArrayTable, row_of}

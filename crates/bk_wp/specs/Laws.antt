@@ -1,4 +1,5 @@
 -- Laws of box and diamond, as statements.
+-- Source: B-Book.
 use Rattle.std.specs.Prelude.{◌≡◌, ◌↔◌, ◌⊎◌, ◌<◌, ◌^◌, length, true, not, Option, Some}
 use Rattle.bk_form.specs.Table.{Table, IsWellFormed}
 use Rattle.bk_form.specs.Formula.{Formula, unary}
@@ -78,14 +79,15 @@ pub record HoldsBefore (find : Finder) (table : Table) (s : Substitution) (r : F
   pub state : IsTypedState table e
   pub box : holds find table e (box table s r) ≡ true
 
--- S ends and all its results meet R; the other way is not so, since an invariant may say too little
+-- where [S]R is true in a typed state, S ends and all its results meet R; the other way is not so, since an invariant may
+-- say too little
 abbrev pub BoxIsSound : Type 0
 BoxIsSound = (find : Finder) (table : Table) (s : Substitution) (r : Formula) (e : State) →
     HoldsBefore find table s r e → AllMeet find table s r e
 
 -- ---- what is evaluated
--- where W(S) is true too, S is clean: each formula that it meets is defined and, in an implementation, what it executes fits the
--- machine; with locals, x :(P), loops and arrays
+-- where [S]R and W(S) are true in a typed state, S is clean: each formula that it meets is defined and, in an
+-- implementation, what it executes fits the machine; with locals, x :(P), loops and arrays
 abbrev pub GuardedIsClean : Type 0
 GuardedIsClean = (find : Finder) (table : Table) (arrays : Option ArrayTable) (s : Substitution) (r : Formula) (e : State) →
     HoldsBefore find table s r e → holds find table e (guarded table arrays s) ≡ true → Clean find table arrays s e
@@ -99,7 +101,8 @@ pub record IsGuardable (table : Table) (arrays : Option ArrayTable) (s : Substit
   pub flat : IsFlat s
   pub types : Types table s
 
--- its W(S) is a predicate
+-- of a substitution that types, W(S) is a predicate, where 32 bits number one variable more and the arrays are functions
+-- from their indices
 abbrev pub GuardedIsPredicate : Type 0
 GuardedIsPredicate = (table : Table) (arrays : Option ArrayTable) (s : Substitution) → IsGuardable table arrays s →
     IsPredicate table (guarded table arrays s)

@@ -1,4 +1,5 @@
 -- Quantifiers over the values of variables.
+-- Source: B-Book.
 use Rattle.std.specs.Prelude.{ℕ, List, [], ◌∷◌, map}
 use Rattle.bk_val.specs.ValueType.{ValueType}
 use Rattle.bk_form.specs.Table.{Table}
