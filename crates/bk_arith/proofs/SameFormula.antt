@@ -3,7 +3,7 @@ use Rattle.std.proofs.Common.{◌≡◌, ℕ, refl, ap, subst, true, arith, nat_
 use Rattle.std.proofs.lemmas.Bool.Decides.{nat_tests}
 use base.Stored.{Gv, gnil, gnum, gcons}
 use Rattle.bk_form.specs.Formula.{Formula}
-use Rattle.bk_form.specs.FormulaCodes.{formula_code, coded_formula}
+use Rattle.bk_form.specs.Codes.FormulaCodes.{formula_code, coded_formula}
 use Rattle.bk_form.proofs.Members.{and-true, and-both}
 use Rattle.bk_arith.specs.Same.{same_code, is_same}
 use Rattle.bk_arith.specs.Laws.{SameIsEqual}

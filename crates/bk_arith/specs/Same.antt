@@ -2,7 +2,7 @@
 use Rattle.std.specs.Prelude.{Bool, true, false, ◌&&◌, nat_eq}
 use base.Stored.{Gv, gnil, gnum, gcons}
 use Rattle.bk_form.specs.Formula.{Formula}
-use Rattle.bk_form.specs.FormulaCodes.{formula_code}
+use Rattle.bk_form.specs.Codes.FormulaCodes.{formula_code}
 
 -- whether two codes are the same tree
 abbrev pub same_code : Gv → Gv → Bool

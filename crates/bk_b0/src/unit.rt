@@ -33,10 +33,10 @@ pub struct B0Unit {
 impl Model for B0Unit {
     ghost use Rattle.bk_b0.specs.CodeUnit.{CodeUnit, IsCodeUnit};
     ghost use Rattle.std.specs.Coded.{codes};
-    ghost use Rattle.bk_form.specs.FormulaCodes.{coded_formula};
-    ghost use Rattle.bk_form.specs.TableCodes.{coded_set, coded_table};
-    ghost use Rattle.bk_gsl.specs.SubCodes.{coded_substitution};
-    ghost use Rattle.bk_dev.specs.DevelopmentCodes.{coded_body, coded_head};
+    ghost use Rattle.bk_form.specs.Codes.FormulaCodes.{coded_formula};
+    ghost use Rattle.bk_form.specs.Codes.TableCodes.{coded_set, coded_table};
+    ghost use Rattle.bk_gsl.specs.Codes.SubCodes.{coded_substitution};
+    ghost use Rattle.bk_dev.specs.Codes.DevelopmentCodes.{coded_body, coded_head};
 
     ghost Value = { CodeUnit };
 

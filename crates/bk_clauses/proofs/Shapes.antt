@@ -5,7 +5,7 @@ use Rattle.std.proofs.lemmas.List.{take_rest}
 use Rattle.bk_dev.specs.declared.kind.Kind.{Kind}
 use Rattle.bk_raw.specs.declared.substitution.RawBranch.{RawBranch}
 use Rattle.bk_raw.specs.SubTree.{SubTree}
-use Rattle.bk_raw.specs.SubView.{choices_of}
+use Rattle.bk_raw.specs.Codes.SubView.{choices_of}
 use Rattle.bk_raw.specs.Blame.{blame, earlier}
 use Rattle.bk_raw.proofs.Blamed.{blame-joins}
 use Rattle.bk_raw.specs.Faults.{Fault}

@@ -3,7 +3,7 @@
 
 ghost use Rattle.std.specs.Option.{option_copied};
 ghost use Rattle.std.specs.Prelude.{◌≡◌};
-ghost use Rattle.bk_raw.specs.SubView.{choices_of};
+ghost use Rattle.bk_raw.specs.Codes.SubView.{choices_of};
 ghost use Rattle.bk_raw.specs.Blame.{blame};
 ghost use Rattle.bk_elab.specs.Shown.{told};
 ghost use Rattle.bk_level.specs.OperationFaults as meant;

@@ -1,9 +1,8 @@
 pub mod Development
-pub mod DevelopmentCodes
+pub mod Codes
 pub mod Flattened
 pub mod Hypotheses
 pub mod Layout
-pub mod ClueView
 pub mod B0
 pub mod Extents
 pub mod Facts

@@ -2,7 +2,7 @@
 
 ghost use Rattle.std.specs.Prelude.{◌≡◌, ◌<◌, true, [], ◌++◌, length, IfOk, OnOk, Some};
 ghost use Rattle.std.specs.List.{cons_option, filter_map};
-ghost use Rattle.bk_dev.specs.ClueView.{clue_seen, found_row};
+ghost use Rattle.bk_dev.specs.Codes.ClueView.{clue_seen, found_row};
 ghost use Rattle.bk_dev.specs.Development.{is_complete, int_max, level_at, last};
 ghost use Rattle.bk_dev.specs.Layout.{arrays_of, row_by, has_scalars, is_scalar, indices_of, interval_of, bound_of, constant_bound, literal_of};
 

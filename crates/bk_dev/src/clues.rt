@@ -4,7 +4,7 @@ ghost use Rattle.std.specs.Prelude.{◌≡◌, not, [], ◌++◌, IfOk, OnOk, So
 ghost use Rattle.std.specs.List.{filter};
 ghost use Rattle.bk_form.specs.Predicates.{conjuncts};
 ghost use Rattle.bk_gsl.specs.State.{among, firsts};
-ghost use Rattle.bk_dev.specs.ClueView.{clue_seen, is_this, spoken_list};
+ghost use Rattle.bk_dev.specs.Codes.ClueView.{clue_seen, is_this, spoken_list};
 ghost use Rattle.bk_dev.specs.Layout.{clue_of, spoken_of, right_side, lacks_type, is_typing, first_clue, untyped, linked_to, typing_clue, reversed};
 
 use crate::development::Level;

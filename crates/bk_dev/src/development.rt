@@ -25,7 +25,7 @@ pub struct EnumSet {
 
 impl Model for EnumSet {
     ghost use Rattle.bk_form.specs.Table.{SetEntry};
-    ghost use Rattle.bk_form.specs.TableCodes.{coded_set};
+    ghost use Rattle.bk_form.specs.Codes.TableCodes.{coded_set};
 
     ghost Value = { SetEntry };
 
@@ -44,7 +44,7 @@ pub struct OpHead {
 
 impl Model for OpHead {
     ghost use Rattle.bk_dev.specs.Development.{Head};
-    ghost use Rattle.bk_dev.specs.DevelopmentCodes.{coded_head};
+    ghost use Rattle.bk_dev.specs.Codes.DevelopmentCodes.{coded_head};
 
     ghost Value = { Head };
 
@@ -66,7 +66,7 @@ pub struct Body {
 
 impl Model for Body {
     ghost use Rattle.bk_dev.specs.Development.{Body};
-    ghost use Rattle.bk_dev.specs.DevelopmentCodes.{coded_body};
+    ghost use Rattle.bk_dev.specs.Codes.DevelopmentCodes.{coded_body};
 
     ghost Value = { Body };
 
@@ -96,7 +96,7 @@ pub struct Level {
 
 impl Model for Level {
     ghost use Rattle.bk_dev.specs.Development.{Level};
-    ghost use Rattle.bk_dev.specs.DevelopmentCodes.{coded_level};
+    ghost use Rattle.bk_dev.specs.Codes.DevelopmentCodes.{coded_level};
 
     ghost Value = { Level };
 
@@ -137,7 +137,7 @@ pub struct Development {
 
 impl Model for Development {
     ghost use Rattle.bk_dev.specs.Development.{Development};
-    ghost use Rattle.bk_dev.specs.DevelopmentCodes.{coded_development};
+    ghost use Rattle.bk_dev.specs.Codes.DevelopmentCodes.{coded_development};
     ghost use Rattle.bk_dev.specs.Facts.{IsDevelopment};
 
     ghost Value = { Development };

@@ -3,7 +3,7 @@ use Rattle.std.proofs.Common.{◌≡◌, ℕ, suc, ◌+◌, ◌<◌, List, [], �
 use Rattle.std.specs.Prelude.{Option, Some}
 use Rattle.std.proofs.lemmas.List.{drop_more, map-append, append-nil}
 use Rattle.bk_form.specs.Formula.{Formula}
-use Rattle.bk_raw.specs.RawView.{ranges_of}
+use Rattle.bk_raw.specs.Codes.RawView.{ranges_of}
 use Rattle.bk_raw.specs.declared.term.RawRange.{RawRange}
 use Rattle.bk_raw.specs.Names.{Names, count_locals}
 use Rattle.bk_raw.specs.Outcome.{Reading, ask_set}

@@ -4,7 +4,7 @@ use Rattle.std.proofs.lemmas.List.{take_rest}
 use Rattle.std.specs.Borrow.{Bor}
 use Rattle.std.specs.Prelude.{Option, None, Some}
 use Rattle.bk_raw.specs.RawTree.{RawTree, raw, RawTreeNode, raw_name, tree_size, node_size, trees_size, ranges_size, trees_of}
-use Rattle.bk_raw.specs.RawView.{ranges_of}
+use Rattle.bk_raw.specs.Codes.RawView.{ranges_of}
 use Rattle.bk_raw.specs.declared.term.RawRange.{RawRange}
 
 node_pos : (n : RawTreeNode) → 0 < node_size n

@@ -6,7 +6,7 @@ use Rattle.bk_raw.specs.declared.operator.InfixOp.{InfixOp}
 use Rattle.bk_raw.specs.declared.operator.InfixOp.TheVariants.{StrictSubset}
 use Rattle.bk_raw.specs.declared.term.RawRange.{RawRange}
 use Rattle.bk_raw.specs.RawTree.{RawTree, raw_infix, trees_of}
-use Rattle.bk_raw.specs.RawView.{ranges_of}
+use Rattle.bk_raw.specs.Codes.RawView.{ranges_of}
 use Rattle.bk_raw.specs.TermReading.{stricts, stricts_in, strict_faults, all_stricts, ranges_stricts}
 use Rattle.bk_raw.specs.Blame.{blame, earlier}
 use Rattle.bk_elab.specs.Shapes.{strict_here}

@@ -1,7 +1,6 @@
 pub mod Joins
 pub mod Expressions
-pub mod ExpressionView
-pub mod ExpressionFalls
+pub mod Codes
 pub mod Shown
 pub mod Shapes
 pub mod Visible

@@ -11,7 +11,7 @@ use Rattle.bk_raw.specs.declared.term.RawBound.{RawBound}
 use Rattle.bk_raw.specs.declared.term.RawName.{RawName}
 use Rattle.bk_raw.specs.declared.term.RawRange.{RawRange}
 use Rattle.bk_raw.specs.RawTree.{RawTree, RawTreeNode, tree_size, raw_for_all, raw_exists, raw_comprehension, raw_lambda, raw_typed_for_all, raw_typed_exists, raw_ranged_comprehension, raw_ranged_lambda}
-use Rattle.bk_raw.specs.RawView.{ranges_of as ranges_written}
+use Rattle.bk_raw.specs.Codes.RawView.{ranges_of as ranges_written}
 use Rattle.bk_raw.specs.Names.{Names, set_name, Sight, unseen, untyped_name, seen}
 use Rattle.bk_raw.specs.Outcome.{Outcome, Reading, ask_domain, ask_set, ask_value}
 use Rattle.bk_raw.specs.Binders.{Bound, Ranged, inside, locals, all_typed, types_of, as_bound, is_some_name, ranges_of, second, set_over, as_single, typed_as, ranged_as}

@@ -56,13 +56,13 @@ impl Model for Expression {
 
     ghost coded = { coded_expression };
 
-    ghost use Rattle.bk_elab.specs.ExpressionView.{expression_of};
+    ghost use Rattle.bk_elab.specs.Codes.ExpressionView.{expression_of};
 
     ghost view = { λ e. expression_of e.node };
 
     ghost size = { expression_size };
 
-    ghost use Rattle.bk_elab.specs.ExpressionFalls.{expression_falls};
+    ghost use Rattle.bk_elab.specs.Codes.ExpressionFalls.{expression_falls};
 
     ghost size_decreases = { λ e h. expression_falls e.node };
 }

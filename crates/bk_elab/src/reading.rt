@@ -8,7 +8,7 @@ ghost use Rattle.bk_raw.specs.Names.{count_locals};
 ghost use Rattle.bk_raw.specs.Outcome.{Reading};
 ghost use Rattle.bk_raw.specs.Printed.{printed_ranges, wrong_ranges};
 ghost use Rattle.bk_raw.specs.RawTree.{RawTree, trees_of};
-ghost use Rattle.bk_raw.specs.RawView.{ranges_of};
+ghost use Rattle.bk_raw.specs.Codes.RawView.{ranges_of};
 ghost use Rattle.bk_raw.specs.TermReading as meant;
 ghost use Rattle.bk_raw.specs.Blame.{blame};
 ghost use Rattle.bk_elab.specs.Conjuncts.{and_sides};

@@ -4,7 +4,7 @@ ghost use Rattle.std.specs.Option.{option_copied};
 ghost use Rattle.std.specs.Prelude.{◌≡◌, Some};
 ghost use Rattle.bk_raw.specs.FreeNames.{stands_free, is_among, is_free_in_some, is_free_in_ranges};
 ghost use Rattle.bk_raw.specs.RawTree.{trees_of};
-ghost use Rattle.bk_raw.specs.RawView.{ranges_of};
+ghost use Rattle.bk_raw.specs.Codes.RawView.{ranges_of};
 ghost use Rattle.bk_raw.specs.TermReading as meant;
 ghost use Rattle.bk_raw.specs.Blame.{blame};
 ghost use Rattle.bk_raw.specs.Faults.{not_predicate};

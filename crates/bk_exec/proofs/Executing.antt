@@ -6,7 +6,7 @@ use Rattle.std.proofs.lemmas.List.{drop_more, drop_all}
 use Rattle.bk_val.specs.ValueType.{ValueType, int_type, bool_type, enum_type, pair_type, set_type}
 use Rattle.bk_raw.specs.declared.term.RawName.{RawName}
 use Rattle.bk_raw.specs.RawTree.{RawTree, raw, raw_name, raw_infix, raw_apply, raw_extension, no_trees, tree_and, trees_of}
-use Rattle.bk_raw.specs.RawView.{tree_of}
+use Rattle.bk_raw.specs.Codes.RawView.{tree_of}
 use Rattle.bk_raw.specs.declared.term.RawNode.{RawNode}
 use Rattle.bk_raw.specs.declared.term.RawNode.TheVariants.{Name}
 use Rattle.bk_raw.specs.declared.operator.InfixOp.TheVariants.{Times}

@@ -1,7 +1,7 @@
 // The arrays of an implementation, with the domains that they are declared with.
 
 ghost use Rattle.std.specs.Prelude.{◌≡◌, ◌++◌, ◌∷◌, ◌&&◌, [], ℕ, Some, IfOk};
-ghost use Rattle.bk_dev.specs.ClueView.{clue_seen};
+ghost use Rattle.bk_dev.specs.Codes.ClueView.{clue_seen};
 ghost use Rattle.bk_dev.specs.Development.{Development};
 ghost use Rattle.bk_dev.specs.Layout.{has_scalars, indices_of, linked_to, reversed, typing_clue};
 ghost use Rattle.bk_level.specs.ValueFaults.{is_there};

@@ -2,7 +2,7 @@
 
 ghost use Rattle.std.specs.Prelude.{◌≡◌, IfOk};
 ghost use Rattle.bk_form.specs.Formula.{variable, literal, unary, binary, btrue, formula_size};
-ghost use Rattle.bk_form.specs.FormView.{made};
+ghost use Rattle.bk_form.specs.Codes.FormView.{made};
 ghost use Rattle.bk_form.specs.declared.operator.BinOp.TheVariants.{In, Range};
 
 use bk_form::{BinOp, Form, Part, UnOp};

@@ -1,15 +1,9 @@
 pub mod Formula
 pub mod Storable
-pub mod OperatorCodes
-pub mod FormulaCodes
-pub mod TypeView
-pub mod TypeFalls
+pub mod Codes
 pub mod TypeShown
-pub mod FormView
-pub mod FormFalls
 pub mod FormShown
 pub mod Table
-pub mod TableCodes
 pub mod ArrayTable
 pub mod Search
 pub mod Role
@@ -31,6 +25,5 @@ pub mod Sized
 pub mod Parts
 pub mod Pools
 pub mod PoolKeys
-pub mod PoolCodes
 pub mod PoolLaws
 pub mod Operands

@@ -3,7 +3,7 @@
 ghost use Rattle.std.specs.Prelude.{◌≡◌, ◌<◌, ◌≤◌, ◌^◌, IfOk, IsTrue, ◌↔◌};
 ghost use Rattle.bk_form.specs.Formula.{formula_size, formula_height, formulas_size, formulas_height, formulas_of};
 ghost use Rattle.bk_form.specs.Storable.{is_storable, are_storable, has_storable_parts};
-ghost use Rattle.bk_form.specs.FormView.{made};
+ghost use Rattle.bk_form.specs.Codes.FormView.{made};
 ghost use Rattle.bk_form.specs.FormShown.{shown};
 
 use crate::operator::{BinOp, Domain, UnOp};
@@ -68,13 +68,13 @@ pub enum Part {
 
 impl Model for Form {
     ghost use Rattle.bk_form.specs.Formula.{Formula, formula_size};
-    ghost use Rattle.bk_form.specs.FormulaCodes.{coded_formula};
+    ghost use Rattle.bk_form.specs.Codes.FormulaCodes.{coded_formula};
 
     ghost Value = { Formula };
 
     ghost coded = { coded_formula };
 
-    ghost use Rattle.bk_form.specs.FormView.{made, IsStored};
+    ghost use Rattle.bk_form.specs.Codes.FormView.{made, IsStored};
 
     ghost view = { λ f. made f.shared.value.part };
 
@@ -82,7 +82,7 @@ impl Model for Form {
 
     ghost size = { formula_size };
 
-    ghost use Rattle.bk_form.specs.FormFalls.{part_falls};
+    ghost use Rattle.bk_form.specs.Codes.FormFalls.{part_falls};
 
     ghost size_decreases = { λ a h. part_falls a.shared.value.part };
 }

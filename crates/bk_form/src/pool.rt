@@ -37,7 +37,7 @@ impl Model for Pool {
     ghost use Rattle.std.specs.Prelude.{List, map};
     ghost use Rattle.bk_form.specs.Formula.{Formula};
     ghost use Rattle.bk_form.specs.PoolKeys.{held, IsHeld};
-    ghost use Rattle.bk_form.specs.PoolCodes.{coded_pool};
+    ghost use Rattle.bk_form.specs.Codes.PoolCodes.{coded_pool};
 
     ghost Value = { List Formula };
 

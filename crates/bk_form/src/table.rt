@@ -19,7 +19,7 @@ struct SetRow {
 
 impl Model for SetRow {
     ghost use Rattle.bk_form.specs.Table.{SetEntry};
-    ghost use Rattle.bk_form.specs.TableCodes.{coded_set};
+    ghost use Rattle.bk_form.specs.Codes.TableCodes.{coded_set};
 
     ghost Value = { SetEntry };
 
@@ -49,7 +49,7 @@ struct VariableRow {
 
 impl Model for VariableRow {
     ghost use Rattle.bk_form.specs.Table.{VariableEntry};
-    ghost use Rattle.bk_form.specs.TableCodes.{coded_variable};
+    ghost use Rattle.bk_form.specs.Codes.TableCodes.{coded_variable};
 
     ghost Value = { VariableEntry };
 
@@ -80,7 +80,7 @@ pub struct VarTable {
 
 impl Model for VarTable {
     ghost use Rattle.bk_form.specs.Table.{Table, IsWellFormed, IsNumberable};
-    ghost use Rattle.bk_form.specs.TableCodes.{coded_table};
+    ghost use Rattle.bk_form.specs.Codes.TableCodes.{coded_table};
 
     ghost Value = { Table };
 

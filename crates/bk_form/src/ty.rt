@@ -36,7 +36,7 @@ impl Model for Ty {
 
     ghost coded = { coded_type };
 
-    ghost use Rattle.bk_form.specs.TypeView.{type_view};
+    ghost use Rattle.bk_form.specs.Codes.TypeView.{type_view};
 
     ghost view = { λ t. type_view t.node };
 
@@ -44,7 +44,7 @@ impl Model for Ty {
 
     ghost size = { type_size };
 
-    ghost use Rattle.bk_form.specs.TypeFalls.{type_falls};
+    ghost use Rattle.bk_form.specs.Codes.TypeFalls.{type_falls};
 
     ghost size_decreases = { λ a h. type_falls a.node };
 }

@@ -4,7 +4,7 @@ use Rattle.std.specs.Prelude.{Option, MatchOption, IsSomeAnd, Some, None}
 use Rattle.std.specs.Option.{option_map}
 use Rattle.bk_raw.specs.ScriptTree.{RulePart}
 use Rattle.bk_raw.specs.declared.script.RulePart.{RulePart as Part}
-use Rattle.bk_raw.specs.ScriptView.{part_of}
+use Rattle.bk_raw.specs.Codes.ScriptView.{part_of}
 use Rattle.bk_ground.specs.Finding.{IsMeaning}
 use Rattle.bk_ground.specs.Parts.{One, Two}
 use Rattle.bk_ground.specs.Grounding.{Made}

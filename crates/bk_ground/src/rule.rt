@@ -4,7 +4,7 @@ ghost use Rattle.std.specs.Prelude.{◌≡◌, ◌∷◌, [], IfOk, MatchOption,
 ghost use Rattle.std.specs.Option.{option_map};
 ghost use Rattle.bk_kernel.specs.declared.rule.Rule.TheVariants.{Inst, OpenSome, Eq, Qe, Law, Wal, Lin};
 ghost use Rattle.bk_raw.specs.declared.script.RulePart.{RulePart as Part};
-ghost use Rattle.bk_raw.specs.ScriptView.{part_of};
+ghost use Rattle.bk_raw.specs.Codes.ScriptView.{part_of};
 ghost use Rattle.bk_ground.specs.Finding.{IsMeaning};
 ghost use Rattle.bk_ground.specs.Grounding.{RuleMeans, StandsFor};
 ghost use Rattle.bk_ground.specs.Parts.{NumberPart, TermPart, TermsPart, NamesPart, PlacePart, PerhapsPart, LawPart, CertificatePart, NoParts, One, Two};

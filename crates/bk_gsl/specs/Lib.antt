@@ -7,9 +7,7 @@ pub mod Flat
 pub mod Typed
 pub mod Laws
 pub mod SubSize
-pub mod SubCodes
-pub mod SubView
-pub mod SubFalls
+pub mod Codes
 pub mod Reads
 pub mod Apart
 pub mod Avoids

@@ -2,7 +2,7 @@
 
 ghost use Rattle.std.specs.Prelude.{◌≡◌, IfOk};
 ghost use Rattle.bk_gsl.specs.Substitution.{skip, assign, pre, guard, choice, if_else, any, seq, par, assert, becomes_such, loop};
-ghost use Rattle.bk_gsl.specs.SubView.{sub_view};
+ghost use Rattle.bk_gsl.specs.Codes.SubView.{sub_view};
 
 use bk_form::Form;
 use bk_io::Memory;
@@ -56,20 +56,20 @@ pub enum SubNode {
 
 impl Model for Sub {
     ghost use Rattle.bk_gsl.specs.Substitution.{Substitution};
-    ghost use Rattle.bk_gsl.specs.SubCodes.{coded_substitution};
+    ghost use Rattle.bk_gsl.specs.Codes.SubCodes.{coded_substitution};
     ghost use Rattle.bk_gsl.specs.SubSize.{substitution_size};
 
     ghost Value = { Substitution };
 
     ghost coded = { coded_substitution };
 
-    ghost use Rattle.bk_gsl.specs.SubView.{sub_view};
+    ghost use Rattle.bk_gsl.specs.Codes.SubView.{sub_view};
 
     ghost view = { λ s. sub_view s.node.value };
 
     ghost size = { substitution_size };
 
-    ghost use Rattle.bk_gsl.specs.SubFalls.{sub_falls};
+    ghost use Rattle.bk_gsl.specs.Codes.SubFalls.{sub_falls};
 
     ghost size_decreases = { λ s h. sub_falls s.node.value };
 }

@@ -9,7 +9,7 @@ use Rattle.bk_raw.specs.declared.term.RawName.{RawName}
 use Rattle.bk_raw.specs.Names.{Names}
 use Rattle.bk_raw.specs.RawTree.{RawTree, RawTrees, no_trees, tree_and, trees_of}
 use Rattle.bk_raw.specs.SubTree.{SubTree}
-use Rattle.bk_raw.specs.SubView.{choices_of}
+use Rattle.bk_raw.specs.Codes.SubView.{choices_of}
 use Rattle.bk_raw.specs.Blame.{blame, earlier}
 use Rattle.bk_raw.specs.Faults.{Fault, wrong_write}
 use Rattle.bk_level.specs.Binders.{binder_count}

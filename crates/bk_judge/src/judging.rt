@@ -6,7 +6,7 @@ ghost use Rattle.bk_val.specs.ValueType.{ValueType, pair_type, set_type};
 ghost use Rattle.bk_raw.specs.Outcome as wanted;
 ghost use Rattle.bk_raw.specs.RawTree.{trees_of};
 ghost use Rattle.bk_raw.specs.SubTree.{sub_assign};
-ghost use Rattle.bk_raw.specs.SubView.{choices_of};
+ghost use Rattle.bk_raw.specs.Codes.SubView.{choices_of};
 ghost use Rattle.bk_raw.specs.Blame.{blame};
 ghost use Rattle.bk_elab.specs.Shown.{told};
 ghost use Rattle.bk_elab.specs.Visible.{typing_of, visible_names};

@@ -4,7 +4,7 @@ ghost use Rattle.std.specs.Option.{option_copied};
 ghost use Rattle.std.specs.Prelude.{◌≡◌, ◌+◌, ◌++◌, ◌∷◌, [], ℕ, cond, length, map, IfOk, OnOk};
 ghost use Rattle.bk_form.specs.Role.{bind};
 ghost use Rattle.bk_gsl.specs.State.{among};
-ghost use Rattle.bk_raw.specs.SubView.{choices_of};
+ghost use Rattle.bk_raw.specs.Codes.SubView.{choices_of};
 ghost use Rattle.bk_raw.specs.Blame.{blame};
 ghost use Rattle.bk_raw.specs.Faults.{wrong_write};
 ghost use Rattle.bk_elab.specs.Shown.{told};

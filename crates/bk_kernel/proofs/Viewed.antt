@@ -5,7 +5,7 @@ use Rattle.std.specs.Prelude.{Some}
 use Rattle.bk_val.specs.ValueType.{ValueType}
 use Rattle.bk_form.specs.Table.{Table}
 use Rattle.bk_form.specs.Formula.{Formula, unary, binary, for_all, for_some}
-use Rattle.bk_form.specs.OperatorCodes.{unary_code, unary_back, unary_back-code, binary_code, binary_back, binary_back-code}
+use Rattle.bk_form.specs.Codes.OperatorCodes.{unary_code, unary_back, unary_back-code, binary_code, binary_back, binary_back-code}
 use Rattle.bk_form.specs.Role.{Role, gives, ranges_over, predicate, role}
 use Rattle.bk_form.specs.declared.operator.UnOp.{UnOp}
 use Rattle.bk_form.specs.declared.operator.BinOp.{BinOp}

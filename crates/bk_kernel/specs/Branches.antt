@@ -3,7 +3,7 @@ use Rattle.std.specs.Prelude.{nat_eq, Bool, cond, List, [], ◌∷◌, ◌++◌,
 use Rattle.bk_val.specs.ValueType.{ValueType}
 use Rattle.bk_form.specs.Each.{Each}
 use Rattle.bk_form.specs.Formula.{Formula, unary, binary, for_all, for_some}
-use Rattle.bk_form.specs.OperatorCodes.{unary_code, binary_code}
+use Rattle.bk_form.specs.Codes.OperatorCodes.{unary_code, binary_code}
 use Rattle.bk_form.specs.declared.operator.UnOp.{UnOp}
 use Rattle.bk_form.specs.declared.operator.BinOp.{BinOp}
 use Rattle.bk_bind.specs.Limits.{IsWithinLimits}

@@ -8,7 +8,7 @@ ghost use Rattle.bk_form.specs.declared.operator.UnOp.TheVariants.{Not as Negati
 ghost use Rattle.bk_gsl.specs.Substitution.{guard};
 ghost use Rattle.bk_raw.specs.RawTree.{trees_of};
 ghost use Rattle.bk_raw.specs.SubTree.{sub_assign, sub_assign_at, sub_member, sub_such, sub_any, sub_var, sub_while, branch_and};
-ghost use Rattle.bk_raw.specs.SubView.{choices_of};
+ghost use Rattle.bk_raw.specs.Codes.SubView.{choices_of};
 ghost use Rattle.bk_elab.specs.Visible.{typing_of, visible_names};
 ghost use Rattle.bk_level.specs.Elaborated as meant;
 ghost use Rattle.bk_made.specs.Read.{read_by, behind_by, node_read, else_by, choices_by, selected_by, condition_by, term_by, chosen_by};

@@ -6,7 +6,7 @@ use Rattle.bk_form.specs.declared.token.Token.{Token}
 use Rattle.bk_form.specs.declared.token.TokenKind.TheVariants.{Word}
 use Rattle.bk_raw.specs.ComponentSpelling.{Clause, Parts}
 use Rattle.bk_raw.specs.ComponentTree.{ClauseParts, RawClause, clause_number, is_allowed, parts_height, word_number}
-use Rattle.bk_raw.specs.ComponentView.{parts_of}
+use Rattle.bk_raw.specs.Codes.ComponentView.{parts_of}
 use Rattle.bk_raw.specs.declared.component.ClauseParts.{ClauseParts as KeptParts}
 use Rattle.bk_raw.specs.declared.component.ClauseWord.{ClauseWord}
 use Rattle.bk_raw.specs.declared.component.ComponentKind.{ComponentKind}

@@ -4,7 +4,7 @@ use denote.Ref.{Bor}
 use Rattle.bk_limits.specs.declared.TheConstants.{GREATEST_TREE_HEIGHT}
 use Rattle.bk_form.specs.declared.token.Token.{Token}
 use Rattle.bk_raw.specs.ComponentTree.{ClauseParts, clause_sets, clause_values, clause_operations, parts_height, RawOperation}
-use Rattle.bk_raw.specs.ComponentView.{parts_of}
+use Rattle.bk_raw.specs.Codes.ComponentView.{parts_of}
 use Rattle.bk_raw.specs.ComponentSpelling.{Parts, HasElements}
 use Rattle.bk_raw.specs.declared.component.ClauseWord.{ClauseWord}
 use Rattle.bk_raw.specs.declared.component.RawValue.{RawValue}

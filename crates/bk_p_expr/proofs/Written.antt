@@ -8,7 +8,7 @@ use Rattle.bk_ops.specs.declared.sign.TheConstants.{POWER}
 use Rattle.bk_raw.specs.declared.operator.InfixOp.TheVariants.{Power}
 use Rattle.bk_p_expr.proofs.Choices.{some_same}
 use Rattle.bk_raw.specs.Operators.{infix_kind, word_kind, constant_kind}
-use Rattle.bk_raw.specs.OperatorCodes.{infix_operators, word_operators, constant_operators}
+use Rattle.bk_raw.specs.Codes.OperatorCodes.{infix_operators, word_operators, constant_operators}
 use Rattle.bk_raw.specs.declared.operator.InfixOp.{InfixOp}
 use Rattle.bk_raw.specs.declared.operator.WordOp.{WordOp}
 use Rattle.bk_raw.specs.declared.operator.Constant.{Constant}

@@ -12,7 +12,7 @@ use Rattle.bk_p_expr.specs.Fronts.{Longest, Nothing}
 use Rattle.bk_p_proof.specs.Kinds.{IsShape, kind_of}
 use Rattle.bk_p_proof.specs.declared.part.PartKind.{PartKind as Asked}
 use Rattle.bk_raw.specs.declared.script.RulePart.{RulePart as RawPart}
-use Rattle.bk_raw.specs.ScriptView.{part_of}
+use Rattle.bk_raw.specs.Codes.ScriptView.{part_of}
 use Rattle.bk_p_proof.specs.Kept.{IsKept, IsPart, AreParts, parts_height, parts_names}
 use Rattle.bk_p_proof.specs.TypedNames.{part_names}
 use Rattle.bk_p_proof.proofs.Cuts.{IsPrefixFree, free_single, cuts_by}

@@ -17,7 +17,7 @@ pub struct Scripts {
 impl Model for Scripts {
     ghost use Rattle.std.specs.Prelude.{List};
     ghost use Rattle.std.specs.Coded.{coded_list};
-    ghost use Rattle.bk_raw.specs.ScriptCodes.{coded_script};
+    ghost use Rattle.bk_raw.specs.Codes.ScriptCodes.{coded_script};
     ghost use Rattle.bk_raw.specs.ScriptTree.{RawScript};
     ghost use Rattle.bk_p_proof.specs.Files.{AreOfTexts};
 

@@ -3,7 +3,7 @@
 ghost use Rattle.std.specs.Prelude.{◌<◌, ◌≤◌, length, IfOk, IfSome, MatchOption};
 ghost use Rattle.bk_raw.specs.Pieces.{Digits, InRow};
 ghost use Rattle.bk_raw.specs.ScriptSpelling.{Place};
-ghost use Rattle.bk_raw.specs.ScriptView.{place_of};
+ghost use Rattle.bk_raw.specs.Codes.ScriptView.{place_of};
 ghost use Rattle.bk_p_expr.specs.Fronts.{Longest, Nothing};
 
 use crate::token::{after_name, digits};

@@ -2,7 +2,7 @@
 
 ghost use Rattle.std.specs.Prelude.{◌≡◌, ◌↔◌, All, IfOk, IsTrue, MatchOption, map};
 ghost use Rattle.std.specs.List.{flat_map};
-ghost use Rattle.bk_raw.specs.ScriptView.{part_of};
+ghost use Rattle.bk_raw.specs.Codes.ScriptView.{part_of};
 ghost use Rattle.bk_p_proof.specs.TypedNames.{AreOfOneType, IsSecondType, IsSecondTypeOf, part_names, script_names};
 
 use bk_io::Memory;

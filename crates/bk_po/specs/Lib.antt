@@ -1,5 +1,5 @@
 pub mod Obligations
-pub mod ObligationCodes
+pub mod Codes
 pub mod Limits
 pub mod Shown
 pub mod Typed
@@ -8,5 +8,4 @@ pub mod WrittenLists
 pub mod Laws
 pub mod Levels
 pub mod FlatFacts
-pub mod FlatView
 pub mod Supposed

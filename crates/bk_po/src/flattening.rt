@@ -32,13 +32,13 @@ pub(crate) struct FlatDevelopment<'a> {
 
 impl<'a> Model for FlatDevelopment<'a> {
     ghost use Rattle.bk_dev.specs.Development.{Development};
-    ghost use Rattle.bk_dev.specs.DevelopmentCodes.{coded_development};
+    ghost use Rattle.bk_dev.specs.Codes.DevelopmentCodes.{coded_development};
 
     ghost Value = { Development };
 
     ghost coded = { coded_development };
 
-    ghost use Rattle.bk_po.specs.FlatView.{flat_view, IsFlatView};
+    ghost use Rattle.bk_po.specs.Codes.FlatView.{flat_view, IsFlatView};
 
     ghost view = { flat_view };
 

@@ -14,7 +14,7 @@ pub(crate) struct WholeObligation {
 
 impl Model for WholeObligation {
     ghost use Rattle.bk_po.specs.Obligations.{Obligation};
-    ghost use Rattle.bk_po.specs.ObligationCodes.{coded_obligation};
+    ghost use Rattle.bk_po.specs.Codes.ObligationCodes.{coded_obligation};
 
     ghost Value = { Obligation };
 

@@ -21,7 +21,7 @@ use Rattle.bk_raw.proofs.SubLeads.{lead, lead-behind}
 use Rattle.bk_raw.proofs.Lists.{absent-then, One, one-divided}
 use Rattle.bk_raw.proofs.ClauseRuns.{ends_clause, ends_division, division-term, set-leads, value-leads, operation-leads, parts-lead}
 use Rattle.bk_raw.proofs.Shapes.{regrouped}
-use Rattle.bk_raw.specs.ComponentCodes.{clause_words}
+use Rattle.bk_raw.specs.Codes.ComponentCodes.{clause_words}
 
 signs-same : (m n : ℕ) → Sign m ≡ Sign n → m ≡ n
 signs-same m n e = cc

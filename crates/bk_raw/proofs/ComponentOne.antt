@@ -21,7 +21,7 @@ use Rattle.bk_raw.proofs.Lists.{absent-then}
 use Rattle.bk_raw.proofs.ClauseRuns.{ends_clause}
 use Rattle.bk_raw.proofs.ClauseOne.{FirstAt, first-at, same-at, clause-cut}
 use Rattle.bk_raw.proofs.Shapes.{regrouped}
-use Rattle.bk_raw.specs.ComponentCodes.{component_kinds}
+use Rattle.bk_raw.specs.Codes.ComponentCodes.{component_kinds}
 
 -- ---- what closes the clauses
 abbrev pub IsClosed : List Token → Type 0

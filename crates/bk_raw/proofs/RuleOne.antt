@@ -21,7 +21,7 @@ use Rattle.bk_raw.proofs.ClauseOne.{same-at}
 use Rattle.bk_raw.proofs.PartOne.{not-empty, digits-cut, ends_place, place-leads, one-place, terms-lead, one-terms, typed-names-lead, one-typed-names, ends_law, law-leads, one-law, ends_certificate, Certified, certificate-leads, one-certificate}
 use Rattle.bk_raw.proofs.Shapes.{regrouped}
 use Rattle.bk_raw.proofs.Stopping.{some_same}
-use Rattle.bk_raw.specs.ScriptCodes.{rule_words}
+use Rattle.bk_raw.specs.Codes.ScriptCodes.{rule_words}
 
 -- behind a rule stands a semicolon, or `end`, or nothing
 abbrev pub IsRuleEnd : List Token → Type 0

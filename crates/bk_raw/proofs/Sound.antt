@@ -9,7 +9,7 @@ use Rattle.bk_form.specs.declared.token.TokenKind.TheVariants.{Name, BoundName, 
 use Rattle.bk_ops.specs.declared.sign.TheConstants.{MEMBER, TIMES, OPEN_PAREN, CLOSE_PAREN, COMMA}
 use Rattle.bk_ops.specs.declared.word.TheConstants.{BOOL, INTEGER, POW}
 use Rattle.bk_raw.specs.Operators.{infix_kind, word_kind, constant_kind}
-use Rattle.bk_raw.specs.OperatorCodes.{infix_operators, word_operators, constant_operators}
+use Rattle.bk_raw.specs.Codes.OperatorCodes.{infix_operators, word_operators, constant_operators}
 use Rattle.bk_raw.specs.WrittenType.{WrittenType, written_integer, written_bool, written_set, written_power, written_product}
 use Rattle.bk_raw.specs.declared.operator.InfixOp.{InfixOp}
 use Rattle.bk_raw.specs.declared.operator.WordOp.{WordOp}

@@ -8,7 +8,7 @@ use Rattle.bk_ops.specs.declared.sign.TheConstants.{FOR_ALL, EXISTS, MEMBER, MIN
 use Rattle.bk_ops.specs.declared.word.TheConstants.{BOOL, INTEGER, POW}
 use Rattle.bk_raw.specs.Bars.{bar_follows}
 use Rattle.bk_raw.specs.Operators.{infix_kind, word_kind, constant_kind, binding, ranged_over, negated, tightest}
-use Rattle.bk_raw.specs.OperatorCodes.{infix_operators, word_operators, constant_operators}
+use Rattle.bk_raw.specs.Codes.OperatorCodes.{infix_operators, word_operators, constant_operators}
 use Rattle.bk_raw.specs.WrittenType.{WrittenType, written_integer, written_bool, written_set, written_power, written_product}
 use Rattle.bk_raw.specs.declared.operator.InfixOp.{InfixOp}
 use Rattle.bk_raw.specs.declared.operator.WordOp.{WordOp}

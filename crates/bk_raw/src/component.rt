@@ -110,7 +110,7 @@ pub struct RawComponent {
 
 impl Model for RawSet {
     ghost use Rattle.bk_raw.specs.ComponentTree.{RawSet};
-    ghost use Rattle.bk_raw.specs.ComponentCodes.{coded_set};
+    ghost use Rattle.bk_raw.specs.Codes.ComponentCodes.{coded_set};
 
     ghost Value = { RawSet };
 
@@ -121,7 +121,7 @@ impl Model for RawSet {
 
 impl Model for RawOperation {
     ghost use Rattle.bk_raw.specs.ComponentTree.{RawOperation};
-    ghost use Rattle.bk_raw.specs.ComponentCodes.{coded_operation};
+    ghost use Rattle.bk_raw.specs.Codes.ComponentCodes.{coded_operation};
 
     ghost Value = { RawOperation };
 
@@ -132,8 +132,8 @@ impl Model for RawOperation {
 
 impl Model for RawClause {
     ghost use Rattle.bk_raw.specs.ComponentTree.{RawClause};
-    ghost use Rattle.bk_raw.specs.ComponentCodes.{coded_clause};
-    ghost use Rattle.bk_raw.specs.ComponentView.{parts_of};
+    ghost use Rattle.bk_raw.specs.Codes.ComponentCodes.{coded_clause};
+    ghost use Rattle.bk_raw.specs.Codes.ComponentView.{parts_of};
 
     ghost Value = { RawClause };
 
@@ -144,7 +144,7 @@ impl Model for RawClause {
 
 impl Model for RawComponent {
     ghost use Rattle.bk_raw.specs.ComponentTree.{RawComponent};
-    ghost use Rattle.bk_raw.specs.ComponentCodes.{coded_component};
+    ghost use Rattle.bk_raw.specs.Codes.ComponentCodes.{coded_component};
 
     ghost Value = { RawComponent };
 

@@ -178,8 +178,8 @@ pub struct RawScript {
 impl Model for RawRule {
     ghost use Rattle.std.specs.Prelude.{map};
     ghost use Rattle.bk_raw.specs.ScriptTree.{RawRule};
-    ghost use Rattle.bk_raw.specs.ScriptCodes.{coded_rule};
-    ghost use Rattle.bk_raw.specs.ScriptView.{part_of};
+    ghost use Rattle.bk_raw.specs.Codes.ScriptCodes.{coded_rule};
+    ghost use Rattle.bk_raw.specs.Codes.ScriptView.{part_of};
 
     ghost Value = { RawRule };
 
@@ -190,7 +190,7 @@ impl Model for RawRule {
 
 impl Model for RawScript {
     ghost use Rattle.bk_raw.specs.ScriptTree.{RawScript};
-    ghost use Rattle.bk_raw.specs.ScriptCodes.{coded_script};
+    ghost use Rattle.bk_raw.specs.Codes.ScriptCodes.{coded_script};
 
     ghost Value = { RawScript };
 

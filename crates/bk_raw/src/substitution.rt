@@ -62,19 +62,19 @@ pub struct RawBranch {
 
 impl Model for RawSub {
     ghost use Rattle.bk_raw.specs.SubTree.{SubTree, sub_size};
-    ghost use Rattle.bk_raw.specs.SubCodes.{coded_sub};
+    ghost use Rattle.bk_raw.specs.Codes.SubCodes.{coded_sub};
 
     ghost Value = { SubTree };
 
     ghost coded = { coded_sub };
 
-    ghost use Rattle.bk_raw.specs.SubView.{sub_of};
+    ghost use Rattle.bk_raw.specs.Codes.SubView.{sub_of};
 
     ghost view = { λ s. sub_of s.at s.node };
 
     ghost size = { sub_size };
 
-    ghost use Rattle.bk_raw.specs.SubFalls.{sub_falls};
+    ghost use Rattle.bk_raw.specs.Codes.SubFalls.{sub_falls};
 
     ghost size_decreases = { λ s h. sub_falls s.at s.node };
 }

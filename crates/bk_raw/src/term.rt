@@ -95,19 +95,19 @@ pub struct RawRange {
 
 impl Model for RawTerm {
     ghost use Rattle.bk_raw.specs.RawTree.{RawTree, tree_size};
-    ghost use Rattle.bk_raw.specs.RawCodes.{coded_tree};
+    ghost use Rattle.bk_raw.specs.Codes.RawCodes.{coded_tree};
 
     ghost Value = { RawTree };
 
     ghost coded = { coded_tree };
 
-    ghost use Rattle.bk_raw.specs.RawView.{tree_of};
+    ghost use Rattle.bk_raw.specs.Codes.RawView.{tree_of};
 
     ghost view = { λ t. tree_of t.at t.node };
 
     ghost size = { tree_size };
 
-    ghost use Rattle.bk_raw.specs.RawFalls.{node_falls};
+    ghost use Rattle.bk_raw.specs.Codes.RawFalls.{node_falls};
 
     ghost size_decreases = { λ t h. node_falls t.at t.node };
 }

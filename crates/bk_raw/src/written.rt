@@ -33,13 +33,13 @@ impl Model for RawType {
 
     ghost coded = { coded_written_type };
 
-    ghost use Rattle.bk_raw.specs.WrittenTypeView.{written_type_view};
+    ghost use Rattle.bk_raw.specs.Codes.WrittenTypeView.{written_type_view};
 
     ghost view = { λ t. written_type_view t.node };
 
     ghost size = { written_type_size };
 
-    ghost use Rattle.bk_raw.specs.WrittenTypeFalls.{written_type_falls};
+    ghost use Rattle.bk_raw.specs.Codes.WrittenTypeFalls.{written_type_falls};
 
     ghost size_decreases = { λ t h. written_type_falls t.node };
 }

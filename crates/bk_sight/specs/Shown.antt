@@ -12,7 +12,7 @@ use Rattle.bk_raw.specs.declared.substitution.RawBranch.{RawBranch}
 use Rattle.bk_raw.specs.declared.term.RawName.{RawName}
 use Rattle.bk_raw.specs.RawTree.{RawTree}
 use Rattle.bk_raw.specs.SubTree.{SubTree, sub, sub_skip, Branches, no_branches, else_branch}
-use Rattle.bk_raw.specs.SubView.{branches_of}
+use Rattle.bk_raw.specs.Codes.SubView.{branches_of}
 use Rattle.bk_raw.specs.Names.{Names, Meaning, set_name}
 use Rattle.bk_raw.specs.ScopeReading.{element_names}
 use Rattle.bk_raw.specs.Binders.{has_type}

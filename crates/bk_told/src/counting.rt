@@ -3,8 +3,8 @@
 ghost use Rattle.std.specs.Option.{option_copied};
 ghost use Rattle.std.specs.Prelude.{◌≡◌, ◌+◌, ◌≤◌};
 ghost use Rattle.bk_raw.specs.RawTree.{trees_of};
-ghost use Rattle.bk_raw.specs.RawView.{ranges_of};
-ghost use Rattle.bk_raw.specs.SubView.{choices_of};
+ghost use Rattle.bk_raw.specs.Codes.RawView.{ranges_of};
+ghost use Rattle.bk_raw.specs.Codes.SubView.{choices_of};
 ghost use Rattle.bk_level.specs.DeclaredNames as meant;
 ghost use Rattle.bk_sight.specs.Shown.{branches_shown, capped, component_shown, refs};
 

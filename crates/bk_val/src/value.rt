@@ -60,7 +60,7 @@ impl Model for Val {
 
     ghost size = { weight };
 
-    ghost use Rattle.bk_val.specs.ValueFalls.{depth_le-weight};
+    ghost use Rattle.bk_val.specs.Codes.ValueFalls.{depth_le-weight};
 
     ghost size_decreases = { λ v h. depth_le-weight v.node };
 }

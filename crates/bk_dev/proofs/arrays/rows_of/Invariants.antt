@@ -1,6 +1,6 @@
 use Rattle.std.proofs.Common.{◌≡◌, ◌++◌, drop}
 use Rattle.std.specs.List.{filter_map}
-use Rattle.bk_dev.specs.ClueView.{found_row}
+use Rattle.bk_dev.specs.Codes.ClueView.{found_row}
 use Rattle.bk_dev.proofs.arrays.rows_of.Given as goal
 
 abbrev pub invariant-loop-variable : goal.invariant-loop-variable

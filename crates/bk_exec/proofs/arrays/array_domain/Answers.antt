@@ -1,5 +1,5 @@
 use Rattle.std.proofs.Common.{◌∙◌, sym}
-use Rattle.bk_dev.specs.ClueView.{clue_seen}
+use Rattle.bk_dev.specs.Codes.ClueView.{clue_seen}
 use Rattle.bk_dev.specs.Layout.{has_scalars}
 use Rattle.bk_elab.specs.Visible.{typing_of}
 use Rattle.bk_sight.specs.Shown.{above_shown}

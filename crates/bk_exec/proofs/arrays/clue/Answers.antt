@@ -1,5 +1,5 @@
 use Rattle.std.proofs.Common.{◌∙◌, sym}
-use Rattle.bk_dev.specs.ClueView.{clue_seen}
+use Rattle.bk_dev.specs.Codes.ClueView.{clue_seen}
 use Rattle.bk_sight.specs.Shown.{above_shown}
 use Rattle.bk_exec.proofs.Arraying.{own-decides, above-told, is-quiet, is-loud}
 use Rattle.bk_exec.proofs.arrays.clue.Goals as goal

@@ -2,7 +2,7 @@ use Rattle.std.proofs.Common.{rules, ◌≡◌, ◌+◌, ◌≤◌, ◌++◌, []
 use Rattle.std.specs.Prelude.{◌-◌}
 use Rattle.std.proofs.lemmas.List.{length-set}
 use Rattle.bk_gsl.specs.Substitution.{seq}
-use Rattle.bk_gsl.specs.SubView.{sub_view}
+use Rattle.bk_gsl.specs.Codes.SubView.{sub_view}
 use Rattle.bk_code.specs.declared.instruction.Inst.TheVariants.{Jump, JumpZero}
 use Rattle.bk_b0.specs.CodeUnit.{unit_places}
 use Rattle.bk_b0.specs.Places.{placed_value, placed_statement}

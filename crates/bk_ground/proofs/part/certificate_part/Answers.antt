@@ -1,6 +1,6 @@
 use Rattle.std.proofs.Common.{sym, subst, map}
 use Rattle.std.specs.List.{AllZip}
-use Rattle.bk_raw.specs.ScriptView.{line_of, part_of}
+use Rattle.bk_raw.specs.Codes.ScriptView.{line_of, part_of}
 use Rattle.bk_ground.specs.Parts.{LineMeans, CertificatePart}
 use Rattle.bk_ground.proofs.Turns.{meant_none}
 use Rattle.bk_ground.proofs.part.certificate_part.Goals as goal

@@ -1,6 +1,6 @@
 use Rattle.std.proofs.Common.{take, map}
 use Rattle.std.specs.List.{AllZip}
-use Rattle.bk_raw.specs.ScriptView.{line_of}
+use Rattle.bk_raw.specs.Codes.ScriptView.{line_of}
 use Rattle.bk_ground.specs.Parts.{LineMeans}
 use Rattle.bk_ground.proofs.part.lines.Given as goal
 

@@ -1,5 +1,5 @@
 use Rattle.std.proofs.Common.{map}
-use Rattle.bk_raw.specs.ScriptView.{line_of}
+use Rattle.bk_raw.specs.Codes.ScriptView.{line_of}
 use Rattle.bk_p_expr.proofs.Choices.{if_none, if_some}
 use Rattle.bk_p_proof.proofs.Certificates.{certificate_found, certificate_no_sign, certificate_no_lines}
 use Rattle.bk_p_proof.proofs.certificate.certificate.Goals as goal

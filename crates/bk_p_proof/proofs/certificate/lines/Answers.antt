@@ -1,5 +1,5 @@
 use Rattle.std.proofs.Common.{◌++◌, [], ◌∷◌, map, ap, sym, subst, ◌∙◌}
-use Rattle.bk_raw.specs.ScriptView.{line_of}
+use Rattle.bk_raw.specs.Codes.ScriptView.{line_of}
 use Rattle.bk_p_expr.proofs.Choices.{if_none, if_some}
 use Rattle.bk_p_proof.proofs.Rows.{map_last}
 use Rattle.bk_p_proof.proofs.Certificates.{LinesSoFar, lines_none, lines_begin, lines_go_on, lines_end, lines_end_before}

@@ -1,5 +1,5 @@
 use Rattle.std.proofs.Common.{length, map}
-use Rattle.bk_raw.specs.ScriptView.{line_of}
+use Rattle.bk_raw.specs.Codes.ScriptView.{line_of}
 use Rattle.bk_p_proof.proofs.Certificates.{LinesSoFar}
 use Rattle.bk_p_proof.proofs.certificate.lines.Given as goal
 

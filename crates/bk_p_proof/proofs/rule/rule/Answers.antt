@@ -1,7 +1,7 @@
 use Rattle.std.proofs.Common.{List, map, subst}
 use Rattle.bk_raw.specs.ScriptTree.{PartKind}
 use Rattle.bk_raw.specs.ScriptSpelling.{Ruled}
-use Rattle.bk_raw.specs.ScriptView.{part_of}
+use Rattle.bk_raw.specs.Codes.ScriptView.{part_of}
 use Rattle.bk_p_expr.specs.Fronts.{Longest}
 use Rattle.bk_p_expr.proofs.Choices.{if_some}
 use Rattle.bk_p_proof.proofs.RulesRead.{rule_found, rule_kept}

@@ -2,7 +2,7 @@ use Rattle.std.proofs.Common.{◌*◌, ◌+◌}
 use Rattle.std.specs.Option.{option_copied}
 use Rattle.bk_sight.specs.Shown.{branches_shown}
 use Rattle.bk_raw.specs.SubTree.{branches_size, choices_size, sub_size}
-use Rattle.bk_raw.specs.SubView.{choices_of}
+use Rattle.bk_raw.specs.Codes.SubView.{choices_of}
 use Rattle.bk_sight.proofs.binders.+counting.Given as goal
 
 abbrev pub decreases-binder_count : goal.decreases-binder_count

@@ -1,6 +1,6 @@
 use Rattle.std.proofs.Common.{◌≡◌, ◌+◌, ◌*◌, ◌≤◌, drop}
 use Rattle.bk_raw.specs.RawTree.{tree_size, trees_size, ranges_size, trees_of}
-use Rattle.bk_raw.specs.RawView.{ranges_of}
+use Rattle.bk_raw.specs.Codes.RawView.{ranges_of}
 use Rattle.bk_sight.specs.Shown.{capped}
 use Rattle.bk_level.specs.DeclaredNames.{all_term_names, ranges_names}
 use Rattle.bk_told.proofs.counting.+terms.Given as goal

@@ -2,7 +2,7 @@ use Rattle.std.proofs.Common.{◌≡◌, inl, inr, [], sym, ap, ◌∙◌, subst
 use Rattle.std.specs.Option.{option_copied}
 use Rattle.bk_bind.specs.Limits.{IsWithinLimits}
 use Rattle.bk_gsl.specs.Substitution.{Substitution, pre, guard, assert}
-use Rattle.bk_gsl.specs.SubView.{sub_view}
+use Rattle.bk_gsl.specs.Codes.SubView.{sub_view}
 use Rattle.bk_wd.specs.Joining.{both, where_true}
 use Rattle.bk_wd.specs.WellDefined.{defined}
 use Rattle.bk_wd.proofs.Within.{within_both_left}

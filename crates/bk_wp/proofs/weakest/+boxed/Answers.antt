@@ -1,7 +1,7 @@
 use Rattle.std.proofs.Common.{◌≡◌, sym, ap, ◌∙◌, subst, arith}
 use Rattle.bk_bind.specs.Limits.{IsWithinLimits}
 use Rattle.bk_gsl.specs.Substitution.{any}
-use Rattle.bk_gsl.specs.SubView.{sub_view}
+use Rattle.bk_gsl.specs.Codes.SubView.{sub_view}
 use Rattle.bk_wp.specs.Box.{box}
 use Rattle.bk_wp.proofs.Growth.{within_all_of}
 use Rattle.bk_wp.proofs.weakest.+boxed.Goals as goal

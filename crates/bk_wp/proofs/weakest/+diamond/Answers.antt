@@ -1,7 +1,7 @@
 use Rattle.std.proofs.Common.{◌≡◌, sym, ap, ◌∙◌, subst, arith}
 use Rattle.bk_bind.specs.Limits.{IsWithinLimits}
 use Rattle.bk_gsl.specs.Substitution.{any}
-use Rattle.bk_gsl.specs.SubView.{sub_view}
+use Rattle.bk_gsl.specs.Codes.SubView.{sub_view}
 use Rattle.bk_wp.specs.Box.{diamond}
 use Rattle.bk_wp.proofs.Growth.{within_some_of}
 use Rattle.bk_wp.proofs.weakest.+diamond.Goals as goal

@@ -1,6 +1,6 @@
 use Rattle.std.proofs.Common.{◌≡◌, ◌∙◌, ◌++◌, ap, sym, cond, Bool, true, false, List, ℕ}
 use Rattle.bk_raw.specs.RawTree.{raw, raw_name, trees_of}
-use Rattle.bk_raw.specs.RawView.{tree_of}
+use Rattle.bk_raw.specs.Codes.RawView.{tree_of}
 use Rattle.bk_raw.specs.declared.term.RawNode.{RawNode}
 use Rattle.bk_raw.specs.Blame.{blame}
 use Rattle.bk_raw.specs.Faults.{Fault}

@@ -1,5 +1,5 @@
 use Rattle.std.proofs.Common.{sym, subst, map}
-use Rattle.bk_raw.specs.ScriptView.{part_of}
+use Rattle.bk_raw.specs.Codes.ScriptView.{part_of}
 use Rattle.bk_kernel.specs.declared.rule.Rule.TheVariants.{Fix, UseTerms, Inst, OpenSome, Cut, Case, Eq, Qe, Law, Wal, TypeOf, Neg, Mem, Val, Ext, Sub, Ex, Pair, Elems, Lin}
 use Rattle.bk_ground.specs.Finding.{IsMeaning}
 use Rattle.bk_ground.specs.Grounding.{RuleMeans}

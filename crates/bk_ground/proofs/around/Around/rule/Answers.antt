@@ -1,5 +1,5 @@
 use Rattle.std.proofs.Common.{◌∙◌, ap, map}
-use Rattle.bk_raw.specs.ScriptView.{part_of}
+use Rattle.bk_raw.specs.Codes.ScriptView.{part_of}
 use Rattle.bk_ground.specs.Reading.{around_of}
 use Rattle.bk_ground.proofs.Sighted.{stands_some, stands_none}
 use Rattle.bk_ground.proofs.around.Around.rule.Goals as goal

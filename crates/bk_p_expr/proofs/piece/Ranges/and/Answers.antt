@@ -1,6 +1,6 @@
 use Rattle.std.proofs.Common.{◌≡◌, ◌≤◌, ◌∙◌, ap, subst, arith, ℕ}
 use Rattle.bk_raw.specs.RawTree.{tree_height, ranges_height, RawRanges, RawTree}
-use Rattle.bk_raw.specs.RawView.{ranges_of}
+use Rattle.bk_raw.specs.Codes.RawView.{ranges_of}
 use Rattle.bk_p_expr.specs.Pieces.{IsPiece, IsRanges, and_range}
 use Rattle.bk_p_expr.proofs.Choices.{ok_so}
 use Rattle.bk_p_expr.proofs.Heights.{is_built, are_built_ranges, high_piece, high_ranges, and_range_high, and_high_range, ranges_of_last, and_range_height}

@@ -1,7 +1,7 @@
 use Rattle.std.proofs.Common.{◌≡◌, ◌≤◌, ◌<◌, ◌∙◌, None, subst, arith, ap}
 use Rattle.bk_raw.specs.RawTree.{tree_height}
 use Rattle.bk_raw.specs.SubTree.{no_branches, branch_and, sub_height, branches_height}
-use Rattle.bk_raw.specs.SubView.{branches_of}
+use Rattle.bk_raw.specs.Codes.SubView.{branches_of}
 use Rattle.bk_p_sub.specs.Statements.{IsTerm, IsStatement, IsBranches, IsOpen, followed_by}
 use Rattle.bk_p_sub.specs.declared.branches.Branches.TheVariants.{Built}
 use Rattle.bk_p_sub.proofs.Heights.{is_built, high_statement, high_term, branches_too_high, branches_with_high, branches_of_last, followed_height}

@@ -4,7 +4,7 @@ use Rattle.std.proofs.Common.{ap, sym, ◌∙◌}
 use Rattle.std.specs.Coded.{Coded}
 use base.Stored.{Gv, gnil, gnum, gcons}
 use Rattle.bk_form.specs.Formula.{Formula}
-use Rattle.bk_form.specs.FormulaCodes.{formula_code, formula_back, formula_back-code}
+use Rattle.bk_form.specs.Codes.FormulaCodes.{formula_code, formula_back, formula_back-code}
 use Rattle.bk_gsl.specs.Substitution.{Substitution, skip, assign, pre, guard, choice, if_else, any, seq, par, assert, becomes_such, loop}
 
 -- variables, each with its term

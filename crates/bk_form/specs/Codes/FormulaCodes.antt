@@ -4,7 +4,7 @@ use Rattle.std.proofs.Common.{ap, sym, ◌∙◌}
 use Rattle.std.specs.Coded.{Coded}
 use base.Stored.{Gv, gnil, gnum, gcons}
 use Rattle.bk_val.specs.ValueType.{ValueType, type_code, type_back, type_back-code}
-use Rattle.bk_form.specs.OperatorCodes.{unary_code, unary_back, unary_back-code, binary_code, binary_back, binary_back-code, domain_code, domain_back, domain_back-code}
+use Rattle.bk_form.specs.Codes.OperatorCodes.{unary_code, unary_back, unary_back-code, binary_code, binary_back, binary_back-code, domain_code, domain_back, domain_back-code}
 use Rattle.bk_form.specs.Formula.{Formula, variable, bound, literal, truth_value, element, empty_set, named, btrue, bfalse, unary, binary, for_all, for_some, comprehension, lambda, Formulas, no_formulas, formula_and}
 
 -- a list of types

@@ -2,7 +2,7 @@
 use Rattle.std.specs.Prelude.{◌≤◌, max}
 use Rattle.std.proofs.Common.{arith}
 use Rattle.bk_val.specs.ValueType.{type_size}
-use Rattle.bk_form.specs.TypeView.{type_view}
+use Rattle.bk_form.specs.Codes.TypeView.{type_view}
 use Rattle.bk_form.specs.declared.ty.TyNode.{TyNode}
 use Rattle.bk_form.specs.declared.ty.TyNode.TheVariants.{Pair}
 use Rattle.bk_form.specs.declared.ty.Ty.TheDeep.{deep-TyNode}

@@ -2,11 +2,11 @@
 use Rattle.std.specs.Prelude.{ℕ, zero, suc, ℤ, List, refl}
 use Rattle.std.specs.Coded.{Coded, code_by, coded×, coded_ℕ, coded_ℤ, coded_list}
 use Rattle.bk_form.specs.Table.{Table, SetEntry}
-use Rattle.bk_form.specs.TableCodes.{coded_set, coded_table}
+use Rattle.bk_form.specs.Codes.TableCodes.{coded_set, coded_table}
 use Rattle.bk_form.specs.Formula.{Formula}
-use Rattle.bk_form.specs.FormulaCodes.{coded_formula}
+use Rattle.bk_form.specs.Codes.FormulaCodes.{coded_formula}
 use Rattle.bk_gsl.specs.Substitution.{Substitution}
-use Rattle.bk_gsl.specs.SubCodes.{coded_substitution}
+use Rattle.bk_gsl.specs.Codes.SubCodes.{coded_substitution}
 use Rattle.bk_dev.specs.declared.kind.Kind.{Kind}
 use Rattle.bk_dev.specs.declared.kind.Kind.TheVariants.{Machine, Refinement, Implementation}
 use Rattle.bk_dev.specs.declared.kind.Home.{Home}

@@ -2,7 +2,7 @@
 use Rattle.std.specs.Prelude.{ℕ, List, refl}
 use Rattle.std.specs.Coded.{Coded, code_by, coded×, coded_ℕ, coded_list}
 use Rattle.bk_form.specs.Formula.{Formula}
-use Rattle.bk_form.specs.FormulaCodes.{coded_formula}
+use Rattle.bk_form.specs.Codes.FormulaCodes.{coded_formula}
 use Rattle.bk_po.specs.Obligations.{Obligation}
 
 -- an obligation is told by its name, its hypotheses and its goal

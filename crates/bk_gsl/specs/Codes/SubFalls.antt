@@ -2,7 +2,7 @@
 use Rattle.std.specs.Prelude.{◌≤◌, max}
 use Rattle.std.proofs.Common.{arith}
 use Rattle.bk_gsl.specs.SubSize.{substitution_size}
-use Rattle.bk_gsl.specs.SubView.{sub_view}
+use Rattle.bk_gsl.specs.Codes.SubView.{sub_view}
 use Rattle.bk_gsl.specs.declared.substitution.SubNode.{SubNode}
 use Rattle.bk_gsl.specs.declared.substitution.SubNode.TheVariants.{Pre}
 use Rattle.bk_gsl.specs.declared.substitution.Sub.TheDeep.{deep-SubNode}

@@ -3,7 +3,7 @@ use Rattle.std.specs.Prelude.{◌+◌, ◌≤◌, max, List, [], ◌∷◌}
 use Rattle.std.proofs.Common.{arith}
 use denote.Param.Weighed.{most}
 use Rattle.bk_form.specs.Formula.{Formula, formula_size, formulas_size, formulas_of}
-use Rattle.bk_form.specs.FormView.{made}
+use Rattle.bk_form.specs.Codes.FormView.{made}
 use Rattle.bk_form.specs.declared.form.Part.{Part}
 use Rattle.bk_form.specs.declared.form.Part.TheVariants.{Compr, Lam}
 use Rattle.bk_form.specs.declared.form.Form.TheDeep.{deep-Part}

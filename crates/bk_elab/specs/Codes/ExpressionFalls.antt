@@ -2,7 +2,7 @@
 use Rattle.std.specs.Prelude.{◌≤◌, max}
 use Rattle.std.proofs.Common.{arith}
 use Rattle.bk_elab.specs.Expressions.{expression_size}
-use Rattle.bk_elab.specs.ExpressionView.{expression_of}
+use Rattle.bk_elab.specs.Codes.ExpressionView.{expression_of}
 use Rattle.bk_elab.specs.declared.partial.Node.{Node}
 use Rattle.bk_elab.specs.declared.partial.Node.TheVariants.{Whole, Empty, Single, Pair, Joined}
 use Rattle.bk_elab.specs.declared.partial.Expression.TheDeep.{deep-Node}

@@ -1,0 +1,4 @@
+-- What the checker asks of the program's types: codes, views, and that walks through them end.
+pub mod SubCodes
+pub mod SubView
+pub mod SubFalls
