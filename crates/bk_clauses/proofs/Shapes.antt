@@ -4,11 +4,11 @@ use Rattle.std.specs.Prelude.{Option}
 use Rattle.std.proofs.lemmas.List.{take_rest}
 use Rattle.bk_dev.specs.declared.kind.Kind.{Kind}
 use Rattle.bk_raw.specs.declared.substitution.RawBranch.{RawBranch}
-use Rattle.bk_raw.specs.SubTree.{SubTree}
+use Rattle.bk_raw.specs.Trees.SubTree.{SubTree}
 use Rattle.bk_raw.specs.Codes.SubView.{choices_of}
-use Rattle.bk_raw.specs.Blame.{blame, earlier}
+use Rattle.bk_raw.specs.Errors.Blame.{blame, earlier}
 use Rattle.bk_raw.proofs.Blamed.{blame-joins}
-use Rattle.bk_raw.specs.Faults.{Fault}
+use Rattle.bk_raw.specs.Errors.Faults.{Fault}
 use Rattle.bk_level.specs.OperationFaults.{shape_faults, branches_shape, choices_shape}
 use Rattle.bk_sight.specs.Shown.{branches_shown}
 

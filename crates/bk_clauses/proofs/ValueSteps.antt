@@ -8,10 +8,10 @@ use Rattle.bk_form.specs.Formula.{Formula}
 use Rattle.bk_form.specs.Table.{Table, SetEntry, listed_size}
 use Rattle.bk_val.specs.ValueType.{ValueType}
 use Rattle.bk_raw.specs.declared.component.RawValue.{RawValue}
-use Rattle.bk_raw.specs.Names.{Names}
-use Rattle.bk_raw.specs.Blame.{blame, earlier}
-use Rattle.bk_raw.specs.Faults.{Fault, wrong_value}
-use Rattle.bk_raw.specs.Outcome.{whole, hollow, single_of, pair_of, joint_of, Outcome, partial, ranging, holding, silent, ask_value}
+use Rattle.bk_raw.specs.Meaning.Names.{Names}
+use Rattle.bk_raw.specs.Errors.Blame.{blame, earlier}
+use Rattle.bk_raw.specs.Errors.Faults.{Fault, wrong_value}
+use Rattle.bk_raw.specs.Meaning.Outcome.{whole, hollow, single_of, pair_of, joint_of, Outcome, partial, ranging, holding, silent, ask_value}
 use Rattle.bk_level.specs.LevelOf.{is_value_form, is_of, where_value, value_in}
 use Rattle.bk_level.specs.ValueFaults.{lacks_size, without_size}
 use Rattle.bk_sight.proofs.FaultSteps.{at-item, told-next-at, told-end}

@@ -2,9 +2,9 @@
 
 ghost use Rattle.std.specs.Option.{option_copied};
 ghost use Rattle.std.specs.Prelude.{◌≡◌, [], None, cond, map, IfOk};
-ghost use Rattle.bk_raw.specs.Binders.{has_type};
-ghost use Rattle.bk_raw.specs.Outcome as wanted;
-ghost use Rattle.bk_raw.specs.Blame.{blame};
+ghost use Rattle.bk_raw.specs.Meaning.Binders.{has_type};
+ghost use Rattle.bk_raw.specs.Meaning.Outcome as wanted;
+ghost use Rattle.bk_raw.specs.Errors.Blame.{blame};
 ghost use Rattle.bk_elab.specs.Shown.{told};
 ghost use Rattle.bk_elab.specs.Visible.{meaning_of, typing_of, visible_names};
 ghost use Rattle.bk_level.specs.ClauseFaults as meant;

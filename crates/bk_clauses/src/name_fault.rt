@@ -1,11 +1,11 @@
 // Names of a component that stand twice.
 
 ghost use Rattle.std.specs.Prelude.{◌≡◌, ◌||◌, ◌++◌, ◌∷◌, [], cond, map, IfOk};
-ghost use Rattle.bk_raw.specs.Blame.{blame};
+ghost use Rattle.bk_raw.specs.Errors.Blame.{blame};
 ghost use Rattle.bk_elab.specs.Shown.{told};
 ghost use Rattle.bk_elab.specs.Visible.{visible_names};
-ghost use Rattle.bk_raw.specs.Binders.{is_text, twice};
-ghost use Rattle.bk_raw.specs.Faults.{twice_named};
+ghost use Rattle.bk_raw.specs.Meaning.Binders.{is_text, twice};
+ghost use Rattle.bk_raw.specs.Errors.Faults.{twice_named};
 ghost use Rattle.bk_level.specs.Above.{names_at_level};
 ghost use Rattle.bk_level.specs.Binders.{texts};
 ghost use Rattle.bk_level.specs.Components as written;

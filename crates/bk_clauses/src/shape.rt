@@ -4,7 +4,7 @@
 ghost use Rattle.std.specs.Option.{option_copied};
 ghost use Rattle.std.specs.Prelude.{◌≡◌};
 ghost use Rattle.bk_raw.specs.Codes.SubView.{choices_of};
-ghost use Rattle.bk_raw.specs.Blame.{blame};
+ghost use Rattle.bk_raw.specs.Errors.Blame.{blame};
 ghost use Rattle.bk_elab.specs.Shown.{told};
 ghost use Rattle.bk_level.specs.OperationFaults as meant;
 ghost use Rattle.bk_sight.specs.Shown.{branches_shown};

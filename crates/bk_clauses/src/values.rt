@@ -1,7 +1,7 @@
 // The values of constants, and the sizes of deferred sets.
 
 ghost use Rattle.std.specs.Prelude.{◌≡◌, ◌&&◌, ◌++◌, [], not, IfOk, OnOk};
-ghost use Rattle.bk_raw.specs.Blame.{blame};
+ghost use Rattle.bk_raw.specs.Errors.Blame.{blame};
 ghost use Rattle.bk_elab.specs.Shown.{told};
 ghost use Rattle.bk_elab.specs.Visible.{meaning_of, typing_of, visible_names};
 ghost use Rattle.bk_form.specs.Table.{listed_size};

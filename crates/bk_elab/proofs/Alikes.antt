@@ -4,8 +4,8 @@ use Rattle.std.specs.Prelude.{Option, None, Some, IfOk}
 use Rattle.bk_io.specs.declared.text.Memory.{Memory}
 use Rattle.bk_val.specs.ValueType.{ValueType}
 use Rattle.bk_form.specs.Formula.{Formula}
-use Rattle.bk_raw.specs.Outcome.{Joint, joins, Partial, joint_of, whole_of, filled, Outcome, partial, holding, Reading, silently, plainly, no_type, fitting, of_one}
-use Rattle.bk_raw.specs.OperatorReadings.{one_type_by, equal, joint, joined}
+use Rattle.bk_raw.specs.Meaning.Outcome.{Joint, joins, Partial, joint_of, whole_of, filled, Outcome, partial, holding, Reading, silently, plainly, no_type, fitting, of_one}
+use Rattle.bk_raw.specs.Meaning.OperatorReadings.{one_type_by, equal, joint, joined}
 use Rattle.bk_elab.specs.declared.operator.Alike.{Alike}
 use Rattle.bk_elab.specs.declared.operator.Alike.TheVariants.{Both, Neither, Different}
 use Rattle.bk_elab.specs.declared.outcome.Step.{Step}

@@ -6,7 +6,7 @@ use Rattle.std.proofs.lemmas.List.{get_or-drop}
 use Rattle.std.specs.Str.{bytes_eq}
 use Rattle.bk_val.specs.ValueType.{ValueType}
 use Rattle.bk_form.specs.Formula.{Formula}
-use Rattle.bk_raw.specs.Binders.{Bound, typed_as, first_type, Ranged, ranged_as, first_range}
+use Rattle.bk_raw.specs.Meaning.Binders.{Bound, typed_as, first_type, Ranged, ranged_as, first_range}
 use Rattle.bk_elab.specs.declared.binder.Ranged.{Ranged as RangedName}
 use Rattle.bk_elab.specs.declared.sight.Local.{Local}
 use Rattle.bk_elab.specs.Sights.{bounds_of, ranges_as, typed_at, AwaitsNone, AwaitsAt, ranged_at, LacksNone, LacksAt}

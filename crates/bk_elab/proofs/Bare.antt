@@ -11,9 +11,9 @@ use Rattle.bk_raw.specs.declared.operator.InfixOp.{InfixOp}
 use Rattle.bk_raw.specs.declared.operator.InfixOp.TheVariants.{Equivalent, Implies, And, Or, Equal, NotEqual, Less, AtMost, Greater, AtLeast, Member, NotMember, Subset, NotSubset, StrictSubset, Relations, PartialFunctions, TotalFunctions, PartialInjections, TotalInjections, PartialSurjections, TotalSurjections, Bijections, Union, Intersection, DomainRestriction, RangeRestriction, DomainSubtraction, RangeSubtraction, Override, Maplet, Interval, Plus, Minus, Times, Divide, Mod, Power}
 use Rattle.bk_raw.specs.declared.operator.WordOp.{WordOp}
 use Rattle.bk_raw.specs.declared.operator.WordOp.TheVariants.{Not, BoolOf, Card, Min, Max, Dom, Ran, Id, Succ, Pred, Pow, Pow1, Fin, Fin1}
-use Rattle.bk_raw.specs.Outcome.{Joint, union_joint, inter_joint, minus_joint, over_joint, joins, Partial, whole, hollow, single_of, pair_of, joint_of, single_made, both_made, where_holds, joint_op, filled, whole_of, Outcome, partial, ranging, holding, silent, Reading, silently, plainly, giving, no_type, Asked, fitting, ask, ask_value, ask_set, ask_relation, ask_domain, ask_predicate, unvalued, of_answer, of_one, of_answers, of_both}
-use Rattle.bk_raw.specs.OperatorReadings.{word_reading, negative_reading, inverse_reading, depending, dependent, on_values, connected, compared, calculated, one_type_by, one_type, equal, strictly, in_domain, in_power, arrow, joined, joint, is_number, minus_by, minus, unmatched, ungiven, times, left_part, right_part, image_reading, apply_reading, composed, composition_reading, paired, pair_reading, negated, infix_reading, singled, single_reading, extended}
-use Rattle.bk_raw.specs.Faults.{Fault}
+use Rattle.bk_raw.specs.Meaning.Outcome.{Joint, union_joint, inter_joint, minus_joint, over_joint, joins, Partial, whole, hollow, single_of, pair_of, joint_of, single_made, both_made, where_holds, joint_op, filled, whole_of, Outcome, partial, ranging, holding, silent, Reading, silently, plainly, giving, no_type, Asked, fitting, ask, ask_value, ask_set, ask_relation, ask_domain, ask_predicate, unvalued, of_answer, of_one, of_answers, of_both}
+use Rattle.bk_raw.specs.Meaning.OperatorReadings.{word_reading, negative_reading, inverse_reading, depending, dependent, on_values, connected, compared, calculated, one_type_by, one_type, equal, strictly, in_domain, in_power, arrow, joined, joint, is_number, minus_by, minus, unmatched, ungiven, times, left_part, right_part, image_reading, apply_reading, composed, composition_reading, paired, pair_reading, negated, infix_reading, singled, single_reading, extended}
+use Rattle.bk_raw.specs.Errors.Faults.{Fault}
 
 -- ---- formulas aside
 abbrev pub bare : Partial → Partial

@@ -6,19 +6,19 @@ use Rattle.std.specs.Str.{bytes_eq}
 use Rattle.std.proofs.lemmas.List.{take_more, drop_more, map-append, take_at, drop_at}
 use Rattle.bk_val.specs.ValueType.{ValueType}
 use Rattle.bk_form.specs.Role.{bind}
-use Rattle.bk_raw.specs.Binders.{Bound, bound_names, is_text, twice, untyped_faults, has_type, or_bool, all_typed, types_of, where_typed, locals, Ranged, unranged, as_bound, range_type}
-use Rattle.bk_raw.specs.Names.{Names, local}
-use Rattle.bk_raw.specs.Printed.{printed_bounds, type_read, wrong_number, wrong_bounds}
+use Rattle.bk_raw.specs.Meaning.Binders.{Bound, bound_names, is_text, twice, untyped_faults, has_type, or_bool, all_typed, types_of, where_typed, locals, Ranged, unranged, as_bound, range_type}
+use Rattle.bk_raw.specs.Meaning.Names.{Names, local}
+use Rattle.bk_raw.specs.Meaning.Printed.{printed_bounds, type_read, wrong_number, wrong_bounds}
 use Rattle.bk_raw.specs.declared.term.RawBound.{RawBound}
 use Rattle.bk_elab.specs.declared.binder.Ranged.{Ranged as RangedName}
-use Rattle.bk_raw.specs.FreeNames.{is_among}
-use Rattle.bk_raw.specs.Outcome.{Outcome, silent, clean, no_type}
+use Rattle.bk_raw.specs.Trees.FreeNames.{is_among}
+use Rattle.bk_raw.specs.Meaning.Outcome.{Outcome, silent, clean, no_type}
 use Rattle.bk_raw.specs.declared.term.RawName.{RawName}
-use Rattle.bk_raw.specs.Blame.{blame, earlier}
+use Rattle.bk_raw.specs.Errors.Blame.{blame, earlier}
 use Rattle.bk_elab.specs.declared.sight.Local.{Local}
 use Rattle.bk_elab.specs.Sights.{bounds_of, ranges_as, TypesOf}
 use Rattle.bk_raw.proofs.Blamed.{blame-joins, earlier-joins}
-use Rattle.bk_raw.specs.Faults.{Fault, twice_named, without_type}
+use Rattle.bk_raw.specs.Errors.Faults.{Fault, twice_named, without_type}
 use Rattle.bk_elab.proofs.Twice.{texts_onto}
 
 -- ---- names that stand twice

@@ -5,9 +5,9 @@ use Rattle.std.specs.Prelude.{Option, None, Some, ◌&&◌, is_some}
 use Rattle.bk_val.specs.ValueType.{ValueType, set_type, pair_type}
 use Rattle.bk_form.specs.Formula.{Formula, Formulas, comprehension, lambda}
 use Rattle.bk_form.specs.Role.{tuple_type}
-use Rattle.bk_raw.specs.Binders.{Bound, Ranged, all_typed, types_of, as_bound, is_some_name, ranges_of, where_typed, if_holding, if_giving, untyped_faults, nameless, quantified, comprehended, abstracted}
-use Rattle.bk_raw.specs.Outcome.{whole, Outcome, partial, ranging, holding, silent, Reading, Asked, clean, ask_value}
-use Rattle.bk_raw.specs.Blame.{blame, earlier}
+use Rattle.bk_raw.specs.Meaning.Binders.{Bound, Ranged, all_typed, types_of, as_bound, is_some_name, ranges_of, where_typed, if_holding, if_giving, untyped_faults, nameless, quantified, comprehended, abstracted}
+use Rattle.bk_raw.specs.Meaning.Outcome.{whole, Outcome, partial, ranging, holding, silent, Reading, Asked, clean, ask_value}
+use Rattle.bk_raw.specs.Errors.Blame.{blame, earlier}
 use Rattle.bk_elab.specs.declared.blame.Fault.{Fault as ToldFault}
 use Rattle.bk_elab.specs.declared.outcome.Step.{Step}
 use Rattle.bk_elab.specs.declared.outcome.Told.{Told}
@@ -15,7 +15,7 @@ use Rattle.bk_elab.specs.declared.outcome.Told.TheVariants.{Expressed, Ranging, 
 use Rattle.bk_elab.specs.Shown.{fault_of, shown_outcome, told, IsRead, IsAsked}
 use Rattle.bk_elab.specs.Sights.{TypesOf, AreTaken}
 use Rattle.bk_raw.proofs.Blamed.{blame-joins, blame-none}
-use Rattle.bk_raw.specs.Faults.{Fault}
+use Rattle.bk_raw.specs.Errors.Faults.{Fault}
 use Rattle.bk_elab.proofs.Bindings.{clean-faulty, clean-none, clean-silent}
 
 -- ---- the fault that is told

@@ -9,19 +9,19 @@ use Rattle.bk_form.specs.Formula.{Formula}
 use Rattle.bk_raw.specs.declared.operator.InfixOp.{InfixOp}
 use Rattle.bk_raw.specs.declared.operator.InfixOp.TheVariants.{And, Implies, Member, Subset, StrictSubset, Equal}
 use Rattle.bk_raw.specs.declared.term.RawName.{RawName}
-use Rattle.bk_raw.specs.RawTree.{RawTree, raw, raw_infix, raw_comprehension, raw_lambda, tree_size}
-use Rattle.bk_raw.specs.FreeNames.{conjuncts}
+use Rattle.bk_raw.specs.Trees.RawTree.{RawTree, raw, raw_infix, raw_comprehension, raw_lambda, tree_size}
+use Rattle.bk_raw.specs.Trees.FreeNames.{conjuncts}
 use Rattle.bk_elab.specs.Conjuncts.{and_sides, infix_sides, implies_sides, IsRight}
 use Rattle.bk_elab.specs.declared.form.TwoParts.TheVariants.{Infix}
 use Rattle.bk_elab.specs.Forms.{two_reading}
 use Rattle.bk_elab.specs.Kept.{gives_no_range}
 use Rattle.bk_elab.proofs.Lasting.{form-gives}
-use Rattle.bk_raw.specs.Names.{Names}
-use Rattle.bk_raw.specs.Outcome.{Outcome, Reading}
-use Rattle.bk_raw.specs.Binders.{Bound, typed_by, told_by, Ranged, unranged, as_bound, inside, ranged_by, ranges_by, is_and, is_used, left_over, twice, comprehended, abstracted, body_of}
-use Rattle.bk_raw.specs.TermReading.{clues, premise_clues, ranges, rest, reading, part, place_of, name_of, names_one}
-use Rattle.bk_raw.specs.Blame.{blame}
-use Rattle.bk_raw.specs.Faults.{Fault}
+use Rattle.bk_raw.specs.Meaning.Names.{Names}
+use Rattle.bk_raw.specs.Meaning.Outcome.{Outcome, Reading}
+use Rattle.bk_raw.specs.Meaning.Binders.{Bound, typed_by, told_by, Ranged, unranged, as_bound, inside, ranged_by, ranges_by, is_and, is_used, left_over, twice, comprehended, abstracted, body_of}
+use Rattle.bk_raw.specs.Meaning.TermReading.{clues, premise_clues, ranges, rest, reading, part, place_of, name_of, names_one}
+use Rattle.bk_raw.specs.Errors.Blame.{blame}
+use Rattle.bk_raw.specs.Errors.Faults.{Fault}
 use Rattle.bk_elab.specs.declared.blame.Fault.{Fault as ToldFault}
 use Rattle.bk_elab.specs.declared.outcome.Step.{Step}
 use Rattle.bk_elab.specs.declared.sight.Reader.{Reader}

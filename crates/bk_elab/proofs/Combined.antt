@@ -1,14 +1,14 @@
 -- What comes of parts, from what each part reads as.
 use Rattle.std.proofs.Common.{◌≡◌, List, ◌++◌, sym, ◌∙◌, subst}
 use Rattle.std.specs.Prelude.{Option}
-use Rattle.bk_raw.specs.Outcome.{Outcome, Reading}
-use Rattle.bk_raw.specs.TermReading.{behind_faults, spoilt_by, from_one, from_two}
-use Rattle.bk_raw.specs.Blame.{blame, earlier}
+use Rattle.bk_raw.specs.Meaning.Outcome.{Outcome, Reading}
+use Rattle.bk_raw.specs.Meaning.TermReading.{behind_faults, spoilt_by, from_one, from_two}
+use Rattle.bk_raw.specs.Errors.Blame.{blame, earlier}
 use Rattle.bk_elab.specs.declared.blame.Fault.{Fault as ToldFault}
 use Rattle.bk_elab.specs.declared.outcome.Step.{Step}
 use Rattle.bk_elab.specs.Shown.{shown_outcome, told, IsRead}
 use Rattle.bk_raw.proofs.Blamed.{blame-joins}
-use Rattle.bk_raw.specs.Faults.{Fault}
+use Rattle.bk_raw.specs.Errors.Faults.{Fault}
 
 pub one-read : (k : Outcome → Reading) (a : Reading) (read step result : Step) → IsRead read a → IsRead step (k (shown_outcome read.outcome)) → ((fs : List Fault) (r : Reading) → told read.fault ≡ blame fs → IsRead step r → IsRead result (behind_faults fs r)) → IsRead result (from_one k a)
 one-read k a read step result h g f = f a.faults (k a.outcome) h.fault (subst (λ (o : Outcome). IsRead step (k o)) h.outcome g)

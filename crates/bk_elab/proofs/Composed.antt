@@ -4,14 +4,14 @@ use Rattle.std.specs.Prelude.{Option, None, Some, IfOk}
 use Rattle.bk_io.specs.declared.text.Memory.{Memory}
 use Rattle.bk_val.specs.ValueType.{ValueType}
 use Rattle.bk_form.specs.Formula.{Formula}
-use Rattle.bk_raw.specs.Outcome.{silent, Asked, silently}
-use Rattle.bk_raw.specs.OperatorReadings.{composed}
-use Rattle.bk_raw.specs.Blame.{blame, earlier}
+use Rattle.bk_raw.specs.Meaning.Outcome.{silent, Asked, silently}
+use Rattle.bk_raw.specs.Meaning.OperatorReadings.{composed}
+use Rattle.bk_raw.specs.Errors.Blame.{blame, earlier}
 use Rattle.bk_elab.specs.declared.blame.Fault.{Fault as ToldFault}
 use Rattle.bk_elab.specs.declared.outcome.Step.{Step}
 use Rattle.bk_elab.specs.Shown.{shown_outcome, told, IsRead, IsAsked}
 use Rattle.bk_raw.proofs.Blamed.{blame-joins}
-use Rattle.bk_raw.specs.Faults.{Fault}
+use Rattle.bk_raw.specs.Errors.Faults.{Fault}
 
 -- a relation with the types of its parts
 abbrev pub Related : Type 0

@@ -5,12 +5,12 @@ use Rattle.bk_val.specs.ValueType.{ValueType}
 use Rattle.bk_form.specs.Formula.{Formula, btrue}
 use Rattle.bk_raw.specs.declared.operator.InfixOp.{InfixOp}
 use Rattle.bk_raw.specs.declared.term.RawName.{RawName}
-use Rattle.bk_raw.specs.RawTree.{RawTree}
-use Rattle.bk_raw.specs.FreeNames.{conjuncts}
-use Rattle.bk_raw.specs.Names.{Names}
-use Rattle.bk_raw.specs.Outcome.{Outcome, Reading, plainly, holding}
-use Rattle.bk_raw.specs.Binders.{Bound, Ranged, is_used, left_over, with_conjunct, body_of}
-use Rattle.bk_raw.specs.TermReading.{clues, ranges, rest, reading, part}
+use Rattle.bk_raw.specs.Trees.RawTree.{RawTree}
+use Rattle.bk_raw.specs.Trees.FreeNames.{conjuncts}
+use Rattle.bk_raw.specs.Meaning.Names.{Names}
+use Rattle.bk_raw.specs.Meaning.Outcome.{Outcome, Reading, plainly, holding}
+use Rattle.bk_raw.specs.Meaning.Binders.{Bound, Ranged, is_used, left_over, with_conjunct, body_of}
+use Rattle.bk_raw.specs.Meaning.TermReading.{clues, ranges, rest, reading, part}
 use Rattle.bk_elab.specs.Conjuncts.{and_sides}
 use Rattle.bk_elab.specs.declared.binder.Ranged.{Ranged as RangedName}
 use Rattle.bk_elab.specs.declared.outcome.Step.{Step}

@@ -2,8 +2,8 @@
 use Rattle.std.proofs.Common.{◌≡◌, ℕ, refl, Bool, true, false}
 use Rattle.std.specs.Prelude.{Option, None, Some, is_some}
 use Rattle.bk_val.specs.ValueType.{ValueType, int_type, bool_type, enum_type, pair_type, set_type}
-use Rattle.bk_raw.specs.Outcome.{Partial, whole, hollow, single_of, pair_of, joint_of, whole_of, minus_joint, Reading, silently, no_type}
-use Rattle.bk_raw.specs.OperatorReadings.{minus, minus_by, joint}
+use Rattle.bk_raw.specs.Meaning.Outcome.{Partial, whole, hollow, single_of, pair_of, joint_of, whole_of, minus_joint, Reading, silently, no_type}
+use Rattle.bk_raw.specs.Meaning.OperatorReadings.{minus, minus_by, joint}
 use Rattle.bk_elab.specs.Shapes.{gives_int}
 
 -- where the left side gives a type of no numbers, sets are meant

@@ -5,11 +5,11 @@ use Rattle.std.proofs.lemmas.Bool.Decides.{nat_tests}
 use Rattle.std.specs.Str.{bytes_eq}
 use Rattle.std.proofs.lemmas.Slice.Eq.{bytes_eq-Decides}
 use Rattle.bk_raw.specs.declared.term.RawName.{RawName}
-use Rattle.bk_raw.specs.FreeNames.{is_among}
-use Rattle.bk_raw.specs.RawTree.{RawTree, raw, RawTreeNode, raw_name, raw_level_name, raw_bound_name, raw_number, raw_constant, raw_word, raw_negative, raw_infix, raw_inverse, raw_image, raw_apply, raw_composition, raw_pair, raw_empty_set, raw_extension, raw_comprehension, raw_lambda, raw_for_all, raw_exists, raw_typed_empty, raw_typed_for_all, raw_typed_exists, raw_ranged_comprehension, raw_ranged_lambda, RawTrees, no_trees, tree_and, RawRanges, no_ranges, range_and}
-use Rattle.bk_raw.specs.Names.{Names, local, Sight, unseen, count_locals, local_at, local_sight, bound_sight, level_name}
-use Rattle.bk_raw.specs.Binders.{Bound, inside, has_type}
-use Rattle.bk_raw.specs.KeptReading.{DollarName, at_level, of_bound, StandsIn, StandsInNode, StandsInSome, StandsInRanges, IsFoundAlike}
+use Rattle.bk_raw.specs.Trees.FreeNames.{is_among}
+use Rattle.bk_raw.specs.Trees.RawTree.{RawTree, raw, RawTreeNode, raw_name, raw_level_name, raw_bound_name, raw_number, raw_constant, raw_word, raw_negative, raw_infix, raw_inverse, raw_image, raw_apply, raw_composition, raw_pair, raw_empty_set, raw_extension, raw_comprehension, raw_lambda, raw_for_all, raw_exists, raw_typed_empty, raw_typed_for_all, raw_typed_exists, raw_ranged_comprehension, raw_ranged_lambda, RawTrees, no_trees, tree_and, RawRanges, no_ranges, range_and}
+use Rattle.bk_raw.specs.Meaning.Names.{Names, local, Sight, unseen, count_locals, local_at, local_sight, bound_sight, level_name}
+use Rattle.bk_raw.specs.Meaning.Binders.{Bound, inside, has_type}
+use Rattle.bk_raw.specs.Meaning.KeptReading.{DollarName, at_level, of_bound, StandsIn, StandsInNode, StandsInSome, StandsInRanges, IsFoundAlike}
 use Rattle.bk_raw.proofs.BoundNames.{no-name, or-neither, or-none, either}
 use Rattle.bk_elab.specs.Kept.{Grows, has_dollar, dollar_untyped, names_dollar, is_own, has_unsettled, node_has_unsettled, some_have_unsettled, ranges_have_unsettled}
 use Rattle.bk_elab.proofs.Grown.{NoneIs, same-grown}

@@ -1,11 +1,11 @@
 -- A set of elements, read one after another.
 use Rattle.std.proofs.Common.{◌≡◌, ℕ, ℤ, List, ◌∷◌, ◌<◌, ◌+◌, length, get_or, drop, false, refl, sym, ◌∙◌, ap}
 use Rattle.std.proofs.lemmas.List.{drop_more}
-use Rattle.bk_raw.specs.Names.{Names}
-use Rattle.bk_raw.specs.OperatorReadings.{single_reading, extended}
-use Rattle.bk_raw.specs.Outcome.{Reading}
-use Rattle.bk_raw.specs.RawTree.{RawTree, trees_of}
-use Rattle.bk_raw.specs.TermReading.{reading, part, from_one, from_two, elements_reading, extension_reading}
+use Rattle.bk_raw.specs.Meaning.Names.{Names}
+use Rattle.bk_raw.specs.Meaning.OperatorReadings.{single_reading, extended}
+use Rattle.bk_raw.specs.Meaning.Outcome.{Reading}
+use Rattle.bk_raw.specs.Trees.RawTree.{RawTree, trees_of}
+use Rattle.bk_raw.specs.Meaning.TermReading.{reading, part, from_one, from_two, elements_reading, extension_reading}
 use Rattle.bk_elab.specs.declared.outcome.Step.{Step}
 use Rattle.bk_elab.specs.Shown.{IsRead}
 

@@ -1,9 +1,9 @@
 -- What a term with one part or two reads as, from what its parts read as.
 use Rattle.std.proofs.Common.{◌≡◌, ℕ, ℤ, refl, sym, subst, Result, Ok, Err, IfOk}
-use Rattle.bk_raw.specs.RawTree.{RawTree}
-use Rattle.bk_raw.specs.Names.{Names}
-use Rattle.bk_raw.specs.Outcome.{Reading}
-use Rattle.bk_raw.specs.TermReading.{reading, node_reading}
+use Rattle.bk_raw.specs.Trees.RawTree.{RawTree}
+use Rattle.bk_raw.specs.Meaning.Names.{Names}
+use Rattle.bk_raw.specs.Meaning.Outcome.{Reading}
+use Rattle.bk_raw.specs.Meaning.TermReading.{reading, node_reading}
 use Rattle.bk_elab.specs.declared.form.OnePart.{OnePart}
 use Rattle.bk_elab.specs.declared.form.OnePart.TheVariants.{Word, Negative, Inverse}
 use Rattle.bk_elab.specs.declared.form.TwoParts.{TwoParts}

@@ -6,13 +6,13 @@ use Rattle.std.proofs.lemmas.Slice.Eq.{bytes_eq-Decides}
 use Rattle.bk_val.specs.ValueType.{ValueType}
 use Rattle.bk_raw.specs.declared.operator.InfixOp.{InfixOp}
 use Rattle.bk_raw.specs.declared.operator.InfixOp.TheVariants.{And, Member, Subset, StrictSubset, Equal}
-use Rattle.bk_raw.specs.RawTree.{RawTree, raw, raw_infix}
-use Rattle.bk_raw.specs.FreeNames.{stands_free}
-use Rattle.bk_raw.specs.Names.{Names, local, Sight, sight, found, count_locals}
-use Rattle.bk_raw.specs.Outcome.{Outcome, ask_domain, ask_value}
-use Rattle.bk_raw.specs.Binders.{Bound, inside, has_type, typed_as, typed_by, first_type, second, set_over, told_by}
-use Rattle.bk_raw.specs.Printed.{set_type_of}
-use Rattle.bk_raw.specs.TermReading.{reading, name_of, clues}
+use Rattle.bk_raw.specs.Trees.RawTree.{RawTree, raw, raw_infix}
+use Rattle.bk_raw.specs.Trees.FreeNames.{stands_free}
+use Rattle.bk_raw.specs.Meaning.Names.{Names, local, Sight, sight, found, count_locals}
+use Rattle.bk_raw.specs.Meaning.Outcome.{Outcome, ask_domain, ask_value}
+use Rattle.bk_raw.specs.Meaning.Binders.{Bound, inside, has_type, typed_as, typed_by, first_type, second, set_over, told_by}
+use Rattle.bk_raw.specs.Meaning.Printed.{set_type_of}
+use Rattle.bk_raw.specs.Meaning.TermReading.{reading, name_of, clues}
 use Rattle.bk_raw.proofs.BoundNames.{no-name, or-neither, either}
 use Rattle.bk_raw.proofs.ReadingKept.{SameAt}
 use Rattle.bk_elab.specs.Kept.{TypeGrows, Grows, names_untyped}

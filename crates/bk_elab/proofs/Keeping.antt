@@ -4,15 +4,15 @@ use Rattle.std.specs.Prelude.{Option, None, Some}
 use Rattle.std.specs.Str.{bytes_eq}
 use Rattle.bk_raw.specs.declared.operator.InfixOp.{InfixOp}
 use Rattle.bk_raw.specs.declared.operator.InfixOp.TheVariants.{Member, Subset, StrictSubset, Equal}
-use Rattle.bk_raw.specs.RawTree.{RawTree, raw, raw_infix}
-use Rattle.bk_raw.specs.FreeNames.{stands_free}
-use Rattle.bk_raw.specs.Names.{Names, untyped_name, found, count_locals}
-use Rattle.bk_raw.specs.Outcome.{Outcome, partial, ranging, holding, silent}
-use Rattle.bk_raw.specs.Binders.{Bound, inside}
-use Rattle.bk_raw.specs.KeptReading.{FindAlike}
-use Rattle.bk_raw.specs.Speaking.{IsTold}
-use Rattle.bk_raw.specs.ToldNames.{IsSeen}
-use Rattle.bk_raw.specs.TermReading.{reading}
+use Rattle.bk_raw.specs.Trees.RawTree.{RawTree, raw, raw_infix}
+use Rattle.bk_raw.specs.Trees.FreeNames.{stands_free}
+use Rattle.bk_raw.specs.Meaning.Names.{Names, untyped_name, found, count_locals}
+use Rattle.bk_raw.specs.Meaning.Outcome.{Outcome, partial, ranging, holding, silent}
+use Rattle.bk_raw.specs.Meaning.Binders.{Bound, inside}
+use Rattle.bk_raw.specs.Meaning.KeptReading.{FindAlike}
+use Rattle.bk_raw.specs.Meaning.Speaking.{IsTold}
+use Rattle.bk_raw.specs.Meaning.ToldNames.{IsSeen}
+use Rattle.bk_raw.specs.Meaning.TermReading.{reading}
 use Rattle.bk_raw.proofs.ReadingKept.{readings-kept}
 use Rattle.bk_raw.proofs.ReadingSeen.{told-names}
 use Rattle.bk_elab.specs.Conjuncts.{IsRight}

@@ -11,16 +11,16 @@ use Rattle.bk_raw.specs.declared.operator.InfixOp.TheVariants.{And, Member, Equa
 use Rattle.bk_raw.specs.declared.operator.WordOp.{WordOp}
 use Rattle.bk_raw.specs.declared.operator.WordOp.TheVariants.{Pow, Pow1, Fin, Fin1}
 use Rattle.bk_raw.specs.declared.term.RawName.{RawName}
-use Rattle.bk_raw.specs.RawTree.{RawTree, raw, RawTreeNode, raw_constant, raw_word, raw_infix, raw_pair, raw_empty_set, raw_extension, RawTrees, no_trees, tree_and}
-use Rattle.bk_raw.specs.FreeNames.{conjuncts}
-use Rattle.bk_raw.specs.Names.{Names}
-use Rattle.bk_raw.specs.Outcome.{Joint, union_joint, inter_joint, minus_joint, over_joint, Partial, whole, hollow, single_of, pair_of, joint_of, whole_of, Outcome, partial, ranging, holding, silent, Reading, silently, plainly, ask_value, ask_set, ask_domain, of_answer, of_answers, joins}
-use Rattle.bk_raw.specs.OperatorReadings.{word_reading, domain_made, infix_reading, times, joint, minus, minus_by, one_type_by, joined, on_values, paired, pair_reading, singled, single_reading, extended}
-use Rattle.bk_raw.specs.Binders.{Bound, bound_names, inside, as_single, Ranged, unranged, ranged_as, ranged_by, ranges_by, first_range, as_bound, range_type}
-use Rattle.bk_raw.specs.TermReading.{place_of, is_predicate, is_alike, part, name_of, names_one, takes_predicate, is_connective, strict_faults, behind_faults, spoilt_by, from_one, from_two, reading, node_reading, elements_reading, extension_reading, ranges}
+use Rattle.bk_raw.specs.Trees.RawTree.{RawTree, raw, RawTreeNode, raw_constant, raw_word, raw_infix, raw_pair, raw_empty_set, raw_extension, RawTrees, no_trees, tree_and}
+use Rattle.bk_raw.specs.Trees.FreeNames.{conjuncts}
+use Rattle.bk_raw.specs.Meaning.Names.{Names}
+use Rattle.bk_raw.specs.Meaning.Outcome.{Joint, union_joint, inter_joint, minus_joint, over_joint, Partial, whole, hollow, single_of, pair_of, joint_of, whole_of, Outcome, partial, ranging, holding, silent, Reading, silently, plainly, ask_value, ask_set, ask_domain, of_answer, of_answers, joins}
+use Rattle.bk_raw.specs.Meaning.OperatorReadings.{word_reading, domain_made, infix_reading, times, joint, minus, minus_by, one_type_by, joined, on_values, paired, pair_reading, singled, single_reading, extended}
+use Rattle.bk_raw.specs.Meaning.Binders.{Bound, bound_names, inside, as_single, Ranged, unranged, ranged_as, ranged_by, ranges_by, first_range, as_bound, range_type}
+use Rattle.bk_raw.specs.Meaning.TermReading.{place_of, is_predicate, is_alike, part, name_of, names_one, takes_predicate, is_connective, strict_faults, behind_faults, spoilt_by, from_one, from_two, reading, node_reading, elements_reading, extension_reading, ranges}
 use Rattle.bk_raw.proofs.BoundNames.{no-name, or-cases, either}
 use Rattle.bk_raw.proofs.Filled.{and-both}
-use Rattle.bk_raw.specs.Faults.{Fault, not_predicate}
+use Rattle.bk_raw.specs.Errors.Faults.{Fault, not_predicate}
 use Rattle.bk_elab.specs.Conjuncts.{IsRight}
 use Rattle.bk_elab.specs.declared.form.TwoParts.TheVariants.{Infix}
 use Rattle.bk_elab.specs.declared.outcome.Step.{Step}

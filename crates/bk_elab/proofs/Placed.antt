@@ -1,9 +1,9 @@
 -- A part in a place where a predicate is wanted, or an expression.
 use Rattle.std.proofs.Common.{◌≡◌, ◌∷◌, refl, Bool, true, false, cond}
-use Rattle.bk_raw.specs.Outcome.{Reading, silently}
-use Rattle.bk_raw.specs.RawTree.{RawTree}
-use Rattle.bk_raw.specs.TermReading.{part, place_of, is_predicate, is_alike}
-use Rattle.bk_raw.specs.Faults.{not_predicate}
+use Rattle.bk_raw.specs.Meaning.Outcome.{Reading, silently}
+use Rattle.bk_raw.specs.Trees.RawTree.{RawTree}
+use Rattle.bk_raw.specs.Meaning.TermReading.{part, place_of, is_predicate, is_alike}
+use Rattle.bk_raw.specs.Errors.Faults.{not_predicate}
 
 alike : (wanted b : Bool) (x y : Reading) → b ≡ wanted → cond (is_alike wanted b) x y ≡ x
 alike true true x y e = refl

@@ -3,15 +3,15 @@ use Rattle.std.proofs.Common.{◌≡◌, ℕ, suc, ◌≤◌, List, [], length, 
 use Rattle.std.specs.Prelude.{Option, None, Some}
 use Rattle.std.proofs.lemmas.List.{take_all}
 use Rattle.bk_form.specs.Role.{bind}
-use Rattle.bk_raw.specs.RawTree.{RawTree}
+use Rattle.bk_raw.specs.Trees.RawTree.{RawTree}
 use Rattle.bk_raw.specs.declared.term.RawName.{RawName}
 use Rattle.bk_raw.specs.declared.term.RawBound.{RawBound}
-use Rattle.bk_raw.specs.Binders.{Bound, bound_names, inside, locals, twice, quantified}
-use Rattle.bk_raw.specs.Names.{Names, count_locals}
-use Rattle.bk_raw.specs.Printed.{printed_bounds, wrong_bounds}
-use Rattle.bk_raw.specs.TermReading.{reading, part, clues}
+use Rattle.bk_raw.specs.Meaning.Binders.{Bound, bound_names, inside, locals, twice, quantified}
+use Rattle.bk_raw.specs.Meaning.Names.{Names, count_locals}
+use Rattle.bk_raw.specs.Meaning.Printed.{printed_bounds, wrong_bounds}
+use Rattle.bk_raw.specs.Meaning.TermReading.{reading, part, clues}
 use Rattle.bk_elab.specs.Conjuncts.{implies_sides}
-use Rattle.bk_raw.specs.Blame.{blame}
+use Rattle.bk_raw.specs.Errors.Blame.{blame}
 use Rattle.bk_elab.specs.declared.blame.Fault.{Fault as ToldFault}
 use Rattle.bk_elab.specs.declared.outcome.Step.{Step}
 use Rattle.bk_elab.specs.declared.sight.Local.{Local}

@@ -5,13 +5,13 @@ use Rattle.std.proofs.lemmas.List.{drop_more, map-append, append-nil}
 use Rattle.bk_form.specs.Formula.{Formula}
 use Rattle.bk_raw.specs.Codes.RawView.{ranges_of}
 use Rattle.bk_raw.specs.declared.term.RawRange.{RawRange}
-use Rattle.bk_raw.specs.Names.{Names, count_locals}
-use Rattle.bk_raw.specs.Outcome.{Reading, ask_set}
-use Rattle.bk_raw.specs.Binders.{Ranged}
-use Rattle.bk_raw.specs.Printed.{RangeRead, wrong_number, printed_ranges, wrong_ranges}
-use Rattle.bk_raw.specs.TermReading.{reading, range_reads}
-use Rattle.bk_raw.specs.ScopeReading.{ScopeNames}
-use Rattle.bk_raw.specs.Blame.{blame, earlier}
+use Rattle.bk_raw.specs.Meaning.Names.{Names, count_locals}
+use Rattle.bk_raw.specs.Meaning.Outcome.{Reading, ask_set}
+use Rattle.bk_raw.specs.Meaning.Binders.{Ranged}
+use Rattle.bk_raw.specs.Meaning.Printed.{RangeRead, wrong_number, printed_ranges, wrong_ranges}
+use Rattle.bk_raw.specs.Meaning.TermReading.{reading, range_reads}
+use Rattle.bk_raw.specs.Meaning.ScopeReading.{ScopeNames}
+use Rattle.bk_raw.specs.Errors.Blame.{blame, earlier}
 use Rattle.bk_elab.specs.declared.binder.Ranged.{Ranged as RangedName}
 use Rattle.bk_elab.specs.declared.blame.Fault.{Fault as ToldFault}
 use Rattle.bk_elab.specs.declared.outcome.Step.{Step}
@@ -19,7 +19,7 @@ use Rattle.bk_elab.specs.declared.sight.Reader.{Reader}
 use Rattle.bk_elab.specs.Shown.{told, IsRead}
 use Rattle.bk_elab.specs.Sights.{around_of, names_of, read_by, ranges_as, range_as, IsRangeOf, Stands}
 use Rattle.bk_raw.proofs.Blamed.{blame-joins, earlier-joins}
-use Rattle.bk_raw.specs.Faults.{Fault}
+use Rattle.bk_raw.specs.Errors.Faults.{Fault}
 use Rattle.bk_elab.proofs.Readings.{read-after}
 use Rattle.bk_elab.proofs.Sighted.{all-counted}
 

@@ -2,10 +2,10 @@
 use Rattle.std.proofs.Common.{◌≡◌, ℕ, List, [], ◌∷◌, ◌++◌, length, take, drop, refl, sym, ◌∙◌, ap, subst, ℤ, arith}
 use Rattle.std.proofs.lemmas.List.{take-append-drop, take_all}
 use Rattle.bk_form.specs.Role.{bind}
-use Rattle.bk_raw.specs.Binders.{inside, locals}
-use Rattle.bk_raw.specs.Names.{Names}
-use Rattle.bk_raw.specs.RawTree.{RawTree}
-use Rattle.bk_raw.specs.TermReading.{reading}
+use Rattle.bk_raw.specs.Meaning.Binders.{inside, locals}
+use Rattle.bk_raw.specs.Meaning.Names.{Names}
+use Rattle.bk_raw.specs.Trees.RawTree.{RawTree}
+use Rattle.bk_raw.specs.Meaning.TermReading.{reading}
 use Rattle.bk_elab.specs.declared.outcome.Step.{Step}
 use Rattle.bk_elab.specs.declared.sight.Local.{Local}
 use Rattle.bk_elab.specs.declared.sight.Reader.{Reader}

@@ -5,14 +5,14 @@ use Rattle.std.specs.Prelude.{Option, None, Some, IfOk, OnOk, MatchOption}
 use Rattle.bk_val.specs.ValueType.{ValueType}
 use Rattle.bk_raw.specs.declared.operator.InfixOp.{InfixOp}
 use Rattle.bk_raw.specs.declared.operator.InfixOp.TheVariants.{And}
-use Rattle.bk_raw.specs.RawTree.{RawTree}
-use Rattle.bk_raw.specs.FreeNames.{conjuncts}
-use Rattle.bk_raw.specs.Names.{Names, count_locals}
-use Rattle.bk_raw.specs.Outcome.{silent, Reading}
-use Rattle.bk_raw.specs.Binders.{Bound, bound_names, inside, Ranged, unranged, as_bound, is_used, with_conjunct}
+use Rattle.bk_raw.specs.Trees.RawTree.{RawTree}
+use Rattle.bk_raw.specs.Trees.FreeNames.{conjuncts}
+use Rattle.bk_raw.specs.Meaning.Names.{Names, count_locals}
+use Rattle.bk_raw.specs.Meaning.Outcome.{silent, Reading}
+use Rattle.bk_raw.specs.Meaning.Binders.{Bound, bound_names, inside, Ranged, unranged, as_bound, is_used, with_conjunct}
 use Rattle.bk_raw.specs.declared.term.RawName.{RawName}
 use Rattle.bk_form.specs.Formula.{Formula}
-use Rattle.bk_raw.specs.TermReading.{clues, ranges, rest, reading, part, place_of}
+use Rattle.bk_raw.specs.Meaning.TermReading.{clues, ranges, rest, reading, part, place_of}
 use Rattle.bk_elab.specs.Conjuncts.{and_sides, infix_sides}
 use Rattle.bk_elab.specs.declared.form.TwoParts.TheVariants.{Infix}
 use Rattle.bk_elab.specs.declared.binder.Ranged.{Ranged as RangedName}

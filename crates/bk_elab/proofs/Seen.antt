@@ -2,8 +2,8 @@
 use Rattle.std.proofs.Common.{ℕ}
 use Rattle.std.specs.Prelude.{Option, None, Some}
 use Rattle.bk_form.specs.Table.{Table, variable_type}
-use Rattle.bk_raw.specs.Names.{Sight, sight}
-use Rattle.bk_raw.specs.ScopeReading.{variable_meaning}
+use Rattle.bk_raw.specs.Meaning.Names.{Sight, sight}
+use Rattle.bk_raw.specs.Meaning.ScopeReading.{variable_meaning}
 
 -- what is found where the last of the entries with a name has this variable, and else this is found
 abbrev pub seen_last : Table → Option ℕ → Sight → Sight

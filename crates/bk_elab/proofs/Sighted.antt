@@ -12,9 +12,9 @@ use Rattle.bk_form.specs.Formula.{Formula, element, named, bound}
 use Rattle.bk_form.specs.declared.operator.Domain.TheVariants.{Enum}
 use Rattle.bk_form.specs.Role.{bind}
 use Rattle.bk_form.specs.Table.{Table, SetEntry, set_elements, variable_type}
-use Rattle.bk_raw.specs.Names.{Names, Meaning, local, global, set_name, element_name, nothing, Sight, unseen, seen, sight, behind, found, local_at, count_locals, pick, local_sight, untyped_name, bound_sight}
-use Rattle.bk_raw.specs.Binders.{locals}
-use Rattle.bk_raw.specs.ScopeReading.{ScopeNames, element_names, set_names, variable_meaning, scope_names, names_in, last_from}
+use Rattle.bk_raw.specs.Meaning.Names.{Names, Meaning, local, global, set_name, element_name, nothing, Sight, unseen, seen, sight, behind, found, local_at, count_locals, pick, local_sight, untyped_name, bound_sight}
+use Rattle.bk_raw.specs.Meaning.Binders.{locals}
+use Rattle.bk_raw.specs.Meaning.ScopeReading.{ScopeNames, element_names, set_names, variable_meaning, scope_names, names_in, last_from}
 use Rattle.bk_elab.specs.declared.sight.Local.{Local}
 use Rattle.bk_elab.specs.declared.sight.Outer.{Outer}
 use Rattle.bk_elab.specs.declared.sight.Outer.TheVariants.{OverTable, InSight}

@@ -5,13 +5,13 @@ use Rattle.std.proofs.lemmas.List.{drop_more}
 use Rattle.bk_raw.specs.declared.operator.InfixOp.{InfixOp}
 use Rattle.bk_raw.specs.declared.operator.InfixOp.TheVariants.{StrictSubset}
 use Rattle.bk_raw.specs.declared.term.RawRange.{RawRange}
-use Rattle.bk_raw.specs.RawTree.{RawTree, raw_infix, trees_of}
+use Rattle.bk_raw.specs.Trees.RawTree.{RawTree, raw_infix, trees_of}
 use Rattle.bk_raw.specs.Codes.RawView.{ranges_of}
-use Rattle.bk_raw.specs.TermReading.{stricts, stricts_in, strict_faults, all_stricts, ranges_stricts}
-use Rattle.bk_raw.specs.Blame.{blame, earlier}
+use Rattle.bk_raw.specs.Meaning.TermReading.{stricts, stricts_in, strict_faults, all_stricts, ranges_stricts}
+use Rattle.bk_raw.specs.Errors.Blame.{blame, earlier}
 use Rattle.bk_elab.specs.Shapes.{strict_here}
 use Rattle.bk_raw.proofs.Blamed.{blame-joins, earlier-joins}
-use Rattle.bk_raw.specs.Faults.{Fault}
+use Rattle.bk_raw.specs.Errors.Faults.{Fault}
 
 -- that of the operator itself, and those in its sides
 pub infix-stricts : (at : ℕ) (o : InfixOp) (a b : RawTree) → stricts_in at (raw_infix o a b) ≡ strict_here at o ++ (stricts a ++ stricts b)

@@ -5,7 +5,7 @@ use Rattle.std.proofs.lemmas.List.{take_more, take_all}
 use Rattle.bk_val.specs.ValueType.{ValueType, pair_type}
 use Rattle.bk_form.specs.Formula.{Formula, Formulas, formula_and, no_formulas, formulas_of}
 use Rattle.bk_form.specs.Role.{tuple_type, tuple_type_onto}
-use Rattle.bk_raw.specs.Binders.{Ranged, as_bound, ranges_of, range_or, range_type, all_typed, types_of, has_type, or_bool, is_some_name}
+use Rattle.bk_raw.specs.Meaning.Binders.{Ranged, as_bound, ranges_of, range_or, range_type, all_typed, types_of, has_type, or_bool, is_some_name}
 use Rattle.bk_elab.specs.declared.binder.Ranged.{Ranged as RangedName}
 use Rattle.bk_elab.specs.Sights.{ranges_as, AreTaken, with_last}
 

@@ -5,11 +5,11 @@ use Rattle.std.specs.Prelude.{Option, None, Result, Ok, Err, IfOk}
 use Rattle.std.proofs.lemmas.List.{take_more}
 use Rattle.bk_val.specs.ValueType.{ValueType}
 use Rattle.bk_raw.specs.declared.term.RawName.{RawName}
-use Rattle.bk_raw.specs.Binders.{Bound, bound_names, locals}
-use Rattle.bk_raw.specs.RawTree.{RawTree}
-use Rattle.bk_raw.specs.Outcome.{Outcome, Reading, Asked}
-use Rattle.bk_raw.specs.TermReading.{clues}
-use Rattle.bk_raw.specs.Blame.{earlier}
+use Rattle.bk_raw.specs.Meaning.Binders.{Bound, bound_names, locals}
+use Rattle.bk_raw.specs.Trees.RawTree.{RawTree}
+use Rattle.bk_raw.specs.Meaning.Outcome.{Outcome, Reading, Asked}
+use Rattle.bk_raw.specs.Meaning.TermReading.{clues}
+use Rattle.bk_raw.specs.Errors.Blame.{earlier}
 use Rattle.bk_elab.specs.declared.blame.Fault.{Fault as ToldFault}
 use Rattle.bk_elab.specs.declared.outcome.Step.{Step}
 use Rattle.bk_elab.specs.declared.sight.Local.{Local}

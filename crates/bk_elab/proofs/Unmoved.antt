@@ -11,15 +11,15 @@ use Rattle.bk_form.specs.declared.operator.BinOp.TheVariants.{And as Conjunction
 use Rattle.bk_raw.specs.declared.operator.InfixOp.{InfixOp}
 use Rattle.bk_raw.specs.declared.operator.InfixOp.TheVariants.{And, Implies, Member, Subset, StrictSubset, Equal}
 use Rattle.bk_raw.specs.declared.term.RawName.{RawName}
-use Rattle.bk_raw.specs.RawTree.{RawTree, raw, RawTreeNode, raw_name, raw_level_name, raw_bound_name, raw_number, raw_constant, raw_word, raw_negative, raw_infix, raw_inverse, raw_image, raw_apply, raw_composition, raw_pair, raw_empty_set, raw_extension, raw_comprehension, raw_lambda, raw_for_all, raw_exists, raw_typed_empty, raw_typed_for_all, raw_typed_exists, raw_ranged_comprehension, raw_ranged_lambda, RawTrees, no_trees, tree_and}
-use Rattle.bk_raw.specs.FreeNames.{is_among, stands_free, is_free_in, is_free_in_some, conjuncts}
-use Rattle.bk_raw.specs.Names.{Names, Meaning, local, global, set_name, element_name, nothing, Sight, unseen, untyped_name, seen, sight, behind, found, level_name}
-use Rattle.bk_raw.specs.Outcome.{whole, Outcome, partial, ranging, holding, silent, Reading, silently, clean, no_type, ask_value, ask_set, ask_domain}
-use Rattle.bk_raw.specs.OperatorReadings.{connected, word_reading, negative_reading, inverse_reading, infix_reading, image_reading, apply_reading, composition_reading, pair_reading, single_reading, extended}
-use Rattle.bk_raw.specs.Binders.{Bound, bound_names, inside, types_of, all_typed, untyped_faults, second, set_over, typed_by, told_by, twice, where_typed, if_holding, if_giving, quantified, Ranged, unranged, first_range, ranged_as, ranged_by, as_single, ranges_by, as_bound, range_type, ranges_of, is_used, is_used_by, left_over, conjoined, is_and, body_of, is_some_name, nameless, comprehended, abstracted}
-use Rattle.bk_raw.specs.TermReading.{place_of, is_predicate, is_alike, part, name_of, name_reading, names_one, takes_predicate, is_connective, strict_faults, behind_faults, spoilt_by, from_one, from_two, reading, node_reading, extension_reading, elements_reading, clues, premise_clues, ranges, rest, rest_in}
+use Rattle.bk_raw.specs.Trees.RawTree.{RawTree, raw, RawTreeNode, raw_name, raw_level_name, raw_bound_name, raw_number, raw_constant, raw_word, raw_negative, raw_infix, raw_inverse, raw_image, raw_apply, raw_composition, raw_pair, raw_empty_set, raw_extension, raw_comprehension, raw_lambda, raw_for_all, raw_exists, raw_typed_empty, raw_typed_for_all, raw_typed_exists, raw_ranged_comprehension, raw_ranged_lambda, RawTrees, no_trees, tree_and}
+use Rattle.bk_raw.specs.Trees.FreeNames.{is_among, stands_free, is_free_in, is_free_in_some, conjuncts}
+use Rattle.bk_raw.specs.Meaning.Names.{Names, Meaning, local, global, set_name, element_name, nothing, Sight, unseen, untyped_name, seen, sight, behind, found, level_name}
+use Rattle.bk_raw.specs.Meaning.Outcome.{whole, Outcome, partial, ranging, holding, silent, Reading, silently, clean, no_type, ask_value, ask_set, ask_domain}
+use Rattle.bk_raw.specs.Meaning.OperatorReadings.{connected, word_reading, negative_reading, inverse_reading, infix_reading, image_reading, apply_reading, composition_reading, pair_reading, single_reading, extended}
+use Rattle.bk_raw.specs.Meaning.Binders.{Bound, bound_names, inside, types_of, all_typed, untyped_faults, second, set_over, typed_by, told_by, twice, where_typed, if_holding, if_giving, quantified, Ranged, unranged, first_range, ranged_as, ranged_by, as_single, ranges_by, as_bound, range_type, ranges_of, is_used, is_used_by, left_over, conjoined, is_and, body_of, is_some_name, nameless, comprehended, abstracted}
+use Rattle.bk_raw.specs.Meaning.TermReading.{place_of, is_predicate, is_alike, part, name_of, name_reading, names_one, takes_predicate, is_connective, strict_faults, behind_faults, spoilt_by, from_one, from_two, reading, node_reading, extension_reading, elements_reading, clues, premise_clues, ranges, rest, rest_in}
 use Rattle.bk_raw.proofs.BoundNames.{no-name, or-cases, or-neither, or-none, or-left, or-right, either, is_bound, names-bound, unranged-bound, clues-bound, premise-bound, ranges-bound}
-use Rattle.bk_raw.specs.Faults.{Fault, not_predicate}
+use Rattle.bk_raw.specs.Errors.Faults.{Fault, not_predicate}
 use Rattle.bk_elab.specs.Kept.{Grows, has_dollar, names_dollar, has_additions, node_has_additions, some_have_additions}
 use Rattle.bk_elab.proofs.Dollars.{level-dollar, names-none}
 use Rattle.bk_elab.proofs.Bare.{idle, bare_outcome, bare_reading, bare_asked, no_pair, value-bare, set-bare, domain-bare, pair-bare, single-bare, word-bare, negative-bare, inverse-bare, connected-bare, image-bare, apply-bare, composing-bare, infix-bare, extended-bare}

@@ -1,9 +1,9 @@
 -- Two sides of which one is no expression.
 use Rattle.std.proofs.Common.{◌≡◌, ◌≢◌, ◌++◌, refl, sym, ◌∙◌, ap, subst}
 use Rattle.std.specs.Prelude.{Option}
-use Rattle.bk_raw.specs.Outcome.{Partial, Outcome, partial, ranging, holding, silent, Reading, silently, unvalued}
-use Rattle.bk_raw.specs.OperatorReadings.{on_values}
-use Rattle.bk_raw.specs.Blame.{blame, earlier}
+use Rattle.bk_raw.specs.Meaning.Outcome.{Partial, Outcome, partial, ranging, holding, silent, Reading, silently, unvalued}
+use Rattle.bk_raw.specs.Meaning.OperatorReadings.{on_values}
+use Rattle.bk_raw.specs.Errors.Blame.{blame, earlier}
 use Rattle.bk_elab.specs.declared.blame.Fault.{Fault as ToldFault}
 use Rattle.bk_elab.specs.declared.outcome.Step.{Step}
 use Rattle.bk_elab.specs.Shown.{shown_outcome, told, IsRead}

@@ -3,17 +3,17 @@ use Rattle.std.proofs.Common.{◌≡◌, ◌++◌, sym, ◌∙◌, ap, subst}
 use Rattle.std.specs.Prelude.{Option, None, Some}
 use Rattle.bk_form.specs.Formula.{Formula}
 use Rattle.bk_form.specs.Table.{Table}
-use Rattle.bk_raw.specs.RawTree.{RawTree}
-use Rattle.bk_raw.specs.Outcome.{Outcome}
-use Rattle.bk_raw.specs.TermReading.{place_of}
-use Rattle.bk_raw.specs.ScopeReading.{ScopeNames, ask_formula, reading_in, formula_in}
+use Rattle.bk_raw.specs.Trees.RawTree.{RawTree}
+use Rattle.bk_raw.specs.Meaning.Outcome.{Outcome}
+use Rattle.bk_raw.specs.Meaning.TermReading.{place_of}
+use Rattle.bk_raw.specs.Meaning.ScopeReading.{ScopeNames, ask_formula, reading_in, formula_in}
 use Rattle.bk_raw.proofs.ScopeRight.{formula-speaks}
-use Rattle.bk_raw.specs.Blame.{blame, earlier}
+use Rattle.bk_raw.specs.Errors.Blame.{blame, earlier}
 use Rattle.bk_elab.specs.declared.blame.Fault.{Fault as ToldFault}
 use Rattle.bk_elab.specs.declared.outcome.Step.{Step}
 use Rattle.bk_elab.specs.Shown.{shown_outcome, told, IsRead, IsAsked}
 use Rattle.bk_raw.proofs.Blamed.{blame-joins, blame-none}
-use Rattle.bk_raw.specs.Faults.{Fault}
+use Rattle.bk_raw.specs.Errors.Faults.{Fault}
 
 -- what a term by itself is asked, of what was read
 asked-of : (table : Table) (scope : ScopeNames) (t : RawTree) (read : Step) (answer : Option Formula) (fault : Option ToldFault) → IsRead read (reading_in table scope t) → IsAsked answer fault (ask_formula (place_of t) (shown_outcome read.outcome)) → IsAsked answer fault (ask_formula (place_of t) (reading_in table scope t).outcome)

@@ -3,7 +3,7 @@ use Rattle.std.specs.Prelude.{◌≡◌, Option, None, Some}
 use Rattle.std.specs.Borrow.{Bor}
 use Rattle.bk_raw.specs.declared.operator.InfixOp.{InfixOp}
 use Rattle.bk_raw.specs.declared.operator.InfixOp.TheVariants.{And, Implies}
-use Rattle.bk_raw.specs.RawTree.{RawTree, raw, raw_infix}
+use Rattle.bk_raw.specs.Trees.RawTree.{RawTree, raw, raw_infix}
 
 -- the sides of &, where the term is one
 abbrev pub and_sides : RawTree → Option (RawTree × RawTree)

@@ -5,7 +5,7 @@ use Rattle.std.specs.Coded.{Coded}
 use base.Stored.{Gv, gnil, gnum, gcons}
 use Rattle.bk_val.specs.ValueType.{type_code, type_back, type_back-code}
 use Rattle.bk_form.specs.Codes.FormulaCodes.{formula_code, formula_back, formula_back-code}
-use Rattle.bk_raw.specs.Outcome.{Joint, union_joint, inter_joint, minus_joint, over_joint, Partial, whole, hollow, single_of, pair_of, joint_of}
+use Rattle.bk_raw.specs.Meaning.Outcome.{Joint, union_joint, inter_joint, minus_joint, over_joint, Partial, whole, hollow, single_of, pair_of, joint_of}
 
 -- how many nodes it has, formulas aside
 abbrev pub expression_size : Partial → ℕ

@@ -1,9 +1,9 @@
 -- Terms with one part and with two, by their forms.
 use Rattle.std.specs.Prelude.{ℕ, false}
-use Rattle.bk_raw.specs.RawTree.{RawTree, RawTreeNode, raw_word, raw_negative, raw_inverse, raw_infix, raw_image, raw_apply, raw_composition, raw_pair}
-use Rattle.bk_raw.specs.Outcome.{Reading}
-use Rattle.bk_raw.specs.OperatorReadings.{word_reading, negative_reading, inverse_reading, infix_reading, image_reading, apply_reading, composition_reading, pair_reading}
-use Rattle.bk_raw.specs.TermReading.{part, place_of, from_one, from_two, spoilt_by, strict_faults, takes_predicate, is_connective}
+use Rattle.bk_raw.specs.Trees.RawTree.{RawTree, RawTreeNode, raw_word, raw_negative, raw_inverse, raw_infix, raw_image, raw_apply, raw_composition, raw_pair}
+use Rattle.bk_raw.specs.Meaning.Outcome.{Reading}
+use Rattle.bk_raw.specs.Meaning.OperatorReadings.{word_reading, negative_reading, inverse_reading, infix_reading, image_reading, apply_reading, composition_reading, pair_reading}
+use Rattle.bk_raw.specs.Meaning.TermReading.{part, place_of, from_one, from_two, spoilt_by, strict_faults, takes_predicate, is_connective}
 use Rattle.bk_elab.specs.declared.form.OnePart.{OnePart}
 use Rattle.bk_elab.specs.declared.form.OnePart.TheVariants.{Word, Negative, Inverse}
 use Rattle.bk_elab.specs.declared.form.TwoParts.{TwoParts}

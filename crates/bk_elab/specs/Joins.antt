@@ -1,5 +1,5 @@
 -- The operator that makes one set of two, as the mathematical one.
-use Rattle.bk_raw.specs.Outcome.{Joint, union_joint, inter_joint, minus_joint, over_joint}
+use Rattle.bk_raw.specs.Meaning.Outcome.{Joint, union_joint, inter_joint, minus_joint, over_joint}
 use Rattle.bk_elab.specs.declared.partial.Join.{Join}
 use Rattle.bk_elab.specs.declared.partial.Join.TheVariants.{Union, Intersection, Difference, Override}
 

@@ -1,7 +1,7 @@
 -- What is shown of the fault that is told.
 use Rattle.std.specs.Prelude.{◌≡◌, List, ◌++◌}
-use Rattle.bk_raw.specs.Blame.{blame, earlier, IsBlameOf}
-use Rattle.bk_raw.specs.Faults.{Fault}
+use Rattle.bk_raw.specs.Errors.Blame.{blame, earlier, IsBlameOf}
+use Rattle.bk_raw.specs.Errors.Faults.{Fault}
 
 -- the fault that is told is one of those that there are, and none is before it
 abbrev pub BlameIsFirst : Type 0

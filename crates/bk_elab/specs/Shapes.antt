@@ -6,8 +6,8 @@ use Rattle.bk_form.specs.declared.operator.UnOp.TheVariants.{Not}
 use Rattle.bk_form.specs.declared.operator.BinOp.{BinOp}
 use Rattle.bk_raw.specs.declared.operator.InfixOp.{InfixOp}
 use Rattle.bk_raw.specs.declared.operator.InfixOp.TheVariants.{Relations, PartialFunctions, TotalFunctions, PartialInjections, TotalInjections, PartialSurjections, TotalSurjections, Bijections, Interval, Plus, Divide, Mod, Power, StrictSubset}
-use Rattle.bk_raw.specs.Outcome.{Partial, whole, Outcome, Asked, ask, whole_of, filled}
-use Rattle.bk_raw.specs.Faults.{Fault, not_predicate}
+use Rattle.bk_raw.specs.Meaning.Outcome.{Partial, whole, Outcome, Asked, ask, whole_of, filled}
+use Rattle.bk_raw.specs.Errors.Faults.{Fault, not_predicate}
 use Rattle.bk_elab.specs.declared.operator.Places.{Places}
 use Rattle.bk_elab.specs.declared.operator.Alike.{Alike}
 use Rattle.bk_elab.specs.declared.operator.Alike.TheVariants.{Both, Neither, Different}

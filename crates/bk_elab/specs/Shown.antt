@@ -1,8 +1,8 @@
 -- What the program's faults and outcomes stand for.
 use Rattle.std.specs.Prelude.{◌≡◌, List, Option, None, Some}
-use Rattle.bk_raw.specs.Outcome.{Outcome, partial, ranging, holding, silent, Reading, Asked}
-use Rattle.bk_raw.specs.Blame.{blame}
-use Rattle.bk_raw.specs.Faults.{Fault, told_as}
+use Rattle.bk_raw.specs.Meaning.Outcome.{Outcome, partial, ranging, holding, silent, Reading, Asked}
+use Rattle.bk_raw.specs.Errors.Blame.{blame}
+use Rattle.bk_raw.specs.Errors.Faults.{Fault, told_as}
 use Rattle.bk_elab.specs.declared.blame.Fault.{Fault as ToldFault}
 use Rattle.bk_elab.specs.declared.error.ElabFault.{ElabFault}
 use Rattle.bk_elab.specs.declared.error.ElabFault.TheVariants.{Fault as FaultAt, Limit, Memory}

@@ -10,15 +10,15 @@ use Rattle.bk_raw.specs.declared.operator.InfixOp.TheVariants.{Member, Subset, S
 use Rattle.bk_raw.specs.declared.term.RawBound.{RawBound}
 use Rattle.bk_raw.specs.declared.term.RawName.{RawName}
 use Rattle.bk_raw.specs.declared.term.RawRange.{RawRange}
-use Rattle.bk_raw.specs.RawTree.{RawTree, RawTreeNode, tree_size, raw_for_all, raw_exists, raw_comprehension, raw_lambda, raw_typed_for_all, raw_typed_exists, raw_ranged_comprehension, raw_ranged_lambda}
+use Rattle.bk_raw.specs.Trees.RawTree.{RawTree, RawTreeNode, tree_size, raw_for_all, raw_exists, raw_comprehension, raw_lambda, raw_typed_for_all, raw_typed_exists, raw_ranged_comprehension, raw_ranged_lambda}
 use Rattle.bk_raw.specs.Codes.RawView.{ranges_of as ranges_written}
-use Rattle.bk_raw.specs.Names.{Names, set_name, Sight, unseen, untyped_name, seen}
-use Rattle.bk_raw.specs.Outcome.{Outcome, Reading, ask_domain, ask_set, ask_value}
-use Rattle.bk_raw.specs.Binders.{Bound, Ranged, inside, locals, all_typed, types_of, as_bound, is_some_name, ranges_of, second, set_over, as_single, typed_as, ranged_as}
-use Rattle.bk_raw.specs.TermReading.{reading, node_reading, part, place_of, names_one, clues, premise_clues, ranges}
-use Rattle.bk_raw.specs.Printed.{RangeRead, printed_ranges, wrong_ranges}
+use Rattle.bk_raw.specs.Meaning.Names.{Names, set_name, Sight, unseen, untyped_name, seen}
+use Rattle.bk_raw.specs.Meaning.Outcome.{Outcome, Reading, ask_domain, ask_set, ask_value}
+use Rattle.bk_raw.specs.Meaning.Binders.{Bound, Ranged, inside, locals, all_typed, types_of, as_bound, is_some_name, ranges_of, second, set_over, as_single, typed_as, ranged_as}
+use Rattle.bk_raw.specs.Meaning.TermReading.{reading, node_reading, part, place_of, names_one, clues, premise_clues, ranges}
+use Rattle.bk_raw.specs.Meaning.Printed.{RangeRead, printed_ranges, wrong_ranges}
 use Rattle.bk_elab.specs.declared.blame.Fault.{Fault as ToldFault}
-use Rattle.bk_raw.specs.ScopeReading.{element_names, names_in}
+use Rattle.bk_raw.specs.Meaning.ScopeReading.{element_names, names_in}
 use Rattle.bk_elab.specs.declared.binder.Ranged.{Ranged as RangedName}
 use Rattle.bk_elab.specs.declared.outcome.Step.{Step}
 use Rattle.bk_elab.specs.declared.sight.Local.{Local}
@@ -28,7 +28,7 @@ use Rattle.bk_elab.specs.declared.sight.Reader.{Reader}
 use Rattle.bk_elab.specs.declared.sight.Seen.{Seen}
 use Rattle.bk_elab.specs.declared.sight.Seen.TheVariants.{Unseen, Untyped, Typed}
 use Rattle.bk_elab.specs.declared.visible.Sight.{Sight as TermsSight}
-use Rattle.bk_raw.specs.Blame.{blame}
+use Rattle.bk_raw.specs.Errors.Blame.{blame}
 use Rattle.bk_elab.specs.Conjuncts.{IsRight}
 use Rattle.bk_elab.specs.Shown.{told, IsRead}
 use Rattle.bk_elab.specs.Visible.{seen_names}

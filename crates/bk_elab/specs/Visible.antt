@@ -3,11 +3,11 @@ use Rattle.std.specs.Prelude.{ℕ, Bool, List, map, slice_get, Option, None, Som
 use Rattle.std.specs.Borrow.{Bor}
 use Rattle.bk_val.specs.ValueType.{ValueType}
 use Rattle.bk_raw.specs.declared.term.RawName.{RawName}
-use Rattle.bk_raw.specs.RawTree.{RawTree}
-use Rattle.bk_raw.specs.Names.{Names, Meaning, global, set_name, element_name}
-use Rattle.bk_raw.specs.Outcome.{Reading, Asked}
-use Rattle.bk_raw.specs.Binders.{bound_names}
-use Rattle.bk_raw.specs.TermReading.{part, reading, clues}
+use Rattle.bk_raw.specs.Trees.RawTree.{RawTree}
+use Rattle.bk_raw.specs.Meaning.Names.{Names, Meaning, global, set_name, element_name}
+use Rattle.bk_raw.specs.Meaning.Outcome.{Reading, Asked}
+use Rattle.bk_raw.specs.Meaning.Binders.{bound_names}
+use Rattle.bk_raw.specs.Meaning.TermReading.{part, reading, clues}
 use Rattle.bk_elab.specs.declared.sight.Visible.{Visible}
 use Rattle.bk_elab.specs.declared.sight.Standing.{Standing}
 use Rattle.bk_elab.specs.declared.sight.Standing.TheVariants.{Variable, Set, Element}

@@ -1,7 +1,7 @@
 // Of several faults, the one that is told.
 
 ghost use Rattle.std.specs.Prelude.{◌≡◌};
-ghost use Rattle.bk_raw.specs.Blame as blamed;
+ghost use Rattle.bk_raw.specs.Errors.Blame as blamed;
 ghost use Rattle.bk_elab.specs.Shown.{fault_of, told};
 
 use bk_raw::FaultKind;

@@ -1,7 +1,7 @@
 // Names with a dollar sign in terms, and the other additions with which formulas are printed.
 
 ghost use Rattle.std.specs.Prelude.{◌≡◌};
-ghost use Rattle.bk_raw.specs.RawTree.{trees_of};
+ghost use Rattle.bk_raw.specs.Trees.RawTree.{trees_of};
 ghost use Rattle.bk_raw.specs.Codes.RawView.{ranges_of};
 ghost use Rattle.bk_elab.specs.Kept.{has_dollar, dollar_untyped, names_dollar, is_own, has_unsettled, some_have_unsettled, ranges_have_unsettled, has_additions, some_have_additions};
 ghost use Rattle.bk_elab.specs.Sights.{bounds_of};

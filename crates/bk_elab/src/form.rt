@@ -1,7 +1,7 @@
 // Terms with one part and with two: what comes of their parts.
 
 ghost use Rattle.std.specs.Prelude.{◌≡◌, IfOk};
-ghost use Rattle.bk_raw.specs.Outcome.{Reading};
+ghost use Rattle.bk_raw.specs.Meaning.Outcome.{Reading};
 ghost use Rattle.bk_elab.specs.Forms.{one_reading, two_reading};
 ghost use Rattle.bk_elab.specs.Shown.{IsRead};
 

@@ -1,7 +1,7 @@
 //! The formula that a term by itself reads as.
 
 ghost use Rattle.std.specs.Prelude.{◌≡◌, Some, IfOk, IfErr};
-ghost use Rattle.bk_raw.specs.ScopeReading.{formula_in};
+ghost use Rattle.bk_raw.specs.Meaning.ScopeReading.{formula_in};
 ghost use Rattle.bk_elab.specs.Shown.{SaysOf};
 
 use crate::blame::earlier;

@@ -1,10 +1,10 @@
 // Right sides of conjuncts that were read for the types of bound names, and are kept for the body.
 
 ghost use Rattle.std.specs.Prelude.{◌≡◌, ◌≤◌, ◌&&◌, ◌∷◌, length, not, cond, true, List, IfOk, ℤ, Some, None};
-ghost use Rattle.bk_raw.specs.Names.{Names};
-ghost use Rattle.bk_raw.specs.Outcome.{silent};
-ghost use Rattle.bk_raw.specs.RawTree.{RawTree};
-ghost use Rattle.bk_raw.specs.TermReading.{reading};
+ghost use Rattle.bk_raw.specs.Meaning.Names.{Names};
+ghost use Rattle.bk_raw.specs.Meaning.Outcome.{silent};
+ghost use Rattle.bk_raw.specs.Trees.RawTree.{RawTree};
+ghost use Rattle.bk_raw.specs.Meaning.TermReading.{reading};
 ghost use Rattle.bk_elab.specs.Kept.{names_untyped, dollar_untyped, has_unsettled, names_dollar, has_additions, IsKept, AreKept};
 ghost use Rattle.bk_elab.specs.Sights.{names_of, bounds_of};
 

@@ -4,10 +4,10 @@ ghost use Rattle.std.specs.Prelude.{◌≡◌, ℕ, true, false, List, Some, IfO
 ghost use Rattle.bk_val.specs.ValueType.{int_type, pair_type, set_type};
 ghost use Rattle.bk_form.specs.Formula.{binary};
 ghost use Rattle.bk_form.specs.declared.operator.BinOp.TheVariants.{Eq, In, Times as Product};
-ghost use Rattle.bk_raw.specs.Outcome.{Partial, whole, whole_of, partial, ranging, plainly, Reading};
-ghost use Rattle.bk_raw.specs.OperatorReadings as meant;
-ghost use Rattle.bk_raw.specs.Blame.{blame};
-ghost use Rattle.bk_raw.specs.Faults.{Fault as FaultAt};
+ghost use Rattle.bk_raw.specs.Meaning.Outcome.{Partial, whole, whole_of, partial, ranging, plainly, Reading};
+ghost use Rattle.bk_raw.specs.Meaning.OperatorReadings as meant;
+ghost use Rattle.bk_raw.specs.Errors.Blame.{blame};
+ghost use Rattle.bk_raw.specs.Errors.Faults.{Fault as FaultAt};
 ghost use Rattle.bk_elab.specs.Joins.{joint_of_join};
 ghost use Rattle.bk_elab.specs.Shapes.{both_numbers, compared_by, gives_int, is_arrow_or_number, negated_by, IsAlike};
 ghost use Rattle.bk_elab.specs.Shown.{shown_outcome, told, IsRead, IsAsked};

@@ -2,13 +2,13 @@
 
 ghost use Rattle.std.specs.Prelude.{◌≡◌, ◌≢◌, List, IfOk, MatchOption, []};
 ghost use Rattle.bk_val.specs.ValueType.{ValueType, pair_type, set_type};
-ghost use Rattle.bk_raw.specs.Outcome as wanted;
-ghost use Rattle.bk_raw.specs.Outcome.{Reading};
-ghost use Rattle.bk_raw.specs.ScopeReading.{ask_formula};
-ghost use Rattle.bk_raw.specs.TermReading.{behind_faults, spoilt_by};
-ghost use Rattle.bk_raw.specs.Blame.{blame};
-ghost use Rattle.bk_raw.specs.Blame as blamed;
-ghost use Rattle.bk_raw.specs.Faults.{Fault as FaultAt};
+ghost use Rattle.bk_raw.specs.Meaning.Outcome as wanted;
+ghost use Rattle.bk_raw.specs.Meaning.Outcome.{Reading};
+ghost use Rattle.bk_raw.specs.Meaning.ScopeReading.{ask_formula};
+ghost use Rattle.bk_raw.specs.Meaning.TermReading.{behind_faults, spoilt_by};
+ghost use Rattle.bk_raw.specs.Errors.Blame.{blame};
+ghost use Rattle.bk_raw.specs.Errors.Blame as blamed;
+ghost use Rattle.bk_raw.specs.Errors.Faults.{Fault as FaultAt};
 ghost use Rattle.bk_elab.specs.Shown.{shown_outcome, told, IsRead, IsAsked};
 
 use crate::blame::{Fault, earlier};

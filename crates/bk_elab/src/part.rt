@@ -1,10 +1,10 @@
 // What comes of the parts of a term, each in the place where it stands.
 
 ghost use Rattle.std.specs.Prelude.{◌≡◌, false, IfOk};
-ghost use Rattle.bk_raw.specs.OperatorReadings as operator;
-ghost use Rattle.bk_raw.specs.Outcome.{Reading, plainly, partial, hollow};
-ghost use Rattle.bk_raw.specs.TermReading as meant;
-ghost use Rattle.bk_raw.specs.TermReading.{part, place_of, from_one, from_two};
+ghost use Rattle.bk_raw.specs.Meaning.OperatorReadings as operator;
+ghost use Rattle.bk_raw.specs.Meaning.Outcome.{Reading, plainly, partial, hollow};
+ghost use Rattle.bk_raw.specs.Meaning.TermReading as meant;
+ghost use Rattle.bk_raw.specs.Meaning.TermReading.{part, place_of, from_one, from_two};
 ghost use Rattle.bk_elab.specs.Shown.{IsRead};
 
 use crate::blame::earlier;

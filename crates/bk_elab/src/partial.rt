@@ -2,8 +2,8 @@
 
 ghost use Rattle.std.specs.Prelude.{◌≡◌, IfOk};
 ghost use Rattle.bk_form.specs.Role.{same_type};
-ghost use Rattle.bk_raw.specs.Outcome.{whole, hollow, single_of, pair_of, joint_of, filled, both_made, joins, joint_op};
-ghost use Rattle.bk_raw.specs.OperatorReadings.{singled, paired};
+ghost use Rattle.bk_raw.specs.Meaning.Outcome.{whole, hollow, single_of, pair_of, joint_of, filled, both_made, joins, joint_op};
+ghost use Rattle.bk_raw.specs.Meaning.OperatorReadings.{singled, paired};
 ghost use Rattle.bk_elab.specs.Joins.{joint_of_join};
 
 use crate::made::{binary, unary};
@@ -49,7 +49,7 @@ pub enum Node {
 }
 
 impl Model for Expression {
-    ghost use Rattle.bk_raw.specs.Outcome.{Partial};
+    ghost use Rattle.bk_raw.specs.Meaning.Outcome.{Partial};
     ghost use Rattle.bk_elab.specs.Expressions.{coded_expression, expression_size};
 
     ghost Value = { Partial };

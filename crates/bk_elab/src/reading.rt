@@ -2,15 +2,15 @@
 
 ghost use Rattle.std.specs.Option.{option_copied};
 ghost use Rattle.std.specs.Prelude.{◌≡◌, ◌+◌, ◌++◌, ◌≤◌, suc, List, None, IfOk, OnOk, length, Option};
-ghost use Rattle.bk_raw.specs.Binders.{unranged, as_bound, bound_names, inside, body_of};
-ghost use Rattle.bk_raw.specs.FreeNames.{conjuncts};
-ghost use Rattle.bk_raw.specs.Names.{count_locals};
-ghost use Rattle.bk_raw.specs.Outcome.{Reading};
-ghost use Rattle.bk_raw.specs.Printed.{printed_ranges, wrong_ranges};
-ghost use Rattle.bk_raw.specs.RawTree.{RawTree, trees_of};
+ghost use Rattle.bk_raw.specs.Meaning.Binders.{unranged, as_bound, bound_names, inside, body_of};
+ghost use Rattle.bk_raw.specs.Trees.FreeNames.{conjuncts};
+ghost use Rattle.bk_raw.specs.Meaning.Names.{count_locals};
+ghost use Rattle.bk_raw.specs.Meaning.Outcome.{Reading};
+ghost use Rattle.bk_raw.specs.Meaning.Printed.{printed_ranges, wrong_ranges};
+ghost use Rattle.bk_raw.specs.Trees.RawTree.{RawTree, trees_of};
 ghost use Rattle.bk_raw.specs.Codes.RawView.{ranges_of};
-ghost use Rattle.bk_raw.specs.TermReading as meant;
-ghost use Rattle.bk_raw.specs.Blame.{blame};
+ghost use Rattle.bk_raw.specs.Meaning.TermReading as meant;
+ghost use Rattle.bk_raw.specs.Errors.Blame.{blame};
 ghost use Rattle.bk_elab.specs.Conjuncts.{and_sides};
 ghost use Rattle.bk_elab.specs.Forms.{one_node, two_node};
 ghost use Rattle.bk_elab.specs.Kept.{IsKept, AreKept, StaysKept, StayKept};

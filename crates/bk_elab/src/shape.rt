@@ -1,7 +1,7 @@
 // Which right sides give no range, by their form and by what they turned out to be.
 
 ghost use Rattle.std.specs.Prelude.{◌≡◌};
-ghost use Rattle.bk_raw.specs.RawTree.{trees_of};
+ghost use Rattle.bk_raw.specs.Trees.RawTree.{trees_of};
 ghost use Rattle.bk_elab.specs.Kept as kept;
 ghost use Rattle.bk_elab.specs.Shown.{shown_outcome};
 

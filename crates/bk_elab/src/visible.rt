@@ -1,8 +1,8 @@
 //! Terms under names in scope, some of which may have no type yet.
 
 ghost use Rattle.std.specs.Prelude.{◌≡◌, true, false, map, IfOk};
-ghost use Rattle.bk_raw.specs.Outcome.{ask, ask_value, ask_domain, ask_predicate};
-ghost use Rattle.bk_raw.specs.TermReading.{place_of};
+ghost use Rattle.bk_raw.specs.Meaning.Outcome.{ask, ask_value, ask_domain, ask_predicate};
+ghost use Rattle.bk_raw.specs.Meaning.TermReading.{place_of};
 ghost use Rattle.bk_elab.specs.Shown.{IsAsked, IsRead};
 ghost use Rattle.bk_elab.specs.Sights.{around_by, outer_around};
 ghost use Rattle.bk_elab.specs.Visible.{reading_by, asked_behind, types_by};

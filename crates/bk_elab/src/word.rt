@@ -4,8 +4,8 @@ ghost use Rattle.std.specs.Prelude.{◌≡◌, IfOk};
 ghost use Rattle.bk_val.specs.ValueType.{int_type, bool_type, set_type};
 ghost use Rattle.bk_form.specs.Formula.{formula_size, literal, truth_value, named};
 ghost use Rattle.bk_form.specs.Codes.FormView.{made};
-ghost use Rattle.bk_raw.specs.Outcome.{plainly, giving, ranging, of_one, ask, ask_domain};
-ghost use Rattle.bk_raw.specs.OperatorReadings as meant;
+ghost use Rattle.bk_raw.specs.Meaning.Outcome.{plainly, giving, ranging, of_one, ask, ask_domain};
+ghost use Rattle.bk_raw.specs.Meaning.OperatorReadings as meant;
 ghost use Rattle.bk_elab.specs.Shown.{shown_outcome, IsRead};
 
 use crate::made::{binary, unary};

@@ -2,12 +2,12 @@
 
 ghost use Rattle.std.specs.Option.{option_copied};
 ghost use Rattle.std.specs.Prelude.{◌≡◌, Some};
-ghost use Rattle.bk_raw.specs.FreeNames.{stands_free, is_among, is_free_in_some, is_free_in_ranges};
-ghost use Rattle.bk_raw.specs.RawTree.{trees_of};
+ghost use Rattle.bk_raw.specs.Trees.FreeNames.{stands_free, is_among, is_free_in_some, is_free_in_ranges};
+ghost use Rattle.bk_raw.specs.Trees.RawTree.{trees_of};
 ghost use Rattle.bk_raw.specs.Codes.RawView.{ranges_of};
-ghost use Rattle.bk_raw.specs.TermReading as meant;
-ghost use Rattle.bk_raw.specs.Blame.{blame};
-ghost use Rattle.bk_raw.specs.Faults.{not_predicate};
+ghost use Rattle.bk_raw.specs.Meaning.TermReading as meant;
+ghost use Rattle.bk_raw.specs.Errors.Blame.{blame};
+ghost use Rattle.bk_raw.specs.Errors.Faults.{not_predicate};
 ghost use Rattle.bk_elab.specs.Conjuncts.{and_sides, infix_sides, implies_sides, shown_pair, shown_infix};
 ghost use Rattle.bk_elab.specs.Shapes.{strict_here};
 ghost use Rattle.bk_elab.specs.Shown.{told};

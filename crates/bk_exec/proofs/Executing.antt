@@ -5,19 +5,19 @@ use Rattle.std.specs.Option.{option_map}
 use Rattle.std.proofs.lemmas.List.{drop_more, drop_all}
 use Rattle.bk_val.specs.ValueType.{ValueType, int_type, bool_type, enum_type, pair_type, set_type}
 use Rattle.bk_raw.specs.declared.term.RawName.{RawName}
-use Rattle.bk_raw.specs.RawTree.{RawTree, raw, raw_name, raw_infix, raw_apply, raw_extension, no_trees, tree_and, trees_of}
+use Rattle.bk_raw.specs.Trees.RawTree.{RawTree, raw, raw_name, raw_infix, raw_apply, raw_extension, no_trees, tree_and, trees_of}
 use Rattle.bk_raw.specs.Codes.RawView.{tree_of}
 use Rattle.bk_raw.specs.declared.term.RawNode.{RawNode}
 use Rattle.bk_raw.specs.declared.term.RawNode.TheVariants.{Name}
 use Rattle.bk_raw.specs.declared.operator.InfixOp.TheVariants.{Times}
 use Rattle.bk_form.specs.Formula.{Formula}
 use Rattle.bk_exec.specs.Executed.{fill_sides, only, whole_told}
-use Rattle.bk_raw.specs.Names.{Names}
-use Rattle.bk_raw.specs.Blame.{blame, earlier}
+use Rattle.bk_raw.specs.Meaning.Names.{Names}
+use Rattle.bk_raw.specs.Errors.Blame.{blame, earlier}
 use Rattle.bk_elab.specs.Visible.{visible_names, meaning_of}
 use Rattle.bk_elab.specs.declared.sight.Visible.{Visible}
 use Rattle.bk_raw.proofs.Blamed.{blame-joins, earlier-joins, earlier-none}
-use Rattle.bk_raw.specs.Faults.{Fault, not_b0}
+use Rattle.bk_raw.specs.Errors.Faults.{Fault, not_b0}
 use Rattle.bk_level.specs.Components.{WrittenVariable, abstract_names}
 use Rattle.bk_level.specs.ClauseFaults.{is_flat, declared_at, place_or}
 use Rattle.bk_level.specs.ValueFaults.{is_there}

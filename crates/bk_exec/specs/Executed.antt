@@ -2,10 +2,10 @@
 use Rattle.std.specs.Prelude.{ℕ, nat_eq, cond, List, [], ◌∷◌, Option, None, Some}
 use Rattle.bk_form.specs.Formula.{Formula}
 use Rattle.bk_raw.specs.declared.operator.InfixOp.TheVariants.{Times}
-use Rattle.bk_raw.specs.RawTree.{RawTree, raw, raw_infix, raw_extension, no_trees, tree_and}
-use Rattle.bk_raw.specs.SubTree.{SubTree, Branches}
-use Rattle.bk_raw.specs.Names.{Names}
-use Rattle.bk_raw.specs.Faults.{Fault, not_b0}
+use Rattle.bk_raw.specs.Trees.RawTree.{RawTree, raw, raw_infix, raw_extension, no_trees, tree_and}
+use Rattle.bk_raw.specs.Trees.SubTree.{SubTree, Branches}
+use Rattle.bk_raw.specs.Meaning.Names.{Names}
+use Rattle.bk_raw.specs.Errors.Faults.{Fault, not_b0}
 use Rattle.bk_elab.specs.Visible.{typing_of, visible_names}
 use Rattle.bk_level.specs.Executable.{Executing as Meant, expression_faults, condition_faults, statement_faults, branches_executable}
 use Rattle.bk_exec.specs.declared.executable.Executing.{Executing}

@@ -2,10 +2,10 @@
 
 ghost use Rattle.std.specs.Option.{option_copied};
 ghost use Rattle.std.specs.Prelude.{◌≡◌, ◌+◌, ◌++◌, ◌∷◌, [], ◌&&◌, ◌||◌, List, Some, cond, map, IfOk};
-ghost use Rattle.bk_raw.specs.RawTree.{trees_of, raw_apply, raw_infix};
-ghost use Rattle.bk_raw.specs.SubTree.{sub_var, branch_and};
-ghost use Rattle.bk_raw.specs.Binders.{second};
-ghost use Rattle.bk_raw.specs.Blame.{blame};
+ghost use Rattle.bk_raw.specs.Trees.RawTree.{trees_of, raw_apply, raw_infix};
+ghost use Rattle.bk_raw.specs.Trees.SubTree.{sub_var, branch_and};
+ghost use Rattle.bk_raw.specs.Meaning.Binders.{second};
+ghost use Rattle.bk_raw.specs.Errors.Blame.{blame};
 ghost use Rattle.bk_elab.specs.Conjuncts.{shown_pair};
 ghost use Rattle.bk_elab.specs.Shown.{told};
 ghost use Rattle.bk_elab.specs.Visible.{meaning_of, typing_of, visible_names};

@@ -8,8 +8,8 @@ use Rattle.bk_lex.specs.Faults.{IsFaultOf as IsLexFaultOf}
 use Rattle.bk_lex.specs.Laws.{IsOfText}
 use Rattle.bk_lex.specs.declared.fault.LexFault.{LexFault}
 use Rattle.bk_lex.specs.declared.fault.LexFault.TheVariants.{NotUtf8, BadChar, OpenComment, NumberTooWide, Limit as LexLimit, Memory as LexMemory}
-use Rattle.bk_raw.specs.Brackets.{open_brackets, open_blocks}
-use Rattle.bk_raw.specs.Limits.{IsWithinDepth, IsShallow, IsTooDeep}
+use Rattle.bk_raw.specs.Grammar.Brackets.{open_brackets, open_blocks}
+use Rattle.bk_raw.specs.Errors.Limits.{IsWithinDepth, IsShallow, IsTooDeep}
 use Rattle.bk_files.specs.declared.fault.FileFault.{FileFault}
 use Rattle.bk_files.specs.declared.fault.FileFault.TheVariants.{Fault, Limit}
 use Rattle.bk_files.specs.Files.{Has, IsCut, IsShallowText, IsNoToken, HasTooMany, IsFirst, IsFaultOf}

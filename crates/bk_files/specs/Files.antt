@@ -8,9 +8,9 @@ use Rattle.bk_form.specs.declared.token.Token.{Token}
 use Rattle.bk_lex.specs.Lexis.{AreTokens}
 use Rattle.bk_lex.specs.Faults.{IsFaultOf as IsLexFaultOf}
 use Rattle.bk_lex.specs.declared.fault.LexFault.TheVariants.{BadChar, OpenComment, NumberTooWide, Limit as LexLimit}
-use Rattle.bk_raw.specs.Limits.{IsShallow, IsTooDeep}
+use Rattle.bk_raw.specs.Errors.Limits.{IsShallow, IsTooDeep}
 use Rattle.bk_raw.specs.declared.fault.FaultKind.TheVariants.{NotUtf8, NoToken}
-use Rattle.bk_raw.specs.Faults.{number_of_fault}
+use Rattle.bk_raw.specs.Errors.Faults.{number_of_fault}
 use Rattle.bk_files.specs.declared.fault.FileFault.{FileFault}
 use Rattle.bk_files.specs.declared.fault.FileFault.TheVariants.{Fault, Limit, Memory}
 

@@ -3,7 +3,7 @@
 ghost use Rattle.std.specs.Prelude.{◌≡◌, ◌<◌, ◌^◌, List, ℕ, length, map, All, IfOk, IfErr};
 ghost use Rattle.std.specs.List.{AllZip};
 ghost use Rattle.std.specs.Str.{IsUtf8};
-ghost use Rattle.bk_raw.specs.Faults.{number_of_fault};
+ghost use Rattle.bk_raw.specs.Errors.Faults.{number_of_fault};
 ghost use Rattle.bk_files.specs.Files.{IsCut, IsFaultOf, IsShallowText};
 ghost use Rattle.bk_files.specs.Stages.{IsFileFault};
 

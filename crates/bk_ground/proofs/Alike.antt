@@ -8,12 +8,12 @@ use Rattle.bk_form.specs.Formula.{Formula, variable}
 use Rattle.bk_form.specs.Table.{Table}
 use Rattle.bk_seq.specs.Paths.{numbered_item}
 use Rattle.bk_seq.specs.Sequents.{Sequent}
-use Rattle.bk_raw.specs.RawTree.{RawTree}
+use Rattle.bk_raw.specs.Trees.RawTree.{RawTree}
 use Rattle.bk_raw.specs.declared.script.RuleWord.{RuleWord}
 use Rattle.bk_raw.specs.declared.script.RuleWord.TheVariants.{Hyp as HypWord, True as TrueWord, Same as SameWord, Eval as EvalWord, False as FalseWord, Absurd as AbsurdWord, And as AndWord, Iff as IffWord, Imp as ImpWord, Not as NotWord, Left as LeftWord, Right as RightWord, Or as OrWord, Contra as ContraWord, Fix as FixWord, UseTerms as UseWord, Split as SplitWord, Cases as CasesWord, Apply as ApplyWord, Inst as InstWord, OpenSome as OpenWord, Cut as CutWord, Case as CaseWord, Drop as DropWord, Eq as EqWord, Qe as QeWord, Law as LawWord, Wal as WalWord, TypeOf as TypeWord, Neg as NegWord, Mem as MemWord, Val as ValWord, Ext as ExtWord, Sub as SubWord, Ex as ExWord, Pair as PairWord, Elems as ElemsWord, Interval as IntervalWord, Induct as InductWord, Poly as PolyWord, Lin as LinWord}
 use Rattle.bk_raw.specs.declared.script.RawTyped.{RawTyped}
-use Rattle.bk_raw.specs.ScriptTree.{RawPlace, in_goal, in_hypothesis, RulePart, part_number, part_term, part_terms, part_place, part_no_place, part_typed, part_law, part_certificate}
-use Rattle.bk_raw.specs.Names.{seen}
+use Rattle.bk_raw.specs.Trees.ScriptTree.{RawPlace, in_goal, in_hypothesis, RulePart, part_number, part_term, part_terms, part_place, part_no_place, part_typed, part_law, part_certificate}
+use Rattle.bk_raw.specs.Meaning.Names.{seen}
 use Rattle.bk_lin.specs.declared.fact.Line.{Line}
 use Rattle.bk_arith.specs.Decision.{is_accepted}
 use Rattle.bk_kernel.specs.declared.rule.Place.{Place}

@@ -11,7 +11,7 @@ use Rattle.bk_names.proofs.Places.{list_any-map}
 use Rattle.bk_val.specs.ValueType.{ValueType}
 use Rattle.bk_form.specs.Table.{Table, VariableEntry}
 use Rattle.bk_raw.specs.declared.script.RawTyped.{RawTyped}
-use Rattle.bk_raw.specs.ScopeReading.{ScopeNames}
+use Rattle.bk_raw.specs.Meaning.ScopeReading.{ScopeNames}
 use Rattle.bk_ground.specs.Brought.{with_first, first_of_each, is_in_scope, new_over, entry_for, widened_by, number_of, next_number, numbered}
 
 -- ---- the first with each text

@@ -14,7 +14,7 @@ use Rattle.bk_lin.specs.Answer.{first_fault, is_contradiction, is_closed, certif
 use Rattle.bk_arith.specs.declared.error.ArithFault.TheVariants.{NotLinear, TooWide, Cert}
 use Rattle.bk_arith.specs.Reading.{atoms_of}
 use Rattle.bk_arith.specs.Decision.{first_unread, terms_of, readings, is_accepted}
-use Rattle.bk_raw.specs.ScriptTree.{RawLine, multiples, quotient}
+use Rattle.bk_raw.specs.Trees.ScriptTree.{RawLine, multiples, quotient}
 use Rattle.bk_raw.specs.declared.script.RawMultiple.{RawMultiple}
 use Rattle.bk_ground.specs.Parts.{MultipleMeans, LineMeans}
 

@@ -7,10 +7,10 @@ use Rattle.std.specs.Str.{bytes_eq}
 use Rattle.bk_val.specs.ValueType.{ValueType, enum_type}
 use Rattle.bk_form.specs.Formula.{variable}
 use Rattle.bk_form.specs.Table.{Table, SetEntry, variable_type}
-use Rattle.bk_raw.specs.Names.{Names, set_name, element_name, Sight, seen, sight, behind, found}
-use Rattle.bk_raw.specs.Printed.{set_type_of, type_read}
+use Rattle.bk_raw.specs.Meaning.Names.{Names, set_name, element_name, Sight, seen, sight, behind, found}
+use Rattle.bk_raw.specs.Meaning.Printed.{set_type_of, type_read}
 use Rattle.bk_raw.specs.declared.script.RawTyped.{RawTyped}
-use Rattle.bk_raw.specs.ScopeReading.{ScopeNames, element_names, set_names, variable_meaning, scope_names, names_in, last_from}
+use Rattle.bk_raw.specs.Meaning.ScopeReading.{ScopeNames, element_names, set_names, variable_meaning, scope_names, names_in, last_from}
 use Rattle.bk_elab.proofs.Seen.{seen_last}
 use Rattle.bk_elab.proofs.Sighted.{found_in}
 use Rattle.bk_ground.specs.Finding.{IsMeaning, in_set, set_or, set_among}

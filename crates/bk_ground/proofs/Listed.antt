@@ -7,11 +7,11 @@ use Rattle.std.proofs.lemmas.Bool.Decides.{nat_tests}
 use Rattle.std.proofs.lemmas.List.Elements.{All-append, All-nil, All-cons}
 use Rattle.bk_val.specs.ValueType.{ValueType, enum_type, pair_type, set_type}
 use Rattle.bk_form.specs.Table.{Table, SetEntry, VariableEntry, lists_type}
-use Rattle.bk_raw.specs.WrittenType.{WrittenType, written_integer, written_bool, written_set, written_power, written_product}
+use Rattle.bk_raw.specs.Trees.WrittenType.{WrittenType, written_integer, written_bool, written_set, written_power, written_product}
 use Rattle.bk_raw.specs.declared.script.RawTyped.{RawTyped}
-use Rattle.bk_raw.specs.Printed.{type_read, power_of, product_of}
-use Rattle.bk_raw.specs.Names.{found}
-use Rattle.bk_raw.specs.ScopeReading.{ScopeNames, names_in, last_from}
+use Rattle.bk_raw.specs.Meaning.Printed.{type_read, power_of, product_of}
+use Rattle.bk_raw.specs.Meaning.Names.{found}
+use Rattle.bk_raw.specs.Meaning.ScopeReading.{ScopeNames, names_in, last_from}
 use Rattle.bk_ground.specs.Brought.{entry_for, type_of, type_in, type_scope, new_names}
 use Rattle.bk_ground.specs.Finding.{in_set, set_or, set_among}
 use Rattle.bk_ground.specs.Laws.{WidenedIsWellFormed}

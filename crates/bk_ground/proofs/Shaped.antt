@@ -2,7 +2,7 @@
 use Rattle.std.proofs.Common.{◌≡◌, List, [], ◌∷◌, map, refl, sym, subst}
 use Rattle.std.specs.Prelude.{Option, MatchOption, IsSomeAnd, Some, None}
 use Rattle.std.specs.Option.{option_map}
-use Rattle.bk_raw.specs.ScriptTree.{RulePart}
+use Rattle.bk_raw.specs.Trees.ScriptTree.{RulePart}
 use Rattle.bk_raw.specs.declared.script.RulePart.{RulePart as Part}
 use Rattle.bk_raw.specs.Codes.ScriptView.{part_of}
 use Rattle.bk_ground.specs.Finding.{IsMeaning}

@@ -10,8 +10,8 @@ use Rattle.bk_gsl.specs.Flat.{copied}
 use Rattle.bk_raw.specs.declared.script.NamePart.{NamePart}
 use Rattle.bk_raw.specs.declared.script.RawTyped.{RawTyped}
 use Rattle.bk_raw.specs.declared.script.RuleWord.{RuleWord}
-use Rattle.bk_raw.specs.ScriptTree.{RulePart, RawRule, RawScript}
-use Rattle.bk_raw.specs.ScopeReading.{ScopeNames}
+use Rattle.bk_raw.specs.Trees.ScriptTree.{RulePart, RawRule, RawScript}
+use Rattle.bk_raw.specs.Meaning.ScopeReading.{ScopeNames}
 use Rattle.bk_dev.specs.declared.kind.Home.{Home}
 use Rattle.bk_dev.specs.declared.kind.Home.TheVariants.{Constant, Input, Abstract, Concrete, Inner}
 use Rattle.bk_dev.specs.Development.{Body, Level, Development, blank_body, body_of, extent_at, inputs_of, int_max}

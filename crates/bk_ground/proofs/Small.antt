@@ -6,11 +6,11 @@ use Rattle.std.specs.Global.{Vec}
 use Rattle.std.specs.Fmt.{digits}
 use Rattle.bk_val.specs.ValueType.{int_type, bool_type}
 use Rattle.bk_form.specs.Formula.{variable}
-use Rattle.bk_raw.specs.WrittenType.{written_integer, written_bool, written_set}
-use Rattle.bk_raw.specs.Names.{seen}
+use Rattle.bk_raw.specs.Trees.WrittenType.{written_integer, written_bool, written_set}
+use Rattle.bk_raw.specs.Meaning.Names.{seen}
 use Rattle.bk_raw.specs.declared.script.RawTyped.{RawTyped}
 use Rattle.bk_raw.specs.declared.script.RuleWord.TheVariants.{Fix as FixWord}
-use Rattle.bk_raw.specs.ScriptTree.{part_typed}
+use Rattle.bk_raw.specs.Trees.ScriptTree.{part_typed}
 use Rattle.bk_kernel.specs.declared.rule.Rule.TheVariants.{Fix, Unread}
 use Rattle.bk_kernel.specs.declared.rule.Place.TheVariants.{Goal}
 use Rattle.bk_ground.specs.LawNames.{law_number}

@@ -7,9 +7,9 @@ use Rattle.std.specs.Str.{bytes_eq}
 use Rattle.bk_val.specs.ValueType.{ValueType}
 use Rattle.bk_form.specs.Table.{Table, VariableEntry}
 use Rattle.bk_raw.specs.declared.script.RawTyped.{RawTyped}
-use Rattle.bk_raw.specs.ScriptTree.{RawScript}
-use Rattle.bk_raw.specs.Printed.{type_read}
-use Rattle.bk_raw.specs.ScopeReading.{ScopeNames, names_in}
+use Rattle.bk_raw.specs.Trees.ScriptTree.{RawScript}
+use Rattle.bk_raw.specs.Meaning.Printed.{type_read}
+use Rattle.bk_raw.specs.Meaning.ScopeReading.{ScopeNames, names_in}
 use Rattle.bk_dev.specs.Development.{Development, int_max}
 use Rattle.bk_p_proof.specs.TypedNames.{script_names}
 use Rattle.bk_ground.specs.Sight.{level_of, operation_of, no_variable, outer_scope, parameter_scope}

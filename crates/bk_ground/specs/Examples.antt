@@ -4,15 +4,15 @@ use Rattle.std.specs.Prelude.{◌≡◌, ℕ, List, [], ◌∷◌, ◌++◌, Som
 use Rattle.std.specs.Global.{Vec}
 use Rattle.bk_val.specs.ValueType.{int_type}
 use Rattle.bk_form.specs.Formula.{variable}
-use Rattle.bk_raw.specs.WrittenType.{WrittenType, written_integer, written_bool, written_set, written_power}
+use Rattle.bk_raw.specs.Trees.WrittenType.{WrittenType, written_integer, written_bool, written_set, written_power}
 use Rattle.bk_raw.specs.declared.script.NamePart.{NamePart}
 use Rattle.bk_raw.specs.declared.script.NamePart.TheVariants.{Letters, Numeral}
 use Rattle.bk_raw.specs.declared.script.RawTyped.{RawTyped}
 use Rattle.bk_raw.specs.declared.script.RuleWord.{RuleWord}
 use Rattle.bk_raw.specs.declared.script.RuleWord.TheVariants.{Hyp as HypWord, Fix as FixWord, Law as LawWord}
-use Rattle.bk_raw.specs.ScriptTree.{RawRule, RawScript, RulePart, part_number, part_typed, part_law, part_place, in_goal}
-use Rattle.bk_raw.specs.ScopeReading.{names_in}
-use Rattle.bk_raw.specs.Names.{found, unseen, seen}
+use Rattle.bk_raw.specs.Trees.ScriptTree.{RawRule, RawScript, RulePart, part_number, part_typed, part_law, part_place, in_goal}
+use Rattle.bk_raw.specs.Meaning.ScopeReading.{names_in}
+use Rattle.bk_raw.specs.Meaning.Names.{found, unseen, seen}
 use Rattle.bk_dev.specs.Development.{Development}
 use Rattle.bk_dev.specs.declared.kind.Home.TheVariants.{Constant, Input}
 use Rattle.bk_dev.specs.Counter.{counter}

@@ -4,7 +4,7 @@ use Rattle.std.specs.List.{AllZip}
 use Rattle.bk_form.specs.Table.{Table}
 use Rattle.bk_raw.specs.declared.script.RuleWord.{RuleWord}
 use Rattle.bk_raw.specs.declared.script.RuleWord.TheVariants.{Hyp as HypWord, True as TrueWord, Same as SameWord, Eval as EvalWord, False as FalseWord, Absurd as AbsurdWord, And as AndWord, Iff as IffWord, Imp as ImpWord, Not as NotWord, Left as LeftWord, Right as RightWord, Or as OrWord, Contra as ContraWord, Fix as FixWord, UseTerms as UseWord, Split as SplitWord, Cases as CasesWord, Apply as ApplyWord, Inst as InstWord, OpenSome as OpenWord, Cut as CutWord, Case as CaseWord, Drop as DropWord, Eq as EqWord, Qe as QeWord, Law as LawWord, Wal as WalWord, TypeOf as TypeWord, Neg as NegWord, Mem as MemWord, Val as ValWord, Ext as ExtWord, Sub as SubWord, Ex as ExWord, Pair as PairWord, Elems as ElemsWord, Interval as IntervalWord, Induct as InductWord, Poly as PolyWord, Lin as LinWord}
-use Rattle.bk_raw.specs.ScriptTree.{RulePart, RawRule, RawScript}
+use Rattle.bk_raw.specs.Trees.ScriptTree.{RulePart, RawRule, RawScript}
 use Rattle.bk_kernel.specs.declared.rule.Rule.{Rule}
 use Rattle.bk_kernel.specs.declared.rule.Rule.TheVariants.{Hyp, True, Same, Eval, False, Absurd, And, Iff, Imp, Not, Left, Right, Or, Contra, Fix, UseTerms, Split, Cases, Apply, Inst, OpenSome, Cut, Case, Drop, Eq, Qe, Law, Wal, TypeOf, Neg, Mem, Val, Ext, Sub, Ex, Pair, Elems, Interval, Induct, Poly, Lin, Unread}
 use Rattle.bk_dev.specs.Development.{Development}

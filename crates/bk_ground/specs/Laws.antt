@@ -5,7 +5,7 @@ use Rattle.bk_form.specs.Wider.{IsWider}
 use Rattle.bk_seq.specs.Sequents.{Sequent}
 use Rattle.bk_kernel.specs.Rules.{makes}
 use Rattle.bk_kernel.specs.declared.rule.Rule.{Rule}
-use Rattle.bk_raw.specs.ScriptTree.{RawRule, RawScript}
+use Rattle.bk_raw.specs.Trees.ScriptTree.{RawRule, RawScript}
 use Rattle.bk_dev.specs.Development.{Development}
 use Rattle.bk_ground.specs.Brought.{widened}
 use Rattle.bk_ground.specs.Parts.{Around}

@@ -5,13 +5,13 @@ use Rattle.std.specs.Global.{Vec}
 use Rattle.bk_val.specs.ValueType.{ValueType}
 use Rattle.bk_form.specs.Formula.{Formula, variable}
 use Rattle.bk_form.specs.Table.{Table}
-use Rattle.bk_raw.specs.RawTree.{RawTree}
+use Rattle.bk_raw.specs.Trees.RawTree.{RawTree}
 use Rattle.bk_raw.specs.declared.script.RawMultiple.{RawMultiple}
 use Rattle.bk_raw.specs.declared.script.RawTyped.{RawTyped}
-use Rattle.bk_raw.specs.ScriptTree.{RawPlace, in_goal, in_hypothesis, RawLine, multiples, quotient, RulePart, part_number, part_term, part_terms, part_place, part_no_place, part_typed, part_law, part_certificate}
-use Rattle.bk_raw.specs.Names.{found, seen}
-use Rattle.bk_raw.specs.Printed.{type_read}
-use Rattle.bk_raw.specs.ScopeReading.{ScopeNames, names_in, formula_in}
+use Rattle.bk_raw.specs.Trees.ScriptTree.{RawPlace, in_goal, in_hypothesis, RawLine, multiples, quotient, RulePart, part_number, part_term, part_terms, part_place, part_no_place, part_typed, part_law, part_certificate}
+use Rattle.bk_raw.specs.Meaning.Names.{found, seen}
+use Rattle.bk_raw.specs.Meaning.Printed.{type_read}
+use Rattle.bk_raw.specs.Meaning.ScopeReading.{ScopeNames, names_in, formula_in}
 use Rattle.bk_lin.specs.declared.fact.Line.{Line}
 use Rattle.bk_lin.specs.declared.fact.Line.TheVariants.{Sum, Div}
 use Rattle.bk_kernel.specs.declared.rule.Place.{Place}

@@ -3,7 +3,7 @@ use Rattle.std.specs.Prelude.{◌≡◌, ◌<◌, ◌^◌, ◌++◌, List, lengt
 use Rattle.bk_val.specs.ValueType.{ValueType}
 use Rattle.bk_form.specs.Table.{Table}
 use Rattle.bk_raw.specs.declared.script.RawTyped.{RawTyped}
-use Rattle.bk_raw.specs.ScopeReading.{ScopeNames}
+use Rattle.bk_raw.specs.Meaning.ScopeReading.{ScopeNames}
 use Rattle.bk_ground.specs.Brought.{widened_by, numbered}
 
 -- the names are added, with a variable for each that has a type

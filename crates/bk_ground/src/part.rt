@@ -3,7 +3,7 @@
 ghost use Rattle.std.specs.Prelude.{IfOk, map};
 ghost use Rattle.std.specs.List.{AllZip};
 ghost use Rattle.bk_raw.specs.Codes.ScriptView.{place_of, line_of, part_of};
-ghost use Rattle.bk_raw.specs.ScriptTree as meant;
+ghost use Rattle.bk_raw.specs.Trees.ScriptTree as meant;
 ghost use Rattle.bk_ground.specs.Finding.{IsMeaning};
 ghost use Rattle.bk_ground.specs.Parts.{NumberMeans, NumbersMean, PlaceMeans, MultipleMeans, LineMeans, NumberPart, TermPart, TermsPart, NamesPart, PlacePart, PerhapsPart, LawPart, CertificatePart};
 ghost use Rattle.bk_ground.specs.Reading.{around_of};

@@ -6,12 +6,12 @@ use Rattle.bk_form.specs.Role.{bind}
 use Rattle.bk_gsl.specs.State.{firsts}
 use Rattle.bk_raw.specs.declared.substitution.RawBranch.{RawBranch}
 use Rattle.bk_raw.specs.declared.term.RawName.{RawName}
-use Rattle.bk_raw.specs.Names.{Names}
-use Rattle.bk_raw.specs.RawTree.{RawTree, RawTrees, no_trees, tree_and, trees_of}
-use Rattle.bk_raw.specs.SubTree.{SubTree}
+use Rattle.bk_raw.specs.Meaning.Names.{Names}
+use Rattle.bk_raw.specs.Trees.RawTree.{RawTree, RawTrees, no_trees, tree_and, trees_of}
+use Rattle.bk_raw.specs.Trees.SubTree.{SubTree}
 use Rattle.bk_raw.specs.Codes.SubView.{choices_of}
-use Rattle.bk_raw.specs.Blame.{blame, earlier}
-use Rattle.bk_raw.specs.Faults.{Fault, wrong_write}
+use Rattle.bk_raw.specs.Errors.Blame.{blame, earlier}
+use Rattle.bk_raw.specs.Errors.Faults.{Fault, wrong_write}
 use Rattle.bk_level.specs.Binders.{binder_count}
 use Rattle.bk_level.specs.Typings.{Typing, target, type_at, numbered}
 use Rattle.bk_level.specs.SubFaults.{term_faults, predicate_faults, assign_faults, writable_within, sub_faults, shared_faults}

@@ -3,11 +3,11 @@ use Rattle.std.specs.Prelude.{ℕ, zero, suc, ◌+◌, List, [], ◌∷◌, ◌+
 use Rattle.bk_val.specs.ValueType.{ValueType}
 use Rattle.bk_form.specs.Role.{bind}
 use Rattle.bk_raw.specs.declared.term.RawName.{RawName}
-use Rattle.bk_raw.specs.RawTree.{RawTree, RawTrees, no_trees, tree_and}
-use Rattle.bk_raw.specs.SubTree.{SubTree, SubNode, sub_assign_at, sub_member, sub_such, sub_while, sub_parallel, Branches, Choices}
-use Rattle.bk_raw.specs.Names.{Names}
-use Rattle.bk_raw.specs.Binders.{twice}
-use Rattle.bk_raw.specs.Faults.{Fault, wrong_write}
+use Rattle.bk_raw.specs.Trees.RawTree.{RawTree, RawTrees, no_trees, tree_and}
+use Rattle.bk_raw.specs.Trees.SubTree.{SubTree, SubNode, sub_assign_at, sub_member, sub_such, sub_while, sub_parallel, Branches, Choices}
+use Rattle.bk_raw.specs.Meaning.Names.{Names}
+use Rattle.bk_raw.specs.Meaning.Binders.{twice}
+use Rattle.bk_raw.specs.Errors.Faults.{Fault, wrong_write}
 use Rattle.bk_elab.specs.Visible.{typing_of, visible_names}
 use Rattle.bk_level.specs.Typings.{Typing, numbered, target, type_at}
 use Rattle.bk_level.specs.SubFaults.{predicate_faults, term_faults, declared_faults, writable_within, sub_faults, node_faults, branches_faults, choices_faults}

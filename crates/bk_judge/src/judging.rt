@@ -3,11 +3,11 @@
 ghost use Rattle.std.specs.Option.{option_copied};
 ghost use Rattle.std.specs.Prelude.{◌≡◌, ◌≢◌, ◌+◌, ◌∷◌, ◌++◌, [], cond, drop, IfOk, MatchOption};
 ghost use Rattle.bk_val.specs.ValueType.{ValueType, pair_type, set_type};
-ghost use Rattle.bk_raw.specs.Outcome as wanted;
-ghost use Rattle.bk_raw.specs.RawTree.{trees_of};
-ghost use Rattle.bk_raw.specs.SubTree.{sub_assign};
+ghost use Rattle.bk_raw.specs.Meaning.Outcome as wanted;
+ghost use Rattle.bk_raw.specs.Trees.RawTree.{trees_of};
+ghost use Rattle.bk_raw.specs.Trees.SubTree.{sub_assign};
 ghost use Rattle.bk_raw.specs.Codes.SubView.{choices_of};
-ghost use Rattle.bk_raw.specs.Blame.{blame};
+ghost use Rattle.bk_raw.specs.Errors.Blame.{blame};
 ghost use Rattle.bk_elab.specs.Shown.{told};
 ghost use Rattle.bk_elab.specs.Visible.{typing_of, visible_names};
 ghost use Rattle.bk_judge.specs.Judged.{faults_by, branches_by, choices_by, binder_by, loop_by, parallel_by, condition_by, paired_by, unpaired_by, element_by, member_by, such_by, term_by, node_by};

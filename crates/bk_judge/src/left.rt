@@ -5,8 +5,8 @@ ghost use Rattle.std.specs.Prelude.{◌≡◌, ◌+◌, ◌++◌, ◌∷◌, [],
 ghost use Rattle.bk_form.specs.Role.{bind};
 ghost use Rattle.bk_gsl.specs.State.{among};
 ghost use Rattle.bk_raw.specs.Codes.SubView.{choices_of};
-ghost use Rattle.bk_raw.specs.Blame.{blame};
-ghost use Rattle.bk_raw.specs.Faults.{wrong_write};
+ghost use Rattle.bk_raw.specs.Errors.Blame.{blame};
+ghost use Rattle.bk_raw.specs.Errors.Faults.{wrong_write};
 ghost use Rattle.bk_elab.specs.Shown.{told};
 ghost use Rattle.bk_elab.specs.Visible.{visible_names};
 ghost use Rattle.bk_sight.specs.Shown.{branches_shown, target_shown};

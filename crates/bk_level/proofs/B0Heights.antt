@@ -1,11 +1,11 @@
 -- The initialisation and the operations of a component are no higher than the component, and bodies of B0 have no precondition.
 use Rattle.std.proofs.Common.{◌≡◌, ◌⊎◌, inl, inr, ℕ, ◌≤◌, List, [], ◌∷◌, ◌++◌, map, max, refl, subst, Bool, true, false, cond, arith}
 use Rattle.std.specs.Prelude.{Option, None, Some, ℤ}
-use Rattle.bk_raw.specs.Numbers.{greatest}
+use Rattle.bk_raw.specs.Trees.Numbers.{greatest}
 use Rattle.bk_raw.specs.declared.component.ClauseWord.TheVariants.{Initialisation, Operations}
-use Rattle.bk_raw.specs.SubTree.{SubTree, sub, sub_begin, sub_pre, sub_height}
-use Rattle.bk_raw.specs.ComponentTree.{RawOperation, RawClause, RawComponent, ClauseParts, clause_sets, clause_names, clause_term, clause_terms, clause_values, clause_sub, clause_operations, parts_height, component_height}
-use Rattle.bk_raw.specs.Names.{Names}
+use Rattle.bk_raw.specs.Trees.SubTree.{SubTree, sub, sub_begin, sub_pre, sub_height}
+use Rattle.bk_raw.specs.Trees.ComponentTree.{RawOperation, RawClause, RawComponent, ClauseParts, clause_sets, clause_names, clause_term, clause_terms, clause_values, clause_sub, clause_operations, parts_height, component_height}
+use Rattle.bk_raw.specs.Meaning.Names.{Names}
 use Rattle.bk_level.specs.Components.{component_of, is_clause, if_clause, listed, stated, or_next, substitution_in, operations_in, initialisation, outermost, inner_body}
 use Rattle.bk_level.specs.Typings.{Typing}
 use Rattle.bk_level.specs.Elaborated.{elaborated}

@@ -17,15 +17,15 @@ use Rattle.bk_dev.specs.Facts.{IsLawful, IsDevelopment}
 use Rattle.bk_dev.specs.B0.{IsScalarName, IsArrayName, IsDeclaredDomain, IsB0, EvaluatesShallow, IsB0Body, IsB0Development}
 use Rattle.bk_raw.specs.declared.component.ComponentKind.TheVariants.{Implementation}
 use Rattle.bk_raw.specs.declared.term.RawName.{RawName}
-use Rattle.bk_raw.specs.ComponentTree.{RawOperation, RawComponent}
-use Rattle.bk_raw.specs.SubTree.{sub_height}
-use Rattle.bk_raw.specs.Limits.{IsLowComponent}
-use Rattle.bk_raw.specs.Names.{Names}
-use Rattle.bk_raw.specs.Binders.{is_text}
-use Rattle.bk_raw.specs.Speaking.{AreTyped}
+use Rattle.bk_raw.specs.Trees.ComponentTree.{RawOperation, RawComponent}
+use Rattle.bk_raw.specs.Trees.SubTree.{sub_height}
+use Rattle.bk_raw.specs.Errors.Limits.{IsLowComponent}
+use Rattle.bk_raw.specs.Meaning.Names.{Names}
+use Rattle.bk_raw.specs.Meaning.Binders.{is_text}
+use Rattle.bk_raw.specs.Meaning.Speaking.{AreTyped}
 use Rattle.bk_raw.proofs.Filled.{and-both}
 use Rattle.bk_raw.proofs.RulesFit.{none-left, none-right}
-use Rattle.bk_raw.specs.Faults.{Fault}
+use Rattle.bk_raw.specs.Errors.Faults.{Fault}
 use Rattle.bk_level.specs.Components.{WrittenVariable, Component, component_of, kind_as, is_machine, initialisation, operation_names, abstract_names}
 use Rattle.bk_level.specs.Typings.{Typing, or_else, interval, typed, variable_named}
 use Rattle.bk_level.specs.Binders.{binder_count, texts}

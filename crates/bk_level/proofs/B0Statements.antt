@@ -22,18 +22,18 @@ use Rattle.bk_raw.specs.declared.operator.Constant.{Constant}
 use Rattle.bk_raw.specs.declared.operator.Constant.TheVariants.{True, False, MaxInt, MinInt}
 use Rattle.bk_raw.specs.declared.operator.InfixOp.TheVariants.{Times}
 use Rattle.bk_raw.specs.declared.term.RawName.{RawName}
-use Rattle.bk_raw.specs.RawTree.{RawTree, raw, raw_name, raw_number, raw_constant, raw_infix, raw_extension, no_trees, tree_and, tree_height}
-use Rattle.bk_raw.specs.SubTree.{SubTree, sub, SubNode, sub_skip, sub_assign, sub_assign_at, sub_begin, sub_assert, sub_if, sub_var, sub_while, sub_sequence, Branches, no_branches, else_branch, branch_and, sub_height, sub_node_height, branches_height}
+use Rattle.bk_raw.specs.Trees.RawTree.{RawTree, raw, raw_name, raw_number, raw_constant, raw_infix, raw_extension, no_trees, tree_and, tree_height}
+use Rattle.bk_raw.specs.Trees.SubTree.{SubTree, sub, SubNode, sub_skip, sub_assign, sub_assign_at, sub_begin, sub_assert, sub_if, sub_var, sub_while, sub_sequence, Branches, no_branches, else_branch, branch_and, sub_height, sub_node_height, branches_height}
 use Rattle.std.specs.Str.{bytes_eq}
-use Rattle.bk_raw.specs.Names.{Names, Meaning, local, global, set_name, element_name, nothing, Sight, unseen, untyped_name, seen, found}
-use Rattle.bk_raw.specs.Outcome.{no_type, whole, hollow, single_of, pair_of, joint_of, filled, where_holds, Outcome, partial, ranging, holding, silent, Reading, silently, ask, ask_domain, ask_predicate, fitting}
-use Rattle.bk_raw.specs.OperatorReadings.{int_min, constant_reading, times, single_reading}
-use Rattle.bk_raw.specs.Binders.{twice, has_type}
-use Rattle.bk_raw.specs.Speaking.{Fits, HasType, AreTyped}
-use Rattle.bk_raw.specs.TermReading.{place_of, is_predicate, is_alike, part, name_reading, reading}
+use Rattle.bk_raw.specs.Meaning.Names.{Names, Meaning, local, global, set_name, element_name, nothing, Sight, unseen, untyped_name, seen, found}
+use Rattle.bk_raw.specs.Meaning.Outcome.{no_type, whole, hollow, single_of, pair_of, joint_of, filled, where_holds, Outcome, partial, ranging, holding, silent, Reading, silently, ask, ask_domain, ask_predicate, fitting}
+use Rattle.bk_raw.specs.Meaning.OperatorReadings.{int_min, constant_reading, times, single_reading}
+use Rattle.bk_raw.specs.Meaning.Binders.{twice, has_type}
+use Rattle.bk_raw.specs.Meaning.Speaking.{Fits, HasType, AreTyped}
+use Rattle.bk_raw.specs.Meaning.TermReading.{place_of, is_predicate, is_alike, part, name_reading, reading}
 use Rattle.bk_raw.proofs.ReadingFits.{reading-speaks}
 use Rattle.bk_raw.proofs.RulesFit.{none-left, none-right, some-fault}
-use Rattle.bk_raw.specs.Faults.{Fault, unknown_name, without_type, not_predicate, wrong_write}
+use Rattle.bk_raw.specs.Errors.Faults.{Fault, unknown_name, without_type, not_predicate, wrong_write}
 use Rattle.bk_level.specs.Typings.{or_else, interval, numbered, with_type, typed, target_in, Target, unknown, no_variable, variable_target, target, as_number, number_of, type_at, is_variable, predicate_read, outcome_of, term_read}
 use Rattle.bk_level.specs.Binders.{binder_count}
 use Rattle.bk_level.specs.Elaborated.{with_pair, paired_as, assigned_pairs, overridden, put_read, elaborated, elaborated_node, else_part}

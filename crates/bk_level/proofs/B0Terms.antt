@@ -18,13 +18,13 @@ use Rattle.bk_raw.specs.declared.operator.InfixOp.TheVariants.{Equivalent, Impli
 use Rattle.bk_raw.specs.declared.operator.WordOp.TheVariants.{Not, BoolOf, Succ, Pred}
 use Rattle.bk_raw.specs.declared.operator.Constant.{Constant}
 use Rattle.bk_raw.specs.declared.operator.Constant.TheVariants.{True, False, MaxInt, MinInt}
-use Rattle.bk_raw.specs.RawTree.{RawTree, raw, RawTreeNode, raw_name, raw_number, raw_constant, raw_word, raw_negative, raw_infix, raw_inverse, raw_image, raw_apply, raw_composition, raw_pair, raw_extension, tree_height, node_height}
-use Rattle.bk_raw.specs.Names.{Names, Meaning, local, global, set_name, element_name, nothing, Sight, unseen, untyped_name, seen, found, sight}
-use Rattle.bk_raw.specs.Outcome.{Partial, whole, hollow, single_of, pair_of, joint_of, filled, where_holds, Outcome, partial, ranging, holding, silent, Reading, ask, ask_predicate, fitting, of_answer, of_answers}
-use Rattle.bk_raw.specs.OperatorReadings.{int_min, on_values, constant_reading, calculated, compared, connected, equal, negated, turned, minus, times, apply_reading, stepped}
-use Rattle.bk_raw.specs.TermReading.{place_of, is_predicate, is_alike, part, name_reading, reading, node_reading}
+use Rattle.bk_raw.specs.Trees.RawTree.{RawTree, raw, RawTreeNode, raw_name, raw_number, raw_constant, raw_word, raw_negative, raw_infix, raw_inverse, raw_image, raw_apply, raw_composition, raw_pair, raw_extension, tree_height, node_height}
+use Rattle.bk_raw.specs.Meaning.Names.{Names, Meaning, local, global, set_name, element_name, nothing, Sight, unseen, untyped_name, seen, found, sight}
+use Rattle.bk_raw.specs.Meaning.Outcome.{Partial, whole, hollow, single_of, pair_of, joint_of, filled, where_holds, Outcome, partial, ranging, holding, silent, Reading, ask, ask_predicate, fitting, of_answer, of_answers}
+use Rattle.bk_raw.specs.Meaning.OperatorReadings.{int_min, on_values, constant_reading, calculated, compared, connected, equal, negated, turned, minus, times, apply_reading, stepped}
+use Rattle.bk_raw.specs.Meaning.TermReading.{place_of, is_predicate, is_alike, part, name_reading, reading, node_reading}
 use Rattle.bk_raw.proofs.RulesFit.{none-left, none-right}
-use Rattle.bk_raw.specs.Faults.{Fault, not_predicate}
+use Rattle.bk_raw.specs.Errors.Faults.{Fault, not_predicate}
 use Rattle.bk_level.specs.Typings.{Typing, with_type, typed, target_in, target, as_number, variable_named}
 use Rattle.bk_level.specs.Settled.{IsSettled, StandsIn, AreOf}
 use Rattle.bk_level.specs.ValueFaults.{is_there}

@@ -7,9 +7,9 @@ use Rattle.bk_gsl.specs.State.{among}
 use Rattle.bk_dev.specs.declared.kind.Home.{Home}
 use Rattle.bk_dev.specs.declared.kind.Home.TheVariants.{Constant, Input, Abstract, Concrete, Inner}
 use Rattle.bk_dev.specs.Facts.{is_constant, is_variable_of, home_of, names_own, names_joined}
-use Rattle.bk_raw.specs.Names.{Names}
-use Rattle.bk_raw.specs.Binders.{has_type}
-use Rattle.bk_raw.specs.Speaking.{AreTyped}
+use Rattle.bk_raw.specs.Meaning.Names.{Names}
+use Rattle.bk_raw.specs.Meaning.Binders.{has_type}
+use Rattle.bk_raw.specs.Meaning.Speaking.{AreTyped}
 use Rattle.bk_level.specs.Settled.{AreSeen, IsBelow}
 use Rattle.bk_level.specs.Typings.{Typing, typed}
 use Rattle.bk_level.specs.SubFaults.{declared_faults, sub_faults}
@@ -18,7 +18,7 @@ use Rattle.bk_level.proofs.SubStays.{among-interval, interval-has, seen-more, se
 use Rattle.bk_level.proofs.SubTypes.{inner-typed, elaborated-types}
 use Rattle.bk_level.proofs.SubMay.{elaborated-stays}
 use Rattle.bk_level.specs.Components.{Component}
-use Rattle.bk_raw.specs.ScopeReading.{set_names}
+use Rattle.bk_raw.specs.Meaning.ScopeReading.{set_names}
 use Rattle.bk_level.specs.Above.{constants_from, globals_of}
 use Rattle.bk_level.specs.Plan.{Placed, entries_of, plan, level_names, scope, joined, body_scope}
 use Rattle.bk_level.specs.LevelOf.{types_at, made}

@@ -6,12 +6,12 @@ use Rattle.bk_gsl.specs.State.{among}
 use Rattle.bk_dev.specs.Development.{Level, Development}
 use Rattle.bk_dev.specs.Facts.{binders, AreDistinct}
 use Rattle.bk_raw.specs.declared.term.RawName.{RawName}
-use Rattle.bk_raw.specs.SubTree.{SubTree, sub, SubNode, sub_skip, sub_assign, sub_assign_at, sub_member, sub_such, sub_begin, sub_pre, sub_assert, sub_if, sub_choice, sub_select, sub_any, sub_let, sub_var, sub_while, sub_parallel, sub_sequence, Branches, no_branches, else_branch, branch_and, Choices, no_choices, choice_and}
+use Rattle.bk_raw.specs.Trees.SubTree.{SubTree, sub, SubNode, sub_skip, sub_assign, sub_assign_at, sub_member, sub_such, sub_begin, sub_pre, sub_assert, sub_if, sub_choice, sub_select, sub_any, sub_let, sub_var, sub_while, sub_parallel, sub_sequence, Branches, no_branches, else_branch, branch_and, Choices, no_choices, choice_and}
 use Rattle.bk_level.specs.Binders.{texts, binder_count, count_in, branches_count, choices_count, old_texts, binder_texts, texts_in, branches_texts, choices_texts}
 use Rattle.bk_level.specs.Typings.{Typing, interval}
 use Rattle.bk_level.proofs.Intervals.{interval-join, interval-distinct}
 use Rattle.bk_level.proofs.SubStays.{among-interval}
-use Rattle.bk_raw.specs.ComponentTree.{RawOperation}
+use Rattle.bk_raw.specs.Trees.ComponentTree.{RawOperation}
 use Rattle.bk_level.specs.Components.{Component, is_machine, initialisation}
 use Rattle.bk_level.specs.Plan.{Declared, declared_texts, Headed, Plan, plan, input_count, output_count}
 use Rattle.bk_level.specs.LevelOf.{at_level, input_texts, output_texts, bound_texts, new_texts, entries_from, types_at, level_made}

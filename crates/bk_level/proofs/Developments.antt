@@ -6,7 +6,7 @@ use Rattle.bk_dev.specs.Development.{Development, is_complete, is_implementing, 
 use Rattle.bk_dev.specs.Facts.{IsValue, HasItsValues, IsDevelopment}
 use Rattle.bk_raw.specs.declared.component.ComponentKind.{ComponentKind}
 use Rattle.bk_raw.specs.declared.component.ComponentKind.TheVariants.{Machine, Refinement, Implementation}
-use Rattle.bk_raw.specs.ComponentTree.{RawComponent}
+use Rattle.bk_raw.specs.Trees.ComponentTree.{RawComponent}
 use Rattle.bk_raw.proofs.RulesFit.{none-left, none-right}
 use Rattle.bk_level.specs.Components.{component_of, kind_as, is_machine}
 use Rattle.bk_level.specs.Above.{above_of}

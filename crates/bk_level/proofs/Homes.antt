@@ -6,7 +6,7 @@ use Rattle.bk_dev.specs.declared.kind.Home.TheVariants.{Constant, Input, Abstrac
 use Rattle.bk_dev.specs.Development.{Development}
 use Rattle.bk_dev.specs.Facts.{home_of}
 use Rattle.bk_level.specs.Binders.{binder_count, binder_texts}
-use Rattle.bk_raw.specs.ComponentTree.{RawOperation}
+use Rattle.bk_raw.specs.Trees.ComponentTree.{RawOperation}
 use Rattle.bk_level.specs.Components.{Component, is_machine, initialisation}
 use Rattle.bk_level.specs.Plan.{output_count, input_count, Plan, plan, Declared}
 use Rattle.bk_level.specs.LevelOf.{homes_as, variable_homes, new_homes, new_texts, input_texts, output_texts, bound_texts, entries_from, types_at, made}

@@ -10,11 +10,11 @@ use Rattle.bk_form.specs.Role.{bind}
 use Rattle.bk_gsl.specs.State.{among}
 use Rattle.bk_dev.specs.Facts.{binders, seconds, AreDistinct}
 use Rattle.bk_raw.specs.declared.term.RawName.{RawName}
-use Rattle.bk_raw.specs.RawTree.{RawTree}
-use Rattle.bk_raw.specs.Names.{Names}
-use Rattle.bk_raw.specs.Outcome.{ask_domain}
+use Rattle.bk_raw.specs.Trees.RawTree.{RawTree}
+use Rattle.bk_raw.specs.Meaning.Names.{Names}
+use Rattle.bk_raw.specs.Meaning.Outcome.{ask_domain}
 use Rattle.bk_gsl.specs.Substitution.{Substitution, guard, choice}
-use Rattle.bk_raw.specs.SubTree.{SubTree, sub, SubNode, sub_skip, sub_assign, sub_assign_at, sub_member, sub_such, sub_begin, sub_pre, sub_assert, sub_if, sub_choice, sub_select, sub_any, sub_let, sub_var, sub_while, sub_parallel, sub_sequence, Branches, no_branches, else_branch, branch_and, Choices, no_choices, choice_and}
+use Rattle.bk_raw.specs.Trees.SubTree.{SubTree, sub, SubNode, sub_skip, sub_assign, sub_assign_at, sub_member, sub_such, sub_begin, sub_pre, sub_assert, sub_if, sub_choice, sub_select, sub_any, sub_let, sub_var, sub_while, sub_parallel, sub_sequence, Branches, no_branches, else_branch, branch_and, Choices, no_choices, choice_and}
 use Rattle.bk_level.specs.Typings.{Typing, interval, numbered, predicate_read, target, number_of, type_at, term_read, outcome_of}
 use Rattle.bk_level.specs.Binders.{binder_count, count_in, branches_count, choices_count}
 use Rattle.bk_level.specs.Elaborated.{else_part, choices, selected, overridden, put_read, all_one_type, chosen_where, chosen_in, old_pairs, elaborated, elaborated_node}

@@ -2,9 +2,9 @@
 use Rattle.std.proofs.Common.{◌≡◌, ℕ, List, [], ◌∷◌, ◌++◌, refl, Bool, true, false, cond}
 use Rattle.bk_gsl.specs.State.{among}
 use Rattle.bk_raw.specs.declared.term.RawName.{RawName}
-use Rattle.bk_raw.specs.Names.{Names}
+use Rattle.bk_raw.specs.Meaning.Names.{Names}
 use Rattle.bk_raw.proofs.RulesFit.{none-left, none-right, some-fault}
-use Rattle.bk_raw.specs.Faults.{Fault, unknown_name, wrong_write}
+use Rattle.bk_raw.specs.Errors.Faults.{Fault, unknown_name, wrong_write}
 use Rattle.bk_level.specs.Typings.{Target, unknown, no_variable, variable_target, target, number_of}
 use Rattle.bk_level.specs.SubFaults.{target_faults, writable_faults, is_again, with_target, left_faults}
 

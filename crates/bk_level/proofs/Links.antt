@@ -11,10 +11,10 @@ use Rattle.bk_dev.specs.declared.kind.Home.TheVariants.{Constant, Input, Abstrac
 use Rattle.bk_dev.specs.Development.{level_at, last, Development}
 use Rattle.bk_dev.specs.Facts.{is_variable_of, is_variable_above, home_of}
 use Rattle.bk_raw.specs.declared.term.RawName.{RawName}
-use Rattle.bk_raw.specs.RawTree.{RawTree}
-use Rattle.bk_raw.specs.Names.{Names, Meaning, local, global, set_name, element_name, nothing}
+use Rattle.bk_raw.specs.Trees.RawTree.{RawTree}
+use Rattle.bk_raw.specs.Meaning.Names.{Names, Meaning, local, global, set_name, element_name, nothing}
 use Rattle.bk_level.specs.Settled.{AreSeen, IsSeen}
-use Rattle.bk_raw.specs.Binders.{is_text}
+use Rattle.bk_raw.specs.Meaning.Binders.{is_text}
 use Rattle.bk_level.specs.Typings.{Typing, Target, target, target_in, as_number, as_variable, variable_named}
 use Rattle.bk_level.specs.Ways.{Way, same_as, given_by, or_no_way, way_at, next_types, rounds, ways, ways_by}
 use Rattle.bk_val.specs.ValueType.{ValueType}

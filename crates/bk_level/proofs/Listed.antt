@@ -6,12 +6,12 @@ use Rattle.bk_val.specs.ValueType.{ValueType}
 use Rattle.bk_form.specs.Formula.{Formula}
 use Rattle.bk_form.specs.Role.{bind}
 use Rattle.bk_form.specs.Table.{Table, VariableEntry, variable_type, lists_type}
-use Rattle.bk_raw.specs.RawTree.{RawTree, raw, raw_infix}
-use Rattle.bk_raw.specs.Names.{Names, Meaning, local, global, set_name, element_name, nothing, Agree}
-use Rattle.bk_raw.specs.Outcome.{ask_value, ask_domain}
-use Rattle.bk_raw.specs.Binders.{Bound, bound_names, inside, types_of, second, or_bool}
-use Rattle.bk_raw.specs.TermReading.{reading, clues, name_of}
-use Rattle.bk_raw.specs.RightReading.{Whenever}
+use Rattle.bk_raw.specs.Trees.RawTree.{RawTree, raw, raw_infix}
+use Rattle.bk_raw.specs.Meaning.Names.{Names, Meaning, local, global, set_name, element_name, nothing, Agree}
+use Rattle.bk_raw.specs.Meaning.Outcome.{ask_value, ask_domain}
+use Rattle.bk_raw.specs.Meaning.Binders.{Bound, bound_names, inside, types_of, second, or_bool}
+use Rattle.bk_raw.specs.Meaning.TermReading.{reading, clues, name_of}
+use Rattle.bk_raw.specs.Meaning.RightReading.{Whenever}
 use Rattle.bk_level.specs.Settled.{IsSettled, StandsIn, AreOf}
 use Rattle.bk_level.specs.Typings.{Typing, typed, outcome_of}
 use Rattle.bk_level.specs.Ways.{Way, no_way, by_term, by_domain, by_conjuncts, same_as, bound_type, given_by, way_at, next_types, rounds, settled}

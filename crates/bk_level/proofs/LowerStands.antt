@@ -15,7 +15,7 @@ use Rattle.bk_dev.proofs.FlatLevels.{passes-within}
 use Rattle.bk_dev.proofs.Levels.{last_level}
 use Rattle.bk_dev.proofs.Staying.{all-at}
 use Rattle.bk_raw.specs.declared.component.ClauseWord.TheVariants.{Values}
-use Rattle.bk_raw.specs.ComponentTree.{RawComponent}
+use Rattle.bk_raw.specs.Trees.ComponentTree.{RawComponent}
 use Rattle.bk_raw.proofs.RulesFit.{none-left, none-right}
 use Rattle.bk_level.specs.Components.{Component, component_of, kind_as, is_machine, values_in, listed as clause_list}
 use Rattle.bk_level.specs.Settled.{AreSeen}

@@ -13,9 +13,9 @@ use Rattle.bk_dev.proofs.FlatLevels.{passes-within}
 use Rattle.bk_dev.proofs.Staying.{all-at}
 use Rattle.bk_dev.proofs.Levels.{level_fact}
 use Rattle.bk_raw.specs.declared.term.RawName.{RawName}
-use Rattle.bk_raw.specs.ComponentTree.{RawOperation}
-use Rattle.bk_raw.specs.Names.{Names}
-use Rattle.bk_raw.specs.Binders.{is_text, twice}
+use Rattle.bk_raw.specs.Trees.ComponentTree.{RawOperation}
+use Rattle.bk_raw.specs.Meaning.Names.{Names}
+use Rattle.bk_raw.specs.Meaning.Binders.{is_text, twice}
 use Rattle.bk_raw.proofs.Filled.{and-both}
 use Rattle.bk_raw.proofs.RulesFit.{none-left, none-right}
 use Rattle.bk_level.specs.Components.{Component, is_machine, initialisation, inner_body, set_names, abstract_names, operation_names}

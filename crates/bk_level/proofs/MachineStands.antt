@@ -12,11 +12,11 @@ use Rattle.bk_dev.specs.Development.{Development, is_complete, is_implementing}
 use Rattle.bk_dev.specs.Facts.{IsKindAt, IsValue, HasItsValues, IsDevelopment}
 use Rattle.bk_dev.specs.Flattened.{copied_in_levels, flattened}
 use Rattle.bk_raw.specs.declared.component.ClauseWord.TheVariants.{Values}
-use Rattle.bk_raw.specs.ComponentTree.{RawSet, RawComponent}
-use Rattle.bk_raw.specs.Outcome.{no_type}
+use Rattle.bk_raw.specs.Trees.ComponentTree.{RawSet, RawComponent}
+use Rattle.bk_raw.specs.Meaning.Outcome.{no_type}
 use Rattle.bk_raw.specs.declared.term.RawName.{RawName}
 use Rattle.bk_raw.proofs.RulesFit.{none-left, none-right, some-fault}
-use Rattle.bk_raw.specs.Faults.{Fault, without_type}
+use Rattle.bk_raw.specs.Errors.Faults.{Fault, without_type}
 use Rattle.bk_level.specs.Components.{Component, component_of, kind_as, is_machine, values_in, listed as clause_list}
 use Rattle.bk_level.specs.Binders.{texts}
 use Rattle.bk_level.specs.Above.{no_development}

@@ -11,11 +11,11 @@ use Rattle.bk_dev.specs.declared.kind.Home.TheVariants.{Input}
 use Rattle.bk_dev.specs.Development.{Head, Body, Development}
 use Rattle.bk_dev.specs.Facts.{MayStandIn, AllAre, AreDistinct, is_input, home_of, AreAlike, AllAlike, EachBody, IsHeadOf}
 use Rattle.bk_raw.specs.declared.term.RawName.{RawName}
-use Rattle.bk_raw.specs.ComponentTree.{RawOperation}
-use Rattle.bk_raw.specs.Outcome.{no_type}
-use Rattle.bk_raw.specs.Binders.{has_type}
+use Rattle.bk_raw.specs.Trees.ComponentTree.{RawOperation}
+use Rattle.bk_raw.specs.Meaning.Outcome.{no_type}
+use Rattle.bk_raw.specs.Meaning.Binders.{has_type}
 use Rattle.bk_raw.proofs.RulesFit.{none-left, none-right, some-fault}
-use Rattle.bk_raw.specs.Faults.{Fault, without_type}
+use Rattle.bk_raw.specs.Errors.Faults.{Fault, without_type}
 use Rattle.bk_level.specs.Components.{Component, is_machine, initialisation, inner_body}
 use Rattle.bk_level.specs.Settled.{AreOf, AreSeen, IsSettled}
 use Rattle.bk_level.specs.Typings.{Typing, interval, numbered}

@@ -10,7 +10,7 @@ use Rattle.bk_dev.specs.declared.kind.Home.{Home}
 use Rattle.bk_dev.specs.Development.{Level, Development, level_at, blank_level}
 use Rattle.bk_dev.specs.Facts.{AllAre, LoopsStandIn, binders, is_variable_of, is_variable_above, is_inner_of, home_of, AreAlike, IsLink, IsSubOf, IsKindAt, HomesAreThere}
 use Rattle.bk_raw.proofs.RulesFit.{none-left, none-right}
-use Rattle.bk_raw.specs.Faults.{Fault}
+use Rattle.bk_raw.specs.Errors.Faults.{Fault}
 use Rattle.bk_level.specs.Components.{Component, is_machine, initialisation}
 use Rattle.bk_level.specs.Typings.{interval}
 use Rattle.bk_level.specs.Binders.{binder_count}

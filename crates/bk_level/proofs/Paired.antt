@@ -9,13 +9,13 @@ use Rattle.bk_gsl.specs.State.{among}
 use Rattle.bk_dev.specs.declared.kind.Kind.{Kind}
 use Rattle.bk_dev.specs.Development.{Head, Development}
 use Rattle.bk_raw.specs.declared.term.RawName.{RawName}
-use Rattle.bk_raw.specs.ComponentTree.{RawOperation}
-use Rattle.bk_raw.specs.Names.{Names}
-use Rattle.bk_raw.specs.Binders.{is_text, twice}
+use Rattle.bk_raw.specs.Trees.ComponentTree.{RawOperation}
+use Rattle.bk_raw.specs.Meaning.Names.{Names}
+use Rattle.bk_raw.specs.Meaning.Binders.{is_text, twice}
 use Rattle.bk_raw.proofs.BoundNames.{either}
 use Rattle.bk_raw.proofs.Filled.{and-both}
 use Rattle.bk_raw.proofs.RulesFit.{none-left, none-right, some-fault}
-use Rattle.bk_raw.specs.Faults.{Fault, twice_named, wrong_operation}
+use Rattle.bk_raw.specs.Errors.Faults.{Fault, twice_named, wrong_operation}
 use Rattle.bk_level.specs.Components.{first_token, operation_names}
 use Rattle.bk_level.specs.Settled.{AreOf, AreSeen}
 use Rattle.bk_level.specs.Typings.{or_else, as_variable, as_number, variable_target, target, variable_named}

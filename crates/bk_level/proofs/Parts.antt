@@ -11,13 +11,13 @@ use Rattle.bk_gsl.specs.Typed.{Types}
 use Rattle.bk_dev.specs.Facts.{Names as NamesOnly, StaysIn}
 use Rattle.bk_dev.specs.declared.kind.Kind.{Kind}
 use Rattle.bk_raw.specs.declared.term.RawName.{RawName}
-use Rattle.bk_raw.specs.SubTree.{SubTree, sub, SubNode, sub_skip, sub_assign, sub_assign_at, sub_member, sub_such, sub_begin, sub_pre, sub_assert, sub_if, sub_choice, sub_select, sub_any, sub_let, sub_var, sub_while, sub_parallel, sub_sequence}
-use Rattle.bk_raw.specs.Names.{Names, global}
-use Rattle.bk_raw.specs.Speaking.{HasType, AreTyped}
-use Rattle.bk_raw.specs.Outcome.{no_type}
-use Rattle.bk_raw.specs.Binders.{has_type}
+use Rattle.bk_raw.specs.Trees.SubTree.{SubTree, sub, SubNode, sub_skip, sub_assign, sub_assign_at, sub_member, sub_such, sub_begin, sub_pre, sub_assert, sub_if, sub_choice, sub_select, sub_any, sub_let, sub_var, sub_while, sub_parallel, sub_sequence}
+use Rattle.bk_raw.specs.Meaning.Names.{Names, global}
+use Rattle.bk_raw.specs.Meaning.Speaking.{HasType, AreTyped}
+use Rattle.bk_raw.specs.Meaning.Outcome.{no_type}
+use Rattle.bk_raw.specs.Meaning.Binders.{has_type}
 use Rattle.bk_raw.proofs.RulesFit.{some-fault}
-use Rattle.bk_raw.specs.Faults.{Fault, without_type}
+use Rattle.bk_raw.specs.Errors.Faults.{Fault, without_type}
 use Rattle.bk_level.specs.Components.{outermost, inner_body}
 use Rattle.bk_level.specs.Typings.{Typing, or_else, numbered, typed, variable_named}
 use Rattle.bk_level.specs.Elaborated.{elaborated}

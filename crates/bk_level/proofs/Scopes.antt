@@ -3,11 +3,11 @@ use Rattle.std.proofs.Common.{◌≡◌, ℕ, suc, ◌+◌, List, [], ◌∷◌,
 use Rattle.std.specs.Prelude.{Option, None, Some}
 use Rattle.bk_dev.specs.declared.kind.Kind.{Kind}
 use Rattle.bk_raw.specs.declared.term.RawName.{RawName}
-use Rattle.bk_raw.specs.RawTree.{RawTree}
-use Rattle.bk_raw.specs.Names.{Names}
+use Rattle.bk_raw.specs.Trees.RawTree.{RawTree}
+use Rattle.bk_raw.specs.Meaning.Names.{Names}
 use Rattle.bk_level.specs.Binders.{binder_count}
 use Rattle.bk_level.specs.Ways.{Way, assigned_ways, ways, no_ways, ways_by}
-use Rattle.bk_raw.specs.ComponentTree.{RawOperation}
+use Rattle.bk_raw.specs.Trees.ComponentTree.{RawOperation}
 use Rattle.bk_level.specs.Components.{Component, outermost, is_machine, initialisation}
 use Rattle.bk_level.specs.Plan.{Declared, names_from, entries_of, fresh, Headed, Placed, placed, machine_headed, inputs_by, lower_headed, input_count, output_count, Plan, plan, operations_of, level_names, scope, joined, body_scope, input_scope, sizes, other_sizes, other_headed}
 use Rattle.bk_level.specs.LevelOf.{next_place, variable_ways, all_input_ways, lower_output_ways, output_ways, all_output_ways, all_binder_ways, all_ways, new_texts}

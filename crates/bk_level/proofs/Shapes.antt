@@ -11,13 +11,13 @@ use Rattle.bk_dev.specs.declared.kind.Kind.{Kind}
 use Rattle.bk_dev.specs.declared.kind.Kind.TheVariants.{Machine, Refinement, Implementation}
 use Rattle.bk_dev.specs.Development.{is_implementing}
 use Rattle.bk_dev.specs.Facts.{IsGuard, MaySequence, MayLoop, LoopsStandIn, MayStandIn, IsUnordered}
-use Rattle.bk_raw.specs.RawTree.{RawTree}
-use Rattle.bk_raw.specs.SubTree.{SubTree, sub, SubNode, sub_skip, sub_assign, sub_assign_at, sub_member, sub_such, sub_begin, sub_pre, sub_assert, sub_if, sub_choice, sub_select, sub_any, sub_let, sub_var, sub_while, sub_parallel, sub_sequence, Branches, no_branches, else_branch, branch_and, Choices, no_choices, choice_and}
-use Rattle.bk_raw.specs.Names.{Names}
-use Rattle.bk_raw.specs.Outcome.{ask_domain}
+use Rattle.bk_raw.specs.Trees.RawTree.{RawTree}
+use Rattle.bk_raw.specs.Trees.SubTree.{SubTree, sub, SubNode, sub_skip, sub_assign, sub_assign_at, sub_member, sub_such, sub_begin, sub_pre, sub_assert, sub_if, sub_choice, sub_select, sub_any, sub_let, sub_var, sub_while, sub_parallel, sub_sequence, Branches, no_branches, else_branch, branch_and, Choices, no_choices, choice_and}
+use Rattle.bk_raw.specs.Meaning.Names.{Names}
+use Rattle.bk_raw.specs.Meaning.Outcome.{ask_domain}
 use Rattle.bk_raw.proofs.RulesFit.{none-left, none-right, some-fault}
 use Rattle.bk_raw.proofs.Filled.{and-both}
-use Rattle.bk_raw.specs.Faults.{Fault, wrong_operation}
+use Rattle.bk_raw.specs.Errors.Faults.{Fault, wrong_operation}
 use Rattle.bk_level.specs.Typings.{Typing, numbered, target, number_of, type_at, predicate_read, outcome_of, term_read}
 use Rattle.bk_level.specs.Binders.{binder_count}
 use Rattle.bk_level.specs.Elaborated.{overridden, put_read, all_one_type, chosen_where, chosen_in, elaborated, elaborated_node, else_part, choices, selected}

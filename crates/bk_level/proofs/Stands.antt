@@ -13,19 +13,19 @@ use Rattle.bk_dev.specs.declared.kind.Home.{Home}
 use Rattle.bk_dev.specs.declared.kind.Home.TheVariants.{Constant, Input, Abstract, Concrete, Inner}
 use Rattle.bk_dev.specs.Development.{Head, Development, last, level_at}
 use Rattle.bk_raw.specs.declared.term.RawName.{RawName}
-use Rattle.bk_raw.specs.RawTree.{RawTree}
-use Rattle.bk_raw.specs.Names.{Names}
-use Rattle.bk_raw.specs.Binders.{or_bool}
+use Rattle.bk_raw.specs.Trees.RawTree.{RawTree}
+use Rattle.bk_raw.specs.Meaning.Names.{Names}
+use Rattle.bk_raw.specs.Meaning.Binders.{or_bool}
 use Rattle.bk_level.specs.Settled.{AreOf}
 use Rattle.bk_level.specs.Typings.{Typing, numbered, variable_named}
 use Rattle.bk_level.specs.Binders.{binder_count, texts}
 use Rattle.bk_level.specs.Ways.{Way, no_way, by_conjuncts, same_as, conjunct_ways, assigned_ways, ways, next_types, rounds, settled, no_ways, ways_by, way_from, given_by, way_at}
 use Rattle.bk_raw.proofs.Filled.{and-both}
 use Rattle.bk_raw.proofs.ScopeRight.{names-below}
-use Rattle.bk_raw.specs.ComponentTree.{RawSet, RawOperation}
+use Rattle.bk_raw.specs.Trees.ComponentTree.{RawSet, RawOperation}
 use Rattle.bk_level.specs.Components.{or_next, Component, outermost, is_machine, initialisation}
 use Rattle.bk_level.specs.Above.{inputs_named, constants_from, globals_of, known, names_at_level}
-use Rattle.bk_raw.specs.ScopeReading.{element_names, set_names}
+use Rattle.bk_raw.specs.Meaning.ScopeReading.{element_names, set_names}
 use Rattle.bk_level.specs.Plan.{Declared, names_from, entries_of, fresh, Headed, Placed, placed, machine_headed, inputs_by, lower_headed, operation_named, sizes, Plan, plan, level_names, scope, body_scope, input_scope, other_headed, headed_by, is_headed}
 use Rattle.bk_level.specs.LevelOf.{way_for, next_place, variable_ways, all_input_ways, lower_output_ways, output_ways, all_output_ways, all_binder_ways, all_ways, types_at, entries_from, new_texts, table_of}
 use Rattle.bk_level.specs.Sources.{IsWayOf, AreWaysOf, AreTold, ListsItsTypes, Stands}

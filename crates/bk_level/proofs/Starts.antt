@@ -11,10 +11,10 @@ use Rattle.bk_dev.specs.declared.kind.Home.{Home}
 use Rattle.bk_dev.specs.declared.kind.Home.TheVariants.{Constant, Input, Abstract, Concrete, Inner}
 use Rattle.bk_dev.specs.Facts.{is_constant, is_variable_of, is_variable_above, home_of, names_own, names_joined}
 use Rattle.bk_raw.specs.declared.term.RawName.{RawName}
-use Rattle.bk_raw.specs.Names.{Names, global}
-use Rattle.bk_raw.specs.Outcome.{no_type}
-use Rattle.bk_raw.specs.Binders.{has_type}
-use Rattle.bk_raw.specs.Speaking.{HasType, AreTyped}
+use Rattle.bk_raw.specs.Meaning.Names.{Names, global}
+use Rattle.bk_raw.specs.Meaning.Outcome.{no_type}
+use Rattle.bk_raw.specs.Meaning.Binders.{has_type}
+use Rattle.bk_raw.specs.Meaning.Speaking.{HasType, AreTyped}
 use Rattle.bk_level.specs.Settled.{AreSeen, IsBelow}
 use Rattle.bk_level.specs.Typings.{Typing, numbered, typed}
 use Rattle.bk_level.specs.SubFaults.{sub_faults}
@@ -23,8 +23,8 @@ use Rattle.bk_level.proofs.SubStays.{seen-more, seen-join}
 use Rattle.bk_level.proofs.SubTypes.{elaborated-types}
 use Rattle.bk_level.proofs.SubMay.{elaborated-stays}
 use Rattle.bk_level.specs.Components.{WrittenVariable, Component, initialisation}
-use Rattle.bk_raw.specs.ScopeReading.{element_names, set_names}
-use Rattle.bk_raw.specs.Faults.{Fault, without_type}
+use Rattle.bk_raw.specs.Meaning.ScopeReading.{element_names, set_names}
+use Rattle.bk_raw.specs.Errors.Faults.{Fault, without_type}
 use Rattle.bk_level.specs.Above.{constants_from, globals_of}
 use Rattle.bk_level.specs.Plan.{Declared, names_from, entries_of, Plan, plan, operations_of, level_names, scope, joined}
 use Rattle.bk_level.specs.LevelOf.{types_at, made}

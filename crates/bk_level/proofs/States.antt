@@ -10,14 +10,14 @@ use Rattle.bk_dev.specs.declared.kind.Home.{Home}
 use Rattle.bk_dev.specs.declared.kind.Home.TheVariants.{Constant, Input, Abstract, Concrete, Inner}
 use Rattle.bk_dev.specs.Development.{Development}
 use Rattle.bk_dev.specs.Facts.{Names as NamesOnly, IsStated, is_constant, is_variable_of, is_variable_above, home_of, names_constants, names_joined}
-use Rattle.bk_raw.specs.RawTree.{RawTree}
-use Rattle.bk_raw.specs.Names.{Names}
+use Rattle.bk_raw.specs.Trees.RawTree.{RawTree}
+use Rattle.bk_raw.specs.Meaning.Names.{Names}
 use Rattle.bk_level.specs.Settled.{IsSettled, AreOf, AreSeen}
 use Rattle.bk_level.specs.Typings.{Typing}
 use Rattle.bk_level.proofs.SubStays.{seen-more, seen-join, predicate-names}
 use Rattle.bk_level.proofs.SubTypes.{predicate-typed}
 use Rattle.bk_level.specs.Components.{Component}
-use Rattle.bk_raw.specs.ScopeReading.{set_names}
+use Rattle.bk_raw.specs.Meaning.ScopeReading.{set_names}
 use Rattle.bk_level.specs.Above.{constants_from, globals_of}
 use Rattle.bk_level.specs.Plan.{entries_of, plan, level_names, joined}
 use Rattle.bk_level.specs.LevelOf.{stated_as, all_stated, types_at, made}

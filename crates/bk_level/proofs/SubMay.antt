@@ -15,15 +15,15 @@ use Rattle.bk_gsl.specs.Writes.{written}
 use Rattle.bk_gsl.specs.Typed.{Types}
 use Rattle.bk_dev.specs.Facts.{AreDistinct, AreNew, StaysIn, Names as NamesOnly}
 use Rattle.bk_raw.specs.declared.term.RawName.{RawName}
-use Rattle.bk_raw.specs.RawTree.{RawTree}
-use Rattle.bk_raw.specs.Names.{Names, Meaning, local, global, set_name, element_name, nothing}
-use Rattle.bk_raw.specs.Outcome.{ask_domain}
-use Rattle.bk_raw.specs.Binders.{twice}
-use Rattle.bk_raw.specs.TermReading.{place_of, reading}
-use Rattle.bk_raw.specs.RightReading.{Whenever}
-use Rattle.bk_raw.specs.Speaking.{AreTyped}
-use Rattle.bk_raw.specs.Built.{IsVisible}
-use Rattle.bk_raw.specs.SubTree.{SubTree, sub, SubNode, sub_skip, sub_assign, sub_assign_at, sub_member, sub_such, sub_begin, sub_pre, sub_assert, sub_if, sub_choice, sub_select, sub_any, sub_let, sub_var, sub_while, sub_parallel, sub_sequence, Branches, no_branches, else_branch, branch_and, Choices, no_choices, choice_and}
+use Rattle.bk_raw.specs.Trees.RawTree.{RawTree}
+use Rattle.bk_raw.specs.Meaning.Names.{Names, Meaning, local, global, set_name, element_name, nothing}
+use Rattle.bk_raw.specs.Meaning.Outcome.{ask_domain}
+use Rattle.bk_raw.specs.Meaning.Binders.{twice}
+use Rattle.bk_raw.specs.Meaning.TermReading.{place_of, reading}
+use Rattle.bk_raw.specs.Meaning.RightReading.{Whenever}
+use Rattle.bk_raw.specs.Meaning.Speaking.{AreTyped}
+use Rattle.bk_raw.specs.Meaning.Built.{IsVisible}
+use Rattle.bk_raw.specs.Trees.SubTree.{SubTree, sub, SubNode, sub_skip, sub_assign, sub_assign_at, sub_member, sub_such, sub_begin, sub_pre, sub_assert, sub_if, sub_choice, sub_select, sub_any, sub_let, sub_var, sub_while, sub_parallel, sub_sequence, Branches, no_branches, else_branch, branch_and, Choices, no_choices, choice_and}
 use Rattle.bk_level.specs.Typings.{Typing, interval, numbered, numbered_old, typed, Target, unknown, no_variable, variable_target, target_in, target, number_of, type_at, predicate_read, outcome_of, term_read}
 use Rattle.bk_level.specs.Binders.{binder_count}
 use Rattle.bk_level.specs.Elaborated.{overridden, put_read, all_one_type, chosen_where, chosen_in, elaborated, elaborated_node, else_part, choices, selected}

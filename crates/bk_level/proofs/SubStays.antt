@@ -13,13 +13,13 @@ use Rattle.bk_form.specs.Role.{bind}
 use Rattle.bk_gsl.specs.State.{among, firsts}
 use Rattle.bk_dev.specs.Facts.{AllAre, AreDistinct, AreNew, AssignsIn, Names as NamesOnly}
 use Rattle.bk_raw.specs.declared.term.RawName.{RawName}
-use Rattle.bk_raw.specs.RawTree.{RawTree, RawTrees, no_trees, tree_and}
-use Rattle.bk_raw.specs.Names.{Names, Meaning, local, global, set_name, element_name, nothing, level_name}
-use Rattle.bk_raw.specs.Outcome.{ask_domain, ask_predicate}
-use Rattle.bk_raw.specs.TermReading.{place_of, part, reading}
-use Rattle.bk_raw.specs.RightReading.{Whenever}
-use Rattle.bk_raw.specs.Built.{NamesHave, IsVisible}
-use Rattle.bk_raw.specs.SubTree.{SubTree, sub, SubNode, sub_skip, sub_assign, sub_assign_at, sub_member, sub_such, sub_begin, sub_pre, sub_assert, sub_if, sub_choice, sub_select, sub_any, sub_let, sub_var, sub_while, sub_parallel, sub_sequence, Branches, no_branches, else_branch, branch_and, Choices, no_choices, choice_and}
+use Rattle.bk_raw.specs.Trees.RawTree.{RawTree, RawTrees, no_trees, tree_and}
+use Rattle.bk_raw.specs.Meaning.Names.{Names, Meaning, local, global, set_name, element_name, nothing, level_name}
+use Rattle.bk_raw.specs.Meaning.Outcome.{ask_domain, ask_predicate}
+use Rattle.bk_raw.specs.Meaning.TermReading.{place_of, part, reading}
+use Rattle.bk_raw.specs.Meaning.RightReading.{Whenever}
+use Rattle.bk_raw.specs.Meaning.Built.{NamesHave, IsVisible}
+use Rattle.bk_raw.specs.Trees.SubTree.{SubTree, sub, SubNode, sub_skip, sub_assign, sub_assign_at, sub_member, sub_such, sub_begin, sub_pre, sub_assert, sub_if, sub_choice, sub_select, sub_any, sub_let, sub_var, sub_while, sub_parallel, sub_sequence, Branches, no_branches, else_branch, branch_and, Choices, no_choices, choice_and}
 use Rattle.bk_gsl.specs.Writes.{written}
 use Rattle.bk_level.specs.Typings.{Typing, interval, numbered, numbered_old, with_type, typed, Target, unknown, no_variable, variable_target, target, number_of, type_at, or_else, predicate_read, outcome_of, term_read}
 use Rattle.bk_level.specs.Binders.{binder_count}
@@ -32,7 +32,7 @@ use Rattle.bk_raw.proofs.Filled.{Gives}
 use Rattle.bk_raw.proofs.RulesBuilt.{ask_predicate-has, ask-has}
 use Rattle.bk_raw.proofs.RulesFit.{none-left, none-right, some-fault}
 use Rattle.bk_raw.proofs.ReadingBuilt.{reading-has, part-has, visible-built}
-use Rattle.bk_raw.specs.Faults.{Fault, wrong_write}
+use Rattle.bk_raw.specs.Errors.Faults.{Fault, wrong_write}
 use Rattle.bk_level.proofs.SubTypes.{predicate-typed, term-typed}
 
 pub nat_eq-then : (m n : ℕ) → nat_eq m n ≡ true → m ≡ n

@@ -14,14 +14,14 @@ use Rattle.bk_gsl.specs.State.{among, firsts}
 use Rattle.bk_form.specs.Predicates.{IsPredicate}
 use Rattle.bk_gsl.specs.Typed.{IsTerm, IsListed, AreListed, AreTypedTerms, AreTypedPairs, Types}
 use Rattle.bk_raw.specs.declared.term.RawName.{RawName}
-use Rattle.bk_raw.specs.RawTree.{RawTree, RawTrees, no_trees, tree_and}
-use Rattle.bk_raw.specs.Names.{Names, Meaning, local, global, set_name, element_name, nothing, Agree, MeaningAgrees, level_name}
-use Rattle.bk_raw.specs.Outcome.{no_type, ask_domain, ask_predicate}
-use Rattle.bk_raw.specs.Binders.{twice, has_type}
-use Rattle.bk_raw.specs.TermReading.{place_of, part, reading}
-use Rattle.bk_raw.specs.RightReading.{Whenever}
-use Rattle.bk_raw.specs.Speaking.{HasType, AreTyped}
-use Rattle.bk_raw.specs.SubTree.{SubTree, sub, SubNode, sub_skip, sub_assign, sub_assign_at, sub_member, sub_such, sub_begin, sub_pre, sub_assert, sub_if, sub_choice, sub_select, sub_any, sub_let, sub_var, sub_while, sub_parallel, sub_sequence, Branches, no_branches, else_branch, branch_and, Choices, no_choices, choice_and}
+use Rattle.bk_raw.specs.Trees.RawTree.{RawTree, RawTrees, no_trees, tree_and}
+use Rattle.bk_raw.specs.Meaning.Names.{Names, Meaning, local, global, set_name, element_name, nothing, Agree, MeaningAgrees, level_name}
+use Rattle.bk_raw.specs.Meaning.Outcome.{no_type, ask_domain, ask_predicate}
+use Rattle.bk_raw.specs.Meaning.Binders.{twice, has_type}
+use Rattle.bk_raw.specs.Meaning.TermReading.{place_of, part, reading}
+use Rattle.bk_raw.specs.Meaning.RightReading.{Whenever}
+use Rattle.bk_raw.specs.Meaning.Speaking.{HasType, AreTyped}
+use Rattle.bk_raw.specs.Trees.SubTree.{SubTree, sub, SubNode, sub_skip, sub_assign, sub_assign_at, sub_member, sub_such, sub_begin, sub_pre, sub_assert, sub_if, sub_choice, sub_select, sub_any, sub_let, sub_var, sub_while, sub_parallel, sub_sequence, Branches, no_branches, else_branch, branch_and, Choices, no_choices, choice_and}
 use Rattle.bk_level.specs.Typings.{Typing, interval, numbered, numbered_old, with_type, typed, Target, unknown, no_variable, variable_target, target_in, target, number_of, type_at, or_else, predicate_read, outcome_of, term_read}
 use Rattle.bk_level.specs.Binders.{binder_count}
 use Rattle.bk_level.specs.Elaborated.{with_pair, paired_as, assigned_pairs, overridden, put_read, all_one_type, chosen_where, chosen_in, old_pairs, elaborated, elaborated_node, else_part, choices, selected}
@@ -32,7 +32,7 @@ use Rattle.bk_raw.proofs.Filled.{Gives, and-both, same_type-self}
 use Rattle.bk_raw.proofs.Asks.{Right, IsDomain, ask-right, ask_domain-right, ask_predicate-right}
 use Rattle.bk_raw.proofs.ReadingRight.{reading-right, part-right}
 use Rattle.bk_raw.proofs.RulesFit.{none-left, none-right, some-fault}
-use Rattle.bk_raw.specs.Faults.{Fault, unknown_name, without_type, wrong_write}
+use Rattle.bk_raw.specs.Errors.Faults.{Fault, unknown_name, without_type, wrong_write}
 
 module _ (int_max : ℤ) (table : Table) (typing : Typing) (settled : IsSettled table typing) where
   -- ---- names

@@ -19,13 +19,13 @@ use Rattle.bk_dev.specs.Development.{Development, is_implementing, int_max as ma
 use Rattle.bk_dev.specs.Facts.{AreDistinct, is_constant, home_of, IsLiteral, IsValue, HasItsValues}
 use Rattle.bk_raw.specs.declared.component.RawValue.{RawValue}
 use Rattle.bk_raw.specs.declared.term.RawName.{RawName}
-use Rattle.bk_raw.specs.Names.{Names, Meaning, local, global, set_name, element_name, nothing}
-use Rattle.bk_raw.specs.Outcome.{Partial, whole, hollow, single_of, pair_of, joint_of, Outcome, partial, ranging, holding, silent}
-use Rattle.bk_raw.specs.RightReading.{IsRight}
-use Rattle.bk_raw.specs.ScopeReading.{set_names}
+use Rattle.bk_raw.specs.Meaning.Names.{Names, Meaning, local, global, set_name, element_name, nothing}
+use Rattle.bk_raw.specs.Meaning.Outcome.{Partial, whole, hollow, single_of, pair_of, joint_of, Outcome, partial, ranging, holding, silent}
+use Rattle.bk_raw.specs.Meaning.RightReading.{IsRight}
+use Rattle.bk_raw.specs.Meaning.ScopeReading.{set_names}
 use Rattle.bk_raw.proofs.Filled.{and-both}
 use Rattle.bk_raw.proofs.RulesFit.{none-left, none-right, some-fault}
-use Rattle.bk_raw.specs.Faults.{Fault, wrong_value}
+use Rattle.bk_raw.specs.Errors.Faults.{Fault, wrong_value}
 use Rattle.bk_level.specs.Components.{Component}
 use Rattle.bk_level.specs.Typings.{Typing, numbered, variable_in, Target, unknown, no_variable, variable_target, target_in, target, set_in, set_named, as_number, type_at, type_named, variable_named, outcome_of}
 use Rattle.bk_level.specs.SubFaults.{is_again, with_target}

@@ -2,10 +2,10 @@
 use Rattle.std.proofs.Common.{◌≡◌, ℕ, ◌+◌, ◌-◌, List, [], ◌∷◌, ◌++◌, length, refl, sym, ◌∙◌, ap, subst, Bool, true, false, arith}
 use Rattle.std.specs.Prelude.{Option, None, Some, ℤ, take, codes, decimal}
 use Rattle.bk_dev.specs.Development.{Development}
-use Rattle.bk_raw.specs.Blame.{blame, first_of, IsBlameOf}
+use Rattle.bk_raw.specs.Errors.Blame.{blame, first_of, IsBlameOf}
 use Rattle.bk_raw.proofs.Blamed.{blame-right}
-use Rattle.bk_raw.specs.Names.{level_name}
-use Rattle.bk_raw.specs.Faults.{Fault}
+use Rattle.bk_raw.specs.Meaning.Names.{level_name}
+use Rattle.bk_raw.specs.Errors.Faults.{Fault}
 use Rattle.bk_level.specs.Components.{Component}
 use Rattle.bk_level.specs.Above.{stem}
 use Rattle.bk_level.specs.DeclaredNames.{declares_too_many}

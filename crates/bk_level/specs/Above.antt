@@ -5,8 +5,8 @@ use Rattle.bk_form.specs.Table.{Table, VariableEntry, variable_type, variable_te
 use Rattle.bk_dev.specs.declared.kind.Home.{Home}
 use Rattle.bk_dev.specs.declared.kind.Home.TheVariants.{Constant, Concrete}
 use Rattle.bk_dev.specs.Development.{Development, Level, level_at, body_at, last, default_max}
-use Rattle.bk_raw.specs.Names.{Names, level_name}
-use Rattle.bk_raw.specs.ScopeReading.{set_names}
+use Rattle.bk_raw.specs.Meaning.Names.{Names, level_name}
+use Rattle.bk_raw.specs.Meaning.ScopeReading.{set_names}
 use Rattle.bk_level.specs.Typings.{Typing, or_else, as_variable}
 
 -- a development without a level, which stands above a machine; its MAXINT is the one where no range is said

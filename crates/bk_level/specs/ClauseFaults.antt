@@ -5,13 +5,13 @@ use Rattle.std.specs.Str.{bytes_eq}
 use Rattle.bk_val.specs.ValueType.{ValueType, pair_type, set_type}
 use Rattle.bk_raw.specs.declared.component.RawValue.{RawValue}
 use Rattle.bk_raw.specs.declared.term.RawName.{RawName}
-use Rattle.bk_raw.specs.RawTree.{RawTree}
-use Rattle.bk_raw.specs.ComponentTree.{RawSet}
-use Rattle.bk_raw.specs.Names.{Names}
-use Rattle.bk_raw.specs.Outcome.{no_type, ask_value}
-use Rattle.bk_raw.specs.Binders.{has_type}
-use Rattle.bk_raw.specs.TermReading.{place_of}
-use Rattle.bk_raw.specs.Faults.{Fault}
+use Rattle.bk_raw.specs.Trees.RawTree.{RawTree}
+use Rattle.bk_raw.specs.Trees.ComponentTree.{RawSet}
+use Rattle.bk_raw.specs.Meaning.Names.{Names}
+use Rattle.bk_raw.specs.Meaning.Outcome.{no_type, ask_value}
+use Rattle.bk_raw.specs.Meaning.Binders.{has_type}
+use Rattle.bk_raw.specs.Meaning.TermReading.{place_of}
+use Rattle.bk_raw.specs.Errors.Faults.{Fault}
 use Rattle.bk_level.specs.Components.{WrittenVariable, Component}
 use Rattle.bk_level.specs.Typings.{Typing, target_in, type_at, outcome_of}
 use Rattle.bk_level.specs.SubFaults.{predicate_faults, value_faults}

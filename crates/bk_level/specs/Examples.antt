@@ -7,11 +7,11 @@ use Rattle.bk_form.specs.declared.operator.Domain.TheVariants.{Enum}
 use Rattle.bk_gsl.specs.Substitution.{assign, guard, choice, if_else, any, becomes_such, skip}
 use Rattle.bk_raw.specs.declared.operator.InfixOp.TheVariants.{Equal, Power, Plus, Member}
 use Rattle.bk_raw.specs.declared.component.ClauseWord.TheVariants.{Sets, Constants, Variables, ConcreteVariables, Invariant}
-use Rattle.bk_raw.specs.RawTree.{RawTree, raw, raw_level_name, no_trees, tree_and}
-use Rattle.bk_raw.specs.SubTree.{SubTree, sub, sub_skip, sub_assign, sub_member, sub_such, sub_begin, sub_pre, sub_if, sub_choice, sub_select, sub_any, sub_let, sub_var, sub_sequence, sub_parallel, no_branches, else_branch, branch_and, no_choices, choice_and}
-use Rattle.bk_raw.specs.ComponentTree.{clause_sets, clause_names, clause_term}
+use Rattle.bk_raw.specs.Trees.RawTree.{RawTree, raw, raw_level_name, no_trees, tree_and}
+use Rattle.bk_raw.specs.Trees.SubTree.{SubTree, sub, sub_skip, sub_assign, sub_member, sub_such, sub_begin, sub_pre, sub_if, sub_choice, sub_select, sub_any, sub_let, sub_var, sub_sequence, sub_parallel, no_branches, else_branch, branch_and, no_choices, choice_and}
+use Rattle.bk_raw.specs.Trees.ComponentTree.{clause_sets, clause_names, clause_term}
 use Rattle.bk_raw.specs.declared.component.ComponentKind.TheVariants.{Machine as AsMachine}
-use Rattle.bk_raw.specs.Faults.{twice_named, unknown_name, without_type, not_predicate, wrong_operation, not_b0, wrong_write, wrong_value}
+use Rattle.bk_raw.specs.Errors.Faults.{twice_named, unknown_name, without_type, not_predicate, wrong_operation, not_b0, wrong_write, wrong_value}
 use Rattle.bk_level.specs.Verdict.{accepted, at_fault, past_limit}
 use Rattle.bk_level.specs.Texts.{name_at, term_at, number, infix_at, up_to, is_in, takes, takes_at, clause, operation, component, counter_text, counter_code_text, counter_made, a_text, b_text, c_text, f_text, s_text, t_text, u_text, v_text, x_text, step_text, in_set, step_with, machine_of, machine_with, machine_text, by_local, both_start, refinement_of, step_by, started, with_operations, stepping, refinement_text, refined, below, first_level, machine_verdict, lower_verdict, step_done, code_with, code_doing, c_is, d_is, above_code, deferred_verdict, filled_at, array_code}
 

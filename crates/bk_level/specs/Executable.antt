@@ -17,11 +17,11 @@ use Rattle.bk_raw.specs.declared.operator.WordOp.TheVariants.{Not, BoolOf, Succ,
 use Rattle.bk_raw.specs.declared.operator.Constant.{Constant}
 use Rattle.bk_raw.specs.declared.operator.Constant.TheVariants.{True, False, MaxInt, MinInt}
 use Rattle.bk_raw.specs.declared.term.RawName.{RawName}
-use Rattle.bk_raw.specs.RawTree.{RawTree, raw, RawTreeNode, raw_name, raw_number, raw_constant, raw_word, raw_negative, raw_infix, raw_inverse, raw_image, raw_apply, raw_composition, raw_pair, raw_extension, RawTrees, no_trees, tree_and}
-use Rattle.bk_raw.specs.SubTree.{SubTree, sub, SubNode, sub_skip, sub_assign, sub_assign_at, sub_begin, sub_assert, sub_if, sub_var, sub_while, sub_sequence, Branches, no_branches, else_branch, branch_and}
-use Rattle.bk_raw.specs.Names.{Names}
-use Rattle.bk_raw.specs.Outcome.{Outcome, partial, whole, ask_domain}
-use Rattle.bk_raw.specs.Faults.{Fault, not_b0}
+use Rattle.bk_raw.specs.Trees.RawTree.{RawTree, raw, RawTreeNode, raw_name, raw_number, raw_constant, raw_word, raw_negative, raw_infix, raw_inverse, raw_image, raw_apply, raw_composition, raw_pair, raw_extension, RawTrees, no_trees, tree_and}
+use Rattle.bk_raw.specs.Trees.SubTree.{SubTree, sub, SubNode, sub_skip, sub_assign, sub_assign_at, sub_begin, sub_assert, sub_if, sub_var, sub_while, sub_sequence, Branches, no_branches, else_branch, branch_and}
+use Rattle.bk_raw.specs.Meaning.Names.{Names}
+use Rattle.bk_raw.specs.Meaning.Outcome.{Outcome, partial, whole, ask_domain}
+use Rattle.bk_raw.specs.Errors.Faults.{Fault, not_b0}
 use Rattle.bk_level.specs.Components.{WrittenVariable, Component, abstract_names, initialisation}
 use Rattle.bk_level.specs.Typings.{Typing, numbered, target_in, variable_named, type_at, type_named, outcome_of}
 use Rattle.bk_level.specs.Binders.{binder_count}

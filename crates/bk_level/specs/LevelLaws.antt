@@ -8,7 +8,7 @@ use Rattle.bk_gsl.specs.State.{among}
 use Rattle.bk_gsl.specs.Typed.{Types}
 use Rattle.bk_dev.specs.Development.{Head, Body, Level, Development, level_at}
 use Rattle.bk_dev.specs.Facts.{AllAre, Names, IsStated, binders, AreDistinct, all_outputs, all_binders, is_variable_of, names_constants, StaysIn, names_own, names_joined, writes_own, is_variable_above, home_of, IsLevelOf, IsLawful, IsKindAt, IsLink, IsSubOf, MayStandIn, IsHeadOf, AllAlike, IsBodyOf, EachBody, HomesAreThere}
-use Rattle.bk_raw.specs.Speaking.{AreTyped}
+use Rattle.bk_raw.specs.Meaning.Speaking.{AreTyped}
 use Rattle.bk_level.specs.Components.{Component, is_machine, initialisation}
 use Rattle.bk_level.specs.Typings.{Typing, interval, typed}
 use Rattle.bk_level.specs.Binders.{binder_count}

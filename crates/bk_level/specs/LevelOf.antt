@@ -11,11 +11,11 @@ use Rattle.bk_dev.specs.declared.kind.Home.TheVariants.{Constant, Input, Abstrac
 use Rattle.bk_dev.specs.Development.{Body, Level, Development}
 use Rattle.bk_raw.specs.declared.component.RawValue.{RawValue}
 use Rattle.bk_raw.specs.declared.term.RawName.{RawName}
-use Rattle.bk_raw.specs.RawTree.{RawTree}
-use Rattle.bk_raw.specs.ComponentTree.{RawOperation}
-use Rattle.bk_raw.specs.Names.{Names, level_name}
-use Rattle.bk_raw.specs.Outcome.{Outcome, partial, whole}
-use Rattle.bk_raw.specs.Binders.{or_bool}
+use Rattle.bk_raw.specs.Trees.RawTree.{RawTree}
+use Rattle.bk_raw.specs.Trees.ComponentTree.{RawOperation}
+use Rattle.bk_raw.specs.Meaning.Names.{Names, level_name}
+use Rattle.bk_raw.specs.Meaning.Outcome.{Outcome, partial, whole}
+use Rattle.bk_raw.specs.Meaning.Binders.{or_bool}
 use Rattle.bk_level.specs.Components.{Component, is_machine, initialisation, outermost, inner_body}
 use Rattle.bk_level.specs.Typings.{Typing, interval, variable_named, type_named, predicate_read, outcome_of}
 use Rattle.bk_level.specs.Binders.{texts, binder_texts}

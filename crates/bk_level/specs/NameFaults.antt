@@ -3,10 +3,10 @@
 use Rattle.std.specs.Prelude.{ℕ, suc, cond, List, [], ◌∷◌, ◌++◌}
 use Rattle.bk_dev.specs.Development.{Level, Development}
 use Rattle.bk_raw.specs.declared.term.RawName.{RawName}
-use Rattle.bk_raw.specs.ComponentTree.{RawOperation}
-use Rattle.bk_raw.specs.Names.{Names}
-use Rattle.bk_raw.specs.Binders.{is_text, twice}
-use Rattle.bk_raw.specs.Faults.{Fault, twice_named}
+use Rattle.bk_raw.specs.Trees.ComponentTree.{RawOperation}
+use Rattle.bk_raw.specs.Meaning.Names.{Names}
+use Rattle.bk_raw.specs.Meaning.Binders.{is_text, twice}
+use Rattle.bk_raw.specs.Errors.Faults.{Fault, twice_named}
 use Rattle.bk_level.specs.Components.{Component, set_names, abstract_names, operation_names}
 use Rattle.bk_level.specs.Above.{names_at_level, globals_of, upper_of}
 use Rattle.bk_level.specs.Plan.{declared_texts, carried}

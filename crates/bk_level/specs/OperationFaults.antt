@@ -6,10 +6,10 @@ use Rattle.bk_dev.specs.declared.kind.Kind.{Kind}
 use Rattle.bk_dev.specs.declared.kind.Kind.TheVariants.{Machine}
 use Rattle.bk_dev.specs.Development.{Head, Development, is_implementing}
 use Rattle.bk_raw.specs.declared.term.RawName.{RawName}
-use Rattle.bk_raw.specs.ComponentTree.{RawOperation}
-use Rattle.bk_raw.specs.SubTree.{SubTree, sub, SubNode, sub_skip, sub_assign, sub_assign_at, sub_member, sub_such, sub_begin, sub_pre, sub_assert, sub_if, sub_choice, sub_select, sub_any, sub_let, sub_var, sub_while, sub_parallel, sub_sequence, Branches, no_branches, else_branch, branch_and, Choices, no_choices, choice_and}
-use Rattle.bk_raw.specs.Binders.{is_text}
-use Rattle.bk_raw.specs.Faults.{Fault, wrong_operation}
+use Rattle.bk_raw.specs.Trees.ComponentTree.{RawOperation}
+use Rattle.bk_raw.specs.Trees.SubTree.{SubTree, sub, SubNode, sub_skip, sub_assign, sub_assign_at, sub_member, sub_such, sub_begin, sub_pre, sub_assert, sub_if, sub_choice, sub_select, sub_any, sub_let, sub_var, sub_while, sub_parallel, sub_sequence, Branches, no_branches, else_branch, branch_and, Choices, no_choices, choice_and}
+use Rattle.bk_raw.specs.Meaning.Binders.{is_text}
+use Rattle.bk_raw.specs.Errors.Faults.{Fault, wrong_operation}
 use Rattle.bk_level.specs.Components.{Component, first_token, operation_names, is_machine, initialisation}
 use Rattle.bk_level.specs.Binders.{texts}
 use Rattle.bk_level.specs.Above.{inputs_named, outputs_named}

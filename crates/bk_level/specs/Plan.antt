@@ -8,11 +8,11 @@ use Rattle.bk_form.specs.Table.{SetEntry}
 use Rattle.bk_dev.specs.Development.{Head, Development}
 use Rattle.bk_dev.specs.Facts.{home_of}
 use Rattle.bk_raw.specs.declared.term.RawName.{RawName}
-use Rattle.bk_raw.specs.ComponentTree.{RawSet, RawOperation}
-use Rattle.bk_raw.specs.SubTree.{sub, sub_skip}
-use Rattle.bk_raw.specs.Names.{Names, Named, global}
-use Rattle.bk_raw.specs.Binders.{is_text}
-use Rattle.bk_raw.specs.ScopeReading.{set_names}
+use Rattle.bk_raw.specs.Trees.ComponentTree.{RawSet, RawOperation}
+use Rattle.bk_raw.specs.Trees.SubTree.{sub, sub_skip}
+use Rattle.bk_raw.specs.Meaning.Names.{Names, Named, global}
+use Rattle.bk_raw.specs.Meaning.Binders.{is_text}
+use Rattle.bk_raw.specs.Meaning.ScopeReading.{set_names}
 use Rattle.bk_level.specs.Components.{WrittenVariable, Component, is_machine, initialisation}
 use Rattle.bk_level.specs.Typings.{or_else, as_variable, numbered, interval, variable_in, variable_named}
 use Rattle.bk_level.specs.Binders.{binder_count, texts}

@@ -2,7 +2,7 @@
 use Rattle.std.specs.Prelude.{◌≡◌, ◌<◌, ℕ, Bool, true, nat_lt, List, [], ◌∷◌, Some}
 use Rattle.bk_val.specs.ValueType.{ValueType, enum_type}
 use Rattle.bk_form.specs.Table.{Table, variable_type, lists_type, listed_size}
-use Rattle.bk_raw.specs.Names.{Names, Meaning, local, global, set_name, element_name, nothing}
+use Rattle.bk_raw.specs.Meaning.Names.{Names, Meaning, local, global, set_name, element_name, nothing}
 use Rattle.bk_level.specs.Typings.{Typing}
 
 -- each number with a type is a variable of the table of this type, which the table lists

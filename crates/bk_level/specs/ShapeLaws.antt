@@ -3,8 +3,8 @@ use Rattle.std.specs.Prelude.{◌≡◌, ℕ, ℤ, Bool, true, []}
 use Rattle.bk_gsl.specs.Substitution.{Substitution}
 use Rattle.bk_dev.specs.declared.kind.Kind.{Kind}
 use Rattle.bk_dev.specs.Facts.{LoopsStandIn, MayStandIn, IsUnordered}
-use Rattle.bk_raw.specs.SubTree.{SubTree}
-use Rattle.bk_raw.specs.Names.{Names}
+use Rattle.bk_raw.specs.Trees.SubTree.{SubTree}
+use Rattle.bk_raw.specs.Meaning.Names.{Names}
 use Rattle.bk_level.specs.Typings.{Typing}
 use Rattle.bk_level.specs.Elaborated.{elaborated}
 use Rattle.bk_level.specs.OperationFaults.{shape_faults}

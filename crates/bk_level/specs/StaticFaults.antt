@@ -1,7 +1,7 @@
 -- All faults of a component but those of B0.
 -- Source: B Language Reference Manual; the places are this project's.
 use Rattle.std.specs.Prelude.{ℕ, ℤ, Bool, List, [], ◌∷◌, ◌++◌, length}
-use Rattle.bk_raw.specs.Faults.{Fault}
+use Rattle.bk_raw.specs.Errors.Faults.{Fault}
 use Rattle.bk_dev.specs.Development.{Development}
 use Rattle.bk_dev.specs.Facts.{writes_own}
 use Rattle.bk_level.specs.Components.{Component, initialisation}

@@ -7,13 +7,13 @@ use Rattle.bk_form.specs.Formula.{Formula}
 use Rattle.bk_form.specs.Role.{bind, same_type}
 use Rattle.bk_gsl.specs.State.{among, firsts}
 use Rattle.bk_raw.specs.declared.term.RawName.{RawName}
-use Rattle.bk_raw.specs.RawTree.{RawTree, RawTrees, no_trees, tree_and}
-use Rattle.bk_raw.specs.SubTree.{SubTree, sub, SubNode, sub_skip, sub_assign, sub_assign_at, sub_member, sub_such, sub_begin, sub_pre, sub_assert, sub_if, sub_choice, sub_select, sub_any, sub_let, sub_var, sub_while, sub_parallel, sub_sequence, Branches, no_branches, else_branch, branch_and, Choices, no_choices, choice_and}
-use Rattle.bk_raw.specs.Names.{Names}
-use Rattle.bk_raw.specs.Outcome.{no_type, ask, ask_value, ask_domain}
-use Rattle.bk_raw.specs.Binders.{twice, has_type}
-use Rattle.bk_raw.specs.TermReading.{place_of}
-use Rattle.bk_raw.specs.Faults.{Fault, twice_named, unknown_name, without_type, wrong_write}
+use Rattle.bk_raw.specs.Trees.RawTree.{RawTree, RawTrees, no_trees, tree_and}
+use Rattle.bk_raw.specs.Trees.SubTree.{SubTree, sub, SubNode, sub_skip, sub_assign, sub_assign_at, sub_member, sub_such, sub_begin, sub_pre, sub_assert, sub_if, sub_choice, sub_select, sub_any, sub_let, sub_var, sub_while, sub_parallel, sub_sequence, Branches, no_branches, else_branch, branch_and, Choices, no_choices, choice_and}
+use Rattle.bk_raw.specs.Meaning.Names.{Names}
+use Rattle.bk_raw.specs.Meaning.Outcome.{no_type, ask, ask_value, ask_domain}
+use Rattle.bk_raw.specs.Meaning.Binders.{twice, has_type}
+use Rattle.bk_raw.specs.Meaning.TermReading.{place_of}
+use Rattle.bk_raw.specs.Errors.Faults.{Fault, twice_named, unknown_name, without_type, wrong_write}
 use Rattle.bk_level.specs.Typings.{Typing, interval, numbered, numbered_old, Target, unknown, no_variable, variable_target, target, number_of, type_at, predicate_reading, term_reading, outcome_of}
 use Rattle.bk_level.specs.Binders.{binder_count}
 

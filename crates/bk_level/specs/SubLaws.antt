@@ -3,9 +3,9 @@ use Rattle.std.specs.Prelude.{◌≡◌, ℕ, ℤ, Bool, []}
 use Rattle.bk_form.specs.Table.{Table}
 use Rattle.bk_gsl.specs.Typed.{Types}
 use Rattle.bk_dev.specs.Facts.{binders, AreDistinct, StaysIn}
-use Rattle.bk_raw.specs.SubTree.{SubTree}
-use Rattle.bk_raw.specs.Names.{Names}
-use Rattle.bk_raw.specs.Speaking.{AreTyped}
+use Rattle.bk_raw.specs.Trees.SubTree.{SubTree}
+use Rattle.bk_raw.specs.Meaning.Names.{Names}
+use Rattle.bk_raw.specs.Meaning.Speaking.{AreTyped}
 use Rattle.bk_level.specs.Typings.{Typing, interval, typed}
 use Rattle.bk_level.specs.Binders.{binder_count}
 use Rattle.bk_level.specs.Elaborated.{elaborated}

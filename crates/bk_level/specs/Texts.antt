@@ -19,9 +19,9 @@ use Rattle.bk_raw.specs.declared.component.ClauseWord.{ClauseWord}
 use Rattle.bk_raw.specs.declared.component.ClauseWord.TheVariants.{Sets, Constants, Properties, Variables, ConcreteVariables, Invariant, Values, Initialisation, Operations}
 use Rattle.bk_raw.specs.declared.component.RawValue.{RawValue}
 use Rattle.bk_raw.specs.declared.term.RawName.{RawName}
-use Rattle.bk_raw.specs.RawTree.{RawTree, raw, raw_name, raw_number, raw_infix, raw_extension, RawTrees, no_trees, tree_and}
-use Rattle.bk_raw.specs.SubTree.{SubTree, sub, sub_assign, sub_pre, sub_var, sub_sequence, sub_parallel}
-use Rattle.bk_raw.specs.ComponentTree.{RawOperation, RawClause, RawComponent, ClauseParts, clause_sets, clause_names, clause_term, clause_values, clause_sub, clause_operations}
+use Rattle.bk_raw.specs.Trees.RawTree.{RawTree, raw, raw_name, raw_number, raw_infix, raw_extension, RawTrees, no_trees, tree_and}
+use Rattle.bk_raw.specs.Trees.SubTree.{SubTree, sub, sub_assign, sub_pre, sub_var, sub_sequence, sub_parallel}
+use Rattle.bk_raw.specs.Trees.ComponentTree.{RawOperation, RawClause, RawComponent, ClauseParts, clause_sets, clause_names, clause_term, clause_values, clause_sub, clause_operations}
 use Rattle.bk_level.specs.Components.{component_of}
 use Rattle.bk_level.specs.Above.{above_of}
 use Rattle.bk_level.specs.Verdict.{Verdict, level_below, verdict_of}

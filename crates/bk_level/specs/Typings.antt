@@ -4,10 +4,10 @@ use Rattle.std.specs.Str.{bytes_eq}
 use Rattle.bk_val.specs.ValueType.{ValueType}
 use Rattle.bk_form.specs.Formula.{Formula, btrue}
 use Rattle.bk_raw.specs.declared.term.RawName.{RawName}
-use Rattle.bk_raw.specs.RawTree.{RawTree}
-use Rattle.bk_raw.specs.Names.{Names, Named, Meaning, global, set_name, nothing, level_name}
-use Rattle.bk_raw.specs.Outcome.{Outcome, Reading, ask, ask_predicate}
-use Rattle.bk_raw.specs.TermReading.{place_of, part, reading}
+use Rattle.bk_raw.specs.Trees.RawTree.{RawTree}
+use Rattle.bk_raw.specs.Meaning.Names.{Names, Named, Meaning, global, set_name, nothing, level_name}
+use Rattle.bk_raw.specs.Meaning.Outcome.{Outcome, Reading, ask, ask_predicate}
+use Rattle.bk_raw.specs.Meaning.TermReading.{place_of, part, reading}
 
 -- the type of each number that has one
 abbrev pub Typing : Type 0

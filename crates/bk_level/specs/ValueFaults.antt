@@ -5,8 +5,8 @@ use Rattle.bk_form.specs.Table.{SetEntry}
 use Rattle.bk_gsl.specs.State.{among}
 use Rattle.bk_dev.specs.Development.{Development, is_implementing}
 use Rattle.bk_raw.specs.declared.component.RawValue.{RawValue}
-use Rattle.bk_raw.specs.Names.{Names}
-use Rattle.bk_raw.specs.Faults.{Fault, wrong_value}
+use Rattle.bk_raw.specs.Meaning.Names.{Names}
+use Rattle.bk_raw.specs.Errors.Faults.{Fault, wrong_value}
 use Rattle.bk_level.specs.Components.{Component}
 use Rattle.bk_level.specs.Typings.{Typing, variable_in, target, variable_named, set_named}
 use Rattle.bk_level.specs.SubFaults.{is_again, with_target}

@@ -1,9 +1,9 @@
 -- What a component below a development is answered: the development with one more level, or the one fault or limit that is told.
 use Rattle.std.specs.Prelude.{◌≡◌, ℕ, ℤ, Bool, true, false, List, [], ◌∷◌, ◌++◌, Option, None, Some}
 use Rattle.bk_dev.specs.Development.{Development}
-use Rattle.bk_raw.specs.Blame.{blame}
-use Rattle.bk_raw.specs.ComponentTree.{RawComponent}
-use Rattle.bk_raw.specs.Faults.{Fault, told_as}
+use Rattle.bk_raw.specs.Errors.Blame.{blame}
+use Rattle.bk_raw.specs.Trees.ComponentTree.{RawComponent}
+use Rattle.bk_raw.specs.Errors.Faults.{Fault, told_as}
 use Rattle.bk_level.specs.Components.{Component, component_of}
 use Rattle.bk_level.specs.Above.{above_of}
 use Rattle.bk_level.specs.Plan.{plan}

@@ -2,7 +2,7 @@
 -- implementation is in B0.
 use Rattle.std.specs.Prelude.{◌≡◌, ◌<◌, ◌≤◌, ◌^◌, ℕ, ℤ, true, false, List, [], length, Option, None, Some}
 use Rattle.bk_form.specs.declared.token.Token.{Token}
-use Rattle.bk_raw.specs.Blame.{IsBlameOf}
+use Rattle.bk_raw.specs.Errors.Blame.{IsBlameOf}
 use Rattle.bk_dev.specs.Development.{Development, int_max as machine_max, is_complete}
 use Rattle.bk_form.specs.Formula.{Formula}
 use Rattle.bk_form.specs.Replacement.{occurs}
@@ -14,11 +14,11 @@ use Rattle.bk_dev.specs.Flattened.{flattened}
 use Rattle.bk_dev.specs.B0.{IsB0Development}
 use Rattle.bk_raw.specs.declared.component.ComponentKind.TheVariants.{Machine, Refinement, Implementation}
 use Rattle.bk_raw.specs.declared.component.ComponentKind.{ComponentKind}
-use Rattle.bk_raw.specs.ComponentTree.{RawComponent}
-use Rattle.bk_raw.specs.ComponentSpelling.{SpellsComponent}
-use Rattle.bk_raw.specs.Limits.{IsLowComponent}
-use Rattle.bk_raw.specs.Names.{level_name}
-use Rattle.bk_raw.specs.Faults.{Fault}
+use Rattle.bk_raw.specs.Trees.ComponentTree.{RawComponent}
+use Rattle.bk_raw.specs.Grammar.ComponentSpelling.{SpellsComponent}
+use Rattle.bk_raw.specs.Errors.Limits.{IsLowComponent}
+use Rattle.bk_raw.specs.Meaning.Names.{level_name}
+use Rattle.bk_raw.specs.Errors.Faults.{Fault}
 use Rattle.bk_level.specs.Components.{Component}
 use Rattle.bk_level.specs.Above.{above_of, stem}
 use Rattle.bk_level.specs.DeclaredNames.{declares_too_many}

@@ -7,12 +7,12 @@ use Rattle.std.specs.List.{slice_get}
 use Rattle.bk_val.specs.ValueType.{ValueType}
 use Rattle.bk_form.specs.Role.{bind}
 use Rattle.bk_raw.specs.declared.term.RawName.{RawName}
-use Rattle.bk_raw.specs.RawTree.{RawTree, RawTrees, no_trees, tree_and}
-use Rattle.bk_raw.specs.SubTree.{SubTree, sub, SubNode, sub_skip, sub_assign, sub_assign_at, sub_member, sub_such, sub_begin, sub_pre, sub_assert, sub_if, sub_choice, sub_select, sub_any, sub_let, sub_var, sub_while, sub_parallel, sub_sequence, Branches, no_branches, else_branch, branch_and, Choices, no_choices, choice_and}
-use Rattle.bk_raw.specs.Names.{Names}
-use Rattle.bk_raw.specs.Outcome.{ask_value, ask_domain}
-use Rattle.bk_raw.specs.Binders.{Bound, bound_names, second}
-use Rattle.bk_raw.specs.TermReading.{clues}
+use Rattle.bk_raw.specs.Trees.RawTree.{RawTree, RawTrees, no_trees, tree_and}
+use Rattle.bk_raw.specs.Trees.SubTree.{SubTree, sub, SubNode, sub_skip, sub_assign, sub_assign_at, sub_member, sub_such, sub_begin, sub_pre, sub_assert, sub_if, sub_choice, sub_select, sub_any, sub_let, sub_var, sub_while, sub_parallel, sub_sequence, Branches, no_branches, else_branch, branch_and, Choices, no_choices, choice_and}
+use Rattle.bk_raw.specs.Meaning.Names.{Names}
+use Rattle.bk_raw.specs.Meaning.Outcome.{ask_value, ask_domain}
+use Rattle.bk_raw.specs.Meaning.Binders.{Bound, bound_names, second}
+use Rattle.bk_raw.specs.Meaning.TermReading.{clues}
 use Rattle.bk_level.specs.Components.{or_next}
 use Rattle.bk_level.specs.Typings.{Typing, numbered, numbered_old, typed, target, is_variable, variable_named, outcome_of}
 use Rattle.bk_level.specs.Binders.{binder_count}

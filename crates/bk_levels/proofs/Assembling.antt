@@ -12,8 +12,8 @@ use Rattle.bk_dev.specs.declared.kind.Home.{Home}
 use Rattle.bk_dev.specs.Development.{Head, Level, Development, is_implementing, int_max as machine_max}
 use Rattle.bk_dev.specs.Layout.{has_scalars}
 use Rattle.bk_gsl.specs.State.{among}
-use Rattle.bk_raw.specs.Binders.{or_bool}
-use Rattle.bk_raw.specs.Blame.{blame}
+use Rattle.bk_raw.specs.Meaning.Binders.{or_bool}
+use Rattle.bk_raw.specs.Errors.Blame.{blame}
 use Rattle.bk_level.proofs.Listed.{of_entry, entry-type, variable-entry}
 use Rattle.bk_level.proofs.Stands.{get-right}
 use Rattle.bk_form.specs.Formula.{Formula}
@@ -22,10 +22,10 @@ use Rattle.bk_level.proofs.SubStays.{nat_eq-then}
 use Rattle.bk_elab.specs.Visible.{typing_of}
 use Rattle.bk_level.specs.Above.{no_development, above_of}
 use Rattle.bk_level.specs.Components.{Component, component_of, kind_as, is_machine, initialisation}
-use Rattle.bk_raw.specs.ComponentTree.{RawComponent}
+use Rattle.bk_raw.specs.Trees.ComponentTree.{RawComponent}
 use Rattle.bk_raw.specs.declared.component.ComponentKind.{ComponentKind}
 use Rattle.bk_raw.specs.declared.component.ComponentKind.TheVariants.{Machine, Refinement, Implementation}
-use Rattle.bk_raw.specs.Faults.{Fault}
+use Rattle.bk_raw.specs.Errors.Faults.{Fault}
 use Rattle.bk_level.specs.DeclaredNames.{declares_too_many}
 use Rattle.bk_level.specs.VerdictLaws.{MayStandAbove, HasRoom}
 use Rattle.bk_level.specs.Binders.{texts, binder_texts}

@@ -4,10 +4,10 @@ use Rattle.std.specs.Prelude.{Option, ℤ, ◌||◌, nat_eq}
 use Rattle.std.proofs.lemmas.List.{length-map}
 use Rattle.bk_form.proofs.Members.{both_ways, or-cases}
 use Rattle.bk_gsl.specs.State.{among}
-use Rattle.bk_raw.specs.Names.{Names}
-use Rattle.bk_raw.specs.SubTree.{SubTree}
-use Rattle.bk_raw.specs.Blame.{blame, earlier}
-use Rattle.bk_raw.specs.Faults.{Fault}
+use Rattle.bk_raw.specs.Meaning.Names.{Names}
+use Rattle.bk_raw.specs.Trees.SubTree.{SubTree}
+use Rattle.bk_raw.specs.Errors.Blame.{blame, earlier}
+use Rattle.bk_raw.specs.Errors.Faults.{Fault}
 use Rattle.bk_elab.specs.Visible.{typing_of, visible_names}
 use Rattle.bk_dev.specs.Development.{Development}
 use Rattle.bk_dev.specs.Facts.{AllAre, is_variable_of, home_of, writes_own, HomesAreThere}

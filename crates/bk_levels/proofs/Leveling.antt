@@ -4,11 +4,11 @@ use Rattle.std.specs.Prelude.{Option, None, Some}
 use Rattle.bk_dev.specs.Development.{Development, int_max as machine_max}
 use Rattle.bk_dev.specs.B0.{IsB0Development}
 use Rattle.bk_dev.specs.Facts.{IsDevelopment, HomesAreThere}
-use Rattle.bk_raw.specs.Blame.{blame}
-use Rattle.bk_raw.specs.ComponentTree.{RawComponent}
+use Rattle.bk_raw.specs.Errors.Blame.{blame}
+use Rattle.bk_raw.specs.Trees.ComponentTree.{RawComponent}
 use Rattle.bk_raw.specs.declared.component.ComponentKind.{ComponentKind}
 use Rattle.bk_raw.specs.declared.component.ComponentKind.TheVariants.{Machine, Refinement, Implementation}
-use Rattle.bk_raw.specs.Limits.{IsLowComponent}
+use Rattle.bk_raw.specs.Errors.Limits.{IsLowComponent}
 use Rattle.bk_level.specs.Above.{above_of}
 use Rattle.bk_level.specs.Components.{Component, component_of, is_machine}
 use Rattle.bk_level.specs.DeclaredNames.{declares_too_many}

@@ -2,7 +2,7 @@
 use Rattle.std.specs.Prelude.{◌≡◌, ℕ, ℤ, Bool, cond, List, [], ◌∷◌, ◌++◌, length, map, Option, None, Some}
 use Rattle.bk_val.specs.ValueType.{ValueType}
 use Rattle.bk_form.specs.Table.{Table, SetEntry, VariableEntry, with_set, with_variable}
-use Rattle.bk_raw.specs.Faults.{Fault}
+use Rattle.bk_raw.specs.Errors.Faults.{Fault}
 use Rattle.bk_gsl.specs.State.{among}
 use Rattle.bk_dev.specs.Development.{Development, default_max}
 use Rattle.bk_dev.specs.Facts.{home_of, is_variable_of, writes_own}

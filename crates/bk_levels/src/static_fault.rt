@@ -3,7 +3,7 @@
 ghost use Rattle.std.specs.Prelude.{◌≡◌, [], length, map, IfOk};
 ghost use Rattle.bk_dev.specs.Development.{Development};
 ghost use Rattle.bk_dev.specs.Facts.{writes_own, HomesAreThere};
-ghost use Rattle.bk_raw.specs.Blame.{blame};
+ghost use Rattle.bk_raw.specs.Errors.Blame.{blame};
 ghost use Rattle.bk_elab.specs.Shown.{told};
 ghost use Rattle.bk_elab.specs.Visible.{typing_of, visible_names};
 ghost use Rattle.bk_levels.specs.Answered.{WritesOwn, bodies_judged, body_judged};

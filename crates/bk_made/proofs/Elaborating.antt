@@ -5,10 +5,10 @@ use Rattle.std.proofs.lemmas.List.{drop_more, append-nil}
 use Rattle.bk_val.specs.ValueType.{ValueType}
 use Rattle.bk_form.specs.Formula.{Formula}
 use Rattle.bk_raw.specs.declared.term.RawName.{RawName}
-use Rattle.bk_raw.specs.RawTree.{RawTree, trees_of}
-use Rattle.bk_raw.specs.Names.{Names}
-use Rattle.bk_raw.specs.Outcome.{ask}
-use Rattle.bk_raw.specs.TermReading.{place_of}
+use Rattle.bk_raw.specs.Trees.RawTree.{RawTree, trees_of}
+use Rattle.bk_raw.specs.Meaning.Names.{Names}
+use Rattle.bk_raw.specs.Meaning.Outcome.{ask}
+use Rattle.bk_raw.specs.Meaning.TermReading.{place_of}
 use Rattle.bk_elab.specs.Visible.{visible_names}
 use Rattle.bk_level.specs.Binders.{old_texts}
 use Rattle.bk_level.specs.Typings.{Typing, Target, interval, numbered_old, target, number_of, type_at, outcome_of}

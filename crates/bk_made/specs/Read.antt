@@ -4,9 +4,9 @@ use Rattle.bk_val.specs.ValueType.{ValueType}
 use Rattle.bk_form.specs.Formula.{Formula}
 use Rattle.bk_gsl.specs.Substitution.{Substitution}
 use Rattle.bk_raw.specs.declared.term.RawName.{RawName}
-use Rattle.bk_raw.specs.RawTree.{RawTree}
-use Rattle.bk_raw.specs.SubTree.{SubTree, SubNode, Branches, Choices}
-use Rattle.bk_raw.specs.Outcome.{ask_domain}
+use Rattle.bk_raw.specs.Trees.RawTree.{RawTree}
+use Rattle.bk_raw.specs.Trees.SubTree.{SubTree, SubNode, Branches, Choices}
+use Rattle.bk_raw.specs.Meaning.Outcome.{ask_domain}
 use Rattle.bk_elab.specs.Visible.{typing_of, visible_names}
 use Rattle.bk_level.specs.Binders.{binder_count}
 use Rattle.bk_level.specs.Typings.{Typing, target, number_of, type_at, predicate_read, outcome_of, term_read}

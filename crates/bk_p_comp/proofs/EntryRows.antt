@@ -4,11 +4,11 @@ use Rattle.std.proofs.Common.{arith, ap}
 use Rattle.bk_form.specs.declared.token.Token.{Token}
 use Rattle.bk_form.specs.declared.token.TokenKind.TheVariants.{Sign}
 use Rattle.bk_ops.specs.declared.sign.TheConstants.{SEMICOLON}
-use Rattle.bk_raw.specs.Pieces.{Divided}
-use Rattle.bk_raw.specs.Spelling.{Term}
-use Rattle.bk_raw.specs.RawTree.{RawTree}
-use Rattle.bk_raw.specs.ComponentSpelling.{Operation, Value}
-use Rattle.bk_raw.specs.ComponentTree.{ClauseParts, clause_sets, clause_operations, clause_values, RawOperation, RawSet}
+use Rattle.bk_raw.specs.Grammar.Pieces.{Divided}
+use Rattle.bk_raw.specs.Grammar.Spelling.{Term}
+use Rattle.bk_raw.specs.Trees.RawTree.{RawTree}
+use Rattle.bk_raw.specs.Grammar.ComponentSpelling.{Operation, Value}
+use Rattle.bk_raw.specs.Trees.ComponentTree.{ClauseParts, clause_sets, clause_operations, clause_values, RawOperation, RawSet}
 use Rattle.bk_raw.specs.declared.component.ClauseWord.TheVariants.{Operations, Sets, Values}
 use Rattle.bk_raw.specs.declared.component.RawValue.{RawValue}
 use Rattle.bk_raw.proofs.ClauseOne.{one-parts}

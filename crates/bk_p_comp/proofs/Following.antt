@@ -3,10 +3,10 @@ use Rattle.std.specs.Prelude.{◌≡◌, ◌≢◌, ℕ, ◌≤◌, true, List, 
 use Rattle.std.proofs.Common.{arith, sym, ◌∙◌, ap, subst, append_assoc, length-append}
 use Rattle.std.proofs.lemmas.List.Elements.{All-cons, All-head, All-nil, All-tail, All-append}
 use Rattle.bk_form.specs.declared.token.Token.{Token}
-use Rattle.bk_raw.specs.ComponentTree.{ClauseParts, clause_sets, RawClause, clause_number, is_allowed}
-use Rattle.bk_raw.specs.ComponentSpelling.{Clause, ArePlain, AreClausesOf}
-use Rattle.bk_raw.specs.Numbers.{Differ}
-use Rattle.bk_raw.specs.Places.{AreReadOn, CanFollow}
+use Rattle.bk_raw.specs.Trees.ComponentTree.{ClauseParts, clause_sets, RawClause, clause_number, is_allowed}
+use Rattle.bk_raw.specs.Grammar.ComponentSpelling.{Clause, ArePlain, AreClausesOf}
+use Rattle.bk_raw.specs.Trees.Numbers.{Differ}
+use Rattle.bk_raw.specs.Errors.Places.{AreReadOn, CanFollow}
 use Rattle.bk_raw.specs.declared.component.ComponentKind.{ComponentKind}
 use Rattle.bk_p_expr.specs.Fronts.{Longest}
 use Rattle.bk_p_comp.specs.Clauses.{CompleteFollow, ReadOn}

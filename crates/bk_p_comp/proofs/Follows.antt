@@ -4,8 +4,8 @@ use Rattle.std.proofs.Common.{arith, sym, ◌∙◌, ap, subst, append_assoc, ap
 use Rattle.std.proofs.lemmas.List.Elements.{All-contains, All-from_get_or}
 use Rattle.bk_form.specs.declared.token.Token.{Token}
 use Rattle.bk_form.specs.declared.token.TokenKind.TheVariants.{Word}
-use Rattle.bk_raw.specs.ComponentSpelling.{Clause, Parts}
-use Rattle.bk_raw.specs.ComponentTree.{ClauseParts, RawClause, clause_number, is_allowed, parts_height, word_number}
+use Rattle.bk_raw.specs.Grammar.ComponentSpelling.{Clause, Parts}
+use Rattle.bk_raw.specs.Trees.ComponentTree.{ClauseParts, RawClause, clause_number, is_allowed, parts_height, word_number}
 use Rattle.bk_raw.specs.Codes.ComponentView.{parts_of}
 use Rattle.bk_raw.specs.declared.component.ClauseParts.{ClauseParts as KeptParts}
 use Rattle.bk_raw.specs.declared.component.ClauseWord.{ClauseWord}

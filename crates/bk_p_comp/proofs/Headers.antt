@@ -4,11 +4,11 @@ use Rattle.std.proofs.Common.{sym, ◌∙◌, ap, subst, append_assoc, append-ni
 use Rattle.bk_form.specs.declared.token.Token.{Token}
 use Rattle.bk_form.specs.declared.token.TokenKind.TheVariants.{Word}
 use Rattle.bk_ops.specs.declared.word.TheConstants.{MACHINE, REFINEMENT, REFINES}
-use Rattle.bk_raw.specs.ComponentSpelling.{Header, Refined}
-use Rattle.bk_raw.specs.ComponentTree.{RawComponent, kind_number}
-use Rattle.bk_raw.specs.Pieces.{JustWord, ◌⌢◌}
-use Rattle.bk_raw.specs.Reading.{name, named}
-use Rattle.bk_raw.specs.Spelling.{Declared}
+use Rattle.bk_raw.specs.Grammar.ComponentSpelling.{Header, Refined}
+use Rattle.bk_raw.specs.Trees.ComponentTree.{RawComponent, kind_number}
+use Rattle.bk_raw.specs.Grammar.Pieces.{JustWord, ◌⌢◌}
+use Rattle.bk_raw.specs.Grammar.Reading.{name, named}
+use Rattle.bk_raw.specs.Grammar.Spelling.{Declared}
 use Rattle.bk_raw.specs.declared.component.ComponentKind.{ComponentKind}
 use Rattle.bk_raw.specs.declared.component.ComponentKind.TheVariants.{Machine, Refinement, Implementation}
 use Rattle.bk_raw.specs.declared.term.RawName.{RawName}

@@ -4,10 +4,10 @@ use Rattle.std.proofs.Common.{inr, arith, sym, ◌∙◌, ap, subst, append_asso
 use Rattle.bk_form.specs.declared.token.Token.{Token}
 use Rattle.bk_form.specs.declared.token.TokenKind.TheVariants.{Word}
 use Rattle.bk_ops.specs.declared.word.TheConstants.{END}
-use Rattle.bk_raw.specs.Pieces.{Absent, JustWord, ◌⌢◌, InRow}
-use Rattle.bk_raw.specs.ComponentTree.{RawComponent}
-use Rattle.bk_raw.specs.ComponentSpelling.{Clause, Header, OpensComponent, SpellsComponent}
-use Rattle.bk_raw.specs.Places.{AreReadOn, IsComponentFault, IsLongestWhole, IsWholeComponent}
+use Rattle.bk_raw.specs.Grammar.Pieces.{Absent, JustWord, ◌⌢◌, InRow}
+use Rattle.bk_raw.specs.Trees.ComponentTree.{RawComponent}
+use Rattle.bk_raw.specs.Grammar.ComponentSpelling.{Clause, Header, OpensComponent, SpellsComponent}
+use Rattle.bk_raw.specs.Errors.Places.{AreReadOn, IsComponentFault, IsLongestWhole, IsWholeComponent}
 use Rattle.bk_raw.proofs.ComponentOne.{Closes, IsClosed, header-cut, row-cut}
 use Rattle.bk_raw.proofs.Patterns.{first, last}
 use Rattle.bk_raw.proofs.Places.{read-shorter, read-made, reading-tells-place, place-none}

@@ -4,14 +4,14 @@ use Rattle.std.proofs.Common.{inl, inr, arith, sym, ◌∙◌, ap, subst, append
 use Rattle.bk_form.specs.declared.token.Token.{Token}
 use Rattle.bk_form.specs.declared.token.TokenKind.TheVariants.{Sign}
 use Rattle.bk_ops.specs.declared.sign.TheConstants.{EQUAL, OUTPUTS, OPEN_PAREN, CLOSE_PAREN, OPEN_BRACE, CLOSE_BRACE}
-use Rattle.bk_raw.specs.ComponentSpelling.{Elements, Inputs, Operation, Outputs, Value}
-use Rattle.bk_raw.specs.ComponentTree.{RawOperation, RawSet}
-use Rattle.bk_raw.specs.Pieces.{JustSign, ◌⌢◌, InParentheses}
-use Rattle.bk_raw.specs.RawTree.{RawTree}
-use Rattle.bk_raw.specs.Reading.{name}
-use Rattle.bk_raw.specs.Spelling.{Declared, Names, Spells}
-use Rattle.bk_raw.specs.SubSpelling.{Sub}
-use Rattle.bk_raw.specs.SubTree.{SubTree}
+use Rattle.bk_raw.specs.Grammar.ComponentSpelling.{Elements, Inputs, Operation, Outputs, Value}
+use Rattle.bk_raw.specs.Trees.ComponentTree.{RawOperation, RawSet}
+use Rattle.bk_raw.specs.Grammar.Pieces.{JustSign, ◌⌢◌, InParentheses}
+use Rattle.bk_raw.specs.Trees.RawTree.{RawTree}
+use Rattle.bk_raw.specs.Grammar.Reading.{name}
+use Rattle.bk_raw.specs.Grammar.Spelling.{Declared, Names, Spells}
+use Rattle.bk_raw.specs.Grammar.SubSpelling.{Sub}
+use Rattle.bk_raw.specs.Trees.SubTree.{SubTree}
 use Rattle.bk_raw.specs.declared.component.RawValue.{RawValue}
 use Rattle.bk_raw.specs.declared.term.RawName.{RawName}
 use Rattle.bk_raw.proofs.ClauseOne.{names-to}

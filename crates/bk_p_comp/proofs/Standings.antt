@@ -5,14 +5,14 @@ use Rattle.std.proofs.lemmas.List.Elements.{All-cons, All-head, All-nil, All-tai
 use denote.Ref.{Bor}
 use Rattle.bk_form.specs.declared.token.Token.{Token}
 use Rattle.bk_ops.specs.declared.sign.TheConstants.{SEMICOLON}
-use Rattle.bk_raw.specs.ComponentSpelling.{HasElements, Operation, Set, Value}
-use Rattle.bk_raw.specs.ComponentTree.{RawSet, RawOperation, ClauseParts, clause_sets, clause_names, clause_term, clause_terms, clause_values, clause_sub, clause_operations}
-use Rattle.bk_raw.specs.Numbers.{greatest}
-use Rattle.bk_raw.specs.Pieces.{Divided}
-use Rattle.bk_raw.specs.RawTree.{RawTree, RawTrees, no_trees, tree_and, tree_height, trees_height, trees_of}
-use Rattle.bk_raw.specs.Spelling.{Names, Term}
-use Rattle.bk_raw.specs.SubSpelling.{Sub}
-use Rattle.bk_raw.specs.SubTree.{SubTree}
+use Rattle.bk_raw.specs.Grammar.ComponentSpelling.{HasElements, Operation, Set, Value}
+use Rattle.bk_raw.specs.Trees.ComponentTree.{RawSet, RawOperation, ClauseParts, clause_sets, clause_names, clause_term, clause_terms, clause_values, clause_sub, clause_operations}
+use Rattle.bk_raw.specs.Trees.Numbers.{greatest}
+use Rattle.bk_raw.specs.Grammar.Pieces.{Divided}
+use Rattle.bk_raw.specs.Trees.RawTree.{RawTree, RawTrees, no_trees, tree_and, tree_height, trees_height, trees_of}
+use Rattle.bk_raw.specs.Grammar.Spelling.{Names, Term}
+use Rattle.bk_raw.specs.Grammar.SubSpelling.{Sub}
+use Rattle.bk_raw.specs.Trees.SubTree.{SubTree}
 use Rattle.bk_raw.specs.declared.component.ClauseWord.{ClauseWord}
 use Rattle.bk_raw.specs.declared.component.ClauseWord.TheVariants.{Sets, Constants, ConcreteConstants, Properties, Variables, AbstractVariables, ConcreteVariables, Invariant, Assertions, Values, Initialisation, Operations}
 use Rattle.bk_raw.specs.declared.component.RawValue.{RawValue}

@@ -6,7 +6,7 @@ use Rattle.bk_form.specs.declared.token.Token.{Token}
 use Rattle.bk_form.specs.declared.token.TokenKind.{TokenKind}
 use Rattle.bk_form.specs.declared.token.TokenKind.TheVariants.{LevelName, Sign}
 use Rattle.bk_ops.specs.declared.sign.TheConstants.{OPEN_PAREN, CLOSE_PAREN, OPEN_BRACKET, CLOSE_BRACKET, OPEN_BRACE, CLOSE_BRACE}
-use Rattle.bk_raw.specs.Pieces.{Never, Just, JustAt, JustSign, ◌⌢◌, Divided, InParentheses, InBrackets, InBraces, WithParentheses, Starting, Binding, Placed}
+use Rattle.bk_raw.specs.Grammar.Pieces.{Never, Just, JustAt, JustSign, ◌⌢◌, Divided, InParentheses, InBrackets, InBraces, WithParentheses, Starting, Binding, Placed}
 use Rattle.bk_raw.proofs.Runs.{run, append-run, split-run, cons-run, first-step}
 use Rattle.bk_raw.proofs.Steps.{Piece}
 use Rattle.bk_raw.proofs.Stopping.{none_some, some_same}

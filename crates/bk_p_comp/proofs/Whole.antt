@@ -6,11 +6,11 @@ use Rattle.bk_form.specs.declared.token.Token.{Token}
 use Rattle.bk_form.specs.declared.token.TokenKind.{TokenKind}
 use Rattle.bk_form.specs.declared.token.TokenKind.TheVariants.{Name, Word}
 use Rattle.bk_ops.specs.declared.word.TheConstants.{END, REFINES}
-use Rattle.bk_raw.specs.ComponentSpelling.{AreClausesOf, ArePlain, Header, Refined, SpellsComponent}
-use Rattle.bk_raw.specs.ComponentTree.{RawClause, RawComponent, is_allowed, kind_number}
-use Rattle.bk_raw.specs.Pieces.{Absent, JustAt, JustWord, ◌⌢◌}
-use Rattle.bk_raw.specs.Places.{AreReadOn, IsComponentFault}
-use Rattle.bk_raw.specs.Spelling.{Declared}
+use Rattle.bk_raw.specs.Grammar.ComponentSpelling.{AreClausesOf, ArePlain, Header, Refined, SpellsComponent}
+use Rattle.bk_raw.specs.Trees.ComponentTree.{RawClause, RawComponent, is_allowed, kind_number}
+use Rattle.bk_raw.specs.Grammar.Pieces.{Absent, JustAt, JustWord, ◌⌢◌}
+use Rattle.bk_raw.specs.Errors.Places.{AreReadOn, IsComponentFault}
+use Rattle.bk_raw.specs.Grammar.Spelling.{Declared}
 use Rattle.bk_raw.specs.declared.component.ComponentKind.{ComponentKind}
 use Rattle.bk_raw.specs.declared.component.ComponentKind.TheVariants.{Machine, Refinement, Implementation}
 use Rattle.bk_raw.specs.declared.term.RawName.{RawName}

@@ -2,9 +2,9 @@
 use Rattle.std.specs.Prelude.{◌≡◌, ◌≢◌, ℕ, ◌<◌, ◌≤◌, All, Bool, true, false, List, [], ◌∷◌, ◌++◌, map}
 use Rattle.bk_limits.specs.declared.TheConstants.{GREATEST_TREE_HEIGHT}
 use Rattle.bk_form.specs.declared.token.Token.{Token}
-use Rattle.bk_raw.specs.ComponentTree.{RawClause, RawComponent, clause_number, is_allowed, parts_height}
-use Rattle.bk_raw.specs.Numbers.{greatest}
-use Rattle.bk_raw.specs.ComponentSpelling.{Clause, Header}
+use Rattle.bk_raw.specs.Trees.ComponentTree.{RawClause, RawComponent, clause_number, is_allowed, parts_height}
+use Rattle.bk_raw.specs.Trees.Numbers.{greatest}
+use Rattle.bk_raw.specs.Grammar.ComponentSpelling.{Clause, Header}
 use Rattle.bk_raw.specs.declared.component.ComponentKind.{ComponentKind}
 use Rattle.bk_p_comp.specs.declared.clause.Done.{Done}
 use Rattle.bk_p_comp.specs.declared.clause.Next.{Next as Found}

@@ -3,13 +3,13 @@ use Rattle.std.specs.Prelude.{◌≡◌, List, [], ◌∷◌}
 use Rattle.bk_form.specs.declared.token.Token.{Token}
 use Rattle.bk_form.specs.declared.token.TokenKind.TheVariants.{Sign}
 use Rattle.bk_ops.specs.declared.sign.TheConstants.{EQUAL, OPEN_PAREN, OUTPUTS}
-use Rattle.bk_raw.specs.Pieces.{JustSign, ◌⌢◌, InParentheses}
-use Rattle.bk_raw.specs.Spelling.{Names}
+use Rattle.bk_raw.specs.Grammar.Pieces.{JustSign, ◌⌢◌, InParentheses}
+use Rattle.bk_raw.specs.Grammar.Spelling.{Names}
 use Rattle.bk_raw.specs.declared.term.RawName.{RawName}
-use Rattle.bk_raw.specs.ComponentTree.{RawSet, RawOperation}
-use Rattle.bk_raw.specs.ComponentSpelling.{Set, HasElements}
-use Rattle.bk_raw.specs.SubSpelling.{Sub}
-use Rattle.bk_raw.specs.SubTree.{SubTree}
+use Rattle.bk_raw.specs.Trees.ComponentTree.{RawSet, RawOperation}
+use Rattle.bk_raw.specs.Grammar.ComponentSpelling.{Set, HasElements}
+use Rattle.bk_raw.specs.Grammar.SubSpelling.{Sub}
+use Rattle.bk_raw.specs.Trees.SubTree.{SubTree}
 use Rattle.bk_p_expr.specs.Fronts.{Longest, Nothing}
 use Rattle.bk_p_sub.specs.Found.{NotAhead}
 use Rattle.bk_p_comp.specs.declared.entries.OperationTitle.{OperationTitle}

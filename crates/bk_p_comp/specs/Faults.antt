@@ -2,10 +2,10 @@
 use Rattle.std.specs.Prelude.{◌<◌, List}
 use Rattle.bk_limits.specs.declared.TheConstants.{GREATEST_TREE_HEIGHT}
 use Rattle.bk_form.specs.declared.token.Token.{Token}
-use Rattle.bk_raw.specs.ComponentTree.{RawComponent, component_height}
-use Rattle.bk_raw.specs.ComponentSpelling.{SpellsComponent}
-use Rattle.bk_raw.specs.Limits.{IsShallow, IsTooDeep}
-use Rattle.bk_raw.specs.Places.{IsComponentFault}
+use Rattle.bk_raw.specs.Trees.ComponentTree.{RawComponent, component_height}
+use Rattle.bk_raw.specs.Grammar.ComponentSpelling.{SpellsComponent}
+use Rattle.bk_raw.specs.Errors.Limits.{IsShallow, IsTooDeep}
+use Rattle.bk_raw.specs.Errors.Places.{IsComponentFault}
 use Rattle.bk_p_expr.specs.declared.fault.SynFault.{SynFault}
 use Rattle.bk_p_expr.specs.declared.fault.SynFault.TheVariants.{At, Depth, High, Memory}
 

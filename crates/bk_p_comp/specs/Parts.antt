@@ -3,9 +3,9 @@ use Rattle.std.specs.Prelude.{◌≡◌, ◌<◌, ◌≤◌, List, All, Option, 
 use denote.Ref.{Bor}
 use Rattle.bk_limits.specs.declared.TheConstants.{GREATEST_TREE_HEIGHT}
 use Rattle.bk_form.specs.declared.token.Token.{Token}
-use Rattle.bk_raw.specs.ComponentTree.{ClauseParts, clause_sets, clause_values, clause_operations, parts_height, RawOperation}
+use Rattle.bk_raw.specs.Trees.ComponentTree.{ClauseParts, clause_sets, clause_values, clause_operations, parts_height, RawOperation}
 use Rattle.bk_raw.specs.Codes.ComponentView.{parts_of}
-use Rattle.bk_raw.specs.ComponentSpelling.{Parts, HasElements}
+use Rattle.bk_raw.specs.Grammar.ComponentSpelling.{Parts, HasElements}
 use Rattle.bk_raw.specs.declared.component.ClauseWord.{ClauseWord}
 use Rattle.bk_raw.specs.declared.component.RawValue.{RawValue}
 use Rattle.bk_p_expr.specs.Fronts.{Longest, Nothing}

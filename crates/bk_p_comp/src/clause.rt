@@ -1,7 +1,7 @@
 // Clauses of a component, one after another.
 
 ghost use Rattle.std.specs.Prelude.{◌≡◌, ◌≢◌, ◌<◌, ◌++◌, [], ◌∷◌, ℕ, List, length, IfOk, IfSome, MatchOption};
-ghost use Rattle.bk_raw.specs.ComponentTree.{RawClause as ClauseTree, clause_number, is_allowed, word_number};
+ghost use Rattle.bk_raw.specs.Trees.ComponentTree.{RawClause as ClauseTree, clause_number, is_allowed, word_number};
 ghost use Rattle.bk_p_expr.specs.Fronts.{Longest, Nothing};
 ghost use Rattle.bk_p_comp.specs.Clauses.{AreDone, AreKeptUnless, CompleteFollow, IsFound, ReadOn};
 

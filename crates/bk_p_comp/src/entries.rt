@@ -4,12 +4,12 @@
 
 ghost use Rattle.std.specs.Prelude.{◌<◌, ◌≤◌, ◌++◌, [], ◌∷◌, List, length, IfOk, IfSome, MatchOption};
 ghost use Rattle.bk_ops.specs.declared.sign.TheConstants.{SEMICOLON};
-ghost use Rattle.bk_raw.specs.ComponentSpelling.{Operation, Value};
-ghost use Rattle.bk_raw.specs.ComponentTree.{RawOperation as OperationTree};
-ghost use Rattle.bk_raw.specs.Pieces.{Divided};
-ghost use Rattle.bk_raw.specs.RawTree.{RawTree, trees_of};
-ghost use Rattle.bk_raw.specs.Spelling.{Names, Term};
-ghost use Rattle.bk_raw.specs.SubTree.{SubTree};
+ghost use Rattle.bk_raw.specs.Grammar.ComponentSpelling.{Operation, Value};
+ghost use Rattle.bk_raw.specs.Trees.ComponentTree.{RawOperation as OperationTree};
+ghost use Rattle.bk_raw.specs.Grammar.Pieces.{Divided};
+ghost use Rattle.bk_raw.specs.Trees.RawTree.{RawTree, trees_of};
+ghost use Rattle.bk_raw.specs.Grammar.Spelling.{Names, Term};
+ghost use Rattle.bk_raw.specs.Trees.SubTree.{SubTree};
 ghost use Rattle.bk_raw.specs.declared.component.RawValue.{RawValue as ValueTree};
 ghost use Rattle.bk_p_expr.specs.Fronts.{Longest, Nothing};
 ghost use Rattle.bk_p_expr.specs.Pieces.{IsPiece, IsTerms};

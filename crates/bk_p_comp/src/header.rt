@@ -1,7 +1,7 @@
 // The header of a component.
 
 ghost use Rattle.std.specs.Prelude.{◌≡◌, ◌≢◌, ◌↔◌, ◌<◌, length, IfOk, IfSome, IsTrue, MatchOption};
-ghost use Rattle.bk_raw.specs.ComponentTree.{kind_number};
+ghost use Rattle.bk_raw.specs.Trees.ComponentTree.{kind_number};
 ghost use Rattle.bk_p_comp.specs.Clauses.{HasNoHeader, IsHeaded};
 
 use bk_form::{Token, TokenKind};

@@ -1,8 +1,8 @@
 // Components, read from tokens.
 
 ghost use Rattle.std.specs.Prelude.{IfOk, IfErr};
-ghost use Rattle.bk_raw.specs.ComponentSpelling.{SpellsComponent};
-ghost use Rattle.bk_raw.specs.Limits.{IsLowComponent, IsShallow};
+ghost use Rattle.bk_raw.specs.Grammar.ComponentSpelling.{SpellsComponent};
+ghost use Rattle.bk_raw.specs.Errors.Limits.{IsLowComponent, IsShallow};
 ghost use Rattle.bk_p_comp.specs.Faults.{IsFaultOfComponent};
 
 use crate::clause::clauses;

@@ -3,9 +3,9 @@ use Rattle.std.specs.Prelude.{◌≡◌, ℕ, zero, suc, ◌≤◌, Bool, true, 
 use Rattle.std.proofs.Common.{arith, sym, ap, ◌∙◌, length-append}
 use Rattle.bk_form.specs.declared.token.Token.{Token}
 use Rattle.bk_ops.specs.declared.sign.TheConstants.{COMMA, CLOSE_PAREN}
-use Rattle.bk_raw.specs.RawTree.{RawTree, raw, RawTreeNode, raw_pair}
-use Rattle.bk_raw.specs.Spelling.{Spells}
-use Rattle.bk_raw.specs.Reading.{next, sign, start, begins_with, chain, arguments, read}
+use Rattle.bk_raw.specs.Trees.RawTree.{RawTree, raw, RawTreeNode, raw_pair}
+use Rattle.bk_raw.specs.Grammar.Spelling.{Spells}
+use Rattle.bk_raw.specs.Grammar.Reading.{next, sign, start, begins_with, chain, arguments, read}
 use Rattle.bk_raw.proofs.SoundTerms.{read_spells}
 
 -- what is left is no longer

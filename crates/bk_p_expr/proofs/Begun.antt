@@ -6,14 +6,14 @@ use Rattle.bk_form.specs.declared.token.Token.{Token}
 use Rattle.bk_form.specs.declared.token.TokenKind.{TokenKind}
 use Rattle.bk_form.specs.declared.token.TokenKind.TheVariants.{Name, LevelName, BoundName, Number, Sign, Word}
 use Rattle.bk_ops.specs.declared.sign.TheConstants.{MEMBER, OPEN_PAREN, CLOSE_PAREN, CLOSE_BRACE, DOT, BAR}
-use Rattle.bk_raw.specs.Bars.{bar_follows}
-use Rattle.bk_raw.specs.Operators.{word_kind}
-use Rattle.bk_raw.specs.WrittenType.{WrittenType}
-use Rattle.bk_raw.specs.RawTree.{RawTree, raw, RawTreeNode, raw_empty_set, raw_typed_empty, raw_extension, raw_comprehension, raw_ranged_comprehension}
+use Rattle.bk_raw.specs.Grammar.Bars.{bar_follows}
+use Rattle.bk_raw.specs.Trees.Operators.{word_kind}
+use Rattle.bk_raw.specs.Trees.WrittenType.{WrittenType}
+use Rattle.bk_raw.specs.Trees.RawTree.{RawTree, raw, RawTreeNode, raw_empty_set, raw_typed_empty, raw_extension, raw_comprehension, raw_ranged_comprehension}
 use Rattle.bk_raw.specs.declared.operator.WordOp.{WordOp}
 use Rattle.bk_raw.specs.declared.term.RawName.{RawName}
 use Rattle.bk_raw.specs.declared.term.RawBound.{RawBound}
-use Rattle.bk_raw.specs.Reading.{next, sign, begins_with, begins_bound, begins_bound_in, within, names, binder, bounds, typed, terms, ranges, at_byte, braces, body, primary_at, read, constant_of, word_of}
+use Rattle.bk_raw.specs.Grammar.Reading.{next, sign, begins_with, begins_bound, begins_bound_in, within, names, binder, bounds, typed, terms, ranges, at_byte, braces, body, primary_at, read, constant_of, word_of}
 use Rattle.bk_p_expr.specs.Openings.{enclosed, surrounded, dot_paren, typed_empty, named_set, quantified_by, binders, plain_form, typed_form}
 use Rattle.bk_p_expr.specs.Pieces.{IsPiece}
 use Rattle.bk_p_expr.specs.Found.{Finds, FindsNone, FindsThis, IsNoLeaf, SameFrom, Opens, Begins}

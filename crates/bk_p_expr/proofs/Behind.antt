@@ -4,8 +4,8 @@ use Rattle.std.proofs.Common.{arith, sym, subst, ◌∙◌}
 use denote.Ref.{Bor}
 use Rattle.bk_form.specs.declared.token.Token.{Token}
 use Rattle.bk_ops.specs.declared.sign.TheConstants.{CLOSE_PAREN, CLOSE_BRACE, BAR, INVERSE, OPEN_BRACKET, CLOSE_BRACKET, OPEN_PAREN}
-use Rattle.bk_raw.specs.RawTree.{RawTree, raw, RawTreeNode, RawTrees, RawRanges, raw_inverse, raw_image, raw_apply, raw_extension, raw_ranged_comprehension, raw_ranged_lambda}
-use Rattle.bk_raw.specs.Reading.{next, sign, begins_with, within, arguments, terms, ranges, read}
+use Rattle.bk_raw.specs.Trees.RawTree.{RawTree, raw, RawTreeNode, RawTrees, RawRanges, raw_inverse, raw_image, raw_apply, raw_extension, raw_ranged_comprehension, raw_ranged_lambda}
+use Rattle.bk_raw.specs.Grammar.Reading.{next, sign, begins_with, within, arguments, terms, ranges, read}
 use Rattle.bk_p_expr.specs.Openings.{enclosed, surrounded, listed, ranged, dot_paren, valued, described, valued_over, suffixed}
 use Rattle.bk_p_expr.specs.Pieces.{IsPiece, IsTerms, IsRanges}
 use Rattle.bk_p_expr.specs.Found.{Finds, FindsNone, FindsRanges, FindsSuffix, SameFrom, Opens, Reads, Closes}

@@ -3,9 +3,9 @@ use Rattle.std.specs.Prelude.{◌≡◌, ℕ, true, false, cond, List, [], ◌�
 use Rattle.std.proofs.Common.{◌∙◌}
 use Rattle.bk_form.specs.declared.token.Token.{Token}
 use Rattle.bk_ops.specs.declared.sign.TheConstants.{OPEN_PAREN, CLOSE_PAREN}
-use Rattle.bk_raw.specs.WrittenType.{WrittenType}
+use Rattle.bk_raw.specs.Trees.WrittenType.{WrittenType}
 use Rattle.bk_raw.specs.declared.term.RawName.{RawName}
-use Rattle.bk_raw.specs.Reading.{next, sign, begins_with, name, names, binder, bound, typed, within}
+use Rattle.bk_raw.specs.Grammar.Reading.{next, sign, begins_with, name, names, binder, bound, typed, within}
 use Rattle.bk_p_expr.specs.PrintedTypes.{typed_bound}
 use Rattle.bk_p_expr.proofs.Choices.{next_found, next_fails}
 

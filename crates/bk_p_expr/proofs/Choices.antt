@@ -2,7 +2,7 @@
 use Rattle.std.specs.Prelude.{◌≡◌, Option, None, Some, List, MatchOption, Result, Ok, Err, IfOk, refl}
 use Rattle.std.proofs.Common.{sym, subst, ◌∙◌}
 use Rattle.bk_form.specs.declared.token.Token.{Token}
-use Rattle.bk_raw.specs.Reading.{next, or_else}
+use Rattle.bk_raw.specs.Grammar.Reading.{next, or_else}
 
 abbrev value_or : {A : Type 0} → A → Option A → A
 value_or x None = x

@@ -4,8 +4,8 @@ use Rattle.std.proofs.Common.{arith, sym, subst, ◌∙◌}
 use denote.Ref.{Bor}
 use Rattle.bk_form.specs.declared.token.Token.{Token}
 use Rattle.bk_ops.specs.declared.sign.TheConstants.{COMMA, CLOSE_PAREN}
-use Rattle.bk_raw.specs.RawTree.{RawTree, raw, raw_pair}
-use Rattle.bk_raw.specs.Reading.{next, sign, start, begins_with, within, chain, arguments, read}
+use Rattle.bk_raw.specs.Trees.RawTree.{RawTree, raw, raw_pair}
+use Rattle.bk_raw.specs.Grammar.Reading.{next, sign, start, begins_with, within, chain, arguments, read}
 use Rattle.bk_p_expr.specs.Openings.{sign_of, form_of, divider_in, placed, divided, enclosed}
 use Rattle.bk_p_expr.specs.Pieces.{IsPiece}
 use Rattle.bk_p_expr.specs.Found.{Finds, FindsNone, Closes}

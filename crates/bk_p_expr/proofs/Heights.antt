@@ -1,7 +1,7 @@
 -- Heights of terms on the way to being built.
 use Rattle.std.specs.Prelude.{◌≡◌, ℕ, ◌+◌, ◌<◌, max, Bool, true, false, List, [], ◌∷◌, ◌++◌, refl}
 use Rattle.std.proofs.Common.{arith}
-use Rattle.bk_raw.specs.RawTree.{RawTree, RawTrees, no_trees, tree_and, RawRanges, no_ranges, range_and, node_height, tree_height, trees_height, ranges_height, trees_of}
+use Rattle.bk_raw.specs.Trees.RawTree.{RawTree, RawTrees, no_trees, tree_and, RawRanges, no_ranges, range_and, node_height, tree_height, trees_height, ranges_height, trees_of}
 use Rattle.bk_raw.specs.Codes.RawView.{ranges_of}
 use Rattle.bk_raw.specs.declared.term.RawRange.{RawRange}
 use Rattle.bk_p_expr.specs.Pieces.{IsPiece, IsTerms, IsRanges, and_tree, and_range, around_node, between_node}

@@ -5,11 +5,11 @@ use Rattle.std.proofs.lemmas.Int.{ints}
 use Rattle.bk_form.specs.declared.token.Token.{Token}
 use Rattle.bk_form.specs.declared.token.TokenKind.{TokenKind}
 use Rattle.bk_form.specs.declared.token.TokenKind.TheVariants.{Name, LevelName, BoundName, Number, Sign, Word}
-use Rattle.bk_raw.specs.Operators.{constant_kind}
-use Rattle.bk_raw.specs.RawTree.{RawTree, raw, raw_name, raw_level_name, raw_bound_name, raw_number, raw_constant}
+use Rattle.bk_raw.specs.Trees.Operators.{constant_kind}
+use Rattle.bk_raw.specs.Trees.RawTree.{RawTree, raw, raw_name, raw_level_name, raw_bound_name, raw_number, raw_constant}
 use Rattle.bk_raw.specs.declared.operator.Constant.{Constant}
 use Rattle.bk_raw.specs.declared.operator.Constant.TheVariants.{Bool}
-use Rattle.bk_raw.specs.Reading.{constant_of, primary_at, read}
+use Rattle.bk_raw.specs.Grammar.Reading.{constant_of, primary_at, read}
 use Rattle.bk_p_expr.specs.Pieces.{IsPiece}
 use Rattle.bk_p_expr.specs.Found.{FindsLeaf, IsNoLeaf}
 use Rattle.bk_p_expr.specs.declared.piece.Piece.{Piece}

@@ -5,10 +5,10 @@ use Rattle.bk_form.specs.declared.token.Token.{Token}
 use Rattle.bk_form.specs.declared.token.TokenKind.{TokenKind}
 use Rattle.bk_form.specs.declared.token.TokenKind.TheVariants.{Name, LevelName, BoundName, Number, Sign, Word}
 use Rattle.bk_ops.specs.declared.sign.TheConstants.{COMMA}
-use Rattle.bk_raw.specs.RawTree.{RawTree, raw, RawTreeNode, RawTrees, no_trees, tree_and, RawRanges, no_ranges, range_and}
+use Rattle.bk_raw.specs.Trees.RawTree.{RawTree, raw, RawTreeNode, RawTrees, no_trees, tree_and, RawRanges, no_ranges, range_and}
 use Rattle.bk_raw.specs.declared.term.RawName.{RawName}
 use Rattle.bk_raw.specs.declared.term.RawBound.{RawBound}
-use Rattle.bk_raw.specs.Reading.{next, named, name, names, sign, begins_with, bound, bounds, typed, chain, terms, ranges, read}
+use Rattle.bk_raw.specs.Grammar.Reading.{next, named, name, names, sign, begins_with, bound, bounds, typed, chain, terms, ranges, read}
 use Rattle.bk_p_expr.specs.PrintedTypes.{typed_bound}
 use Rattle.bk_p_expr.specs.Pieces.{IsPiece, IsTerms, IsRanges, and_trees, and_ranges, and_tree, and_range}
 use Rattle.bk_p_expr.specs.Found.{Finds, FindsNone}

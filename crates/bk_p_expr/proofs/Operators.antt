@@ -3,10 +3,10 @@ use Rattle.std.specs.Prelude.{◌≡◌, ℕ, zero, suc, pred, ◌-◌, ◌<◌,
 use Rattle.std.proofs.Common.{arith, ap, sym, subst, ◌∙◌}
 use Rattle.std.proofs.lemmas.Bool.{le-leb, leb-true}
 use Rattle.bk_form.specs.declared.token.Token.{Token}
-use Rattle.bk_raw.specs.Operators.{binding}
-use Rattle.bk_raw.specs.RawTree.{RawTree, raw, raw_infix}
+use Rattle.bk_raw.specs.Trees.Operators.{binding}
+use Rattle.bk_raw.specs.Trees.RawTree.{RawTree, raw, raw_infix}
 use Rattle.bk_raw.specs.declared.operator.InfixOp.{InfixOp}
-use Rattle.bk_raw.specs.Reading.{Reader, next, or_else, start, operand, joined, joined_by, read, infix_of}
+use Rattle.bk_raw.specs.Grammar.Reading.{Reader, next, or_else, start, operand, joined, joined_by, read, infix_of}
 use Rattle.bk_p_expr.specs.Pieces.{IsPiece, between_node}
 use Rattle.bk_p_expr.specs.Openings.{Fits, NoneFits}
 use Rattle.bk_p_expr.specs.Found.{Finds, FindsNone}

@@ -2,9 +2,9 @@
 use Rattle.std.specs.Prelude.{false, ◌≡◌, ℕ, zero, suc, ◌-◌, ◌<◌, ◌≤◌, List, [], ◌∷◌, ◌++◌, length, take, drop, Option, None, Some, Result, Ok, Err, IfOk, MatchOption, refl}
 use Rattle.std.proofs.Common.{Box, Global, arith, sym, ap, ◌∙◌, subst, append_assoc, length-append, length-drop}
 use Rattle.bk_form.specs.declared.token.Token.{Token}
-use Rattle.bk_raw.specs.RawTree.{RawTree, tree_height}
-use Rattle.bk_raw.specs.Spelling.{Spells}
-use Rattle.bk_raw.specs.Reading.{read}
+use Rattle.bk_raw.specs.Trees.RawTree.{RawTree, tree_height}
+use Rattle.bk_raw.specs.Grammar.Spelling.{Spells}
+use Rattle.bk_raw.specs.Grammar.Reading.{read}
 use denote.Ref.{Bor}
 use Rattle.bk_p_expr.specs.Found.{Finds, FindsNone, Reads}
 use Rattle.bk_p_expr.specs.Fronts.{Longest, Nothing}

@@ -5,11 +5,11 @@ use Rattle.std.proofs.lemmas.Bool.{le-leb}
 use Rattle.bk_form.specs.declared.token.Token.{Token}
 use Rattle.bk_form.specs.declared.token.TokenKind.TheVariants.{Sign}
 use Rattle.bk_ops.specs.declared.sign.TheConstants.{MINUS, POWER}
-use Rattle.bk_raw.specs.Operators.{binding, infix_kind}
-use Rattle.bk_raw.specs.RawTree.{RawTree, raw, raw_infix}
+use Rattle.bk_raw.specs.Trees.Operators.{binding, infix_kind}
+use Rattle.bk_raw.specs.Trees.RawTree.{RawTree, raw, raw_infix}
 use Rattle.bk_raw.specs.declared.operator.InfixOp.{InfixOp}
 use Rattle.bk_raw.specs.declared.operator.InfixOp.TheVariants.{Equivalent, Power}
-use Rattle.bk_raw.specs.Reading.{Reader, same_kind, next, or_else, start, sign, begins_with, tight, operand, joined, joined_by, infix_of, read, signed, front_kind}
+use Rattle.bk_raw.specs.Grammar.Reading.{Reader, same_kind, next, or_else, start, sign, begins_with, tight, operand, joined, joined_by, infix_of, read, signed, front_kind}
 use Rattle.bk_p_expr.specs.Pieces.{IsPiece, ArePieces, raised}
 use Rattle.bk_p_expr.specs.Found.{Finds, FindsNone}
 use Rattle.bk_p_expr.specs.declared.piece.Piece.{Piece}

@@ -1,6 +1,6 @@
 -- The parts of a written term are smaller than the term.
 use Rattle.std.proofs.Common.{◌<◌, ◌≤◌, ℕ, zero, suc, List, [], ◌∷◌, length, get_or, arith}
-use Rattle.bk_raw.specs.RawTree.{RawTree, raw, RawTreeNode, raw_name, tree_size, node_size, trees_size, ranges_size, trees_of}
+use Rattle.bk_raw.specs.Trees.RawTree.{RawTree, raw, RawTreeNode, raw_name, tree_size, node_size, trees_size, ranges_size, trees_of}
 use Rattle.bk_raw.specs.Codes.RawView.{ranges_of}
 use Rattle.bk_raw.specs.declared.term.RawRange.{RawRange}
 

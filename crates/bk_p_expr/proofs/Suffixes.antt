@@ -4,9 +4,9 @@ use Rattle.std.proofs.Common.{arith, ap, sym, subst, ◌∙◌}
 use Rattle.bk_form.specs.declared.token.Token.{Token}
 use Rattle.bk_ops.specs.declared.sign.TheConstants.{MINUS, OPEN_PAREN, OPEN_BRACKET, CLOSE_BRACKET, INVERSE}
 use Rattle.bk_form.specs.declared.token.TokenKind.TheVariants.{Sign}
-use Rattle.bk_raw.specs.Operators.{negated, tightest}
-use Rattle.bk_raw.specs.RawTree.{RawTree, raw, RawTreeNode, raw_inverse, raw_image, raw_apply}
-use Rattle.bk_raw.specs.Reading.{same_kind, next, or_else, sign, start, begins_with, signed, front_kind, operand, within, arguments, primary_at, postfixed, tight, read}
+use Rattle.bk_raw.specs.Trees.Operators.{negated, tightest}
+use Rattle.bk_raw.specs.Trees.RawTree.{RawTree, raw, RawTreeNode, raw_inverse, raw_image, raw_apply}
+use Rattle.bk_raw.specs.Grammar.Reading.{same_kind, next, or_else, sign, start, begins_with, signed, front_kind, operand, within, arguments, primary_at, postfixed, tight, read}
 use Rattle.bk_p_expr.specs.Pieces.{IsPiece}
 use Rattle.bk_p_expr.specs.Openings.{primary, suffixed, unsigned, with_sign}
 use Rattle.bk_p_expr.specs.Found.{Finds, FindsNone, FindsOperand, FindsSuffix, IsSuffix, NoOperand}

@@ -7,8 +7,8 @@ use Rattle.bk_form.specs.declared.token.TokenKind.{TokenKind}
 use Rattle.bk_form.specs.declared.token.TokenKind.TheVariants.{Name, LevelName, BoundName, Number, Sign, Word}
 use Rattle.bk_ops.specs.declared.sign.TheConstants.{OPEN_PAREN, CLOSE_PAREN, TIMES}
 use Rattle.bk_ops.specs.declared.word.TheConstants.{BOOL, INTEGER, POW}
-use Rattle.bk_raw.specs.WrittenType.{WrittenType, written_integer, written_bool, written_set, written_power, written_product}
-use Rattle.bk_raw.specs.Reading.{next, sign, typed}
+use Rattle.bk_raw.specs.Trees.WrittenType.{WrittenType, written_integer, written_bool, written_set, written_power, written_product}
+use Rattle.bk_raw.specs.Grammar.Reading.{next, sign, typed}
 use Rattle.bk_p_expr.specs.PrintedTypes.{power, product}
 use Rattle.bk_p_expr.proofs.Choices.{next_found, next_fails}
 use Rattle.bk_p_expr.proofs.Written.{not_true}

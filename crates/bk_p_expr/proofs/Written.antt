@@ -7,12 +7,12 @@ use Rattle.bk_form.specs.declared.token.TokenKind.TheVariants.{Name, LevelName, 
 use Rattle.bk_ops.specs.declared.sign.TheConstants.{POWER}
 use Rattle.bk_raw.specs.declared.operator.InfixOp.TheVariants.{Power}
 use Rattle.bk_p_expr.proofs.Choices.{some_same}
-use Rattle.bk_raw.specs.Operators.{infix_kind, word_kind, constant_kind}
+use Rattle.bk_raw.specs.Trees.Operators.{infix_kind, word_kind, constant_kind}
 use Rattle.bk_raw.specs.Codes.OperatorCodes.{infix_operators, word_operators, constant_operators}
 use Rattle.bk_raw.specs.declared.operator.InfixOp.{InfixOp}
 use Rattle.bk_raw.specs.declared.operator.WordOp.{WordOp}
 use Rattle.bk_raw.specs.declared.operator.Constant.{Constant}
-use Rattle.bk_raw.specs.Reading.{same_kind, first_with, infix_of, word_of, constant_of}
+use Rattle.bk_raw.specs.Grammar.Reading.{same_kind, first_with, infix_of, word_of, constant_of}
 use Rattle.bk_raw.proofs.WrittenKinds.{infix_of-kind}
 
 pub same_kind-is : (k l : TokenKind) → same_kind k l ≡ true → k ≡ l

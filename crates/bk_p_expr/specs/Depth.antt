@@ -1,7 +1,7 @@
 -- Which tokens are shallow from a place on.
 use Rattle.std.specs.Prelude.{◌≡◌, ◌+◌, ℕ, List, drop}
 use Rattle.bk_form.specs.declared.token.Token.{Token}
-use Rattle.bk_raw.specs.Limits.{IsShallow, IsTooDeep}
+use Rattle.bk_raw.specs.Errors.Limits.{IsShallow, IsTooDeep}
 
 -- at most MOST_OPEN brackets, and at most MOST_OPEN blocks, are open after each token from a place on
 abbrev pub IsShallowFrom : List Token → ℕ → Type 0

@@ -2,7 +2,7 @@
 use Rattle.std.specs.Prelude.{◌≡◌, ℕ, ◌<◌, List}
 use Rattle.bk_limits.specs.declared.TheConstants.{GREATEST_TREE_HEIGHT}
 use Rattle.bk_form.specs.declared.token.Token.{Token}
-use Rattle.bk_raw.specs.RawTree.{RawTree, tree_height}
+use Rattle.bk_raw.specs.Trees.RawTree.{RawTree, tree_height}
 use Rattle.bk_p_expr.specs.Depth.{IsShallowFrom, IsTooDeepFrom}
 use Rattle.bk_p_expr.specs.Longest.{SpellsBetween, IsLongest}
 use Rattle.bk_p_expr.specs.declared.fault.SynFault.{SynFault}

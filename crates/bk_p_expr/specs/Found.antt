@@ -6,8 +6,8 @@ use Rattle.bk_form.specs.declared.token.Token.{Token}
 use Rattle.bk_form.specs.declared.token.TokenKind.{TokenKind}
 use Rattle.bk_form.specs.declared.token.TokenKind.TheVariants.{Name, LevelName, BoundName, Number, Sign, Word}
 use Rattle.bk_ops.specs.declared.sign.TheConstants.{CLOSE_PAREN}
-use Rattle.bk_raw.specs.RawTree.{RawTree, RawTreeNode, RawRanges, raw_inverse, raw_image, raw_apply, raw_lambda, raw_ranged_lambda}
-use Rattle.bk_raw.specs.Reading.{sign, constant_of, operand, primary_at, read}
+use Rattle.bk_raw.specs.Trees.RawTree.{RawTree, RawTreeNode, RawRanges, raw_inverse, raw_image, raw_apply, raw_lambda, raw_ranged_lambda}
+use Rattle.bk_raw.specs.Grammar.Reading.{sign, constant_of, operand, primary_at, read}
 use Rattle.bk_p_expr.specs.Openings.{enclosed, surrounded, listed, valued, described, valued_over, ranged, suffixed}
 use Rattle.bk_p_expr.specs.Pieces.{IsPiece, IsRanges, around_node}
 use Rattle.bk_p_expr.specs.declared.piece.Piece.{Piece}

@@ -1,8 +1,8 @@
 -- The longest term that is written from a place on.
 use Rattle.std.specs.Prelude.{◌≡◌, ℕ, ◌+◌, ◌≤◌, List, ◌++◌, length}
 use Rattle.bk_form.specs.declared.token.Token.{Token}
-use Rattle.bk_raw.specs.RawTree.{RawTree}
-use Rattle.bk_raw.specs.Spelling.{Spells}
+use Rattle.bk_raw.specs.Trees.RawTree.{RawTree}
+use Rattle.bk_raw.specs.Grammar.Spelling.{Spells}
 
 -- the tokens from one place up to another, without that one, are those of the term
 pub record SpellsBetween (tokens : List Token) (at next : ℕ) (tree : RawTree) : Type 0 where

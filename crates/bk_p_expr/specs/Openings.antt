@@ -3,9 +3,9 @@ use Rattle.std.specs.Prelude.{◌≡◌, ℕ, ◌≤◌, cond, List, [], ◌∷�
 use Rattle.bk_form.specs.declared.token.Token.{Token}
 use Rattle.bk_form.specs.declared.token.TokenKind.TheVariants.{Sign}
 use Rattle.bk_ops.specs.declared.sign.TheConstants.{MINUS, MEMBER, OPEN_PAREN, CLOSE_PAREN, OPEN_BRACKET, CLOSE_BRACKET, CLOSE_BRACE, INVERSE, SEMICOLON, COMMA, DOT, BAR}
-use Rattle.bk_raw.specs.Operators.{binding, infix_kind, negated, tightest}
-use Rattle.bk_raw.specs.RawTree.{RawTree, raw, RawTreeNode, RawRanges, raw_inverse, raw_image, raw_apply, raw_composition, raw_pair, raw_extension, raw_typed_empty, raw_comprehension, raw_ranged_comprehension, raw_ranged_lambda, raw_for_all, raw_exists, raw_typed_for_all, raw_typed_exists}
-use Rattle.bk_raw.specs.Reading.{Reader, same_kind, next, sign, begins_with, begins_bound_in, start, within, names, binder, bounds, typed, chain, arguments, moved, terms, ranges, at_byte, quantified, primary_at, signed, front_kind, read}
+use Rattle.bk_raw.specs.Trees.Operators.{binding, infix_kind, negated, tightest}
+use Rattle.bk_raw.specs.Trees.RawTree.{RawTree, raw, RawTreeNode, RawRanges, raw_inverse, raw_image, raw_apply, raw_composition, raw_pair, raw_extension, raw_typed_empty, raw_comprehension, raw_ranged_comprehension, raw_ranged_lambda, raw_for_all, raw_exists, raw_typed_for_all, raw_typed_exists}
+use Rattle.bk_raw.specs.Grammar.Reading.{Reader, same_kind, next, sign, begins_with, begins_bound_in, start, within, names, binder, bounds, typed, chain, arguments, moved, terms, ranges, at_byte, quantified, primary_at, signed, front_kind, read}
 use Rattle.bk_raw.specs.declared.operator.InfixOp.{InfixOp}
 use Rattle.bk_raw.specs.declared.term.RawName.{RawName}
 use Rattle.bk_raw.specs.declared.term.RawBound.{RawBound}

@@ -1,9 +1,9 @@
 -- Terms on the way to being built, with their heights.
 use Rattle.std.specs.Prelude.{◌≡◌, ℕ, ◌<◌, ◌≤◌, List, [], ◌∷◌}
 use Rattle.bk_limits.specs.declared.TheConstants.{GREATEST_TREE_HEIGHT}
-use Rattle.bk_raw.specs.RawTree.{RawTree, raw, RawTreeNode, raw_word, raw_negative, raw_infix, raw_inverse, raw_image, raw_apply, raw_composition, raw_pair, raw_comprehension, raw_lambda, raw_for_all, raw_exists, raw_typed_for_all, raw_typed_exists, RawTrees, no_trees, tree_and, RawRanges, no_ranges, range_and, tree_height, trees_height, ranges_height, trees_of}
+use Rattle.bk_raw.specs.Trees.RawTree.{RawTree, raw, RawTreeNode, raw_word, raw_negative, raw_infix, raw_inverse, raw_image, raw_apply, raw_composition, raw_pair, raw_comprehension, raw_lambda, raw_for_all, raw_exists, raw_typed_for_all, raw_typed_exists, RawTrees, no_trees, tree_and, RawRanges, no_ranges, range_and, tree_height, trees_height, ranges_height, trees_of}
 use Rattle.bk_raw.specs.Codes.RawView.{ranges_of}
-use Rattle.bk_raw.specs.FreeNames.{conjuncts}
+use Rattle.bk_raw.specs.Trees.FreeNames.{conjuncts}
 use Rattle.bk_p_expr.specs.Conjuncts.{AreConjuncts, free_names_of, free_names_of_ranges}
 use Rattle.bk_raw.specs.declared.operator.InfixOp.TheVariants.{Power}
 use Rattle.bk_p_expr.specs.declared.piece.Piece.{Piece}

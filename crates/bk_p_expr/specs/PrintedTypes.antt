@@ -1,9 +1,9 @@
 -- Parts of printed types, as they are read.
 use Rattle.std.specs.Prelude.{ℕ, Some}
 use Rattle.bk_ops.specs.declared.sign.TheConstants.{OPEN_PAREN, CLOSE_PAREN, TIMES}
-use Rattle.bk_raw.specs.WrittenType.{WrittenType, written_power, written_product}
+use Rattle.bk_raw.specs.Trees.WrittenType.{WrittenType, written_power, written_product}
 use Rattle.bk_raw.specs.declared.term.RawBound.{RawBound}
-use Rattle.bk_raw.specs.Reading.{Reader, next, sign, within, typed, bound}
+use Rattle.bk_raw.specs.Grammar.Reading.{Reader, next, sign, within, typed, bound}
 
 -- (T) after POW
 abbrev pub power : ℕ → Reader WrittenType

@@ -1,8 +1,8 @@
 // Whether a bar stands in the brackets that tokens stand in.
 
 ghost use Rattle.std.specs.Prelude.{◌≡◌};
-ghost use Rattle.bk_raw.specs.Bars.{bar_follows, is_bar};
-ghost use Rattle.bk_raw.specs.Brackets.{closes_bracket, opens_bracket};
+ghost use Rattle.bk_raw.specs.Grammar.Bars.{bar_follows, is_bar};
+ghost use Rattle.bk_raw.specs.Grammar.Brackets.{closes_bracket, opens_bracket};
 ghost use Rattle.bk_p_expr.specs.Roles.{is_bar_role, is_closing, is_opening};
 
 use bk_form::{Token, TokenKind};

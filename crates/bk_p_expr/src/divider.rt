@@ -1,7 +1,7 @@
 // What stands between a bracket and the sign that closes it: a term, or several with dividers between.
 
 ghost use Rattle.std.specs.Prelude.{◌≡◌};
-ghost use Rattle.bk_raw.specs.RawTree.{RawTree};
+ghost use Rattle.bk_raw.specs.Trees.RawTree.{RawTree};
 ghost use Rattle.bk_p_expr.specs.Openings.{divider_in, form_of, placed, sign_of};
 ghost use Rattle.bk_p_expr.specs.Pieces.{IsPiece, between_node};
 

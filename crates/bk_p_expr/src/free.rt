@@ -1,8 +1,8 @@
 // The names that stand free in a term, and the terms that `&` joins in it.
 
 ghost use Rattle.std.specs.Prelude.{◌≡◌, ◌<◌, ◌++◌, [], ◌∷◌, None, Some, IfOk, IfSome, MatchOption, option_to_list};
-ghost use Rattle.bk_raw.specs.FreeNames.{conjuncts, is_among};
-ghost use Rattle.bk_raw.specs.RawTree.{tree_size, trees_of};
+ghost use Rattle.bk_raw.specs.Trees.FreeNames.{conjuncts, is_among};
+ghost use Rattle.bk_raw.specs.Trees.RawTree.{tree_size, trees_of};
 ghost use Rattle.bk_raw.specs.Codes.RawView.{ranges_of};
 ghost use Rattle.bk_p_expr.specs.Conjuncts.{AreConjuncts, IsConjunct, definition, free_names, free_names_of, free_names_of_ranges, name_alone, names_beside, names_of_conjuncts, without};
 

@@ -1,7 +1,7 @@
 // Signs and names that stand in front of tokens: what is read without a term.
 
 ghost use Rattle.std.specs.Prelude.{◌≡◌, ◌<◌, None, Some, true, false, [], ◌∷◌, length, IfOk, MatchOption, IfSome};
-ghost use Rattle.bk_raw.specs.Reading.{begins_bound, begins_with, binder, bound, name, names, next, sign};
+ghost use Rattle.bk_raw.specs.Grammar.Reading.{begins_bound, begins_with, binder, bound, name, names, next, sign};
 
 use bk_form::{Token, TokenKind};
 use bk_io::Memory;

@@ -3,7 +3,7 @@
 ghost use Rattle.std.specs.Prelude.{◌≡◌, ◌-◌, ◌<◌, ◌≤◌, ℕ, None, Some, true, false, length, IfOk, MatchOption, IfSome};
 ghost use Rattle.bk_form.specs.declared.token.Token.{Token as RawToken};
 ghost use Rattle.bk_ops.specs.declared.sign.TheConstants.{OPEN_PAREN};
-ghost use Rattle.bk_raw.specs.Reading.{at_byte, begins_bound_in, braces, constant_of, lambda, primary_at, read, sign, start};
+ghost use Rattle.bk_raw.specs.Grammar.Reading.{at_byte, begins_bound_in, braces, constant_of, lambda, primary_at, read, sign, start};
 ghost use Rattle.bk_p_expr.specs.Found.{Begins, Binds, FindsLeaf, IsNoLeaf};
 ghost use Rattle.bk_p_expr.specs.Openings.{binders, dot_paren, named_set, plain_form, primary, quantified_by, typed_empty, typed_form};
 ghost use Rattle.bk_p_expr.specs.Pieces.{around_node};

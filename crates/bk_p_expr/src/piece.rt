@@ -1,10 +1,10 @@
 // Terms on the way to being built: none is built that is too high.
 
 ghost use Rattle.std.specs.Prelude.{◌≡◌, ◌<◌, ◌≤◌, ◌++◌, ℕ, None, [], ◌∷◌, IfOk};
-ghost use Rattle.bk_raw.specs.FreeNames.{conjuncts};
-ghost use Rattle.bk_raw.specs.RawTree.{RawTree, RawTrees, RawRanges, raw, node_height, tree_height, trees_height, ranges_height, raw_extension, raw_infix, raw_ranged_comprehension, raw_ranged_lambda};
+ghost use Rattle.bk_raw.specs.Trees.FreeNames.{conjuncts};
+ghost use Rattle.bk_raw.specs.Trees.RawTree.{RawTree, RawTrees, RawRanges, raw, node_height, tree_height, trees_height, ranges_height, raw_extension, raw_infix, raw_ranged_comprehension, raw_ranged_lambda};
 ghost use Rattle.bk_raw.specs.Codes.RawView.{node_of, tree_of};
-ghost use Rattle.bk_raw.specs.Reading.{moved};
+ghost use Rattle.bk_raw.specs.Grammar.Reading.{moved};
 ghost use Rattle.bk_raw.specs.declared.operator.InfixOp.TheVariants.{And, Equal};
 ghost use Rattle.bk_p_expr.specs.Conjuncts.{AreConjuncts, definition, free_names, free_names_of, free_names_of_ranges, name_alone};
 ghost use Rattle.bk_p_expr.specs.Pieces.{IsPiece, IsTerms, IsRanges, around_node, between_node, and_tree, and_range};

@@ -1,7 +1,7 @@
 // Types that printed formulas name, and bound variables with their types.
 
 ghost use Rattle.std.specs.Prelude.{◌≡◌, ◌<◌, ◌-◌, ◌≤◌, ℕ, None, Some, length, IfOk, MatchOption, IfSome};
-ghost use Rattle.bk_raw.specs.Reading.{bounds, typed};
+ghost use Rattle.bk_raw.specs.Grammar.Reading.{bounds, typed};
 ghost use Rattle.bk_p_expr.specs.Found.{FindsNone, FindsThis, ReadsThis};
 ghost use Rattle.bk_p_expr.specs.PrintedTypes.{power, product, typed_bound};
 

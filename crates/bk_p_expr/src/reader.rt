@@ -1,8 +1,8 @@
 // Terms, read from tokens.
 
 ghost use Rattle.std.specs.Prelude.{◌≤◌, ◌<◌, length, IfOk, IfErr, IfSome, MatchOption};
-ghost use Rattle.bk_raw.specs.RawTree.{RawTree, tree_height};
-ghost use Rattle.bk_raw.specs.Spelling.{Spells};
+ghost use Rattle.bk_raw.specs.Trees.RawTree.{RawTree, tree_height};
+ghost use Rattle.bk_raw.specs.Grammar.Spelling.{Spells};
 ghost use Rattle.bk_p_expr.specs.Depth.{IsShallowFrom};
 ghost use Rattle.bk_p_expr.specs.Longest.{IsLongest};
 ghost use Rattle.bk_p_expr.specs.Faults.{IsTermFault};

@@ -5,9 +5,9 @@
 // are read by loops, those that join to the right by a list of operands.
 
 ghost use Rattle.std.specs.Prelude.{◌≡◌, ◌-◌, ◌<◌, ◌≤◌, ℕ, List, length, IfOk, MatchOption, IfSome};
-ghost use Rattle.bk_raw.specs.Operators.{negated};
-ghost use Rattle.bk_raw.specs.RawTree.{RawTree, RawTreeNode, raw};
-ghost use Rattle.bk_raw.specs.Reading.{front_kind, read, sign, signed, start};
+ghost use Rattle.bk_raw.specs.Trees.Operators.{negated};
+ghost use Rattle.bk_raw.specs.Trees.RawTree.{RawTree, RawTreeNode, raw};
+ghost use Rattle.bk_raw.specs.Grammar.Reading.{front_kind, read, sign, signed, start};
 ghost use Rattle.bk_p_expr.specs.Pieces.{ArePieces, IsPiece, raised};
 ghost use Rattle.bk_p_expr.specs.Openings.{Fits, NoneFits, enclosed, listed, primary, ranged, suffixed, unsigned, valued, with_sign};
 ghost use Rattle.bk_p_expr.specs.Found.{FindsNone, FindsOperand, FindsRanges, FindsSuffix, NoOperand, Closes, IsBinder, IsSuffix, Reads};

@@ -5,10 +5,10 @@ use Rattle.bk_form.specs.declared.token.Token.{Token}
 use Rattle.bk_form.specs.declared.token.TokenKind.{TokenKind}
 use Rattle.bk_form.specs.declared.token.TokenKind.TheVariants.{Number, Sign}
 use Rattle.bk_ops.specs.declared.sign.TheConstants.{MINUS, TIMES, DIVIDE, PLUS, BAR, COMMA, MEMBER}
-use Rattle.bk_raw.specs.Pieces.{Digits, Literal, Divided, AnyDivided}
+use Rattle.bk_raw.specs.Grammar.Pieces.{Digits, Literal, Divided, AnyDivided}
 use Rattle.bk_raw.specs.declared.script.RawMultiple.{RawMultiple}
-use Rattle.bk_raw.specs.ScriptSpelling.{Multiple, Line}
-use Rattle.bk_raw.specs.ScriptTree.{RawLine, multiples, quotient}
+use Rattle.bk_raw.specs.Grammar.ScriptSpelling.{Multiple, Line}
+use Rattle.bk_raw.specs.Trees.ScriptTree.{RawLine, multiples, quotient}
 use Rattle.bk_raw.proofs.Steps.{Piece}
 use Rattle.bk_raw.proofs.Patterns.{first}
 use Rattle.bk_p_expr.specs.Fronts.{Longest, Nothing}

@@ -3,10 +3,10 @@ use Rattle.std.specs.Prelude.{◌≡◌, ℕ, ◌+◌, ◌-◌, ◌<◌, ◌≤�
 use Rattle.std.proofs.Common.{inl, inr, arith, sym, ◌∙◌, ap, subst, append_assoc, append-nil, length-append}
 use Rattle.bk_form.specs.declared.token.Token.{Token}
 use Rattle.bk_form.specs.declared.token.TokenKind.TheVariants.{Name}
-use Rattle.bk_raw.specs.Pieces.{Just, ◌⌢◌}
-use Rattle.bk_raw.specs.Places.{IsLongestWhole, IsScriptFault}
-use Rattle.bk_raw.specs.ScriptTree.{RawScript, script_height}
-use Rattle.bk_raw.specs.ScriptSpelling.{OpensScript, Scripted, SpellsScripts, IsWholeScripts}
+use Rattle.bk_raw.specs.Grammar.Pieces.{Just, ◌⌢◌}
+use Rattle.bk_raw.specs.Errors.Places.{IsLongestWhole, IsScriptFault}
+use Rattle.bk_raw.specs.Trees.ScriptTree.{RawScript, script_height}
+use Rattle.bk_raw.specs.Grammar.ScriptSpelling.{OpensScript, Scripted, SpellsScripts, IsWholeScripts}
 use Rattle.bk_raw.proofs.Steps.{Piece}
 use Rattle.bk_raw.proofs.ScriptOne.{script-cut, end-finishes}
 use Rattle.bk_raw.proofs.ScriptPlaces.{opens-within, scripts-tell-place}

@@ -5,7 +5,7 @@ use Rattle.std.proofs.Common.{arith, ap, get_or, sym, subst, ◌∙◌}
 use Rattle.std.proofs.lemmas.List.{map-append, length-map}
 use Rattle.std.proofs.lemmas.List.Elements.{All-weaker}
 use Rattle.bk_raw.specs.declared.script.NamePart.{NamePart}
-use Rattle.bk_raw.specs.ScriptTree.{RawScript}
+use Rattle.bk_raw.specs.Trees.ScriptTree.{RawScript}
 use Rattle.bk_p_proof.specs.declared.reading.FileScripts.{FileScripts}
 use Rattle.bk_files.specs.Files.{Has}
 use Rattle.bk_p_proof.specs.Files.{IsShort, IsWritten, IsLow, IsProofFile, IsHigh, IsLong, IsTwiceNamed, AreScriptsOf, names_of}

@@ -15,7 +15,7 @@ use Rattle.indexmap.specs.IndexSet.{insert_key}
 use Rattle.bk_names.proofs.Places.{list_any-map}
 use Rattle.bk_raw.specs.declared.script.NamePart.{NamePart}
 use Rattle.bk_raw.specs.declared.script.NamePart.TheVariants.{Letters, Numeral}
-use Rattle.bk_raw.specs.ScriptTree.{RawScript}
+use Rattle.bk_raw.specs.Trees.ScriptTree.{RawScript}
 use Rattle.bk_p_proof.specs.Files.{names_of}
 use Rattle.bk_p_proof.specs.Keys.{part_key, name_key, FitsKey, NameFits, HasKeys, IsAgain}
 

@@ -9,8 +9,8 @@ use Rattle.bk_form.specs.declared.token.TokenKind.{TokenKind}
 use Rattle.bk_form.specs.declared.token.TokenKind.TheVariants.{Name, LevelName, BoundName, Number, Sign, Word}
 use Rattle.bk_ops.specs.Words.{word_texts}
 use Rattle.bk_ops.specs.declared.sign.TheConstants.{DOT}
-use Rattle.bk_raw.specs.Pieces.{Divided}
-use Rattle.bk_raw.specs.ScriptSpelling.{PartNamed, letters_of}
+use Rattle.bk_raw.specs.Grammar.Pieces.{Divided}
+use Rattle.bk_raw.specs.Grammar.ScriptSpelling.{PartNamed, letters_of}
 use Rattle.bk_raw.specs.declared.script.NamePart.{NamePart}
 use Rattle.bk_raw.specs.declared.script.NamePart.TheVariants.{Letters, Numeral}
 use Rattle.bk_raw.proofs.Stopping.{none_some, some_same}

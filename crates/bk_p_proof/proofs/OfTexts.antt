@@ -3,9 +3,9 @@ use Rattle.std.specs.Prelude.{◌≤◌, ℕ, List, [], ◌∷◌, ◌++◌, map
 use Rattle.std.specs.List.{AllZip, flat_map}
 use Rattle.std.proofs.Common.{arith, sym, subst}
 use Rattle.std.proofs.lemmas.List.Elements.{All-nil, All-append, Contains-get_or}
-use Rattle.bk_raw.specs.Limits.{IsLowFile}
-use Rattle.bk_raw.specs.Numbers.{greatest}
-use Rattle.bk_raw.specs.ScriptTree.{RawScript, script_height}
+use Rattle.bk_raw.specs.Errors.Limits.{IsLowFile}
+use Rattle.bk_raw.specs.Trees.Numbers.{greatest}
+use Rattle.bk_raw.specs.Trees.ScriptTree.{RawScript, script_height}
 use Rattle.bk_p_proof.specs.Files.{AreOfTexts, IsProofFile, IsShort, StandsInFile}
 
 -- ---- of the scripts of all files

@@ -7,9 +7,9 @@ use Rattle.std.proofs.lemmas.List.Concat.{flat_map-append}
 use Rattle.std.proofs.lemmas.List.Elements.{All-weaker}
 use Rattle.bk_form.specs.declared.token.Token.{Token}
 use Rattle.bk_raw.specs.declared.script.NamePart.{NamePart}
-use Rattle.bk_raw.specs.Places.{IsScriptFaultAt}
-use Rattle.bk_raw.specs.ScriptTree.{RawScript}
-use Rattle.bk_raw.specs.ScriptSpelling.{SpellsScripts}
+use Rattle.bk_raw.specs.Errors.Places.{IsScriptFaultAt}
+use Rattle.bk_raw.specs.Trees.ScriptTree.{RawScript}
+use Rattle.bk_raw.specs.Grammar.ScriptSpelling.{SpellsScripts}
 use Rattle.bk_raw.proofs.ScriptOne.{one-file-of}
 use Rattle.bk_lex.proofs.Cutting.{tokens_are_one}
 use Rattle.bk_p_proof.specs.declared.fault.ScriptFault.TheVariants.{Fault, Limit, Memory}

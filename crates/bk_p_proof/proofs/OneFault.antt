@@ -6,9 +6,9 @@ use Rattle.std.proofs.lemmas.List.{map-append}
 use Rattle.std.proofs.lemmas.List.Elements.{All-weaker}
 use Rattle.bk_form.specs.declared.token.Token.{Token}
 use Rattle.bk_raw.specs.declared.script.RawTyped.{RawTyped}
-use Rattle.bk_raw.specs.Places.{IsScriptFaultAt}
-use Rattle.bk_raw.specs.ScriptTree.{RawScript}
-use Rattle.bk_raw.specs.ScriptSpelling.{SpellsScripts}
+use Rattle.bk_raw.specs.Errors.Places.{IsScriptFaultAt}
+use Rattle.bk_raw.specs.Trees.ScriptTree.{RawScript}
+use Rattle.bk_raw.specs.Grammar.ScriptSpelling.{SpellsScripts}
 use Rattle.bk_raw.proofs.ScriptOne.{one-file-of}
 use Rattle.bk_raw.proofs.ScriptPlaces.{file-places-are-one}
 use Rattle.bk_lex.proofs.Cutting.{tokens_are_one}

@@ -4,14 +4,14 @@ use Rattle.std.proofs.Common.{arith, sym, ◌∙◌, ap}
 use Rattle.bk_form.specs.declared.token.Token.{Token}
 use Rattle.bk_form.specs.declared.token.TokenKind.TheVariants.{Number}
 use Rattle.bk_ops.specs.declared.sign.TheConstants.{COMMA}
-use Rattle.bk_raw.specs.Numbers.{greatest}
-use Rattle.bk_raw.specs.Pieces.{Digits, Divided}
-use Rattle.bk_raw.specs.RawTree.{RawTree, RawTrees, no_trees, tree_and, tree_height, trees_height, trees_of}
+use Rattle.bk_raw.specs.Trees.Numbers.{greatest}
+use Rattle.bk_raw.specs.Grammar.Pieces.{Digits, Divided}
+use Rattle.bk_raw.specs.Trees.RawTree.{RawTree, RawTrees, no_trees, tree_and, tree_height, trees_height, trees_of}
 use Rattle.bk_p_proof.specs.Kept.{IsPart}
-use Rattle.bk_raw.specs.Spelling.{Spells}
+use Rattle.bk_raw.specs.Grammar.Spelling.{Spells}
 use Rattle.bk_raw.specs.declared.script.RawTyped.{RawTyped}
-use Rattle.bk_raw.specs.ScriptTree.{one_number, one_term, some_terms, one_place, perhaps_place, typed_names, one_law, certificate, RawPlace, RawLine, RulePart, part_number, part_term, part_terms, part_place, part_no_place, part_typed, part_law, part_certificate}
-use Rattle.bk_raw.specs.ScriptSpelling.{Spelled, Place, TypedName}
+use Rattle.bk_raw.specs.Trees.ScriptTree.{one_number, one_term, some_terms, one_place, perhaps_place, typed_names, one_law, certificate, RawPlace, RawLine, RulePart, part_number, part_term, part_terms, part_place, part_no_place, part_typed, part_law, part_certificate}
+use Rattle.bk_raw.specs.Grammar.ScriptSpelling.{Spelled, Place, TypedName}
 use Rattle.bk_p_expr.specs.Fronts.{Longest, Nothing}
 use Rattle.bk_p_proof.specs.Ahead.{Ahead}
 use Rattle.bk_p_proof.specs.Kinds.{SomeTerms, Lawful, Certified}

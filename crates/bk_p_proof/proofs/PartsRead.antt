@@ -2,8 +2,8 @@
 use Rattle.std.specs.Prelude.{◌≡◌, ℕ, ◌-◌, ◌≤◌, Bool, true, false, ◌||◌, List, [], ◌∷◌, ◌++◌, length, map, refl}
 use Rattle.std.proofs.Common.{take, drop, get_or, arith, sym, ◌∙◌, ap, subst, append_assoc, append-nil, length-append}
 use Rattle.bk_form.specs.declared.token.Token.{Token}
-use Rattle.bk_raw.specs.ScriptTree.{PartKind, one_number, one_place, one_law, RulePart, part_number, part_place, part_law, part_height}
-use Rattle.bk_raw.specs.ScriptSpelling.{Spelled, Ruled}
+use Rattle.bk_raw.specs.Trees.ScriptTree.{PartKind, one_number, one_place, one_law, RulePart, part_number, part_place, part_law, part_height}
+use Rattle.bk_raw.specs.Grammar.ScriptSpelling.{Spelled, Ruled}
 use Rattle.bk_raw.proofs.Steps.{step, Leads}
 use Rattle.bk_raw.proofs.Runs.{Halts}
 use Rattle.bk_raw.proofs.PartOne.{one-digits, ends_law, law-leads, one-law}

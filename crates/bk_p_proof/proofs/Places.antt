@@ -4,9 +4,9 @@ use Rattle.std.proofs.Common.{arith, sym, ◌∙◌, ap, append_assoc, append-ni
 use Rattle.bk_form.specs.declared.token.Token.{Token}
 use Rattle.bk_form.specs.declared.token.TokenKind.{TokenKind}
 use Rattle.bk_form.specs.declared.token.TokenKind.TheVariants.{Name, Number}
-use Rattle.bk_raw.specs.Pieces.{Just, ◌⌢◌, Digits, InRow}
-use Rattle.bk_raw.specs.ScriptTree.{RawPlace, in_goal, in_hypothesis}
-use Rattle.bk_raw.specs.ScriptSpelling.{Place}
+use Rattle.bk_raw.specs.Grammar.Pieces.{Just, ◌⌢◌, Digits, InRow}
+use Rattle.bk_raw.specs.Trees.ScriptTree.{RawPlace, in_goal, in_hypothesis}
+use Rattle.bk_raw.specs.Grammar.ScriptSpelling.{Place}
 use Rattle.bk_raw.proofs.Steps.{Piece}
 use Rattle.bk_raw.proofs.Patterns.{first}
 use Rattle.bk_raw.proofs.PartOne.{texts-same}

@@ -3,7 +3,7 @@ use Rattle.std.specs.Prelude.{◌≡◌, ◌⊎◌, ℕ, ◌<◌, ◌≤◌, Lis
 use Rattle.std.proofs.Common.{inl, inr, arith, sym, ◌∙◌, ap, subst, append_assoc, append-nil, length-append}
 use Rattle.bk_form.specs.declared.token.Token.{Token}
 use Rattle.bk_form.specs.declared.token.TokenKind.TheVariants.{Sign}
-use Rattle.bk_raw.specs.Pieces.{Never, Absent, JustSign, ◌⌢◌, Divided, AnyDivided}
+use Rattle.bk_raw.specs.Grammar.Pieces.{Never, Absent, JustSign, ◌⌢◌, Divided, AnyDivided}
 use Rattle.bk_raw.proofs.Steps.{Piece}
 use Rattle.bk_raw.proofs.Patterns.{first}
 use Rattle.bk_p_expr.specs.Fronts.{Longest, Nothing}

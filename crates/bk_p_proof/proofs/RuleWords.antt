@@ -8,7 +8,7 @@ use Rattle.bk_form.specs.declared.token.TokenKind.TheVariants.{Name, Word}
 use Rattle.bk_ops.specs.declared.word.TheConstants.{OR, NOT}
 use Rattle.bk_raw.specs.declared.script.RuleWord.{RuleWord}
 use Rattle.bk_raw.specs.declared.script.RuleWord.TheVariants.{Hyp, Not, Or}
-use Rattle.bk_raw.specs.ScriptTree.{rule_kind}
+use Rattle.bk_raw.specs.Trees.ScriptTree.{rule_kind}
 use Rattle.bk_p_proof.specs.Words.{first_named, propositions, hypotheses, rewritings, arithmetic, named_rule}
 
 abbrev Entries : Type 0

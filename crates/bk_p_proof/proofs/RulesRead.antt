@@ -3,8 +3,8 @@ use Rattle.std.specs.Prelude.{◌≡◌, ℕ, ◌≤◌, Bool, true, false, List
 use Rattle.std.proofs.Common.{sym, ◌∙◌, ap, subst}
 use Rattle.bk_form.specs.declared.token.Token.{Token}
 use Rattle.bk_raw.specs.declared.script.RuleWord.{RuleWord}
-use Rattle.bk_raw.specs.ScriptTree.{rule_kind, shape_of, RulePart, RawRule}
-use Rattle.bk_raw.specs.ScriptSpelling.{Ruled, Rule}
+use Rattle.bk_raw.specs.Trees.ScriptTree.{rule_kind, shape_of, RulePart, RawRule}
+use Rattle.bk_raw.specs.Grammar.ScriptSpelling.{Ruled, Rule}
 use Rattle.bk_raw.proofs.RuleOne.{word-same}
 use Rattle.bk_p_expr.specs.Fronts.{Longest}
 use Rattle.bk_p_proof.specs.Kept.{AreParts, IsRule}

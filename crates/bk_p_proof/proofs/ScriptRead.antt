@@ -4,12 +4,12 @@ use Rattle.std.proofs.Common.{inl, arith, sym, ◌∙◌, ap, subst, append_asso
 use Rattle.bk_form.specs.declared.token.Token.{Token}
 use Rattle.bk_form.specs.declared.token.TokenKind.TheVariants.{Name, Sign}
 use Rattle.bk_ops.specs.declared.sign.TheConstants.{SEMICOLON, DOT}
-use Rattle.bk_raw.specs.Pieces.{Divided, AnyDivided}
-use Rattle.bk_raw.specs.Reading.{start}
+use Rattle.bk_raw.specs.Grammar.Pieces.{Divided, AnyDivided}
+use Rattle.bk_raw.specs.Grammar.Reading.{start}
 use Rattle.bk_raw.specs.declared.script.NamePart.{NamePart}
 use Rattle.bk_raw.specs.declared.script.NamePart.TheVariants.{Letters, Numeral}
-use Rattle.bk_raw.specs.ScriptTree.{RawRule, RawScript}
-use Rattle.bk_raw.specs.ScriptSpelling.{Rule, PartNamed, OpensScript}
+use Rattle.bk_raw.specs.Trees.ScriptTree.{RawRule, RawScript}
+use Rattle.bk_raw.specs.Grammar.ScriptSpelling.{Rule, PartNamed, OpensScript}
 use Rattle.bk_raw.proofs.Steps.{Piece}
 use Rattle.bk_raw.proofs.RuleOne.{IsRuleEnd, RuleEnds, rule-cut}
 use Rattle.bk_raw.proofs.RuleLonger.{rule-no-longer}

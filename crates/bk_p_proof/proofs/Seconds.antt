@@ -11,7 +11,7 @@ use Rattle.std.proofs.lemmas.Map.Views.{list_any-from_Contains}
 use Rattle.indexmap.specs.IndexSet.{insert_key}
 use Rattle.bk_names.proofs.Places.{position-map, some_place, list_any-map}
 use Rattle.bk_raw.specs.declared.script.RawTyped.{RawTyped}
-use Rattle.bk_raw.specs.ScriptTree.{RawScript}
+use Rattle.bk_raw.specs.Trees.ScriptTree.{RawScript}
 use Rattle.bk_p_proof.specs.TypedNames.{AreOfOneType, IsOtherwise, IsSecondTypeOf, IsSecondType, script_names}
 
 -- where a list with one more at its end is cut in front of an element, that is the last, or stood before

@@ -2,8 +2,8 @@
 use Rattle.std.specs.Prelude.{◌≡◌, ℕ, pos, List, [], ◌∷◌, refl}
 use Rattle.bk_form.specs.declared.token.Token.{Token}
 use Rattle.bk_form.specs.declared.token.TokenKind.TheVariants.{Name, Number}
-use Rattle.bk_raw.specs.Pieces.{Just, Digits}
-use Rattle.bk_raw.specs.Spelling.{Declared}
+use Rattle.bk_raw.specs.Grammar.Pieces.{Just, Digits}
+use Rattle.bk_raw.specs.Grammar.Spelling.{Declared}
 use Rattle.bk_raw.proofs.SubOne.{one-name}
 use Rattle.bk_raw.proofs.PartOne.{one-digits}
 use Rattle.bk_p_expr.specs.Fronts.{Longest}

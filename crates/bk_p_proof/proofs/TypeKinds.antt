@@ -6,9 +6,9 @@ use Rattle.bk_form.specs.declared.token.TokenKind.{TokenKind}
 use Rattle.bk_form.specs.declared.token.TokenKind.TheVariants.{Name, Sign, Word}
 use Rattle.bk_ops.specs.declared.sign.TheConstants.{TIMES, OPEN_PAREN, CLOSE_PAREN}
 use Rattle.bk_ops.specs.declared.word.TheConstants.{BOOL, INTEGER, POW}
-use Rattle.bk_raw.specs.Pieces.{Just, JustSign, ◌⌢◌, InParentheses}
-use Rattle.bk_raw.specs.WrittenType.{WrittenType, written_integer, written_bool, written_set, written_power, written_product}
-use Rattle.bk_raw.specs.Spelling.{Typed}
+use Rattle.bk_raw.specs.Grammar.Pieces.{Just, JustSign, ◌⌢◌, InParentheses}
+use Rattle.bk_raw.specs.Trees.WrittenType.{WrittenType, written_integer, written_bool, written_set, written_power, written_product}
+use Rattle.bk_raw.specs.Grammar.Spelling.{Typed}
 use Rattle.bk_raw.proofs.Steps.{Piece, Stopper, step, Leads, leads-join, leads-just, leads-in}
 use Rattle.bk_raw.proofs.Patterns.{first}
 use Rattle.bk_raw.proofs.TermRuns.{ends_term, inner, typed}

@@ -5,12 +5,12 @@ use Rattle.bk_form.specs.declared.token.Token.{Token}
 use Rattle.bk_form.specs.declared.token.TokenKind.{TokenKind}
 use Rattle.bk_form.specs.declared.token.TokenKind.TheVariants.{Name, Sign}
 use Rattle.bk_ops.specs.declared.sign.TheConstants.{COMMA, MEMBER}
-use Rattle.bk_raw.specs.Pieces.{JustSign, ◌⌢◌, Divided}
-use Rattle.bk_raw.specs.WrittenType.{WrittenType}
-use Rattle.bk_raw.specs.Spelling.{Typed, Declared}
+use Rattle.bk_raw.specs.Grammar.Pieces.{JustSign, ◌⌢◌, Divided}
+use Rattle.bk_raw.specs.Trees.WrittenType.{WrittenType}
+use Rattle.bk_raw.specs.Grammar.Spelling.{Typed, Declared}
 use Rattle.bk_raw.specs.declared.script.RawTyped.{RawTyped}
 use Rattle.bk_raw.specs.declared.term.RawName.{RawName}
-use Rattle.bk_raw.specs.ScriptSpelling.{TypedName}
+use Rattle.bk_raw.specs.Grammar.ScriptSpelling.{TypedName}
 use Rattle.bk_raw.proofs.Steps.{Piece, stepped, Leads, leads-join, leads-just}
 use Rattle.bk_p_proof.proofs.Rows.{RowSoFar, row_begins, row_goes_on, row_ends, row_ends_before, row_none}
 use Rattle.bk_raw.proofs.Patterns.{first}

@@ -5,12 +5,12 @@ use Rattle.std.specs.Prelude.{◌≡◌, ◌≢◌, ◌⊎◌, ◌≤◌, ℕ, L
 use Rattle.std.specs.List.{AllZip, AllPairs, flat_map}
 use Rattle.bk_limits.specs.declared.TheConstants.{MOST_RULES}
 use Rattle.bk_form.specs.declared.token.Token.{Token}
-use Rattle.bk_raw.specs.ScriptTree.{RawScript}
-use Rattle.bk_raw.specs.ScriptSpelling.{SpellsScripts}
-use Rattle.bk_raw.specs.Places.{IsScriptFaultAt}
-use Rattle.bk_raw.specs.Limits.{IsLowFile}
+use Rattle.bk_raw.specs.Trees.ScriptTree.{RawScript}
+use Rattle.bk_raw.specs.Grammar.ScriptSpelling.{SpellsScripts}
+use Rattle.bk_raw.specs.Errors.Places.{IsScriptFaultAt}
+use Rattle.bk_raw.specs.Errors.Limits.{IsLowFile}
 use Rattle.bk_raw.specs.declared.fault.FaultKind.TheVariants.{NoTree, TwiceNamed}
-use Rattle.bk_raw.specs.Faults.{number_of_fault}
+use Rattle.bk_raw.specs.Errors.Faults.{number_of_fault}
 use Rattle.bk_files.specs.Files.{Has, IsFirst, IsShallowText, IsAtFault, IsPastLimit}
 use Rattle.bk_raw.specs.declared.script.NamePart.{NamePart}
 use Rattle.bk_p_proof.specs.TypedNames.{script_names, AreOfOneType, IsSecondType}

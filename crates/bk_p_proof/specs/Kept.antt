@@ -3,9 +3,9 @@
 use Rattle.std.specs.Prelude.{◌≡◌, ◌<◌, ◌≤◌, ℕ, Bool, true, false, List, map}
 use Rattle.std.specs.List.{flat_map}
 use Rattle.bk_limits.specs.declared.TheConstants.{GREATEST_TREE_HEIGHT}
-use Rattle.bk_raw.specs.Numbers.{greatest}
+use Rattle.bk_raw.specs.Trees.Numbers.{greatest}
 use Rattle.bk_raw.specs.declared.script.RawTyped.{RawTyped}
-use Rattle.bk_raw.specs.ScriptTree.{RulePart, part_height, RawRule, RawScript, script_height}
+use Rattle.bk_raw.specs.Trees.ScriptTree.{RulePart, part_height, RawRule, RawScript, script_height}
 use Rattle.bk_p_proof.specs.TypedNames.{part_names, rule_names, script_names}
 
 -- this is kept, and told to be too high or not

@@ -4,7 +4,7 @@ use Rattle.std.specs.List.{AllPairs, flat_map}
 use Rattle.std.specs.Int.{to_le_bytes, w64, w128}
 use Rattle.bk_raw.specs.declared.script.NamePart.{NamePart}
 use Rattle.bk_raw.specs.declared.script.NamePart.TheVariants.{Letters, Numeral}
-use Rattle.bk_raw.specs.ScriptTree.{RawScript}
+use Rattle.bk_raw.specs.Trees.ScriptTree.{RawScript}
 use Rattle.bk_p_proof.specs.Files.{names_of}
 
 -- a letter's mark, how many bytes there are, and these; or a number's mark and its bytes

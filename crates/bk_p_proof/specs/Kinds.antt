@@ -2,11 +2,11 @@
 use Rattle.std.specs.Prelude.{ℕ, List, [], ◌∷◌}
 use Rattle.bk_form.specs.declared.token.Token.{Token}
 use Rattle.bk_ops.specs.declared.sign.TheConstants.{COMMA, MEMBER, DIVIDE, BAR}
-use Rattle.bk_raw.specs.Pieces.{◌⌢◌, Just, JustSign, Digits, Divided, AnyDivided}
-use Rattle.bk_raw.specs.RawTree.{RawTree}
-use Rattle.bk_raw.specs.ScriptSpelling.{AnyTerm, Line, Picked}
+use Rattle.bk_raw.specs.Grammar.Pieces.{◌⌢◌, Just, JustSign, Digits, Divided, AnyDivided}
+use Rattle.bk_raw.specs.Trees.RawTree.{RawTree}
+use Rattle.bk_raw.specs.Grammar.ScriptSpelling.{AnyTerm, Line, Picked}
 use Rattle.bk_form.specs.declared.token.TokenKind.TheVariants.{Name}
-use Rattle.bk_raw.specs.ScriptTree.{PartKind as Kind, one_number, one_term, some_terms, one_place, perhaps_place, typed_names, one_law, certificate, RawLine}
+use Rattle.bk_raw.specs.Trees.ScriptTree.{PartKind as Kind, one_number, one_term, some_terms, one_place, perhaps_place, typed_names, one_law, certificate, RawLine}
 use Rattle.bk_p_proof.specs.declared.part.PartKind.{PartKind}
 use Rattle.bk_p_proof.specs.declared.part.PartKind.TheVariants.{Number, Term, Terms, Place, PerhapsPlace, Typed, Law, Certificate}
 

@@ -1,7 +1,7 @@
 -- Why tokens are not read as scripts. Only private contracts cite it.
 use Rattle.std.specs.Prelude.{List}
 use Rattle.bk_form.specs.declared.token.Token.{Token}
-use Rattle.bk_raw.specs.Places.{IsScriptFault}
+use Rattle.bk_raw.specs.Errors.Places.{IsScriptFault}
 use Rattle.bk_p_proof.specs.declared.reading.SpellFault.{SpellFault}
 use Rattle.bk_p_proof.specs.declared.reading.SpellFault.TheVariants.{At, Memory}
 

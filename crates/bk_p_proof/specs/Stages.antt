@@ -1,6 +1,6 @@
 -- What is known of files between two passes over them. Only private contracts cite it.
 use Rattle.std.specs.Prelude.{ℕ, List}
-use Rattle.bk_raw.specs.ScriptTree.{RawScript}
+use Rattle.bk_raw.specs.Trees.ScriptTree.{RawScript}
 use Rattle.bk_p_proof.specs.Files.{IsWritten, IsLow, IsProofFile, IsUnwritten}
 use Rattle.bk_p_proof.specs.Kept.{AreScripts}
 use Rattle.bk_p_proof.specs.declared.reading.FileScripts.{FileScripts}

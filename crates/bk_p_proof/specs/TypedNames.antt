@@ -2,7 +2,7 @@
 use Rattle.std.specs.Prelude.{◌≡◌, ◌≢◌, ℕ, List, [], ◌∷◌, ◌++◌, All, Contains}
 use Rattle.std.specs.List.{flat_map}
 use Rattle.bk_raw.specs.declared.script.RawTyped.{RawTyped}
-use Rattle.bk_raw.specs.ScriptTree.{RulePart, part_typed, RawRule, RawScript}
+use Rattle.bk_raw.specs.Trees.ScriptTree.{RulePart, part_typed, RawRule, RawScript}
 
 -- the names that a part of a rule brings
 abbrev pub part_names : RulePart → List RawTyped

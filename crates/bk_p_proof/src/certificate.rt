@@ -4,8 +4,8 @@
 
 ghost use Rattle.std.specs.Prelude.{◌≡◌, ◌<◌, ◌≤◌, ℕ, pos, map, length, IfOk, IfSome, MatchOption};
 ghost use Rattle.bk_ops.specs.declared.sign.TheConstants.{BAR, COMMA, PLUS};
-ghost use Rattle.bk_raw.specs.Pieces.{AnyDivided, Digits, Divided, Literal};
-ghost use Rattle.bk_raw.specs.ScriptSpelling.{Line, Multiple};
+ghost use Rattle.bk_raw.specs.Grammar.Pieces.{AnyDivided, Digits, Divided, Literal};
+ghost use Rattle.bk_raw.specs.Grammar.ScriptSpelling.{Line, Multiple};
 ghost use Rattle.bk_raw.specs.Codes.ScriptView.{line_of};
 ghost use Rattle.bk_p_expr.specs.Fronts.{Longest, Nothing};
 ghost use Rattle.bk_form.specs.declared.token.TokenKind.TheVariants.{Number};

@@ -3,9 +3,9 @@
 ghost use Rattle.std.specs.Prelude.{◌≡◌, ◌≢◌, ◌↔◌, ◌<◌, ◌^◌, List, ℕ, length, map, All, IfOk, IfErr, IsTrue};
 ghost use Rattle.std.specs.List.{AllZip, AllPairs, flat_map};
 ghost use Rattle.std.specs.Str.{IsUtf8};
-ghost use Rattle.bk_raw.specs.ScriptTree.{RawScript as WrittenScript};
-ghost use Rattle.bk_raw.specs.Places.{byte_at};
-ghost use Rattle.bk_raw.specs.Faults.{number_of_fault};
+ghost use Rattle.bk_raw.specs.Trees.ScriptTree.{RawScript as WrittenScript};
+ghost use Rattle.bk_raw.specs.Errors.Places.{byte_at};
+ghost use Rattle.bk_raw.specs.Errors.Faults.{number_of_fault};
 ghost use Rattle.bk_files.specs.Files.{IsCut, IsShallowText};
 ghost use Rattle.bk_p_proof.specs.Files.{AreScriptsOf, IsFaultOf, IsShort, IsWritten, names_of};
 ghost use Rattle.bk_p_proof.specs.Kept.{AreScripts};

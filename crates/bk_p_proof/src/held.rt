@@ -2,7 +2,7 @@
 
 ghost use Rattle.std.specs.Prelude.{◌≡◌, ◌≢◌, All};
 ghost use Rattle.std.specs.List.{AllPairs};
-ghost use Rattle.bk_raw.specs.Limits.{IsLowFile};
+ghost use Rattle.bk_raw.specs.Errors.Limits.{IsLowFile};
 ghost use Rattle.bk_p_proof.specs.Files.{AreOfTexts, IsShort, StandsInFile, names_of};
 
 use bk_raw::RawScript;
@@ -18,7 +18,7 @@ impl Model for Scripts {
     ghost use Rattle.std.specs.Prelude.{List};
     ghost use Rattle.std.specs.Coded.{coded_list};
     ghost use Rattle.bk_raw.specs.Codes.ScriptCodes.{coded_script};
-    ghost use Rattle.bk_raw.specs.ScriptTree.{RawScript};
+    ghost use Rattle.bk_raw.specs.Trees.ScriptTree.{RawScript};
     ghost use Rattle.bk_p_proof.specs.Files.{AreOfTexts};
 
     ghost Value = { List RawScript };

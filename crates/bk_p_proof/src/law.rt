@@ -1,8 +1,8 @@
 // Laws with the terms that they take.
 
 ghost use Rattle.std.specs.Prelude.{◌<◌, ◌≤◌, List, length, IfOk, IfSome, MatchOption};
-ghost use Rattle.bk_raw.specs.RawTree.{RawTree, trees_of};
-ghost use Rattle.bk_raw.specs.ScriptSpelling.{Picked};
+ghost use Rattle.bk_raw.specs.Trees.RawTree.{RawTree, trees_of};
+ghost use Rattle.bk_raw.specs.Grammar.ScriptSpelling.{Picked};
 ghost use Rattle.bk_p_expr.specs.Fronts.{Longest, Nothing};
 ghost use Rattle.bk_p_expr.specs.Pieces.{IsTerms};
 ghost use Rattle.bk_p_proof.specs.Kinds.{Lawful};

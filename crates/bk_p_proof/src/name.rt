@@ -4,8 +4,8 @@ ghost use Rattle.std.specs.Prelude.{◌≡◌, ◌<◌, ◌-◌, length, None, S
 ghost use Rattle.std.specs.List.{slice_get};
 ghost use Rattle.bk_ops.specs.Words.{word_texts};
 ghost use Rattle.bk_ops.specs.declared.sign.TheConstants.{DOT};
-ghost use Rattle.bk_raw.specs.Pieces.{Divided};
-ghost use Rattle.bk_raw.specs.ScriptSpelling.{PartNamed};
+ghost use Rattle.bk_raw.specs.Grammar.Pieces.{Divided};
+ghost use Rattle.bk_raw.specs.Grammar.ScriptSpelling.{PartNamed};
 ghost use Rattle.bk_p_expr.specs.Fronts.{Longest, Nothing};
 ghost use Rattle.bk_p_proof.specs.Ahead.{part_named};
 

@@ -1,8 +1,8 @@
 // Places in sequents.
 
 ghost use Rattle.std.specs.Prelude.{◌<◌, ◌≤◌, length, IfOk, IfSome, MatchOption};
-ghost use Rattle.bk_raw.specs.Pieces.{Digits, InRow};
-ghost use Rattle.bk_raw.specs.ScriptSpelling.{Place};
+ghost use Rattle.bk_raw.specs.Grammar.Pieces.{Digits, InRow};
+ghost use Rattle.bk_raw.specs.Grammar.ScriptSpelling.{Place};
 ghost use Rattle.bk_raw.specs.Codes.ScriptView.{place_of};
 ghost use Rattle.bk_p_expr.specs.Fronts.{Longest, Nothing};
 

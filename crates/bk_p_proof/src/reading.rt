@@ -1,8 +1,8 @@
 // The scripts of one file.
 
 ghost use Rattle.std.specs.Prelude.{◌≡◌, List, IfOk, IfErr, map};
-ghost use Rattle.bk_raw.specs.ScriptTree.{RawScript as WrittenScript};
-ghost use Rattle.bk_raw.specs.ScriptSpelling.{SpellsScripts};
+ghost use Rattle.bk_raw.specs.Trees.ScriptTree.{RawScript as WrittenScript};
+ghost use Rattle.bk_raw.specs.Grammar.ScriptSpelling.{SpellsScripts};
 ghost use Rattle.bk_p_proof.specs.Kept.{AreScripts};
 ghost use Rattle.bk_p_proof.specs.Spelled.{IsMisspelled};
 

@@ -1,8 +1,8 @@
 // Rules of proof.
 
 ghost use Rattle.std.specs.Prelude.{◌≡◌, ◌<◌, ◌≤◌, ◌∷◌, map, length, IfOk, IfSome, MatchOption};
-ghost use Rattle.bk_raw.specs.ScriptTree.{RawRule as WrittenRule, rule_kind, shape_of};
-ghost use Rattle.bk_raw.specs.ScriptSpelling.{Rule};
+ghost use Rattle.bk_raw.specs.Trees.ScriptTree.{RawRule as WrittenRule, rule_kind, shape_of};
+ghost use Rattle.bk_raw.specs.Grammar.ScriptSpelling.{Rule};
 ghost use Rattle.bk_p_expr.specs.Fronts.{Longest, Nothing};
 ghost use Rattle.bk_p_proof.specs.Kept.{IsRule};
 ghost use Rattle.bk_p_proof.specs.Kinds.{IsShape, kind_of};

@@ -2,10 +2,10 @@
 
 ghost use Rattle.std.specs.Prelude.{◌≡◌, ◌<◌, ◌≤◌, List, length, IfOk, IfSome, MatchOption, codes};
 ghost use Rattle.bk_ops.specs.declared.sign.TheConstants.{SEMICOLON};
-ghost use Rattle.bk_raw.specs.Pieces.{AnyDivided};
-ghost use Rattle.bk_raw.specs.Reading.{start};
-ghost use Rattle.bk_raw.specs.ScriptTree.{RawRule as WrittenRule, RawScript as WrittenScript};
-ghost use Rattle.bk_raw.specs.ScriptSpelling.{OpensScript, Rule};
+ghost use Rattle.bk_raw.specs.Grammar.Pieces.{AnyDivided};
+ghost use Rattle.bk_raw.specs.Grammar.Reading.{start};
+ghost use Rattle.bk_raw.specs.Trees.ScriptTree.{RawRule as WrittenRule, RawScript as WrittenScript};
+ghost use Rattle.bk_raw.specs.Grammar.ScriptSpelling.{OpensScript, Rule};
 ghost use Rattle.bk_p_expr.specs.Fronts.{Longest, Nothing};
 ghost use Rattle.bk_p_proof.specs.Kept.{AreRules, IsScript};
 

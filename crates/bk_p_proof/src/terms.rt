@@ -1,7 +1,7 @@
 // Terms with commas between.
 
 ghost use Rattle.std.specs.Prelude.{◌<◌, List, length, IfOk, IfSome, MatchOption};
-ghost use Rattle.bk_raw.specs.RawTree.{RawTree, trees_of};
+ghost use Rattle.bk_raw.specs.Trees.RawTree.{RawTree, trees_of};
 ghost use Rattle.bk_p_expr.specs.Fronts.{Longest, Nothing};
 ghost use Rattle.bk_p_expr.specs.Pieces.{IsTerms};
 ghost use Rattle.bk_p_proof.specs.Kinds.{SomeTerms};

@@ -2,8 +2,8 @@
 
 ghost use Rattle.std.specs.Prelude.{◌≡◌, ◌↔◌, ◌<◌, ℕ, List, [], ◌∷◌, length, pos, IsTrue, IfSome, MatchOption, None, Some, IfOk};
 ghost use Rattle.bk_form.specs.declared.token.TokenKind.TheVariants.{Number};
-ghost use Rattle.bk_raw.specs.Pieces.{Digits};
-ghost use Rattle.bk_raw.specs.Spelling.{Declared};
+ghost use Rattle.bk_raw.specs.Grammar.Pieces.{Digits};
+ghost use Rattle.bk_raw.specs.Grammar.Spelling.{Declared};
 ghost use Rattle.bk_p_expr.specs.Fronts.{Longest, Nothing};
 ghost use Rattle.bk_p_proof.specs.Ahead.{Ahead, NotAhead};
 

@@ -2,9 +2,9 @@
 
 ghost use Rattle.std.specs.Prelude.{◌≡◌, ◌<◌, ◌≤◌, ◌∷◌, length, IfOk, IfSome, MatchOption};
 ghost use Rattle.bk_ops.specs.declared.sign.TheConstants.{COMMA};
-ghost use Rattle.bk_raw.specs.Pieces.{Divided};
-ghost use Rattle.bk_raw.specs.Spelling.{Typed};
-ghost use Rattle.bk_raw.specs.ScriptSpelling.{TypedName};
+ghost use Rattle.bk_raw.specs.Grammar.Pieces.{Divided};
+ghost use Rattle.bk_raw.specs.Grammar.Spelling.{Typed};
+ghost use Rattle.bk_raw.specs.Grammar.ScriptSpelling.{TypedName};
 ghost use Rattle.bk_p_expr.specs.Fronts.{Longest, Nothing};
 ghost use Rattle.bk_form.specs.declared.token.Token.{Token};
 

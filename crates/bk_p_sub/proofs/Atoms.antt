@@ -6,9 +6,9 @@ use Rattle.bk_form.specs.declared.token.Token.{Token}
 use Rattle.bk_form.specs.declared.token.TokenKind.{TokenKind}
 use Rattle.bk_form.specs.declared.token.TokenKind.TheVariants.{Name, LevelName, BoundName, Number, Sign, Word}
 use Rattle.bk_ops.specs.declared.sign.TheConstants.{COMMA}
-use Rattle.bk_raw.specs.Reading.{start}
-use Rattle.bk_raw.specs.SubTree.{SubTree, sub, SubNode, sub_skip}
-use Rattle.bk_raw.specs.SubSpelling.{Sub, Stated}
+use Rattle.bk_raw.specs.Grammar.Reading.{start}
+use Rattle.bk_raw.specs.Trees.SubTree.{SubTree, sub, SubNode, sub_skip}
+use Rattle.bk_raw.specs.Grammar.SubSpelling.{Sub, Stated}
 use Rattle.bk_raw.proofs.Steps.{Piece}
 use Rattle.bk_raw.proofs.Patterns.{Shape, Shaped}
 use Rattle.bk_raw.proofs.SubParts.{Part, SubPartKind, Written, shape_at, tag, parts, back}

@@ -5,12 +5,12 @@ use Rattle.bk_form.specs.declared.token.Token.{Token}
 use Rattle.bk_form.specs.declared.token.TokenKind.{TokenKind}
 use Rattle.bk_form.specs.declared.token.TokenKind.TheVariants.{Word}
 use Rattle.bk_ops.specs.declared.word.TheConstants.{END, THEN, ELSE, OR_BRANCH, INVARIANT, VARIANT}
-use Rattle.bk_raw.specs.Pieces.{JustWord, ◌⌢◌}
-use Rattle.bk_raw.specs.Reading.{start}
-use Rattle.bk_raw.specs.Spelling.{Spells}
-use Rattle.bk_raw.specs.RawTree.{RawTree}
-use Rattle.bk_raw.specs.SubTree.{SubTree, sub, SubNode, sub_choice, sub_while, Branches, no_branches, else_branch, branch_and, Choices, no_choices, choice_and}
-use Rattle.bk_raw.specs.SubSpelling.{Sub}
+use Rattle.bk_raw.specs.Grammar.Pieces.{JustWord, ◌⌢◌}
+use Rattle.bk_raw.specs.Grammar.Reading.{start}
+use Rattle.bk_raw.specs.Grammar.Spelling.{Spells}
+use Rattle.bk_raw.specs.Trees.RawTree.{RawTree}
+use Rattle.bk_raw.specs.Trees.SubTree.{SubTree, sub, SubNode, sub_choice, sub_while, Branches, no_branches, else_branch, branch_and, Choices, no_choices, choice_and}
+use Rattle.bk_raw.specs.Grammar.SubSpelling.{Sub}
 use Rattle.bk_raw.proofs.Steps.{Piece}
 use Rattle.bk_raw.proofs.TermRuns.{ends_term, term}
 use Rattle.bk_raw.proofs.Exact.{one_for_its_tokens}

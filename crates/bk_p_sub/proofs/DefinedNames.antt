@@ -4,8 +4,8 @@ use Rattle.std.specs.Str.{bytes_eq}
 use Rattle.std.proofs.Common.{sym, ◌∙◌, ap}
 use Rattle.std.proofs.lemmas.List.Elements.{All-nil, All-cons, All-head, All-tail}
 use Rattle.std.proofs.lemmas.Slice.Eq.{bytes_eq-Decides}
-use Rattle.bk_raw.specs.FreeNames.{conjuncts, stands_free, is_among, IsDefinition, AreDefinitions, Defines}
-use Rattle.bk_raw.specs.RawTree.{RawTree, raw, raw_infix, raw_name}
+use Rattle.bk_raw.specs.Trees.FreeNames.{conjuncts, stands_free, is_among, IsDefinition, AreDefinitions, Defines}
+use Rattle.bk_raw.specs.Trees.RawTree.{RawTree, raw, raw_infix, raw_name}
 use Rattle.bk_raw.specs.declared.operator.InfixOp.TheVariants.{Equal}
 use Rattle.bk_raw.specs.declared.term.RawName.{RawName}
 use Rattle.bk_p_expr.specs.Conjuncts.{AreConjuncts, definition, free_names}

@@ -7,10 +7,10 @@ use Rattle.bk_form.specs.declared.token.TokenKind.{TokenKind}
 use Rattle.bk_form.specs.declared.token.TokenKind.TheVariants.{Name, Sign, Word}
 use Rattle.bk_ops.specs.declared.sign.TheConstants.{COMMA}
 use Rattle.bk_ops.specs.declared.word.TheConstants.{END, THEN, IN, DO, VARIANT}
-use Rattle.bk_raw.specs.Pieces.{JustWord, ◌⌢◌}
-use Rattle.bk_raw.specs.Reading.{named, name}
-use Rattle.bk_raw.specs.RawTree.{RawTree, RawTrees, no_trees, tree_and, trees_of}
-use Rattle.bk_raw.specs.Spelling.{Declared, Names, Spells, Terms}
+use Rattle.bk_raw.specs.Grammar.Pieces.{JustWord, ◌⌢◌}
+use Rattle.bk_raw.specs.Grammar.Reading.{named, name}
+use Rattle.bk_raw.specs.Trees.RawTree.{RawTree, RawTrees, no_trees, tree_and, trees_of}
+use Rattle.bk_raw.specs.Grammar.Spelling.{Declared, Names, Spells, Terms}
 use Rattle.bk_raw.specs.declared.term.RawName.{RawName}
 use Rattle.bk_raw.proofs.Exact.{one_for_its_tokens}
 use Rattle.bk_raw.proofs.Stopping.{none_some, some_same}

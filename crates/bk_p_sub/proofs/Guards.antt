@@ -3,9 +3,9 @@ use Rattle.std.specs.Prelude.{◌≡◌, ℕ, ◌<◌, List, ◌∷◌, length, 
 use Rattle.std.proofs.Common.{arith, sym, subst}
 use Rattle.bk_form.specs.declared.token.Token.{Token}
 use Rattle.bk_form.specs.declared.token.TokenKind.TheVariants.{Word}
-use Rattle.bk_raw.specs.Pieces.{JustWord, ◌⌢◌}
-use Rattle.bk_raw.specs.Spelling.{Spells}
-use Rattle.bk_raw.specs.SubTree.{sub_pre, sub_assert}
+use Rattle.bk_raw.specs.Grammar.Pieces.{JustWord, ◌⌢◌}
+use Rattle.bk_raw.specs.Grammar.Spelling.{Spells}
+use Rattle.bk_raw.specs.Trees.SubTree.{sub_pre, sub_assert}
 use Rattle.bk_p_expr.specs.Fronts.{Nothing}
 use Rattle.bk_p_sub.specs.declared.term.Term.{Term}
 use Rattle.bk_p_sub.specs.Found.{Atom, FoundBefore, Opens, guard_begins, guard_end, guard_kind}

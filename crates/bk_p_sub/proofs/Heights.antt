@@ -1,12 +1,12 @@
 -- Heights of substitutions on the way to being built.
 use Rattle.std.specs.Prelude.{◌≡◌, ℕ, ◌+◌, ◌<◌, ◌≤◌, max, Bool, true, false, List, [], ◌∷◌, ◌++◌, Option, Some, None, refl}
 use Rattle.std.proofs.Common.{Box, Vec, Global, arith, sym, ◌∙◌, subst}
-use Rattle.bk_raw.specs.RawTree.{RawTree, RawTrees, tree_height, trees_height}
-use Rattle.bk_raw.specs.SubTree.{SubTree, sub, SubNode, sub_if, sub_select, sub_height, sub_node_height, Branches, no_branches, else_branch, branch_and, branches_height, Choices, no_choices, choice_and, choices_height}
+use Rattle.bk_raw.specs.Trees.RawTree.{RawTree, RawTrees, tree_height, trees_height}
+use Rattle.bk_raw.specs.Trees.SubTree.{SubTree, sub, SubNode, sub_if, sub_select, sub_height, sub_node_height, Branches, no_branches, else_branch, branch_and, branches_height, Choices, no_choices, choice_and, choices_height}
 use Rattle.bk_raw.specs.Codes.SubView.{branches_of, choices_of, sub_node_of}
 use Rattle.bk_raw.specs.declared.substitution.RawBranch.{RawBranch}
 use Rattle.bk_raw.specs.declared.substitution.RawSubNode.TheVariants.{If as RawIf, Select as RawSelect}
-use Rattle.bk_raw.specs.FreeNames.{conjuncts}
+use Rattle.bk_raw.specs.Trees.FreeNames.{conjuncts}
 use Rattle.bk_p_expr.specs.Conjuncts.{AreConjuncts}
 use Rattle.bk_p_expr.specs.declared.free.Conjunct.{Conjunct}
 use Rattle.bk_p_expr.specs.Pieces.{IsTerms}

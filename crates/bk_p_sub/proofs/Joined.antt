@@ -4,9 +4,9 @@ use Rattle.std.proofs.Common.{arith, sym, ap, ◌∙◌, subst}
 use Rattle.bk_form.specs.declared.token.Token.{Token}
 use Rattle.bk_form.specs.declared.token.TokenKind.TheVariants.{Sign}
 use Rattle.bk_ops.specs.declared.sign.TheConstants.{SEMICOLON, PARALLEL}
-use Rattle.bk_raw.specs.Reading.{start}
-use Rattle.bk_raw.specs.SubTree.{SubTree, sub, SubNode, sub_parallel, sub_sequence}
-use Rattle.bk_raw.specs.SubSpelling.{Sub}
+use Rattle.bk_raw.specs.Grammar.Reading.{start}
+use Rattle.bk_raw.specs.Trees.SubTree.{SubTree, sub, SubNode, sub_parallel, sub_sequence}
+use Rattle.bk_raw.specs.Grammar.SubSpelling.{Sub}
 use Rattle.bk_raw.proofs.Steps.{Stopper, stepped, Leads}
 use Rattle.bk_raw.proofs.SubParts.{ends_piece, ends_atom}
 use Rattle.bk_raw.proofs.SubRuns.{sub-leads}

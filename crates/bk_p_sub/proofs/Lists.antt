@@ -3,12 +3,12 @@ use Rattle.std.specs.Prelude.{◌≡◌, ℕ, suc, ◌≤◌, Bool, true, false,
 use Rattle.std.proofs.Common.{inl, inr, arith, sym, ◌∙◌, ap, subst, append_assoc, append-nil}
 use Rattle.bk_form.specs.declared.token.Token.{Token}
 use Rattle.bk_ops.specs.declared.sign.TheConstants.{COMMA, SEMICOLON, PARALLEL}
-use Rattle.bk_raw.specs.Pieces.{JustSign, ◌⌢◌}
-use Rattle.bk_raw.specs.Spelling.{Declared, Names, Terms, Spells}
-use Rattle.bk_raw.specs.RawTree.{RawTree, RawTrees, no_trees, tree_and, trees_of}
+use Rattle.bk_raw.specs.Grammar.Pieces.{JustSign, ◌⌢◌}
+use Rattle.bk_raw.specs.Grammar.Spelling.{Declared, Names, Terms, Spells}
+use Rattle.bk_raw.specs.Trees.RawTree.{RawTree, RawTrees, no_trees, tree_and, trees_of}
 use Rattle.bk_raw.specs.declared.term.RawName.{RawName}
-use Rattle.bk_raw.specs.SubTree.{SubTree, sub, SubNode, sub_parallel, sub_sequence}
-use Rattle.bk_raw.specs.SubSpelling.{Sub, Stated}
+use Rattle.bk_raw.specs.Trees.SubTree.{SubTree, sub, SubNode, sub_parallel, sub_sequence}
+use Rattle.bk_raw.specs.Grammar.SubSpelling.{Sub, Stated}
 use Rattle.bk_raw.proofs.Steps.{Piece}
 use Rattle.bk_raw.proofs.SubOne.{View, view}
 use Rattle.bk_p_expr.specs.Fronts.{Longest, Nothing}

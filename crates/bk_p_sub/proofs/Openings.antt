@@ -5,13 +5,13 @@ use Rattle.bk_form.specs.declared.token.Token.{Token}
 use Rattle.bk_form.specs.declared.token.TokenKind.{TokenKind}
 use Rattle.bk_form.specs.declared.token.TokenKind.TheVariants.{Word}
 use Rattle.bk_ops.specs.declared.word.TheConstants.{END, BEGIN, PRE, THEN, IF, ELSIF, SELECT, WHEN, CHOICE, ANY, WHERE, LET, BE, IN, VAR, WHILE, DO, INVARIANT, VARIANT, ASSERT, SKIP}
-use Rattle.bk_raw.specs.Pieces.{Just, JustWord, ◌⌢◌}
-use Rattle.bk_raw.specs.Spelling.{Declared, Names, Spells}
-use Rattle.bk_raw.specs.RawTree.{RawTree}
+use Rattle.bk_raw.specs.Grammar.Pieces.{Just, JustWord, ◌⌢◌}
+use Rattle.bk_raw.specs.Grammar.Spelling.{Declared, Names, Spells}
+use Rattle.bk_raw.specs.Trees.RawTree.{RawTree}
 use Rattle.bk_raw.specs.declared.term.RawName.{RawName}
-use Rattle.bk_raw.specs.SubTree.{SubTree, sub, sub_skip, sub_begin, sub_pre, sub_assert, sub_if, sub_choice, sub_select, sub_any, sub_let, sub_var, sub_while, Branches, Choices}
-use Rattle.bk_raw.specs.SubSpelling.{Sub, Stated, Branched, Chosen}
-use Rattle.bk_raw.specs.FreeNames.{Defines}
+use Rattle.bk_raw.specs.Trees.SubTree.{SubTree, sub, sub_skip, sub_begin, sub_pre, sub_assert, sub_if, sub_choice, sub_select, sub_any, sub_let, sub_var, sub_while, Branches, Choices}
+use Rattle.bk_raw.specs.Grammar.SubSpelling.{Sub, Stated, Branched, Chosen}
+use Rattle.bk_raw.specs.Trees.FreeNames.{Defines}
 use Rattle.bk_raw.proofs.Shapes.{regrouped}
 use Rattle.bk_raw.proofs.Exact.{one_for_its_tokens}
 use Rattle.bk_raw.proofs.Steps.{Piece, Stopper, stepped, Leads}

@@ -2,9 +2,9 @@
 use Rattle.std.specs.Prelude.{◌≡◌, ℕ, zero, suc, ◌+◌, ◌-◌, ◌<◌, ◌≤◌, List, [], ◌∷◌, ◌++◌, length, take, drop, refl}
 use Rattle.std.proofs.Common.{arith, sym, ap, ◌∙◌, subst, length-append, length-drop}
 use Rattle.bk_form.specs.declared.token.Token.{Token}
-use Rattle.bk_raw.specs.Limits.{IsShallow, IsWithinDepth}
-use Rattle.bk_raw.specs.SubTree.{SubTree}
-use Rattle.bk_raw.specs.SubSpelling.{Sub}
+use Rattle.bk_raw.specs.Errors.Limits.{IsShallow, IsWithinDepth}
+use Rattle.bk_raw.specs.Trees.SubTree.{SubTree}
+use Rattle.bk_raw.specs.Grammar.SubSpelling.{Sub}
 use Rattle.bk_p_expr.specs.Depth.{IsShallowFrom}
 use Rattle.bk_p_expr.specs.Fronts.{Longest, Nothing}
 use Rattle.bk_p_sub.specs.Faults.{IsLongestFrom, NothingSpelled}

@@ -3,7 +3,7 @@ use Rattle.std.specs.Prelude.{◌≡◌, ◌≤◌, true, false, List, [], ◌�
 use Rattle.std.proofs.Common.{arith, sym, ◌∙◌, ap, subst, append_assoc, append-nil, length-append}
 use Rattle.bk_form.specs.declared.token.Token.{Token}
 use Rattle.bk_form.specs.declared.token.TokenKind.{TokenKind}
-use Rattle.bk_raw.specs.Pieces.{Just, ◌⌢◌}
+use Rattle.bk_raw.specs.Grammar.Pieces.{Just, ◌⌢◌}
 use Rattle.bk_raw.proofs.Runs.{Halts, no-longer}
 use Rattle.bk_raw.proofs.Steps.{Piece, Stopper, step, stepped, Leads}
 use Rattle.bk_raw.proofs.Patterns.{just-there, first, last}

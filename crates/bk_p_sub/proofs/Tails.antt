@@ -5,11 +5,11 @@ use Rattle.bk_form.specs.declared.token.Token.{Token}
 use Rattle.bk_form.specs.declared.token.TokenKind.{TokenKind}
 use Rattle.bk_form.specs.declared.token.TokenKind.TheVariants.{Word}
 use Rattle.bk_ops.specs.declared.word.TheConstants.{END, THEN, ELSE, OR_BRANCH, INVARIANT, VARIANT}
-use Rattle.bk_raw.specs.Pieces.{Just, JustWord, ◌⌢◌}
-use Rattle.bk_raw.specs.Spelling.{Spells}
-use Rattle.bk_raw.specs.RawTree.{RawTree}
-use Rattle.bk_raw.specs.SubTree.{SubTree, Branches, no_branches, else_branch, branch_and, Choices, no_choices, choice_and}
-use Rattle.bk_raw.specs.SubSpelling.{Sub, Branched, Chosen}
+use Rattle.bk_raw.specs.Grammar.Pieces.{Just, JustWord, ◌⌢◌}
+use Rattle.bk_raw.specs.Grammar.Spelling.{Spells}
+use Rattle.bk_raw.specs.Trees.RawTree.{RawTree}
+use Rattle.bk_raw.specs.Trees.SubTree.{SubTree, Branches, no_branches, else_branch, branch_and, Choices, no_choices, choice_and}
+use Rattle.bk_raw.specs.Grammar.SubSpelling.{Sub, Branched, Chosen}
 use Rattle.bk_raw.proofs.Shapes.{regrouped}
 use Rattle.bk_raw.proofs.Exact.{one_for_its_tokens}
 use Rattle.bk_raw.proofs.Steps.{Piece, stepped}

@@ -6,13 +6,13 @@ use Rattle.bk_form.specs.declared.token.TokenKind.{TokenKind}
 use Rattle.bk_form.specs.declared.token.TokenKind.TheVariants.{Name, Sign, Word}
 use Rattle.bk_ops.specs.declared.sign.TheConstants.{ASSIGN, BECOMES_MEMBER, MEMBER, OPEN_PAREN, CLOSE_PAREN, COMMA}
 use Rattle.bk_ops.specs.declared.word.TheConstants.{END, BEGIN, PRE, THEN, IF, ELSIF, SELECT, WHEN, CHOICE, ANY, WHERE, LET, BE, IN, VAR, WHILE, DO, INVARIANT, VARIANT, ASSERT, SKIP}
-use Rattle.bk_raw.specs.Pieces.{Just, JustSign, JustWord, ◌⌢◌}
-use Rattle.bk_raw.specs.RawTree.{RawTree, RawTrees}
-use Rattle.bk_raw.specs.Reading.{start}
-use Rattle.bk_raw.specs.Spelling.{Declared, Names, Terms, Spells}
+use Rattle.bk_raw.specs.Grammar.Pieces.{Just, JustSign, JustWord, ◌⌢◌}
+use Rattle.bk_raw.specs.Trees.RawTree.{RawTree, RawTrees}
+use Rattle.bk_raw.specs.Grammar.Reading.{start}
+use Rattle.bk_raw.specs.Grammar.Spelling.{Declared, Names, Terms, Spells}
 use Rattle.bk_raw.specs.declared.term.RawName.{RawName}
-use Rattle.bk_raw.specs.SubTree.{SubTree, sub, SubNode, sub_skip, sub_assign, sub_assign_at, sub_member, sub_such, sub_begin, sub_pre, sub_assert, sub_if, sub_choice, sub_select, sub_any, sub_let, sub_var, sub_while, sub_parallel, sub_sequence}
-use Rattle.bk_raw.specs.SubSpelling.{Sub, Stated, Branched, Chosen}
+use Rattle.bk_raw.specs.Trees.SubTree.{SubTree, sub, SubNode, sub_skip, sub_assign, sub_assign_at, sub_member, sub_such, sub_begin, sub_pre, sub_assert, sub_if, sub_choice, sub_select, sub_any, sub_let, sub_var, sub_while, sub_parallel, sub_sequence}
+use Rattle.bk_raw.specs.Grammar.SubSpelling.{Sub, Stated, Branched, Chosen}
 use Rattle.bk_raw.proofs.Steps.{Piece, stepped, Leads}
 use Rattle.bk_raw.proofs.TermRuns.{ends_term, ends_names, all-names, term, inner, parentheses}
 use Rattle.bk_raw.proofs.Patterns.{Shape, last_token, last_part, token_and, part_and, first, last, same-token, stops-last}

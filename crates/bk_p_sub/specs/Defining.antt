@@ -1,7 +1,7 @@
 -- Whether conjuncts define names, as it is tested.
 use Rattle.std.specs.Prelude.{ℕ, Bool, true, false, not, ◌&&◌, ◌||◌, List, [], ◌∷◌, Option, None, Some}
 use Rattle.std.specs.Str.{bytes_eq}
-use Rattle.bk_raw.specs.FreeNames.{is_among}
+use Rattle.bk_raw.specs.Trees.FreeNames.{is_among}
 use Rattle.bk_raw.specs.declared.term.RawName.{RawName}
 use Rattle.bk_p_expr.specs.declared.free.Conjunct.{Conjunct}
 

@@ -2,9 +2,9 @@
 use Rattle.std.specs.Prelude.{◌≡◌, ℕ, ◌+◌, ◌<◌, List, ◌++◌, length}
 use Rattle.bk_limits.specs.declared.TheConstants.{GREATEST_TREE_HEIGHT}
 use Rattle.bk_form.specs.declared.token.Token.{Token}
-use Rattle.bk_raw.specs.Laws.{IsLongestSub}
-use Rattle.bk_raw.specs.SubTree.{SubTree, sub_height}
-use Rattle.bk_raw.specs.SubSpelling.{SpellsSub}
+use Rattle.bk_raw.specs.Grammar.Laws.{IsLongestSub}
+use Rattle.bk_raw.specs.Trees.SubTree.{SubTree, sub_height}
+use Rattle.bk_raw.specs.Grammar.SubSpelling.{SpellsSub}
 use Rattle.bk_p_expr.specs.Depth.{IsShallowFrom, IsTooDeepFrom}
 use Rattle.bk_p_expr.specs.declared.fault.SynFault.{SynFault}
 use Rattle.bk_p_expr.specs.declared.fault.SynFault.TheVariants.{At, Depth, High, Memory}

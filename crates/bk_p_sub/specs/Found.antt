@@ -5,12 +5,12 @@ use Rattle.bk_form.specs.declared.token.Token.{Token}
 use Rattle.bk_form.specs.declared.token.TokenKind.{TokenKind}
 use Rattle.bk_form.specs.declared.token.TokenKind.TheVariants.{Name, Word}
 use Rattle.bk_ops.specs.declared.word.TheConstants.{END, PRE, THEN, IF, SELECT, IN, WHILE, DO, INVARIANT, VARIANT, ASSERT}
-use Rattle.bk_raw.specs.Pieces.{JustWord, ◌⌢◌, InParentheses}
-use Rattle.bk_raw.specs.RawTree.{RawTree, RawTrees}
-use Rattle.bk_raw.specs.Reading.{start}
-use Rattle.bk_raw.specs.Spelling.{Spells, Terms}
-use Rattle.bk_raw.specs.SubTree.{SubTree, sub, SubNode, sub_choice, sub_while, Branches, Choices}
-use Rattle.bk_raw.specs.SubSpelling.{Sub, Branched, Chosen}
+use Rattle.bk_raw.specs.Grammar.Pieces.{JustWord, ◌⌢◌, InParentheses}
+use Rattle.bk_raw.specs.Trees.RawTree.{RawTree, RawTrees}
+use Rattle.bk_raw.specs.Grammar.Reading.{start}
+use Rattle.bk_raw.specs.Grammar.Spelling.{Spells, Terms}
+use Rattle.bk_raw.specs.Trees.SubTree.{SubTree, sub, SubNode, sub_choice, sub_while, Branches, Choices}
+use Rattle.bk_raw.specs.Grammar.SubSpelling.{Sub, Branched, Chosen}
 use Rattle.bk_p_expr.specs.Fronts.{Longest, Nothing}
 use Rattle.bk_p_expr.specs.Pieces.{IsTerms}
 use Rattle.bk_p_expr.specs.declared.piece.Terms.{Terms as Built}

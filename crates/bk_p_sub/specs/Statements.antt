@@ -2,9 +2,9 @@
 use Rattle.std.specs.Prelude.{◌≡◌, ℕ, ◌<◌, ◌≤◌, None, Some}
 use Rattle.bk_limits.specs.declared.TheConstants.{GREATEST_TREE_HEIGHT}
 use Rattle.bk_ops.specs.declared.word.TheConstants.{ELSIF, WHEN}
-use Rattle.bk_raw.specs.FreeNames.{conjuncts}
-use Rattle.bk_raw.specs.RawTree.{RawTree, tree_height}
-use Rattle.bk_raw.specs.SubTree.{SubTree, SubNode, sub_begin, sub_pre, sub_assert, sub_any, sub_let, sub_var, sub_if, sub_select, sub_parallel, sub_sequence, sub_height, branches_height, choices_height, Branches, no_branches, else_branch, branch_and, Choices, no_choices, choice_and}
+use Rattle.bk_raw.specs.Trees.FreeNames.{conjuncts}
+use Rattle.bk_raw.specs.Trees.RawTree.{RawTree, tree_height}
+use Rattle.bk_raw.specs.Trees.SubTree.{SubTree, SubNode, sub_begin, sub_pre, sub_assert, sub_any, sub_let, sub_var, sub_if, sub_select, sub_parallel, sub_sequence, sub_height, branches_height, choices_height, Branches, no_branches, else_branch, branch_and, Choices, no_choices, choice_and}
 use Rattle.bk_raw.specs.Codes.SubView.{branches_of, choices_of}
 use Rattle.bk_p_expr.specs.Conjuncts.{AreConjuncts}
 use Rattle.bk_p_sub.specs.declared.statement.Statement.{Statement}

@@ -1,8 +1,8 @@
 // Further branches of a test, and of a choice, on the way to being built.
 
 ghost use Rattle.std.specs.Prelude.{◌≡◌, IfOk};
-ghost use Rattle.bk_raw.specs.RawTree.{RawTree};
-ghost use Rattle.bk_raw.specs.SubTree.{SubTree, Branches as BranchTrees, Choices as ChoiceTrees};
+ghost use Rattle.bk_raw.specs.Trees.RawTree.{RawTree};
+ghost use Rattle.bk_raw.specs.Trees.SubTree.{SubTree, Branches as BranchTrees, Choices as ChoiceTrees};
 ghost use Rattle.bk_p_sub.specs.Statements.{IsStatement, IsBranches, IsChoices, IsTerm, IsOpen, and_branch, and_else, and_choice};
 
 use crate::statement::Statement;

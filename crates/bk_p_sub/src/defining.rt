@@ -1,8 +1,8 @@
 // Whether a predicate defines names, as LET asks.
 
 ghost use Rattle.std.specs.Prelude.{◌≡◌, ◌&&◌, true, false, not, [], ◌∷◌, IfOk, MatchOption};
-ghost use Rattle.bk_raw.specs.FreeNames.{Defines, is_among};
-ghost use Rattle.bk_raw.specs.RawTree.{RawTree};
+ghost use Rattle.bk_raw.specs.Trees.FreeNames.{Defines, is_among};
+ghost use Rattle.bk_raw.specs.Trees.RawTree.{RawTree};
 ghost use Rattle.bk_p_sub.specs.Defining.{define_each, has_one_of, is_named};
 ghost use Rattle.bk_p_sub.specs.Statements.{IsTerm};
 

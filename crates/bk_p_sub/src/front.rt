@@ -1,9 +1,9 @@
 // Signs, words, names and terms that stand in front of tokens.
 
 ghost use Rattle.std.specs.Prelude.{◌≡◌, ◌↔◌, ◌<◌, None, Some, true, [], ◌∷◌, length, IfOk, IfSome, IsTrue, MatchOption};
-ghost use Rattle.bk_raw.specs.Pieces.{JustWord, ◌⌢◌};
-ghost use Rattle.bk_raw.specs.Reading.{name, start};
-ghost use Rattle.bk_raw.specs.Spelling.{Names, Spells, Terms as Listed};
+ghost use Rattle.bk_raw.specs.Grammar.Pieces.{JustWord, ◌⌢◌};
+ghost use Rattle.bk_raw.specs.Grammar.Reading.{name, start};
+ghost use Rattle.bk_raw.specs.Grammar.Spelling.{Names, Spells, Terms as Listed};
 ghost use Rattle.bk_p_expr.specs.Fronts.{Longest, Nothing};
 ghost use Rattle.bk_p_sub.specs.Found.{Ahead, Before, FoundBefore, FoundTerms, NotAhead, is_behind_term};
 

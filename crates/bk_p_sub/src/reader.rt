@@ -1,7 +1,7 @@
 // Substitutions, read from tokens.
 
 ghost use Rattle.std.specs.Prelude.{◌<◌, length, IfOk, IfErr, IfSome};
-ghost use Rattle.bk_raw.specs.Limits.{IsLowSub};
+ghost use Rattle.bk_raw.specs.Errors.Limits.{IsLowSub};
 ghost use Rattle.bk_p_expr.specs.Depth.{IsShallowFrom};
 ghost use Rattle.bk_p_sub.specs.Faults.{IsLongestFrom, IsSubFault};
 ghost use Rattle.bk_p_sub.specs.Found.{Reads};

@@ -1,8 +1,8 @@
 // Substitutions on the way to being built: none is built that is too high.
 
 ghost use Rattle.std.specs.Prelude.{◌≡◌, ◌+◌, ℕ, IfOk};
-ghost use Rattle.bk_raw.specs.RawTree.{RawTree, RawTrees};
-ghost use Rattle.bk_raw.specs.SubTree.{SubTree, SubNode, sub, sub_skip, sub_assign, sub_assign_at, sub_member, sub_such, sub_while, sub_choice, Branches as BranchTrees, Choices as ChoiceTrees, sub_height};
+ghost use Rattle.bk_raw.specs.Trees.RawTree.{RawTree, RawTrees};
+ghost use Rattle.bk_raw.specs.Trees.SubTree.{SubTree, SubNode, sub, sub_skip, sub_assign, sub_assign_at, sub_member, sub_such, sub_while, sub_choice, Branches as BranchTrees, Choices as ChoiceTrees, sub_height};
 ghost use Rattle.bk_raw.specs.Codes.SubView.{sub_node_of, sub_of};
 ghost use Rattle.bk_p_expr.specs.Pieces.{IsTerms};
 ghost use Rattle.bk_p_sub.specs.Statements.{IsStatement, IsTerm, IsAround, IsBranches, IsChoices, head_node, joint_node, tested_node, word_of};

@@ -1,8 +1,8 @@
 // Terms on the way to being built into a substitution.
 
 ghost use Rattle.std.specs.Prelude.{◌<◌, length, IfOk, IfSome, MatchOption};
-ghost use Rattle.bk_raw.specs.RawTree.{RawTree};
-ghost use Rattle.bk_raw.specs.Spelling.{Spells};
+ghost use Rattle.bk_raw.specs.Trees.RawTree.{RawTree};
+ghost use Rattle.bk_raw.specs.Grammar.Spelling.{Spells};
 ghost use Rattle.bk_p_expr.specs.Fronts.{Longest, Nothing};
 ghost use Rattle.bk_p_expr.specs.Pieces.{IsPiece};
 ghost use Rattle.bk_p_sub.specs.Statements.{IsTerm};

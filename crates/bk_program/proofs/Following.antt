@@ -8,7 +8,7 @@ use Rattle.bk_dev.specs.Facts.{IsDevelopment}
 use Rattle.bk_b0.specs.Translation.{translation}
 use Rattle.bk_project.specs.ProjectFile.{kinds_of}
 use Rattle.bk_project.proofs.Developments.{read_are_developments, read_are_executable}
-use Rattle.bk_raw.specs.ScriptTree.{RawScript}
+use Rattle.bk_raw.specs.Trees.ScriptTree.{RawScript}
 use Rattle.bk_sim.specs.Follows.{Follows}
 use Rattle.bk_sim.proofs.B0Code.{b0_follows, b0_ends}
 use Rattle.bk_po.proofs.Carrying.{valid_obligations_carry, whole_is_correct}

@@ -17,7 +17,7 @@ use Rattle.bk_project.proofs.OneReading.{faults_exclude as refusals_exclude}
 use Rattle.bk_project.proofs.OneRefusal.{texts_have_one_refusal}
 use Rattle.bk_po.specs.Obligations.{numbered, obligations}
 use Rattle.bk_po.specs.Limits.{PassTogether, PassNoLimit, all_nodes}
-use Rattle.bk_raw.specs.ScriptTree.{RawScript}
+use Rattle.bk_raw.specs.Trees.ScriptTree.{RawScript}
 use Rattle.bk_p_proof.specs.Files.{AreScriptsOf}
 use Rattle.bk_p_proof.specs.Laws.{IsOfTexts}
 use Rattle.bk_p_proof.proofs.OneAnswer.{faults_exclude as scripts_exclude}

@@ -3,7 +3,7 @@ use Rattle.std.proofs.Common.{ℕ, Bool, List, All}
 use Rattle.bk_io.specs.Files.{Files}
 use Rattle.bk_dev.specs.Development.{Development}
 use Rattle.bk_level.specs.VerdictLaws.{HasRoom}
-use Rattle.bk_raw.specs.ScriptTree.{RawScript}
+use Rattle.bk_raw.specs.Trees.ScriptTree.{RawScript}
 use Rattle.bk_project.specs.ProjectFile.{kinds_of}
 use Rattle.bk_po.specs.Obligations.{obligations}
 use Rattle.bk_po.specs.Limits.{PassNoLimit}

@@ -31,7 +31,7 @@ use Rattle.bk_project.proofs.SomeReading.{texts_are_read}
 use Rattle.bk_dev.specs.Flattened.{flattened}
 use Rattle.bk_po.specs.Obligations.{obligations, numbered, numbered_obligations}
 use Rattle.bk_po.specs.Limits.{first_too_large, all_nodes, PassNoLimit}
-use Rattle.bk_raw.specs.ScriptTree.{RawScript}
+use Rattle.bk_raw.specs.Trees.ScriptTree.{RawScript}
 use Rattle.bk_p_proof.specs.Files.{AreScriptsOf, IsFaultOf as IsFaultOfProofs}
 use Rattle.bk_p_proof.specs.Laws.{IsOfTexts}
 use Rattle.bk_p_proof.specs.declared.fault.ScriptFault.{ScriptFault}

@@ -7,7 +7,7 @@ use Rattle.std.proofs.lemmas.List.{take_all, take_more}
 use Rattle.std.proofs.lemmas.List.Elements.{All-head, All-tail}
 use Rattle.std.proofs.lemmas.Option.{none-some, slice_get-get_or}
 use Rattle.bk_form.specs.Table.{Table}
-use Rattle.bk_raw.specs.ScriptTree.{RawRule, RawScript}
+use Rattle.bk_raw.specs.Trees.ScriptTree.{RawRule, RawScript}
 use Rattle.bk_dev.specs.Development.{Development}
 use Rattle.bk_dev.specs.Flattened.{flattened}
 use Rattle.bk_seq.specs.Sequents.{Sequent}

@@ -9,7 +9,7 @@ use Rattle.bk_sim.specs.Follows.{Follows}
 use Rattle.bk_sim.specs.Within.{EndsWithoutLoops}
 use Rattle.bk_sim.specs.Exchange.{exchange}
 use Rattle.bk_po.specs.Obligations.{HasValidObligations}
-use Rattle.bk_raw.specs.ScriptTree.{RawScript}
+use Rattle.bk_raw.specs.Trees.ScriptTree.{RawScript}
 use Rattle.bk_status.specs.declared.table.Row.{Row}
 use Rattle.bk_status.specs.Rows.{HasRows, first_open, AreProved}
 

@@ -8,7 +8,7 @@ use Rattle.bk_form.specs.Search.{Finder, IsSearch}
 use Rattle.bk_dev.specs.Development.{Development}
 use Rattle.bk_b0.specs.Translation.{translation}
 use Rattle.bk_sim.specs.Within.{EndsWithoutLoops}
-use Rattle.bk_raw.specs.ScriptTree.{RawScript}
+use Rattle.bk_raw.specs.Trees.ScriptTree.{RawScript}
 use Rattle.bk_verbs.specs.declared.status.Status.{Status}
 use Rattle.bk_verbs.specs.declared.status.Status.TheVariants.{Done, Trapped}
 use Rattle.bk_words.specs.Tasks.{build_task, run_task, exec_task, Asks}

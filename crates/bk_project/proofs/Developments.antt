@@ -10,8 +10,8 @@ use Rattle.bk_dev.specs.Development.{Level, Development, int_max, is_complete}
 use Rattle.bk_dev.specs.Facts.{IsDevelopment}
 use Rattle.bk_dev.specs.Flattened.{copied_in_levels, flattened}
 use Rattle.bk_raw.specs.declared.component.ComponentKind.{ComponentKind}
-use Rattle.bk_raw.specs.ComponentTree.{RawComponent}
-use Rattle.bk_raw.specs.Limits.{IsLowComponent}
+use Rattle.bk_raw.specs.Trees.ComponentTree.{RawComponent}
+use Rattle.bk_raw.specs.Errors.Limits.{IsLowComponent}
 use Rattle.bk_level.specs.Above.{above_of}
 use Rattle.bk_level.specs.Components.{Component, component_of}
 use Rattle.bk_level.specs.Plan.{plan, entries_of}

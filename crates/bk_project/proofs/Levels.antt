@@ -8,7 +8,7 @@ use Rattle.bk_dev.specs.Development.{Development, int_max, is_complete, is_imple
 use Rattle.bk_dev.specs.Facts.{IsDevelopment}
 use Rattle.bk_raw.specs.declared.component.ComponentKind.{ComponentKind}
 use Rattle.bk_raw.specs.declared.component.ComponentKind.TheVariants.{Machine as AsMachine, Refinement as AsRefinement, Implementation as AsImplementation}
-use Rattle.bk_raw.specs.ComponentTree.{RawComponent}
+use Rattle.bk_raw.specs.Trees.ComponentTree.{RawComponent}
 use Rattle.bk_level.specs.Above.{above_of}
 use Rattle.bk_level.specs.Components.{component_of, kind_as}
 use Rattle.bk_level.specs.Plan.{plan}

@@ -5,9 +5,9 @@ use Rattle.std.proofs.Common.{inl, inr, sym, subst, ◌∙◌}
 use Rattle.std.proofs.lemmas.Bool.{false≢true}
 use Rattle.std.proofs.lemmas.List.Elements.{All-weaker}
 use Rattle.bk_form.specs.declared.token.Token.{Token}
-use Rattle.bk_raw.specs.ComponentTree.{RawComponent}
-use Rattle.bk_raw.specs.ComponentSpelling.{SpellsComponent}
-use Rattle.bk_raw.specs.Limits.{IsLowComponent}
+use Rattle.bk_raw.specs.Trees.ComponentTree.{RawComponent}
+use Rattle.bk_raw.specs.Grammar.ComponentSpelling.{SpellsComponent}
+use Rattle.bk_raw.specs.Errors.Limits.{IsLowComponent}
 use Rattle.bk_raw.proofs.ComponentOne.{one-component}
 use Rattle.bk_lex.proofs.Cutting.{tokens_are_one}
 use Rattle.bk_dev.specs.Development.{Development, int_max}

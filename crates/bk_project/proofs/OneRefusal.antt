@@ -4,11 +4,11 @@ use Rattle.std.specs.List.{AllZip}
 use Rattle.std.proofs.Common.{inl, inr, ap, sym, subst, ◌∙◌}
 use Rattle.std.proofs.lemmas.Bool.{false≢true}
 use Rattle.std.proofs.lemmas.List.Elements.{All-weaker}
-use Rattle.bk_raw.specs.ComponentTree.{RawComponent}
-use Rattle.bk_raw.specs.ComponentSpelling.{SpellsComponent}
-use Rattle.bk_raw.specs.Limits.{IsLowComponent}
-use Rattle.bk_raw.specs.Places.{IsComponentFaultAt}
-use Rattle.bk_raw.specs.Faults.{Fault as StaticFault}
+use Rattle.bk_raw.specs.Trees.ComponentTree.{RawComponent}
+use Rattle.bk_raw.specs.Grammar.ComponentSpelling.{SpellsComponent}
+use Rattle.bk_raw.specs.Errors.Limits.{IsLowComponent}
+use Rattle.bk_raw.specs.Errors.Places.{IsComponentFaultAt}
+use Rattle.bk_raw.specs.Errors.Faults.{Fault as StaticFault}
 use Rattle.bk_raw.proofs.Places.{component-places-are-one}
 use Rattle.bk_lex.proofs.Cutting.{tokens_are_one}
 use Rattle.bk_dev.specs.Development.{Development, int_max}

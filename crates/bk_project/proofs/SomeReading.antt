@@ -5,10 +5,10 @@ use Rattle.std.proofs.Common.{inl, inr, arith, ap, sym, subst, ◌∙◌}
 use Rattle.std.proofs.lemmas.List.Elements.{All-head, All-tail}
 use Rattle.std.proofs.lemmas.Slice.Zip.{AllZip-long}
 use Rattle.bk_form.specs.declared.token.Token.{Token}
-use Rattle.bk_raw.specs.ComponentTree.{RawComponent}
-use Rattle.bk_raw.specs.Faults.{Fault as StaticFault}
-use Rattle.bk_raw.specs.Places.{byte_at}
-use Rattle.bk_raw.specs.Blame.{blame}
+use Rattle.bk_raw.specs.Trees.ComponentTree.{RawComponent}
+use Rattle.bk_raw.specs.Errors.Faults.{Fault as StaticFault}
+use Rattle.bk_raw.specs.Errors.Places.{byte_at}
+use Rattle.bk_raw.specs.Errors.Blame.{blame}
 use Rattle.bk_dev.specs.Development.{Development, int_max}
 use Rattle.bk_level.specs.Above.{above_of}
 use Rattle.bk_level.specs.Components.{component_of}

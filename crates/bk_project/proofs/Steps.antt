@@ -8,10 +8,10 @@ use Rattle.std.proofs.lemmas.List.Elements.{All-nil, All-cons, All-push, All-wea
 use Rattle.std.proofs.lemmas.Slice.Zip.{all_zipped_more, AllZip-long}
 use Rattle.std.proofs.Math.Seq.{take-append-add}
 use Rattle.bk_form.specs.declared.token.Token.{Token}
-use Rattle.bk_raw.specs.ComponentTree.{RawComponent, component_height}
-use Rattle.bk_raw.specs.ComponentSpelling.{SpellsComponent}
-use Rattle.bk_raw.specs.Limits.{IsLowComponent, IsShallow, IsTooDeep}
-use Rattle.bk_raw.specs.Places.{IsComponentFault, byte_at}
+use Rattle.bk_raw.specs.Trees.ComponentTree.{RawComponent, component_height}
+use Rattle.bk_raw.specs.Grammar.ComponentSpelling.{SpellsComponent}
+use Rattle.bk_raw.specs.Errors.Limits.{IsLowComponent, IsShallow, IsTooDeep}
+use Rattle.bk_raw.specs.Errors.Places.{IsComponentFault, byte_at}
 use Rattle.bk_files.specs.Files.{Has, IsFirst, IsShallowText}
 use Rattle.bk_files.proofs.FileSteps.{bytes_of}
 use Rattle.bk_files.proofs.Turns.{split_at, length_front, front_on, all_middle, zip_at, zip_has}

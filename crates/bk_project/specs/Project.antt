@@ -5,12 +5,12 @@
 use Rattle.std.specs.Prelude.{◌≡◌, ◌⊎◌, ℕ, suc, true, false, List, [], ◌∷◌, ◌++◌, length, All, Option, None, Some}
 use Rattle.std.specs.List.{AllZip}
 use Rattle.bk_form.specs.declared.token.Token.{Token}
-use Rattle.bk_raw.specs.ComponentTree.{RawComponent}
-use Rattle.bk_raw.specs.ComponentSpelling.{SpellsComponent}
-use Rattle.bk_raw.specs.Limits.{IsLowComponent}
+use Rattle.bk_raw.specs.Trees.ComponentTree.{RawComponent}
+use Rattle.bk_raw.specs.Grammar.ComponentSpelling.{SpellsComponent}
+use Rattle.bk_raw.specs.Errors.Limits.{IsLowComponent}
 use Rattle.bk_raw.specs.declared.fault.FaultKind.TheVariants.{NoTree, WrongChain}
-use Rattle.bk_raw.specs.Faults.{number_of_fault}
-use Rattle.bk_raw.specs.Places.{IsComponentFaultAt}
+use Rattle.bk_raw.specs.Errors.Faults.{number_of_fault}
+use Rattle.bk_raw.specs.Errors.Places.{IsComponentFaultAt}
 use Rattle.bk_dev.specs.Development.{Development, int_max}
 use Rattle.bk_files.specs.Files.{Has, IsFirst, IsShallowText, IsAtFault, IsPastLimit}
 use Rattle.bk_level.specs.Above.{above_of}

@@ -7,7 +7,7 @@ use Rattle.std.specs.Str.Lines.{lines}
 use Rattle.bk_limits.specs.declared.TheConstants.{MOST_COMPONENTS}
 use Rattle.bk_lines.specs.Lines.{is_skipped, kept_lines}
 use Rattle.bk_raw.specs.declared.fault.FaultKind.TheVariants.{NotUtf8, WrongLine}
-use Rattle.bk_raw.specs.Faults.{number_of_fault}
+use Rattle.bk_raw.specs.Errors.Faults.{number_of_fault}
 use Rattle.bk_project.specs.declared.project_file.ProjectLine.{ProjectLine}
 use Rattle.bk_project.specs.declared.project_file.LineKind.{LineKind}
 use Rattle.bk_project.specs.declared.project_file.LineKind.TheVariants.{Machine, Refinement, Implementation, Proofs}

@@ -1,7 +1,7 @@
 -- What is known of component files between two passes over them. Only private contracts cite it.
 use Rattle.std.specs.Prelude.{◌≡◌, ◌<◌, ℕ, suc, Bool, true, false, List, Option, None, Some}
 use Rattle.bk_limits.specs.declared.TheConstants.{MOST_COMPONENTS}
-use Rattle.bk_raw.specs.ComponentTree.{RawComponent}
+use Rattle.bk_raw.specs.Trees.ComponentTree.{RawComponent}
 use Rattle.bk_dev.specs.Development.{Development, int_max}
 use Rattle.bk_level.specs.Above.{above_of}
 use Rattle.bk_level.specs.Verdict.{verdict_of, AnswersFault}

@@ -2,7 +2,7 @@
 
 ghost use Rattle.std.specs.Prelude.{◌≡◌, ◌≢◌, ◌↔◌, ◌<◌, ◌∷◌, ◌++◌, [], List, ℕ, length, map, IsTrue, IfSome, MatchOption, IfOk, IfErr};
 ghost use Rattle.std.specs.Str.{IsUtf8};
-ghost use Rattle.bk_raw.specs.Faults.{number_of_fault};
+ghost use Rattle.bk_raw.specs.Errors.Faults.{number_of_fault};
 ghost use Rattle.bk_project.specs.declared.project_file.LineKind.{LineKind};
 ghost use Rattle.bk_project.specs.ProjectFile.{first_or, IsLine, word_of, AreLinesOf, IsRefusalOfLines, kinds_of, component_lines};
 ghost use Rattle.bk_project.specs.declared.refusal.Refusal.TheVariants.{Fault};

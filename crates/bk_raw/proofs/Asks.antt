@@ -5,11 +5,11 @@ use Rattle.bk_val.specs.ValueType.{ValueType, pair_type, set_type}
 use Rattle.bk_form.specs.Table.{Table, lists_type}
 use Rattle.bk_form.specs.Formula.{Formula}
 use Rattle.bk_form.specs.Role.{role, gives, ranges_over, predicate}
-use Rattle.bk_raw.specs.Outcome.{Partial, whole, filled, Outcome, partial, ranging, holding, silent, Reading, clean, Asked, fitting, ask, ask_value, ask_set, ask_relation, ask_domain, ask_predicate, of_answer, of_one, of_answers, of_both}
-use Rattle.bk_raw.specs.OperatorReadings.{depending, dependent, on_values}
-use Rattle.bk_raw.specs.RightReading.{Whenever, IsOfType, IsRightPartial, IsRight}
+use Rattle.bk_raw.specs.Meaning.Outcome.{Partial, whole, filled, Outcome, partial, ranging, holding, silent, Reading, clean, Asked, fitting, ask, ask_value, ask_set, ask_relation, ask_domain, ask_predicate, of_answer, of_one, of_answers, of_both}
+use Rattle.bk_raw.specs.Meaning.OperatorReadings.{depending, dependent, on_values}
+use Rattle.bk_raw.specs.Meaning.RightReading.{Whenever, IsOfType, IsRightPartial, IsRight}
 use Rattle.bk_raw.proofs.Filled.{Gives, filled-gives}
-use Rattle.bk_raw.specs.Faults.{Fault}
+use Rattle.bk_raw.specs.Errors.Faults.{Fault}
 
 module _ (table : Table) (around : List ValueType) where
   abbrev pub Right : Outcome → Type 0

@@ -9,13 +9,13 @@ use Rattle.bk_form.specs.Role.{role, roles, gives, predicate, all_listed, bind, 
 use Rattle.bk_raw.specs.declared.operator.InfixOp.{InfixOp}
 use Rattle.bk_raw.specs.declared.operator.InfixOp.TheVariants.{And, Equal, Member, Subset, StrictSubset}
 use Rattle.bk_raw.specs.declared.term.RawName.{RawName}
-use Rattle.bk_raw.specs.Names.{Names, local, Agree}
-use Rattle.bk_raw.specs.Outcome.{whole, Outcome, partial, ranging, holding, silent, Reading, ask_value, ask_set, ask_domain}
-use Rattle.bk_raw.specs.Binders.{Bound, bound_names, inside, or_bool, types_of, has_type, all_typed, first_type, typed_as, typed_by, second, set_over, told_by, where_typed, if_holding, quantified, Ranged, unranged, first_range, ranged_as, ranged_by, as_single, ranges_by, range_type, as_bound, range_or, ranges_of, is_some_name, comprehended, if_giving, abstracted}
-use Rattle.bk_raw.specs.RightReading.{Whenever}
+use Rattle.bk_raw.specs.Meaning.Names.{Names, local, Agree}
+use Rattle.bk_raw.specs.Meaning.Outcome.{whole, Outcome, partial, ranging, holding, silent, Reading, ask_value, ask_set, ask_domain}
+use Rattle.bk_raw.specs.Meaning.Binders.{Bound, bound_names, inside, or_bool, types_of, has_type, all_typed, first_type, typed_as, typed_by, second, set_over, told_by, where_typed, if_holding, quantified, Ranged, unranged, first_range, ranged_as, ranged_by, as_single, ranges_by, range_type, as_bound, range_or, ranges_of, is_some_name, comprehended, if_giving, abstracted}
+use Rattle.bk_raw.specs.Meaning.RightReading.{Whenever}
 use Rattle.bk_raw.proofs.Filled.{and-true, and-both}
 use Rattle.bk_raw.proofs.Asks.{Right, clean-right, Of, IsDomain, ask_value-right, ask_set-right, ask_domain-right}
-use Rattle.bk_raw.specs.Faults.{Fault}
+use Rattle.bk_raw.specs.Errors.Faults.{Fault}
 
 module _ (table : Table) where
   abbrev pub Lists : ValueType → Type 0

@@ -2,8 +2,8 @@
 use Rattle.std.proofs.Common.{◌≡◌, inl, inr, ℕ, List, [], ◌∷◌, ◌++◌, refl, sym, ◌∙◌, ap, subst, Bool, true, false, cond, ◌&&◌, ◌||◌, arith, nat_eq, nat_lt}
 use Rattle.std.specs.Prelude.{Option, None, Some}
 use Rattle.std.proofs.lemmas.Bool.Decides.{nat_tests}
-use Rattle.bk_raw.specs.Blame.{rank, is_before, first_of, blame, earlier, IsOneOf, NoneIsBefore, IsBlameOf}
-use Rattle.bk_raw.specs.Faults.{Fault}
+use Rattle.bk_raw.specs.Errors.Blame.{rank, is_before, first_of, blame, earlier, IsOneOf, NoneIsBefore, IsBlameOf}
+use Rattle.bk_raw.specs.Errors.Faults.{Fault}
 
 not-itself : (a p : ℕ) → (nat_lt a a || (nat_eq a a && nat_lt p p)) ≡ false
 not-itself a p = grind (arith, nat_tests)

@@ -7,12 +7,12 @@ use Rattle.bk_form.specs.Formula.{Formula}
 use Rattle.bk_raw.specs.declared.operator.InfixOp.{InfixOp}
 use Rattle.bk_raw.specs.declared.operator.InfixOp.TheVariants.{Implies, And, Equal, Member, Subset, StrictSubset}
 use Rattle.bk_raw.specs.declared.term.RawName.{RawName}
-use Rattle.bk_raw.specs.RawTree.{RawTree, raw, raw_infix}
-use Rattle.bk_raw.specs.FreeNames.{is_among, conjuncts}
-use Rattle.bk_raw.specs.Names.{Names}
-use Rattle.bk_raw.specs.Outcome.{Outcome, ask_value, ask_set, ask_domain}
-use Rattle.bk_raw.specs.Binders.{Bound, bound_names, inside, first_type, typed_as, typed_by, second, set_over, told_by, Ranged, unranged, first_range, ranged_as, ranged_by, as_single, ranges_by, as_bound}
-use Rattle.bk_raw.specs.TermReading.{part, name_of, names_one, reading, clues, premise_clues, ranges}
+use Rattle.bk_raw.specs.Trees.RawTree.{RawTree, raw, raw_infix}
+use Rattle.bk_raw.specs.Trees.FreeNames.{is_among, conjuncts}
+use Rattle.bk_raw.specs.Meaning.Names.{Names}
+use Rattle.bk_raw.specs.Meaning.Outcome.{Outcome, ask_value, ask_set, ask_domain}
+use Rattle.bk_raw.specs.Meaning.Binders.{Bound, bound_names, inside, first_type, typed_as, typed_by, second, set_over, told_by, Ranged, unranged, first_range, ranged_as, ranged_by, as_single, ranges_by, as_bound}
+use Rattle.bk_raw.specs.Meaning.TermReading.{part, name_of, names_one, reading, clues, premise_clues, ranges}
 
 -- ---- truth values
 pub no-name : {A : Type 0} → false ≡ true → A

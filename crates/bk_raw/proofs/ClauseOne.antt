@@ -4,15 +4,15 @@ use Rattle.bk_form.specs.declared.token.Token.{Token}
 use Rattle.bk_form.specs.declared.token.TokenKind.{TokenKind}
 use Rattle.bk_form.specs.declared.token.TokenKind.TheVariants.{Sign, Word}
 use Rattle.bk_ops.specs.declared.sign.TheConstants.{EQUAL, SEMICOLON, OUTPUTS, OPEN_PAREN, CLOSE_PAREN, OPEN_BRACE, CLOSE_BRACE}
-use Rattle.bk_raw.specs.Pieces.{JustAt, JustSign, ◌⌢◌, Divided}
-use Rattle.bk_raw.specs.Spelling.{Declared, Names, Term}
+use Rattle.bk_raw.specs.Grammar.Pieces.{JustAt, JustSign, ◌⌢◌, Divided}
+use Rattle.bk_raw.specs.Grammar.Spelling.{Declared, Names, Term}
 use Rattle.bk_raw.specs.declared.term.RawName.{RawName}
 use Rattle.bk_raw.proofs.Exact.{one_for_its_tokens}
-use Rattle.bk_raw.specs.SubSpelling.{Sub}
+use Rattle.bk_raw.specs.Grammar.SubSpelling.{Sub}
 use Rattle.bk_raw.specs.declared.component.ClauseWord.{ClauseWord}
 use Rattle.bk_raw.specs.declared.component.ClauseWord.TheVariants.{Sets, Constants, ConcreteConstants, Properties, Variables, AbstractVariables, ConcreteVariables, Invariant, Assertions, Values, Initialisation, Operations}
-use Rattle.bk_raw.specs.ComponentTree.{RawOperation, ClauseParts, clause_sets, clause_names, clause_term, clause_terms, clause_values, clause_sub, clause_operations, RawClause, word_number}
-use Rattle.bk_raw.specs.ComponentSpelling.{Elements, Set, Value, Outputs, Inputs, Operation, Parts, Clause}
+use Rattle.bk_raw.specs.Trees.ComponentTree.{RawOperation, ClauseParts, clause_sets, clause_names, clause_term, clause_terms, clause_values, clause_sub, clause_operations, RawClause, word_number}
+use Rattle.bk_raw.specs.Grammar.ComponentSpelling.{Elements, Set, Value, Outputs, Inputs, Operation, Parts, Clause}
 use Rattle.bk_raw.proofs.Steps.{Piece, stepped, Leads}
 use Rattle.bk_raw.proofs.TermRuns.{ends_names, all-names}
 use Rattle.bk_raw.proofs.Patterns.{Both, same-token, same-piece, StopsAt, stops-just, stops-last, just-none}

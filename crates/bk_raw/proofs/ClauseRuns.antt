@@ -4,16 +4,16 @@ use Rattle.std.specs.Prelude.{nat_eq, nat_lt, ◌||◌}
 use Rattle.bk_form.specs.declared.token.TokenKind.TheVariants.{Sign, Word}
 use Rattle.bk_ops.specs.declared.sign.TheConstants.{EQUAL, SEMICOLON, OUTPUTS, OPEN_PAREN, CLOSE_PAREN, OPEN_BRACE, CLOSE_BRACE}
 use Rattle.bk_ops.specs.declared.word.TheConstants.{END, THEN, ELSIF, ELSE, WHEN, OR_BRANCH, WHERE, BE, IN, DO, VARIANT}
-use Rattle.bk_raw.specs.Pieces.{JustSign, ◌⌢◌, Divided}
-use Rattle.bk_raw.specs.RawTree.{RawTree}
-use Rattle.bk_raw.specs.Spelling.{Declared, Names, Term}
+use Rattle.bk_raw.specs.Grammar.Pieces.{JustSign, ◌⌢◌, Divided}
+use Rattle.bk_raw.specs.Trees.RawTree.{RawTree}
+use Rattle.bk_raw.specs.Grammar.Spelling.{Declared, Names, Term}
 use Rattle.bk_raw.specs.declared.term.RawName.{RawName}
-use Rattle.bk_raw.specs.SubSpelling.{Sub}
+use Rattle.bk_raw.specs.Grammar.SubSpelling.{Sub}
 use Rattle.bk_raw.specs.declared.component.ClauseWord.{ClauseWord}
 use Rattle.bk_raw.specs.declared.component.ClauseWord.TheVariants.{Sets, Constants, ConcreteConstants, Properties, Variables, AbstractVariables, ConcreteVariables, Invariant, Assertions, Values, Initialisation, Operations}
-use Rattle.bk_raw.specs.ComponentTree.{RawSet, RawOperation, ClauseParts, clause_sets, clause_names, clause_term, clause_terms, clause_values, clause_sub, clause_operations}
+use Rattle.bk_raw.specs.Trees.ComponentTree.{RawSet, RawOperation, ClauseParts, clause_sets, clause_names, clause_term, clause_terms, clause_values, clause_sub, clause_operations}
 use Rattle.bk_raw.specs.declared.component.RawValue.{RawValue}
-use Rattle.bk_raw.specs.ComponentSpelling.{Elements, Set, Value, Outputs, Inputs, Operation, Parts}
+use Rattle.bk_raw.specs.Grammar.ComponentSpelling.{Elements, Set, Value, Outputs, Inputs, Operation, Parts}
 use Rattle.bk_raw.proofs.Steps.{Piece, Stopper, nothing, Leads, leads-join, leads-just, leads-never, leads-in, Fewer, leads-fewer}
 use Rattle.bk_raw.proofs.TermRuns.{ends_term, or-left, fewer-terms, term, flat-names, flat-declared}
 use Rattle.bk_raw.proofs.SubParts.{ends_piece, fewer-piece, fewer-atom}

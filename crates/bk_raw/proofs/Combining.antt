@@ -3,8 +3,8 @@ use Rattle.std.specs.Prelude.{◌≡◌, ℕ, suc, ◌+◌, ◌≤◌, List, ◌
 use Rattle.std.proofs.Common.{arith, ◌∙◌, ap}
 use Rattle.bk_form.specs.declared.token.Token.{Token}
 use Rattle.bk_form.specs.declared.token.TokenKind.TheVariants.{Sign}
-use Rattle.bk_raw.specs.Pieces.{JustSign, ◌⌢◌}
-use Rattle.bk_raw.specs.Reading.{next, sign, within}
+use Rattle.bk_raw.specs.Grammar.Pieces.{JustSign, ◌⌢◌}
+use Rattle.bk_raw.specs.Grammar.Reading.{next, sign, within}
 use Rattle.bk_raw.proofs.Shapes.{led, just_is, appended, lengths, sign_front}
 use Rattle.bk_raw.proofs.Stopping.{Before}
 

@@ -4,15 +4,15 @@ use Rattle.std.specs.Prelude.{nat_lt}
 use Rattle.bk_form.specs.declared.token.Token.{Token}
 use Rattle.bk_form.specs.declared.token.TokenKind.TheVariants.{Word}
 use Rattle.bk_ops.specs.declared.word.TheConstants.{REFINES, END}
-use Rattle.bk_raw.specs.Pieces.{JustAt, ◌⌢◌, JustWord, InRow}
-use Rattle.bk_raw.specs.Spelling.{Declared}
+use Rattle.bk_raw.specs.Grammar.Pieces.{JustAt, ◌⌢◌, JustWord, InRow}
+use Rattle.bk_raw.specs.Grammar.Spelling.{Declared}
 use Rattle.bk_raw.specs.declared.term.RawName.{RawName}
 use Rattle.bk_raw.specs.declared.component.ComponentKind.{ComponentKind}
 use Rattle.bk_raw.specs.declared.component.ComponentKind.TheVariants.{Machine, Refinement, Implementation}
 use Rattle.bk_raw.specs.declared.component.ClauseWord.{ClauseWord}
 use Rattle.bk_raw.specs.declared.component.ClauseWord.TheVariants.{Sets}
-use Rattle.bk_raw.specs.ComponentTree.{RawClause, RawComponent, kind_number, word_number}
-use Rattle.bk_raw.specs.ComponentSpelling.{Parts, Clause, Refined, Header, SpellsComponent}
+use Rattle.bk_raw.specs.Trees.ComponentTree.{RawClause, RawComponent, kind_number, word_number}
+use Rattle.bk_raw.specs.Grammar.ComponentSpelling.{Parts, Clause, Refined, Header, SpellsComponent}
 use Rattle.bk_raw.proofs.Runs.{Halts}
 use Rattle.bk_raw.proofs.Steps.{Piece, step, stepped}
 use Rattle.bk_raw.proofs.Patterns.{Both, same-token, StopsAt, last, first}

@@ -4,8 +4,8 @@ use Rattle.std.proofs.Common.{get_or, arith, sym, subst, ◌∙◌, inl, inr}
 use Rattle.std.proofs.lemmas.Bool.{cases_order}
 use Rattle.bk_form.specs.declared.token.Token.{Token}
 use Rattle.bk_form.specs.declared.token.TokenKind.{TokenKind}
-use Rattle.bk_raw.specs.Brackets.{count_open, open_behind}
-use Rattle.bk_raw.specs.Limits.{IsWithinDepth}
+use Rattle.bk_raw.specs.Grammar.Brackets.{count_open, open_behind}
+use Rattle.bk_raw.specs.Errors.Limits.{IsWithinDepth}
 
 pub count_more : (opens closes : TokenKind → Bool) (n : ℕ) (tokens : List Token) (i : ℕ) (d : Token) → i < length tokens → count_open opens closes n (take (suc i) tokens) ≡ open_behind opens closes (count_open opens closes n (take i tokens)) (get_or tokens i d).kind
 count_more opens closes n [] i d l = elim l [ ]

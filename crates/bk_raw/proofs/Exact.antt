@@ -6,17 +6,17 @@ use Rattle.bk_form.specs.declared.token.Token.{Token}
 use Rattle.bk_form.specs.declared.token.TokenKind.{TokenKind}
 use Rattle.bk_form.specs.declared.token.TokenKind.TheVariants.{Name, LevelName, BoundName, Number, Sign}
 use Rattle.bk_ops.specs.declared.sign.TheConstants.{FOR_ALL, EXISTS, MEMBER, MINUS, OPEN_PAREN, CLOSE_PAREN, OPEN_BRACKET, CLOSE_BRACKET, OPEN_BRACE, CLOSE_BRACE, INVERSE, SEMICOLON, COMMA, DOT, BAR, LAMBDA}
-use Rattle.bk_raw.specs.Operators.{word_kind, constant_kind, binding}
+use Rattle.bk_raw.specs.Trees.Operators.{word_kind, constant_kind, binding}
 use Rattle.bk_raw.specs.declared.operator.InfixOp.{InfixOp}
 use Rattle.bk_raw.specs.declared.operator.WordOp.{WordOp}
 use Rattle.bk_raw.specs.declared.term.RawName.{RawName}
 use Rattle.bk_raw.specs.declared.term.RawBound.{RawBound}
-use Rattle.bk_raw.specs.Pieces.{Never, Just, JustSign, ◌⌢◌, InParentheses, InBrackets, InBraces, WithParentheses, Starting, Placed, Digits, Literal, NoDigits}
-use Rattle.bk_raw.specs.RawTree.{RawTree, raw, RawTreeNode, raw_name, raw_level_name, raw_bound_name, raw_number, raw_constant, raw_word, raw_negative, raw_infix, raw_inverse, raw_image, raw_apply, raw_composition, raw_pair, raw_empty_set, raw_extension, raw_comprehension, raw_lambda, raw_for_all, raw_exists, raw_typed_empty, raw_typed_for_all, raw_typed_exists, raw_ranged_comprehension, raw_ranged_lambda, RawTrees, no_trees, tree_and, RawRanges, no_ranges, range_and}
-use Rattle.bk_raw.specs.Spelling.{Names, Binder, Typed, TypedBounds, Term, Listed, Sequenced, Bare, Commas, Semicolons, Terms, Ranges, Spells}
-use Rattle.bk_raw.specs.Laws.{TermsAreOne}
+use Rattle.bk_raw.specs.Grammar.Pieces.{Never, Just, JustSign, ◌⌢◌, InParentheses, InBrackets, InBraces, WithParentheses, Starting, Placed, Digits, Literal, NoDigits}
+use Rattle.bk_raw.specs.Trees.RawTree.{RawTree, raw, RawTreeNode, raw_name, raw_level_name, raw_bound_name, raw_number, raw_constant, raw_word, raw_negative, raw_infix, raw_inverse, raw_image, raw_apply, raw_composition, raw_pair, raw_empty_set, raw_extension, raw_comprehension, raw_lambda, raw_for_all, raw_exists, raw_typed_empty, raw_typed_for_all, raw_typed_exists, raw_ranged_comprehension, raw_ranged_lambda, RawTrees, no_trees, tree_and, RawRanges, no_ranges, range_and}
+use Rattle.bk_raw.specs.Grammar.Spelling.{Names, Binder, Typed, TypedBounds, Term, Listed, Sequenced, Bare, Commas, Semicolons, Terms, Ranges, Spells}
+use Rattle.bk_raw.specs.Grammar.Laws.{TermsAreOne}
 use Rattle.bk_raw.proofs.Neutral.{neutral_names, neutral_terms, neutral_ranges}
-use Rattle.bk_raw.specs.Reading.{next, start, within, signed, front_kind, tight, joined, read, quantified, lambda, braces}
+use Rattle.bk_raw.specs.Grammar.Reading.{next, start, within, signed, front_kind, tight, joined, read, quantified, lambda, braces}
 use Rattle.bk_raw.proofs.Shapes.{of_kind, led, just_is, begun_led}
 use Rattle.bk_raw.proofs.Stopping.{some_same, own_within, right_within, left_within, stops_end, comma_ends, semicolon_ends, close_paren_ends, postfixed_ends}
 use Rattle.bk_raw.proofs.Combining.{Exact, Anything, exact_made}

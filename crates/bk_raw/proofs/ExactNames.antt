@@ -6,12 +6,12 @@ use Rattle.bk_form.specs.declared.token.Token.{Token}
 use Rattle.bk_form.specs.declared.token.TokenKind.TheVariants.{Name, BoundName, Sign, Word}
 use Rattle.bk_ops.specs.declared.sign.TheConstants.{MEMBER, COMMA, TIMES, OPEN_PAREN, CLOSE_PAREN}
 use Rattle.bk_ops.specs.declared.word.TheConstants.{BOOL, INTEGER, POW}
-use Rattle.bk_raw.specs.WrittenType.{WrittenType, written_integer, written_bool, written_set, written_power, written_product}
+use Rattle.bk_raw.specs.Trees.WrittenType.{WrittenType, written_integer, written_bool, written_set, written_power, written_product}
 use Rattle.bk_raw.specs.declared.term.RawName.{RawName}
 use Rattle.bk_raw.specs.declared.term.RawBound.{RawBound}
-use Rattle.bk_raw.specs.Pieces.{JustSign, ◌⌢◌, InParentheses}
-use Rattle.bk_raw.specs.Spelling.{Names, Alone, Binder, Typed, TypedBound, TypedBounds}
-use Rattle.bk_raw.specs.Reading.{next, sign, begins_with, names, binder, typed, bounds, begins_bound, begins_bound_in}
+use Rattle.bk_raw.specs.Grammar.Pieces.{JustSign, ◌⌢◌, InParentheses}
+use Rattle.bk_raw.specs.Grammar.Spelling.{Names, Alone, Binder, Typed, TypedBound, TypedBounds}
+use Rattle.bk_raw.specs.Grammar.Reading.{next, sign, begins_with, names, binder, typed, bounds, begins_bound, begins_bound_in}
 use Rattle.bk_raw.proofs.Shapes.{of_kind, placed_at, led, led_at, just_is, just_at_is, Begun, begun_joined, begun_length, begun_led, appended, lengths}
 use Rattle.bk_raw.proofs.Stopping.{Before}
 use Rattle.bk_raw.proofs.Combining.{Exact, Anything, exact_weaker, exact_within}

@@ -1,9 +1,9 @@
 -- Where it is decided which fronts are whole, there is a longest whole one; so there is one, or there being none is impossible.
 use Rattle.std.proofs.Common.{◌≡◌, ◌⊎◌, inl, inr, ◌≤◌, ◌<◌, ℕ, zero, suc, List, [], ◌∷◌, ◌++◌, length, refl, sym, ◌∙◌, ap, subst, arith, append_assoc, length-append}
 use Rattle.bk_form.specs.declared.token.Token.{Token}
-use Rattle.bk_raw.specs.ScriptSpelling.{IsWholeScripts}
-use Rattle.bk_raw.specs.Places.{IsWholeComponent, IsLongestWhole}
-use Rattle.bk_raw.specs.Laws.{IsDecided, AreFrontsDecided, DecidedIsOneOfBoth, OneOfBothHolds, DecidedScriptsAreOneOfBoth, OneOfBothHoldsOfScripts}
+use Rattle.bk_raw.specs.Grammar.ScriptSpelling.{IsWholeScripts}
+use Rattle.bk_raw.specs.Errors.Places.{IsWholeComponent, IsLongestWhole}
+use Rattle.bk_raw.specs.Grammar.Laws.{IsDecided, AreFrontsDecided, DecidedIsOneOfBoth, OneOfBothHolds, DecidedScriptsAreOneOfBoth, OneOfBothHoldsOfScripts}
 use Rattle.bk_raw.proofs.Insides.{same-front}
 
 le-or-lt : (m n : ℕ) → (m ≤ n) ⊎ (n < m)

@@ -8,8 +8,8 @@ use Rattle.bk_form.specs.Formula.{Formula, binary}
 use Rattle.bk_form.specs.Role.{role, gives, same_type}
 use Rattle.bk_form.specs.declared.operator.BinOp.TheVariants.{Maps}
 use Rattle.bk_form.proofs.Roles.{same_type-then}
-use Rattle.bk_raw.specs.Outcome.{Joint, union_joint, inter_joint, minus_joint, over_joint, joint_op, joins, Partial, whole, hollow, single_of, pair_of, joint_of, filled, where_holds, single_made, both_made}
-use Rattle.bk_raw.specs.RightReading.{Whenever, IsRightPartial}
+use Rattle.bk_raw.specs.Meaning.Outcome.{Joint, union_joint, inter_joint, minus_joint, over_joint, joint_op, joins, Partial, whole, hollow, single_of, pair_of, joint_of, filled, where_holds, single_made, both_made}
+use Rattle.bk_raw.specs.Meaning.RightReading.{Whenever, IsRightPartial}
 
 nat_eq-self : (n : ℕ) → nat_eq n n ≡ true
 nat_eq-self n = grind (arith, nat_tests)

@@ -15,21 +15,21 @@ use Rattle.bk_raw.specs.declared.operator.WordOp.TheVariants.{Not, BoolOf, Card,
 use Rattle.bk_raw.specs.declared.operator.Constant.{Constant}
 use Rattle.bk_raw.specs.declared.operator.Constant.TheVariants.{Bool as BoolWord}
 use Rattle.bk_raw.specs.declared.term.RawName.{RawName}
-use Rattle.bk_raw.specs.RawTree.{RawTree, raw, RawTreeNode, raw_name, raw_level_name, raw_number, raw_constant, raw_word, raw_negative, raw_infix, raw_inverse, raw_image, raw_apply, raw_composition, raw_pair, raw_empty_set, raw_extension, raw_comprehension, raw_lambda, raw_for_all, raw_exists, RawTrees, no_trees, tree_and, raw_bound_name, raw_typed_empty, raw_typed_for_all, raw_typed_exists, raw_ranged_comprehension, raw_ranged_lambda, RawRanges, no_ranges, range_and}
-use Rattle.bk_raw.specs.FreeNames.{is_among, conjuncts}
-use Rattle.bk_raw.specs.Additions.{HasNoAddition, NodeHasNoAddition, TreesHaveNoAddition}
-use Rattle.bk_raw.specs.Names.{Names, local, Sight, unseen, untyped_name, seen, sight, found, level_name}
-use Rattle.bk_raw.specs.Outcome.{Joint, union_joint, inter_joint, minus_joint, over_joint, joins, Partial, whole, hollow, single_of, pair_of, joint_of, filled, whole_of, Outcome, partial, ranging, holding, silent, Reading, silently, plainly, giving, no_type, fitting, ask, ask_value, ask_set, ask_relation, ask_domain, ask_predicate, unvalued, of_one}
-use Rattle.bk_raw.specs.OperatorReadings.{constant_reading, word_reading, negative_reading, inverse_reading, depending, on_values, equal, negated, one_type_by, joined, joint, is_number, minus_by, minus, times, unmatched, no_number, ungiven, composed, image_reading, apply_reading, composition_reading, paired, pair_reading, infix_reading, singled, single_reading, extended}
-use Rattle.bk_raw.specs.Binders.{Bound, bound_names, inside, has_type, untyped_faults, is_text, twice, Ranged, unranged, first_range, ranged_as, ranged_by, as_single, ranges_by, as_bound, is_used_by, is_used, is_some_name, nameless, left_over, body_of}
-use Rattle.bk_raw.specs.TermReading.{place_of, is_predicate, is_alike, part, name_of, name_reading, names_one, takes_predicate, is_connective, stricts, stricts_in, ranges_stricts, all_stricts, strict_faults, from_one, from_two, reading, node_reading, extension_reading, elements_reading, clues, premise_clues, ranges, rest, rest_in}
-use Rattle.bk_raw.specs.Speaking.{IsTold}
-use Rattle.bk_raw.specs.FormFaults.{with_names, part_faults, form_faults, node_faults, each_faults, but_types, is_missing_type, is_in_sight, FormTellsFaults}
+use Rattle.bk_raw.specs.Trees.RawTree.{RawTree, raw, RawTreeNode, raw_name, raw_level_name, raw_number, raw_constant, raw_word, raw_negative, raw_infix, raw_inverse, raw_image, raw_apply, raw_composition, raw_pair, raw_empty_set, raw_extension, raw_comprehension, raw_lambda, raw_for_all, raw_exists, RawTrees, no_trees, tree_and, raw_bound_name, raw_typed_empty, raw_typed_for_all, raw_typed_exists, raw_ranged_comprehension, raw_ranged_lambda, RawRanges, no_ranges, range_and}
+use Rattle.bk_raw.specs.Trees.FreeNames.{is_among, conjuncts}
+use Rattle.bk_raw.specs.Trees.Additions.{HasNoAddition, NodeHasNoAddition, TreesHaveNoAddition}
+use Rattle.bk_raw.specs.Meaning.Names.{Names, local, Sight, unseen, untyped_name, seen, sight, found, level_name}
+use Rattle.bk_raw.specs.Meaning.Outcome.{Joint, union_joint, inter_joint, minus_joint, over_joint, joins, Partial, whole, hollow, single_of, pair_of, joint_of, filled, whole_of, Outcome, partial, ranging, holding, silent, Reading, silently, plainly, giving, no_type, fitting, ask, ask_value, ask_set, ask_relation, ask_domain, ask_predicate, unvalued, of_one}
+use Rattle.bk_raw.specs.Meaning.OperatorReadings.{constant_reading, word_reading, negative_reading, inverse_reading, depending, on_values, equal, negated, one_type_by, joined, joint, is_number, minus_by, minus, times, unmatched, no_number, ungiven, composed, image_reading, apply_reading, composition_reading, paired, pair_reading, infix_reading, singled, single_reading, extended}
+use Rattle.bk_raw.specs.Meaning.Binders.{Bound, bound_names, inside, has_type, untyped_faults, is_text, twice, Ranged, unranged, first_range, ranged_as, ranged_by, as_single, ranges_by, as_bound, is_used_by, is_used, is_some_name, nameless, left_over, body_of}
+use Rattle.bk_raw.specs.Meaning.TermReading.{place_of, is_predicate, is_alike, part, name_of, name_reading, names_one, takes_predicate, is_connective, stricts, stricts_in, ranges_stricts, all_stricts, strict_faults, from_one, from_two, reading, node_reading, extension_reading, elements_reading, clues, premise_clues, ranges, rest, rest_in}
+use Rattle.bk_raw.specs.Meaning.Speaking.{IsTold}
+use Rattle.bk_raw.specs.Errors.FormFaults.{with_names, part_faults, form_faults, node_faults, each_faults, but_types, is_missing_type, is_in_sight, FormTellsFaults}
 use Rattle.bk_raw.proofs.RulesFit.{none-left, none-right}
 use Rattle.bk_raw.proofs.ReadingClean.{IsAnswer, ask_set-fair, ask_value-fair, reading-clean}
 use Rattle.bk_raw.proofs.BoundNames.{no-name, or-cases, or-left, or-right, is_bound, names-bound, unranged-bound, clues-bound, premise-bound, ranges-bound}
 use Rattle.bk_raw.proofs.ReadingKept.{raised, found-raised}
-use Rattle.bk_raw.specs.Faults.{Fault, twice_named, unknown_name, not_predicate}
+use Rattle.bk_raw.specs.Errors.Faults.{Fault, twice_named, unknown_name, not_predicate}
 
 -- ---- faults but for those of types
 append-nil : {A : Type 0} (xs : List A) → xs ++ [] ≡ xs

@@ -10,15 +10,15 @@ use Rattle.bk_form.specs.declared.operator.UnOp.TheVariants.{Single}
 use Rattle.bk_form.specs.declared.operator.BinOp.{BinOp}
 use Rattle.bk_form.specs.declared.operator.BinOp.TheVariants.{Sub, Mul, Times as Product, Maps, Minus as Without, Comp}
 use Rattle.bk_form.proofs.Roles.{same_type-then}
-use Rattle.bk_raw.specs.Names.{Sight, unseen, untyped_name, seen}
-use Rattle.bk_raw.specs.Outcome.{Joint, union_joint, inter_joint, minus_joint, over_joint, joint_op, joins, Partial, whole, hollow, single_of, pair_of, joint_of, where_holds, single_made, both_made, filled, whole_of, Outcome, partial, ranging, holding, silent, Reading, silently, plainly, giving, clean, no_type, fitting, ask, ask_value, ask_set, ask_relation, ask_domain, ask_predicate, of_answer, of_one, of_answers}
-use Rattle.bk_raw.specs.OperatorReadings.{depending, on_values, one_type_by, joined, joint, is_number, minus_by, minus, times, composed, paired, pair_reading, singled, single_reading}
-use Rattle.bk_raw.specs.TermReading.{name_reading}
-use Rattle.bk_raw.specs.Speaking.{IsTold}
-use Rattle.bk_raw.specs.GivesTakes.{taken, IsOfSets, IsOfRelations}
+use Rattle.bk_raw.specs.Meaning.Names.{Sight, unseen, untyped_name, seen}
+use Rattle.bk_raw.specs.Meaning.Outcome.{Joint, union_joint, inter_joint, minus_joint, over_joint, joint_op, joins, Partial, whole, hollow, single_of, pair_of, joint_of, where_holds, single_made, both_made, filled, whole_of, Outcome, partial, ranging, holding, silent, Reading, silently, plainly, giving, clean, no_type, fitting, ask, ask_value, ask_set, ask_relation, ask_domain, ask_predicate, of_answer, of_one, of_answers}
+use Rattle.bk_raw.specs.Meaning.OperatorReadings.{depending, on_values, one_type_by, joined, joint, is_number, minus_by, minus, times, composed, paired, pair_reading, singled, single_reading}
+use Rattle.bk_raw.specs.Meaning.TermReading.{name_reading}
+use Rattle.bk_raw.specs.Meaning.Speaking.{IsTold}
+use Rattle.bk_raw.specs.Meaning.GivesTakes.{taken, IsOfSets, IsOfRelations}
 use Rattle.bk_raw.proofs.Filled.{same_type-self, and-true, and-both}
-use Rattle.bk_raw.specs.Binders.{Bound, types_of, all_typed, where_typed, if_holding, quantified, Ranged, as_bound, ranges_of, is_some_name, comprehended, if_giving, abstracted}
-use Rattle.bk_raw.specs.Faults.{Fault}
+use Rattle.bk_raw.specs.Meaning.Binders.{Bound, types_of, all_typed, where_typed, if_holding, quantified, Ranged, as_bound, ranges_of, is_some_name, comprehended, if_giving, abstracted}
+use Rattle.bk_raw.specs.Errors.Faults.{Fault}
 
 -- ---- expressions
 pub whole-same : {f h : Formula} {t u : ValueType} → partial (whole f t) ≡ partial (whole h u) → (h ≡ f) × (u ≡ t)

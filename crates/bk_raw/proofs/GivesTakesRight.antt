@@ -6,14 +6,14 @@ use Rattle.bk_form.specs.Formula.{Formula, truth_value, named, unary, binary, fo
 use Rattle.bk_form.specs.Role.{tuple_type}
 use Rattle.bk_form.specs.declared.operator.UnOp.TheVariants.{Not as Negation, BoolOf as TruthOf, Neg, Card as CardOf, Min as MinOf, Max as MaxOf, Dom as DomainOf, Ran as RangeOf, Id as IdOf, Inverse as InverseOf, Pow as PowerOf, Pow1 as Power1Of}
 use Rattle.bk_form.specs.declared.operator.BinOp.TheVariants.{And as Conjunction, Or as Disjunction, Imp, Iff, Eq, Lt, Le, In, DomRes, RanRes, DomSub, RanSub, Range, Add, Div, Mod as Remainder, Power as PowerTo, Image as ImageOf, Apply as ApplyTo, Relations as RelationsOf, PartialFunctions as PartialOf, TotalFunctions as TotalOf, PartialInjections as PartialInjectionsOf, TotalInjections as TotalInjectionsOf, PartialSurjections as PartialSurjectionsOf, TotalSurjections as TotalSurjectionsOf, Bijections as BijectionsOf}
-use Rattle.bk_raw.specs.Names.{Names, found}
-use Rattle.bk_raw.specs.Outcome.{Reading, union_joint, inter_joint, over_joint, ask_relation}
+use Rattle.bk_raw.specs.Meaning.Names.{Names, found}
+use Rattle.bk_raw.specs.Meaning.Outcome.{Reading, union_joint, inter_joint, over_joint, ask_relation}
 use Rattle.std.specs.Prelude.{◌++◌, None}
 use Rattle.bk_raw.specs.declared.term.RawName.{RawName}
-use Rattle.bk_raw.specs.RawTree.{RawTree, raw, raw_comprehension, raw_lambda}
-use Rattle.bk_raw.specs.Binders.{bound_names, inside, types_of, twice, Ranged, unranged, as_bound, ranges_of, body_of, comprehended, abstracted}
-use Rattle.bk_raw.specs.TermReading.{place_of, part, reading, clues, premise_clues, ranges, rest}
-use Rattle.bk_raw.specs.GivesTakes.{expression, statement, Gives, Collects, BindersType, LeavesType, NumbersType, SetsType, RelationsType, DomainsType, PredicatesType, GivesAndTakes}
+use Rattle.bk_raw.specs.Trees.RawTree.{RawTree, raw, raw_comprehension, raw_lambda}
+use Rattle.bk_raw.specs.Meaning.Binders.{bound_names, inside, types_of, twice, Ranged, unranged, as_bound, ranges_of, body_of, comprehended, abstracted}
+use Rattle.bk_raw.specs.Meaning.TermReading.{place_of, part, reading, clues, premise_clues, ranges, rest}
+use Rattle.bk_raw.specs.Meaning.GivesTakes.{expression, statement, Gives, Collects, BindersType, LeavesType, NumbersType, SetsType, RelationsType, DomainsType, PredicatesType, GivesAndTakes}
 use Rattle.bk_raw.proofs.GivesRight.{of-taken, of-set, of-relation, of-numbers, of-compared, of-connected, of-related, of-member, of-domains, of-power, of-equal, of-joint, of-joint-taken, of-minus, of-minus-taken, of-times, of-product, of-composed, of-single, of-single-taken, of-pair, of-pair-taken, of-name, of-number, of-given, of-other, of-empty, of-truth, of-negation, of-quantified, of-comprehended, of-abstracted}
 
 module _ (max : ℤ) (names : Names) where

@@ -7,17 +7,17 @@ use Rattle.bk_val.specs.ValueType.{ValueType}
 use Rattle.bk_form.specs.Formula.{Formula}
 use Rattle.bk_raw.specs.declared.operator.InfixOp.TheVariants.{And, Equal, Member}
 use Rattle.bk_raw.specs.declared.term.RawName.{RawName}
-use Rattle.bk_raw.specs.RawTree.{RawTree, raw, RawTreeNode, raw_infix}
-use Rattle.bk_raw.specs.FreeNames.{conjuncts}
-use Rattle.bk_raw.specs.Names.{Names}
-use Rattle.bk_raw.specs.Outcome.{Outcome, Reading, ask_value, ask_set}
-use Rattle.bk_raw.specs.Binders.{Bound, is_text, twice, Ranged, unranged, first_range, ranged_as, ranged_by, as_single, ranges_by, is_used, left_over}
-use Rattle.bk_raw.specs.TermReading.{part, name_of, names_one, reading, node_reading, clues, ranges, rest, rest_in}
-use Rattle.bk_raw.specs.GivesTakes.{expression}
-use Rattle.bk_raw.specs.ConjunctsInOrder.{typed_in_order, where_named, range_of, range_given, first_of, numbered, first_given, ranged_first, left_in_order, ConjunctsInOrder}
+use Rattle.bk_raw.specs.Trees.RawTree.{RawTree, raw, RawTreeNode, raw_infix}
+use Rattle.bk_raw.specs.Trees.FreeNames.{conjuncts}
+use Rattle.bk_raw.specs.Meaning.Names.{Names}
+use Rattle.bk_raw.specs.Meaning.Outcome.{Outcome, Reading, ask_value, ask_set}
+use Rattle.bk_raw.specs.Meaning.Binders.{Bound, is_text, twice, Ranged, unranged, first_range, ranged_as, ranged_by, as_single, ranges_by, is_used, left_over}
+use Rattle.bk_raw.specs.Meaning.TermReading.{part, name_of, names_one, reading, node_reading, clues, ranges, rest, rest_in}
+use Rattle.bk_raw.specs.Meaning.GivesTakes.{expression}
+use Rattle.bk_raw.specs.Meaning.ConjunctsInOrder.{typed_in_order, where_named, range_of, range_given, first_of, numbered, first_given, ranged_first, left_in_order, ConjunctsInOrder}
 use Rattle.bk_raw.proofs.RulesFit.{none-left, none-right}
 use Rattle.bk_raw.proofs.BoundNames.{no-name, or-right, either}
-use Rattle.bk_raw.specs.Faults.{Fault, twice_named}
+use Rattle.bk_raw.specs.Errors.Faults.{Fault, twice_named}
 
 -- ---- types
 typed-append : (max : ℤ) (names : Names) (bs : List Bound) (cs ds : List RawTree) → typed_in_order max names bs (cs ++ ds) ≡ typed_in_order max names (typed_in_order max names bs cs) ds

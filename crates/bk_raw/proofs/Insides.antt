@@ -3,12 +3,12 @@ use Rattle.std.proofs.Common.{◌≡◌, ◌+◌, ◌-◌, ℕ, zero, suc, Bool,
 use Rattle.bk_form.specs.declared.token.Token.{Token}
 use Rattle.bk_form.specs.declared.token.TokenKind.{TokenKind}
 use Rattle.bk_form.specs.declared.token.TokenKind.TheVariants.{Name, LevelName, BoundName, Number, Sign, Word}
-use Rattle.bk_raw.specs.Brackets.{opens, closes, count_open}
-use Rattle.bk_raw.specs.SubTree.{SubTree}
-use Rattle.bk_raw.specs.ComponentTree.{RawClause, word_number, is_component_word}
-use Rattle.bk_raw.specs.ComponentSpelling.{Parts, Clause}
-use Rattle.bk_raw.specs.Laws.{IsLongestSub}
-use Rattle.bk_raw.specs.SubSpelling.{SpellsSub}
+use Rattle.bk_raw.specs.Grammar.Brackets.{opens, closes, count_open}
+use Rattle.bk_raw.specs.Trees.SubTree.{SubTree}
+use Rattle.bk_raw.specs.Trees.ComponentTree.{RawClause, word_number, is_component_word}
+use Rattle.bk_raw.specs.Grammar.ComponentSpelling.{Parts, Clause}
+use Rattle.bk_raw.specs.Grammar.Laws.{IsLongestSub}
+use Rattle.bk_raw.specs.Grammar.SubSpelling.{SpellsSub}
 use Rattle.bk_raw.proofs.Runs.{run, split-run, first-step}
 use Rattle.bk_raw.proofs.Steps.{State, Stopper, step, stepped, moved, moved_by, moved-of, completes}
 use Rattle.bk_raw.proofs.SubOne.{one-spelled}

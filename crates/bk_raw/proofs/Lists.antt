@@ -2,7 +2,7 @@
 use Rattle.std.proofs.Common.{◌≡◌, ℕ, true, false, List, [], ◌∷◌, ◌++◌, Some, None, refl, sym, ◌∙◌, ap, subst}
 use Rattle.bk_form.specs.declared.token.Token.{Token}
 use Rattle.bk_form.specs.declared.token.TokenKind.TheVariants.{Sign}
-use Rattle.bk_raw.specs.Pieces.{JustSign, ◌⌢◌, Divided}
+use Rattle.bk_raw.specs.Grammar.Pieces.{JustSign, ◌⌢◌, Divided}
 use Rattle.bk_raw.proofs.Runs.{run}
 use Rattle.bk_raw.proofs.Steps.{Piece, State, Stopper, step, stepped, Leads, leads-join, leads-just, leads-never}
 use Rattle.bk_raw.proofs.Patterns.{same-token, same-piece, stops-just}

@@ -4,12 +4,12 @@ use Rattle.std.proofs.Common.{arith, inl, inr, sym, ◌∙◌, ap, length-append
 use Rattle.bk_form.specs.declared.token.Token.{Token}
 use Rattle.bk_form.specs.declared.token.TokenKind.TheVariants.{Sign}
 use Rattle.bk_ops.specs.declared.sign.TheConstants.{MINUS}
-use Rattle.bk_raw.specs.Operators.{infix_kind, binding}
+use Rattle.bk_raw.specs.Trees.Operators.{infix_kind, binding}
 use Rattle.bk_raw.specs.declared.operator.InfixOp.{InfixOp}
-use Rattle.bk_raw.specs.Pieces.{JustSign, ◌⌢◌, Starting}
-use Rattle.bk_raw.specs.RawTree.{RawTree, raw, RawTreeNode, raw_number, raw_negative, raw_infix}
-use Rattle.bk_raw.specs.Spelling.{Term, Bare, Spells}
-use Rattle.bk_raw.specs.Reading.{next, start, signed, front_kind, tight, operand, joined, read}
+use Rattle.bk_raw.specs.Grammar.Pieces.{JustSign, ◌⌢◌, Starting}
+use Rattle.bk_raw.specs.Trees.RawTree.{RawTree, raw, RawTreeNode, raw_number, raw_negative, raw_infix}
+use Rattle.bk_raw.specs.Grammar.Spelling.{Term, Bare, Spells}
+use Rattle.bk_raw.specs.Grammar.Reading.{next, start, signed, front_kind, tight, operand, joined, read}
 use Rattle.bk_raw.proofs.Shapes.{of_kind, led, begun_start, begun_length, lengths}
 use Rattle.bk_raw.proofs.Stopping.{none_some, some_same, left_within, joined_gives, postfixed_gives}
 use Rattle.bk_raw.proofs.Loops.{operand_is, operator_read}

@@ -6,11 +6,11 @@ use Rattle.bk_form.specs.declared.token.Token.{Token}
 use Rattle.bk_form.specs.declared.token.TokenKind.{TokenKind}
 use Rattle.bk_form.specs.declared.token.TokenKind.TheVariants.{Name, LevelName, BoundName, Number, Sign, Word}
 use Rattle.bk_ops.specs.declared.sign.TheConstants.{MINUS, SEMICOLON, COMMA, CLOSE_PAREN}
-use Rattle.bk_raw.specs.Operators.{infix_kind, binding}
+use Rattle.bk_raw.specs.Trees.Operators.{infix_kind, binding}
 use Rattle.bk_raw.specs.declared.operator.InfixOp.{InfixOp}
-use Rattle.bk_raw.specs.Pieces.{Just, JustSign, ◌⌢◌, Starting, Binding}
-use Rattle.bk_raw.specs.RawTree.{RawTree, raw, RawTreeNode, raw_infix, raw_composition, raw_pair}
-use Rattle.bk_raw.specs.Reading.{same_kind, next, sign, begins_with, start, or_else, moved, chain, arguments, parentheses, primary_at, postfixed, tight, operand, joined, joined_by, read}
+use Rattle.bk_raw.specs.Grammar.Pieces.{Just, JustSign, ◌⌢◌, Starting, Binding}
+use Rattle.bk_raw.specs.Trees.RawTree.{RawTree, raw, RawTreeNode, raw_infix, raw_composition, raw_pair}
+use Rattle.bk_raw.specs.Grammar.Reading.{same_kind, next, sign, begins_with, start, or_else, moved, chain, arguments, parentheses, primary_at, postfixed, tight, operand, joined, joined_by, read}
 use Rattle.bk_raw.proofs.WrittenKinds.{infix_of-kind}
 use Rattle.bk_raw.proofs.Shapes.{of_kind, kind_known, Led, led, Begun, begun_joined, begun_start, begun_length, appended, lengths, sign_front, begins_front}
 use Rattle.bk_raw.proofs.Stopping.{none_some, own_left, Stops, Admits, admits_of_stops, IsEnd, Before, before_stops, close_paren_ends, operator_admits, postfixed_ends, chain_ends, joined_ends, joined_gives, or_else_taken}

@@ -5,8 +5,8 @@ use Rattle.std.specs.Str.{bytes_eq}
 use Rattle.bk_val.specs.ValueType.{ValueType}
 use Rattle.bk_form.specs.Table.{Table, lists_type}
 use Rattle.bk_form.specs.Role.{gives, bound_role}
-use Rattle.bk_raw.specs.Names.{Names, Meaning, local, global, set_name, element_name, nothing, Sight, unseen, untyped_name, seen, sight, behind, found, Agree, MeaningAgrees}
-use Rattle.bk_raw.specs.RightReading.{IsOfType}
+use Rattle.bk_raw.specs.Meaning.Names.{Names, Meaning, local, global, set_name, element_name, nothing, Sight, unseen, untyped_name, seen, sight, behind, found, Agree, MeaningAgrees}
+use Rattle.bk_raw.specs.Meaning.RightReading.{IsOfType}
 
 module _ (table : Table) (around : List ValueType) where
   abbrev pub IsRightSight : Sight → Type 0

@@ -4,7 +4,7 @@ use Rattle.std.specs.Cmp.Lexicographic.{bytes_decides}
 use Rattle.std.specs.Map.{lookup}
 use Rattle.std.specs.Str.{bytes_eq}
 use Rattle.indexmap.specs.IndexMap.{insert_entry}
-use Rattle.bk_raw.specs.ScopeReading.{last_from}
+use Rattle.bk_raw.specs.Meaning.ScopeReading.{last_from}
 
 -- one more name hides those before it
 last-more : (o : Option ℕ) (ps : List (List ℕ × ℕ)) (p : List ℕ × ℕ) (text : List ℕ) → last_from o (ps ++ p ∷ []) text ≡ cond (bytes_eq p.0 text) (Some p.1) (last_from o ps text)

@@ -5,15 +5,15 @@ use Rattle.bk_form.specs.declared.token.Token.{Token}
 use Rattle.bk_form.specs.declared.token.TokenKind.{TokenKind}
 use Rattle.bk_form.specs.declared.token.TokenKind.TheVariants.{Name, Number, Sign}
 use Rattle.bk_ops.specs.declared.sign.TheConstants.{OPEN_PAREN, CLOSE_PAREN, OPEN_BRACE, CLOSE_BRACE, COMMA, MEMBER, TIMES, PLUS, MINUS, DIVIDE, BAR, SEMICOLON}
-use Rattle.bk_raw.specs.Pieces.{Just, JustSign, ◌⌢◌, Digits, Literal, Divided, InRow, AnyDivided}
-use Rattle.bk_raw.specs.RawTree.{RawTree, raw, raw_number, raw_typed_empty}
-use Rattle.bk_raw.specs.Spelling.{Declared, Typed, Term}
-use Rattle.bk_raw.specs.WrittenType.{WrittenType}
+use Rattle.bk_raw.specs.Grammar.Pieces.{Just, JustSign, ◌⌢◌, Digits, Literal, Divided, InRow, AnyDivided}
+use Rattle.bk_raw.specs.Trees.RawTree.{RawTree, raw, raw_number, raw_typed_empty}
+use Rattle.bk_raw.specs.Grammar.Spelling.{Declared, Typed, Term}
+use Rattle.bk_raw.specs.Trees.WrittenType.{WrittenType}
 use Rattle.bk_raw.proofs.Exact.{one_for_its_tokens}
-use Rattle.bk_raw.specs.ScriptTree.{RawPlace, in_goal, in_hypothesis, RawLine, multiples, quotient}
+use Rattle.bk_raw.specs.Trees.ScriptTree.{RawPlace, in_goal, in_hypothesis, RawLine, multiples, quotient}
 use Rattle.bk_raw.specs.declared.script.RawMultiple.{RawMultiple}
 use Rattle.bk_raw.specs.declared.script.RawTyped.{RawTyped}
-use Rattle.bk_raw.specs.ScriptSpelling.{Place, TypedName, AnyTerm, Picked, Multiple, Line}
+use Rattle.bk_raw.specs.Grammar.ScriptSpelling.{Place, TypedName, AnyTerm, Picked, Multiple, Line}
 use Rattle.bk_raw.proofs.Steps.{Piece, State, Stopper, nothing, Leads, leads-join, leads-just, leads-fewer, fewer-nothing, leads-in}
 use Rattle.bk_raw.proofs.TermRuns.{ends_term, ends_terms, fewer-terms, term, typed}
 use Rattle.bk_raw.proofs.Patterns.{Both, same-token, same-piece, StopsAt, stops-just, stops-last, just-none}

@@ -3,7 +3,7 @@ use Rattle.std.proofs.Common.{◌≡◌, ℕ, zero, suc, Bool, true, false, cond
 use Rattle.std.specs.Prelude.{◌&&◌, option_and_then}
 use Rattle.bk_form.specs.declared.token.Token.{Token}
 use Rattle.bk_form.specs.declared.token.TokenKind.{TokenKind}
-use Rattle.bk_raw.specs.Pieces.{Never, Just, ◌⌢◌}
+use Rattle.bk_raw.specs.Grammar.Pieces.{Never, Just, ◌⌢◌}
 use Rattle.bk_raw.proofs.Runs.{run, Halts, nil-cons, and-then-some, same-split}
 use Rattle.bk_raw.proofs.Steps.{Piece, State, Stopper, stepped, step, nothing, Leads, leads-join, leads-just, leads-never, raise}
 use Rattle.bk_raw.proofs.Stopping.{none_some, some_same}

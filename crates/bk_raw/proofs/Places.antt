@@ -6,13 +6,13 @@ use Rattle.std.proofs.lemmas.List.Elements.{All-nil, All-cons, All-head, All-tai
 use Rattle.bk_form.specs.declared.token.Token.{Token}
 use Rattle.bk_form.specs.declared.token.TokenKind.TheVariants.{Word}
 use Rattle.bk_ops.specs.declared.word.TheConstants.{END}
-use Rattle.bk_raw.specs.Pieces.{JustWord, InRow}
-use Rattle.bk_raw.specs.Numbers.{Differ}
+use Rattle.bk_raw.specs.Grammar.Pieces.{JustWord, InRow}
+use Rattle.bk_raw.specs.Trees.Numbers.{Differ}
 use Rattle.bk_raw.specs.declared.component.ComponentKind.{ComponentKind}
-use Rattle.bk_raw.specs.ComponentTree.{RawClause, RawComponent, word_number, clause_number, is_allowed}
-use Rattle.bk_raw.specs.ComponentSpelling.{Parts, Clause, Header, ArePlain, AreClausesOf, SpellsComponent}
-use Rattle.bk_raw.specs.Places.{IsWholeComponent, IsLongestWhole, IsComponentFault, byte_at, AreReadOn}
-use Rattle.bk_raw.specs.Laws.{PlacesAreOne}
+use Rattle.bk_raw.specs.Trees.ComponentTree.{RawClause, RawComponent, word_number, clause_number, is_allowed}
+use Rattle.bk_raw.specs.Grammar.ComponentSpelling.{Parts, Clause, Header, ArePlain, AreClausesOf, SpellsComponent}
+use Rattle.bk_raw.specs.Errors.Places.{IsWholeComponent, IsLongestWhole, IsComponentFault, byte_at, AreReadOn}
+use Rattle.bk_raw.specs.Grammar.Laws.{PlacesAreOne}
 use Rattle.bk_raw.proofs.Runs.{Halts, no-longer}
 use Rattle.bk_raw.proofs.Steps.{step, stepped}
 use Rattle.bk_raw.proofs.Patterns.{first, last}

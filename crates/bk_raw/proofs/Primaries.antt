@@ -6,20 +6,20 @@ use Rattle.bk_form.specs.declared.token.Token.{Token}
 use Rattle.bk_form.specs.declared.token.TokenKind.{TokenKind}
 use Rattle.bk_form.specs.declared.token.TokenKind.TheVariants.{Name, BoundName, Sign}
 use Rattle.bk_ops.specs.declared.sign.TheConstants.{MEMBER, OPEN_PAREN, CLOSE_PAREN, OPEN_BRACKET, CLOSE_BRACKET, CLOSE_BRACE, INVERSE, COMMA, DOT, BAR}
-use Rattle.bk_raw.specs.Operators.{word_kind, constant_kind}
-use Rattle.bk_raw.specs.WrittenType.{WrittenType}
-use Rattle.bk_raw.specs.Bars.{bar_follows}
+use Rattle.bk_raw.specs.Trees.Operators.{word_kind, constant_kind}
+use Rattle.bk_raw.specs.Trees.WrittenType.{WrittenType}
+use Rattle.bk_raw.specs.Grammar.Bars.{bar_follows}
 use Rattle.bk_raw.specs.declared.operator.WordOp.{WordOp}
 use Rattle.bk_raw.specs.declared.operator.WordOp.TheVariants.{Not}
 use Rattle.bk_raw.specs.declared.operator.Constant.{Constant}
 use Rattle.bk_raw.specs.declared.operator.Constant.TheVariants.{Btrue}
 use Rattle.bk_raw.specs.declared.term.RawName.{RawName}
 use Rattle.bk_raw.specs.declared.term.RawBound.{RawBound}
-use Rattle.bk_raw.specs.Pieces.{Just, JustAt, JustSign, ◌⌢◌, InParentheses, InBrackets}
-use Rattle.bk_raw.specs.Spelling.{Names, Binder, Typed, TypedBounds}
-use Rattle.bk_raw.specs.RawTree.{RawTree, raw, RawTreeNode, raw_constant, raw_word, raw_inverse, raw_image, raw_apply, raw_empty_set, raw_pair, raw_extension, raw_comprehension, raw_lambda, raw_typed_empty, raw_ranged_comprehension, raw_ranged_lambda, RawTrees, no_trees, tree_and, RawRanges, no_ranges, range_and}
+use Rattle.bk_raw.specs.Grammar.Pieces.{Just, JustAt, JustSign, ◌⌢◌, InParentheses, InBrackets}
+use Rattle.bk_raw.specs.Grammar.Spelling.{Names, Binder, Typed, TypedBounds}
+use Rattle.bk_raw.specs.Trees.RawTree.{RawTree, raw, RawTreeNode, raw_constant, raw_word, raw_inverse, raw_image, raw_apply, raw_empty_set, raw_pair, raw_extension, raw_comprehension, raw_lambda, raw_typed_empty, raw_ranged_comprehension, raw_ranged_lambda, RawTrees, no_trees, tree_and, RawRanges, no_ranges, range_and}
 use Rattle.bk_raw.proofs.Neutral.{Neutral}
-use Rattle.bk_raw.specs.Reading.{next, sign, begins_with, start, within, names, binder, typed, bounds, begins_bound, begins_bound_in, terms, ranges, braces, body, body_and_value, quantified, lambda, at_byte, primary_at, postfixed, arguments, or_else, read}
+use Rattle.bk_raw.specs.Grammar.Reading.{next, sign, begins_with, start, within, names, binder, typed, bounds, begins_bound, begins_bound_in, terms, ranges, braces, body, body_and_value, quantified, lambda, at_byte, primary_at, postfixed, arguments, or_else, read}
 use Rattle.bk_raw.proofs.Shapes.{of_kind, placed_at, kind_known, led, led_at, just_is, regrouped, begun_joined, begun_length, appended, lengths}
 use Rattle.bk_raw.proofs.Stopping.{none_some, Stops, IsEnd, Before, before_stops, comma_ends, bar_ends, close_paren_ends, close_bracket_ends, close_brace_ends, or_else_taken, postfixed_gives}
 use Rattle.bk_raw.proofs.Combining.{Exact, Anything, exact_next, exact_sign, exact_last, exact_made, exact_weaker, exact_within, before_last, before_joined}

@@ -7,12 +7,12 @@ use Rattle.bk_form.specs.Formula.{Formula, named}
 use Rattle.bk_form.specs.Role.{gives}
 use Rattle.bk_form.proofs.Roles.{if_holds-gives}
 use Rattle.bk_form.specs.declared.operator.Domain.TheVariants.{Enum}
-use Rattle.bk_raw.specs.WrittenType.{WrittenType, written_integer, written_bool, written_set, written_power, written_product}
+use Rattle.bk_raw.specs.Trees.WrittenType.{WrittenType, written_integer, written_bool, written_set, written_power, written_product}
 use Rattle.bk_raw.specs.declared.term.RawBound.{RawBound}
-use Rattle.bk_raw.specs.Names.{Names, Meaning, local, global, set_name, element_name, nothing, Sight, unseen, seen, found, pick, local_at, local_sight, bound_sight, Agree, MeaningAgrees}
-use Rattle.bk_raw.specs.Outcome.{ask_set}
-use Rattle.bk_raw.specs.Printed.{set_type_of, power_of, product_of, type_read, typed_empty, printed_bounds, with_place, RangeRead, printed_ranges}
-use Rattle.bk_raw.specs.RightReading.{Whenever}
+use Rattle.bk_raw.specs.Meaning.Names.{Names, Meaning, local, global, set_name, element_name, nothing, Sight, unseen, seen, found, pick, local_at, local_sight, bound_sight, Agree, MeaningAgrees}
+use Rattle.bk_raw.specs.Meaning.Outcome.{ask_set}
+use Rattle.bk_raw.specs.Meaning.Printed.{set_type_of, power_of, product_of, type_read, typed_empty, printed_bounds, with_place, RangeRead, printed_ranges}
+use Rattle.bk_raw.specs.Meaning.RightReading.{Whenever}
 use Rattle.bk_raw.proofs.Filled.{and-true}
 use Rattle.bk_raw.proofs.Asks.{Right, ask_set-right, Of}
 use Rattle.bk_raw.proofs.NamesRight.{IsRightSight, found-right}

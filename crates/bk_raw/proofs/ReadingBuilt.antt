@@ -11,18 +11,18 @@ use Rattle.bk_form.specs.declared.operator.BinOp.TheVariants.{And as Conjunction
 use Rattle.bk_raw.specs.declared.operator.InfixOp.{InfixOp}
 use Rattle.bk_raw.specs.declared.operator.InfixOp.TheVariants.{And, Equal, Member}
 use Rattle.bk_raw.specs.declared.term.RawName.{RawName}
-use Rattle.bk_raw.specs.RawTree.{RawTree, raw, RawTreeNode, raw_name, raw_level_name, raw_bound_name, raw_number, raw_constant, raw_word, raw_negative, raw_infix, raw_inverse, raw_image, raw_apply, raw_composition, raw_pair, raw_empty_set, raw_extension, raw_comprehension, raw_lambda, raw_for_all, raw_exists, raw_typed_empty, raw_typed_for_all, raw_typed_exists, raw_ranged_comprehension, raw_ranged_lambda, RawTrees, no_trees, tree_and, RawRanges, no_ranges, range_and}
-use Rattle.bk_raw.specs.Names.{Names, local, Sight, unseen, untyped_name, seen, found, level_name, local_at, local_sight, count_locals, bound_sight}
-use Rattle.bk_raw.specs.Outcome.{whole, Outcome, partial, ranging, holding, silent, Reading, silently, clean, ask_value, ask_set}
-use Rattle.bk_raw.specs.OperatorReadings.{infix_reading, single_reading, extended}
-use Rattle.bk_raw.specs.Binders.{Bound, bound_names, inside, types_of, all_typed, where_typed, if_holding, if_giving, twice, Ranged, unranged, first_range, ranged_as, ranged_by, as_single, ranges_by, as_bound, range_or, ranges_of, is_used, is_some_name, with_conjunct, left_over, is_and, body_of, quantified, comprehended, abstracted}
-use Rattle.bk_raw.specs.TermReading.{place_of, is_predicate, is_alike, part, name_of, name_reading, takes_predicate, is_connective, strict_faults, from_one, from_two, reading, node_reading, extension_reading, elements_reading, clues, premise_clues, ranges, rest, rest_in, names_one, range_reads}
-use Rattle.bk_raw.specs.RightReading.{Whenever}
-use Rattle.bk_raw.specs.Built.{EachHas, Builds, NamesHave, OutcomeHas, IsVisible}
+use Rattle.bk_raw.specs.Trees.RawTree.{RawTree, raw, RawTreeNode, raw_name, raw_level_name, raw_bound_name, raw_number, raw_constant, raw_word, raw_negative, raw_infix, raw_inverse, raw_image, raw_apply, raw_composition, raw_pair, raw_empty_set, raw_extension, raw_comprehension, raw_lambda, raw_for_all, raw_exists, raw_typed_empty, raw_typed_for_all, raw_typed_exists, raw_ranged_comprehension, raw_ranged_lambda, RawTrees, no_trees, tree_and, RawRanges, no_ranges, range_and}
+use Rattle.bk_raw.specs.Meaning.Names.{Names, local, Sight, unseen, untyped_name, seen, found, level_name, local_at, local_sight, count_locals, bound_sight}
+use Rattle.bk_raw.specs.Meaning.Outcome.{whole, Outcome, partial, ranging, holding, silent, Reading, silently, clean, ask_value, ask_set}
+use Rattle.bk_raw.specs.Meaning.OperatorReadings.{infix_reading, single_reading, extended}
+use Rattle.bk_raw.specs.Meaning.Binders.{Bound, bound_names, inside, types_of, all_typed, where_typed, if_holding, if_giving, twice, Ranged, unranged, first_range, ranged_as, ranged_by, as_single, ranges_by, as_bound, range_or, ranges_of, is_used, is_some_name, with_conjunct, left_over, is_and, body_of, quantified, comprehended, abstracted}
+use Rattle.bk_raw.specs.Meaning.TermReading.{place_of, is_predicate, is_alike, part, name_of, name_reading, takes_predicate, is_connective, strict_faults, from_one, from_two, reading, node_reading, extension_reading, elements_reading, clues, premise_clues, ranges, rest, rest_in, names_one, range_reads}
+use Rattle.bk_raw.specs.Meaning.RightReading.{Whenever}
+use Rattle.bk_raw.specs.Meaning.Built.{EachHas, Builds, NamesHave, OutcomeHas, IsVisible}
 use Rattle.bk_raw.proofs.RulesBuilt.{First, SightHas, found-has, constant-has, word-has, negative-has, inverse-has, infix-has, image-has, apply-has, composition-has, pair-has, single-has_outcome, extended-has, connected-has, ask_value-has, ask_set-has}
-use Rattle.bk_raw.specs.Printed.{type_read, typed_empty, wrong_bounds, printed_bounds, with_place, RangeRead, printed_ranges, wrong_ranges}
-use Rattle.bk_raw.specs.FreeNames.{conjuncts}
-use Rattle.bk_raw.specs.Faults.{Fault, not_predicate}
+use Rattle.bk_raw.specs.Meaning.Printed.{type_read, typed_empty, wrong_bounds, printed_bounds, with_place, RangeRead, printed_ranges, wrong_ranges}
+use Rattle.bk_raw.specs.Trees.FreeNames.{conjuncts}
+use Rattle.bk_raw.specs.Errors.Faults.{Fault, not_predicate}
 
 module _ (int_max : ℤ) (P : Formula → Type 0) (b : Builds P) where
   abbrev Has : Outcome → Type 0

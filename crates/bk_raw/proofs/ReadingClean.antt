@@ -12,17 +12,17 @@ use Rattle.bk_raw.specs.declared.operator.WordOp.{WordOp}
 use Rattle.bk_raw.specs.declared.operator.WordOp.TheVariants.{Not, BoolOf, Card, Min, Max, Dom, Ran, Id, Succ, Pred, Pow, Pow1, Fin, Fin1}
 use Rattle.bk_raw.specs.declared.operator.Constant.{Constant}
 use Rattle.bk_raw.specs.declared.operator.Constant.TheVariants.{Bool as BoolWord}
-use Rattle.bk_raw.specs.RawTree.{RawTree, raw, RawTreeNode, raw_name, raw_level_name, raw_bound_name, raw_number, raw_constant, raw_word, raw_negative, raw_infix, raw_inverse, raw_image, raw_apply, raw_composition, raw_pair, raw_empty_set, raw_extension, raw_comprehension, raw_lambda, raw_for_all, raw_exists, raw_typed_empty, raw_typed_for_all, raw_typed_exists, raw_ranged_comprehension, raw_ranged_lambda, RawTrees, no_trees, tree_and}
-use Rattle.bk_raw.specs.Names.{Names, Sight, unseen, untyped_name, seen, found, count_locals, bound_sight, level_name}
-use Rattle.bk_raw.specs.Outcome.{Joint, union_joint, inter_joint, minus_joint, over_joint, joins, Partial, whole, joint_of, filled, whole_of, Outcome, partial, ranging, holding, silent, Reading, silently, plainly, giving, clean, no_type, Asked, fitting, ask, ask_value, ask_set, ask_relation, ask_domain, ask_predicate, of_answer, of_one, of_answers, of_both}
-use Rattle.bk_raw.specs.OperatorReadings.{constant_reading, word_reading, negative_reading, inverse_reading, depending, on_values, connected, compared, calculated, one_type_by, equal, strict, strictly, in_domain, in_power, arrow, joined, joint, is_number, minus_by, minus, times, left_part, right_part, image_reading, apply_reading, composed, composition_reading, paired, pair_reading, negated, infix_reading, singled, single_reading, extended}
-use Rattle.bk_raw.specs.Binders.{Bound, bound_names, inside, types_of, has_type, all_typed, untyped_faults, twice, where_typed, if_holding, if_giving, quantified, Ranged, unranged, as_bound, is_used, is_some_name, nameless, conjoined, with_conjunct, left_over, is_and, body_of, comprehended, abstracted, ranges_of}
-use Rattle.bk_raw.specs.Printed.{type_read, typed_empty, wrong_bounds, printed_bounds, printed_ranges, wrong_ranges}
-use Rattle.bk_raw.specs.TermReading.{place_of, is_predicate, is_alike, part, name_reading, takes_predicate, is_connective, strict_faults, from_one, from_two, spoilt_by, reading, node_reading, extension_reading, elements_reading, range_reads, clues, premise_clues, ranges, rest, rest_in}
-use Rattle.bk_raw.specs.Speaking.{IsTold}
+use Rattle.bk_raw.specs.Trees.RawTree.{RawTree, raw, RawTreeNode, raw_name, raw_level_name, raw_bound_name, raw_number, raw_constant, raw_word, raw_negative, raw_infix, raw_inverse, raw_image, raw_apply, raw_composition, raw_pair, raw_empty_set, raw_extension, raw_comprehension, raw_lambda, raw_for_all, raw_exists, raw_typed_empty, raw_typed_for_all, raw_typed_exists, raw_ranged_comprehension, raw_ranged_lambda, RawTrees, no_trees, tree_and}
+use Rattle.bk_raw.specs.Meaning.Names.{Names, Sight, unseen, untyped_name, seen, found, count_locals, bound_sight, level_name}
+use Rattle.bk_raw.specs.Meaning.Outcome.{Joint, union_joint, inter_joint, minus_joint, over_joint, joins, Partial, whole, joint_of, filled, whole_of, Outcome, partial, ranging, holding, silent, Reading, silently, plainly, giving, clean, no_type, Asked, fitting, ask, ask_value, ask_set, ask_relation, ask_domain, ask_predicate, of_answer, of_one, of_answers, of_both}
+use Rattle.bk_raw.specs.Meaning.OperatorReadings.{constant_reading, word_reading, negative_reading, inverse_reading, depending, on_values, connected, compared, calculated, one_type_by, equal, strict, strictly, in_domain, in_power, arrow, joined, joint, is_number, minus_by, minus, times, left_part, right_part, image_reading, apply_reading, composed, composition_reading, paired, pair_reading, negated, infix_reading, singled, single_reading, extended}
+use Rattle.bk_raw.specs.Meaning.Binders.{Bound, bound_names, inside, types_of, has_type, all_typed, untyped_faults, twice, where_typed, if_holding, if_giving, quantified, Ranged, unranged, as_bound, is_used, is_some_name, nameless, conjoined, with_conjunct, left_over, is_and, body_of, comprehended, abstracted, ranges_of}
+use Rattle.bk_raw.specs.Meaning.Printed.{type_read, typed_empty, wrong_bounds, printed_bounds, printed_ranges, wrong_ranges}
+use Rattle.bk_raw.specs.Meaning.TermReading.{place_of, is_predicate, is_alike, part, name_reading, takes_predicate, is_connective, strict_faults, from_one, from_two, spoilt_by, reading, node_reading, extension_reading, elements_reading, range_reads, clues, premise_clues, ranges, rest, rest_in}
+use Rattle.bk_raw.specs.Meaning.Speaking.{IsTold}
 use Rattle.bk_raw.proofs.Filled.{and-both}
-use Rattle.bk_raw.specs.FreeNames.{conjuncts}
-use Rattle.bk_raw.specs.Faults.{Fault, not_predicate}
+use Rattle.bk_raw.specs.Trees.FreeNames.{conjuncts}
+use Rattle.bk_raw.specs.Errors.Faults.{Fault, not_predicate}
 
 abbrev pub IsAnswer : {A : Type 0} → Option A → Type 0
 IsAnswer None = ⊥

@@ -5,18 +5,18 @@ use Rattle.std.specs.Str.{bytes_eq}
 use Rattle.bk_val.specs.ValueType.{ValueType, set_type}
 use Rattle.bk_form.specs.Formula.{Formula, for_all, for_some}
 use Rattle.bk_form.specs.declared.operator.BinOp.TheVariants.{And as Conjunction}
-use Rattle.bk_raw.specs.RawTree.{RawTree, raw, RawTreeNode, raw_name, raw_level_name, raw_bound_name, raw_number, raw_constant, raw_word, raw_negative, raw_infix, raw_inverse, raw_image, raw_apply, raw_composition, raw_pair, raw_empty_set, raw_extension, raw_comprehension, raw_lambda, raw_for_all, raw_exists, raw_typed_empty, raw_typed_for_all, raw_typed_exists, raw_ranged_comprehension, raw_ranged_lambda, RawTrees, no_trees, tree_and}
-use Rattle.bk_raw.specs.Names.{Names, Meaning, local, global, set_name, element_name, nothing, Sight, unseen, untyped_name, seen, sight, behind, found, pick, local_at, local_sight, count_locals, bound_sight, level_name}
-use Rattle.bk_raw.specs.Outcome.{Outcome, partial, ranging, holding, silent, Reading, silently, clean, no_type, ask_value, ask_predicate}
-use Rattle.bk_raw.specs.OperatorReadings.{word_reading, negative_reading, infix_reading, inverse_reading, image_reading, apply_reading, composition_reading, pair_reading, single_reading, extended}
-use Rattle.bk_raw.specs.Binders.{Bound, bound_names, inside, has_type, all_typed, untyped_faults, twice, types_of, where_typed, if_holding, if_giving, quantified, Ranged, unranged, as_bound, is_used, is_some_name, nameless, conjoined, with_conjunct, left_over, is_and, body_of, comprehended, abstracted}
-use Rattle.bk_raw.specs.TermReading.{place_of, is_predicate, is_alike, part, name_reading, takes_predicate, is_connective, is_not, makes_predicate, is_predicate_node, spoilt_by, strict_faults, from_one, from_two, reading, node_reading, extension_reading, elements_reading, range_reads, clues, premise_clues, ranges, rest, rest_in}
-use Rattle.bk_raw.specs.Printed.{type_read, typed_empty, wrong_bounds, printed_bounds, printed_ranges, wrong_ranges}
-use Rattle.bk_raw.specs.Speaking.{Fits, HasType, AreTyped, Speaks}
+use Rattle.bk_raw.specs.Trees.RawTree.{RawTree, raw, RawTreeNode, raw_name, raw_level_name, raw_bound_name, raw_number, raw_constant, raw_word, raw_negative, raw_infix, raw_inverse, raw_image, raw_apply, raw_composition, raw_pair, raw_empty_set, raw_extension, raw_comprehension, raw_lambda, raw_for_all, raw_exists, raw_typed_empty, raw_typed_for_all, raw_typed_exists, raw_ranged_comprehension, raw_ranged_lambda, RawTrees, no_trees, tree_and}
+use Rattle.bk_raw.specs.Meaning.Names.{Names, Meaning, local, global, set_name, element_name, nothing, Sight, unseen, untyped_name, seen, sight, behind, found, pick, local_at, local_sight, count_locals, bound_sight, level_name}
+use Rattle.bk_raw.specs.Meaning.Outcome.{Outcome, partial, ranging, holding, silent, Reading, silently, clean, no_type, ask_value, ask_predicate}
+use Rattle.bk_raw.specs.Meaning.OperatorReadings.{word_reading, negative_reading, infix_reading, inverse_reading, image_reading, apply_reading, composition_reading, pair_reading, single_reading, extended}
+use Rattle.bk_raw.specs.Meaning.Binders.{Bound, bound_names, inside, has_type, all_typed, untyped_faults, twice, types_of, where_typed, if_holding, if_giving, quantified, Ranged, unranged, as_bound, is_used, is_some_name, nameless, conjoined, with_conjunct, left_over, is_and, body_of, comprehended, abstracted}
+use Rattle.bk_raw.specs.Meaning.TermReading.{place_of, is_predicate, is_alike, part, name_reading, takes_predicate, is_connective, is_not, makes_predicate, is_predicate_node, spoilt_by, strict_faults, from_one, from_two, reading, node_reading, extension_reading, elements_reading, range_reads, clues, premise_clues, ranges, rest, rest_in}
+use Rattle.bk_raw.specs.Meaning.Printed.{type_read, typed_empty, wrong_bounds, printed_bounds, printed_ranges, wrong_ranges}
+use Rattle.bk_raw.specs.Meaning.Speaking.{Fits, HasType, AreTyped, Speaks}
 use Rattle.bk_raw.proofs.Filled.{and-true, and-both}
 use Rattle.bk_raw.proofs.RulesFit.{none-left, none-right, some-fault, Answered, ask_value-answers, constant-fits, word-fits, negative-fits, inverse-fits, infix-fits, image-fits, apply-fits, composition-fits, pair-fits, connected-fits, single-fits, extended-fits}
-use Rattle.bk_raw.specs.FreeNames.{conjuncts}
-use Rattle.bk_raw.specs.Faults.{Fault, unknown_name, without_type, not_predicate}
+use Rattle.bk_raw.specs.Trees.FreeNames.{conjuncts}
+use Rattle.bk_raw.specs.Errors.Faults.{Fault, unknown_name, without_type, not_predicate}
 
 -- ---- names
 abbrev IsNoUntyped : Sight → Type 0

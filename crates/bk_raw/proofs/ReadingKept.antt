@@ -10,16 +10,16 @@ use Rattle.bk_raw.specs.declared.operator.InfixOp.{InfixOp}
 use Rattle.bk_raw.specs.declared.operator.InfixOp.TheVariants.{Implies, And, Member, Equal}
 use Rattle.bk_raw.specs.declared.term.RawName.{RawName}
 use Rattle.bk_raw.specs.declared.term.RawBound.{RawBound}
-use Rattle.bk_raw.specs.WrittenType.{WrittenType, written_integer, written_bool, written_set, written_power, written_product}
-use Rattle.bk_raw.specs.RawTree.{RawTree, raw, RawTreeNode, raw_name, raw_level_name, raw_bound_name, raw_number, raw_constant, raw_word, raw_negative, raw_infix, raw_inverse, raw_image, raw_apply, raw_composition, raw_pair, raw_empty_set, raw_extension, raw_comprehension, raw_lambda, raw_for_all, raw_exists, raw_typed_empty, raw_typed_for_all, raw_typed_exists, raw_ranged_comprehension, raw_ranged_lambda, RawTrees, no_trees, tree_and, RawRanges, no_ranges, range_and}
-use Rattle.bk_raw.specs.FreeNames.{is_among, stands_free, is_free_in, is_free_in_some, is_free_in_ranges, conjuncts}
-use Rattle.bk_raw.specs.Names.{Names, Meaning, local, global, set_name, element_name, nothing, Sight, unseen, untyped_name, seen, sight, behind, found, count_locals, local_at, local_sight, bound_sight, level_name}
-use Rattle.bk_raw.specs.Outcome.{Outcome, Reading}
-use Rattle.bk_raw.specs.OperatorReadings.{word_reading, negative_reading, inverse_reading, infix_reading, image_reading, apply_reading, composition_reading, pair_reading, single_reading, extended}
-use Rattle.bk_raw.specs.Binders.{Bound, bound_names, inside, told_by, twice, quantified, Ranged, unranged, ranges_by, as_bound, is_used, left_over, is_and, body_of, comprehended, abstracted}
-use Rattle.bk_raw.specs.Printed.{set_type_of, power_of, product_of, type_read, typed_empty, wrong_bounds, printed_bounds, printed_ranges, wrong_ranges}
-use Rattle.bk_raw.specs.TermReading.{place_of, part, name_of, name_reading, names_one, takes_predicate, is_connective, strict_faults, from_one, from_two, spoilt_by, reading, node_reading, extension_reading, elements_reading, range_reads, clues, premise_clues, ranges, rest, rest_in}
-use Rattle.bk_raw.specs.KeptReading.{DollarName, at_level, of_bound, StandsIn, StandsInNode, StandsInSome, StandsInRanges, IsFoundAlike, ReadingsAreKept}
+use Rattle.bk_raw.specs.Trees.WrittenType.{WrittenType, written_integer, written_bool, written_set, written_power, written_product}
+use Rattle.bk_raw.specs.Trees.RawTree.{RawTree, raw, RawTreeNode, raw_name, raw_level_name, raw_bound_name, raw_number, raw_constant, raw_word, raw_negative, raw_infix, raw_inverse, raw_image, raw_apply, raw_composition, raw_pair, raw_empty_set, raw_extension, raw_comprehension, raw_lambda, raw_for_all, raw_exists, raw_typed_empty, raw_typed_for_all, raw_typed_exists, raw_ranged_comprehension, raw_ranged_lambda, RawTrees, no_trees, tree_and, RawRanges, no_ranges, range_and}
+use Rattle.bk_raw.specs.Trees.FreeNames.{is_among, stands_free, is_free_in, is_free_in_some, is_free_in_ranges, conjuncts}
+use Rattle.bk_raw.specs.Meaning.Names.{Names, Meaning, local, global, set_name, element_name, nothing, Sight, unseen, untyped_name, seen, sight, behind, found, count_locals, local_at, local_sight, bound_sight, level_name}
+use Rattle.bk_raw.specs.Meaning.Outcome.{Outcome, Reading}
+use Rattle.bk_raw.specs.Meaning.OperatorReadings.{word_reading, negative_reading, inverse_reading, infix_reading, image_reading, apply_reading, composition_reading, pair_reading, single_reading, extended}
+use Rattle.bk_raw.specs.Meaning.Binders.{Bound, bound_names, inside, told_by, twice, quantified, Ranged, unranged, ranges_by, as_bound, is_used, left_over, is_and, body_of, comprehended, abstracted}
+use Rattle.bk_raw.specs.Meaning.Printed.{set_type_of, power_of, product_of, type_read, typed_empty, wrong_bounds, printed_bounds, printed_ranges, wrong_ranges}
+use Rattle.bk_raw.specs.Meaning.TermReading.{place_of, part, name_of, name_reading, names_one, takes_predicate, is_connective, strict_faults, from_one, from_two, spoilt_by, reading, node_reading, extension_reading, elements_reading, range_reads, clues, premise_clues, ranges, rest, rest_in}
+use Rattle.bk_raw.specs.Meaning.KeptReading.{DollarName, at_level, of_bound, StandsIn, StandsInNode, StandsInSome, StandsInRanges, IsFoundAlike, ReadingsAreKept}
 use Rattle.bk_raw.proofs.Filled.{and-true, and-both}
 use Rattle.bk_raw.proofs.BoundNames.{no-name, or-cases, or-neither, or-none, or-left, or-right, either, is_bound, names-bound, unranged-bound, clues-bound, premise-bound, ranges-bound}
 

@@ -6,22 +6,22 @@ use Rattle.bk_form.specs.Table.{Table}
 use Rattle.bk_form.specs.Role.{bind}
 use Rattle.bk_form.specs.declared.operator.BinOp.TheVariants.{And as Conjunction}
 use Rattle.bk_raw.specs.declared.operator.InfixOp.TheVariants.{Implies}
-use Rattle.bk_raw.specs.RawTree.{RawTree, raw, RawTreeNode, raw_name, raw_level_name, raw_bound_name, raw_number, raw_constant, raw_word, raw_negative, raw_infix, raw_inverse, raw_image, raw_apply, raw_composition, raw_pair, raw_empty_set, raw_extension, raw_comprehension, raw_lambda, raw_for_all, raw_exists, raw_typed_empty, raw_typed_for_all, raw_typed_exists, raw_ranged_comprehension, raw_ranged_lambda, RawTrees, no_trees, tree_and, RawRanges, no_ranges, range_and}
-use Rattle.bk_raw.specs.Names.{Names, Sight, unseen, untyped_name, seen, found, count_locals, bound_sight, Agree, level_name}
-use Rattle.bk_raw.specs.Outcome.{Reading, silently}
-use Rattle.bk_raw.specs.OperatorReadings.{infix_reading, single_reading, extended}
-use Rattle.bk_raw.specs.Binders.{Bound, bound_names, inside, types_of, twice, Ranged, unranged, as_bound, is_used, with_conjunct, left_over, is_and, body_of}
-use Rattle.bk_raw.specs.TermReading.{place_of, is_predicate, is_alike, part, name_of, name_reading, takes_predicate, is_connective, strict_faults, from_one, from_two, reading, node_reading, extension_reading, elements_reading, range_reads, clues, premise_clues, ranges, rest, rest_in, names_one}
-use Rattle.bk_raw.specs.Printed.{wrong_bounds, printed_bounds, printed_ranges, wrong_ranges}
-use Rattle.bk_raw.specs.RightReading.{Whenever}
+use Rattle.bk_raw.specs.Trees.RawTree.{RawTree, raw, RawTreeNode, raw_name, raw_level_name, raw_bound_name, raw_number, raw_constant, raw_word, raw_negative, raw_infix, raw_inverse, raw_image, raw_apply, raw_composition, raw_pair, raw_empty_set, raw_extension, raw_comprehension, raw_lambda, raw_for_all, raw_exists, raw_typed_empty, raw_typed_for_all, raw_typed_exists, raw_ranged_comprehension, raw_ranged_lambda, RawTrees, no_trees, tree_and, RawRanges, no_ranges, range_and}
+use Rattle.bk_raw.specs.Meaning.Names.{Names, Sight, unseen, untyped_name, seen, found, count_locals, bound_sight, Agree, level_name}
+use Rattle.bk_raw.specs.Meaning.Outcome.{Reading, silently}
+use Rattle.bk_raw.specs.Meaning.OperatorReadings.{infix_reading, single_reading, extended}
+use Rattle.bk_raw.specs.Meaning.Binders.{Bound, bound_names, inside, types_of, twice, Ranged, unranged, as_bound, is_used, with_conjunct, left_over, is_and, body_of}
+use Rattle.bk_raw.specs.Meaning.TermReading.{place_of, is_predicate, is_alike, part, name_of, name_reading, takes_predicate, is_connective, strict_faults, from_one, from_two, reading, node_reading, extension_reading, elements_reading, range_reads, clues, premise_clues, ranges, rest, rest_in, names_one}
+use Rattle.bk_raw.specs.Meaning.Printed.{wrong_bounds, printed_bounds, printed_ranges, wrong_ranges}
+use Rattle.bk_raw.specs.Meaning.RightReading.{Whenever}
 use Rattle.bk_raw.proofs.Asks.{Right, clean-right}
 use Rattle.bk_raw.proofs.NamesRight.{IsRightSight, found-right}
 use Rattle.bk_raw.proofs.RulesRight.{constant-right, word-right, negative-right, inverse-right, infix-right, image-right, apply-right, composition-right, pair-right, single-right, extended-right, connected-right}
 use Rattle.bk_raw.proofs.BindersRight.{AreListed, names-listed, told_by-listed, inside-agrees, for_all-right, for_some-right, AreRanges, unranged-right, ranges_by-right, as_bound-listed, comprehended-right, abstracted-right}
 use Rattle.bk_raw.proofs.PrintedRight.{bound-right, empty-right, bounds-listed, AreRightReads, ranges-of-right}
 use Rattle.bk_raw.specs.declared.term.RawName.{RawName}
-use Rattle.bk_raw.specs.FreeNames.{conjuncts}
-use Rattle.bk_raw.specs.Faults.{Fault, not_predicate}
+use Rattle.bk_raw.specs.Trees.FreeNames.{conjuncts}
+use Rattle.bk_raw.specs.Errors.Faults.{Fault, not_predicate}
 
 module _ (int_max : ℤ) (table : Table) where
   sight-reads : (around : List ValueType) (at : ℕ) (s : Sight) → IsRightSight table around s → Right table around (name_reading at s).outcome

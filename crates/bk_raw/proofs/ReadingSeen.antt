@@ -11,21 +11,21 @@ use Rattle.bk_raw.specs.declared.operator.InfixOp.{InfixOp}
 use Rattle.bk_raw.specs.declared.operator.InfixOp.TheVariants.{And, Equal, Member}
 use Rattle.bk_raw.specs.declared.term.RawName.{RawName}
 use Rattle.bk_raw.specs.declared.term.RawBound.{RawBound}
-use Rattle.bk_raw.specs.RawTree.{RawTree, raw, RawTreeNode, raw_name, raw_level_name, raw_bound_name, raw_number, raw_constant, raw_word, raw_negative, raw_infix, raw_inverse, raw_image, raw_apply, raw_composition, raw_pair, raw_empty_set, raw_extension, raw_comprehension, raw_lambda, raw_for_all, raw_exists, raw_typed_empty, raw_typed_for_all, raw_typed_exists, raw_ranged_comprehension, raw_ranged_lambda, RawTrees, no_trees, tree_and, RawRanges, no_ranges, range_and}
-use Rattle.bk_raw.specs.FreeNames.{is_among, stands_free, is_free_in, is_free_in_some, is_free_in_ranges, conjuncts}
-use Rattle.bk_raw.specs.Names.{Names, Meaning, local, global, set_name, element_name, nothing, Sight, unseen, untyped_name, seen, sight, behind, found, count_locals}
-use Rattle.bk_raw.specs.Outcome.{whole, Outcome, partial, holding, Reading, silently, ask, ask_value, ask_set, ask_relation}
-use Rattle.bk_raw.specs.OperatorReadings.{infix_reading, single_reading, extended}
-use Rattle.bk_raw.specs.Binders.{Bound, bound_names, inside, types_of, has_type, all_typed, twice, where_typed, if_holding, if_giving, quantified, Ranged, unranged, ranged_as, ranged_by, as_single, ranges_by, as_bound, range_type, is_used, is_some_name, left_over, is_and, body_of, comprehended, abstracted, ranges_of}
-use Rattle.bk_raw.specs.Printed.{wrong_bounds, printed_bounds, RangeRead, with_place, printed_ranges, wrong_ranges}
-use Rattle.bk_raw.specs.TermReading.{place_of, is_predicate, is_alike, part, name_of, name_reading, names_one, takes_predicate, is_connective, strict_faults, from_one, from_two, reading, node_reading, extension_reading, elements_reading, range_reads, clues, premise_clues, ranges, rest, rest_in}
-use Rattle.bk_raw.specs.Speaking.{IsTold}
+use Rattle.bk_raw.specs.Trees.RawTree.{RawTree, raw, RawTreeNode, raw_name, raw_level_name, raw_bound_name, raw_number, raw_constant, raw_word, raw_negative, raw_infix, raw_inverse, raw_image, raw_apply, raw_composition, raw_pair, raw_empty_set, raw_extension, raw_comprehension, raw_lambda, raw_for_all, raw_exists, raw_typed_empty, raw_typed_for_all, raw_typed_exists, raw_ranged_comprehension, raw_ranged_lambda, RawTrees, no_trees, tree_and, RawRanges, no_ranges, range_and}
+use Rattle.bk_raw.specs.Trees.FreeNames.{is_among, stands_free, is_free_in, is_free_in_some, is_free_in_ranges, conjuncts}
+use Rattle.bk_raw.specs.Meaning.Names.{Names, Meaning, local, global, set_name, element_name, nothing, Sight, unseen, untyped_name, seen, sight, behind, found, count_locals}
+use Rattle.bk_raw.specs.Meaning.Outcome.{whole, Outcome, partial, holding, Reading, silently, ask, ask_value, ask_set, ask_relation}
+use Rattle.bk_raw.specs.Meaning.OperatorReadings.{infix_reading, single_reading, extended}
+use Rattle.bk_raw.specs.Meaning.Binders.{Bound, bound_names, inside, types_of, has_type, all_typed, twice, where_typed, if_holding, if_giving, quantified, Ranged, unranged, ranged_as, ranged_by, as_single, ranges_by, as_bound, range_type, is_used, is_some_name, left_over, is_and, body_of, comprehended, abstracted, ranges_of}
+use Rattle.bk_raw.specs.Meaning.Printed.{wrong_bounds, printed_bounds, RangeRead, with_place, printed_ranges, wrong_ranges}
+use Rattle.bk_raw.specs.Meaning.TermReading.{place_of, is_predicate, is_alike, part, name_of, name_reading, names_one, takes_predicate, is_connective, strict_faults, from_one, from_two, reading, node_reading, extension_reading, elements_reading, range_reads, clues, premise_clues, ranges, rest, rest_in}
+use Rattle.bk_raw.specs.Meaning.Speaking.{IsTold}
 use Rattle.bk_raw.proofs.Filled.{and-both}
-use Rattle.bk_raw.specs.ToldNames.{IsSeen, ToldNamesAreSeen}
+use Rattle.bk_raw.specs.Meaning.ToldNames.{IsSeen, ToldNamesAreSeen}
 use Rattle.bk_raw.proofs.BoundNames.{no-name, or-cases, or-neither, or-none, or-left, or-right, is_bound, names-bound, unranged-bound, clues-bound, premise-bound, ranges-bound}
 use Rattle.bk_raw.proofs.FormRight.{used-as, same-number}
 use Rattle.bk_raw.proofs.ReadingClean.{IsAnswer, one-clean, ask-fair, ask_set-fair, ask_value-fair, ask_relation-fair, word-clean, infix-clean, image-clean, apply-clean, composition-clean, pair-clean, single-clean, extended-clean, connected-clean, clean-told, where-told, holding-told, holding-then, giving-told}
-use Rattle.bk_raw.specs.Faults.{Fault, not_predicate}
+use Rattle.bk_raw.specs.Errors.Faults.{Fault, not_predicate}
 
 -- each name free in the term is found so; printed bound variables have the empty text for a name, by which nothing is written
 abbrev pub AllSeen : Names → RawTree → Type 0

@@ -8,16 +8,16 @@ use Rattle.bk_form.specs.declared.operator.UnOp.TheVariants.{Not as Negation, Po
 use Rattle.bk_form.specs.declared.operator.BinOp.TheVariants.{And as Conjunction, Eq, In, Lt, Le, Add, Sub}
 use Rattle.bk_form.proofs.Roles.{same_type-then}
 use Rattle.bk_raw.specs.declared.operator.WordOp.TheVariants.{Pow}
-use Rattle.bk_raw.specs.RawTree.{RawTree, raw, raw_infix, RawTrees, no_trees, tree_and}
+use Rattle.bk_raw.specs.Trees.RawTree.{RawTree, raw, raw_infix, RawTrees, no_trees, tree_and}
 use Rattle.bk_raw.specs.declared.operator.InfixOp.TheVariants.{Union}
-use Rattle.bk_raw.specs.Names.{Names}
-use Rattle.bk_raw.specs.Outcome.{union_joint, inter_joint, minus_joint, over_joint, Partial, whole, hollow, single_of, pair_of, joint_of, where_holds, filled, whole_of, Outcome, partial, ranging, holding, silent, Reading, silently, clean, no_type, fitting, ask, ask_domain, ask_predicate, of_answer, of_answers}
-use Rattle.bk_raw.specs.OperatorReadings.{depending, on_values, one_type_by, equal, strict, strictly, in_domain, in_power, joint, minus, negated, stepped, word_reading, single_reading, extended}
-use Rattle.bk_raw.specs.TermReading.{place_of, part, from_one, from_two, reading, elements_reading}
-use Rattle.bk_raw.specs.GivesTakes.{expression}
-use Rattle.bk_raw.specs.Rewritings.{single_set, united, Rewritings}
+use Rattle.bk_raw.specs.Meaning.Names.{Names}
+use Rattle.bk_raw.specs.Meaning.Outcome.{union_joint, inter_joint, minus_joint, over_joint, Partial, whole, hollow, single_of, pair_of, joint_of, where_holds, filled, whole_of, Outcome, partial, ranging, holding, silent, Reading, silently, clean, no_type, fitting, ask, ask_domain, ask_predicate, of_answer, of_answers}
+use Rattle.bk_raw.specs.Meaning.OperatorReadings.{depending, on_values, one_type_by, equal, strict, strictly, in_domain, in_power, joint, minus, negated, stepped, word_reading, single_reading, extended}
+use Rattle.bk_raw.specs.Meaning.TermReading.{place_of, part, from_one, from_two, reading, elements_reading}
+use Rattle.bk_raw.specs.Meaning.GivesTakes.{expression}
+use Rattle.bk_raw.specs.Meaning.Rewritings.{single_set, united, Rewritings}
 use Rattle.bk_raw.proofs.Filled.{same_type-self}
-use Rattle.bk_raw.specs.Faults.{Fault}
+use Rattle.bk_raw.specs.Errors.Faults.{Fault}
 
 -- what `not` makes of an outcome
 abbrev denied : Outcome → Outcome

@@ -2,11 +2,11 @@
 use Rattle.std.proofs.Common.{true, false, List, [], ◌∷◌, ◌++◌, refl, sym, ◌∙◌, subst}
 use Rattle.bk_form.specs.declared.token.Token.{Token}
 use Rattle.bk_form.specs.declared.token.TokenKind.TheVariants.{Name}
-use Rattle.bk_raw.specs.Pieces.{Just, JustAt, ◌⌢◌, Absent}
+use Rattle.bk_raw.specs.Grammar.Pieces.{Just, JustAt, ◌⌢◌, Absent}
 use Rattle.bk_raw.specs.declared.script.RuleWord.{RuleWord}
 use Rattle.bk_raw.specs.declared.script.RuleWord.TheVariants.{Hyp, Eval, False, Absurd, Fix, UseTerms, Split, Cases, Apply, Inst, OpenSome, Cut, Case, Drop, Eq, Qe, Law, Wal, TypeOf, Neg, Mem, Val, Ext, Sub, Ex, Pair, Elems, Interval, Lin}
-use Rattle.bk_raw.specs.ScriptTree.{rule_kind, PartKind, one_number, one_term, some_terms, one_place, perhaps_place, typed_names, one_law, certificate, shape_of, RulePart, part_term, part_terms, part_place, part_no_place, part_typed, part_certificate, RawRule}
-use Rattle.bk_raw.specs.ScriptSpelling.{Place, Picked, Spelled, Ruled, Rule}
+use Rattle.bk_raw.specs.Trees.ScriptTree.{rule_kind, PartKind, one_number, one_term, some_terms, one_place, perhaps_place, typed_names, one_law, certificate, shape_of, RulePart, part_term, part_terms, part_place, part_no_place, part_typed, part_certificate, RawRule}
+use Rattle.bk_raw.specs.Grammar.ScriptSpelling.{Place, Picked, Spelled, Ruled, Rule}
 use Rattle.bk_raw.proofs.Runs.{no-longer}
 use Rattle.bk_raw.proofs.Steps.{Piece, State, Stopper, step, Leads, leads-never}
 use Rattle.bk_raw.proofs.TermRuns.{ends_term, ends_terms, term}

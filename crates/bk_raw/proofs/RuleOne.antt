@@ -6,12 +6,12 @@ use Rattle.bk_form.specs.declared.token.Token.{Token}
 use Rattle.bk_form.specs.declared.token.TokenKind.{TokenKind}
 use Rattle.bk_form.specs.declared.token.TokenKind.TheVariants.{Name, Number, Sign, Word}
 use Rattle.bk_ops.specs.declared.sign.TheConstants.{SEMICOLON, COMMA}
-use Rattle.bk_raw.specs.Pieces.{Just, JustAt, ◌⌢◌, Digits, Absent, Divided, InRow}
-use Rattle.bk_raw.specs.RawTree.{RawTree}
+use Rattle.bk_raw.specs.Grammar.Pieces.{Just, JustAt, ◌⌢◌, Digits, Absent, Divided, InRow}
+use Rattle.bk_raw.specs.Trees.RawTree.{RawTree}
 use Rattle.bk_raw.specs.declared.script.RuleWord.{RuleWord}
 use Rattle.bk_raw.specs.declared.script.RuleWord.TheVariants.{Hyp, Eval, False, Absurd, Fix, UseTerms, Split, Cases, Apply, Inst, OpenSome, Cut, Case, Drop, Eq, Qe, Law, Wal, TypeOf, Neg, Mem, Val, Ext, Sub, Ex, Pair, Elems, Interval, Lin}
-use Rattle.bk_raw.specs.ScriptTree.{rule_kind, PartKind, one_number, one_term, some_terms, one_place, perhaps_place, typed_names, one_law, certificate, shape_of, RawPlace, in_goal, in_hypothesis, RulePart, part_number, part_term, part_terms, part_place, part_no_place, part_typed, part_law, part_certificate, RawRule}
-use Rattle.bk_raw.specs.ScriptSpelling.{Place, TypedName, AnyTerm, Picked, Spelled, Ruled, Rule}
+use Rattle.bk_raw.specs.Trees.ScriptTree.{rule_kind, PartKind, one_number, one_term, some_terms, one_place, perhaps_place, typed_names, one_law, certificate, shape_of, RawPlace, in_goal, in_hypothesis, RulePart, part_number, part_term, part_terms, part_place, part_no_place, part_typed, part_law, part_certificate, RawRule}
+use Rattle.bk_raw.specs.Grammar.ScriptSpelling.{Place, TypedName, AnyTerm, Picked, Spelled, Ruled, Rule}
 use Rattle.bk_raw.proofs.Steps.{Piece, Stopper, stepped, Leads, leads-join, leads-just}
 use Rattle.bk_raw.proofs.TermRuns.{ends_term, ends_terms}
 use Rattle.bk_raw.proofs.Patterns.{Both, same-piece, StopsAt, stops-just}

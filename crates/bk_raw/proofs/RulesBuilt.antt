@@ -15,12 +15,12 @@ use Rattle.bk_raw.specs.declared.operator.WordOp.{WordOp}
 use Rattle.bk_raw.specs.declared.operator.WordOp.TheVariants.{Not, BoolOf, Card, Min, Max, Dom, Ran, Id, Succ, Pred, Pow, Pow1, Fin, Fin1}
 use Rattle.bk_raw.specs.declared.operator.Constant.{Constant}
 use Rattle.bk_raw.specs.declared.operator.Constant.TheVariants.{Bool as BoolWord, True, False, Integer, Natural, Natural1, Int, Nat, Nat1, MaxInt, MinInt, Btrue, Bfalse}
-use Rattle.bk_raw.specs.Names.{Names, Meaning, local, global, set_name, element_name, nothing, Sight, seen, sight, behind, found}
-use Rattle.bk_raw.specs.Outcome.{Joint, union_joint, inter_joint, minus_joint, over_joint, joint_op, joins, Partial, whole, hollow, single_of, pair_of, joint_of, where_holds, single_made, both_made, filled, whole_of, Outcome, partial, ranging, holding, silent, Reading, silently, plainly, giving, no_type, Asked, fitting, ask, ask_value, ask_set, ask_relation, ask_domain, ask_predicate, of_answer, of_one, of_answers, of_both}
-use Rattle.bk_raw.specs.OperatorReadings.{int_min, constant_reading, word_reading, negative_reading, inverse_reading, depending, dependent, on_values, connected, compared, calculated, one_type_by, one_type, equal, strict, in_domain, in_power, arrow, joined, joint, is_number, minus_by, minus, times, left_part, right_part, image_reading, apply_reading, composed, composition_reading, paired, pair_reading, negated, turned, infix_reading, singled, single_reading, extended}
-use Rattle.bk_raw.specs.RightReading.{Whenever}
-use Rattle.bk_raw.specs.Built.{Builds, MeaningHas, NamesHave, PartialHas, OutcomeHas}
-use Rattle.bk_raw.specs.Faults.{Fault}
+use Rattle.bk_raw.specs.Meaning.Names.{Names, Meaning, local, global, set_name, element_name, nothing, Sight, seen, sight, behind, found}
+use Rattle.bk_raw.specs.Meaning.Outcome.{Joint, union_joint, inter_joint, minus_joint, over_joint, joint_op, joins, Partial, whole, hollow, single_of, pair_of, joint_of, where_holds, single_made, both_made, filled, whole_of, Outcome, partial, ranging, holding, silent, Reading, silently, plainly, giving, no_type, Asked, fitting, ask, ask_value, ask_set, ask_relation, ask_domain, ask_predicate, of_answer, of_one, of_answers, of_both}
+use Rattle.bk_raw.specs.Meaning.OperatorReadings.{int_min, constant_reading, word_reading, negative_reading, inverse_reading, depending, dependent, on_values, connected, compared, calculated, one_type_by, one_type, equal, strict, in_domain, in_power, arrow, joined, joint, is_number, minus_by, minus, times, left_part, right_part, image_reading, apply_reading, composed, composition_reading, paired, pair_reading, negated, turned, infix_reading, singled, single_reading, extended}
+use Rattle.bk_raw.specs.Meaning.RightReading.{Whenever}
+use Rattle.bk_raw.specs.Meaning.Built.{Builds, MeaningHas, NamesHave, PartialHas, OutcomeHas}
+use Rattle.bk_raw.specs.Errors.Faults.{Fault}
 
 module _ (P : Formula → Type 0) (b : Builds P) where
   abbrev Has : Outcome → Type 0

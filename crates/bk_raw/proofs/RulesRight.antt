@@ -15,12 +15,12 @@ use Rattle.bk_raw.specs.declared.operator.WordOp.TheVariants.{Not, BoolOf, Card,
 use Rattle.bk_raw.specs.declared.operator.Constant.{Constant}
 use Rattle.bk_raw.specs.declared.operator.Constant.TheVariants.{Bool as BoolWord, True, False, Integer, Natural, Natural1, Int, Nat, Nat1, MaxInt, MinInt, Btrue, Bfalse}
 use Rattle.bk_form.proofs.Roles.{same_type-then}
-use Rattle.bk_raw.specs.Outcome.{Joint, union_joint, inter_joint, minus_joint, over_joint, joins, Partial, whole, hollow, single_of, pair_of, joint_of, filled, whole_of, Outcome, partial, ranging, holding, silent, Reading, silently, plainly, giving, no_type, fitting, ask, ask_set, ask_relation, ask_domain, ask_predicate, of_one}
-use Rattle.bk_raw.specs.OperatorReadings.{constant_reading, word_reading, negative_reading, inverse_reading, domain_made, connected, compared, calculated, one_type_by, one_type, equal, strict, strictly, in_domain, in_power, arrow, joined, joint, is_number, minus_by, minus, times, left_part, right_part, image_reading, apply_reading, composed, composition_reading, paired, pair_reading, negated, turned, infix_reading, singled, single_reading, extended}
-use Rattle.bk_raw.specs.RightReading.{Whenever, IsRightPartial}
+use Rattle.bk_raw.specs.Meaning.Outcome.{Joint, union_joint, inter_joint, minus_joint, over_joint, joins, Partial, whole, hollow, single_of, pair_of, joint_of, filled, whole_of, Outcome, partial, ranging, holding, silent, Reading, silently, plainly, giving, no_type, fitting, ask, ask_set, ask_relation, ask_domain, ask_predicate, of_one}
+use Rattle.bk_raw.specs.Meaning.OperatorReadings.{constant_reading, word_reading, negative_reading, inverse_reading, domain_made, connected, compared, calculated, one_type_by, one_type, equal, strict, strictly, in_domain, in_power, arrow, joined, joint, is_number, minus_by, minus, times, left_part, right_part, image_reading, apply_reading, composed, composition_reading, paired, pair_reading, negated, turned, infix_reading, singled, single_reading, extended}
+use Rattle.bk_raw.specs.Meaning.RightReading.{Whenever, IsRightPartial}
 use Rattle.bk_raw.proofs.Filled.{and-true, and-both, same_type-self, joint-gives}
 use Rattle.bk_raw.proofs.Asks.{Right, Of, IsDomain, fitting-right, ask-right, ask_set-right, ask_relation-right, ask_domain-right, ask_predicate-right, of_one-right, of_both-right, dependent-right, on_values-right}
-use Rattle.bk_raw.specs.Faults.{Fault}
+use Rattle.bk_raw.specs.Errors.Faults.{Fault}
 
 module _ (table : Table) (around : List ValueType) where
   abbrev Lists : ValueType → Type 0

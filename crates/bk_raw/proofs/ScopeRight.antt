@@ -13,20 +13,20 @@ use Rattle.bk_form.specs.Role.{role, gives}
 use Rattle.bk_form.specs.Wider.{IsTypedRole}
 use Rattle.bk_form.proofs.Widening.{type-listed}
 use Rattle.bk_form.specs.declared.token.Token.{Token}
-use Rattle.bk_raw.specs.RawTree.{RawTree}
-use Rattle.bk_raw.specs.Spelling.{Spells}
-use Rattle.bk_raw.specs.Names.{Names, Agree, MeaningAgrees}
-use Rattle.bk_raw.specs.Outcome.{whole, hollow, single_of, pair_of, joint_of, Outcome, partial, ranging, holding, silent}
-use Rattle.bk_raw.specs.TermReading.{place_of, is_predicate}
-use Rattle.bk_raw.specs.RightReading.{IsRight}
-use Rattle.bk_raw.specs.Speaking.{HasType, AreTyped, Fits, IsTold}
-use Rattle.bk_raw.specs.ScopeReading.{ScopeNames, element_names, set_names, variable_meaning, scope_names, names_in, ask_formula, reading_in, formula_in}
+use Rattle.bk_raw.specs.Trees.RawTree.{RawTree}
+use Rattle.bk_raw.specs.Grammar.Spelling.{Spells}
+use Rattle.bk_raw.specs.Meaning.Names.{Names, Agree, MeaningAgrees}
+use Rattle.bk_raw.specs.Meaning.Outcome.{whole, hollow, single_of, pair_of, joint_of, Outcome, partial, ranging, holding, silent}
+use Rattle.bk_raw.specs.Meaning.TermReading.{place_of, is_predicate}
+use Rattle.bk_raw.specs.Meaning.RightReading.{IsRight}
+use Rattle.bk_raw.specs.Meaning.Speaking.{HasType, AreTyped, Fits, IsTold}
+use Rattle.bk_raw.specs.Meaning.ScopeReading.{ScopeNames, element_names, set_names, variable_meaning, scope_names, names_in, ask_formula, reading_in, formula_in}
 use Rattle.bk_raw.proofs.Exact.{one_for_its_tokens}
 use Rattle.bk_raw.proofs.ReadingRight.{reading-right}
 use Rattle.bk_raw.proofs.ReadingFits.{reading-speaks}
 use Rattle.bk_raw.proofs.ReadingClean.{reading-clean}
 use Rattle.bk_raw.proofs.RulesFit.{none-left, none-right, some-fault}
-use Rattle.bk_raw.specs.Faults.{without_type}
+use Rattle.bk_raw.specs.Errors.Faults.{without_type}
 
 -- ---- names
 less-then : (m n : ℕ) → m < n → nat_lt m n ≡ true

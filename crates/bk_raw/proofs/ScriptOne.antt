@@ -4,13 +4,13 @@ use Rattle.std.specs.Prelude.{codes}
 use Rattle.bk_form.specs.declared.token.Token.{Token}
 use Rattle.bk_form.specs.declared.token.TokenKind.TheVariants.{Name, Sign}
 use Rattle.bk_ops.specs.declared.sign.TheConstants.{SEMICOLON, DOT}
-use Rattle.bk_raw.specs.Pieces.{Just, JustAt, JustSign, ◌⌢◌, Digits, Absent, Divided, InRow, AnyDivided, Starting}
+use Rattle.bk_raw.specs.Grammar.Pieces.{Just, JustAt, JustSign, ◌⌢◌, Digits, Absent, Divided, InRow, AnyDivided, Starting}
 use Rattle.bk_raw.specs.declared.script.RuleWord.{RuleWord}
 use Rattle.bk_raw.specs.declared.script.RuleWord.TheVariants.{Hyp}
-use Rattle.bk_raw.specs.ScriptTree.{rule_kind, RawRule, shape_of, RawScript}
+use Rattle.bk_raw.specs.Trees.ScriptTree.{rule_kind, RawRule, shape_of, RawScript}
 use Rattle.bk_raw.specs.declared.script.NamePart.{NamePart}
 use Rattle.bk_raw.specs.declared.script.NamePart.TheVariants.{Letters, Numeral}
-use Rattle.bk_raw.specs.ScriptSpelling.{Ruled, Rule, letters_of, Lettered, PartNamed, OpensScript, Scripted, SpellsScripts}
+use Rattle.bk_raw.specs.Grammar.ScriptSpelling.{Ruled, Rule, letters_of, Lettered, PartNamed, OpensScript, Scripted, SpellsScripts}
 use Rattle.bk_raw.proofs.Runs.{nil-cons}
 use Rattle.bk_raw.proofs.Steps.{Piece}
 use Rattle.bk_raw.proofs.Patterns.{Both, first, same-token}

@@ -4,12 +4,12 @@ use Rattle.std.specs.Prelude.{codes}
 use Rattle.bk_form.specs.declared.token.Token.{Token}
 use Rattle.bk_form.specs.declared.token.TokenKind.TheVariants.{Name, Sign}
 use Rattle.bk_ops.specs.declared.sign.TheConstants.{SEMICOLON, DOT}
-use Rattle.bk_raw.specs.Pieces.{Just, JustAt, JustSign, ◌⌢◌, Absent, Divided, InRow, AnyDivided, Starting}
-use Rattle.bk_raw.specs.ScriptTree.{RawRule, RawScript}
+use Rattle.bk_raw.specs.Grammar.Pieces.{Just, JustAt, JustSign, ◌⌢◌, Absent, Divided, InRow, AnyDivided, Starting}
+use Rattle.bk_raw.specs.Trees.ScriptTree.{RawRule, RawScript}
 use Rattle.bk_raw.specs.declared.script.NamePart.{NamePart}
-use Rattle.bk_raw.specs.ScriptSpelling.{Rule, PartNamed, OpensScript, Scripted, SpellsScripts, IsWholeScripts, IsOpenOrNone}
-use Rattle.bk_raw.specs.Places.{IsLongestWhole, IsScriptFault, byte_at}
-use Rattle.bk_raw.specs.Laws.{ScriptPlacesAreOne}
+use Rattle.bk_raw.specs.Grammar.ScriptSpelling.{Rule, PartNamed, OpensScript, Scripted, SpellsScripts, IsWholeScripts, IsOpenOrNone}
+use Rattle.bk_raw.specs.Errors.Places.{IsLongestWhole, IsScriptFault, byte_at}
+use Rattle.bk_raw.specs.Grammar.Laws.{ScriptPlacesAreOne}
 use Rattle.bk_raw.proofs.Steps.{Piece}
 use Rattle.bk_raw.proofs.Patterns.{Both, first, same-token}
 use Rattle.bk_raw.proofs.Lists.{absent-then}

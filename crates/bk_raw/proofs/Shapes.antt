@@ -6,8 +6,8 @@ use Rattle.std.proofs.lemmas.List.{append_assoc}
 use Rattle.bk_form.specs.declared.token.Token.{Token}
 use Rattle.bk_form.specs.declared.token.TokenKind.{TokenKind}
 use Rattle.bk_form.specs.declared.token.TokenKind.TheVariants.{Sign}
-use Rattle.bk_raw.specs.Pieces.{Just, JustAt, JustSign, ◌⌢◌}
-use Rattle.bk_raw.specs.Reading.{sign, begins_with, start}
+use Rattle.bk_raw.specs.Grammar.Pieces.{Just, JustAt, JustSign, ◌⌢◌}
+use Rattle.bk_raw.specs.Grammar.Reading.{sign, begins_with, start}
 
 -- the token with this kind
 abbrev pub of_kind : TokenKind → Token → Token

@@ -8,17 +8,17 @@ use Rattle.bk_form.specs.declared.token.TokenKind.{TokenKind}
 use Rattle.bk_form.specs.declared.token.TokenKind.TheVariants.{Name, BoundName, Sign, Word}
 use Rattle.bk_ops.specs.declared.sign.TheConstants.{MEMBER, TIMES, OPEN_PAREN, CLOSE_PAREN, COMMA}
 use Rattle.bk_ops.specs.declared.word.TheConstants.{BOOL, INTEGER, POW}
-use Rattle.bk_raw.specs.Operators.{infix_kind, word_kind, constant_kind}
+use Rattle.bk_raw.specs.Trees.Operators.{infix_kind, word_kind, constant_kind}
 use Rattle.bk_raw.specs.Codes.OperatorCodes.{infix_operators, word_operators, constant_operators}
-use Rattle.bk_raw.specs.WrittenType.{WrittenType, written_integer, written_bool, written_set, written_power, written_product}
+use Rattle.bk_raw.specs.Trees.WrittenType.{WrittenType, written_integer, written_bool, written_set, written_power, written_product}
 use Rattle.bk_raw.specs.declared.operator.InfixOp.{InfixOp}
 use Rattle.bk_raw.specs.declared.operator.WordOp.{WordOp}
 use Rattle.bk_raw.specs.declared.operator.Constant.{Constant}
 use Rattle.bk_raw.specs.declared.term.RawName.{RawName}
 use Rattle.bk_raw.specs.declared.term.RawBound.{RawBound}
-use Rattle.bk_raw.specs.Pieces.{Just, JustAt, JustSign, ◌⌢◌, InParentheses}
-use Rattle.bk_raw.specs.Spelling.{Declared, Names, Alone, Binder, Typed, TypedBound, TypedBounds}
-use Rattle.bk_raw.specs.Reading.{same_kind, first_with, infix_of, word_of, constant_of, next, sign, begins_with, named, name, within, names, binder, typed_at, typed, numbered, bound, bounds}
+use Rattle.bk_raw.specs.Grammar.Pieces.{Just, JustAt, JustSign, ◌⌢◌, InParentheses}
+use Rattle.bk_raw.specs.Grammar.Spelling.{Declared, Names, Alone, Binder, Typed, TypedBound, TypedBounds}
+use Rattle.bk_raw.specs.Grammar.Reading.{same_kind, first_with, infix_of, word_of, constant_of, next, sign, begins_with, named, name, within, names, binder, typed_at, typed, numbered, bound, bounds}
 use Rattle.bk_raw.proofs.Stopping.{none_some, some_same}
 use Rattle.bk_raw.proofs.Loops.{same_kind_sign}
 use Rattle.bk_raw.proofs.Primaries.{next_some}

@@ -7,18 +7,18 @@ use Rattle.bk_form.specs.declared.token.Token.{Token}
 use Rattle.bk_form.specs.declared.token.TokenKind.{TokenKind}
 use Rattle.bk_form.specs.declared.token.TokenKind.TheVariants.{Name, LevelName, BoundName, Number, Sign, Word}
 use Rattle.bk_ops.specs.declared.sign.TheConstants.{FOR_ALL, EXISTS, MEMBER, MINUS, OPEN_PAREN, CLOSE_PAREN, OPEN_BRACKET, CLOSE_BRACKET, OPEN_BRACE, CLOSE_BRACE, INVERSE, SEMICOLON, COMMA, DOT, BAR, LAMBDA}
-use Rattle.bk_raw.specs.Bars.{bar_follows}
-use Rattle.bk_raw.specs.Operators.{infix_kind, word_kind, constant_kind, binding}
+use Rattle.bk_raw.specs.Grammar.Bars.{bar_follows}
+use Rattle.bk_raw.specs.Trees.Operators.{infix_kind, word_kind, constant_kind, binding}
 use Rattle.bk_raw.specs.declared.operator.InfixOp.{InfixOp}
 use Rattle.bk_raw.specs.declared.operator.InfixOp.TheVariants.{And}
 use Rattle.bk_raw.specs.declared.operator.WordOp.{WordOp}
 use Rattle.bk_raw.specs.declared.operator.Constant.{Constant}
 use Rattle.bk_raw.specs.declared.term.RawName.{RawName}
 use Rattle.bk_raw.specs.declared.term.RawBound.{RawBound}
-use Rattle.bk_raw.specs.Pieces.{Just, JustAt, JustSign, ◌⌢◌, InParentheses, InBrackets, WithParentheses, Starting, Digits, Literal}
-use Rattle.bk_raw.specs.RawTree.{RawTree, raw, RawTreeNode, raw_name, raw_level_name, raw_bound_name, raw_number, raw_constant, raw_word, raw_negative, raw_infix, raw_inverse, raw_image, raw_apply, raw_composition, raw_pair, raw_empty_set, raw_extension, raw_comprehension, raw_lambda, raw_for_all, raw_exists, raw_typed_empty, raw_typed_for_all, raw_typed_exists, raw_ranged_comprehension, raw_ranged_lambda, RawTrees, no_trees, tree_and, RawRanges, no_ranges, range_and}
-use Rattle.bk_raw.specs.Spelling.{Names, Binder, Typed, TypedBounds, Term, Listed, Sequenced, Bare, Commas, Semicolons, Terms, Ranges, Spells}
-use Rattle.bk_raw.specs.Reading.{infix_of, word_of, constant_of, next, sign, begins_with, start, within, names, binder, typed, bound, bounds, or_else, moved, chain, arguments, parentheses, terms, ranges, begins_bound, begins_bound_in, braces, body, body_and_value, quantified, lambda, at_byte, worded, primary_at, postfixed, tight, signed, front_kind, operand, joined_by, joined, read}
+use Rattle.bk_raw.specs.Grammar.Pieces.{Just, JustAt, JustSign, ◌⌢◌, InParentheses, InBrackets, WithParentheses, Starting, Digits, Literal}
+use Rattle.bk_raw.specs.Trees.RawTree.{RawTree, raw, RawTreeNode, raw_name, raw_level_name, raw_bound_name, raw_number, raw_constant, raw_word, raw_negative, raw_infix, raw_inverse, raw_image, raw_apply, raw_composition, raw_pair, raw_empty_set, raw_extension, raw_comprehension, raw_lambda, raw_for_all, raw_exists, raw_typed_empty, raw_typed_for_all, raw_typed_exists, raw_ranged_comprehension, raw_ranged_lambda, RawTrees, no_trees, tree_and, RawRanges, no_ranges, range_and}
+use Rattle.bk_raw.specs.Grammar.Spelling.{Names, Binder, Typed, TypedBounds, Term, Listed, Sequenced, Bare, Commas, Semicolons, Terms, Ranges, Spells}
+use Rattle.bk_raw.specs.Grammar.Reading.{infix_of, word_of, constant_of, next, sign, begins_with, start, within, names, binder, typed, bound, bounds, or_else, moved, chain, arguments, parentheses, terms, ranges, begins_bound, begins_bound_in, braces, body, body_and_value, quantified, lambda, at_byte, worded, primary_at, postfixed, tight, signed, front_kind, operand, joined_by, joined, read}
 use Rattle.bk_raw.proofs.Shapes.{of_kind, led, just_is, regrouped, Begun, begun_start}
 use Rattle.bk_raw.proofs.Stopping.{none_some, some_same, stops_end}
 use Rattle.bk_raw.proofs.Loops.{same_kind_sign, Begins}

@@ -6,8 +6,8 @@ use Rattle.bk_form.specs.declared.token.TokenKind.{TokenKind}
 use Rattle.bk_form.specs.declared.token.TokenKind.TheVariants.{Name, LevelName, BoundName, Number, Sign, Word}
 use Rattle.bk_ops.specs.declared.sign.TheConstants.{INVERSE}
 use Rattle.bk_ops.specs.declared.word.TheConstants.{POW, BTRUE, BFALSE, SKIP}
-use Rattle.bk_raw.specs.Brackets.{opens_bracket, closes_bracket, opens_block, closes_block}
-use Rattle.bk_raw.specs.Pieces.{Never, Just, JustAt, ◌⌢◌}
+use Rattle.bk_raw.specs.Grammar.Brackets.{opens_bracket, closes_bracket, opens_block, closes_block}
+use Rattle.bk_raw.specs.Grammar.Pieces.{Never, Just, JustAt, ◌⌢◌}
 use Rattle.bk_raw.proofs.Runs.{run, Extends, append-run, cons-run, first-step, wider}
 use Rattle.bk_raw.proofs.Stopping.{none_some, some_same}
 

@@ -5,11 +5,11 @@ use Rattle.std.proofs.lemmas.Bool.{cond-true, cond-false, leb-true, lt-leb, and_
 use Rattle.bk_form.specs.declared.token.Token.{Token}
 use Rattle.bk_form.specs.declared.token.TokenKind.TheVariants.{Sign}
 use Rattle.bk_ops.specs.declared.sign.TheConstants.{INVERSE, SEMICOLON, COMMA, BAR, OPEN_PAREN, CLOSE_PAREN, OPEN_BRACKET, CLOSE_BRACKET, CLOSE_BRACE}
-use Rattle.bk_raw.specs.Operators.{infix_kind, binding}
+use Rattle.bk_raw.specs.Trees.Operators.{infix_kind, binding}
 use Rattle.bk_raw.specs.declared.operator.InfixOp.{InfixOp}
 use Rattle.bk_raw.specs.declared.operator.InfixOp.TheVariants.{And, Power}
-use Rattle.bk_raw.specs.RawTree.{RawTree, raw, RawTreeNode, raw_inverse}
-use Rattle.bk_raw.specs.Reading.{infix_of, next, sign, begins_with, or_else, chain, postfixed, joined_by, joined}
+use Rattle.bk_raw.specs.Trees.RawTree.{RawTree, raw, RawTreeNode, raw_inverse}
+use Rattle.bk_raw.specs.Grammar.Reading.{infix_of, next, sign, begins_with, or_else, chain, postfixed, joined_by, joined}
 use Rattle.bk_raw.proofs.WrittenKinds.{infix_of-kind}
 use Rattle.bk_raw.proofs.Shapes.{of_kind}
 

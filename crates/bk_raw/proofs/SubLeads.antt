@@ -5,8 +5,8 @@ use Rattle.bk_form.specs.declared.token.Token.{Token}
 use Rattle.bk_form.specs.declared.token.TokenKind.{TokenKind}
 use Rattle.bk_form.specs.declared.token.TokenKind.TheVariants.{Name, Sign, Word}
 use Rattle.bk_ops.specs.declared.sign.TheConstants.{COMMA}
-use Rattle.bk_raw.specs.Pieces.{JustSign, ◌⌢◌, JustWord}
-use Rattle.bk_raw.specs.Spelling.{Declared, Names}
+use Rattle.bk_raw.specs.Grammar.Pieces.{JustSign, ◌⌢◌, JustWord}
+use Rattle.bk_raw.specs.Grammar.Spelling.{Declared, Names}
 use Rattle.bk_raw.specs.declared.term.RawName.{RawName}
 use Rattle.bk_raw.proofs.Steps.{Piece}
 use Rattle.bk_raw.proofs.Patterns.{first, last}

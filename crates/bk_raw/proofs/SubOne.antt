@@ -5,13 +5,13 @@ use Rattle.bk_form.specs.declared.token.TokenKind.{TokenKind}
 use Rattle.bk_form.specs.declared.token.TokenKind.TheVariants.{Name, Sign, Word}
 use Rattle.bk_ops.specs.declared.sign.TheConstants.{ASSIGN, BECOMES_MEMBER, MEMBER, OPEN_PAREN, CLOSE_PAREN, PARALLEL, SEMICOLON, COMMA}
 use Rattle.bk_ops.specs.declared.word.TheConstants.{BEGIN, PRE, THEN, IF, ELSIF, ELSE, SELECT, WHEN, CHOICE, OR_BRANCH, ANY, LET, VAR, WHILE, ASSERT, SKIP, END, WHERE, BE, IN, DO, INVARIANT, VARIANT}
-use Rattle.bk_raw.specs.Pieces.{Just, JustSign, ◌⌢◌, JustWord}
-use Rattle.bk_raw.specs.Spelling.{Declared, Names, Term, Terms}
-use Rattle.bk_raw.specs.RawTree.{RawTree, RawTrees, no_trees, tree_and}
+use Rattle.bk_raw.specs.Grammar.Pieces.{Just, JustSign, ◌⌢◌, JustWord}
+use Rattle.bk_raw.specs.Grammar.Spelling.{Declared, Names, Term, Terms}
+use Rattle.bk_raw.specs.Trees.RawTree.{RawTree, RawTrees, no_trees, tree_and}
 use Rattle.bk_raw.specs.declared.term.RawName.{RawName}
 use Rattle.bk_raw.proofs.Exact.{one_for_its_tokens}
-use Rattle.bk_raw.specs.SubTree.{SubTree, sub, SubNode, sub_skip, sub_assign, sub_assign_at, sub_member, sub_such, sub_begin, sub_pre, sub_assert, sub_if, sub_choice, sub_select, sub_any, sub_let, sub_var, sub_while, sub_parallel, sub_sequence, Branches, no_branches, else_branch, branch_and, Choices, no_choices, choice_and}
-use Rattle.bk_raw.specs.SubSpelling.{Sub, Stated, Branched, Chosen, SpellsSub}
+use Rattle.bk_raw.specs.Trees.SubTree.{SubTree, sub, SubNode, sub_skip, sub_assign, sub_assign_at, sub_member, sub_such, sub_begin, sub_pre, sub_assert, sub_if, sub_choice, sub_select, sub_any, sub_let, sub_var, sub_while, sub_parallel, sub_sequence, Branches, no_branches, else_branch, branch_and, Choices, no_choices, choice_and}
+use Rattle.bk_raw.specs.Grammar.SubSpelling.{Sub, Stated, Branched, Chosen, SpellsSub}
 use Rattle.bk_raw.proofs.Runs.{run, Halts, last-split, no-divider}
 use Rattle.bk_raw.proofs.Steps.{Piece, State, Stopper, step, stepped, nothing, Leads, fewer-extends, fewer-nothing, leads-fewer, leads-never, leads-join}
 use Rattle.bk_raw.proofs.TermRuns.{ends_term, term, all-terms, all-names, one-declared}

@@ -4,12 +4,12 @@ use Rattle.std.specs.Prelude.{nat_eq, ◌||◌}
 use Rattle.bk_form.specs.declared.token.TokenKind.TheVariants.{Sign, Word}
 use Rattle.bk_ops.specs.declared.sign.TheConstants.{ASSIGN, BECOMES_MEMBER, MEMBER, OPEN_PAREN, CLOSE_PAREN, PARALLEL, SEMICOLON}
 use Rattle.bk_ops.specs.declared.word.TheConstants.{END, BEGIN, PRE, THEN, IF, ELSIF, SELECT, WHEN, CHOICE, ANY, WHERE, LET, BE, IN, VAR, WHILE, DO, INVARIANT, VARIANT, ASSERT, SKIP}
-use Rattle.bk_raw.specs.Pieces.{Never, ◌⌢◌}
-use Rattle.bk_raw.specs.Spelling.{Declared, Names, Term, Terms}
-use Rattle.bk_raw.specs.RawTree.{RawTree, RawTrees}
+use Rattle.bk_raw.specs.Grammar.Pieces.{Never, ◌⌢◌}
+use Rattle.bk_raw.specs.Grammar.Spelling.{Declared, Names, Term, Terms}
+use Rattle.bk_raw.specs.Trees.RawTree.{RawTree, RawTrees}
 use Rattle.bk_raw.specs.declared.term.RawName.{RawName}
-use Rattle.bk_raw.specs.SubTree.{SubTree, SubNode, sub_skip, sub_assign, sub_assign_at, sub_member, sub_such, sub_begin, sub_pre, sub_assert, sub_if, sub_choice, sub_select, sub_any, sub_let, sub_var, sub_while, sub_parallel, sub_sequence, Branches, Choices}
-use Rattle.bk_raw.specs.SubSpelling.{Sub, Branched, Chosen}
+use Rattle.bk_raw.specs.Trees.SubTree.{SubTree, SubNode, sub_skip, sub_assign, sub_assign_at, sub_member, sub_such, sub_begin, sub_pre, sub_assert, sub_if, sub_choice, sub_select, sub_any, sub_let, sub_var, sub_while, sub_parallel, sub_sequence, Branches, Choices}
+use Rattle.bk_raw.specs.Grammar.SubSpelling.{Sub, Branched, Chosen}
 use Rattle.bk_raw.proofs.Steps.{Piece, Stopper, nothing, Fewer}
 use Rattle.bk_raw.proofs.TermRuns.{ends_word, ends_term, ends_terms, ends_names, or-left}
 use Rattle.bk_raw.proofs.Patterns.{Shape, last_token, last_part, token_and, part_and}

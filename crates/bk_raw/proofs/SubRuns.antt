@@ -4,12 +4,12 @@ use Rattle.bk_form.specs.declared.token.Token.{Token}
 use Rattle.bk_form.specs.declared.token.TokenKind.TheVariants.{Sign, Word}
 use Rattle.bk_ops.specs.declared.sign.TheConstants.{ASSIGN, BECOMES_MEMBER, MEMBER, OPEN_PAREN, PARALLEL, SEMICOLON}
 use Rattle.bk_ops.specs.declared.word.TheConstants.{BEGIN, PRE, THEN, IF, ELSIF, ELSE, SELECT, WHEN, CHOICE, OR_BRANCH, ANY, LET, VAR, WHILE, ASSERT, SKIP}
-use Rattle.bk_raw.specs.Pieces.{JustSign, ◌⌢◌, JustWord}
-use Rattle.bk_raw.specs.Spelling.{Declared, Names, Term, Terms}
-use Rattle.bk_raw.specs.RawTree.{RawTree, RawTrees}
+use Rattle.bk_raw.specs.Grammar.Pieces.{JustSign, ◌⌢◌, JustWord}
+use Rattle.bk_raw.specs.Grammar.Spelling.{Declared, Names, Term, Terms}
+use Rattle.bk_raw.specs.Trees.RawTree.{RawTree, RawTrees}
 use Rattle.bk_raw.specs.declared.term.RawName.{RawName}
-use Rattle.bk_raw.specs.SubTree.{SubTree, sub, SubNode, sub_skip, sub_assign, sub_assign_at, sub_member, sub_such, sub_begin, sub_pre, sub_assert, sub_if, sub_choice, sub_select, sub_any, sub_let, sub_var, sub_while, sub_parallel, sub_sequence, Branches, no_branches, else_branch, branch_and, Choices, no_choices, choice_and}
-use Rattle.bk_raw.specs.SubSpelling.{Sub, Stated, Branched, Chosen}
+use Rattle.bk_raw.specs.Trees.SubTree.{SubTree, sub, SubNode, sub_skip, sub_assign, sub_assign_at, sub_member, sub_such, sub_begin, sub_pre, sub_assert, sub_if, sub_choice, sub_select, sub_any, sub_let, sub_var, sub_while, sub_parallel, sub_sequence, Branches, no_branches, else_branch, branch_and, Choices, no_choices, choice_and}
+use Rattle.bk_raw.specs.Grammar.SubSpelling.{Sub, Stated, Branched, Chosen}
 use Rattle.bk_raw.proofs.Runs.{run}
 use Rattle.bk_raw.proofs.Steps.{Piece, State, Stopper, step, nothing, Leads, leads-join, leads-just, leads-never, Fewer, leads-fewer, fewer-nothing}
 use Rattle.bk_raw.proofs.TermRuns.{ends_term, ends_terms, ends_names, fewer-terms, starting, term, all-terms, all-names, one-declared, flat-names, flat-declared}

@@ -5,9 +5,9 @@ use Rattle.bk_form.specs.declared.token.TokenKind.{TokenKind}
 use Rattle.bk_form.specs.declared.token.TokenKind.TheVariants.{Name, LevelName, BoundName, Number, Sign, Word}
 use Rattle.bk_ops.specs.declared.sign.TheConstants.{FOR_ALL, EXISTS, MEMBER, MINUS, TIMES, INVERSE, SEMICOLON, COMMA, DOT, BAR, LAMBDA, PARALLEL, ASSIGN, BECOMES_MEMBER, OUTPUTS, OPEN_PAREN, CLOSE_PAREN, OPEN_BRACKET, CLOSE_BRACKET, OPEN_BRACE, CLOSE_BRACE}
 use Rattle.bk_ops.specs.declared.word.TheConstants.{BOOL, INTEGER, POW, END, THEN, ELSIF, ELSE, WHEN, OR_BRANCH, WHERE, BE, IN, DO, VARIANT}
-use Rattle.bk_raw.specs.Pieces.{Just, JustAt, JustSign, ◌⌢◌, InParentheses, InBrackets, InBraces, WithParentheses, Starting, Binding, Placed, Digits, Literal, NoDigits}
-use Rattle.bk_raw.specs.Operators.{infix_kind, word_kind, constant_kind, binding}
-use Rattle.bk_raw.specs.WrittenType.{WrittenType, written_integer, written_bool, written_set, written_power, written_product}
+use Rattle.bk_raw.specs.Grammar.Pieces.{Just, JustAt, JustSign, ◌⌢◌, InParentheses, InBrackets, InBraces, WithParentheses, Starting, Binding, Placed, Digits, Literal, NoDigits}
+use Rattle.bk_raw.specs.Trees.Operators.{infix_kind, word_kind, constant_kind, binding}
+use Rattle.bk_raw.specs.Trees.WrittenType.{WrittenType, written_integer, written_bool, written_set, written_power, written_product}
 use Rattle.bk_raw.specs.declared.operator.InfixOp.{InfixOp}
 use Rattle.bk_raw.specs.declared.operator.InfixOp.TheVariants.{And}
 use Rattle.bk_raw.specs.declared.operator.WordOp.{WordOp}
@@ -16,8 +16,8 @@ use Rattle.bk_raw.specs.declared.operator.Constant.{Constant}
 use Rattle.bk_raw.specs.declared.operator.Constant.TheVariants.{Btrue}
 use Rattle.bk_raw.specs.declared.term.RawName.{RawName}
 use Rattle.bk_raw.specs.declared.term.RawBound.{RawBound}
-use Rattle.bk_raw.specs.RawTree.{RawTree, raw, RawTreeNode, raw_name, raw_level_name, raw_bound_name, raw_number, raw_constant, raw_word, raw_negative, raw_infix, raw_inverse, raw_image, raw_apply, raw_composition, raw_pair, raw_empty_set, raw_extension, raw_comprehension, raw_lambda, raw_for_all, raw_exists, raw_typed_empty, raw_typed_for_all, raw_typed_exists, raw_ranged_comprehension, raw_ranged_lambda, RawTrees, no_trees, tree_and, RawRanges, no_ranges, range_and}
-use Rattle.bk_raw.specs.Spelling.{Declared, Names, Alone, Binder, Typed, TypedBound, TypedBounds, Term, Listed, Sequenced, Bare, Commas, Semicolons, Terms, Ranges}
+use Rattle.bk_raw.specs.Trees.RawTree.{RawTree, raw, RawTreeNode, raw_name, raw_level_name, raw_bound_name, raw_number, raw_constant, raw_word, raw_negative, raw_infix, raw_inverse, raw_image, raw_apply, raw_composition, raw_pair, raw_empty_set, raw_extension, raw_comprehension, raw_lambda, raw_for_all, raw_exists, raw_typed_empty, raw_typed_for_all, raw_typed_exists, raw_ranged_comprehension, raw_ranged_lambda, RawTrees, no_trees, tree_and, RawRanges, no_ranges, range_and}
+use Rattle.bk_raw.specs.Grammar.Spelling.{Declared, Names, Alone, Binder, Typed, TypedBound, TypedBounds, Term, Listed, Sequenced, Bare, Commas, Semicolons, Terms, Ranges}
 use Rattle.bk_raw.proofs.Steps.{Piece, State, Stopper, stepped, nothing, Leads, leads-join, leads-just, leads-at, leads-never, leads-fewer, Fewer, fewer-nothing, leads-in}
 
 -- a word of a clause, or one that divides a block

@@ -6,21 +6,21 @@ use Rattle.bk_form.specs.declared.token.Token.{Token}
 use Rattle.bk_form.specs.declared.token.TokenKind.TheVariants.{Name, Number, Sign, Word}
 use Rattle.bk_ops.specs.declared.sign.TheConstants.{SEMICOLON, EQUAL, AND, EQUIVALENT}
 use Rattle.bk_ops.specs.declared.word.TheConstants.{MACHINE, PROPERTIES, VARIABLES, ABSTRACT_VARIABLES, OPERATIONS, END, SKIP, BTRUE}
-use Rattle.bk_raw.specs.Pieces.{Divided}
-use Rattle.bk_raw.specs.RawTree.{RawTree, raw, raw_name, raw_number, raw_constant, raw_infix}
-use Rattle.bk_raw.specs.Spelling.{Spells}
-use Rattle.bk_raw.specs.Reading.{read}
+use Rattle.bk_raw.specs.Grammar.Pieces.{Divided}
+use Rattle.bk_raw.specs.Trees.RawTree.{RawTree, raw, raw_name, raw_number, raw_constant, raw_infix}
+use Rattle.bk_raw.specs.Grammar.Spelling.{Spells}
+use Rattle.bk_raw.specs.Grammar.Reading.{read}
 use Rattle.bk_raw.specs.declared.operator.InfixOp.TheVariants.{And, Equal, Equivalent}
 use Rattle.bk_raw.specs.declared.operator.Constant.TheVariants.{Btrue}
-use Rattle.bk_raw.specs.Additions.{HasNoAddition, SubHasNoAddition}
-use Rattle.bk_raw.specs.SubTree.{SubTree}
-use Rattle.bk_raw.specs.SubSpelling.{Sub}
+use Rattle.bk_raw.specs.Trees.Additions.{HasNoAddition, SubHasNoAddition}
+use Rattle.bk_raw.specs.Trees.SubTree.{SubTree}
+use Rattle.bk_raw.specs.Grammar.SubSpelling.{Sub}
 use Rattle.bk_raw.specs.declared.component.ComponentKind.TheVariants.{Machine}
 use Rattle.bk_raw.specs.declared.component.ClauseWord.TheVariants.{Properties, Variables, AbstractVariables, Operations}
-use Rattle.bk_raw.specs.ComponentTree.{RawClause, RawComponent, RawOperation, ClauseParts, clause_term, clause_names, clause_operations, word_number, clause_number, is_allowed}
-use Rattle.bk_raw.specs.ComponentSpelling.{Operation, Parts, Clause, Header, ArePlain, AreClausesOf, SpellsComponent}
-use Rattle.bk_raw.specs.Places.{IsWholeComponent, IsLongestWhole, IsComponentFault, IsComponentFaultAt, CanFollow, AreReadOn}
-use Rattle.bk_raw.specs.Texts.{token, end_twice, no_end, chained, half_operation, list_body, printed, twice, one_operation, one_operation_tree, skip_at}
+use Rattle.bk_raw.specs.Trees.ComponentTree.{RawClause, RawComponent, RawOperation, ClauseParts, clause_term, clause_names, clause_operations, word_number, clause_number, is_allowed}
+use Rattle.bk_raw.specs.Grammar.ComponentSpelling.{Operation, Parts, Clause, Header, ArePlain, AreClausesOf, SpellsComponent}
+use Rattle.bk_raw.specs.Errors.Places.{IsWholeComponent, IsLongestWhole, IsComponentFault, IsComponentFaultAt, CanFollow, AreReadOn}
+use Rattle.bk_raw.specs.Grammar.Texts.{token, end_twice, no_end, chained, half_operation, list_body, printed, twice, one_operation, one_operation_tree, skip_at}
 use Rattle.bk_raw.proofs.Exact.{reads_alone}
 use Rattle.bk_raw.proofs.SoundTerms.{read_spells}
 use Rattle.bk_raw.proofs.Longest.{read_is_longest}

@@ -5,15 +5,15 @@ use Rattle.bk_form.specs.declared.token.Token.{Token}
 use Rattle.bk_form.specs.declared.token.TokenKind.{TokenKind}
 use Rattle.bk_form.specs.declared.token.TokenKind.TheVariants.{Name, Number, Sign}
 use Rattle.bk_ops.specs.declared.sign.TheConstants.{DOT, SEMICOLON}
-use Rattle.bk_raw.specs.Pieces.{◌⌢◌, Starting, Divided, AnyDivided}
+use Rattle.bk_raw.specs.Grammar.Pieces.{◌⌢◌, Starting, Divided, AnyDivided}
 use Rattle.bk_raw.specs.declared.script.RuleWord.{RuleWord}
 use Rattle.bk_raw.specs.declared.script.RuleWord.TheVariants.{Hyp, Same}
 use Rattle.bk_raw.specs.declared.script.NamePart.{NamePart}
 use Rattle.bk_raw.specs.declared.script.NamePart.TheVariants.{Letters, Numeral}
-use Rattle.bk_raw.specs.ScriptTree.{rule_kind, shape_of, one_number, RulePart, part_number, RawRule, RawScript}
-use Rattle.bk_raw.specs.ScriptSpelling.{PartNamed, Ruled, Rule, OpensScript, Scripted, SpellsScripts, IsWholeScripts}
-use Rattle.bk_raw.specs.Places.{IsLongestWhole, IsScriptFault, IsScriptFaultAt}
-use Rattle.bk_raw.specs.Texts.{token, no_number, end_as_rule, one_script, one_script_tree}
+use Rattle.bk_raw.specs.Trees.ScriptTree.{rule_kind, shape_of, one_number, RulePart, part_number, RawRule, RawScript}
+use Rattle.bk_raw.specs.Grammar.ScriptSpelling.{PartNamed, Ruled, Rule, OpensScript, Scripted, SpellsScripts, IsWholeScripts}
+use Rattle.bk_raw.specs.Errors.Places.{IsLongestWhole, IsScriptFault, IsScriptFaultAt}
+use Rattle.bk_raw.specs.Grammar.Texts.{token, no_number, end_as_rule, one_script, one_script_tree}
 use Rattle.bk_raw.proofs.Runs.{nil-cons}
 use Rattle.bk_raw.proofs.Patterns.{Both}
 use Rattle.bk_raw.proofs.ClauseOne.{first-at}

@@ -7,14 +7,14 @@ use Rattle.bk_form.specs.declared.token.Token.{Token}
 use Rattle.bk_form.specs.declared.token.TokenKind.TheVariants.{Name, Number, Sign, Word}
 use Rattle.bk_ops.specs.declared.sign.TheConstants.{ASSIGN, SEMICOLON, PARALLEL, EQUAL}
 use Rattle.bk_ops.specs.declared.word.TheConstants.{IF, THEN, ELSE, ELSIF, END, SKIP, BEGIN, PRE, ASSERT, CHOICE, SELECT, ANY, LET, VAR, WHILE}
-use Rattle.bk_raw.specs.Brackets.{is_sign}
-use Rattle.bk_raw.specs.Pieces.{JustWord, ◌⌢◌}
-use Rattle.bk_raw.specs.RawTree.{RawTree}
-use Rattle.bk_raw.specs.Spelling.{Declared, Names, Term}
+use Rattle.bk_raw.specs.Grammar.Brackets.{is_sign}
+use Rattle.bk_raw.specs.Grammar.Pieces.{JustWord, ◌⌢◌}
+use Rattle.bk_raw.specs.Trees.RawTree.{RawTree}
+use Rattle.bk_raw.specs.Grammar.Spelling.{Declared, Names, Term}
 use Rattle.bk_raw.specs.declared.term.RawName.{RawName}
-use Rattle.bk_raw.specs.SubTree.{SubTree, sub, SubNode, sub_skip, sub_assign, sub_assign_at, sub_member, sub_such, sub_begin, sub_pre, sub_assert, sub_if, sub_choice, sub_select, sub_any, sub_let, sub_var, sub_while, sub_parallel, sub_sequence, Branches, no_branches, else_branch, branch_and}
-use Rattle.bk_raw.specs.SubSpelling.{Sub, Stated, Branched, SpellsSub}
-use Rattle.bk_raw.specs.Texts.{token, skip_at, two_and, two_and_tree, three, else_first}
+use Rattle.bk_raw.specs.Trees.SubTree.{SubTree, sub, SubNode, sub_skip, sub_assign, sub_assign_at, sub_member, sub_such, sub_begin, sub_pre, sub_assert, sub_if, sub_choice, sub_select, sub_any, sub_let, sub_var, sub_while, sub_parallel, sub_sequence, Branches, no_branches, else_branch, branch_and}
+use Rattle.bk_raw.specs.Grammar.SubSpelling.{Sub, Stated, Branched, SpellsSub}
+use Rattle.bk_raw.specs.Grammar.Texts.{token, skip_at, two_and, two_and_tree, three, else_first}
 use Rattle.bk_raw.proofs.Runs.{Halts, nil-cons}
 use Rattle.bk_raw.proofs.Steps.{Piece, Stopper, step, stepped}
 use Rattle.bk_raw.proofs.TermRuns.{ends_term}

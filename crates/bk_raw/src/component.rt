@@ -109,7 +109,7 @@ pub struct RawComponent {
 }
 
 impl Model for RawSet {
-    ghost use Rattle.bk_raw.specs.ComponentTree.{RawSet};
+    ghost use Rattle.bk_raw.specs.Trees.ComponentTree.{RawSet};
     ghost use Rattle.bk_raw.specs.Codes.ComponentCodes.{coded_set};
 
     ghost Value = { RawSet };
@@ -120,7 +120,7 @@ impl Model for RawSet {
 }
 
 impl Model for RawOperation {
-    ghost use Rattle.bk_raw.specs.ComponentTree.{RawOperation};
+    ghost use Rattle.bk_raw.specs.Trees.ComponentTree.{RawOperation};
     ghost use Rattle.bk_raw.specs.Codes.ComponentCodes.{coded_operation};
 
     ghost Value = { RawOperation };
@@ -131,7 +131,7 @@ impl Model for RawOperation {
 }
 
 impl Model for RawClause {
-    ghost use Rattle.bk_raw.specs.ComponentTree.{RawClause};
+    ghost use Rattle.bk_raw.specs.Trees.ComponentTree.{RawClause};
     ghost use Rattle.bk_raw.specs.Codes.ComponentCodes.{coded_clause};
     ghost use Rattle.bk_raw.specs.Codes.ComponentView.{parts_of};
 
@@ -143,7 +143,7 @@ impl Model for RawClause {
 }
 
 impl Model for RawComponent {
-    ghost use Rattle.bk_raw.specs.ComponentTree.{RawComponent};
+    ghost use Rattle.bk_raw.specs.Trees.ComponentTree.{RawComponent};
     ghost use Rattle.bk_raw.specs.Codes.ComponentCodes.{coded_component};
 
     ghost Value = { RawComponent };

@@ -1,8 +1,8 @@
 // How many brackets and blocks are open.
 
 ghost use Rattle.std.specs.Prelude.{◌≡◌, ◌≤◌, MatchOption};
-ghost use Rattle.bk_raw.specs.Brackets.{opens_bracket, closes_bracket, open_behind, opens_block, closes_block};
-ghost use Rattle.bk_raw.specs.Limits.{IsShallow, IsTooDeep};
+ghost use Rattle.bk_raw.specs.Grammar.Brackets.{opens_bracket, closes_bracket, open_behind, opens_block, closes_block};
+ghost use Rattle.bk_raw.specs.Errors.Limits.{IsShallow, IsTooDeep};
 
 use bk_form::{Token, TokenKind};
 use bk_limits::MOST_OPEN;

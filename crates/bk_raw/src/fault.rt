@@ -1,7 +1,7 @@
 // What is wrong with what is written.
 
 ghost use Rattle.std.specs.Prelude.{◌≡◌};
-ghost use Rattle.bk_raw.specs.Faults.{number_of_fault};
+ghost use Rattle.bk_raw.specs.Errors.Faults.{number_of_fault};
 
 /// What is wrong with a file, and with a component, a substitution or a term whose tokens have a tree.
 #[derive(Clone, Copy, PartialEq, Eq, Debug)]

@@ -1,7 +1,7 @@
 // The tokens that operators and constant words are written as.
 
 ghost use Rattle.std.specs.Prelude.{◌≡◌, ◌≢◌, MatchOption};
-ghost use Rattle.bk_raw.specs.Operators.{infix_kind, word_kind, constant_kind, binding};
+ghost use Rattle.bk_raw.specs.Trees.Operators.{infix_kind, word_kind, constant_kind, binding};
 
 use crate::operator::{Constant, InfixOp, WordOp};
 use bk_form::TokenKind;

@@ -1,12 +1,12 @@
 //! Laws of the grammar, as contracts of functions that do nothing.
 
-ghost use Rattle.bk_raw.specs.Laws.{TermsAreOne, SubstitutionsAreOne, ComponentsAreOne, ScriptsAreOne};
-ghost use Rattle.bk_raw.specs.Laws.{LongestIsOne, NoWordInside};
-ghost use Rattle.bk_raw.specs.Laws.{PlacesAreOne, FaultsExclude, ReadingTellsPlace, NoHeaderTellsPlace};
-ghost use Rattle.bk_raw.specs.Laws.{ScriptPlacesAreOne, ScriptFaultsExclude, ScriptsTellPlace};
-ghost use Rattle.bk_raw.specs.Laws.{DecidedIsOneOfBoth, OneOfBothHolds};
-ghost use Rattle.bk_raw.specs.Laws.{DecidedScriptsAreOneOfBoth, OneOfBothHoldsOfScripts};
-ghost use Rattle.bk_raw.specs.Texts.{TextsAreWritten, TextsAreRefused};
+ghost use Rattle.bk_raw.specs.Grammar.Laws.{TermsAreOne, SubstitutionsAreOne, ComponentsAreOne, ScriptsAreOne};
+ghost use Rattle.bk_raw.specs.Grammar.Laws.{LongestIsOne, NoWordInside};
+ghost use Rattle.bk_raw.specs.Grammar.Laws.{PlacesAreOne, FaultsExclude, ReadingTellsPlace, NoHeaderTellsPlace};
+ghost use Rattle.bk_raw.specs.Grammar.Laws.{ScriptPlacesAreOne, ScriptFaultsExclude, ScriptsTellPlace};
+ghost use Rattle.bk_raw.specs.Grammar.Laws.{DecidedIsOneOfBoth, OneOfBothHolds};
+ghost use Rattle.bk_raw.specs.Grammar.Laws.{DecidedScriptsAreOneOfBoth, OneOfBothHoldsOfScripts};
+ghost use Rattle.bk_raw.specs.Grammar.Texts.{TextsAreWritten, TextsAreRefused};
 
 /// Two terms that are written as the same tokens are the same.
 pub fn terms_are_one()

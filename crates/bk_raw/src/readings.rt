@@ -1,14 +1,14 @@
 //! Laws of what terms read as, as contracts of functions that do nothing.
 
-ghost use Rattle.bk_raw.specs.ReadingLaws.{ReadingsAreRight, ReadingsSpeak, FaultsAreSilent, ReadingsNameVisible};
-ghost use Rattle.bk_raw.specs.ReadingLaws.{ScopesAgree, FormulasType, FormulaOrFault, TokensReadOnce};
-ghost use Rattle.bk_raw.specs.Rewritings.{Rewritings};
-ghost use Rattle.bk_raw.specs.GivesTakes.{GivesAndTakes};
-ghost use Rattle.bk_raw.specs.ConjunctsInOrder.{ConjunctsInOrder};
-ghost use Rattle.bk_raw.specs.FormFaults.{FormTellsFaults};
-ghost use Rattle.bk_raw.specs.KeptReading.{ReadingsAreKept};
-ghost use Rattle.bk_raw.specs.ToldNames.{ToldNamesAreSeen};
-ghost use Rattle.bk_raw.specs.ReadingExamples.{ReadingExamples};
+ghost use Rattle.bk_raw.specs.Meaning.ReadingLaws.{ReadingsAreRight, ReadingsSpeak, FaultsAreSilent, ReadingsNameVisible};
+ghost use Rattle.bk_raw.specs.Meaning.ReadingLaws.{ScopesAgree, FormulasType, FormulaOrFault, TokensReadOnce};
+ghost use Rattle.bk_raw.specs.Meaning.Rewritings.{Rewritings};
+ghost use Rattle.bk_raw.specs.Meaning.GivesTakes.{GivesAndTakes};
+ghost use Rattle.bk_raw.specs.Meaning.ConjunctsInOrder.{ConjunctsInOrder};
+ghost use Rattle.bk_raw.specs.Errors.FormFaults.{FormTellsFaults};
+ghost use Rattle.bk_raw.specs.Meaning.KeptReading.{ReadingsAreKept};
+ghost use Rattle.bk_raw.specs.Meaning.ToldNames.{ToldNamesAreSeen};
+ghost use Rattle.bk_raw.specs.Meaning.ReadingExamples.{ReadingExamples};
 
 /// What is told of a term is the role of its formula.
 pub fn readings_are_right()

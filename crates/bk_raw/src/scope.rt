@@ -1,7 +1,7 @@
 // The names that a term by itself may use.
 
 ghost use Rattle.std.specs.Prelude.{◌≡◌, ◌++◌, ◌∷◌, [], None, OnOk, OnErr};
-ghost use Rattle.bk_raw.specs.ScopeReading.{last_from};
+ghost use Rattle.bk_raw.specs.Meaning.ScopeReading.{last_from};
 
 use bk_io::{Memory, Text};
 use indexmap::IndexMap;
@@ -22,7 +22,7 @@ impl Model for Scope {
     ghost use Rattle.std.specs.Prelude.{◌≡◌, ℕ, List, None};
     ghost use Rattle.std.specs.Str.{bytes_eq};
     ghost use Rattle.indexmap.specs.IndexMap.{get_by};
-    ghost use Rattle.bk_raw.specs.ScopeReading.{ScopeNames, last_from};
+    ghost use Rattle.bk_raw.specs.Meaning.ScopeReading.{ScopeNames, last_from};
 
     ghost Value = { ScopeNames };
 

@@ -177,7 +177,7 @@ pub struct RawScript {
 
 impl Model for RawRule {
     ghost use Rattle.std.specs.Prelude.{map};
-    ghost use Rattle.bk_raw.specs.ScriptTree.{RawRule};
+    ghost use Rattle.bk_raw.specs.Trees.ScriptTree.{RawRule};
     ghost use Rattle.bk_raw.specs.Codes.ScriptCodes.{coded_rule};
     ghost use Rattle.bk_raw.specs.Codes.ScriptView.{part_of};
 
@@ -189,7 +189,7 @@ impl Model for RawRule {
 }
 
 impl Model for RawScript {
-    ghost use Rattle.bk_raw.specs.ScriptTree.{RawScript};
+    ghost use Rattle.bk_raw.specs.Trees.ScriptTree.{RawScript};
     ghost use Rattle.bk_raw.specs.Codes.ScriptCodes.{coded_script};
 
     ghost Value = { RawScript };

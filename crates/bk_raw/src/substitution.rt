@@ -61,7 +61,7 @@ pub struct RawBranch {
 }
 
 impl Model for RawSub {
-    ghost use Rattle.bk_raw.specs.SubTree.{SubTree, sub_size};
+    ghost use Rattle.bk_raw.specs.Trees.SubTree.{SubTree, sub_size};
     ghost use Rattle.bk_raw.specs.Codes.SubCodes.{coded_sub};
 
     ghost Value = { SubTree };

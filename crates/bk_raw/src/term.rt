@@ -94,7 +94,7 @@ pub struct RawRange {
 }
 
 impl Model for RawTerm {
-    ghost use Rattle.bk_raw.specs.RawTree.{RawTree, tree_size};
+    ghost use Rattle.bk_raw.specs.Trees.RawTree.{RawTree, tree_size};
     ghost use Rattle.bk_raw.specs.Codes.RawCodes.{coded_tree};
 
     ghost Value = { RawTree };

@@ -27,7 +27,7 @@ pub enum RawTypeNode {
 }
 
 impl Model for RawType {
-    ghost use Rattle.bk_raw.specs.WrittenType.{WrittenType, coded_written_type, written_type_size};
+    ghost use Rattle.bk_raw.specs.Trees.WrittenType.{WrittenType, coded_written_type, written_type_size};
 
     ghost Value = { WrittenType };
 

@@ -7,7 +7,7 @@ use Rattle.std.proofs.lemmas.List.Elements.{All-nil, All-cons, All-head, All-tai
 use Rattle.bk_dev.specs.Development.{Level, Development, int_max}
 use Rattle.bk_raw.specs.declared.component.ComponentKind.{ComponentKind}
 use Rattle.bk_raw.specs.declared.component.ComponentKind.TheVariants.{Machine as AsMachine, Refinement as AsRefinement, Implementation as AsImplementation}
-use Rattle.bk_raw.specs.ComponentTree.{RawComponent}
+use Rattle.bk_raw.specs.Trees.ComponentTree.{RawComponent}
 use Rattle.bk_level.specs.Components.{component_of, kind_as, is_machine}
 use Rattle.bk_level.specs.Above.{above_of}
 use Rattle.bk_project.specs.declared.project_file.LineKind.{LineKind}

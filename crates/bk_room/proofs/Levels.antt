@@ -7,9 +7,9 @@ use Rattle.bk_form.specs.Table.{Table}
 use Rattle.bk_dev.specs.Development.{Level, Development, level_at, last, blank_level}
 use Rattle.bk_dev.specs.Facts.{home_of}
 use Rattle.bk_raw.specs.declared.component.ClauseWord.TheVariants.{Sets, Constants}
-use Rattle.bk_raw.specs.ComponentTree.{RawSet, RawOperation, RawClause, RawComponent}
-use Rattle.bk_raw.specs.Names.{Names}
-use Rattle.bk_raw.specs.Binders.{is_text, twice}
+use Rattle.bk_raw.specs.Trees.ComponentTree.{RawSet, RawOperation, RawClause, RawComponent}
+use Rattle.bk_raw.specs.Meaning.Names.{Names}
+use Rattle.bk_raw.specs.Meaning.Binders.{is_text, twice}
 use Rattle.bk_raw.proofs.RulesFit.{none-left, none-right}
 use Rattle.bk_level.specs.Components.{WrittenVariable, Component, component_of, is_machine, initialisation, sets_in, names_in, if_clause, listed, variables_of_clause, variables_of, set_names, variable_names, abstract_names, operation_names, declared_by, all_declared_by}
 use Rattle.bk_level.specs.DeclaredNames.{term_names, sub_names, if_there, sum_of, operation_count, declared_count, declares_too_many}

@@ -4,11 +4,11 @@ use Rattle.std.specs.Str.{bytes_eq}
 use Rattle.std.proofs.lemmas.Slice.Eq.{bytes_eq-Decides}
 use Rattle.std.proofs.lemmas.List.Elements.{All-nil}
 use Rattle.bk_dev.specs.Development.{Head, Level, Development}
-use Rattle.bk_raw.specs.ComponentTree.{RawOperation}
-use Rattle.bk_raw.specs.Binders.{is_text, twice}
+use Rattle.bk_raw.specs.Trees.ComponentTree.{RawOperation}
+use Rattle.bk_raw.specs.Meaning.Binders.{is_text, twice}
 use Rattle.bk_raw.proofs.BoundNames.{either, or-neither}
 use Rattle.bk_raw.proofs.RulesFit.{none-left, none-right}
-use Rattle.bk_raw.specs.Faults.{Fault, twice_named}
+use Rattle.bk_raw.specs.Errors.Faults.{Fault, twice_named}
 use Rattle.bk_level.specs.Binders.{texts}
 use Rattle.bk_level.specs.Components.{Component, operation_names}
 use Rattle.bk_level.specs.Plan.{Headed, is_headed, operation_named, size_of, sizes, machine_heads, machine_headed, lower_headed, other_headed, output_count}

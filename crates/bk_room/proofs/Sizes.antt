@@ -1,6 +1,6 @@
 -- How much the substitutions of a component bind, with the outputs of its operations.
 use Rattle.std.specs.Prelude.{ℕ, ◌+◌, List}
-use Rattle.bk_raw.specs.ComponentTree.{RawOperation}
+use Rattle.bk_raw.specs.Trees.ComponentTree.{RawOperation}
 use Rattle.bk_level.specs.Components.{Component, initialisation}
 use Rattle.bk_level.specs.Binders.{binder_count}
 use Rattle.bk_level.specs.DeclaredNames.{sum_of}

@@ -2,20 +2,20 @@
 use Rattle.std.proofs.Common.{Bool, true, false, cond, Option, Some, None, ◌≡◌, ℕ, ◌+◌, ◌≤◌, List, [], ◌∷◌, ◌++◌, length, refl, ap, arith, length-append, All, flat_map}
 use Rattle.std.proofs.lemmas.List.Elements.{All-nil, All-cons}
 use Rattle.bk_form.specs.declared.token.Token.{Token}
-use Rattle.bk_raw.specs.Pieces.{◌⌢◌, Divided, AnyDivided, InRow}
-use Rattle.bk_raw.specs.Spelling.{Declared, Names}
+use Rattle.bk_raw.specs.Grammar.Pieces.{◌⌢◌, Divided, AnyDivided, InRow}
+use Rattle.bk_raw.specs.Grammar.Spelling.{Declared, Names}
 use Rattle.bk_raw.specs.declared.term.RawName.{RawName}
 use Rattle.bk_raw.specs.declared.script.RawTyped.{RawTyped}
 use Rattle.bk_ops.specs.declared.sign.TheConstants.{COMMA, SEMICOLON}
 use Rattle.bk_ops.specs.declared.word.TheConstants.{ELSIF, WHEN}
-use Rattle.bk_raw.specs.SubTree.{SubTree, sub, SubNode, sub_skip, sub_assign, sub_assign_at, sub_member, sub_such, sub_begin, sub_pre, sub_assert, sub_if, sub_choice, sub_select, sub_any, sub_let, sub_var, sub_while, sub_parallel, sub_sequence, Branches, no_branches, else_branch, branch_and, Choices, no_choices, choice_and}
-use Rattle.bk_raw.specs.SubSpelling.{Sub, Stated, Branched, Chosen}
-use Rattle.bk_raw.specs.ScriptTree.{PartKind, one_number, one_term, some_terms, one_place, perhaps_place, typed_names, one_law, certificate, shape_of, RulePart, part_number, part_term, part_terms, part_place, part_no_place, part_typed, part_law, part_certificate, RawRule, RawScript}
-use Rattle.bk_raw.specs.ScriptSpelling.{TypedName, Spelled, Ruled, Rule, Scripted, SpellsScripts}
+use Rattle.bk_raw.specs.Trees.SubTree.{SubTree, sub, SubNode, sub_skip, sub_assign, sub_assign_at, sub_member, sub_such, sub_begin, sub_pre, sub_assert, sub_if, sub_choice, sub_select, sub_any, sub_let, sub_var, sub_while, sub_parallel, sub_sequence, Branches, no_branches, else_branch, branch_and, Choices, no_choices, choice_and}
+use Rattle.bk_raw.specs.Grammar.SubSpelling.{Sub, Stated, Branched, Chosen}
+use Rattle.bk_raw.specs.Trees.ScriptTree.{PartKind, one_number, one_term, some_terms, one_place, perhaps_place, typed_names, one_law, certificate, shape_of, RulePart, part_number, part_term, part_terms, part_place, part_no_place, part_typed, part_law, part_certificate, RawRule, RawScript}
+use Rattle.bk_raw.specs.Grammar.ScriptSpelling.{TypedName, Spelled, Ruled, Rule, Scripted, SpellsScripts}
 use Rattle.bk_raw.specs.declared.component.ClauseWord.{ClauseWord}
 use Rattle.bk_raw.specs.declared.component.ClauseWord.TheVariants.{Initialisation, Operations}
-use Rattle.bk_raw.specs.ComponentTree.{RawOperation, ClauseParts, clause_sets, clause_names, clause_term, clause_terms, clause_values, clause_sub, clause_operations, RawClause, RawComponent}
-use Rattle.bk_raw.specs.ComponentSpelling.{Outputs, Operation, Parts, Clause, SpellsComponent}
+use Rattle.bk_raw.specs.Trees.ComponentTree.{RawOperation, ClauseParts, clause_sets, clause_names, clause_term, clause_terms, clause_values, clause_sub, clause_operations, RawClause, RawComponent}
+use Rattle.bk_raw.specs.Grammar.ComponentSpelling.{Outputs, Operation, Parts, Clause, SpellsComponent}
 use Rattle.bk_level.specs.Components.{substitution_in, operations_in, is_clause, if_clause, listed, or_next, stated, Component, component_of, initialisation}
 use Rattle.bk_level.specs.Plan.{size_of}
 use Rattle.bk_room.proofs.Sizes.{all_sizes, bound_in}

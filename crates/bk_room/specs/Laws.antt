@@ -5,7 +5,7 @@ use Rattle.std.specs.Prelude.{◌<◌, ◌≤◌, ◌^◌, ℕ, List, length, Al
 use Rattle.bk_limits.specs.declared.TheConstants.{MOST_COMPONENTS}
 use Rattle.bk_dev.specs.Development.{Development}
 use Rattle.bk_dev.specs.Flattened.{flattened}
-use Rattle.bk_raw.specs.ScriptTree.{RawScript}
+use Rattle.bk_raw.specs.Trees.ScriptTree.{RawScript}
 use Rattle.bk_level.specs.VerdictLaws.{HasRoom}
 use Rattle.bk_po.specs.Obligations.{obligations}
 use Rattle.bk_po.specs.Limits.{PassNoLimit}

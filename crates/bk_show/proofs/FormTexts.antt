@@ -10,7 +10,7 @@ use Rattle.bk_form.specs.declared.token.TokenKind.TheVariants.{BoundName}
 use Rattle.bk_form.proofs.Sizes.{size_pos, size_at}
 use Rattle.bk_ops.specs.declared.sign.TheConstants.{DOT, BAR, SEMICOLON, CLOSE_PAREN, CLOSE_BRACKET, CLOSE_BRACE, INVERSE, OPEN_BRACKET}
 use Rattle.bk_raw.specs.declared.operator.InfixOp.{InfixOp}
-use Rattle.bk_raw.specs.Operators.{infix_kind}
+use Rattle.bk_raw.specs.Trees.Operators.{infix_kind}
 use Rattle.bk_show.specs.Items.{Item, blank, text_of, sign, kind_text, plain}
 use Rattle.bk_show.specs.Shown.{type_items, name_of_variable, name_of_element, enclosed, enclosed_if, UnaryForm, inverse_form, single_form, BinaryForm, infix_form, image_form, apply_form, composition_form, unary_items, Sides, binary_items, bounds_items, binder_items, comprehension_items, lambda_items, is_infix, items, range_items, comma_between, comma_at, ranges_items}
 use Rattle.bk_show.proofs.Written.{text-plus, four}

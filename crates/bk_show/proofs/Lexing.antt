@@ -27,7 +27,7 @@ use Rattle.bk_raw.specs.declared.operator.WordOp.{WordOp}
 use Rattle.bk_raw.specs.declared.operator.WordOp.TheVariants.{Not}
 use Rattle.bk_raw.specs.declared.operator.Constant.{Constant}
 use Rattle.bk_raw.specs.declared.operator.Constant.TheVariants.{Bool as BoolWord, Integer, Natural, Natural1, Btrue, Bfalse}
-use Rattle.bk_raw.specs.Operators.{infix_kind, word_kind, constant_kind}
+use Rattle.bk_raw.specs.Trees.Operators.{infix_kind, word_kind, constant_kind}
 use Rattle.bk_show.specs.Items.{Item, blank, lexeme, item_text, text_of, kind_text, level_text, plain, sign}
 use Rattle.bk_show.proofs.Tokens.{tokens_from}
 use Rattle.bk_show.specs.Shown.{name_of_variable, name_of_set, name_of_element, behind_dollar, before_dollar, kind_by, name_kind, name_item, enclosed, enclosed_if, type_items, UnaryForm, word_form, negative_form, inverse_form, single_form, unary_form, BinaryForm, infix_form, image_form, apply_form, composition_form, binary_form, is_infix, is_bare, unary_items, Sides, binary_items, constant_item, truth_word, literal_items, domain_items, typed_items, bounds_items, quantified_items, range_items, comprehension_items, lambda_items, items, ranges_items, shown}

@@ -13,21 +13,21 @@ use Rattle.bk_form.specs.declared.operator.Domain.TheVariants.{Integer as WholeN
 use Rattle.bk_lex.specs.Lexis.{IsIdentifier, numeral_from}
 use Rattle.bk_lex.proofs.Characters.{identifier_goes, identifier_starts}
 use Rattle.bk_raw.specs.declared.term.RawBound.{RawBound}
-use Rattle.bk_raw.specs.RawTree.{RawTree, raw, RawTreeNode, raw_name, raw_level_name, raw_constant}
-use Rattle.bk_raw.specs.Operators.{infix_kind, word_kind}
+use Rattle.bk_raw.specs.Trees.RawTree.{RawTree, raw, RawTreeNode, raw_name, raw_level_name, raw_constant}
+use Rattle.bk_raw.specs.Trees.Operators.{infix_kind, word_kind}
 use Rattle.bk_ops.specs.declared.sign.TheConstants.{FOR_ALL, EXISTS, MEMBER, LAMBDA, MINUS, OPEN_PAREN, OPEN_BRACKET, OPEN_BRACE, SEMICOLON}
 use Rattle.bk_form.specs.declared.token.TokenKind.TheVariants.{BoundName}
 use Rattle.bk_show.specs.Items.{Item, blank, plain, sign, level_text}
 use Rattle.bk_show.proofs.Tokens.{after}
-use Rattle.bk_raw.specs.Names.{Names, Named, Meaning, local, global, set_name, element_name, nothing, unseen, seen, found, sight, behind, count_locals, local_at, local_sight, bound_sight}
-use Rattle.bk_raw.specs.Outcome.{Reading, partial, whole, holding, plainly, giving, clean, no_type, ask_value}
-use Rattle.bk_raw.specs.Binders.{Bound, locals, inside, types_of, all_typed, untyped_faults, if_holding, where_typed, quantified, Ranged, as_bound, ranges_of, is_some_name, comprehended, abstracted, if_giving}
-use Rattle.bk_raw.specs.Printed.{type_read, set_type_of, power_of, product_of, typed_empty, wrong_bounds, printed_bounds, RangeRead, printed_ranges, wrong_ranges}
-use Rattle.bk_raw.specs.TermReading.{reading, node_reading, name_reading, is_predicate, is_predicate_node, part, place_of, range_reads}
+use Rattle.bk_raw.specs.Meaning.Names.{Names, Named, Meaning, local, global, set_name, element_name, nothing, unseen, seen, found, sight, behind, count_locals, local_at, local_sight, bound_sight}
+use Rattle.bk_raw.specs.Meaning.Outcome.{Reading, partial, whole, holding, plainly, giving, clean, no_type, ask_value}
+use Rattle.bk_raw.specs.Meaning.Binders.{Bound, locals, inside, types_of, all_typed, untyped_faults, if_holding, where_typed, quantified, Ranged, as_bound, ranges_of, is_some_name, comprehended, abstracted, if_giving}
+use Rattle.bk_raw.specs.Meaning.Printed.{type_read, set_type_of, power_of, product_of, typed_empty, wrong_bounds, printed_bounds, RangeRead, printed_ranges, wrong_ranges}
+use Rattle.bk_raw.specs.Meaning.TermReading.{reading, node_reading, name_reading, is_predicate, is_predicate_node, part, place_of, range_reads}
 use Rattle.bk_show.specs.Shown.{name_of_variable, name_of_set, name_of_element, enclosed_if, truth_word, typed_items, UnaryForm, word_form, negative_form, inverse_form, single_form, unary_form, BinaryForm, infix_form, image_form, apply_form, composition_form, binary_form, Sides, is_bare, is_infix, items, ranges_items, range_items}
 use Rattle.bk_show.proofs.Trees.{node_by, name_node, inside_at, domain_node, written_type, raw_bounds, behind_comma, unary_node, binary_node, quantified_at, comprehended_at, premise_at, value_at, past_comma, shown_node, shown_ranges}
 use Rattle.bk_form.specs.Replacement.{count}
-use Rattle.bk_raw.specs.Faults.{Fault, unknown_name}
+use Rattle.bk_raw.specs.Errors.Faults.{Fault, unknown_name}
 use Rattle.bk_show.specs.Readable.{IsPlainName, IsPrintable, SetsAreNamed, AllSetsAreNamed, DomainIsNamed, IsReadable, AreReadable}
 use Rattle.bk_show.specs.Binders.{HasSomeRange}
 use Rattle.bk_show.specs.Stands.{IsGlobal, HasNoLocals, TypeStands, TypesStand, DomainStands, Stands, EachStands}

@@ -11,11 +11,11 @@ use Rattle.bk_form.specs.declared.operator.BinOp.{BinOp}
 use Rattle.bk_form.specs.declared.operator.BinOp.TheVariants.{And as Conjunction, Or as Disjunction, Imp, Iff, Eq, Lt, Le, In, Union as Joining, Inter, Minus as Without, Times as Product, DomRes, RanRes, DomSub, RanSub, Over, Maps, Range, Add, Sub, Mul, Div, Mod as Remainder, Power as PowerTo, Image as ImageOf, Apply as ApplyTo, Comp, Relations as RelationsOf, PartialFunctions as PartialOf, TotalFunctions as TotalOf, PartialInjections as PartialInjectionsOf, TotalInjections as TotalInjectionsOf, PartialSurjections as PartialSurjectionsOf, TotalSurjections as TotalSurjectionsOf, Bijections as BijectionsOf}
 use Rattle.bk_raw.specs.declared.operator.InfixOp.TheVariants.{And as WrittenAnd, AtMost as WrittenAtMost, Bijections as WrittenBijections, Divide as WrittenDivide, DomainRestriction as WrittenDomainRestriction, DomainSubtraction as WrittenDomainSubtraction, Equal as WrittenEqual, Equivalent as WrittenEquivalent, Implies as WrittenImplies, Intersection as WrittenIntersection, Interval as WrittenInterval, Less as WrittenLess, Maplet as WrittenMaplet, Member as WrittenMember, Minus as WrittenMinus, Mod as WrittenMod, Or as WrittenOr, Override as WrittenOverride, PartialFunctions as WrittenPartialFunctions, PartialInjections as WrittenPartialInjections, PartialSurjections as WrittenPartialSurjections, Plus as WrittenPlus, Power as WrittenPower, RangeRestriction as WrittenRangeRestriction, RangeSubtraction as WrittenRangeSubtraction, Relations as WrittenRelations, Times as WrittenTimes, TotalFunctions as WrittenTotalFunctions, TotalInjections as WrittenTotalInjections, TotalSurjections as WrittenTotalSurjections, Union as WrittenUnion}
 use Rattle.bk_raw.specs.declared.operator.WordOp.TheVariants.{Not, BoolOf, Card, Min, Max, Dom, Ran, Id, Pow, Pow1}
-use Rattle.bk_raw.specs.RawTree.{RawTree, RawTreeNode, raw_word, raw_negative, raw_infix, raw_inverse, raw_image, raw_apply, raw_composition, raw_extension, no_trees, tree_and}
-use Rattle.bk_raw.specs.Outcome.{Outcome, Reading, ranging, holding, silently, plainly, giving}
-use Rattle.bk_raw.specs.OperatorReadings.{infix_reading, word_reading, negative_reading, inverse_reading, image_reading, apply_reading, composition_reading, single_reading}
-use Rattle.bk_raw.specs.TermReading.{is_alike, is_predicate, is_predicate_node, place_of, part, from_one, from_two, spoilt_by, strict_faults, is_connective, takes_predicate}
-use Rattle.bk_raw.specs.Faults.{not_predicate}
+use Rattle.bk_raw.specs.Trees.RawTree.{RawTree, RawTreeNode, raw_word, raw_negative, raw_infix, raw_inverse, raw_image, raw_apply, raw_composition, raw_extension, no_trees, tree_and}
+use Rattle.bk_raw.specs.Meaning.Outcome.{Outcome, Reading, ranging, holding, silently, plainly, giving}
+use Rattle.bk_raw.specs.Meaning.OperatorReadings.{infix_reading, word_reading, negative_reading, inverse_reading, image_reading, apply_reading, composition_reading, single_reading}
+use Rattle.bk_raw.specs.Meaning.TermReading.{is_alike, is_predicate, is_predicate_node, place_of, part, from_one, from_two, spoilt_by, strict_faults, is_connective, takes_predicate}
+use Rattle.bk_raw.specs.Errors.Faults.{not_predicate}
 use Rattle.bk_show.specs.Shown.{UnaryForm, word_form, negative_form, inverse_form, single_form, unary_form, BinaryForm, infix_form, image_form, apply_form, composition_form, binary_form}
 
 pub nat-self : (n : ℕ) → nat_eq n n ≡ true

@@ -15,11 +15,11 @@ use Rattle.bk_raw.specs.declared.operator.InfixOp.{InfixOp}
 use Rattle.bk_raw.specs.declared.operator.InfixOp.TheVariants.{Equivalent}
 use Rattle.bk_raw.specs.declared.operator.Constant.{Constant}
 use Rattle.bk_raw.specs.declared.operator.Constant.TheVariants.{Bool as BoolWord, Integer, Natural, Natural1, Btrue, Bfalse}
-use Rattle.bk_raw.specs.Operators.{binding, infix_kind, word_kind, constant_kind}
-use Rattle.bk_raw.specs.Pieces.{Just, JustAt, JustSign, ◌⌢◌, InParentheses, Starting, Placed, Digits, NoDigits}
-use Rattle.bk_raw.specs.RawTree.{raw, RawTreeNode, raw_constant, raw_bound_name, raw_number, raw_typed_empty}
+use Rattle.bk_raw.specs.Trees.Operators.{binding, infix_kind, word_kind, constant_kind}
+use Rattle.bk_raw.specs.Grammar.Pieces.{Just, JustAt, JustSign, ◌⌢◌, InParentheses, Starting, Placed, Digits, NoDigits}
+use Rattle.bk_raw.specs.Trees.RawTree.{raw, RawTreeNode, raw_constant, raw_bound_name, raw_number, raw_typed_empty}
 use Rattle.bk_raw.specs.declared.term.RawBound.{RawBound}
-use Rattle.bk_raw.specs.Spelling.{Typed, TypedBound, TypedBounds, Listed, Sequenced, Bare, Ranges, Spells}
+use Rattle.bk_raw.specs.Grammar.Spelling.{Typed, TypedBound, TypedBounds, Listed, Sequenced, Bare, Ranges, Spells}
 use Rattle.bk_show.specs.Items.{Item, kind_text, blank, lexeme, item_text, plain, sign}
 use Rattle.bk_show.proofs.Tokens.{item_tokens, tokens_from, after}
 use Rattle.bk_show.specs.Binders.{HasSomeRange, Binds, EachBinds}

@@ -9,11 +9,11 @@ use Rattle.bk_form.specs.declared.operator.Domain.TheVariants.{Integer as WholeN
 use Rattle.bk_form.specs.declared.token.TokenKind.TheVariants.{BoundName}
 use Rattle.bk_ops.specs.declared.sign.TheConstants.{FOR_ALL, EXISTS, MEMBER, MINUS, OPEN_PAREN, OPEN_BRACKET, OPEN_BRACE, SEMICOLON, DOT, BAR, LAMBDA}
 use Rattle.bk_lex.specs.Lexis.{numeral_from}
-use Rattle.bk_raw.specs.Operators.{infix_kind, word_kind}
-use Rattle.bk_raw.specs.WrittenType.{WrittenType, written_integer, written_bool, written_set, written_power, written_product}
+use Rattle.bk_raw.specs.Trees.Operators.{infix_kind, word_kind}
+use Rattle.bk_raw.specs.Trees.WrittenType.{WrittenType, written_integer, written_bool, written_set, written_power, written_product}
 use Rattle.bk_raw.specs.declared.operator.Constant.TheVariants.{Bool as BoolWord, Integer, Natural, Natural1, Btrue, Bfalse}
 use Rattle.bk_raw.specs.declared.term.RawBound.{RawBound}
-use Rattle.bk_raw.specs.RawTree.{RawTree, raw, RawTreeNode, raw_name, raw_level_name, raw_bound_name, raw_number, raw_constant, raw_word, raw_negative, raw_infix, raw_inverse, raw_image, raw_apply, raw_composition, raw_extension, raw_typed_empty, raw_typed_for_all, raw_typed_exists, raw_ranged_comprehension, raw_ranged_lambda, no_trees, tree_and, RawRanges, no_ranges, range_and}
+use Rattle.bk_raw.specs.Trees.RawTree.{RawTree, raw, RawTreeNode, raw_name, raw_level_name, raw_bound_name, raw_number, raw_constant, raw_word, raw_negative, raw_infix, raw_inverse, raw_image, raw_apply, raw_composition, raw_extension, raw_typed_empty, raw_typed_for_all, raw_typed_exists, raw_ranged_comprehension, raw_ranged_lambda, no_trees, tree_and, RawRanges, no_ranges, range_and}
 use Rattle.bk_show.specs.Items.{Item, blank, plain, sign}
 use Rattle.bk_show.proofs.Tokens.{after}
 use Rattle.bk_show.specs.Shown.{name_of_variable, name_of_set, name_of_element, behind_dollar, before_dollar, enclosed, enclosed_if, unary_form, binary_form, is_infix, is_bare, Sides, sides, truth_word, typed_items, bounds_items, items, ranges_items, range_items, UnaryForm, word_form, negative_form, inverse_form, single_form, BinaryForm, infix_form, image_form, apply_form, composition_form}

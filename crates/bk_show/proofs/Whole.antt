@@ -5,10 +5,10 @@ use Rattle.bk_form.specs.Table.{Table, SetEntry, variable_type}
 use Rattle.bk_form.specs.Formula.{Formula}
 use Rattle.bk_form.specs.Role.{Role, gives, ranges_over, predicate, untyped, role}
 use Rattle.bk_lex.proofs.Cutting.{tokens_are_one}
-use Rattle.bk_raw.specs.Names.{Names}
-use Rattle.bk_raw.specs.Outcome.{Reading, answered}
-use Rattle.bk_raw.specs.TermReading.{place_of, reading, is_predicate}
-use Rattle.bk_raw.specs.ScopeReading.{variable_meaning, element_names, set_names, scope_names, names_in, ask_formula}
+use Rattle.bk_raw.specs.Meaning.Names.{Names}
+use Rattle.bk_raw.specs.Meaning.Outcome.{Reading, answered}
+use Rattle.bk_raw.specs.Meaning.TermReading.{place_of, reading, is_predicate}
+use Rattle.bk_raw.specs.Meaning.ScopeReading.{variable_meaning, element_names, set_names, scope_names, names_in, ask_formula}
 use Rattle.bk_raw.proofs.Exact.{one_for_its_tokens}
 use Rattle.bk_show.proofs.Tokens.{tokens_from}
 use Rattle.bk_show.specs.Shown.{items, shown}

@@ -7,7 +7,7 @@ use Rattle.bk_form.specs.declared.operator.UnOp.TheVariants.{Not, Neg, Dom, Inve
 use Rattle.bk_form.specs.declared.operator.BinOp.TheVariants.{And, Eq, Lt, In, Union, TotalFunctions, Maps, Range, Sub, Image, Apply, Comp}
 use Rattle.bk_form.specs.declared.operator.Domain.TheVariants.{Integer, Enum}
 use Rattle.bk_form.specs.Role.{role, predicate}
-use Rattle.bk_raw.specs.Names.{Names, global, set_name, element_name}
+use Rattle.bk_raw.specs.Meaning.Names.{Names, global, set_name, element_name}
 use Rattle.bk_show.specs.Shown.{shown}
 use Rattle.bk_show.specs.Binders.{Binds}
 use Rattle.bk_show.specs.Readable.{IsReadable}

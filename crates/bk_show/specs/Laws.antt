@@ -5,12 +5,12 @@ use Rattle.bk_form.specs.Formula.{Formula}
 use Rattle.bk_form.specs.Role.{Role, gives, ranges_over, predicate, untyped, role}
 use Rattle.bk_form.specs.declared.token.Token.{Token}
 use Rattle.bk_lex.specs.Lexis.{AreTokens}
-use Rattle.bk_raw.specs.RawTree.{RawTree}
-use Rattle.bk_raw.specs.Spelling.{Spells}
-use Rattle.bk_raw.specs.Names.{Names}
-use Rattle.bk_raw.specs.Outcome.{Reading, plainly, giving, ranging, holding, answered}
-use Rattle.bk_raw.specs.TermReading.{reading}
-use Rattle.bk_raw.specs.ScopeReading.{ScopeNames, names_in, formula_in}
+use Rattle.bk_raw.specs.Trees.RawTree.{RawTree}
+use Rattle.bk_raw.specs.Grammar.Spelling.{Spells}
+use Rattle.bk_raw.specs.Meaning.Names.{Names}
+use Rattle.bk_raw.specs.Meaning.Outcome.{Reading, plainly, giving, ranging, holding, answered}
+use Rattle.bk_raw.specs.Meaning.TermReading.{reading}
+use Rattle.bk_raw.specs.Meaning.ScopeReading.{ScopeNames, names_in, formula_in}
 use Rattle.bk_show.specs.Shown.{shown}
 use Rattle.bk_show.specs.Binders.{Binds}
 use Rattle.bk_show.specs.Readable.{IsReadable}

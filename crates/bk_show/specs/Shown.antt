@@ -17,7 +17,7 @@ use Rattle.bk_form.specs.declared.token.TokenKind.TheVariants.{Name, LevelName, 
 use Rattle.bk_ops.specs.declared.sign.TheConstants.{FOR_ALL, EXISTS, MEMBER, MINUS, TIMES, OPEN_PAREN, CLOSE_PAREN, OPEN_BRACKET, CLOSE_BRACKET, OPEN_BRACE, CLOSE_BRACE, INVERSE, SEMICOLON, COMMA, DOT, BAR, LAMBDA}
 use Rattle.bk_ops.specs.declared.word.TheConstants.{BOOL, INTEGER, POW}
 use Rattle.bk_lex.specs.Lexis.{numeral_from}
-use Rattle.bk_raw.specs.Operators.{infix_kind, word_kind, constant_kind}
+use Rattle.bk_raw.specs.Trees.Operators.{infix_kind, word_kind, constant_kind}
 use Rattle.bk_raw.specs.declared.operator.InfixOp.TheVariants.{Equivalent, Implies, And, Or, Equal, Less, AtMost, Member, Relations, PartialFunctions, TotalFunctions, PartialInjections, TotalInjections, PartialSurjections, TotalSurjections, Bijections, Union, Intersection, DomainRestriction, RangeRestriction, DomainSubtraction, RangeSubtraction, Override, Maplet, Interval, Plus, Minus, Times, Divide, Mod, Power}
 use Rattle.bk_raw.specs.declared.operator.WordOp.TheVariants.{Not, BoolOf, Card, Min, Max, Dom, Ran, Id, Pow, Pow1}
 use Rattle.bk_raw.specs.declared.operator.Constant.{Constant}

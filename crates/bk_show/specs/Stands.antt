@@ -5,7 +5,7 @@ use Rattle.bk_form.specs.Table.{Table, variable_type}
 use Rattle.bk_form.specs.Formula.{Formula, variable, element, empty_set, named, unary, binary, for_all, for_some, comprehension, lambda, Formulas, no_formulas, formula_and}
 use Rattle.bk_form.specs.declared.operator.Domain.{Domain}
 use Rattle.bk_form.specs.declared.operator.Domain.TheVariants.{Enum}
-use Rattle.bk_raw.specs.Names.{Names, Meaning, local, seen, found}
+use Rattle.bk_raw.specs.Meaning.Names.{Names, Meaning, local, seen, found}
 use Rattle.bk_show.specs.Shown.{name_of_variable, name_of_set, name_of_element}
 
 -- no bound variable

@@ -1,7 +1,7 @@
 //! How operators are written.
 
 ghost use Rattle.std.specs.Prelude.{◌≡◌};
-ghost use Rattle.bk_raw.specs.Operators.{infix_kind, word_kind};
+ghost use Rattle.bk_raw.specs.Trees.Operators.{infix_kind, word_kind};
 ghost use Rattle.bk_show.specs.Items.{kind_text};
 ghost use Rattle.bk_show.specs.Shown.{unary_form, binary_form};
 

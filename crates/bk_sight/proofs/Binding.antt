@@ -4,7 +4,7 @@ use Rattle.std.proofs.lemmas.List.{drop_more, at_drop_all, get_or_default, map-a
 use Rattle.std.specs.Borrow.{Bor}
 use Rattle.bk_form.specs.Role.{bind}
 use Rattle.bk_raw.specs.declared.term.RawName.{RawName}
-use Rattle.bk_raw.specs.Names.{Names, Named}
+use Rattle.bk_raw.specs.Meaning.Names.{Names, Named}
 use Rattle.bk_elab.specs.Visible.{visible_names, meaning_of}
 use Rattle.bk_elab.specs.declared.sight.Visible.{Visible}
 use Rattle.bk_sight.specs.Shown.{numbered_texts, refs}

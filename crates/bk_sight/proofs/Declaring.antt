@@ -1,7 +1,7 @@
 -- What a clause declares, as the program finds it: sets with their elements, constants, and variables of both kinds.
 use Rattle.std.proofs.Common.{◌≡◌, refl, ap, ◌∙◌, ◌+◌, ◌<◌, ℕ, Bool, List, [], ◌∷◌, ◌++◌, length, get_or, drop, append_assoc}
 use Rattle.std.proofs.lemmas.List.{at_drop_more}
-use Rattle.bk_raw.specs.ComponentTree.{RawClause}
+use Rattle.bk_raw.specs.Trees.ComponentTree.{RawClause}
 use Rattle.bk_raw.specs.declared.term.RawName.{RawName}
 use Rattle.bk_raw.specs.declared.component.ClauseWord.TheVariants.{Sets, Constants, Variables, ConcreteVariables}
 use Rattle.bk_level.specs.Components.{as_variables, variable_names, variables_of_clause, set_names, if_clause, sets_in, names_in, declared_by, all_declared_by, WrittenVariable}

@@ -15,13 +15,13 @@ use Rattle.bk_elab.specs.declared.sight.Visible.{Visible}
 use Rattle.bk_elab.specs.Visible.{visible_names, meaning_of}
 use Rattle.bk_raw.specs.declared.term.RawName.{RawName}
 use Rattle.bk_raw.specs.declared.component.RawValue.{RawValue}
-use Rattle.bk_raw.specs.ComponentTree.{RawSet}
-use Rattle.bk_raw.specs.Names.{Names}
-use Rattle.bk_raw.specs.Binders.{is_text}
-use Rattle.bk_raw.specs.Outcome.{no_type}
-use Rattle.bk_raw.specs.Blame.{blame, earlier}
+use Rattle.bk_raw.specs.Trees.ComponentTree.{RawSet}
+use Rattle.bk_raw.specs.Meaning.Names.{Names}
+use Rattle.bk_raw.specs.Meaning.Binders.{is_text}
+use Rattle.bk_raw.specs.Meaning.Outcome.{no_type}
+use Rattle.bk_raw.specs.Errors.Blame.{blame, earlier}
 use Rattle.bk_raw.proofs.Blamed.{earlier-none}
-use Rattle.bk_raw.specs.Faults.{Fault, twice_named, wrong_value}
+use Rattle.bk_raw.specs.Errors.Faults.{Fault, twice_named, wrong_value}
 use Rattle.bk_level.specs.Binders.{texts}
 use Rattle.bk_level.specs.Components.{set_names, WrittenVariable, abstract_names}
 use Rattle.bk_level.specs.Typings.{Typing, Target, unknown, no_variable, variable_target, target, as_number, variable_named, interval}

@@ -4,10 +4,10 @@ use Rattle.std.specs.Prelude.{Option, None, Some, ℤ}
 use Rattle.std.proofs.lemmas.List.{append-nil}
 use Rattle.bk_val.specs.ValueType.{ValueType}
 use Rattle.bk_form.specs.Formula.{Formula}
-use Rattle.bk_raw.specs.RawTree.{RawTree}
-use Rattle.bk_raw.specs.Outcome.{Outcome, partial, ranging, holding, silent, Reading, ask, ask_value, ask_domain, ask_predicate}
-use Rattle.bk_raw.specs.TermReading.{place_of, part, reading}
-use Rattle.bk_raw.specs.Blame.{blame}
+use Rattle.bk_raw.specs.Trees.RawTree.{RawTree}
+use Rattle.bk_raw.specs.Meaning.Outcome.{Outcome, partial, ranging, holding, silent, Reading, ask, ask_value, ask_domain, ask_predicate}
+use Rattle.bk_raw.specs.Meaning.TermReading.{place_of, part, reading}
+use Rattle.bk_raw.specs.Errors.Blame.{blame}
 use Rattle.bk_elab.specs.Shown.{told, IsAsked}
 use Rattle.bk_elab.specs.Visible.{typing_of, visible_names, seen_names, reading_by, asked_behind}
 use Rattle.bk_elab.specs.declared.blame.Fault.{Fault as ToldFault}

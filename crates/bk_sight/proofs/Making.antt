@@ -8,7 +8,7 @@ use Rattle.bk_sight.specs.Shown.{refs}
 use Rattle.bk_dev.specs.declared.kind.Home.{Home}
 use Rattle.bk_dev.specs.declared.kind.Home.TheVariants.{Constant, Input, Inner}
 use Rattle.bk_raw.specs.declared.term.RawName.{RawName}
-use Rattle.bk_raw.specs.ComponentTree.{RawOperation}
+use Rattle.bk_raw.specs.Trees.ComponentTree.{RawOperation}
 use Rattle.bk_level.specs.Binders.{texts, binder_texts}
 use Rattle.bk_level.specs.Components.{Component, is_machine, initialisation}
 use Rattle.bk_level.specs.Plan.{Plan, Headed, Declared as DeclaredMeant, declared_texts, links_from, link_of, machine_heads}

@@ -4,8 +4,8 @@ use Rattle.std.proofs.lemmas.List.{drop_more, take-append-le, take-map, length-a
 use Rattle.std.specs.List.{list_any}
 use Rattle.std.specs.Str.{bytes_eq}
 use Rattle.bk_dev.specs.Development.{Development, Head}
-use Rattle.bk_raw.specs.Binders.{is_text}
-use Rattle.bk_raw.specs.Names.{Names}
+use Rattle.bk_raw.specs.Meaning.Binders.{is_text}
+use Rattle.bk_raw.specs.Meaning.Names.{Names}
 use Rattle.bk_level.specs.Above.{upper_of}
 use Rattle.bk_level.specs.Binders.{binder_count}
 use Rattle.bk_level.specs.Components.{Component, WrittenVariable as WrittenMeant, is_machine, initialisation}

@@ -4,12 +4,12 @@ use Rattle.std.specs.Prelude.{Option, slice_get}
 use Rattle.std.specs.Borrow.{Bor}
 use Rattle.bk_val.specs.ValueType.{ValueType, set_type}
 use Rattle.bk_raw.specs.declared.term.RawName.{RawName}
-use Rattle.bk_raw.specs.RawTree.{RawTree}
-use Rattle.bk_raw.specs.Names.{Meaning, Names, level_name}
-use Rattle.bk_raw.specs.Outcome.{Outcome, partial, whole, ask_value, ask_domain}
+use Rattle.bk_raw.specs.Trees.RawTree.{RawTree}
+use Rattle.bk_raw.specs.Meaning.Names.{Meaning, Names, level_name}
+use Rattle.bk_raw.specs.Meaning.Outcome.{Outcome, partial, whole, ask_value, ask_domain}
 use Rattle.bk_form.specs.Formula.{Formula}
-use Rattle.bk_raw.specs.Binders.{Bound, bound_names, second}
-use Rattle.bk_raw.specs.TermReading.{place_of, part, reading, clues}
+use Rattle.bk_raw.specs.Meaning.Binders.{Bound, bound_names, second}
+use Rattle.bk_raw.specs.Meaning.TermReading.{place_of, part, reading, clues}
 use Rattle.bk_elab.specs.declared.sight.Standing.{Standing}
 use Rattle.bk_elab.specs.declared.sight.Standing.TheVariants.{Variable, Set, Element}
 use Rattle.bk_elab.specs.declared.sight.Visible.{Visible}

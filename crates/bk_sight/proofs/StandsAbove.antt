@@ -8,8 +8,8 @@ use Rattle.bk_val.specs.ValueType.{ValueType, int_type}
 use Rattle.bk_form.specs.Table.{Table, SetEntry, VariableEntry, set_name as table_set_name, set_elements, variable_type}
 use Rattle.bk_dev.specs.declared.kind.Home.{Home}
 use Rattle.bk_dev.specs.declared.kind.Home.TheVariants.{Constant, Input, Abstract, Concrete, Inner}
-use Rattle.bk_raw.specs.Names.{Names, Named, set_name}
-use Rattle.bk_raw.specs.ScopeReading.{set_names, element_names}
+use Rattle.bk_raw.specs.Meaning.Names.{Names, Named, set_name}
+use Rattle.bk_raw.specs.Meaning.ScopeReading.{set_names, element_names}
 use Rattle.bk_level.specs.Above.{constants_from, text_of}
 use Rattle.bk_level.specs.Typings.{or_else}
 use Rattle.bk_sight.specs.Shown.{constant_at, set_at, set_entry}

@@ -2,7 +2,7 @@
 use Rattle.std.proofs.Common.{◌<◌, ◌≤◌, ◌-◌, ℕ, zero, suc, List, [], ◌∷◌, length, get_or, take, drop, arith}
 use Rattle.std.proofs.lemmas.List.{take_rest}
 use Rattle.bk_raw.specs.declared.substitution.RawBranch.{RawBranch}
-use Rattle.bk_raw.specs.SubTree.{SubTree, sub, SubNode, sub_skip, sub_size, sub_node_size, branches_size, choices_size, Branches}
+use Rattle.bk_raw.specs.Trees.SubTree.{SubTree, sub, SubNode, sub_skip, sub_size, sub_node_size, branches_size, choices_size, Branches}
 use Rattle.bk_raw.specs.Codes.SubView.{branches_of, choices_of}
 
 node_pos : (n : SubNode) → 0 < sub_node_size n

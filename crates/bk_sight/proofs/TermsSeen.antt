@@ -6,11 +6,11 @@ use Rattle.bk_form.specs.Formula.{Formula}
 use Rattle.bk_form.specs.Role.{same_type}
 use Rattle.bk_form.proofs.Roles.{same_type-then}
 use Rattle.bk_raw.proofs.Filled.{same_type-self}
-use Rattle.bk_raw.specs.RawTree.{RawTree}
-use Rattle.bk_raw.specs.Names.{Names}
-use Rattle.bk_raw.specs.Outcome.{Outcome, partial, ranging, holding, silent, whole, hollow, single_of, pair_of, joint_of, ask_domain, ask_value}
-use Rattle.bk_raw.specs.Binders.{second}
-use Rattle.bk_raw.specs.TermReading.{part, reading, place_of}
+use Rattle.bk_raw.specs.Trees.RawTree.{RawTree}
+use Rattle.bk_raw.specs.Meaning.Names.{Names}
+use Rattle.bk_raw.specs.Meaning.Outcome.{Outcome, partial, ranging, holding, silent, whole, hollow, single_of, pair_of, joint_of, ask_domain, ask_value}
+use Rattle.bk_raw.specs.Meaning.Binders.{second}
+use Rattle.bk_raw.specs.Meaning.TermReading.{part, reading, place_of}
 use Rattle.bk_elab.specs.Visible.{visible_names, typing_of, seen_names, reading_by}
 use Rattle.bk_elab.specs.declared.sight.Visible.{Visible}
 use Rattle.bk_elab.specs.declared.visible.Sight.{Sight}

@@ -10,12 +10,12 @@ use Rattle.bk_dev.specs.declared.kind.Home.{Home}
 use Rattle.bk_dev.specs.declared.kind.Home.TheVariants.{Constant as ConstantHome}
 use Rattle.bk_raw.specs.declared.substitution.RawBranch.{RawBranch}
 use Rattle.bk_raw.specs.declared.term.RawName.{RawName}
-use Rattle.bk_raw.specs.RawTree.{RawTree}
-use Rattle.bk_raw.specs.SubTree.{SubTree, sub, sub_skip, Branches, no_branches, else_branch}
+use Rattle.bk_raw.specs.Trees.RawTree.{RawTree}
+use Rattle.bk_raw.specs.Trees.SubTree.{SubTree, sub, sub_skip, Branches, no_branches, else_branch}
 use Rattle.bk_raw.specs.Codes.SubView.{branches_of}
-use Rattle.bk_raw.specs.Names.{Names, Meaning, set_name}
-use Rattle.bk_raw.specs.ScopeReading.{element_names}
-use Rattle.bk_raw.specs.Binders.{has_type}
+use Rattle.bk_raw.specs.Meaning.Names.{Names, Meaning, set_name}
+use Rattle.bk_raw.specs.Meaning.ScopeReading.{element_names}
+use Rattle.bk_raw.specs.Meaning.Binders.{has_type}
 use Rattle.bk_elab.specs.Visible.{visible_names}
 use Rattle.bk_level.specs.Binders.{binder_count}
 use Rattle.bk_level.specs.Components.{WrittenVariable as Written, Component as Clauses, initialisation, is_machine}

@@ -5,8 +5,8 @@ ghost use Rattle.std.specs.Prelude.{◌≡◌, ◌++◌, ◌∷◌, [], ◌≤�
 ghost use Rattle.bk_form.specs.Table.{listed_size};
 ghost use Rattle.bk_dev.specs.Facts.{home_of};
 ghost use Rattle.bk_dev.specs.Development.{last};
-ghost use Rattle.bk_raw.specs.Names.{set_name, element_name};
-ghost use Rattle.bk_raw.specs.ScopeReading.{set_names, element_names};
+ghost use Rattle.bk_raw.specs.Meaning.Names.{set_name, element_name};
+ghost use Rattle.bk_raw.specs.Meaning.ScopeReading.{set_names, element_names};
 ghost use Rattle.bk_elab.specs.Visible.{visible_names};
 ghost use Rattle.bk_level.specs.Above as meant;
 ghost use Rattle.bk_level.specs.Binders.{texts};

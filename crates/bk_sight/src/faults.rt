@@ -1,9 +1,9 @@
 // The fault of one place, where a test tells whether it is there.
 
 ghost use Rattle.std.specs.Prelude.{◌≡◌, ◌∷◌, [], cond};
-ghost use Rattle.bk_raw.specs.Outcome.{no_type};
-ghost use Rattle.bk_raw.specs.Blame.{blame};
-ghost use Rattle.bk_raw.specs.Faults.{twice_named, unknown_name, wrong_write, wrong_value};
+ghost use Rattle.bk_raw.specs.Meaning.Outcome.{no_type};
+ghost use Rattle.bk_raw.specs.Errors.Blame.{blame};
+ghost use Rattle.bk_raw.specs.Errors.Faults.{twice_named, unknown_name, wrong_write, wrong_value};
 ghost use Rattle.bk_elab.specs.Shown.{told};
 
 use bk_elab::{Fault, no_type};

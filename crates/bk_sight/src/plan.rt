@@ -2,7 +2,7 @@
 
 ghost use Rattle.std.specs.Prelude.{◌≡◌, ◌+◌, ◌++◌, ◌∷◌, [], take, ◌≤◌, length, map, cond, IfOk, OnOk};
 ghost use Rattle.bk_form.specs.Role.{bind};
-ghost use Rattle.bk_raw.specs.Binders.{is_text};
+ghost use Rattle.bk_raw.specs.Meaning.Binders.{is_text};
 ghost use Rattle.bk_elab.specs.Visible.{visible_names, meaning_of};
 ghost use Rattle.bk_level.specs.Components.{initialisation};
 ghost use Rattle.bk_level.specs.Components as written;

@@ -2,7 +2,7 @@
 
 ghost use Rattle.std.specs.Prelude.{◌≡◌, ◌++◌, IfOk};
 ghost use Rattle.bk_form.specs.Role.{bind};
-ghost use Rattle.bk_raw.specs.Names.{level_name};
+ghost use Rattle.bk_raw.specs.Meaning.Names.{level_name};
 ghost use Rattle.bk_elab.specs.Visible.{visible_names, meaning_of};
 ghost use Rattle.bk_level.specs.Binders.{old_texts};
 ghost use Rattle.bk_sight.specs.Shown.{target_shown, numbered_texts};

@@ -1,7 +1,7 @@
 // How a name comes to its type.
 
 ghost use Rattle.std.specs.Prelude.{◌≡◌, IfOk, slice_get};
-ghost use Rattle.bk_raw.specs.Binders.{has_type, second};
+ghost use Rattle.bk_raw.specs.Meaning.Binders.{has_type, second};
 ghost use Rattle.bk_elab.specs.Visible.{visible_names, told_at, typing_of};
 ghost use Rattle.bk_sight.specs.Shown.{refs, way_shown, such_shown};
 ghost use Rattle.bk_level.specs.Ways.{by_term, by_domain, by_conjuncts};

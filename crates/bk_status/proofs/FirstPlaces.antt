@@ -10,7 +10,7 @@ use Rattle.std.proofs.lemmas.List.{take_more}
 use Rattle.std.proofs.lemmas.Option.{slice_get_read, slice_get_past}
 use Rattle.indexmap.specs.IndexMap.{insert_entry}
 use Rattle.bk_raw.proofs.Numbered.{lookup_inserted}
-use Rattle.bk_raw.specs.ScriptTree.{RawScript}
+use Rattle.bk_raw.specs.Trees.ScriptTree.{RawScript}
 use Rattle.bk_status.specs.Places.{place_from, place_of, found_or}
 use Rattle.bk_status.specs.States.{name_text, script_named}
 

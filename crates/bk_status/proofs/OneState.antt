@@ -5,7 +5,7 @@ use Rattle.std.specs.List.{AllZip}
 use Rattle.bk_form.specs.Table.{Table}
 use Rattle.bk_seq.specs.Paths.{numbered_item}
 use Rattle.bk_seq.specs.Sequents.{Sequent}
-use Rattle.bk_raw.specs.ScriptTree.{RawRule, RawScript}
+use Rattle.bk_raw.specs.Trees.ScriptTree.{RawRule, RawScript}
 use Rattle.bk_kernel.specs.declared.rule.Rule.{Rule}
 use Rattle.bk_kernel.specs.declared.replaying.Verdict.{Verdict}
 use Rattle.bk_kernel.specs.declared.replaying.Verdict.TheVariants.{Closed, BadStep as BadAt, Open as LeftOpen, Extra as LeftOver}

@@ -6,7 +6,7 @@ use Rattle.bk_form.specs.Each.{Each}
 use Rattle.bk_dev.specs.Flattened.{flattened}
 use Rattle.bk_seq.specs.Sequents.{Sequent}
 use Rattle.bk_po.specs.Obligations.{numbered_obligations}
-use Rattle.bk_raw.specs.ScriptTree.{RawScript}
+use Rattle.bk_raw.specs.Trees.ScriptTree.{RawScript}
 use Rattle.bk_status.specs.States.{IsState}
 use Rattle.bk_status.specs.declared.state.State.{State}
 use Rattle.bk_status.specs.declared.state.State.TheVariants.{Obvious, Proved}

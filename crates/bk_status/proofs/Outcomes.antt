@@ -8,7 +8,7 @@ use Rattle.bk_dev.specs.Facts.{IsDevelopment}
 use Rattle.bk_dev.specs.Flattened.{flattened}
 use Rattle.bk_dev.proofs.Room.{development-formed}
 use Rattle.bk_seq.specs.Sequents.{Sequent, Types}
-use Rattle.bk_raw.specs.ScriptTree.{RawScript}
+use Rattle.bk_raw.specs.Trees.ScriptTree.{RawScript}
 use Rattle.bk_kernel.specs.Obvious.{is_obvious}
 use Rattle.bk_kernel.specs.declared.rule.Rule.{Rule}
 use Rattle.bk_kernel.specs.declared.replaying.Verdict.{Verdict}

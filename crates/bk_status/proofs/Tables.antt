@@ -11,7 +11,7 @@ use Rattle.bk_status.specs.Obvious.{IsShown, HasShownObligations}
 use Rattle.bk_po.proofs.Lists.{each-so}
 use Rattle.bk_status.proofs.Obviousness.{shown_obligations_are_valid}
 use Rattle.bk_po.proofs.Carrying.{valid_obligations_carry}
-use Rattle.bk_raw.specs.ScriptTree.{RawScript}
+use Rattle.bk_raw.specs.Trees.ScriptTree.{RawScript}
 use Rattle.bk_status.specs.States.{IsState}
 use Rattle.bk_status.specs.declared.state.State.{State}
 use Rattle.bk_status.specs.declared.state.State.TheVariants.{Obvious, Proved, NoScript, BadStep, Open, Extra}

@@ -6,7 +6,7 @@ use Rattle.bk_dev.specs.Development.{Development}
 use Rattle.bk_dev.specs.Facts.{IsDevelopment}
 use Rattle.bk_po.specs.Obligations.{HasValidObligations}
 use Rattle.bk_po.specs.Laws.{IsCorrectForAllSizes}
-use Rattle.bk_raw.specs.ScriptTree.{RawScript}
+use Rattle.bk_raw.specs.Trees.ScriptTree.{RawScript}
 use Rattle.bk_status.specs.declared.state.State.{State}
 use Rattle.bk_status.specs.declared.table.Row.{Row}
 use Rattle.bk_status.specs.States.{IsState}

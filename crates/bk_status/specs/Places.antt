@@ -1,7 +1,7 @@
 -- Where the first script with a name stands. Only private contracts cite it.
 use Rattle.std.specs.Prelude.{ℕ, suc, Bool, cond, List, [], ◌∷◌, Option, Some, None}
 use Rattle.std.specs.Str.{bytes_eq}
-use Rattle.bk_raw.specs.ScriptTree.{RawScript}
+use Rattle.bk_raw.specs.Trees.ScriptTree.{RawScript}
 use Rattle.bk_status.specs.States.{name_text}
 
 -- the place of the first script with the name, where the first of all has this place

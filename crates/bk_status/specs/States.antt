@@ -6,7 +6,7 @@ use Rattle.bk_form.specs.Table.{Table}
 use Rattle.bk_dev.specs.Development.{Development}
 use Rattle.bk_seq.specs.Sequents.{Sequent}
 use Rattle.bk_raw.specs.declared.script.NamePart.{NamePart}
-use Rattle.bk_raw.specs.ScriptTree.{RawScript}
+use Rattle.bk_raw.specs.Trees.ScriptTree.{RawScript}
 use Rattle.bk_kernel.specs.Obvious.{is_obvious}
 use Rattle.bk_kernel.specs.Derivations.{IsVerdict}
 use Rattle.bk_kernel.specs.declared.rule.Rule.{Rule}

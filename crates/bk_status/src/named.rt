@@ -30,7 +30,7 @@ impl<'a> Model for NamedScripts<'a> {
     ghost use Rattle.std.specs.Str.{bytes_eq};
     ghost use Rattle.indexmap.specs.IndexMap.{get_by};
     ghost use Rattle.bk_raw.specs.Codes.ScriptCodes.{coded_script};
-    ghost use Rattle.bk_raw.specs.ScriptTree.{RawScript};
+    ghost use Rattle.bk_raw.specs.Trees.ScriptTree.{RawScript};
     ghost use Rattle.bk_p_proof.specs.Files.{IsShort};
     ghost use Rattle.bk_status.specs.Places.{place_of};
 

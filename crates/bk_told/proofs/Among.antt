@@ -2,8 +2,8 @@
 use Rattle.std.proofs.Common.{◌≡◌, refl, ap, sym, ◌∙◌, ◌<◌, ℕ, zero, suc, false, cond, List, [], ◌∷◌, length, get_or, drop, arith}
 use Rattle.std.specs.Prelude.{Some}
 use Rattle.bk_raw.specs.declared.term.RawName.{RawName}
-use Rattle.bk_raw.specs.RawTree.{RawTree, no_trees, trees_of}
-use Rattle.bk_raw.specs.Names.{Names}
+use Rattle.bk_raw.specs.Trees.RawTree.{RawTree, no_trees, trees_of}
+use Rattle.bk_raw.specs.Meaning.Names.{Names}
 use Rattle.bk_level.specs.Typings.{is_variable, target}
 use Rattle.bk_level.specs.Ways.{no_way, by_term, among_terms}
 

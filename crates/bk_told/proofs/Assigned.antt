@@ -4,8 +4,8 @@ use Rattle.std.specs.Prelude.{Option, None, Some}
 use Rattle.std.specs.Option.{option_map, unwrap_or}
 use Rattle.std.proofs.lemmas.List.{at_drop_more}
 use Rattle.bk_raw.specs.declared.term.RawName.{RawName}
-use Rattle.bk_raw.specs.SubTree.{SubTree}
-use Rattle.bk_raw.specs.Names.{Names}
+use Rattle.bk_raw.specs.Trees.SubTree.{SubTree}
+use Rattle.bk_raw.specs.Meaning.Names.{Names}
 use Rattle.bk_level.specs.Ways.{Way, first_way, or_no_way, assigned_ways}
 use Rattle.bk_sight.specs.declared.way.Way.{Way as Made}
 use Rattle.bk_sight.specs.declared.way.Way.TheVariants.{Nowhere}

@@ -7,7 +7,7 @@ use Rattle.std.proofs.lemmas.Bool.Decides.{nat_tests}
 use Rattle.std.proofs.lemmas.List.{take-append-drop, at_drop_more, take_more, append-nil, length-take-le, length-append}
 use Rattle.std.proofs.lemmas.Option.{slice_get-get_or}
 use Rattle.bk_val.specs.ValueType.{ValueType}
-use Rattle.bk_raw.specs.Binders.{has_type}
+use Rattle.bk_raw.specs.Meaning.Binders.{has_type}
 use Rattle.bk_elab.specs.Visible.{told_at, typing_of}
 use Rattle.bk_level.specs.Components.{or_next}
 use Rattle.bk_level.specs.Typings.{Typing}

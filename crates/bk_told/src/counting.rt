@@ -2,7 +2,7 @@
 
 ghost use Rattle.std.specs.Option.{option_copied};
 ghost use Rattle.std.specs.Prelude.{◌≡◌, ◌+◌, ◌≤◌};
-ghost use Rattle.bk_raw.specs.RawTree.{trees_of};
+ghost use Rattle.bk_raw.specs.Trees.RawTree.{trees_of};
 ghost use Rattle.bk_raw.specs.Codes.RawView.{ranges_of};
 ghost use Rattle.bk_raw.specs.Codes.SubView.{choices_of};
 ghost use Rattle.bk_level.specs.DeclaredNames as meant;

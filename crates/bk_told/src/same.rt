@@ -2,7 +2,7 @@
 
 ghost use Rattle.std.specs.Prelude.{◌≡◌, IsTrue};
 ghost use Rattle.bk_elab.specs.Visible.{visible_names};
-ghost use Rattle.bk_raw.specs.RawTree.{trees_of};
+ghost use Rattle.bk_raw.specs.Trees.RawTree.{trees_of};
 ghost use Rattle.bk_raw.specs.Codes.RawView.{node_of};
 ghost use Rattle.bk_sight.specs.Shown.{refs};
 

@@ -1,7 +1,7 @@
 // The types of all numbers, each by its way.
 
 ghost use Rattle.std.specs.Prelude.{◌≡◌, ◌+◌, ◌<◌, ◌≤◌, ◌&&◌, not, length, map, take, false, IfOk};
-ghost use Rattle.bk_raw.specs.Binders.{has_type};
+ghost use Rattle.bk_raw.specs.Meaning.Binders.{has_type};
 ghost use Rattle.bk_elab.specs.Visible.{typing_of};
 ghost use Rattle.bk_level.specs.Components.{or_next};
 ghost use Rattle.bk_sight.specs.Shown.{way_shown};

@@ -4,7 +4,7 @@ ghost use Rattle.std.specs.Option.{option_copied, option_map};
 ghost use Rattle.std.specs.Prelude.{◌≡◌, ◌++◌, ◌∷◌, [], ◌+◌, length, map, IfOk, OnOk};
 ghost use Rattle.bk_form.specs.Role.{bind};
 ghost use Rattle.bk_raw.specs.Codes.SubView.{choices_of};
-ghost use Rattle.bk_raw.specs.RawTree.{trees_of};
+ghost use Rattle.bk_raw.specs.Trees.RawTree.{trees_of};
 ghost use Rattle.bk_elab.specs.Visible.{visible_names};
 ghost use Rattle.bk_sight.specs.Shown.{branches_shown, refs, way_shown};
 ghost use Rattle.bk_level.specs.Typings.{is_variable, numbered, numbered_old, target};

@@ -13,7 +13,7 @@ use Rattle.bk_project.specs.ProjectFile.{IsFileName, IsProjectLine, AreLinesOf, 
 use Rattle.bk_project.specs.Project.{Reads}
 use Rattle.bk_project.proofs.ProjectFiles.{lines_are_one}
 use Rattle.bk_project.proofs.OneReading.{read_as_one}
-use Rattle.bk_raw.specs.ScriptTree.{RawScript}
+use Rattle.bk_raw.specs.Trees.ScriptTree.{RawScript}
 use Rattle.bk_p_proof.specs.Files.{AreScriptsOf}
 use Rattle.bk_p_proof.proofs.OneAnswer.{scripts_are_one}
 use Rattle.bk_calls.proofs.Lines.{lines_within}

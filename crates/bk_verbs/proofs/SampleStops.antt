@@ -13,7 +13,7 @@ use Rattle.bk_io.specs.Files.{Files, file_named}
 use Rattle.bk_code.specs.declared.image.Image.{Image}
 use Rattle.bk_dev.specs.Development.{Development}
 use Rattle.bk_b0.specs.Translation.{translation}
-use Rattle.bk_raw.specs.ScriptTree.{RawScript}
+use Rattle.bk_raw.specs.Trees.ScriptTree.{RawScript}
 use Rattle.bk_project.specs.declared.project_file.ProjectLine.{ProjectLine}
 use Rattle.bk_project.specs.declared.project_file.LineKind.TheVariants.{Machine, Implementation, Proofs}
 use Rattle.bk_project.specs.declared.refusal.Refusal.{Refusal}

@@ -12,7 +12,7 @@ use Rattle.bk_project.specs.declared.refusal.Refusal.TheVariants.{Fault, Limit a
 use Rattle.bk_project.specs.declared.project_file.ProjectLine.{ProjectLine}
 use Rattle.bk_project.specs.ProjectFile.{AreLinesOf, IsRefusalOfLines, kinds_of}
 use Rattle.bk_project.specs.Project.{Reads, IsRefusalOf}
-use Rattle.bk_raw.specs.ScriptTree.{RawScript}
+use Rattle.bk_raw.specs.Trees.ScriptTree.{RawScript}
 use Rattle.bk_p_proof.specs.Files.{AreScriptsOf, IsFaultOf as IsFaultOfProofs}
 use Rattle.bk_p_proof.specs.declared.fault.ScriptFault.{ScriptFault}
 use Rattle.bk_p_proof.specs.declared.fault.ScriptFault.TheVariants.{Fault as FaultOfProofs, Limit as LimitOfProofs, Memory as NoRoomForProofs}

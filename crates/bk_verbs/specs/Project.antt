@@ -8,7 +8,7 @@ use Rattle.bk_code.specs.declared.image.Image.{Image}
 use Rattle.bk_code.specs.Session.{Request}
 use Rattle.bk_image.specs.Spelling.{HasSpelling}
 use Rattle.bk_dev.specs.Development.{Development, is_complete}
-use Rattle.bk_raw.specs.ScriptTree.{RawScript}
+use Rattle.bk_raw.specs.Trees.ScriptTree.{RawScript}
 use Rattle.bk_project.specs.declared.project_file.ProjectLine.{ProjectLine}
 use Rattle.bk_project.specs.ProjectFile.{AreLinesOf, component_lines, proof_lines, kinds_of}
 use Rattle.bk_project.specs.Project.{Reads}

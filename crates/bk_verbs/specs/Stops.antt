@@ -8,7 +8,7 @@ use Rattle.bk_image.specs.declared.fault.LoadFault.TheVariants.{Short, Magic, Ve
 use Rattle.bk_image.specs.Spelling.{HasSpelling}
 use Rattle.bk_image.specs.Faults.{place}
 use Rattle.bk_image.specs.Encoding.{Encodes, IsFault as IsFaultOfImage}
-use Rattle.bk_raw.specs.ScriptTree.{RawScript}
+use Rattle.bk_raw.specs.Trees.ScriptTree.{RawScript}
 use Rattle.bk_dev.specs.Development.{Development, level_at, last, is_complete}
 use Rattle.bk_gen.specs.declared.error.GenFault.{GenFault}
 use Rattle.bk_gen.specs.declared.error.GenFault.TheVariants.{CodeTooLong, TooManyCells, Memory as NoRoom}

@@ -5,7 +5,7 @@ use Rattle.bk_io.specs.Pieces.{written_with}
 use Rattle.bk_code.specs.declared.image.Image.{Image}
 use Rattle.bk_code.specs.Session.{Request, Told, Session}
 use Rattle.bk_image.specs.Encoding.{Encodes}
-use Rattle.bk_raw.specs.ScriptTree.{RawScript}
+use Rattle.bk_raw.specs.Trees.ScriptTree.{RawScript}
 use Rattle.bk_dev.specs.Development.{Development, is_complete}
 use Rattle.bk_b0.specs.Translation.{translation}
 use Rattle.bk_dev.specs.Flattened.{flattened}

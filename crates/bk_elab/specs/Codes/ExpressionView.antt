@@ -1,5 +1,5 @@
 -- The mathematical expression that one of the program stands for.
-use Rattle.bk_raw.specs.Outcome.{Partial, whole, hollow, single_of, pair_of, joint_of}
+use Rattle.bk_raw.specs.Meaning.Outcome.{Partial, whole, hollow, single_of, pair_of, joint_of}
 use Rattle.bk_elab.specs.Joins.{joint_of_join}
 use Rattle.bk_elab.specs.declared.partial.Node.{Node}
 use Rattle.bk_elab.specs.declared.partial.Node.TheVariants.{Whole, Empty, Single, Pair, Joined}

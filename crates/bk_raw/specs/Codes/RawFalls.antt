@@ -2,7 +2,7 @@
 use Rattle.std.specs.Prelude.{ℕ, ◌+◌, ◌≤◌, max, List, [], ◌∷◌}
 use Rattle.std.proofs.Common.{arith}
 use denote.Param.Weighed.{most}
-use Rattle.bk_raw.specs.RawTree.{RawTree, tree_size, trees_size, ranges_size, trees_of}
+use Rattle.bk_raw.specs.Trees.RawTree.{RawTree, tree_size, trees_size, ranges_size, trees_of}
 use Rattle.bk_raw.specs.Codes.RawView.{tree_of, ranges_of}
 use Rattle.bk_raw.specs.declared.term.RawRange.{RawRange}
 use Rattle.bk_raw.specs.declared.term.RawNode.{RawNode}

@@ -2,10 +2,10 @@
 use Rattle.std.specs.Prelude.{◌≡◌, ℕ, zero, suc, ℤ, List, [], ◌∷◌, refl}
 use Rattle.std.proofs.Common.{get_or}
 use Rattle.std.specs.Coded.{Coded, code_by, coded×, coded_ℕ, coded_ℤ, coded_list}
-use Rattle.bk_raw.specs.RawTree.{RawTree}
+use Rattle.bk_raw.specs.Trees.RawTree.{RawTree}
 use Rattle.bk_raw.specs.Codes.RawCodes.{coded_name, coded_tree}
-use Rattle.bk_raw.specs.WrittenType.{WrittenType, coded_written_type}
-use Rattle.bk_raw.specs.ScriptTree.{RawPlace, in_goal, in_hypothesis, RawLine, multiples, quotient, RulePart, part_number, part_term, part_terms, part_place, part_no_place, part_typed, part_law, part_certificate, RawRule, RawScript}
+use Rattle.bk_raw.specs.Trees.WrittenType.{WrittenType, coded_written_type}
+use Rattle.bk_raw.specs.Trees.ScriptTree.{RawPlace, in_goal, in_hypothesis, RawLine, multiples, quotient, RulePart, part_number, part_term, part_terms, part_place, part_no_place, part_typed, part_law, part_certificate, RawRule, RawScript}
 use Rattle.bk_raw.specs.declared.term.RawName.{RawName}
 use Rattle.bk_raw.specs.declared.script.RuleWord.{RuleWord}
 use Rattle.bk_raw.specs.declared.script.RuleWord.TheVariants.{Hyp, True, Same, Eval, False, Absurd, And, Iff, Imp, Not, Left, Right, Or, Contra, Fix, UseTerms, Split, Cases, Apply, Inst, OpenSome, Cut, Case, Drop, Eq, Qe, Law, Wal, TypeOf, Neg, Mem, Val, Ext, Sub, Ex, Pair, Elems, Interval, Induct, Poly, Lin}

@@ -2,7 +2,7 @@
 use Rattle.std.specs.Prelude.{ℕ, ◌+◌, ◌≤◌, max, List, [], ◌∷◌, Some, None}
 use Rattle.std.proofs.Common.{arith}
 use denote.Param.Weighed.{most}
-use Rattle.bk_raw.specs.SubTree.{SubTree, Branches, no_branches, else_branch, sub_size, branches_size, choices_size}
+use Rattle.bk_raw.specs.Trees.SubTree.{SubTree, Branches, no_branches, else_branch, sub_size, branches_size, choices_size}
 use Rattle.bk_raw.specs.Codes.SubView.{sub_of, branches_of, choices_of}
 use Rattle.bk_raw.specs.declared.substitution.RawBranch.{RawBranch}
 use Rattle.bk_raw.specs.declared.substitution.RawSubNode.{RawSubNode}

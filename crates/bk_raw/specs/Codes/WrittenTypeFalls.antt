@@ -1,7 +1,7 @@
 -- The parts of a written type are smaller than the type.
 use Rattle.std.specs.Prelude.{◌≤◌, max}
 use Rattle.std.proofs.Common.{arith}
-use Rattle.bk_raw.specs.WrittenType.{written_type_size}
+use Rattle.bk_raw.specs.Trees.WrittenType.{written_type_size}
 use Rattle.bk_raw.specs.Codes.WrittenTypeView.{written_type_view}
 use Rattle.bk_raw.specs.declared.written.RawTypeNode.{RawTypeNode}
 use Rattle.bk_raw.specs.declared.written.RawTypeNode.TheVariants.{Product}

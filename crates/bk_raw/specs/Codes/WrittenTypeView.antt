@@ -1,5 +1,5 @@
 -- The mathematical written type that a node stands for.
-use Rattle.bk_raw.specs.WrittenType.{WrittenType, written_integer, written_bool, written_set, written_power, written_product}
+use Rattle.bk_raw.specs.Trees.WrittenType.{WrittenType, written_integer, written_bool, written_set, written_power, written_product}
 use Rattle.bk_raw.specs.declared.written.RawTypeNode.{RawTypeNode}
 use Rattle.bk_raw.specs.declared.written.RawTypeNode.TheVariants.{Integer, Bool, Set, Power, Product}
 

@@ -2,7 +2,7 @@ use Rattle.std.proofs.Common.{refl, List}
 use Rattle.std.specs.Borrow.{Bor}
 use Rattle.bk_elab.specs.Shown.{told}
 use Rattle.bk_elab.specs.Visible.{typing_of, visible_names}
-use Rattle.bk_raw.specs.RawTree.{RawTree}
+use Rattle.bk_raw.specs.Trees.RawTree.{RawTree}
 use Rattle.bk_level.specs.SubFaults.{predicate_faults}
 use Rattle.bk_level.specs.ClauseFaults.{all_stated_faults}
 use Rattle.bk_sight.specs.Shown.{refs}

@@ -1,7 +1,7 @@
 use Rattle.std.proofs.Common.{refl, ℕ, List, [], cond}
 use Rattle.std.specs.Borrow.{Bor}
 use Rattle.bk_raw.specs.declared.term.RawName.{RawName}
-use Rattle.bk_raw.specs.Outcome.{no_type}
+use Rattle.bk_raw.specs.Meaning.Outcome.{no_type}
 use Rattle.bk_elab.specs.Shown.{told}
 use Rattle.bk_elab.specs.Visible.{typing_of}
 use Rattle.bk_level.specs.ClauseFaults.{is_flat, constant_faults}

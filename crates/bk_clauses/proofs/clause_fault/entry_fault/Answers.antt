@@ -5,8 +5,8 @@ use Rattle.bk_elab.specs.Shown.{told}
 use Rattle.bk_elab.specs.Visible.{typing_of, visible_names}
 use Rattle.std.specs.Prelude.{None}
 use Rattle.bk_raw.specs.declared.component.RawValue.{RawValue}
-use Rattle.bk_raw.specs.Outcome.{ask_value}
-use Rattle.bk_raw.specs.TermReading.{place_of}
+use Rattle.bk_raw.specs.Meaning.Outcome.{ask_value}
+use Rattle.bk_raw.specs.Meaning.TermReading.{place_of}
 use Rattle.bk_level.specs.Typings.{outcome_of}
 use Rattle.bk_level.specs.SubFaults.{value_faults, term_faults}
 use Rattle.bk_level.specs.ClauseFaults.{entry_faults}

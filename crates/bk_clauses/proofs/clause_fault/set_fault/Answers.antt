@@ -1,8 +1,8 @@
 use Rattle.std.proofs.Common.{refl, List, [], cond}
 use Rattle.std.specs.Borrow.{Bor}
-use Rattle.bk_raw.specs.Outcome.{no_type}
+use Rattle.bk_raw.specs.Meaning.Outcome.{no_type}
 use Rattle.bk_elab.specs.Shown.{told}
-use Rattle.bk_raw.specs.ComponentTree.{RawSet}
+use Rattle.bk_raw.specs.Trees.ComponentTree.{RawSet}
 use Rattle.bk_level.specs.ClauseFaults.{has_name, set_faults}
 use Rattle.bk_sight.specs.Shown.{refs}
 use Rattle.bk_sight.proofs.FaultSteps.{told-item}

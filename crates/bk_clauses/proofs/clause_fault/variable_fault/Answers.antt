@@ -1,9 +1,9 @@
 use Rattle.std.proofs.Common.{◌∙◌, ap, refl, ℕ, ◌+◌, List, [], cond, map}
-use Rattle.bk_raw.specs.Outcome.{no_type}
-use Rattle.bk_raw.specs.Blame.{blame}
+use Rattle.bk_raw.specs.Meaning.Outcome.{no_type}
+use Rattle.bk_raw.specs.Errors.Blame.{blame}
 use Rattle.bk_elab.specs.Shown.{told}
 use Rattle.bk_elab.specs.Visible.{typing_of}
-use Rattle.bk_raw.specs.Binders.{has_type}
+use Rattle.bk_raw.specs.Meaning.Binders.{has_type}
 use Rattle.bk_level.specs.ClauseFaults.{declared_at, place_or, variable_faults}
 use Rattle.bk_sight.specs.declared.plan.Declared.{Declared}
 use Rattle.bk_sight.specs.Shown.{declared_shown, variables_shown}

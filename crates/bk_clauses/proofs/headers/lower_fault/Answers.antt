@@ -1,8 +1,8 @@
 use Rattle.std.proofs.Common.{◌∙◌, List, Bool, ap, refl, sym}
 use Rattle.std.specs.Prelude.{◌&&◌}
 use Rattle.std.specs.Borrow.{Bor}
-use Rattle.bk_raw.specs.ComponentTree.{RawOperation}
-use Rattle.bk_raw.specs.Blame.{blame}
+use Rattle.bk_raw.specs.Trees.ComponentTree.{RawOperation}
+use Rattle.bk_raw.specs.Errors.Blame.{blame}
 use Rattle.bk_elab.specs.Shown.{told}
 use Rattle.bk_level.specs.Binders.{texts}
 use Rattle.bk_level.specs.Components.{first_token, operation_names}

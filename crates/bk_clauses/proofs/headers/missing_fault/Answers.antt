@@ -1,7 +1,7 @@
 use Rattle.std.proofs.Common.{◌∙◌, ap, refl}
-use Rattle.bk_raw.specs.Blame.{blame}
+use Rattle.bk_raw.specs.Errors.Blame.{blame}
 use Rattle.bk_elab.specs.Shown.{told}
-use Rattle.bk_raw.specs.Binders.{is_text}
+use Rattle.bk_raw.specs.Meaning.Binders.{is_text}
 use Rattle.bk_level.specs.Binders.{texts}
 use Rattle.bk_level.specs.Components.{operation_names}
 use Rattle.bk_level.specs.OperationFaults.{unless, missing_faults}

@@ -1,8 +1,8 @@
 use Rattle.std.proofs.Common.{refl, List, [], ◌++◌}
 use Rattle.std.specs.Borrow.{Bor}
-use Rattle.bk_raw.specs.Binders.{twice}
+use Rattle.bk_raw.specs.Meaning.Binders.{twice}
 use Rattle.bk_elab.specs.Shown.{told}
-use Rattle.bk_raw.specs.ComponentTree.{RawOperation}
+use Rattle.bk_raw.specs.Trees.ComponentTree.{RawOperation}
 use Rattle.bk_level.specs.NameFaults.{header_twice}
 use Rattle.bk_sight.specs.Shown.{refs}
 use Rattle.bk_sight.proofs.FaultSteps.{told-item}

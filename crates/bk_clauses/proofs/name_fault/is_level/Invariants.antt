@@ -1,5 +1,5 @@
 use Rattle.std.proofs.Common.{◌≡◌, drop}
-use Rattle.bk_raw.specs.Binders.{is_text}
+use Rattle.bk_raw.specs.Meaning.Binders.{is_text}
 use Rattle.bk_level.specs.NameFaults.{level_texts}
 use Rattle.bk_clauses.proofs.name_fault.is_level.Given as goal
 

@@ -1,5 +1,5 @@
 use Rattle.std.proofs.Common.{◌≡◌, drop}
-use Rattle.bk_raw.specs.Binders.{is_text}
+use Rattle.bk_raw.specs.Meaning.Binders.{is_text}
 use Rattle.bk_level.specs.Binders.{texts}
 use Rattle.bk_level.specs.Components.{operation_names}
 use Rattle.bk_sight.specs.Shown.{refs}

@@ -1,7 +1,7 @@
 use Rattle.std.proofs.Common.{refl, List, [], ◌∷◌, cond}
 use Rattle.bk_raw.specs.declared.term.RawName.{RawName}
-use Rattle.bk_raw.specs.Binders.{is_text}
-use Rattle.bk_raw.specs.Faults.{twice_named}
+use Rattle.bk_raw.specs.Meaning.Binders.{is_text}
+use Rattle.bk_raw.specs.Errors.Faults.{twice_named}
 use Rattle.bk_elab.specs.Shown.{told}
 use Rattle.bk_elab.specs.Visible.{visible_names}
 use Rattle.bk_level.specs.NameFaults.{named_texts, taken}

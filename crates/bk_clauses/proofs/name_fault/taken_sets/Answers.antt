@@ -1,11 +1,11 @@
 use Rattle.std.proofs.Common.{List, [], ◌∷◌, ◌++◌, cond}
 use Rattle.std.specs.Borrow.{Bor}
-use Rattle.bk_raw.specs.Binders.{is_text}
+use Rattle.bk_raw.specs.Meaning.Binders.{is_text}
 use Rattle.bk_elab.specs.Shown.{told}
 use Rattle.bk_elab.specs.Visible.{visible_names}
 use Rattle.bk_level.specs.NameFaults.{named_texts, taken}
-use Rattle.bk_raw.specs.ComponentTree.{RawSet}
-use Rattle.bk_raw.specs.Faults.{twice_named}
+use Rattle.bk_raw.specs.Trees.ComponentTree.{RawSet}
+use Rattle.bk_raw.specs.Errors.Faults.{twice_named}
 use Rattle.bk_level.specs.Components.{set_names}
 use Rattle.bk_sight.specs.Shown.{refs}
 use Rattle.bk_sight.proofs.FaultSteps.{told-item}

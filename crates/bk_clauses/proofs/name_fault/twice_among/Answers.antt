@@ -1,6 +1,6 @@
 use Rattle.std.proofs.Common.{◌∙◌, ap, []}
-use Rattle.bk_raw.specs.Binders.{twice}
-use Rattle.bk_raw.specs.Blame.{blame}
+use Rattle.bk_raw.specs.Meaning.Binders.{twice}
+use Rattle.bk_raw.specs.Errors.Blame.{blame}
 use Rattle.bk_elab.specs.Shown.{told}
 use Rattle.bk_level.specs.Binders.{texts}
 use Rattle.bk_sight.proofs.FaultSteps.{told-both}

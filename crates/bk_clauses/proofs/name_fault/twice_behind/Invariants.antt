@@ -1,7 +1,7 @@
 use Rattle.std.proofs.Common.{◌≡◌, ◌++◌, map, take, drop}
-use Rattle.bk_raw.specs.Blame.{blame, earlier}
+use Rattle.bk_raw.specs.Errors.Blame.{blame, earlier}
 use Rattle.bk_elab.specs.Shown.{told}
-use Rattle.bk_raw.specs.Binders.{twice}
+use Rattle.bk_raw.specs.Meaning.Binders.{twice}
 use Rattle.bk_level.specs.Binders.{texts}
 use Rattle.bk_clauses.proofs.name_fault.twice_behind.Given as goal
 

@@ -1,6 +1,6 @@
 use Rattle.std.proofs.Common.{◌∙◌, [], ◌∷◌, List, ap, refl, cond}
-use Rattle.bk_raw.specs.Blame.{blame}
-use Rattle.bk_raw.specs.Faults.{wrong_value}
+use Rattle.bk_raw.specs.Errors.Blame.{blame}
+use Rattle.bk_raw.specs.Errors.Faults.{wrong_value}
 use Rattle.bk_elab.specs.Shown.{told}
 use Rattle.bk_elab.specs.Visible.{visible_names, meaning_of}
 use Rattle.bk_elab.specs.declared.sight.Visible.{Visible}

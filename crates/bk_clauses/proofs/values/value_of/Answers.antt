@@ -1,7 +1,7 @@
 use Rattle.std.proofs.Common.{◌≡◌, ◌∙◌, sym}
 use Rattle.bk_elab.specs.Visible.{typing_of, visible_names}
-use Rattle.bk_raw.specs.Outcome.{ask_value}
-use Rattle.bk_raw.specs.TermReading.{place_of}
+use Rattle.bk_raw.specs.Meaning.Outcome.{ask_value}
+use Rattle.bk_raw.specs.Meaning.TermReading.{place_of}
 use Rattle.bk_level.specs.Typings.{type_named, outcome_of}
 use Rattle.bk_sight.proofs.FaultReadings.{value-answered}
 use Rattle.bk_clauses.proofs.ValueSteps.{value-none, value-kept}

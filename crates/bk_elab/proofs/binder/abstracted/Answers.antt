@@ -1,9 +1,9 @@
 use Rattle.std.proofs.Common.{◌≡◌, List, ◌++◌, sym, ◌∙◌, ap, subst}
 use Rattle.std.specs.Option.{option_map}
 use Rattle.std.specs.Prelude.{◌&&◌}
-use Rattle.bk_raw.specs.Binders.{all_typed, as_bound, is_some_name, where_typed, if_holding, if_giving}
-use Rattle.bk_raw.specs.Outcome.{Outcome, ask_value}
-use Rattle.bk_raw.specs.Blame.{blame}
+use Rattle.bk_raw.specs.Meaning.Binders.{all_typed, as_bound, is_some_name, where_typed, if_holding, if_giving}
+use Rattle.bk_raw.specs.Meaning.Outcome.{Outcome, ask_value}
+use Rattle.bk_raw.specs.Errors.Blame.{blame}
 use Rattle.bk_elab.specs.Shown.{told, IsAsked}
 use Rattle.bk_elab.specs.Sights.{ranges_as, AreTaken}
 use Rattle.bk_elab.specs.declared.binder.Ranged.{Ranged as RangedName}

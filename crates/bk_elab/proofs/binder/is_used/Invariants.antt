@@ -1,5 +1,5 @@
 use Rattle.std.proofs.Common.{◌≡◌, drop}
-use Rattle.bk_raw.specs.Binders.{is_used}
+use Rattle.bk_raw.specs.Meaning.Binders.{is_used}
 use Rattle.bk_elab.specs.Sights.{ranges_as}
 use Rattle.bk_elab.proofs.binder.is_used.Given as goal
 

@@ -1,5 +1,5 @@
 use Rattle.std.proofs.Common.{◌≡◌, take, map}
-use Rattle.bk_raw.specs.Binders.{bound_names}
+use Rattle.bk_raw.specs.Meaning.Binders.{bound_names}
 use Rattle.bk_elab.specs.Sights.{bounds_of}
 use Rattle.bk_elab.proofs.binder.referred.Given as goal
 

@@ -1,8 +1,8 @@
 use Rattle.std.proofs.Common.{◌≡◌, ℕ, List, [], true, false, sym, ◌∙◌, ap}
 use Rattle.std.specs.Prelude.{take}
-use Rattle.bk_raw.specs.FreeNames.{is_among}
-use Rattle.bk_raw.specs.Binders.{twice}
-use Rattle.bk_raw.specs.Blame.{blame}
+use Rattle.bk_raw.specs.Trees.FreeNames.{is_among}
+use Rattle.bk_raw.specs.Meaning.Binders.{twice}
+use Rattle.bk_raw.specs.Errors.Blame.{blame}
 use Rattle.bk_elab.specs.Shown.{told}
 use Rattle.bk_elab.proofs.Bindings.{twice-more}
 use Rattle.bk_raw.proofs.Blamed.{earlier-none}

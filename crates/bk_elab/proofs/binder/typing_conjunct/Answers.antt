@@ -1,7 +1,7 @@
 use Rattle.std.proofs.Common.{◌≡◌, ℕ, List, sym, ◌∙◌, ap, subst}
 use Rattle.std.specs.Option.{option_copied}
 use Rattle.std.specs.Prelude.{None, Some}
-use Rattle.bk_raw.specs.TermReading.{name_of}
+use Rattle.bk_raw.specs.Meaning.TermReading.{name_of}
 use Rattle.bk_elab.specs.Conjuncts.{infix_sides, shown_infix}
 use Rattle.bk_elab.specs.Sights.{bounds_of, AwaitsAt}
 use Rattle.bk_elab.proofs.Clued.{typing-nameless, typing-other, typing-here}

@@ -1,12 +1,12 @@
 use Rattle.std.proofs.Common.{Bool, true, false, sym, ◌∙◌, ap}
 use Rattle.std.specs.Prelude.{Option, not}
-use Rattle.bk_raw.specs.Binders.{as_bound, untyped_faults}
-use Rattle.bk_raw.specs.Blame.{blame, earlier}
+use Rattle.bk_raw.specs.Meaning.Binders.{as_bound, untyped_faults}
+use Rattle.bk_raw.specs.Errors.Blame.{blame, earlier}
 use Rattle.bk_elab.specs.Shown.{told}
 use Rattle.bk_elab.specs.Sights.{ranges_as}
 use Rattle.bk_elab.proofs.Bindings.{unranged-next}
 use Rattle.bk_raw.proofs.Blamed.{earlier-none}
-use Rattle.bk_raw.specs.Faults.{Fault}
+use Rattle.bk_raw.specs.Errors.Faults.{Fault}
 use Rattle.bk_elab.proofs.binder.unranged.Goals as goal
 use Rattle.bk_elab.proofs.binder.unranged.Goals.{then-is_none, else-is_none}
 

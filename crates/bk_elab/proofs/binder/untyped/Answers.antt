@@ -1,12 +1,12 @@
 use Rattle.std.proofs.Common.{Bool, true, false, sym, ◌∙◌, ap}
 use Rattle.std.specs.Prelude.{Option, not}
-use Rattle.bk_raw.specs.Binders.{untyped_faults}
-use Rattle.bk_raw.specs.Blame.{blame, earlier}
+use Rattle.bk_raw.specs.Meaning.Binders.{untyped_faults}
+use Rattle.bk_raw.specs.Errors.Blame.{blame, earlier}
 use Rattle.bk_elab.specs.Shown.{told}
 use Rattle.bk_elab.specs.Sights.{bounds_of}
 use Rattle.bk_elab.proofs.Bindings.{untyped-more}
 use Rattle.bk_raw.proofs.Blamed.{earlier-none}
-use Rattle.bk_raw.specs.Faults.{Fault}
+use Rattle.bk_raw.specs.Errors.Faults.{Fault}
 use Rattle.bk_elab.proofs.binder.untyped.Goals as goal
 use Rattle.bk_elab.proofs.binder.untyped.Goals.{then-is_none, else-is_none}
 

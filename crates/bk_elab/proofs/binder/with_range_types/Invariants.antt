@@ -1,5 +1,5 @@
 use Rattle.std.proofs.Common.{◌≡◌, take}
-use Rattle.bk_raw.specs.Binders.{as_bound}
+use Rattle.bk_raw.specs.Meaning.Binders.{as_bound}
 use Rattle.bk_elab.specs.Sights.{bounds_of, ranges_as}
 use Rattle.bk_elab.proofs.binder.with_range_types.Given as goal
 

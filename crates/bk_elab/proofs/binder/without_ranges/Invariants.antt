@@ -1,5 +1,5 @@
 use Rattle.std.proofs.Common.{◌≡◌, take}
-use Rattle.bk_raw.specs.Binders.{unranged}
+use Rattle.bk_raw.specs.Meaning.Binders.{unranged}
 use Rattle.bk_elab.specs.Sights.{ranges_as}
 use Rattle.bk_elab.proofs.binder.without_ranges.Given as goal
 

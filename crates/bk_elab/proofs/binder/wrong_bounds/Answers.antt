@@ -1,6 +1,6 @@
 use Rattle.std.proofs.Common.{suc}
-use Rattle.bk_raw.specs.Printed.{wrong_bounds}
-use Rattle.bk_raw.specs.Blame.{blame}
+use Rattle.bk_raw.specs.Meaning.Printed.{wrong_bounds}
+use Rattle.bk_raw.specs.Errors.Blame.{blame}
 use Rattle.bk_elab.specs.Shown.{told}
 use Rattle.bk_elab.proofs.Bindings.{wrong-next}
 use Rattle.bk_elab.proofs.binder.wrong_bounds.Goals as goal

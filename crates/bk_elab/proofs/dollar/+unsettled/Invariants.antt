@@ -1,5 +1,5 @@
 use Rattle.std.proofs.Common.{◌≡◌, ◌+◌, ◌*◌, drop}
-use Rattle.bk_raw.specs.RawTree.{tree_size, trees_size, ranges_size, trees_of}
+use Rattle.bk_raw.specs.Trees.RawTree.{tree_size, trees_size, ranges_size, trees_of}
 use Rattle.bk_raw.specs.Codes.RawView.{ranges_of}
 use Rattle.bk_elab.specs.Kept.{some_have_unsettled, ranges_have_unsettled}
 use Rattle.bk_elab.proofs.dollar.+unsettled.Given as goal

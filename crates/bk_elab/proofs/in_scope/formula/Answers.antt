@@ -1,10 +1,10 @@
 use Rattle.std.proofs.Common.{◌≡◌, ℕ, List, ◌∙◌, ap, sym, subst}
 use Rattle.std.specs.Prelude.{Some}
 use Rattle.bk_form.specs.Role.{bind}
-use Rattle.bk_raw.specs.Binders.{locals}
-use Rattle.bk_raw.specs.Blame.{blame}
-use Rattle.bk_raw.specs.ScopeReading.{ask_formula, formula_in, names_in}
-use Rattle.bk_raw.specs.TermReading.{reading, place_of}
+use Rattle.bk_raw.specs.Meaning.Binders.{locals}
+use Rattle.bk_raw.specs.Errors.Blame.{blame}
+use Rattle.bk_raw.specs.Meaning.ScopeReading.{ask_formula, formula_in, names_in}
+use Rattle.bk_raw.specs.Meaning.TermReading.{reading, place_of}
 use Rattle.bk_elab.specs.declared.sight.Local.{Local}
 use Rattle.bk_elab.specs.Shown.{fault_of, shown_outcome, told, IsRead, IsAsked}
 use Rattle.bk_elab.specs.Sights.{bounds_of}

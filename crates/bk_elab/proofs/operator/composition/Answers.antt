@@ -1,8 +1,8 @@
 use Rattle.std.proofs.Common.{List, ap, subst}
 use Rattle.std.specs.Prelude.{Option}
-use Rattle.bk_raw.specs.Outcome.{ask_relation}
-use Rattle.bk_raw.specs.OperatorReadings.{composed}
-use Rattle.bk_raw.specs.Faults.{Fault}
+use Rattle.bk_raw.specs.Meaning.Outcome.{ask_relation}
+use Rattle.bk_raw.specs.Meaning.OperatorReadings.{composed}
+use Rattle.bk_raw.specs.Errors.Faults.{Fault}
 use Rattle.bk_elab.specs.Shown.{shown_outcome, IsAsked}
 use Rattle.bk_elab.proofs.Composed.{Related, composes-none, composes-both}
 use Rattle.bk_elab.proofs.operator.composition.Goals as goal

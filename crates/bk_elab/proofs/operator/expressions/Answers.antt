@@ -1,5 +1,5 @@
-use Rattle.bk_raw.specs.Outcome.{Partial, Reading}
-use Rattle.bk_raw.specs.OperatorReadings.{on_values}
+use Rattle.bk_raw.specs.Meaning.Outcome.{Partial, Reading}
+use Rattle.bk_raw.specs.Meaning.OperatorReadings.{on_values}
 use Rattle.bk_elab.specs.Shown.{shown_outcome}
 use Rattle.bk_elab.proofs.Values.{left-none, both-unvalued}
 use Rattle.bk_elab.proofs.operator.expressions.Goals as goal

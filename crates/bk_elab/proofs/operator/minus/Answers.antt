@@ -1,8 +1,8 @@
 use Rattle.std.proofs.Common.{sym, ◌∙◌, ap, subst}
 use Rattle.std.specs.Prelude.{IfOk}
 use Rattle.bk_val.specs.ValueType.{int_type}
-use Rattle.bk_raw.specs.Outcome.{Outcome, whole, partial}
-use Rattle.bk_raw.specs.OperatorReadings.{on_values, minus}
+use Rattle.bk_raw.specs.Meaning.Outcome.{Outcome, whole, partial}
+use Rattle.bk_raw.specs.Meaning.OperatorReadings.{on_values, minus}
 use Rattle.bk_elab.specs.Shown.{shown_outcome, IsRead}
 use Rattle.bk_elab.proofs.Alikes.{at-these}
 use Rattle.bk_elab.proofs.operator.minus.Goals as goal

@@ -1,8 +1,8 @@
 use Rattle.std.proofs.Common.{◌∙◌, ap, subst}
 use Rattle.std.specs.Prelude.{IfOk}
 use Rattle.bk_val.specs.ValueType.{ValueType, int_type, set_type}
-use Rattle.bk_raw.specs.Outcome.{whole, partial}
-use Rattle.bk_raw.specs.OperatorReadings.{times}
+use Rattle.bk_raw.specs.Meaning.Outcome.{whole, partial}
+use Rattle.bk_raw.specs.Meaning.OperatorReadings.{times}
 use Rattle.bk_elab.specs.Shown.{shown_outcome, IsRead}
 use Rattle.bk_elab.proofs.Alikes.{at-these}
 use Rattle.bk_elab.proofs.operator.value_times.Goals as goal

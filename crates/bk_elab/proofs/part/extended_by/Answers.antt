@@ -1,6 +1,6 @@
 use Rattle.std.proofs.Common.{false}
-use Rattle.bk_raw.specs.OperatorReadings.{extended}
-use Rattle.bk_raw.specs.TermReading.{part}
+use Rattle.bk_raw.specs.Meaning.OperatorReadings.{extended}
+use Rattle.bk_raw.specs.Meaning.TermReading.{part}
 use Rattle.bk_elab.proofs.Combined.{two-read}
 use Rattle.bk_elab.proofs.part.extended_by.Goals as goal
 

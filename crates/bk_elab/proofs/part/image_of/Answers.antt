@@ -1,6 +1,6 @@
 use Rattle.std.proofs.Common.{false, subst}
-use Rattle.bk_raw.specs.OperatorReadings.{image_reading}
-use Rattle.bk_raw.specs.TermReading.{part, from_two}
+use Rattle.bk_raw.specs.Meaning.OperatorReadings.{image_reading}
+use Rattle.bk_raw.specs.Meaning.TermReading.{part, from_two}
 use Rattle.bk_elab.specs.declared.operator.Places.{Places}
 use Rattle.bk_elab.specs.Shown.{IsRead}
 use Rattle.bk_elab.proofs.Combined.{two-read}

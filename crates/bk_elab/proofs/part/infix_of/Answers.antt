@@ -1,6 +1,6 @@
 use Rattle.std.proofs.Common.{Bool, subst}
-use Rattle.bk_raw.specs.OperatorReadings.{infix_reading}
-use Rattle.bk_raw.specs.TermReading.{part, place_of, from_two, strict_faults, is_connective}
+use Rattle.bk_raw.specs.Meaning.OperatorReadings.{infix_reading}
+use Rattle.bk_raw.specs.Meaning.TermReading.{part, place_of, from_two, strict_faults, is_connective}
 use Rattle.bk_elab.specs.declared.operator.Places.{Places}
 use Rattle.bk_elab.specs.Shown.{IsRead}
 use Rattle.bk_elab.proofs.Combined.{two-read}

@@ -1,6 +1,6 @@
 use Rattle.std.proofs.Common.{ℕ, false, subst}
-use Rattle.bk_raw.specs.OperatorReadings.{negative_reading}
-use Rattle.bk_raw.specs.TermReading.{part, from_one}
+use Rattle.bk_raw.specs.Meaning.OperatorReadings.{negative_reading}
+use Rattle.bk_raw.specs.Meaning.TermReading.{part, from_one}
 use Rattle.bk_elab.specs.Shown.{IsRead}
 use Rattle.bk_elab.proofs.Combined.{one-read}
 use Rattle.bk_elab.proofs.part.negative_of.Goals as goal

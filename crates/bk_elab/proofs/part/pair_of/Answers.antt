@@ -1,6 +1,6 @@
 use Rattle.std.proofs.Common.{false}
-use Rattle.bk_raw.specs.OperatorReadings.{pair_reading}
-use Rattle.bk_raw.specs.TermReading.{part}
+use Rattle.bk_raw.specs.Meaning.OperatorReadings.{pair_reading}
+use Rattle.bk_raw.specs.Meaning.TermReading.{part}
 use Rattle.bk_elab.proofs.Combined.{two-read}
 use Rattle.bk_elab.proofs.part.pair_of.Goals as goal
 

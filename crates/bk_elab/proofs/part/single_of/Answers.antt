@@ -1,6 +1,6 @@
 use Rattle.std.proofs.Common.{false}
-use Rattle.bk_raw.specs.OperatorReadings.{single_reading}
-use Rattle.bk_raw.specs.TermReading.{part}
+use Rattle.bk_raw.specs.Meaning.OperatorReadings.{single_reading}
+use Rattle.bk_raw.specs.Meaning.TermReading.{part}
 use Rattle.bk_elab.proofs.Combined.{one-read}
 use Rattle.bk_elab.proofs.part.single_of.Goals as goal
 

@@ -1,6 +1,6 @@
 use Rattle.std.proofs.Common.{ℕ, Bool, subst}
-use Rattle.bk_raw.specs.OperatorReadings.{word_reading}
-use Rattle.bk_raw.specs.TermReading.{part, place_of, from_one}
+use Rattle.bk_raw.specs.Meaning.OperatorReadings.{word_reading}
+use Rattle.bk_raw.specs.Meaning.TermReading.{part, place_of, from_one}
 use Rattle.bk_elab.specs.Shown.{IsRead}
 use Rattle.bk_elab.proofs.Combined.{one-read}
 use Rattle.bk_elab.proofs.part.word_of.Goals as goal

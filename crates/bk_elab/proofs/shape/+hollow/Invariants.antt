@@ -1,5 +1,5 @@
 use Rattle.std.proofs.Common.{◌≡◌, ◌+◌, ◌*◌, drop}
-use Rattle.bk_raw.specs.RawTree.{tree_size, trees_size, trees_of}
+use Rattle.bk_raw.specs.Trees.RawTree.{tree_size, trees_size, trees_of}
 use Rattle.bk_elab.specs.Kept.{are_hollow}
 use Rattle.bk_elab.proofs.shape.+hollow.Given as goal
 

@@ -1,5 +1,5 @@
 use Rattle.std.proofs.Common.{◌≡◌, drop}
-use Rattle.bk_raw.specs.Names.{found}
+use Rattle.bk_raw.specs.Meaning.Names.{found}
 use Rattle.bk_elab.specs.Visible.{seen_names}
 use Rattle.bk_elab.proofs.sight.find_visible.Given as goal
 

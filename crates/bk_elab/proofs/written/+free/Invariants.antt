@@ -1,6 +1,6 @@
 use Rattle.std.proofs.Common.{◌≡◌, ◌+◌, ◌*◌, drop}
-use Rattle.bk_raw.specs.FreeNames.{is_free_in_some, is_free_in_ranges}
-use Rattle.bk_raw.specs.RawTree.{tree_size, trees_size, ranges_size, trees_of}
+use Rattle.bk_raw.specs.Trees.FreeNames.{is_free_in_some, is_free_in_ranges}
+use Rattle.bk_raw.specs.Trees.RawTree.{tree_size, trees_size, ranges_size, trees_of}
 use Rattle.bk_raw.specs.Codes.RawView.{ranges_of}
 use Rattle.bk_elab.proofs.written.+free.Given as goal
 

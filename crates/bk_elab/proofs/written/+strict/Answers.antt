@@ -1,8 +1,8 @@
 use Rattle.std.proofs.Common.{◌∙◌, ap}
 use Rattle.bk_raw.specs.declared.term.RawRange.{RawRange}
-use Rattle.bk_raw.specs.RawTree.{RawTree}
-use Rattle.bk_raw.specs.TermReading.{stricts}
-use Rattle.bk_raw.specs.Blame.{blame}
+use Rattle.bk_raw.specs.Trees.RawTree.{RawTree}
+use Rattle.bk_raw.specs.Meaning.TermReading.{stricts}
+use Rattle.bk_raw.specs.Errors.Blame.{blame}
 use Rattle.bk_elab.specs.Shown.{told}
 use Rattle.bk_elab.proofs.Strict.{terms-more, ranges-more}
 use Rattle.bk_elab.proofs.written.+strict.Goals as goal

@@ -1,8 +1,8 @@
 use Rattle.std.proofs.Common.{◌≡◌, ◌+◌, ◌*◌, drop}
-use Rattle.bk_raw.specs.RawTree.{tree_size, trees_size, ranges_size, trees_of}
+use Rattle.bk_raw.specs.Trees.RawTree.{tree_size, trees_size, ranges_size, trees_of}
 use Rattle.bk_raw.specs.Codes.RawView.{ranges_of}
-use Rattle.bk_raw.specs.TermReading.{all_stricts, ranges_stricts}
-use Rattle.bk_raw.specs.Blame.{blame, earlier}
+use Rattle.bk_raw.specs.Meaning.TermReading.{all_stricts, ranges_stricts}
+use Rattle.bk_raw.specs.Errors.Blame.{blame, earlier}
 use Rattle.bk_elab.specs.Shown.{told}
 use Rattle.bk_elab.proofs.written.+strict.Given as goal
 

@@ -1,5 +1,5 @@
 use Rattle.std.proofs.Common.{◌≡◌, drop}
-use Rattle.bk_raw.specs.FreeNames.{is_among}
+use Rattle.bk_raw.specs.Trees.FreeNames.{is_among}
 use Rattle.bk_elab.proofs.written.is_among.Given as goal
 
 abbrev pub invariant-loop-name : goal.invariant-loop-name

@@ -1,5 +1,5 @@
 use Rattle.std.proofs.Common.{◌≡◌, drop}
-use Rattle.bk_raw.specs.TermReading.{names_one}
+use Rattle.bk_raw.specs.Meaning.TermReading.{names_one}
 use Rattle.bk_elab.proofs.written.names_one.Given as goal
 
 abbrev pub invariant-loop-name : goal.invariant-loop-name

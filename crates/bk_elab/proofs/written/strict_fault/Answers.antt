@@ -1,7 +1,7 @@
 use Rattle.std.proofs.Common.{sym, ◌∙◌, ap}
 use Rattle.bk_raw.specs.declared.operator.InfixOp.{InfixOp}
-use Rattle.bk_raw.specs.TermReading.{stricts, strict_faults}
-use Rattle.bk_raw.specs.Blame.{blame, earlier}
+use Rattle.bk_raw.specs.Meaning.TermReading.{stricts, strict_faults}
+use Rattle.bk_raw.specs.Errors.Blame.{blame, earlier}
 use Rattle.bk_raw.proofs.Blamed.{blame-joins}
 use Rattle.bk_elab.proofs.Strict.{not-strict}
 use Rattle.bk_elab.proofs.written.strict_fault.Goals as goal

@@ -1,5 +1,5 @@
 use Rattle.std.proofs.Common.{◌∙◌, ap, length, get_or, List, arith}
-use Rattle.bk_raw.specs.Blame.{blame}
+use Rattle.bk_raw.specs.Errors.Blame.{blame}
 use Rattle.bk_elab.specs.Shown.{told}
 use Rattle.bk_level.specs.Components.{abstract_names}
 use Rattle.bk_level.specs.Executable.{abstract_faults}

@@ -1,11 +1,11 @@
 use Rattle.std.proofs.Common.{◌∙◌, ap, List}
 use Rattle.bk_elab.specs.Visible.{visible_names}
 use Rattle.bk_elab.specs.declared.sight.Visible.{Visible}
-use Rattle.bk_raw.specs.Names.{Names}
-use Rattle.bk_raw.specs.ComponentTree.{RawOperation}
+use Rattle.bk_raw.specs.Meaning.Names.{Names}
+use Rattle.bk_raw.specs.Trees.ComponentTree.{RawOperation}
 use Rattle.bk_level.specs.Plan.{body_scope}
 use Rattle.bk_sight.specs.Shown.{plan_shown, placed_shown}
-use Rattle.bk_raw.specs.Blame.{blame}
+use Rattle.bk_raw.specs.Errors.Blame.{blame}
 use Rattle.bk_level.specs.Executable.{statement_faults}
 use Rattle.bk_exec.specs.Executed.{executing}
 use Rattle.bk_exec.proofs.executable.body_fault.Goals as goal

@@ -1,8 +1,8 @@
 use Rattle.std.proofs.Common.{◌∙◌, ap, refl, List, length, get_or, map, arith}
-use Rattle.bk_raw.specs.Blame.{blame}
+use Rattle.bk_raw.specs.Errors.Blame.{blame}
 use Rattle.bk_elab.specs.Shown.{told}
 use Rattle.bk_elab.specs.Visible.{visible_names}
-use Rattle.bk_raw.specs.ComponentTree.{RawOperation}
+use Rattle.bk_raw.specs.Trees.ComponentTree.{RawOperation}
 use Rattle.bk_raw.specs.declared.term.RawName.{RawName}
 use Rattle.bk_level.specs.Executable.{operations_executable, output_scalars, input_scalars}
 use Rattle.bk_exec.specs.Executed.{executing}

@@ -1,5 +1,5 @@
 use Rattle.std.proofs.Common.{ℕ, ◌∙◌, ◌+◌, ap, sym, arith}
-use Rattle.bk_raw.specs.Blame.{blame}
+use Rattle.bk_raw.specs.Errors.Blame.{blame}
 use Rattle.bk_elab.specs.Shown.{told}
 use Rattle.bk_elab.specs.Visible.{typing_of}
 use Rattle.bk_level.specs.Executable.{output_scalars, is_scalar_option}

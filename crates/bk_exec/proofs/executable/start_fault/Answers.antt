@@ -2,7 +2,7 @@ use Rattle.std.proofs.Common.{◌∙◌, ap, sym, List}
 use Rattle.std.specs.Option.{option_copied}
 use Rattle.std.specs.Prelude.{Option}
 use Rattle.std.specs.Borrow.{Bor}
-use Rattle.bk_raw.specs.Blame.{blame}
+use Rattle.bk_raw.specs.Errors.Blame.{blame}
 use Rattle.bk_elab.specs.Visible.{visible_names}
 use Rattle.bk_elab.specs.declared.sight.Visible.{Visible}
 use Rattle.bk_level.specs.Components.{initialisation}
@@ -10,8 +10,8 @@ use Rattle.bk_level.specs.Executable.{statement_faults}
 use Rattle.bk_level.specs.Plan.{scope}
 use Rattle.bk_exec.specs.Executed.{executing}
 use Rattle.bk_sight.specs.Shown.{component_shown, plan_shown}
-use Rattle.bk_raw.specs.Names.{Names}
-use Rattle.bk_raw.specs.SubTree.{SubTree}
+use Rattle.bk_raw.specs.Meaning.Names.{Names}
+use Rattle.bk_raw.specs.Trees.SubTree.{SubTree}
 use Rattle.bk_exec.proofs.executable.start_fault.Goals as goal
 
 pub returns-in-Some : goal.returns-in-Some

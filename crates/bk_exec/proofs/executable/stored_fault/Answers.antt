@@ -1,6 +1,6 @@
 use Rattle.std.proofs.Common.{ℕ, ◌∙◌, ap, map}
 use Rattle.std.specs.Prelude.{◌||◌}
-use Rattle.bk_raw.specs.Blame.{blame}
+use Rattle.bk_raw.specs.Errors.Blame.{blame}
 use Rattle.bk_elab.specs.Shown.{told}
 use Rattle.bk_level.specs.Executable.{stored_faults, is_scalar_option}
 use Rattle.bk_level.specs.ValueFaults.{is_there}

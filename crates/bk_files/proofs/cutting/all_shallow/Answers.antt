@@ -1,6 +1,6 @@
 use Rattle.std.proofs.Common.{List, ℕ, take, inr, refl, sym, subst, ◌∙◌, arith}
 use Rattle.bk_form.specs.declared.token.Token.{Token}
-use Rattle.bk_raw.specs.Limits.{IsShallow, IsTooDeep}
+use Rattle.bk_raw.specs.Errors.Limits.{IsShallow, IsTooDeep}
 use Rattle.bk_files.specs.Files.{Has, IsCut, IsDeep, IsFaultOf, IsShallowText}
 use Rattle.bk_files.proofs.FileSteps.{bytes_of, tokens_of, at_file, past_files, files_counted, one_told, none_told, first_beside}
 use Rattle.bk_files.proofs.Turns.{zip_has, zip_on, zip_end}

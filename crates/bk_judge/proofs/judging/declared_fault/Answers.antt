@@ -1,8 +1,8 @@
 use Rattle.std.proofs.Common.{◌∙◌, ap, ℕ, ◌+◌, List, [], ◌++◌, Bool, cond, drop}
 use Rattle.bk_raw.specs.declared.term.RawName.{RawName}
-use Rattle.bk_raw.specs.Binders.{has_type}
-use Rattle.bk_raw.specs.Outcome.{no_type}
-use Rattle.bk_raw.specs.Blame.{blame}
+use Rattle.bk_raw.specs.Meaning.Binders.{has_type}
+use Rattle.bk_raw.specs.Meaning.Outcome.{no_type}
+use Rattle.bk_raw.specs.Errors.Blame.{blame}
 use Rattle.bk_elab.specs.Shown.{told}
 use Rattle.bk_elab.specs.Visible.{typing_of}
 use Rattle.bk_level.specs.SubFaults.{declared_faults}

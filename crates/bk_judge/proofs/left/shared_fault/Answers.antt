@@ -1,7 +1,7 @@
 use Rattle.std.proofs.Common.{◌∙◌, ap, refl, ℕ, List, [], ◌∷◌, Bool, cond, map, get_or}
 use Rattle.bk_gsl.specs.State.{among}
-use Rattle.bk_raw.specs.Blame.{blame}
-use Rattle.bk_raw.specs.Faults.{wrong_write}
+use Rattle.bk_raw.specs.Errors.Blame.{blame}
+use Rattle.bk_raw.specs.Errors.Faults.{wrong_write}
 use Rattle.bk_elab.specs.Shown.{told}
 use Rattle.bk_level.specs.SubFaults.{shared_faults}
 use Rattle.bk_judge.specs.declared.left.Write.{Write}

@@ -2,8 +2,8 @@ use Rattle.std.proofs.Common.{◌≡◌, ◌∙◌, sym, ap, subst, refl, length
 use Rattle.std.specs.Option.{option_copied}
 use Rattle.bk_dev.specs.Development.{Development}
 use Rattle.bk_dev.specs.Facts.{HomesAreThere}
-use Rattle.bk_raw.specs.Blame.{blame}
-use Rattle.bk_raw.specs.Faults.{Fault}
+use Rattle.bk_raw.specs.Errors.Blame.{blame}
+use Rattle.bk_raw.specs.Errors.Faults.{Fault}
 use Rattle.bk_elab.specs.Shown.{told}
 use Rattle.bk_level.specs.Above.{above_of}
 use Rattle.bk_level.specs.Components.{Component, is_machine}

@@ -1,7 +1,7 @@
 use Rattle.std.proofs.Common.{◌≡◌, ◌∙◌, sym, ap, subst, List, map, ℤ, w64, to_z, of_z, to_z-of_z}
 use Rattle.std.specs.Prelude.{Option}
 use Rattle.bk_val.specs.ValueType.{ValueType}
-use Rattle.bk_raw.specs.Blame.{blame}
+use Rattle.bk_raw.specs.Errors.Blame.{blame}
 use Rattle.bk_elab.specs.Shown.{told}
 use Rattle.bk_elab.specs.Visible.{typing_of}
 use Rattle.bk_level.specs.Executable.{executable_faults}

@@ -1,6 +1,6 @@
 use Rattle.std.proofs.Common.{refl, List, [], ◌∷◌}
 use Rattle.std.specs.Borrow.{Bor}
-use Rattle.bk_raw.specs.ComponentTree.{RawSet}
+use Rattle.bk_raw.specs.Trees.ComponentTree.{RawSet}
 use Rattle.bk_level.specs.Plan.{entries_of}
 use Rattle.bk_sight.specs.Shown.{refs}
 use Rattle.bk_sight.proofs.Making.{joined-more}

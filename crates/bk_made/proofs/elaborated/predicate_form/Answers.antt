@@ -1,7 +1,7 @@
 use Rattle.std.proofs.Common.{◌∙◌, ap}
 use Rattle.std.specs.Prelude.{Option}
 use Rattle.bk_form.specs.Formula.{Formula, btrue}
-use Rattle.bk_raw.specs.Outcome.{Outcome, ask_predicate}
+use Rattle.bk_raw.specs.Meaning.Outcome.{Outcome, ask_predicate}
 use Rattle.bk_level.specs.Typings.{or_else}
 use Rattle.bk_sight.proofs.TermsSeen.{predicate-seen}
 use Rattle.bk_made.proofs.elaborated.predicate_form.Goals as goal

@@ -1,6 +1,6 @@
 use Rattle.std.proofs.Common.{◌∙◌, ap}
-use Rattle.bk_raw.specs.Outcome.{Outcome, ask}
-use Rattle.bk_raw.specs.TermReading.{place_of}
+use Rattle.bk_raw.specs.Meaning.Outcome.{Outcome, ask}
+use Rattle.bk_raw.specs.Meaning.TermReading.{place_of}
 use Rattle.bk_sight.proofs.TermsSeen.{term-seen}
 use Rattle.bk_made.proofs.elaborated.term_form.Goals as goal
 

@@ -1,7 +1,7 @@
 use Rattle.std.proofs.Common.{ap, refl, List, [], ◌∷◌}
 use Rattle.std.specs.Borrow.{Bor}
 use Rattle.bk_form.specs.Formula.{Formula}
-use Rattle.bk_raw.specs.RawTree.{RawTree}
+use Rattle.bk_raw.specs.Trees.RawTree.{RawTree}
 use Rattle.bk_elab.specs.Visible.{typing_of, visible_names}
 use Rattle.bk_level.specs.LevelOf.{all_stated}
 use Rattle.bk_sight.specs.Shown.{refs}

@@ -1,6 +1,6 @@
 use Rattle.std.proofs.Common.{ℕ, ◌∙◌, ap, [], ◌∷◌, ◌+◌, length, arith}
 use Rattle.std.specs.Borrow.{Bor}
-use Rattle.bk_raw.specs.ComponentTree.{RawOperation}
+use Rattle.bk_raw.specs.Trees.ComponentTree.{RawOperation}
 use Rattle.bk_level.specs.Plan.{machine_heads}
 use Rattle.bk_sight.specs.Shown.{refs}
 use Rattle.bk_sight.proofs.Making.{heads-more}

@@ -1,6 +1,6 @@
 use Rattle.std.proofs.Common.{ℕ, ◌∙◌, ap, refl, List, [], ◌∷◌, ◌++◌}
 use Rattle.bk_raw.specs.declared.term.RawName.{RawName}
-use Rattle.bk_raw.specs.Names.{level_name}
+use Rattle.bk_raw.specs.Meaning.Names.{level_name}
 use Rattle.bk_level.specs.Binders.{texts}
 use Rattle.bk_level.specs.LevelOf.{at_level}
 use Rattle.bk_sight.proofs.Making.{joined-more}

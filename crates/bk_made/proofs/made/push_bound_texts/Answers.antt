@@ -1,6 +1,6 @@
 use Rattle.std.proofs.Common.{◌∙◌, ap, sym, List, ◌++◌, map}
 use Rattle.std.proofs.lemmas.List.{append-nil}
-use Rattle.bk_raw.specs.ComponentTree.{RawOperation}
+use Rattle.bk_raw.specs.Trees.ComponentTree.{RawOperation}
 use Rattle.bk_level.specs.Binders.{binder_texts}
 use Rattle.bk_level.specs.LevelOf.{bound_texts}
 use Rattle.bk_level.specs.Plan.{Placed as PlacedMeant}

@@ -1,7 +1,7 @@
 use Rattle.std.proofs.Common.{◌∙◌, ap, List, ◌++◌, length, get_or, replicate, arith}
 use Rattle.std.specs.Borrow.{Bor}
 use Rattle.bk_dev.specs.declared.kind.Home.TheVariants.{Input}
-use Rattle.bk_raw.specs.ComponentTree.{RawOperation}
+use Rattle.bk_raw.specs.Trees.ComponentTree.{RawOperation}
 use Rattle.bk_level.specs.LevelOf.{input_texts, homes_as}
 use Rattle.bk_sight.specs.Shown.{refs}
 use Rattle.bk_sight.proofs.Making.{joined-more, inputs-home, inputs-replicated}

@@ -1,7 +1,7 @@
 use Rattle.std.proofs.Common.{◌∙◌, ap, sym, List, ◌++◌, length, get_or, arith}
 use Rattle.std.specs.Borrow.{Bor}
 use Rattle.std.proofs.lemmas.List.{append-nil}
-use Rattle.bk_raw.specs.ComponentTree.{RawOperation}
+use Rattle.bk_raw.specs.Trees.ComponentTree.{RawOperation}
 use Rattle.bk_raw.specs.declared.term.RawName.{RawName}
 use Rattle.bk_level.specs.Binders.{texts}
 use Rattle.bk_level.specs.LevelOf.{input_texts}

@@ -1,6 +1,6 @@
 use Rattle.std.proofs.Common.{◌∙◌, ap, sym, List, ◌++◌, map}
 use Rattle.std.proofs.lemmas.List.{append-nil}
-use Rattle.bk_raw.specs.ComponentTree.{RawOperation}
+use Rattle.bk_raw.specs.Trees.ComponentTree.{RawOperation}
 use Rattle.bk_raw.specs.declared.term.RawName.{RawName}
 use Rattle.bk_level.specs.Binders.{texts}
 use Rattle.bk_level.specs.LevelOf.{at_level, output_texts}

@@ -1,6 +1,6 @@
 use Rattle.std.proofs.Common.{ℕ, ◌≡◌, ◌<◌, ◌+◌, ap, refl, List, [], ◌∷◌, ◌++◌, length, get_or, drop, map}
 use Rattle.std.proofs.lemmas.List.{get_or_default}
-use Rattle.bk_raw.specs.Names.{level_name}
+use Rattle.bk_raw.specs.Meaning.Names.{level_name}
 use Rattle.bk_level.specs.LevelOf.{at_level}
 use Rattle.bk_level.specs.Plan.{declared_texts}
 use Rattle.bk_sight.specs.Shown.{declared_shown}

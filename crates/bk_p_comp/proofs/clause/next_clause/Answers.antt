@@ -1,6 +1,6 @@
 use Rattle.std.specs.Prelude.{Contains}
 use Rattle.std.proofs.Common.{◌≢◌, ◌∙◌, All, map, refl, sym, subst, rules}
-use Rattle.bk_raw.specs.ComponentTree.{ClauseParts, clause_number}
+use Rattle.bk_raw.specs.Trees.ComponentTree.{ClauseParts, clause_number}
 use Rattle.bk_p_expr.specs.Fronts.{Longest}
 use Rattle.bk_p_expr.proofs.Choices.{if_none, if_some}
 use Rattle.bk_p_comp.specs.Parts.{AreKept, Standing}

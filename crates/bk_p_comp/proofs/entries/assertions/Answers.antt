@@ -1,6 +1,6 @@
 use Rattle.std.proofs.Common.{subst, sym, rules}
-use Rattle.bk_raw.specs.RawTree.{RawTree, no_trees, trees_of}
-use Rattle.bk_raw.specs.Spelling.{Term}
+use Rattle.bk_raw.specs.Trees.RawTree.{RawTree, no_trees, trees_of}
+use Rattle.bk_raw.specs.Grammar.Spelling.{Term}
 use Rattle.bk_raw.proofs.ClauseRuns.{division-term}
 use Rattle.bk_p_expr.specs.Fronts.{Longest}
 use Rattle.bk_p_expr.specs.Pieces.{IsPiece, IsTerms}

@@ -1,6 +1,6 @@
 use Rattle.std.proofs.Common.{length}
-use Rattle.bk_raw.specs.RawTree.{trees_of}
-use Rattle.bk_raw.specs.Spelling.{Term}
+use Rattle.bk_raw.specs.Trees.RawTree.{trees_of}
+use Rattle.bk_raw.specs.Grammar.Spelling.{Term}
 use Rattle.bk_p_expr.specs.Pieces.{IsTerms}
 use Rattle.bk_p_comp.proofs.EntryRows.{EntriesSoFar}
 use Rattle.bk_p_comp.proofs.entries.assertions.Given as goal

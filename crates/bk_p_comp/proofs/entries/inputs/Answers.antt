@@ -1,6 +1,6 @@
 use Rattle.std.proofs.Common.{refl}
 use Rattle.bk_ops.specs.declared.sign.TheConstants.{CLOSE_PAREN, OPEN_PAREN}
-use Rattle.bk_raw.specs.Spelling.{Names}
+use Rattle.bk_raw.specs.Grammar.Spelling.{Names}
 use Rattle.bk_p_expr.specs.Fronts.{Longest}
 use Rattle.bk_p_expr.proofs.Choices.{if_none, if_some}
 use Rattle.bk_p_comp.proofs.Singles.{between_none_inside, between_none_last, inputs_fail, inputs_found, inputs_none}

@@ -1,6 +1,6 @@
-use Rattle.bk_raw.specs.ComponentSpelling.{Operation}
-use Rattle.bk_raw.specs.SubSpelling.{Sub}
-use Rattle.bk_raw.specs.SubTree.{SubTree}
+use Rattle.bk_raw.specs.Grammar.ComponentSpelling.{Operation}
+use Rattle.bk_raw.specs.Grammar.SubSpelling.{Sub}
+use Rattle.bk_raw.specs.Trees.SubTree.{SubTree}
 use Rattle.bk_p_expr.specs.Fronts.{Longest}
 use Rattle.bk_p_expr.proofs.Choices.{if_none, if_some}
 use Rattle.bk_p_sub.specs.Longest.{Left}

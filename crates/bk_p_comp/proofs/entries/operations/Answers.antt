@@ -1,6 +1,6 @@
 use Rattle.std.proofs.Common.{[], rules}
-use Rattle.bk_raw.specs.ComponentSpelling.{Operation}
-use Rattle.bk_raw.specs.SubTree.{SubTree}
+use Rattle.bk_raw.specs.Grammar.ComponentSpelling.{Operation}
+use Rattle.bk_raw.specs.Trees.SubTree.{SubTree}
 use Rattle.bk_raw.proofs.ClauseRuns.{operation-leads}
 use Rattle.bk_p_expr.specs.Fronts.{Longest}
 use Rattle.bk_p_expr.proofs.Choices.{if_none, if_some}

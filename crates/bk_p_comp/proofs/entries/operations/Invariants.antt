@@ -1,5 +1,5 @@
 use Rattle.std.proofs.Common.{length}
-use Rattle.bk_raw.specs.ComponentSpelling.{Operation}
+use Rattle.bk_raw.specs.Grammar.ComponentSpelling.{Operation}
 use Rattle.bk_p_comp.specs.Parts.{AreOperations}
 use Rattle.bk_p_comp.proofs.EntryRows.{EntriesSoFar}
 use Rattle.bk_p_comp.proofs.entries.operations.Given as goal

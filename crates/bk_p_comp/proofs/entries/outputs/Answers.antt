@@ -1,4 +1,4 @@
-use Rattle.bk_raw.specs.Spelling.{Names}
+use Rattle.bk_raw.specs.Grammar.Spelling.{Names}
 use Rattle.bk_p_expr.specs.Fronts.{Longest}
 use Rattle.bk_p_expr.proofs.Choices.{if_none, if_some}
 use Rattle.bk_p_comp.proofs.Singles.{outputs_found, outputs_none}

@@ -1,7 +1,7 @@
 use Rattle.std.proofs.Common.{◌≡◌, Some, refl}
 use Rattle.bk_ops.specs.declared.sign.TheConstants.{CLOSE_BRACE, OPEN_BRACE}
-use Rattle.bk_raw.specs.Reading.{name}
-use Rattle.bk_raw.specs.Spelling.{Names}
+use Rattle.bk_raw.specs.Grammar.Reading.{name}
+use Rattle.bk_raw.specs.Grammar.Spelling.{Names}
 use Rattle.bk_p_expr.specs.Fronts.{Longest}
 use Rattle.bk_p_expr.proofs.Choices.{if_none, if_some}
 use Rattle.bk_p_comp.proofs.Singles.{between_found, between_none, between_none_inside, between_none_last, set_found, set_none, set_none_behind, set_none_sign}

@@ -1,8 +1,8 @@
 use Rattle.std.proofs.Common.{◌≡◌, [], ◌∷◌, ◌++◌, ◌∙◌, List, ap, sym, subst}
 use Rattle.bk_form.specs.declared.token.Token.{Token}
 use Rattle.bk_ops.specs.declared.sign.TheConstants.{SEMICOLON}
-use Rattle.bk_raw.specs.ComponentTree.{RawSet}
-use Rattle.bk_raw.specs.Pieces.{Divided}
+use Rattle.bk_raw.specs.Trees.ComponentTree.{RawSet}
+use Rattle.bk_raw.specs.Grammar.Pieces.{Divided}
 use Rattle.bk_p_expr.specs.Fronts.{Longest}
 use Rattle.bk_p_expr.proofs.Choices.{if_none, if_some}
 use Rattle.bk_p_comp.specs.Entries.{CompleteSet}

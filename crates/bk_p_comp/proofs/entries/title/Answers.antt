@@ -1,5 +1,5 @@
 use Rattle.std.proofs.Common.{◌≡◌, Some}
-use Rattle.bk_raw.specs.Reading.{name}
+use Rattle.bk_raw.specs.Grammar.Reading.{name}
 use Rattle.bk_p_expr.proofs.Choices.{if_none, if_some}
 use Rattle.bk_p_comp.specs.Entries.{IsInputs, IsOutputs}
 use Rattle.bk_p_comp.proofs.Singles.{operation_none, operation_none_inputs, operation_none_name, title_left}

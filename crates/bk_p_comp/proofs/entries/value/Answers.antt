@@ -1,7 +1,7 @@
 use Rattle.std.proofs.Common.{◌≡◌, Some}
-use Rattle.bk_raw.specs.RawTree.{RawTree}
-use Rattle.bk_raw.specs.Reading.{name}
-use Rattle.bk_raw.specs.Spelling.{Spells}
+use Rattle.bk_raw.specs.Trees.RawTree.{RawTree}
+use Rattle.bk_raw.specs.Grammar.Reading.{name}
+use Rattle.bk_raw.specs.Grammar.Spelling.{Spells}
 use Rattle.bk_p_expr.specs.Fronts.{Longest}
 use Rattle.bk_p_expr.specs.Pieces.{IsPiece}
 use Rattle.bk_p_expr.proofs.Choices.{if_none, if_some}

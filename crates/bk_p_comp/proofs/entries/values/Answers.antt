@@ -1,6 +1,6 @@
 use Rattle.std.proofs.Common.{[], rules}
-use Rattle.bk_raw.specs.ComponentSpelling.{Value}
-use Rattle.bk_raw.specs.RawTree.{RawTree}
+use Rattle.bk_raw.specs.Grammar.ComponentSpelling.{Value}
+use Rattle.bk_raw.specs.Trees.RawTree.{RawTree}
 use Rattle.bk_raw.proofs.ClauseRuns.{value-leads}
 use Rattle.bk_p_expr.specs.Fronts.{Longest}
 use Rattle.bk_p_expr.specs.Pieces.{IsPiece}

@@ -1,5 +1,5 @@
 use Rattle.std.proofs.Common.{length}
-use Rattle.bk_raw.specs.ComponentSpelling.{Value}
+use Rattle.bk_raw.specs.Grammar.ComponentSpelling.{Value}
 use Rattle.bk_p_comp.specs.Parts.{AreValues}
 use Rattle.bk_p_comp.proofs.EntryRows.{EntriesSoFar}
 use Rattle.bk_p_comp.proofs.entries.values.Given as goal

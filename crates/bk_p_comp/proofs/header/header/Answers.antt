@@ -1,7 +1,7 @@
 use Rattle.std.proofs.Common.{◌≡◌, ◌≢◌, ◌∙◌, Some, None, ap, sym, subst, rules}
 use Rattle.bk_form.specs.declared.token.TokenKind.TheVariants.{Word}
-use Rattle.bk_raw.specs.ComponentTree.{kind_number}
-use Rattle.bk_raw.specs.Reading.{name}
+use Rattle.bk_raw.specs.Trees.ComponentTree.{kind_number}
+use Rattle.bk_raw.specs.Grammar.Reading.{name}
 use Rattle.bk_raw.specs.declared.component.ComponentKind.TheVariants.{Machine}
 use Rattle.bk_p_expr.proofs.Choices.{if_none, if_some}
 use Rattle.bk_p_comp.specs.Clauses.{IsHeaded}

@@ -1,9 +1,9 @@
 use Rattle.std.proofs.Common.{List, ap, arith, subst}
 use Rattle.bk_ops.specs.declared.sign.TheConstants.{SEMICOLON}
-use Rattle.bk_raw.specs.ComponentTree.{clause_terms}
-use Rattle.bk_raw.specs.Pieces.{Divided}
-use Rattle.bk_raw.specs.RawTree.{RawTree, trees_of}
-use Rattle.bk_raw.specs.Spelling.{Term}
+use Rattle.bk_raw.specs.Trees.ComponentTree.{clause_terms}
+use Rattle.bk_raw.specs.Grammar.Pieces.{Divided}
+use Rattle.bk_raw.specs.Trees.RawTree.{RawTree, trees_of}
+use Rattle.bk_raw.specs.Grammar.Spelling.{Term}
 use Rattle.bk_p_expr.specs.Fronts.{Longest}
 use Rattle.bk_p_expr.specs.Pieces.{IsTerms}
 use Rattle.bk_p_expr.proofs.Choices.{if_none, if_some}

@@ -1,8 +1,8 @@
 use Rattle.std.proofs.Common.{List, ap, subst}
 use Rattle.bk_ops.specs.declared.sign.TheConstants.{SEMICOLON}
-use Rattle.bk_raw.specs.ComponentSpelling.{Operation}
-use Rattle.bk_raw.specs.ComponentTree.{RawOperation, clause_operations}
-use Rattle.bk_raw.specs.Pieces.{Divided}
+use Rattle.bk_raw.specs.Grammar.ComponentSpelling.{Operation}
+use Rattle.bk_raw.specs.Trees.ComponentTree.{RawOperation, clause_operations}
+use Rattle.bk_raw.specs.Grammar.Pieces.{Divided}
 use Rattle.bk_p_expr.specs.Fronts.{Longest}
 use Rattle.bk_p_expr.proofs.Choices.{if_none, if_some}
 use Rattle.bk_p_comp.specs.Parts.{AreOperations}

@@ -1,5 +1,5 @@
 use Rattle.std.proofs.Common.{refl, arith}
-use Rattle.bk_raw.specs.ComponentTree.{clause_names}
+use Rattle.bk_raw.specs.Trees.ComponentTree.{clause_names}
 use Rattle.bk_p_expr.proofs.Choices.{if_none, if_some}
 use Rattle.bk_p_comp.proofs.Standings.{names_stand, no_names}
 use Rattle.bk_p_comp.proofs.parts.listed.Goals as goal

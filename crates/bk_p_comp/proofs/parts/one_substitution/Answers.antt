@@ -1,7 +1,7 @@
 use Rattle.std.proofs.Common.{◌∙◌, ap, arith, subst}
-use Rattle.bk_raw.specs.ComponentTree.{clause_sub}
-use Rattle.bk_raw.specs.SubSpelling.{Sub}
-use Rattle.bk_raw.specs.SubTree.{SubTree}
+use Rattle.bk_raw.specs.Trees.ComponentTree.{clause_sub}
+use Rattle.bk_raw.specs.Grammar.SubSpelling.{Sub}
+use Rattle.bk_raw.specs.Trees.SubTree.{SubTree}
 use Rattle.bk_p_expr.specs.Fronts.{Longest}
 use Rattle.bk_p_expr.proofs.Choices.{if_none, if_some}
 use Rattle.bk_p_sub.specs.Statements.{IsStatement}

@@ -1,7 +1,7 @@
 use Rattle.std.proofs.Common.{◌≡◌, ◌≤◌, List, [], length, ap, sym, subst, arith}
 use Rattle.std.proofs.lemmas.List.{length-append}
-use Rattle.bk_raw.specs.ComponentSpelling.{SpellsComponent}
-use Rattle.bk_raw.specs.ComponentTree.{RawClause}
+use Rattle.bk_raw.specs.Grammar.ComponentSpelling.{SpellsComponent}
+use Rattle.bk_raw.specs.Trees.ComponentTree.{RawClause}
 use Rattle.bk_p_expr.proofs.Choices.{if_none, if_some}
 use Rattle.bk_p_comp.specs.Clauses.{AreDone, AreKeptUnless, IsHeaded, ReadOn, clauses_height, headed}
 use Rattle.bk_p_comp.proofs.Whole.{component_no_header, component_no_end, component_more, component_whole, read_no_longer}

@@ -1,5 +1,5 @@
 use Rattle.std.proofs.Common.{◌≡◌, ◌≤◌, drop}
-use Rattle.bk_raw.specs.Bars.{bar_follows}
+use Rattle.bk_raw.specs.Grammar.Bars.{bar_follows}
 use Rattle.bk_p_expr.proofs.bars.has_bar.Given as goal
 
 abbrev pub invariant-loop-token : goal.invariant-loop-token

@@ -1,5 +1,5 @@
 use Rattle.std.proofs.Common.{◌≡◌, ◌+◌, ◌*◌, take}
-use Rattle.bk_raw.specs.RawTree.{trees_of, tree_size, trees_size, ranges_size}
+use Rattle.bk_raw.specs.Trees.RawTree.{trees_of, tree_size, trees_size, ranges_size}
 use Rattle.bk_raw.specs.Codes.RawView.{ranges_of}
 use Rattle.bk_p_expr.specs.Conjuncts.{free_names_of, free_names_of_ranges}
 use Rattle.bk_p_expr.proofs.free.+free.Given as goal

@@ -1,5 +1,5 @@
 use Rattle.std.proofs.Common.{◌≡◌, ◌<◌, length, arith, sym, subst}
-use Rattle.bk_raw.specs.Reading.{names}
+use Rattle.bk_raw.specs.Grammar.Reading.{names}
 use Rattle.bk_p_expr.proofs.Choices.{if_some}
 use Rattle.bk_p_expr.proofs.Lists.{put_all_before, names_goes_on}
 use Rattle.bk_p_expr.proofs.front.declared_names.Goals as goal

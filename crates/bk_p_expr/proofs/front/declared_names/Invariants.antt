@@ -1,5 +1,5 @@
 use Rattle.std.proofs.Common.{◌≡◌, ◌≤◌, length}
-use Rattle.bk_raw.specs.Reading.{names}
+use Rattle.bk_raw.specs.Grammar.Reading.{names}
 use Rattle.bk_p_expr.proofs.Lists.{put_all_before}
 use Rattle.bk_p_expr.proofs.front.declared_names.Given as goal
 

@@ -1,6 +1,6 @@
 use Rattle.std.proofs.Common.{◌∙◌}
 use Rattle.bk_ops.specs.declared.sign.TheConstants.{DOT, OPEN_PAREN}
-use Rattle.bk_raw.specs.Reading.{sign}
+use Rattle.bk_raw.specs.Grammar.Reading.{sign}
 use Rattle.bk_p_expr.proofs.Choices.{next_found}
 use Rattle.bk_p_expr.proofs.opening.behind_dot.Goals as goal
 

@@ -1,6 +1,6 @@
 use Rattle.std.proofs.Common.{◌≡◌, ◌∙◌, true, length, sym, arith, rules}
-use Rattle.bk_raw.specs.Bars.{bar_follows}
-use Rattle.bk_raw.specs.Reading.{at_byte, braces, read}
+use Rattle.bk_raw.specs.Grammar.Bars.{bar_follows}
+use Rattle.bk_raw.specs.Grammar.Reading.{at_byte, braces, read}
 use Rattle.bk_p_expr.specs.Openings.{named_set}
 use Rattle.bk_p_expr.proofs.Begun.{begins_same, empty_opens, named_same}
 use Rattle.bk_p_expr.proofs.opening.brace.Goals as goal

@@ -1,5 +1,5 @@
 use Rattle.std.proofs.Common.{◌++◌, subst, sym}
-use Rattle.bk_raw.specs.FreeNames.{conjuncts}
+use Rattle.bk_raw.specs.Trees.FreeNames.{conjuncts}
 use Rattle.bk_p_expr.specs.Conjuncts.{AreConjuncts}
 use Rattle.bk_p_expr.proofs.Known.{conjuncts_append}
 use Rattle.bk_p_expr.proofs.piece.conjunction.Goals as goal

@@ -1,5 +1,5 @@
 use Rattle.std.proofs.Common.{◌++◌, [], ◌∷◌, Some, ◌∙◌, ap, refl, sym, ℕ, ◌<◌}
-use Rattle.bk_raw.specs.RawTree.{raw, raw_infix, RawTree, tree_height}
+use Rattle.bk_raw.specs.Trees.RawTree.{raw, raw_infix, RawTree, tree_height}
 use Rattle.bk_raw.specs.declared.operator.InfixOp.TheVariants.{Equal}
 use Rattle.bk_p_expr.proofs.Choices.{ok_so}
 use Rattle.bk_p_expr.proofs.Known.{IsPlain, plain_equation, named_kept}

@@ -1,5 +1,5 @@
 use Rattle.std.proofs.Common.{◌<◌, ◌∙◌, sym, subst, ℕ}
-use Rattle.bk_raw.specs.RawTree.{raw, raw_infix, tree_height, RawTree}
+use Rattle.bk_raw.specs.Trees.RawTree.{raw, raw_infix, tree_height, RawTree}
 use Rattle.bk_p_expr.specs.Conjuncts.{names_beside}
 use Rattle.bk_p_expr.specs.Pieces.{IsPiece}
 use Rattle.bk_p_expr.proofs.Choices.{ok_so}

@@ -1,5 +1,5 @@
 use Rattle.std.proofs.Common.{◌≡◌, ◌≤◌, ◌∙◌, Some, ap, sym, subst}
-use Rattle.bk_raw.specs.RawTree.{tree_height}
+use Rattle.bk_raw.specs.Trees.RawTree.{tree_height}
 use Rattle.bk_p_expr.specs.Conjuncts.{name_alone}
 use Rattle.bk_p_expr.specs.Pieces.{IsPiece}
 use Rattle.bk_p_expr.proofs.Heights.{is_built, high_piece}

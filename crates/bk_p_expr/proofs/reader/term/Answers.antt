@@ -1,6 +1,6 @@
 use Rattle.std.proofs.Common.{◌≡◌, ◌≤◌, length, drop, refl, ap, arith, subst}
 use Rattle.std.proofs.lemmas.Grind.{common_steps}
-use Rattle.bk_raw.specs.Limits.{IsShallow}
+use Rattle.bk_raw.specs.Errors.Limits.{IsShallow}
 use Rattle.bk_p_expr.proofs.Choices.{if_none, if_some}
 use Rattle.bk_p_expr.proofs.Heights.{is_built}
 use Rattle.bk_p_expr.proofs.Places.{term_found, term_high, term_none}

@@ -1,7 +1,7 @@
 use Rattle.std.proofs.Common.{◌≡◌, ◌-◌, ◌<◌, ◌∙◌, [], Some, true, false, length, sym, subst, refl, arith, rules}
 use Rattle.bk_ops.specs.declared.sign.TheConstants.{CLOSE_PAREN}
-use Rattle.bk_raw.specs.RawTree.{RawTree, raw, raw_lambda, raw_ranged_lambda}
-use Rattle.bk_raw.specs.Reading.{begins_with, read, sign, start}
+use Rattle.bk_raw.specs.Trees.RawTree.{RawTree, raw, raw_lambda, raw_ranged_lambda}
+use Rattle.bk_raw.specs.Grammar.Reading.{begins_with, read, sign, start}
 use Rattle.bk_p_expr.specs.Found.{FindsRanges, Reads}
 use Rattle.bk_p_expr.specs.Openings.{enclosed, listed, primary, unsigned, valued}
 use Rattle.bk_p_expr.specs.Pieces.{IsPiece, around_node}

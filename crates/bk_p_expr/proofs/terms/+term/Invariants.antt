@@ -1,5 +1,5 @@
 use Rattle.std.proofs.Common.{◌≡◌, ◌+◌, ◌*◌, length}
-use Rattle.bk_raw.specs.Reading.{start}
+use Rattle.bk_raw.specs.Grammar.Reading.{start}
 use Rattle.bk_p_expr.specs.Openings.{unsigned}
 use Rattle.bk_p_expr.proofs.Enclosed.{EnclosedSoFar}
 use Rattle.bk_p_expr.proofs.Lists.{TermsSoFar, RangesSoFar}

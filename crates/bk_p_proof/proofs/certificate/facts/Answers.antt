@@ -1,6 +1,6 @@
 use Rattle.std.proofs.Common.{◌++◌, [], ◌∷◌, ap, sym, subst, ◌∙◌, arith}
 use Rattle.bk_ops.specs.declared.sign.TheConstants.{COMMA}
-use Rattle.bk_raw.specs.Pieces.{AnyDivided, Digits}
+use Rattle.bk_raw.specs.Grammar.Pieces.{AnyDivided, Digits}
 use Rattle.bk_p_expr.specs.Fronts.{Longest}
 use Rattle.bk_p_proof.proofs.Certificates.{FactsSoFar, facts_none, facts_begin, facts_go_on, facts_end, facts_end_before}
 use Rattle.bk_p_proof.proofs.certificate.facts.Goals as goal

@@ -1,6 +1,6 @@
 use Rattle.std.proofs.Common.{rules, ◌≡◌, ◌-ℤ◌, neg_ℤ, pos, to_z, of_z, sym, subst}
 use Rattle.std.specs.Int.{w128}
-use Rattle.bk_raw.specs.Pieces.{Literal}
+use Rattle.bk_raw.specs.Grammar.Pieces.{Literal}
 use Rattle.bk_p_expr.specs.Fronts.{Longest}
 use Rattle.bk_p_proof.proofs.Certificates.{literal_plain, literal_minus, literal_none, literal_none_behind}
 use Rattle.bk_p_proof.proofs.certificate.literal.Goals as goal

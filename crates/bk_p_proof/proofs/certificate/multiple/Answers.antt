@@ -1,6 +1,6 @@
 use Rattle.std.proofs.Common.{rules, ◌≡◌, to_z, of_z, sym, subst}
 use Rattle.std.specs.Int.{w128}
-use Rattle.bk_raw.specs.ScriptSpelling.{Multiple}
+use Rattle.bk_raw.specs.Grammar.ScriptSpelling.{Multiple}
 use Rattle.bk_p_expr.specs.Fronts.{Longest}
 use Rattle.bk_p_proof.proofs.Certificates.{multiple_found, multiple_no_first, multiple_no_second}
 use Rattle.bk_p_proof.proofs.certificate.multiple.Goals as goal

@@ -1,6 +1,6 @@
 use Rattle.std.proofs.Common.{◌≡◌, ◌∙◌, All, inl, inr, sym, subst, ap}
 use Rattle.bk_p_expr.proofs.Choices.{if_none, if_some}
-use Rattle.bk_raw.specs.Places.{IsScriptFault, byte_at}
+use Rattle.bk_raw.specs.Errors.Places.{IsScriptFault, byte_at}
 use Rattle.bk_p_proof.specs.Spelled.{IsMisspelled}
 use Rattle.bk_p_proof.specs.TypedNames.{AreOfOneType, IsSecondType, script_names}
 use Rattle.bk_p_proof.proofs.FileSteps.{typed_over, second_over}

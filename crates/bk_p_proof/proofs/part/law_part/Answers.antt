@@ -1,5 +1,5 @@
 use Rattle.std.proofs.Common.{subst}
-use Rattle.bk_raw.specs.RawTree.{trees_of}
+use Rattle.bk_raw.specs.Trees.RawTree.{trees_of}
 use Rattle.bk_p_expr.specs.Pieces.{IsTerms}
 use Rattle.bk_p_proof.proofs.PartKinds.{law_kept, law_too_high}
 use Rattle.bk_p_proof.proofs.part.law_part.Goals as goal

@@ -1,5 +1,5 @@
 use Rattle.std.proofs.Common.{rules}
-use Rattle.bk_raw.specs.ScriptTree.{part_typed}
+use Rattle.bk_raw.specs.Trees.ScriptTree.{part_typed}
 use Rattle.bk_p_expr.proofs.Choices.{if_none, if_some}
 use Rattle.bk_p_proof.proofs.PartKinds.{typed_found, typed_nothing}
 use Rattle.bk_p_proof.proofs.part.names.Goals as goal

@@ -1,5 +1,5 @@
 use Rattle.std.proofs.Common.{rules}
-use Rattle.bk_raw.specs.ScriptTree.{part_certificate}
+use Rattle.bk_raw.specs.Trees.ScriptTree.{part_certificate}
 use Rattle.bk_p_expr.proofs.Choices.{if_none, if_some}
 use Rattle.bk_p_proof.proofs.PartKinds.{certificate_part_found, certificate_nothing}
 use Rattle.bk_p_proof.proofs.part.one_certificate.Goals as goal

@@ -1,4 +1,4 @@
-use Rattle.bk_raw.specs.ScriptTree.{part_law}
+use Rattle.bk_raw.specs.Trees.ScriptTree.{part_law}
 use Rattle.bk_p_expr.proofs.Choices.{if_none, if_some}
 use Rattle.bk_p_proof.proofs.PartKinds.{law_part_found, law_nothing}
 use Rattle.bk_p_proof.proofs.part.one_law.Goals as goal

@@ -1,5 +1,5 @@
 use Rattle.std.proofs.Common.{rules}
-use Rattle.bk_raw.specs.ScriptTree.{part_number}
+use Rattle.bk_raw.specs.Trees.ScriptTree.{part_number}
 use Rattle.bk_p_proof.proofs.PartKinds.{number_found, number_nothing}
 use Rattle.bk_p_proof.proofs.part.one_number.Goals as goal
 

@@ -1,4 +1,4 @@
-use Rattle.bk_raw.specs.ScriptTree.{part_term}
+use Rattle.bk_raw.specs.Trees.ScriptTree.{part_term}
 use Rattle.bk_p_expr.proofs.Choices.{if_none, if_some}
 use Rattle.bk_p_proof.proofs.PartKinds.{term_found, term_nothing}
 use Rattle.bk_p_proof.proofs.part.one_term.Goals as goal

@@ -1,6 +1,6 @@
 use Rattle.std.proofs.Common.{sym, ap, subst, IfOk, MatchOption}
-use Rattle.bk_raw.specs.ScriptTree.{RulePart as WrittenPart, PartKind}
-use Rattle.bk_raw.specs.ScriptSpelling.{Spelled}
+use Rattle.bk_raw.specs.Trees.ScriptTree.{RulePart as WrittenPart, PartKind}
+use Rattle.bk_raw.specs.Grammar.ScriptSpelling.{Spelled}
 use Rattle.bk_raw.specs.Codes.ScriptView.{part_of}
 use Rattle.bk_p_expr.specs.Fronts.{Longest, Nothing}
 use Rattle.bk_p_proof.specs.Kept.{IsPart}

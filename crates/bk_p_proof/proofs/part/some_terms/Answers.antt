@@ -1,4 +1,4 @@
-use Rattle.bk_raw.specs.ScriptTree.{part_terms}
+use Rattle.bk_raw.specs.Trees.ScriptTree.{part_terms}
 use Rattle.bk_p_expr.proofs.Choices.{if_none, if_some}
 use Rattle.bk_p_proof.proofs.PartKinds.{terms_found, terms_nothing}
 use Rattle.bk_p_proof.proofs.part.some_terms.Goals as goal

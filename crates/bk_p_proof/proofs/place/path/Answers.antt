@@ -1,5 +1,5 @@
 use Rattle.std.proofs.Common.{sym, subst}
-use Rattle.bk_raw.specs.Pieces.{Digits}
+use Rattle.bk_raw.specs.Grammar.Pieces.{Digits}
 use Rattle.bk_p_proof.proofs.Places.{RowTo, path_none, path_more, path_longest, path_shorter}
 use Rattle.bk_p_proof.proofs.place.path.Goals as goal
 

@@ -1,5 +1,5 @@
 use Rattle.std.proofs.Common.{length}
-use Rattle.bk_raw.specs.Pieces.{Digits}
+use Rattle.bk_raw.specs.Grammar.Pieces.{Digits}
 use Rattle.bk_p_proof.proofs.Places.{RowTo}
 use Rattle.bk_p_proof.proofs.place.path.Given as goal
 

@@ -1,6 +1,6 @@
 use Rattle.std.proofs.Common.{List, map, subst}
-use Rattle.bk_raw.specs.ScriptTree.{PartKind}
-use Rattle.bk_raw.specs.ScriptSpelling.{Ruled}
+use Rattle.bk_raw.specs.Trees.ScriptTree.{PartKind}
+use Rattle.bk_raw.specs.Grammar.ScriptSpelling.{Ruled}
 use Rattle.bk_raw.specs.Codes.ScriptView.{part_of}
 use Rattle.bk_p_expr.specs.Fronts.{Longest}
 use Rattle.bk_p_expr.proofs.Choices.{if_some}

@@ -1,4 +1,4 @@
-use Rattle.bk_raw.specs.Reading.{start}
+use Rattle.bk_raw.specs.Grammar.Reading.{start}
 use Rattle.bk_p_expr.proofs.Choices.{if_some}
 use Rattle.bk_p_proof.proofs.ScriptRead.{script_found, script_kept}
 use Rattle.bk_p_proof.proofs.script.open_script.Goals as goal

@@ -1,6 +1,6 @@
 use Rattle.std.proofs.Common.{rules, ◌∙◌, ap, sym, subst, IfOk, MatchOption}
 use Rattle.bk_form.specs.declared.token.TokenKind.TheVariants.{Sign, Word}
-use Rattle.bk_raw.specs.Spelling.{Typed}
+use Rattle.bk_raw.specs.Grammar.Spelling.{Typed}
 use Rattle.bk_p_expr.specs.Fronts.{Longest, Nothing}
 use Rattle.bk_p_expr.proofs.Choices.{if_none, if_some}
 use Rattle.bk_p_proof.proofs.TypeKinds.{no_type_empty, no_type_other, no_type_word, no_type_sign, integer_found, bool_found, set_found, power_found, power_no_open, power_no_inside, power_no_close, product_found, product_no_left, product_no_times, product_no_right, product_no_close}

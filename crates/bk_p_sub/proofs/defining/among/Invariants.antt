@@ -1,5 +1,5 @@
 use Rattle.std.proofs.Common.{◌≡◌, drop}
-use Rattle.bk_raw.specs.FreeNames.{is_among}
+use Rattle.bk_raw.specs.Trees.FreeNames.{is_among}
 use Rattle.bk_p_sub.proofs.defining.among.Given as goal
 
 abbrev pub invariant-loop-other : goal.invariant-loop-other

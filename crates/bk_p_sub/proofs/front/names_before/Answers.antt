@@ -1,5 +1,5 @@
 use Rattle.bk_form.specs.declared.token.TokenKind.TheVariants.{Word}
-use Rattle.bk_raw.specs.Spelling.{Names}
+use Rattle.bk_raw.specs.Grammar.Spelling.{Names}
 use Rattle.bk_p_expr.proofs.Choices.{if_none, if_some}
 use Rattle.bk_p_sub.proofs.Fronts.{before_there, names_not_before}
 use Rattle.bk_p_sub.proofs.Openings.{none_before}

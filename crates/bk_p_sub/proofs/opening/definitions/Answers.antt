@@ -1,9 +1,9 @@
 use Rattle.std.proofs.Common.{◌<◌, length, refl, arith, subst}
 use Rattle.bk_form.specs.declared.token.TokenKind.TheVariants.{Word}
 use Rattle.bk_ops.specs.declared.word.TheConstants.{BE, IN}
-use Rattle.bk_raw.specs.FreeNames.{Defines}
-use Rattle.bk_raw.specs.Spelling.{Names}
-use Rattle.bk_raw.specs.SubTree.{sub_let}
+use Rattle.bk_raw.specs.Trees.FreeNames.{Defines}
+use Rattle.bk_raw.specs.Grammar.Spelling.{Names}
+use Rattle.bk_raw.specs.Trees.SubTree.{sub_let}
 use Rattle.bk_p_expr.proofs.Choices.{if_none, if_some}
 use Rattle.bk_p_sub.specs.Found.{Before, FoundBefore}
 use Rattle.bk_p_sub.proofs.Openings.{let_opens, let_nothing, let_nothing_behind, let_not_defining}

@@ -1,6 +1,6 @@
 use Rattle.std.proofs.Common.{◌∙◌, sym, refl}
 use Rattle.bk_form.specs.declared.token.TokenKind.TheVariants.{Word}
-use Rattle.bk_raw.specs.SubTree.{sub, sub_skip, sub_begin}
+use Rattle.bk_raw.specs.Trees.SubTree.{sub, sub_skip, sub_begin}
 use Rattle.bk_p_sub.proofs.Openings.{skip_found, begin_opens, choice_opens}
 use Rattle.bk_p_sub.proofs.Words.{no_atom_word}
 use Rattle.bk_p_sub.proofs.opening.opening_by.Goals as goal

@@ -1,8 +1,8 @@
 use Rattle.std.proofs.Common.{◌<◌, length, refl, arith}
 use Rattle.bk_form.specs.declared.token.TokenKind.TheVariants.{Word}
 use Rattle.bk_ops.specs.declared.word.TheConstants.{WHERE, THEN}
-use Rattle.bk_raw.specs.Spelling.{Names}
-use Rattle.bk_raw.specs.SubTree.{sub_any}
+use Rattle.bk_raw.specs.Grammar.Spelling.{Names}
+use Rattle.bk_raw.specs.Trees.SubTree.{sub_any}
 use Rattle.bk_p_expr.proofs.Choices.{if_none, if_some}
 use Rattle.bk_p_sub.specs.Found.{Before, FoundBefore}
 use Rattle.bk_p_sub.proofs.Openings.{any_opens, any_nothing, any_nothing_behind}

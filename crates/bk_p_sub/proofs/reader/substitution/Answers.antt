@@ -1,6 +1,6 @@
 use Rattle.std.proofs.Common.{◌≡◌, ◌≤◌, ◌<◌, ◌-◌, ◌∙◌, length, drop, refl, arith, subst, sym}
 use Rattle.std.proofs.lemmas.Grind.{common_steps}
-use Rattle.bk_raw.specs.SubTree.{sub_height}
+use Rattle.bk_raw.specs.Trees.SubTree.{sub_height}
 use Rattle.bk_p_expr.proofs.Choices.{if_none, if_some}
 use Rattle.bk_p_sub.specs.Faults.{IsLongestFrom}
 use Rattle.bk_p_sub.specs.Statements.{IsStatement}

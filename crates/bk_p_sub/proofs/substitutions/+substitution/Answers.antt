@@ -1,11 +1,11 @@
 use Rattle.std.proofs.Common.{refl, rules, subst, arith}
 use Rattle.bk_form.specs.declared.token.TokenKind.TheVariants.{Word}
 use Rattle.bk_ops.specs.declared.word.TheConstants.{THEN}
-use Rattle.bk_raw.specs.Pieces.{◌⌢◌}
-use Rattle.bk_raw.specs.RawTree.{RawTree}
-use Rattle.bk_raw.specs.Reading.{start}
-use Rattle.bk_raw.specs.SubTree.{SubTree, sub, sub_choice, sub_while, Branches, Choices}
-use Rattle.bk_raw.specs.SubSpelling.{Sub}
+use Rattle.bk_raw.specs.Grammar.Pieces.{◌⌢◌}
+use Rattle.bk_raw.specs.Trees.RawTree.{RawTree}
+use Rattle.bk_raw.specs.Grammar.Reading.{start}
+use Rattle.bk_raw.specs.Trees.SubTree.{SubTree, sub, sub_choice, sub_while, Branches, Choices}
+use Rattle.bk_raw.specs.Grammar.SubSpelling.{Sub}
 use Rattle.bk_p_expr.proofs.Choices.{if_none, if_some}
 use Rattle.bk_p_sub.specs.Longest.{Left}
 use Rattle.bk_p_sub.specs.Found.{Ahead, NotAhead, Atom, BranchesEnd, ChoicesEnd, FoundBefore, LoopEnd, Opens}

@@ -1,6 +1,6 @@
 use Rattle.std.proofs.Common.{◌+◌, ◌*◌, length}
 use Rattle.bk_ops.specs.declared.sign.TheConstants.{SEMICOLON, PARALLEL}
-use Rattle.bk_raw.specs.SubTree.{sub_sequence, sub_parallel}
+use Rattle.bk_raw.specs.Trees.SubTree.{sub_sequence, sub_parallel}
 use Rattle.bk_p_sub.specs.Statements.{word_of}
 use Rattle.bk_p_sub.proofs.Joined.{JoinedSoFar}
 use Rattle.bk_p_sub.proofs.Tails.{BranchesSoFar, ChoicesSoFar}

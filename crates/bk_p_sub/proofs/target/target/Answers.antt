@@ -1,8 +1,8 @@
 use Rattle.std.proofs.Common.{[], ◌∷◌, subst}
-use Rattle.bk_raw.specs.RawTree.{RawTree}
-use Rattle.bk_raw.specs.Reading.{start}
-use Rattle.bk_raw.specs.Spelling.{Names, Spells}
-use Rattle.bk_raw.specs.SubTree.{sub, sub_assign, sub_assign_at, sub_member, sub_such}
+use Rattle.bk_raw.specs.Trees.RawTree.{RawTree}
+use Rattle.bk_raw.specs.Grammar.Reading.{start}
+use Rattle.bk_raw.specs.Grammar.Spelling.{Names, Spells}
+use Rattle.bk_raw.specs.Trees.SubTree.{sub, sub_assign, sub_assign_at, sub_member, sub_such}
 use Rattle.bk_p_expr.specs.Fronts.{Longest}
 use Rattle.bk_p_expr.proofs.Choices.{if_none, if_some}
 use Rattle.bk_p_sub.specs.Found.{FoundEnclosed, FoundTerms}

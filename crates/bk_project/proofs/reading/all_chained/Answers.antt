@@ -1,5 +1,5 @@
 use Rattle.std.proofs.Common.{◌≡◌, ◌<◌, ◌∙◌, List, ℕ, suc, Option, true, false, length, get_or, inl, inr, refl, sym, subst, ap, arith}
-use Rattle.bk_raw.specs.ComponentTree.{RawComponent}
+use Rattle.bk_raw.specs.Trees.ComponentTree.{RawComponent}
 use Rattle.bk_files.proofs.FileSteps.{bytes_of, read_counted}
 use Rattle.bk_project.specs.declared.project_file.LineKind.{LineKind}
 use Rattle.bk_project.specs.declared.project_file.LineKind.TheVariants.{Machine}

@@ -1,6 +1,6 @@
 use Rattle.std.proofs.Common.{◌≡◌, ◌<◌, ◌≤◌, ◌∙◌, List, ℕ, take, length, inl, inr, refl, rules, sym, subst, ap, arith}
 use Rattle.bk_form.specs.declared.token.Token.{Token}
-use Rattle.bk_raw.specs.Places.{IsComponentFault, byte_at}
+use Rattle.bk_raw.specs.Errors.Places.{IsComponentFault, byte_at}
 use Rattle.bk_p_comp.specs.Faults.{IsFaultOfComponent}
 use Rattle.bk_files.specs.Files.{IsShallowText, Has}
 use Rattle.bk_files.proofs.FileSteps.{bytes_of, tokens_of, at_text, at_file, past_texts, files_counted, first_text}

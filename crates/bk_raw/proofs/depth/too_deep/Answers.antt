@@ -1,5 +1,5 @@
 use Rattle.std.proofs.Common.{◌≡◌, ◌+◌, take, arith}
-use Rattle.bk_raw.specs.Brackets.{opens_bracket, closes_bracket, opens_block, closes_block, open_brackets, open_blocks}
+use Rattle.bk_raw.specs.Grammar.Brackets.{opens_bracket, closes_bracket, opens_block, closes_block, open_brackets, open_blocks}
 use Rattle.bk_raw.proofs.Counting.{count_step, within_more}
 use Rattle.bk_raw.proofs.depth.too_deep.Goals as goal
 use Rattle.bk_raw.proofs.depth.too_deep.Goals.{then-brackets-gt-MOST_OPEN-via-then-brackets-gt-MOST_OPEN, then-brackets-gt-MOST_OPEN-via-else-brackets-gt-MOST_OPEN+then-blocks-gt-MOST_OPEN}

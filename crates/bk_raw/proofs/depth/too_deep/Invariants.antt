@@ -1,6 +1,6 @@
 use Rattle.std.proofs.Common.{◌≡◌, ℕ, ◌≤◌, take}
-use Rattle.bk_raw.specs.Brackets.{open_brackets, open_blocks}
-use Rattle.bk_raw.specs.Limits.{IsWithinDepth}
+use Rattle.bk_raw.specs.Grammar.Brackets.{open_brackets, open_blocks}
+use Rattle.bk_raw.specs.Errors.Limits.{IsWithinDepth}
 use Rattle.bk_raw.proofs.depth.too_deep.Given as goal
 
 abbrev pub invariant-loop-place : goal.invariant-loop-place

@@ -1,4 +1,4 @@
-use Rattle.bk_raw.specs.Built.{IsVisible}
+use Rattle.bk_raw.specs.Meaning.Built.{IsVisible}
 use Rattle.bk_raw.proofs.ReadingBuilt.{reading-has, visible-built}
 use Rattle.bk_raw.proofs.readings.readings_name_visible.Goals as goal
 

@@ -2,7 +2,7 @@ use Rattle.std.proofs.Common.{◌≡◌, refl, ap, arith, inl, inr}
 use Rattle.std.specs.Prelude.{codes, Option, Some}
 use Rattle.bk_val.specs.ValueType.{ValueType, int_type, pair_type, set_type}
 use Rattle.bk_form.specs.Formula.{variable}
-use Rattle.bk_raw.specs.Names.{seen}
+use Rattle.bk_raw.specs.Meaning.Names.{seen}
 use Rattle.bk_show.specs.Stands.{Stands}
 use Rattle.std.specs.Fmt.{digits}
 use Rattle.bk_show.specs.Examples.{table, scope, sample}

@@ -1,6 +1,6 @@
 use Rattle.std.proofs.Common.{drop, ◌++◌, ◌≡◌}
 use Rattle.bk_elab.specs.Visible.{visible_names}
-use Rattle.bk_raw.specs.ScopeReading.{element_names}
+use Rattle.bk_raw.specs.Meaning.ScopeReading.{element_names}
 use Rattle.bk_sight.proofs.above.push_elements.Given as goal
 
 abbrev pub invariant-loop-index : goal.invariant-loop-index

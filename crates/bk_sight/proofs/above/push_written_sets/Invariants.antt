@@ -2,7 +2,7 @@ use Rattle.std.proofs.Common.{drop, ◌+◌, ◌++◌, ◌≡◌}
 use Rattle.bk_elab.specs.Visible.{visible_names}
 use Rattle.bk_level.specs.Plan.{entries_of}
 use Rattle.bk_sight.specs.Shown.{refs}
-use Rattle.bk_raw.specs.ScopeReading.{set_names}
+use Rattle.bk_raw.specs.Meaning.ScopeReading.{set_names}
 use Rattle.bk_sight.proofs.above.push_written_sets.Given as goal
 
 abbrev pub invariant-loop-index : goal.invariant-loop-index

@@ -1,7 +1,7 @@
 use Rattle.std.proofs.Common.{◌*◌, ◌+◌}
 use Rattle.std.specs.Option.{option_copied}
 use Rattle.bk_sight.specs.Shown.{branches_shown}
-use Rattle.bk_raw.specs.SubTree.{branches_size, choices_size, sub_size}
+use Rattle.bk_raw.specs.Trees.SubTree.{branches_size, choices_size, sub_size}
 use Rattle.bk_raw.specs.Codes.SubView.{choices_of}
 use Rattle.bk_sight.proofs.binders.+counting.Given as goal
 

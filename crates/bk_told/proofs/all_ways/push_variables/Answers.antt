@@ -2,7 +2,7 @@ use Rattle.std.proofs.Common.{◌≡◌, ◌++◌, ap, ◌∙◌, ◌≤◌, sub
 use Rattle.std.specs.Option.{option_copied, option_map}
 use Rattle.std.specs.Borrow.{Bor}
 use Rattle.bk_raw.specs.declared.term.RawName.{RawName}
-use Rattle.bk_raw.specs.Names.{Names}
+use Rattle.bk_raw.specs.Meaning.Names.{Names}
 use Rattle.bk_elab.specs.declared.sight.Visible.{Visible}
 use Rattle.bk_elab.specs.Visible.{visible_names}
 use Rattle.bk_level.specs.LevelOf.{variable_ways}

@@ -1,5 +1,5 @@
 use Rattle.std.proofs.Common.{◌≡◌, ◌+◌, ◌*◌, take}
-use Rattle.bk_raw.specs.RawTree.{tree_size, trees_size, trees_of}
+use Rattle.bk_raw.specs.Trees.RawTree.{tree_size, trees_size, trees_of}
 use Rattle.bk_told.proofs.same.+same.Given as goal
 
 abbrev pub decreases-is_same_term : goal.decreases-is_same_term

@@ -1,6 +1,6 @@
 use Rattle.std.proofs.Common.{◌+◌, ◌*◌}
 use Rattle.std.specs.Option.{option_copied}
-use Rattle.bk_raw.specs.SubTree.{sub_size, branches_size, choices_size}
+use Rattle.bk_raw.specs.Trees.SubTree.{sub_size, branches_size, choices_size}
 use Rattle.bk_raw.specs.Codes.SubView.{choices_of}
 use Rattle.bk_sight.specs.Shown.{branches_shown}
 use Rattle.bk_told.proofs.ways.+first.Given as goal

@@ -1,5 +1,5 @@
 use Rattle.std.proofs.Common.{◌≡◌, ◌+◌, ℕ, suc, sym, ap, ◌∙◌, drop, arith}
-use Rattle.bk_raw.specs.RawTree.{trees_of}
+use Rattle.bk_raw.specs.Trees.RawTree.{trees_of}
 use Rattle.bk_elab.specs.Visible.{visible_names}
 use Rattle.bk_level.specs.Ways.{among_terms}
 use Rattle.bk_told.proofs.Among.{among-step}

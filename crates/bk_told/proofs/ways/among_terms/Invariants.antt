@@ -1,6 +1,6 @@
 use Rattle.std.proofs.Common.{◌≡◌, drop}
 use Rattle.bk_elab.specs.Visible.{visible_names}
-use Rattle.bk_raw.specs.RawTree.{trees_of}
+use Rattle.bk_raw.specs.Trees.RawTree.{trees_of}
 use Rattle.bk_level.specs.Ways.{among_terms}
 use Rattle.bk_told.proofs.ways.among_terms.Given as goal
 

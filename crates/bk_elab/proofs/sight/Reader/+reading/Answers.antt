@@ -12,10 +12,10 @@ use Rattle.bk_elab.specs.declared.binder.Ranged.{Ranged}
 use Rattle.bk_elab.specs.declared.form.TwoParts.TheVariants.{Infix}
 use Rattle.bk_elab.specs.declared.outcome.Step.{Step}
 use Rattle.bk_elab.specs.declared.sight.Local.{Local}
-use Rattle.bk_raw.specs.Binders.{with_conjunct, bound_names}
-use Rattle.bk_raw.specs.FreeNames.{conjuncts}
-use Rattle.bk_raw.specs.Outcome.{Reading}
-use Rattle.bk_raw.specs.TermReading.{place_of}
+use Rattle.bk_raw.specs.Meaning.Binders.{with_conjunct, bound_names}
+use Rattle.bk_raw.specs.Trees.FreeNames.{conjuncts}
+use Rattle.bk_raw.specs.Meaning.Outcome.{Reading}
+use Rattle.bk_raw.specs.Meaning.TermReading.{place_of}
 use Rattle.bk_raw.specs.declared.operator.InfixOp.TheVariants.{And}
 use Rattle.std.proofs.Common.{◌≡◌, List, drop, sym, ◌∙◌, ap, subst, rules, arith, length, not, ◌&&◌, ℕ, IfOk, ◌++◌, []}
 use Rattle.std.proofs.lemmas.List.{take_rest}

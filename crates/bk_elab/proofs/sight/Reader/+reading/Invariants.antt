@@ -1,10 +1,10 @@
 use Rattle.std.proofs.Common.{◌≡◌, ◌+◌, ◌*◌, ◌++◌, suc, drop}
-use Rattle.bk_raw.specs.Names.{count_locals}
-use Rattle.bk_raw.specs.Printed.{printed_ranges, wrong_ranges}
-use Rattle.bk_raw.specs.RawTree.{tree_size, trees_size, ranges_size, trees_of}
+use Rattle.bk_raw.specs.Meaning.Names.{count_locals}
+use Rattle.bk_raw.specs.Meaning.Printed.{printed_ranges, wrong_ranges}
+use Rattle.bk_raw.specs.Trees.RawTree.{tree_size, trees_size, ranges_size, trees_of}
 use Rattle.bk_raw.specs.Codes.RawView.{ranges_of}
-use Rattle.bk_raw.specs.TermReading.{extension_reading, range_reads}
-use Rattle.bk_raw.specs.Blame.{blame, earlier}
+use Rattle.bk_raw.specs.Meaning.TermReading.{extension_reading, range_reads}
+use Rattle.bk_raw.specs.Errors.Blame.{blame, earlier}
 use Rattle.bk_elab.specs.Shown.{told}
 use Rattle.bk_elab.specs.Sights.{around_of, names_of, ranges_as, Stands}
 use Rattle.bk_elab.proofs.Elements.{SetSoFar}

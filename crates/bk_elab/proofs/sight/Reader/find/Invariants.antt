@@ -1,5 +1,5 @@
 use Rattle.std.proofs.Common.{◌≡◌, ◌-◌, length, take}
-use Rattle.bk_raw.specs.Names.{found}
+use Rattle.bk_raw.specs.Meaning.Names.{found}
 use Rattle.bk_elab.specs.Sights.{names_of, outer_names}
 use Rattle.bk_elab.proofs.Sighted.{before}
 use Rattle.bk_elab.proofs.sight.Reader.find.Given as goal

@@ -1,5 +1,5 @@
 use Rattle.std.proofs.Common.{◌≡◌, take}
-use Rattle.bk_raw.specs.Printed.{printed_bounds}
+use Rattle.bk_raw.specs.Meaning.Printed.{printed_bounds}
 use Rattle.bk_elab.specs.Sights.{bounds_of, names_of}
 use Rattle.bk_elab.proofs.sight.Reader.numbered_bounds.Given as goal
 

@@ -1,8 +1,8 @@
 use Rattle.std.proofs.Common.{◌≡◌, List, drop, ◌++◌, sym, ◌∙◌, ap}
 use Rattle.std.proofs.lemmas.List.{take_rest}
-use Rattle.bk_raw.specs.Binders.{untyped_faults, all_typed, types_of, where_typed, if_holding}
-use Rattle.bk_raw.specs.Outcome.{holding}
-use Rattle.bk_raw.specs.Blame.{blame}
+use Rattle.bk_raw.specs.Meaning.Binders.{untyped_faults, all_typed, types_of, where_typed, if_holding}
+use Rattle.bk_raw.specs.Meaning.Outcome.{holding}
+use Rattle.bk_raw.specs.Errors.Blame.{blame}
 use Rattle.bk_elab.specs.Shown.{shown_outcome, told}
 use Rattle.bk_elab.specs.Sights.{bounds_of, bounds_from, quantifier}
 use Rattle.bk_elab.specs.declared.outcome.Told.TheVariants.{Holding}

@@ -1,7 +1,7 @@
 use Rattle.std.proofs.Common.{◌≡◌, sym, ap, ◌∙◌, subst}
 use Rattle.std.specs.Prelude.{IfOk}
-use Rattle.bk_raw.specs.Names.{Sight, found}
-use Rattle.bk_raw.specs.ScopeReading.{set_names}
+use Rattle.bk_raw.specs.Meaning.Names.{Sight, found}
+use Rattle.bk_raw.specs.Meaning.ScopeReading.{set_names}
 use Rattle.bk_elab.specs.Sights.{shown_sight}
 use Rattle.bk_elab.proofs.Seen.{seen_last}
 use Rattle.bk_elab.proofs.Sighted.{found_in}

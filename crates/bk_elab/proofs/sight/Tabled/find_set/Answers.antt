@@ -1,6 +1,6 @@
 use Rattle.std.proofs.Common.{◌≡◌, sym, ◌∙◌, subst, arith}
 use Rattle.std.specs.Prelude.{Option, None, Some}
-use Rattle.bk_raw.specs.Names.{found}
+use Rattle.bk_raw.specs.Meaning.Names.{found}
 use Rattle.bk_elab.specs.Sights.{set_in_front, seen_or}
 use Rattle.bk_elab.specs.declared.sight.Seen.{Seen}
 use Rattle.bk_elab.proofs.Sighted.{set-found}

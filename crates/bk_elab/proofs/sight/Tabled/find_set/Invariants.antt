@@ -1,6 +1,6 @@
 use Rattle.std.proofs.Common.{◌≡◌, drop}
-use Rattle.bk_raw.specs.Names.{found}
-use Rattle.bk_raw.specs.ScopeReading.{set_names}
+use Rattle.bk_raw.specs.Meaning.Names.{found}
+use Rattle.bk_raw.specs.Meaning.ScopeReading.{set_names}
 use Rattle.bk_elab.proofs.sight.Tabled.find_set.Given as goal
 
 -- none of the sets so far and of their elements has the name

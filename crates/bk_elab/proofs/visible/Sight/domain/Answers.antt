@@ -1,7 +1,7 @@
 use Rattle.std.proofs.Common.{ℕ, subst}
 use Rattle.std.specs.Prelude.{false}
-use Rattle.bk_raw.specs.Outcome.{ask_domain}
-use Rattle.bk_raw.specs.TermReading.{place_of}
+use Rattle.bk_raw.specs.Meaning.Outcome.{ask_domain}
+use Rattle.bk_raw.specs.Meaning.TermReading.{place_of}
 use Rattle.bk_elab.specs.Shown.{shown_outcome, IsAsked}
 use Rattle.bk_elab.specs.Visible.{reading_by}
 use Rattle.bk_elab.proofs.Under.{asked-under}

@@ -1,4 +1,4 @@
-use Rattle.bk_raw.specs.Outcome.{ask_predicate}
+use Rattle.bk_raw.specs.Meaning.Outcome.{ask_predicate}
 use Rattle.bk_elab.specs.Visible.{reading_by}
 use Rattle.std.specs.Prelude.{true}
 use Rattle.bk_elab.proofs.Under.{asked-under}

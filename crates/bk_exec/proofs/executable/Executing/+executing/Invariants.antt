@@ -1,6 +1,6 @@
 use Rattle.std.proofs.Common.{◌+◌, ◌*◌}
 use Rattle.std.specs.Option.{option_copied}
-use Rattle.bk_raw.specs.SubTree.{sub_size, branches_size}
+use Rattle.bk_raw.specs.Trees.SubTree.{sub_size, branches_size}
 use Rattle.bk_sight.specs.Shown.{branches_shown}
 use Rattle.bk_exec.proofs.executable.Executing.+executing.Given as goal
 

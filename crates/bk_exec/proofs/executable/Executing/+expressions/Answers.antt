@@ -1,9 +1,9 @@
 use Rattle.std.proofs.Common.{◌≡◌, ◌∙◌, ◌++◌, ap, sym, cond, Bool, true, false, List, ℕ}
-use Rattle.bk_raw.specs.RawTree.{raw, raw_name, trees_of}
+use Rattle.bk_raw.specs.Trees.RawTree.{raw, raw_name, trees_of}
 use Rattle.bk_raw.specs.Codes.RawView.{tree_of}
 use Rattle.bk_raw.specs.declared.term.RawNode.{RawNode}
-use Rattle.bk_raw.specs.Blame.{blame}
-use Rattle.bk_raw.specs.Faults.{Fault}
+use Rattle.bk_raw.specs.Errors.Blame.{blame}
+use Rattle.bk_raw.specs.Errors.Faults.{Fault}
 use Rattle.bk_elab.specs.Shown.{told}
 use Rattle.bk_level.specs.Executable.{not_executable, or_whole, gives_scalar, is_array, expression_faults, all_expression_faults}
 use Rattle.bk_exec.specs.Executed.{meant_by, names_of}

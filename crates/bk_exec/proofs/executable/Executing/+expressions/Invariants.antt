@@ -1,6 +1,6 @@
 use Rattle.std.proofs.Common.{◌≡◌, ◌+◌, ◌*◌, drop}
-use Rattle.bk_raw.specs.RawTree.{tree_size, trees_size, trees_of}
-use Rattle.bk_raw.specs.Blame.{blame, earlier}
+use Rattle.bk_raw.specs.Trees.RawTree.{tree_size, trees_size, trees_of}
+use Rattle.bk_raw.specs.Errors.Blame.{blame, earlier}
 use Rattle.bk_elab.specs.Shown.{told}
 use Rattle.bk_level.specs.Executable.{all_expression_faults}
 use Rattle.bk_exec.specs.Executed.{meant_by, names_of}

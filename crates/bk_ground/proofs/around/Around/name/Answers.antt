@@ -1,6 +1,6 @@
 use Rattle.std.proofs.Common.{◌∙◌, ap}
-use Rattle.bk_raw.specs.Names.{found}
-use Rattle.bk_raw.specs.ScopeReading.{names_in}
+use Rattle.bk_raw.specs.Meaning.Names.{found}
+use Rattle.bk_raw.specs.Meaning.ScopeReading.{names_in}
 use Rattle.bk_ground.specs.Reading.{around_of}
 use Rattle.bk_ground.proofs.Finds.{name_meant}
 use Rattle.bk_ground.proofs.around.Around.name.Goals as goal

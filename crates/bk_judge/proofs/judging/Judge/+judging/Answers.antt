@@ -2,8 +2,8 @@ use Rattle.std.proofs.Common.{◌≡◌, ◌∙◌, ◌+◌, ap, ℕ, List, [], 
 use Rattle.std.proofs.lemmas.List.{take_rest}
 use Rattle.std.specs.Option.{option_copied}
 use Rattle.bk_form.specs.Role.{bind}
-use Rattle.bk_raw.specs.Binders.{twice}
-use Rattle.bk_raw.specs.Blame.{blame}
+use Rattle.bk_raw.specs.Meaning.Binders.{twice}
+use Rattle.bk_raw.specs.Errors.Blame.{blame}
 use Rattle.bk_elab.specs.Shown.{told}
 use Rattle.bk_elab.specs.Visible.{visible_names}
 use Rattle.bk_level.specs.Binders.{binder_count}

@@ -1,6 +1,6 @@
 use Rattle.std.proofs.Common.{◌∙◌, ap, [], ◌++◌, length}
-use Rattle.bk_raw.specs.RawTree.{trees_of}
-use Rattle.bk_raw.specs.Blame.{blame}
+use Rattle.bk_raw.specs.Trees.RawTree.{trees_of}
+use Rattle.bk_raw.specs.Errors.Blame.{blame}
 use Rattle.bk_elab.specs.Shown.{told}
 use Rattle.bk_level.specs.SubFaults.{left_faults, first_place}
 use Rattle.bk_judge.specs.Written.{writable_by}

@@ -1,7 +1,7 @@
 use Rattle.std.proofs.Common.{◌∙◌, ap, [], ◌∷◌}
 use Rattle.std.specs.Prelude.{Option}
 use Rattle.bk_val.specs.ValueType.{ValueType}
-use Rattle.bk_raw.specs.Blame.{blame}
+use Rattle.bk_raw.specs.Errors.Blame.{blame}
 use Rattle.bk_elab.specs.Shown.{told}
 use Rattle.bk_judge.specs.Written.{writable_by}
 use Rattle.bk_judge.specs.Judged.{typing_by, names_by}

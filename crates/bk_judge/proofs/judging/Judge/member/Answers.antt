@@ -1,14 +1,14 @@
 use Rattle.std.proofs.Common.{◌∙◌, ap, sym, [], ◌∷◌, cond}
 use Rattle.std.specs.Prelude.{Option}
 use Rattle.bk_val.specs.ValueType.{ValueType}
-use Rattle.bk_raw.specs.Blame.{blame}
+use Rattle.bk_raw.specs.Errors.Blame.{blame}
 use Rattle.bk_elab.specs.Shown.{told}
 use Rattle.bk_judge.specs.Written.{writable_by}
 use Rattle.bk_judge.specs.Judged.{typing_by, names_by}
 use Rattle.std.proofs.lemmas.List.{append-nil}
 use Rattle.bk_form.specs.Formula.{Formula}
-use Rattle.bk_raw.specs.Outcome.{no_type, ask_domain}
-use Rattle.bk_raw.specs.TermReading.{place_of}
+use Rattle.bk_raw.specs.Meaning.Outcome.{no_type, ask_domain}
+use Rattle.bk_raw.specs.Meaning.TermReading.{place_of}
 use Rattle.bk_level.specs.Typings.{target, type_at, outcome_of}
 use Rattle.bk_level.specs.SubFaults.{left_faults, old_faults, is_same_option, domain_faults, over_faults}
 use Rattle.bk_sight.proofs.FaultSteps.{told-four}

@@ -1,7 +1,7 @@
 use Rattle.std.proofs.Common.{◌∙◌, ap, sym, ℕ, [], ◌∷◌}
 use Rattle.std.specs.Prelude.{Option}
-use Rattle.bk_raw.specs.Blame.{blame, earlier}
-use Rattle.bk_raw.specs.Faults.{Fault, wrong_write}
+use Rattle.bk_raw.specs.Errors.Blame.{blame, earlier}
+use Rattle.bk_raw.specs.Errors.Faults.{Fault, wrong_write}
 use Rattle.bk_elab.specs.Shown.{told}
 use Rattle.bk_level.specs.SubFaults.{first_place}
 use Rattle.bk_judge.proofs.FaultJudged.{paired-next, paired-missing}

@@ -1,8 +1,8 @@
 use Rattle.std.proofs.Common.{◌∙◌, ap, sym, refl, ℕ, [], ◌∷◌, List}
 use Rattle.std.specs.Prelude.{None}
-use Rattle.bk_raw.specs.RawTree.{RawTree, trees_of}
-use Rattle.bk_raw.specs.Blame.{blame}
-use Rattle.bk_raw.specs.Faults.{wrong_write}
+use Rattle.bk_raw.specs.Trees.RawTree.{RawTree, trees_of}
+use Rattle.bk_raw.specs.Errors.Blame.{blame}
+use Rattle.bk_raw.specs.Errors.Faults.{wrong_write}
 use Rattle.bk_elab.specs.Shown.{told}
 use Rattle.bk_judge.specs.Judged.{term_by, unpaired_by}
 use Rattle.bk_sight.proofs.FaultSteps.{told-next, told-both, told-end}

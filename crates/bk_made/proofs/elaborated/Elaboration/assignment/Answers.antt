@@ -1,5 +1,5 @@
 use Rattle.std.proofs.Common.{◌∙◌, ap}
-use Rattle.bk_raw.specs.RawTree.{trees_of}
+use Rattle.bk_raw.specs.Trees.RawTree.{trees_of}
 use Rattle.bk_elab.specs.Visible.{visible_names}
 use Rattle.bk_level.specs.Elaborated.{assigned_pairs}
 use Rattle.bk_level.specs.Typings.{target, number_of, type_at}

@@ -1,6 +1,6 @@
 use Rattle.std.proofs.Common.{◌≡◌, ◌++◌, drop}
 use Rattle.bk_elab.specs.Visible.{typing_of, visible_names}
-use Rattle.bk_raw.specs.RawTree.{trees_of}
+use Rattle.bk_raw.specs.Trees.RawTree.{trees_of}
 use Rattle.bk_level.specs.Elaborated.{assigned_pairs}
 use Rattle.bk_made.proofs.elaborated.Elaboration.assignment.Given as goal
 

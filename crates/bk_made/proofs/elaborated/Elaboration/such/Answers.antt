@@ -2,7 +2,7 @@ use Rattle.std.proofs.Common.{ℕ, ◌≡◌, ◌∙◌, ap, refl, List, ◌+◌
 use Rattle.std.proofs.lemmas.Result.{IfOk-weaker}
 use Rattle.bk_form.specs.Role.{bind}
 use Rattle.bk_gsl.specs.Substitution.{Substitution, becomes_such}
-use Rattle.bk_raw.specs.Names.{Names}
+use Rattle.bk_raw.specs.Meaning.Names.{Names}
 use Rattle.bk_raw.specs.declared.term.RawName.{RawName}
 use Rattle.bk_elab.specs.Visible.{visible_names}
 use Rattle.bk_elab.specs.declared.sight.Visible.{Visible}

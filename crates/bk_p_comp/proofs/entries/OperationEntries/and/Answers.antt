@@ -1,6 +1,6 @@
 use Rattle.std.proofs.Common.{◌≡◌, ◌≤◌, ◌++◌, [], ◌∷◌, ◌∙◌, arith, subst}
-use Rattle.bk_raw.specs.ComponentTree.{RawOperation, clause_operations, parts_height}
-use Rattle.bk_raw.specs.SubTree.{sub_height}
+use Rattle.bk_raw.specs.Trees.ComponentTree.{RawOperation, clause_operations, parts_height}
+use Rattle.bk_raw.specs.Trees.SubTree.{sub_height}
 use Rattle.bk_p_sub.specs.Statements.{IsStatement}
 use Rattle.bk_p_comp.specs.Entries.{titled}
 use Rattle.bk_p_comp.specs.Parts.{AreOperations}

@@ -1,6 +1,6 @@
 use Rattle.std.proofs.Common.{◌≡◌, ◌≤◌, ◌++◌, [], ◌∷◌, ◌∙◌, ap, arith, subst}
-use Rattle.bk_raw.specs.ComponentTree.{clause_values, parts_height}
-use Rattle.bk_raw.specs.RawTree.{tree_height}
+use Rattle.bk_raw.specs.Trees.ComponentTree.{clause_values, parts_height}
+use Rattle.bk_raw.specs.Trees.RawTree.{tree_height}
 use Rattle.bk_raw.specs.declared.component.RawValue.{RawValue}
 use Rattle.bk_p_expr.specs.Pieces.{IsPiece}
 use Rattle.bk_p_expr.proofs.Heights.{high_piece, is_built}

@@ -1,5 +1,5 @@
 use Rattle.std.proofs.Common.{◌≡◌, ◌<◌, ◌∙◌, ap, sym, subst, ℕ}
-use Rattle.bk_raw.specs.RawTree.{RawTree, raw, tree_height}
+use Rattle.bk_raw.specs.Trees.RawTree.{RawTree, raw, tree_height}
 use Rattle.bk_p_expr.specs.Conjuncts.{without}
 use Rattle.bk_p_expr.specs.Pieces.{IsPiece, around_node}
 use Rattle.bk_p_expr.specs.declared.piece.Around.TheVariants.{Word, Negative, Inverse, Comprehension, ForAll, Exists, TypedForAll, TypedExists}

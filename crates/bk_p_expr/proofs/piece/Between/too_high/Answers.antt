@@ -1,5 +1,5 @@
 use Rattle.std.proofs.Common.{◌<◌, ◌∙◌, ap, refl, sym, subst, ℕ}
-use Rattle.bk_raw.specs.RawTree.{raw, tree_height, RawTree}
+use Rattle.bk_raw.specs.Trees.RawTree.{raw, tree_height, RawTree}
 use Rattle.bk_p_expr.specs.Conjuncts.{without}
 use Rattle.bk_p_expr.specs.Pieces.{IsPiece, between_node}
 use Rattle.bk_p_expr.specs.declared.piece.Between.TheVariants.{Image, Apply, Composition, Pair, Lambda}

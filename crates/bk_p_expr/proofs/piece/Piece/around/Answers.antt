@@ -1,5 +1,5 @@
 use Rattle.std.proofs.Common.{◌≡◌, ◌≤◌, ◌<◌, arith, ap, subst, ℕ}
-use Rattle.bk_raw.specs.RawTree.{tree_height, RawTree, raw}
+use Rattle.bk_raw.specs.Trees.RawTree.{tree_height, RawTree, raw}
 use Rattle.bk_p_expr.specs.Pieces.{IsPiece, around_node}
 use Rattle.bk_p_expr.proofs.Choices.{ok_so}
 use Rattle.bk_p_expr.proofs.Heights.{is_built, high_piece, around_height}

@@ -1,5 +1,5 @@
 use Rattle.std.proofs.Common.{◌≡◌, ◌≤◌, ◌<◌, ◌∙◌, ap, subst, arith, ℕ}
-use Rattle.bk_raw.specs.RawTree.{raw, tree_height, RawTree}
+use Rattle.bk_raw.specs.Trees.RawTree.{raw, tree_height, RawTree}
 use Rattle.bk_p_expr.specs.Pieces.{IsPiece, between_node}
 use Rattle.bk_p_expr.proofs.Choices.{ok_so}
 use Rattle.bk_p_expr.proofs.Heights.{is_built, high_piece, between_height}

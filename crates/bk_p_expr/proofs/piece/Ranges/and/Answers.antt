@@ -1,5 +1,5 @@
 use Rattle.std.proofs.Common.{◌≡◌, ◌≤◌, ◌∙◌, ap, subst, arith, ℕ}
-use Rattle.bk_raw.specs.RawTree.{tree_height, ranges_height, RawRanges, RawTree}
+use Rattle.bk_raw.specs.Trees.RawTree.{tree_height, ranges_height, RawRanges, RawTree}
 use Rattle.bk_raw.specs.Codes.RawView.{ranges_of}
 use Rattle.bk_p_expr.specs.Pieces.{IsPiece, IsRanges, and_range}
 use Rattle.bk_p_expr.proofs.Choices.{ok_so}

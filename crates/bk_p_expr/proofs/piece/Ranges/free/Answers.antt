@@ -1,5 +1,5 @@
 use Rattle.std.proofs.Common.{◌≡◌, ◌≤◌, ◌∙◌, ap, subst}
-use Rattle.bk_raw.specs.RawTree.{ranges_height, RawRanges}
+use Rattle.bk_raw.specs.Trees.RawTree.{ranges_height, RawRanges}
 use Rattle.bk_raw.specs.Codes.RawView.{ranges_of}
 use Rattle.bk_p_expr.specs.Conjuncts.{free_names_of_ranges}
 use Rattle.bk_p_expr.specs.Pieces.{IsRanges}

@@ -1,5 +1,5 @@
 use Rattle.std.proofs.Common.{◌≡◌, ◌≤◌, ◌<◌, ap, subst, arith, ℕ}
-use Rattle.bk_raw.specs.RawTree.{ranges_height, tree_height, RawRanges, RawTree, raw, raw_ranged_lambda}
+use Rattle.bk_raw.specs.Trees.RawTree.{ranges_height, tree_height, RawRanges, RawTree, raw, raw_ranged_lambda}
 use Rattle.bk_raw.specs.Codes.RawView.{ranges_of}
 use Rattle.bk_p_expr.specs.Pieces.{IsPiece, IsRanges}
 use Rattle.bk_p_expr.proofs.Choices.{ok_so}

@@ -1,5 +1,5 @@
 use Rattle.std.proofs.Common.{◌++◌, ◌∙◌, refl, ℕ, ◌<◌}
-use Rattle.bk_raw.specs.RawTree.{raw, raw_ranged_lambda, RawRanges, RawTree, tree_height}
+use Rattle.bk_raw.specs.Trees.RawTree.{raw, raw_ranged_lambda, RawRanges, RawTree, tree_height}
 use Rattle.bk_p_expr.proofs.Choices.{ok_so}
 use Rattle.bk_p_expr.specs.Pieces.{IsPiece, IsRanges}
 use Rattle.bk_p_expr.proofs.piece.Ranges.lambda_too_high.Goals as goal

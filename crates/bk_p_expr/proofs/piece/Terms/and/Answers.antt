@@ -1,5 +1,5 @@
 use Rattle.std.proofs.Common.{◌≡◌, ◌≤◌, ◌∙◌, ap, subst, arith}
-use Rattle.bk_raw.specs.RawTree.{trees_of, tree_height, trees_height, RawTree, RawTrees}
+use Rattle.bk_raw.specs.Trees.RawTree.{trees_of, tree_height, trees_height, RawTree, RawTrees}
 use Rattle.bk_p_expr.specs.Pieces.{IsPiece, IsTerms, and_tree}
 use Rattle.bk_p_expr.proofs.Choices.{ok_so}
 use Rattle.bk_p_expr.proofs.Heights.{is_built, are_built, high_piece, high_terms, and_tree_high, and_high_tree, trees_of_last, and_tree_height}

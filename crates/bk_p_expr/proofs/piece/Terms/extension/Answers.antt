@@ -1,5 +1,5 @@
 use Rattle.std.proofs.Common.{◌≡◌, ◌≤◌, ◌<◌, ap, refl, subst, arith, ℕ}
-use Rattle.bk_raw.specs.RawTree.{raw, raw_extension, trees_of, trees_height, RawTrees}
+use Rattle.bk_raw.specs.Trees.RawTree.{raw, raw_extension, trees_of, trees_height, RawTrees}
 use Rattle.bk_p_expr.specs.Pieces.{IsTerms, IsPiece}
 use Rattle.bk_p_expr.proofs.Choices.{ok_so}
 use Rattle.bk_p_expr.proofs.Heights.{are_built, high_terms}

@@ -1,5 +1,5 @@
 use Rattle.std.proofs.Common.{◌≡◌, ◌≤◌, ◌∙◌, ap, subst}
-use Rattle.bk_raw.specs.RawTree.{trees_of, trees_height, RawTrees}
+use Rattle.bk_raw.specs.Trees.RawTree.{trees_of, trees_height, RawTrees}
 use Rattle.bk_p_expr.specs.Conjuncts.{free_names_of}
 use Rattle.bk_p_expr.specs.Pieces.{IsTerms}
 use Rattle.bk_p_expr.proofs.Choices.{ok_so}

@@ -1,6 +1,6 @@
 use Rattle.std.proofs.Common.{◌≡◌, ◌≤◌, ◌<◌, ◌∙◌, None, subst, arith, ap}
-use Rattle.bk_raw.specs.RawTree.{tree_height}
-use Rattle.bk_raw.specs.SubTree.{no_branches, branch_and, sub_height, branches_height}
+use Rattle.bk_raw.specs.Trees.RawTree.{tree_height}
+use Rattle.bk_raw.specs.Trees.SubTree.{no_branches, branch_and, sub_height, branches_height}
 use Rattle.bk_raw.specs.Codes.SubView.{branches_of}
 use Rattle.bk_p_sub.specs.Statements.{IsTerm, IsStatement, IsBranches, IsOpen, followed_by}
 use Rattle.bk_p_sub.specs.declared.branches.Branches.TheVariants.{Built}

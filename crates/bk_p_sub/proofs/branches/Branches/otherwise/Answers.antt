@@ -1,5 +1,5 @@
 use Rattle.std.proofs.Common.{◌≡◌, ◌≤◌, ◌<◌, ◌∙◌, None, subst, arith}
-use Rattle.bk_raw.specs.SubTree.{no_branches, else_branch, sub_height, branches_height}
+use Rattle.bk_raw.specs.Trees.SubTree.{no_branches, else_branch, sub_height, branches_height}
 use Rattle.bk_raw.specs.Codes.SubView.{branches_of}
 use Rattle.bk_p_sub.specs.Statements.{IsStatement, IsBranches, IsOpen, followed_by}
 use Rattle.bk_p_sub.specs.declared.branches.Branches.TheVariants.{Built}

@@ -1,5 +1,5 @@
 use Rattle.std.proofs.Common.{◌≡◌, ◌≤◌, ◌<◌, ◌∙◌, subst, arith}
-use Rattle.bk_raw.specs.SubTree.{no_choices, choice_and, sub_height, choices_height}
+use Rattle.bk_raw.specs.Trees.SubTree.{no_choices, choice_and, sub_height, choices_height}
 use Rattle.bk_raw.specs.Codes.SubView.{choices_of}
 use Rattle.bk_p_sub.specs.Statements.{IsStatement, IsChoices, chosen_then}
 use Rattle.bk_p_sub.proofs.Heights.{high_statement, choices_too_high, choices_of_last, chosen_height}

@@ -1,7 +1,7 @@
 use Rattle.std.proofs.Common.{◌≡◌, ◌≤◌, ◌∙◌, ◌+◌, sym, ap, subst, arith}
 use Rattle.std.proofs.lemmas.Result.{IfOk-weaker}
-use Rattle.bk_raw.specs.RawTree.{RawTree, tree_height}
-use Rattle.bk_raw.specs.SubTree.{sub, sub_begin, sub_var, sub_height, sub_node_height}
+use Rattle.bk_raw.specs.Trees.RawTree.{RawTree, tree_height}
+use Rattle.bk_raw.specs.Trees.SubTree.{sub, sub_begin, sub_var, sub_height, sub_node_height}
 use Rattle.bk_p_sub.specs.Statements.{IsTerm, IsStatement, IsAround, head_node}
 use Rattle.bk_p_sub.proofs.Heights.{is_built, around_too_high, under_too_high, built_around, head_height}
 use Rattle.bk_p_sub.proofs.statement.Statement.around.Goals as goal

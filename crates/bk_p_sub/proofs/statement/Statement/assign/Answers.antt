@@ -1,7 +1,7 @@
 use Rattle.std.proofs.Common.{◌≡◌, ◌≤◌, ◌<◌, subst, arith, ap}
 use Rattle.std.proofs.lemmas.Result.{IfOk-weaker}
-use Rattle.bk_raw.specs.RawTree.{trees_of, trees_height}
-use Rattle.bk_raw.specs.SubTree.{sub, sub_assign}
+use Rattle.bk_raw.specs.Trees.RawTree.{trees_of, trees_height}
+use Rattle.bk_raw.specs.Trees.SubTree.{sub, sub_assign}
 use Rattle.bk_p_expr.specs.Pieces.{IsTerms}
 use Rattle.bk_p_sub.proofs.Heights.{are_built, high_terms}
 use Rattle.bk_p_sub.proofs.statement.Statement.assign.Goals as goal

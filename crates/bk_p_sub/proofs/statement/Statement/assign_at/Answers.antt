@@ -1,7 +1,7 @@
 use Rattle.std.proofs.Common.{◌∙◌, ◌≡◌, ◌≤◌, ◌<◌, subst, arith, ap}
 use Rattle.std.proofs.lemmas.Result.{IfOk-weaker}
-use Rattle.bk_raw.specs.RawTree.{tree_height}
-use Rattle.bk_raw.specs.SubTree.{sub, sub_assign_at}
+use Rattle.bk_raw.specs.Trees.RawTree.{tree_height}
+use Rattle.bk_raw.specs.Trees.SubTree.{sub, sub_assign_at}
 use Rattle.bk_p_sub.specs.Statements.{IsTerm}
 use Rattle.bk_p_sub.proofs.Heights.{is_built, high_term}
 use Rattle.bk_p_sub.proofs.statement.Statement.assign_at.Goals as goal

@@ -1,6 +1,6 @@
 use Rattle.std.proofs.Common.{◌≡◌, ◌≤◌, ◌<◌, subst, arith}
 use Rattle.std.proofs.lemmas.Result.{IfOk-weaker}
-use Rattle.bk_raw.specs.SubTree.{sub, sub_choice, sub_height, choices_height}
+use Rattle.bk_raw.specs.Trees.SubTree.{sub, sub_choice, sub_height, choices_height}
 use Rattle.bk_raw.specs.Codes.SubView.{choices_of}
 use Rattle.bk_p_sub.specs.Statements.{IsStatement, IsChoices}
 use Rattle.bk_p_sub.proofs.statement.Statement.choice.Goals as goal

@@ -1,7 +1,7 @@
 use Rattle.std.proofs.Common.{◌≡◌, ◌≤◌, ◌<◌, ◌∙◌, refl, subst, arith, ap}
 use Rattle.std.proofs.lemmas.Result.{IfOk-weaker}
-use Rattle.bk_raw.specs.RawTree.{tree_height}
-use Rattle.bk_raw.specs.SubTree.{sub, sub_height, branches_height}
+use Rattle.bk_raw.specs.Trees.RawTree.{tree_height}
+use Rattle.bk_raw.specs.Trees.SubTree.{sub, sub_height, branches_height}
 use Rattle.bk_p_sub.specs.Statements.{IsTerm, IsStatement, IsBranches, tested_node}
 use Rattle.bk_p_sub.specs.declared.branches.Branches.TheVariants.{Built}
 use Rattle.bk_p_sub.proofs.Heights.{is_built, high_statement, high_term, high_branches, is_high_enough, tested_height}

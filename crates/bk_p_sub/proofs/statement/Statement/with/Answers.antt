@@ -1,6 +1,6 @@
 use Rattle.std.proofs.Common.{◌≡◌, ◌≤◌, ◌<◌, ◌∙◌, subst, arith}
 use Rattle.std.proofs.lemmas.Result.{IfOk-weaker}
-use Rattle.bk_raw.specs.SubTree.{sub, sub_height}
+use Rattle.bk_raw.specs.Trees.SubTree.{sub, sub_height}
 use Rattle.bk_p_sub.specs.Statements.{IsStatement, joint_node}
 use Rattle.bk_p_sub.proofs.Heights.{high_statement, joint_height}
 use Rattle.bk_p_sub.proofs.statement.Statement.with.Goals as goal

@@ -2,7 +2,7 @@ use Rattle.std.proofs.Common.{◌≡◌, ◌++◌, ◌∷◌, [], Bool, true, fa
 use Rattle.std.specs.Prelude.{Result, Ok, Err, OnOk, is_err}
 use Rattle.std.specs.Map.{lookup}
 use Rattle.std.specs.Str.{bytes_eq}
-use Rattle.bk_raw.specs.ScopeReading.{last_from}
+use Rattle.bk_raw.specs.Meaning.ScopeReading.{last_from}
 use Rattle.bk_raw.proofs.Numbered.{numbers_inserted}
 use Rattle.bk_raw.proofs.scope.Scope.add.Goals as goal
 

@@ -1,7 +1,7 @@
 use Rattle.std.proofs.Common.{drop, ◌++◌, ◌≡◌}
 use Rattle.bk_elab.specs.Visible.{visible_names}
 use Rattle.bk_sight.specs.Shown.{above_shown}
-use Rattle.bk_raw.specs.ScopeReading.{set_names}
+use Rattle.bk_raw.specs.Meaning.ScopeReading.{set_names}
 use Rattle.bk_sight.proofs.above.Above.globals.Given as goal
 
 abbrev pub invariant-loop-set : goal.invariant-loop-set

@@ -1,6 +1,6 @@
 use Rattle.std.proofs.Common.{◌≡◌, ◌-◌, ℕ, List, None, Some, ◌∙◌, ap, sym, arith}
 use Rattle.std.specs.Prelude.{slice_get}
-use Rattle.bk_raw.specs.ScriptTree.{RawScript}
+use Rattle.bk_raw.specs.Trees.ScriptTree.{RawScript}
 use Rattle.bk_status.specs.Places.{place_of}
 use Rattle.bk_p_proof.specs.Files.{IsShort}
 use Rattle.bk_status.specs.States.{script_named}
