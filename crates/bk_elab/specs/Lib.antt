@@ -1,11 +1,1 @@
-pub mod Joins
-pub mod Expressions
-pub mod Codes
-pub mod Shown
-pub mod Shapes
-pub mod Visible
-pub mod Sights
-pub mod Laws
-pub mod Conjuncts
-pub mod Forms
-pub mod Kept
+pub mod Answered

@@ -50,7 +50,7 @@ pub const MOST_NODES_TOGETHER: u64 = 20_000_000;
 pub const MOST_STATES: usize = 1_000;
 
 /// Limit 16: the most steps of evaluation for one line of a transcript. (Limit 17 has no number here: `i128` is its width.)
-pub const MOST_STEPS_OF_LINE: u64 = 10_000_000;
+pub const MOST_COST_OF_LINE: u64 = 10_000_000;
 
 /// The fuel: how many steps the initialisation, and each call, may take where nothing else is asked for.
 pub const FUEL: u64 = 1_000_000;

@@ -7,14 +7,14 @@ use Rattle.std.proofs.lemmas.List.Elements.{All-weaker}
 use Rattle.bk_raw.specs.declared.script.NamePart.{NamePart}
 use Rattle.bk_raw.specs.Trees.ScriptTree.{RawScript}
 use Rattle.bk_p_proof.specs.declared.reading.FileScripts.{FileScripts}
-use Rattle.bk_files.specs.Files.{Has}
+use Rattle.bk_sources.specs.Files.{Has}
 use Rattle.bk_p_proof.specs.Files.{IsShort, IsWritten, IsLow, IsProofFile, IsHigh, IsLong, IsTwiceNamed, AreScriptsOf, names_of}
 use Rattle.bk_p_proof.specs.Kept.{AreScripts, file_height, file_names}
 use Rattle.bk_p_proof.specs.Keys.{IsAgain}
 use Rattle.bk_p_proof.specs.Stages.{IsKeptOf, IsLowAs, IsProofFileAs}
 use Rattle.bk_p_proof.specs.TypedNames.{AreOfOneType, IsSecondType, IsSecondTypeOf, script_names}
 use Rattle.bk_p_proof.proofs.PartsRead.{names_kept}
-use Rattle.bk_files.proofs.Turns.{split_at, length_front, all_over, CutAs, cut_over, zip_map, joined_map, joined_on}
+use Rattle.bk_sources.proofs.Turns.{split_at, length_front, all_over, CutAs, cut_over, zip_map, joined_map, joined_on}
 
 -- ---- what is read of a file
 -- the scripts' types are those of what is kept of them

@@ -13,12 +13,12 @@ use Rattle.bk_raw.specs.Grammar.ScriptSpelling.{SpellsScripts}
 use Rattle.bk_raw.proofs.ScriptOne.{one-file-of}
 use Rattle.bk_lex.proofs.Cutting.{tokens_are_one}
 use Rattle.bk_p_proof.specs.declared.fault.ScriptFault.TheVariants.{Fault, Limit, Memory}
-use Rattle.bk_files.specs.Files.{Has, IsShallowText}
-use Rattle.bk_files.proofs.OneCut.{no_first, none_at_fault, none_past_limit}
+use Rattle.bk_sources.specs.Files.{Has, IsShallowText}
+use Rattle.bk_sources.proofs.OneCut.{no_first, none_at_fault, none_past_limit}
 use Rattle.bk_p_proof.specs.Files.{IsFaultOf, IsShort, IsWritten, IsLow, IsProofFile, IsHigh, IsLong, IsTwiceNamed, AreScriptsOf, names_of}
 use Rattle.bk_p_proof.specs.Laws.{ScriptsOfAreOne, FaultsExclude}
 use Rattle.bk_p_proof.specs.TypedNames.{AreOfOneType, IsSecondType, script_names}
-use Rattle.bk_files.proofs.Turns.{all_middle, zip_has}
+use Rattle.bk_sources.proofs.Turns.{all_middle, zip_has}
 
 -- ---- one list of scripts
 pub same_written : (text : List ℕ) (tokens : List Token) (ss rs : List RawScript) → IsShallowText text tokens → SpellsScripts rs tokens → IsWritten text ss → rs ≡ ss

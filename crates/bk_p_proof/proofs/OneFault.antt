@@ -12,13 +12,13 @@ use Rattle.bk_raw.specs.Grammar.ScriptSpelling.{SpellsScripts}
 use Rattle.bk_raw.proofs.ScriptOne.{one-file-of}
 use Rattle.bk_raw.proofs.ScriptPlaces.{file-places-are-one}
 use Rattle.bk_lex.proofs.Cutting.{tokens_are_one}
-use Rattle.bk_files.specs.Files.{Has, IsFirst, IsShallowText, IsFaultOf as IsFileFaultOf}
-use Rattle.bk_files.specs.Laws.{IsOfFiles}
-use Rattle.bk_files.specs.declared.fault.FileFault.{FileFault}
-use Rattle.bk_files.specs.declared.fault.FileFault.TheVariants.{Fault as FaultOfFile, Limit as LimitOfFile, Memory as NoMemory}
-use Rattle.bk_files.proofs.Turns.{zip_has}
-use Rattle.bk_files.proofs.OneCut.{no_first, none_at_fault, none_past_limit}
-use Rattle.bk_files.proofs.OneFault.{order, front_in, all_in_front, same_cut, both_first, faults_are_one_of as files_have_one_fault}
+use Rattle.bk_sources.specs.Files.{Has, IsFirst, IsShallowText, IsFaultOf as IsFileFaultOf}
+use Rattle.bk_sources.specs.Laws.{IsOfFiles}
+use Rattle.bk_sources.specs.declared.fault.FileFault.{FileFault}
+use Rattle.bk_sources.specs.declared.fault.FileFault.TheVariants.{Fault as FaultOfFile, Limit as LimitOfFile, Memory as NoMemory}
+use Rattle.bk_sources.proofs.Turns.{zip_has}
+use Rattle.bk_sources.proofs.OneCut.{no_first, none_at_fault, none_past_limit}
+use Rattle.bk_sources.proofs.OneFault.{order, front_in, all_in_front, same_cut, both_first, faults_are_one_of as files_have_one_fault}
 use Rattle.bk_p_proof.specs.declared.fault.ScriptFault.{ScriptFault}
 use Rattle.bk_p_proof.specs.declared.fault.ScriptFault.TheVariants.{Fault, Limit, Memory}
 use Rattle.bk_p_proof.specs.Files.{IsFaultOf, IsShort, IsWritten, IsLow, IsProofFile, IsUnwritten, IsHigh, IsLong, IsTwiceNamed, names_of}

@@ -10,13 +10,13 @@ use Rattle.bk_form.specs.declared.token.Token.{Token}
 use Rattle.bk_raw.specs.declared.script.RawTyped.{RawTyped}
 use Rattle.bk_raw.specs.Errors.Places.{byte_at}
 use Rattle.bk_raw.specs.Trees.ScriptTree.{RawScript}
-use Rattle.bk_files.specs.declared.fault.FileFault.{FileFault}
-use Rattle.bk_files.specs.declared.fault.FileFault.TheVariants.{Fault as FaultOfFile, Limit as LimitOfFile, Memory as NoMemory}
-use Rattle.bk_files.specs.Files.{Has, IsShallowText, IsFaultOf as IsFileFaultOf}
-use Rattle.bk_files.specs.Laws.{IsOfFiles}
-use Rattle.bk_files.proofs.Turns.{all_middle}
-use Rattle.bk_files.proofs.Neither.{all_or_first, all_zipped, some_least}
-use Rattle.bk_files.proofs.SomeFiles.{files_are_told, the_first}
+use Rattle.bk_sources.specs.declared.fault.FileFault.{FileFault}
+use Rattle.bk_sources.specs.declared.fault.FileFault.TheVariants.{Fault as FaultOfFile, Limit as LimitOfFile, Memory as NoMemory}
+use Rattle.bk_sources.specs.Files.{Has, IsShallowText, IsFaultOf as IsFileFaultOf}
+use Rattle.bk_sources.specs.Laws.{IsOfFiles}
+use Rattle.bk_sources.proofs.Turns.{all_middle}
+use Rattle.bk_sources.proofs.Neither.{all_or_first, all_zipped, some_least}
+use Rattle.bk_sources.proofs.SomeFiles.{files_are_told, the_first}
 use Rattle.bk_raw.proofs.Faults.{one-holds-of-scripts}
 use Rattle.bk_p_proof.specs.declared.fault.ScriptFault.{ScriptFault}
 use Rattle.bk_p_proof.specs.declared.fault.ScriptFault.TheVariants.{Fault, Limit}

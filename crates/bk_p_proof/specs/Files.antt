@@ -11,7 +11,7 @@ use Rattle.bk_raw.specs.Errors.Places.{IsScriptFaultAt}
 use Rattle.bk_raw.specs.Errors.Limits.{IsLowFile}
 use Rattle.bk_raw.specs.declared.fault.FaultKind.TheVariants.{NoTree, TwiceNamed}
 use Rattle.bk_raw.specs.Errors.Faults.{number_of_fault}
-use Rattle.bk_files.specs.Files.{Has, IsFirst, IsShallowText, IsAtFault, IsPastLimit}
+use Rattle.bk_sources.specs.Files.{Has, IsFirst, IsShallowText, IsAtFault, IsPastLimit}
 use Rattle.bk_raw.specs.declared.script.NamePart.{NamePart}
 use Rattle.bk_p_proof.specs.TypedNames.{script_names, AreOfOneType, IsSecondType}
 use Rattle.bk_p_proof.specs.declared.fault.ScriptFault.{ScriptFault}

@@ -1,6 +1,6 @@
 -- What is told of files before any script is read.
-use Rattle.bk_files.specs.declared.fault.FileFault.{FileFault}
-use Rattle.bk_files.specs.declared.fault.FileFault.TheVariants.{Fault as FaultOfFile, Limit as LimitOfFile, Memory as NoMemory}
+use Rattle.bk_sources.specs.declared.fault.FileFault.{FileFault}
+use Rattle.bk_sources.specs.declared.fault.FileFault.TheVariants.{Fault as FaultOfFile, Limit as LimitOfFile, Memory as NoMemory}
 use Rattle.bk_p_proof.specs.declared.fault.ScriptFault.{ScriptFault}
 use Rattle.bk_p_proof.specs.declared.fault.ScriptFault.TheVariants.{Fault, Limit, Memory}
 

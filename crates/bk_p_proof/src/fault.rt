@@ -4,8 +4,8 @@ ghost use Rattle.std.specs.Prelude.{◌≡◌};
 ghost use Rattle.bk_p_proof.specs.FilesTold.{of_files};
 ghost use Rattle.bk_p_proof.specs.declared.fault.ScriptFault.TheVariants.{Memory as OutOfMemory};
 
-use bk_files::FileFault;
 use bk_io::Memory;
+use bk_sources::FileFault;
 use std::alloc::{AllocError, AllocFailed};
 use thiserror::Error;
 

@@ -6,7 +6,7 @@ ghost use Rattle.std.specs.Str.{IsUtf8};
 ghost use Rattle.bk_raw.specs.Trees.ScriptTree.{RawScript as WrittenScript};
 ghost use Rattle.bk_raw.specs.Errors.Places.{byte_at};
 ghost use Rattle.bk_raw.specs.Errors.Faults.{number_of_fault};
-ghost use Rattle.bk_files.specs.Files.{IsCut, IsShallowText};
+ghost use Rattle.bk_sources.specs.Files.{IsCut, IsShallowText};
 ghost use Rattle.bk_p_proof.specs.Files.{AreScriptsOf, IsFaultOf, IsShort, IsWritten, names_of};
 ghost use Rattle.bk_p_proof.specs.Kept.{AreScripts};
 ghost use Rattle.bk_p_proof.specs.Stages.{IsKeptOf, IsLowAs, IsProofFileAs, IsUnwrittenAt};
@@ -16,11 +16,11 @@ use crate::fault::ScriptFault;
 use crate::held::Scripts;
 use crate::reading::{FileScripts, SpellFault, file_scripts};
 use crate::second::second_type;
-use bk_files::cut;
 use bk_form::Token;
 use bk_io::Memory;
 use bk_limits::MOST_RULES;
 use bk_raw::{FaultKind, RawScript};
+use bk_sources::cut;
 use std::alloc::Global;
 
 /// The scripts of proof files, in order. Files count from 0.

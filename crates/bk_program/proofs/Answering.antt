@@ -8,7 +8,7 @@ use Rattle.bk_verbs.specs.declared.status.Status.TheVariants.{Usage as UsageStat
 use Rattle.bk_verbs.specs.declared.stop.Stop.{Stop}
 use Rattle.bk_verbs.specs.declared.stop.Stop.TheVariants.{Usage, Missing, Refused, Limit, Unproved, Incomplete, BadCalls, BadImage, ReadFault, WriteFault, Memory}
 use Rattle.bk_verbs.specs.Causes.{IsOfPlaying}
-use Rattle.bk_words.specs.Tasks.{Task, Asks}
+use Rattle.bk_cli.specs.Tasks.{Task, Asks}
 use Rattle.bk_verbs.specs.Work.{IsExecuted, WritesWork}
 use Rattle.bk_verbs.specs.Stops.{IsOutside, StopsAt, status_of_stop, stop_text, IsCutShort, Reports}
 use Rattle.bk_program.specs.Answer.{IsAnswer, IsAnswered, WritesAnswer, WritesLine}

@@ -11,7 +11,7 @@ use Rattle.bk_verbs.specs.declared.status.Status.{Status}
 use Rattle.bk_verbs.specs.declared.status.Status.TheVariants.{Done}
 use Rattle.bk_verbs.specs.declared.stop.Stop.{Stop}
 use Rattle.bk_verbs.specs.declared.stop.Stop.TheVariants.{Usage, Missing, Refused, Limit, Unproved, Incomplete, BadCalls, BadImage, ReadFault, WriteFault, Memory}
-use Rattle.bk_words.specs.Tasks.{build_task, run_task, exec_task, Asks}
+use Rattle.bk_cli.specs.Tasks.{build_task, run_task, exec_task, Asks}
 use Rattle.bk_verbs.specs.Project.{IsTold, IsToldAsBytes}
 use Rattle.bk_verbs.specs.Work.{IsPlayed, IsRun, IsDoneOn, IsWork}
 use Rattle.bk_verbs.specs.Stops.{StopsAtFile, StopsAtCode, StopsAtCalls, StopsAtCallScript, StopsRead, StopsTask, status_of_stop}

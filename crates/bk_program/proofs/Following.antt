@@ -6,14 +6,14 @@ use Rattle.bk_dev.specs.B0.{IsB0Development}
 use Rattle.bk_dev.specs.Development.{Development, is_complete}
 use Rattle.bk_dev.specs.Facts.{IsDevelopment}
 use Rattle.bk_b0.specs.Translation.{translation}
-use Rattle.bk_project.specs.ProjectFile.{kinds_of}
-use Rattle.bk_project.proofs.Developments.{read_are_developments, read_are_executable}
+use Rattle.bk_front.specs.ProjectFile.{kinds_of}
+use Rattle.bk_front.proofs.Developments.{read_are_developments, read_are_executable}
 use Rattle.bk_raw.specs.Trees.ScriptTree.{RawScript}
 use Rattle.bk_sim.specs.Follows.{Follows}
 use Rattle.bk_sim.proofs.B0Code.{b0_follows, b0_ends}
 use Rattle.bk_po.proofs.Carrying.{valid_obligations_carry, whole_is_correct}
 use Rattle.bk_status.proofs.Tables.{closed_tables_prove, proved_obligations_are_valid, proved_developments_are_correct}
-use Rattle.bk_level.specs.VerdictLaws.{HasRoom}
+use Rattle.bk_statics.specs.VerdictLaws.{HasRoom}
 use Rattle.bk_po.specs.Obligations.{obligations}
 use Rattle.bk_po.specs.Limits.{PassNoLimit}
 use Rattle.bk_verbs.specs.Project.{ReadsProject, IsFinished}

@@ -3,9 +3,9 @@ use Rattle.std.proofs.Common.{◌≡◌, ℕ, ◌≤◌, List, Option, Result, O
 use Rattle.bk_io.specs.Files.{Files}
 use Rattle.bk_io.specs.Counts.{HasCause}
 use Rattle.bk_io.specs.Pieces.{written_with, WroteFront}
-use Rattle.bk_words.specs.declared.words.WordsFault.{WordsFault}
-use Rattle.bk_words.specs.declared.words.WordsFault.TheVariants.{Refused as WordsRefused, Memory as NoRoomForWords}
-use Rattle.bk_words.specs.Tasks.{AskForNothing}
+use Rattle.bk_cli.specs.declared.words.WordsFault.{WordsFault}
+use Rattle.bk_cli.specs.declared.words.WordsFault.TheVariants.{Refused as WordsRefused, Memory as NoRoomForWords}
+use Rattle.bk_cli.specs.Tasks.{AskForNothing}
 use Rattle.bk_verbs.specs.declared.status.Status.{Status}
 use Rattle.bk_verbs.specs.declared.status.Status.TheVariants.{Usage as UsageStatus}
 use Rattle.bk_verbs.specs.declared.stop.Stop.{Stop}

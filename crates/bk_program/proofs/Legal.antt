@@ -35,7 +35,7 @@ use Rattle.bk_b0.specs.Translation.{parameter_of, operation_code, operations_cod
 use Rattle.bk_b0.specs.Kinds.{number_as, as_number, is_of_kind}
 use Rattle.bk_b0.proofs.Numbers.{number-back, of-kind-value, bounds-if}
 use Rattle.bk_sim.specs.Shows.{Linked}
-use Rattle.bk_statements.specs.Within.{EndsWithin, HasNoLoop}
+use Rattle.bk_sim.specs.Ending.{EndsWithin, HasNoLoop}
 use Rattle.bk_sim.specs.Within.{EndsWithoutLoops}
 use Rattle.bk_sim.specs.Follows.{IsEntry, as_values, replies, started, IsGood, IsStep, Follows}
 use Rattle.bk_sim.proofs.B0Code.{b0_ends}

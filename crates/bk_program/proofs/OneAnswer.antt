@@ -7,14 +7,14 @@ use Rattle.bk_code.specs.Session.{Request, Told, Session}
 use Rattle.bk_code.proofs.Sessions.{one_session}
 use Rattle.bk_dev.specs.Development.{Development}
 use Rattle.bk_b0.specs.Translation.{translation}
-use Rattle.bk_project.specs.declared.project_file.ProjectLine.{ProjectLine}
-use Rattle.bk_project.specs.ProjectFile.{AreLinesOf, kinds_of}
-use Rattle.bk_project.specs.Project.{Reads}
-use Rattle.bk_project.specs.Laws.{IsOfProject}
-use Rattle.bk_project.proofs.ProjectFiles.{lines_are_one, lines_exclude}
-use Rattle.bk_project.proofs.OneFile.{lines_have_one_refusal}
-use Rattle.bk_project.proofs.OneReading.{faults_exclude as refusals_exclude}
-use Rattle.bk_project.proofs.OneRefusal.{texts_have_one_refusal}
+use Rattle.bk_front.specs.declared.project_file.ProjectLine.{ProjectLine}
+use Rattle.bk_front.specs.ProjectFile.{AreLinesOf, kinds_of}
+use Rattle.bk_front.specs.Project.{Reads}
+use Rattle.bk_front.specs.Laws.{IsOfProject}
+use Rattle.bk_front.proofs.ProjectFiles.{lines_are_one, lines_exclude}
+use Rattle.bk_front.proofs.OneFile.{lines_have_one_refusal}
+use Rattle.bk_front.proofs.OneReading.{faults_exclude as refusals_exclude}
+use Rattle.bk_front.proofs.OneRefusal.{texts_have_one_refusal}
 use Rattle.bk_po.specs.Obligations.{numbered, obligations}
 use Rattle.bk_po.specs.Limits.{PassTogether, PassNoLimit, all_nodes}
 use Rattle.bk_raw.specs.Trees.ScriptTree.{RawScript}
@@ -39,9 +39,9 @@ use Rattle.bk_verbs.specs.declared.status.Status.TheVariants.{Done as DoneStatus
 use Rattle.bk_verbs.specs.declared.stop.Stop.{Stop}
 use Rattle.bk_verbs.specs.declared.stop.Stop.TheVariants.{Limit, Unproved, BadCalls, BadImage}
 use Rattle.bk_verbs.specs.Session.{session_status}
-use Rattle.bk_words.specs.Tasks.{Task, check_task, status_task, po_task, code_task, build_task, run_task, exec_task, sample_task, Asks, has_proofs}
+use Rattle.bk_cli.specs.Tasks.{Task, check_task, status_task, po_task, code_task, build_task, run_task, exec_task, sample_task, Asks, has_proofs}
 use Rattle.bk_verbs.specs.Project.{IsTold, AreTold, files_of, fetched, ReadsProject, IsProved, IsFinished, IsWithinCodeLimits, ReadsCalls}
-use Rattle.bk_texts.specs.Table.{table_text}
+use Rattle.bk_report.specs.Table.{table_text}
 use Rattle.bk_verbs.specs.Work.{IsPlayed, IsExec, IsGiven, IsDoneOn, IsSampled, IsWork}
 use Rattle.bk_verbs.specs.Samples.{sample_files, sample_project, sample_table, sample_run, last_line}
 use Rattle.bk_program.specs.Run.{IsReady}
@@ -50,7 +50,7 @@ use Rattle.bk_program.specs.Answer.{IsAnswer, IsWorkOf}
 use Rattle.bk_program.specs.Laws.{HasOneAnswer}
 use Rattle.bk_verbs.proofs.Fetching.{both_told}
 use Rattle.bk_verbs.proofs.Projects.{some_once, told_once, all_told_once, one_project}
-use Rattle.bk_words.proofs.Asking.{ask_for_one}
+use Rattle.bk_cli.proofs.Asking.{ask_for_one}
 
 -- ---- a file
 module _ (files : Files) (name : List ℕ) where

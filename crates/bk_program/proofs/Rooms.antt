@@ -2,13 +2,13 @@
 use Rattle.std.proofs.Common.{ℕ, Bool, List, All}
 use Rattle.bk_io.specs.Files.{Files}
 use Rattle.bk_dev.specs.Development.{Development}
-use Rattle.bk_level.specs.VerdictLaws.{HasRoom}
+use Rattle.bk_statics.specs.VerdictLaws.{HasRoom}
 use Rattle.bk_raw.specs.Trees.ScriptTree.{RawScript}
-use Rattle.bk_project.specs.ProjectFile.{kinds_of}
+use Rattle.bk_front.specs.ProjectFile.{kinds_of}
 use Rattle.bk_po.specs.Obligations.{obligations}
 use Rattle.bk_po.specs.Limits.{PassNoLimit}
-use Rattle.bk_room.specs.Laws.{HasRoomFor, ReadWithinLimits}
-use Rattle.bk_room.proofs.Projects.{few_kinds, read_have_room, read_scripts_have_room}
+use Rattle.bk_bounds.specs.Laws.{HasRoomFor, ReadWithinLimits}
+use Rattle.bk_bounds.proofs.Projects.{few_kinds, read_have_room, read_scripts_have_room}
 use Rattle.bk_verbs.specs.Project.{ReadsProject}
 
 module _ (with_proofs : Bool) (files : Files) (project : List ℕ) (dev : Development) (scripts : List RawScript) (h : ReadsProject with_proofs files project dev scripts) (within : PassNoLimit (obligations dev)) where

@@ -8,7 +8,7 @@ use Rattle.bk_verbs.specs.declared.status.Status.{Status}
 use Rattle.bk_verbs.specs.Session.{session_status, status_of, last_end}
 use Rattle.bk_code.specs.Run.{End}
 use Rattle.bk_code.specs.Run as run_ends
-use Rattle.bk_words.specs.Tasks.{run_task, Asks}
+use Rattle.bk_cli.specs.Tasks.{run_task, Asks}
 use Rattle.bk_verbs.specs.Work.{IsExecuted, IsRun, IsDoneOn, IsWork, WritesWork}
 use Rattle.bk_program.specs.Run.{IsReady, WritesRun, IsDoneWhereLegal}
 use Rattle.bk_verbs.specs.Stops.{StopsTask}

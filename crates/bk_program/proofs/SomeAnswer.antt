@@ -20,14 +20,14 @@ use Rattle.bk_b0.specs.Translation.{translation}
 use Rattle.bk_gen.specs.Laws.{HasElementsInRange}
 use Rattle.bk_gen.proofs.Loads.{translations_load}
 use Rattle.bk_gen.proofs.Spellings.{size-fits, all-sets}
-use Rattle.bk_project.specs.declared.project_file.ProjectLine.{ProjectLine}
-use Rattle.bk_project.specs.declared.refusal.Refusal.{Refusal}
-use Rattle.bk_project.specs.ProjectFile.{AreLinesOf, IsRefusalOfLines, component_lines, kinds_of}
-use Rattle.bk_project.specs.Project.{Reads, IsRefusalOf}
-use Rattle.bk_project.specs.Laws.{IsOfProject}
-use Rattle.bk_project.proofs.Levels.{chain_starts}
-use Rattle.bk_project.proofs.SomeLines.{lines_are_read}
-use Rattle.bk_project.proofs.SomeReading.{texts_are_read}
+use Rattle.bk_front.specs.declared.project_file.ProjectLine.{ProjectLine}
+use Rattle.bk_front.specs.declared.refusal.Refusal.{Refusal}
+use Rattle.bk_front.specs.ProjectFile.{AreLinesOf, IsRefusalOfLines, component_lines, kinds_of}
+use Rattle.bk_front.specs.Project.{Reads, IsRefusalOf}
+use Rattle.bk_front.specs.Laws.{IsOfProject}
+use Rattle.bk_front.proofs.Levels.{chain_starts}
+use Rattle.bk_front.proofs.SomeLines.{lines_are_read}
+use Rattle.bk_front.proofs.SomeReading.{texts_are_read}
 use Rattle.bk_dev.specs.Flattened.{flattened}
 use Rattle.bk_po.specs.Obligations.{obligations, numbered, numbered_obligations}
 use Rattle.bk_po.specs.Limits.{first_too_large, all_nodes, PassNoLimit}
@@ -47,19 +47,19 @@ use Rattle.bk_verbs.specs.declared.status.Status.{Status}
 use Rattle.bk_verbs.specs.declared.status.Status.TheVariants.{Done, Usage as UsageStatus}
 use Rattle.bk_verbs.specs.declared.stop.Stop.{Stop}
 use Rattle.bk_verbs.specs.declared.stop.Stop.TheVariants.{Usage, Missing, Limit, Unproved, Incomplete, BadCalls, BadImage}
-use Rattle.bk_words.specs.Tasks.{Task, check_task, status_task, po_task, code_task, build_task, run_task, exec_task, sample_task, Asks, has_proofs}
+use Rattle.bk_cli.specs.Tasks.{Task, check_task, status_task, po_task, code_task, build_task, run_task, exec_task, sample_task, Asks, has_proofs}
 use Rattle.bk_verbs.specs.Project.{IsTold, AreTold, IsToldAsBytes, HoldBytes, files_of, fetched, ReadsComponents, ReadsProject, IsFinished, IsWithinCodeLimits}
-use Rattle.bk_texts.specs.Check.{check_text}
-use Rattle.bk_texts.specs.Table.{table_text}
-use Rattle.bk_texts.specs.Obligations.{obligations_text}
-use Rattle.bk_texts.specs.Listing.{listing}
+use Rattle.bk_report.specs.Check.{check_text}
+use Rattle.bk_report.specs.Table.{table_text}
+use Rattle.bk_report.specs.Obligations.{obligations_text}
+use Rattle.bk_report.specs.Listing.{listing}
 use Rattle.bk_verbs.specs.Session.{session_status}
 use Rattle.bk_verbs.specs.Work.{IsPlayed, IsGiven, IsDoneOn, IsSampled, IsWork}
 use Rattle.bk_verbs.specs.Samples.{sample_files, sample_project, sample_run, last_line}
 use Rattle.bk_verbs.specs.Stops.{StopsAtFile, StopsAtFiles, StopsAtTexts, StopsAtProject, StopsPastLimits, StopsAtProof, StopsPastCode, StopsAtCalls, StopsAtCallScript, StopsRead, StopsAtWork, StopsTask, stop_of_refusal, stop_of_proofs, status_of_stop, stop_text}
 use Rattle.bk_program.specs.Laws.{HasSomeAnswer}
 use Rattle.bk_program.proofs.Following.{project_development, project_in_b0}
-use Rattle.bk_room.specs.Laws.{HasRoomFor}
+use Rattle.bk_bounds.specs.Laws.{HasRoomFor}
 use Rattle.bk_program.proofs.Rooms.{scripts_have_room}
 use Rattle.bk_program.proofs.Possible.{Possible, certain, and_then, decide}
 use Rattle.bk_program.proofs.SomeImage.{some_verdict}

@@ -20,15 +20,15 @@ use Rattle.bk_kernel.specs.declared.replaying.Verdict.{Verdict}
 use Rattle.bk_kernel.specs.declared.replaying.Verdict.TheVariants.{Closed, BadStep as BadAt, Open as LeftOpen, Extra as LeftOver}
 use Rattle.bk_kernel.proofs.Derived.{leaves-more}
 use Rattle.bk_po.specs.Obligations.{numbered_obligations}
-use Rattle.bk_ground.specs.Parts.{Around}
-use Rattle.bk_ground.specs.Brought.{widened}
-use Rattle.bk_ground.specs.Grounding.{RuleMeans, StandsFor, around_script, IsGrounded}
+use Rattle.bk_scripts.specs.Parts.{Around}
+use Rattle.bk_scripts.specs.Brought.{widened}
+use Rattle.bk_scripts.specs.Grounding.{RuleMeans, StandsFor, around_script, IsGrounded}
 use Rattle.bk_status.specs.States.{name_text, script_named, HasVerdict, IsState}
 use Rattle.bk_status.specs.declared.state.State.{State}
 use Rattle.bk_status.specs.declared.state.State.TheVariants.{Obvious, Proved, NoScript, BadStep, Open, Extra}
 use Rattle.bk_status.specs.declared.table.Row.{Row}
 use Rattle.bk_status.specs.Rows.{IsRowOf, HasRows}
-use Rattle.bk_room.specs.Laws.{HasRoomFor}
+use Rattle.bk_bounds.specs.Laws.{HasRoomFor}
 use Rattle.bk_program.proofs.Possible.{Possible, certain, and_then, decide}
 
 -- ---- the rules that a script stands for

@@ -5,7 +5,7 @@ use Rattle.bk_io.specs.Pieces.{WroteFront}
 use Rattle.bk_code.proofs.Sessions.{some_session}
 use Rattle.bk_calls.specs.Script.{request_of}
 use Rattle.bk_calls.specs.Transcript.{transcript}
-use Rattle.bk_words.specs.Tasks.{Task, Asks}
+use Rattle.bk_cli.specs.Tasks.{Task, Asks}
 use Rattle.bk_verbs.specs.declared.status.Status.{Status}
 use Rattle.bk_verbs.specs.declared.status.Status.TheVariants.{Done}
 use Rattle.bk_verbs.specs.declared.work.Work.{Work}

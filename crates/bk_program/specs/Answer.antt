@@ -5,7 +5,7 @@ use Rattle.bk_io.specs.Pieces.{written_with}
 use Rattle.bk_verbs.specs.declared.status.Status.{Status}
 use Rattle.bk_verbs.specs.declared.status.Status.TheVariants.{ReadFault, WriteFault, Memory}
 use Rattle.bk_verbs.specs.declared.stop.Stop.{Stop}
-use Rattle.bk_words.specs.Tasks.{Task, Asks}
+use Rattle.bk_cli.specs.Tasks.{Task, Asks}
 use Rattle.bk_verbs.specs.Stops.{StopsAt, status_of_stop, stop_text}
 use Rattle.bk_verbs.specs.Work.{IsWork}
 

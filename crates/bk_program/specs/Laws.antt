@@ -11,7 +11,7 @@ use Rattle.bk_sim.specs.Within.{EndsWithoutLoops}
 use Rattle.bk_raw.specs.Trees.ScriptTree.{RawScript}
 use Rattle.bk_verbs.specs.declared.status.Status.{Status}
 use Rattle.bk_verbs.specs.declared.status.Status.TheVariants.{Done, Trapped}
-use Rattle.bk_words.specs.Tasks.{build_task, run_task, exec_task, Asks}
+use Rattle.bk_cli.specs.Tasks.{build_task, run_task, exec_task, Asks}
 use Rattle.bk_program.specs.Legal.{AreLegal, RunNoLoop, LegalCallsEndWell}
 use Rattle.bk_verbs.specs.Project.{HoldBytes, ReadsProject, IsFinished}
 use Rattle.bk_program.specs.Run.{IsReady}

@@ -10,7 +10,7 @@ use Rattle.bk_code.specs.Session.{Request, Told, call_start, first_start}
 use Rattle.bk_dev.specs.Development.{Development, level_at, body_at, inputs_of, last}
 use Rattle.bk_dev.specs.Machine.{Abstract, Opens, Call, Pre, After, Legal}
 use Rattle.bk_b0.specs.Translation.{init_code, operation_code, translation}
-use Rattle.bk_statements.specs.Within.{HasNoLoop}
+use Rattle.bk_sim.specs.Ending.{HasNoLoop}
 use Rattle.bk_sim.specs.Follows.{IsEntry, as_values}
 use Rattle.bk_sim.specs.Shows.{Linked}
 

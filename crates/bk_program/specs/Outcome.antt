@@ -7,7 +7,7 @@ use Rattle.bk_verbs.specs.declared.status.Status.{Status}
 use Rattle.bk_verbs.specs.declared.status.Status.TheVariants.{Usage, Missing, ReadFault, WriteFault}
 use Rattle.bk_verbs.specs.declared.stop.Stop.TheVariants.{Usage as UsageStop}
 use Rattle.bk_verbs.specs.Codes.{code_of}
-use Rattle.bk_words.specs.Tasks.{run_task, Asks, AskForNothing}
+use Rattle.bk_cli.specs.Tasks.{run_task, Asks, AskForNothing}
 use Rattle.bk_verbs.specs.Stops.{IsCutShort, stop_text}
 use Rattle.bk_verbs.specs.Work.{IsExecuted}
 use Rattle.bk_program.specs.Run.{IsReady, WritesRun, IsDoneWhereLegal}

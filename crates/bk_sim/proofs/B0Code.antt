@@ -20,7 +20,7 @@ use Rattle.bk_b0.specs.Translation.{operation_code, init_code, translation}
 use Rattle.bk_gen.proofs.SameCode.{codes-same, openings, operations as operation-codes}
 use Rattle.bk_sim.specs.Shows.{Linked}
 use Rattle.bk_sim.specs.Follows.{IsEntry, started, Follows}
-use Rattle.bk_statements.specs.Within.{HasNoLoop, EndsWithin}
+use Rattle.bk_sim.specs.Ending.{HasNoLoop, EndsWithin}
 use Rattle.bk_sim.specs.Within.{CallEnds, EndsWithoutLoops}
 use Rattle.bk_sim.specs.Laws.{LawfulFollows, EqualFollows, B0Follows, B0Ends}
 use Rattle.bk_sim.proofs.Chain.{linked_before}

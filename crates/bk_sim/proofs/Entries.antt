@@ -5,8 +5,8 @@ use Rattle.bk_dev.specs.Development.{Head, Body, Development, blank_body}
 use Rattle.bk_code.specs.declared.image.Image.{Image}
 use Rattle.bk_code.specs.declared.image.OpEntry.{OpEntry}
 use Rattle.bk_b0.specs.Translation.{parameter_of, operation_code, entries, operations_code}
-use Rattle.bk_statements.specs.Placed.{Stands}
-use Rattle.bk_statements.proofs.Steps.{stands-first, stands-second}
+use Rattle.bk_sim.specs.Placed.{Stands}
+use Rattle.bk_sim.proofs.Steps.{stands-first, stands-second}
 use Rattle.bk_dev.proofs.InTable.{blank_head}
 
 abbrev pub entry_of : Development → ℕ → Head → Body → OpEntry

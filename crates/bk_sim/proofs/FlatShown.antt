@@ -14,7 +14,7 @@ use Rattle.bk_dev.specs.Development.{Development, level_at, last}
 use Rattle.bk_dev.specs.Layout.{arrays_of, cells_of, cell_variables, cell_of}
 use Rattle.bk_dev.specs.Flattened.{flattened}
 use Rattle.bk_b0.specs.Kinds.{number_as, is_of_kind, row_type, cell_type}
-use Rattle.bk_statements.specs.Shown.{AreOfKinds, indices, paired, shown_as, shown}
+use Rattle.bk_sim.specs.Shown.{AreOfKinds, indices, paired, shown_as, shown}
 use Rattle.bk_form.proofs.Members.{or-left, or-right}
 use Rattle.bk_form.specs.Each.{Each}
 use Rattle.bk_dev.proofs.FlatSame.{arrays-same, cell-same, cells-same, declared-same, variables-same}

@@ -41,10 +41,10 @@ use Rattle.bk_code.specs.Session.{first_start, outputs_of}
 use Rattle.bk_b0.specs.Translation.{parameter_of, operation_code, operations_code, init_code, translation}
 use Rattle.bk_dev.proofs.Levels.{last_paired, each-at, body-at, level_fact}
 use Rattle.bk_b0.specs.Kinds.{number_as, as_number, is_of_kind}
-use Rattle.bk_statements.specs.Shown.{shown, seen, KindsHold}
+use Rattle.bk_sim.specs.Shown.{shown, seen, KindsHold}
 use Rattle.bk_sim.specs.Shows.{IsLinkedBy, Linked}
 use Rattle.bk_sim.specs.Within.{CallEnds, EndsWithoutLoops}
-use Rattle.bk_statements.specs.Within.{HasNoLoop}
+use Rattle.bk_sim.specs.Ending.{HasNoLoop}
 use Rattle.bk_sim.specs.Follows.{IsEntry, as_values, replies, started, GoesWell, IsDone, IsStep, HasOperations, OpensWell, CallsGoWell, Follows}
 use Rattle.bk_sim.proofs.Chain.{linked_before, calls_decide}
 use Rattle.bk_sim.proofs.Ends.{done-well}
@@ -53,20 +53,20 @@ use Rattle.bk_dev.proofs.Sizes.{sizes_hold}
 use Rattle.bk_dev.proofs.Agree.{all-none, holds-same, joining-same, all-among}
 use Rattle.bk_form.proofs.Conjuncts.{true-append, true-first, parts-true, whole-true}
 use Rattle.bk_dev.proofs.Climb.{flat-then, flat-if, is_before, constant-before, input-before, variable-before, inner-before, above-before, joined-before, own-before, one_of_three, map-same, Climbed, Carry, climbed, stays-before}
-use Rattle.bk_statements.specs.Placed.{Stands}
+use Rattle.bk_sim.specs.Placed.{Stands}
 use Rattle.bk_dev.specs.B0.{IsScalarName, IsB0Body, IsB0Development}
 use Rattle.bk_b0.specs.Cells.{IsCell, ValuesHaveKinds}
-use Rattle.bk_statements.specs.Statements.{IsReturned}
-use Rattle.bk_statements.proofs.Terms.{seen-cell, scalar-shown, scalar-kind}
+use Rattle.bk_sim.specs.Statements.{IsReturned}
+use Rattle.bk_sim.proofs.Terms.{seen-cell, scalar-shown, scalar-kind}
 use Rattle.bk_b0.proofs.LevelCells.{one_of_four, variable_no_constant, value-constant, constants-have, no-value, var-cell, arrays-have, known, sees, inputs-there, outputs-there}
 use Rattle.bk_dev.proofs.InTable.{blank_head}
 use Rattle.bk_b0.proofs.ArrayTypes.{arrays-typed}
 use Rattle.bk_b0.proofs.Numbers.{translated-greatest}
-use Rattle.bk_statements.proofs.Steps.{stands-first, stands-second}
+use Rattle.bk_sim.proofs.Steps.{stands-first, stands-second}
 use Rattle.bk_b0.proofs.Shapes.{arrays-scalar, each-among, shapes}
 use Rattle.bk_sim.proofs.Entries.{entry_of, IsEntered, entered}
 use Rattle.bk_sim.proofs.Starts.{declared-is, seen-typed, laid, laid-typed, base-typed, values-then, values-if, values-same, zeros-kinds, zero-fits, given, AreInputs, given-kinds, given-other, given-shown}
-use Rattle.bk_statements.proofs.Followed.{none-among, operations_follow, openings_follow, returns_end}
+use Rattle.bk_sim.proofs.Followed.{none-among, operations_follow, openings_follow, returns_end}
 
 -- ---- numbers within bounds
 ranged : (find : Finder) (table : Table) (e : State) (x : ℕ) (low high z : ℤ) → e x ≡ int z → int_le low z && int_le z high ≡ true → holds find table e (binary In (variable x) (binary Range (literal low) (literal high))) ≡ true

@@ -26,7 +26,7 @@ use Rattle.bk_code.specs.Step.{Config}
 use Rattle.bk_code.specs.Run.{End, Done, Trapped, OutOfFuel}
 use Rattle.bk_code.specs.Session.{first_start, outputs_of}
 use Rattle.bk_b0.specs.Kinds.{number_as}
-use Rattle.bk_statements.specs.Shown.{shown}
+use Rattle.bk_sim.specs.Shown.{shown}
 use Rattle.bk_sim.specs.Shows.{Shows, Linked}
 use Rattle.bk_sim.specs.Follows.{as_values, replies, started, IsGood, GoesWell, IsStep, HasOperations, OpensWell, CallsGoWell, Follows}
 use Rattle.bk_form.proofs.Conjuncts.{parts-true, whole-true, true-append, true-first, true-second}

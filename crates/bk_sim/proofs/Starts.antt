@@ -33,14 +33,14 @@ use Rattle.bk_dev.specs.Layout.{arrays_of, cells_of, cells_in, cell_variables, c
 use Rattle.bk_code.specs.Session.{placed}
 use Rattle.bk_b0.specs.Kinds.{literal_number, number_as, as_number, is_of_kind, row_type, element_type, cell_type, index_type, literal_value}
 use Rattle.bk_b0.specs.Translation.{parameter_of}
-use Rattle.bk_statements.specs.Shown.{AreOfKinds, paired, indices, shown, seen_by, seen, KindsHold}
+use Rattle.bk_sim.specs.Shown.{AreOfKinds, paired, indices, shown, seen_by, seen, KindsHold}
 use Rattle.bk_dev.specs.B0.{IsScalarName, IsArrayName}
 use Rattle.bk_b0.specs.Cells.{IsKnown, IsCell, ValuesHaveKinds, ArraysHaveCells, ArraysAreTyped}
 use Rattle.bk_b0.proofs.Numbers.{of-kind-value, zero-in}
-use Rattle.bk_statements.proofs.CellKinds.{kind-at, kinds-set}
-use Rattle.bk_statements.proofs.ArrayValues.{index_at, nth-from}
-use Rattle.bk_statements.proofs.Terms.{seen-cell, scalar-cells, scalar-type, scalar-shown, scalar-inside, scalar-kind, array-cells, array-shown}
-use Rattle.bk_statements.proofs.Kept.{seen-other}
+use Rattle.bk_sim.proofs.CellKinds.{kind-at, kinds-set}
+use Rattle.bk_sim.proofs.ArrayValues.{index_at, nth-from}
+use Rattle.bk_sim.proofs.Terms.{seen-cell, scalar-cells, scalar-type, scalar-shown, scalar-inside, scalar-kind, array-cells, array-shown}
+use Rattle.bk_sim.proofs.Kept.{seen-other}
 
 -- ---- scalars
 -- a value of a scalar type within INT has a number of its kind, which stands for it

@@ -19,7 +19,7 @@ use Rattle.bk_code.specs.declared.image.OpEntry.{OpEntry}
 use Rattle.bk_code.specs.Step.{Config}
 use Rattle.bk_code.specs.Run.{ReturnsAfter}
 use Rattle.bk_code.specs.Session.{first_start}
-use Rattle.bk_statements.specs.Shown.{AreOfKinds}
+use Rattle.bk_sim.specs.Shown.{AreOfKinds}
 use Rattle.bk_sim.specs.Shows.{Linked}
 use Rattle.bk_sim.specs.Follows.{IsEntry, started, GoesWell, IsDone, IsStep, HasOperations, OpensWell, CallsGoWell}
 use Rattle.bk_sim.specs.CounterCode.{counter_code, reset_entry, setmax_entry, get_entry}

@@ -1,3 +1,7 @@
+pub mod Shown
+pub mod Placed
+pub mod Ending
+pub mod Statements
 pub mod Shows
 pub mod Follows
 pub mod CounterCode

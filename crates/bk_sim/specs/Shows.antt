@@ -8,7 +8,7 @@ use Rattle.bk_dev.specs.Hypotheses.{joinings_of}
 use Rattle.bk_form.specs.Predicates.{AllHold}
 use Rattle.bk_dev.specs.Layout.{cell_variables}
 use Rattle.bk_dev.specs.Machine.{Abstract, ShowsAbstract, HasValues}
-use Rattle.bk_statements.specs.Shown.{AreOfKinds, shown}
+use Rattle.bk_sim.specs.Shown.{AreOfKinds, shown}
 
 -- ---- cells
 -- each cell holds a number of its kind, and the state gives each variable of the last level what its cells give it

@@ -10,7 +10,7 @@ use Rattle.bk_code.specs.Session.{first_start}
 use Rattle.bk_b0.specs.Translation.{init_code, operation_code}
 use Rattle.bk_sim.specs.Shows.{Linked}
 use Rattle.bk_sim.specs.Follows.{IsEntry, started, AreDone, IsBegun}
-use Rattle.bk_statements.specs.Within.{EndsWithin, HasNoLoop}
+use Rattle.bk_sim.specs.Ending.{EndsWithin, HasNoLoop}
 
 -- a call of the operation is done within the length of its code, Ret included
 abbrev pub CallEnds : Development → Image → Call → OpEntry → List ℤ → Type 0

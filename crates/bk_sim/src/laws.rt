@@ -1,5 +1,6 @@
 //! What follows a machine, and what does not. Each law is the contract of a function that does nothing.
 
+ghost use Rattle.bk_sim.specs.Statements.{StatementsFollow, OperationsFollow, OpeningsFollow, ReturnsEnd};
 ghost use Rattle.bk_sim.specs.Laws.{CallsDecide, LawfulFollows, EqualFollows, B0Follows, B0Ends, CounterIsCarried, TranslationFollows, CounterEnds, NineDoesNotFollow, FollowedWhereFlattened, ExchangeIsFollowed, WrongCodesDoNotFollow, TowerIsFollowed};
 
 /// Code follows a machine where it opens well and each call goes well.
@@ -53,4 +54,20 @@ pub fn tower()
 /// Code follows a machine also where the last level carries the one above it only from equal values.
 pub fn equal_follows()
     ensures { EqualFollows }
+{}
+
+/// The code of a statement in B0 follows it, wherever it stands.
+pub fn statements_follow()
+    ensures { StatementsFollow }
+{}
+
+/// So does that of each operation and of the initialisation of a last level in B0, up to its return.
+pub fn bodies_follow()
+    ensures operations { OperationsFollow }
+    ensures openings { OpeningsFollow }
+{}
+
+/// Such a call is done with some fuel, and without loops with as much as its code is long.
+pub fn returns_end()
+    ensures { ReturnsEnd }
 {}

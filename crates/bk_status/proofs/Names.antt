@@ -3,7 +3,7 @@ use Rattle.std.proofs.Common.{◌≡◌, ◌<◌, ◌+◌, ℕ, List, [], ◌∷
 use Rattle.std.specs.List.{join_with_byte}
 use Rattle.std.proofs.lemmas.List.{map-append, take_more}
 use Rattle.bk_raw.specs.declared.script.NamePart.{NamePart}
-use Rattle.bk_ground.specs.Sight.{part_text}
+use Rattle.bk_scripts.specs.Sight.{part_text}
 use Rattle.bk_status.specs.States.{name_text}
 
 join_more : (x : List ℕ) (xs : List (List ℕ)) (y : List ℕ) → join_with_byte 46 (x ∷ (xs ++ y ∷ [])) ≡ (join_with_byte 46 (x ∷ xs) ++ 46 ∷ []) ++ y

@@ -14,9 +14,9 @@ use Rattle.bk_kernel.specs.Rules.{makes, IsInstance}
 use Rattle.bk_kernel.specs.Derivations.{Leaves, IsVerdict}
 use Rattle.bk_kernel.proofs.Verdicts.{one-verdict}
 use Rattle.bk_dev.specs.Development.{Development}
-use Rattle.bk_ground.specs.Parts.{Around}
-use Rattle.bk_ground.specs.Grounding.{StandsFor, around_script, IsGrounded}
-use Rattle.bk_ground.proofs.Alike.{grounded_are_alike}
+use Rattle.bk_scripts.specs.Parts.{Around}
+use Rattle.bk_scripts.specs.Grounding.{StandsFor, around_script, IsGrounded}
+use Rattle.bk_scripts.proofs.Alike.{grounded_are_alike}
 use Rattle.bk_status.specs.States.{script_named, HasVerdict, state_of, IsState}
 use Rattle.bk_status.specs.Laws.{StatesAreOne}
 use Rattle.bk_status.specs.declared.state.State.{State}

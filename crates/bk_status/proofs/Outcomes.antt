@@ -15,10 +15,10 @@ use Rattle.bk_kernel.specs.declared.replaying.Verdict.{Verdict}
 use Rattle.bk_kernel.specs.declared.replaying.Verdict.TheVariants.{Closed, BadStep as BadAt, Open as LeftOpen, Extra as LeftOver}
 use Rattle.bk_kernel.proofs.DerivedValid.{types-wider}
 use Rattle.bk_p_proof.specs.Files.{IsShort}
-use Rattle.bk_ground.specs.Brought.{widened}
-use Rattle.bk_ground.specs.Grounding.{StandsFor, around_script, IsGrounded}
-use Rattle.bk_ground.proofs.Alike.{widened_is_wider}
-use Rattle.bk_ground.proofs.Listed.{widened_is_well_formed}
+use Rattle.bk_scripts.specs.Brought.{widened}
+use Rattle.bk_scripts.specs.Grounding.{StandsFor, around_script, IsGrounded}
+use Rattle.bk_scripts.proofs.Alike.{widened_is_wider}
+use Rattle.bk_scripts.proofs.Listed.{widened_is_well_formed}
 use Rattle.bk_status.specs.States.{HasVerdict, script_named, state_of, IsState}
 use Rattle.bk_status.specs.declared.state.State.{State}
 use Rattle.bk_status.specs.Replayable.{IsOutcome}

@@ -7,7 +7,7 @@ use Rattle.bk_kernel.specs.Derivations.{IsVerdict}
 use Rattle.bk_kernel.specs.declared.rule.Rule.{Rule}
 use Rattle.bk_kernel.specs.declared.replaying.Verdict.{Verdict}
 use Rattle.bk_raw.specs.Trees.ScriptTree.{RawScript}
-use Rattle.bk_ground.specs.Grounding.{IsGrounded}
+use Rattle.bk_scripts.specs.Grounding.{IsGrounded}
 use Rattle.bk_status.specs.States.{state_of}
 use Rattle.bk_status.specs.declared.state.State.{State}
 

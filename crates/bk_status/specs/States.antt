@@ -12,8 +12,8 @@ use Rattle.bk_kernel.specs.Derivations.{IsVerdict}
 use Rattle.bk_kernel.specs.declared.rule.Rule.{Rule}
 use Rattle.bk_kernel.specs.declared.replaying.Verdict.{Verdict}
 use Rattle.bk_kernel.specs.declared.replaying.Verdict.TheVariants.{Closed, BadStep as BadAt, Open as LeftOpen, Extra as LeftOver}
-use Rattle.bk_ground.specs.Sight.{part_text}
-use Rattle.bk_ground.specs.Grounding.{IsGrounded}
+use Rattle.bk_scripts.specs.Sight.{part_text}
+use Rattle.bk_scripts.specs.Grounding.{IsGrounded}
 use Rattle.bk_status.specs.declared.state.State.{State}
 use Rattle.bk_status.specs.declared.state.State.TheVariants.{Obvious, Proved, NoScript, BadStep, Open, Extra}
 

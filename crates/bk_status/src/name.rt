@@ -1,7 +1,7 @@
 //! The texts of names.
 
 ghost use Rattle.std.specs.Prelude.{◌≡◌, ◌++◌, ◌∷◌, IfOk, OnOk};
-ghost use Rattle.bk_ground.specs.Sight.{part_text};
+ghost use Rattle.bk_scripts.specs.Sight.{part_text};
 ghost use Rattle.bk_status.specs.States as meant;
 
 use bk_io::Memory;

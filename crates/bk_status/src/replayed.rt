@@ -12,10 +12,10 @@ use crate::named::NamedScripts;
 use crate::state::State;
 use bk_dev::Development;
 use bk_form::VarTable;
-use bk_ground::ground;
 use bk_io::{Memory, Text};
 use bk_kernel::{Verdict, is_obvious, replay};
 use bk_raw::RawScript;
+use bk_scripts::ground;
 use bk_seq::Sequent;
 use std::alloc::Global;
 

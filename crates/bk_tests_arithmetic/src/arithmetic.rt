@@ -7,8 +7,8 @@ use crate::arithmetic_texts::{
 };
 use crate::written::{form, forms};
 use bk_arith::{ArithFault, closed, linear};
-use bk_bracketed::Unread;
 use bk_lin::Line;
+use bk_tests_notation::Unread;
 use std::alloc::Global;
 use std::process::Abort;
 use std::test::Fail;

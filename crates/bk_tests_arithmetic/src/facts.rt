@@ -1,8 +1,8 @@
 // The facts that hypotheses and a negated goal state, and which formulas are comparisons.
 
 use bk_arith::{ArithFault, facts, is_comparison};
-use bk_fixtures::{always, of_variables};
 use bk_form::BinOp;
+use bk_tests_fixtures::{always, of_variables};
 use std::test::Fail;
 
 // `x = y` states that y - x and x - y are at least 0, and that `x <= y` is not so states it of x - y - 1. The atoms are y and x.

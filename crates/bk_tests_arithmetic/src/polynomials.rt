@@ -2,7 +2,7 @@
 
 use crate::written::{form, forms};
 use bk_arith::{ArithFault, cases, polynomial};
-use bk_bracketed::Unread;
+use bk_tests_notation::Unread;
 use std::alloc::Global;
 use std::process::Abort;
 use std::test::Fail;

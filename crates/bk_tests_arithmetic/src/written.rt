@@ -1,7 +1,7 @@
-// Formulas over the variables x, y and z as texts, as `bk_bracketed` reads them.
+// Formulas over the variables x, y and z as texts, as `bk_tests_notation` reads them.
 
-use bk_bracketed::{Unread, formula};
 use bk_form::Form;
+use bk_tests_notation::{Unread, formula};
 use std::alloc::Global;
 
 const LETTERS: &str = "xyz";

@@ -2,8 +2,8 @@
 
 use crate::binding_texts::{CLOSED, LETTERS, LIFTED, OPENED, RENAMED};
 use bk_bind::{close, closed, lift, open_body, raise, rename};
-use bk_bracketed::{Unread, formula};
 use bk_form::Form;
+use bk_tests_notation::{Unread, formula};
 use std::alloc::Global;
 use std::test::Fail;
 

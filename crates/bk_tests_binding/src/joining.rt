@@ -2,8 +2,8 @@
 
 use crate::binding_texts::LETTERS;
 use bk_bind::{binary, bounded, for_all, for_some, unary};
-use bk_bracketed::{Unread, formula, types_of};
 use bk_form::{BinOp, Form, UnOp};
+use bk_tests_notation::{Unread, formula, types_of};
 use std::alloc::Global;
 use std::test::Fail;
 

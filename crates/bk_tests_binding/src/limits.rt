@@ -4,10 +4,10 @@ use bk_bind::{
     BindFault, binary, bounded, close, closed, for_all, for_some, lift, open_body, rename, replace,
     unary,
 };
-use bk_fixtures::shapes::{of_height, of_size};
-use bk_fixtures::{leaf, literal, of_variables, variable};
 use bk_form::{BinOp, Form, Part, Ty, UnOp};
 use bk_io::Memory;
+use bk_tests_fixtures::shapes::{of_height, of_size};
+use bk_tests_fixtures::{leaf, literal, of_variables, variable};
 use std::alloc::Global;
 use std::test::Fail;
 
@@ -118,7 +118,7 @@ fn twice(alloc: Global, term: Form) -> Result<[bool; 2], Memory> {
     let pairs = vec![in alloc; (0, term.copy(alloc)?)]?;
     let replaced = is_too_large(replace(alloc, &form, &pairs));
     let bound = leaf(alloc, Part::Bound(0))?;
-    let body = bk_fixtures::binary(alloc, BinOp::Sub, bound.copy(alloc)?, bound)?;
+    let body = bk_tests_fixtures::binary(alloc, BinOp::Sub, bound.copy(alloc)?, bound)?;
     let terms = vec![in alloc; term]?;
     Ok([replaced, is_too_large(open_body(alloc, &body, &terms))])
 }

@@ -2,8 +2,8 @@
 
 use crate::binding_texts::{FREE, LETTERS, REPLACED, WORDS};
 use bk_bind::{free_in, replace};
-use bk_bracketed::{Unread, formula};
 use bk_form::Form;
+use bk_tests_notation::{Unread, formula};
 use std::alloc::Global;
 use std::test::Fail;
 

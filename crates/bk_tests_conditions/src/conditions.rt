@@ -4,11 +4,11 @@ use crate::condition_texts::{
     CONNECTIVES, EVERYWHERE, EXECUTED, LETTERS, OPERANDS, OPERATORS, QUANTIFIERS, RANGES, TYPES,
 };
 use bk_bind::BindFault;
-use bk_bracketed::{formula, table_of};
-use bk_fixtures::shapes::{of_height, of_size};
-use bk_fixtures::{binary, variable};
 use bk_form::{ArrayDomain, ArrayRow, Arrays, BinOp, Form, VarTable};
 use bk_io::Memory;
+use bk_tests_fixtures::shapes::{of_height, of_size};
+use bk_tests_fixtures::{binary, variable};
+use bk_tests_notation::{formula, table_of};
 use bk_wd::{checked, defined};
 use std::alloc::Global;
 use std::process::Abort;

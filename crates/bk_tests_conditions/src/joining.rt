@@ -1,8 +1,8 @@
 // Conditions put together, what the index of an array is asked, and what formulas ask under binders around them.
 
 use crate::condition_texts::LETTERS;
-use bk_bracketed::{Unread, formula, types_of};
 use bk_form::{ArrayDomain, ArrayRow, Form, VarTable};
+use bk_tests_notation::{Unread, formula, types_of};
 use bk_wd::{
     all_over, both, defined_under, index_check, is_true, nothing, where_false, where_true,
 };

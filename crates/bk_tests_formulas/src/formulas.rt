@@ -1,12 +1,12 @@
 // Formulas, types, tables, arrays and tokens, and their copies. Each call that takes memory is made once, and what it
 // answers is compared.
 
-use bk_fixtures::shapes::all;
-use bk_fixtures::{binary, interval, leaf, literal, text};
 use bk_form::{
     ArrayDomain, ArrayRow, Arrays, BinOp, Form, Part, Token, TokenKind, Ty, VarTable, View,
 };
 use bk_io::Memory;
+use bk_tests_fixtures::shapes::all;
+use bk_tests_fixtures::{binary, interval, leaf, literal, text};
 use std::alloc::Global;
 use std::test::Fail;
 

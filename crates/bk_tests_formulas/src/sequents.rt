@@ -1,11 +1,11 @@
 // Sequents are copied; what stands at a path, and another formula there.
 
 use bk_bind::BindFault;
-use bk_fixtures::shapes::{all, comprehension, lambda, of_height, of_size};
-use bk_fixtures::{binary, of_variables, unary, variable};
 use bk_form::{BinOp, Form, UnOp};
 use bk_io::Memory;
 use bk_seq::{Sequent, at, numbered, put, split};
+use bk_tests_fixtures::shapes::{all, comprehension, lambda, of_height, of_size};
+use bk_tests_fixtures::{binary, of_variables, unary, variable};
 use std::alloc::Global;
 use std::test::Fail;
 

@@ -1,9 +1,9 @@
 // Copies of substitutions in which every variant stands, and the variables that substitutions write and read.
 
-use bk_fixtures::{becomes, of_variables, variable};
 use bk_form::BinOp;
 use bk_gsl::{Sub, reads, writes};
 use bk_io::Memory;
+use bk_tests_fixtures::{becomes, of_variables, variable};
 use std::alloc::Global;
 use std::test::Fail;
 

@@ -5,13 +5,13 @@
 ghost use Rattle.std.specs.Option.{option_map};
 ghost use Rattle.std.specs.Prelude.{◌≡◌, IfOk, IfSome, IsTrue, None};
 ghost use Rattle.bk_dev.specs.Facts.{IsDevelopment};
-ghost use Rattle.bk_level.specs.VerdictLaws.{MayStandAbove};
+ghost use Rattle.bk_statics.specs.VerdictLaws.{MayStandAbove};
 
 use crate::notation::notation;
 use bk_dev::Development;
-use bk_elab::ElabFault;
+use bk_elab::{level, max_of};
+use bk_elab_terms::ElabFault;
 use bk_io::Memory;
-use bk_levels::{level, max_of};
 use bk_lex::tokens;
 use bk_p_comp::component;
 use bk_raw::{ComponentKind, RawComponent};

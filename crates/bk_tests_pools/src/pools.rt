@@ -2,8 +2,8 @@
 
 use crate::pool_texts::{AFTER, BEFORE, LETTERS, SHARED};
 use bk_bind::replace;
-use bk_bracketed::{Unread, formula};
 use bk_form::{Form, Pool};
+use bk_tests_notation::{Unread, formula};
 use std::alloc::Global;
 use std::test::Fail;
 

@@ -3,11 +3,11 @@
 ghost use Rattle.std.specs.Prelude.{◌≡◌, ◌<◌};
 ghost use Rattle.bk_form.specs.Table.{is_among_sets};
 
-use bk_bracketed::{Unread, type_of};
-use bk_fixtures::text;
 use bk_form::{Ty, TyView, VarTable};
 use bk_io::{Memory, Text};
 use bk_raw::Scope;
+use bk_tests_fixtures::text;
+use bk_tests_notation::{Unread, type_of};
 use std::alloc::Global;
 
 // The letters of the variables, in the order of their numbers.

@@ -6,12 +6,12 @@ use crate::names::{LETTERS, scope, table};
 use crate::texts::{
     BINDERS, LACKING, LEAVES, OBLIGATIONS, ONE_OPERAND, PARENTHESES, TWO_OPERANDS, TYPES,
 };
-use bk_bracketed::{Unread, formula, type_of};
 use bk_form::Form;
 use bk_lex::tokens;
 use bk_p_expr::term;
 use bk_raw::RawTerm;
 use bk_show::{show, show_type};
+use bk_tests_notation::{Unread, formula, type_of};
 use std::alloc::Global;
 use std::process::Abort;
 use std::test::Fail;
@@ -36,7 +36,7 @@ fn is_read_back(alloc: Global, form: &Form) -> Result<bool, Unread> {
     let Some(tree) = parsed(alloc, &text) else {
         return Ok(false);
     };
-    match bk_elab::formula(alloc, &tree, &scope(alloc)?, &table) {
+    match bk_elab_terms::formula(alloc, &tree, &scope(alloc)?, &table) {
         Ok(found) => Ok(found.equal(form)),
         Err(_) => Ok(false),
     }

@@ -8,13 +8,13 @@ use crate::rule_texts::{
 };
 use crate::rules::results;
 use crate::stating::{no_steps, steps};
-use bk_bracketed::Unread;
-use bk_fixtures::{always, unary};
 use bk_form::{Form, UnOp, VarTable};
 use bk_io::Memory;
 use bk_kernel::StepFault;
 use bk_limits::GREATEST_HEIGHT;
 use bk_seq::Sequent;
+use bk_tests_fixtures::{always, unary};
+use bk_tests_notation::Unread;
 use std::alloc::Global;
 use std::test::Fail;
 

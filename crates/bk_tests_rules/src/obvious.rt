@@ -1,11 +1,11 @@
 // Each kind of obvious sequent, and neighbours that are none.
 
 use crate::reading::{Claim, sequent};
-use bk_fixtures::{binary, leaf, variable};
 use bk_form::{BinOp, Domain, Form, Part};
 use bk_io::Memory;
 use bk_kernel::is_obvious;
 use bk_seq::Sequent;
+use bk_tests_fixtures::{binary, leaf, variable};
 use std::alloc::Global;
 use std::process::Abort;
 use std::test::Fail;

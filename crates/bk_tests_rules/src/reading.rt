@@ -3,11 +3,11 @@
 // The numbers of `lin` are those of hypotheses, and after ` : ` stand its lines between `|`: the facts that are added up, or
 // `1 / 2` for the first fact divided by two.
 
-use bk_bracketed::{Unread, formula};
 use bk_form::Form;
 use bk_kernel::{Place, Rule};
 use bk_lin::Line;
 use bk_seq::Sequent;
+use bk_tests_notation::{Unread, formula};
 use std::alloc::Global;
 
 // The letters stand for variables of the types below.

@@ -2,10 +2,10 @@
 
 use crate::reading::{Claim, TYPES, rules, sequent};
 use crate::rules::{results, verdict};
-use bk_bracketed::{Unread, table_of};
 use bk_form::Form;
 use bk_kernel::{StepFault, Verdict};
 use bk_seq::Sequent;
+use bk_tests_notation::{Unread, table_of};
 use std::alloc::Global;
 use std::process::Abort;
 use std::test::Fail;

@@ -3,11 +3,11 @@
 ghost use Rattle.std.specs.Prelude.{◌≡◌, true, length, IfOk};
 ghost use Rattle.bk_dev.specs.B0.{IsB0Development};
 ghost use Rattle.bk_dev.specs.Development.{is_complete};
-ghost use Rattle.bk_project.specs.ProjectFile.{component_lines};
+ghost use Rattle.bk_front.specs.ProjectFile.{component_lines};
 
 use bk_dev::Development;
+use bk_front::{LineKind, ProjectLine, Refusal, lines, project};
 use bk_io::Memory;
-use bk_project::{LineKind, ProjectLine, Refusal, lines, project};
 use std::alloc::Global;
 
 const PROJECT: &str = "machine Counter.mch\nimplementation Counter_i.imp\n";

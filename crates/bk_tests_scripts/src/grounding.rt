@@ -3,11 +3,11 @@
 
 use crate::counter::{bytes, counter};
 use bk_dev::Development;
-use bk_ground::ground;
 use bk_kernel::Rule;
 use bk_lin::Line;
 use bk_p_proof::{ScriptFault, Scripts, scripts};
 use bk_po::obligation_table;
+use bk_scripts::ground;
 use std::alloc::Global;
 use std::test::Fail;
 

@@ -7,10 +7,10 @@ ghost use Rattle.bk_tests_sessions.specs.Drawn.{set_to, element_at, answering, s
 
 use crate::parts::{filling, is_array, level, operation, set_to_number, set_to_variable};
 use bk_dev::{Body, Kind, Level};
-use bk_fixtures::{always, becomes, leaf, text, with_number};
 use bk_form::{BinOp, Part};
 use bk_gsl::Sub;
 use bk_io::Memory;
+use bk_tests_fixtures::{always, becomes, leaf, text, with_number};
 use std::alloc::Global;
 
 // ---- the machine

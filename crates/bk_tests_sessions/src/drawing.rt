@@ -7,10 +7,10 @@ ghost use Rattle.bk_gsl.specs.Substitution.{any, seq, loop};
 ghost use Rattle.bk_tests_sessions.specs.Drawn.{AreLocals, IsArithmetic, IsComparison, IsConnective, IsNumber, IsNumberAnywhere, IsTest, IsDrawn, set_to, local_block, is_left, counted_turns, element_write};
 
 use crate::draws::Draws;
-use bk_fixtures::{always, becomes, binary, literal, unary, variable, with_number};
 use bk_form::{BinOp, Form, Part, UnOp};
 use bk_gsl::Sub;
 use bk_io::Memory;
+use bk_tests_fixtures::{always, becomes, binary, literal, unary, variable, with_number};
 use std::alloc::Global;
 
 // ---- numbers

@@ -11,10 +11,10 @@ use crate::parts::{
     with_links,
 };
 use bk_dev::{Development, Home, Kind, Level};
-use bk_fixtures::{always, becomes, binary, literal, text, variable, with_number};
 use bk_form::{BinOp, Form, Ty, VarTable};
 use bk_gsl::Sub;
 use bk_io::Memory;
+use bk_tests_fixtures::{always, becomes, binary, literal, text, variable, with_number};
 use std::alloc::Global;
 
 fn table(alloc: Global) -> Result<VarTable, Memory>

@@ -9,10 +9,10 @@ ghost use Rattle.bk_form.specs.declared.operator.Domain.TheVariants.{Integer};
 ghost use Rattle.bk_tests_sessions.specs.Drawn.{set_to, zero_to_two, all_zero};
 
 use bk_dev::{Body, DEFAULT_MAX, Development, Home, Kind, Level, OpHead};
-use bk_fixtures::{always, becomes, binary, interval, leaf, literal, text, unary, variable};
 use bk_form::{BinOp, Domain, Form, Part, UnOp, VarTable};
 use bk_gsl::Sub;
 use bk_io::{Memory, Text};
+use bk_tests_fixtures::{always, becomes, binary, interval, leaf, literal, text, unary, variable};
 use std::alloc::Global;
 
 // ---- statements

@@ -5,9 +5,9 @@ ghost use Rattle.bk_form.specs.Table.{with_variable};
 ghost use Rattle.bk_tests_sessions.specs.Drawn.{number_named, truth_named, family_table, first_rows, family_homes, family_extents};
 
 use bk_dev::Home;
-use bk_fixtures::text;
 use bk_form::{Ty, VarTable};
 use bk_io::Memory;
+use bk_tests_fixtures::text;
 use std::alloc::Global;
 
 fn add_number(alloc: Global, table: &mut VarTable, name: &[u8]) -> Result<(), Memory>

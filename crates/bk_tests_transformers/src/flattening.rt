@@ -3,8 +3,8 @@
 use crate::flattening_texts::{COPIED, OVERLAPPING, REWRITTEN};
 use crate::transformers::compare_boxes;
 use crate::written::{TYPES, number, substitution, table};
-use bk_bracketed::Unread;
 use bk_par::{ParFault, flatten};
+use bk_tests_notation::Unread;
 use std::alloc::Global;
 use std::process::Abort;
 use std::test::Fail;

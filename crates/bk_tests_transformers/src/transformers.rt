@@ -6,10 +6,10 @@ ghost use Rattle.bk_wp.specs.Shapes.{HasNoLoop};
 
 use crate::transformer_texts::{BINDERS, FORMS, LOOPS};
 use crate::written::{flat, form};
-use bk_fixtures::shapes::of_size;
 use bk_form::{ArrayDomain, ArrayRow, Arrays, Form, VarTable};
 use bk_gsl::{Sub, SubNode};
 use bk_io::Memory;
+use bk_tests_fixtures::shapes::of_size;
 use bk_wp::{WpFault, boxed, diamond, guarded};
 use std::alloc::Global;
 use std::process::Abort;

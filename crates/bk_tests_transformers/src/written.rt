@@ -1,17 +1,17 @@
 // Substitutions as texts, as in `PRE ( x = 1 ) THEN x := 2 END`.
 //
-// Keywords, `;` and `||` stand between blanks, and formulas are those of `bk_bracketed`. `;` and `||` join to the left, and
+// Keywords, `;` and `||` stand between blanks, and formulas are those of `bk_tests_notation`. `;` and `||` join to the left, and
 // `BEGIN` and `END` stand round what is joined first. Each `IF` has its `ELSE`. In `x, y := y, x` and `z :( z = x )` commas
 // stand between variables and between terms.
 
 ghost use Rattle.std.specs.Prelude.{IfOk};
 ghost use Rattle.bk_gsl.specs.Flat.{IsFlat};
 
-use bk_bracketed::{Unread, formula, table_of};
 use bk_form::{Form, VarTable};
 use bk_gsl::Sub;
 use bk_io::Memory;
 use bk_par::flatten;
+use bk_tests_notation::{Unread, formula, table_of};
 use std::alloc::Global;
 use std::test::Fail;
 

@@ -4,8 +4,8 @@ use crate::type_texts::{
     AROUND, BINDERS, DOMAINS, LETTERS, NUMBERS_AND_SETS, PREDICATES, RELATIONS, TYPES, UNTYPED,
     UNTYPED_AROUND, UNTYPED_PREDICATES, UNTYPED_RELATIONS, WORDS,
 };
-use bk_bracketed::{formula, table_of, type_of, types_of};
 use bk_form::{Form, Ty, VarTable};
+use bk_tests_notation::{formula, table_of, type_of, types_of};
 use bk_types::{Role, TypeFault, check, role_of, synth};
 use std::alloc::Global;
 use std::process::Abort;

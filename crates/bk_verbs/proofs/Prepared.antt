@@ -10,7 +10,7 @@ use Rattle.bk_verbs.specs.declared.status.Status.{Status}
 use Rattle.bk_verbs.specs.declared.status.Status.TheVariants.{Done}
 use Rattle.bk_verbs.specs.declared.work.Work.{Work}
 use Rattle.bk_verbs.specs.declared.work.Work.TheVariants.{Text, Ended, Play}
-use Rattle.bk_words.specs.Tasks.{Task}
+use Rattle.bk_cli.specs.Tasks.{Task}
 use Rattle.bk_verbs.specs.Session.{Plays}
 use Rattle.bk_verbs.specs.Prepared.{IsPrepared, IsPlayable, CanBePlayed}
 use Rattle.bk_verbs.specs.Work.{WritesWork}

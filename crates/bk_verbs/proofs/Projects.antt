@@ -8,11 +8,11 @@ use Rattle.bk_io.specs.Files.{Files}
 use Rattle.bk_lines.specs.Lines.{kept_lines, is_skipped}
 use Rattle.bk_dev.specs.Development.{Head, Body, Development, level_at, last}
 use Rattle.bk_b0.specs.Translation.{translation, entries, init_code, operation_code}
-use Rattle.bk_project.specs.declared.project_file.ProjectLine.{ProjectLine}
-use Rattle.bk_project.specs.ProjectFile.{IsFileName, IsProjectLine, AreLinesOf, is_proofs, component_lines, kinds_of}
-use Rattle.bk_project.specs.Project.{Reads}
-use Rattle.bk_project.proofs.ProjectFiles.{lines_are_one}
-use Rattle.bk_project.proofs.OneReading.{read_as_one}
+use Rattle.bk_front.specs.declared.project_file.ProjectLine.{ProjectLine}
+use Rattle.bk_front.specs.ProjectFile.{IsFileName, IsProjectLine, AreLinesOf, is_proofs, component_lines, kinds_of}
+use Rattle.bk_front.specs.Project.{Reads}
+use Rattle.bk_front.proofs.ProjectFiles.{lines_are_one}
+use Rattle.bk_front.proofs.OneReading.{read_as_one}
 use Rattle.bk_raw.specs.Trees.ScriptTree.{RawScript}
 use Rattle.bk_p_proof.specs.Files.{AreScriptsOf}
 use Rattle.bk_p_proof.proofs.OneAnswer.{scripts_are_one}

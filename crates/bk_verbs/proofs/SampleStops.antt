@@ -14,12 +14,12 @@ use Rattle.bk_code.specs.declared.image.Image.{Image}
 use Rattle.bk_dev.specs.Development.{Development}
 use Rattle.bk_b0.specs.Translation.{translation}
 use Rattle.bk_raw.specs.Trees.ScriptTree.{RawScript}
-use Rattle.bk_project.specs.declared.project_file.ProjectLine.{ProjectLine}
-use Rattle.bk_project.specs.declared.project_file.LineKind.TheVariants.{Machine, Implementation, Proofs}
-use Rattle.bk_project.specs.declared.refusal.Refusal.{Refusal}
-use Rattle.bk_project.specs.declared.refusal.Refusal.TheVariants.{Fault, Limit as LimitOfText, Memory as OutOfMemory}
-use Rattle.bk_project.specs.ProjectFile.{IsFileName, AreLinesOf}
-use Rattle.bk_project.proofs.ProjectFiles.{lines_are_one}
+use Rattle.bk_front.specs.declared.project_file.ProjectLine.{ProjectLine}
+use Rattle.bk_front.specs.declared.project_file.LineKind.TheVariants.{Machine, Implementation, Proofs}
+use Rattle.bk_front.specs.declared.refusal.Refusal.{Refusal}
+use Rattle.bk_front.specs.declared.refusal.Refusal.TheVariants.{Fault, Limit as LimitOfText, Memory as OutOfMemory}
+use Rattle.bk_front.specs.ProjectFile.{IsFileName, AreLinesOf}
+use Rattle.bk_front.proofs.ProjectFiles.{lines_are_one}
 use Rattle.bk_p_proof.specs.declared.fault.ScriptFault.{ScriptFault}
 use Rattle.bk_p_proof.specs.declared.fault.ScriptFault.TheVariants.{Fault as FaultOfProofs, Limit as LimitOfProofs, Memory as NoRoomForProofs}
 use Rattle.bk_calls.specs.Sample.{sample_of, project_text}

@@ -4,7 +4,7 @@ use Rattle.bk_code.specs.declared.image.Image.{Image}
 use Rattle.bk_code.specs.Session.{Request, Session}
 use Rattle.bk_calls.specs.Transcript.{transcript}
 use Rattle.bk_status.specs.declared.table.Row.{Row}
-use Rattle.bk_texts.specs.Table.{table_text}
+use Rattle.bk_report.specs.Table.{table_text}
 use Rattle.bk_verbs.specs.declared.status.Status.{Status}
 use Rattle.bk_verbs.specs.Session.{Plays}
 use Rattle.bk_verbs.specs.Samples.{sample_files, sample_project, last_line}

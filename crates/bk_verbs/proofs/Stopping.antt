@@ -7,11 +7,11 @@ use Rattle.bk_dev.specs.Development.{Development}
 use Rattle.bk_gen.specs.declared.error.GenFault.{GenFault}
 use Rattle.bk_gen.specs.declared.error.GenFault.TheVariants.{CodeTooLong, TooManyCells, Memory as NoRoom}
 use Rattle.bk_b0.specs.Translation.{translation}
-use Rattle.bk_project.specs.declared.refusal.Refusal.{Refusal}
-use Rattle.bk_project.specs.declared.refusal.Refusal.TheVariants.{Fault, Limit as LimitOfText, Memory as OutOfMemory}
-use Rattle.bk_project.specs.declared.project_file.ProjectLine.{ProjectLine}
-use Rattle.bk_project.specs.ProjectFile.{AreLinesOf, IsRefusalOfLines, kinds_of}
-use Rattle.bk_project.specs.Project.{Reads, IsRefusalOf}
+use Rattle.bk_front.specs.declared.refusal.Refusal.{Refusal}
+use Rattle.bk_front.specs.declared.refusal.Refusal.TheVariants.{Fault, Limit as LimitOfText, Memory as OutOfMemory}
+use Rattle.bk_front.specs.declared.project_file.ProjectLine.{ProjectLine}
+use Rattle.bk_front.specs.ProjectFile.{AreLinesOf, IsRefusalOfLines, kinds_of}
+use Rattle.bk_front.specs.Project.{Reads, IsRefusalOf}
 use Rattle.bk_raw.specs.Trees.ScriptTree.{RawScript}
 use Rattle.bk_p_proof.specs.Files.{AreScriptsOf, IsFaultOf as IsFaultOfProofs}
 use Rattle.bk_p_proof.specs.declared.fault.ScriptFault.{ScriptFault}
@@ -23,7 +23,7 @@ use Rattle.bk_calls.specs.Outcome.{fault_of}
 use Rattle.bk_verbs.specs.declared.stop.Stop.{Stop}
 use Rattle.bk_verbs.specs.declared.stop.Stop.TheVariants.{Usage, Missing, Refused, Limit, Unproved, Incomplete, BadCalls, BadImage, ReadFault, WriteFault, Memory}
 use Rattle.bk_verbs.specs.Causes.{IsOfReading, IsOfChecks}
-use Rattle.bk_words.specs.Tasks.{Task, Asks, has_proofs}
+use Rattle.bk_cli.specs.Tasks.{Task, Asks, has_proofs}
 use Rattle.bk_verbs.specs.Project.{IsTold, IsToldAsBytes, AreTold, files_of, fetched, ReadsProject}
 use Rattle.bk_verbs.specs.Stops.{IsOutside, StopsAtFile, StopsAtFiles, StopsAtTold, StopsAtComponents, StopsAtProject, StopsPastLimits, StopsAtObligations, HasTooManyCells, StopsPastCode, StopsAtScript, StopsAtCallScript, StopsAtLoading, StopsAtImage, StopsRead, StopsAtWork, StopsTask, StopsAt, stop_of_refusal, stop_of_proofs, stop_of_code, stop_of_calls}
 use Rattle.bk_verbs.proofs.Fetching.{stops_before, stops_behind}

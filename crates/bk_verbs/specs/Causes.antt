@@ -3,8 +3,8 @@ use Rattle.std.specs.Prelude.{◌≡◌, ℕ, ◌≤◌, List, Result, Err}
 use Rattle.bk_io.specs.Counts.{Rose}
 use Rattle.bk_io.specs.declared.sink.SinkFault.{SinkFault}
 use Rattle.bk_io.specs.declared.sink.SinkFault.TheVariants.{Failed, Memory as NoRoom}
-use Rattle.bk_words.specs.declared.words.WordsFault.{WordsFault}
-use Rattle.bk_words.specs.declared.words.WordsFault.TheVariants.{Refused as WordsRefused, Memory as NoRoomForWords}
+use Rattle.bk_cli.specs.declared.words.WordsFault.{WordsFault}
+use Rattle.bk_cli.specs.declared.words.WordsFault.TheVariants.{Refused as WordsRefused, Memory as NoRoomForWords}
 use Rattle.bk_verbs.specs.declared.stop.Stop.{Stop}
 use Rattle.bk_verbs.specs.declared.stop.Stop.TheVariants.{Usage, Missing, Refused, Limit, Unproved, Incomplete, BadCalls, BadImage, WriteFault, Memory}
 

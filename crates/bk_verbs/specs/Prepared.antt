@@ -13,7 +13,7 @@ use Rattle.bk_calls.specs.Transcript.{transcript}
 use Rattle.bk_verbs.specs.declared.status.Status.TheVariants.{Done}
 use Rattle.bk_verbs.specs.declared.work.Work.{Work}
 use Rattle.bk_verbs.specs.declared.work.Work.TheVariants.{Text, Ended, Play}
-use Rattle.bk_words.specs.Tasks.{Task, most_fuel}
+use Rattle.bk_cli.specs.Tasks.{Task, most_fuel}
 use Rattle.bk_verbs.specs.Session.{session_status, PlaysFront}
 use Rattle.bk_verbs.specs.Work.{IsExecuted, IsWork}
 

@@ -9,9 +9,9 @@ use Rattle.bk_code.specs.Session.{Request}
 use Rattle.bk_image.specs.Spelling.{HasSpelling}
 use Rattle.bk_dev.specs.Development.{Development, is_complete}
 use Rattle.bk_raw.specs.Trees.ScriptTree.{RawScript}
-use Rattle.bk_project.specs.declared.project_file.ProjectLine.{ProjectLine}
-use Rattle.bk_project.specs.ProjectFile.{AreLinesOf, component_lines, proof_lines, kinds_of}
-use Rattle.bk_project.specs.Project.{Reads}
+use Rattle.bk_front.specs.declared.project_file.ProjectLine.{ProjectLine}
+use Rattle.bk_front.specs.ProjectFile.{AreLinesOf, component_lines, proof_lines, kinds_of}
+use Rattle.bk_front.specs.Project.{Reads}
 use Rattle.bk_po.specs.Obligations.{obligations}
 use Rattle.bk_po.specs.Limits.{PassNoLimit}
 use Rattle.bk_p_proof.specs.Files.{AreScriptsOf}

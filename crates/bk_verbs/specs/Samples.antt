@@ -3,7 +3,7 @@ use Rattle.std.specs.Prelude.{ℕ, Bool, false, cond, nat_eq, ◌||◌, List, []
 use Rattle.bk_limits.specs.declared.TheConstants.{FUEL}
 use Rattle.bk_io.specs.Files.{Files}
 use Rattle.bk_calls.specs.Sample.{sample_of, shelved}
-use Rattle.bk_words.specs.Tasks.{Task, status_task, run_task}
+use Rattle.bk_cli.specs.Tasks.{Task, status_task, run_task}
 
 -- ---- files
 -- the files of the sample with so many variables, its call script among them

@@ -13,12 +13,12 @@ use Rattle.bk_dev.specs.Development.{Development, level_at, last, is_complete}
 use Rattle.bk_gen.specs.declared.error.GenFault.{GenFault}
 use Rattle.bk_gen.specs.declared.error.GenFault.TheVariants.{CodeTooLong, TooManyCells, Memory as NoRoom}
 use Rattle.bk_b0.specs.Translation.{translation}
-use Rattle.bk_project.specs.declared.project_file.ProjectLine.{ProjectLine}
-use Rattle.bk_project.specs.declared.refusal.Refusal.{Refusal}
-use Rattle.bk_project.specs.declared.refusal.Refusal.TheVariants.{Fault, Limit as LimitOfText, Memory as OutOfMemory}
-use Rattle.bk_project.specs.ProjectFile.{AreLinesOf, IsRefusalOfLines, kinds_of}
-use Rattle.bk_project.specs.Project.{Reads, IsRefusalOf}
-use Rattle.bk_project.specs.Laws.{IsOfProject}
+use Rattle.bk_front.specs.declared.project_file.ProjectLine.{ProjectLine}
+use Rattle.bk_front.specs.declared.refusal.Refusal.{Refusal}
+use Rattle.bk_front.specs.declared.refusal.Refusal.TheVariants.{Fault, Limit as LimitOfText, Memory as OutOfMemory}
+use Rattle.bk_front.specs.ProjectFile.{AreLinesOf, IsRefusalOfLines, kinds_of}
+use Rattle.bk_front.specs.Project.{Reads, IsRefusalOf}
+use Rattle.bk_front.specs.Laws.{IsOfProject}
 use Rattle.bk_po.specs.Obligations.{obligations}
 use Rattle.bk_po.specs.Limits.{first_too_large, PassTogether, PassNoLimit}
 use Rattle.bk_p_proof.specs.declared.fault.ScriptFault.{ScriptFault}
@@ -35,7 +35,7 @@ use Rattle.bk_verbs.specs.declared.status.Status.{Status}
 use Rattle.bk_verbs.specs.declared.status.Status.TheVariants.{Usage as UsageStatus, Missing as MissingStatus, Refused as RefusedStatus, Unproved as UnprovedStatus, Incomplete as IncompleteStatus, BadCalls as BadCallsStatus, BadImage as BadImageStatus, ReadFault as ReadFaultStatus, WriteFault as WriteFaultStatus, Memory as MemoryStatus}
 use Rattle.bk_verbs.specs.declared.stop.Stop.{Stop}
 use Rattle.bk_verbs.specs.declared.stop.Stop.TheVariants.{Usage, Missing, Refused, Limit, Unproved, Incomplete, BadCalls, BadImage, ReadFault, WriteFault, Memory}
-use Rattle.bk_words.specs.Tasks.{Task, check_task, status_task, po_task, code_task, build_task, run_task, exec_task, sample_task, Asks, AskForNothing, has_proofs}
+use Rattle.bk_cli.specs.Tasks.{Task, check_task, status_task, po_task, code_task, build_task, run_task, exec_task, sample_task, Asks, AskForNothing, has_proofs}
 use Rattle.bk_verbs.specs.Project.{IsTold, AreTold, IsToldAsBytes, component_files, proof_files, fetched, ReadsProject, IsFinished, IsWithinCodeLimits}
 use Rattle.bk_verbs.specs.Samples.{sample_files, sample_project, sample_run}
 

@@ -16,12 +16,12 @@ use Rattle.bk_status.specs.Rows.{HasRows}
 use Rattle.bk_calls.specs.Transcript.{transcript}
 use Rattle.bk_verbs.specs.declared.status.Status.{Status}
 use Rattle.bk_verbs.specs.declared.status.Status.TheVariants.{Done, Trapped, OutOfFuel}
-use Rattle.bk_words.specs.Tasks.{Task, check_task, status_task, po_task, code_task, build_task, run_task, exec_task, sample_task, has_proofs}
+use Rattle.bk_cli.specs.Tasks.{Task, check_task, status_task, po_task, code_task, build_task, run_task, exec_task, sample_task, has_proofs}
 use Rattle.bk_verbs.specs.Project.{IsToldAsBytes, ReadsProject, IsFinished, IsWithinCodeLimits, ReadsCalls}
-use Rattle.bk_texts.specs.Check.{check_text}
-use Rattle.bk_texts.specs.Table.{table_text}
-use Rattle.bk_texts.specs.Obligations.{obligations_text}
-use Rattle.bk_texts.specs.Listing.{listing}
+use Rattle.bk_report.specs.Check.{check_text}
+use Rattle.bk_report.specs.Table.{table_text}
+use Rattle.bk_report.specs.Obligations.{obligations_text}
+use Rattle.bk_report.specs.Listing.{listing}
 use Rattle.bk_verbs.specs.Session.{session_status}
 use Rattle.bk_verbs.specs.Samples.{sample_files, sample_project, sample_table, sample_run, last_line}
 

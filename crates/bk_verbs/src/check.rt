@@ -3,7 +3,7 @@
 ghost use Rattle.std.specs.Prelude.{◌≡◌, ◌⊎◌, Some, IfOk, IfErr};
 ghost use Rattle.bk_io.specs.Files.{Files};
 ghost use Rattle.bk_io.specs.Counts.{HasCause};
-ghost use Rattle.bk_words.specs.Tasks.{check_task};
+ghost use Rattle.bk_cli.specs.Tasks.{check_task};
 ghost use Rattle.bk_verbs.specs.declared.stop.Stop.TheVariants.{ReadFault};
 ghost use Rattle.bk_verbs.specs.Causes.{IsOfReading, CountsAbsence};
 ghost use Rattle.bk_verbs.specs.Stops.{IsOutside, StopsTask};
@@ -13,7 +13,7 @@ use crate::files::read_project;
 use crate::stop::Stop;
 use crate::work::Work;
 use bk_io::Shelf;
-use bk_texts::check_line;
+use bk_report::check_line;
 use std::alloc::Global;
 
 /// The line that says what a project is read as. Its proof files are not fetched.

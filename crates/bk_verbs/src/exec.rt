@@ -5,7 +5,7 @@ ghost use Rattle.bk_io.specs.Files.{Files};
 ghost use Rattle.bk_io.specs.Counts.{HasCause};
 ghost use Rattle.bk_image.specs.Encoding.{Encodes};
 ghost use Rattle.bk_verbs.specs.declared.stop.Stop.TheVariants.{ReadFault};
-ghost use Rattle.bk_words.specs.Tasks.{exec_task, most_fuel};
+ghost use Rattle.bk_cli.specs.Tasks.{exec_task, most_fuel};
 ghost use Rattle.bk_verbs.specs.Causes.{IsOfReading, IsOfChecks, CountsAbsence};
 ghost use Rattle.bk_verbs.specs.Stops.{IsOutside, StopsAtLoading, StopsTask};
 ghost use Rattle.bk_verbs.specs.Prepared.{IsPrepared, CanBePlayed};

@@ -5,9 +5,9 @@ ghost use Rattle.bk_io.specs.Files.{Files};
 ghost use Rattle.bk_io.specs.Counts.{HasCause};
 ghost use Rattle.bk_dev.specs.B0.{IsB0Development};
 ghost use Rattle.bk_dev.specs.Development.{is_complete};
-ghost use Rattle.bk_project.specs.ProjectFile.{IsFileName, AreLines, AreLinesOf, component_lines, kinds_of};
-ghost use Rattle.bk_project.specs.Project.{Reads, IsRefusalOf};
-ghost use Rattle.bk_project.specs.declared.refusal.Refusal.{Refusal};
+ghost use Rattle.bk_front.specs.ProjectFile.{IsFileName, AreLines, AreLinesOf, component_lines, kinds_of};
+ghost use Rattle.bk_front.specs.Project.{Reads, IsRefusalOf};
+ghost use Rattle.bk_front.specs.declared.refusal.Refusal.{Refusal};
 ghost use Rattle.bk_p_proof.specs.Files.{AreScriptsOf, IsFaultOf};
 ghost use Rattle.bk_p_proof.specs.declared.fault.ScriptFault.{ScriptFault};
 ghost use Rattle.bk_verbs.specs.declared.stop.Stop.TheVariants.{ReadFault, Memory};
@@ -18,10 +18,10 @@ ghost use Rattle.bk_verbs.specs.Project.{IsTold, AreTold, files_of, fetched, Rea
 
 use crate::stop::Stop;
 use bk_dev::Development;
+use bk_front::{LineKind, ProjectLine, Refusal, lines, project};
 use bk_io::{Fetch, Shelf, Text};
 use bk_limits::MOST_BYTES;
 use bk_p_proof::{ScriptFault, Scripts, scripts};
-use bk_project::{LineKind, ProjectLine, Refusal, lines, project};
 use std::alloc::Global;
 use std::str;
 

@@ -3,7 +3,7 @@
 ghost use Rattle.std.specs.Prelude.{◌≡◌, ◌⊎◌, Some, IfOk, IfErr};
 ghost use Rattle.bk_io.specs.Files.{Files};
 ghost use Rattle.bk_io.specs.Counts.{HasCause};
-ghost use Rattle.bk_words.specs.Tasks.{code_task};
+ghost use Rattle.bk_cli.specs.Tasks.{code_task};
 ghost use Rattle.bk_verbs.specs.declared.stop.Stop.TheVariants.{ReadFault};
 ghost use Rattle.bk_verbs.specs.Causes.{IsOfReading, CountsAbsence};
 ghost use Rattle.bk_verbs.specs.Stops.{IsOutside, StopsTask};
@@ -15,7 +15,7 @@ use crate::proof::check_complete;
 use crate::stop::Stop;
 use crate::work::Work;
 use bk_io::Shelf;
-use bk_texts::listing;
+use bk_report::listing;
 use std::alloc::Global;
 
 /// The listing of a project's code. Its proof files are not fetched, and its obligations are not made.

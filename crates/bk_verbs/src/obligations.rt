@@ -3,7 +3,7 @@
 ghost use Rattle.std.specs.Prelude.{◌≡◌, ◌⊎◌, Some, IfOk, IfErr};
 ghost use Rattle.bk_io.specs.Files.{Files};
 ghost use Rattle.bk_io.specs.Counts.{HasCause};
-ghost use Rattle.bk_words.specs.Tasks.{po_task};
+ghost use Rattle.bk_cli.specs.Tasks.{po_task};
 ghost use Rattle.bk_verbs.specs.declared.stop.Stop.TheVariants.{ReadFault};
 ghost use Rattle.bk_verbs.specs.Causes.{IsOfReading, CountsAbsence};
 ghost use Rattle.bk_verbs.specs.Stops.{IsOutside, StopsTask};
@@ -15,7 +15,7 @@ use crate::stop::Stop;
 use crate::work::Work;
 use bk_io::Shelf;
 use bk_po::obligation_table;
-use bk_texts::obligations_text;
+use bk_report::obligations_text;
 use std::alloc::Global;
 
 /// The text of a project's obligations. Its proof files are not fetched.

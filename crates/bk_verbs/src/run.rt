@@ -7,7 +7,7 @@ ghost use Rattle.bk_code.specs.Checks.{IsChecked};
 ghost use Rattle.bk_code.specs.Laws.{IsRequest};
 ghost use Rattle.bk_calls.specs.Script.{request_of};
 ghost use Rattle.bk_verbs.specs.declared.stop.Stop.TheVariants.{ReadFault};
-ghost use Rattle.bk_words.specs.Tasks.{run_task, most_fuel};
+ghost use Rattle.bk_cli.specs.Tasks.{run_task, most_fuel};
 ghost use Rattle.bk_verbs.specs.Causes.{IsOfReading, CountsAbsence};
 ghost use Rattle.bk_verbs.specs.Stops.{IsOutside, StopsTask};
 ghost use Rattle.bk_verbs.specs.Work.{IsMadeReady};

@@ -4,7 +4,7 @@ ghost use Rattle.std.specs.Prelude.{◌≡◌, ◌⊎◌, ◌≤◌, false, All,
 ghost use Rattle.bk_io.specs.Files.{Files};
 ghost use Rattle.bk_code.specs.Laws.{IsRequest};
 ghost use Rattle.bk_calls.specs.Script.{request_of};
-ghost use Rattle.bk_words.specs.Tasks.{sample_task, most_variables};
+ghost use Rattle.bk_cli.specs.Tasks.{sample_task, most_variables};
 ghost use Rattle.bk_verbs.specs.Causes.{IsOfChecks};
 ghost use Rattle.bk_verbs.specs.Stops.{IsOutside, StopsTask, StopsAtWork};
 ghost use Rattle.bk_verbs.specs.Samples.{sample_files, sample_project, sample_run, last_line, has_end_within};
@@ -18,7 +18,7 @@ use crate::work::Work;
 use bk_calls::{SAMPLE_CALLS, SAMPLE_PROJECT, sample};
 use bk_io::{SureShelf, SureSink};
 use bk_limits::{FUEL, MOST_CALLS};
-use bk_texts::table_text;
+use bk_report::table_text;
 use std::alloc::Global;
 
 /// The last line of a sample's status table and that of its session, which is played.

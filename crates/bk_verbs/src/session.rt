@@ -13,7 +13,7 @@ ghost use Rattle.bk_calls.specs.Room.{IsMadeFor};
 ghost use Rattle.bk_calls.specs.Transcript.{AreOutputs, reply_text, closing_text, steps_of, done_number};
 ghost use Rattle.bk_verbs.specs.declared.stop.Stop.TheVariants.{WriteFault};
 ghost use Rattle.bk_verbs.specs.Causes.{IsOfPlaying};
-ghost use Rattle.bk_words.specs.Tasks.{most_fuel};
+ghost use Rattle.bk_cli.specs.Tasks.{most_fuel};
 ghost use Rattle.bk_verbs.specs.Work.{IsExecuted};
 ghost use Rattle.bk_verbs.specs.Session.{Plays, PlaysCalls, PlaysCall, HasOutputRoom, status_of};
 ghost use Rattle.bk_verbs.specs.Session.{PlaysFront, PlaysCallsFront, PlaysCallFront};

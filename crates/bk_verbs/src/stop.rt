@@ -9,9 +9,9 @@ ghost use Rattle.bk_image.specs.Faults.{place};
 ghost use Rattle.bk_verbs.specs.Stops.{status_of_stop, fault_name, refusal_text, place_text, stop_text, Reports};
 
 use crate::status::Status;
+use bk_cli::WordsFault;
 use bk_image::LoadFault;
 use bk_io::{Sink, SinkFault, Text, put_all};
-use bk_words::WordsFault;
 use itoa::Buffer;
 use std::alloc::{AllocError, AllocFailed, Global};
 

@@ -3,7 +3,7 @@
 ghost use Rattle.std.specs.Prelude.{◌≡◌, ◌⊎◌, Some, IfOk, IfErr};
 ghost use Rattle.bk_io.specs.Files.{Files};
 ghost use Rattle.bk_io.specs.Counts.{HasCause};
-ghost use Rattle.bk_words.specs.Tasks.{status_task};
+ghost use Rattle.bk_cli.specs.Tasks.{status_task};
 ghost use Rattle.bk_verbs.specs.declared.stop.Stop.TheVariants.{ReadFault};
 ghost use Rattle.bk_verbs.specs.Causes.{IsOfReading, CountsAbsence};
 ghost use Rattle.bk_verbs.specs.Stops.{IsOutside, StopsTask};
@@ -14,7 +14,7 @@ use crate::proof::table_of;
 use crate::stop::Stop;
 use crate::work::Work;
 use bk_io::Shelf;
-use bk_texts::table_text;
+use bk_report::table_text;
 use std::alloc::Global;
 
 /// The status table of a project.

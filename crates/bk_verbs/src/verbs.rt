@@ -3,7 +3,7 @@
 ghost use Rattle.std.specs.Prelude.{◌≡◌, ◌⊎◌, Some, IfOk, IfErr};
 ghost use Rattle.bk_io.specs.Files.{Files};
 ghost use Rattle.bk_io.specs.Counts.{HasCause};
-ghost use Rattle.bk_words.specs.Asked.{task_of, HasSmallNumbers};
+ghost use Rattle.bk_cli.specs.Asked.{task_of, HasSmallNumbers};
 ghost use Rattle.bk_verbs.specs.declared.stop.Stop.TheVariants.{ReadFault};
 ghost use Rattle.bk_verbs.specs.Causes.{IsOfReading, CountsAbsence};
 ghost use Rattle.bk_verbs.specs.Stops.{IsOutside, StopsTask};
@@ -19,8 +19,8 @@ use crate::sample::sample_lines;
 use crate::stop::Stop;
 use crate::table::status_text;
 use crate::work::Work;
+use bk_cli::Command;
 use bk_io::Shelf;
-use bk_words::Command;
 use std::alloc::Global;
 
 /// Reads and checks what a command works on, and answers what it has to write.

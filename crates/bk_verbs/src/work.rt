@@ -4,7 +4,7 @@ ghost use Rattle.std.specs.Prelude.{IfOk, IfErr, OnErr};
 ghost use Rattle.bk_io.specs.Counts.{HasCause};
 ghost use Rattle.bk_io.specs.Files.{Files};
 ghost use Rattle.bk_verbs.specs.declared.stop.Stop.TheVariants.{WriteFault};
-ghost use Rattle.bk_words.specs.Tasks.{Task};
+ghost use Rattle.bk_cli.specs.Tasks.{Task};
 ghost use Rattle.bk_verbs.specs.Causes.{IsOfPlaying};
 ghost use Rattle.bk_verbs.specs.Work.{IsExecuted};
 ghost use Rattle.bk_verbs.specs.Work.{WritesWork};

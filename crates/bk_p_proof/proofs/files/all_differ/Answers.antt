@@ -5,7 +5,7 @@ use Rattle.bk_p_expr.proofs.Choices.{if_none, if_some}
 use Rattle.bk_p_proof.specs.Files.{IsFaultOf, names_of}
 use Rattle.bk_p_proof.specs.Keys.{HasKeys, IsAgain}
 use Rattle.bk_p_proof.specs.Stages.{IsProofFileAs}
-use Rattle.bk_files.proofs.FileSteps.{bytes_of, read_counted}
+use Rattle.bk_sources.proofs.FileSteps.{bytes_of, read_counted}
 use Rattle.bk_p_proof.proofs.FileSteps.{all_names, scripts_of, names_on, twice_named, each_file}
 use Rattle.bk_p_proof.proofs.files.all_differ.Goals as goal
 

@@ -1,10 +1,10 @@
 use Rattle.std.proofs.Common.{List, ℕ, take, inl, inr, refl, sym, subst, arith}
-use Rattle.bk_files.specs.Files.{Has}
+use Rattle.bk_sources.specs.Files.{Has}
 use Rattle.bk_p_proof.specs.Files.{IsFaultOf, IsHigh, IsLow}
 use Rattle.bk_p_proof.specs.Stages.{IsKeptOf, IsLowAs}
-use Rattle.bk_files.proofs.FileSteps.{bytes_of, read_counted, first_beside}
+use Rattle.bk_sources.proofs.FileSteps.{bytes_of, read_counted, first_beside}
 use Rattle.bk_p_proof.proofs.FileSteps.{kept_written, low_has, low_kept, high_kept}
-use Rattle.bk_files.proofs.Turns.{zip_has, zip_on, zip_end}
+use Rattle.bk_sources.proofs.Turns.{zip_has, zip_on, zip_end}
 use Rattle.bk_p_proof.proofs.files.all_low.Goals as goal
 
 pub limit-requires : goal.limit-requires

@@ -1,12 +1,12 @@
 use Rattle.std.proofs.Common.{◌≡◌, ◌<◌, ◌≤◌, List, ℕ, take, length, inl, inr, refl, rules, sym, subst, arith}
 use Rattle.bk_form.specs.declared.token.Token.{Token}
 use Rattle.bk_p_proof.specs.declared.fault.ScriptFault.TheVariants.{Fault}
-use Rattle.bk_files.specs.Files.{IsShallowText, Has}
+use Rattle.bk_sources.specs.Files.{IsShallowText, Has}
 use Rattle.bk_p_proof.specs.Files.{IsFaultOf, IsUnwritten, IsWritten}
 use Rattle.bk_p_proof.specs.Stages.{IsKeptOf, IsUnwrittenAt}
-use Rattle.bk_files.proofs.FileSteps.{bytes_of, tokens_of, at_text, at_file, past_texts, files_counted, first_text}
+use Rattle.bk_sources.proofs.FileSteps.{bytes_of, tokens_of, at_text, at_file, past_texts, files_counted, first_text}
 use Rattle.bk_p_proof.proofs.FileSteps.{kept_written}
-use Rattle.bk_files.proofs.Turns.{zip_both, zip_has, zip_push, zip_all}
+use Rattle.bk_sources.proofs.Turns.{zip_both, zip_has, zip_push, zip_all}
 use Rattle.bk_p_proof.proofs.files.all_read.Goals as goal
 
 pub bounds-texts-file : goal.bounds-texts-file

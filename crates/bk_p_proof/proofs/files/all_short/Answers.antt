@@ -1,11 +1,11 @@
 use Rattle.std.proofs.Common.{List, ℕ, take, All, inr, refl, sym, subst, ◌∙◌, arith}
 use Rattle.std.proofs.lemmas.Bool.{false≢true}
-use Rattle.bk_files.specs.Files.{Has}
+use Rattle.bk_sources.specs.Files.{Has}
 use Rattle.bk_p_proof.specs.Files.{IsFaultOf, IsLong, IsProofFile, IsShort}
 use Rattle.bk_p_proof.specs.Stages.{IsLowAs, IsProofFileAs}
-use Rattle.bk_files.proofs.FileSteps.{bytes_of, read_counted, first_beside}
+use Rattle.bk_sources.proofs.FileSteps.{bytes_of, read_counted, first_beside}
 use Rattle.bk_p_proof.proofs.FileSteps.{low_has, file_has, short_kept, long_kept}
-use Rattle.bk_files.proofs.Turns.{zip_has, zip_on, zip_end}
+use Rattle.bk_sources.proofs.Turns.{zip_has, zip_on, zip_end}
 use Rattle.bk_p_proof.proofs.files.all_short.Goals as goal
 
 pub limit-requires : goal.limit-requires

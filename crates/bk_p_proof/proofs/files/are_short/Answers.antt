@@ -1,6 +1,6 @@
 use Rattle.std.proofs.Common.{refl, rules}
 use Rattle.bk_p_proof.specs.Files.{IsShort}
-use Rattle.bk_files.proofs.Turns.{all_on, all_end}
+use Rattle.bk_sources.proofs.Turns.{all_on, all_end}
 use Rattle.bk_p_proof.proofs.files.are_short.Goals as goal
 
 pub loop-script-preserved : goal.loop-script-preserved

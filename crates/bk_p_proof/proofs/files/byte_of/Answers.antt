@@ -1,4 +1,4 @@
-use Rattle.bk_files.proofs.FileSteps.{byte_within, byte_behind}
+use Rattle.bk_sources.proofs.FileSteps.{byte_within, byte_behind}
 use Rattle.bk_p_proof.proofs.files.byte_of.Goals as goal
 
 pub returns-in-Some : goal.returns-in-Some

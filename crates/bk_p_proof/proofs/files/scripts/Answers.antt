@@ -2,7 +2,7 @@ use Rattle.std.proofs.Common.{◌≢◌, sym, subst}
 use Rattle.std.specs.List.{AllPairs, AllZip}
 use Rattle.bk_p_proof.specs.Files.{AreScriptsOf}
 use Rattle.bk_p_proof.specs.Stages.{IsProofFileAs}
-use Rattle.bk_files.proofs.FileSteps.{bytes_of}
+use Rattle.bk_sources.proofs.FileSteps.{bytes_of}
 use Rattle.bk_p_proof.proofs.FileSteps.{all_names, scripts_told}
 use Rattle.bk_p_proof.proofs.files.scripts.Goals as goal
 

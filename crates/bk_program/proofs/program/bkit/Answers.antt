@@ -2,7 +2,7 @@ use Rattle.std.proofs.Common.{inl, inr, map, Global, Err, ap, subst, ◌∙◌}
 use Rattle.std.specs.Prelude.{string_bytes}
 use Rattle.bk_io.specs.Pieces.{written_with}
 use Rattle.bk_verbs.specs.declared.stop.Stop.TheVariants.{Usage, ReadFault}
-use Rattle.bk_words.specs.Tasks.{run_task}
+use Rattle.bk_cli.specs.Tasks.{run_task}
 use Rattle.bk_verbs.specs.Stops.{stop_text}
 use Rattle.bk_verbs.specs.Work.{IsExecuted}
 use Rattle.bk_program.proofs.Given.{wrong_words}

@@ -2,9 +2,9 @@ use Rattle.std.proofs.Common.{◌≡◌, ℕ, List, ◌⊎◌, inl, inr, map, Gl
 use Rattle.std.specs.Prelude.{string_bytes}
 use Rattle.bk_io.specs.Files.{Files}
 use Rattle.bk_io.specs.Pieces.{WroteFront}
-use Rattle.bk_words.specs.Tasks.{AskForNothing}
-use Rattle.bk_words.specs.Asked.{task_of}
-use Rattle.bk_words.proofs.Asking.{ask_for_one}
+use Rattle.bk_cli.specs.Tasks.{AskForNothing}
+use Rattle.bk_cli.specs.Asked.{task_of}
+use Rattle.bk_cli.proofs.Asking.{ask_for_one}
 use Rattle.bk_verbs.specs.declared.status.Status.{Status}
 use Rattle.bk_verbs.specs.declared.stop.Stop.TheVariants.{Usage, Memory}
 use Rattle.bk_verbs.specs.Causes.{stop_of_words, IsOfReading, IsOfPlaying}

@@ -1,5 +1,5 @@
 use Rattle.std.proofs.Common.{◌∷◌, [], ◌++◌, ◌∙◌, ap}
-use Rattle.bk_ground.specs.Sight.{part_text}
+use Rattle.bk_scripts.specs.Sight.{part_text}
 use Rattle.bk_status.proofs.Names.{name_more}
 use Rattle.bk_status.proofs.name.text_of.Goals as goal
 

@@ -1,5 +1,5 @@
 use Rattle.std.proofs.Common.{◌≡◌, ◌≤◌, take, length}
-use Rattle.bk_project.specs.ProjectFile.{component_lines}
+use Rattle.bk_front.specs.ProjectFile.{component_lines}
 use Rattle.bk_tests_scripts.proofs.counter.component_count.Given as goal
 
 abbrev pub invariant-loop-line : goal.invariant-loop-line

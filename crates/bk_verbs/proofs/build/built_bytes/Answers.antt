@@ -1,6 +1,6 @@
 use Rattle.std.proofs.Common.{◌≡◌, ◌⊎◌, ◌∙◌, inl, inr, refl, Some, ap, subst}
 use Rattle.bk_io.specs.Files.{Files}
-use Rattle.bk_words.specs.Tasks.{build_task}
+use Rattle.bk_cli.specs.Tasks.{build_task}
 use Rattle.bk_verbs.specs.Stops.{IsOutside, StopsTask}
 use Rattle.bk_verbs.proofs.Stopping.{handed_on, or_else_stops, at_reading, at_read}
 use Rattle.bk_code.specs.Checks.{IsLoadable}

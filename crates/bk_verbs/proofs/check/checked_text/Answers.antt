@@ -1,6 +1,6 @@
 use Rattle.std.proofs.Common.{◌≡◌, ◌⊎◌, refl, Some}
 use Rattle.bk_io.specs.Files.{Files}
-use Rattle.bk_words.specs.Tasks.{check_task}
+use Rattle.bk_cli.specs.Tasks.{check_task}
 use Rattle.bk_verbs.specs.Stops.{IsOutside, StopsTask}
 use Rattle.bk_verbs.proofs.Stopping.{handed_on, at_reading}
 use Rattle.bk_verbs.proofs.check.checked_text.Goals as goal

@@ -1,6 +1,6 @@
 use Rattle.std.proofs.Common.{◌≡◌, ◌⊎◌, ◌∙◌, ℕ, List, inl, inr, refl, Some, sym, subst}
 use Rattle.bk_io.specs.Files.{Files}
-use Rattle.bk_words.specs.Tasks.{exec_task}
+use Rattle.bk_cli.specs.Tasks.{exec_task}
 use Rattle.bk_verbs.specs.Stops.{IsOutside, StopsTask}
 use Rattle.bk_verbs.proofs.Stopping.{handed_on, or_else_stops, at_image_file, at_loading, at_call_script}
 use Rattle.std.proofs.Common.{map, arith, ap, All}

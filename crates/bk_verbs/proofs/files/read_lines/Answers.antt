@@ -1,5 +1,5 @@
 use Rattle.std.proofs.Common.{subst, sym}
-use Rattle.bk_project.specs.ProjectFile.{AreLinesOf}
+use Rattle.bk_front.specs.ProjectFile.{AreLinesOf}
 use Rattle.bk_verbs.specs.Project.{IsTold}
 use Rattle.bk_verbs.proofs.Projects.{few_project_lines}
 use Rattle.bk_verbs.proofs.Stopping.{at_lines}

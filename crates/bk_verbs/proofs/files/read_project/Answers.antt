@@ -1,8 +1,8 @@
 use Rattle.std.proofs.Common.{◌≡◌, ◌⊎◌, ◌∙◌, All, List, true, false, length, Some, ap, subst, sym, rules}
 use Rattle.bk_io.specs.Files.{Files}
-use Rattle.bk_project.specs.declared.project_file.ProjectLine.{ProjectLine}
-use Rattle.bk_project.specs.ProjectFile.{IsFileName, AreLines, kinds_of}
-use Rattle.bk_project.specs.Project.{Reads, IsRefusalOf}
+use Rattle.bk_front.specs.declared.project_file.ProjectLine.{ProjectLine}
+use Rattle.bk_front.specs.ProjectFile.{IsFileName, AreLines, kinds_of}
+use Rattle.bk_front.specs.Project.{Reads, IsRefusalOf}
 use Rattle.bk_p_proof.specs.Files.{AreScriptsOf, IsFaultOf}
 use Rattle.bk_verbs.specs.Stops.{IsOutside, StopsAtFiles, StopsAtProject, stop_of_refusal, stop_of_proofs}
 use Rattle.bk_verbs.proofs.Fetching.{nows}

@@ -1,9 +1,9 @@
 use Rattle.std.proofs.Common.{◌≡◌, ◌⊎◌, ◌∙◌, inl, inr, refl, Some, ap, subst}
 use Rattle.bk_io.specs.Files.{Files}
-use Rattle.bk_words.specs.Tasks.{code_task}
+use Rattle.bk_cli.specs.Tasks.{code_task}
 use Rattle.bk_verbs.specs.Stops.{IsOutside, StopsTask}
 use Rattle.bk_verbs.proofs.Stopping.{handed_on, or_else_stops, at_reading, at_read}
-use Rattle.bk_texts.specs.Listing.{listing}
+use Rattle.bk_report.specs.Listing.{listing}
 use Rattle.bk_verbs.specs.Project.{IsWithinCodeLimits}
 use Rattle.bk_verbs.proofs.listing.listing_text.Goals as goal
 

@@ -2,10 +2,10 @@ use Rattle.std.proofs.Common.{◌≡◌, ◌⊎◌, ◌∙◌, refl, Some, map, 
 use Rattle.bk_io.specs.Files.{Files}
 use Rattle.bk_dev.specs.Flattened.{flattened}
 use Rattle.bk_po.specs.Shown.{named_sequent}
-use Rattle.bk_words.specs.Tasks.{po_task}
+use Rattle.bk_cli.specs.Tasks.{po_task}
 use Rattle.bk_verbs.specs.Stops.{IsOutside, StopsTask}
 use Rattle.bk_verbs.proofs.Stopping.{handed_on, at_reading, at_read}
-use Rattle.bk_texts.specs.Obligations.{obligations_text}
+use Rattle.bk_report.specs.Obligations.{obligations_text}
 use Rattle.bk_verbs.proofs.obligations.shown_obligations.Goals as goal
 
 pub returns-in_err-read-clause-cause : goal.returns-in_err-read-clause-cause

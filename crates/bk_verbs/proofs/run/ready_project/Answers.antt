@@ -1,6 +1,6 @@
 use Rattle.std.proofs.Common.{◌≡◌, ◌⊎◌, ℕ, ◌∙◌, inl, inr, Some, subst, arith, sym}
 use Rattle.bk_io.specs.Files.{Files}
-use Rattle.bk_words.specs.Tasks.{run_task}
+use Rattle.bk_cli.specs.Tasks.{run_task}
 use Rattle.bk_verbs.specs.Stops.{IsOutside, StopsTask}
 use Rattle.bk_verbs.proofs.Stopping.{handed_on, or_else_stops, at_reading, at_read}
 use Rattle.std.proofs.Common.{map, ap, sym, All}

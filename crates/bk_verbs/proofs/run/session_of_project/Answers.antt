@@ -4,7 +4,7 @@ use Rattle.bk_io.specs.Files.{Files}
 use Rattle.bk_code.specs.Session.{Session}
 use Rattle.bk_calls.specs.Script.{request_of}
 use Rattle.bk_calls.specs.Transcript.{transcript}
-use Rattle.bk_words.specs.Tasks.{run_task}
+use Rattle.bk_cli.specs.Tasks.{run_task}
 use Rattle.bk_verbs.specs.Stops.{IsOutside, StopsTask}
 use Rattle.bk_verbs.proofs.Stopping.{handed_on}
 use Rattle.bk_verbs.proofs.run.session_of_project.Goals as goal

@@ -3,8 +3,8 @@ use Rattle.bk_io.specs.Files.{Files}
 use Rattle.bk_io.specs.Devices.{sure_written}
 use Rattle.bk_calls.specs.declared.script.Call.{Call}
 use Rattle.bk_calls.specs.Script.{request_of}
-use Rattle.bk_texts.specs.Table.{table_text}
-use Rattle.bk_words.specs.Tasks.{sample_task}
+use Rattle.bk_report.specs.Table.{table_text}
+use Rattle.bk_cli.specs.Tasks.{sample_task}
 use Rattle.bk_verbs.specs.Session.{Plays}
 use Rattle.bk_verbs.specs.Samples.{last_line}
 use Rattle.bk_verbs.specs.Stops.{IsOutside, StopsTask}

@@ -1,9 +1,9 @@
 use Rattle.std.proofs.Common.{◌≡◌, ◌⊎◌, ◌∙◌, refl, Some, ap}
 use Rattle.bk_io.specs.Files.{Files}
-use Rattle.bk_words.specs.Tasks.{status_task}
+use Rattle.bk_cli.specs.Tasks.{status_task}
 use Rattle.bk_verbs.specs.Stops.{IsOutside, StopsTask}
 use Rattle.bk_verbs.proofs.Stopping.{handed_on, at_reading, at_read}
-use Rattle.bk_texts.specs.Table.{table_text}
+use Rattle.bk_report.specs.Table.{table_text}
 use Rattle.bk_verbs.proofs.table.status_text.Goals as goal
 
 pub returns-in_err-read-clause-cause : goal.returns-in_err-read-clause-cause

@@ -1,8 +1,8 @@
 use Rattle.std.proofs.Common.{◌≡◌, ◌⊎◌, ℕ, Option, Some, Result, Err, IfErr, sym, subst, arith}
 use Rattle.std.specs.Prelude.{IfOk}
 use Rattle.bk_io.specs.Files.{Files}
-use Rattle.bk_words.specs.declared.command.Command.{Command}
-use Rattle.bk_words.specs.Asked.{task_of, HasSmallNumbers}
+use Rattle.bk_cli.specs.declared.command.Command.{Command}
+use Rattle.bk_cli.specs.Asked.{task_of, HasSmallNumbers}
 use Rattle.bk_verbs.specs.declared.stop.Stop.{Stop}
 use Rattle.bk_verbs.specs.declared.work.Work.{Work}
 use Rattle.bk_verbs.specs.Stops.{IsOutside, StopsTask}

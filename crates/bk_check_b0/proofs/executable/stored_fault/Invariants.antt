@@ -1,0 +1,10 @@
+use Rattle.std.proofs.Common.{◌≡◌, ◌+◌, map, drop}
+use Rattle.bk_raw.specs.Errors.Blame.{blame, earlier}
+use Rattle.bk_elab_terms.specs.Shown.{told}
+use Rattle.bk_statics.specs.Executable.{stored_faults}
+use Rattle.bk_check_b0.specs.Executed.{executing}
+use Rattle.bk_scope.specs.Shown.{declared_shown, variables_shown}
+use Rattle.bk_check_b0.proofs.executable.stored_fault.Given as goal
+
+abbrev pub invariant-loop-index : goal.invariant-loop-index
+invariant-loop-index l = earlier (told l.fault) (blame (stored_faults (executing l.typing l.arrays) l.component.name.now.at (variables_shown l.component.variables.items) (l.plan.variables_at + l.index) (map declared_shown (drop l.index l.plan.variables.items)))) ≡ blame (stored_faults (executing l.typing l.arrays) l.component.name.now.at (variables_shown l.component.variables.items) l.plan.variables_at (map declared_shown l.plan.variables.items))

@@ -1,0 +1,9 @@
+use Rattle.std.proofs.Common.{◌≡◌, ◌++◌, [], map, take, drop}
+use Rattle.bk_raw.specs.Errors.Blame.{blame, earlier}
+use Rattle.bk_elab_terms.specs.Shown.{told}
+use Rattle.bk_raw.specs.Meaning.Binders.{twice}
+use Rattle.bk_statics.specs.Binders.{texts}
+use Rattle.bk_check_clauses.proofs.name_fault.operations_fault.Given as goal
+
+abbrev pub invariant-loop-index : goal.invariant-loop-index
+invariant-loop-index l = earlier (told l.fault) (blame (twice (texts (map (λ o. o.now.name) (take l.index l.operations)) ++ []) (map (λ o. o.now.name) (drop l.index l.operations)))) ≡ blame (twice [] (map (λ o. o.now.name) l.operations))

@@ -1,0 +1,11 @@
+use Rattle.std.proofs.Common.{◌≡◌, drop}
+use Rattle.bk_raw.specs.Errors.Blame.{blame, earlier}
+use Rattle.bk_elab_terms.specs.Shown.{told}
+use Rattle.bk_elab_terms.specs.Visible.{visible_names}
+use Rattle.bk_statics.specs.NameFaults.{named_texts, taken}
+use Rattle.bk_statics.specs.Components.{set_names}
+use Rattle.bk_scope.specs.Shown.{refs}
+use Rattle.bk_check_clauses.proofs.name_fault.taken_sets.Given as goal
+
+abbrev pub invariant-loop-set : goal.invariant-loop-set
+invariant-loop-set l = earlier (told l.fault) (blame (taken (named_texts (visible_names l.names)) (set_names (refs (drop l.set-index l.sets))))) ≡ blame (taken (named_texts (visible_names l.names)) (set_names (refs l.sets)))

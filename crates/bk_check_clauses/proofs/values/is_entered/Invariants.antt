@@ -1,0 +1,8 @@
+use Rattle.std.proofs.Common.{◌≡◌, drop}
+use Rattle.bk_elab_terms.specs.Visible.{visible_names}
+use Rattle.bk_statics.specs.ValueFaults.{is_entered}
+use Rattle.bk_scope.specs.Shown.{refs}
+use Rattle.bk_check_clauses.proofs.values.is_entered.Given as goal
+
+abbrev pub invariant-loop-entry : goal.invariant-loop-entry
+invariant-loop-entry l = is_entered (visible_names l.globals) (refs (drop l.entry-index l.values)) l.set ≡ is_entered (visible_names l.globals) (refs l.values) l.set

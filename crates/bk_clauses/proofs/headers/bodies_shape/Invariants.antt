@@ -1,9 +1,0 @@
-use Rattle.std.proofs.Common.{◌≡◌, drop}
-use Rattle.bk_raw.specs.Errors.Blame.{blame, earlier}
-use Rattle.bk_elab.specs.Shown.{told}
-use Rattle.bk_level.specs.OperationFaults.{bodies_shape}
-use Rattle.bk_sight.specs.Shown.{refs}
-use Rattle.bk_clauses.proofs.headers.bodies_shape.Given as goal
-
-abbrev pub invariant-loop-operation : goal.invariant-loop-operation
-invariant-loop-operation l = earlier (told l.fault) (blame (bodies_shape l.component.kind (refs (drop l.operation-index l.operation-items)))) ≡ blame (bodies_shape l.component.kind (refs l.operation-items))

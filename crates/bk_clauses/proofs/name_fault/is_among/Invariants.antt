@@ -1,8 +1,0 @@
-use Rattle.std.proofs.Common.{◌≡◌, drop}
-use Rattle.bk_raw.specs.Meaning.Binders.{is_text}
-use Rattle.bk_level.specs.Binders.{texts}
-use Rattle.bk_sight.specs.Shown.{refs}
-use Rattle.bk_clauses.proofs.name_fault.is_among.Given as goal
-
-abbrev pub invariant-loop-name : goal.invariant-loop-name
-invariant-loop-name l = is_text (texts (refs (drop l.name-index l.names))) l.text ≡ is_text (texts (refs l.names)) l.text

@@ -1,9 +1,0 @@
-use Rattle.std.proofs.Common.{◌≡◌, drop}
-use Rattle.bk_raw.specs.Errors.Blame.{blame, earlier}
-use Rattle.bk_elab.specs.Shown.{told}
-use Rattle.bk_elab.specs.Visible.{visible_names}
-use Rattle.bk_level.specs.NameFaults.{named_texts, taken}
-use Rattle.bk_clauses.proofs.name_fault.taken_elements.Given as goal
-
-abbrev pub invariant-loop-element : goal.invariant-loop-element
-invariant-loop-element l = earlier (told l.fault) (blame (taken (named_texts (visible_names l.names)) (drop l.element-index l.elements))) ≡ blame (taken (named_texts (visible_names l.names)) l.elements)

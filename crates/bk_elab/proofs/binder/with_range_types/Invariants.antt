@@ -1,7 +1,0 @@
-use Rattle.std.proofs.Common.{◌≡◌, take}
-use Rattle.bk_raw.specs.Meaning.Binders.{as_bound}
-use Rattle.bk_elab.specs.Sights.{bounds_of, ranges_as}
-use Rattle.bk_elab.proofs.binder.with_range_types.Given as goal
-
-abbrev pub invariant-loop-name : goal.invariant-loop-name
-invariant-loop-name l = bounds_of l.found.items ≡ as_bound (ranges_as (take l.name-index l.names))

@@ -1,7 +1,0 @@
-use Rattle.std.proofs.Common.{◌≡◌, take}
-use Rattle.bk_raw.specs.Meaning.Binders.{bound_names}
-use Rattle.bk_elab.specs.Sights.{bounds_of}
-use Rattle.bk_elab.proofs.binder.without_types.Given as goal
-
-abbrev pub invariant-loop-name : goal.invariant-loop-name
-invariant-loop-name l = bounds_of l.found.items ≡ bound_names (take l.name-index l.names)

@@ -1,7 +1,0 @@
-use Rattle.std.proofs.Common.{◌≡◌, drop}
-use Rattle.bk_elab.specs.Kept.{names_untyped}
-use Rattle.bk_elab.specs.Sights.{bounds_of}
-use Rattle.bk_elab.proofs.kept.names_untyped.Given as goal
-
-abbrev pub invariant-loop-local : goal.invariant-loop-local
-invariant-loop-local l = names_untyped (bounds_of (drop l.local-index l.locals)) l.term ≡ names_untyped (bounds_of l.locals) l.term

@@ -1,5 +1,0 @@
-use Rattle.bk_elab.proofs.Same.{same-by}
-use Rattle.bk_elab.proofs.partial.is_same.Goals as goal
-
-pub returns : goal.returns
-returns c = same-by c.equal.result c.args.given.now c.args.asked.now c.equal.ensures

@@ -1,0 +1,11 @@
+pub mod Joins
+pub mod Expressions
+pub mod Codes
+pub mod Shown
+pub mod Shapes
+pub mod Visible
+pub mod Sights
+pub mod Laws
+pub mod Conjuncts
+pub mod Forms
+pub mod Kept

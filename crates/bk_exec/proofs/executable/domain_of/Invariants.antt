@@ -1,6 +1,0 @@
-use Rattle.std.proofs.Common.{◌≡◌, drop}
-use Rattle.bk_exec.specs.Executed.{array_by}
-use Rattle.bk_exec.proofs.executable.domain_of.Given as goal
-
-abbrev pub invariant-loop-array : goal.invariant-loop-array
-invariant-loop-array l = array_by (drop l.array-index l.arrays) l.variable ≡ array_by l.arrays l.variable

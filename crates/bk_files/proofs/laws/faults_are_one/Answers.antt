@@ -1,5 +1,0 @@
-use Rattle.bk_files.proofs.OneFault.{faults_are_one_of}
-use Rattle.bk_files.proofs.laws.faults_are_one.Goals as goal
-
-pub returns : goal.returns
-returns c = faults_are_one_of

@@ -1,5 +1,0 @@
-use Rattle.bk_files.proofs.SomeFiles.{files_are_told}
-use Rattle.bk_files.proofs.laws.files_are_told.Goals as goal
-
-pub returns : goal.returns
-returns c = files_are_told

@@ -1,5 +1,0 @@
-use Rattle.bk_files.proofs.SomeCut.{texts_are_cut}
-use Rattle.bk_files.proofs.laws.texts_are_cut.Goals as goal
-
-pub returns : goal.returns
-returns c = texts_are_cut

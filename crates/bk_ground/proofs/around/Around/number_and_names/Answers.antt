@@ -1,7 +1,0 @@
-use Rattle.bk_ground.specs.Parts.{NumberPart, NamesPart}
-use Rattle.bk_ground.specs.Reading.{around_of}
-use Rattle.bk_ground.proofs.Shaped.{two_none}
-use Rattle.bk_ground.proofs.around.Around.number_and_names.Goals as goal
-
-pub returns-in_default : goal.returns-in_default
-returns-in_default c = two_none NumberPart (NamesPart (around_of c.args.self.now)) c.args.parts.now c.in_default.ensures

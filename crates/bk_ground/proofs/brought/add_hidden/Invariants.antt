@@ -1,6 +1,0 @@
-use Rattle.std.proofs.Common.{◌≡◌, ◌++◌, take, map}
-use Rattle.bk_ground.specs.Brought.{hidden}
-use Rattle.bk_ground.proofs.brought.add_hidden.Given as goal
-
-abbrev pub invariant-loop-name : goal.invariant-loop-name
-invariant-loop-name l = l.scope ≡ record { max = l.fn.scope.max; names = l.fn.scope.names ++ hidden (map (λ x. x.now) (take l.name-index l.names)) }

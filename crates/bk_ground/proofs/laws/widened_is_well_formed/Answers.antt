@@ -1,5 +1,0 @@
-use Rattle.bk_ground.proofs.Listed.{widened_is_well_formed as proved}
-use Rattle.bk_ground.proofs.laws.widened_is_well_formed.Goals as goal
-
-pub returns : goal.returns
-returns c = proved

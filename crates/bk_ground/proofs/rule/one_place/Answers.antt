@@ -1,6 +1,0 @@
-use Rattle.bk_ground.specs.Parts.{PlacePart}
-use Rattle.bk_ground.proofs.Shaped.{one_none}
-use Rattle.bk_ground.proofs.rule.one_place.Goals as goal
-
-pub returns-in-None : goal.returns-in-None
-returns-in-None c = one_none PlacePart c.args.parts.now c.in-None.ensures

@@ -1,6 +1,0 @@
-use Rattle.std.proofs.Common.{◌≡◌, take}
-use Rattle.bk_ground.specs.Sight.{constants_from}
-use Rattle.bk_ground.proofs.sight.constants.Given as goal
-
-abbrev pub invariant-loop-index : goal.invariant-loop-index
-invariant-loop-index l = l.constants.items ≡ constants_from 0 (take l.index l.homes)

@@ -1,6 +1,0 @@
-use Rattle.std.proofs.Common.{◌≡◌, drop}
-use Rattle.bk_judge.specs.Written.{writable_by}
-use Rattle.bk_judge.proofs.left.is_writable.Given as goal
-
-abbrev pub invariant-loop-interval : goal.invariant-loop-interval
-invariant-loop-interval l = writable_by (drop l.interval-index l.writable) l.number ≡ writable_by l.writable l.number

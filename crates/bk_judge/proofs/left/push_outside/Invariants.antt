@@ -1,7 +1,0 @@
-use Rattle.std.proofs.Common.{◌≡◌, ◌++◌, drop}
-use Rattle.bk_level.specs.SubFaults.{outside}
-use Rattle.bk_judge.specs.Written.{writes_shown}
-use Rattle.bk_judge.proofs.left.push_outside.Given as goal
-
-abbrev pub invariant-loop-write : goal.invariant-loop-write
-invariant-loop-write l = writes_shown l.found.items ++ outside l.own.first l.own.count (writes_shown (drop l.write-index l.inside)) ≡ writes_shown l.fn.found.items ++ outside l.own.first l.own.count (writes_shown l.inside)

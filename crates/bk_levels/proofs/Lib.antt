@@ -1,4 +1,0 @@
-pub mod FaultHomes
-pub mod Assembling
-pub mod Rooms
-pub mod Leveling

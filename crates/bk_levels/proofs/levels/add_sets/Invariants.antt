@@ -1,6 +1,0 @@
-use Rattle.std.proofs.Common.{◌≡◌, take}
-use Rattle.bk_levels.specs.Answered.{with_sets}
-use Rattle.bk_levels.proofs.levels.add_sets.Given as goal
-
-abbrev pub invariant-loop-set : goal.invariant-loop-set
-invariant-loop-set l = l.table ≡ with_sets l.fn.table (take l.set-index l.sets)

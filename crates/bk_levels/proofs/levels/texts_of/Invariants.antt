@@ -1,6 +1,0 @@
-use Rattle.std.proofs.Common.{◌≡◌, ◌++◌, drop}
-use Rattle.bk_level.specs.Binders.{texts}
-use Rattle.bk_levels.proofs.levels.texts_of.Given as goal
-
-abbrev pub invariant-loop-name : goal.invariant-loop-name
-invariant-loop-name l = l.found.items ++ texts (drop l.name-index l.names) ≡ texts l.names

@@ -1,7 +1,0 @@
-use Rattle.std.proofs.Common.{◌≡◌, ◌++◌, drop}
-use Rattle.bk_level.specs.Plan.{entries_of}
-use Rattle.bk_sight.specs.Shown.{refs}
-use Rattle.bk_levels.proofs.levels.written_sets.Given as goal
-
-abbrev pub invariant-loop-set : goal.invariant-loop-set
-invariant-loop-set l = l.found.items ++ entries_of (refs (drop l.set-index l.sets)) ≡ entries_of (refs l.sets)

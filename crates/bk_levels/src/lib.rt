@@ -1,8 +1,0 @@
-//! From a written component to one more level of a development.
-#![tactic(auto)]
-
-mod levels;
-mod room;
-mod static_fault;
-
-pub use levels::{level, max_of, passes_limit_of_names};

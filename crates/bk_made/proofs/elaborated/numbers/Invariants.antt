@@ -1,6 +1,0 @@
-use Rattle.std.proofs.Common.{◌≡◌, ◌+◌, ◌-◌, ◌++◌}
-use Rattle.bk_level.specs.Typings.{interval}
-use Rattle.bk_made.proofs.elaborated.numbers.Given as goal
-
-abbrev pub invariant-loop-index : goal.invariant-loop-index
-invariant-loop-index l = l.found.items ++ interval (l.first + l.index) (l.count - l.index) ≡ interval l.first l.count

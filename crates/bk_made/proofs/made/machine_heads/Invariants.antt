@@ -1,7 +1,0 @@
-use Rattle.std.proofs.Common.{◌≡◌, ◌++◌, drop}
-use Rattle.bk_level.specs.Plan.{machine_heads}
-use Rattle.bk_sight.specs.Shown.{refs}
-use Rattle.bk_made.proofs.made.machine_heads.Given as goal
-
-abbrev pub invariant-loop-operation : goal.invariant-loop-operation
-invariant-loop-operation l = l.found.items ++ machine_heads l.next (refs (drop l.operation-index l.operations)) ≡ machine_heads l.first (refs l.operations)

@@ -1,7 +1,0 @@
-use Rattle.std.proofs.Common.{◌≡◌, ◌++◌, drop}
-use Rattle.bk_level.specs.Binders.{texts}
-use Rattle.bk_sight.specs.Shown.{refs}
-use Rattle.bk_made.proofs.made.push_constant_texts.Given as goal
-
-abbrev pub invariant-loop-constant : goal.invariant-loop-constant
-invariant-loop-constant l = l.found.items ++ texts (refs (drop l.constant-index l.constants)) ≡ l.fn.found.items ++ texts (refs l.constants)

@@ -1,7 +1,0 @@
-use Rattle.std.proofs.Common.{◌≡◌, ◌++◌, map, drop}
-use Rattle.bk_level.specs.LevelOf.{output_texts}
-use Rattle.bk_sight.specs.Shown.{placed_shown}
-use Rattle.bk_made.proofs.made.push_output_texts.Given as goal
-
-abbrev pub invariant-loop-placed : goal.invariant-loop-placed
-invariant-loop-placed l = l.found.items ++ output_texts l.level (map (λ o. o.headed) (map placed_shown (drop l.placed-index l.operations))) ≡ l.fn.found.items ++ output_texts l.level (map (λ o. o.headed) (map placed_shown l.operations))

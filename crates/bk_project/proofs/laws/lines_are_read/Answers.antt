@@ -1,5 +1,0 @@
-use Rattle.bk_project.proofs.SomeLines.{lines_are_read}
-use Rattle.bk_project.proofs.laws.lines_are_read.Goals as goal
-
-pub returns : goal.returns
-returns c = lines_are_read

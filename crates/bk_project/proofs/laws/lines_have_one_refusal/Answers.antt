@@ -1,5 +1,0 @@
-use Rattle.bk_project.proofs.OneFile.{lines_have_one_refusal}
-use Rattle.bk_project.proofs.laws.lines_have_one_refusal.Goals as goal
-
-pub returns : goal.returns
-returns c = lines_have_one_refusal

@@ -1,8 +1,0 @@
-use Rattle.bk_project.proofs.ProjectFiles.{lines_are_one, lines_exclude}
-use Rattle.bk_project.proofs.laws.project_files.Goals as goal
-
-pub returns-clause-one : goal.returns-clause-one
-returns-clause-one c = lines_are_one
-
-pub returns-clause-exclude : goal.returns-clause-exclude
-returns-clause-exclude c = lines_exclude

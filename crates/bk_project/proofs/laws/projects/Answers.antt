@@ -1,8 +1,0 @@
-use Rattle.bk_project.proofs.OneReading.{read_as_one, faults_exclude}
-use Rattle.bk_project.proofs.laws.projects.Goals as goal
-
-pub returns-clause-one : goal.returns-clause-one
-returns-clause-one c = read_as_one
-
-pub returns-clause-exclude : goal.returns-clause-exclude
-returns-clause-exclude c = faults_exclude

@@ -1,5 +1,0 @@
-use Rattle.bk_project.proofs.SomeReading.{texts_are_read}
-use Rattle.bk_project.proofs.laws.texts_are_read.Goals as goal
-
-pub returns : goal.returns
-returns c = texts_are_read

@@ -1,6 +1,0 @@
-use Rattle.std.proofs.Common.{rules}
-use Rattle.bk_project.proofs.ProjectFiles.{no_kind}
-use Rattle.bk_project.proofs.project_file.kind_and_name.Goals as goal
-
-pub returns : goal.returns
-returns c = no_kind c.args.line.now (search rules) (search rules) (search rules) (search rules)

@@ -1,5 +1,0 @@
-use Rattle.bk_project.proofs.Levels.{LevelsSoFar}
-use Rattle.bk_project.proofs.reading.all_levels.Given as goal
-
-abbrev pub invariant-loop-file : goal.invariant-loop-file
-invariant-loop-file l = LevelsSoFar l.fn.kinds l.fn.components l.file l.dev

@@ -1,5 +1,0 @@
-use Rattle.bk_room.proofs.Projects.{read_scripts_have_room}
-use Rattle.bk_room.proofs.laws.scripts.Goals as goal
-
-pub returns : goal.returns
-returns c = read_scripts_have_room

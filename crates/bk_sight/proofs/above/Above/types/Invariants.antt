@@ -1,6 +1,0 @@
-use Rattle.std.proofs.Common.{Some, map, take, ◌≡◌}
-use Rattle.bk_sight.specs.Shown.{above_shown}
-use Rattle.bk_sight.proofs.above.Above.types.Given as goal
-
-abbrev pub invariant-loop-number : goal.invariant-loop-number
-invariant-loop-number l = l.types.items ≡ map (λ v. Some v.of_type) (take l.number (above_shown l.self).table.variables)

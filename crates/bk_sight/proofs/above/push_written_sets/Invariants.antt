@@ -1,9 +1,0 @@
-use Rattle.std.proofs.Common.{drop, ◌+◌, ◌++◌, ◌≡◌}
-use Rattle.bk_elab.specs.Visible.{visible_names}
-use Rattle.bk_level.specs.Plan.{entries_of}
-use Rattle.bk_sight.specs.Shown.{refs}
-use Rattle.bk_raw.specs.Meaning.ScopeReading.{set_names}
-use Rattle.bk_sight.proofs.above.push_written_sets.Given as goal
-
-abbrev pub invariant-loop-index : goal.invariant-loop-index
-invariant-loop-index l = visible_names l.names.items ++ set_names (l.first + l.index) (entries_of (refs (drop l.index l.sets))) ≡ visible_names l.fn.names.items ++ set_names l.first (entries_of (refs l.sets))

@@ -1,8 +1,0 @@
-use Rattle.std.proofs.Common.{◌≡◌, ◌++◌, drop}
-use Rattle.bk_elab.specs.Visible.{visible_names}
-use Rattle.bk_level.specs.Plan.{fresh}
-use Rattle.bk_sight.specs.Shown.{refs, variables_shown}
-use Rattle.bk_sight.proofs.plan.fresh.Given as goal
-
-abbrev pub invariant-loop-variable : goal.invariant-loop-variable
-invariant-loop-variable l = refs l.found.items ++ fresh (visible_names l.upper) (variables_shown (drop l.variable-index l.variables)) ≡ fresh (visible_names l.upper) (variables_shown l.variables)

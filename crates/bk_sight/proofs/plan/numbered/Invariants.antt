@@ -1,7 +1,0 @@
-use Rattle.std.proofs.Common.{◌≡◌, ◌+◌, ◌++◌, drop}
-use Rattle.bk_elab.specs.Visible.{visible_names}
-use Rattle.bk_level.specs.Typings.{numbered}
-use Rattle.bk_sight.proofs.plan.numbered.Given as goal
-
-abbrev pub invariant-loop-index : goal.invariant-loop-index
-invariant-loop-index l = visible_names l.found.items ++ numbered (l.first + l.index) (drop l.index l.names) ≡ numbered l.first l.names

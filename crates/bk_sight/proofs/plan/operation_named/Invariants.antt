@@ -1,7 +1,0 @@
-use Rattle.std.proofs.Common.{◌≡◌, drop}
-use Rattle.bk_level.specs.Plan.{operation_named}
-use Rattle.bk_sight.specs.Shown.{refs}
-use Rattle.bk_sight.proofs.plan.operation_named.Given as goal
-
-abbrev pub invariant-loop-operation : goal.invariant-loop-operation
-invariant-loop-operation l = operation_named l.text (refs (drop l.operation-index l.operations)) ≡ operation_named l.text (refs l.operations)

@@ -1,7 +1,0 @@
-use Rattle.std.proofs.Common.{◌≡◌, ◌+◌, drop, map}
-use Rattle.bk_level.specs.Plan.{output_count}
-use Rattle.bk_sight.specs.Shown.{headed_shown}
-use Rattle.bk_sight.proofs.plan.output_count.Given as goal
-
-abbrev pub invariant-loop-headed : goal.invariant-loop-headed
-invariant-loop-headed l = l.count + output_count (map headed_shown (drop l.headed-index l.operations)) ≡ output_count (map headed_shown l.operations)

@@ -1,6 +1,0 @@
-use Rattle.std.proofs.Common.{◌≡◌, ◌++◌, drop}
-use Rattle.bk_level.specs.Binders.{old_texts}
-use Rattle.bk_sight.proofs.sight.old_texts.Given as goal
-
-abbrev pub invariant-loop-name : goal.invariant-loop-name
-invariant-loop-name l = l.found.items ++ old_texts (drop l.name-index l.names) ≡ old_texts l.names

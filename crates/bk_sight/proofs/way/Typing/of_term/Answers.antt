@@ -1,8 +1,0 @@
-use Rattle.std.proofs.Common.{◌∙◌}
-use Rattle.bk_sight.proofs.Seeing.{term-told}
-use Rattle.bk_sight.proofs.way.Typing.of_term.Goals as goal
-
-pub returns : goal.returns
-returns c =
-    let s = c.args.self.now in
-    c.type_in.ensures ∙ term-told c.under.result s.max s.types.now c.args.names.now c.args.term.now c.in_ok-value.value.answer c.under.ensures.max c.under.ensures.types c.under.ensures.names c.in_ok-value.ensures.same

@@ -1,5 +1,0 @@
-use Rattle.bk_statements.proofs.Followed.{operations_follow, openings_follow}
-use Rattle.bk_statements.proofs.laws.bodies_follow.Goals as goal
-
-pub returns : goal.returns
-returns c = record { operations = operations_follow; openings = openings_follow }

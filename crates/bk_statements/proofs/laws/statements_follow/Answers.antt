@@ -1,5 +1,0 @@
-use Rattle.bk_statements.proofs.Followed.{statements_follow}
-use Rattle.bk_statements.proofs.laws.statements_follow.Goals as goal
-
-pub returns : goal.returns
-returns c = statements_follow

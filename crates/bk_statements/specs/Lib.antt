@@ -1,4 +1,0 @@
-pub mod Shown
-pub mod Placed
-pub mod Within
-pub mod Statements

@@ -1,6 +1,0 @@
-use Rattle.std.proofs.Common.{◌≡◌, ◌++◌, take}
-use Rattle.bk_texts.specs.Obligations.{hypothesis_lines}
-use Rattle.bk_texts.proofs.obligations.write_hypotheses.Given as goal
-
-abbrev pub invariant-loop-index : goal.invariant-loop-index
-invariant-loop-index l = l.text.items ≡ l.fn.text.items ++ hypothesis_lines l.table 1 (take l.index l.hypotheses)

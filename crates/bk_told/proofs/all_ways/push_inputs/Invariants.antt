@@ -1,7 +1,0 @@
-use Rattle.std.proofs.Common.{◌≡◌, ◌++◌, map, drop}
-use Rattle.bk_level.specs.LevelOf.{all_input_ways}
-use Rattle.bk_sight.specs.Shown.{placed_shown, plan_shown, way_shown}
-use Rattle.bk_told.proofs.all_ways.push_inputs.Given as goal
-
-abbrev pub invariant-loop-placed : goal.invariant-loop-placed
-invariant-loop-placed l = map way_shown l.found.items ++ all_input_ways (plan_shown l.plan) (map placed_shown (drop l.placed-index l.plan.operations.items)) ≡ map way_shown l.fn.found.items ++ all_input_ways (plan_shown l.plan) (map placed_shown l.plan.operations.items)

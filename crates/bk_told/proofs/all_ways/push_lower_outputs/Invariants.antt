@@ -1,8 +1,0 @@
-use Rattle.std.proofs.Common.{◌≡◌, ◌++◌, map, drop}
-use Rattle.bk_elab.specs.Visible.{visible_names}
-use Rattle.bk_level.specs.LevelOf.{lower_output_ways}
-use Rattle.bk_sight.specs.Shown.{way_shown}
-use Rattle.bk_told.proofs.all_ways.push_lower_outputs.Given as goal
-
-abbrev pub invariant-loop-output : goal.invariant-loop-output
-invariant-loop-output l = map way_shown l.found.items ++ lower_output_ways (visible_names l.placed.machine_outputs.items) (drop l.output-index l.placed.operation.now.outputs) ≡ map way_shown l.fn.found.items ++ lower_output_ways (visible_names l.placed.machine_outputs.items) l.placed.operation.now.outputs

@@ -1,6 +1,0 @@
-use Rattle.std.proofs.Common.{◌≡◌, take}
-use Rattle.bk_sight.specs.Shown.{refs}
-use Rattle.bk_told.proofs.same.are_same_references.Given as goal
-
-abbrev pub invariant-loop-index : goal.invariant-loop-index
-invariant-loop-index l = refs (take l.index l.left) ≡ refs (take l.index l.right)
