@@ -15,7 +15,8 @@ equations e fs = map (binary Eq e) fs
 
 -- the numbers of an interval of literals from a to b, with b - a at most 63
 abbrev pub listed_range : Formula → Option (List Formula)
-listed_range (binary Range (literal a) (literal b)) = cond (int_le (b -ℤ a) (pos 63)) (Some (literals_from a (count_of ((b +ℤ pos 1) -ℤ a)))) None
+listed_range (binary Range (literal a) (literal b)) =
+    cond (int_le (b -ℤ a) (pos 63)) (Some (literals_from a (count_of ((b +ℤ pos 1) -ℤ a)))) None
 listed_range _ = None
 
 -- the equations of E with each number, where such a list of numbers is there

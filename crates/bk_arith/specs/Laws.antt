@@ -36,7 +36,9 @@ atom_values find e atoms k = number_in (value find e (slice_index_or atoms k bfa
 
 -- over the atoms of some terms, the linear form of each of them has that term's value
 abbrev pub ReadingMeans : Type 0
-ReadingMeans = (find : Finder) (e : Environment) (terms : List Formula) (k : ℕ) (p : Inequality) → k < length terms → reading (atoms_of terms) (slice_index_or terms k bfalse) ≡ Some p → dot p.coefs (atom_values find e (atoms_of terms)) +ℤ p.constant ≡ number_in (value find e (slice_index_or terms k bfalse))
+ReadingMeans = (find : Finder) (e : Environment) (terms : List Formula) (k : ℕ) (p : Inequality) →
+    k < length terms → reading (atoms_of terms) (slice_index_or terms k bfalse) ≡ Some p →
+    dot p.coefs (atom_values find e (atoms_of terms)) +ℤ p.constant ≡ number_in (value find e (slice_index_or terms k bfalse))
 
 -- what is wrong with the facts alone is wrong with each certificate; where nothing is, the certificate's own fault over the facts is
 abbrev pub FactsDecide : Type 0
@@ -46,11 +48,13 @@ FactsDecide = (hyps : List Formula) (goal : Formula) (cert : List Line) → line
 
 -- where the certificate is accepted, the goal is true wherever the hypotheses are
 abbrev pub AcceptedIsValid : Type 0
-AcceptedIsValid = (table : Table) (hyps : List Formula) (goal : Formula) (cert : List Line) → is_accepted hyps goal cert ≡ true → IsValid table hyps goal
+AcceptedIsValid = (table : Table) (hyps : List Formula) (goal : Formula) (cert : List Line) →
+    is_accepted hyps goal cert ≡ true → IsValid table hyps goal
 
 -- an equation that types and whose sides are told to be equal polynomials is true, under no hypothesis
 abbrev pub PolynomialIsValid : Type 0
-PolynomialIsValid = (table : Table) → IsWellFormed table → (a b : Formula) → role table [] (binary Eq a b) ≡ predicate → equal_polynomials a b ≡ true → IsValid table [] (binary Eq a b)
+PolynomialIsValid = (table : Table) → IsWellFormed table → (a b : Formula) →
+    role table [] (binary Eq a b) ≡ predicate → equal_polynomials a b ≡ true → IsValid table [] (binary Eq a b)
 
 -- one of them is true
 abbrev pub OneHolds : Finder → Environment → List Formula → Type 0
@@ -59,4 +63,5 @@ OneHolds find e (p ∷ ps) = (truth find e p ≡ true) ⊎ OneHolds find e ps
 
 -- where a term is in an interval of literals, it is one of the numbers that are listed
 abbrev pub CasesAreAll : Type 0
-CasesAreAll = (find : Finder) (e : Environment) (hyp : Formula) (cases : List Formula) → interval_cases hyp ≡ Some cases → truth find e hyp ≡ true → OneHolds find e cases
+CasesAreAll = (find : Finder) (e : Environment) (hyp : Formula) (cases : List Formula) →
+    interval_cases hyp ≡ Some cases → truth find e hyp ≡ true → OneHolds find e cases

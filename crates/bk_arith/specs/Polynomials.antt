@@ -61,7 +61,8 @@ negated_behind t us = option_map (λ c. us ++ (c, t.1) ∷ []) (if_fits (pos 0 -
 -- one monomial subtracted: from the one of the same atoms, or after all; the number that arises fits 128 bits, else there is none
 abbrev pub subtracted : Monomial → List Monomial → Option (List Monomial)
 subtracted t [] = negated_behind t []
-subtracted t (u ∷ us) = cond (same_atoms t.1 u.1) (option_map (λ c. (c, u.1) ∷ us) (if_fits (u.0 -ℤ t.0))) (option_map (λ r. u ∷ r) (subtracted t us))
+subtracted t (u ∷ us) =
+    cond (same_atoms t.1 u.1) (option_map (λ c. (c, u.1) ∷ us) (if_fits (u.0 -ℤ t.0))) (option_map (λ r. u ∷ r) (subtracted t us))
 
 -- a polynomial, subtracted from another coefficient by coefficient
 abbrev pub all_subtracted : List Monomial → List Monomial → Option (List Monomial)
@@ -78,7 +79,8 @@ unary_polynomial Neg p whole = option_and_then (λ p. multiple (negsuc 0) p []) 
 unary_polynomial _ p whole = atom whole
 
 -- of two polynomials, where both are there
-abbrev pub both : (List Monomial → List Monomial → Option (List Monomial)) → Option (List Monomial) → Option (List Monomial) → Option (List Monomial)
+abbrev pub both : (List Monomial → List Monomial → Option (List Monomial)) →
+    Option (List Monomial) → Option (List Monomial) → Option (List Monomial)
 both f p q = option_and_then (λ p. option_and_then (f p) q) p
 
 -- of an operator on two terms: sums, differences and products are read, and every other such term is an atom

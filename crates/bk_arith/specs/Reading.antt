@@ -96,5 +96,6 @@ binary_read _ m n p q whole = Some whole
 abbrev pub reading : List Formula → Formula → Option Inequality
 reading atoms (literal z) = if_narrow (number_over atoms z)
 reading atoms (unary o a) = unary_read o (reading atoms a) (atom_over atoms (unary o a))
-reading atoms (binary o a b) = binary_read o (closed_sum a) (closed_sum b) (reading atoms a) (reading atoms b) (atom_over atoms (binary o a b))
+reading atoms (binary o a b) =
+    binary_read o (closed_sum a) (closed_sum b) (reading atoms a) (reading atoms b) (atom_over atoms (binary o a b))
 reading atoms a = Some (atom_over atoms a)

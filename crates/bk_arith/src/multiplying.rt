@@ -3,7 +3,8 @@
 ghost use Rattle.std.specs.Prelude.{◌≡◌, ◌⊎◌, ◌++◌, ◌+ℤ◌, ◌-ℤ◌, ◌*ℤ◌, ◌∷◌, [], pos, Some, IfOk, IfErr, MatchResult};
 ghost use Rattle.std.specs.List.{list_all, position_from};
 ghost use Rattle.bk_arith.specs.ClosedSum.{if_fits};
-ghost use Rattle.bk_arith.specs.Polynomials.{added, negated_behind, subtracted, all_subtracted, times_each, product, multiple, polynomial, removed, same_atoms, taken, is_zero, same_polynomials, equal_polynomials, IsTooWide};
+ghost use Rattle.bk_arith.specs.Polynomials.{added, negated_behind, subtracted, all_subtracted, times_each, product, multiple, polynomial};
+ghost use Rattle.bk_arith.specs.Polynomials.{removed, same_atoms, taken, is_zero, same_polynomials, equal_polynomials, IsTooWide};
 ghost use Rattle.bk_arith.specs.Layout.{monomial_of, polynomial_of, polynomial_in, formulas_in, IsPolynomialFault};
 
 use crate::error::ArithFault;

@@ -21,7 +21,8 @@ IsCell dev x = (among (firsts dev.values) x ≡ false) × (among (cell_variables
 -- the constants' values are those of their types that their numbers stand for
 abbrev pub ValuesHaveKinds : Development → List (ℕ × Formula) → Type 0
 ValuesHaveKinds dev [] = Unit {0}
-ValuesHaveKinds dev (p ∷ ps) = (is_of_kind dev (declared_type dev.table p.0) (literal_number p.1) ≡ true) × (literal_value p.1 ≡ number_as (declared_type dev.table p.0) (literal_number p.1)) × ValuesHaveKinds dev ps
+ValuesHaveKinds dev (p ∷ ps) = (is_of_kind dev (declared_type dev.table p.0) (literal_number p.1) ≡ true)
+    × (literal_value p.1 ≡ number_as (declared_type dev.table p.0) (literal_number p.1)) × ValuesHaveKinds dev ps
 
 -- each array has cells and is no constant
 abbrev pub ArraysHaveCells : Development → Type 0
@@ -29,4 +30,5 @@ ArraysHaveCells dev = (x : ℕ) (row : ArrayRow) → row_of (arrays_of dev) x �
 
 -- each array's type has that of its indices
 abbrev pub ArraysAreTyped : Development → Type 0
-ArraysAreTyped dev = (x : ℕ) (row : ArrayRow) → row_of (arrays_of dev) x ≡ Some row → (u : ValueType) × (variable_type dev.table x ≡ Some (set_type (pair_type (index_type row.domain) u)))
+ArraysAreTyped dev = (x : ℕ) (row : ArrayRow) → row_of (arrays_of dev) x ≡ Some row →
+    (u : ValueType) × (variable_type dev.table x ≡ Some (set_type (pair_type (index_type row.domain) u)))

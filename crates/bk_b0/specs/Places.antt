@@ -3,7 +3,9 @@ use Rattle.std.specs.Prelude.{ℕ, zero, suc, ◌+◌, ℤ, pos, neg_ℤ, cond, 
 use Rattle.bk_val.specs.ValueType.{ValueType, bool_type, enum_type}
 use Rattle.bk_form.specs.Formula.{Formula, variable, unary, binary}
 use Rattle.bk_form.specs.declared.operator.UnOp.TheVariants.{Not, BoolOf, Neg as Negative, Single}
-use Rattle.bk_form.specs.declared.operator.BinOp.TheVariants.{And, Or, Eq as Equal, Lt as Less, Le as LessOrEqual, Add as Sum, Sub as Difference, Mul as Product, Div as Quotient, Mod as Remainder, Apply, Times}
+use Rattle.bk_form.specs.declared.operator.BinOp.TheVariants.{And, Or, Eq as Equal, Lt as Less, Le as LessOrEqual, Add as Sum}
+use Rattle.bk_form.specs.declared.operator.BinOp.TheVariants.{Sub as Difference, Mul as Product, Div as Quotient, Mod as Remainder, Apply}
+use Rattle.bk_form.specs.declared.operator.BinOp.TheVariants.{Times}
 use Rattle.bk_form.specs.declared.arrays.ArrayRow.{ArrayRow}
 use Rattle.bk_form.specs.declared.arrays.ArrayDomain.{ArrayDomain}
 use Rattle.bk_form.specs.declared.arrays.ArrayDomain.TheVariants.{Interval, Bool as OfBooleans, Set as OfElements}
@@ -15,7 +17,8 @@ use Rattle.bk_code.specs.declared.image.Parameter.{Parameter}
 use Rattle.bk_code.specs.declared.image.CellKind.{CellKind}
 use Rattle.bk_code.specs.declared.image.CellKind.TheVariants.{Integer, Bool as BoolKind, Set}
 use Rattle.bk_code.specs.declared.instruction.Inst.{Inst}
-use Rattle.bk_code.specs.declared.instruction.Inst.TheVariants.{Push, Load, Store, ALoad, AStore, Add, Sub, Mul, Div, Mod, Neg, Eq, Lt, Le, Not as Invert, Jump, JumpZero, Ret}
+use Rattle.bk_code.specs.declared.instruction.Inst.TheVariants.{Push, Load, Store, ALoad, AStore, Add, Sub, Mul, Div, Mod}
+use Rattle.bk_code.specs.declared.instruction.Inst.TheVariants.{Neg, Eq, Lt, Le, Not as Invert, Jump, JumpZero, Ret}
 use Rattle.bk_b0.specs.Kinds.{literal_number}
 
 -- the constants with their values; of a variable its row where it is an array, its first cell, how many cells it has and what
@@ -68,8 +71,10 @@ placed_value p (binary Remainder a b) = placed_value p a ++ placed_value p b ++ 
 placed_value p (binary Equal a b) = placed_value p a ++ placed_value p b ++ Eq ∷ []
 placed_value p (binary Less a b) = placed_value p a ++ placed_value p b ++ Lt ∷ []
 placed_value p (binary LessOrEqual a b) = placed_value p a ++ placed_value p b ++ Le ∷ []
-placed_value p (binary And a b) = let second = placed_value p b in placed_value p a ++ JumpZero (pos (length second + 2)) ∷ second ++ Jump (pos 2) ∷ Push (pos 0) ∷ []
-placed_value p (binary Or a b) = let second = placed_value p b in placed_value p a ++ JumpZero (pos 3) ∷ Push (pos 1) ∷ Jump (pos (length second + 1)) ∷ second
+placed_value p (binary And a b) = let second = placed_value p b in
+    placed_value p a ++ JumpZero (pos (length second + 2)) ∷ second ++ Jump (pos 2) ∷ Push (pos 0) ∷ []
+placed_value p (binary Or a b) = let second = placed_value p b in
+    placed_value p a ++ JumpZero (pos 3) ∷ Push (pos 1) ∷ Jump (pos (length second + 1)) ∷ second
 placed_value p (binary Apply (variable f) e) = placed_value p e ++ placed_load p f (p.row f)
 placed_value p f = Push (literal_number f) ∷ []
 
@@ -102,8 +107,10 @@ placed_statement p (assign ps) = placed_assignment p ps
 placed_statement p (seq s t) = placed_statement p s ++ placed_statement p t
 placed_statement p (any zs s) = placed_statement p s
 placed_statement p (assert q s) = placed_statement p s
-placed_statement p (if_else q s t) = let first = placed_statement p s in let second = placed_statement p t in placed_value p q ++ JumpZero (pos (length first + 2)) ∷ first ++ Jump (pos (length second + 1)) ∷ second
-placed_statement p (loop q s i v) = let test = placed_value p q in let body = placed_statement p s in test ++ JumpZero (pos (length body + 2)) ∷ body ++ Jump (neg_ℤ (pos (length test + 1 + length body))) ∷ []
+placed_statement p (if_else q s t) = let first = placed_statement p s in let second = placed_statement p t in
+    placed_value p q ++ JumpZero (pos (length first + 2)) ∷ first ++ Jump (pos (length second + 1)) ∷ second
+placed_statement p (loop q s i v) = let test = placed_value p q in let body = placed_statement p s in
+    test ++ JumpZero (pos (length body + 2)) ∷ body ++ Jump (neg_ℤ (pos (length test + 1 + length body))) ∷ []
 placed_statement p s = []
 
 -- ---- the parts of an image
@@ -117,7 +124,9 @@ placed_block p s = placed_statement p s ++ Ret ∷ []
 
 -- the operations' entries, the first starting at this place
 abbrev pub placed_entries : Places → ℕ → List Head → List Body → List OpEntry
-placed_entries p place (h ∷ hs) (b ∷ bs) = record { name = h.name; start = place; inputs = map (placed_parameter p) h.inputs; outputs = map (placed_parameter p) b.outputs } ∷ placed_entries p (place + length (placed_block p b.sub)) hs bs
+placed_entries p place (h ∷ hs) (b ∷ bs) =
+    record { name = h.name; start = place; inputs = map (placed_parameter p) h.inputs; outputs = map (placed_parameter p) b.outputs } ∷
+    placed_entries p (place + length (placed_block p b.sub)) hs bs
 placed_entries p place _ _ = []
 
 -- the code of bodies, one after the other

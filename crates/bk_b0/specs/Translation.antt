@@ -12,7 +12,8 @@ use Rattle.bk_code.specs.declared.image.Image.{Image}
 use Rattle.bk_code.specs.declared.image.OpEntry.{OpEntry}
 use Rattle.bk_code.specs.declared.image.Parameter.{Parameter}
 use Rattle.bk_code.specs.declared.instruction.Inst.{Inst}
-use Rattle.bk_b0.specs.Places.{Places, kind_of_type, placed_name, placed_load, placed_write, placed_value, placed_array, placed_store, placed_assignment, placed_statement, placed_parameter, placed_block, placed_entries, placed_bodies}
+use Rattle.bk_b0.specs.Places.{Places, kind_of_type, placed_name, placed_load, placed_write, placed_value, placed_array, placed_store}
+use Rattle.bk_b0.specs.Places.{placed_assignment, placed_statement, placed_parameter, placed_block, placed_entries, placed_bodies}
 
 -- where a development's names have their values and cells
 abbrev pub places_of : Development → Places

@@ -21,11 +21,15 @@ TermsGive table [] [] = Unit {0}
 TermsGive table (t ∷ ts) (f ∷ fs) = (role table [] f ≡ gives t) × TermsGive table ts fs
 TermsGive table _ _ = ⊥
 
--- the opened body means what the body means where its bound variables have the values of the terms: it has the same value and the same truth
+-- the opened body means what the body means where its bound variables
+-- have the values of the terms: it has the same value and the same truth
 abbrev pub OpeningMeans : Type 0
-OpeningMeans = (find : Finder) (table : Table) → IsWellFormed table → (e : State) (ts : List ValueType) (terms : List Formula) → TermsGive table ts terms → (p : Formula) →
-    meaning find (at_state table e) (opened terms p) ≡ meaning find (under (at_state table e) ts (map (value find (at_state table e)) terms)) p
+OpeningMeans = (find : Finder) (table : Table) → IsWellFormed table →
+    (e : State) (ts : List ValueType) (terms : List Formula) → TermsGive table ts terms → (p : Formula) →
+    meaning find (at_state table e) (opened terms p) ≡
+    meaning find (under (at_state table e) ts (map (value find (at_state table e)) terms)) p
 
 -- and it stands for the same kind of thing
 abbrev pub OpeningKeepsRole : Type 0
-OpeningKeepsRole = (table : Table) → IsWellFormed table → (ts : List ValueType) (terms : List Formula) → TermsGive table ts terms → (p : Formula) → role table [] (opened terms p) ≡ role table (bind ts []) p
+OpeningKeepsRole = (table : Table) → IsWellFormed table → (ts : List ValueType) (terms : List Formula) →
+    TermsGive table ts terms → (p : Formula) → role table [] (opened terms p) ≡ role table (bind ts []) p

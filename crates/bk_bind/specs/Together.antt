@@ -1,7 +1,8 @@
 -- Variables bound all at once. Only private contracts cite it: that this is what binding one after the other makes is proved.
 use Rattle.std.specs.Prelude.{ℕ, ◌+◌, nat_eq, cond, List, [], ◌∷◌, length, Option, Some, None, unwrap_or}
 use Rattle.std.specs.Option.{option_map, option_or}
-use Rattle.bk_form.specs.Formula.{Formula, variable, bound, literal, truth_value, element, empty_set, named, btrue, bfalse, unary, binary, for_all, for_some, comprehension, lambda, Formulas, no_formulas, formula_and}
+use Rattle.bk_form.specs.Formula.{Formula, variable, bound, literal, truth_value, element, empty_set, named, btrue, bfalse}
+use Rattle.bk_form.specs.Formula.{unary, binary, for_all, for_some, comprehension, lambda, Formulas, no_formulas, formula_and}
 use Rattle.bk_form.specs.Replacement.{count}
 
 -- how many variables are bound within this one, where `within` are bound within all of these; of equal ones the last counts
@@ -26,7 +27,8 @@ abbrev mutual
   bound_together place k (for_all ts p) = for_all ts (bound_together place (length ts + k) p)
   bound_together place k (for_some ts p) = for_some ts (bound_together place (length ts + k) p)
   bound_together place k (comprehension rs p) = comprehension (all_bound_together place k rs) (bound_together place (count rs + k) p)
-  bound_together place k (lambda rs p v) = lambda (all_bound_together place k rs) (bound_together place (count rs + k) p) (bound_together place (count rs + k) v)
+  bound_together place k (lambda rs p v) =
+      lambda (all_bound_together place k rs) (bound_together place (count rs + k) p) (bound_together place (count rs + k) v)
 
   -- the same in each of these formulas
   pub all_bound_together : (ℕ → Option ℕ) → ℕ → Formulas → Formulas

@@ -10,4 +10,5 @@ use Rattle.bk_form.specs.Predicates.{AllHold}
 
 -- the goal is true in every typed state in which the hypotheses are
 abbrev pub IsValid : Table → List Formula → Formula → Type 0
-IsValid table hyps goal = (find : Finder) → IsSearch find → (e : State) → IsTypedState table e → AllHold find (at_state table e) hyps → truth find (at_state table e) goal ≡ true
+IsValid table hyps goal = (find : Finder) → IsSearch find → (e : State) → IsTypedState table e →
+    AllHold find (at_state table e) hyps → truth find (at_state table e) goal ≡ true

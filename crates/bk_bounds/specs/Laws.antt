@@ -1,6 +1,7 @@
--- What has room, as statements: 32 bits number the variables of what is read, since limits bound them. A component declares at most MOST_NAMES
--- names, there are at most MOST_COMPONENTS of them, what substitutions bind is written in tokens, of which a file has at most MOST_TOKENS, and each copy
--- that flattening makes is an equation in a goal, of at most MOST_NODES_TOGETHER nodes in all.
+-- What has room, as statements: 32 bits number the variables of what is read, since limits bound
+-- them. A component declares at most MOST_NAMES names, there are at most MOST_COMPONENTS of them,
+-- what substitutions bind is written in tokens, of which a file has at most MOST_TOKENS, and each
+-- copy that flattening makes is an equation in a goal, of at most MOST_NODES_TOGETHER nodes in all.
 use Rattle.std.specs.Prelude.{◌<◌, ◌≤◌, ◌^◌, ℕ, List, length, All}
 use Rattle.bk_limits.specs.declared.TheConstants.{MOST_COMPONENTS}
 use Rattle.bk_dev.specs.Development.{Development}

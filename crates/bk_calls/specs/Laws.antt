@@ -29,9 +29,12 @@ AsksOrIsAtFault =
 
 -- and not both, nor for two requests, nor with two causes
 pub record IsReadOneWay : Type 0 where
-  pub asks_or_fault : (image : Image) (line : List ℕ) (request : Request) (cause : Cause) → AsksFor image line request → IsAtFault image line cause → ⊥
-  pub one_request : (image : Image) (line : List ℕ) (request other : Request) → AsksFor image line request → AsksFor image line other → request ≡ other
-  pub one_cause : (image : Image) (line : List ℕ) (cause other : Cause) → IsAtFault image line cause → IsAtFault image line other → cause ≡ other
+  pub asks_or_fault : (image : Image) (line : List ℕ) (request : Request) (cause : Cause) →
+      AsksFor image line request → IsAtFault image line cause → ⊥
+  pub one_request : (image : Image) (line : List ℕ) (request other : Request) →
+      AsksFor image line request → AsksFor image line other → request ≡ other
+  pub one_cause : (image : Image) (line : List ℕ) (cause other : Cause) →
+      IsAtFault image line cause → IsAtFault image line other → cause ≡ other
 
 -- a text is a script exactly where none of its lines is at fault
 abbrev pub IsScriptWithoutFault : Type 0
@@ -49,10 +52,14 @@ IsOneOfThree =
 
 -- and no two of these, nor two bad lines or causes
 pub record AreApart : Type 0 where
-  pub script_or_line : (image : Image) (text : List ℕ) (requests : List Request) (number : ℕ) (cause : Cause) → IsScript image text requests → IsBadLine image text number cause → ⊥
-  pub script_or_limit : (image : Image) (text : List ℕ) (requests : List Request) → IsScript image text requests → length requests ≤ most_calls → PassesLimit image text → ⊥
-  pub line_or_limit : (image : Image) (text : List ℕ) (number : ℕ) (cause : Cause) → IsBadLine image text number cause → PassesLimit image text → ⊥
-  pub one_line : (image : Image) (text : List ℕ) (number other : ℕ) (cause reason : Cause) → IsBadLine image text number cause → IsBadLine image text other reason → (number ≡ other) × (cause ≡ reason)
+  pub script_or_line : (image : Image) (text : List ℕ) (requests : List Request) (number : ℕ) (cause : Cause) →
+      IsScript image text requests → IsBadLine image text number cause → ⊥
+  pub script_or_limit : (image : Image) (text : List ℕ) (requests : List Request) →
+      IsScript image text requests → length requests ≤ most_calls → PassesLimit image text → ⊥
+  pub line_or_limit : (image : Image) (text : List ℕ) (number : ℕ) (cause : Cause) →
+      IsBadLine image text number cause → PassesLimit image text → ⊥
+  pub one_line : (image : Image) (text : List ℕ) (number other : ℕ) (cause reason : Cause) →
+      IsBadLine image text number cause → IsBadLine image text other reason → (number ≡ other) × (cause ≡ reason)
 
 -- ---- the longest line of an image
 -- the place of a trap is a number of 32 bits

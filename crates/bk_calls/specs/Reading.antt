@@ -1,5 +1,6 @@
 -- How a script is read, line by line and part by part. Only the contracts of private functions name what stands here.
-use Rattle.std.specs.Prelude.{ℕ, ◌+◌, ◌^◌, ◌-◌, nat_lt, ℤ, pos, negsuc, neg_ℤ, Bool, true, false, not, ◌&&◌, ◌||◌, ◌==◌, List, [], ◌∷◌, ◌++◌, codes, Option, Some, None, Result, Ok, Err, if◌then◌else◌, position, option_and_then, slice_get}
+use Rattle.std.specs.Prelude.{ℕ, ◌+◌, ◌^◌, ◌-◌, nat_lt, ℤ, pos, negsuc, neg_ℤ, Bool, true, false, not, ◌&&◌, ◌||◌, ◌==◌, List, [], ◌∷◌}
+use Rattle.std.specs.Prelude.{◌++◌, codes, Option, Some, None, Result, Ok, Err, if◌then◌else◌, position, option_and_then, slice_get}
 use Rattle.std.specs.Int.Signed.{mag}
 use Rattle.std.specs.List.{slice_split, list_all}
 use Rattle.std.specs.Option.{option_map}
@@ -176,7 +177,8 @@ abbrev pub values_of : Image → List Parameter → List Argument → Option (Li
 values_of image [] [] = Some []
 values_of image [] (argument ∷ arguments) = None
 values_of image (input ∷ inputs) [] = None
-values_of image (input ∷ inputs) (argument ∷ arguments) = in_front_of (value_of image input.kind argument) (values_of image inputs arguments)
+values_of image (input ∷ inputs) (argument ∷ arguments) =
+    in_front_of (value_of image input.kind argument) (values_of image inputs arguments)
 
 -- a request with these numbers, where each lies in MININT .. MAXINT
 abbrev pub ranged : Image → ℕ → List ℤ → Result Request Cause

@@ -58,7 +58,8 @@ zeros n = list zero_value (codes ", ") n
 -- the two operations of the machine on the i-th variable: one adds, one answers
 abbrev pub machine_operations : ℕ → List ℕ
 machine_operations i =
-    codes "  add_" ++ decimal i ++ codes "(k) = PRE k : 1..10 & x" ++ decimal i ++ codes " + k <= 100 THEN x" ++ decimal i ++ codes " := x" ++ decimal i ++ codes " + k END ;\n" ++
+    codes "  add_" ++ decimal i ++ codes "(k) = PRE k : 1..10 & x" ++ decimal i
+    ++ codes " + k <= 100 THEN x" ++ decimal i ++ codes " := x" ++ decimal i ++ codes " + k END ;\n" ++
     codes "  r <-- get_" ++ decimal i ++ codes " = r := x" ++ decimal i
 
 -- the text of the sample's machine

@@ -1,5 +1,6 @@
 -- Call scripts: which texts ask for which calls of an image.
-use Rattle.std.specs.Prelude.{◌≡◌, ◌≢◌, ℕ, zero, suc, ◌<◌, ◌≤◌, ℤ, pos, false, not, List, [], ◌∷◌, length, take, filter, position, All, slice_get, slice_index_or, Option, Some, None}
+use Rattle.std.specs.Prelude.{◌≡◌, ◌≢◌, ℕ, zero, suc, ◌<◌, ◌≤◌, ℤ, pos, false, not, List, [], ◌∷◌, length}
+use Rattle.std.specs.Prelude.{take, filter, position, All, slice_get, slice_index_or, Option, Some, None}
 use Rattle.std.specs.List.{AllZip}
 use Rattle.std.specs.Option.{option_map}
 use Rattle.std.specs.Str.{bytes_eq}
@@ -119,7 +120,8 @@ pub record IsFirstFault (image : Image) (text : List ℕ) (number : ℕ) (cause 
   pub line : List ℕ
   pub stands : line_at text number ≡ Some line
   pub fault : IsAtFault image line cause
-  pub first : (earlier : ℕ) (other : List ℕ) (any : Cause) → earlier < number → line_at text earlier ≡ Some other → IsAtFault image other any → ⊥
+  pub first : (earlier : ℕ) (other : List ℕ) (any : Cause) → earlier < number →
+      line_at text earlier ≡ Some other → IsAtFault image other any → ⊥
 
 -- ---- the limit of calls
 -- the most calls that a script may ask for

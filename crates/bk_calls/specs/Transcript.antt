@@ -1,5 +1,6 @@
 -- The text of a session: a line for each call, and a last line with the numbers of calls and of steps.
-use Rattle.std.specs.Prelude.{◌≡◌, ℕ, ◌+◌, ℤ, pos, negsuc, List, [], ◌∷◌, ◌++◌, length, codes, decimal, Option, Some, None, slice_get, slice_index_or, if◌then◌else◌}
+use Rattle.std.specs.Prelude.{◌≡◌, ℕ, ◌+◌, ℤ, pos, negsuc, List, [], ◌∷◌, ◌++◌, length, codes, decimal}
+use Rattle.std.specs.Prelude.{Option, Some, None, slice_get, slice_index_or, if◌then◌else◌}
 use Rattle.std.specs.Ordering.{int_eq}
 use Rattle.std.specs.Fmt.{signed_decimal}
 use Rattle.std.specs.List.{join_by}
@@ -110,7 +111,8 @@ done_count (told ∷ tolds) = done_number told.end + done_count tolds
 
 -- the lines of the calls that were made for requests, in order
 abbrev pub replies_text : Image → List Request → List Told → List ℕ
-replies_text image (request ∷ requests) (told ∷ tolds) = reply_text image (Some request.op) told.end told.outputs ++ replies_text image requests tolds
+replies_text image (request ∷ requests) (told ∷ tolds) =
+    reply_text image (Some request.op) told.end told.outputs ++ replies_text image requests tolds
 replies_text image _ _ = []
 
 -- the last line, with the number of calls that are done and that of all steps

@@ -15,10 +15,12 @@ abbrev pub IsAlone : List Level → Type 0
 IsAlone ls = (l : Level) × (ls ≡ l ∷ [])
 
 -- the development is of these levels, types and values
-pub record IsDeclaredBy (dev : Development) (t : TypingKept) (above : Development) (own : List Level) (valued : List (ℕ × Formula)) : Type 0 where
+pub record IsDeclaredBy (dev : Development) (t : TypingKept) (above : Development)
+    (own : List Level) (valued : List (ℕ × Formula)) : Type 0 where
   pub levels : dev.levels ≡ above.levels ++ own
   -- what is an array by the types of the table is one by those that are told
-  pub types : (l : Level) → own ≡ l ∷ [] → (n : ℕ) → among l.vars n ≡ true → has_scalars (variable_type dev.table n) ≡ has_scalars (typing_of t.types.now n)
+  pub types : (l : Level) → own ≡ l ∷ [] → (n : ℕ) → among l.vars n ≡ true →
+      has_scalars (variable_type dev.table n) ≡ has_scalars (typing_of t.types.now n)
   pub values : dev.values ≡ valued
   pub max : t.max ≡ machine_max dev
 
@@ -29,4 +31,5 @@ is_silent _ = false
 
 -- the domain that the variable's first typing conjunct tells, where it makes an array
 abbrev pub array_told : Development → ℕ → Option Formula
-array_told dev x = where_array (is_there (row_by dev x (typing_clue (Some x) (reversed dev.levels [])))) (domain_in (typing_clue (Some x) (reversed dev.levels [])))
+array_told dev x = where_array (is_there (row_by dev x (typing_clue (Some x) (reversed dev.levels []))))
+    (domain_in (typing_clue (Some x) (reversed dev.levels [])))

@@ -13,7 +13,8 @@ ghost use Rattle.bk_statics.specs.Components.{abstract_names, initialisation};
 ghost use Rattle.bk_statics.specs.Executable as meant;
 ghost use Rattle.bk_statics.specs.Plan.{body_scope, operations_of, scope};
 ghost use Rattle.bk_statics.specs.ValueFaults.{is_there};
-ghost use Rattle.bk_check_b0.specs.Executed.{executing, names_of, statement_by, branches_by, expression_by, condition_by, array_by, fill_sides, only, whole_told};
+ghost use Rattle.bk_check_b0.specs.Executed.{executing, names_of, statement_by, branches_by, expression_by};
+ghost use Rattle.bk_check_b0.specs.Executed.{condition_by, array_by, fill_sides, only, whole_told};
 ghost use Rattle.bk_scope.specs.Shown.{branches_shown, component_shown, declared_shown, is_blank, placed_shown, plan_shown, variables_shown};
 ghost use Rattle.bk_statics.specs.Typings.{target_in, type_at, type_named, variable_named};
 

@@ -10,7 +10,8 @@ use Rattle.bk_raw.specs.Meaning.Binders.{twice}
 use Rattle.bk_raw.specs.Errors.Faults.{Fault, wrong_write}
 use Rattle.bk_elab_terms.specs.Visible.{typing_of, visible_names}
 use Rattle.bk_statics.specs.Typings.{Typing, numbered, target, type_at}
-use Rattle.bk_statics.specs.SubFaults.{predicate_faults, term_faults, declared_faults, writable_within, sub_faults, node_faults, branches_faults, choices_faults}
+use Rattle.bk_statics.specs.SubFaults.{predicate_faults, term_faults, declared_faults, writable_within}
+use Rattle.bk_statics.specs.SubFaults.{sub_faults, node_faults, branches_faults, choices_faults}
 use Rattle.bk_check_subs.specs.Written.{writable_by}
 use Rattle.bk_check_subs.specs.declared.judging.Judge.{Judge}
 
@@ -32,7 +33,8 @@ node_by j node = node_faults j.typing.max (typing_by j) (visible_names j.above.n
 
 -- those of further branches
 abbrev pub branches_by : Judge → Branches → List Fault
-branches_by j bs = branches_faults j.typing.max (typing_by j) (visible_names j.above.now) (names_by j) (writable_by j.writable.now) j.first bs
+branches_by j bs =
+    branches_faults j.typing.max (typing_by j) (visible_names j.above.now) (names_by j) (writable_by j.writable.now) j.first bs
 
 -- those of further choices
 abbrev pub choices_by : Judge → Choices → List Fault
@@ -53,7 +55,8 @@ binder_by j xs p s =
     twice [] xs
     ++ (declared_faults (typing_by j) j.first xs
     ++ (stated_by j (bind (numbered j.first xs) (names_by j)) p
-    ++ sub_faults j.typing.max (typing_by j) (visible_names j.above.now) (bind (numbered j.first xs) (names_by j)) (writable_within j.first (length xs) (writable_by j.writable.now)) (j.first + length xs) s))
+    ++ sub_faults j.typing.max (typing_by j) (visible_names j.above.now) (bind (numbered j.first xs) (names_by j))
+    (writable_within j.first (length xs) (writable_by j.writable.now)) (j.first + length xs) s))
 
 -- those of a loop
 abbrev pub loop_by : Judge → RawTree → SubTree → RawTree → RawTree → List Fault
@@ -70,13 +73,15 @@ term_by j t e = term_faults j.typing.max (typing_by j) (names_by j) t e
 -- those of written names with their terms; where a term is missing the first name is at fault
 abbrev pub paired_by : Judge → ℕ → List RawName → RawTrees → List Fault
 paired_by j first [] es = []
-paired_by j first (x ∷ xs) (tree_and e es) = term_faults j.typing.max (typing_by j) (names_by j) (type_at (typing_by j) (target (names_by j) x.text)) e ++ paired_by j first xs es
+paired_by j first (x ∷ xs) (tree_and e es) =
+    term_faults j.typing.max (typing_by j) (names_by j) (type_at (typing_by j) (target (names_by j) x.text)) e ++ paired_by j first xs es
 paired_by j first (x ∷ xs) no_trees = wrong_write first ∷ []
 
 -- those of the terms after the first so many, for which there is no name
 abbrev pub unpaired_by : Judge → ℕ → ℕ → RawTrees → List Fault
 unpaired_by j first n no_trees = []
-unpaired_by j first zero (tree_and e es) = wrong_write first ∷ (term_faults j.typing.max (typing_by j) (names_by j) None e ++ unpaired_by j first zero es)
+unpaired_by j first zero (tree_and e es) =
+    wrong_write first ∷ (term_faults j.typing.max (typing_by j) (names_by j) None e ++ unpaired_by j first zero es)
 unpaired_by j first (suc n) (tree_and e es) = unpaired_by j first n es
 
 -- those of f(e) := v

@@ -293,7 +293,8 @@ fn push_outer_writes<'a>(
     found: &mut Vec<Write>,
 ) -> Result<(), Memory>
     ensures { OnOk result (writes_shown found.new.items ≡ writes_shown found.old.items ++
-        meant.outside first (length binders.now) (meant.written_in (bind (numbered first binders.now) (visible_names names.now)) (first + length binders.now) body.now)) }
+        meant.outside first (length binders.now) (meant.written_in (bind (numbered first
+        binders.now) (visible_names names.now)) (first + length binders.now) body.now)) }
 {
     let inner = bound(alloc, first, binders, names)?;
     let behind = ahead(first, binders.len())?;

@@ -1,6 +1,7 @@
 -- The task that the command stands for, in the words of the definitions.
 use Rattle.std.specs.Prelude.{◌≤◌}
-use Rattle.bk_cli.specs.Tasks.{Task, check_task, status_task, po_task, code_task, build_task, run_task, exec_task, sample_task, most_fuel, most_variables}
+use Rattle.bk_cli.specs.Tasks.{Task, check_task, status_task, po_task, code_task, build_task}
+use Rattle.bk_cli.specs.Tasks.{run_task, exec_task, sample_task, most_fuel, most_variables}
 use Rattle.bk_cli.specs.declared.command.Command.{Command}
 use Rattle.bk_cli.specs.declared.command.Command.TheVariants.{Check, Status, Obligations, Code, Build, Run, Exec, Sample}
 

@@ -32,8 +32,8 @@ abbrev pub most_variables : ℕ
 most_variables = MOST_SAMPLE_VARIABLES
 
 -- ---- verbs
--- the verb with these files and this fuel is that of the task. What executes no code makes no use of the fuel, nor does a sample, whose file
--- is its number of variables in decimal digits without a leading zero
+-- the verb with these files and this fuel is that of the task. What executes no code makes no use of the
+-- fuel, nor does a sample, whose file is its number of variables in decimal digits without a leading zero
 abbrev pub IsTaskOf : (verb : List ℕ) (files : List (List ℕ)) (fuel : ℕ) → Task → Type 0
 IsTaskOf verb files fuel (check_task project) = (verb ≡ codes "check") × (files ≡ project ∷ [])
 IsTaskOf verb files fuel (status_task project) = (verb ≡ codes "status") × (files ≡ project ∷ [])
@@ -42,7 +42,8 @@ IsTaskOf verb files fuel (code_task project) = (verb ≡ codes "code") × (files
 IsTaskOf verb files fuel (build_task project) = (verb ≡ codes "build") × (files ≡ project ∷ [])
 IsTaskOf verb files fuel (run_task project calls steps) = (verb ≡ codes "run") × (files ≡ project ∷ calls ∷ []) × (steps ≡ fuel)
 IsTaskOf verb files fuel (exec_task image calls steps) = (verb ≡ codes "exec") × (files ≡ image ∷ calls ∷ []) × (steps ≡ fuel)
-IsTaskOf verb files fuel (sample_task variables) = (verb ≡ codes "sample") × (files ≡ decimal variables ∷ []) × (1 ≤ variables) × (variables ≤ most_variables)
+IsTaskOf verb files fuel (sample_task variables) = (verb ≡ codes "sample")
+    × (files ≡ decimal variables ∷ []) × (1 ≤ variables) × (variables ≤ most_variables)
 
 -- the words ask for the task: the command takes them, and the task is that of their verb, their files and their fuel
 pub record Asks (words : List (List ℕ)) (task : Task) : Type 0 where

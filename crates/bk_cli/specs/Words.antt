@@ -14,7 +14,8 @@ verb_rule = record (new_rule (codes "VERB")) { required = true }
 
 -- any number of files
 abbrev pub file_rule : Rule
-file_rule = record (new_rule (codes "FILE")) { action = Some Append; range = Some (record { start_inclusive = 0; end_inclusive = usize_max }) }
+file_rule =
+    record (new_rule (codes "FILE")) { action = Some Append; range = Some (record { start_inclusive = 0; end_inclusive = usize_max }) }
 
 -- `--fuel N`, FUEL where it is not there
 abbrev pub fuel_rule : Rule

@@ -1,5 +1,6 @@
 -- What the loader checks of an image: its numbers, and the depth of the stack at each place.
-use Rattle.std.specs.Prelude.{◌≡◌, ℕ, zero, suc, ◌+◌, ◌-◌, ◌<◌, ◌≤◌, ◌^◌, ◌⊎◌, ℤ, pos, ◌+ℤ◌, ◌-ℤ◌, List, length, All, slice_get, slice_index, Some}
+use Rattle.std.specs.Prelude.{◌≡◌, ℕ, zero, suc, ◌+◌, ◌-◌, ◌<◌, ◌≤◌, ◌^◌, ◌⊎◌, ℤ, pos, ◌+ℤ◌}
+use Rattle.std.specs.Prelude.{◌-ℤ◌, List, length, All, slice_get, slice_index, Some}
 use Rattle.bk_limits.specs.declared.TheConstants.{MOST_CELLS, STACK_ROOM}
 use Rattle.bk_code.specs.declared.image.Image.{Image}
 use Rattle.bk_code.specs.declared.image.OpEntry.{OpEntry}
@@ -111,7 +112,8 @@ pub record IsDepths (image : Image) (depths : List ℕ) : Type 0 where
   pub starts : All (λ entry. slice_index depths entry.start ≡ 0) image.ops
   pub limit : (at : ℕ) → at < length image.code → slice_index depths at ≤ STACK_ROOM
   pub enough : (at : ℕ) (inst : Inst) → slice_get image.code at ≡ Some inst → pops inst ≤ slice_index depths at
-  pub flows : (at to : ℕ) (inst : Inst) → slice_get image.code at ≡ Some inst → FlowsTo inst at to → slice_index depths to ≡ slice_index depths at - pops inst + pushes inst
+  pub flows : (at to : ℕ) (inst : Inst) → slice_get image.code at ≡ Some inst →
+      FlowsTo inst at to → slice_index depths to ≡ slice_index depths at - pops inst + pushes inst
   pub returned : (at : ℕ) (inst : Inst) → slice_get image.code at ≡ Some inst → IsEmptyAtEnd inst (slice_index depths at)
 
 -- the image's numbers are in their ranges, and its places have depths: no step of it is stuck
@@ -132,7 +134,8 @@ LeadsThrough image (suc n) at to = (mid : ℕ) × LeadsThrough image n at mid ×
 
 -- the depth of the place is 0 from the start: it is the first, an operation starts there, or nothing goes there
 abbrev pub IsRoot : Image → ℕ → Type 0
-IsRoot image at = (at ≡ 0) ⊎ ((k : ℕ) × (entry : OpEntry) × (slice_get image.ops k ≡ Some entry) × (entry.start ≡ at)) ⊎ ((from : ℕ) → Passes image from at → ⊥)
+IsRoot image at = (at ≡ 0) ⊎ ((k : ℕ) × (entry : OpEntry) × (slice_get image.ops k ≡ Some entry) × (entry.start ≡ at))
+    ⊎ ((from : ℕ) → Passes image from at → ⊥)
 
 -- neither such a place nor a smaller one leads to it
 abbrev pub IsOpen : Image → ℕ → Type 0

@@ -1,9 +1,11 @@
 -- The instruction table: what one instruction does.
-use Rattle.std.specs.Prelude.{ℕ, ◌+◌, ℤ, pos, negsuc, neg_ℤ, ◌+ℤ◌, ◌-ℤ◌, ◌*ℤ◌, int_le, int_lt, nat_lt, unsigned_abs, ◌&&◌, Bool, List, ◌∷◌, length, Option, Some, None, slice_get, slice_set, Result, Ok, Err, if◌then◌else◌}
+use Rattle.std.specs.Prelude.{ℕ, ◌+◌, ℤ, pos, negsuc, neg_ℤ, ◌+ℤ◌, ◌-ℤ◌, ◌*ℤ◌, int_le, int_lt, nat_lt, unsigned_abs, ◌&&◌, Bool}
+use Rattle.std.specs.Prelude.{List, ◌∷◌, length, Option, Some, None, slice_get, slice_set, Result, Ok, Err, if◌then◌else◌}
 use Rattle.std.specs.Ordering.{int_eq}
 use Rattle.bk_code.specs.declared.image.Image.{Image}
 use Rattle.bk_code.specs.declared.instruction.Inst.{Inst}
-use Rattle.bk_code.specs.declared.instruction.Inst.TheVariants.{Push, Load, Store, ALoad, AStore, Add, Sub, Mul, Div, Mod, Neg, Eq, Lt, Le, Not, Jump, JumpZero, Ret}
+use Rattle.bk_code.specs.declared.instruction.Inst.TheVariants.{Push, Load, Store, ALoad, AStore, Add, Sub, Mul, Div}
+use Rattle.bk_code.specs.declared.instruction.Inst.TheVariants.{Mod, Neg, Eq, Lt, Le, Not, Jump, JumpZero, Ret}
 use Rattle.bk_code.specs.declared.instruction.Trap.{Trap}
 use Rattle.bk_code.specs.declared.instruction.Trap.TheVariants.{Index}
 use Rattle.bk_code.specs.Numbers.{int_max, bounded, quotient, remainder, truth_number}
@@ -57,8 +59,10 @@ abbrev pub row : ℤ → Inst → ℕ → List ℤ → List ℤ → Outcome
 row max (Push n) at stack cells = next (at + 1) (n ∷ stack) cells
 row max (Load slot) at stack cells = loaded (at + 1) stack cells (slice_get cells slot)
 row max (Store slot) at (n ∷ stack) cells = stored (at + 1) stack cells slot n
-row max (ALoad base low count) at (i ∷ stack) cells = if is_index low count i then loaded (at + 1) stack cells (slice_get cells (element_cell base low i)) else Traps Index
-row max (AStore base low count) at (n ∷ i ∷ stack) cells = if is_index low count i then stored (at + 1) stack cells (element_cell base low i) n else Traps Index
+row max (ALoad base low count) at (i ∷ stack) cells =
+    if is_index low count i then loaded (at + 1) stack cells (slice_get cells (element_cell base low i)) else Traps Index
+row max (AStore base low count) at (n ∷ i ∷ stack) cells =
+    if is_index low count i then stored (at + 1) stack cells (element_cell base low i) n else Traps Index
 row max Add at (b ∷ a ∷ stack) cells = calculated (at + 1) stack cells (bounded max (a +ℤ b))
 row max Sub at (b ∷ a ∷ stack) cells = calculated (at + 1) stack cells (bounded max (a -ℤ b))
 row max Mul at (b ∷ a ∷ stack) cells = calculated (at + 1) stack cells (bounded max (a *ℤ b))
@@ -70,7 +74,8 @@ row max Lt at (b ∷ a ∷ stack) cells = next (at + 1) (truth_number (int_lt a 
 row max Le at (b ∷ a ∷ stack) cells = next (at + 1) (truth_number (int_le a b) ∷ stack) cells
 row max Not at (a ∷ stack) cells = next (at + 1) (truth_number (int_eq a (pos 0)) ∷ stack) cells
 row max (Jump distance) at stack cells = jumped (pos at +ℤ distance) stack cells
-row max (JumpZero distance) at (a ∷ stack) cells = if int_eq a (pos 0) then jumped (pos at +ℤ distance) stack cells else next (at + 1) stack cells
+row max (JumpZero distance) at (a ∷ stack) cells =
+    if int_eq a (pos 0) then jumped (pos at +ℤ distance) stack cells else next (at + 1) stack cells
 row max Ret at stack cells = Returns
 row max _ at stack cells = Stuck
 

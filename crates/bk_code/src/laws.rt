@@ -1,6 +1,8 @@
 //! Laws of the definitions, as contracts of functions that do nothing.
 ghost use Rattle.bk_code.specs.CellValues.{StandsForOne};
-ghost use Rattle.bk_code.specs.Laws.{StoresPushed, EndsAtReturn, IsOutOfFuelBelow, IsTrapOutOfFuel, StaysDone, StaysTrapped, HasOneEnd, IsNeverStuck, KeepsFitting, HasSomeEnd, IsFirstFitting, IsCallFitting, HasOneSession, HasSomeSession, LoadableIsChecked, RefusesDeadStore};
+ghost use Rattle.bk_code.specs.Laws.{StoresPushed, EndsAtReturn, IsOutOfFuelBelow, IsTrapOutOfFuel, StaysDone, StaysTrapped};
+ghost use Rattle.bk_code.specs.Laws.{HasOneEnd, IsNeverStuck, KeepsFitting, HasSomeEnd, IsFirstFitting, IsCallFitting};
+ghost use Rattle.bk_code.specs.Laws.{HasOneSession, HasSomeSession, LoadableIsChecked, RefusesDeadStore};
 
 /// A Push with a Store after it writes a cell and leaves the stack alone.
 pub fn pushes_store()

@@ -7,7 +7,8 @@ use Rattle.bk_form.specs.Formula.{Formula, variable, literal, truth_value, eleme
 use Rattle.bk_form.specs.Defined.{is_in_int}
 use Rattle.bk_form.specs.Each.{Each}
 use Rattle.bk_form.specs.declared.operator.UnOp.TheVariants.{Not, BoolOf, Neg, Single}
-use Rattle.bk_form.specs.declared.operator.BinOp.TheVariants.{And, Or, Eq, Lt, Le, Add, Sub, Mul, Div, Mod, Apply, Times, Over, Maps, TotalFunctions}
+use Rattle.bk_form.specs.declared.operator.BinOp.TheVariants.{And, Or, Eq, Lt, Le, Add, Sub, Mul, Div, Mod}
+use Rattle.bk_form.specs.declared.operator.BinOp.TheVariants.{Apply, Times, Over, Maps, TotalFunctions}
 use Rattle.bk_form.specs.declared.arrays.ArrayRow.{ArrayRow}
 use Rattle.bk_gsl.specs.State.{declared_type}
 use Rattle.bk_gsl.specs.Clean.{write_of}

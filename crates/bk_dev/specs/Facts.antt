@@ -1,6 +1,7 @@
 -- What holds of every development: its numbers name entries, its formulas type, and names stay where they may stand.
 -- Source: B-Book; B Language Reference Manual; what numbers are asked is this project's.
-use Rattle.std.specs.Prelude.{◌≡◌, ◌⊎◌, ◌<◌, ◌≤◌, ℕ, suc, nat_eq, pos, ◌-ℤ◌, ◌≤ℤ◌, Bool, true, false, not, ◌||◌, List, [], ◌∷◌, ◌++◌, length, Option, Some, ◌^◌}
+use Rattle.std.specs.Prelude.{◌≡◌, ◌⊎◌, ◌<◌, ◌≤◌, ℕ, suc, nat_eq, pos, ◌-ℤ◌, ◌≤ℤ◌, Bool, true}
+use Rattle.std.specs.Prelude.{false, not, ◌||◌, List, [], ◌∷◌, ◌++◌, length, Option, Some, ◌^◌}
 use Rattle.std.specs.List.{slice_get, flat_map}
 use Rattle.bk_val.specs.ValueType.{ValueType}
 use Rattle.bk_form.specs.Table.{Table, variable_type, IsWellFormed}
@@ -16,7 +17,8 @@ use Rattle.bk_dev.specs.declared.kind.Kind.{Kind}
 use Rattle.bk_dev.specs.declared.kind.Kind.TheVariants.{Machine, Refinement, Implementation}
 use Rattle.bk_dev.specs.declared.kind.Home.{Home}
 use Rattle.bk_dev.specs.declared.kind.Home.TheVariants.{Constant, Input, Abstract, Inner, Concrete}
-use Rattle.bk_dev.specs.Development.{Head, Body, Level, Development, int_max, IsRange, level_at, last, is_complete, is_implementation, body_at}
+use Rattle.bk_dev.specs.Development.{Head, Body, Level, Development, int_max, IsRange, level_at}
+use Rattle.bk_dev.specs.Development.{last, is_complete, is_implementation, body_at}
 use Rattle.bk_form.specs.Each.{Each}
 use Rattle.bk_gsl.specs.Flat.{IsFlat}
 use Rattle.bk_dev.specs.Flattened.{flattened}

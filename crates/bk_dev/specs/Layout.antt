@@ -1,5 +1,6 @@
 -- The arrays of an implementation, and the cells that its variables have.
-use Rattle.std.specs.Prelude.{ℕ, ◌+◌, nat_eq, ℤ, pos, ◌+ℤ◌, ◌-ℤ◌, Bool, true, false, not, ◌&&◌, ◌||◌, cond, int_le, List, [], ◌∷◌, ◌++◌, Option, Some, None}
+use Rattle.std.specs.Prelude.{ℕ, ◌+◌, nat_eq, ℤ, pos, ◌+ℤ◌, ◌-ℤ◌, Bool, true, false, not, ◌&&◌}
+use Rattle.std.specs.Prelude.{◌||◌, cond, int_le, List, [], ◌∷◌, ◌++◌, Option, Some, None}
 use Rattle.std.specs.List.{filter_map, filter, list_all}
 use Rattle.bk_val.specs.ValueType.{ValueType, pair_type, set_type}
 use Rattle.bk_form.specs.Table.{Table, set_size, variable_type}

@@ -1,6 +1,8 @@
 //! What holds of developments, and what a small machine reaches. Each law is the contract of a function that does nothing.
 
-ghost use Rattle.bk_dev.specs.Laws.{CounterIsDevelopment, ReachesTen, AnswersTen, LegalWhere, FlattenedIsLawful, FlattenedRuns, FlattenedKeepsCells, FlattenedStaysInB0, CallsClimb, OpeningsClimb, SizesKeepDevelopments, SizesHold, AreNotCarried};
+ghost use Rattle.bk_dev.specs.Laws.{CounterIsDevelopment, ReachesTen, AnswersTen, LegalWhere, FlattenedIsLawful};
+ghost use Rattle.bk_dev.specs.Laws.{FlattenedRuns, FlattenedKeepsCells, FlattenedStaysInB0, CallsClimb};
+ghost use Rattle.bk_dev.specs.Laws.{OpeningsClimb, SizesKeepDevelopments, SizesHold, AreNotCarried};
 
 /// A counter, to be checked by hand.
 pub fn counter()

@@ -39,7 +39,8 @@ abbrev pub body_judged : TypingKept → Typing → PlanKept → Development → 
 body_judged t typing p dev o =
     input_faults typing o.headed.inputs o.headed.operation.inputs
     ++ (declared_faults typing o.outputs_at o.headed.operation.outputs
-    ++ sub_faults t.max typing (visible_names p.upper.items) (body_scope (plan_shown p) o) (writes_own dev p.level (outputs_of o)) o.binders_at o.headed.operation.body)
+    ++ sub_faults t.max typing (visible_names p.upper.items) (body_scope (plan_shown p) o)
+    (writes_own dev p.level (outputs_of o)) o.binders_at o.headed.operation.body)
 
 -- those of all bodies
 abbrev pub bodies_judged : TypingKept → Typing → PlanKept → Development → List Placed → List Fault
@@ -93,7 +94,8 @@ development_below dev a = record {
   heads = dev.heads;
   levels = dev.levels ++ a.own.items;
   values = a.values.items;
-  extents = dev.extents ++ (length (dev.table.sets ++ a.sets.items), length (dev.table.variables ++ variables_added a.variables.items)) ∷ [];
+  extents =
+      dev.extents ++ (length (dev.table.sets ++ a.sets.items), length (dev.table.variables ++ variables_added a.variables.items)) ∷ [];
 }
 
 -- the levels above, if there are some, with what a component adds

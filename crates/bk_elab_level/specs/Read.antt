@@ -39,7 +39,8 @@ choices_by e before cs = choices e.typing.max (types_by e) (visible_names e.abov
 
 -- the same of guarded branches
 abbrev pub selected_by : Elaboration → Formula → Substitution → Branches → Substitution
-selected_by e nots before bs = selected e.typing.max (types_by e) (visible_names e.above.now) (visible_names e.names.now) e.first nots before bs
+selected_by e nots before bs =
+    selected e.typing.max (types_by e) (visible_names e.above.now) (visible_names e.names.now) e.first nots before bs
 
 -- a predicate
 abbrev pub condition_by : Elaboration → RawTree → Formula
@@ -53,5 +54,6 @@ term_by e (Some u) t = term_read e.typing.max (types_by e) (visible_names e.name
 -- z : E ==> x := z
 abbrev pub chosen_by : Elaboration → RawName → RawTree → Substitution
 chosen_by e x d =
-    chosen_in (types_by e) (number_of (target (visible_names e.names.now) x.text)) (type_at (types_by e) (target (visible_names e.names.now) x.text)) e.first
+    chosen_in (types_by e) (number_of (target (visible_names e.names.now) x.text))
+    (type_at (types_by e) (target (visible_names e.names.now) x.text)) e.first
     (ask_domain 0 (outcome_of e.typing.max (types_by e) (visible_names e.names.now) d)).answer

@@ -5,7 +5,8 @@ use Rattle.std.specs.Coded.{Coded}
 use base.Stored.{Gv, gnil, gnum, gcons}
 use Rattle.bk_val.specs.ValueType.{type_code, type_back, type_back-code}
 use Rattle.bk_form.specs.Codes.FormulaCodes.{formula_code, formula_back, formula_back-code}
-use Rattle.bk_raw.specs.Meaning.Outcome.{Joint, union_joint, inter_joint, minus_joint, over_joint, Partial, whole, hollow, single_of, pair_of, joint_of}
+use Rattle.bk_raw.specs.Meaning.Outcome.{Joint, union_joint, inter_joint, minus_joint, over_joint}
+use Rattle.bk_raw.specs.Meaning.Outcome.{Partial, whole, hollow, single_of, pair_of, joint_of}
 
 -- how many nodes it has, formulas aside
 abbrev pub expression_size : Partial → ℕ
@@ -50,7 +51,8 @@ abbrev pub expression_back : Gv → Partial
 expression_back (gcons (gnum zero) (gcons f t)) = whole (formula_back f) (type_back t)
 expression_back (gcons (gnum (suc zero)) p) = single_of (expression_back p)
 expression_back (gcons (gnum (suc (suc zero))) (gcons p q)) = pair_of (expression_back p) (expression_back q)
-expression_back (gcons (gnum (suc (suc (suc n)))) (gcons (gnum j) (gcons p q))) = joint_of (joint_back j) (expression_back p) (expression_back q)
+expression_back (gcons (gnum (suc (suc (suc n)))) (gcons (gnum j) (gcons p q))) =
+    joint_of (joint_back j) (expression_back p) (expression_back q)
 expression_back _ = hollow
 
 -- a code gives its expression back
@@ -63,4 +65,5 @@ expression_back-code (joint_of j p q) = λ i. joint_of (joint_back-code j i) (ex
 
 -- so expressions can be told apart by their codes
 abbrev pub coded_expression : Coded Partial
-coded_expression = record { code = expression_code; inj = λ p q e. sym (expression_back-code p) ∙ ap expression_back e ∙ expression_back-code q }
+coded_expression =
+    record { code = expression_code; inj = λ p q e. sym (expression_back-code p) ∙ ap expression_back e ∙ expression_back-code q }

@@ -1,13 +1,20 @@
 -- Right sides of conjuncts that were read for the types or ranges of bound names, and are kept for the body.
-use Rattle.std.specs.Prelude.{◌≡◌, ◌+◌, ℤ, ℕ, nat_eq, nat_le, nat_lt, Bool, true, false, cond, not, ◌&&◌, ◌||◌, List, [], ◌∷◌, Option, None, Some, MatchOption}
+use Rattle.std.specs.Prelude.{◌≡◌, ◌+◌, ℤ, ℕ, nat_eq, nat_le, nat_lt, Bool, true, false, cond}
+use Rattle.std.specs.Prelude.{not, ◌&&◌, ◌||◌, List, [], ◌∷◌, Option, None, Some, MatchOption}
 use Rattle.bk_val.specs.ValueType.{ValueType, set_type}
 use Rattle.bk_raw.specs.declared.operator.Constant.{Constant}
 use Rattle.bk_raw.specs.declared.operator.Constant.TheVariants.{Integer, Natural, Natural1}
 use Rattle.bk_raw.specs.declared.operator.InfixOp.{InfixOp}
-use Rattle.bk_raw.specs.declared.operator.InfixOp.TheVariants.{Member, Relations, PartialFunctions, TotalFunctions, PartialInjections, TotalInjections, PartialSurjections, TotalSurjections, Bijections, Union, Intersection, Minus, Override, Maplet, Times}
+use Rattle.bk_raw.specs.declared.operator.InfixOp.TheVariants.{Member, Relations, PartialFunctions, TotalFunctions, PartialInjections}
+use Rattle.bk_raw.specs.declared.operator.InfixOp.TheVariants.{TotalInjections, PartialSurjections, TotalSurjections, Bijections}
+use Rattle.bk_raw.specs.declared.operator.InfixOp.TheVariants.{Union, Intersection, Minus, Override, Maplet, Times}
 use Rattle.bk_raw.specs.declared.operator.WordOp.{WordOp}
 use Rattle.bk_raw.specs.declared.operator.WordOp.TheVariants.{Pow, Pow1, Fin, Fin1}
-use Rattle.bk_raw.specs.Trees.RawTree.{RawTree, raw, RawTreeNode, raw_name, raw_level_name, raw_bound_name, raw_number, raw_constant, raw_word, raw_negative, raw_infix, raw_inverse, raw_image, raw_apply, raw_composition, raw_pair, raw_empty_set, raw_extension, raw_comprehension, raw_lambda, raw_for_all, raw_exists, raw_typed_empty, raw_typed_for_all, raw_typed_exists, raw_ranged_comprehension, raw_ranged_lambda, RawTrees, no_trees, tree_and, RawRanges, no_ranges, range_and}
+use Rattle.bk_raw.specs.Trees.RawTree.{RawTree, raw, RawTreeNode, raw_name, raw_level_name, raw_bound_name, raw_number, raw_constant}
+use Rattle.bk_raw.specs.Trees.RawTree.{raw_word, raw_negative, raw_infix, raw_inverse, raw_image, raw_apply, raw_composition}
+use Rattle.bk_raw.specs.Trees.RawTree.{raw_pair, raw_empty_set, raw_extension, raw_comprehension, raw_lambda, raw_for_all, raw_exists}
+use Rattle.bk_raw.specs.Trees.RawTree.{raw_typed_empty, raw_typed_for_all, raw_typed_exists, raw_ranged_comprehension, raw_ranged_lambda}
+use Rattle.bk_raw.specs.Trees.RawTree.{RawTrees, no_trees, tree_and, RawRanges, no_ranges, range_and}
 use Rattle.bk_raw.specs.declared.term.RawName.{RawName}
 use Rattle.bk_raw.specs.Trees.FreeNames.{stands_free}
 use Rattle.bk_raw.specs.Meaning.Names.{Names}
@@ -80,8 +87,10 @@ abbrev mutual
   node_has_unsettled first count dollar (raw_typed_empty t) = false
   node_has_unsettled first count dollar (raw_typed_for_all bs p) = has_unsettled first count dollar p
   node_has_unsettled first count dollar (raw_typed_exists bs p) = has_unsettled first count dollar p
-  node_has_unsettled first count dollar (raw_ranged_comprehension rs p) = ranges_have_unsettled first count dollar rs || has_unsettled first count dollar p
-  node_has_unsettled first count dollar (raw_ranged_lambda rs p e) = ranges_have_unsettled first count dollar rs || (has_unsettled first count dollar p || has_unsettled first count dollar e)
+  node_has_unsettled first count dollar (raw_ranged_comprehension rs p) =
+      ranges_have_unsettled first count dollar rs || has_unsettled first count dollar p
+  node_has_unsettled first count dollar (raw_ranged_lambda rs p e) =
+      ranges_have_unsettled first count dollar rs || (has_unsettled first count dollar p || has_unsettled first count dollar e)
 
   pub some_have_unsettled : ℕ → ℕ → Bool → RawTrees → Bool
   some_have_unsettled first count dollar no_trees = false
@@ -89,7 +98,8 @@ abbrev mutual
 
   pub ranges_have_unsettled : ℕ → ℕ → Bool → RawRanges → Bool
   ranges_have_unsettled first count dollar no_ranges = false
-  ranges_have_unsettled first count dollar (range_and at n d rs) = has_unsettled first count dollar d || ranges_have_unsettled first count dollar rs
+  ranges_have_unsettled first count dollar (range_and at n d rs) =
+      has_unsettled first count dollar d || ranges_have_unsettled first count dollar rs
 
 -- ---- additions
 -- whether a dollar sign stands in one of these names
@@ -135,7 +145,8 @@ abbrev mutual
 -- ---- what is kept
 -- what is made of a reading of the left side and of this one, kept for the right side, is the reading of the whole
 abbrev pub JoinsTo : ℤ → Names → Step → ℕ → InfixOp × RawTree × RawTree → Reading → Type 0
-JoinsTo m names side at p read = (one all : Step) → IsRead one (reading m names p.1) → ((r q : Reading) → IsRead one r → IsRead side q → IsRead all (two_reading (Infix p.0) at p.1 p.2 r q)) → IsRead all read
+JoinsTo m names side at p read = (one all : Step) → IsRead one (reading m names p.1) →
+    ((r q : Reading) → IsRead one r → IsRead side q → IsRead all (two_reading (Infix p.0) at p.1 p.2 r q)) → IsRead all read
 
 -- the right side of a conjunct between two parts that was kept for it, if one was
 abbrev pub IsKept : ℤ → Names → Option Step → RawTree → Type 0

@@ -5,7 +5,9 @@ use Rattle.bk_form.specs.Formula.{Formula, unary, binary}
 use Rattle.bk_form.specs.declared.operator.UnOp.TheVariants.{Not}
 use Rattle.bk_form.specs.declared.operator.BinOp.{BinOp}
 use Rattle.bk_raw.specs.declared.operator.InfixOp.{InfixOp}
-use Rattle.bk_raw.specs.declared.operator.InfixOp.TheVariants.{Relations, PartialFunctions, TotalFunctions, PartialInjections, TotalInjections, PartialSurjections, TotalSurjections, Bijections, Interval, Plus, Divide, Mod, Power, StrictSubset}
+use Rattle.bk_raw.specs.declared.operator.InfixOp.TheVariants.{Relations, PartialFunctions, TotalFunctions, PartialInjections}
+use Rattle.bk_raw.specs.declared.operator.InfixOp.TheVariants.{TotalInjections, PartialSurjections, TotalSurjections, Bijections}
+use Rattle.bk_raw.specs.declared.operator.InfixOp.TheVariants.{Interval, Plus, Divide, Mod, Power, StrictSubset}
 use Rattle.bk_raw.specs.Meaning.Outcome.{Partial, whole, Outcome, Asked, ask, whole_of, filled}
 use Rattle.bk_raw.specs.Errors.Faults.{Fault, not_predicate}
 use Rattle.bk_elab_terms.specs.declared.operator.Places.{Places}

@@ -1,5 +1,6 @@
 -- What the program's names in scope stand for.
-use Rattle.std.specs.Prelude.{◌≡◌, ◌<◌, ℕ, ℤ, zero, suc, length, Bool, true, false, ◌&&◌, ◌||◌, List, [], ◌∷◌, ◌++◌, map, take, drop, slice_get, Option, None, Some}
+use Rattle.std.specs.Prelude.{◌≡◌, ◌<◌, ℕ, ℤ, zero, suc, length, Bool, true, false, ◌&&◌, ◌||◌, List}
+use Rattle.std.specs.Prelude.{[], ◌∷◌, ◌++◌, map, take, drop, slice_get, Option, None, Some}
 use Rattle.std.specs.Str.{bytes_eq}
 use Rattle.bk_val.specs.ValueType.{ValueType, pair_type}
 use Rattle.bk_form.specs.Formula.{Formula, formulas_of, for_all, for_some}
@@ -10,11 +11,13 @@ use Rattle.bk_raw.specs.declared.operator.InfixOp.TheVariants.{Member, Subset, S
 use Rattle.bk_raw.specs.declared.term.RawBound.{RawBound}
 use Rattle.bk_raw.specs.declared.term.RawName.{RawName}
 use Rattle.bk_raw.specs.declared.term.RawRange.{RawRange}
-use Rattle.bk_raw.specs.Trees.RawTree.{RawTree, RawTreeNode, tree_size, raw_for_all, raw_exists, raw_comprehension, raw_lambda, raw_typed_for_all, raw_typed_exists, raw_ranged_comprehension, raw_ranged_lambda}
+use Rattle.bk_raw.specs.Trees.RawTree.{RawTree, RawTreeNode, tree_size, raw_for_all, raw_exists, raw_comprehension, raw_lambda}
+use Rattle.bk_raw.specs.Trees.RawTree.{raw_typed_for_all, raw_typed_exists, raw_ranged_comprehension, raw_ranged_lambda}
 use Rattle.bk_raw.specs.Codes.RawView.{ranges_of as ranges_written}
 use Rattle.bk_raw.specs.Meaning.Names.{Names, set_name, Sight, unseen, untyped_name, seen}
 use Rattle.bk_raw.specs.Meaning.Outcome.{Outcome, Reading, ask_domain, ask_set, ask_value}
-use Rattle.bk_raw.specs.Meaning.Binders.{Bound, Ranged, inside, locals, all_typed, types_of, as_bound, is_some_name, ranges_of, second, set_over, as_single, typed_as, ranged_as}
+use Rattle.bk_raw.specs.Meaning.Binders.{Bound, Ranged, inside, locals, all_typed, types_of, as_bound, is_some_name}
+use Rattle.bk_raw.specs.Meaning.Binders.{ranges_of, second, set_over, as_single, typed_as, ranged_as}
 use Rattle.bk_raw.specs.Meaning.TermReading.{reading, node_reading, part, place_of, names_one, clues, premise_clues, ranges}
 use Rattle.bk_raw.specs.Meaning.Printed.{RangeRead, printed_ranges, wrong_ranges}
 use Rattle.bk_elab_terms.specs.declared.blame.Fault.{Fault as ToldFault}
@@ -210,7 +213,8 @@ with_last (Some u) t = pair_type u t
 -- the ranges and the type of a tuple of their elements, where there is a name and each name has a range
 abbrev pub AreTaken : Option (List Formula × ValueType) → List Ranged → Type 0
 AreTaken None rs = (is_some_name rs && all_typed (as_bound rs)) ≡ false
-AreTaken (Some p) rs = ((is_some_name rs && all_typed (as_bound rs)) ≡ true) × (formulas_of p.0 ≡ ranges_of rs) × (p.1 ≡ tuple_type (types_of (as_bound rs)))
+AreTaken (Some p) rs = ((is_some_name rs && all_typed (as_bound rs)) ≡ true)
+    × (formulas_of p.0 ≡ ranges_of rs) × (p.1 ≡ tuple_type (types_of (as_bound rs)))
 
 -- which quantifier it is
 abbrev pub quantifier : Bool → List ValueType → Formula → Formula
@@ -253,7 +257,8 @@ pub record TellsRange (all : List RawName) (bs : List Ranged) (t : RawTree) (op 
   pub small : tree_size d < tree_size t
   pub side : IsRight t op d
   pub outside : names_one all d ≡ false
-  pub same : (m : ℤ) (names : Names) (i : ℕ) → ranges m names all i bs t ≡ taken_at place i (range_told op (part false d (reading m names d)).outcome) bs
+  pub same : (m : ℤ) (names : Names) (i : ℕ) →
+      ranges m names all i bs t ≡ taken_at place i (range_told op (part false d (reading m names d)).outcome) bs
 
 -- {x | P}, or %x.(P | E) where there is an E
 abbrev pub named_abstraction : List RawName → RawTree → Option RawTree → RawTreeNode

@@ -12,7 +12,10 @@ ghost use Rattle.bk_raw.specs.Errors.Blame.{blame};
 ghost use Rattle.bk_raw.specs.Errors.Faults.{Fault as FaultAt};
 ghost use Rattle.bk_elab_terms.specs.Conjuncts.{and_sides};
 ghost use Rattle.bk_elab_terms.specs.Shown.{shown_outcome, told, IsRead};
-ghost use Rattle.bk_elab_terms.specs.Sights.{names_of, bounds_from, ranges_as, quantifier, TypesOf, bounds_of, clue_type, range_told, AreTaken, IsRest, StandsBelow, StandsCut, tells_type, tells_range, with_last, AwaitsNone, AwaitsAt, given_at, LacksNone, LacksAt, taken_at, range_as, IsRangeOf, TellsNoType, TellsType, TellsNoRange, TellsRange};
+ghost use Rattle.bk_elab_terms.specs.Sights.{names_of, bounds_from, ranges_as, quantifier, TypesOf, bounds_of, clue_type};
+ghost use Rattle.bk_elab_terms.specs.Sights.{range_told, AreTaken, IsRest, StandsBelow, StandsCut, tells_type, tells_range};
+ghost use Rattle.bk_elab_terms.specs.Sights.{with_last, AwaitsNone, AwaitsAt, given_at, LacksNone, LacksAt, taken_at};
+ghost use Rattle.bk_elab_terms.specs.Sights.{range_as, IsRangeOf, TellsNoType, TellsType, TellsNoRange, TellsRange};
 
 use crate::blame::{Fault, earlier};
 use crate::made::{MOST_NODES, unary};

@@ -3,7 +3,8 @@
 ghost use Rattle.std.specs.Prelude.{◌≡◌};
 ghost use Rattle.bk_raw.specs.Trees.RawTree.{trees_of};
 ghost use Rattle.bk_raw.specs.Codes.RawView.{ranges_of};
-ghost use Rattle.bk_elab_terms.specs.Kept.{has_dollar, dollar_untyped, names_dollar, is_own, has_unsettled, some_have_unsettled, ranges_have_unsettled, has_additions, some_have_additions};
+ghost use Rattle.bk_elab_terms.specs.Kept.{has_dollar, dollar_untyped, names_dollar, is_own, has_unsettled};
+ghost use Rattle.bk_elab_terms.specs.Kept.{some_have_unsettled, ranges_have_unsettled, has_additions, some_have_additions};
 ghost use Rattle.bk_elab_terms.specs.Sights.{bounds_of};
 
 use crate::sight::Local;

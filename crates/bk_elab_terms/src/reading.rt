@@ -15,7 +15,8 @@ ghost use Rattle.bk_elab_terms.specs.Conjuncts.{and_sides};
 ghost use Rattle.bk_elab_terms.specs.Forms.{one_node, two_node};
 ghost use Rattle.bk_elab_terms.specs.Kept.{IsKept, AreKept, StaysKept, StayKept};
 ghost use Rattle.bk_elab_terms.specs.Shown.{told, IsRead};
-ghost use Rattle.bk_elab_terms.specs.Sights.{around_of, read_by, node_by, names_of, names_below, bounds_from, ranges_as, IsRest, clues_by, named_node, numbered_node, named_abstraction, numbered_abstraction, Stands, StandsBelow};
+ghost use Rattle.bk_elab_terms.specs.Sights.{around_of, read_by, node_by, names_of, names_below, bounds_from, ranges_as, IsRest, clues_by};
+ghost use Rattle.bk_elab_terms.specs.Sights.{named_node, numbered_node, named_abstraction, numbered_abstraction, Stands, StandsBelow};
 
 use crate::binder::{
     Ranged, abstracted, clue_type, comprehended, following, is_used, push_untyped, range,

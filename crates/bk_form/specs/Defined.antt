@@ -1,4 +1,5 @@
--- Formulas in which each operator that is met is inside its domain, read from left to right; and executed expressions whose numbers stay within MININT .. MAXINT.
+-- Formulas in which each operator that is met is inside its domain, read from left
+-- to right; and executed expressions whose numbers stay within MININT .. MAXINT.
 -- Source: after the well-definedness of the B Language Reference Manual.
 use Rattle.std.specs.Prelude.{◌≡◌, ◌⊎◌, ℤ, pos, ◌-ℤ◌, Bool, true, false, not, ◌&&◌, int_lt, int_le, List, [], ◌∷◌, map, Option, Some, None}
 use Rattle.bk_val.specs.Value.{MathValue, int}
@@ -6,7 +7,8 @@ use Rattle.bk_val.specs.ValueType.{are_of_types}
 use Rattle.bk_val.specs.Sets.{has}
 use Rattle.bk_form.specs.Table.{set_size}
 use Rattle.bk_form.specs.ArrayTable.{ArrayTable, row_of}
-use Rattle.bk_form.specs.Formula.{Formula, variable, unary, binary, for_all, for_some, comprehension, lambda, Formulas, no_formulas, formula_and}
+use Rattle.bk_form.specs.Formula.{Formula, variable, unary, binary, for_all, for_some}
+use Rattle.bk_form.specs.Formula.{comprehension, lambda, Formulas, no_formulas, formula_and}
 use Rattle.bk_form.specs.Search.{Finder}
 use Rattle.bk_form.specs.Environment.{Environment, under}
 use Rattle.bk_form.specs.Operators.{elements, is_function, first_part, number_in, is_equal, choices}
@@ -30,7 +32,8 @@ unary_inside Min v = has_element (elements v)
 unary_inside Max v = has_element (elements v)
 unary_inside _ v = true
 
--- whether two operands are in the operator's domain: a / b asks that b is not 0, a mod b that 0 <= a and 0 < b, a ** b that 0 <= b, f(x) that f is a function with x in its domain
+-- whether two operands are in the operator's domain: a / b asks that b is not 0, a mod b
+-- that 0 <= a and 0 < b, a ** b that 0 <= b, f(x) that f is a function with x in its domain
 abbrev pub binary_inside : BinOp → MathValue → MathValue → Bool
 binary_inside Div v w = not (is_equal w (int (pos 0)))
 binary_inside Mod v w = int_le (pos 0) (number_in v) && int_lt (pos 0) (number_in w)
@@ -59,11 +62,15 @@ abbrev mutual
   -- each operator that is met is inside its domain
   pub Defined : Finder → Environment → Formula → Type 0
   Defined find e (unary o a) = Defined find e a × (unary_inside o (value find e a) ≡ true)
-  Defined find e (binary o a b) = LeftToRight o (truth find e a) (Defined find e a) (Defined find e b) (binary_inside o (value find e a) (value find e b))
+  Defined find e (binary o a b) =
+      LeftToRight o (truth find e a) (Defined find e a) (Defined find e b) (binary_inside o (value find e a) (value find e b))
   Defined find e (for_all ts p) = (vs : List MathValue) → are_of_types (set_size e.table) ts vs ≡ true → Defined find (under e ts vs) p
   Defined find e (for_some ts p) = (vs : List MathValue) → are_of_types (set_size e.table) ts vs ≡ true → Defined find (under e ts vs) p
-  Defined find e (comprehension rs p) = AreDefined find e rs × ((vs : List MathValue) → InRanges find e rs vs → Defined find (under e (range_types (meanings find e rs)) vs) p)
-  Defined find e (lambda rs p v) = AreDefined find e rs × ((vs : List MathValue) → InRanges find e rs vs → Defined find (under e (range_types (meanings find e rs)) vs) p × (truth find (under e (range_types (meanings find e rs)) vs) p ≡ true → Defined find (under e (range_types (meanings find e rs)) vs) v))
+  Defined find e (comprehension rs p) = AreDefined find e rs
+      × ((vs : List MathValue) → InRanges find e rs vs → Defined find (under e (range_types (meanings find e rs)) vs) p)
+  Defined find e (lambda rs p v) = AreDefined find e rs × ((vs : List MathValue) → InRanges find e rs vs →
+      Defined find (under e (range_types (meanings find e rs)) vs) p × (truth find (under e (range_types (meanings find e rs)) vs) p ≡
+      true → Defined find (under e (range_types (meanings find e rs)) vs) v))
   Defined find e _ = Unit {0}
 
   -- and so in each of these formulas
@@ -104,7 +111,10 @@ binary_fits arrays _ a v w result = true
 -- each operation that is met fits; comprehensions and lambdas are never executed, and nothing is asked of them
 abbrev pub Fits : Finder → Environment → ArrayTable → Formula → Type 0
 Fits find e arrays (unary o a) = Fits find e arrays a
-Fits find e arrays (binary o a b) = LeftToRight o (truth find e a) (Fits find e arrays a) (Fits find e arrays b) (binary_fits arrays o a (value find e a) (value find e b) (value find e (binary o a b)))
-Fits find e arrays (for_all ts p) = (vs : List MathValue) → are_of_types (set_size e.table) ts vs ≡ true → Fits find (under e ts vs) arrays p
-Fits find e arrays (for_some ts p) = (vs : List MathValue) → are_of_types (set_size e.table) ts vs ≡ true → Fits find (under e ts vs) arrays p
+Fits find e arrays (binary o a b) = LeftToRight o (truth find e a) (Fits find e arrays a) (Fits find e arrays b)
+    (binary_fits arrays o a (value find e a) (value find e b) (value find e (binary o a b)))
+Fits find e arrays (for_all ts p) = (vs : List MathValue) →
+    are_of_types (set_size e.table) ts vs ≡ true → Fits find (under e ts vs) arrays p
+Fits find e arrays (for_some ts p) = (vs : List MathValue) →
+    are_of_types (set_size e.table) ts vs ≡ true → Fits find (under e ts vs) arrays p
 Fits find e arrays _ = Unit {0}

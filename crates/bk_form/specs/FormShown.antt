@@ -1,7 +1,9 @@
 -- The formula that a view shows.
-use Rattle.bk_form.specs.Formula.{Formula, variable, bound, literal, truth_value, element, empty_set, named, btrue, bfalse, unary, binary, for_all, for_some, comprehension, lambda, formulas_of}
+use Rattle.bk_form.specs.Formula.{Formula, variable, bound, literal, truth_value, element, empty_set, named, btrue}
+use Rattle.bk_form.specs.Formula.{bfalse, unary, binary, for_all, for_some, comprehension, lambda, formulas_of}
 use Rattle.bk_form.specs.declared.form.View.{View}
-use Rattle.bk_form.specs.declared.form.View.TheVariants.{Var, Bound, Int, Bool, Elem, Empty, Name, True, False, Un, Bin, All, Some, Compr, Lam}
+use Rattle.bk_form.specs.declared.form.View.TheVariants.{Var, Bound, Int, Bool, Elem, Empty, Name, True}
+use Rattle.bk_form.specs.declared.form.View.TheVariants.{False, Un, Bin, All, Some, Compr, Lam}
 
 -- the formula that is seen as this
 abbrev pub shown : View → Formula

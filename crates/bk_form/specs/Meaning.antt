@@ -7,9 +7,12 @@ use Rattle.bk_val.specs.ValueType.{ValueType, bool_type, int_type, are_of_types,
 use Rattle.bk_form.specs.Table.{Table, set_size, variable_type}
 use Rattle.bk_form.specs.Search.{Finder, no_choice}
 use Rattle.bk_form.specs.Environment.{Environment, Binding, under}
-use Rattle.bk_form.specs.Role.{Role, gives, predicate, untyped, unary_role, binary_role, given_by, bound_role, empty_role, element_role, named_role, quantifier_role, comprehension_role, lambda_role, element_type, element_types}
-use Rattle.bk_form.specs.Operators.{is_element, set_value, unary_value, unary_truth, is_in_unary, binary_value, binary_truth, is_in_binary, named_value, is_in_named, choices, tuple_of}
-use Rattle.bk_form.specs.Formula.{Formula, variable, bound, literal, truth_value, element, empty_set, named, btrue, bfalse, unary, binary, for_all, for_some, comprehension, lambda, Formulas, no_formulas, formula_and}
+use Rattle.bk_form.specs.Role.{Role, gives, predicate, untyped, unary_role, binary_role, given_by, bound_role, empty_role, element_role}
+use Rattle.bk_form.specs.Role.{named_role, quantifier_role, comprehension_role, lambda_role, element_type, element_types}
+use Rattle.bk_form.specs.Operators.{is_element, set_value, unary_value, unary_truth, is_in_unary, binary_value}
+use Rattle.bk_form.specs.Operators.{binary_truth, is_in_binary, named_value, is_in_named, choices, tuple_of}
+use Rattle.bk_form.specs.Formula.{Formula, variable, bound, literal, truth_value, element, empty_set, named, btrue, bfalse}
+use Rattle.bk_form.specs.Formula.{unary, binary, for_all, for_some, comprehension, lambda, Formulas, no_formulas, formula_and}
 use Rattle.bk_form.specs.declared.operator.UnOp.{UnOp}
 use Rattle.bk_form.specs.declared.operator.BinOp.{BinOp}
 use Rattle.bk_form.specs.declared.operator.Domain.{Domain}
@@ -41,7 +44,8 @@ bound_meaning table (Some b) = of_value (bound_role table (Some b.0)) b.1
 
 -- INTEGER, NATURAL, NATURAL1, BOOL or an enumerated set: the values in it, and its own value where it is finite
 abbrev pub named_meaning : Table → Domain → Meaning
-named_meaning table d = record { role = named_role table d; value = named_value (set_size table) d; truth = false; contains = is_in_named (set_size table) d }
+named_meaning table d =
+    record { role = named_role table d; value = named_value (set_size table) d; truth = false; contains = is_in_named (set_size table) d }
 
 -- an operator on one formula, by what that formula means
 abbrev pub unary_meaning : UnOp → Meaning → Meaning
@@ -58,16 +62,19 @@ binary_meaning find sizes o a b = record {
   role = binary_role o a.role b.role;
   value = binary_value o (base_of (type_in (binary_role o a.role b.role))) a.value b.value;
   truth = binary_truth o a.value b.value a.truth b.truth b.contains;
-  contains = is_in_binary find sizes (element_type a.role) (element_type b.role) o a.contains b.contains (binary_value o (base_of (type_in (binary_role o a.role b.role))) a.value b.value);
+  contains = is_in_binary find sizes (element_type a.role) (element_type b.role) o a.contains
+      b.contains (binary_value o (base_of (type_in (binary_role o a.role b.role))) a.value b.value);
 }
 
 -- true where no choice of values of the types makes the body false
 abbrev pub all_meaning : Finder → Table → List ValueType → (List MathValue → Meaning) → Meaning
-all_meaning find table ts body = of_truth (quantifier_role table ts (body []).role) (no_choice find (λ vs. are_of_types (set_size table) ts vs && not (body vs).truth))
+all_meaning find table ts body =
+    of_truth (quantifier_role table ts (body []).role) (no_choice find (λ vs. are_of_types (set_size table) ts vs && not (body vs).truth))
 
 -- true where some choice of values of the types makes the body true
 abbrev pub some_meaning : Finder → Table → List ValueType → (List MathValue → Meaning) → Meaning
-some_meaning find table ts body = of_truth (quantifier_role table ts (body []).role) (not (no_choice find (λ vs. are_of_types (set_size table) ts vs && (body vs).truth)))
+some_meaning find table ts body =
+    of_truth (quantifier_role table ts (body []).role) (not (no_choice find (λ vs. are_of_types (set_size table) ts vs && (body vs).truth)))
 
 -- what each of them stands for by its form
 abbrev pub roles_of : List Meaning → List Role
@@ -83,11 +90,13 @@ chosen ranges body = filter (λ vs. (body vs).truth) (choices (map (λ m. m.valu
 
 -- {x | P}: the set of the tuples of elements of the ranges for which P is true
 abbrev pub comprehension_meaning : List Meaning → (List MathValue → Meaning) → Meaning
-comprehension_meaning ranges body = of_value (comprehension_role (roles_of ranges) (body []).role) (set_value (map tuple_of (chosen ranges body)))
+comprehension_meaning ranges body =
+    of_value (comprehension_role (roles_of ranges) (body []).role) (set_value (map tuple_of (chosen ranges body)))
 
 -- %x.(P | E): each tuple of elements of the ranges for which P is true, paired with the value that E has there
 abbrev pub lambda_meaning : List Meaning → (List MathValue → Meaning) → (List MathValue → Meaning) → Meaning
-lambda_meaning ranges body image = of_value (lambda_role (roles_of ranges) (body []).role (image []).role) (set_value (map (λ vs. pair (tuple_of vs) (image vs).value) (chosen ranges body)))
+lambda_meaning ranges body image = of_value (lambda_role (roles_of ranges) (body []).role (image []).role)
+    (set_value (map (λ vs. pair (tuple_of vs) (image vs).value) (chosen ranges body)))
 
 abbrev mutual
   -- what a formula means in an environment
@@ -105,8 +114,10 @@ abbrev mutual
   meaning find e (binary o a b) = binary_meaning find (set_size e.table) o (meaning find e a) (meaning find e b)
   meaning find e (for_all ts p) = all_meaning find e.table ts (λ vs. meaning find (under e ts vs) p)
   meaning find e (for_some ts p) = some_meaning find e.table ts (λ vs. meaning find (under e ts vs) p)
-  meaning find e (comprehension rs p) = comprehension_meaning (meanings find e rs) (λ vs. meaning find (under e (range_types (meanings find e rs)) vs) p)
-  meaning find e (lambda rs p v) = lambda_meaning (meanings find e rs) (λ vs. meaning find (under e (range_types (meanings find e rs)) vs) p) (λ vs. meaning find (under e (range_types (meanings find e rs)) vs) v)
+  meaning find e (comprehension rs p) =
+      comprehension_meaning (meanings find e rs) (λ vs. meaning find (under e (range_types (meanings find e rs)) vs) p)
+  meaning find e (lambda rs p v) = lambda_meaning (meanings find e rs) (λ vs.
+      meaning find (under e (range_types (meanings find e rs)) vs) p) (λ vs. meaning find (under e (range_types (meanings find e rs)) vs) v)
 
   -- what each of them means
   pub meanings : Finder → Environment → Formulas → List Meaning

@@ -10,7 +10,11 @@ use Rattle.bk_form.specs.Wider.{IsTypedRole}
 use Rattle.bk_form.specs.declared.operator.UnOp.{UnOp}
 use Rattle.bk_form.specs.declared.operator.UnOp.TheVariants.{Not, BoolOf, Neg, Card, Min, Max, Dom, Ran, Id, Inverse, Single, Pow, Pow1}
 use Rattle.bk_form.specs.declared.operator.BinOp.{BinOp}
-use Rattle.bk_form.specs.declared.operator.BinOp.TheVariants.{And, Or, Imp, Iff, Eq, Lt, Le, In, Relations, PartialFunctions, TotalFunctions, PartialInjections, TotalInjections, PartialSurjections, TotalSurjections, Bijections, Union, Inter, Minus, Times, DomRes, RanRes, DomSub, RanSub, Over, Maps, Range, Add, Sub, Mul, Div, Mod, Power, Image, Apply, Comp}
+use Rattle.bk_form.specs.declared.operator.BinOp.TheVariants.{And, Or, Imp, Iff, Eq, Lt, Le, In, Relations, PartialFunctions}
+use Rattle.bk_form.specs.declared.operator.BinOp.TheVariants.{TotalFunctions, PartialInjections, TotalInjections, PartialSurjections}
+use Rattle.bk_form.specs.declared.operator.BinOp.TheVariants.{TotalSurjections, Bijections, Union, Inter, Minus, Times, DomRes, RanRes}
+use Rattle.bk_form.specs.declared.operator.BinOp.TheVariants.{DomSub, RanSub, Over, Maps, Range, Add, Sub, Mul, Div, Mod, Power, Image}
+use Rattle.bk_form.specs.declared.operator.BinOp.TheVariants.{Apply, Comp}
 
 -- a set value
 abbrev pub IsSetOf : ValueType → Role → Type 0
@@ -68,7 +72,8 @@ AreTwoSets a b whole = (t : ValueType) × IsSetOf t a × IsSetOf t b × IsSetOf 
 
 -- two set values, or two domains of which one is none
 abbrev pub IsProduct : Role → Role → Role → Type 0
-IsProduct a b whole = (t : ValueType) × (u : ValueType) × ((IsSetOf t a × IsSetOf u b × IsRelationOf t u whole) ⊎ (IsOver t a × IsOver u b × (whole ≡ ranges_over (pair_type t u))))
+IsProduct a b whole = (t : ValueType) × (u : ValueType)
+    × ((IsSetOf t a × IsSetOf u b × IsRelationOf t u whole) ⊎ (IsOver t a × IsOver u b × (whole ≡ ranges_over (pair_type t u))))
 
 -- a relation, and a set of its first or of its second parts
 abbrev pub IsDomainPart : Role → Role → Role → Type 0
@@ -96,7 +101,8 @@ IsApplication f a whole = (t : ValueType) × (u : ValueType) × IsRelationOf t u
 
 -- two relations that meet in the middle give one from the first parts of one to the second parts of the other
 abbrev pub IsComposition : Role → Role → Role → Type 0
-IsComposition a b whole = (t : ValueType) × (u : ValueType) × (v : ValueType) × IsRelationOf t u a × IsRelationOf u v b × IsRelationOf t v whole
+IsComposition a b whole = (t : ValueType) × (u : ValueType) × (v : ValueType)
+    × IsRelationOf t u a × IsRelationOf u v b × IsRelationOf t v whole
 
 -- what the left and the right stand for, and what the whole does
 abbrev pub IsOfTwo : BinOp → Role → Role → Role → Type 0
@@ -139,5 +145,7 @@ IsOfTwo Comp a b whole = IsComposition a b whole
 
 -- of every formula that types and is made by an operator: what the operands stand for
 pub record OperandsAreTyped : Type 0 where
-  pub one : (table : Table) (around : List ValueType) (o : UnOp) (a : Formula) → IsTypedRole (role table around (unary o a)) → IsOfOne o (role table around a) (role table around (unary o a))
-  pub two : (table : Table) (around : List ValueType) (o : BinOp) (a b : Formula) → IsTypedRole (role table around (binary o a b)) → IsOfTwo o (role table around a) (role table around b) (role table around (binary o a b))
+  pub one : (table : Table) (around : List ValueType) (o : UnOp) (a : Formula) →
+      IsTypedRole (role table around (unary o a)) → IsOfOne o (role table around a) (role table around (unary o a))
+  pub two : (table : Table) (around : List ValueType) (o : BinOp) (a b : Formula) → IsTypedRole (role table around (binary o a b)) →
+      IsOfTwo o (role table around a) (role table around b) (role table around (binary o a b))

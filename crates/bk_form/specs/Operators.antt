@@ -1,6 +1,7 @@
 -- The operators on values, and the tests of domains, as in set theory. Outside its domain an operator gives the base value.
 -- Source: B-Book; B Language Reference Manual.
-use Rattle.std.specs.Prelude.{ℕ, zero, suc, nat_eq, nat_lt, ℤ, pos, negsuc, ◌+ℤ◌, ◌-ℤ◌, ◌*ℤ◌, int_lt, int_le, Bool, true, false, not, ◌&&◌, ◌||◌, cond, List, [], ◌∷◌, length, map, unwrap_or}
+use Rattle.std.specs.Prelude.{ℕ, zero, suc, nat_eq, nat_lt, ℤ, pos, negsuc, ◌+ℤ◌, ◌-ℤ◌, ◌*ℤ◌, int_lt, int_le}
+use Rattle.std.specs.Prelude.{Bool, true, false, not, ◌&&◌, ◌||◌, cond, List, [], ◌∷◌, length, map, unwrap_or}
 use Rattle.std.specs.List.{filter, list_all, flat_map}
 use Rattle.std.specs.Ordering.{eq_by_cmp}
 use Rattle.bk_val.specs.Value.{MathValue, int, bool, elem, pair, set, none, list_of, values_of, value_cmp}
@@ -11,7 +12,11 @@ use Rattle.bk_form.specs.Search.{Finder, no_choice}
 use Rattle.bk_form.specs.declared.operator.UnOp.{UnOp}
 use Rattle.bk_form.specs.declared.operator.UnOp.TheVariants.{Not, BoolOf, Neg, Card, Min, Max, Dom, Ran, Id, Inverse, Single, Pow, Pow1}
 use Rattle.bk_form.specs.declared.operator.BinOp.{BinOp}
-use Rattle.bk_form.specs.declared.operator.BinOp.TheVariants.{And, Or, Imp, Iff, Eq, Lt, Le, In, Relations, PartialFunctions, TotalFunctions, PartialInjections, TotalInjections, PartialSurjections, TotalSurjections, Bijections, Union, Inter, Minus, Times, DomRes, RanRes, DomSub, RanSub, Over, Maps, Range, Add, Sub, Mul, Div, Mod, Power, Image, Apply, Comp}
+use Rattle.bk_form.specs.declared.operator.BinOp.TheVariants.{And, Or, Imp, Iff, Eq, Lt, Le, In, Relations, PartialFunctions}
+use Rattle.bk_form.specs.declared.operator.BinOp.TheVariants.{TotalFunctions, PartialInjections, TotalInjections, PartialSurjections}
+use Rattle.bk_form.specs.declared.operator.BinOp.TheVariants.{TotalSurjections, Bijections, Union, Inter, Minus, Times, DomRes, RanRes}
+use Rattle.bk_form.specs.declared.operator.BinOp.TheVariants.{DomSub, RanSub, Over, Maps, Range, Add, Sub, Mul, Div, Mod, Power, Image}
+use Rattle.bk_form.specs.declared.operator.BinOp.TheVariants.{Apply, Comp}
 use Rattle.bk_form.specs.declared.operator.Domain.{Domain}
 use Rattle.bk_form.specs.declared.operator.Domain.TheVariants.{Integer, Natural, Natural1, Bool as Booleans, Enum}
 
@@ -223,16 +228,22 @@ is_in_unary Pow1 in_a value v = is_subset in_a v && not (is_empty v)
 is_in_unary _ in_a value v = is_element v value
 
 -- products of domains and the arrows between domains that range over t and u; of any other operator the elements of its value
-abbrev pub is_in_binary : Finder → (ℕ → ℕ) → ValueType → ValueType → BinOp → (MathValue → Bool) → (MathValue → Bool) → MathValue → MathValue → Bool
+abbrev pub is_in_binary : Finder → (ℕ → ℕ) → ValueType → ValueType → BinOp →
+    (MathValue → Bool) → (MathValue → Bool) → MathValue → MathValue → Bool
 is_in_binary find sizes t u Times in_a in_b value v = is_pair_of in_a in_b v
 is_in_binary find sizes t u Relations in_a in_b value v = is_relation in_a in_b v
 is_in_binary find sizes t u PartialFunctions in_a in_b value v = is_partial_function in_a in_b v
-is_in_binary find sizes t u TotalFunctions in_a in_b value v = is_partial_function in_a in_b v && covers find sizes t in_a (map first_part (elements v))
+is_in_binary find sizes t u TotalFunctions in_a in_b value v =
+    is_partial_function in_a in_b v && covers find sizes t in_a (map first_part (elements v))
 is_in_binary find sizes t u PartialInjections in_a in_b value v = is_partial_function in_a in_b v && is_injective (elements v)
-is_in_binary find sizes t u TotalInjections in_a in_b value v = is_partial_function in_a in_b v && is_injective (elements v) && covers find sizes t in_a (map first_part (elements v))
-is_in_binary find sizes t u PartialSurjections in_a in_b value v = is_partial_function in_a in_b v && covers find sizes u in_b (map second_of (elements v))
-is_in_binary find sizes t u TotalSurjections in_a in_b value v = is_partial_function in_a in_b v && covers find sizes t in_a (map first_part (elements v)) && covers find sizes u in_b (map second_of (elements v))
-is_in_binary find sizes t u Bijections in_a in_b value v = is_partial_function in_a in_b v && is_injective (elements v) && covers find sizes t in_a (map first_part (elements v)) && covers find sizes u in_b (map second_of (elements v))
+is_in_binary find sizes t u TotalInjections in_a in_b value v =
+    is_partial_function in_a in_b v && is_injective (elements v) && covers find sizes t in_a (map first_part (elements v))
+is_in_binary find sizes t u PartialSurjections in_a in_b value v =
+    is_partial_function in_a in_b v && covers find sizes u in_b (map second_of (elements v))
+is_in_binary find sizes t u TotalSurjections in_a in_b value v = is_partial_function in_a in_b v
+    && covers find sizes t in_a (map first_part (elements v)) && covers find sizes u in_b (map second_of (elements v))
+is_in_binary find sizes t u Bijections in_a in_b value v = is_partial_function in_a in_b v && is_injective (elements v)
+    && covers find sizes t in_a (map first_part (elements v)) && covers find sizes u in_b (map second_of (elements v))
 is_in_binary find sizes t u _ in_a in_b value v = is_element v value
 
 -- ---- binders

@@ -2,9 +2,11 @@
 -- and of its list of ranges.
 use Rattle.std.specs.Prelude.{◌≡◌, ◌⊎◌, ◌<◌, ℕ, List, [], ◌∷◌, ◌++◌, Some, slice_get, map}
 use Rattle.bk_val.specs.ValueType.{ValueType}
-use Rattle.bk_form.specs.Formula.{Formula, variable, bound, literal, truth_value, element, empty_set, named, btrue, bfalse, unary, binary, for_all, for_some, comprehension, lambda, Formulas, no_formulas, formula_and}
+use Rattle.bk_form.specs.Formula.{Formula, variable, bound, literal, truth_value, element, empty_set, named, btrue, bfalse}
+use Rattle.bk_form.specs.Formula.{unary, binary, for_all, for_some, comprehension, lambda, Formulas, no_formulas, formula_and}
 use Rattle.bk_form.specs.declared.pool.key.Key.{Key}
-use Rattle.bk_form.specs.declared.pool.key.Key.TheVariants.{Var, Bound, Int, Bool, Elem, Empty, Name, True, False, Un, Bin, All, Some as Exists, Compr, Lam}
+use Rattle.bk_form.specs.declared.pool.key.Key.TheVariants.{Var, Bound, Int, Bool, Elem, Empty, Name, True}
+use Rattle.bk_form.specs.declared.pool.key.Key.TheVariants.{False, Un, Bin, All, Some as Exists, Compr, Lam}
 use Rattle.bk_form.specs.Pools.{Stands, IsPool}
 
 -- ---- keys

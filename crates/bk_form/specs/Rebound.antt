@@ -1,6 +1,7 @@
 -- Other formulas in place of bound numbers.
 use Rattle.std.specs.Prelude.{ℕ, ◌+◌, length}
-use Rattle.bk_form.specs.Formula.{Formula, variable, bound, literal, truth_value, element, empty_set, named, btrue, bfalse, unary, binary, for_all, for_some, comprehension, lambda, Formulas, no_formulas, formula_and}
+use Rattle.bk_form.specs.Formula.{Formula, variable, bound, literal, truth_value, element, empty_set, named, btrue, bfalse}
+use Rattle.bk_form.specs.Formula.{unary, binary, for_all, for_some, comprehension, lambda, Formulas, no_formulas, formula_and}
 use Rattle.bk_form.specs.Replacement.{count}
 
 -- what `put` says in place of each bound number

@@ -3,11 +3,16 @@
 use Rattle.std.specs.Prelude.{ℕ, nat_eq, nat_lt, Bool, true, false, ◌&&◌, List, [], ◌∷◌, map, Option, Some, None, slice_get}
 use Rattle.bk_val.specs.ValueType.{ValueType, int_type, bool_type, enum_type, pair_type, set_type}
 use Rattle.bk_form.specs.Table.{Table, listed_size, variable_type, lists_type}
-use Rattle.bk_form.specs.Formula.{Formula, variable, bound, literal, truth_value, element, empty_set, named, btrue, bfalse, unary, binary, for_all, for_some, comprehension, lambda, Formulas, no_formulas, formula_and}
+use Rattle.bk_form.specs.Formula.{Formula, variable, bound, literal, truth_value, element, empty_set, named, btrue, bfalse}
+use Rattle.bk_form.specs.Formula.{unary, binary, for_all, for_some, comprehension, lambda, Formulas, no_formulas, formula_and}
 use Rattle.bk_form.specs.declared.operator.UnOp.{UnOp}
 use Rattle.bk_form.specs.declared.operator.UnOp.TheVariants.{Not, BoolOf, Neg, Card, Min, Max, Dom, Ran, Id, Inverse, Single, Pow, Pow1}
 use Rattle.bk_form.specs.declared.operator.BinOp.{BinOp}
-use Rattle.bk_form.specs.declared.operator.BinOp.TheVariants.{And, Or, Imp, Iff, Eq, Lt, Le, In, Relations, PartialFunctions, TotalFunctions, PartialInjections, TotalInjections, PartialSurjections, TotalSurjections, Bijections, Union, Inter, Minus, Times, DomRes, RanRes, DomSub, RanSub, Over, Maps, Range, Add, Sub, Mul, Div, Mod, Power, Image, Apply, Comp}
+use Rattle.bk_form.specs.declared.operator.BinOp.TheVariants.{And, Or, Imp, Iff, Eq, Lt, Le, In, Relations, PartialFunctions}
+use Rattle.bk_form.specs.declared.operator.BinOp.TheVariants.{TotalFunctions, PartialInjections, TotalInjections, PartialSurjections}
+use Rattle.bk_form.specs.declared.operator.BinOp.TheVariants.{TotalSurjections, Bijections, Union, Inter, Minus, Times, DomRes, RanRes}
+use Rattle.bk_form.specs.declared.operator.BinOp.TheVariants.{DomSub, RanSub, Over, Maps, Range, Add, Sub, Mul, Div, Mod, Power, Image}
+use Rattle.bk_form.specs.declared.operator.BinOp.TheVariants.{Apply, Comp}
 use Rattle.bk_form.specs.declared.operator.Domain.{Domain}
 use Rattle.bk_form.specs.declared.operator.Domain.TheVariants.{Bool as Booleans, Enum}
 
@@ -120,7 +125,8 @@ range_part_role r a = if_relation (λ t u. if_set (λ v. if_holds (same_type v u
 
 -- two relations of one type
 abbrev pub override_role : Role → Role → Role
-override_role a b = if_relation (λ t u. if_relation (λ v w. if_holds (same_type t v && same_type u w) (gives (set_type (pair_type t u)))) b) a
+override_role a b =
+    if_relation (λ t u. if_relation (λ v w. if_holds (same_type t v && same_type u w) (gives (set_type (pair_type t u)))) b) a
 
 -- x |-> y, of two values
 abbrev pub pair_role : Role → Role → Role
@@ -259,7 +265,8 @@ comprehension_role ranges body = if_holds (are_ranges ranges) (if_predicate (giv
 
 -- %x.(P | E), with P a predicate: a relation from tuples of elements of the ranges to the type of E
 abbrev pub lambda_role : List Role → Role → Role → Role
-lambda_role ranges body image = if_holds (are_ranges ranges) (if_predicate (if_value (λ u. gives (set_type (pair_type (tuple_type (element_types ranges)) u))) image) body)
+lambda_role ranges body image = if_holds (are_ranges ranges)
+    (if_predicate (if_value (λ u. gives (set_type (pair_type (tuple_type (element_types ranges)) u))) image) body)
 
 abbrev mutual
   -- the role of a formula under bound variables of these types, the innermost first
@@ -277,8 +284,10 @@ abbrev mutual
   role table around (binary o a b) = binary_role o (role table around a) (role table around b)
   role table around (for_all ts p) = quantifier_role table ts (role table (bind ts around) p)
   role table around (for_some ts p) = quantifier_role table ts (role table (bind ts around) p)
-  role table around (comprehension rs p) = comprehension_role (roles table around rs) (role table (bind (element_types (roles table around rs)) around) p)
-  role table around (lambda rs p v) = lambda_role (roles table around rs) (role table (bind (element_types (roles table around rs)) around) p) (role table (bind (element_types (roles table around rs)) around) v)
+  role table around (comprehension rs p) =
+      comprehension_role (roles table around rs) (role table (bind (element_types (roles table around rs)) around) p)
+  role table around (lambda rs p v) = lambda_role (roles table around rs) (role table
+      (bind (element_types (roles table around rs)) around) p) (role table (bind (element_types (roles table around rs)) around) v)
 
   -- the roles of several formulas, in order
   pub roles : Table → List ValueType → Formulas → List Role

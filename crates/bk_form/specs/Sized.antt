@@ -41,7 +41,8 @@ only_size n size m = cond (nat_eq m n) size 0
 -- ---- laws
 -- a formula that types has the same role with any sizes
 abbrev pub SizesKeepRoles : Type 0
-SizesKeepRoles = (sizes : ℕ → ℕ) (table : Table) (around : List ValueType) (f : Formula) → IsTypedRole (role table around f) → role (with_sizes sizes table) around f ≡ role table around f
+SizesKeepRoles = (sizes : ℕ → ℕ) (table : Table) (around : List ValueType) (f : Formula) →
+    IsTypedRole (role table around f) → role (with_sizes sizes table) around f ≡ role table around f
 
 -- what sizes change in tables
 pub record SizesFit : Type 0 where

@@ -4,7 +4,8 @@ use Rattle.bk_val.specs.Value.{fits_i128}
 use Rattle.bk_val.specs.ValueType.{ValueType, enum_type, pair_type, set_type}
 use Rattle.bk_form.specs.declared.operator.Domain.{Domain}
 use Rattle.bk_form.specs.declared.operator.Domain.TheVariants.{Enum}
-use Rattle.bk_form.specs.Formula.{Formula, variable, bound, literal, element, empty_set, named, unary, binary, for_all, for_some, comprehension, lambda, Formulas, no_formulas, formula_and}
+use Rattle.bk_form.specs.Formula.{Formula, variable, bound, literal, element, empty_set, named, unary, binary}
+use Rattle.bk_form.specs.Formula.{for_all, for_some, comprehension, lambda, Formulas, no_formulas, formula_and}
 
 -- whether the sets in the type have numbers of 32 bits
 abbrev pub is_storable_type : ValueType → Bool

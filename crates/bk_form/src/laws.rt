@@ -1,6 +1,8 @@
 //! Laws of the meaning of formulas. Each is the contract of a function that does nothing.
 
-ghost use Rattle.bk_form.specs.Laws.{AllMeans, SomeMeans, IsIndependent, SearchExists, IsClassical, IsSoundTyping, ReplacementMeans, ComprehensionHas, LambdaHas, IntervalHas, TotalMeans, OntoMeans, NoTotalFunction, ChoicesAre, Examples, DefinedExamples, WideningMeans, WideningKeepsRoles, WideningKeepsDefined};
+ghost use Rattle.bk_form.specs.Laws.{AllMeans, SomeMeans, IsIndependent, SearchExists, IsClassical, IsSoundTyping, ReplacementMeans};
+ghost use Rattle.bk_form.specs.Laws.{ComprehensionHas, LambdaHas, IntervalHas, TotalMeans, OntoMeans, NoTotalFunction, ChoicesAre};
+ghost use Rattle.bk_form.specs.Laws.{Examples, DefinedExamples, WideningMeans, WideningKeepsRoles, WideningKeepsDefined};
 ghost use Rattle.bk_form.specs.MemberLaws.{OperatorMembers, ArrowsMean, MeaningIsKnown};
 ghost use Rattle.bk_form.specs.Operands.{OperandsAreTyped};
 ghost use Rattle.bk_form.specs.PoolLaws.{PoolLaws};

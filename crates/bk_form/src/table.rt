@@ -2,7 +2,8 @@
 
 ghost use Rattle.std.specs.Prelude.{◌≡◌, ◌<◌, ◌^◌, length, Some, IfOk, IfSome, OnOk, OnErr, IsTrue};
 ghost use Rattle.std.specs.Option.{option_copied, option_map};
-ghost use Rattle.bk_form.specs.Table.{empty_table, with_set, with_size, with_variable, set_name, set_elements, listed_size, variable_text, variable_type, lists_type, IsCounted, IsDeferred, IsWellFormed, IsNumberable};
+ghost use Rattle.bk_form.specs.Table.{empty_table, with_set, with_size, with_variable, set_name, set_elements, listed_size};
+ghost use Rattle.bk_form.specs.Table.{variable_text, variable_type, lists_type, IsCounted, IsDeferred, IsWellFormed, IsNumberable};
 
 use crate::ty::Ty;
 use bk_io::{Memory, Text};

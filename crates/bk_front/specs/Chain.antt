@@ -7,7 +7,8 @@ use Rattle.bk_raw.specs.declared.component.ComponentKind.TheVariants.{Machine, R
 use Rattle.bk_raw.specs.declared.term.RawName.{RawName}
 use Rattle.bk_raw.specs.Trees.ComponentTree.{RawComponent}
 use Rattle.bk_front.specs.declared.project_file.LineKind.{LineKind}
-use Rattle.bk_front.specs.declared.project_file.LineKind.TheVariants.{Machine as MachineLine, Refinement as RefinementLine, Implementation as ImplementationLine}
+use Rattle.bk_front.specs.declared.project_file.LineKind.TheVariants.{Machine as MachineLine, Refinement as RefinementLine}
+use Rattle.bk_front.specs.declared.project_file.LineKind.TheVariants.{Implementation as ImplementationLine}
 
 -- whether such a line is for components of this kind
 abbrev pub is_for : LineKind → ComponentKind → Bool

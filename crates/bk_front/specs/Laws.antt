@@ -19,24 +19,30 @@ IsOfProject Memory = ⊥
 
 -- a project file has at most one fault or limit
 abbrev pub LinesHaveOneRefusal : Type 0
-LinesHaveOneRefusal = (text : List ℕ) (one other : Refusal) → IsRefusalOfLines text one → IsOfProject one → IsRefusalOfLines text other → IsOfProject other → one ≡ other
+LinesHaveOneRefusal = (text : List ℕ) (one other : Refusal) → IsRefusalOfLines text one →
+    IsOfProject one → IsRefusalOfLines text other → IsOfProject other → one ≡ other
 
 -- and so have the texts of component files
 abbrev pub TextsHaveOneRefusal : Type 0
-TextsHaveOneRefusal = (kinds : List LineKind) (texts : List (List ℕ)) (one other : Refusal) → IsRefusalOf kinds texts one → IsOfProject one → IsRefusalOf kinds texts other → IsOfProject other → one ≡ other
+TextsHaveOneRefusal = (kinds : List LineKind) (texts : List (List ℕ)) (one other : Refusal) →
+    IsRefusalOf kinds texts one → IsOfProject one → IsRefusalOf kinds texts other → IsOfProject other → one ≡ other
 
 -- it cannot be that a project file has neither lines nor a fault or limit
 abbrev pub LinesAreRead : Type 0
-LinesAreRead = (text : List ℕ) → ((named : List ProjectLine) → AreLinesOf text named → ⊥) → ((refusal : Refusal) → IsOfProject refusal → IsRefusalOfLines text refusal → ⊥) → ⊥
+LinesAreRead = (text : List ℕ) → ((named : List ProjectLine) → AreLinesOf text named → ⊥) →
+    ((refusal : Refusal) → IsOfProject refusal → IsRefusalOfLines text refusal → ⊥) → ⊥
 
 -- nor that texts, of which there is one at least, are neither read as a development nor have one; there is a kind for each
 abbrev pub TextsAreRead : Type 0
-TextsAreRead = (kinds : List LineKind) (texts : List (List ℕ)) → length kinds ≡ length texts → 0 < length texts → ((dev : Development) → Reads kinds texts dev → ⊥) → ((refusal : Refusal) → IsOfProject refusal → IsRefusalOf kinds texts refusal → ⊥) → ⊥
+TextsAreRead = (kinds : List LineKind) (texts : List (List ℕ)) → length kinds ≡ length texts → 0 < length texts → ((dev : Development) →
+    Reads kinds texts dev → ⊥) → ((refusal : Refusal) → IsOfProject refusal → IsRefusalOf kinds texts refusal → ⊥) → ⊥
 
 -- what texts are read as is a development, as long as 32 bits number its variables with all copies that flattening makes
 abbrev pub ReadAreDevelopments : Type 0
-ReadAreDevelopments = (kinds : List LineKind) (texts : List (List ℕ)) (dev : Development) → IsChain kinds → Reads kinds texts dev → HasRoom dev → IsDevelopment dev
+ReadAreDevelopments = (kinds : List LineKind) (texts : List (List ℕ)) (dev : Development) →
+    IsChain kinds → Reads kinds texts dev → HasRoom dev → IsDevelopment dev
 
 -- and it is in B0 where it ends in an implementation
 abbrev pub ReadAreExecutable : Type 0
-ReadAreExecutable = (kinds : List LineKind) (texts : List (List ℕ)) (dev : Development) → IsChain kinds → Reads kinds texts dev → HasRoom dev → is_complete dev ≡ true → IsB0Development dev
+ReadAreExecutable = (kinds : List LineKind) (texts : List (List ℕ)) (dev : Development) →
+    IsChain kinds → Reads kinds texts dev → HasRoom dev → is_complete dev ≡ true → IsB0Development dev

@@ -52,7 +52,8 @@ DeclaresFew c = declares_too_many (component_of c) ≡ false
 -- each is accepted below the levels so far, with their MAXINT, and in the end these are all
 abbrev pub AreLevels : Option Development → List RawComponent → Option Development → Type 0
 AreLevels above [] all = above ≡ all
-AreLevels above (c ∷ cs) all = (dev : Development) × (verdict_of (int_max (above_of above)) above c ≡ accepted dev) × AreLevels (Some dev) cs all
+AreLevels above (c ∷ cs) all = (dev : Development)
+    × (verdict_of (int_max (above_of above)) above c ≡ accepted dev) × AreLevels (Some dev) cs all
 
 -- ---- what is read
 -- the texts of component files of these kinds are read as the development
@@ -95,7 +96,8 @@ abbrev pub IsProjectFault : List LineKind → List (List ℕ) → ℕ → ℕ �
 IsProjectFault kinds texts number file place =
     IsAtFault texts number file place
     ⊎ ((number ≡ number_of_fault NoTree) × All (Has IsShallowText) texts × IsFirst (Has IsWritten) (IsUnwritten place) texts file)
-    ⊎ ((number ≡ number_of_fault WrongChain) × (length kinds ≡ length texts) × ((cs : List RawComponent) × AllZip IsLow texts cs × IsFirst IsChained (IsUnchained place) (links None kinds cs) file))
+    ⊎ ((number ≡ number_of_fault WrongChain) × (length kinds ≡ length texts)
+    × ((cs : List RawComponent) × AllZip IsLow texts cs × IsFirst IsChained (IsUnchained place) (links None kinds cs) file))
     ⊎ ((cs : List RawComponent) × AreChained kinds texts cs × All DeclaresFew cs × IsLevelFault cs number file place)
 
 -- the limit of this number is the first that is passed
@@ -114,8 +116,10 @@ IsRefusalOf kinds texts Memory = Unit {0}
 -- ---- laws
 -- texts are read as one development at most
 abbrev pub ReadAsOne : Type 0
-ReadAsOne = (kinds : List LineKind) (texts : List (List ℕ)) (dev other : Development) → Reads kinds texts dev → Reads kinds texts other → dev ≡ other
+ReadAsOne = (kinds : List LineKind) (texts : List (List ℕ)) (dev other : Development) →
+    Reads kinds texts dev → Reads kinds texts other → dev ≡ other
 
 -- and have no fault where they are read, but that memory may be wanting
 abbrev pub FaultsExclude : Type 0
-FaultsExclude = (kinds : List LineKind) (texts : List (List ℕ)) (dev : Development) (refusal : Refusal) → Reads kinds texts dev → IsRefusalOf kinds texts refusal → refusal ≡ Memory
+FaultsExclude = (kinds : List LineKind) (texts : List (List ℕ)) (dev : Development) (refusal : Refusal) →
+    Reads kinds texts dev → IsRefusalOf kinds texts refusal → refusal ≡ Memory

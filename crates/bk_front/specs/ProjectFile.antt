@@ -1,6 +1,7 @@
 -- The project file: one line for a machine's file, then lines for files of refinements, then at most one for an implementation's,
 -- and lines that name proof files anywhere. The layout is this project's own.
-use Rattle.std.specs.Prelude.{◌≡◌, ◌≢◌, ◌⊎◌, ℕ, suc, ◌<◌, ◌≤◌, Bool, true, false, not, List, [], ◌∷◌, ◌++◌, length, map, filter, replicate, codes}
+use Rattle.std.specs.Prelude.{◌≡◌, ◌≢◌, ◌⊎◌, ℕ, suc, ◌<◌, ◌≤◌, Bool, true, false, not, List}
+use Rattle.std.specs.Prelude.{[], ◌∷◌, ◌++◌, length, map, filter, replicate, codes}
 use Rattle.std.specs.List.{AllZip}
 use Rattle.std.specs.Str.{IsUtf8, IsValidUpTo}
 use Rattle.std.specs.Str.Lines.{lines}
@@ -135,4 +136,5 @@ LinesAreOne = (text : List ℕ) (one other : List ProjectLine) → AreLinesOf te
 
 -- and no fault where it has one, but that memory may be wanting
 abbrev pub LinesExclude : Type 0
-LinesExclude = (text : List ℕ) (named : List ProjectLine) (refusal : Refusal) → AreLinesOf text named → IsRefusalOfLines text refusal → refusal ≡ Memory
+LinesExclude = (text : List ℕ) (named : List ProjectLine) (refusal : Refusal) →
+    AreLinesOf text named → IsRefusalOfLines text refusal → refusal ≡ Memory

@@ -9,7 +9,8 @@ use Rattle.bk_front.specs.Project.{IsLow, IsHigh}
 use Rattle.bk_sources.specs.declared.fault.FileFault.{FileFault}
 use Rattle.bk_sources.specs.declared.fault.FileFault.TheVariants.{Fault as FileAtFault, Limit as FilePastLimit, Memory as NoMemory}
 use Rattle.bk_front.specs.declared.project_file.LineKind.{LineKind}
-use Rattle.bk_front.specs.declared.project_file.LineKind.TheVariants.{Machine as MachineLine, Refinement as RefinementLine, Implementation as ImplementationLine, Proofs as ProofsLine}
+use Rattle.bk_front.specs.declared.project_file.LineKind.TheVariants.{Machine as MachineLine, Refinement as RefinementLine}
+use Rattle.bk_front.specs.declared.project_file.LineKind.TheVariants.{Implementation as ImplementationLine, Proofs as ProofsLine}
 use Rattle.bk_front.specs.declared.reading.Read.{Read}
 use Rattle.bk_front.specs.declared.reading.Read.TheVariants.{Component, High}
 use Rattle.bk_front.specs.declared.refusal.Refusal.{Refusal}
@@ -22,7 +23,8 @@ IsReadOf text High = IsHigh text
 
 -- what is told of a component of this file below these levels, where it keeps the limit of names
 abbrev pub IsNextRefusal : Option Development → RawComponent → ℕ → Refusal → Type 0
-IsNextRefusal above c file (Fault number told place) = (suc file ≡ told) × AnswersFault (verdict_of (int_max (above_of above)) above c) number place
+IsNextRefusal above c file (Fault number told place) =
+    (suc file ≡ told) × AnswersFault (verdict_of (int_max (above_of above)) above c) number place
 IsNextRefusal above c file (Limit number told) = ⊥
 IsNextRefusal above c file Memory = Unit {0}
 

@@ -7,12 +7,15 @@ use Rattle.bk_form.specs.declared.arrays.ArrayRow.{ArrayRow}
 use Rattle.bk_form.specs.declared.operator.UnOp.{UnOp}
 use Rattle.bk_form.specs.declared.operator.UnOp.TheVariants.{Not, BoolOf, Neg as Negative, Single}
 use Rattle.bk_form.specs.declared.operator.BinOp.{BinOp}
-use Rattle.bk_form.specs.declared.operator.BinOp.TheVariants.{And, Or, Eq as Equal, Lt as Less, Le as LessOrEqual, Add as Sum, Sub as Difference, Mul as Product, Div as Quotient, Mod as Remainder, Apply, Times, Over, Maps}
+use Rattle.bk_form.specs.declared.operator.BinOp.TheVariants.{And, Or, Eq as Equal, Lt as Less, Le as LessOrEqual}
+use Rattle.bk_form.specs.declared.operator.BinOp.TheVariants.{Add as Sum, Sub as Difference, Mul as Product, Div as Quotient}
+use Rattle.bk_form.specs.declared.operator.BinOp.TheVariants.{Mod as Remainder, Apply, Times, Over, Maps}
 use Rattle.bk_gsl.specs.Substitution.{Substitution, skip, assign, if_else, any, seq, assert, loop}
 use Rattle.bk_dev.specs.Layout.{index_count}
 use Rattle.bk_code.specs.Numbers.{IsWithin}
 use Rattle.bk_code.specs.declared.instruction.Inst.{Inst}
-use Rattle.bk_code.specs.declared.instruction.Inst.TheVariants.{Push, Load, Add, Sub, Mul, Div, Mod, Neg, Eq, Lt, Le, Not as Invert, Jump, JumpZero}
+use Rattle.bk_code.specs.declared.instruction.Inst.TheVariants.{Push, Load, Add, Sub, Mul, Div, Mod, Neg, Eq}
+use Rattle.bk_code.specs.declared.instruction.Inst.TheVariants.{Lt, Le, Not as Invert, Jump, JumpZero}
 use Rattle.bk_b0.specs.Kinds.{literal_number}
 use Rattle.bk_b0.specs.Places.{Places, placed_load, placed_write, placed_value, fill}
 use Rattle.bk_b0.specs.CodeUnit.{CodeUnit, slots_cells}

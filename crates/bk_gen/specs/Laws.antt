@@ -66,7 +66,8 @@ adder = record {
   homes = Abstract 0 ∷ Concrete 1 ∷ Input ∷ [];
   sets = [];
   heads = record { name = add_name; inputs = 2 ∷ []; outputs = 0 } ∷ [];
-  levels = adder_level (65 ∷ []) Machine 0 [] (adding 0 2) ∷ adder_level (65 ∷ 95 ∷ 105 ∷ []) Implementation 1 ((1, 0) ∷ []) (adding 1 2) ∷ [];
+  levels =
+      adder_level (65 ∷ []) Machine 0 [] (adding 0 2) ∷ adder_level (65 ∷ 95 ∷ 105 ∷ []) Implementation 1 ((1, 0) ∷ []) (adding 1 2) ∷ [];
   values = [];
   extents = (0, 3) ∷ (0, 3) ∷ [];
 }
@@ -85,14 +86,19 @@ AdderCode = translation adder ≡ record {
 
 -- 0 < n & n < 10, where n is the counter's number, and the same with or
 pub record TestsCode : Type 0 where
-  pub both : value_code counter (binary And (binary Below (literal (pos 0)) (variable 1)) (binary Below (variable 1) (literal (pos 10)))) ≡ Push (pos 0) ∷ Load 0 ∷ Lt ∷ JumpZero (pos 5) ∷ Load 0 ∷ Push (pos 10) ∷ Lt ∷ Jump (pos 2) ∷ Push (pos 0) ∷ []
-  pub either : value_code counter (binary Or (binary Below (literal (pos 0)) (variable 1)) (binary Below (variable 1) (literal (pos 10)))) ≡ Push (pos 0) ∷ Load 0 ∷ Lt ∷ JumpZero (pos 3) ∷ Push (pos 1) ∷ Jump (pos 4) ∷ Load 0 ∷ Push (pos 10) ∷ Lt ∷ []
+  pub both : value_code counter (binary And (binary Below (literal (pos 0)) (variable 1)) (binary Below (variable 1) (literal (pos 10)))) ≡
+      Push (pos 0) ∷ Load 0 ∷ Lt ∷ JumpZero (pos 5) ∷ Load 0 ∷ Push (pos 10) ∷ Lt ∷ Jump (pos 2) ∷ Push (pos 0) ∷ []
+  pub either : value_code counter (binary Or (binary Below (literal (pos 0)) (variable 1)) (binary Below (variable 1) (literal (pos 10)))) ≡
+      Push (pos 0) ∷ Load 0 ∷ Lt ∷ JumpZero (pos 3) ∷ Push (pos 1) ∷ Jump (pos 4) ∷ Load 0 ∷ Push (pos 10) ∷ Lt ∷ []
   -- IF 0 < n THEN n := 0 ELSE skip END
-  pub branches : statement_code counter (if_else (binary Below (literal (pos 0)) (variable 1)) (assign ((1, literal (pos 0)) ∷ [])) skip) ≡ Push (pos 0) ∷ Load 0 ∷ Lt ∷ JumpZero (pos 4) ∷ Push (pos 0) ∷ Store 0 ∷ Jump (pos 1) ∷ []
+  pub branches : statement_code counter (if_else (binary Below (literal (pos 0)) (variable 1)) (assign ((1, literal (pos 0)) ∷ [])) skip) ≡
+      Push (pos 0) ∷ Load 0 ∷ Lt ∷ JumpZero (pos 4) ∷ Push (pos 0) ∷ Store 0 ∷ Jump (pos 1) ∷ []
 
 -- WHILE 0 < n DO n := n - 1 END: the last Jump leads back to the test
 abbrev pub LoopCode : Type 0
-LoopCode = statement_code counter (loop (binary Below (literal (pos 0)) (variable 1)) (assign ((1, binary Less (variable 1) (literal (pos 1))) ∷ [])) btrue (variable 1)) ≡ Push (pos 0) ∷ Load 0 ∷ Lt ∷ JumpZero (pos 6) ∷ Load 0 ∷ Push (pos 1) ∷ Sub ∷ Store 0 ∷ Jump (neg_ℤ (pos 8)) ∷ []
+LoopCode = statement_code counter (loop (binary Below (literal (pos 0)) (variable 1))
+    (assign ((1, binary Less (variable 1) (literal (pos 1))) ∷ [])) btrue (variable 1)) ≡
+    Push (pos 0) ∷ Load 0 ∷ Lt ∷ JumpZero (pos 6) ∷ Load 0 ∷ Push (pos 1) ∷ Sub ∷ Store 0 ∷ Jump (neg_ℤ (pos 8)) ∷ []
 
 -- where no || stands in the last level, the translation of the flattened development is that of the development
 abbrev pub FlattenedKeepsCode : Type 0

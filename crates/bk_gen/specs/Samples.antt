@@ -5,7 +5,9 @@ use Rattle.bk_form.specs.Table.{VariableEntry}
 use Rattle.bk_form.specs.Formula.{Formula, variable, literal, truth_value, element, named, btrue, unary, binary}
 use Rattle.bk_form.specs.declared.arrays.ArrayDomain.TheVariants.{Interval}
 use Rattle.bk_form.specs.declared.operator.UnOp.TheVariants.{Not, BoolOf, Neg as Negative, Single}
-use Rattle.bk_form.specs.declared.operator.BinOp.TheVariants.{And, Or, Eq as Equal, Lt as Less, Le as LessOrEqual, Add as Sum, Sub as Difference, Mul as Product, Div as Quotient, Mod as Remainder, Apply, Times, Over, Maps, In, Range, TotalFunctions}
+use Rattle.bk_form.specs.declared.operator.BinOp.TheVariants.{And, Or, Eq as Equal, Lt as Less, Le as LessOrEqual, Add as Sum}
+use Rattle.bk_form.specs.declared.operator.BinOp.TheVariants.{Sub as Difference, Mul as Product, Div as Quotient, Mod as Remainder}
+use Rattle.bk_form.specs.declared.operator.BinOp.TheVariants.{Apply, Times, Over, Maps, In, Range, TotalFunctions}
 use Rattle.bk_form.specs.declared.operator.Domain.TheVariants.{Integer as Numbers, Enum}
 use Rattle.bk_gsl.specs.Substitution.{Substitution, skip, assign, if_else, any, seq, assert, loop}
 use Rattle.bk_dev.specs.declared.kind.Kind.{Kind}
@@ -13,7 +15,8 @@ use Rattle.bk_dev.specs.declared.kind.Kind.TheVariants.{Machine, Implementation}
 use Rattle.bk_dev.specs.declared.kind.Home.TheVariants.{Input, Abstract, Inner, Concrete}
 use Rattle.bk_dev.specs.Development.{Body, Level, Development, default_max}
 use Rattle.bk_code.specs.declared.image.CellKind.TheVariants.{Integer, Set}
-use Rattle.bk_code.specs.declared.instruction.Inst.TheVariants.{Push, Load, Store, ALoad, AStore, Add, Sub, Mul, Div, Mod, Neg, Eq, Lt, Le, Not as Invert, Jump, JumpZero, Ret}
+use Rattle.bk_code.specs.declared.instruction.Inst.TheVariants.{Push, Load, Store, ALoad, AStore, Add, Sub, Mul, Div, Mod}
+use Rattle.bk_code.specs.declared.instruction.Inst.TheVariants.{Neg, Eq, Lt, Le, Not as Invert, Jump, JumpZero, Ret}
 use Rattle.bk_b0.specs.Places.{Places, placed_value, placed_statement}
 use Rattle.bk_b0.specs.Translation.{translation}
 use Rattle.bk_b0.specs.CodeUnit.{unit_of, slots_cells, unit_places}
@@ -70,17 +73,25 @@ pub record ConstructsCode : Type 0 where
   pub less : placed_value sample_places is_below ≡ Load 7 ∷ Load 8 ∷ Lt ∷ []
   pub at_most : placed_value sample_places (binary LessOrEqual first_number second_number) ≡ Load 7 ∷ Load 8 ∷ Le ∷ []
   pub opposite : placed_value sample_places (unary Not is_below) ≡ Load 7 ∷ Load 8 ∷ Lt ∷ Invert ∷ []
-  pub both : placed_value sample_places (binary And is_below is_below) ≡ Load 7 ∷ Load 8 ∷ Lt ∷ JumpZero (pos 5) ∷ Load 7 ∷ Load 8 ∷ Lt ∷ Jump (pos 2) ∷ Push (pos 0) ∷ []
-  pub either : placed_value sample_places (binary Or is_below is_below) ≡ Load 7 ∷ Load 8 ∷ Lt ∷ JumpZero (pos 3) ∷ Push (pos 1) ∷ Jump (pos 4) ∷ Load 7 ∷ Load 8 ∷ Lt ∷ []
+  pub both : placed_value sample_places (binary And is_below is_below) ≡
+      Load 7 ∷ Load 8 ∷ Lt ∷ JumpZero (pos 5) ∷ Load 7 ∷ Load 8 ∷ Lt ∷ Jump (pos 2) ∷ Push (pos 0) ∷ []
+  pub either : placed_value sample_places (binary Or is_below is_below) ≡
+      Load 7 ∷ Load 8 ∷ Lt ∷ JumpZero (pos 3) ∷ Push (pos 1) ∷ Jump (pos 4) ∷ Load 7 ∷ Load 8 ∷ Lt ∷ []
   pub set : placed_statement sample_places set_one ≡ Push (pos 1) ∷ Store 7 ∷ []
-  pub element_set : placed_statement sample_places (assign ((3, binary Over (variable 3) (unary Single (binary Maps first_number second_number))) ∷ [])) ≡ Load 7 ∷ Load 8 ∷ AStore 3 (pos 2) 4 ∷ []
-  pub filled : placed_statement sample_places (assign ((3, binary Times (binary Range (literal (pos 2)) (literal (pos 5))) (unary Single (variable 0))) ∷ [])) ≡ Push (pos 5) ∷ Store 3 ∷ Push (pos 5) ∷ Store 4 ∷ Push (pos 5) ∷ Store 5 ∷ Push (pos 5) ∷ Store 6 ∷ []
+  pub element_set : placed_statement sample_places
+      (assign ((3, binary Over (variable 3) (unary Single (binary Maps first_number second_number))) ∷ [])) ≡
+      Load 7 ∷ Load 8 ∷ AStore 3 (pos 2) 4 ∷ []
+  pub filled : placed_statement sample_places
+      (assign ((3, binary Times (binary Range (literal (pos 2)) (literal (pos 5))) (unary Single (variable 0))) ∷ [])) ≡
+      Push (pos 5) ∷ Store 3 ∷ Push (pos 5) ∷ Store 4 ∷ Push (pos 5) ∷ Store 5 ∷ Push (pos 5) ∷ Store 6 ∷ []
   pub nothing : placed_statement sample_places skip ≡ []
   pub sequence : placed_statement sample_places (seq set_one set_two) ≡ Push (pos 1) ∷ Store 7 ∷ Push (pos 2) ∷ Store 8 ∷ []
   pub local : placed_statement sample_places (any (7 ∷ []) set_one) ≡ Push (pos 1) ∷ Store 7 ∷ []
   pub assertion : placed_statement sample_places (assert is_below set_one) ≡ Push (pos 1) ∷ Store 7 ∷ []
-  pub branches : placed_statement sample_places (if_else is_below set_one set_two) ≡ Load 7 ∷ Load 8 ∷ Lt ∷ JumpZero (pos 4) ∷ Push (pos 1) ∷ Store 7 ∷ Jump (pos 3) ∷ Push (pos 2) ∷ Store 8 ∷ []
-  pub repetition : placed_statement sample_places (loop is_below set_one btrue first_number) ≡ Load 7 ∷ Load 8 ∷ Lt ∷ JumpZero (pos 4) ∷ Push (pos 1) ∷ Store 7 ∷ Jump (neg_ℤ (pos 6)) ∷ []
+  pub branches : placed_statement sample_places (if_else is_below set_one set_two) ≡
+      Load 7 ∷ Load 8 ∷ Lt ∷ JumpZero (pos 4) ∷ Push (pos 1) ∷ Store 7 ∷ Jump (pos 3) ∷ Push (pos 2) ∷ Store 8 ∷ []
+  pub repetition : placed_statement sample_places (loop is_below set_one btrue first_number) ≡
+      Load 7 ∷ Load 8 ∷ Lt ∷ JumpZero (pos 4) ∷ Push (pos 1) ∷ Store 7 ∷ Jump (neg_ℤ (pos 6)) ∷ []
 
 -- ---- a table of ten numbers
 -- (0..9) * {n}
@@ -101,7 +112,17 @@ is_array f = binary In (variable f) (binary TotalFunctions (binary Range (litera
 
 -- a level without links, properties and assertions
 abbrev pub plain_level : List ℕ → Kind → ℕ → Formula → Substitution → List Body → Level
-plain_level name kind v invariant init bodies = record { name = name; kind = kind; vars = v ∷ []; properties = btrue; invariant = invariant; links = []; assertions = []; init = init; bodies = bodies }
+plain_level name kind v invariant init bodies = record {
+  name = name;
+  kind = kind;
+  vars = v ∷ [];
+  properties = btrue;
+  invariant = invariant;
+  links = [];
+  assertions = [];
+  init = init;
+  bodies = bodies;
+}
 
 -- a body without a precondition
 abbrev pub plain_body : Substitution → List ℕ → Body
@@ -111,20 +132,28 @@ plain_body s outputs = record { condition = btrue; sub = s; outputs = outputs }
 abbrev pub filling : ℕ → ℕ → Substitution
 filling tab i = any (i ∷ []) (seq (assign ((i, literal (pos 0)) ∷ []))
     (loop (binary Less (variable i) (literal (pos 10)))
-    (seq (assign ((tab, binary Over (variable tab) (unary Single (binary Maps (variable i) (literal (pos 7))))) ∷ [])) (assign ((i, binary Sum (variable i) (literal (pos 1))) ∷ [])))
+    (seq (assign ((tab, binary Over (variable tab) (unary Single (binary Maps (variable i) (literal (pos 7))))) ∷ []))
+    (assign ((i, binary Sum (variable i) (literal (pos 1))) ∷ [])))
     btrue (binary Difference (literal (pos 10)) (variable i))))
 
 -- f is the variable 0, and tab the variable 1; fill has the local 2, read(i) the input 3 and the outputs 4 and 5
 abbrev pub numbers : Development
 numbers = record {
   max = default_max;
-  table = record { sets = []; variables = named_entry (codes "f$0") array_type ∷ named_entry (codes "tab$1") array_type ∷ named_entry (codes "$1") int_type ∷ named_entry (codes "i") int_type ∷ named_entry (codes "r$0") int_type ∷ named_entry (codes "r$1") int_type ∷ [] };
+  table = record {
+    sets = [];
+    variables = named_entry (codes "f$0") array_type ∷ named_entry (codes "tab$1") array_type ∷ named_entry (codes "$1") int_type ∷
+        named_entry (codes "i") int_type ∷ named_entry (codes "r$0") int_type ∷ named_entry (codes "r$1") int_type ∷ [];
+  };
   homes = Abstract 0 ∷ Concrete 1 ∷ Inner 1 ∷ Input ∷ Inner 0 ∷ Inner 1 ∷ [];
   sets = [];
   heads = record { name = codes "fill"; inputs = []; outputs = 0 } ∷ record { name = codes "read"; inputs = 3 ∷ []; outputs = 1 } ∷ [];
   levels =
-      plain_level (codes "Table") Machine 0 (is_array 0) (assign ((0, filled_with 0) ∷ [])) (plain_body (assign ((0, filled_with 7) ∷ [])) [] ∷ plain_body (assign ((4, binary Apply (variable 0) (variable 3)) ∷ [])) (4 ∷ []) ∷ [])
-      ∷ plain_level (codes "Table_i") Implementation 1 (binary And (is_array 1) (binary Equal (variable 1) (variable 0))) (assign ((1, filled_with 0) ∷ [])) (plain_body (filling 1 2) [] ∷ plain_body (assign ((5, binary Apply (variable 1) (variable 3)) ∷ [])) (5 ∷ []) ∷ [])
+      plain_level (codes "Table") Machine 0 (is_array 0) (assign ((0, filled_with 0) ∷ [])) (plain_body
+      (assign ((0, filled_with 7) ∷ [])) [] ∷ plain_body (assign ((4, binary Apply (variable 0) (variable 3)) ∷ [])) (4 ∷ []) ∷ [])
+      ∷ plain_level (codes "Table_i") Implementation 1
+      (binary And (is_array 1) (binary Equal (variable 1) (variable 0))) (assign ((1, filled_with 0) ∷ []))
+      (plain_body (filling 1 2) [] ∷ plain_body (assign ((5, binary Apply (variable 1) (variable 3)) ∷ [])) (5 ∷ []) ∷ [])
       ∷ [];
   values = [];
   extents = (0, 5) ∷ (0, 6) ∷ [];
@@ -137,7 +166,12 @@ TableCode = translation numbers ≡ record {
   cells = 13;
   sets = [];
   ops = record { name = codes "fill"; start = 21; inputs = []; outputs = [] }
-      ∷ record { name = codes "read"; start = 36; inputs = record { kind = Integer; slot = 11 } ∷ []; outputs = record { kind = Integer; slot = 12 } ∷ [] }
+      ∷ record {
+        name = codes "read";
+        start = 36;
+        inputs = record { kind = Integer; slot = 11 } ∷ [];
+        outputs = record { kind = Integer; slot = 12 } ∷ [];
+      }
       ∷ [];
   code = Push (pos 0) ∷ Store 0 ∷ Push (pos 0) ∷ Store 1 ∷ Push (pos 0) ∷ Store 2 ∷ Push (pos 0) ∷ Store 3 ∷ Push (pos 0) ∷ Store 4
       ∷ Push (pos 0) ∷ Store 5 ∷ Push (pos 0) ∷ Store 6 ∷ Push (pos 0) ∷ Store 7 ∷ Push (pos 0) ∷ Store 8 ∷ Push (pos 0) ∷ Store 9 ∷ Ret
@@ -159,11 +193,13 @@ shows c n = assign ((c, colour n) ∷ [])
 
 -- IF c = red THEN c := green ELSIF c = green THEN c := amber ELSE c := red END
 abbrev pub turning : ℕ → Substitution
-turning c = if_else (binary Equal (variable c) (colour 0)) (shows c 2) (if_else (binary Equal (variable c) (colour 2)) (shows c 1) (shows c 0))
+turning c =
+    if_else (binary Equal (variable c) (colour 0)) (shows c 2) (if_else (binary Equal (variable c) (colour 2)) (shows c 1) (shows c 0))
 
 -- a level of the lamp
 abbrev pub lamp_level : List ℕ → Kind → ℕ → ℕ → Level
-lamp_level name kind c output = plain_level name kind c (binary In (variable c) (named (Enum 0))) (shows c 0) (plain_body (turning c) [] ∷ plain_body (assign ((output, variable c) ∷ [])) (output ∷ []) ∷ [])
+lamp_level name kind c output = plain_level name kind c (binary In (variable c) (named (Enum 0))) (shows c 0)
+    (plain_body (turning c) [] ∷ plain_body (assign ((output, variable c) ∷ [])) (output ∷ []) ∷ [])
 
 -- col is the variable 0 above and 1 below; show has the outputs 2 and 3
 abbrev pub lamp : Development
@@ -171,7 +207,8 @@ lamp = record {
   max = default_max;
   table = record {
     sets = record { name = codes "COLOR"; elements = codes "red" ∷ codes "amber" ∷ codes "green" ∷ []; size = 3 } ∷ [];
-    variables = named_entry (codes "col$0") (enum_type 0) ∷ named_entry (codes "col$1") (enum_type 0) ∷ named_entry (codes "cc$0") (enum_type 0) ∷ named_entry (codes "cc$1") (enum_type 0) ∷ [];
+    variables = named_entry (codes "col$0") (enum_type 0) ∷ named_entry (codes "col$1") (enum_type 0) ∷
+        named_entry (codes "cc$0") (enum_type 0) ∷ named_entry (codes "cc$1") (enum_type 0) ∷ [];
   };
   homes = Abstract 0 ∷ Concrete 1 ∷ Inner 0 ∷ Inner 1 ∷ [];
   sets = record { name = codes "COLOR"; elements = codes "red" ∷ codes "amber" ∷ codes "green" ∷ []; size = 3 } ∷ [];
@@ -210,7 +247,11 @@ large_level name kind f n init = record (plain_level name kind f (is_large f) in
 abbrev pub large : Substitution → Development
 large init = record {
   max = default_max;
-  table = record { sets = []; variables = named_entry (codes "f$0") array_type ∷ named_entry (codes "n$0") int_type ∷ named_entry (codes "f$1") array_type ∷ named_entry (codes "n$1") int_type ∷ [] };
+  table = record {
+    sets = [];
+    variables = named_entry (codes "f$0") array_type ∷ named_entry (codes "n$0") int_type ∷
+        named_entry (codes "f$1") array_type ∷ named_entry (codes "n$1") int_type ∷ [];
+  };
   homes = Abstract 0 ∷ Abstract 0 ∷ Concrete 1 ∷ Concrete 1 ∷ [];
   sets = [];
   heads = [];

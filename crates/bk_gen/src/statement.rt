@@ -6,7 +6,8 @@ ghost use Rattle.bk_form.specs.Formula.{btrue};
 ghost use Rattle.bk_gsl.specs.Substitution.{if_else, loop};
 ghost use Rattle.bk_b0.specs.CodeUnit.{unit_places};
 ghost use Rattle.bk_b0.specs.Places.{placed_write, placed_value, placed_store, placed_assignment, placed_statement, placed_block};
-ghost use Rattle.bk_gen.specs.Executed.{HasCode, HasChangeCode, HasArrayCode, HasStoreCode, HasAssignmentCode, HasStatementCode, IsReady, change_code, written_code};
+ghost use Rattle.bk_gen.specs.Executed.{HasCode, HasChangeCode, HasArrayCode, HasStoreCode, HasAssignmentCode};
+ghost use Rattle.bk_gen.specs.Executed.{HasStatementCode, IsReady, change_code, written_code};
 ghost use Rattle.bk_gen.specs.Sizes.{value_size, change_size, written_size, store_size, assignment_size, statement_size, block_size};
 
 use crate::array::{add_fill, left, operand, right, storing};

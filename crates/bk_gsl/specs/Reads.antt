@@ -2,7 +2,8 @@
 -- Source: B-Book.
 use Rattle.std.specs.Prelude.{ℕ, not, List, [], ◌∷◌, ◌++◌, map}
 use Rattle.std.specs.List.{filter}
-use Rattle.bk_form.specs.Formula.{Formula, variable, unary, binary, for_all, for_some, comprehension, lambda, Formulas, no_formulas, formula_and}
+use Rattle.bk_form.specs.Formula.{Formula, variable, unary, binary, for_all, for_some}
+use Rattle.bk_form.specs.Formula.{comprehension, lambda, Formulas, no_formulas, formula_and}
 use Rattle.bk_gsl.specs.Substitution.{Substitution, skip, assign, pre, guard, choice, if_else, any, seq, par, assert, becomes_such, loop}
 use Rattle.bk_gsl.specs.State.{among, firsts}
 use Rattle.bk_gsl.specs.Writes.{in_order}

@@ -1,6 +1,7 @@
 //! Laws of substitutions. Each is the contract of a function that does nothing.
 
-ghost use Rattle.bk_gsl.specs.Laws.{ChangesOnlyWrites, KeepsTypes, PreconditionMeans, Swaps, PutsBack, CountsDown, NeverEnds, WideningKeepsRuns, ReadDecides, AvoidedDoesNotMatter};
+ghost use Rattle.bk_gsl.specs.Laws.{ChangesOnlyWrites, KeepsTypes, PreconditionMeans, Swaps, PutsBack, CountsDown};
+ghost use Rattle.bk_gsl.specs.Laws.{NeverEnds, WideningKeepsRuns, ReadDecides, AvoidedDoesNotMatter};
 
 /// What a run changes, and what types the variables have after it.
 pub fn runs()

@@ -12,7 +12,8 @@ use Rattle.bk_code.specs.Numbers.{int_max, IsWithin}
 use Rattle.bk_code.specs.Checks.{IsKind, IsTarget, IsLeaving}
 use Rattle.bk_image.specs.declared.fault.LoadFault.{LoadFault}
 use Rattle.bk_image.specs.declared.fault.LoadFault.TheVariants.{Short, Magic, Version, BadInst, BadJump, BadSlot, Stack, Extra}
-use Rattle.bk_image.specs.Spelling.{number, text, parameter, parameters, entry, sets, entries, opcode, inst, magic, header, spelling, FitsFields}
+use Rattle.bk_image.specs.Spelling.{number, text, parameter, parameters, entry, sets, entries}
+use Rattle.bk_image.specs.Spelling.{opcode, inst, magic, header, spelling, FitsFields}
 
 -- ---- the layout, in the order of reading
 

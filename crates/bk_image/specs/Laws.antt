@@ -20,7 +20,8 @@ AreBytes bytes = All (λ byte. byte < 256) bytes
 
 -- bytes that encode an image have no fault
 abbrev pub FaultsExclude : Type 0
-FaultsExclude = (bytes : List ℕ) (image : Image) (e : LoadFault) → AreBytes bytes → Encodes bytes image → IsFault bytes e → e ≡ faults.Memory
+FaultsExclude = (bytes : List ℕ) (image : Image) (e : LoadFault) →
+    AreBytes bytes → Encodes bytes image → IsFault bytes e → e ≡ faults.Memory
 
 -- the fault is one of the bytes, and no want of memory
 pub record IsFaultOfBytes (bytes : List ℕ) (e : LoadFault) : Type 0 where

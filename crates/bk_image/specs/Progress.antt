@@ -1,6 +1,8 @@
 -- Only the contracts of private functions name what stands here.
 -- How the depths are found: what is known of them so far, and the places from which control still has to be followed.
-use Rattle.std.specs.Prelude.{Bool, true, false, ◌≡◌, ◌≢◌, ℕ, zero, suc, ◌+◌, ◌-◌, ◌*◌, ◌<◌, ◌≤◌, ◌⊎◌, ℤ, pos, unsigned_abs, ◌+ℤ◌, ◌≤ℤ◌, List, [], ◌∷◌, ◌++◌, length, All, Contains, Option, Some, None, slice_get, slice_set, slice_index_or, sum_by, if◌then◌else◌}
+use Rattle.std.specs.Prelude.{Bool, true, false, ◌≡◌, ◌≢◌, ℕ, zero, suc, ◌+◌, ◌-◌, ◌*◌, ◌<◌, ◌≤◌, ◌⊎◌, ℤ, pos}
+use Rattle.std.specs.Prelude.{unsigned_abs, ◌+ℤ◌, ◌≤ℤ◌, List, [], ◌∷◌, ◌++◌, length, All, Contains, Option}
+use Rattle.std.specs.Prelude.{Some, None, slice_get, slice_set, slice_index_or, sum_by, if◌then◌else◌}
 use Rattle.std.specs.Ordering.{int_eq}
 use Rattle.bk_code.specs.declared.image.Image.{Image}
 use Rattle.bk_code.specs.declared.image.OpEntry.{OpEntry}
@@ -116,7 +118,8 @@ left p = length p.work + (2 * length p.known - rank_sum p.known)
 pub record IsProgress (image : Image) (limit : ℕ) (p : Progress) : Type 0 where
   pub long : length p.known ≡ length image.code
   pub so : (at : ℕ) → at < length image.code → IsKnown image limit at (depth_at p.known at)
-  pub closed : (at to : ℕ) (i : Inst) → slice_get image.code at ≡ Some i → FlowsTo i at to → Covers (depth_at p.known to) (after i (depth_at p.known at)) ⊎ Contains p.work at
+  pub closed : (at to : ℕ) (i : Inst) → slice_get image.code at ≡ Some i → FlowsTo i at to →
+      Covers (depth_at p.known to) (after i (depth_at p.known at)) ⊎ Contains p.work at
   pub near : (at : ℕ) (d : ℤ) → depth_at p.known at ≡ One d → unsigned_abs d ≤ 2 * rank_sum p.known
   pub places : All (λ at. at < length image.code) p.work
 
@@ -124,7 +127,8 @@ pub record IsProgress (image : Image) (limit : ℕ) (p : Progress) : Type 0 wher
 pub record IsProgressBut (image : Image) (limit : ℕ) (p : Progress) (Busy : ℕ → Type 0) : Type 0 where
   pub long : length p.known ≡ length image.code
   pub so : (at : ℕ) → at < length image.code → IsKnown image limit at (depth_at p.known at)
-  pub closed : (at to : ℕ) (i : Inst) → slice_get image.code at ≡ Some i → FlowsTo i at to → Covers (depth_at p.known to) (after i (depth_at p.known at)) ⊎ Contains p.work at ⊎ Busy at
+  pub closed : (at to : ℕ) (i : Inst) → slice_get image.code at ≡ Some i → FlowsTo i at to →
+      Covers (depth_at p.known to) (after i (depth_at p.known at)) ⊎ Contains p.work at ⊎ Busy at
   pub near : (at : ℕ) (d : ℤ) → depth_at p.known at ≡ One d → unsigned_abs d ≤ 2 * rank_sum p.known
   pub places : All (λ at. at < length image.code) p.work
 
@@ -148,7 +152,8 @@ AreStartedBelow reached n known = (at : ℕ) → at < n → slice_index_or reach
 
 -- the starts of the first n operations have depth 0
 abbrev pub EntriesStartBelow : Image → ℕ → List Depth → Type 0
-EntriesStartBelow image n known = (k : ℕ) (entry : OpEntry) → k < n → slice_get image.ops k ≡ Some entry → Covers (depth_at known entry.start) (One (pos 0))
+EntriesStartBelow image n known = (k : ℕ) (entry : OpEntry) → k < n →
+    slice_get image.ops k ≡ Some entry → Covers (depth_at known entry.start) (One (pos 0))
 
 -- each root has depth 0
 abbrev pub AreRootsStarted : Image → List Depth → Type 0

@@ -1,7 +1,8 @@
 -- Only the contracts of private functions name what stands here.
 -- Reading from left to right, with the first fault that is met: how the layout is read, step by step. What the loader
 -- answers is stated by the spelling and by the faults, not by these.
-use Rattle.std.specs.Prelude.{◌≡◌, ℕ, zero, suc, ◌-◌, List, [], ◌∷◌, length, take, drop, ℤ, Option, Some, None, Result, Ok, Err, nat_lt, ◌==◌, if◌then◌else◌}
+use Rattle.std.specs.Prelude.{◌≡◌, ℕ, zero, suc, ◌-◌, List, [], ◌∷◌, length, take, drop, ℤ}
+use Rattle.std.specs.Prelude.{Option, Some, None, Result, Ok, Err, nat_lt, ◌==◌, if◌then◌else◌}
 use Rattle.std.specs.Int.{Width, w16, w32, w64, byte_len, from_be_bytes, cast_signed}
 use Rattle.bk_code.specs.declared.image.Image.{Image}
 use Rattle.bk_code.specs.Numbers.{default_max}
@@ -10,7 +11,8 @@ use Rattle.bk_code.specs.declared.image.Parameter.{Parameter}
 use Rattle.bk_code.specs.declared.image.CellKind.{CellKind}
 use Rattle.bk_code.specs.declared.image.CellKind.TheVariants.{Integer, Bool, Set}
 use Rattle.bk_code.specs.declared.instruction.Inst.{Inst}
-use Rattle.bk_code.specs.declared.instruction.Inst.TheVariants.{Push, Load, Store, ALoad, AStore, Add, Sub, Mul, Div, Mod, Neg, Eq, Lt, Le, Not, Jump, JumpZero, Ret}
+use Rattle.bk_code.specs.declared.instruction.Inst.TheVariants.{Push, Load, Store, ALoad, AStore, Add, Sub, Mul, Div}
+use Rattle.bk_code.specs.declared.instruction.Inst.TheVariants.{Mod, Neg, Eq, Lt, Le, Not, Jump, JumpZero, Ret}
 use Rattle.bk_image.specs.declared.fault.LoadFault.{LoadFault}
 use Rattle.bk_image.specs.declared.fault.LoadFault.TheVariants.{Short, Magic, Version, BadInst, Extra}
 use Rattle.bk_image.specs.declared.fault.LoadFault.TheVariants as faults
@@ -35,9 +37,11 @@ Gives view (Err e) read = Fails e read
 abbrev pub Read : Type 0 → Type 0
 Read A = Result (A × List ℕ) LoadFault
 
--- the number of this width with which the bytes begin, most significant byte first, and the bytes after it; len is the length of the whole file
+-- the number of this width with which the bytes begin, most significant
+-- byte first, and the bytes after it; len is the length of the whole file
 unfoldable pub number_at : ℕ → Width → List ℕ → Read ℕ
-number_at len w bytes = if nat_lt (length bytes) (byte_len w) then Err (Short len) else Ok (from_be_bytes w (take (byte_len w) bytes), drop (byte_len w) bytes)
+number_at len w bytes = if nat_lt (length bytes) (byte_len w) then Err (Short len)
+    else Ok (from_be_bytes w (take (byte_len w) bytes), drop (byte_len w) bytes)
 
 -- a whole number, in two's complement
 unfoldable pub signed_at : ℕ → Width → List ℕ → Read ℤ

@@ -1,5 +1,6 @@
 //! The depth of the stack at each place of the code.
-ghost use Rattle.std.specs.Prelude.{◌≡◌, ◌<◌, ◌≤◌, ◌+◌, ◌*◌, ◌^◌, ℕ, ℤ, pos, ◌+ℤ◌, ◌≤ℤ◌, unsigned_abs, length, IfSome, Some, None, OnOk, IfOk, List, [], All, IsTrue, true, false, slice_index_or, ◌⊎◌, ◌↔◌, MatchBool, MatchOption};
+ghost use Rattle.std.specs.Prelude.{◌≡◌, ◌<◌, ◌≤◌, ◌+◌, ◌*◌, ◌^◌, ℕ, ℤ, pos, ◌+ℤ◌, ◌≤ℤ◌, unsigned_abs, length, IfSome, Some, None, OnOk};
+ghost use Rattle.std.specs.Prelude.{IfOk, List, [], All, IsTrue, true, false, slice_index_or, ◌⊎◌, ◌↔◌, MatchBool, MatchOption};
 ghost use Rattle.bk_code.specs.Checks as checks;
 ghost use Rattle.bk_image.specs.declared.depths.Depth.TheVariants.{One, Unknown};
 ghost use Rattle.bk_code.specs.Numbers.{IsWithin};

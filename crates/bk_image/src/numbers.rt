@@ -7,7 +7,8 @@ ghost use Rattle.bk_code.specs.Numbers.{int_max, IsRange, IsWithin};
 ghost use Rattle.bk_code.specs.Checks as checks;
 ghost use Rattle.bk_image.specs.Spelling as spell;
 ghost use Rattle.bk_image.specs.Soundness.{IsSound, AreSound};
-ghost use Rattle.bk_image.specs.Faults.{IsFirst, IsFaultIn, IsParameterFault, IsParametersFault, IsEntryFault, IsArrayFault, HasIndexOutside, IsOperandFault, IsOneInstFault, IsNumberFault, ops_place, count_place};
+ghost use Rattle.bk_image.specs.Faults.{IsFirst, IsFaultIn, IsParameterFault, IsParametersFault, IsEntryFault, IsArrayFault};
+ghost use Rattle.bk_image.specs.Faults.{HasIndexOutside, IsOperandFault, IsOneInstFault, IsNumberFault, ops_place, count_place};
 
 use crate::LoadFault;
 use bk_code::{CellKind, Image, Inst, NameText, NameTexts, OpEntry, Parameter};

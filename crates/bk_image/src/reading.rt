@@ -4,7 +4,9 @@
 //! ends too early is at fault.
 ghost use Rattle.std.specs.Prelude.{◌≡◌, ◌<◌, ◌^◌, length, Some, None};
 ghost use Rattle.std.specs.Int.{w16, w32, w64};
-ghost use Rattle.bk_image.specs.Reading.{Gives, number_at, signed_at, text_at, set_at, counted_at, kind_of, parameter_at, parameters_at, entry_at, plain_inst, array_at, operands_at, inst_at, magic_at, version_at, code_at, parts_at, image_at, layout_of, items_at};
+ghost use Rattle.bk_image.specs.Reading.{Gives, number_at, signed_at, text_at, set_at, counted_at, kind_of, parameter_at};
+ghost use Rattle.bk_image.specs.Reading.{parameters_at, entry_at, plain_inst, array_at, operands_at, inst_at, magic_at};
+ghost use Rattle.bk_image.specs.Reading.{version_at, code_at, parts_at, image_at, layout_of, items_at};
 
 use crate::LoadFault;
 use bk_code::{

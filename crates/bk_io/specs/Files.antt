@@ -1,5 +1,6 @@
 -- Files by name, and what a shelf answers of one.
-use Rattle.std.specs.Prelude.{◌≡◌, ℕ, ◌<◌, ◌≤◌, ◌⊎◌, List, [], ◌∷◌, ◌++◌, length, map, nat_eq, Option, Some, None, Result, Err, OnOk, String, string_bytes, Vec}
+use Rattle.std.specs.Prelude.{◌≡◌, ℕ, ◌<◌, ◌≤◌, ◌⊎◌, List, [], ◌∷◌, ◌++◌, length, map, nat_eq}
+use Rattle.std.specs.Prelude.{Option, Some, None, Result, Err, OnOk, String, string_bytes, Vec}
 use Rattle.std.specs.Cmp.Lexicographic.{pointwise}
 use Rattle.std.specs.Map.{lookup}
 use Rattle.std.specs.declared.alloc.Global.{Global}
@@ -43,7 +44,8 @@ pub record IsLonger (file : Option (List ℕ)) (max : ℕ) : Type 0 where
   pub longer : max < length bytes
 
 -- What each answer says of a file that is told, and when it has to come; want of memory may come in its place.
-pub record AnswersFile (file : Option (List ℕ)) (max : ℕ) (FaultRose : Type 0) (old new : List ℕ) (result : Result Unit Fetch) : Type 0 where
+pub record AnswersFile (file : Option (List ℕ)) (max : ℕ) (FaultRose : Type 0)
+    (old new : List ℕ) (result : Result Unit Fetch) : Type 0 where
   pub ok : OnOk result (GainsFile file max old new)
   pub missing : result ≡ Err Missing → (file ≡ None) × ¬ FaultRose
   pub too_long : result ≡ Err TooLong → IsLonger file max × ¬ FaultRose

@@ -1,5 +1,6 @@
 // Sinks over bytes in memory.
-ghost use Rattle.std.specs.Prelude.{◌≡◌, ◌↔◌, ◌+◌, ◌-◌, ◌^◌, ◌<◌, ◌≤◌, ◌++◌, [], All, Contains, Some, min, length, take, vec_len, vec_capacity, OnOk, OnErr, IfOk, IfErr};
+ghost use Rattle.std.specs.Prelude.{◌≡◌, ◌↔◌, ◌+◌, ◌-◌, ◌^◌, ◌<◌, ◌≤◌, ◌++◌, [], All, Contains, Some, min};
+ghost use Rattle.std.specs.Prelude.{length, take, vec_len, vec_capacity, OnOk, OnErr, IfOk, IfErr};
 ghost use Rattle.bk_io.specs.Counts.{counted, CountsCalls, HasCause, Rose};
 ghost use Rattle.bk_io.specs.Parts.{pieces_in};
 ghost use Rattle.bk_io.specs.Pieces.{IsTaken, taken_of};

@@ -3,8 +3,10 @@ use Rattle.std.specs.Prelude.{ℕ, Option, Some, None}
 use Rattle.bk_kernel.specs.declared.rule.Rule.{Rule}
 use Rattle.bk_kernel.specs.declared.rule.Rule.TheVariants.{Drop}
 use Rattle.bk_kernel.specs.declared.instances.Change.{Change}
-use Rattle.bk_kernel.specs.declared.instances.Change.TheVariants.{EqTo, EqFrom, LawTo, LawFrom, Deciding, Typing, Negating, Belonging, Applying, Extending, Including, Witnessing}
-use Rattle.bk_kernel.specs.Rewriting.{Rewriting, eq_to, eq_from, law_to, law_from, deciding, typing, negating, belonging, applying, extending, including, witnessing}
+use Rattle.bk_kernel.specs.declared.instances.Change.TheVariants.{EqTo, EqFrom, LawTo, LawFrom, Deciding, Typing, Negating}
+use Rattle.bk_kernel.specs.declared.instances.Change.TheVariants.{Belonging, Applying, Extending, Including, Witnessing}
+use Rattle.bk_kernel.specs.Rewriting.{Rewriting, eq_to, eq_from, law_to, law_from, deciding, typing}
+use Rattle.bk_kernel.specs.Rewriting.{negating, belonging, applying, extending, including, witnessing}
 
 -- the way of rewriting that is told
 abbrev pub meant_by : Change → Rewriting

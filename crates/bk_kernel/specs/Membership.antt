@@ -35,10 +35,13 @@ memberships _ _ = []
 -- a member of a comprehension or of a lambda: what its terms meet
 abbrev pub met_by : Formula → Formula → Option Formula
 met_by e (comprehension rs p) = option_map (λ es. conjunction (memberships rs es ++ opened es p ∷ [])) (unpaired (count rs - 1) e [])
-met_by e (lambda rs p v) = option_and_then (λ x. option_map (λ es. conjunction (memberships rs es ++ opened es p ∷ binary Eq x.1 (opened es v) ∷ [])) (unpaired (count rs - 1) x.0 [])) (sides Maps e)
+met_by e (lambda rs p v) = option_and_then (λ x. option_map (λ es.
+    conjunction (memberships rs es ++ opened es p ∷ binary Eq x.1 (opened es v) ∷ [])) (unpaired (count rs - 1) x.0 [])) (sides Maps e)
 met_by e _ = None
 
 -- a lambda applied, which is the whole formula: its value there, under what the terms meet
 abbrev pub applied_to : Formula → Formula → Formula → Option Instance
-applied_to whole (lambda rs p v) e = option_map (λ es. record { sides = conjunction (memberships rs es ++ opened es p ∷ []) ∷ []; left = whole; right = opened es v }) (unpaired (count rs - 1) e [])
+applied_to whole (lambda rs p v) e =
+    option_map (λ es. record { sides = conjunction (memberships rs es ++ opened es p ∷ []) ∷ []; left = whole; right = opened es v })
+    (unpaired (count rs - 1) e [])
 applied_to whole _ e = None

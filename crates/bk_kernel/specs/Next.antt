@@ -20,4 +20,6 @@ at_next p = rebound raised 0 p
 
 -- such a body means at a number what the body means at the next number
 abbrev pub NextMeans : Type 0
-NextMeans = (find : Finder) (table : Table) (st : State) (z : ℤ) (p : Formula) → meaning find (under (at_state table st) (int_type ∷ []) (int z ∷ [])) (at_next p) ≡ meaning find (under (at_state table st) (int_type ∷ []) (int (z +ℤ pos 1) ∷ [])) p
+NextMeans = (find : Finder) (table : Table) (st : State) (z : ℤ) (p : Formula) →
+    meaning find (under (at_state table st) (int_type ∷ []) (int z ∷ [])) (at_next p) ≡
+    meaning find (under (at_state table st) (int_type ∷ []) (int (z +ℤ pos 1) ∷ [])) p

@@ -59,7 +59,8 @@ turned i = record { sides = i.sides; left = i.right; right = i.left }
 -- the law of this number at these picks: those of logic, order and counting have the numbers below 200, those of sets 200 and more,
 -- those of relations and functions 300 and more
 abbrev pub law_instance : ℕ → List Formula → Option Instance
-law_instance n picks = cond (nat_lt n 200) (instance_at logic_and_order n picks) (cond (nat_lt n 300) (instance_at sets n picks) (instance_at functions n picks))
+law_instance n picks = cond (nat_lt n 200) (instance_at logic_and_order n picks)
+    (cond (nat_lt n 300) (instance_at sets n picks) (instance_at functions n picks))
 
 -- ---- what comes for formulas of one kind
 -- `not` of a quantifier: the other one of `not`
@@ -88,10 +89,15 @@ all_within a b t = for_all (t ∷ []) (binary Imp (binary In (bound 0) a) (binar
 
 -- a member of a domain, a range, an image, or a pair of a composition: there is what makes it one
 abbrev pub witness : Table → Formula → Formula → Option Formula
-witness table x (unary Dom r) = option_map (λ w. for_some (w.1 ∷ []) (binary In (binary Maps x (bound 0)) r)) (relation_of_types (role table [] r))
-witness table x (unary Ran r) = option_map (λ w. for_some (w.0 ∷ []) (binary In (binary Maps (bound 0) x) r)) (relation_of_types (role table [] r))
-witness table x (binary Image r a) = option_map (λ w. for_some (w.0 ∷ []) (binary And (binary In (bound 0) a) (binary In (binary Maps (bound 0) x) r))) (relation_of_types (role table [] r))
-witness table x (binary Comp r q) = option_and_then (λ y. option_map (λ w. for_some (w.1 ∷ []) (binary And (binary In (binary Maps y.0 (bound 0)) r) (binary In (binary Maps (bound 0) y.1) q))) (relation_of_types (role table [] r))) (sides Maps x)
+witness table x (unary Dom r) =
+    option_map (λ w. for_some (w.1 ∷ []) (binary In (binary Maps x (bound 0)) r)) (relation_of_types (role table [] r))
+witness table x (unary Ran r) =
+    option_map (λ w. for_some (w.0 ∷ []) (binary In (binary Maps (bound 0) x) r)) (relation_of_types (role table [] r))
+witness table x (binary Image r a) = option_map (λ w.
+    for_some (w.0 ∷ []) (binary And (binary In (bound 0) a) (binary In (binary Maps (bound 0) x) r))) (relation_of_types (role table [] r))
+witness table x (binary Comp r q) = option_and_then (λ y.
+    option_map (λ w. for_some (w.1 ∷ []) (binary And (binary In (binary Maps y.0 (bound 0)) r) (binary In (binary Maps (bound 0) y.1) q)))
+    (relation_of_types (role table [] r))) (sides Maps x)
 witness table x _ = None
 
 -- the law at the formula that stands at the place
@@ -100,13 +106,16 @@ instance_for table hyps (eq_to i) old = option_and_then (λ h. option_map (λ x.
 instance_for table hyps (eq_from i) old = option_and_then (λ h. option_map (λ x. becomes x.1 x.0) (sides Eq h)) (numbered_item hyps i)
 instance_for table hyps (law_to n picks) old = law_instance n picks
 instance_for table hyps (law_from n picks) old = option_map turned (law_instance n picks)
-instance_for table hyps deciding old = option_map (λ b. becomes old (constant b)) (cond (is_some (decided old)) (decided old) (option_and_then (λ x. equal_constants x.0 x.1) (sides Eq old)))
+instance_for table hyps deciding old = option_map (λ b. becomes old (constant b))
+    (cond (is_some (decided old)) (decided old) (option_and_then (λ x. equal_constants x.0 x.1) (sides Eq old)))
 instance_for table hyps typing old = option_and_then (λ x. when (has_all x.1) (becomes old btrue)) (sides In old)
 instance_for table hyps negating old = option_and_then (λ p. option_map (becomes old) (negated p)) (operand Not old)
 instance_for table hyps belonging old = option_and_then (λ x. option_map (becomes old) (met_by x.0 x.1)) (sides In old)
 instance_for table hyps applying old = option_and_then (λ x. applied_to old x.0 x.1) (sides Apply old)
-instance_for table hyps extending old = option_and_then (λ x. option_map (λ t. becomes old (same_members x.0 x.1 t)) (set_of_type (role table [] x.0))) (sides Eq old)
-instance_for table hyps including old = option_and_then (λ x. option_and_then (λ a. option_map (λ t. becomes old (all_within x.0 a t)) (set_of_type (role table [] x.0))) (operand Pow x.1)) (sides In old)
+instance_for table hyps extending old =
+    option_and_then (λ x. option_map (λ t. becomes old (same_members x.0 x.1 t)) (set_of_type (role table [] x.0))) (sides Eq old)
+instance_for table hyps including old = option_and_then (λ x. option_and_then
+    (λ a. option_map (λ t. becomes old (all_within x.0 a t)) (set_of_type (role table [] x.0))) (operand Pow x.1)) (sides In old)
 instance_for table hyps witnessing old = option_and_then (λ x. option_map (becomes old) (witness table x.0 x.1)) (sides In old)
 
 -- ---- places
@@ -123,7 +132,8 @@ stands_for table old i = is_same i.left old && same_role (role table [] i.left) 
 
 -- the sides, and the formula with the right side at the path
 abbrev pub replaced : Table → List Formula → Rewriting → Formula → List ℕ → Option (List Formula × Formula)
-replaced table hyps r f path = option_and_then (λ old. option_and_then (λ i. when (stands_for table old i) (i.sides, put_at f path i.right)) (instance_for table hyps r old)) (sub_at f path)
+replaced table hyps r f path = option_and_then (λ old.
+    option_and_then (λ i. when (stands_for table old i) (i.sides, put_at f path i.right)) (instance_for table hyps r old)) (sub_at f path)
 
 -- these as goals in order, then one more branch
 abbrev pub goals_then : List Formula → Branch → List Branch

@@ -7,7 +7,8 @@ use Rattle.bk_form.specs.Table.{Table}
 use Rattle.bk_form.specs.Formula.{Formula, bound, literal, btrue, bfalse, unary, binary, for_some}
 use Rattle.bk_form.specs.Role.{role}
 use Rattle.bk_form.specs.declared.operator.UnOp.TheVariants.{Not as Negation}
-use Rattle.bk_form.specs.declared.operator.BinOp.TheVariants.{And as Conjunction, Or as Disjunction, Imp as Implication, Iff as Equivalence, Eq as Equality, Maps as Maplet}
+use Rattle.bk_form.specs.declared.operator.BinOp.TheVariants.{And as Conjunction, Or as Disjunction, Imp as Implication}
+use Rattle.bk_form.specs.declared.operator.BinOp.TheVariants.{Iff as Equivalence, Eq as Equality, Maps as Maplet}
 use Rattle.bk_bind.specs.Opening.{opened}
 use Rattle.bk_seq.specs.Paths.{numbered_item}
 use Rattle.bk_seq.specs.Sequents.{Sequent, Types, IsWithin}
@@ -17,12 +18,16 @@ use Rattle.bk_arith.specs.Decision.{is_accepted}
 use Rattle.bk_arith.specs.Polynomials.{equal_polynomials}
 use Rattle.bk_arith.specs.Cases.{equations, interval_cases}
 use Rattle.bk_kernel.specs.declared.rule.Rule.{Rule}
-use Rattle.bk_kernel.specs.declared.rule.Rule.TheVariants.{Hyp, True, Same, Eval, False, Absurd, And, Iff, Imp, Not, Left, Right, Or, Contra, Fix, UseTerms, Split, Cases, Apply, Inst, OpenSome, Cut, Case, Drop, Eq, Qe, Law, Wal, TypeOf, Neg, Mem, Val, Ext, Sub, Ex, Pair, Elems, Interval, Induct, Poly, Lin, Unread}
+use Rattle.bk_kernel.specs.declared.rule.Rule.TheVariants.{Hyp, True, Same, Eval, False, Absurd, And, Iff, Imp, Not, Left}
+use Rattle.bk_kernel.specs.declared.rule.Rule.TheVariants.{Right, Or, Contra, Fix, UseTerms, Split, Cases, Apply, Inst, OpenSome}
+use Rattle.bk_kernel.specs.declared.rule.Rule.TheVariants.{Cut, Case, Drop, Eq, Qe, Law, Wal, TypeOf, Neg, Mem, Val, Ext, Sub}
+use Rattle.bk_kernel.specs.declared.rule.Rule.TheVariants.{Ex, Pair, Elems, Interval, Induct, Poly, Lin, Unread}
 use Rattle.bk_kernel.specs.Branches.{Branch, extended, more, goal, when, closed_if, sides, operand, universal, existential}
 use Rattle.bk_kernel.specs.Naming.{give_each, names_of, are_fresh}
 use Rattle.bk_kernel.specs.Deciding.{decided, is_yes}
 use Rattle.bk_kernel.specs.Listing.{one_for_each, all_of, listed_types, over_naturals, next_case}
-use Rattle.bk_kernel.specs.Rewriting.{eq_to, eq_from, law_to, law_from, deciding, typing, negating, belonging, applying, extending, including, witnessing, rewritten}
+use Rattle.bk_kernel.specs.Rewriting.{eq_to, eq_from, law_to, law_from, deciding, typing, negating}
+use Rattle.bk_kernel.specs.Rewriting.{belonging, applying, extending, including, witnessing, rewritten}
 
 -- the hypotheses of these numbers, in that order
 abbrev pub listed_facts : List Formula → List ℕ → Option (List Formula)
@@ -51,11 +56,13 @@ used table s fs = option_and_then (λ q. when (give_each table q.0 fs) (goal (op
 
 -- hypothesis i is a `!`, and its body for terms of its types is one more hypothesis
 abbrev pub instantiated : Table → Sequent → ℕ → List Formula → Option (List Branch)
-instantiated table s i fs = option_and_then (λ h. option_and_then (λ q. when (give_each table q.0 fs) (more s (opened fs q.1 ∷ []))) (universal h)) (numbered_item s.0 i)
+instantiated table s i fs = option_and_then
+    (λ h. option_and_then (λ q. when (give_each table q.0 fs) (more s (opened fs q.1 ∷ []))) (universal h)) (numbered_item s.0 i)
 
 -- hypothesis i is a `#`, and its body for fresh names is one more hypothesis
 abbrev pub named_for : Table → Sequent → ℕ → List ℕ → Option (List Branch)
-named_for table s i ns = option_and_then (λ h. option_and_then (λ q. when (are_fresh table s q.0 ns) (more s (opened (names_of ns) q.1 ∷ []))) (existential h)) (numbered_item s.0 i)
+named_for table s i ns = option_and_then (λ h.
+    option_and_then (λ q. when (are_fresh table s q.0 ns) (more s (opened (names_of ns) q.1 ∷ []))) (existential h)) (numbered_item s.0 i)
 
 -- the certificate shows that the listed hypotheses and the negated goal contradict each other
 abbrev pub certified : Sequent → List ℕ → List Line → Option (List Branch)
@@ -69,7 +76,8 @@ branches table s Same = option_and_then (λ x. closed_if (is_same x.0 x.1)) (sid
 branches table s (Eval None) = closed_if (is_yes (decided s.1))
 branches table s (Eval (Some place)) = rewritten table s deciding place
 branches table s (False i) = option_and_then (λ h. closed_if (is_same h bfalse)) (numbered_item s.0 i)
-branches table s (Absurd i j) = option_and_then (λ p. option_and_then (λ h. closed_if (is_same h (unary Negation p))) (numbered_item s.0 j)) (numbered_item s.0 i)
+branches table s (Absurd i j) =
+    option_and_then (λ p. option_and_then (λ h. closed_if (is_same h (unary Negation p))) (numbered_item s.0 j)) (numbered_item s.0 i)
 branches table s And = option_map (λ x. goal x.0 ∷ goal x.1 ∷ []) (sides Conjunction s.1)
 branches table s Iff = option_map (λ x. goal (binary Implication x.0 x.1) ∷ goal (binary Implication x.1 x.0) ∷ []) (sides Equivalence s.1)
 branches table s Imp = option_map (λ x. (x.0 ∷ [], x.1) ∷ []) (sides Implication s.1)
@@ -81,8 +89,10 @@ branches table s Contra = Some ((unary Negation s.1 ∷ [], bfalse) ∷ [])
 branches table s (Fix ns) = fixed table s ns.items
 branches table s (UseTerms fs) = used table s fs.items
 branches table s (Split i) = option_and_then (λ h. option_map (λ x. more s (x.0 ∷ x.1 ∷ [])) (sides Conjunction h)) (numbered_item s.0 i)
-branches table s (Cases i) = option_and_then (λ h. option_map (λ x. (x.0 ∷ [], s.1) ∷ (x.1 ∷ [], s.1) ∷ []) (sides Disjunction h)) (numbered_item s.0 i)
-branches table s (Apply i) = option_and_then (λ h. option_map (λ x. goal x.0 ∷ (x.1 ∷ [], s.1) ∷ []) (sides Implication h)) (numbered_item s.0 i)
+branches table s (Cases i) =
+    option_and_then (λ h. option_map (λ x. (x.0 ∷ [], s.1) ∷ (x.1 ∷ [], s.1) ∷ []) (sides Disjunction h)) (numbered_item s.0 i)
+branches table s (Apply i) =
+    option_and_then (λ h. option_map (λ x. goal x.0 ∷ (x.1 ∷ [], s.1) ∷ []) (sides Implication h)) (numbered_item s.0 i)
 branches table s (Inst i fs) = instantiated table s i fs.items
 branches table s (OpenSome i ns) = named_for table s i ns.items
 branches table s (Cut p) = Some (goal p ∷ (p ∷ [], s.1) ∷ [])
@@ -99,7 +109,8 @@ branches table s (Val place) = rewritten table s applying place
 branches table s (Ext place) = rewritten table s extending place
 branches table s (Sub place) = rewritten table s including place
 branches table s (Ex place) = rewritten table s witnessing place
-branches table s (Pair e) = option_map (λ w. more s (for_some (w.0 ∷ w.1 ∷ []) (binary Equality e (binary Maplet (bound 1) (bound 0))) ∷ [])) (listed_types (role table [] e))
+branches table s (Pair e) = option_map
+    (λ w. more s (for_some (w.0 ∷ w.1 ∷ []) (binary Equality e (binary Maplet (bound 1) (bound 0))) ∷ [])) (listed_types (role table [] e))
 branches table s (Elems e) = option_map (λ fs. one_for_each s.1 (equations e fs)) (all_of table (role table [] e))
 branches table s (Interval i) = option_and_then (λ h. option_map (one_for_each s.1) (interval_cases h)) (numbered_item s.0 i)
 branches table s Induct = option_map (λ p. goal (opened (literal (pos 0) ∷ []) p) ∷ goal (next_case p) ∷ []) (over_naturals s.1)

@@ -15,7 +15,9 @@ ghost use Rattle.bk_laws_set.specs.Rows.{rows as sets};
 ghost use Rattle.bk_laws_fun.specs.Rows.{rows as functions};
 ghost use Rattle.bk_kernel.specs.Branches.{sides};
 ghost use Rattle.bk_kernel.specs.Deciding.{decided, equal_constants, constant};
-ghost use Rattle.bk_kernel.specs.Rewriting.{eq_to, eq_from, deciding, typing, negating, belonging, applying, extending, including, witnessing, becomes, turned, law_instance, negated, set_of_type, relation_of_types, witness, instance_for};
+ghost use Rattle.bk_kernel.specs.Rewriting.{eq_to, eq_from, deciding, typing, negating, belonging, applying};
+ghost use Rattle.bk_kernel.specs.Rewriting.{extending, including, witnessing, becomes, turned, law_instance};
+ghost use Rattle.bk_kernel.specs.Rewriting.{negated, set_of_type, relation_of_types, witness, instance_for};
 ghost use Rattle.bk_kernel.specs.Code.{meant_by};
 ghost use Rattle.bk_kernel.specs.Held.{instance_in, IsLarge, HasLarge};
 

@@ -21,7 +21,8 @@ SidesHold find e (p ∷ ps) = (role e.table (bound_types e) p ≡ predicate) × 
 
 -- in a typed environment in which left and right have one role and the sides are true, left and right mean the same
 abbrev pub IsTrueLaw : Instance → Type 0
-IsTrueLaw i = (find : Finder) → IsSearch find → (e : Environment) → IsWellFormed e.table → IsTyped e → HaveOneRole e i.left i.right → SidesHold find e i.sides → meaning find e i.left ≡ meaning find e i.right
+IsTrueLaw i = (find : Finder) → IsSearch find → (e : Environment) → IsWellFormed e.table → IsTyped e →
+    HaveOneRole e i.left i.right → SidesHold find e i.sides → meaning find e i.left ≡ meaning find e i.right
 
 -- the row is true whatever is picked
 abbrev pub IsTrueRow : Row → Type 0

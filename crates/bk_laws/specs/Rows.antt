@@ -1,11 +1,13 @@
 -- Rows of laws: their instances at some picks, and what is wrong with picks.
-use Rattle.std.specs.Prelude.{◌≡◌, ◌≢◌, ◌⊎◌, ◌<◌, ◌≤◌, ℕ, nat_eq, Bool, true, false, not, ◌&&◌, ◌||◌, ◌+◌, ◌-◌, ◌^◌, min, cond, List, [], ◌∷◌, map, length, Option, Some, None, slice_get, unwrap_or}
+use Rattle.std.specs.Prelude.{◌≡◌, ◌≢◌, ◌⊎◌, ◌<◌, ◌≤◌, ℕ, nat_eq, Bool, true, false, not, ◌&&◌, ◌||◌, ◌+◌, ◌-◌, ◌^◌}
+use Rattle.std.specs.Prelude.{min, cond, List, [], ◌∷◌, map, length, Option, Some, None, slice_get, unwrap_or}
 use Rattle.std.specs.List.{find, list_any}
 use Rattle.bk_limits.specs.declared.TheConstants.{MOST_NODES}
 use Rattle.bk_form.specs.Formula.{Formula, btrue, formula_size}
 use Rattle.bk_laws.specs.Patterns.{Pattern, letter, formula_of, asks_empty, is_empty_set}
 
--- a row of a table of laws: its number, how many letters it has, and patterns; where left and right stand for the same kind of thing and the sides are true, left and right mean the same
+-- a row of a table of laws: its number, how many letters it has, and patterns; where left and
+-- right stand for the same kind of thing and the sides are true, left and right mean the same
 pub record Row : Type 0 where
   pub name : ℕ
   pub letters : ℕ

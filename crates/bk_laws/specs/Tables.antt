@@ -1,12 +1,18 @@
 -- The rows that a table of numbers stands for: each pattern of a row is told by its number in one list.
-use Rattle.std.specs.Prelude.{ℕ, zero, suc, nat_eq, ◌+◌, ◌-◌, ◌^◌, min, cond, true, false, not, ◌&&◌, List, [], ◌∷◌, map, take, length, Option, Some, None, slice_get, unwrap_or}
+use Rattle.std.specs.Prelude.{ℕ, zero, suc, nat_eq, ◌+◌, ◌-◌, ◌^◌, min, cond, true, false, not, ◌&&◌, List}
+use Rattle.std.specs.Prelude.{[], ◌∷◌, map, take, length, Option, Some, None, slice_get, unwrap_or}
 use Rattle.std.specs.List.{find}
 use Rattle.bk_form.specs.Formula.{Formula, truth_value, named, btrue, bfalse}
 use Rattle.bk_form.specs.declared.operator.Domain.TheVariants.{Natural as AllNatural, Natural1 as Positive}
 use Rattle.bk_form.specs.declared.operator.UnOp.TheVariants.{Not, BoolOf, Neg, Card, Min, Max, Dom, Ran, Id, Inverse, Single, Pow, Pow1}
-use Rattle.bk_form.specs.declared.operator.BinOp.TheVariants.{And, Or, Imp, Iff, Eq, Lt, Le, In, Relations, PartialFunctions, TotalFunctions, PartialInjections, TotalInjections, PartialSurjections, TotalSurjections, Bijections, Union, Inter, Minus, Times, DomRes, RanRes, DomSub, RanSub, Over, Maps, Range, Add, Sub, Mul, Div, Mod, Power, Image, Apply, Comp}
+use Rattle.bk_form.specs.declared.operator.BinOp.TheVariants.{And, Or, Imp, Iff, Eq, Lt, Le, In, Relations, PartialFunctions}
+use Rattle.bk_form.specs.declared.operator.BinOp.TheVariants.{TotalFunctions, PartialInjections, TotalInjections, PartialSurjections}
+use Rattle.bk_form.specs.declared.operator.BinOp.TheVariants.{TotalSurjections, Bijections, Union, Inter, Minus, Times, DomRes, RanRes}
+use Rattle.bk_form.specs.declared.operator.BinOp.TheVariants.{DomSub, RanSub, Over, Maps, Range, Add, Sub, Mul, Div, Mod, Power, Image}
+use Rattle.bk_form.specs.declared.operator.BinOp.TheVariants.{Apply, Comp}
 use Rattle.bk_laws.specs.declared.kind.Kind.{Kind}
-use Rattle.bk_laws.specs.declared.kind.Kind.TheVariants.{Letter, EmptyLetter, Number, BTrue, BFalse, True, False, Natural, Natural1, One, Two}
+use Rattle.bk_laws.specs.declared.kind.Kind.TheVariants.{Letter, EmptyLetter, Number, BTrue, BFalse}
+use Rattle.bk_laws.specs.declared.kind.Kind.TheVariants.{True, False, Natural, Natural1, One, Two}
 use Rattle.bk_ops.specs.declared.law.Pat.{Pat}
 use Rattle.bk_ops.specs.declared.law.Law.{Law}
 use Rattle.bk_laws.specs.Patterns.{Pattern, letter, empty_letter, fixed, one, two, number, is_empty_set}

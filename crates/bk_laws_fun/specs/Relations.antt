@@ -1,9 +1,10 @@
--- The laws of relations: row Mn has the number 300 + n. x and y are any terms, r, s and t relations, S and T set values, A is a set or a domain,
--- and o and p are empty sets.
+-- The laws of relations: row Mn has the number 300 + n. x and y are any terms, r, s and
+-- t relations, S and T set values, A is a set or a domain, and o and p are empty sets.
 -- Source: after the B-Book's laws of relations.
 use Rattle.std.specs.Prelude.{List, [], ◌∷◌}
 use Rattle.bk_form.specs.declared.operator.UnOp.TheVariants.{Not, Dom, Ran, Id, Inverse, Single, Pow}
-use Rattle.bk_form.specs.declared.operator.BinOp.TheVariants.{And, Or, Eq, In, PartialFunctions, Union, Inter, Minus, Times, DomRes, RanRes, DomSub, RanSub, Over, Maps, Image, Apply, Comp}
+use Rattle.bk_form.specs.declared.operator.BinOp.TheVariants.{And, Or, Eq, In, PartialFunctions, Union, Inter, Minus, Times}
+use Rattle.bk_form.specs.declared.operator.BinOp.TheVariants.{DomRes, RanRes, DomSub, RanSub, Over, Maps, Image, Apply, Comp}
 use Rattle.bk_laws.specs.Patterns.{one, two, always, an_empty}
 use Rattle.bk_laws.specs.Rows.{Row, same, same_if, row_of_one, row_of_two, row_of_three, row_of_four}
 
@@ -33,7 +34,8 @@ m6 = row_of_three 306 (λ x y S. same (two In (two Maps x y) (one Id S)) (two An
 
 -- M7: `x |-> y : r <+ s` is `x |-> y : s or (x |-> y : r & not(x : dom(s)))`
 abbrev pub m7 : Row
-m7 = row_of_four 307 (λ x y r s. same (two In (two Maps x y) (two Over r s)) (two Or (two In (two Maps x y) s) (two And (two In (two Maps x y) r) (one Not (two In x (one Dom s))))))
+m7 = row_of_four 307 (λ x y r s. same (two In (two Maps x y) (two Over r s))
+    (two Or (two In (two Maps x y) s) (two And (two In (two Maps x y) r) (one Not (two In x (one Dom s))))))
 
 -- M8: `x : dom(r)` is `btrue` if `x |-> y : r`
 abbrev pub m8 : Row
@@ -97,7 +99,8 @@ m22 = row_of_two 322 (λ r s. same (one Dom (two Over r s)) (two Union (one Dom 
 
 -- M23: `ran(r <+ s) : POW(A)` is `btrue` if `ran(r) : POW(A)`, `ran(s) : POW(A)`
 abbrev pub m23 : Row
-m23 = row_of_three 323 (λ r s A. same_if (two In (one Ran (two Over r s)) (one Pow A)) always ((two In (one Ran r) (one Pow A)) ∷ (two In (one Ran s) (one Pow A)) ∷ []))
+m23 = row_of_three 323 (λ r s A.
+    same_if (two In (one Ran (two Over r s)) (one Pow A)) always ((two In (one Ran r) (one Pow A)) ∷ (two In (one Ran s) (one Pow A)) ∷ []))
 
 -- M24: `dom(id(S))` is `S`
 abbrev pub m24 : Row
@@ -137,7 +140,8 @@ m32 = row_of_three 332 (λ r o p. same (two Image r (an_empty o)) (an_empty p))
 
 -- M33: `r[{x}]` is `{r(x)}` if `r : A +-> B`, `x : dom(r)`
 abbrev pub m33 : Row
-m33 = row_of_four 333 (λ r x A B. same_if (two Image r (one Single x)) (one Single (two Apply r x)) ((two In r (two PartialFunctions A B)) ∷ (two In x (one Dom r)) ∷ []))
+m33 = row_of_four 333 (λ r x A B.
+    same_if (two Image r (one Single x)) (one Single (two Apply r x)) ((two In r (two PartialFunctions A B)) ∷ (two In x (one Dom r)) ∷ []))
 
 -- M34: `r <+ o` is `r`
 abbrev pub m34 : Row

@@ -1,8 +1,10 @@
--- The laws of order and counting: row On has the number 100 + n. a, b, c and q are integers, x is any term, S and T are sets, and o is an empty set.
+-- The laws of order and counting: row On has the number 100 + n. a, b, c and
+-- q are integers, x is any term, S and T are sets, and o is an empty set.
 -- Source: after the B-Book's laws of numbers, card, min and max.
 use Rattle.std.specs.Prelude.{List, [], ◌∷◌}
 use Rattle.bk_form.specs.declared.operator.UnOp.TheVariants.{Not, Card, Min, Max, Single, Pow}
-use Rattle.bk_form.specs.declared.operator.BinOp.TheVariants.{And, Or, Eq, Lt, Le, In, Union, Inter, Minus, Range, Add, Sub, Mul, Div, Mod, Power}
+use Rattle.bk_form.specs.declared.operator.BinOp.TheVariants.{And, Or, Eq, Lt, Le, In, Union, Inter, Minus}
+use Rattle.bk_form.specs.declared.operator.BinOp.TheVariants.{Range, Add, Sub, Mul, Div, Mod, Power}
 use Rattle.bk_laws.specs.Patterns.{one, two, always, number, naturals, positives, an_empty}
 use Rattle.bk_laws.specs.Rows.{Row, same, same_if, row_of_one, row_of_two, row_of_three}
 
@@ -40,15 +42,18 @@ o8 = row_of_two 108 (λ a b. same (one Not (two Eq a b)) (two Or (two Lt a b) (t
 
 -- O9: `a / b = q` is `q * b <= a & a < (q * b) + b` if `0 <= a`, `0 < b`
 abbrev pub o9 : Row
-o9 = row_of_three 109 (λ a b q. same_if (two Eq (two Div a b) q) (two And (two Le (two Mul q b) a) (two Lt a (two Add (two Mul q b) b))) ((two Le (number 0) a) ∷ (two Lt (number 0) b) ∷ []))
+o9 = row_of_three 109 (λ a b q. same_if (two Eq (two Div a b) q)
+    (two And (two Le (two Mul q b) a) (two Lt a (two Add (two Mul q b) b))) ((two Le (number 0) a) ∷ (two Lt (number 0) b) ∷ []))
 
 -- O10: `a mod b` is `a - (b * (a / b))` if `0 <= a`, `0 < b`
 abbrev pub o10 : Row
-o10 = row_of_two 110 (λ a b. same_if (two Mod a b) (two Sub a (two Mul b (two Div a b))) ((two Le (number 0) a) ∷ (two Lt (number 0) b) ∷ []))
+o10 =
+    row_of_two 110 (λ a b. same_if (two Mod a b) (two Sub a (two Mul b (two Div a b))) ((two Le (number 0) a) ∷ (two Lt (number 0) b) ∷ []))
 
 -- O11: `a mod b : 0 .. (b - 1)` is `btrue` if `0 <= a`, `0 < b`
 abbrev pub o11 : Row
-o11 = row_of_two 111 (λ a b. same_if (two In (two Mod a b) (two Range (number 0) (two Sub b (number 1)))) always ((two Le (number 0) a) ∷ (two Lt (number 0) b) ∷ []))
+o11 = row_of_two 111 (λ a b. same_if (two In (two Mod a b) (two Range (number 0) (two Sub b (number 1))))
+    always ((two Le (number 0) a) ∷ (two Lt (number 0) b) ∷ []))
 
 -- O12: `a ** 0` is `1`
 abbrev pub o12 : Row
@@ -100,7 +105,8 @@ o23 = row_of_one 123 (λ x. same (one Card (one Single x)) (number 1))
 
 -- O24: `card(S \/ {x})` is `card(S) + 1` if `not(x : S)`
 abbrev pub o24 : Row
-o24 = row_of_two 124 (λ S x. same_if (one Card (two Union S (one Single x))) (two Add (one Card S) (number 1)) ((one Not (two In x S)) ∷ []))
+o24 =
+    row_of_two 124 (λ S x. same_if (one Card (two Union S (one Single x))) (two Add (one Card S) (number 1)) ((one Not (two In x S)) ∷ []))
 
 -- O25: `card(S - {x})` is `card(S) - 1` if `x : S`
 abbrev pub o25 : Row
@@ -124,7 +130,8 @@ o29 = row_of_two 129 (λ S o. same (two Eq (one Card S) (number 0)) (two Eq S (a
 
 -- O30: `card(S \/ T)` is `card(S) + card(T)` if `S /\ T = o`
 abbrev pub o30 : Row
-o30 = row_of_three 130 (λ S T o. same_if (one Card (two Union S T)) (two Add (one Card S) (one Card T)) ((two Eq (two Inter S T) (an_empty o)) ∷ []))
+o30 = row_of_three 130
+    (λ S T o. same_if (one Card (two Union S T)) (two Add (one Card S) (one Card T)) ((two Eq (two Inter S T) (an_empty o)) ∷ []))
 
 -- in the order of their numbers
 abbrev pub order_rows : List Row

@@ -1,5 +1,5 @@
--- The laws of sets: row Sn has the number 200 + n. x, y, z and w are any terms, a, b, c and q integers, S, T and U set values, A and B sets or domains,
--- and o is an empty set.
+-- The laws of sets: row Sn has the number 200 + n. x, y, z and w are any terms, a, b, c
+-- and q integers, S, T and U set values, A and B sets or domains, and o is an empty set.
 -- Source: after the B-Book's laws of membership, inclusion, union, intersection, difference and intervals.
 use Rattle.std.specs.Prelude.{List, [], ◌∷◌}
 use Rattle.bk_form.specs.declared.operator.UnOp.TheVariants.{Not, Single, Pow, Pow1}
@@ -157,7 +157,8 @@ s37 = row_of_one 237 (λ a. same (two Range a a) (one Single a))
 
 -- S38: `a .. b` is `(a .. c) \/ ((c + 1) .. b)` if `a <= c + 1`, `c <= b`
 abbrev pub s38 : Row
-s38 = row_of_three 238 (λ a b c. same_if (two Range a b) (two Union (two Range a c) (two Range (two Add c (number 1)) b)) ((two Le a (two Add c (number 1))) ∷ (two Le c b) ∷ []))
+s38 = row_of_three 238 (λ a b c. same_if (two Range a b) (two Union (two Range a c) (two Range (two Add c (number 1)) b))
+    ((two Le a (two Add c (number 1))) ∷ (two Le c b) ∷ []))
 
 -- S39: `a .. b : POW(c .. q)` is `btrue` if `c <= a`, `b <= q`
 abbrev pub s39 : Row

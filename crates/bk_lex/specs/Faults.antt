@@ -45,7 +45,9 @@ pub record StandsAt (text : List ℕ) (place : ℕ) (found : List Token) (This :
 abbrev pub IsFaultOf : List ℕ → LexFault → Type 0
 IsFaultOf text (NotUtf8 place) = (IsUtf8 text → ⊥) × IsValidUpTo text place
 IsFaultOf text (BadChar place) = IsUtf8 text × (found : List Token) × StandsAt text place found BeginsNothing × (length found ≤ MOST_TOKENS)
-IsFaultOf text (OpenComment place) = IsUtf8 text × (found : List Token) × StandsAt text place found IsOpenComment × (length found ≤ MOST_TOKENS)
-IsFaultOf text (NumberTooWide place) = IsUtf8 text × (found : List Token) × StandsAt text place found BeginsTooWide × (length found ≤ MOST_TOKENS)
+IsFaultOf text (OpenComment place) = IsUtf8 text × (found : List Token)
+    × StandsAt text place found IsOpenComment × (length found ≤ MOST_TOKENS)
+IsFaultOf text (NumberTooWide place) = IsUtf8 text × (found : List Token)
+    × StandsAt text place found BeginsTooWide × (length found ≤ MOST_TOKENS)
 IsFaultOf text (Limit place) = IsUtf8 text × (found : List Token) × StandsAt text place found BeginsToken × (length found ≡ MOST_TOKENS)
 IsFaultOf text Memory = Unit {0}

@@ -26,4 +26,5 @@ HasNoTokens text fault = IsOfText fault → (tokens : List Token) → AreTokens 
 
 -- a text has at most one fault
 abbrev pub FaultsAreOne : Type 0
-FaultsAreOne = (text : List ℕ) (one other : LexFault) → IsFaultOf text one → IsOfText one → IsFaultOf text other → IsOfText other → one ≡ other
+FaultsAreOne = (text : List ℕ) (one other : LexFault) → IsFaultOf text one →
+    IsOfText one → IsFaultOf text other → IsOfText other → one ≡ other

@@ -1,7 +1,8 @@
 -- The tokens of the B notation, and how a text is cut into them.
 -- Texts are lists of bytes in UTF-8. What an identifier is comes from Unicode Standard Annex 31 (XID_Start, XID_Continue).
 -- Source: B Language Reference Manual, and for identifiers Unicode Standard Annex 31.
-use Rattle.std.specs.Prelude.{◌≡◌, ◌≢◌, ℕ, pos, ◌+◌, ◌-◌, ◌*◌, ◌^◌, ◌≤◌, ◌<◌, Bool, true, false, not, cond, ◌&&◌, ◌||◌, nat_eq, nat_le, IsTrue, List, [], ◌∷◌, ◌++◌, length, Option, Some, None, codes}
+use Rattle.std.specs.Prelude.{◌≡◌, ◌≢◌, ℕ, pos, ◌+◌, ◌-◌, ◌*◌, ◌^◌, ◌≤◌, ◌<◌, Bool, true, false, not, cond, ◌&&◌}
+use Rattle.std.specs.Prelude.{◌||◌, nat_eq, nat_le, IsTrue, List, [], ◌∷◌, ◌++◌, length, Option, Some, None, codes}
 use Rattle.std.specs.List.{list_all}
 use Rattle.std.specs.Str.{bytes_eq, encode_utf8_all, IsUtf8}
 use Rattle.unicode_ident.specs.Ident.{is_xid_start, is_xid_continue}

@@ -7,7 +7,8 @@ use Rattle.unicode_ident.specs.Ident.{is_xid_continue}
 use Rattle.bk_limits.specs.declared.TheConstants.{MOST_TOKENS}
 use Rattle.bk_form.specs.declared.token.Token.{Token}
 use Rattle.bk_form.specs.declared.token.TokenKind.{TokenKind}
-use Rattle.bk_lex.specs.Lexis.{Gap, gap_text, IsGap, AreGaps, NoComment, IsIdentifier, is_digit, is_numeral, IsWritten, BeginsWith, Fits, AreTokens, sign_number}
+use Rattle.bk_lex.specs.Lexis.{Gap, gap_text, IsGap, AreGaps, NoComment, IsIdentifier, is_digit}
+use Rattle.bk_lex.specs.Lexis.{is_numeral, IsWritten, BeginsWith, Fits, AreTokens, sign_number}
 use Rattle.bk_lex.specs.Faults.{IsOpenComment, BeginsTooWide}
 use Rattle.bk_lex.specs.declared.fault.LexFault.{LexFault}
 use Rattle.bk_lex.specs.declared.fault.LexFault.TheVariants.{NotUtf8, BadChar, OpenComment, NumberTooWide, Limit, Memory}
@@ -75,7 +76,8 @@ IsBehindGaps text rest = (gaps : List Gap) × AreGaps gaps text rest × NoGap re
 abbrev pub IsGapFault : ℕ → List ℕ → LexFault → Type 0
 IsGapFault total text (NotUtf8 place) = ⊥
 IsGapFault total text (BadChar place) = ⊥
-IsGapFault total text (OpenComment place) = (gaps : List Gap) × (rest : List ℕ) × AreGaps gaps text rest × (place + length rest ≡ total) × IsOpenComment rest
+IsGapFault total text (OpenComment place) = (gaps : List Gap) × (rest : List ℕ)
+    × AreGaps gaps text rest × (place + length rest ≡ total) × IsOpenComment rest
 IsGapFault total text (NumberTooWide place) = ⊥
 IsGapFault total text (Limit place) = ⊥
 IsGapFault total text Memory = ⊥
@@ -83,7 +85,8 @@ IsGapFault total text Memory = ⊥
 -- what is wrong with a text that should begin with a token
 abbrev pub IsTokenFault : List ℕ → ℕ → LexFault → Type 0
 IsTokenFault text start (NotUtf8 place) = ⊥
-IsTokenFault text start (BadChar place) = (place ≡ start) × ((kind : TokenKind) (written after : List ℕ) → IsWritten kind written → text ≢ written ++ after)
+IsTokenFault text start (BadChar place) = (place ≡ start)
+    × ((kind : TokenKind) (written after : List ℕ) → IsWritten kind written → text ≢ written ++ after)
 IsTokenFault text start (OpenComment place) = ⊥
 IsTokenFault text start (NumberTooWide place) = (place ≡ start) × BeginsTooWide text
 IsTokenFault text start (Limit place) = ⊥
@@ -95,7 +98,8 @@ IsFirstToken kind text rest = BeginsWith kind text rest × Fits kind
 
 -- the first bytes, so many, are no sign
 abbrev pub NoSignOfLength : ℕ → List ℕ → Type 0
-NoSignOfLength count text = (op : ℕ) (written after : List ℕ) → length written ≡ count → sign_number written ≡ Some op → text ≢ written ++ after
+NoSignOfLength count text = (op : ℕ) (written after : List ℕ) →
+    length written ≡ count → sign_number written ≡ Some op → text ≢ written ++ after
 
 -- these are the text's tokens, at most MOST_TOKENS
 abbrev pub IsAnswer : List ℕ → List Token → Type 0

@@ -2,7 +2,8 @@
 
 ghost use Rattle.std.specs.Prelude.{◌≡◌, ◌≤◌, false, ℕ, length, take, take_while, MatchOption, Some};
 ghost use Rattle.bk_lex.specs.Lexis.{is_digit, sign_number};
-ghost use Rattle.bk_lex.specs.Parts.{IsFirstNumeral, IsFirstDollar, BeginsNoDollar, ContinuesUpTo, IsFirstIdentifier, BeginsNoIdentifier, IsFirstSign, BeginsNoSign, NoSignOfLength, begins};
+ghost use Rattle.bk_lex.specs.Parts.{IsFirstNumeral, IsFirstDollar, BeginsNoDollar, ContinuesUpTo, IsFirstIdentifier};
+ghost use Rattle.bk_lex.specs.Parts.{BeginsNoIdentifier, IsFirstSign, BeginsNoSign, NoSignOfLength, begins};
 
 use crate::table::Tables;
 use unicode_ident::{is_xid_continue, is_xid_start};

@@ -1,6 +1,7 @@
 -- What a certificate derives from given inequalities, line by line.
 -- Source: Chvátal's cutting planes.
-use Rattle.std.specs.Prelude.{◌≡◌, ℕ, ◌+◌, ◌-◌, ◌<◌, ℤ, pos, Bool, ◌&&◌, if◌then◌else◌, List, [], ◌∷◌, ◌++◌, length, map, take, Option, Some, None, slice_get, slice_index_or, nat_le, int_le}
+use Rattle.std.specs.Prelude.{◌≡◌, ℕ, ◌+◌, ◌-◌, ◌<◌, ℤ, pos, Bool, ◌&&◌, if◌then◌else◌, List, [], ◌∷◌, ◌++◌}
+use Rattle.std.specs.Prelude.{length, map, take, Option, Some, None, slice_get, slice_index_or, nat_le, int_le}
 use Rattle.std.specs.List.{list_all}
 use Rattle.std.specs.Option.{option_and_then}
 use Rattle.bk_lin.specs.declared.fact.Fact.{Fact}
@@ -8,7 +9,8 @@ use Rattle.bk_lin.specs.declared.fact.Line.{Line}
 use Rattle.bk_lin.specs.declared.fact.Line.TheVariants.{Sum, Div}
 use Rattle.bk_lin.specs.declared.fact.CertFault.{CertFault}
 use Rattle.bk_lin.specs.declared.fact.CertFault.TheVariants.{BadLine, Negative, TooWide}
-use Rattle.bk_lin.specs.Inequality.{Inequality, zero_of, times, plus_all, partial_sums, is_divisible, quotient_of, is_narrow, IsContradiction}
+use Rattle.bk_lin.specs.Inequality.{Inequality, zero_of, times, plus_all, partial_sums}
+use Rattle.bk_lin.specs.Inequality.{is_divisible, quotient_of, is_narrow, IsContradiction}
 
 -- what a fact says
 abbrev pub inequality_of : Fact → Inequality

@@ -1,6 +1,7 @@
 //! The table of names.
 
-ghost use Rattle.std.specs.Prelude.{◌≡◌, ◌≢◌, ◌↔◌, ◌^◌, ◌<◌, ◌≤◌, ℕ, List, [], None, Some, length, map, slice_get, Contains, IsSome, IsTrue, IsOk, IfSome, IfOk, OnOk, OnErr};
+ghost use Rattle.std.specs.Prelude.{◌≡◌, ◌≢◌, ◌↔◌, ◌^◌, ◌<◌, ◌≤◌, ℕ, List, [], None, Some, length, map};
+ghost use Rattle.std.specs.Prelude.{slice_get, Contains, IsSome, IsTrue, IsOk, IfSome, IfOk, OnOk, OnErr};
 ghost use Rattle.std.specs.List.{AllPairs};
 ghost use Rattle.bk_names.specs.Names.{place_of, with_name};
 

@@ -14,13 +14,15 @@ use Rattle.bk_p_comp.specs.declared.header.Headed.{Headed}
 
 -- after these clauses of a component of the kind, this one may be the next, whatever additions it has
 abbrev pub CompleteFollow : ComponentKind → List RawClause → RawClause → List Token → Type 0
-CompleteFollow kind done c tokens = Clause c tokens × (is_allowed kind c.word ≡ true) × IsComplete c.parts × All (λ n. clause_number c.word ≢ n) (map (λ d. clause_number d.word) done)
+CompleteFollow kind done c tokens = Clause c tokens × (is_allowed kind c.word ≡ true)
+    × IsComplete c.parts × All (λ n. clause_number c.word ≢ n) (map (λ d. clause_number d.word) done)
 
 -- after the first clauses these stand one after another, each the longest that may be the next one there, and after them
 -- none may
 abbrev pub ReadOn : ComponentKind → List RawClause → List RawClause → List Token → List Token → Type 0
 ReadOn kind done [] tokens rest = (tokens ≡ rest) × Nothing (CompleteFollow kind done) tokens
-ReadOn kind done (c ∷ cs) tokens rest = (back : List Token) × Longest (CompleteFollow kind done) tokens c back × ReadOn kind (done ++ c ∷ []) cs back rest
+ReadOn kind done (c ∷ cs) tokens rest = (back : List Token)
+    × Longest (CompleteFollow kind done) tokens c back × ReadOn kind (done ++ c ∷ []) cs back rest
 
 -- the component with this header and these clauses
 abbrev pub headed : Headed → List RawClause → RawComponent

@@ -14,5 +14,6 @@ use Rattle.bk_p_expr.specs.declared.fault.SynFault.TheVariants.{At, Depth, High,
 abbrev pub IsFaultOfComponent : List Token → SynFault → Type 0
 IsFaultOfComponent tokens (At place) = IsShallow tokens × IsComponentFault tokens place
 IsFaultOfComponent tokens (Depth place) = IsTooDeep tokens place
-IsFaultOfComponent tokens High = IsShallow tokens × (c : RawComponent) × SpellsComponent c tokens × (GREATEST_TREE_HEIGHT < component_height c)
+IsFaultOfComponent tokens High = IsShallow tokens × (c : RawComponent)
+    × SpellsComponent c tokens × (GREATEST_TREE_HEIGHT < component_height c)
 IsFaultOfComponent tokens Memory = Unit {0}

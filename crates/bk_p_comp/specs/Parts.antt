@@ -42,4 +42,5 @@ AreOperations os HighOperations = GREATEST_TREE_HEIGHT < parts_height (clause_op
 
 -- the answer is the longest that may stand after the word in front of the tokens, or that none is
 abbrev pub ReadsParts : {E : Type 0} → ClauseWord → List Token → Result (Option (Behind × Bor (List Token))) E → Type 0
-ReadsParts word tokens result = IfOk result (λ r. MatchOption r (Nothing (Standing word) tokens) (λ p. (x : ClauseParts) × Longest (Standing word) tokens x p.1.now × AreKept x p.0))
+ReadsParts word tokens result = IfOk result (λ r.
+    MatchOption r (Nothing (Standing word) tokens) (λ p. (x : ClauseParts) × Longest (Standing word) tokens x p.1.now × AreKept x p.0))

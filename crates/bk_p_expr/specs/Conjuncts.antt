@@ -6,7 +6,10 @@ use Rattle.bk_raw.specs.declared.operator.InfixOp.{InfixOp}
 use Rattle.bk_raw.specs.declared.operator.InfixOp.TheVariants.{Equal, Power}
 use Rattle.bk_raw.specs.declared.term.RawName.{RawName}
 use Rattle.bk_raw.specs.Trees.FreeNames.{is_among}
-use Rattle.bk_raw.specs.Trees.RawTree.{RawTree, raw, RawTreeNode, raw_name, raw_word, raw_negative, raw_infix, raw_inverse, raw_image, raw_apply, raw_composition, raw_pair, raw_extension, raw_comprehension, raw_lambda, raw_for_all, raw_exists, raw_typed_for_all, raw_typed_exists, raw_ranged_comprehension, raw_ranged_lambda, RawTrees, no_trees, tree_and, RawRanges, no_ranges, range_and}
+use Rattle.bk_raw.specs.Trees.RawTree.{RawTree, raw, RawTreeNode, raw_name, raw_word, raw_negative, raw_infix, raw_inverse}
+use Rattle.bk_raw.specs.Trees.RawTree.{raw_image, raw_apply, raw_composition, raw_pair, raw_extension, raw_comprehension, raw_lambda}
+use Rattle.bk_raw.specs.Trees.RawTree.{raw_for_all, raw_exists, raw_typed_for_all, raw_typed_exists, raw_ranged_comprehension}
+use Rattle.bk_raw.specs.Trees.RawTree.{raw_ranged_lambda, RawTrees, no_trees, tree_and, RawRanges, no_ranges, range_and}
 use Rattle.bk_p_expr.specs.declared.free.Conjunct.{Conjunct}
 
 -- the names but these

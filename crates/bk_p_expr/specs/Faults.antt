@@ -17,5 +17,6 @@ NothingSpelled tokens at = (tree : RawTree) (next : ℕ) → SpellsBetween token
 abbrev pub IsTermFault : List Token → ℕ → SynFault → Type 0
 IsTermFault tokens at (At place) = IsShallowFrom tokens at × (place ≡ at) × NothingSpelled tokens at
 IsTermFault tokens at (Depth place) = IsTooDeepFrom tokens at place
-IsTermFault tokens at High = IsShallowFrom tokens at × (tree : RawTree) × (next : ℕ) × IsLongest tokens at next tree × (GREATEST_TREE_HEIGHT < tree_height tree)
+IsTermFault tokens at High = IsShallowFrom tokens at × (tree : RawTree) × (next : ℕ)
+    × IsLongest tokens at next tree × (GREATEST_TREE_HEIGHT < tree_height tree)
 IsTermFault tokens at Memory = Unit {0}

@@ -30,7 +30,8 @@ abbrev pub FindsThis : {A : Type 0} → (ℕ → Option (A × List Token)) → �
 FindsThis reader least x rest = (n : ℕ) → least ≤ n → reader n ≡ Some (x, rest)
 
 -- the reader reads the tree of this piece, put into something, up to this rest
-pub record Finds {A : Type 0} (reader : ℕ → Option (A × List Token)) (least : ℕ) (make : RawTree → A) (piece : Piece) (rest : List Token) : Type 0 where
+pub record Finds {A : Type 0} (reader : ℕ → Option (A × List Token)) (least : ℕ) (make : RawTree →
+    A) (piece : Piece) (rest : List Token) : Type 0 where
   pub tree : RawTree
   pub found : (n : ℕ) → least ≤ n → reader n ≡ Some (make tree, rest)
   pub built : IsPiece tree piece
@@ -114,5 +115,7 @@ abbrev pub Begins : {E : Type 0} → (ℕ → Option (RawTree × List Token)) �
 Begins whole least at result = IfOk result (λ r. MatchOption r (FindsNone whole least) (λ p. Opens whole least at p.0 p.1.now))
 
 -- the answer is what is made of a body by what the reader reads, or that nothing is bound there
-abbrev pub Binds : {E : Type 0} → (ℕ → Option ((RawTree → RawTreeNode) × List Token)) → ℕ → Result (Option (Form × Bor (List Token))) E → Type 0
-Binds reader least result = IfOk result (λ r. MatchOption r (FindsNone reader least) (λ p. FindsThis reader least (around_node p.0) p.1.now))
+abbrev pub Binds : {E : Type 0} → (ℕ → Option ((RawTree → RawTreeNode) × List Token)) →
+    ℕ → Result (Option (Form × Bor (List Token))) E → Type 0
+Binds reader least result =
+    IfOk result (λ r. MatchOption r (FindsNone reader least) (λ p. FindsThis reader least (around_node p.0) p.1.now))

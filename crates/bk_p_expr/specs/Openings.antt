@@ -2,10 +2,15 @@
 use Rattle.std.specs.Prelude.{◌≡◌, ℕ, ◌≤◌, cond, List, [], ◌∷◌, Option, None, Some}
 use Rattle.bk_form.specs.declared.token.Token.{Token}
 use Rattle.bk_form.specs.declared.token.TokenKind.TheVariants.{Sign}
-use Rattle.bk_ops.specs.declared.sign.TheConstants.{MINUS, MEMBER, OPEN_PAREN, CLOSE_PAREN, OPEN_BRACKET, CLOSE_BRACKET, CLOSE_BRACE, INVERSE, SEMICOLON, COMMA, DOT, BAR}
+use Rattle.bk_ops.specs.declared.sign.TheConstants.{MINUS, MEMBER, OPEN_PAREN, CLOSE_PAREN, OPEN_BRACKET}
+use Rattle.bk_ops.specs.declared.sign.TheConstants.{CLOSE_BRACKET, CLOSE_BRACE, INVERSE, SEMICOLON, COMMA, DOT, BAR}
 use Rattle.bk_raw.specs.Trees.Operators.{binding, infix_kind, negated, tightest}
-use Rattle.bk_raw.specs.Trees.RawTree.{RawTree, raw, RawTreeNode, RawRanges, raw_inverse, raw_image, raw_apply, raw_composition, raw_pair, raw_extension, raw_typed_empty, raw_comprehension, raw_ranged_comprehension, raw_ranged_lambda, raw_for_all, raw_exists, raw_typed_for_all, raw_typed_exists}
-use Rattle.bk_raw.specs.Grammar.Reading.{Reader, same_kind, next, sign, begins_with, begins_bound_in, start, within, names, binder, bounds, typed, chain, arguments, moved, terms, ranges, at_byte, quantified, primary_at, signed, front_kind, read}
+use Rattle.bk_raw.specs.Trees.RawTree.{RawTree, raw, RawTreeNode, RawRanges, raw_inverse, raw_image, raw_apply, raw_composition}
+use Rattle.bk_raw.specs.Trees.RawTree.{raw_pair, raw_extension, raw_typed_empty, raw_comprehension, raw_ranged_comprehension}
+use Rattle.bk_raw.specs.Trees.RawTree.{raw_ranged_lambda, raw_for_all, raw_exists, raw_typed_for_all, raw_typed_exists}
+use Rattle.bk_raw.specs.Grammar.Reading.{Reader, same_kind, next, sign, begins_with, begins_bound_in, start}
+use Rattle.bk_raw.specs.Grammar.Reading.{within, names, binder, bounds, typed, chain, arguments, moved, terms}
+use Rattle.bk_raw.specs.Grammar.Reading.{ranges, at_byte, quantified, primary_at, signed, front_kind, read}
 use Rattle.bk_raw.specs.declared.operator.InfixOp.{InfixOp}
 use Rattle.bk_raw.specs.declared.term.RawName.{RawName}
 use Rattle.bk_raw.specs.declared.term.RawBound.{RawBound}
@@ -46,7 +51,8 @@ divided n inside (Some d) at first ts = next (chain n (read n) (sign_of d) (form
 
 -- a term, or several, and the sign that closes them
 abbrev pub enclosed : ℕ → Inside → ℕ → Reader RawTree
-enclosed n inside end ts = next (read n 0 ts) (λ first us. next (divided n inside (divider_in inside us) (start ts) first us) (λ x vs. next (sign end vs) (λ _ ws. Some (x, ws))))
+enclosed n inside end ts = next (read n 0 ts)
+    (λ first us. next (divided n inside (divider_in inside us) (start ts) first us) (λ x vs. next (sign end vs) (λ _ ws. Some (x, ws))))
 
 -- ---- after the opening of a term that starts at a byte
 -- a term and the sign that closes it, with a node around
@@ -67,7 +73,8 @@ dot_paren ts = next (sign DOT ts) (λ _ us. sign OPEN_PAREN us)
 
 -- .(p | e) of a lambda
 abbrev pub valued : ℕ → ℕ → (RawTree → RawTree → RawTreeNode) → Reader RawTree
-valued n at form ts = next (dot_paren ts) (λ _ us. next (enclosed n Term BAR us) (λ p vs. next (enclosed n Term CLOSE_PAREN vs) (λ e ws. Some (raw at (form p e), ws))))
+valued n at form ts = next (dot_paren ts)
+    (λ _ us. next (enclosed n Term BAR us) (λ p vs. next (enclosed n Term CLOSE_PAREN vs) (λ e ws. Some (raw at (form p e), ws))))
 
 -- $1:d | p} of a set
 abbrev pub described : ℕ → ℕ → Reader RawTree
@@ -99,7 +106,8 @@ typed_empty n at ts = at_byte at (next (within MEMBER CLOSE_BRACE (typed n) ts) 
 
 -- x, y | p} of a set
 abbrev pub named_set : ℕ → ℕ → Reader RawTree
-named_set n at ts = at_byte at (next (names ts) (λ xs us. next (within BAR CLOSE_BRACE (read n 0) us) (λ p vs. Some (raw_comprehension xs p, vs))))
+named_set n at ts =
+    at_byte at (next (names ts) (λ xs us. next (within BAR CLOSE_BRACE (read n 0) us) (λ p vs. Some (raw_comprehension xs p, vs))))
 
 -- what stands after the sign of a quantifier
 abbrev pub quantified_by : ℕ → ℕ → Quantifier → Reader RawTree
@@ -126,13 +134,15 @@ abbrev pub suffixed : ℕ → Reader (RawTree → RawTreeNode)
 suffixed n ts =
     cond (begins_with INVERSE ts) (next (sign INVERSE ts) (λ _ us. Some (raw_inverse, us))) (
     cond (begins_with OPEN_BRACKET ts) (next (within OPEN_BRACKET CLOSE_BRACKET (read n 0) ts) (λ s us. Some ((λ t. raw_image t s), us))) (
-    cond (begins_with OPEN_PAREN ts) (next (sign OPEN_PAREN ts) (λ _ us. next (arguments n (read n) us) (λ x vs. Some ((λ t. raw_apply t x), vs)))) None))
+    cond (begins_with OPEN_PAREN ts)
+    (next (sign OPEN_PAREN ts) (λ _ us. next (arguments n (read n) us) (λ x vs. Some ((λ t. raw_apply t x), vs)))) None))
 
 -- ---- operators
 -- the operator in front, with what stands after it, where so much is asked of its strength and of that of its left operand
 -- so much is known
 abbrev pub Fits : ℕ → ℕ → List Token → InfixOp → List Token → Type 0
-Fits asked strength ts o us = (t : Token) × (ts ≡ t ∷ us) × (infix_kind o ≡ t.kind) × (asked ≤ (binding o).own) × ((binding o).left ≤ strength)
+Fits asked strength ts o us = (t : Token) × (ts ≡ t ∷ us) × (infix_kind o ≡ t.kind)
+    × (asked ≤ (binding o).own) × ((binding o).left ≤ strength)
 
 -- no operator that fits stands in front
 abbrev pub NoneFits : ℕ → ℕ → List Token → Type 0

@@ -1,7 +1,10 @@
 -- Terms on the way to being built, with their heights.
 use Rattle.std.specs.Prelude.{◌≡◌, ℕ, ◌<◌, ◌≤◌, List, [], ◌∷◌}
 use Rattle.bk_limits.specs.declared.TheConstants.{GREATEST_TREE_HEIGHT}
-use Rattle.bk_raw.specs.Trees.RawTree.{RawTree, raw, RawTreeNode, raw_word, raw_negative, raw_infix, raw_inverse, raw_image, raw_apply, raw_composition, raw_pair, raw_comprehension, raw_lambda, raw_for_all, raw_exists, raw_typed_for_all, raw_typed_exists, RawTrees, no_trees, tree_and, RawRanges, no_ranges, range_and, tree_height, trees_height, ranges_height, trees_of}
+use Rattle.bk_raw.specs.Trees.RawTree.{RawTree, raw, RawTreeNode, raw_word, raw_negative, raw_infix, raw_inverse, raw_image}
+use Rattle.bk_raw.specs.Trees.RawTree.{raw_apply, raw_composition, raw_pair, raw_comprehension, raw_lambda, raw_for_all}
+use Rattle.bk_raw.specs.Trees.RawTree.{raw_exists, raw_typed_for_all, raw_typed_exists, RawTrees, no_trees, tree_and, RawRanges}
+use Rattle.bk_raw.specs.Trees.RawTree.{no_ranges, range_and, tree_height, trees_height, ranges_height, trees_of}
 use Rattle.bk_raw.specs.Codes.RawView.{ranges_of}
 use Rattle.bk_raw.specs.Trees.FreeNames.{conjuncts}
 use Rattle.bk_p_expr.specs.Conjuncts.{AreConjuncts, free_names_of, free_names_of_ranges}
@@ -13,7 +16,8 @@ use Rattle.bk_p_expr.specs.declared.piece.Terms.TheVariants.{Built as BuiltTerms
 use Rattle.bk_p_expr.specs.declared.piece.Ranges.{Ranges}
 use Rattle.bk_p_expr.specs.declared.piece.Ranges.TheVariants.{Built as BuiltRanges, High as HighRanges}
 use Rattle.bk_p_expr.specs.declared.piece.Around.{Around}
-use Rattle.bk_p_expr.specs.declared.piece.Around.TheVariants.{Word, Negative, Inverse, Comprehension, ForAll, Exists, TypedForAll, TypedExists}
+use Rattle.bk_p_expr.specs.declared.piece.Around.TheVariants.{Word, Negative, Inverse, Comprehension}
+use Rattle.bk_p_expr.specs.declared.piece.Around.TheVariants.{ForAll, Exists, TypedForAll, TypedExists}
 use Rattle.bk_p_expr.specs.declared.piece.Between.{Between}
 use Rattle.bk_p_expr.specs.declared.piece.Between.TheVariants.{Infix, Image, Apply, Composition, Pair, Lambda}
 
@@ -29,7 +33,8 @@ IsTerms trees (HighTerms free) = (GREATEST_TREE_HEIGHT < trees_height trees) × 
 
 -- and of bound variables with their ranges
 abbrev pub IsRanges : RawRanges → Ranges → Type 0
-IsRanges ranges (BuiltRanges all height) = (ranges_of all.items ≡ ranges) × (height ≡ ranges_height ranges) × (height ≤ GREATEST_TREE_HEIGHT)
+IsRanges ranges (BuiltRanges all height) = (ranges_of all.items ≡ ranges)
+    × (height ≡ ranges_height ranges) × (height ≤ GREATEST_TREE_HEIGHT)
 IsRanges ranges (HighRanges free) = (GREATEST_TREE_HEIGHT < ranges_height ranges) × (free.items ≡ free_names_of_ranges ranges)
 
 -- the one list and then the other

@@ -11,7 +11,8 @@ power m ts = next (within OPEN_PAREN CLOSE_PAREN (typed m) ts) (λ t us. Some (w
 
 -- T * U) after a parenthesis
 abbrev pub product : ℕ → Reader WrittenType
-product m ts = next (typed m ts) (λ t us. next (sign TIMES us) (λ _ vs. next (typed m vs) (λ u ws. next (sign CLOSE_PAREN ws) (λ _ xs. Some (written_product t u, xs)))))
+product m ts = next (typed m ts)
+    (λ t us. next (sign TIMES us) (λ _ vs. next (typed m vs) (λ u ws. next (sign CLOSE_PAREN ws) (λ _ xs. Some (written_product t u, xs)))))
 
 -- $n:T
 abbrev pub typed_bound : ℕ → Reader RawBound

@@ -4,7 +4,8 @@ ghost use Rattle.std.specs.Prelude.{◌≡◌, ◌<◌, ◌++◌, [], ◌∷◌,
 ghost use Rattle.bk_raw.specs.Trees.FreeNames.{conjuncts, is_among};
 ghost use Rattle.bk_raw.specs.Trees.RawTree.{tree_size, trees_of};
 ghost use Rattle.bk_raw.specs.Codes.RawView.{ranges_of};
-ghost use Rattle.bk_p_expr.specs.Conjuncts.{AreConjuncts, IsConjunct, definition, free_names, free_names_of, free_names_of_ranges, name_alone, names_beside, names_of_conjuncts, without};
+ghost use Rattle.bk_p_expr.specs.Conjuncts.{AreConjuncts, IsConjunct, definition, free_names, free_names_of};
+ghost use Rattle.bk_p_expr.specs.Conjuncts.{free_names_of_ranges, name_alone, names_beside, names_of_conjuncts, without};
 
 use bk_io::{Memory, Text};
 use bk_raw::{InfixOp, RawName, RawNode, RawRange, RawTerm};

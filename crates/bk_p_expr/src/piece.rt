@@ -2,7 +2,8 @@
 
 ghost use Rattle.std.specs.Prelude.{◌≡◌, ◌<◌, ◌≤◌, ◌++◌, ℕ, None, [], ◌∷◌, IfOk};
 ghost use Rattle.bk_raw.specs.Trees.FreeNames.{conjuncts};
-ghost use Rattle.bk_raw.specs.Trees.RawTree.{RawTree, RawTrees, RawRanges, raw, node_height, tree_height, trees_height, ranges_height, raw_extension, raw_infix, raw_ranged_comprehension, raw_ranged_lambda};
+ghost use Rattle.bk_raw.specs.Trees.RawTree.{RawTree, RawTrees, RawRanges, raw, node_height, tree_height, trees_height};
+ghost use Rattle.bk_raw.specs.Trees.RawTree.{ranges_height, raw_extension, raw_infix, raw_ranged_comprehension, raw_ranged_lambda};
 ghost use Rattle.bk_raw.specs.Codes.RawView.{node_of, tree_of};
 ghost use Rattle.bk_raw.specs.Grammar.Reading.{moved};
 ghost use Rattle.bk_raw.specs.declared.operator.InfixOp.TheVariants.{And, Equal};

@@ -42,7 +42,8 @@ pub record IsProofFile (text : List ℕ) (scripts : List RawScript) : Type 0 whe
 -- ---- faults
 -- no scripts are written so, or a script writes a name with a second type
 abbrev pub IsUnwritten : ℕ → List ℕ → Type 0
-IsUnwritten place text = (tokens : List Token) × IsShallowText text tokens × (IsScriptFaultAt (length text) tokens place ⊎ ((scripts : List RawScript) × SpellsScripts scripts tokens × IsSecondType scripts place))
+IsUnwritten place text = (tokens : List Token) × IsShallowText text tokens × (IsScriptFaultAt (length text) tokens place
+    ⊎ ((scripts : List RawScript) × SpellsScripts scripts tokens × IsSecondType scripts place))
 
 -- a term is too high
 abbrev pub IsHigh : List ℕ → Type 0
@@ -91,7 +92,8 @@ abbrev pub IsFaultOf : List (List ℕ) → ScriptFault → Type 0
 IsFaultOf texts (Fault number file place) =
     IsAtFault texts number file place
     ⊎ ((number ≡ number_of_fault NoTree) × All (Has IsShallowText) texts × IsFirst (Has IsWritten) (IsUnwritten place) texts file)
-    ⊎ ((number ≡ number_of_fault TwiceNamed) × ((files : List (List RawScript)) × AllZip IsProofFile texts files × IsTwiceNamed files file place))
+    ⊎ ((number ≡ number_of_fault TwiceNamed)
+    × ((files : List (List RawScript)) × AllZip IsProofFile texts files × IsTwiceNamed files file place))
 IsFaultOf texts (Limit number file) =
     IsPastLimit texts number file
     ⊎ ((number ≡ 12) × All (Has IsWritten) texts × IsFirst (Has IsLow) IsHigh texts file)

@@ -6,7 +6,8 @@ use Rattle.bk_raw.specs.Grammar.Pieces.{◌⌢◌, Just, JustSign, Digits, Divid
 use Rattle.bk_raw.specs.Trees.RawTree.{RawTree}
 use Rattle.bk_raw.specs.Grammar.ScriptSpelling.{AnyTerm, Line, Picked}
 use Rattle.bk_form.specs.declared.token.TokenKind.TheVariants.{Name}
-use Rattle.bk_raw.specs.Trees.ScriptTree.{PartKind as Kind, one_number, one_term, some_terms, one_place, perhaps_place, typed_names, one_law, certificate, RawLine}
+use Rattle.bk_raw.specs.Trees.ScriptTree.{PartKind as Kind, one_number, one_term, some_terms, one_place}
+use Rattle.bk_raw.specs.Trees.ScriptTree.{perhaps_place, typed_names, one_law, certificate, RawLine}
 use Rattle.bk_p_proof.specs.declared.part.PartKind.{PartKind}
 use Rattle.bk_p_proof.specs.declared.part.PartKind.TheVariants.{Number, Term, Terms, Place, PerhapsPlace, Typed, Law, Certificate}
 

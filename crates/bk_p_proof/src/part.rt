@@ -3,7 +3,10 @@
 ghost use Rattle.std.specs.Prelude.{◌≤◌, length, map, IfOk, IfSome, MatchOption, List};
 ghost use Rattle.bk_raw.specs.Trees.RawTree.{RawTree, trees_of};
 ghost use Rattle.bk_p_expr.specs.Pieces.{IsPiece, IsTerms};
-ghost use Rattle.bk_raw.specs.Trees.ScriptTree.{RulePart as WrittenPart, one_number as a_number, one_term as a_term, some_terms as the_terms, one_place as a_place, perhaps_place as any_place, typed_names as the_names, one_law as a_law, certificate as a_certificate, part_term, part_terms, part_law};
+ghost use Rattle.bk_raw.specs.Trees.ScriptTree.{RulePart as WrittenPart, one_number as a_number, one_term as a_term};
+ghost use Rattle.bk_raw.specs.Trees.ScriptTree.{some_terms as the_terms, one_place as a_place, perhaps_place as any_place};
+ghost use Rattle.bk_raw.specs.Trees.ScriptTree.{typed_names as the_names, one_law as a_law, certificate as a_certificate, part_term};
+ghost use Rattle.bk_raw.specs.Trees.ScriptTree.{part_terms, part_law};
 ghost use Rattle.bk_raw.specs.Grammar.ScriptSpelling.{Ruled, Spelled};
 ghost use Rattle.bk_raw.specs.Codes.ScriptView.{part_of};
 ghost use Rattle.bk_p_expr.specs.Fronts.{Longest, Nothing};

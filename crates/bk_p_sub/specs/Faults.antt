@@ -21,12 +21,14 @@ pub record IsLongestFrom (tokens : List Token) (at next : ℕ) (s : SubTree) : T
 
 -- no substitution is written from this place on
 abbrev pub NothingSpelled : List Token → ℕ → Type 0
-NothingSpelled tokens at = (s : SubTree) (before written after : List Token) → tokens ≡ before ++ (written ++ after) → length before ≡ at → SpellsSub s written → ⊥
+NothingSpelled tokens at = (s : SubTree) (before written after : List Token) →
+    tokens ≡ before ++ (written ++ after) → length before ≡ at → SpellsSub s written → ⊥
 
 -- the fault is that of the tokens, read as a substitution from this place on: what is too deep is answered first, and what is
 -- too high only where a substitution is written
 abbrev pub IsSubFault : List Token → ℕ → SynFault → Type 0
 IsSubFault tokens at (At place) = IsShallowFrom tokens at × (place ≡ at) × NothingSpelled tokens at
 IsSubFault tokens at (Depth place) = IsTooDeepFrom tokens at place
-IsSubFault tokens at High = IsShallowFrom tokens at × (s : SubTree) × (next : ℕ) × IsLongestFrom tokens at next s × (GREATEST_TREE_HEIGHT < sub_height s)
+IsSubFault tokens at High = IsShallowFrom tokens at × (s : SubTree) × (next : ℕ)
+    × IsLongestFrom tokens at next s × (GREATEST_TREE_HEIGHT < sub_height s)
 IsSubFault tokens at Memory = Unit {0}

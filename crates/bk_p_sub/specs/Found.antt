@@ -42,7 +42,8 @@ abbrev pub BeginsWithName : List Token → Type 0
 BeginsWithName tokens = (x : List ℕ) × (rest : List Token) × Ahead (Name x) tokens rest
 
 -- the longest one in front of the tokens, and a token of this kind directly after it
-pub record Before {A : Type 0} (Written : A → List Token → Type 0) (ahead : TokenKind) (tokens : List Token) (x : A) (rest : List Token) : Type 0 where
+pub record Before {A : Type 0} (Written : A → List Token →
+    Type 0) (ahead : TokenKind) (tokens : List Token) (x : A) (rest : List Token) : Type 0 where
   pub sign : Token
   pub same : sign.kind ≡ ahead
   pub found : Longest Written tokens x (sign ∷ rest)
@@ -71,7 +72,8 @@ FoundEnclosed tokens term rest = (t : RawTree) × Longest Enclosed tokens t rest
 -- ---- substitutions
 -- the answer is the longest substitution in front of those that may stand in a place that asks so much, or that none is
 abbrev pub Reads : {E : Type 0} → ℕ → List Token → Result (Option (Statement × Bor (List Token))) E → Type 0
-Reads m tokens result = IfOk result (λ r. MatchOption r (Nothing (λ s. Sub s m) tokens) (λ p. (s : SubTree) × Longest (λ s. Sub s m) tokens s p.1.now × IsStatement s p.0))
+Reads m tokens result = IfOk result
+    (λ r. MatchOption r (Nothing (λ s. Sub s m) tokens) (λ p. (s : SubTree) × Longest (λ s. Sub s m) tokens s p.1.now × IsStatement s p.0))
 
 -- an atom
 abbrev pub Atom : SubTree → List Token → Type 0
@@ -91,23 +93,30 @@ LoopEnd q = JustWord INVARIANT ⌢ Spells q.0 ⌢ JustWord VARIANT ⌢ Spells q.
 
 -- the answer is the longest of these in front, or that none is
 abbrev pub ReadsBranches : {E : Type 0} → ℕ → List Token → Result (Option (BuiltOnes × Bor (List Token))) E → Type 0
-ReadsBranches op tokens result = IfOk result (λ r. MatchOption r (Nothing (BranchesEnd op) tokens) (λ p. (bs : Branches) × Longest (BranchesEnd op) tokens bs p.1.now × IsBranches bs p.0))
+ReadsBranches op tokens result = IfOk result (λ r.
+    MatchOption r (Nothing (BranchesEnd op) tokens) (λ p. (bs : Branches) × Longest (BranchesEnd op) tokens bs p.1.now × IsBranches bs p.0))
 
 -- a reading answers the longest end of a CHOICE that begins the tokens, or that there is none
 abbrev pub ReadsChoices : {E : Type 0} → List Token → Result (Option (BuiltOthers × Bor (List Token))) E → Type 0
-ReadsChoices tokens result = IfOk result (λ r. MatchOption r (Nothing ChoicesEnd tokens) (λ p. (cs : Choices) × Longest ChoicesEnd tokens cs p.1.now × IsChoices cs p.0))
+ReadsChoices tokens result = IfOk result
+    (λ r. MatchOption r (Nothing ChoicesEnd tokens) (λ p. (cs : Choices) × Longest ChoicesEnd tokens cs p.1.now × IsChoices cs p.0))
 
 -- a reading answers the longest end of a loop that begins the tokens, or that there is none
 abbrev pub ReadsLoopEnd : {E : Type 0} → List Token → Result (Option (Term × Term × Bor (List Token))) E → Type 0
-ReadsLoopEnd tokens result = IfOk result (λ r. MatchOption r (Nothing LoopEnd tokens) (λ p. (q : RawTree × RawTree) × Longest LoopEnd tokens q p.2.now × IsTerm q.0 p.0 × IsTerm q.1 p.1))
+ReadsLoopEnd tokens result = IfOk result (λ r. MatchOption r (Nothing LoopEnd tokens)
+    (λ p. (q : RawTree × RawTree) × Longest LoopEnd tokens q p.2.now × IsTerm q.0 p.0 × IsTerm q.1 p.1))
 
 -- the opening of an atom is read, up to this rest
 abbrev pub Opens : List Token → Opening → List Token → Type 0
 Opens tokens (Closed statement) rest = (s : SubTree) × Longest Atom tokens s rest × IsStatement s statement
-Opens tokens (Around block) rest = (form : SubTree → SubNode) × IsAround form block × Left Atom tokens (λ (s : SubTree). Sub s 0 ⌢ JustWord END) rest (λ s. sub (start tokens) (form s))
-Opens tokens (Tested test condition) rest = (p : RawTree) × IsTerm p condition × Left Atom tokens (λ (q : SubTree × Branches). Sub q.0 0 ⌢ BranchesEnd (word_of test) q.1) rest (λ q. sub (start tokens) (tested_node test p q.0 q.1))
-Opens tokens Choice rest = Left Atom tokens (λ (q : SubTree × Choices). Sub q.0 0 ⌢ ChoicesEnd q.1) rest (λ q. sub (start tokens) (sub_choice q.0 q.1))
-Opens tokens (While condition) rest = (p : RawTree) × IsTerm p condition × Left Atom tokens (λ (q : SubTree × (RawTree × RawTree)). Sub q.0 0 ⌢ LoopEnd q.1) rest (λ q. sub (start tokens) (sub_while p q.0 q.1.0 q.1.1))
+Opens tokens (Around block) rest = (form : SubTree → SubNode) × IsAround form block
+    × Left Atom tokens (λ (s : SubTree). Sub s 0 ⌢ JustWord END) rest (λ s. sub (start tokens) (form s))
+Opens tokens (Tested test condition) rest = (p : RawTree) × IsTerm p condition × Left Atom tokens
+    (λ (q : SubTree × Branches). Sub q.0 0 ⌢ BranchesEnd (word_of test) q.1) rest (λ q. sub (start tokens) (tested_node test p q.0 q.1))
+Opens tokens Choice rest =
+    Left Atom tokens (λ (q : SubTree × Choices). Sub q.0 0 ⌢ ChoicesEnd q.1) rest (λ q. sub (start tokens) (sub_choice q.0 q.1))
+Opens tokens (While condition) rest = (p : RawTree) × IsTerm p condition × Left Atom tokens
+    (λ (q : SubTree × (RawTree × RawTree)). Sub q.0 0 ⌢ LoopEnd q.1) rest (λ q. sub (start tokens) (sub_while p q.0 q.1.0 q.1.1))
 
 -- the answer is how the atom in front begins, or that none is there
 abbrev pub Begins : {E : Type 0} → List Token → Result (Option (Opening × Bor (List Token))) E → Type 0

@@ -4,7 +4,9 @@ use Rattle.bk_limits.specs.declared.TheConstants.{GREATEST_TREE_HEIGHT}
 use Rattle.bk_ops.specs.declared.word.TheConstants.{ELSIF, WHEN}
 use Rattle.bk_raw.specs.Trees.FreeNames.{conjuncts}
 use Rattle.bk_raw.specs.Trees.RawTree.{RawTree, tree_height}
-use Rattle.bk_raw.specs.Trees.SubTree.{SubTree, SubNode, sub_begin, sub_pre, sub_assert, sub_any, sub_let, sub_var, sub_if, sub_select, sub_parallel, sub_sequence, sub_height, branches_height, choices_height, Branches, no_branches, else_branch, branch_and, Choices, no_choices, choice_and}
+use Rattle.bk_raw.specs.Trees.SubTree.{SubTree, SubNode, sub_begin, sub_pre, sub_assert, sub_any, sub_let, sub_var, sub_if}
+use Rattle.bk_raw.specs.Trees.SubTree.{sub_select, sub_parallel, sub_sequence, sub_height, branches_height, choices_height}
+use Rattle.bk_raw.specs.Trees.SubTree.{Branches, no_branches, else_branch, branch_and, Choices, no_choices, choice_and}
 use Rattle.bk_raw.specs.Codes.SubView.{branches_of, choices_of}
 use Rattle.bk_p_expr.specs.Conjuncts.{AreConjuncts}
 use Rattle.bk_p_sub.specs.declared.statement.Statement.{Statement}
@@ -36,8 +38,10 @@ IsTerm t (HighTerm known) = (GREATEST_TREE_HEIGHT < tree_height t) × AreConjunc
 
 -- the same of further branches
 abbrev pub IsBranches : Branches → BuiltOnes → Type 0
-IsBranches bs (BuiltBranches all None height) = (branches_of all.items no_branches ≡ bs) × (height ≡ branches_height bs) × (height ≤ GREATEST_TREE_HEIGHT)
-IsBranches bs (BuiltBranches all (Some last) height) = (branches_of all.items (else_branch last.value) ≡ bs) × (height ≡ branches_height bs) × (height ≤ GREATEST_TREE_HEIGHT)
+IsBranches bs (BuiltBranches all None height) = (branches_of all.items no_branches ≡ bs)
+    × (height ≡ branches_height bs) × (height ≤ GREATEST_TREE_HEIGHT)
+IsBranches bs (BuiltBranches all (Some last) height) =
+    (branches_of all.items (else_branch last.value) ≡ bs) × (height ≡ branches_height bs) × (height ≤ GREATEST_TREE_HEIGHT)
 IsBranches bs HighBranches = GREATEST_TREE_HEIGHT < branches_height bs
 
 -- no ELSE stands among them

@@ -2,7 +2,8 @@
 
 ghost use Rattle.std.specs.Prelude.{◌≡◌, ◌+◌, ℕ, IfOk};
 ghost use Rattle.bk_raw.specs.Trees.RawTree.{RawTree, RawTrees};
-ghost use Rattle.bk_raw.specs.Trees.SubTree.{SubTree, SubNode, sub, sub_skip, sub_assign, sub_assign_at, sub_member, sub_such, sub_while, sub_choice, Branches as BranchTrees, Choices as ChoiceTrees, sub_height};
+ghost use Rattle.bk_raw.specs.Trees.SubTree.{SubTree, SubNode, sub, sub_skip, sub_assign, sub_assign_at, sub_member, sub_such};
+ghost use Rattle.bk_raw.specs.Trees.SubTree.{sub_while, sub_choice, Branches as BranchTrees, Choices as ChoiceTrees, sub_height};
 ghost use Rattle.bk_raw.specs.Codes.SubView.{sub_node_of, sub_of};
 ghost use Rattle.bk_p_expr.specs.Pieces.{IsTerms};
 ghost use Rattle.bk_p_sub.specs.Statements.{IsStatement, IsTerm, IsAround, IsBranches, IsChoices, head_node, joint_node, tested_node, word_of};

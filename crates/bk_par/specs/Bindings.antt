@@ -24,7 +24,8 @@ bound_in (becomes_such xs p) = seconds xs
 bound_in (loop p s i v) = bound_in s
 bound_in _ = []
 
--- at each ||, the right side binds nothing that the left side writes; so it is where each variable that is bound stands only inside its binder
+-- at each ||, the right side binds nothing that the left side writes; so
+-- it is where each variable that is bound stands only inside its binder
 abbrev pub BindsApart : Substitution → Type 0
 BindsApart (pre p s) = BindsApart s
 BindsApart (guard p s) = BindsApart s

@@ -1,5 +1,5 @@
--- An adder and a stepper with their implementations, to be checked by hand: inc(k) adds k to n, where that is allowed, and inc of the stepper
--- adds 1 to n below 10; get answers n, which stays from 0 to 10.
+-- An adder and a stepper with their implementations, to be checked by hand: inc(k) adds k to n, where
+-- that is allowed, and inc of the stepper adds 1 to n below 10; get answers n, which stays from 0 to 10.
 use Rattle.std.specs.Prelude.{◌≡◌, ℕ, pos, negsuc, List, [], ◌∷◌, codes, slice_get, Some}
 use Rattle.bk_val.specs.ValueType.{int_type}
 use Rattle.bk_form.specs.Table.{Table}
@@ -50,7 +50,11 @@ get_head = record { name = codes "get"; inputs = []; outputs = 1 }
 -- ---- the adder
 -- n$0 of the machine, n$1 of the implementation, their outputs r$0 and r$1, and the input k
 abbrev pub tally_table : Table
-tally_table = record { sets = []; variables = number_at 110 48 ∷ number_at 110 49 ∷ number_at 114 48 ∷ number_at 114 49 ∷ record { text = codes "k"; of_type = int_type } ∷ [] }
+tally_table = record {
+  sets = [];
+  variables =
+      number_at 110 48 ∷ number_at 110 49 ∷ number_at 114 48 ∷ number_at 114 49 ∷ record { text = codes "k"; of_type = int_type } ∷ [];
+}
 
 -- k : 1..10 & n + k <= 10
 abbrev pub may_add : Formula
@@ -68,7 +72,8 @@ tally = record {
   homes = Abstract 0 ∷ Concrete 1 ∷ Inner 0 ∷ Inner 1 ∷ Input ∷ [];
   sets = [];
   heads = inc_head (4 ∷ []) ∷ get_head ∷ [];
-  levels = small_level (codes "Tally") Machine 0 [] (adding may_add 0) (getting 2 0) ∷ small_level (codes "Tally_i") Implementation 1 ((1, 0) ∷ []) (adding btrue 1) (getting 3 1) ∷ [];
+  levels = small_level (codes "Tally") Machine 0 [] (adding may_add 0) (getting 2 0) ∷
+      small_level (codes "Tally_i") Implementation 1 ((1, 0) ∷ []) (adding btrue 1) (getting 3 1) ∷ [];
   values = [];
   extents = (0, 5) ∷ (0, 5) ∷ [];
 }
@@ -76,7 +81,11 @@ tally = record {
 -- ---- the stepper
 -- IF n < 10 THEN n := n + 1 END
 abbrev pub stepping : ℕ → Body
-stepping n = record { condition = btrue; sub = if_else (binary Lt (variable n) (literal (pos 10))) (assign ((n, plus (variable n) (literal (pos 1))) ∷ [])) skip; outputs = [] }
+stepping n = record {
+  condition = btrue;
+  sub = if_else (binary Lt (variable n) (literal (pos 10))) (assign ((n, plus (variable n) (literal (pos 1))) ∷ [])) skip;
+  outputs = [];
+}
 
 -- the machine Stepper, whose inc adds 1 to n below 10, and its implementation
 abbrev pub stepper : Development
@@ -86,7 +95,8 @@ stepper = record {
   homes = Abstract 0 ∷ Concrete 1 ∷ Inner 0 ∷ Inner 1 ∷ [];
   sets = [];
   heads = inc_head [] ∷ get_head ∷ [];
-  levels = small_level (codes "Stepper") Machine 0 [] (stepping 0) (getting 2 0) ∷ small_level (codes "Stepper_i") Implementation 1 ((1, 0) ∷ []) (stepping 1) (getting 3 1) ∷ [];
+  levels = small_level (codes "Stepper") Machine 0 [] (stepping 0) (getting 2 0) ∷
+      small_level (codes "Stepper_i") Implementation 1 ((1, 0) ∷ []) (stepping 1) (getting 3 1) ∷ [];
   values = [];
   extents = (0, 3) ∷ (0, 4) ∷ [];
 }
@@ -102,8 +112,11 @@ known_at_inc =
 -- three obligations of the adder, whole
 pub record TallyAsks : Type 0 where
   -- n$1 + k : 0..10
-  pub kept : slice_get (numbered_obligations tally) 5 ≡ Some (codes "Tally_i.inc.1", (known_at_inc, between (plus (variable 1) (variable 4)) 0 10))
+  pub kept : slice_get (numbered_obligations tally) 5 ≡
+      Some (codes "Tally_i.inc.1", (known_at_inc, between (plus (variable 1) (variable 4)) 0 10))
   -- MININT <= n$1 + k
-  pub not_below : slice_get (numbered_obligations tally) 10 ≡ Some (codes "Tally_i.inc.chk.1", (known_at_inc, binary Le (literal (negsuc 2147483646)) (plus (variable 1) (variable 4))))
+  pub not_below : slice_get (numbered_obligations tally) 10 ≡
+      Some (codes "Tally_i.inc.chk.1", (known_at_inc, binary Le (literal (negsuc 2147483646)) (plus (variable 1) (variable 4))))
   -- n$1 + k <= MAXINT
-  pub not_above : slice_get (numbered_obligations tally) 11 ≡ Some (codes "Tally_i.inc.chk.2", (known_at_inc, binary Le (plus (variable 1) (variable 4)) (literal (pos 2147483647))))
+  pub not_above : slice_get (numbered_obligations tally) 11 ≡
+      Some (codes "Tally_i.inc.chk.2", (known_at_inc, binary Le (plus (variable 1) (variable 4)) (literal (pos 2147483647))))

@@ -46,15 +46,18 @@ AreEnough dev ss = AreValidForAllSizes (flattened dev).table ss → (find : Find
 
 -- where every obligation of a development is valid, it is correct
 abbrev pub ValidObligationsCarry : Type 0
-ValidObligationsCarry = (find : Finder) → IsSearch find → (dev : Development) → IsDevelopment dev → HasValidObligations dev → IsCorrectForAllSizes find dev
+ValidObligationsCarry = (find : Finder) → IsSearch find → (dev : Development) →
+    IsDevelopment dev → HasValidObligations dev → IsCorrectForAllSizes find dev
 
 -- the obligations are the same with any sizes: where there is no implementation none speaks of sizes
 abbrev pub SizesKeepObligations : Type 0
-SizesKeepObligations = (sizes : ℕ → ℕ) (dev : Development) → IsDevelopment dev → numbered_obligations (with_set_sizes sizes dev) ≡ numbered_obligations dev
+SizesKeepObligations = (sizes : ℕ → ℕ) (dev : Development) → IsDevelopment dev →
+    numbered_obligations (with_set_sizes sizes dev) ≡ numbered_obligations dev
 
 -- where each set has a size, what is correct for all sizes is correct
 abbrev pub WholeIsCorrect : Type 0
-WholeIsCorrect = (find : Finder) (dev : Development) → IsDevelopment dev → HasSizes dev.sets → IsCorrectForAllSizes find dev → IsCorrect find dev
+WholeIsCorrect = (find : Finder) (dev : Development) → IsDevelopment dev →
+    HasSizes dev.sets → IsCorrectForAllSizes find dev → IsCorrect find dev
 
 -- the counter meets what this asks
 abbrev pub CounterIsValid : Type 0
@@ -84,7 +87,8 @@ BoxesCarry = (find : Finder) → IsSearch find → (dev : Development) → IsFla
 
 -- so of every development, by that of its flattened, of which Keeps and Carries speak
 abbrev pub EveryLevelIsCarried : Type 0
-EveryLevelIsCarried = (find : Finder) → IsSearch find → (dev : Development) → IsDevelopment dev → BoxesHold find (flattened dev) → AllClean find (flattened dev) → Keeps find dev × ((j : ℕ) → suc j < length dev.levels → Carries find dev j)
+EveryLevelIsCarried = (find : Finder) → IsSearch find → (dev : Development) → IsDevelopment dev → BoxesHold find (flattened dev) →
+    AllClean find (flattened dev) → Keeps find dev × ((j : ℕ) → suc j < length dev.levels → Carries find dev j)
 
 -- what is asked beside the boxes says, together with them, that what is met is defined or fits
 abbrev pub ConditionsAreClean : Type 0
@@ -93,5 +97,7 @@ ConditionsAreClean = (find : Finder) → IsSearch find → (dev : Development) �
 
 -- the boxes of all levels are asked together: an implementation that is not carried may have a true main goal, where the machine's is false
 pub record EagerAsksTheMachine : Type 0 where
-  pub below : (find : Finder) (e : State) → IsTypedState (flattened eager).table e → AllHold find (at_state (flattened eager).table e) (unasserted_hypotheses (flattened eager) 1 0) → holds find (flattened eager).table e (operation_goal (flattened eager) 1 0) ≡ true
-  pub machine : (find : Finder) (e : State) → e 0 ≡ int (pos 0) → holds find (flattened eager).table e (operation_goal (flattened eager) 0 0) ≡ false
+  pub below : (find : Finder) (e : State) → IsTypedState (flattened eager).table e → AllHold find (at_state (flattened eager).table e)
+      (unasserted_hypotheses (flattened eager) 1 0) → holds find (flattened eager).table e (operation_goal (flattened eager) 1 0) ≡ true
+  pub machine : (find : Finder) (e : State) → e 0 ≡ int (pos 0) →
+      holds find (flattened eager).table e (operation_goal (flattened eager) 0 0) ≡ false

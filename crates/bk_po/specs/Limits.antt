@@ -39,7 +39,8 @@ pub record PassNoLimit (os : List Obligation) : Type 0 where
 -- none is too large, and there are too many sequents (limit 7), or else too many nodes (limit 14)
 pub record PassTogether (os : List Obligation) (limit : ℕ) : Type 0 where
   pub sizes : first_too_large os ≡ None
-  pub passed : ((limit ≡ 7) × (MOST_OBLIGATIONS < length (numbered os))) ⊎ ((limit ≡ 14) × (length (numbered os) ≤ MOST_OBLIGATIONS) × (MOST_NODES_TOGETHER < all_nodes os))
+  pub passed : ((limit ≡ 7) × (MOST_OBLIGATIONS < length (numbered os)))
+      ⊎ ((limit ≡ 14) × (length (numbered os) ≤ MOST_OBLIGATIONS) × (MOST_NODES_TOGETHER < all_nodes os))
 
 -- what a fault says of the obligations
 abbrev pub IsFaultOf : List Obligation → PoFault → Type 0

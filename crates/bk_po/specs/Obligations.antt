@@ -8,7 +8,8 @@ use Rattle.bk_form.specs.Table.{Table}
 use Rattle.bk_dev.specs.Development.{Level, Development, level_at, body_at, is_implementation, is_btrue, whole}
 use Rattle.bk_form.specs.Each.{Each}
 use Rattle.bk_dev.specs.Flattened.{flattened}
-use Rattle.bk_dev.specs.Hypotheses.{size_equations, properties_hypotheses, invariant_hypotheses, assertion_hypotheses, init_hypotheses, body_hypotheses, operation_hypotheses}
+use Rattle.bk_dev.specs.Hypotheses.{size_equations, properties_hypotheses, invariant_hypotheses}
+use Rattle.bk_dev.specs.Hypotheses.{assertion_hypotheses, init_hypotheses, body_hypotheses, operation_hypotheses}
 use Rattle.bk_form.specs.Predicates.{equation}
 use Rattle.bk_dev.specs.Claims.{arrays_at, beside}
 use Rattle.bk_gsl.specs.Substitution.{Substitution}
@@ -18,7 +19,9 @@ use Rattle.bk_wp.specs.Box.{box, diamond}
 use Rattle.bk_wp.specs.Guarded.{guarded}
 use Rattle.bk_seq.specs.Sequents.{Sequent, IsValidSequent, IsValidForAllSizes, split}
 use Rattle.bk_po.specs.declared.clause.Clause.{Clause}
-use Rattle.bk_po.specs.declared.clause.Clause.TheVariants.{PropertiesDefined, ValuesMeet, InvariantDefined, AssertionsDefined, AssertionsHold, Initialisation, InitialisationDefined, Operation, OperationDefined}
+use Rattle.bk_po.specs.declared.clause.Clause.TheVariants.{PropertiesDefined, ValuesMeet, InvariantDefined, AssertionsDefined}
+use Rattle.bk_po.specs.declared.clause.Clause.TheVariants.{AssertionsHold, Initialisation, InitialisationDefined, Operation}
+use Rattle.bk_po.specs.declared.clause.Clause.TheVariants.{OperationDefined}
 
 -- what is to be shown, before it is taken apart
 pub record Obligation : Type 0 where
@@ -62,7 +65,8 @@ values_goal dev k = replaced (looked_up dev.values) (conjunction (map (λ l. l.p
 
 -- the invariant of a level, its links, and the equality of the outputs with those above
 abbrev pub joined_goal : Level → List ℕ → List ℕ → Formula
-joined_goal l outputs above = conjunction (l.invariant ∷ conjunction (map equation l.links) ∷ conjunction (map equation (beside outputs above)) ∷ [])
+joined_goal l outputs above =
+    conjunction (l.invariant ∷ conjunction (map equation l.links) ∷ conjunction (map equation (beside outputs above)) ∷ [])
 
 -- the same by the number of the level
 abbrev pub joining_goal : Development → ℕ → List ℕ → List ℕ → Formula
@@ -77,7 +81,8 @@ init_goal dev (suc j) = box dev.table (level_at dev (suc j)).init (diamond dev.t
 -- which is taken without its outermost precondition
 abbrev pub operation_goal : Development → ℕ → ℕ → Formula
 operation_goal dev zero o = box dev.table (body_at dev zero o).sub (level_at dev zero).invariant
-operation_goal dev (suc j) o = box dev.table (whole (body_at dev (suc j) o)) (diamond dev.table (body_at dev j o).sub (joining_goal dev (suc j) (body_at dev (suc j) o).outputs (body_at dev j o).outputs))
+operation_goal dev (suc j) o = box dev.table (whole (body_at dev (suc j) o))
+    (diamond dev.table (body_at dev j o).sub (joining_goal dev (suc j) (body_at dev (suc j) o).outputs (body_at dev j o).outputs))
 
 -- ---- the list
 -- 0 to n - 1
@@ -142,7 +147,8 @@ obligation name hypotheses goal = record { name = name; hypotheses = hypotheses;
 
 -- the obligation of a clause at level k, named Component.clause
 abbrev pub obligation_of : Development → ℕ → Clause → Obligation
-obligation_of dev k clause = obligation ((level_at dev k).name ++ codes "." ++ clause_name dev k clause) (hypotheses_of dev k clause) (goal_of dev k clause)
+obligation_of dev k clause =
+    obligation ((level_at dev k).name ++ codes "." ++ clause_name dev k clause) (hypotheses_of dev k clause) (goal_of dev k clause)
 
 -- of one level
 abbrev pub level_obligations : Development → ℕ → List Obligation

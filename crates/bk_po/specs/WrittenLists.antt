@@ -1,11 +1,12 @@
--- The obligations of three small projects, written out by hand: a number that leaves the machine's range, two numbers that change places, and
--- an array that is filled by a loop.
+-- The obligations of three small projects, written out by hand: a number that leaves the
+-- machine's range, two numbers that change places, and an array that is filled by a loop.
 use Rattle.std.specs.Prelude.{◌≡◌, ℕ, pos, negsuc, List, [], ◌∷◌, codes}
 use Rattle.bk_val.specs.ValueType.{ValueType, int_type, pair_type, set_type}
 use Rattle.bk_form.specs.Table.{Table, VariableEntry}
 use Rattle.bk_form.specs.Formula.{Formula, variable, bound, literal, named, btrue, unary, binary, for_all, for_some}
 use Rattle.bk_form.specs.declared.operator.UnOp.TheVariants.{Not, Dom, Single}
-use Rattle.bk_form.specs.declared.operator.BinOp.TheVariants.{And, Imp, Eq, Lt, Le, In, PartialFunctions, TotalFunctions, Times, Over, Maps, Range, Add, Sub, Apply}
+use Rattle.bk_form.specs.declared.operator.BinOp.TheVariants.{And, Imp, Eq, Lt, Le, In, PartialFunctions, TotalFunctions}
+use Rattle.bk_form.specs.declared.operator.BinOp.TheVariants.{Times, Over, Maps, Range, Add, Sub, Apply}
 use Rattle.bk_form.specs.declared.operator.Domain.TheVariants.{Integer, Natural}
 use Rattle.bk_gsl.specs.Substitution.{Substitution, assign, any, seq, par, loop}
 use Rattle.bk_dev.specs.declared.kind.Kind.TheVariants.{Machine, Implementation}
@@ -68,8 +69,28 @@ over = record {
   sets = [];
   heads = plain_head (codes "over") 0 ∷ [];
   levels =
-      record { name = codes "Over"; kind = Machine; vars = 0 ∷ []; properties = btrue; invariant = is_whole (variable 0); links = []; assertions = []; init = becomes 0 (number 0); bodies = plain_body (becomes 0 (number 2147483648)) [] ∷ [] } ∷
-      record { name = codes "Over_i"; kind = Implementation; vars = 1 ∷ []; properties = btrue; invariant = is_whole (variable 1); links = (1, 0) ∷ []; assertions = []; init = becomes 1 (number 0); bodies = plain_body (seq (becomes 1 greatest) (becomes 1 (binary Add (variable 1) (number 1)))) [] ∷ [] } ∷ [];
+      record {
+        name = codes "Over";
+        kind = Machine;
+        vars = 0 ∷ [];
+        properties = btrue;
+        invariant = is_whole (variable 0);
+        links = [];
+        assertions = [];
+        init = becomes 0 (number 0);
+        bodies = plain_body (becomes 0 (number 2147483648)) [] ∷ [];
+      } ∷
+      record {
+        name = codes "Over_i";
+        kind = Implementation;
+        vars = 1 ∷ [];
+        properties = btrue;
+        invariant = is_whole (variable 1);
+        links = (1, 0) ∷ [];
+        assertions = [];
+        init = becomes 1 (number 0);
+        bodies = plain_body (seq (becomes 1 greatest) (becomes 1 (binary Add (variable 1) (number 1)))) [] ∷ [];
+      } ∷ [];
   values = [];
   extents = (0, 1) ∷ (0, 2) ∷ [];
 }
@@ -103,7 +124,9 @@ is_small e = from_to e 0 100
 abbrev pub swap_table : Table
 swap_table = record {
   sets = [];
-  variables = whole_number (codes "x$0") ∷ whole_number (codes "y$0") ∷ whole_number (codes "x$1") ∷ whole_number (codes "y$1") ∷ whole_number (codes "a$0") ∷ whole_number (codes "b$0") ∷ whole_number (codes "a$1") ∷ whole_number (codes "b$1") ∷ whole_number (codes "t") ∷ [];
+  variables = whole_number (codes "x$0") ∷ whole_number (codes "y$0") ∷ whole_number (codes "x$1") ∷
+      whole_number (codes "y$1") ∷ whole_number (codes "a$0") ∷ whole_number (codes "b$0") ∷
+      whole_number (codes "a$1") ∷ whole_number (codes "b$1") ∷ whole_number (codes "t") ∷ [];
 }
 
 -- x, y := 1, 2 at first; swap = x := y || y := x, and VAR t IN t := x ; x := y ; y := t END; a, b <-- both = a, b := x, y
@@ -124,7 +147,8 @@ swap = record {
         links = [];
         assertions = [];
         init = assign ((0, number 1) ∷ (1, number 2) ∷ []);
-        bodies = plain_body (par (becomes 0 (variable 1)) (becomes 1 (variable 0))) [] ∷ plain_body (assign ((4, variable 0) ∷ (5, variable 1) ∷ [])) (4 ∷ 5 ∷ []) ∷ [];
+        bodies = plain_body (par (becomes 0 (variable 1)) (becomes 1 (variable 0))) [] ∷
+            plain_body (assign ((4, variable 0) ∷ (5, variable 1) ∷ [])) (4 ∷ 5 ∷ []) ∷ [];
       } ∷
       record {
         name = codes "Swap_i";
@@ -153,11 +177,13 @@ known_below = is_small (variable 0) ∷ is_small (variable 1) ∷ is_small (vari
 
 -- !c.(c = x => y : 0..100 & c : 0..100)
 abbrev pub swap_kept : Formula
-swap_kept = for_all (int_type ∷ []) (binary Imp (binary Eq (bound 0) (variable 0)) (binary And (is_small (variable 1)) (is_small (bound 0))))
+swap_kept =
+    for_all (int_type ∷ []) (binary Imp (binary Eq (bound 0) (variable 0)) (binary And (is_small (variable 1)) (is_small (bound 0))))
 
 -- !t.#c.(c = x$0 & ((y$1 : 0..100 & x$1 : 0..100) & (y$1 = y$0 & x$1 = c)))
 abbrev pub swap_answered : Formula
-swap_answered = for_all (int_type ∷ []) (for_some (int_type ∷ []) (binary And (binary Eq (bound 0) (variable 0)) (binary And (binary And (is_small (variable 3)) (is_small (variable 2))) (binary And (same 3 1) (binary Eq (variable 2) (bound 0))))))
+swap_answered = for_all (int_type ∷ []) (for_some (int_type ∷ []) (binary And (binary Eq (bound 0) (variable 0))
+    (binary And (binary And (is_small (variable 3)) (is_small (variable 2))) (binary And (same 3 1) (binary Eq (variable 2) (bound 0))))))
 
 -- its sixteen obligations
 abbrev pub SwapHasThese : Type 0
@@ -196,7 +222,8 @@ all_are value = binary Times (up_to (number 0) (number 9)) (unary Single (number
 abbrev pub so_far : Formula → Formula → Formula → Formula → Formula
 so_far i f under_i under_f =
     binary And (binary And (from_to i 0 10) (is_array f))
-    (for_all (int_type ∷ []) (binary Imp (binary In (bound 0) (up_to (number 0) (binary Sub under_i (number 1)))) (binary Eq (binary Apply under_f (bound 0)) (number 7))))
+    (for_all (int_type ∷ []) (binary Imp (binary In (bound 0) (up_to (number 0) (binary Sub under_i (number 1))))
+    (binary Eq (binary Apply under_f (bound 0)) (number 7))))
 
 -- f <+ {i |-> 7}
 abbrev pub with_seven : Formula → Formula → Formula
@@ -208,13 +235,15 @@ next e = binary Add e (number 1)
 
 -- WHILE i < 10 DO tab(i) := 7 ; i := i + 1 INVARIANT .. VARIANT 10 - i END
 abbrev pub filling : Substitution
-filling = loop (binary Lt (variable 5) (number 10)) (seq (becomes 1 (with_seven (variable 1) (variable 5))) (becomes 5 (next (variable 5)))) (so_far (variable 5) (variable 1) (variable 5) (variable 1)) (binary Sub (number 10) (variable 5))
+filling = loop (binary Lt (variable 5) (number 10)) (seq (becomes 1 (with_seven (variable 1) (variable 5))) (becomes 5 (next (variable 5))))
+    (so_far (variable 5) (variable 1) (variable 5) (variable 1)) (binary Sub (number 10) (variable 5))
 
 -- f$0, tab$1, the input i, the outputs r$0 and r$1, and the local i
 abbrev pub fill_table : Table
 fill_table = record {
   sets = [];
-  variables = record { text = codes "f$0"; of_type = functions } ∷ record { text = codes "tab$1"; of_type = functions } ∷ whole_number (codes "i") ∷ whole_number (codes "r$0") ∷ whole_number (codes "r$1") ∷ whole_number (codes "i") ∷ [];
+  variables = record { text = codes "f$0"; of_type = functions } ∷ record { text = codes "tab$1"; of_type = functions } ∷
+      whole_number (codes "i") ∷ whole_number (codes "r$0") ∷ whole_number (codes "r$1") ∷ whole_number (codes "i") ∷ [];
 }
 
 -- fill = f := (0..9) * {7}, and VAR i IN i := 0 ; WHILE .. END END; r <-- read(i) = PRE i : 0..9 THEN r := f(i) END, and r := tab(i)
@@ -235,7 +264,11 @@ fill = record {
         links = [];
         assertions = [];
         init = becomes 0 (all_are 0);
-        bodies = plain_body (becomes 0 (all_are 7)) [] ∷ record { condition = from_to (variable 2) 0 9; sub = becomes 3 (binary Apply (variable 0) (variable 2)); outputs = 3 ∷ [] } ∷ [];
+        bodies = plain_body (becomes 0 (all_are 7)) [] ∷ record {
+          condition = from_to (variable 2) 0 9;
+          sub = becomes 3 (binary Apply (variable 0) (variable 2));
+          outputs = 3 ∷ [];
+        } ∷ [];
       } ∷
       record {
         name = codes "Table_i";
@@ -246,7 +279,8 @@ fill = record {
         links = [];
         assertions = [];
         init = becomes 1 (all_are 0);
-        bodies = plain_body (any (5 ∷ []) (seq (becomes 5 (number 0)) filling)) [] ∷ plain_body (becomes 4 (binary Apply (variable 1) (variable 2))) (4 ∷ []) ∷ [];
+        bodies = plain_body (any (5 ∷ []) (seq (becomes 5 (number 0)) filling)) [] ∷
+            plain_body (becomes 4 (binary Apply (variable 1) (variable 2))) (4 ∷ []) ∷ [];
       } ∷ [];
   values = [];
   extents = (0, 4) ∷ (0, 6) ∷ [];
@@ -258,7 +292,8 @@ known_fill = is_array (variable 0) ∷ is_array (variable 1) ∷ same 1 0 ∷ []
 
 -- what is known where an element is read: the arrays are linked and the index is in range
 abbrev pub known_read : List Formula
-known_read = is_array (variable 0) ∷ is_array (variable 1) ∷ same 1 0 ∷ from_to (variable 2) 0 9 ∷ binary In (variable 2) (up_to least greatest) ∷ []
+known_read =
+    is_array (variable 0) ∷ is_array (variable 1) ∷ same 1 0 ∷ from_to (variable 2) 0 9 ∷ binary In (variable 2) (up_to least greatest) ∷ []
 
 -- what the loop writes, tab and then i
 abbrev pub over_both : Formula → Formula
@@ -276,27 +311,36 @@ going = binary And so_far_there (binary Lt (bound 0) (number 10))
 abbrev pub filled : Formula
 filled = for_all (int_type ∷ [])
     (binary And (binary And (binary And (binary And (so_far (number 0) (variable 1) (number 0) (variable 1))
-    (over_both (binary Imp going (so_far (next (bound 0)) (with_seven (bound 1) (bound 0)) (next (bound 1)) (with_seven (bound 2) (bound 1))))))
+    (over_both
+    (binary Imp going (so_far (next (bound 0)) (with_seven (bound 1) (bound 0)) (next (bound 1)) (with_seven (bound 2) (bound 1))))))
     (over_both (binary Imp going (binary In (binary Sub (number 10) (bound 0)) (named Natural)))))
     (over_both (binary Imp going (binary Lt (binary Sub (number 10) (next (bound 0))) (binary Sub (number 10) (bound 0))))))
-    (over_both (binary Imp (binary And so_far_there (unary Not (binary Lt (bound 0) (number 10)))) (binary And (is_array (bound 1)) (binary Eq (bound 1) (all_are 7))))))
+    (over_both (binary Imp (binary And so_far_there (unary Not (binary Lt (bound 0) (number 10))))
+    (binary And (is_array (bound 1)) (binary Eq (bound 1) (all_are 7))))))
 
 -- what it is asked beside them
 abbrev pub filled_in_range : Formula
 filled_in_range = for_all (int_type ∷ [])
     (binary And
     (over_both (binary Imp (binary And (from_to (bound 0) 0 10) (is_array (bound 1)))
-    (for_all (int_type ∷ []) (binary Imp (binary In (bound 0) (up_to (number 0) (binary Sub (bound 1) (number 1)))) (binary And (binary In (bound 2) (binary PartialFunctions (named Integer) (named Integer))) (binary In (bound 0) (unary Dom (bound 2))))))))
+    (for_all (int_type ∷ []) (binary Imp (binary In (bound 0) (up_to (number 0) (binary Sub (bound 1) (number 1)))) (binary And
+    (binary In (bound 2) (binary PartialFunctions (named Integer) (named Integer))) (binary In (bound 0) (unary Dom (bound 2))))))))
     (over_both (binary Imp so_far_there (binary Imp (binary Lt (bound 0) (number 10))
-    (binary And (binary And (binary Le (number 0) (bound 0)) (binary Le (bound 0) (number 9))) (binary And (binary Le least (next (bound 0))) (binary Le (next (bound 0)) greatest)))))))
+    (binary And (binary And (binary Le (number 0) (bound 0)) (binary Le (bound 0) (number 9)))
+    (binary And (binary Le least (next (bound 0))) (binary Le (next (bound 0)) greatest)))))))
 
 -- its fourteen obligations
 abbrev pub FillHasThese : Type 0
 FillHasThese = numbered_obligations fill ≡
     (codes "Table.INITIALISATION.1", ([], is_array (all_are 0))) ∷
     (codes "Table.fill.1", (is_array (variable 0) ∷ [], is_array (all_are 7))) ∷
-    (codes "Table.read.1", (is_array (variable 0) ∷ from_to (variable 2) 0 9 ∷ [], is_array (variable 0))) ∷
-    (codes "Table.read.wd.1", (is_array (variable 0) ∷ from_to (variable 2) 0 9 ∷ [], binary In (variable 0) (binary PartialFunctions (named Integer) (named Integer)))) ∷
+    (codes "Table.read.1", (is_array (variable 0) ∷ from_to (variable 2) 0 9 ∷ [], is_array (variable 0))) ∷ (
+      codes "Table.read.wd.1",
+      (
+        is_array (variable 0) ∷ from_to (variable 2) 0 9 ∷ [],
+        binary In (variable 0) (binary PartialFunctions (named Integer) (named Integer)),
+      ),
+    ) ∷
     (codes "Table.read.wd.2", (is_array (variable 0) ∷ from_to (variable 2) 0 9 ∷ [], binary In (variable 2) (unary Dom (variable 0)))) ∷
     (codes "Table_i.INITIALISATION.1", ([], is_array (all_are 0))) ∷
     (codes "Table_i.INITIALISATION.2", ([], binary Eq (all_are 0) (all_are 0))) ∷

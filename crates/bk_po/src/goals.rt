@@ -14,7 +14,8 @@ ghost use Rattle.bk_wp.specs.declared.error.WpFault.TheVariants.{TooLarge};
 ghost use Rattle.bk_dev.specs.Development.{is_btrue, whole, level_at, body_at};
 ghost use Rattle.bk_form.specs.Predicates.{equation};
 ghost use Rattle.bk_dev.specs.Claims.{beside};
-ghost use Rattle.bk_po.specs.Obligations.{joined_onto, conjunction, each_after, defined_in_turn, values_goal, joined_goal, init_goal, operation_goal, evaluation_goal, goal_of};
+ghost use Rattle.bk_po.specs.Obligations.{joined_onto, conjunction, each_after, defined_in_turn, values_goal};
+ghost use Rattle.bk_po.specs.Obligations.{joined_goal, init_goal, operation_goal, evaluation_goal, goal_of};
 ghost use Rattle.bk_po.specs.Supposed.{FitsClause};
 
 use crate::clause::Clause;

@@ -2,7 +2,9 @@
 
 ghost use Rattle.bk_po.specs.Examples.{TallyAsks};
 ghost use Rattle.bk_po.specs.WrittenLists.{OverHasThese, SwapHasThese, FillHasThese};
-ghost use Rattle.bk_po.specs.Laws.{CounterHasThese, CounterIsValid, ExamplesAreDevelopments, ValidObligationsCarry, SizesKeepObligations, WholeIsCorrect, ObligationsType, BoxesCarry, EveryLevelIsCarried, ConditionsAreClean, EagerAsksTheMachine};
+ghost use Rattle.bk_po.specs.Laws.{CounterHasThese, CounterIsValid, ExamplesAreDevelopments, ValidObligationsCarry};
+ghost use Rattle.bk_po.specs.Laws.{SizesKeepObligations, WholeIsCorrect, ObligationsType, BoxesCarry};
+ghost use Rattle.bk_po.specs.Laws.{EveryLevelIsCarried, ConditionsAreClean, EagerAsksTheMachine};
 
 /// The obligations of a counter, to be checked by hand.
 pub fn counter()

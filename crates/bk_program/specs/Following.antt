@@ -22,7 +22,8 @@ ValidObligationsFollow =
 -- and so it does where each is obvious or has a replayed proof
 abbrev pub ProvedDevelopmentsFollow : Type 0
 ProvedDevelopmentsFollow =
-    (find : Finder) → IsSearch find → (dev : Development) (scripts : List RawScript) → IsDevelopment dev → IsB0Development dev → AreProved dev scripts →
+    (find : Finder) → IsSearch find → (dev : Development) (scripts : List RawScript) →
+    IsDevelopment dev → IsB0Development dev → AreProved dev scripts →
     Follows find dev (translation dev)
 
 -- a development in B0 whose status table, with these scripts, has no open row
@@ -38,8 +39,8 @@ abbrev pub ClosedTablesFollow : Type 0
 ClosedTablesFollow = (find : Finder) → IsSearch find → (dev : Development) (scripts : List RawScript) → HasClosedTable dev scripts →
     Follows find dev (translation dev) × EndsWithoutLoops find dev (translation dev)
 
--- the exchange, with || at the machine, and with a fill, VAR, a loop and an array that is read in its code: its obligations are valid, and so
--- its translation follows it
+-- the exchange, with || at the machine, and with a fill, VAR, a loop and an array that
+-- is read in its code: its obligations are valid, and so its translation follows it
 pub record ExchangeIsRight : Type 0 where
   pub valid : HasValidObligations exchange
   pub follows : (find : Finder) → IsSearch find → Follows find exchange (translation exchange)

@@ -27,7 +27,8 @@ HasOneAnswer =
 -- and where files hold bytes it cannot be that they have none
 abbrev pub HasSomeAnswer : Type 0
 HasSomeAnswer =
-    (files : Files) (words : List (List ℕ)) → HoldBytes files → ((status : Status) (text : List ℕ) → IsAnswer files words status text → ⊥) → ⊥
+    (files : Files) (words : List (List ℕ)) → HoldBytes files →
+    ((status : Status) (text : List ℕ) → IsAnswer files words status text → ⊥) → ⊥
 
 -- words that ask to build a project, to run it, and to run an image, with one call script and one fuel
 pub record AskOfOne (build_words run_words exec_words : List (List ℕ)) (project image calls : List ℕ) (fuel : ℕ) : Type 0 where
@@ -56,7 +57,8 @@ BuiltImagesRun =
 -- at fault
 abbrev pub ProjectsEnd : Type 0
 ProjectsEnd =
-    (files : Files) (project : List ℕ) (dev : Development) (scripts : List RawScript) → ReadsProject true files project dev scripts → IsFinished dev scripts →
+    (files : Files) (project : List ℕ) (dev : Development) (scripts : List RawScript) →
+    ReadsProject true files project dev scripts → IsFinished dev scripts →
     (find : Finder) → IsSearch find → EndsWithoutLoops find dev (translation dev)
 
 -- of a session of a project the initialisation, and each call that is legal after those before it, leaves cells that are linked to a state
@@ -69,4 +71,5 @@ LegalCallsAreDone =
     Session (translation ready.dev) fuel ready.requests tolds → (find : Finder) → IsSearch find →
     LegalCallsEndWell find ready.dev fuel ready.requests tolds ×
     (AreLegal find ready.dev ready.requests tolds →
-    (session_status tolds ≢ Trapped) × (RunNoLoop ready.dev ready.requests → length (translation ready.dev).code ≤ fuel → session_status tolds ≡ Done))
+    (session_status tolds ≢ Trapped)
+    × (RunNoLoop ready.dev ready.requests → length (translation ready.dev).code ≤ fuel → session_status tolds ≡ Done))

@@ -61,7 +61,8 @@ WouldEnd image fuel start _ = Unit {0}
 
 -- a call of an operation of the image that is out of fuel would end
 abbrev pub CallWouldEnd : Image → ℕ → Request → List ℤ → Told → Type 0
-CallWouldEnd image fuel request cells told = (entry : OpEntry) → IsEntry image request.op entry → WouldEnd image fuel (call_start entry request.args cells) told.end
+CallWouldEnd image fuel request cells told = (entry : OpEntry) → IsEntry image request.op entry →
+    WouldEnd image fuel (call_start entry request.args cells) told.end
 
 -- what ends so is done, where the fuel is at least so many steps
 abbrev pub IsDoneWithin : ℕ → ℕ → End → Type 0
@@ -70,7 +71,8 @@ IsDoneWithin size fuel end = size ≤ fuel → (n : ℕ) × (end ≡ Done n)
 -- a call of an operation that has no WHILE is done with a fuel of at least the length of its code, Ret included
 abbrev pub CallEndsInTime : Development → ℕ → Request → List ℤ → Told → Type 0
 CallEndsInTime dev fuel request cells told =
-    HasNoLoop (body_at dev (last dev) request.op).sub → IsDoneWithin (length (operation_code dev (body_at dev (last dev) request.op))) fuel told.end
+    HasNoLoop (body_at dev (last dev) request.op).sub →
+    IsDoneWithin (length (operation_code dev (body_at dev (last dev) request.op))) fuel told.end
 
 -- what is done leaves cells that are linked to one of these states of the machine
 abbrev pub LeavesLinked : Finder → Development → (Abstract → Type 0) → Told → Type 0
@@ -79,7 +81,8 @@ LeavesLinked find dev states told = (n : ℕ) → told.end ≡ Done n → (a : A
 -- a call on these cells, before which the machine may be in these states: where it is done, the machine steps from one of them, with the
 -- replies that are told, to a state that is linked to the cells; it does not trap, out of fuel it would be done with more, and without
 -- WHILE it is done with a fuel of at least the length of its code
-pub record CallEndsWell (find : Finder) (dev : Development) (fuel : ℕ) (before : Abstract → Type 0) (request : Request) (cells : List ℤ) (told : Told) : Type 0 where
+pub record CallEndsWell (find : Finder) (dev : Development) (fuel : ℕ) (before : Abstract →
+    Type 0) (request : Request) (cells : List ℤ) (told : Told) : Type 0 where
   pub answers : LeavesLinked find dev (After find dev before (call_of dev request) (reply_of dev request told)) told
   pub untrapped : IsUntrapped told.end
   pub more : CallWouldEnd (translation dev) fuel request cells told
@@ -95,14 +98,17 @@ pub record InitialisationEndsWell (find : Finder) (dev : Development) (fuel : �
 -- call by call: where a call's precondition is true in every state of before, Holds is so of it, from these states and on the cells that
 -- the one before it left, and so on from the states that it steps to with its replies; after a call that is not legal nothing is said, and
 -- after one that is not done nothing is told
-abbrev pub EachLegalCall : Finder → Development → ((Abstract → Type 0) → Request → List ℤ → Told → Type 0) → (Abstract → Type 0) → List ℤ → List Request → List Told → Type 0
+abbrev pub EachLegalCall : Finder → Development → ((Abstract → Type 0) → Request → List ℤ → Told → Type 0) →
+    (Abstract → Type 0) → List ℤ → List Request → List Told → Type 0
 EachLegalCall find dev Holds before cells (request ∷ requests) (told ∷ tolds) =
     ((a : Abstract) → before a → Pre find dev (call_of dev request) a) →
-    Holds before request cells told × EachLegalCall find dev Holds (After find dev before (call_of dev request) (reply_of dev request told)) told.cells requests tolds
+    Holds before request cells told
+    × EachLegalCall find dev Holds (After find dev before (call_of dev request) (reply_of dev request told)) told.cells requests tolds
 EachLegalCall find dev Holds before cells _ _ = Unit {0}
 
 -- the initialisation ends well, and so does each call that is legal after those before it, whatever comes after it: up to the first call
 -- whose precondition may be false the replies are those of a run of the machine
 abbrev pub LegalCallsEndWell : Finder → Development → ℕ → List Request → List Told → Type 0
 LegalCallsEndWell find dev fuel requests [] = Unit {0}
-LegalCallsEndWell find dev fuel requests (told ∷ tolds) = InitialisationEndsWell find dev fuel told × EachLegalCall find dev (CallEndsWell find dev fuel) (Opens find dev) told.cells requests tolds
+LegalCallsEndWell find dev fuel requests (told ∷ tolds) = InitialisationEndsWell find dev fuel told
+    × EachLegalCall find dev (CallEndsWell find dev fuel) (Opens find dev) told.cells requests tolds

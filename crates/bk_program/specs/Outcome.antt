@@ -29,15 +29,19 @@ devices files written read_faults write_faults absences =
 
 -- what the program says of these words by its status, between these devices before and after it
 pub record Outcome (words : List (List ℕ)) (old new : Devices) (status : Status) : Type 0 where
-  pub run : (project calls : List ℕ) (fuel : ℕ) → Asks words (run_task project calls fuel) → IsExecuted status → (files : Files) → old.files ≡ Some files →
+  pub run : (project calls : List ℕ) (fuel : ℕ) → Asks words (run_task project calls fuel) →
+      IsExecuted status → (files : Files) → old.files ≡ Some files →
       WritesRun files project calls fuel old.written new.written status
-  pub legal : (project calls : List ℕ) (fuel : ℕ) → Asks words (run_task project calls fuel) → IsAnswered status → (files : Files) → old.files ≡ Some files →
+  pub legal : (project calls : List ℕ) (fuel : ℕ) → Asks words (run_task project calls fuel) →
+      IsAnswered status → (files : Files) → old.files ≡ Some files →
       IsDoneWhereLegal files project calls fuel status
-  pub ready : (project calls : List ℕ) (fuel : ℕ) → Asks words (run_task project calls fuel) → IsAnswered status → (files : Files) → old.files ≡ Some files →
+  pub ready : (project calls : List ℕ) (fuel : ℕ) → Asks words (run_task project calls fuel) →
+      IsAnswered status → (files : Files) → old.files ≡ Some files →
       IsReady files project calls → IsExecuted status
   pub answer : IsAnswered status → (files : Files) → old.files ≡ Some files → WritesAnswer files words old.written new.written status
   pub line : IsAnswered status → IsExecuted status ⊎ WritesLine status old.written new.written
-  pub cut_short : IsCutShort status → (files : Files) → old.files ≡ Some files → (other : Status) (text : List ℕ) → IsAnswer files words other text →
+  pub cut_short : IsCutShort status → (files : Files) → old.files ≡ Some files →
+      (other : Status) (text : List ℕ) → IsAnswer files words other text →
       WroteFront text old.written new.written
   pub read_fault : status ≡ ReadFault → Rose old.read_faults new.read_faults × (new.written ≡ old.written)
   pub write_fault : status ≡ WriteFault → Rose old.write_faults new.write_faults

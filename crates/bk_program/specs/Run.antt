@@ -31,7 +31,8 @@ pub record FollowsRun (files : Files) (project calls : List ℕ) (fuel : ℕ) (s
   pub dev : Development
   pub scripts : List RawScript
   pub reads : ReadsProject true files project dev scripts
-  pub only : (other : Development) (others : List RawScript) → ReadsProject true files project other others → (other ≡ dev) × (others ≡ scripts)
+  pub only : (other : Development) (others : List RawScript) →
+      ReadsProject true files project other others → (other ≡ dev) × (others ≡ scripts)
   -- each obligation is proved, and the text is the transcript of the translation's session
   pub run : IsRun files calls fuel dev scripts status text
   -- for every search: up to the first call whose precondition may be false the replies are those of a run of the abstract
@@ -56,7 +57,8 @@ pub record WritesRun (files : Files) (project calls : List ℕ) (fuel : ℕ) (ol
 -- least the length of the whole code
 abbrev pub IsDoneWhereLegal : Files → (project calls : List ℕ) (fuel : ℕ) → Status → Type 0
 IsDoneWhereLegal files project calls fuel status =
-    (ready : IsReady files project calls) (tolds : List Told) → Session (translation ready.dev) fuel ready.requests tolds → (find : Finder) → IsSearch find →
+    (ready : IsReady files project calls) (tolds : List Told) →
+    Session (translation ready.dev) fuel ready.requests tolds → (find : Finder) → IsSearch find →
     LegalCallsEndWell find ready.dev fuel ready.requests tolds ×
     (AreLegal find ready.dev ready.requests tolds →
     (status ≢ Trapped) × (RunNoLoop ready.dev ready.requests → length (translation ready.dev).code ≤ fuel → status ≡ Done))

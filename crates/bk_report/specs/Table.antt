@@ -37,7 +37,8 @@ count_states is_such rows = count_by (λ row. is_such row.state) rows
 abbrev pub sums_text : List Row → List ℕ
 sums_text rows =
     decimal (length rows) ++ codes " obligations: " ++ decimal (count_states is_obvious_state rows) ++ codes " obvious, " ++
-    decimal (count_states is_proved_state rows) ++ codes " proved, " ++ decimal (count_states (λ state. not (is_settled state)) rows) ++ codes " open\n"
+    decimal (count_states is_proved_state rows) ++ codes " proved, "
+    ++ decimal (count_states (λ state. not (is_settled state)) rows) ++ codes " open\n"
 
 -- a line for each row, and after them the sums
 abbrev pub table_text : List Row → List ℕ

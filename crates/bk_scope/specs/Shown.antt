@@ -19,10 +19,12 @@ use Rattle.bk_raw.specs.Meaning.Binders.{has_type}
 use Rattle.bk_elab_terms.specs.Visible.{visible_names}
 use Rattle.bk_statics.specs.Binders.{binder_count}
 use Rattle.bk_statics.specs.Components.{WrittenVariable as Written, Component as Clauses, initialisation, is_machine}
-use Rattle.bk_statics.specs.Typings.{Typing, Target as Meant, unknown, no_variable, variable_target, as_variable, numbered_old, target_in, type_at}
+use Rattle.bk_statics.specs.Typings.{Typing, Target as Meant, unknown, no_variable, variable_target}
+use Rattle.bk_statics.specs.Typings.{as_variable, numbered_old, target_in, type_at}
 use Rattle.bk_statics.specs.Ways.{Way as WayMeant, no_way, by_term, by_domain, by_conjuncts, same_as}
 use Rattle.bk_statics.specs.Above.{above_of}
-use Rattle.bk_statics.specs.Plan.{Declared as DeclaredMeant, Headed as HeadedMeant, Placed as PlacedMeant, Plan as PlanMeant, no_operation, plan, operations_of, input_count, sizes, other_sizes}
+use Rattle.bk_statics.specs.Plan.{Declared as DeclaredMeant, Headed as HeadedMeant, Placed as PlacedMeant}
+use Rattle.bk_statics.specs.Plan.{Plan as PlanMeant, no_operation, plan, operations_of, input_count, sizes, other_sizes}
 use Rattle.bk_scope.specs.declared.above.Above.{Above}
 use Rattle.bk_scope.specs.declared.component.Blank.{Blank}
 use Rattle.bk_scope.specs.declared.component.Component.{Component}
@@ -142,12 +144,17 @@ declared_shown d = record { text = d.text.now; higher = d.higher; is_concrete = 
 
 -- the header of an operation, as contracts see it
 abbrev pub headed_shown : Headed → HeadedMeant
-headed_shown h = record { operation = h.operation.now; inputs = visible_names h.inputs.items; machine_outputs = visible_names h.machine_outputs.items }
+headed_shown h =
+    record { operation = h.operation.now; inputs = visible_names h.inputs.items; machine_outputs = visible_names h.machine_outputs.items }
 
 -- an operation with the numbers of its names, as contracts see it
 abbrev pub placed_shown : Placed → PlacedMeant
 placed_shown p = record {
-  headed = record { operation = p.operation.now; inputs = visible_names p.inputs.items; machine_outputs = visible_names p.machine_outputs.items };
+  headed = record {
+    operation = p.operation.now;
+    inputs = visible_names p.inputs.items;
+    machine_outputs = visible_names p.machine_outputs.items;
+  };
   outputs_at = p.outputs_at;
   binders_at = p.binders_at;
 }
@@ -158,7 +165,8 @@ pub record IsCounted (n : Counts) (above : Development) (c : Clauses) (own : ℕ
   pub variables : n.variables_at ≡ n.constants_at + length c.constants
   pub inputs : n.inputs_at ≡ n.variables_at + own
   pub outputs : n.outputs_at ≡ n.inputs_at + cond (is_machine c.kind) (input_count c.operations) 0
-  pub behind : n.far ≡ n.outputs_at + (binder_count (initialisation c) + (sizes above.heads c.operations + other_sizes above.heads c.operations))
+  pub behind : n.far ≡
+      n.outputs_at + (binder_count (initialisation c) + (sizes above.heads c.operations + other_sizes above.heads c.operations))
 
 -- the plan without its headers, which only a machine makes
 abbrev pub plan_shown : Plan → PlanMeant

@@ -3,7 +3,8 @@
 ghost use Rattle.std.specs.Option.{option_copied};
 ghost use Rattle.std.specs.Prelude.{◌≡◌, ◌++◌, map, cond, IfOk, OnOk, [], false, true};
 ghost use Rattle.bk_dev.specs.Development.{is_implementing};
-ghost use Rattle.bk_raw.specs.declared.component.ClauseWord.TheVariants.{Sets, Constants, Properties, Variables, ConcreteVariables, Invariant, Assertions, Values, Initialisation, Operations};
+ghost use Rattle.bk_raw.specs.declared.component.ClauseWord.TheVariants.{Sets, Constants, Properties, Variables, ConcreteVariables};
+ghost use Rattle.bk_raw.specs.declared.component.ClauseWord.TheVariants.{Invariant, Assertions, Values, Initialisation, Operations};
 ghost use Rattle.bk_statics.specs.Components as meant;
 ghost use Rattle.bk_scope.specs.Shown.{component_shown, variables_shown, skipping, is_blank};
 

@@ -7,7 +7,8 @@ ghost use Rattle.bk_elab_terms.specs.Visible.{visible_names, meaning_of};
 ghost use Rattle.bk_statics.specs.Components.{initialisation};
 ghost use Rattle.bk_statics.specs.Components as written;
 ghost use Rattle.bk_statics.specs.Plan as meant;
-ghost use Rattle.bk_scope.specs.Shown.{above_shown, component_shown, variable_shown, variables_shown, declared_shown, headed_shown, is_blank, IsCounted, placed_shown, plan_shown, refs, no_operation_of, IsPlanOf};
+ghost use Rattle.bk_scope.specs.Shown.{above_shown, component_shown, variable_shown, variables_shown, declared_shown, headed_shown};
+ghost use Rattle.bk_scope.specs.Shown.{is_blank, IsCounted, placed_shown, plan_shown, refs, no_operation_of, IsPlanOf};
 ghost use Rattle.bk_statics.specs.Typings.{numbered, or_else, variable_in};
 
 use crate::above::{Above, push_written_sets, variable_named};

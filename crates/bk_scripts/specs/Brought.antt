@@ -56,7 +56,8 @@ hidden xs = map (λ x. (x.name.text, no_variable)) xs
 
 -- what the types of new names are read in: each of these hides the set, if one has its name
 abbrev pub type_scope : Table → Development → RawScript → ScopeNames
-type_scope table dev s = record { max = int_max dev; names = own_variables table dev s ++ (own_parameters table dev s ++ hidden (new_names table dev s)) }
+type_scope table dev s =
+    record { max = int_max dev; names = own_variables table dev s ++ (own_parameters table dev s ++ hidden (new_names table dev s)) }
 
 -- the type that is written for a name, if it is one
 abbrev pub type_in : Table → ScopeNames → RawTyped → Option ValueType
@@ -99,5 +100,6 @@ numbered typed n (x ∷ xs) = (x.name.text, number_of n (typed x)) ∷ numbered 
 abbrev pub script_scope : Table → Development → RawScript → ScopeNames
 script_scope table dev s = record {
   max = int_max dev;
-  names = own_variables table dev s ++ (own_parameters table dev s ++ numbered (type_of table dev s) (length table.variables) (new_names table dev s));
+  names = own_variables table dev s
+      ++ (own_parameters table dev s ++ numbered (type_of table dev s) (length table.variables) (new_names table dev s));
 }

@@ -3,13 +3,27 @@ use Rattle.std.specs.Prelude.{◌≡◌, ◌⊎◌, ◌<◌, ◌^◌, List, leng
 use Rattle.std.specs.List.{AllZip}
 use Rattle.bk_form.specs.Table.{Table}
 use Rattle.bk_raw.specs.declared.script.RuleWord.{RuleWord}
-use Rattle.bk_raw.specs.declared.script.RuleWord.TheVariants.{Hyp as HypWord, True as TrueWord, Same as SameWord, Eval as EvalWord, False as FalseWord, Absurd as AbsurdWord, And as AndWord, Iff as IffWord, Imp as ImpWord, Not as NotWord, Left as LeftWord, Right as RightWord, Or as OrWord, Contra as ContraWord, Fix as FixWord, UseTerms as UseWord, Split as SplitWord, Cases as CasesWord, Apply as ApplyWord, Inst as InstWord, OpenSome as OpenWord, Cut as CutWord, Case as CaseWord, Drop as DropWord, Eq as EqWord, Qe as QeWord, Law as LawWord, Wal as WalWord, TypeOf as TypeWord, Neg as NegWord, Mem as MemWord, Val as ValWord, Ext as ExtWord, Sub as SubWord, Ex as ExWord, Pair as PairWord, Elems as ElemsWord, Interval as IntervalWord, Induct as InductWord, Poly as PolyWord, Lin as LinWord}
+use Rattle.bk_raw.specs.declared.script.RuleWord.TheVariants.{Hyp as HypWord, True as TrueWord, Same as SameWord, Eval as EvalWord}
+use Rattle.bk_raw.specs.declared.script.RuleWord.TheVariants.{False as FalseWord, Absurd as AbsurdWord, And as AndWord, Iff as IffWord}
+use Rattle.bk_raw.specs.declared.script.RuleWord.TheVariants.{Imp as ImpWord, Not as NotWord, Left as LeftWord, Right as RightWord}
+use Rattle.bk_raw.specs.declared.script.RuleWord.TheVariants.{Or as OrWord, Contra as ContraWord, Fix as FixWord, UseTerms as UseWord}
+use Rattle.bk_raw.specs.declared.script.RuleWord.TheVariants.{Split as SplitWord, Cases as CasesWord, Apply as ApplyWord, Inst as InstWord}
+use Rattle.bk_raw.specs.declared.script.RuleWord.TheVariants.{OpenSome as OpenWord, Cut as CutWord, Case as CaseWord, Drop as DropWord}
+use Rattle.bk_raw.specs.declared.script.RuleWord.TheVariants.{Eq as EqWord, Qe as QeWord, Law as LawWord, Wal as WalWord}
+use Rattle.bk_raw.specs.declared.script.RuleWord.TheVariants.{TypeOf as TypeWord, Neg as NegWord, Mem as MemWord, Val as ValWord}
+use Rattle.bk_raw.specs.declared.script.RuleWord.TheVariants.{Ext as ExtWord, Sub as SubWord, Ex as ExWord, Pair as PairWord}
+use Rattle.bk_raw.specs.declared.script.RuleWord.TheVariants.{Elems as ElemsWord, Interval as IntervalWord, Induct as InductWord}
+use Rattle.bk_raw.specs.declared.script.RuleWord.TheVariants.{Poly as PolyWord, Lin as LinWord}
 use Rattle.bk_raw.specs.Trees.ScriptTree.{RulePart, RawRule, RawScript}
 use Rattle.bk_kernel.specs.declared.rule.Rule.{Rule}
-use Rattle.bk_kernel.specs.declared.rule.Rule.TheVariants.{Hyp, True, Same, Eval, False, Absurd, And, Iff, Imp, Not, Left, Right, Or, Contra, Fix, UseTerms, Split, Cases, Apply, Inst, OpenSome, Cut, Case, Drop, Eq, Qe, Law, Wal, TypeOf, Neg, Mem, Val, Ext, Sub, Ex, Pair, Elems, Interval, Induct, Poly, Lin, Unread}
+use Rattle.bk_kernel.specs.declared.rule.Rule.TheVariants.{Hyp, True, Same, Eval, False, Absurd, And, Iff, Imp, Not, Left}
+use Rattle.bk_kernel.specs.declared.rule.Rule.TheVariants.{Right, Or, Contra, Fix, UseTerms, Split, Cases, Apply, Inst, OpenSome}
+use Rattle.bk_kernel.specs.declared.rule.Rule.TheVariants.{Cut, Case, Drop, Eq, Qe, Law, Wal, TypeOf, Neg, Mem, Val, Ext, Sub}
+use Rattle.bk_kernel.specs.declared.rule.Rule.TheVariants.{Ex, Pair, Elems, Interval, Induct, Poly, Lin, Unread}
 use Rattle.bk_dev.specs.Development.{Development}
 use Rattle.bk_scripts.specs.Brought.{widened, script_scope}
-use Rattle.bk_scripts.specs.Parts.{Around, NumberPart, TermPart, TermsPart, NamesPart, PlacePart, PerhapsPart, LawPart, CertificatePart, NoParts, One, Two}
+use Rattle.bk_scripts.specs.Parts.{Around, NumberPart, TermPart, TermsPart, NamesPart, PlacePart}
+use Rattle.bk_scripts.specs.Parts.{PerhapsPart, LawPart, CertificatePart, NoParts, One, Two}
 
 -- the rule that is made of what parts mean
 abbrev pub Made : {A : Type 0} → (A → Type 0) → (A → Rule) → Rule → Type 0
@@ -62,7 +76,8 @@ RuleMeans a LinWord ps r = Made (One CertificatePart ps) (λ p. Lin p.0 p.1) r
 
 -- the rule that a written one stands for: where it means nothing that is Unread, which is no step on any sequent
 abbrev pub StandsFor : Around → RawRule → Rule → Type 0
-StandsFor a written rule = RuleMeans a written.word written.parts rule ⊎ (((r : Rule) → RuleMeans a written.word written.parts r → ⊥) × (rule ≡ Unread))
+StandsFor a written rule = RuleMeans a written.word written.parts rule
+    ⊎ (((r : Rule) → RuleMeans a written.word written.parts r → ⊥) × (rule ≡ Unread))
 
 -- ---- scripts
 -- what the terms of a script are read in, where a development's variables have their numbers in this table

@@ -11,7 +11,8 @@ spelled_from n (suc k) digits = cond (bytes_eq digits (decimal n)) (Some n) (spe
 -- what a letter stands for, and how many laws have it: G, O, S and M
 abbrev pub series_of : ℕ → Option (ℕ × ℕ)
 series_of letter =
-    cond (nat_eq letter 71) (Some (0, 28)) (cond (nat_eq letter 79) (Some (100, 30)) (cond (nat_eq letter 83) (Some (200, 40)) (cond (nat_eq letter 77) (Some (300, 65)) None)))
+    cond (nat_eq letter 71) (Some (0, 28))
+    (cond (nat_eq letter 79) (Some (100, 30)) (cond (nat_eq letter 83) (Some (200, 40)) (cond (nat_eq letter 77) (Some (300, 65)) None)))
 
 -- the number of the law of a series with these digits, if there is one
 abbrev pub law_in : List ℕ → ℕ × ℕ → Option ℕ

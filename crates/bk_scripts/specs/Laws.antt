@@ -13,7 +13,8 @@ use Rattle.bk_scripts.specs.Grounding.{StandsFor}
 
 -- two rules that a written one stands for make the same of each sequent
 abbrev pub GroundedAreAlike : Type 0
-GroundedAreAlike = (a : Around) (written : RawRule) (one other : Rule) → StandsFor a written one → StandsFor a written other → (table : Table) (s : Sequent) → makes table s one ≡ makes table s other
+GroundedAreAlike = (a : Around) (written : RawRule) (one other : Rule) → StandsFor a written one →
+    StandsFor a written other → (table : Table) (s : Sequent) → makes table s one ≡ makes table s other
 
 -- a script's table has the variables and sets of the table that it is over, by their numbers
 abbrev pub WidenedIsWider : Type 0
@@ -21,4 +22,5 @@ WidenedIsWider = (table : Table) (dev : Development) (s : RawScript) → IsWider
 
 -- and is as well formed as that, if it is not past 32 bits
 abbrev pub WidenedIsWellFormed : Type 0
-WidenedIsWellFormed = (table : Table) (dev : Development) (s : RawScript) → IsWellFormed table → length (widened table dev s).variables ≤ 2 ^ 32 → IsWellFormed (widened table dev s)
+WidenedIsWellFormed = (table : Table) (dev : Development) (s : RawScript) → IsWellFormed table →
+    length (widened table dev s).variables ≤ 2 ^ 32 → IsWellFormed (widened table dev s)

@@ -8,7 +8,8 @@ use Rattle.bk_form.specs.Table.{Table}
 use Rattle.bk_raw.specs.Trees.RawTree.{RawTree}
 use Rattle.bk_raw.specs.declared.script.RawMultiple.{RawMultiple}
 use Rattle.bk_raw.specs.declared.script.RawTyped.{RawTyped}
-use Rattle.bk_raw.specs.Trees.ScriptTree.{RawPlace, in_goal, in_hypothesis, RawLine, multiples, quotient, RulePart, part_number, part_term, part_terms, part_place, part_no_place, part_typed, part_law, part_certificate}
+use Rattle.bk_raw.specs.Trees.ScriptTree.{RawPlace, in_goal, in_hypothesis, RawLine, multiples, quotient, RulePart, part_number}
+use Rattle.bk_raw.specs.Trees.ScriptTree.{part_term, part_terms, part_place, part_no_place, part_typed, part_law, part_certificate}
 use Rattle.bk_raw.specs.Meaning.Names.{found, seen}
 use Rattle.bk_raw.specs.Meaning.Printed.{type_read}
 use Rattle.bk_raw.specs.Meaning.ScopeReading.{ScopeNames, names_in, formula_in}

@@ -5,7 +5,8 @@ ghost use Rattle.std.specs.List.{AllZip};
 ghost use Rattle.bk_raw.specs.Codes.ScriptView.{place_of, line_of, part_of};
 ghost use Rattle.bk_raw.specs.Trees.ScriptTree as meant;
 ghost use Rattle.bk_scripts.specs.Finding.{IsMeaning};
-ghost use Rattle.bk_scripts.specs.Parts.{NumberMeans, NumbersMean, PlaceMeans, MultipleMeans, LineMeans, NumberPart, TermPart, TermsPart, NamesPart, PlacePart, PerhapsPart, LawPart, CertificatePart};
+ghost use Rattle.bk_scripts.specs.Parts.{NumberMeans, NumbersMean, PlaceMeans, MultipleMeans, LineMeans, NumberPart};
+ghost use Rattle.bk_scripts.specs.Parts.{TermPart, TermsPart, NamesPart, PlacePart, PerhapsPart, LawPart, CertificatePart};
 ghost use Rattle.bk_scripts.specs.Reading.{around_of};
 
 use crate::around::Around;

@@ -20,15 +20,18 @@ Weakens = (table : Table) (p goal : Formula) (hyps : List Formula) → IsValid t
 
 -- where the negated goal leads to what is never true, the goal holds
 abbrev pub Contradicts : Type 0
-Contradicts = (table : Table) (goal : Formula) (hyps : List Formula) → IsValid table (unary Not goal ∷ hyps) bfalse → IsValid table hyps goal
+Contradicts = (table : Table) (goal : Formula) (hyps : List Formula) →
+    IsValid table (unary Not goal ∷ hyps) bfalse → IsValid table hyps goal
 
 -- a sequent over a table is valid there exactly where it is valid over a wider one
 abbrev pub ValidityWidens : Type 0
-ValidityWidens = (small large : Table) → IsWellFormed small → IsWellFormed large → IsWider small large → (s : Sequent) → Types small s → IsValidSequent small s ↔ IsValidSequent large s
+ValidityWidens = (small large : Table) → IsWellFormed small → IsWellFormed large → IsWider small large →
+    (s : Sequent) → Types small s → IsValidSequent small s ↔ IsValidSequent large s
 
 -- a sequent is valid exactly where each sequent is that its goal is taken apart into
 abbrev pub SplitKeepsValidity : Type 0
-SplitKeepsValidity = (table : Table) (hyps : List Formula) (goal : Formula) → IsValid table hyps goal ↔ Each (IsValidSequent table) (split hyps goal)
+SplitKeepsValidity = (table : Table) (hyps : List Formula) (goal : Formula) →
+    IsValid table hyps goal ↔ Each (IsValidSequent table) (split hyps goal)
 
 -- ---- sets without sizes
 -- what sizes leave of sequents
@@ -38,6 +41,7 @@ pub record SizesKeepSequents : Type 0 where
   -- where each set has a size, there is one choice of them
   pub whole : (table : Table) → HasSizes table.sets → (s : Sequent) → IsValidForAllSizes table s ↔ IsValidSequent table s
   -- a wider table makes no difference
-  pub wider : (small large : Table) → IsWellFormed small → IsWellFormed large → IsWider small large → (s : Sequent) → Types small s → IsValidForAllSizes small s ↔ IsValidForAllSizes large s
+  pub wider : (small large : Table) → IsWellFormed small → IsWellFormed large → IsWider small large →
+      (s : Sequent) → Types small s → IsValidForAllSizes small s ↔ IsValidForAllSizes large s
   -- nor does it that goals are taken apart
   pub split : (table : Table) (s : Sequent) → IsValidForAllSizes table s ↔ Each (IsValidForAllSizes table) (split s.0 s.1)

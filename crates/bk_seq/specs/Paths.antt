@@ -12,7 +12,8 @@ abbrev pub with_item : {A : Type 0} → List A → ℕ → A → List A
 with_item xs zero x = xs
 with_item xs (suc n) x = slice_set xs n x
 
--- the parts that a path may enter: the left and the right side, a single operand, the ranges of a comprehension or lambda; never a binder's body
+-- the parts that a path may enter: the left and the right side, a single
+-- operand, the ranges of a comprehension or lambda; never a binder's body
 abbrev pub children : Formula → List Formula
 children (unary o a) = a ∷ []
 children (binary o a b) = a ∷ b ∷ []

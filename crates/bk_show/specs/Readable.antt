@@ -2,7 +2,8 @@
 use Rattle.std.specs.Prelude.{◌≡◌, ℕ, suc, ◌+◌, ◌<◌, ◌^◌, ◌⊎◌, ℤ, pos, negsuc, List, [], ◌∷◌, length, None}
 use Rattle.bk_val.specs.ValueType.{ValueType, enum_type, pair_type, set_type}
 use Rattle.bk_form.specs.Table.{Table}
-use Rattle.bk_form.specs.Formula.{Formula, variable, bound, literal, element, empty_set, named, unary, binary, for_all, for_some, comprehension, lambda, Formulas, no_formulas, formula_and}
+use Rattle.bk_form.specs.Formula.{Formula, variable, bound, literal, element, empty_set, named, unary, binary}
+use Rattle.bk_form.specs.Formula.{for_all, for_some, comprehension, lambda, Formulas, no_formulas, formula_and}
 use Rattle.bk_form.specs.declared.operator.Domain.{Domain}
 use Rattle.bk_form.specs.declared.operator.Domain.TheVariants.{Enum}
 use Rattle.bk_lex.specs.Lexis.{IsIdentifier, word_number}
@@ -59,7 +60,8 @@ abbrev mutual
   IsReadable table d (for_all ts p) = AllSetsAreNamed table ts × (d + length ts < 2 ^ 32) × IsReadable table (d + length ts) p
   IsReadable table d (for_some ts p) = AllSetsAreNamed table ts × (d + length ts < 2 ^ 32) × IsReadable table (d + length ts) p
   IsReadable table d (comprehension rs p) = AreReadable table d rs × (d + count rs < 2 ^ 32) × IsReadable table (d + count rs) p
-  IsReadable table d (lambda rs p e) = AreReadable table d rs × (d + count rs < 2 ^ 32) × IsReadable table (d + count rs) p × IsReadable table (d + count rs) e
+  IsReadable table d (lambda rs p e) = AreReadable table d rs × (d + count rs < 2 ^ 32)
+      × IsReadable table (d + count rs) p × IsReadable table (d + count rs) e
   IsReadable table d _ = Unit {0}
 
   pub AreReadable : Table → ℕ → Formulas → Type 0

@@ -1,31 +1,51 @@
 -- What a formula prints as: a list of items, and their text. The form of the text is this project's own; what the signs mean is the
 -- B Language Reference Manual's, and in addition there are `$k`, `{:T}`, and types and ranges of bound variables where they are bound.
-use Rattle.std.specs.Prelude.{ℕ, zero, suc, ◌+◌, ◌-◌, ℤ, pos, negsuc, Bool, true, false, cond, not, nat_eq, List, [], ◌∷◌, ◌++◌, length, Option, None, Some}
+use Rattle.std.specs.Prelude.{ℕ, zero, suc, ◌+◌, ◌-◌, ℤ, pos, negsuc, Bool, true, false, cond}
+use Rattle.std.specs.Prelude.{not, nat_eq, List, [], ◌∷◌, ◌++◌, length, Option, None, Some}
 use Rattle.std.specs.List.{slice_get}
 use Rattle.bk_val.specs.ValueType.{ValueType, int_type, bool_type, enum_type, pair_type, set_type}
 use Rattle.bk_form.specs.Table.{Table, set_name, set_elements, variable_text}
-use Rattle.bk_form.specs.Formula.{Formula, variable, bound, literal, truth_value, element, empty_set, named, btrue, bfalse, unary, binary, for_all, for_some, comprehension, lambda, Formulas, no_formulas, formula_and}
+use Rattle.bk_form.specs.Formula.{Formula, variable, bound, literal, truth_value, element, empty_set, named, btrue, bfalse}
+use Rattle.bk_form.specs.Formula.{unary, binary, for_all, for_some, comprehension, lambda, Formulas, no_formulas, formula_and}
 use Rattle.bk_form.specs.Replacement.{count}
 use Rattle.bk_form.specs.declared.operator.UnOp.{UnOp}
-use Rattle.bk_form.specs.declared.operator.UnOp.TheVariants.{Not as Negation, BoolOf as TruthOf, Neg, Card as CardOf, Min as MinOf, Max as MaxOf, Dom as DomainOf, Ran as RangeOf, Id as IdOf, Inverse as InverseOf, Single, Pow as PowerOf, Pow1 as Power1Of}
+use Rattle.bk_form.specs.declared.operator.UnOp.TheVariants.{Not as Negation, BoolOf as TruthOf, Neg, Card as CardOf, Min as MinOf}
+use Rattle.bk_form.specs.declared.operator.UnOp.TheVariants.{Max as MaxOf, Dom as DomainOf, Ran as RangeOf, Id as IdOf}
+use Rattle.bk_form.specs.declared.operator.UnOp.TheVariants.{Inverse as InverseOf, Single, Pow as PowerOf, Pow1 as Power1Of}
 use Rattle.bk_form.specs.declared.operator.BinOp.{BinOp}
-use Rattle.bk_form.specs.declared.operator.BinOp.TheVariants.{And as Conjunction, Or as Disjunction, Imp, Iff, Eq, Lt, Le, In, Union as Joining, Inter, Minus as Without, Times as Product, DomRes, RanRes, DomSub, RanSub, Over, Maps, Range, Add, Sub, Mul, Div, Mod as Remainder, Power as PowerTo, Image as ImageOf, Apply as ApplyTo, Comp, Relations as RelationsOf, PartialFunctions as PartialOf, TotalFunctions as TotalOf, PartialInjections as PartialInjectionsOf, TotalInjections as TotalInjectionsOf, PartialSurjections as PartialSurjectionsOf, TotalSurjections as TotalSurjectionsOf, Bijections as BijectionsOf}
+use Rattle.bk_form.specs.declared.operator.BinOp.TheVariants.{And as Conjunction, Or as Disjunction, Imp, Iff, Eq, Lt, Le, In}
+use Rattle.bk_form.specs.declared.operator.BinOp.TheVariants.{Union as Joining, Inter, Minus as Without, Times as Product, DomRes}
+use Rattle.bk_form.specs.declared.operator.BinOp.TheVariants.{RanRes, DomSub, RanSub, Over, Maps, Range, Add, Sub, Mul, Div}
+use Rattle.bk_form.specs.declared.operator.BinOp.TheVariants.{Mod as Remainder, Power as PowerTo, Image as ImageOf, Apply as ApplyTo}
+use Rattle.bk_form.specs.declared.operator.BinOp.TheVariants.{Comp, Relations as RelationsOf, PartialFunctions as PartialOf}
+use Rattle.bk_form.specs.declared.operator.BinOp.TheVariants.{TotalFunctions as TotalOf, PartialInjections as PartialInjectionsOf}
+use Rattle.bk_form.specs.declared.operator.BinOp.TheVariants.{TotalInjections as TotalInjectionsOf}
+use Rattle.bk_form.specs.declared.operator.BinOp.TheVariants.{PartialSurjections as PartialSurjectionsOf}
+use Rattle.bk_form.specs.declared.operator.BinOp.TheVariants.{TotalSurjections as TotalSurjectionsOf, Bijections as BijectionsOf}
 use Rattle.bk_form.specs.declared.operator.Domain.{Domain}
-use Rattle.bk_form.specs.declared.operator.Domain.TheVariants.{Integer as WholeNumbers, Natural as NaturalNumbers, Natural1 as PositiveNumbers, Bool as Booleans, Enum}
+use Rattle.bk_form.specs.declared.operator.Domain.TheVariants.{Integer as WholeNumbers, Natural as NaturalNumbers}
+use Rattle.bk_form.specs.declared.operator.Domain.TheVariants.{Natural1 as PositiveNumbers, Bool as Booleans, Enum}
 use Rattle.bk_form.specs.declared.token.TokenKind.{TokenKind}
 use Rattle.bk_form.specs.declared.token.TokenKind.TheVariants.{Name, LevelName, BoundName, Number, Word}
-use Rattle.bk_ops.specs.declared.sign.TheConstants.{FOR_ALL, EXISTS, MEMBER, MINUS, TIMES, OPEN_PAREN, CLOSE_PAREN, OPEN_BRACKET, CLOSE_BRACKET, OPEN_BRACE, CLOSE_BRACE, INVERSE, SEMICOLON, COMMA, DOT, BAR, LAMBDA}
+use Rattle.bk_ops.specs.declared.sign.TheConstants.{FOR_ALL, EXISTS, MEMBER, MINUS, TIMES, OPEN_PAREN, CLOSE_PAREN, OPEN_BRACKET}
+use Rattle.bk_ops.specs.declared.sign.TheConstants.{CLOSE_BRACKET, OPEN_BRACE, CLOSE_BRACE, INVERSE, SEMICOLON, COMMA, DOT, BAR, LAMBDA}
 use Rattle.bk_ops.specs.declared.word.TheConstants.{BOOL, INTEGER, POW}
 use Rattle.bk_lex.specs.Lexis.{numeral_from}
 use Rattle.bk_raw.specs.Trees.Operators.{infix_kind, word_kind, constant_kind}
-use Rattle.bk_raw.specs.declared.operator.InfixOp.TheVariants.{Equivalent, Implies, And, Or, Equal, Less, AtMost, Member, Relations, PartialFunctions, TotalFunctions, PartialInjections, TotalInjections, PartialSurjections, TotalSurjections, Bijections, Union, Intersection, DomainRestriction, RangeRestriction, DomainSubtraction, RangeSubtraction, Override, Maplet, Interval, Plus, Minus, Times, Divide, Mod, Power}
+use Rattle.bk_raw.specs.declared.operator.InfixOp.TheVariants.{Equivalent, Implies, And, Or, Equal, Less, AtMost, Member, Relations}
+use Rattle.bk_raw.specs.declared.operator.InfixOp.TheVariants.{PartialFunctions, TotalFunctions, PartialInjections, TotalInjections}
+use Rattle.bk_raw.specs.declared.operator.InfixOp.TheVariants.{PartialSurjections, TotalSurjections, Bijections, Union, Intersection}
+use Rattle.bk_raw.specs.declared.operator.InfixOp.TheVariants.{DomainRestriction, RangeRestriction, DomainSubtraction, RangeSubtraction}
+use Rattle.bk_raw.specs.declared.operator.InfixOp.TheVariants.{Override, Maplet, Interval, Plus, Minus, Times, Divide, Mod, Power}
 use Rattle.bk_raw.specs.declared.operator.WordOp.TheVariants.{Not, BoolOf, Card, Min, Max, Dom, Ran, Id, Pow, Pow1}
 use Rattle.bk_raw.specs.declared.operator.Constant.{Constant}
 use Rattle.bk_raw.specs.declared.operator.Constant.TheVariants.{Bool as BoolWord, True, False, Integer, Natural, Natural1, Btrue, Bfalse}
 pub use Rattle.bk_show.specs.declared.notation.UnaryForm.{UnaryForm}
-pub use Rattle.bk_show.specs.declared.notation.UnaryForm.TheVariants.{Word as word_form, Negative as negative_form, Inverse as inverse_form, Single as single_form}
+pub use Rattle.bk_show.specs.declared.notation.UnaryForm.TheVariants.{Word as word_form, Negative as negative_form}
+pub use Rattle.bk_show.specs.declared.notation.UnaryForm.TheVariants.{Inverse as inverse_form, Single as single_form}
 pub use Rattle.bk_show.specs.declared.notation.BinaryForm.{BinaryForm}
-pub use Rattle.bk_show.specs.declared.notation.BinaryForm.TheVariants.{Infix as infix_form, Image as image_form, Application as apply_form, Composition as composition_form}
+pub use Rattle.bk_show.specs.declared.notation.BinaryForm.TheVariants.{Infix as infix_form, Image as image_form}
+pub use Rattle.bk_show.specs.declared.notation.BinaryForm.TheVariants.{Application as apply_form, Composition as composition_form}
 use Rattle.bk_show.specs.Items.{Item, blank, lexeme, plain, sign, text_of}
 
 -- ---- names
@@ -255,7 +275,8 @@ comprehension_items rs left xs = sign OPEN_BRACE ∷ ((rs ++ blank ∷ sign BAR 
 
 -- %(x:D).(P | E)
 abbrev pub lambda_items : List Item → Bool → Bool → List Item → List Item → List Item
-lambda_items rs left right xs ys = sign LAMBDA ∷ (enclosed rs ++ sign DOT ∷ enclosed (enclosed_if left xs ++ blank ∷ sign BAR ∷ blank ∷ enclosed_if right ys))
+lambda_items rs left right xs ys =
+    sign LAMBDA ∷ (enclosed rs ++ sign DOT ∷ enclosed (enclosed_if left xs ++ blank ∷ sign BAR ∷ blank ∷ enclosed_if right ys))
 
 -- ---- formulas
 abbrev mutual
@@ -275,12 +296,14 @@ abbrev mutual
   items table d (for_all ts p) = quantified_items table FOR_ALL d ts (items table (d + length ts) p)
   items table d (for_some ts p) = quantified_items table EXISTS d ts (items table (d + length ts) p)
   items table d (comprehension rs p) = comprehension_items (ranges_items table d (suc d) rs) (is_infix p) (items table (d + count rs) p)
-  items table d (lambda rs p e) = lambda_items (ranges_items table d (suc d) rs) (is_infix p) (is_infix e) (items table (d + count rs) p) (items table (d + count rs) e)
+  items table d (lambda rs p e) =
+      lambda_items (ranges_items table d (suc d) rs) (is_infix p) (is_infix e) (items table (d + count rs) p) (items table (d + count rs) e)
 
   -- variables with their ranges, which stand under d bound variables; the first is the k-th
   pub ranges_items : Table → ℕ → ℕ → Formulas → List Item
   ranges_items table d k no_formulas = []
-  ranges_items table d k (formula_and f fs) = range_items k (is_infix f) (items table d f) ++ comma_between fs (ranges_items table d (suc k) fs)
+  ranges_items table d k (formula_and f fs) =
+      range_items k (is_infix f) (items table d f) ++ comma_between fs (ranges_items table d (suc k) fs)
 
 -- the text of a formula
 abbrev pub shown : Table → Formula → List ℕ

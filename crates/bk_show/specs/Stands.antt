@@ -2,7 +2,8 @@
 use Rattle.std.specs.Prelude.{◌≡◌, ℕ, List, [], ◌∷◌, Some}
 use Rattle.bk_val.specs.ValueType.{ValueType, enum_type, pair_type, set_type}
 use Rattle.bk_form.specs.Table.{Table, variable_type}
-use Rattle.bk_form.specs.Formula.{Formula, variable, element, empty_set, named, unary, binary, for_all, for_some, comprehension, lambda, Formulas, no_formulas, formula_and}
+use Rattle.bk_form.specs.Formula.{Formula, variable, element, empty_set, named, unary, binary, for_all}
+use Rattle.bk_form.specs.Formula.{for_some, comprehension, lambda, Formulas, no_formulas, formula_and}
 use Rattle.bk_form.specs.declared.operator.Domain.{Domain}
 use Rattle.bk_form.specs.declared.operator.Domain.TheVariants.{Enum}
 use Rattle.bk_raw.specs.Meaning.Names.{Names, Meaning, local, seen, found}
@@ -42,7 +43,8 @@ DomainStands table names _ = Unit {0}
 abbrev mutual
   -- each text of a variable, a set or an element in the formula names what it stands for
   pub Stands : Table → Names → Formula → Type 0
-  Stands table names (variable n) = (t : ValueType) → variable_type table n ≡ Some t → found 0 names (name_of_variable table n) ≡ seen (variable n) t
+  Stands table names (variable n) = (t : ValueType) → variable_type table n ≡ Some t →
+      found 0 names (name_of_variable table n) ≡ seen (variable n) t
   Stands table names (element s i) = found 0 names (name_of_element table s i) ≡ seen (element s i) (enum_type s)
   Stands table names (empty_set t) = TypeStands table names t
   Stands table names (named d) = DomainStands table names d

@@ -5,7 +5,8 @@ ghost use Rattle.bk_form.specs.Formula.{formula_height, formulas_height, formula
 ghost use Rattle.bk_form.specs.Replacement.{count};
 ghost use Rattle.bk_show.specs.Items.{text_of};
 ghost use Rattle.bk_show.specs.Counted.{IsCounted};
-ghost use Rattle.bk_show.specs.Shown.{shown, items, ranges_items, is_bare, is_infix, sides, enclosed, enclosed_if, unary_form, unary_items, binary_form, binary_items, binder_items, comprehension_items, lambda_items};
+ghost use Rattle.bk_show.specs.Shown.{shown, items, ranges_items, is_bare, is_infix, sides, enclosed, enclosed_if, unary_form};
+ghost use Rattle.bk_show.specs.Shown.{unary_items, binary_form, binary_items, binder_items, comprehension_items, lambda_items};
 
 use crate::binder::{comma, write_bound, write_bounds};
 use crate::name::{name_of_domain, name_of_element, name_of_variable};

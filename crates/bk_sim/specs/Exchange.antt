@@ -19,7 +19,8 @@ number_named text = record { text = text; of_type = int_type }
 abbrev pub exchange_table : Table
 exchange_table = record {
   sets = [];
-  variables = number_named (codes "x$0") ∷ number_named (codes "y$0") ∷ number_named (codes "x$1") ∷ number_named (codes "y$1") ∷ record { text = codes "f$1"; of_type = set_type (pair_type int_type int_type) } ∷ number_named (codes "t") ∷ [];
+  variables = number_named (codes "x$0") ∷ number_named (codes "y$0") ∷ number_named (codes "x$1") ∷ number_named (codes "y$1") ∷
+      record { text = codes "f$1"; of_type = set_type (pair_type int_type int_type) } ∷ number_named (codes "t") ∷ [];
 }
 
 -- one variable becomes the value of a term
@@ -62,7 +63,8 @@ counting_down = loop is_positive (set_to 5 one_less) is_up_to_five (variable 5)
 
 -- t := x ; x := y ; y := t ; t := f(1) ; t := 5 ; WHILE .. END
 abbrev pub swapping_steps : Substitution
-swapping_steps = seq (set_to 5 (variable 2)) (seq (set_to 2 (variable 3)) (seq (set_to 3 (variable 5)) (seq (set_to 5 (binary Apply (variable 4) (literal (pos 1)))) (seq (set_to 5 (literal (pos 5))) counting_down))))
+swapping_steps = seq (set_to 5 (variable 2)) (seq (set_to 2 (variable 3)) (seq (set_to 3 (variable 5))
+    (seq (set_to 5 (binary Apply (variable 4) (literal (pos 1)))) (seq (set_to 5 (literal (pos 5))) counting_down))))
 
 -- VAR t IN these END
 abbrev pub swapping : Substitution

@@ -44,7 +44,8 @@ GoesWell image fuel start P = (end : End) (d : Config) → Ends image fuel start
 -- the calls from these cells are done one after another, with these replies and cells in the end
 abbrev pub AreDone : Development → Image → ℕ → List ℤ → List Call → List (List MathValue) → List ℤ → Type 0
 AreDone dev image fuel l [] [] m = l ≡ m
-AreDone dev image fuel l (c ∷ cs) (us ∷ more) m = (entry : OpEntry) × (n : ℕ) × (d : Config) × IsEntry image c.op entry × Ends image fuel (started entry c l) (Done n) d × (us ≡ replies dev c.op entry.outputs d.cells) × AreDone dev image fuel d.cells cs more m
+AreDone dev image fuel l (c ∷ cs) (us ∷ more) m = (entry : OpEntry) × (n : ℕ) × (d : Config) × IsEntry image c.op entry × Ends image
+    fuel (started entry c l) (Done n) d × (us ≡ replies dev c.op entry.outputs d.cells) × AreDone dev image fuel d.cells cs more m
 AreDone dev image fuel l _ _ m = ⊥
 
 -- with this fuel the initialisation is done and leaves these cells
@@ -53,12 +54,14 @@ IsBegun image fuel l = (n : ℕ) × (d : Config) × Ends image fuel (first_start
 
 -- the operations of the image are those of the development, with as many inputs and outputs
 abbrev pub HasOperations : Development → Image → Type 0
-HasOperations dev image = (o : ℕ) → o < length dev.heads → (entry : OpEntry) × IsEntry image o entry × (length entry.inputs ≡ length (inputs_of dev o)) × (length entry.outputs ≡ length (body_at dev 0 o).outputs)
+HasOperations dev image = (o : ℕ) → o < length dev.heads → (entry : OpEntry) × IsEntry image o entry
+    × (length entry.inputs ≡ length (inputs_of dev o)) × (length entry.outputs ≡ length (body_at dev 0 o).outputs)
 
 -- the initialisation does not trap, ends with some fuel (since with none it is out of fuel, and so done with more), and leaves cells that
 -- are linked to a state in which the machine opens
 abbrev pub OpensWell : Finder → Development → Image → Type 0
-OpensWell find dev image = (fuel : ℕ) → GoesWell image fuel (first_start image) (λ m. (a : Abstract) × Opens find dev a × Linked find dev a m)
+OpensWell find dev image = (fuel : ℕ) →
+    GoesWell image fuel (first_start image) (λ m. (a : Abstract) × Opens find dev a × Linked find dev a m)
 
 -- with some fuel a call is done
 abbrev pub IsDone : Image → Config → Type 0
@@ -70,18 +73,21 @@ IsStep find dev c entry a k = (b : Abstract) × Steps find dev c a (replies dev 
 
 -- from each linked pair in which the precondition is true, a call is done with some fuel, traps with none, and is a step
 abbrev pub CallsGoWell : Finder → Development → Image → Type 0
-CallsGoWell find dev image = (a : Abstract) (m : List ℤ) (c : Call) (entry : OpEntry) → Linked find dev a m → IsCall dev c → Pre find dev c a → IsEntry image c.op entry →
+CallsGoWell find dev image = (a : Abstract) (m : List ℤ) (c : Call) (entry : OpEntry) →
+    Linked find dev a m → IsCall dev c → Pre find dev c a → IsEntry image c.op entry →
     IsDone image (started entry c m) × ((fuel : ℕ) → GoesWell image fuel (started entry c m) (IsStep find dev c entry a))
 
 -- the machine reaches a state by these calls, with these replies and then the call's, that is linked to the cells
 abbrev pub IsReached : Finder → Development → List Call → Call → List (List MathValue) → OpEntry → List ℤ → Type 0
-IsReached find dev cs c outs entry k = (a : Abstract) × Reach find dev (cs ++ c ∷ []) (outs ++ replies dev c.op entry.outputs k ∷ []) a × Linked find dev a k
+IsReached find dev cs c outs entry k = (a : Abstract)
+    × Reach find dev (cs ++ c ∷ []) (outs ++ replies dev c.op entry.outputs k ∷ []) a × Linked find dev a k
 
 -- after calls cs that are done, a call c, where all calls up to it and with it are legal, does not trap, ends with some fuel, and
 -- leaves cells that are linked to a state which the machine reaches with these replies
 abbrev pub SessionsGoWell : Finder → Development → Image → Type 0
 SessionsGoWell find dev image = (fuel : ℕ) (l m : List ℤ) (cs : List Call) (c : Call) (outs : List (List MathValue)) (entry : OpEntry) →
-    IsBegun image fuel l → AreCalls dev cs → IsCall dev c → AreDone dev image fuel l cs outs m → Legal find dev (cs ++ c ∷ []) outs → IsEntry image c.op entry →
+    IsBegun image fuel l → AreCalls dev cs → IsCall dev c → AreDone dev image fuel l cs outs m →
+    Legal find dev (cs ++ c ∷ []) outs → IsEntry image c.op entry →
     GoesWell image fuel (started entry c m) (IsReached find dev cs c outs entry)
 
 -- the code follows the machine: with every fuel and for every list of calls, up to the first whose precondition may be false,

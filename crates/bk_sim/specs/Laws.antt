@@ -19,7 +19,8 @@ use Rattle.bk_dev.specs.Flattened.{flattened}
 
 -- code that opens well and whose calls go well one by one follows: sessions need nothing more
 abbrev pub CallsDecide : Type 0
-CallsDecide = (find : Finder) (dev : Development) (image : Image) → HasOperations dev image → OpensWell find dev image → CallsGoWell find dev image → Follows find dev image
+CallsDecide = (find : Finder) (dev : Development) (image : Image) → HasOperations dev image →
+    OpensWell find dev image → CallsGoWell find dev image → Follows find dev image
 
 -- it is in B0, the constants' values meet the properties, the machine keeps its invariant, and each level carries the one above
 pub record IsCarried (find : Finder) (dev : Development) : Type 0 where
@@ -77,10 +78,11 @@ NineDoesNotFollow = (find : Finder) → Follows find counter (counter_code 9) �
 
 -- where no || stands in the last level, whatever follows the flattened development follows the development
 abbrev pub FollowedWhereFlattened : Type 0
-FollowedWhereFlattened = (find : Finder) (dev : Development) → IsLawful dev → LastIsFlat dev → (image : Image) → Follows find (flattened dev) image → Follows find dev image
+FollowedWhereFlattened = (find : Finder) (dev : Development) → IsLawful dev → LastIsFlat dev →
+    (image : Image) → Follows find (flattened dev) image → Follows find dev image
 
--- the exchange, with || at the machine, and with a fill, VAR, a loop and an array that is read in its code, meets every premise, so that its
--- translation follows it; the loader takes it
+-- the exchange, with || at the machine, and with a fill, VAR, a loop and an array that is read
+-- in its code, meets every premise, so that its translation follows it; the loader takes it
 pub record ExchangeIsFollowed : Type 0 where
   pub facts : IsDevelopment exchange
   pub in_b0 : IsB0Development exchange

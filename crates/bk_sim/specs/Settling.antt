@@ -1,4 +1,5 @@
--- A development whose code is easily got wrong, and three wrong codes, to be checked by hand: both operations set n to 10, one by a local and one by a loop.
+-- A development whose code is easily got wrong, and three wrong codes, to be
+-- checked by hand: both operations set n to 10, one by a local and one by a loop.
 use Rattle.std.specs.Prelude.{ℕ, ℤ, pos, negsuc, List, [], ◌∷◌, ◌++◌, codes}
 use Rattle.bk_form.specs.Table.{Table}
 use Rattle.bk_form.specs.Formula.{variable, literal, btrue, binary}
@@ -40,8 +41,10 @@ by_local = any (2 ∷ []) (seq (set_to 2 (literal (pos 10))) (set_to 1 (variable
 
 -- n := 0 ; WHILE n < 10 DO n := n + 1 INVARIANT 0 <= n & n <= 10 VARIANT 10 - n END
 abbrev pub by_loop : Substitution
-by_loop = seq (set_to 1 (literal (pos 0))) (loop (binary Lt (variable 1) (literal (pos 10))) (set_to 1 (binary Plus (variable 1) (literal (pos 1))))
-    (binary And (binary Le (literal (pos 0)) (variable 1)) (binary Le (variable 1) (literal (pos 10)))) (binary Less (literal (pos 10)) (variable 1)))
+by_loop = seq (set_to 1 (literal (pos 0)))
+    (loop (binary Lt (variable 1) (literal (pos 10))) (set_to 1 (binary Plus (variable 1) (literal (pos 1))))
+    (binary And (binary Le (literal (pos 0)) (variable 1)) (binary Le (variable 1) (literal (pos 10))))
+    (binary Less (literal (pos 10)) (variable 1)))
 
 -- the development whose second operation has this body at the implementation; at the machine both are n := 10
 abbrev pub settling_by : Substitution → Development
@@ -51,7 +54,8 @@ settling_by second = record {
   homes = Abstract 0 ∷ Concrete 1 ∷ Inner 1 ∷ [];
   sets = [];
   heads = record { name = codes "by_local"; inputs = []; outputs = 0 } ∷ record { name = codes "by_loop"; inputs = []; outputs = 0 } ∷ [];
-  levels = settling_level (codes "Settling") Machine 0 [] (set_to 0 (literal (pos 10))) (set_to 0 (literal (pos 10))) ∷ settling_level (codes "Settling_i") Implementation 1 ((1, 0) ∷ []) by_local second ∷ [];
+  levels = settling_level (codes "Settling") Machine 0 [] (set_to 0 (literal (pos 10))) (set_to 0 (literal (pos 10))) ∷
+      settling_level (codes "Settling_i") Implementation 1 ((1, 0) ∷ []) by_local second ∷ [];
   values = [];
   extents = (0, 1) ∷ (0, 3) ∷ [];
 }
@@ -83,7 +87,8 @@ settling_code settle back = record {
   cells = 2;
   sets = [];
   ops = local_entry ∷ loop_entry ∷ [];
-  code = Push (pos 0) ∷ Store 0 ∷ Ret ∷ (settle ++ (Ret ∷ Push (pos 0) ∷ Store 0 ∷ Load 0 ∷ Push (pos 10) ∷ Below ∷ JumpZero (pos 6) ∷ Load 0 ∷ Push (pos 1) ∷ Add ∷ Store 0 ∷ Jump back ∷ Ret ∷ []));
+  code = Push (pos 0) ∷ Store 0 ∷ Ret ∷ (settle ++ (Ret ∷ Push (pos 0) ∷ Store 0 ∷ Load 0 ∷ Push (pos 10) ∷
+      Below ∷ JumpZero (pos 6) ∷ Load 0 ∷ Push (pos 1) ∷ Add ∷ Store 0 ∷ Jump back ∷ Ret ∷ []));
 }
 
 -- t := 10 ; n := t

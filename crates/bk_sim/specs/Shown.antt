@@ -1,5 +1,6 @@
 -- What the cells give the names that a statement may use.
-use Rattle.std.specs.Prelude.{◌≡◌, ℕ, ℤ, pos, Bool, true, false, List, [], ◌∷◌, take, drop, length, slice_index_or, Option, Some, None, nat_eq, cond}
+use Rattle.std.specs.Prelude.{◌≡◌, ℕ, ℤ, pos, Bool, true, false, List, [], ◌∷◌, take, drop}
+use Rattle.std.specs.Prelude.{length, slice_index_or, Option, Some, None, nat_eq, cond}
 use Rattle.std.specs.List.{list_all}
 use Rattle.bk_val.specs.Value.{MathValue, bool, pair}
 use Rattle.bk_val.specs.ValueType.{ValueType}
@@ -20,7 +21,8 @@ use Rattle.bk_b0.specs.Kinds.{literal_number, number_as, is_of_kind, cell_type}
 abbrev pub AreOfKinds : Development → List ℕ → List ℤ → Type 0
 AreOfKinds dev [] [] = Unit {0}
 AreOfKinds dev [] (z ∷ m) = ⊥
-AreOfKinds dev (x ∷ xs) m = (length (take (cells_of dev x) m) ≡ cells_of dev x) × (list_all (is_of_kind dev (cell_type dev x)) (take (cells_of dev x) m) ≡ true) × AreOfKinds dev xs (drop (cells_of dev x) m)
+AreOfKinds dev (x ∷ xs) m = (length (take (cells_of dev x) m) ≡ cells_of dev x)
+    × (list_all (is_of_kind dev (cell_type dev x)) (take (cells_of dev x) m) ≡ true) × AreOfKinds dev xs (drop (cells_of dev x) m)
 
 -- the indices of an array, in the order of its cells
 abbrev pub indices : Development → ArrayDomain → List MathValue

@@ -24,7 +24,8 @@ use Rattle.bk_b0.specs.Cells.{IsKnown, IsCell, ValuesHaveKinds, ArraysHaveCells,
 -- the code goes to the place after it, with cells that show a state to which the statement runs: after a VAR the state has put
 -- its locals back, and the cells have not, so that only what is in scope is shown; without loops in at most as many steps as
 -- it has instructions
-pub record IsFollowed (find : Finder) (dev : Development) (image : Image) (scope : ℕ → Bool) (s : Substitution) (place : ℕ) (m : List ℤ) (e : State) : Type 0 where
+pub record IsFollowed (find : Finder) (dev : Development) (image : Image) (scope : ℕ →
+    Bool) (s : Substitution) (place : ℕ) (m : List ℤ) (e : State) : Type 0 where
   pub steps : ℕ
   pub cells : List ℤ
   pub state : State
@@ -36,15 +37,19 @@ pub record IsFollowed (find : Finder) (dev : Development) (image : Image) (scope
 
 -- a B0 statement's code, wherever it stands in whatever image: from cells that show a state in which the statement is clean and ends
 abbrev pub StatementsFollow : Type 0
-StatementsFollow = (find : Finder) (dev : Development) (image : Image) → code_max image ≡ int_max dev → ValuesHaveKinds dev dev.values → ArraysHaveCells dev → ArraysAreTyped dev →
+StatementsFollow = (find : Finder) (dev : Development) (image : Image) → code_max image ≡ int_max dev →
+    ValuesHaveKinds dev dev.values → ArraysHaveCells dev → ArraysAreTyped dev →
     (s : Substitution) (scope above writable : ℕ → Bool) → Types dev.table s → StaysIn scope above writable s → IsB0 dev s →
-    ((n : ℕ) → scope n ≡ true → IsKnown dev n) → ((n : ℕ) → writable n ≡ true → IsCell dev n × (scope n ≡ true)) → ((n : ℕ) → among (locals s) n ≡ true → IsCell dev n) →
-    (place : ℕ) (m : List ℤ) (e : State) → Stands image place (statement_code dev s) → KindsHold dev m → ShownIn dev scope m e → Clean find dev.table (Some (arrays_of dev)) s e → Ends find dev.table s e →
+    ((n : ℕ) → scope n ≡ true → IsKnown dev n) → ((n : ℕ) → writable n ≡ true → IsCell dev n × (scope n ≡ true)) →
+    ((n : ℕ) → among (locals s) n ≡ true → IsCell dev n) →
+    (place : ℕ) (m : List ℤ) (e : State) → Stands image place (statement_code dev s) → KindsHold dev m →
+    ShownIn dev scope m e → Clean find dev.table (Some (arrays_of dev)) s e → Ends find dev.table s e →
     IsFollowed find dev image scope s place m e
 
 -- the call that starts at this place with these cells returns, with cells that show a state to which the statement runs; without
 -- loops it does so within this number of steps
-pub record IsReturned (find : Finder) (dev : Development) (image : Image) (scope : ℕ → Bool) (s : Substitution) (size place : ℕ) (m : List ℤ) (e : State) : Type 0 where
+pub record IsReturned (find : Finder) (dev : Development) (image : Image) (scope : ℕ →
+    Bool) (s : Substitution) (size place : ℕ) (m : List ℤ) (e : State) : Type 0 where
   pub steps : ℕ
   pub end : Config
   pub state : State
@@ -54,21 +59,28 @@ pub record IsReturned (find : Finder) (dev : Development) (image : Image) (scope
   pub kinds : KindsHold dev end.cells
   pub shows : ShownIn dev scope end.cells state
 
--- so do the operations of a lawful last level in B0: a call returns, with inputs, outputs, variables and constants as a run of the body leaves them
+-- so do the operations of a lawful last level in B0: a call returns, with
+-- inputs, outputs, variables and constants as a run of the body leaves them
 abbrev pub OperationsFollow : Type 0
 OperationsFollow = (find : Finder) (dev : Development) (image : Image) → code_max image ≡ int_max dev → IsLawful dev → IsB0Development dev →
-    (o : ℕ) → o < length dev.heads → (place : ℕ) (m : List ℤ) (e : State) → Stands image place (operation_code dev (body_at dev (last dev) o)) → KindsHold dev m →
-    ShownIn dev (names_own dev (last dev) (inputs_of dev o) (body_at dev (last dev) o).outputs) m e → Clean find dev.table (Some (arrays_of dev)) (body_at dev (last dev) o).sub e → Ends find dev.table (body_at dev (last dev) o).sub e →
-    IsReturned find dev image (names_own dev (last dev) (inputs_of dev o) (body_at dev (last dev) o).outputs) (body_at dev (last dev) o).sub (length (operation_code dev (body_at dev (last dev) o))) place m e
+    (o : ℕ) → o < length dev.heads → (place : ℕ) (m : List ℤ) (e : State) →
+    Stands image place (operation_code dev (body_at dev (last dev) o)) → KindsHold dev m →
+    ShownIn dev (names_own dev (last dev) (inputs_of dev o) (body_at dev (last dev) o).outputs) m e →
+    Clean find dev.table (Some (arrays_of dev)) (body_at dev (last dev) o).sub e → Ends find dev.table (body_at dev (last dev) o).sub e →
+    IsReturned find dev image (names_own dev (last dev) (inputs_of dev o) (body_at dev (last dev) o).outputs)
+    (body_at dev (last dev) o).sub (length (operation_code dev (body_at dev (last dev) o))) place m e
 
 -- and its initialisation
 abbrev pub OpeningsFollow : Type 0
 OpeningsFollow = (find : Finder) (dev : Development) (image : Image) → code_max image ≡ int_max dev → IsLawful dev → IsB0Development dev →
     (place : ℕ) (m : List ℤ) (e : State) → Stands image place (init_code dev) → KindsHold dev m →
-    ShownIn dev (names_own dev (last dev) [] []) m e → Clean find dev.table (Some (arrays_of dev)) (level_at dev (last dev)).init e → Ends find dev.table (level_at dev (last dev)).init e →
+    ShownIn dev (names_own dev (last dev) [] []) m e → Clean find dev.table (Some (arrays_of dev)) (level_at dev (last dev)).init e →
+    Ends find dev.table (level_at dev (last dev)).init e →
     IsReturned find dev image (names_own dev (last dev) [] []) (level_at dev (last dev)).init (length (init_code dev)) place m e
 
 -- a call that returns so is done with each fuel of at least its steps; without loops with a fuel equal to the length of its code
 abbrev pub ReturnsEnd : Type 0
-ReturnsEnd = (find : Finder) (dev : Development) (image : Image) (scope : ℕ → Bool) (s : Substitution) (size place : ℕ) (m : List ℤ) (e : State) (r : IsReturned find dev image scope s size place m e) →
-    ((fuel : ℕ) → r.steps ≤ fuel → EndsWith image fuel (at_place place m) (Done r.steps) r.end) × (HasNoLoop s → EndsWithin image size (at_place place m))
+ReturnsEnd = (find : Finder) (dev : Development) (image : Image) (scope : ℕ →
+    Bool) (s : Substitution) (size place : ℕ) (m : List ℤ) (e : State) (r : IsReturned find dev image scope s size place m e) →
+    ((fuel : ℕ) → r.steps ≤ fuel → EndsWith image fuel (at_place place m) (Done r.steps) r.end)
+    × (HasNoLoop s → EndsWithin image size (at_place place m))

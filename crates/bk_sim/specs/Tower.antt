@@ -34,7 +34,8 @@ tower = record {
   homes = Abstract 0 ∷ Concrete 1 ∷ Concrete 2 ∷ [];
   sets = [];
   heads = record { name = codes "fill"; inputs = []; outputs = 0 } ∷ [];
-  levels = tower_level (codes "Tower") Machine 0 [] ∷ tower_level (codes "Tower_i") Implementation 1 ((1, 0) ∷ []) ∷ tower_level (codes "Tower_j") Implementation 2 ((2, 1) ∷ []) ∷ [];
+  levels = tower_level (codes "Tower") Machine 0 [] ∷ tower_level (codes "Tower_i") Implementation 1 ((1, 0) ∷ []) ∷
+      tower_level (codes "Tower_j") Implementation 2 ((2, 1) ∷ []) ∷ [];
   values = [];
   extents = (0, 1) ∷ (0, 2) ∷ (0, 3) ∷ [];
 }

@@ -20,7 +20,10 @@ CallEnds dev image c entry m = EndsWithin image (length (operation_code dev (bod
 -- whose precondition may be false; and one whose precondition is true in a state that is linked to the cells
 pub record EndsWithoutLoops (find : Finder) (dev : Development) (image : Image) : Type 0 where
   pub opening : HasNoLoop (level_at dev (last dev)).init → EndsWithin image (length (init_code dev)) (first_start image)
-  pub session : (fuel : ℕ) (l m : List ℤ) (cs : List Call) (c : Call) (outs : List (List MathValue)) (entry : OpEntry) → HasNoLoop (body_at dev (last dev) c.op).sub →
-      IsBegun image fuel l → AreCalls dev cs → IsCall dev c → AreDone dev image fuel l cs outs m → Legal find dev (cs ++ c ∷ []) outs → IsEntry image c.op entry →
+  pub session : (fuel : ℕ) (l m : List ℤ) (cs : List Call) (c : Call) (outs : List (List MathValue)) (entry : OpEntry) →
+      HasNoLoop (body_at dev (last dev) c.op).sub →
+      IsBegun image fuel l → AreCalls dev cs → IsCall dev c → AreDone dev image fuel l cs outs m →
+      Legal find dev (cs ++ c ∷ []) outs → IsEntry image c.op entry →
       CallEnds dev image c entry m
-  pub local : (a : Abstract) (m : List ℤ) (c : Call) (entry : OpEntry) → HasNoLoop (body_at dev (last dev) c.op).sub → Linked find dev a m → IsCall dev c → Pre find dev c a → IsEntry image c.op entry → CallEnds dev image c entry m
+  pub local : (a : Abstract) (m : List ℤ) (c : Call) (entry : OpEntry) → HasNoLoop (body_at dev (last dev) c.op).sub →
+      Linked find dev a m → IsCall dev c → Pre find dev c a → IsEntry image c.op entry → CallEnds dev image c entry m

@@ -1,7 +1,9 @@
 //! What follows a machine, and what does not. Each law is the contract of a function that does nothing.
 
 ghost use Rattle.bk_sim.specs.Statements.{StatementsFollow, OperationsFollow, OpeningsFollow, ReturnsEnd};
-ghost use Rattle.bk_sim.specs.Laws.{CallsDecide, LawfulFollows, EqualFollows, B0Follows, B0Ends, CounterIsCarried, TranslationFollows, CounterEnds, NineDoesNotFollow, FollowedWhereFlattened, ExchangeIsFollowed, WrongCodesDoNotFollow, TowerIsFollowed};
+ghost use Rattle.bk_sim.specs.Laws.{CallsDecide, LawfulFollows, EqualFollows, B0Follows, B0Ends, CounterIsCarried};
+ghost use Rattle.bk_sim.specs.Laws.{TranslationFollows, CounterEnds, NineDoesNotFollow, FollowedWhereFlattened};
+ghost use Rattle.bk_sim.specs.Laws.{ExchangeIsFollowed, WrongCodesDoNotFollow, TowerIsFollowed};
 
 /// Code follows a machine where it opens well and each call goes well.
 pub fn calls_decide()

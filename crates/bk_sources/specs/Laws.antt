@@ -9,7 +9,8 @@ use Rattle.bk_sources.specs.declared.fault.FileFault.TheVariants.{Fault, Limit, 
 
 -- files whose tokens are told have no fault, but that memory may be wanting
 abbrev pub ShallowFilesHaveNoFault : Type 0
-ShallowFilesHaveNoFault = (texts : List (List ℕ)) (fault : FileFault) → All (Has IsShallowText) texts → IsFaultOf texts fault → fault ≡ Memory
+ShallowFilesHaveNoFault = (texts : List (List ℕ)) (fault : FileFault) →
+    All (Has IsShallowText) texts → IsFaultOf texts fault → fault ≡ Memory
 
 -- a fault or a limit, and no want of memory
 abbrev pub IsOfFiles : FileFault → Type 0
@@ -19,7 +20,8 @@ IsOfFiles Memory = ⊥
 
 -- files have at most one fault
 abbrev pub FaultsAreOne : Type 0
-FaultsAreOne = (texts : List (List ℕ)) (one other : FileFault) → IsFaultOf texts one → IsOfFiles one → IsFaultOf texts other → IsOfFiles other → one ≡ other
+FaultsAreOne = (texts : List (List ℕ)) (one other : FileFault) → IsFaultOf texts one →
+    IsOfFiles one → IsFaultOf texts other → IsOfFiles other → one ≡ other
 
 -- it cannot be that a text has neither tokens nor a fault
 abbrev pub TextsAreCut : Type 0
@@ -27,4 +29,5 @@ TextsAreCut = (text : List ℕ) → (Has IsCut text → ⊥) → ((fault : LexFa
 
 -- it cannot be that files have neither tokens that are told nor a fault
 abbrev pub FilesAreTold : Type 0
-FilesAreTold = (texts : List (List ℕ)) → (All (Has IsShallowText) texts → ⊥) → ((fault : FileFault) → IsOfFiles fault → IsFaultOf texts fault → ⊥) → ⊥
+FilesAreTold = (texts : List (List ℕ)) → (All (Has IsShallowText) texts → ⊥) →
+    ((fault : FileFault) → IsOfFiles fault → IsFaultOf texts fault → ⊥) → ⊥

@@ -11,7 +11,8 @@ use Rattle.bk_statics.specs.Typings.{Typing, or_else, as_variable}
 
 -- a development without a level, which stands above a machine; its MAXINT is the one where no range is said
 abbrev pub no_development : Development
-no_development = record { max = default_max; table = empty_table; homes = []; sets = []; heads = []; levels = []; values = []; extents = [] }
+no_development =
+    record { max = default_max; table = empty_table; homes = []; sets = []; heads = []; levels = []; values = []; extents = [] }
 
 -- the levels above
 abbrev pub above_of : Option Development → Development

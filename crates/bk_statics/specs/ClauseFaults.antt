@@ -23,7 +23,8 @@ abbrev pub has_name : List RawName → Bool
 has_name [] = false
 has_name (x ∷ xs) = true
 
--- a set that is a name alone is no type yet: no text has one, only a tree that is made otherwise, and so each set of the table has an element
+-- a set that is a name alone is no type yet: no text has one, only a tree
+-- that is made otherwise, and so each set of the table has an element
 abbrev pub set_faults : List RawSet → List Fault
 set_faults [] = []
 set_faults (s ∷ ss) = cond (has_name s.elements) [] (no_type s.name.at) ++ set_faults ss
@@ -53,11 +54,13 @@ place_or other (Some at) = at
 -- variables, whose numbers are those from n on, without a type; what is not declared here stands at the component's name
 abbrev pub variable_faults : Typing → ℕ → List WrittenVariable → ℕ → List Declared → List Fault
 variable_faults typing at vs n [] = []
-variable_faults typing at vs n (d ∷ ds) = cond (has_type (typing n)) [] (no_type (place_or at (declared_at vs d.text))) ++ variable_faults typing at vs (suc n) ds
+variable_faults typing at vs n (d ∷ ds) =
+    cond (has_type (typing n)) [] (no_type (place_or at (declared_at vs d.text))) ++ variable_faults typing at vs (suc n) ds
 
 -- inputs without a type; these are their names in scope, in order
 abbrev pub input_faults : Typing → Names → List RawName → List Fault
-input_faults typing (n ∷ ns) (x ∷ xs) = cond (has_type (type_at typing (target_in n.meaning))) [] (no_type x.at) ++ input_faults typing ns xs
+input_faults typing (n ∷ ns) (x ∷ xs) =
+    cond (has_type (type_at typing (target_in n.meaning))) [] (no_type x.at) ++ input_faults typing ns xs
 input_faults typing _ _ = []
 
 -- ---- clauses
@@ -74,7 +77,8 @@ all_stated_faults int_max typing names (p ∷ ps) = predicate_faults int_max typ
 -- those of the terms of VALUES, each of which gives a type
 abbrev pub entry_faults : ℤ → Typing → Names → List RawValue → List Fault
 entry_faults int_max typing globals [] = []
-entry_faults int_max typing globals (v ∷ vs) = value_faults int_max typing globals v.value ++ ((ask_value (place_of v.value) (outcome_of int_max typing globals v.value)).faults ++ entry_faults int_max typing globals vs)
+entry_faults int_max typing globals (v ∷ vs) = value_faults int_max typing globals v.value
+    ++ ((ask_value (place_of v.value) (outcome_of int_max typing globals v.value)).faults ++ entry_faults int_max typing globals vs)
 
 -- all of a component's clauses
 abbrev pub clause_faults : ℤ → Typing → Plan → Component → List Fault

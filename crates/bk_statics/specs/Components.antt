@@ -1,14 +1,17 @@
 -- A component by its clauses: what is absent is empty. The clauses are those of the B Language Reference Manual, in any order.
 use Rattle.std.specs.Prelude.{ℕ, Bool, true, false, cond, nat_eq, List, [], ◌∷◌, ◌++◌, Option, None, Some}
 use Rattle.bk_raw.specs.declared.component.ComponentKind.{ComponentKind}
-use Rattle.bk_raw.specs.declared.component.ComponentKind.TheVariants.{Machine as AsMachine, Refinement as AsRefinement, Implementation as AsImplementation}
+use Rattle.bk_raw.specs.declared.component.ComponentKind.TheVariants.{Machine as AsMachine, Refinement as AsRefinement}
+use Rattle.bk_raw.specs.declared.component.ComponentKind.TheVariants.{Implementation as AsImplementation}
 use Rattle.bk_raw.specs.declared.component.ClauseWord.{ClauseWord}
-use Rattle.bk_raw.specs.declared.component.ClauseWord.TheVariants.{Sets, Constants, Properties, Variables, ConcreteVariables, Invariant, Assertions, Values, Initialisation, Operations}
+use Rattle.bk_raw.specs.declared.component.ClauseWord.TheVariants.{Sets, Constants, Properties, Variables, ConcreteVariables}
+use Rattle.bk_raw.specs.declared.component.ClauseWord.TheVariants.{Invariant, Assertions, Values, Initialisation, Operations}
 use Rattle.bk_raw.specs.declared.component.RawValue.{RawValue}
 use Rattle.bk_raw.specs.declared.term.RawName.{RawName}
 use Rattle.bk_raw.specs.Trees.RawTree.{RawTree}
 use Rattle.bk_raw.specs.Trees.SubTree.{SubTree, sub, SubNode, sub_skip, sub_begin, sub_pre}
-use Rattle.bk_raw.specs.Trees.ComponentTree.{RawSet, RawOperation, RawClause, RawComponent, ClauseParts, clause_sets, clause_names, clause_term, clause_terms, clause_values, clause_sub, clause_operations, clause_number}
+use Rattle.bk_raw.specs.Trees.ComponentTree.{RawSet, RawOperation, RawClause, RawComponent, ClauseParts, clause_sets, clause_names}
+use Rattle.bk_raw.specs.Trees.ComponentTree.{clause_term, clause_terms, clause_values, clause_sub, clause_operations, clause_number}
 use Rattle.bk_dev.specs.declared.kind.Kind.{Kind}
 use Rattle.bk_dev.specs.declared.kind.Kind.TheVariants.{Machine, Refinement, Implementation}
 use Rattle.bk_dev.specs.Development.{is_implementing}

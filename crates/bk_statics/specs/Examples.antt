@@ -8,12 +8,20 @@ use Rattle.bk_gsl.specs.Substitution.{assign, guard, choice, if_else, any, becom
 use Rattle.bk_raw.specs.declared.operator.InfixOp.TheVariants.{Equal, Power, Plus, Member}
 use Rattle.bk_raw.specs.declared.component.ClauseWord.TheVariants.{Sets, Constants, Variables, ConcreteVariables, Invariant}
 use Rattle.bk_raw.specs.Trees.RawTree.{RawTree, raw, raw_level_name, no_trees, tree_and}
-use Rattle.bk_raw.specs.Trees.SubTree.{SubTree, sub, sub_skip, sub_assign, sub_member, sub_such, sub_begin, sub_pre, sub_if, sub_choice, sub_select, sub_any, sub_let, sub_var, sub_sequence, sub_parallel, no_branches, else_branch, branch_and, no_choices, choice_and}
+use Rattle.bk_raw.specs.Trees.SubTree.{SubTree, sub, sub_skip, sub_assign, sub_member, sub_such, sub_begin, sub_pre}
+use Rattle.bk_raw.specs.Trees.SubTree.{sub_if, sub_choice, sub_select, sub_any, sub_let, sub_var, sub_sequence}
+use Rattle.bk_raw.specs.Trees.SubTree.{sub_parallel, no_branches, else_branch, branch_and, no_choices, choice_and}
 use Rattle.bk_raw.specs.Trees.ComponentTree.{clause_sets, clause_names, clause_term}
 use Rattle.bk_raw.specs.declared.component.ComponentKind.TheVariants.{Machine as AsMachine}
-use Rattle.bk_raw.specs.Errors.Faults.{twice_named, unknown_name, without_type, not_predicate, wrong_operation, not_b0, wrong_write, wrong_value}
+use Rattle.bk_raw.specs.Errors.Faults.{twice_named, unknown_name, without_type, not_predicate}
+use Rattle.bk_raw.specs.Errors.Faults.{wrong_operation, not_b0, wrong_write, wrong_value}
 use Rattle.bk_statics.specs.Verdict.{accepted, at_fault, past_limit}
-use Rattle.bk_statics.specs.Texts.{name_at, term_at, number, infix_at, up_to, is_in, takes, takes_at, clause, operation, component, counter_text, counter_code_text, counter_made, a_text, b_text, c_text, f_text, s_text, t_text, u_text, v_text, x_text, step_text, in_set, step_with, machine_of, machine_with, machine_text, by_local, both_start, refinement_of, step_by, started, with_operations, stepping, refinement_text, refined, below, first_level, machine_verdict, lower_verdict, step_done, code_with, code_doing, c_is, d_is, above_code, deferred_verdict, filled_at, array_code}
+use Rattle.bk_statics.specs.Texts.{name_at, term_at, number, infix_at, up_to, is_in, takes, takes_at, clause, operation, component}
+use Rattle.bk_statics.specs.Texts.{counter_text, counter_code_text, counter_made, a_text, b_text, c_text, f_text, s_text, t_text}
+use Rattle.bk_statics.specs.Texts.{u_text, v_text, x_text, step_text, in_set, step_with, machine_of, machine_with, machine_text}
+use Rattle.bk_statics.specs.Texts.{by_local, both_start, refinement_of, step_by, started, with_operations, stepping, refinement_text}
+use Rattle.bk_statics.specs.Texts.{refined, below, first_level, machine_verdict, lower_verdict, step_done, code_with, code_doing}
+use Rattle.bk_statics.specs.Texts.{c_is, d_is, above_code, deferred_verdict, filled_at, array_code}
 
 -- v := a and v := b
 abbrev pub to_a : SubTree
@@ -45,8 +53,10 @@ pub record DevelopmentsAreMade : Type 0 where
 pub record WordsAreRead : Type 0 where
   -- SELECT x = a THEN v := a WHEN x = b THEN v := b ELSE skip END
   pub select : step_done (sub 60 (sub_select is_a to_a (branch_and is_b to_b (else_branch (sub 90 sub_skip)))))
-      ≡ choice (choice (guard (binary Eq (variable 2) (element 0 0)) (assign ((1, element 0 0) ∷ []))) (guard (binary Eq (variable 2) (element 0 1)) (assign ((1, element 0 1) ∷ []))))
-      (guard (binary Conjunction (unary Negation (binary Eq (variable 2) (element 0 0))) (unary Negation (binary Eq (variable 2) (element 0 1)))) skip)
+      ≡ choice (choice (guard (binary Eq (variable 2) (element 0 0)) (assign ((1, element 0 0) ∷ [])))
+      (guard (binary Eq (variable 2) (element 0 1)) (assign ((1, element 0 1) ∷ []))))
+      (guard (binary Conjunction (unary Negation (binary Eq (variable 2) (element 0 0)))
+      (unary Negation (binary Eq (variable 2) (element 0 1)))) skip)
   -- CHOICE v := a OR v := b OR skip END
   pub choose : step_done (sub 60 (sub_choice to_a (choice_and to_b (choice_and (sub 90 sub_skip) no_choices))))
       ≡ choice (choice (assign ((1, element 0 0) ∷ [])) (assign ((1, element 0 1) ∷ []))) skip
@@ -54,81 +64,115 @@ pub record WordsAreRead : Type 0 where
   pub choose_one : step_done (sub 60 (sub_choice to_a no_choices)) ≡ assign ((1, element 0 0) ∷ [])
   -- IF x = a THEN v := a ELSIF x = b THEN v := b END
   pub elsif : step_done (sub 60 (sub_if is_a to_a (branch_and is_b to_b no_branches)))
-      ≡ if_else (binary Eq (variable 2) (element 0 0)) (assign ((1, element 0 0) ∷ [])) (if_else (binary Eq (variable 2) (element 0 1)) (assign ((1, element 0 1) ∷ [])) skip)
+      ≡ if_else (binary Eq (variable 2) (element 0 0)) (assign ((1, element 0 0) ∷ []))
+      (if_else (binary Eq (variable 2) (element 0 1)) (assign ((1, element 0 1) ∷ [])) skip)
   -- LET t BE t = x IN v := t END
-  pub let_in : step_done (sub 60 (sub_let (name_at 64 t_text ∷ []) (infix_at 66 Equal (term_at 66 t_text) (term_at 68 x_text)) (takes_at 70 v_text t_text)))
+  pub let_in : step_done
+      (sub 60 (sub_let (name_at 64 t_text ∷ []) (infix_at 66 Equal (term_at 66 t_text) (term_at 68 x_text)) (takes_at 70 v_text t_text)))
       ≡ any (3 ∷ []) (guard (binary Eq (variable 3) (variable 2)) (assign ((1, variable 3) ∷ [])))
   -- v :: S
-  pub member : step_done (sub 60 (sub_member (name_at 60 v_text) (term_at 64 s_text))) ≡ any (3 ∷ []) (guard (binary In (variable 3) (named (Enum 0))) (assign ((1, variable 3) ∷ [])))
+  pub member : step_done (sub 60 (sub_member (name_at 60 v_text) (term_at 64 s_text))) ≡
+      any (3 ∷ []) (guard (binary In (variable 3) (named (Enum 0))) (assign ((1, variable 3) ∷ [])))
   -- v :( v = v$0 )
-  pub such_that : step_done (sub 60 (sub_such (name_at 60 v_text ∷ []) (infix_at 64 Equal (term_at 64 v_text) (raw 68 (raw_level_name v_text 0))))) ≡ becomes_such ((1, 3) ∷ []) (binary Eq (variable 1) (variable 3))
+  pub such_that : step_done
+      (sub 60 (sub_such (name_at 60 v_text ∷ []) (infix_at 64 Equal (term_at 64 v_text) (raw 68 (raw_level_name v_text 0))))) ≡
+      becomes_such ((1, 3) ∷ []) (binary Eq (variable 1) (variable 3))
   -- BEGIN round a PRE: it is the outermost precondition all the same, and types the input
-  pub begin_pre : machine_verdict (machine_of (operation [] (name_at 50 step_text) (name_at 55 x_text ∷ []) (sub 58 (sub_begin (sub 60 (sub_pre (in_set 64 x_text) (takes_at 70 v_text x_text))))) ∷ []))
+  pub begin_pre : machine_verdict (machine_of (operation [] (name_at 50 step_text) (name_at 55 x_text ∷ [])
+      (sub 58 (sub_begin (sub 60 (sub_pre (in_set 64 x_text) (takes_at 70 v_text x_text))))) ∷ []))
       ≡ accepted (below None machine_text)
   -- an output is typed by its first assignment
-  pub output : machine_verdict (machine_of (operation (name_at 48 u_text ∷ []) (name_at 50 step_text) [] (takes_at 60 u_text v_text) ∷ [])) ≡ accepted (below None (machine_of (operation (name_at 48 u_text ∷ []) (name_at 50 step_text) [] (takes_at 60 u_text v_text) ∷ [])))
+  pub output : machine_verdict
+      (machine_of (operation (name_at 48 u_text ∷ []) (name_at 50 step_text) [] (takes_at 60 u_text v_text) ∷ [])) ≡
+      accepted (below None (machine_of (operation (name_at 48 u_text ∷ []) (name_at 50 step_text) [] (takes_at 60 u_text v_text) ∷ [])))
 
 -- the faults
 pub record FaultsAreTold : Type 0 where
   -- ---- 6
   -- a concrete variable again as an abstract one; again as a concrete one it is right, and changes nothing
-  pub concrete_first : lower_verdict (refinement_of (name_at 20 u_text ∷ name_at 22 v_text ∷ []) (started both_start ∷ stepping by_local ∷ [])) ≡ at_fault (twice_named 22)
-  pub concrete_again : lower_verdict (refinement_of (name_at 20 u_text ∷ []) (clause ConcreteVariables 34 (clause_names (name_at 36 v_text ∷ [])) ∷ started both_start ∷ stepping by_local ∷ [])) ≡ accepted refined
+  pub concrete_first : lower_verdict
+      (refinement_of (name_at 20 u_text ∷ name_at 22 v_text ∷ []) (started both_start ∷ stepping by_local ∷ [])) ≡ at_fault (twice_named 22)
+  pub concrete_again : lower_verdict (refinement_of (name_at 20 u_text ∷ []) (clause ConcreteVariables 34
+      (clause_names (name_at 36 v_text ∷ [])) ∷ started both_start ∷ stepping by_local ∷ [])) ≡ accepted refined
   -- a constant with the name of a variable above, and a variable with the name of an element above
-  pub variable_above : lower_verdict (refinement_of (name_at 20 u_text ∷ []) (clause Constants 34 (clause_names (name_at 36 v_text ∷ [])) ∷ started both_start ∷ stepping by_local ∷ [])) ≡ at_fault (twice_named 36)
-  pub element_above : lower_verdict (refinement_of (name_at 20 u_text ∷ name_at 22 a_text ∷ []) (started both_start ∷ stepping by_local ∷ [])) ≡ at_fault (twice_named 22)
+  pub variable_above : lower_verdict (refinement_of (name_at 20 u_text ∷ []) (clause Constants 34 (clause_names (name_at 36 v_text ∷ [])) ∷
+      started both_start ∷ stepping by_local ∷ [])) ≡ at_fault (twice_named 36)
+  pub element_above : lower_verdict
+      (refinement_of (name_at 20 u_text ∷ name_at 22 a_text ∷ []) (started both_start ∷ stepping by_local ∷ [])) ≡ at_fault (twice_named 22)
   -- VARIABLES u and CONCRETE_VARIABLES u
-  pub both_clauses : lower_verdict (refinement_of (name_at 20 u_text ∷ []) (clause ConcreteVariables 34 (clause_names (name_at 36 u_text ∷ [])) ∷ started both_start ∷ stepping by_local ∷ [])) ≡ at_fault (twice_named 36)
+  pub both_clauses : lower_verdict (refinement_of (name_at 20 u_text ∷ []) (clause ConcreteVariables 34
+      (clause_names (name_at 36 u_text ∷ [])) ∷ started both_start ∷ stepping by_local ∷ [])) ≡ at_fault (twice_named 36)
   -- an input with the name of an output
-  pub header : machine_verdict (machine_of (operation (name_at 48 x_text ∷ []) (name_at 50 step_text) (name_at 55 x_text ∷ []) (sub 60 (sub_pre (in_set 64 x_text) (takes_at 70 x_text a_text))) ∷ [])) ≡ at_fault (twice_named 55)
+  pub header : machine_verdict (machine_of (operation (name_at 48 x_text ∷ []) (name_at 50 step_text) (name_at 55 x_text ∷ [])
+      (sub 60 (sub_pre (in_set 64 x_text) (takes_at 70 x_text a_text))) ∷ [])) ≡ at_fault (twice_named 55)
   -- the name of the machine again
   pub component_twice : lower_verdict (record refinement_text { name = name_at 8 (77 ∷ []) }) ≡ at_fault (twice_named 8)
   -- ---- 7
   -- an unknown name is told before ; in a machine
-  pub unknown : machine_verdict (machine_with (sub 70 (sub_sequence (takes_at 70 v_text a_text) (takes_at 80 v_text u_text)))) ≡ at_fault (unknown_name 80)
+  pub unknown : machine_verdict (machine_with (sub 70 (sub_sequence (takes_at 70 v_text a_text) (takes_at 80 v_text u_text)))) ≡
+      at_fault (unknown_name 80)
   -- in an operation that the machine lacks too
-  pub unknown_in_other : lower_verdict (refinement_of (name_at 20 u_text ∷ []) (started both_start ∷ with_operations (step_by (name_at 58 x_text ∷ []) by_local ∷ operation [] (name_at 90 t_text) [] (takes_at 94 u_text f_text) ∷ []) ∷ []))
+  pub unknown_in_other : lower_verdict (refinement_of (name_at 20 u_text ∷ []) (started both_start ∷ with_operations
+      (step_by (name_at 58 x_text ∷ []) by_local ∷ operation [] (name_at 90 t_text) [] (takes_at 94 u_text f_text) ∷ []) ∷ []))
       ≡ at_fault (unknown_name 94)
   -- v$0 outside of v :( )
   pub old_value : machine_verdict (machine_with (takes 70 v_text (raw 74 (raw_level_name v_text 0)))) ≡ at_fault (unknown_name 74)
   -- ---- 9
   -- an invariant that is an expression
-  pub no_predicate : machine_verdict (component AsMachine (77 ∷ []) None (clause Invariant 10 (clause_term (number 20 1)) ∷ [])) ≡ at_fault (not_predicate 20)
+  pub no_predicate : machine_verdict (component AsMachine (77 ∷ []) None (clause Invariant 10 (clause_term (number 20 1)) ∷ [])) ≡
+      at_fault (not_predicate 20)
   -- ---- 8
   -- a header with an input more, which has no type
-  pub longer : lower_verdict (refinement_of (name_at 20 u_text ∷ []) (started both_start ∷ with_operations (step_by (name_at 58 x_text ∷ name_at 59 u_text ∷ []) by_local ∷ []) ∷ [])) ≡ at_fault (without_type 59)
+  pub longer : lower_verdict (refinement_of (name_at 20 u_text ∷ []) (started both_start ∷
+      with_operations (step_by (name_at 58 x_text ∷ name_at 59 u_text ∷ []) by_local ∷ []) ∷ [])) ≡ at_fault (without_type 59)
   -- a constant and a variable without a type, and a set that is a name alone
-  pub constant : machine_verdict (component AsMachine (77 ∷ []) None (clause Constants 10 (clause_names (name_at 20 c_text ∷ [])) ∷ [])) ≡ at_fault (without_type 20)
-  pub variable_untyped : machine_verdict (component AsMachine (77 ∷ []) None (clause Variables 10 (clause_names (name_at 20 v_text ∷ [])) ∷ [])) ≡ at_fault (without_type 20)
-  pub set_alone : machine_verdict (component AsMachine (77 ∷ []) None (clause Sets 10 (clause_sets (record { name = name_at 20 s_text; elements = [] } ∷ [])) ∷ [])) ≡ at_fault (without_type 20)
+  pub constant : machine_verdict (component AsMachine (77 ∷ []) None (clause Constants 10 (clause_names (name_at 20 c_text ∷ [])) ∷ [])) ≡
+      at_fault (without_type 20)
+  pub variable_untyped : machine_verdict
+      (component AsMachine (77 ∷ []) None (clause Variables 10 (clause_names (name_at 20 v_text ∷ [])) ∷ [])) ≡ at_fault (without_type 20)
+  pub set_alone : machine_verdict (component AsMachine (77 ∷ []) None
+      (clause Sets 10 (clause_sets (record { name = name_at 20 s_text; elements = [] } ∷ [])) ∷ [])) ≡ at_fault (without_type 20)
   -- ANY t WHERE a = t: the name stands right
-  pub untyped_name : machine_verdict (machine_with (sub 60 (sub_any (name_at 64 t_text ∷ []) (infix_at 66 Equal (term_at 66 a_text) (term_at 70 t_text)) to_a))) ≡ at_fault (without_type 64)
+  pub untyped_name : machine_verdict
+      (machine_with (sub 60 (sub_any (name_at 64 t_text ∷ []) (infix_at 66 Equal (term_at 66 a_text) (term_at 70 t_text)) to_a))) ≡
+      at_fault (without_type 64)
   -- ---- 10
   -- no initialisation where a concrete variable stands from above
   pub no_start : lower_verdict (refinement_of (name_at 20 u_text ∷ []) (stepping by_local ∷ [])) ≡ at_fault (wrong_operation 0)
   -- ; in a machine
-  pub sequence : machine_verdict (machine_with (sub 70 (sub_sequence (takes_at 70 v_text a_text) (takes_at 80 v_text a_text)))) ≡ at_fault (wrong_operation 70)
+  pub sequence : machine_verdict (machine_with (sub 70 (sub_sequence (takes_at 70 v_text a_text) (takes_at 80 v_text a_text)))) ≡
+      at_fault (wrong_operation 70)
   -- ; inside || in a refinement
-  pub inside : lower_verdict (refinement_of (name_at 20 u_text ∷ []) (started (sub 40 (sub_parallel (takes_at 40 u_text c_text) (sub 50 (sub_begin (sub 51 (sub_sequence (takes_at 51 v_text a_text) (takes_at 53 v_text b_text))))))) ∷ stepping by_local ∷ [])) ≡ at_fault (wrong_operation 51)
+  pub inside : lower_verdict (refinement_of (name_at 20 u_text ∷ []) (started (sub 40 (sub_parallel (takes_at 40 u_text c_text)
+      (sub 50 (sub_begin (sub 51 (sub_sequence (takes_at 51 v_text a_text) (takes_at 53 v_text b_text))))))) ∷ stepping by_local ∷ [])) ≡
+      at_fault (wrong_operation 51)
   -- a header without the input, an operation that the machine lacks, and one that is missing
-  pub shorter : lower_verdict (refinement_of (name_at 20 u_text ∷ []) (started both_start ∷ with_operations (step_by [] by_local ∷ []) ∷ [])) ≡ at_fault (wrong_operation 56)
-  pub other_operation : lower_verdict (refinement_of (name_at 20 u_text ∷ []) (started both_start ∷ with_operations (step_by (name_at 58 x_text ∷ []) by_local ∷ operation [] (name_at 90 t_text) [] (sub 94 sub_skip) ∷ []) ∷ [])) ≡ at_fault (wrong_operation 90)
+  pub shorter : lower_verdict (refinement_of (name_at 20 u_text ∷ [])
+      (started both_start ∷ with_operations (step_by [] by_local ∷ []) ∷ [])) ≡ at_fault (wrong_operation 56)
+  pub other_operation : lower_verdict (refinement_of (name_at 20 u_text ∷ []) (started both_start ∷ with_operations (step_by
+      (name_at 58 x_text ∷ []) by_local ∷ operation [] (name_at 90 t_text) [] (sub 94 sub_skip) ∷ []) ∷ [])) ≡ at_fault (wrong_operation 90)
   pub missing : lower_verdict (refinement_of (name_at 20 u_text ∷ []) (started both_start ∷ [])) ≡ at_fault (wrong_operation 0)
   -- ---- 12
   -- an input is written
   pub input : machine_verdict (machine_with (takes_at 70 x_text a_text)) ≡ at_fault (wrong_write 70)
   -- v, v := a, b; and v := a, b
-  pub twice : machine_verdict (machine_with (sub 70 (sub_assign (name_at 70 v_text ∷ name_at 72 v_text ∷ []) (tree_and (term_at 76 a_text) (tree_and (term_at 78 b_text) no_trees))))) ≡ at_fault (wrong_write 72)
-  pub lengths : machine_verdict (machine_with (sub 70 (sub_assign (name_at 70 v_text ∷ []) (tree_and (term_at 76 a_text) (tree_and (term_at 78 b_text) no_trees))))) ≡ at_fault (wrong_write 70)
+  pub twice : machine_verdict (machine_with (sub 70 (sub_assign (name_at 70 v_text ∷ name_at 72 v_text ∷ [])
+      (tree_and (term_at 76 a_text) (tree_and (term_at 78 b_text) no_trees))))) ≡ at_fault (wrong_write 72)
+  pub lengths : machine_verdict
+      (machine_with (sub 70 (sub_assign (name_at 70 v_text ∷ []) (tree_and (term_at 76 a_text) (tree_and (term_at 78 b_text) no_trees))))) ≡
+      at_fault (wrong_write 70)
   -- both sides of || write v
-  pub both_write : lower_verdict (refinement_of (name_at 20 u_text ∷ []) (started (sub 40 (sub_parallel (takes_at 40 v_text a_text) (takes_at 50 v_text b_text))) ∷ stepping by_local ∷ [])) ≡ at_fault (wrong_write 50)
+  pub both_write : lower_verdict (refinement_of (name_at 20 u_text ∷ []) (started
+      (sub 40 (sub_parallel (takes_at 40 v_text a_text) (takes_at 50 v_text b_text))) ∷ stepping by_local ∷ [])) ≡ at_fault (wrong_write 50)
   -- ---- 14
   -- a constant without a value, one outside INT, one of another type, one that stands twice, and a right one
   pub no_value : lower_verdict (code_with (takes_at 40 v_text a_text) []) ≡ at_fault (wrong_value 8)
   pub large_value : lower_verdict (code_with (takes_at 40 v_text a_text) (c_is (number 34 2147483648) ∷ [])) ≡ at_fault (wrong_value 30)
   pub other_value : lower_verdict (code_with (takes_at 40 v_text a_text) (c_is (term_at 34 a_text) ∷ [])) ≡ at_fault (wrong_value 30)
-  pub value_twice : lower_verdict (code_with (takes_at 40 v_text a_text) (c_is (number 34 5) ∷ record { name = name_at 36 c_text; value = number 37 5 } ∷ [])) ≡ at_fault (wrong_value 36)
-  pub right_value : lower_verdict (code_doing (takes_at 40 v_text a_text)) ≡ accepted (below first_level (code_doing (takes_at 40 v_text a_text)))
+  pub value_twice : lower_verdict (code_with (takes_at 40 v_text a_text)
+      (c_is (number 34 5) ∷ record { name = name_at 36 c_text; value = number 37 5 } ∷ [])) ≡ at_fault (wrong_value 36)
+  pub right_value : lower_verdict (code_doing (takes_at 40 v_text a_text)) ≡
+      accepted (below first_level (code_doing (takes_at 40 v_text a_text)))
   -- a deferred set above without a size, one without a size that has an entry, and one with a size
   pub no_size : deferred_verdict 0 (c_is (number 34 5) ∷ []) ≡ at_fault (wrong_value 8)
   pub entry_of_set : deferred_verdict 0 (c_is (number 34 5) ∷ d_is ∷ []) ≡ at_fault (wrong_value 36)
@@ -139,13 +183,19 @@ pub record FaultsAreTold : Type 0 where
   pub not_code : lower_verdict (code_doing (sub 40 (sub_member (name_at 40 v_text) (term_at 44 s_text)))) ≡ at_fault (not_b0 40)
   pub value_first : lower_verdict (code_with (sub 40 (sub_member (name_at 40 v_text) (term_at 44 s_text))) []) ≡ at_fault (wrong_value 8)
   -- VAR t IN t := 1 + c ** 2 ; v := a END is at fault at c ** 2
-  pub power : lower_verdict (code_doing (sub 40 (sub_var (name_at 42 t_text ∷ []) (sub 44 (sub_sequence (takes 44 t_text (infix_at 45 Plus (number 45 1) (infix_at 46 Power (term_at 46 c_text) (number 48 2)))) (takes_at 50 v_text a_text)))))) ≡ at_fault (not_b0 46)
+  pub power : lower_verdict (code_doing (sub 40 (sub_var (name_at 42 t_text ∷ []) (sub 44 (sub_sequence (takes 44 t_text (infix_at 45
+      Plus (number 45 1) (infix_at 46 Power (term_at 46 c_text) (number 48 2)))) (takes_at 50 v_text a_text)))))) ≡ at_fault (not_b0 46)
   -- IF c = 5 THEN v := a ELSIF v = b THEN skip ELSE v := b END is B0
-  pub branches : lower_verdict (code_doing (sub 40 (sub_if (infix_at 41 Equal (term_at 41 c_text) (number 43 5)) (takes_at 44 v_text a_text) (branch_and (infix_at 46 Equal (term_at 46 v_text) (term_at 47 b_text)) (sub 48 sub_skip) (else_branch (takes_at 50 v_text b_text))))))
-      ≡ accepted (below first_level (code_doing (sub 40 (sub_if (infix_at 41 Equal (term_at 41 c_text) (number 43 5)) (takes_at 44 v_text a_text) (branch_and (infix_at 46 Equal (term_at 46 v_text) (term_at 47 b_text)) (sub 48 sub_skip) (else_branch (takes_at 50 v_text b_text)))))))
+  pub branches : lower_verdict
+      (code_doing (sub 40 (sub_if (infix_at 41 Equal (term_at 41 c_text) (number 43 5)) (takes_at 44 v_text a_text) (branch_and
+      (infix_at 46 Equal (term_at 46 v_text) (term_at 47 b_text)) (sub 48 sub_skip) (else_branch (takes_at 50 v_text b_text))))))
+      ≡ accepted (below first_level
+      (code_doing (sub 40 (sub_if (infix_at 41 Equal (term_at 41 c_text) (number 43 5)) (takes_at 44 v_text a_text) (branch_and
+      (infix_at 46 Equal (term_at 46 v_text) (term_at 47 b_text)) (sub 48 sub_skip) (else_branch (takes_at 50 v_text b_text)))))))
   -- a fill over the declared domain, and over another
   pub fill : lower_verdict (array_code (filled_at 46 9)) ≡ accepted (below first_level (array_code (filled_at 46 9)))
   pub other_fill : lower_verdict (array_code (filled_at 46 8)) ≡ at_fault (not_b0 46)
   -- ---- limit 5
   -- 2000 names and one more
-  pub many : machine_verdict (component AsMachine (77 ∷ []) None (clause Constants 10 (clause_names (replicate 2001 (name_at 20 c_text))) ∷ [])) ≡ past_limit 5
+  pub many : machine_verdict
+      (component AsMachine (77 ∷ []) None (clause Constants 10 (clause_names (replicate 2001 (name_at 20 c_text))) ∷ [])) ≡ past_limit 5

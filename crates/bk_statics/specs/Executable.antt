@@ -1,7 +1,8 @@
 -- What is not B0: what an implementation has that is not B0, the part of the notation that has code. A statement that is none is told by
 -- itself; a formula that is none is told where nothing inside it is none. It is told where no other fault is.
 -- Source: B Language Reference Manual, B0; the places are this project's.
-use Rattle.std.specs.Prelude.{ℕ, suc, ◌+◌, ℤ, pos, ◌-ℤ◌, int_le, Bool, true, false, cond, ◌&&◌, ◌||◌, nat_eq, List, [], ◌∷◌, ◌++◌, length, Option, None, Some}
+use Rattle.std.specs.Prelude.{ℕ, suc, ◌+◌, ℤ, pos, ◌-ℤ◌, int_le, Bool, true, false, cond, ◌&&◌}
+use Rattle.std.specs.Prelude.{◌||◌, nat_eq, List, [], ◌∷◌, ◌++◌, length, Option, None, Some}
 use Rattle.bk_val.specs.ValueType.{ValueType, int_type}
 use Rattle.bk_form.specs.ArrayTable.{row_of}
 use Rattle.bk_form.specs.Formula.{Formula, variable, literal, named, binary}
@@ -12,13 +13,17 @@ use Rattle.bk_form.specs.declared.operator.Domain.TheVariants.{Bool as Booleans,
 use Rattle.bk_dev.specs.Development.{Development, is_implementing}
 use Rattle.bk_dev.specs.Layout.{Clue, in_domain, typing_clue, reversed, arrays_of, is_scalar}
 use Rattle.bk_raw.specs.declared.operator.InfixOp.{InfixOp}
-use Rattle.bk_raw.specs.declared.operator.InfixOp.TheVariants.{Equivalent, Implies, And, Or, Equal, NotEqual, Less, AtMost, Greater, AtLeast, Plus, Minus, Times, Divide, Mod}
+use Rattle.bk_raw.specs.declared.operator.InfixOp.TheVariants.{Equivalent, Implies, And, Or, Equal, NotEqual, Less, AtMost}
+use Rattle.bk_raw.specs.declared.operator.InfixOp.TheVariants.{Greater, AtLeast, Plus, Minus, Times, Divide, Mod}
 use Rattle.bk_raw.specs.declared.operator.WordOp.TheVariants.{Not, BoolOf, Succ, Pred}
 use Rattle.bk_raw.specs.declared.operator.Constant.{Constant}
 use Rattle.bk_raw.specs.declared.operator.Constant.TheVariants.{True, False, MaxInt, MinInt}
 use Rattle.bk_raw.specs.declared.term.RawName.{RawName}
-use Rattle.bk_raw.specs.Trees.RawTree.{RawTree, raw, RawTreeNode, raw_name, raw_number, raw_constant, raw_word, raw_negative, raw_infix, raw_inverse, raw_image, raw_apply, raw_composition, raw_pair, raw_extension, RawTrees, no_trees, tree_and}
-use Rattle.bk_raw.specs.Trees.SubTree.{SubTree, sub, SubNode, sub_skip, sub_assign, sub_assign_at, sub_begin, sub_assert, sub_if, sub_var, sub_while, sub_sequence, Branches, no_branches, else_branch, branch_and}
+use Rattle.bk_raw.specs.Trees.RawTree.{RawTree, raw, RawTreeNode, raw_name, raw_number, raw_constant, raw_word}
+use Rattle.bk_raw.specs.Trees.RawTree.{raw_negative, raw_infix, raw_inverse, raw_image, raw_apply, raw_composition}
+use Rattle.bk_raw.specs.Trees.RawTree.{raw_pair, raw_extension, RawTrees, no_trees, tree_and}
+use Rattle.bk_raw.specs.Trees.SubTree.{SubTree, sub, SubNode, sub_skip, sub_assign, sub_assign_at, sub_begin, sub_assert, sub_if}
+use Rattle.bk_raw.specs.Trees.SubTree.{sub_var, sub_while, sub_sequence, Branches, no_branches, else_branch, branch_and}
 use Rattle.bk_raw.specs.Meaning.Names.{Names}
 use Rattle.bk_raw.specs.Meaning.Outcome.{Outcome, partial, whole, ask_domain}
 use Rattle.bk_raw.specs.Errors.Faults.{Fault, not_b0}
@@ -177,8 +182,10 @@ abbrev mutual
   expression_in x names at (raw_word Succ a) = expression_faults x names a
   expression_in x names at (raw_word Pred a) = expression_faults x names a
   expression_in x names at (raw_word BoolOf a) = condition_faults x names a
-  expression_in x names at (raw_infix o a b) = cond (is_sum o && gives_int x names (raw at (raw_infix o a b))) (expression_faults x names a ++ expression_faults x names b) (or_whole at (expression_faults x names a ++ expression_faults x names b))
-  expression_in x names at (raw_apply (raw there (raw_name f)) b) = cond (is_array x names f) (expression_faults x names b) (or_whole at (not_executable (gives_scalar x names (raw there (raw_name f))) there ++ expression_faults x names b))
+  expression_in x names at (raw_infix o a b) = cond (is_sum o && gives_int x names (raw at (raw_infix o a b))) (expression_faults x names a
+      ++ expression_faults x names b) (or_whole at (expression_faults x names a ++ expression_faults x names b))
+  expression_in x names at (raw_apply (raw there (raw_name f)) b) = cond (is_array x names f) (expression_faults x names b)
+      (or_whole at (not_executable (gives_scalar x names (raw there (raw_name f))) there ++ expression_faults x names b))
   expression_in x names at (raw_apply f b) = or_whole at (expression_faults x names f ++ expression_faults x names b)
   expression_in x names at (raw_word o a) = or_whole at (expression_faults x names a)
   expression_in x names at (raw_inverse a) = or_whole at (expression_faults x names a)
@@ -196,8 +203,10 @@ abbrev mutual
   condition_in x names at (raw_word Not a) = condition_faults x names a
   condition_in x names at (raw_infix o a b) =
       cond (joins_conditions o) (condition_faults x names a ++ condition_faults x names b)
-      (cond (is_order o || (is_equation o && (gives_scalar x names a && gives_scalar x names b))) (expression_faults x names a ++ expression_faults x names b)
-      (or_whole at (cond (is_implication o) (condition_faults x names a ++ condition_faults x names b) (expression_faults x names a ++ expression_faults x names b))))
+      (cond (is_order o || (is_equation o && (gives_scalar x names a && gives_scalar x names b)))
+      (expression_faults x names a ++ expression_faults x names b)
+      (or_whole at (cond (is_implication o) (condition_faults x names a ++ condition_faults x names b)
+      (expression_faults x names a ++ expression_faults x names b))))
   condition_in x names at _ = not_b0 at ∷ []
 
   -- several expressions
@@ -225,13 +234,15 @@ domain_read x names d = formula_in (ask_domain 0 (outcome_of x.int_max x.typing 
 -- whether the term is D * {E} for an array that is declared with D
 abbrev pub is_fill : Executing → Names → Option Formula → RawTree → Bool
 is_fill x names None e = false
-is_fill x names (Some domain) (raw at (raw_infix Times d (raw there (raw_extension (tree_and e no_trees))))) = same_domain domain (domain_read x names d) && is_fill_value x names e
+is_fill x names (Some domain) (raw at (raw_infix Times d (raw there (raw_extension (tree_and e no_trees))))) =
+    same_domain domain (domain_read x names d) && is_fill_value x names e
 is_fill x names (Some domain) _ = false
 
 -- x := E for a scalar, or a fill of an array: one variable at a time
 abbrev pub assigned_faults : Executing → Names → ℕ → List RawName → RawTrees → List Fault
 assigned_faults x names at (v ∷ []) (tree_and e no_trees) =
-    cond (is_scalar_option (type_named x.typing names v.text)) (expression_faults x names e) (not_executable (is_fill x names (array_of x (variable_named names v.text)) e) at)
+    cond (is_scalar_option (type_named x.typing names v.text)) (expression_faults x names e)
+    (not_executable (is_fill x names (array_of x (variable_named names v.text)) e) at)
 assigned_faults x names at _ _ = not_b0 at ∷ []
 
 abbrev mutual
@@ -243,10 +254,12 @@ abbrev mutual
   pub statement_in : Executing → Names → ℕ → ℕ → SubNode → List Fault
   statement_in x names n at sub_skip = []
   statement_in x names n at (sub_assign vs es) = assigned_faults x names at vs es
-  statement_in x names n at (sub_assign_at f e v) = not_executable (is_array x names f.text) at ++ (expression_faults x names e ++ expression_faults x names v)
+  statement_in x names n at (sub_assign_at f e v) =
+      not_executable (is_array x names f.text) at ++ (expression_faults x names e ++ expression_faults x names v)
   statement_in x names n at (sub_begin s) = statement_faults x names n s
   statement_in x names n at (sub_assert p s) = statement_faults x names n s
-  statement_in x names n at (sub_if p s bs) = condition_faults x names p ++ (statement_faults x names n s ++ branches_executable x names (n + binder_count s) bs)
+  statement_in x names n at (sub_if p s bs) =
+      condition_faults x names p ++ (statement_faults x names n s ++ branches_executable x names (n + binder_count s) bs)
   statement_in x names n at (sub_var vs s) = statement_faults x (bind (numbered n vs) names) (n + length vs) s
   statement_in x names n at (sub_while p s i v) = condition_faults x names p ++ statement_faults x names n s
   statement_in x names n at (sub_sequence s t) = statement_faults x names n s ++ statement_faults x names (n + binder_count s) t
@@ -255,7 +268,8 @@ abbrev mutual
   pub branches_executable : Executing → Names → ℕ → Branches → List Fault
   branches_executable x names n no_branches = []
   branches_executable x names n (else_branch s) = statement_faults x names n s
-  branches_executable x names n (branch_and p s bs) = condition_faults x names p ++ (statement_faults x names n s ++ branches_executable x names (n + binder_count s) bs)
+  branches_executable x names n (branch_and p s bs) =
+      condition_faults x names p ++ (statement_faults x names n s ++ branches_executable x names (n + binder_count s) bs)
 
 -- ---- declarations
 -- each name of VARIABLES
@@ -266,7 +280,8 @@ abstract_faults (x ∷ xs) = not_b0 x.at ∷ abstract_faults xs
 -- a variable that is neither scalar nor array: at its declaration, or at the component's name where it only comes from above
 abbrev pub stored_faults : Executing → ℕ → List WrittenVariable → ℕ → List Declared → List Fault
 stored_faults x at vs n [] = []
-stored_faults x at vs n (d ∷ ds) = not_executable (is_scalar_option (x.typing n) || is_there (x.array n)) (place_or at (declared_at vs d.text)) ++ stored_faults x at vs (suc n) ds
+stored_faults x at vs n (d ∷ ds) = not_executable (is_scalar_option (x.typing n) || is_there (x.array n))
+    (place_or at (declared_at vs d.text)) ++ stored_faults x at vs (suc n) ds
 
 -- outputs that are no scalars
 abbrev pub output_scalars : Executing → ℕ → List RawName → List Fault
@@ -295,4 +310,6 @@ executable_in x p c =
 
 -- those of an implementation below these levels
 abbrev pub executable_faults : ℤ → Development → Component → List Fault
-executable_faults int_max dev c = cond (is_implementing c.kind) (executable_in (record { int_max = int_max; typing = types_at int_max dev c (plan dev c); array = declared_domain (made int_max dev c (plan dev c)) }) (plan dev c) c) []
+executable_faults int_max dev c = cond (is_implementing c.kind) (executable_in
+    (record { int_max = int_max; typing = types_at int_max dev c (plan dev c); array = declared_domain (made int_max dev c (plan dev c)) })
+    (plan dev c) c) []

@@ -7,7 +7,9 @@ use Rattle.bk_form.specs.Predicates.{IsPredicate}
 use Rattle.bk_gsl.specs.State.{among}
 use Rattle.bk_gsl.specs.Typed.{Types}
 use Rattle.bk_dev.specs.Development.{Head, Body, Level, Development, level_at}
-use Rattle.bk_dev.specs.Facts.{AllAre, Names, IsStated, binders, AreDistinct, all_outputs, all_binders, is_variable_of, names_constants, StaysIn, names_own, names_joined, writes_own, is_variable_above, home_of, IsLevelOf, IsLawful, IsKindAt, IsLink, IsSubOf, MayStandIn, IsHeadOf, AllAlike, IsBodyOf, EachBody, HomesAreThere}
+use Rattle.bk_dev.specs.Facts.{AllAre, Names, IsStated, binders, AreDistinct, all_outputs, all_binders, is_variable_of, names_constants}
+use Rattle.bk_dev.specs.Facts.{StaysIn, names_own, names_joined, writes_own, is_variable_above, home_of, IsLevelOf, IsLawful, IsKindAt}
+use Rattle.bk_dev.specs.Facts.{IsLink, IsSubOf, MayStandIn, IsHeadOf, AllAlike, IsBodyOf, EachBody, HomesAreThere}
 use Rattle.bk_raw.specs.Meaning.Speaking.{AreTyped}
 use Rattle.bk_statics.specs.Components.{Component, is_machine, initialisation}
 use Rattle.bk_statics.specs.Typings.{Typing, interval, typed}
@@ -32,7 +34,8 @@ body_count (h ∷ hs) = binder_count h.operation.body + body_count hs
 abbrev pub LevelsBindIntervals : Type 0
 LevelsBindIntervals = (int_max : ℤ) (typing : Typing) (p : Plan) (c : Component)
     → (flat_map (λ b. b.outputs) (level_made int_max typing p c).bodies ≡ interval p.outputs_at (output_count p.headed))
-    × (binders (level_made int_max typing p c).init ++ flat_map (λ b. binders b.sub) (level_made int_max typing p c).bodies ≡ interval p.binders_at (binder_count (initialisation c) + body_count p.headed))
+    × (binders (level_made int_max typing p c).init ++ flat_map (λ b. binders b.sub) (level_made int_max typing p c).bodies ≡
+    interval p.binders_at (binder_count (initialisation c) + body_count p.headed))
 
 -- no variable is bound twice in a development, none that is bound is an output, and all have an entry
 pub record StandApart (dev : Development) : Type 0 where
@@ -46,7 +49,8 @@ BindersStandApart = (int_max : ℤ) (dev : Development) (c : Component) → Stan
 -- ---- homes
 -- each variable has a home
 abbrev pub HomesAreAll : Type 0
-HomesAreAll = (int_max : ℤ) (dev : Development) (c : Component) → length dev.homes ≡ length dev.table.variables → length (level_below int_max dev c).homes ≡ length (level_below int_max dev c).table.variables
+HomesAreAll = (int_max : ℤ) (dev : Development) (c : Component) → length dev.homes ≡ length dev.table.variables →
+    length (level_below int_max dev c).homes ≡ length (level_below int_max dev c).table.variables
 
 -- what is asked of the levels above: each is so of a development
 pub record IsReady (dev : Development) : Type 0 where
@@ -58,10 +62,14 @@ pub record IsReady (dev : Development) : Type 0 where
 -- ---- clauses
 -- properties, invariant and assertions are predicates, and name what they may
 pub record StatesRight (int_max : ℤ) (dev : Development) (c : Component) : Type 0 where
-  pub properties : IsPredicate (level_below int_max dev c).table (level_made int_max (types_at int_max dev c (plan dev c)) (plan dev c) c).properties
-  pub properties_names : Names (names_constants (level_below int_max dev c)) (level_made int_max (types_at int_max dev c (plan dev c)) (plan dev c) c).properties
-  pub invariant : IsStated (level_below int_max dev c) (plan dev c).level (level_made int_max (types_at int_max dev c (plan dev c)) (plan dev c) c).invariant
-  pub assertions : Each (IsStated (level_below int_max dev c) (plan dev c).level) (level_made int_max (types_at int_max dev c (plan dev c)) (plan dev c) c).assertions
+  pub properties : IsPredicate (level_below int_max dev c).table
+      (level_made int_max (types_at int_max dev c (plan dev c)) (plan dev c) c).properties
+  pub properties_names : Names (names_constants (level_below int_max dev c))
+      (level_made int_max (types_at int_max dev c (plan dev c)) (plan dev c) c).properties
+  pub invariant : IsStated (level_below int_max dev c) (plan dev c).level
+      (level_made int_max (types_at int_max dev c (plan dev c)) (plan dev c) c).invariant
+  pub assertions : Each (IsStated (level_below int_max dev c) (plan dev c).level)
+      (level_made int_max (types_at int_max dev c (plan dev c)) (plan dev c) c).assertions
 
 -- faults or not
 abbrev pub ClausesAreRight : Type 0
@@ -71,11 +79,14 @@ ClausesAreRight = (int_max : ℤ) (dev : Development) (c : Component) → IsRead
 -- without faults it types, and names and writes what it may
 pub record StartsRight (int_max : ℤ) (dev : Development) (c : Component) : Type 0 where
   pub types : Types (level_below int_max dev c).table (level_made int_max (types_at int_max dev c (plan dev c)) (plan dev c) c).init
-  pub stays : StaysIn (names_own (level_below int_max dev c) (plan dev c).level [] []) (names_joined (level_below int_max dev c) (plan dev c).level) (writes_own (level_below int_max dev c) (plan dev c).level []) (level_made int_max (types_at int_max dev c (plan dev c)) (plan dev c) c).init
+  pub stays : StaysIn (names_own (level_below int_max dev c) (plan dev c).level [] [])
+      (names_joined (level_below int_max dev c) (plan dev c).level) (writes_own (level_below int_max dev c) (plan dev c).level [])
+      (level_made int_max (types_at int_max dev c (plan dev c)) (plan dev c) c).init
 
 -- where a component has no fault, its initialisation may stand there
 abbrev pub InitialisationsAreRight : Type 0
-InitialisationsAreRight = (int_max : ℤ) (dev : Development) (c : Component) → IsReady dev → static_faults int_max dev c ≡ [] → StartsRight int_max dev c
+InitialisationsAreRight = (int_max : ℤ) (dev : Development) (c : Component) →
+    IsReady dev → static_faults int_max dev c ≡ [] → StartsRight int_max dev c
 
 -- ---- bodies
 -- an operation whose numbers stand after the level's, and whose inputs have types and are these
@@ -89,12 +100,17 @@ pub record IsPlaced (int_max : ℤ) (dev : Development) (c : Component) (inputs 
 
 -- without faults its body, with the precondition, types, and names, writes and binds what it may
 pub record BodyRight (int_max : ℤ) (dev : Development) (c : Component) (inputs : List ℕ) (o : Placed) : Type 0 where
-  pub types : Types (level_below int_max dev c).table (elaborated int_max (types_at int_max dev c (plan dev c)) (plan dev c).upper (body_scope (plan dev c) o) o.binders_at o.headed.operation.body)
-  pub stays : StaysIn (names_own (level_below int_max dev c) (plan dev c).level inputs (outputs_of o)) (names_joined (level_below int_max dev c) (plan dev c).level) (writes_own (level_below int_max dev c) (plan dev c).level (outputs_of o)) (elaborated int_max (types_at int_max dev c (plan dev c)) (plan dev c).upper (body_scope (plan dev c) o) o.binders_at o.headed.operation.body)
+  pub types : Types (level_below int_max dev c).table (elaborated int_max (types_at int_max dev c (plan dev c))
+      (plan dev c).upper (body_scope (plan dev c) o) o.binders_at o.headed.operation.body)
+  pub stays : StaysIn (names_own (level_below int_max dev c) (plan dev c).level inputs (outputs_of o)) (names_joined
+      (level_below int_max dev c) (plan dev c).level) (writes_own (level_below int_max dev c) (plan dev c).level (outputs_of o)) (elaborated
+      int_max (types_at int_max dev c (plan dev c)) (plan dev c).upper (body_scope (plan dev c) o) o.binders_at o.headed.operation.body)
 
 -- where a component has no fault, the bodies of its operations may stand there
 abbrev pub BodiesAreRight : Type 0
-BodiesAreRight = (int_max : ℤ) (dev : Development) (c : Component) → IsReady dev → clause_faults int_max (types_at int_max dev c (plan dev c)) (plan dev c) c ≡ [] → (inputs : List ℕ) (o : Placed) → IsPlaced int_max dev c inputs o → body_faults int_max dev c (types_at int_max dev c (plan dev c)) (plan dev c) o ≡ [] → BodyRight int_max dev c inputs o
+BodiesAreRight = (int_max : ℤ) (dev : Development) (c : Component) → IsReady dev → clause_faults int_max
+    (types_at int_max dev c (plan dev c)) (plan dev c) c ≡ [] → (inputs : List ℕ) (o : Placed) → IsPlaced int_max dev c inputs o →
+    body_faults int_max dev c (types_at int_max dev c (plan dev c)) (plan dev c) o ≡ [] → BodyRight int_max dev c inputs o
 
 -- ---- links
 -- it is one of them
@@ -104,8 +120,10 @@ IsIn x (y ∷ ys) = (x ≡ y) ⊎ IsIn x ys
 
 -- a link's variable is at home at the level, and has the type of the one above
 abbrev pub LinksAreRight : Type 0
-LinksAreRight = (int_max : ℤ) (dev : Development) (c : Component) → IsReady dev → (n m : ℕ) → IsIn (n, m) (level_made int_max (types_at int_max dev c (plan dev c)) (plan dev c) c).links
-    → (is_variable_of (plan dev c).level (home_of (level_below int_max dev c) n) ≡ true) × (types_at int_max dev c (plan dev c) n ≡ known dev m)
+LinksAreRight = (int_max : ℤ) (dev : Development) (c : Component) → IsReady dev → (n m : ℕ) →
+    IsIn (n, m) (level_made int_max (types_at int_max dev c (plan dev c)) (plan dev c) c).links
+    → (is_variable_of (plan dev c).level (home_of (level_below int_max dev c) n) ≡ true)
+    × (types_at int_max dev c (plan dev c) n ≡ known dev m)
 
 -- ---- the level
 -- what a component at level k is, but for its bodies
@@ -125,7 +143,8 @@ pub record HasClauses (dev : Development) (k : ℕ) (l : Level) : Type 0 where
 
 -- without faults a component of its kind is so
 abbrev pub NewLevelHasClauses : Type 0
-NewLevelHasClauses = (int_max : ℤ) (dev : Development) (c : Component) → IsReady dev → HomesAreThere dev → IsKindAt (length dev.levels) c.kind → static_faults int_max dev c ≡ []
+NewLevelHasClauses = (int_max : ℤ) (dev : Development) (c : Component) → IsReady dev →
+    HomesAreThere dev → IsKindAt (length dev.levels) c.kind → static_faults int_max dev c ≡ []
     → HasClauses (level_below int_max dev c) (length dev.levels) (level_made int_max (types_at int_max dev c (plan dev c)) (plan dev c) c)
 
 -- ---- operations
@@ -134,7 +153,8 @@ pub record IsWithin (dev : Development) (c : Component) (o : Placed) : Type 0 wh
   pub outputs : (plan dev c).outputs_at ≤ o.outputs_at
   pub all_outputs : o.outputs_at + length o.headed.operation.outputs ≤ (plan dev c).binders_at
   pub binders : (plan dev c).binders_at ≤ o.binders_at
-  pub all_binders : o.binders_at + binder_count o.headed.operation.body ≤ (plan dev c).binders_at + (binder_count (initialisation c) + body_count (plan dev c).headed)
+  pub all_binders : o.binders_at + binder_count o.headed.operation.body
+      ≤ (plan dev c).binders_at + (binder_count (initialisation c) + body_count (plan dev c).headed)
 
 -- it stands within the level, with the machine's inputs, and with outputs that are as many as its header's and have the types of the
 -- machine's, and is without faults
@@ -157,27 +177,33 @@ NewBodiesAreBodies = (int_max : ℤ) (dev : Development) (c : Component) → IsR
 pub record MachineRight (int_max : ℤ) (dev : Development) (c : Component) : Type 0 where
   pub heads : Each (IsHeadOf (level_below int_max dev c)) (plan dev c).heads
   pub own_inputs : AreDistinct (flat_map (λ h. h.inputs) (plan dev c).heads)
-  pub bodies : EachBody (level_below int_max dev c) (plan dev c).level (plan dev c).heads (level_made int_max (types_at int_max dev c (plan dev c)) (plan dev c) c).bodies (level_made int_max (types_at int_max dev c (plan dev c)) (plan dev c) c).bodies
+  pub bodies : EachBody (level_below int_max dev c) (plan dev c).level (plan dev c).heads (level_made int_max (types_at int_max
+      dev c (plan dev c)) (plan dev c) c).bodies (level_made int_max (types_at int_max dev c (plan dev c)) (plan dev c) c).bodies
 
 -- what a machine without a fault makes is the first level of a development
 abbrev pub MachinesAreRight : Type 0
-MachinesAreRight = (int_max : ℤ) (dev : Development) (c : Component) → IsReady dev → is_machine c.kind ≡ true → static_faults int_max dev c ≡ [] → MachineRight int_max dev c
+MachinesAreRight = (int_max : ℤ) (dev : Development) (c : Component) → IsReady dev →
+    is_machine c.kind ≡ true → static_faults int_max dev c ≡ [] → MachineRight int_max dev c
 
 -- the operations of a component below without faults are those of the machine's headers
 pub record LowerRight (int_max : ℤ) (dev : Development) (c : Component) : Type 0 where
   pub heads : (level_below int_max dev c).heads ≡ dev.heads
-  pub bodies : EachBody (level_below int_max dev c) (plan dev c).level dev.heads (level_at dev 0).bodies (level_made int_max (types_at int_max dev c (plan dev c)) (plan dev c) c).bodies
+  pub bodies : EachBody (level_below int_max dev c) (plan dev c).level dev.heads (level_at dev 0).bodies
+      (level_made int_max (types_at int_max dev c (plan dev c)) (plan dev c) c).bodies
   pub shapes : Each (λ (b : Body). MayStandIn c.kind b.sub) (level_made int_max (types_at int_max dev c (plan dev c)) (plan dev c) c).bodies
 
 -- what another component without a fault makes is one more level of a development
 abbrev pub LowersAreRight : Type 0
-LowersAreRight = (int_max : ℤ) (dev : Development) (c : Component) → IsReady dev → IsLawful dev → is_machine c.kind ≡ false → static_faults int_max dev c ≡ [] → LowerRight int_max dev c
+LowersAreRight = (int_max : ℤ) (dev : Development) (c : Component) → IsReady dev → IsLawful dev →
+    is_machine c.kind ≡ false → static_faults int_max dev c ≡ [] → LowerRight int_max dev c
 
 -- ---- the levels above
 -- the levels of a lawful development are levels below it too, whatever component is put below, faults or not
 abbrev pub OldLevelsStay : Type 0
-OldLevelsStay = (int_max : ℤ) (dev : Development) (c : Component) → IsLawful dev → is_machine c.kind ≡ false → (k : ℕ) → k < length dev.levels → IsLevelOf (level_below int_max dev c) k (level_at dev k)
+OldLevelsStay = (int_max : ℤ) (dev : Development) (c : Component) → IsLawful dev → is_machine c.kind ≡ false →
+    (k : ℕ) → k < length dev.levels → IsLevelOf (level_below int_max dev c) k (level_at dev k)
 
 -- with each component, faults or not, this stays so
 abbrev pub HomesStay : Type 0
-HomesStay = (int_max : ℤ) (dev : Development) (c : Component) → length dev.homes ≡ length dev.table.variables → HomesAreThere dev → HomesAreThere (level_below int_max dev c)
+HomesStay = (int_max : ℤ) (dev : Development) (c : Component) → length dev.homes ≡ length dev.table.variables →
+    HomesAreThere dev → HomesAreThere (level_below int_max dev c)

@@ -22,7 +22,8 @@ use Rattle.bk_statics.specs.Binders.{texts, binder_texts}
 use Rattle.bk_statics.specs.Elaborated.{elaborated}
 use Rattle.bk_statics.specs.Ways.{Way, no_way, by_conjuncts, same_as, ways_by, way_from, assigned_ways, ways, settled}
 use Rattle.bk_statics.specs.Above.{known}
-use Rattle.bk_statics.specs.Plan.{Declared, declared_texts, entries_of, links_from, fresh, Headed, Placed, Plan, plan, operations_of, scope, joined, body_scope, input_scope}
+use Rattle.bk_statics.specs.Plan.{Declared, declared_texts, entries_of, links_from, fresh, Headed, Placed}
+use Rattle.bk_statics.specs.Plan.{Plan, plan, operations_of, scope, joined, body_scope, input_scope}
 
 -- ---- types
 -- a variable that stands above has the type that it has there, and the i-th of the others its type by the invariant's conjuncts
@@ -53,7 +54,8 @@ lower_output_ways names (x ∷ xs) = way_from (variable_named names x.text) ∷ 
 
 -- those of an operation's outputs, at the machine by their first assignments
 abbrev pub output_ways : Kind → Plan → Placed → List Way
-output_ways kind p o = cond (is_machine kind) (assigned_ways (body_scope p o) o.binders_at o.headed.operation.body o.outputs_at o.headed.operation.outputs) (lower_output_ways o.headed.machine_outputs o.headed.operation.outputs)
+output_ways kind p o = cond (is_machine kind) (assigned_ways (body_scope p o) o.binders_at o.headed.operation.body
+    o.outputs_at o.headed.operation.outputs) (lower_output_ways o.headed.machine_outputs o.headed.operation.outputs)
 
 -- those of all outputs
 abbrev pub all_output_ways : Kind → Plan → List Placed → List Way
@@ -200,7 +202,8 @@ with_value _ _ vs = vs
 -- the constants with their values, in the order of the entries
 abbrev pub values_made : ℤ → Typing → Names → List RawValue → List (ℕ × Formula)
 values_made int_max typing globals [] = []
-values_made int_max typing globals (v ∷ vs) = with_value (variable_named globals v.name.text) (value_of int_max typing globals v) (values_made int_max typing globals vs)
+values_made int_max typing globals (v ∷ vs) =
+    with_value (variable_named globals v.name.text) (value_of int_max typing globals v) (values_made int_max typing globals vs)
 
 -- ---- the level, and all levels with it
 -- the component as a level

@@ -7,7 +7,9 @@ use Rattle.bk_dev.specs.declared.kind.Kind.TheVariants.{Machine}
 use Rattle.bk_dev.specs.Development.{Head, Development, is_implementing}
 use Rattle.bk_raw.specs.declared.term.RawName.{RawName}
 use Rattle.bk_raw.specs.Trees.ComponentTree.{RawOperation}
-use Rattle.bk_raw.specs.Trees.SubTree.{SubTree, sub, SubNode, sub_skip, sub_assign, sub_assign_at, sub_member, sub_such, sub_begin, sub_pre, sub_assert, sub_if, sub_choice, sub_select, sub_any, sub_let, sub_var, sub_while, sub_parallel, sub_sequence, Branches, no_branches, else_branch, branch_and, Choices, no_choices, choice_and}
+use Rattle.bk_raw.specs.Trees.SubTree.{SubTree, sub, SubNode, sub_skip, sub_assign, sub_assign_at, sub_member, sub_such, sub_begin, sub_pre}
+use Rattle.bk_raw.specs.Trees.SubTree.{sub_assert, sub_if, sub_choice, sub_select, sub_any, sub_let, sub_var, sub_while, sub_parallel}
+use Rattle.bk_raw.specs.Trees.SubTree.{sub_sequence, Branches, no_branches, else_branch, branch_and, Choices, no_choices, choice_and}
 use Rattle.bk_raw.specs.Meaning.Binders.{is_text}
 use Rattle.bk_raw.specs.Errors.Faults.{Fault, wrong_operation}
 use Rattle.bk_statics.specs.Components.{Component, first_token, operation_names, is_machine, initialisation}
@@ -49,7 +51,8 @@ abbrev mutual
   shape_in kind inside at (sub_var xs s) = unless (may_sequence kind && not inside) at ++ shape_faults kind inside s
   shape_in kind inside at (sub_while p s i v) = unless (is_implementing kind && not inside) at ++ shape_faults kind inside s
   shape_in kind inside at (sub_parallel s t) = shape_faults kind true s ++ shape_faults kind true t
-  shape_in kind inside at (sub_sequence s t) = unless (may_sequence kind && not inside) at ++ (shape_faults kind inside s ++ shape_faults kind inside t)
+  shape_in kind inside at (sub_sequence s t) =
+      unless (may_sequence kind && not inside) at ++ (shape_faults kind inside s ++ shape_faults kind inside t)
 
   pub branches_shape : Kind → Bool → Branches → List Fault
   branches_shape kind inside no_branches = []
@@ -74,7 +77,8 @@ same_texts _ _ = false
 
 -- whether the machine's operation o, which has this header, has the inputs and outputs of the operation, in the same order
 abbrev pub is_same_header : Development → ℕ → Head → RawOperation → Bool
-is_same_header dev o h r = same_texts (named_texts (inputs_named dev.table h.inputs)) (texts r.inputs) && same_texts (named_texts (outputs_named dev o)) (texts r.outputs)
+is_same_header dev o h r = same_texts (named_texts (inputs_named dev.table h.inputs)) (texts r.inputs)
+    && same_texts (named_texts (outputs_named dev o)) (texts r.outputs)
 
 -- whether each of these headers that has the operation's name has its inputs and outputs, the machine's operations being those from o on
 abbrev pub heads_as : Development → ℕ → List Head → RawOperation → Bool

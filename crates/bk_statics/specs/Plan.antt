@@ -97,12 +97,14 @@ pub record Headed : Type 0 where
 -- at the machine the inputs have the numbers from n on
 abbrev pub machine_headed : ℕ → List RawOperation → List Headed
 machine_headed n [] = []
-machine_headed n (o ∷ os) = record { operation = o; inputs = numbered n o.inputs; machine_outputs = [] } ∷ machine_headed (n + length o.inputs) os
+machine_headed n (o ∷ os) =
+    record { operation = o; inputs = numbered n o.inputs; machine_outputs = [] } ∷ machine_headed (n + length o.inputs) os
 
 -- and these are the headers
 abbrev pub machine_heads : ℕ → List RawOperation → List Head
 machine_heads n [] = []
-machine_heads n (o ∷ os) = record { name = o.name.text; inputs = interval n (length o.inputs); outputs = length o.outputs } ∷ machine_heads (n + length o.inputs) os
+machine_heads n (o ∷ os) = record { name = o.name.text; inputs = interval n (length o.inputs); outputs = length o.outputs } ∷
+    machine_heads (n + length o.inputs) os
 
 -- how many inputs there are
 abbrev pub input_count : List RawOperation → ℕ
@@ -149,7 +151,8 @@ headed_by far inputs outputs o = record { operation = o; inputs = inputs_by far 
 -- each header with the operation of its name, from operation o on
 abbrev pub lower_headed : ℕ → Development → ℕ → List Head → List RawOperation → List Headed
 lower_headed far dev o [] os = []
-lower_headed far dev o (h ∷ hs) os = headed_by far (inputs_named dev.table h.inputs) (outputs_named dev o) (operation_named h.name os) ∷ lower_headed far dev (suc o) hs os
+lower_headed far dev o (h ∷ hs) os =
+    headed_by far (inputs_named dev.table h.inputs) (outputs_named dev o) (operation_named h.name os) ∷ lower_headed far dev (suc o) hs os
 
 -- the operations that the machine lacks, which are refused in the end
 abbrev pub other_headed : ℕ → List Head → List RawOperation → List Headed
@@ -165,7 +168,8 @@ pub record Placed : Type 0 where
 -- operations, the outputs of the first having the numbers from n on and its binders those from b on
 abbrev pub placed : ℕ → ℕ → List Headed → List Placed
 placed n b [] = []
-placed n b (h ∷ hs) = record { headed = h; outputs_at = n; binders_at = b } ∷ placed (n + length h.operation.outputs) (b + binder_count h.operation.body) hs
+placed n b (h ∷ hs) =
+    record { headed = h; outputs_at = n; binders_at = b } ∷ placed (n + length h.operation.outputs) (b + binder_count h.operation.body) hs
 
 -- how many outputs they have
 abbrev pub output_count : List Headed → ℕ
@@ -198,11 +202,13 @@ plan_heads dev c n = cond (is_machine c.kind) (machine_heads n c.operations) dev
 
 -- the operations in the machine's order
 abbrev pub plan_headed : Development → Component → ℕ → ℕ → List Headed
-plan_headed dev c n far = cond (is_machine c.kind) (machine_headed n c.operations) (lower_headed far dev 0 dev.heads c.operations ++ other_headed far dev.heads c.operations)
+plan_headed dev c n far = cond (is_machine c.kind) (machine_headed n c.operations)
+    (lower_headed far dev 0 dev.heads c.operations ++ other_headed far dev.heads c.operations)
 
 -- sets, elements and constants of the component, whose first set and first constant have these numbers, and of the levels above
 abbrev pub plan_globals : Development → Component → Names
-plan_globals dev c = bind (numbered (length dev.table.variables) c.constants) (set_names (length dev.table.sets) (entries_of c.sets) ++ globals_of dev)
+plan_globals dev c =
+    bind (numbered (length dev.table.variables) c.constants) (set_names (length dev.table.sets) (entries_of c.sets) ++ globals_of dev)
 
 -- the component's plan below these levels
 abbrev pub plan : Development → Component → Plan
@@ -212,7 +218,8 @@ plan dev c =
     let v = base + length c.constants in
     let i = v + length vs in
     let o = i + cond (is_machine c.kind) (input_count c.operations) 0 in
-    let headed = plan_headed dev c i (o + (binder_count (initialisation c) + (sizes dev.heads c.operations + other_sizes dev.heads c.operations))) in
+    let headed =
+    plan_headed dev c i (o + (binder_count (initialisation c) + (sizes dev.heads c.operations + other_sizes dev.heads c.operations))) in
     record {
       level = length dev.levels;
       constants_at = base;

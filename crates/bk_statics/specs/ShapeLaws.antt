@@ -17,4 +17,5 @@ pub record IsShaped (kind : Kind) (inside : Bool) (s : Substitution) : Type 0 wh
 
 -- a written substitution that stands where it may reads as one that does
 abbrev pub ShapesAreRight : Type 0
-ShapesAreRight = (kind : Kind) (inside : Bool) (int_max : ℤ) (typing : Typing) (above names : Names) (n : ℕ) (s : SubTree) → shape_faults kind inside s ≡ [] → IsShaped kind inside (elaborated int_max typing above names n s)
+ShapesAreRight = (kind : Kind) (inside : Bool) (int_max : ℤ) (typing : Typing) (above names : Names) (n : ℕ) (s : SubTree) →
+    shape_faults kind inside s ≡ [] → IsShaped kind inside (elaborated int_max typing above names n s)

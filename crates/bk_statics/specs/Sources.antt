@@ -30,7 +30,8 @@ pub record AreTold (table : Table) (top : ℕ) (typing : Typing) : Type 0 where
 
 -- this stays so when the types are settled
 abbrev pub SettledTypesAreListed : Type 0
-SettledTypesAreListed = (int_max : ℤ) (table : Table) (top n : ℕ) (ws : List Way) (typing : Typing) → AreWaysOf table ws → n + length ws ≤ top → AreTold table top typing → AreTold table top (settled int_max n ws typing)
+SettledTypesAreListed = (int_max : ℤ) (table : Table) (top n : ℕ) (ws : List Way) (typing : Typing) →
+    AreWaysOf table ws → n + length ws ≤ top → AreTold table top typing → AreTold table top (settled int_max n ws typing)
 
 -- the types of a table's variables have only its sets
 abbrev pub ListsItsTypes : Table → Type 0

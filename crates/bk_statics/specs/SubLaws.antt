@@ -14,7 +14,9 @@ use Rattle.bk_statics.specs.Settled.{IsSettled, AreOf, AreSeen, IsBelow}
 
 -- what a substitution binds is an interval of numbers, each once
 abbrev pub BindersAreIntervals : Type 0
-BindersAreIntervals = (int_max : ℤ) (typing : Typing) (above names : Names) (n : ℕ) (s : SubTree) → (binders (elaborated int_max typing above names n s) ≡ interval n (binder_count s)) × AreDistinct (binders (elaborated int_max typing above names n s))
+BindersAreIntervals = (int_max : ℤ) (typing : Typing) (above names : Names) (n : ℕ) (s : SubTree) →
+    (binders (elaborated int_max typing above names n s) ≡ interval n (binder_count s))
+    × AreDistinct (binders (elaborated int_max typing above names n s))
 
 -- the types are those of the table, both lists of names are of it, and the names have types
 pub record AreNamesOf (table : Table) (typing : Typing) (above names : Names) : Type 0 where

@@ -14,14 +14,17 @@ use Rattle.bk_dev.specs.Counter.{counter, number_at, counter_level, machine_name
 use Rattle.bk_raw.specs.declared.operator.InfixOp.{InfixOp}
 use Rattle.bk_raw.specs.declared.operator.InfixOp.TheVariants.{Member, Times, TotalFunctions, Interval}
 use Rattle.bk_raw.specs.declared.component.ComponentKind.{ComponentKind}
-use Rattle.bk_raw.specs.declared.component.ComponentKind.TheVariants.{Machine as AsMachine, Refinement as AsRefinement, Implementation as AsImplementation}
+use Rattle.bk_raw.specs.declared.component.ComponentKind.TheVariants.{Machine as AsMachine, Refinement as AsRefinement}
+use Rattle.bk_raw.specs.declared.component.ComponentKind.TheVariants.{Implementation as AsImplementation}
 use Rattle.bk_raw.specs.declared.component.ClauseWord.{ClauseWord}
-use Rattle.bk_raw.specs.declared.component.ClauseWord.TheVariants.{Sets, Constants, Properties, Variables, ConcreteVariables, Invariant, Values, Initialisation, Operations}
+use Rattle.bk_raw.specs.declared.component.ClauseWord.TheVariants.{Sets, Constants, Properties, Variables, ConcreteVariables}
+use Rattle.bk_raw.specs.declared.component.ClauseWord.TheVariants.{Invariant, Values, Initialisation, Operations}
 use Rattle.bk_raw.specs.declared.component.RawValue.{RawValue}
 use Rattle.bk_raw.specs.declared.term.RawName.{RawName}
 use Rattle.bk_raw.specs.Trees.RawTree.{RawTree, raw, raw_name, raw_number, raw_infix, raw_extension, RawTrees, no_trees, tree_and}
 use Rattle.bk_raw.specs.Trees.SubTree.{SubTree, sub, sub_assign, sub_pre, sub_var, sub_sequence, sub_parallel}
-use Rattle.bk_raw.specs.Trees.ComponentTree.{RawOperation, RawClause, RawComponent, ClauseParts, clause_sets, clause_names, clause_term, clause_values, clause_sub, clause_operations}
+use Rattle.bk_raw.specs.Trees.ComponentTree.{RawOperation, RawClause, RawComponent, ClauseParts, clause_sets}
+use Rattle.bk_raw.specs.Trees.ComponentTree.{clause_names, clause_term, clause_values, clause_sub, clause_operations}
 use Rattle.bk_statics.specs.Components.{component_of}
 use Rattle.bk_statics.specs.Above.{above_of}
 use Rattle.bk_statics.specs.Verdict.{Verdict, level_below, verdict_of}
@@ -102,15 +105,18 @@ get_at at = operation (name_at at r_text ∷ []) (name_at at get_name) [] (takes
 
 -- INVARIANT n : 0 .. 10 INITIALISATION n := 0 and these operations
 abbrev pub counting : List RawOperation → List RawClause
-counting os = clause Invariant 22 (clause_term (is_in 30 n_text (up_to 34 10))) ∷ clause Initialisation 36 (clause_sub (n_is 40 0)) ∷ clause Operations 45 (clause_operations os) ∷ []
+counting os = clause Invariant 22 (clause_term (is_in 30 n_text (up_to 34 10))) ∷
+    clause Initialisation 36 (clause_sub (n_is 40 0)) ∷ clause Operations 45 (clause_operations os) ∷ []
 
 -- the counter as it is written
 abbrev pub counter_text : RawComponent
-counter_text = component AsMachine machine_name None (clause Variables 15 (clause_names (name_at 20 n_text ∷ [])) ∷ counting (reset_at 50 ∷ setmax_at 60 ∷ get_at 70 ∷ []))
+counter_text = component AsMachine machine_name None
+    (clause Variables 15 (clause_names (name_at 20 n_text ∷ [])) ∷ counting (reset_at 50 ∷ setmax_at 60 ∷ get_at 70 ∷ []))
 
 -- its implementation, whose operations stand in another order
 abbrev pub counter_code_text : RawComponent
-counter_code_text = component AsImplementation implementation_name (Some (name_at 10 machine_name)) (clause ConcreteVariables 15 (clause_names (name_at 20 n_text ∷ [])) ∷ counting (get_at 50 ∷ reset_at 60 ∷ setmax_at 70 ∷ []))
+counter_code_text = component AsImplementation implementation_name (Some (name_at 10 machine_name))
+    (clause ConcreteVariables 15 (clause_names (name_at 20 n_text ∷ [])) ∷ counting (get_at 50 ∷ reset_at 60 ∷ setmax_at 70 ∷ []))
 
 -- both, numbered level by level
 abbrev pub counter_made : Development
@@ -229,7 +235,8 @@ refinement_text = refinement_of (name_at 20 u_text ∷ []) (started both_start �
 
 -- the variables of M
 abbrev pub machine_entries : List VariableEntry
-machine_entries = record { text = c_text; of_type = int_type } ∷ record { text = 118 ∷ 36 ∷ 48 ∷ []; of_type = enum_type 0 } ∷ record { text = x_text; of_type = enum_type 0 } ∷ []
+machine_entries = record { text = c_text; of_type = int_type } ∷
+    record { text = 118 ∷ 36 ∷ 48 ∷ []; of_type = enum_type 0 } ∷ record { text = x_text; of_type = enum_type 0 } ∷ []
 
 -- M as a level
 abbrev pub machine_level : Level
@@ -256,7 +263,11 @@ refinement_level = record {
   links = (3, 1) ∷ [];
   assertions = [];
   init = par (assign ((3, element 0 0) ∷ [])) (assign ((4, variable 0) ∷ []));
-  bodies = record { condition = btrue; sub = any (5 ∷ []) (seq (assign ((5, variable 0) ∷ [])) (assign ((4, variable 5) ∷ []))); outputs = [] } ∷ [];
+  bodies = record {
+    condition = btrue;
+    sub = any (5 ∷ []) (seq (assign ((5, variable 0) ∷ [])) (assign ((4, variable 5) ∷ [])));
+    outputs = [];
+  } ∷ [];
 }
 
 -- M and R
@@ -265,7 +276,8 @@ refined = record {
   max = default_max;
   table = record {
     sets = record { name = s_text; elements = a_text ∷ b_text ∷ []; size = 2 } ∷ [];
-    variables = machine_entries ++ record { text = 118 ∷ 36 ∷ 49 ∷ []; of_type = enum_type 0 } ∷ record { text = 117 ∷ 36 ∷ 49 ∷ []; of_type = int_type } ∷ record { text = t_text; of_type = int_type } ∷ [];
+    variables = machine_entries ++ record { text = 118 ∷ 36 ∷ 49 ∷ []; of_type = enum_type 0 } ∷
+        record { text = 117 ∷ 36 ∷ 49 ∷ []; of_type = int_type } ∷ record { text = t_text; of_type = int_type } ∷ [];
   };
   homes = Constant ∷ Concrete 0 ∷ Input ∷ Concrete 1 ∷ Abstract 1 ∷ Inner 1 ∷ [];
   sets = record { name = s_text; elements = a_text ∷ b_text ∷ []; size = 2 } ∷ [];
@@ -299,7 +311,8 @@ step_done body = (body_at (below None (machine_with body)) 0 0).sub
 -- ---- implementations
 -- an implementation of M with this initialisation and these values, and these clauses
 abbrev pub code_of : List RawClause → SubTree → List RawValue → RawComponent
-code_of clauses init values = component AsImplementation (73 ∷ []) (Some (name_at 10 (77 ∷ []))) (clause Values 29 (clause_values values) ∷ started init ∷ stepping (takes_at 60 v_text x_text) ∷ clauses)
+code_of clauses init values = component AsImplementation (73 ∷ []) (Some (name_at 10 (77 ∷ [])))
+    (clause Values 29 (clause_values values) ∷ started init ∷ stepping (takes_at 60 v_text x_text) ∷ clauses)
 
 -- c = E
 abbrev pub c_is : RawTree → RawValue
@@ -344,5 +357,6 @@ filled_at at top = takes at f_text (infix_at at Times (up_to at top) (raw at (ra
 -- an implementation of M with an array f : 0 .. 9 --> 0 .. 5, that starts with v := a and then this
 abbrev pub array_code : SubTree → RawComponent
 array_code init = code_of
-    (clause ConcreteVariables 19 (clause_names (name_at 20 f_text ∷ [])) ∷ clause Invariant 23 (clause_term (is_in 24 f_text (infix_at 26 TotalFunctions (up_to 26 9) (up_to 28 5)))) ∷ [])
+    (clause ConcreteVariables 19 (clause_names (name_at 20 f_text ∷ [])) ∷
+    clause Invariant 23 (clause_term (is_in 24 f_text (infix_at 26 TotalFunctions (up_to 26 9) (up_to 28 5)))) ∷ [])
     (sub 40 (sub_sequence (takes_at 40 v_text a_text) init)) (c_is (number 34 5) ∷ [])

@@ -23,7 +23,8 @@ is_there (Some x) = true
 abbrev pub entry_value_faults : ℤ → Typing → Names → List ℕ → List RawValue → List Fault
 entry_value_faults int_max typing globals before [] = []
 entry_value_faults int_max typing globals before (v ∷ vs) =
-    cond (is_there (value_of int_max typing globals v) && not (is_again before (target globals v.name.text))) [] (wrong_value v.name.at ∷ []) ++ entry_value_faults int_max typing globals (with_target (target globals v.name.text) before) vs
+    cond (is_there (value_of int_max typing globals v) && not (is_again before (target globals v.name.text))) []
+    (wrong_value v.name.at ∷ []) ++ entry_value_faults int_max typing globals (with_target (target globals v.name.text) before) vs
 
 -- the number of a constant, if it is there
 abbrev pub with_number : Option ℕ → List ℕ → List ℕ
@@ -43,7 +44,8 @@ is_missing entries (Some n) = not (among entries n)
 -- constants without a value, at the implementation's name
 abbrev pub without_value : ℕ → List ℕ → Names → List Fault
 without_value at entries [] = []
-without_value at entries (n ∷ ns) = cond (is_missing entries (variable_in n.meaning)) (wrong_value at ∷ []) [] ++ without_value at entries ns
+without_value at entries (n ∷ ns) =
+    cond (is_missing entries (variable_in n.meaning)) (wrong_value at ∷ []) [] ++ without_value at entries ns
 
 -- whether it is there, and this number
 abbrev pub is_number : ℕ → Option ℕ → Bool

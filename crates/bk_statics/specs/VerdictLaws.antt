@@ -27,17 +27,22 @@ use Rattle.bk_statics.specs.Verdict.{accepted, at_fault, past_limit, level_below
 -- ---- at most one level
 -- tokens are written as at most one component, and so have at most one answer
 abbrev pub TokensHaveOneVerdict : Type 0
-TokensHaveOneVerdict = (int_max : ℤ) (above : Option Development) (tokens : List Token) (one other : RawComponent) → SpellsComponent one tokens → SpellsComponent other tokens → verdict_of int_max above one ≡ verdict_of int_max above other
+TokensHaveOneVerdict = (int_max : ℤ) (above : Option Development) (tokens : List Token) (one other : RawComponent) →
+    SpellsComponent one tokens → SpellsComponent other tokens → verdict_of int_max above one ≡ verdict_of int_max above other
 
 -- ---- what the answer says
 -- a component is accepted where it keeps the limit and has no fault
 pub record AcceptedHasNoFault : Type 0 where
-  pub right : (int_max : ℤ) (dev : Development) (c : Component) (d : Development) → verdict_below int_max dev c ≡ accepted d → (declares_too_many c ≡ false) × (all_faults int_max dev c ≡ []) × (d ≡ level_below int_max dev c)
-  pub without_fault : (int_max : ℤ) (dev : Development) (c : Component) → declares_too_many c ≡ false → all_faults int_max dev c ≡ [] → verdict_below int_max dev c ≡ accepted (level_below int_max dev c)
+  pub right : (int_max : ℤ) (dev : Development) (c : Component) (d : Development) → verdict_below int_max dev c ≡ accepted d →
+      (declares_too_many c ≡ false) × (all_faults int_max dev c ≡ []) × (d ≡ level_below int_max dev c)
+  pub without_fault : (int_max : ℤ) (dev : Development) (c : Component) → declares_too_many c ≡ false →
+      all_faults int_max dev c ≡ [] → verdict_below int_max dev c ≡ accepted (level_below int_max dev c)
   -- the fault that is told is one of those that there are, and none is before it
-  pub fault : (int_max : ℤ) (dev : Development) (c : Component) (f : Fault) → verdict_below int_max dev c ≡ at_fault f → (declares_too_many c ≡ false) × IsBlameOf (Some f) (all_faults int_max dev c)
+  pub fault : (int_max : ℤ) (dev : Development) (c : Component) (f : Fault) → verdict_below int_max dev c ≡ at_fault f →
+      (declares_too_many c ≡ false) × IsBlameOf (Some f) (all_faults int_max dev c)
   -- no limit but the fifth is told, and it is told exactly where it is passed
-  pub limit : (int_max : ℤ) (dev : Development) (c : Component) (n : ℕ) → verdict_below int_max dev c ≡ past_limit n → (n ≡ 5) × (declares_too_many c ≡ true)
+  pub limit : (int_max : ℤ) (dev : Development) (c : Component) (n : ℕ) →
+      verdict_below int_max dev c ≡ past_limit n → (n ≡ 5) × (declares_too_many c ≡ true)
   pub past : (int_max : ℤ) (dev : Development) (c : Component) → declares_too_many c ≡ true → verdict_below int_max dev c ≡ past_limit 5
 
 -- ---- developments
@@ -56,20 +61,26 @@ pub record HasRoom (dev : Development) : Type 0 where
 
 -- a machine that is accepted is a development
 abbrev pub AcceptedMachineIsDevelopment : Type 0
-AcceptedMachineIsDevelopment = (int_max : ℤ) (written : RawComponent) (dev : Development) → written.kind ≡ Machine → verdict_of int_max None written ≡ accepted dev → HasRoom dev → IsDevelopment dev
+AcceptedMachineIsDevelopment = (int_max : ℤ) (written : RawComponent) (dev : Development) →
+    written.kind ≡ Machine → verdict_of int_max None written ≡ accepted dev → HasRoom dev → IsDevelopment dev
 
 -- a development with a refinement that is accepted below it is one
 abbrev pub AcceptedRefinementIsDevelopment : Type 0
-AcceptedRefinementIsDevelopment = (int_max : ℤ) (above : Development) (written : RawComponent) (dev : Development) → IsDevelopment above → is_complete above ≡ false → written.kind ≡ Refinement → verdict_of int_max (Some above) written ≡ accepted dev → HasRoom dev → IsDevelopment dev
+AcceptedRefinementIsDevelopment = (int_max : ℤ) (above : Development) (written : RawComponent) (dev : Development) →
+    IsDevelopment above → is_complete above ≡ false → written.kind ≡ Refinement →
+    verdict_of int_max (Some above) written ≡ accepted dev → HasRoom dev → IsDevelopment dev
 
 -- what is accepted is a development
 abbrev pub AcceptedIsDevelopment : Type 0
-AcceptedIsDevelopment = (above : Option Development) (written : RawComponent) (dev : Development) → MayStandAbove written.kind above → verdict_of (machine_max (above_of above)) above written ≡ accepted dev → HasRoom dev → IsDevelopment dev
+AcceptedIsDevelopment = (above : Option Development) (written : RawComponent) (dev : Development) → MayStandAbove written.kind above →
+    verdict_of (machine_max (above_of above)) above written ≡ accepted dev → HasRoom dev → IsDevelopment dev
 
 -- ---- B0
 -- an implementation that is accepted is in B0, where no tree in it is higher than GREATEST_TREE_HEIGHT
 abbrev pub AcceptedIsInB0 : Type 0
-AcceptedIsInB0 = (above : Option Development) (written : RawComponent) (dev : Development) → MayStandAbove written.kind above → written.kind ≡ Implementation → IsLowComponent written → verdict_of (machine_max (above_of above)) above written ≡ accepted dev → IsB0Development dev
+AcceptedIsInB0 = (above : Option Development) (written : RawComponent) (dev : Development) →
+    MayStandAbove written.kind above → written.kind ≡ Implementation → IsLowComponent written →
+    verdict_of (machine_max (above_of above)) above written ≡ accepted dev → IsB0Development dev
 
 -- ---- names
 -- the name of a variable of level k is found in its text
@@ -79,4 +90,5 @@ StemsAreNames = (k : ℕ) (x : List ℕ) → stem k (level_name x k) ≡ x
 -- ---- locals
 -- what a level's substitution binds is read nowhere outside of its binder, and stands in no formula that names none of it
 abbrev pub LocalsStayApart : Type 0
-LocalsStayApart = (dev : Development) (k : ℕ) (inputs outputs : List ℕ) (s : Substitution) → IsSubOf dev k inputs outputs s → (r : Formula) → ((n : ℕ) → among (binders s) n ≡ true → occurs n r ≡ false) → LocalsAreApart s r
+LocalsStayApart = (dev : Development) (k : ℕ) (inputs outputs : List ℕ) (s : Substitution) → IsSubOf dev k inputs outputs s →
+    (r : Formula) → ((n : ℕ) → among (binders s) n ≡ true → occurs n r ≡ false) → LocalsAreApart s r

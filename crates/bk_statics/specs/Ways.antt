@@ -8,7 +8,9 @@ use Rattle.bk_val.specs.ValueType.{ValueType}
 use Rattle.bk_form.specs.Role.{bind}
 use Rattle.bk_raw.specs.declared.term.RawName.{RawName}
 use Rattle.bk_raw.specs.Trees.RawTree.{RawTree, RawTrees, no_trees, tree_and}
-use Rattle.bk_raw.specs.Trees.SubTree.{SubTree, sub, SubNode, sub_skip, sub_assign, sub_assign_at, sub_member, sub_such, sub_begin, sub_pre, sub_assert, sub_if, sub_choice, sub_select, sub_any, sub_let, sub_var, sub_while, sub_parallel, sub_sequence, Branches, no_branches, else_branch, branch_and, Choices, no_choices, choice_and}
+use Rattle.bk_raw.specs.Trees.SubTree.{SubTree, sub, SubNode, sub_skip, sub_assign, sub_assign_at, sub_member, sub_such, sub_begin, sub_pre}
+use Rattle.bk_raw.specs.Trees.SubTree.{sub_assert, sub_if, sub_choice, sub_select, sub_any, sub_let, sub_var, sub_while, sub_parallel}
+use Rattle.bk_raw.specs.Trees.SubTree.{sub_sequence, Branches, no_branches, else_branch, branch_and, Choices, no_choices, choice_and}
 use Rattle.bk_raw.specs.Meaning.Names.{Names}
 use Rattle.bk_raw.specs.Meaning.Outcome.{ask_value, ask_domain}
 use Rattle.bk_raw.specs.Meaning.Binders.{Bound, bound_names, second}
@@ -68,13 +70,15 @@ way_from (Some m) = same_as m
 -- of x, y := E, F: the term for the variable m, if it is written; without a term there is no type
 abbrev pub among_terms : Names → ℕ → List RawName → RawTrees → Option Way
 among_terms names m [] es = None
-among_terms names m (x ∷ xs) (tree_and e es) = cond (is_variable m (target names x.text)) (Some (by_term names e)) (among_terms names m xs es)
+among_terms names m (x ∷ xs) (tree_and e es) =
+    cond (is_variable m (target names x.text)) (Some (by_term names e)) (among_terms names m xs es)
 among_terms names m (x ∷ xs) no_trees = cond (is_variable m (target names x.text)) (Some no_way) (among_terms names m xs no_trees)
 
 -- of x, y :(P), with the names in scope in P
 abbrev pub among_such : Names → Names → ℕ → List RawName → RawTree → Option Way
 among_such names inner m [] p = None
-among_such names inner m (x ∷ xs) p = cond (is_variable m (target names x.text)) (Some (by_conjuncts inner (x ∷ []) 0 p)) (among_such names inner m xs p)
+among_such names inner m (x ∷ xs) p =
+    cond (is_variable m (target names x.text)) (Some (by_conjuncts inner (x ∷ []) 0 p)) (among_such names inner m xs p)
 
 -- the way of the first that writes the variable m, if one does; what is bound has the numbers from n on
 abbrev mutual
@@ -145,7 +149,8 @@ abbrev mutual
   ways_in names n (sub_select p s bs) = ways names n s ++ branches_ways names (n + binder_count s) bs
   ways_in names n (sub_any xs p s) = conjunct_ways names xs p 0 xs ++ ways (bind (numbered n xs) names) (n + length xs) s
   ways_in names n (sub_let xs p s) = conjunct_ways names xs p 0 xs ++ ways (bind (numbered n xs) names) (n + length xs) s
-  ways_in names n (sub_var xs s) = assigned_ways (bind (numbered n xs) names) (n + length xs) s n xs ++ ways (bind (numbered n xs) names) (n + length xs) s
+  ways_in names n (sub_var xs s) =
+      assigned_ways (bind (numbered n xs) names) (n + length xs) s n xs ++ ways (bind (numbered n xs) names) (n + length xs) s
   ways_in names n (sub_while p s i v) = ways names n s
   ways_in names n (sub_parallel s t) = ways names n s ++ ways names (n + binder_count s) t
   ways_in names n (sub_sequence s t) = ways names n s ++ ways names (n + binder_count s) t
@@ -166,7 +171,8 @@ way_at ws i = or_no_way (slice_get ws i)
 
 -- the numbers from n on by their ways, but for those that have a type, which keep it
 abbrev pub next_types : ℤ → ℕ → List Way → Typing → Typing
-next_types int_max n ws typing m = cond (nat_lt m n) (typing m) (cond (nat_lt m (n + length ws)) (or_next (typing m) (given_by int_max typing (way_at ws (m - n)))) (typing m))
+next_types int_max n ws typing m = cond (nat_lt m n) (typing m)
+    (cond (nat_lt m (n + length ws)) (or_next (typing m) (given_by int_max typing (way_at ws (m - n)))) (typing m))
 
 -- so many rounds
 abbrev pub rounds : ℕ → ℤ → ℕ → List Way → Typing → Typing

@@ -1,11 +1,15 @@
 //! Laws of levels. Each is the contract of a function that does nothing.
 
 ghost use Rattle.bk_statics.specs.Examples.{DevelopmentsAreMade, WordsAreRead, FaultsAreTold};
-ghost use Rattle.bk_statics.specs.LevelLaws.{LevelsBindIntervals, BindersStandApart, HomesAreAll, ClausesAreRight, InitialisationsAreRight, LinksAreRight, BodiesAreRight, OldLevelsStay, HomesStay, NewLevelHasClauses, NewBodiesAreBodies, MachinesAreRight, LowersAreRight};
+ghost use Rattle.bk_statics.specs.LevelLaws.{LevelsBindIntervals, BindersStandApart, HomesAreAll, ClausesAreRight};
+ghost use Rattle.bk_statics.specs.LevelLaws.{InitialisationsAreRight, LinksAreRight, BodiesAreRight, OldLevelsStay, HomesStay};
+ghost use Rattle.bk_statics.specs.LevelLaws.{NewLevelHasClauses, NewBodiesAreBodies, MachinesAreRight, LowersAreRight};
 ghost use Rattle.bk_statics.specs.Sources.{SettledTypesAreListed, ComponentsStand};
 ghost use Rattle.bk_statics.specs.ShapeLaws.{ShapesAreRight};
 ghost use Rattle.bk_statics.specs.SubLaws.{BindersAreIntervals, SubstitutionsType, SubstitutionsStay};
-ghost use Rattle.bk_statics.specs.VerdictLaws.{TokensHaveOneVerdict, AcceptedHasNoFault, StemsAreNames, LocalsStayApart, AcceptedMachineIsDevelopment, AcceptedRefinementIsDevelopment, AcceptedIsDevelopment, AcceptedIsInB0};
+ghost use Rattle.bk_statics.specs.VerdictLaws.{TokensHaveOneVerdict, AcceptedHasNoFault, StemsAreNames, LocalsStayApart};
+ghost use Rattle.bk_statics.specs.VerdictLaws.{AcceptedMachineIsDevelopment, AcceptedRefinementIsDevelopment, AcceptedIsDevelopment};
+ghost use Rattle.bk_statics.specs.VerdictLaws.{AcceptedIsInB0};
 
 /// Small components, to be checked by hand: the developments that they are, what the words of the notation stand for, and which
 /// faults are told.

@@ -34,8 +34,8 @@ is_settled _ = false
 abbrev pub first_open : List Row → Option Row
 first_open rows = find (λ row. not (is_settled row.state)) rows
 
--- where no row is open the development is correct: the machine keeps its invariant, each level carries the one above, the constants' values meet
--- the properties, and what is stated is defined
+-- where no row is open the development is correct: the machine keeps its invariant, each level
+-- carries the one above, the constants' values meet the properties, and what is stated is defined
 abbrev pub ShowCorrect : Development → List Row → Type 0
 ShowCorrect dev rows = first_open rows ≡ None → (find : Finder) → IsSearch find → IsCorrectForAllSizes find dev
 

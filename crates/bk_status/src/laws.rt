@@ -1,7 +1,9 @@
 //! What status tables are worth. Each law is the contract of a function that does nothing.
 
 ghost use Rattle.bk_status.specs.Examples.{TallyNeeds, StepperNeeds, SwapNeeds};
-ghost use Rattle.bk_status.specs.Laws.{StatesAreOne, TablesAreOne, ClosedTablesProve, ClosedTablesAreValid, ProvedTablesAreClosed, ShownObligationsAreValid, ObviousObligationsAreValid, ProvedObligationsAreValid, ProvedDevelopmentsAreCorrect};
+ghost use Rattle.bk_status.specs.Laws.{StatesAreOne, TablesAreOne, ClosedTablesProve, ClosedTablesAreValid};
+ghost use Rattle.bk_status.specs.Laws.{ProvedTablesAreClosed, ShownObligationsAreValid, ObviousObligationsAreValid};
+ghost use Rattle.bk_status.specs.Laws.{ProvedObligationsAreValid, ProvedDevelopmentsAreCorrect};
 
 /// A development has one table at most, since each of its obligations has one state at most.
 pub fn tables_are_one()

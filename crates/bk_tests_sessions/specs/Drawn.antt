@@ -8,7 +8,8 @@ use Rattle.bk_form.specs.Formula.{Formula, variable, literal, truth_value, named
 use Rattle.bk_form.specs.Predicates.{IsPredicate}
 use Rattle.bk_form.specs.declared.operator.UnOp.TheVariants.{Single}
 use Rattle.bk_form.specs.declared.operator.BinOp.{BinOp}
-use Rattle.bk_form.specs.declared.operator.BinOp.TheVariants.{And, Or, Eq, Lt, Le, In, Add, Sub, Mul, Div, Mod, TotalFunctions, Range, Times, Apply, Over, Maps}
+use Rattle.bk_form.specs.declared.operator.BinOp.TheVariants.{And, Or, Eq, Lt, Le, In, Add, Sub, Mul, Div, Mod}
+use Rattle.bk_form.specs.declared.operator.BinOp.TheVariants.{TotalFunctions, Range, Times, Apply, Over, Maps}
 use Rattle.bk_form.specs.declared.operator.Domain.TheVariants.{Integer}
 use Rattle.bk_gsl.specs.Flat.{copied}
 use Rattle.bk_gsl.specs.State.{among}
@@ -33,10 +34,14 @@ truth_named text = record { text = text; of_type = bool_type }
 abbrev pub family_table : Table
 family_table = record {
   sets = [];
-  variables = number_named (codes "i") ∷ number_named (codes "j") ∷ truth_named (codes "b") ∷ record { text = codes "f"; of_type = set_type (pair_type int_type int_type) } ∷ number_named (codes "k")
-      ∷ number_named (codes "p$0") ∷ number_named (codes "q$0") ∷ truth_named (codes "r$0") ∷ number_named (codes "s$0") ∷ number_named (codes "t$0") ∷ number_named (codes "u$0")
-      ∷ number_named (codes "p$1") ∷ number_named (codes "q$1") ∷ truth_named (codes "r$1") ∷ number_named (codes "s$1") ∷ number_named (codes "t$1") ∷ number_named (codes "u$1")
-      ∷ number_named (codes "l0") ∷ number_named (codes "l1") ∷ number_named (codes "l2") ∷ number_named (codes "l3") ∷ number_named (codes "l4") ∷ number_named (codes "l5") ∷ number_named (codes "l6") ∷ number_named (codes "l7") ∷ [];
+  variables = number_named (codes "i") ∷ number_named (codes "j") ∷ truth_named (codes "b") ∷
+      record { text = codes "f"; of_type = set_type (pair_type int_type int_type) } ∷ number_named (codes "k")
+      ∷ number_named (codes "p$0") ∷ number_named (codes "q$0") ∷ truth_named (codes "r$0") ∷
+      number_named (codes "s$0") ∷ number_named (codes "t$0") ∷ number_named (codes "u$0")
+      ∷ number_named (codes "p$1") ∷ number_named (codes "q$1") ∷ truth_named (codes "r$1") ∷
+      number_named (codes "s$1") ∷ number_named (codes "t$1") ∷ number_named (codes "u$1")
+      ∷ number_named (codes "l0") ∷ number_named (codes "l1") ∷ number_named (codes "l2") ∷ number_named (codes "l3") ∷
+      number_named (codes "l4") ∷ number_named (codes "l5") ∷ number_named (codes "l6") ∷ number_named (codes "l7") ∷ [];
 }
 
 -- its first variables
@@ -74,7 +79,8 @@ element_at n = binary Apply (variable 3) (literal (pos n))
 
 -- the outputs become i, j, b, f(0), f(1) and f(2)
 abbrev pub answering : Substitution
-answering = seq (set_to 11 (variable 0)) (seq (set_to 12 (variable 1)) (seq (set_to 13 (variable 2)) (seq (set_to 14 (element_at 0)) (seq (set_to 15 (element_at 1)) (set_to 16 (element_at 2))))))
+answering = seq (set_to 11 (variable 0)) (seq (set_to 12 (variable 1))
+    (seq (set_to 13 (variable 2)) (seq (set_to 14 (element_at 0)) (seq (set_to 15 (element_at 1)) (set_to 16 (element_at 2))))))
 
 -- f : 0..2 --> INTEGER
 abbrev pub is_array : Formula
@@ -209,7 +215,8 @@ is_left z = binary Lt (literal (pos 0)) (variable z)
 
 -- VAR z IN z := turns ; WHILE 0 < z DO s ; z := z - 1 INVARIANT btrue VARIANT z END END
 abbrev pub counted_turns : ℕ → Formula → Substitution → Substitution
-counted_turns z turns s = local_block z turns (loop (is_left z) (seq s (set_to z (binary Sub (variable z) (literal (pos 1))))) btrue (variable z))
+counted_turns z turns s =
+    local_block z turns (loop (is_left z) (seq s (set_to z (binary Sub (variable z) (literal (pos 1))))) btrue (variable z))
 
 -- f(index) := value
 abbrev pub element_write : Formula → Formula → Substitution

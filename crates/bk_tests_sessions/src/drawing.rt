@@ -4,7 +4,8 @@ ghost use Rattle.std.specs.Prelude.{◌≡◌, ◌⊎◌, ◌<◌, ◌≤◌, su
 ghost use Rattle.bk_form.specs.Formula.{variable, literal, binary, truth_value, btrue};
 ghost use Rattle.bk_form.specs.declared.operator.BinOp.TheVariants.{Eq as Equal, Sub as Less};
 ghost use Rattle.bk_gsl.specs.Substitution.{any, seq, loop};
-ghost use Rattle.bk_tests_sessions.specs.Drawn.{AreLocals, IsArithmetic, IsComparison, IsConnective, IsNumber, IsNumberAnywhere, IsTest, IsDrawn, set_to, local_block, is_left, counted_turns, element_write};
+ghost use Rattle.bk_tests_sessions.specs.Drawn.{AreLocals, IsArithmetic, IsComparison, IsConnective, IsNumber, IsNumberAnywhere};
+ghost use Rattle.bk_tests_sessions.specs.Drawn.{IsTest, IsDrawn, set_to, local_block, is_left, counted_turns, element_write};
 
 use crate::draws::Draws;
 use bk_form::{BinOp, Form, Part, UnOp};

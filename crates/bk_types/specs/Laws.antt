@@ -11,4 +11,5 @@ use Rattle.bk_form.specs.Meaning.{value}
 
 -- a formula that types has a value of its type, in every typed environment
 abbrev pub TypedHaveValues : Type 0
-TypedHaveValues = (find : Finder) (e : Environment) → IsWellFormed e.table → IsTyped e → (f : Formula) (t : ValueType) → role e.table (bound_types e) f ≡ gives t → is_value_of (set_size e.table) t (value find e f) ≡ true
+TypedHaveValues = (find : Finder) (e : Environment) → IsWellFormed e.table → IsTyped e → (f : Formula) (t : ValueType) →
+    role e.table (bound_types e) f ≡ gives t → is_value_of (set_size e.table) t (value find e f) ≡ true

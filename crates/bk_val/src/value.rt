@@ -5,7 +5,8 @@ ghost use Rattle.std.specs.Prelude.{refl};
 ghost use Rattle.std.specs.Ordering.{eq_by_cmp, as_partial_cmp};
 ghost use Rattle.std.specs.Cmp.{partial_equiv_from_equiv};
 ghost use Rattle.bk_val.specs.CmpLaws.{value_cmp-total, value_eq-equivalence, value_cmp-partial};
-ghost use Rattle.bk_val.specs.Value.{MathValue, int, bool, elem, pair, set, value_cmp, values_cmp, values_of, IsStrictlySorted, is_storable, are_storable, IsStoredSet};
+ghost use Rattle.bk_val.specs.Value.{MathValue, int, bool, elem, pair, set, value_cmp, values_cmp};
+ghost use Rattle.bk_val.specs.Value.{values_of, IsStrictlySorted, is_storable, are_storable, IsStoredSet};
 ghost use Rattle.bk_val.specs.Sets.{has, set_of};
 
 use crate::error::Memory;

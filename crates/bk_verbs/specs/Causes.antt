@@ -6,7 +6,8 @@ use Rattle.bk_io.specs.declared.sink.SinkFault.TheVariants.{Failed, Memory as No
 use Rattle.bk_cli.specs.declared.words.WordsFault.{WordsFault}
 use Rattle.bk_cli.specs.declared.words.WordsFault.TheVariants.{Refused as WordsRefused, Memory as NoRoomForWords}
 use Rattle.bk_verbs.specs.declared.stop.Stop.{Stop}
-use Rattle.bk_verbs.specs.declared.stop.Stop.TheVariants.{Usage, Missing, Refused, Limit, Unproved, Incomplete, BadCalls, BadImage, WriteFault, Memory}
+use Rattle.bk_verbs.specs.declared.stop.Stop.TheVariants.{Usage, Missing, Refused, Limit, Unproved, Incomplete}
+use Rattle.bk_verbs.specs.declared.stop.Stop.TheVariants.{BadCalls, BadImage, WriteFault, Memory}
 
 -- what a fault of the sink stops the program with
 abbrev pub stop_of_sink : SinkFault → Stop

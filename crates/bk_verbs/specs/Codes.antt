@@ -1,7 +1,8 @@
 -- Exit codes of the program.
 use Rattle.std.specs.Prelude.{ℕ}
 use Rattle.bk_verbs.specs.declared.status.Status.{Status}
-use Rattle.bk_verbs.specs.declared.status.Status.TheVariants.{Done, Usage, Missing, Refused, Unproved, Incomplete, BadCalls, Trapped, OutOfFuel, BadImage, ReadFault, WriteFault, Memory}
+use Rattle.bk_verbs.specs.declared.status.Status.TheVariants.{Done, Usage, Missing, Refused, Unproved, Incomplete, BadCalls}
+use Rattle.bk_verbs.specs.declared.status.Status.TheVariants.{Trapped, OutOfFuel, BadImage, ReadFault, WriteFault, Memory}
 
 -- the exit code of a status
 abbrev pub code_of : Status → ℕ

@@ -20,7 +20,8 @@ use Rattle.bk_verbs.specs.Work.{IsExecuted, IsWork}
 -- whatever a session of the image over the calls tells is what the task gives
 abbrev pub IsSessionOf : Files → Task → Image → (fuel : ℕ) → List Request → Type 0
 IsSessionOf files task image fuel requests =
-    (tolds : List Told) → Session image fuel requests tolds → IsWork files task (session_status tolds) (transcript image fuel requests tolds)
+    (tolds : List Told) → Session image fuel requests tolds →
+    IsWork files task (session_status tolds) (transcript image fuel requests tolds)
 
 -- a text that is left to write is what the task gives, with its status, and so is the transcript of a session that is left to play
 abbrev pub IsPrepared : Files → Task → Work → Type 0

@@ -66,7 +66,8 @@ pub record ReadsComponents (files : Files) (project : List ℕ) (dev : Developme
   pub reads : Reads (kinds_of named) texts dev
 
 -- and those of the proof files, where these are fetched, are those of the scripts of proof
-pub record ReadsProject (with_proofs : Bool) (files : Files) (project : List ℕ) (dev : Development) (scripts : List RawScript) : Type 0 where
+pub record ReadsProject (with_proofs : Bool) (files : Files) (project : List ℕ)
+    (dev : Development) (scripts : List RawScript) : Type 0 where
   pub components : ReadsComponents files project dev
   pub proof_texts : List (List ℕ)
   pub proofs_told : AreTold files (fetched with_proofs (proof_files components.named)) proof_texts
@@ -84,8 +85,8 @@ pub record IsFinished (dev : Development) (scripts : List RawScript) : Type 0 wh
   pub proved : IsProved dev scripts
 
 -- ---- the code
--- at most MOST_INSTRUCTIONS instructions and at most MOST_CELLS cells, and a spelling in bytes: each name has at most 65535 bytes, and the parts are
--- few enough to be counted in their fields
+-- at most MOST_INSTRUCTIONS instructions and at most MOST_CELLS cells, and a spelling in bytes:
+-- each name has at most 65535 bytes, and the parts are few enough to be counted in their fields
 pub record IsWithinCodeLimits (image : Image) : Type 0 where
   pub code : length image.code ≤ MOST_INSTRUCTIONS
   pub cells : image.cells ≤ MOST_CELLS

@@ -1,4 +1,5 @@
--- A session as the program plays it: its status and the text that it writes. Fuel is how many steps the initialisation and each call may have.
+-- A session as the program plays it: its status and the text that it
+-- writes. Fuel is how many steps the initialisation and each call may have.
 use Rattle.std.specs.Prelude.{◌≡◌, ℕ, ℤ, List, [], ◌∷◌, ◌≤◌, length, All, take, Option, Some}
 use Rattle.bk_io.specs.Pieces.{written_with, WroteFront}
 use Rattle.bk_code.specs.declared.image.Image.{Image}
@@ -34,7 +35,8 @@ pub record Plays (image : Image) (fuel : ℕ) (requests : List Request) (status 
   pub written : new ≡ written_with old (transcript image fuel requests tolds)
 
 -- one call of a session is made on the cells before it and leaves the cells after it, and its line is written
-pub record PlaysCall (image : Image) (fuel : ℕ) (request : Request) (before : List ℤ) (end : End) (after : List ℤ) (old new : Option (List ℕ)) : Type 0 where
+pub record PlaysCall (image : Image) (fuel : ℕ) (request : Request) (before : List ℤ)
+    (end : End) (after : List ℤ) (old new : Option (List ℕ)) : Type 0 where
   pub told : Told
   pub answers : Answers image fuel request before told
   pub ended : told.end ≡ end
@@ -43,7 +45,8 @@ pub record PlaysCall (image : Image) (fuel : ℕ) (request : Request) (before : 
 
 -- the calls go on after that end and on those cells, up to the first that is not done: what they end with, how many are
 -- done, their steps, and the lines that are written
-pub record PlaysCalls (image : Image) (fuel : ℕ) (requests : List Request) (end : End) (cells : List ℤ) (last : End) (done steps : ℕ) (old new : Option (List ℕ)) : Type 0 where
+pub record PlaysCalls (image : Image) (fuel : ℕ) (requests : List Request) (end : End)
+    (cells : List ℤ) (last : End) (done steps : ℕ) (old new : Option (List ℕ)) : Type 0 where
   pub tolds : List Told
   pub goes_on : Continues image fuel end cells requests tolds
   pub last_is : last ≡ last_end end tolds
@@ -63,7 +66,8 @@ pub record PlaysCallFront (image : Image) (fuel : ℕ) (request : Request) (befo
   pub front : WroteFront (reply_text image (Some request.op) told.end told.outputs) old new
 
 -- so many of the calls, from the first, go on after that end and on those cells, and a front of their lines is written
-pub record PlaysCallsFront (image : Image) (fuel : ℕ) (requests : List Request) (end : End) (cells : List ℤ) (old new : Option (List ℕ)) : Type 0 where
+pub record PlaysCallsFront (image : Image) (fuel : ℕ) (requests : List Request)
+    (end : End) (cells : List ℤ) (old new : Option (List ℕ)) : Type 0 where
   pub count : ℕ
   pub tolds : List Told
   pub goes_on : Continues image fuel end cells (take count requests) tolds
@@ -71,4 +75,5 @@ pub record PlaysCallsFront (image : Image) (fuel : ℕ) (requests : List Request
 
 -- what is written is a front of the transcript of each session of the image over these calls; there is one at most
 abbrev pub PlaysFront : Image → (fuel : ℕ) → List Request → (old new : Option (List ℕ)) → Type 0
-PlaysFront image fuel requests old new = (tolds : List Told) → Session image fuel requests tolds → WroteFront (transcript image fuel requests tolds) old new
+PlaysFront image fuel requests old new = (tolds : List Told) →
+    Session image fuel requests tolds → WroteFront (transcript image fuel requests tolds) old new

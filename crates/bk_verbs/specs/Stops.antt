@@ -1,10 +1,12 @@
 -- Why the program stops before its work is done: the causes, in the order of the checks, and the lines that say so.
-use Rattle.std.specs.Prelude.{◌≡◌, ◌≢◌, ℕ, zero, suc, ◌<◌, ◌≤◌, ◌⊎◌, Bool, true, false, List, [], ◌∷◌, ◌++◌, length, slice_index_or, codes, decimal, Option, Some, None}
+use Rattle.std.specs.Prelude.{◌≡◌, ◌≢◌, ℕ, zero, suc, ◌<◌, ◌≤◌, ◌⊎◌, Bool, true, false, List, [], ◌∷◌}
+use Rattle.std.specs.Prelude.{◌++◌, length, slice_index_or, codes, decimal, Option, Some, None}
 use Rattle.bk_limits.specs.declared.TheConstants.{MOST_BYTES, MOST_INSTRUCTIONS, MOST_CELLS}
 use Rattle.bk_io.specs.Files.{Files, file_named, IsLonger}
 use Rattle.bk_code.specs.declared.image.Image.{Image}
 use Rattle.bk_image.specs.declared.fault.LoadFault.{LoadFault}
-use Rattle.bk_image.specs.declared.fault.LoadFault.TheVariants.{Short, Magic, Version, BadInst, BadJump, BadSlot, Stack, Extra, Memory as NoRoomForImage}
+use Rattle.bk_image.specs.declared.fault.LoadFault.TheVariants.{Short, Magic, Version, BadInst, BadJump, BadSlot}
+use Rattle.bk_image.specs.declared.fault.LoadFault.TheVariants.{Stack, Extra, Memory as NoRoomForImage}
 use Rattle.bk_image.specs.Spelling.{HasSpelling}
 use Rattle.bk_image.specs.Faults.{place}
 use Rattle.bk_image.specs.Encoding.{Encodes, IsFault as IsFaultOfImage}
@@ -22,7 +24,8 @@ use Rattle.bk_front.specs.Laws.{IsOfProject}
 use Rattle.bk_po.specs.Obligations.{obligations}
 use Rattle.bk_po.specs.Limits.{first_too_large, PassTogether, PassNoLimit}
 use Rattle.bk_p_proof.specs.declared.fault.ScriptFault.{ScriptFault}
-use Rattle.bk_p_proof.specs.declared.fault.ScriptFault.TheVariants.{Fault as FaultOfProofs, Limit as LimitOfProofs, Memory as NoRoomForProofs}
+use Rattle.bk_p_proof.specs.declared.fault.ScriptFault.TheVariants.{Fault as FaultOfProofs, Limit as LimitOfProofs}
+use Rattle.bk_p_proof.specs.declared.fault.ScriptFault.TheVariants.{Memory as NoRoomForProofs}
 use Rattle.bk_p_proof.specs.Files.{IsFaultOf as IsFaultOfProofs}
 use Rattle.bk_p_proof.specs.Laws.{IsOfTexts}
 use Rattle.bk_status.specs.declared.table.Row.{Row}
@@ -30,13 +33,21 @@ use Rattle.bk_status.specs.Rows.{HasRows, first_open}
 use Rattle.bk_calls.specs.Script.{Cause, IsBadLine, PassesLimit}
 use Rattle.bk_io.specs.Pieces.{written_with, WroteFront}
 use Rattle.bk_calls.specs.declared.script.CallsFault.{CallsFault}
-use Rattle.bk_calls.specs.declared.script.CallsFault.TheVariants.{Line, NoOperation, Arguments, Number, Limit as PastLimit, Memory as NoMemory}
+use Rattle.bk_calls.specs.declared.script.CallsFault.TheVariants.{Line, NoOperation, Arguments, Number}
+use Rattle.bk_calls.specs.declared.script.CallsFault.TheVariants.{Limit as PastLimit, Memory as NoMemory}
 use Rattle.bk_verbs.specs.declared.status.Status.{Status}
-use Rattle.bk_verbs.specs.declared.status.Status.TheVariants.{Usage as UsageStatus, Missing as MissingStatus, Refused as RefusedStatus, Unproved as UnprovedStatus, Incomplete as IncompleteStatus, BadCalls as BadCallsStatus, BadImage as BadImageStatus, ReadFault as ReadFaultStatus, WriteFault as WriteFaultStatus, Memory as MemoryStatus}
+use Rattle.bk_verbs.specs.declared.status.Status.TheVariants.{Usage as UsageStatus, Missing as MissingStatus, Refused as RefusedStatus}
+use Rattle.bk_verbs.specs.declared.status.Status.TheVariants.{Unproved as UnprovedStatus, Incomplete as IncompleteStatus}
+use Rattle.bk_verbs.specs.declared.status.Status.TheVariants.{BadCalls as BadCallsStatus, BadImage as BadImageStatus}
+use Rattle.bk_verbs.specs.declared.status.Status.TheVariants.{ReadFault as ReadFaultStatus, WriteFault as WriteFaultStatus}
+use Rattle.bk_verbs.specs.declared.status.Status.TheVariants.{Memory as MemoryStatus}
 use Rattle.bk_verbs.specs.declared.stop.Stop.{Stop}
-use Rattle.bk_verbs.specs.declared.stop.Stop.TheVariants.{Usage, Missing, Refused, Limit, Unproved, Incomplete, BadCalls, BadImage, ReadFault, WriteFault, Memory}
-use Rattle.bk_cli.specs.Tasks.{Task, check_task, status_task, po_task, code_task, build_task, run_task, exec_task, sample_task, Asks, AskForNothing, has_proofs}
-use Rattle.bk_verbs.specs.Project.{IsTold, AreTold, IsToldAsBytes, component_files, proof_files, fetched, ReadsProject, IsFinished, IsWithinCodeLimits}
+use Rattle.bk_verbs.specs.declared.stop.Stop.TheVariants.{Usage, Missing, Refused, Limit, Unproved, Incomplete}
+use Rattle.bk_verbs.specs.declared.stop.Stop.TheVariants.{BadCalls, BadImage, ReadFault, WriteFault, Memory}
+use Rattle.bk_cli.specs.Tasks.{Task, check_task, status_task, po_task, code_task, build_task}
+use Rattle.bk_cli.specs.Tasks.{run_task, exec_task, sample_task, Asks, AskForNothing, has_proofs}
+use Rattle.bk_verbs.specs.Project.{IsTold, AreTold, IsToldAsBytes, component_files, proof_files}
+use Rattle.bk_verbs.specs.Project.{fetched, ReadsProject, IsFinished, IsWithinCodeLimits}
 use Rattle.bk_verbs.specs.Samples.{sample_files, sample_project, sample_run}
 
 -- a device failed, or there was no memory
@@ -127,11 +138,13 @@ stop_of_refusal OutOfMemory project components = Memory
 
 -- the project file has a fault, or passes a limit: the first
 abbrev pub StopsAtLines : (project text : List ℕ) → Stop → Type 0
-StopsAtLines project text stop = (refusal : Refusal) × IsOfProject refusal × IsRefusalOfLines text refusal × (stop ≡ stop_of_refusal refusal project [])
+StopsAtLines project text stop = (refusal : Refusal) × IsOfProject refusal
+    × IsRefusalOfLines text refusal × (stop ≡ stop_of_refusal refusal project [])
 
 -- the component files that these lines name have a fault, or pass a limit: the first of all
 abbrev pub StopsAtTexts : (project : List ℕ) → List ProjectLine → (texts : List (List ℕ)) → Stop → Type 0
-StopsAtTexts project named texts stop = (refusal : Refusal) × IsOfProject refusal × IsRefusalOf (kinds_of named) texts refusal × (stop ≡ stop_of_refusal refusal project (component_files named))
+StopsAtTexts project named texts stop = (refusal : Refusal) × IsOfProject refusal
+    × IsRefusalOf (kinds_of named) texts refusal × (stop ≡ stop_of_refusal refusal project (component_files named))
 
 -- what a fault of the proof files stops the program with
 abbrev pub stop_of_proofs : ScriptFault → (proofs : List (List ℕ)) → Stop
@@ -142,29 +155,34 @@ stop_of_proofs NoRoomForProofs proofs = Memory
 -- the files are fetched in order: the ones before are told, and this one is not
 abbrev pub StopsAtFiles : Files → List (List ℕ) → Stop → Type 0
 StopsAtFiles files [] stop = ⊥
-StopsAtFiles files (name ∷ names) stop = StopsAtFile files name stop ⊎ ((text : List ℕ) × IsTold files name text × StopsAtFiles files names stop)
+StopsAtFiles files (name ∷ names) stop = StopsAtFile files name stop
+    ⊎ ((text : List ℕ) × IsTold files name text × StopsAtFiles files names stop)
 
 -- the proof files have a fault, or pass a limit: the first of all
 abbrev pub StopsAtScripts : (proofs texts : List (List ℕ)) → Stop → Type 0
-StopsAtScripts proofs texts stop = (fault : ScriptFault) × IsOfTexts fault × IsFaultOfProofs texts fault × (stop ≡ stop_of_proofs fault proofs)
+StopsAtScripts proofs texts stop = (fault : ScriptFault) × IsOfTexts fault
+    × IsFaultOfProofs texts fault × (stop ≡ stop_of_proofs fault proofs)
 
 -- the components' texts are looked at, and then those of the proof files
 abbrev pub StopsAtTold : (project : List ℕ) → List ProjectLine → (proofs texts proof_texts : List (List ℕ)) → Stop → Type 0
 StopsAtTold project named proofs texts proof_texts stop =
-    StopsAtTexts project named texts stop ⊎ ((dev : Development) × Reads (kinds_of named) texts dev × StopsAtScripts proofs proof_texts stop)
+    StopsAtTexts project named texts stop
+    ⊎ ((dev : Development) × Reads (kinds_of named) texts dev × StopsAtScripts proofs proof_texts stop)
 
 -- all files are fetched, those of the components and then the proof files, before their texts are looked at
 abbrev pub StopsAtComponents : Files → (project : List ℕ) → List ProjectLine → (proofs : List (List ℕ)) → Stop → Type 0
 StopsAtComponents files project named proofs stop =
     StopsAtFiles files (component_files named ++ proofs) stop ⊎
-    ((texts : List (List ℕ)) × (proof_texts : List (List ℕ)) × AreTold files (component_files named) texts × AreTold files proofs proof_texts ×
+    ((texts : List (List ℕ)) × (proof_texts : List (List ℕ))
+    × AreTold files (component_files named) texts × AreTold files proofs proof_texts ×
     StopsAtTold project named proofs texts proof_texts stop)
 
 -- the project file's text is looked at, and then the files that it names
 abbrev pub StopsAtNames : (with_proofs : Bool) → Files → (project text : List ℕ) → Stop → Type 0
 StopsAtNames with_proofs files project text stop =
     StopsAtLines project text stop ⊎
-    ((named : List ProjectLine) × AreLinesOf text named × StopsAtComponents files project named (fetched with_proofs (proof_files named)) stop)
+    ((named : List ProjectLine) × AreLinesOf text named
+    × StopsAtComponents files project named (fetched with_proofs (proof_files named)) stop)
 
 -- the project file is fetched first
 abbrev pub StopsAtProject : (with_proofs : Bool) → Files → (project : List ℕ) → Stop → Type 0
@@ -210,11 +228,13 @@ StopsPastCode project image stop =
 -- the call script: a line at fault, or a call past the limit, whichever comes first
 abbrev pub StopsAtScript : (calls text : List ℕ) → Image → Stop → Type 0
 StopsAtScript calls text image stop =
-    ((number : ℕ) × (cause : Cause) × (stop ≡ BadCalls number) × IsBadLine image text number cause) ⊎ ((stop ≡ Limit 11 calls) × PassesLimit image text)
+    ((number : ℕ) × (cause : Cause) × (stop ≡ BadCalls number) × IsBadLine image text number cause)
+    ⊎ ((stop ≡ Limit 11 calls) × PassesLimit image text)
 
 -- the limits of the code, and then the call script
 abbrev pub StopsAtCode : (project calls text : List ℕ) → Image → Stop → Type 0
-StopsAtCode project calls text image stop = StopsPastCode project image stop ⊎ (IsWithinCodeLimits image × StopsAtScript calls text image stop)
+StopsAtCode project calls text image stop = StopsPastCode project image stop
+    ⊎ (IsWithinCodeLimits image × StopsAtScript calls text image stop)
 
 -- the call script is fetched before the limits of the code are asked
 abbrev pub StopsAtCalls : Files → (project calls : List ℕ) → Image → Stop → Type 0
@@ -244,9 +264,12 @@ abbrev pub StopsRead : Files → Task → Development → List RawScript → Sto
 StopsRead files (check_task project) dev scripts stop = ⊥
 StopsRead files (status_task project) dev scripts stop = StopsPastLimits project dev stop
 StopsRead files (po_task project) dev scripts stop = StopsPastLimits project dev stop
-StopsRead files (code_task project) dev scripts stop = StopsIncomplete dev stop ⊎ ((is_complete dev ≡ true) × StopsPastCode project (translation dev) stop)
-StopsRead files (build_task project) dev scripts stop = StopsAtProof project dev scripts stop ⊎ (IsFinished dev scripts × StopsPastCode project (translation dev) stop)
-StopsRead files (run_task project calls fuel) dev scripts stop = StopsAtProof project dev scripts stop ⊎ (IsFinished dev scripts × StopsAtCalls files project calls (translation dev) stop)
+StopsRead files (code_task project) dev scripts stop = StopsIncomplete dev stop
+    ⊎ ((is_complete dev ≡ true) × StopsPastCode project (translation dev) stop)
+StopsRead files (build_task project) dev scripts stop = StopsAtProof project dev scripts stop
+    ⊎ (IsFinished dev scripts × StopsPastCode project (translation dev) stop)
+StopsRead files (run_task project calls fuel) dev scripts stop = StopsAtProof project dev scripts stop
+    ⊎ (IsFinished dev scripts × StopsAtCalls files project calls (translation dev) stop)
 StopsRead files (exec_task image calls fuel) dev scripts stop = ⊥
 StopsRead files (sample_task variables) dev scripts stop = ⊥
 
@@ -254,7 +277,8 @@ StopsRead files (sample_task variables) dev scripts stop = ⊥
 abbrev pub StopsAtWork : Files → (project : List ℕ) → Task → Stop → Type 0
 StopsAtWork files project task stop =
     StopsAtProject (has_proofs task) files project stop ⊎
-    ((dev : Development) × (scripts : List RawScript) × ReadsProject (has_proofs task) files project dev scripts × StopsRead files task dev scripts stop)
+    ((dev : Development) × (scripts : List RawScript)
+    × ReadsProject (has_proofs task) files project dev scripts × StopsRead files task dev scripts stop)
 
 -- the first check of the task that fails; for a sample those of its run, on its own files
 abbrev pub StopsTask : Files → Task → Stop → Type 0

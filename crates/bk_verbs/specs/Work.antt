@@ -68,7 +68,8 @@ pub record IsPlayed (files : Files) (calls : List ℕ) (fuel : ℕ) (image : Ima
   pub transcript_is : text ≡ transcript image fuel requests tolds
 
 -- it is so of the translation, of a development whose obligations are proved
-pub record IsRun (files : Files) (calls : List ℕ) (fuel : ℕ) (dev : Development) (scripts : List RawScript) (status : Status) (text : List ℕ) : Type 0 where
+pub record IsRun (files : Files) (calls : List ℕ) (fuel : ℕ) (dev : Development)
+    (scripts : List RawScript) (status : Status) (text : List ℕ) : Type 0 where
   pub finished : IsFinished dev scripts
   pub short : IsWithinCodeLimits (translation dev)
   pub played : IsPlayed files calls fuel (translation dev) status text

@@ -34,7 +34,8 @@ pub record EndsWith (image : Image) (fuel : ℕ) (c : Config) (end : CallEnd) (c
   pub left : cells ≡ last.cells
 
 -- the call of an operation on the cells before it ends so with that fuel, and leaves these cells and outputs
-pub record CallEndsWith (image : Image) (op : ℕ) (args : List ℤ) (fuel : ℕ) (before : List ℤ) (outs : List ℤ) (end : CallEnd) (after given : List ℤ) : Type 0 where
+pub record CallEndsWith (image : Image) (op : ℕ) (args : List ℤ) (fuel : ℕ)
+    (before : List ℤ) (outs : List ℤ) (end : CallEnd) (after given : List ℤ) : Type 0 where
   pub entry : OpEntry
   pub named : slice_get image.ops op ≡ Some entry
   pub ends : EndsWith image fuel (call_start entry args before) end after

@@ -3,7 +3,8 @@
 use Rattle.std.specs.Prelude.{ℕ, pos, List}
 use Rattle.bk_val.specs.ValueType.{ValueType, int_type, bool_type, enum_type, pair_type, set_type}
 use Rattle.bk_form.specs.Table.{Table}
-use Rattle.bk_form.specs.Formula.{Formula, bound, literal, empty_set, named, btrue, unary, binary, for_all, for_some, comprehension, lambda, Formulas, no_formulas, formula_and}
+use Rattle.bk_form.specs.Formula.{Formula, bound, literal, empty_set, named, btrue, unary, binary, for_all}
+use Rattle.bk_form.specs.Formula.{for_some, comprehension, lambda, Formulas, no_formulas, formula_and}
 use Rattle.bk_form.specs.Role.{Role, gives, role, roles, bind, element_types}
 use Rattle.bk_form.specs.Replacement.{count}
 use Rattle.bk_form.specs.declared.operator.UnOp.{UnOp}
@@ -64,16 +65,19 @@ abbrev mutual
   -- WD(F), under bound numbers of these types, the innermost first
   pub defined : Table → List ValueType → Formula → Formula
   defined table around (unary o a) = both (defined table around a) (unary_own o a)
-  defined table around (binary o a b) = both (sides_asked (right_met o) a (defined table around a) (defined table around b)) (binary_own o (role table around a) a b)
+  defined table around (binary o a b) =
+      both (sides_asked (right_met o) a (defined table around a) (defined table around b)) (binary_own o (role table around a) a b)
   defined table around (for_all ts p) = all_over ts (defined table (bind ts around) p)
   defined table around (for_some ts p) = all_over ts (defined table (bind ts around) p)
   -- the ranges, and for their elements the body
   defined table around (comprehension rs p) =
-      both (all_defined table around btrue rs) (all_in_ranges (count rs) (element_types (roles table around rs)) rs (defined table (bind (element_types (roles table around rs)) around) p))
+      both (all_defined table around btrue rs) (all_in_ranges (count rs) (element_types (roles table around rs))
+      rs (defined table (bind (element_types (roles table around rs)) around) p))
   -- the ranges, and for their elements the body and, where it is true, the value
   defined table around (lambda rs p v) =
       both (all_defined table around btrue rs) (all_in_ranges (count rs) (element_types (roles table around rs)) rs
-      (both (defined table (bind (element_types (roles table around rs)) around) p) (where_true p (defined table (bind (element_types (roles table around rs)) around) v))))
+      (both (defined table (bind (element_types (roles table around rs)) around) p)
+      (where_true p (defined table (bind (element_types (roles table around rs)) around) v))))
   defined table around _ = btrue
 
   -- f, and WD of each of these formulas, joined to the left

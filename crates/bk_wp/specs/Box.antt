@@ -1,4 +1,5 @@
--- [S]R, what is true before S where S ends and all its results meet R, and its conjugate <S>R, not [S] not R (B-Book, weakest preconditions).
+-- [S]R, what is true before S where S ends and all its results meet R,
+-- and its conjugate <S>R, not [S] not R (B-Book, weakest preconditions).
 use Rattle.std.specs.Prelude.{ℕ, List, [], ◌∷◌, length}
 use Rattle.bk_form.specs.Table.{Table}
 use Rattle.bk_form.specs.Formula.{Formula, variable, named, bfalse, unary, binary, for_all, for_some}

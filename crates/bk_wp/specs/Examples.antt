@@ -39,17 +39,24 @@ pub record Examples (table : Table) : Type 0 where
   -- [n := 0](n : 0..10) is 0 : 0..10
   pub assigned : box table (becomes 0 (num 0)) (up_to_ten (variable 0)) ≡ up_to_ten (num 0)
   -- [r1 := n1]<r := n>(r1 = r) is n1 = n, where r, n1 and r1 are the variables 1, 2 and 3
-  pub both_levels : box table (becomes 3 (variable 2)) (diamond table (becomes 1 (variable 0)) (binary Eq (variable 3) (variable 1))) ≡ binary Eq (variable 2) (variable 0)
+  pub both_levels : box table (becomes 3 (variable 2)) (diamond table (becomes 1 (variable 0)) (binary Eq (variable 3) (variable 1))) ≡
+      binary Eq (variable 2) (variable 0)
   -- [IF n < 10 THEN n := n + 1 END](n : 0..10)
-  pub conditional : box table (if_else (binary Lt (variable 0) (num 10)) (becomes 0 (one_more (variable 0))) skip) (up_to_ten (variable 0)) ≡ binary And (binary Imp (binary Lt (variable 0) (num 10)) (up_to_ten (one_more (variable 0)))) (binary Imp (unary Not (binary Lt (variable 0) (num 10))) (up_to_ten (variable 0)))
+  pub conditional : box table (if_else (binary Lt (variable 0) (num 10)) (becomes 0 (one_more (variable 0))) skip)
+      (up_to_ten (variable 0)) ≡ binary And (binary Imp (binary Lt (variable 0) (num 10)) (up_to_ten (one_more (variable 0))))
+      (binary Imp (unary Not (binary Lt (variable 0) (num 10))) (up_to_ten (variable 0)))
   -- <PRE n < 10 THEN n := n + 1 END>(n : 0..10)
-  pub conditioned : diamond table (pre (binary Lt (variable 0) (num 10)) (becomes 0 (one_more (variable 0)))) (up_to_ten (variable 0)) ≡ binary Imp (binary Lt (variable 0) (num 10)) (up_to_ten (one_more (variable 0)))
+  pub conditioned : diamond table (pre (binary Lt (variable 0) (num 10)) (becomes 0 (one_more (variable 0)))) (up_to_ten (variable 0)) ≡
+      binary Imp (binary Lt (variable 0) (num 10)) (up_to_ten (one_more (variable 0)))
   -- [n := n + 1 ; n := n + n](n = 4) is (n + 1) + (n + 1) = 4
-  pub in_turn : box table (seq (becomes 0 (one_more (variable 0))) (becomes 0 (binary Add (variable 0) (variable 0)))) (binary Eq (variable 0) (num 4)) ≡ binary Eq (binary Add (one_more (variable 0)) (one_more (variable 0))) (num 4)
+  pub in_turn : box table (seq (becomes 0 (one_more (variable 0))) (becomes 0 (binary Add (variable 0) (variable 0))))
+      (binary Eq (variable 0) (num 4)) ≡ binary Eq (binary Add (one_more (variable 0)) (one_more (variable 0))) (num 4)
   -- [ANY x WHERE x : 0..10 THEN n := x END](n <= 10) is !x.(x : 0..10 => x <= 10), where x is the variable 1
-  pub chosen : box table (any (1 ∷ []) (guard (up_to_ten (variable 1)) (becomes 0 (variable 1)))) (binary Le (variable 0) (num 10)) ≡ for_all (declared_type table 1 ∷ []) (binary Imp (up_to_ten (bound 0)) (binary Le (bound 0) (num 10)))
+  pub chosen : box table (any (1 ∷ []) (guard (up_to_ten (variable 1)) (becomes 0 (variable 1)))) (binary Le (variable 0) (num 10)) ≡
+      for_all (declared_type table 1 ∷ []) (binary Imp (up_to_ten (bound 0)) (binary Le (bound 0) (num 10)))
   -- [n :(n$0 < n)](0 < n) is !z.(n < z => 0 < z), where n$0 is the variable 1
-  pub greater : box table (becomes_such ((0, 1) ∷ []) (binary Lt (variable 1) (variable 0))) (binary Lt (num 0) (variable 0)) ≡ for_all (declared_type table 0 ∷ []) (binary Imp (binary Lt (variable 0) (bound 0)) (binary Lt (num 0) (bound 0)))
+  pub greater : box table (becomes_such ((0, 1) ∷ []) (binary Lt (variable 1) (variable 0))) (binary Lt (num 0) (variable 0)) ≡
+      for_all (declared_type table 0 ∷ []) (binary Imp (binary Lt (variable 0) (bound 0)) (binary Lt (num 0) (bound 0)))
 
 -- WHILE n < 10 DO n := n + 1 INVARIANT n : 0..10 VARIANT 10 - n END
 abbrev pub count_up : Substitution

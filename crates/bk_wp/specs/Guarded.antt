@@ -78,7 +78,8 @@ guarded table arrays (assign ps) = evaluated_onto table arrays btrue ps
 guarded table arrays (pre p s) = both (defined table [] p) (where_true p (guarded table arrays s))
 guarded table arrays (guard p s) = both (defined table [] p) (where_true p (guarded table arrays s))
 guarded table arrays (choice s t) = both (guarded table arrays s) (guarded table arrays t)
-guarded table arrays (if_else p s t) = both (both (evaluated table arrays p) (where_true p (guarded table arrays s))) (where_true (unary Not p) (guarded table arrays t))
+guarded table arrays (if_else p s t) =
+    both (both (evaluated table arrays p) (where_true p (guarded table arrays s))) (where_true (unary Not p) (guarded table arrays t))
 guarded table arrays (any zs s) = over_variables table zs (guarded table arrays s)
 guarded table arrays (seq s t) = both (guarded table arrays s) (box_where table s (guarded table arrays t))
 guarded table arrays (assert p s) = both (defined table [] p) (where_true p (guarded table arrays s))

@@ -31,15 +31,18 @@ SomeMeets find table s r e = (Ends find table s e → ⊥) ⊎ ((f : State) × R
 
 -- [S]R is true exactly where S ends and all its results meet R; here in every state, and for every finder, a search or not
 abbrev pub BoxWithoutBinders : Type 0
-BoxWithoutBinders = (find : Finder) (table : Table) (s : Substitution) → HasNoBinder s → Types table s → (r : Formula) (e : State) → (holds find table e (box table s r) ≡ true) ↔ AllMeet find table s r e
+BoxWithoutBinders = (find : Finder) (table : Table) (s : Substitution) → HasNoBinder s → Types table s →
+    (r : Formula) (e : State) → (holds find table e (box table s r) ≡ true) ↔ AllMeet find table s r e
 
 -- <S>R is true exactly where S does not end or some result meets R
 abbrev pub DiamondWithoutBinders : Type 0
-DiamondWithoutBinders = (find : Finder) (table : Table) (s : Substitution) → HasNoBinder s → Types table s → (r : Formula) (e : State) → (holds find table e (diamond table s r) ≡ true) ↔ SomeMeets find table s r e
+DiamondWithoutBinders = (find : Finder) (table : Table) (s : Substitution) → HasNoBinder s → Types table s →
+    (r : Formula) (e : State) → (holds find table e (diamond table s r) ≡ true) ↔ SomeMeets find table s r e
 
 -- <S>R is the conjugate of [S]R: not [S] not R
 abbrev pub ConjugateWithoutBinders : Type 0
-ConjugateWithoutBinders = (find : Finder) (table : Table) (s : Substitution) → HasNoBinder s → Types table s → (r : Formula) (e : State) → holds find table e (diamond table s r) ≡ not (holds find table e (box table s (unary Not r)))
+ConjugateWithoutBinders = (find : Finder) (table : Table) (s : Substitution) → HasNoBinder s → Types table s →
+    (r : Formula) (e : State) → holds find table e (diamond table s r) ≡ not (holds find table e (box table s (unary Not r)))
 
 -- ---- with locals and x :(P)
 -- a search, a well-formed table, and a substitution without loops that types; R is a predicate, and no local is read after its scope

@@ -1,6 +1,7 @@
 //! Laws of box and diamond. Each is the contract of a function that does nothing.
 
-ghost use Rattle.bk_wp.specs.Laws.{BoxWithoutBinders, DiamondWithoutBinders, ConjugateWithoutBinders, BoxMeans, DiamondMeans, DiamondIsConjugate, BoxIsSound, GuardedIsClean, GuardedIsPredicate};
+ghost use Rattle.bk_wp.specs.Laws.{BoxWithoutBinders, DiamondWithoutBinders, ConjugateWithoutBinders, BoxMeans};
+ghost use Rattle.bk_wp.specs.Laws.{DiamondMeans, DiamondIsConjugate, BoxIsSound, GuardedIsClean, GuardedIsPredicate};
 ghost use Rattle.bk_wp.specs.Growth.{BoxIsNoSmaller, DiamondIsNoSmaller};
 ghost use Rattle.bk_wp.specs.Examples.{EachTable, CountsUp};
 

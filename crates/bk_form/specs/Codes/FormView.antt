@@ -1,9 +1,11 @@
 -- The formula that parts make, and what holds of a formula's fields.
 use Rattle.std.specs.Prelude.{◌≡◌, IsTrue}
-use Rattle.bk_form.specs.Formula.{Formula, variable, bound, literal, truth_value, element, empty_set, named, btrue, bfalse, unary, binary, for_all, for_some, comprehension, lambda, formulas_of, formula_size, formula_height}
+use Rattle.bk_form.specs.Formula.{Formula, variable, bound, literal, truth_value, element, empty_set, named, btrue, bfalse, unary}
+use Rattle.bk_form.specs.Formula.{binary, for_all, for_some, comprehension, lambda, formulas_of, formula_size, formula_height}
 use Rattle.bk_form.specs.Storable.{is_storable}
 use Rattle.bk_form.specs.declared.form.Part.{Part}
-use Rattle.bk_form.specs.declared.form.Part.TheVariants.{Var, Bound, Int, Bool, Elem, Empty, Name, True, False, Un, Bin, All, Some, Compr, Lam}
+use Rattle.bk_form.specs.declared.form.Part.TheVariants.{Var, Bound, Int, Bool, Elem, Empty, Name, True}
+use Rattle.bk_form.specs.declared.form.Part.TheVariants.{False, Un, Bin, All, Some, Compr, Lam}
 use Rattle.bk_form.specs.declared.form.Form.TheInside.{Inside}
 
 -- the formula of these parts

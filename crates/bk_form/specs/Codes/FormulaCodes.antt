@@ -4,8 +4,10 @@ use Rattle.std.proofs.Common.{ap, sym, ◌∙◌}
 use Rattle.std.specs.Coded.{Coded}
 use base.Stored.{Gv, gnil, gnum, gcons}
 use Rattle.bk_val.specs.ValueType.{ValueType, type_code, type_back, type_back-code}
-use Rattle.bk_form.specs.Codes.OperatorCodes.{unary_code, unary_back, unary_back-code, binary_code, binary_back, binary_back-code, domain_code, domain_back, domain_back-code}
-use Rattle.bk_form.specs.Formula.{Formula, variable, bound, literal, truth_value, element, empty_set, named, btrue, bfalse, unary, binary, for_all, for_some, comprehension, lambda, Formulas, no_formulas, formula_and}
+use Rattle.bk_form.specs.Codes.OperatorCodes.{unary_code, unary_back, unary_back-code, binary_code, binary_back}
+use Rattle.bk_form.specs.Codes.OperatorCodes.{binary_back-code, domain_code, domain_back, domain_back-code}
+use Rattle.bk_form.specs.Formula.{Formula, variable, bound, literal, truth_value, element, empty_set, named, btrue, bfalse}
+use Rattle.bk_form.specs.Formula.{unary, binary, for_all, for_some, comprehension, lambda, Formulas, no_formulas, formula_and}
 
 -- a list of types
 abbrev types_code : List ValueType → Gv
@@ -82,11 +84,16 @@ abbrev mutual
   formula_back (gcons (gnum (suc (suc (suc (suc (suc zero)))))) g) = empty_set (type_back g)
   formula_back (gcons (gnum (suc (suc (suc (suc (suc (suc zero))))))) g) = named (domain_back g)
   formula_back (gcons (gnum (suc (suc (suc (suc (suc (suc (suc zero)))))))) (gcons (gnum o) a)) = unary (unary_back o) (formula_back a)
-  formula_back (gcons (gnum (suc (suc (suc (suc (suc (suc (suc (suc zero))))))))) (gcons (gnum o) (gcons a b))) = binary (binary_back o) (formula_back a) (formula_back b)
-  formula_back (gcons (gnum (suc (suc (suc (suc (suc (suc (suc (suc (suc zero)))))))))) (gcons a b)) = for_all (types_back a) (formula_back b)
-  formula_back (gcons (gnum (suc (suc (suc (suc (suc (suc (suc (suc (suc (suc zero))))))))))) (gcons a b)) = for_some (types_back a) (formula_back b)
-  formula_back (gcons (gnum (suc (suc (suc (suc (suc (suc (suc (suc (suc (suc (suc zero)))))))))))) (gcons a b)) = comprehension (formulas_back a) (formula_back b)
-  formula_back (gcons (gnum (suc (suc (suc (suc (suc (suc (suc (suc (suc (suc (suc (suc n))))))))))))) (gcons a (gcons b v))) = lambda (formulas_back a) (formula_back b) (formula_back v)
+  formula_back (gcons (gnum (suc (suc (suc (suc (suc (suc (suc (suc zero))))))))) (gcons (gnum o) (gcons a b))) =
+      binary (binary_back o) (formula_back a) (formula_back b)
+  formula_back (gcons (gnum (suc (suc (suc (suc (suc (suc (suc (suc (suc zero)))))))))) (gcons a b)) =
+      for_all (types_back a) (formula_back b)
+  formula_back (gcons (gnum (suc (suc (suc (suc (suc (suc (suc (suc (suc (suc zero))))))))))) (gcons a b)) =
+      for_some (types_back a) (formula_back b)
+  formula_back (gcons (gnum (suc (suc (suc (suc (suc (suc (suc (suc (suc (suc (suc zero)))))))))))) (gcons a b)) =
+      comprehension (formulas_back a) (formula_back b)
+  formula_back (gcons (gnum (suc (suc (suc (suc (suc (suc (suc (suc (suc (suc (suc (suc n))))))))))))) (gcons a (gcons b v))) =
+      lambda (formulas_back a) (formula_back b) (formula_back v)
   formula_back gnil = btrue
   formula_back _ = bfalse
 

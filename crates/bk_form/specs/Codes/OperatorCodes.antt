@@ -3,7 +3,11 @@ use Rattle.std.specs.Prelude.{◌≡◌, ℕ, List, [], ◌∷◌, refl}
 use Rattle.std.proofs.Common.{get_or}
 use base.Stored.{Gv, gnil, gnum, gcons}
 use Rattle.bk_form.specs.declared.operator.BinOp.{BinOp}
-use Rattle.bk_form.specs.declared.operator.BinOp.TheVariants.{And, Or, Imp, Iff, Eq, Lt, Le, In, Relations, PartialFunctions, TotalFunctions, PartialInjections, TotalInjections, PartialSurjections, TotalSurjections, Bijections, Union, Inter, Minus, Times, DomRes, RanRes, DomSub, RanSub, Over, Maps, Range, Add, Sub, Mul, Div, Mod, Power, Image, Apply, Comp}
+use Rattle.bk_form.specs.declared.operator.BinOp.TheVariants.{And, Or, Imp, Iff, Eq, Lt, Le, In, Relations, PartialFunctions}
+use Rattle.bk_form.specs.declared.operator.BinOp.TheVariants.{TotalFunctions, PartialInjections, TotalInjections, PartialSurjections}
+use Rattle.bk_form.specs.declared.operator.BinOp.TheVariants.{TotalSurjections, Bijections, Union, Inter, Minus, Times, DomRes, RanRes}
+use Rattle.bk_form.specs.declared.operator.BinOp.TheVariants.{DomSub, RanSub, Over, Maps, Range, Add, Sub, Mul, Div, Mod, Power, Image}
+use Rattle.bk_form.specs.declared.operator.BinOp.TheVariants.{Apply, Comp}
 use Rattle.bk_form.specs.declared.operator.UnOp.{UnOp}
 use Rattle.bk_form.specs.declared.operator.UnOp.TheVariants.{Not, BoolOf, Neg, Card, Min, Max, Dom, Ran, Id, Inverse, Single, Pow, Pow1}
 use Rattle.bk_form.specs.declared.operator.Domain.{Domain}
@@ -40,7 +44,9 @@ unary_back-code _ = refl
 
 -- the operators on two formulas, in order
 abbrev pub binary_operators : List BinOp
-binary_operators = And ∷ Or ∷ Imp ∷ Iff ∷ Eq ∷ Lt ∷ Le ∷ In ∷ Relations ∷ PartialFunctions ∷ TotalFunctions ∷ PartialInjections ∷ TotalInjections ∷ PartialSurjections ∷ TotalSurjections ∷ Bijections ∷ Union ∷ Inter ∷ Minus ∷ Times ∷ DomRes ∷ RanRes ∷ DomSub ∷ RanSub ∷ Over ∷ Maps ∷ Range ∷ Add ∷ Sub ∷ Mul ∷ Div ∷ Mod ∷ Power ∷ Image ∷ Apply ∷ Comp ∷ []
+binary_operators = And ∷ Or ∷ Imp ∷ Iff ∷ Eq ∷ Lt ∷ Le ∷ In ∷ Relations ∷ PartialFunctions ∷ TotalFunctions ∷ PartialInjections ∷
+    TotalInjections ∷ PartialSurjections ∷ TotalSurjections ∷ Bijections ∷ Union ∷ Inter ∷ Minus ∷ Times ∷ DomRes ∷
+    RanRes ∷ DomSub ∷ RanSub ∷ Over ∷ Maps ∷ Range ∷ Add ∷ Sub ∷ Mul ∷ Div ∷ Mod ∷ Power ∷ Image ∷ Apply ∷ Comp ∷ []
 
 -- an operator's place in that list
 abbrev pub binary_code : BinOp → ℕ

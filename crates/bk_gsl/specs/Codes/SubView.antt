@@ -1,7 +1,8 @@
 -- The substitution that a node stands for.
 use Rattle.bk_gsl.specs.Substitution.{Substitution, skip, assign, pre, guard, choice, if_else, any, seq, par, assert, becomes_such, loop}
 use Rattle.bk_gsl.specs.declared.substitution.SubNode.{SubNode}
-use Rattle.bk_gsl.specs.declared.substitution.SubNode.TheVariants.{Skip, Assign, Pre, Guard, Choice, If, Any, Seq, Par, While, Assert, BecomesSuch}
+use Rattle.bk_gsl.specs.declared.substitution.SubNode.TheVariants.{Skip, Assign, Pre, Guard, Choice, If, Any}
+use Rattle.bk_gsl.specs.declared.substitution.SubNode.TheVariants.{Seq, Par, While, Assert, BecomesSuch}
 
 -- the substitution that has this node at its top
 abbrev pub sub_view : SubNode → Substitution

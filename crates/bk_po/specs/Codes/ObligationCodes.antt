@@ -7,4 +7,6 @@ use Rattle.bk_po.specs.Obligations.{Obligation}
 
 -- an obligation is told by its name, its hypotheses and its goal
 abbrev pub coded_obligation : Coded Obligation
-coded_obligation = code_by (List ℕ × (List Formula × Formula)) (coded× (coded_list coded_ℕ) (coded× (coded_list coded_formula) coded_formula)) (λ o. (o.name, (o.hypotheses, o.goal))) (λ p. record { name = p.0; hypotheses = p.1.0; goal = p.1.1 }) (λ _. refl)
+coded_obligation =
+    code_by (List ℕ × (List Formula × Formula)) (coded× (coded_list coded_ℕ) (coded× (coded_list coded_formula) coded_formula))
+    (λ o. (o.name, (o.hypotheses, o.goal))) (λ p. record { name = p.0; hypotheses = p.1.0; goal = p.1.1 }) (λ _. refl)

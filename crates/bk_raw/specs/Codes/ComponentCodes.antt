@@ -6,12 +6,15 @@ use Rattle.bk_raw.specs.Trees.RawTree.{RawTree}
 use Rattle.bk_raw.specs.Codes.RawCodes.{coded_name, coded_tree}
 use Rattle.bk_raw.specs.Trees.SubTree.{SubTree}
 use Rattle.bk_raw.specs.Codes.SubCodes.{coded_sub}
-use Rattle.bk_raw.specs.Trees.ComponentTree.{RawSet, RawOperation, ClauseParts, clause_sets, clause_names, clause_term, clause_terms, clause_values, clause_sub, clause_operations, RawClause, RawComponent}
+use Rattle.bk_raw.specs.Trees.ComponentTree.{RawSet, RawOperation, ClauseParts, clause_sets, clause_names, clause_term}
+use Rattle.bk_raw.specs.Trees.ComponentTree.{clause_terms, clause_values, clause_sub, clause_operations, RawClause, RawComponent}
 use Rattle.bk_raw.specs.declared.term.RawName.{RawName}
 use Rattle.bk_raw.specs.declared.component.ComponentKind.{ComponentKind}
 use Rattle.bk_raw.specs.declared.component.ComponentKind.TheVariants.{Machine, Refinement, Implementation}
 use Rattle.bk_raw.specs.declared.component.ClauseWord.{ClauseWord}
-use Rattle.bk_raw.specs.declared.component.ClauseWord.TheVariants.{Sets, Constants, ConcreteConstants, Properties, Variables, AbstractVariables, ConcreteVariables, Invariant, Assertions, Values, Initialisation, Operations}
+use Rattle.bk_raw.specs.declared.component.ClauseWord.TheVariants.{Sets, Constants, ConcreteConstants, Properties, Variables}
+use Rattle.bk_raw.specs.declared.component.ClauseWord.TheVariants.{AbstractVariables, ConcreteVariables, Invariant}
+use Rattle.bk_raw.specs.declared.component.ClauseWord.TheVariants.{Assertions, Values, Initialisation, Operations}
 use Rattle.bk_raw.specs.declared.component.RawValue.{RawValue}
 
 -- ---- words
@@ -37,7 +40,8 @@ coded_kind = code_by ℕ coded_ℕ kind_code (λ n. get_or component_kinds n Mac
 
 -- the words of clauses
 abbrev pub clause_words : List ClauseWord
-clause_words = Sets ∷ Constants ∷ ConcreteConstants ∷ Properties ∷ Variables ∷ AbstractVariables ∷ ConcreteVariables ∷ Invariant ∷ Assertions ∷ Values ∷ Initialisation ∷ Operations ∷ []
+clause_words = Sets ∷ Constants ∷ ConcreteConstants ∷ Properties ∷ Variables ∷ AbstractVariables ∷
+    ConcreteVariables ∷ Invariant ∷ Assertions ∷ Values ∷ Initialisation ∷ Operations ∷ []
 
 -- the place of a word among them
 abbrev pub word_code : ClauseWord → ℕ
@@ -76,15 +80,19 @@ coded_word = code_by ℕ coded_ℕ word_code (λ n. get_or clause_words n Sets) 
 -- ---- parts
 -- a set by its name and its elements
 abbrev pub coded_set : Coded RawSet
-coded_set = code_by (RawName × List RawName) (coded× coded_name (coded_list coded_name)) (λ s. (s.name, s.elements)) (λ p. record { name = p.0; elements = p.1 }) (λ _. refl)
+coded_set = code_by (RawName × List RawName) (coded× coded_name (coded_list coded_name))
+    (λ s. (s.name, s.elements)) (λ p. record { name = p.0; elements = p.1 }) (λ _. refl)
 
 -- an entry of VALUES by its name and its term
 abbrev pub coded_value : Coded RawValue
-coded_value = code_by (RawName × RawTree) (coded× coded_name coded_tree) (λ v. (v.name, v.value)) (λ p. record { name = p.0; value = p.1 }) (λ _. refl)
+coded_value = code_by (RawName × RawTree) (coded× coded_name coded_tree)
+    (λ v. (v.name, v.value)) (λ p. record { name = p.0; value = p.1 }) (λ _. refl)
 
 -- an operation by its outputs, its name, its inputs and its body
 abbrev pub coded_operation : Coded RawOperation
-coded_operation = code_by (List RawName × (RawName × (List RawName × SubTree))) (coded× (coded_list coded_name) (coded× coded_name (coded× (coded_list coded_name) coded_sub))) (λ o. (o.outputs, (o.name, (o.inputs, o.body)))) (λ p. record { outputs = p.0; name = p.1.0; inputs = p.1.1.0; body = p.1.1.1 }) (λ _. refl)
+coded_operation = code_by (List RawName × (RawName × (List RawName × SubTree)))
+    (coded× (coded_list coded_name) (coded× coded_name (coded× (coded_list coded_name) coded_sub))) (λ o.
+    (o.outputs, (o.name, (o.inputs, o.body)))) (λ p. record { outputs = p.0; name = p.1.0; inputs = p.1.1.0; body = p.1.1.1 }) (λ _. refl)
 
 -- which parts they are, and their lists, of which one counts
 abbrev Lists : Type 0
@@ -123,12 +131,15 @@ parts_back-lists (clause_operations os) = refl
 
 -- what stands after words is told apart by its lists
 abbrev coded_parts : Coded ClauseParts
-coded_parts = code_by Lists (coded× coded_ℕ (coded× (coded_list coded_set) (coded× (coded_list coded_name) (coded× (coded_list coded_tree) (coded× (coded_list coded_value) (coded× (coded_list coded_sub) (coded_list coded_operation))))))) parts_lists parts_back parts_back-lists
+coded_parts = code_by Lists (coded× coded_ℕ (coded× (coded_list coded_set) (coded× (coded_list coded_name)
+    (coded× (coded_list coded_tree) (coded× (coded_list coded_value) (coded× (coded_list coded_sub) (coded_list coded_operation)))))))
+    parts_lists parts_back parts_back-lists
 
 -- ---- clauses and components
 -- a clause by its word, its byte and its parts
 abbrev pub coded_clause : Coded RawClause
-coded_clause = code_by (ClauseWord × (ℕ × ClauseParts)) (coded× coded_word (coded× coded_ℕ coded_parts)) (λ c. (c.word, (c.at, c.parts))) (λ p. record { word = p.0; at = p.1.0; parts = p.1.1 }) (λ _. refl)
+coded_clause = code_by (ClauseWord × (ℕ × ClauseParts)) (coded× coded_word (coded× coded_ℕ coded_parts))
+    (λ c. (c.word, (c.at, c.parts))) (λ p. record { word = p.0; at = p.1.0; parts = p.1.1 }) (λ _. refl)
 
 -- no name, or one, as a list
 abbrev names_of : Option RawName → List RawName
@@ -146,4 +157,6 @@ coded_some = code_by (List RawName) (coded_list coded_name) names_of name_of (el
 
 -- a component by its byte, its kind, its names and its clauses
 abbrev pub coded_component : Coded RawComponent
-coded_component = code_by (ℕ × (ComponentKind × (RawName × (Option RawName × List RawClause)))) (coded× coded_ℕ (coded× coded_kind (coded× coded_name (coded× coded_some (coded_list coded_clause))))) (λ c. (c.at, (c.kind, (c.name, (c.refines, c.clauses))))) (λ p. record { at = p.0; kind = p.1.0; name = p.1.1.0; refines = p.1.1.1.0; clauses = p.1.1.1.1 }) (λ _. refl)
+coded_component = code_by (ℕ × (ComponentKind × (RawName × (Option RawName × List RawClause)))) (coded× coded_ℕ (coded× coded_kind
+    (coded× coded_name (coded× coded_some (coded_list coded_clause))))) (λ c. (c.at, (c.kind, (c.name, (c.refines, c.clauses)))))
+    (λ p. record { at = p.0; kind = p.1.0; name = p.1.1.0; refines = p.1.1.1.0; clauses = p.1.1.1.1 }) (λ _. refl)

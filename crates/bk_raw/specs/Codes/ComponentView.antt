@@ -1,5 +1,6 @@
 -- The mathematical parts of a clause that its raw parts stand for.
-use Rattle.bk_raw.specs.Trees.ComponentTree.{ClauseParts as WrittenParts, clause_sets, clause_names, clause_term, clause_terms, clause_values, clause_sub, clause_operations}
+use Rattle.bk_raw.specs.Trees.ComponentTree.{ClauseParts as WrittenParts, clause_sets, clause_names, clause_term}
+use Rattle.bk_raw.specs.Trees.ComponentTree.{clause_terms, clause_values, clause_sub, clause_operations}
 use Rattle.bk_raw.specs.declared.component.ClauseParts.{ClauseParts}
 use Rattle.bk_raw.specs.declared.component.ClauseParts.TheVariants.{Sets, Names, Term, Terms, Values, Substitution, Operations}
 

@@ -2,15 +2,24 @@
 use Rattle.std.specs.Prelude.{◌≡◌, ℕ, List, [], ◌∷◌, refl}
 use Rattle.std.proofs.Common.{get_or}
 use Rattle.bk_raw.specs.declared.operator.InfixOp.{InfixOp}
-use Rattle.bk_raw.specs.declared.operator.InfixOp.TheVariants.{Equivalent, Implies, And, Or, Equal, NotEqual, Less, AtMost, Greater, AtLeast, Member, NotMember, Subset, NotSubset, StrictSubset, Relations, PartialFunctions, TotalFunctions, PartialInjections, TotalInjections, PartialSurjections, TotalSurjections, Bijections, Union, Intersection, DomainRestriction, RangeRestriction, DomainSubtraction, RangeSubtraction, Override, Maplet, Interval, Plus, Minus, Times, Divide, Mod, Power}
+use Rattle.bk_raw.specs.declared.operator.InfixOp.TheVariants.{Equivalent, Implies, And, Or, Equal, NotEqual, Less, AtMost, Greater}
+use Rattle.bk_raw.specs.declared.operator.InfixOp.TheVariants.{AtLeast, Member, NotMember, Subset, NotSubset, StrictSubset, Relations}
+use Rattle.bk_raw.specs.declared.operator.InfixOp.TheVariants.{PartialFunctions, TotalFunctions, PartialInjections, TotalInjections}
+use Rattle.bk_raw.specs.declared.operator.InfixOp.TheVariants.{PartialSurjections, TotalSurjections, Bijections, Union, Intersection}
+use Rattle.bk_raw.specs.declared.operator.InfixOp.TheVariants.{DomainRestriction, RangeRestriction, DomainSubtraction, RangeSubtraction}
+use Rattle.bk_raw.specs.declared.operator.InfixOp.TheVariants.{Override, Maplet, Interval, Plus, Minus, Times, Divide, Mod, Power}
 use Rattle.bk_raw.specs.declared.operator.WordOp.{WordOp}
 use Rattle.bk_raw.specs.declared.operator.WordOp.TheVariants.{Not, BoolOf, Card, Min, Max, Dom, Ran, Id, Succ, Pred, Pow, Pow1, Fin, Fin1}
 use Rattle.bk_raw.specs.declared.operator.Constant.{Constant}
-use Rattle.bk_raw.specs.declared.operator.Constant.TheVariants.{Bool, True, False, Integer, Natural, Natural1, Int, Nat, Nat1, MaxInt, MinInt, Btrue, Bfalse}
+use Rattle.bk_raw.specs.declared.operator.Constant.TheVariants.{Bool, True, False, Integer, Natural, Natural1}
+use Rattle.bk_raw.specs.declared.operator.Constant.TheVariants.{Int, Nat, Nat1, MaxInt, MinInt, Btrue, Bfalse}
 
 -- the operators between two terms
 abbrev pub infix_operators : List InfixOp
-infix_operators = Equivalent ∷ Implies ∷ And ∷ Or ∷ Equal ∷ NotEqual ∷ Less ∷ AtMost ∷ Greater ∷ AtLeast ∷ Member ∷ NotMember ∷ Subset ∷ NotSubset ∷ StrictSubset ∷ Relations ∷ PartialFunctions ∷ TotalFunctions ∷ PartialInjections ∷ TotalInjections ∷ PartialSurjections ∷ TotalSurjections ∷ Bijections ∷ Union ∷ Intersection ∷ DomainRestriction ∷ RangeRestriction ∷ DomainSubtraction ∷ RangeSubtraction ∷ Override ∷ Maplet ∷ Interval ∷ Plus ∷ Minus ∷ Times ∷ Divide ∷ Mod ∷ Power ∷ []
+infix_operators = Equivalent ∷ Implies ∷ And ∷ Or ∷ Equal ∷ NotEqual ∷ Less ∷ AtMost ∷ Greater ∷ AtLeast ∷ Member ∷ NotMember ∷
+    Subset ∷ NotSubset ∷ StrictSubset ∷ Relations ∷ PartialFunctions ∷ TotalFunctions ∷ PartialInjections ∷ TotalInjections ∷
+    PartialSurjections ∷ TotalSurjections ∷ Bijections ∷ Union ∷ Intersection ∷ DomainRestriction ∷ RangeRestriction ∷
+    DomainSubtraction ∷ RangeSubtraction ∷ Override ∷ Maplet ∷ Interval ∷ Plus ∷ Minus ∷ Times ∷ Divide ∷ Mod ∷ Power ∷ []
 
 -- its place in that list
 abbrev pub infix_code : InfixOp → ℕ

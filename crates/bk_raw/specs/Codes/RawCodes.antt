@@ -4,10 +4,15 @@ use Rattle.std.proofs.Common.{ap, sym, ◌∙◌}
 use Rattle.std.specs.Coded.{Coded}
 use base.Stored.{Gv, gnil, gnum, gcons}
 use Rattle.bk_raw.specs.Trees.WrittenType.{text_code, text_back, text_back-code, written_code, written_back, written_back-code}
-use Rattle.bk_raw.specs.Codes.OperatorCodes.{infix_code, infix_back, infix_back-code, word_code, word_back, word_back-code, constant_code, constant_back, constant_back-code}
+use Rattle.bk_raw.specs.Codes.OperatorCodes.{infix_code, infix_back, infix_back-code, word_code, word_back}
+use Rattle.bk_raw.specs.Codes.OperatorCodes.{word_back-code, constant_code, constant_back, constant_back-code}
 use Rattle.bk_raw.specs.declared.term.RawName.{RawName}
 use Rattle.bk_raw.specs.declared.term.RawBound.{RawBound}
-use Rattle.bk_raw.specs.Trees.RawTree.{RawTree, raw, RawTreeNode, raw_empty_set, raw_name, raw_level_name, raw_bound_name, raw_number, raw_constant, raw_word, raw_negative, raw_infix, raw_inverse, raw_image, raw_apply, raw_composition, raw_pair, raw_extension, raw_comprehension, raw_lambda, raw_for_all, raw_exists, raw_typed_empty, raw_typed_for_all, raw_typed_exists, raw_ranged_comprehension, raw_ranged_lambda, RawTrees, no_trees, tree_and, RawRanges, no_ranges, range_and}
+use Rattle.bk_raw.specs.Trees.RawTree.{RawTree, raw, RawTreeNode, raw_empty_set, raw_name, raw_level_name, raw_bound_name, raw_number}
+use Rattle.bk_raw.specs.Trees.RawTree.{raw_constant, raw_word, raw_negative, raw_infix, raw_inverse, raw_image, raw_apply}
+use Rattle.bk_raw.specs.Trees.RawTree.{raw_composition, raw_pair, raw_extension, raw_comprehension, raw_lambda, raw_for_all}
+use Rattle.bk_raw.specs.Trees.RawTree.{raw_exists, raw_typed_empty, raw_typed_for_all, raw_typed_exists, raw_ranged_comprehension}
+use Rattle.bk_raw.specs.Trees.RawTree.{raw_ranged_lambda, RawTrees, no_trees, tree_and, RawRanges, no_ranges, range_and}
 
 -- a whole number
 abbrev int_code : ℤ → Gv
@@ -121,22 +126,41 @@ abbrev mutual
   node_back (gcons (gnum (suc (suc (suc (suc zero))))) (gnum a0)) = raw_constant (constant_back a0)
   node_back (gcons (gnum (suc (suc (suc (suc (suc zero)))))) (gcons (gnum a0) a1)) = raw_word (word_back a0) (tree_back a1)
   node_back (gcons (gnum (suc (suc (suc (suc (suc (suc zero))))))) a0) = raw_negative (tree_back a0)
-  node_back (gcons (gnum (suc (suc (suc (suc (suc (suc (suc zero)))))))) (gcons (gnum a0) (gcons a1 a2))) = raw_infix (infix_back a0) (tree_back a1) (tree_back a2)
+  node_back (gcons (gnum (suc (suc (suc (suc (suc (suc (suc zero)))))))) (gcons (gnum a0) (gcons a1 a2))) =
+      raw_infix (infix_back a0) (tree_back a1) (tree_back a2)
   node_back (gcons (gnum (suc (suc (suc (suc (suc (suc (suc (suc zero))))))))) a0) = raw_inverse (tree_back a0)
-  node_back (gcons (gnum (suc (suc (suc (suc (suc (suc (suc (suc (suc zero)))))))))) (gcons a0 a1)) = raw_image (tree_back a0) (tree_back a1)
-  node_back (gcons (gnum (suc (suc (suc (suc (suc (suc (suc (suc (suc (suc zero))))))))))) (gcons a0 a1)) = raw_apply (tree_back a0) (tree_back a1)
-  node_back (gcons (gnum (suc (suc (suc (suc (suc (suc (suc (suc (suc (suc (suc zero)))))))))))) (gcons a0 a1)) = raw_composition (tree_back a0) (tree_back a1)
-  node_back (gcons (gnum (suc (suc (suc (suc (suc (suc (suc (suc (suc (suc (suc (suc zero))))))))))))) (gcons a0 a1)) = raw_pair (tree_back a0) (tree_back a1)
-  node_back (gcons (gnum (suc (suc (suc (suc (suc (suc (suc (suc (suc (suc (suc (suc (suc zero)))))))))))))) a0) = raw_extension (trees_back a0)
-  node_back (gcons (gnum (suc (suc (suc (suc (suc (suc (suc (suc (suc (suc (suc (suc (suc (suc zero))))))))))))))) (gcons a0 a1)) = raw_comprehension (names_back a0) (tree_back a1)
-  node_back (gcons (gnum (suc (suc (suc (suc (suc (suc (suc (suc (suc (suc (suc (suc (suc (suc (suc zero)))))))))))))))) (gcons a0 (gcons a1 a2))) = raw_lambda (names_back a0) (tree_back a1) (tree_back a2)
-  node_back (gcons (gnum (suc (suc (suc (suc (suc (suc (suc (suc (suc (suc (suc (suc (suc (suc (suc (suc zero))))))))))))))))) (gcons a0 a1)) = raw_for_all (names_back a0) (tree_back a1)
-  node_back (gcons (gnum (suc (suc (suc (suc (suc (suc (suc (suc (suc (suc (suc (suc (suc (suc (suc (suc (suc zero)))))))))))))))))) (gcons a0 a1)) = raw_exists (names_back a0) (tree_back a1)
-  node_back (gcons (gnum (suc (suc (suc (suc (suc (suc (suc (suc (suc (suc (suc (suc (suc (suc (suc (suc (suc (suc zero))))))))))))))))))) a0) = raw_typed_empty (written_back a0)
-  node_back (gcons (gnum (suc (suc (suc (suc (suc (suc (suc (suc (suc (suc (suc (suc (suc (suc (suc (suc (suc (suc (suc zero)))))))))))))))))))) (gcons a0 a1)) = raw_typed_for_all (bounds_back a0) (tree_back a1)
-  node_back (gcons (gnum (suc (suc (suc (suc (suc (suc (suc (suc (suc (suc (suc (suc (suc (suc (suc (suc (suc (suc (suc (suc zero))))))))))))))))))))) (gcons a0 a1)) = raw_typed_exists (bounds_back a0) (tree_back a1)
-  node_back (gcons (gnum (suc (suc (suc (suc (suc (suc (suc (suc (suc (suc (suc (suc (suc (suc (suc (suc (suc (suc (suc (suc (suc zero)))))))))))))))))))))) (gcons a0 a1)) = raw_ranged_comprehension (ranges_back a0) (tree_back a1)
-  node_back (gcons (gnum (suc (suc (suc (suc (suc (suc (suc (suc (suc (suc (suc (suc (suc (suc (suc (suc (suc (suc (suc (suc (suc (suc zero))))))))))))))))))))))) (gcons a0 (gcons a1 a2))) = raw_ranged_lambda (ranges_back a0) (tree_back a1) (tree_back a2)
+  node_back (gcons (gnum (suc (suc (suc (suc (suc (suc (suc (suc (suc zero)))))))))) (gcons a0 a1)) =
+      raw_image (tree_back a0) (tree_back a1)
+  node_back (gcons (gnum (suc (suc (suc (suc (suc (suc (suc (suc (suc (suc zero))))))))))) (gcons a0 a1)) =
+      raw_apply (tree_back a0) (tree_back a1)
+  node_back (gcons (gnum (suc (suc (suc (suc (suc (suc (suc (suc (suc (suc (suc zero)))))))))))) (gcons a0 a1)) =
+      raw_composition (tree_back a0) (tree_back a1)
+  node_back (gcons (gnum (suc (suc (suc (suc (suc (suc (suc (suc (suc (suc (suc (suc zero))))))))))))) (gcons a0 a1)) =
+      raw_pair (tree_back a0) (tree_back a1)
+  node_back (gcons (gnum (suc (suc (suc (suc (suc (suc (suc (suc (suc (suc (suc (suc (suc zero)))))))))))))) a0) =
+      raw_extension (trees_back a0)
+  node_back (gcons (gnum (suc (suc (suc (suc (suc (suc (suc (suc (suc (suc (suc (suc (suc (suc zero))))))))))))))) (gcons a0 a1)) =
+      raw_comprehension (names_back a0) (tree_back a1)
+  node_back (gcons (gnum (suc (suc (suc (suc (suc (suc (suc (suc (suc (suc (suc (suc (suc (suc (suc zero))))))))))))))))
+      (gcons a0 (gcons a1 a2))) = raw_lambda (names_back a0) (tree_back a1) (tree_back a2)
+  node_back (gcons (gnum (suc (suc (suc (suc (suc (suc (suc (suc (suc (suc (suc (suc (suc (suc (suc (suc zero)))))))))))))))))
+      (gcons a0 a1)) = raw_for_all (names_back a0) (tree_back a1)
+  node_back (gcons (gnum (suc (suc (suc (suc (suc (suc (suc (suc (suc (suc (suc (suc (suc (suc (suc (suc (suc zero))))))))))))))))))
+      (gcons a0 a1)) = raw_exists (names_back a0) (tree_back a1)
+  node_back (gcons (gnum (suc (suc (suc (suc (suc (suc (suc (suc (suc (suc (suc (suc (suc (suc (suc (suc (suc (suc zero)))))))))))))))))))
+      a0) = raw_typed_empty (written_back a0)
+  node_back (gcons (gnum (suc
+      (suc (suc (suc (suc (suc (suc (suc (suc (suc (suc (suc (suc (suc (suc (suc (suc (suc (suc zero)))))))))))))))))))) (gcons a0 a1)) =
+      raw_typed_for_all (bounds_back a0) (tree_back a1)
+  node_back (gcons (gnum (suc (suc
+      (suc (suc (suc (suc (suc (suc (suc (suc (suc (suc (suc (suc (suc (suc (suc (suc (suc (suc zero))))))))))))))))))))) (gcons a0 a1)) =
+      raw_typed_exists (bounds_back a0) (tree_back a1)
+  node_back (gcons (gnum (suc (suc (suc
+      (suc (suc (suc (suc (suc (suc (suc (suc (suc (suc (suc (suc (suc (suc (suc (suc (suc (suc zero)))))))))))))))))))))) (gcons a0 a1)) =
+      raw_ranged_comprehension (ranges_back a0) (tree_back a1)
+  node_back (gcons (gnum (suc
+      (suc (suc (suc (suc (suc (suc (suc (suc (suc (suc (suc (suc (suc (suc (suc (suc (suc (suc (suc (suc (suc zero)))))))))))))))))))))))
+      (gcons a0 (gcons a1 a2))) = raw_ranged_lambda (ranges_back a0) (tree_back a1) (tree_back a2)
   node_back _ = raw_empty_set
 
   pub trees_back : Gv → RawTrees

@@ -1,9 +1,16 @@
 -- The mathematical tree that a raw term stands for.
 use Rattle.std.specs.Prelude.{ℕ, List, [], ◌∷◌}
-use Rattle.bk_raw.specs.Trees.RawTree.{RawTree, raw, RawTreeNode, raw_name, raw_level_name, raw_bound_name, raw_number, raw_constant, raw_word, raw_negative, raw_infix, raw_inverse, raw_image, raw_apply, raw_composition, raw_pair, raw_empty_set, raw_extension, raw_comprehension, raw_lambda, raw_for_all, raw_exists, raw_typed_empty, raw_typed_for_all, raw_typed_exists, raw_ranged_comprehension, raw_ranged_lambda, RawRanges, no_ranges, range_and, trees_of}
+use Rattle.bk_raw.specs.Trees.RawTree.{RawTree, raw, RawTreeNode, raw_name, raw_level_name, raw_bound_name, raw_number}
+use Rattle.bk_raw.specs.Trees.RawTree.{raw_constant, raw_word, raw_negative, raw_infix, raw_inverse, raw_image, raw_apply}
+use Rattle.bk_raw.specs.Trees.RawTree.{raw_composition, raw_pair, raw_empty_set, raw_extension, raw_comprehension, raw_lambda}
+use Rattle.bk_raw.specs.Trees.RawTree.{raw_for_all, raw_exists, raw_typed_empty, raw_typed_for_all, raw_typed_exists}
+use Rattle.bk_raw.specs.Trees.RawTree.{raw_ranged_comprehension, raw_ranged_lambda, RawRanges, no_ranges, range_and, trees_of}
 use Rattle.bk_raw.specs.declared.term.RawRange.{RawRange}
 use Rattle.bk_raw.specs.declared.term.RawNode.{RawNode}
-use Rattle.bk_raw.specs.declared.term.RawNode.TheVariants.{Name, LevelName, BoundName, Number, Constant, Word, Negative, Infix, Inverse, Image, Apply, Composition, Pair, EmptySet, Extension, Comprehension, Lambda, ForAll, Exists, TypedEmpty, TypedForAll, TypedExists, RangedComprehension, RangedLambda}
+use Rattle.bk_raw.specs.declared.term.RawNode.TheVariants.{Name, LevelName, BoundName, Number, Constant, Word, Negative}
+use Rattle.bk_raw.specs.declared.term.RawNode.TheVariants.{Infix, Inverse, Image, Apply, Composition, Pair, EmptySet}
+use Rattle.bk_raw.specs.declared.term.RawNode.TheVariants.{Extension, Comprehension, Lambda, ForAll, Exists, TypedEmpty}
+use Rattle.bk_raw.specs.declared.term.RawNode.TheVariants.{TypedForAll, TypedExists, RangedComprehension, RangedLambda}
 
 -- these bound variables, one after another
 abbrev pub ranges_of : List RawRange → RawRanges

@@ -5,10 +5,15 @@ use Rattle.std.specs.Coded.{Coded, code_by, coded×, coded_ℕ, coded_ℤ, coded
 use Rattle.bk_raw.specs.Trees.RawTree.{RawTree}
 use Rattle.bk_raw.specs.Codes.RawCodes.{coded_name, coded_tree}
 use Rattle.bk_raw.specs.Trees.WrittenType.{WrittenType, coded_written_type}
-use Rattle.bk_raw.specs.Trees.ScriptTree.{RawPlace, in_goal, in_hypothesis, RawLine, multiples, quotient, RulePart, part_number, part_term, part_terms, part_place, part_no_place, part_typed, part_law, part_certificate, RawRule, RawScript}
+use Rattle.bk_raw.specs.Trees.ScriptTree.{RawPlace, in_goal, in_hypothesis, RawLine, multiples, quotient}
+use Rattle.bk_raw.specs.Trees.ScriptTree.{RulePart, part_number, part_term, part_terms, part_place, part_no_place}
+use Rattle.bk_raw.specs.Trees.ScriptTree.{part_typed, part_law, part_certificate, RawRule, RawScript}
 use Rattle.bk_raw.specs.declared.term.RawName.{RawName}
 use Rattle.bk_raw.specs.declared.script.RuleWord.{RuleWord}
-use Rattle.bk_raw.specs.declared.script.RuleWord.TheVariants.{Hyp, True, Same, Eval, False, Absurd, And, Iff, Imp, Not, Left, Right, Or, Contra, Fix, UseTerms, Split, Cases, Apply, Inst, OpenSome, Cut, Case, Drop, Eq, Qe, Law, Wal, TypeOf, Neg, Mem, Val, Ext, Sub, Ex, Pair, Elems, Interval, Induct, Poly, Lin}
+use Rattle.bk_raw.specs.declared.script.RuleWord.TheVariants.{Hyp, True, Same, Eval, False, Absurd, And, Iff, Imp, Not, Left}
+use Rattle.bk_raw.specs.declared.script.RuleWord.TheVariants.{Right, Or, Contra, Fix, UseTerms, Split, Cases, Apply, Inst}
+use Rattle.bk_raw.specs.declared.script.RuleWord.TheVariants.{OpenSome, Cut, Case, Drop, Eq, Qe, Law, Wal, TypeOf, Neg, Mem}
+use Rattle.bk_raw.specs.declared.script.RuleWord.TheVariants.{Val, Ext, Sub, Ex, Pair, Elems, Interval, Induct, Poly, Lin}
 use Rattle.bk_raw.specs.declared.script.RawMultiple.{RawMultiple}
 use Rattle.bk_raw.specs.declared.script.RawTyped.{RawTyped}
 use Rattle.bk_raw.specs.declared.script.NamePart.{NamePart}
@@ -17,7 +22,9 @@ use Rattle.bk_raw.specs.declared.script.NamePart.TheVariants.{Letters, Numeral}
 -- ---- words
 -- the words of rules
 abbrev pub rule_words : List RuleWord
-rule_words = Hyp ∷ True ∷ Same ∷ Eval ∷ False ∷ Absurd ∷ And ∷ Iff ∷ Imp ∷ Not ∷ Left ∷ Right ∷ Or ∷ Contra ∷ Fix ∷ UseTerms ∷ Split ∷ Cases ∷ Apply ∷ Inst ∷ OpenSome ∷ Cut ∷ Case ∷ Drop ∷ Eq ∷ Qe ∷ Law ∷ Wal ∷ TypeOf ∷ Neg ∷ Mem ∷ Val ∷ Ext ∷ Sub ∷ Ex ∷ Pair ∷ Elems ∷ Interval ∷ Induct ∷ Poly ∷ Lin ∷ []
+rule_words = Hyp ∷ True ∷ Same ∷ Eval ∷ False ∷ Absurd ∷ And ∷ Iff ∷ Imp ∷ Not ∷ Left ∷ Right ∷ Or ∷
+    Contra ∷ Fix ∷ UseTerms ∷ Split ∷ Cases ∷ Apply ∷ Inst ∷ OpenSome ∷ Cut ∷ Case ∷ Drop ∷ Eq ∷ Qe ∷ Law ∷
+    Wal ∷ TypeOf ∷ Neg ∷ Mem ∷ Val ∷ Ext ∷ Sub ∷ Ex ∷ Pair ∷ Elems ∷ Interval ∷ Induct ∷ Poly ∷ Lin ∷ []
 
 -- the place of a word among them
 abbrev pub rule_code : RuleWord → ℕ
@@ -125,7 +132,8 @@ place_back (suc i ∷ path) = in_hypothesis i path
 
 -- a multiple by its multiplier and its fact
 abbrev pub coded_multiple : Coded RawMultiple
-coded_multiple = code_by (ℤ × ℕ) (coded× coded_ℤ coded_ℕ) (λ m. (m.multiplier, m.fact)) (λ p. record { multiplier = p.0; fact = p.1 }) (λ _. refl)
+coded_multiple =
+    code_by (ℤ × ℕ) (coded× coded_ℤ coded_ℕ) (λ m. (m.multiplier, m.fact)) (λ p. record { multiplier = p.0; fact = p.1 }) (λ _. refl)
 
 -- a quotient's two numbers, or a sum's multiples
 abbrev line_lists : RawLine → List ℕ × List RawMultiple
@@ -139,11 +147,13 @@ line_back (_, ms) = multiples ms
 
 -- lines are told apart by them
 abbrev pub coded_line : Coded RawLine
-coded_line = code_by (List ℕ × List RawMultiple) (coded× (coded_list coded_ℕ) (coded_list coded_multiple)) line_lists line_back (elim [ multiples ms ↦ refl | quotient k g ↦ refl ])
+coded_line = code_by (List ℕ × List RawMultiple) (coded× (coded_list coded_ℕ) (coded_list coded_multiple))
+    line_lists line_back (elim [ multiples ms ↦ refl | quotient k g ↦ refl ])
 
 -- a name with its type
 abbrev pub coded_typed : Coded RawTyped
-coded_typed = code_by (RawName × WrittenType) (coded× coded_name coded_written_type) (λ x. (x.name, x.ty)) (λ p. record { name = p.0; ty = p.1 }) (λ _. refl)
+coded_typed = code_by (RawName × WrittenType) (coded× coded_name coded_written_type)
+    (λ x. (x.name, x.ty)) (λ p. record { name = p.0; ty = p.1 }) (λ _. refl)
 
 -- ---- parts
 -- which part it is, its numbers or letters, its terms, its typed names and its lines
@@ -187,12 +197,14 @@ part_back-lists (part_certificate facts lines) = refl
 
 -- parts of rules are told apart by their lists
 abbrev pub coded_part : Coded RulePart
-coded_part = code_by Lists (coded× coded_ℕ (coded× (coded_list coded_ℕ) (coded× (coded_list coded_tree) (coded× (coded_list coded_typed) (coded_list coded_line))))) part_lists part_back part_back-lists
+coded_part = code_by Lists (coded× coded_ℕ (coded× (coded_list coded_ℕ)
+    (coded× (coded_list coded_tree) (coded× (coded_list coded_typed) (coded_list coded_line))))) part_lists part_back part_back-lists
 
 -- ---- rules and scripts
 -- a rule by its word, its byte and its parts
 abbrev pub coded_rule : Coded RawRule
-coded_rule = code_by (RuleWord × (ℕ × List RulePart)) (coded× coded_rule_word (coded× coded_ℕ (coded_list coded_part))) (λ r. (r.word, (r.at, r.parts))) (λ p. record { word = p.0; at = p.1.0; parts = p.1.1 }) (λ _. refl)
+coded_rule = code_by (RuleWord × (ℕ × List RulePart)) (coded× coded_rule_word (coded× coded_ℕ (coded_list coded_part)))
+    (λ r. (r.word, (r.at, r.parts))) (λ p. record { word = p.0; at = p.1.0; parts = p.1.1 }) (λ _. refl)
 
 -- letters, or a number by its successor
 abbrev name_numbers : NamePart → ℕ × List ℕ
@@ -206,8 +218,11 @@ name_back (suc n, text) = Numeral n
 
 -- parts of names are told apart by them
 abbrev pub coded_name_part : Coded NamePart
-coded_name_part = code_by (ℕ × List ℕ) (coded× coded_ℕ (coded_list coded_ℕ)) name_numbers name_back (elim [ Letters text ↦ refl | Numeral n ↦ refl ])
+coded_name_part =
+    code_by (ℕ × List ℕ) (coded× coded_ℕ (coded_list coded_ℕ)) name_numbers name_back (elim [ Letters text ↦ refl | Numeral n ↦ refl ])
 
 -- a script by its bytes, its name and its rules
 abbrev pub coded_script : Coded RawScript
-coded_script = code_by (ℕ × (ℕ × (List NamePart × List RawRule))) (coded× coded_ℕ (coded× coded_ℕ (coded× (coded_list coded_name_part) (coded_list coded_rule)))) (λ s. (s.at, (s.name_at, (s.name, s.rules)))) (λ p. record { at = p.0; name_at = p.1.0; name = p.1.1.0; rules = p.1.1.1 }) (λ _. refl)
+coded_script = code_by (ℕ × (ℕ × (List NamePart × List RawRule)))
+    (coded× coded_ℕ (coded× coded_ℕ (coded× (coded_list coded_name_part) (coded_list coded_rule))))
+    (λ s. (s.at, (s.name_at, (s.name, s.rules)))) (λ p. record { at = p.0; name_at = p.1.0; name = p.1.1.0; rules = p.1.1.1 }) (λ _. refl)

@@ -1,6 +1,8 @@
 -- The mathematical parts of a rule that its raw parts stand for.
 use Rattle.std.specs.Prelude.{map}
-use Rattle.bk_raw.specs.Trees.ScriptTree.{RawPlace as WrittenPlace, in_goal, in_hypothesis, RawLine as WrittenLine, multiples, quotient, RulePart as WrittenPart, part_number, part_term, part_terms, part_place, part_no_place, part_typed, part_law, part_certificate}
+use Rattle.bk_raw.specs.Trees.ScriptTree.{RawPlace as WrittenPlace, in_goal, in_hypothesis, RawLine as WrittenLine}
+use Rattle.bk_raw.specs.Trees.ScriptTree.{multiples, quotient, RulePart as WrittenPart, part_number, part_term, part_terms}
+use Rattle.bk_raw.specs.Trees.ScriptTree.{part_place, part_no_place, part_typed, part_law, part_certificate}
 use Rattle.bk_raw.specs.declared.script.RawPlace.{RawPlace}
 use Rattle.bk_raw.specs.declared.script.RawPlace.TheVariants.{Goal, Hyp}
 use Rattle.bk_raw.specs.declared.script.RawLine.{RawLine}

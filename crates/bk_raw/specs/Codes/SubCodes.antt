@@ -3,8 +3,11 @@ use Rattle.std.specs.Prelude.{◌≡◌, zero, suc, refl}
 use Rattle.std.proofs.Common.{ap, sym, ◌∙◌}
 use Rattle.std.specs.Coded.{Coded}
 use base.Stored.{Gv, gnil, gnum, gcons}
-use Rattle.bk_raw.specs.Codes.RawCodes.{name_code, name_back, name_back-code, names_code, names_back, names_back-code, tree_code, tree_back, tree_back-code, trees_code, trees_back, trees_back-code}
-use Rattle.bk_raw.specs.Trees.SubTree.{SubTree, sub, SubNode, sub_skip, sub_assign, sub_assign_at, sub_member, sub_such, sub_begin, sub_pre, sub_assert, sub_if, sub_choice, sub_select, sub_any, sub_let, sub_var, sub_while, sub_parallel, sub_sequence, Branches, no_branches, else_branch, branch_and, Choices, no_choices, choice_and}
+use Rattle.bk_raw.specs.Codes.RawCodes.{name_code, name_back, name_back-code, names_code, names_back, names_back-code}
+use Rattle.bk_raw.specs.Codes.RawCodes.{tree_code, tree_back, tree_back-code, trees_code, trees_back, trees_back-code}
+use Rattle.bk_raw.specs.Trees.SubTree.{SubTree, sub, SubNode, sub_skip, sub_assign, sub_assign_at, sub_member, sub_such, sub_begin, sub_pre}
+use Rattle.bk_raw.specs.Trees.SubTree.{sub_assert, sub_if, sub_choice, sub_select, sub_any, sub_let, sub_var, sub_while, sub_parallel}
+use Rattle.bk_raw.specs.Trees.SubTree.{sub_sequence, Branches, no_branches, else_branch, branch_and, Choices, no_choices, choice_and}
 
 -- substitutions, nodes and lists, each node by its number and its parts
 abbrev mutual
@@ -53,15 +56,24 @@ abbrev mutual
   sub_node_back (gcons (gnum (suc (suc (suc (suc zero))))) a0) = sub_begin (sub_back a0)
   sub_node_back (gcons (gnum (suc (suc (suc (suc (suc zero)))))) (gcons a0 a1)) = sub_pre (tree_back a0) (sub_back a1)
   sub_node_back (gcons (gnum (suc (suc (suc (suc (suc (suc zero))))))) (gcons a0 a1)) = sub_assert (tree_back a0) (sub_back a1)
-  sub_node_back (gcons (gnum (suc (suc (suc (suc (suc (suc (suc zero)))))))) (gcons a0 (gcons a1 a2))) = sub_if (tree_back a0) (sub_back a1) (branches_back a2)
-  sub_node_back (gcons (gnum (suc (suc (suc (suc (suc (suc (suc (suc zero))))))))) (gcons a0 a1)) = sub_choice (sub_back a0) (choices_back a1)
-  sub_node_back (gcons (gnum (suc (suc (suc (suc (suc (suc (suc (suc (suc zero)))))))))) (gcons a0 (gcons a1 a2))) = sub_select (tree_back a0) (sub_back a1) (branches_back a2)
-  sub_node_back (gcons (gnum (suc (suc (suc (suc (suc (suc (suc (suc (suc (suc zero))))))))))) (gcons a0 (gcons a1 a2))) = sub_any (names_back a0) (tree_back a1) (sub_back a2)
-  sub_node_back (gcons (gnum (suc (suc (suc (suc (suc (suc (suc (suc (suc (suc (suc zero)))))))))))) (gcons a0 (gcons a1 a2))) = sub_let (names_back a0) (tree_back a1) (sub_back a2)
-  sub_node_back (gcons (gnum (suc (suc (suc (suc (suc (suc (suc (suc (suc (suc (suc (suc zero))))))))))))) (gcons a0 a1)) = sub_var (names_back a0) (sub_back a1)
-  sub_node_back (gcons (gnum (suc (suc (suc (suc (suc (suc (suc (suc (suc (suc (suc (suc (suc zero)))))))))))))) (gcons a0 (gcons a1 (gcons a2 a3)))) = sub_while (tree_back a0) (sub_back a1) (tree_back a2) (tree_back a3)
-  sub_node_back (gcons (gnum (suc (suc (suc (suc (suc (suc (suc (suc (suc (suc (suc (suc (suc (suc zero))))))))))))))) (gcons a0 a1)) = sub_parallel (sub_back a0) (sub_back a1)
-  sub_node_back (gcons (gnum (suc (suc (suc (suc (suc (suc (suc (suc (suc (suc (suc (suc (suc (suc (suc zero)))))))))))))))) (gcons a0 a1)) = sub_sequence (sub_back a0) (sub_back a1)
+  sub_node_back (gcons (gnum (suc (suc (suc (suc (suc (suc (suc zero)))))))) (gcons a0 (gcons a1 a2))) =
+      sub_if (tree_back a0) (sub_back a1) (branches_back a2)
+  sub_node_back (gcons (gnum (suc (suc (suc (suc (suc (suc (suc (suc zero))))))))) (gcons a0 a1)) =
+      sub_choice (sub_back a0) (choices_back a1)
+  sub_node_back (gcons (gnum (suc (suc (suc (suc (suc (suc (suc (suc (suc zero)))))))))) (gcons a0 (gcons a1 a2))) =
+      sub_select (tree_back a0) (sub_back a1) (branches_back a2)
+  sub_node_back (gcons (gnum (suc (suc (suc (suc (suc (suc (suc (suc (suc (suc zero))))))))))) (gcons a0 (gcons a1 a2))) =
+      sub_any (names_back a0) (tree_back a1) (sub_back a2)
+  sub_node_back (gcons (gnum (suc (suc (suc (suc (suc (suc (suc (suc (suc (suc (suc zero)))))))))))) (gcons a0 (gcons a1 a2))) =
+      sub_let (names_back a0) (tree_back a1) (sub_back a2)
+  sub_node_back (gcons (gnum (suc (suc (suc (suc (suc (suc (suc (suc (suc (suc (suc (suc zero))))))))))))) (gcons a0 a1)) =
+      sub_var (names_back a0) (sub_back a1)
+  sub_node_back (gcons (gnum (suc (suc (suc (suc (suc (suc (suc (suc (suc (suc (suc (suc (suc zero))))))))))))))
+      (gcons a0 (gcons a1 (gcons a2 a3)))) = sub_while (tree_back a0) (sub_back a1) (tree_back a2) (tree_back a3)
+  sub_node_back (gcons (gnum (suc (suc (suc (suc (suc (suc (suc (suc (suc (suc (suc (suc (suc (suc zero))))))))))))))) (gcons a0 a1)) =
+      sub_parallel (sub_back a0) (sub_back a1)
+  sub_node_back (gcons (gnum (suc (suc (suc (suc (suc (suc (suc (suc (suc (suc (suc (suc (suc (suc (suc zero))))))))))))))))
+      (gcons a0 a1)) = sub_sequence (sub_back a0) (sub_back a1)
   sub_node_back _ = sub_skip
 
   pub branches_back : Gv → Branches
@@ -93,7 +105,8 @@ mutual
   sub_node_back-code (sub_any a0 a1 a2) = λ i. sub_any (names_back-code a0 i) (tree_back-code a1 i) (sub_back-code a2 i)
   sub_node_back-code (sub_let a0 a1 a2) = λ i. sub_let (names_back-code a0 i) (tree_back-code a1 i) (sub_back-code a2 i)
   sub_node_back-code (sub_var a0 a1) = λ i. sub_var (names_back-code a0 i) (sub_back-code a1 i)
-  sub_node_back-code (sub_while a0 a1 a2 a3) = λ i. sub_while (tree_back-code a0 i) (sub_back-code a1 i) (tree_back-code a2 i) (tree_back-code a3 i)
+  sub_node_back-code (sub_while a0 a1 a2 a3) =
+      λ i. sub_while (tree_back-code a0 i) (sub_back-code a1 i) (tree_back-code a2 i) (tree_back-code a3 i)
   sub_node_back-code (sub_parallel a0 a1) = λ i. sub_parallel (sub_back-code a0 i) (sub_back-code a1 i)
   sub_node_back-code (sub_sequence a0 a1) = λ i. sub_sequence (sub_back-code a0 i) (sub_back-code a1 i)
 

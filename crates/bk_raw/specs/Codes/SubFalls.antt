@@ -27,8 +27,10 @@ last_le-branches_size (b ∷ bs) last = omega (arith, last_le-branches_size bs l
 -- what a node is made of is smaller than the substitution
 pub sub_falls : (at : ℕ) (n : RawSubNode) → max (deep-RawSubNode n) 0 ≤ sub_size (sub_of at n)
 sub_falls at (If p s bs None) = omega (arith, most_le-branches_size bs.items no_branches)
-sub_falls at (If p s bs (Some e)) = omega (arith, most_le-branches_size bs.items (else_branch e.value), last_le-branches_size bs.items (else_branch e.value))
+sub_falls at (If p s bs (Some e)) =
+    omega (arith, most_le-branches_size bs.items (else_branch e.value), last_le-branches_size bs.items (else_branch e.value))
 sub_falls at (Choice s ss) = omega (arith, most_le-choices_size ss.items)
 sub_falls at (Select p s bs None) = omega (arith, most_le-branches_size bs.items no_branches)
-sub_falls at (Select p s bs (Some e)) = omega (arith, most_le-branches_size bs.items (else_branch e.value), last_le-branches_size bs.items (else_branch e.value))
+sub_falls at (Select p s bs (Some e)) =
+    omega (arith, most_le-branches_size bs.items (else_branch e.value), last_le-branches_size bs.items (else_branch e.value))
 sub_falls at _ = omega arith

@@ -1,7 +1,8 @@
 -- Of several faults, the one that is told.
 use Rattle.std.specs.Prelude.{◌≡◌, ℕ, Bool, false, cond, ◌&&◌, ◌||◌, nat_eq, nat_lt, List, [], ◌∷◌, ◌⊎◌, Option, None, Some}
 use Rattle.bk_raw.specs.declared.fault.FaultKind.{FaultKind}
-use Rattle.bk_raw.specs.declared.fault.FaultKind.TheVariants.{NotUtf8, NoToken, NoTree, WrongLine, WrongChain, TwiceNamed, UnknownName, NoType, NotPredicate, WrongOperation, NotB0, WrongWrite, WrongValue}
+use Rattle.bk_raw.specs.declared.fault.FaultKind.TheVariants.{NotUtf8, NoToken, NoTree, WrongLine, WrongChain, TwiceNamed, UnknownName}
+use Rattle.bk_raw.specs.declared.fault.FaultKind.TheVariants.{NoType, NotPredicate, WrongOperation, NotB0, WrongWrite, WrongValue}
 use Rattle.bk_raw.specs.Errors.Faults.{Fault}
 
 -- the order in which faults are asked: of files, of names, of formulas, of operations and writes, of values, and what is not B0 last

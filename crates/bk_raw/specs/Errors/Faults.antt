@@ -1,7 +1,8 @@
 -- What can be wrong with what is written, each with the byte where it stands, and the numbers under which faults are told.
 use Rattle.std.specs.Prelude.{ℕ}
 use Rattle.bk_raw.specs.declared.fault.FaultKind.{FaultKind}
-use Rattle.bk_raw.specs.declared.fault.FaultKind.TheVariants.{NotUtf8, NoToken, NoTree, WrongLine, WrongChain, TwiceNamed, UnknownName, NoType, NotPredicate, WrongOperation, NotB0, WrongWrite, WrongValue}
+use Rattle.bk_raw.specs.declared.fault.FaultKind.TheVariants.{NotUtf8, NoToken, NoTree, WrongLine, WrongChain, TwiceNamed, UnknownName}
+use Rattle.bk_raw.specs.declared.fault.FaultKind.TheVariants.{NoType, NotPredicate, WrongOperation, NotB0, WrongWrite, WrongValue}
 
 -- what is wrong, and the byte where it stands
 abbrev pub Fault : Type 0

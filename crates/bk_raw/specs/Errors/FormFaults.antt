@@ -4,7 +4,9 @@ use Rattle.std.specs.Prelude.{◌≡◌, ℕ, ℤ, Bool, true, false, cond, ◌|
 use Rattle.bk_raw.specs.declared.fault.FaultKind.{FaultKind}
 use Rattle.bk_raw.specs.declared.fault.FaultKind.TheVariants.{NoType}
 use Rattle.bk_raw.specs.declared.term.RawName.{RawName}
-use Rattle.bk_raw.specs.Trees.RawTree.{RawTree, raw, RawTreeNode, raw_name, raw_level_name, raw_word, raw_negative, raw_infix, raw_inverse, raw_image, raw_apply, raw_composition, raw_pair, raw_extension, raw_comprehension, raw_lambda, raw_for_all, raw_exists, RawTrees, no_trees, tree_and}
+use Rattle.bk_raw.specs.Trees.RawTree.{RawTree, raw, RawTreeNode, raw_name, raw_level_name, raw_word, raw_negative, raw_infix}
+use Rattle.bk_raw.specs.Trees.RawTree.{raw_inverse, raw_image, raw_apply, raw_composition, raw_pair, raw_extension}
+use Rattle.bk_raw.specs.Trees.RawTree.{raw_comprehension, raw_lambda, raw_for_all, raw_exists, RawTrees, no_trees, tree_and}
 use Rattle.bk_raw.specs.Trees.FreeNames.{is_among}
 use Rattle.bk_raw.specs.Trees.Additions.{HasNoAddition}
 use Rattle.bk_raw.specs.Meaning.Names.{Names, Sight, unseen, found, level_name}
@@ -30,7 +32,8 @@ abbrev mutual
   node_faults visible at (raw_level_name x n) = cond (visible (level_name x n)) [] (unknown_name at ∷ [])
   node_faults visible at (raw_word o a) = part_faults (takes_predicate o) a (form_faults visible a)
   node_faults visible at (raw_negative a) = part_faults false a (form_faults visible a)
-  node_faults visible at (raw_infix o a b) = strict_faults o a b ++ (part_faults (is_connective o) a (form_faults visible a) ++ part_faults (is_connective o) b (form_faults visible b))
+  node_faults visible at (raw_infix o a b) = strict_faults o a b
+      ++ (part_faults (is_connective o) a (form_faults visible a) ++ part_faults (is_connective o) b (form_faults visible b))
   node_faults visible at (raw_inverse a) = part_faults false a (form_faults visible a)
   node_faults visible at (raw_image a b) = part_faults false a (form_faults visible a) ++ part_faults false b (form_faults visible b)
   node_faults visible at (raw_apply a b) = part_faults false a (form_faults visible a) ++ part_faults false b (form_faults visible b)
@@ -38,7 +41,8 @@ abbrev mutual
   node_faults visible at (raw_pair a b) = part_faults false a (form_faults visible a) ++ part_faults false b (form_faults visible b)
   node_faults visible at (raw_extension ts) = each_faults visible ts
   node_faults visible at (raw_comprehension xs p) = twice [] xs ++ part_faults true p (form_faults (with_names xs visible) p)
-  node_faults visible at (raw_lambda xs p e) = twice [] xs ++ (part_faults true p (form_faults (with_names xs visible) p) ++ part_faults false e (form_faults (with_names xs visible) e))
+  node_faults visible at (raw_lambda xs p e) = twice [] xs
+      ++ (part_faults true p (form_faults (with_names xs visible) p) ++ part_faults false e (form_faults (with_names xs visible) e))
   node_faults visible at (raw_for_all xs p) = twice [] xs ++ part_faults true p (form_faults (with_names xs visible) p)
   node_faults visible at (raw_exists xs p) = twice [] xs ++ part_faults true p (form_faults (with_names xs visible) p)
   node_faults visible at _ = []
@@ -65,4 +69,5 @@ is_in_sight _ = true
 -- all faults of a term but those of types are told by its form, in the order of the text: names and types do not matter, but for which
 -- names are in scope. The term has none of the additions with which formulas are printed
 abbrev pub FormTellsFaults : Type 0
-FormTellsFaults = (max : ℤ) (names : Names) (t : RawTree) → HasNoAddition t → but_types (reading max names t).faults ≡ form_faults (λ x. is_in_sight (found 0 names x)) t
+FormTellsFaults = (max : ℤ) (names : Names) (t : RawTree) → HasNoAddition t →
+    but_types (reading max names t).faults ≡ form_faults (λ x. is_in_sight (found 0 names x)) t

@@ -56,7 +56,8 @@ CanFollow kind done c tokens front = ((rest : List Token) × (tokens ≡ front +
 -- after the first clauses these ones stand one after another, each the longest that can be the next one there, and after
 -- them, where the last tokens are left, none can follow
 abbrev pub AreReadOn : ComponentKind → List RawClause → List RawClause → List Token → List Token → Type 0
-AreReadOn kind done [] tokens rest = (tokens ≡ rest) × AreClausesOf kind done × ((d : RawClause) (other : List Token) → CanFollow kind done d tokens other → ⊥)
+AreReadOn kind done [] tokens rest = (tokens ≡ rest) × AreClausesOf kind done
+    × ((d : RawClause) (other : List Token) → CanFollow kind done d tokens other → ⊥)
 AreReadOn kind done (c ∷ cs) tokens rest =
     (front back : List Token) × (tokens ≡ front ++ back) × Clause c front
     × ((d : RawClause) (other : List Token) → CanFollow kind done d tokens other → length other ≤ length front)

@@ -23,4 +23,5 @@ is_outside (suc n) = false
 -- whether a bar follows before the bracket closes that is open around so many further ones, inside of none of these
 abbrev pub bar_follows : ℕ → List Token → Bool
 bar_follows n [] = false
-bar_follows n (token ∷ tokens) = (is_bar token.kind && is_outside n) || (not (closes_bracket token.kind && is_outside n) && bar_follows (cond (opens_bracket token.kind) (suc n) (cond (closes_bracket token.kind) (one_less n) n)) tokens)
+bar_follows n (token ∷ tokens) = (is_bar token.kind && is_outside n) || (not (closes_bracket token.kind && is_outside n)
+    && bar_follows (cond (opens_bracket token.kind) (suc n) (cond (closes_bracket token.kind) (one_less n) n)) tokens)

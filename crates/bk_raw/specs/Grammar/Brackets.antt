@@ -26,7 +26,8 @@ closes_bracket = is_sign (λ op. nat_eq op CLOSE_PAREN || nat_eq op CLOSE_BRACKE
 
 -- a word that begins a block of a substitution
 abbrev pub opens_block : TokenKind → Bool
-opens_block = is_word (λ op. nat_eq op BEGIN || nat_eq op PRE || nat_eq op ASSERT || nat_eq op IF || nat_eq op CHOICE || nat_eq op SELECT || nat_eq op ANY || nat_eq op LET || nat_eq op VAR || nat_eq op WHILE)
+opens_block = is_word (λ op. nat_eq op BEGIN || nat_eq op PRE || nat_eq op ASSERT || nat_eq op IF
+    || nat_eq op CHOICE || nat_eq op SELECT || nat_eq op ANY || nat_eq op LET || nat_eq op VAR || nat_eq op WHILE)
 
 -- the word that ends a block
 abbrev pub closes_block : TokenKind → Bool

@@ -12,7 +12,8 @@ use Rattle.bk_raw.specs.Trees.ComponentTree.{RawClause, RawComponent, is_compone
 use Rattle.bk_raw.specs.Grammar.ComponentSpelling.{Clause, Header, SpellsComponent}
 use Rattle.bk_raw.specs.Trees.ScriptTree.{RawScript}
 use Rattle.bk_raw.specs.Grammar.ScriptSpelling.{OpensScript, Scripted, SpellsScripts, IsWholeScripts, IsOpenOrNone}
-use Rattle.bk_raw.specs.Errors.Places.{IsWholeComponent, IsLongestWhole, IsComponentFault, IsComponentFaultAt, IsScriptFault, IsScriptFaultAt, AreReadOn}
+use Rattle.bk_raw.specs.Errors.Places.{IsWholeComponent, IsLongestWhole, IsComponentFault}
+use Rattle.bk_raw.specs.Errors.Places.{IsComponentFaultAt, IsScriptFault, IsScriptFaultAt, AreReadOn}
 
 -- ---- one tree for the tokens
 -- two terms that are written as the same tokens are the same
@@ -25,27 +26,32 @@ SubstitutionsAreOne = (tokens : List Token) (one other : SubTree) → SpellsSub 
 
 -- two components that are written as the same tokens are the same
 abbrev pub ComponentsAreOne : Type 0
-ComponentsAreOne = (tokens : List Token) (one other : RawComponent) → SpellsComponent one tokens → SpellsComponent other tokens → one ≡ other
+ComponentsAreOne = (tokens : List Token) (one other : RawComponent) →
+    SpellsComponent one tokens → SpellsComponent other tokens → one ≡ other
 
 -- two proof files that are written as the same tokens are the same
 abbrev pub ScriptsAreOne : Type 0
-ScriptsAreOne = (tokens : List Token) (ones others : List RawScript) → SpellsScripts ones tokens → SpellsScripts others tokens → ones ≡ others
+ScriptsAreOne = (tokens : List Token) (ones others : List RawScript) →
+    SpellsScripts ones tokens → SpellsScripts others tokens → ones ≡ others
 
 -- ---- the longest
 -- a substitution in front of the tokens that no other one in front of them is longer than
 pub record IsLongestSub (tokens : List Token) (s : SubTree) (written rest : List Token) : Type 0 where
   pub splits : tokens ≡ written ++ rest
   pub spelled : SpellsSub s written
-  pub longest : (other : SubTree) (front after : List Token) → tokens ≡ front ++ after → SpellsSub other front → length front ≤ length written
+  pub longest : (other : SubTree) (front after : List Token) →
+      tokens ≡ front ++ after → SpellsSub other front → length front ≤ length written
 
 -- at most one is the longest
 abbrev pub LongestIsOne : Type 0
-LongestIsOne = (tokens : List Token) (s t : SubTree) (w v r q : List Token) → IsLongestSub tokens s w r → IsLongestSub tokens t v q → (s ≡ t) × (w ≡ v) × (r ≡ q)
+LongestIsOne = (tokens : List Token) (s t : SubTree) (w v r q : List Token) →
+    IsLongestSub tokens s w r → IsLongestSub tokens t v q → (s ≡ t) × (w ≡ v) × (r ≡ q)
 
 -- ---- inside a clause
 -- no word of a component stands in a clause outside of brackets and blocks, but the clause's own first
 abbrev pub NoWordInside : Type 0
-NoWordInside = (c : RawClause) (first word : Token) (front back : List Token) → Clause c (first ∷ (front ++ word ∷ back)) → count_open opens closes 0 front ≡ 0 → is_component_word word.kind ≡ true → ⊥
+NoWordInside = (c : RawClause) (first word : Token) (front back : List Token) → Clause c (first ∷ (front ++ word ∷ back)) →
+    count_open opens closes 0 front ≡ 0 → is_component_word word.kind ≡ true → ⊥
 
 -- ---- places of faults
 -- tokens have at most one place of fault as a component, and so at most one byte of fault
@@ -63,13 +69,17 @@ FaultsExclude = (tokens : List Token) (c : RawComponent) (place : ℕ) → Spell
 -- longest whole front ends after what is read, and one token later where END stands there
 abbrev pub ReadingTellsPlace : Type 0
 ReadingTellsPlace =
-    (c : RawComponent) (tokens header behind rest : List Token) (place : ℕ) → tokens ≡ header ++ behind → Header c header → AreReadOn c.kind [] c.clauses behind rest →
-    (((t : Token) (ts : List Token) → rest ≡ t ∷ ts → t.kind ≡ Word END → ⊥) → place + length rest ≡ length tokens → IsLongestWhole IsWholeComponent tokens place)
-    × ((t : Token) (ts : List Token) → rest ≡ t ∷ ts → t.kind ≡ Word END → place + length ts ≡ length tokens → IsLongestWhole IsWholeComponent tokens place)
+    (c : RawComponent) (tokens header behind rest : List Token) (place : ℕ) →
+    tokens ≡ header ++ behind → Header c header → AreReadOn c.kind [] c.clauses behind rest →
+    (((t : Token) (ts : List Token) → rest ≡ t ∷ ts → t.kind ≡ Word END → ⊥) →
+    place + length rest ≡ length tokens → IsLongestWhole IsWholeComponent tokens place)
+    × ((t : Token) (ts : List Token) → rest ≡ t ∷ ts → t.kind ≡ Word END →
+    place + length ts ≡ length tokens → IsLongestWhole IsWholeComponent tokens place)
 
 -- where no header stands in front, the longest whole front is the empty one
 abbrev pub NoHeaderTellsPlace : Type 0
-NoHeaderTellsPlace = (tokens : List Token) → ((c : RawComponent) (header behind : List Token) → tokens ≡ header ++ behind → Header c header → ⊥) → IsLongestWhole IsWholeComponent tokens 0
+NoHeaderTellsPlace = (tokens : List Token) → ((c : RawComponent) (header behind : List Token) →
+    tokens ≡ header ++ behind → Header c header → ⊥) → IsLongestWhole IsWholeComponent tokens 0
 
 -- as a proof file too tokens have at most one place of fault, and at most one byte
 abbrev pub ScriptPlacesAreOne : Type 0
@@ -113,16 +123,20 @@ AreFrontsDecided IsWhole tokens = (front after : List Token) → tokens ≡ fron
 
 -- where it is decided which fronts are whole, and whether a component is written so, one is or there is a place of fault
 abbrev pub DecidedIsOneOfBoth : Type 0
-DecidedIsOneOfBoth = (tokens : List Token) → AreFrontsDecided IsWholeComponent tokens → IsDecided ((c : RawComponent) × SpellsComponent c tokens) → ((c : RawComponent) × SpellsComponent c tokens) ⊎ ((place : ℕ) × IsComponentFault tokens place)
+DecidedIsOneOfBoth = (tokens : List Token) → AreFrontsDecided IsWholeComponent tokens → IsDecided ((c : RawComponent)
+    × SpellsComponent c tokens) → ((c : RawComponent) × SpellsComponent c tokens) ⊎ ((place : ℕ) × IsComponentFault tokens place)
 
 -- with no premise: it cannot be that no component is written so and there is no place of fault
 abbrev pub OneOfBothHolds : Type 0
-OneOfBothHolds = (tokens : List Token) → ((c : RawComponent) → SpellsComponent c tokens → ⊥) → ((place : ℕ) → IsComponentFault tokens place → ⊥) → ⊥
+OneOfBothHolds = (tokens : List Token) → ((c : RawComponent) → SpellsComponent c tokens → ⊥) →
+    ((place : ℕ) → IsComponentFault tokens place → ⊥) → ⊥
 
 -- the same of proof files, where it is decided
 abbrev pub DecidedScriptsAreOneOfBoth : Type 0
-DecidedScriptsAreOneOfBoth = (tokens : List Token) → AreFrontsDecided IsWholeScripts tokens → IsDecided ((ss : List RawScript) × SpellsScripts ss tokens) → ((ss : List RawScript) × SpellsScripts ss tokens) ⊎ ((place : ℕ) × IsScriptFault tokens place)
+DecidedScriptsAreOneOfBoth = (tokens : List Token) → AreFrontsDecided IsWholeScripts tokens → IsDecided ((ss : List RawScript)
+    × SpellsScripts ss tokens) → ((ss : List RawScript) × SpellsScripts ss tokens) ⊎ ((place : ℕ) × IsScriptFault tokens place)
 
 -- and with no premise
 abbrev pub OneOfBothHoldsOfScripts : Type 0
-OneOfBothHoldsOfScripts = (tokens : List Token) → ((ss : List RawScript) → SpellsScripts ss tokens → ⊥) → ((place : ℕ) → IsScriptFault tokens place → ⊥) → ⊥
+OneOfBothHoldsOfScripts = (tokens : List Token) → ((ss : List RawScript) → SpellsScripts ss tokens → ⊥) →
+    ((place : ℕ) → IsScriptFault tokens place → ⊥) → ⊥

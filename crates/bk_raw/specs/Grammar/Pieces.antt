@@ -95,7 +95,8 @@ Digits n = Just (Number (pos n))
 
 -- a number; with a minus sign directly before it, it binds as a negative term does
 abbrev pub Literal : ℤ → ℕ → List Token → Type 0
-Literal z asked tokens = ((n : ℕ) × (z ≡ pos n) × Digits n tokens) ⊎ ((n : ℕ) × (z ≡ neg_ℤ (pos n)) × Binding negated asked (JustSign MINUS ⌢ Digits n) tokens)
+Literal z asked tokens = ((n : ℕ) × (z ≡ pos n) × Digits n tokens)
+    ⊎ ((n : ℕ) × (z ≡ neg_ℤ (pos n)) × Binding negated asked (JustSign MINUS ⌢ Digits n) tokens)
 
 -- a piece that is no number by itself
 abbrev pub NoDigits : (List Token → Type 0) → List Token → Type 0

@@ -1,10 +1,12 @@
 -- A reader of terms, as a function: it reads the longest term from the front of a list of tokens. By it terms are shown to be
 -- one for their tokens. Readers that call themselves have fuel, of which as much as there are tokens is enough.
-use Rattle.std.specs.Prelude.{ℕ, zero, suc, pos, negsuc, neg_ℤ, Bool, true, false, cond, not, ◌&&◌, nat_eq, nat_le, List, [], ◌∷◌, Option, None, Some}
+use Rattle.std.specs.Prelude.{ℕ, zero, suc, pos, negsuc, neg_ℤ, Bool, true, false, cond, not}
+use Rattle.std.specs.Prelude.{◌&&◌, nat_eq, nat_le, List, [], ◌∷◌, Option, None, Some}
 use Rattle.bk_form.specs.declared.token.Token.{Token}
 use Rattle.bk_form.specs.declared.token.TokenKind.{TokenKind}
 use Rattle.bk_form.specs.declared.token.TokenKind.TheVariants.{Name, LevelName, BoundName, Number, Sign, Word}
-use Rattle.bk_ops.specs.declared.sign.TheConstants.{FOR_ALL, EXISTS, MEMBER, MINUS, TIMES, OPEN_PAREN, CLOSE_PAREN, OPEN_BRACKET, CLOSE_BRACKET, OPEN_BRACE, CLOSE_BRACE, INVERSE, SEMICOLON, COMMA, DOT, BAR, LAMBDA}
+use Rattle.bk_ops.specs.declared.sign.TheConstants.{FOR_ALL, EXISTS, MEMBER, MINUS, TIMES, OPEN_PAREN, CLOSE_PAREN, OPEN_BRACKET}
+use Rattle.bk_ops.specs.declared.sign.TheConstants.{CLOSE_BRACKET, OPEN_BRACE, CLOSE_BRACE, INVERSE, SEMICOLON, COMMA, DOT, BAR, LAMBDA}
 use Rattle.bk_ops.specs.declared.word.TheConstants.{BOOL, INTEGER, POW}
 use Rattle.bk_raw.specs.Grammar.Bars.{bar_follows}
 use Rattle.bk_raw.specs.Trees.Operators.{infix_kind, word_kind, constant_kind, binding, ranged_over, negated, tightest}
@@ -15,7 +17,11 @@ use Rattle.bk_raw.specs.declared.operator.WordOp.{WordOp}
 use Rattle.bk_raw.specs.declared.operator.Constant.{Constant}
 use Rattle.bk_raw.specs.declared.term.RawName.{RawName}
 use Rattle.bk_raw.specs.declared.term.RawBound.{RawBound}
-use Rattle.bk_raw.specs.Trees.RawTree.{RawTree, raw, RawTreeNode, raw_name, raw_level_name, raw_bound_name, raw_number, raw_constant, raw_word, raw_negative, raw_infix, raw_inverse, raw_image, raw_apply, raw_composition, raw_pair, raw_empty_set, raw_extension, raw_comprehension, raw_lambda, raw_for_all, raw_exists, raw_typed_empty, raw_typed_for_all, raw_typed_exists, raw_ranged_comprehension, raw_ranged_lambda, RawTrees, no_trees, tree_and, RawRanges, no_ranges, range_and}
+use Rattle.bk_raw.specs.Trees.RawTree.{RawTree, raw, RawTreeNode, raw_name, raw_level_name, raw_bound_name, raw_number, raw_constant}
+use Rattle.bk_raw.specs.Trees.RawTree.{raw_word, raw_negative, raw_infix, raw_inverse, raw_image, raw_apply, raw_composition}
+use Rattle.bk_raw.specs.Trees.RawTree.{raw_pair, raw_empty_set, raw_extension, raw_comprehension, raw_lambda, raw_for_all, raw_exists}
+use Rattle.bk_raw.specs.Trees.RawTree.{raw_typed_empty, raw_typed_for_all, raw_typed_exists, raw_ranged_comprehension, raw_ranged_lambda}
+use Rattle.bk_raw.specs.Trees.RawTree.{RawTrees, no_trees, tree_and, RawRanges, no_ranges, range_and}
 
 -- what is read from the front of tokens, with the tokens after it, if anything is
 abbrev pub Reader : Type 0 → Type 0
@@ -89,7 +95,8 @@ within first last reader ts = next (sign first ts) (λ _ us. next (reader us) (�
 abbrev pub names : Reader (List RawName)
 names [] = None
 names (t ∷ []) = next (named t.kind t.start []) (λ x us. Some (x ∷ [], us))
-names (t ∷ c ∷ ts) = cond (same_kind c.kind (Sign COMMA)) (next (named t.kind t.start ts) (λ x _. next (names ts) (λ xs us. Some (x ∷ xs, us)))) (next (named t.kind t.start (c ∷ ts)) (λ x us. Some (x ∷ [], us)))
+names (t ∷ c ∷ ts) = cond (same_kind c.kind (Sign COMMA)) (next (named t.kind t.start ts)
+    (λ x _. next (names ts) (λ xs us. Some (x ∷ xs, us)))) (next (named t.kind t.start (c ∷ ts)) (λ x us. Some (x ∷ [], us)))
 
 -- the names that a quantifier or a lambda binds: one, or several in parentheses
 abbrev pub binder : Reader (List RawName)
@@ -102,7 +109,8 @@ typed_at reader (Word op) ts =
     cond (nat_eq op INTEGER) (Some (written_integer, ts)) (
     cond (nat_eq op BOOL) (Some (written_bool, ts)) (
     cond (nat_eq op POW) (next (within OPEN_PAREN CLOSE_PAREN reader ts) (λ t us. Some (written_power t, us))) None))
-typed_at reader (Sign op) ts = cond (nat_eq op OPEN_PAREN) (next (reader ts) (λ t us. next (sign TIMES us) (λ _ vs. next (reader vs) (λ u ws. next (sign CLOSE_PAREN ws) (λ _ xs. Some (written_product t u, xs)))))) None
+typed_at reader (Sign op) ts = cond (nat_eq op OPEN_PAREN) (next (reader ts) (λ t us.
+    next (sign TIMES us) (λ _ vs. next (reader vs) (λ u ws. next (sign CLOSE_PAREN ws) (λ _ xs. Some (written_product t u, xs)))))) None
 typed_at reader _ ts = None
 
 -- a type that is at most so deep
@@ -142,28 +150,34 @@ moved at (raw _ node) = raw at node
 -- what goes on at a sign with a term of strength 0 after it, as long as it does, to the left
 abbrev pub chain : ℕ → TermReader → ℕ → (RawTree → RawTree → RawTreeNode) → ℕ → RawTree → Reader RawTree
 chain zero reader op make at left ts = Some (left, ts)
-chain (suc m) reader op make at left ts = cond (begins_with op ts) (next (sign op ts) (λ _ us. next (reader 0 us) (λ right vs. chain m reader op make at (raw at (make left right)) vs))) (Some (left, ts))
+chain (suc m) reader op make at left ts = cond (begins_with op ts)
+    (next (sign op ts) (λ _ us. next (reader 0 us) (λ right vs. chain m reader op make at (raw at (make left right)) vs))) (Some (left, ts))
 
 -- what stands after a function's open parenthesis, and the parenthesis that closes it
 abbrev pub arguments : ℕ → TermReader → Reader RawTree
-arguments m reader ts = next (reader 0 ts) (λ first us. next (chain m reader COMMA raw_pair (start ts) first us) (λ x vs. next (sign CLOSE_PAREN vs) (λ _ ws. Some (x, ws))))
+arguments m reader ts = next (reader 0 ts)
+    (λ first us. next (chain m reader COMMA raw_pair (start ts) first us) (λ x vs. next (sign CLOSE_PAREN vs) (λ _ ws. Some (x, ws))))
 
 -- what stands after an open parenthesis that begins a term, and the parenthesis that closes it
 abbrev pub parentheses : ℕ → TermReader → ℕ → Reader RawTree
 parentheses m reader at ts = next (reader 0 ts) (λ first us.
-    cond (begins_with COMMA us) (next (chain m reader COMMA raw_pair (start ts) first us) (λ x vs. next (sign CLOSE_PAREN vs) (λ _ ws. Some (moved at x, ws)))) (
-    cond (begins_with SEMICOLON us) (next (chain m reader SEMICOLON raw_composition (start ts) first us) (λ x vs. next (sign CLOSE_PAREN vs) (λ _ ws. Some (moved at x, ws)))) (
+    cond (begins_with COMMA us)
+    (next (chain m reader COMMA raw_pair (start ts) first us) (λ x vs. next (sign CLOSE_PAREN vs) (λ _ ws. Some (moved at x, ws)))) (
+    cond (begins_with SEMICOLON us) (next (chain m reader SEMICOLON raw_composition (start ts) first us)
+    (λ x vs. next (sign CLOSE_PAREN vs) (λ _ ws. Some (moved at x, ws)))) (
     next (sign CLOSE_PAREN us) (λ _ vs. Some (first, vs)))))
 
 -- at most so many terms with commas between
 abbrev pub terms : ℕ → TermReader → Reader RawTrees
 terms zero reader ts = None
-terms (suc m) reader ts = next (reader 0 ts) (λ t us. cond (begins_with COMMA us) (next (sign COMMA us) (λ _ vs. next (terms m reader vs) (λ rest ws. Some (tree_and t rest, ws)))) (Some (tree_and t no_trees, us)))
+terms (suc m) reader ts = next (reader 0 ts) (λ t us. cond (begins_with COMMA us)
+    (next (sign COMMA us) (λ _ vs. next (terms m reader vs) (λ rest ws. Some (tree_and t rest, ws)))) (Some (tree_and t no_trees, us)))
 
 -- at most so many bound variables with their ranges
 abbrev pub ranges : ℕ → TermReader → Reader RawRanges
 ranges zero reader ts = None
-ranges (suc m) reader ts = next (bound ts) (λ b us. next (reader ranged_over us) (λ d vs. cond (begins_with COMMA vs) (next (sign COMMA vs) (λ _ ws. next (ranges m reader ws) (λ rest xs. Some (range_and b.0 b.1 d rest, xs)))) (Some (range_and b.0 b.1 d no_ranges, vs))))
+ranges (suc m) reader ts = next (bound ts) (λ b us. next (reader ranged_over us) (λ d vs. cond (begins_with COMMA vs) (next (sign COMMA vs)
+    (λ _ ws. next (ranges m reader ws) (λ rest xs. Some (range_and b.0 b.1 d rest, xs)))) (Some (range_and b.0 b.1 d no_ranges, vs))))
 
 -- whether a token is a bound variable
 abbrev pub is_bound : TokenKind → Bool
@@ -196,10 +210,12 @@ body reader ts = next (sign DOT ts) (λ _ us. within OPEN_PAREN CLOSE_PAREN (rea
 
 -- .(p | e), the body and the value of a lambda
 abbrev pub body_and_value : TermReader → Reader (RawTree × RawTree)
-body_and_value reader ts = next (sign DOT ts) (λ _ us. next (within OPEN_PAREN BAR (reader 0) us) (λ p vs. next (reader 0 vs) (λ e ws. next (sign CLOSE_PAREN ws) (λ _ xs. Some ((p, e), xs)))))
+body_and_value reader ts = next (sign DOT ts) (λ _ us. next (within OPEN_PAREN BAR (reader 0) us)
+    (λ p vs. next (reader 0 vs) (λ e ws. next (sign CLOSE_PAREN ws) (λ _ xs. Some ((p, e), xs)))))
 
 -- what stands after the sign of a quantifier
-abbrev pub quantified : ℕ → TermReader → (List RawName → RawTree → RawTreeNode) → (List RawBound → RawTree → RawTreeNode) → Reader RawTreeNode
+abbrev pub quantified : ℕ → TermReader → (List RawName → RawTree → RawTreeNode) →
+    (List RawBound → RawTree → RawTreeNode) → Reader RawTreeNode
 quantified m reader plain numbers ts = cond (begins_bound_in ts)
     (next (within OPEN_PAREN CLOSE_PAREN (bounds m) ts) (λ bs us. next (body reader us) (λ p vs. Some (numbers bs p, vs))))
     (next (binder ts) (λ xs us. next (body reader us) (λ p vs. Some (plain xs p, vs))))
@@ -207,7 +223,8 @@ quantified m reader plain numbers ts = cond (begins_bound_in ts)
 -- what stands after a lambda's sign
 abbrev pub lambda : ℕ → TermReader → Reader RawTreeNode
 lambda m reader ts = cond (begins_bound_in ts)
-    (next (within OPEN_PAREN CLOSE_PAREN (ranges m reader) ts) (λ rs us. next (body_and_value reader us) (λ q vs. Some (raw_ranged_lambda rs q.0 q.1, vs))))
+    (next (within OPEN_PAREN CLOSE_PAREN (ranges m reader) ts)
+    (λ rs us. next (body_and_value reader us) (λ q vs. Some (raw_ranged_lambda rs q.0 q.1, vs))))
     (next (binder ts) (λ xs us. next (body_and_value reader us) (λ q vs. Some (raw_lambda xs q.0 q.1, vs))))
 
 -- a node as a term that starts at this byte
@@ -241,8 +258,10 @@ abbrev pub postfixed : ℕ → TermReader → ℕ → RawTree → Reader RawTree
 postfixed zero reader at t ts = Some (t, ts)
 postfixed (suc m) reader at t ts =
     cond (begins_with INVERSE ts) (next (sign INVERSE ts) (λ _ us. postfixed m reader at (raw at (raw_inverse t)) us)) (
-    cond (begins_with OPEN_BRACKET ts) (or_else (next (within OPEN_BRACKET CLOSE_BRACKET (reader 0) ts) (λ s us. postfixed m reader at (raw at (raw_image t s)) us)) (Some (t, ts))) (
-    cond (begins_with OPEN_PAREN ts) (or_else (next (sign OPEN_PAREN ts) (λ _ us. next (arguments m reader us) (λ x vs. postfixed m reader at (raw at (raw_apply t x)) vs))) (Some (t, ts))) (
+    cond (begins_with OPEN_BRACKET ts) (or_else (next (within OPEN_BRACKET CLOSE_BRACKET (reader 0) ts)
+    (λ s us. postfixed m reader at (raw at (raw_image t s)) us)) (Some (t, ts))) (
+    cond (begins_with OPEN_PAREN ts) (or_else (next (sign OPEN_PAREN ts)
+    (λ _ us. next (arguments m reader us) (λ x vs. postfixed m reader at (raw at (raw_apply t x)) vs))) (Some (t, ts))) (
     Some (t, ts))))
 
 -- a leaf or a bracket with what stands after it
@@ -267,17 +286,20 @@ operand m reader ts = cond (begins_with MINUS ts)
     (next (tight m reader ts) (λ x us. Some ((x, tightest), us)))
 
 -- an operator, if it is one that may stand here, with its right operand, and then more
-abbrev pub joined_by : (RawTree → ℕ → List Token → Option (RawTree × List Token)) → TermReader → ℕ → ℕ → RawTree → ℕ → Token → List Token → Option InfixOp → Option (RawTree × List Token)
+abbrev pub joined_by : (RawTree → ℕ → List Token → Option (RawTree × List Token)) → TermReader →
+    ℕ → ℕ → RawTree → ℕ → Token → List Token → Option InfixOp → Option (RawTree × List Token)
 joined_by more reader asked at left strength t ts None = Some (left, t ∷ ts)
 joined_by more reader asked at left strength t ts (Some o) = cond (nat_le asked (binding o).own && nat_le (binding o).left strength)
-    (or_else (next (reader (binding o).right ts) (λ right us. more (raw at (raw_infix o left right)) (binding o).own us)) (Some (left, t ∷ ts)))
+    (or_else (next (reader (binding o).right ts) (λ right us. more (raw at (raw_infix o left right)) (binding o).own us))
+    (Some (left, t ∷ ts)))
     (Some (left, t ∷ ts))
 
 -- operators with their right operands after a term of some strength, where so much is asked, at most so many
 abbrev pub joined : ℕ → TermReader → ℕ → ℕ → RawTree → ℕ → Reader RawTree
 joined zero reader asked at left strength ts = Some (left, ts)
 joined (suc m) reader asked at left strength [] = Some (left, [])
-joined (suc m) reader asked at left strength (t ∷ ts) = joined_by (joined m reader asked at) reader asked at left strength t ts (infix_of t.kind)
+joined (suc m) reader asked at left strength (t ∷ ts) =
+    joined_by (joined m reader asked at) reader asked at left strength t ts (infix_of t.kind)
 
 -- the longest term of this strength, with brackets at most so deep and lists at most so long
 abbrev pub read : ℕ → ℕ → Reader RawTree

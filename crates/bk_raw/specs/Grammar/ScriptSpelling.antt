@@ -7,10 +7,14 @@ use Rattle.bk_form.specs.declared.token.TokenKind.{TokenKind}
 use Rattle.bk_form.specs.declared.token.TokenKind.TheVariants.{Name, Word}
 use Rattle.bk_ops.specs.Words.{word_texts}
 use Rattle.bk_ops.specs.declared.sign.TheConstants.{OPEN_PAREN, CLOSE_PAREN, COMMA, MEMBER, TIMES, PLUS, DIVIDE, BAR, DOT, SEMICOLON}
-use Rattle.bk_raw.specs.Grammar.Pieces.{Never, Absent, Just, JustAt, JustSign, ◌⌢◌, Divided, AnyDivided, InRow, InParentheses, Starting, Digits, Literal}
+use Rattle.bk_raw.specs.Grammar.Pieces.{Never, Absent, Just, JustAt, JustSign, ◌⌢◌, Divided}
+use Rattle.bk_raw.specs.Grammar.Pieces.{AnyDivided, InRow, InParentheses, Starting, Digits, Literal}
 use Rattle.bk_raw.specs.Trees.RawTree.{RawTree}
 use Rattle.bk_raw.specs.Grammar.Spelling.{Declared, Typed, Term}
-use Rattle.bk_raw.specs.Trees.ScriptTree.{rule_kind, PartKind, one_number, one_term, some_terms, one_place, perhaps_place, typed_names, one_law, certificate, shape_of, RawPlace, in_goal, in_hypothesis, RawLine, multiples, quotient, RulePart, part_number, part_term, part_terms, part_place, part_no_place, part_typed, part_law, part_certificate, RawRule, RawScript}
+use Rattle.bk_raw.specs.Trees.ScriptTree.{rule_kind, PartKind, one_number, one_term, some_terms, one_place, perhaps_place}
+use Rattle.bk_raw.specs.Trees.ScriptTree.{typed_names, one_law, certificate, shape_of, RawPlace, in_goal, in_hypothesis}
+use Rattle.bk_raw.specs.Trees.ScriptTree.{RawLine, multiples, quotient, RulePart, part_number, part_term, part_terms, part_place}
+use Rattle.bk_raw.specs.Trees.ScriptTree.{part_no_place, part_typed, part_law, part_certificate, RawRule, RawScript}
 use Rattle.bk_raw.specs.declared.script.RawMultiple.{RawMultiple}
 use Rattle.bk_raw.specs.declared.script.RawTyped.{RawTyped}
 use Rattle.bk_raw.specs.declared.script.NamePart.{NamePart}
@@ -99,7 +103,8 @@ SpellsScripts = InRow Scripted
 -- ---- whole fronts
 -- scripts, of which the last may lack its end
 abbrev pub IsWholeScripts : List Token → Type 0
-IsWholeScripts tokens = ((ss : List RawScript) × SpellsScripts ss tokens) ⊎ ((ss : List RawScript) × (s : RawScript) × (SpellsScripts ss ⌢ OpensScript s) tokens)
+IsWholeScripts tokens = ((ss : List RawScript) × SpellsScripts ss tokens)
+    ⊎ ((ss : List RawScript) × (s : RawScript) × (SpellsScripts ss ⌢ OpensScript s) tokens)
 
 -- a script but for its end, or nothing
 abbrev pub IsOpenOrNone : List Token → Type 0

@@ -4,14 +4,20 @@
 use Rattle.std.specs.Prelude.{ℕ, List, [], ◌∷◌, ◌⊎◌}
 use Rattle.bk_form.specs.declared.token.Token.{Token}
 use Rattle.bk_form.specs.declared.token.TokenKind.TheVariants.{Name, LevelName, BoundName, Word}
-use Rattle.bk_ops.specs.declared.sign.TheConstants.{FOR_ALL, EXISTS, MEMBER, MINUS, TIMES, OPEN_BRACE, CLOSE_BRACE, INVERSE, SEMICOLON, COMMA, DOT, BAR, LAMBDA}
+use Rattle.bk_ops.specs.declared.sign.TheConstants.{FOR_ALL, EXISTS, MEMBER, MINUS, TIMES, OPEN_BRACE}
+use Rattle.bk_ops.specs.declared.sign.TheConstants.{CLOSE_BRACE, INVERSE, SEMICOLON, COMMA, DOT, BAR, LAMBDA}
 use Rattle.bk_ops.specs.declared.word.TheConstants.{BOOL, INTEGER, POW}
-use Rattle.bk_raw.specs.Grammar.Pieces.{Never, Just, JustAt, JustSign, ◌⌢◌, Divided, InParentheses, InBrackets, InBraces, Starting, Binding, Placed, Literal, NoDigits}
+use Rattle.bk_raw.specs.Grammar.Pieces.{Never, Just, JustAt, JustSign, ◌⌢◌, Divided, InParentheses}
+use Rattle.bk_raw.specs.Grammar.Pieces.{InBrackets, InBraces, Starting, Binding, Placed, Literal, NoDigits}
 use Rattle.bk_raw.specs.Trees.Operators.{infix_kind, word_kind, constant_kind, binding, ranged_over, negated, tightest}
 use Rattle.bk_raw.specs.Trees.WrittenType.{WrittenType, written_integer, written_bool, written_set, written_power, written_product}
 use Rattle.bk_raw.specs.declared.term.RawName.{RawName}
 use Rattle.bk_raw.specs.declared.term.RawBound.{RawBound}
-use Rattle.bk_raw.specs.Trees.RawTree.{RawTree, raw, RawTreeNode, raw_name, raw_level_name, raw_bound_name, raw_number, raw_constant, raw_word, raw_negative, raw_infix, raw_inverse, raw_image, raw_apply, raw_composition, raw_pair, raw_empty_set, raw_extension, raw_comprehension, raw_lambda, raw_for_all, raw_exists, raw_typed_empty, raw_typed_for_all, raw_typed_exists, raw_ranged_comprehension, raw_ranged_lambda, RawTrees, no_trees, tree_and, RawRanges, no_ranges, range_and}
+use Rattle.bk_raw.specs.Trees.RawTree.{RawTree, raw, RawTreeNode, raw_name, raw_level_name, raw_bound_name, raw_number, raw_constant}
+use Rattle.bk_raw.specs.Trees.RawTree.{raw_word, raw_negative, raw_infix, raw_inverse, raw_image, raw_apply, raw_composition}
+use Rattle.bk_raw.specs.Trees.RawTree.{raw_pair, raw_empty_set, raw_extension, raw_comprehension, raw_lambda, raw_for_all, raw_exists}
+use Rattle.bk_raw.specs.Trees.RawTree.{raw_typed_empty, raw_typed_for_all, raw_typed_exists, raw_ranged_comprehension, raw_ranged_lambda}
+use Rattle.bk_raw.specs.Trees.RawTree.{RawTrees, no_trees, tree_and, RawRanges, no_ranges, range_and}
 
 -- ---- names and types
 -- a declared name
@@ -89,7 +95,8 @@ abbrev mutual
   Bare (raw_typed_for_all bs p) asked = JustSign FOR_ALL ⌢ InParentheses (TypedBounds bs) ⌢ JustSign DOT ⌢ InParentheses (Term p 0)
   Bare (raw_typed_exists bs p) asked = JustSign EXISTS ⌢ InParentheses (TypedBounds bs) ⌢ JustSign DOT ⌢ InParentheses (Term p 0)
   Bare (raw_ranged_comprehension rs p) asked = InBraces (Ranges rs ⌢ JustSign BAR ⌢ Term p 0)
-  Bare (raw_ranged_lambda rs p e) asked = JustSign LAMBDA ⌢ InParentheses (Ranges rs) ⌢ JustSign DOT ⌢ InParentheses (Term p 0 ⌢ JustSign BAR ⌢ Term e 0)
+  Bare (raw_ranged_lambda rs p e) asked =
+      JustSign LAMBDA ⌢ InParentheses (Ranges rs) ⌢ JustSign DOT ⌢ InParentheses (Term p 0 ⌢ JustSign BAR ⌢ Term e 0)
 
   -- a pair without its parentheses
   pub Commas : RawTreeNode → List Token → Type 0
@@ -112,7 +119,8 @@ abbrev mutual
   pub Ranges : RawRanges → List Token → Type 0
   Ranges no_ranges = Never
   Ranges (range_and at n d no_ranges) = JustAt at (BoundName n) ⌢ JustSign MEMBER ⌢ Term d ranged_over
-  Ranges (range_and at n d (range_and bt m e rs)) = (JustAt at (BoundName n) ⌢ JustSign MEMBER ⌢ Term d ranged_over) ⌢ JustSign COMMA ⌢ Ranges (range_and bt m e rs)
+  Ranges (range_and at n d (range_and bt m e rs)) =
+      (JustAt at (BoundName n) ⌢ JustSign MEMBER ⌢ Term d ranged_over) ⌢ JustSign COMMA ⌢ Ranges (range_and bt m e rs)
 
 -- the tokens are those of the term, standing alone
 abbrev pub Spells : RawTree → List Token → Type 0

@@ -5,10 +5,13 @@
 use Rattle.std.specs.Prelude.{ℕ, List}
 use Rattle.bk_form.specs.declared.token.Token.{Token}
 use Rattle.bk_ops.specs.declared.sign.TheConstants.{ASSIGN, BECOMES_MEMBER, MEMBER, OPEN_PAREN, CLOSE_PAREN, PARALLEL, SEMICOLON}
-use Rattle.bk_ops.specs.declared.word.TheConstants.{END, BEGIN, PRE, THEN, IF, ELSIF, ELSE, SELECT, WHEN, CHOICE, OR_BRANCH, ANY, WHERE, LET, BE, IN, VAR, WHILE, DO, INVARIANT, VARIANT, ASSERT, SKIP}
+use Rattle.bk_ops.specs.declared.word.TheConstants.{END, BEGIN, PRE, THEN, IF, ELSIF, ELSE, SELECT, WHEN, CHOICE, OR_BRANCH, ANY}
+use Rattle.bk_ops.specs.declared.word.TheConstants.{WHERE, LET, BE, IN, VAR, WHILE, DO, INVARIANT, VARIANT, ASSERT, SKIP}
 use Rattle.bk_raw.specs.Grammar.Pieces.{Absent, JustSign, JustWord, ◌⌢◌, Provided, Starting, Binding}
 use Rattle.bk_raw.specs.Grammar.Spelling.{Declared, Names, Term, Terms}
-use Rattle.bk_raw.specs.Trees.SubTree.{SubTree, sub, SubNode, sub_skip, sub_assign, sub_assign_at, sub_member, sub_such, sub_begin, sub_pre, sub_assert, sub_if, sub_choice, sub_select, sub_any, sub_let, sub_var, sub_while, sub_parallel, sub_sequence, Branches, no_branches, else_branch, branch_and, Choices, no_choices, choice_and}
+use Rattle.bk_raw.specs.Trees.SubTree.{SubTree, sub, SubNode, sub_skip, sub_assign, sub_assign_at, sub_member, sub_such, sub_begin, sub_pre}
+use Rattle.bk_raw.specs.Trees.SubTree.{sub_assert, sub_if, sub_choice, sub_select, sub_any, sub_let, sub_var, sub_while, sub_parallel}
+use Rattle.bk_raw.specs.Trees.SubTree.{sub_sequence, Branches, no_branches, else_branch, branch_and, Choices, no_choices, choice_and}
 use Rattle.bk_raw.specs.Trees.FreeNames.{Defines}
 
 abbrev mutual
@@ -30,9 +33,11 @@ abbrev mutual
   Stated (sub_choice s cs) asked = JustWord CHOICE ⌢ (Sub s 0 ⌢ Chosen cs) ⌢ JustWord END
   Stated (sub_select p s bs) asked = JustWord SELECT ⌢ Term p 0 ⌢ JustWord THEN ⌢ (Sub s 0 ⌢ Branched WHEN bs) ⌢ JustWord END
   Stated (sub_any xs p s) asked = JustWord ANY ⌢ Names xs ⌢ JustWord WHERE ⌢ Term p 0 ⌢ JustWord THEN ⌢ Sub s 0 ⌢ JustWord END
-  Stated (sub_let xs p s) asked = Provided (Defines xs p) (JustWord LET ⌢ Names xs ⌢ JustWord BE ⌢ Term p 0 ⌢ JustWord IN ⌢ Sub s 0 ⌢ JustWord END)
+  Stated (sub_let xs p s) asked =
+      Provided (Defines xs p) (JustWord LET ⌢ Names xs ⌢ JustWord BE ⌢ Term p 0 ⌢ JustWord IN ⌢ Sub s 0 ⌢ JustWord END)
   Stated (sub_var xs s) asked = JustWord VAR ⌢ Names xs ⌢ JustWord IN ⌢ Sub s 0 ⌢ JustWord END
-  Stated (sub_while p s i v) asked = JustWord WHILE ⌢ Term p 0 ⌢ JustWord DO ⌢ Sub s 0 ⌢ JustWord INVARIANT ⌢ Term i 0 ⌢ JustWord VARIANT ⌢ Term v 0 ⌢ JustWord END
+  Stated (sub_while p s i v) asked =
+      JustWord WHILE ⌢ Term p 0 ⌢ JustWord DO ⌢ Sub s 0 ⌢ JustWord INVARIANT ⌢ Term i 0 ⌢ JustWord VARIANT ⌢ Term v 0 ⌢ JustWord END
   Stated (sub_parallel s t) asked = Binding 1 asked (Sub s 1 ⌢ JustSign PARALLEL ⌢ Sub t 2)
   Stated (sub_sequence s t) asked = Binding 0 asked (Sub s 0 ⌢ JustSign SEMICOLON ⌢ Sub t 1)
 

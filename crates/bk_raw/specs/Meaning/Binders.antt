@@ -12,7 +12,8 @@ use Rattle.bk_raw.specs.declared.operator.InfixOp.{InfixOp}
 use Rattle.bk_raw.specs.declared.operator.InfixOp.TheVariants.{And, Equal, Member, Subset, StrictSubset}
 use Rattle.bk_raw.specs.declared.term.RawName.{RawName}
 use Rattle.bk_raw.specs.Meaning.Names.{Names, Named, local}
-use Rattle.bk_raw.specs.Meaning.Outcome.{whole, Outcome, partial, holding, silent, Reading, plainly, clean, no_type, ask_value, ask_set, ask_domain}
+use Rattle.bk_raw.specs.Meaning.Outcome.{whole, Outcome, partial, holding, silent, Reading, plainly}
+use Rattle.bk_raw.specs.Meaning.Outcome.{clean, no_type, ask_value, ask_set, ask_domain}
 use Rattle.bk_raw.specs.Meaning.OperatorReadings.{connected}
 use Rattle.bk_raw.specs.Errors.Faults.{Fault, twice_named}
 
@@ -65,7 +66,8 @@ first_type (Some u) t = Some u
 -- the first of the names with this text has the type, unless it has one already
 abbrev pub typed_as : List ℕ → ValueType → List Bound → List Bound
 typed_as text t [] = []
-typed_as text t (b ∷ bs) = cond (bytes_eq b.text text) (record { text = b.text; at = b.at; of_type = first_type b.of_type t } ∷ bs) (b ∷ typed_as text t bs)
+typed_as text t (b ∷ bs) =
+    cond (bytes_eq b.text text) (record { text = b.text; at = b.at; of_type = first_type b.of_type t } ∷ bs) (b ∷ typed_as text t bs)
 
 -- the same, where there is a type
 abbrev pub typed_by : List ℕ → Option ValueType → List Bound → List Bound
@@ -121,7 +123,10 @@ where_typed false o = silent
 
 -- !x.(P) or #x.(P), of faults of the binder, its names and the body
 abbrev pub quantified : (List ValueType → Formula → Formula) → List Fault → List Bound → Reading → Reading
-quantified k fs bs body = record { outcome = clean fs (where_typed (all_typed bs) (if_holding (λ p. holding (k (types_of bs) p)) body.outcome)); faults = fs ++ (untyped_faults bs ++ body.faults) }
+quantified k fs bs body = record {
+  outcome = clean fs (where_typed (all_typed bs) (if_holding (λ p. holding (k (types_of bs) p)) body.outcome));
+  faults = fs ++ (untyped_faults bs ++ body.faults);
+}
 
 -- ---- comprehensions and lambdas
 -- a bound name with its range, the type of the range's elements, and the number of the conjunct that gives it
@@ -143,7 +148,8 @@ first_range (Some s) r = Some s
 -- the first of the names with this text has the range, unless it has one already
 abbrev pub ranged_as : List ℕ → Formula × ValueType × ℕ → List Ranged → List Ranged
 ranged_as text r [] = []
-ranged_as text r (b ∷ bs) = cond (bytes_eq b.text text) (record { text = b.text; at = b.at; range = first_range b.range r } ∷ bs) (b ∷ ranged_as text r bs)
+ranged_as text r (b ∷ bs) =
+    cond (bytes_eq b.text text) (record { text = b.text; at = b.at; range = first_range b.range r } ∷ bs) (b ∷ ranged_as text r bs)
 
 -- the same of what was answered, from the i-th conjunct
 abbrev pub ranged_by : List ℕ → Option (Formula × ValueType) → ℕ → List Ranged → List Ranged
@@ -244,6 +250,9 @@ if_giving k (Some v) = k v.0 v.1
 abbrev pub abstracted : ℕ → List Fault → List Ranged → Reading → ℕ → Reading → Reading
 abstracted at fs bs body there image = record {
   outcome = clean fs (where_typed (is_some_name bs && all_typed (as_bound bs))
-      (if_holding (λ p. if_giving (λ f u. partial (whole (lambda (ranges_of bs) p f) (set_type (pair_type (tuple_type (types_of (as_bound bs))) u)))) (ask_value there image.outcome).answer) body.outcome));
-  faults = fs ++ (nameless at bs ++ (untyped_faults (as_bound bs) ++ (body.faults ++ (image.faults ++ (ask_value there image.outcome).faults))));
+      (if_holding
+      (λ p. if_giving (λ f u. partial (whole (lambda (ranges_of bs) p f) (set_type (pair_type (tuple_type (types_of (as_bound bs))) u))))
+      (ask_value there image.outcome).answer) body.outcome));
+  faults =
+      fs ++ (nameless at bs ++ (untyped_faults (as_bound bs) ++ (body.faults ++ (image.faults ++ (ask_value there image.outcome).faults))));
 }

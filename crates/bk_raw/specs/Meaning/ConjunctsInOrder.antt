@@ -57,16 +57,20 @@ first_given max names all x i (c ∷ cs) = first_of (numbered i (range_given max
 -- each of the names with the range that the first of the conjuncts gives it
 abbrev pub ranged_first : ℤ → Names → List RawName → List RawTree → List RawName → List Ranged
 ranged_first max names all cs [] = []
-ranged_first max names all cs (x ∷ xs) = record { text = x.text; at = x.at; range = first_given max names all x.text 0 cs } ∷ ranged_first max names all cs xs
+ranged_first max names all cs (x ∷ xs) =
+    record { text = x.text; at = x.at; range = first_given max names all x.text 0 cs } ∷ ranged_first max names all cs xs
 
 -- the conjuncts that gave no range, in order, joined to the left after those before
 abbrev pub left_in_order : ℤ → Names → List Ranged → ℕ → Option Reading → List RawTree → Option Reading
 left_in_order max names rs i before [] = before
-left_in_order max names rs i before (c ∷ cs) = left_in_order max names rs (suc i) (left_over (is_used i rs) before (part true c (reading max names c))) cs
+left_in_order max names rs i before (c ∷ cs) =
+    left_in_order max names rs (suc i) (left_over (is_used i rs) before (part true c (reading max names c))) cs
 
 -- types are given conjunct by conjunct; each name of a comprehension or lambda, none standing twice, has the range of the first conjunct
 -- that gives it one; and the body is the other conjuncts, in order, joined to the left
 pub record ConjunctsInOrder : Type 0 where
   pub types : (max : ℤ) (names : Names) (bs : List Bound) (p : RawTree) → clues max names bs p ≡ typed_in_order max names bs (conjuncts p)
-  pub first : (max : ℤ) (names : Names) (xs : List RawName) (p : RawTree) → twice [] xs ≡ [] → ranges max names xs 0 (unranged xs) p ≡ ranged_first max names xs (conjuncts p) xs
-  pub others : (max : ℤ) (names : Names) (rs : List Ranged) (p : RawTree) → rest max names rs 0 None p ≡ left_in_order max names rs 0 None (conjuncts p)
+  pub first : (max : ℤ) (names : Names) (xs : List RawName) (p : RawTree) → twice [] xs ≡ [] →
+      ranges max names xs 0 (unranged xs) p ≡ ranged_first max names xs (conjuncts p) xs
+  pub others : (max : ℤ) (names : Names) (rs : List Ranged) (p : RawTree) →
+      rest max names rs 0 None p ≡ left_in_order max names rs 0 None (conjuncts p)

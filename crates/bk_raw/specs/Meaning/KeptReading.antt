@@ -1,6 +1,9 @@
 -- When what a term reads as can be kept: it depends on nothing but what is found of the names that stand in it.
 use Rattle.std.specs.Prelude.{◌≡◌, ◌⊎◌, ℕ, ℤ, true, List}
-use Rattle.bk_raw.specs.Trees.RawTree.{RawTree, raw, RawTreeNode, raw_level_name, raw_bound_name, raw_word, raw_negative, raw_infix, raw_inverse, raw_image, raw_apply, raw_composition, raw_pair, raw_extension, raw_comprehension, raw_lambda, raw_for_all, raw_exists, raw_typed_for_all, raw_typed_exists, raw_ranged_comprehension, raw_ranged_lambda, RawTrees, no_trees, tree_and, RawRanges, no_ranges, range_and}
+use Rattle.bk_raw.specs.Trees.RawTree.{RawTree, raw, RawTreeNode, raw_level_name, raw_bound_name, raw_word, raw_negative, raw_infix}
+use Rattle.bk_raw.specs.Trees.RawTree.{raw_inverse, raw_image, raw_apply, raw_composition, raw_pair, raw_extension, raw_comprehension}
+use Rattle.bk_raw.specs.Trees.RawTree.{raw_lambda, raw_for_all, raw_exists, raw_typed_for_all, raw_typed_exists, raw_ranged_comprehension}
+use Rattle.bk_raw.specs.Trees.RawTree.{raw_ranged_lambda, RawTrees, no_trees, tree_and, RawRanges, no_ranges, range_and}
 use Rattle.bk_raw.specs.Trees.FreeNames.{stands_free}
 use Rattle.bk_raw.specs.Meaning.Names.{Names, found, count_locals, bound_sight, level_name}
 use Rattle.bk_raw.specs.Meaning.Printed.{set_type_of}

@@ -1,6 +1,7 @@
 -- The names in scope of a term, and what they stand for. That an inner name hides an outer one is the B-Book's; numbers of bound
 -- variables, which count outward, are this project's own.
-use Rattle.std.specs.Prelude.{◌≡◌, ℕ, zero, suc, ◌-◌, true, cond, ◌&&◌, nat_lt, nat_le, List, [], ◌∷◌, ◌++◌, Option, None, Some, codes, decimal}
+use Rattle.std.specs.Prelude.{◌≡◌, ℕ, zero, suc, ◌-◌, true, cond, ◌&&◌, nat_lt, nat_le}
+use Rattle.std.specs.Prelude.{List, [], ◌∷◌, ◌++◌, Option, None, Some, codes, decimal}
 use Rattle.std.specs.Str.{bytes_eq}
 use Rattle.bk_val.specs.ValueType.{ValueType, enum_type, set_type}
 use Rattle.bk_form.specs.Table.{Table, variable_type, lists_type, listed_size}

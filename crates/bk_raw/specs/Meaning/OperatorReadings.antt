@@ -5,17 +5,37 @@ use Rattle.bk_val.specs.ValueType.{ValueType, int_type, bool_type, pair_type, se
 use Rattle.bk_form.specs.Formula.{Formula, literal, truth_value, named, btrue, bfalse, unary, binary}
 use Rattle.bk_form.specs.Role.{same_type}
 use Rattle.bk_form.specs.declared.operator.UnOp.{UnOp}
-use Rattle.bk_form.specs.declared.operator.UnOp.TheVariants.{Not as Negation, BoolOf as TruthOf, Neg, Card as CardOf, Min as MinOf, Max as MaxOf, Dom as DomainOf, Ran as RangeOf, Id as IdOf, Inverse as InverseOf, Single, Pow as PowerOf, Pow1 as Power1Of}
+use Rattle.bk_form.specs.declared.operator.UnOp.TheVariants.{Not as Negation, BoolOf as TruthOf, Neg, Card as CardOf, Min as MinOf}
+use Rattle.bk_form.specs.declared.operator.UnOp.TheVariants.{Max as MaxOf, Dom as DomainOf, Ran as RangeOf, Id as IdOf}
+use Rattle.bk_form.specs.declared.operator.UnOp.TheVariants.{Inverse as InverseOf, Single, Pow as PowerOf, Pow1 as Power1Of}
 use Rattle.bk_form.specs.declared.operator.BinOp.{BinOp}
-use Rattle.bk_form.specs.declared.operator.BinOp.TheVariants.{And as Conjunction, Or as Disjunction, Imp, Iff, Eq, Lt, Le, In, Times as Product, DomRes, RanRes, DomSub, RanSub, Maps, Range, Add, Sub, Mul, Div, Mod as Remainder, Power as PowerTo, Image as ImageOf, Apply as ApplyTo, Comp, Relations as RelationsOf, PartialFunctions as PartialOf, TotalFunctions as TotalOf, PartialInjections as PartialInjectionsOf, TotalInjections as TotalInjectionsOf, PartialSurjections as PartialSurjectionsOf, TotalSurjections as TotalSurjectionsOf, Bijections as BijectionsOf}
-use Rattle.bk_form.specs.declared.operator.Domain.TheVariants.{Integer as WholeNumbers, Natural as NaturalNumbers, Natural1 as PositiveNumbers, Bool as Booleans}
+use Rattle.bk_form.specs.declared.operator.BinOp.TheVariants.{And as Conjunction, Or as Disjunction, Imp, Iff, Eq, Lt, Le, In}
+use Rattle.bk_form.specs.declared.operator.BinOp.TheVariants.{Times as Product, DomRes, RanRes, DomSub, RanSub, Maps, Range, Add, Sub}
+use Rattle.bk_form.specs.declared.operator.BinOp.TheVariants.{Mul, Div, Mod as Remainder, Power as PowerTo, Image as ImageOf}
+use Rattle.bk_form.specs.declared.operator.BinOp.TheVariants.{Apply as ApplyTo, Comp, Relations as RelationsOf}
+use Rattle.bk_form.specs.declared.operator.BinOp.TheVariants.{PartialFunctions as PartialOf, TotalFunctions as TotalOf}
+use Rattle.bk_form.specs.declared.operator.BinOp.TheVariants.{PartialInjections as PartialInjectionsOf}
+use Rattle.bk_form.specs.declared.operator.BinOp.TheVariants.{TotalInjections as TotalInjectionsOf}
+use Rattle.bk_form.specs.declared.operator.BinOp.TheVariants.{PartialSurjections as PartialSurjectionsOf}
+use Rattle.bk_form.specs.declared.operator.BinOp.TheVariants.{TotalSurjections as TotalSurjectionsOf, Bijections as BijectionsOf}
+use Rattle.bk_form.specs.declared.operator.Domain.TheVariants.{Integer as WholeNumbers, Natural as NaturalNumbers}
+use Rattle.bk_form.specs.declared.operator.Domain.TheVariants.{Natural1 as PositiveNumbers, Bool as Booleans}
 use Rattle.bk_raw.specs.declared.operator.InfixOp.{InfixOp}
-use Rattle.bk_raw.specs.declared.operator.InfixOp.TheVariants.{Equivalent, Implies, And, Or, Equal, NotEqual, Less, AtMost, Greater, AtLeast, Member, NotMember, Subset, NotSubset, StrictSubset, Relations, PartialFunctions, TotalFunctions, PartialInjections, TotalInjections, PartialSurjections, TotalSurjections, Bijections, Union, Intersection, DomainRestriction, RangeRestriction, DomainSubtraction, RangeSubtraction, Override, Maplet, Interval, Plus, Minus, Times, Divide, Mod, Power}
+use Rattle.bk_raw.specs.declared.operator.InfixOp.TheVariants.{Equivalent, Implies, And, Or, Equal, NotEqual, Less, AtMost, Greater}
+use Rattle.bk_raw.specs.declared.operator.InfixOp.TheVariants.{AtLeast, Member, NotMember, Subset, NotSubset, StrictSubset, Relations}
+use Rattle.bk_raw.specs.declared.operator.InfixOp.TheVariants.{PartialFunctions, TotalFunctions, PartialInjections, TotalInjections}
+use Rattle.bk_raw.specs.declared.operator.InfixOp.TheVariants.{PartialSurjections, TotalSurjections, Bijections, Union, Intersection}
+use Rattle.bk_raw.specs.declared.operator.InfixOp.TheVariants.{DomainRestriction, RangeRestriction, DomainSubtraction, RangeSubtraction}
+use Rattle.bk_raw.specs.declared.operator.InfixOp.TheVariants.{Override, Maplet, Interval, Plus, Minus, Times, Divide, Mod, Power}
 use Rattle.bk_raw.specs.declared.operator.WordOp.{WordOp}
 use Rattle.bk_raw.specs.declared.operator.WordOp.TheVariants.{Not, BoolOf, Card, Min, Max, Dom, Ran, Id, Succ, Pred, Pow, Pow1, Fin, Fin1}
 use Rattle.bk_raw.specs.declared.operator.Constant.{Constant}
-use Rattle.bk_raw.specs.declared.operator.Constant.TheVariants.{Bool as BoolWord, True, False, Integer, Natural, Natural1, Int, Nat, Nat1, MaxInt, MinInt, Btrue, Bfalse}
-use Rattle.bk_raw.specs.Meaning.Outcome.{Joint, union_joint, inter_joint, minus_joint, over_joint, joint_op, joins, Partial, whole, single_of, pair_of, joint_of, filled, whole_of, Outcome, partial, ranging, holding, Reading, silently, plainly, giving, no_type, Asked, fitting, ask, ask_set, ask_relation, ask_domain, ask_predicate, unvalued, of_answer, of_one, of_both}
+use Rattle.bk_raw.specs.declared.operator.Constant.TheVariants.{Bool as BoolWord, True, False, Integer, Natural, Natural1}
+use Rattle.bk_raw.specs.declared.operator.Constant.TheVariants.{Int, Nat, Nat1, MaxInt, MinInt, Btrue, Bfalse}
+use Rattle.bk_raw.specs.Meaning.Outcome.{Joint, union_joint, inter_joint, minus_joint, over_joint, joint_op, joins, Partial}
+use Rattle.bk_raw.specs.Meaning.Outcome.{whole, single_of, pair_of, joint_of, filled, whole_of, Outcome, partial, ranging}
+use Rattle.bk_raw.specs.Meaning.Outcome.{holding, Reading, silently, plainly, giving, no_type, Asked, fitting, ask, ask_set}
+use Rattle.bk_raw.specs.Meaning.Outcome.{ask_relation, ask_domain, ask_predicate, unvalued, of_answer, of_one, of_both}
 use Rattle.bk_raw.specs.Errors.Faults.{Fault}
 
 -- ---- leaves
@@ -112,9 +132,12 @@ calculated o t x y a b = of_both (λ f g. partial (whole (binary o f g) t)) (ask
 
 -- Two sides of one type, which the test admits, by what each gives: where the left gives the right takes, else the right gives
 -- and the left takes. Where neither gives it is `neither`. No side is asked a type of its own, so the whole is at fault
-abbrev pub one_type_by : (ValueType → Bool) → (Formula → Formula → ValueType → Outcome) → Reading → ℕ → Option (Formula × ValueType) → Option (Formula × ValueType) → Partial → Partial → Reading
-one_type_by test k neither at (Some v) w p q = cond (test v.1) (of_one (λ g. k v.0 g v.1) (fitting at (filled q v.1))) (silently (no_type at))
-one_type_by test k neither at None (Some w) p q = cond (test w.1) (of_one (λ f. k f w.0 w.1) (fitting at (filled p w.1))) (silently (no_type at))
+abbrev pub one_type_by : (ValueType → Bool) → (Formula → Formula → ValueType → Outcome) → Reading →
+    ℕ → Option (Formula × ValueType) → Option (Formula × ValueType) → Partial → Partial → Reading
+one_type_by test k neither at (Some v) w p q =
+    cond (test v.1) (of_one (λ g. k v.0 g v.1) (fitting at (filled q v.1))) (silently (no_type at))
+one_type_by test k neither at None (Some w) p q =
+    cond (test w.1) (of_one (λ f. k f w.0 w.1) (fitting at (filled p w.1))) (silently (no_type at))
 one_type_by test k neither at None None p q = neither
 
 -- the same of two expressions, in a term at a byte
@@ -160,7 +183,8 @@ is_number _ = false
 
 -- a - b of numbers or of sets, by the side that gives first, left before right
 abbrev pub minus_by : ℕ → ℕ → ℕ → Option (Formula × ValueType) → Option (Formula × ValueType) → Partial → Partial → Reading
-minus_by at x y (Some v) w p q = cond (is_number v.1) (of_one (λ g. partial (whole (binary Sub v.0 g) int_type)) (fitting y (filled q int_type))) (joint minus_joint at p q)
+minus_by at x y (Some v) w p q = cond (is_number v.1)
+    (of_one (λ g. partial (whole (binary Sub v.0 g) int_type)) (fitting y (filled q int_type))) (joint minus_joint at p q)
 minus_by at x y None (Some w) p q = cond (is_number w.1) (silently (no_type x)) (joint minus_joint at p q)
 minus_by at x y None None p q = joint minus_joint at p q
 
@@ -207,11 +231,13 @@ times at x y a b = silently []
 
 -- S <| r and S <<| r: a relation, and a set of its first parts
 abbrev pub left_part : BinOp → ℕ → ℕ → Outcome → Outcome → Reading
-left_part o x y a b = dependent (λ r. set_type r.1) (λ r s. partial (whole (binary o s r.0) (set_type (pair_type r.1 r.2)))) (ask_relation y b) x a
+left_part o x y a b =
+    dependent (λ r. set_type r.1) (λ r s. partial (whole (binary o s r.0) (set_type (pair_type r.1 r.2)))) (ask_relation y b) x a
 
 -- r |> S and r |>> S: a relation, and a set of its second parts
 abbrev pub right_part : BinOp → ℕ → ℕ → Outcome → Outcome → Reading
-right_part o x y a b = dependent (λ r. set_type r.2) (λ r s. partial (whole (binary o r.0 s) (set_type (pair_type r.1 r.2)))) (ask_relation x a) y b
+right_part o x y a b =
+    dependent (λ r. set_type r.2) (λ r s. partial (whole (binary o r.0 s) (set_type (pair_type r.1 r.2)))) (ask_relation x a) y b
 
 -- r[S]: a relation, and a set of its first parts
 abbrev pub image_reading : ℕ → ℕ → Outcome → Outcome → Reading
@@ -223,12 +249,14 @@ apply_reading x y a b = dependent (λ r. r.1) (λ r s. partial (whole (binary Ap
 
 -- (r ; s) of two relations, where r's second parts are of the type of s's first parts
 abbrev pub composed : ℕ → List Fault → Option (Formula × ValueType × ValueType) → Option (Formula × ValueType × ValueType) → Reading
-composed at fs (Some r) (Some s) = cond (same_type r.2 s.1) (giving (binary Comp r.0 s.0) (set_type (pair_type r.1 s.2))) (silently (no_type at))
+composed at fs (Some r) (Some s) =
+    cond (same_type r.2 s.1) (giving (binary Comp r.0 s.0) (set_type (pair_type r.1 s.2))) (silently (no_type at))
 composed at fs _ _ = silently fs
 
 -- (r ; s), asked of both sides
 abbrev pub composition_reading : ℕ → ℕ → ℕ → Outcome → Outcome → Reading
-composition_reading at x y a b = composed at ((ask_relation x a).faults ++ (ask_relation y b).faults) (ask_relation x a).answer (ask_relation y b).answer
+composition_reading at x y a b =
+    composed at ((ask_relation x a).faults ++ (ask_relation y b).faults) (ask_relation x a).answer (ask_relation y b).answer
 
 -- E |-> F: whole where both sides give a type
 abbrev pub paired : Partial → Partial → Partial

@@ -69,10 +69,12 @@ with_place i (Some d) = Some (d.0, d.1, i)
 -- bound variables with their ranges
 abbrev pub printed_ranges : List RangeRead → List Ranged
 printed_ranges [] = []
-printed_ranges (r ∷ rs) = record { text = []; at = r.at; range = with_place r.at (ask_set r.place r.reading.outcome).answer } ∷ printed_ranges rs
+printed_ranges (r ∷ rs) =
+    record { text = []; at = r.at; range = with_place r.at (ask_set r.place r.reading.outcome).answer } ∷ printed_ranges rs
 
 -- the faults of bound variables with their ranges, the first of which is the k-th: numbers, the ranges' own faults, and ranges
 -- that are no sets
 abbrev pub wrong_ranges : ℕ → List RangeRead → List Fault
 wrong_ranges k [] = []
-wrong_ranges k (r ∷ rs) = wrong_number r.at r.number k ++ (r.reading.faults ++ ((ask_set r.place r.reading.outcome).faults ++ wrong_ranges (suc k) rs))
+wrong_ranges k (r ∷ rs) =
+    wrong_number r.at r.number k ++ (r.reading.faults ++ ((ask_set r.place r.reading.outcome).faults ++ wrong_ranges (suc k) rs))

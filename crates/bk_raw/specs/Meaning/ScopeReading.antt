@@ -38,7 +38,8 @@ variable_meaning n (Some t) = global n (Some t)
 -- the names of a scope in front of others, the last one innermost
 abbrev pub scope_names : Table → List (List ℕ × ℕ) → Names → Names
 scope_names table [] around = around
-scope_names table (p ∷ ps) around = scope_names table ps (record { text = p.0; meaning = variable_meaning p.1 (variable_type table p.1) } ∷ around)
+scope_names table (p ∷ ps) around =
+    scope_names table ps (record { text = p.0; meaning = variable_meaning p.1 (variable_type table p.1) } ∷ around)
 
 -- all names in scope: those of the scope, and around them the sets of the table and their elements
 abbrev pub names_in : Table → ScopeNames → Names

@@ -4,17 +4,24 @@ use Rattle.std.specs.Prelude.{ℕ, suc, Bool, true, false, cond, not, ◌||◌, 
 use Rattle.bk_val.specs.ValueType.{int_type}
 use Rattle.bk_form.specs.Formula.{literal, for_all, for_some}
 use Rattle.bk_raw.specs.declared.operator.InfixOp.{InfixOp}
-use Rattle.bk_raw.specs.declared.operator.InfixOp.TheVariants.{Equivalent, Implies, And, Or, Equal, NotEqual, Less, AtMost, Greater, AtLeast, Member, NotMember, Subset, NotSubset, StrictSubset}
+use Rattle.bk_raw.specs.declared.operator.InfixOp.TheVariants.{Equivalent, Implies, And, Or, Equal, NotEqual, Less, AtMost, Greater}
+use Rattle.bk_raw.specs.declared.operator.InfixOp.TheVariants.{AtLeast, Member, NotMember, Subset, NotSubset, StrictSubset}
 use Rattle.bk_raw.specs.declared.operator.WordOp.{WordOp}
 use Rattle.bk_raw.specs.declared.operator.WordOp.TheVariants.{Not, BoolOf}
 use Rattle.bk_raw.specs.declared.operator.Constant.{Constant}
 use Rattle.bk_raw.specs.declared.operator.Constant.TheVariants.{Btrue, Bfalse}
 use Rattle.bk_raw.specs.declared.term.RawName.{RawName}
-use Rattle.bk_raw.specs.Trees.RawTree.{RawTree, raw, RawTreeNode, raw_name, raw_level_name, raw_bound_name, raw_number, raw_constant, raw_word, raw_negative, raw_infix, raw_inverse, raw_image, raw_apply, raw_composition, raw_pair, raw_empty_set, raw_extension, raw_comprehension, raw_lambda, raw_for_all, raw_exists, raw_typed_empty, raw_typed_for_all, raw_typed_exists, raw_ranged_comprehension, raw_ranged_lambda, RawTrees, no_trees, tree_and, RawRanges, no_ranges, range_and}
+use Rattle.bk_raw.specs.Trees.RawTree.{RawTree, raw, RawTreeNode, raw_name, raw_level_name, raw_bound_name, raw_number, raw_constant}
+use Rattle.bk_raw.specs.Trees.RawTree.{raw_word, raw_negative, raw_infix, raw_inverse, raw_image, raw_apply, raw_composition}
+use Rattle.bk_raw.specs.Trees.RawTree.{raw_pair, raw_empty_set, raw_extension, raw_comprehension, raw_lambda, raw_for_all, raw_exists}
+use Rattle.bk_raw.specs.Trees.RawTree.{raw_typed_empty, raw_typed_for_all, raw_typed_exists, raw_ranged_comprehension, raw_ranged_lambda}
+use Rattle.bk_raw.specs.Trees.RawTree.{RawTrees, no_trees, tree_and, RawRanges, no_ranges, range_and}
 use Rattle.bk_raw.specs.Meaning.Names.{Names, Sight, unseen, untyped_name, seen, found, count_locals, bound_sight, level_name}
 use Rattle.bk_raw.specs.Meaning.Outcome.{hollow, Outcome, partial, Reading, silently, plainly, giving, clean, no_type}
-use Rattle.bk_raw.specs.Meaning.OperatorReadings.{constant_reading, word_reading, negative_reading, inverse_reading, infix_reading, image_reading, apply_reading, composition_reading, pair_reading, single_reading, extended}
-use Rattle.bk_raw.specs.Meaning.Binders.{Bound, bound_names, inside, told_by, twice, quantified, Ranged, unranged, ranges_by, as_bound, is_used, left_over, is_and, body_of, comprehended, abstracted}
+use Rattle.bk_raw.specs.Meaning.OperatorReadings.{constant_reading, word_reading, negative_reading, inverse_reading, infix_reading}
+use Rattle.bk_raw.specs.Meaning.OperatorReadings.{image_reading, apply_reading, composition_reading, pair_reading, single_reading, extended}
+use Rattle.bk_raw.specs.Meaning.Binders.{Bound, bound_names, inside, told_by, twice, quantified, Ranged, unranged, ranges_by}
+use Rattle.bk_raw.specs.Meaning.Binders.{as_bound, is_used, left_over, is_and, body_of, comprehended, abstracted}
 use Rattle.bk_raw.specs.Meaning.Printed.{type_read, typed_empty, wrong_bounds, printed_bounds, RangeRead, printed_ranges, wrong_ranges}
 use Rattle.bk_raw.specs.Trees.FreeNames.{conjuncts, stands_free}
 use Rattle.bk_raw.specs.Errors.Faults.{Fault, unknown_name, not_predicate}
@@ -179,55 +186,70 @@ abbrev mutual
   node_reading int_max names at (raw_level_name x n) = name_reading at (found 0 names (level_name x n))
   node_reading int_max names at (raw_number z) = giving (literal z) int_type
   node_reading int_max names at (raw_constant c) = constant_reading int_max at c
-  node_reading int_max names at (raw_word o a) = from_one (word_reading o at (place_of a)) (part (takes_predicate o) a (reading int_max names a))
+  node_reading int_max names at (raw_word o a) =
+      from_one (word_reading o at (place_of a)) (part (takes_predicate o) a (reading int_max names a))
   node_reading int_max names at (raw_negative a) = from_one (negative_reading (place_of a)) (part false a (reading int_max names a))
   node_reading int_max names at (raw_infix o a b) =
-      spoilt_by (strict_faults o a b) (from_two (infix_reading o at (place_of a) (place_of b)) (part (is_connective o) a (reading int_max names a)) (part (is_connective o) b (reading int_max names b)))
+      spoilt_by (strict_faults o a b) (from_two (infix_reading o at (place_of a) (place_of b))
+      (part (is_connective o) a (reading int_max names a)) (part (is_connective o) b (reading int_max names b)))
   node_reading int_max names at (raw_inverse a) = from_one (inverse_reading (place_of a)) (part false a (reading int_max names a))
   node_reading int_max names at (raw_image a b) =
       from_two (image_reading (place_of a) (place_of b)) (part false a (reading int_max names a)) (part false b (reading int_max names b))
   node_reading int_max names at (raw_apply a b) =
       from_two (apply_reading (place_of a) (place_of b)) (part false a (reading int_max names a)) (part false b (reading int_max names b))
   node_reading int_max names at (raw_composition a b) =
-      from_two (composition_reading at (place_of a) (place_of b)) (part false a (reading int_max names a)) (part false b (reading int_max names b))
-  node_reading int_max names at (raw_pair a b) = from_two pair_reading (part false a (reading int_max names a)) (part false b (reading int_max names b))
+      from_two (composition_reading at (place_of a) (place_of b))
+      (part false a (reading int_max names a)) (part false b (reading int_max names b))
+  node_reading int_max names at (raw_pair a b) =
+      from_two pair_reading (part false a (reading int_max names a)) (part false b (reading int_max names b))
   node_reading int_max names at raw_empty_set = plainly (partial hollow)
   node_reading int_max names at (raw_extension ts) = extension_reading int_max names at ts
   node_reading int_max names at (raw_for_all xs p) =
-      quantified for_all (twice [] xs) (premise_clues int_max names (bound_names xs) p) (part true p (reading int_max (inside (premise_clues int_max names (bound_names xs) p) names) p))
+      quantified for_all (twice [] xs) (premise_clues int_max names (bound_names xs) p)
+      (part true p (reading int_max (inside (premise_clues int_max names (bound_names xs) p) names) p))
   node_reading int_max names at (raw_exists xs p) =
-      quantified for_some (twice [] xs) (clues int_max names (bound_names xs) p) (part true p (reading int_max (inside (clues int_max names (bound_names xs) p) names) p))
+      quantified for_some (twice [] xs) (clues int_max names (bound_names xs) p)
+      (part true p (reading int_max (inside (clues int_max names (bound_names xs) p) names) p))
   node_reading int_max names at (raw_comprehension xs p) =
-      comprehended at (twice [] xs) (ranges int_max names xs 0 (unranged xs) p) (body_of (rest int_max (inside (as_bound (ranges int_max names xs 0 (unranged xs) p)) names) (ranges int_max names xs 0 (unranged xs) p) 0 None p))
+      comprehended at (twice [] xs) (ranges int_max names xs 0 (unranged xs) p) (body_of (rest int_max
+      (inside (as_bound (ranges int_max names xs 0 (unranged xs) p)) names) (ranges int_max names xs 0 (unranged xs) p) 0 None p))
   node_reading int_max names at (raw_lambda xs p e) =
-      abstracted at (twice [] xs) (ranges int_max names xs 0 (unranged xs) p) (body_of (rest int_max (inside (as_bound (ranges int_max names xs 0 (unranged xs) p)) names) (ranges int_max names xs 0 (unranged xs) p) 0 None p))
+      abstracted at (twice [] xs) (ranges int_max names xs 0 (unranged xs) p) (body_of (rest int_max
+      (inside (as_bound (ranges int_max names xs 0 (unranged xs) p)) names) (ranges int_max names xs 0 (unranged xs) p) 0 None p))
       (place_of e) (part false e (reading int_max (inside (as_bound (ranges int_max names xs 0 (unranged xs) p)) names) e))
   node_reading int_max names at (raw_bound_name k) = name_reading at (bound_sight (count_locals names) names k)
   node_reading int_max names at (raw_typed_empty t) = typed_empty at (type_read names t)
   node_reading int_max names at (raw_typed_for_all bs p) =
-      quantified for_all (wrong_bounds (suc (count_locals names)) bs) (printed_bounds names bs) (part true p (reading int_max (inside (printed_bounds names bs) names) p))
+      quantified for_all (wrong_bounds (suc (count_locals names)) bs) (printed_bounds names bs)
+      (part true p (reading int_max (inside (printed_bounds names bs) names) p))
   node_reading int_max names at (raw_typed_exists bs p) =
-      quantified for_some (wrong_bounds (suc (count_locals names)) bs) (printed_bounds names bs) (part true p (reading int_max (inside (printed_bounds names bs) names) p))
+      quantified for_some (wrong_bounds (suc (count_locals names)) bs) (printed_bounds names bs)
+      (part true p (reading int_max (inside (printed_bounds names bs) names) p))
   node_reading int_max names at (raw_ranged_comprehension rs p) =
-      comprehended at (wrong_ranges (suc (count_locals names)) (range_reads int_max names rs)) (printed_ranges (range_reads int_max names rs)) (part true p (reading int_max (inside (as_bound (printed_ranges (range_reads int_max names rs))) names) p))
+      comprehended at (wrong_ranges (suc (count_locals names)) (range_reads int_max names rs)) (printed_ranges (range_reads int_max
+      names rs)) (part true p (reading int_max (inside (as_bound (printed_ranges (range_reads int_max names rs))) names) p))
   node_reading int_max names at (raw_ranged_lambda rs p e) =
-      abstracted at (wrong_ranges (suc (count_locals names)) (range_reads int_max names rs)) (printed_ranges (range_reads int_max names rs)) (part true p (reading int_max (inside (as_bound (printed_ranges (range_reads int_max names rs))) names) p))
+      abstracted at (wrong_ranges (suc (count_locals names)) (range_reads int_max names rs)) (printed_ranges (range_reads int_max names rs))
+      (part true p (reading int_max (inside (as_bound (printed_ranges (range_reads int_max names rs))) names) p))
       (place_of e) (part false e (reading int_max (inside (as_bound (printed_ranges (range_reads int_max names rs))) names) e))
 
   -- the ranges of printed bound variables
   pub range_reads : ℤ → Names → RawRanges → List RangeRead
   range_reads int_max names no_ranges = []
-  range_reads int_max names (range_and at n d rs) = record { at = at; number = n; place = place_of d; reading = part false d (reading int_max names d) } ∷ range_reads int_max names rs
+  range_reads int_max names (range_and at n d rs) =
+      record { at = at; number = n; place = place_of d; reading = part false d (reading int_max names d) } ∷ range_reads int_max names rs
 
   -- {a, b, c}, which has an element
   pub extension_reading : ℤ → Names → ℕ → RawTrees → Reading
   extension_reading int_max names at no_trees = silently (no_type at)
-  extension_reading int_max names at (tree_and t ts) = elements_reading int_max names at (from_one single_reading (part false t (reading int_max names t))) ts
+  extension_reading int_max names at (tree_and t ts) =
+      elements_reading int_max names at (from_one single_reading (part false t (reading int_max names t))) ts
 
   -- one element after another
   pub elements_reading : ℤ → Names → ℕ → Reading → RawTrees → Reading
   elements_reading int_max names at before no_trees = before
-  elements_reading int_max names at before (tree_and t ts) = elements_reading int_max names at (from_two (extended at) before (part false t (reading int_max names t))) ts
+  elements_reading int_max names at before (tree_and t ts) =
+      elements_reading int_max names at (from_two (extended at) before (part false t (reading int_max names t))) ts
 
   -- the types that the conjuncts give to bound names, each from the names that have one already
   pub clues : ℤ → Names → List Bound → RawTree → List Bound
@@ -243,15 +265,18 @@ abbrev mutual
   -- the ranges that the conjuncts give to the names, of which all are bound; the first conjunct has the number i
   pub ranges : ℤ → Names → List RawName → ℕ → List Ranged → RawTree → List Ranged
   ranges int_max names all i bs (raw at (raw_infix o a d)) =
-      ranges_by o i bs (name_of a) (ranges int_max names all (i + length (conjuncts a)) (ranges int_max names all i bs a) d) (names_one all d) (part false d (reading int_max names d)).outcome
+      ranges_by o i bs (name_of a) (ranges int_max names all (i + length (conjuncts a)) (ranges int_max names all i bs a) d)
+      (names_one all d) (part false d (reading int_max names d)).outcome
   ranges int_max names all i bs _ = bs
 
   -- the conjuncts that gave no range, after those before the i-th
   pub rest : ℤ → Names → List Ranged → ℕ → Option Reading → RawTree → Option Reading
-  rest int_max names bs i before (raw at node) = rest_in int_max names bs i before (part true (raw at node) (node_reading int_max names at node)) node
+  rest int_max names bs i before (raw at node) =
+      rest_in int_max names bs i before (part true (raw at node) (node_reading int_max names at node)) node
 
   -- the same by the form of the term, which reads as r
   pub rest_in : ℤ → Names → List Ranged → ℕ → Option Reading → Reading → RawTreeNode → Option Reading
   rest_in int_max names bs i before r (raw_infix o a b) =
-      cond (is_and o) (rest int_max names bs (i + length (conjuncts a)) (rest int_max names bs i before a) b) (left_over (is_used i bs) before r)
+      cond (is_and o) (rest int_max names bs (i + length (conjuncts a)) (rest int_max names bs i before a) b)
+      (left_over (is_used i bs) before r)
   rest_in int_max names bs i before r _ = left_over (is_used i bs) before r

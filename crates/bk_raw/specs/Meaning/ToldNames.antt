@@ -15,4 +15,5 @@ IsSeen _ = ⊥
 -- where something is told of a term, each name that stands free in it is in scope and has a type: so a conjunct tells nothing of a bound
 -- name while a name without a type stands in its right side. (Printed bound variables have the empty text for a name)
 abbrev pub ToldNamesAreSeen : Type 0
-ToldNamesAreSeen = (max : ℤ) (names : Names) (t : RawTree) → IsTold (reading max names t).outcome → (x : List ℕ) → bytes_eq [] x ≡ false → stands_free x t ≡ true → IsSeen (found 0 names x)
+ToldNamesAreSeen = (max : ℤ) (names : Names) (t : RawTree) → IsTold (reading max names t).outcome →
+    (x : List ℕ) → bytes_eq [] x ≡ false → stands_free x t ≡ true → IsSeen (found 0 names x)

@@ -2,8 +2,14 @@
 use Rattle.std.specs.Prelude.{◌≡◌}
 use Rattle.bk_raw.specs.declared.operator.Constant.{Constant}
 use Rattle.bk_raw.specs.declared.operator.Constant.TheVariants.{Btrue, Bfalse}
-use Rattle.bk_raw.specs.Trees.RawTree.{RawTree, raw, RawTreeNode, raw_name, raw_level_name, raw_bound_name, raw_number, raw_constant, raw_word, raw_negative, raw_infix, raw_inverse, raw_image, raw_apply, raw_composition, raw_pair, raw_empty_set, raw_extension, raw_comprehension, raw_lambda, raw_for_all, raw_exists, raw_typed_empty, raw_typed_for_all, raw_typed_exists, raw_ranged_comprehension, raw_ranged_lambda, RawTrees, no_trees, tree_and}
-use Rattle.bk_raw.specs.Trees.SubTree.{SubTree, sub, SubNode, sub_skip, sub_assign, sub_assign_at, sub_member, sub_such, sub_begin, sub_pre, sub_assert, sub_if, sub_choice, sub_select, sub_any, sub_let, sub_var, sub_while, sub_parallel, sub_sequence, Branches, no_branches, else_branch, branch_and, Choices, no_choices, choice_and}
+use Rattle.bk_raw.specs.Trees.RawTree.{RawTree, raw, RawTreeNode, raw_name, raw_level_name, raw_bound_name, raw_number}
+use Rattle.bk_raw.specs.Trees.RawTree.{raw_constant, raw_word, raw_negative, raw_infix, raw_inverse, raw_image, raw_apply}
+use Rattle.bk_raw.specs.Trees.RawTree.{raw_composition, raw_pair, raw_empty_set, raw_extension, raw_comprehension, raw_lambda}
+use Rattle.bk_raw.specs.Trees.RawTree.{raw_for_all, raw_exists, raw_typed_empty, raw_typed_for_all, raw_typed_exists}
+use Rattle.bk_raw.specs.Trees.RawTree.{raw_ranged_comprehension, raw_ranged_lambda, RawTrees, no_trees, tree_and}
+use Rattle.bk_raw.specs.Trees.SubTree.{SubTree, sub, SubNode, sub_skip, sub_assign, sub_assign_at, sub_member, sub_such, sub_begin, sub_pre}
+use Rattle.bk_raw.specs.Trees.SubTree.{sub_assert, sub_if, sub_choice, sub_select, sub_any, sub_let, sub_var, sub_while, sub_parallel}
+use Rattle.bk_raw.specs.Trees.SubTree.{sub_sequence, Branches, no_branches, else_branch, branch_and, Choices, no_choices, choice_and}
 
 -- a constant word that stands in components too
 abbrev pub IsOrdinary : Constant → Type 0

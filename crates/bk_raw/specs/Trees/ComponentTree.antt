@@ -5,13 +5,17 @@ use Rattle.bk_form.specs.declared.token.TokenKind.{TokenKind}
 use Rattle.bk_raw.specs.Grammar.Brackets.{is_word}
 use Rattle.bk_raw.specs.Trees.RawTree.{RawTree, tree_height}
 use Rattle.bk_raw.specs.declared.term.RawName.{RawName}
-use Rattle.bk_ops.specs.declared.word.TheConstants.{MACHINE, REFINEMENT, IMPLEMENTATION, SETS, CONSTANTS, CONCRETE_CONSTANTS, PROPERTIES, VARIABLES, ABSTRACT_VARIABLES, CONCRETE_VARIABLES, INVARIANT, ASSERTIONS, VALUES, INITIALISATION, OPERATIONS, END}
+use Rattle.bk_ops.specs.declared.word.TheConstants.{MACHINE, REFINEMENT, IMPLEMENTATION, SETS, CONSTANTS, CONCRETE_CONSTANTS}
+use Rattle.bk_ops.specs.declared.word.TheConstants.{PROPERTIES, VARIABLES, ABSTRACT_VARIABLES, CONCRETE_VARIABLES, INVARIANT}
+use Rattle.bk_ops.specs.declared.word.TheConstants.{ASSERTIONS, VALUES, INITIALISATION, OPERATIONS, END}
 use Rattle.bk_raw.specs.Trees.Numbers.{greatest}
 use Rattle.bk_raw.specs.Trees.SubTree.{SubTree, sub_height}
 use Rattle.bk_raw.specs.declared.component.ComponentKind.{ComponentKind}
 use Rattle.bk_raw.specs.declared.component.ComponentKind.TheVariants.{Machine, Refinement, Implementation}
 use Rattle.bk_raw.specs.declared.component.ClauseWord.{ClauseWord}
-use Rattle.bk_raw.specs.declared.component.ClauseWord.TheVariants.{Sets, Constants, ConcreteConstants, Properties, Variables, AbstractVariables, ConcreteVariables, Invariant, Assertions, Values, Initialisation, Operations}
+use Rattle.bk_raw.specs.declared.component.ClauseWord.TheVariants.{Sets, Constants, ConcreteConstants, Properties, Variables}
+use Rattle.bk_raw.specs.declared.component.ClauseWord.TheVariants.{AbstractVariables, ConcreteVariables, Invariant}
+use Rattle.bk_raw.specs.declared.component.ClauseWord.TheVariants.{Assertions, Values, Initialisation, Operations}
 use Rattle.bk_raw.specs.declared.component.RawValue.{RawValue}
 
 -- a set with its elements; none where it is a name alone

@@ -3,14 +3,27 @@
 use Rattle.std.specs.Prelude.{ℕ}
 use Rattle.bk_form.specs.declared.token.TokenKind.{TokenKind}
 use Rattle.bk_form.specs.declared.token.TokenKind.TheVariants.{Sign, Word}
-use Rattle.bk_ops.specs.declared.sign.TheConstants.{EQUIVALENT, IMPLIES, AND, EQUAL, NOT_EQUAL, LESS, AT_MOST, GREATER, AT_LEAST, MEMBER, NOT_MEMBER, SUBSET, NOT_SUBSET, STRICT_SUBSET, RELATIONS, PARTIAL_FUNCTIONS, TOTAL_FUNCTIONS, PARTIAL_INJECTIONS, TOTAL_INJECTIONS, PARTIAL_SURJECTIONS, TOTAL_SURJECTIONS, BIJECTIONS, UNION, INTERSECTION, DOMAIN_RESTRICTION, RANGE_RESTRICTION, DOMAIN_SUBTRACTION, RANGE_SUBTRACTION, OVERRIDE, MAPLET, INTERVAL, PLUS, MINUS, TIMES, DIVIDE, POWER}
-use Rattle.bk_ops.specs.declared.word.TheConstants.{OR, MOD, NOT, BOOL_OF, CARD, MIN, MAX, DOM, RAN, ID, SUCC, PRED, POW, POW1, FIN, FIN1, BOOL, TRUE, FALSE, INTEGER, NATURAL, NATURAL1, INT, NAT, NAT1, MAXINT, MININT, BTRUE, BFALSE}
+use Rattle.bk_ops.specs.declared.sign.TheConstants.{EQUIVALENT, IMPLIES, AND, EQUAL, NOT_EQUAL, LESS, AT_MOST, GREATER, AT_LEAST, MEMBER}
+use Rattle.bk_ops.specs.declared.sign.TheConstants.{NOT_MEMBER, SUBSET, NOT_SUBSET, STRICT_SUBSET, RELATIONS, PARTIAL_FUNCTIONS}
+use Rattle.bk_ops.specs.declared.sign.TheConstants.{TOTAL_FUNCTIONS, PARTIAL_INJECTIONS, TOTAL_INJECTIONS, PARTIAL_SURJECTIONS}
+use Rattle.bk_ops.specs.declared.sign.TheConstants.{TOTAL_SURJECTIONS, BIJECTIONS, UNION, INTERSECTION, DOMAIN_RESTRICTION}
+use Rattle.bk_ops.specs.declared.sign.TheConstants.{RANGE_RESTRICTION, DOMAIN_SUBTRACTION, RANGE_SUBTRACTION, OVERRIDE, MAPLET, INTERVAL}
+use Rattle.bk_ops.specs.declared.sign.TheConstants.{PLUS, MINUS, TIMES, DIVIDE, POWER}
+use Rattle.bk_ops.specs.declared.word.TheConstants.{OR, MOD, NOT, BOOL_OF, CARD, MIN, MAX, DOM, RAN, ID, SUCC, PRED}
+use Rattle.bk_ops.specs.declared.word.TheConstants.{POW, POW1, FIN, FIN1, BOOL, TRUE, FALSE, INTEGER, NATURAL}
+use Rattle.bk_ops.specs.declared.word.TheConstants.{NATURAL1, INT, NAT, NAT1, MAXINT, MININT, BTRUE, BFALSE}
 use Rattle.bk_raw.specs.declared.operator.InfixOp.{InfixOp}
-use Rattle.bk_raw.specs.declared.operator.InfixOp.TheVariants.{Equivalent, Implies, And, Or, Equal, NotEqual, Less, AtMost, Greater, AtLeast, Member, NotMember, Subset, NotSubset, StrictSubset, Relations, PartialFunctions, TotalFunctions, PartialInjections, TotalInjections, PartialSurjections, TotalSurjections, Bijections, Union, Intersection, DomainRestriction, RangeRestriction, DomainSubtraction, RangeSubtraction, Override, Maplet, Interval, Plus, Minus, Times, Divide, Mod, Power}
+use Rattle.bk_raw.specs.declared.operator.InfixOp.TheVariants.{Equivalent, Implies, And, Or, Equal, NotEqual, Less, AtMost, Greater}
+use Rattle.bk_raw.specs.declared.operator.InfixOp.TheVariants.{AtLeast, Member, NotMember, Subset, NotSubset, StrictSubset, Relations}
+use Rattle.bk_raw.specs.declared.operator.InfixOp.TheVariants.{PartialFunctions, TotalFunctions, PartialInjections, TotalInjections}
+use Rattle.bk_raw.specs.declared.operator.InfixOp.TheVariants.{PartialSurjections, TotalSurjections, Bijections, Union, Intersection}
+use Rattle.bk_raw.specs.declared.operator.InfixOp.TheVariants.{DomainRestriction, RangeRestriction, DomainSubtraction, RangeSubtraction}
+use Rattle.bk_raw.specs.declared.operator.InfixOp.TheVariants.{Override, Maplet, Interval, Plus, Minus, Times, Divide, Mod, Power}
 use Rattle.bk_raw.specs.declared.operator.WordOp.{WordOp}
 use Rattle.bk_raw.specs.declared.operator.WordOp.TheVariants.{Not, BoolOf, Card, Min, Max, Dom, Ran, Id, Succ, Pred, Pow, Pow1, Fin, Fin1}
 use Rattle.bk_raw.specs.declared.operator.Constant.{Constant}
-use Rattle.bk_raw.specs.declared.operator.Constant.TheVariants.{Bool, True, False, Integer, Natural, Natural1, Int, Nat, Nat1, MaxInt, MinInt, Btrue, Bfalse}
+use Rattle.bk_raw.specs.declared.operator.Constant.TheVariants.{Bool, True, False, Integer, Natural, Natural1}
+use Rattle.bk_raw.specs.declared.operator.Constant.TheVariants.{Int, Nat, Nat1, MaxInt, MinInt, Btrue, Bfalse}
 
 -- the token that an operator is written as
 abbrev pub infix_kind : InfixOp → TokenKind

@@ -6,7 +6,10 @@ use Rattle.bk_ops.specs.declared.word.TheConstants.{OR, NOT}
 use Rattle.bk_raw.specs.Trees.RawTree.{RawTree, tree_height}
 use Rattle.bk_raw.specs.Trees.Numbers.{greatest}
 use Rattle.bk_raw.specs.declared.script.RuleWord.{RuleWord}
-use Rattle.bk_raw.specs.declared.script.RuleWord.TheVariants.{Hyp, True, Same, Eval, False, Absurd, And, Iff, Imp, Not, Left, Right, Or, Contra, Fix, UseTerms, Split, Cases, Apply, Inst, OpenSome, Cut, Case, Drop, Eq, Qe, Law, Wal, TypeOf, Neg, Mem, Val, Ext, Sub, Ex, Pair, Elems, Interval, Induct, Poly, Lin}
+use Rattle.bk_raw.specs.declared.script.RuleWord.TheVariants.{Hyp, True, Same, Eval, False, Absurd, And, Iff, Imp, Not, Left}
+use Rattle.bk_raw.specs.declared.script.RuleWord.TheVariants.{Right, Or, Contra, Fix, UseTerms, Split, Cases, Apply, Inst}
+use Rattle.bk_raw.specs.declared.script.RuleWord.TheVariants.{OpenSome, Cut, Case, Drop, Eq, Qe, Law, Wal, TypeOf, Neg, Mem}
+use Rattle.bk_raw.specs.declared.script.RuleWord.TheVariants.{Val, Ext, Sub, Ex, Pair, Elems, Interval, Induct, Poly, Lin}
 use Rattle.bk_raw.specs.declared.script.RawMultiple.{RawMultiple}
 use Rattle.bk_raw.specs.declared.script.RawTyped.{RawTyped}
 use Rattle.bk_raw.specs.declared.script.NamePart.{NamePart}
