@@ -51,17 +51,17 @@ value-kept max t at o f u b k e = kept b ∙ (ap (λ c. where_value c f) k ∙ v
 
 -- ---- sizes
 -- one set more
-pub size-next : (at : ℕ) (globals : Names) (vs : List RawValue) (table : Table) (n : ℕ) (lacks : Bool) (before now after whole : Option Fault) → n < length table.sets → lacks ≡ lacks_size globals vs n (listed_size table n) →
-    now ≡ blame (cond lacks (wrong_value at ∷ []) []) → after ≡ earlier before now → earlier before (blame (without_size at globals vs n (drop n table.sets))) ≡ whole → earlier after (blame (without_size at globals vs (n + 1) (drop (n + 1) table.sets))) ≡ whole
-size-next at globals vs table n lacks before now after whole h is k f inv =
+pub size-next : (at : ℕ) (globals : Names) (vs : List RawValue) (table : Table) (n : ℕ) (lacks : Bool) (before now after wanted : Option Fault) → n < length table.sets → lacks ≡ lacks_size globals vs n (listed_size table n) →
+    now ≡ blame (cond lacks (wrong_value at ∷ []) []) → after ≡ earlier before now → earlier before (blame (without_size at globals vs n (drop n table.sets))) ≡ wanted → earlier after (blame (without_size at globals vs (n + 1) (drop (n + 1) table.sets))) ≡ wanted
+size-next at globals vs table n lacks before now after wanted h is k f inv =
     let blank : SetEntry = record { name = []; elements = []; size = 0 } in
     let s = get_or table.sets n blank in
     let size : listed_size table n ≡ s.size = ap (λ o. option_map_or (λ (e : SetEntry). e.size) o 0) (slice_get-get_or table.sets n blank h) in
     let next : suc n ≡ n + 1 = omega arith in
     let one : List Fault = cond (lacks_size globals vs n s.size) (wrong_value at ∷ []) [] in
-    told-next-at (λ (m : ℕ) (ss : List SetEntry). without_size at globals vs m ss) one table.sets n s before now after whole (ap (λ m. one ++ without_size at globals vs m (drop (n + 1) table.sets)) next) h (at-item table.sets n blank h)
+    told-next-at (λ (m : ℕ) (ss : List SetEntry). without_size at globals vs m ss) one table.sets n s before now after wanted (ap (λ m. one ++ without_size at globals vs m (drop (n + 1) table.sets)) next) h (at-item table.sets n blank h)
     (k ∙ ap (λ b. blame (cond b (wrong_value at ∷ []) [])) (is ∙ ap (lacks_size globals vs n) size)) f inv
 
 -- after all of them
-pub size-end : (at : ℕ) (globals : Names) (vs : List RawValue) (sets : List SetEntry) (n : ℕ) (fault whole : Option Fault) → length sets ≤ n → earlier fault (blame (without_size at globals vs n (drop n sets))) ≡ whole → fault ≡ whole
-size-end at globals vs sets n fault whole h inv = told-end (without_size at globals vs n) sets n fault whole refl h inv
+pub size-end : (at : ℕ) (globals : Names) (vs : List RawValue) (sets : List SetEntry) (n : ℕ) (fault wanted : Option Fault) → length sets ≤ n → earlier fault (blame (without_size at globals vs n (drop n sets))) ≡ wanted → fault ≡ wanted
+size-end at globals vs sets n fault wanted h inv = told-end (without_size at globals vs n) sets n fault wanted refl h inv

@@ -1,5 +1,5 @@
 -- The development that a component's parts make.
-use Rattle.std.proofs.Common.{◌≡◌, ℕ, zero, suc, ◌+◌, ◌<◌, ◌≤◌, List, [], ◌∷◌, ◌++◌, length, map, refl, sym, ◌∙◌, ap, append_assoc, Bool, true, false, cond, ℤ, nat_eq, arith, inl, inr, ◌-◌, ◌^◌, get_or, take, subst, IsTrue, All}
+use Rattle.std.proofs.Common.{◌≡◌, ℕ, zero, suc, ◌+◌, ◌<◌, ◌≤◌, List, [], ◌∷◌, ◌++◌, length, map, refl, sym, ◌∙◌, ap, append_assoc, Bool, true, false, cond, ℤ, nat_eq, arith, inl, inr, ◌-◌, ◌^◌, get_or, take, subst, IsTrue, All, pos, negsuc, ◌≤ℤ◌, FitsSigned, w64}
 use Rattle.std.specs.Prelude.{Option, None, Some}
 use Rattle.std.specs.List.{slice_get}
 use Rattle.std.specs.Option.{option_map}
@@ -9,7 +9,8 @@ use Rattle.std.proofs.lemmas.List.Elements.{All-get_or}
 use Rattle.bk_val.specs.ValueType.{ValueType}
 use Rattle.bk_form.specs.Table.{Table, SetEntry, VariableEntry, IsCounted, with_set, with_variable, variable_type, lists_type, is_among_sets, empty_table}
 use Rattle.bk_dev.specs.declared.kind.Home.{Home}
-use Rattle.bk_dev.specs.Development.{Head, Level, Development, is_implementing, int_max as machine_max}
+use Rattle.std.proofs.lemmas.Int.{ints, fits_signed_from_abs}
+use Rattle.bk_dev.specs.Development.{Head, Level, Development, IsRange, is_implementing, int_max as machine_max}
 use Rattle.bk_dev.specs.Layout.{has_scalars}
 use Rattle.bk_gsl.specs.State.{among}
 use Rattle.bk_raw.specs.Meaning.Binders.{or_bool}
@@ -325,3 +326,8 @@ room-made Refinement None a may room = absurd may
 room-made Refinement (Some dev) a may room = room
 room-made Implementation None a may room = absurd may
 room-made Implementation (Some dev) a may room = room
+
+-- each MAXINT fits 64 bits
+pub range-fits : (max : ℤ) → IsRange max → FitsSigned w64 max
+range-fits (pos n) h = let most : pos n ≤ℤ pos 4611686018427387903 = h.greatest in let low : n < 2 ^ 62 = omega (arith, ints, most) in fits_signed_from_abs w64 (pos n) (omega (arith, low))
+range-fits (negsuc n) h = let least : pos 1 ≤ℤ negsuc n = h.least in absurd (omega (arith, ints, least))

@@ -1,5 +1,5 @@
 -- The code of expressions, conditions and statements are pieces.
-use Rattle.std.proofs.Common.{◌≡◌, ◌≤◌, ◌<◌, inl, inr, ℕ, zero, suc, ◌+◌, ℤ, pos, neg_ℤ, ◌+ℤ◌, ◌-ℤ◌, List, [], ◌∷◌, ◌++◌, length, refl, sym, subst, Bool, true, false, ◌||◌, cond, nat_eq, arith, Some, None, Option, append_assoc}
+use Rattle.std.proofs.Common.{◌≡◌, ◌≤◌, ◌<◌, inl, inr, ℕ, zero, suc, ◌+◌, ℤ, pos, neg_ℤ, ◌+ℤ◌, ◌-ℤ◌, ◌≤ℤ◌, List, [], ◌∷◌, ◌++◌, length, refl, sym, subst, Bool, true, false, ◌||◌, cond, nat_eq, arith, Some, None, Option, append_assoc}
 use Rattle.bk_val.specs.ValueType.{ValueType, int_type}
 use Rattle.bk_form.specs.ArrayTable.{row_of}
 use Rattle.bk_form.specs.Formula.{Formula, variable, literal, truth_value, element, unary, binary}

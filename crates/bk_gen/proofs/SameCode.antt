@@ -9,7 +9,7 @@ use Rattle.bk_form.specs.declared.operator.BinOp.TheVariants.{And, Or, Eq as Equ
 use Rattle.bk_gsl.specs.Substitution.{Substitution, assign, if_else, any, seq, assert, loop}
 use Rattle.bk_gsl.specs.State.{among}
 use Rattle.bk_gsl.specs.Clean.{write_of}
-use Rattle.bk_dev.specs.Development.{Head, Body, Level, Development, level_at, last}
+use Rattle.bk_dev.specs.Development.{Head, Body, Level, Development, int_max, level_at, last}
 use Rattle.bk_form.specs.Each.{Each}
 use Rattle.bk_dev.specs.Layout.{arrays_of, cells_of, cell_of}
 use Rattle.bk_dev.specs.Flattened.{flattened}

@@ -58,7 +58,7 @@ module _ (dev : Development) where
 
   module _ (fit : HasElementsInRange dev) where
     pub element-within : (s i : ℕ) → nat_lt i (set_size dev.table s) ≡ true → IsWithin (int_max dev) (pos i)
-    element-within s i h = let low : i < set_size dev.table s = grind (arith, nat_tests) in (omega (arith, ints), fit s i low)
+    element-within s i h = let low : i < set_size dev.table s = grind (arith, nat_tests) in let high : pos i ≤ℤ int_max dev = fit s i low in (omega (arith, ints, high), high)
 
     pub kind-within : pos 1 ≤ℤ int_max dev → (t : ValueType) (z : ℤ) → is_of_kind dev t z ≡ true → IsWithin (int_max dev) z
     kind-within one int_type z h = within-range z h

@@ -8,7 +8,7 @@ use Rattle.std.proofs.lemmas.List.Elements.{All-nil, All-cons, All-head, All-tai
 use Rattle.std.proofs.lemmas.Option.{slice_get_within}
 use Rattle.bk_form.specs.Table.{SetEntry, set_size, at_least_one, element_texts, IsCounted}
 use Rattle.bk_form.proofs.Sizing.{elements_have_texts}
-use Rattle.bk_dev.specs.Development.{Head, Body, Development, int_max, default_max}
+use Rattle.bk_dev.specs.Development.{Head, Body, Development, IsRange, int_max, default_max}
 use Rattle.bk_code.specs.declared.image.Image.{Image}
 use Rattle.bk_code.specs.declared.image.Parameter.{Parameter}
 use Rattle.bk_code.specs.declared.image.CellKind.{CellKind}
@@ -28,6 +28,9 @@ use Rattle.bk_gen.specs.Spelled.{FitsHead, FitsFields}
 fits-64 : (max z : ℤ) → max ≤ℤ pos 4611686018427387903 → neg_ℤ max ≤ℤ z → z ≤ℤ max → FitsSigned w64 z
 fits-64 max (pos n) most h k = let low : n < 2 ^ 62 = omega (arith, ints, k, most) in fits_signed_from_abs w64 (pos n) (omega (arith, low))
 fits-64 max (negsuc n) most h k = let low : suc n < 2 ^ 62 = omega (arith, ints, h, most) in fits_signed_from_abs w64 (negsuc n) (omega (arith, low))
+
+pub range-fits : (max : ℤ) → IsRange max → FitsSigned w64 max
+range-fits max h = let least : pos 1 ≤ℤ max = h.least in fits-64 max max h.greatest (omega (arith, ints, least)) (omega (arith, ints))
 
 fits-32 : (z : ℤ) → neg_ℤ (pos 2000000) ≤ℤ z → z ≤ℤ pos 2000000 → FitsSigned w32 z
 fits-32 (pos n) h k = let low : n < 2 ^ 31 = omega (arith, ints, k) in fits_signed_from_abs w32 (pos n) (omega (arith, low))

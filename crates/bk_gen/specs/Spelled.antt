@@ -1,5 +1,5 @@
 -- Which images have a spelling within the limits.
-use Rattle.std.specs.Prelude.{◌⊎◌, ◌<◌, ◌≤◌, ◌^◌, All, length}
+use Rattle.std.specs.Prelude.{◌≡◌, ◌⊎◌, ◌<◌, ◌≤◌, ◌^◌, All, length}
 use Rattle.bk_limits.specs.declared.TheConstants.{MOST_CELLS, MOST_SETS}
 use Rattle.bk_form.specs.Table.{element_texts}
 use Rattle.bk_dev.specs.Development.{Head, default_max}

@@ -3,6 +3,7 @@
 ghost use Rattle.std.specs.Prelude.{◌≡◌, ◌+◌, ◌-◌, ◌<◌, ◌≤◌, ◌^◌, ◌++◌, min, map, length, All, Err, IfOk, OnOk};
 ghost use Rattle.bk_gsl.specs.State.{declared_type};
 ghost use Rattle.bk_code.specs.Checks.{IsLoadable};
+ghost use Rattle.bk_dev.specs.Development.{IsRange};
 ghost use Rattle.bk_image.specs.Spelling.{HasSpelling};
 ghost use Rattle.bk_b0.specs.CodeUnit.{slots_cells, unit_places, unit_code, unit_image};
 ghost use Rattle.bk_b0.specs.Places.{kind_of_type, placed_parameter, placed_entries, placed_bodies};
@@ -113,6 +114,7 @@ fn at_most_64_bits(number: u128) -> u64
 // The image of a unit.
 #[tactic(auto, using(crate::proofs::Lengths::block_long))]
 fn image_of(alloc: Global, unit: &B0Unit) -> Result<Image, Memory>
+    requires range { IsRange unit.now.arrays.max }
     requires ready { IsReady unit.now }
     requires init { HasStatementCode (unit_places unit.now) unit.now.init }
     requires bodies { All (λ b. HasStatementCode (unit_places unit.now) b.sub) unit.now.bodies }

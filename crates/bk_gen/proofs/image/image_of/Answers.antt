@@ -6,6 +6,11 @@ use Rattle.bk_b0.specs.Places.{placed_block, placed_entries, placed_bodies}
 use Rattle.bk_gen.specs.Executed.{HasStatementCode}
 use Rattle.bk_gen.specs.Sizes.{block_size, blocks_size}
 use Rattle.bk_gen.proofs.Lengths.{block_long}
+use Rattle.std.proofs.Common.{to_z, of_z}
+use Rattle.std.specs.Int.{w64}
+use Rattle.std.proofs.lemmas.Int.{to_z-of_z}
+use Rattle.bk_dev.specs.Development.{IsRange}
+use Rattle.bk_gen.proofs.Spellings.{range-fits}
 use Rattle.bk_gen.proofs.image.image_of.Goals as goal
 
 pub add_block-requires-clause-has : goal.add_block-requires-clause-has
@@ -37,4 +42,5 @@ returns c =
     let first : c.add_block.new.code.items ≡ placed_block p u.init = c.in_ok-add_block.ensures ∙ (λ i. c.new-code.ensures.items i ++ placed_block p (c.init.ensures i)) in
     let code : c.add_operations.new.code.items ≡ placed_block p u.init ++ placed_bodies p u.bodies = c.in_ok-ops.ensures.code ∙ (λ i. first i ++ placed_bodies p (c.bodies.ensures i)) in
     let ops : c.in_ok-ops.ops.items ≡ placed_entries p (length (placed_block p u.init)) u.heads u.bodies = c.in_ok-ops.ensures.entries ∙ (λ i. placed_entries p (length (first i)) (c.heads.ensures i) (c.bodies.ensures i)) in
-    λ i. record { max = c.max_of.ensures i; cells = c.few_cells.ensures i; sets = (c.from_vec.ensures ∙ (c.in_ok-sets.ensures ∙ ap (map element_texts) c.sets.ensures)) i; ops = (c.from_vec-2.ensures ∙ ops) i; code = (c.from_vec-3.ensures ∙ code) i }
+    let most : to_z w64 (of_z w64 c.max_of.result) ≡ u.arrays.max = to_z-of_z w64 c.max_of.result (range-fits c.max_of.result (subst IsRange (sym c.max_of.ensures) c.requires.range)) ∙ c.max_of.ensures in
+    λ i. record { max = most i; cells = c.few_cells.ensures i; sets = (c.from_vec.ensures ∙ (c.in_ok-sets.ensures ∙ ap (map element_texts) c.sets.ensures)) i; ops = (c.from_vec-2.ensures ∙ ops) i; code = (c.from_vec-3.ensures ∙ code) i }

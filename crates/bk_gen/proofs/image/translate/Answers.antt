@@ -1,7 +1,9 @@
 use Rattle.std.proofs.Common.{inl, inr, sym, ◌∙◌, subst, arith}
 use Rattle.std.proofs.lemmas.Bool.{false≢true}
 use Rattle.bk_code.specs.Checks.{IsLoadable}
+use Rattle.bk_dev.specs.Development.{IsRange}
 use Rattle.bk_image.specs.Spelling.{HasSpelling}
+use Rattle.bk_b0.specs.CodeUnit.{CodeUnit}
 use Rattle.bk_gen.proofs.Lengths.{unit_long}
 use Rattle.bk_gen.proofs.Ready.{unit_ready, unit_init, unit_bodies, unit_paired}
 use Rattle.bk_gen.proofs.Spellings.{spelled_fits}
@@ -25,6 +27,9 @@ returns-then-not-fits_fields-clause-too_many c _ =
     let u = c.args.unit.now in
     let long = unit_long u (unit_init u c.facts.ensures) (unit_bodies u c.facts.ensures) in
     (omega (arith, long, c.code_size.ensures, c.if-code_size-gt-MOST_INSTRUCTIONS.false), inr (λ s. false≢true (sym c.if-not-fits_fields.true ∙ c.fits_fields.ensures.1 (spelled_fits u (unit_paired u c.facts.ensures) s))))
+
+pub image_of-requires-clause-range : goal.image_of-requires-clause-range
+image_of-requires-clause-range c = let w = c.facts.ensures in subst (λ (u : CodeUnit). IsRange u.arrays.max) (sym w.is) w.lawful.range
 
 pub image_of-requires-clause-ready : goal.image_of-requires-clause-ready
 image_of-requires-clause-ready c =
