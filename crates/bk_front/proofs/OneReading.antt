@@ -5,6 +5,7 @@ use Rattle.std.proofs.Common.{inl, inr, sym, subst, ◌∙◌}
 use Rattle.std.proofs.lemmas.Bool.{false≢true}
 use Rattle.std.proofs.lemmas.List.Elements.{All-weaker}
 use Rattle.bk_form.specs.declared.token.Token.{Token}
+use Rattle.bk_raw.specs.Errors.Faults.{Fault as StaticFault}
 use Rattle.bk_raw.specs.Trees.ComponentTree.{RawComponent}
 use Rattle.bk_raw.specs.Grammar.ComponentSpelling.{SpellsComponent}
 use Rattle.bk_raw.specs.Errors.Limits.{IsLowComponent}
@@ -79,15 +80,15 @@ levels_cut above (b ∷ bs) c after all h =
     let r = levels_cut (Some h.0) bs c after all h.2 in
     (r.0, (h.0, h.1, r.1), r.2)
 
-pub not_both : (dev : Development) (number place : ℕ) → accepted dev ≡ at_fault (number, place) → ⊥
-not_both dev number place e = cc
+pub not_both : (dev : Development) (fault : StaticFault) → accepted dev ≡ at_fault fault → ⊥
+not_both dev fault e = cc
 
 no_level_fault : (cs : List RawComponent) (dev : Development) (number file place : ℕ) → AreLevels None cs (Some dev) → IsLevelFault cs number file place → ⊥
 no_level_fault cs dev number file place h f =
     let r = levels_cut None f.before f.component f.after (Some dev) (subst (λ us. AreLevels None us (Some dev)) f.splits h) in
     let e : r.0 ≡ f.above = same_levels None f.before r.0 f.above r.1 f.levels in
     let v : verdict_of (int_max (above_of f.above)) f.above f.component ≡ accepted r.2.0 = subst (λ a. verdict_of (int_max (above_of a)) a f.component ≡ accepted r.2.0) e r.2.1 in
-    not_both r.2.0 number place (sym v ∙ f.told)
+    not_both r.2.0 f.told.0 (sym v ∙ f.told.1)
 
 no_fault : (kinds : List LineKind) (texts : List (List ℕ)) (dev : Development) (number file place : ℕ) → Reads kinds texts dev → IsProjectFault kinds texts number file place → ⊥
 no_fault kinds texts dev number file place h (inl f) = none_at_fault texts number file place (has_shallow texts h.components h.chained.each) f

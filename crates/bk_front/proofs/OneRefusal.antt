@@ -8,7 +8,7 @@ use Rattle.bk_raw.specs.Trees.ComponentTree.{RawComponent}
 use Rattle.bk_raw.specs.Grammar.ComponentSpelling.{SpellsComponent}
 use Rattle.bk_raw.specs.Errors.Limits.{IsLowComponent}
 use Rattle.bk_raw.specs.Errors.Places.{IsComponentFaultAt}
-use Rattle.bk_raw.specs.Errors.Faults.{Fault as StaticFault}
+use Rattle.bk_raw.specs.Errors.Faults.{Fault as StaticFault, told_as}
 use Rattle.bk_raw.proofs.Places.{component-places-are-one}
 use Rattle.bk_lex.proofs.Cutting.{tokens_are_one}
 use Rattle.bk_dev.specs.Development.{Development, int_max}
@@ -53,16 +53,16 @@ level_not cs all number file place h f =
     let r = levels_cut None f.before f.component f.after all (subst (λ us. AreLevels None us all) f.splits h) in
     let e : r.0 ≡ f.above = same_levels None f.before r.0 f.above r.1 f.levels in
     let v : verdict_of (int_max (above_of f.above)) f.above f.component ≡ accepted r.2.0 = subst (λ a. verdict_of (int_max (above_of a)) a f.component ≡ accepted r.2.0) e r.2.1 in
-    not_both r.2.0 number place (sym v ∙ f.told)
+    not_both r.2.0 f.told.0 (sym v ∙ f.told.1)
 
 level_before : (cs : List RawComponent) (m f p n g q : ℕ) (h : IsLevelFault cs m f p) (k : IsLevelFault cs n g q) → length h.before < length k.before → ⊥
 level_before cs m f p n g q h k l =
     let r = front_in h.before h.component h.after k.before k.component k.after (sym h.splits ∙ k.splits) l in
     level_not k.before k.above m f p k.levels (record { before = h.before; component = h.component; after = r.0; splits = r.1; counted = h.counted; above = h.above; levels = h.levels; told = h.told })
 
-abbrev told_of : Verdict → StaticFault
+abbrev told_of : Verdict → ℕ × ℕ
 told_of (accepted dev) = (0, 0)
-told_of (at_fault f) = f
+told_of (at_fault f) = told_as f
 told_of (past_limit n) = (n, 0)
 
 level_by : (cs : List RawComponent) (m f p n g q : ℕ) (h : IsLevelFault cs m f p) (k : IsLevelFault cs n g q) → (length h.before < length k.before) ⊎ ((length h.before ≡ length k.before) ⊎ (length k.before < length h.before)) → Fault m (suc f) p ≡ Fault n (suc g) q
@@ -72,9 +72,9 @@ level_by cs m f p n g q h k (inr (inl l)) =
     let component : h.component ≡ k.component = s.1 in
     let above : h.above ≡ k.above = same_levels None k.before h.above k.above (subst (λ us. AreLevels None us h.above) s.0 h.levels) k.levels in
     let verdict : verdict_of (int_max (above_of h.above)) h.above h.component ≡ verdict_of (int_max (above_of k.above)) k.above k.component = λ i. verdict_of (int_max (above_of (above i))) (above i) (component i) in
-    let told : at_fault (m, p) ≡ at_fault (n, q) = sym h.told ∙ verdict ∙ k.told in
-    let number : m ≡ n = ap (λ v. (told_of v).0) told in
-    let place : p ≡ q = ap (λ v. (told_of v).1) told in
+    let told : (m, p) ≡ (n, q) = sym h.told.2 ∙ ap told_of (sym h.told.1 ∙ verdict ∙ k.told.1) ∙ k.told.2 in
+    let number : m ≡ n = ap (λ (t : ℕ × ℕ). t.0) told in
+    let place : p ≡ q = ap (λ (t : ℕ × ℕ). t.1) told in
     let file : f ≡ g = sym h.counted ∙ l ∙ k.counted in
     λ i. Fault (number i) (suc (file i)) (place i)
 level_by cs m f p n g q h k (inr (inr l)) = absurd (level_before cs n g q m f p k h l)

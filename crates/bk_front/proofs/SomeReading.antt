@@ -6,7 +6,7 @@ use Rattle.std.proofs.lemmas.List.Elements.{All-head, All-tail}
 use Rattle.std.proofs.lemmas.Slice.Zip.{AllZip-long}
 use Rattle.bk_form.specs.declared.token.Token.{Token}
 use Rattle.bk_raw.specs.Trees.ComponentTree.{RawComponent}
-use Rattle.bk_raw.specs.Errors.Faults.{Fault as StaticFault}
+use Rattle.bk_raw.specs.Errors.Faults.{Fault as StaticFault, number_of_fault}
 use Rattle.bk_raw.specs.Errors.Places.{byte_at}
 use Rattle.bk_raw.specs.Errors.Blame.{blame}
 use Rattle.bk_dev.specs.Development.{Development, int_max}
@@ -111,7 +111,7 @@ module _ (kinds : List LineKind) (texts : List (List ℕ)) (counted : length kin
           not_read d.0 (record { components = cs; chained = chained; few = few; levels = subst (AreLevels None cs) d.1 h })
 
       stop : Stop None cs → ⊥
-      stop s = no_refusal (Fault s.fault.0 (suc (length s.before)) s.fault.1) tt (length s.before, refl, inr (inr (inr (cs, chained, few, record { before = s.before; component = s.component; after = s.after; splits = s.splits; counted = refl; above = s.last; levels = s.levels; told = s.told }))))
+      stop s = no_refusal (Fault (number_of_fault s.fault.0) (suc (length s.before)) s.fault.1) tt (length s.before, refl, inr (inr (inr (cs, chained, few, record { before = s.before; component = s.component; after = s.after; splits = s.splits; counted = refl; above = s.last; levels = s.levels; told = (s.fault, s.told, refl) }))))
 
   no_names : (cs : List RawComponent) → AreChained kinds texts cs → ⊥
   no_names cs chained = all_or_first DeclaresFew cs (no_levels cs chained) (λ before c after e h n. no_refusal (Limit 5 (suc (length before))) tt (length before, refl, inr (inr (refl, (cs, chained, the_first {Bad = DeclaresMany} before c after e h (not_false (declares_too_many (component_of c)) n))))))

@@ -325,7 +325,7 @@ module _ (find : Finder) (law : IsSearch find) (dev : Development) (f : IsLawful
       let joined = flat-then find dev e joining 2 dev.levels p.joined 0 (omega arith) first in
       let invariant = whole-true find (at_state dev.table e) (level_at dev 0).invariant (true-first find (at_state dev.table e) (conjuncts (level_at dev 0).invariant) (map equation (level_at dev 0).links) joined) in
       let condition = whole-true find (at_state dev.table e) (body_at dev 0 o).condition (flat-then find dev e (λ l. conjuncts (body_of l o).condition) 1 dev.levels p.conditioned 0 (omega arith) first) in
-      (machine-operation o m e t properties invariant condition).0
+      (machine-operation o m e (record { typed = t; properties = properties; invariant = invariant }) condition).0
   operation-ends (suc k) h o m e t hyps =
       let there : suc k < length dev.levels = omega (arith, h) in
       let w = weaker (suc k) h o e hyps in

@@ -290,7 +290,7 @@ pub sizes_keep_obligations : SizesKeepObligations
 sizes_keep_obligations sizes dev d = by_end (is_complete dev) refl
   where
     by_end : (b : Bool) → is_complete dev ≡ b → numbered_obligations (with_set_sizes sizes dev) ≡ numbered_obligations dev
-    by_end true c = ap numbered_obligations (development-whole sizes dev d c)
+    by_end true c = ap numbered_obligations (development-whole sizes dev d (d.sizes c))
     by_end false c =
         let stands = flattened_stands dev d in
         ap numbered (flat-sized sizes (flattened dev) stands (none-implements (flattened dev) stands.only_last (complete-same dev d.lawful ∙ c)))
