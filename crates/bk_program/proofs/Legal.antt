@@ -56,7 +56,7 @@ pub projects_end : ProjectsEnd
 projects_end files project dev scripts h finished find law =
     let facts = project_development true files project dev scripts h finished.proved.within in
     let b0 = project_in_b0 true files project dev scripts h finished.proved.within finished.complete in
-    let correct = whole_is_correct find dev facts finished.complete (proved_developments_are_correct find law dev scripts facts finished.proved.proved) in
+    let correct = whole_is_correct find dev facts (facts.sizes finished.complete) (proved_developments_are_correct find law dev scripts facts finished.proved.proved) in
     b0_ends find dev facts (record { in_b0 = b0; values = correct.values finished.complete; keeps = correct.keeps; carries = correct.carries })
 
 some_entry : (ops : List OpEntry) (o : ℕ) (entry : OpEntry) → slice_get ops o ≡ Some entry → o < length ops
