@@ -514,7 +514,7 @@ def typed_before(folder):
     typed_by(folder, ["x1 : 0..3"] + [f"x{i + 1} = x{i}" for i in range(1, NAMES)])
 
 
-def typed_behind(folder):
+def typed_after(folder):
     """Each variable by the one behind it."""
     typed_by(folder, [f"x{i} = x{i + 1}" for i in range(1, NAMES)] + [f"x{NAMES} : 0..3"])
 
@@ -813,7 +813,7 @@ CASES = {
     "carried_many": carried_many,
     "typed": typed,
     "typed_before": typed_before,
-    "typed_behind": typed_behind,
+    "typed_after": typed_after,
     "chosen": chosen,
     "stored": stored,
     "inputs": inputs,
