@@ -96,11 +96,13 @@ texts-more (r ∷ ss) s = ap (λ xs. (r.name ∷ r.elements) ++ xs) (texts-more 
 texts_turn : (ss : List SetEntry) (i : ℕ) (d : SetEntry) → i < length ss → hiding (set_texts (take (i + 1) ss)) ≡ hiding (set_texts (take i ss)) ++ hiding ((get_or ss i d).name ∷ (get_or ss i d).elements)
 texts_turn ss i d l = ap (λ xs. hiding (set_texts xs)) (take_more ss i d l) ∙ (ap hiding (texts-more (take i ss) (get_or ss i d)) ∙ map-append (λ (x : List ℕ). (x, no_variable)) (set_texts (take i ss)) ((get_or ss i d).name ∷ (get_or ss i d).elements))
 
-pub one_set_hidden : (ss : List SetEntry) (i : ℕ) (d : SetEntry) (es fs gs : List (List ℕ × ℕ)) → es ≡ hiding (set_texts (take i ss)) → fs ≡ es ++ ((get_or ss i d).name, no_variable) ∷ [] → gs ≡ fs ++ hiding (get_or ss i d).elements → i < length ss →
-    gs ≡ hiding (set_texts (take (i + 1) ss))
-one_set_hidden ss i d es fs gs e f g l =
-    g ∙ (ap (λ xs. xs ++ hiding (get_or ss i d).elements) (f ∙ ap (λ xs. xs ++ ((get_or ss i d).name, no_variable) ∷ []) e)
-    ∙ (append_assoc (hiding (set_texts (take i ss))) (((get_or ss i d).name, no_variable) ∷ []) (hiding (get_or ss i d).elements) ∙ sym (texts_turn ss i d l)))
+pub one_set_hidden : (ss : List SetEntry) (i : ℕ) (s : SetEntry) (name : List ℕ) (elements : List (List ℕ)) (es fs gs : List (List ℕ × ℕ)) → i < length ss → s ≡ get_or ss i s → name ≡ s.name → elements ≡ s.elements → es ≡ hiding (set_texts (take i ss)) →
+    fs ≡ es ++ (name, no_variable) ∷ [] → gs ≡ fs ++ hiding elements → gs ≡ hiding (set_texts (take (i + 1) ss))
+one_set_hidden ss i s name elements es fs gs l here n w e f g =
+    g ∙ (ap (λ xs. xs ++ hiding elements) (f ∙ ap (λ xs. xs ++ (name, no_variable) ∷ []) e)
+    ∙ (append_assoc (hiding (set_texts (take i ss))) ((name, no_variable) ∷ []) (hiding elements)
+    ∙ ((λ j. hiding (set_texts (take i ss)) ++ hiding (n j ∷ w j))
+    ∙ (ap (λ (r : SetEntry). hiding (set_texts (take i ss)) ++ hiding (r.name ∷ r.elements)) here ∙ sym (texts_turn ss i s l)))))
 
 -- ---- names of levels
 place-same : (named : List ℕ → Bool) (k : ℕ) (ls : List Level) → position_or_len (λ (l : Level). named l.name) (flat_levels k ls) ≡ position_or_len (λ (l : Level). named l.name) ls
