@@ -719,13 +719,13 @@ module _ (find : Finder) (dev : Development) (f : IsLawful dev) (b : IsB0Develop
 
     body-run : (place : ℕ) → Stands image place (operation_code dev last_body) → IsReturned find dev image scope_here last_body.sub (length (operation_code dev last_body)) place start_cells e
     body-run place stands = operations_follow find dev image f b c.op is.op place start_cells e (record {
-        range = translated-greatest dev;
-        stands = stands;
-        kinds = start-kinds;
-        shows = shown-e;
-        clean = body-clean;
-        ends = body-ends;
-      })
+      range = translated-greatest dev;
+      stands = stands;
+      kinds = start-kinds;
+      shows = shown-e;
+      clean = body-clean;
+      ends = body-ends;
+    })
 
     abbrev entry_here : ℕ → OpEntry
     entry_here place = entry_of dev place head last_body
