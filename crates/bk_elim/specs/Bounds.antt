@@ -20,11 +20,12 @@ pub record IsCovered (low high : Option (List ℤ)) (h k : ℤ) : Type 0 where
   pub down : h <ℤ pos 0 → IsAbove h k high
   pub level : h ≡ pos 0 → pos 0 ≤ℤ k
 
--- the lower bound has a positive coefficient, and the upper one a negative one
+-- the lower bound has a positive coefficient
 abbrev pub IsLow : Option (List ℤ) → Type 0
 IsLow None = Unit {0}
 IsLow (Some p) = pos 0 <ℤ entry p 3
 
+-- and the upper one a negative one
 abbrev pub IsHigh : Option (List ℤ) → Type 0
 IsHigh None = Unit {0}
 IsHigh (Some q) = entry q 3 <ℤ pos 0

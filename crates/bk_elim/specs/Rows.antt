@@ -1,6 +1,7 @@
 -- What is known of a row of elimination: it is a sum of multiples of the given inequalities, and how large its entries are.
 use Rattle.std.specs.Ordering.{int_eq}
-use Rattle.std.specs.Prelude.{cond, ◌≡◌, ℕ, zero, suc, ◌+◌, ◌*◌, ◌<◌, ◌≤◌, ◌^◌, ℤ, pos, ◌+ℤ◌, ◌*ℤ◌, ◌≤ℤ◌, List, [], ◌∷◌, map, length, slice_index_or}
+use Rattle.std.specs.Prelude.{cond, ◌≡◌, ℕ, zero, suc, ◌+◌, ◌*◌, ◌<◌, ◌≤◌, ◌^◌, ℤ, pos, ◌+ℤ◌, ◌*ℤ◌, ◌≤ℤ◌}
+use Rattle.std.specs.Prelude.{List, [], ◌∷◌, map, length, slice_index_or}
 use Rattle.std.specs.Int.RustNames.{unsigned_abs}
 use Rattle.bk_lin.specs.Inequality.{Inequality}
 use Rattle.bk_elim.specs.Elimination.{entry}
@@ -52,4 +53,5 @@ pub record IsStart (ps : List Inequality) (i : ℕ) (row : List ℤ) : Type 0 wh
 -- the parts of a sum: how often each of n inequalities from j on was taken, without those that were not
 abbrev pub parts_from : ℕ → ℕ → List ℤ → List (ℤ × ℕ)
 parts_from zero j row = []
-parts_from (suc n) j row = cond (int_eq (entry row (5 + j)) (pos 0)) (parts_from n (suc j) row) ((entry row (5 + j), suc j) ∷ parts_from n (suc j) row)
+parts_from (suc n) j row =
+    cond (int_eq (entry row (5 + j)) (pos 0)) (parts_from n (suc j) row) ((entry row (5 + j), suc j) ∷ parts_from n (suc j) row)
