@@ -7,7 +7,7 @@ use Rattle.bk_gsl.specs.Substitution.{Substitution}
 use Rattle.bk_gsl.specs.State.{among}
 use Rattle.bk_gsl.proofs.States.{clash}
 use Rattle.bk_dev.specs.Development.{Development, level_at, body_at, blank_body, inputs_of, last}
-use Rattle.bk_dev.specs.Facts.{names_own, names_joined, writes_own}
+use Rattle.bk_dev.specs.Facts.{names_own, names_joined, writes_own, IsLawful}
 use Rattle.bk_code.specs.declared.image.Image.{Image}
 use Rattle.bk_code.specs.declared.instruction.Inst.TheVariants.{Ret}
 use Rattle.bk_code.specs.Step.{Returns, step}
