@@ -120,6 +120,7 @@ impl ValueEntries {
         let Piece::Built(value, _) = value else {
             return Ok(ValueEntries::High);
         };
+        let value = Box::into_inner(value);
         all.push(RawValue { name, value })?;
         Ok(ValueEntries::Built(all))
     }

@@ -73,7 +73,10 @@ fn one_term(alloc: Global, tokens: &[Token]) -> Result<Option<(Behind, &[Token])
         return Ok(None);
     };
     match term {
-        Piece::Built(term, _) => Ok(Some((Behind::Built(ClauseParts::Term(term)), rest))),
+        Piece::Built(term, _) => {
+            let term = Box::into_inner(term);
+            Ok(Some((Behind::Built(ClauseParts::Term(term)), rest)))
+        }
         Piece::High(_) => Ok(Some((Behind::High, rest))),
     }
 }

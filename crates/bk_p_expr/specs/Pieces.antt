@@ -18,7 +18,7 @@ use Rattle.bk_p_expr.specs.declared.piece.Between.TheVariants.{Infix, Image, App
 
 -- the piece is that of this tree: the term itself with its height, or, where the tree is more than 1000 high, its conjuncts
 abbrev pub IsPiece : RawTree → Piece → Type 0
-IsPiece tree (Built term height) = (term ≡ tree) × (height ≡ tree_height tree) × (height ≤ 1000)
+IsPiece tree (Built term height) = (term.value ≡ tree) × (height ≡ tree_height tree) × (height ≤ 1000)
 IsPiece tree (High known) = (1000 < tree_height tree) × AreConjuncts (conjuncts tree) known.items
 
 -- the same of a list of trees, of which only the free names are kept where one is too high

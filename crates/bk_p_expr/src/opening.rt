@@ -88,37 +88,42 @@ fn leaf(alloc: Global, token: &Token) -> Result<Option<Piece>, Memory>
     match &token.kind {
         TokenKind::Name(name) => {
             let name = name.copy(alloc)?;
-            Ok(Some(Piece::leaf(at, RawNode::Name(name))))
+            Ok(Some(Piece::leaf(alloc, at, RawNode::Name(name))?))
         }
         TokenKind::LevelName(name, level) => {
             let name = name.copy(alloc)?;
-            Ok(Some(Piece::leaf(at, RawNode::LevelName(name, *level))))
+            Ok(Some(Piece::leaf(alloc, at, RawNode::LevelName(name, *level))?))
         }
-        TokenKind::BoundName(number) => Ok(Some(Piece::leaf(at, RawNode::BoundName(*number)))),
-        TokenKind::Number(value) => Ok(number(at, *value)),
+        TokenKind::BoundName(number) => {
+            Ok(Some(Piece::leaf(alloc, at, RawNode::BoundName(*number))?))
+        }
+        TokenKind::Number(value) => number(alloc, at, *value),
         TokenKind::Sign(_) => Ok(None),
-        TokenKind::Word(_) => Ok(constant(at, &token.kind)),
+        TokenKind::Word(_) => constant(alloc, at, &token.kind),
     }
 }
 
 /// A number, which has no sign of its own.
 #[tactic(auto, using(crate::proofs::Leaves::leaf_number, crate::proofs::Leaves::no_leaf_number))]
-fn number(at: usize, value: i128) -> Option<Piece>
-    ensures { MatchOption result (IsNoLeaf (TokenKind.Number value)) (λ p. FindsLeaf (TokenKind.Number value) at p) }
+fn number(alloc: Global, at: usize, value: i128) -> Result<Option<Piece>, Memory>
+    ensures { IfOk result (λ r. MatchOption r (IsNoLeaf (TokenKind.Number value))
+        (λ p. FindsLeaf (TokenKind.Number value) at p)) }
 {
     if value < 0 {
-        return None;
+        return Ok(None);
     }
-    Some(Piece::leaf(at, RawNode::Number(value)))
+    Ok(Some(Piece::leaf(alloc, at, RawNode::Number(value))?))
 }
 
 /// A constant word.
 #[tactic(auto, using(crate::proofs::Leaves::leaf_constant, crate::proofs::Written::constant_of_none))]
-fn constant(at: usize, kind: &TokenKind) -> Option<Piece>
-    ensures { MatchOption result (constant_of kind.now ≡ None) (λ p. FindsLeaf kind.now at p) }
+fn constant(alloc: Global, at: usize, kind: &TokenKind) -> Result<Option<Piece>, Memory>
+    ensures { IfOk result (λ r. MatchOption r (constant_of kind.now ≡ None) (λ p. FindsLeaf kind.now at p)) }
 {
-    let constant = Constant::of(kind)?;
-    Some(Piece::leaf(at, RawNode::Constant(constant)))
+    let Some(constant) = Constant::of(kind) else {
+        return Ok(None);
+    };
+    Ok(Some(Piece::leaf(alloc, at, RawNode::Constant(constant))?))
 }
 
 /// How a bracket goes on behind its first sign.
@@ -148,7 +153,8 @@ fn brace(alloc: Global, at: usize, tokens: &[Token]) -> Result<Option<(Opening, 
     ensures shorter { IfOk result (λ r. IfSome r (λ p. length p.1.now ≤ length tokens.now)) }
 {
     if let Some((_, rest)) = after_sign(tokens, sign::CLOSE_BRACE) {
-        return Ok(Some((Opening::Closed(Piece::leaf(at, RawNode::EmptySet)), rest)));
+        let set = Piece::leaf(alloc, at, RawNode::EmptySet)?;
+        return Ok(Some((Opening::Closed(set), rest)));
     }
     if begins(tokens, sign::MEMBER) {
         return typed_empty(alloc, at, tokens);
@@ -180,10 +186,8 @@ fn typed_empty(
     let Some((_, rest)) = after_sign(rest, sign::CLOSE_BRACE) else {
         return Ok(None);
     };
-    Ok(Some((
-        Opening::Closed(Piece::leaf(at, RawNode::TypedEmpty(ty))),
-        rest,
-    )))
+    let set = Piece::leaf(alloc, at, RawNode::TypedEmpty(ty))?;
+    Ok(Some((Opening::Closed(set), rest)))
 }
 
 /// `x, y |` behind a brace.

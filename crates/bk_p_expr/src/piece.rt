@@ -1,6 +1,6 @@
 // Terms on the way to being built: none is built that is too high.
 
-ghost use Rattle.std.specs.Prelude.{◌≡◌, ◌<◌, ◌++◌, ℕ, None, [], ◌∷◌, IfOk};
+ghost use Rattle.std.specs.Prelude.{◌≡◌, ◌<◌, ◌≤◌, ◌++◌, ℕ, None, [], ◌∷◌, IfOk};
 ghost use Rattle.bk_raw.specs.FreeNames.{conjuncts};
 ghost use Rattle.bk_raw.specs.RawTree.{RawTree, RawTrees, RawRanges, raw, node_height, tree_height, trees_height, ranges_height, raw_extension, raw_infix, raw_ranged_comprehension, raw_ranged_lambda};
 ghost use Rattle.bk_raw.specs.RawView.{node_of, tree_of};
@@ -24,7 +24,7 @@ const HIGHEST: usize = 1000;
 #[derive(Drop)]
 pub enum Piece {
     /// The term, and how many nodes lie on its longest way down.
-    Built(RawTerm, usize),
+    Built(Box<RawTerm>, usize),
     /// What `&` joins in the term.
     High(Vec<Conjunct>),
 }
@@ -55,11 +55,20 @@ pub(crate) enum Between {
 
 impl Piece {
     /// A term with no parts.
-    pub(crate) fn leaf(at: usize, node: RawNode) -> Piece
+    pub(crate) fn leaf(alloc: Global, at: usize, node: RawNode) -> Result<Piece, Memory>
         requires { node_height (node_of node) ≡ 1 }
-        ensures { IsPiece (tree_of at node) result }
+        ensures { IfOk result (λ r. IsPiece (tree_of at node) r) }
     {
-        Piece::Built(RawTerm { at, node }, 1)
+        Piece::built(alloc, at, node, 1)
+    }
+
+    /// A term that is not too high.
+    fn built(alloc: Global, at: usize, node: RawNode, height: usize) -> Result<Piece, Memory>
+        ensures { IfOk result (λ r. (tree : RawTree) → tree_of at node ≡ tree → height ≡ tree_height tree →
+            height ≤ 1000 → IsPiece tree r) }
+    {
+        let term = Box::new(alloc, RawTerm { at, node })?;
+        Ok(Piece::Built(term, height))
     }
 
     /// The same term, with another byte as its start.
@@ -67,9 +76,9 @@ impl Piece {
         ensures { (tree : RawTree) → IsPiece tree self → IsPiece (moved at tree) result }
     {
         match self {
-            Piece::Built(term, height) => {
-                let node = term.node;
-                Piece::Built(RawTerm { at, node }, height)
+            Piece::Built(mut term, height) => {
+                term.at = at;
+                Piece::Built(term, height)
             }
             Piece::High(known) => Piece::High(known),
         }
@@ -115,8 +124,7 @@ impl Piece {
         if height >= HIGHEST {
             return form.too_high(alloc, Piece::Built(term, height));
         }
-        let node = node_around(form, Box::new(alloc, term)?);
-        Ok(Piece::Built(RawTerm { at, node }, height + 1))
+        Piece::built(alloc, at, node_around(form, term), height + 1)
     }
 
     /// A term of this one and another.
@@ -140,10 +148,7 @@ impl Piece {
         if height >= HIGHEST {
             return form.too_high(alloc, Piece::Built(left, one), Piece::Built(right, two));
         }
-        let left = Box::new(alloc, left)?;
-        let right = Box::new(alloc, right)?;
-        let node = node_between(form, left, right);
-        Ok(Piece::Built(RawTerm { at, node }, height + 1))
+        Piece::built(alloc, at, node_between(form, left, right), height + 1)
     }
 }
 
@@ -303,7 +308,7 @@ impl Terms {
         let Piece::Built(term, other) = piece else {
             return Terms::Built(terms, height).and_too_high(alloc, piece);
         };
-        terms.push(term)?;
+        terms.push(Box::into_inner(term))?;
         Ok(Terms::Built(terms, height.max(other)))
     }
 
@@ -340,8 +345,7 @@ impl Terms {
             let free = Terms::Built(terms, height).free(alloc)?;
             return Piece::too_high(alloc, free);
         }
-        let node = RawNode::Extension(terms);
-        Ok(Piece::Built(RawTerm { at, node }, height + 1))
+        Piece::built(alloc, at, RawNode::Extension(terms), height + 1)
     }
 }
 
@@ -368,9 +372,10 @@ impl Ranges {
         let Ranges::Built(mut ranges, height) = self else {
             return self.and_too_high(alloc, piece);
         };
-        let Piece::Built(range, other) = piece else {
+        let Piece::Built(term, other) = piece else {
             return Ranges::Built(ranges, height).and_too_high(alloc, piece);
         };
+        let range = Box::into_inner(term);
         ranges.push(RawRange { at, number, range })?;
         Ok(Ranges::Built(ranges, height.max(other)))
     }
@@ -444,8 +449,8 @@ impl Ranges {
             let body = Piece::Built(body, two);
             return Ranges::Built(ranges, one).comprehension_too_high(alloc, body);
         }
-        let node = RawNode::RangedComprehension(ranges, Box::new(alloc, body)?);
-        Ok(Piece::Built(RawTerm { at, node }, height + 1))
+        let node = RawNode::RangedComprehension(ranges, body);
+        Piece::built(alloc, at, node, height + 1)
     }
 
     /// `%($1:d).(p | e)`.
@@ -475,9 +480,7 @@ impl Ranges {
             let value = Piece::Built(value, three);
             return Ranges::Built(ranges, one).lambda_too_high(alloc, body, value);
         }
-        let body = Box::new(alloc, body)?;
-        let value = Box::new(alloc, value)?;
         let node = RawNode::RangedLambda(ranges, body, value);
-        Ok(Piece::Built(RawTerm { at, node }, height + 1))
+        Piece::built(alloc, at, node, height + 1)
     }
 }

@@ -36,7 +36,7 @@ pub fn term(alloc: Global, tokens: &[Token], at: usize) -> Result<(RawTerm, usiz
     }
     match longest(alloc, rest, LOOSEST)? {
         Some((piece, after)) => match piece {
-            Piece::Built(term, _) => Ok((term, tokens.len() - after.len())),
+            Piece::Built(term, _) => Ok((Box::into_inner(term), tokens.len() - after.len())),
             Piece::High(_) => Err(SynFault::High),
         },
         None => Err(SynFault::At(at)),

@@ -198,7 +198,7 @@ fn negated(alloc: Global, at: usize, behind: &[Token], piece: Piece) -> Result<P
     match (&first.kind, &piece) {
         (TokenKind::Number(value), Piece::Built(term, _))
             if *value >= 0 && matches!(&term.node, RawNode::Number(_)) => {
-            Ok(Piece::leaf(at, RawNode::Number(-*value)))
+            Piece::leaf(alloc, at, RawNode::Number(-*value))
         }
         _ => piece.around(alloc, at, Around::Negative),
     }

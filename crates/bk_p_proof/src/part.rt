@@ -118,7 +118,7 @@ fn term_part(term: Piece) -> (RulePart, bool)
     ensures { (t : RawTree) → IsPiece t term → IsPart (part_term t) (part_of result.0) result.1 }
 {
     match term {
-        Piece::Built(term, _) => (RulePart::Term(term), false),
+        Piece::Built(term, _) => (RulePart::Term(Box::into_inner(term)), false),
         Piece::High(_) => (RulePart::NoPlace, true),
     }
 }

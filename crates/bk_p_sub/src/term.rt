@@ -32,20 +32,16 @@ impl Term {
         let Some((piece, rest)) = front_term(alloc, tokens)? else {
             return Ok(None);
         };
-        let term = Term::boxed(alloc, piece)?;
-        Ok(Some((term, rest)))
+        Ok(Some((Term::of(piece), rest)))
     }
 
-    /// The same term, in a box.
-    fn boxed(alloc: Global, piece: Piece) -> Result<Term, Memory>
-        ensures { IfOk result (λ r. (t : RawTree) → IsPiece t piece → IsTerm t r) }
+    /// The same term.
+    fn of(piece: Piece) -> Term
+        ensures { (t : RawTree) → IsPiece t piece → IsTerm t result }
     {
         match piece {
-            Piece::Built(term, height) => {
-                let term = Box::new(alloc, term)?;
-                Ok(Term::Built(term, height))
-            }
-            Piece::High(known) => Ok(Term::High(known)),
+            Piece::Built(term, height) => Term::Built(term, height),
+            Piece::High(known) => Term::High(known),
         }
     }
 }

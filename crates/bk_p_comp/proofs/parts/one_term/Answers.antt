@@ -1,4 +1,4 @@
-use Rattle.std.proofs.Common.{ap, arith, subst}
+use Rattle.std.proofs.Common.{◌∙◌, ap, arith, subst}
 use Rattle.bk_raw.specs.ComponentTree.{clause_term}
 use Rattle.bk_raw.specs.RawTree.{RawTree}
 use Rattle.bk_raw.specs.Spelling.{Term}
@@ -15,7 +15,7 @@ pub returns-in-Built-clause-found : goal.returns-in-Built-clause-found
 returns-in-Built-clause-found c =
     let f : (t : RawTree) × Longest (λ t. Term t 0) c.args.tokens.now t c.in-Some.rest.now × IsPiece t c.in-Some.term = if_some _ _ _ _ c.in_ok-term.ensures.found c.in-Some.is in
     let k = subst (λ p. IsPiece f.0 p) c.in-Built.is f.2 in
-    (clause_term f.0, term_stands c.args.tokens.now c.in-Some.rest.now f.0 f.1, (ap clause_term k.0, omega (arith, k.1, k.2)))
+    (clause_term f.0, term_stands c.args.tokens.now c.in-Some.rest.now f.0 f.1, (ap clause_term (c.into_inner-term.ensures ∙ k.0), omega (arith, k.1, k.2)))
 
 pub returns-clause-found : goal.returns-clause-found
 returns-clause-found c =

@@ -6,7 +6,7 @@ use Rattle.bk_p_expr.proofs.Begun.{begins_same, empty_opens, named_same}
 use Rattle.bk_p_expr.proofs.opening.brace.Goals as goal
 
 pub returns-in-Some-clause-found : goal.returns-in-Some-clause-found
-returns-in-Some-clause-found c = empty_opens c.args.at c.args.tokens.now c.in-Some.field-0-0.now c.in-Some.rest.now c.leaf.result c.in-Some.ensures.begins c.in-Some.ensures.found c.leaf.ensures
+returns-in-Some-clause-found c = empty_opens c.args.at c.args.tokens.now c.in-Some.field-0-0.now c.in-Some.rest.now c.in_ok-set.set c.in-Some.ensures.begins c.in-Some.ensures.found c.in_ok-set.ensures
 
 pub returns-clause-found : goal.returns-clause-found
 returns-clause-found c =

@@ -11,10 +11,10 @@ returns-in_default c = λ tree h. sym (high_is_no_name tree (high_piece c.args.p
 
 pub returns-in_default-name_alone : goal.returns-in_default-name_alone
 returns-in_default-name_alone c = λ tree h.
-    let k : (c.in-Built.term ≡ tree) × (c.in-Built.field-1 ≡ tree_height tree) × (c.in-Built.field-1 ≤ 1000) = subst (λ p. IsPiece tree p) c.in-Built.is h in
-    sym c.in_default-name_alone.ensures ∙ ap name_alone k.0
+    let k : (c.in-Built.term.value ≡ tree) × (c.in-Built.field-1 ≡ tree_height tree) × (c.in-Built.field-1 ≤ 1000) = subst (λ p. IsPiece tree p) c.in-Built.is h in
+    sym c.in_default-name_alone.ensures ∙ ap name_alone (c.deref.ensures ∙ k.0)
 
 pub returns : goal.returns
 returns c = λ tree h.
-    let k : (c.in-Built.term ≡ tree) × (c.in-Built.field-1 ≡ tree_height tree) × (c.in-Built.field-1 ≤ 1000) = subst (λ p. IsPiece tree p) c.in-Built.is h in
-    (λ i. Some (c.in_ok-name.ensures i)) ∙ sym c.in-Some.ensures ∙ ap name_alone k.0
+    let k : (c.in-Built.term.value ≡ tree) × (c.in-Built.field-1 ≡ tree_height tree) × (c.in-Built.field-1 ≤ 1000) = subst (λ p. IsPiece tree p) c.in-Built.is h in
+    (λ i. Some (c.in_ok-name.ensures i)) ∙ sym c.in-Some.ensures ∙ ap name_alone (c.deref.ensures ∙ k.0)

@@ -10,7 +10,7 @@ pub returns-in-Built-clause-ok : goal.returns-in-Built-clause-ok
 returns-in-Built-clause-ok c =
     let e : c.in-Some.rest.now ≡ drop c.args.at c.args.tokens.now = grind (arith, common_steps) in
     let l : c.args.at ≤ length c.args.tokens.now = grind (arith, common_steps) in
-    term_found c.args.tokens.now c.in-Some.rest.now c.args.at c.in-Some-2.piece c.in-Built.term c.in-Built.field-1 c.in-Some-2.after.now _ e l (if_some _ _ _ _ c.in_ok-piece.ensures.found c.in-Some-2.is) c.in-Built.is refl
+    term_found c.args.tokens.now c.in-Some.rest.now c.args.at c.in-Some-2.piece c.in-Built.term c.in-Built.field-1 c.into_inner.result c.in-Some-2.after.now _ e l (if_some _ _ _ _ c.in_ok-piece.ensures.found c.in-Some-2.is) c.in-Built.is c.into_inner.ensures refl
 
 pub returns-in-Some-2-clause-fault : goal.returns-in-Some-2-clause-fault
 returns-in-Some-2-clause-fault c =

@@ -18,4 +18,4 @@ pub returns : goal.returns
 returns c = λ vs e a b.
     let s : (c.in-Built.all.items ≡ vs) × (parts_height (clause_values vs) ≤ 1000) = subst (λ p. AreValues vs p) c.in-Built.is a in
     let p = subst (λ q. IsPiece e q) c.in-Built-value.is b in
-    (c.in_ok-push.ensures.items ∙ (λ i. s.0 i ++ record { name = c.args.name; value = p.0 i } ∷ []), low_more (λ (v : RawValue). tree_height v.value) vs (record { name = c.args.name; value = e }) s.1 (omega (arith, p.1, p.2)))
+    (c.in_ok-push.ensures.items ∙ (λ i. s.0 i ++ record { name = c.args.name; value = (c.into_inner-value.ensures ∙ p.0) i } ∷ []), low_more (λ (v : RawValue). tree_height v.value) vs (record { name = c.args.name; value = e }) s.1 (omega (arith, p.1, p.2)))

@@ -17,5 +17,5 @@ returns-in_default c = ok_so _ _ c.too_high.ensures (Wanted c.args.at c.args.for
 
 pub returns-then-height-ge-HIGHEST : goal.returns-then-height-ge-HIGHEST
 returns-then-height-ge-HIGHEST c = ok_so _ _ c.too_high-then-height-ge-HIGHEST.ensures (Wanted c.args.at c.args.form c.args.self) (λ r f. λ tree h.
-    let k : (c.in-Built.term ≡ tree) × (c.in-Built.height ≡ tree_height tree) × (c.in-Built.height ≤ 1000) = subst (λ p. IsPiece tree p) c.in-Built.is h in
+    let k : (c.in-Built.term.value ≡ tree) × (c.in-Built.height ≡ tree_height tree) × (c.in-Built.height ≤ 1000) = subst (λ p. IsPiece tree p) c.in-Built.is h in
     f c.args.at tree (omega (arith, c.if-height-ge-HIGHEST.true, k.1, around_height c.args.form tree)) k)

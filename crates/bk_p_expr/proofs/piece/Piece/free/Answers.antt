@@ -10,8 +10,8 @@ use Rattle.bk_p_expr.proofs.piece.Piece.free.Goals as goal
 
 pub returns-in-Built : goal.returns-in-Built
 returns-in-Built c = ok_so _ _ c.free_names.ensures (λ r. (tree : RawTree) → IsPiece tree c.args.self → r.items ≡ free_names tree) (λ r e. λ tree h.
-    let k : (c.in-Built.term ≡ tree) × (c.in-Built.field-1 ≡ tree_height tree) × (c.in-Built.field-1 ≤ 1000) = subst (λ p. IsPiece tree p) c.in-Built.is h in
-    e ∙ ap free_names k.0)
+    let k : (c.in-Built.term.value ≡ tree) × (c.in-Built.field-1 ≡ tree_height tree) × (c.in-Built.field-1 ≤ 1000) = subst (λ p. IsPiece tree p) c.in-Built.is h in
+    e ∙ ap free_names (c.deref.ensures ∙ k.0))
 
 pub returns-in-High : goal.returns-in-High
 returns-in-High c = ok_so _ _ c.names_of_conjuncts.ensures (λ r. (tree : RawTree) → IsPiece tree c.args.self → r.items ≡ free_names tree) (λ r e. λ tree h.

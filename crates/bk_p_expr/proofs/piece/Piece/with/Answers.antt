@@ -1,4 +1,4 @@
-use Rattle.std.proofs.Common.{◌≡◌, ◌≤◌, ◌<◌, ◌∙◌, ap, subst, arith, rules, ℕ}
+use Rattle.std.proofs.Common.{◌≡◌, ◌≤◌, ◌<◌, ◌∙◌, ap, subst, arith, ℕ}
 use Rattle.bk_raw.specs.RawTree.{raw, tree_height, RawTree}
 use Rattle.bk_p_expr.specs.Pieces.{IsPiece, between_node}
 use Rattle.bk_p_expr.proofs.Choices.{ok_so}
@@ -22,16 +22,15 @@ returns-in_default-other c = ok_so _ _ c.too_high-in_default-other.ensures (Want
 
 pub returns-then-height-ge-HIGHEST : goal.returns-then-height-ge-HIGHEST
 returns-then-height-ge-HIGHEST c = ok_so _ _ c.too_high-then-height-ge-HIGHEST.ensures (Wanted c.args.at c.args.form c.args.self c.args.other) (λ r f. λ left right a b.
-    let s : (c.in-Built.left ≡ left) × (c.in-Built.one ≡ tree_height left) × (c.in-Built.one ≤ 1000) = subst (λ t. IsPiece left t) c.in-Built.is a in
-    let p : (c.in-Built-other.right ≡ right) × (c.in-Built-other.two ≡ tree_height right) × (c.in-Built-other.two ≤ 1000) = subst (λ t. IsPiece right t) c.in-Built-other.is b in
+    let s : (c.in-Built.left.value ≡ left) × (c.in-Built.one ≡ tree_height left) × (c.in-Built.one ≤ 1000) = subst (λ t. IsPiece left t) c.in-Built.is a in
+    let p : (c.in-Built-other.right.value ≡ right) × (c.in-Built-other.two ≡ tree_height right) × (c.in-Built-other.two ≤ 1000) = subst (λ t. IsPiece right t) c.in-Built-other.is b in
     f c.args.at left right (omega (arith, c.if-height-ge-HIGHEST.true, between_height c.args.form left right, s.1, p.1, c.max-height.ensures)) s p)
 
 pub returns : goal.returns
-returns c = λ left right a b.
-    let s : (c.in-Built.left ≡ left) × (c.in-Built.one ≡ tree_height left) × (c.in-Built.one ≤ 1000) = subst (λ t. IsPiece left t) c.in-Built.is a in
-    let p : (c.in-Built-other.right ≡ right) × (c.in-Built-other.two ≡ tree_height right) × (c.in-Built-other.two ≤ 1000) = subst (λ t. IsPiece right t) c.in-Built-other.is b in
-    let e : between_node c.args.form c.in_ok-left.left.value c.in_ok-right.right.value ≡ between_node c.args.form c.in-Built.left c.in-Built-other.right = search rules in (
-      (λ i. raw c.args.at (c.node_between-node.ensures i)) ∙ (λ i. raw c.args.at (e i)) ∙ (λ i. raw c.args.at (between_node c.args.form (s.0 i) (p.0 i))),
-      omega (arith, between_height c.args.form left right, s.1, p.1, c.max-height.ensures),
-      omega (arith, c.if-height-ge-HIGHEST.false),
-    )
+returns c = ok_so _ _ c.built.ensures (Wanted c.args.at c.args.form c.args.self c.args.other) (λ r f. λ left right a b.
+    let s : (c.in-Built.left.value ≡ left) × (c.in-Built.one ≡ tree_height left) × (c.in-Built.one ≤ 1000) = subst (λ t. IsPiece left t) c.in-Built.is a in
+    let p : (c.in-Built-other.right.value ≡ right) × (c.in-Built-other.two ≡ tree_height right) × (c.in-Built-other.two ≤ 1000) = subst (λ t. IsPiece right t) c.in-Built-other.is b in
+    f (raw c.args.at (between_node c.args.form left right))
+    ((λ i. raw c.args.at (c.node_between.ensures i)) ∙ (λ i. raw c.args.at (between_node c.args.form (s.0 i) (p.0 i))))
+    (omega (arith, between_height c.args.form left right, s.1, p.1, c.max-height.ensures))
+    (omega (arith, c.if-height-ge-HIGHEST.false)))

@@ -24,5 +24,5 @@ returns-in_default-body c = ok_so _ _ c.comprehension_too_high-in_default-body.e
 pub returns-then-height-ge-HIGHEST : goal.returns-then-height-ge-HIGHEST
 returns-then-height-ge-HIGHEST c = ok_so _ _ c.comprehension_too_high-then-height-ge-HIGHEST.ensures (Wanted c.args.at c.args.self c.args.body) (λ r f. λ rs p a h.
     let s : (ranges_of c.in-Built.ranges.items ≡ rs) × (c.in-Built.one ≡ ranges_height rs) × (c.in-Built.one ≤ 1000) = subst (λ t. IsRanges rs t) c.in-Built.is a in
-    let q : (c.in-Built-body.body ≡ p) × (c.in-Built-body.two ≡ tree_height p) × (c.in-Built-body.two ≤ 1000) = subst (λ t. IsPiece p t) c.in-Built-body.is h in
+    let q : (c.in-Built-body.body.value ≡ p) × (c.in-Built-body.two ≡ tree_height p) × (c.in-Built-body.two ≤ 1000) = subst (λ t. IsPiece p t) c.in-Built-body.is h in
     f c.args.at rs p (omega (arith, c.if-height-ge-HIGHEST.true, s.1, q.1, c.max-height.ensures)) s q)

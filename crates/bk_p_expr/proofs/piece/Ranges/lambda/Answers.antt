@@ -29,6 +29,6 @@ returns-in_default-value c = ok_so _ _ c.lambda_too_high-in_default-value.ensure
 pub returns-then-height-ge-HIGHEST : goal.returns-then-height-ge-HIGHEST
 returns-then-height-ge-HIGHEST c = ok_so _ _ c.lambda_too_high-then-height-ge-HIGHEST.ensures (Wanted c.args.at c.args.self c.args.body c.args.value) (λ r f. λ rs p e a h k.
     let s : (ranges_of c.in-Built.ranges.items ≡ rs) × (c.in-Built.one ≡ ranges_height rs) × (c.in-Built.one ≤ 1000) = subst (λ t. IsRanges rs t) c.in-Built.is a in
-    let q : (c.in-Built-body.body ≡ p) × (c.in-Built-body.two ≡ tree_height p) × (c.in-Built-body.two ≤ 1000) = subst (λ t. IsPiece p t) c.in-Built-body.is h in
-    let v : (c.in-Built-value.value ≡ e) × (c.in-Built-value.three ≡ tree_height e) × (c.in-Built-value.three ≤ 1000) = subst (λ t. IsPiece e t) c.in-Built-value.is k in
+    let q : (c.in-Built-body.body.value ≡ p) × (c.in-Built-body.two ≡ tree_height p) × (c.in-Built-body.two ≤ 1000) = subst (λ t. IsPiece p t) c.in-Built-body.is h in
+    let v : (c.in-Built-value.value.value ≡ e) × (c.in-Built-value.three ≡ tree_height e) × (c.in-Built-value.three ≤ 1000) = subst (λ t. IsPiece e t) c.in-Built-value.is k in
     f c.args.at rs p e (omega (arith, c.if-height-ge-HIGHEST.true, s.1, q.1, v.1, c.max.ensures, c.max-height.ensures)) s q v)

@@ -11,4 +11,4 @@ returns-in_default-clause-found c = if_none _ _ _ c.in_ok-piece.ensures.found c.
 pub returns-clause-found : goal.returns-clause-found
 returns-clause-found c =
     let f : (t : RawTree) × Longest Spells c.args.tokens.now t c.in-Some.rest.now × IsPiece t c.in-Some.piece = if_some _ _ _ _ c.in_ok-piece.ensures.found c.in-Some.is in
-    (f.0, f.1, c.in_ok-term.ensures f.0 f.2)
+    (f.0, f.1, c.of.ensures f.0 f.2)
