@@ -1,5 +1,5 @@
 -- What a substitution reads as, by what it is read by.
-use Rattle.std.specs.Prelude.{Option, None, Some}
+use Rattle.std.specs.Prelude.{◌+◌, Option, None, Some}
 use Rattle.bk_val.specs.ValueType.{ValueType}
 use Rattle.bk_form.specs.Formula.{Formula}
 use Rattle.bk_gsl.specs.Substitution.{Substitution}
@@ -8,6 +8,7 @@ use Rattle.bk_raw.specs.RawTree.{RawTree}
 use Rattle.bk_raw.specs.SubTree.{SubTree, SubNode, Branches, Choices}
 use Rattle.bk_raw.specs.Outcome.{ask_domain}
 use Rattle.bk_elab.specs.Visible.{typing_of, visible_names}
+use Rattle.bk_level.specs.Binders.{binder_count}
 use Rattle.bk_level.specs.Typings.{Typing, target, number_of, type_at, predicate_read, outcome_of, term_read}
 use Rattle.bk_level.specs.Elaborated.{chosen_in, elaborated, elaborated_node, else_part, choices, selected}
 use Rattle.bk_made.specs.declared.elaborated.Elaboration.{Elaboration}
@@ -15,6 +16,10 @@ use Rattle.bk_made.specs.declared.elaborated.Elaboration.{Elaboration}
 -- the types that it goes by
 abbrev pub types_by : Elaboration → Typing
 types_by e = typing_of e.typing.types.now
+
+-- the place behind a substitution, which has bound its numbers
+abbrev pub behind_by : Elaboration → SubTree → Elaboration
+behind_by e s = record e { first = e.first + binder_count s }
 
 -- the substitution
 abbrev pub read_by : Elaboration → SubTree → Substitution

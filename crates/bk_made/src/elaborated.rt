@@ -1,15 +1,17 @@
 // What a written substitution reads as.
 
 ghost use Rattle.std.specs.Option.{option_copied};
-ghost use Rattle.std.specs.Prelude.{◌≡◌, ◌+◌, ◌++◌, [], true, IfOk, OnOk};
+ghost use Rattle.std.specs.Prelude.{◌≡◌, ◌++◌, [], true, IfOk, OnOk};
 ghost use Rattle.bk_form.specs.Formula.{btrue, unary, binary};
 ghost use Rattle.bk_form.specs.Role.{same_type};
+ghost use Rattle.bk_form.specs.declared.operator.UnOp.TheVariants.{Not as Negation};
+ghost use Rattle.bk_gsl.specs.Substitution.{guard};
 ghost use Rattle.bk_raw.specs.RawTree.{trees_of};
 ghost use Rattle.bk_raw.specs.SubTree.{sub_assign, sub_assign_at, sub_member, sub_such, sub_any, sub_var, sub_while, branch_and};
 ghost use Rattle.bk_raw.specs.SubView.{choices_of};
 ghost use Rattle.bk_elab.specs.Visible.{typing_of, visible_names};
 ghost use Rattle.bk_level.specs.Elaborated as meant;
-ghost use Rattle.bk_made.specs.Read.{read_by, node_read, else_by, choices_by, selected_by, condition_by, term_by, chosen_by};
+ghost use Rattle.bk_made.specs.Read.{read_by, behind_by, node_read, else_by, choices_by, selected_by, condition_by, term_by, chosen_by};
 ghost use Rattle.bk_sight.specs.Shown.{branches_shown, target_shown};
 ghost use Rattle.bk_level.specs.Typings.{interval, number_of, or_else, predicate_read, target, term_read, type_at};
 
@@ -38,10 +40,11 @@ pub struct Elaboration<'a> {
 }
 
 impl<'a> Elaboration<'a> {
-    // The place behind a substitution that binds so much.
-    fn behind(self, count: usize) -> Result<Elaboration<'a>, Memory>
-        ensures { IfOk result (λ e. e ≡ record self.entry { first = self.entry.first + count }) }
+    // The place behind a substitution, which has bound its numbers.
+    fn behind(self, sub: &RawSub) -> Result<Elaboration<'a>, Memory>
+        ensures { IfOk result (λ e. e ≡ behind_by self.entry sub.now) }
     {
+        let count = binder_count(sub)?;
         Ok(Elaboration {
             typing: self.typing,
             above: self.above,
@@ -65,27 +68,23 @@ impl<'a> Elaboration<'a> {
             RawSubNode::BecomesSuch(names, predicate) => self.such(names, predicate),
             RawSubNode::Begin(body) => self.substitution(body),
             RawSubNode::Pre(predicate, body) => {
-                let condition = self.predicate(predicate)?;
-                Sub::pre(alloc, condition, self.substitution(body)?)
+                let (condition, body) = self.conditioned(predicate, body)?;
+                Sub::pre(alloc, condition, body)
             }
             RawSubNode::Assert(predicate, body) => {
-                let condition = self.predicate(predicate)?;
-                Sub::assertion(alloc, condition, self.substitution(body)?)
+                let (condition, body) = self.conditioned(predicate, body)?;
+                Sub::assertion(alloc, condition, body)
             }
             RawSubNode::If(predicate, first, others, last) => {
                 self.choice_by(predicate, first, others, last_of(last))
             }
             RawSubNode::Choice(first, others) => {
                 let before = self.substitution(first)?;
-                let behind = self.behind(binder_count(first)?)?;
-                behind.choices(before, others)
+                self.choices(before, first, others)
             }
             RawSubNode::Select(predicate, first, others, last) => {
-                let guard = self.predicate(predicate)?;
-                let nots = unary_of(alloc, UnOp::Not, guard.copy(alloc)?)?;
-                let before = Sub::guard(alloc, guard, self.substitution(first)?)?;
-                let behind = self.behind(binder_count(first)?)?;
-                behind.selected(nots, before, others, last_of(last))
+                let (not, before) = self.branch(predicate, first)?;
+                self.selected(not, before, first, others, last_of(last))
             }
             RawSubNode::Any(names, predicate, body) | RawSubNode::Let(names, predicate, body) => {
                 self.guarded(names, predicate, body)
@@ -95,16 +94,49 @@ impl<'a> Elaboration<'a> {
                 self.repetition(test, body, invariant, variant)
             }
             RawSubNode::Parallel(left, right) => {
-                let one = self.substitution(left)?;
-                let behind = self.behind(binder_count(left)?)?;
-                Sub::par(alloc, one, behind.substitution(right)?)
+                let (one, other) = self.both(left, right)?;
+                Sub::par(alloc, one, other)
             }
             RawSubNode::Sequence(left, right) => {
-                let one = self.substitution(left)?;
-                let behind = self.behind(binder_count(left)?)?;
-                Sub::seq(alloc, one, behind.substitution(right)?)
+                let (one, other) = self.both(left, right)?;
+                Sub::seq(alloc, one, other)
             }
         }
+    }
+
+    // Two substitutions, the second behind the first.
+    #[tactic(auto, using(bk_sight::proofs::SubSizes::parts_are_smaller, crate::proofs::Branching::branch_whole))]
+    #[cycle(elaborating)]
+    fn both(&self, left: &RawSub, right: &RawSub) -> Result<(Sub, Sub), Memory>
+        ensures { IfOk result (λ p. (p.0 ≡ read_by self.now left.now)
+            × (p.1 ≡ read_by (behind_by self.now left.now) right.now)) }
+    {
+        let behind = self.behind(left)?;
+        let one = self.substitution(left)?;
+        Ok((one, behind.substitution(right)?))
+    }
+
+    // A condition and the substitution under it.
+    #[tactic(auto, using(bk_sight::proofs::SubSizes::parts_are_smaller, crate::proofs::Branching::branch_whole))]
+    #[cycle(elaborating)]
+    fn conditioned(&self, predicate: &RawTerm, body: &RawSub) -> Result<(Form, Sub), Memory>
+        ensures { IfOk result (λ p. (p.0 ≡ condition_by self.now predicate.now) × (p.1 ≡ read_by self.now body.now)) }
+    {
+        let condition = self.predicate(predicate)?;
+        Ok((condition, self.substitution(body)?))
+    }
+
+    // A branch of SELECT: the negation of its guard, and the guarded substitution.
+    #[tactic(auto, using(bk_sight::proofs::SubSizes::parts_are_smaller, crate::proofs::Branching::branch_whole))]
+    #[cycle(elaborating)]
+    fn branch(&self, predicate: &RawTerm, body: &RawSub) -> Result<(Form, Sub), Memory>
+        ensures { IfOk result (λ p. (p.0 ≡ unary Negation (condition_by self.now predicate.now))
+            × (p.1 ≡ guard (condition_by self.now predicate.now) (read_by self.now body.now))) }
+    {
+        let alloc = self.typing.alloc;
+        let (condition, body) = self.conditioned(predicate, body)?;
+        let not = unary_of(alloc, UnOp::Not, condition.copy(alloc)?)?;
+        Ok((not, Sub::guard(alloc, condition, body)?))
     }
 
     // IF: ELSIF nests, and a missing ELSE does nothing.
@@ -120,9 +152,8 @@ impl<'a> Elaboration<'a> {
         ensures { IfOk result (λ s. s ≡ else_by self.now
             (branch_and predicate.now first.now (branches_shown others.now (option_copied last.entry)))) }
     {
-        let condition = self.predicate(predicate)?;
-        let yes = self.substitution(first)?;
-        let behind = self.behind(binder_count(first)?)?;
+        let behind = self.behind(first)?;
+        let (condition, yes) = self.conditioned(predicate, first)?;
         let no = behind.else_part(others, last)?;
         Sub::if_else(self.typing.alloc, condition, yes, no)
     }
@@ -142,19 +173,19 @@ impl<'a> Elaboration<'a> {
         self.choice_by(&branch.condition, &branch.body, others, last)
     }
 
-    // The choice of what stands before and these, joined to the left.
+    // The choice of what is read so far and these, joined to the left. They stand behind `previous`.
     #[tactic(auto, using(bk_sight::proofs::SubSizes::parts_are_smaller, crate::proofs::Branching::branch_whole))]
     #[cycle(elaborating)]
-    fn choices(&self, before: Sub, choices: &[RawSub]) -> Result<Sub, Memory>
-        ensures { IfOk result (λ s. s ≡ choices_by self.now before (choices_of choices.now)) }
+    fn choices(&self, before: Sub, previous: &RawSub, choices: &[RawSub]) -> Result<Sub, Memory>
+        ensures { IfOk result (λ s. s ≡ choices_by (behind_by self.now previous.now) before (choices_of choices.now)) }
     {
         let [choice, others @ ..] = choices else {
             return Ok(before);
         };
-        let one = self.substitution(choice)?;
+        let behind = self.behind(previous)?;
+        let one = behind.substitution(choice)?;
         let both = Sub::choice(self.typing.alloc, before, one)?;
-        let behind = self.behind(binder_count(choice)?)?;
-        behind.choices(both, others)
+        behind.choices(both, choice, others)
     }
 
     // The same of guarded branches; ELSE is guarded by the negations of all guards, joined to the left.
@@ -164,27 +195,26 @@ impl<'a> Elaboration<'a> {
         &self,
         nots: Form,
         before: Sub,
+        previous: &RawSub,
         branches: &[RawBranch],
         last: Option<&RawSub>,
     ) -> Result<Sub, Memory>
-        ensures { IfOk result (λ s. s ≡
-            selected_by self.now nots before (branches_shown branches.now (option_copied last.entry))) }
+        ensures { IfOk result (λ s. s ≡ selected_by (behind_by self.now previous.now) nots before
+            (branches_shown branches.now (option_copied last.entry))) }
     {
         let alloc = self.typing.alloc;
+        let behind = self.behind(previous)?;
         let [branch, others @ ..] = branches else {
             let Some(last) = last else {
                 return Ok(before);
             };
-            let guarded = Sub::guard(alloc, nots, self.substitution(last)?)?;
+            let guarded = Sub::guard(alloc, nots, behind.substitution(last)?)?;
             return Sub::choice(alloc, before, guarded);
         };
-        let guard = self.predicate(&branch.condition)?;
-        let not = unary_of(alloc, UnOp::Not, guard.copy(alloc)?)?;
+        let (not, guarded) = behind.branch(&branch.condition, &branch.body)?;
         let all = binary_of(alloc, BinOp::And, nots, not)?;
-        let guarded = Sub::guard(alloc, guard, self.substitution(&branch.body)?)?;
         let both = Sub::choice(alloc, before, guarded)?;
-        let behind = self.behind(binder_count(&branch.body)?)?;
-        behind.selected(all, both, others, last)
+        behind.selected(all, both, &branch.body, others, last)
     }
 
     // ANY and LET: a guarded substitution under locals.
@@ -201,8 +231,8 @@ impl<'a> Elaboration<'a> {
             names: &inside,
             first: ahead(self.first, names.len())?,
         };
-        let guard = inner.predicate(predicate)?;
-        let guarded = Sub::guard(alloc, guard, inner.substitution(body)?)?;
+        let (condition, body) = inner.conditioned(predicate, body)?;
+        let guarded = Sub::guard(alloc, condition, body)?;
         Sub::any(alloc, numbers(alloc, self.first, names.len())?, guarded)
     }
 
@@ -237,8 +267,7 @@ impl<'a> Elaboration<'a> {
         ensures { IfOk result (λ s. s ≡ node_read self.now (sub_while test.now body.now invariant.now variant.now)) }
     {
         let alloc = self.typing.alloc;
-        let condition = self.predicate(test)?;
-        let body = self.substitution(body)?;
+        let (condition, body) = self.conditioned(test, body)?;
         let names = joined(alloc, self.names, self.above)?;
         let stated = predicate_form(self.typing, &names, invariant)?;
         let counted = match term_form(self.typing, &names, &Ty::int(), variant)? {

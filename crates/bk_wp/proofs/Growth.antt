@@ -173,3 +173,5 @@ pub ruleset parts_within = (within_left, within_right, within_box, within_diamon
 pub ruleset loops_within = (within_kept, within_falls)
 
 pub ruleset loop_parts_within = (within_left, within_right, within_written)
+
+pub ruleset loop_turns_within = (within_left, within_right, within_written, within_replaced)

@@ -1,11 +1,13 @@
 //! What a substitution is asked beside what it does.
 
-ghost use Rattle.std.specs.Prelude.{◌≡◌, Some, None, Err, IfOk, OnOk, MatchOption};
+ghost use Rattle.std.specs.Prelude.{◌≡◌, [], Some, None, Err, IfOk, OnOk, MatchOption};
 ghost use Rattle.std.specs.Option.{option_copied};
 ghost use Rattle.bk_form.specs.Formula.{btrue};
 ghost use Rattle.bk_bind.specs.Limits.{IsWithinLimits};
 ghost use Rattle.bk_gsl.specs.Clean.{write_of};
 ghost use Rattle.bk_gsl.specs.Flat.{IsFlat};
+ghost use Rattle.bk_wd.specs.Joining.{both, where_true};
+ghost use Rattle.bk_wd.specs.WellDefined.{defined};
 ghost use Rattle.bk_wp.specs.Guarded.{over_variables, over_written, box_where, evaluated};
 ghost use Rattle.bk_wp.specs.Guarded.{checked_write, checked_at, evaluated_term, evaluated_onto};
 ghost use Rattle.bk_wp.specs.Guarded.{such_condition, loop_condition, guarded};
@@ -290,8 +292,27 @@ fn loop_condition(
         IsWithinLimits (loop_condition types.now written.now test.now invariant.now variant.now tested inner) → ⊥ }
 {
     let kept = over_written(alloc, types, written, defined(alloc, types, invariant)?)?;
+    let turn = turn_condition(alloc, types, test, variant, tested, inner)?;
+    let turn = where_true(alloc, invariant, turn)?;
+    Ok(both(alloc, kept, over_written(alloc, types, written, turn)?)?)
+}
+
+// That the test, and where it is true the body and the variant, are met as they should be.
+#[tactic(auto, using(crate::proofs::Guarding::conditions_within))]
+fn turn_condition(
+    alloc: Global,
+    types: &VarTable,
+    test: &Form,
+    variant: &Form,
+    tested: Form,
+    inner: Form,
+) -> Result<Form, WpFault>
+    ensures value { IfOk result
+        (λ f. f ≡ both tested (where_true test.now (both inner (defined types.now [] variant.now)))) }
+    ensures too_large { result ≡ Err TooLarge →
+        IsWithinLimits (both tested (where_true test.now (both inner (defined types.now [] variant.now)))) → ⊥ }
+{
     let falls = defined(alloc, types, variant)?;
     let turn = where_true(alloc, test, both(alloc, inner, falls)?)?;
-    let turn = where_true(alloc, invariant, both(alloc, tested, turn)?)?;
-    Ok(both(alloc, kept, over_written(alloc, types, written, turn)?)?)
+    Ok(both(alloc, tested, turn)?)
 }

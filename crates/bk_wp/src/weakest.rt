@@ -1,9 +1,11 @@
 //! The box and the diamond of a substitution.
 
 ghost use Rattle.std.specs.Prelude.{◌≡◌, [], ◌∷◌, Err, IfOk, OnOk};
-ghost use Rattle.bk_form.specs.Formula.{variable, unary, binary};
+ghost use Rattle.bk_form.specs.Formula.{variable, named, unary, binary};
 ghost use Rattle.bk_form.specs.declared.operator.UnOp.TheVariants.{Not};
-ghost use Rattle.bk_form.specs.declared.operator.BinOp.TheVariants.{And, Imp, Lt};
+ghost use Rattle.bk_form.specs.declared.operator.BinOp.TheVariants.{And, Imp, In, Lt};
+ghost use Rattle.bk_form.specs.declared.operator.Domain.TheVariants.{Natural};
+ghost use Rattle.bk_form.specs.Replacement.{replaced, looked_up};
 ghost use Rattle.bk_bind.specs.Limits.{IsWithinLimits};
 ghost use Rattle.bk_gsl.specs.Flat.{IsFlat};
 ghost use Rattle.bk_wp.specs.Box.{variant_before, loop_box, box, diamond};
@@ -183,15 +185,91 @@ fn loop_box(
     ensures too_large { result ≡ Err TooLarge →
         IsWithinLimits (loop_box types.now written.now test.now invariant.now variant.now post kept falls) → ⊥ }
 {
+    let keeps = each_turn(alloc, types, written, invariant, test, kept)?;
+    let counts = counts_at_each_turn(alloc, types, written, invariant, test, variant)?;
+    let falls = falls_at_each_turn(alloc, types, written, invariant, test, variant, falls)?;
+    let leaves = after_the_last_turn(alloc, types, written, invariant, test, post)?;
+    all_parts(alloc, invariant, keeps, counts, falls, leaves)
+}
+
+// That the variant is natural before each turn.
+#[tactic(auto, using(crate::proofs::Growth::loop_parts_within))]
+fn counts_at_each_turn(
+    alloc: Global,
+    types: &VarTable,
+    written: &[u32],
+    invariant: &Form,
+    test: &Form,
+    variant: &Form,
+) -> Result<Form, WpFault>
+    ensures value { IfOk result (λ f. f ≡ all_written types.now written.now
+        (binary Imp (binary And invariant.now test.now) (binary In variant.now (named Natural)))) }
+    ensures too_large { result ≡ Err TooLarge → IsWithinLimits (all_written types.now written.now
+        (binary Imp (binary And invariant.now test.now) (binary In variant.now (named Natural)))) → ⊥ }
+{
     let natural = Form::make(alloc, Part::Name(Domain::Natural))?;
     let counts = binary(alloc, BinOp::In, variant.copy(alloc)?, natural)?;
+    each_turn(alloc, types, written, invariant, test, counts)
+}
+
+// That each turn meets `falls`, where the number of the variant before it stands for the variant.
+#[tactic(auto, using(crate::proofs::Growth::loop_turns_within))]
+fn falls_at_each_turn(
+    alloc: Global,
+    types: &VarTable,
+    written: &[u32],
+    invariant: &Form,
+    test: &Form,
+    variant: &Form,
+    falls: Form,
+) -> Result<Form, WpFault>
+    ensures value { IfOk result (λ f. f ≡ all_written types.now written.now (binary Imp (binary And invariant.now test.now)
+        (replaced (looked_up ((variant_before types.now, variant.now) ∷ [])) falls))) }
+    ensures too_large { result ≡ Err TooLarge →
+        IsWithinLimits (all_written types.now written.now (binary Imp (binary And invariant.now test.now)
+        (replaced (looked_up ((variant_before types.now, variant.now) ∷ [])) falls))) → ⊥ }
+{
     let before = value_before(alloc, types, variant)?;
     let falls = replace(alloc, &falls, &before)?;
+    each_turn(alloc, types, written, invariant, test, falls)
+}
+
+// That `post` is met where the loop ends.
+#[tactic(auto, using(crate::proofs::Growth::loop_parts_within))]
+fn after_the_last_turn(
+    alloc: Global,
+    types: &VarTable,
+    written: &[u32],
+    invariant: &Form,
+    test: &Form,
+    post: Form,
+) -> Result<Form, WpFault>
+    ensures value { IfOk result (λ f. f ≡ all_written types.now written.now
+        (binary Imp (binary And invariant.now (unary Not test.now)) post)) }
+    ensures too_large { result ≡ Err TooLarge → IsWithinLimits (all_written types.now written.now
+        (binary Imp (binary And invariant.now (unary Not test.now)) post)) → ⊥ }
+{
     let negated = unary(alloc, UnOp::Not, test.copy(alloc)?)?;
-    let keeps = each_turn(alloc, types, written, invariant, test, kept)?;
-    let counts = each_turn(alloc, types, written, invariant, test, counts)?;
-    let falls = each_turn(alloc, types, written, invariant, test, falls)?;
-    let leaves = each_turn(alloc, types, written, invariant, &negated, post)?;
+    each_turn(alloc, types, written, invariant, &negated, post)
+}
+
+// The invariant and the four parts about turns.
+#[tactic(auto, using(crate::proofs::Growth::loop_parts_within))]
+fn all_parts(
+    alloc: Global,
+    invariant: &Form,
+    keeps: Form,
+    counts: Form,
+    falls: Form,
+    leaves: Form,
+) -> Result<Form, WpFault>
+    ensures value { IfOk result (λ f. f ≡
+        binary And (binary And (binary And (binary And invariant.now keeps) counts) falls) leaves) }
+    ensures within { OnOk result (IsWithinLimits
+        (binary And (binary And (binary And (binary And invariant.now keeps) counts) falls) leaves)) }
+    ensures too_large { result ≡ Err TooLarge → IsWithinLimits
+        (binary And (binary And (binary And (binary And invariant.now keeps) counts) falls) leaves) → ⊥ }
+{
     let parts = joined(alloc, BinOp::And, invariant, keeps)?;
     let parts = binary(alloc, BinOp::And, parts, counts)?;
     let parts = binary(alloc, BinOp::And, parts, falls)?;

@@ -1,6 +1,7 @@
 use Rattle.std.proofs.Common.{ℕ, ◌≡◌, ◌∙◌, ap, refl, List, ◌+◌, arith}
+use Rattle.std.proofs.lemmas.Result.{IfOk-weaker}
 use Rattle.bk_form.specs.Role.{bind}
-use Rattle.bk_gsl.specs.Substitution.{becomes_such}
+use Rattle.bk_gsl.specs.Substitution.{Substitution, becomes_such}
 use Rattle.bk_raw.specs.Names.{Names}
 use Rattle.bk_raw.specs.declared.term.RawName.{RawName}
 use Rattle.bk_elab.specs.Visible.{visible_names}
@@ -33,4 +34,6 @@ returns c =
     ∙ (ap (λ (ts : List (List ℕ)). bind (numbered_texts e.first ts) names) (c.deref.ensures.value ∙ c.in_ok-texts.ensures) ∙ ap (λ (ns : Names). bind ns names) (old-numbered e.first xs))) in
     let stated-is : c.in_ok-stated.stated ≡ predicate_read e.typing.max (types_by e) (bind (numbered_old e.first xs) names) c.args.predicate.now =
     c.in_ok-stated.ensures ∙ ap (λ (ns : Names). predicate_read e.typing.max (types_by e) ns c.args.predicate.now) inside-is in
-    c.becomes_such.ensures ∙ (λ i. becomes_such (pairs-are i) (stated-is i))
+    IfOk-weaker c.becomes_such.result (λ (s : Substitution). s ≡ becomes_such c.loop-index.pairs.items c.in_ok-stated.stated)
+    (λ (s : Substitution). s ≡ becomes_such (old_pairs names e.first xs) (predicate_read e.typing.max (types_by e) (bind (numbered_old e.first xs) names) c.args.predicate.now))
+    (λ s h. h ∙ (λ i. becomes_such (pairs-are i) (stated-is i))) c.becomes_such.ensures
