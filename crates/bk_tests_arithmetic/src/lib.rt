@@ -4,6 +4,10 @@
 #[cfg(test)]
 mod arithmetic;
 #[cfg(test)]
+mod arithmetic_texts;
+#[cfg(test)]
 mod certificates;
 #[cfg(test)]
 mod polynomials;
+#[cfg(test)]
+mod written;

@@ -1,101 +1,140 @@
 // Terms multiplied out, and the cases of a term in an interval.
 
+use crate::written::{form, forms};
 use bk_arith::{ArithFault, cases, polynomial};
-use bk_fixtures::{binary, interval, literal, of_variables, unary, variable, within};
-use bk_form::{BinOp, Form, UnOp};
-use bk_io::Memory;
+use bk_bracketed::Unread;
 use std::alloc::Global;
+use std::process::Abort;
 use std::test::Fail;
 
-const LARGEST: i128 = 170141183460469231731687303715884105727;
+// Two terms, and whether they are equal as polynomials.
+type Row = (&'static str, &'static str, Result<bool, ArithFault>);
 
-// `(x + y) * (x - y)`
-fn product(alloc: Global) -> Result<Form, Memory> {
-    let sum = of_variables(alloc, BinOp::Add, 0, 1)?;
-    let difference = of_variables(alloc, BinOp::Sub, 0, 1)?;
-    binary(alloc, BinOp::Mul, sum, difference)
+const MULTIPLIED_OUT: [Row; 5] = [
+    (
+        "( ( x + y ) * ( x - y ) )",
+        "( ( x * x ) - ( y * y ) )",
+        Ok(true),
+    ),
+    (
+        "( ( x + y ) * ( x - y ) )",
+        "( ( x * x ) + ( y * y ) )",
+        Ok(false),
+    ),
+    // the negative twice is the term
+    (
+        "( ( x + y ) * ( x - y ) )",
+        "( neg ( neg ( ( x + y ) * ( x - y ) ) ) )",
+        Ok(true),
+    ),
+    // x / y is an atom
+    ("( x / y )", "( x / y )", Ok(true)),
+    ("( x / y )", "( y / x )", Ok(false)),
+];
+
+const PRODUCTS_IN_ANY_ORDER: [Row; 2] = [
+    ("( x * y )", "( y * x )", Ok(true)),
+    ("( x * y )", "( x * x )", Ok(false)),
+];
+
+const NUMBERS_THAT_DO_NOT_FIT: [Row; 3] = [
+    (
+        "( 170141183460469231731687303715884105727 + 170141183460469231731687303715884105727 )",
+        "170141183460469231731687303715884105727",
+        Err(ArithFault::TooWide),
+    ),
+    (
+        "170141183460469231731687303715884105727",
+        "( 170141183460469231731687303715884105727 + 170141183460469231731687303715884105727 )",
+        Err(ArithFault::TooWide),
+    ),
+    (
+        "( 170141183460469231731687303715884105727 - 170141183460469231731687303715884105727 )",
+        "0",
+        Ok(true),
+    ),
+];
+
+fn multiplied(alloc: Global, left: &str, right: &str) -> Result<Result<bool, ArithFault>, Unread> {
+    let left = form(alloc, left)?;
+    let right = form(alloc, right)?;
+    Ok(polynomial(alloc, &left, &right))
 }
 
-// `(x * x) op (y * y)`
-fn squares(alloc: Global, op: BinOp) -> Result<Form, Memory> {
-    let first = of_variables(alloc, BinOp::Mul, 0, 0)?;
-    let second = of_variables(alloc, BinOp::Mul, 1, 1)?;
-    binary(alloc, op, first, second)
+fn compare(rt: &impl Abort, alloc: Global, rows: &[Row]) -> Result<(), Fail> {
+    for (left, right, wanted) in rows {
+        assert_eq!(rt;
+            multiplied(alloc, left, right)?,
+            *wanted,
+            "{left} and {right}"
+        );
+    }
+    Ok(())
 }
 
 #[test]
 fn multiplied_out(rt: HostRuntime) -> Result<(), Fail> {
-    let alloc = rt.alloc();
-    let left = product(alloc)?;
-    assert_eq!(rt;
-        polynomial(alloc, &left, &squares(alloc, BinOp::Sub)?),
-        Ok(true)
-    );
-    assert_eq!(rt;
-        polynomial(alloc, &left, &squares(alloc, BinOp::Add)?),
-        Ok(false)
-    );
-    // the negative twice is the term
-    let twice = unary(
-        alloc,
-        UnOp::Neg,
-        unary(alloc, UnOp::Neg, left.copy(alloc)?)?,
-    )?;
-    assert_eq!(rt; polynomial(alloc, &left, &twice), Ok(true));
-    // x / y is an atom
-    let quotient = of_variables(alloc, BinOp::Div, 0, 1)?;
-    assert_eq!(rt; polynomial(alloc, &quotient, &quotient), Ok(true));
-    let other = of_variables(alloc, BinOp::Div, 1, 0)?;
-    assert_eq!(rt; polynomial(alloc, &quotient, &other), Ok(false));
-    Ok(())
+    compare(&rt, rt.alloc(), &MULTIPLIED_OUT)
 }
 
 #[test]
 fn products_in_any_order(rt: HostRuntime) -> Result<(), Fail> {
-    let alloc = rt.alloc();
-    let left = of_variables(alloc, BinOp::Mul, 0, 1)?;
-    let right = of_variables(alloc, BinOp::Mul, 1, 0)?;
-    assert_eq!(rt; polynomial(alloc, &left, &right), Ok(true));
-    let square = of_variables(alloc, BinOp::Mul, 0, 0)?;
-    assert_eq!(rt; polynomial(alloc, &left, &square), Ok(false));
-    Ok(())
+    compare(&rt, rt.alloc(), &PRODUCTS_IN_ANY_ORDER)
 }
 
 #[test]
 fn numbers_that_do_not_fit(rt: HostRuntime) -> Result<(), Fail> {
-    let alloc = rt.alloc();
-    let large = literal(alloc, LARGEST)?;
-    let twice = binary(alloc, BinOp::Add, large.copy(alloc)?, large.copy(alloc)?)?;
-    assert_eq!(rt; polynomial(alloc, &twice, &large), Err(ArithFault::TooWide));
-    assert_eq!(rt; polynomial(alloc, &large, &twice), Err(ArithFault::TooWide));
-    let none = binary(alloc, BinOp::Sub, large.copy(alloc)?, large)?;
-    assert_eq!(rt; polynomial(alloc, &none, &literal(alloc, 0)?), Ok(true));
+    compare(&rt, rt.alloc(), &NUMBERS_THAT_DO_NOT_FIT)
+}
+
+// ---- cases
+
+// A formula, and how many cases it has.
+const COUNTED: [(&str, Result<usize, ArithFault>); 6] = [
+    ("( x : ( 0 .. 63 ) )", Ok(64)),
+    ("( x : ( 5 .. 4 ) )", Ok(0)),
+    ("( x : ( 0 .. 64 ) )", Err(ArithFault::Cases)),
+    (
+        "( x : ( -170141183460469231731687303715884105727 .. 170141183460469231731687303715884105727 ) )",
+        Err(ArithFault::Cases),
+    ),
+    ("( 0 .. 1 )", Err(ArithFault::Cases)),
+    ("( x : ( x .. y ) )", Err(ArithFault::Cases)),
+];
+
+fn counted(alloc: Global, text: &str) -> Result<Result<usize, ArithFault>, Unread> {
+    let hyp = form(alloc, text)?;
+    match cases(alloc, &hyp) {
+        Ok(list) => Ok(Ok(list.len())),
+        Err(fault) => Ok(Err(fault)),
+    }
+}
+
+fn compare_counts(
+    rt: &impl Abort,
+    alloc: Global,
+    rows: &[(&str, Result<usize, ArithFault>)],
+) -> Result<(), Fail> {
+    for (text, wanted) in rows {
+        assert_eq!(rt; counted(alloc, text)?, *wanted, "{text}");
+    }
     Ok(())
+}
+
+// Whether the formula has these two cases.
+fn has_both(alloc: Global, text: &str, wanted: &str) -> Result<bool, Fail> {
+    let hyp = form(alloc, text)?;
+    let wanted = forms(alloc, wanted)?;
+    let found = cases(alloc, &hyp)?;
+    match (found.as_slice(), wanted.as_slice()) {
+        ([low, high], [first, last]) => Ok(low.equal(first) && high.equal(last)),
+        _ => Ok(false),
+    }
 }
 
 #[test]
 fn numbers_of_intervals(rt: HostRuntime) -> Result<(), Fail> {
     let alloc = rt.alloc();
-    let few = cases(alloc, &within(alloc, 0, 3, 4)?)?;
-    assert_eq!(rt; few.len(), 2);
-    let first = binary(alloc, BinOp::Eq, variable(alloc, 0)?, literal(alloc, 3)?)?;
-    let last = binary(alloc, BinOp::Eq, variable(alloc, 0)?, literal(alloc, 4)?)?;
-    assert!(rt; few[0].equal(&first));
-    assert!(rt; few[1].equal(&last));
-    assert_eq!(rt; cases(alloc, &within(alloc, 0, 0, 63)?)?.len(), 64);
-    assert_eq!(rt; cases(alloc, &within(alloc, 0, 5, 4)?)?.len(), 0);
-    assert_eq!(rt;
-        cases(alloc, &within(alloc, 0, 0, 64)?).err(),
-        Some(ArithFault::Cases)
-    );
-    assert_eq!(rt;
-        cases(alloc, &within(alloc, 0, -LARGEST, LARGEST)?).err(),
-        Some(ArithFault::Cases)
-    );
-    let set = interval(alloc, 0, 1)?;
-    assert_eq!(rt; cases(alloc, &set).err(), Some(ArithFault::Cases));
-    let ends = of_variables(alloc, BinOp::Range, 0, 1)?;
-    let open = binary(alloc, BinOp::In, variable(alloc, 0)?, ends)?;
-    assert_eq!(rt; cases(alloc, &open).err(), Some(ArithFault::Cases));
-    Ok(())
+    assert!(rt; has_both(alloc, "( x : ( 3 .. 4 ) )", "( x = 3 ), ( x = 4 )")?);
+    compare_counts(&rt, alloc, &COUNTED)
 }

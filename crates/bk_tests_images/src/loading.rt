@@ -1,6 +1,7 @@
-use bk_code::{CellKind, Inst};
+use bk_code::{CellKind, Inst, OpEntry, Parameter};
 use bk_image::{LoadFault, Memory, load, write};
 use std::alloc::Global;
+use std::process::Abort;
 use std::test::Fail;
 
 // The image of the machine Counter: three operations, and 12 instructions from byte 68 on.
@@ -49,23 +50,33 @@ fn fault_of_code(alloc: Global, count: u32, code: &[u8]) -> Result<Option<LoadFa
     Ok(fault(alloc, &bytes))
 }
 
+const GOT: [Parameter; 1] = [Parameter {
+    kind: CellKind::Integer,
+    slot: 1,
+}];
+
+// Whether these are the operations reset, setmax and get.
+fn are_operations(ops: &[OpEntry]) -> bool {
+    match ops {
+        [_, setmax, get] => {
+            setmax.name.as_slice() == b"setmax".as_slice()
+                && setmax.start == 6
+                && get.outputs.as_slice() == GOT.as_slice()
+        }
+        _ => false,
+    }
+}
+
+fn is_code(code: &[Inst]) -> bool {
+    code.len() == 12 && code[6] == Inst::Push(10) && code[10] == Inst::Store(1)
+}
+
 #[test]
 fn the_counter_is_loaded(rt: HostRuntime) -> Result<(), Fail> {
     let image = load(rt.alloc(), &COUNTER)?;
-    assert_eq!(rt; image.cells, 2);
-    assert!(rt; image.sets.as_slice().is_empty());
-    assert_eq!(rt; image.ops.as_slice().len(), 3);
-    assert_eq!(rt; image.code.as_slice().len(), 12);
-    assert!(rt; image.ops.as_slice()[1].name.as_slice() == b"setmax".as_slice());
-    assert_eq!(rt; image.ops.as_slice()[1].start, 6);
-    assert_eq!(rt; image.ops.as_slice()[2].outputs.as_slice().len(), 1);
-    assert_eq!(rt;
-        image.ops.as_slice()[2].outputs.as_slice()[0].kind,
-        CellKind::Integer
-    );
-    assert_eq!(rt; image.ops.as_slice()[2].outputs.as_slice()[0].slot, 1);
-    assert_eq!(rt; image.code.as_slice()[6], Inst::Push(10));
-    assert_eq!(rt; image.code.as_slice()[10], Inst::Store(1));
+    assert!(rt; image.cells == 2 && image.sets.as_slice().is_empty());
+    assert!(rt; are_operations(image.ops.as_slice()));
+    assert!(rt; is_code(image.code.as_slice()));
     Ok(())
 }
 
@@ -120,63 +131,104 @@ fn fault_of_empty_sets(
     Ok(fault(alloc, &bytes))
 }
 
-#[test]
-fn too_many_sets(rt: HostRuntime) -> Result<(), Fail> {
-    let most = fault_of_empty_sets(rt.alloc(), 65534, &[0, 0, 0, 1, RET])?;
-    assert_eq!(rt; most, None);
-    let one_more = fault_of_empty_sets(rt.alloc(), 65535, &[0, 0, 0, 1, RET])?;
-    assert_eq!(rt; one_more, Some(LoadFault::BadSlot(10)));
+// A number of sets, the bytes behind them, and the fault.
+type SetsRow = (u16, &'static [u8], Option<LoadFault>);
+
+fn compare_sets(rt: &impl Abort, alloc: Global, rows: &[SetsRow]) -> Result<(), Fail> {
+    for (count, code, fault) in rows {
+        assert_eq!(rt;
+            fault_of_empty_sets(alloc, *count, code)?,
+            *fault,
+            "{count}"
+        );
+    }
     Ok(())
 }
+
+const SETS: [SetsRow; 2] = [
+    (65534, &[0, 0, 0, 1, RET], None),
+    (65535, &[0, 0, 0, 1, RET], Some(LoadFault::BadSlot(10))),
+];
+
+#[test]
+fn too_many_sets(rt: HostRuntime) -> Result<(), Fail> {
+    compare_sets(&rt, rt.alloc(), &SETS)
+}
+
+const SETS_AND_OTHER_FAULTS: [SetsRow; 3] = [
+    (65535, &[0, 0, 0, 0], Some(LoadFault::BadSlot(10))),
+    (65535, &[0, 0, 0, 1, 0], Some(LoadFault::BadInst(131088))),
+    (65535, &[0, 0, 0, 1, RET, 0], Some(LoadFault::Extra(131089))),
+];
 
 #[test]
 fn too_many_sets_among_other_faults(rt: HostRuntime) -> Result<(), Fail> {
-    let empty = fault_of_empty_sets(rt.alloc(), 65535, &[0, 0, 0, 0])?;
-    assert_eq!(rt; empty, Some(LoadFault::BadSlot(10)));
-    let other = fault_of_empty_sets(rt.alloc(), 65535, &[0, 0, 0, 1, 0])?;
-    assert_eq!(rt; other, Some(LoadFault::BadInst(131088)));
-    let longer = fault_of_empty_sets(rt.alloc(), 65535, &[0, 0, 0, 1, RET, 0])?;
-    assert_eq!(rt; longer, Some(LoadFault::Extra(131089)));
-    Ok(())
+    compare_sets(&rt, rt.alloc(), &SETS_AND_OTHER_FAULTS)
 }
 
-#[test]
-fn one_changed_byte(rt: HostRuntime) -> Result<(), Fail> {
-    let cases = [
-        (0, 0, LoadFault::Magic),
-        (5, 9, LoadFault::Version(9)),
-        (24, 0x0C, LoadFault::BadSlot(21)),
-        (59, 2, LoadFault::BadSlot(58)),
-        (63, 2, LoadFault::BadSlot(60)),
-        (67, 0, LoadFault::Extra(68)),
-        (69, 0x80, LoadFault::BadSlot(69)),
-        (82, 0, LoadFault::BadInst(82)),
-        (82, 0x13, LoadFault::BadInst(82)),
-        (82, 0x0F, LoadFault::Stack(82)),
-        (117, 2, LoadFault::BadSlot(114)),
-        (123, 0x0F, LoadFault::BadJump(123)),
-    ];
-    for (place, byte, expected) in cases {
-        let bytes = changed(rt.alloc(), place, byte)?;
-        assert_eq!(rt; fault(rt.alloc(), &bytes), Some(expected));
+// A place of the counter's image, another byte there, and the fault.
+const CHANGED: [(usize, u8, LoadFault); 12] = [
+    (0, 0, LoadFault::Magic),
+    (5, 9, LoadFault::Version(9)),
+    (24, 0x0C, LoadFault::BadSlot(21)),
+    (59, 2, LoadFault::BadSlot(58)),
+    (63, 2, LoadFault::BadSlot(60)),
+    (67, 0, LoadFault::Extra(68)),
+    (69, 0x80, LoadFault::BadSlot(69)),
+    (82, 0, LoadFault::BadInst(82)),
+    (82, 0x13, LoadFault::BadInst(82)),
+    (82, 0x0F, LoadFault::Stack(82)),
+    (117, 2, LoadFault::BadSlot(114)),
+    (123, 0x0F, LoadFault::BadJump(123)),
+];
+
+fn compare_changed(
+    rt: &impl Abort,
+    alloc: Global,
+    rows: &[(usize, u8, LoadFault)],
+) -> Result<(), Fail> {
+    for (place, byte, expected) in rows {
+        let bytes = changed(alloc, *place, *byte)?;
+        assert_eq!(rt; fault(alloc, &bytes), Some(*expected), "{place}");
     }
     Ok(())
 }
 
 #[test]
-fn no_instructions(rt: HostRuntime) -> Result<(), Fail> {
-    let fault = fault_of_code(rt.alloc(), 0, &[])?;
-    assert_eq!(rt; fault, Some(LoadFault::BadJump(14)));
+fn one_changed_byte(rt: HostRuntime) -> Result<(), Fail> {
+    compare_changed(&rt, rt.alloc(), &CHANGED)
+}
+
+// A number of instructions, their bytes, and the fault.
+type CodeRow = (u32, &'static [u8], Option<LoadFault>);
+
+fn compare_code(rt: &impl Abort, alloc: Global, rows: &[CodeRow]) -> Result<(), Fail> {
+    for (count, code, fault) in rows {
+        assert_eq!(rt; fault_of_code(alloc, *count, code)?, *fault, "{code:?}");
+    }
     Ok(())
 }
 
+const NO_INSTRUCTIONS: [CodeRow; 1] = [(0, &[], Some(LoadFault::BadJump(14)))];
+
+#[test]
+fn no_instructions(rt: HostRuntime) -> Result<(), Fail> {
+    compare_code(&rt, rt.alloc(), &NO_INSTRUCTIONS)
+}
+
+// Past the end, and before the beginning.
+const JUMPS_TO_NO_PLACE: [CodeRow; 2] = [
+    (2, &[0x10, 0, 0, 0, 2, RET], Some(LoadFault::BadJump(18))),
+    (
+        2,
+        &[0x10, 0xFF, 0xFF, 0xFF, 0xFF, RET],
+        Some(LoadFault::BadJump(18)),
+    ),
+];
+
 #[test]
 fn jumps_to_no_place(rt: HostRuntime) -> Result<(), Fail> {
-    let past = fault_of_code(rt.alloc(), 2, &[0x10, 0, 0, 0, 2, RET])?;
-    assert_eq!(rt; past, Some(LoadFault::BadJump(18)));
-    let before = fault_of_code(rt.alloc(), 2, &[0x10, 0xFF, 0xFF, 0xFF, 0xFF, RET])?;
-    assert_eq!(rt; before, Some(LoadFault::BadJump(18)));
-    Ok(())
+    compare_code(&rt, rt.alloc(), &JUMPS_TO_NO_PLACE)
 }
 
 // The index of an array on the stack, a read of the array, and a Store, with Ret at the end.
@@ -195,73 +247,103 @@ fn array_fault(
     fault_of_code(alloc, 4, &code)
 }
 
-#[test]
-fn arrays(rt: HostRuntime) -> Result<(), Fail> {
-    let cases = [
-        (0, 0, 2, None),
-        (1, 0, 2, Some(LoadFault::BadSlot(28))),
-        (2, 0, 0, Some(LoadFault::BadSlot(40))),
-        (3, 0, 0, Some(LoadFault::BadSlot(28))),
-        (0, 2147483646, 2, None),
-        (0, 2147483647, 2, Some(LoadFault::BadSlot(32))),
-        (0, -2147483648, 2, Some(LoadFault::BadSlot(32))),
-        (0, -2147483648, 0, Some(LoadFault::BadSlot(40))),
-    ];
-    for (base, low, count, expected) in cases {
-        assert_eq!(rt; array_fault(rt.alloc(), base, low, count)?, expected);
+// The first cell of an array, its first index, how many elements it has, and the fault.
+type ArrayRow = (u32, i64, u32, Option<LoadFault>);
+
+const ARRAYS: [ArrayRow; 8] = [
+    (0, 0, 2, None),
+    (1, 0, 2, Some(LoadFault::BadSlot(28))),
+    (2, 0, 0, Some(LoadFault::BadSlot(40))),
+    (3, 0, 0, Some(LoadFault::BadSlot(28))),
+    (0, 2147483646, 2, None),
+    (0, 2147483647, 2, Some(LoadFault::BadSlot(32))),
+    (0, -2147483648, 2, Some(LoadFault::BadSlot(32))),
+    (0, -2147483648, 0, Some(LoadFault::BadSlot(40))),
+];
+
+fn compare_arrays(rt: &impl Abort, alloc: Global, rows: &[ArrayRow]) -> Result<(), Fail> {
+    for (base, low, count, fault) in rows {
+        assert_eq!(rt;
+            array_fault(alloc, *base, *low, *count)?,
+            *fault,
+            "{base}, {low}, {count}"
+        );
     }
     Ok(())
 }
 
 #[test]
-fn depths_of_places(rt: HostRuntime) -> Result<(), Fail> {
+fn arrays(rt: HostRuntime) -> Result<(), Fail> {
+    compare_arrays(&rt, rt.alloc(), &ARRAYS)
+}
+
+const DEPTHS: [CodeRow; 2] = [
     // Nothing reaches the Store behind the Ret.
-    let dead = fault_of_code(rt.alloc(), 3, &[RET, 3, 0, 0, 0, 0, RET])?;
-    assert_eq!(rt; dead, Some(LoadFault::Stack(19)));
+    (3, &[RET, 3, 0, 0, 0, 0, RET], Some(LoadFault::Stack(19))),
     // The place reaches itself alone.
-    let alone = fault_of_code(rt.alloc(), 2, &[RET, 0x10, 0, 0, 0, 0])?;
-    assert_eq!(rt; alone, None);
-    Ok(())
+    (2, &[RET, 0x10, 0, 0, 0, 0], None),
+];
+
+#[test]
+fn depths_of_places(rt: HostRuntime) -> Result<(), Fail> {
+    compare_code(&rt, rt.alloc(), &DEPTHS)
 }
 
 // A Jump to a Store at the place 3, and from behind it a Jump back to the place 1, where a first instruction stands before a
 // Ret.
-fn below_zero(alloc: Global, first: &[u8]) -> Result<Option<LoadFault>, Memory> {
-    let mut code = Vec::from_slice(alloc, &[0x10, 0, 0, 0, 3])?;
-    code.extend_from_slice(first)?;
-    code.extend_from_slice(&[RET, 3, 0, 0, 0, 0, 0x10, 0xFF, 0xFF, 0xFF, 0xFD])?;
-    fault_of_code(alloc, 5, &code)
-}
+const BELOW_ZERO: [CodeRow; 3] = [
+    // The Push stands at a depth of -1 and pops nothing; the Store pops below 0.
+    (
+        5,
+        &[
+            0x10, 0, 0, 0, 3, // the Jump
+            1, 0, 0, 0, 0, 0, 0, 0, 0, // the Push
+            RET, 3, 0, 0, 0, 0, 0x10, 0xFF, 0xFF, 0xFF, 0xFD,
+        ],
+        Some(LoadFault::Stack(33)),
+    ),
+    // The first Ret stands at a depth of -1, which isn't 0.
+    (
+        5,
+        &[
+            0x10, 0, 0, 0, 3, // the Jump
+            RET, RET, 3, 0, 0, 0, 0, 0x10, 0xFF, 0xFF, 0xFF, 0xFD,
+        ],
+        Some(LoadFault::Stack(23)),
+    ),
+    // The Not pops at a depth of -1.
+    (
+        5,
+        &[
+            0x10, 0, 0, 0, 3, // the Jump
+            0x0F, RET, 3, 0, 0, 0, 0, 0x10, 0xFF, 0xFF, 0xFF, 0xFD,
+        ],
+        Some(LoadFault::Stack(23)),
+    ),
+];
 
 #[test]
 fn only_a_pop_falls_below_zero(rt: HostRuntime) -> Result<(), Fail> {
-    // The Push stands at a depth of -1 and pops nothing; the Store pops below 0.
-    let push = below_zero(rt.alloc(), &PUSH)?;
-    assert_eq!(rt; push, Some(LoadFault::Stack(33)));
-    // The first Ret stands at a depth of -1, which isn't 0.
-    let ret = below_zero(rt.alloc(), &[RET])?;
-    assert_eq!(rt; ret, Some(LoadFault::Stack(23)));
-    // The Not pops at a depth of -1.
-    let not = below_zero(rt.alloc(), &[0x0F])?;
-    assert_eq!(rt; not, Some(LoadFault::Stack(23)));
-    Ok(())
+    compare_code(&rt, rt.alloc(), &BELOW_ZERO)
 }
 
-// A first instruction, a Push, and a Jump back to it.
-fn deeper_each_time(alloc: Global, first: &[u8], count: u32) -> Result<Option<LoadFault>, Memory> {
-    let mut code = Vec::from_slice(alloc, first)?;
-    code.extend_from_slice(&PUSH)?;
-    code.extend_from_slice(&[0x10, 0xFF, 0xFF, 0xFF, 0xFF])?;
-    fault_of_code(alloc, count, &code)
-}
+// A Push and a Jump back to it, alone and behind a Ret.
+const TWO_DEPTHS: [CodeRow; 2] = [
+    (
+        2,
+        &[1, 0, 0, 0, 0, 0, 0, 0, 0, 0x10, 0xFF, 0xFF, 0xFF, 0xFF],
+        Some(LoadFault::Stack(18)),
+    ),
+    (
+        3,
+        &[RET, 1, 0, 0, 0, 0, 0, 0, 0, 0, 0x10, 0xFF, 0xFF, 0xFF, 0xFF],
+        Some(LoadFault::Stack(19)),
+    ),
+];
 
 #[test]
 fn two_depths(rt: HostRuntime) -> Result<(), Fail> {
-    let reached = deeper_each_time(rt.alloc(), &[], 2)?;
-    assert_eq!(rt; reached, Some(LoadFault::Stack(18)));
-    let alone = deeper_each_time(rt.alloc(), &[RET], 3)?;
-    assert_eq!(rt; alone, Some(LoadFault::Stack(19)));
-    Ok(())
+    compare_code(&rt, rt.alloc(), &TWO_DEPTHS)
 }
 
 // So many Pushes and a Ret.
@@ -274,13 +356,28 @@ fn pushes(alloc: Global, count: u32) -> Result<Option<LoadFault>, Memory> {
     fault_of_code(alloc, count.saturating_add(1), &code)
 }
 
+// So many Pushes, and the fault.
+const PUSHES: [(u32, Option<LoadFault>); 4] = [
+    (0, None),
+    (1, Some(LoadFault::Stack(27))),
+    (1001, Some(LoadFault::Stack(9027))),
+    (1002, Some(LoadFault::Stack(9027))),
+];
+
+fn compare_pushes(
+    rt: &impl Abort,
+    alloc: Global,
+    rows: &[(u32, Option<LoadFault>)],
+) -> Result<(), Fail> {
+    for (count, fault) in rows {
+        assert_eq!(rt; pushes(alloc, *count)?, *fault, "{count}");
+    }
+    Ok(())
+}
+
 #[test]
 fn depth_of_a_thousand(rt: HostRuntime) -> Result<(), Fail> {
-    assert_eq!(rt; pushes(rt.alloc(), 0)?, None);
-    assert_eq!(rt; pushes(rt.alloc(), 1)?, Some(LoadFault::Stack(27)));
-    assert_eq!(rt; pushes(rt.alloc(), 1001)?, Some(LoadFault::Stack(9027)));
-    assert_eq!(rt; pushes(rt.alloc(), 1002)?, Some(LoadFault::Stack(9027)));
-    Ok(())
+    compare_pushes(&rt, rt.alloc(), &PUSHES)
 }
 
 // From the first place to the last, and from each back to the one before it, down to a Ret.
@@ -300,11 +397,23 @@ fn a_million_jumps_back(rt: HostRuntime) -> Result<(), Fail> {
     Ok(())
 }
 
+// A fault and its text.
+const SHOWN: [(LoadFault, &str); 2] = [
+    (LoadFault::Version(9), "Version at 4"),
+    (LoadFault::Short(17), "Short at 17"),
+];
+
+fn compare_shown(rt: &impl Abort, alloc: Global, rows: &[(LoadFault, &str)]) -> Result<(), Fail> {
+    for (fault, text) in rows {
+        assert!(rt;
+            std::format!(in alloc; "{fault}")?.as_str() == *text,
+            "{text}"
+        );
+    }
+    Ok(())
+}
+
 #[test]
 fn faults_are_shown(rt: HostRuntime) -> Result<(), Fail> {
-    assert!(rt;
-        std::format!(in rt.alloc(); "{}", LoadFault::Version(9))?.as_str() == "Version at 4"
-    );
-    assert!(rt; std::format!(in rt.alloc(); "{}", LoadFault::Short(17))?.as_str() == "Short at 17");
-    Ok(())
+    compare_shown(&rt, rt.alloc(), &SHOWN)
 }

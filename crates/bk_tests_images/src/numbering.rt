@@ -1,6 +1,7 @@
 // Names and their numbers.
 
 use bk_names::Names;
+use std::process::Abort;
 use std::test::Fail;
 
 // The number of a text, where there was memory.
@@ -30,20 +31,27 @@ fn gets(names: &mut Names, text: &str, wanted: u32, len: usize) -> Result<bool, 
     )
 }
 
-#[test]
-fn numbers_in_first_seen_order(rt: HostRuntime) -> Result<(), Fail> {
-    let mut names = Names::new(rt.alloc());
+// A text, its number, and how many names there are then.
+const NUMBERED: [(&str, u32, usize); 6] = [
+    ("xx", 0, 1),
+    ("yy", 1, 2),
+    ("xx", 0, 2),
+    ("x", 2, 3),
+    ("", 3, 4),
+    ("yy", 1, 4),
+];
+
+fn compare(rt: &impl Abort, names: &mut Names, rows: &[(&str, u32, usize)]) -> Result<(), Fail> {
     assert!(rt; names.find(b"xx").is_none());
-    for (text, number, len) in [
-        ("xx", 0, 1),
-        ("yy", 1, 2),
-        ("xx", 0, 2),
-        ("x", 2, 3),
-        ("", 3, 4),
-        ("yy", 1, 4),
-    ] {
-        assert!(rt; gets(&mut names, text, number, len)?, "{text}");
+    for (text, number, len) in rows {
+        assert!(rt; gets(names, text, *number, *len)?, "{text}");
     }
     assert!(rt; names.find(b"xxx").is_none());
     Ok(())
+}
+
+#[test]
+fn numbers_in_first_seen_order(rt: HostRuntime) -> Result<(), Fail> {
+    let mut names = Names::new(rt.alloc());
+    compare(&rt, &mut names, &NUMBERED)
 }

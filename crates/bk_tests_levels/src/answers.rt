@@ -17,6 +17,8 @@ use bk_lex::tokens;
 use bk_p_comp::component;
 use bk_raw::{ComponentKind, RawComponent};
 use std::alloc::Global;
+use std::process::Abort;
+use std::test::Fail;
 
 /// MAXINT.
 pub(crate) const MAX: i64 = 2147483647;
@@ -47,7 +49,7 @@ impl Marked {
 }
 
 /// What is told of a text.
-#[derive(Clone, Copy, PartialEq, Eq, Debug)]
+#[derive(Clone, Copy, PartialEq)]
 pub(crate) enum Told {
     Nothing,
     /// The number of the fault and its byte.
@@ -194,13 +196,8 @@ pub(crate) fn answer_of(alloc: Global, above: &[&str], text: &str) -> Result<Ans
     answer_below(alloc, marked.text.as_slice(), development)
 }
 
-/// Whether the text below the others is at fault with this number, at its marker; or is accepted, where the number is 0.
-pub(crate) fn is_told(
-    alloc: Global,
-    above: &[&str],
-    text: &str,
-    number: u8,
-) -> Result<bool, Memory> {
+// Whether the text below the others is at fault with this number, at its marker; or is accepted, where the number is 0.
+fn is_told(alloc: Global, above: &[&str], text: &str, number: u8) -> Result<bool, Memory> {
     let marked = Marked::of(alloc, text)?;
     let wanted = if number == 0 {
         Told::Nothing
@@ -210,10 +207,41 @@ pub(crate) fn is_told(
     Ok(answer_of(alloc, above, text)?.told == wanted)
 }
 
+/// Texts that stand below each other, and texts that each stand below the last of them.
+pub(crate) type Group = (&'static [&'static str], &'static [&'static str]);
+
+/// Sees that each text below the others is at fault with this number, at its marker; or is accepted, where the number is 0.
+pub(crate) fn compare(
+    rt: &impl Abort,
+    alloc: Global,
+    above: &[&str],
+    number: u8,
+    texts: &[&str],
+) -> Result<(), Fail> {
+    for text in texts {
+        let found = is_told(alloc, above, text, number)?;
+        assert!(rt; found, "{text}");
+    }
+    Ok(())
+}
+
+/// The same of groups of texts.
+pub(crate) fn compare_below(
+    rt: &impl Abort,
+    alloc: Global,
+    number: u8,
+    groups: &[Group],
+) -> Result<(), Fail> {
+    for (above, texts) in groups {
+        compare(rt, alloc, above, number, texts)?;
+    }
+    Ok(())
+}
+
 // The substitutions of the operations, as they are noted.
 fn meaning(alloc: Global, front: &str, body: &str) -> Result<Option<Vec<u8>>, Memory> {
     let text = format!(in alloc; "{front}{body} END")?;
-    match answer_of(alloc, [].as_slice(), text.as_str())?.development {
+    match answer_of(alloc, &[], text.as_str())?.development {
         Some(development) => Ok(Some(notation(alloc, &development)?)),
         None => Ok(None),
     }

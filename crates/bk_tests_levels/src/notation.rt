@@ -66,63 +66,71 @@ impl Writer<'_> {
         Ok(())
     }
 
-    fn substitution(&mut self, sub: &Sub) -> Result<(), Memory> {
+    fn chosen(&mut self, test: &Form) -> Result<(), Memory> {
+        self.opened(" (if", test)?;
+        self.word(" (")
+    }
+
+    // What stands before the parts of a substitution.
+    fn begun(&mut self, sub: &Sub) -> Result<(), Memory> {
         match &*sub.node {
-            SubNode::Skip => return self.word(" skip"),
-            SubNode::Assign(terms) => return self.assigned(terms),
-            SubNode::BecomesSuch(pairs, predicate) => return self.such(pairs, predicate),
-            SubNode::Pre(condition, body) => {
-                self.opened(" (pre", condition)?;
-                self.substitution(body)?;
-            }
-            SubNode::Guard(condition, body) => {
-                self.opened(" (guard", condition)?;
-                self.substitution(body)?;
-            }
-            SubNode::Assert(condition, body) => {
-                self.opened(" (assert", condition)?;
-                self.substitution(body)?;
-            }
-            SubNode::Choice(first, second) => {
-                self.word(" (choice")?;
-                self.substitution(first)?;
-                self.substitution(second)?;
-            }
-            SubNode::Seq(first, second) => {
-                self.word(" (seq")?;
-                self.substitution(first)?;
-                self.substitution(second)?;
-            }
-            SubNode::Par(left, right) => {
-                self.word(" (par")?;
-                self.substitution(left)?;
-                self.substitution(right)?;
-            }
-            SubNode::If(test, yes, no) => {
-                self.opened(" (if", test)?;
-                self.word(" (")?;
-                self.substitution(yes)?;
-                self.substitution(no)?;
-                self.word(")")?;
-            }
-            SubNode::Any(locals, body) => {
-                self.bound(locals)?;
-                self.substitution(body)?;
-            }
+            SubNode::Skip => self.word(" skip"),
+            SubNode::Assign(terms) => self.assigned(terms),
+            SubNode::BecomesSuch(pairs, predicate) => self.such(pairs, predicate),
+            SubNode::Pre(condition, _) => self.opened(" (pre", condition),
+            SubNode::Guard(condition, _) => self.opened(" (guard", condition),
+            SubNode::Assert(condition, _) => self.opened(" (assert", condition),
+            SubNode::Choice(_, _) => self.word(" (choice"),
+            SubNode::Seq(_, _) => self.word(" (seq"),
+            SubNode::Par(_, _) => self.word(" (par"),
+            SubNode::If(test, _, _) => self.chosen(test),
+            SubNode::Any(locals, _) => self.bound(locals),
+            SubNode::While { test, .. } => self.opened(" (while", test),
+        }
+    }
+
+    fn repeated(&mut self, invariant: &Form, variant: &Form) -> Result<(), Memory> {
+        self.word(")")?;
+        self.formula(invariant)?;
+        self.formula(variant)
+    }
+
+    // What stands behind its parts.
+    fn ended(&mut self, sub: &Sub) -> Result<(), Memory> {
+        match &*sub.node {
+            SubNode::Skip | SubNode::Assign(_) | SubNode::BecomesSuch(_, _) => Ok(()),
+            SubNode::If(_, _, _) => self.word("))"),
             SubNode::While {
-                test,
-                body,
                 invariant,
                 variant,
-            } => {
-                self.opened(" (while", test)?;
+                ..
+            } => self.repeated(invariant, variant),
+            _ => self.word(")"),
+        }
+    }
+
+    fn substitution(&mut self, sub: &Sub) -> Result<(), Memory> {
+        self.begun(sub)?;
+        match &*sub.node {
+            SubNode::Skip | SubNode::Assign(_) | SubNode::BecomesSuch(_, _) => {}
+            SubNode::Pre(_, body) | SubNode::Guard(_, body) | SubNode::Assert(_, body) => {
                 self.substitution(body)?;
-                self.word(")")?;
-                self.formula(invariant)?;
-                return self.formula(variant);
+            }
+            SubNode::Any(_, body) | SubNode::While { body, .. } => self.substitution(body)?,
+            SubNode::Choice(first, second) => {
+                self.substitution(first)?;
+                self.substitution(second)?;
+            }
+            SubNode::Seq(first, second) | SubNode::Par(first, second) => {
+                self.substitution(first)?;
+                self.substitution(second)?;
+            }
+            SubNode::If(_, yes, no) => {
+                self.substitution(yes)?;
+                self.substitution(no)?;
             }
         }
-        self.word(")")
+        self.ended(sub)
     }
 }
 

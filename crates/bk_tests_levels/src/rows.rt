@@ -1,6 +1,6 @@
 // The developments of the rows, and the row of faults.
 
-use crate::answers::{Told, Untold, answer_of, is_told};
+use crate::answers::{Group, Told, Untold, answer_of, compare_below};
 use crate::notation::notation;
 use crate::row_texts::{
     COUNTER, COUNTER_E, COUNTER_I, COUNTER_R, LAMP, LAMP_I, POWER_I, TABLE, TABLE_I, TALLY,
@@ -9,6 +9,7 @@ use crate::row_texts::{
 use bk_dev::{Development, Home};
 use bk_form::{ArrayDomain, ArrayRow, Ty};
 use std::alloc::Global;
+use std::process::Abort;
 use std::test::Fail;
 
 // The development of the text below the others, where it is accepted.
@@ -20,24 +21,31 @@ fn development(alloc: Global, above: &[&str], text: &str) -> Result<Box<Developm
 
 // ---- the row of faults
 
-#[test]
-fn the_first_fault_is_told(rt: HostRuntime) -> Result<(), Fail> {
-    let alloc = rt.alloc();
-    for (above, text, told) in [
-        // A variable is written twice.
-        ([].as_slice(), TWICE_WRITTEN, Told::Fault(12, 59)),
-        // The components of a project whose proofs are at fault.
-        ([TALLY].as_slice(), TALLY_I, Told::Nothing),
-        // A variable is declared twice.
-        ([].as_slice(), TWICE_DECLARED, Told::Fault(6, 23)),
-        // A power in an implementation.
-        ([COUNTER_E].as_slice(), POWER_I, Told::Fault(11, 150)),
-        // A name that is not in sight; nothing stands below it.
-        ([].as_slice(), UNSEEN, Told::Fault(7, 140)),
-    ] {
-        assert!(rt; answer_of(alloc, above, text)?.told == told);
+// Texts above, a text, and what is told of it.
+const FIRST_FAULTS: [(&[&str], &str, Told); 5] = [
+    // A variable is written twice.
+    (&[], TWICE_WRITTEN, Told::Fault(12, 59)),
+    // The components of a project whose proofs are at fault.
+    (&[TALLY], TALLY_I, Told::Nothing),
+    // A variable is declared twice.
+    (&[], TWICE_DECLARED, Told::Fault(6, 23)),
+    // A power in an implementation.
+    (&[COUNTER_E], POWER_I, Told::Fault(11, 150)),
+    // A name that is not in sight; nothing stands below it.
+    (&[], UNSEEN, Told::Fault(7, 140)),
+];
+
+fn compare(rt: &impl Abort, alloc: Global, rows: &[(&[&str], &str, Told)]) -> Result<(), Fail> {
+    for (above, text, wanted) in rows {
+        let found = answer_of(alloc, above, text)?.told;
+        assert!(rt; found == *wanted);
     }
     Ok(())
+}
+
+#[test]
+fn the_first_fault_is_told(rt: HostRuntime) -> Result<(), Fail> {
+    compare(&rt, rt.alloc(), &FIRST_FAULTS)
 }
 
 // ---- what the rows' developments are
@@ -56,18 +64,24 @@ fn is_variable(development: &Development, number: u32, text: &str, ty: &Ty, home
 }
 
 // Each level has its n and its r; n is linked to the one above.
-fn is_chain(development: &Development) -> bool {
-    let number = Ty::int();
-    [
-        (0, "n$0", Home::Abstract(0)),
-        (1, "r$0", Home::Inner(0)),
-        (2, "n$1", Home::Abstract(1)),
-        (3, "r$1", Home::Inner(1)),
-        (4, "n$2", Home::Concrete(2)),
-        (5, "r$2", Home::Inner(2)),
-    ]
-    .iter()
-    .all(|(at, text, home)| is_variable(development, *at, text, &number, *home))
+const CHAIN: [(u32, &str, Home); 6] = [
+    (0, "n$0", Home::Abstract(0)),
+    (1, "r$0", Home::Inner(0)),
+    (2, "n$1", Home::Abstract(1)),
+    (3, "r$1", Home::Inner(1)),
+    (4, "n$2", Home::Concrete(2)),
+    (5, "r$2", Home::Inner(2)),
+];
+
+fn compare_variables(
+    rt: &impl Abort,
+    development: &Development,
+    ty: &Ty,
+    rows: &[(u32, &str, Home)],
+) {
+    for (at, text, home) in rows {
+        assert!(rt; is_variable(development, *at, text, ty, *home), "{text}");
+    }
 }
 
 // Whether these are the links of the level.
@@ -78,16 +92,21 @@ fn is_linked(development: &Development, level: usize, links: &[(u32, u32)]) -> b
         .is_some_and(|found| found.links.as_slice() == links)
 }
 
+const LINKS: [(usize, &[(u32, u32)]); 3] = [(0, &[]), (1, &[(2, 0)]), (2, &[(4, 2)])];
+
+fn compare_links(rt: &impl Abort, development: &Development, rows: &[(usize, &[(u32, u32)])]) {
+    for (level, links) in rows {
+        assert!(rt; is_linked(development, *level, links), "{level}");
+    }
+}
+
 #[test]
 fn a_chain_of_three(rt: HostRuntime) -> Result<(), Fail> {
     let alloc = rt.alloc();
-    let found = development(alloc, [COUNTER, COUNTER_R].as_slice(), COUNTER_I)?;
-    assert!(rt; is_chain(&found));
-    assert!(rt; found.is_complete());
-    assert!(rt; found.levels.len() == 3);
-    assert!(rt; is_linked(&found, 0, [].as_slice()));
-    assert!(rt; is_linked(&found, 1, [(2, 0)].as_slice()));
-    assert!(rt; is_linked(&found, 2, [(4, 2)].as_slice()));
+    let found = development(alloc, &[COUNTER, COUNTER_R], COUNTER_I)?;
+    compare_variables(&rt, &found, &Ty::int(), &CHAIN);
+    compare_links(&rt, &found, &LINKS);
+    assert!(rt; found.is_complete() && found.levels.len() == 3);
     assert!(rt; found.heads.len() == 3 && found.values.is_empty() && found.sets.is_empty());
     Ok(())
 }
@@ -95,7 +114,7 @@ fn a_chain_of_three(rt: HostRuntime) -> Result<(), Fail> {
 #[test]
 fn operations_of_a_chain(rt: HostRuntime) -> Result<(), Fail> {
     let alloc = rt.alloc();
-    let found = development(alloc, [COUNTER, COUNTER_R].as_slice(), COUNTER_I)?;
+    let found = development(alloc, &[COUNTER, COUNTER_R], COUNTER_I)?;
     let text = notation(alloc, &found)?;
     assert!(rt;
         text.as_slice()
@@ -118,7 +137,7 @@ fn has_header(development: &Development, operation: usize, inputs: &[u32], outpu
 #[test]
 fn an_array_of_numbers(rt: HostRuntime) -> Result<(), Fail> {
     let alloc = rt.alloc();
-    let found = development(alloc, [TABLE].as_slice(), TABLE_I)?;
+    let found = development(alloc, &[TABLE], TABLE_I)?;
     assert!(rt; found.is_complete());
     let arrays = found.arrays(alloc)?;
     let domain = ArrayDomain::Interval { low: 0, high: 9 };
@@ -135,32 +154,30 @@ fn is_set(development: &Development, number: usize, name: &[u8], elements: usize
         && set.elements.len() == elements)
 }
 
+const COLOURS: [(u32, &str, Home); 4] = [
+    (0, "col$0", Home::Abstract(0)),
+    (1, "cc$0", Home::Inner(0)),
+    (2, "col$1", Home::Concrete(1)),
+    (3, "cc$1", Home::Inner(1)),
+];
+
 // The set of the machine stands in the table and among the sets, and its variables have its type.
 #[test]
 fn an_enumerated_set(rt: HostRuntime) -> Result<(), Fail> {
     let alloc = rt.alloc();
-    let found = development(alloc, [LAMP].as_slice(), LAMP_I)?;
+    let found = development(alloc, &[LAMP], LAMP_I)?;
     assert!(rt; is_set(&found, 0, b"COLOR".as_slice(), 3));
-    let colour = Ty::enumerated(0);
-    assert!(rt; is_variable(&found, 0, "col$0", &colour, Home::Abstract(0)));
-    assert!(rt; is_variable(&found, 1, "cc$0", &colour, Home::Inner(0)));
-    assert!(rt; is_variable(&found, 2, "col$1", &colour, Home::Concrete(1)));
-    assert!(rt; is_variable(&found, 3, "cc$1", &colour, Home::Inner(1)));
+    compare_variables(&rt, &found, &Ty::enumerated(0), &COLOURS);
     Ok(())
 }
 
-// The texts without markers are those of the rows: their chains are accepted.
+// The texts of the rows: their chains are accepted.
+const ACCEPTED: [Group; 2] = [
+    (&[], &[COUNTER, TABLE, LAMP, TALLY]),
+    (&[COUNTER], &[COUNTER_R]),
+];
+
 #[test]
 fn all_are_read(rt: HostRuntime) -> Result<(), Fail> {
-    let alloc = rt.alloc();
-    for (above, text) in [
-        ([].as_slice(), COUNTER),
-        ([COUNTER].as_slice(), COUNTER_R),
-        ([].as_slice(), TABLE),
-        ([].as_slice(), LAMP),
-        ([].as_slice(), TALLY),
-    ] {
-        assert!(rt; is_told(alloc, above, text, 0)?);
-    }
-    Ok(())
+    compare_below(&rt, rt.alloc(), 0, &ACCEPTED)
 }

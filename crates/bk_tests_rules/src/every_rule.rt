@@ -1,5 +1,6 @@
 // Each rule where it is a step, against the sequents that come of it, and where it is none.
 
+use crate::reading::rules;
 use crate::rule_texts::{
     CASES, CLOSING, CONNECTIVES, DECIDED_AND_TYPED, EQUATIONS_AND_LAWS, HYPOTHESES, MEMBERS,
     NOT_CLOSING, OTHER_CASES, OTHER_CONNECTIVES, OTHER_EQUATIONS_AND_LAWS, OTHER_HYPOTHESES,
@@ -8,10 +9,11 @@ use crate::rule_texts::{
 use crate::rules::results;
 use crate::stating::{no_steps, steps};
 use bk_bind::GREATEST_HEIGHT;
+use bk_bracketed::Unread;
 use bk_fixtures::{always, unary};
 use bk_form::{Form, UnOp, VarTable};
 use bk_io::Memory;
-use bk_kernel::{Rule, StepFault};
+use bk_kernel::StepFault;
 use bk_seq::Sequent;
 use std::alloc::Global;
 use std::test::Fail;
@@ -76,11 +78,12 @@ fn denied(alloc: Global, height: u32) -> Result<Form, Memory> {
 }
 
 // What hinders the denial of a goal of this height.
-fn hindrance(alloc: Global, height: u32) -> Result<Option<StepFault>, Memory> {
+fn hindrance(alloc: Global, height: u32) -> Result<Option<StepFault>, Unread> {
     let table = VarTable::new(alloc);
+    let rules = rules(alloc, &["contra"])?;
     let goal = denied(alloc, height)?;
     let hyps = Vec::new(alloc);
-    Ok(results(alloc, &table, Sequent { hyps, goal }, &Rule::Contra).err())
+    Ok(results(alloc, &table, Sequent { hyps, goal }, &rules).err())
 }
 
 #[test]

@@ -1,166 +1,133 @@
 // Each kind of obvious sequent, and neighbours that are none.
 
-use bk_fixtures::{binary, interval, leaf, literal, of_variables, variable, within};
-use bk_form::{BinOp, Domain, Form, Part, Ty};
+use crate::reading::{Claim, sequent};
+use bk_fixtures::{binary, leaf, variable};
+use bk_form::{BinOp, Domain, Form, Part};
 use bk_io::Memory;
 use bk_kernel::is_obvious;
 use bk_seq::Sequent;
 use std::alloc::Global;
+use std::process::Abort;
 use std::test::Fail;
 
-// `low op high` of two numbers.
-fn numbers(alloc: Global, op: BinOp, low: i128, high: i128) -> Result<Form, Memory> {
-    binary(alloc, op, literal(alloc, low)?, literal(alloc, high)?)
+// A sequent, and whether it is obvious.
+type Row = (Claim<'static>, bool);
+
+// Sees that these sequents are obvious and those are not.
+fn compare(rt: &impl Abort, alloc: Global, list: &[Row]) -> Result<(), Fail> {
+    for (claim, wanted) in list {
+        let found = is_obvious(&sequent(alloc, *claim)?);
+        assert!(rt; found == *wanted, "{} |- {}", claim.0, claim.1);
+    }
+    Ok(())
 }
 
-// `element : 0 .. 10`
-fn in_ten(alloc: Global, element: Form) -> Result<Form, Memory> {
-    binary(alloc, BinOp::In, element, interval(alloc, 0, 10)?)
-}
+const THREE: &str = "q, ( x : ( 0 .. 10 ) ), z";
 
-// Whether the goal is obvious under no hypothesis.
-fn alone(alloc: Global, goal: Form) -> bool {
-    is_obvious(&Sequent {
-        hyps: Vec::new(alloc),
-        goal,
-    })
-}
+const HYPOTHESES: [Row; 5] = [
+    ((THREE, "( x : ( 0 .. 10 ) )"), true),
+    ((THREE, "( y : ( 0 .. 10 ) )"), false),
+    (("", "( x : ( 0 .. 10 ) )"), false),
+    ((THREE, "q"), true),
+    ((THREE, "z"), true),
+];
 
-fn member(alloc: Global, element: Form, domain: Domain) -> Result<bool, Memory> {
-    let domain = leaf(alloc, Part::Name(domain))?;
-    Ok(alone(alloc, binary(alloc, BinOp::In, element, domain)?))
-}
+const COMPARISONS: [Row; 8] = [
+    (("", "( 3 = 3 )"), true),
+    (("", "( 3 = 4 )"), false),
+    (("", "( 4 < 5 )"), true),
+    (("", "( 5 < 5 )"), false),
+    (("", "( 0 <= 5 )"), true),
+    (("", "( 5 <= 5 )"), true),
+    (("", "( 6 <= 5 )"), false),
+    (("", "( 3 + 3 )"), false),
+];
 
-// x0 : 0 .. 10 is the second hypothesis of three
-fn three(alloc: Global, goal: Form) -> Result<Sequent, Memory> {
-    let first = variable(alloc, 7)?;
-    let second = within(alloc, 0, 0, 10)?;
-    let hyps = vec![in alloc; first, second, variable(alloc, 8)?]?;
-    Ok(Sequent { hyps, goal })
-}
+const COMPARISONS_OF_VARIABLES: [Row; 3] = [
+    (("", "( x = x )"), true),
+    (("", "( x = y )"), false),
+    (("", "( x <= x )"), false),
+];
+
+const COMPARISONS_OF_SUMS: [Row; 2] = [
+    (("", "( ( 1 + 2 ) = 3 )"), true),
+    (("", "( ( 2147483647 + 1 ) <= 2147483647 )"), false),
+];
+
+const MEMBERSHIPS: [Row; 5] = [
+    (("", "( 0 : ( 0 .. 10 ) )"), true),
+    (("", "( 10 : ( 0 .. 10 ) )"), true),
+    (("", "( 11 : ( 0 .. 10 ) )"), false),
+    (("", "( -1 : ( 0 .. 10 ) )"), false),
+    (("", "( x : ( 0 .. 10 ) )"), false),
+];
+
+const MEMBERSHIPS_OF_DOMAINS: [Row; 7] = [
+    (("", "( 0 : NATURAL )"), true),
+    (("", "( -1 : NATURAL )"), false),
+    (("", "( 1 : NATURAL1 )"), true),
+    (("", "( 0 : NATURAL1 )"), false),
+    (("", "( x : NATURAL )"), false),
+    (("", "( x : INTEGER )"), true),
+    (("", "( x : BOOL )"), true),
+];
+
+const MEMBERSHIP_OF_NOTHING: [Row; 1] = [(("", "( x : {}i )"), false)];
+
+// no closed sum, since it is too wide
+const WIDE_SUMS: [Row; 1] = [(
+    (
+        "",
+        "( 0 <= ( 170141183460469231731687303715884105727 + 1 ) )",
+    ),
+    false,
+)];
 
 #[test]
 fn hypotheses(rt: HostRuntime) -> Result<(), Fail> {
-    let alloc = rt.alloc();
-    let same = within(alloc, 0, 0, 10)?;
-    let other = within(alloc, 1, 0, 10)?;
-    assert!(rt; is_obvious(&three(alloc, same.copy(alloc)?)?));
-    assert!(rt; !is_obvious(&three(alloc, other)?));
-    assert!(rt; !alone(alloc, same));
-    assert!(rt; is_obvious(&three(alloc, variable(alloc, 7)?)?));
-    assert!(rt; is_obvious(&three(alloc, variable(alloc, 8)?)?));
-    Ok(())
+    compare(&rt, rt.alloc(), &HYPOTHESES)
 }
 
 #[test]
 fn comparisons(rt: HostRuntime) -> Result<(), Fail> {
-    let alloc = rt.alloc();
-    let cases = [
-        (BinOp::Eq, 3, 3, true),
-        (BinOp::Eq, 3, 4, false),
-        (BinOp::Lt, 4, 5, true),
-        (BinOp::Lt, 5, 5, false),
-        (BinOp::Le, 0, 5, true),
-        (BinOp::Le, 5, 5, true),
-        (BinOp::Le, 6, 5, false),
-        (BinOp::Add, 3, 3, false),
-    ];
-    for (op, low, high, wanted) in cases {
-        let goal = numbers(alloc, op, low, high)?;
-        assert!(rt; alone(alloc, goal) == wanted, "{low} and {high}");
-    }
-    Ok(())
+    compare(&rt, rt.alloc(), &COMPARISONS)
 }
 
-// x0 = x0, x0 = x1, x0 <= x0
 #[test]
 fn comparisons_of_variables(rt: HostRuntime) -> Result<(), Fail> {
-    let alloc = rt.alloc();
-    let cases = [
-        (BinOp::Eq, 0, true),
-        (BinOp::Eq, 1, false),
-        (BinOp::Le, 0, false),
-    ];
-    for (op, other, wanted) in cases {
-        let goal = of_variables(alloc, op, 0, other)?;
-        assert!(rt; alone(alloc, goal) == wanted, "x0 and x{other}");
-    }
-    Ok(())
+    compare(&rt, rt.alloc(), &COMPARISONS_OF_VARIABLES)
 }
 
 #[test]
 fn comparisons_of_sums(rt: HostRuntime) -> Result<(), Fail> {
-    let alloc = rt.alloc();
-    // 1 + 2 = 3
-    let sum = numbers(alloc, BinOp::Add, 1, 2)?;
-    let goal = binary(alloc, BinOp::Eq, sum, literal(alloc, 3)?)?;
-    assert!(rt; alone(alloc, goal));
-
-    // 2147483647 + 1 <= 2147483647
-    let sum = numbers(alloc, BinOp::Add, 2147483647, 1)?;
-    let goal = binary(alloc, BinOp::Le, sum, literal(alloc, 2147483647)?)?;
-    assert!(rt; !alone(alloc, goal));
-    Ok(())
+    compare(&rt, rt.alloc(), &COMPARISONS_OF_SUMS)
 }
 
 #[test]
 fn memberships(rt: HostRuntime) -> Result<(), Fail> {
-    let alloc = rt.alloc();
-    for (element, wanted) in [(0, true), (10, true), (11, false), (-1, false)] {
-        let goal = in_ten(alloc, literal(alloc, element)?)?;
-        assert!(rt; alone(alloc, goal) == wanted, "{element} : 0 .. 10");
-    }
-    assert!(rt; !alone(alloc, within(alloc, 0, 0, 10)?));
-    Ok(())
+    compare(&rt, rt.alloc(), &MEMBERSHIPS)
+}
+
+// x : the enumerated set of number 2
+fn in_enumerated(alloc: Global) -> Result<Form, Memory> {
+    let set = leaf(alloc, Part::Name(Domain::Enum(2)))?;
+    binary(alloc, BinOp::In, variable(alloc, 0)?, set)
 }
 
 #[test]
 fn memberships_of_domains(rt: HostRuntime) -> Result<(), Fail> {
-    let alloc = rt.alloc();
-    let cases = [
-        (0, Domain::Natural, true),
-        (-1, Domain::Natural, false),
-        (1, Domain::Natural1, true),
-        (0, Domain::Natural1, false),
-    ];
-    for (element, domain, wanted) in cases {
-        let element = literal(alloc, element)?;
-        assert!(rt; member(alloc, element, domain)? == wanted);
-    }
-    let cases = [
-        (Domain::Natural, false),
-        (Domain::Integer, true),
-        (Domain::Bool, true),
-        (Domain::Enum(2), true),
-    ];
-    for (domain, wanted) in cases {
-        let element = variable(alloc, 0)?;
-        assert!(rt; member(alloc, element, domain)? == wanted);
-    }
-    Ok(())
+    let hyps = Vec::new(rt.alloc());
+    let goal = in_enumerated(rt.alloc())?;
+    assert!(rt; is_obvious(&Sequent { hyps, goal }));
+    compare(&rt, rt.alloc(), &MEMBERSHIPS_OF_DOMAINS)
 }
 
-// x0 : {}
 #[test]
 fn membership_of_nothing(rt: HostRuntime) -> Result<(), Fail> {
-    let alloc = rt.alloc();
-    let empty = leaf(alloc, Part::Empty(Ty::int()))?;
-    let goal = binary(alloc, BinOp::In, variable(alloc, 0)?, empty)?;
-    assert!(rt; !alone(alloc, goal));
-    Ok(())
+    compare(&rt, rt.alloc(), &MEMBERSHIP_OF_NOTHING)
 }
 
-// 0 <= largest + 1: no closed sum, since it is too wide
 #[test]
 fn wide_sums(rt: HostRuntime) -> Result<(), Fail> {
-    let alloc = rt.alloc();
-    let past = numbers(
-        alloc,
-        BinOp::Add,
-        170141183460469231731687303715884105727,
-        1,
-    )?;
-    let goal = binary(alloc, BinOp::Le, literal(alloc, 0)?, past)?;
-    assert!(rt; !alone(alloc, goal));
-    Ok(())
+    compare(&rt, rt.alloc(), &WIDE_SUMS)
 }

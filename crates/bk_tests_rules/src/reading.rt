@@ -1,6 +1,7 @@
 // Rules and sequents as texts. A rule is its word, then numbers or names, then a place, and behind ` : ` its terms between
 // commas, as in `eq 2 hyp 1 1`, `fix u w`, `inst 1 : ( x + 1 ), s`, or `law 201 goal 1 : x, s, t`. A law is told by its number.
-// The numbers of `lin` are those of hypotheses, and behind ` : ` stand those of the facts that are added up.
+// The numbers of `lin` are those of hypotheses, and behind ` : ` stand its lines between `|`: the facts that are added up, or
+// `1 / 2` for the first fact divided by two.
 
 use bk_bracketed::{Unread, formula};
 use bk_form::Form;
@@ -16,20 +17,8 @@ pub(crate) const TYPES: [&str; 12] = [
     "i", "i", "i", "i", "Pi", "Pi", "PXib", "PXbc", "Xib", "b", "c", "PXii",
 ];
 
-// The hypotheses and the goal.
-pub(crate) type Claim<'a> = (&'a [&'a str], &'a str);
-
-pub(crate) fn form(alloc: Global, text: &str) -> Result<Form, Unread> {
-    formula(alloc, LETTERS, text)
-}
-
-pub(crate) fn forms(alloc: Global, texts: &[&str]) -> Result<Vec<Form>, Unread> {
-    let mut forms = Vec::new(alloc);
-    for text in texts {
-        forms.push(form(alloc, text)?)?;
-    }
-    Ok(forms)
-}
+// The hypotheses, between commas, and the goal.
+pub(crate) type Claim<'a> = (&'a str, &'a str);
 
 pub(crate) fn sequent(alloc: Global, claim: Claim<'_>) -> Result<Sequent, Unread> {
     let hyps = forms(alloc, claim.0)?;
@@ -37,50 +26,61 @@ pub(crate) fn sequent(alloc: Global, claim: Claim<'_>) -> Result<Sequent, Unread
     Ok(Sequent { hyps, goal })
 }
 
-// ---- parts of rules
-// What stands before the terms.
-#[derive(Drop)]
-struct Head<'a> {
-    word: &'a str,
-    numbers: Vec<u32>,
-    place: Option<Place>,
+fn form(alloc: Global, text: &str) -> Result<Form, Unread> {
+    formula(alloc, LETTERS, text)
 }
 
-fn head_of(alloc: Global, text: &str) -> Result<Head<'_>, Unread> {
-    let (word, rest) = text.split_once(" ").unwrap_or((text, ""));
-    if let Some((before, path)) = rest.split_once("goal") {
-        let place = Some(Place::Goal(numbers(alloc, path)?));
-        let numbers = numbers(alloc, before)?;
-        return Ok(Head {
-            word,
-            numbers,
-            place,
-        });
+// The formulas between commas.
+fn forms(alloc: Global, text: &str) -> Result<Vec<Form>, Unread> {
+    let mut forms = Vec::new(alloc);
+    if text.is_empty() {
+        return Ok(forms);
     }
-    if let Some((before, path)) = rest.split_once("hyp") {
-        let place = Some(in_hypothesis(alloc, path)?);
-        let numbers = numbers(alloc, before)?;
-        return Ok(Head {
-            word,
-            numbers,
-            place,
-        });
+    for part in text.split(',') {
+        forms.push(form(alloc, part)?)?;
     }
-    let numbers = numbers(alloc, rest)?;
-    Ok(Head {
+    Ok(forms)
+}
+
+// ---- parts of rules
+// A text that is cut into the parts of a rule.
+#[derive(Clone, Copy)]
+struct Written<'a> {
+    word: &'a str,
+    numbers: &'a str,
+    place: Spot<'a>,
+    // Terms, or the lines of a certificate.
+    behind: &'a str,
+}
+
+// Where a rule works. The number of a hypothesis stands before the path in it.
+#[derive(Clone, Copy)]
+enum Spot<'a> {
+    Nowhere,
+    Goal(&'a str),
+    Hyp(&'a str),
+}
+
+fn cut(text: &str) -> Written<'_> {
+    let (before, behind) = text.split_once(" : ").unwrap_or((text, ""));
+    let (word, rest) = before.split_once(" ").unwrap_or((before, ""));
+    let (numbers, place) = numbers_and_spot(rest);
+    Written {
         word,
         numbers,
-        place: None,
-    })
+        place,
+        behind,
+    }
 }
 
-fn in_hypothesis(alloc: Global, text: &str) -> Result<Place, Unread> {
-    let mut path = numbers(alloc, text)?;
-    if path.is_empty() {
-        return Err(Unread::Text);
+fn numbers_and_spot(text: &str) -> (&str, Spot<'_>) {
+    if let Some((numbers, path)) = text.split_once("goal") {
+        return (numbers, Spot::Goal(path));
     }
-    let number = path.remove(0);
-    Ok(Place::Hyp(number, path))
+    match text.split_once("hyp") {
+        Some((numbers, path)) => (numbers, Spot::Hyp(path)),
+        None => (text, Spot::Nowhere),
+    }
 }
 
 // Numbers, and the letters of variables, which stand for theirs.
@@ -99,54 +99,61 @@ fn number(word: &str) -> Result<u32, Unread> {
     word.parse::<u32>().ok().ok_or(Unread::Text)
 }
 
-// The terms between commas.
-fn terms(alloc: Global, text: &str) -> Result<Vec<Form>, Unread> {
-    let mut terms = Vec::new(alloc);
-    push_terms(alloc, &mut terms, text, 9)?;
-    Ok(terms)
-}
-
-// Adds so many terms at most.
-fn push_terms(alloc: Global, terms: &mut Vec<Form>, text: &str, most: u32) -> Result<(), Unread> {
-    if most == 0 {
+// The first number, and the others.
+fn first_and_others(alloc: Global, text: &str) -> Result<(u32, Vec<u32>), Unread> {
+    let mut numbers = numbers(alloc, text)?;
+    if numbers.is_empty() {
         return Err(Unread::Text);
     }
-    match text.split_once(", ") {
-        Some((first, others)) => {
-            terms.push(form(alloc, first)?)?;
-            push_terms(alloc, terms, others, most - 1)
-        }
-        None => {
-            terms.push(form(alloc, text)?)?;
-            Ok(())
+    let first = numbers.remove(0);
+    Ok((first, numbers))
+}
+
+fn place(alloc: Global, spot: Spot<'_>) -> Result<Place, Unread> {
+    match spot {
+        Spot::Nowhere => Err(Unread::Text),
+        Spot::Goal(path) => Ok(Place::Goal(numbers(alloc, path)?)),
+        Spot::Hyp(text) => {
+            let (number, path) = first_and_others(alloc, text)?;
+            Ok(Place::Hyp(number, path))
         }
     }
 }
 
 // ---- rules
-pub(crate) fn rule(alloc: Global, text: &str) -> Result<Rule, Unread> {
-    let (before, behind) = text.split_once(" : ").unwrap_or((text, ""));
-    let head = head_of(alloc, before)?;
-    if behind.is_empty() {
-        return without_terms(head);
+// A rule has many variants, and each exit behind one that is owned lets go of all of them: so a rule is made last, and kept in
+// a list.
+
+// The rules of a script.
+pub(crate) fn rules(alloc: Global, texts: &[&str]) -> Result<Vec<Rule>, Unread> {
+    let mut rules = Vec::new(alloc);
+    for text in texts {
+        rules.push(rule(alloc, text)?)?;
     }
-    if head.word == "lin" {
-        return sum(alloc, head.numbers, behind);
-    }
-    let terms = terms(alloc, behind)?;
-    with_terms(head, terms)
+    Ok(rules)
 }
 
-fn without_terms(head: Head<'_>) -> Result<Rule, Unread> {
-    let Head {
-        word,
-        numbers,
-        place,
-    } = head;
-    match place {
-        Some(place) => rewriting(word, &numbers, place).ok_or(Unread::Text),
-        None if numbers.is_empty() => plain(word).ok_or(Unread::Text),
-        None => numbered(word, numbers).ok_or(Unread::Text),
+fn rule(alloc: Global, text: &str) -> Result<Rule, Unread> {
+    let written = cut(text);
+    match written.place {
+        Spot::Nowhere if written.behind.is_empty() => without_terms(alloc, written),
+        Spot::Nowhere if written.word == "lin" => certificate(alloc, written),
+        Spot::Nowhere => with_terms(alloc, written),
+        _ if written.behind.is_empty() => at_place(alloc, written),
+        _ => by_law(alloc, written),
+    }
+}
+
+fn without_terms(alloc: Global, written: Written<'_>) -> Result<Rule, Unread> {
+    if written.numbers.is_empty() {
+        return plain(written.word).ok_or(Unread::Text);
+    }
+    let (first, others) = first_and_others(alloc, written.numbers)?;
+    match written.word {
+        "fix" => Ok(Rule::Fix(numbers(alloc, written.numbers)?)),
+        "open" => Ok(Rule::OpenSome(first, others)),
+        "absurd" => Ok(Rule::Absurd(first, *others.first().ok_or(Unread::Text)?)),
+        word => numbered(word, first).ok_or(Unread::Text),
     }
 }
 
@@ -171,38 +178,40 @@ fn plain(word: &str) -> Option<Rule> {
     }
 }
 
-// A rule with the numbers of hypotheses or names.
-fn numbered(word: &str, numbers: Vec<u32>) -> Option<Rule> {
-    let number = *numbers.first()?;
+// A rule with the number of a hypothesis.
+fn numbered(word: &str, number: u32) -> Option<Rule> {
     match word {
         "hyp" => Some(Rule::Hyp(number)),
         "false" => Some(Rule::False(number)),
-        "absurd" => Some(Rule::Absurd(number, *numbers.get(1)?)),
-        "fix" => Some(Rule::Fix(numbers)),
         "split" => Some(Rule::Split(number)),
         "cases" => Some(Rule::Cases(number)),
         "apply" => Some(Rule::Apply(number)),
-        "open" => opening(numbers),
         "drop" => Some(Rule::Drop(number)),
         "interval" => Some(Rule::Interval(number)),
         _ => None,
     }
 }
 
-fn opening(mut numbers: Vec<u32>) -> Option<Rule> {
-    if numbers.is_empty() {
-        return None;
+// A rule at a place, with the number of an equation or without one.
+fn at_place(alloc: Global, written: Written<'_>) -> Result<Rule, Unread> {
+    let place = place(alloc, written.place)?;
+    if written.numbers.trim().is_empty() {
+        return rewriting(written.word, place).ok_or(Unread::Text);
     }
-    let number = numbers.remove(0);
-    Some(Rule::OpenSome(number, numbers))
+    equating(written.word, number(written.numbers.trim())?, place).ok_or(Unread::Text)
 }
 
-// A rule at a place.
-fn rewriting(word: &str, numbers: &[u32], place: Place) -> Option<Rule> {
+fn equating(word: &str, number: u32, place: Place) -> Option<Rule> {
+    match word {
+        "eq" => Some(Rule::Eq(number, place)),
+        "qe" => Some(Rule::Qe(number, place)),
+        _ => None,
+    }
+}
+
+fn rewriting(word: &str, place: Place) -> Option<Rule> {
     match word {
         "eval" => Some(Rule::Eval(Some(place))),
-        "eq" => Some(Rule::Eq(*numbers.first()?, place)),
-        "qe" => Some(Rule::Qe(*numbers.first()?, place)),
         "type" => Some(Rule::TypeOf(place)),
         "neg" => Some(Rule::Neg(place)),
         "mem" => Some(Rule::Mem(place)),
@@ -214,31 +223,25 @@ fn rewriting(word: &str, numbers: &[u32], place: Place) -> Option<Rule> {
     }
 }
 
-fn with_terms(head: Head<'_>, terms: Vec<Form>) -> Result<Rule, Unread> {
-    let Head {
-        word,
-        numbers,
-        place,
-    } = head;
-    match place {
-        Some(place) => by_law(word, &numbers, terms, place).ok_or(Unread::Text),
-        None if word == "use" => Ok(Rule::UseTerms(terms)),
-        None if word == "inst" => inst(&numbers, terms).ok_or(Unread::Text),
-        None => of_one(word, terms).ok_or(Unread::Text),
+fn by_law(alloc: Global, written: Written<'_>) -> Result<Rule, Unread> {
+    let number = number(written.numbers.trim())?;
+    let law = u16::try_from(number).ok().ok_or(Unread::Text)?;
+    let picks = forms(alloc, written.behind)?;
+    let place = place(alloc, written.place)?;
+    match written.word {
+        "law" => Ok(Rule::Law { law, picks, place }),
+        "wal" => Ok(Rule::Wal { law, picks, place }),
+        _ => Err(Unread::Text),
     }
 }
 
-fn by_law(word: &str, numbers: &[u32], picks: Vec<Form>, place: Place) -> Option<Rule> {
-    let law = u16::try_from(*numbers.first()?).ok()?;
-    match word {
-        "law" => Some(Rule::Law { law, picks, place }),
-        "wal" => Some(Rule::Wal { law, picks, place }),
-        _ => None,
+fn with_terms(alloc: Global, written: Written<'_>) -> Result<Rule, Unread> {
+    let terms = forms(alloc, written.behind)?;
+    match written.word {
+        "use" => Ok(Rule::UseTerms(terms)),
+        "inst" => Ok(Rule::Inst(number(written.numbers)?, terms)),
+        word => of_one(word, terms).ok_or(Unread::Text),
     }
-}
-
-fn inst(numbers: &[u32], terms: Vec<Form>) -> Option<Rule> {
-    Some(Rule::Inst(*numbers.first()?, terms))
 }
 
 // A rule of one term.
@@ -253,21 +256,39 @@ fn of_one(word: &str, mut terms: Vec<Form>) -> Option<Rule> {
     }
 }
 
-// The certificate that adds up facts.
-fn sum(alloc: Global, facts: Vec<u32>, text: &str) -> Result<Rule, Unread> {
-    let mut sum = Vec::new(alloc);
-    for fact in numbers(alloc, text)? {
-        sum.push((1, fact))?;
-    }
-    let lines = vec![in alloc; Line::Sum(sum)]?;
+// ---- certificates of linear arithmetic
+fn certificate(alloc: Global, written: Written<'_>) -> Result<Rule, Unread> {
+    let facts = numbers(alloc, written.numbers)?;
+    let lines = lines(alloc, written.behind)?;
     Ok(Rule::Lin { facts, lines })
 }
 
-// The rules of a script.
-pub(crate) fn rules(alloc: Global, texts: &[&str]) -> Result<Vec<Rule>, Unread> {
-    let mut rules = Vec::new(alloc);
-    for text in texts {
-        rules.push(rule(alloc, text)?)?;
+fn lines(alloc: Global, text: &str) -> Result<Vec<Line>, Unread> {
+    let mut lines = Vec::new(alloc);
+    for part in text.split('|') {
+        lines.push(line(alloc, part)?)?;
     }
-    Ok(rules)
+    Ok(lines)
+}
+
+fn line(alloc: Global, text: &str) -> Result<Line, Unread> {
+    match text.split_once("/") {
+        Some((fact, by)) => quotient(fact.trim(), by.trim()),
+        None => sum(alloc, text),
+    }
+}
+
+fn quotient(fact: &str, by: &str) -> Result<Line, Unread> {
+    let fact = number(fact)?;
+    let by = i128::from(number(by)?);
+    Ok(Line::Div { fact, by })
+}
+
+// The sum of facts.
+fn sum(alloc: Global, text: &str) -> Result<Line, Unread> {
+    let mut sum = Vec::new(alloc);
+    for word in text.split_whitespace() {
+        sum.push((1, number(word)?))?;
+    }
+    Ok(Line::Sum(sum))
 }

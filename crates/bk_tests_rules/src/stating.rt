@@ -1,6 +1,6 @@
-// What rules do to sequents, against texts.
+// What rules and scripts do to sequents, against rows of texts.
 
-use crate::reading::{Claim, TYPES, rule, rules, sequent};
+use crate::reading::{Claim, TYPES, rules, sequent};
 use crate::rules::{results, verdict};
 use bk_bracketed::{Unread, table_of};
 use bk_form::Form;
@@ -12,6 +12,9 @@ use std::test::Fail;
 
 // A rule, a sequent, and what comes of it.
 pub(crate) type Step = (&'static str, Claim<'static>, &'static [Claim<'static>]);
+
+// A script, a sequent, and what it does to it.
+pub(crate) type Replay = (&'static [&'static str], Claim<'static>, Verdict);
 
 // Whether the sequent is what the texts say.
 fn is_stated(alloc: Global, found: &Sequent, claim: Claim<'_>) -> Result<bool, Unread> {
@@ -39,8 +42,8 @@ fn news(
     claim: Claim<'_>,
 ) -> Result<Result<Vec<Sequent>, StepFault>, Unread> {
     let table = table_of(alloc, &TYPES)?;
-    let rule = rule(alloc, text)?;
-    Ok(results(alloc, &table, sequent(alloc, claim)?, &rule))
+    let rules = rules(alloc, &[text])?;
+    Ok(results(alloc, &table, sequent(alloc, claim)?, &rules))
 }
 
 // Sees that each rule makes these sequents of its sequent.
@@ -66,8 +69,17 @@ pub(crate) fn no_steps(
 }
 
 // What the script does to the sequent.
-pub(crate) fn outcome(alloc: Global, script: &[&str], claim: Claim<'_>) -> Result<Verdict, Unread> {
+fn outcome(alloc: Global, script: &[&str], claim: Claim<'_>) -> Result<Verdict, Unread> {
     let table = table_of(alloc, &TYPES)?;
     let rules = rules(alloc, script)?;
     Ok(verdict(alloc, &table, sequent(alloc, claim)?, &rules)?)
+}
+
+// Sees that each script does this to its sequent.
+pub(crate) fn replays(rt: &impl Abort, alloc: Global, list: &[Replay]) -> Result<(), Fail> {
+    for (script, claim, wanted) in list {
+        let found = outcome(alloc, script, *claim)?;
+        assert_eq!(rt; found, *wanted, "{}", claim.1);
+    }
+    Ok(())
 }

@@ -1,66 +1,54 @@
 // Scripts that prove obligations, and what is said of them where one rule is another.
 
-use crate::reading::{Claim, TYPES, sequent};
-use crate::rules::verdict;
-use crate::stating::outcome;
-use bk_bracketed::{Unread, table_of};
-use bk_kernel::{Rule, Verdict};
-use bk_lin::Line;
-use std::alloc::Global;
+use crate::reading::Claim;
+use crate::stating::{Replay, replays};
+use bk_kernel::Verdict;
 use std::test::Fail;
 
-type Script = (&'static [&'static str], Claim<'static>, Verdict);
-
 // ---- the claims
-const NATURALS: Claim<'static> = (&[], "( !i ( ( b0 : NATURAL ) => ( 0 <= b0 ) ) )");
+const NATURALS: Claim<'static> = ("", "( !i ( ( b0 : NATURAL ) => ( 0 <= b0 ) ) )");
 
 // two picks, one under the other
 const TWO: Claim<'static> = (
-    &["( y : ( 0 .. 10 ) )"],
+    "( y : ( 0 .. 10 ) )",
     "( !i ( ( b0 : ( 0 .. 10 ) ) => ( !i ( ( b0 : ( 0 .. 10 ) ) => ( b0 : ( 0 .. 10 ) ) ) ) ) )",
 );
 
 // a die: any number from 1 to 6 in the machine, 4 or 7 in the implementation
 const MACHINE: Claim<'static> = (
-    &["( x : ( 1 .. 6 ) )"],
+    "( x : ( 1 .. 6 ) )",
     "( !i ( ( b0 : ( 1 .. 6 ) ) => ( b0 : ( 1 .. 6 ) ) ) )",
 );
 
 const FOUR: Claim<'static> = (
-    &["( x : ( 1 .. 6 ) )", "( y = x )"],
+    "( x : ( 1 .. 6 ) ), ( y = x )",
     "( #i ( ( b0 : ( 1 .. 6 ) ) & ( ( 4 : ( 1 .. 6 ) ) & ( 4 = b0 ) ) ) )",
 );
 
 const SEVEN: Claim<'static> = (
-    &["( x : ( 1 .. 6 ) )", "( y = x )"],
+    "( x : ( 1 .. 6 ) ), ( y = x )",
     "( #i ( ( b0 : ( 1 .. 6 ) ) & ( ( 7 : ( 1 .. 6 ) ) & ( 7 = b0 ) ) ) )",
 );
 
 // the greatest of a set that has a member
 const NOT_EMPTY: Claim<'static> = (
-    &["( s : ( POW ( 0 .. 100 ) ) )", "( 0 : s )"],
+    "( s : ( POW ( 0 .. 100 ) ) ), ( 0 : s )",
     "( not ( s = {}Pi ) )",
 );
 
 // a table that is read: a total function is applied to one of its arguments
 const FUNCTION: Claim<'static> = (
-    &[
-        "( f : ( ( 0 .. 9 ) --> ( -9 .. 9 ) ) )",
-        "( y : ( 0 .. 9 ) )",
-    ],
+    "( f : ( ( 0 .. 9 ) --> ( -9 .. 9 ) ) ), ( y : ( 0 .. 9 ) )",
     "( f : ( INTEGER +-> INTEGER ) )",
 );
 
 const ARGUMENT: Claim<'static> = (
-    &[
-        "( f : ( ( 0 .. 9 ) --> ( -9 .. 9 ) ) )",
-        "( y : ( 0 .. 9 ) )",
-    ],
+    "( f : ( ( 0 .. 9 ) --> ( -9 .. 9 ) ) ), ( y : ( 0 .. 9 ) )",
     "( y : ( dom f ) )",
 );
 
 // ---- the scripts
-const SCRIPTS: [Script; 19] = [
+const SCRIPTS: [Replay; 19] = [
     (&["fix u", "imp", "lin 1 : 1 2"], NATURALS, Verdict::Closed),
     (
         &["fix u", "imp", "lin 1 : 1"],
@@ -75,22 +63,22 @@ const SCRIPTS: [Script; 19] = [
     ),
     (
         &["interval 1"],
-        (&["( x : ( 0 .. 63 ) )"], "bfalse"),
+        ("( x : ( 0 .. 63 ) )", "bfalse"),
         Verdict::Open(64),
     ),
     (
         &["interval 1"],
-        (&["( x : ( 0 .. 64 ) )"], "bfalse"),
+        ("( x : ( 0 .. 64 ) )", "bfalse"),
         Verdict::BadStep(1),
     ),
     (
         &["interval 1"],
-        (&["( x : ( 5 .. 4 ) )"], "bfalse"),
+        ("( x : ( 5 .. 4 ) )", "bfalse"),
         Verdict::Closed,
     ),
     (
         &["interval 1", "true"],
-        (&["( x : ( 5 .. 4 ) )"], "bfalse"),
+        ("( x : ( 5 .. 4 ) )", "bfalse"),
         Verdict::Extra(2),
     ),
     // the second name is not the first
@@ -168,32 +156,19 @@ const SCRIPTS: [Script; 19] = [
     ),
 ];
 
+// no whole number is a half
+const HALVES: [Replay; 1] = [(
+    &["lin 1 : 1 / 2 | 2 / 2 | 3 4"],
+    ("( ( 2 * x ) = 1 )", "bfalse"),
+    Verdict::Closed,
+)];
+
 #[test]
 fn scripts(rt: HostRuntime) -> Result<(), Fail> {
-    for (script, claim, wanted) in SCRIPTS {
-        let found = outcome(rt.alloc(), script, claim)?;
-        assert_eq!(rt; found, wanted, "{}", claim.1);
-    }
-    Ok(())
-}
-
-// ---- no whole number is a half
-// `lin 1 : 1 / 2 | 2 / 2 | 1 * 3 + 1 * 4`
-fn halving(alloc: Global) -> Result<Rule, Unread> {
-    let first = Line::Div { fact: 1, by: 2 };
-    let second = Line::Div { fact: 2, by: 2 };
-    let sum = Line::Sum(vec![in alloc; (1, 3), (1, 4)]?);
-    let lines = vec![in alloc; first, second, sum]?;
-    let facts = vec![in alloc; 1]?;
-    Ok(Rule::Lin { facts, lines })
+    replays(&rt, rt.alloc(), &SCRIPTS)
 }
 
 #[test]
 fn halves(rt: HostRuntime) -> Result<(), Fail> {
-    let alloc = rt.alloc();
-    let table = table_of(alloc, &TYPES)?;
-    let rules = [halving(alloc)?];
-    let claim = sequent(alloc, (&["( ( 2 * x ) = 1 )"], "bfalse"))?;
-    assert_eq!(rt; verdict(alloc, &table, claim, &rules)?, Verdict::Closed);
-    Ok(())
+    replays(&rt, rt.alloc(), &HALVES)
 }

@@ -2,8 +2,9 @@
 
 use bk_form::{Token, TokenKind};
 use bk_lex::{LexFault, tokens};
-use bk_ops::{sign, word};
-use std::alloc::Global;
+use bk_ops::{OpRow, sign, signs, word, words};
+use std::alloc::{AllocError, Global};
+use std::process::Abort;
 use std::test::Fail;
 
 // What a test wants of a token.
@@ -55,103 +56,107 @@ fn fails(alloc: Global, text: &[u8], wanted: LexFault) -> bool {
 }
 
 // ---- texts that have tokens
+
 const A: Wanted = Wanted::Name("a");
 
 const B: Wanted = Wanted::Name("b");
 
+const GREATEST: Wanted = Wanted::Number(170141183460469231731687303715884105727);
+
+// A text, and its tokens with their places.
+type Row = (&'static str, &'static [(Wanted, usize, usize)]);
+
+const SIGNS_BLANKS_AND_COMMENTS: [Row; 8] = [
+    (
+        "a<--b //x",
+        &[(A, 0, 1), (Wanted::Sign(sign::OUTPUTS), 1, 4), (B, 4, 5)],
+    ),
+    (
+        "a<-b",
+        &[(A, 0, 1), (Wanted::Sign(sign::APPEND), 1, 3), (B, 3, 4)],
+    ),
+    ("", &[]),
+    (" \t\r\n/* a **/ // b", &[]),
+    ("// b\na", &[(A, 5, 6)]),
+    ("// b\ra\n", &[]),
+    (
+        "a/ /* / */a",
+        &[(A, 0, 1), (Wanted::Sign(sign::DIVIDE), 1, 2), (A, 10, 11)],
+    ),
+    ("/**/a/**/", &[(A, 4, 5)]),
+];
+
+const NAMES_AND_NUMBERS: [Row; 8] = [
+    ("or$0", &[(Wanted::LevelName("or", 0), 0, 4)]),
+    ("or", &[(Wanted::Word(word::OR), 0, 2)]),
+    ("orx", &[(Wanted::Name("orx"), 0, 3)]),
+    ("$12", &[(Wanted::BoundName(12), 0, 3)]),
+    (
+        "n$4294967295",
+        &[(Wanted::LevelName("n", 4294967295), 0, 12)],
+    ),
+    ("007a", &[(Wanted::Number(7), 0, 3), (A, 3, 4)]),
+    (
+        "170141183460469231731687303715884105727",
+        &[(GREATEST, 0, 39)],
+    ),
+    (
+        "é α_1 日本",
+        &[
+            (Wanted::Name("é"), 0, 2),
+            (Wanted::Name("α_1"), 3, 7),
+            (Wanted::Name("日本"), 8, 14),
+        ],
+    ),
+];
+
+fn compare(rt: &impl Abort, alloc: Global, rows: &[Row]) {
+    for (text, wanted) in rows {
+        assert!(rt; has(alloc, text, wanted), "{text}");
+    }
+}
+
 #[test]
 fn signs_blanks_and_comments(rt: HostRuntime) {
-    let table: [(&str, &[(Wanted, usize, usize)]); 8] = [
-        (
-            "a<--b //x",
-            &[(A, 0, 1), (Wanted::Sign(sign::OUTPUTS), 1, 4), (B, 4, 5)],
-        ),
-        (
-            "a<-b",
-            &[(A, 0, 1), (Wanted::Sign(sign::APPEND), 1, 3), (B, 3, 4)],
-        ),
-        ("", &[]),
-        (" \t\r\n/* a **/ // b", &[]),
-        ("// b\na", &[(A, 5, 6)]),
-        ("// b\ra\n", &[]),
-        (
-            "a/ /* / */a",
-            &[(A, 0, 1), (Wanted::Sign(sign::DIVIDE), 1, 2), (A, 10, 11)],
-        ),
-        ("/**/a/**/", &[(A, 4, 5)]),
-    ];
-    for (text, wanted) in table {
-        assert!(rt; has(rt.alloc(), text, wanted), "{text}");
-    }
+    compare(&rt, rt.alloc(), &SIGNS_BLANKS_AND_COMMENTS);
 }
 
 #[test]
 fn names_and_numbers(rt: HostRuntime) {
-    let greatest = Wanted::Number(170141183460469231731687303715884105727);
-    let table: [(&str, &[(Wanted, usize, usize)]); 8] = [
-        ("or$0", &[(Wanted::LevelName("or", 0), 0, 4)]),
-        ("or", &[(Wanted::Word(word::OR), 0, 2)]),
-        ("orx", &[(Wanted::Name("orx"), 0, 3)]),
-        ("$12", &[(Wanted::BoundName(12), 0, 3)]),
-        (
-            "n$4294967295",
-            &[(Wanted::LevelName("n", 4294967295), 0, 12)],
-        ),
-        ("007a", &[(Wanted::Number(7), 0, 3), (A, 3, 4)]),
-        (
-            "170141183460469231731687303715884105727",
-            &[(greatest, 0, 39)],
-        ),
-        (
-            "é α_1 日本",
-            &[
-                (Wanted::Name("é"), 0, 2),
-                (Wanted::Name("α_1"), 3, 7),
-                (Wanted::Name("日本"), 8, 14),
-            ],
-        ),
-    ];
-    for (text, wanted) in table {
-        assert!(rt; has(rt.alloc(), text, wanted), "{text}");
-    }
+    compare(&rt, rt.alloc(), &NAMES_AND_NUMBERS);
 }
 
 // ---- texts that have none
-#[test]
-fn faults_have_their_places(rt: HostRuntime) {
-    let table: [(&[u8], LexFault); 11] = [
-        (b"/* x", LexFault::OpenComment(0)),
-        (b"/*/", LexFault::OpenComment(0)),
-        (b"a /* x */ /* *", LexFault::OpenComment(10)),
-        (b"_a", LexFault::BadChar(0)),
-        (b"a $", LexFault::BadChar(2)),
-        (b"a ? /*", LexFault::BadChar(2)),
-        (b"\xff", LexFault::NotUtf8(0)),
-        (b"_ \xff", LexFault::NotUtf8(2)),
-        (
-            b"170141183460469231731687303715884105728",
-            LexFault::NumberTooWide(0),
-        ),
-        (b"n$4294967296", LexFault::NumberTooWide(0)),
-        (b"a $4294967296", LexFault::NumberTooWide(2)),
-    ];
-    for (text, wanted) in table {
-        assert!(rt; fails(rt.alloc(), text, wanted));
+
+const FAULTS: [(&[u8], LexFault); 11] = [
+    (b"/* x", LexFault::OpenComment(0)),
+    (b"/*/", LexFault::OpenComment(0)),
+    (b"a /* x */ /* *", LexFault::OpenComment(10)),
+    (b"_a", LexFault::BadChar(0)),
+    (b"a $", LexFault::BadChar(2)),
+    (b"a ? /*", LexFault::BadChar(2)),
+    (b"\xff", LexFault::NotUtf8(0)),
+    (b"_ \xff", LexFault::NotUtf8(2)),
+    (
+        b"170141183460469231731687303715884105728",
+        LexFault::NumberTooWide(0),
+    ),
+    (b"n$4294967296", LexFault::NumberTooWide(0)),
+    (b"a $4294967296", LexFault::NumberTooWide(2)),
+];
+
+fn compare_faults(rt: &impl Abort, alloc: Global, rows: &[(&[u8], LexFault)]) {
+    for (text, wanted) in rows {
+        assert!(rt; fails(alloc, text, *wanted));
     }
 }
 
-// ---- the tables
 #[test]
-fn every_sign_and_word(rt: HostRuntime) {
-    for row in bk_ops::signs() {
-        let found = tokens(rt.alloc(), row.text());
-        assert!(rt; is_one(found, Wanted::Sign(row.op), row.len as usize));
-    }
-    for row in bk_ops::words() {
-        let found = tokens(rt.alloc(), row.text());
-        assert!(rt; is_one(found, Wanted::Word(row.op), row.len as usize));
-    }
+fn faults_have_their_places(rt: HostRuntime) {
+    compare_faults(&rt, rt.alloc(), &FAULTS);
 }
+
+// ---- the tables
 
 fn is_one(found: Result<Vec<Token>, LexFault>, wanted: Wanted, len: usize) -> bool {
     match found {
@@ -160,13 +165,46 @@ fn is_one(found: Result<Vec<Token>, LexFault>, wanted: Wanted, len: usize) -> bo
     }
 }
 
+fn compare_signs(rt: &impl Abort, alloc: Global, rows: &[OpRow]) {
+    for row in rows {
+        let found = tokens(alloc, row.text());
+        assert!(rt; is_one(found, Wanted::Sign(row.op), row.len as usize));
+    }
+}
+
+fn compare_words(rt: &impl Abort, alloc: Global, rows: &[OpRow]) {
+    for row in rows {
+        let found = tokens(alloc, row.text());
+        assert!(rt; is_one(found, Wanted::Word(row.op), row.len as usize));
+    }
+}
+
+#[test]
+fn every_sign_and_word(rt: HostRuntime) {
+    compare_signs(&rt, rt.alloc(), &signs());
+    compare_words(&rt, rt.alloc(), &words());
+}
+
 // ---- the limit
+
+// Whether so many commas are so many tokens.
+fn are_tokens(alloc: Global, count: usize) -> Result<bool, AllocError> {
+    let text = vec![in alloc; b','; count]?;
+    match tokens(alloc, &text) {
+        Ok(found) => Ok(found.len() == count),
+        Err(_) => Ok(false),
+    }
+}
+
+// Whether so many commas are more tokens than this limit.
+fn are_too_many(alloc: Global, count: usize, limit: usize) -> Result<bool, AllocError> {
+    let text = vec![in alloc; b','; count]?;
+    Ok(fails(alloc, &text, LexFault::Limit(limit)))
+}
+
 #[test]
 fn the_limit(rt: HostRuntime) -> Result<(), Fail> {
-    let text = vec![in rt.alloc(); b','; 1000000]?;
-    let found = tokens(rt.alloc(), &text);
-    assert!(rt; found.is_ok_and(|tokens| tokens.len() == 1000000));
-    let text = vec![in rt.alloc(); b','; 1000001]?;
-    assert!(rt; fails(rt.alloc(), &text, LexFault::Limit(1000000)));
+    assert!(rt; are_tokens(rt.alloc(), 1000000)?);
+    assert!(rt; are_too_many(rt.alloc(), 1000001, 1000000)?);
     Ok(())
 }

@@ -1,8 +1,9 @@
 // The signs and words of the notation.
 
-use crate::operator_table::LEVELS;
+use crate::operator_table::{LEVELS, Level};
 use bk_ops::{NO_OPERATOR, OpRow, find, sign, signs, word, words};
 use std::ops::Range;
+use std::process::Abort;
 
 const SIGNS: &str =
     "& => <=> ! # = /= < <= > >= : /: <: /<: <<: \\/ /\\ - * |-> .. { } ( ) [ ] <-> +-> --> \
@@ -45,60 +46,78 @@ fn each_word_is_found_under_its_text(rt: HostRuntime) {
     assert_eq!(rt; first_lost(WORDS, 57..152, &words(), &signs()), None);
 }
 
-#[test]
-fn other_texts_are_not_found(rt: HostRuntime) {
-    let texts: [&[u8]; 7] = [b"BOOLX", b"BOO", b"BOOL ", b"machine", b"", b"<---", b" "];
+const OTHERS: [&[u8]; 7] = [b"BOOLX", b"BOO", b"BOOL ", b"machine", b"", b"<---", b" "];
+
+fn refuse(rt: &impl Abort, texts: &[&[u8]]) {
     for text in texts {
         assert!(rt; find(&words(), text).is_none() && find(&signs(), text).is_none());
     }
 }
 
 #[test]
-fn names_of_signs_fit(rt: HostRuntime) {
-    for (text, op) in [
-        ("|->", sign::MAPLET),
-        ("|", sign::BAR),
-        ("<--", sign::OUTPUTS),
-        ("->", sign::PREPEND),
-        ("<-", sign::APPEND),
-        ("/", sign::DIVIDE),
-    ] {
-        assert!(rt; find(&signs(), text.as_bytes()) == Some(op), "{text}");
+fn other_texts_are_not_found(rt: HostRuntime) {
+    refuse(&rt, &OTHERS);
+}
+
+// Texts of signs, and the names of their numbers.
+const NAMED_SIGNS: [(&str, u16); 6] = [
+    ("|->", sign::MAPLET),
+    ("|", sign::BAR),
+    ("<--", sign::OUTPUTS),
+    ("->", sign::PREPEND),
+    ("<-", sign::APPEND),
+    ("/", sign::DIVIDE),
+];
+
+const NAMED_WORDS: [(&str, u16); 6] = [
+    ("OR", word::OR_BRANCH),
+    ("or", word::OR),
+    ("bool", word::BOOL_OF),
+    ("BOOL", word::BOOL),
+    ("skip", word::SKIP),
+    ("bfalse", word::BFALSE),
+];
+
+fn compare<const N: usize>(rt: &impl Abort, table: &[OpRow; N], rows: &[(&str, u16)]) {
+    for (text, op) in rows {
+        assert!(rt; find(table, text.as_bytes()) == Some(*op), "{text}");
     }
 }
 
 #[test]
+fn names_of_signs_fit(rt: HostRuntime) {
+    compare(&rt, &signs(), &NAMED_SIGNS);
+}
+
+#[test]
 fn names_of_words_fit(rt: HostRuntime) {
-    for (text, op) in [
-        ("OR", word::OR_BRANCH),
-        ("or", word::OR),
-        ("bool", word::BOOL_OF),
-        ("BOOL", word::BOOL),
-        ("skip", word::SKIP),
-        ("bfalse", word::BFALSE),
-    ] {
-        assert!(rt; find(&words(), text.as_bytes()) == Some(op), "{text}");
-    }
+    compare(&rt, &words(), &NAMED_WORDS);
 }
 
 // The level of an operator between terms, or that of no operator.
-fn listed_level(text: &[u8]) -> u8 {
-    for (level, _, _, operators) in LEVELS {
-        for (listed, _) in operators {
+fn listed_level(levels: &[Level], text: &[u8]) -> u8 {
+    for (level, _, _, operators) in levels {
+        for (listed, _) in *operators {
             if listed.as_bytes() == text {
-                return level;
+                return *level;
             }
         }
     }
     NO_OPERATOR
 }
 
+fn compare_levels(rt: &impl Abort, rows: &[OpRow]) {
+    for row in rows {
+        assert!(rt;
+            row.level == listed_level(&LEVELS, row.text()),
+            "number {}",
+            row.op
+        );
+    }
+}
+
 #[test]
 fn operators_have_their_levels(rt: HostRuntime) {
-    for row in signs() {
-        assert!(rt; row.level == listed_level(row.text()), "sign {}", row.op);
-    }
-    for row in words() {
-        assert!(rt; row.level == listed_level(row.text()), "word {}", row.op);
-    }
+    compare_levels(&rt, &signs());
+    compare_levels(&rt, &words());
 }

@@ -2,9 +2,11 @@
 
 use bk_raw::{Constant, InfixOp, WordOp};
 
-// The operators between two terms, the loosest first: how tightly each binds, and what it asks of the terms left and
-// right of it. Two that ask no more than they bind on one side chain to that side.
-pub(crate) const LEVELS: [(u8, u8, u8, &[(&str, InfixOp)]); 10] = [
+// How tightly some operators bind, what they ask of the terms left and right of them, and the operators.
+pub(crate) type Level = (u8, u8, u8, &'static [(&'static str, InfixOp)]);
+
+// The operators between two terms, the loosest first. Two that ask no more than they bind on one side chain to that side.
+pub(crate) const LEVELS: [Level; 10] = [
     (0, 3, 3, &[("<=>", InfixOp::Equivalent)]),
     (1, 1, 2, &[("=>", InfixOp::Implies)]),
     (2, 2, 3, &[("&", InfixOp::And), ("or", InfixOp::Or)]),

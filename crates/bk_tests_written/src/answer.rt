@@ -6,7 +6,7 @@ use bk_p_comp::component;
 use bk_p_expr::SynFault;
 use std::alloc::Global;
 
-#[derive(Clone, Copy, PartialEq, Debug)]
+#[derive(Clone, Copy, PartialEq)]
 pub(crate) enum Answer {
     /// It is written for a component.
     Read,

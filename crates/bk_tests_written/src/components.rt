@@ -4,7 +4,7 @@ use bk_lex::tokens;
 use bk_p_comp::component;
 use bk_p_expr::SynFault;
 use std::alloc::Global;
-use std::test::Fail;
+use std::process::Abort;
 
 // How many clauses the component has that the text is written for.
 fn clauses(alloc: Global, text: &str) -> Result<usize, SynFault> {
@@ -31,53 +31,65 @@ fn fails_at(alloc: Global, text: &str, wanted: usize) -> bool {
     }
 }
 
-#[test]
-fn components_are_read(rt: HostRuntime) {
-    let table = [
-        ("MACHINE M END", 0),
-        ("REFINEMENT R REFINES M END", 0),
-        (
-            "IMPLEMENTATION I REFINES M VALUES c = 1 ; d = 2 CONCRETE_VARIABLES y END",
-            2,
-        ),
-        (
-            "MACHINE M SETS S = {a, b} ; T = {c} CONSTANTS d PROPERTIES d : S END",
-            3,
-        ),
-        (
-            "MACHINE M VARIABLES x INVARIANT x : NAT ASSERTIONS x < 9 ; x < 8 INITIALISATION x := 0 END",
-            4,
-        ),
-        (
-            "MACHINE M OPERATIONS inc = x := x + 1 ; r <-- get(a, b) = BEGIN r := x ; skip END END",
-            1,
-        ),
-    ];
-    for (text, wanted) in table {
-        assert!(rt; has_clauses(rt.alloc(), text, wanted), "{text}");
+// A component, and how many clauses it has.
+const COMPONENTS: [(&str, usize); 6] = [
+    ("MACHINE M END", 0),
+    ("REFINEMENT R REFINES M END", 0),
+    (
+        "IMPLEMENTATION I REFINES M VALUES c = 1 ; d = 2 CONCRETE_VARIABLES y END",
+        2,
+    ),
+    (
+        "MACHINE M SETS S = {a, b} ; T = {c} CONSTANTS d PROPERTIES d : S END",
+        3,
+    ),
+    (
+        "MACHINE M VARIABLES x INVARIANT x : NAT ASSERTIONS x < 9 ; x < 8 INITIALISATION x := 0 END",
+        4,
+    ),
+    (
+        "MACHINE M OPERATIONS inc = x := x + 1 ; r <-- get(a, b) = BEGIN r := x ; skip END END",
+        1,
+    ),
+];
+
+// A text, and the token that no component is read up to.
+const FAULTS: [(&str, usize); 15] = [
+    ("", 0),
+    ("skip", 0),
+    ("MACHINE", 0),
+    ("REFINEMENT R END", 0),
+    ("MACHINE M", 2),
+    ("MACHINE M REFINES N END", 2),
+    ("MACHINE M END END", 3),
+    ("MACHINE M SETS S END", 2),
+    ("MACHINE M VALUES c = 1 END", 2),
+    ("IMPLEMENTATION I REFINES M VARIABLES x END", 4),
+    ("MACHINE M CONSTANTS c CONCRETE_CONSTANTS d END", 4),
+    ("MACHINE M VARIABLES x, END", 4),
+    ("MACHINE M OPERATIONS o = skip ; END", 6),
+    ("MACHINE M INVARIANT btrue END", 2),
+    ("MACHINE M INVARIANT x = y btrue END", 6),
+];
+
+fn compare_clauses(rt: &impl Abort, alloc: Global, rows: &[(&str, usize)]) {
+    for (text, wanted) in rows {
+        assert!(rt; has_clauses(alloc, text, *wanted), "{text}");
+    }
+}
+
+fn compare_faults(rt: &impl Abort, alloc: Global, rows: &[(&str, usize)]) {
+    for (text, wanted) in rows {
+        assert!(rt; fails_at(alloc, text, *wanted), "{text}");
     }
 }
 
 #[test]
+fn components_are_read(rt: HostRuntime) {
+    compare_clauses(&rt, rt.alloc(), &COMPONENTS);
+}
+
+#[test]
 fn places_of_faults(rt: HostRuntime) {
-    let table = [
-        ("", 0),
-        ("skip", 0),
-        ("MACHINE", 0),
-        ("REFINEMENT R END", 0),
-        ("MACHINE M", 2),
-        ("MACHINE M REFINES N END", 2),
-        ("MACHINE M END END", 3),
-        ("MACHINE M SETS S END", 2),
-        ("MACHINE M VALUES c = 1 END", 2),
-        ("IMPLEMENTATION I REFINES M VARIABLES x END", 4),
-        ("MACHINE M CONSTANTS c CONCRETE_CONSTANTS d END", 4),
-        ("MACHINE M VARIABLES x, END", 4),
-        ("MACHINE M OPERATIONS o = skip ; END", 6),
-        ("MACHINE M INVARIANT btrue END", 2),
-        ("MACHINE M INVARIANT x = y btrue END", 6),
-    ];
-    for (text, wanted) in table {
-        assert!(rt; fails_at(rt.alloc(), text, wanted), "{text}");
-    }
+    compare_faults(&rt, rt.alloc(), &FAULTS);
 }

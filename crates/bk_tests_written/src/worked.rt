@@ -6,42 +6,63 @@ use bk_lex::tokens;
 use bk_p_comp::component;
 use bk_raw::{ClauseParts, RawClause, RawComponent, RawSub, RawSubNode};
 use std::alloc::{AllocError, Global};
+use std::process::Abort;
 use std::test::Fail;
 
-#[test]
-fn faults_of_writing(rt: HostRuntime) {
-    let table = [
-        ("MACHINE A PROPERTIES p = 1 <=> q = 1 & r = 1 END\n", 37),
-        ("MACHINE A END END\n", 14),
-        ("MACHINE A", 9),
-        ("MACHINE A OPERATIONS f = skip ; g = END", 30),
-        ("MACHINE A VARIABLES x, y INITIALISATION x, := 1 END", 25),
-        ("MACHINE A VARIABLES x, y INITIALISATION x, y := END", 25),
-    ];
-    for (text, place) in table {
-        assert!(rt;
-            said_of(rt.alloc(), text.as_bytes()) == Answer::Stops(place),
-            "{text}"
-        );
+// A text that is no component, and the byte where nothing is read any more.
+const FAULTS_OF_WRITING: [(&str, Answer); 6] = [
+    (
+        "MACHINE A PROPERTIES p = 1 <=> q = 1 & r = 1 END\n",
+        Answer::Stops(37),
+    ),
+    ("MACHINE A END END\n", Answer::Stops(14)),
+    ("MACHINE A", Answer::Stops(9)),
+    ("MACHINE A OPERATIONS f = skip ; g = END", Answer::Stops(30)),
+    (
+        "MACHINE A VARIABLES x, y INITIALISATION x, := 1 END",
+        Answer::Stops(25),
+    ),
+    (
+        "MACHINE A VARIABLES x, y INITIALISATION x, y := END",
+        Answer::Stops(25),
+    ),
+];
+
+// What is written as it has to be is read, whatever else is wrong with it.
+const FAULTS_OF_MEANING: [(&str, Answer); 5] = [
+    (
+        "MACHINE A VARIABLES x INVARIANT x : 0..3 INITIALISATION x, x := 1, 2 END\n",
+        Answer::Read,
+    ),
+    (
+        "MACHINE A VARIABLES x, y INITIALISATION x, y := 1 END",
+        Answer::Read,
+    ),
+    (
+        "MACHINE A VARIABLES n, n INVARIANT n : 0..3 INITIALISATION n := 0 END\n",
+        Answer::Read,
+    ),
+    ("MACHINE A INITIALISATION m := m END", Answer::Read),
+    (
+        "IMPLEMENTATION A_i REFINES A CONCRETE_VARIABLES n INITIALISATION n := n ** 2 END",
+        Answer::Read,
+    ),
+];
+
+fn compare(rt: &impl Abort, alloc: Global, rows: &[(&str, Answer)]) {
+    for (text, wanted) in rows {
+        assert!(rt; said_of(alloc, text.as_bytes()) == *wanted, "{text}");
     }
 }
 
-// What is written as it has to be is read, whatever else is wrong with it.
+#[test]
+fn faults_of_writing(rt: HostRuntime) {
+    compare(&rt, rt.alloc(), &FAULTS_OF_WRITING);
+}
+
 #[test]
 fn faults_of_meaning_alone(rt: HostRuntime) {
-    let table = [
-        "MACHINE A VARIABLES x INVARIANT x : 0..3 INITIALISATION x, x := 1, 2 END\n",
-        "MACHINE A VARIABLES x, y INITIALISATION x, y := 1 END",
-        "MACHINE A VARIABLES n, n INVARIANT n : 0..3 INITIALISATION n := 0 END\n",
-        "MACHINE A INITIALISATION m := m END",
-        "IMPLEMENTATION A_i REFINES A CONCRETE_VARIABLES n INITIALISATION n := n ** 2 END",
-    ];
-    for text in table {
-        assert!(rt;
-            said_of(rt.alloc(), text.as_bytes()) == Answer::Read,
-            "{text}"
-        );
-    }
+    compare(&rt, rt.alloc(), &FAULTS_OF_MEANING);
 }
 
 // Two targets and two values, of which the second target starts at this byte.
@@ -90,57 +111,72 @@ fn one_variable_written_twice_at_once(rt: HostRuntime) {
     assert!(rt; text_is_read_so(rt.alloc(), text.as_bytes(), 59));
 }
 
-// So many parentheses around a number in an invariant.
-fn in_parentheses(alloc: Global, open: &str, closed: &str) -> Result<String, AllocError> {
-    format!(in alloc;
-        "MACHINE Counter VARIABLES n INVARIANT {open}0{closed} = 0 & n : 0..10 INITIALISATION n := 0 END"
-    )
+// What stands round the brackets of a component, between them, and the brackets.
+#[derive(Clone, Copy)]
+struct Nest {
+    front: &'static str,
+    open: &'static str,
+    inner: &'static str,
+    closed: &'static str,
+    back: &'static str,
 }
 
-// So many blocks, one in another.
-fn in_blocks(alloc: Global, open: &str, closed: &str) -> Result<String, AllocError> {
-    format!(in alloc; "MACHINE A INITIALISATION {open}skip{closed} END")
+// Parentheses around a number in an invariant.
+const PARENTHESES: Nest = Nest {
+    front: "MACHINE Counter VARIABLES n INVARIANT ",
+    open: "(",
+    inner: "0",
+    closed: ")",
+    back: " = 0 & n : 0..10 INITIALISATION n := 0 END",
+};
+
+// Blocks, one in another.
+const BLOCKS: Nest = Nest {
+    front: "MACHINE A INITIALISATION ",
+    open: "BEGIN ",
+    inner: "skip",
+    closed: " END",
+    back: " END",
+};
+
+// The component with so many brackets.
+fn nested(alloc: Global, nest: &Nest, count: usize) -> Result<String, AllocError> {
+    let open = nest.open.repeat(alloc, count)?;
+    let closed = nest.closed.repeat(alloc, count)?;
+    let (front, inner, back) = (nest.front, nest.inner, nest.back);
+    format!(in alloc; "{front}{open}{inner}{closed}{back}")
 }
 
-fn says(alloc: Global, text: Result<String, AllocError>, wanted: Answer) -> bool {
-    match text {
-        Ok(text) => said_of(alloc, text.as_bytes()) == wanted,
-        Err(_) => false,
+// How many are open, and what is said then.
+const OPEN_PARENTHESES: [(usize, Answer); 5] = [
+    (0, Answer::Read),
+    (399, Answer::Read),
+    (400, Answer::Read),
+    (401, Answer::Deep(405)),
+    (1000, Answer::Deep(405)),
+];
+
+const OPEN_BLOCKS: [(usize, Answer); 2] = [(400, Answer::Read), (401, Answer::Deep(403))];
+
+fn compare_depths(
+    rt: &impl Abort,
+    alloc: Global,
+    nest: &Nest,
+    rows: &[(usize, Answer)],
+) -> Result<(), Fail> {
+    for (count, wanted) in rows {
+        let text = nested(alloc, nest, *count)?;
+        assert!(rt; said_of(alloc, text.as_bytes()) == *wanted, "{count}");
     }
-}
-
-fn parentheses_say(alloc: Global, count: usize, wanted: Answer) -> Result<bool, AllocError> {
-    let open = "(".repeat(alloc, count)?;
-    let closed = ")".repeat(alloc, count)?;
-    Ok(says(alloc, in_parentheses(alloc, &open, &closed), wanted))
-}
-
-fn blocks_say(alloc: Global, count: usize, wanted: Answer) -> Result<bool, AllocError> {
-    let open = "BEGIN ".repeat(alloc, count)?;
-    let closed = " END".repeat(alloc, count)?;
-    Ok(says(alloc, in_blocks(alloc, &open, &closed), wanted))
+    Ok(())
 }
 
 #[test]
 fn open_parentheses(rt: HostRuntime) -> Result<(), Fail> {
-    let table = [
-        (0, Answer::Read),
-        (399, Answer::Read),
-        (400, Answer::Read),
-        (401, Answer::Deep(405)),
-        (1000, Answer::Deep(405)),
-    ];
-    for (count, wanted) in table {
-        assert!(rt; parentheses_say(rt.alloc(), count, wanted)?, "{count}");
-    }
-    Ok(())
+    compare_depths(&rt, rt.alloc(), &PARENTHESES, &OPEN_PARENTHESES)
 }
 
 #[test]
 fn open_blocks(rt: HostRuntime) -> Result<(), Fail> {
-    let table = [(400, Answer::Read), (401, Answer::Deep(403))];
-    for (count, wanted) in table {
-        assert!(rt; blocks_say(rt.alloc(), count, wanted)?, "{count}");
-    }
-    Ok(())
+    compare_depths(&rt, rt.alloc(), &BLOCKS, &OPEN_BLOCKS)
 }
