@@ -1,15 +1,14 @@
-//! Tests of the translation of developments, of call scripts, and of the replies to them.
+//! Tests of what the program does not show: why a line is no call, lines that no session writes, the texts of a sample, and how
+//! many indices an array has.
 #![tactic(auto)]
 
 #[cfg(test)]
-mod choices;
+mod faults;
 #[cfg(test)]
-mod replies;
+mod images;
+#[cfg(test)]
+mod indices;
+#[cfg(test)]
+mod lines;
 #[cfg(test)]
 mod sample_texts;
-#[cfg(test)]
-mod samples;
-#[cfg(test)]
-mod scripts;
-#[cfg(test)]
-mod translation;

@@ -110,26 +110,28 @@ fn are_files(files: &[(String, Vec<u8>)], expected: &[(&str, &str)]) -> bool {
     true
 }
 
+const FILES: [(&str, &str); 4] = [
+    ("sample.prj", PROJECT),
+    ("Sample.mch", MACHINE),
+    ("Sample_i.imp", IMPLEMENTATION),
+    ("Sample.prf", PROOFS),
+];
+
+const SHELVED: [(&str, &str); 5] = [
+    (SAMPLE_PROJECT, PROJECT),
+    ("Sample.mch", MACHINE),
+    ("Sample_i.imp", IMPLEMENTATION),
+    ("Sample.prf", PROOFS),
+    (SAMPLE_CALLS, CALLS),
+];
+
 #[test]
 fn writes_a_sample_of_two_variables(rt: HostRuntime) -> Result<(), Fail> {
     let alloc = rt.alloc();
     let made = sample(alloc, 2)?;
-    let files: [(&str, &str); 4] = [
-        ("sample.prj", PROJECT),
-        ("Sample.mch", MACHINE),
-        ("Sample_i.imp", IMPLEMENTATION),
-        ("Sample.prf", PROOFS),
-    ];
-    assert!(rt; are_files(made.files(), &files));
+    assert!(rt; are_files(made.files(), &FILES));
     assert!(rt; made.calls() == CALLS.as_bytes());
-    let shelved: [(&str, &str); 5] = [
-        (SAMPLE_PROJECT, PROJECT),
-        ("Sample.mch", MACHINE),
-        ("Sample_i.imp", IMPLEMENTATION),
-        ("Sample.prf", PROOFS),
-        (SAMPLE_CALLS, CALLS),
-    ];
-    assert!(rt; are_files(&made.into_files(alloc)?, &shelved));
+    assert!(rt; are_files(&made.into_files(alloc)?, &SHELVED));
     Ok(())
 }
 

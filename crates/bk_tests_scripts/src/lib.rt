@@ -1,13 +1,10 @@
-//! Tests of proof files, of the rules that their lines stand for, and of the states of obligations.
+//! Tests of what is made of the counter where no case of the program shows it: the rules that lines of proof files stand for, and
+//! its executable part.
 #![tactic(auto)]
 
 #[cfg(test)]
+mod counter;
+#[cfg(test)]
 mod grounding;
 #[cfg(test)]
-mod proof_files;
-#[cfg(test)]
-mod status_tables;
-#[cfg(test)]
-mod texts;
-#[cfg(test)]
-mod whole_tables;
+mod units;

@@ -12,6 +12,10 @@ mod flattening_texts;
 #[cfg(test)]
 mod growth;
 #[cfg(test)]
+mod guarding;
+#[cfg(test)]
+mod guarding_texts;
+#[cfg(test)]
 mod transformer_texts;
 #[cfg(test)]
 mod transformers;

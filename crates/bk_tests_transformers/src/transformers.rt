@@ -7,7 +7,7 @@ ghost use Rattle.bk_wp.specs.Shapes.{HasNoLoop};
 use crate::transformer_texts::{BINDERS, FORMS, LOOPS};
 use crate::written::{flat, form};
 use bk_fixtures::shapes::of_size;
-use bk_form::{Arrays, Form, VarTable};
+use bk_form::{ArrayDomain, ArrayRow, Arrays, Form, VarTable};
 use bk_gsl::{Sub, SubNode};
 use bk_io::Memory;
 use bk_wp::{WpFault, boxed, diamond, guarded};
@@ -26,6 +26,8 @@ pub(crate) enum Transformer<'a> {
     Conditions,
     // The same in an implementation without arrays.
     Executed,
+    // The same in one whose numbers go to 9, where a is an array with the indices 1 to 5.
+    ExecutedWithArray,
 }
 
 // Whether no loop and no `||` stands in the substitution.
@@ -60,6 +62,20 @@ fn executed(alloc: Global, table: &VarTable, sub: &Sub) -> Result<Form, WpFault>
     guarded(alloc, table, sub, Some(&arrays))
 }
 
+// The array a with the indices 1 to 5, and 9 as the greatest number.
+fn arrays(alloc: Global) -> Result<Arrays, Memory> {
+    let domain = ArrayDomain::Interval { low: 1, high: 5 };
+    let rows = vec![in alloc; ArrayRow { var: 8, domain }]?;
+    Ok(Arrays::from_rows(9, rows))
+}
+
+fn executed_with_array(alloc: Global, table: &VarTable, sub: &Sub) -> Result<Form, WpFault>
+    requires { IsFlat sub.now }
+{
+    let arrays = arrays(alloc)?;
+    guarded(alloc, table, sub, Some(&arrays))
+}
+
 fn made(
     alloc: Global,
     table: &VarTable,
@@ -73,6 +89,7 @@ fn made(
         Transformer::Diamond(post) => diamond_of(alloc, table, sub, post),
         Transformer::Conditions => Ok(guarded(alloc, table, sub, None)?),
         Transformer::Executed => Ok(executed(alloc, table, sub)?),
+        Transformer::ExecutedWithArray => Ok(executed_with_array(alloc, table, sub)?),
     }
 }
 

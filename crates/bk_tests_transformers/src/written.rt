@@ -15,11 +15,12 @@ use bk_par::flatten;
 use std::alloc::Global;
 use std::test::Fail;
 
-// The whole numbers x, y and z and the truth value p. Each capital letter stands for the old value of the small one.
-const LETTERS: &str = "xyzpXYZP";
+// The whole numbers x, y and z, the truth value p, and the array a of whole numbers. Each capital letter stands for the old value
+// of the small one.
+const LETTERS: &str = "xyzpXYZPa";
 
 // Their types.
-pub(crate) const TYPES: [&str; 8] = ["i", "i", "i", "b", "i", "i", "i", "b"];
+pub(crate) const TYPES: [&str; 9] = ["i", "i", "i", "b", "i", "i", "i", "b", "PXii"];
 
 // The number of an old value is so much greater than that of its variable.
 const OLD: u32 = 4;

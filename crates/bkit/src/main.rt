@@ -2,23 +2,9 @@
 //! implementation and runs calls on it.
 #![tactic(auto)]
 
-pub mod laws;
-mod program;
-#[cfg(test)]
-mod project_tests;
-#[cfg(test)]
-mod row_files;
-#[cfg(test)]
-mod row_tests;
-#[cfg(test)]
-mod scripted_tests;
-#[cfg(test)]
-mod tests;
-#[cfg(test)]
-mod verb_tests;
-
 use bk_io::{FileShelf, StdSink};
-use program::exit_code;
+pub use bk_program::bkit;
+use bk_program::exit_code;
 use std::process::ExitCode;
 use std::{env, io};
 

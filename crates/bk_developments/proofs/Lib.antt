@@ -1,5 +1,0 @@
-mod NamesDecided
-mod SubsDecided
-mod Decided
-pub mod Facts
-pub mod SumFacts

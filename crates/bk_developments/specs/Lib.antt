@@ -1,9 +1,0 @@
-pub mod Parts
-pub mod Over
-pub mod Swap
-pub mod Fill
-pub mod Pick
-pub mod Chain
-pub mod Spin
-pub mod Stock
-pub mod Sums

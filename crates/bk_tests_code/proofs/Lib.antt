@@ -1,2 +1,0 @@
-pub mod Chooser
-pub mod InB0

@@ -1,5 +1,0 @@
-use Rattle.bkit.proofs.Built.{built_images_run}
-use Rattle.bkit.proofs.laws.built_images_run.Goals as goal
-
-pub returns : goal.returns
-returns c = built_images_run
