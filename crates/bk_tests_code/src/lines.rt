@@ -37,25 +37,27 @@ fn are_outputs(image: &Image, outs: &[i64]) -> bool
     }
 }
 
-fn answer(rt: &impl Abort, alloc: Global, image: &Image, rows: &[Row<'_>]) -> Result<(), Fail> {
+// The line that answers a call of the first operation, after another one in the same buffer.
+fn answer(alloc: Global, image: &Image, end: &CallEnd) -> Result<Vec<u8>, Fail> {
     let outs = [0];
     if !are_outputs(image, &outs) {
         return Err(Fail::from("the outputs"));
     }
     let mut line = ReplyLine::new(alloc, image)?;
-    assert!(rt; line.bytes().is_empty());
-    for (end, wanted) in rows {
-        reply(Some(0), end, &outs, image, &mut line);
-        assert!(rt; line.bytes() == *wanted);
-    }
-    Ok(())
+    reply(None, &CallEnd::OutOfFuel, &[], image, &mut line);
+    reply(Some(0), end, &outs, image, &mut line);
+    Ok(Vec::from_slice(alloc, line.bytes())?)
 }
 
 #[test]
 fn replies_beyond_sessions(rt: HostRuntime) -> Result<(), Fail> {
     let alloc = rt.alloc();
     let image = without_its_set(alloc)?;
-    answer(&rt, alloc, &image, &REPLIES)
+    assert!(rt; ReplyLine::new(alloc, &image)?.bytes().is_empty());
+    for (end, wanted) in &REPLIES {
+        assert!(rt; answer(alloc, &image, end)?.as_slice() == *wanted);
+    }
+    Ok(())
 }
 
 // The numbers of calls and steps, and the last line.
