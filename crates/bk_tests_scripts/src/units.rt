@@ -6,9 +6,10 @@ use bk_gsl::{Sub, SubNode};
 use std::alloc::Global;
 use std::test::Fail;
 
+// The implementation's n and its output; the machine's have the numbers 0 and 1.
 const SLOTS: [Slot; 2] = [
     Slot {
-        variable: 1,
+        variable: 2,
         cells: 1,
     },
     Slot {
