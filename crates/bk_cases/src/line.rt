@@ -11,8 +11,8 @@ pub fn says_bytes(line: &str) -> bool {
         || line.starts_with("times ")
 }
 
-/// Adds the bytes that a line says: behind `|` a text and a line end, behind `\` a text, behind `x` bytes by two hexadecimal digits
-/// each, and behind `times` a number and one of these, so often.
+/// Adds the bytes that a line says: after `|` a text and a line end, after `\` a text, after `x` bytes by two hexadecimal digits
+/// each, and after `times` a number and one of these, so often.
 pub fn add_bytes(alloc: Global, line: &str, bytes: &mut Vec<u8>) -> Result<(), Stop> {
     match line.strip_prefix("times ") {
         Some(rest) => add_repeated(alloc, rest, bytes),
@@ -79,12 +79,12 @@ pub fn is_name(text: &str) -> bool {
             || byte == b'_')
 }
 
-/// What stands before and behind the first place of a part in bytes.
+/// What stands before and after the first place of a part in bytes.
 pub fn parted<'a>(bytes: &'a [u8], part: &[u8]) -> Option<(&'a [u8], &'a [u8])> {
     for start in 0..=bytes.len() {
         let (before, rest) = bytes.split_at(start);
-        if let Some(behind) = rest.strip_prefix(part) {
-            return Some((before, behind));
+        if let Some(after) = rest.strip_prefix(part) {
+            return Some((before, after));
         }
     }
     None
@@ -96,12 +96,12 @@ pub fn replaced(alloc: Global, bytes: &[u8], from: &str, to: &str) -> Result<Vec
     let mut rest = bytes;
     // A place has a byte at least, so there are no more places than bytes.
     for _ in 0..bytes.len() {
-        let Some((before, behind)) = parted(rest, from.as_bytes()) else {
+        let Some((before, after)) = parted(rest, from.as_bytes()) else {
             break;
         };
         made.extend_from_slice(before)?;
         made.extend_from_slice(to.as_bytes())?;
-        rest = behind;
+        rest = after;
     }
     if rest.len() == bytes.len() {
         return Err(Stop::Absent);

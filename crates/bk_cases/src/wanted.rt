@@ -12,7 +12,7 @@ const SHOWN: usize = 4000;
 #[derive(Drop)]
 pub struct Wanted {
     pub status: u8,
-    // those parts behind which others stand
+    // those parts after which others stand
     parts: Vec<Vec<u8>>,
     last: Vec<u8>,
 }
@@ -32,7 +32,7 @@ impl Wanted {
         &mut self.last
     }
 
-    /// Ends the last part; behind it any bytes may stand.
+    /// Ends the last part; after it any bytes may stand.
     pub fn end_part(&mut self, alloc: Global) -> Result<(), Stop> {
         let part = std::mem::replace(&mut self.last, Vec::new(alloc));
         self.parts.push(part)?;
@@ -54,7 +54,7 @@ impl Wanted {
         }
     }
 
-    /// Writes the parts, with a line `..` behind each but the last.
+    /// Writes the parts, with a line `..` after each but the last.
     pub fn show<K: Sink>(&self, out: &mut K) -> Result<(), Stop> {
         for part in &self.parts {
             show_bytes(part, out)?;
@@ -71,12 +71,12 @@ pub fn show_bytes<K: Sink>(bytes: &[u8], out: &mut K) -> Result<(), Stop> {
     Ok(())
 }
 
-// Whether the parts stand in the bytes in order, and behind them the last at the end.
+// Whether the parts stand in the bytes in order, and after them the last at the end.
 fn has_parts(bytes: &[u8], parts: &[Vec<u8>], last: &[u8]) -> bool {
     let mut rest = bytes;
     for part in parts {
         match parted(rest, part) {
-            Some((_, behind)) => rest = behind,
+            Some((_, after)) => rest = after,
             None => return false,
         }
     }
