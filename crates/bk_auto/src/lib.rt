@@ -1,0 +1,13 @@
+//! Scripts that are found: rules that derive a sequent, by the shape of its goal and by linear arithmetic.
+#![tactic(auto)]
+
+mod adding;
+mod arithmetic;
+mod closing;
+mod easy;
+pub mod finding;
+mod ordering;
+mod supposing;
+mod variables;
+
+pub use finding::find;
