@@ -452,7 +452,7 @@ def loops(folder):
 
 
 def chain_of(folder, name, components):
-    """A project of these components, from the machine downwards: of each what stands behind its header."""
+    """A project of these components, from the machine downwards: of each what stands after its header."""
     kinds = ["machine"] + ["refinement"] * (len(components) - 2) + ["implementation"]
     project = []
     for number, (kind, text) in enumerate(zip(kinds, components)):
@@ -515,7 +515,7 @@ def typed_before(folder):
 
 
 def typed_after(folder):
-    """Each variable by the one behind it."""
+    """Each variable by the one after it."""
     typed_by(folder, [f"x{i} = x{i + 1}" for i in range(1, NAMES)] + [f"x{NAMES} : 0..3"])
 
 

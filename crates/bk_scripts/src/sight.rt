@@ -91,23 +91,9 @@ pub(crate) fn outer_entries(
     requires { IfSome level (λ k. k < length dev.now.levels) }
     ensures { IfOk result (λ entries. entries.items ≡ meant.outer_scope table.now dev.now level) }
 {
-    match level {
-        Some(level) => entries_at(alloc, dev, table, level),
-        None => Ok(Vec::new(alloc)),
-    }
-}
-
-// Those that hide, and after them those that are meant.
-fn entries_at(
-    alloc: Global,
-    dev: &Development,
-    table: &VarTable,
-    level: usize,
-) -> Result<Vec<(Text, u32)>, Memory>
-    requires { level < length dev.now.levels }
-    ensures { IfOk result (λ entries. entries.items ≡ meant.hiding (meant.lower_sets dev.now level) ++
-        filter_map (meant.entry table.now) (meant.constants_to dev.now level ++ meant.variables_to dev.now level)) }
-{
+    let Some(level) = level else {
+        return Ok(Vec::new(alloc));
+    };
     let mut scope = hidden_below(alloc, dev, level)?;
     let mut more = entries_to(alloc, dev, table, level)?;
     scope.append(&mut more)?;
