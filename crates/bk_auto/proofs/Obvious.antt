@@ -18,7 +18,11 @@ use Rattle.bk_seq.specs.Sequents.{Sequent, Types, IsWithin}
 use Rattle.bk_laws.specs.Rows.{Instance}
 use Rattle.bk_arith.specs.ClosedSum.{closed_sum}
 use Rattle.bk_arith.specs.Same.{is_same}
-use Rattle.bk_arith.proofs.SameFormula.{same-if}
+use Rattle.std.specs.Borrow.{Bor}
+use Rattle.bk_form.specs.FormShown.{shown}
+use Rattle.bk_form.specs.declared.form.View.{View}
+use Rattle.bk_form.specs.declared.form.View.TheVariants.{Bin}
+use Rattle.bk_arith.proofs.SameFormula.{same-if, same-then}
 use Rattle.bk_kernel.specs.declared.rule.Rule.{Rule}
 use Rattle.bk_kernel.specs.declared.rule.Rule.TheVariants.{Hyp, True, Same, Eval, TypeOf}
 use Rattle.bk_kernel.specs.declared.rule.Place.TheVariants.{Goal}
@@ -111,3 +115,14 @@ closes_decided r0 r1 goal e h = record { more = Eval None ∷ []; same = e; deri
 -- `btrue` is closed, too
 pub closes_true : (r0 r1 : List Rule) (s : Sequent) → s.1 ≡ btrue → r1 ≡ r0 ++ True ∷ [] → Closes r0 r1 s
 closes_true r0 r1 s is e = record { more = True ∷ []; same = e; derives = λ table t w. ([], record { made = ap (λ g. option_map (map (extended s)) (closed_if (is_same g btrue))) is; type = tt; within = tt }, refl) }
+
+pub not_plain : (v : View) → ((o : BinOp) (a b : Bor Formula) → v ≡ Bin o a b → ⊥) → is_plain (shown v) ≡ true → ⊥
+not_plain (Bin o a b) n h = n o a b refl
+not_plain _ n h = cc
+
+pub not_same : (a b : Formula) → (a ≡ b → ⊥) → is_same a b ≡ false
+not_same a b h = at (is_same a b) refl
+  where
+    at : (t : Bool) → is_same a b ≡ t → t ≡ false
+    at true e = absurd (h (same-then a b e))
+    at false e = refl

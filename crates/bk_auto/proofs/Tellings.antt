@@ -1,5 +1,5 @@
 -- What an answer says of a sequent, from what the answers for simpler ones say.
-use Rattle.std.proofs.Common.{◌≡◌, inl, inr, ℕ, zero, suc, ◌+◌, ◌<◌, ◌≤◌, max, List, [], ◌∷◌, ◌++◌, length, length-append, map, refl, sym, ◌∙◌, ap, subst, Bool, true, false, not, ◌&&◌, ◌||◌, arith}
+use Rattle.std.proofs.Common.{◌≡◌, inl, inr, ℕ, zero, suc, ◌+◌, ◌<◌, ◌≤◌, max, List, [], ◌∷◌, ◌++◌, length, length-append, map, refl, sym, ◌∙◌, ap, subst, Bool, true, false, not, ◌&&◌, ◌||◌, arith, All}
 use Rattle.std.proofs.lemmas.List.{append-nil, append_assoc}
 use Rattle.std.specs.Prelude.{Some, None, slice_get}
 use Rattle.std.specs.Global.{Vec}
@@ -15,7 +15,7 @@ use Rattle.bk_form.specs.Settings.{IsOver}
 use Rattle.std.specs.Borrow.{Bor}
 use Rattle.bk_form.specs.FormShown.{shown}
 use Rattle.bk_form.specs.declared.form.View.{View}
-use Rattle.bk_form.specs.declared.form.View.TheVariants.{Bin, All, False}
+use Rattle.bk_form.specs.declared.form.View.TheVariants.{Bin, All as Universal, False}
 use Rattle.bk_form.specs.declared.operator.BinOp.{BinOp}
 use Rattle.bk_form.specs.declared.operator.BinOp.TheVariants.{And as Conjunction, Imp as Implication, Eq, Lt, Le, In, Range}
 use Rattle.bk_form.proofs.Members.{and-both, and-true}
@@ -39,13 +39,13 @@ use Rattle.bk_kernel.specs.Derivations.{Leaves, Derives}
 use Rattle.bk_kernel.specs.Rewriting.{law_instance, stands_for, same_role}
 use Rattle.bk_kernel.proofs.Viewed.{give_each-then}
 use Rattle.std.specs.List.{list_all}
-use Rattle.bk_auto.specs.Easy.{IsEasyIn, EasyOf, EasyBy, AreContradictory, terms_read, parts, supposed}
+use Rattle.bk_auto.specs.Easy.{IsEasy, IsEasyIn, EasyOf, EasyBy, AreContradictory, terms_read, parts, supposed}
 use Rattle.bk_auto.specs.Found.{IsShort, IsReady, IsHard, Adds, Closes, Told, Settles, Orders, ClosesBoth, TellsBoth, splits, IsLawOfGoal, GrewBy, numbers_from}
 use Rattle.bk_auto.proofs.Composing.{derives_both, derives_supposed, derives_fixed, derives_split}
 use Rattle.bk_auto.proofs.Laws.{equal_is, within_is, derives_by_law}
 use Rattle.bk_auto.proofs.Inversion.{easy_both, easy_supposed, easy_opened, easy_within, easy_equal, easy_at_most, easy_less, easy_false, easy_by_shape}
 use Rattle.bk_auto.proofs.Wider.{wider-refl, wider-trans, number-wider, easy_wider}
-use Rattle.bk_auto.proofs.Ready.{each-map, ready-types, ready-wider, ready-within, ready-left, ready-right, ready-more, short-within, IsFine, and-sides, imp-sides, parts-fine, goal-fine, with_more}
+use Rattle.bk_auto.proofs.Ready.{each-map, each-all, ready-types, ready-wider, ready-within, ready-left, ready-right, ready-more, short-within, IsFine, and-sides, imp-sides, parts-fine, goal-fine, with_more}
 use Rattle.bk_auto.proofs.Opened.{size_opened, height_opened}
 use Rattle.bk_auto.proofs.Fresh.{fresh}
 
@@ -324,12 +324,28 @@ pub hard_sides : (o : BinOp) (table : Table) (hyps : List Formula) (p q goal : F
 hard_sides o table hyps p q goal e = subst (λ (g : Formula). is_obvious hyps g ≡ false → (o ≡ Conjunction → ⊥) → (o ≡ Implication → ⊥) → (o ≡ In → ⊥) → (o ≡ Eq → ⊥) → (o ≡ Le → ⊥) → (o ≡ Lt → ⊥) → IsHard table (hyps, g)) e
     (λ unclosed a i m q' l s n k. let j = easy_by_shape n table hyps (binary o p q) unclosed k in other-sides o table hyps p q j.0 a i m q' l s j.1)
 
-other-shape : (v : View) (table : Table) (hyps : List Formula) (n : ℕ) → ((o : BinOp) (a b : Bor Formula) → v ≡ Bin o a b → ⊥) → ((ts : Bor (List ValueType)) (p : Bor Formula) → v ≡ All ts p → ⊥) → (v ≡ False → ⊥) → EasyBy (IsEasyIn n) table hyps (shown v) → ⊥
+other-shape : (v : View) (table : Table) (hyps : List Formula) (n : ℕ) → ((o : BinOp) (a b : Bor Formula) → v ≡ Bin o a b → ⊥) → ((ts : Bor (List ValueType)) (p : Bor Formula) → v ≡ Universal ts p → ⊥) → (v ≡ False → ⊥) → EasyBy (IsEasyIn n) table hyps (shown v) → ⊥
 other-shape (Bin o a b) table hyps n x y z h = x o a b refl
-other-shape (All ts p) table hyps n x y z h = y ts p refl
+other-shape (Universal ts p) table hyps n x y z h = y ts p refl
 other-shape False table hyps n x y z h = z refl
 other-shape _ table hyps n x y z h = h
 
-pub hard_shape : (v : View) (table : Table) (hyps : List Formula) (goal : Formula) → shown v ≡ goal → is_obvious hyps goal ≡ false → ((o : BinOp) (a b : Bor Formula) → v ≡ Bin o a b → ⊥) → ((ts : Bor (List ValueType)) (p : Bor Formula) → v ≡ All ts p → ⊥) → (v ≡ False → ⊥) → IsHard table (hyps, goal)
-hard_shape v table hyps goal e = subst (λ (g : Formula). is_obvious hyps g ≡ false → ((o : BinOp) (a b : Bor Formula) → v ≡ Bin o a b → ⊥) → ((ts : Bor (List ValueType)) (p : Bor Formula) → v ≡ All ts p → ⊥) → (v ≡ False → ⊥) → IsHard table (hyps, g)) e
+pub hard_shape : (v : View) (table : Table) (hyps : List Formula) (goal : Formula) → shown v ≡ goal → is_obvious hyps goal ≡ false → ((o : BinOp) (a b : Bor Formula) → v ≡ Bin o a b → ⊥) → ((ts : Bor (List ValueType)) (p : Bor Formula) → v ≡ Universal ts p → ⊥) → (v ≡ False → ⊥) → IsHard table (hyps, goal)
+hard_shape v table hyps goal e = subst (λ (g : Formula). is_obvious hyps g ≡ false → ((o : BinOp) (a b : Bor Formula) → v ≡ Bin o a b → ⊥) → ((ts : Bor (List ValueType)) (p : Bor Formula) → v ≡ Universal ts p → ⊥) → (v ≡ False → ⊥) → IsHard table (hyps, g)) e
     (λ unclosed x y z n k. let j = easy_by_shape n table hyps (shown v) unclosed k in other-shape v table hyps j.0 x y z j.1)
+
+-- ---- the whole
+pub found : (table : Table) (rules : List Rule) (s : Sequent) → IsWellFormed table → Adds table [] rules s → Derives table rules s
+found table rules s well a = subst (λ (rs : List Rule). Derives table rs s) (sym a.same) (a.derives table well (wider-refl table))
+
+pub not_easy : (table : Table) (s : Sequent) → IsHard table s → IsEasy table s → ⊥
+not_easy table s h e = h e.steps e.easy
+
+pub large_goal : (table : Table) (s : Sequent) → (IsShort s.1 → ⊥) → IsEasy table s → ⊥
+large_goal table s h e = h (record { nodes = e.goal.nodes; height = e.goal.height })
+
+pub large_hyps : (table : Table) (s : Sequent) → (All IsShort s.0 → ⊥) → IsEasy table s → ⊥
+large_hyps table s h e = h (λ k d b. record { nodes = (e.hyps k d b).nodes; height = (e.hyps k d b).height })
+
+pub ready_from : (table : Table) (s : Sequent) → IsWellFormed table → Types table s → All IsShort s.0 → IsShort s.1 → IsReady table s
+ready_from table s well types hyps goal = record { well = well; types = types; hyps = each-all IsShort s.0 hyps; goal = goal }

@@ -1,6 +1,6 @@
 // Goals that follow from all hypotheses that linear arithmetic reads.
 
-ghost use Rattle.std.specs.Prelude.{◌≡◌, ◌↔◌, ◌≤◌, ◌+◌, ◌++◌, ◌∷◌, [], true, false, ⊥, All, IsTrue, IfOk, OnOk, MatchOption, is_none, None};
+ghost use Rattle.std.specs.Prelude.{◌≡◌, ◌↔◌, ◌≤◌, ◌+◌, ◌++◌, ◌∷◌, [], true, false, All, IsTrue, IfOk, OnOk, MatchOption, is_none, None};
 ghost use Rattle.std.specs.Int.RustNames.{unsigned_abs};
 ghost use Rattle.bk_arith.specs.Comparison.{terms_of_goal};
 ghost use Rattle.bk_arith.specs.Decision.{first_unread, terms_of, is_accepted};

@@ -1,6 +1,6 @@
 //! Rules for a sequent.
 
-ghost use Rattle.std.specs.Prelude.{◌≡◌, ◌↔◌, ⊥, None, Ok, All, IfOk, IfSome, IsTrue};
+ghost use Rattle.std.specs.Prelude.{◌≡◌, ◌↔◌, None, Ok, All, IfOk, IfSome, IsTrue};
 ghost use Rattle.bk_seq.specs.Sequents.{sequent_of, Types};
 ghost use Rattle.bk_kernel.specs.Derivations.{Derives};
 ghost use Rattle.bk_auto.specs.Easy.{IsEasy};
@@ -8,6 +8,7 @@ ghost use Rattle.bk_auto.specs.NewVariables.{HasNew};
 ghost use Rattle.bk_auto.specs.Found.{IsShort};
 
 use crate::easy::easy;
+use crate::variables::is_formed;
 use bk_form::{Form, VarTable};
 use bk_io::Memory;
 use bk_kernel::Rule;
@@ -30,15 +31,19 @@ pub fn find(
     ensures none { result ≡ Ok None → IsEasy types.old (sequent_of sequent.now) → ⊥ }
     ensures new { HasNew types.old types.new }
 {
-    if !is_short(&sequent.goal) || !are_short(&sequent.hyps) {
+    if !is_short(&sequent.goal) {
         return Ok(None);
     }
-    let mut rules = Vec::new(alloc);
-    if easy(alloc, types, sequent, &mut rules)? {
-        Ok(Some(rules))
-    } else {
-        Ok(None)
+    if !are_short(&sequent.hyps) {
+        return Ok(None);
     }
+    is_formed(types);
+    let mut rules = Vec::new(alloc);
+    if !easy(alloc, types, sequent, &mut rules)? {
+        return Ok(None);
+    }
+    is_formed(types);
+    Ok(Some(rules))
 }
 
 // Whether none of the formulas is large.

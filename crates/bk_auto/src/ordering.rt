@@ -1,6 +1,6 @@
 // Orders of numbers: alone, or two of them for an equation or a membership of an interval.
 
-ghost use Rattle.std.specs.Prelude.{◌≡◌, ◌<◌, ◌+◌, ◌-◌, ◌^◌, [], true, false, ⊥, map, Ok, IfOk, OnOk};
+ghost use Rattle.std.specs.Prelude.{◌≡◌, ◌<◌, ◌+◌, ◌-◌, ◌^◌, [], true, false, map, Ok, IfOk, OnOk};
 ghost use Rattle.bk_val.specs.ValueType.{int_type};
 ghost use Rattle.bk_form.specs.Formula.{binary, formula_size};
 ghost use Rattle.bk_form.specs.Role.{role, gives};
@@ -46,7 +46,7 @@ pub(crate) fn within(
     };
     add_law(alloc, rules, WITHIN, &[element, low, high])?;
     add(rules, Rule::And)?;
-    both_orders(alloc, sequent, (low, element), (element, high), rules)
+    both_orders(alloc, sequent, low, element, high, rules)
 }
 
 /// The goal `a = b`, where these are integers: `a <= b` and `b <= a`.
@@ -68,7 +68,7 @@ pub(crate) fn equal(
     }
     add_law(alloc, rules, EQUAL, &[left, right])?;
     add(rules, Rule::And)?;
-    both_orders(alloc, sequent, (left, right), (right, left), rules)
+    both_orders(alloc, sequent, left, right, left, rules)
 }
 
 // The sides of a formula of this operator.
@@ -100,25 +100,26 @@ fn add_law(alloc: Global, rules: &mut Vec<Rule>, law: u16, picks: &[&Form]) -> R
     )
 }
 
-// Both orders of two numbers, one after the other.
+// `low <= middle`, then `middle <= high`.
 fn both_orders(
     alloc: Global,
     sequent: &Sequent,
-    first: (&Form, &Form),
-    second: (&Form, &Form),
+    low: &Form,
+    middle: &Form,
+    high: &Form,
     rules: &mut Vec<Rule>,
 ) -> Result<bool, Memory>
-    requires first { formula_size first.0.now + formula_size first.1.now < 2 ^ 32 - 1 }
-    requires second { formula_size second.0.now + formula_size second.1.now < 2 ^ 32 - 1 }
+    requires first { formula_size low.now + formula_size middle.now < 2 ^ 32 - 1 }
+    requires second { formula_size middle.now + formula_size high.now < 2 ^ 32 - 1 }
     ensures { IfOk result (λ b. TellsBoth b rules.old.items rules.new.items sequent.now.hyps.items
-        (binary Le first.0.now first.1.now) (binary Le second.0.now second.1.now)) }
+        (binary Le low.now middle.now) (binary Le middle.now high.now)) }
 {
-    let low = order(alloc, sequent, first.0, first.1)?;
-    if !by_order(alloc, &low, rules)? {
+    let first = order(alloc, sequent, low, middle)?;
+    if !by_order(alloc, &first, rules)? {
         return Ok(false);
     }
-    let high = order(alloc, sequent, second.0, second.1)?;
-    by_order(alloc, &high, rules)
+    let second = order(alloc, sequent, middle, high)?;
+    by_order(alloc, &second, rules)
 }
 
 // The sequent with the goal `left <= right`.

@@ -1,6 +1,6 @@
 // New variables, with texts that no other one has.
 
-ghost use Rattle.std.specs.Prelude.{◌≡◌, ◌∷◌, [], true, false, ⊥, ℕ, Some, decimal, length, slice_get, IfOk, OnOk, MatchOption};
+ghost use Rattle.std.specs.Prelude.{◌≡◌, ◌∷◌, [], true, false, ℕ, Some, decimal, length, slice_get, IfOk, OnOk, MatchOption};
 ghost use Rattle.std.specs.List.{Contains};
 ghost use Rattle.bk_form.specs.Role.{all_listed};
 ghost use Rattle.bk_form.specs.Table.{lists_type, variable_text, set_name, set_elements, IsWellFormed};

@@ -1,0 +1,25 @@
+use Rattle.std.proofs.Common.{◌≡◌, ◌∙◌, ap, sym, subst, List, arith, All}
+use Rattle.bk_form.specs.Formula.{Formula, binary}
+use Rattle.bk_seq.specs.Sequents.{sequent_of}
+use Rattle.bk_auto.specs.Found.{IsShort}
+use Rattle.bk_auto.proofs.Wider.{has_new-refl}
+use Rattle.bk_auto.proofs.Tellings.{found, not_easy, large_goal, large_hyps, ready_from}
+use Rattle.bk_auto.proofs.finding.find.Goals as goal
+
+pub returns-then-not-is_short-clause-none : goal.returns-then-not-is_short-clause-none
+returns-then-not-is_short-clause-none c = λ e. large_goal c.args.types.now (sequent_of c.args.sequent.now) (λ s. (let t = sym (c.is_short.ensures.1 s) ∙ c.if-not-is_short.true in cc))
+
+pub returns-then-not-is_short-clause-new : goal.returns-then-not-is_short-clause-new
+returns-then-not-is_short-clause-new c = has_new-refl c.args.types.now
+
+pub returns-then-not-are_short-clause-new : goal.returns-then-not-are_short-clause-new
+returns-then-not-are_short-clause-new c = has_new-refl c.args.types.now
+
+pub returns-then-not-are_short-clause-none : goal.returns-then-not-are_short-clause-none
+returns-then-not-are_short-clause-none c = λ e. large_hyps c.args.types.now (sequent_of c.args.sequent.now)
+    (λ s. (let t = sym (c.are_short.ensures.1 (subst (λ (hs : List Formula). All IsShort hs) (sym c.deref.ensures.value) s)) ∙ c.if-not-are_short.true in cc))
+
+pub easy-requires : goal.easy-requires
+easy-requires c =
+    ready_from c.args.types.now (sequent_of c.args.sequent.now) c.is_formed.ensures c.requires
+    (subst (λ (hs : List Formula). All IsShort hs) c.deref.ensures.value (c.are_short.ensures.0 c.if-not-are_short.false)) (c.is_short.ensures.0 c.if-not-is_short.false)
