@@ -128,7 +128,7 @@ types-from table vs (v ∷ more) rest n long is =
     and-true (gives_type (given_by (variable_type table n)) v.of_type) (give_each table (map (λ x. x.of_type) more) (names_of (numbers_from (suc n) (length more)))) given
     (types-from table (vs ++ v ∷ []) more rest (suc n) (let e = length-append vs (v ∷ []) in omega arith) (is ∙ sym (append_assoc vs (v ∷ []) (more ++ rest))))
 
-length_map : {A B : Type 0} (f : A → B) (xs : List A) → length (map f xs) ≡ length xs
+pub length_map : {A B : Type 0} (f : A → B) (xs : List A) → length (map f xs) ≡ length xs
 length_map f [] = refl
 length_map f (x ∷ xs) = ap suc (length_map f xs)
 

@@ -1,14 +1,17 @@
 -- Steps and ends of the loops.
 use Rattle.std.proofs.Common.{◌≡◌, inl, inr, ℕ, zero, suc, ◌+◌, ◌<◌, ◌≤◌, List, [], ◌∷◌, ◌++◌, length, length-append, map, take, drop, get_or, refl, sym, ◌∙◌, ap, subst, Bool, true, false, ◌||◌, cond, Some, None, arith}
 use Rattle.std.proofs.lemmas.Bool.{cases_Bool}
-use Rattle.std.proofs.lemmas.List.{append-nil, append_assoc, map-append, at_drop_more, drop_all}
+use Rattle.std.proofs.lemmas.List.{append-nil, append_assoc, map-append, at_drop_more, drop_all, take_more}
 use Rattle.std.proofs.lemmas.List.Elements.{Contains-append_cases}
 use Rattle.std.proofs.lemmas.Option.{slice_get_within, slice_get_past}
 use Rattle.std.specs.Prelude.{Option, slice_get, is_some, is_none, MatchOption}
 use Rattle.std.specs.Option.{option_map}
 use Rattle.std.specs.List.{Contains, list_any, flat_map}
 use Rattle.bk_form.specs.Formula.{Formula}
-use Rattle.bk_form.specs.Table.{Table, SetEntry, VariableEntry, with_variable}
+use Rattle.bk_form.specs.Table.{Table, SetEntry, VariableEntry, with_variable, lists_type}
+use Rattle.bk_form.specs.Role.{all_listed}
+use Rattle.bk_form.proofs.Members.{and-both}
+use Rattle.bk_auto.proofs.Fresh.{length_map}
 use Rattle.bk_val.specs.ValueType.{ValueType}
 use Rattle.bk_arith.specs.Comparison.{terms_of_hypothesis}
 use Rattle.bk_arith.specs.Same.{is_same}
@@ -146,3 +149,28 @@ grew_more a b c ts us h k = record {
 
 pub grew_new : (a b : Table) (ts : List ValueType) → GrewBy a b ts → HasNew a b
 grew_new a b ts h = record { more = h.more; made = h.made; new = h.new }
+
+-- ---- several new variables
+listed_at : (table : Table) (ts : List ValueType) (i : ℕ) (d : ValueType) → i < length ts → all_listed table ts ≡ true → lists_type table (get_or ts i d) ≡ true
+listed_at table [] i d b h = absurd (omega arith)
+listed_at table (t ∷ ts) zero d b h = (and-both (lists_type table t) (all_listed table ts) h).0
+listed_at table (t ∷ ts) (suc i) d b h = listed_at table ts i d (omega arith) (and-both (lists_type table t) (all_listed table ts) h).1
+
+pub listed_still : (small large : Table) (taken ts : List ValueType) (i : ℕ) (t : ValueType) → GrewBy small large taken → all_listed small ts ≡ true → i < length ts → t ≡ get_or ts i t → lists_type large t ≡ true
+listed_still small large taken ts i t g h b is = ap (λ (x : Table). lists_type x t) g.made ∙ ap (lists_type small) is ∙ listed_at small ts i t b h
+
+numbers-last : (n k : ℕ) → numbers_from n k ++ (n + k) ∷ [] ≡ numbers_from n (suc k)
+numbers-last n zero = let e : n + 0 ≡ n = omega arith in ap (λ m. m ∷ []) e
+numbers-last n (suc k) = let e : n + suc k ≡ suc n + k = omega arith in ap (λ xs. n ∷ xs) (ap (λ m. numbers_from (suc n) k ++ m ∷ []) e ∙ numbers-last (suc n) k)
+
+pub numbers_pushed : (small large : Table) (taken : List ValueType) (names more : List ℕ) (i n : ℕ) → GrewBy small large taken → length taken ≡ i → names ≡ numbers_from (length small.variables) i → n ≡ length large.variables → more ≡ names ++ n ∷ [] → more ≡ numbers_from (length small.variables) (i + 1)
+numbers_pushed small large taken names more i n g count are is e =
+    let some : length g.more ≡ i = sym (length_map (λ (v : VariableEntry). v.of_type) g.more) ∙ ap length g.types ∙ count in
+    let all : length large.variables ≡ length small.variables + length g.more = ap (λ (t : Table). length t.variables) g.made ∙ length-append small.variables g.more in
+    let number : n ≡ length small.variables + i = omega arith in
+    let next : suc i ≡ i + 1 = omega arith in
+    e ∙ (λ j. are j ++ number j ∷ []) ∙ numbers-last (length small.variables) i ∙ ap (numbers_from (length small.variables)) next
+
+pub grew_step : (a b c : Table) (ts : List ValueType) (i : ℕ) (t : ValueType) → GrewBy a b (take i ts) → GrewBy b c (t ∷ []) → i < length ts → t ≡ get_or ts i t → GrewBy a c (take (i + 1) ts)
+grew_step a b c ts i t h k below is =
+    subst (GrewBy a c) (ap (λ x. take i ts ++ x ∷ []) is ∙ sym (take_more ts i t below)) (grew_more a b c (take i ts) (t ∷ []) h k)

@@ -1,6 +1,6 @@
 -- Facts that were read: where they are within the bounds, the elimination decides whether they contradict each other.
 use Rattle.std.proofs.Common.{◌≡◌, inl, inr, ℕ, suc, ◌+◌, ◌≤◌, ◌^◌, true, false, cond, List, [], ◌∷◌, ◌++◌, map, length, Some, None, refl, ap, sym, subst, ◌∙◌, All, Bool, arith, Option}
-use Rattle.std.specs.Prelude.{is_none}
+use Rattle.std.specs.Prelude.{is_none, MatchOption}
 use Rattle.std.specs.Global.{Vec}
 use Rattle.std.specs.List.{list_any, position_from}
 use Rattle.std.specs.Option.{option_or, option_map, some_prefix}
@@ -125,3 +125,8 @@ closes_lin r0 r1 hyps goal numbers lines line e same one right = record {
   same = e;
   derives = λ table t w. derives table hyps goal numbers lines same (ap (is_accepted (comparisons hyps) goal) one ∙ right);
 }
+
+-- what the elimination answers
+pub decides : (hyps : List Formula) (goal : Formula) (fs : List Fact) (r : AreReadFrom hyps goal fs) (o : Option Line) → MatchOption o ((ms : List ℕ) → Refutes (width_of fs) (inequalities fs) ms → ⊥) (λ line. certificate_fault (width_of fs) (inequalities fs) (line ∷ []) ≡ None) → MatchOption o (AreContradictory (terms_of hyps goal) → ⊥) (λ line. is_accepted hyps goal (line ∷ []) ≡ true)
+decides hyps goal fs r None h = not_refuted hyps goal fs r h
+decides hyps goal fs r (Some line) h = certified hyps goal fs r line h
