@@ -10,3 +10,5 @@ pub mod Tellings
 pub mod Obvious
 pub mod Refuted
 pub mod Loops
+pub mod Taken
+pub mod Shapes

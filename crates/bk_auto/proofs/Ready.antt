@@ -14,9 +14,9 @@ use Rattle.bk_form.specs.declared.operator.BinOp.TheVariants.{And, Imp, Eq, Lt, 
 use Rattle.bk_form.proofs.RoleParts.{connective-parts, equality-parts, membership-parts, interval-parts}
 use Rattle.bk_bind.specs.Limits.{IsWithinLimits}
 use Rattle.bk_seq.specs.Sequents.{Sequent, Types, IsWithin}
-use Rattle.bk_kernel.proofs.DerivedValid.{types-wider}
 use Rattle.bk_auto.specs.Easy.{parts, supposed}
 use Rattle.bk_auto.specs.Found.{IsShort, IsReady}
+use Rattle.bk_auto.proofs.Wider.{types-wider}
 
 -- ---- lists
 pub each-append : {A : Type 0} (P : A → Type 0) (xs ys : List A) → Each P xs → Each P ys → Each P (xs ++ ys)

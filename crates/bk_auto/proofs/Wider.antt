@@ -4,11 +4,14 @@ use Rattle.std.proofs.lemmas.List.{append-nil, append_assoc}
 use Rattle.bk_val.specs.ValueType.{ValueType, int_type}
 use Rattle.bk_form.specs.Table.{Table, VariableEntry, IsWellFormed, with_variable}
 use Rattle.bk_form.specs.Wider.{IsWider, IsTypedRole}
+use Rattle.bk_form.specs.Each.{Each}
+use Rattle.bk_form.specs.Predicates.{IsPredicate}
 use Rattle.bk_form.specs.Role.{role, gives}
 use Rattle.bk_form.specs.Formula.{Formula, bfalse, binary, for_all}
 use Rattle.bk_form.specs.declared.operator.BinOp.{BinOp}
 use Rattle.bk_form.specs.declared.operator.BinOp.TheVariants.{And, Imp, Eq, Lt, Le, In, Range}
 use Rattle.bk_form.proofs.Widening.{widening_roles}
+use Rattle.bk_seq.specs.Sequents.{Sequent, Types}
 use Rattle.bk_auto.specs.Easy.{IsEasyIn, EasyOf, EasyBy, supposed}
 use Rattle.bk_auto.specs.NewVariables.{AreNew, HasNew}
 
@@ -55,6 +58,13 @@ has_new-wider a b h = record {
 module _ (small large : Table) (well : IsWellFormed small) (wider : IsWider small large) where
   pub number-wider : (f : Formula) → role small [] f ≡ gives int_type → role large [] f ≡ gives int_type
   number-wider f h = widening_roles small large well wider [] f (subst IsTypedRole (sym h) tt) ∙ h
+
+  predicates-wider : (ps : List Formula) → Each (IsPredicate small) ps → Each (IsPredicate large) ps
+  predicates-wider [] h = tt
+  predicates-wider (p ∷ ps) h = (widening_roles small large well wider [] p (subst IsTypedRole (sym h.0) tt) ∙ h.0, predicates-wider ps h.1)
+
+  pub types-wider : (s : Sequent) → Types small s → Types large s
+  types-wider s h = (predicates-wider s.0 h.0, widening_roles small large well wider [] s.1 (subst IsTypedRole (sym h.1) tt) ∙ h.1)
 
   easy_of : (n : ℕ) → ((hyps : List Formula) (goal : Formula) → IsEasyIn n small hyps goal → IsEasyIn n large hyps goal) → (o : BinOp) (hyps : List Formula) (p q : Formula) → EasyOf (IsEasyIn n) small o hyps p q → EasyOf (IsEasyIn n) large o hyps p q
   easy_of n f And hyps p q h = (f hyps p h.0, f hyps q h.1)

@@ -1,6 +1,6 @@
 // Orders of numbers: alone, or two of them for an equation or a membership of an interval.
 
-ghost use Rattle.std.specs.Prelude.{◌≡◌, ◌<◌, ◌+◌, ◌-◌, ◌^◌, [], true, false, map, Ok, IfOk, OnOk};
+ghost use Rattle.std.specs.Prelude.{◌≡◌, ◌↔◌, ◌<◌, ◌+◌, ◌-◌, ◌^◌, [], true, false, map, Ok, IsTrue, IfOk, OnOk};
 ghost use Rattle.bk_val.specs.ValueType.{int_type};
 ghost use Rattle.bk_form.specs.Formula.{binary, formula_size};
 ghost use Rattle.bk_form.specs.Role.{role, gives};
@@ -14,7 +14,7 @@ ghost use Rattle.bk_auto.specs.Found.{IsReady, Told, TellsBoth, Orders, IsOrder,
 use crate::adding::add;
 use crate::arithmetic::by_arithmetic;
 use crate::closing::close;
-use bk_form::{BinOp, Form, Part, TyView, VarTable, View};
+use bk_form::{BinOp, Form, Part, Ty, TyView, VarTable, View};
 use bk_io::Memory;
 use bk_kernel::{Place, Rule, is_obvious};
 use bk_seq::Sequent;
@@ -153,7 +153,17 @@ fn is_number(alloc: Global, types: &VarTable, form: &Form) -> Result<bool, Memor
 {
     let none = Vec::new(alloc);
     match role_of(alloc, form, &none, types)? {
-        Role::Value(ty) => Ok(matches!(ty.view(), TyView::Int)),
+        Role::Value(ty) => Ok(is_integer(&ty)),
         _ => Ok(false),
+    }
+}
+
+// Whether it is the type of whole numbers.
+fn is_integer(ty: &Ty) -> bool
+    ensures { IsTrue result ↔ (ty.now ≡ int_type) }
+{
+    match ty.view() {
+        TyView::Int => true,
+        _ => false,
     }
 }

@@ -23,3 +23,12 @@ pub easy-requires : goal.easy-requires
 easy-requires c =
     ready_from c.args.types.now (sequent_of c.args.sequent.now) c.is_formed.ensures c.requires
     (subst (λ (hs : List Formula). All IsShort hs) c.deref.ensures.value (c.are_short.ensures.0 c.if-not-are_short.false)) (c.is_short.ensures.0 c.if-not-is_short.false)
+
+pub returns-then-not-branch-clause-none : goal.returns-then-not-branch-clause-none
+returns-then-not-branch-clause-none c = λ e. not_easy c.args.types.now (sequent_of c.args.sequent.now) (hard_of c.in_ok-easy.field-0 c.args.types.now c.easy.new.types c.new-rules.result.items c.easy.new.rules.items (sequent_of c.args.sequent.now) c.if-not-branch.true c.in_ok-easy.ensures)
+
+pub returns-then-not-branch-clause-new : goal.returns-then-not-branch-clause-new
+returns-then-not-branch-clause-new c = c.easy.ensures.new
+
+pub returns-clause-derives : goal.returns-clause-derives
+returns-clause-derives c = ?
