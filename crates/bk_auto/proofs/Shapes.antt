@@ -17,13 +17,14 @@ use Rattle.bk_kernel.specs.declared.rule.Rule.{Rule}
 use Rattle.bk_kernel.specs.declared.rule.Rule.TheVariants.{And, Imp, Fix, True}
 use Rattle.bk_kernel.specs.Naming.{names_of}
 use Rattle.bk_kernel.specs.Obvious.{is_obvious}
-use Rattle.bk_auto.specs.Easy.{supposed}
+use Rattle.bk_kernel.specs.Derivations.{Derives}
+use Rattle.bk_auto.specs.Easy.{IsEasy, supposed}
 use Rattle.bk_auto.specs.NewVariables.{HasNew}
 use Rattle.bk_auto.specs.Found.{IsReady, IsHard, IsOrder, Adds, Settles, Orders, Closes, ClosesBoth, Told, TellsBoth, GrewBy, numbers_from, splits}
 use Rattle.bk_auto.proofs.Wider.{has_new-wider}
 use Rattle.bk_auto.proofs.Ready.{ready-left, ready-right, ready-supposed, ready-wider}
 use Rattle.bk_auto.proofs.Obvious.{closes_true}
-use Rattle.bk_auto.proofs.Tellings.{told_closed, told_both, told_supposed, told_fixed, ready_opened, hard_first, ordered}
+use Rattle.bk_auto.proofs.Tellings.{told_closed, told_both, told_supposed, told_fixed, ready_opened, hard_first, ordered, found, not_easy}
 
 -- ---- answers that are known
 hard_of : (b : Bool) (small large : Table) (r0 r1 : List Rule) (s : Sequent) → b ≡ false → Told b small large r0 r1 s → IsHard small s
@@ -31,6 +32,13 @@ hard_of b small large r0 r1 s e h = subst (λ (x : Bool). Told x small large r0 
 
 adds_of : (b : Bool) (small large : Table) (r0 r1 : List Rule) (s : Sequent) → b ≡ true → Told b small large r0 r1 s → Adds large r0 r1 s
 adds_of b small large r0 r1 s e h = subst (λ (x : Bool). Told x small large r0 r1 s) e h
+
+-- ---- the answer of the search
+pub not_found : (b : Bool) (small large : Table) (r0 r1 : List Rule) (s : Sequent) → b ≡ false → Told b small large r0 r1 s → IsEasy small s → ⊥
+not_found b small large r0 r1 s failed h = not_easy small s (hard_of b small large r0 r1 s failed h)
+
+pub found_rules : (b : Bool) (small large : Table) (r0 r1 : List Rule) (s : Sequent) → b ≡ true → r0 ≡ [] → IsWellFormed large → Told b small large r0 r1 s → Derives large r1 s
+found_rules b small large r0 r1 s passed none well h = found large r1 s well (subst (λ (rs : List Rule). Adds large rs r1 s) none (adds_of b small large r0 r1 s passed h))
 
 -- ---- goals that are read by arithmetic
 pub reads_false : (goal : Formula) → bfalse ≡ goal → is_none (terms_of_goal goal) ≡ false
@@ -50,7 +58,7 @@ orders_as : (a b : Bool) (r0 r1 : List Rule) (s t : Sequent) → a ≡ b → s �
 orders_as a b r0 r1 s t e f h = subst (λ (x : Sequent). Orders b r0 r1 x) f (subst (λ (x : Bool). Orders x r0 r1 s) e h)
 
 pub first_fails : (b : Bool) (r0 r1 : List Rule) (hyps : List Formula) (p q : Formula) (s : Sequent) → b ≡ false → s ≡ (hyps, p) → Orders b r0 r1 s → TellsBoth false r0 r1 hyps p q
-first_fails b r0 r1 hyps p q s no e h = λ n table k l. orders_as b false r0 r1 s (hyps, p) no e h table n k
+first_fails b r0 r1 hyps p q s failed e h = λ n table k l. orders_as b false r0 r1 s (hyps, p) failed e h table n k
 
 both_tell : (b : Bool) (r0 r1 r2 : List Rule) (hyps : List Formula) (p q : Formula) → Closes r0 r1 (hyps, p) → Orders b r1 r2 (hyps, q) → TellsBoth b r0 r2 hyps p q
 both_tell true r0 r1 r2 hyps p q c d = record {
@@ -63,7 +71,7 @@ both_tell true r0 r1 r2 hyps p q c d = record {
 both_tell false r0 r1 r2 hyps p q c d = λ n table k l. d table n l
 
 pub second_tells : (a b : Bool) (r0 r1 r2 : List Rule) (hyps : List Formula) (p q : Formula) (s t : Sequent) → a ≡ true → s ≡ (hyps, p) → t ≡ (hyps, q) → Orders a r0 r1 s → Orders b r1 r2 t → TellsBoth b r0 r2 hyps p q
-second_tells a b r0 r1 r2 hyps p q s t yes e f c d = both_tell b r0 r1 r2 hyps p q (orders_as a true r0 r1 s (hyps, p) yes e c) (orders_as b b r1 r2 t (hyps, q) refl f d)
+second_tells a b r0 r1 r2 hyps p q s t passed e f c d = both_tell b r0 r1 r2 hyps p q (orders_as a true r0 r1 s (hyps, p) passed e c) (orders_as b b r1 r2 t (hyps, q) refl f d)
 
 -- ---- `btrue`
 pub true_told : (table : Table) (r0 r1 : List Rule) (hyps : List Formula) (goal : Formula) → btrue ≡ goal → IsReady table (hyps, goal) → r1 ≡ r0 ++ True ∷ [] → Adds table r0 r1 (hyps, goal)
@@ -84,13 +92,13 @@ module _ (t0 : Table) (r0 ra : List Rule) (hyps : List Formula) (goal p q : Form
   second_ready t1 s well n e = subst (λ (x : Sequent). IsReady t1 x) (sym e) (ready-wider t0 t1 (hyps, q) (ready-right t0 hyps p q conjunction) well (has_new-wider t0 t1 n))
 
   pub first_hard : (b : Bool) (t1 : Table) (r1 : List Rule) (s : Sequent) → b ≡ false → s ≡ (hyps, p) → Told b t0 t1 ra r1 s → IsHard t0 (hyps, goal)
-  first_hard b t1 r1 s no e h =
-      subst (λ (g : Formula). IsHard t0 (hyps, g)) (sym is) (hard_first t0 hyps p q not_obvious (subst (λ (x : Sequent). IsHard t0 x) e (hard_of b t0 t1 ra r1 s no h)))
+  first_hard b t1 r1 s failed e h =
+      subst (λ (g : Formula). IsHard t0 (hyps, g)) (sym is) (hard_first t0 hyps p q not_obvious (subst (λ (x : Sequent). IsHard t0 x) e (hard_of b t0 t1 ra r1 s failed h)))
 
   pub both_told : (a b : Bool) (t1 t2 : Table) (r1 r2 : List Rule) (s t : Sequent) → a ≡ true → ra ≡ r0 ++ And ∷ [] → s ≡ (hyps, p) → t ≡ (hyps, q) → HasNew t0 t1 → HasNew t1 t2 → Told a t0 t1 ra r1 s → Told b t1 t2 r1 r2 t → Told b t0 t2 r0 r2 (hyps, goal)
-  both_told a b t1 t2 r1 r2 s t yes rule es et n m f g =
+  both_told a b t1 t2 r1 r2 s t passed rule es et n m f g =
       let first : Adds t1 (r0 ++ And ∷ []) r1 (hyps, p) =
-        subst (λ (rs : List Rule). Adds t1 rs r1 (hyps, p)) rule (subst (λ (x : Sequent). Adds t1 ra r1 x) es (adds_of a t0 t1 ra r1 s yes f)) in
+        subst (λ (rs : List Rule). Adds t1 rs r1 (hyps, p)) rule (subst (λ (x : Sequent). Adds t1 ra r1 x) es (adds_of a t0 t1 ra r1 s passed f)) in
       let second : Told b t1 t2 r1 r2 (hyps, q) = subst (λ (x : Sequent). Told b t1 t2 r1 r2 x) et g in
       subst (λ (x : Formula). Told b t0 t2 r0 r2 (hyps, x)) (sym is)
       (told_both b t0 t1 t2 r0 r1 r2 hyps p q conjunction not_obvious (has_new-wider t0 t1 n) (has_new-wider t1 t2 m) first second)

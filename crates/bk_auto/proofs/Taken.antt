@@ -1,46 +1,33 @@
 -- Hypotheses that are taken apart one after the other, and the rules that do so.
 use Rattle.std.proofs.Common.{◌≡◌, ℕ, zero, suc, ◌+◌, subst, List, [], ◌∷◌, ◌++◌, length, length-append, refl, sym, ◌∙◌, ap, arith}
 use Rattle.std.proofs.lemmas.List.{append_assoc}
-use Rattle.std.specs.Borrow.{Bor}
+use Rattle.std.specs.Prelude.{None}
 use Rattle.bk_form.specs.Formula.{Formula, binary}
-use Rattle.bk_form.specs.FormShown.{shown}
-use Rattle.bk_form.specs.declared.form.View.{View}
-use Rattle.bk_form.specs.declared.form.View.TheVariants.{Bin}
-use Rattle.bk_form.specs.declared.operator.BinOp.{BinOp}
 use Rattle.bk_form.specs.declared.operator.BinOp.TheVariants.{And}
+use Rattle.bk_kernel.specs.Branches.{sides}
 use Rattle.bk_kernel.specs.declared.rule.Rule.{Rule}
 use Rattle.bk_kernel.specs.declared.rule.Rule.TheVariants.{Imp, Split}
 use Rattle.bk_auto.specs.Easy.{parts, supposed}
 use Rattle.bk_auto.specs.Found.{splits}
 
 -- ---- what is no conjunction has no parts
-record IsWhole (f : Formula) : Type 0 where
+pub record IsWhole (f : Formula) : Type 0 where
   pub none : parts f ≡ []
   pub nothing : (index count : ℕ) → splits index count f ≡ []
 
-pub other_shape : (v : View) (f : Formula) → shown v ≡ f → ((o : BinOp) (a b : Bor Formula) → v ≡ Bin o a b → ⊥) → IsWhole f
-other_shape v f e = subst (λ (g : Formula). ((o : BinOp) (a b : Bor Formula) → v ≡ Bin o a b → ⊥) → IsWhole g) e (at v)
-  where
-    at : (w : View) → ((o : BinOp) (a b : Bor Formula) → w ≡ Bin o a b → ⊥) → IsWhole (shown w)
-    at (Bin o a b) h = absurd (h o a b refl)
-    at _ h = record { none = refl; nothing = λ index count. refl }
-
-pub other_sides : (o : BinOp) (p q f : Formula) → binary o p q ≡ f → (o ≡ And → ⊥) → IsWhole f
-other_sides o p q f e = subst (λ (g : Formula). (o ≡ And → ⊥) → IsWhole g) e (at o)
-  where
-    at : (r : BinOp) → (r ≡ And → ⊥) → IsWhole (binary r p q)
-    at And h = absurd (h refl)
-    at _ h = record { none = refl; nothing = λ index count. refl }
+pub whole : (f : Formula) → sides And f ≡ None → IsWhole f
+whole (binary And p q) h = absurd (cc)
+whole _ h = record { none = refl; nothing = λ index count. refl }
 
 -- ---- a conjunction: its sides, then their parts
-module _ (f p q : Formula) (is : binary And p q ≡ f) (h0 h1 h2 h3 : List Formula) (left : h1 ≡ h0 ++ p ∷ []) (right : h2 ≡ h1 ++ q ∷ []) (first : h3 ≡ h2 ++ parts p) where
+module _ (f p q : Formula) (is : f ≡ binary And p q) (h0 h1 h2 h3 : List Formula) (left : h1 ≡ h0 ++ p ∷ []) (right : h2 ≡ h1 ++ q ∷ []) (first : h3 ≡ h2 ++ parts p) where
   two : h2 ≡ h0 ++ p ∷ q ∷ []
   two = right ∙ ap (λ (hs : List Formula). hs ++ q ∷ []) left ∙ append_assoc h0 (p ∷ []) (q ∷ [])
 
   pub taken_hyps : (h4 : List Formula) → h4 ≡ h3 ++ parts q → h4 ≡ h0 ++ parts f
   taken_hyps h4 second =
       second ∙ ap (λ (hs : List Formula). hs ++ parts q) (first ∙ ap (λ (hs : List Formula). hs ++ parts p) two)
-      ∙ append_assoc (h0 ++ p ∷ q ∷ []) (parts p) (parts q) ∙ append_assoc h0 (p ∷ q ∷ []) (parts p ++ parts q) ∙ ap (λ (g : Formula). h0 ++ parts g) is
+      ∙ append_assoc (h0 ++ p ∷ q ∷ []) (parts p) (parts q) ∙ append_assoc h0 (p ∷ q ∷ []) (parts p ++ parts q) ∙ ap (λ (g : Formula). h0 ++ parts g) (sym is)
 
   pub taken_rules : (index number behind : ℕ) (r0 r1 r2 r3 : List Rule) → number ≡ index + 1 → behind ≡ length h0 + 1 → r1 ≡ r0 ++ Split number ∷ [] → r2 ≡ r1 ++ splits (length h0) (length h2) p → r3 ≡ r2 ++ splits behind (length h3) q → r3 ≡ r0 ++ splits index (length h0) f
   taken_rules index number behind r0 r1 r2 r3 here next rule some others =
@@ -55,7 +42,7 @@ module _ (f p q : Formula) (is : binary And p q ≡ f) (h0 h1 h2 h3 : List Formu
       let many : r2 ≡ r1 ++ x = some ∙ ap (λ (n : ℕ). r1 ++ splits count n p) long2 in
       let rest : r3 ≡ r2 ++ y = others ∙ (λ i. r2 ++ splits (after i) (long3 i) q) in
       rest ∙ ap (λ (rs : List Rule). rs ++ y) (many ∙ ap (λ (rs : List Rule). rs ++ x) one ∙ append_assoc r0 (Split (suc index) ∷ []) x)
-      ∙ append_assoc r0 (Split (suc index) ∷ x) y ∙ ap (λ (g : Formula). r0 ++ splits index count g) is
+      ∙ append_assoc r0 (Split (suc index) ∷ x) y ∙ ap (λ (g : Formula). r0 ++ splits index count g) (sym is)
 
 -- ---- the left side of an implication
 pub supposed_hyps : (h0 h1 h2 : List Formula) (p : Formula) → h1 ≡ h0 ++ p ∷ [] → h2 ≡ h1 ++ parts p → h2 ≡ supposed h0 p

@@ -103,8 +103,9 @@ fn certificate(alloc: Global, hyps: &[Form], goal: &Form) -> Result<Option<Line>
 {
     match facts(alloc, hyps, goal) {
         Ok(all) => refuted(alloc, hyps, goal, &all),
-        Err(ArithFault::Memory) => Err(Memory),
-        Err(_) => Ok(None),
+        Err(ArithFault::TooWide) => Ok(None),
+        // all of them are read, so there is no other fault
+        Err(_) => Err(Memory),
     }
 }
 

@@ -9,5 +9,6 @@ pub mod finding;
 mod ordering;
 mod supposing;
 mod variables;
+mod views;
 
 pub use finding::find;

@@ -6,15 +6,14 @@ ghost use Rattle.bk_form.specs.Formula.{binary, formula_size};
 ghost use Rattle.bk_form.specs.Role.{role, gives};
 ghost use Rattle.bk_form.specs.declared.operator.BinOp.TheVariants.{Eq, Le, In, Range};
 ghost use Rattle.bk_seq.specs.Sequents.{sequent_of};
-ghost use Rattle.bk_kernel.specs.Branches.{sides};
-ghost use Rattle.bk_kernel.specs.Held.{pair_in};
 ghost use Rattle.bk_kernel.specs.Obvious.{is_obvious};
 ghost use Rattle.bk_auto.specs.Found.{IsReady, Told, TellsBoth, Orders, IsOrder, IsLawOfGoal};
 
 use crate::adding::add;
 use crate::arithmetic::by_arithmetic;
 use crate::closing::close;
-use bk_form::{BinOp, Form, Part, Ty, TyView, VarTable, View};
+use crate::views::sides;
+use bk_form::{BinOp, Form, Part, Ty, TyView, VarTable};
 use bk_io::Memory;
 use bk_kernel::{Place, Rule, is_obvious};
 use bk_seq::Sequent;
@@ -69,16 +68,6 @@ pub(crate) fn equal(
     add_law(alloc, rules, EQUAL, &[left, right])?;
     add(rules, Rule::And)?;
     both_orders(alloc, sequent, left, right, left, rules)
-}
-
-// The sides of a formula of this operator.
-fn sides(op: BinOp, form: &Form) -> Option<(&Form, &Form)>
-    ensures { pair_in result ≡ sides op form.now }
-{
-    match form.view() {
-        View::Bin(other, left, right) => (other == op).then_some((left, right)),
-        _ => None,
-    }
 }
 
 // Adds the rule of a law without conditions, at the whole goal.

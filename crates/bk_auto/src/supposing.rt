@@ -7,7 +7,8 @@ ghost use Rattle.bk_auto.specs.Easy.{parts, supposed};
 ghost use Rattle.bk_auto.specs.Found.{splits};
 
 use crate::adding::{add, number_at};
-use bk_form::{BinOp, Form, View};
+use crate::views::sides;
+use bk_form::{BinOp, Form};
 use bk_io::Memory;
 use bk_kernel::Rule;
 use bk_seq::Sequent;
@@ -46,7 +47,7 @@ fn take_apart(
     ensures hyps { OnOk result (hyps.new.items ≡ hyps.old.items ++ parts form.now) }
     ensures rules { OnOk result (rules.new.items ≡ rules.old.items ++ splits index (length hyps.old.items) form.now) }
 {
-    let View::Bin(BinOp::And, left, right) = form.view() else {
+    let Some((left, right)) = sides(BinOp::And, form) else {
         return Ok(());
     };
     let first = hyps.len();

@@ -6,9 +6,10 @@ use Rattle.bk_form.specs.declared.operator.BinOp.{BinOp}
 use Rattle.bk_bind.specs.Opening.{opened}
 use Rattle.bk_seq.specs.Sequents.{Sequent, sequent_of}
 use Rattle.bk_kernel.specs.declared.rule.Rule.{Rule}
+use Rattle.bk_kernel.specs.declared.rule.Rule.TheVariants.{Imp}
 use Rattle.bk_kernel.specs.Naming.{names_of}
 use Rattle.bk_auto.specs.Easy.{supposed}
-use Rattle.bk_auto.specs.Found.{Told, Settles}
+use Rattle.bk_auto.specs.Found.{Told, Settles, splits}
 use Rattle.bk_auto.proofs.Wider.{has_new-refl, has_new-trans}
 use Rattle.bk_auto.proofs.Opened.{size_opened}
 use Rattle.bk_auto.proofs.Tellings.{told_closed, told_false, told_at_most, told_less, hard_sides, hard_shape}
@@ -132,7 +133,20 @@ pub supposing-easy-requires : goal.supposing-easy-requires
 supposing-easy-requires t c = ?
 
 pub supposing-returns-clause-told : goal.supposing-returns-clause-told
-supposing-returns-clause-told t c = ?
+supposing-returns-clause-told t c =
+    let t0 = c.args.types.now in
+    let t2 = c.easy.new.types in
+    let r0 : List Rule = c.args.rules.now.items in
+    let r1 : List Rule = c.suppose.new.rules.items in
+    let r2 : List Rule = c.easy.new.rules.items in
+    let hyps = c.args.sequent.now.hyps.items in
+    let p = c.args.left.now in
+    let q = c.args.right.now in
+    let next : sequent_of c.in_ok-next.next ≡ (supposed hyps p, q) = c.in_ok-next.ensures.sequent ∙ ap {B = Sequent} (λ (hs : List Formula). (supposed hs p, q)) c.deref.ensures.value in
+    let rule : r1 ≡ r0 ++ Imp ∷ splits (length hyps) (suc (length hyps)) p = c.in_ok-next.ensures.rules ∙ ap (λ (hs : List Formula). r0 ++ Imp ∷ splits (length hs) (suc (length hs)) p) c.deref.ensures.value in
+    IfOk-weaker c.easy.result (λ (b : Bool). Told b t0 t2 r1 r2 (sequent_of c.in_ok-next.next)) (λ (b : Bool). Told b t0 t2 r0 r2 (sequent_of c.args.sequent.now))
+    (λ b h. supposed_told t0 hyps c.args.sequent.now.goal p q c.requires.goal c.requires.ready b t2 r0 r1 r2 (sequent_of c.in_ok-next.next) c.requires.open next rule c.easy.ensures.new h)
+    c.easy.ensures.told
 
 -- ---- `!`
 pub fixing-add_variables-requires : goal.fixing-add_variables-requires
@@ -142,7 +156,21 @@ pub fixing-easy-requires : goal.fixing-easy-requires
 fixing-easy-requires t c = ?
 
 pub fixing-returns-clause-new : goal.fixing-returns-clause-new
-fixing-returns-clause-new t c = ?
+fixing-returns-clause-new t c = has_new-trans c.args.types.now c.add_variables.new.types c.easy.new.types c.add_variables.ensures.new c.easy.ensures.new
 
 pub fixing-returns-clause-told : goal.fixing-returns-clause-told
-fixing-returns-clause-told t c = ?
+fixing-returns-clause-told t c =
+    let t0 = c.args.types.now in
+    let t1 = c.add_variables.new.types in
+    let t2 = c.easy.new.types in
+    let r0 : List Rule = c.args.rules.now.items in
+    let r1 : List Rule = c.add.new.rules.items in
+    let r2 : List Rule = c.easy.new.rules.items in
+    let hyps = c.args.sequent.now.hyps.items in
+    let ts = c.args.bound.now in
+    let body = c.args.body.now in
+    let ns = c.in_ok-names.names in
+    let next : sequent_of c.in_ok-next.next ≡ (hyps, opened (names_of ns.items) body) = c.in_ok-next.ensures ∙ ap {B = Sequent} (λ (xs : List ℕ). (hyps, opened (names_of xs) body)) c.deref.ensures.value in
+    IfOk-weaker c.easy.result (λ (b : Bool). Told b t1 t2 r1 r2 (sequent_of c.in_ok-next.next)) (λ (b : Bool). Told b t0 t2 r0 r2 (sequent_of c.args.sequent.now))
+    (λ b h. fixed_told t0 hyps c.args.sequent.now.goal ts body c.requires.goal c.requires.ready b t1 t2 ns r0 r1 r2 (sequent_of c.in_ok-next.next) c.requires.open c.in_ok-names.ensures.grew c.in_ok-names.ensures.numbers c.is_formed.ensures c.add_variables.ensures.new c.easy.ensures.new next c.in_ok-add.ensures h)
+    c.easy.ensures.told
