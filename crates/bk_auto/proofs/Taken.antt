@@ -29,17 +29,17 @@ module _ (f p q : Formula) (is : f ≡ binary And p q) (h0 h1 h2 h3 : List Formu
       second ∙ ap (λ (hs : List Formula). hs ++ parts q) (first ∙ ap (λ (hs : List Formula). hs ++ parts p) two)
       ∙ append_assoc (h0 ++ p ∷ q ∷ []) (parts p) (parts q) ∙ append_assoc h0 (p ∷ q ∷ []) (parts p ++ parts q) ∙ ap (λ (g : Formula). h0 ++ parts g) (sym is)
 
-  pub taken_rules : (index number behind : ℕ) (r0 r1 r2 r3 : List Rule) → number ≡ index + 1 → behind ≡ length h0 + 1 → r1 ≡ r0 ++ Split number ∷ [] → r2 ≡ r1 ++ splits (length h0) (length h2) p → r3 ≡ r2 ++ splits behind (length h3) q → r3 ≡ r0 ++ splits index (length h0) f
-  taken_rules index number behind r0 r1 r2 r3 here next rule some others =
+  pub taken_rules : (index number place : ℕ) (r0 r1 r2 r3 : List Rule) → number ≡ index + 1 → place ≡ length h0 → r1 ≡ r0 ++ Split number ∷ [] → r2 ≡ r1 ++ splits place (length h2) p → r3 ≡ r2 ++ splits (place + 1) (length h3) q → r3 ≡ r0 ++ splits index (length h0) f
+  taken_rules index number place r0 r1 r2 r3 here last rule some others =
       let same : number ≡ suc index = omega arith in
-      let after : behind ≡ suc (length h0) = omega arith in
+      let after : place + 1 ≡ suc (length h0) = omega arith in
       let long2 : length h2 ≡ suc (suc (length h0)) = (let e = ap (λ (hs : List Formula). length hs) two in let k = length-append h0 (p ∷ q ∷ []) in omega arith) in
       let long3 : length h3 ≡ suc (suc (length h0)) + length (parts p) = (let e = ap (λ (hs : List Formula). length hs) first in let k = length-append h2 (parts p) in omega arith) in
       let count = length h0 in
       let x : List Rule = splits count (suc (suc count)) p in
       let y : List Rule = splits (suc count) (suc (suc count) + length (parts p)) q in
       let one : r1 ≡ r0 ++ Split (suc index) ∷ [] = rule ∙ ap (λ (n : ℕ). r0 ++ Split n ∷ []) same in
-      let many : r2 ≡ r1 ++ x = some ∙ ap (λ (n : ℕ). r1 ++ splits count n p) long2 in
+      let many : r2 ≡ r1 ++ x = some ∙ (λ i. r1 ++ splits (last i) (long2 i) p) in
       let rest : r3 ≡ r2 ++ y = others ∙ (λ i. r2 ++ splits (after i) (long3 i) q) in
       rest ∙ ap (λ (rs : List Rule). rs ++ y) (many ∙ ap (λ (rs : List Rule). rs ++ x) one ∙ append_assoc r0 (Split (suc index) ∷ []) x)
       ∙ append_assoc r0 (Split (suc index) ∷ x) y ∙ ap (λ (g : Formula). r0 ++ splits index count g) (sym is)

@@ -27,14 +27,14 @@ pub easy-returns-then-is_obvious-clause-told : goal.easy-returns-then-is_obvious
 easy-returns-then-is_obvious-clause-told t c = told_closed c.args.types.now c.args.rules.now.items c.close.new.rules.items (sequent_of c.args.sequent.now) c.requires c.in_ok-close.ensures
 
 pub easy-by_shape-requires : goal.easy-by_shape-requires
-easy-by_shape-requires t c = ?
+easy-by_shape-requires t c = (omega arith, (c.requires, sym c.is_obvious.ensures ∙ c.if-is_obvious.false))
 
 -- ---- the shape of the goal
 pub by_shape-by_sides-requires : goal.by_shape-by_sides-requires
-by_shape-by_sides-requires t c = ?
+by_shape-by_sides-requires t c = (omega arith, (c.requires.ready, (sym c.in-Bin.ensures, c.requires.open)))
 
 pub by_shape-fixing-requires : goal.by_shape-fixing-requires
-by_shape-fixing-requires t c = ?
+by_shape-fixing-requires t c = (omega arith, (c.requires.ready, (sym c.in-All.ensures, c.requires.open)))
 
 pub by_shape-by_arithmetic-requires : goal.by_shape-by_arithmetic-requires
 by_shape-by_arithmetic-requires t c = reads_false c.args.sequent.now.goal (sym (ap shown c.in-False.is) ∙ c.view.ensures)
@@ -51,7 +51,7 @@ by_shape-returns-in-False-clause-told t c =
 
 pub by_shape-returns-in_ok-add-in-True-clause-told : goal.by_shape-returns-in_ok-add-in-True-clause-told
 by_shape-returns-in_ok-add-in-True-clause-told t c =
-    true_told c.args.types.now c.args.rules.now.items c.add.new.rules.items c.args.sequent.now.hyps.items c.args.sequent.now.goal (sym (ap shown c.in-True.is) ∙ c.view.ensures) c.requires.ready c.in_ok-add.ensures
+    true_told c.args.types.now c.args.rules.now.items c.add.new.rules.items c.args.sequent.now.hyps.items c.args.sequent.now.goal (sym (ap shown c.in-True.is) ∙ c.view.ensures) c.requires.ready c.in_ok-add-in-True.ensures
 
 pub by_shape-returns-in_default : goal.by_shape-returns-in_default
 by_shape-returns-in_default t c = record {
@@ -61,10 +61,10 @@ by_shape-returns-in_default t c = record {
 
 -- ---- goals with two sides
 pub by_sides-both-requires : goal.by_sides-both-requires
-by_sides-both-requires t c = ?
+by_sides-both-requires t c = (omega arith, (c.requires.ready, (c.requires.goal ∙ ap (λ (o : BinOp). binary o c.args.left.now c.args.right.now) c.in-And.is, c.requires.open)))
 
 pub by_sides-supposing-requires : goal.by_sides-supposing-requires
-by_sides-supposing-requires t c = ?
+by_sides-supposing-requires t c = (omega arith, (c.requires.ready, (c.requires.goal ∙ ap (λ (o : BinOp). binary o c.args.left.now c.args.right.now) c.in-Imp.is, c.requires.open)))
 
 pub by_sides-within-requires-clause-goal : goal.by_sides-within-requires-clause-goal
 by_sides-within-requires-clause-goal t c = c.requires.goal ∙ ap (λ (o : BinOp). binary o c.args.left.now c.args.right.now) c.in-In.is
@@ -106,15 +106,23 @@ by_sides-returns-in_default t c = record {
 
 -- ---- a conjunction
 pub both-easy-requires : goal.both-easy-requires
-both-easy-requires t c = ?
+both-easy-requires t c =
+    let e = ap formula_size c.requires.goal in
+    let f = ap (λ (s : Sequent). formula_size s.1) c.in_ok-first.ensures in
+    (omega arith, first_ready c.args.types.now c.args.rules.now.items c.add.new.rules.items c.args.sequent.now.hyps.items c.args.sequent.now.goal c.args.left.now c.args.right.now c.requires.goal c.requires.ready c.requires.open
+    (sequent_of c.in_ok-first.first) c.in_ok-first.ensures)
 
 pub both-returns-then-not-branch-clause-told : goal.both-returns-then-not-branch-clause-told
 both-returns-then-not-branch-clause-told t c =
     first_hard c.args.types.now c.args.rules.now.items c.add.new.rules.items c.args.sequent.now.hyps.items c.args.sequent.now.goal c.args.left.now c.args.right.now c.requires.goal c.requires.ready c.requires.open
-    c.in_ok-easy.field-0 c.easy.new.types c.easy.new.rules.items (sequent_of c.in_ok-first.first) c.if-not-branch.true c.in_ok-first.ensures c.in_ok-easy.ensures
+    c.in_ok-easy.field-0 c.easy.new.types c.easy.new.rules.items (sequent_of c.in_ok-first.first) c.if-not-branch.true c.in_ok-first.ensures c.in_ok-easy.ensures.told
 
 pub both-easy-requires-2 : goal.both-easy-requires-2
-both-easy-requires-2 t c = ?
+both-easy-requires-2 t c =
+    let e = ap formula_size c.requires.goal in
+    let f = ap (λ (s : Sequent). formula_size s.1) c.in_ok-second.ensures in
+    (omega arith, second_ready c.args.types.now c.args.rules.now.items c.add.new.rules.items c.args.sequent.now.hyps.items c.args.sequent.now.goal c.args.left.now c.args.right.now c.requires.goal c.requires.ready c.requires.open
+    c.easy.new.types (sequent_of c.in_ok-second.second) c.is_formed.ensures c.easy.ensures.new c.in_ok-second.ensures)
 
 pub both-returns-clause-new : goal.both-returns-clause-new
 both-returns-clause-new t c = has_new-trans c.args.types.now c.easy.new.types c.easy-2.new.types c.easy.ensures.new c.easy-2.ensures.new
@@ -125,12 +133,18 @@ both-returns-clause-told t c =
     let r2 = c.easy-2.new.rules.items in
     IfOk-weaker c.easy-2.result (λ (b : Bool). Told b c.easy.new.types c.easy-2.new.types r1 r2 (sequent_of c.in_ok-second.second)) (λ (b : Bool). Told b c.args.types.now c.easy-2.new.types c.args.rules.now.items r2 (sequent_of c.args.sequent.now))
     (λ b h. both_told c.args.types.now c.args.rules.now.items c.add.new.rules.items c.args.sequent.now.hyps.items c.args.sequent.now.goal c.args.left.now c.args.right.now c.requires.goal c.requires.ready c.requires.open
-    c.in_ok-easy.field-0 b c.easy.new.types c.easy-2.new.types r1 r2 (sequent_of c.in_ok-first.first) (sequent_of c.in_ok-second.second) c.if-not-branch.false c.in_ok-add.ensures c.in_ok-first.ensures c.in_ok-second.ensures c.easy.ensures.new c.easy-2.ensures.new c.in_ok-easy.ensures h)
+    c.in_ok-easy.field-0 b c.easy.new.types c.easy-2.new.types r1 r2 (sequent_of c.in_ok-first.first) (sequent_of c.in_ok-second.second) c.if-not-branch.false c.in_ok-add.ensures c.in_ok-first.ensures c.in_ok-second.ensures c.easy.ensures.new c.easy-2.ensures.new c.in_ok-easy.ensures.told h)
     c.easy-2.ensures.told
 
 -- ---- an implication
 pub supposing-easy-requires : goal.supposing-easy-requires
-supposing-easy-requires t c = ?
+supposing-easy-requires t c =
+    let p = c.args.left.now in
+    let q = c.args.right.now in
+    let next : sequent_of c.in_ok-next.next ≡ (supposed c.args.sequent.now.hyps.items p, q) = c.in_ok-next.ensures.sequent ∙ ap {B = Sequent} (λ (hs : List Formula). (supposed hs p, q)) c.deref.ensures.value in
+    let e = ap formula_size c.requires.goal in
+    let f = ap (λ (s : Sequent). formula_size s.1) next in
+    (omega arith, supposed_ready c.args.types.now c.args.sequent.now.hyps.items c.args.sequent.now.goal p q c.requires.goal c.requires.ready (sequent_of c.in_ok-next.next) next)
 
 pub supposing-returns-clause-told : goal.supposing-returns-clause-told
 supposing-returns-clause-told t c =
@@ -153,7 +167,16 @@ pub fixing-add_variables-requires : goal.fixing-add_variables-requires
 fixing-add_variables-requires t c = types_listed c.args.types.now c.args.sequent.now.hyps.items c.args.sequent.now.goal c.args.bound.now c.args.body.now c.requires.goal c.requires.ready
 
 pub fixing-easy-requires : goal.fixing-easy-requires
-fixing-easy-requires t c = ?
+fixing-easy-requires t c =
+    let ns = c.in_ok-names.names in
+    let body = c.args.body.now in
+    let next : sequent_of c.in_ok-next.next ≡ (c.args.sequent.now.hyps.items, opened (names_of ns.items) body) =
+      c.in_ok-next.ensures ∙ ap {B = Sequent} (λ (xs : List ℕ). (c.args.sequent.now.hyps.items, opened (names_of xs) body)) c.deref.ensures.value in
+    let e = ap formula_size c.requires.goal in
+    let f = ap (λ (s : Sequent). formula_size s.1) next in
+    let k = size_opened ns.items body in
+    (omega arith, fixed_ready c.args.types.now c.args.sequent.now.hyps.items c.args.sequent.now.goal c.args.bound.now body c.requires.goal c.requires.ready
+    c.add_variables.new.types ns (sequent_of c.in_ok-next.next) c.in_ok-names.ensures.grew c.in_ok-names.ensures.numbers c.is_formed.ensures c.add_variables.ensures.new next)
 
 pub fixing-returns-clause-new : goal.fixing-returns-clause-new
 fixing-returns-clause-new t c = has_new-trans c.args.types.now c.add_variables.new.types c.easy.new.types c.add_variables.ensures.new c.easy.ensures.new

@@ -1,4 +1,4 @@
-use Rattle.std.proofs.Common.{◌≡◌, ◌∙◌, ◌+◌, ◌++◌, ◌∷◌, [], ℕ, List, length, refl, ap, sym}
+use Rattle.std.proofs.Common.{◌≡◌, ◌∙◌, ◌+◌, ◌++◌, ◌∷◌, [], ℕ, List, length, ap, sym, arith}
 use Rattle.std.proofs.lemmas.List.{append-nil}
 use Rattle.std.proofs.lemmas.Result.{on_ok_weaker}
 use Rattle.bk_form.specs.Formula.{Formula, binary}
@@ -43,5 +43,5 @@ returns-clause-rules t c =
     on_ok_weaker c.take_apart-2.result
     (taken_rules f p q is h0 c.push.new.self.items c.push-2.new.self.items c.take_apart.new.hyps.items (c.in_ok-push.ensures.items ∙ ap (λ (x : Formula). h0 ++ x ∷ []) c.in_ok-copy.ensures)
     (c.in_ok-push-2.ensures.items ∙ ap (λ (x : Formula). c.push.new.self.items ++ x ∷ []) c.in_ok-copy-2.ensures) c.in_ok-take_apart.ensures.hyps
-    c.args.index c.in_ok-number_at.field-0 (length h0 + 1) c.args.rules.now.items c.add.new.rules.items c.take_apart.new.rules.items c.take_apart-2.new.rules.items c.in_ok-number_at.ensures refl c.in_ok-add.ensures c.in_ok-take_apart.ensures.rules)
+    c.args.index c.in_ok-number_at.field-0 c.len-first.result c.args.rules.now.items c.add.new.rules.items c.take_apart.new.rules.items c.take_apart-2.new.rules.items c.in_ok-number_at.ensures (omega (arith, c.len-first.ensures, c.args.hyps.now.ok.0)) c.in_ok-add.ensures c.in_ok-take_apart.ensures.rules)
     c.take_apart-2.ensures.rules
