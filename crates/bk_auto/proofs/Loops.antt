@@ -57,7 +57,7 @@ cond-append false x xs = refl
 pub comparisons_step : (hs read more : List Formula) (i : ℕ) (h : Formula) → i < length hs → h ≡ get_or hs i h → read ++ comparisons (drop i hs) ≡ comparisons hs → more ≡ read ++ comparisons (h ∷ []) → more ++ comparisons (drop (i + 1) hs) ≡ comparisons hs
 comparisons_step hs read more i h below is before e =
     let next : comparisons (drop i hs) ≡ comparisons (h ∷ []) ++ comparisons (drop (i + 1) hs) =
-      at_drop_more comparisons hs i h below ∙ ap (λ x. comparisons (x ∷ drop (i + 1) hs)) (sym is) ∙ cond-append (is_none (terms_of_hypothesis h)) h (comparisons (drop (i + 1) hs)) in
+    at_drop_more comparisons hs i h below ∙ ap (λ x. comparisons (x ∷ drop (i + 1) hs)) (sym is) ∙ cond-append (is_none (terms_of_hypothesis h)) h (comparisons (drop (i + 1) hs)) in
     ap (λ xs. xs ++ comparisons (drop (i + 1) hs)) e ∙ append_assoc read (comparisons (h ∷ [])) (comparisons (drop (i + 1) hs)) ∙ ap (λ xs. read ++ xs) (sym next) ∙ before
 
 pub comparisons_end : (hs read : List Formula) (i : ℕ) → length hs ≤ i → read ++ comparisons (drop i hs) ≡ comparisons hs → read ≡ comparisons hs
@@ -67,9 +67,9 @@ pub numbers_step : (hs : List Formula) (numbers more : List ℕ) (i : ℕ) (h : 
 numbers_step hs numbers more i h below is before e =
     let one : suc (i + 1) ≡ i + 1 + 1 = omega arith in
     let next : comparison_numbers (i + 1) (drop i hs) ≡ comparison_numbers (i + 1) (h ∷ []) ++ comparison_numbers (i + 1 + 1) (drop (i + 1) hs) =
-      at_drop_more (comparison_numbers (i + 1)) hs i h below ∙ ap (λ x. comparison_numbers (i + 1) (x ∷ drop (i + 1) hs)) (sym is)
-      ∙ cond-append (is_none (terms_of_hypothesis h)) (i + 1) (comparison_numbers (suc (i + 1)) (drop (i + 1) hs))
-      ∙ ap (λ k. comparison_numbers (i + 1) (h ∷ []) ++ comparison_numbers k (drop (i + 1) hs)) one in
+    at_drop_more (comparison_numbers (i + 1)) hs i h below ∙ ap (λ x. comparison_numbers (i + 1) (x ∷ drop (i + 1) hs)) (sym is)
+    ∙ cond-append (is_none (terms_of_hypothesis h)) (i + 1) (comparison_numbers (suc (i + 1)) (drop (i + 1) hs))
+    ∙ ap (λ k. comparison_numbers (i + 1) (h ∷ []) ++ comparison_numbers k (drop (i + 1) hs)) one in
     ap (λ xs. xs ++ comparison_numbers (i + 1 + 1) (drop (i + 1) hs)) e
     ∙ append_assoc numbers (comparison_numbers (i + 1) (h ∷ [])) (comparison_numbers (i + 1 + 1) (drop (i + 1) hs)) ∙ ap (λ xs. numbers ++ xs) (sym next) ∙ before
 

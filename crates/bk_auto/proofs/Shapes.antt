@@ -98,7 +98,7 @@ module _ (t0 : Table) (r0 ra : List Rule) (hyps : List Formula) (goal p q : Form
   pub both_told : (a b : Bool) (t1 t2 : Table) (r1 r2 : List Rule) (s t : Sequent) → a ≡ true → ra ≡ r0 ++ And ∷ [] → s ≡ (hyps, p) → t ≡ (hyps, q) → HasNew t0 t1 → HasNew t1 t2 → Told a t0 t1 ra r1 s → Told b t1 t2 r1 r2 t → Told b t0 t2 r0 r2 (hyps, goal)
   both_told a b t1 t2 r1 r2 s t passed rule es et n m f g =
       let first : Adds t1 (r0 ++ And ∷ []) r1 (hyps, p) =
-        subst (λ (rs : List Rule). Adds t1 rs r1 (hyps, p)) rule (subst (λ (x : Sequent). Adds t1 ra r1 x) es (adds_of a t0 t1 ra r1 s passed f)) in
+      subst (λ (rs : List Rule). Adds t1 rs r1 (hyps, p)) rule (subst (λ (x : Sequent). Adds t1 ra r1 x) es (adds_of a t0 t1 ra r1 s passed f)) in
       let second : Told b t1 t2 r1 r2 (hyps, q) = subst (λ (x : Sequent). Told b t1 t2 r1 r2 x) et g in
       subst (λ (x : Formula). Told b t0 t2 r0 r2 (hyps, x)) (sym is)
       (told_both b t0 t1 t2 r0 r1 r2 hyps p q conjunction not_obvious (has_new-wider t0 t1 n) (has_new-wider t1 t2 m) first second)

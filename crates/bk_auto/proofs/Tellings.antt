@@ -92,10 +92,10 @@ told_both true t0 t1 t2 r0 r1 r2 hyps p q ready unclosed w v f s = record {
   more = And ∷ (f.more ++ s.more);
   same = one_after r0 r1 r2 And f.more s.more f.same s.same;
   derives = λ wide ok u.
-    (let to : IsWider t0 wide = wider-trans t0 t1 wide w (wider-trans t1 t2 wide v u) in
-    derives_both wide hyps p q f.more s.more (ready-types t0 wide (hyps, p) (ready-left t0 hyps p q ready) to) (ready-types t0 wide (hyps, q) (ready-right t0 hyps p q ready) to)
-    (ready-within t0 (hyps, p) (ready-left t0 hyps p q ready)) (ready-within t0 (hyps, q) (ready-right t0 hyps p q ready))
-    (f.derives wide ok (wider-trans t1 t2 wide v u)) (s.derives wide ok u));
+      (let to : IsWider t0 wide = wider-trans t0 t1 wide w (wider-trans t1 t2 wide v u) in
+      derives_both wide hyps p q f.more s.more (ready-types t0 wide (hyps, p) (ready-left t0 hyps p q ready) to) (ready-types t0 wide (hyps, q) (ready-right t0 hyps p q ready) to)
+      (ready-within t0 (hyps, p) (ready-left t0 hyps p q ready)) (ready-within t0 (hyps, q) (ready-right t0 hyps p q ready))
+      (f.derives wide ok (wider-trans t1 t2 wide v u)) (s.derives wide ok u));
 }
 told_both false t0 t1 t2 r0 r1 r2 hyps p q ready unclosed w v f s = λ n e. let k = easy_both n t0 hyps p q unclosed e in s k.0 (easy_wider t0 t1 ready.well w k.0 hyps q k.2)
 
@@ -127,9 +127,9 @@ module _ (wide : Table) (aim : Formula) where
       let at_p : slice_get (hs ++ two) count ≡ Some p = ap (slice_get (hs ++ two)) long ∙ first_of_two hs p q in
       let at_q : slice_get (hs ++ two) (suc count) ≡ Some q = ap (λ n. slice_get (hs ++ two) (suc n)) long ∙ second_of_two hs p q in
       let all : Derives wide rest (((hs ++ two) ++ parts p) ++ parts q, aim) =
-        subst (λ (fs : List Formula). Derives wide rest (fs, aim)) (sym (append_assoc (hs ++ two) (parts p) (parts q) ∙ append_assoc hs two (parts p ++ parts q))) d in
+      subst (λ (fs : List Formula). Derives wide rest (fs, aim)) (sym (append_assoc (hs ++ two) (parts p) (parts q) ∙ append_assoc hs two (parts p ++ parts q))) d in
       let after_p : Derives wide (y ++ rest) ((hs ++ two) ++ parts p, aim) =
-        splits-derive q (suc count) (suc (suc count) + length (parts p)) ((hs ++ two) ++ parts p) rest (get-wider (hs ++ two) (parts p) (suc count) q at_q) long3 ready3 k.1 all in
+      splits-derive q (suc count) (suc (suc count) + length (parts p)) ((hs ++ two) ++ parts p) rest (get-wider (hs ++ two) (parts p) (suc count) q at_q) long3 ready3 k.1 all in
       let after : Derives wide (x ++ (y ++ rest)) (hs ++ two, aim) = splits-derive p count (suc (suc count)) (hs ++ two) (y ++ rest) at_p long2 ready2 k.0 after_p in
       derives_split wide hs p q aim (suc index) ((x ++ y) ++ rest) here ready2.types (ready-within wide (hs ++ two, aim) ready2)
       (subst (λ (rs : List Rule). Derives wide rs (hs ++ two, aim)) (sym (append_assoc x y rest)) after)
@@ -162,7 +162,7 @@ module _ (t0 t1 : Table) (hyps : List Formula) (ts : List ValueType) (body : For
   ready_opened well w =
       let types : Types t1 (hyps, for_all ts body) = ready-types t0 t1 (hyps, for_all ts body) ready w in
       let given : give_each t1 ts (names_of ns.items) ≡ true =
-        (and-both (give_each t1 ts (names_of ns.items)) (are_distinct ns.items) (and-both (give_each t1 ts (names_of ns.items) && are_distinct ns.items) (list_all (is_new (for_all ts body ∷ hyps)) ns.items) (fresh_over t1 (wider-refl t1))).0).0 in
+      (and-both (give_each t1 ts (names_of ns.items)) (are_distinct ns.items) (and-both (give_each t1 ts (names_of ns.items) && are_distinct ns.items) (list_all (is_new (for_all ts body ∷ hyps)) ns.items) (fresh_over t1 (wider-refl t1))).0).0 in
       let inner = if_holds-predicate (all_listed t1 ts) (if_predicate predicate (role t1 (bind ts []) body)) types.1 in
       let is_body : role t1 (bind ts []) body ≡ predicate = (if_predicate-predicate predicate (role t1 (bind ts []) body) inner.1).0 in
       record {
@@ -180,9 +180,9 @@ module _ (t0 t1 : Table) (hyps : List Formula) (ts : List ValueType) (body : For
     more = Fix ns ∷ s.more;
     same = s.same ∙ ap (λ rs. rs ++ s.more) e ∙ append_assoc r0 (Fix ns ∷ []) s.more;
     derives = λ wide ok u.
-      (let to : IsWider t1 wide = wider-trans t1 t2 wide v u in
-      let next : IsReady t1 (hyps, opened (names_of ns.items) body) = ready_opened well w in
-      derives_fixed wide hyps ts body ns s.more (fresh_over wide to) (ready-types t1 wide (hyps, opened (names_of ns.items) body) next to) (ready-within t1 (hyps, opened (names_of ns.items) body) next) (s.derives wide ok u));
+        (let to : IsWider t1 wide = wider-trans t1 t2 wide v u in
+        let next : IsReady t1 (hyps, opened (names_of ns.items) body) = ready_opened well w in
+        derives_fixed wide hyps ts body ns s.more (fresh_over wide to) (ready-types t1 wide (hyps, opened (names_of ns.items) body) next to) (ready-within t1 (hyps, opened (names_of ns.items) body) next) (s.derives wide ok u));
   }
   told_fixed false t2 r0 r1 r2 unclosed well w v e s = λ n k. let m = easy_opened n t0 t1 hyps ts body ns.items unclosed w (fresh_over t1 (wider-refl t1)) k in s m.0 m.1
 
@@ -240,10 +240,10 @@ two_orders table r0 r1 r2 hyps old p q law picks is ready orders l c = record {
   more = Law law l.terms (Goal l.path) ∷ And ∷ (c.first ++ c.second);
   same = law_then_both r0 r1 r2 (Law law l.terms (Goal l.path)) c.first c.second l.same c.same;
   derives = λ wide ok w.
-    (let types : Types wide (hyps, old) = ready-types table wide (hyps, old) ready w in
-    let o : AreOrders wide hyps p q = orders wide types.1 types.0 w in
-    by_law wide hyps old p q law l.terms l.path c.first c.second l.whole (ap (law_instance law) l.are_picks ∙ is) types.1 o
-    (c.derives_first wide (o.hyps_typed, o.p_typed) (o.hyps_within, o.p_within)) (c.derives_second wide (o.hyps_typed, o.q_typed) (o.hyps_within, o.q_within)));
+      (let types : Types wide (hyps, old) = ready-types table wide (hyps, old) ready w in
+      let o : AreOrders wide hyps p q = orders wide types.1 types.0 w in
+      by_law wide hyps old p q law l.terms l.path c.first c.second l.whole (ap (law_instance law) l.are_picks ∙ is) types.1 o
+      (c.derives_first wide (o.hyps_typed, o.p_typed) (o.hyps_within, o.p_within)) (c.derives_second wide (o.hyps_typed, o.q_typed) (o.hyps_within, o.q_within)));
 }
 
 -- the goal `a : l .. h`

@@ -108,9 +108,11 @@ by_sides-returns-in_default t c = record {
 pub both-easy-requires : goal.both-easy-requires
 both-easy-requires t c =
     let e = ap formula_size c.requires.goal in
-    let f = ap (λ (s : Sequent). formula_size s.1) c.in_ok-first.ensures in
-    (omega arith, first_ready c.args.types.now c.args.rules.now.items c.add.new.rules.items c.args.sequent.now.hyps.items c.args.sequent.now.goal c.args.left.now c.args.right.now c.requires.goal c.requires.ready c.requires.open
-    (sequent_of c.in_ok-first.first) c.in_ok-first.ensures)
+    let f = ap (λ (s : Sequent). formula_size s.1) c.in_ok-first.ensures in (
+      omega arith,
+      first_ready c.args.types.now c.args.rules.now.items c.add.new.rules.items c.args.sequent.now.hyps.items c.args.sequent.now.goal c.args.left.now c.args.right.now c.requires.goal c.requires.ready c.requires.open
+          (sequent_of c.in_ok-first.first) c.in_ok-first.ensures,
+    )
 
 pub both-returns-then-not-branch-clause-told : goal.both-returns-then-not-branch-clause-told
 both-returns-then-not-branch-clause-told t c =
@@ -120,9 +122,11 @@ both-returns-then-not-branch-clause-told t c =
 pub both-easy-requires-2 : goal.both-easy-requires-2
 both-easy-requires-2 t c =
     let e = ap formula_size c.requires.goal in
-    let f = ap (λ (s : Sequent). formula_size s.1) c.in_ok-second.ensures in
-    (omega arith, second_ready c.args.types.now c.args.rules.now.items c.add.new.rules.items c.args.sequent.now.hyps.items c.args.sequent.now.goal c.args.left.now c.args.right.now c.requires.goal c.requires.ready c.requires.open
-    c.easy.new.types (sequent_of c.in_ok-second.second) c.is_formed.ensures c.easy.ensures.new c.in_ok-second.ensures)
+    let f = ap (λ (s : Sequent). formula_size s.1) c.in_ok-second.ensures in (
+      omega arith,
+      second_ready c.args.types.now c.args.rules.now.items c.add.new.rules.items c.args.sequent.now.hyps.items c.args.sequent.now.goal c.args.left.now c.args.right.now c.requires.goal c.requires.ready c.requires.open
+          c.easy.new.types (sequent_of c.in_ok-second.second) c.is_formed.ensures c.easy.ensures.new c.in_ok-second.ensures,
+    )
 
 pub both-returns-clause-new : goal.both-returns-clause-new
 both-returns-clause-new t c = has_new-trans c.args.types.now c.easy.new.types c.easy-2.new.types c.easy.ensures.new c.easy-2.ensures.new
@@ -171,12 +175,14 @@ fixing-easy-requires t c =
     let ns = c.in_ok-names.names in
     let body = c.args.body.now in
     let next : sequent_of c.in_ok-next.next ≡ (c.args.sequent.now.hyps.items, opened (names_of ns.items) body) =
-      c.in_ok-next.ensures ∙ ap {B = Sequent} (λ (xs : List ℕ). (c.args.sequent.now.hyps.items, opened (names_of xs) body)) c.deref.ensures.value in
+    c.in_ok-next.ensures ∙ ap {B = Sequent} (λ (xs : List ℕ). (c.args.sequent.now.hyps.items, opened (names_of xs) body)) c.deref.ensures.value in
     let e = ap formula_size c.requires.goal in
     let f = ap (λ (s : Sequent). formula_size s.1) next in
-    let k = size_opened ns.items body in
-    (omega arith, fixed_ready c.args.types.now c.args.sequent.now.hyps.items c.args.sequent.now.goal c.args.bound.now body c.requires.goal c.requires.ready
-    c.add_variables.new.types ns (sequent_of c.in_ok-next.next) c.in_ok-names.ensures.grew c.in_ok-names.ensures.numbers c.is_formed.ensures c.add_variables.ensures.new next)
+    let k = size_opened ns.items body in (
+      omega arith,
+      fixed_ready c.args.types.now c.args.sequent.now.hyps.items c.args.sequent.now.goal c.args.bound.now body c.requires.goal c.requires.ready
+          c.add_variables.new.types ns (sequent_of c.in_ok-next.next) c.in_ok-names.ensures.grew c.in_ok-names.ensures.numbers c.is_formed.ensures c.add_variables.ensures.new next,
+    )
 
 pub fixing-returns-clause-new : goal.fixing-returns-clause-new
 fixing-returns-clause-new t c = has_new-trans c.args.types.now c.add_variables.new.types c.easy.new.types c.add_variables.ensures.new c.easy.ensures.new
