@@ -54,12 +54,12 @@ pub(crate) const IMPLICATIONS: [Row; 7] = [
     (&[], "( ( x < y ) => ( x <= y ) )", true),
     (
         &["( y < z )"],
-        "( ( ( s = t ) & ( x < y ) ) => ( x < z ) )",
+        "( ( ( s : ( POW t ) ) & ( x < y ) ) => ( x < z ) )",
         true,
     ),
     (
         &[],
-        "( ( ( ( x < y ) & ( y < z ) ) & ( s = t ) ) => ( ( x < z ) & ( s = t ) ) )",
+        "( ( ( ( x < y ) & ( y < z ) ) & ( s : ( POW t ) ) ) => ( ( x < z ) & ( s : ( POW t ) ) ) )",
         true,
     ),
     (
@@ -121,8 +121,8 @@ pub(crate) const EQUATIONS: [Row; 5] = [
     ),
 ];
 
-// Orders and contradictions: each kind of fact is used.
-pub(crate) const ORDERS: [Row; 14] = [
+// Orders and contradictions: each kind of fact is used. What only whole numbers contradict is not found.
+pub(crate) const ORDERS: [Row; 15] = [
     (&["( x < y )", "( y < z )"], "( ( x + 2 ) <= z )", true),
     (&["( x < y )", "( y < z )"], "( ( x + 3 ) <= z )", false),
     (&["( x = y )"], "( x <= y )", true),
@@ -138,6 +138,11 @@ pub(crate) const ORDERS: [Row; 14] = [
     (
         &["( ( 2 * x ) <= 5 )", "( 5 < ( 3 * x ) )"],
         "( x = 2 )",
+        true,
+    ),
+    (
+        &["( ( 2 * x ) <= 5 )", "( 5 <= ( 2 * x ) )"],
+        "bfalse",
         false,
     ),
     (&["( x < y )"], "( not ( y < x ) )", false),
@@ -179,8 +184,8 @@ pub(crate) const NUMBERS: [Row; 8] = [
         false,
     ),
     (
-        &["( -1099511627776 <= x )"],
-        "( -1099511627776 <= ( x + 1 ) )",
+        &["( -1099511627776 <= x )", "( 1 <= y )"],
+        "( -1099511627776 < ( x + y ) )",
         true,
     ),
     (
@@ -193,8 +198,8 @@ pub(crate) const NUMBERS: [Row; 8] = [
     ),
 ];
 
-// The bounds: 16 facts, an equation counting twice, and 4 atoms, also those of coefficient 0.
-pub(crate) const COUNTS: [Row; 7] = [
+// The bounds: 16 facts, an equation counting twice, and 4 atoms, also those of coefficient 0 and the sides of an equation of sets.
+pub(crate) const COUNTS: [Row; 8] = [
     (
         &[
             "( x <= y )",
@@ -306,6 +311,7 @@ pub(crate) const COUNTS: [Row; 7] = [
         "( x <= w )",
         false,
     ),
+    (&["( x < y )", "( y < z )", "( s = t )"], "( x < z )", false),
     (
         &[
             "( x <= y )",
