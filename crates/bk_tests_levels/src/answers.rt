@@ -1,6 +1,4 @@
 // What is answered of texts that stand below each other.
-//
-// A text may hold one @, which is no part of it: it stands before the byte where the fault is.
 
 ghost use Rattle.std.specs.Option.{option_map};
 ghost use Rattle.std.specs.Prelude.{◌≡◌, IfOk, IfSome, IsTrue, None};
@@ -16,33 +14,6 @@ use bk_lex::tokens;
 use bk_p_comp::component;
 use bk_raw::{ComponentKind, RawComponent};
 use std::alloc::Global;
-use std::process::Abort;
-use std::test::Fail;
-
-// A text that is read without its marker, and the byte of the marker, or the text's end.
-#[derive(Drop)]
-struct Marked {
-    text: Vec<u8>,
-    at: usize,
-}
-
-impl Marked {
-    // What is marked in the text.
-    fn of(alloc: Global, text: &str) -> Result<Marked, Memory> {
-        let mut marked = Marked {
-            text: Vec::new(alloc),
-            at: text.len(),
-        };
-        for (index, byte) in text.bytes().enumerate() {
-            if byte == b'@' {
-                marked.at = index;
-            } else {
-                marked.text.push(byte)?;
-            }
-        }
-        Ok(marked)
-    }
-}
 
 /// What is told of a text.
 #[derive(Clone, Copy, PartialEq)]
@@ -180,54 +151,11 @@ fn levels(alloc: Global, texts: &[&str]) -> Result<Option<Box<Development>>, Mem
 pub(crate) fn answer_of(alloc: Global, above: &[&str], text: &str) -> Result<Answer, Memory>
     ensures { IfOk result (λ a. IfSome a.development (λ dev. IsDevelopment dev.value)) }
 {
-    let marked = Marked::of(alloc, text)?;
     let development = levels(alloc, above)?;
     if development.is_none() && !above.is_empty() {
         return Ok(refused(Told::Unread));
     }
-    answer_below(alloc, marked.text.as_slice(), development)
-}
-
-// Whether the text below the others is at fault with this number, at its marker; or is accepted, where the number is 0.
-fn is_told(alloc: Global, above: &[&str], text: &str, number: u8) -> Result<bool, Memory> {
-    let marked = Marked::of(alloc, text)?;
-    let wanted = if number == 0 {
-        Told::Nothing
-    } else {
-        Told::Fault(number, marked.at)
-    };
-    Ok(answer_of(alloc, above, text)?.told == wanted)
-}
-
-/// Texts that stand below each other, and texts that each stand below the last of them.
-pub(crate) type Group = (&'static [&'static str], &'static [&'static str]);
-
-/// Sees that each text below the others is at fault with this number, at its marker; or is accepted, where the number is 0.
-pub(crate) fn compare(
-    rt: &impl Abort,
-    alloc: Global,
-    above: &[&str],
-    number: u8,
-    texts: &[&str],
-) -> Result<(), Fail> {
-    for text in texts {
-        let found = is_told(alloc, above, text, number)?;
-        assert!(rt; found, "{text}");
-    }
-    Ok(())
-}
-
-/// The same of groups of texts.
-pub(crate) fn compare_below(
-    rt: &impl Abort,
-    alloc: Global,
-    number: u8,
-    groups: &[Group],
-) -> Result<(), Fail> {
-    for (above, texts) in groups {
-        compare(rt, alloc, above, number, texts)?;
-    }
-    Ok(())
+    answer_below(alloc, text.as_bytes(), development)
 }
 
 // The substitutions of the operations, as they are noted.

@@ -1,11 +1,8 @@
-// The developments of the rows, and the row of faults.
+// The developments of some texts.
 
-use crate::answers::{Group, Told, Untold, answer_of, compare_below};
+use crate::answers::{Untold, answer_of};
 use crate::notation::notation;
-use crate::row_texts::{
-    COUNTER, COUNTER_E, COUNTER_I, COUNTER_R, LAMP, LAMP_I, POWER_I, TABLE, TABLE_I, TALLY,
-    TALLY_I, TWICE_DECLARED, TWICE_WRITTEN, UNSEEN,
-};
+use crate::row_texts::{COUNTER, COUNTER_I, COUNTER_R, LAMP, LAMP_I, TABLE, TABLE_I};
 use bk_dev::{Development, Home};
 use bk_form::{ArrayDomain, ArrayRow, Ty};
 use std::alloc::Global;
@@ -18,37 +15,6 @@ fn development(alloc: Global, above: &[&str], text: &str) -> Result<Box<Developm
         .development
         .ok_or(Untold::Refused)
 }
-
-// ---- the row of faults
-
-// Texts above, a text, and what is told of it.
-const FIRST_FAULTS: [(&[&str], &str, Told); 5] = [
-    // A variable is written twice.
-    (&[], TWICE_WRITTEN, Told::Fault(12, 59)),
-    // The components of a project whose proofs are at fault.
-    (&[TALLY], TALLY_I, Told::Nothing),
-    // A variable is declared twice.
-    (&[], TWICE_DECLARED, Told::Fault(6, 23)),
-    // A power in an implementation.
-    (&[COUNTER_E], POWER_I, Told::Fault(11, 150)),
-    // A name that is not in scope; nothing stands below it.
-    (&[], UNSEEN, Told::Fault(7, 140)),
-];
-
-fn compare(rt: &impl Abort, alloc: Global, rows: &[(&[&str], &str, Told)]) -> Result<(), Fail> {
-    for (above, text, wanted) in rows {
-        let found = answer_of(alloc, above, text)?.told;
-        assert!(rt; found == *wanted);
-    }
-    Ok(())
-}
-
-#[test]
-fn the_first_fault_is_told(rt: HostRuntime) -> Result<(), Fail> {
-    compare(&rt, rt.alloc(), &FIRST_FAULTS)
-}
-
-// ---- what the rows' developments are
 
 // A variable's text, type and home.
 fn is_variable(development: &Development, number: u32, text: &str, ty: &Ty, home: Home) -> bool {
@@ -169,15 +135,4 @@ fn an_enumerated_set(rt: HostRuntime) -> Result<(), Fail> {
     assert!(rt; is_set(&found, 0, b"COLOR".as_slice(), 3));
     compare_variables(&rt, &found, &Ty::enumerated(0), &COLOURS);
     Ok(())
-}
-
-// The texts of the rows: their chains are accepted.
-const ACCEPTED: [Group; 2] = [
-    (&[], &[COUNTER, TABLE, LAMP, TALLY]),
-    (&[COUNTER], &[COUNTER_R]),
-];
-
-#[test]
-fn all_are_read(rt: HostRuntime) -> Result<(), Fail> {
-    compare_below(&rt, rt.alloc(), 0, &ACCEPTED)
 }

@@ -1,0 +1,1 @@
+MACHINE M SETS S = {a, b} CONSTANTS c PROPERTIES c : 0..5 CONCRETE_VARIABLES v, w INVARIANT v : S & w <: NAT INITIALISATION v, w := a, {} OPERATIONS step(x) = PRE x : S THEN v := x END ; r <-- get = r := c END

@@ -1,0 +1,1 @@
+MACHINE M SETS S = {a, b} CONSTANTS c PROPERTIES c : 0..5 CONCRETE_VARIABLES v INVARIANT v : S INITIALISATION v := a OPERATIONS step(x) = PRE x : S THEN v := x END ; r <-- get(y) = PRE y : S THEN r := c END END

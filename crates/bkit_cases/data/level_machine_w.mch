@@ -1,0 +1,1 @@
+MACHINE W ABSTRACT_VARIABLES p, q INVARIANT p : 0..9 & q : BOOL INITIALISATION p := 0 || q := TRUE OPERATIONS go(i, j) = PRE j : BOOL & i : 0..9 THEN p := i || q := j END ; r, s <-- see = BEGIN r := p || s := q END END
