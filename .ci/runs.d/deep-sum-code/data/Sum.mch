@@ -1,0 +1,4 @@
+MACHINE Sum
+OPERATIONS
+  r <-- sum = r := 0
+END
