@@ -1,5 +1,6 @@
 pub mod Plays
 pub mod Fronts
+pub mod Frames
 pub mod Projects
 pub mod Fetching
 pub mod Stopping

@@ -34,6 +34,7 @@ pub(crate) fn session_of_image<H: Shelf>(
     ensures reading { IfErr result IsOfReading }
     ensures failed { HasCause ReadFault (H.faults shelf.old) (H.faults shelf.new) result }
     ensures missing { CountsAbsence (H.absences shelf.old) (H.absences shelf.new) result }
+    ensures files { H.files shelf.new ≡ H.files shelf.old }
     ensures told { IfOk result (λ work. (files : Files) → H.files shelf.old ≡ Some files →
         IsPrepared files (exec_task image.now script.now fuel) work) }
     ensures playable { IfOk result CanBePlayed }

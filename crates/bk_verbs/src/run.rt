@@ -49,6 +49,7 @@ pub(crate) fn session_of_project<H: Shelf>(
     ensures reading { IfErr result IsOfReading }
     ensures failed { HasCause ReadFault (H.faults shelf.old) (H.faults shelf.new) result }
     ensures missing { CountsAbsence (H.absences shelf.old) (H.absences shelf.new) result }
+    ensures files { H.files shelf.new ≡ H.files shelf.old }
     ensures told { IfOk result (λ work. (files : Files) → H.files shelf.old ≡ Some files →
         IsPrepared files (run_task project.now script.now fuel) work) }
     ensures playable { IfOk result CanBePlayed }
@@ -73,6 +74,7 @@ pub(crate) fn ready_project<H: Shelf>(
     ensures reading { IfErr result IsOfReading }
     ensures failed { HasCause ReadFault (H.faults shelf.old) (H.faults shelf.new) result }
     ensures missing { CountsAbsence (H.absences shelf.old) (H.absences shelf.new) result }
+    ensures files { H.files shelf.new ≡ H.files shelf.old }
     ensures ready { IfOk result (λ ready. (files : Files) → H.files shelf.old ≡ Some files →
         IsMadeReady files project.now script.now ready.table.rows.items ready.player.image (map request_of ready.calls.items)) }
     ensures fresh { IfOk result (λ ready. ready.player.started ≡ false) }

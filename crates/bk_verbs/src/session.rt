@@ -13,6 +13,7 @@ ghost use Rattle.bk_calls.specs.Room.{IsMadeFor};
 ghost use Rattle.bk_calls.specs.Transcript.{AreOutputs, reply_text, closing_text, steps_of, done_number};
 ghost use Rattle.bk_verbs.specs.declared.stop.Stop.TheVariants.{WriteFault};
 ghost use Rattle.bk_verbs.specs.Causes.{IsOfPlaying};
+ghost use Rattle.bk_verbs.specs.Frames.{Appends};
 ghost use Rattle.bk_cli.specs.Tasks.{most_fuel};
 ghost use Rattle.bk_verbs.specs.Work.{IsExecuted};
 ghost use Rattle.bk_verbs.specs.Session.{Plays, PlaysCalls, PlaysCall, HasOutputRoom, status_of};
@@ -37,7 +38,7 @@ struct Played {
 }
 
 /// Plays a session, and writes its transcript line by line. The initialisation and each call may have `fuel` steps.
-#[tactic(auto, using(crate::proofs::Fronts::nothing_played))]
+#[tactic(auto, using(crate::proofs::Fronts::nothing_played, crate::proofs::Frames::appends_nothing))]
 pub(crate) fn play<K: Sink>(
     alloc: Global,
     mut player: Player,
@@ -51,6 +52,7 @@ pub(crate) fn play<K: Sink>(
     requires small { fuel ≤ most_fuel }
     ensures playing { IfErr result IsOfPlaying }
     ensures failed { HasCause WriteFault (K.faults out.old) (K.faults out.new) result }
+    ensures appends { Appends (K.written out.old) (K.written out.new) }
     ensures front { OnErr result
         (PlaysFront player.image fuel (map request_of calls.now) (K.written out.old) (K.written out.new)) }
     ensures executed { IfOk result IsExecuted }
@@ -79,6 +81,7 @@ fn play_session<K: Sink>(
     requires outputs { HasOutputRoom player.old.image (length outs.old) }
     requires made { IsMadeFor player.old.image line.old }
     ensures failed { HasCause SinkFault.Failed (K.faults out.old) (K.faults out.new) result }
+    ensures appends { Appends (K.written out.old) (K.written out.new) }
     ensures front { OnErr result
         (PlaysFront player.old.image fuel (map request_of calls.now) (K.written out.old) (K.written out.new)) }
     ensures executed { IfOk result IsExecuted }

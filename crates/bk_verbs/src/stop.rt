@@ -5,6 +5,7 @@ ghost use Rattle.bk_io.specs.Counts.{HasCause, Rose};
 ghost use Rattle.bk_verbs.specs.declared.stop.Stop.TheVariants.{WriteFault};
 ghost use Rattle.bk_io.specs.Pieces.{written_with, WroteFront};
 ghost use Rattle.bk_verbs.specs.Causes.{stop_of_sink};
+ghost use Rattle.bk_verbs.specs.Frames.{Appends};
 ghost use Rattle.bk_image.specs.Faults.{place};
 ghost use Rattle.bk_verbs.specs.Stops.{status_of_stop, fault_name, refusal_text, place_text, stop_text, Reports};
 
@@ -111,9 +112,11 @@ impl<T: Drop> From<AllocFailed<T>> for Stop {
 
 impl Stop {
     /// Writes the line that says why the program stops, and answers how it ends.
+    #[tactic(auto, using(crate::proofs::Frames::appends_text, crate::proofs::Frames::appends_front))]
     pub fn report<K: Sink>(&self, alloc: Global, out: &mut K) -> Status
         ensures reports { Reports self.now result (K.written out.old) (K.written out.new) }
         ensures later { K.faults out.old ≤ K.faults out.new }
+        ensures appends { Appends (K.written out.old) (K.written out.new) }
         ensures failed { result ≡ Status.WriteFault →
             (self.now ≡ WriteFault) ⊎ Rose (K.faults out.old) (K.faults out.new) }
     {

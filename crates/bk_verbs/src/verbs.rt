@@ -40,6 +40,7 @@ pub fn prepare<H: Shelf>(alloc: Global, command: Command<'_>, shelf: &mut H) -> 
     ensures reading { IfErr result IsOfReading }
     ensures failed { HasCause ReadFault (H.faults shelf.old) (H.faults shelf.new) result }
     ensures missing { CountsAbsence (H.absences shelf.old) (H.absences shelf.new) result }
+    ensures files { H.files shelf.new ≡ H.files shelf.old }
     ensures told { IfOk result (λ work. (files : Files) → H.files shelf.old ≡ Some files →
         IsPrepared files (task_of command.entry) work) }
     ensures playable { IfOk result CanBePlayed }

@@ -6,6 +6,7 @@ ghost use Rattle.bk_io.specs.Files.{Files};
 ghost use Rattle.bk_verbs.specs.declared.stop.Stop.TheVariants.{WriteFault};
 ghost use Rattle.bk_cli.specs.Tasks.{Task};
 ghost use Rattle.bk_verbs.specs.Causes.{IsOfPlaying};
+ghost use Rattle.bk_verbs.specs.Frames.{Appends};
 ghost use Rattle.bk_verbs.specs.Work.{IsExecuted};
 ghost use Rattle.bk_verbs.specs.Work.{WritesWork};
 ghost use Rattle.bk_verbs.specs.Prepared.{IsPrepared, CanBePlayed, WritesFront};
@@ -38,10 +39,12 @@ pub enum Work {
 }
 
 /// Writes it.
+#[tactic(auto, using(crate::proofs::Frames::appends_text, crate::proofs::Frames::appends_front))]
 pub fn write_work<K: Sink>(alloc: Global, work: Work, out: &mut K) -> Result<Status, Stop>
     requires { CanBePlayed work }
     ensures playing { IfErr result IsOfPlaying }
     ensures failed { HasCause WriteFault (K.faults out.old) (K.faults out.new) result }
+    ensures appends { Appends (K.written out.old) (K.written out.new) }
     ensures front { OnErr result (WritesFront work (K.written out.old) (K.written out.new)) }
     ensures executed { IfOk result IsExecuted }
     ensures ok { IfOk result (λ status. (files : Files) (task : Task) → IsPrepared files task work →
