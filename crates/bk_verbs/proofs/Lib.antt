@@ -1,6 +1,7 @@
 pub mod Plays
 pub mod Fronts
 pub mod Frames
+pub mod Puts
 pub mod Projects
 pub mod Fetching
 pub mod Stopping

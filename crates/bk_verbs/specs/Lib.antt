@@ -8,3 +8,4 @@ pub mod Prepared
 pub mod Stops
 pub mod Causes
 pub mod Frames
+pub mod Puts
