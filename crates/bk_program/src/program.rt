@@ -14,9 +14,9 @@ ghost use Rattle.bk_cli.specs.Tasks.{Task, run_task, Asks, AskForNothing};
 ghost use Rattle.bk_verbs.specs.Causes.{IsOfPlaying, CountsAbsence};
 ghost use Rattle.bk_verbs.specs.Frames.{Appends};
 ghost use Rattle.bk_verbs.specs.Stops.{IsOutside, StopsAt, IsCutShort, stop_text};
-ghost use Rattle.bk_verbs.specs.Work.{IsExecuted, WritesWork};
+ghost use Rattle.bk_verbs.specs.Work.{IsExecuted, WritesWork, PutsWork};
 ghost use Rattle.bk_program.specs.Run.{IsReady, WritesRun, IsDoneWhereLegal};
-ghost use Rattle.bk_program.specs.Answer.{IsAnswer, IsAnswered, WritesAnswer, WritesLine};
+ghost use Rattle.bk_program.specs.Answer.{IsAnswer, IsAnswered, WritesAnswer, WritesLine, PutsAnswer};
 ghost use Rattle.bk_program.specs.Outcome.{devices, Leaves, HasOutcome};
 
 use bk_cli::asked;
@@ -100,6 +100,8 @@ pub fn bkit<H: Shelf, K: Sink>(
     ensures answer { IsAnswered result → (files : Files) → H.files shelf.old ≡ Some files →
         WritesAnswer files (map string_bytes words.now) (K.written out.old) (K.written out.new) result }
     ensures line { IsAnswered result → IsExecuted result ⊎ WritesLine result (K.written out.old) (K.written out.new) }
+    ensures pieces { IsAnswered result → (files : Files) → H.files shelf.old ≡ Some files →
+        PutsAnswer files (map string_bytes words.now) (K.pieces out.old) (K.pieces out.new) result }
     ensures cut_short { IsCutShort result → (files : Files) → H.files shelf.old ≡ Some files →
         (status : Status) (text : List ℕ) → IsAnswer files (map string_bytes words.now) status text →
         WroteFront text (K.written out.old) (K.written out.new) }
@@ -148,6 +150,10 @@ fn perform<H: Shelf, K: Sink>(
     ensures ok { IfOk result (λ status. (files : Files) → H.files shelf.old ≡ Some files →
         (task : Task) → Asks (map string_bytes words.now) task →
         WritesWork files task (K.written out.old) (K.written out.new) status) }
+    ensures pieces { IfOk result (λ status. (files : Files) → H.files shelf.old ≡ Some files →
+        (task : Task) → Asks (map string_bytes words.now) task →
+        PutsWork files task (K.pieces out.old) (K.pieces out.new) status) }
+    ensures unput { IfErr result (λ stop. IsOfPlaying stop ⊎ (K.pieces out.new ≡ K.pieces out.old)) }
     ensures asked { IfOk result (λ status. (task : Task) × Asks (map string_bytes words.now) task) }
 {
     let command = asked(alloc, words)?;

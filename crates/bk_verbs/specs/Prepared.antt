@@ -13,9 +13,9 @@ use Rattle.bk_calls.specs.Transcript.{transcript}
 use Rattle.bk_verbs.specs.declared.status.Status.TheVariants.{Done}
 use Rattle.bk_verbs.specs.declared.work.Work.{Work}
 use Rattle.bk_verbs.specs.declared.work.Work.TheVariants.{Text, Ended, Play}
-use Rattle.bk_cli.specs.Tasks.{Task, most_fuel}
+use Rattle.bk_cli.specs.Tasks.{Task, check_task, status_task, po_task, code_task, build_task, run_task, exec_task, sample_task, most_fuel}
 use Rattle.bk_verbs.specs.Session.{session_status, PlaysFront}
-use Rattle.bk_verbs.specs.Work.{IsExecuted, IsWork}
+use Rattle.bk_verbs.specs.Work.{IsExecuted, IsWork, IsImageOf}
 
 -- whatever a session of the image over the calls tells is what the task gives
 abbrev pub IsSessionOf : Files → Task → Image → (fuel : ℕ) → List Request → Type 0
@@ -28,6 +28,23 @@ abbrev pub IsPrepared : Files → Task → Work → Type 0
 IsPrepared files task (Text text) = IsWork files task Done text.items
 IsPrepared files task (Ended text status) = IsWork files task status text.items
 IsPrepared files task (Play player calls fuel) = IsSessionOf files task player.image fuel (map request_of calls.items)
+
+-- the task writes a text, and executes no code but that of a sample
+abbrev pub GivesText : Task → Type 0
+GivesText (check_task project) = Unit {0}
+GivesText (status_task project) = Unit {0}
+GivesText (po_task project) = Unit {0}
+GivesText (code_task project) = Unit {0}
+GivesText (build_task project) = Unit {0}
+GivesText (run_task project calls fuel) = ⊥
+GivesText (exec_task image calls fuel) = ⊥
+GivesText (sample_task variables) = Unit {0}
+
+-- what is left to write is of the kind of the task: a text, or a session of its image
+abbrev pub Suits : Files → Task → Work → Type 0
+Suits files task (Text text) = GivesText task
+Suits files task (Ended text status) = GivesText task
+Suits files task (Play player calls fuel) = IsImageOf files task player.image
 
 -- a machine that has not begun, whose image is never stuck, calls that it takes, not too many of them, and no more fuel than may be
 -- asked for

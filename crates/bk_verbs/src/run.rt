@@ -11,7 +11,7 @@ ghost use Rattle.bk_cli.specs.Tasks.{run_task, most_fuel};
 ghost use Rattle.bk_verbs.specs.Causes.{IsOfReading, CountsAbsence};
 ghost use Rattle.bk_verbs.specs.Stops.{IsOutside, StopsTask};
 ghost use Rattle.bk_verbs.specs.Work.{IsMadeReady};
-ghost use Rattle.bk_verbs.specs.Prepared.{IsPrepared, CanBePlayed};
+ghost use Rattle.bk_verbs.specs.Prepared.{IsPrepared, Suits, CanBePlayed};
 
 use crate::code::image_of;
 use crate::files::{fetch, read_project};
@@ -52,6 +52,8 @@ pub(crate) fn session_of_project<H: Shelf>(
     ensures files { H.files shelf.new ≡ H.files shelf.old }
     ensures told { IfOk result (λ work. (files : Files) → H.files shelf.old ≡ Some files →
         IsPrepared files (run_task project.now script.now fuel) work) }
+    ensures suits { IfOk result (λ work. (files : Files) → H.files shelf.old ≡ Some files →
+        Suits files (run_task project.now script.now fuel) work) }
     ensures playable { IfOk result CanBePlayed }
 {
     let ready = ready_project(alloc, project, script, shelf)?;

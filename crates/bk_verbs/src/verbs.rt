@@ -7,7 +7,7 @@ ghost use Rattle.bk_cli.specs.Asked.{task_of, HasSmallNumbers};
 ghost use Rattle.bk_verbs.specs.declared.stop.Stop.TheVariants.{ReadFault};
 ghost use Rattle.bk_verbs.specs.Causes.{IsOfReading, CountsAbsence};
 ghost use Rattle.bk_verbs.specs.Stops.{IsOutside, StopsTask};
-ghost use Rattle.bk_verbs.specs.Prepared.{IsPrepared, CanBePlayed};
+ghost use Rattle.bk_verbs.specs.Prepared.{IsPrepared, Suits, CanBePlayed};
 
 use crate::build::built_bytes;
 use crate::check::checked_text;
@@ -43,6 +43,8 @@ pub fn prepare<H: Shelf>(alloc: Global, command: Command<'_>, shelf: &mut H) -> 
     ensures files { H.files shelf.new ≡ H.files shelf.old }
     ensures told { IfOk result (λ work. (files : Files) → H.files shelf.old ≡ Some files →
         IsPrepared files (task_of command.entry) work) }
+    ensures suits { IfOk result (λ work. (files : Files) → H.files shelf.old ≡ Some files →
+        Suits files (task_of command.entry) work) }
     ensures playable { IfOk result CanBePlayed }
 {
     match command {

@@ -8,8 +8,8 @@ ghost use Rattle.bk_cli.specs.Tasks.{Task};
 ghost use Rattle.bk_verbs.specs.Causes.{IsOfPlaying};
 ghost use Rattle.bk_verbs.specs.Frames.{Appends};
 ghost use Rattle.bk_verbs.specs.Work.{IsExecuted};
-ghost use Rattle.bk_verbs.specs.Work.{WritesWork};
-ghost use Rattle.bk_verbs.specs.Prepared.{IsPrepared, CanBePlayed, WritesFront};
+ghost use Rattle.bk_verbs.specs.Work.{WritesWork, PutsWork};
+ghost use Rattle.bk_verbs.specs.Prepared.{IsPrepared, Suits, CanBePlayed, WritesFront};
 
 use crate::player::Player;
 use crate::session::play;
@@ -49,6 +49,8 @@ pub fn write_work<K: Sink>(alloc: Global, work: Work, out: &mut K) -> Result<Sta
     ensures executed { IfOk result IsExecuted }
     ensures ok { IfOk result (λ status. (files : Files) (task : Task) → IsPrepared files task work →
         WritesWork files task (K.written out.old) (K.written out.new) status) }
+    ensures pieces { IfOk result (λ status. (files : Files) (task : Task) → IsPrepared files task work → Suits files task work →
+        PutsWork files task (K.pieces out.old) (K.pieces out.new) status) }
 {
     match work {
         Work::Text(text) => {

@@ -6,7 +6,7 @@ use Rattle.bk_cli.specs.Tasks.{run_task}
 use Rattle.bk_verbs.specs.Stops.{stop_text}
 use Rattle.bk_verbs.specs.Work.{IsExecuted}
 use Rattle.bk_program.proofs.Given.{wrong_words}
-use Rattle.bk_program.proofs.Answering.{work_answers, stop_answers, stop_line, stop_front, reports_read, reports_missing, reports_usage, silent, rose_first, rose_second, executed_is_no_fault, executed_is_not_cut_short, reports_not_executed}
+use Rattle.bk_program.proofs.Answering.{work_answers, stop_answers, stop_line, stop_front, reports_read, reports_missing, reports_usage, silent, stop_puts, rose_first, rose_second, executed_is_no_fault, executed_is_not_cut_short, reports_not_executed}
 use Rattle.bk_program.proofs.Runs.{writes_run, ready_executed, done_where_legal}
 use Rattle.bk_verbs.proofs.Frames.{appends_twice}
 use Rattle.bk_program.proofs.program.bkit.Goals as goal
@@ -124,3 +124,12 @@ returns-in-Err-clause-leaves g c = record {
   write_faults = omega (arith, c.perform.ensures.write.later, c.report.ensures.later);
   absences = c.perform.ensures.missing.later;
 }
+
+-- ---- pieces
+pub returns-in-Ok-clause-pieces : goal.returns-in-Ok-clause-pieces
+returns-in-Ok-clause-pieces g c answered files told = inr (c.in-Ok.ensures.asked.0, c.in-Ok.ensures.asked.1, c.in-Ok.ensures.pieces files told c.in-Ok.ensures.asked.0 c.in-Ok.ensures.asked.1)
+
+pub returns-in-Err-clause-pieces : goal.returns-in-Err-clause-pieces
+returns-in-Err-clause-pieces g c answered files told =
+    stop_puts files (map (string_bytes {Z = Global}) c.args.words.now) c.in-Err.stop c.report.result (g.K.Sink.written c.perform.new.out) (g.K.Sink.written c.report.new.out) (g.K.Sink.pieces c.args.out.now) (g.K.Sink.pieces c.perform.new.out) (g.K.Sink.pieces c.report.new.out)
+    (c.in-Err.ensures.cause files told) c.report.ensures.reports answered c.in-Err.ensures.unput c.report.ensures.piece

@@ -1,15 +1,20 @@
-use Rattle.std.proofs.Common.{rules, map, take, subst}
+use Rattle.std.proofs.Common.{rules, refl, map, take, subst}
 use Rattle.bk_calls.specs.Script.{request_of}
 use Rattle.bk_vm.specs.Ends.{end_of}
 use Rattle.std.proofs.lemmas.List.{length-map}
 use Rattle.bk_verbs.specs.Session.{PlaysCall, PlaysCallFront, PutsCall}
 use Rattle.bk_verbs.proofs.Plays.{request_at, take_more, sofar_more, done_end, over_stop, over_end, whole_at}
 use Rattle.bk_verbs.proofs.Fronts.{on_err, calls_front}
-use Rattle.bk_verbs.proofs.Puts.{sofar_puts_more, whole_puts_at}
+use Rattle.bk_verbs.proofs.Puts.{sofar_puts_nothing, sofar_puts_more, whole_puts_at}
 use Rattle.bk_verbs.proofs.session.play_calls.Goals as goal
 
 pub play_call-requires-clause-request : goal.play_call-requires-clause-request
 play_call-requires-clause-request g c = request_at c.args.player.now.image c.loop-call.player.image c.args.calls.now c.loop-call.call-index c.call-item.result c.requires.requests (c.loop-call.invariant.1) c.loop-call-test.true c.call-item.is
+
+pub loop-call-init : goal.loop-call-init
+loop-call-init g c =
+    let none = sofar_puts_nothing c.args.player.now.image c.args.fuel (end_of c.args.start) c.args.player.now.cells (g.K.Sink.written c.args.out.now) (g.K.Sink.pieces c.args.out.now) in
+    (none.sofar, refl, c.requires.started, c.requires.stopped, search rules, search rules, c.requires.outputs, c.requires.made, search rules, none)
 
 pub loop-call-preserved : goal.loop-call-preserved
 loop-call-preserved g c =
