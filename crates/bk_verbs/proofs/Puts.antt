@@ -104,9 +104,12 @@ puts law image fuel start cells requests last done steps old mid far new op pm p
     ap (λ x. closing_text (done_count tolds) (steps_of fuel x + step_sum fuel tolds)) (sym same)) in
     record {
       plays = plays law image fuel start cells requests last done steps old mid far new ends first calls.plays closing;
-      puts = (pm, subst (λ x. PutWhole x op pm) (first_line image start cells) first_put,
-          puts_more (replies_lines image requests tolds) (closing_text (done_count tolds) (steps_of fuel told.end + step_sum fuel tolds) ∷ []) pm pf pn calls.puts
-          (puts_one (closing_text (done_count tolds) (steps_of fuel told.end + step_sum fuel tolds)) pf pn (subst (λ x. PutWhole x pf pn) text closing_put)));
+      puts = (
+        pm,
+        subst (λ x. PutWhole x op pm) (first_line image start cells) first_put,
+        puts_more (replies_lines image requests tolds) (closing_text (done_count tolds) (steps_of fuel told.end + step_sum fuel tolds) ∷ []) pm pf pn calls.puts
+            (puts_one (closing_text (done_count tolds) (steps_of fuel told.end + step_sum fuel tolds)) pf pn (subst (λ x. PutWhole x pf pn) text closing_put)),
+      );
     }
 
 -- the same of images and a status that are equal to these

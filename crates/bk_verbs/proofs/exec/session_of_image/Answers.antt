@@ -93,7 +93,8 @@ returns-clause-playable g c = record {
 }
 
 pub returns-clause-suits : goal.returns-clause-suits
-returns-clause-suits g c files told =
-    (c.as_bytes.result.now,
-    held_bytes files c.args.image.now _ c.from_bytes-bytes.result c.as_bytes.result.now c.from_bytes-bytes.ensures c.as_bytes.ensures.value (c.in_ok-fetch.ensures.told files told) c.as_bytes.ensures.bytes,
-    subst (Encodes c.as_bytes.result.now) (sym (loaded_image c.in_ok-player.player c.in_ok-loaded.loaded c.in_ok-player.ensures)) c.in_ok-loaded.ensures.ok)
+returns-clause-suits g c files told = (
+  c.as_bytes.result.now,
+  held_bytes files c.args.image.now _ c.from_bytes-bytes.result c.as_bytes.result.now c.from_bytes-bytes.ensures c.as_bytes.ensures.value (c.in_ok-fetch.ensures.told files told) c.as_bytes.ensures.bytes,
+  subst (Encodes c.as_bytes.result.now) (sym (loaded_image c.in_ok-player.player c.in_ok-loaded.loaded c.in_ok-player.ensures)) c.in_ok-loaded.ensures.ok,
+)
