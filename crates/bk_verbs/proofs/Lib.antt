@@ -2,6 +2,7 @@ pub mod Plays
 pub mod Fronts
 pub mod Frames
 pub mod Puts
+pub mod Listed
 pub mod Projects
 pub mod Fetching
 pub mod Stopping

@@ -1,5 +1,5 @@
 -- What a task gives where no check stops it, a case a verb.
-use Rattle.std.specs.Prelude.{◌≡◌, ℕ, true, List, ◌++◌, Option}
+use Rattle.std.specs.Prelude.{◌≡◌, ℕ, true, false, List, ◌++◌, map, Option}
 use Rattle.bk_io.specs.Files.{Files}
 use Rattle.bk_io.specs.Pieces.{Piece, PutWhole, written_with}
 use Rattle.bk_code.specs.declared.image.Image.{Image}
@@ -20,7 +20,7 @@ use Rattle.bk_cli.specs.Tasks.{Task, check_task, status_task, po_task, code_task
 use Rattle.bk_verbs.specs.Project.{IsToldAsBytes, ReadsProject, IsFinished, IsWithinCodeLimits, ReadsCalls}
 use Rattle.bk_report.specs.Check.{check_text}
 use Rattle.bk_report.specs.Table.{table_text}
-use Rattle.bk_report.specs.Obligations.{obligations_text}
+use Rattle.bk_report.specs.Obligations.{obligation_text, obligations_text}
 use Rattle.bk_report.specs.Listing.{listing}
 use Rattle.bk_verbs.specs.Puts.{PutsEach}
 use Rattle.bk_verbs.specs.Session.{session_status, transcript_lines}
@@ -158,6 +158,14 @@ pub record PutsText (files : Files) (task : Task) (old new : Option (List Piece)
   pub work : IsWork files task status text
   pub put : PutWhole text old new
 
+-- the texts of the development's obligations, which pass no limit, are put one by one
+pub record PutsObligations (files : Files) (project : List ℕ) (old new : Option (List Piece)) : Type 0 where
+  pub dev : Development
+  pub scripts : List RawScript
+  pub reads : ReadsProject false files project dev scripts
+  pub within : PassNoLimit (obligations dev)
+  pub puts : PutsEach (map (obligation_text (flattened dev).table) (numbered_obligations dev)) old new
+
 -- the text of the task is the transcript of a session of its image, each line of which is put as one piece
 pub record PutsSession (files : Files) (task : Task) (old new : Option (List Piece)) (status : Status) : Type 0 where
   pub image : Image
@@ -169,11 +177,11 @@ pub record PutsSession (files : Files) (task : Task) (old new : Option (List Pie
   pub work : IsWork files task status (transcript image fuel requests tolds)
   pub puts : PutsEach (transcript_lines image fuel requests tolds) old new
 
--- what a task puts: `run` and `exec` line by line, and each other at once
+-- what a task puts: `run` and `exec` line by line, `po` an obligation at a time, and each other at once
 abbrev pub PutsWork : Files → Task → (old new : Option (List Piece)) → Status → Type 0
 PutsWork files (check_task project) old new status = PutsText files (check_task project) old new status
 PutsWork files (status_task project) old new status = PutsText files (status_task project) old new status
-PutsWork files (po_task project) old new status = PutsText files (po_task project) old new status
+PutsWork files (po_task project) old new status = (status ≡ Done) × PutsObligations files project old new
 PutsWork files (code_task project) old new status = PutsText files (code_task project) old new status
 PutsWork files (build_task project) old new status = PutsText files (build_task project) old new status
 PutsWork files (run_task project calls fuel) old new status = PutsSession files (run_task project calls fuel) old new status

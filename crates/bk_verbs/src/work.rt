@@ -11,12 +11,15 @@ ghost use Rattle.bk_verbs.specs.Work.{IsExecuted};
 ghost use Rattle.bk_verbs.specs.Work.{WritesWork, PutsWork};
 ghost use Rattle.bk_verbs.specs.Prepared.{IsPrepared, Suits, CanBePlayed, WritesFront};
 
+use crate::obligations::put_obligations;
 use crate::player::Player;
 use crate::session::play;
 use crate::status::Status;
 use crate::stop::Stop;
 use bk_calls::Call;
+use bk_form::VarTable;
 use bk_io::{Sink, put_all};
+use bk_po::Obligation;
 use std::alloc::Global;
 
 /// What a command has to write.
@@ -28,6 +31,11 @@ pub enum Work {
     Ended {
         text: Vec<u8>,
         status: Status,
+    },
+    /// The texts of these obligations, one after another, with the names of the table.
+    Obligations {
+        list: Vec<Obligation>,
+        table: VarTable,
     },
     /// The transcript of the player's session over these calls, of which each, and the initialisation, may have so many
     /// steps.
@@ -61,6 +69,7 @@ pub fn write_work<K: Sink>(alloc: Global, work: Work, out: &mut K) -> Result<Sta
             put_all(out, &text)?;
             Ok(status)
         }
+        Work::Obligations { list, table } => put_obligations(alloc, &list, &table, out),
         Work::Play {
             player,
             calls,
