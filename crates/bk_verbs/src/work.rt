@@ -11,8 +11,8 @@ ghost use Rattle.bk_verbs.specs.Work.{IsExecuted};
 ghost use Rattle.bk_verbs.specs.Work.{WritesWork, PutsWork};
 ghost use Rattle.bk_verbs.specs.Prepared.{IsPrepared, Suits, CanBePlayed, WritesFront};
 
-use crate::obligations::put_obligations;
 use crate::player::Player;
+use crate::putting::put_obligations;
 use crate::session::play;
 use crate::status::Status;
 use crate::stop::Stop;

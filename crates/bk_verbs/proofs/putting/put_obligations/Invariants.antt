@@ -3,7 +3,7 @@ use Rattle.bk_io.specs.Pieces.{written_with}
 use Rattle.bk_po.specs.Shown.{named_sequent}
 use Rattle.bk_report.specs.Obligations.{obligation_text, obligations_text}
 use Rattle.bk_verbs.specs.Puts.{PutsEach}
-use Rattle.bk_verbs.proofs.obligations.put_obligations.Given as goal
+use Rattle.bk_verbs.proofs.putting.put_obligations.Given as goal
 
 abbrev pub invariant-loop-obligation : goal.invariant-loop-obligation
 invariant-loop-obligation g l = record {

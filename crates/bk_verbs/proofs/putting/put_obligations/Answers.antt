@@ -3,7 +3,7 @@ use Rattle.bk_po.specs.Shown.{named_sequent}
 use Rattle.bk_verbs.proofs.Fronts.{on_err}
 use Rattle.bk_verbs.proofs.Frames.{appends_text, appends_front, appends_twice}
 use Rattle.bk_verbs.proofs.Listed.{written_more, pieces_more, front_before, front_within, written_all, pieces_all}
-use Rattle.bk_verbs.proofs.obligations.put_obligations.Goals as goal
+use Rattle.bk_verbs.proofs.putting.put_obligations.Goals as goal
 
 pub loop-obligation-preserved : goal.loop-obligation-preserved
 loop-obligation-preserved g c = record {
