@@ -18,5 +18,6 @@ returns g c = record {
     missing = c.bkit.ensures.missing;
     usage = c.bkit.ensures.usage;
     wrong_words = c.bkit.ensures.wrong_words;
+    leaves = c.bkit.ensures.leaves;
   };
 }

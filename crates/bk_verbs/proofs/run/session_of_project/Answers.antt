@@ -45,3 +45,8 @@ returns-clause-playable g c = record {
   few = rw (length-map c.in_ok-ready.ready.calls.items request_of) c.in_ok-ready.ensures.few;
   small = c.requires.small;
 }
+
+pub returns-clause-suits : goal.returns-clause-suits
+returns-clause-suits g c files told =
+    let ready = c.in_ok-ready.ensures.ready files told in
+    (ready.dev, ready.scripts, ready.reads, ready.image_is)
