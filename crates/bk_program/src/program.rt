@@ -29,6 +29,7 @@ use std::process::ExitCode;
 
 /// The program over the words as the system gives them; the exit code is that of its status. Words that are no text are
 /// wrong words.
+#[tactic(auto, using(crate::proofs::Leaving::leaves_of, crate::proofs::Leaving::leaves_all))]
 pub fn exit_code<H: Shelf, K: Sink>(
     alloc: Global,
     words: io::Result<Vec<String>>,
@@ -36,19 +37,19 @@ pub fn exit_code<H: Shelf, K: Sink>(
     out: &mut K,
 ) -> ExitCode
     ensures given { IfOk words (λ given. HasOutcome (map string_bytes given.items)
-        (devices (H.files shelf.old) (K.written out.old) (H.faults shelf.old) (K.faults out.old) (H.absences shelf.old))
-        (devices (H.files shelf.new) (K.written out.new) (H.faults shelf.new) (K.faults out.new) (H.absences shelf.new))
+        (devices (H.files shelf.old) (K.written out.old) (K.pieces out.old) (H.faults shelf.old) (K.faults out.old) (H.absences shelf.old))
+        (devices (H.files shelf.new) (K.written out.new) (K.pieces out.new) (H.faults shelf.new) (K.faults out.new) (H.absences shelf.new))
         (exit_status result)) }
     ensures no_text { IfErr words (λ error. error_kind error ≢ ErrorKind.OutOfMemory →
         HasOutcome []
-        (devices (H.files shelf.old) (K.written out.old) (H.faults shelf.old) (K.faults out.old) (H.absences shelf.old))
-        (devices (H.files shelf.new) (K.written out.new) (H.faults shelf.new) (K.faults out.new) (H.absences shelf.new))
+        (devices (H.files shelf.old) (K.written out.old) (K.pieces out.old) (H.faults shelf.old) (K.faults out.old) (H.absences shelf.old))
+        (devices (H.files shelf.new) (K.written out.new) (K.pieces out.new) (H.faults shelf.new) (K.faults out.new) (H.absences shelf.new))
         (exit_status result)) }
     ensures memory { IfErr words (λ error. error_kind error ≡ ErrorKind.OutOfMemory →
         (exit_status result ≡ code_of Status.Memory) × (K.written out.new ≡ K.written out.old)) }
     ensures leaves { Leaves
-        (devices (H.files shelf.old) (K.written out.old) (H.faults shelf.old) (K.faults out.old) (H.absences shelf.old))
-        (devices (H.files shelf.new) (K.written out.new) (H.faults shelf.new) (K.faults out.new) (H.absences shelf.new)) }
+        (devices (H.files shelf.old) (K.written out.old) (K.pieces out.old) (H.faults shelf.old) (K.faults out.old) (H.absences shelf.old))
+        (devices (H.files shelf.new) (K.written out.new) (K.pieces out.new) (H.faults shelf.new) (K.faults out.new) (H.absences shelf.new)) }
 {
     match words {
         Ok(words) => code_of_run(alloc, &words, shelf, out),
@@ -67,8 +68,8 @@ fn code_of_run<H: Shelf, K: Sink>(
     out: &mut K,
 ) -> ExitCode
     ensures { HasOutcome (map string_bytes words.now)
-        (devices (H.files shelf.old) (K.written out.old) (H.faults shelf.old) (K.faults out.old) (H.absences shelf.old))
-        (devices (H.files shelf.new) (K.written out.new) (H.faults shelf.new) (K.faults out.new) (H.absences shelf.new))
+        (devices (H.files shelf.old) (K.written out.old) (K.pieces out.old) (H.faults shelf.old) (K.faults out.old) (H.absences shelf.old))
+        (devices (H.files shelf.new) (K.written out.new) (K.pieces out.new) (H.faults shelf.new) (K.faults out.new) (H.absences shelf.new))
         (exit_status result) }
 {
     ExitCode::from(bkit(alloc, words, shelf, out).code())
@@ -114,8 +115,8 @@ pub fn bkit<H: Shelf, K: Sink>(
     ensures wrong_words { AskForNothing (map string_bytes words.now) → (result ≡ Status.Usage) ⊎
         (IsCutShort result × WroteFront (stop_text Usage) (K.written out.old) (K.written out.new)) }
     ensures leaves { Leaves
-        (devices (H.files shelf.old) (K.written out.old) (H.faults shelf.old) (K.faults out.old) (H.absences shelf.old))
-        (devices (H.files shelf.new) (K.written out.new) (H.faults shelf.new) (K.faults out.new) (H.absences shelf.new)) }
+        (devices (H.files shelf.old) (K.written out.old) (K.pieces out.old) (H.faults shelf.old) (K.faults out.old) (H.absences shelf.old))
+        (devices (H.files shelf.new) (K.written out.new) (K.pieces out.new) (H.faults shelf.new) (K.faults out.new) (H.absences shelf.new)) }
 {
     match perform(alloc, words, shelf, out) {
         Ok(status) => status,

@@ -1,5 +1,5 @@
 -- Obligations are written, and put, one after another.
-use Rattle.std.proofs.Common.{◌≡◌, ℕ, ◌+◌, ◌<◌, List, [], ◌∷◌, ◌++◌, length, take, drop, map, slice_index_or, Option, refl, sym, ◌∙◌, ap, subst, arith}
+use Rattle.std.proofs.Common.{◌≡◌, ℕ, ◌+◌, ◌<◌, ◌≤◌, List, [], ◌∷◌, ◌++◌, length, take, drop, map, slice_index_or, Option, refl, sym, ◌∙◌, ap, subst, arith}
 use Rattle.std.proofs.lemmas.Grind.{take_at_read, flat_map-append}
 use Rattle.std.proofs.lemmas.List.{map-append, take-append-drop, take_all}
 use Rattle.bk_io.specs.Pieces.{Piece, PutWhole, WroteFront, written_with}
@@ -60,8 +60,8 @@ module _ {A : Type 0} (name : A → List ℕ × Sequent) (table : Table) (list :
       (front_longer (obligations_text table (map name (take (i + 1) list))) (obligations_text table (map name (drop (i + 1) list))) old new (subst (λ y. WroteFront y old new) next more))
 
   -- all of them
-  pub written_all : (old new : Option (List ℕ)) → length list ≡ i → new ≡ written_with old (obligations_text table (map name (take i list))) → new ≡ written_with old (obligations_text table (map name list))
-  written_all old new e w = w ∙ ap (λ l. written_with old (obligations_text table (map name l))) (take_all i list (omega (arith, e)))
+  pub written_all : (old new : Option (List ℕ)) → length list ≤ i → new ≡ written_with old (obligations_text table (map name (take i list))) → new ≡ written_with old (obligations_text table (map name list))
+  written_all old new end w = w ∙ ap (λ l. written_with old (obligations_text table (map name l))) (take_all i list end)
 
-  pub pieces_all : (old new : Option (List Piece)) → length list ≡ i → PutsEach (map (obligation_text table) (map name (take i list))) old new → PutsEach (map (obligation_text table) (map name list)) old new
-  pieces_all old new e p = subst (λ l. PutsEach (map (obligation_text table) (map name l)) old new) (take_all i list (omega (arith, e))) p
+  pub pieces_all : (old new : Option (List Piece)) → length list ≤ i → PutsEach (map (obligation_text table) (map name (take i list))) old new → PutsEach (map (obligation_text table) (map name list)) old new
+  pieces_all old new end p = subst (λ l. PutsEach (map (obligation_text table) (map name l)) old new) (take_all i list end) p
