@@ -65,12 +65,13 @@ fn words(alloc: Global, line: &str) -> Result<Vec<String>, Fail> {
     Ok(words)
 }
 
-// Both calls end with status 0, and write these two texts.
+// Both calls end with status 0, and write these two texts, in so many whole pieces.
 fn compare(
     rt: &impl Abort,
     alloc: Global,
     lines: (&str, &str),
     texts: (&[u8], &[u8]),
+    pieces: usize,
 ) -> Result<(), Fail> {
     let files = files(alloc)?;
     assert!(rt; have_distinct_names(&files));
@@ -83,17 +84,19 @@ fn compare(
     wanted.extend_from_slice(texts.1)?;
     assert!(rt; ended.0.code() == 0 && ended.1.code() == 0);
     assert!(rt; sink.written() == wanted.as_slice());
+    let parts = sink.parts();
+    assert!(rt; parts.len() == pieces && parts.iter().all(|part| part.is_whole));
     Ok(())
 }
 
 #[test]
 fn what_is_built_is_executed(rt: HostRuntime) -> Result<(), Fail> {
     let lines = ("build c.prj", "exec c.img c.calls");
-    compare(&rt, rt.alloc(), lines, (IMAGE, REPLIES))
+    compare(&rt, rt.alloc(), lines, (IMAGE, REPLIES), 4)
 }
 
 #[test]
 fn a_development_is_run_twice(rt: HostRuntime) -> Result<(), Fail> {
     let lines = ("run c.prj c.calls", "run c.prj c.calls");
-    compare(&rt, rt.alloc(), lines, (REPLIES, REPLIES))
+    compare(&rt, rt.alloc(), lines, (REPLIES, REPLIES), 6)
 }
