@@ -1,7 +1,10 @@
 -- What is left to write, once it is written, is what the task gives.
-use Rattle.std.proofs.Common.{◌≡◌, ℕ, List, map, Option, Vec, Global, sym, subst}
+use Rattle.std.proofs.Common.{◌≡◌, ℕ, List, map, Option, Vec, Global, refl, sym, subst}
 use Rattle.bk_io.specs.Files.{Files}
 use Rattle.bk_io.specs.Pieces.{Piece, PutWhole, written_with}
+use Rattle.bk_code.specs.declared.image.Image.{Image}
+use Rattle.bk_code.specs.Session.{Request}
+use Rattle.bk_b0.specs.Translation.{translation}
 use Rattle.bk_vm.specs.State.{State}
 use Rattle.bk_calls.specs.declared.script.Call.{Call}
 use Rattle.bk_calls.specs.Script.{request_of}
@@ -18,8 +21,9 @@ use Rattle.bk_po.specs.Obligations.{numbered_obligations}
 use Rattle.bk_po.specs.Shown.{named_sequent}
 use Rattle.bk_report.specs.Obligations.{obligation_text, obligations_text}
 use Rattle.bk_verbs.specs.Puts.{PutsEach}
-use Rattle.bk_verbs.specs.Prepared.{IsPrepared, GivesText, IsListOf, Suits, IsPlayable, CanBePlayed}
-use Rattle.bk_verbs.specs.Work.{WritesWork, IsWork, IsImageOf, PutsText, PutsSession, PutsWork}
+use Rattle.bk_verbs.specs.Prepared.{IsPrepared, GivesText, IsListOf, AsksToPlay, Suits, IsPlayable, CanBePlayed}
+use Rattle.bk_verbs.specs.Project.{ReadsCalls}
+use Rattle.bk_verbs.specs.Work.{WritesWork, IsWork, PutsText, PutsPlayed, PutsWork}
 
 pub wrote_text : (files : Files) (task : Task) (text : Vec ℕ Global) (status : Status) (old new : Option (List ℕ)) → IsPrepared files task (Text text) → status ≡ Done → new ≡ written_with old text.items → WritesWork files task old new status
 wrote_text files task text status old new p e written =
@@ -77,26 +81,28 @@ put_list files task list table status old new suits e puts = by task suits
     by (exec_task image calls fuel) i = absurd i
     by (sample_task variables) i = absurd i
 
-pub put_session : (files : Files) (task : Task) (player : State) (calls : Vec Call Global) (fuel : ℕ) (status : Status) (old new : Option (List ℕ)) (op pn : Option (List Piece)) → IsPrepared files task (Play player calls fuel) → Suits files task (Play player calls fuel) →
+-- a session over the calls that a script asks for
+put_played : (files : Files) (script : List ℕ) (image : Image) (fuel : ℕ) (requests : List Request) (status : Status) (old new : Option (List ℕ)) (op pn : Option (List Piece)) → ReadsCalls files script image requests → Puts image fuel requests status old new op pn → PutsPlayed files script fuel image op pn status
+put_played files script image fuel requests status old new op pn asks puts = record {
+  text = transcript image fuel requests puts.plays.tolds;
+  played = record { requests = requests; asks = asks; tolds = puts.plays.tolds; session = puts.plays.session; last = puts.plays.last; transcript_is = refl };
+  puts = puts.puts;
+}
+
+pub put_session : (files : Files) (task : Task) (player : State) (calls : Vec Call Global) (fuel : ℕ) (status : Status) (old new : Option (List ℕ)) (op pn : Option (List Piece)) → Suits files task (Play player calls fuel) →
     Puts player.image fuel (map request_of calls.items) status old new op pn → PutsWork files task op pn status
-put_session files task player calls fuel status old new op pn p suits puts =
-    by task suits (record {
-      image = player.image;
-      image_is = suits;
-      fuel = fuel;
-      requests = map request_of calls.items;
-      tolds = puts.plays.tolds;
-      session = puts.plays.session;
-      work = subst (λ x. IsWork files task x (transcript player.image fuel (map request_of calls.items) puts.plays.tolds)) (sym puts.plays.last) (p puts.plays.tolds puts.plays.session);
-      puts = puts.puts;
-    })
+put_session files task player calls fuel status old new op pn suits puts = by task suits
   where
-    by : (t : Task) → IsImageOf files t player.image → PutsSession files t op pn status → PutsWork files t op pn status
-    by (check_task project) i s = absurd i
-    by (status_task project) i s = absurd i
-    by (po_task project) i s = absurd i
-    by (code_task project) i s = absurd i
-    by (build_task project) i s = absurd i
-    by (run_task project calls fuel) i s = s
-    by (exec_task image calls fuel) i s = s
-    by (sample_task variables) i s = absurd i
+    played : (script : List ℕ) (steps : ℕ) (image : Image) → player.image ≡ image → fuel ≡ steps → ReadsCalls files script player.image (map request_of calls.items) → PutsPlayed files script steps image op pn status
+    played script steps image e f asks =
+        subst (λ i. PutsPlayed files script steps i op pn status) e (subst (λ n. PutsPlayed files script n player.image op pn status) f (put_played files script player.image fuel (map request_of calls.items) status old new op pn asks puts))
+
+    by : (t : Task) → AsksToPlay files t player.image fuel (map request_of calls.items) → PutsWork files t op pn status
+    by (check_task project) i = absurd i
+    by (status_task project) i = absurd i
+    by (po_task project) i = absurd i
+    by (code_task project) i = absurd i
+    by (build_task project) i = absurd i
+    by (run_task project script steps) i = (i.0, i.1, i.2, played script steps (translation i.0) i.3 i.4 i.5)
+    by (exec_task file script steps) i = (i.0, player.image, i.1, i.2, played script steps player.image refl i.3 i.4)
+    by (sample_task variables) i = absurd i

@@ -1,5 +1,5 @@
 -- What is left to write once a task's files are read and checked.
-use Rattle.std.specs.Prelude.{◌≡◌, ℕ, ◌≤◌, false, List, All, length, map, Option}
+use Rattle.std.specs.Prelude.{◌≡◌, ℕ, ◌≤◌, true, false, List, All, length, map, Option}
 use Rattle.bk_form.specs.Table.{Table}
 use Rattle.bk_seq.specs.Sequents.{Sequent}
 use Rattle.bk_raw.specs.Trees.ScriptTree.{RawScript}
@@ -9,7 +9,9 @@ use Rattle.bk_po.specs.Obligations.{obligations, numbered_obligations}
 use Rattle.bk_po.specs.Limits.{PassNoLimit}
 use Rattle.bk_po.specs.Shown.{named_sequent}
 use Rattle.bk_report.specs.Obligations.{obligations_text}
-use Rattle.bk_verbs.specs.Project.{ReadsProject}
+use Rattle.bk_b0.specs.Translation.{translation}
+use Rattle.bk_image.specs.Encoding.{Encodes}
+use Rattle.bk_verbs.specs.Project.{IsToldAsBytes, ReadsProject, ReadsCalls}
 use Rattle.bk_limits.specs.declared.TheConstants.{MOST_CALLS}
 use Rattle.bk_io.specs.Files.{Files}
 use Rattle.bk_io.specs.Pieces.{WroteFront}
@@ -25,7 +27,7 @@ use Rattle.bk_verbs.specs.declared.work.Work.{Work}
 use Rattle.bk_verbs.specs.declared.work.Work.TheVariants.{Text, Ended, Obligations, Play}
 use Rattle.bk_cli.specs.Tasks.{Task, check_task, status_task, po_task, code_task, build_task, run_task, exec_task, sample_task, most_fuel}
 use Rattle.bk_verbs.specs.Session.{session_status, PlaysFront}
-use Rattle.bk_verbs.specs.Work.{IsExecuted, IsWork, IsImageOf}
+use Rattle.bk_verbs.specs.Work.{IsExecuted, IsWork}
 
 -- whatever a session of the image over the calls tells is what the task gives
 abbrev pub IsSessionOf : Files → Task → Image → (fuel : ℕ) → List Request → Type 0
@@ -64,12 +66,27 @@ IsListOf files (run_task project calls fuel) table list = ⊥
 IsListOf files (exec_task image calls fuel) table list = ⊥
 IsListOf files (sample_task variables) table list = ⊥
 
--- what is left to write is of the kind of the task: a text, its obligations, or a session of its image
+-- the task asks to play this session: of the translation of the development that its project is read as, or of the image that the bytes of
+-- its file encode; with its fuel, and over the calls that its script asks for
+abbrev pub AsksToPlay : Files → Task → Image → (fuel : ℕ) → List Request → Type 0
+AsksToPlay files (check_task project) image fuel requests = ⊥
+AsksToPlay files (status_task project) image fuel requests = ⊥
+AsksToPlay files (po_task project) image fuel requests = ⊥
+AsksToPlay files (code_task project) image fuel requests = ⊥
+AsksToPlay files (build_task project) image fuel requests = ⊥
+AsksToPlay files (run_task project calls steps) image fuel requests =
+    (dev : Development) × (scripts : List RawScript) × ReadsProject true files project dev scripts
+    × (image ≡ translation dev) × (fuel ≡ steps) × ReadsCalls files calls image requests
+AsksToPlay files (exec_task file calls steps) image fuel requests =
+    (bytes : List ℕ) × IsToldAsBytes files file bytes × Encodes bytes image × (fuel ≡ steps) × ReadsCalls files calls image requests
+AsksToPlay files (sample_task variables) image fuel requests = ⊥
+
+-- what is left to write is of the kind of the task: a text, its obligations, or the session that it asks to play
 abbrev pub Suits : Files → Task → Work → Type 0
 Suits files task (Text text) = GivesText task
 Suits files task (Ended text status) = GivesText task
 Suits files task (Obligations list table) = IsListOf files task table (map named_sequent list.items)
-Suits files task (Play player calls fuel) = IsImageOf files task player.image
+Suits files task (Play player calls fuel) = AsksToPlay files task player.image fuel (map request_of calls.items)
 
 -- a machine that has not begun, whose image is never stuck, calls that it takes, not too many of them, and no more fuel than may be
 -- asked for

@@ -140,18 +140,6 @@ pub record WritesWork (files : Files) (task : Task) (old new : Option (List ℕ)
   pub appended : new ≡ written_with old text
 
 -- ---- pieces
--- the image whose code a task executes: the translation of the development that its project is read as, or what the bytes of a file encode
-abbrev pub IsImageOf : Files → Task → Image → Type 0
-IsImageOf files (check_task project) image = ⊥
-IsImageOf files (status_task project) image = ⊥
-IsImageOf files (po_task project) image = ⊥
-IsImageOf files (code_task project) image = ⊥
-IsImageOf files (build_task project) image = ⊥
-IsImageOf files (run_task project calls fuel) image =
-    (dev : Development) × (scripts : List RawScript) × ReadsProject true files project dev scripts × (image ≡ translation dev)
-IsImageOf files (exec_task file calls fuel) image = (bytes : List ℕ) × IsToldAsBytes files file bytes × Encodes bytes image
-IsImageOf files (sample_task variables) image = ⊥
-
 -- the text of the task is put as one piece
 pub record PutsText (files : Files) (task : Task) (old new : Option (List Piece)) (status : Status) : Type 0 where
   pub text : List ℕ
@@ -166,16 +154,12 @@ pub record PutsObligations (files : Files) (project : List ℕ) (old new : Optio
   pub within : PassNoLimit (obligations dev)
   pub puts : PutsEach (map (obligation_text (flattened dev).table) (numbered_obligations dev)) old new
 
--- the text of the task is the transcript of a session of its image, each line of which is put as one piece
-pub record PutsSession (files : Files) (task : Task) (old new : Option (List Piece)) (status : Status) : Type 0 where
-  pub image : Image
-  pub image_is : IsImageOf files task image
-  pub fuel : ℕ
-  pub requests : List Request
-  pub tolds : List Told
-  pub session : Session image fuel requests tolds
-  pub work : IsWork files task status (transcript image fuel requests tolds)
-  pub puts : PutsEach (transcript_lines image fuel requests tolds) old new
+-- the image's session over the calls that the script asks for is played, and each line of its transcript is put as one piece
+pub record PutsPlayed (files : Files) (calls : List ℕ) (fuel : ℕ) (image : Image)
+    (old new : Option (List Piece)) (status : Status) : Type 0 where
+  pub text : List ℕ
+  pub played : IsPlayed files calls fuel image status text
+  pub puts : PutsEach (transcript_lines image fuel played.requests played.tolds) old new
 
 -- what a task puts: `run` and `exec` line by line, `po` an obligation at a time, and each other at once
 abbrev pub PutsWork : Files → Task → (old new : Option (List Piece)) → Status → Type 0
@@ -184,6 +168,10 @@ PutsWork files (status_task project) old new status = PutsText files (status_tas
 PutsWork files (po_task project) old new status = (status ≡ Done) × PutsObligations files project old new
 PutsWork files (code_task project) old new status = PutsText files (code_task project) old new status
 PutsWork files (build_task project) old new status = PutsText files (build_task project) old new status
-PutsWork files (run_task project calls fuel) old new status = PutsSession files (run_task project calls fuel) old new status
-PutsWork files (exec_task image calls fuel) old new status = PutsSession files (exec_task image calls fuel) old new status
+PutsWork files (run_task project calls fuel) old new status =
+    (dev : Development) × (scripts : List RawScript) × ReadsProject true files project dev scripts
+    × PutsPlayed files calls fuel (translation dev) old new status
+PutsWork files (exec_task image calls fuel) old new status =
+    (bytes : List ℕ) × (loaded : Image) × IsToldAsBytes files image bytes × Encodes bytes loaded
+    × PutsPlayed files calls fuel loaded old new status
 PutsWork files (sample_task variables) old new status = PutsText files (sample_task variables) old new status

@@ -1,9 +1,13 @@
-use Rattle.std.proofs.Common.{rules, refl, ◌∙◌}
+use Rattle.std.proofs.Common.{rules, refl, ◌∙◌, arith}
 use Rattle.bk_po.specs.Shown.{named_sequent}
+use Rattle.bk_verbs.proofs.Plays.{written_nothing}
 use Rattle.bk_verbs.proofs.Fronts.{on_err}
 use Rattle.bk_verbs.proofs.Frames.{appends_text, appends_front, appends_twice}
 use Rattle.bk_verbs.proofs.Listed.{written_more, pieces_more, front_before, front_within, written_all, pieces_all}
 use Rattle.bk_verbs.proofs.putting.put_obligations.Goals as goal
+
+pub loop-obligation-init : goal.loop-obligation-init
+loop-obligation-init g c = record { written = written_nothing (g.K.Sink.written c.args.out.now); pieces = refl; faults = omega arith }
 
 pub loop-obligation-preserved : goal.loop-obligation-preserved
 loop-obligation-preserved g c = record {

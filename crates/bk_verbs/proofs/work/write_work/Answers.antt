@@ -64,7 +64,7 @@ pub returns-in-Play-clause-pieces : goal.returns-in-Play-clause-pieces
 returns-in-Play-clause-pieces g c =
     IfOk-weaker c.play.result _ _
     (λ status puts files task prepared suits.
-    put_session files task c.in-Play.player c.in-Play.calls c.in-Play.fuel status (g.K.Sink.written c.args.out.now) (g.K.Sink.written c.play.new.out) (g.K.Sink.pieces c.args.out.now) (g.K.Sink.pieces c.play.new.out) (subst (IsPrepared files task) c.in-Play.is prepared) (subst (Suits files task) c.in-Play.is suits)
+    put_session files task c.in-Play.player c.in-Play.calls c.in-Play.fuel status (g.K.Sink.written c.args.out.now) (g.K.Sink.written c.play.new.out) (g.K.Sink.pieces c.args.out.now) (g.K.Sink.pieces c.play.new.out) (subst (Suits files task) c.in-Play.is suits)
     (subst (λ x. Puts c.in-Play.player.image c.in-Play.fuel (map request_of x) status (g.K.Sink.written c.args.out.now) (g.K.Sink.written c.play.new.out) (g.K.Sink.pieces c.args.out.now) (g.K.Sink.pieces c.play.new.out)) c.deref-in-Play.ensures.value puts))
     c.play.ensures.lines
 
