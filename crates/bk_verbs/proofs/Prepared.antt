@@ -50,21 +50,19 @@ pub put_text : (files : Files) (task : Task) (text : List ℕ) (status : Status)
 put_text files task text status old new gives work put = by task gives (record { text = text; work = work; put = put })
   where
     by : (t : Task) → GivesText t → PutsText files t old new status → PutsWork files t old new status
-    by (check_task project) g p = p
-    by (status_task project) g p = p
     by (po_task project) g p = absurd g
-    by (code_task project) g p = p
-    by (build_task project) g p = p
     by (run_task project calls fuel) g p = absurd g
     by (exec_task image calls fuel) g p = absurd g
+    by (check_task project) g p = p
+    by (status_task project) g p = p
+    by (code_task project) g p = p
+    by (build_task project) g p = p
     by (sample_task variables) g p = p
 
 pub put_list : (files : Files) (task : Task) (list : Vec Obligation Global) (table : Table) (status : Status) (old new : Option (List Piece)) → Suits files task (Obligations list table) → status ≡ Done → PutsEach (map (obligation_text table) (map named_sequent list.items)) old new → PutsWork files task old new status
 put_list files task list table status old new suits e puts = by task suits
   where
     by : (t : Task) → IsListOf files t table (map named_sequent list.items) → PutsWork files t old new status
-    by (check_task project) i = absurd i
-    by (status_task project) i = absurd i
     by (po_task project) i = (
       e,
       record {
@@ -75,11 +73,7 @@ put_list files task list table status old new suits e puts = by task suits
         puts = subst (λ t. PutsEach (map (obligation_text t) (numbered_obligations i.0)) old new) i.4 (subst (λ l. PutsEach (map (obligation_text table) l) old new) i.5 puts);
       },
     )
-    by (code_task project) i = absurd i
-    by (build_task project) i = absurd i
-    by (run_task project calls fuel) i = absurd i
-    by (exec_task image calls fuel) i = absurd i
-    by (sample_task variables) i = absurd i
+    by t i = absurd i
 
 -- a session over the calls that a script asks for
 put_played : (files : Files) (script : List ℕ) (image : Image) (fuel : ℕ) (requests : List Request) (status : Status) (old new : Option (List ℕ)) (op pn : Option (List Piece)) → ReadsCalls files script image requests → Puts image fuel requests status old new op pn → PutsPlayed files script fuel image op pn status
@@ -98,11 +92,6 @@ put_session files task player calls fuel status old new op pn suits puts = by ta
         subst (λ i. PutsPlayed files script steps i op pn status) e (subst (λ n. PutsPlayed files script n player.image op pn status) f (put_played files script player.image fuel (map request_of calls.items) status old new op pn asks puts))
 
     by : (t : Task) → AsksToPlay files t player.image fuel (map request_of calls.items) → PutsWork files t op pn status
-    by (check_task project) i = absurd i
-    by (status_task project) i = absurd i
-    by (po_task project) i = absurd i
-    by (code_task project) i = absurd i
-    by (build_task project) i = absurd i
     by (run_task project script steps) i = (i.0, i.1, i.2, played script steps (translation i.0) i.3 i.4 i.5)
     by (exec_task file script steps) i = (i.0, player.image, i.1, i.2, played script steps player.image refl i.3 i.4)
-    by (sample_task variables) i = absurd i
+    by t i = absurd i

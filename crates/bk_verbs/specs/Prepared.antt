@@ -25,7 +25,7 @@ use Rattle.bk_calls.specs.Transcript.{transcript}
 use Rattle.bk_verbs.specs.declared.status.Status.TheVariants.{Done}
 use Rattle.bk_verbs.specs.declared.work.Work.{Work}
 use Rattle.bk_verbs.specs.declared.work.Work.TheVariants.{Text, Ended, Obligations, Play}
-use Rattle.bk_cli.specs.Tasks.{Task, check_task, status_task, po_task, code_task, build_task, run_task, exec_task, sample_task, most_fuel}
+use Rattle.bk_cli.specs.Tasks.{Task, po_task, run_task, exec_task, most_fuel}
 use Rattle.bk_verbs.specs.Session.{session_status, PlaysFront}
 use Rattle.bk_verbs.specs.Work.{IsExecuted, IsWork}
 
@@ -44,42 +44,27 @@ IsPrepared files task (Play player calls fuel) = IsSessionOf files task player.i
 
 -- the task writes a text at once
 abbrev pub GivesText : Task → Type 0
-GivesText (check_task project) = Unit {0}
-GivesText (status_task project) = Unit {0}
 GivesText (po_task project) = ⊥
-GivesText (code_task project) = Unit {0}
-GivesText (build_task project) = Unit {0}
 GivesText (run_task project calls fuel) = ⊥
 GivesText (exec_task image calls fuel) = ⊥
-GivesText (sample_task variables) = Unit {0}
+GivesText _ = Unit {0}
 
 -- the task writes obligations, and these are the ones of its project's development, with the names of the table
 abbrev pub IsListOf : Files → Task → Table → List (List ℕ × Sequent) → Type 0
-IsListOf files (check_task project) table list = ⊥
-IsListOf files (status_task project) table list = ⊥
 IsListOf files (po_task project) table list =
     (dev : Development) × (scripts : List RawScript) × ReadsProject false files project dev scripts ×
     PassNoLimit (obligations dev) × (table ≡ (flattened dev).table) × (list ≡ numbered_obligations dev)
-IsListOf files (code_task project) table list = ⊥
-IsListOf files (build_task project) table list = ⊥
-IsListOf files (run_task project calls fuel) table list = ⊥
-IsListOf files (exec_task image calls fuel) table list = ⊥
-IsListOf files (sample_task variables) table list = ⊥
+IsListOf files _ table list = ⊥
 
 -- the task asks to play this session: of the translation of the development that its project is read as, or of the image that the bytes of
 -- its file encode; with its fuel, and over the calls that its script asks for
 abbrev pub AsksToPlay : Files → Task → Image → (fuel : ℕ) → List Request → Type 0
-AsksToPlay files (check_task project) image fuel requests = ⊥
-AsksToPlay files (status_task project) image fuel requests = ⊥
-AsksToPlay files (po_task project) image fuel requests = ⊥
-AsksToPlay files (code_task project) image fuel requests = ⊥
-AsksToPlay files (build_task project) image fuel requests = ⊥
 AsksToPlay files (run_task project calls steps) image fuel requests =
-    (dev : Development) × (scripts : List RawScript) × ReadsProject true files project dev scripts
-    × (image ≡ translation dev) × (fuel ≡ steps) × ReadsCalls files calls image requests
+    (dev : Development) × (scripts : List RawScript) × ReadsProject true files project dev scripts ×
+    (image ≡ translation dev) × (fuel ≡ steps) × ReadsCalls files calls image requests
 AsksToPlay files (exec_task file calls steps) image fuel requests =
     (bytes : List ℕ) × IsToldAsBytes files file bytes × Encodes bytes image × (fuel ≡ steps) × ReadsCalls files calls image requests
-AsksToPlay files (sample_task variables) image fuel requests = ⊥
+AsksToPlay files _ image fuel requests = ⊥
 
 -- what is left to write is of the kind of the task: a text, its obligations, or the session that it asks to play
 abbrev pub Suits : Files → Task → Work → Type 0
