@@ -1,5 +1,5 @@
 -- What is written is appended.
-use Rattle.std.proofs.Common.{◌≡◌, ℕ, List, [], ◌++◌, take, Option, Result, Ok, Err, OnErr, IfOk, sym, ◌∙◌, ap}
+use Rattle.std.proofs.Common.{◌≡◌, ℕ, List, [], ◌++◌, take, Option, ◌∙◌, ap}
 use Rattle.bk_io.specs.Pieces.{written_with, WroteFront}
 use Rattle.bk_verbs.specs.Frames.{Appends}
 use Rattle.bk_verbs.proofs.Plays.{written_nothing, written_twice}
