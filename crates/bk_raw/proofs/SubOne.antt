@@ -130,6 +130,11 @@ applied-led : (n : RawName) (us : RawTrees) (ts : List Token) → Applied n us t
 applied-led n no_trees ts h e = omega (arith, e, lead-alone n ts h)
 applied-led n (tree_and t us) ts h e = omega (arith, e, lead-behind (n ∷ []) OPEN_PAREN (Terms (tree_and t us) ⌢ JustSign CLOSE_PAREN) ts refl h)
 
+-- no atom is told by <--
+pub no-outputs-tag : (v : SubNode) → tag v ≡ OUTPUTS → ⊥
+no-outputs-tag sub_skip e = omega (arith, e)
+no-outputs-tag _ e = omega (arith, e)
+
 -- two calls
 pub one-called : (xs ys : List RawName) (n p : RawName) (us vs : RawTrees) (ts : List Token) → Called xs n us ts → Called ys p vs ts → (xs ≡ ys) × (n ≡ p) × (us ≡ vs)
 one-called [] [] n p us vs ts h k = let a = one-applied n p us vs ts h k in (refl, a.0, a.1)
@@ -279,15 +284,11 @@ module _ (calls : Bool) where
   as-called : (xs : List RawName) (n : RawName) (us : RawTrees) (v : SubNode) (m : ℕ) (ts : List Token) → v ≡ sub_call xs n us → Stated calls v m ts → Called xs n us ts
   as-called xs n us v m ts e k = (subst (λ x. Stated calls x m ts) e k).0
 
-  -- no other atom is told by nothing, or by <--
-  no-tag : (v : SubNode) (m : ℕ) (ts : List Token) → IsAtom v → Stated calls v m ts → tag v ≡ 0 → ⊥
+  -- no other atom is told by nothing
+  pub no-tag : (v : SubNode) (m : ℕ) (ts : List Token) → IsAtom v → Stated calls v m ts → tag v ≡ 0 → ⊥
   no-tag (sub_call xs n us) m ts a k e = absurd (a.shaped m ts k).4
   no-tag sub_skip m ts a k e = omega (arith, e)
   no-tag _ m ts a k e = omega (arith, e)
-
-  no-outputs-tag : (v : SubNode) → tag v ≡ OUTPUTS → ⊥
-  no-outputs-tag sub_skip e = omega (arith, e)
-  no-outputs-tag _ e = omega (arith, e)
 
   -- op(e, f) is no assignment to a place
   no-place : (n : RawName) (t : RawTree) (us : RawTrees) (v : SubNode) (m : ℕ) (ts : List Token) → Applied n (tree_and t us) ts → Stated calls v m ts → tag v ≡ OPEN_PAREN → ⊥
