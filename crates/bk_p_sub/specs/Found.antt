@@ -76,7 +76,8 @@ FoundEnclosed tokens term rest = (t : RawTree) × Longest Enclosed tokens t rest
 -- Operations are called in it where `calls` says so
 abbrev pub Reads : {E : Type 0} → (calls : Bool) → ℕ → List Token → Result (Option (Statement × Bor (List Token))) E → Type 0
 Reads calls m tokens result = IfOk result
-    (λ r. MatchOption r (Nothing (λ s. Sub calls s m) tokens) (λ p. (s : SubTree) × Longest (λ s. Sub calls s m) tokens s p.1.now × IsStatement s p.0))
+    (λ r. MatchOption r (Nothing (λ s. Sub calls s m) tokens)
+    (λ p. (s : SubTree) × Longest (λ s. Sub calls s m) tokens s p.1.now × IsStatement s p.0))
 
 -- an atom
 abbrev pub Atom : (calls : Bool) → SubTree → List Token → Type 0
@@ -97,12 +98,14 @@ LoopEnd q = JustWord INVARIANT ⌢ Spells q.0 ⌢ JustWord VARIANT ⌢ Spells q.
 -- the answer is the longest of these in front, or that none is
 abbrev pub ReadsBranches : {E : Type 0} → (calls : Bool) → ℕ → List Token → Result (Option (BuiltOnes × Bor (List Token))) E → Type 0
 ReadsBranches calls op tokens result = IfOk result (λ r.
-    MatchOption r (Nothing (BranchesEnd calls op) tokens) (λ p. (bs : Branches) × Longest (BranchesEnd calls op) tokens bs p.1.now × IsBranches bs p.0))
+    MatchOption r (Nothing (BranchesEnd calls op) tokens)
+    (λ p. (bs : Branches) × Longest (BranchesEnd calls op) tokens bs p.1.now × IsBranches bs p.0))
 
 -- a reading answers the longest end of a CHOICE that begins the tokens, or that there is none
 abbrev pub ReadsChoices : {E : Type 0} → (calls : Bool) → List Token → Result (Option (BuiltOthers × Bor (List Token))) E → Type 0
 ReadsChoices calls tokens result = IfOk result
-    (λ r. MatchOption r (Nothing (ChoicesEnd calls) tokens) (λ p. (cs : Choices) × Longest (ChoicesEnd calls) tokens cs p.1.now × IsChoices cs p.0))
+    (λ r. MatchOption r (Nothing (ChoicesEnd calls) tokens)
+    (λ p. (cs : Choices) × Longest (ChoicesEnd calls) tokens cs p.1.now × IsChoices cs p.0))
 
 -- a reading answers the longest end of a loop that begins the tokens, or that there is none
 abbrev pub ReadsLoopEnd : {E : Type 0} → List Token → Result (Option (Term × Term × Bor (List Token))) E → Type 0
@@ -155,9 +158,11 @@ Opens calls tokens (Closed statement) rest = (s : SubTree) × Longest (Atom call
 Opens calls tokens (Around block) rest = (form : SubTree → SubNode) × IsAround form block
     × Left (Atom calls) tokens (λ (s : SubTree). Sub calls s 0 ⌢ JustWord END) rest (λ s. sub (start tokens) (form s))
 Opens calls tokens (Tested test condition) rest = (p : RawTree) × IsTerm p condition × Left (Atom calls) tokens
-    (λ (q : SubTree × Branches). Sub calls q.0 0 ⌢ BranchesEnd calls (word_of test) q.1) rest (λ q. sub (start tokens) (tested_node test p q.0 q.1))
+    (λ (q : SubTree × Branches). Sub calls q.0 0 ⌢ BranchesEnd calls (word_of test) q.1) rest
+    (λ q. sub (start tokens) (tested_node test p q.0 q.1))
 Opens calls tokens Choice rest =
-    Left (Atom calls) tokens (λ (q : SubTree × Choices). Sub calls q.0 0 ⌢ ChoicesEnd calls q.1) rest (λ q. sub (start tokens) (sub_choice q.0 q.1))
+    Left (Atom calls) tokens (λ (q : SubTree × Choices). Sub calls q.0 0 ⌢ ChoicesEnd calls q.1) rest
+    (λ q. sub (start tokens) (sub_choice q.0 q.1))
 Opens calls tokens (While condition) rest = (p : RawTree) × IsTerm p condition × Left (Atom calls) tokens
     (λ (q : SubTree × (RawTree × RawTree)). Sub calls q.0 0 ⌢ LoopEnd q.1) rest (λ q. sub (start tokens) (sub_while p q.0 q.1.0 q.1.1))
 

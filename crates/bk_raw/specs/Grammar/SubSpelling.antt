@@ -47,7 +47,8 @@ abbrev mutual
   Stated calls (sub_assert p s) asked = JustWord ASSERT ⌢ Term p 0 ⌢ JustWord THEN ⌢ Sub calls s 0 ⌢ JustWord END
   Stated calls (sub_if p s bs) asked = JustWord IF ⌢ Term p 0 ⌢ JustWord THEN ⌢ (Sub calls s 0 ⌢ Branched calls ELSIF bs) ⌢ JustWord END
   Stated calls (sub_choice s cs) asked = JustWord CHOICE ⌢ (Sub calls s 0 ⌢ Chosen calls cs) ⌢ JustWord END
-  Stated calls (sub_select p s bs) asked = JustWord SELECT ⌢ Term p 0 ⌢ JustWord THEN ⌢ (Sub calls s 0 ⌢ Branched calls WHEN bs) ⌢ JustWord END
+  Stated calls (sub_select p s bs) asked =
+      JustWord SELECT ⌢ Term p 0 ⌢ JustWord THEN ⌢ (Sub calls s 0 ⌢ Branched calls WHEN bs) ⌢ JustWord END
   Stated calls (sub_any xs p s) asked = JustWord ANY ⌢ Names xs ⌢ JustWord WHERE ⌢ Term p 0 ⌢ JustWord THEN ⌢ Sub calls s 0 ⌢ JustWord END
   Stated calls (sub_let xs p s) asked =
       Provided (Defines xs p) (JustWord LET ⌢ Names xs ⌢ JustWord BE ⌢ Term p 0 ⌢ JustWord IN ⌢ Sub calls s 0 ⌢ JustWord END)
