@@ -330,5 +330,5 @@ room-made Implementation (Some dev) a may room = room
 
 -- each MAXINT fits 64 bits
 pub range-fits : (max : ℤ) → IsRange max → FitsSigned w64 max
-range-fits (pos n) h = let most : pos n ≤ℤ pos GREATEST_MAXINT = h.greatest in let low : n < 2 ^ 62 = omega (arith, ints, most) in fits_signed_from_abs w64 (pos n) (omega (arith, low))
+range-fits (pos n) h = let most : pos n ≤ℤ GREATEST_MAXINT = h.greatest in let low : n < 2 ^ 62 = omega (arith, ints, most) in fits_signed_from_abs w64 (pos n) (omega (arith, low))
 range-fits (negsuc n) h = let least : pos 1 ≤ℤ negsuc n = h.least in absurd (omega (arith, ints, least))
