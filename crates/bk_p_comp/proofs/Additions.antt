@@ -94,13 +94,13 @@ unread : (kind : TokenKind) → plain_kind true kind ≡ None → plain_kind fal
 unread kind h k true = h
 unread kind h k false = k
 
-unread_between : {F G : Type 0} (kind : TokenKind) → plain_kind true kind ≡ None → plain_kind false kind ≡ None → (A B : Piece) → Tells (A ⌢ Just kind ⌢ B) (F × G × ⊥)
-unread_between kind h k A B = tells_same (A ⌢ Just kind ⌢ B) (λ z. absurd z) (λ g. g.2) (bad_right A (Just kind ⌢ B) (bad_left (Just kind) B (tells_printed kind (unread kind h k))))
+unread_between : (F G : Type 0) (kind : TokenKind) → plain_kind true kind ≡ None → plain_kind false kind ≡ None → (A B : Piece) → Tells (A ⌢ Just kind ⌢ B) (F × G × ⊥)
+unread_between F G kind h k A B = tells_same (A ⌢ Just kind ⌢ B) (λ (z : ⊥). absurd z) (λ g. g.2) (bad_right A (Just kind ⌢ B) (bad_left (Just kind) B (tells_printed kind (unread kind h k))))
 
 infix_between : {F G : Type 0} (o : InfixOp) (A B : Piece) → Tells A F → Tells B G → Tells (A ⌢ Just (infix_kind o) ⌢ B) (F × G × IsOrdinaryInfix o)
-infix_between Concatenation A B f g = unread_between (infix_kind Concatenation) refl refl A B
-infix_between Prepend A B f g = unread_between (infix_kind Prepend) refl refl A B
-infix_between Append A B f g = unread_between (infix_kind Append) refl refl A B
+infix_between {F} {G} Concatenation A B f g = unread_between F G (infix_kind Concatenation) refl refl A B
+infix_between {F} {G} Prepend A B f g = unread_between F G (infix_kind Prepend) refl refl A B
+infix_between {F} {G} Append A B f g = unread_between F G (infix_kind Append) refl refl A B
 infix_between And A B f g = tells_same (A ⌢ Just (infix_kind And) ⌢ B) (λ p. (p.0, p.1, tt)) (λ p. (p.0, p.1)) (tells_between A B (infix_kind And) refl f g)
 infix_between o A B f g = tells_same (A ⌢ Just (infix_kind o) ⌢ B) (λ p. (p.0, p.1, tt)) (λ p. (p.0, p.1)) (tells_between A B (infix_kind o) refl f g)
 

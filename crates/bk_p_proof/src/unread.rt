@@ -39,7 +39,7 @@ fn is_before_part(kind: &TokenKind) -> bool
     ensures { result ≡ is_before_part kind.now }
 {
     match kind {
-        TokenKind::Name(text) => text.as_bytes() == b"proof",
+        TokenKind::Name(text) => text.as_bytes() == b"proof".as_slice(),
         TokenKind::Sign(op) => *op == sign::DOT,
         _ => false,
     }

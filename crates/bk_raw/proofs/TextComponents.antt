@@ -162,7 +162,7 @@ chained-longest d other h =
     omega (arith, l, f.5, ap length f.3, length-append f.1 f.2)
 
 chained-read : AreReadOn Machine [] (properties_of sides ∷ []) (properties_word ∷ both_sides ++ and_more) and_more
-chained-read = read-one (properties_of sides) (properties_word ∷ both_sides) and_more (properties-written sides both_sides (all-read 12 both_sides sides refl)) refl (((tt, tt), (tt, tt))) chained-longest (sign-follows-none (properties_of sides ∷ []) (token 37 38 (Sign AND)) _ AND refl)
+chained-read = read-one (properties_of sides) (properties_word ∷ both_sides) and_more (properties-written sides both_sides (all-read 12 both_sides sides refl)) refl ((tt, tt, tt), (tt, tt, tt), tt) chained-longest (sign-follows-none (properties_of sides ∷ []) (token 37 38 (Sign AND)) _ AND refl)
 
 pub loose-side : IsComponentFaultAt 48 chained 37
 loose-side = (10, fault-before chained 10 (place-behind (properties_of sides ∷ []) (properties_word ∷ both_sides ++ and_more) and_more chained-read (not-end (token 37 38 (Sign AND)) _ (sign-is-no-end AND)) 10 refl) (omega arith), refl)
@@ -218,7 +218,7 @@ printed-longest d other h =
     omega (arith, f.5, printed-short (length f.1) f.0 f.1 f.2 f.3 refl f.4 f.6)
 
 printed-read : AreReadOn Machine [] (properties_of p_is ∷ []) (properties_word ∷ one_side ++ and_true) and_true
-printed-read = read-one (properties_of p_is) (properties_word ∷ one_side) and_true (properties-written p_is one_side (all-read 12 one_side p_is refl)) refl (tt, tt) printed-longest (sign-follows-none (properties_of p_is ∷ []) and_sign _ AND refl)
+printed-read = read-one (properties_of p_is) (properties_word ∷ one_side) and_true (properties-written p_is one_side (all-read 12 one_side p_is refl)) refl (tt, tt, tt) printed-longest (sign-follows-none (properties_of p_is ∷ []) and_sign _ AND refl)
 
 pub addition : IsComponentFaultAt 38 printed 27
 addition = (6, fault-before printed 6 (place-behind (properties_of p_is ∷ []) (properties_word ∷ one_side ++ and_true) and_true printed-read (not-end and_sign _ (sign-is-no-end AND)) 6 refl) (omega arith), refl)

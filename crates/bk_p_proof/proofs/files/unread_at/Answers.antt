@@ -15,5 +15,5 @@ pub returns-in-Err-At : goal.returns-in-Err-At
 returns-in-Err-At c text long shallow =
     let bad : IsScriptFault c.args.front.now c.in-Err-At.place = subst (IsMisspelled c.args.front.now) c.in-Err-At.field-0-is c.in-Err-At.ensures.fault in
     let late = early_fault c.args.tokens.now c.args.front.now c.in-Err-At.place c.requires.cut bad c.requires.shorter in
-    let byte : c.byte_of.result ≡ byte_at c.args.bytes c.args.tokens.now c.in-Err-At.place = rw c.in-Err-At.field-0-is at c.byte_of.ensures in
+    let byte : c.byte_of-in-Err-At.result ≡ byte_at c.args.bytes c.args.tokens.now c.in-Err-At.place = rw c.in-Err-At.field-0-is at c.byte_of-in-Err-At.ensures in
     (c.args.tokens.now, shallow, inl (c.in-Err-At.place, late, byte ∙ ap (λ n. byte_at n c.args.tokens.now c.in-Err-At.place) (sym long)))
