@@ -11,7 +11,7 @@ use Rattle.bk_raw.specs.Grammar.Spelling.{Declared, Names, Spells, Term, Terms}
 use Rattle.bk_raw.specs.Trees.RawTree.{RawTree, RawTrees, no_trees, tree_and}
 use Rattle.bk_raw.specs.declared.term.RawName.{RawName}
 use Rattle.bk_raw.specs.Trees.SubTree.{SubTree, sub, SubNode, sub_skip, sub_assign, sub_assign_at, sub_member, sub_such, sub_call, sub_begin, sub_pre, sub_assert, sub_if, sub_choice, sub_select, sub_any, sub_let, sub_var, sub_while, sub_parallel, sub_sequence}
-use Rattle.bk_raw.specs.Grammar.SubSpelling.{Applied, Called, Sub, Stated, Branched, Chosen}
+use Rattle.bk_raw.specs.Grammar.SubSpelling.{Applied, Sub, Stated, Branched, Chosen}
 use Rattle.bk_raw.proofs.Shapes.{regrouped}
 use Rattle.bk_raw.proofs.Steps.{Piece, leads-fewer}
 use Rattle.bk_raw.proofs.TermRuns.{ends_term, ends_terms, ends_names, fewer-terms, all-names, all-terms, term}

@@ -25,7 +25,7 @@ use Rattle.bk_raw.specs.declared.operator.WordOp.{WordOp}
 use Rattle.bk_raw.specs.declared.operator.WordOp.TheVariants.{Not, BoolOf, Card, Min, Max, Dom, Ran, Id, Succ, Pred, Pow, Pow1, Fin, Fin1}
 use Rattle.bk_raw.specs.declared.operator.WordOp.TheVariants.{Seq, Size, First, Last, Front, Tail, Rev}
 use Rattle.bk_raw.specs.declared.operator.Constant.{Constant}
-use Rattle.bk_raw.specs.declared.operator.Constant.TheVariants.{Bool, True, False, Integer, Natural, Natural1}
+use Rattle.bk_raw.specs.declared.operator.Constant.TheVariants.{Bool as BoolWord, True, False, Integer, Natural, Natural1}
 use Rattle.bk_raw.specs.declared.operator.Constant.TheVariants.{Int, Nat, Nat1, MaxInt, MinInt, Btrue, Bfalse}
 
 -- the token that an operator is written as
@@ -98,7 +98,7 @@ word_kind Rev = Word REV
 
 -- the token that a constant is written as
 abbrev pub constant_kind : Constant → TokenKind
-constant_kind Bool = Word BOOL
+constant_kind BoolWord = Word BOOL
 constant_kind True = Word TRUE
 constant_kind False = Word FALSE
 constant_kind Integer = Word INTEGER

@@ -1,4 +1,4 @@
-use Rattle.std.proofs.Common.{subst, sym}
+use Rattle.std.proofs.Common.{subst}
 use Rattle.bk_raw.specs.Grammar.Spelling.{Names}
 use Rattle.bk_raw.specs.Trees.SubTree.{sub, sub_call}
 use Rattle.bk_p_expr.specs.Fronts.{Longest}
