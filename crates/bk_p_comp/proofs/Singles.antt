@@ -231,7 +231,7 @@ operation_none tokens n o front after e k = names_there tokens n o.outputs (call
 
 -- the answers of outputs
 pub outputs_none : (tokens rest : List Token) (xs none : List RawName) → Longest Names tokens xs rest → NotAhead (Sign OUTPUTS) rest → none ≡ [] → IsOutputs tokens none tokens
-outputs_none tokens rest xs none h n e = subst (λ ys. IsOutputs tokens ys tokens) (sym e) (refl, not_before is_names Names of_names kind_names (Sign OUTPUTS) refl tokens rest xs h n)
+outputs_none tokens rest xs none h n e = subst (λ ys. IsOutputs tokens ys tokens) (sym e) (refl, not_before false is_names Names of_names (kind_names false) (Sign OUTPUTS) refl tokens rest xs h n)
 
 outputs_written : (tokens rest : List Token) (xs : List RawName) → Longest WithSign tokens xs rest → IsOutputs tokens xs rest
 outputs_written tokens rest [] h = absurd h.spelled.3
