@@ -8,7 +8,7 @@ use Rattle.bk_raw.specs.declared.term.RawName.{RawName}
 use Rattle.bk_raw.specs.declared.script.RawTyped.{RawTyped}
 use Rattle.bk_ops.specs.declared.sign.TheConstants.{COMMA, SEMICOLON}
 use Rattle.bk_ops.specs.declared.word.TheConstants.{ELSIF, WHEN}
-use Rattle.bk_raw.specs.Trees.SubTree.{SubTree, sub, SubNode, sub_skip, sub_assign, sub_assign_at, sub_member, sub_such, sub_begin, sub_pre, sub_assert, sub_if, sub_choice, sub_select, sub_any, sub_let, sub_var, sub_while, sub_parallel, sub_sequence, Branches, no_branches, else_branch, branch_and, Choices, no_choices, choice_and}
+use Rattle.bk_raw.specs.Trees.SubTree.{SubTree, sub, SubNode, sub_skip, sub_assign, sub_assign_at, sub_member, sub_such, sub_call, sub_begin, sub_pre, sub_assert, sub_if, sub_choice, sub_select, sub_any, sub_let, sub_var, sub_while, sub_parallel, sub_sequence, Branches, no_branches, else_branch, branch_and, Choices, no_choices, choice_and}
 use Rattle.bk_raw.specs.Grammar.SubSpelling.{Sub, Stated, Branched, Chosen}
 use Rattle.bk_raw.specs.Trees.ScriptTree.{PartKind, one_number, one_term, some_terms, one_place, perhaps_place, typed_names, one_law, certificate, shape_of, RulePart, part_number, part_term, part_terms, part_place, part_no_place, part_typed, part_law, part_certificate, RawRule, RawScript}
 use Rattle.bk_raw.specs.Grammar.ScriptSpelling.{TypedName, Spelled, Ruled, Rule, Scripted, SpellsScripts}
@@ -57,15 +57,16 @@ names-bound (x ∷ y ∷ ys) = λ ts h. omega (arith, joined (one-name x) (behin
 -- ---- substitutions
 mutual
   -- a substitution binds at most as much as it has tokens
-  pub sub-at-least : (s : SubTree) (asked : ℕ) → AtLeast (binder_count s) (Sub s asked)
+  pub sub-at-least : (s : SubTree) (asked : ℕ) → AtLeast (binder_count s) (Sub false s asked)
   sub-at-least (sub at node) asked = λ ts h. node-at-least node asked ts h.4
 
-  node-at-least : (node : SubNode) (asked : ℕ) → AtLeast (count_in node) (Stated node asked)
-  node-at-least sub_skip asked = any (Stated sub_skip asked)
-  node-at-least (sub_assign xs es) asked = any (Stated (sub_assign xs es) asked)
-  node-at-least (sub_assign_at f x e) asked = any (Stated (sub_assign_at f x e) asked)
+  node-at-least : (node : SubNode) (asked : ℕ) → AtLeast (count_in node) (Stated false node asked)
+  node-at-least sub_skip asked = any (Stated false sub_skip asked)
+  node-at-least (sub_assign xs es) asked = any (Stated false (sub_assign xs es) asked)
+  node-at-least (sub_assign_at f x e) asked = any (Stated false (sub_assign_at f x e) asked)
   node-at-least (sub_member x e) asked = before (one-name x)
   node-at-least (sub_such xs p) asked = before (names-bound xs)
+  node-at-least (sub_call xs o ts) asked = any (Stated false (sub_call xs o ts) asked)
   node-at-least (sub_begin s) asked = behind (before (sub-at-least s 0))
   node-at-least (sub_pre p s) asked = behind (behind (behind (before (sub-at-least s 0))))
   node-at-least (sub_assert p s) asked = behind (behind (behind (before (sub-at-least s 0))))
@@ -79,13 +80,13 @@ mutual
   node-at-least (sub_parallel s t) asked = λ ts h. joined (sub-at-least s 1) (behind (sub-at-least t 2)) ts h.1
   node-at-least (sub_sequence s t) asked = λ ts h. joined (sub-at-least s 0) (behind (sub-at-least t 1)) ts h.1
 
-  branches-at-least : (op : ℕ) (bs : Branches) → AtLeast (branches_count bs) (Branched op bs)
-  branches-at-least op no_branches = any (Branched op no_branches)
+  branches-at-least : (op : ℕ) (bs : Branches) → AtLeast (branches_count bs) (Branched false op bs)
+  branches-at-least op no_branches = any (Branched false op no_branches)
   branches-at-least op (else_branch s) = behind (sub-at-least s 0)
   branches-at-least op (branch_and p s bs) = behind (behind (behind (joined (sub-at-least s 0) (branches-at-least op bs))))
 
-  choices-at-least : (cs : Choices) → AtLeast (choices_count cs) (Chosen cs)
-  choices-at-least no_choices = any (Chosen no_choices)
+  choices-at-least : (cs : Choices) → AtLeast (choices_count cs) (Chosen false cs)
+  choices-at-least no_choices = any (Chosen false no_choices)
   choices-at-least (choice_and s cs) = behind (joined (sub-at-least s 0) (choices-at-least cs))
 
 -- ---- components

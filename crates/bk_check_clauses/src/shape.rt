@@ -40,6 +40,7 @@ pub(crate) fn shape_fault(kind: Kind, inside: bool, sub: &RawSub) -> Option<Faul
         | RawSubNode::AssignAt(_, _, _)
         | RawSubNode::BecomesMember(_, _)
         | RawSubNode::BecomesSuch(_, _) => None,
+        RawSubNode::Call(_, _, _) => unless(false, sub.at),
         RawSubNode::Begin(body)
         | RawSubNode::Pre(_, body)
         | RawSubNode::Assert(_, body)

@@ -61,7 +61,7 @@ impl<'a> Judge<'a> {
         ensures { IfOk result (λ fault. told fault ≡ blame (faults_by self.now sub.now)) }
     {
         match &sub.node {
-            RawSubNode::Skip => Ok(None),
+            RawSubNode::Skip | RawSubNode::Call(_, _, _) => Ok(None),
             RawSubNode::Assign(names, terms) => self.assignment(names, terms),
             RawSubNode::AssignAt(name, index, value) => self.element(name, index, value),
             RawSubNode::BecomesMember(name, domain) => self.member(name, domain),

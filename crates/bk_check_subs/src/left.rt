@@ -247,7 +247,7 @@ pub(crate) fn push_writes<'a>(
         writes_shown found.old.items ++ meant.written_in (visible_names names.now) first sub.now) }
 {
     match &sub.node {
-        RawSubNode::Skip => Ok(()),
+        RawSubNode::Skip | RawSubNode::Call(_, _, _) => Ok(()),
         RawSubNode::Assign(written, _) | RawSubNode::BecomesSuch(written, _) => {
             push_written(names, written, found)
         }

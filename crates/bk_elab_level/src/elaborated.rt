@@ -61,7 +61,7 @@ impl<'a> Elaboration<'a> {
     {
         let alloc = self.typing.alloc;
         match &sub.node {
-            RawSubNode::Skip => Sub::skip(alloc),
+            RawSubNode::Skip | RawSubNode::Call(_, _, _) => Sub::skip(alloc),
             RawSubNode::Assign(names, terms) => self.assignment(names, terms),
             RawSubNode::AssignAt(name, index, value) => self.element(name, index, value),
             RawSubNode::BecomesMember(name, domain) => self.member(name, domain),

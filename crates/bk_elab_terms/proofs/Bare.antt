@@ -8,9 +8,9 @@ use Rattle.bk_form.specs.Role.{same_type}
 use Rattle.bk_form.specs.declared.operator.BinOp.{BinOp}
 use Rattle.bk_form.specs.declared.operator.BinOp.TheVariants.{In, Sub, Mul, Comp, Maps}
 use Rattle.bk_raw.specs.declared.operator.InfixOp.{InfixOp}
-use Rattle.bk_raw.specs.declared.operator.InfixOp.TheVariants.{Equivalent, Implies, And, Or, Equal, NotEqual, Less, AtMost, Greater, AtLeast, Member, NotMember, Subset, NotSubset, StrictSubset, Relations, PartialFunctions, TotalFunctions, PartialInjections, TotalInjections, PartialSurjections, TotalSurjections, Bijections, Union, Intersection, DomainRestriction, RangeRestriction, DomainSubtraction, RangeSubtraction, Override, Maplet, Interval, Plus, Minus, Times, Divide, Mod, Power}
+use Rattle.bk_raw.specs.declared.operator.InfixOp.TheVariants.{Equivalent, Implies, And, Or, Equal, NotEqual, Less, AtMost, Greater, AtLeast, Member, NotMember, Subset, NotSubset, StrictSubset, Relations, PartialFunctions, TotalFunctions, PartialInjections, TotalInjections, PartialSurjections, TotalSurjections, Bijections, Union, Intersection, DomainRestriction, RangeRestriction, DomainSubtraction, RangeSubtraction, Override, Maplet, Interval, Plus, Minus, Times, Divide, Mod, Power, Concatenation, Prepend, Append}
 use Rattle.bk_raw.specs.declared.operator.WordOp.{WordOp}
-use Rattle.bk_raw.specs.declared.operator.WordOp.TheVariants.{Not, BoolOf, Card, Min, Max, Dom, Ran, Id, Succ, Pred, Pow, Pow1, Fin, Fin1}
+use Rattle.bk_raw.specs.declared.operator.WordOp.TheVariants.{Not, BoolOf, Card, Min, Max, Dom, Ran, Id, Succ, Pred, Pow, Pow1, Fin, Fin1, Seq, Size, First, Last, Front, Tail, Rev}
 use Rattle.bk_raw.specs.Meaning.Outcome.{Joint, union_joint, inter_joint, minus_joint, over_joint, joins, Partial, whole, hollow, single_of, pair_of, joint_of, single_made, both_made, where_holds, joint_op, filled, whole_of, Outcome, partial, ranging, holding, silent, Reading, silently, plainly, giving, no_type, Asked, fitting, ask, ask_value, ask_set, ask_relation, ask_domain, ask_predicate, unvalued, of_answer, of_one, of_answers, of_both}
 use Rattle.bk_raw.specs.Meaning.OperatorReadings.{word_reading, negative_reading, inverse_reading, depending, dependent, on_values, connected, compared, calculated, one_type_by, one_type, equal, strictly, in_domain, in_power, arrow, joined, joint, is_number, minus_by, minus, unmatched, ungiven, times, left_part, right_part, image_reading, apply_reading, composed, composition_reading, paired, pair_reading, negated, infix_reading, singled, single_reading, extended}
 use Rattle.bk_raw.specs.Errors.Faults.{Fault}
@@ -452,6 +452,13 @@ word-bare Pow at x a = one-bare no_pair _ (λ f. refl) (ask_domain x a) (ask_dom
 word-bare Pow1 at x a = one-bare no_pair _ (λ f. refl) (ask_domain x a) (ask_domain x (bare_outcome a)) (domain-bare x a)
 word-bare Fin at x a = one-bare no_pair _ (λ f. refl) (ask_domain x a) (ask_domain x (bare_outcome a)) (domain-bare x a)
 word-bare Fin1 at x a = one-bare no_pair _ (λ f. refl) (ask_domain x a) (ask_domain x (bare_outcome a)) (domain-bare x a)
+word-bare Seq at x a = refl
+word-bare Size at x a = refl
+word-bare First at x a = refl
+word-bare Last at x a = refl
+word-bare Front at x a = refl
+word-bare Tail at x a = refl
+word-bare Rev at x a = refl
 
 pub negative-bare : (x : ℕ) (a : Outcome) → bare_reading (negative_reading x a) ≡ bare_reading (negative_reading x (bare_outcome a))
 negative-bare x a = one-bare no_formula _ (λ f. refl) (ask x a int_type) (ask x (bare_outcome a) int_type) (ask-bare x a int_type)
@@ -535,6 +542,9 @@ infix-bare Times at x y a b = times-bare at x y a b
 infix-bare Divide at x y a b = calculated-bare _ _ x y a b
 infix-bare Mod at x y a b = calculated-bare _ _ x y a b
 infix-bare Power at x y a b = calculated-bare _ _ x y a b
+infix-bare Concatenation at x y a b = refl
+infix-bare Prepend at x y a b = refl
+infix-bare Append at x y a b = refl
 
 pub extended-bare : (at : ℕ) (a b : Outcome) → bare_reading (extended at a b) ≡ bare_reading (extended at (bare_outcome a) (bare_outcome b))
 extended-bare at a b =

@@ -66,6 +66,9 @@ pub(crate) fn infix(
         InfixOp::DomainSubtraction => left_part(alloc, BinOp::DomSub, at, left, right),
         InfixOp::RangeRestriction => right_part(alloc, BinOp::RanRes, at, left, right),
         InfixOp::RangeSubtraction => right_part(alloc, BinOp::RanSub, at, left, right),
+        InfixOp::Concatenation | InfixOp::Prepend | InfixOp::Append => {
+            Ok(Step::silent(no_type(at.whole)))
+        }
         _ => arrow_or_number(alloc, op, at, left, right),
     }
 }

@@ -9,7 +9,7 @@ ghost use Rattle.bk_raw.specs.Meaning.OperatorReadings as meant;
 ghost use Rattle.bk_elab_terms.specs.Shown.{shown_outcome, IsRead};
 
 use crate::made::{binary, unary};
-use crate::outcome::{Asked, Step, Told};
+use crate::outcome::{Asked, Step, Told, no_type};
 use bk_form::{BinOp, Domain, Form, Part, Ty, UnOp};
 use bk_io::Memory;
 use bk_raw::{Constant, WordOp};
@@ -100,6 +100,13 @@ pub(crate) fn word(
         WordOp::Pred => stepped(alloc, BinOp::Sub, place, part),
         WordOp::Pow | WordOp::Fin => power(alloc, UnOp::Pow, at, place, part),
         WordOp::Pow1 | WordOp::Fin1 => power(alloc, UnOp::Pow1, at, place, part),
+        WordOp::Seq
+        | WordOp::Size
+        | WordOp::First
+        | WordOp::Last
+        | WordOp::Front
+        | WordOp::Tail
+        | WordOp::Rev => Ok(Step::silent(no_type(at))),
     }
 }
 

@@ -187,7 +187,7 @@ fn sub_names(sub: &RawSub) -> usize
 {
     match &sub.node {
         RawSubNode::Skip => 0,
-        RawSubNode::Assign(_, terms) => all_names(terms),
+        RawSubNode::Assign(_, terms) | RawSubNode::Call(_, _, terms) => all_names(terms),
         RawSubNode::AssignAt(_, index, value) => {
             let one = term_names(index);
             sum(one, term_names(value))

@@ -72,7 +72,10 @@ pub fn push_ways<'a>(
         (meant.ways (visible_names place.now.names.value.items) place.now.first sub.now) found.new.items) }
 {
     match &sub.node {
-        RawSubNode::Skip | RawSubNode::Assign(_, _) | RawSubNode::AssignAt(_, _, _) => Ok(()),
+        RawSubNode::Skip
+        | RawSubNode::Assign(_, _)
+        | RawSubNode::AssignAt(_, _, _)
+        | RawSubNode::Call(_, _, _) => Ok(()),
         RawSubNode::BecomesMember(name, _) => push_old_way(place, name, found),
         RawSubNode::BecomesSuch(names, _) => push_old_ways(place, names, found),
         RawSubNode::Begin(body)
@@ -252,7 +255,7 @@ fn first_way<'a>(
         meant.first_way (visible_names place.now.names.value.items) place.now.first variable sub.now) }
 {
     match &sub.node {
-        RawSubNode::Skip => Ok(None),
+        RawSubNode::Skip | RawSubNode::Call(_, _, _) => Ok(None),
         RawSubNode::Assign(names, terms) => among_terms(place, variable, names, terms),
         RawSubNode::AssignAt(name, _, _) => match is_written(place, variable, name) {
             true => Ok(Some(Way::Nowhere)),

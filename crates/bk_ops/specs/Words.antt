@@ -1,4 +1,4 @@
--- The words of the notation: those of clauses, those of formulas, and those that are reserved.
+-- The words of the notation: those of clauses, those of formulas, and further ones, of which most are reserved.
 -- Source: B Language Reference Manual.
 use Rattle.std.specs.Prelude.{ℕ, List, [], ◌∷◌, codes}
 

@@ -85,13 +85,13 @@ pub fn signs() -> [OpRow; 57]
         row!(b":=                  ", 2, sign::ASSIGN),
         row!(b"::                  ", 2, sign::BECOMES_MEMBER),
         row!(b"<--                 ", 3, sign::OUTPUTS),
-        row!(b"^                   ", 1, sign::CONCATENATION),
-        row!(b"->                  ", 2, sign::PREPEND),
-        row!(b"<-                  ", 2, sign::APPEND),
+        row!(b"^                   ", 1, sign::CONCATENATION, 5),
+        row!(b"->                  ", 2, sign::PREPEND, 5),
+        row!(b"<-                  ", 2, sign::APPEND, 5),
     ]
 }
 
-/// The words: those of clauses, those of formulas, and those that are reserved.
+/// The words: those of clauses, those of formulas, and further ones, of which most are reserved.
 pub fn words() -> [OpRow; 95]
     ensures texts { TextsDiffer result }
     ensures words { map text_of result ≡ word_texts }
@@ -167,27 +167,27 @@ pub fn words() -> [OpRow; 95]
         row!(b"FIN1                ", 4, word::FIN1),
         row!(b"btrue               ", 5, word::BTRUE),
         row!(b"bfalse              ", 6, word::BFALSE),
-        // Reserved words, which no rule of the notation asks for yet.
+        // Further words. Those with a bare number are reserved: no rule of the notation asks for them yet.
         row!(b"ABSTRACT_CONSTANTS  ", 18, 124),
         row!(b"SEES                ", 4, 125),
         row!(b"USES                ", 4, 126),
         row!(b"INCLUDES            ", 8, 127),
         row!(b"EXTENDS             ", 7, 128),
         row!(b"PROMOTES            ", 8, 129),
-        row!(b"IMPORTS             ", 7, 130),
+        row!(b"IMPORTS             ", 7, word::IMPORTS),
         row!(b"DEFINITIONS         ", 11, 131),
         row!(b"LOCAL_OPERATIONS    ", 16, 132),
         row!(b"CONSTRAINTS         ", 11, 133),
         row!(b"CASE                ", 4, 134),
         row!(b"OF                  ", 2, 135),
         row!(b"EITHER              ", 6, 136),
-        row!(b"seq                 ", 3, 137),
-        row!(b"size                ", 4, 138),
-        row!(b"first               ", 5, 139),
-        row!(b"last                ", 4, 140),
-        row!(b"front               ", 5, 141),
-        row!(b"tail                ", 4, 142),
-        row!(b"rev                 ", 3, 143),
+        row!(b"seq                 ", 3, word::SEQ),
+        row!(b"size                ", 4, word::SIZE),
+        row!(b"first               ", 5, word::FIRST),
+        row!(b"last                ", 4, word::LAST),
+        row!(b"front               ", 5, word::FRONT),
+        row!(b"tail                ", 4, word::TAIL),
+        row!(b"rev                 ", 3, word::REV),
         row!(b"UNION               ", 5, 144),
         row!(b"INTER               ", 5, 145),
         row!(b"SIGMA               ", 5, 146),

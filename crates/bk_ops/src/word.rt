@@ -1,4 +1,5 @@
-//! The numbers of the words in use, in the order of [`crate::words`]. They follow those of the signs.
+//! The numbers of the words in use, in the order of [`crate::words`]. They follow those of the signs; among
+//! the last ones stand those of reserved words.
 
 pub const MACHINE: u16 = 57;
 
@@ -133,3 +134,19 @@ pub const FIN1: u16 = 121;
 pub const BTRUE: u16 = 122;
 
 pub const BFALSE: u16 = 123;
+
+pub const IMPORTS: u16 = 130;
+
+pub const SEQ: u16 = 137;
+
+pub const SIZE: u16 = 138;
+
+pub const FIRST: u16 = 139;
+
+pub const LAST: u16 = 140;
+
+pub const FRONT: u16 = 141;
+
+pub const TAIL: u16 = 142;
+
+pub const REV: u16 = 143;

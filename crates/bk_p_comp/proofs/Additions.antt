@@ -3,28 +3,29 @@ use Rattle.std.specs.Prelude.{◌≡◌, ℕ, ℤ, pos, Bool, true, false, List,
 use Rattle.std.proofs.Common.{inl, inr, sym, ◌∙◌, ap, subst}
 use Rattle.std.proofs.lemmas.List.Elements.{All-cons, All-head, All-nil, All-tail}
 use Rattle.bk_form.specs.declared.token.Token.{Token}
+use Rattle.bk_form.specs.declared.token.TokenKind.{TokenKind}
 use Rattle.bk_form.specs.declared.token.TokenKind.TheVariants.{Name, BoundName, Number, Sign, Word}
 use Rattle.bk_ops.specs.declared.sign.TheConstants.{FOR_ALL, EXISTS, MEMBER, MINUS, INVERSE, SEMICOLON, COMMA, DOT, BAR, LAMBDA, PARALLEL, ASSIGN, BECOMES_MEMBER, OUTPUTS, EQUAL, OPEN_PAREN, CLOSE_PAREN, OPEN_BRACE, CLOSE_BRACE}
 use Rattle.bk_ops.specs.declared.word.TheConstants.{END, BEGIN, PRE, THEN, IF, ELSIF, ELSE, SELECT, WHEN, CHOICE, OR_BRANCH, ANY, WHERE, LET, BE, IN, VAR, WHILE, DO, INVARIANT, VARIANT, ASSERT, SKIP}
 use Rattle.bk_raw.specs.Trees.FreeNames.{Defines}
-use Rattle.bk_raw.specs.Trees.Additions.{IsOrdinary, HasNoAddition, NodeHasNoAddition, TreesHaveNoAddition, SubHasNoAddition, SubNodeHasNoAddition, BranchesHaveNoAddition, ChoicesHaveNoAddition}
+use Rattle.bk_raw.specs.Trees.Additions.{IsOrdinary, IsOrdinaryWord, IsOrdinaryInfix, HasNoAddition, NodeHasNoAddition, TreesHaveNoAddition, SubHasNoAddition, SubNodeHasNoAddition, BranchesHaveNoAddition, ChoicesHaveNoAddition}
 use Rattle.bk_raw.specs.Grammar.ComponentSpelling.{Elements, Set, Value, Outputs, Inputs, Operation, Parts, Clause, ArePlain}
 use Rattle.bk_raw.specs.Trees.ComponentTree.{RawSet, RawOperation, ClauseParts, clause_sets, clause_names, clause_term, clause_terms, clause_values, clause_sub, clause_operations, RawClause, word_number}
 use Rattle.bk_raw.specs.Trees.Operators.{infix_kind, word_kind, constant_kind, binding}
 use Rattle.bk_raw.specs.Grammar.Pieces.{Absent, Just, JustAt, JustSign, JustWord, ◌⌢◌, Divided, InParentheses, InBrackets, InBraces, Digits, Literal, NoDigits, Placed, Provided, Starting}
 use Rattle.bk_raw.specs.Trees.RawTree.{RawTree, raw, RawTreeNode, raw_name, raw_level_name, raw_bound_name, raw_number, raw_constant, raw_word, raw_negative, raw_infix, raw_inverse, raw_image, raw_apply, raw_composition, raw_pair, raw_empty_set, raw_extension, raw_comprehension, raw_lambda, raw_for_all, raw_exists, raw_typed_empty, raw_typed_for_all, raw_typed_exists, raw_ranged_comprehension, raw_ranged_lambda, RawTrees, no_trees, tree_and, RawRanges, no_ranges, range_and}
 use Rattle.bk_raw.specs.Grammar.Spelling.{Declared, Names, Alone, Binder, Typed, TypedBound, TypedBounds, Term, Listed, Sequenced, Bare, Commas, Semicolons, Terms, Ranges}
-use Rattle.bk_raw.specs.Trees.SubTree.{SubTree, sub, SubNode, sub_skip, sub_assign, sub_assign_at, sub_member, sub_such, sub_begin, sub_pre, sub_assert, sub_if, sub_choice, sub_select, sub_any, sub_let, sub_var, sub_while, sub_parallel, sub_sequence, Branches, no_branches, else_branch, branch_and, Choices, no_choices, choice_and}
-use Rattle.bk_raw.specs.Grammar.SubSpelling.{Sub, Stated, Branched, Chosen}
+use Rattle.bk_raw.specs.Trees.SubTree.{SubTree, sub, SubNode, sub_skip, sub_assign, sub_assign_at, sub_member, sub_such, sub_call, sub_begin, sub_pre, sub_assert, sub_if, sub_choice, sub_select, sub_any, sub_let, sub_var, sub_while, sub_parallel, sub_sequence, Branches, no_branches, else_branch, branch_and, Choices, no_choices, choice_and}
+use Rattle.bk_raw.specs.Grammar.SubSpelling.{Called, Sub, Stated, Branched, Chosen}
 use Rattle.bk_raw.specs.declared.component.ClauseWord.{ClauseWord}
-use Rattle.bk_raw.specs.declared.component.ClauseWord.TheVariants.{Sets, Constants, ConcreteConstants, Properties, Variables, AbstractVariables, ConcreteVariables, Invariant, Assertions, Values, Initialisation, Operations}
+use Rattle.bk_raw.specs.declared.component.ClauseWord.TheVariants.{Sets, Constants, ConcreteConstants, Properties, Variables, AbstractVariables, ConcreteVariables, Invariant, Assertions, Values, Initialisation, Operations, Imports}
 use Rattle.bk_raw.specs.declared.component.RawValue.{RawValue}
 use Rattle.bk_raw.specs.declared.operator.Constant.{Constant}
 use Rattle.bk_raw.specs.declared.operator.Constant.TheVariants.{Btrue, Bfalse}
 use Rattle.bk_raw.specs.declared.operator.InfixOp.{InfixOp}
-use Rattle.bk_raw.specs.declared.operator.InfixOp.TheVariants.{And}
+use Rattle.bk_raw.specs.declared.operator.InfixOp.TheVariants.{And, Concatenation, Prepend, Append}
 use Rattle.bk_raw.specs.declared.operator.WordOp.{WordOp}
-use Rattle.bk_raw.specs.declared.operator.WordOp.TheVariants.{Not}
+use Rattle.bk_raw.specs.declared.operator.WordOp.TheVariants.{Not, Seq, Size, First, Last, Front, Tail, Rev}
 use Rattle.bk_raw.specs.declared.term.RawBound.{RawBound}
 use Rattle.bk_raw.specs.declared.term.RawName.{RawName}
 use Rattle.bk_raw.specs.Trees.WrittenType.{WrittenType}
@@ -88,21 +89,31 @@ bad_at : (at n : ℕ) → Tells (JustAt at (BoundName n)) ⊥
 bad_at at n = record { good = λ b ts h g. absurd g; told = λ b e ts h r. (tells_printed (BoundName n) (numbered n)).told b e ts (h.0, h.1, h.2) r }
 
 -- ---- operators
-infix_plain : (o : InfixOp) → plain_kind false (infix_kind o) ≡ Some false
-infix_plain And = refl
-infix_plain _ = refl
+-- a sign or a word that no component has yet
+unread : (kind : TokenKind) → plain_kind true kind ≡ None → plain_kind false kind ≡ None → (b : Bool) → plain_kind b kind ≡ None
+unread kind h k true = h
+unread kind h k false = k
 
-word_plain_true : (o : WordOp) → plain_kind true (word_kind o) ≡ Some false
-word_plain_true Not = refl
-word_plain_true _ = refl
+unread_between : (F G : Type 0) (kind : TokenKind) → plain_kind true kind ≡ None → plain_kind false kind ≡ None → (A B : Piece) → Tells (A ⌢ Just kind ⌢ B) (F × G × ⊥)
+unread_between F G kind h k A B = tells_same (A ⌢ Just kind ⌢ B) (λ (z : ⊥). absurd z) (λ g. g.2) (bad_right A (Just kind ⌢ B) (bad_left (Just kind) B (tells_printed kind (unread kind h k))))
 
-word_plain_false : (o : WordOp) → plain_kind false (word_kind o) ≡ Some false
-word_plain_false Not = refl
-word_plain_false _ = refl
+infix_between : {F G : Type 0} (o : InfixOp) (A B : Piece) → Tells A F → Tells B G → Tells (A ⌢ Just (infix_kind o) ⌢ B) (F × G × IsOrdinaryInfix o)
+infix_between {F} {G} Concatenation A B f g = unread_between F G (infix_kind Concatenation) refl refl A B
+infix_between {F} {G} Prepend A B f g = unread_between F G (infix_kind Prepend) refl refl A B
+infix_between {F} {G} Append A B f g = unread_between F G (infix_kind Append) refl refl A B
+infix_between And A B f g = tells_same (A ⌢ Just (infix_kind And) ⌢ B) (λ p. (p.0, p.1, tt)) (λ p. (p.0, p.1)) (tells_between A B (infix_kind And) refl f g)
+infix_between o A B f g = tells_same (A ⌢ Just (infix_kind o) ⌢ B) (λ p. (p.0, p.1, tt)) (λ p. (p.0, p.1)) (tells_between A B (infix_kind o) refl f g)
 
-word_plain : (o : WordOp) (b : Bool) → plain_kind b (word_kind o) ≡ Some false
-word_plain o true = word_plain_true o
-word_plain o false = word_plain_false o
+one_word : (o : WordOp) → Tells (Just (word_kind o)) (IsOrdinaryWord o)
+one_word Seq = tells_printed (word_kind Seq) (unread (word_kind Seq) refl refl)
+one_word Size = tells_printed (word_kind Size) (unread (word_kind Size) refl refl)
+one_word First = tells_printed (word_kind First) (unread (word_kind First) refl refl)
+one_word Last = tells_printed (word_kind Last) (unread (word_kind Last) refl refl)
+one_word Front = tells_printed (word_kind Front) (unread (word_kind Front) refl refl)
+one_word Tail = tells_printed (word_kind Tail) (unread (word_kind Tail) refl refl)
+one_word Rev = tells_printed (word_kind Rev) (unread (word_kind Rev) refl refl)
+one_word Not = tells_just (word_kind Not) (anywhere (word_kind Not) refl refl)
+one_word o = tells_just (word_kind o) (anywhere (word_kind o) refl refl)
 
 constant : (c : Constant) → Tells (Just (constant_kind c)) (IsOrdinary c)
 constant Btrue = tells_printed (constant_kind Btrue) btrue_none
@@ -186,9 +197,9 @@ mutual
   bare (raw_bound_name n) asked = tells_printed (BoundName n) (numbered n)
   bare (raw_number z) asked = literal z asked
   bare (raw_constant c) asked = constant c
-  bare (raw_word o a) asked = tells_headed (InParentheses (Term a 0)) (word_kind o) (word_plain o) (tells_parentheses (Term a 0) (term a 0))
+  bare (raw_word o a) asked = tells_same (Just (word_kind o) ⌢ InParentheses (Term a 0)) (λ g. (g.1, g.0)) (λ g. (g.1, g.0)) (tells_join (Just (word_kind o)) (InParentheses (Term a 0)) (one_word o) (tells_parentheses (Term a 0) (term a 0)))
   bare (raw_negative a) asked = tells_binding 10 asked (JustSign MINUS ⌢ NoDigits (Term a 11)) (minus (NoDigits (Term a 11)) (record { good = λ b ts h g. (term a 11).good b ts h.0 g; told = λ b e ts h r. (term a 11).told b e ts h.0 r }))
-  bare (raw_infix o a b) asked = tells_binding (binding o).own asked (Term a (binding o).left ⌢ Just (infix_kind o) ⌢ Term b (binding o).right) (tells_between (Term a (binding o).left) (Term b (binding o).right) (infix_kind o) (infix_plain o) (term a (binding o).left) (term b (binding o).right))
+  bare (raw_infix o a b) asked = tells_binding (binding o).own asked (Term a (binding o).left ⌢ Just (infix_kind o) ⌢ Term b (binding o).right) (infix_between o (Term a (binding o).left) (Term b (binding o).right) (term a (binding o).left) (term b (binding o).right))
   bare (raw_inverse r) asked = tells_ended (Term r 11) (Sign INVERSE) (anywhere (Sign INVERSE) refl refl) (term r 11)
   bare (raw_image r s) asked = tells_join (Term r 11) (InBrackets (Term s 0)) (term r 11) (tells_brackets (Term s 0) (term s 0))
   bare (raw_apply f x) asked = tells_join (Term f 11) (InParentheses (Listed x)) (term f 11) (tells_parentheses (Listed x) (listed x))
@@ -223,6 +234,13 @@ mutual
 -- where something is asked of the tree beside its tokens
 provided : {G : Type 0} (Holds : Type 0) (A : Piece) → Tells A G → Tells (Provided Holds A) G
 provided Holds A f = record { good = λ b ts h g. f.good b ts h.0 g; told = λ b e ts h r. f.told b e ts h.0 r }
+
+-- no operation is called in a component
+never_called : {G : Type 0} (A : Piece) → Tells (Provided (false ≡ true) A) G
+never_called A = record { good = λ b ts h g. absurd (false_true h.1); told = λ b e ts h r. absurd (false_true h.1) }
+  where
+    false_true : false ≡ true → ⊥
+    false_true e = cc
 
 -- what may be absent is told behind another piece, which leaves no brace
 record Follows (A : Piece) (Good : Type 0) : Type 0 where
@@ -262,10 +280,10 @@ told_four : (F G H K : Type 0) (A : Piece) → Tells A (F × (G × (H × K))) �
 told_four F G H K A f = tells_same A (λ g. (g.0, g.1.0, g.1.1.0, g.1.1.1)) (λ g. (g.0, (g.1, (g.2, g.3)))) f
 
 mutual
-  pub substitution : (s : SubTree) (asked : ℕ) → Tells (Sub s asked) (SubHasNoAddition s)
-  substitution (sub at node) asked = tells_starting at (Stated node asked) (stated node asked)
+  pub substitution : (s : SubTree) (asked : ℕ) → Tells (Sub false s asked) (SubHasNoAddition s)
+  substitution (sub at node) asked = tells_starting at (Stated false node asked) (stated node asked)
 
-  stated : (u : SubNode) (asked : ℕ) → Tells (Stated u asked) (SubNodeHasNoAddition u)
+  stated : (u : SubNode) (asked : ℕ) → Tells (Stated false u asked) (SubNodeHasNoAddition u)
   stated sub_skip asked = tells_just (Word SKIP) (word SKIP refl refl)
   stated (sub_assign xs ts) asked = beside_nothing (Names xs ⌢ JustSign ASSIGN ⌢ Terms ts) (tells_between (Names xs) (Terms ts) (Sign ASSIGN) refl (names xs) (terms ts))
   stated (sub_assign_at f x e) asked =
@@ -273,31 +291,32 @@ mutual
       (tells_between (Term x 0) (JustSign ASSIGN ⌢ Term e 0) (Sign CLOSE_PAREN) refl (term x 0) (tells_headed (Term e 0) (Sign ASSIGN) (anywhere (Sign ASSIGN) refl refl) (term e 0))))
   stated (sub_member x e) asked = beside_nothing (Declared x ⌢ JustSign BECOMES_MEMBER ⌢ Term e 0) (tells_between (Declared x) (Term e 0) (Sign BECOMES_MEMBER) refl (declared x) (term e 0))
   stated (sub_such xs p) asked = beside_nothing (Names xs ⌢ JustSign MEMBER ⌢ InParentheses (Term p 0)) (tells_between (Names xs) (InParentheses (Term p 0)) (Sign MEMBER) refl (names xs) (tells_parentheses (Term p 0) (term p 0)))
-  stated (sub_begin s) asked = tells_headed (Sub s 0 ⌢ JustWord END) (Word BEGIN) (word BEGIN refl refl) (closed (Sub s 0) (substitution s 0))
-  stated (sub_pre p s) asked = block PRE THEN (word PRE refl refl) refl (Term p 0) (Sub s 0 ⌢ JustWord END) (term p 0) (closed (Sub s 0) (substitution s 0))
-  stated (sub_assert p s) asked = block ASSERT THEN (word ASSERT refl refl) refl (Term p 0) (Sub s 0 ⌢ JustWord END) (term p 0) (closed (Sub s 0) (substitution s 0))
-  stated (sub_if p s bs) asked = told_three (HasNoAddition p) (SubHasNoAddition s) (BranchesHaveNoAddition bs) (JustWord IF ⌢ Term p 0 ⌢ JustWord THEN ⌢ (Sub s 0 ⌢ Branched ELSIF bs) ⌢ JustWord END) (block IF THEN (word IF refl refl) refl (Term p 0) ((Sub s 0 ⌢ Branched ELSIF bs) ⌢ JustWord END) (term p 0) (closed (Sub s 0 ⌢ Branched ELSIF bs) (tells_then (Sub s 0) (Branched ELSIF bs) (substitution s 0) (branched ELSIF (word ELSIF refl refl) bs))))
-  stated (sub_choice s cs) asked = tells_headed ((Sub s 0 ⌢ Chosen cs) ⌢ JustWord END) (Word CHOICE) (word CHOICE refl refl) (closed (Sub s 0 ⌢ Chosen cs) (tells_then (Sub s 0) (Chosen cs) (substitution s 0) (chosen cs)))
-  stated (sub_select p s bs) asked = told_three (HasNoAddition p) (SubHasNoAddition s) (BranchesHaveNoAddition bs) (JustWord SELECT ⌢ Term p 0 ⌢ JustWord THEN ⌢ (Sub s 0 ⌢ Branched WHEN bs) ⌢ JustWord END) (block SELECT THEN (word SELECT refl refl) refl (Term p 0) ((Sub s 0 ⌢ Branched WHEN bs) ⌢ JustWord END) (term p 0) (closed (Sub s 0 ⌢ Branched WHEN bs) (tells_then (Sub s 0) (Branched WHEN bs) (substitution s 0) (branched WHEN (word WHEN refl refl) bs))))
-  stated (sub_any xs p s) asked = tells_headed (Names xs ⌢ JustWord WHERE ⌢ Term p 0 ⌢ JustWord THEN ⌢ Sub s 0 ⌢ JustWord END) (Word ANY) (word ANY refl refl) (unnamed xs WHERE refl (Term p 0 ⌢ JustWord THEN ⌢ Sub s 0 ⌢ JustWord END) (tells_between (Term p 0) (Sub s 0 ⌢ JustWord END) (Word THEN) refl (term p 0) (closed (Sub s 0) (substitution s 0))))
-  stated (sub_let xs p s) asked = provided (Defines xs p) (JustWord LET ⌢ Names xs ⌢ JustWord BE ⌢ Term p 0 ⌢ JustWord IN ⌢ Sub s 0 ⌢ JustWord END) (tells_headed (Names xs ⌢ JustWord BE ⌢ Term p 0 ⌢ JustWord IN ⌢ Sub s 0 ⌢ JustWord END) (Word LET) (word LET refl refl) (unnamed xs BE refl (Term p 0 ⌢ JustWord IN ⌢ Sub s 0 ⌢ JustWord END) (tells_between (Term p 0) (Sub s 0 ⌢ JustWord END) (Word IN) refl (term p 0) (closed (Sub s 0) (substitution s 0)))))
-  stated (sub_var xs s) asked = tells_headed (Names xs ⌢ JustWord IN ⌢ Sub s 0 ⌢ JustWord END) (Word VAR) (word VAR refl refl) (unnamed xs IN refl (Sub s 0 ⌢ JustWord END) (closed (Sub s 0) (substitution s 0)))
+  stated (sub_call xs o ts) asked = never_called (Called xs o ts)
+  stated (sub_begin s) asked = tells_headed (Sub false s 0 ⌢ JustWord END) (Word BEGIN) (word BEGIN refl refl) (closed (Sub false s 0) (substitution s 0))
+  stated (sub_pre p s) asked = block PRE THEN (word PRE refl refl) refl (Term p 0) (Sub false s 0 ⌢ JustWord END) (term p 0) (closed (Sub false s 0) (substitution s 0))
+  stated (sub_assert p s) asked = block ASSERT THEN (word ASSERT refl refl) refl (Term p 0) (Sub false s 0 ⌢ JustWord END) (term p 0) (closed (Sub false s 0) (substitution s 0))
+  stated (sub_if p s bs) asked = told_three (HasNoAddition p) (SubHasNoAddition s) (BranchesHaveNoAddition bs) (JustWord IF ⌢ Term p 0 ⌢ JustWord THEN ⌢ (Sub false s 0 ⌢ Branched false ELSIF bs) ⌢ JustWord END) (block IF THEN (word IF refl refl) refl (Term p 0) ((Sub false s 0 ⌢ Branched false ELSIF bs) ⌢ JustWord END) (term p 0) (closed (Sub false s 0 ⌢ Branched false ELSIF bs) (tells_then (Sub false s 0) (Branched false ELSIF bs) (substitution s 0) (branched ELSIF (word ELSIF refl refl) bs))))
+  stated (sub_choice s cs) asked = tells_headed ((Sub false s 0 ⌢ Chosen false cs) ⌢ JustWord END) (Word CHOICE) (word CHOICE refl refl) (closed (Sub false s 0 ⌢ Chosen false cs) (tells_then (Sub false s 0) (Chosen false cs) (substitution s 0) (chosen cs)))
+  stated (sub_select p s bs) asked = told_three (HasNoAddition p) (SubHasNoAddition s) (BranchesHaveNoAddition bs) (JustWord SELECT ⌢ Term p 0 ⌢ JustWord THEN ⌢ (Sub false s 0 ⌢ Branched false WHEN bs) ⌢ JustWord END) (block SELECT THEN (word SELECT refl refl) refl (Term p 0) ((Sub false s 0 ⌢ Branched false WHEN bs) ⌢ JustWord END) (term p 0) (closed (Sub false s 0 ⌢ Branched false WHEN bs) (tells_then (Sub false s 0) (Branched false WHEN bs) (substitution s 0) (branched WHEN (word WHEN refl refl) bs))))
+  stated (sub_any xs p s) asked = tells_headed (Names xs ⌢ JustWord WHERE ⌢ Term p 0 ⌢ JustWord THEN ⌢ Sub false s 0 ⌢ JustWord END) (Word ANY) (word ANY refl refl) (unnamed xs WHERE refl (Term p 0 ⌢ JustWord THEN ⌢ Sub false s 0 ⌢ JustWord END) (tells_between (Term p 0) (Sub false s 0 ⌢ JustWord END) (Word THEN) refl (term p 0) (closed (Sub false s 0) (substitution s 0))))
+  stated (sub_let xs p s) asked = provided (Defines xs p) (JustWord LET ⌢ Names xs ⌢ JustWord BE ⌢ Term p 0 ⌢ JustWord IN ⌢ Sub false s 0 ⌢ JustWord END) (tells_headed (Names xs ⌢ JustWord BE ⌢ Term p 0 ⌢ JustWord IN ⌢ Sub false s 0 ⌢ JustWord END) (Word LET) (word LET refl refl) (unnamed xs BE refl (Term p 0 ⌢ JustWord IN ⌢ Sub false s 0 ⌢ JustWord END) (tells_between (Term p 0) (Sub false s 0 ⌢ JustWord END) (Word IN) refl (term p 0) (closed (Sub false s 0) (substitution s 0)))))
+  stated (sub_var xs s) asked = tells_headed (Names xs ⌢ JustWord IN ⌢ Sub false s 0 ⌢ JustWord END) (Word VAR) (word VAR refl refl) (unnamed xs IN refl (Sub false s 0 ⌢ JustWord END) (closed (Sub false s 0) (substitution s 0)))
   stated (sub_while p s i v) asked =
-      told_four (HasNoAddition p) (SubHasNoAddition s) (HasNoAddition i) (HasNoAddition v) (JustWord WHILE ⌢ Term p 0 ⌢ JustWord DO ⌢ Sub s 0 ⌢ JustWord INVARIANT ⌢ Term i 0 ⌢ JustWord VARIANT ⌢ Term v 0 ⌢ JustWord END)
-      (block WHILE DO (word WHILE refl refl) refl (Term p 0) (Sub s 0 ⌢ JustWord INVARIANT ⌢ Term i 0 ⌢ JustWord VARIANT ⌢ Term v 0 ⌢ JustWord END) (term p 0)
-      (tells_between (Sub s 0) (Term i 0 ⌢ JustWord VARIANT ⌢ Term v 0 ⌢ JustWord END) (Word INVARIANT) refl (substitution s 0) (tells_between (Term i 0) (Term v 0 ⌢ JustWord END) (Word VARIANT) refl (term i 0) (closed (Term v 0) (term v 0)))))
-  stated (sub_parallel s t) asked = tells_binding 1 asked (Sub s 1 ⌢ JustSign PARALLEL ⌢ Sub t 2) (tells_between (Sub s 1) (Sub t 2) (Sign PARALLEL) refl (substitution s 1) (substitution t 2))
-  stated (sub_sequence s t) asked = tells_binding 0 asked (Sub s 0 ⌢ JustSign SEMICOLON ⌢ Sub t 1) (tells_between (Sub s 0) (Sub t 1) (Sign SEMICOLON) refl (substitution s 0) (substitution t 1))
+      told_four (HasNoAddition p) (SubHasNoAddition s) (HasNoAddition i) (HasNoAddition v) (JustWord WHILE ⌢ Term p 0 ⌢ JustWord DO ⌢ Sub false s 0 ⌢ JustWord INVARIANT ⌢ Term i 0 ⌢ JustWord VARIANT ⌢ Term v 0 ⌢ JustWord END)
+      (block WHILE DO (word WHILE refl refl) refl (Term p 0) (Sub false s 0 ⌢ JustWord INVARIANT ⌢ Term i 0 ⌢ JustWord VARIANT ⌢ Term v 0 ⌢ JustWord END) (term p 0)
+      (tells_between (Sub false s 0) (Term i 0 ⌢ JustWord VARIANT ⌢ Term v 0 ⌢ JustWord END) (Word INVARIANT) refl (substitution s 0) (tells_between (Term i 0) (Term v 0 ⌢ JustWord END) (Word VARIANT) refl (term i 0) (closed (Term v 0) (term v 0)))))
+  stated (sub_parallel s t) asked = tells_binding 1 asked (Sub false s 1 ⌢ JustSign PARALLEL ⌢ Sub false t 2) (tells_between (Sub false s 1) (Sub false t 2) (Sign PARALLEL) refl (substitution s 1) (substitution t 2))
+  stated (sub_sequence s t) asked = tells_binding 0 asked (Sub false s 0 ⌢ JustSign SEMICOLON ⌢ Sub false t 1) (tells_between (Sub false s 0) (Sub false t 1) (Sign SEMICOLON) refl (substitution s 0) (substitution t 1))
 
   -- further branches: an absent piece leaves what stands before it, so that they are told behind their substitution
-  branched : (op : ℕ) → ((b : Bool) → plain_kind b (Word op) ≡ Some false) → (bs : Branches) → Follows (Branched op bs) (BranchesHaveNoAddition bs)
+  branched : (op : ℕ) → ((b : Bool) → plain_kind b (Word op) ≡ Some false) → (bs : Branches) → Follows (Branched false op bs) (BranchesHaveNoAddition bs)
   branched op k no_branches = follows_absent
-  branched op k (else_branch s) = follows_by (JustWord ELSE ⌢ Sub s 0) (tells_headed (Sub s 0) (Word ELSE) (word ELSE refl refl) (substitution s 0))
-  branched op k (branch_and p s bs) = follows_by (JustWord op ⌢ Term p 0 ⌢ JustWord THEN ⌢ (Sub s 0 ⌢ Branched op bs)) (told_three (HasNoAddition p) (SubHasNoAddition s) (BranchesHaveNoAddition bs) (JustWord op ⌢ Term p 0 ⌢ JustWord THEN ⌢ (Sub s 0 ⌢ Branched op bs)) (tells_headed (Term p 0 ⌢ JustWord THEN ⌢ (Sub s 0 ⌢ Branched op bs)) (Word op) k (tells_between (Term p 0) (Sub s 0 ⌢ Branched op bs) (Word THEN) refl (term p 0) (tells_then (Sub s 0) (Branched op bs) (substitution s 0) (branched op k bs)))))
+  branched op k (else_branch s) = follows_by (JustWord ELSE ⌢ Sub false s 0) (tells_headed (Sub false s 0) (Word ELSE) (word ELSE refl refl) (substitution s 0))
+  branched op k (branch_and p s bs) = follows_by (JustWord op ⌢ Term p 0 ⌢ JustWord THEN ⌢ (Sub false s 0 ⌢ Branched false op bs)) (told_three (HasNoAddition p) (SubHasNoAddition s) (BranchesHaveNoAddition bs) (JustWord op ⌢ Term p 0 ⌢ JustWord THEN ⌢ (Sub false s 0 ⌢ Branched false op bs)) (tells_headed (Term p 0 ⌢ JustWord THEN ⌢ (Sub false s 0 ⌢ Branched false op bs)) (Word op) k (tells_between (Term p 0) (Sub false s 0 ⌢ Branched false op bs) (Word THEN) refl (term p 0) (tells_then (Sub false s 0) (Branched false op bs) (substitution s 0) (branched op k bs)))))
 
-  chosen : (cs : Choices) → Follows (Chosen cs) (ChoicesHaveNoAddition cs)
+  chosen : (cs : Choices) → Follows (Chosen false cs) (ChoicesHaveNoAddition cs)
   chosen no_choices = follows_absent
-  chosen (choice_and s cs) = follows_by (JustWord OR_BRANCH ⌢ (Sub s 0 ⌢ Chosen cs)) (tells_headed (Sub s 0 ⌢ Chosen cs) (Word OR_BRANCH) (word OR_BRANCH refl refl) (tells_then (Sub s 0) (Chosen cs) (substitution s 0) (chosen cs)))
+  chosen (choice_and s cs) = follows_by (JustWord OR_BRANCH ⌢ (Sub false s 0 ⌢ Chosen false cs)) (tells_headed (Sub false s 0 ⌢ Chosen false cs) (Word OR_BRANCH) (word OR_BRANCH refl refl) (tells_then (Sub false s 0) (Chosen false cs) (substitution s 0) (chosen cs)))
 
 -- ---- clauses
 -- what a clause's parts tell: additions, but not whether each set has elements
@@ -361,9 +380,9 @@ inputs_then (x ∷ xs) A f = beside_nothing (InParentheses (Names (x ∷ xs)) �
 
 operation : (o : RawOperation) → Tells (Operation o) (SubHasNoAddition o.body)
 operation o =
-    outputs_then o.outputs (Declared o.name ⌢ Inputs o.inputs ⌢ JustSign EQUAL ⌢ Sub o.body 1)
-    (beside_nothing (Declared o.name ⌢ Inputs o.inputs ⌢ JustSign EQUAL ⌢ Sub o.body 1) (tells_join (Declared o.name) (Inputs o.inputs ⌢ JustSign EQUAL ⌢ Sub o.body 1) (declared o.name)
-    (inputs_then o.inputs (JustSign EQUAL ⌢ Sub o.body 1) (tells_headed (Sub o.body 1) (Sign EQUAL) (anywhere (Sign EQUAL) refl refl) (substitution o.body 1)))))
+    outputs_then o.outputs (Declared o.name ⌢ Inputs o.inputs ⌢ JustSign EQUAL ⌢ Sub false o.body 1)
+    (beside_nothing (Declared o.name ⌢ Inputs o.inputs ⌢ JustSign EQUAL ⌢ Sub false o.body 1) (tells_join (Declared o.name) (Inputs o.inputs ⌢ JustSign EQUAL ⌢ Sub false o.body 1) (declared o.name)
+    (inputs_then o.inputs (JustSign EQUAL ⌢ Sub false o.body 1) (tells_headed (Sub false o.body 1) (Sign EQUAL) (anywhere (Sign EQUAL) refl refl) (substitution o.body 1)))))
 
 parts : (w : ClauseWord) (p : ClauseParts) → Tells (Parts w p) (HaveNone p)
 parts Sets (clause_sets ss) = nothing_told SEMICOLON Set refl set ss
@@ -377,6 +396,7 @@ parts Invariant (clause_term t) = term t 0
 parts Assertions (clause_terms ts) = all_told SEMICOLON (λ t. Term t 0) HasNoAddition refl (λ t. term t 0) ts
 parts Values (clause_values vs) = all_told SEMICOLON Value (λ v. HasNoAddition v.value) refl value vs
 parts Initialisation (clause_sub s) = substitution s 0
+parts Imports (clause_names xs) = names xs
 parts Operations (clause_operations os) = all_told SEMICOLON Operation (λ o. SubHasNoAddition o.body) refl operation os
 parts w p = tells_never (HaveNone p)
 

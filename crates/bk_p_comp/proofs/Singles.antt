@@ -1,5 +1,5 @@
 -- One set, one value and one operation, as the code reads them piece by piece.
-use Rattle.std.specs.Prelude.{◌≡◌, ◌≢◌, ◌⊎◌, ℕ, true, List, [], ◌∷◌, ◌++◌, Some, None, refl}
+use Rattle.std.specs.Prelude.{false, ◌≡◌, ◌≢◌, ◌⊎◌, ℕ, true, List, [], ◌∷◌, ◌++◌, Some, None, refl}
 use Rattle.std.proofs.Common.{inl, inr, arith, sym, ◌∙◌, ap, subst, append_assoc}
 use Rattle.bk_form.specs.declared.token.Token.{Token}
 use Rattle.bk_form.specs.declared.token.TokenKind.TheVariants.{Sign}
@@ -231,7 +231,7 @@ operation_none tokens n o front after e k = names_there tokens n o.outputs (call
 
 -- the answers of outputs
 pub outputs_none : (tokens rest : List Token) (xs none : List RawName) → Longest Names tokens xs rest → NotAhead (Sign OUTPUTS) rest → none ≡ [] → IsOutputs tokens none tokens
-outputs_none tokens rest xs none h n e = subst (λ ys. IsOutputs tokens ys tokens) (sym e) (refl, not_before is_names Names of_names kind_names (Sign OUTPUTS) refl tokens rest xs h n)
+outputs_none tokens rest xs none h n e = subst (λ ys. IsOutputs tokens ys tokens) (sym e) (refl, not_before false is_names Names of_names (kind_names false) (Sign OUTPUTS) refl tokens rest xs h n)
 
 outputs_written : (tokens rest : List Token) (xs : List RawName) → Longest WithSign tokens xs rest → IsOutputs tokens xs rest
 outputs_written tokens rest [] h = absurd h.spelled.3
@@ -245,7 +245,7 @@ outputs_found tokens behind rest xs h a =
 
 -- ---- the name
 stops_giving : (xs : List RawName) (s : SubTree) → StopsOn ends_names (λ (_ : Unit {0}). Inputs xs ⌢ Bodied s)
-stops_giving [] s y back after h = stops_on_just ends_names (Sign EQUAL) (λ (_ : Unit {0}). Sub s 1) refl tt back after (absent-then (Bodied s) back h)
+stops_giving [] s y back after h = stops_on_just ends_names (Sign EQUAL) (λ (_ : Unit {0}). Sub false s 1) refl tt back after (absent-then (Bodied s) back h)
 stops_giving (x ∷ xs) s y back after h = stops_on_just ends_names (Sign OPEN_PAREN) (λ (_ : Unit {0}). (Names (x ∷ xs) ⌢ JustSign CLOSE_PAREN) ⌢ Bodied s) refl tt back after (regrouped (JustSign OPEN_PAREN) (Names (x ∷ xs) ⌢ JustSign CLOSE_PAREN) (Bodied s) back h)
 
 name_left : (tokens behind rest : List Token) (xs : List RawName) (x : RawName) → IsOutputs tokens xs behind → name behind ≡ Some (x, rest) → Left Operation tokens Giving rest (λ g. with_outputs xs (named x g))
@@ -279,8 +279,8 @@ no_body : (tokens front rest after : List Token) (x : RawName) (xs : List RawNam
 no_body tokens front rest after x xs s e h k =
     let R : Piece = λ us. us ≡ rest in
     let S : Piece = λ us. us ≡ after in
-    equal_paren (same-token (Sign EQUAL) (Sign OPEN_PAREN) (Sub s 1 ⌢ S) ((Names (x ∷ xs) ⌢ JustSign CLOSE_PAREN) ⌢ R) tokens
-    (regrouped (JustSign EQUAL) (Sub s 1) S tokens (front, after, e, k, refl))
+    equal_paren (same-token (Sign EQUAL) (Sign OPEN_PAREN) (Sub false s 1 ⌢ S) ((Names (x ∷ xs) ⌢ JustSign CLOSE_PAREN) ⌢ R) tokens
+    (regrouped (JustSign EQUAL) (Sub false s 1) S tokens (front, after, e, k, refl))
     (regrouped (JustSign OPEN_PAREN) (Names (x ∷ xs) ⌢ JustSign CLOSE_PAREN) R tokens (h.written, rest, h.splits, h.spelled, refl))).0
 
 paren_there : (tokens front after : List Token) (y : RawName) (ys : List RawName) (K : Piece) → tokens ≡ front ++ after → NotAhead (Sign OPEN_PAREN) tokens → (Enclosed (y ∷ ys) ⌢ K) front → ⊥
@@ -315,7 +315,7 @@ inputs_left tokens rest (x ∷ xs) h = record {
 
 no_giving : (tokens : List Token) → HasNoInputs tokens → (ys : List RawName) (s : SubTree) (front after : List Token) → tokens ≡ front ++ after → (Inputs ys ⌢ Bodied s) front → ⊥
 no_giving tokens h [] s front after e k =
-    let f = first (Sign EQUAL) (Sub s 1) front (absent-then (Bodied s) front k) in
+    let f = first (Sign EQUAL) (Sub false s 1) front (absent-then (Bodied s) front k) in
     h.0 (none_ahead (Sign OPEN_PAREN) tokens (f.rest ++ after) f.token (e ∙ ap (λ us. us ++ after) f.is) (λ i. equal_paren (sym f.same ∙ i)))
 no_giving tokens h (y ∷ ys) s front after e k = h.1 (y ∷ ys) k.0 (k.1 ++ after) (e ∙ ap (λ us. us ++ after) k.2 ∙ append_assoc k.0 k.1 after) k.3
 
@@ -340,14 +340,14 @@ pub inputs_fail : (tokens inside : List Token) → Ahead (Sign OPEN_PAREN) token
 inputs_fail tokens inside a n = (λ m. m a.0 inside a.1 a.2, n)
 
 -- ---- the body
-operation_behind : (tokens ts more : List Token) (make : SubTree → RawOperation) → Left Operation tokens Bodied ts make → Ahead (Sign EQUAL) ts more → Left Operation tokens (λ (s : SubTree). Sub s 1) more make
-operation_behind tokens ts more make l a = left_ahead Operation (Sign EQUAL) (λ (s : SubTree). Sub s 1) tokens ts more make l a
+operation_behind : (tokens ts more : List Token) (make : SubTree → RawOperation) → Left Operation tokens Bodied ts make → Ahead (Sign EQUAL) ts more → Left Operation tokens (λ (s : SubTree). Sub false s 1) more make
+operation_behind tokens ts more make l a = left_ahead Operation (Sign EQUAL) (λ (s : SubTree). Sub false s 1) tokens ts more make l a
 
-pub operation_found : (tokens ts more rest : List Token) (make : SubTree → RawOperation) (s : SubTree) → Left Operation tokens Bodied ts make → Ahead (Sign EQUAL) ts more → Longest (λ (s : SubTree). Sub s 1) more s rest → Longest Operation tokens (make s) rest
-operation_found tokens ts more rest make s l a h = left_longest Operation (λ (s : SubTree). Sub s 1) tokens more rest make s (operation_behind tokens ts more make l a) h
+pub operation_found : (tokens ts more rest : List Token) (make : SubTree → RawOperation) (s : SubTree) → Left Operation tokens Bodied ts make → Ahead (Sign EQUAL) ts more → Longest (λ (s : SubTree). Sub false s 1) more s rest → Longest Operation tokens (make s) rest
+operation_found tokens ts more rest make s l a h = left_longest Operation (λ (s : SubTree). Sub false s 1) tokens more rest make s (operation_behind tokens ts more make l a) h
 
 pub operation_none_sign : (tokens ts : List Token) (make : SubTree → RawOperation) → Left Operation tokens Bodied ts make → NotAhead (Sign EQUAL) ts → Nothing Operation tokens
-operation_none_sign tokens ts make l n = left_nothing Operation Bodied tokens ts make l (nothing_begins (Sign EQUAL) (λ (s : SubTree). Sub s 1) ts n)
+operation_none_sign tokens ts make l n = left_nothing Operation Bodied tokens ts make l (nothing_begins (Sign EQUAL) (λ (s : SubTree). Sub false s 1) ts n)
 
-pub operation_none_body : (tokens ts more : List Token) (make : SubTree → RawOperation) → Left Operation tokens Bodied ts make → Ahead (Sign EQUAL) ts more → Nothing (λ (s : SubTree). Sub s 1) more → Nothing Operation tokens
-operation_none_body tokens ts more make l a n = left_nothing Operation (λ (s : SubTree). Sub s 1) tokens more make (operation_behind tokens ts more make l a) n
+pub operation_none_body : (tokens ts more : List Token) (make : SubTree → RawOperation) → Left Operation tokens Bodied ts make → Ahead (Sign EQUAL) ts more → Nothing (λ (s : SubTree). Sub false s 1) more → Nothing Operation tokens
+operation_none_body tokens ts more make l a n = left_nothing Operation (λ (s : SubTree). Sub false s 1) tokens more make (operation_behind tokens ts more make l a) n

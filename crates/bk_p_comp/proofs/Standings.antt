@@ -1,5 +1,5 @@
 -- What stands behind the word of a clause, from what is read there, and heights of entries.
-use Rattle.std.specs.Prelude.{◌≡◌, ℕ, ◌<◌, ◌≤◌, max, List, [], ◌∷◌, ◌++◌, All, map, Option, None, Some, Result, Ok, Err, refl}
+use Rattle.std.specs.Prelude.{false, ◌≡◌, ℕ, ◌<◌, ◌≤◌, max, List, [], ◌∷◌, ◌++◌, All, map, Option, None, Some, Result, Ok, Err, refl}
 use Rattle.std.proofs.Common.{arith, sym, ◌∙◌, ap}
 use Rattle.std.proofs.lemmas.List.Elements.{All-cons, All-head, All-nil, All-tail}
 use denote.Ref.{Bor}
@@ -15,7 +15,7 @@ use Rattle.bk_raw.specs.Grammar.Spelling.{Names, Term}
 use Rattle.bk_raw.specs.Grammar.SubSpelling.{Sub}
 use Rattle.bk_raw.specs.Trees.SubTree.{SubTree}
 use Rattle.bk_raw.specs.declared.component.ClauseWord.{ClauseWord}
-use Rattle.bk_raw.specs.declared.component.ClauseWord.TheVariants.{Sets, Constants, ConcreteConstants, Properties, Variables, AbstractVariables, ConcreteVariables, Invariant, Assertions, Values, Initialisation, Operations}
+use Rattle.bk_raw.specs.declared.component.ClauseWord.TheVariants.{Sets, Constants, ConcreteConstants, Properties, Variables, AbstractVariables, ConcreteVariables, Invariant, Assertions, Values, Initialisation, Operations, Imports}
 use Rattle.bk_raw.specs.declared.component.RawValue.{RawValue}
 use Rattle.bk_raw.specs.declared.term.RawName.{RawName}
 use Rattle.bk_p_expr.specs.Fronts.{Longest, Nothing}
@@ -58,7 +58,7 @@ values_out : (p : ClauseParts) (ts : List Token) → Standing Values p ts → (v
 values_out (clause_values vs) ts (h, a) = (vs, h)
 values_out _ ts h = absurd h.0
 
-sub_out : (p : ClauseParts) (ts : List Token) → Standing Initialisation p ts → (s : SubTree) × Sub s 0 ts
+sub_out : (p : ClauseParts) (ts : List Token) → Standing Initialisation p ts → (s : SubTree) × Sub false s 0 ts
 sub_out (clause_sub s) ts (h, a) = (s, h)
 sub_out _ ts h = absurd h.0
 
@@ -96,11 +96,11 @@ values_stand tokens rest vs h = longest_as (Divided SEMICOLON Value) (Standing V
 pub no_values : (tokens : List Token) → Nothing (Divided SEMICOLON Value) tokens → Nothing (Standing Values) tokens
 no_values tokens n = nothing_as (Divided SEMICOLON Value) (Standing Values) tokens n values_out
 
-pub sub_stands : (tokens rest : List Token) (s : SubTree) → Longest (λ (s : SubTree). Sub s 0) tokens s rest → Longest (Standing Initialisation) tokens (clause_sub s) rest
-sub_stands tokens rest s h = longest_as (λ (s : SubTree). Sub s 0) (Standing Initialisation) tokens rest s (clause_sub s) h (λ ts k. (k, tt)) sub_out
+pub sub_stands : (tokens rest : List Token) (s : SubTree) → Longest (λ (s : SubTree). Sub false s 0) tokens s rest → Longest (Standing Initialisation) tokens (clause_sub s) rest
+sub_stands tokens rest s h = longest_as (λ (s : SubTree). Sub false s 0) (Standing Initialisation) tokens rest s (clause_sub s) h (λ ts k. (k, tt)) sub_out
 
-pub no_sub : (tokens : List Token) → Nothing (λ (s : SubTree). Sub s 0) tokens → Nothing (Standing Initialisation) tokens
-no_sub tokens n = nothing_as (λ (s : SubTree). Sub s 0) (Standing Initialisation) tokens n sub_out
+pub no_sub : (tokens : List Token) → Nothing (λ (s : SubTree). Sub false s 0) tokens → Nothing (Standing Initialisation) tokens
+no_sub tokens n = nothing_as (λ (s : SubTree). Sub false s 0) (Standing Initialisation) tokens n sub_out
 
 pub operations_stand : (tokens rest : List Token) (os : List RawOperation) → Longest (Divided SEMICOLON Operation) tokens os rest → Longest (Standing Operations) tokens (clause_operations os) rest
 operations_stand tokens rest os h = longest_as (Divided SEMICOLON Operation) (Standing Operations) tokens rest os (clause_operations os) h (λ ts k. (k, tt)) operations_out
@@ -149,6 +149,14 @@ from_shared : Same ConcreteVariables Constants
 from_shared (clause_names xs) ts h = h
 from_shared _ ts h = absurd h.0
 
+to_imports : Same Constants Imports
+to_imports (clause_names xs) ts h = h
+to_imports _ ts h = absurd h.0
+
+from_imports : Same Imports Constants
+from_imports (clause_names xs) ts h = h
+from_imports _ ts h = absurd h.0
+
 to_invariant : Same Properties Invariant
 to_invariant (clause_term t) ts h = h
 to_invariant _ ts h = absurd h.0
@@ -168,6 +176,9 @@ reads_abstract tokens r h = reads_as Constants AbstractVariables to_abstract fro
 
 pub reads_shared : {E : Type 0} (tokens : List Token) (r : Result (Option (Behind × Bor (List Token))) E) → ReadsParts Constants tokens r → ReadsParts ConcreteVariables tokens r
 reads_shared tokens r h = reads_as Constants ConcreteVariables to_shared from_shared tokens r h
+
+pub reads_imports : {E : Type 0} (tokens : List Token) (r : Result (Option (Behind × Bor (List Token))) E) → ReadsParts Constants tokens r → ReadsParts Imports tokens r
+reads_imports tokens r h = reads_as Constants Imports to_imports from_imports tokens r h
 
 pub reads_invariant : {E : Type 0} (tokens : List Token) (r : Result (Option (Behind × Bor (List Token))) E) → ReadsParts Properties tokens r → ReadsParts Invariant tokens r
 reads_invariant tokens r h = reads_as Properties Invariant to_invariant from_invariant tokens r h

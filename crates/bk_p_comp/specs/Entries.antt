@@ -1,5 +1,5 @@
 -- Entries of clauses.
-use Rattle.std.specs.Prelude.{◌≡◌, List, [], ◌∷◌}
+use Rattle.std.specs.Prelude.{false, ◌≡◌, List, [], ◌∷◌}
 use Rattle.bk_form.specs.declared.token.Token.{Token}
 use Rattle.bk_form.specs.declared.token.TokenKind.TheVariants.{Sign}
 use Rattle.bk_ops.specs.declared.sign.TheConstants.{EQUAL, OPEN_PAREN, OUTPUTS}
@@ -24,7 +24,7 @@ titled t s = record { outputs = t.outputs.items; name = t.name; inputs = t.input
 
 -- what stands after its title: = and the body
 abbrev pub Bodied : SubTree → List Token → Type 0
-Bodied s = JustSign EQUAL ⌢ Sub s 1
+Bodied s = JustSign EQUAL ⌢ Sub false s 1
 
 -- the outputs in front: the names with <-- after them, or none, where the names have none after them
 abbrev pub IsOutputs : List Token → List RawName → List Token → Type 0

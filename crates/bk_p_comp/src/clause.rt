@@ -138,6 +138,7 @@ fn word_of(kind: &TokenKind) -> Option<ClauseWord>
         word::VALUES => Some(ClauseWord::Values),
         word::INITIALISATION => Some(ClauseWord::Initialisation),
         word::OPERATIONS => Some(ClauseWord::Operations),
+        word::IMPORTS => Some(ClauseWord::Imports),
         _ => None,
     }
 }
@@ -157,16 +158,18 @@ fn number_of(word: &ClauseWord) -> u16
         ClauseWord::Values => word::VALUES,
         ClauseWord::Initialisation => word::INITIALISATION,
         ClauseWord::Operations => word::OPERATIONS,
+        ClauseWord::Imports => word::IMPORTS,
     }
 }
 
-/// Whether a component of the kind has the clause.
+/// Whether a component of the kind has the clause. IMPORTS is not read yet: none has it.
 fn allows(kind: &ComponentKind, word: &ClauseWord) -> bool
     ensures { result ≡ is_allowed kind.now word.now }
 {
     match (kind, word) {
         (ComponentKind::Implementation, ClauseWord::Variables) => false,
         (ComponentKind::Implementation, ClauseWord::AbstractVariables) => false,
+        (_, ClauseWord::Imports) => false,
         (ComponentKind::Implementation, _) => true,
         (_, ClauseWord::Values) => false,
         _ => true,

@@ -248,7 +248,7 @@ fn operation(
     let Some(behind) = after_sign(behind, sign::EQUAL) else {
         return Ok(None);
     };
-    let Some((body, rest)) = front_body(alloc, behind)? else {
+    let Some((body, rest)) = front_body(alloc, behind, false)? else {
         return Ok(None);
     };
     Ok(Some((title, body, rest)))

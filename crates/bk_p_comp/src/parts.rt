@@ -40,6 +40,7 @@ pub(crate) fn parts<'a>(
         ClauseWord::Values => all_values(alloc, tokens),
         ClauseWord::Initialisation => one_substitution(alloc, tokens),
         ClauseWord::Operations => all_operations(alloc, tokens),
+        ClauseWord::Imports => listed(alloc, tokens),
     }
 }
 
@@ -53,7 +54,7 @@ fn all_sets(alloc: Global, tokens: &[Token]) -> Result<Option<(Behind, &[Token])
     Ok(Some((Behind::Built(ClauseParts::Sets(all)), rest)))
 }
 
-/// Names, as CONSTANTS and the clauses of variables have them.
+/// Names, as CONSTANTS, the clauses of variables and IMPORTS have them.
 fn listed(alloc: Global, tokens: &[Token]) -> Result<Option<(Behind, &[Token])>, Memory>
     ensures found { ReadsParts ClauseWord.Constants tokens.now result }
     ensures shorter { IfOk result (λ r. IfSome r (λ p. length p.1.now < length tokens.now)) }
@@ -111,7 +112,7 @@ fn one_substitution(alloc: Global, tokens: &[Token]) -> Result<Option<(Behind, &
     ensures found { ReadsParts ClauseWord.Initialisation tokens.now result }
     ensures shorter { IfOk result (λ r. IfSome r (λ p. length p.1.now < length tokens.now)) }
 {
-    let Some((statement, rest)) = front_substitution(alloc, tokens)? else {
+    let Some((statement, rest)) = front_substitution(alloc, tokens, false)? else {
         return Ok(None);
     };
     match statement {

@@ -18,7 +18,7 @@ use std::alloc::Global;
 /// The component that all of the tokens are written for.
 ///
 /// `At(n)` is the place of the first token that no component goes on with: `n` tokens stand before it. The additions with
-/// which formulas are printed are not read, nor is a set without elements.
+/// which formulas are printed are not read, nor are signs and words of sequences, sets without elements, calls and IMPORTS.
 pub fn component(alloc: Global, tokens: &[Token]) -> Result<RawComponent, SynFault>
     ensures ok { IfOk result (λ c. SpellsComponent c tokens.now) }
     ensures low { IfOk result (λ c. IsLowComponent c) }

@@ -1,4 +1,5 @@
 pub mod Cuts
+pub mod SequenceCuts
 pub mod Rows
 pub mod Tokens
 pub mod TermLists

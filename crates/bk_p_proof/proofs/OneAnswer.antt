@@ -7,7 +7,6 @@ use Rattle.std.proofs.lemmas.List.Concat.{flat_map-append}
 use Rattle.std.proofs.lemmas.List.Elements.{All-weaker}
 use Rattle.bk_form.specs.declared.token.Token.{Token}
 use Rattle.bk_raw.specs.declared.script.NamePart.{NamePart}
-use Rattle.bk_raw.specs.Errors.Places.{IsScriptFaultAt}
 use Rattle.bk_raw.specs.Trees.ScriptTree.{RawScript}
 use Rattle.bk_raw.specs.Grammar.ScriptSpelling.{SpellsScripts}
 use Rattle.bk_raw.proofs.ScriptOne.{one-file-of}
@@ -17,6 +16,7 @@ use Rattle.bk_sources.specs.Files.{Has, IsShallowText}
 use Rattle.bk_sources.proofs.OneCut.{no_first, none_at_fault, none_past_limit}
 use Rattle.bk_p_proof.specs.Files.{IsFaultOf, IsShort, IsWritten, IsLow, IsProofFile, IsHigh, IsLong, IsTwiceNamed, AreScriptsOf, names_of}
 use Rattle.bk_p_proof.specs.Laws.{ScriptsOfAreOne, FaultsExclude}
+use Rattle.bk_p_proof.specs.Unread.{IsWithoutSequences, IsReadFaultAt}
 use Rattle.bk_p_proof.specs.TypedNames.{AreOfOneType, IsSecondType, script_names}
 use Rattle.bk_sources.proofs.Turns.{all_middle, zip_has}
 
@@ -47,11 +47,11 @@ not_typed ss rs place e typed h =
     let one : AreOfOneType (script_names h.script) = all_middle (λ s. AreOfOneType (script_names s)) h.before h.script h.after (subst (All (λ s. AreOfOneType (script_names s))) (sym e ∙ h.splits) typed) in
     one h.second.before h.second.after h.second.found h.second.splits h.second.otherwise
 
-not_spelled : (text : List ℕ) (ss : List RawScript) (place : ℕ) (tokens : List Token) → IsProofFile text ss → IsShallowText text tokens → IsScriptFaultAt (length text) tokens place ⊎ ((scripts : List RawScript) × SpellsScripts scripts tokens × IsSecondType scripts place) → ⊥
+not_spelled : (text : List ℕ) (ss : List RawScript) (place : ℕ) (tokens : List Token) → IsProofFile text ss → IsShallowText text tokens → IsReadFaultAt (length text) tokens place ⊎ ((scripts : List RawScript) × SpellsScripts scripts tokens × IsSecondType scripts place × IsWithoutSequences tokens) → ⊥
 not_spelled text ss place tokens p shallow (inl h) =
     let w = p.low.written in
     let e : w.tokens ≡ tokens = tokens_are_one text w.tokens tokens w.shallow.cut.cut shallow.cut.cut in
-    h.1.none ss (subst (SpellsScripts ss) e w.spelled)
+    h.1.none ss (subst (SpellsScripts ss) e w.spelled) (subst IsWithoutSequences e w.plain)
 not_spelled text ss place tokens p shallow (inr h) = not_typed ss h.0 place (same_written text tokens ss h.0 shallow h.1 p.low.written) p.low.written.typed h.2
 
 not_high : (text : List ℕ) (ss : List RawScript) → IsProofFile text ss → IsHigh text → ⊥

@@ -1,16 +1,16 @@
 -- Texts have one fault.
-use Rattle.std.specs.Prelude.{◌≡◌, ◌≢◌, ◌⊎◌, ℕ, ◌<◌, List, ◌∷◌, ◌++◌, length, All, refl}
+use Rattle.std.specs.Prelude.{◌≡◌, ◌≢◌, ◌⊎◌, ℕ, ◌<◌, false, List, ◌∷◌, ◌++◌, length, All, refl}
 use Rattle.std.specs.List.{AllZip, AllPairs, flat_map}
 use Rattle.std.proofs.Common.{inl, inr, ap, sym, subst, ◌∙◌, append_assoc}
 use Rattle.std.proofs.lemmas.List.{map-append}
 use Rattle.std.proofs.lemmas.List.Elements.{All-weaker}
 use Rattle.bk_form.specs.declared.token.Token.{Token}
 use Rattle.bk_raw.specs.declared.script.RawTyped.{RawTyped}
-use Rattle.bk_raw.specs.Errors.Places.{IsScriptFaultAt}
+use Rattle.bk_raw.specs.Errors.Places.{byte_at}
 use Rattle.bk_raw.specs.Trees.ScriptTree.{RawScript}
-use Rattle.bk_raw.specs.Grammar.ScriptSpelling.{SpellsScripts}
+use Rattle.bk_raw.specs.Grammar.ScriptSpelling.{SpellsScripts, IsWholeScripts}
 use Rattle.bk_raw.proofs.ScriptOne.{one-file-of}
-use Rattle.bk_raw.proofs.ScriptPlaces.{file-places-are-one}
+use Rattle.bk_raw.proofs.Places.{longest-one}
 use Rattle.bk_lex.proofs.Cutting.{tokens_are_one}
 use Rattle.bk_sources.specs.Files.{Has, IsFirst, IsShallowText, IsFaultOf as IsFileFaultOf}
 use Rattle.bk_sources.specs.Laws.{IsOfFiles}
@@ -23,6 +23,7 @@ use Rattle.bk_p_proof.specs.declared.fault.ScriptFault.{ScriptFault}
 use Rattle.bk_p_proof.specs.declared.fault.ScriptFault.TheVariants.{Fault, Limit, Memory}
 use Rattle.bk_p_proof.specs.Files.{IsFaultOf, IsShort, IsWritten, IsLow, IsProofFile, IsUnwritten, IsHigh, IsLong, IsTwiceNamed, names_of}
 use Rattle.bk_p_proof.specs.FilesTold.{of_files}
+use Rattle.bk_p_proof.specs.Unread.{before_sequences, IsWithoutSequences, IsReadFaultAt}
 use Rattle.bk_p_proof.specs.TypedNames.{AreOfOneType, IsSecondTypeOf, IsSecondType, script_names}
 use Rattle.bk_p_proof.specs.Laws.{FaultsAreOne, IsOfTexts}
 use Rattle.bk_p_proof.proofs.OneAnswer.{same_written, same_files, not_typed, not_again, names_cut}
@@ -66,12 +67,12 @@ files_low texts files h = All-weaker (Has IsProofFile) (Has IsLow) (λ text p. (
 
 -- ---- what is at fault is not fine
 abbrev Misses : List ℕ → List Token → ℕ → Type 0
-Misses text tokens place = IsScriptFaultAt (length text) tokens place ⊎ ((scripts : List RawScript) × SpellsScripts scripts tokens × IsSecondType scripts place)
+Misses text tokens place = IsReadFaultAt (length text) tokens place ⊎ ((scripts : List RawScript) × SpellsScripts scripts tokens × IsSecondType scripts place × IsWithoutSequences tokens)
 
 not_spelled : (text : List ℕ) (ss : List RawScript) (place : ℕ) (tokens : List Token) → IsShallowText text tokens → IsWritten text ss → Misses text tokens place → ⊥
 not_spelled text ss place tokens shallow w (inl h) =
     let e : w.tokens ≡ tokens = tokens_are_one text w.tokens tokens w.shallow.cut.cut shallow.cut.cut in
-    h.1.none ss (subst (SpellsScripts ss) e w.spelled)
+    h.1.none ss (subst (SpellsScripts ss) e w.spelled) (subst IsWithoutSequences e w.plain)
 not_spelled text ss place tokens shallow w (inr h) = not_typed ss h.0 place (same_written text tokens ss h.0 shallow h.1 w) w.typed h.2
 
 unwritten_not : (place : ℕ) (text : List ℕ) → IsUnwritten place text → Has IsWritten text → ⊥
@@ -91,9 +92,11 @@ long_not text b p =
 
 -- ---- one fault of one text
 unwritten_by : (text : List ℕ) (tokens : List Token) (p q : ℕ) → Misses text tokens p → Misses text tokens q → p ≡ q
-unwritten_by text tokens p q (inl h) (inl k) = (file-places-are-one tokens).1 (length text) p q h k
-unwritten_by text tokens p q (inl h) (inr k) = absurd (h.1.none k.0 k.1)
-unwritten_by text tokens p q (inr h) (inl k) = absurd (k.1.none h.0 h.1)
+unwritten_by text tokens p q (inl h) (inl k) =
+    let e : h.0 ≡ k.0 = longest-one IsWholeScripts (before_sequences false tokens) h.0 k.0 h.1.first k.1.first in
+    h.2 ∙ ap (byte_at (length text) tokens) e ∙ sym k.2
+unwritten_by text tokens p q (inl h) (inr k) = absurd (h.1.none k.0 k.1 k.3)
+unwritten_by text tokens p q (inr h) (inl k) = absurd (k.1.none h.0 h.1 h.3)
 unwritten_by text tokens p q (inr h) (inr k) =
     let e : h.0 ≡ k.0 = one-file-of tokens h.0 k.0 h.1 k.1 in
     second_one k.0 p q (subst (λ ss. IsSecondType ss p) e h.2) k.2

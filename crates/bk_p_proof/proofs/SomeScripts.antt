@@ -1,5 +1,5 @@
 -- Texts have scripts, or a fault.
-use Rattle.std.specs.Prelude.{◌≡◌, ◌≢◌, ◌≤◌, ℕ, List, [], ◌∷◌, ◌++◌, length, All, Contains, refl}
+use Rattle.std.specs.Prelude.{◌≡◌, ◌≢◌, ◌≤◌, ◌<◌, ℕ, false, List, [], ◌∷◌, ◌++◌, length, All, Contains, refl}
 use Rattle.std.specs.List.{AllPairs, flat_map}
 use Rattle.std.proofs.Common.{inl, inr, arith, ap, sym, subst, ◌∙◌, append_assoc, append-nil, length-append}
 use Rattle.std.proofs.lemmas.List.{map-append}
@@ -22,7 +22,9 @@ use Rattle.bk_p_proof.specs.declared.fault.ScriptFault.{ScriptFault}
 use Rattle.bk_p_proof.specs.declared.fault.ScriptFault.TheVariants.{Fault, Limit}
 use Rattle.bk_p_proof.specs.Files.{AreScriptsOf, IsFaultOf, IsWritten, IsLow, IsProofFile, IsUnwritten, IsHigh, IsLong, IsTwiceNamed, names_of}
 use Rattle.bk_p_proof.specs.TypedNames.{AreOfOneType, IsOtherwise, IsSecondTypeOf, IsSecondType, script_names}
+use Rattle.bk_p_proof.specs.Unread.{before_sequences, IsWithoutSequences}
 use Rattle.bk_p_proof.specs.Laws.{ScriptsAreTold, IsOfTexts}
+use Rattle.bk_p_proof.proofs.SequenceCuts.{same_or_shorter, cut_fault, early_fault, plain_fault}
 
 -- ---- names with two types
 abbrev Place : Type 0
@@ -48,8 +50,20 @@ some_second names not_one never = not_one (λ before after x e o. some_least (Is
 some_typed : (ss : List RawScript) → (All (λ s. AreOfOneType (script_names s)) ss → ⊥) → ((place : ℕ) → IsSecondType ss place → ⊥) → ⊥
 some_typed ss not_typed never = all_or_first (λ s. AreOfOneType (script_names s)) ss not_typed (λ before s after e h n. some_second (script_names s) n (λ place k. never place (record { before = before; script = s; after = after; splits = e; so_far = h; second = k })))
 
+-- without sequences, with them
+some_plain : (text : List ℕ) (tokens : List Token) → IsShallowText text tokens → IsWithoutSequences tokens → (Has IsWritten text → ⊥) → ((place : ℕ) → IsUnwritten place text → ⊥) → ⊥
+some_plain text tokens shallow plain not_written never = one-holds-of-scripts tokens (λ ss spelled. some_typed ss (λ typed. not_written (ss, record { tokens = tokens; shallow = shallow; spelled = spelled; plain = plain; typed = typed })) (λ place k. never place (tokens, shallow, inr (ss, spelled, k, plain)))) (λ place f. never (byte_at (length text) tokens place) (tokens, shallow, inl (place, plain_fault tokens place plain f, refl)))
+
+some_cut : (text : List ℕ) (tokens : List Token) → IsShallowText text tokens → length (before_sequences false tokens) < length tokens → ((place : ℕ) → IsUnwritten place text → ⊥) → ⊥
+some_cut text tokens shallow shorter never =
+    let front : List Token = before_sequences false tokens in
+    one-holds-of-scripts front (λ ss spelled. never (byte_at (length text) tokens (length front)) (tokens, shallow, inl (length front, cut_fault tokens front ss refl spelled shorter, refl))) (λ place f. never (byte_at (length text) tokens place) (tokens, shallow, inl (place, early_fault tokens front place refl f shorter, refl)))
+
 some_written : (text : List ℕ) (tokens : List Token) → IsShallowText text tokens → (Has IsWritten text → ⊥) → ((place : ℕ) → IsUnwritten place text → ⊥) → ⊥
-some_written text tokens shallow not_written never = one-holds-of-scripts tokens (λ ss spelled. some_typed ss (λ typed. not_written (ss, record { tokens = tokens; shallow = shallow; spelled = spelled; typed = typed })) (λ place k. never place (tokens, shallow, inr (ss, spelled, k)))) (λ place f. never (byte_at (length text) tokens place) (tokens, shallow, inl (place, f, refl)))
+some_written text tokens shallow not_written never = elim (same_or_shorter false tokens) [
+  | inl plain ↦ some_plain text tokens shallow plain not_written never
+  | inr shorter ↦ some_cut text tokens shallow shorter never
+]
 
 -- ---- names
 abbrev Differ : List RawScript → Type 0

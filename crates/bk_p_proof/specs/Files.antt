@@ -7,22 +7,23 @@ use Rattle.bk_limits.specs.declared.TheConstants.{MOST_RULES}
 use Rattle.bk_form.specs.declared.token.Token.{Token}
 use Rattle.bk_raw.specs.Trees.ScriptTree.{RawScript}
 use Rattle.bk_raw.specs.Grammar.ScriptSpelling.{SpellsScripts}
-use Rattle.bk_raw.specs.Errors.Places.{IsScriptFaultAt}
 use Rattle.bk_raw.specs.Errors.Limits.{IsLowFile}
 use Rattle.bk_raw.specs.declared.fault.FaultKind.TheVariants.{NoTree, TwiceNamed}
 use Rattle.bk_raw.specs.Errors.Faults.{number_of_fault}
 use Rattle.bk_sources.specs.Files.{Has, IsFirst, IsShallowText, IsAtFault, IsPastLimit}
 use Rattle.bk_raw.specs.declared.script.NamePart.{NamePart}
+use Rattle.bk_p_proof.specs.Unread.{IsWithoutSequences, IsReadFaultAt}
 use Rattle.bk_p_proof.specs.TypedNames.{script_names, AreOfOneType, IsSecondType}
 use Rattle.bk_p_proof.specs.declared.fault.ScriptFault.{ScriptFault}
 use Rattle.bk_p_proof.specs.declared.fault.ScriptFault.TheVariants.{Fault, Limit, Memory}
 
 -- ---- a file without a fault, step by step; its tokens are told before
--- these scripts are written in it, and no script writes a name with two types
+-- these scripts are written in it without sequences, and no script writes a name with two types
 pub record IsWritten (text : List ℕ) (scripts : List RawScript) : Type 0 where
   pub tokens : List Token
   pub shallow : IsShallowText text tokens
   pub spelled : SpellsScripts scripts tokens
+  pub plain : IsWithoutSequences tokens
   pub typed : All (λ s. AreOfOneType (script_names s)) scripts
 
 -- and no term is too high
@@ -42,8 +43,8 @@ pub record IsProofFile (text : List ℕ) (scripts : List RawScript) : Type 0 whe
 -- ---- faults
 -- no scripts are written so, or a script writes a name with a second type
 abbrev pub IsUnwritten : ℕ → List ℕ → Type 0
-IsUnwritten place text = (tokens : List Token) × IsShallowText text tokens × (IsScriptFaultAt (length text) tokens place
-    ⊎ ((scripts : List RawScript) × SpellsScripts scripts tokens × IsSecondType scripts place))
+IsUnwritten place text = (tokens : List Token) × IsShallowText text tokens × (IsReadFaultAt (length text) tokens place
+    ⊎ ((scripts : List RawScript) × SpellsScripts scripts tokens × IsSecondType scripts place × IsWithoutSequences tokens))
 
 -- a term is too high
 abbrev pub IsHigh : List ℕ → Type 0

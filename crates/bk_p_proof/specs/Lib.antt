@@ -4,6 +4,7 @@ pub mod Kinds
 pub mod Words
 pub mod TypedNames
 pub mod Spelled
+pub mod Unread
 pub mod Files
 pub mod FilesTold
 pub mod Stages

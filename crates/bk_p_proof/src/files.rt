@@ -1,6 +1,6 @@
 //! Proof files.
 
-ghost use Rattle.std.specs.Prelude.{◌≡◌, ◌≢◌, ◌↔◌, ◌<◌, ◌^◌, List, ℕ, length, map, All, IfOk, IfErr, IsTrue};
+ghost use Rattle.std.specs.Prelude.{◌≡◌, ◌≢◌, ◌↔◌, ◌<◌, ◌^◌, List, ℕ, false, length, map, All, IfOk, IfErr, IsTrue};
 ghost use Rattle.std.specs.List.{AllZip, AllPairs, flat_map};
 ghost use Rattle.std.specs.Str.{IsUtf8};
 ghost use Rattle.bk_raw.specs.Trees.ScriptTree.{RawScript as WrittenScript};
@@ -9,6 +9,7 @@ ghost use Rattle.bk_raw.specs.Errors.Faults.{number_of_fault};
 ghost use Rattle.bk_sources.specs.Files.{IsCut, IsShallowText};
 ghost use Rattle.bk_p_proof.specs.Files.{AreScriptsOf, IsFaultOf, IsShort, IsWritten, names_of};
 ghost use Rattle.bk_p_proof.specs.Kept.{AreScripts};
+ghost use Rattle.bk_p_proof.specs.Unread.{before_sequences};
 ghost use Rattle.bk_p_proof.specs.Stages.{IsKeptOf, IsLowAs, IsProofFileAs, IsUnwrittenAt};
 
 use crate::differing::ScriptNames;
@@ -16,6 +17,7 @@ use crate::fault::ScriptFault;
 use crate::held::Scripts;
 use crate::reading::{FileScripts, SpellFault, file_scripts};
 use crate::second::second_type;
+use crate::unread::before_sequences;
 use bk_form::Token;
 use bk_io::Memory;
 use bk_limits::MOST_RULES;
@@ -92,6 +94,10 @@ fn one_read(alloc: Global, tokens: &[Token], bytes: usize) -> Result<FileScripts
     ensures fault { (text : List ℕ) → length text ≡ bytes → IsShallowText text tokens.now →
         IfErr result (IsUnwrittenAt text) }
 {
+    let front = before_sequences(tokens);
+    if front.len() < tokens.len() {
+        return Err(unread_at(alloc, tokens, front, bytes));
+    }
     match file_scripts(alloc, tokens) {
         Ok(read) => match second_type(alloc, &read.scripts)? {
             Some(place) => Err(SpellFault::At(place)),
@@ -99,6 +105,20 @@ fn one_read(alloc: Global, tokens: &[Token], bytes: usize) -> Result<FileScripts
         },
         Err(SpellFault::At(place)) => Err(SpellFault::At(byte_of(tokens, place, bytes))),
         Err(SpellFault::Memory) => Err(SpellFault::Memory),
+    }
+}
+
+/// The byte where a file of so many bytes is at fault that has signs or words of sequences: where the first of them stands, if
+/// scripts are written up to there.
+fn unread_at(alloc: Global, tokens: &[Token], front: &[Token], bytes: usize) -> SpellFault
+    requires cut { front.now ≡ before_sequences false tokens.now }
+    requires shorter { length front.now < length tokens.now }
+    ensures { (text : List ℕ) → length text ≡ bytes → IsShallowText text tokens.now → IsUnwrittenAt text result }
+{
+    match file_scripts(alloc, front) {
+        Ok(_) => SpellFault::At(byte_of(tokens, front.len(), bytes)),
+        Err(SpellFault::At(place)) => SpellFault::At(byte_of(tokens, place, bytes)),
+        Err(SpellFault::Memory) => SpellFault::Memory,
     }
 }
 

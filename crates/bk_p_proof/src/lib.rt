@@ -18,6 +18,7 @@ mod second;
 mod terms;
 mod token;
 mod typed;
+mod unread;
 
 pub use fault::ScriptFault;
 pub use files::scripts;

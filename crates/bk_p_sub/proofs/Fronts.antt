@@ -98,10 +98,10 @@ behind_term_halts op h = elim (or_true (nat_eq op THEN || nat_eq op IN || nat_eq
 ]
 
 pub term_not_before : (op : ℕ) (tokens rest : List Token) (t : RawTree) → is_behind_term op ≡ true → Longest Spells tokens t rest → NotAhead (Word op) rest → Nothing (λ t. Spells t ⌢ JustWord op) tokens
-term_not_before op tokens rest t w h n = not_before is_term Spells of_term kind_term (Word op) (behind_term_halts op w) tokens rest t h n
+term_not_before op tokens rest t w h n = not_before false is_term Spells of_term (kind_term false) (Word op) (behind_term_halts op w) tokens rest t h n
 
 pub names_not_before : (op : ℕ) (tokens rest : List Token) (xs : List RawName) → Longest Names tokens xs rest → NotAhead (Word op) rest → Nothing (λ xs. Names xs ⌢ JustWord op) tokens
-names_not_before op tokens rest xs h n = not_before is_names Names of_names kind_names (Word op) refl tokens rest xs h n
+names_not_before op tokens rest xs h n = not_before false is_names Names of_names (kind_names false) (Word op) refl tokens rest xs h n
 
 pub before_there : {A : Type 0} (Thing : A → Piece) (ahead : TokenKind) (tokens after rest : List Token) (x : A) → Longest Thing tokens x after → Ahead ahead after rest → Before Thing ahead tokens x rest
 before_there Thing ahead tokens after rest x h a = record { sign = a.0; same = a.2; found = subst (Longest Thing tokens x) a.1 h }

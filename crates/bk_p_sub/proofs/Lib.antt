@@ -8,6 +8,7 @@ pub mod Fronts
 pub mod Places
 pub mod Joined
 pub mod Targets
+pub mod Calls
 pub mod Words
 pub mod Blocks
 pub mod Guards

@@ -64,39 +64,40 @@ joined_starts make s [] = refl
 joined_starts make s (t ∷ ts) = joined_starts make (sub (starts_at s) (make s t)) ts
 
 -- what may stand in a place may stand in one that asks less
-stated_weaker : (u : SubNode) (m n : ℕ) (ts : List Token) → n ≤ m → View u → Stated u m ts → Stated u n ts
-stated_weaker u m n ts l (inl p) h =
-    let k : Stated (sub_sequence p.0 p.1) m ts = subst (λ x. Stated x m ts) p.2 h in
-    subst (λ x. Stated x n ts) (sym p.2) (omega (arith, l, k.0), k.1)
-stated_weaker u m n ts l (inr (inl p)) h =
-    let k : Stated (sub_parallel p.0 p.1) m ts = subst (λ x. Stated x m ts) p.2 h in
-    subst (λ x. Stated x n ts) (sym p.2) (omega (arith, l, k.0), k.1)
-stated_weaker u m n ts l (inr (inr a)) h = a.anywhere m n ts h
+stated_weaker : (calls : Bool) (u : SubNode) (m n : ℕ) (ts : List Token) → n ≤ m → View calls u → Stated calls u m ts → Stated calls u n ts
+stated_weaker calls u m n ts l (inl p) h =
+    let k : Stated calls (sub_sequence p.0 p.1) m ts = subst (λ x. Stated calls x m ts) p.2 h in
+    subst (λ x. Stated calls x n ts) (sym p.2) (omega (arith, l, k.0), k.1)
+stated_weaker calls u m n ts l (inr (inl p)) h =
+    let k : Stated calls (sub_parallel p.0 p.1) m ts = subst (λ x. Stated calls x m ts) p.2 h in
+    subst (λ x. Stated calls x n ts) (sym p.2) (omega (arith, l, k.0), k.1)
+stated_weaker calls u m n ts l (inr (inr (inl c))) h = subst (λ x. Stated calls x n ts) (sym c.3) (subst (λ x. Stated calls x m ts) c.3 h)
+stated_weaker calls u m n ts l (inr (inr (inr a))) h = a.anywhere m n ts h
 
-pub sub_weaker : (s : SubTree) (m n : ℕ) (ts : List Token) → n ≤ m → Sub s m ts → Sub s n ts
-sub_weaker (sub at u) m n ts l h = (h.0, h.1, h.2, h.3, stated_weaker u m n ts l (view u) h.4)
+pub sub_weaker : (calls : Bool) (s : SubTree) (m n : ℕ) (ts : List Token) → n ≤ m → Sub calls s m ts → Sub calls s n ts
+sub_weaker calls (sub at u) m n ts l h = (h.0, h.1, h.2, h.3, stated_weaker calls u m n ts l (view calls u) h.4)
 
 -- what is joined by a sign in a place that asks so much has its left part there too, and its right part binds tighter
-pub record Joins (op m : ℕ) (make : SubTree → SubTree → SubNode) : Type 0 where
-  pub apart : (s t : SubTree) (ts : List Token) → Stated (make s t) m ts → (Sub s m ⌢ JustSign op ⌢ Sub t (suc m)) ts
-  pub together : (s t : SubTree) (ts : List Token) → (Sub s m ⌢ JustSign op ⌢ Sub t (suc m)) ts → Stated (make s t) m ts
+pub record Joins (calls : Bool) (op m : ℕ) (make : SubTree → SubTree → SubNode) : Type 0 where
+  pub apart : (s t : SubTree) (ts : List Token) → Stated calls (make s t) m ts → (Sub calls s m ⌢ JustSign op ⌢ Sub calls t (suc m)) ts
+  pub together : (s t : SubTree) (ts : List Token) → (Sub calls s m ⌢ JustSign op ⌢ Sub calls t (suc m)) ts → Stated calls (make s t) m ts
 
-pub joins_sequence : Joins SEMICOLON 0 sub_sequence
-joins_sequence = record { apart = λ s t ts h. h.1; together = λ s t ts h. (omega arith, h) }
+pub joins_sequence : (calls : Bool) → Joins calls SEMICOLON 0 sub_sequence
+joins_sequence calls = record { apart = λ s t ts h. h.1; together = λ s t ts h. (omega arith, h) }
 
-pub joins_parallel : Joins PARALLEL 1 sub_parallel
-joins_parallel = record { apart = λ s t ts h. h.1; together = λ s t ts h. (omega arith, h) }
+pub joins_parallel : (calls : Bool) → Joins calls PARALLEL 1 sub_parallel
+joins_parallel calls = record { apart = λ s t ts h. h.1; together = λ s t ts h. (omega arith, h) }
 
-spelled_by : (op m : ℕ) (make : SubTree → SubTree → SubNode) → Joins op m make → (s : SubTree) (xs : List SubTree) (w v : List Token) → Sub s m w → Follow (λ t. Sub t (suc m)) op xs v → Sub (joined make s xs) m (w ++ v)
-spelled_by op m make j s [] w v h f = subst (Sub s m) (sym (ap (λ us. w ++ us) f ∙ append-nil w)) h
-spelled_by op m make j (sub at u) (x ∷ xs) w v h f =
+spelled_by : (calls : Bool) (op m : ℕ) (make : SubTree → SubTree → SubNode) → Joins calls op m make → (s : SubTree) (xs : List SubTree) (w v : List Token) → Sub calls s m w → Follow (λ t. Sub calls t (suc m)) op xs v → Sub calls (joined make s xs) m (w ++ v)
+spelled_by calls op m make j s [] w v h f = subst (Sub calls s m) (sym (ap (λ us. w ++ us) f ∙ append-nil w)) h
+spelled_by calls op m make j (sub at u) (x ∷ xs) w v h f =
     let g = f.4 in
-    let both : Sub (sub at (make (sub at u) x)) m (w ++ (f.0 ++ g.0)) = (h.0, h.1 ++ (f.0 ++ g.0), ap (λ us. us ++ (f.0 ++ g.0)) h.2, h.3, j.together (sub at u) x (w ++ (f.0 ++ g.0)) (w, f.0 ++ g.0, refl, h, (f.0, g.0, refl, f.3, g.3))) in
-    subst (Sub (joined make (sub at (make (sub at u) x)) xs) m) (append_assoc w (f.0 ++ g.0) g.1 ∙ ap (λ us. w ++ us) (append_assoc f.0 g.0 g.1 ∙ ap (λ us. f.0 ++ us) (sym g.2) ∙ sym f.2))
-    (spelled_by op m make j (sub at (make (sub at u) x)) xs (w ++ (f.0 ++ g.0)) g.1 both g.4)
+    let both : Sub calls (sub at (make (sub at u) x)) m (w ++ (f.0 ++ g.0)) = (h.0, h.1 ++ (f.0 ++ g.0), ap (λ us. us ++ (f.0 ++ g.0)) h.2, h.3, j.together (sub at u) x (w ++ (f.0 ++ g.0)) (w, f.0 ++ g.0, refl, h, (f.0, g.0, refl, f.3, g.3))) in
+    subst (Sub calls (joined make (sub at (make (sub at u) x)) xs) m) (append_assoc w (f.0 ++ g.0) g.1 ∙ ap (λ us. w ++ us) (append_assoc f.0 g.0 g.1 ∙ ap (λ us. f.0 ++ us) (sym g.2) ∙ sym f.2))
+    (spelled_by calls op m make j (sub at (make (sub at u) x)) xs (w ++ (f.0 ++ g.0)) g.1 both g.4)
 
-pub row_spells : (op m : ℕ) (make : SubTree → SubTree → SubNode) → Joins op m make → (x : SubTree) (xs : List SubTree) (ts : List Token) → Row (λ t. Sub t (suc m)) op (x ∷ xs) ts → Sub (joined make x xs) m ts
-row_spells op m make j x xs ts h = subst (Sub (joined make x xs) m) (sym h.2) (spelled_by op m make j x xs h.0 h.1 (sub_weaker x (suc m) m h.0 (omega arith) h.3) h.4)
+pub row_spells : (calls : Bool) (op m : ℕ) (make : SubTree → SubTree → SubNode) → Joins calls op m make → (x : SubTree) (xs : List SubTree) (ts : List Token) → Row (λ t. Sub calls t (suc m)) op (x ∷ xs) ts → Sub calls (joined make x xs) m ts
+row_spells calls op m make j x xs ts h = subst (Sub calls (joined make x xs) m) (sym h.2) (spelled_by calls op m make j x xs h.0 h.1 (sub_weaker calls x (suc m) m h.0 (omega arith) h.3) h.4)
 
 -- one more at the end of a row
 row_and : (op : ℕ) (Part : SubTree → Piece) (xs : List SubTree) (x : SubTree) (w v : List Token) → Row Part op xs w → (JustSign op ⌢ Part x) v → Row Part op (xs ++ x ∷ []) (w ++ v)
@@ -119,41 +120,43 @@ is_parallel _ = false
 true_false : true ≡ false → ⊥
 true_false e = cc
 
-tighter_piece : (u : SubNode) (ts : List Token) → is_sequence u ≡ false → View u → Stated u 0 ts → Stated u 1 ts
-tighter_piece u ts n (inl p) h = absurd (true_false (ap is_sequence (sym p.2) ∙ n))
-tighter_piece u ts n (inr (inl p)) h = let k : Stated (sub_parallel p.0 p.1) 0 ts = subst (λ x. Stated x 0 ts) p.2 h in subst (λ x. Stated x 1 ts) (sym p.2) (omega arith, k.1)
-tighter_piece u ts n (inr (inr a)) h = a.anywhere 0 1 ts h
+tighter_piece : (calls : Bool) (u : SubNode) (ts : List Token) → is_sequence u ≡ false → View calls u → Stated calls u 0 ts → Stated calls u 1 ts
+tighter_piece calls u ts n (inl p) h = absurd (true_false (ap is_sequence (sym p.2) ∙ n))
+tighter_piece calls u ts n (inr (inl p)) h = let k : Stated calls (sub_parallel p.0 p.1) 0 ts = subst (λ x. Stated calls x 0 ts) p.2 h in subst (λ x. Stated calls x 1 ts) (sym p.2) (omega arith, k.1)
+tighter_piece calls u ts n (inr (inr (inl c))) h = subst (λ x. Stated calls x 1 ts) (sym c.3) (subst (λ x. Stated calls x 0 ts) c.3 h)
+tighter_piece calls u ts n (inr (inr (inr a))) h = a.anywhere 0 1 ts h
 
-tighter_atom : (u : SubNode) (ts : List Token) → is_parallel u ≡ false → View u → Stated u 1 ts → Stated u 2 ts
-tighter_atom u ts n (inl p) h = let k : Stated (sub_sequence p.0 p.1) 1 ts = subst (λ x. Stated x 1 ts) p.2 h in absurd (omega (arith, k.0))
-tighter_atom u ts n (inr (inl p)) h = absurd (true_false (ap is_parallel (sym p.2) ∙ n))
-tighter_atom u ts n (inr (inr a)) h = a.anywhere 1 2 ts h
+tighter_atom : (calls : Bool) (u : SubNode) (ts : List Token) → is_parallel u ≡ false → View calls u → Stated calls u 1 ts → Stated calls u 2 ts
+tighter_atom calls u ts n (inl p) h = let k : Stated calls (sub_sequence p.0 p.1) 1 ts = subst (λ x. Stated calls x 1 ts) p.2 h in absurd (omega (arith, k.0))
+tighter_atom calls u ts n (inr (inl p)) h = absurd (true_false (ap is_parallel (sym p.2) ∙ n))
+tighter_atom calls u ts n (inr (inr (inl c))) h = subst (λ x. Stated calls x 2 ts) (sym c.3) (subst (λ x. Stated calls x 1 ts) c.3 h)
+tighter_atom calls u ts n (inr (inr (inr a))) h = a.anywhere 1 2 ts h
 
 single : (Part : SubTree → Piece) (op : ℕ) (s : SubTree) (ts : List Token) → Part s ts → (xs : List SubTree) × Row Part op xs ts
 single Part op s ts h = (s ∷ [], (ts, [], sym (append-nil ts), h, refl))
 
-pub row_of_sequence : (s : SubTree) (ts : List Token) → Sub s 0 ts → (xs : List SubTree) × Row (λ t. Sub t 1) SEMICOLON xs ts
-row_of_sequence (sub at (sub_sequence s t)) ts h =
+pub row_of_sequence : (calls : Bool) (s : SubTree) (ts : List Token) → Sub calls s 0 ts → (xs : List SubTree) × Row (λ t. Sub calls t 1) SEMICOLON xs ts
+row_of_sequence calls (sub at (sub_sequence s t)) ts h =
     let k = h.4.1 in
-    let r = row_of_sequence s k.0 k.3 in
-    (r.0 ++ t ∷ [], subst (Row (λ t. Sub t 1) SEMICOLON (r.0 ++ t ∷ [])) (sym k.2) (row_and SEMICOLON (λ t. Sub t 1) r.0 t k.0 k.1 r.1 k.4))
-row_of_sequence (sub at u) ts h = single (λ t. Sub t 1) SEMICOLON (sub at u) ts (h.0, h.1, h.2, h.3, tighter_piece u ts refl (view u) h.4)
+    let r = row_of_sequence calls s k.0 k.3 in
+    (r.0 ++ t ∷ [], subst (Row (λ t. Sub calls t 1) SEMICOLON (r.0 ++ t ∷ [])) (sym k.2) (row_and SEMICOLON (λ t. Sub calls t 1) r.0 t k.0 k.1 r.1 k.4))
+row_of_sequence calls (sub at u) ts h = single (λ t. Sub calls t 1) SEMICOLON (sub at u) ts (h.0, h.1, h.2, h.3, tighter_piece calls u ts refl (view calls u) h.4)
 
-pub row_of_parallel : (s : SubTree) (ts : List Token) → Sub s 1 ts → (xs : List SubTree) × Row (λ t. Sub t 2) PARALLEL xs ts
-row_of_parallel (sub at (sub_parallel s t)) ts h =
+pub row_of_parallel : (calls : Bool) (s : SubTree) (ts : List Token) → Sub calls s 1 ts → (xs : List SubTree) × Row (λ t. Sub calls t 2) PARALLEL xs ts
+row_of_parallel calls (sub at (sub_parallel s t)) ts h =
     let k = h.4.1 in
-    let r = row_of_parallel s k.0 k.3 in
-    (r.0 ++ t ∷ [], subst (Row (λ t. Sub t 2) PARALLEL (r.0 ++ t ∷ [])) (sym k.2) (row_and PARALLEL (λ t. Sub t 2) r.0 t k.0 k.1 r.1 k.4))
-row_of_parallel (sub at u) ts h = single (λ t. Sub t 2) PARALLEL (sub at u) ts (h.0, h.1, h.2, h.3, tighter_atom u ts refl (view u) h.4)
+    let r = row_of_parallel calls s k.0 k.3 in
+    (r.0 ++ t ∷ [], subst (Row (λ t. Sub calls t 2) PARALLEL (r.0 ++ t ∷ [])) (sym k.2) (row_and PARALLEL (λ t. Sub calls t 2) r.0 t k.0 k.1 r.1 k.4))
+row_of_parallel calls (sub at u) ts h = single (λ t. Sub calls t 2) PARALLEL (sub at u) ts (h.0, h.1, h.2, h.3, tighter_atom calls u ts refl (view calls u) h.4)
 
-pub sequence_longest : (tokens rest : List Token) (x : SubTree) (xs : List SubTree) → Longest (Row (λ t. Sub t 1) SEMICOLON) tokens (x ∷ xs) rest → Longest (λ s. Sub s 0) tokens (joined sub_sequence x xs) rest
-sequence_longest tokens rest x xs h = longest_as (Row (λ t. Sub t 1) SEMICOLON) (λ s. Sub s 0) tokens rest (x ∷ xs) (joined sub_sequence x xs) h (row_spells SEMICOLON 0 sub_sequence joins_sequence x xs) row_of_sequence
+pub sequence_longest : (calls : Bool) (tokens rest : List Token) (x : SubTree) (xs : List SubTree) → Longest (Row (λ t. Sub calls t 1) SEMICOLON) tokens (x ∷ xs) rest → Longest (λ s. Sub calls s 0) tokens (joined sub_sequence x xs) rest
+sequence_longest calls tokens rest x xs h = longest_as (Row (λ t. Sub calls t 1) SEMICOLON) (λ s. Sub calls s 0) tokens rest (x ∷ xs) (joined sub_sequence x xs) h (row_spells calls SEMICOLON 0 sub_sequence (joins_sequence calls) x xs) (row_of_sequence calls)
 
-pub parallel_longest : (tokens rest : List Token) (x : SubTree) (xs : List SubTree) → Longest (Row (λ t. Sub t 2) PARALLEL) tokens (x ∷ xs) rest → Longest (λ s. Sub s 1) tokens (joined sub_parallel x xs) rest
-parallel_longest tokens rest x xs h = longest_as (Row (λ t. Sub t 2) PARALLEL) (λ s. Sub s 1) tokens rest (x ∷ xs) (joined sub_parallel x xs) h (row_spells PARALLEL 1 sub_parallel joins_parallel x xs) row_of_parallel
+pub parallel_longest : (calls : Bool) (tokens rest : List Token) (x : SubTree) (xs : List SubTree) → Longest (Row (λ t. Sub calls t 2) PARALLEL) tokens (x ∷ xs) rest → Longest (λ s. Sub calls s 1) tokens (joined sub_parallel x xs) rest
+parallel_longest calls tokens rest x xs h = longest_as (Row (λ t. Sub calls t 2) PARALLEL) (λ s. Sub calls s 1) tokens rest (x ∷ xs) (joined sub_parallel x xs) h (row_spells calls PARALLEL 1 sub_parallel (joins_parallel calls) x xs) (row_of_parallel calls)
 
-pub sequence_nothing : (tokens : List Token) → Nothing (Row (λ t. Sub t 1) SEMICOLON) tokens → Nothing (λ s. Sub s 0) tokens
-sequence_nothing tokens n = nothing_as (Row (λ t. Sub t 1) SEMICOLON) (λ s. Sub s 0) tokens n row_of_sequence
+pub sequence_nothing : (calls : Bool) (tokens : List Token) → Nothing (Row (λ t. Sub calls t 1) SEMICOLON) tokens → Nothing (λ s. Sub calls s 0) tokens
+sequence_nothing calls tokens n = nothing_as (Row (λ t. Sub calls t 1) SEMICOLON) (λ s. Sub calls s 0) tokens n (row_of_sequence calls)
 
-pub parallel_nothing : (tokens : List Token) → Nothing (Row (λ t. Sub t 2) PARALLEL) tokens → Nothing (λ s. Sub s 1) tokens
-parallel_nothing tokens n = nothing_as (Row (λ t. Sub t 2) PARALLEL) (λ s. Sub s 1) tokens n row_of_parallel
+pub parallel_nothing : (calls : Bool) (tokens : List Token) → Nothing (Row (λ t. Sub calls t 2) PARALLEL) tokens → Nothing (λ s. Sub calls s 1) tokens
+parallel_nothing calls tokens n = nothing_as (Row (λ t. Sub calls t 2) PARALLEL) (λ s. Sub calls s 1) tokens n (row_of_parallel calls)

@@ -1,5 +1,5 @@
 -- What is read from a place on.
-use Rattle.std.specs.Prelude.{◌≡◌, ℕ, zero, suc, ◌+◌, ◌-◌, ◌<◌, ◌≤◌, List, [], ◌∷◌, ◌++◌, length, take, drop, refl}
+use Rattle.std.specs.Prelude.{true, ◌≡◌, ℕ, zero, suc, ◌+◌, ◌-◌, ◌<◌, ◌≤◌, List, [], ◌∷◌, ◌++◌, length, take, drop, refl}
 use Rattle.std.proofs.Common.{arith, sym, ap, ◌∙◌, subst, length-append, length-drop}
 use Rattle.bk_form.specs.declared.token.Token.{Token}
 use Rattle.bk_raw.specs.Errors.Limits.{IsShallow, IsWithinDepth}
@@ -23,7 +23,7 @@ take_length zero ts l = refl
 take_length (suc n) [] l = absurd (omega (arith, l))
 take_length (suc n) (t ∷ ts) l = let h : length (take n ts) ≡ n = take_length n ts (omega (arith, l)) in (λ i. suc (h i))
 
-pub found_from : (tokens rest after : List Token) (at next : ℕ) (s : SubTree) → rest ≡ drop at tokens → at ≤ length tokens → Longest (λ (s : SubTree). Sub s 0) rest s after → next ≡ length tokens - length after → IsLongestFrom tokens at next s
+pub found_from : (tokens rest after : List Token) (at next : ℕ) (s : SubTree) → rest ≡ drop at tokens → at ≤ length tokens → Longest (λ (s : SubTree). Sub true s 0) rest s after → next ≡ length tokens - length after → IsLongestFrom tokens at next s
 found_from tokens rest after at next s e l h n =
     let whole : length rest ≡ length h.written + length after = ap length h.splits ∙ length-append h.written after in
     let left : length rest ≡ length tokens - at = ap length e ∙ length-drop at tokens in
@@ -43,7 +43,7 @@ found_from tokens rest after at next s e l h n =
       };
     }
 
-pub nothing_from : (tokens rest : List Token) (at : ℕ) → rest ≡ drop at tokens → Nothing (λ (s : SubTree). Sub s 0) rest → NothingSpelled tokens at
+pub nothing_from : (tokens rest : List Token) (at : ℕ) → rest ≡ drop at tokens → Nothing (λ (s : SubTree). Sub true s 0) rest → NothingSpelled tokens at
 nothing_from tokens rest at e n s before written after f b p =
     n s written after (e ∙ (λ i. drop (sym b i) (f i)) ∙ drop_front before (written ++ after)) p
 

@@ -11,7 +11,7 @@ use Rattle.bk_raw.specs.Trees.RawTree.{RawTree, RawTrees}
 use Rattle.bk_raw.specs.Grammar.Reading.{start}
 use Rattle.bk_raw.specs.Grammar.Spelling.{Declared, Names, Terms, Spells}
 use Rattle.bk_raw.specs.declared.term.RawName.{RawName}
-use Rattle.bk_raw.specs.Trees.SubTree.{SubTree, sub, SubNode, sub_skip, sub_assign, sub_assign_at, sub_member, sub_such, sub_begin, sub_pre, sub_assert, sub_if, sub_choice, sub_select, sub_any, sub_let, sub_var, sub_while, sub_parallel, sub_sequence}
+use Rattle.bk_raw.specs.Trees.SubTree.{SubTree, sub, SubNode, sub_skip, sub_assign, sub_assign_at, sub_member, sub_such, sub_call, sub_begin, sub_pre, sub_assert, sub_if, sub_choice, sub_select, sub_any, sub_let, sub_var, sub_while, sub_parallel, sub_sequence}
 use Rattle.bk_raw.specs.Grammar.SubSpelling.{Sub, Stated, Branched, Chosen}
 use Rattle.bk_raw.proofs.Steps.{Piece, stepped, Leads}
 use Rattle.bk_raw.proofs.TermRuns.{ends_term, ends_names, all-names, term, inner, parentheses}
@@ -24,7 +24,7 @@ use Rattle.bk_p_sub.specs.Longest.{Left}
 use Rattle.bk_p_sub.specs.Found.{Atom, Ahead, NotAhead, BeginsWithName, Enclosed}
 use Rattle.bk_p_sub.proofs.Steps.{stops_on_just, stops_on_last, left_whole, left_part, left_token, left_nothing, left_longest, longest_token, nothing_begins, cut_off}
 use Rattle.bk_p_sub.proofs.Rows.{longest_as, nothing_as}
-use Rattle.bk_p_sub.proofs.Atoms.{Shapes, ShapeOf, shape_nothing, shape_longest}
+use Rattle.bk_p_sub.proofs.Atoms.{Shapes, ShapeOf, shape_nothing, shape_longest, false_callless}
 use Rattle.bk_p_sub.proofs.Openings.{kind_names, kind_name, kind_term, shape_before, shape_part}
 use Rattle.bk_p_sub.proofs.Fronts.{before_there}
 
@@ -33,7 +33,7 @@ pub left_ahead : {B D : Type 0} (W : D → Piece) (kind : TokenKind) (Behind : B
 left_ahead W kind Behind tokens ts rest make l a = left_token W kind Behind tokens a.0 rest make (subst (λ us. Left W tokens (λ y. Just kind ⌢ Behind y) us make) a.1 l) a.2
 
 one_term : (t u : RawTree) (ts : List Token) → Spells t ts → Spells u ts → t ≡ u
-one_term = kind_term.one
+one_term = (kind_term false).one
 
 inside_left : (tokens inside : List Token) → Ahead (Sign OPEN_PAREN) tokens inside → Left Enclosed tokens (λ (t : RawTree). Spells t ⌢ JustSign CLOSE_PAREN) inside (λ t. t)
 inside_left tokens inside a = left_ahead Enclosed (Sign OPEN_PAREN) (λ (t : RawTree). Spells t ⌢ JustSign CLOSE_PAREN) tokens tokens inside (λ t. t) (left_whole Enclosed tokens) a
@@ -69,95 +69,95 @@ names_lead : (tokens rest more : List Token) (xs : List RawName) (op : ℕ) → 
 names_lead tokens rest more xs op c h a = lead-behind xs op (λ us. us ≡ more) tokens c (h.written, rest, h.splits, h.spelled, (a.0 ∷ [], more, a.1, (a.0, refl, a.2), refl))
 
 -- ---- x, y := e, f
-assign_left : (tokens rest more : List Token) (xs : List RawName) → Longest Names tokens xs rest → Ahead (Sign ASSIGN) rest more → Left (Shapes ASSIGN) tokens (ShapeOf (last_part is_terms)) more (λ ps. of_names xs ∷ ps)
-assign_left tokens rest more xs h a = shape_before is_names Names of_names kind_names (Sign ASSIGN) (last_part is_terms) refl ASSIGN tokens tokens more (λ ps. ps) xs (left_whole (Shapes ASSIGN) tokens) (before_there Names (Sign ASSIGN) tokens rest more xs h a)
+assign_left : (tokens rest more : List Token) (xs : List RawName) → Longest Names tokens xs rest → Ahead (Sign ASSIGN) rest more → Left (Shapes false ASSIGN) tokens (ShapeOf false (last_part is_terms)) more (λ ps. of_names xs ∷ ps)
+assign_left tokens rest more xs h a = shape_before false is_names Names of_names (kind_names false) (Sign ASSIGN) (last_part is_terms) refl ASSIGN tokens tokens more (λ ps. ps) xs (left_whole (Shapes false ASSIGN) tokens) (before_there Names (Sign ASSIGN) tokens rest more xs h a)
 
-terms_out : (ps : List Part) (ts : List Token) → ShapeOf (last_part is_terms) ps ts → (us : RawTrees) × Terms us ts
+terms_out : (ps : List Part) (ts : List Token) → ShapeOf false (last_part is_terms) ps ts → (us : RawTrees) × Terms us ts
 terms_out [] ts h = absurd h
 terms_out (of_terms us ∷ []) ts h = (us, h)
 terms_out (_ ∷ []) ts h = absurd h
 terms_out (p ∷ q ∷ ps) ts h = absurd h
 
-term_out : (ps : List Part) (ts : List Token) → ShapeOf (last_part is_term) ps ts → (t : RawTree) × Spells t ts
+term_out : (ps : List Part) (ts : List Token) → ShapeOf false (last_part is_term) ps ts → (t : RawTree) × Spells t ts
 term_out [] ts h = absurd h
 term_out (of_term t ∷ []) ts h = (t, h)
 term_out (_ ∷ []) ts h = absurd h
 term_out (p ∷ q ∷ ps) ts h = absurd h
 
-pub assign_found : (tokens rest more after : List Token) (xs : List RawName) (us : RawTrees) → Longest Names tokens xs rest → Ahead (Sign ASSIGN) rest more → Longest Terms more us after → Longest Atom tokens (sub (start tokens) (sub_assign xs us)) after
+pub assign_found : (tokens rest more after : List Token) (xs : List RawName) (us : RawTrees) → Longest Names tokens xs rest → Ahead (Sign ASSIGN) rest more → Longest Terms more us after → Longest (Atom false) tokens (sub (start tokens) (sub_assign xs us)) after
 assign_found tokens rest more after xs us h a k =
-    shape_longest tokens after ASSIGN (of_names xs ∷ of_terms us ∷ []) (sub_assign xs us) (names_lead tokens rest more xs ASSIGN refl h a)
-    (left_longest (Shapes ASSIGN) (ShapeOf (last_part is_terms)) tokens more after (λ ps. of_names xs ∷ ps) (of_terms us ∷ []) (assign_left tokens rest more xs h a) (longest_as Terms (ShapeOf (last_part is_terms)) more after us (of_terms us ∷ []) k (λ ts m. m) terms_out))
+    shape_longest false tokens after ASSIGN (of_names xs ∷ of_terms us ∷ []) (sub_assign xs us) (false_callless tokens) (names_lead tokens rest more xs ASSIGN refl h a)
+    (left_longest (Shapes false ASSIGN) (ShapeOf false (last_part is_terms)) tokens more after (λ ps. of_names xs ∷ ps) (of_terms us ∷ []) (assign_left tokens rest more xs h a) (longest_as Terms (ShapeOf false (last_part is_terms)) more after us (of_terms us ∷ []) k (λ ts m. m) terms_out))
     (λ ts m. m)
 
-pub assign_none : (tokens rest more : List Token) (xs : List RawName) → Longest Names tokens xs rest → Ahead (Sign ASSIGN) rest more → Nothing Terms more → Nothing Atom tokens
-assign_none tokens rest more xs h a n = shape_nothing tokens ASSIGN (names_lead tokens rest more xs ASSIGN refl h a) (left_nothing (Shapes ASSIGN) (ShapeOf (last_part is_terms)) tokens more (λ ps. of_names xs ∷ ps) (assign_left tokens rest more xs h a) (nothing_as Terms (ShapeOf (last_part is_terms)) more n terms_out))
+pub assign_none : (tokens rest more : List Token) (xs : List RawName) → Longest Names tokens xs rest → Ahead (Sign ASSIGN) rest more → Nothing Terms more → Nothing (Atom false) tokens
+assign_none tokens rest more xs h a n = shape_nothing false tokens ASSIGN (false_callless tokens) (names_lead tokens rest more xs ASSIGN refl h a) (left_nothing (Shapes false ASSIGN) (ShapeOf false (last_part is_terms)) tokens more (λ ps. of_names xs ∷ ps) (assign_left tokens rest more xs h a) (nothing_as Terms (ShapeOf false (last_part is_terms)) more n terms_out))
 
 -- ---- x, y :( p )
 abbrev such_shape : Shape SubPartKind
 such_shape = token_and (Sign OPEN_PAREN) (part_and is_term (last_token (Sign CLOSE_PAREN)))
 
-such_left : (tokens rest more : List Token) (xs : List RawName) → Longest Names tokens xs rest → Ahead (Sign MEMBER) rest more → Left (Shapes MEMBER) tokens (ShapeOf such_shape) more (λ ps. of_names xs ∷ ps)
-such_left tokens rest more xs h a = shape_before is_names Names of_names kind_names (Sign MEMBER) such_shape refl MEMBER tokens tokens more (λ ps. ps) xs (left_whole (Shapes MEMBER) tokens) (before_there Names (Sign MEMBER) tokens rest more xs h a)
+such_left : (tokens rest more : List Token) (xs : List RawName) → Longest Names tokens xs rest → Ahead (Sign MEMBER) rest more → Left (Shapes false MEMBER) tokens (ShapeOf false such_shape) more (λ ps. of_names xs ∷ ps)
+such_left tokens rest more xs h a = shape_before false is_names Names of_names (kind_names false) (Sign MEMBER) such_shape refl MEMBER tokens tokens more (λ ps. ps) xs (left_whole (Shapes false MEMBER) tokens) (before_there Names (Sign MEMBER) tokens rest more xs h a)
 
-such_out : (ps : List Part) (ts : List Token) → ShapeOf such_shape ps ts → (t : RawTree) × Enclosed t ts
+such_out : (ps : List Part) (ts : List Token) → ShapeOf false such_shape ps ts → (t : RawTree) × Enclosed t ts
 such_out [] ts h = absurd h.4
 such_out (of_term t ∷ []) ts h = (t, h)
 such_out (_ ∷ []) ts h = absurd h.4.3
 such_out (p ∷ q ∷ ps) ts h = absurd h.4.4
 
-pub such_found : (tokens rest more after : List Token) (xs : List RawName) (p : RawTree) → Longest Names tokens xs rest → Ahead (Sign MEMBER) rest more → Longest Enclosed more p after → Longest Atom tokens (sub (start tokens) (sub_such xs p)) after
+pub such_found : (tokens rest more after : List Token) (xs : List RawName) (p : RawTree) → Longest Names tokens xs rest → Ahead (Sign MEMBER) rest more → Longest Enclosed more p after → Longest (Atom false) tokens (sub (start tokens) (sub_such xs p)) after
 such_found tokens rest more after xs p h a k =
-    shape_longest tokens after MEMBER (of_names xs ∷ of_term p ∷ []) (sub_such xs p) (names_lead tokens rest more xs MEMBER refl h a)
-    (left_longest (Shapes MEMBER) (ShapeOf such_shape) tokens more after (λ ps. of_names xs ∷ ps) (of_term p ∷ []) (such_left tokens rest more xs h a) (longest_as Enclosed (ShapeOf such_shape) more after p (of_term p ∷ []) k (λ ts m. m) such_out))
+    shape_longest false tokens after MEMBER (of_names xs ∷ of_term p ∷ []) (sub_such xs p) (false_callless tokens) (names_lead tokens rest more xs MEMBER refl h a)
+    (left_longest (Shapes false MEMBER) (ShapeOf false such_shape) tokens more after (λ ps. of_names xs ∷ ps) (of_term p ∷ []) (such_left tokens rest more xs h a) (longest_as Enclosed (ShapeOf false such_shape) more after p (of_term p ∷ []) k (λ ts m. m) such_out))
     (λ ts m. m)
 
-pub such_none : (tokens rest more : List Token) (xs : List RawName) → Longest Names tokens xs rest → Ahead (Sign MEMBER) rest more → Nothing Enclosed more → Nothing Atom tokens
-such_none tokens rest more xs h a n = shape_nothing tokens MEMBER (names_lead tokens rest more xs MEMBER refl h a) (left_nothing (Shapes MEMBER) (ShapeOf such_shape) tokens more (λ ps. of_names xs ∷ ps) (such_left tokens rest more xs h a) (nothing_as Enclosed (ShapeOf such_shape) more n such_out))
+pub such_none : (tokens rest more : List Token) (xs : List RawName) → Longest Names tokens xs rest → Ahead (Sign MEMBER) rest more → Nothing Enclosed more → Nothing (Atom false) tokens
+such_none tokens rest more xs h a n = shape_nothing false tokens MEMBER (false_callless tokens) (names_lead tokens rest more xs MEMBER refl h a) (left_nothing (Shapes false MEMBER) (ShapeOf false such_shape) tokens more (λ ps. of_names xs ∷ ps) (such_left tokens rest more xs h a) (nothing_as Enclosed (ShapeOf false such_shape) more n such_out))
 
 -- ---- x :: e
 single_name : (tokens rest : List Token) (x : RawName) → Longest Names tokens (x ∷ []) rest → Longest Declared tokens x rest
 single_name tokens rest x h = longest_as Names Declared tokens rest (x ∷ []) x h (λ ts k. k) (λ y ts k. (y ∷ [], k))
 
-member_left : (tokens rest more : List Token) (x : RawName) → Longest Names tokens (x ∷ []) rest → Ahead (Sign BECOMES_MEMBER) rest more → Left (Shapes BECOMES_MEMBER) tokens (ShapeOf (last_part is_term)) more (λ ps. of_name x ∷ ps)
-member_left tokens rest more x h a = shape_before is_name Declared of_name kind_name (Sign BECOMES_MEMBER) (last_part is_term) refl BECOMES_MEMBER tokens tokens more (λ ps. ps) x (left_whole (Shapes BECOMES_MEMBER) tokens) (before_there Declared (Sign BECOMES_MEMBER) tokens rest more x (single_name tokens rest x h) a)
+member_left : (tokens rest more : List Token) (x : RawName) → Longest Names tokens (x ∷ []) rest → Ahead (Sign BECOMES_MEMBER) rest more → Left (Shapes false BECOMES_MEMBER) tokens (ShapeOf false (last_part is_term)) more (λ ps. of_name x ∷ ps)
+member_left tokens rest more x h a = shape_before false is_name Declared of_name (kind_name false) (Sign BECOMES_MEMBER) (last_part is_term) refl BECOMES_MEMBER tokens tokens more (λ ps. ps) x (left_whole (Shapes false BECOMES_MEMBER) tokens) (before_there Declared (Sign BECOMES_MEMBER) tokens rest more x (single_name tokens rest x h) a)
 
-pub member_found : (tokens rest more after : List Token) (x : RawName) (e : RawTree) → Longest Names tokens (x ∷ []) rest → Ahead (Sign BECOMES_MEMBER) rest more → Longest Spells more e after → Longest Atom tokens (sub (start tokens) (sub_member x e)) after
+pub member_found : (tokens rest more after : List Token) (x : RawName) (e : RawTree) → Longest Names tokens (x ∷ []) rest → Ahead (Sign BECOMES_MEMBER) rest more → Longest Spells more e after → Longest (Atom false) tokens (sub (start tokens) (sub_member x e)) after
 member_found tokens rest more after x e h a k =
-    shape_longest tokens after BECOMES_MEMBER (of_name x ∷ of_term e ∷ []) (sub_member x e) (names_lead tokens rest more (x ∷ []) BECOMES_MEMBER refl h a)
-    (left_longest (Shapes BECOMES_MEMBER) (ShapeOf (last_part is_term)) tokens more after (λ ps. of_name x ∷ ps) (of_term e ∷ []) (member_left tokens rest more x h a) (longest_as Spells (ShapeOf (last_part is_term)) more after e (of_term e ∷ []) k (λ ts m. m) term_out))
+    shape_longest false tokens after BECOMES_MEMBER (of_name x ∷ of_term e ∷ []) (sub_member x e) (false_callless tokens) (names_lead tokens rest more (x ∷ []) BECOMES_MEMBER refl h a)
+    (left_longest (Shapes false BECOMES_MEMBER) (ShapeOf false (last_part is_term)) tokens more after (λ ps. of_name x ∷ ps) (of_term e ∷ []) (member_left tokens rest more x h a) (longest_as Spells (ShapeOf false (last_part is_term)) more after e (of_term e ∷ []) k (λ ts m. m) term_out))
     (λ ts m. m)
 
-pub member_none : (tokens rest more : List Token) (x : RawName) → Longest Names tokens (x ∷ []) rest → Ahead (Sign BECOMES_MEMBER) rest more → Nothing Spells more → Nothing Atom tokens
-member_none tokens rest more x h a n = shape_nothing tokens BECOMES_MEMBER (names_lead tokens rest more (x ∷ []) BECOMES_MEMBER refl h a) (left_nothing (Shapes BECOMES_MEMBER) (ShapeOf (last_part is_term)) tokens more (λ ps. of_name x ∷ ps) (member_left tokens rest more x h a) (nothing_as Spells (ShapeOf (last_part is_term)) more n term_out))
+pub member_none : (tokens rest more : List Token) (x : RawName) → Longest Names tokens (x ∷ []) rest → Ahead (Sign BECOMES_MEMBER) rest more → Nothing Spells more → Nothing (Atom false) tokens
+member_none tokens rest more x h a n = shape_nothing false tokens BECOMES_MEMBER (false_callless tokens) (names_lead tokens rest more (x ∷ []) BECOMES_MEMBER refl h a) (left_nothing (Shapes false BECOMES_MEMBER) (ShapeOf false (last_part is_term)) tokens more (λ ps. of_name x ∷ ps) (member_left tokens rest more x h a) (nothing_as Spells (ShapeOf false (last_part is_term)) more n term_out))
 
 -- ---- f(x) := e
 abbrev at_shape : Shape SubPartKind
 at_shape = token_and (Sign OPEN_PAREN) (part_and is_term (token_and (Sign CLOSE_PAREN) (token_and (Sign ASSIGN) (last_part is_term))))
 
-at_out : (ps : List Part) (ts : List Token) → ShapeOf at_shape ps ts → (x : RawTree) × (e : RawTree) × (ps ≡ of_term x ∷ of_term e ∷ []) × (Enclosed x ⌢ (JustSign ASSIGN ⌢ Spells e)) ts
+at_out : (ps : List Part) (ts : List Token) → ShapeOf false at_shape ps ts → (x : RawTree) × (e : RawTree) × (ps ≡ of_term x ∷ of_term e ∷ []) × (Enclosed x ⌢ (JustSign ASSIGN ⌢ Spells e)) ts
 at_out [] ts h = absurd h.4
 at_out (p ∷ []) ts h = absurd h.4.4.4.4
 at_out (p ∷ q ∷ []) ts h =
     let a = h.4 in
     let b = a.4 in
     let c = b.4 in
-    let x = kind_term.known p a.0 a.3 in
-    let e = kind_term.known q c.1 c.4 in
+    let x = (kind_term false).known p a.0 a.3 in
+    let e = (kind_term false).known q c.1 c.4 in
     (x.0, e.0, (λ i. x.1 i ∷ e.1 i ∷ []), (h.0 ++ (a.0 ++ b.0), b.1, h.2 ∙ ap (λ us. h.0 ++ us) (a.2 ∙ ap (λ us. a.0 ++ us) b.2 ∙ sym (append_assoc a.0 b.0 b.1)) ∙ sym (append_assoc h.0 (a.0 ++ b.0) b.1), (h.0, a.0 ++ b.0, refl, h.3, (a.0, b.0, refl, x.2, b.3)), (c.0, c.1, c.2, c.3, e.2)))
 at_out (p ∷ q ∷ r ∷ ps) ts h = absurd h.4.4.4.4
 
-at_into : (x e : RawTree) (ts : List Token) → (Enclosed x ⌢ (JustSign ASSIGN ⌢ Spells e)) ts → ShapeOf at_shape (of_term x ∷ of_term e ∷ []) ts
+at_into : (x e : RawTree) (ts : List Token) → (Enclosed x ⌢ (JustSign ASSIGN ⌢ Spells e)) ts → ShapeOf false at_shape (of_term x ∷ of_term e ∷ []) ts
 at_into x e ts h =
     let a = h.3 in
     let b = a.4 in
     (a.0, b.0 ++ (b.1 ++ h.1), h.2 ∙ ap (λ us. us ++ h.1) a.2 ∙ append_assoc a.0 a.1 h.1 ∙ ap (λ us. a.0 ++ us) (ap (λ us. us ++ h.1) b.2 ∙ append_assoc b.0 b.1 h.1), a.3, (b.0, b.1 ++ h.1, refl, b.3, (b.1, h.1, refl, b.4, h.4)))
 
-place_left : (tokens rest : List Token) (f : RawName) → Longest Names tokens (f ∷ []) rest → Left (Shapes OPEN_PAREN) tokens (ShapeOf at_shape) rest (λ ps. of_name f ∷ ps)
-place_left tokens rest f h = shape_part is_name Declared of_name kind_name (Sign OPEN_PAREN) (part_and is_term (token_and (Sign CLOSE_PAREN) (token_and (Sign ASSIGN) (last_part is_term)))) refl OPEN_PAREN tokens tokens rest (λ ps. ps) f (left_whole (Shapes OPEN_PAREN) tokens) (single_name tokens rest f h)
+place_left : (tokens rest : List Token) (f : RawName) → Longest Names tokens (f ∷ []) rest → Left (Shapes false OPEN_PAREN) tokens (ShapeOf false at_shape) rest (λ ps. of_name f ∷ ps)
+place_left tokens rest f h = shape_part false is_name Declared of_name (kind_name false) (Sign OPEN_PAREN) (part_and is_term (token_and (Sign CLOSE_PAREN) (token_and (Sign ASSIGN) (last_part is_term)))) refl OPEN_PAREN tokens tokens rest (λ ps. ps) f (left_whole (Shapes false OPEN_PAREN) tokens) (single_name tokens rest f h)
 
-value_left : (tokens rest behind : List Token) (f : RawName) (x : RawTree) → Longest Names tokens (f ∷ []) rest → Longest Enclosed rest x behind → Left (Shapes OPEN_PAREN) tokens (λ (e : RawTree). JustSign ASSIGN ⌢ Spells e) behind (λ e. of_name f ∷ of_term x ∷ of_term e ∷ [])
-value_left tokens rest behind f x h k = left_part (Shapes OPEN_PAREN) Enclosed (ShapeOf at_shape) (λ (e : RawTree). JustSign ASSIGN ⌢ Spells e) (λ x e. of_term x ∷ of_term e ∷ []) ends_term enclosed_leads enclosed_one (stops_on_just ends_term (Sign ASSIGN) Spells refl) at_out at_into tokens rest behind (λ ps. of_name f ∷ ps) x (place_left tokens rest f h) k
+value_left : (tokens rest behind : List Token) (f : RawName) (x : RawTree) → Longest Names tokens (f ∷ []) rest → Longest Enclosed rest x behind → Left (Shapes false OPEN_PAREN) tokens (λ (e : RawTree). JustSign ASSIGN ⌢ Spells e) behind (λ e. of_name f ∷ of_term x ∷ of_term e ∷ [])
+value_left tokens rest behind f x h k = left_part (Shapes false OPEN_PAREN) Enclosed (ShapeOf false at_shape) (λ (e : RawTree). JustSign ASSIGN ⌢ Spells e) (λ x e. of_term x ∷ of_term e ∷ []) ends_term enclosed_leads enclosed_one (stops_on_just ends_term (Sign ASSIGN) Spells refl) at_out at_into tokens rest behind (λ ps. of_name f ∷ ps) x (place_left tokens rest f h) k
 
 -- a parenthesis stands behind the name where a term in parentheses does
 opens_there : (tokens behind : List Token) (x : RawTree) → Longest Enclosed tokens x behind → (more : List Token) × Ahead (Sign OPEN_PAREN) tokens more
@@ -168,21 +168,21 @@ opens_there tokens behind x h =
 place_lead : (tokens rest behind : List Token) (f : RawName) (x : RawTree) → Longest Names tokens (f ∷ []) rest → Longest Enclosed rest x behind → lead tokens ≡ OPEN_PAREN
 place_lead tokens rest behind f x h k = let o = opens_there rest behind x k in names_lead tokens rest o.0 (f ∷ []) OPEN_PAREN refl h o.1
 
-pub at_found : (tokens rest behind more after : List Token) (f : RawName) (x e : RawTree) → Longest Names tokens (f ∷ []) rest → Longest Enclosed rest x behind → Ahead (Sign ASSIGN) behind more → Longest Spells more e after → Longest Atom tokens (sub (start tokens) (sub_assign_at f x e)) after
+pub at_found : (tokens rest behind more after : List Token) (f : RawName) (x e : RawTree) → Longest Names tokens (f ∷ []) rest → Longest Enclosed rest x behind → Ahead (Sign ASSIGN) behind more → Longest Spells more e after → Longest (Atom false) tokens (sub (start tokens) (sub_assign_at f x e)) after
 at_found tokens rest behind more after f x e h k a m =
-    shape_longest tokens after OPEN_PAREN (of_name f ∷ of_term x ∷ of_term e ∷ []) (sub_assign_at f x e) (place_lead tokens rest behind f x h k)
-    (left_longest (Shapes OPEN_PAREN) Spells tokens more after (λ e. of_name f ∷ of_term x ∷ of_term e ∷ []) e (left_ahead (Shapes OPEN_PAREN) (Sign ASSIGN) Spells tokens behind more (λ e. of_name f ∷ of_term x ∷ of_term e ∷ []) (value_left tokens rest behind f x h k) a) m)
+    shape_longest false tokens after OPEN_PAREN (of_name f ∷ of_term x ∷ of_term e ∷ []) (sub_assign_at f x e) (false_callless tokens) (place_lead tokens rest behind f x h k)
+    (left_longest (Shapes false OPEN_PAREN) Spells tokens more after (λ e. of_name f ∷ of_term x ∷ of_term e ∷ []) e (left_ahead (Shapes false OPEN_PAREN) (Sign ASSIGN) Spells tokens behind more (λ e. of_name f ∷ of_term x ∷ of_term e ∷ []) (value_left tokens rest behind f x h k) a) m)
     (λ ts w. w)
 
-pub at_none_value : (tokens rest behind more : List Token) (f : RawName) (x : RawTree) → Longest Names tokens (f ∷ []) rest → Longest Enclosed rest x behind → Ahead (Sign ASSIGN) behind more → Nothing Spells more → Nothing Atom tokens
+pub at_none_value : (tokens rest behind more : List Token) (f : RawName) (x : RawTree) → Longest Names tokens (f ∷ []) rest → Longest Enclosed rest x behind → Ahead (Sign ASSIGN) behind more → Nothing Spells more → Nothing (Atom false) tokens
 at_none_value tokens rest behind more f x h k a n =
-    shape_nothing tokens OPEN_PAREN (place_lead tokens rest behind f x h k)
-    (left_nothing (Shapes OPEN_PAREN) Spells tokens more (λ e. of_name f ∷ of_term x ∷ of_term e ∷ []) (left_ahead (Shapes OPEN_PAREN) (Sign ASSIGN) Spells tokens behind more (λ e. of_name f ∷ of_term x ∷ of_term e ∷ []) (value_left tokens rest behind f x h k) a) n)
+    shape_nothing false tokens OPEN_PAREN (false_callless tokens) (place_lead tokens rest behind f x h k)
+    (left_nothing (Shapes false OPEN_PAREN) Spells tokens more (λ e. of_name f ∷ of_term x ∷ of_term e ∷ []) (left_ahead (Shapes false OPEN_PAREN) (Sign ASSIGN) Spells tokens behind more (λ e. of_name f ∷ of_term x ∷ of_term e ∷ []) (value_left tokens rest behind f x h k) a) n)
 
-pub at_none_sign : (tokens rest behind : List Token) (f : RawName) (x : RawTree) → Longest Names tokens (f ∷ []) rest → Longest Enclosed rest x behind → NotAhead (Sign ASSIGN) behind → Nothing Atom tokens
+pub at_none_sign : (tokens rest behind : List Token) (f : RawName) (x : RawTree) → Longest Names tokens (f ∷ []) rest → Longest Enclosed rest x behind → NotAhead (Sign ASSIGN) behind → Nothing (Atom false) tokens
 at_none_sign tokens rest behind f x h k n =
-    shape_nothing tokens OPEN_PAREN (place_lead tokens rest behind f x h k)
-    (left_nothing (Shapes OPEN_PAREN) (λ (e : RawTree). JustSign ASSIGN ⌢ Spells e) tokens behind (λ e. of_name f ∷ of_term x ∷ of_term e ∷ []) (value_left tokens rest behind f x h k) (nothing_begins (Sign ASSIGN) Spells behind n))
+    shape_nothing false tokens OPEN_PAREN (false_callless tokens) (place_lead tokens rest behind f x h k)
+    (left_nothing (Shapes false OPEN_PAREN) (λ (e : RawTree). JustSign ASSIGN ⌢ Spells e) tokens behind (λ e. of_name f ∷ of_term x ∷ of_term e ∷ []) (value_left tokens rest behind f x h k) (nothing_begins (Sign ASSIGN) Spells behind n))
 
 -- ---- which sign may stand behind
 abbrev Anything : Piece
@@ -197,7 +197,7 @@ NamedView front = (ys : List RawName) × (op : ℕ) × (Names ys ⌢ JustSign op
 any_behind : (First : Piece) (op : ℕ) (K : Piece) (ts : List Token) → (First ⌢ JustSign op ⌢ K) ts → (First ⌢ JustSign op ⌢ Anything) ts
 any_behind First op K ts h = (h.0, h.1, h.2, h.3, (h.4.0, h.4.1, h.4.2, h.4.3, tt))
 
-not_word : (op : ℕ) (K : Piece) (t : Token) (us : List Token) (x : List ℕ) → t.kind ≡ Name x → (JustWord op ⌢ K) (t ∷ us) → ⊥
+pub not_word : (op : ℕ) (K : Piece) (t : Token) (us : List Token) (x : List ℕ) → t.kind ≡ Name x → (JustWord op ⌢ K) (t ∷ us) → ⊥
 not_word op K t us x k h =
     let f = first (Word op) K (t ∷ us) h in
     let e = f.is in
@@ -205,22 +205,23 @@ not_word op K t us x k h =
     let kinds : Name x ≡ Word op = sym k ∙ ap (λ u. u.kind) same ∙ f.same in
     cc
 
-named : (u : SubNode) (t : Token) (us : List Token) (x : List ℕ) → t.kind ≡ Name x → Stated u 2 (t ∷ us) → NamedView (t ∷ us)
+named : (u : SubNode) (t : Token) (us : List Token) (x : List ℕ) → t.kind ≡ Name x → Stated false u 2 (t ∷ us) → NamedView (t ∷ us)
+named (sub_call xs o ts) t us x k h = let i : false ≡ true = h.1 in cc
 named sub_skip t us x k h = absurd (not_word SKIP (λ vs. vs ≡ []) t us x k (last (Word SKIP) (t ∷ us) h))
 named (sub_assign xs ts) t us x k h = (xs, ASSIGN, any_behind (Names xs) ASSIGN (Terms ts) (t ∷ us) h, inl refl)
 named (sub_assign_at f y e) t us x k h = (f ∷ [], OPEN_PAREN, any_behind (Declared f) OPEN_PAREN (Spells y ⌢ JustSign CLOSE_PAREN ⌢ JustSign ASSIGN ⌢ Spells e) (t ∷ us) h, inr (inr (f, refl, inr refl)))
 named (sub_member y e) t us x k h = (y ∷ [], BECOMES_MEMBER, any_behind (Declared y) BECOMES_MEMBER (Spells e) (t ∷ us) h, inr (inr (y, refl, inl refl)))
 named (sub_such xs p) t us x k h = (xs, MEMBER, any_behind (Names xs) MEMBER (JustSign OPEN_PAREN ⌢ Spells p ⌢ JustSign CLOSE_PAREN) (t ∷ us) h, inr (inl refl))
-named (sub_begin s) t us x k h = absurd (not_word BEGIN (Sub s 0 ⌢ JustWord END) t us x k h)
-named (sub_pre p s) t us x k h = absurd (not_word PRE (Spells p ⌢ JustWord THEN ⌢ Sub s 0 ⌢ JustWord END) t us x k h)
-named (sub_assert p s) t us x k h = absurd (not_word ASSERT (Spells p ⌢ JustWord THEN ⌢ Sub s 0 ⌢ JustWord END) t us x k h)
-named (sub_if p s bs) t us x k h = absurd (not_word IF (Spells p ⌢ JustWord THEN ⌢ (Sub s 0 ⌢ Branched ELSIF bs) ⌢ JustWord END) t us x k h)
-named (sub_choice s cs) t us x k h = absurd (not_word CHOICE ((Sub s 0 ⌢ Chosen cs) ⌢ JustWord END) t us x k h)
-named (sub_select p s bs) t us x k h = absurd (not_word SELECT (Spells p ⌢ JustWord THEN ⌢ (Sub s 0 ⌢ Branched WHEN bs) ⌢ JustWord END) t us x k h)
-named (sub_any xs p s) t us x k h = absurd (not_word ANY (Names xs ⌢ JustWord WHERE ⌢ Spells p ⌢ JustWord THEN ⌢ Sub s 0 ⌢ JustWord END) t us x k h)
-named (sub_let xs p s) t us x k h = absurd (not_word LET (Names xs ⌢ JustWord BE ⌢ Spells p ⌢ JustWord IN ⌢ Sub s 0 ⌢ JustWord END) t us x k h.0)
-named (sub_var xs s) t us x k h = absurd (not_word VAR (Names xs ⌢ JustWord IN ⌢ Sub s 0 ⌢ JustWord END) t us x k h)
-named (sub_while p s i v) t us x k h = absurd (not_word WHILE (Spells p ⌢ JustWord DO ⌢ Sub s 0 ⌢ JustWord INVARIANT ⌢ Spells i ⌢ JustWord VARIANT ⌢ Spells v ⌢ JustWord END) t us x k h)
+named (sub_begin s) t us x k h = absurd (not_word BEGIN (Sub false s 0 ⌢ JustWord END) t us x k h)
+named (sub_pre p s) t us x k h = absurd (not_word PRE (Spells p ⌢ JustWord THEN ⌢ Sub false s 0 ⌢ JustWord END) t us x k h)
+named (sub_assert p s) t us x k h = absurd (not_word ASSERT (Spells p ⌢ JustWord THEN ⌢ Sub false s 0 ⌢ JustWord END) t us x k h)
+named (sub_if p s bs) t us x k h = absurd (not_word IF (Spells p ⌢ JustWord THEN ⌢ (Sub false s 0 ⌢ Branched false ELSIF bs) ⌢ JustWord END) t us x k h)
+named (sub_choice s cs) t us x k h = absurd (not_word CHOICE ((Sub false s 0 ⌢ Chosen false cs) ⌢ JustWord END) t us x k h)
+named (sub_select p s bs) t us x k h = absurd (not_word SELECT (Spells p ⌢ JustWord THEN ⌢ (Sub false s 0 ⌢ Branched false WHEN bs) ⌢ JustWord END) t us x k h)
+named (sub_any xs p s) t us x k h = absurd (not_word ANY (Names xs ⌢ JustWord WHERE ⌢ Spells p ⌢ JustWord THEN ⌢ Sub false s 0 ⌢ JustWord END) t us x k h)
+named (sub_let xs p s) t us x k h = absurd (not_word LET (Names xs ⌢ JustWord BE ⌢ Spells p ⌢ JustWord IN ⌢ Sub false s 0 ⌢ JustWord END) t us x k h.0)
+named (sub_var xs s) t us x k h = absurd (not_word VAR (Names xs ⌢ JustWord IN ⌢ Sub false s 0 ⌢ JustWord END) t us x k h)
+named (sub_while p s i v) t us x k h = absurd (not_word WHILE (Spells p ⌢ JustWord DO ⌢ Sub false s 0 ⌢ JustWord INVARIANT ⌢ Spells i ⌢ JustWord VARIANT ⌢ Spells v ⌢ JustWord END) t us x k h)
 named (sub_parallel s r) t us x k h = absurd (omega (arith, h.0))
 named (sub_sequence s r) t us x k h = absurd (omega (arith, h.0))
 
@@ -231,9 +232,9 @@ record Told (rest : List Token) (xs : List RawName) : Type 0 where
   ahead : Ahead (Sign op) rest more
   may : Behind xs op
 
-told : (tokens rest : List Token) (xs : List RawName) (o : SubTree) (front after : List Token) → BeginsWithName tokens → Longest Names tokens xs rest → tokens ≡ front ++ after → Atom o front → Told rest xs
+told : (tokens rest : List Token) (xs : List RawName) (o : SubTree) (front after : List Token) → BeginsWithName tokens → Longest Names tokens xs rest → tokens ≡ front ++ after → Atom false o front → Told rest xs
 told tokens rest xs (sub at u) front after b h e k =
-    let v = named u k.0 k.1 b.0 (begun k.0 k.1 b front e k.2) (subst (Stated u 2) k.2 k.4) in
+    let v = named u k.0 k.1 b.0 (begun k.0 k.1 b front e k.2) (subst (Stated false u 2) k.2 k.4) in
     let w = v.2 in
     let g = first (Sign v.1) Anything w.1 w.4 in
     let c = cut_off Names ends_names all-names one-names tokens rest xs v.0 w.0 w.1 after h (e ∙ ap (λ us. us ++ after) (k.2 ∙ w.2)) w.3 (stops_on_just {B = Unit {0}} ends_names (Sign v.1) (λ _. Anything) (halts v.0 v.1 v.3) tt w.1 after w.4) in
@@ -257,7 +258,7 @@ told tokens rest xs (sub at u) front after b h e k =
 sign_there : (rest more : List Token) (op sign : ℕ) → op ≡ sign → Ahead (Sign op) rest more → NotAhead (Sign sign) rest → ⊥
 sign_there rest more op sign e a n = n a.0 more a.1 (a.2 ∙ ap (λ k. Sign k) e)
 
-pub no_names : (tokens rest : List Token) (xs : List RawName) → BeginsWithName tokens → Longest Names tokens xs rest → NotAhead (Sign ASSIGN) rest → NotAhead (Sign MEMBER) rest → length xs ≢ 1 → Nothing Atom tokens
+pub no_names : (tokens rest : List Token) (xs : List RawName) → BeginsWithName tokens → Longest Names tokens xs rest → NotAhead (Sign ASSIGN) rest → NotAhead (Sign MEMBER) rest → length xs ≢ 1 → Nothing (Atom false) tokens
 no_names tokens rest xs b h n m l o front after e k = by (told tokens rest xs o front after b h e k)
   where
     may : (t : Told rest xs) → Behind xs t.op → ⊥
@@ -268,17 +269,17 @@ no_names tokens rest xs b h n m l o front after e k = by (told tokens rest xs o 
     by : Told rest xs → ⊥
     by t = may t t.may
 
-pub no_target : (tokens rest : List Token) (x : RawName) → BeginsWithName tokens → Longest Names tokens (x ∷ []) rest → NotAhead (Sign ASSIGN) rest → NotAhead (Sign MEMBER) rest → NotAhead (Sign BECOMES_MEMBER) rest → Nothing Enclosed rest → Nothing Atom tokens
+pub no_target : (tokens rest : List Token) (x : RawName) → BeginsWithName tokens → Longest Names tokens (x ∷ []) rest → NotAhead (Sign ASSIGN) rest → NotAhead (Sign MEMBER) rest → NotAhead (Sign BECOMES_MEMBER) rest → Nothing Enclosed rest → Nothing (Atom false) tokens
 no_target tokens rest x b h n m p q o front after e k = by (told tokens rest (x ∷ []) o front after b h e k)
   where
-    none : Nothing (ShapeOf at_shape) rest
+    none : Nothing (ShapeOf false at_shape) rest
     none ps back more f w = placed (at_out ps back w)
       where
         placed : (x : RawTree) × (e : RawTree) × (ps ≡ of_term x ∷ of_term e ∷ []) × (Enclosed x ⌢ (JustSign ASSIGN ⌢ Spells e)) back → ⊥
         placed r = let z = r.3 in q r.0 z.0 (z.1 ++ more) (f ∙ ap (λ us. us ++ more) z.2 ∙ append_assoc z.0 z.1 more) z.3
 
     place : (t : Told rest (x ∷ [])) → t.op ≡ OPEN_PAREN → ⊥
-    place t i = shape_nothing tokens OPEN_PAREN (names_lead tokens rest t.more (x ∷ []) OPEN_PAREN refl h (t.ahead.0, t.ahead.1, t.ahead.2 ∙ ap (λ k. Sign k) i)) (left_nothing (Shapes OPEN_PAREN) (ShapeOf at_shape) tokens rest (λ ps. of_name x ∷ ps) (place_left tokens rest x h) none) o front after e k
+    place t i = shape_nothing false tokens OPEN_PAREN (false_callless tokens) (names_lead tokens rest t.more (x ∷ []) OPEN_PAREN refl h (t.ahead.0, t.ahead.1, t.ahead.2 ∙ ap (λ k. Sign k) i)) (left_nothing (Shapes false OPEN_PAREN) (ShapeOf false at_shape) tokens rest (λ ps. of_name x ∷ ps) (place_left tokens rest x h) none) o front after e k
 
     may : (t : Told rest (x ∷ [])) → Behind (x ∷ []) t.op → ⊥
     may t (inl i) = sign_there rest t.more t.op ASSIGN i t.ahead n

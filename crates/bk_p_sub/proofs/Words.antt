@@ -1,6 +1,6 @@
 -- Which tokens an atom may begin with.
 use Rattle.std.specs.Prelude.{◌≡◌, ◌≢◌, ℕ, Bool, true, false, nat_eq, ◌||◌, List, [], ◌∷◌, ◌++◌, refl}
-use Rattle.std.proofs.Common.{arith, inl, inr, sym, ◌∙◌, ap, subst, append_assoc}
+use Rattle.std.proofs.Common.{arith, inl, inr, sym, ◌∙◌, ap, subst, append_assoc, append-nil}
 use Rattle.std.proofs.lemmas.Bool.{cases_Bool, eqb-true}
 use Rattle.bk_form.specs.declared.token.Token.{Token}
 use Rattle.bk_form.specs.declared.token.TokenKind.{TokenKind}
@@ -9,8 +9,9 @@ use Rattle.bk_ops.specs.declared.word.TheConstants.{END, BEGIN, PRE, THEN, IF, E
 use Rattle.bk_raw.specs.Grammar.Pieces.{JustWord, ◌⌢◌}
 use Rattle.bk_raw.specs.Grammar.Spelling.{Declared, Names, Spells}
 use Rattle.bk_raw.specs.declared.term.RawName.{RawName}
-use Rattle.bk_raw.specs.Trees.SubTree.{sub, SubNode, sub_skip, sub_assign, sub_assign_at, sub_member, sub_such, sub_begin, sub_pre, sub_assert, sub_if, sub_choice, sub_select, sub_any, sub_let, sub_var, sub_while, sub_parallel, sub_sequence}
-use Rattle.bk_raw.specs.Grammar.SubSpelling.{Sub, Stated, Branched, Chosen}
+use Rattle.bk_raw.specs.Trees.RawTree.{RawTrees, no_trees, tree_and}
+use Rattle.bk_raw.specs.Trees.SubTree.{sub, SubNode, sub_skip, sub_assign, sub_assign_at, sub_member, sub_such, sub_call, sub_begin, sub_pre, sub_assert, sub_if, sub_choice, sub_select, sub_any, sub_let, sub_var, sub_while, sub_parallel, sub_sequence}
+use Rattle.bk_raw.specs.Grammar.SubSpelling.{Called, Sub, Stated, Branched, Chosen}
 use Rattle.bk_raw.proofs.Steps.{Piece}
 use Rattle.bk_raw.proofs.Patterns.{first, last}
 use Rattle.bk_p_expr.specs.Fronts.{Nothing}
@@ -46,36 +47,42 @@ names_begin [] front back t us e d = absurd d
 names_begin (x ∷ []) front back t us e d = declared_begins x front back t us e d
 names_begin (x ∷ y ∷ ys) front back t us e d = declared_begins x d.0 (d.1 ++ back) t us (e ∙ ap (λ vs. vs ++ back) d.2 ∙ append_assoc d.0 d.1 back) d.3
 
-begun : (u : SubNode) (t : Token) (us : List Token) → Stated u 2 (t ∷ us) → begins_atom t.kind ≡ true
-begun sub_skip t us h = word_begins SKIP (λ vs. vs ≡ []) t us refl (last (Word SKIP) (t ∷ us) h)
-begun (sub_assign xs ts) t us h = names_begin xs h.0 h.1 t us h.2 h.3
-begun (sub_assign_at f y e) t us h = declared_begins f h.0 h.1 t us h.2 h.3
-begun (sub_member y e) t us h = declared_begins y h.0 h.1 t us h.2 h.3
-begun (sub_such xs p) t us h = names_begin xs h.0 h.1 t us h.2 h.3
-begun (sub_begin s) t us h = word_begins BEGIN (Sub s 0 ⌢ JustWord END) t us refl h
-begun (sub_pre p s) t us h = word_begins PRE (Spells p ⌢ JustWord THEN ⌢ Sub s 0 ⌢ JustWord END) t us refl h
-begun (sub_assert p s) t us h = word_begins ASSERT (Spells p ⌢ JustWord THEN ⌢ Sub s 0 ⌢ JustWord END) t us refl h
-begun (sub_if p s bs) t us h = word_begins IF (Spells p ⌢ JustWord THEN ⌢ (Sub s 0 ⌢ Branched ELSIF bs) ⌢ JustWord END) t us refl h
-begun (sub_choice s cs) t us h = word_begins CHOICE ((Sub s 0 ⌢ Chosen cs) ⌢ JustWord END) t us refl h
-begun (sub_select p s bs) t us h = word_begins SELECT (Spells p ⌢ JustWord THEN ⌢ (Sub s 0 ⌢ Branched WHEN bs) ⌢ JustWord END) t us refl h
-begun (sub_any xs p s) t us h = word_begins ANY (Names xs ⌢ JustWord WHERE ⌢ Spells p ⌢ JustWord THEN ⌢ Sub s 0 ⌢ JustWord END) t us refl h
-begun (sub_let xs p s) t us h = word_begins LET (Names xs ⌢ JustWord BE ⌢ Spells p ⌢ JustWord IN ⌢ Sub s 0 ⌢ JustWord END) t us refl h.0
-begun (sub_var xs s) t us h = word_begins VAR (Names xs ⌢ JustWord IN ⌢ Sub s 0 ⌢ JustWord END) t us refl h
-begun (sub_while p s i v) t us h = word_begins WHILE (Spells p ⌢ JustWord DO ⌢ Sub s 0 ⌢ JustWord INVARIANT ⌢ Spells i ⌢ JustWord VARIANT ⌢ Spells v ⌢ JustWord END) t us refl h
-begun (sub_parallel s r) t us h = absurd (omega (arith, h.0))
-begun (sub_sequence s r) t us h = absurd (omega (arith, h.0))
+called_begins : (xs : List RawName) (o : RawName) (vs : RawTrees) (t : Token) (us : List Token) → Called xs o vs (t ∷ us) → begins_atom t.kind ≡ true
+called_begins [] o no_trees t us h = declared_begins o (t ∷ us) [] t us (sym (append-nil (t ∷ us))) h
+called_begins [] o (tree_and v vs) t us h = declared_begins o h.0 h.1 t us h.2 h.3
+called_begins (x ∷ xs) o vs t us h = names_begin (x ∷ xs) h.0 h.1 t us h.2 h.3
+
+begun : (calls : Bool) (u : SubNode) (t : Token) (us : List Token) → Stated calls u 2 (t ∷ us) → begins_atom t.kind ≡ true
+begun calls sub_skip t us h = word_begins SKIP (λ vs. vs ≡ []) t us refl (last (Word SKIP) (t ∷ us) h)
+begun calls (sub_assign xs ts) t us h = names_begin xs h.0 h.1 t us h.2 h.3
+begun calls (sub_assign_at f y e) t us h = declared_begins f h.0 h.1 t us h.2 h.3
+begun calls (sub_member y e) t us h = declared_begins y h.0 h.1 t us h.2 h.3
+begun calls (sub_such xs p) t us h = names_begin xs h.0 h.1 t us h.2 h.3
+begun calls (sub_call xs o vs) t us h = called_begins xs o vs t us h.0
+begun calls (sub_begin s) t us h = word_begins BEGIN (Sub calls s 0 ⌢ JustWord END) t us refl h
+begun calls (sub_pre p s) t us h = word_begins PRE (Spells p ⌢ JustWord THEN ⌢ Sub calls s 0 ⌢ JustWord END) t us refl h
+begun calls (sub_assert p s) t us h = word_begins ASSERT (Spells p ⌢ JustWord THEN ⌢ Sub calls s 0 ⌢ JustWord END) t us refl h
+begun calls (sub_if p s bs) t us h = word_begins IF (Spells p ⌢ JustWord THEN ⌢ (Sub calls s 0 ⌢ Branched calls ELSIF bs) ⌢ JustWord END) t us refl h
+begun calls (sub_choice s cs) t us h = word_begins CHOICE ((Sub calls s 0 ⌢ Chosen calls cs) ⌢ JustWord END) t us refl h
+begun calls (sub_select p s bs) t us h = word_begins SELECT (Spells p ⌢ JustWord THEN ⌢ (Sub calls s 0 ⌢ Branched calls WHEN bs) ⌢ JustWord END) t us refl h
+begun calls (sub_any xs p s) t us h = word_begins ANY (Names xs ⌢ JustWord WHERE ⌢ Spells p ⌢ JustWord THEN ⌢ Sub calls s 0 ⌢ JustWord END) t us refl h
+begun calls (sub_let xs p s) t us h = word_begins LET (Names xs ⌢ JustWord BE ⌢ Spells p ⌢ JustWord IN ⌢ Sub calls s 0 ⌢ JustWord END) t us refl h.0
+begun calls (sub_var xs s) t us h = word_begins VAR (Names xs ⌢ JustWord IN ⌢ Sub calls s 0 ⌢ JustWord END) t us refl h
+begun calls (sub_while p s i v) t us h = word_begins WHILE (Spells p ⌢ JustWord DO ⌢ Sub calls s 0 ⌢ JustWord INVARIANT ⌢ Spells i ⌢ JustWord VARIANT ⌢ Spells v ⌢ JustWord END) t us refl h
+begun calls (sub_parallel s r) t us h = absurd (omega (arith, h.0))
+begun calls (sub_sequence s r) t us h = absurd (omega (arith, h.0))
 
 true_false : true ≡ false → ⊥
 true_false e = cc
 
-pub no_atom : (t : Token) (rest : List Token) → begins_atom t.kind ≡ false → Nothing Atom (t ∷ rest)
-no_atom t rest n (sub at u) front after e h =
+pub no_atom : (calls : Bool) (t : Token) (rest : List Token) → begins_atom t.kind ≡ false → Nothing (Atom calls) (t ∷ rest)
+no_atom calls t rest n (sub at u) front after e h =
     let g : t ∷ rest ≡ h.0 ∷ (h.1 ++ after) = e ∙ ap (λ vs. vs ++ after) h.2 in
     let same : t ≡ h.0 = cc in
-    true_false (sym (begun u h.0 h.1 (subst (Stated u 2) h.2 h.4)) ∙ ap (λ v. begins_atom v.kind) (sym same) ∙ n)
+    true_false (sym (begun calls u h.0 h.1 (subst (Stated calls u 2) h.2 h.4)) ∙ ap (λ v. begins_atom v.kind) (sym same) ∙ n)
 
-pub no_atom_at_all : Nothing Atom []
-no_atom_at_all (sub at u) front after e h =
+pub no_atom_at_all : (calls : Bool) → Nothing (Atom calls) []
+no_atom_at_all calls (sub at u) front after e h =
     let g : [] ≡ h.0 ∷ (h.1 ++ after) = e ∙ ap (λ vs. vs ++ after) h.2 in
     cc
 
@@ -93,8 +100,8 @@ not_equal a b h = elim (cases_Bool (nat_eq a b)) [
 no_guard : (op word : ℕ) (g : Guard) → ((g : Guard) → guard_kind g ≢ Word op) → guard_kind g ≡ Word word → nat_eq op word ≡ false
 no_guard op word g h e = not_equal op word (λ s. h g (e ∙ (λ i. Word (sym s i))))
 
-pub no_atom_word : (t : Token) (rest : List Token) (op : ℕ) → t.kind ≡ Word op → op ≢ SKIP → op ≢ BEGIN → op ≢ CHOICE → op ≢ VAR → op ≢ ANY → op ≢ LET → ((g : Guard) → guard_kind g ≢ Word op) → Nothing Atom (t ∷ rest)
-no_atom_word t rest op e a b c d f l g =
+pub no_atom_word : (calls : Bool) (t : Token) (rest : List Token) (op : ℕ) → t.kind ≡ Word op → op ≢ SKIP → op ≢ BEGIN → op ≢ CHOICE → op ≢ VAR → op ≢ ANY → op ≢ LET → ((g : Guard) → guard_kind g ≢ Word op) → Nothing (Atom calls) (t ∷ rest)
+no_atom_word calls t rest op e a b c d f l g =
     let or2 = or_false (nat_eq op SKIP) (nat_eq op BEGIN) (not_equal op SKIP a) (not_equal op BEGIN b) in
     let or3 = or_false (nat_eq op SKIP || nat_eq op BEGIN) (nat_eq op CHOICE) or2 (not_equal op CHOICE c) in
     let or4 = or_false (nat_eq op SKIP || nat_eq op BEGIN || nat_eq op CHOICE) (nat_eq op PRE) or3 (no_guard op PRE Pre g refl) in
@@ -105,7 +112,7 @@ no_atom_word t rest op e a b c d f l g =
     let or9 = or_false (nat_eq op SKIP || nat_eq op BEGIN || nat_eq op CHOICE || nat_eq op PRE || nat_eq op ASSERT || nat_eq op IF || nat_eq op SELECT || nat_eq op WHILE) (nat_eq op VAR) or8 (not_equal op VAR d) in
     let or10 = or_false (nat_eq op SKIP || nat_eq op BEGIN || nat_eq op CHOICE || nat_eq op PRE || nat_eq op ASSERT || nat_eq op IF || nat_eq op SELECT || nat_eq op WHILE || nat_eq op VAR) (nat_eq op ANY) or9 (not_equal op ANY f) in
     let or11 = or_false (nat_eq op SKIP || nat_eq op BEGIN || nat_eq op CHOICE || nat_eq op PRE || nat_eq op ASSERT || nat_eq op IF || nat_eq op SELECT || nat_eq op WHILE || nat_eq op VAR || nat_eq op ANY) (nat_eq op LET) or10 (not_equal op LET l) in
-    no_atom t rest (ap begins_atom e ∙ or11)
+    no_atom calls t rest (ap begins_atom e ∙ or11)
 
 -- another kind of token
 not_begun : (kind : TokenKind) → ((x : List ℕ) → kind ≡ Name x → ⊥) → ((op : ℕ) → kind ≡ Word op → ⊥) → begins_atom kind ≡ false
@@ -116,8 +123,8 @@ not_begun (BoundName n) a b = refl
 not_begun (Number z) a b = refl
 not_begun (Sign op) a b = refl
 
-pub no_atom_by : (tokens rest : List Token) (t : Token) → tokens ≡ t ∷ rest → ((x : List ℕ) → t.kind ≡ Name x → ⊥) → ((op : ℕ) → t.kind ≡ Word op → ⊥) → Nothing Atom tokens
-no_atom_by tokens rest t e a b = subst (λ ts. Nothing Atom ts) (sym e) (no_atom t rest (not_begun t.kind a b))
+pub no_atom_by : (calls : Bool) (tokens rest : List Token) (t : Token) → tokens ≡ t ∷ rest → ((x : List ℕ) → t.kind ≡ Name x → ⊥) → ((op : ℕ) → t.kind ≡ Word op → ⊥) → Nothing (Atom calls) tokens
+no_atom_by calls tokens rest t e a b = subst (λ ts. Nothing (Atom calls) ts) (sym e) (no_atom calls t rest (not_begun t.kind a b))
 
-pub no_atom_in_none : (tokens : List Token) → tokens ≡ [] → Nothing Atom tokens
-no_atom_in_none tokens e = subst (λ ts. Nothing Atom ts) (sym e) no_atom_at_all
+pub no_atom_in_none : (calls : Bool) (tokens : List Token) → tokens ≡ [] → Nothing (Atom calls) tokens
+no_atom_in_none calls tokens e = subst (λ ts. Nothing (Atom calls) ts) (sym e) (no_atom_at_all calls)

@@ -2,6 +2,7 @@
 #![tactic(auto)]
 
 mod branches;
+mod call;
 mod defining;
 mod front;
 mod opening;

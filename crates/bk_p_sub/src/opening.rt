@@ -1,9 +1,10 @@
 // How a substitution begins: what is read of it before the substitutions inside of it.
 
-ghost use Rattle.std.specs.Prelude.{◌≡◌, ◌≢◌, ◌<◌, ◌≤◌, true, ◌∷◌, length, IfOk, IfSome, MatchOption};
+ghost use Rattle.std.specs.Prelude.{Bool, ◌≡◌, ◌≢◌, ◌<◌, ◌≤◌, true, ◌∷◌, length, IfOk, IfSome, MatchOption};
 ghost use Rattle.bk_ops.specs.declared.word.TheConstants.{VAR, ANY, LET};
 ghost use Rattle.bk_p_sub.specs.Found.{Begins, BeginsWithName, guard_begins, guard_end, guard_kind, is_behind_term};
 
+use crate::call::call;
 use crate::defining::defines;
 use crate::front::{first_token, names_before, term_before};
 use crate::statement::{Around, Head, Statement, Test};
@@ -29,31 +30,43 @@ pub(crate) enum Opening {
     While(Term),
 }
 
-/// How the atom in front begins.
+/// How the atom in front begins. A call is read where operations may be called.
 pub(crate) fn opening_of(
     alloc: Global,
     tokens: &[Token],
+    calls: bool,
 ) -> Result<Option<(Opening, &[Token])>, Memory>
-    ensures found { Begins tokens.now result }
+    ensures found { Begins calls tokens.now result }
     ensures shorter { IfOk result (λ r. IfSome r (λ p. length p.1.now < length tokens.now)) }
 {
     let Some((first, rest)) = first_token(tokens) else {
         return Ok(None);
     };
     match &first.kind {
-        TokenKind::Name(_) => named(alloc, tokens),
+        TokenKind::Name(_) => named(alloc, tokens, calls),
         TokenKind::Word(op) => opening_by(alloc, *op, first, rest),
         _ => Ok(None),
     }
 }
 
-/// The substitution in front that begins with a name: nothing is left to be read of it.
-fn named(alloc: Global, tokens: &[Token]) -> Result<Option<(Opening, &[Token])>, Memory>
+/// The substitution in front that begins with a name: nothing is left to be read of it. What a call is, is shorter than
+/// what is written to names.
+fn named(
+    alloc: Global,
+    tokens: &[Token],
+    calls: bool,
+) -> Result<Option<(Opening, &[Token])>, Memory>
     requires { BeginsWithName tokens.now }
-    ensures found { Begins tokens.now result }
+    ensures found { Begins calls tokens.now result }
     ensures shorter { IfOk result (λ r. IfSome r (λ p. length p.1.now < length tokens.now)) }
 {
-    let Some((statement, rest)) = target(alloc, tokens)? else {
+    if let Some((statement, rest)) = target(alloc, tokens)? {
+        return Ok(Some((Opening::Closed(statement), rest)));
+    }
+    if !calls {
+        return Ok(None);
+    }
+    let Some((statement, rest)) = call(alloc, tokens)? else {
         return Ok(None);
     };
     Ok(Some((Opening::Closed(statement), rest)))
@@ -67,7 +80,7 @@ fn opening_by<'a>(
     tokens: &'a [Token],
 ) -> Result<Option<(Opening, &'a [Token])>, Memory>
     requires { first.now.kind ≡ TokenKind.Word op }
-    ensures found { Begins (first.now ∷ tokens.now) result }
+    ensures found { (calls : Bool) → Begins calls (first.now ∷ tokens.now) result }
     ensures shorter { IfOk result (λ r. IfSome r (λ p. length p.1.now ≤ length tokens.now)) }
 {
     if op == word::SKIP {
@@ -102,7 +115,7 @@ fn variables<'a>(
     tokens: &'a [Token],
 ) -> Result<Option<(Opening, &'a [Token])>, Memory>
     requires { first.now.kind ≡ TokenKind.Word VAR }
-    ensures found { Begins (first.now ∷ tokens.now) result }
+    ensures found { (calls : Bool) → Begins calls (first.now ∷ tokens.now) result }
     ensures shorter { IfOk result (λ r. IfSome r (λ p. length p.1.now ≤ length tokens.now)) }
 {
     let Some((names, rest)) = names_before(alloc, tokens, word::IN)? else {
@@ -118,7 +131,7 @@ fn values<'a>(
     tokens: &'a [Token],
 ) -> Result<Option<(Opening, &'a [Token])>, Memory>
     requires { first.now.kind ≡ TokenKind.Word ANY }
-    ensures found { Begins (first.now ∷ tokens.now) result }
+    ensures found { (calls : Bool) → Begins calls (first.now ∷ tokens.now) result }
     ensures shorter { IfOk result (λ r. IfSome r (λ p. length p.1.now ≤ length tokens.now)) }
 {
     let Some((names, behind)) = names_before(alloc, tokens, word::WHERE)? else {
@@ -137,7 +150,7 @@ fn definitions<'a>(
     tokens: &'a [Token],
 ) -> Result<Option<(Opening, &'a [Token])>, Memory>
     requires { first.now.kind ≡ TokenKind.Word LET }
-    ensures found { Begins (first.now ∷ tokens.now) result }
+    ensures found { (calls : Bool) → Begins calls (first.now ∷ tokens.now) result }
     ensures shorter { IfOk result (λ r. IfSome r (λ p. length p.1.now ≤ length tokens.now)) }
 {
     let Some((names, behind)) = names_before(alloc, tokens, word::BE)? else {
@@ -212,7 +225,7 @@ fn guarded<'a>(
     tokens: &'a [Token],
 ) -> Result<Option<(Opening, &'a [Token])>, Memory>
     requires { guard_kind guard ≡ first.now.kind }
-    ensures found { Begins (first.now ∷ tokens.now) result }
+    ensures found { (calls : Bool) → Begins calls (first.now ∷ tokens.now) result }
     ensures shorter { IfOk result (λ r. IfSome r (λ p. length p.1.now ≤ length tokens.now)) }
 {
     let Some((test, rest)) = term_before(alloc, tokens, guard.end())? else {

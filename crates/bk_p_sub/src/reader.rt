@@ -17,7 +17,7 @@ use std::alloc::Global;
 /// The longest substitution that is written from the token at `at` on, and the place of the token after it.
 ///
 /// The text of a larger thing may go on after it: `skip END` read from 0 is `skip` and 1. The printed additions of terms
-/// are read too.
+/// are read too, and calls of operations: `x :=` read from 0 is the call `x` and 1.
 pub fn substitution(alloc: Global, tokens: &[Token], at: usize) -> Result<(RawSub, usize), SynFault>
     ensures ok { IfOk result (λ read. IsLongestFrom tokens.now at read.1 read.0) }
     ensures low { IfOk result (λ read. IsLowSub read.0) }
@@ -30,7 +30,7 @@ pub fn substitution(alloc: Global, tokens: &[Token], at: usize) -> Result<(RawSu
     if let Some(place) = too_deep(rest) {
         return Err(SynFault::Depth(at + place));
     }
-    match sequence(alloc, rest)? {
+    match sequence(alloc, rest, true)? {
         Some((statement, after)) => match statement {
             Statement::Built(sub, _) => Ok((Box::into_inner(sub), tokens.len() - after.len())),
             Statement::High => Err(SynFault::High),
@@ -39,22 +39,28 @@ pub fn substitution(alloc: Global, tokens: &[Token], at: usize) -> Result<(RawSu
     }
 }
 
-/// The longest substitution in front of the tokens, and what stands after it, for readers of larger things. It does not
-/// look at how much is open: such a reader asks `too_deep` of all its tokens first, and once.
+/// The longest substitution in front of the tokens, and what stands after it, for readers of larger things; `calls` says
+/// whether operations may be called in it. It does not look at how much is open: such a reader asks `too_deep` of all its
+/// tokens first, and once.
 pub fn front_substitution(
     alloc: Global,
     tokens: &[Token],
+    calls: bool,
 ) -> Result<Option<(Statement, &[Token])>, Memory>
-    ensures found { Reads 0 tokens.now result }
+    ensures found { Reads calls 0 tokens.now result }
     ensures shorter { IfOk result (λ r. IfSome r (λ p. length p.1.now < length tokens.now)) }
 {
-    sequence(alloc, tokens)
+    sequence(alloc, tokens, calls)
 }
 
 /// The same where no semicolon may join substitutions but in blocks, as in the body of an operation.
-pub fn front_body(alloc: Global, tokens: &[Token]) -> Result<Option<(Statement, &[Token])>, Memory>
-    ensures found { Reads 1 tokens.now result }
+pub fn front_body(
+    alloc: Global,
+    tokens: &[Token],
+    calls: bool,
+) -> Result<Option<(Statement, &[Token])>, Memory>
+    ensures found { Reads calls 1 tokens.now result }
     ensures shorter { IfOk result (λ r. IfSome r (λ p. length p.1.now < length tokens.now)) }
 {
-    parallel(alloc, tokens)
+    parallel(alloc, tokens, calls)
 }

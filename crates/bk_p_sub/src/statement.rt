@@ -2,7 +2,7 @@
 
 ghost use Rattle.std.specs.Prelude.{◌≡◌, ◌+◌, ℕ, IfOk};
 ghost use Rattle.bk_raw.specs.Trees.RawTree.{RawTree, RawTrees};
-ghost use Rattle.bk_raw.specs.Trees.SubTree.{SubTree, SubNode, sub, sub_skip, sub_assign, sub_assign_at, sub_member, sub_such};
+ghost use Rattle.bk_raw.specs.Trees.SubTree.{SubTree, SubNode, sub, sub_skip, sub_assign, sub_assign_at, sub_member, sub_such, sub_call};
 ghost use Rattle.bk_raw.specs.Trees.SubTree.{sub_while, sub_choice, Branches as BranchTrees, Choices as ChoiceTrees, sub_height};
 ghost use Rattle.bk_raw.specs.Codes.SubView.{sub_node_of, sub_of};
 ghost use Rattle.bk_p_expr.specs.Pieces.{IsTerms};
@@ -162,6 +162,28 @@ impl Statement {
             alloc,
             at,
             RawSubNode::BecomesSuch(names, Box::into_inner(predicate)),
+            height,
+        )
+    }
+
+    /// `x, y <-- op(e, f)`.
+    pub(crate) fn call(
+        alloc: Global,
+        at: usize,
+        outputs: Vec<RawName>,
+        operation: RawName,
+        arguments: Terms,
+    ) -> Result<Statement, Memory>
+        ensures { IfOk result (λ r. (us : RawTrees) → IsTerms us arguments →
+            IsStatement (sub at (sub_call outputs.items operation us)) r) }
+    {
+        let Terms::Built(arguments, height) = arguments else {
+            return Ok(Statement::High);
+        };
+        built(
+            alloc,
+            at,
+            RawSubNode::Call(outputs, operation, arguments),
             height,
         )
     }

@@ -1,7 +1,8 @@
 // The longest substitution in front of tokens.
 //
 // Each function answers what it reads and the tokens after it, or None where that does not stand there. Only blocks make
-// the calls nest deeper: lists, branches and choices are read by loops.
+// the calls nest deeper: lists, branches and choices are read by loops. `calls` says whether operations may be called in
+// what is read.
 
 ghost use Rattle.std.specs.Prelude.{◌<◌, length, IfOk, IfSome};
 ghost use Rattle.bk_p_sub.specs.Found.{Opens, Reads, ReadsBranches, ReadsChoices, ReadsLoopEnd};
@@ -22,18 +23,19 @@ use std::alloc::Global;
 pub(crate) fn sequence(
     alloc: Global,
     tokens: &[Token],
+    calls: bool,
 ) -> Result<Option<(Statement, &[Token])>, Memory>
-    ensures found { Reads 0 tokens.now result }
+    ensures found { Reads calls 0 tokens.now result }
     ensures shorter { IfOk result (λ r. IfSome r (λ p. length p.1.now < length tokens.now)) }
 {
     let at = start_of(tokens);
-    let Some((first, after)) = parallel(alloc, tokens)? else {
+    let Some((first, after)) = parallel(alloc, tokens, calls)? else {
         return Ok(None);
     };
     let mut left = first;
     let mut rest = after;
     while let Some(behind) = after_sign(rest, sign::SEMICOLON) {
-        let Some((right, after)) = parallel(alloc, behind)? else {
+        let Some((right, after)) = parallel(alloc, behind, calls)? else {
             return Ok(Some((left, rest)));
         };
         left = left.with(alloc, at, Joint::Sequence, right)?;
@@ -47,18 +49,19 @@ pub(crate) fn sequence(
 pub(crate) fn parallel(
     alloc: Global,
     tokens: &[Token],
+    calls: bool,
 ) -> Result<Option<(Statement, &[Token])>, Memory>
-    ensures found { Reads 1 tokens.now result }
+    ensures found { Reads calls 1 tokens.now result }
     ensures shorter { IfOk result (λ r. IfSome r (λ p. length p.1.now < length tokens.now)) }
 {
     let at = start_of(tokens);
-    let Some((first, after)) = atom(alloc, tokens)? else {
+    let Some((first, after)) = atom(alloc, tokens, calls)? else {
         return Ok(None);
     };
     let mut left = first;
     let mut rest = after;
     while let Some(behind) = after_sign(rest, sign::PARALLEL) {
-        let Some((right, after)) = atom(alloc, behind)? else {
+        let Some((right, after)) = atom(alloc, behind, calls)? else {
             return Ok(Some((left, rest)));
         };
         left = left.with(alloc, at, Joint::Parallel, right)?;
@@ -69,18 +72,22 @@ pub(crate) fn parallel(
 
 /// One substitution.
 #[cycle(substitution)]
-fn atom(alloc: Global, tokens: &[Token]) -> Result<Option<(Statement, &[Token])>, Memory>
-    ensures found { Reads 2 tokens.now result }
+fn atom(
+    alloc: Global,
+    tokens: &[Token],
+    calls: bool,
+) -> Result<Option<(Statement, &[Token])>, Memory>
+    ensures found { Reads calls 2 tokens.now result }
     ensures shorter { IfOk result (λ r. IfSome r (λ p. length p.1.now < length tokens.now)) }
 {
     let at = start_of(tokens);
-    let Some((opening, inside)) = opening_of(alloc, tokens)? else {
+    let Some((opening, inside)) = opening_of(alloc, tokens, calls)? else {
         return Ok(None);
     };
     match opening {
         Opening::Closed(statement) => Ok(Some((statement, inside))),
         Opening::Around(block) => {
-            let Some((body, after)) = sequence(alloc, inside)? else {
+            let Some((body, after)) = sequence(alloc, inside, calls)? else {
                 return Ok(None);
             };
             let Some(rest) = after_word(after, word::END) else {
@@ -89,24 +96,24 @@ fn atom(alloc: Global, tokens: &[Token]) -> Result<Option<(Statement, &[Token])>
             Ok(Some((body.around(alloc, at, block)?, rest)))
         }
         Opening::Tested(test, condition) => {
-            let Some((body, after)) = sequence(alloc, inside)? else {
+            let Some((body, after)) = sequence(alloc, inside, calls)? else {
                 return Ok(None);
             };
-            let Some((branches, rest)) = branches(alloc, after, test)? else {
+            let Some((branches, rest)) = branches(alloc, after, test, calls)? else {
                 return Ok(None);
             };
             Ok(Some((body.tested(alloc, at, test, condition, branches)?, rest)))
         }
         Opening::Choice => {
-            let Some((body, after)) = sequence(alloc, inside)? else {
+            let Some((body, after)) = sequence(alloc, inside, calls)? else {
                 return Ok(None);
             };
-            let Some((choices, rest)) = choices(alloc, after)? else {
+            let Some((choices, rest)) = choices(alloc, after, calls)? else {
                 return Ok(None);
             };
             Ok(Some((body.choice(alloc, at, choices)?, rest)))
         }
-        Opening::While(condition) => looped(alloc, tokens, inside, condition),
+        Opening::While(condition) => looped(alloc, tokens, inside, condition, calls),
     }
 }
 
@@ -117,14 +124,15 @@ fn looped<'a>(
     tokens: &'a [Token],
     inside: &'a [Token],
     condition: Term,
+    calls: bool,
 ) -> Result<Option<(Statement, &'a [Token])>, Memory>
-    requires opens { Opens tokens.now (Opening.While condition) inside.now }
+    requires opens { Opens calls tokens.now (Opening.While condition) inside.now }
     requires inside { length inside.now < length tokens.now }
-    ensures found { Reads 2 tokens.now result }
+    ensures found { Reads calls 2 tokens.now result }
     ensures shorter { IfOk result (λ r. IfSome r (λ p. length p.1.now < length tokens.now)) }
 {
     let at = start_of(tokens);
-    let Some((body, after)) = sequence(alloc, inside)? else {
+    let Some((body, after)) = sequence(alloc, inside, calls)? else {
         return Ok(None);
     };
     let Some((invariant, variant, rest)) = loop_end(alloc, after)? else {
@@ -140,8 +148,9 @@ fn branches(
     alloc: Global,
     tokens: &[Token],
     test: Test,
+    calls: bool,
 ) -> Result<Option<(Branches, &[Token])>, Memory>
-    ensures found { ReadsBranches (word_of test) tokens.now result }
+    ensures found { ReadsBranches calls (word_of test) tokens.now result }
     ensures shorter { IfOk result (λ r. IfSome r (λ p. length p.1.now < length tokens.now)) }
 {
     let mut all = Branches::Built(Vec::new(alloc), None, 0);
@@ -150,14 +159,14 @@ fn branches(
         let Some((condition, inside)) = term_before(alloc, behind, word::THEN)? else {
             return Ok(None);
         };
-        let Some((body, after)) = sequence(alloc, inside)? else {
+        let Some((body, after)) = sequence(alloc, inside, calls)? else {
             return Ok(None);
         };
         all = all.and(condition, body)?;
         rest = after;
     }
     if let Some(behind) = after_word(rest, word::ELSE) {
-        let Some((body, after)) = sequence(alloc, behind)? else {
+        let Some((body, after)) = sequence(alloc, behind, calls)? else {
             return Ok(None);
         };
         let Some(rest) = after_word(after, word::END) else {
@@ -173,14 +182,18 @@ fn branches(
 
 /// Further branches of CHOICE, and END.
 #[cycle(substitution)]
-fn choices(alloc: Global, tokens: &[Token]) -> Result<Option<(Choices, &[Token])>, Memory>
-    ensures found { ReadsChoices tokens.now result }
+fn choices(
+    alloc: Global,
+    tokens: &[Token],
+    calls: bool,
+) -> Result<Option<(Choices, &[Token])>, Memory>
+    ensures found { ReadsChoices calls tokens.now result }
     ensures shorter { IfOk result (λ r. IfSome r (λ p. length p.1.now < length tokens.now)) }
 {
     let mut all = Choices::Built(Vec::new(alloc), 0);
     let mut rest = tokens;
     while let Some(behind) = after_word(rest, word::OR_BRANCH) {
-        let Some((body, after)) = sequence(alloc, behind)? else {
+        let Some((body, after)) = sequence(alloc, behind, calls)? else {
             return Ok(None);
         };
         all = all.and(body)?;

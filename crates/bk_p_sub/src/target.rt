@@ -1,6 +1,6 @@
 // Substitutions that begin with the names that they write.
 
-ghost use Rattle.std.specs.Prelude.{◌≡◌, ◌≢◌, ◌<◌, [], ◌∷◌, length, IfOk, IfSome, MatchOption};
+ghost use Rattle.std.specs.Prelude.{false, ◌≡◌, ◌≢◌, ◌<◌, [], ◌∷◌, length, IfOk, IfSome, MatchOption};
 ghost use Rattle.bk_p_expr.specs.Fronts.{Nothing};
 ghost use Rattle.bk_p_sub.specs.Found.{BeginsWithName, Enclosed, FoundEnclosed, Reads};
 
@@ -13,13 +13,13 @@ use bk_ops::sign;
 use bk_raw::RawName;
 use std::alloc::Global;
 
-/// A substitution that writes names.
+/// A substitution that writes names; no call.
 pub(crate) fn target(
     alloc: Global,
     tokens: &[Token],
 ) -> Result<Option<(Statement, &[Token])>, Memory>
     requires { BeginsWithName tokens.now }
-    ensures found { Reads 2 tokens.now result }
+    ensures found { Reads false 2 tokens.now result }
     ensures shorter { IfOk result (λ r. IfSome r (λ p. length p.1.now < length tokens.now)) }
 {
     let at = start_of(tokens);

@@ -1,16 +1,18 @@
 -- Two clauses that are written as the same tokens are the same.
-use Rattle.std.proofs.Common.{◌≡◌, ◌⊎◌, inl, inr, ℕ, ◌-◌, true, false, List, [], ◌∷◌, ◌++◌, None, refl, sym, ◌∙◌, ap, subst, arith, get_or}
+use Rattle.std.proofs.Common.{◌≡◌, ◌⊎◌, inl, inr, ℕ, ◌-◌, true, false, List, [], ◌∷◌, ◌++◌, None, refl, sym, ◌∙◌, ap, subst, arith, get_or, cond}
+use Rattle.std.specs.Prelude.{nat_eq}
 use Rattle.bk_form.specs.declared.token.Token.{Token}
 use Rattle.bk_form.specs.declared.token.TokenKind.{TokenKind}
 use Rattle.bk_form.specs.declared.token.TokenKind.TheVariants.{Sign, Word}
 use Rattle.bk_ops.specs.declared.sign.TheConstants.{EQUAL, SEMICOLON, OUTPUTS, OPEN_PAREN, CLOSE_PAREN, OPEN_BRACE, CLOSE_BRACE}
+use Rattle.bk_ops.specs.declared.word.TheConstants.{IMPORTS}
 use Rattle.bk_raw.specs.Grammar.Pieces.{JustAt, JustSign, ◌⌢◌, Divided}
 use Rattle.bk_raw.specs.Grammar.Spelling.{Declared, Names, Term}
 use Rattle.bk_raw.specs.declared.term.RawName.{RawName}
 use Rattle.bk_raw.proofs.Exact.{one_for_its_tokens}
 use Rattle.bk_raw.specs.Grammar.SubSpelling.{Sub}
 use Rattle.bk_raw.specs.declared.component.ClauseWord.{ClauseWord}
-use Rattle.bk_raw.specs.declared.component.ClauseWord.TheVariants.{Sets, Constants, ConcreteConstants, Properties, Variables, AbstractVariables, ConcreteVariables, Invariant, Assertions, Values, Initialisation, Operations}
+use Rattle.bk_raw.specs.declared.component.ClauseWord.TheVariants.{Sets, Constants, ConcreteConstants, Properties, Variables, AbstractVariables, ConcreteVariables, Invariant, Assertions, Values, Initialisation, Operations, Imports}
 use Rattle.bk_raw.specs.Trees.ComponentTree.{RawOperation, ClauseParts, clause_sets, clause_names, clause_term, clause_terms, clause_values, clause_sub, clause_operations, RawClause, word_number}
 use Rattle.bk_raw.specs.Grammar.ComponentSpelling.{Elements, Set, Value, Outputs, Inputs, Operation, Parts, Clause}
 use Rattle.bk_raw.proofs.Steps.{Piece, stepped, Leads}
@@ -61,7 +63,7 @@ one-value v w ts h k =
 
 -- ---- operations
 abbrev Bodied : RawOperation → Piece
-Bodied o = JustSign EQUAL ⌢ Sub o.body 1
+Bodied o = JustSign EQUAL ⌢ Sub false o.body 1
 
 abbrev Headed : RawOperation → Piece
 Headed o = Declared o.name ⌢ Inputs o.inputs ⌢ Bodied o
@@ -73,7 +75,7 @@ inputs-led x (y ∷ ys) K ts h =
     inr (lead-behind (x ∷ []) OPEN_PAREN ((Names (y ∷ ys) ⌢ JustSign CLOSE_PAREN) ⌢ JustSign EQUAL ⌢ K) ts refl (h.0, h.1, h.2, h.3, regrouped (JustSign OPEN_PAREN) (Names (y ∷ ys) ⌢ JustSign CLOSE_PAREN) (JustSign EQUAL ⌢ K) h.1 h.4))
 
 no-outputs : (o : RawOperation) (y : RawName) (ys : List RawName) (L : Piece) (ts : List Token) → Headed o ts → (Names (y ∷ ys) ⌢ JustSign OUTPUTS ⌢ L) ts → ⊥
-no-outputs o y ys L ts h k = by-cases (inputs-led o.name o.inputs (Sub o.body 1) ts h)
+no-outputs o y ys L ts h k = by-cases (inputs-led o.name o.inputs (Sub false o.body 1) ts h)
   where
     here : lead ts ≡ OUTPUTS
     here = lead-behind (y ∷ ys) OUTPUTS L ts refl k
@@ -94,9 +96,9 @@ equal-paren e = omega (arith, signs-same EQUAL OPEN_PAREN e)
 inputs-cut : (o p : RawOperation) (xs ys : List RawName) (ts : List Token) → (Inputs xs ⌢ Bodied o) ts → (Inputs ys ⌢ Bodied p) ts → (xs ≡ ys) × Both (Bodied o) (Bodied p)
 inputs-cut o p [] [] ts h k = (refl, (ts, absent-then (Bodied o) ts h, absent-then (Bodied p) ts k))
 inputs-cut o p [] (y ∷ ys) ts h k =
-    absurd (equal-paren (same-token (Sign EQUAL) (Sign OPEN_PAREN) (Sub o.body 1) ((Names (y ∷ ys) ⌢ JustSign CLOSE_PAREN) ⌢ Bodied p) ts (absent-then (Bodied o) ts h) (regrouped (JustSign OPEN_PAREN) (Names (y ∷ ys) ⌢ JustSign CLOSE_PAREN) (Bodied p) ts k)).0)
+    absurd (equal-paren (same-token (Sign EQUAL) (Sign OPEN_PAREN) (Sub false o.body 1) ((Names (y ∷ ys) ⌢ JustSign CLOSE_PAREN) ⌢ Bodied p) ts (absent-then (Bodied o) ts h) (regrouped (JustSign OPEN_PAREN) (Names (y ∷ ys) ⌢ JustSign CLOSE_PAREN) (Bodied p) ts k)).0)
 inputs-cut o p (x ∷ xs) [] ts h k =
-    absurd (equal-paren (same-token (Sign EQUAL) (Sign OPEN_PAREN) (Sub p.body 1) ((Names (x ∷ xs) ⌢ JustSign CLOSE_PAREN) ⌢ Bodied o) ts (absent-then (Bodied p) ts k) (regrouped (JustSign OPEN_PAREN) (Names (x ∷ xs) ⌢ JustSign CLOSE_PAREN) (Bodied o) ts h)).0)
+    absurd (equal-paren (same-token (Sign EQUAL) (Sign OPEN_PAREN) (Sub false p.body 1) ((Names (x ∷ xs) ⌢ JustSign CLOSE_PAREN) ⌢ Bodied o) ts (absent-then (Bodied p) ts k) (regrouped (JustSign OPEN_PAREN) (Names (x ∷ xs) ⌢ JustSign CLOSE_PAREN) (Bodied o) ts h)).0)
 inputs-cut o p (x ∷ xs) (y ∷ ys) ts h k =
     let N = Names (x ∷ xs) in
     let M = Names (y ∷ ys) in
@@ -108,8 +110,8 @@ one-operation o p ts h k =
     let a = outputs-cut o p o.outputs p.outputs ts h k in
     let b = names-cut o.name p.name (Inputs o.inputs ⌢ Bodied o) (Inputs p.inputs ⌢ Bodied p) a.1.0 a.1.1 a.1.2 in
     let c = inputs-cut o p o.inputs p.inputs b.1.0 b.1.1 b.1.2 in
-    let d = same-token (Sign EQUAL) (Sign EQUAL) (Sub o.body 1) (Sub p.body 1) c.1.0 c.1.1 c.1.2 in
-    let e = one-sub o.body 1 p.body d.1.0 d.1.1 d.1.2 in
+    let d = same-token (Sign EQUAL) (Sign EQUAL) (Sub false o.body 1) (Sub false p.body 1) c.1.0 c.1.1 c.1.2 in
+    let e = one-sub false o.body 1 p.body d.1.0 d.1.1 d.1.2 in
     λ i. record { outputs = a.0 i; name = b.0 i; inputs = c.0 i; body = e i }
 
 -- ---- clauses
@@ -137,15 +139,17 @@ one-parts Assertions (clause_terms us) (clause_terms vs) ts h k = ap clause_term
 one-parts Assertions (clause_terms us) _ ts h k = absurd k
 one-parts Values (clause_values vs) (clause_values ws) ts h k = ap clause_values (many Value value-leads one-value vs ws ts h k)
 one-parts Values (clause_values vs) _ ts h k = absurd k
-one-parts Initialisation (clause_sub s) (clause_sub t) ts h k = ap clause_sub (one-sub s 0 t ts h k)
+one-parts Initialisation (clause_sub s) (clause_sub t) ts h k = ap clause_sub (one-sub false s 0 t ts h k)
 one-parts Initialisation (clause_sub s) _ ts h k = absurd k
 one-parts Operations (clause_operations os) (clause_operations ps) ts h k = ap clause_operations (many Operation operation-leads one-operation os ps ts h k)
 one-parts Operations (clause_operations os) _ ts h k = absurd k
+one-parts Imports (clause_names xs) (clause_names ys) ts h k = ap clause_names (one-names xs ys ts h k)
+one-parts Imports (clause_names xs) _ ts h k = absurd k
 one-parts _ _ _ ts h k = absurd h
 
 -- ---- words
 abbrev word_back : ℕ → ClauseWord
-word_back n = get_or clause_words (n - 61) Sets
+word_back n = cond (nat_eq n IMPORTS) Imports (get_or clause_words (n - 61) Sets)
 
 word-again : (w : ClauseWord) → word_back (word_number w) ≡ w
 word-again Sets = refl

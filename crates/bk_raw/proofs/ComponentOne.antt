@@ -1,6 +1,5 @@
 -- Two components that are written as the same tokens are the same.
 use Rattle.std.proofs.Common.{◌≡◌, ℕ, true, List, [], ◌∷◌, Option, Some, None, refl, sym, ◌∙◌, ap, subst, get_or, ◌-◌}
-use Rattle.std.specs.Prelude.{nat_lt}
 use Rattle.bk_form.specs.declared.token.Token.{Token}
 use Rattle.bk_form.specs.declared.token.TokenKind.TheVariants.{Word}
 use Rattle.bk_ops.specs.declared.word.TheConstants.{REFINES, END}
@@ -17,6 +16,7 @@ use Rattle.bk_raw.proofs.Runs.{Halts}
 use Rattle.bk_raw.proofs.Steps.{Piece, step, stepped}
 use Rattle.bk_raw.proofs.Patterns.{Both, same-token, StopsAt, last, first}
 use Rattle.bk_raw.proofs.SubOne.{names-cut, words-same}
+use Rattle.bk_raw.proofs.TermRuns.{begins_clause}
 use Rattle.bk_raw.proofs.Lists.{absent-then}
 use Rattle.bk_raw.proofs.ClauseRuns.{ends_clause}
 use Rattle.bk_raw.proofs.ClauseOne.{FirstAt, first-at, same-at, clause-cut}
@@ -39,12 +39,12 @@ word-halts : (w : ClauseWord) → stepped ends_clause 0 true (Word (word_number 
 word-halts Sets = refl
 word-halts _ = refl
 
-word-low : (w : ClauseWord) → nat_lt (word_number w) END ≡ true
+word-low : (w : ClauseWord) → begins_clause (word_number w) ≡ true
 word-low Sets = refl
 word-low _ = refl
 
-no-end : (n : ℕ) → n ≡ END → nat_lt n END ≡ true → ⊥
-no-end n e h = let f : nat_lt END END ≡ true = subst (λ m. nat_lt m END ≡ true) e h in cc
+no-end : (n : ℕ) → n ≡ END → begins_clause n ≡ true → ⊥
+no-end n e h = let f : begins_clause END ≡ true = subst (λ m. begins_clause m ≡ true) e h in cc
 
 pub word-end : (w : ClauseWord) → Word (word_number w) ≡ Word END → ⊥
 word-end w e = no-end (word_number w) (words-same (word_number w) END e) (word-low w)

@@ -9,9 +9,9 @@ use Rattle.bk_form.specs.Formula.{Formula, binary}
 use Rattle.bk_form.specs.Role.{same_type}
 use Rattle.bk_form.specs.declared.operator.BinOp.TheVariants.{Eq, Sub, Comp}
 use Rattle.bk_raw.specs.declared.operator.InfixOp.{InfixOp}
-use Rattle.bk_raw.specs.declared.operator.InfixOp.TheVariants.{Equivalent, Implies, And, Or, Equal, NotEqual, Less, AtMost, Greater, AtLeast, Member, NotMember, Subset, NotSubset, StrictSubset, Relations, PartialFunctions, TotalFunctions, PartialInjections, TotalInjections, PartialSurjections, TotalSurjections, Bijections, Union, Intersection, DomainRestriction, RangeRestriction, DomainSubtraction, RangeSubtraction, Override, Maplet, Interval, Plus, Minus, Times, Divide, Mod, Power}
+use Rattle.bk_raw.specs.declared.operator.InfixOp.TheVariants.{Equivalent, Implies, And, Or, Equal, NotEqual, Less, AtMost, Greater, AtLeast, Member, NotMember, Subset, NotSubset, StrictSubset, Relations, PartialFunctions, TotalFunctions, PartialInjections, TotalInjections, PartialSurjections, TotalSurjections, Bijections, Union, Intersection, DomainRestriction, RangeRestriction, DomainSubtraction, RangeSubtraction, Override, Maplet, Interval, Plus, Minus, Times, Divide, Mod, Power, Concatenation, Prepend, Append}
 use Rattle.bk_raw.specs.declared.operator.WordOp.{WordOp}
-use Rattle.bk_raw.specs.declared.operator.WordOp.TheVariants.{Not, BoolOf, Card, Min, Max, Dom, Ran, Id, Succ, Pred, Pow, Pow1, Fin, Fin1}
+use Rattle.bk_raw.specs.declared.operator.WordOp.TheVariants.{Not, BoolOf, Card, Min, Max, Dom, Ran, Id, Succ, Pred, Pow, Pow1, Fin, Fin1, Seq, Size, First, Last, Front, Tail, Rev}
 use Rattle.bk_raw.specs.declared.operator.Constant.{Constant}
 use Rattle.bk_raw.specs.declared.operator.Constant.TheVariants.{Bool as BoolWord}
 use Rattle.bk_raw.specs.declared.term.RawName.{RawName}
@@ -204,6 +204,13 @@ word-eights Pow at x a = ask_domain-eights x a
 word-eights Pow1 at x a = ask_domain-eights x a
 word-eights Fin at x a = ask_domain-eights x a
 word-eights Fin1 at x a = ask_domain-eights x a
+word-eights Seq at x a = refl
+word-eights Size at x a = refl
+word-eights First at x a = refl
+word-eights Last at x a = refl
+word-eights Front at x a = refl
+word-eights Tail at x a = refl
+word-eights Rev at x a = refl
 
 numbers-eights : (x y : ℕ) (a b : Outcome) → Eights ((ask x a int_type).faults ++ (ask y b int_type).faults)
 numbers-eights x y a b = eights-append (ask x a int_type).faults (ask y b int_type).faults (ask-eights x a int_type) (ask-eights y b int_type)
@@ -253,6 +260,9 @@ infix-eights Times at x y a b = times-eights at x y a b
 infix-eights Divide at x y a b = numbers-eights x y a b
 infix-eights Mod at x y a b = numbers-eights x y a b
 infix-eights Power at x y a b = numbers-eights x y a b
+infix-eights Concatenation at x y a b = refl
+infix-eights Prepend at x y a b = refl
+infix-eights Append at x y a b = refl
 
 image-eights : (x y : ℕ) (a b : Outcome) → Eights (image_reading x y a b).faults
 image-eights x y a b = depending-eights _ _ (ask_relation x a).faults (ask_relation x a).answer y b (ask_relation-eights x a)
@@ -590,7 +600,7 @@ module _ (max : ℤ) where
     node-form (raw_constant c) at ns v h vis = ap but_types (constant-eights max at c)
     node-form (raw_word o a) at ns v h vis =
         let r = part (takes_predicate o) a (reading max ns a) in
-        one-form (word_reading o at (place_of a)) r (part_faults (takes_predicate o) a (form_faults v a)) (part-form (takes_predicate o) a (reading max ns a) (form_faults v a) (form-right a ns v h vis)) (word-eights o at (place_of a) r.outcome)
+        one-form (word_reading o at (place_of a)) r (part_faults (takes_predicate o) a (form_faults v a)) (part-form (takes_predicate o) a (reading max ns a) (form_faults v a) (form-right a ns v h.0 vis)) (word-eights o at (place_of a) r.outcome)
     node-form (raw_negative a) at ns v h vis =
         let r = part false a (reading max ns a) in
         one-form (negative_reading (place_of a)) r (part_faults false a (form_faults v a)) (part-form false a (reading max ns a) (form_faults v a) (form-right a ns v h vis)) (ask-eights (place_of a) r.outcome int_type)

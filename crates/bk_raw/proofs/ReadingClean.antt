@@ -7,9 +7,9 @@ use Rattle.bk_form.specs.Role.{same_type, tuple_type}
 use Rattle.bk_form.specs.declared.operator.BinOp.{BinOp}
 use Rattle.bk_form.specs.declared.operator.BinOp.TheVariants.{And as Conjunction, Eq, In, Sub, Mul, Comp}
 use Rattle.bk_raw.specs.declared.operator.InfixOp.{InfixOp}
-use Rattle.bk_raw.specs.declared.operator.InfixOp.TheVariants.{Equivalent, Implies, And, Or, Equal, NotEqual, Less, AtMost, Greater, AtLeast, Member, NotMember, Subset, NotSubset, StrictSubset, Relations, PartialFunctions, TotalFunctions, PartialInjections, TotalInjections, PartialSurjections, TotalSurjections, Bijections, Union, Intersection, DomainRestriction, RangeRestriction, DomainSubtraction, RangeSubtraction, Override, Maplet, Interval, Plus, Minus, Times, Divide, Mod, Power}
+use Rattle.bk_raw.specs.declared.operator.InfixOp.TheVariants.{Equivalent, Implies, And, Or, Equal, NotEqual, Less, AtMost, Greater, AtLeast, Member, NotMember, Subset, NotSubset, StrictSubset, Relations, PartialFunctions, TotalFunctions, PartialInjections, TotalInjections, PartialSurjections, TotalSurjections, Bijections, Union, Intersection, DomainRestriction, RangeRestriction, DomainSubtraction, RangeSubtraction, Override, Maplet, Interval, Plus, Minus, Times, Divide, Mod, Power, Concatenation, Prepend, Append}
 use Rattle.bk_raw.specs.declared.operator.WordOp.{WordOp}
-use Rattle.bk_raw.specs.declared.operator.WordOp.TheVariants.{Not, BoolOf, Card, Min, Max, Dom, Ran, Id, Succ, Pred, Pow, Pow1, Fin, Fin1}
+use Rattle.bk_raw.specs.declared.operator.WordOp.TheVariants.{Not, BoolOf, Card, Min, Max, Dom, Ran, Id, Succ, Pred, Pow, Pow1, Fin, Fin1, Seq, Size, First, Last, Front, Tail, Rev}
 use Rattle.bk_raw.specs.declared.operator.Constant.{Constant}
 use Rattle.bk_raw.specs.declared.operator.Constant.TheVariants.{Bool as BoolWord}
 use Rattle.bk_raw.specs.Trees.RawTree.{RawTree, raw, RawTreeNode, raw_name, raw_level_name, raw_bound_name, raw_number, raw_constant, raw_word, raw_negative, raw_infix, raw_inverse, raw_image, raw_apply, raw_composition, raw_pair, raw_empty_set, raw_extension, raw_comprehension, raw_lambda, raw_for_all, raw_exists, raw_typed_empty, raw_typed_for_all, raw_typed_exists, raw_ranged_comprehension, raw_ranged_lambda, RawTrees, no_trees, tree_and}
@@ -154,6 +154,13 @@ word-clean Pow at x a = one-clean _ (ask_domain x a) a (ask_domain-fair x a)
 word-clean Pow1 at x a = one-clean _ (ask_domain x a) a (ask_domain-fair x a)
 word-clean Fin at x a = one-clean _ (ask_domain x a) a (ask_domain-fair x a)
 word-clean Fin1 at x a = one-clean _ (ask_domain x a) a (ask_domain-fair x a)
+word-clean Seq at x a = λ h. absurd h
+word-clean Size at x a = λ h. absurd h
+word-clean First at x a = λ h. absurd h
+word-clean Last at x a = λ h. absurd h
+word-clean Front at x a = λ h. absurd h
+word-clean Tail at x a = λ h. absurd h
+word-clean Rev at x a = λ h. absurd h
 
 pub connected-clean : (o : BinOp) (a b : Outcome) → Sound (connected o a b) (IsTold a × IsTold b)
 connected-clean o a b = both-clean _ (ask_predicate a) (ask_predicate b) a b (ask_predicate-fair a) (ask_predicate-fair b)
@@ -233,6 +240,9 @@ infix-clean Times at x y a b = times-clean at x y a b
 infix-clean Divide at x y a b = calculated-clean _ _ x y a b
 infix-clean Mod at x y a b = calculated-clean _ _ x y a b
 infix-clean Power at x y a b = calculated-clean _ _ x y a b
+infix-clean Concatenation at x y a b = λ h. absurd h
+infix-clean Prepend at x y a b = λ h. absurd h
+infix-clean Append at x y a b = λ h. absurd h
 
 pub single-clean : (a : Outcome) → Sound (single_reading a) (IsTold a)
 single-clean (partial p) h = (refl, tt)

@@ -10,9 +10,9 @@ use Rattle.bk_form.specs.declared.operator.BinOp.{BinOp}
 use Rattle.bk_form.specs.declared.operator.BinOp.TheVariants.{And as Conjunction, Eq, In, Times as Product, Range, Sub, Mul, Maps, Comp}
 use Rattle.bk_form.specs.declared.operator.Domain.TheVariants.{Integer as WholeNumbers, Natural as NaturalNumbers, Natural1 as PositiveNumbers, Bool as Booleans, Enum}
 use Rattle.bk_raw.specs.declared.operator.InfixOp.{InfixOp}
-use Rattle.bk_raw.specs.declared.operator.InfixOp.TheVariants.{Equivalent, Implies, And, Or, Equal, NotEqual, Less, AtMost, Greater, AtLeast, Member, NotMember, Subset, NotSubset, StrictSubset, Relations, PartialFunctions, TotalFunctions, PartialInjections, TotalInjections, PartialSurjections, TotalSurjections, Bijections, Union, Intersection, DomainRestriction, RangeRestriction, DomainSubtraction, RangeSubtraction, Override, Maplet, Interval, Plus, Minus, Times, Divide, Mod, Power}
+use Rattle.bk_raw.specs.declared.operator.InfixOp.TheVariants.{Equivalent, Implies, And, Or, Equal, NotEqual, Less, AtMost, Greater, AtLeast, Member, NotMember, Subset, NotSubset, StrictSubset, Relations, PartialFunctions, TotalFunctions, PartialInjections, TotalInjections, PartialSurjections, TotalSurjections, Bijections, Union, Intersection, DomainRestriction, RangeRestriction, DomainSubtraction, RangeSubtraction, Override, Maplet, Interval, Plus, Minus, Times, Divide, Mod, Power, Concatenation, Prepend, Append}
 use Rattle.bk_raw.specs.declared.operator.WordOp.{WordOp}
-use Rattle.bk_raw.specs.declared.operator.WordOp.TheVariants.{Not, BoolOf, Card, Min, Max, Dom, Ran, Id, Succ, Pred, Pow, Pow1, Fin, Fin1}
+use Rattle.bk_raw.specs.declared.operator.WordOp.TheVariants.{Not, BoolOf, Card, Min, Max, Dom, Ran, Id, Succ, Pred, Pow, Pow1, Fin, Fin1, Seq, Size, First as FirstWord, Last, Front, Tail, Rev}
 use Rattle.bk_raw.specs.declared.operator.Constant.{Constant}
 use Rattle.bk_raw.specs.declared.operator.Constant.TheVariants.{Bool as BoolWord, True, False, Integer, Natural, Natural1, Int, Nat, Nat1, MaxInt, MinInt, Btrue, Bfalse}
 use Rattle.bk_raw.specs.Meaning.Names.{Names, Meaning, local, global, set_name, element_name, nothing, Sight, seen, sight, behind, found}
@@ -167,6 +167,13 @@ module _ (P : Formula → Type 0) (b : Builds P) where
   word-has Pow1 at x a r = one-has First _ (ask_domain x a) (λ s h. b.unaries _ s.0 h) (ask_domain-has x a r)
   word-has Fin at x a r = one-has First _ (ask_domain x a) (λ s h. b.unaries _ s.0 h) (ask_domain-has x a r)
   word-has Fin1 at x a r = one-has First _ (ask_domain x a) (λ s h. b.unaries _ s.0 h) (ask_domain-has x a r)
+  word-has Seq at x a r = tt
+  word-has Size at x a r = tt
+  word-has FirstWord at x a r = tt
+  word-has Last at x a r = tt
+  word-has Front at x a r = tt
+  word-has Tail at x a r = tt
+  word-has Rev at x a r = tt
 
   pub negative-has : (x : ℕ) (a : Outcome) → Has a → Has (negative_reading x a).outcome
   negative-has x a r = one-has P _ (ask x a int_type) (λ s h. b.unaries _ s h) (ask-has x a int_type r)
@@ -326,6 +333,9 @@ module _ (P : Formula → Type 0) (b : Builds P) where
   infix-has Divide at x y a c r s = calculated-has _ _ x y a c r s
   infix-has Mod at x y a c r s = calculated-has _ _ x y a c r s
   infix-has Power at x y a c r s = calculated-has _ _ x y a c r s
+  infix-has Concatenation at x y a c r s = tt
+  infix-has Prepend at x y a c r s = tt
+  infix-has Append at x y a c r s = tt
 
   singled-has : (p : Partial) → PartialHas P p → PartialHas P (singled p)
   singled-has (whole f t) h = b.unaries Single f h

@@ -7,9 +7,9 @@ use Rattle.bk_form.specs.Role.{same_type}
 use Rattle.bk_form.specs.declared.operator.BinOp.{BinOp}
 use Rattle.bk_form.specs.declared.operator.BinOp.TheVariants.{In, Sub, Mul, Comp}
 use Rattle.bk_raw.specs.declared.operator.InfixOp.{InfixOp}
-use Rattle.bk_raw.specs.declared.operator.InfixOp.TheVariants.{Equivalent, Implies, And, Or, Equal, NotEqual, Less, AtMost, Greater, AtLeast, Member, NotMember, Subset, NotSubset, StrictSubset, Relations, PartialFunctions, TotalFunctions, PartialInjections, TotalInjections, PartialSurjections, TotalSurjections, Bijections, Union, Intersection, DomainRestriction, RangeRestriction, DomainSubtraction, RangeSubtraction, Override, Maplet, Interval, Plus, Minus, Times, Divide, Mod, Power}
+use Rattle.bk_raw.specs.declared.operator.InfixOp.TheVariants.{Equivalent, Implies, And, Or, Equal, NotEqual, Less, AtMost, Greater, AtLeast, Member, NotMember, Subset, NotSubset, StrictSubset, Relations, PartialFunctions, TotalFunctions, PartialInjections, TotalInjections, PartialSurjections, TotalSurjections, Bijections, Union, Intersection, DomainRestriction, RangeRestriction, DomainSubtraction, RangeSubtraction, Override, Maplet, Interval, Plus, Minus, Times, Divide, Mod, Power, Concatenation, Prepend, Append}
 use Rattle.bk_raw.specs.declared.operator.WordOp.{WordOp}
-use Rattle.bk_raw.specs.declared.operator.WordOp.TheVariants.{Not, BoolOf, Card, Min, Max, Dom, Ran, Id, Succ, Pred, Pow, Pow1, Fin, Fin1}
+use Rattle.bk_raw.specs.declared.operator.WordOp.TheVariants.{Not, BoolOf, Card, Min, Max, Dom, Ran, Id, Succ, Pred, Pow, Pow1, Fin, Fin1, Seq, Size, First, Last, Front, Tail, Rev}
 use Rattle.bk_raw.specs.declared.operator.Constant.{Constant}
 use Rattle.bk_raw.specs.declared.operator.Constant.TheVariants.{Btrue, Bfalse}
 use Rattle.bk_raw.specs.Meaning.Outcome.{Joint, union_joint, inter_joint, minus_joint, over_joint, joins, Partial, whole, hollow, single_of, pair_of, joint_of, filled, whole_of, Outcome, partial, ranging, holding, silent, Reading, silently, plainly, giving, no_type, Asked, fitting, ask, ask_value, ask_set, ask_relation, ask_domain, ask_predicate, unvalued, of_answer, of_one, of_answers, of_both}
@@ -223,6 +223,13 @@ word-fits Pow at x a f = one-fits false _ (ask_domain x a) (λ p. tt) (ask_domai
 word-fits Pow1 at x a f = one-fits false _ (ask_domain x a) (λ p. tt) (ask_domain-answers x a f)
 word-fits Fin at x a f = one-fits false _ (ask_domain x a) (λ p. tt) (ask_domain-answers x a f)
 word-fits Fin1 at x a f = one-fits false _ (ask_domain x a) (λ p. tt) (ask_domain-answers x a f)
+word-fits Seq at x a f = λ h. some-fault (without_type at) [] h
+word-fits Size at x a f = λ h. some-fault (without_type at) [] h
+word-fits First at x a f = λ h. some-fault (without_type at) [] h
+word-fits Last at x a f = λ h. some-fault (without_type at) [] h
+word-fits Front at x a f = λ h. some-fault (without_type at) [] h
+word-fits Tail at x a f = λ h. some-fault (without_type at) [] h
+word-fits Rev at x a f = λ h. some-fault (without_type at) [] h
 
 pub negative-fits : (x : ℕ) (a : Outcome) → Fits false a → Speaks false (negative_reading x a)
 negative-fits x a f = one-fits false _ (ask x a int_type) (λ p. tt) (ask-answers x a int_type f)
@@ -305,6 +312,9 @@ infix-fits Times at x y a b f g = times-fits at x y a b f g
 infix-fits Divide at x y a b f g = calculated-fits _ _ x y a b f g
 infix-fits Mod at x y a b f g = calculated-fits _ _ x y a b f g
 infix-fits Power at x y a b f g = calculated-fits _ _ x y a b f g
+infix-fits Concatenation at x y a b f g = λ h. some-fault (without_type at) [] h
+infix-fits Prepend at x y a b f g = λ h. some-fault (without_type at) [] h
+infix-fits Append at x y a b f g = λ h. some-fault (without_type at) [] h
 
 pub single-fits : (a : Outcome) → Fits false a → Speaks false (single_reading a)
 single-fits (partial p) f e = tt

@@ -9,9 +9,9 @@ use Rattle.bk_form.specs.declared.operator.UnOp.TheVariants.{Not as Negation, Bo
 use Rattle.bk_form.specs.declared.operator.BinOp.{BinOp}
 use Rattle.bk_form.specs.declared.operator.BinOp.TheVariants.{And as Conjunction, Or as Disjunction, Imp, Iff, Eq, Lt, Le, In, Times as Product, DomRes, RanRes, DomSub, RanSub, Range, Add, Sub, Mul, Div, Mod as Remainder, Power as PowerTo, Image as ImageOf, Apply as ApplyTo, Comp, Relations as RelationsOf, PartialFunctions as PartialOf, TotalFunctions as TotalOf, PartialInjections as PartialInjectionsOf, TotalInjections as TotalInjectionsOf, PartialSurjections as PartialSurjectionsOf, TotalSurjections as TotalSurjectionsOf, Bijections as BijectionsOf}
 use Rattle.bk_raw.specs.declared.operator.InfixOp.{InfixOp}
-use Rattle.bk_raw.specs.declared.operator.InfixOp.TheVariants.{Equivalent, Implies, And, Or, Equal, NotEqual, Less, AtMost, Greater, AtLeast, Member, NotMember, Subset, NotSubset, StrictSubset, Relations, PartialFunctions, TotalFunctions, PartialInjections, TotalInjections, PartialSurjections, TotalSurjections, Bijections, Union, Intersection, DomainRestriction, RangeRestriction, DomainSubtraction, RangeSubtraction, Override, Maplet, Interval, Plus, Minus, Times, Divide, Mod, Power}
+use Rattle.bk_raw.specs.declared.operator.InfixOp.TheVariants.{Equivalent, Implies, And, Or, Equal, NotEqual, Less, AtMost, Greater, AtLeast, Member, NotMember, Subset, NotSubset, StrictSubset, Relations, PartialFunctions, TotalFunctions, PartialInjections, TotalInjections, PartialSurjections, TotalSurjections, Bijections, Union, Intersection, DomainRestriction, RangeRestriction, DomainSubtraction, RangeSubtraction, Override, Maplet, Interval, Plus, Minus, Times, Divide, Mod, Power, Concatenation, Prepend, Append}
 use Rattle.bk_raw.specs.declared.operator.WordOp.{WordOp}
-use Rattle.bk_raw.specs.declared.operator.WordOp.TheVariants.{Not, BoolOf, Card, Min, Max, Dom, Ran, Id, Succ, Pred, Pow, Pow1, Fin, Fin1}
+use Rattle.bk_raw.specs.declared.operator.WordOp.TheVariants.{Not, BoolOf, Card, Min, Max, Dom, Ran, Id, Succ, Pred, Pow, Pow1, Fin, Fin1, Seq, Size, First, Last, Front, Tail, Rev}
 use Rattle.bk_raw.specs.declared.operator.Constant.{Constant}
 use Rattle.bk_raw.specs.declared.operator.Constant.TheVariants.{Bool as BoolWord, True, False, Integer, Natural, Natural1, Int, Nat, Nat1, MaxInt, MinInt, Btrue, Bfalse}
 use Rattle.bk_form.proofs.Roles.{same_type-then}
@@ -72,6 +72,13 @@ module _ (table : Table) (around : List ValueType) where
   word-right Pow1 at x a r = of_one-right table around (IsDomain table around) (domain_made at Power1Of) (ask_domain x a) (power1-right at) (ask_domain-right table around x a r)
   word-right Fin at x a r = of_one-right table around (IsDomain table around) (domain_made at PowerOf) (ask_domain x a) (power-right at) (ask_domain-right table around x a r)
   word-right Fin1 at x a r = of_one-right table around (IsDomain table around) (domain_made at Power1Of) (ask_domain x a) (power1-right at) (ask_domain-right table around x a r)
+  word-right Seq at x a r = tt
+  word-right Size at x a r = tt
+  word-right First at x a r = tt
+  word-right Last at x a r = tt
+  word-right Front at x a r = tt
+  word-right Tail at x a r = tt
+  word-right Rev at x a r = tt
 
   pub negative-right : (x : ℕ) (a : Outcome) → Right table around a → Right table around (negative_reading x a).outcome
   negative-right x a r = of_one-right table around (Gave int_type) (λ f. partial (whole (unary Neg f) int_type)) (ask x a int_type) (λ s h. (rw h refl, refl)) (ask-right table around x a int_type r refl)
@@ -277,6 +284,9 @@ module _ (table : Table) (around : List ValueType) where
   infix-right Divide at x y a b r s = calculated-right Div int_type x y a b (λ v w. refl) refl r s
   infix-right Mod at x y a b r s = calculated-right Remainder int_type x y a b (λ v w. refl) refl r s
   infix-right Power at x y a b r s = calculated-right PowerTo int_type x y a b (λ v w. refl) refl r s
+  infix-right Concatenation at x y a b r s = tt
+  infix-right Prepend at x y a b r s = tt
+  infix-right Append at x y a b r s = tt
 
   singled-right : (p : Partial) → IsRightPartial table around p → IsRightPartial table around (singled p)
   singled-right (whole f t) h = (rw h.0 refl, h.1)

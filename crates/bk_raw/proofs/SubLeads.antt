@@ -50,3 +50,7 @@ lead-names (x ∷ y ∷ ys) us rest h =
 
 pub lead-behind : (xs : List RawName) (op : ℕ) (K : Piece) (ts : List Token) → nat_eq op COMMA ≡ false → (Names xs ⌢ JustSign op ⌢ K) ts → lead ts ≡ op
 lead-behind xs op K ts e h = ap lead h.2 ∙ lead-names xs h.0 h.1 h.3 ∙ lead-sign op K h.1 e h.4
+
+-- nothing but names
+pub lead-alone : (x : RawName) (ts : List Token) → Declared x ts → lead ts ≡ 0
+lead-alone x ts h = ap lead h.1 ∙ ap (λ k. lead_by k 0) h.2

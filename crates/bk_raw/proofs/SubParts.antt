@@ -8,7 +8,7 @@ use Rattle.bk_raw.specs.Grammar.Pieces.{Never, ◌⌢◌}
 use Rattle.bk_raw.specs.Grammar.Spelling.{Declared, Names, Term, Terms}
 use Rattle.bk_raw.specs.Trees.RawTree.{RawTree, RawTrees}
 use Rattle.bk_raw.specs.declared.term.RawName.{RawName}
-use Rattle.bk_raw.specs.Trees.SubTree.{SubTree, SubNode, sub_skip, sub_assign, sub_assign_at, sub_member, sub_such, sub_begin, sub_pre, sub_assert, sub_if, sub_choice, sub_select, sub_any, sub_let, sub_var, sub_while, sub_parallel, sub_sequence, Branches, Choices}
+use Rattle.bk_raw.specs.Trees.SubTree.{SubTree, SubNode, sub_skip, sub_assign, sub_assign_at, sub_member, sub_such, sub_call, sub_begin, sub_pre, sub_assert, sub_if, sub_choice, sub_select, sub_any, sub_let, sub_var, sub_while, sub_parallel, sub_sequence, Branches, Choices}
 use Rattle.bk_raw.specs.Grammar.SubSpelling.{Sub, Branched, Chosen}
 use Rattle.bk_raw.proofs.Steps.{Piece, Stopper, nothing, Fewer}
 use Rattle.bk_raw.proofs.TermRuns.{ends_word, ends_term, ends_terms, ends_names, or-left}
@@ -70,15 +70,16 @@ abbrev pub branch_word : Bool → ℕ
 branch_word true = ELSIF
 branch_word false = WHEN
 
-abbrev pub Written : SubPartKind → Part → Piece
-Written is_name (of_name x) = Declared x
-Written is_names (of_names xs) = Names xs
-Written is_term (of_term t) = Term t 0
-Written is_terms (of_terms ts) = Terms ts
-Written is_sub (of_sub s) = Sub s 0
-Written (is_branches elsif) (of_branches s bs) = Sub s 0 ⌢ Branched (branch_word elsif) bs
-Written is_choices (of_choices s cs) = Sub s 0 ⌢ Chosen cs
-Written _ _ = Never
+-- where operations are called if `calls` says so
+abbrev pub Written : (calls : Bool) → SubPartKind → Part → Piece
+Written calls is_name (of_name x) = Declared x
+Written calls is_names (of_names xs) = Names xs
+Written calls is_term (of_term t) = Term t 0
+Written calls is_terms (of_terms ts) = Terms ts
+Written calls is_sub (of_sub s) = Sub calls s 0
+Written calls (is_branches elsif) (of_branches s bs) = Sub calls s 0 ⌢ Branched calls (branch_word elsif) bs
+Written calls is_choices (of_choices s cs) = Sub calls s 0 ⌢ Chosen calls cs
+Written calls _ _ = Never
 
 -- where each is cut
 abbrev pub own : SubPartKind → Stopper
@@ -128,12 +129,14 @@ shape_at n =
     (cond (nat_eq n VAR) (word_and VAR (part_and is_names (word_and IN (ended is_sub))))
     (word_and WHILE (part_and is_term (word_and DO (part_and is_sub (word_and INVARIANT (part_and is_term (word_and VARIANT (ended is_term)))))))))))))))))))))
 
+-- a call has no shape here: it is told from other atoms by hand
 abbrev pub tag : SubNode → ℕ
 tag sub_skip = SKIP
 tag (sub_assign xs ts) = ASSIGN
 tag (sub_assign_at f x e) = OPEN_PAREN
 tag (sub_member x e) = BECOMES_MEMBER
 tag (sub_such xs p) = MEMBER
+tag (sub_call xs o ts) = 0
 tag (sub_begin s) = BEGIN
 tag (sub_pre p s) = PRE
 tag (sub_assert p s) = ASSERT
@@ -153,6 +156,7 @@ parts (sub_assign xs ts) = of_names xs ∷ of_terms ts ∷ []
 parts (sub_assign_at f x e) = of_name f ∷ of_term x ∷ of_term e ∷ []
 parts (sub_member x e) = of_name x ∷ of_term e ∷ []
 parts (sub_such xs p) = of_names xs ∷ of_term p ∷ []
+parts (sub_call xs o ts) = []
 parts (sub_begin s) = of_sub s ∷ []
 parts (sub_pre p s) = of_term p ∷ of_sub s ∷ []
 parts (sub_assert p s) = of_term p ∷ of_sub s ∷ []

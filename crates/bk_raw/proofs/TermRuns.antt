@@ -4,7 +4,7 @@ use Rattle.std.specs.Prelude.{nat_eq, nat_lt, ◌||◌, pos, not}
 use Rattle.bk_form.specs.declared.token.TokenKind.{TokenKind}
 use Rattle.bk_form.specs.declared.token.TokenKind.TheVariants.{Name, LevelName, BoundName, Number, Sign, Word}
 use Rattle.bk_ops.specs.declared.sign.TheConstants.{FOR_ALL, EXISTS, MEMBER, MINUS, TIMES, INVERSE, SEMICOLON, COMMA, DOT, BAR, LAMBDA, PARALLEL, ASSIGN, BECOMES_MEMBER, OUTPUTS, OPEN_PAREN, CLOSE_PAREN, OPEN_BRACKET, CLOSE_BRACKET, OPEN_BRACE, CLOSE_BRACE}
-use Rattle.bk_ops.specs.declared.word.TheConstants.{BOOL, INTEGER, POW, END, THEN, ELSIF, ELSE, WHEN, OR_BRANCH, WHERE, BE, IN, DO, VARIANT}
+use Rattle.bk_ops.specs.declared.word.TheConstants.{BOOL, INTEGER, POW, END, IMPORTS, THEN, ELSIF, ELSE, WHEN, OR_BRANCH, WHERE, BE, IN, DO, VARIANT}
 use Rattle.bk_raw.specs.Grammar.Pieces.{Just, JustAt, JustSign, ◌⌢◌, InParentheses, InBrackets, InBraces, WithParentheses, Starting, Binding, Placed, Digits, Literal, NoDigits}
 use Rattle.bk_raw.specs.Trees.Operators.{infix_kind, word_kind, constant_kind, binding}
 use Rattle.bk_raw.specs.Trees.WrittenType.{WrittenType, written_integer, written_bool, written_set, written_power, written_product}
@@ -20,9 +20,13 @@ use Rattle.bk_raw.specs.Trees.RawTree.{RawTree, raw, RawTreeNode, raw_name, raw_
 use Rattle.bk_raw.specs.Grammar.Spelling.{Declared, Names, Alone, Binder, Typed, TypedBound, TypedBounds, Term, Listed, Sequenced, Bare, Commas, Semicolons, Terms, Ranges}
 use Rattle.bk_raw.proofs.Steps.{Piece, State, Stopper, stepped, nothing, Leads, leads-join, leads-just, leads-at, leads-never, leads-fewer, Fewer, fewer-nothing, leads-in}
 
+-- a word that begins a component or a clause, or REFINES
+abbrev pub begins_clause : ℕ → Bool
+begins_clause op = nat_lt op END || nat_eq op IMPORTS
+
 -- a word of a clause, or one that divides a block
 abbrev pub ends_word : ℕ → Bool
-ends_word op = nat_lt op END || (nat_eq op THEN || nat_eq op ELSIF || nat_eq op ELSE || nat_eq op WHEN || nat_eq op OR_BRANCH || nat_eq op WHERE || nat_eq op BE || nat_eq op IN || nat_eq op DO || nat_eq op VARIANT)
+ends_word op = begins_clause op || (nat_eq op THEN || nat_eq op ELSIF || nat_eq op ELSE || nat_eq op WHEN || nat_eq op OR_BRANCH || nat_eq op WHERE || nat_eq op BE || nat_eq op IN || nat_eq op DO || nat_eq op VARIANT)
 
 -- what ends a term: a sign that divides, a word of a clause or of a statement, and a name behind a complete term
 abbrev pub ends_term : Stopper

@@ -162,7 +162,7 @@ chained-longest d other h =
     omega (arith, l, f.5, ap length f.3, length-append f.1 f.2)
 
 chained-read : AreReadOn Machine [] (properties_of sides ∷ []) (properties_word ∷ both_sides ++ and_more) and_more
-chained-read = read-one (properties_of sides) (properties_word ∷ both_sides) and_more (properties-written sides both_sides (all-read 12 both_sides sides refl)) refl (((tt, tt), (tt, tt))) chained-longest (sign-follows-none (properties_of sides ∷ []) (token 37 38 (Sign AND)) _ AND refl)
+chained-read = read-one (properties_of sides) (properties_word ∷ both_sides) and_more (properties-written sides both_sides (all-read 12 both_sides sides refl)) refl ((tt, tt, tt), (tt, tt, tt), tt) chained-longest (sign-follows-none (properties_of sides ∷ []) (token 37 38 (Sign AND)) _ AND refl)
 
 pub loose-side : IsComponentFaultAt 48 chained 37
 loose-side = (10, fault-before chained 10 (place-behind (properties_of sides ∷ []) (properties_word ∷ both_sides ++ and_more) and_more chained-read (not-end (token 37 38 (Sign AND)) _ (sign-is-no-end AND)) 10 refl) (omega arith), refl)
@@ -218,7 +218,7 @@ printed-longest d other h =
     omega (arith, f.5, printed-short (length f.1) f.0 f.1 f.2 f.3 refl f.4 f.6)
 
 printed-read : AreReadOn Machine [] (properties_of p_is ∷ []) (properties_word ∷ one_side ++ and_true) and_true
-printed-read = read-one (properties_of p_is) (properties_word ∷ one_side) and_true (properties-written p_is one_side (all-read 12 one_side p_is refl)) refl (tt, tt) printed-longest (sign-follows-none (properties_of p_is ∷ []) and_sign _ AND refl)
+printed-read = read-one (properties_of p_is) (properties_word ∷ one_side) and_true (properties-written p_is one_side (all-read 12 one_side p_is refl)) refl (tt, tt, tt) printed-longest (sign-follows-none (properties_of p_is ∷ []) and_sign _ AND refl)
 
 pub addition : IsComponentFaultAt 38 printed 27
 addition = (6, fault-before printed 6 (place-behind (properties_of p_is ∷ []) (properties_word ∷ one_side ++ and_true) and_true printed-read (not-end and_sign _ (sign-is-no-end AND)) 6 refl) (omega arith), refl)
@@ -334,7 +334,7 @@ operations-read : (more : List Token) → NoOperation more → AreReadOn Machine
 operations-read more n = read-one operations (operations_word ∷ f_is_skip) (semicolon ∷ more) operations-written refl (All-cons (λ (o : RawOperation). SubHasNoAddition o.body) f_operation [] tt (All-nil (λ (o : RawOperation). SubHasNoAddition o.body))) (operations-longest more n) (sign-follows-none (operations ∷ []) semicolon more SEMICOLON refl)
 
 -- a sign = and a body stand in an operation
-operation-body : (o : RawOperation) (b : List Token) → Operation o b → (u : List Token) × (t : Token) × (s : List Token) × (b ≡ u ++ t ∷ s) × (t.kind ≡ Sign EQUAL) × Sub o.body 1 s
+operation-body : (o : RawOperation) (b : List Token) → Operation o b → (u : List Token) × (t : Token) × (s : List Token) × (b ≡ u ++ t ∷ s) × (t.kind ≡ Sign EQUAL) × Sub false o.body 1 s
 operation-body o b h =
     let i = h.4 in
     let j = i.4 in
@@ -342,10 +342,10 @@ operation-body o b h =
     (h.0 ++ (i.0 ++ j.0), k.3.0, k.1, h.2 ∙ ap (λ ts. h.0 ++ ts) (i.2 ∙ ap (λ ts. i.0 ++ ts) (j.2 ∙ ap (λ ts. j.0 ++ ts) (k.2 ∙ ap (λ ts. ts ++ k.1) k.3.1))) ∙ sym (append_assoc h.0 (i.0 ++ j.0) (k.3.0 ∷ k.1) ∙ ap (λ ts. h.0 ++ ts) (append_assoc i.0 j.0 (k.3.0 ∷ k.1))), k.3.2, k.4)
 
 -- no substitution stands in front of END
-no-body : (s : SubTree) (b q : List Token) (t : Token) → t.kind ≡ Word END → t ∷ [] ≡ b ++ q → Sub s 1 b → ⊥
-no-body s [] q t k e h = false-true (ap (λ (p : State). p.1) (some_same (0, false) (0, true) (sub-leads s 1 [] h)))
+no-body : (s : SubTree) (b q : List Token) (t : Token) → t.kind ≡ Word END → t ∷ [] ≡ b ++ q → Sub false s 1 b → ⊥
+no-body s [] q t k e h = false-true (ap (λ (p : State). p.1) (some_same (0, false) (0, true) (sub-leads false s 1 [] h)))
 no-body s (u ∷ b) q t k e h =
-    let i = first-step (step (ends_at 1)) (0, false) (0, true) u b (sub-leads s 1 (u ∷ b) h) in
+    let i = first-step (step (ends_at 1)) (0, false) (0, true) u b (sub-leads false s 1 (u ∷ b) h) in
     none_some i.0 (sym (ap (stepped (ends_at 1) 0 false) (ap (λ x. x.kind) (sym (first-same t u [] (b ++ q) e)) ∙ k)) ∙ i.1)
 
 -- ---- MACHINE A OPERATIONS f = skip ; g = END
@@ -364,7 +364,7 @@ name-is-no-sign x op e = cc
 half-none : NoOperation (g ∷ equals_again ∷ last_end ∷ [])
 half-none o b q e h = let c = operation-body o b h in by-front c.0 c.1 c.2 (e ∙ ap (λ ts. ts ++ q) c.3 ∙ append_assoc c.0 (c.1 ∷ c.2) q) c.4 c.5
   where
-    by-front : (u : List Token) (t : Token) (s : List Token) → g ∷ equals_again ∷ last_end ∷ [] ≡ u ++ ((t ∷ s) ++ q) → t.kind ≡ Sign EQUAL → Sub o.body 1 s → ⊥
+    by-front : (u : List Token) (t : Token) (s : List Token) → g ∷ equals_again ∷ last_end ∷ [] ≡ u ++ ((t ∷ s) ++ q) → t.kind ≡ Sign EQUAL → Sub false o.body 1 s → ⊥
     by-front [] t s e k h = name-is-no-sign (codes "g") EQUAL (ap (λ x. x.kind) (first-same g t _ (s ++ q) e) ∙ k)
     by-front (x ∷ []) t s e k h = no-body o.body s q last_end refl (rest-of equals_again t (last_end ∷ []) (s ++ q) (rest-of g x _ (t ∷ (s ++ q)) e)) h
     by-front (x ∷ y ∷ []) t s e k h = word-is-no-sign END EQUAL (ap (λ x. x.kind) (first-same last_end t [] (s ++ q) (rest-of equals_again y _ (t ∷ (s ++ q)) (rest-of g x _ (y ∷ t ∷ (s ++ q)) e))) ∙ k)

@@ -9,11 +9,11 @@ use Rattle.bk_ops.specs.declared.sign.TheConstants.{ASSIGN, SEMICOLON, PARALLEL,
 use Rattle.bk_ops.specs.declared.word.TheConstants.{IF, THEN, ELSE, ELSIF, END, SKIP, BEGIN, PRE, ASSERT, CHOICE, SELECT, ANY, LET, VAR, WHILE}
 use Rattle.bk_raw.specs.Grammar.Brackets.{is_sign}
 use Rattle.bk_raw.specs.Grammar.Pieces.{JustWord, ◌⌢◌}
-use Rattle.bk_raw.specs.Trees.RawTree.{RawTree}
+use Rattle.bk_raw.specs.Trees.RawTree.{RawTree, RawTrees, no_trees, tree_and}
 use Rattle.bk_raw.specs.Grammar.Spelling.{Declared, Names, Term}
 use Rattle.bk_raw.specs.declared.term.RawName.{RawName}
-use Rattle.bk_raw.specs.Trees.SubTree.{SubTree, sub, SubNode, sub_skip, sub_assign, sub_assign_at, sub_member, sub_such, sub_begin, sub_pre, sub_assert, sub_if, sub_choice, sub_select, sub_any, sub_let, sub_var, sub_while, sub_parallel, sub_sequence, Branches, no_branches, else_branch, branch_and}
-use Rattle.bk_raw.specs.Grammar.SubSpelling.{Sub, Stated, Branched, SpellsSub}
+use Rattle.bk_raw.specs.Trees.SubTree.{SubTree, sub, SubNode, sub_skip, sub_assign, sub_assign_at, sub_member, sub_such, sub_call, sub_begin, sub_pre, sub_assert, sub_if, sub_choice, sub_select, sub_any, sub_let, sub_var, sub_while, sub_parallel, sub_sequence, Branches, no_branches, else_branch, branch_and}
+use Rattle.bk_raw.specs.Grammar.SubSpelling.{Called, Sub, Stated, Branched, SpellsSub}
 use Rattle.bk_raw.specs.Grammar.Texts.{token, skip_at, two_and, two_and_tree, three, else_first}
 use Rattle.bk_raw.proofs.Runs.{Halts, nil-cons}
 use Rattle.bk_raw.proofs.Steps.{Piece, Stopper, step, stepped}
@@ -49,7 +49,7 @@ beside = token 14 16 (Sign PARALLEL)
 abbrev skip_two : Token
 skip_two = token 17 21 (Word SKIP)
 
-skip-written : (at end asked : ℕ) → Sub (skip_at at) asked (token at end (Word SKIP) ∷ [])
+skip-written : (at end asked : ℕ) → Sub true (skip_at at) asked (token at end (Word SKIP) ∷ [])
 skip-written at end asked = (token at end (Word SKIP), [], refl, refl, (token at end (Word SKIP), refl, refl))
 
 pub both-dividers : SpellsSub two_and_tree two_and
@@ -159,11 +159,11 @@ names-first (x ∷ []) front after ts e h = declared-first x front after ts e h
 names-first (x ∷ y ∷ ys) front after ts e h = name-is-no-word x.text IF (ap (λ t. t.kind) (first-same if_word h.3.0 ts (h.1 ++ after) (e ∙ ap (λ us. us ++ after) (h.2 ∙ ap (λ us. us ++ h.1) h.3.1))) ∙ h.3.2)
 
 -- what stands behind IF p THEN s
-branched-ends : (bs : Branches) → StopsAt ends_list (0, true) (Branched ELSIF bs ⌢ JustWord END)
+branched-ends : (bs : Branches) → StopsAt ends_list (0, true) (Branched true ELSIF bs ⌢ JustWord END)
 branched-ends no_branches ts h = stops-last ends_list 0 true (Word END) refl ts (absent-then (JustWord END) ts h)
-branched-ends (else_branch s) ts h = stops-just ends_list 0 true (Word ELSE) (Sub s 0 ⌢ JustWord END) refl ts (regrouped (JustWord ELSE) (Sub s 0) (JustWord END) ts h)
+branched-ends (else_branch s) ts h = stops-just ends_list 0 true (Word ELSE) (Sub true s 0 ⌢ JustWord END) refl ts (regrouped (JustWord ELSE) (Sub true s 0) (JustWord END) ts h)
 branched-ends (branch_and p s bs) ts h =
-    let K = Term p 0 ⌢ JustWord THEN ⌢ (Sub s 0 ⌢ Branched ELSIF bs) in
+    let K = Term p 0 ⌢ JustWord THEN ⌢ (Sub true s 0 ⌢ Branched true ELSIF bs) in
     stops-just ends_list 0 true (Word ELSIF) (K ⌢ JustWord END) refl ts (regrouped (JustWord ELSIF) K (JustWord END) ts h)
 
 -- these tokens stand behind
@@ -177,38 +177,44 @@ abbrev behind_then : List Token
 behind_then = token 19 23 (Word ELSE) ∷ token 24 28 (Word SKIP) ∷ token 29 34 (Word ELSIF) ∷ token 35 36 (Name (codes "p")) ∷ token 37 38 (Sign EQUAL) ∷ token 39 40 (Number (pos 1)) ∷ token 41 45 (Word THEN) ∷ token 46 50 (Word SKIP) ∷ token 51 54 (Word END) ∷ []
 
 -- a substitution in front of skip is skip
-behind-skip : (s : SubTree) (K : Piece) (at end : ℕ) (t : Token) (us : List Token) → StopsAt ends_list (0, true) K → stepped ends_list 0 true t.kind ≡ None → (Sub s 0 ⌢ K) (token at end (Word SKIP) ∷ t ∷ us) → K (t ∷ us)
+behind-skip : (s : SubTree) (K : Piece) (at end : ℕ) (t : Token) (us : List Token) → StopsAt ends_list (0, true) K → stepped ends_list 0 true t.kind ≡ None → (Sub true s 0 ⌢ K) (token at end (Word SKIP) ∷ t ∷ us) → K (t ∷ us)
 behind-skip s K at end t us sk n h =
-    let c = same-piece ends_list (0, false) (0, true) (0, true) (Sub s 0) (Sub (skip_at at) 0) K (Are (t ∷ us)) (token at end (Word SKIP) ∷ t ∷ us) (sub-leads s 0) (sub-leads (skip_at at) 0) sk (are-stops ends_list t us n) h (token at end (Word SKIP) ∷ [], t ∷ us, refl, skip-written at end 0, refl) in
+    let c = same-piece ends_list (0, false) (0, true) (0, true) (Sub true s 0) (Sub true (skip_at at) 0) K (Are (t ∷ us)) (token at end (Word SKIP) ∷ t ∷ us) (sub-leads true s 0) (sub-leads true (skip_at at) 0) sk (are-stops ends_list t us n) h (token at end (Word SKIP) ∷ [], t ∷ us, refl, skip-written at end 0, refl) in
     subst K c.3.2 c.3.1
 
 only-word : (op : ℕ) (t : Token) (us : List Token) (kind : ℕ) → t.kind ≡ Word kind → JustWord op (t ∷ us) → kind ≡ op
 only-word op t us kind k h = words-same kind op (sym k ∙ ap (λ x. x.kind) (first-same t h.0 us [] h.1) ∙ h.2)
 
-no-branches-there : (bs : Branches) → (Branched ELSIF bs ⌢ JustWord END) behind_then → ⊥
+no-branches-there : (bs : Branches) → (Branched true ELSIF bs ⌢ JustWord END) behind_then → ⊥
 no-branches-there no_branches h = omega (arith, only-word END (token 19 23 (Word ELSE)) _ ELSE refl (absent-then (JustWord END) behind_then h))
 no-branches-there (else_branch s) h =
-    let i = just-first (Word ELSE) (Sub s 0 ⌢ JustWord END) (token 19 23 (Word ELSE)) _ (regrouped (JustWord ELSE) (Sub s 0) (JustWord END) behind_then h) in
+    let i = just-first (Word ELSE) (Sub true s 0 ⌢ JustWord END) (token 19 23 (Word ELSE)) _ (regrouped (JustWord ELSE) (Sub true s 0) (JustWord END) behind_then h) in
     let j = behind-skip s (JustWord END) 24 28 (token 29 34 (Word ELSIF)) _ (stops-last ends_list 0 true (Word END) refl) refl i.1 in
     omega (arith, only-word END (token 29 34 (Word ELSIF)) _ ELSIF refl j)
 no-branches-there (branch_and p s bs) h =
-    let K = Term p 0 ⌢ JustWord THEN ⌢ (Sub s 0 ⌢ Branched ELSIF bs) in
+    let K = Term p 0 ⌢ JustWord THEN ⌢ (Sub true s 0 ⌢ Branched true ELSIF bs) in
     let i = just-first (Word ELSIF) (K ⌢ JustWord END) (token 19 23 (Word ELSE)) _ (regrouped (JustWord ELSIF) K (JustWord END) behind_then h) in
     omega (arith, words-same ELSE ELSIF i.0)
 
 abbrev p_is_one : RawTree
 p_is_one = equals_one 3 (codes "p")
 
-no-if : (p : RawTree) (s : SubTree) (bs : Branches) → (JustWord IF ⌢ Term p 0 ⌢ JustWord THEN ⌢ (Sub s 0 ⌢ Branched ELSIF bs) ⌢ JustWord END) else_first → ⊥
+no-if : (p : RawTree) (s : SubTree) (bs : Branches) → (JustWord IF ⌢ Term p 0 ⌢ JustWord THEN ⌢ (Sub true s 0 ⌢ Branched true ELSIF bs) ⌢ JustWord END) else_first → ⊥
 no-if p s bs h =
-    let K = (Sub s 0 ⌢ Branched ELSIF bs) ⌢ JustWord END in
+    let K = (Sub true s 0 ⌢ Branched true ELSIF bs) ⌢ JustWord END in
     let i = just-first (Word IF) (Term p 0 ⌢ JustWord THEN ⌢ K) if_word tokens h in
     let c = term-cut p p_is_one (JustWord THEN ⌢ K) (Are behind_condition) tokens (stops-just ends_term 0 true (Word THEN) K refl) (are-stops ends_term (token 9 13 (Word THEN)) _ refl) i.1 (condition, behind_condition, refl, all-read 5 condition p_is_one refl, refl) in
     let j = just-first (Word THEN) K (token 9 13 (Word THEN)) _ (subst (JustWord THEN ⌢ K) c.1.2 c.1.1) in
-    let k = behind-skip s (Branched ELSIF bs ⌢ JustWord END) 14 18 (token 19 23 (Word ELSE)) _ (branched-ends bs) refl (regrouped (Sub s 0) (Branched ELSIF bs) (JustWord END) _ j.1) in
+    let k = behind-skip s (Branched true ELSIF bs ⌢ JustWord END) 14 18 (token 19 23 (Word ELSE)) _ (branched-ends bs) refl (regrouped (Sub true s 0) (Branched true ELSIF bs) (JustWord END) _ j.1) in
     no-branches-there bs k
 
-no-node : (u : SubNode) → Stated u 0 else_first → ⊥
+no-call : (xs : List RawName) (o : RawName) (us : RawTrees) → Called xs o us else_first → ⊥
+no-call [] o no_trees h = declared-first o else_first [] tokens refl h
+no-call [] o (tree_and t us) h = declared-first o h.0 h.1 tokens h.2 h.3
+no-call (x ∷ xs) o us h = names-first (x ∷ xs) h.0 h.1 tokens h.2 h.3
+
+no-node : (u : SubNode) → Stated true u 0 else_first → ⊥
+no-node (sub_call xs o ts) h = no-call xs o ts h.0
 no-node sub_skip h = omega (arith, only-word SKIP if_word tokens IF refl h)
 no-node (sub_assign xs ts) h = names-first xs h.0 h.1 tokens h.2 h.3
 no-node (sub_assign_at f x e) h = declared-first f h.0 h.1 tokens h.2 h.3

@@ -42,6 +42,8 @@ pub enum ClauseWord {
     Initialisation,
     /// `OPERATIONS`.
     Operations,
+    /// `IMPORTS`.
+    Imports,
 }
 
 /// An entry of SETS: a name, and its elements where they are written.
@@ -73,7 +75,7 @@ pub struct RawOperation {
 pub enum ClauseParts {
     /// Of SETS.
     Sets(Vec<RawSet>),
-    /// Of CONSTANTS and the clauses of variables.
+    /// Of CONSTANTS, the clauses of variables and IMPORTS.
     Names(Vec<RawName>),
     /// Of PROPERTIES and INVARIANT.
     Term(RawTerm),

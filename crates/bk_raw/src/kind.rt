@@ -1,7 +1,7 @@
 // The tokens that operators and constant words are written as.
 
 ghost use Rattle.std.specs.Prelude.{◌≡◌, ◌≢◌, MatchOption};
-ghost use Rattle.bk_raw.specs.Trees.Operators.{infix_kind, word_kind, constant_kind, binding};
+ghost use Rattle.bk_raw.specs.Trees.Operators.{infix_kind, word_kind, constant_kind, binding, is_of_sequences};
 
 use crate::operator::{Constant, InfixOp, WordOp};
 use bk_form::TokenKind;
@@ -60,6 +60,9 @@ impl InfixOp {
             sign::TIMES => Some(InfixOp::Times),
             sign::DIVIDE => Some(InfixOp::Divide),
             sign::POWER => Some(InfixOp::Power),
+            sign::CONCATENATION => Some(InfixOp::Concatenation),
+            sign::PREPEND => Some(InfixOp::Prepend),
+            sign::APPEND => Some(InfixOp::Append),
             _ => None,
         }
     }
@@ -99,6 +102,13 @@ impl WordOp {
             word::POW1 => Some(WordOp::Pow1),
             word::FIN => Some(WordOp::Fin),
             word::FIN1 => Some(WordOp::Fin1),
+            word::SEQ => Some(WordOp::Seq),
+            word::SIZE => Some(WordOp::Size),
+            word::FIRST => Some(WordOp::First),
+            word::LAST => Some(WordOp::Last),
+            word::FRONT => Some(WordOp::Front),
+            word::TAIL => Some(WordOp::Tail),
+            word::REV => Some(WordOp::Rev),
             _ => None,
         }
     }
@@ -128,6 +138,20 @@ impl Constant {
             word::BFALSE => Some(Constant::Bfalse),
             _ => None,
         }
+    }
+}
+
+/// Whether the token is a sign or a word of sequences. Terms have them; components and scripts do not have them yet.
+pub fn is_of_sequences(kind: &TokenKind) -> bool
+    ensures { result ≡ is_of_sequences kind.now }
+{
+    match kind {
+        TokenKind::Sign(op) => matches!(*op, sign::CONCATENATION | sign::PREPEND | sign::APPEND),
+        TokenKind::Word(op) => matches!(
+            *op,
+            word::SEQ | word::SIZE | word::FIRST | word::LAST | word::FRONT | word::TAIL | word::REV
+        ),
+        _ => false,
     }
 }
 
@@ -165,7 +189,10 @@ impl InfixOp {
             | InfixOp::DomainSubtraction
             | InfixOp::RangeSubtraction
             | InfixOp::Override
-            | InfixOp::Maplet => (5, 5, 6),
+            | InfixOp::Maplet
+            | InfixOp::Concatenation
+            | InfixOp::Prepend
+            | InfixOp::Append => (5, 5, 6),
             InfixOp::Interval => (6, 7, 7),
             InfixOp::Plus | InfixOp::Minus => (7, 7, 8),
             InfixOp::Times | InfixOp::Divide | InfixOp::Mod => (8, 8, 9),

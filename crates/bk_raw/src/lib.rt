@@ -19,7 +19,7 @@ pub use component::{
 };
 pub use depth::too_deep;
 pub use fault::FaultKind;
-pub use kind::Strengths;
+pub use kind::{Strengths, is_of_sequences};
 pub use operator::{Constant, InfixOp, WordOp};
 pub use scope::Scope;
 pub use script::{

@@ -79,6 +79,12 @@ pub enum InfixOp {
     Mod,
     /// `**`.
     Power,
+    /// `^`.
+    Concatenation,
+    /// `->`.
+    Prepend,
+    /// `<-`.
+    Append,
 }
 
 /// A word that stands before one term in parentheses.
@@ -112,6 +118,20 @@ pub enum WordOp {
     Fin,
     /// `FIN1`.
     Fin1,
+    /// `seq`.
+    Seq,
+    /// `size`.
+    Size,
+    /// `first`.
+    First,
+    /// `last`.
+    Last,
+    /// `front`.
+    Front,
+    /// `tail`.
+    Tail,
+    /// `rev`.
+    Rev,
 }
 
 /// A word that is a term by itself. The last two stand in printed formulas.

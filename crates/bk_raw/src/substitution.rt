@@ -26,6 +26,9 @@ pub enum RawSubNode {
     BecomesMember(RawName, RawTerm),
     /// `x, y :( p )`.
     BecomesSuch(Vec<RawName>, RawTerm),
+    /// `x, y <-- op(e, f)`: the outputs, the operation that is called, and its arguments. Where there are no outputs, `x, y <--` is
+    /// not written, where there are no arguments their parentheses are not.
+    Call(Vec<RawName>, RawName, Vec<RawTerm>),
     /// `BEGIN s END`.
     Begin(Box<RawSub>),
     /// `PRE p THEN s END`.

@@ -18,7 +18,10 @@ pub fn binder_count(sub: &RawSub) -> Result<usize, Memory>
     ensures { IfOk result (λ n. n ≡ meant.binder_count sub.now) }
 {
     match &sub.node {
-        RawSubNode::Skip | RawSubNode::Assign(_, _) | RawSubNode::AssignAt(_, _, _) => Ok(0),
+        RawSubNode::Skip
+        | RawSubNode::Assign(_, _)
+        | RawSubNode::AssignAt(_, _, _)
+        | RawSubNode::Call(_, _, _) => Ok(0),
         RawSubNode::BecomesMember(_, _) => Ok(1),
         RawSubNode::BecomesSuch(names, _) => Ok(names.len()),
         RawSubNode::Begin(body)
@@ -99,7 +102,10 @@ pub fn push_binder_texts(alloc: Global, found: &mut Vec<Text>, sub: &RawSub) -> 
     ensures { OnOk result (found.new.items ≡ found.old.items ++ meant.binder_texts sub.now) }
 {
     match &sub.node {
-        RawSubNode::Skip | RawSubNode::Assign(_, _) | RawSubNode::AssignAt(_, _, _) => Ok(()),
+        RawSubNode::Skip
+        | RawSubNode::Assign(_, _)
+        | RawSubNode::AssignAt(_, _, _)
+        | RawSubNode::Call(_, _, _) => Ok(()),
         RawSubNode::BecomesMember(name, _) => push_text(alloc, found, name),
         RawSubNode::BecomesSuch(names, _) => push_old_texts(alloc, found, names),
         RawSubNode::Begin(body)

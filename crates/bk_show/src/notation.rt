@@ -122,6 +122,13 @@ pub(crate) fn word(op: WordOp) -> &'static [u8]
         WordOp::Pow1 => b"POW1",
         WordOp::Fin => b"FIN",
         WordOp::Fin1 => b"FIN1",
+        WordOp::Seq => b"seq",
+        WordOp::Size => b"size",
+        WordOp::First => b"first",
+        WordOp::Last => b"last",
+        WordOp::Front => b"front",
+        WordOp::Tail => b"tail",
+        WordOp::Rev => b"rev",
     }
 }
 
@@ -168,5 +175,8 @@ pub(crate) fn sign(op: InfixOp) -> &'static [u8]
         InfixOp::Divide => b"/",
         InfixOp::Mod => b"mod",
         InfixOp::Power => b"**",
+        InfixOp::Concatenation => b"^",
+        InfixOp::Prepend => b"->",
+        InfixOp::Append => b"<-",
     }
 }

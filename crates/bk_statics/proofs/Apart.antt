@@ -5,7 +5,7 @@ use Rattle.std.specs.List.{flat_map}
 use Rattle.std.proofs.lemmas.Bool.Decides.{nat_tests}
 use Rattle.bk_gsl.specs.State.{among}
 use Rattle.bk_dev.specs.Facts.{binders, AreDistinct}
-use Rattle.bk_raw.specs.Trees.SubTree.{SubTree, sub, SubNode, sub_skip, sub_assign, sub_assign_at, sub_member, sub_such, sub_begin, sub_pre, sub_assert, sub_if, sub_choice, sub_select, sub_any, sub_let, sub_var, sub_while, sub_parallel, sub_sequence, Branches, no_branches, else_branch, branch_and, Choices, no_choices, choice_and}
+use Rattle.bk_raw.specs.Trees.SubTree.{SubTree, sub, SubNode, sub_skip, sub_call, sub_assign, sub_assign_at, sub_member, sub_such, sub_begin, sub_pre, sub_assert, sub_if, sub_choice, sub_select, sub_any, sub_let, sub_var, sub_while, sub_parallel, sub_sequence, Branches, no_branches, else_branch, branch_and, Choices, no_choices, choice_and}
 use Rattle.bk_statics.specs.Typings.{Typing, interval}
 use Rattle.bk_statics.specs.Binders.{binder_count}
 use Rattle.bk_statics.proofs.Intervals.{interval-join, binds-interval}
@@ -19,6 +19,7 @@ pub inner-count : (s : SubTree) → binder_count (inner_body s) ≡ binder_count
 inner-count (sub at (sub_begin s)) = inner-count s
 inner-count (sub at (sub_pre p s)) = refl
 inner-count (sub at sub_skip) = refl
+inner-count (sub at (sub_call ys o ts)) = refl
 inner-count (sub at (sub_assign xs es)) = refl
 inner-count (sub at (sub_assign_at x e v)) = refl
 inner-count (sub at (sub_member x e)) = refl

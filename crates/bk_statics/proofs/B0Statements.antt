@@ -24,7 +24,7 @@ use Rattle.bk_raw.specs.declared.operator.Constant.TheVariants.{True, False, Max
 use Rattle.bk_raw.specs.declared.operator.InfixOp.TheVariants.{Times}
 use Rattle.bk_raw.specs.declared.term.RawName.{RawName}
 use Rattle.bk_raw.specs.Trees.RawTree.{RawTree, raw, raw_name, raw_number, raw_constant, raw_infix, raw_extension, no_trees, tree_and, tree_height}
-use Rattle.bk_raw.specs.Trees.SubTree.{SubTree, sub, SubNode, sub_skip, sub_assign, sub_assign_at, sub_begin, sub_assert, sub_if, sub_var, sub_while, sub_sequence, Branches, no_branches, else_branch, branch_and, sub_height, sub_node_height, branches_height}
+use Rattle.bk_raw.specs.Trees.SubTree.{SubTree, sub, SubNode, sub_skip, sub_call, sub_assign, sub_assign_at, sub_begin, sub_assert, sub_if, sub_var, sub_while, sub_sequence, Branches, no_branches, else_branch, branch_and, sub_height, sub_node_height, branches_height}
 use Rattle.std.specs.Str.{bytes_eq}
 use Rattle.bk_raw.specs.Meaning.Names.{Names, Meaning, local, global, set_name, element_name, nothing, Sight, unseen, untyped_name, seen, found}
 use Rattle.bk_raw.specs.Meaning.Outcome.{no_type, whole, hollow, single_of, pair_of, joint_of, filled, where_holds, Outcome, partial, ranging, holding, silent, Reading, silently, ask, ask_domain, ask_predicate, fitting}
@@ -419,6 +419,7 @@ module _ (x : Executing) (dev : Development) (most : x.int_max ≡ int_max dev) 
 
         node-scalar : (node : SubNode) (names : Names) (n m at : ℕ) (w : Way) → first_in names n m node ≡ Some w → x.array m ≡ None → statement_in x names n at node ≡ [] → is_scalar_option (x.typing m) ≡ true
         node-scalar sub_skip names n m at w f none run = absurd (cc)
+        node-scalar (sub_call ys o ts) names n m at w f none run = absurd (cc)
         node-scalar (sub_assign (v ∷ []) (tree_and e no_trees)) names n m at w f none run =
             target-scalar names m at (by_term names e) (expression_faults x names e) e (target names v.text) (first-some (is_variable m (target names v.text)) (by_term names e) w f) none run
         node-scalar (sub_assign [] es) names n m at w f none run = absurd (cc)
@@ -490,6 +491,7 @@ module _ (x : Executing) (dev : Development) (most : x.int_max ≡ int_max dev) 
           node-b0 : (node : SubNode) (names : Names) (writable : ℕ → Bool) (n at : ℕ) → AreOf dev.table names → AreTyped (typed x.typing names) → node_faults x.int_max x.typing above names writable n node ≡ [] → statement_in x names n at node ≡ [] →
               StandsAt n (ways_in names n node) → base ≤ n → top ≤ n → sub_node_height node ≤ GREATEST_TREE_HEIGHT → IsB0Read dev (elaborated_node x.int_max x.typing above names n node)
           node-b0 sub_skip names writable n at h t none run stand low high small = (tt, tt)
+          node-b0 (sub_call ys o ts) names writable n at h t none run stand low high small = (tt, tt)
           node-b0 (sub_assign (v ∷ []) (tree_and e no_trees)) names writable n at h t none run stand low high small = one-told names writable at v e h t none run (omega arith)
           node-b0 (sub_assign [] es) names writable n at h t none run stand low high small = absurd (cc)
           node-b0 (sub_assign (v ∷ []) no_trees) names writable n at h t none run stand low high small = absurd (cc)

@@ -6,7 +6,7 @@ use Rattle.bk_gsl.specs.State.{among}
 use Rattle.bk_dev.specs.Development.{Level, Development}
 use Rattle.bk_dev.specs.Facts.{binders, AreDistinct}
 use Rattle.bk_raw.specs.declared.term.RawName.{RawName}
-use Rattle.bk_raw.specs.Trees.SubTree.{SubTree, sub, SubNode, sub_skip, sub_assign, sub_assign_at, sub_member, sub_such, sub_begin, sub_pre, sub_assert, sub_if, sub_choice, sub_select, sub_any, sub_let, sub_var, sub_while, sub_parallel, sub_sequence, Branches, no_branches, else_branch, branch_and, Choices, no_choices, choice_and}
+use Rattle.bk_raw.specs.Trees.SubTree.{SubTree, sub, SubNode, sub_skip, sub_call, sub_assign, sub_assign_at, sub_member, sub_such, sub_begin, sub_pre, sub_assert, sub_if, sub_choice, sub_select, sub_any, sub_let, sub_var, sub_while, sub_parallel, sub_sequence, Branches, no_branches, else_branch, branch_and, Choices, no_choices, choice_and}
 use Rattle.bk_statics.specs.Binders.{texts, binder_count, count_in, branches_count, choices_count, old_texts, binder_texts, texts_in, branches_texts, choices_texts}
 use Rattle.bk_statics.specs.Typings.{Typing, interval}
 use Rattle.bk_statics.proofs.Intervals.{interval-join, interval-distinct}
@@ -53,6 +53,7 @@ mutual
 
   node-count : (node : SubNode) → length (texts_in node) ≡ count_in node
   node-count sub_skip = refl
+  node-count (sub_call ys o ts) = refl
   node-count (sub_assign xs es) = refl
   node-count (sub_assign_at x e v) = refl
   node-count (sub_member x e) = refl

@@ -14,7 +14,7 @@ use Rattle.bk_raw.specs.Trees.RawTree.{RawTree}
 use Rattle.bk_raw.specs.Meaning.Names.{Names}
 use Rattle.bk_raw.specs.Meaning.Outcome.{ask_domain}
 use Rattle.bk_gsl.specs.Substitution.{Substitution, guard, choice}
-use Rattle.bk_raw.specs.Trees.SubTree.{SubTree, sub, SubNode, sub_skip, sub_assign, sub_assign_at, sub_member, sub_such, sub_begin, sub_pre, sub_assert, sub_if, sub_choice, sub_select, sub_any, sub_let, sub_var, sub_while, sub_parallel, sub_sequence, Branches, no_branches, else_branch, branch_and, Choices, no_choices, choice_and}
+use Rattle.bk_raw.specs.Trees.SubTree.{SubTree, sub, SubNode, sub_skip, sub_call, sub_assign, sub_assign_at, sub_member, sub_such, sub_begin, sub_pre, sub_assert, sub_if, sub_choice, sub_select, sub_any, sub_let, sub_var, sub_while, sub_parallel, sub_sequence, Branches, no_branches, else_branch, branch_and, Choices, no_choices, choice_and}
 use Rattle.bk_statics.specs.Typings.{Typing, interval, numbered, predicate_read, target, number_of, type_at, term_read, outcome_of}
 use Rattle.bk_statics.specs.Binders.{binder_count, count_in, branches_count, choices_count}
 use Rattle.bk_statics.specs.Elaborated.{else_part, choices, selected, overridden, put_read, all_one_type, chosen_where, chosen_in, old_pairs, elaborated, elaborated_node}
@@ -62,6 +62,7 @@ mutual
 
   node-interval : (node : SubNode) (int_max : ℤ) (typing : Typing) (above names : Names) (n : ℕ) → binders (elaborated_node int_max typing above names n node) ≡ interval n (count_in node)
   node-interval sub_skip int_max typing above names n = refl
+  node-interval (sub_call ys o ts) int_max typing above names n = refl
   node-interval (sub_assign xs es) int_max typing above names n = refl
   node-interval (sub_assign_at x e v) int_max typing above names n = put-binds int_max typing names (number_of (target names x.text)) (type_at typing (target names x.text)) e v
   node-interval (sub_member x e) int_max typing above names n = ap (λ l. n ∷ l) (chosen-binds typing (number_of (target names x.text)) (type_at typing (target names x.text)) n (ask_domain 0 (outcome_of int_max typing names e)).answer)

@@ -11,7 +11,7 @@ use Rattle.bk_gsl.specs.Typed.{Types}
 use Rattle.bk_dev.specs.Facts.{Names as NamesOnly, StaysIn}
 use Rattle.bk_dev.specs.declared.kind.Kind.{Kind}
 use Rattle.bk_raw.specs.declared.term.RawName.{RawName}
-use Rattle.bk_raw.specs.Trees.SubTree.{SubTree, sub, SubNode, sub_skip, sub_assign, sub_assign_at, sub_member, sub_such, sub_begin, sub_pre, sub_assert, sub_if, sub_choice, sub_select, sub_any, sub_let, sub_var, sub_while, sub_parallel, sub_sequence}
+use Rattle.bk_raw.specs.Trees.SubTree.{SubTree, sub, SubNode, sub_skip, sub_call, sub_assign, sub_assign_at, sub_member, sub_such, sub_begin, sub_pre, sub_assert, sub_if, sub_choice, sub_select, sub_any, sub_let, sub_var, sub_while, sub_parallel, sub_sequence}
 use Rattle.bk_raw.specs.Meaning.Names.{Names, global}
 use Rattle.bk_raw.specs.Meaning.Speaking.{HasType, AreTyped}
 use Rattle.bk_raw.specs.Meaning.Outcome.{no_type}
@@ -47,6 +47,7 @@ module _ (int_max : ℤ) (table : Table) (typing : Typing) (higher names : Names
   body-parts (sub at (sub_begin s)) h = body-parts s h
   body-parts (sub at (sub_pre p s)) h = record { condition = h.0.0; names = h.1.0; types = h.0.1; stays = h.1.1 }
   body-parts (sub at sub_skip) h = no-condition (elaborated int_max typing higher names n (sub at sub_skip)) h.0 h.1
+  body-parts (sub at (sub_call ys o ts)) h = no-condition (elaborated int_max typing higher names n (sub at (sub_call ys o ts))) h.0 h.1
   body-parts (sub at (sub_assign xs es)) h = no-condition (elaborated int_max typing higher names n (sub at (sub_assign xs es))) h.0 h.1
   body-parts (sub at (sub_assign_at f e v)) h = no-condition (elaborated int_max typing higher names n (sub at (sub_assign_at f e v))) h.0 h.1
   body-parts (sub at (sub_member x e)) h = no-condition (elaborated int_max typing higher names n (sub at (sub_member x e))) h.0 h.1
@@ -67,6 +68,7 @@ pub inner-shape : (kind : Kind) (inside : Bool) (s : SubTree) → shape_faults k
 inner-shape kind inside (sub at (sub_begin s)) h = inner-shape kind inside s h
 inner-shape kind inside (sub at (sub_pre p s)) h = h
 inner-shape kind inside (sub at sub_skip) h = h
+inner-shape kind inside (sub at (sub_call ys o ts)) h = h
 inner-shape kind inside (sub at (sub_assign xs es)) h = h
 inner-shape kind inside (sub at (sub_assign_at f e v)) h = h
 inner-shape kind inside (sub at (sub_member x e)) h = h

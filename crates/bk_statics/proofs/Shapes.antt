@@ -12,7 +12,7 @@ use Rattle.bk_dev.specs.declared.kind.Kind.TheVariants.{Machine, Refinement, Imp
 use Rattle.bk_dev.specs.Development.{is_implementing}
 use Rattle.bk_dev.specs.Facts.{IsGuard, MaySequence, MayLoop, LoopsStandIn, MayStandIn, IsUnordered}
 use Rattle.bk_raw.specs.Trees.RawTree.{RawTree}
-use Rattle.bk_raw.specs.Trees.SubTree.{SubTree, sub, SubNode, sub_skip, sub_assign, sub_assign_at, sub_member, sub_such, sub_begin, sub_pre, sub_assert, sub_if, sub_choice, sub_select, sub_any, sub_let, sub_var, sub_while, sub_parallel, sub_sequence, Branches, no_branches, else_branch, branch_and, Choices, no_choices, choice_and}
+use Rattle.bk_raw.specs.Trees.SubTree.{SubTree, sub, SubNode, sub_skip, sub_call, sub_assign, sub_assign_at, sub_member, sub_such, sub_begin, sub_pre, sub_assert, sub_if, sub_choice, sub_select, sub_any, sub_let, sub_var, sub_while, sub_parallel, sub_sequence, Branches, no_branches, else_branch, branch_and, Choices, no_choices, choice_and}
 use Rattle.bk_raw.specs.Meaning.Names.{Names}
 use Rattle.bk_raw.specs.Meaning.Outcome.{ask_domain}
 use Rattle.bk_raw.proofs.RulesFit.{none-left, none-right, some-fault}
@@ -81,6 +81,7 @@ module _ (kind : Kind) (int_max : ℤ) (typing : Typing) (above : Names) where
 
     node-shaped : (node : SubNode) (inside : Bool) (at : ℕ) (names : Names) (n : ℕ) → shape_in kind inside at node ≡ [] → IsShaped kind inside (elaborated_node int_max typing above names n node)
     node-shaped sub_skip inside at names n e = record { loops = tt; may = tt; unordered = λ e. tt }
+    node-shaped (sub_call ys o ts) inside at names n e = record { loops = tt; may = tt; unordered = λ e. tt }
     node-shaped (sub_assign xs es) inside at names n e = record { loops = tt; may = tt; unordered = λ e. tt }
     node-shaped (sub_assign_at f a v) inside at names n e = put-shaped kind inside int_max typing names (number_of (target names f.text)) (type_at typing (target names f.text)) a v
     node-shaped (sub_member x a) inside at names n e =

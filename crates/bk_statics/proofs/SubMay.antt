@@ -23,7 +23,7 @@ use Rattle.bk_raw.specs.Meaning.TermReading.{place_of, reading}
 use Rattle.bk_raw.specs.Meaning.RightReading.{Whenever}
 use Rattle.bk_raw.specs.Meaning.Speaking.{AreTyped}
 use Rattle.bk_raw.specs.Meaning.Built.{IsVisible}
-use Rattle.bk_raw.specs.Trees.SubTree.{SubTree, sub, SubNode, sub_skip, sub_assign, sub_assign_at, sub_member, sub_such, sub_begin, sub_pre, sub_assert, sub_if, sub_choice, sub_select, sub_any, sub_let, sub_var, sub_while, sub_parallel, sub_sequence, Branches, no_branches, else_branch, branch_and, Choices, no_choices, choice_and}
+use Rattle.bk_raw.specs.Trees.SubTree.{SubTree, sub, SubNode, sub_skip, sub_call, sub_assign, sub_assign_at, sub_member, sub_such, sub_begin, sub_pre, sub_assert, sub_if, sub_choice, sub_select, sub_any, sub_let, sub_var, sub_while, sub_parallel, sub_sequence, Branches, no_branches, else_branch, branch_and, Choices, no_choices, choice_and}
 use Rattle.bk_statics.specs.Typings.{Typing, interval, numbered, numbered_old, typed, Target, unknown, no_variable, variable_target, target_in, target, number_of, type_at, predicate_read, outcome_of, term_read}
 use Rattle.bk_statics.specs.Binders.{binder_count}
 use Rattle.bk_statics.specs.Elaborated.{overridden, put_read, all_one_type, chosen_where, chosen_in, elaborated, elaborated_node, else_part, choices, selected}
@@ -128,6 +128,7 @@ module _ (int_max : ℤ) (table : Table) (typing : Typing) (settled : IsSettled 
 
       node-stays : (node : SubNode) (names : Names) (visible writable : ℕ → Bool) (n : ℕ) → AreOf table names → AreTyped (typed typing names) → AreSeen visible names → IsBelow n visible → node_faults int_max typing higher names writable n node ≡ [] → StaysIn visible above writable (elaborated_node int_max typing higher names n node)
       node-stays sub_skip names visible writable n h t s b e = tt
+      node-stays (sub_call ys o ts) names visible writable n h t s b e = tt
       node-stays (sub_assign xs es) names visible writable n h t s b e = assigned-stays int_max table typing settled visible writable names [] xs es h s (none-left (left_faults names writable [] xs) (assign_faults int_max typing names (first_place xs) xs es) e)
       node-stays (sub_assign_at x a v) names visible writable n h t s b e = put-stays visible above writable names (target names x.text) (type_at typing (target names x.text)) a v h s (target-seen visible names x.text s) (one-free names writable x (none-left (left_faults names writable [] (x ∷ [])) (put_faults int_max typing names x.at (type_at typing (target names x.text)) a v) e)) refl
       node-stays (sub_member x a) names visible writable n h t s b e =

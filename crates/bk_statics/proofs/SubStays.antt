@@ -19,7 +19,7 @@ use Rattle.bk_raw.specs.Meaning.Outcome.{ask_domain, ask_predicate}
 use Rattle.bk_raw.specs.Meaning.TermReading.{place_of, part, reading}
 use Rattle.bk_raw.specs.Meaning.RightReading.{Whenever}
 use Rattle.bk_raw.specs.Meaning.Built.{NamesHave, IsVisible}
-use Rattle.bk_raw.specs.Trees.SubTree.{SubTree, sub, SubNode, sub_skip, sub_assign, sub_assign_at, sub_member, sub_such, sub_begin, sub_pre, sub_assert, sub_if, sub_choice, sub_select, sub_any, sub_let, sub_var, sub_while, sub_parallel, sub_sequence, Branches, no_branches, else_branch, branch_and, Choices, no_choices, choice_and}
+use Rattle.bk_raw.specs.Trees.SubTree.{SubTree, sub, SubNode, sub_skip, sub_call, sub_assign, sub_assign_at, sub_member, sub_such, sub_begin, sub_pre, sub_assert, sub_if, sub_choice, sub_select, sub_any, sub_let, sub_var, sub_while, sub_parallel, sub_sequence, Branches, no_branches, else_branch, branch_and, Choices, no_choices, choice_and}
 use Rattle.bk_gsl.specs.Writes.{written}
 use Rattle.bk_statics.specs.Typings.{Typing, interval, numbered, numbered_old, with_type, typed, Target, unknown, no_variable, variable_target, target, number_of, type_at, or_else, predicate_read, outcome_of, term_read}
 use Rattle.bk_statics.specs.Binders.{binder_count}
@@ -330,6 +330,7 @@ module _ (int_max : ℤ) (typing : Typing) where
 
     node-written : (node : SubNode) (above names : Names) (n m : ℕ) → among (written (elaborated_node int_max typing above names n node)) m ≡ true → among (firsts (written_by names n node)) m ≡ true
     node-written sub_skip above names n m h = h
+    node-written (sub_call ys o ts) above names n m h = h
     node-written (sub_assign xs es) above names n m h = assigned-written names xs es m h
     node-written (sub_assign_at x e v) above names n m h = put-written names (number_of (target names x.text)) m (type_at typing (target names x.text)) e v h
     node-written (sub_member x e) above names n m h = let c = chosen_in typing (number_of (target names x.text)) (type_at typing (target names x.text)) n (ask_domain 0 (outcome_of int_max typing names e)).answer in chosen-written (number_of (target names x.text)) (type_at typing (target names x.text)) n m (ask_domain 0 (outcome_of int_max typing names e)).answer (filter-passes (λ k. not (among (n ∷ []) k)) (written c) m h).1

@@ -21,7 +21,7 @@ use Rattle.bk_raw.specs.Meaning.Binders.{twice, has_type}
 use Rattle.bk_raw.specs.Meaning.TermReading.{place_of, part, reading}
 use Rattle.bk_raw.specs.Meaning.RightReading.{Whenever}
 use Rattle.bk_raw.specs.Meaning.Speaking.{HasType, AreTyped}
-use Rattle.bk_raw.specs.Trees.SubTree.{SubTree, sub, SubNode, sub_skip, sub_assign, sub_assign_at, sub_member, sub_such, sub_begin, sub_pre, sub_assert, sub_if, sub_choice, sub_select, sub_any, sub_let, sub_var, sub_while, sub_parallel, sub_sequence, Branches, no_branches, else_branch, branch_and, Choices, no_choices, choice_and}
+use Rattle.bk_raw.specs.Trees.SubTree.{SubTree, sub, SubNode, sub_skip, sub_call, sub_assign, sub_assign_at, sub_member, sub_such, sub_begin, sub_pre, sub_assert, sub_if, sub_choice, sub_select, sub_any, sub_let, sub_var, sub_while, sub_parallel, sub_sequence, Branches, no_branches, else_branch, branch_and, Choices, no_choices, choice_and}
 use Rattle.bk_statics.specs.Typings.{Typing, interval, numbered, numbered_old, with_type, typed, Target, unknown, no_variable, variable_target, target_in, target, number_of, type_at, or_else, predicate_read, outcome_of, term_read}
 use Rattle.bk_statics.specs.Binders.{binder_count}
 use Rattle.bk_statics.specs.Elaborated.{with_pair, paired_as, assigned_pairs, overridden, put_read, all_one_type, chosen_where, chosen_in, old_pairs, elaborated, elaborated_node, else_part, choices, selected}
@@ -220,6 +220,7 @@ module _ (int_max : ℤ) (table : Table) (typing : Typing) (settled : IsSettled 
 
       node-types : (node : SubNode) (names : Names) (writable : ℕ → Bool) (n : ℕ) → AreOf table names → AreTyped (typed typing names) → node_faults int_max typing above names writable n node ≡ [] → Types table (elaborated_node int_max typing above names n node)
       node-types sub_skip names writable n h t e = tt
+      node-types (sub_call ys o ts) names writable n h t e = tt
       node-types (sub_assign xs es) names writable n h t e = assigned-typed names xs es h
       node-types (sub_assign_at x a v) names writable n h t e = put-typed names (target names x.text) (type_at typing (target names x.text)) a v h refl
       node-types (sub_member x a) names writable n h t e =

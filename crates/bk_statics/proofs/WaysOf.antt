@@ -7,7 +7,7 @@ use Rattle.bk_raw.specs.declared.term.RawName.{RawName}
 use Rattle.bk_raw.specs.Trees.RawTree.{RawTree, RawTrees, no_trees, tree_and}
 use Rattle.bk_raw.specs.Meaning.Names.{Names, global, level_name}
 use Rattle.bk_statics.specs.Settled.{AreOf}
-use Rattle.bk_raw.specs.Trees.SubTree.{SubTree, sub, SubNode, sub_skip, sub_assign, sub_assign_at, sub_member, sub_such, sub_begin, sub_pre, sub_assert, sub_if, sub_choice, sub_select, sub_any, sub_let, sub_var, sub_while, sub_parallel, sub_sequence, Branches, no_branches, else_branch, branch_and, Choices, no_choices, choice_and}
+use Rattle.bk_raw.specs.Trees.SubTree.{SubTree, sub, SubNode, sub_skip, sub_call, sub_assign, sub_assign_at, sub_member, sub_such, sub_begin, sub_pre, sub_assert, sub_if, sub_choice, sub_select, sub_any, sub_let, sub_var, sub_while, sub_parallel, sub_sequence, Branches, no_branches, else_branch, branch_and, Choices, no_choices, choice_and}
 use Rattle.bk_statics.specs.Sources.{IsWayOf, AreWaysOf}
 use Rattle.bk_statics.specs.Components.{or_next}
 use Rattle.bk_statics.specs.Typings.{numbered, numbered_old, target, is_variable, variable_named}
@@ -33,6 +33,7 @@ mutual
 
   node-ways-count : (node : SubNode) (names : Names) (n : ℕ) → length (ways_in names n node) ≡ count_in node
   node-ways-count sub_skip names n = refl
+  node-ways-count (sub_call ys o ts) names n = refl
   node-ways-count (sub_assign xs es) names n = refl
   node-ways-count (sub_assign_at x e v) names n = refl
   node-ways-count (sub_member x e) names n = refl
@@ -103,6 +104,7 @@ module _ (table : Table) where
 
     node-first : (node : SubNode) (names : Names) (n m : ℕ) → AreOf table names → Perhaps (first_in names n m node)
     node-first sub_skip names n m h = tt
+    node-first (sub_call ys o ts) names n m h = tt
     node-first (sub_assign xs es) names n m h = terms-of names m xs es h
     node-first (sub_assign_at x e v) names n m h = either-of (is_variable m (target names x.text)) (Some no_way) None tt tt
     node-first (sub_member x e) names n m h = either-of (is_variable m (target names x.text)) (Some (by_domain names e)) None h tt
@@ -151,6 +153,7 @@ module _ (table : Table) where
 
     node-ways : (node : SubNode) (names : Names) (n : ℕ) → AreOf table names → AreWaysOf table (ways_in names n node)
     node-ways sub_skip names n h = tt
+    node-ways (sub_call ys o ts) names n h = tt
     node-ways (sub_assign xs es) names n h = tt
     node-ways (sub_assign_at x e v) names n h = tt
     node-ways (sub_member x e) names n h = old-ways-of names (x ∷ [])

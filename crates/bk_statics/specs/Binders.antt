@@ -4,7 +4,8 @@ use Rattle.std.specs.Prelude.{ℕ, ◌+◌, List, [], ◌∷◌, ◌++◌, lengt
 use Rattle.bk_raw.specs.declared.term.RawName.{RawName}
 use Rattle.bk_raw.specs.Trees.SubTree.{SubTree, sub, SubNode, sub_skip, sub_assign, sub_assign_at, sub_member, sub_such, sub_begin, sub_pre}
 use Rattle.bk_raw.specs.Trees.SubTree.{sub_assert, sub_if, sub_choice, sub_select, sub_any, sub_let, sub_var, sub_while, sub_parallel}
-use Rattle.bk_raw.specs.Trees.SubTree.{sub_sequence, Branches, no_branches, else_branch, branch_and, Choices, no_choices, choice_and}
+use Rattle.bk_raw.specs.Trees.SubTree.{sub_sequence, sub_call, Branches, no_branches, else_branch, branch_and}
+use Rattle.bk_raw.specs.Trees.SubTree.{Choices, no_choices, choice_and}
 use Rattle.bk_raw.specs.Meaning.Names.{level_name}
 
 -- how much it binds
@@ -14,6 +15,7 @@ abbrev mutual
 
   pub count_in : SubNode → ℕ
   count_in sub_skip = 0
+  count_in (sub_call xs o ts) = 0
   count_in (sub_assign xs es) = 0
   count_in (sub_assign_at f x e) = 0
   count_in (sub_member x e) = 1
@@ -57,6 +59,7 @@ abbrev mutual
 
   pub texts_in : SubNode → List (List ℕ)
   texts_in sub_skip = []
+  texts_in (sub_call xs o ts) = []
   texts_in (sub_assign xs es) = []
   texts_in (sub_assign_at f x e) = []
   texts_in (sub_member x e) = x.text ∷ []

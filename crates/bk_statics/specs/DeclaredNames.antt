@@ -9,7 +9,8 @@ use Rattle.bk_raw.specs.Trees.RawTree.{raw_typed_empty, raw_typed_for_all, raw_t
 use Rattle.bk_raw.specs.Trees.RawTree.{RawTrees, no_trees, tree_and, RawRanges, no_ranges, range_and}
 use Rattle.bk_raw.specs.Trees.SubTree.{SubTree, sub, SubNode, sub_skip, sub_assign, sub_assign_at, sub_member, sub_such, sub_begin, sub_pre}
 use Rattle.bk_raw.specs.Trees.SubTree.{sub_assert, sub_if, sub_choice, sub_select, sub_any, sub_let, sub_var, sub_while, sub_parallel}
-use Rattle.bk_raw.specs.Trees.SubTree.{sub_sequence, Branches, no_branches, else_branch, branch_and, Choices, no_choices, choice_and}
+use Rattle.bk_raw.specs.Trees.SubTree.{sub_sequence, sub_call, Branches, no_branches, else_branch, branch_and}
+use Rattle.bk_raw.specs.Trees.SubTree.{Choices, no_choices, choice_and}
 use Rattle.bk_raw.specs.Trees.ComponentTree.{RawOperation}
 use Rattle.bk_statics.specs.Components.{Component}
 
@@ -59,6 +60,7 @@ abbrev mutual
 
   pub sub_node_names : SubNode → ℕ
   sub_node_names sub_skip = 0
+  sub_node_names (sub_call xs o ts) = all_term_names ts
   sub_node_names (sub_assign xs es) = all_term_names es
   sub_node_names (sub_assign_at f e v) = term_names e + term_names v
   sub_node_names (sub_member x e) = term_names e

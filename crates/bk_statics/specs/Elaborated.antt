@@ -11,7 +11,8 @@ use Rattle.bk_raw.specs.declared.term.RawName.{RawName}
 use Rattle.bk_raw.specs.Trees.RawTree.{RawTree, RawTrees, no_trees, tree_and}
 use Rattle.bk_raw.specs.Trees.SubTree.{SubTree, sub, SubNode, sub_skip, sub_assign, sub_assign_at, sub_member, sub_such, sub_begin, sub_pre}
 use Rattle.bk_raw.specs.Trees.SubTree.{sub_assert, sub_if, sub_choice, sub_select, sub_any, sub_let, sub_var, sub_while, sub_parallel}
-use Rattle.bk_raw.specs.Trees.SubTree.{sub_sequence, Branches, no_branches, else_branch, branch_and, Choices, no_choices, choice_and}
+use Rattle.bk_raw.specs.Trees.SubTree.{sub_sequence, sub_call, Branches, no_branches, else_branch, branch_and}
+use Rattle.bk_raw.specs.Trees.SubTree.{Choices, no_choices, choice_and}
 use Rattle.bk_raw.specs.Meaning.Names.{Names}
 use Rattle.bk_raw.specs.Meaning.Outcome.{ask_domain}
 use Rattle.bk_statics.specs.Typings.{Typing, or_else, interval, numbered, numbered_old, Target, target}
@@ -77,9 +78,10 @@ abbrev mutual
   pub elaborated : ℤ → Typing → Names → Names → ℕ → SubTree → Substitution
   elaborated int_max typing above names n (sub at node) = elaborated_node int_max typing above names n node
 
-  -- the substitution that a written one stands for, by its form
+  -- the substitution that a written one stands for, by its form. A call stands nowhere yet, and reads as skip
   pub elaborated_node : ℤ → Typing → Names → Names → ℕ → SubNode → Substitution
   elaborated_node int_max typing above names n sub_skip = skip
+  elaborated_node int_max typing above names n (sub_call xs o ts) = skip
   elaborated_node int_max typing above names n (sub_assign xs es) = assign (assigned_pairs int_max typing names xs es)
   elaborated_node int_max typing above names n (sub_assign_at f e v) =
       put_read int_max typing names (number_of (target names f.text)) (type_at typing (target names f.text)) e v

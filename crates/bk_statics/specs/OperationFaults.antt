@@ -9,7 +9,8 @@ use Rattle.bk_raw.specs.declared.term.RawName.{RawName}
 use Rattle.bk_raw.specs.Trees.ComponentTree.{RawOperation}
 use Rattle.bk_raw.specs.Trees.SubTree.{SubTree, sub, SubNode, sub_skip, sub_assign, sub_assign_at, sub_member, sub_such, sub_begin, sub_pre}
 use Rattle.bk_raw.specs.Trees.SubTree.{sub_assert, sub_if, sub_choice, sub_select, sub_any, sub_let, sub_var, sub_while, sub_parallel}
-use Rattle.bk_raw.specs.Trees.SubTree.{sub_sequence, Branches, no_branches, else_branch, branch_and, Choices, no_choices, choice_and}
+use Rattle.bk_raw.specs.Trees.SubTree.{sub_sequence, sub_call, Branches, no_branches, else_branch, branch_and}
+use Rattle.bk_raw.specs.Trees.SubTree.{Choices, no_choices, choice_and}
 use Rattle.bk_raw.specs.Meaning.Binders.{is_text}
 use Rattle.bk_raw.specs.Errors.Faults.{Fault, wrong_operation}
 use Rattle.bk_statics.specs.Components.{Component, first_token, operation_names, is_machine, initialisation}
@@ -30,12 +31,14 @@ may_sequence Machine = false
 may_sequence _ = true
 
 abbrev mutual
-  -- ; and VAR do not stand in machines, WHILE stands in implementations alone, and none of the three stands inside ||
+  -- ; and VAR do not stand in machines, WHILE stands in implementations alone, and none of the three stands inside ||. A call stands
+  -- nowhere yet
   pub shape_faults : Kind → Bool → SubTree → List Fault
   shape_faults kind inside (sub at node) = shape_in kind inside at node
 
   pub shape_in : Kind → Bool → ℕ → SubNode → List Fault
   shape_in kind inside at sub_skip = []
+  shape_in kind inside at (sub_call xs o ts) = unless false at
   shape_in kind inside at (sub_assign xs es) = []
   shape_in kind inside at (sub_assign_at f e v) = []
   shape_in kind inside at (sub_member x e) = []

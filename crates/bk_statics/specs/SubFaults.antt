@@ -10,7 +10,8 @@ use Rattle.bk_raw.specs.declared.term.RawName.{RawName}
 use Rattle.bk_raw.specs.Trees.RawTree.{RawTree, RawTrees, no_trees, tree_and}
 use Rattle.bk_raw.specs.Trees.SubTree.{SubTree, sub, SubNode, sub_skip, sub_assign, sub_assign_at, sub_member, sub_such, sub_begin, sub_pre}
 use Rattle.bk_raw.specs.Trees.SubTree.{sub_assert, sub_if, sub_choice, sub_select, sub_any, sub_let, sub_var, sub_while, sub_parallel}
-use Rattle.bk_raw.specs.Trees.SubTree.{sub_sequence, Branches, no_branches, else_branch, branch_and, Choices, no_choices, choice_and}
+use Rattle.bk_raw.specs.Trees.SubTree.{sub_sequence, sub_call, Branches, no_branches, else_branch, branch_and}
+use Rattle.bk_raw.specs.Trees.SubTree.{Choices, no_choices, choice_and}
 use Rattle.bk_raw.specs.Meaning.Names.{Names}
 use Rattle.bk_raw.specs.Meaning.Outcome.{no_type, ask, ask_value, ask_domain}
 use Rattle.bk_raw.specs.Meaning.Binders.{twice, has_type}
@@ -137,6 +138,7 @@ abbrev mutual
 
   pub written_by : Names → ℕ → SubNode → List (ℕ × ℕ)
   written_by names n sub_skip = []
+  written_by names n (sub_call xs o ts) = []
   written_by names n (sub_assign xs es) = written_names names xs
   written_by names n (sub_assign_at f e v) = written_names names (f ∷ [])
   written_by names n (sub_member x e) = written_names names (x ∷ [])
@@ -181,6 +183,7 @@ abbrev mutual
 
   pub node_faults : ℤ → Typing → Names → Names → (ℕ → Bool) → ℕ → SubNode → List Fault
   node_faults int_max typing above names writable n sub_skip = []
+  node_faults int_max typing above names writable n (sub_call xs o ts) = []
   node_faults int_max typing above names writable n (sub_assign xs es) =
       left_faults names writable [] xs ++ assign_faults int_max typing names (first_place xs) xs es
   node_faults int_max typing above names writable n (sub_assign_at f e v) =

@@ -10,7 +10,8 @@ use Rattle.bk_raw.specs.declared.term.RawName.{RawName}
 use Rattle.bk_raw.specs.Trees.RawTree.{RawTree, RawTrees, no_trees, tree_and}
 use Rattle.bk_raw.specs.Trees.SubTree.{SubTree, sub, SubNode, sub_skip, sub_assign, sub_assign_at, sub_member, sub_such, sub_begin, sub_pre}
 use Rattle.bk_raw.specs.Trees.SubTree.{sub_assert, sub_if, sub_choice, sub_select, sub_any, sub_let, sub_var, sub_while, sub_parallel}
-use Rattle.bk_raw.specs.Trees.SubTree.{sub_sequence, Branches, no_branches, else_branch, branch_and, Choices, no_choices, choice_and}
+use Rattle.bk_raw.specs.Trees.SubTree.{sub_sequence, sub_call, Branches, no_branches, else_branch, branch_and}
+use Rattle.bk_raw.specs.Trees.SubTree.{Choices, no_choices, choice_and}
 use Rattle.bk_raw.specs.Meaning.Names.{Names}
 use Rattle.bk_raw.specs.Meaning.Outcome.{ask_value, ask_domain}
 use Rattle.bk_raw.specs.Meaning.Binders.{Bound, bound_names, second}
@@ -87,6 +88,7 @@ abbrev mutual
 
   pub first_in : Names → ℕ → ℕ → SubNode → Option Way
   first_in names n m sub_skip = None
+  first_in names n m (sub_call xs o ts) = None
   first_in names n m (sub_assign xs es) = among_terms names m xs es
   first_in names n m (sub_assign_at f e v) = cond (is_variable m (target names f.text)) (Some no_way) None
   first_in names n m (sub_member x e) = cond (is_variable m (target names x.text)) (Some (by_domain names e)) None
@@ -137,6 +139,7 @@ abbrev mutual
 
   pub ways_in : Names → ℕ → SubNode → List Way
   ways_in names n sub_skip = []
+  ways_in names n (sub_call xs o ts) = []
   ways_in names n (sub_assign xs es) = []
   ways_in names n (sub_assign_at f e v) = []
   ways_in names n (sub_member x e) = old_ways names (x ∷ [])

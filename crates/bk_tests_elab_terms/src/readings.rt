@@ -488,6 +488,18 @@ const UNTYPED: [(&str, usize); 10] = [
 // A text by itself that is an expression without a type.
 const ALONE: [(&str, usize); 3] = [("{}", 0), ("n |-> {}", 0), ("{} \\/ {}", 0)];
 
+// What is of sequences has no type yet.
+const OF_SEQUENCES: [(&str, usize); 8] = [
+    ("s ^ t", 0),
+    ("n -> s", 0),
+    ("s <- n", 0),
+    ("seq(s)", 0),
+    ("size(s)", 0),
+    ("n = 1 & first(s) = n", 8),
+    ("card(rev(s))", 5),
+    ("s <- n = s ^ t & n = 1", 0),
+];
+
 // Whether the texts of each row are one formula.
 fn all_mean_same(alloc: Global, table: &[(&str, &str)]) -> Result<bool, Memory> {
     for (written, core) in table {
@@ -555,6 +567,14 @@ fn names_without_types_are_told(rt: HostRuntime) -> Result<(), Fail> {
 #[test]
 fn a_term_alone_gives_a_type(rt: HostRuntime) -> Result<(), Fail> {
     for (written, place) in ALONE {
+        assert!(rt; is_at_fault(rt.alloc(), written, 8, place)?, "{written}");
+    }
+    Ok(())
+}
+
+#[test]
+fn what_is_of_sequences_has_no_type(rt: HostRuntime) -> Result<(), Fail> {
+    for (written, place) in OF_SEQUENCES {
         assert!(rt; is_at_fault(rt.alloc(), written, 8, place)?, "{written}");
     }
     Ok(())

@@ -54,7 +54,7 @@ const COMPONENTS: [(&str, usize); 6] = [
 ];
 
 // A text, and the token that no component is read up to.
-const FAULTS: [(&str, usize); 15] = [
+const FAULTS: [(&str, usize); 29] = [
     ("", 0),
     ("skip", 0),
     ("MACHINE", 0),
@@ -70,6 +70,20 @@ const FAULTS: [(&str, usize); 15] = [
     ("MACHINE M OPERATIONS o = skip ; END", 6),
     ("MACHINE M INVARIANT btrue END", 2),
     ("MACHINE M INVARIANT x = y btrue END", 6),
+    ("MACHINE A SETS S END END", 2),
+    ("MACHINE M SETS S ; T = {a} END", 2),
+    ("MACHINE M SETS S = {a} ; T END", 8),
+    ("MACHINE M INVARIANT a ^ b = c END", 4),
+    ("MACHINE M INVARIANT s : seq(a) END", 4),
+    ("MACHINE M INVARIANT first(s) = 1 END", 2),
+    ("MACHINE M CONSTANTS c, tail END", 4),
+    ("MACHINE M INITIALISATION op END", 2),
+    ("MACHINE M INITIALISATION x := 1 ; op END", 6),
+    ("MACHINE M OPERATIONS o = r <-- op(a) END", 2),
+    ("MACHINE M OPERATIONS o = skip ; p = op END", 6),
+    ("MACHINE M IMPORTS N END", 2),
+    ("REFINEMENT R REFINES M IMPORTS N END", 4),
+    ("IMPLEMENTATION I REFINES M IMPORTS N END", 4),
 ];
 
 fn compare_clauses(rt: &impl Abort, alloc: Global, rows: &[(&str, usize)]) {

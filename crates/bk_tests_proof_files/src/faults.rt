@@ -20,7 +20,7 @@ pub(crate) fn is_fault(alloc: Global, texts: &[&str], wanted: (u8, u32, usize)) 
 }
 
 // Texts of one file with the byte where nothing is written that goes on so.
-const UNWRITTEN: [(&str, usize); 24] = [
+const UNWRITTEN: [(&str, usize); 30] = [
     ("proof A.1 hyp end", 10),
     ("proof A.1 same ; end", 15),
     ("proof A.1 same", 14),
@@ -45,6 +45,12 @@ const UNWRITTEN: [(&str, usize); 24] = [
     ("proof A.1 cut end", 17),
     ("proof A.1 open 1 x : (INTEGER * ) end", 10),
     ("proof A.1 eval hyp end", 15),
+    ("proof A.1 cut x ^ y end", 16),
+    ("proof A.1 cut x -> y end", 16),
+    ("proof A.1 cut seq(x) end", 10),
+    ("proof A.1 cut x = first(y) end", 16),
+    ("proof A.1 cut x ; same ^ end", 23),
+    ("proof seq.^ end", 9),
 ];
 
 #[test]

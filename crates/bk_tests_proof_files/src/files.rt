@@ -43,6 +43,8 @@ fn scripts_and_their_rules(rt: HostRuntime) {
         )
     );
     assert!(rt; rules(rt.alloc(), &["proof A.INITIALISATION.1 not ; or end"], &[2]));
+    // a word of sequences may be a part of a name
+    assert!(rt; rules(rt.alloc(), &["proof seq.first.1 same end"], &[1]));
     assert!(rt; rules(rt.alloc(), &["proof Größe.1 cut größe = 1 end"], &[1]));
     assert!(rt; rules(rt.alloc(), &["proof A.1 cut end end"], &[1]));
     assert!(rt;

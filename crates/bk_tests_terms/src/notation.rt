@@ -60,22 +60,26 @@ fn other_texts_are_not_found(rt: HostRuntime) {
 }
 
 // Texts of signs, and the names of their numbers.
-const NAMED_SIGNS: [(&str, u16); 6] = [
+const NAMED_SIGNS: [(&str, u16); 7] = [
     ("|->", sign::MAPLET),
     ("|", sign::BAR),
     ("<--", sign::OUTPUTS),
+    ("^", sign::CONCATENATION),
     ("->", sign::PREPEND),
     ("<-", sign::APPEND),
     ("/", sign::DIVIDE),
 ];
 
-const NAMED_WORDS: [(&str, u16); 6] = [
+const NAMED_WORDS: [(&str, u16); 9] = [
     ("OR", word::OR_BRANCH),
     ("or", word::OR),
     ("bool", word::BOOL_OF),
     ("BOOL", word::BOOL),
     ("skip", word::SKIP),
     ("bfalse", word::BFALSE),
+    ("IMPORTS", word::IMPORTS),
+    ("seq", word::SEQ),
+    ("rev", word::REV),
 ];
 
 fn compare<const N: usize>(rt: &impl Abort, table: &[OpRow; N], rows: &[(&str, u16)]) {

@@ -56,6 +56,9 @@ pub(crate) const LEVELS: [Level; 10] = [
             ("|>>", InfixOp::RangeSubtraction),
             ("<+", InfixOp::Override),
             ("|->", InfixOp::Maplet),
+            ("^", InfixOp::Concatenation),
+            ("->", InfixOp::Prepend),
+            ("<-", InfixOp::Append),
         ],
     ),
     (6, 7, 7, &[("..", InfixOp::Interval)]),
@@ -74,7 +77,7 @@ pub(crate) const LEVELS: [Level; 10] = [
 ];
 
 // The words before a term in parentheses.
-pub(crate) const WORD_OPERATORS: [(&str, WordOp); 14] = [
+pub(crate) const WORD_OPERATORS: [(&str, WordOp); 21] = [
     ("not", WordOp::Not),
     ("bool", WordOp::BoolOf),
     ("card", WordOp::Card),
@@ -89,7 +92,17 @@ pub(crate) const WORD_OPERATORS: [(&str, WordOp); 14] = [
     ("POW1", WordOp::Pow1),
     ("FIN", WordOp::Fin),
     ("FIN1", WordOp::Fin1),
+    ("seq", WordOp::Seq),
+    ("size", WordOp::Size),
+    ("first", WordOp::First),
+    ("last", WordOp::Last),
+    ("front", WordOp::Front),
+    ("tail", WordOp::Tail),
+    ("rev", WordOp::Rev),
 ];
+
+// The signs of sequences, which bind as `|->` does.
+pub(crate) const SEQUENCE_SIGNS: [&str; 3] = ["^", "->", "<-"];
 
 // The words that are terms by themselves.
 pub(crate) const CONSTANTS: [(&str, Constant); 13] = [

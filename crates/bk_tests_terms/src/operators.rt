@@ -99,10 +99,15 @@ fn no_other_token_is_an_operator(rt: HostRuntime) {
     assert!(rt; roles(&TokenKind::BoundName(1)) == [false, false, false]);
 }
 
-const ROLES: [(&str, [bool; 3]); 3] = [
+const ROLES: [(&str, [bool; 3]); 8] = [
     ("mod", [true, false, false]),
     ("dom", [false, true, false]),
     ("TRUE", [false, false, true]),
+    ("^", [true, false, false]),
+    ("->", [true, false, false]),
+    ("first", [false, true, false]),
+    ("UNION", [false, false, false]),
+    ("IMPORTS", [false, false, false]),
 ];
 
 fn compare_roles(rt: &impl Abort, rows: &[(&str, [bool; 3])]) {

@@ -1,6 +1,6 @@
 // Texts and the terms that are read from them.
 
-use crate::operator_table::{CONSTANTS, LEVELS, Level, WORD_OPERATORS};
+use crate::operator_table::{CONSTANTS, LEVELS, Level, SEQUENCE_SIGNS, WORD_OPERATORS};
 use bk_lex::tokens;
 use bk_p_expr::{SynFault, term};
 use bk_raw::{Constant, InfixOp, RawNode, RawTerm, WordOp};
@@ -70,8 +70,12 @@ const ASSOCIATED: [(&str, usize, &str); 12] = [
     ("a - 5 - -5", 6, "(a - (5)) - (-5)"),
 ];
 
-const LONGEST: [(&str, usize, &str); 7] = [
-    ("a<-b", 1, "a"),
+const LONGEST: [(&str, usize, &str); 11] = [
+    ("a<-b", 3, "a <- b"),
+    ("a->b", 3, "a -> b"),
+    ("a<--b", 1, "a"),
+    ("a^b^", 3, "a ^ b"),
+    ("a -> seq", 1, "a"),
     ("a + b * ", 3, "a + b"),
     ("a ** b ** (", 3, "a ** b"),
     ("f(a ; b)", 1, "f"),
@@ -187,6 +191,53 @@ fn each_word_is_read(rt: HostRuntime) -> Result<(), Fail> {
     compare_words(&rt, rt.alloc(), &WORD_OPERATORS)
 }
 
+// ---- signs of sequences beside other operators
+
+// A text of two operators between names with the left one in parentheses, or else the right one.
+fn grouped(alloc: Global, one: &str, other: &str, is_left: bool) -> Result<String, AllocError> {
+    if is_left {
+        return format!(in alloc; "(a {one} b) {other} c");
+    }
+    format!(in alloc; "a {one} (b {other} c)")
+}
+
+fn compare_grouped(
+    rt: &impl Abort,
+    alloc: Global,
+    one: &str,
+    other: &str,
+    is_left: bool,
+) -> Result<(), Fail> {
+    let text = format!(in alloc; "a {one} b {other} c")?;
+    let wanted = grouped(alloc, one, other, is_left)?;
+    assert!(rt; reads_as(alloc, &text, 5, &wanted), "{text}");
+    Ok(())
+}
+
+// Before an operator that binds as tightly or looser the sign is read first, and after one that binds looser.
+fn compare_beside(
+    rt: &impl Abort,
+    alloc: Global,
+    sign: &str,
+    levels: &[Level],
+) -> Result<(), Fail> {
+    for (level, _, _, operators) in levels {
+        for (other, _) in *operators {
+            compare_grouped(rt, alloc, sign, other, *level <= 5)?;
+            compare_grouped(rt, alloc, other, sign, *level >= 5)?;
+        }
+    }
+    Ok(())
+}
+
+#[test]
+fn signs_of_sequences_bind_as_maplets(rt: HostRuntime) -> Result<(), Fail> {
+    for sign in SEQUENCE_SIGNS {
+        compare_beside(&rt, rt.alloc(), sign, &LEVELS)?;
+    }
+    Ok(())
+}
+
 // ---- sets, quantifiers and what is printed
 
 // What a term is, and how many parts it lists.
@@ -292,6 +343,29 @@ fn refuse(rt: &impl Abort, alloc: Global, texts: &[&str]) {
 #[test]
 fn nothing_is_read(rt: HostRuntime) {
     refuse(&rt, rt.alloc(), &UNWRITTEN);
+}
+
+// What stands after a word from which no term is read.
+const AFTER_WORDS: [&str; 5] = ["", " a", "()", "(a, b)", "(a"];
+
+fn refuse_after(rt: &impl Abort, alloc: Global, word: &str, rows: &[&str]) -> Result<(), Fail> {
+    for after in rows {
+        let text = format!(in alloc; "{word}{after}")?;
+        assert!(rt; fails(alloc, &text, SynFault::At(0)), "{text}");
+    }
+    Ok(())
+}
+
+fn refuse_words(rt: &impl Abort, alloc: Global, words: &[(&str, WordOp)]) -> Result<(), Fail> {
+    for (word, _) in words {
+        refuse_after(rt, alloc, word, &AFTER_WORDS)?;
+    }
+    Ok(())
+}
+
+#[test]
+fn words_take_one_term(rt: HostRuntime) -> Result<(), Fail> {
+    refuse_words(&rt, rt.alloc(), &WORD_OPERATORS)
 }
 
 // Whether the third token starts a pair up to the tenth, and the pair and its two parts start at these bytes.

@@ -14,7 +14,7 @@ use Rattle.bk_raw.specs.declared.component.ComponentKind.TheVariants.{Machine, R
 use Rattle.bk_raw.specs.declared.component.ClauseWord.{ClauseWord}
 use Rattle.bk_raw.specs.declared.component.ClauseWord.TheVariants.{Sets, Constants, ConcreteConstants, Properties, Variables}
 use Rattle.bk_raw.specs.declared.component.ClauseWord.TheVariants.{AbstractVariables, ConcreteVariables, Invariant}
-use Rattle.bk_raw.specs.declared.component.ClauseWord.TheVariants.{Assertions, Values, Initialisation, Operations}
+use Rattle.bk_raw.specs.declared.component.ClauseWord.TheVariants.{Assertions, Values, Initialisation, Operations, Imports}
 use Rattle.bk_raw.specs.declared.component.RawValue.{RawValue}
 
 -- ---- words
@@ -41,7 +41,7 @@ coded_kind = code_by ℕ coded_ℕ kind_code (λ n. get_or component_kinds n Mac
 -- the words of clauses
 abbrev pub clause_words : List ClauseWord
 clause_words = Sets ∷ Constants ∷ ConcreteConstants ∷ Properties ∷ Variables ∷ AbstractVariables ∷
-    ConcreteVariables ∷ Invariant ∷ Assertions ∷ Values ∷ Initialisation ∷ Operations ∷ []
+    ConcreteVariables ∷ Invariant ∷ Assertions ∷ Values ∷ Initialisation ∷ Operations ∷ Imports ∷ []
 
 -- the place of a word among them
 abbrev pub word_code : ClauseWord → ℕ
@@ -57,6 +57,7 @@ word_code Assertions = 8
 word_code Values = 9
 word_code Initialisation = 10
 word_code Operations = 11
+word_code Imports = 12
 
 -- a word is told by it
 pub word_back-code : (w : ClauseWord) → get_or clause_words (word_code w) Sets ≡ w
@@ -72,6 +73,7 @@ word_back-code Assertions = refl
 word_back-code Values = refl
 word_back-code Initialisation = refl
 word_back-code Operations = refl
+word_back-code Imports = refl
 
 -- words of clauses are told apart by their places
 abbrev pub coded_word : Coded ClauseWord

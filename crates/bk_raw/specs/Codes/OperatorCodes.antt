@@ -8,8 +8,10 @@ use Rattle.bk_raw.specs.declared.operator.InfixOp.TheVariants.{PartialFunctions,
 use Rattle.bk_raw.specs.declared.operator.InfixOp.TheVariants.{PartialSurjections, TotalSurjections, Bijections, Union, Intersection}
 use Rattle.bk_raw.specs.declared.operator.InfixOp.TheVariants.{DomainRestriction, RangeRestriction, DomainSubtraction, RangeSubtraction}
 use Rattle.bk_raw.specs.declared.operator.InfixOp.TheVariants.{Override, Maplet, Interval, Plus, Minus, Times, Divide, Mod, Power}
+use Rattle.bk_raw.specs.declared.operator.InfixOp.TheVariants.{Concatenation, Prepend, Append}
 use Rattle.bk_raw.specs.declared.operator.WordOp.{WordOp}
 use Rattle.bk_raw.specs.declared.operator.WordOp.TheVariants.{Not, BoolOf, Card, Min, Max, Dom, Ran, Id, Succ, Pred, Pow, Pow1, Fin, Fin1}
+use Rattle.bk_raw.specs.declared.operator.WordOp.TheVariants.{Seq, Size, First, Last, Front, Tail, Rev}
 use Rattle.bk_raw.specs.declared.operator.Constant.{Constant}
 use Rattle.bk_raw.specs.declared.operator.Constant.TheVariants.{Bool, True, False, Integer, Natural, Natural1}
 use Rattle.bk_raw.specs.declared.operator.Constant.TheVariants.{Int, Nat, Nat1, MaxInt, MinInt, Btrue, Bfalse}
@@ -19,7 +21,8 @@ abbrev pub infix_operators : List InfixOp
 infix_operators = Equivalent ∷ Implies ∷ And ∷ Or ∷ Equal ∷ NotEqual ∷ Less ∷ AtMost ∷ Greater ∷ AtLeast ∷ Member ∷ NotMember ∷
     Subset ∷ NotSubset ∷ StrictSubset ∷ Relations ∷ PartialFunctions ∷ TotalFunctions ∷ PartialInjections ∷ TotalInjections ∷
     PartialSurjections ∷ TotalSurjections ∷ Bijections ∷ Union ∷ Intersection ∷ DomainRestriction ∷ RangeRestriction ∷
-    DomainSubtraction ∷ RangeSubtraction ∷ Override ∷ Maplet ∷ Interval ∷ Plus ∷ Minus ∷ Times ∷ Divide ∷ Mod ∷ Power ∷ []
+    DomainSubtraction ∷ RangeSubtraction ∷ Override ∷ Maplet ∷ Interval ∷ Plus ∷ Minus ∷ Times ∷ Divide ∷ Mod ∷ Power ∷
+    Concatenation ∷ Prepend ∷ Append ∷ []
 
 -- its place in that list
 abbrev pub infix_code : InfixOp → ℕ
@@ -61,6 +64,9 @@ infix_code Times = 34
 infix_code Divide = 35
 infix_code Mod = 36
 infix_code Power = 37
+infix_code Concatenation = 38
+infix_code Prepend = 39
+infix_code Append = 40
 
 -- the operator at a place of the list
 abbrev pub infix_back : ℕ → InfixOp
@@ -73,7 +79,8 @@ infix_back-code _ = refl
 
 -- the words that stand before a term in parentheses
 abbrev pub word_operators : List WordOp
-word_operators = Not ∷ BoolOf ∷ Card ∷ Min ∷ Max ∷ Dom ∷ Ran ∷ Id ∷ Succ ∷ Pred ∷ Pow ∷ Pow1 ∷ Fin ∷ Fin1 ∷ []
+word_operators = Not ∷ BoolOf ∷ Card ∷ Min ∷ Max ∷ Dom ∷ Ran ∷ Id ∷ Succ ∷ Pred ∷ Pow ∷ Pow1 ∷ Fin ∷ Fin1 ∷
+    Seq ∷ Size ∷ First ∷ Last ∷ Front ∷ Tail ∷ Rev ∷ []
 
 -- its place in that list
 abbrev pub word_code : WordOp → ℕ
@@ -91,6 +98,13 @@ word_code Pow = 10
 word_code Pow1 = 11
 word_code Fin = 12
 word_code Fin1 = 13
+word_code Seq = 14
+word_code Size = 15
+word_code First = 16
+word_code Last = 17
+word_code Front = 18
+word_code Tail = 19
+word_code Rev = 20
 
 -- the word at a place of the list
 abbrev pub word_back : ℕ → WordOp

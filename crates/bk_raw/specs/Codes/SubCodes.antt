@@ -5,9 +5,10 @@ use Rattle.std.specs.Coded.{Coded}
 use base.Stored.{Gv, gnil, gnum, gcons}
 use Rattle.bk_raw.specs.Codes.RawCodes.{name_code, name_back, name_back-code, names_code, names_back, names_back-code}
 use Rattle.bk_raw.specs.Codes.RawCodes.{tree_code, tree_back, tree_back-code, trees_code, trees_back, trees_back-code}
-use Rattle.bk_raw.specs.Trees.SubTree.{SubTree, sub, SubNode, sub_skip, sub_assign, sub_assign_at, sub_member, sub_such, sub_begin, sub_pre}
-use Rattle.bk_raw.specs.Trees.SubTree.{sub_assert, sub_if, sub_choice, sub_select, sub_any, sub_let, sub_var, sub_while, sub_parallel}
-use Rattle.bk_raw.specs.Trees.SubTree.{sub_sequence, Branches, no_branches, else_branch, branch_and, Choices, no_choices, choice_and}
+use Rattle.bk_raw.specs.Trees.SubTree.{SubTree, sub, SubNode, sub_skip, sub_assign, sub_assign_at, sub_member, sub_such, sub_call}
+use Rattle.bk_raw.specs.Trees.SubTree.{sub_begin, sub_pre, sub_assert, sub_if, sub_choice, sub_select, sub_any, sub_let, sub_var, sub_while}
+use Rattle.bk_raw.specs.Trees.SubTree.{sub_parallel, sub_sequence, Branches, no_branches, else_branch, branch_and}
+use Rattle.bk_raw.specs.Trees.SubTree.{Choices, no_choices, choice_and}
 
 -- substitutions, nodes and lists, each node by its number and its parts
 abbrev mutual
@@ -32,6 +33,7 @@ abbrev mutual
   sub_node_code (sub_while a0 a1 a2 a3) = gcons (gnum 13) (gcons (tree_code a0) (gcons (sub_code a1) (gcons (tree_code a2) (tree_code a3))))
   sub_node_code (sub_parallel a0 a1) = gcons (gnum 14) (gcons (sub_code a0) (sub_code a1))
   sub_node_code (sub_sequence a0 a1) = gcons (gnum 15) (gcons (sub_code a0) (sub_code a1))
+  sub_node_code (sub_call a0 a1 a2) = gcons (gnum 16) (gcons (names_code a0) (gcons (name_code a1) (trees_code a2)))
 
   pub branches_code : Branches → Gv
   branches_code no_branches = gnil
@@ -74,6 +76,8 @@ abbrev mutual
       sub_parallel (sub_back a0) (sub_back a1)
   sub_node_back (gcons (gnum (suc (suc (suc (suc (suc (suc (suc (suc (suc (suc (suc (suc (suc (suc (suc zero))))))))))))))))
       (gcons a0 a1)) = sub_sequence (sub_back a0) (sub_back a1)
+  sub_node_back (gcons (gnum (suc (suc (suc (suc (suc (suc (suc (suc (suc (suc (suc (suc (suc (suc (suc (suc zero)))))))))))))))))
+      (gcons a0 (gcons a1 a2))) = sub_call (names_back a0) (name_back a1) (trees_back a2)
   sub_node_back _ = sub_skip
 
   pub branches_back : Gv → Branches
@@ -109,6 +113,7 @@ mutual
       λ i. sub_while (tree_back-code a0 i) (sub_back-code a1 i) (tree_back-code a2 i) (tree_back-code a3 i)
   sub_node_back-code (sub_parallel a0 a1) = λ i. sub_parallel (sub_back-code a0 i) (sub_back-code a1 i)
   sub_node_back-code (sub_sequence a0 a1) = λ i. sub_sequence (sub_back-code a0 i) (sub_back-code a1 i)
+  sub_node_back-code (sub_call a0 a1 a2) = λ i. sub_call (names_back-code a0 i) (name_back-code a1 i) (trees_back-code a2 i)
 
   pub branches_back-code : (bs : Branches) → branches_back (branches_code bs) ≡ bs
   branches_back-code no_branches = refl

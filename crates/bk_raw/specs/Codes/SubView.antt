@@ -1,13 +1,14 @@
 -- The mathematical substitution that a raw substitution stands for.
 use Rattle.std.specs.Prelude.{ℕ, List, [], ◌∷◌, Some, None}
 use Rattle.bk_raw.specs.Trees.RawTree.{trees_of}
-use Rattle.bk_raw.specs.Trees.SubTree.{SubTree, sub, SubNode, sub_skip, sub_assign, sub_assign_at, sub_member, sub_such, sub_begin, sub_pre}
-use Rattle.bk_raw.specs.Trees.SubTree.{sub_assert, sub_if, sub_choice, sub_select, sub_any, sub_let, sub_var, sub_while, sub_parallel}
-use Rattle.bk_raw.specs.Trees.SubTree.{sub_sequence, Branches, no_branches, else_branch, branch_and, Choices, no_choices, choice_and}
+use Rattle.bk_raw.specs.Trees.SubTree.{SubTree, sub, SubNode, sub_skip, sub_assign, sub_assign_at, sub_member, sub_such, sub_call}
+use Rattle.bk_raw.specs.Trees.SubTree.{sub_begin, sub_pre, sub_assert, sub_if, sub_choice, sub_select, sub_any, sub_let, sub_var, sub_while}
+use Rattle.bk_raw.specs.Trees.SubTree.{sub_parallel, sub_sequence, Branches, no_branches, else_branch, branch_and}
+use Rattle.bk_raw.specs.Trees.SubTree.{Choices, no_choices, choice_and}
 use Rattle.bk_raw.specs.declared.substitution.RawBranch.{RawBranch}
 use Rattle.bk_raw.specs.declared.substitution.RawSubNode.{RawSubNode}
-use Rattle.bk_raw.specs.declared.substitution.RawSubNode.TheVariants.{Skip, Assign, AssignAt, BecomesMember, BecomesSuch, Begin, Pre}
-use Rattle.bk_raw.specs.declared.substitution.RawSubNode.TheVariants.{Assert, If, Choice, Select, Any, Let, Var, While, Parallel, Sequence}
+use Rattle.bk_raw.specs.declared.substitution.RawSubNode.TheVariants.{Skip, Assign, AssignAt, BecomesMember, BecomesSuch, Call}
+use Rattle.bk_raw.specs.declared.substitution.RawSubNode.TheVariants.{Begin, Pre, Assert, If, Choice, Select, Any, Let, Var, While, Parallel, Sequence}
 
 -- these branches, and then the last ones
 abbrev pub branches_of : List RawBranch → Branches → Branches
@@ -26,6 +27,7 @@ sub_node_of (Assign xs ts) = sub_assign xs.items (trees_of ts.items)
 sub_node_of (AssignAt f x e) = sub_assign_at f x e
 sub_node_of (BecomesMember x e) = sub_member x e
 sub_node_of (BecomesSuch xs p) = sub_such xs.items p
+sub_node_of (Call xs o ts) = sub_call xs.items o (trees_of ts.items)
 sub_node_of (Begin s) = sub_begin s.value
 sub_node_of (Pre p s) = sub_pre p s.value
 sub_node_of (Assert p s) = sub_assert p s.value

@@ -1,6 +1,6 @@
 -- What tokens a component is written as: its words, its signs and its parts' tokens in order.
 -- Source: B Language Reference Manual.
-use Rattle.std.specs.Prelude.{◌≡◌, ◌≢◌, true, List, [], ◌∷◌, Option, None, Some, All, map}
+use Rattle.std.specs.Prelude.{◌≡◌, ◌≢◌, true, false, List, [], ◌∷◌, Option, None, Some, All, map}
 use Rattle.bk_form.specs.declared.token.Token.{Token}
 use Rattle.bk_form.specs.declared.token.TokenKind.TheVariants.{Word}
 use Rattle.bk_ops.specs.declared.sign.TheConstants.{EQUAL, SEMICOLON, OUTPUTS, OPEN_PAREN, CLOSE_PAREN, OPEN_BRACE, CLOSE_BRACE}
@@ -16,7 +16,7 @@ use Rattle.bk_raw.specs.declared.component.ComponentKind.TheVariants.{Machine}
 use Rattle.bk_raw.specs.declared.component.ClauseWord.{ClauseWord}
 use Rattle.bk_raw.specs.declared.component.ClauseWord.TheVariants.{Sets, Constants, ConcreteConstants, Properties, Variables}
 use Rattle.bk_raw.specs.declared.component.ClauseWord.TheVariants.{AbstractVariables, ConcreteVariables, Invariant}
-use Rattle.bk_raw.specs.declared.component.ClauseWord.TheVariants.{Assertions, Values, Initialisation, Operations}
+use Rattle.bk_raw.specs.declared.component.ClauseWord.TheVariants.{Assertions, Values, Initialisation, Operations, Imports}
 use Rattle.bk_raw.specs.Trees.ComponentTree.{RawSet, RawOperation, ClauseParts, clause_sets, clause_names, clause_term}
 use Rattle.bk_raw.specs.Trees.ComponentTree.{clause_terms, clause_values, clause_sub, clause_operations, RawClause}
 use Rattle.bk_raw.specs.Trees.ComponentTree.{RawComponent, kind_number, word_number, clause_number, is_allowed}
@@ -46,9 +46,10 @@ abbrev pub Inputs : List RawName → List Token → Type 0
 Inputs [] = Absent
 Inputs (x ∷ xs) = JustSign OPEN_PAREN ⌢ Names (x ∷ xs) ⌢ JustSign CLOSE_PAREN
 
--- outs <-- name(ins) = body, where no semicolon joins substitutions outside of the body's blocks
+-- outs <-- name(ins) = body, where no semicolon joins substitutions outside of the body's blocks. No component calls
+-- operations yet
 abbrev pub Operation : RawOperation → List Token → Type 0
-Operation o = Outputs o.outputs ⌢ Declared o.name ⌢ Inputs o.inputs ⌢ JustSign EQUAL ⌢ Sub o.body 1
+Operation o = Outputs o.outputs ⌢ Declared o.name ⌢ Inputs o.inputs ⌢ JustSign EQUAL ⌢ Sub false o.body 1
 
 -- ---- clauses
 -- what stands after the word of a clause
@@ -63,8 +64,9 @@ Parts ConcreteVariables (clause_names xs) = Names xs
 Parts Invariant (clause_term t) = Term t 0
 Parts Assertions (clause_terms ts) = Divided SEMICOLON (λ t. Term t 0) ts
 Parts Values (clause_values vs) = Divided SEMICOLON Value vs
-Parts Initialisation (clause_sub s) = Sub s 0
+Parts Initialisation (clause_sub s) = Sub false s 0
 Parts Operations (clause_operations os) = Divided SEMICOLON Operation os
+Parts Imports (clause_names xs) = Names xs
 Parts _ _ = Never
 
 -- a clause: its word, and what stands after it
@@ -87,8 +89,8 @@ Header c = JustAt c.at (Word (kind_number c.kind)) ⌢ Declared c.name ⌢ Refin
 abbrev pub HasElements : RawSet → Type 0
 HasElements s = s.elements ≢ []
 
--- none of the additions of printed formulas stands in the clause, and no set is a name alone, since there are no deferred
--- sets yet
+-- none of the additions of printed formulas stands in the clause, nor a sign or word of sequences, which are not read yet,
+-- and no set is a name alone, since there are no deferred sets yet
 abbrev pub ArePlain : ClauseParts → Type 0
 ArePlain (clause_sets ss) = All HasElements ss
 ArePlain (clause_names xs) = Unit {0}

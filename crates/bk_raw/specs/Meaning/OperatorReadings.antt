@@ -27,8 +27,10 @@ use Rattle.bk_raw.specs.declared.operator.InfixOp.TheVariants.{PartialFunctions,
 use Rattle.bk_raw.specs.declared.operator.InfixOp.TheVariants.{PartialSurjections, TotalSurjections, Bijections, Union, Intersection}
 use Rattle.bk_raw.specs.declared.operator.InfixOp.TheVariants.{DomainRestriction, RangeRestriction, DomainSubtraction, RangeSubtraction}
 use Rattle.bk_raw.specs.declared.operator.InfixOp.TheVariants.{Override, Maplet, Interval, Plus, Minus, Times, Divide, Mod, Power}
+use Rattle.bk_raw.specs.declared.operator.InfixOp.TheVariants.{Concatenation, Prepend, Append}
 use Rattle.bk_raw.specs.declared.operator.WordOp.{WordOp}
 use Rattle.bk_raw.specs.declared.operator.WordOp.TheVariants.{Not, BoolOf, Card, Min, Max, Dom, Ran, Id, Succ, Pred, Pow, Pow1, Fin, Fin1}
+use Rattle.bk_raw.specs.declared.operator.WordOp.TheVariants.{Seq, Size, First, Last, Front, Tail, Rev}
 use Rattle.bk_raw.specs.declared.operator.Constant.{Constant}
 use Rattle.bk_raw.specs.declared.operator.Constant.TheVariants.{Bool as BoolWord, True, False, Integer, Natural, Natural1}
 use Rattle.bk_raw.specs.declared.operator.Constant.TheVariants.{Int, Nat, Nat1, MaxInt, MinInt, Btrue, Bfalse}
@@ -81,7 +83,7 @@ domain_made at o d = ranging (unary o d.0) (set_type d.1) at
 abbrev pub inverse_reading : ℕ → Outcome → Reading
 inverse_reading x a = of_one (λ r. partial (whole (unary InverseOf r.0) (set_type (pair_type r.2 r.1)))) (ask_relation x a)
 
--- a word at a byte, before a part at x. FIN is POW and FIN1 is POW1, since all sets are finite
+-- a word at a byte, before a part at x. FIN is POW and FIN1 is POW1, since all sets are finite. Words of sequences have no type yet
 abbrev pub word_reading : WordOp → ℕ → ℕ → Outcome → Reading
 word_reading Not at x a = of_one (λ p. holding (unary Negation p)) (ask_predicate a)
 word_reading BoolOf at x a = of_one (λ p. partial (whole (unary TruthOf p) bool_type)) (ask_predicate a)
@@ -97,6 +99,13 @@ word_reading Pow at x a = of_one (domain_made at PowerOf) (ask_domain x a)
 word_reading Pow1 at x a = of_one (domain_made at Power1Of) (ask_domain x a)
 word_reading Fin at x a = of_one (domain_made at PowerOf) (ask_domain x a)
 word_reading Fin1 at x a = of_one (domain_made at Power1Of) (ask_domain x a)
+word_reading Seq at x a = silently (no_type at)
+word_reading Size at x a = silently (no_type at)
+word_reading First at x a = silently (no_type at)
+word_reading Last at x a = silently (no_type at)
+word_reading Front at x a = silently (no_type at)
+word_reading Tail at x a = silently (no_type at)
+word_reading Rev at x a = silently (no_type at)
 
 -- -a of a number at x
 abbrev pub negative_reading : ℕ → Outcome → Reading
@@ -315,6 +324,9 @@ infix_reading Times at x y a b = times at x y a b
 infix_reading Divide at x y a b = calculated Div int_type x y a b
 infix_reading Mod at x y a b = calculated Remainder int_type x y a b
 infix_reading Power at x y a b = calculated PowerTo int_type x y a b
+infix_reading Concatenation at x y a b = silently (no_type at)
+infix_reading Prepend at x y a b = silently (no_type at)
+infix_reading Append at x y a b = silently (no_type at)
 
 -- ---- {a, b, c}
 -- {E}: whole where E gives a type

@@ -1,13 +1,13 @@
 -- Components of the B notation as they are written, as mathematical trees.
 -- Source: B Language Reference Manual.
-use Rattle.std.specs.Prelude.{ℕ, List, map, Option, Bool, true, false, nat_lt}
+use Rattle.std.specs.Prelude.{ℕ, List, map, Option, Bool, true, false, ◌||◌, nat_eq, nat_lt}
 use Rattle.bk_form.specs.declared.token.TokenKind.{TokenKind}
 use Rattle.bk_raw.specs.Grammar.Brackets.{is_word}
 use Rattle.bk_raw.specs.Trees.RawTree.{RawTree, tree_height}
 use Rattle.bk_raw.specs.declared.term.RawName.{RawName}
 use Rattle.bk_ops.specs.declared.word.TheConstants.{MACHINE, REFINEMENT, IMPLEMENTATION, SETS, CONSTANTS, CONCRETE_CONSTANTS}
 use Rattle.bk_ops.specs.declared.word.TheConstants.{PROPERTIES, VARIABLES, ABSTRACT_VARIABLES, CONCRETE_VARIABLES, INVARIANT}
-use Rattle.bk_ops.specs.declared.word.TheConstants.{ASSERTIONS, VALUES, INITIALISATION, OPERATIONS, END}
+use Rattle.bk_ops.specs.declared.word.TheConstants.{ASSERTIONS, VALUES, INITIALISATION, OPERATIONS, END, IMPORTS}
 use Rattle.bk_raw.specs.Trees.Numbers.{greatest}
 use Rattle.bk_raw.specs.Trees.SubTree.{SubTree, sub_height}
 use Rattle.bk_raw.specs.declared.component.ComponentKind.{ComponentKind}
@@ -15,7 +15,7 @@ use Rattle.bk_raw.specs.declared.component.ComponentKind.TheVariants.{Machine, R
 use Rattle.bk_raw.specs.declared.component.ClauseWord.{ClauseWord}
 use Rattle.bk_raw.specs.declared.component.ClauseWord.TheVariants.{Sets, Constants, ConcreteConstants, Properties, Variables}
 use Rattle.bk_raw.specs.declared.component.ClauseWord.TheVariants.{AbstractVariables, ConcreteVariables, Invariant}
-use Rattle.bk_raw.specs.declared.component.ClauseWord.TheVariants.{Assertions, Values, Initialisation, Operations}
+use Rattle.bk_raw.specs.declared.component.ClauseWord.TheVariants.{Assertions, Values, Initialisation, Operations, Imports}
 use Rattle.bk_raw.specs.declared.component.RawValue.{RawValue}
 
 -- a set with its elements; none where it is a name alone
@@ -76,6 +76,7 @@ word_number Assertions = ASSERTIONS
 word_number Values = VALUES
 word_number Initialisation = INITIALISATION
 word_number Operations = OPERATIONS
+word_number Imports = IMPORTS
 
 -- the number of the clause: CONSTANTS and CONCRETE_CONSTANTS are one clause, and so are VARIABLES and ABSTRACT_VARIABLES
 abbrev pub clause_number : ClauseWord → ℕ
@@ -83,17 +84,21 @@ clause_number ConcreteConstants = CONSTANTS
 clause_number AbstractVariables = VARIABLES
 clause_number word = word_number word
 
--- whether a component of the kind has the clause: an implementation has no VARIABLES, and alone has VALUES
+-- whether a component of the kind has the clause: an implementation has no VARIABLES, and alone has VALUES. IMPORTS is a
+-- clause of implementations that is not read yet: no component has it
 abbrev pub is_allowed : ComponentKind → ClauseWord → Bool
 is_allowed Implementation Variables = false
 is_allowed Implementation AbstractVariables = false
+is_allowed Implementation Imports = false
 is_allowed Implementation word = true
 is_allowed kind Values = false
+is_allowed kind Imports = false
 is_allowed kind word = true
 
--- whether a token is a word that begins a component or a clause, or REFINES: their numbers are those below the one of END
+-- whether a token is a word that begins a component or a clause, or REFINES: their numbers are those below the one of END, and
+-- that of IMPORTS
 abbrev pub is_component_word : TokenKind → Bool
-is_component_word = is_word (λ op. nat_lt op END)
+is_component_word = is_word (λ op. nat_lt op END || nat_eq op IMPORTS)
 
 -- ---- heights
 -- the height of the highest term or substitution of a clause; a clause and an operation are no nodes

@@ -1,6 +1,6 @@
 -- How the operators and constant words of terms are written, and how tightly operators bind.
 -- The signs and words are those of the B Language Reference Manual, the levels this project's own.
-use Rattle.std.specs.Prelude.{ℕ}
+use Rattle.std.specs.Prelude.{ℕ, Bool, false, ◌||◌, nat_eq}
 use Rattle.bk_form.specs.declared.token.TokenKind.{TokenKind}
 use Rattle.bk_form.specs.declared.token.TokenKind.TheVariants.{Sign, Word}
 use Rattle.bk_ops.specs.declared.sign.TheConstants.{EQUIVALENT, IMPLIES, AND, EQUAL, NOT_EQUAL, LESS, AT_MOST, GREATER, AT_LEAST, MEMBER}
@@ -8,10 +8,11 @@ use Rattle.bk_ops.specs.declared.sign.TheConstants.{NOT_MEMBER, SUBSET, NOT_SUBS
 use Rattle.bk_ops.specs.declared.sign.TheConstants.{TOTAL_FUNCTIONS, PARTIAL_INJECTIONS, TOTAL_INJECTIONS, PARTIAL_SURJECTIONS}
 use Rattle.bk_ops.specs.declared.sign.TheConstants.{TOTAL_SURJECTIONS, BIJECTIONS, UNION, INTERSECTION, DOMAIN_RESTRICTION}
 use Rattle.bk_ops.specs.declared.sign.TheConstants.{RANGE_RESTRICTION, DOMAIN_SUBTRACTION, RANGE_SUBTRACTION, OVERRIDE, MAPLET, INTERVAL}
-use Rattle.bk_ops.specs.declared.sign.TheConstants.{PLUS, MINUS, TIMES, DIVIDE, POWER}
+use Rattle.bk_ops.specs.declared.sign.TheConstants.{PLUS, MINUS, TIMES, DIVIDE, POWER, CONCATENATION, PREPEND, APPEND}
 use Rattle.bk_ops.specs.declared.word.TheConstants.{OR, MOD, NOT, BOOL_OF, CARD, MIN, MAX, DOM, RAN, ID, SUCC, PRED}
 use Rattle.bk_ops.specs.declared.word.TheConstants.{POW, POW1, FIN, FIN1, BOOL, TRUE, FALSE, INTEGER, NATURAL}
 use Rattle.bk_ops.specs.declared.word.TheConstants.{NATURAL1, INT, NAT, NAT1, MAXINT, MININT, BTRUE, BFALSE}
+use Rattle.bk_ops.specs.declared.word.TheConstants.{SEQ, SIZE, FIRST, LAST, FRONT, TAIL, REV}
 use Rattle.bk_raw.specs.declared.operator.InfixOp.{InfixOp}
 use Rattle.bk_raw.specs.declared.operator.InfixOp.TheVariants.{Equivalent, Implies, And, Or, Equal, NotEqual, Less, AtMost, Greater}
 use Rattle.bk_raw.specs.declared.operator.InfixOp.TheVariants.{AtLeast, Member, NotMember, Subset, NotSubset, StrictSubset, Relations}
@@ -19,10 +20,12 @@ use Rattle.bk_raw.specs.declared.operator.InfixOp.TheVariants.{PartialFunctions,
 use Rattle.bk_raw.specs.declared.operator.InfixOp.TheVariants.{PartialSurjections, TotalSurjections, Bijections, Union, Intersection}
 use Rattle.bk_raw.specs.declared.operator.InfixOp.TheVariants.{DomainRestriction, RangeRestriction, DomainSubtraction, RangeSubtraction}
 use Rattle.bk_raw.specs.declared.operator.InfixOp.TheVariants.{Override, Maplet, Interval, Plus, Minus, Times, Divide, Mod, Power}
+use Rattle.bk_raw.specs.declared.operator.InfixOp.TheVariants.{Concatenation, Prepend, Append}
 use Rattle.bk_raw.specs.declared.operator.WordOp.{WordOp}
 use Rattle.bk_raw.specs.declared.operator.WordOp.TheVariants.{Not, BoolOf, Card, Min, Max, Dom, Ran, Id, Succ, Pred, Pow, Pow1, Fin, Fin1}
+use Rattle.bk_raw.specs.declared.operator.WordOp.TheVariants.{Seq, Size, First, Last, Front, Tail, Rev}
 use Rattle.bk_raw.specs.declared.operator.Constant.{Constant}
-use Rattle.bk_raw.specs.declared.operator.Constant.TheVariants.{Bool, True, False, Integer, Natural, Natural1}
+use Rattle.bk_raw.specs.declared.operator.Constant.TheVariants.{Bool as BoolWord, True, False, Integer, Natural, Natural1}
 use Rattle.bk_raw.specs.declared.operator.Constant.TheVariants.{Int, Nat, Nat1, MaxInt, MinInt, Btrue, Bfalse}
 
 -- the token that an operator is written as
@@ -65,6 +68,9 @@ infix_kind Times = Sign TIMES
 infix_kind Divide = Sign DIVIDE
 infix_kind Mod = Word MOD
 infix_kind Power = Sign POWER
+infix_kind Concatenation = Sign CONCATENATION
+infix_kind Prepend = Sign PREPEND
+infix_kind Append = Sign APPEND
 
 -- the token that a word is written as, which stands before a term in parentheses
 abbrev pub word_kind : WordOp → TokenKind
@@ -82,10 +88,17 @@ word_kind Pow = Word POW
 word_kind Pow1 = Word POW1
 word_kind Fin = Word FIN
 word_kind Fin1 = Word FIN1
+word_kind Seq = Word SEQ
+word_kind Size = Word SIZE
+word_kind First = Word FIRST
+word_kind Last = Word LAST
+word_kind Front = Word FRONT
+word_kind Tail = Word TAIL
+word_kind Rev = Word REV
 
 -- the token that a constant is written as
 abbrev pub constant_kind : Constant → TokenKind
-constant_kind Bool = Word BOOL
+constant_kind BoolWord = Word BOOL
 constant_kind True = Word TRUE
 constant_kind False = Word FALSE
 constant_kind Integer = Word INTEGER
@@ -98,6 +111,13 @@ constant_kind MaxInt = Word MAXINT
 constant_kind MinInt = Word MININT
 constant_kind Btrue = Word BTRUE
 constant_kind Bfalse = Word BFALSE
+
+-- whether a token is a sign or a word of sequences. Terms have them; components and scripts do not have them yet
+abbrev pub is_of_sequences : TokenKind → Bool
+is_of_sequences (Sign op) = nat_eq op CONCATENATION || nat_eq op PREPEND || nat_eq op APPEND
+is_of_sequences (Word op) = nat_eq op SEQ || nat_eq op SIZE || nat_eq op FIRST || nat_eq op LAST || nat_eq op FRONT
+    || nat_eq op TAIL || nat_eq op REV
+is_of_sequences _ = false
 
 -- how tightly an operator binds, the loosest being 0, and how tightly the terms left and right of it bind at least.
 -- Where the left one may bind as the operator does, it chains to the left; where the right one may, to the right;
@@ -127,7 +147,7 @@ comparison = record { own = 3; left = 4; right = 4 }
 abbrev arrow : Strength
 arrow = record { own = 4; left = 4; right = 5 }
 
--- union, restriction, overriding and |->
+-- union, restriction, overriding, |->, and what joins sequences
 abbrev joining : Strength
 joining = record { own = 5; left = 5; right = 6 }
 
@@ -187,6 +207,9 @@ binding Times = product
 binding Divide = product
 binding Mod = product
 binding Power = power
+binding Concatenation = joining
+binding Prepend = joining
+binding Append = joining
 
 -- the strength that is asked of what a bound variable ranges over, which stands as in a membership
 abbrev pub ranged_over : ℕ

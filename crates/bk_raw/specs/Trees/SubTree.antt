@@ -20,6 +20,8 @@ mutual
     sub_member : RawName → RawTree → SubNode
     -- x, y :( p )
     sub_such : List RawName → RawTree → SubNode
+    -- x, y <-- op(e, f): the outputs, the operation that is called, and its arguments; a list may be empty
+    sub_call : List RawName → RawName → RawTrees → SubNode
     -- BEGIN s END
     sub_begin : SubTree → SubNode
     -- PRE p THEN s END
@@ -71,6 +73,7 @@ abbrev mutual
   sub_node_height (sub_assign_at f x e) = max (tree_height x) (tree_height e) + 1
   sub_node_height (sub_member x e) = tree_height e + 1
   sub_node_height (sub_such xs p) = tree_height p + 1
+  sub_node_height (sub_call xs o ts) = trees_height ts + 1
   sub_node_height (sub_begin s) = sub_height s + 1
   sub_node_height (sub_pre p s) = max (tree_height p) (sub_height s) + 1
   sub_node_height (sub_assert p s) = max (tree_height p) (sub_height s) + 1

@@ -1,3 +1,4 @@
+use Rattle.std.proofs.Common.{false}
 use Rattle.bk_raw.specs.Grammar.ComponentSpelling.{Operation}
 use Rattle.bk_raw.specs.Grammar.SubSpelling.{Sub}
 use Rattle.bk_raw.specs.Trees.SubTree.{SubTree}
@@ -25,5 +26,5 @@ returns-in_default-2-clause-found c =
 pub returns-clause-found : goal.returns-clause-found
 returns-clause-found c =
     let l : Left Operation c.args.tokens.now Bodied c.in-Some.behind.now (titled c.in-Some.title) = if_some _ _ _ _ c.in_ok-title.ensures.found c.in-Some.is in
-    let b : (s : SubTree) × Longest (λ (s : SubTree). Sub s 1) c.in-Some-after_sign.behind.now s c.in-Some-2.rest.now × IsStatement s c.in-Some-2.body = if_some _ _ _ _ c.in_ok-body.ensures.found c.in-Some-2.is in
+    let b : (s : SubTree) × Longest (λ (s : SubTree). Sub false s 1) c.in-Some-after_sign.behind.now s c.in-Some-2.rest.now × IsStatement s c.in-Some-2.body = if_some _ _ _ _ c.in_ok-body.ensures.found c.in-Some-2.is in
     (b.0, operation_found c.args.tokens.now c.in-Some.behind.now c.in-Some-after_sign.behind.now c.in-Some-2.rest.now (titled c.in-Some.title) b.0 l c.in-Some-after_sign.ensures.found b.1, b.2)

@@ -1,6 +1,6 @@
 use Rattle.std.proofs.Common.{sym, subst}
 use Rattle.bk_p_comp.specs.Parts.{ReadsParts}
-use Rattle.bk_p_comp.proofs.Standings.{reads_abstract, reads_concrete, reads_invariant, reads_shared, reads_variables}
+use Rattle.bk_p_comp.proofs.Standings.{reads_abstract, reads_concrete, reads_imports, reads_invariant, reads_shared, reads_variables}
 use Rattle.bk_p_comp.proofs.parts.parts.Goals as goal
 
 pub returns-in-Sets-clause-found : goal.returns-in-Sets-clause-found
@@ -38,3 +38,6 @@ returns-in-Initialisation-clause-found c = subst (λ w. ReadsParts w c.args.toke
 
 pub returns-in-Operations-clause-found : goal.returns-in-Operations-clause-found
 returns-in-Operations-clause-found c = subst (λ w. ReadsParts w c.args.tokens.now c.all_operations.result) (sym c.in-Operations.is) c.all_operations.ensures.found
+
+pub returns-in-Imports-clause-found : goal.returns-in-Imports-clause-found
+returns-in-Imports-clause-found c = subst (λ w. ReadsParts w c.args.tokens.now c.listed-in-Imports.result) (sym c.in-Imports.is) (reads_imports c.args.tokens.now c.listed-in-Imports.result c.listed-in-Imports.ensures.found)

@@ -25,25 +25,25 @@ abbrev pub decreases-choices : goal.decreases-choices
 decreases-choices l = 4 * length l.tokens.now
 
 abbrev pub invariant-sequence-loop-behind : goal.invariant-sequence-loop-behind
-invariant-sequence-loop-behind l = JoinedSoFar 1 SEMICOLON sub_sequence l.tokens l.left l.rest
+invariant-sequence-loop-behind l = JoinedSoFar l.calls 1 SEMICOLON sub_sequence l.tokens l.left l.rest
 
 abbrev pub decreases-sequence-loop-behind : goal.decreases-sequence-loop-behind
 decreases-sequence-loop-behind l = length l.rest
 
 abbrev pub invariant-parallel-loop-behind : goal.invariant-parallel-loop-behind
-invariant-parallel-loop-behind l = JoinedSoFar 2 PARALLEL sub_parallel l.tokens l.left l.rest
+invariant-parallel-loop-behind l = JoinedSoFar l.calls 2 PARALLEL sub_parallel l.tokens l.left l.rest
 
 abbrev pub decreases-parallel-loop-behind : goal.decreases-parallel-loop-behind
 decreases-parallel-loop-behind l = length l.rest
 
 abbrev pub invariant-branches-loop-behind : goal.invariant-branches-loop-behind
-invariant-branches-loop-behind l = BranchesSoFar (word_of l.test) l.tokens l.all l.rest
+invariant-branches-loop-behind l = BranchesSoFar l.calls (word_of l.test) l.tokens l.all l.rest
 
 abbrev pub decreases-branches-loop-behind : goal.decreases-branches-loop-behind
 decreases-branches-loop-behind l = length l.rest
 
 abbrev pub invariant-choices-loop-behind : goal.invariant-choices-loop-behind
-invariant-choices-loop-behind l = ChoicesSoFar l.tokens l.all l.rest
+invariant-choices-loop-behind l = ChoicesSoFar l.calls l.tokens l.all l.rest
 
 abbrev pub decreases-choices-loop-behind : goal.decreases-choices-loop-behind
 decreases-choices-loop-behind l = length l.rest
