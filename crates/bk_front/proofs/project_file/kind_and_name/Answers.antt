@@ -3,4 +3,4 @@ use Rattle.bk_front.proofs.ProjectFiles.{no_kind}
 use Rattle.bk_front.proofs.project_file.kind_and_name.Goals as goal
 
 pub returns : goal.returns
-returns c = no_kind c.args.line.now (search rules) (search rules) (search rules) (search rules)
+returns c = no_kind c.args.line.now (search rules) (search rules) (search rules) (search rules) (search rules)
