@@ -27,8 +27,8 @@ numbers_long name size = elements_have_texts (record { name = name; elements = [
 unwritten_long : (s : SetEntry) → length s.elements ≡ 0 → length (element_texts s) ≡ s.size
 unwritten_long s h = ap length (sym (unwritten s h)) ∙ numbers_long s.name s.size
 
-pub few_numbers : (top : ℤ) (s : SetEntry) → length s.elements ≡ 0 → (pos s.size ≤ℤ top +ℤ pos 1) ↔ HasFewElements top (element_texts s)
+pub few_numbers : (top : ℤ) (s : SetEntry) → length s.elements ≡ 0 → (pos s.size ≤ℤ (top +ℤ pos 1)) ↔ HasFewElements top (element_texts s)
 few_numbers top s h = rw (unwritten_long s h) (λ few. few, λ few. few)
 
-pub few_names : (top : ℤ) (s : SetEntry) → (length s.elements ≡ 0 → ⊥) → (pos (length s.elements) ≤ℤ top +ℤ pos 1) ↔ HasFewElements top (element_texts s)
+pub few_names : (top : ℤ) (s : SetEntry) → (length s.elements ≡ 0 → ⊥) → (pos (length s.elements) ≤ℤ (top +ℤ pos 1)) ↔ HasFewElements top (element_texts s)
 few_names top s h = rw (ap length (sym (written s h))) (λ few. few, λ few. few)

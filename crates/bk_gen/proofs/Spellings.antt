@@ -116,22 +116,22 @@ module _ (image : Image) (n : IsNumbered image) (few_elements : All (λ names. H
 
 -- ---- the image of a unit
 -- 0 to MAXINT number the elements also where none counts as one
-one-few : (top : ℤ) (size : ℕ) → pos 1 ≤ℤ top → pos size ≤ℤ top +ℤ pos 1 → pos (at_least_one size) ≤ℤ top +ℤ pos 1
+one-few : (top : ℤ) (size : ℕ) → pos 1 ≤ℤ top → pos size ≤ℤ (top +ℤ pos 1) → pos (at_least_one size) ≤ℤ (top +ℤ pos 1)
 one-few top zero one h = omega (arith, ints, one)
 one-few top (suc n) one h = h
 
-pub sizes-few : (top : ℤ) → pos 1 ≤ℤ top → (xs : List SetEntry) → All IsCounted xs → All (λ s. HasFewElements top (element_texts s)) xs → (n : ℕ) → pos (option_map_or (λ (s : SetEntry). at_least_one s.size) (slice_get xs n) 0) ≤ℤ top +ℤ pos 1
+pub sizes-few : (top : ℤ) → pos 1 ≤ℤ top → (xs : List SetEntry) → All IsCounted xs → All (λ s. HasFewElements top (element_texts s)) xs → (n : ℕ) → pos (option_map_or (λ (s : SetEntry). at_least_one s.size) (slice_get xs n) 0) ≤ℤ (top +ℤ pos 1)
 sizes-few top one [] c h n = omega (arith, ints, one)
 sizes-few top one (x ∷ xs) c h zero =
-    let few : pos (length (element_texts x)) ≤ℤ top +ℤ pos 1 = All-head (λ s. HasFewElements top (element_texts s)) x xs h in
+    let few : pos (length (element_texts x)) ≤ℤ (top +ℤ pos 1) = All-head (λ s. HasFewElements top (element_texts s)) x xs h in
     let each : length (element_texts x) ≡ x.size = elements_have_texts x (All-head IsCounted x xs c) in
-    one-few top x.size one (subst (λ n. pos n ≤ℤ top +ℤ pos 1) each few)
+    one-few top x.size one (subst (λ n. pos n ≤ℤ (top +ℤ pos 1)) each few)
 sizes-few top one (x ∷ xs) c h (suc n) = sizes-few top one xs (All-tail IsCounted x xs c) (All-tail (λ s. HasFewElements top (element_texts s)) x xs h) n
 
 pub elements-fit : (dev : Development) → IsRange (int_max dev) → dev.sets ≡ dev.table.sets → All IsCounted dev.table.sets → All (λ s. HasFewElements (int_max dev) (element_texts s)) dev.sets → HasElementsInRange dev
 elements-fit dev range same counted h s i low =
     let one : pos 1 ≤ℤ int_max dev = range.least in
-    let few : pos (set_size dev.table s) ≤ℤ int_max dev +ℤ pos 1 = sizes-few (int_max dev) one dev.table.sets counted (subst (λ (xs : List SetEntry). All (λ s. HasFewElements (int_max dev) (element_texts s)) xs) same h) s in
+    let few : pos (set_size dev.table s) ≤ℤ (int_max dev +ℤ pos 1) = sizes-few (int_max dev) one dev.table.sets counted (subst (λ (xs : List SetEntry). All (λ s. HasFewElements (int_max dev) (element_texts s)) xs) same h) s in
     omega (arith, ints, low, few)
 
 map-long : (f : ℕ → Parameter) (xs : List ℕ) → length (map f xs) ≡ length xs

@@ -190,7 +190,7 @@ pub record FitsFields (v : ImageVersion) (image : Image) : Type 0 where
 
 -- a set has at most max + 1 elements: 0 to max number them
 abbrev pub HasFewElements : ℤ → List (List ℕ) → Type 0
-HasFewElements max names = pos (length names) ≤ℤ max +ℤ pos 1
+HasFewElements max names = pos (length names) ≤ℤ (max +ℤ pos 1)
 
 -- each number of the image fits its field in its version, there are at most 65,534 sets, and none has too many elements
 pub record HasSpelling (image : Image) : Type 0 where
