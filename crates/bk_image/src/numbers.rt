@@ -1,7 +1,7 @@
 //! The numbers of an image: the first that is outside its range, in the order of the bytes.
 //!
 //! `at` is the place where a part begins.
-ghost use Rattle.std.specs.Prelude.{◌≡◌, ◌<◌, ◌≤◌, ◌+◌, ◌*◌, ◌^◌, ◌↔◌, IsTrue, length, All, pos, ◌+ℤ◌, ◌-ℤ◌, MatchOption, MatchBool};
+ghost use Rattle.std.specs.Prelude.{◌≡◌, ◌<◌, ◌≤◌, ◌+◌, ◌*◌, ◌^◌, ◌↔◌, IsTrue, length, All, pos, ◌+ℤ◌, ◌-ℤ◌, ◌<ℤ◌, MatchOption, MatchBool};
 ghost use Rattle.std.specs.List.{flat_map};
 ghost use Rattle.bk_code.specs.Numbers.{int_max, IsRange, IsWithin};
 ghost use Rattle.bk_code.specs.Checks as checks;
@@ -332,11 +332,11 @@ fn has_too_many_sets(image: &Image) -> bool
     image.sets.as_slice().len() > MOST_SETS
 }
 
-// Whether 0 to MAXINT number the elements of a set.
-fn has_few_elements(max: i64, names: &[NameText]) -> bool
-    ensures { IsTrue result ↔ spell.HasFewElements max names.now }
+// Whether there are more elements than 0 to MAXINT can number.
+fn has_too_many_elements(max: i64, names: &[NameText]) -> bool
+    ensures { MatchBool result ((max +ℤ pos 1) <ℤ pos (length names.now)) (spell.HasFewElements max names.now) }
 {
-    names.len() as i128 <= i128::from(max) + 1
+    names.len() as i128 > i128::from(max) + 1
 }
 
 // The first of the sets that has too many elements; they begin at the place.
@@ -347,7 +347,7 @@ fn sets_fault(image: &Image, at: usize, sets: &[NameTexts]) -> Option<LoadFault>
 {
     let mut place = at;
     for names in sets {
-        if !has_few_elements(image.int_max(), names.as_slice()) {
+        if has_too_many_elements(image.int_max(), names.as_slice()) {
             return Some(LoadFault::BadSlot(place));
         }
         place = names_end(place + 2, names.as_slice());

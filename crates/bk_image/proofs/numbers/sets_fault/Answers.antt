@@ -1,4 +1,5 @@
 use Rattle.std.proofs.Common.{arith, refl, sym, subst, ap, length}
+use Rattle.std.proofs.lemmas.Int.{ints}
 use Rattle.std.specs.List.{flat_map}
 use Rattle.std.proofs.lemmas.Option.{slice_get_read}
 use Rattle.bk_code.specs.Numbers.{int_max}
@@ -28,11 +29,12 @@ names_end-place-requires c =
       ap (λ names. length (flat_map text names)) c.as_slice-2.ensures,
     )
 
-pub returns-then-not-has_few_elements : goal.returns-then-not-has_few_elements
-returns-then-not-has_few_elements c =
+pub returns-then-has_too_many_elements : goal.returns-then-has_too_many_elements
+returns-then-has_too_many_elements c =
     let image = c.args.image.now in
     let get = slice_get_read c.args.sets.now _ c.loop-names.names-index c.names-item.result refl c.loop-names-test.true c.names-item.is in
-    let many = subst (λ names. HasFewElements (int_max image) names → ⊥) c.as_slice.ensures c.if-not-has_few_elements.ensures in
+    let same = ap length c.as_slice.ensures in
+    let many : HasFewElements (int_max image) c.names-item.result → ⊥ = λ few. omega (arith, ints, few, same, c.if-has_too_many_elements.ensures) in
     first_in set (IsSetFault image) (λ k names. HasFewElements (int_max image) names) (set_judges image) c.args.at c.args.sets.now c.loop-names.names-index c.names-item.result (BadSlot c.loop-names.place)
     c.loop-names.invariant.good get
     (subst (λ at. IsFirst (IsSetFault image c.loop-names.names-index at c.names-item.result) (BadSlot c.loop-names.place)) c.loop-names.invariant.here
@@ -41,7 +43,7 @@ returns-then-not-has_few_elements c =
 pub loop-names-preserved : goal.loop-names-preserved
 loop-names-preserved c =
     let get = slice_get_read c.args.sets.now _ c.loop-names.names-index c.names-item.result refl c.loop-names-test.true c.names-item.is in
-    let few = subst (λ names. HasFewElements (int_max c.args.image.now) names) c.as_slice.ensures c.if-not-has_few_elements.ensures in
+    let few = subst (λ names. HasFewElements (int_max c.args.image.now) names) c.as_slice.ensures c.if-has_too_many_elements.ensures in
     record {
       here = omega (
         arith,
