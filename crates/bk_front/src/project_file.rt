@@ -174,7 +174,7 @@ fn component_count(lines: &[ProjectLine]) -> usize
 fn kind_and_name(line: &[u8]) -> Option<(LineKind, &[u8])>
     ensures line { MatchOption result ((kind : LineKind) (name : List ℕ) → IsLine (word_of kind) name line.now → IsNameFor kind name → ⊥)
         (λ p. IsLine (word_of p.0) p.1.now line.now) }
-    ensures name { IfSome result (λ p. IsNameFor p.0 p.1.now) }
+    ensures fits { IfSome result (λ p. IsNameFor p.0 p.1.now) }
 {
     if let Some(digits) = range_in(line) {
         return Some((LineKind::Range, digits));
