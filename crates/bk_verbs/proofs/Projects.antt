@@ -10,7 +10,7 @@ use Rattle.bk_lines.specs.Lines.{kept_lines, is_skipped}
 use Rattle.bk_dev.specs.Development.{Head, Body, Development, level_at, last}
 use Rattle.bk_b0.specs.Translation.{translation, entries, init_code, operation_code}
 use Rattle.bk_front.specs.declared.project_file.ProjectLine.{ProjectLine}
-use Rattle.bk_front.specs.ProjectFile.{IsFileName, IsProjectLine, AreLinesOf, is_proofs, is_component, component_lines}
+use Rattle.bk_front.specs.ProjectFile.{IsFileName, IsProjectLine, AreLinesOf, is_proofs, is_component, component_lines, proof_lines}
 use Rattle.bk_front.specs.Project.{Reads}
 use Rattle.bk_front.proofs.ProjectFiles.{lines_are_one}
 use Rattle.bk_front.proofs.OneReading.{read_as_one}
@@ -121,6 +121,15 @@ component_texts ls given names texts told e d f k =
 pub few_files : (b : Bool) (ls : List ProjectLine) → length ls ≤ MOST_BYTES → length (files_of b ls) < 4294967296
 few_files true ls h = omega (arith, h, length-map (filter (λ l. is_proofs l.kind) ls) (λ l. l.name), fewer_kept (λ l. is_proofs l.kind) ls)
 few_files false ls h = omega (arith, h, length-map (filter (λ l. is_component l.kind) ls) (λ l. l.name), fewer_kept (λ l. is_component l.kind) ls)
+
+-- a line names one of these files, or none
+pub file_kept : (b : Bool) (l : ProjectLine) (ls : List ProjectLine) → cond b (is_proofs l.kind) (is_component l.kind) ≡ true → files_of b (l ∷ ls) ≡ l.name ∷ files_of b ls
+file_kept true l ls h = ap (λ (c : Bool). map (λ (m : ProjectLine). m.name) (cond c (l ∷ proof_lines ls) (proof_lines ls))) h
+file_kept false l ls h = ap (λ (c : Bool). map (λ (m : ProjectLine). m.name) (cond c (l ∷ component_lines ls) (component_lines ls))) h
+
+pub file_passed : (b : Bool) (l : ProjectLine) (ls : List ProjectLine) → cond b (is_proofs l.kind) (is_component l.kind) ≡ false → files_of b (l ∷ ls) ≡ files_of b ls
+file_passed true l ls h = ap (λ (c : Bool). map (λ (m : ProjectLine). m.name) (cond c (l ∷ proof_lines ls) (proof_lines ls))) h
+file_passed false l ls h = ap (λ (c : Bool). map (λ (m : ProjectLine). m.name) (cond c (l ∷ component_lines ls) (component_lines ls))) h
 
 -- fewer where only some are fetched
 few_fetched : (all : Bool) (names : List (List ℕ)) → length (fetched all names) ≤ length names

@@ -162,6 +162,7 @@ fn read_lines<H: Shelf>(alloc: Global, name: &str, shelf: &mut H) -> Result<Vec<
 }
 
 // The names of the component files, or of the proof files, in order.
+#[tactic(auto, using(crate::proofs::Projects::file_kept, crate::proofs::Projects::file_passed))]
 fn names<'a>(alloc: Global, lines: &'a [ProjectLine], of_proofs: bool) -> Result<Vec<&'a str>, Stop>
     requires { All (λ line. IsFileName line.name) lines.now }
     ensures memory { IfErr result (λ stop. stop ≡ Memory) }
