@@ -30,15 +30,15 @@ digits_are_text text n = IsUtf8-from_ascii text (IsAscii-from_digits text n.1)
 -- 64 bits hold MAXINT
 pub few_bits : (text : List ℕ) → IsRangeText text → digits_value 10 text < 2 ^ 64
 few_bits text r =
-    let most : max_in text ≤ℤ pos GREATEST_MAXINT = r.range.greatest in
+    let most : max_in text ≤ℤ GREATEST_MAXINT = r.range.greatest in
     omega (arith, ints, most)
 
 -- MAXINT may be the number that the digits stand for, or not
-pub max_told : (text : List ℕ) (n : ℕ) (o : Option ℤ) → IsNumeral 10 text → n ≡ digits_value 10 text → MatchOption o ((1 ≤ n) × (n ≤ GREATEST_MAXINT) → ⊥) (λ max. (1 ≤ n) × (n ≤ GREATEST_MAXINT) × (max ≡ pos n))
+pub max_told : (text : List ℕ) (n : ℕ) (o : Option ℤ) → IsNumeral 10 text → n ≡ digits_value 10 text → MatchOption o ((1 ≤ n) × (pos n ≤ℤ GREATEST_MAXINT) → ⊥) (λ max. (1 ≤ n) × (pos n ≤ℤ GREATEST_MAXINT) × (max ≡ pos n))
     → MatchOption o (IsRangeText text → ⊥) (λ max. IsRangeText text × (max ≡ max_in text))
 max_told text n None digits e h = λ r.
     let least : pos 1 ≤ℤ max_in text = r.range.least in
-    let most : max_in text ≤ℤ pos GREATEST_MAXINT = r.range.greatest in
+    let most : max_in text ≤ℤ GREATEST_MAXINT = r.range.greatest in
     h (omega (arith, ints, least, e), omega (arith, ints, most, e))
 max_told text n (Some max) digits e h = (record { digits = digits; range = record { least = omega (arith, ints, h.0, e); greatest = omega (arith, ints, h.1.0, e) } }, h.1.1 ∙ ap pos e)
 

@@ -1,6 +1,6 @@
 //! The range that digits say.
 
-ghost use Rattle.std.specs.Prelude.{◌≡◌, ◌↔◌, ◌<◌, ◌≤◌, ◌^◌, ℤ, pos, IsTrue, MatchOption};
+ghost use Rattle.std.specs.Prelude.{◌≡◌, ◌↔◌, ◌<◌, ◌≤◌, ◌^◌, ℤ, pos, ◌≤ℤ◌, IsTrue, MatchOption};
 ghost use Rattle.std.specs.Str.Parse.{IsNumeral, digits_value, without_leading_plus};
 ghost use Rattle.bk_limits.specs.declared.TheConstants.{GREATEST_MAXINT as GREATEST};
 ghost use Rattle.bk_front.specs.ProjectFile.{first_or, IsRangeText, max_in};
@@ -48,7 +48,7 @@ fn parsed(text: &str) -> Option<u64>
 
 // The number, where MAXINT may be it.
 fn max_of(number: u64) -> Option<i64>
-    ensures { MatchOption result ((1 ≤ number) × (number ≤ GREATEST) → ⊥) (λ max. (1 ≤ number) × (number ≤ GREATEST) × (max ≡ pos number)) }
+    ensures { MatchOption result ((1 ≤ number) × (pos number ≤ℤ GREATEST) → ⊥) (λ max. (1 ≤ number) × (pos number ≤ℤ GREATEST) × (max ≡ pos number)) }
 {
     if !is_max(number) {
         return None;
@@ -57,7 +57,7 @@ fn max_of(number: u64) -> Option<i64>
 }
 
 fn is_max(number: u64) -> bool
-    ensures { IsTrue result ↔ ((1 ≤ number) × (number ≤ GREATEST)) }
+    ensures { IsTrue result ↔ ((1 ≤ number) × (pos number ≤ℤ GREATEST)) }
 {
     1 <= number && number <= GREATEST_MAXINT as u64
 }

@@ -28,7 +28,7 @@ use Rattle.bk_gen.proofs.Slots.{cells-below, array-cells, within-range}
 module _ (dev : Development) (range : IsRange (int_max dev)) where
   -- every number of the machine fits an instruction
   wide : (z : ℤ) → IsWithin (int_max dev) z → FitsPush z
-  wide z h = let most : int_max dev ≤ℤ pos GREATEST_MAXINT = range.greatest in let low : neg_ℤ (int_max dev) ≤ℤ z = h.0 in let high : z ≤ℤ int_max dev = h.1 in (omega (arith, ints, low, most), omega (arith, ints, high, most))
+  wide z h = let most : int_max dev ≤ℤ GREATEST_MAXINT = range.greatest in let low : neg_ℤ (int_max dev) ≤ℤ z = h.0 in let high : z ≤ℤ int_max dev = h.1 in (omega (arith, ints, low, most), omega (arith, ints, high, most))
 
   abbrev places : Places
   places = places_of dev
@@ -91,7 +91,7 @@ module _ (dev : Development) (range : IsRange (int_max dev)) where
 
   -- ---- constants
   literal-code : (f : Formula) → IsLiteral dev f → HasLeafCode f
-  literal-code (literal z) h = let most : int_max dev ≤ℤ pos GREATEST_MAXINT = range.greatest in let low : (pos 0 -ℤ int_max dev) ≤ℤ z = h.0 in let high : z ≤ℤ int_max dev = h.1 in (omega (arith, ints, low, most), omega (arith, ints, high, most))
+  literal-code (literal z) h = let most : int_max dev ≤ℤ GREATEST_MAXINT = range.greatest in let low : (pos 0 -ℤ int_max dev) ≤ℤ z = h.0 in let high : z ≤ℤ int_max dev = h.1 in (omega (arith, ints, low, most), omega (arith, ints, high, most))
   literal-code (truth_value b) h = tt
   literal-code (element s i) h = tt
   literal-code f h = absurd h

@@ -27,7 +27,7 @@ use Rattle.bk_gen.specs.Laws.{HasElementsInRange}
 use Rattle.bk_gen.specs.Spelled.{FitsHead, FitsFields}
 
 -- ---- signed numbers
-fits-64 : (max z : ℤ) → max ≤ℤ pos GREATEST_MAXINT → neg_ℤ max ≤ℤ z → z ≤ℤ max → FitsSigned w64 z
+fits-64 : (max z : ℤ) → max ≤ℤ GREATEST_MAXINT → neg_ℤ max ≤ℤ z → z ≤ℤ max → FitsSigned w64 z
 fits-64 max (pos n) most h k = let low : n < 2 ^ 62 = omega (arith, ints, k, most) in fits_signed_from_abs w64 (pos n) (omega (arith, low))
 fits-64 max (negsuc n) most h k = let low : suc n < 2 ^ 62 = omega (arith, ints, h, most) in fits_signed_from_abs w64 (negsuc n) (omega (arith, low))
 

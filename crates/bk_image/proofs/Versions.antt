@@ -41,8 +41,8 @@ own_fits image fits = by_usual (int_eq (int_max image) default_max) refl
 pub wrong_below : (top : ℤ) → top <ℤ pos 1 → IsWrongMax Second top
 wrong_below top h = inl (λ r. let least : pos 1 ≤ℤ top = r.least in omega (arith, ints, h, least))
 
-pub wrong_above : (top : ℤ) → pos GREATEST_MAXINT <ℤ top → IsWrongMax Second top
-wrong_above top h = inl (λ r. let greatest : top ≤ℤ pos GREATEST_MAXINT = r.greatest in omega (arith, ints, h, greatest))
+pub wrong_above : (top : ℤ) → GREATEST_MAXINT <ℤ top → IsWrongMax Second top
+wrong_above top h = inl (λ r. let greatest : top ≤ℤ GREATEST_MAXINT = r.greatest in omega (arith, ints, h, greatest))
 
 pub wrong_usual : (top : ℤ) → top ≡ default_max → IsWrongMax Second top
 wrong_usual top h = inr h

@@ -37,8 +37,8 @@ abbrev pub least : Formula
 least = literal (neg_ℤ MAXINT)
 
 -- the number after MAXINT
-abbrev pub next : Formula
-next = literal (MAXINT +ℤ pos 1)
+abbrev pub after_greatest : Formula
+after_greatest = literal (MAXINT +ℤ pos 1)
 
 -- MAXINT
 abbrev pub greatest : Formula
@@ -83,7 +83,7 @@ over = record {
         links = [];
         assertions = [];
         init = becomes 0 (number 0);
-        bodies = plain_body (becomes 0 next) [] ∷ [];
+        bodies = plain_body (becomes 0 after_greatest) [] ∷ [];
       } ∷
       record {
         name = codes "Over_i";
@@ -112,11 +112,11 @@ known_over = is_whole (variable 0) ∷ is_whole (variable 1) ∷ same 1 0 ∷ []
 abbrev pub OverHasThese : Type 0
 OverHasThese = numbered_obligations over ≡
     (codes "Over.INITIALISATION.1", ([], is_whole (number 0))) ∷
-    (codes "Over.over.1", (is_whole (variable 0) ∷ [], is_whole next)) ∷
+    (codes "Over.over.1", (is_whole (variable 0) ∷ [], is_whole after_greatest)) ∷
     (codes "Over_i.INITIALISATION.1", ([], is_whole (number 0))) ∷
     (codes "Over_i.INITIALISATION.2", ([], binary Eq (number 0) (number 0))) ∷
     (codes "Over_i.over.1", (known_over, is_whole past)) ∷
-    (codes "Over_i.over.2", (known_over, binary Eq past next)) ∷
+    (codes "Over_i.over.2", (known_over, binary Eq past after_greatest)) ∷
     (codes "Over_i.over.chk.1", (known_over, binary Le least past)) ∷
     (codes "Over_i.over.chk.2", (known_over, binary Le past greatest)) ∷ []
 

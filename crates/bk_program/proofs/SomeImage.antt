@@ -173,7 +173,7 @@ module _ (image : Image) where
   right_max Second never = (
     record {
       least = at_most (pos 1) (int_max image) (λ low. never (inl (λ r. let least : pos 1 ≤ℤ int_max image = r.least in omega (arith, ints, low, least))));
-      greatest = at_most (int_max image) (pos GREATEST_MAXINT) (λ high. never (inl (λ r. let greatest : int_max image ≤ℤ pos GREATEST_MAXINT = r.greatest in omega (arith, ints, high, greatest))));
+      greatest = at_most (int_max image) GREATEST_MAXINT (λ high. never (inl (λ r. let greatest : int_max image ≤ℤ GREATEST_MAXINT = r.greatest in omega (arith, ints, high, greatest))));
     },
     λ usual. never (inr usual),
   )

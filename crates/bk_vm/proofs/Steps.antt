@@ -1,6 +1,6 @@
 -- From the checks of an image to the execution of one instruction, and from steps to a call's end.
 use Rattle.std.proofs.Common.{◌≡◌, ℕ, ◌+◌, ◌-◌, ◌^◌, ◌<◌, ◌≤◌, ◌⊎◌, inl, inr, refl, sym, subst, arith, Bool, true, false, List, ◌∷◌, length, get_or, Some, None, Ok, ℤ, pos, add-one, ap, ◌∙◌, to_z, of_z}
-use Rattle.std.specs.Prelude.{slice_get, slice_index, if◌then◌else◌, Err, suc, negsuc, ◌≤ℤ◌, ◌+ℤ◌, ◌-ℤ◌, neg_ℤ, FitsSigned}
+use Rattle.std.specs.Prelude.{slice_get, slice_index, if◌then◌else◌, Err, suc, negsuc, ◌≤ℤ◌, ◌+ℤ◌, ◌-ℤ◌, neg_ℤ, FitsSigned, unsigned_abs}
 use Rattle.std.specs.Int.{w64}
 use Rattle.std.proofs.lemmas.Int.{ints, fits_signed_from_abs, to_z-of_z}
 use Rattle.std.proofs.lemmas.List.Elements.{All-weaker}
@@ -67,7 +67,7 @@ room image place stack cells inst h is =
 
 -- a number within a range lies in the widest one, and so does the range's greatest number
 small : (max n : ℤ) → IsRange max → IsWithin max n → IsSmall n
-small max n range h = within_from_abs GREATEST_MAXINT n (abs_within GREATEST_MAXINT max n range.greatest h)
+small max n range h = within_from_abs (unsigned_abs GREATEST_MAXINT) n (abs_within (unsigned_abs GREATEST_MAXINT) max n range.greatest h)
 
 range_small : (max : ℤ) → IsRange max → IsSmall max
 range_small max range = let least = range.least in (omega (arith, ints, least), range.greatest)
@@ -115,24 +115,24 @@ fits_from_wide (negsuc n) h k = let low : suc n < 2 ^ 63 = omega (arith, ints, h
 
 pub sum_fits : (a b : ℤ) → IsSmall a → IsSmall b → FitsSigned w64 (a +ℤ b)
 sum_fits a b h k =
-    let low : neg_ℤ (pos GREATEST_MAXINT) ≤ℤ a = h.0 in
-    let high : a ≤ℤ pos GREATEST_MAXINT = h.1 in
-    let least : neg_ℤ (pos GREATEST_MAXINT) ≤ℤ b = k.0 in
-    let most : b ≤ℤ pos GREATEST_MAXINT = k.1 in
+    let low : neg_ℤ GREATEST_MAXINT ≤ℤ a = h.0 in
+    let high : a ≤ℤ GREATEST_MAXINT = h.1 in
+    let least : neg_ℤ GREATEST_MAXINT ≤ℤ b = k.0 in
+    let most : b ≤ℤ GREATEST_MAXINT = k.1 in
     fits_from_wide (a +ℤ b) (omega (arith, ints, low, least)) (omega (arith, ints, high, most))
 
 pub difference_fits : (a b : ℤ) → IsSmall a → IsSmall b → FitsSigned w64 (a -ℤ b)
 difference_fits a b h k =
-    let low : neg_ℤ (pos GREATEST_MAXINT) ≤ℤ a = h.0 in
-    let high : a ≤ℤ pos GREATEST_MAXINT = h.1 in
-    let least : neg_ℤ (pos GREATEST_MAXINT) ≤ℤ b = k.0 in
-    let most : b ≤ℤ pos GREATEST_MAXINT = k.1 in
+    let low : neg_ℤ GREATEST_MAXINT ≤ℤ a = h.0 in
+    let high : a ≤ℤ GREATEST_MAXINT = h.1 in
+    let least : neg_ℤ GREATEST_MAXINT ≤ℤ b = k.0 in
+    let most : b ≤ℤ GREATEST_MAXINT = k.1 in
     fits_from_wide (a -ℤ b) (omega (arith, ints, low, most)) (omega (arith, ints, high, least))
 
 small_fits : (a : ℤ) → IsSmall a → FitsSigned w64 a
 small_fits a h =
-    let low : neg_ℤ (pos GREATEST_MAXINT) ≤ℤ a = h.0 in
-    let high : a ≤ℤ pos GREATEST_MAXINT = h.1 in
+    let low : neg_ℤ GREATEST_MAXINT ≤ℤ a = h.0 in
+    let high : a ≤ℤ GREATEST_MAXINT = h.1 in
     fits_from_wide a (omega (arith, ints, low)) (omega (arith, ints, high))
 
 -- what the machine's sums and differences of such numbers are
@@ -152,7 +152,7 @@ within_if : (max n : ℤ) → is_within max n ≡ true → IsWithin max n
 within_if max n h = (grind (arith, ints), grind (arith, ints))
 
 within_small : (max n : ℤ) → IsSmall max → IsWithin max n → IsSmall n
-within_small max n m h = within_from_abs GREATEST_MAXINT n (abs_within GREATEST_MAXINT max n m.1 h)
+within_small max n m h = within_from_abs (unsigned_abs GREATEST_MAXINT) n (abs_within (unsigned_abs GREATEST_MAXINT) max n m.1 h)
 
 overflows : (t : Bool) (max n : ℤ) → is_within max n ≡ t → (IsWithin max n → ⊥) → Err Overflow ≡ (if t then Ok n else Err Overflow)
 overflows true max n is past = absurd (past (within_if max n is))

@@ -18,11 +18,11 @@ decreases-ranges_names l = 2 * ranges_size (ranges_of l.ranges.now) + 1
 abbrev pub invariant-all_names-loop-term : goal.invariant-all_names-loop-term
 invariant-all_names-loop-term l = record {
   rest : capped (l.names + all_term_names (trees_of (drop l.term-index l.terms))) ≡ capped (all_term_names (trees_of l.terms));
-  few : l.names ≤ (suc MOST_NAMES);
+  few : l.names ≤ MOST_NAMES + 1;
 }
 
 abbrev pub invariant-ranges_names-loop-range : goal.invariant-ranges_names-loop-range
 invariant-ranges_names-loop-range l = record {
   rest : capped (l.names + ranges_names (ranges_of (drop l.range-index l.ranges))) ≡ capped (ranges_names (ranges_of l.ranges));
-  few : l.names ≤ (suc MOST_NAMES);
+  few : l.names ≤ MOST_NAMES + 1;
 }

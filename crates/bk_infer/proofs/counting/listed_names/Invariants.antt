@@ -7,5 +7,5 @@ use Rattle.bk_infer.proofs.counting.listed_names.Given as goal
 abbrev pub invariant-loop-term : goal.invariant-loop-term
 invariant-loop-term l = record {
   rest : capped (l.names + sum_of term_names (refs (drop l.term-index l.terms))) ≡ capped (sum_of term_names (refs l.terms));
-  few : l.names ≤ (suc MOST_NAMES);
+  few : l.names ≤ MOST_NAMES + 1;
 }

@@ -7,5 +7,5 @@ use Rattle.bk_infer.proofs.counting.operations_count.Given as goal
 abbrev pub invariant-loop-operation : goal.invariant-loop-operation
 invariant-loop-operation l = record {
   rest : capped (l.names + sum_of operation_count (refs (drop l.operation-index l.operations))) ≡ capped (sum_of operation_count (refs l.operations));
-  few : l.names ≤ (suc MOST_NAMES);
+  few : l.names ≤ MOST_NAMES + 1;
 }

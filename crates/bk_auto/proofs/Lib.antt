@@ -1,0 +1,14 @@
+pub mod Inversion
+pub mod Listed
+pub mod Composing
+pub mod Laws
+pub mod Wider
+pub mod Ready
+pub mod Opened
+pub mod Fresh
+pub mod Tellings
+pub mod Obvious
+pub mod Refuted
+pub mod Loops
+pub mod Taken
+pub mod Shapes

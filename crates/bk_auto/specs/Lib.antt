@@ -1,0 +1,3 @@
+pub mod Easy
+pub mod NewVariables
+pub mod Found
