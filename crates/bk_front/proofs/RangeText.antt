@@ -40,7 +40,7 @@ max_told text n None digits e h = λ r.
     let least : pos 1 ≤ℤ max_in text = r.range.least in
     let most : max_in text ≤ℤ GREATEST_MAXINT = r.range.greatest in
     h (omega (arith, ints, least, e), omega (arith, ints, most, e))
-max_told text n (Some max) digits e h = (record { digits = digits; range = record { least = omega (arith, ints, h.0, e); greatest = omega (arith, ints, h.1.0, e) } }, h.1.1 ∙ ap pos e)
+max_told text n (Some max) digits e h = (record { digits = digits; range = record { least = omega (arith, ints, h.0, e); greatest = omega (arith, ints, h.1, e) } }, h.2 ∙ ap pos e)
 
 -- a line for the range says it, and no other line does
 pub said : (o : Option ℤ) (k : LineKind) (name bytes : List ℕ) → is_range k ≡ true → bytes ≡ name → MatchOption o (IsRangeText bytes → ⊥) (λ max. IsRangeText bytes × (max ≡ max_in bytes))
