@@ -50,9 +50,10 @@ use std::alloc::Global;
 const NAMES: u8 = 5;
 
 /// The levels above with this component as one level more, or the first of its faults. `max` is MAXINT. A machine has
-/// nothing above it, and may have any range; every other component stands below a development that ends in no implementation, in the
-/// range of that. The limit of names is told before any fault. What is answered is a development, below which the next component may stand, and with an
-/// implementation no higher than `GREATEST_TREE_HEIGHT` it is in B0; what 32 bits do not number is `Memory`.
+/// nothing above it, and may have any range; every other component stands below a development that ends in no
+/// implementation, in the range of that. The limit of names is told before any fault. What is answered is a development,
+/// below which the next component may stand, and with an implementation no higher than `GREATEST_TREE_HEIGHT` it is in B0;
+/// what 32 bits do not number is `Memory`.
 pub fn level(
     alloc: Global,
     max: i64,

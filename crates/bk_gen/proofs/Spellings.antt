@@ -101,7 +101,7 @@ module _ (image : Image) (n : IsNumbered image) (few_elements : All (λ names. H
       let few : image.cells ≤ MOST_CELLS = n.cells in
       record {
         fits = record {
-          max = own_fits image (range-fits (code_max image) n.range);
+          max = own_fits image (range-fits (code_max image) (record { least = n.range.least; greatest = n.range.greatest }));
           cells = omega (arith, few);
           few_sets = omega (arith, few_sets);
           sets = sets;

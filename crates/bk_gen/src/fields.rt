@@ -31,20 +31,20 @@ pub(crate) fn fits_fields(unit: &B0Unit) -> bool
 fn have_few_elements(unit: &B0Unit) -> bool
     ensures { IsTrue result ↔ All (λ s. HasFewElements unit.now.arrays.max (element_texts s)) unit.now.sets }
 {
-    let arrays = unit.arrays();
-    let max = arrays.max();
-    unit.sets().iter().all(|set| has_few_elements(max, set))
+    unit.sets().iter().all(|set| has_few_elements(unit, set))
 }
 
-// Whether 0 to `max` number the elements of a set.
+// Whether 0 to MAXINT number the elements of a set.
 #[tactic(auto, using(crate::proofs::ElementTexts::few_numbers, crate::proofs::ElementTexts::few_names))]
-fn has_few_elements(max: i64, set: &EnumSet) -> bool
-    ensures { IsTrue result ↔ HasFewElements max (element_texts set.now) }
+fn has_few_elements(unit: &B0Unit, set: &EnumSet) -> bool
+    ensures { IsTrue result ↔ HasFewElements unit.now.arrays.max (element_texts set.now) }
 {
+    let arrays = unit.arrays();
+    let most = i128::from(arrays.max()) + 1;
     if set.elements.is_empty() {
-        return i128::from(set.size) <= i128::from(max) + 1;
+        return i128::from(set.size) <= most;
     }
-    set.elements.len() as i128 <= i128::from(max) + 1
+    set.elements.len() as i128 <= most
 }
 
 // Whether a set has few enough elements, and the text of each is short enough.

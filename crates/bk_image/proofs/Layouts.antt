@@ -304,7 +304,7 @@ as_version_taken n bytes rest x t h =
     by_test (eqb n 2) (λ b. cond b (Ok (Second, rest)) (Err (Version n)) ≡ Ok x → Takes bytes (number w16 (numbered x.0)) x.1)
     (λ two is.
     subst (λ (y : ImageVersion × List ℕ). Takes bytes (number w16 (numbered y.0)) y.1) (ok_is (Second, rest) x is) (subst (λ (m : ℕ). Takes bytes (number w16 m) rest) (eqb-true n 2 two) t))
-    (λ none is. absurd cc)) h
+    (λ none is. absurd cc) is) h
 
 version_take : (len : ℕ) (bytes : List ℕ) (x : ImageVersion × List ℕ) → IsBytes bytes → version_at len bytes ≡ Ok x → Takes bytes (number w16 (numbered x.0)) x.1
 unfolding version_at
@@ -583,7 +583,7 @@ known_inst bytes at f = from_image bytes (BadInst at) (parts ∙ ap (with_versio
     fewer : length read < length f.image.code
     fewer = let h = f.more in omega (arith, length-take f.before f.image.code)
 
-    stops : whole ≡ Err (BadInst at)
+    stops : from_code f.image.max f.image.cells f.image.sets f.image.ops (items_at (inst_at (length bytes)) (length f.image.code) (flat_map inst read ++ tail)) ≡ Err (BadInst at)
     stops = rw (items_stop (length bytes) (length f.image.code) read tail (BadInst (length bytes - length tail)) fits fewer (inst_unread (length bytes) f.byte f.rest f.none), place) refl
 
 -- the layout of an image at the front is read, or more bytes follow it

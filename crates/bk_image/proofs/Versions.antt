@@ -14,27 +14,27 @@ use Rattle.bk_image.specs.Spelling.{version_of, laid_out, spelling, FitsMax, Fit
 use Rattle.bk_image.specs.Faults.{IsWrongMax}
 use Rattle.bk_image.specs.Soundness.{IsRightMax, AreRight}
 
-usual-is : (top : ℤ) → top ≡ default_max → int_eq top default_max ≡ true
-usual-is top h = grind (arith, ints)
+same-is : (x y : ℤ) → x ≡ y → int_eq x y ≡ true
+same-is x y h = grind (arith, ints)
 
-other-is : (top : ℤ) → (top ≡ default_max → ⊥) → int_eq top default_max ≡ false
-other-is top h = grind (arith, ints)
+other-is : (x y : ℤ) → (x ≡ y → ⊥) → int_eq x y ≡ false
+other-is x y h = grind (arith, ints)
+
+same-only : (x y : ℤ) → int_eq x y ≡ true → x ≡ y
+same-only x y h = grind (arith, ints)
 
 pub is_first : (image : Image) → int_max image ≡ default_max → First ≡ version_of image
-is_first image h = rw (usual-is (int_max image) h) refl
+is_first image h = rw (same-is (int_max image) default_max h) refl
 
 pub is_second : (image : Image) → (int_max image ≡ default_max → ⊥) → Second ≡ version_of image
-is_second image h = rw (other-is (int_max image) h) refl
-
-usual-only : (top : ℤ) → int_eq top default_max ≡ true → top ≡ default_max
-usual-only top h = grind (arith, ints)
+is_second image h = rw (other-is (int_max image) default_max h) refl
 
 -- MAXINT that fits 64 bits fits the field of its own version, or needs none
 pub own_fits : (image : Image) → FitsSigned w64 (int_max image) → FitsMax (version_of image) (int_max image)
 own_fits image fits = by_usual (int_eq (int_max image) default_max) refl
   where
     by_usual : (b : Bool) → int_eq (int_max image) default_max ≡ b → FitsMax (version_of image) (int_max image)
-    by_usual true is = rw is (usual-only (int_max image) is)
+    by_usual true is = rw is (same-only (int_max image) default_max is)
     by_usual false is = rw is fits
 
 -- ---- MAXINT of the second version
@@ -72,7 +72,7 @@ own_right image range = by_usual (int_eq (int_max image) default_max) refl
     by_usual false is = rw is (range, λ usual. differ (int_max image) usual is)
       where
         differ : (top : ℤ) → top ≡ default_max → int_eq top default_max ≡ false → ⊥
-        differ top usual is = let same : int_eq top default_max ≡ true = usual-is top usual in cc
+        differ top usual is = let same : int_eq top default_max ≡ true = same-is top default_max usual in cc
 
 -- bytes that are laid out as an image whose numbers are right are its spelling
 pub rightly_spelled : (bytes : List ℕ) (v : ImageVersion) (image : Image) → bytes ≡ laid_out v image → FitsFields v image → AreRight v image → HasSpelling image × (bytes ≡ spelling image)

@@ -317,9 +317,10 @@ pub fn code_begin(image: &Image) -> usize
 
 // Whether the MAXINT of an image in this version is none, or belongs into the first.
 #[tactic(auto, using(crate::proofs::Versions::wrong_below, crate::proofs::Versions::wrong_above, crate::proofs::Versions::wrong_usual))]
-fn has_wrong_max(version: ImageVersion, max: i64) -> bool
-    ensures { MatchBool result (IsWrongMax version max) (IsRightMax version max) }
+fn has_wrong_max(version: ImageVersion, image: &Image) -> bool
+    ensures { MatchBool result (IsWrongMax version (int_max image.now)) (IsRightMax version (int_max image.now)) }
 {
+    let max = image.int_max();
     match version {
         ImageVersion::First => false,
         ImageVersion::Second => max < 1 || max > GREATEST_MAXINT || max == DEFAULT_MAX,
@@ -333,10 +334,10 @@ fn has_too_many_sets(image: &Image) -> bool
 }
 
 // Whether there are more elements than 0 to MAXINT can number.
-fn has_too_many_elements(max: i64, names: &[NameText]) -> bool
-    ensures { MatchBool result ((max +ℤ pos 1) <ℤ pos (length names.now)) (spell.HasFewElements max names.now) }
+fn has_too_many_elements(image: &Image, names: &[NameText]) -> bool
+    ensures { MatchBool result ((int_max image.now +ℤ pos 1) <ℤ pos (length names.now)) (spell.HasFewElements (int_max image.now) names.now) }
 {
-    names.len() as i128 > i128::from(max) + 1
+    names.len() as i128 > i128::from(image.int_max()) + 1
 }
 
 // The first of the sets that has too many elements; they begin at the place.
@@ -347,7 +348,7 @@ fn sets_fault(image: &Image, at: usize, sets: &[NameTexts]) -> Option<LoadFault>
 {
     let mut place = at;
     for names in sets {
-        if has_too_many_elements(image.int_max(), names.as_slice()) {
+        if has_too_many_elements(image, names.as_slice()) {
             return Some(LoadFault::BadSlot(place));
         }
         place = names_end(place + 2, names.as_slice());
@@ -361,7 +362,7 @@ pub fn number_fault(version: ImageVersion, image: &Image) -> Option<LoadFault>
     requires room { length (spell.laid_out version image.now) < 2 ^ 64 }
     ensures { MatchOption result (AreRight version image.now) (λ e. IsFirst (IsNumberFault version image.now) e) }
 {
-    if has_wrong_max(version, image.int_max()) {
+    if has_wrong_max(version, image) {
         return Some(LoadFault::BadSlot(6));
     }
     let cells = cells_begin(version);
