@@ -47,6 +47,9 @@ wrong_above top h = inl (λ r. let greatest : top ≤ℤ GREATEST_MAXINT = r.gre
 pub wrong_usual : (top : ℤ) → top ≡ default_max → IsWrongMax Second top
 wrong_usual top h = inr h
 
+pub right_second : (top : ℤ) → pos 1 ≤ℤ top → top ≤ℤ GREATEST_MAXINT → (top ≡ default_max → ⊥) → IsRightMax Second top
+right_second top low high other = (record { least = low; greatest = high }, other)
+
 -- a right one is not wrong
 pub not_wrong : (v : ImageVersion) (top : ℤ) → IsRightMax v top → IsWrongMax v top → ⊥
 not_wrong First top right wrong = wrong

@@ -291,7 +291,8 @@ pub fn version_of(image: &Image) -> ImageVersion
 
 // Where the number of cells stands.
 fn cells_begin(version: ImageVersion) -> usize
-    ensures { result ≡ cells_place version }
+    ensures place { result ≡ cells_place version }
+    ensures few { result ≤ 14 }
 {
     match version {
         ImageVersion::First => 6,

@@ -7,7 +7,7 @@ use Rattle.bk_front.proofs.reading.in_range.Goals as goal
 
 pub returns-in_err-components-clause-refusal : goal.returns-in_err-components-clause-refusal
 returns-in_err-components-clause-refusal c =
-    err_told c.from_residual-in_err-components.result c.in_err-components.field-0.0 (IsRefusalIn c.args.max c.args.kinds.now (bytes_of c.args.texts.now)) c.from_residual-in_err-components.ensures.1
+    err_told c.from_residual.result c.in_err-components.field-0.0 (IsRefusalIn c.args.max c.args.kinds.now (bytes_of c.args.texts.now)) c.from_residual.ensures.1
     (c.in_err-components.ensures.refusal c.args.max c.args.kinds.now)
 
 pub returns-in_err-all_chained-clause-refusal : goal.returns-in_err-all_chained-clause-refusal

@@ -13,19 +13,19 @@ returns-then-has_wrong_max c = first_max c.args.version c.args.image.now c.if-ha
 
 pub returns-then-image-gt-MOST_CELLS : goal.returns-then-image-gt-MOST_CELLS
 returns-then-image-gt-MOST_CELLS c =
-    subst (λ at. IsFirst (IsNumberFault c.args.version c.args.image.now) (BadSlot at)) (sym c.cells_begin-cells.ensures)
+    subst (λ at. IsFirst (IsNumberFault c.args.version c.args.image.now) (BadSlot at)) (sym c.cells_begin-cells.ensures.place)
     (first_cells c.args.version c.args.image.now c.if-has_wrong_max.ensures c.if-image-gt-MOST_CELLS.true)
 
 pub returns-then-has_too_many_sets : goal.returns-then-has_too_many_sets
 returns-then-has_too_many_sets c =
-    subst (λ at. IsFirst (IsNumberFault c.args.version c.args.image.now) (BadSlot (at + 4))) (sym c.cells_begin-cells.ensures)
+    subst (λ at. IsFirst (IsNumberFault c.args.version c.args.image.now) (BadSlot (at + 4))) (sym c.cells_begin-cells.ensures.place)
     (first_sets c.args.version c.args.image.now c.if-has_wrong_max.ensures c.if-image-gt-MOST_CELLS.false c.if-has_too_many_sets.ensures)
 
 pub sets_fault-requires : goal.sets_fault-requires
 sets_fault-requires c =
     let v = c.args.version in
     let image = c.args.image.now in
-    omega (arith, c.requires.room, laid_out_size v image, sets_end v image, ops_end v image, c.cells_begin-cells.ensures, ap (λ ss. length (flat_map set ss)) c.as_slice.ensures)
+    omega (arith, c.requires.room, laid_out_size v image, sets_end v image, ops_end v image, c.cells_begin-cells.ensures.place, ap (λ ss. length (flat_map set ss)) c.as_slice.ensures)
 
 pub returns-in-Some : goal.returns-in-Some
 returns-in-Some c =
@@ -34,7 +34,7 @@ returns-in-Some c =
     let e = c.in-Some.fault in
     let sets = subst (λ ss. IsFirst (IsFaultIn set (IsSetFault image) (c.cells_begin-cells.result + 6) ss) e) c.as_slice.ensures c.in-Some.ensures in
     first_set v image e c.if-has_wrong_max.ensures c.if-image-gt-MOST_CELLS.false c.if-has_too_many_sets.ensures
-    (subst (λ at. IsFirst (IsFaultIn set (IsSetFault image) (at + 6) image.sets) e) c.cells_begin-cells.ensures sets)
+    (subst (λ at. IsFirst (IsFaultIn set (IsSetFault image) (at + 6) image.sets) e) c.cells_begin-cells.ensures.place sets)
 
 pub number_fault_behind-requires-clause-elements : goal.number_fault_behind-requires-clause-elements
 number_fault_behind-requires-clause-elements c = subst (λ ss. All (λ names. HasFewElements (int_max c.args.image.now) names) ss) c.as_slice.ensures c.in_default.ensures
