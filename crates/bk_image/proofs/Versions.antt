@@ -1,10 +1,9 @@
 -- The version of an image, and its MAXINT.
-use Rattle.std.proofs.Common.{◌≡◌, ◌≢◌, ℕ, List, ℤ, pos, ◌<ℤ◌, ◌≤ℤ◌, Bool, true, false, refl, sym, subst, arith, inl, inr}
+use Rattle.std.proofs.Common.{◌≡◌, ◌≢◌, ℕ, List, ℤ, Bool, true, false, refl, sym, subst, arith, inl, inr}
 use Rattle.std.specs.Prelude.{FitsSigned}
 use Rattle.std.specs.Int.{w64}
 use Rattle.std.specs.Ordering.{int_eq}
 use Rattle.std.proofs.lemmas.Int.{ints}
-use Rattle.bk_limits.specs.declared.TheConstants.{GREATEST_MAXINT}
 use Rattle.bk_code.specs.declared.image.Image.{Image}
 use Rattle.bk_code.specs.Numbers.{int_max, default_max, IsRange}
 use Rattle.bk_code.proofs.Ranges.{default_range}
@@ -23,6 +22,9 @@ other-is x y h = grind (arith, ints)
 same-only : (x y : ℤ) → int_eq x y ≡ true → x ≡ y
 same-only x y h = grind (arith, ints)
 
+differ : (b : Bool) → b ≡ false → b ≡ true → ⊥
+differ b e f = cc
+
 pub is_first : (image : Image) → int_max image ≡ default_max → First ≡ version_of image
 is_first image h = rw (same-is (int_max image) default_max h) refl
 
@@ -38,17 +40,14 @@ own_fits image fits = by_usual (int_eq (int_max image) default_max) refl
     by_usual false is = rw is fits
 
 -- ---- MAXINT of the second version
-pub wrong_below : (top : ℤ) → top <ℤ pos 1 → IsWrongMax Second top
-wrong_below top h = inl (λ r. let least : pos 1 ≤ℤ top = r.least in omega (arith, ints, h, least))
-
-pub wrong_above : (top : ℤ) → GREATEST_MAXINT <ℤ top → IsWrongMax Second top
-wrong_above top h = inl (λ r. let greatest : top ≤ℤ GREATEST_MAXINT = r.greatest in omega (arith, ints, h, greatest))
-
-pub wrong_usual : (top : ℤ) → top ≡ default_max → IsWrongMax Second top
-wrong_usual top h = inr h
-
-pub right_second : (top : ℤ) → pos 1 ≤ℤ top → top ≤ℤ GREATEST_MAXINT → (top ≡ default_max → ⊥) → IsRightMax Second top
-right_second top low high other = (record { least = low; greatest = high }, other)
+-- one that is not right is wrong
+pub wrong_max : (v : ImageVersion) (top : ℤ) → (IsRightMax v top → ⊥) → IsWrongMax v top
+wrong_max First top none = none tt
+wrong_max Second top none = by_usual (int_eq top default_max) refl
+  where
+    by_usual : (b : Bool) → int_eq top default_max ≡ b → IsWrongMax Second top
+    by_usual true is = inr (same-only top default_max is)
+    by_usual false is = inl (λ range. none (range, λ usual. differ (int_eq top default_max) is (same-is top default_max usual)))
 
 -- a right one is not wrong
 pub not_wrong : (v : ImageVersion) (top : ℤ) → IsRightMax v top → IsWrongMax v top → ⊥
@@ -72,10 +71,7 @@ own_right image range = by_usual (int_eq (int_max image) default_max) refl
   where
     by_usual : (b : Bool) → int_eq (int_max image) default_max ≡ b → IsRightMax (version_of image) (int_max image)
     by_usual true is = rw is tt
-    by_usual false is = rw is (range, λ usual. differ (int_max image) usual is)
-      where
-        differ : (top : ℤ) → top ≡ default_max → int_eq top default_max ≡ false → ⊥
-        differ top usual is = let same : int_eq top default_max ≡ true = same-is top default_max usual in cc
+    by_usual false is = rw is (range, λ usual. differ (int_eq (int_max image) default_max) is (same-is (int_max image) default_max usual))
 
 -- bytes that are laid out as an image whose numbers are right are its spelling
 pub rightly_spelled : (bytes : List ℕ) (v : ImageVersion) (image : Image) → bytes ≡ laid_out v image → FitsFields v image → AreRight v image → HasSpelling image × (bytes ≡ spelling image)

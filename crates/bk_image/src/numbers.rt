@@ -9,7 +9,7 @@ ghost use Rattle.bk_image.specs.Spelling as spell;
 ghost use Rattle.bk_image.specs.Spelling.{version_of};
 ghost use Rattle.bk_image.specs.Soundness.{IsSound, AreSound, IsRightMax, AreRight, HaveFewElements};
 ghost use Rattle.bk_image.specs.Faults.{IsFirst, IsFaultIn, IsParameterFault, IsParametersFault, IsEntryFault, IsArrayFault};
-ghost use Rattle.bk_image.specs.Faults.{HasIndexOutside, IsOperandFault, IsOneInstFault, IsSetFault, IsWrongMax, IsNumberFault};
+ghost use Rattle.bk_image.specs.Faults.{HasIndexOutside, IsOperandFault, IsOneInstFault, IsSetFault, IsNumberFault};
 ghost use Rattle.bk_image.specs.Faults.{cells_place, ops_place, count_place};
 
 use crate::LoadFault;
@@ -316,15 +316,14 @@ pub fn code_begin(image: &Image) -> usize
     entries_end(ops_begin(version_of(image), image), image.ops.as_slice()) + 4
 }
 
-// Whether the MAXINT of an image in this version is none, or belongs into the first.
-#[tactic(auto, using(crate::proofs::Versions::wrong_below, crate::proofs::Versions::wrong_above, crate::proofs::Versions::wrong_usual))]
-fn has_wrong_max(version: ImageVersion, image: &Image) -> bool
-    ensures { MatchBool result (IsWrongMax version (int_max image.now)) (IsRightMax version (int_max image.now)) }
+// Whether the MAXINT of an image in this version is one, and in the second another than that of the first.
+fn has_right_max(version: ImageVersion, image: &Image) -> bool
+    ensures { IsTrue result ↔ IsRightMax version (int_max image.now) }
 {
     let max = image.int_max();
     match version {
-        ImageVersion::First => false,
-        ImageVersion::Second => max < 1 || max > GREATEST_MAXINT || max == DEFAULT_MAX,
+        ImageVersion::First => true,
+        ImageVersion::Second => 1 <= max && max <= GREATEST_MAXINT && max != DEFAULT_MAX,
     }
 }
 
@@ -363,7 +362,7 @@ pub fn number_fault(version: ImageVersion, image: &Image) -> Option<LoadFault>
     requires room { length (spell.laid_out version image.now) < 2 ^ 64 }
     ensures { MatchOption result (AreRight version image.now) (λ e. IsFirst (IsNumberFault version image.now) e) }
 {
-    if has_wrong_max(version, image) {
+    if !has_right_max(version, image) {
         return Some(LoadFault::BadSlot(6));
     }
     let cells = cells_begin(version);
