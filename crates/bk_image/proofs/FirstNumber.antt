@@ -1,5 +1,5 @@
 -- The first fault of all the numbers of an image.
-use Rattle.std.proofs.Common.{◌≡◌, ℕ, ◌+◌, ◌^◌, ◌<◌, ◌≤◌, length, refl, sym, subst, arith, inl, inr, Option, Some, None, get_or}
+use Rattle.std.proofs.Common.{◌≡◌, ℕ, ◌+◌, ◌^◌, ◌<◌, ◌≤◌, ◌⊎◌, length, refl, sym, subst, arith, inl, inr, Option, Some, None, get_or}
 use Rattle.std.specs.Prelude.{All, MatchOption, slice_get}
 use Rattle.std.proofs.lemmas.Option.{get_or_from_slice_get, slice_get_within, slice_get-get_or}
 use Rattle.bk_limits.specs.declared.TheConstants.{MOST_CELLS, MOST_SETS}

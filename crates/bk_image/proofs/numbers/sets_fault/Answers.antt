@@ -26,7 +26,7 @@ names_end-place-requires c =
       c.loop-names.invariant.here,
       place_within set c.args.at c.args.sets.now c.loop-names.names-index c.names-item.result get,
       set_size c.names-item.result,
-      ap (λ names. length (flat_map text names)) c.as_slice-2.ensures,
+      ap (λ names. length (flat_map text names)) c.as_slice-in-loop-names.ensures,
     )
 
 pub returns-then-has_too_many_elements : goal.returns-then-has_too_many_elements
@@ -50,7 +50,7 @@ loop-names-preserved c =
         c.loop-names.invariant.here,
         place_more set c.args.at c.args.sets.now c.loop-names.names-index c.names-item.result get,
         set_size c.names-item.result,
-        ap (λ names. length (flat_map text names)) c.as_slice-2.ensures,
+        ap (λ names. length (flat_map text names)) c.as_slice-in-loop-names.ensures,
         c.names_end-place.ensures,
       );
       good = good_more (λ k names. HasFewElements (int_max c.args.image.now) names) c.args.sets.now c.loop-names.names-index c.names-item.result c.loop-names.invariant.good get few;
