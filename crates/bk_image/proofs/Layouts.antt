@@ -291,20 +291,30 @@ magic_front len rest =
     let read : number_at len w32 (magic ++ rest) ≡ Ok (0x424B494D, rest) = subst (λ (m : List ℕ). number_at len w32 (m ++ rest) ≡ Ok (0x424B494D, rest)) magic_number ((number_reads len w32 wide32).again 0x424B494D rest (omega arith)) in
     rw read refl
 
+-- the second version, or the fault
+abbrev second_or : Bool → ℕ → List ℕ → Read ImageVersion
+second_or two n rest = cond two (Ok (Second, rest)) (Err (Version n))
+
+-- the first one, or that
+abbrev first_or : Bool → ℕ → List ℕ → Read ImageVersion
+first_or one n rest = cond one (Ok (First, rest)) (second_or (eqb n 2) n rest)
+
 -- the version of this number, or the fault, before these bytes
 abbrev as_version : ℕ → List ℕ → Read ImageVersion
-as_version n rest = cond (eqb n 1) (Ok (First, rest)) (cond (eqb n 2) (Ok (Second, rest)) (Err (Version n)))
+as_version n rest = first_or (eqb n 1) n rest
 
 as_version_taken : (n : ℕ) (bytes rest : List ℕ) (x : ImageVersion × List ℕ) → Takes bytes (number w16 n) rest → as_version n rest ≡ Ok x → Takes bytes (number w16 (numbered x.0)) x.1
 as_version_taken n bytes rest x t h =
-    by_test (eqb n 1) (λ b. cond b (Ok (First, rest)) (cond (eqb n 2) (Ok (Second, rest)) (Err (Version n))) ≡ Ok x → Takes bytes (number w16 (numbered x.0)) x.1)
-    (λ one is.
-    subst (λ (y : ImageVersion × List ℕ). Takes bytes (number w16 (numbered y.0)) y.1) (ok_is (First, rest) x is) (subst (λ (m : ℕ). Takes bytes (number w16 m) rest) (eqb-true n 1 one) t))
+    let one : ImageVersion × List ℕ = (First, rest) in
+    let two : ImageVersion × List ℕ = (Second, rest) in
+    by_test (eqb n 1) (λ b. first_or b n rest ≡ Ok x → Takes bytes (number w16 (numbered x.0)) x.1)
+    (λ is-one is.
+    subst (λ (y : ImageVersion × List ℕ). Takes bytes (number w16 (numbered y.0)) y.1) (ok_is one x is) (subst (λ (m : ℕ). Takes bytes (number w16 m) rest) (eqb-true n 1 is-one) t))
     (λ other.
-    by_test (eqb n 2) (λ b. cond b (Ok (Second, rest)) (Err (Version n)) ≡ Ok x → Takes bytes (number w16 (numbered x.0)) x.1)
-    (λ two is.
-    subst (λ (y : ImageVersion × List ℕ). Takes bytes (number w16 (numbered y.0)) y.1) (ok_is (Second, rest) x is) (subst (λ (m : ℕ). Takes bytes (number w16 m) rest) (eqb-true n 2 two) t))
-    (λ none is. absurd cc) is) h
+    by_test (eqb n 2) (λ b. second_or b n rest ≡ Ok x → Takes bytes (number w16 (numbered x.0)) x.1)
+    (λ is-two is.
+    subst (λ (y : ImageVersion × List ℕ). Takes bytes (number w16 (numbered y.0)) y.1) (ok_is two x is) (subst (λ (m : ℕ). Takes bytes (number w16 m) rest) (eqb-true n 2 is-two) t))
+    (λ none is. absurd cc)) h
 
 version_take : (len : ℕ) (bytes : List ℕ) (x : ImageVersion × List ℕ) → IsBytes bytes → version_at len bytes ≡ Ok x → Takes bytes (number w16 (numbered x.0)) x.1
 unfolding version_at
@@ -421,9 +431,10 @@ magic_cause bytes e fits h =
 -- a number that is none of the two
 as_version_stopped : (n : ℕ) (rest : List ℕ) (e : LoadFault) → as_version n rest ≡ Err e → (eqb n 1 ≡ false) × (eqb n 2 ≡ false) × (e ≡ Version n)
 as_version_stopped n rest e h =
-    by_test (eqb n 1) (λ b. cond b (Ok (First, rest)) (cond (eqb n 2) (Ok (Second, rest)) (Err (Version n))) ≡ Err e → (eqb n 1 ≡ false) × (eqb n 2 ≡ false) × (e ≡ Version n))
+    let two : ImageVersion × List ℕ = (Second, rest) in
+    by_test (eqb n 1) (λ b. first_or b n rest ≡ Err e → (eqb n 1 ≡ false) × (eqb n 2 ≡ false) × (e ≡ Version n))
     (λ one is. absurd cc)
-    (λ other is. let g = guard_stopped (eqb n 2) (Version n) (Second, rest) e is in (other, g.0, g.1)) h
+    (λ other is. let g = guard_stopped (eqb n 2) (Version n) two e is in (other, g.0, g.1)) h
 
 version_cause : (bytes after : List ℕ) (e : LoadFault) → Takes bytes magic after → version_at (length bytes) after ≡ Err e → Cause bytes e
 unfolding version_at

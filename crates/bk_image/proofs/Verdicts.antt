@@ -33,7 +33,7 @@ laid_as x = Ok x
 pub layout_is : (x y : ImageVersion × Image) → laid_as x ≡ laid_as y → x ≡ y
 layout_is x y e = cc
 
-pub one_layout : (v w : ImageVersion) (a b : Image) → FitsFields v a → FitsFields w b → laid_out v a ≡ laid_out w b → (v, a) ≡ (w, b)
+pub one_layout : (v w : ImageVersion) (a b : Image) → FitsFields v a → FitsFields w b → laid_out v a ≡ laid_out w b → ◌≡◌ {A = ImageVersion × Image} (v, a) (w, b)
 one_layout v w a b p q e = layout_is (v, a) (w, b) (sym (layout_again v a p) ∙ ap layout_of e ∙ layout_again w b q)
 
 pub one_image : HasOneImage
@@ -56,7 +56,7 @@ reads_on bytes image e h failed =
 
 number_wrong : (bytes : List ℕ) (image : Image) (e : LoadFault) → Encodes bytes image → IsFirstNumberFault bytes e → ⊥
 number_wrong bytes image e h f =
-    let same : (f.version, f.image) ≡ (version_of image, image) = one_layout f.version (version_of image) f.image image f.fits h.spelled.fits (sym f.is ∙ h.is) in
+    let same : ◌≡◌ {A = ImageVersion × Image} (f.version, f.image) (version_of image, image) = one_layout f.version (version_of image) f.image image f.fits h.spelled.fits (sym f.is ∙ h.is) in
     let right : AreRight (version_of image) image = record { numbered = h.loadable.numbered; version = refl; few_sets = h.spelled.few_sets; few_elements = h.spelled.few_elements } in
     no_number_fault (version_of image) image e right (subst (λ (x : ImageVersion × Image). IsNumberFault x.0 x.1 e) same f.first.is)
 
