@@ -4,7 +4,7 @@
     tests/images.py --cases            writes changed_images.cases and lamps.img in crates/bkit_cases/data
     tests/images.py PROGRAM [VALUES]   executes images with changed bytes by PROGRAM and by this reader, and names each that differs
 
-PROGRAM is the built bkit. It executes two images with each of their bytes changed to each other value (or to VALUES of them, spread
+PROGRAM is the built bkit. It executes three images with each of their bytes changed to each other value (or to VALUES of them, spread
 evenly), each front of them, and each with one more byte. An image is changed in one place, so most faults of it stand alone; which of
 two faults is told is asked where a change makes two.
 """
@@ -19,7 +19,8 @@ from lines import as_digits, as_lines
 
 TOP = os.path.dirname(os.path.dirname(os.path.abspath(__file__)))
 DATA = f"{TOP}/crates/bkit_cases/data"
-GREATEST = 2147483647
+USUAL_GREATEST = 2147483647
+MOST_GREATEST = 2**62 - 1
 MOST_CELLS = 1000000
 MOST_DEPTH = 1000
 FUEL = 200
@@ -88,10 +89,18 @@ class Image:
         read = Bytes(all_bytes)
         if read.take(4) != b"BKIM":
             raise BadImage("Magic at 0")
-        if read.number(2)[1] != 1:
+        version = read.number(2)[1]
+        if version not in (1, 2):
             raise BadImage("Version at 4")
+        # The second version says the greatest number, which is that of the first in no image.
+        self.has_range = version == 2
+        self.greatest = read.number(-8) if self.has_range else (None, USUAL_GREATEST)
         self.cells = read.number(4)
-        self.sets = [[read.name() for _ in range(read.count())] for _ in range(read.count())]
+        self.counts = []
+        self.sets = []
+        for _ in range(read.count()):
+            self.counts.append(read.number(2))
+            self.sets.append([read.name() for _ in range(self.counts[-1][1])])
         self.operations = []
         for _ in range(read.count()):
             name, start = read.name(), read.number(4)
@@ -111,8 +120,8 @@ class Image:
 # ---- the numbers
 
 
-def is_value(number):
-    return -GREATEST <= number <= GREATEST
+def is_value(image, number):
+    return -image.greatest[1] <= number <= image.greatest[1]
 
 
 def faults_of_parameter(image, kind, slot):
@@ -126,13 +135,13 @@ def faults_of_instruction(image, place):
     at, name, operands = image.code[place]
     if name in ("Load", "Store") and operands[0][1] >= image.cells[1]:
         yield operands[0][0], "BadSlot"
-    if name == "Push" and not is_value(operands[0][1]):
+    if name == "Push" and not is_value(image, operands[0][1]):
         yield operands[0][0], "BadSlot"
     if name in ("ALoad", "AStore"):
         base, low, count = operands
         if base[1] + count[1] > image.cells[1]:
             yield base[0], "BadSlot"
-        if count[1] > 0 and not (is_value(low[1]) and is_value(low[1] + count[1] - 1)):
+        if count[1] > 0 and not (is_value(image, low[1]) and is_value(image, low[1] + count[1] - 1)):
             yield low[0], "BadSlot"
         if count[1] == 0:
             yield count[0], "BadSlot"
@@ -143,8 +152,13 @@ def faults_of_instruction(image, place):
 
 
 def faults_of_numbers(image):
+    if image.has_range and (not 1 <= image.greatest[1] <= MOST_GREATEST or image.greatest[1] == USUAL_GREATEST):
+        yield image.greatest[0], "BadSlot"
     if image.cells[1] > MOST_CELLS:
         yield image.cells[0], "BadSlot"
+    for at, count in image.counts:
+        if count > image.greatest[1] + 1:
+            yield at, "BadSlot"
     for _, start, inputs, outputs in image.operations:
         if start[1] >= len(image.code):
             yield start[0], "BadSlot"
@@ -224,7 +238,7 @@ class Trap(Exception):
     pass
 
 
-def arithmetic(name, a, b):
+def arithmetic(image, name, a, b):
     if name == "Div":
         if b == 0:
             raise Trap("DivZero")
@@ -236,7 +250,7 @@ def arithmetic(name, a, b):
         value = a % b
     else:
         value = {"Add": a + b, "Sub": a - b, "Mul": a * b, "Eq": int(a == b), "Lt": int(a < b), "Le": int(a <= b)}[name]
-    if not is_value(value):
+    if not is_value(image, value):
         raise Trap("Overflow")
     return value
 
@@ -280,7 +294,7 @@ def execute(image, cells, place, fuel):
                 return "done", steps + 1, place
             else:
                 b, a = stack.pop(), stack.pop()
-                stack.append(arithmetic(name, a, b))
+                stack.append(arithmetic(image, name, a, b))
         except Trap as trap:
             return f"trapped {trap}", steps, place
         place = following
@@ -365,7 +379,7 @@ def answer(all_bytes, lines, fuel=FUEL):
     return transcript(image, calls, fuel)
 
 
-# ---- two images
+# ---- three images
 
 
 def put_name(name):
@@ -379,8 +393,12 @@ def put_parameters(parameters):
     return made
 
 
-def assembled(cells, sets, operations, code):
-    made = b"BKIM" + (1).to_bytes(2, "big") + cells.to_bytes(4, "big") + len(sets).to_bytes(2, "big")
+def assembled(cells, sets, operations, code, greatest=USUAL_GREATEST):
+    if greatest == USUAL_GREATEST:
+        made = b"BKIM" + (1).to_bytes(2, "big")
+    else:
+        made = b"BKIM" + (2).to_bytes(2, "big") + greatest.to_bytes(8, "big")
+    made += cells.to_bytes(4, "big") + len(sets).to_bytes(2, "big")
     for names in sets:
         made += len(names).to_bytes(2, "big") + b"".join(put_name(it) for it in names)
     made += len(operations).to_bytes(2, "big")
@@ -431,7 +449,21 @@ LAMPS = assembled(
 # The loop of sum: its test begins at 15 and leaves to 27; 26 jumps to 43, and 44 back to 15. Nothing reaches 45 to 49.
 LAMPS_CALLS = [b"all(green,TRUE)", b"sum(4)", b"odd(7,3)", b"odd(9,4)", b"all(blue,FALSE)", b"odd(5,0)"]
 
-IMAGES = [("counter", COUNTER, COUNTER_CALLS), ("lamps", LAMPS, LAMPS_CALLS)]
+# The whole numbers from -3 to 3: a set with as many elements as they can number, an array over a part of them, and a sum.
+SMALL = assembled(
+    4,
+    [[b"a", b"b", b"c", b"d"]],
+    [(b"add", 5, [(0, 3)], [(0, 3)]), (b"same", 9, [(2, 2)], [(2, 2)])],
+    [
+        ("Push", -1), ("Push", 3), ("AStore", 0, -1, 2), ("Push", 0), ("Store", 3),
+        ("Load", 3), ("Push", 2), ("Add",), ("Store", 3), ("Ret",),
+    ],
+    greatest=3,
+)  # fmt: skip
+# The initialisation goes on into add, and same is its last instruction.
+SMALL_CALLS = [b"add(1)", b"same(d)", b"add(-3)", b"add(2)"]
+
+IMAGES = [("counter", COUNTER, COUNTER_CALLS), ("lamps", LAMPS, LAMPS_CALLS), ("small", SMALL, SMALL_CALLS)]
 
 
 def changed(image, at, value):
@@ -459,6 +491,10 @@ def write_cases():
     for at, byte in enumerate(COUNTER):
         for value in case_values(byte):
             made += one_case(f"changed_image_{at:03}_as_{value:02x}", changed(COUNTER, at, value), COUNTER_CALLS)
+    made += "# The same of an image of the whole numbers from -3 to 3, up to its operations.\n\n"
+    for at, byte in enumerate(SMALL[: SMALL.index(b"add")]):
+        for value in case_values(byte):
+            made += one_case(f"changed_small_{at:03}_as_{value:02x}", changed(SMALL, at, value), SMALL_CALLS)
     made += "# An image with each instruction, two sets, an array and a loop, as it is.\n\n"
     made += one_case("image_of_each_instruction", LAMPS, LAMPS_CALLS)
     with open(f"{DATA}/lamps.img", "wb") as file:

@@ -1,17 +1,15 @@
 -- The development that a component's parts make.
-use Rattle.std.proofs.Common.{◌≡◌, ℕ, zero, suc, ◌+◌, ◌<◌, ◌≤◌, List, [], ◌∷◌, ◌++◌, length, map, refl, sym, ◌∙◌, ap, append_assoc, Bool, true, false, cond, ℤ, nat_eq, arith, inl, inr, ◌-◌, ◌^◌, get_or, take, subst, IsTrue, All, pos, negsuc, ◌≤ℤ◌, FitsSigned, w64}
+use Rattle.std.proofs.Common.{◌≡◌, ℕ, zero, suc, ◌+◌, ◌<◌, ◌≤◌, List, [], ◌∷◌, ◌++◌, length, map, refl, sym, ◌∙◌, ap, append_assoc, Bool, true, false, cond, ℤ, nat_eq, arith, inl, inr, ◌-◌, ◌^◌, get_or, take, subst, IsTrue, All}
 use Rattle.std.specs.Prelude.{Option, None, Some}
 use Rattle.std.specs.List.{slice_get}
 use Rattle.std.specs.Option.{option_map}
 use Rattle.std.proofs.lemmas.List.{append-nil, take_more, length-map, map-append, length-take, length-append, get_or-append_right}
 use Rattle.std.proofs.Math.ListN.{get_or-map}
 use Rattle.std.proofs.lemmas.List.Elements.{All-get_or}
-use Rattle.bk_limits.specs.declared.TheConstants.{GREATEST_MAXINT}
 use Rattle.bk_val.specs.ValueType.{ValueType}
 use Rattle.bk_form.specs.Table.{Table, SetEntry, VariableEntry, IsCounted, with_set, with_variable, variable_type, lists_type, is_among_sets, empty_table}
 use Rattle.bk_dev.specs.declared.kind.Home.{Home}
-use Rattle.std.proofs.lemmas.Int.{ints, fits_signed_from_abs}
-use Rattle.bk_dev.specs.Development.{Head, Level, Development, IsRange, is_implementing, int_max as machine_max}
+use Rattle.bk_dev.specs.Development.{Head, Level, Development, is_implementing}
 use Rattle.bk_dev.specs.Layout.{has_scalars}
 use Rattle.bk_gsl.specs.State.{among}
 use Rattle.bk_raw.specs.Meaning.Binders.{or_bool}
@@ -124,13 +122,13 @@ alone-table start first now given ss vs none same e k =
     table-made start first given vs now e k ∙ (λ i. record { sets = (none i).sets ++ same i; variables = (none i).variables ++ vs })
 
 -- the development below one that is taken apart as old
-pub below-made : (above old : Development) (a : Added) (first now : Table) (given sets : List SetEntry) (homes : List Home) (levels : List Level) (extents : List (ℕ × ℕ)) → old ≡ above → above.sets ≡ above.table.sets → given ≡ a.sets.items → first ≡ with_sets old.table given → now ≡ with_variables first (variables_added a.variables.items) →
-    sets ≡ old.sets ++ a.sets.items → homes ≡ old.homes ++ a.homes.items → levels ≡ old.levels ++ a.own.items → extents ≡ old.extents ++ (length now.sets, length now.variables) ∷ [] → record { max = old.max; table = now; homes = homes; sets = sets; heads = old.heads; levels = levels; values = a.values.items; extents = extents } ≡ development_below above a
-below-made above old a first now given sets homes levels extents is same g e k s h l x =
+pub below-made : (top : ℤ) (above old : Development) (a : Added) (first now : Table) (given sets : List SetEntry) (homes : List Home) (levels : List Level) (extents : List (ℕ × ℕ)) → old ≡ above → above.sets ≡ above.table.sets → given ≡ a.sets.items → first ≡ with_sets old.table given → now ≡ with_variables first (variables_added a.variables.items) →
+    sets ≡ old.sets ++ a.sets.items → homes ≡ old.homes ++ a.homes.items → levels ≡ old.levels ++ a.own.items → extents ≡ old.extents ++ (length now.sets, length now.variables) ∷ [] → record { max = top; table = now; homes = homes; sets = sets; heads = old.heads; levels = levels; values = a.values.items; extents = extents } ≡ development_below top above a
+below-made top above old a first now given sets homes levels extents is same g e k s h l x =
     let table : now ≡ record { sets = old.table.sets ++ given; variables = old.table.variables ++ variables_added a.variables.items } = table-made old.table first given (variables_added a.variables.items) now e k in
-    (λ i. record { max = old.max; table = table i; homes = h i; sets = s i; heads = old.heads; levels = l i; values = a.values.items; extents = (x ∙ ap (λ (t : Table). old.extents ++ (length t.sets, length t.variables) ∷ []) table) i })
+    (λ i. record { max = top; table = table i; homes = h i; sets = s i; heads = old.heads; levels = l i; values = a.values.items; extents = (x ∙ ap (λ (t : Table). old.extents ++ (length t.sets, length t.variables) ∷ []) table) i })
     ∙ ((λ i. record {
-      max = (is i).max;
+      max = top;
       table = record { sets = (is i).table.sets ++ g i; variables = (is i).table.variables ++ variables_added a.variables.items };
       homes = (is i).homes ++ a.homes.items;
       sets = (is i).sets ++ a.sets.items;
@@ -139,7 +137,7 @@ below-made above old a first now given sets homes levels extents is same g e k s
       values = a.values.items;
       extents = (is i).extents ++ (length ((is i).table.sets ++ g i), length ((is i).table.variables ++ variables_added a.variables.items)) ∷ [];
     })
-    ∙ ap (λ (xs : List SetEntry). record (development_below above a) { sets = xs ++ a.sets.items }) same)
+    ∙ ap (λ (xs : List SetEntry). record (development_below top above a) { sets = xs ++ a.sets.items }) same)
 
 -- entries of texts with their types
 entries-join : (typing : Typing) (m : ℕ) (xs : List (List ℕ)) (y : List ℕ) → entries_from typing m (xs ++ y ∷ []) ≡ entries_from typing m xs ++ record { text = y; of_type = or_bool (typing (m + length xs)) } ∷ []
@@ -157,9 +155,9 @@ entry-more typing n ys y found after number ty h k e a =
 
 -- ---- what a component adds
 -- with these headers
-abbrev assembled : Added → Development → List Head → Development
-assembled a dev heads = record {
-  max = dev.max;
+abbrev assembled : ℤ → Added → Development → List Head → Development
+assembled top a dev heads = record {
+  max = top;
   table = record { sets = dev.table.sets ++ a.sets.items; variables = dev.table.variables ++ variables_added a.variables.items };
   homes = dev.homes ++ a.homes.items;
   sets = dev.table.sets ++ a.sets.items;
@@ -189,9 +187,9 @@ module _ (a : Added) (max : ℤ) (dev : Development) (c : Component) (p : Plan) 
   pub values-are : a.values.items ≡ values_made max typing (plan dev c).globals c.values
   values-are = made.values ∙ ap (λ (q : Plan). values_made max typing q.globals c.values) shown
 
-  made-as : (heads : List Head) → heads ≡ (plan dev c).heads → assembled a dev heads ≡ level_below max dev c
+  made-as : (heads : List Head) → heads ≡ (plan dev c).heads → assembled max a dev heads ≡ level_below max dev c
   made-as heads h = λ i. record {
-    max = dev.max;
+    max = max;
     table = record { sets = dev.table.sets ++ made.sets i; variables = dev.table.variables ++ variables-are i };
     homes = dev.homes ++ homes-are i;
     sets = dev.table.sets ++ made.sets i;
@@ -206,11 +204,11 @@ module _ (a : Added) (max : ℤ) (dev : Development) (c : Component) (p : Plan) 
       made.heads ∙ (ap (λ (b : Bool). cond b (machine_heads p.inputs_at c.operations) []) k
       ∙ (ap (λ (q : Plan). machine_heads q.inputs_at c.operations) shown ∙ sym (ap (λ (b : Bool). cond b (machine_heads (plan dev c).inputs_at c.operations) dev.heads) k)))
 
-  pub added-is : (is_machine c.kind ≡ true → dev ≡ no_development) → IsAddedBy a dev (is_machine c.kind) (level_below max dev c)
+  pub added-is : (is_machine c.kind ≡ true → dev ≡ no_development) → IsAddedBy max a dev (is_machine c.kind) (level_below max dev c)
   added-is alone = go (is_machine c.kind) refl
     where
-      go : (b : Bool) → is_machine c.kind ≡ b → cond b (development_of a) (development_below dev a) ≡ level_below max dev c
-      go true k = sym (ap (λ (d : Development). assembled a d a.heads.items) (alone k)) ∙ made-as a.heads.items (heads-are k)
+      go : (b : Bool) → is_machine c.kind ≡ b → cond b (development_of max a) (development_below max dev a) ≡ level_below max dev c
+      go true k = sym (ap (λ (d : Development). assembled max a d a.heads.items) (alone k)) ∙ made-as a.heads.items (heads-are k)
       go false k = made-as dev.heads (sym (ap (λ (b : Bool). cond b (machine_heads (plan dev c).inputs_at c.operations) dev.heads) k))
 
 -- ---- the arrays of what is made
@@ -253,7 +251,7 @@ module _ (a : Added) (max : ℤ) (dev : Development) (c : Component) (p : Plan) 
       let count : length (new_texts (plan dev c) c) ≡ length c.constants + (length (plan dev c).variables + length (texts-behind dev c)) = texts-count dev c in
       ap has_scalars (new-type (types_at max dev c (plan dev c)) dev.table.variables (new_texts (plan dev c) c) new.table.sets n (omega (arith, w.0)) (omega (arith, w.1, count))) ∙ bool-scalars (types_at max dev c (plan dev c) n)
 
-  pub declared-so : (t : TypingKept) → typing_of t.types.now ≡ types_at max dev c (plan dev c) → t.max ≡ machine_max dev → IsDeclaredBy new t dev a.own.items a.values.items
+  pub declared-so : (t : TypingKept) → typing_of t.types.now ≡ types_at max dev c (plan dev c) → t.max ≡ max → IsDeclaredBy new t dev a.own.items a.values.items
   declared-so t y most = record {
     levels = ap (λ (ls : List Level). dev.levels ++ ls) (sym (own-is a max dev c p shown made));
     types = λ l one n h.
@@ -304,13 +302,13 @@ module _ (max : ℤ) (above : Option Development) (raw : RawComponent) (k : Comp
   level-told few none = within-limit few ∙ sym (ap (λ (o : Option Fault). judged (level_below max dev k) o) none)
 
 -- what is made is what the component adds to what may stand above it
-pub with-level-is : (kind : ComponentKind) (above : Option Development) (a : Added) (whole : Development) → MayStandAbove kind above → IsAddedBy a (above_of above) (is_machine (kind_as kind)) whole → with_level above a ≡ whole
-with-level-is Machine None a whole may h = h
-with-level-is Machine (Some dev) a whole may h = absurd may
-with-level-is Refinement None a whole may h = absurd may
-with-level-is Refinement (Some dev) a whole may h = h
-with-level-is Implementation None a whole may h = absurd may
-with-level-is Implementation (Some dev) a whole may h = h
+pub with-level-is : (top : ℤ) (kind : ComponentKind) (above : Option Development) (a : Added) (whole : Development) → MayStandAbove kind above → IsAddedBy top a (above_of above) (is_machine (kind_as kind)) whole → with_level top above a ≡ whole
+with-level-is top Machine None a whole may h = h
+with-level-is top Machine (Some dev) a whole may h = absurd may
+with-level-is top Refinement None a whole may h = absurd may
+with-level-is top Refinement (Some dev) a whole may h = h
+with-level-is top Implementation None a whole may h = absurd may
+with-level-is top Implementation (Some dev) a whole may h = h
 
 -- nothing stands above a machine
 pub machine-alone : (kind : ComponentKind) (above : Option Development) → MayStandAbove kind above → is_machine (kind_as kind) ≡ true → above_of above ≡ no_development
@@ -320,15 +318,10 @@ machine-alone Refinement above may h = cc
 machine-alone Implementation above may h = cc
 
 -- room for it, as it is counted
-pub room-made : (kind : ComponentKind) (above : Option Development) (a : Added) → MayStandAbove kind above → HasRoom (development_below (above_of above) a) → HasRoom (with_level above a)
-room-made Machine None a may room = record { sets = room.sets; variables = room.variables }
-room-made Machine (Some dev) a may room = absurd may
-room-made Refinement None a may room = absurd may
-room-made Refinement (Some dev) a may room = room
-room-made Implementation None a may room = absurd may
-room-made Implementation (Some dev) a may room = room
-
--- each MAXINT fits 64 bits
-pub range-fits : (max : ℤ) → IsRange max → FitsSigned w64 max
-range-fits (pos n) h = let most : pos n ≤ℤ GREATEST_MAXINT = h.greatest in let low : n < 2 ^ 62 = omega (arith, ints, most) in fits_signed_from_abs w64 (pos n) (omega (arith, low))
-range-fits (negsuc n) h = let least : pos 1 ≤ℤ negsuc n = h.least in absurd (omega (arith, ints, least))
+pub room-made : (top : ℤ) (kind : ComponentKind) (above : Option Development) (a : Added) → MayStandAbove kind above → HasRoom (development_below top (above_of above) a) → HasRoom (with_level top above a)
+room-made top Machine None a may room = record { sets = room.sets; variables = room.variables }
+room-made top Machine (Some dev) a may room = absurd may
+room-made top Refinement None a may room = absurd may
+room-made top Refinement (Some dev) a may room = room
+room-made top Implementation None a may room = absurd may
+room-made top Implementation (Some dev) a may room = room

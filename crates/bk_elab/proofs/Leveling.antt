@@ -1,7 +1,7 @@
 -- What a level with no fault is: a development, below which the next may stand.
 use Rattle.std.proofs.Common.{◌≡◌, ℤ, refl, sym, ◌∙◌, ap, subst, false, length}
 use Rattle.std.specs.Prelude.{Option, None, Some}
-use Rattle.bk_dev.specs.Development.{Development, int_max as machine_max}
+use Rattle.bk_dev.specs.Development.{Development}
 use Rattle.bk_dev.specs.B0.{IsB0Development}
 use Rattle.bk_dev.specs.Facts.{IsDevelopment, HomesAreThere}
 use Rattle.bk_raw.specs.Errors.Blame.{blame}
@@ -13,7 +13,7 @@ use Rattle.bk_statics.specs.Above.{above_of}
 use Rattle.bk_statics.specs.Components.{Component, component_of, is_machine}
 use Rattle.bk_statics.specs.DeclaredNames.{declares_too_many}
 use Rattle.bk_statics.specs.Verdict.{accepted, all_faults, level_below, verdict_of}
-use Rattle.bk_statics.specs.VerdictLaws.{MayStandAbove, HasRoom}
+use Rattle.bk_statics.specs.VerdictLaws.{MayStandAbove, IsRangeBelow, HasRoom}
 use Rattle.bk_statics.proofs.B0Levels.{always-b0}
 use Rattle.bk_statics.proofs.Developments.{always-development}
 use Rattle.bk_elab.specs.Answered.{development_below, with_level, IsAddedBy}
@@ -55,18 +55,25 @@ pub record IsLevelled (max : ℤ) (above : Option Development) (raw : RawCompone
   pub executable : raw.kind ≡ Implementation → IsLowComponent raw → IsB0Development new
 
 -- with what a component without faults adds, where it is counted
-pub levelled : (max m : ℤ) (above : Option Development) (raw : RawComponent) (k : Component) (dev : Development) (a : Added) → m ≡ max → k ≡ component_of raw → dev ≡ above_of above → max ≡ machine_max (above_of above) →
-    MayStandAbove raw.kind above → false ≡ declares_too_many k → None ≡ blame (all_faults m dev k) → IsAddedBy a dev (is_machine k.kind) (level_below m dev k) →
-    HasRoom (development_below (above_of above) a) → IsLevelled max above raw (with_level above a)
-levelled max m above raw k dev a same-max shown higher most may few none added room =
-    let told : IsAddedBy a (above_of above) (is_machine (component_of raw).kind) (level_below max dev k) = subst (λ (P : Type 0). P) (λ i. IsAddedBy a (higher i) (is_machine (shown i).kind) (level_below (same-max i) dev k)) added in
-    let is : with_level above a ≡ level_below max dev k = with-level-is raw.kind above a (level_below max dev k) may told in
-    let answer : verdict_of max above raw ≡ accepted (with_level above a) = level-told max above raw k dev shown higher few (none ∙ ap (λ (n : ℤ). blame (all_faults n dev k)) same-max) ∙ ap accepted (sym is) in
-    let same : verdict_of (machine_max (above_of above)) above raw ≡ accepted (with_level above a) = ap (λ (m : ℤ). verdict_of m above raw) (sym most) ∙ answer in
-    let counted : HasRoom (with_level above a) = room-made raw.kind above a may room in
+levelled-at : (max : ℤ) (above : Option Development) (raw : RawComponent) (k : Component) (dev : Development) (a : Added) → k ≡ component_of raw → dev ≡ above_of above → MayStandAbove raw.kind above → IsRangeBelow max above →
+    false ≡ declares_too_many k → None ≡ blame (all_faults max dev k) → IsAddedBy max a dev (is_machine k.kind) (level_below max dev k) →
+    HasRoom (development_below max (above_of above) a) → IsLevelled max above raw (with_level max above a)
+levelled-at max above raw k dev a shown higher may range few none added room =
+    let told : IsAddedBy max a (above_of above) (is_machine (component_of raw).kind) (level_below max dev k) = subst (λ (P : Type 0). P) (λ i. IsAddedBy max a (higher i) (is_machine (shown i).kind) (level_below max dev k)) added in
+    let is : with_level max above a ≡ level_below max dev k = with-level-is max raw.kind above a (level_below max dev k) may told in
+    let answer : verdict_of max above raw ≡ accepted (with_level max above a) = level-told max above raw k dev shown higher few none ∙ ap accepted (sym is) in
+    let counted : HasRoom (with_level max above a) = room-made max raw.kind above a may room in
     record {
       verdict = answer;
-      development = always-development above raw (with_level above a) may same counted;
+      development = always-development max above raw (with_level max above a) may range answer counted;
       room = counted;
-      executable = λ kind low. always-b0 above raw (with_level above a) may kind low same;
+      executable = λ kind low. always-b0 max above raw (with_level max above a) may range kind low answer;
     }
+
+-- the same, where MAXINT is given by 64 bits
+pub levelled : (max m : ℤ) (above : Option Development) (raw : RawComponent) (k : Component) (dev : Development) (a : Added) → m ≡ max → k ≡ component_of raw → dev ≡ above_of above → MayStandAbove raw.kind above → IsRangeBelow max above →
+    false ≡ declares_too_many k → None ≡ blame (all_faults m dev k) → IsAddedBy m a dev (is_machine k.kind) (level_below m dev k) →
+    HasRoom (development_below m (above_of above) a) → IsLevelled max above raw (with_level m above a)
+levelled max m above raw k dev a same-max shown higher may range few none added room =
+    subst (λ (n : ℤ). IsLevelled n above raw (with_level m above a)) same-max
+    (levelled-at m above raw k dev a shown higher may (subst (λ (n : ℤ). IsRangeBelow n above) (sym same-max) range) few none added room)

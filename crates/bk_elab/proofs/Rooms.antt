@@ -1,6 +1,6 @@
 -- How many copies flattening makes, level by level, and whether 32 bits number them.
 use Rattle.std.proofs.Common.{◌≡◌, ℕ, suc, ◌+◌, ◌<◌, ◌≤◌, List, [], ◌∷◌, ◌++◌, length, get_or, drop, refl, sym, ◌∙◌, ap, subst, append_assoc, length-append, arith, ◌^◌}
-use Rattle.std.specs.Prelude.{Option, None, Some}
+use Rattle.std.specs.Prelude.{Option, None, Some, ℤ}
 use Rattle.std.specs.List.{slice_get, filter_map, cons_option}
 use Rattle.std.proofs.lemmas.List.{drop_more, length-map}
 use Rattle.bk_form.specs.Table.{VariableEntry}
@@ -48,9 +48,9 @@ few-entries vs ws xs ys v n m e f g b =
     let few : length (filter_map (slice_get (vs ++ ws)) (xs ++ ys)) ≤ length (xs ++ ys) = fewer (slice_get (vs ++ ws)) (xs ++ ys) in
     omega (arith, all, entries, copies, few, e, f, g, b)
 
-pub room-counted : (dev : Development) (a : Added) (s r v n m k : ℕ) → s ≡ 0 + length dev.table.sets → r ≡ s + length a.sets.items → r < 2 ^ 32 → v ≡ 0 + length dev.table.variables → n ≡ v + length a.variables.items →
-    m ≡ n + length (copied_in_levels dev.levels) → k ≡ m + length (copied_in_levels a.own.items) → k < 2 ^ 32 → HasRoom (development_below dev a)
-room-counted dev a s r v n m k e f b g h l o c = record {
+pub room-counted : (top : ℤ) (dev : Development) (a : Added) (s r v n m k : ℕ) → s ≡ 0 + length dev.table.sets → r ≡ s + length a.sets.items → r < 2 ^ 32 → v ≡ 0 + length dev.table.variables → n ≡ v + length a.variables.items →
+    m ≡ n + length (copied_in_levels dev.levels) → k ≡ m + length (copied_in_levels a.own.items) → k < 2 ^ 32 → HasRoom (development_below top dev a)
+room-counted top dev a s r v n m k e f b g h l o c = record {
   sets =
       let all : length (dev.table.sets ++ a.sets.items) ≡ length dev.table.sets + length a.sets.items = length-append dev.table.sets a.sets.items in
       omega (arith, all, e, f, b);

@@ -4,7 +4,7 @@ use Rattle.bk_val.specs.ValueType.{ValueType}
 use Rattle.bk_form.specs.Table.{Table, SetEntry, VariableEntry, with_set, with_variable}
 use Rattle.bk_raw.specs.Errors.Faults.{Fault}
 use Rattle.bk_gsl.specs.State.{among}
-use Rattle.bk_dev.specs.Development.{Development, default_max}
+use Rattle.bk_dev.specs.Development.{Development}
 use Rattle.bk_dev.specs.Facts.{home_of, is_variable_of, writes_own}
 use Rattle.bk_elab_terms.specs.declared.error.ElabFault.{ElabFault}
 use Rattle.bk_elab_terms.specs.declared.error.ElabFault.TheVariants.{Fault as FaultAt, Limit, Memory}
@@ -71,10 +71,10 @@ pub record IsMadeBy (a : Added) (int_max : ℤ) (typing : Typing) (p : Plan) (c 
   pub own : a.own.items ≡ level_made int_max typing p c ∷ []
   pub values : a.values.items ≡ values_made int_max typing p.globals c.values
 
--- the development of what a machine adds, in the range where none is said
-abbrev pub development_of : Added → Development
-development_of a = record {
-  max = default_max;
+-- the development of what a machine adds, with this MAXINT
+abbrev pub development_of : ℤ → Added → Development
+development_of int_max a = record {
+  max = int_max;
   table = record { sets = a.sets.items; variables = variables_added a.variables.items };
   homes = a.homes.items;
   sets = a.sets.items;
@@ -85,9 +85,9 @@ development_of a = record {
 }
 
 -- the development above with what another component adds
-abbrev pub development_below : Development → Added → Development
-development_below dev a = record {
-  max = dev.max;
+abbrev pub development_below : ℤ → Development → Added → Development
+development_below int_max dev a = record {
+  max = int_max;
   table = record { sets = dev.table.sets ++ a.sets.items; variables = dev.table.variables ++ variables_added a.variables.items };
   homes = dev.homes ++ a.homes.items;
   sets = dev.table.sets ++ a.sets.items;
@@ -99,10 +99,10 @@ development_below dev a = record {
 }
 
 -- the levels above, if there are some, with what a component adds
-abbrev pub with_level : Option Development → Added → Development
-with_level None a = development_of a
-with_level (Some dev) a = development_below dev a
+abbrev pub with_level : ℤ → Option Development → Added → Development
+with_level int_max None a = development_of int_max a
+with_level int_max (Some dev) a = development_below int_max dev a
 
 -- with what is added it is this development: a machine makes its headers, and all others take those above
-abbrev pub IsAddedBy : Added → Development → Bool → Development → Type 0
-IsAddedBy a dev machine new = cond machine (development_of a) (development_below dev a) ≡ new
+abbrev pub IsAddedBy : ℤ → Added → Development → Bool → Development → Type 0
+IsAddedBy int_max a dev machine new = cond machine (development_of int_max a) (development_below int_max dev a) ≡ new

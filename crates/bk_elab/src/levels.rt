@@ -3,7 +3,7 @@
 ghost use Rattle.std.specs.Prelude.{◌≡◌, ◌<◌, ◌≤◌, ◌+◌, ◌^◌, ◌∷◌, [], All, IsTrue, true, length, map, IfOk, IfErr, OnOk};
 ghost use Rattle.bk_form.specs.Table.{lists_type, IsCounted};
 ghost use Rattle.bk_dev.specs.B0.{IsB0Development};
-ghost use Rattle.bk_dev.specs.Development.{int_max, is_implementing};
+ghost use Rattle.bk_dev.specs.Development.{is_implementing};
 ghost use Rattle.bk_dev.specs.Facts.{IsDevelopment, HomesAreThere};
 ghost use Rattle.bk_raw.specs.Errors.Blame.{blame};
 ghost use Rattle.bk_elab_terms.specs.Shown.{told};
@@ -23,14 +23,14 @@ ghost use Rattle.bk_statics.specs.Plan as planned;
 ghost use Rattle.bk_statics.specs.Plan.{entries_of, operations_of};
 ghost use Rattle.bk_scope.specs.Shown.{above_shown, component_shown, is_blank, placed_shown, plan_shown, refs, IsPlanOf};
 ghost use Rattle.bk_statics.specs.Verdict as meant;
-ghost use Rattle.bk_statics.specs.VerdictLaws.{MayStandAbove, HasRoom};
+ghost use Rattle.bk_statics.specs.VerdictLaws.{MayStandAbove, IsRangeBelow, HasRoom};
 
 use crate::room::count_all;
 use crate::static_fault::static_fault;
 use bk_check_b0::arrays::array_domains;
 use bk_check_b0::executable::executable_fault;
 use bk_check_clauses::values::values_made;
-use bk_dev::{DEFAULT_MAX, Development, EnumSet, Home, Kind, Level, OpHead};
+use bk_dev::{Development, EnumSet, Home, Kind, Level, OpHead};
 use bk_elab_level::made::{level_made, machine_heads, new_homes, new_texts};
 use bk_elab_terms::{ElabFault, Fault, earlier};
 use bk_form::{Form, Ty, VarTable};
@@ -50,9 +50,10 @@ use std::alloc::Global;
 const NAMES: u8 = 5;
 
 /// The levels above with this component as one level more, or the first of its faults. `max` is MAXINT. A machine has
-/// nothing above it; every other component stands below a development that ends in no implementation. The limit of names
-/// is told before any fault. What is answered is a development, below which the next component may stand, and with an
-/// implementation no higher than `GREATEST_TREE_HEIGHT` it is in B0; what 32 bits do not number is `Memory`.
+/// nothing above it, and may have any range; every other component stands below a development that ends in no
+/// implementation, in the range of that. The limit of names is told before any fault. What is answered is a development,
+/// below which the next component may stand, and with an implementation no higher than `GREATEST_TREE_HEIGHT` it is in B0;
+/// what 32 bits do not number is `Memory`.
 pub fn level(
     alloc: Global,
     max: i64,
@@ -60,7 +61,7 @@ pub fn level(
     above: Option<Development>,
 ) -> Result<Development, ElabFault>
     requires above { MayStandAbove raw.now.kind above }
-    requires range { max ≡ int_max (above_of above) }
+    requires range { IsRangeBelow max above }
     ensures level { IfOk result (λ dev. meant.verdict_of max above raw.now ≡ meant.accepted dev) }
     ensures fault { IfErr result (SaysOfComponent (meant.verdict_of max above raw.now)) }
     ensures development { IfOk result (λ dev. IsDevelopment dev) }
@@ -82,18 +83,8 @@ pub fn level(
             place: fault.place,
         });
     }
-    let made = counted(alloc, above, judged.added)?;
+    let made = counted(alloc, max, above, judged.added)?;
     Ok(made)
-}
-
-/// MAXINT of the levels above, or where there are none the one where no range is said.
-pub fn max_of(above: &Option<Development>) -> i64
-    ensures { result ≡ int_max (above_of above.now) }
-{
-    match above {
-        Some(development) => development.int_max(),
-        None => DEFAULT_MAX,
-    }
 }
 
 /// Whether a component declares more names than the limit of names allows. `level` tells so too; who reads several
@@ -146,8 +137,7 @@ fn part_of(
     requires alone { is_machine component.now.kind ≡ true → above_shown above ≡ no_development }
     requires homes { HomesAreThere (above_shown above) }
     requires all_at_home { length (above_shown above).homes ≡ length (above_shown above).table.variables }
-    requires range { max ≡ int_max (above_shown above) }
-    ensures added { IfOk result (λ p. IsAddedBy p.added (above_shown above.entry) (is_machine component.now.kind)
+    ensures added { IfOk result (λ p. IsAddedBy max p.added (above_shown above.entry) (is_machine component.now.kind)
         (meant.level_below max (above_shown above.entry) (component_shown component.now))) }
     ensures fault { IfOk result (λ p. told p.fault ≡
         blame (meant.all_faults max (above_shown above.entry) (component_shown component.now))) }
@@ -167,8 +157,7 @@ fn part_given(alloc: Global, max: i64, given: Given<'_>) -> Result<Judged, Memor
     requires alone { is_machine given.component.now.kind ≡ true → above_shown given.above ≡ no_development }
     requires homes { HomesAreThere (above_shown given.above) }
     requires all_at_home { length (above_shown given.above).homes ≡ length (above_shown given.above).table.variables }
-    requires range { max ≡ int_max (above_shown given.above) }
-    ensures added { IfOk result (λ p. IsAddedBy p.added (above_shown given.entry.above) (is_machine given.entry.component.now.kind)
+    ensures added { IfOk result (λ p. IsAddedBy max p.added (above_shown given.entry.above) (is_machine given.entry.component.now.kind)
         (meant.level_below max (above_shown given.entry.above) (component_shown given.entry.component.now))) }
     ensures fault { IfOk result (λ p. told p.fault ≡
         blame (meant.all_faults max (above_shown given.entry.above) (component_shown given.entry.component.now))) }
@@ -236,7 +225,6 @@ fn executed_fault(
 ) -> Result<Option<Fault>, Memory>
     requires blank { is_blank component.now.at blank.now }
     requires planned { IsPlanOf plan.now (above_shown above) (component_shown component.now) }
-    requires range { typing.max ≡ int_max (above_shown above) }
     requires types { typing_of typing.types.now ≡ types_at typing.max (above_shown above) (component_shown component.now)
         (planned.plan (above_shown above) (component_shown component.now)) }
     requires made { IsMadeBy added.now typing.max (typing_of typing.types.now) (plan_shown plan.now) (component_shown component.now) }
@@ -322,40 +310,46 @@ fn type_of(typing: Typing<'_>, number: u32) -> Result<Ty, Memory>
 // ---- assembly
 
 // The levels above with what a component adds, where it is counted.
-fn counted(alloc: Global, above: Option<Development>, added: Added) -> Result<Development, Memory>
+fn counted(
+    alloc: Global,
+    max: i64,
+    above: Option<Development>,
+    added: Added,
+) -> Result<Development, Memory>
     requires sets { (above_of above).sets ≡ (above_of above).table.sets }
-    requires room { HasRoom (development_below (above_of above) added) → IsDevelopment (with_level above added) }
-    ensures made { IfOk result (λ dev. dev ≡ with_level above added) }
-    ensures room { OnOk result (HasRoom (development_below (above_of above) added)) }
+    requires room { HasRoom (development_below max (above_of above) added) → IsDevelopment (with_level max above added) }
+    ensures made { IfOk result (λ dev. dev ≡ with_level max above added) }
+    ensures room { OnOk result (HasRoom (development_below max (above_of above) added)) }
 {
     let higher = Above {
         development: above.as_ref(),
     };
     count_all(alloc, higher, &added)?;
-    let made = with_level(alloc, above, added)?;
+    let made = with_level(alloc, max, above, added)?;
     Ok(made)
 }
 
 // The levels above with one more, if there are some.
 fn with_level(
     alloc: Global,
+    max: i64,
     above: Option<Development>,
     added: Added,
 ) -> Result<Development, Memory>
     requires sets { (above_of above).sets ≡ (above_of above).table.sets }
-    requires development { IsDevelopment (with_level above added) }
-    ensures { IfOk result (λ dev. dev ≡ with_level above added) }
+    requires development { IsDevelopment (with_level max above added) }
+    ensures { IfOk result (λ dev. dev ≡ with_level max above added) }
 {
     match above {
-        Some(development) => below(alloc, development, added),
-        None => alone(alloc, added),
+        Some(development) => below(alloc, max, development, added),
+        None => alone(alloc, max, added),
     }
 }
 
 // A machine by itself.
-fn alone(alloc: Global, added: Added) -> Result<Development, Memory>
-    requires { IsDevelopment (development_of added) }
-    ensures { IfOk result (λ dev. dev ≡ development_of added) }
+fn alone(alloc: Global, max: i64, added: Added) -> Result<Development, Memory>
+    requires { IsDevelopment (development_of max added) }
+    ensures { IfOk result (λ dev. dev ≡ development_of max added) }
 {
     let mut table = VarTable::new(alloc);
     add_sets(alloc, &mut table, &added.sets)?;
@@ -363,7 +357,7 @@ fn alone(alloc: Global, added: Added) -> Result<Development, Memory>
     let mut extents = Vec::new(alloc);
     extents.push(extent_of(&table))?;
     Ok(Development {
-        max: DEFAULT_MAX,
+        max,
         table,
         homes: added.homes,
         sets: added.sets,
@@ -375,13 +369,13 @@ fn alone(alloc: Global, added: Added) -> Result<Development, Memory>
 }
 
 // The development above with one level more.
-fn below(alloc: Global, above: Development, added: Added) -> Result<Development, Memory>
+fn below(alloc: Global, max: i64, above: Development, added: Added) -> Result<Development, Memory>
     requires sets { above.sets ≡ above.table.sets }
-    requires development { IsDevelopment (development_below above added) }
-    ensures { IfOk result (λ dev. dev ≡ development_below above added) }
+    requires development { IsDevelopment (development_below max above added) }
+    ensures { IfOk result (λ dev. dev ≡ development_below max above added) }
 {
     let Development {
-        max,
+        max: _,
         mut table,
         mut homes,
         mut sets,

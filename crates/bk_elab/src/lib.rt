@@ -6,4 +6,4 @@ mod room;
 mod static_fault;
 
 pub use bk_elab_terms::{ElabFault, formula};
-pub use levels::{level, max_of, passes_limit_of_names};
+pub use levels::{level, passes_limit_of_names};

@@ -1,6 +1,6 @@
 //! Whether 32 bits number the variables of a development, and the copies that flattening makes of them.
 
-ghost use Rattle.std.specs.Prelude.{◌≡◌, ◌+◌, length, IfOk, OnOk};
+ghost use Rattle.std.specs.Prelude.{◌≡◌, ◌+◌, ℤ, length, IfOk, OnOk};
 ghost use Rattle.bk_gsl.specs.Flat.{copied};
 ghost use Rattle.bk_dev.specs.Flattened.{copied_in_bodies, copied_in_level, copied_in_levels};
 ghost use Rattle.bk_statics.specs.VerdictLaws.{HasRoom};
@@ -17,7 +17,7 @@ use std::alloc::Global;
 
 // Refuses what 32 bits do not number: the sets, the variables and all copies that flattening makes, with one number left.
 pub(crate) fn count_all(alloc: Global, above: Above<'_>, added: &Added) -> Result<(), Memory>
-    ensures { OnOk result (HasRoom (development_below (above_shown above.entry) added.now)) }
+    ensures { OnOk result ((int_max : ℤ) → HasRoom (development_below int_max (above_shown above.entry) added.now)) }
 {
     let sets = ahead(0, above.sets())?;
     let _sets = ahead(sets, added.sets.len())?;

@@ -1,34 +1,35 @@
 -- What texts are read as is a development, and one in B0 where it ends in an implementation, as long as 32 bits number its variables
 -- with all copies.
-use Rattle.std.specs.Prelude.{◌≡◌, ◌≤◌, ◌<◌, ◌^◌, ℕ, zero, suc, ℤ, true, List, [], ◌∷◌, ◌++◌, length, All, Option, None, Some, slice_get, refl}
+use Rattle.std.specs.Prelude.{◌≡◌, ◌≤◌, ◌<◌, ◌^◌, ℕ, zero, suc, ℤ, true, false, List, [], ◌∷◌, ◌++◌, length, All, Option, None, Some, slice_get, refl}
 use Rattle.std.specs.List.{AllZip, filter_map, cons_option}
 use Rattle.std.proofs.Common.{inr, arith, sym, subst, ◌∙◌, length-append}
 use Rattle.std.proofs.lemmas.List.Elements.{All-head, All-tail}
 use Rattle.bk_form.specs.Table.{VariableEntry}
 use Rattle.bk_dev.specs.B0.{IsB0Development}
-use Rattle.bk_dev.specs.Development.{Level, Development, int_max, is_complete}
+use Rattle.bk_dev.specs.Development.{Level, Development, int_max, IsRange, is_complete}
 use Rattle.bk_dev.specs.Facts.{IsDevelopment}
 use Rattle.bk_dev.specs.Flattened.{copied_in_levels, flattened}
 use Rattle.bk_raw.specs.declared.component.ComponentKind.{ComponentKind}
 use Rattle.bk_raw.specs.Trees.ComponentTree.{RawComponent}
 use Rattle.bk_raw.specs.Errors.Limits.{IsLowComponent}
-use Rattle.bk_statics.specs.Above.{above_of}
 use Rattle.bk_statics.specs.Components.{Component, component_of}
 use Rattle.bk_statics.specs.Plan.{plan, entries_of}
 use Rattle.bk_statics.specs.LevelOf.{types_at, entries_from, new_texts, level_made}
 use Rattle.bk_statics.specs.Verdict.{verdict_of, accepted, level_below}
-use Rattle.bk_statics.specs.VerdictLaws.{MayStandAbove, HasRoom}
+use Rattle.bk_statics.specs.VerdictLaws.{MayStandAbove, IsRangeBelow, HasRoom}
 use Rattle.bk_statics.proofs.Verdicts.{answer-right}
 use Rattle.bk_statics.proofs.Developments.{always-development}
 use Rattle.bk_statics.proofs.B0Levels.{always-b0}
 use Rattle.bk_elab.proofs.Rooms.{levels-joined}
 use Rattle.bk_front.specs.declared.project_file.LineKind.{LineKind}
 use Rattle.bk_front.specs.Chain.{Link, links, is_for, names_above}
-use Rattle.bk_front.specs.ProjectFile.{IsChain}
-use Rattle.bk_front.specs.Project.{IsLow, IsChained, AreLevels, Reads}
+use Rattle.bk_front.specs.declared.project_file.ProjectLine.{ProjectLine}
+use Rattle.bk_front.specs.ProjectFile.{AreLines, IsChain, kinds_of, range_of}
+use Rattle.bk_front.specs.Stages.{lacks_machine}
+use Rattle.bk_front.specs.Project.{IsLow, IsChained, AreLevels, ReadsIn}
 use Rattle.bk_front.specs.Laws.{ReadAreDevelopments, ReadAreExecutable}
-use Rattle.bk_front.proofs.ProjectFiles.{goes_on, all_go_on, right_goes_on, and_front, and_back}
-use Rattle.bk_front.proofs.Levels.{complete_of, implements, ends, lower, stands_first, stands_lower, ends_with, counted_components}
+use Rattle.bk_front.proofs.ProjectFiles.{goes_on, all_go_on, chain_goes_on, and_front, and_back, kinds_chain, range_right}
+use Rattle.bk_front.proofs.Levels.{complete_of, range_kept, implements, ends, lower, stands_first, stands_lower, ends_with, names_some, counted_components}
 
 -- ---- room above
 -- an entry stands in a longer table too
@@ -78,67 +79,82 @@ room_above max dev c room =
           omega (arith, fewer, all);
     }
 
-room_back : (dev : Development) (cs : List RawComponent) (all : Development) → AreLevels (Some dev) cs (Some all) → HasRoom all → HasRoom dev
-room_back dev [] all h room = subst HasRoom (sym (same_some dev all h)) room
+room_back : (top : ℤ) (dev : Development) (cs : List RawComponent) (all : Development) → AreLevels top (Some dev) cs (Some all) → HasRoom all → HasRoom dev
+room_back top dev [] all h room = subst HasRoom (sym (same_some dev all h)) room
   where
     same_some : (a b : Development) → Some a ≡ Some b → a ≡ b
     same_some a b e = cc
-room_back dev (c ∷ cs) all h room =
-    let right = answer-right.right (int_max dev) dev (component_of c) h.0 h.1 in
-    room_above (int_max dev) dev (component_of c) (subst HasRoom right.2 (room_back h.0 cs all h.2 room))
+room_back top dev (c ∷ cs) all h room =
+    let right = answer-right.right top dev (component_of c) h.0 h.1 in
+    room_above top dev (component_of c) (subst HasRoom right.2 (room_back top h.0 cs all h.2 room))
 
 -- ---- level by level
 -- what is known of levels of which the last is for a line of this kind
-record IsRead (k : LineKind) (dev : Development) : Type 0 where
+record IsRead (top : ℤ) (k : LineKind) (dev : Development) : Type 0 where
   development : IsDevelopment dev
+  range : top ≡ int_max dev
+  named : lacks_machine (Some k) ≡ false
   complete : is_complete dev ≡ ends (Some k)
   executable : is_complete dev ≡ true → IsB0Development dev
 
-abbrev Stands : Option LineKind → Option Development → Type 0
-Stands None None = Unit {0}
-Stands (Some k) (Some dev) = IsRead k dev
-Stands _ _ = ⊥
+abbrev Stands : ℤ → Option LineKind → Option Development → Type 0
+Stands top None None = IsRange top
+Stands top (Some k) (Some dev) = IsRead top k dev
+Stands top _ _ = ⊥
 
-may_stand : (last : Option LineKind) (above : Option Development) (k : LineKind) (kind : ComponentKind) → Stands last above → goes_on last k ≡ true → is_for k kind ≡ true → MayStandAbove kind above
-may_stand None None k kind s g f = stands_first k kind g f
-may_stand None (Some dev) k kind s g f = absurd s
-may_stand (Some j) None k kind s g f = absurd s
-may_stand (Some j) (Some dev) k kind s g f =
-    let both = lower (Some j) k refl g in
+may_stand : (top : ℤ) (last : Option LineKind) (above : Option Development) (k : LineKind) (kind : ComponentKind) → Stands top last above → goes_on last k ≡ true → is_for k kind ≡ true → MayStandAbove kind above
+may_stand top None None k kind s g f = stands_first k kind g f
+may_stand top None (Some dev) k kind s g f = absurd s
+may_stand top (Some j) None k kind s g f = absurd s
+may_stand top (Some j) (Some dev) k kind s g f =
+    let both = lower (Some j) k s.named g in
     stands_lower k kind dev both.1 f s.development (s.complete ∙ both.0)
 
-next_read : (last : Option LineKind) (above : Option Development) (k : LineKind) (c : RawComponent) (dev : Development) → Stands last above → goes_on last k ≡ true → is_for k c.kind ≡ true → IsLowComponent c → verdict_of (int_max (above_of above)) above c ≡ accepted dev → HasRoom dev → IsRead k dev
-next_read last above k c dev s g f low e room =
-    let may = may_stand last above k c.kind s g f in
+has_range : (top : ℤ) (last : Option LineKind) (above : Option Development) → Stands top last above → IsRangeBelow top above
+has_range top None None s = s
+has_range top None (Some dev) s = absurd s
+has_range top (Some j) None s = absurd s
+has_range top (Some j) (Some dev) s = s.range
+
+next_read : (top : ℤ) (last : Option LineKind) (above : Option Development) (k : LineKind) (c : RawComponent) (dev : Development) → Stands top last above → goes_on last k ≡ true → is_for k c.kind ≡ true → IsLowComponent c → verdict_of top above c ≡ accepted dev → HasRoom dev → IsRead top k dev
+next_read top last above k c dev s g f low e room =
+    let may = may_stand top last above k c.kind s g f in
+    let range = has_range top last above s in
     record {
-      development = always-development above c dev may e room;
-      complete = complete_of above c dev e ∙ ends_with k c.kind f;
-      executable = λ complete. always-b0 above c dev may (implements c.kind (sym (complete_of above c dev e) ∙ complete)) low e;
+      development = always-development top above c dev may range e room;
+      range = range_kept top above c dev e;
+      named = names_some k c.kind f;
+      complete = complete_of top above c dev e ∙ ends_with k c.kind f;
+      executable = λ complete. always-b0 top above c dev may range (implements c.kind (sym (complete_of top above c dev e) ∙ complete)) low e;
     }
 
-levels_read : (ks : List LineKind) (cs : List RawComponent) (texts : List (List ℕ)) (last : Option LineKind) (above : Option Development) (prev : Option RawComponent) (all : Development) → all_go_on last ks ≡ true → All IsChained (links prev ks cs) → AllZip IsLow texts cs → length ks ≡ length cs
-    → Stands last above → AreLevels above cs (Some all) → HasRoom all → (k : LineKind) × IsRead k all
-levels_read ks [] texts last above prev all g r z n s l room = by last (subst (Stands last) l s)
+levels_read : (top : ℤ) (ks : List LineKind) (cs : List RawComponent) (texts : List (List ℕ)) (last : Option LineKind) (above : Option Development) (prev : Option RawComponent) (all : Development) → all_go_on last ks ≡ true → All IsChained (links prev ks cs) → AllZip IsLow texts cs → length ks ≡ length cs
+    → Stands top last above → AreLevels top above cs (Some all) → HasRoom all → (k : LineKind) × IsRead top k all
+levels_read top ks [] texts last above prev all g r z n s l room = by last (subst (Stands top last) l s)
   where
-    by : (o : Option LineKind) → Stands o (Some all) → (k : LineKind) × IsRead k all
+    by : (o : Option LineKind) → Stands top o (Some all) → (k : LineKind) × IsRead top k all
     by None h = absurd h
     by (Some k) h = (k, h)
-levels_read [] (c ∷ cs) texts last above prev all g r z n s l room = absurd (omega (arith, n))
-levels_read (k ∷ ks) (c ∷ cs) [] last above prev all g r z n s l room = elim z [ ]
-levels_read (k ∷ ks) (c ∷ cs) (t ∷ ts) last above prev all g r z n s l room =
+levels_read top [] (c ∷ cs) texts last above prev all g r z n s l room = absurd (omega (arith, n))
+levels_read top (k ∷ ks) (c ∷ cs) [] last above prev all g r z n s l room = elim z [ ]
+levels_read top (k ∷ ks) (c ∷ cs) (t ∷ ts) last above prev all g r z n s l room =
     let dev : Development = l.0 in
     let link : Link = record { above = prev; kind = k; component = c } in
     let fits = and_front (is_for k c.kind) (names_above prev c.refines) (All-head IsChained link (links (Some c) ks cs) r) in
-    let read = next_read last above k c dev s (and_front (goes_on last k) (all_go_on (Some k) ks) g) fits z.0.low l.1 (room_back dev cs all l.2 room) in
-    levels_read ks cs ts (Some k) (Some dev) (Some c) all (and_back (goes_on last k) (all_go_on (Some k) ks) g) (All-tail IsChained link (links (Some c) ks cs) r) z.1 (omega (arith, n)) read l.2 room
+    let read = next_read top last above k c dev s (and_front (goes_on last k) (all_go_on (Some k) ks) g) fits z.0.low l.1 (room_back top dev cs all l.2 room) in
+    levels_read top ks cs ts (Some k) (Some dev) (Some c) all (and_back (goes_on last k) (all_go_on (Some k) ks) g) (All-tail IsChained link (links (Some c) ks cs) r) z.1 (omega (arith, n)) read l.2 room
 
 -- ---- what is read
-module _ (kinds : List LineKind) (texts : List (List ℕ)) (dev : Development) (chain : IsChain kinds) (h : Reads kinds texts dev) (room : HasRoom dev) where
-  whole : (k : LineKind) × IsRead k dev
-  whole = levels_read kinds h.components texts None None None dev (right_goes_on kinds (inr chain)) h.chained.right h.chained.each (counted_components kinds texts h.components h.chained) tt h.levels room
+module _ (top : ℤ) (kinds : List LineKind) (texts : List (List ℕ)) (dev : Development) (range : IsRange top) (chain : IsChain kinds) (h : ReadsIn top kinds texts dev) (room : HasRoom dev) where
+  whole : (k : LineKind) × IsRead top k dev
+  whole = levels_read top kinds h.components texts None None None dev (chain_goes_on kinds chain) h.chained.right h.chained.each (counted_components kinds texts h.components h.chained) range h.levels room
+
+-- of a project with these lines
+read_whole : (named : List ProjectLine) (texts : List (List ℕ)) (dev : Development) → AreLines named → ReadsIn (range_of named) (kinds_of named) texts dev → HasRoom dev → (k : LineKind) × IsRead (range_of named) k dev
+read_whole named texts dev are h room = whole (range_of named) (kinds_of named) texts dev (range_right named are.names) (kinds_chain named are) h room
 
 pub read_are_developments : ReadAreDevelopments
-read_are_developments kinds texts dev chain h room = (whole kinds texts dev chain h room).1.development
+read_are_developments named texts dev are h room = (read_whole named texts dev are h room).1.development
 
 pub read_are_executable : ReadAreExecutable
-read_are_executable kinds texts dev chain h room complete = (whole kinds texts dev chain h room).1.executable complete
+read_are_executable named texts dev are h room complete = (read_whole named texts dev are h room).1.executable complete

@@ -1,4 +1,5 @@
 pub mod Trimming
+pub mod RangeText
 pub mod ProjectFiles
 pub mod Steps
 pub mod Levels

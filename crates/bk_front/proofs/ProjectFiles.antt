@@ -1,40 +1,48 @@
 -- The lines of a project file: a text has one list of them at most.
-use Rattle.std.proofs.Common.{true, false, ◌≡◌, ◌⊎◌, inl, inr, ◌+◌, ◌<◌, ◌≤◌, ℕ, zero, suc, Bool, cond, nat_eq, not, ◌&&◌, List, [], ◌∷◌, ◌++◌, length, map, replicate, Option, None, Some, is_some, is_none, refl, sym, ◌∙◌, ap, subst, append_assoc, arith}
+use Rattle.std.proofs.Common.{true, false, ◌≡◌, ◌⊎◌, inl, inr, ◌+◌, ◌<◌, ◌≤◌, ℕ, zero, suc, ℤ, Bool, cond, nat_eq, not, ◌&&◌, List, [], ◌∷◌, ◌++◌, length, map, drop, get_or, replicate, Option, None, Some, refl, sym, ◌∙◌, ap, subst, append_assoc, arith}
 use Rattle.std.proofs.lemmas.Bool.{false≢true}
-use Rattle.std.proofs.lemmas.List.{append-nil, map-append, length-append}
-use Rattle.std.proofs.lemmas.List.Elements.{filter-append}
+use Rattle.std.proofs.lemmas.List.{append-nil, map-append, length-append, drop_all}
+use Rattle.std.proofs.lemmas.List.Elements.{filter-append, All-nil, All-cons, All-head, All-tail}
 use Rattle.std.proofs.lemmas.Slice.Zip.{all_zipped_more}
+use Rattle.std.specs.Prelude.{All, filter}
 use Rattle.std.specs.List.{AllZip}
 use Rattle.std.specs.Str.{IsUtf8}
 use Rattle.std.specs.Str.Lines.{lines}
 use Rattle.bk_limits.specs.declared.TheConstants.{MOST_COMPONENTS}
 use Rattle.bk_lines.specs.Lines.{is_skipped, kept_lines}
+use Rattle.bk_dev.specs.Development.{IsRange, default_max}
+use Rattle.bk_dev.proofs.DefaultRange.{default_range}
 use Rattle.bk_front.specs.declared.project_file.ProjectLine.{ProjectLine}
 use Rattle.bk_front.specs.declared.project_file.LineKind.{LineKind}
-use Rattle.bk_front.specs.declared.project_file.LineKind.TheVariants.{Machine, Refinement, Implementation, Proofs}
+use Rattle.bk_front.specs.declared.project_file.LineKind.TheVariants.{Range, Machine, Refinement, Implementation, Proofs}
 use Rattle.bk_front.specs.declared.refusal.Refusal.TheVariants.{Fault, Limit, Memory}
-use Rattle.bk_front.specs.ProjectFile.{first_or, IsLine, word_of, IsProjectLine, is_proofs, component_lines, kinds_of, IsChain, IsRightSoFar, AreLinesOf, kept_of, IsWrongLine, HasNoMachine, NamesTooMany, LinesAreOne, LinesExclude}
-use Rattle.bk_front.specs.Stages.{may_follow, last_after}
+use Rattle.bk_front.specs.ProjectFile.{first_or, IsLine, word_of, max_in, IsRangeText, IsNameFor, IsProjectLine, is_proofs, is_component, component_lines, is_range, range_of, placed_kinds, behind_range, kinds_of, IsChain, IsRightSoFar, AreLines, AreLinesOf, kept_of, IsWrongLine, HasNoMachine, NamesTooMany, LinesAreOne, LinesExclude}
+use Rattle.bk_front.specs.Stages.{may_follow, lacks_machine, last_after}
 use Rattle.bk_front.proofs.Trimming.{name_once}
 
 -- ---- one line
--- a line's first letter tells what it names
-abbrev kind_by : ℕ → LineKind
-kind_by c = cond (nat_eq c 109) Machine (cond (nat_eq c 114) Refinement (cond (nat_eq c 105) Implementation Proofs))
+-- a line's first two letters tell what it names
+abbrev second : List ℕ → ℕ
+second [] = 0
+second (c ∷ cs) = first_or 0 cs
 
-kind_told : (kind : LineKind) (name line : List ℕ) → IsLine (word_of kind) name line → kind_by (first_or 0 line) ≡ kind
-kind_told Machine name line h = ap (λ t. kind_by (first_or 0 t)) h.written
-kind_told Refinement name line h = ap (λ t. kind_by (first_or 0 t)) h.written
-kind_told Implementation name line h = ap (λ t. kind_by (first_or 0 t)) h.written
-kind_told Proofs name line h = ap (λ t. kind_by (first_or 0 t)) h.written
+abbrev kind_by : List ℕ → LineKind
+kind_by line = cond (nat_eq (first_or 0 line) 109) Machine (cond (nat_eq (first_or 0 line) 114) (cond (nat_eq (second line) 97) Range Refinement) (cond (nat_eq (first_or 0 line) 105) Implementation Proofs))
+
+kind_told : (kind : LineKind) (name line : List ℕ) → IsLine (word_of kind) name line → kind_by line ≡ kind
+kind_told Range name line h = ap kind_by h.written
+kind_told Machine name line h = ap kind_by h.written
+kind_told Refinement name line h = ap kind_by h.written
+kind_told Implementation name line h = ap kind_by h.written
+kind_told Proofs name line h = ap kind_by h.written
 
 made_of : (one other : ProjectLine) → one.kind ≡ other.kind → one.name ≡ other.name → one ≡ other
 made_of one other e d = λ i. record { kind = e i; name = d i }
 
 pub line_once : (line : List ℕ) (one other : ProjectLine) → IsProjectLine line one → IsProjectLine line other → one ≡ other
 line_once line one other h k =
-    let same : one.kind ≡ other.kind = sym (kind_told one.kind one.name line h) ∙ kind_told other.kind other.name line k in
-    made_of one other same (name_once (word_of other.kind) line one.name other.name (subst (λ x. IsLine (word_of x) one.name line) same h) k)
+    let same : one.kind ≡ other.kind = sym (kind_told one.kind one.name line h.written) ∙ kind_told other.kind other.name line k.written in
+    made_of one other same (name_once (word_of other.kind) line one.name other.name (subst (λ x. IsLine (word_of x) one.name line) same h.written) k.written)
 
 pub lines_once : (written : List (List ℕ)) (one other : List ProjectLine) → AllZip IsProjectLine written one → AllZip IsProjectLine written other → one ≡ other
 lines_once [] [] [] h k = refl
@@ -44,11 +52,27 @@ lines_once (w ∷ ws) [] other h k = elim h [ ]
 lines_once (w ∷ ws) (l ∷ ls) [] h k = elim k [ ]
 lines_once (w ∷ ws) (l ∷ ls) (m ∷ ms) h k = λ i. line_once w l m h.0 k.0 i ∷ lines_once ws ls ms h.1 k.1 i
 
-pub no_kind : (line : List ℕ) → ((name : List ℕ) → IsLine (word_of Machine) name line → ⊥) → ((name : List ℕ) → IsLine (word_of Refinement) name line → ⊥) → ((name : List ℕ) → IsLine (word_of Implementation) name line → ⊥) → ((name : List ℕ) → IsLine (word_of Proofs) name line → ⊥) → (kind : LineKind) (name : List ℕ) → IsLine (word_of kind) name line → ⊥
-no_kind line m r i p Machine name h = m name h
-no_kind line m r i p Refinement name h = r name h
-no_kind line m r i p Implementation name h = i name h
-no_kind line m r i p Proofs name h = p name h
+-- a line says no range where it has no digits, or others than those of one
+pub no_range_line : (line : List ℕ) → ((name : List ℕ) → IsLine (word_of Range) name line → ⊥) → (name : List ℕ) → IsLine (word_of Range) name line → IsRangeText name → ⊥
+no_range_line line h name is range = h name is
+
+pub no_range_text : (line digits : List ℕ) → IsLine (word_of Range) digits line → (IsRangeText digits → ⊥) → (name : List ℕ) → IsLine (word_of Range) name line → IsRangeText name → ⊥
+no_range_text line digits one h name is range = h (subst IsRangeText (name_once (word_of Range) line name digits is one) range)
+
+pub no_kind : (line : List ℕ) → ((name : List ℕ) → IsLine (word_of Range) name line → IsRangeText name → ⊥) → ((name : List ℕ) → IsLine (word_of Machine) name line → ⊥) → ((name : List ℕ) → IsLine (word_of Refinement) name line → ⊥) → ((name : List ℕ) → IsLine (word_of Implementation) name line → ⊥)
+    → ((name : List ℕ) → IsLine (word_of Proofs) name line → ⊥) → (kind : LineKind) (name : List ℕ) → IsLine (word_of kind) name line → IsNameFor kind name → ⊥
+no_kind line g m r i p Range name h f = g name h f
+no_kind line g m r i p Machine name h f = m name h
+no_kind line g m r i p Refinement name h f = r name h
+no_kind line g m r i p Implementation name h f = i name h
+no_kind line g m r i p Proofs name h f = p name h
+
+-- each of the lines has a name for its kind
+pub names_of : (written : List (List ℕ)) (named : List ProjectLine) → AllZip IsProjectLine written named → All (λ (l : ProjectLine). IsNameFor l.kind l.name) named
+names_of [] [] h = All-nil (λ (l : ProjectLine). IsNameFor l.kind l.name)
+names_of [] (l ∷ ls) h = elim h [ ]
+names_of (w ∷ ws) [] h = elim h [ ]
+names_of (w ∷ ws) (l ∷ ls) h = All-cons (λ (l : ProjectLine). IsNameFor l.kind l.name) l ls h.0.fits (names_of ws ls h.1)
 
 -- ---- chains
 -- the last of these kinds; behind them the one that stood before
@@ -56,7 +80,7 @@ abbrev pub last_of : Option LineKind → List LineKind → Option LineKind
 last_of last [] = last
 last_of last (k ∷ ks) = last_of (Some k) ks
 
--- whether a component line of this kind may follow
+-- whether a line of this kind may follow, that names no proof file
 abbrev pub goes_on : Option LineKind → LineKind → Bool
 goes_on last kind = not (is_proofs kind) && may_follow last kind
 
@@ -67,6 +91,7 @@ all_go_on last (k ∷ ks) = goes_on last k && all_go_on (Some k) ks
 
 same_start : (ks : List LineKind) → all_go_on (Some Machine) ks ≡ all_go_on (Some Refinement) ks
 same_start [] = refl
+same_start (Range ∷ ks) = refl
 same_start (Machine ∷ ks) = refl
 same_start (Refinement ∷ ks) = refl
 same_start (Implementation ∷ ks) = refl
@@ -80,10 +105,29 @@ refinements_and : (n : ℕ) → all_go_on (Some Refinement) (replicate n Refinem
 refinements_and zero = refl
 refinements_and (suc n) = refinements_and n
 
+pub chain_goes_on : (ks : List LineKind) → IsChain ks → all_go_on None ks ≡ true
+chain_goes_on ks (n, inl e) = ap (all_go_on None) e ∙ same_start (replicate n Refinement) ∙ refinements n
+chain_goes_on ks (n, inr e) = ap (all_go_on None) e ∙ same_start (replicate n Refinement ++ Implementation ∷ []) ∙ refinements_and n
+
+behind_goes_on : (ks : List LineKind) → IsChain ks → all_go_on (Some Range) ks ≡ true
+behind_goes_on ks (n, inl e) = ap (all_go_on (Some Range)) e ∙ same_start (replicate n Refinement) ∙ refinements n
+behind_goes_on ks (n, inr e) = ap (all_go_on (Some Range)) e ∙ same_start (replicate n Refinement ++ Implementation ∷ []) ∙ refinements_and n
+
+not_empty : (k : LineKind) (ks : List LineKind) → k ∷ ks ≡ [] → ⊥
+not_empty k ks e = omega (arith, ap length e)
+
 pub right_goes_on : (ks : List LineKind) → IsRightSoFar ks → all_go_on None ks ≡ true
-right_goes_on ks (inl e) = ap (all_go_on None) e
-right_goes_on ks (inr (n, inl e)) = ap (all_go_on None) e ∙ same_start (replicate n Refinement) ∙ refinements n
-right_goes_on ks (inr (n, inr e)) = ap (all_go_on None) e ∙ same_start (replicate n Refinement ++ Implementation ∷ []) ∙ refinements_and n
+right_goes_on [] h = refl
+right_goes_on (Range ∷ ks) (inl e) = ap (all_go_on (Some Range)) e
+right_goes_on (Range ∷ ks) (inr c) = behind_goes_on ks c
+right_goes_on (Machine ∷ ks) (inl e) = absurd (not_empty Machine ks e)
+right_goes_on (Machine ∷ ks) (inr c) = chain_goes_on (Machine ∷ ks) c
+right_goes_on (Refinement ∷ ks) (inl e) = absurd (not_empty Refinement ks e)
+right_goes_on (Refinement ∷ ks) (inr c) = chain_goes_on (Refinement ∷ ks) c
+right_goes_on (Implementation ∷ ks) (inl e) = absurd (not_empty Implementation ks e)
+right_goes_on (Implementation ∷ ks) (inr c) = chain_goes_on (Implementation ∷ ks) c
+right_goes_on (Proofs ∷ ks) (inl e) = absurd (not_empty Proofs ks e)
+right_goes_on (Proofs ∷ ks) (inr c) = chain_goes_on (Proofs ∷ ks) c
 
 -- the rest of a chain
 abbrev IsRest : List LineKind → Type 0
@@ -95,9 +139,11 @@ one_refinement ks (n, inr e) = (suc n, inr (ap (λ js. Refinement ∷ js) e))
 
 is_rest : (ks : List LineKind) → all_go_on (Some Refinement) ks ≡ true → IsRest ks
 is_rest [] h = (0, inl refl)
+is_rest (Range ∷ ks) h = absurd (false≢true h)
 is_rest (Machine ∷ ks) h = absurd (false≢true h)
 is_rest (Refinement ∷ ks) h = one_refinement ks (is_rest ks h)
 is_rest (Implementation ∷ []) h = (0, inr refl)
+is_rest (Implementation ∷ Range ∷ ks) h = absurd (false≢true h)
 is_rest (Implementation ∷ Machine ∷ ks) h = absurd (false≢true h)
 is_rest (Implementation ∷ Refinement ∷ ks) h = absurd (false≢true h)
 is_rest (Implementation ∷ Implementation ∷ ks) h = absurd (false≢true h)
@@ -108,28 +154,60 @@ from_rest : (ks : List LineKind) → IsRest ks → IsChain (Machine ∷ ks)
 from_rest ks (n, inl e) = (n, inl (ap (λ js. Machine ∷ js) e))
 from_rest ks (n, inr e) = (n, inr (ap (λ js. Machine ∷ js) e))
 
+-- behind the line for the range
+is_behind : (ks : List LineKind) → all_go_on (Some Range) ks ≡ true → (ks ≡ []) ⊎ IsChain ks
+is_behind [] h = inl refl
+is_behind (Range ∷ ks) h = absurd (false≢true h)
+is_behind (Machine ∷ ks) h = inr (from_rest ks (is_rest ks (sym (same_start ks) ∙ h)))
+is_behind (Refinement ∷ ks) h = absurd (false≢true h)
+is_behind (Implementation ∷ ks) h = absurd (false≢true h)
+is_behind (Proofs ∷ ks) h = absurd (false≢true h)
+
 pub is_right : (ks : List LineKind) → all_go_on None ks ≡ true → IsRightSoFar ks
 is_right [] h = inl refl
+is_right (Range ∷ ks) h = is_behind ks h
 is_right (Machine ∷ ks) h = inr (from_rest ks (is_rest ks (sym (same_start ks) ∙ h)))
 is_right (Refinement ∷ ks) h = absurd (false≢true h)
 is_right (Implementation ∷ ks) h = absurd (false≢true h)
 is_right (Proofs ∷ ks) h = absurd (false≢true h)
 
-last_some : (k : LineKind) (ks : List LineKind) → is_some (last_of (Some k) ks) ≡ true
-last_some k [] = refl
-last_some k (j ∷ ks) = last_some j ks
+-- behind a chain stands a line for a component
+refinements_last : (n : ℕ) (last : Option LineKind) → lacks_machine last ≡ false → lacks_machine (last_of last (replicate n Refinement)) ≡ false
+refinements_last zero last h = h
+refinements_last (suc n) last h = refinements_last n (Some Refinement) refl
 
-none_of : (ks : List LineKind) → last_of None ks ≡ None → ks ≡ []
-none_of [] h = refl
-none_of (k ∷ ks) h = absurd (false≢true (ap is_some (sym h) ∙ last_some k ks))
+implementation_last : (n : ℕ) (last : Option LineKind) → lacks_machine (last_of last (replicate n Refinement ++ Implementation ∷ [])) ≡ false
+implementation_last zero last = refl
+implementation_last (suc n) last = implementation_last n (Some Refinement)
 
-is_chain : (ks : List LineKind) → all_go_on None ks ≡ true → is_some (last_of None ks) ≡ true → IsChain ks
-is_chain [] h some = absurd (false≢true some)
-is_chain (k ∷ ks) h some = not_empty (is_right (k ∷ ks) h)
-  where
-    not_empty : IsRightSoFar (k ∷ ks) → IsChain (k ∷ ks)
-    not_empty (inl e) = absurd (omega (arith, ap length e))
-    not_empty (inr c) = c
+chain_last : (ks : List LineKind) (last : Option LineKind) → IsChain ks → lacks_machine (last_of last ks) ≡ false
+chain_last ks last (n, inl e) = ap (λ js. lacks_machine (last_of last js)) e ∙ refinements_last n (Some Machine) refl
+chain_last ks last (n, inr e) = ap (λ js. lacks_machine (last_of last js)) e ∙ implementation_last n (Some Machine)
+
+has_machine : (ks : List LineKind) → IsChain (behind_range ks) → lacks_machine (last_of None ks) ≡ false
+has_machine [] c = chain_last [] None c
+has_machine (Range ∷ ks) c = chain_last ks (Some Range) c
+has_machine (Machine ∷ ks) c = chain_last (Machine ∷ ks) None c
+has_machine (Refinement ∷ ks) c = chain_last (Refinement ∷ ks) None c
+has_machine (Implementation ∷ ks) c = chain_last (Implementation ∷ ks) None c
+has_machine (Proofs ∷ ks) c = chain_last (Proofs ∷ ks) None c
+
+-- and where there is none, none
+has_none : (ks : List LineKind) → behind_range ks ≡ [] → lacks_machine (last_of None ks) ≡ true
+has_none [] e = refl
+has_none (Range ∷ ks) e = ap (λ js. lacks_machine (last_of (Some Range) js)) e
+has_none (Machine ∷ ks) e = absurd (not_empty Machine ks e)
+has_none (Refinement ∷ ks) e = absurd (not_empty Refinement ks e)
+has_none (Implementation ∷ ks) e = absurd (not_empty Implementation ks e)
+has_none (Proofs ∷ ks) e = absurd (not_empty Proofs ks e)
+
+none_by : (ks : List LineKind) → lacks_machine (last_of None ks) ≡ true → IsRightSoFar ks → behind_range ks ≡ []
+none_by ks h (inl e) = e
+none_by ks h (inr c) = absurd (false≢true (sym (has_machine ks c) ∙ h))
+
+chain_by : (ks : List LineKind) → lacks_machine (last_of None ks) ≡ false → IsRightSoFar ks → IsChain (behind_range ks)
+chain_by ks h (inl e) = absurd (false≢true (sym h ∙ has_none ks e))
+chain_by ks h (inr c) = c
 
 -- ---- one kind more
 and_true : (b : Bool) → b && true ≡ b
@@ -160,36 +238,42 @@ pub go_on_front : (last : Option LineKind) (ks js : List LineKind) → all_go_on
 go_on_front last [] js h = refl
 go_on_front last (k ∷ ks) js h = ap (λ b. b && all_go_on (Some k) ks) (and_front (goes_on last k) (all_go_on (Some k) (ks ++ js)) h) ∙ go_on_front (Some k) ks js (and_back (goes_on last k) (all_go_on (Some k) (ks ++ js)) h)
 
--- the kind of a line, if it is for a component file
+-- the kind of a line, if it names no proof file
 abbrev kept_kind : LineKind → List LineKind
 kept_kind kind = cond (not (is_proofs kind)) (kind ∷ []) []
 
-kinds_one : (l : ProjectLine) → kinds_of (l ∷ []) ≡ kept_kind l.kind
+kinds_one : (l : ProjectLine) → placed_kinds (l ∷ []) ≡ kept_kind l.kind
 kinds_one l = by (not (is_proofs l.kind))
   where
     by : (b : Bool) → map (λ (m : ProjectLine). m.kind) (cond b (l ∷ []) []) ≡ cond b (l.kind ∷ []) []
     by true = refl
     by false = refl
 
-pub kinds_join : (ls ms : List ProjectLine) → kinds_of (ls ++ ms) ≡ kinds_of ls ++ kinds_of ms
-kinds_join ls ms = ap (map (λ (l : ProjectLine). l.kind)) (filter-append (λ (l : ProjectLine). not (is_proofs l.kind)) ls ms) ∙ map-append (λ (l : ProjectLine). l.kind) (component_lines ls) (component_lines ms)
+abbrev placed_lines : List ProjectLine → List ProjectLine
+placed_lines ls = filter (λ (l : ProjectLine). not (is_proofs l.kind)) ls
 
-pub kinds_push : (named : List ProjectLine) (l : ProjectLine) → kinds_of (named ++ l ∷ []) ≡ kinds_of named ++ kept_kind l.kind
-kinds_push named l = kinds_join named (l ∷ []) ∙ ap (λ ks. kinds_of named ++ ks) (kinds_one l)
+pub kinds_join : (ls ms : List ProjectLine) → placed_kinds (ls ++ ms) ≡ placed_kinds ls ++ placed_kinds ms
+kinds_join ls ms = ap (map (λ (l : ProjectLine). l.kind)) (filter-append (λ (l : ProjectLine). not (is_proofs l.kind)) ls ms) ∙ map-append (λ (l : ProjectLine). l.kind) (placed_lines ls) (placed_lines ms)
+
+pub kinds_push : (named : List ProjectLine) (l : ProjectLine) → placed_kinds (named ++ l ∷ []) ≡ placed_kinds named ++ kept_kind l.kind
+kinds_push named l = kinds_join named (l ∷ []) ∙ ap (λ ks. placed_kinds named ++ ks) (kinds_one l)
 
 go_on_with : (ks : List LineKind) (k : LineKind) → all_go_on None ks ≡ true → may_follow (last_of None ks) k ≡ true → all_go_on None (ks ++ kept_kind k) ≡ true
+go_on_with ks Range h f = go_on_push None ks Range ∙ ap (λ b. b && goes_on (last_of None ks) Range) h ∙ f
 go_on_with ks Machine h f = go_on_push None ks Machine ∙ ap (λ b. b && goes_on (last_of None ks) Machine) h ∙ f
 go_on_with ks Refinement h f = go_on_push None ks Refinement ∙ ap (λ b. b && goes_on (last_of None ks) Refinement) h ∙ f
 go_on_with ks Implementation h f = go_on_push None ks Implementation ∙ ap (λ b. b && goes_on (last_of None ks) Implementation) h ∙ f
 go_on_with ks Proofs h f = ap (all_go_on None) (append-nil ks) ∙ h
 
 last_with : (ks : List LineKind) (k : LineKind) → last_after (last_of None ks) k ≡ last_of None (ks ++ kept_kind k)
+last_with ks Range = sym (last_push None ks Range)
 last_with ks Machine = sym (last_push None ks Machine)
 last_with ks Refinement = sym (last_push None ks Refinement)
 last_with ks Implementation = sym (last_push None ks Implementation)
 last_with ks Proofs = ap (last_of None) (sym (append-nil ks))
 
 stops_with : (ks : List LineKind) (k : LineKind) → may_follow (last_of None ks) k ≡ false → all_go_on None (ks ++ kept_kind k) ≡ true → ⊥
+stops_with ks Range f h = false≢true (sym f ∙ and_back (all_go_on None ks) (goes_on (last_of None ks) Range) (sym (go_on_push None ks Range) ∙ h))
 stops_with ks Machine f h = false≢true (sym f ∙ and_back (all_go_on None ks) (goes_on (last_of None ks) Machine) (sym (go_on_push None ks Machine) ∙ h))
 stops_with ks Refinement f h = false≢true (sym f ∙ and_back (all_go_on None ks) (goes_on (last_of None ks) Refinement) (sym (go_on_push None ks Refinement) ∙ h))
 stops_with ks Implementation f h = false≢true (sym f ∙ and_back (all_go_on None ks) (goes_on (last_of None ks) Implementation) (sym (go_on_push None ks Implementation) ∙ h))
@@ -205,15 +289,15 @@ kept_one line after e = ap (λ b. cond (not b) (line ∷ kept_of after) (kept_of
 pub kept_none : (line : List ℕ) → is_skipped line ≡ true → kept_of (line ∷ []) ≡ []
 kept_none line e = ap (λ b. cond (not b) (line ∷ []) []) e
 
--- the lines in front of the rest are read; this is the number of the next one, and the last kind of a component line
+-- the lines in front of the rest are read; this is the number of the next one, and the last kind of a line that names no proof file
 pub record ReadSoFar (text rest : List ℕ) (number : ℕ) (named : List ProjectLine) (last : Option LineKind) : Type 0 where
   pub front : List (List ℕ)
   pub splits : lines text ≡ front ++ lines rest
   pub counted : suc (length front) ≡ number
   pub short : number + length rest ≤ 1 + length text
   pub written : AllZip IsProjectLine (kept_of front) named
-  pub right : all_go_on None (kinds_of named) ≡ true
-  pub last_is : last ≡ last_of None (kinds_of named)
+  pub right : all_go_on None (placed_kinds named) ≡ true
+  pub last_is : last ≡ last_of None (placed_kinds named)
 
 front_more : (text rest after line : List ℕ) (front : List (List ℕ)) → lines text ≡ front ++ lines rest → lines rest ≡ line ∷ lines after → lines text ≡ (front ++ line ∷ []) ++ lines after
 front_more text rest after line front s e = s ∙ ap (λ ls. front ++ ls) e ∙ sym (append_assoc front (line ∷ []) (lines after))
@@ -224,20 +308,20 @@ counted_more front line number e = omega (arith, e, length-append front (line �
 pub one_more : (text rest after line : List ℕ) (number : ℕ) (named more : List ProjectLine) (l : ProjectLine) (last : Option LineKind) → ReadSoFar text rest number named last → lines rest ≡ line ∷ lines after → length after < length rest → is_skipped line ≡ false → IsProjectLine line l → may_follow last l.kind ≡ true → more ≡ named ++ l ∷ [] → ReadSoFar text after (number + 1) more (last_after last l.kind)
 one_more text rest after line number named more l last h e less counts is follows new =
     let same : kept_of (h.front ++ line ∷ []) ≡ kept_of h.front ++ line ∷ [] = kept_join h.front (line ∷ []) ∙ ap (λ ls. kept_of h.front ++ ls) (kept_one line [] counts) in
-    let kinds : kinds_of more ≡ kinds_of named ++ kept_kind l.kind = ap kinds_of new ∙ kinds_push named l in
-    let follows_kinds : may_follow (last_of None (kinds_of named)) l.kind ≡ true = subst (λ o. may_follow o l.kind ≡ true) h.last_is follows in
+    let kinds : placed_kinds more ≡ placed_kinds named ++ kept_kind l.kind = ap placed_kinds new ∙ kinds_push named l in
+    let follows_kinds : may_follow (last_of None (placed_kinds named)) l.kind ≡ true = subst (λ o. may_follow o l.kind ≡ true) h.last_is follows in
     record {
       front = h.front ++ line ∷ [];
       splits = front_more text rest after line h.front h.splits e;
       counted = counted_more h.front line number h.counted;
       short = omega (arith, less, h.short);
       written = subst (λ ls. AllZip IsProjectLine ls more) (sym same) (subst (AllZip IsProjectLine (kept_of h.front ++ line ∷ [])) (sym new) (all_zipped_more IsProjectLine (kept_of h.front) named line l h.written is));
-      right = ap (all_go_on None) kinds ∙ go_on_with (kinds_of named) l.kind h.right follows_kinds;
-      last_is = ap (λ o. last_after o l.kind) h.last_is ∙ last_with (kinds_of named) l.kind ∙ ap (last_of None) (sym kinds);
+      right = ap (all_go_on None) kinds ∙ go_on_with (placed_kinds named) l.kind h.right follows_kinds;
+      last_is = ap (λ o. last_after o l.kind) h.last_is ∙ last_with (placed_kinds named) l.kind ∙ ap (last_of None) (sym kinds);
     }
 
 -- ---- a line at fault
-wrong_line : (text rest after line : List ℕ) (number : ℕ) (named : List ProjectLine) (last : Option LineKind) → ReadSoFar text rest number named last → lines rest ≡ line ∷ lines after → is_skipped line ≡ false → ((l : ProjectLine) → IsProjectLine line l → IsRightSoFar (kinds_of (named ++ l ∷ [])) → ⊥) → IsWrongLine text number
+wrong_line : (text rest after line : List ℕ) (number : ℕ) (named : List ProjectLine) (last : Option LineKind) → ReadSoFar text rest number named last → lines rest ≡ line ∷ lines after → is_skipped line ≡ false → ((l : ProjectLine) → IsProjectLine line l → IsRightSoFar (placed_kinds (named ++ l ∷ [])) → ⊥) → IsWrongLine text number
 wrong_line text rest after line number named last h e counts wrong = record {
   before = h.front;
   line = line;
@@ -247,37 +331,35 @@ wrong_line text rest after line number named last h e counts wrong = record {
   counts = counts;
   named = named;
   so_far = h.written;
-  right = is_right (kinds_of named) h.right;
+  right = is_right (placed_kinds named) h.right;
   wrong = wrong;
 }
 
-pub no_line : (text rest after line : List ℕ) (number : ℕ) (named : List ProjectLine) (last : Option LineKind) → ReadSoFar text rest number named last → lines rest ≡ line ∷ lines after → is_skipped line ≡ false → ((kind : LineKind) (name : List ℕ) → IsLine (word_of kind) name line → ⊥) → IsWrongLine text number
-no_line text rest after line number named last h e counts none = wrong_line text rest after line number named last h e counts (λ l is r. none l.kind l.name is)
+pub no_line : (text rest after line : List ℕ) (number : ℕ) (named : List ProjectLine) (last : Option LineKind) → ReadSoFar text rest number named last → lines rest ≡ line ∷ lines after → is_skipped line ≡ false → ((kind : LineKind) (name : List ℕ) → IsLine (word_of kind) name line → IsNameFor kind name → ⊥) → IsWrongLine text number
+no_line text rest after line number named last h e counts none = wrong_line text rest after line number named last h e counts (λ l is r. none l.kind l.name is.written is.fits)
 
 pub no_place : (text rest after line : List ℕ) (number : ℕ) (named : List ProjectLine) (last : Option LineKind) (kind : LineKind) (name : List ℕ) → ReadSoFar text rest number named last → lines rest ≡ line ∷ lines after → is_skipped line ≡ false → IsLine (word_of kind) name line → may_follow last kind ≡ false → IsWrongLine text number
 no_place text rest after line number named last kind name h e counts is stops = wrong_line text rest after line number named last h e counts (λ l other r.
-    let same : kind ≡ l.kind = sym (kind_told kind name line is) ∙ kind_told l.kind l.name line other in
-    let stops_kinds : may_follow (last_of None (kinds_of named)) l.kind ≡ false = subst (λ o. may_follow o l.kind ≡ false) h.last_is (subst (λ k. may_follow last k ≡ false) same stops) in
-    stops_with (kinds_of named) l.kind stops_kinds (ap (all_go_on None) (sym (kinds_push named l)) ∙ right_goes_on (kinds_of (named ++ l ∷ [])) r))
+    let same : kind ≡ l.kind = sym (kind_told kind name line is) ∙ kind_told l.kind l.name line other.written in
+    let stops_kinds : may_follow (last_of None (placed_kinds named)) l.kind ≡ false = subst (λ o. may_follow o l.kind ≡ false) h.last_is (subst (λ k. may_follow last k ≡ false) same stops) in
+    stops_with (placed_kinds named) l.kind stops_kinds (ap (all_go_on None) (sym (kinds_push named l)) ∙ right_goes_on (placed_kinds (named ++ l ∷ [])) r))
 
 -- ---- all lines
 all_written : (text rest : List ℕ) (number : ℕ) (named : List ProjectLine) (last : Option LineKind) → ReadSoFar text rest number named last → lines rest ≡ [] → AllZip IsProjectLine (kept_lines text) named
 all_written text rest number named last h e = subst (λ ls. AllZip IsProjectLine (kept_of ls) named) (sym (h.splits ∙ ap (λ ls. h.front ++ ls) e ∙ append-nil h.front)) h.written
 
-pub no_machine : (text rest : List ℕ) (number : ℕ) (named : List ProjectLine) (last : Option LineKind) → ReadSoFar text rest number named last → lines rest ≡ [] → is_none last ≡ true → HasNoMachine text number
-no_machine text rest number named None h e none = record {
+pub no_machine : (text rest : List ℕ) (number : ℕ) (named : List ProjectLine) (last : Option LineKind) → ReadSoFar text rest number named last → lines rest ≡ [] → lacks_machine last ≡ true → HasNoMachine text number
+no_machine text rest number named last h e none = record {
   named = named;
-  written = all_written text rest number named None h e;
-  none = none_of (kinds_of named) (sym h.last_is);
+  written = all_written text rest number named last h e;
+  none = none_by (placed_kinds named) (ap lacks_machine (sym h.last_is) ∙ none) (is_right (placed_kinds named) h.right);
   counted = ap (λ ls. suc (length ls)) (h.splits ∙ ap (λ ls. h.front ++ ls) e ∙ append-nil h.front) ∙ h.counted;
 }
-no_machine text rest number named (Some k) h e none = absurd (false≢true none)
 
-chain_of : (text rest : List ℕ) (number : ℕ) (named : List ProjectLine) (last : Option LineKind) → ReadSoFar text rest number named last → is_none last ≡ false → IsChain (kinds_of named)
-chain_of text rest number named None h some = absurd (false≢true (sym some))
-chain_of text rest number named (Some k) h some = is_chain (kinds_of named) h.right (ap is_some (sym h.last_is))
+chain_of : (text rest : List ℕ) (number : ℕ) (named : List ProjectLine) (last : Option LineKind) → ReadSoFar text rest number named last → lacks_machine last ≡ false → IsChain (behind_range (placed_kinds named))
+chain_of text rest number named last h some = chain_by (placed_kinds named) (ap lacks_machine (sym h.last_is) ∙ some) (is_right (placed_kinds named) h.right)
 
-pub too_many : (text rest : List ℕ) (number : ℕ) (named : List ProjectLine) (last : Option LineKind) → ReadSoFar text rest number named last → lines rest ≡ [] → is_none last ≡ false → MOST_COMPONENTS < length (component_lines named) → NamesTooMany text
+pub too_many : (text rest : List ℕ) (number : ℕ) (named : List ProjectLine) (last : Option LineKind) → ReadSoFar text rest number named last → lines rest ≡ [] → lacks_machine last ≡ false → MOST_COMPONENTS < length (component_lines named) → NamesTooMany text
 too_many text rest number named last h e some many = record {
   named = named;
   written = all_written text rest number named last h e;
@@ -285,12 +367,14 @@ too_many text rest number named last h e some many = record {
   many = many;
 }
 
-pub are_lines : (text rest : List ℕ) (number : ℕ) (named : List ProjectLine) (last : Option LineKind) → ReadSoFar text rest number named last → lines rest ≡ [] → is_none last ≡ false → IsUtf8 text → length (component_lines named) ≤ MOST_COMPONENTS → AreLinesOf text named
-are_lines text rest number named last h e some utf8 few = record {
-  utf8 = utf8;
-  written = all_written text rest number named last h e;
-  are = record { chain = chain_of text rest number named last h some; few = few };
-}
+pub are_lines : (text rest : List ℕ) (number : ℕ) (named : List ProjectLine) (last : Option LineKind) → ReadSoFar text rest number named last → lines rest ≡ [] → lacks_machine last ≡ false → IsUtf8 text → length (component_lines named) ≤ MOST_COMPONENTS → AreLinesOf text named
+are_lines text rest number named last h e some utf8 few =
+    let written : AllZip IsProjectLine (kept_lines text) named = all_written text rest number named last h e in
+    record {
+      utf8 = utf8;
+      written = written;
+      are = record { names = names_of (kept_lines text) named written; chain = chain_of text rest number named last h some; few = few };
+    }
 
 -- ---- laws
 pub lines_are_one : LinesAreOne
@@ -319,16 +403,16 @@ none_wrong text named place h w =
     let c : Cut (kept_of w.before) w.line named = cut_at (kept_of w.before) (kept_of w.after) w.line named (subst (λ ls. AllZip IsProjectLine ls named) kept h.written) in
     let same : c.front ≡ w.named = lines_once (kept_of w.before) c.front w.named c.before w.so_far in
     let splits : named ≡ (w.named ++ c.item ∷ []) ++ c.back = c.splits ∙ ap (λ ls. ls ++ c.item ∷ c.back) same ∙ sym (append_assoc w.named (c.item ∷ []) c.back) in
-    let kinds : kinds_of named ≡ kinds_of (w.named ++ c.item ∷ []) ++ kinds_of c.back = ap kinds_of splits ∙ kinds_join (w.named ++ c.item ∷ []) c.back in
-    let all : all_go_on None (kinds_of (w.named ++ c.item ∷ []) ++ kinds_of c.back) ≡ true = ap (all_go_on None) (sym kinds) ∙ right_goes_on (kinds_of named) (inr h.are.chain) in
-    w.wrong c.item c.is (is_right (kinds_of (w.named ++ c.item ∷ [])) (go_on_front None (kinds_of (w.named ++ c.item ∷ [])) (kinds_of c.back) all))
+    let kinds : placed_kinds named ≡ placed_kinds (w.named ++ c.item ∷ []) ++ placed_kinds c.back = ap placed_kinds splits ∙ kinds_join (w.named ++ c.item ∷ []) c.back in
+    let all : all_go_on None (placed_kinds (w.named ++ c.item ∷ []) ++ placed_kinds c.back) ≡ true = ap (all_go_on None) (sym kinds) ∙ right_goes_on (placed_kinds named) (inr h.are.chain) in
+    w.wrong c.item c.is (is_right (placed_kinds (w.named ++ c.item ∷ [])) (go_on_front None (placed_kinds (w.named ++ c.item ∷ [])) (placed_kinds c.back) all))
 
 pub not_chain : IsChain [] → ⊥
 not_chain (n, inl e) = omega (arith, ap length e)
 not_chain (n, inr e) = omega (arith, ap length e)
 
 none_without : (text : List ℕ) (named : List ProjectLine) (place : ℕ) → AreLinesOf text named → HasNoMachine text place → ⊥
-none_without text named place h n = not_chain (subst IsChain (ap kinds_of (lines_once (kept_lines text) named n.named h.written n.written) ∙ n.none) h.are.chain)
+none_without text named place h n = not_chain (subst IsChain (ap (λ ls. behind_range (placed_kinds ls)) (lines_once (kept_lines text) named n.named h.written n.written) ∙ n.none) h.are.chain)
 
 none_too_many : (text : List ℕ) (named : List ProjectLine) → AreLinesOf text named → NamesTooMany text → ⊥
 none_too_many text named h n = omega (arith, n.many, h.are.few, ap (λ ls. length (component_lines ls)) (lines_once (kept_lines text) named n.named h.written n.written))
@@ -339,3 +423,81 @@ lines_exclude text named (Fault number file place) h (f, inr (n, u, inl w)) = ab
 lines_exclude text named (Fault number file place) h (f, inr (n, u, inr w)) = absurd (none_without text named place h w)
 lines_exclude text named (Limit number file) h (n, f, u, m) = absurd (none_too_many text named h m)
 lines_exclude text named Memory h r = refl
+
+-- ---- what the lines say
+map_kept : (b : Bool) (l : ProjectLine) (ls : List ProjectLine) → map (λ (m : ProjectLine). m.kind) (cond b (l ∷ ls) ls) ≡ cond b (l.kind ∷ map (λ (m : ProjectLine). m.kind) ls) (map (λ (m : ProjectLine). m.kind) ls)
+map_kept true l ls = refl
+map_kept false l ls = refl
+
+filter_kept : (k : LineKind) (ks : List LineKind) → filter is_component (cond (not (is_proofs k)) (k ∷ ks) ks) ≡ cond (is_component k) (k ∷ filter is_component ks) (filter is_component ks)
+filter_kept Range ks = refl
+filter_kept Machine ks = refl
+filter_kept Refinement ks = refl
+filter_kept Implementation ks = refl
+filter_kept Proofs ks = refl
+
+-- the kinds of the component files are those of the lines with a place that name one
+kinds_filtered : (named : List ProjectLine) → kinds_of named ≡ filter is_component (placed_kinds named)
+kinds_filtered [] = refl
+kinds_filtered (l ∷ ls) =
+    map_kept (is_component l.kind) l (component_lines ls) ∙ ap (λ ks. cond (is_component l.kind) (l.kind ∷ ks) ks) (kinds_filtered ls)
+    ∙ sym (filter_kept l.kind (placed_kinds ls)) ∙ sym (ap (filter is_component) (map_kept (not (is_proofs l.kind)) l (placed_lines ls)))
+
+refinements_kept : (n : ℕ) → filter is_component (replicate n Refinement) ≡ replicate n Refinement
+refinements_kept zero = refl
+refinements_kept (suc n) = ap (λ ks. Refinement ∷ ks) (refinements_kept n)
+
+implementation_kept : (n : ℕ) → filter is_component (replicate n Refinement ++ Implementation ∷ []) ≡ replicate n Refinement ++ Implementation ∷ []
+implementation_kept zero = refl
+implementation_kept (suc n) = ap (λ ks. Refinement ∷ ks) (implementation_kept n)
+
+chain_kept : (ks : List LineKind) → IsChain ks → filter is_component ks ≡ ks
+chain_kept ks (n, inl e) = ap (filter is_component) e ∙ ap (λ js. Machine ∷ js) (refinements_kept n) ∙ sym e
+chain_kept ks (n, inr e) = ap (filter is_component) e ∙ ap (λ js. Machine ∷ js) (implementation_kept n) ∙ sym e
+
+behind_kept : (ks : List LineKind) → IsChain (behind_range ks) → filter is_component ks ≡ behind_range ks
+behind_kept [] c = refl
+behind_kept (Range ∷ ks) c = chain_kept ks c
+behind_kept (Machine ∷ ks) c = chain_kept (Machine ∷ ks) c
+behind_kept (Refinement ∷ ks) c = chain_kept (Refinement ∷ ks) c
+behind_kept (Implementation ∷ ks) c = chain_kept (Implementation ∷ ks) c
+behind_kept (Proofs ∷ ks) c = chain_kept (Proofs ∷ ks) c
+
+pub kinds_chain : (named : List ProjectLine) → AreLines named → IsChain (kinds_of named)
+kinds_chain named are = subst IsChain (sym (kinds_filtered named ∙ behind_kept (placed_kinds named) are.chain)) are.chain
+
+-- MAXINT is one that there may be
+range_by : (k : LineKind) (name : List ℕ) (top : ℤ) → IsNameFor k name → IsRange top → IsRange (cond (is_range k) (max_in name) top)
+range_by Range name top f r = f.range
+range_by Machine name top f r = r
+range_by Refinement name top f r = r
+range_by Implementation name top f r = r
+range_by Proofs name top f r = r
+
+pub range_right : (named : List ProjectLine) → All (λ (l : ProjectLine). IsNameFor l.kind l.name) named → IsRange (range_of named)
+range_right [] h = default_range
+range_right (l ∷ ls) h = range_by l.kind l.name (range_of ls) (All-head (λ (l : ProjectLine). IsNameFor l.kind l.name) l ls h) (range_right ls (All-tail (λ (l : ProjectLine). IsNameFor l.kind l.name) l ls h))
+
+-- ---- the range, line by line
+rest_at : (named : List ProjectLine) (i : ℕ) (l : ProjectLine) → i < length named → l ≡ get_or named i l → drop i named ≡ l ∷ drop (suc i) named
+rest_at [] i l h e = absurd (omega (arith, h))
+rest_at (m ∷ ms) zero l h e = ap (λ (x : ProjectLine). x ∷ ms) (sym e)
+rest_at (m ∷ ms) (suc i) l h e = rest_at ms i l (omega (arith, h)) e
+
+pub range_here : (named : List ProjectLine) (i : ℕ) (l : ProjectLine) → i < length named → l ≡ get_or named i l → is_range l.kind ≡ true → range_of (drop i named) ≡ max_in l.name
+range_here named i l h e here = ap range_of (rest_at named i l h e) ∙ ap (λ (b : Bool). cond b (max_in l.name) (range_of (drop (suc i) named))) here
+
+range_behind : (k : LineKind) (name : List ℕ) (top : ℤ) → IsNameFor k name → (is_range k ≡ true → IsRangeText name → ⊥) → cond (is_range k) (max_in name) top ≡ top
+range_behind Range name top f n = absurd (n refl f)
+range_behind Machine name top f n = refl
+range_behind Refinement name top f n = refl
+range_behind Implementation name top f n = refl
+range_behind Proofs name top f n = refl
+
+pub range_on : (named : List ProjectLine) (i : ℕ) (l : ProjectLine) → i < length named → l ≡ get_or named i l → IsNameFor l.kind l.name → (is_range l.kind ≡ true → IsRangeText l.name → ⊥) → range_of (drop (i + 1) named) ≡ range_of (drop i named)
+range_on named i l h e fits none =
+    let next : i + 1 ≡ suc i = omega arith in
+    ap (λ (n : ℕ). range_of (drop n named)) next ∙ sym (range_behind l.kind l.name (range_of (drop (suc i) named)) fits none) ∙ ap range_of (sym (rest_at named i l h e))
+
+pub range_past : (named : List ProjectLine) (i : ℕ) → length named ≤ i → range_of (drop i named) ≡ default_max
+range_past named i h = ap range_of (drop_all i named h)

@@ -12,29 +12,29 @@ use Rattle.bk_sources.proofs.SomeCut.{some_utf8}
 use Rattle.bk_front.specs.declared.project_file.ProjectLine.{ProjectLine}
 use Rattle.bk_front.specs.declared.refusal.Refusal.{Refusal}
 use Rattle.bk_front.specs.declared.refusal.Refusal.TheVariants.{Fault, Limit}
-use Rattle.bk_front.specs.ProjectFile.{IsProjectLine, component_lines, kinds_of, IsRightSoFar, AreLinesOf, kept_of, IsRefusalOfLines}
+use Rattle.bk_front.specs.ProjectFile.{IsProjectLine, component_lines, placed_kinds, IsRightSoFar, AreLinesOf, kept_of, IsRefusalOfLines}
 use Rattle.bk_front.specs.Laws.{LinesAreRead, IsOfProject}
-use Rattle.bk_front.proofs.ProjectFiles.{kept_join, kept_one, kept_none}
+use Rattle.bk_front.proofs.ProjectFiles.{kept_join, kept_one, kept_none, names_of}
 
 module _ (text : List ℕ) (not_lines : (named : List ProjectLine) → AreLinesOf text named → ⊥) (no_refusal : (refusal : Refusal) → IsOfProject refusal → IsRefusalOfLines text refusal → ⊥) (utf8 : IsUtf8 text) where
   -- all lines are right
-  all_right : (named : List ProjectLine) → AllZip IsProjectLine (kept_lines text) named → IsRightSoFar (kinds_of named) → ⊥
+  all_right : (named : List ProjectLine) → AllZip IsProjectLine (kept_lines text) named → IsRightSoFar (placed_kinds named) → ⊥
   all_right named written (inl none) = no_refusal (Fault 4 0 (suc (length (lines text)))) tt (refl, inr (refl, utf8, inr (record { named = named; written = written; none = none; counted = refl })))
   all_right named written (inr chain) = elim (cases_lt MOST_COMPONENTS (length (component_lines named))) [
     | inl many ↦ no_refusal (Limit 4 0) tt (refl, refl, utf8, record { named = named; written = written; chain = chain; many = many })
-    | inr few ↦ not_lines named (record { utf8 = utf8; written = written; are = record { chain = chain; few = few } })
+    | inr few ↦ not_lines named (record { utf8 = utf8; written = written; are = record { names = names_of (kept_lines text) named written; chain = chain; few = few } })
   ]
 
   -- those in front are right
   abbrev SoFar : List (List ℕ) → List ProjectLine → Type 0
-  SoFar before named = AllZip IsProjectLine (kept_of before) named × IsRightSoFar (kinds_of named)
+  SoFar before named = AllZip IsProjectLine (kept_of before) named × IsRightSoFar (placed_kinds named)
 
   one_skipped : (before : List (List ℕ)) (line : List ℕ) (named : List ProjectLine) → is_skipped line ≡ true → SoFar before named → SoFar (before ++ line ∷ []) named
   one_skipped before line named e h =
       let same : kept_of (before ++ line ∷ []) ≡ kept_of before = kept_join before (line ∷ []) ∙ ap (λ ls. kept_of before ++ ls) (kept_none line e) ∙ append-nil (kept_of before) in
       (subst (λ ls. AllZip IsProjectLine ls named) (sym same) h.0, h.1)
 
-  one_named : (before : List (List ℕ)) (line : List ℕ) (named : List ProjectLine) (l : ProjectLine) → is_skipped line ≡ false → SoFar before named → IsProjectLine line l → IsRightSoFar (kinds_of (named ++ l ∷ [])) → SoFar (before ++ line ∷ []) (named ++ l ∷ [])
+  one_named : (before : List (List ℕ)) (line : List ℕ) (named : List ProjectLine) (l : ProjectLine) → is_skipped line ≡ false → SoFar before named → IsProjectLine line l → IsRightSoFar (placed_kinds (named ++ l ∷ [])) → SoFar (before ++ line ∷ []) (named ++ l ∷ [])
   one_named before line named l e h is right =
       let same : kept_of (before ++ line ∷ []) ≡ kept_of before ++ line ∷ [] = kept_join before (line ∷ []) ∙ ap (λ ls. kept_of before ++ ls) (kept_one line [] e) in
       (subst (λ ls. AllZip IsProjectLine ls (named ++ l ∷ [])) (sym same) (all_zipped_more IsProjectLine (kept_of before) named line l h.0 is), right)

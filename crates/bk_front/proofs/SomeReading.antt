@@ -1,5 +1,5 @@
 -- The texts of component files are read as a development, or have a fault or limit.
-use Rattle.std.specs.Prelude.{◌≡◌, ℕ, suc, ◌<◌, Bool, true, false, List, [], ◌∷◌, ◌++◌, length, All, Option, None, Some, refl}
+use Rattle.std.specs.Prelude.{◌≡◌, ℕ, suc, ◌<◌, ℤ, Bool, true, false, List, [], ◌∷◌, ◌++◌, length, All, Option, None, Some, refl}
 use Rattle.std.specs.List.{AllZip}
 use Rattle.std.proofs.Common.{inl, inr, arith, ap, sym, subst, ◌∙◌}
 use Rattle.std.proofs.lemmas.List.Elements.{All-head, All-tail}
@@ -9,7 +9,7 @@ use Rattle.bk_raw.specs.Trees.ComponentTree.{RawComponent}
 use Rattle.bk_raw.specs.Errors.Faults.{Fault as StaticFault, number_of_fault}
 use Rattle.bk_raw.specs.Errors.Places.{byte_at}
 use Rattle.bk_raw.specs.Errors.Blame.{blame}
-use Rattle.bk_dev.specs.Development.{Development, int_max}
+use Rattle.bk_dev.specs.Development.{Development}
 use Rattle.bk_statics.specs.Above.{above_of}
 use Rattle.bk_statics.specs.Components.{component_of}
 use Rattle.bk_statics.specs.DeclaredNames.{declares_too_many}
@@ -23,10 +23,11 @@ use Rattle.bk_sources.proofs.Neither.{all_or_first, all_zipped}
 use Rattle.bk_sources.proofs.SomeFiles.{files_are_told, the_first}
 use Rattle.bk_raw.proofs.Faults.{one-holds}
 use Rattle.bk_front.specs.declared.project_file.LineKind.{LineKind}
+use Rattle.bk_front.specs.ProjectFile.{kinds_of, range_of}
 use Rattle.bk_front.specs.declared.refusal.Refusal.{Refusal}
 use Rattle.bk_front.specs.declared.refusal.Refusal.TheVariants.{Fault, Limit}
 use Rattle.bk_front.specs.Chain.{Link, may_stand_below, links}
-use Rattle.bk_front.specs.Project.{IsWritten, IsLow, IsChained, AreChained, DeclaresFew, AreLevels, Reads, IsUnwritten, IsHigh, IsUnchained, DeclaresMany, IsRefusalOf}
+use Rattle.bk_front.specs.Project.{IsWritten, IsLow, IsChained, AreChained, DeclaresFew, AreLevels, ReadsIn, IsUnwritten, IsHigh, IsUnchained, DeclaresMany, IsRefusalIn}
 use Rattle.bk_front.specs.Laws.{TextsAreRead, IsOfProject}
 
 -- ---- one text
@@ -42,75 +43,75 @@ not_false true h = refl
 not_false false h = absurd (h refl)
 
 -- ---- levels
--- what is told of the next component below these levels
-abbrev told_below : Option Development → RawComponent → Verdict
-told_below above c = verdict_of (int_max (above_of above)) above c
-
 no_limit : (dev : Development) (fault : Option StaticFault) (n : ℕ) → judged dev fault ≡ past_limit n → ⊥
 no_limit dev None n e = cc
 no_limit dev (Some f) n e = cc
 
-few_no_limit : (above : Option Development) (c : RawComponent) (n : ℕ) → DeclaresFew c → told_below above c ≡ past_limit n → ⊥
-few_no_limit above c n few e =
-    let max = int_max (above_of above) in
-    let fault = blame (all_faults max (above_of above) (component_of c)) in
-    let level = level_below max (above_of above) (component_of c) in
-    no_limit level fault n (sym (ap (λ b. limited b (judged level fault)) few) ∙ e)
+module _ (top : ℤ) where
+  -- what is told of the next component below these levels
+  abbrev told_below : Option Development → RawComponent → Verdict
+  told_below above c = verdict_of top above c
 
-next_level : (above : Option Development) (c : RawComponent) (v : Verdict) → told_below above c ≡ v → DeclaresFew c → ((dev : Development) → told_below above c ≡ accepted dev → ⊥) → ((f : StaticFault) → told_below above c ≡ at_fault f → ⊥) → ⊥
-next_level above c (accepted dev) e few go stop = go dev e
-next_level above c (at_fault f) e few go stop = stop f e
-next_level above c (past_limit n) e few go stop = few_no_limit above c n few e
+  few_no_limit : (above : Option Development) (c : RawComponent) (n : ℕ) → DeclaresFew c → told_below above c ≡ past_limit n → ⊥
+  few_no_limit above c n few e =
+      let fault = blame (all_faults top (above_of above) (component_of c)) in
+      let level = level_below top (above_of above) (component_of c) in
+      no_limit level fault n (sym (ap (λ b. limited b (judged level fault)) few) ∙ e)
 
--- a component at fault below those above it
-record Stop (above : Option Development) (cs : List RawComponent) : Type 0 where
-  before : List RawComponent
-  component : RawComponent
-  after : List RawComponent
-  last : Option Development
-  fault : StaticFault
-  splits : cs ≡ before ++ component ∷ after
-  levels : AreLevels above before last
-  told : told_below last component ≡ at_fault fault
+  next_level : (above : Option Development) (c : RawComponent) (v : Verdict) → told_below above c ≡ v → DeclaresFew c → ((dev : Development) → told_below above c ≡ accepted dev → ⊥) → ((f : StaticFault) → told_below above c ≡ at_fault f → ⊥) → ⊥
+  next_level above c (accepted dev) e few go stop = go dev e
+  next_level above c (at_fault f) e few go stop = stop f e
+  next_level above c (past_limit n) e few go stop = few_no_limit above c n few e
 
-some_levels : (above : Option Development) (cs : List RawComponent) → All DeclaresFew cs → ((all : Option Development) → AreLevels above cs all → ⊥) → (Stop above cs → ⊥) → ⊥
-some_levels above [] few all stop = all above refl
-some_levels above (c ∷ cs) few all stop = next_level above c (told_below above c) refl (All-head DeclaresFew c cs few)
-    (λ dev e. some_levels (Some dev) cs (All-tail DeclaresFew c cs few) (λ last h. all last (dev, e, h)) (λ s. stop (record {
-      before = c ∷ s.before;
-      component = s.component;
-      after = s.after;
-      last = s.last;
-      fault = s.fault;
-      splits = ap (λ us. c ∷ us) s.splits;
-      levels = (dev, e, s.levels);
-      told = s.told;
-    })))
-    (λ f e. stop (record { before = []; component = c; after = cs; last = above; fault = f; splits = refl; levels = refl; told = e }))
+  -- a component at fault below those above it
+  record Stop (above : Option Development) (cs : List RawComponent) : Type 0 where
+    before : List RawComponent
+    component : RawComponent
+    after : List RawComponent
+    last : Option Development
+    fault : StaticFault
+    splits : cs ≡ before ++ component ∷ after
+    levels : AreLevels top above before last
+    told : told_below last component ≡ at_fault fault
+
+  some_levels : (above : Option Development) (cs : List RawComponent) → All DeclaresFew cs → ((all : Option Development) → AreLevels top above cs all → ⊥) → (Stop above cs → ⊥) → ⊥
+  some_levels above [] few all stop = all above refl
+  some_levels above (c ∷ cs) few all stop = next_level above c (told_below above c) refl (All-head DeclaresFew c cs few)
+      (λ dev e. some_levels (Some dev) cs (All-tail DeclaresFew c cs few) (λ last h. all last (dev, e, h)) (λ s. stop (record {
+        before = c ∷ s.before;
+        component = s.component;
+        after = s.after;
+        last = s.last;
+        fault = s.fault;
+        splits = ap (λ us. c ∷ us) s.splits;
+        levels = (dev, e, s.levels);
+        told = s.told;
+      })))
+      (λ f e. stop (record { before = []; component = c; after = cs; last = above; fault = f; splits = refl; levels = refl; told = e }))
 
 -- below some levels there are some
 abbrev IsSome : Option Development → Type 0
 IsSome all = (dev : Development) × (all ≡ Some dev)
 
-levels_on : (dev : Development) (cs : List RawComponent) (all : Option Development) → AreLevels (Some dev) cs all → IsSome all
-levels_on dev [] all h = (dev, sym h)
-levels_on dev (c ∷ cs) all h = levels_on h.0 cs all h.2
+levels_on : (top : ℤ) (dev : Development) (cs : List RawComponent) (all : Option Development) → AreLevels top (Some dev) cs all → IsSome all
+levels_on top dev [] all h = (dev, sym h)
+levels_on top dev (c ∷ cs) all h = levels_on top h.0 cs all h.2
 
-levels_some : (cs : List RawComponent) (all : Option Development) → 0 < length cs → AreLevels None cs all → IsSome all
-levels_some [] all l h = absurd (omega (arith, l))
-levels_some (c ∷ cs) all l h = levels_on h.0 cs all h.2
+levels_some : (top : ℤ) (cs : List RawComponent) (all : Option Development) → 0 < length cs → AreLevels top None cs all → IsSome all
+levels_some top [] all l h = absurd (omega (arith, l))
+levels_some top (c ∷ cs) all l h = levels_on top h.0 cs all h.2
 
 -- ---- pass by pass
-module _ (kinds : List LineKind) (texts : List (List ℕ)) (counted : length kinds ≡ length texts) (some : 0 < length texts) (not_read : (dev : Development) → Reads kinds texts dev → ⊥) (no_refusal : (refusal : Refusal) → IsOfProject refusal → IsRefusalOf kinds texts refusal → ⊥) where
+module _ (top : ℤ) (kinds : List LineKind) (texts : List (List ℕ)) (counted : length kinds ≡ length texts) (some : 0 < length texts) (not_read : (dev : Development) → ReadsIn top kinds texts dev → ⊥) (no_refusal : (refusal : Refusal) → IsOfProject refusal → IsRefusalIn top kinds texts refusal → ⊥) where
   no_levels : (cs : List RawComponent) → AreChained kinds texts cs → All DeclaresFew cs → ⊥
-  no_levels cs chained few = some_levels None cs few all stop
+  no_levels cs chained few = some_levels top None cs few all stop
     where
-      all : (last : Option Development) → AreLevels None cs last → ⊥
+      all : (last : Option Development) → AreLevels top None cs last → ⊥
       all last h =
-          let d = levels_some cs last (omega (arith, some, AllZip-long IsLow texts cs chained.each)) h in
-          not_read d.0 (record { components = cs; chained = chained; few = few; levels = subst (AreLevels None cs) d.1 h })
+          let d = levels_some top cs last (omega (arith, some, AllZip-long IsLow texts cs chained.each)) h in
+          not_read d.0 (record { components = cs; chained = chained; few = few; levels = subst (AreLevels top None cs) d.1 h })
 
-      stop : Stop None cs → ⊥
+      stop : Stop top None cs → ⊥
       stop s = no_refusal (Fault (number_of_fault s.fault.0) (suc (length s.before)) s.fault.1) tt (length s.before, refl, inr (inr (inr (cs, chained, few, record { before = s.before; component = s.component; after = s.after; splits = s.splits; counted = refl; above = s.last; levels = s.levels; told = (s.fault, s.told, refl) }))))
 
   no_names : (cs : List RawComponent) → AreChained kinds texts cs → ⊥
@@ -147,4 +148,7 @@ module _ (kinds : List LineKind) (texts : List (List ℕ)) (counted : length kin
   of_file NoMemory o h = o
 
 pub texts_are_read : TextsAreRead
-texts_are_read kinds texts counted some not_read no_refusal = files_are_told texts (no_writing kinds texts counted some not_read no_refusal) (of_file kinds texts counted some not_read no_refusal)
+texts_are_read named texts counted some not_read no_refusal =
+    let top = range_of named in
+    let kinds = kinds_of named in
+    files_are_told texts (no_writing top kinds texts counted some not_read no_refusal) (of_file top kinds texts counted some not_read no_refusal)

@@ -26,7 +26,7 @@ fn is_for(line: LineKind, kind: &ComponentKind) -> bool
         LineKind::Machine => matches!(kind, ComponentKind::Machine),
         LineKind::Refinement => matches!(kind, ComponentKind::Refinement),
         LineKind::Implementation => matches!(kind, ComponentKind::Implementation),
-        LineKind::Proofs => false,
+        LineKind::Range | LineKind::Proofs => false,
     }
 }
 

@@ -4,6 +4,7 @@
 mod chain;
 pub mod laws;
 mod project_file;
+mod range;
 mod reading;
 mod refusal;
 

@@ -4,11 +4,14 @@ ghost use Rattle.std.specs.Prelude.{◌≡◌, ◌≢◌, ◌↔◌, ◌<◌, �
 ghost use Rattle.std.specs.Str.{IsUtf8};
 ghost use Rattle.bk_raw.specs.Errors.Faults.{number_of_fault};
 ghost use Rattle.bk_front.specs.declared.project_file.LineKind.{LineKind};
-ghost use Rattle.bk_front.specs.ProjectFile.{first_or, IsLine, word_of, AreLinesOf, IsRefusalOfLines, kinds_of, component_lines};
+ghost use Rattle.bk_front.specs.declared.project_file.LineKind.TheVariants.{Range};
+ghost use Rattle.bk_front.specs.ProjectFile.{first_or, IsLine, word_of, IsNameFor, IsRangeText, is_component, is_range};
+ghost use Rattle.bk_front.specs.ProjectFile.{AreLinesOf, IsRefusalOfLines, component_lines};
 ghost use Rattle.bk_front.specs.declared.refusal.Refusal.TheVariants.{Fault};
-ghost use Rattle.bk_front.specs.Stages.{may_follow, last_after};
+ghost use Rattle.bk_front.specs.Stages.{may_follow, lacks_machine, last_after};
 ghost use Rattle.bk_front.specs.Trims.{trim_front, trim_back};
 
+use crate::range::max_in;
 use crate::refusal::Refusal;
 use bk_io::Text;
 use bk_limits::MOST_COMPONENTS;
@@ -16,16 +19,19 @@ use bk_lines::{first_line, is_skipped};
 use bk_raw::FaultKind;
 use std::alloc::Global;
 
-/// A line of a project file, which names a file.
+/// A line of a project file, which names a file or says the range.
 #[derive(Drop)]
 pub struct ProjectLine {
     pub kind: LineKind,
+    /// The file's name; of the line for the range its digits.
     pub name: Text,
 }
 
-/// What the file of a line holds.
+/// What the file of a line holds, or that the line says the range.
 #[derive(Clone, Copy, PartialEq, Eq, Debug)]
 pub enum LineKind {
+    /// The range of whole numbers. Such a line names no file.
+    Range,
     Machine,
     Refinement,
     Implementation,
@@ -34,11 +40,29 @@ pub enum LineKind {
 }
 
 impl LineKind {
+    /// Whether such a line names the file of a component.
+    pub fn is_component(self) -> bool
+        ensures { result ≡ is_component self }
+    {
+        match self {
+            LineKind::Machine | LineKind::Refinement | LineKind::Implementation => true,
+            LineKind::Range | LineKind::Proofs => false,
+        }
+    }
+
+    /// Whether such a line says the range.
+    pub(crate) fn is_range(self) -> bool
+        ensures { result ≡ is_range self }
+    {
+        matches!(self, LineKind::Range)
+    }
+
     /// The word that such a line begins with.
     fn word(self) -> &'static [u8]
         ensures { result.now ≡ word_of self }
     {
         match self {
+            LineKind::Range => b"range",
             LineKind::Machine => b"machine",
             LineKind::Refinement => b"refinement",
             LineKind::Implementation => b"implementation",
@@ -81,7 +105,7 @@ pub fn lines(alloc: Global, text: &[u8]) -> Result<Vec<ProjectLine>, Refusal>
         rest = after;
         number += 1;
     }
-    if last.is_none() {
+    if lacks_machine(last) {
         return Err(at_fault(FaultKind::WrongLine, number));
     }
     if component_count(&lines) > MOST_COMPONENTS {
@@ -101,20 +125,28 @@ fn at_fault(kind: FaultKind, place: usize) -> Refusal
     }
 }
 
-/// Whether a line of this kind may stand after others, of which this is the last for a component file.
+/// Whether a line of this kind may stand after others, of which this is the last that names no proof file.
 fn may_follow(last: Option<LineKind>, kind: LineKind) -> bool
     ensures { result ≡ may_follow last kind }
 {
     match (last, kind) {
         (_, LineKind::Proofs) => true,
-        (None, LineKind::Machine) => true,
+        (None, LineKind::Range) => true,
+        (None | Some(LineKind::Range), LineKind::Machine) => true,
         (Some(LineKind::Machine | LineKind::Refinement), LineKind::Refinement) => true,
         (Some(LineKind::Machine | LineKind::Refinement), LineKind::Implementation) => true,
         _ => false,
     }
 }
 
-/// The last line for a component file, where one of this kind stands after the others.
+/// Whether no machine is named so far, where this is the last of the lines that name no proof file.
+fn lacks_machine(last: Option<LineKind>) -> bool
+    ensures { result ≡ lacks_machine last }
+{
+    matches!(last, None | Some(LineKind::Range))
+}
+
+/// The last line that names no proof file, where one of this kind stands after the others.
 fn last_after(last: Option<LineKind>, kind: LineKind) -> Option<LineKind>
     ensures { result ≡ last_after last kind }
 {
@@ -130,19 +162,23 @@ fn component_count(lines: &[ProjectLine]) -> usize
 {
     let mut count: usize = 0;
     for line in lines {
-        if line.kind != LineKind::Proofs {
+        if line.kind.is_component() {
             count += 1;
         }
     }
     count
 }
 
-// What a line names, and the file's name.
+// What a line names, and the file's name or the digits.
 #[tactic(auto, using(crate::proofs::ProjectFiles::no_kind))]
 fn kind_and_name(line: &[u8]) -> Option<(LineKind, &[u8])>
-    ensures { MatchOption result ((kind : LineKind) (name : List ℕ) → IsLine (word_of kind) name line.now → ⊥)
+    ensures line { MatchOption result ((kind : LineKind) (name : List ℕ) → IsLine (word_of kind) name line.now → IsNameFor kind name → ⊥)
         (λ p. IsLine (word_of p.0) p.1.now line.now) }
+    ensures fits { IfSome result (λ p. IsNameFor p.0 p.1.now) }
 {
+    if let Some(digits) = range_in(line) {
+        return Some((LineKind::Range, digits));
+    }
     if let Some(name) = file_of(line, LineKind::Machine) {
         return Some((LineKind::Machine, name));
     }
@@ -156,6 +192,19 @@ fn kind_and_name(line: &[u8]) -> Option<(LineKind, &[u8])>
         return Some((LineKind::Proofs, name));
     }
     None
+}
+
+// The digits of a line that says a range.
+#[tactic(auto, using(crate::proofs::ProjectFiles::no_range_line))]
+fn range_in(line: &[u8]) -> Option<&[u8]>
+    ensures { MatchOption result ((name : List ℕ) → IsLine (word_of Range) name line.now → IsRangeText name → ⊥)
+        (λ name. IsLine (word_of Range) name.now line.now × IsRangeText name.now) }
+{
+    let digits = file_of(line, LineKind::Range)?;
+    match max_in(digits) {
+        Some(_) => Some(digits),
+        None => None,
+    }
 }
 
 // The file name of a line that names this.

@@ -9,7 +9,7 @@ use Rattle.std.proofs.lemmas.Option.{slice_get_within}
 use Rattle.bk_limits.specs.declared.TheConstants.{GREATEST_MAXINT, MOST_CELLS, MOST_INSTRUCTIONS, MOST_SETS}
 use Rattle.bk_form.specs.Table.{SetEntry, set_size, at_least_one, element_texts, IsCounted}
 use Rattle.bk_form.proofs.Sizing.{elements_have_texts}
-use Rattle.bk_dev.specs.Development.{Head, Body, Development, IsRange, int_max, default_max}
+use Rattle.bk_dev.specs.Development.{Head, Body, Development, IsRange, int_max}
 use Rattle.bk_code.specs.declared.image.Image.{Image}
 use Rattle.bk_code.specs.declared.image.Parameter.{Parameter}
 use Rattle.bk_code.specs.declared.image.CellKind.{CellKind}
@@ -19,7 +19,8 @@ use Rattle.bk_code.specs.declared.instruction.Inst.{Inst}
 use Rattle.bk_code.specs.declared.instruction.Inst.TheVariants.{Push, Load, Store, ALoad, AStore, Jump, JumpZero}
 use Rattle.bk_code.specs.Numbers.{int_max as code_max}
 use Rattle.bk_code.specs.Checks.{IsKind, IsGoodParameter, IsGoodEntry, IsGoodInst, IsArray, IsTarget, IsNumbered}
-use Rattle.bk_image.specs.Spelling.{IsCountable, kind_number, FitsSet, FitsParameter, FitsParameters, FitsEntry, FitsArray, FitsInst, HasSpelling}
+use Rattle.bk_image.specs.Spelling.{IsCountable, kind_number, FitsSet, FitsParameter, FitsParameters, FitsEntry, FitsArray, FitsInst, HasFewElements, HasSpelling}
+use Rattle.bk_image.proofs.Versions.{own_fits}
 use Rattle.bk_b0.specs.Places.{Places, placed_parameter, placed_block, placed_entries}
 use Rattle.bk_b0.specs.CodeUnit.{CodeUnit, unit_of, unit_places, unit_image}
 use Rattle.bk_gen.specs.Laws.{HasElementsInRange}
@@ -43,7 +44,7 @@ pub record FitsNames (entry : OpEntry) : Type 0 where
   pub inputs : IsCountable entry.inputs
   pub outputs : IsCountable entry.outputs
 
-module _ (image : Image) (n : IsNumbered image) (usual : code_max image ≡ default_max) (short : length image.code ≤ MOST_INSTRUCTIONS) (few_sets : length image.sets ≤ MOST_SETS) (sets : All FitsSet image.sets) (few_ops : IsCountable image.ops) (names : All FitsNames image.ops) where
+module _ (image : Image) (n : IsNumbered image) (few_elements : All (λ names. HasFewElements (code_max image) names) image.sets) (short : length image.code ≤ MOST_INSTRUCTIONS) (few_sets : length image.sets ≤ MOST_SETS) (sets : All FitsSet image.sets) (few_ops : IsCountable image.ops) (names : All FitsNames image.ops) where
   kind-fits : (kind : CellKind) → IsKind image kind → kind_number kind < 2 ^ 16
   kind-fits Integer h = omega arith
   kind-fits BoolKind h = omega arith
@@ -100,7 +101,7 @@ module _ (image : Image) (n : IsNumbered image) (usual : code_max image ≡ defa
       let few : image.cells ≤ MOST_CELLS = n.cells in
       record {
         fits = record {
-          max = usual;
+          max = own_fits image (range-fits (code_max image) (record { least = n.range.least; greatest = n.range.greatest }));
           cells = omega (arith, few);
           few_sets = omega (arith, few_sets);
           sets = sets;
@@ -110,27 +111,28 @@ module _ (image : Image) (n : IsNumbered image) (usual : code_max image ≡ defa
           insts = each-inst image.code (λ at inst is. inst-fits at inst (slice_get_within image.code at inst is) (n.insts at inst is));
         };
         few_sets = few_sets;
+        few_elements = few_elements;
       }
 
 -- ---- the image of a unit
--- a size that 16 bits count is small also where none counts as one
-one-small : (size : ℕ) → size < 2 ^ 16 → at_least_one size < 2 ^ 16
-one-small zero h = omega arith
-one-small (suc n) h = h
+-- 0 to MAXINT number the elements also where none counts as one
+one-few : (top : ℤ) (size : ℕ) → pos 1 ≤ℤ top → pos size ≤ℤ (top +ℤ pos 1) → pos (at_least_one size) ≤ℤ (top +ℤ pos 1)
+one-few top zero one h = omega (arith, ints, one)
+one-few top (suc n) one h = h
 
-pub size-fits : (xs : List SetEntry) → All IsCounted xs → All (λ s. FitsSet (element_texts s)) xs → (n : ℕ) → option_map_or (λ (s : SetEntry). at_least_one s.size) (slice_get xs n) 0 < 2 ^ 16
-size-fits [] c h n = omega arith
-size-fits (x ∷ xs) c h zero =
-    let few : length (element_texts x) < 2 ^ 16 = (All-head (λ s. FitsSet (element_texts s)) x xs h).few in
+pub sizes-few : (top : ℤ) → pos 1 ≤ℤ top → (xs : List SetEntry) → All IsCounted xs → All (λ s. HasFewElements top (element_texts s)) xs → (n : ℕ) → pos (option_map_or (λ (s : SetEntry). at_least_one s.size) (slice_get xs n) 0) ≤ℤ (top +ℤ pos 1)
+sizes-few top one [] c h n = omega (arith, ints, one)
+sizes-few top one (x ∷ xs) c h zero =
+    let few : pos (length (element_texts x)) ≤ℤ (top +ℤ pos 1) = All-head (λ s. HasFewElements top (element_texts s)) x xs h in
     let each : length (element_texts x) ≡ x.size = elements_have_texts x (All-head IsCounted x xs c) in
-    one-small x.size (subst (λ n. n < 2 ^ 16) each few)
-size-fits (x ∷ xs) c h (suc n) = size-fits xs (All-tail IsCounted x xs c) (All-tail (λ s. FitsSet (element_texts s)) x xs h) n
+    one-few top x.size one (subst (λ n. pos n ≤ℤ (top +ℤ pos 1)) each few)
+sizes-few top one (x ∷ xs) c h (suc n) = sizes-few top one xs (All-tail IsCounted x xs c) (All-tail (λ s. HasFewElements top (element_texts s)) x xs h) n
 
-pub elements-fit : (dev : Development) → dev.sets ≡ dev.table.sets → All IsCounted dev.table.sets → FitsFields (unit_of dev) → HasElementsInRange dev
-elements-fit dev same counted h s i low =
-    let small : set_size dev.table s < 2 ^ 16 = size-fits dev.table.sets counted (subst (λ (xs : List SetEntry). All (λ s. FitsSet (element_texts s)) xs) same h.sets) s in
-    let usual : int_max dev ≡ default_max = h.max in
-    omega (arith, ints, low, small, usual)
+pub elements-fit : (dev : Development) → IsRange (int_max dev) → dev.sets ≡ dev.table.sets → All IsCounted dev.table.sets → All (λ s. HasFewElements (int_max dev) (element_texts s)) dev.sets → HasElementsInRange dev
+elements-fit dev range same counted h s i low =
+    let one : pos 1 ≤ℤ int_max dev = range.least in
+    let few : pos (set_size dev.table s) ≤ℤ (int_max dev +ℤ pos 1) = sizes-few (int_max dev) one dev.table.sets counted (subst (λ (xs : List SetEntry). All (λ s. HasFewElements (int_max dev) (element_texts s)) xs) same h) s in
+    omega (arith, ints, low, few)
 
 map-long : (f : ℕ → Parameter) (xs : List ℕ) → length (map f xs) ≡ length xs
 map-long f [] = refl
@@ -161,13 +163,13 @@ pub unit_spelled : (u : CodeUnit) → IsNumbered (unit_image u) → FitsFields u
 unit_spelled u n h short =
     let few : length u.heads < 2 ^ 16 = h.few_operations in
     let sets : length u.sets ≤ MOST_SETS = h.few_sets in
-    has_spelling (unit_image u) n h.max short (omega (arith, sets, sets-long u.sets)) (All-map FitsSet element_texts u.sets h.sets)
+    has_spelling (unit_image u) n (All-map (λ names. HasFewElements u.arrays.max names) element_texts u.sets h.few_elements) short (omega (arith, sets, sets-long u.sets)) (All-map FitsSet element_texts u.sets h.sets)
     (omega (arith, few, entries-few (unit_places u) (length (placed_block (unit_places u) u.init)) u.heads u.bodies)) (entries-named (unit_places u) (length (placed_block (unit_places u) u.init)) u.heads u.bodies h.heads h.outputs)
 
 -- ---- what has a spelling fits
-pub all-sets : (xs : List SetEntry) → All FitsSet (map element_texts xs) → All (λ (s : SetEntry). FitsSet (element_texts s)) xs
-all-sets [] h = All-nil (λ (s : SetEntry). FitsSet (element_texts s))
-all-sets (x ∷ xs) h = All-cons (λ (s : SetEntry). FitsSet (element_texts s)) x xs (All-head FitsSet (element_texts x) (map element_texts xs) h) (all-sets xs (All-tail FitsSet (element_texts x) (map element_texts xs) h))
+pub all-sets : (P : List (List ℕ) → Type 0) (xs : List SetEntry) → All P (map element_texts xs) → All (λ (s : SetEntry). P (element_texts s)) xs
+all-sets P [] h = All-nil (λ (s : SetEntry). P (element_texts s))
+all-sets P (x ∷ xs) h = All-cons (λ (s : SetEntry). P (element_texts s)) x xs (All-head P (element_texts x) (map element_texts xs) h) (all-sets P xs (All-tail P (element_texts x) (map element_texts xs) h))
 
 module _ (p : Places) where
   entries-long : (place : ℕ) (hs : List Head) (bs : List Body) → length hs ≡ length bs → length (placed_entries p place hs bs) ≡ length hs
@@ -203,9 +205,9 @@ spelled_fits u e s =
     let sets : length (map element_texts u.sets) ≤ MOST_SETS = s.few_sets in
     let few : length (placed_entries p place u.heads u.bodies) < 2 ^ 16 = s.fits.few_ops in
     record {
-      max = s.fits.max;
       few_sets = omega (arith, sets, sets-long u.sets);
-      sets = all-sets u.sets s.fits.sets;
+      sets = all-sets FitsSet u.sets s.fits.sets;
+      few_elements = all-sets (λ names. HasFewElements u.arrays.max names) u.sets s.few_elements;
       few_operations = omega (arith, few, entries-long p place u.heads u.bodies e);
       heads = all-heads p place u.heads u.bodies e s.fits.ops;
       outputs = all-outputs p place u.heads u.bodies e s.fits.ops;

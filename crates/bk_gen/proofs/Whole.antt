@@ -20,7 +20,7 @@ development_loads dev f b few short fits =
     let same = units_are_translated dev in
     let long = ap (λ (i : Image). length i.code) same in
     subst IsLoadable (sym same)
-    (translations_load dev f b (elements-fit dev f.sets f.table.counted fits) (subst (λ n. n ≤ MOST_CELLS) (count-is dev (cell_variables dev)) few) (subst (λ n. n ≤ MOST_INSTRUCTIONS) long short))
+    (translations_load dev f b (elements-fit dev f.range f.sets f.table.counted fits.few_elements) (subst (λ n. n ≤ MOST_CELLS) (count-is dev (cell_variables dev)) few) (subst (λ n. n ≤ MOST_INSTRUCTIONS) long short))
 
 pub unit_loads : (u : CodeUnit) → IsCodeUnit u → slots_cells u.slots ≤ MOST_CELLS → length (unit_code u) ≤ MOST_INSTRUCTIONS → FitsFields u → IsLoadable (unit_image u)
 unit_loads u w = subst (λ v. slots_cells v.slots ≤ MOST_CELLS → length (unit_code v) ≤ MOST_INSTRUCTIONS → FitsFields v → IsLoadable (unit_image v)) (sym w.is) (development_loads w.dev w.lawful w.in_b0)

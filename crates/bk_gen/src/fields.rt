@@ -1,13 +1,12 @@
 //! Whether names and counts fit the fields that an image has for them.
 
-ghost use Rattle.std.specs.Prelude.{◌≡◌, ◌↔◌, ◌++◌, ◌∷◌, IsTrue, All, decimal};
+ghost use Rattle.std.specs.Prelude.{◌↔◌, ◌++◌, ◌∷◌, IsTrue, All, decimal};
 ghost use Rattle.bk_form.specs.Table.{element_texts, texts_from};
-ghost use Rattle.bk_dev.specs.Development.{default_max};
-ghost use Rattle.bk_image.specs.Spelling.{IsCountable, FitsSet};
+ghost use Rattle.bk_image.specs.Spelling.{IsCountable, FitsSet, HasFewElements};
 ghost use Rattle.bk_gen.specs.Spelled.{FitsHead, FitsFields};
 
 use bk_b0::B0Unit;
-use bk_dev::{Body, DEFAULT_MAX, EnumSet, OpHead};
+use bk_dev::{Body, EnumSet, OpHead};
 use bk_io::Text;
 use bk_limits::MOST_SETS;
 use itoa::Buffer;
@@ -15,25 +14,37 @@ use itoa::Buffer;
 /// How many items, and how many bytes of a name, a field can count.
 const COUNTED: usize = 65536;
 
-/// Whether sets, elements, operations, inputs and outputs, and their names, fit the fields that count them, and the range needs
-/// none.
+/// Whether sets, elements, operations, inputs and outputs, and their names, fit the fields that count them, and 0 to MAXINT number
+/// the elements of each set.
 pub(crate) fn fits_fields(unit: &B0Unit) -> bool
     ensures { IsTrue result ↔ FitsFields unit.now }
 {
-    has_default_range(unit)
-        && unit.sets().len() <= MOST_SETS
+    unit.sets().len() <= MOST_SETS
         && unit.sets().iter().all(|set| elements_fit(set))
+        && have_few_elements(unit)
         && unit.heads().len() < COUNTED
         && unit.heads().iter().all(|head| head_fits(head))
         && unit.bodies().iter().all(|body| outputs_fit(body))
 }
 
-// Whether the range is the one that needs no field.
-fn has_default_range(unit: &B0Unit) -> bool
-    ensures { IsTrue result ↔ (unit.now.arrays.max ≡ default_max) }
+// Whether 0 to MAXINT number the elements of each set.
+fn have_few_elements(unit: &B0Unit) -> bool
+    ensures { IsTrue result ↔ All (λ s. HasFewElements unit.now.arrays.max (element_texts s)) unit.now.sets }
+{
+    unit.sets().iter().all(|set| has_few_elements(unit, set))
+}
+
+// Whether 0 to MAXINT number the elements of a set.
+#[tactic(auto, using(crate::proofs::ElementTexts::few_numbers, crate::proofs::ElementTexts::few_names))]
+fn has_few_elements(unit: &B0Unit, set: &EnumSet) -> bool
+    ensures { IsTrue result ↔ HasFewElements unit.now.arrays.max (element_texts set.now) }
 {
     let arrays = unit.arrays();
-    arrays.max() == DEFAULT_MAX
+    let most = i128::from(arrays.max()) + 1;
+    if set.elements.is_empty() {
+        return i128::from(set.size) <= most;
+    }
+    set.elements.len() as i128 <= most
 }
 
 // Whether a set has few enough elements, and the text of each is short enough.

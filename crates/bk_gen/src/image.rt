@@ -32,7 +32,7 @@ const CELLS: u64 = MOST_CELLS as u64;
 
 /// The image of an implementation: what the definition of the translation says of it. It passes the loader's checks and has a
 /// spelling. The length of the code is looked at before the number of cells; an image whose names or counts do not fit their
-/// fields counts as one with too many, and so does one with another MAXINT than `DEFAULT_MAX`, for which there is no field yet.
+/// fields counts as one with too many, and so does one that has a set of more than MAXINT + 1 elements.
 pub fn translate(alloc: Global, unit: &B0Unit) -> Result<Image, GenFault>
     ensures ok { IfOk result (λ image. image ≡ unit_image unit.now) }
     ensures checked { IfOk result IsLoadable }

@@ -10,15 +10,25 @@ use Rattle.bk_code.specs.Numbers.{int_max}
 use Rattle.bk_code.specs.Checks.{IsGoodParameter, IsGoodEntry, IsArray, IsGoodInst}
 use Rattle.bk_image.specs.declared.fault.LoadFault.{LoadFault}
 use Rattle.bk_image.specs.declared.fault.LoadFault.TheVariants.{BadSlot}
-use Rattle.bk_image.specs.Spelling.{text, parameter, parameters, entry, inst}
-use Rattle.bk_image.specs.Faults.{place, IsFirst, IsParameterFault, IsParametersFault, IsEntryFault, IsArrayFault, IsOperandFault, IsOneInstFault}
+use Rattle.bk_image.specs.Spelling.{text, set, parameter, parameters, entry, inst, HasFewElements}
+use Rattle.bk_image.specs.Faults.{place, IsFirst, IsParameterFault, IsParametersFault, IsEntryFault, IsArrayFault, IsOperandFault, IsOneInstFault, IsSetFault}
 use Rattle.bk_image.specs.Soundness.{IsSound}
 use Rattle.bk_image.proofs.Arrays.{inside}
 use Rattle.bk_image.proofs.FaultLists.{Judges, none_in, within_in}
-use Rattle.bk_image.proofs.Sizes.{parameter_size, parameter_sizes, parameters_size, entry_size, size_of, inst_size}
+use Rattle.bk_image.proofs.Sizes.{set_size, parameter_size, parameter_sizes, parameters_size, entry_size, size_of, inst_size}
 
 abbrev StandsIn : ℕ → ℕ → LoadFault → Type 0
 StandsIn low high e = (low ≤ place e) × (place e < high)
+
+set_within : (image : Image) (k at : ℕ) (names : List (List ℕ)) (e : LoadFault) → IsSetFault image k at names e → StandsIn at (at + length (set names)) e
+set_within image k at names e f = subst (StandsIn at (at + length (set names))) (sym f.0) (omega arith, omega (arith, set_size names))
+
+pub set_judges : (image : Image) → Judges set (IsSetFault image) (λ k names. HasFewElements (int_max image) names)
+set_judges image = record { within = set_within image; none = λ k at names e good f. f.1 good }
+
+-- the one fault of a set
+pub first_few : (image : Image) (k at : ℕ) (names : List (List ℕ)) → (HasFewElements (int_max image) names → ⊥) → IsFirst (IsSetFault image k at names) (BadSlot at)
+first_few image k at names many = record { is = (refl, many); least = λ other f. subst (λ e. at ≤ place e) (sym f.0) (omega arith) }
 
 parameter_within : (image : Image) (k at : ℕ) (p : Parameter) (e : LoadFault) → IsParameterFault image k at p e → StandsIn at (at + length (parameter p)) e
 parameter_within image k at p e (inl f) = subst (StandsIn at (at + length (parameter p))) (sym f.0) (omega arith, omega (arith, parameter_size p))

@@ -14,7 +14,7 @@ use Rattle.bk_code.specs.declared.instruction.Inst.TheVariants.{Push, Load, Stor
 use Rattle.bk_code.specs.Checks.{FlowsTo, Passes, IsRoot, IsOpen, IsNumbered, IsDepths, IsEmptyAtEnd, IsLoadable, pops, pushes}
 use Rattle.bk_image.specs.declared.depths.Depth.{Depth}
 use Rattle.bk_image.specs.declared.depths.Depth.TheVariants.{Unknown, One, Many}
-use Rattle.bk_image.specs.Spelling.{inst as spell_inst}
+use Rattle.bk_image.specs.Spelling.{version_of, inst as spell_inst}
 use Rattle.bk_image.specs.Faults.{count_place, part_place}
 use Rattle.bk_image.specs.Stack.{depth_after, HasDepth, BreaksRules, IsAllowed, HasTwoDepths, HasBadDepth, IsStackFault, IsFirstStackFault}
 use Rattle.bk_image.specs.Progress.{Progress, IsKnown, HasDepthBelow, Covers, after, IsSettled, IsRight, IsWrong, AreRight, depth_at, next_of, target_of}
@@ -103,7 +103,7 @@ right_none image p k i h get right (j, getj, fault) = by_fault fault
 right_at : (code : List Inst) (known : List Depth) (n k : ℕ) (i : Inst) → AreRight code known n → k < n → slice_get code k ≡ Some i → IsRight i (depth_at known k)
 right_at code known n k i right lt get = subst (λ x. IsRight x (depth_at known k)) (get_or_from_slice_get code k i i get) (right k i lt)
 
-pub first_fault : (image : Image) (p : Progress) (begin byte : ℕ) → Settled image p → begin ≡ count_place image + 4 → IsFirstWrong image p.known begin byte → IsFirstStackFault image byte
+pub first_fault : (image : Image) (p : Progress) (begin byte : ℕ) → Settled image p → begin ≡ count_place (version_of image) image + 4 → IsFirstWrong image p.known begin byte → IsFirstStackFault image byte
 first_fault image p begin byte h is w = record {
   inst = w.at;
   is = wrong_fault image p w.at w.inst h w.get w.wrong;
@@ -245,7 +245,7 @@ right_more code known n i right get here k d lt =
     ]
 
 -- what the search for a wrong depth says
-pub judged : (image : Image) (p : Progress) (begin : ℕ) (r : Option ℕ) → IsNumbered image → Settled image p → begin ≡ count_place image + 4
+pub judged : (image : Image) (p : Progress) (begin : ℕ) (r : Option ℕ) → IsNumbered image → Settled image p → begin ≡ count_place (version_of image) image + 4
     → MatchOption r (AreRight image.code p.known (length image.code)) (IsFirstWrong image p.known begin) → MatchOption r (IsLoadable image) (IsFirstStackFault image)
 judged image p begin None numbered h is right = all_right image p numbered h right
 judged image p begin (Some byte) numbered h is wrong = first_fault image p begin byte h is wrong

@@ -3,6 +3,7 @@ pub mod Fields
 pub mod Entries
 pub mod Instructions
 pub mod Layouts
+pub mod Versions
 pub mod Sizes
 pub mod Arrays
 pub mod FaultLists

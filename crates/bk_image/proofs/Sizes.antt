@@ -10,8 +10,10 @@ use Rattle.bk_code.specs.declared.image.OpEntry.{OpEntry}
 use Rattle.bk_code.specs.declared.image.Parameter.{Parameter}
 use Rattle.bk_code.specs.declared.instruction.Inst.{Inst}
 use Rattle.bk_code.specs.declared.instruction.Inst.TheVariants.{Push, Load, Store, ALoad, AStore, Jump, JumpZero}
-use Rattle.bk_image.specs.Faults.{ops_place, count_place}
-use Rattle.bk_image.specs.Spelling.{number, signed, text, set, sets, kind_number, parameter, parameters, entry, entries, array, inst, magic, header, spelling}
+use Rattle.bk_image.specs.declared.version.ImageVersion.{ImageVersion}
+use Rattle.bk_image.specs.declared.version.ImageVersion.TheVariants.{First, Second}
+use Rattle.bk_image.specs.Faults.{cells_place, sets_place, ops_place, count_place}
+use Rattle.bk_image.specs.Spelling.{number, signed, text, set, sets, kind_number, parameter, parameters, entry, entries, array, inst, magic, version, header, laid_out}
 
 pub two_bytes : (n : ℕ) → length (number w16 n) ≡ 2
 unfolding number
@@ -101,26 +103,40 @@ pub entries_size : (es : List OpEntry) → length (entries es) ≡ 2 + length (f
 unfolding entries
 entries_size es = omega (arith, length-append (number w16 (length es)) (flat_map entry es), two_bytes (length es))
 
-pub header_size : (image : Image) → length (header image) ≡ count_place image + 4
-unfolding header magic
-header_size image =
-    let m : List ℕ = magic ++ number w16 1 in
+-- where the number of cells stands
+start_size : (v : ImageVersion) (top : ℤ) → length (magic ++ version v top) ≡ cells_place v
+unfolding magic version
+start_size First top = omega (arith, length-append magic (number w16 1), two_bytes 1)
+start_size Second top = omega (arith, length-append magic (number w16 2 ++ signed w64 top), length-append (number w16 2) (signed w64 top), two_bytes 2, eight_signed top)
+
+header_size : (v : ImageVersion) (image : Image) → length (header v image) ≡ count_place v image + 4
+unfolding header
+header_size v image =
+    let m : List ℕ = magic ++ version v image.max in
     omega (
       arith,
       length-append (m ++ number w32 image.cells ++ sets image.sets ++ entries image.ops) (number w32 (length image.code)),
       length-append (m ++ number w32 image.cells ++ sets image.sets) (entries image.ops),
       length-append (m ++ number w32 image.cells) (sets image.sets),
       length-append m (number w32 image.cells),
-      length-append magic (number w16 1),
-      two_bytes 1,
+      start_size v image.max,
       four_bytes image.cells,
       four_bytes (length image.code),
     )
 
-pub spelling_size : (image : Image) → length (spelling image) ≡ count_place image + 4 + length (flat_map inst image.code)
-unfolding spelling
-spelling_size image = omega (arith, length-append (header image) (flat_map inst image.code), header_size image)
+pub laid_out_size : (v : ImageVersion) (image : Image) → length (laid_out v image) ≡ count_place v image + 4 + length (flat_map inst image.code)
+unfolding laid_out
+laid_out_size v image = omega (arith, length-append (header v image) (flat_map inst image.code), header_size v image)
+
+-- where the first set stands, and where the last one ends
+pub sets_end : (v : ImageVersion) (image : Image) → sets_place v + length (flat_map set image.sets) + 2 ≡ ops_place v image
+sets_end v image = omega (arith, sets_size image.sets)
 
 -- where the first operation stands, and where the last one ends
-pub ops_end : (image : Image) → ops_place image + length (flat_map entry image.ops) ≡ count_place image
-ops_end image = omega (arith, entries_size image.ops)
+pub ops_end : (v : ImageVersion) (image : Image) → ops_place v image + length (flat_map entry image.ops) ≡ count_place v image
+ops_end v image = omega (arith, entries_size image.ops)
+
+-- the number of cells stands after the first six bytes
+pub cells_past : (v : ImageVersion) → 6 ≤ cells_place v
+cells_past First = omega arith
+cells_past Second = omega arith

@@ -11,7 +11,8 @@ use Rattle.bk_code.specs.declared.instruction.Inst.TheVariants.{Push, Load, Stor
 use Rattle.bk_image.specs.declared.fault.LoadFault.{LoadFault}
 use Rattle.bk_image.specs.declared.fault.LoadFault.TheVariants.{Short, Magic, Version, BadInst, BadJump, BadSlot, Stack, Extra}
 use Rattle.bk_image.specs.declared.fault.LoadFault.TheVariants as faults
-use Rattle.bk_image.specs.Spelling.{spelling, FitsFields, text, parameters}
+use Rattle.bk_image.specs.declared.version.ImageVersion.{ImageVersion}
+use Rattle.bk_image.specs.Spelling.{laid_out, version_of, spelling, FitsFields, text, parameters}
 use Rattle.bk_image.specs.Reading.{layout_of, Fails}
 use Rattle.bk_image.specs.Faults.{IsFirst, IsParametersFault, IsEntryFault, IsArrayFault, IsOperandFault, IsNumberFault}
 use Rattle.bk_image.specs.Stack.{IsFirstStackFault}
@@ -19,20 +20,24 @@ use Rattle.bk_image.specs.Encoding.{Encodes, IsFirstNumberFault, IsFirstDepthFau
 use Rattle.bk_image.specs.Laws.{HasOneImage, EncodesOne, AreBytes, FaultsExclude}
 use Rattle.bk_image.proofs.Fields.{IsBytes}
 use Rattle.bk_image.proofs.Layouts.{layout_fault, layout_again, known_magic, known_version, known_inst, known_extra}
+use Rattle.bk_image.specs.Soundness.{AreRight}
 use Rattle.bk_image.proofs.FirstNumber.{no_number_fault}
 use Rattle.bk_image.proofs.Judging.{no_stack_fault}
 
 abbrev pub read_as : Image → Result Image LoadFault
 read_as image = Ok image
 
-pub image_is : (a b : Image) → read_as a ≡ read_as b → a ≡ b
-image_is a b e = cc
+abbrev pub laid_as : ImageVersion × Image → Result (ImageVersion × Image) LoadFault
+laid_as x = Ok x
 
-pub one_layout : (a b : Image) → FitsFields a → FitsFields b → spelling a ≡ spelling b → a ≡ b
-one_layout a b p q e = image_is a b (sym (layout_again a p) ∙ ap layout_of e ∙ layout_again b q)
+pub layout_is : (x y : ImageVersion × Image) → laid_as x ≡ laid_as y → x ≡ y
+layout_is x y e = cc
+
+pub one_layout : (v w : ImageVersion) (a b : Image) → FitsFields v a → FitsFields w b → laid_out v a ≡ laid_out w b → ◌≡◌ {A = ImageVersion × Image} (v, a) (w, b)
+one_layout v w a b p q e = layout_is (v, a) (w, b) (sym (layout_again v a p) ∙ ap layout_of e ∙ layout_again w b q)
 
 pub one_image : HasOneImage
-one_image a b p q e = one_layout a b p.fits q.fits e
+one_image a b p q e = ap (λ (x : ImageVersion × Image). x.1) (one_layout (version_of a) (version_of b) a b p.fits q.fits e)
 
 pub encodes_one : EncodesOne
 encodes_one bytes a b p q = one_image a b p.spelled q.spelled (sym p.is ∙ q.is)
@@ -46,13 +51,14 @@ bytes_fit bytes h i =
 
 reads_on : (bytes : List ℕ) (image : Image) (e : LoadFault) → Encodes bytes image → layout_of bytes ≡ Err e → ⊥
 reads_on bytes image e h failed =
-    let read : layout_of bytes ≡ Ok image = ap layout_of h.is ∙ layout_again image h.spelled.fits in
+    let read : layout_of bytes ≡ Ok (version_of image, image) = ap layout_of h.is ∙ layout_again (version_of image) image h.spelled.fits in
     cc
 
 number_wrong : (bytes : List ℕ) (image : Image) (e : LoadFault) → Encodes bytes image → IsFirstNumberFault bytes e → ⊥
 number_wrong bytes image e h f =
-    let same : f.image ≡ image = one_layout f.image image f.fits h.spelled.fits (sym f.is ∙ h.is) in
-    no_number_fault image e h.loadable.numbered h.spelled.few_sets (subst (λ i. IsNumberFault i e) same f.first.is)
+    let same : ◌≡◌ {A = ImageVersion × Image} (f.version, f.image) (version_of image, image) = one_layout f.version (version_of image) f.image image f.fits h.spelled.fits (sym f.is ∙ h.is) in
+    let right : AreRight (version_of image) image = record { numbered = h.loadable.numbered; version = refl; few_sets = h.spelled.few_sets; few_elements = h.spelled.few_elements } in
+    no_number_fault (version_of image) image e right (subst (λ (x : ImageVersion × Image). IsNumberFault x.0 x.1 e) same f.first.is)
 
 stack_wrong : (bytes : List ℕ) (image : Image) (at : ℕ) → Encodes bytes image → IsFirstDepthFault bytes at → ⊥
 stack_wrong bytes image at h f =
@@ -61,7 +67,7 @@ stack_wrong bytes image at h f =
     no_stack_fault image first.inst h.loadable first.is
 
 no_fault : (bytes : List ℕ) (image : Image) (e : LoadFault) → IsBytes bytes → Encodes bytes image → IsFault bytes e → e ≡ faults.Memory
-no_fault bytes image (Short at) fits h f = absurd (f.whole image [] h.spelled.fits (h.is ∙ sym (append-nil (spelling image))))
+no_fault bytes image (Short at) fits h f = absurd (f.whole (version_of image) image [] h.spelled.fits (h.is ∙ sym (append-nil (spelling image))))
 no_fault bytes image Magic fits h f = absurd (reads_on bytes image Magic h (known_magic bytes fits f))
 no_fault bytes image (Version n) fits h f = absurd (reads_on bytes image (Version n) h (known_version bytes n f))
 no_fault bytes image (BadInst at) fits h f = absurd (reads_on bytes image (BadInst at) h (known_inst bytes at f))
@@ -109,19 +115,21 @@ operand_kind image k at (Jump distance) e f = (_, inr f.0)
 operand_kind image k at (JumpZero distance) e f = (_, inr f.0)
 operand_kind image k at _ e f = absurd f
 
-pub number_kind : (image : Image) (e : LoadFault) → IsNumberFault image e → Kind e
-number_kind image e (inl f) = (6, inl f.0)
-number_kind image e (inr (inl f)) = (10, inl f.0)
-number_kind image e (inr (inr (inl (k, op, get, f)))) = entry_kind image k _ op e f
-number_kind image e (inr (inr (inr (inl f)))) = (_, inr f.0)
-number_kind image e (inr (inr (inr (inr (k, i, get, inl f))))) = operand_kind image k _ i e f
-number_kind image e (inr (inr (inr (inr (k, i, get, inr f))))) = (_, inr f.0)
+pub number_kind : (v : ImageVersion) (image : Image) (e : LoadFault) → IsNumberFault v image e → Kind e
+number_kind v image e (inl f) = (6, inl f.0)
+number_kind v image e (inr (inl f)) = (_, inl f.0)
+number_kind v image e (inr (inr (inl f))) = (_, inl f.0)
+number_kind v image e (inr (inr (inr (inl (k, names, get, f))))) = (_, inl f.0)
+number_kind v image e (inr (inr (inr (inr (inl (k, op, get, f)))))) = entry_kind image k _ op e f
+number_kind v image e (inr (inr (inr (inr (inr (inl f)))))) = (_, inr f.0)
+number_kind v image e (inr (inr (inr (inr (inr (inr (k, i, get, inl f))))))) = operand_kind image k _ i e f
+number_kind v image e (inr (inr (inr (inr (inr (inr (k, i, get, inr f))))))) = (_, inr f.0)
 
 -- the first fault of the numbers is one of the bytes
-pub number_fault_of : (bytes : List ℕ) (image : Image) (e : LoadFault) → FitsFields image → bytes ≡ spelling image → IsFirst (IsNumberFault image) e → IsFault bytes e
-number_fault_of bytes image e fits is first =
-    let f : IsFirstNumberFault bytes e = record { image = image; fits = fits; is = is; first = first } in
-    let kind = number_kind image e first.is in
+pub number_fault_of : (bytes : List ℕ) (v : ImageVersion) (image : Image) (e : LoadFault) → FitsFields v image → bytes ≡ laid_out v image → IsFirst (IsNumberFault v image) e → IsFault bytes e
+number_fault_of bytes v image e fits is first =
+    let f : IsFirstNumberFault bytes e = record { version = v; image = image; fits = fits; is = is; first = first } in
+    let kind = number_kind v image e first.is in
     elim kind.1 [
       | inl slot ↦ subst (IsFault bytes) (sym slot) (subst (IsFirstNumberFault bytes) slot f)
       | inr jump ↦ subst (IsFault bytes) (sym jump) (subst (IsFirstNumberFault bytes) jump f)

@@ -5,7 +5,8 @@ use Rattle.bk_code.specs.Checks.{IsNumbered, IsLoadable}
 use Rattle.bk_image.specs.declared.fault.LoadFault.{LoadFault}
 use Rattle.bk_image.specs.declared.fault.LoadFault.TheVariants.{Short, Magic, Version, BadInst, BadJump, BadSlot, Stack, Extra}
 use Rattle.bk_image.specs.declared.fault.LoadFault.TheVariants as faults
-use Rattle.bk_image.specs.Spelling.{FitsFields, HasSpelling, spelling}
+use Rattle.bk_image.specs.declared.version.ImageVersion.{ImageVersion}
+use Rattle.bk_image.specs.Spelling.{laid_out, FitsFields, HasSpelling, spelling}
 use Rattle.bk_image.specs.Faults.{IsMagicFault, IsVersionFault, IsInstFault, IsExtraFault, IsShortFault, IsFirst, IsNumberFault}
 use Rattle.bk_image.specs.Stack.{IsFirstStackFault}
 
@@ -15,12 +16,13 @@ pub record Encodes (bytes : List ℕ) (image : Image) : Type 0 where
   pub spelled : HasSpelling image
   pub is : bytes ≡ spelling image
 
--- all of the bytes are laid out as an image, and this is the first fault of its numbers
+-- all of the bytes are laid out as an image in a version, and this is the first fault of its numbers
 pub record IsFirstNumberFault (bytes : List ℕ) (e : LoadFault) : Type 0 where
+  pub version : ImageVersion
   pub image : Image
-  pub fits : FitsFields image
-  pub is : bytes ≡ spelling image
-  pub first : IsFirst (IsNumberFault image) e
+  pub fits : FitsFields version image
+  pub is : bytes ≡ laid_out version image
+  pub first : IsFirst (IsNumberFault version image) e
 
 -- all of the bytes are the spelling of an image whose numbers are right, and this is the first fault of its stack
 pub record IsFirstDepthFault (bytes : List ℕ) (at : ℕ) : Type 0 where

@@ -8,12 +8,14 @@ use Rattle.bk_code.specs.declared.image.OpEntry.{OpEntry}
 use Rattle.bk_code.specs.declared.image.Parameter.{Parameter}
 use Rattle.bk_code.specs.declared.instruction.Inst.{Inst}
 use Rattle.bk_code.specs.declared.instruction.Inst.TheVariants.{Push, Load, Store, ALoad, AStore, Jump, JumpZero}
-use Rattle.bk_code.specs.Numbers.{int_max, IsWithin}
+use Rattle.bk_code.specs.Numbers.{int_max, default_max, IsRange, IsWithin}
 use Rattle.bk_code.specs.Checks.{IsKind, IsTarget, IsLeaving}
 use Rattle.bk_image.specs.declared.fault.LoadFault.{LoadFault}
 use Rattle.bk_image.specs.declared.fault.LoadFault.TheVariants.{Short, Magic, Version, BadInst, BadJump, BadSlot, Stack, Extra}
-use Rattle.bk_image.specs.Spelling.{number, text, parameter, parameters, entry, sets, entries}
-use Rattle.bk_image.specs.Spelling.{opcode, inst, magic, header, spelling, FitsFields}
+use Rattle.bk_image.specs.declared.version.ImageVersion.{ImageVersion}
+use Rattle.bk_image.specs.declared.version.ImageVersion.TheVariants.{First, Second}
+use Rattle.bk_image.specs.Spelling.{number, text, set, parameter, parameters, entry, sets, entries}
+use Rattle.bk_image.specs.Spelling.{opcode, inst, magic, header, laid_out, FitsFields, HasFewElements}
 
 -- ---- the layout, in the order of reading
 
@@ -22,12 +24,13 @@ pub record IsMagicFault (bytes : List ℕ) : Type 0 where
   pub stands : 4 ≤ length bytes
   pub other : take 4 bytes ≢ magic
 
--- after the first four bytes stands this version, which is not 1
+-- after the first four bytes stands this version, which is neither 1 nor 2
 pub record IsVersionFault (bytes : List ℕ) (version : ℕ) : Type 0 where
   pub rest : List ℕ
   pub is : bytes ≡ magic ++ number w16 version ++ rest
   pub fits : version < 2 ^ 16
-  pub other : version ≢ 1
+  pub not_first : version ≢ 1
+  pub not_second : version ≢ 2
 
 -- the byte begins an instruction
 abbrev pub IsOpcode : ℕ → Type 0
@@ -35,24 +38,26 @@ IsOpcode byte = (i : Inst) × (opcode i ≡ byte)
 
 -- the bytes are those of an image up to the place of one of its instructions, and there stands a byte that begins none
 pub record IsInstFault (bytes : List ℕ) (at : ℕ) : Type 0 where
+  pub version : ImageVersion
   pub image : Image
-  pub fits : FitsFields image
+  pub fits : FitsFields version image
   pub before : ℕ
   pub more : before < length image.code
   pub byte : ℕ
   pub rest : List ℕ
-  pub is : bytes ≡ (header image ++ flat_map inst (take before image.code)) ++ byte ∷ rest
+  pub is : bytes ≡ (header version image ++ flat_map inst (take before image.code)) ++ byte ∷ rest
   pub none : IsOpcode byte → ⊥
-  pub place : at ≡ length (header image ++ flat_map inst (take before image.code))
+  pub place : at ≡ length (header version image ++ flat_map inst (take before image.code))
 
 -- an image ends at the place, and more bytes follow
 pub record IsExtraFault (bytes : List ℕ) (at : ℕ) : Type 0 where
+  pub version : ImageVersion
   pub image : Image
-  pub fits : FitsFields image
+  pub fits : FitsFields version image
   pub rest : List ℕ
-  pub is : bytes ≡ spelling image ++ rest
+  pub is : bytes ≡ laid_out version image ++ rest
   pub some : rest ≢ []
-  pub place : at ≡ length (spelling image)
+  pub place : at ≡ length (laid_out version image)
 
 -- the bytes end too early: before the image whose layout they begin is whole, and nothing before their end is at fault.
 -- It is said by what they don't have: none of the layout's other faults, and no whole image that they are or begin with
@@ -61,7 +66,7 @@ pub record IsShortFault (bytes : List ℕ) (at : ℕ) : Type 0 where
   pub magic : IsMagicFault bytes → ⊥
   pub version : (n : ℕ) → IsVersionFault bytes n → ⊥
   pub insts : (n : ℕ) → IsInstFault bytes n → ⊥
-  pub whole : (image : Image) (rest : List ℕ) → FitsFields image → bytes ≡ spelling image ++ rest → ⊥
+  pub whole : (v : ImageVersion) (image : Image) (rest : List ℕ) → FitsFields v image → bytes ≡ laid_out v image ++ rest → ⊥
 
 -- ---- the numbers
 -- the place where a fault stands
@@ -132,18 +137,39 @@ abbrev pub IsOneInstFault : Image → ℕ → ℕ → Inst → LoadFault → Typ
 IsOneInstFault image k at i e =
     IsOperandFault image k at i e ⊎ ((e ≡ BadJump at) × (k + 1 ≡ length image.code) × (IsLeaving i → ⊥))
 
--- where the operations and the number of instructions stand
-abbrev pub ops_place : Image → ℕ
-ops_place image = 10 + length (sets image.sets) + 2
+-- where the number of cells stands: after the version, or in the second one after MAXINT
+abbrev pub cells_place : ImageVersion → ℕ
+cells_place First = 6
+cells_place Second = 14
+
+-- where the first set stands: after the number of cells and that of the sets
+abbrev pub sets_place : ImageVersion → ℕ
+sets_place v = cells_place v + 6
+
+-- where the first operation stands: after the sets and the number of operations
+abbrev pub ops_place : ImageVersion → Image → ℕ
+ops_place v image = cells_place v + 4 + length (sets image.sets) + 2
 
 -- where the number of instructions stands, after the operations
-abbrev pub count_place : Image → ℕ
-count_place image = 10 + length (sets image.sets) + length (entries image.ops)
+abbrev pub count_place : ImageVersion → Image → ℕ
+count_place v image = cells_place v + 4 + length (sets image.sets) + length (entries image.ops)
 
--- the faults of the numbers: too many cells, too many sets, one of an operation, no instruction, or one of an instruction
-abbrev pub IsNumberFault : Image → LoadFault → Type 0
-IsNumberFault image e =
-    ((e ≡ BadSlot 6) × (MOST_CELLS < image.cells)) ⊎ ((e ≡ BadSlot 10) × (MOST_SETS < length image.sets))
-    ⊎ IsFaultIn entry (IsEntryFault image) (ops_place image) image.ops e
-    ⊎ ((e ≡ BadJump (count_place image)) × (length image.code ≡ 0))
-    ⊎ IsFaultIn inst (IsOneInstFault image) (count_place image + 4) image.code e
+-- MAXINT stands there, and is none, or is the one of the first version
+abbrev pub IsWrongMax : ImageVersion → ℤ → Type 0
+IsWrongMax First max = ⊥
+IsWrongMax Second max = (IsRange max → ⊥) ⊎ (max ≡ default_max)
+
+-- a set has too many elements; their number stands first
+abbrev pub IsSetFault : Image → ℕ → ℕ → List (List ℕ) → LoadFault → Type 0
+IsSetFault image k at names e = (e ≡ BadSlot at) × (HasFewElements (int_max image) names → ⊥)
+
+-- the faults of the numbers: MAXINT, too many cells, too many sets, one of a set, one of an operation, no instruction, or one of an
+-- instruction
+abbrev pub IsNumberFault : ImageVersion → Image → LoadFault → Type 0
+IsNumberFault v image e =
+    ((e ≡ BadSlot 6) × IsWrongMax v (int_max image)) ⊎ ((e ≡ BadSlot (cells_place v)) × (MOST_CELLS < image.cells))
+    ⊎ ((e ≡ BadSlot (cells_place v + 4)) × (MOST_SETS < length image.sets))
+    ⊎ IsFaultIn set (IsSetFault image) (sets_place v) image.sets e
+    ⊎ IsFaultIn entry (IsEntryFault image) (ops_place v image) image.ops e
+    ⊎ ((e ≡ BadJump (count_place v image)) × (length image.code ≡ 0))
+    ⊎ IsFaultIn inst (IsOneInstFault image) (count_place v image + 4) image.code e

@@ -13,6 +13,8 @@ use Rattle.bk_code.specs.declared.image.CellKind.TheVariants.{Integer, Bool, Set
 use Rattle.bk_code.specs.declared.instruction.Inst.{Inst}
 use Rattle.bk_code.specs.declared.instruction.Inst.TheVariants.{Push, Load, Store, ALoad, AStore, Add, Sub, Mul, Div}
 use Rattle.bk_code.specs.declared.instruction.Inst.TheVariants.{Mod, Neg, Eq, Lt, Le, Not, Jump, JumpZero, Ret}
+use Rattle.bk_image.specs.declared.version.ImageVersion.{ImageVersion}
+use Rattle.bk_image.specs.declared.version.ImageVersion.TheVariants.{First, Second}
 use Rattle.bk_image.specs.declared.fault.LoadFault.{LoadFault}
 use Rattle.bk_image.specs.declared.fault.LoadFault.TheVariants.{Short, Magic, Version, BadInst, Extra}
 use Rattle.bk_image.specs.declared.fault.LoadFault.TheVariants as faults
@@ -147,11 +149,16 @@ magic_at len bytes = do
   n ← number_at len w32 bytes
   if n.0 == 0x424B494D then Ok n else Err Magic
 
--- the version, which has to be 1
-unfoldable pub version_at : ℕ → List ℕ → Read ℕ
+-- the version, which has to be 1 or 2
+unfoldable pub version_at : ℕ → List ℕ → Read ImageVersion
 version_at len bytes = do
   n ← number_at len w16 bytes
-  if n.0 == 1 then Ok n else Err (Version n.0)
+  if n.0 == 1 then Ok (First, n.1) else if n.0 == 2 then Ok (Second, n.1) else Err (Version n.0)
+
+-- MAXINT, for which the first version has no bytes
+unfoldable pub max_at : ℕ → ImageVersion → List ℕ → Read ℤ
+max_at len First bytes = Ok (default_max, bytes)
+max_at len Second bytes = signed_at len w64 bytes
 
 -- how many instructions there are, and the instructions
 unfoldable pub code_at : ℕ → List ℕ → Read (List Inst)
@@ -160,23 +167,25 @@ code_at len bytes = do
   items_at (inst_at len) n.0 n.1
 
 -- what stands after magic and version
-unfoldable pub parts_at : ℕ → List ℕ → Read Image
-parts_at len bytes = do
-  cells ← number_at len w32 bytes
+unfoldable pub parts_at : ℕ → ImageVersion → List ℕ → Read Image
+parts_at len v bytes = do
+  max ← max_at len v bytes
+  cells ← number_at len w32 max.1
   sets ← counted_at len (set_at len) cells.1
   ops ← counted_at len (entry_at len) sets.1
   code ← code_at len ops.1
-  Ok (record { max = default_max; cells = cells.0; sets = sets.0; ops = ops.0; code = code.0 }, code.1)
+  Ok (record { max = max.0; cells = cells.0; sets = sets.0; ops = ops.0; code = code.0 }, code.1)
 
--- an image, whatever stands after it
-unfoldable pub image_at : ℕ → List ℕ → Read Image
+-- the version and the image, whatever stands after it
+unfoldable pub image_at : ℕ → List ℕ → Read (ImageVersion × Image)
 image_at len bytes = do
   magic ← magic_at len bytes
   version ← version_at len magic.1
-  parts_at len version.1
+  parts ← parts_at len version.0 version.1
+  Ok ((version.0, parts.0), parts.1)
 
--- the image that all of the bytes spell
-unfoldable pub layout_of : List ℕ → Result Image LoadFault
+-- the image that all of the bytes are laid out as, with the version
+unfoldable pub layout_of : List ℕ → Result (ImageVersion × Image) LoadFault
 layout_of bytes = do
   image ← image_at (length bytes) bytes
   if length image.1 == 0 then Ok image.0 else Err (Extra (length bytes - length image.1))

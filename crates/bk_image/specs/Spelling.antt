@@ -1,7 +1,8 @@
 -- The one spelling of an image. All numbers have their highest byte first.
-use Rattle.std.specs.Prelude.{◌≡◌, ℕ, ◌+◌, ◌<◌, ◌≤◌, ◌^◌, ℤ, List, [], ◌∷◌, ◌++◌, length, All, FitsSigned}
+use Rattle.std.specs.Prelude.{◌≡◌, ℕ, ◌+◌, ◌<◌, ◌≤◌, ◌^◌, ℤ, pos, ◌+ℤ◌, ◌≤ℤ◌, List, [], ◌∷◌, ◌++◌, length, All, FitsSigned, if◌then◌else◌}
 use Rattle.std.specs.List.{flat_map}
 use Rattle.std.specs.Int.{Width, w16, w32, w64, to_be_bytes, cast_unsigned}
+use Rattle.std.specs.Ordering.{int_eq}
 use Rattle.bk_limits.specs.declared.TheConstants.{MOST_SETS}
 use Rattle.bk_code.specs.declared.image.Image.{Image}
 use Rattle.bk_code.specs.Numbers.{int_max, default_max}
@@ -12,6 +13,8 @@ use Rattle.bk_code.specs.declared.image.CellKind.TheVariants.{Integer, Bool, Set
 use Rattle.bk_code.specs.declared.instruction.Inst.{Inst}
 use Rattle.bk_code.specs.declared.instruction.Inst.TheVariants.{Push, Load, Store, ALoad, AStore, Add, Sub, Mul, Div}
 use Rattle.bk_code.specs.declared.instruction.Inst.TheVariants.{Mod, Neg, Eq, Lt, Le, Not, Jump, JumpZero, Ret}
+use Rattle.bk_image.specs.declared.version.ImageVersion.{ImageVersion}
+use Rattle.bk_image.specs.declared.version.ImageVersion.TheVariants.{First, Second}
 
 -- a number that is not negative
 unfoldable pub number : Width → ℕ → List ℕ
@@ -103,14 +106,27 @@ sets ss = counted set ss
 unfoldable pub entries : List OpEntry → List ℕ
 entries es = counted entry es
 
--- what stands before the instructions; the version is 1
-unfoldable pub header : Image → List ℕ
-header image =
-    magic ++ number w16 1 ++ number w32 image.cells ++ sets image.sets ++ entries image.ops ++ number w32 (length image.code)
+-- the version, behind which the second one has MAXINT
+unfoldable pub version : ImageVersion → ℤ → List ℕ
+version First max = number w16 1
+version Second max = number w16 2 ++ signed w64 max
 
--- the bytes of an image
-unfoldable pub spelling : Image → List ℕ
-spelling image = header image ++ flat_map inst image.code
+-- what stands before the instructions
+unfoldable pub header : ImageVersion → Image → List ℕ
+header v image =
+    magic ++ version v (int_max image) ++ number w32 image.cells ++ sets image.sets ++ entries image.ops ++ number w32 (length image.code)
+
+-- the bytes of an image in a version
+unfoldable pub laid_out : ImageVersion → Image → List ℕ
+laid_out v image = header v image ++ flat_map inst image.code
+
+-- the version of an image is the first where its MAXINT is the one where no range is said, and the second everywhere else
+abbrev pub version_of : Image → ImageVersion
+version_of image = if int_eq (int_max image) default_max then First else Second
+
+-- the bytes of an image, in its version
+abbrev pub spelling : Image → List ℕ
+spelling image = laid_out (version_of image) image
 
 -- ---- what has a spelling
 -- a number of items fits its field
@@ -156,9 +172,14 @@ FitsInst (Jump distance) = FitsSigned w32 distance
 FitsInst (JumpZero distance) = FitsSigned w32 distance
 FitsInst _ = Unit {0}
 
--- each number of the image fits its field; MAXINT has none in version 1, and is the one where no range is said
-pub record FitsFields (image : Image) : Type 0 where
-  pub max : int_max image ≡ default_max
+-- MAXINT fits its field; where there is none it is the one where no range is said
+abbrev pub FitsMax : ImageVersion → ℤ → Type 0
+FitsMax First max = max ≡ default_max
+FitsMax Second max = FitsSigned w64 max
+
+-- each number of the image fits its field in this version
+pub record FitsFields (v : ImageVersion) (image : Image) : Type 0 where
+  pub max : FitsMax v (int_max image)
   pub cells : image.cells < 2 ^ 32
   pub few_sets : IsCountable image.sets
   pub sets : All FitsSet image.sets
@@ -167,7 +188,12 @@ pub record FitsFields (image : Image) : Type 0 where
   pub few_insts : length image.code < 2 ^ 32
   pub insts : All FitsInst image.code
 
--- and there are at most 65,534 sets. An image with another MAXINT than where no range is said has no spelling yet
+-- a set has at most max + 1 elements: 0 to max number them
+abbrev pub HasFewElements : ℤ → List (List ℕ) → Type 0
+HasFewElements max names = pos (length names) ≤ℤ (max +ℤ pos 1)
+
+-- each number of the image fits its field in its version, there are at most 65,534 sets, and none has too many elements
 pub record HasSpelling (image : Image) : Type 0 where
-  pub fits : FitsFields image
+  pub fits : FitsFields (version_of image) image
   pub few_sets : length image.sets ≤ MOST_SETS
+  pub few_elements : All (λ names. HasFewElements (int_max image) names) image.sets

@@ -15,7 +15,7 @@ pub enum LoadFault {
     /// The first four bytes are others than those of every image.
     #[error("Magic at 0")]
     Magic,
-    /// The version is this one and not 1.
+    /// The version is this one, which is neither 1 nor 2.
     #[error("Version at 4")]
     Version(u16),
     /// The byte stands where an instruction begins, and begins none.

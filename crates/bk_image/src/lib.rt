@@ -7,6 +7,7 @@ mod laws;
 mod loader;
 mod numbers;
 mod reading;
+mod version;
 mod writing;
 
 pub use bk_code::Memory;

@@ -26,8 +26,8 @@ fn load_in_rounds(alloc: Global, bytes: &[u8]) -> Result<Image, LoadFault>
     ensures found { IfOk result (λ image. Encodes bytes.now image) }
     ensures fault { IfErr result (IsFault bytes.now) }
 {
-    let image = layout(alloc, bytes)?;
-    if let Some(fault) = number_fault(&image) {
+    let (version, image) = layout(alloc, bytes)?;
+    if let Some(fault) = number_fault(version, &image) {
         return Err(fault);
     }
     match stack_fault(alloc, &image)? {

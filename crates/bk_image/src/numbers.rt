@@ -1,18 +1,21 @@
 //! The numbers of an image: the first that is outside its range, in the order of the bytes.
 //!
 //! `at` is the place where a part begins.
-ghost use Rattle.std.specs.Prelude.{◌≡◌, ◌<◌, ◌≤◌, ◌+◌, ◌*◌, ◌^◌, ◌↔◌, IsTrue, length, All, pos, ◌+ℤ◌, ◌-ℤ◌, MatchOption, MatchBool};
+ghost use Rattle.std.specs.Prelude.{◌≡◌, ◌<◌, ◌≤◌, ◌+◌, ◌*◌, ◌^◌, ◌↔◌, IsTrue, length, All, pos, ◌+ℤ◌, ◌-ℤ◌, ◌<ℤ◌, MatchOption, MatchBool};
 ghost use Rattle.std.specs.List.{flat_map};
 ghost use Rattle.bk_code.specs.Numbers.{int_max, IsRange, IsWithin};
 ghost use Rattle.bk_code.specs.Checks as checks;
 ghost use Rattle.bk_image.specs.Spelling as spell;
-ghost use Rattle.bk_image.specs.Soundness.{IsSound, AreSound};
+ghost use Rattle.bk_image.specs.Spelling.{version_of};
+ghost use Rattle.bk_image.specs.Soundness.{IsSound, AreSound, IsRightMax, AreRight, HaveFewElements};
 ghost use Rattle.bk_image.specs.Faults.{IsFirst, IsFaultIn, IsParameterFault, IsParametersFault, IsEntryFault, IsArrayFault};
-ghost use Rattle.bk_image.specs.Faults.{HasIndexOutside, IsOperandFault, IsOneInstFault, IsNumberFault, ops_place, count_place};
+ghost use Rattle.bk_image.specs.Faults.{HasIndexOutside, IsOperandFault, IsOneInstFault, IsSetFault, IsNumberFault};
+ghost use Rattle.bk_image.specs.Faults.{cells_place, ops_place, count_place};
 
 use crate::LoadFault;
-use bk_code::{CellKind, Image, Inst, NameText, NameTexts, OpEntry, Parameter};
-use bk_limits::{MOST_CELLS, MOST_SETS};
+use crate::version::ImageVersion;
+use bk_code::{CellKind, DEFAULT_MAX, Image, Inst, NameText, NameTexts, OpEntry, Parameter};
+use bk_limits::{GREATEST_MAXINT, MOST_CELLS, MOST_SETS};
 
 fn is_in_range(image: &Image, n: i64) -> bool
     requires { IsRange (int_max image.now) }
@@ -274,20 +277,54 @@ fn entries_end(at: usize, entries: &[OpEntry]) -> usize
     place
 }
 
-// Where the operations begin.
-fn ops_begin(image: &Image) -> usize
-    requires { ops_place image.now < 2 ^ 64 }
-    ensures { result ≡ ops_place image.now }
+// The version of an image by its MAXINT.
+#[tactic(auto, using(crate::proofs::Versions::is_first, crate::proofs::Versions::is_second))]
+pub fn version_of(image: &Image) -> ImageVersion
+    ensures { result ≡ version_of image.now }
 {
-    sets_end(12, image.sets.as_slice()) + 2
+    if image.int_max() == DEFAULT_MAX {
+        ImageVersion::First
+    } else {
+        ImageVersion::Second
+    }
+}
+
+// Where the number of cells stands.
+fn cells_begin(version: ImageVersion) -> usize
+    ensures place { result ≡ cells_place version }
+    ensures few { result ≤ 14 }
+{
+    match version {
+        ImageVersion::First => 6,
+        ImageVersion::Second => 14,
+    }
+}
+
+// Where the operations begin.
+fn ops_begin(version: ImageVersion, image: &Image) -> usize
+    requires { ops_place version image.now < 2 ^ 64 }
+    ensures { result ≡ ops_place version image.now }
+{
+    sets_end(cells_begin(version) + 6, image.sets.as_slice()) + 2
 }
 
 /// Where the instructions begin.
 pub fn code_begin(image: &Image) -> usize
     requires { length (spell.spelling image.now) < 2 ^ 64 }
-    ensures { result ≡ count_place image.now + 4 }
+    ensures { result ≡ count_place (version_of image.now) image.now + 4 }
 {
-    entries_end(ops_begin(image), image.ops.as_slice()) + 4
+    entries_end(ops_begin(version_of(image), image), image.ops.as_slice()) + 4
+}
+
+// Whether the MAXINT of an image in this version is one, and in the second another than that of the first.
+fn has_right_max(version: ImageVersion, image: &Image) -> bool
+    ensures { IsTrue result ↔ IsRightMax version (int_max image.now) }
+{
+    let max = image.int_max();
+    match version {
+        ImageVersion::First => true,
+        ImageVersion::Second => 1 <= max && max <= GREATEST_MAXINT && max != DEFAULT_MAX,
+    }
 }
 
 fn has_too_many_sets(image: &Image) -> bool
@@ -296,21 +333,62 @@ fn has_too_many_sets(image: &Image) -> bool
     image.sets.as_slice().len() > MOST_SETS
 }
 
-/// The first number of an image that is outside its range.
-pub fn number_fault(image: &Image) -> Option<LoadFault>
-    requires range { IsRange (int_max image.now) }
-    requires few { length image.now.code < 2 ^ 32 }
-    requires room { length (spell.spelling image.now) < 2 ^ 64 }
-    ensures { MatchOption result (checks.IsNumbered image.now × (length image.now.sets ≤ MOST_SETS))
-        (λ e. IsFirst (IsNumberFault image.now) e) }
+// Whether there are more elements than 0 to MAXINT can number.
+fn has_too_many_elements(image: &Image, names: &[NameText]) -> bool
+    ensures { MatchBool result ((int_max image.now +ℤ pos 1) <ℤ pos (length names.now)) (spell.HasFewElements (int_max image.now) names.now) }
 {
-    if image.cells > MOST_CELLS {
+    names.len() as i128 > i128::from(image.int_max()) + 1
+}
+
+// The first of the sets that has too many elements; they begin at the place.
+fn sets_fault(image: &Image, at: usize, sets: &[NameTexts]) -> Option<LoadFault>
+    requires { at + length (flat_map spell.set sets.now) < 2 ^ 64 }
+    ensures { MatchOption result (All (λ names. spell.HasFewElements (int_max image.now) names) sets.now)
+        (λ e. IsFirst (IsFaultIn spell.set (IsSetFault image.now) at sets.now) e) }
+{
+    let mut place = at;
+    for names in sets {
+        if has_too_many_elements(image, names.as_slice()) {
+            return Some(LoadFault::BadSlot(place));
+        }
+        place = names_end(place + 2, names.as_slice());
+    }
+    None
+}
+
+/// The first number of an image in this version that is outside its range.
+pub fn number_fault(version: ImageVersion, image: &Image) -> Option<LoadFault>
+    requires fits { spell.FitsFields version image.now }
+    requires room { length (spell.laid_out version image.now) < 2 ^ 64 }
+    ensures { MatchOption result (AreRight version image.now) (λ e. IsFirst (IsNumberFault version image.now) e) }
+{
+    if !has_right_max(version, image) {
         return Some(LoadFault::BadSlot(6));
     }
-    if has_too_many_sets(image) {
-        return Some(LoadFault::BadSlot(10));
+    let cells = cells_begin(version);
+    if image.cells > MOST_CELLS {
+        return Some(LoadFault::BadSlot(cells));
     }
-    let ops = ops_begin(image);
+    if has_too_many_sets(image) {
+        return Some(LoadFault::BadSlot(cells + 4));
+    }
+    if let Some(fault) = sets_fault(image, cells + 6, image.sets.as_slice()) {
+        return Some(fault);
+    }
+    number_fault_behind(version, image)
+}
+
+// The first number behind the sets that is outside its range, where all up to there are right.
+fn number_fault_behind(version: ImageVersion, image: &Image) -> Option<LoadFault>
+    requires max { IsRightMax version (int_max image.now) }
+    requires fits { spell.FitsFields version image.now }
+    requires room { length (spell.laid_out version image.now) < 2 ^ 64 }
+    requires cells { image.now.cells ≤ MOST_CELLS }
+    requires sets { length image.now.sets ≤ MOST_SETS }
+    requires elements { HaveFewElements image.now }
+    ensures { MatchOption result (AreRight version image.now) (λ e. IsFirst (IsNumberFault version image.now) e) }
+{
+    let ops = ops_begin(version, image);
     if let Some(fault) = entries_fault(image, ops, image.ops.as_slice()) {
         return Some(fault);
     }

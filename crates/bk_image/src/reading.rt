@@ -6,9 +6,10 @@ ghost use Rattle.std.specs.Prelude.{◌≡◌, ◌<◌, ◌^◌, length, Some, N
 ghost use Rattle.std.specs.Int.{w16, w32, w64};
 ghost use Rattle.bk_image.specs.Reading.{Gives, number_at, signed_at, text_at, set_at, counted_at, kind_of, parameter_at};
 ghost use Rattle.bk_image.specs.Reading.{parameters_at, entry_at, plain_inst, array_at, operands_at, inst_at, magic_at};
-ghost use Rattle.bk_image.specs.Reading.{version_at, code_at, parts_at, image_at, layout_of, items_at};
+ghost use Rattle.bk_image.specs.Reading.{version_at, max_at, code_at, parts_at, image_at, layout_of, items_at};
 
 use crate::LoadFault;
+use crate::version::ImageVersion;
 use bk_code::{
     CellKind, Code, DEFAULT_MAX, ElemNames, Image, Inst, NameText, NameTexts, OpEntries, OpEntry,
     Parameter, Parameters, Sequence,
@@ -363,26 +364,43 @@ fn checked_magic_at(len: usize, bytes: &[u8]) -> Result<(u32, &[u8]), LoadFault>
 }
 
 #[tactic(auto, unfolding(crate::specs::Reading::version_at))]
-fn checked_version_at(len: usize, bytes: &[u8]) -> Result<(u16, &[u8]), LoadFault>
+fn known_version_at(len: usize, bytes: &[u8]) -> Result<(ImageVersion, &[u8]), LoadFault>
     ensures { Gives (λ x. (x.0, x.1.now)) result (version_at len bytes.now) }
 {
     let (version, rest) = u16_at(len, bytes)?;
-    if version != 1 {
-        return Err(LoadFault::Version(version));
+    match version {
+        1 => Ok((ImageVersion::First, rest)),
+        2 => Ok((ImageVersion::Second, rest)),
+        _ => Err(LoadFault::Version(version)),
     }
-    Ok((version, rest))
+}
+
+#[tactic(auto, unfolding(crate::specs::Reading::max_at))]
+fn greatest_at(len: usize, version: ImageVersion, bytes: &[u8]) -> Result<(i64, &[u8]), LoadFault>
+    ensures { Gives (λ x. (x.0, x.1.now)) result (max_at len version bytes.now) }
+{
+    match version {
+        ImageVersion::First => Ok((DEFAULT_MAX, bytes)),
+        ImageVersion::Second => i64_at(len, bytes),
+    }
 }
 
 #[tactic(auto, unfolding(crate::specs::Reading::parts_at))]
-fn all_parts_at(alloc: Global, len: usize, bytes: &[u8]) -> Result<(Image, &[u8]), LoadFault>
-    ensures { Gives (λ x. (x.0, x.1.now)) result (parts_at len bytes.now) }
+fn all_parts_at(
+    alloc: Global,
+    len: usize,
+    version: ImageVersion,
+    bytes: &[u8],
+) -> Result<(Image, &[u8]), LoadFault>
+    ensures { Gives (λ x. (x.0, x.1.now)) result (parts_at len version bytes.now) }
 {
-    let (cells, rest) = u32_at(len, bytes)?;
+    let (max, rest) = greatest_at(len, version, bytes)?;
+    let (cells, rest) = u32_at(len, rest)?;
     let (sets, rest) = all_sets_at(alloc, len, rest)?;
     let (ops, rest) = all_operations_at(alloc, len, rest)?;
     let (code, rest) = counted_code_at(alloc, len, rest)?;
     let image = Image {
-        max: DEFAULT_MAX,
+        max,
         cells,
         sets,
         ops,
@@ -392,23 +410,28 @@ fn all_parts_at(alloc: Global, len: usize, bytes: &[u8]) -> Result<(Image, &[u8]
 }
 
 #[tactic(auto, unfolding(crate::specs::Reading::image_at))]
-fn whole_image_at(alloc: Global, len: usize, bytes: &[u8]) -> Result<(Image, &[u8]), LoadFault>
-    ensures { Gives (λ x. (x.0, x.1.now)) result (image_at len bytes.now) }
+fn whole_image_at(
+    alloc: Global,
+    len: usize,
+    bytes: &[u8],
+) -> Result<((ImageVersion, Image), &[u8]), LoadFault>
+    ensures { Gives (λ x. ((x.0.0, x.0.1), x.1.now)) result (image_at len bytes.now) }
 {
     let (_, rest) = checked_magic_at(len, bytes)?;
-    let (_, rest) = checked_version_at(len, rest)?;
-    all_parts_at(alloc, len, rest)
+    let (version, rest) = known_version_at(len, rest)?;
+    let (image, rest) = all_parts_at(alloc, len, version, rest)?;
+    Ok(((version, image), rest))
 }
 
-/// The image whose layout the bytes are.
+/// The image whose layout the bytes are, with the version of the layout.
 #[tactic(auto, unfolding(crate::specs::Reading::layout_of))]
-pub fn layout(alloc: Global, bytes: &[u8]) -> Result<Image, LoadFault>
-    ensures read { Gives (λ image. image) result (layout_of bytes.now) }
+pub fn layout(alloc: Global, bytes: &[u8]) -> Result<(ImageVersion, Image), LoadFault>
+    ensures read { Gives (λ x. (x.0, x.1)) result (layout_of bytes.now) }
     ensures room { length bytes.now < 2 ^ 64 }
 {
-    let (image, rest) = whole_image_at(alloc, bytes.len(), bytes)?;
+    let (read, rest) = whole_image_at(alloc, bytes.len(), bytes)?;
     if !rest.is_empty() {
         return Err(LoadFault::Extra(bytes.len().saturating_sub(rest.len())));
     }
-    Ok(image)
+    Ok(read)
 }

@@ -5,6 +5,8 @@ ghost use Rattle.std.specs.List.{flat_map};
 ghost use Rattle.bk_code.specs.Checks.{IsLoadable};
 ghost use Rattle.bk_image.specs.Spelling as spell;
 
+use crate::numbers::version_of;
+use crate::version::ImageVersion;
 use bk_code::{CellKind, Image, Inst, Memory, NameText, NameTexts, OpEntry, Parameter};
 use std::alloc::Global;
 
@@ -191,29 +193,42 @@ fn put_code(out: &mut Vec<u8>, code: &[Inst]) -> Result<(), Memory>
     Ok(())
 }
 
+#[tactic(auto, unfolding(crate::specs::Spelling::version))]
+fn put_version(out: &mut Vec<u8>, version: ImageVersion, max: i64) -> Result<(), Memory>
+    ensures { OnOk result (out.new.items ≡ out.old.items ++ spell.version version max) }
+{
+    match version {
+        ImageVersion::First => put_u16(out, 1),
+        ImageVersion::Second => {
+            put_u16(out, 2)?;
+            put_i64(out, max)
+        }
+    }
+}
+
 #[tactic(auto, unfolding(crate::specs::Spelling::header, crate::specs::Spelling::magic))]
-fn put_header(out: &mut Vec<u8>, image: &Image) -> Result<(), Memory>
-    requires { spell.FitsFields image.now }
-    ensures { OnOk result (out.new.items ≡ out.old.items ++ spell.header image.now) }
+fn put_header(out: &mut Vec<u8>, version: ImageVersion, image: &Image) -> Result<(), Memory>
+    requires { spell.FitsFields version image.now }
+    ensures { OnOk result (out.new.items ≡ out.old.items ++ spell.header version image.now) }
 {
     out.extend_from_slice(b"BKIM")?;
-    put_u16(out, 1)?;
+    put_version(out, version, image.int_max())?;
     put_u32(out, image.cells)?;
     put_sets(out, image.sets.as_slice())?;
     put_entries(out, image.ops.as_slice())?;
     put_u32(out, image.code.as_slice().len() as u32)
 }
 
-/// The one spelling of an image that the loader takes. It is in version 1, which has no field for MAXINT: an image with another one
-/// than `DEFAULT_MAX` has no spelling, as one with too many sets has none.
-#[tactic(auto, unfolding(crate::specs::Spelling::spelling))]
+/// The one spelling of an image that the loader takes. It is in the first version where the image's MAXINT is `DEFAULT_MAX`, and in
+/// the second, which has a field for it, where it is another.
+#[tactic(auto, unfolding(crate::specs::Spelling::laid_out))]
 pub fn write(alloc: Global, image: &Image) -> Result<Vec<u8>, Memory>
     requires loadable { IsLoadable image.now }
     requires spelling { spell.HasSpelling image.now }
     ensures { IfOk result (λ bytes. bytes.items ≡ spell.spelling image.now) }
 {
     let mut out = Vec::new(alloc);
-    put_header(&mut out, image)?;
+    put_header(&mut out, version_of(image), image)?;
     put_code(&mut out, image.code.as_slice())?;
     Ok(out)
 }

@@ -6,7 +6,6 @@ use Rattle.bk_dev.specs.B0.{IsB0Development}
 use Rattle.bk_dev.specs.Development.{Development, is_complete}
 use Rattle.bk_dev.specs.Facts.{IsDevelopment}
 use Rattle.bk_b0.specs.Translation.{translation}
-use Rattle.bk_front.specs.ProjectFile.{kinds_of}
 use Rattle.bk_front.proofs.Developments.{read_are_developments, read_are_executable}
 use Rattle.bk_raw.specs.Trees.ScriptTree.{RawScript}
 use Rattle.bk_sim.specs.Follows.{Follows}
@@ -42,10 +41,10 @@ module _ (with_proofs : Bool) (files : Files) (project : List ℕ) (dev : Develo
   room = project_has_room with_proofs files project dev scripts h within
 
   pub project_development : IsDevelopment dev
-  project_development = read_are_developments (kinds_of h.components.named) h.components.texts dev h.components.lines.are.chain h.components.reads room
+  project_development = read_are_developments h.components.named h.components.texts dev h.components.lines.are h.components.reads room
 
   pub project_in_b0 : is_complete dev ≡ true → IsB0Development dev
-  project_in_b0 complete = read_are_executable (kinds_of h.components.named) h.components.texts dev h.components.lines.are.chain h.components.reads room complete
+  project_in_b0 complete = read_are_executable h.components.named h.components.texts dev h.components.lines.are h.components.reads room complete
 
 -- a project whose obligations are proved has code that follows its machine
 pub project_follows : (files : Files) (project : List ℕ) (dev : Development) (scripts : List RawScript) → ReadsProject true files project dev scripts → IsFinished dev scripts → (find : Finder) → IsSearch find → Follows find dev (translation dev)

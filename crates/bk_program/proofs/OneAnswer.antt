@@ -9,7 +9,7 @@ use Rattle.bk_code.proofs.Sessions.{one_session}
 use Rattle.bk_dev.specs.Development.{Development}
 use Rattle.bk_b0.specs.Translation.{translation}
 use Rattle.bk_front.specs.declared.project_file.ProjectLine.{ProjectLine}
-use Rattle.bk_front.specs.ProjectFile.{AreLinesOf, kinds_of}
+use Rattle.bk_front.specs.ProjectFile.{AreLinesOf}
 use Rattle.bk_front.specs.Project.{Reads}
 use Rattle.bk_front.specs.Laws.{IsOfProject}
 use Rattle.bk_front.proofs.ProjectFiles.{lines_are_one, lines_exclude}
@@ -89,11 +89,11 @@ lines_read project text stop named h are = subst IsOfProject (lines_exclude text
 lines_once : (project text : List ℕ) (s o : Stop) → StopsAtLines project text s → StopsAtLines project text o → s ≡ o
 lines_once project text s o h k = h.3 ∙ (ap (λ r. stop_of_refusal r project []) (lines_have_one_refusal text h.0 k.0 h.2 h.1 k.2 k.1) ∙ sym k.3)
 
-texts_read : (project : List ℕ) (named : List ProjectLine) (texts : List (List ℕ)) (stop : Stop) (dev : Development) → StopsAtTexts project named texts stop → Reads (kinds_of named) texts dev → ⊥
-texts_read project named texts stop dev h r = subst IsOfProject (refusals_exclude (kinds_of named) texts dev h.0 r h.2) h.1
+texts_read : (project : List ℕ) (named : List ProjectLine) (texts : List (List ℕ)) (stop : Stop) (dev : Development) → StopsAtTexts project named texts stop → Reads named texts dev → ⊥
+texts_read project named texts stop dev h r = subst IsOfProject (refusals_exclude named texts dev h.0 r h.2) h.1
 
 texts_once : (project : List ℕ) (named : List ProjectLine) (texts : List (List ℕ)) (s o : Stop) → StopsAtTexts project named texts s → StopsAtTexts project named texts o → s ≡ o
-texts_once project named texts s o h k = h.3 ∙ (ap (λ r. stop_of_refusal r project (files_of false named)) (texts_have_one_refusal (kinds_of named) texts h.0 k.0 h.2 h.1 k.2 k.1) ∙ sym k.3)
+texts_once project named texts s o h k = h.3 ∙ (ap (λ r. stop_of_refusal r project (files_of false named)) (texts_have_one_refusal named texts h.0 k.0 h.2 h.1 k.2 k.1) ∙ sym k.3)
 
 scripts_read : (proofs texts : List (List ℕ)) (stop : Stop) (scripts : List RawScript) → StopsAtScripts proofs texts stop → AreScriptsOf texts scripts → ⊥
 scripts_read proofs texts stop scripts h s = subst IsOfTexts (scripts_exclude texts scripts h.0 s h.2) h.1
@@ -102,7 +102,7 @@ scripts_once : (proofs texts : List (List ℕ)) (s o : Stop) → StopsAtScripts 
 scripts_once proofs texts s o h k = h.3 ∙ (ap (λ f. stop_of_proofs f proofs) (faults_are_one_of texts h.0 k.0 h.2 h.1 k.2 k.1) ∙ sym k.3)
 
 module _ (project : List ℕ) (named : List ProjectLine) (proofs texts proof_texts : List (List ℕ)) where
-  told_read : (stop : Stop) (dev : Development) (scripts : List RawScript) → StopsAtTold project named proofs texts proof_texts stop → Reads (kinds_of named) texts dev → AreScriptsOf proof_texts scripts → ⊥
+  told_read : (stop : Stop) (dev : Development) (scripts : List RawScript) → StopsAtTold project named proofs texts proof_texts stop → Reads named texts dev → AreScriptsOf proof_texts scripts → ⊥
   told_read stop dev scripts (inl h) r s = texts_read project named texts stop dev h r
   told_read stop dev scripts (inr h) r s = scripts_read proofs proof_texts stop scripts h.2 s
 
@@ -123,7 +123,7 @@ module _ (files : Files) (project : List ℕ) (named : List ProjectLine) (proofs
       subst (λ x. StopsAtTold project named proofs others x stop) (all_told_once files proofs proof_texts other_proofs u w)
       (subst (λ x. StopsAtTold project named proofs x proof_texts stop) (all_told_once files components texts others t v) h)
 
-  components_read : (texts proof_texts : List (List ℕ)) (stop : Stop) (dev : Development) (scripts : List RawScript) → StopsAtComponents files project named proofs stop → AreTold files components texts → AreTold files proofs proof_texts → Reads (kinds_of named) texts dev → AreScriptsOf proof_texts scripts → ⊥
+  components_read : (texts proof_texts : List (List ℕ)) (stop : Stop) (dev : Development) (scripts : List RawScript) → StopsAtComponents files project named proofs stop → AreTold files components texts → AreTold files proofs proof_texts → Reads named texts dev → AreScriptsOf proof_texts scripts → ⊥
   components_read texts proof_texts stop dev scripts (inl h) t u r s = files_told files (components ++ proofs) (texts ++ proof_texts) stop h (both_told files components proofs texts proof_texts t u)
   components_read texts proof_texts stop dev scripts (inr h) t u r s = told_read project named proofs texts proof_texts stop dev scripts (same_told h.0 h.1 texts proof_texts stop h.2 h.3 t u h.4) r s
 

@@ -4,24 +4,22 @@ use Rattle.bk_io.specs.Files.{Files}
 use Rattle.bk_dev.specs.Development.{Development}
 use Rattle.bk_statics.specs.VerdictLaws.{HasRoom}
 use Rattle.bk_raw.specs.Trees.ScriptTree.{RawScript}
-use Rattle.bk_front.specs.ProjectFile.{kinds_of}
 use Rattle.bk_po.specs.Obligations.{obligations}
 use Rattle.bk_po.specs.Limits.{PassNoLimit}
 use Rattle.bk_bounds.specs.Laws.{HasRoomFor, ReadWithinLimits}
-use Rattle.bk_bounds.proofs.Projects.{few_kinds, read_have_room, read_scripts_have_room}
+use Rattle.bk_bounds.proofs.Projects.{read_have_room, read_scripts_have_room}
 use Rattle.bk_verbs.specs.Project.{ReadsProject}
 
 module _ (with_proofs : Bool) (files : Files) (project : List ℕ) (dev : Development) (scripts : List RawScript) (h : ReadsProject with_proofs files project dev scripts) (within : PassNoLimit (obligations dev)) where
-  read : ReadWithinLimits (kinds_of h.components.named) h.components.texts dev
+  read : ReadWithinLimits h.components.named h.components.texts dev
   read = record {
-    chain = h.components.lines.are.chain;
-    few = few_kinds h.components.named h.components.lines.are;
+    lines = h.components.lines.are;
     reads = h.components.reads;
     within = within;
   }
 
   pub project_has_room : HasRoom dev
-  project_has_room = read_have_room (kinds_of h.components.named) h.components.texts dev read
+  project_has_room = read_have_room h.components.named h.components.texts dev read
 
   pub scripts_have_room : All (HasRoomFor dev) scripts
-  scripts_have_room = read_scripts_have_room (kinds_of h.components.named) h.components.texts dev read h.proof_texts scripts h.scripts_are
+  scripts_have_room = read_scripts_have_room h.components.named h.components.texts dev read h.proof_texts scripts h.scripts_are

@@ -12,21 +12,21 @@ use Rattle.bk_code.specs.declared.image.Image.{Image}
 use Rattle.bk_code.specs.Checks.{IsChecked, IsLoadable}
 use Rattle.bk_code.proofs.Sessions.{some_session}
 use Rattle.bk_code.proofs.DeadCode.{loadable_is_checked}
-use Rattle.bk_image.specs.Spelling.{FitsSet, HasSpelling, spelling}
-use Rattle.bk_dev.specs.Development.{Development, level_at, last, is_complete, int_max, default_max}
+use Rattle.bk_image.specs.Spelling.{HasFewElements, HasSpelling, spelling}
+use Rattle.bk_dev.specs.Development.{Development, level_at, last, is_complete, int_max}
 use Rattle.bk_dev.specs.B0.{IsB0Development}
 use Rattle.bk_dev.specs.Facts.{IsLawful}
-use Rattle.bk_form.specs.Table.{SetEntry, set_size, element_texts}
 use Rattle.bk_b0.specs.Translation.{translation}
 use Rattle.bk_gen.specs.Laws.{HasElementsInRange}
 use Rattle.bk_gen.proofs.Loads.{translations_load}
-use Rattle.bk_gen.proofs.Spellings.{size-fits, all-sets}
+use Rattle.bk_gen.proofs.Spellings.{elements-fit, all-sets}
 use Rattle.bk_front.specs.declared.project_file.ProjectLine.{ProjectLine}
 use Rattle.bk_front.specs.declared.refusal.Refusal.{Refusal}
 use Rattle.bk_front.specs.ProjectFile.{AreLinesOf, IsRefusalOfLines, component_lines, kinds_of}
 use Rattle.bk_front.specs.Project.{Reads, IsRefusalOf}
 use Rattle.bk_front.specs.Laws.{IsOfProject}
 use Rattle.bk_front.proofs.Levels.{chain_starts}
+use Rattle.bk_front.proofs.ProjectFiles.{kinds_chain}
 use Rattle.bk_front.proofs.SomeLines.{lines_are_read}
 use Rattle.bk_front.proofs.SomeReading.{texts_are_read}
 use Rattle.bk_dev.specs.Flattened.{flattened}
@@ -128,7 +128,7 @@ texts_counted files text ls texts are t =
     let long : length texts ≡ length (files_of false ls) = AllZip-long (IsTold files) (files_of false ls) texts t in
     let named = length-map (component_lines ls) (λ l. l.name) in
     let kinds = length-map (component_lines ls) (λ l. l.kind) in
-    let some = chain_starts (kinds_of ls) are.are.chain in
+    let some = chain_starts (kinds_of ls) (kinds_chain ls are.are) in
     (omega (arith, long, named, kinds), omega (arith, long, named, kinds, some))
 
 module _ (with_proofs : Bool) (files : Files) (project : List ℕ) where
@@ -140,12 +140,12 @@ module _ (with_proofs : Bool) (files : Files) (project : List ℕ) where
     at_texts : (stop : Stop) → StopsAtTexts project ls texts stop → Read
     at_texts stop h = inl (stop, inr (text, told, inr (ls, are, inr (texts, proof_texts, t, u, inl h))))
 
-    at_scripts : (dev : Development) (fault : ScriptFault) → Reads (kinds_of ls) texts dev → IsOfTexts fault → IsFaultOfProofs proof_texts fault → Read
+    at_scripts : (dev : Development) (fault : ScriptFault) → Reads ls texts dev → IsOfTexts fault → IsFaultOfProofs proof_texts fault → Read
     at_scripts dev fault r o h =
         let stop = stop_of_proofs fault (fetched with_proofs (files_of true ls)) in
         inl (stop, inr (text, told, inr (ls, are, inr (texts, proof_texts, t, u, inr (dev, r, (fault, o, h, refl))))))
 
-    with_scripts : (dev : Development) → Reads (kinds_of ls) texts dev → Possible Read
+    with_scripts : (dev : Development) → Reads ls texts dev → Possible Read
     with_scripts dev r =
         let read : ReadsComponents files project dev = record { text = text; told = told; named = ls; lines = are; texts = texts; texts_told = t; reads = r } in
         and_then (all_scripts proof_texts) (λ o. elim o [
@@ -156,11 +156,11 @@ module _ (with_proofs : Bool) (files : Files) (project : List ℕ) where
     with_texts : Possible Read
     with_texts =
         let counted = texts_counted files text ls texts are t in
-        and_then (decide ((dev : Development) × Reads (kinds_of ls) texts dev)) (λ d. elim d [
+        and_then (decide ((dev : Development) × Reads ls texts dev)) (λ d. elim d [
           | inl r ↦ with_scripts r.0 r.1
-          | inr none ↦ and_then (decide ((refusal : Refusal) × IsOfProject refusal × IsRefusalOf (kinds_of ls) texts refusal)) (λ f. elim f [
+          | inr none ↦ and_then (decide ((refusal : Refusal) × IsOfProject refusal × IsRefusalOf ls texts refusal)) (λ f. elim f [
             | inl r ↦ certain (at_texts (stop_of_refusal r.0 project (files_of false ls)) (r.0, r.1, r.2, refl))
-            | inr neither ↦ λ never. texts_are_read (kinds_of ls) texts counted.0 counted.1 (λ dev r. none (dev, r)) (λ refusal o r. neither (refusal, o, r))
+            | inr neither ↦ λ never. texts_are_read ls texts counted.0 counted.1 (λ dev r. none (dev, r)) (λ refusal o r. neither (refusal, o, r))
           ])
         ])
 
@@ -229,11 +229,7 @@ code project image = elim (cases_lt MOST_INSTRUCTIONS (length image.code)) [
 
 -- an image with a spelling has sets whose elements are numbers of the machine
 elements_in_range : (dev : Development) → IsLawful dev → IsWithinCodeLimits (translation dev) → HasElementsInRange dev
-elements_in_range dev f w s i below =
-    let fit : All (λ (x : SetEntry). FitsSet (element_texts x)) dev.table.sets = subst (λ (sets : List SetEntry). All (λ (x : SetEntry). FitsSet (element_texts x)) sets) f.sets (all-sets dev.sets w.spelled.fits.sets) in
-    let small : set_size dev.table s < 2 ^ 16 = size-fits dev.table.sets f.table.counted fit s in
-    let most : int_max dev ≡ default_max = w.spelled.fits.max in
-    omega (arith, ints, below, small, most)
+elements_in_range dev f w = elements-fit dev f.range f.sets f.table.counted (all-sets (λ names. HasFewElements (int_max dev) names) dev.sets w.spelled.few_elements)
 
 -- its translation passes the loader's checks
 translation_loads : (dev : Development) → IsLawful dev → IsB0Development dev → IsWithinCodeLimits (translation dev) → IsLoadable (translation dev)

@@ -1,11 +1,11 @@
 -- Bytes encode an image or have a fault: it cannot be that neither is so.
-use Rattle.std.proofs.Common.{◌≡◌, ◌≢◌, ℕ, zero, suc, ◌+◌, ◌-◌, ◌<◌, ◌≤◌, ◌⊎◌, inl, inr, ℤ, pos, negsuc, List, [], ◌∷◌, ◌++◌, length, get_or, slice_index, Some, refl, sym, ◌∙◌, subst, arith}
+use Rattle.std.proofs.Common.{◌≡◌, ◌≢◌, ℕ, zero, suc, ◌+◌, ◌-◌, ◌<◌, ◌≤◌, ◌⊎◌, inl, inr, ℤ, pos, negsuc, List, [], ◌∷◌, ◌++◌, length, get_or, slice_index, Some, refl, sym, ◌∙◌, ap, subst, arith}
 use Rattle.std.specs.Prelude.{◌+ℤ◌, ◌-ℤ◌, ◌<ℤ◌, ◌≤ℤ◌, All, slice_get, neg_ℤ}
 use Rattle.std.proofs.lemmas.Int.{ints}
 use Rattle.std.proofs.lemmas.Bool.{cases_lt}
 use Rattle.std.proofs.lemmas.List.{append-nil}
 use Rattle.std.proofs.lemmas.Option.{slice_get-get_or, slice_get_within}
-use Rattle.bk_limits.specs.declared.TheConstants.{MOST_CELLS, MOST_SETS, STACK_ROOM}
+use Rattle.bk_limits.specs.declared.TheConstants.{GREATEST_MAXINT, MOST_CELLS, MOST_SETS, STACK_ROOM}
 use Rattle.bk_code.specs.declared.image.Image.{Image}
 use Rattle.bk_code.specs.declared.image.OpEntry.{OpEntry}
 use Rattle.bk_code.specs.declared.image.Parameter.{Parameter}
@@ -13,20 +13,23 @@ use Rattle.bk_code.specs.declared.image.CellKind.{CellKind}
 use Rattle.bk_code.specs.declared.image.CellKind.TheVariants.{Integer, Bool as TruthValue, Set}
 use Rattle.bk_code.specs.declared.instruction.Inst.{Inst}
 use Rattle.bk_code.specs.declared.instruction.Inst.TheVariants.{Push, Load, Store, ALoad, AStore, Add, Sub, Mul, Div, Mod, Neg, Eq, Lt, Le, Not, Jump, JumpZero, Ret}
-use Rattle.bk_code.specs.Numbers.{int_max, IsRange, IsWithin}
+use Rattle.bk_code.specs.Numbers.{int_max, IsWithin}
 use Rattle.bk_code.specs.Checks.{IsKind, IsGoodParameter, IsGoodEntry, IsArray, IsTarget, IsGoodInst, IsLeaving, IsNumbered, pops, pushes, FlowsTo, IsEmptyAtEnd, IsDepths, LeadsThrough, IsRoot, IsOpen, IsLoadable}
+use Rattle.bk_image.specs.declared.version.ImageVersion.{ImageVersion}
+use Rattle.bk_image.specs.declared.version.ImageVersion.TheVariants.{First, Second}
 use Rattle.bk_image.specs.declared.fault.LoadFault.{LoadFault}
 use Rattle.bk_image.specs.declared.fault.LoadFault.TheVariants.{Short, Magic, Version, BadInst, BadJump, BadSlot, Stack, Extra, Memory as NoRoom}
-use Rattle.bk_image.specs.Spelling.{text, parameter, parameters, entry, inst, FitsFields, spelling}
-use Rattle.bk_image.specs.Faults.{place, IsMagicFault, IsVersionFault, IsInstFault, IsFirst, part_place, IsParameterFault, IsParametersFault, IsEntryFault, IsArrayFault, IsOperandFault, ops_place, count_place, IsNumberFault}
+use Rattle.bk_image.specs.Spelling.{text, set, parameter, parameters, entry, inst, FitsFields, laid_out, version_of, spelling}
+use Rattle.bk_image.specs.Faults.{place, IsMagicFault, IsVersionFault, IsInstFault, IsFirst, part_place, IsParameterFault, IsParametersFault, IsEntryFault, IsArrayFault, IsOperandFault, IsWrongMax, cells_place, sets_place, ops_place, count_place, IsNumberFault}
+use Rattle.bk_image.specs.Soundness.{IsRightMax, HaveFewElements, AreRight}
 use Rattle.bk_image.specs.Stack.{depth_after, HasDepth, BreaksRules, IsStackFault}
 use Rattle.bk_image.specs.Encoding.{Encodes, IsFault}
 use Rattle.bk_image.specs.Progress.{next_of, target_of}
 use Rattle.bk_image.proofs.Following.{inside, flows_go}
 use Rattle.bk_image.proofs.Starting.{in_range}
 use Rattle.bk_image.proofs.Verdicts.{Kind, number_kind, number_fault_of}
+use Rattle.bk_image.proofs.Versions.{right_range, right_version}
 use Rattle.bk_program.proofs.Possible.{Possible, certain, and_then, decide, least, by_smaller, choose}
-use Rattle.bk_code.proofs.Ranges.{default_range}
 
 -- one of two whole numbers is the greater
 ordered : (a b : ℤ) → (a ≤ℤ b) ⊎ (b <ℤ a)
@@ -165,33 +168,55 @@ module _ (image : Image) where
   leaves Le never = absurd (never (λ h. h))
   leaves Not never = absurd (never (λ h. h))
 
-  module _ (fits : FitsFields image) (never : (e : LoadFault) → IsNumberFault image e → ⊥) where
+  right_max : (v : ImageVersion) → (IsWrongMax v (int_max image) → ⊥) → IsRightMax v (int_max image)
+  right_max First never = tt
+  right_max Second never = (
+    record {
+      least = at_most (pos 1) (int_max image) (λ low. never (inl (λ r. let least : pos 1 ≤ℤ int_max image = r.least in omega (arith, ints, low, least))));
+      greatest = at_most (int_max image) GREATEST_MAXINT (λ high. never (inl (λ r. let greatest : int_max image ≤ℤ GREATEST_MAXINT = r.greatest in omega (arith, ints, high, greatest))));
+    },
+    λ usual. never (inr usual),
+  )
+
+  module _ (v : ImageVersion) (fits : FitsFields v image) (never : (e : LoadFault) → IsNumberFault v image e → ⊥) where
+    own_max : IsRightMax v (int_max image)
+    own_max = right_max v (λ wrong. never (BadSlot 6) (inl (refl, wrong)))
+
     numbered : IsNumbered image
     numbered = record {
-      range = subst IsRange (sym fits.max) default_range;
+      range = right_range v (int_max image) fits.max own_max;
       cells = elim (cases_lt MOST_CELLS image.cells) [
-        | inl many ↦ absurd (never (BadSlot 6) (inl (refl, many)))
+        | inl many ↦ absurd (never (BadSlot (cells_place v)) (inr (inl (refl, many))))
         | inr few ↦ few
       ];
-      ops = λ k d below. good_entry k (part_place entry (ops_place image) image.ops k) (get_or image.ops k d) (λ e f. never e (inr (inr (inl (k, get_or image.ops k d, slice_get-get_or image.ops k d below, f)))));
-      insts = λ at i get. good_operand at (part_place inst (count_place image + 4) image.code at) i (λ e f. never e (inr (inr (inr (inr (at, i, get, inl f))))));
-      last = λ at i get end. leaves i (λ none. never (BadJump (part_place inst (count_place image + 4) image.code at)) (inr (inr (inr (inr (at, i, get, inr (refl, end, none)))))));
+      ops = λ k d below. good_entry k (part_place entry (ops_place v image) image.ops k) (get_or image.ops k d) (λ e f. never e (inr (inr (inr (inr (inl (k, get_or image.ops k d, slice_get-get_or image.ops k d below, f)))))));
+      insts = λ at i get. good_operand at (part_place inst (count_place v image + 4) image.code at) i (λ e f. never e (inr (inr (inr (inr (inr (inr (at, i, get, inl f))))))));
+      last = λ at i get end. leaves i (λ none. never (BadJump (part_place inst (count_place v image + 4) image.code at)) (inr (inr (inr (inr (inr (inr (at, i, get, inr (refl, end, none)))))))));
       some = elim (cases_lt 0 (length image.code)) [
         | inl h ↦ h
-        | inr none ↦ absurd (never (BadJump (count_place image)) (inr (inr (inr (inl (refl, omega (arith, none)))))))
+        | inr none ↦ absurd (never (BadJump (count_place v image)) (inr (inr (inr (inr (inr (inl (refl, omega (arith, none)))))))))
       ];
       countable = fits.few_insts;
     }
 
     few_sets : length image.sets ≤ MOST_SETS
     few_sets = elim (cases_lt MOST_SETS (length image.sets)) [
-      | inl many ↦ absurd (never (BadSlot 10) (inr (inl (refl, many))))
+      | inl many ↦ absurd (never (BadSlot (cells_place v + 4)) (inr (inr (inl (refl, many)))))
       | inr few ↦ few
     ]
 
+    few_elements : HaveFewElements image
+    few_elements k d below =
+        let names : List (List ℕ) = get_or image.sets k d in
+        at_most (pos (length names)) (int_max image +ℤ pos 1)
+        (λ many. never (BadSlot (part_place set (sets_place v) image.sets k)) (inr (inr (inr (inl (k, names, slice_get-get_or image.sets k d below, (refl, λ few. omega (arith, ints, many, few))))))))
+
+    right_numbers : AreRight v image
+    right_numbers = record { numbered = numbered; version = right_version v image fits.max own_max; few_sets = few_sets; few_elements = few_elements }
+
   -- of the faults of its numbers one stands first
-  first_number : (e : LoadFault) → IsNumberFault image e → Possible ((first : LoadFault) × IsFirst (IsNumberFault image) first)
-  first_number e f = and_then (least (λ n. (e : LoadFault) × IsNumberFault image e × (place e ≡ n)) (place e) (e, f, refl)) (λ m. certain (
+  first_number : (v : ImageVersion) (e : LoadFault) → IsNumberFault v image e → Possible ((first : LoadFault) × IsFirst (IsNumberFault v image) first)
+  first_number v e f = and_then (least (λ n. (e : LoadFault) × IsNumberFault v image e × (place e ≡ n)) (place e) (e, f, refl)) (λ m. certain (
     m.1.0,
     record {
       is = m.1.1;
@@ -360,28 +385,46 @@ number_other : (e : LoadFault) → Kind e → e ≢ NoRoom
 number_other e (at, inl h) f = cc
 number_other e (at, inr h) f = cc
 
--- bytes that are laid out as an image
-module _ (bytes : List ℕ) (image : Image) (fits : FitsFields image) (are : bytes ≡ spelling image) where
-  of_stack : IsNumbered image → length image.sets ≤ MOST_SETS → Possible (Verdict bytes)
-  of_stack numbered few = and_then (decide ((k : ℕ) × IsStackFault image k)) (λ d. elim d [
+-- bytes that are laid out as an image in its version
+module _ (bytes : List ℕ) (image : Image) (fits : FitsFields (version_of image) image) (are : bytes ≡ spelling image) where
+  of_stack : AreRight (version_of image) image → Possible (Verdict bytes)
+  of_stack right = and_then (decide ((k : ℕ) × IsStackFault image k)) (λ d. elim d [
     | inl f ↦ and_then (least (IsStackFault image) f.0 f.1) (λ m. certain (inr (
-      Stack (part_place inst (count_place image + 4) image.code m.0),
-      stack_other (part_place inst (count_place image + 4) image.code m.0),
-      record { image = image; spelled = record { fits = fits; few_sets = few }; is = are; numbered = numbered; first = record { inst = m.0; is = m.1; first = m.2; place = refl } },
+      Stack (part_place inst (count_place (version_of image) image + 4) image.code m.0),
+      stack_other (part_place inst (count_place (version_of image) image + 4) image.code m.0),
+      record {
+        image = image;
+        spelled = record { fits = fits; few_sets = right.few_sets; few_elements = right.few_elements };
+        is = are;
+        numbered = right.numbered;
+        first = record { inst = m.0; is = m.1; first = m.2; place = refl };
+      },
     )))
-    | inr none ↦ and_then (loadable image numbered (λ k f. none (k, f))) (λ l. certain (inl (image, record { loadable = l; spelled = record { fits = fits; few_sets = few }; is = are })))
+    | inr none ↦ and_then (loadable image right.numbered (λ k f. none (k, f)))
+        (λ l. certain (inl (image, record { loadable = l; spelled = record { fits = fits; few_sets = right.few_sets; few_elements = right.few_elements }; is = are })))
   ])
 
+-- in some version
+module _ (bytes : List ℕ) (v : ImageVersion) (image : Image) (fits : FitsFields v image) (are : bytes ≡ laid_out v image) where
+  of_own : AreRight v image → Possible (Verdict bytes)
+  of_own right =
+      of_stack bytes image (subst (λ w. FitsFields w image) right.version fits) (are ∙ ap (λ w. laid_out w image) right.version)
+      (record { numbered = right.numbered; version = refl; few_sets = right.few_sets; few_elements = right.few_elements })
+
   of_numbers : Possible (Verdict bytes)
-  of_numbers = and_then (decide ((e : LoadFault) × IsNumberFault image e)) (λ d. elim d [
-    | inl f ↦ and_then (first_number image f.0 f.1) (λ first. certain (inr (first.0, number_other first.0 (number_kind image first.0 first.1.is), number_fault_of bytes image first.0 fits are first.1)))
-    | inr none ↦ of_stack (numbered image fits (λ e f. none (e, f))) (few_sets image fits (λ e f. none (e, f)))
+  of_numbers = and_then (decide ((e : LoadFault) × IsNumberFault v image e)) (λ d. elim d [
+    | inl f ↦ and_then (first_number image v f.0 f.1) (λ first. certain (inr (first.0, number_other first.0 (number_kind v image first.0 first.1.is), number_fault_of bytes v image first.0 fits are first.1)))
+    | inr none ↦ of_own (right_numbers image v fits (λ e f. none (e, f)))
   ])
 
 -- bytes that an image begins
-of_layout : (bytes : List ℕ) (image : Image) (rest : List ℕ) → FitsFields image → bytes ≡ spelling image ++ rest → Possible (Verdict bytes)
-of_layout bytes image [] fits is = of_numbers bytes image fits (is ∙ append-nil (spelling image))
-of_layout bytes image (b ∷ rest) fits is = certain (inr (Extra (length (spelling image)), extra_other (length (spelling image)), record { image = image; fits = fits; rest = b ∷ rest; is = is; some = not_empty b rest; place = refl }))
+of_layout : (bytes : List ℕ) (v : ImageVersion) (image : Image) (rest : List ℕ) → FitsFields v image → bytes ≡ laid_out v image ++ rest → Possible (Verdict bytes)
+of_layout bytes v image [] fits is = of_numbers bytes v image fits (is ∙ append-nil (laid_out v image))
+of_layout bytes v image (b ∷ rest) fits is = certain (inr (
+  Extra (length (laid_out v image)),
+  extra_other (length (laid_out v image)),
+  record { version = v; image = image; fits = fits; rest = b ∷ rest; is = is; some = not_empty b rest; place = refl },
+))
   where
     not_empty : (b : ℕ) (rest : List ℕ) → (b ∷ rest) ≢ []
     not_empty b rest e = cc
@@ -394,8 +437,8 @@ some_verdict bytes =
         | inl f ↦ certain (inr (Version f.0, version_other f.0, f.1))
         | inr no_version ↦ and_then (decide ((at : ℕ) × IsInstFault bytes at)) (λ insts. elim insts [
           | inl f ↦ certain (inr (BadInst f.0, inst_other f.0, f.1))
-          | inr no_inst ↦ and_then (decide ((image : Image) × (rest : List ℕ) × FitsFields image × (bytes ≡ spelling image ++ rest))) (λ whole. elim whole [
-            | inl w ↦ of_layout bytes w.0 w.1 w.2 w.3
+          | inr no_inst ↦ and_then (decide ((v : ImageVersion) × (image : Image) × (rest : List ℕ) × FitsFields v image × (bytes ≡ laid_out v image ++ rest))) (λ whole. elim whole [
+            | inl w ↦ of_layout bytes w.0 w.1 w.2 w.3 w.4
             | inr no_whole ↦ certain (inr (
               Short (length bytes),
               short_other (length bytes),
@@ -404,7 +447,7 @@ some_verdict bytes =
                 magic = no_magic;
                 version = λ n f. no_version (n, f);
                 insts = λ n f. no_inst (n, f);
-                whole = λ image rest fits is. no_whole (image, rest, fits, is);
+                whole = λ v image rest fits is. no_whole (v, image, rest, fits, is);
               },
             ))
           ])

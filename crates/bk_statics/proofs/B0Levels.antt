@@ -12,7 +12,7 @@ use Rattle.bk_form.specs.Role.{bind}
 use Rattle.bk_form.specs.declared.arrays.ArrayRow.{ArrayRow}
 use Rattle.bk_form.specs.declared.operator.BinOp.TheVariants.{TotalFunctions}
 use Rattle.bk_gsl.specs.State.{among}
-use Rattle.bk_dev.specs.Development.{Head, Level, Development, level_at, last, blank_level, is_complete, is_implementation, is_implementing, int_max as machine_max}
+use Rattle.bk_dev.specs.Development.{Head, Level, Development, level_at, last, blank_level, is_complete, is_implementation, is_implementing, int_max as machine_max, IsRange}
 use Rattle.bk_dev.specs.Layout.{Clue, in_domain, typing_clue, reversed, arrays_of, is_scalar}
 use Rattle.bk_dev.specs.Facts.{IsLawful, IsDevelopment}
 use Rattle.bk_dev.specs.B0.{IsScalarName, IsArrayName, IsDeclaredDomain, IsB0, EvaluatesShallow, IsB0Body, IsB0Development}
@@ -130,6 +130,9 @@ module _ (int_max : ℤ) (higher : Development) (comp : Component) (most : int_m
   abbrev x : Executing
   x = record { int_max = int_max; typing = typing; array = declared_domain new }
 
+  range-so : IsRange int_max
+  range-so = subst IsRange (sym most) lawful.range
+
   abbrev lowers : ℕ → List Head → List Headed
   lowers k hs = lower_headed far higher k hs comp.operations
 
@@ -171,13 +174,13 @@ module _ (int_max : ℤ) (higher : Development) (comp : Component) (most : int_m
   domains n d h = domain-declared new n d h
 
   abbrev Placed-at : ℕ → List Way → Type 0
-  Placed-at n us = StandsAt x new most lawful.range (stands int_max higher comp ready.table).settled arrays domains base top ws no-array untold n us
+  Placed-at n us = StandsAt x new refl range-so (stands int_max higher comp ready.table).settled arrays domains base top ws no-array untold n us
 
   left-at : (n : ℕ) (us vs : List Way) → Placed-at n (us ++ vs) → Placed-at n us
-  left-at n us vs h = stands-left x new most lawful.range (stands int_max higher comp ready.table).settled arrays domains base top ws no-array untold n us vs h
+  left-at n us vs h = stands-left x new refl range-so (stands int_max higher comp ready.table).settled arrays domains base top ws no-array untold n us vs h
 
   right-at : (n k : ℕ) (us vs : List Way) → length us ≡ k → Placed-at n (us ++ vs) → Placed-at (n + k) vs
-  right-at n k us vs e h = stands-right x new most lawful.range (stands int_max higher comp ready.table).settled arrays domains base top ws no-array untold n k us vs e h
+  right-at n k us vs e h = stands-right x new refl range-so (stands int_max higher comp ready.table).settled arrays domains base top ws no-array untold n k us vs e h
 
   all-at-base : Placed-at base ws
   all-at-base i l = let e : base + i - base ≡ i = omega arith in ap (way_at ws) e
@@ -241,7 +244,7 @@ module _ (int_max : ℤ) (higher : Development) (comp : Component) (most : int_m
       let settled = (stands int_max higher comp ready.table).settled in
       let names-of = numbered-of new.table q.outputs_at o.outputs inner (of-bind new.table q.headed.inputs (scope p) of (scope-stands int_max higher comp ready.table.counted)) in
       let names-typed = inner-typed int_max new.table typing settled q.outputs_at o.outputs inner (none-left declared body rest) (typed-bind typing q.headed.inputs (scope p) typed-inputs (scope-typed int_max higher comp ready said)) in
-      let read = b0-statement x new most lawful.range settled arrays domains base top ws no-array untold p.upper o.body (body_scope p q) (writes int_max higher comp p (outputs_of q)) q.binders_at names-of names-typed (none-right declared body rest) run stand low high small in
+      let read = b0-statement x new refl range-so settled arrays domains base top ws no-array untold p.upper o.body (body_scope p q) (writes int_max higher comp p (outputs_of q)) q.binders_at names-of names-typed (none-right declared body rest) run stand low high small in
       let bare = no-condition o.body x (body_scope p q) q.binders_at run in
       let same = inner-read o.body int_max typing p.upper (body_scope p q) q.binders_at bare in
       record {
@@ -336,7 +339,7 @@ module _ (int_max : ℤ) (higher : Development) (comp : Component) (most : int_m
       let settled = (stands int_max higher comp ready.table).settled in
       let w4 = ways (scope p) p.binders_at (initialisation comp) in
       let w5 = all_binder_ways p os in
-      let begins = b0-statement x new most lawful.range settled arrays domains base top ws no-array untold p.upper (initialisation comp) (scope p) (writes int_max higher comp p []) p.binders_at (scope-stands int_max higher comp ready.table.counted) (scope-typed int_max higher comp ready said) begun-none
+      let begins = b0-statement x new refl range-so settled arrays domains base top ws no-array untold p.upper (initialisation comp) (scope p) (writes int_max higher comp p []) p.binders_at (scope-stands int_max higher comp ready.table.counted) (scope-typed int_max higher comp ready said) begun-none
       (none-left run-start run-bodies r2) (left-at p.binders_at w4 w5 binders-at) (omega arith) (omega arith) small in
       let behind = right-at p.binders_at (binder_count (initialisation comp)) w4 w5 (ways-count (initialisation comp) (scope p) p.binders_at) binders-at in
       let each = each-b0 small-bodies (twice-none int_max higher comp ready lawful below none names-none) said 0 p.outputs_at first higher.heads (omega arith) (omega arith) agree missing-none
@@ -367,5 +370,7 @@ implementation-b0 above written dev d kind low e =
     subst IsB0Development (sym right.2) (level-b0 most above comp refl (ready-above above d.lawful) d.lawful below (none-left static executed right.1) implements (start-low written low) (body-low written low) run)
 
 pub always-b0 : AcceptedIsInB0
-always-b0 None written dev m kind low e = absurd (subst (λ k. MayStandAbove k None) kind m)
-always-b0 (Some above) written dev m kind low e = let both : IsDevelopment above × (is_complete above ≡ false) = subst (λ k. MayStandAbove k (Some above)) kind m in implementation-b0 above written dev both.0 kind low e
+always-b0 int_max None written dev m range kind low e = absurd (subst (λ k. MayStandAbove k None) kind m)
+always-b0 int_max (Some above) written dev m range kind low e =
+    let both : IsDevelopment above × (is_complete above ≡ false) = subst (λ k. MayStandAbove k (Some above)) kind m in
+    implementation-b0 above written dev both.0 kind low (subst (λ n. verdict_of n (Some above) written ≡ accepted dev) range e)

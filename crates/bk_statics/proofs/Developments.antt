@@ -9,7 +9,6 @@ use Rattle.bk_raw.specs.declared.component.ComponentKind.TheVariants.{Machine, R
 use Rattle.bk_raw.specs.Trees.ComponentTree.{RawComponent}
 use Rattle.bk_raw.proofs.RulesFit.{none-left, none-right}
 use Rattle.bk_statics.specs.Components.{component_of, kind_as, is_machine}
-use Rattle.bk_statics.specs.Above.{above_of}
 use Rattle.bk_statics.specs.Plan.{plan, operations_of}
 use Rattle.bk_statics.specs.LevelOf.{types_at, made}
 use Rattle.bk_statics.specs.ClauseFaults.{clause_faults}
@@ -19,7 +18,7 @@ use Rattle.bk_statics.specs.StaticFaults.{init_faults, all_body_faults, static_f
 use Rattle.bk_statics.specs.ValueFaults.{value_faults_of}
 use Rattle.bk_statics.specs.Executable.{executable_faults}
 use Rattle.bk_statics.specs.Verdict.{accepted, verdict_of}
-use Rattle.bk_statics.specs.VerdictLaws.{MayStandAbove, HasRoom, AcceptedIsDevelopment}
+use Rattle.bk_statics.specs.VerdictLaws.{MayStandAbove, IsRangeBelow, HasRoom, AcceptedIsDevelopment}
 use Rattle.bk_statics.proofs.Verdicts.{answer-right}
 use Rattle.bk_statics.proofs.MachineStands.{machine-accepted}
 use Rattle.bk_statics.proofs.LowerStands.{ready-above, lower-development, refinement-accepted}
@@ -43,15 +42,16 @@ implementation-accepted above written dev d going kind e room =
     let values = value_faults_of most above typing p comp in
     let values-none = none-right bodies values (none-right begun (bodies ++ values) (none-right operations (begun ++ (bodies ++ values)) (none-right clauses (operations ++ (begun ++ (bodies ++ values))) (none-right (name_faults above comp) (clauses ++ (operations ++ (begun ++ (bodies ++ values)))) none)))) in
     let valued = values-stand above comp (ready-above above d.lawful) implements values-none in
-    subst IsDevelopment (sym right.2) (lower-development most above comp d going below none (subst HasRoom right.2 room) valued.0 (subst (HasItsValues (made most above comp p)) (sym implements) valued.1))
+    subst IsDevelopment (sym right.2) (lower-development most above comp refl d going below none (subst HasRoom right.2 room) valued.0 (subst (HasItsValues (made most above comp p)) (sym implements) valued.1))
 
-by-kind : (kind : ComponentKind) (above : Option Development) (written : RawComponent) (dev : Development) → written.kind ≡ kind → MayStandAbove kind above → verdict_of (machine_max (above_of above)) above written ≡ accepted dev → HasRoom dev → IsDevelopment dev
-by-kind Machine None written dev kind m e room = machine-accepted (machine_max (above_of None)) written dev kind e room
-by-kind Machine (Some above) written dev kind m e room = absurd m
-by-kind Refinement None written dev kind m e room = absurd m
-by-kind Refinement (Some above) written dev kind m e room = refinement-accepted (machine_max above) above written dev m kind e room
-by-kind Implementation None written dev kind m e room = absurd m
-by-kind Implementation (Some above) written dev kind m e room = implementation-accepted above written dev m.0 m.1 kind e room
+by-kind : (kind : ComponentKind) (int_max : ℤ) (above : Option Development) (written : RawComponent) (dev : Development) → written.kind ≡ kind → MayStandAbove kind above → IsRangeBelow int_max above → verdict_of int_max above written ≡ accepted dev → HasRoom dev → IsDevelopment dev
+by-kind Machine int_max None written dev kind m range e room = machine-accepted int_max written dev range kind e room
+by-kind Machine int_max (Some above) written dev kind m range e room = absurd m
+by-kind Refinement int_max None written dev kind m range e room = absurd m
+by-kind Refinement int_max (Some above) written dev kind m range e room = refinement-accepted above written dev m kind (subst (λ n. verdict_of n (Some above) written ≡ accepted dev) range e) room
+by-kind Implementation int_max None written dev kind m range e room = absurd m
+by-kind Implementation int_max (Some above) written dev kind m range e room =
+    implementation-accepted above written dev m.0 m.1 kind (subst (λ n. verdict_of n (Some above) written ≡ accepted dev) range e) room
 
 pub always-development : AcceptedIsDevelopment
-always-development above written dev m e room = by-kind written.kind above written dev refl m e room
+always-development int_max above written dev m range e room = by-kind written.kind int_max above written dev refl m range e room

@@ -9,7 +9,7 @@ use Rattle.bk_form.specs.Table.{Table, SetEntry, variable_type, IsCounted}
 use Rattle.bk_gsl.specs.State.{among}
 use Rattle.bk_dev.specs.declared.kind.Kind.{Kind}
 use Rattle.bk_dev.specs.declared.kind.Kind.TheVariants.{Machine, Refinement, Implementation}
-use Rattle.bk_dev.specs.Development.{Head, Body, Level, Development, level_at, last, blank_level, is_complete, is_implementation, is_implementing}
+use Rattle.bk_dev.specs.Development.{Head, Body, Level, Development, level_at, last, blank_level, is_complete, is_implementation, is_implementing, int_max as machine_max, IsRange}
 use Rattle.bk_dev.specs.Facts.{AllAre, AreDistinct, binders, is_variable_of, is_variable_above, is_inner_of, home_of, EachBody, EachLevel, IsKindAt, IsHeadOf, IsLevelOf, IsValue, HasItsValues, HasItsShape, all_binders, all_outputs, IsLawful, IsDevelopment}
 use Rattle.bk_dev.proofs.FlatLevels.{passes-within}
 use Rattle.bk_dev.proofs.Levels.{last_level}
@@ -114,10 +114,10 @@ lower-kind Refinement n e h = h
 lower-kind Implementation n e h = h
 
 -- ---- the development
-pub lower-development : (int_max : ℤ) (higher : Development) (comp : Component) → IsDevelopment higher → is_complete higher ≡ false → is_machine comp.kind ≡ false → static_faults int_max higher comp ≡ []
+pub lower-development : (int_max : ℤ) (higher : Development) (comp : Component) → int_max ≡ machine_max higher → IsDevelopment higher → is_complete higher ≡ false → is_machine comp.kind ≡ false → static_faults int_max higher comp ≡ []
     → HasRoom (made int_max higher comp (plan higher comp)) → Each (IsValue (made int_max higher comp (plan higher comp))) (made int_max higher comp (plan higher comp)).values → HasItsValues (made int_max higher comp (plan higher comp)) (is_implementing comp.kind)
     → IsDevelopment (made int_max higher comp (plan higher comp))
-lower-development int_max higher comp d going below none room values all-valued =
+lower-development int_max higher comp same-max d going below none room values all-valued =
     let p = plan higher comp in
     let new = made int_max higher comp p in
     let typing = types_at int_max higher comp p in
@@ -167,7 +167,7 @@ lower-development int_max higher comp d going below none room values all-valued 
     0 higher.levels l (omega arith) lawful.levels (subst (λ k. IsLevelOf new k l) number new-level) in
     record {
       lawful = record {
-        range = lawful.range;
+        range = subst IsRange (sym same-max) lawful.range;
         some_level = omega arith;
         table = record {
           counted = All-append IsCounted higher.table.sets (entries_of comp.sets) lawful.table.counted (entries-counted comp.sets);
@@ -197,7 +197,8 @@ lower-development int_max higher comp d going below none room values all-valued 
     other j h = grind (arith, nat_tests)
 
 pub refinement-accepted : AcceptedRefinementIsDevelopment
-refinement-accepted int_max higher written dev may kind e room =
+refinement-accepted higher written dev may kind e room =
+    let int_max = machine_max higher in
     let comp = component_of written in
     let right = answer-right.right int_max higher comp dev e in
     let new = made int_max higher comp (plan higher comp) in
@@ -207,4 +208,4 @@ refinement-accepted int_max higher written dev may kind e room =
     let implements : is_implementing comp.kind ≡ false = ap (λ k. is_implementing (kind_as k)) kind in
     let value-none : new.values ≡ [] = ap (values_made int_max typing (plan higher comp).globals) no-values in
     let none = none-left (static_faults int_max higher comp) (executable_faults int_max higher comp) right.1 in
-    subst IsDevelopment (sym right.2) (lower-development int_max higher comp may.0 may.1 below none (subst HasRoom right.2 room) (subst (Each (IsValue new)) (sym value-none) tt) (subst (HasItsValues new) (sym implements) value-none))
+    subst IsDevelopment (sym right.2) (lower-development int_max higher comp refl may.0 may.1 below none (subst HasRoom right.2 room) (subst (Each (IsValue new)) (sym value-none) tt) (subst (HasItsValues new) (sym implements) value-none))

@@ -8,7 +8,7 @@ use Rattle.bk_form.specs.Table.{Table, SetEntry, VariableEntry, lists_type, empt
 use Rattle.bk_form.specs.Sized.{HasSizes}
 use Rattle.bk_dev.specs.declared.kind.Kind.{Kind}
 use Rattle.bk_dev.specs.declared.kind.Kind.TheVariants.{Machine, Refinement, Implementation}
-use Rattle.bk_dev.specs.Development.{Development, is_complete, is_implementing}
+use Rattle.bk_dev.specs.Development.{Development, IsRange, is_complete, is_implementing}
 use Rattle.bk_dev.specs.Facts.{IsKindAt, IsValue, HasItsValues, IsDevelopment}
 use Rattle.bk_dev.specs.Flattened.{copied_in_levels, flattened}
 use Rattle.bk_raw.specs.declared.component.ClauseWord.TheVariants.{Values}
@@ -41,7 +41,6 @@ use Rattle.bk_statics.proofs.NewLevel.{new-clauses}
 use Rattle.bk_statics.proofs.NewExtents.{machine-extents}
 use Rattle.bk_statics.proofs.Machines.{machines-right, machine-shapes}
 use Rattle.bk_statics.proofs.Verdicts.{answer-right}
-use Rattle.bk_dev.proofs.DefaultRange.{default_range}
 
 -- ---- tables
 all-from : {A : Type 0} (P : A → Type 0) (xs : List A) → ((i : ℕ) (x : A) → slice_get xs i ≡ Some x → P x) → All P xs
@@ -86,8 +85,8 @@ machine-first Refinement e = absurd (cc)
 machine-first Implementation e = absurd (cc)
 
 -- ---- a machine
-machine-development : (int_max : ℤ) (comp : Component) → is_machine comp.kind ≡ true → comp.values ≡ [] → static_faults int_max no_development comp ≡ [] → HasRoom (made int_max no_development comp (plan no_development comp)) → IsDevelopment (made int_max no_development comp (plan no_development comp))
-machine-development int_max comp machine no-values none room =
+machine-development : (int_max : ℤ) (comp : Component) → IsRange int_max → is_machine comp.kind ≡ true → comp.values ≡ [] → static_faults int_max no_development comp ≡ [] → HasRoom (made int_max no_development comp (plan no_development comp)) → IsDevelopment (made int_max no_development comp (plan no_development comp))
+machine-development int_max comp range machine no-values none room =
     let p = plan no_development comp in
     let new = made int_max no_development comp p in
     let typing = types_at int_max no_development comp p in
@@ -103,7 +102,7 @@ machine-development int_max comp machine no-values none room =
     let going : is_complete new ≡ false = not-implementing comp.kind machine in
     record {
       lawful = record {
-        range = default_range;
+        range = range;
         some_level = (let m : 0 < 1 = omega arith in m);
         table = record { counted = entries-counted comp.sets; listed = all-listed new.table st.listed };
         sets = refl;
@@ -140,10 +139,10 @@ machine-development int_max comp machine no-values none room =
     }
 
 pub machine-accepted : AcceptedMachineIsDevelopment
-machine-accepted int_max written dev kind e room =
+machine-accepted int_max written dev range kind e room =
     let comp = component_of written in
     let right = answer-right.right int_max no_development comp dev e in
     let machine : is_machine comp.kind ≡ true = ap (λ k. is_machine (kind_as k)) kind in
     let no-values : comp.values ≡ [] = ap (λ k. cond (is_implementing (kind_as k)) (clause_list Values values_in written.clauses) []) kind in
     let none = none-left (static_faults int_max no_development comp) (executable_faults int_max no_development comp) right.1 in
-    subst IsDevelopment (sym right.2) (machine-development int_max comp machine no-values none (subst HasRoom right.2 room))
+    subst IsDevelopment (sym right.2) (machine-development int_max comp range machine no-values none (subst HasRoom right.2 room))

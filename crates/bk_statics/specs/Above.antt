@@ -1,18 +1,17 @@
 -- What stands above a component, and the names that it leaves in scope: sets, elements and constants of all levels, and the variables
 -- of the last.
-use Rattle.std.specs.Prelude.{ℕ, suc, ◌-◌, Bool, true, false, List, [], ◌∷◌, ◌++◌, length, take, Option, None, Some}
+use Rattle.std.specs.Prelude.{ℕ, suc, ◌-◌, pos, Bool, true, false, List, [], ◌∷◌, ◌++◌, length, take, Option, None, Some}
 use Rattle.bk_form.specs.Table.{Table, VariableEntry, variable_type, variable_text, empty_table}
 use Rattle.bk_dev.specs.declared.kind.Home.{Home}
 use Rattle.bk_dev.specs.declared.kind.Home.TheVariants.{Constant, Concrete}
-use Rattle.bk_dev.specs.Development.{Development, Level, level_at, body_at, last, default_max}
+use Rattle.bk_dev.specs.Development.{Development, Level, level_at, body_at, last}
 use Rattle.bk_raw.specs.Meaning.Names.{Names, level_name}
 use Rattle.bk_raw.specs.Meaning.ScopeReading.{set_names}
 use Rattle.bk_statics.specs.Typings.{Typing, or_else, as_variable}
 
--- a development without a level, which stands above a machine; its MAXINT is the one where no range is said
+-- a development without a level, which stands above a machine; nothing is told of its MAXINT
 abbrev pub no_development : Development
-no_development =
-    record { max = default_max; table = empty_table; homes = []; sets = []; heads = []; levels = []; values = []; extents = [] }
+no_development = record { max = pos 0; table = empty_table; homes = []; sets = []; heads = []; levels = []; values = []; extents = [] }
 
 -- the levels above
 abbrev pub above_of : Option Development → Development

@@ -220,13 +220,13 @@ level_made int_max typing p c = record {
   bodies = bodies_made int_max typing p (operations_of p c);
 }
 
--- the development above with this level below
+-- the development above with this level below, with this MAXINT
 abbrev pub made : ℤ → Development → Component → Plan → Development
 made int_max dev c p =
     let typing = types_at int_max dev c p in
     let table = table_of int_max dev c p in
     record {
-      max = dev.max;
+      max = int_max;
       table = table;
       homes = dev.homes ++ new_homes p c;
       sets = table.sets;

@@ -3,7 +3,7 @@
 use Rattle.std.specs.Prelude.{◌≡◌, ◌<◌, ◌≤◌, ◌^◌, ℕ, ℤ, true, false, List, [], length, Option, None, Some}
 use Rattle.bk_form.specs.declared.token.Token.{Token}
 use Rattle.bk_raw.specs.Errors.Blame.{IsBlameOf}
-use Rattle.bk_dev.specs.Development.{Development, int_max as machine_max, is_complete}
+use Rattle.bk_dev.specs.Development.{Development, int_max as machine_max, IsRange, is_complete}
 use Rattle.bk_form.specs.Formula.{Formula}
 use Rattle.bk_form.specs.Replacement.{occurs}
 use Rattle.bk_gsl.specs.State.{among}
@@ -20,7 +20,7 @@ use Rattle.bk_raw.specs.Errors.Limits.{IsLowComponent}
 use Rattle.bk_raw.specs.Meaning.Names.{level_name}
 use Rattle.bk_raw.specs.Errors.Faults.{Fault}
 use Rattle.bk_statics.specs.Components.{Component}
-use Rattle.bk_statics.specs.Above.{above_of, stem}
+use Rattle.bk_statics.specs.Above.{stem}
 use Rattle.bk_statics.specs.DeclaredNames.{declares_too_many}
 use Rattle.bk_statics.specs.Verdict.{accepted, at_fault, past_limit, level_below, all_faults, verdict_below, verdict_of}
 
@@ -54,6 +54,11 @@ MayStandAbove Machine (Some dev) = ⊥
 MayStandAbove kind None = ⊥
 MayStandAbove kind (Some dev) = IsDevelopment dev × (is_complete dev ≡ false)
 
+-- which MAXINT a component may have: a machine each that there is, and every other that of the development above
+abbrev pub IsRangeBelow : ℤ → Option Development → Type 0
+IsRangeBelow int_max None = IsRange int_max
+IsRangeBelow int_max (Some dev) = int_max ≡ machine_max dev
+
 -- 32 bits number its sets, its variables and all copies that flattening makes, and leave one number
 pub record HasRoom (dev : Development) : Type 0 where
   pub sets : length dev.table.sets ≤ 2 ^ 32
@@ -62,25 +67,26 @@ pub record HasRoom (dev : Development) : Type 0 where
 -- a machine that is accepted is a development
 abbrev pub AcceptedMachineIsDevelopment : Type 0
 AcceptedMachineIsDevelopment = (int_max : ℤ) (written : RawComponent) (dev : Development) →
-    written.kind ≡ Machine → verdict_of int_max None written ≡ accepted dev → HasRoom dev → IsDevelopment dev
+    IsRange int_max → written.kind ≡ Machine → verdict_of int_max None written ≡ accepted dev → HasRoom dev → IsDevelopment dev
 
 -- a development with a refinement that is accepted below it is one
 abbrev pub AcceptedRefinementIsDevelopment : Type 0
-AcceptedRefinementIsDevelopment = (int_max : ℤ) (above : Development) (written : RawComponent) (dev : Development) →
+AcceptedRefinementIsDevelopment = (above : Development) (written : RawComponent) (dev : Development) →
     MayStandAbove Refinement (Some above) → written.kind ≡ Refinement →
-    verdict_of int_max (Some above) written ≡ accepted dev → HasRoom dev → IsDevelopment dev
+    verdict_of (machine_max above) (Some above) written ≡ accepted dev → HasRoom dev → IsDevelopment dev
 
 -- what is accepted is a development
 abbrev pub AcceptedIsDevelopment : Type 0
-AcceptedIsDevelopment = (above : Option Development) (written : RawComponent) (dev : Development) → MayStandAbove written.kind above →
-    verdict_of (machine_max (above_of above)) above written ≡ accepted dev → HasRoom dev → IsDevelopment dev
+AcceptedIsDevelopment = (int_max : ℤ) (above : Option Development) (written : RawComponent) (dev : Development) →
+    MayStandAbove written.kind above → IsRangeBelow int_max above →
+    verdict_of int_max above written ≡ accepted dev → HasRoom dev → IsDevelopment dev
 
 -- ---- B0
 -- an implementation that is accepted is in B0, where no tree in it is higher than GREATEST_TREE_HEIGHT
 abbrev pub AcceptedIsInB0 : Type 0
-AcceptedIsInB0 = (above : Option Development) (written : RawComponent) (dev : Development) →
-    MayStandAbove written.kind above → written.kind ≡ Implementation → IsLowComponent written →
-    verdict_of (machine_max (above_of above)) above written ≡ accepted dev → IsB0Development dev
+AcceptedIsInB0 = (int_max : ℤ) (above : Option Development) (written : RawComponent) (dev : Development) →
+    MayStandAbove written.kind above → IsRangeBelow int_max above → written.kind ≡ Implementation → IsLowComponent written →
+    verdict_of int_max above written ≡ accepted dev → IsB0Development dev
 
 -- ---- names
 -- the name of a variable of level k is found in its text

@@ -16,3 +16,5 @@ mod lists;
 mod loading;
 #[cfg(test)]
 mod numbering;
+#[cfg(test)]
+mod ranges;

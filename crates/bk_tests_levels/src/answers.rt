@@ -3,11 +3,11 @@
 ghost use Rattle.std.specs.Option.{option_map};
 ghost use Rattle.std.specs.Prelude.{◌≡◌, IfOk, IfSome, IsTrue, None};
 ghost use Rattle.bk_dev.specs.Facts.{IsDevelopment};
-ghost use Rattle.bk_statics.specs.VerdictLaws.{MayStandAbove};
+ghost use Rattle.bk_statics.specs.VerdictLaws.{IsRangeBelow, MayStandAbove};
 
 use crate::notation::notation;
-use bk_dev::Development;
-use bk_elab::{level, max_of};
+use bk_dev::{DEFAULT_MAX, Development};
+use bk_elab::level;
 use bk_elab_terms::ElabFault;
 use bk_io::Memory;
 use bk_lex::tokens;
@@ -89,6 +89,17 @@ fn unboxed(development: Option<Box<Development>>) -> Option<Development>
     match development {
         Some(development) => Some(Box::into_inner(development)),
         None => None,
+    }
+}
+
+// MAXINT of the levels above, or where there are none the one where no range is said.
+#[tactic(auto, using(bk_dev::proofs::DefaultRange::default_range))]
+fn max_of(above: &Option<Development>) -> i64
+    ensures { IsRangeBelow result above.now }
+{
+    match above {
+        Some(development) => development.int_max(),
+        None => DEFAULT_MAX,
     }
 }
 

@@ -10,7 +10,7 @@ use Rattle.bk_lines.specs.Lines.{kept_lines, is_skipped}
 use Rattle.bk_dev.specs.Development.{Head, Body, Development, level_at, last}
 use Rattle.bk_b0.specs.Translation.{translation, entries, init_code, operation_code}
 use Rattle.bk_front.specs.declared.project_file.ProjectLine.{ProjectLine}
-use Rattle.bk_front.specs.ProjectFile.{IsFileName, IsProjectLine, AreLinesOf, is_proofs, component_lines, kinds_of}
+use Rattle.bk_front.specs.ProjectFile.{IsFileName, IsProjectLine, AreLinesOf, is_proofs, is_component, component_lines, proof_lines}
 use Rattle.bk_front.specs.Project.{Reads}
 use Rattle.bk_front.proofs.ProjectFiles.{lines_are_one}
 use Rattle.bk_front.proofs.OneReading.{read_as_one}
@@ -45,7 +45,7 @@ file_names_in : (written : List (List ℕ)) (ls : List ProjectLine) → AllZip I
 file_names_in [] [] h = All-nil (λ l. IsFileName l.name)
 file_names_in [] (l ∷ ls) h = elim h [ ]
 file_names_in (w ∷ ws) [] h = elim h [ ]
-file_names_in (w ∷ ws) (l ∷ ls) h = All-cons (λ x. IsFileName x.name) l ls h.0.is_name (file_names_in ws ls h.1)
+file_names_in (w ∷ ws) (l ∷ ls) h = All-cons (λ x. IsFileName x.name) l ls h.0.written.is_name (file_names_in ws ls h.1)
 
 pub file_names : (text : List ℕ) (ls : List ProjectLine) → AreLinesOf text ls → All (λ l. IsFileName l.name) ls
 file_names text ls are = file_names_in (kept_lines text) ls are.written
@@ -81,7 +81,7 @@ module _ (files : Files) (project : List ℕ) (dev other : Development) (h : Rea
   same_texts = all_told_once files (files_of false k.named) h.texts k.texts (subst (λ x. AreTold files (files_of false x) h.texts) same_lines h.texts_told) k.texts_told
 
   pub one_reading : other ≡ dev
-  one_reading = sym (read_as_one (kinds_of k.named) k.texts dev other (subst (λ x. Reads (kinds_of x) k.texts dev) same_lines (subst (λ x. Reads (kinds_of h.named) x dev) same_texts h.reads)) k.reads)
+  one_reading = sym (read_as_one k.named k.texts dev other (subst (λ (x : List ProjectLine). Reads x k.texts dev) same_lines (subst (λ (x : List (List ℕ)). Reads h.named x dev) same_texts h.reads)) k.reads)
 
 module _ (with_proofs : Bool) (files : Files) (project : List ℕ) (dev other : Development) (scripts others : List RawScript) (h : ReadsProject with_proofs files project dev scripts) (k : ReadsProject with_proofs files project other others) where
   same_proof_texts : h.proof_texts ≡ k.proof_texts
@@ -120,7 +120,16 @@ component_texts ls given names texts told e d f k =
 
 pub few_files : (b : Bool) (ls : List ProjectLine) → length ls ≤ MOST_BYTES → length (files_of b ls) < 4294967296
 few_files true ls h = omega (arith, h, length-map (filter (λ l. is_proofs l.kind) ls) (λ l. l.name), fewer_kept (λ l. is_proofs l.kind) ls)
-few_files false ls h = omega (arith, h, length-map (filter (λ l. not (is_proofs l.kind)) ls) (λ l. l.name), fewer_kept (λ l. not (is_proofs l.kind)) ls)
+few_files false ls h = omega (arith, h, length-map (filter (λ l. is_component l.kind) ls) (λ l. l.name), fewer_kept (λ l. is_component l.kind) ls)
+
+-- a line names one of these files, or none
+pub file_kept : (b : Bool) (l : ProjectLine) (ls : List ProjectLine) → cond b (is_proofs l.kind) (is_component l.kind) ≡ true → files_of b (l ∷ ls) ≡ l.name ∷ files_of b ls
+file_kept true l ls h = ap (λ (c : Bool). map (λ (m : ProjectLine). m.name) (cond c (l ∷ proof_lines ls) (proof_lines ls))) h
+file_kept false l ls h = ap (λ (c : Bool). map (λ (m : ProjectLine). m.name) (cond c (l ∷ component_lines ls) (component_lines ls))) h
+
+pub file_passed : (b : Bool) (l : ProjectLine) (ls : List ProjectLine) → cond b (is_proofs l.kind) (is_component l.kind) ≡ false → files_of b (l ∷ ls) ≡ files_of b ls
+file_passed true l ls h = ap (λ (c : Bool). map (λ (m : ProjectLine). m.name) (cond c (l ∷ proof_lines ls) (proof_lines ls))) h
+file_passed false l ls h = ap (λ (c : Bool). map (λ (m : ProjectLine). m.name) (cond c (l ∷ component_lines ls) (component_lines ls))) h
 
 -- fewer where only some are fetched
 few_fetched : (all : Bool) (names : List (List ℕ)) → length (fetched all names) ≤ length names

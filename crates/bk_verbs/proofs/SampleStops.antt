@@ -1,7 +1,7 @@
 -- None of a sample's files is missing.
 use Rattle.std.proofs.Common.{◌≡◌, ℕ, ◌<◌, ◌≤◌, ◌⊎◌, inl, inr, Bool, true, List, [], ◌∷◌, codes, Some, Result, Ok, Err, IfErr, refl, sym, ◌∙◌, subst, arith}
 use Rattle.std.specs.Prelude.{nat_lt}
-use Rattle.std.specs.List.{list_all}
+use Rattle.std.specs.List.{AllZip, list_all}
 use Rattle.std.specs.Char.{IsScalar}
 use Rattle.std.specs.Str.{IsUtf8}
 use Rattle.std.proofs.lemmas.Bool.{and_parts, ltb-true}
@@ -18,8 +18,9 @@ use Rattle.bk_front.specs.declared.project_file.ProjectLine.{ProjectLine}
 use Rattle.bk_front.specs.declared.project_file.LineKind.TheVariants.{Machine, Implementation, Proofs}
 use Rattle.bk_front.specs.declared.refusal.Refusal.{Refusal}
 use Rattle.bk_front.specs.declared.refusal.Refusal.TheVariants.{Fault, Limit as LimitOfText, Memory as OutOfMemory}
-use Rattle.bk_front.specs.ProjectFile.{IsFileName, AreLinesOf}
-use Rattle.bk_front.proofs.ProjectFiles.{lines_are_one}
+use Rattle.bk_lines.specs.Lines.{kept_lines}
+use Rattle.bk_front.specs.ProjectFile.{IsFileName, IsProjectLine, AreLinesOf}
+use Rattle.bk_front.proofs.ProjectFiles.{names_of, lines_are_one}
 use Rattle.bk_p_proof.specs.declared.fault.ScriptFault.{ScriptFault}
 use Rattle.bk_p_proof.specs.declared.fault.ScriptFault.TheVariants.{Fault as FaultOfProofs, Limit as LimitOfProofs, Memory as NoRoomForProofs}
 use Rattle.bk_calls.specs.Sample.{sample_of, project_text}
@@ -97,17 +98,20 @@ implementation_name = record { text = low_text (codes "Sample_i.imp") refl; firs
 proofs_name : IsFileName (codes "Sample.prf")
 proofs_name = record { text = low_text (codes "Sample.prf") refl; first = omega arith; last = omega arith }
 
+lines_written : AllZip IsProjectLine (kept_lines project_text) named
+lines_written = (
+  record { written = record { before = 1; after = 0; apart = omega arith; written = refl; is_name = machine_name }; fits = tt },
+  (
+    record { written = record { before = 1; after = 0; apart = omega arith; written = refl; is_name = implementation_name }; fits = tt },
+    (record { written = record { before = 1; after = 0; apart = omega arith; written = refl; is_name = proofs_name }; fits = tt }, tt),
+  ),
+)
+
 lines_are : AreLinesOf project_text named
 lines_are = record {
   utf8 = low_text project_text refl;
-  written = (
-    record { before = 1; after = 0; apart = omega arith; written = refl; is_name = machine_name },
-    (
-      record { before = 1; after = 0; apart = omega arith; written = refl; is_name = implementation_name },
-      (record { before = 1; after = 0; apart = omega arith; written = refl; is_name = proofs_name }, tt),
-    ),
-  );
-  are = record { chain = (0, inr refl); few = omega arith };
+  written = lines_written;
+  are = record { names = names_of (kept_lines project_text) named lines_written; chain = (0, inr refl); few = omega arith };
 }
 
 -- ---- files that are there

@@ -11,7 +11,7 @@ use Rattle.bk_b0.specs.Translation.{translation}
 use Rattle.bk_front.specs.declared.refusal.Refusal.{Refusal}
 use Rattle.bk_front.specs.declared.refusal.Refusal.TheVariants.{Fault, Limit as LimitOfText, Memory as OutOfMemory}
 use Rattle.bk_front.specs.declared.project_file.ProjectLine.{ProjectLine}
-use Rattle.bk_front.specs.ProjectFile.{AreLinesOf, IsRefusalOfLines, kinds_of}
+use Rattle.bk_front.specs.ProjectFile.{AreLinesOf, IsRefusalOfLines}
 use Rattle.bk_front.specs.Project.{Reads, IsRefusalOf}
 use Rattle.bk_raw.specs.Trees.ScriptTree.{RawScript}
 use Rattle.bk_p_proof.specs.Files.{AreScriptsOf, IsFaultOf as IsFaultOfProofs}
@@ -96,17 +96,17 @@ module _ (with_proofs : Bool) (files : Files) (project text : List ℕ) (told : 
       at_told : (stop : Stop) → StopsAtTold project ls (fetched with_proofs (files_of true ls)) texts proof_texts stop → IsOutside stop ⊎ StopsAtProject with_proofs files project stop
       at_told stop h = at_names stop (inr (texts, proof_texts, subst (λ x. AreTold files x texts) e t, subst (λ x. AreTold files x proof_texts) d u, h))
 
-      pub at_texts : (refusal : Refusal) (stop : Stop) → IsRefusalOf (kinds_of ls) texts refusal → stop ≡ stop_of_refusal refusal project names → IsOutside stop ⊎ StopsAtProject with_proofs files project stop
+      pub at_texts : (refusal : Refusal) (stop : Stop) → IsRefusalOf ls texts refusal → stop ≡ stop_of_refusal refusal project names → IsOutside stop ⊎ StopsAtProject with_proofs files project stop
       at_texts (Fault number file place) stop h is = at_told stop (inl (Fault number file place, tt, h, is ∙ ap (λ x. stop_of_refusal (Fault number file place) project x) e))
       at_texts (LimitOfText number file) stop h is = at_told stop (inl (LimitOfText number file, tt, h, is ∙ ap (λ x. stop_of_refusal (LimitOfText number file) project x) e))
       at_texts OutOfMemory stop h is = inl (outside_memory stop is)
 
-      pub at_scripts : (dev : Development) (fault : ScriptFault) (stop : Stop) → Reads (kinds_of ls) texts dev → IsFaultOfProofs proof_texts fault → stop ≡ stop_of_proofs fault proofs → IsOutside stop ⊎ StopsAtProject with_proofs files project stop
+      pub at_scripts : (dev : Development) (fault : ScriptFault) (stop : Stop) → Reads ls texts dev → IsFaultOfProofs proof_texts fault → stop ≡ stop_of_proofs fault proofs → IsOutside stop ⊎ StopsAtProject with_proofs files project stop
       at_scripts dev (FaultOfProofs number file place) stop reads h is = at_told stop (inr (dev, reads, (FaultOfProofs number file place, tt, h, is ∙ ap (λ x. stop_of_proofs (FaultOfProofs number file place) x) d)))
       at_scripts dev (LimitOfProofs number file) stop reads h is = at_told stop (inr (dev, reads, (LimitOfProofs number file, tt, h, is ∙ ap (λ x. stop_of_proofs (LimitOfProofs number file) x) d)))
       at_scripts dev NoRoomForProofs stop reads h is = inl (outside_memory stop is)
 
-      pub reads_project : (dev : Development) (scripts : List RawScript) → Reads (kinds_of ls) texts dev → AreScriptsOf proof_texts scripts → ReadsProject with_proofs files project dev scripts
+      pub reads_project : (dev : Development) (scripts : List RawScript) → Reads ls texts dev → AreScriptsOf proof_texts scripts → ReadsProject with_proofs files project dev scripts
       reads_project dev scripts reads are_scripts = record {
         components = record { text = text; told = told; named = ls; lines = are; texts = texts; texts_told = subst (λ x. AreTold files x texts) e t; reads = reads };
         proof_texts = proof_texts;

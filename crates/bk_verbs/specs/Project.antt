@@ -10,7 +10,7 @@ use Rattle.bk_image.specs.Spelling.{HasSpelling}
 use Rattle.bk_dev.specs.Development.{Development, is_complete}
 use Rattle.bk_raw.specs.Trees.ScriptTree.{RawScript}
 use Rattle.bk_front.specs.declared.project_file.ProjectLine.{ProjectLine}
-use Rattle.bk_front.specs.ProjectFile.{AreLinesOf, component_lines, proof_lines, kinds_of}
+use Rattle.bk_front.specs.ProjectFile.{AreLinesOf, component_lines, proof_lines}
 use Rattle.bk_front.specs.Project.{Reads}
 use Rattle.bk_po.specs.Obligations.{obligations}
 use Rattle.bk_po.specs.Limits.{PassNoLimit}
@@ -63,7 +63,7 @@ pub record ReadsComponents (files : Files) (project : List ℕ) (dev : Developme
   pub lines : AreLinesOf text named
   pub texts : List (List ℕ)
   pub texts_told : AreTold files (component_files named) texts
-  pub reads : Reads (kinds_of named) texts dev
+  pub reads : Reads named texts dev
 
 -- and those of the proof files, where these are fetched, are those of the scripts of proof
 pub record ReadsProject (with_proofs : Bool) (files : Files) (project : List ℕ)
@@ -85,8 +85,8 @@ pub record IsFinished (dev : Development) (scripts : List RawScript) : Type 0 wh
   pub proved : IsProved dev scripts
 
 -- ---- the code
--- at most MOST_INSTRUCTIONS instructions and at most MOST_CELLS cells, and a spelling in bytes:
--- each name has at most 65535 bytes, and the parts are few enough to be counted in their fields
+-- at most MOST_INSTRUCTIONS instructions and at most MOST_CELLS cells, and a spelling in bytes: each name has at most 65535 bytes,
+-- the parts are few enough to be counted in their fields, and the elements of a set few enough that 0 to MAXINT number them
 pub record IsWithinCodeLimits (image : Image) : Type 0 where
   pub code : length image.code ≤ MOST_INSTRUCTIONS
   pub cells : image.cells ≤ MOST_CELLS

@@ -18,7 +18,7 @@ use Rattle.bk_b0.specs.Translation.{translation}
 use Rattle.bk_front.specs.declared.project_file.ProjectLine.{ProjectLine}
 use Rattle.bk_front.specs.declared.refusal.Refusal.{Refusal}
 use Rattle.bk_front.specs.declared.refusal.Refusal.TheVariants.{Fault, Limit as LimitOfText, Memory as OutOfMemory}
-use Rattle.bk_front.specs.ProjectFile.{AreLinesOf, IsRefusalOfLines, kinds_of}
+use Rattle.bk_front.specs.ProjectFile.{AreLinesOf, IsRefusalOfLines}
 use Rattle.bk_front.specs.Project.{Reads, IsRefusalOf}
 use Rattle.bk_front.specs.Laws.{IsOfProject}
 use Rattle.bk_po.specs.Obligations.{obligations}
@@ -148,7 +148,7 @@ StopsAtLines project text stop = (refusal : Refusal) × IsOfProject refusal
 -- the component files that these lines name have a fault, or pass a limit: the first of all
 abbrev pub StopsAtTexts : (project : List ℕ) → List ProjectLine → (texts : List (List ℕ)) → Stop → Type 0
 StopsAtTexts project named texts stop = (refusal : Refusal) × IsOfProject refusal
-    × IsRefusalOf (kinds_of named) texts refusal × (stop ≡ stop_of_refusal refusal project (component_files named))
+    × IsRefusalOf named texts refusal × (stop ≡ stop_of_refusal refusal project (component_files named))
 
 -- what a fault of the proof files stops the program with
 abbrev pub stop_of_proofs : ScriptFault → (proofs : List (List ℕ)) → Stop
@@ -171,7 +171,7 @@ StopsAtScripts proofs texts stop = (fault : ScriptFault) × IsOfTexts fault
 abbrev pub StopsAtTold : (project : List ℕ) → List ProjectLine → (proofs texts proof_texts : List (List ℕ)) → Stop → Type 0
 StopsAtTold project named proofs texts proof_texts stop =
     StopsAtTexts project named texts stop
-    ⊎ ((dev : Development) × Reads (kinds_of named) texts dev × StopsAtScripts proofs proof_texts stop)
+    ⊎ ((dev : Development) × Reads named texts dev × StopsAtScripts proofs proof_texts stop)
 
 -- all files are fetched, those of the components and then the proof files, before their texts are looked at
 abbrev pub StopsAtComponents : Files → (project : List ℕ) → List ProjectLine → (proofs : List (List ℕ)) → Stop → Type 0

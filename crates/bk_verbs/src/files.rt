@@ -1,11 +1,11 @@
 //! The files of a project.
 
-ghost use Rattle.std.specs.Prelude.{◌≡◌, ◌⊎◌, ◌≤◌, ◌<◌, ◌^◌, ℕ, Bool, true, List, All, length, map, [], Some, IfOk, IfErr};
+ghost use Rattle.std.specs.Prelude.{◌≡◌, ◌⊎◌, ◌≤◌, ◌<◌, ◌^◌, ℕ, Bool, true, cond, List, All, length, map, [], Some, IfOk, IfErr};
 ghost use Rattle.bk_io.specs.Files.{Files};
 ghost use Rattle.bk_io.specs.Counts.{HasCause};
 ghost use Rattle.bk_dev.specs.B0.{IsB0Development};
 ghost use Rattle.bk_dev.specs.Development.{is_complete};
-ghost use Rattle.bk_front.specs.ProjectFile.{IsFileName, AreLines, AreLinesOf, component_lines, kinds_of};
+ghost use Rattle.bk_front.specs.ProjectFile.{IsFileName, AreLines, AreLinesOf, component_lines, is_component, is_proofs};
 ghost use Rattle.bk_front.specs.Project.{Reads, IsRefusalOf};
 ghost use Rattle.bk_front.specs.declared.refusal.Refusal.{Refusal};
 ghost use Rattle.bk_p_proof.specs.Files.{AreScriptsOf, IsFaultOf};
@@ -116,10 +116,10 @@ fn read_components(
     requires lines { AreLines lines.now }
     requires texts { length texts.now ≡ length (component_lines lines.now) }
     ensures cause { IfErr result (λ stop. (refusal : Refusal) ×
-        IsRefusalOf (kinds_of lines.now) (map (λ text. text.items) texts.now) refusal ×
+        IsRefusalOf lines.now (map (λ text. text.items) texts.now) refusal ×
         (stop ≡ stop_of_refusal refusal name.now (map (λ component. component.now) components.now))) }
     ensures checks { IfErr result IsOfChecks }
-    ensures reads { IfOk result (Reads (kinds_of lines.now) (map (λ text. text.items) texts.now)) }
+    ensures reads { IfOk result (Reads lines.now (map (λ text. text.items) texts.now)) }
     ensures executable { IfOk result (λ dev. is_complete dev ≡ true → IsB0Development dev) }
 {
     match project(alloc, lines, texts) {
@@ -162,6 +162,7 @@ fn read_lines<H: Shelf>(alloc: Global, name: &str, shelf: &mut H) -> Result<Vec<
 }
 
 // The names of the component files, or of the proof files, in order.
+#[tactic(auto, using(crate::proofs::Projects::file_kept, crate::proofs::Projects::file_passed))]
 fn names<'a>(alloc: Global, lines: &'a [ProjectLine], of_proofs: bool) -> Result<Vec<&'a str>, Stop>
     requires { All (λ line. IsFileName line.name) lines.now }
     ensures memory { IfErr result (λ stop. stop ≡ Memory) }
@@ -169,11 +170,22 @@ fn names<'a>(alloc: Global, lines: &'a [ProjectLine], of_proofs: bool) -> Result
 {
     let mut names = Vec::new(alloc);
     for line in lines {
-        if (line.kind == LineKind::Proofs) == of_proofs {
+        if names_file(line.kind, of_proofs) {
             names.push(file_name(&line.name))?;
         }
     }
     Ok(names)
+}
+
+// Whether such a line names a component file, or a proof file.
+fn names_file(kind: LineKind, of_proofs: bool) -> bool
+    ensures { result ≡ cond of_proofs (is_proofs kind) (is_component kind) }
+{
+    if of_proofs {
+        kind == LineKind::Proofs
+    } else {
+        kind.is_component()
+    }
 }
 
 // The names of the proof files, in order, where they are wanted.

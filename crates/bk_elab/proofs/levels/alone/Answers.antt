@@ -1,4 +1,4 @@
-use Rattle.std.proofs.Common.{◌≡◌, ◌∙◌, ap, sym, subst, refl, [], ◌∷◌, ◌++◌, length, arith}
+use Rattle.std.proofs.Common.{◌≡◌, ◌∙◌, ap, sym, subst, refl, [], ◌∷◌, ◌++◌, length, arith, w64, to_z, of_z, to_z-of_z}
 use Rattle.std.proofs.lemmas.List.{length-map}
 use Rattle.bk_form.specs.Table.{Table}
 use Rattle.bk_dev.specs.Facts.{IsDevelopment}
@@ -6,7 +6,6 @@ use Rattle.bk_dev.proofs.Room.{few-variables}
 use Rattle.bk_elab.specs.Answered.{variables_added}
 use Rattle.bk_elab.proofs.Assembling.{listed-by, counted-by, sets-added, alone-table}
 use Rattle.bk_elab.proofs.levels.alone.Goals as goal
-use Rattle.bk_dev.specs.Development.{default_max}
 
 pub add_sets-requires-clause-counted : goal.add_sets-requires-clause-counted
 add_sets-requires-clause-counted c =
@@ -29,8 +28,9 @@ returns c =
     let a = c.args.added in
     let extents : c.push.new.self.items ≡ (length c.add_variables.new.table.sets, length c.add_variables.new.table.variables) ∷ [] =
     c.in_ok-push.ensures.items ∙ (λ i. c.new-extents.ensures.items i ++ c.extent_of.ensures i ∷ []) in
-    (λ i. record { max = default_max; table = c.add_variables.new.table; homes = a.homes.items; sets = a.sets.items; heads = a.heads.items; levels = a.own.items; values = a.values.items; extents = extents i })
-    ∙ ap (λ (t : Table). record { max = default_max; table = t; homes = a.homes.items; sets = a.sets.items; heads = a.heads.items; levels = a.own.items; values = a.values.items; extents = (length t.sets, length t.variables) ∷ [] })
+    let most : to_z w64 (of_z w64 c.args.max) ≡ c.args.max = to_z-of_z c.ranges.max in
+    (λ i. record { max = most i; table = c.add_variables.new.table; homes = a.homes.items; sets = a.sets.items; heads = a.heads.items; levels = a.own.items; values = a.values.items; extents = extents i })
+    ∙ ap (λ (t : Table). record { max = c.args.max; table = t; homes = a.homes.items; sets = a.sets.items; heads = a.heads.items; levels = a.own.items; values = a.values.items; extents = (length t.sets, length t.variables) ∷ [] })
     (alone-table c.new-table.result c.add_sets.new.table c.add_variables.new.table c.deref.result.now a.sets.items (variables_added a.variables.items) c.new-table.ensures c.deref.ensures.value c.in_ok-add_sets.ensures c.in_ok-add_variables.ensures)
 
 pub invariant_of-result : goal.invariant_of-result

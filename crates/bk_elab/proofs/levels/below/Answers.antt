@@ -6,10 +6,7 @@ use Rattle.bk_dev.specs.Facts.{IsDevelopment}
 use Rattle.bk_dev.proofs.Room.{few-variables}
 use Rattle.bk_elab.specs.Answered.{variables_added, with_sets}
 use Rattle.bk_elab.proofs.Assembling.{listed-by, counted-by, sets-added, below-made}
-use Rattle.std.proofs.Common.{to_z, of_z, FitsSigned, w64}
-use Rattle.std.proofs.lemmas.Int.{to_z-of_z}
-use Rattle.bk_dev.specs.Development.{IsRange}
-use Rattle.bk_elab.proofs.Assembling.{range-fits}
+use Rattle.std.proofs.Common.{to_z, of_z, w64, to_z-of_z}
 use Rattle.bk_elab.proofs.levels.below.Goals as goal
 
 pub add_sets-requires-clause-counted : goal.add_sets-requires-clause-counted
@@ -39,20 +36,16 @@ add_variables-requires-clause-few c =
 
 pub returns : goal.returns
 returns c =
-    let same : c.above.inside.max ≡ c.args.above.max = ap (λ (d : Development). d.max) c.above.view_is in
-    let fits : FitsSigned w64 c.above.inside.max = range-fits c.above.inside.max (subst IsRange (sym same) c.requires.development.lawful.range) in
-    let most : to_z w64 (of_z w64 c.above.inside.max) ≡ c.above.inside.max = to_z-of_z w64 c.above.inside.max fits in
+    let most : to_z w64 (of_z w64 c.args.max) ≡ c.args.max = to_z-of_z c.ranges.max in
     (λ i. record { max = most i; table = c.add_variables.new.table; homes = c.append-2.new.self.items; sets = c.append.new.self.items; heads = c.above.inside.heads.items; levels = c.append-3.new.self.items; values = c.args.added.values.items; extents = c.push.new.self.items })
-    ∙ below-made c.args.above _ c.args.added c.add_sets.new.table c.add_variables.new.table c.deref.result.now c.append.new.self.items c.append-2.new.self.items c.append-3.new.self.items c.push.new.self.items c.above.view_is c.requires.sets c.deref.ensures.value
+    ∙ below-made c.args.max c.args.above _ c.args.added c.add_sets.new.table c.add_variables.new.table c.deref.result.now c.append.new.self.items c.append-2.new.self.items c.append-3.new.self.items c.push.new.self.items c.above.view_is c.requires.sets c.deref.ensures.value
     c.in_ok-add_sets.ensures c.in_ok-add_variables.ensures c.in_ok-append.ensures.items c.in_ok-append-2.ensures.items c.in_ok-append-3.ensures.items (c.in_ok-push.ensures.items ∙ ap (λ (e : ℕ × ℕ). c.above.inside.extents.items ++ e ∷ []) c.extent_of.ensures)
 
 pub invariant_of-result : goal.invariant_of-result
 invariant_of-result c =
-    let same : c.above.inside.max ≡ c.args.above.max = ap (λ (d : Development). d.max) c.above.view_is in
-    let fits : FitsSigned w64 c.above.inside.max = range-fits c.above.inside.max (subst IsRange (sym same) c.requires.development.lawful.range) in
-    let most : to_z w64 (of_z w64 c.above.inside.max) ≡ c.above.inside.max = to_z-of_z w64 c.above.inside.max fits in
+    let most : to_z w64 (of_z w64 c.args.max) ≡ c.args.max = to_z-of_z c.ranges.max in
     subst IsDevelopment (sym (
     (λ i. record { max = most i; table = c.add_variables.new.table; homes = c.append-2.new.self.items; sets = c.append.new.self.items; heads = c.above.inside.heads.items; levels = c.append-3.new.self.items; values = c.args.added.values.items; extents = c.push.new.self.items })
-    ∙ below-made c.args.above _ c.args.added c.add_sets.new.table c.add_variables.new.table c.deref.result.now c.append.new.self.items c.append-2.new.self.items c.append-3.new.self.items c.push.new.self.items c.above.view_is c.requires.sets c.deref.ensures.value
+    ∙ below-made c.args.max c.args.above _ c.args.added c.add_sets.new.table c.add_variables.new.table c.deref.result.now c.append.new.self.items c.append-2.new.self.items c.append-3.new.self.items c.push.new.self.items c.above.view_is c.requires.sets c.deref.ensures.value
     c.in_ok-add_sets.ensures c.in_ok-add_variables.ensures c.in_ok-append.ensures.items c.in_ok-append-2.ensures.items c.in_ok-append-3.ensures.items (c.in_ok-push.ensures.items ∙ ap (λ (e : ℕ × ℕ). c.above.inside.extents.items ++ e ∷ []) c.extent_of.ensures)))
     c.requires.development

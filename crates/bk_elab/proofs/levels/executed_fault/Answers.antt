@@ -1,4 +1,4 @@
-use Rattle.std.proofs.Common.{◌∙◌, sym, ap, subst, ℕ, List}
+use Rattle.std.proofs.Common.{◌∙◌, refl, sym, ap, subst, ℕ, List}
 use Rattle.bk_form.specs.Formula.{Formula}
 use Rattle.bk_dev.specs.Development.{Level}
 use Rattle.bk_raw.specs.Errors.Blame.{blame}
@@ -32,7 +32,7 @@ returns c =
     let max = c.args.typing.max in
     let p = plan_shown c.args.plan.now in
     let made : IsMadeBy a max (types_at max dev k (plan dev k)) p k = subst (λ (t : Typing). IsMadeBy a max t p k) c.requires.types c.requires.made in
-    let so : IsDeclaredBy (level_below max dev k) c.args.typing dev a.own.items a.values.items = declared-so a max dev k p c.requires.planned.shown made c.args.typing c.requires.types c.requires.range in
+    let so : IsDeclaredBy (level_below max dev k) c.args.typing dev a.own.items a.values.items = declared-so a max dev k p c.requires.planned.shown made c.args.typing c.requires.types refl in
     let there : IsDeclaredBy (level_below max dev k) c.args.typing dev c.deref.result.now c.deref-2.result.now =
     subst (λ (own : List Level). IsDeclaredBy (level_below max dev k) c.args.typing dev own c.deref-2.result.now) (sym c.deref.ensures.value)
     (subst (λ (vs : List (ℕ × Formula)). IsDeclaredBy (level_below max dev k) c.args.typing dev a.own.items vs) (sym c.deref-2.ensures.value) so) in

@@ -48,11 +48,11 @@ counted-requires-clause-sets c = at-sets c.args.raw.now.kind c.args.above c.requ
 pub counted-requires-clause-room : goal.counted-requires-clause-room
 counted-requires-clause-room c = λ room.
     (levelled c.args.max _ c.args.above c.args.raw.now (component_shown c.in_ok-component.component) (above_of (option_copied c.as_ref.result)) c.in_ok-judged.judged.added (to_z-of_z c.ranges.max) c.in_ok-component.ensures (ap above_of c.as_ref.ensures.value)
-    c.requires.range c.requires.above (sym c.if-declares_too_many.false ∙ c.declares_too_many.ensures) (sym (ap told c.in_default.is) ∙ c.in_ok-judged.ensures.fault) c.in_ok-judged.ensures.added room).development
+    c.requires.above c.requires.range (sym c.if-declares_too_many.false ∙ c.declares_too_many.ensures) (sym (ap told c.in_default.is) ∙ c.in_ok-judged.ensures.fault) c.in_ok-judged.ensures.added room).development
 
 pub returns : goal.returns
 returns c =
     let all = subst (IsLevelled c.args.max c.args.above c.args.raw.now) (sym c.in_ok-made.ensures.made)
     (levelled c.args.max _ c.args.above c.args.raw.now (component_shown c.in_ok-component.component) (above_of (option_copied c.as_ref.result)) c.in_ok-judged.judged.added (to_z-of_z c.ranges.max) c.in_ok-component.ensures (ap above_of c.as_ref.ensures.value)
-    c.requires.range c.requires.above (sym c.if-declares_too_many.false ∙ c.declares_too_many.ensures) (sym (ap told c.in_default.is) ∙ c.in_ok-judged.ensures.fault) c.in_ok-judged.ensures.added c.in_ok-made.ensures.room) in
+    c.requires.above c.requires.range (sym c.if-declares_too_many.false ∙ c.declares_too_many.ensures) (sym (ap told c.in_default.is) ∙ c.in_ok-judged.ensures.fault) c.in_ok-judged.ensures.added c.in_ok-made.ensures.room) in
     record { level = all.verdict; fault = tt; development = all.development; room = all.room; executable = all.executable }

@@ -44,7 +44,7 @@ returns c =
     (ap (λ (ws : List Way). map way_shown ws) c.deref.ensures.value ∙ c.in_ok-ways.ensures dev c.in_ok-plan.ensures) c.in_ok-types.ensures in
     record {
       added =
-          subst (λ (n : ℤ). IsAddedBy c.in_ok-added.added dev (is_machine k.kind) (level_below n dev k)) back
+          subst (λ (n : ℤ). IsAddedBy n c.in_ok-added.added dev (is_machine k.kind) (level_below n dev k)) back
           (added-is c.in_ok-added.added m dev k p c.in_ok-plan.ensures.shown (subst (λ (t : Typing). IsMadeBy c.in_ok-added.added m t p k) types c.in_ok-added.ensures) c.requires.alone);
       fault =
           told-both (static_faults m dev k) (executable_faults m dev k) (told c.in_ok-fault.fault) (told c.in_ok-executed.executed) (told c.earlier.result)

@@ -4,7 +4,7 @@ use Rattle.bk_limits.specs.declared.TheConstants.{MOST_COMPONENTS}
 use Rattle.bk_lines.specs.Lines.{is_skipped}
 use Rattle.bk_sources.proofs.FileSteps.{ok_of}
 use Rattle.bk_front.specs.declared.project_file.ProjectLine.{ProjectLine}
-use Rattle.bk_front.specs.ProjectFile.{IsLine, word_of, IsRefusalOfLines, component_lines}
+use Rattle.bk_front.specs.ProjectFile.{IsLine, word_of, IsNameFor, IsProjectLine, IsRefusalOfLines, component_lines}
 use Rattle.bk_front.specs.Stages.{may_follow}
 use Rattle.bk_front.proofs.ProjectFiles.{ReadSoFar, one_more, no_line, no_place, no_machine, too_many, are_lines}
 use Rattle.bk_front.proofs.project_file.lines.Goals as goal
@@ -31,15 +31,17 @@ loop-line-preserved c =
     let less : length c.in-Some.after.now < length c.loop-line.rest.now = search rules in
     let counts : is_skipped c.in-Some.line.now ≡ false = search rules in
     let l : ProjectLine = record { kind = c.in-Some-kind_and_name.kind; name = c.in-Some-kind_and_name.name.now } in
-    let is : IsLine (word_of c.in-Some-kind_and_name.kind) c.in-Some-kind_and_name.name.now c.in-Some.line.now = search rules in
+    let written : IsLine (word_of c.in-Some-kind_and_name.kind) c.in-Some-kind_and_name.name.now c.in-Some.line.now = search rules in
+    let fits : IsNameFor c.in-Some-kind_and_name.kind c.in-Some-kind_and_name.name.now = search rules in
+    let is : IsProjectLine c.in-Some.line.now l = record { written = written; fits = fits } in
     let new : c.push.new.self.items ≡ c.loop-line.lines.items ++ l ∷ [] = search rules in
     subst (ReadSoFar c.args.text.now c.in-Some.after.now (c.loop-line.number + 1) c.push.new.self.items) (sym c.last_after-last.ensures)
     (one_more c.args.text.now c.loop-line.rest.now c.in-Some.after.now c.in-Some.line.now c.loop-line.number c.loop-line.lines.items c.push.new.self.items l c.loop-line.last c.loop-line.invariant here less counts is (search rules) new)
 
-pub returns-then-is_none-clause-refusal : goal.returns-then-is_none-clause-refusal
-returns-then-is_none-clause-refusal c =
+pub returns-then-lacks_machine-clause-refusal : goal.returns-then-lacks_machine-clause-refusal
+returns-then-lacks_machine-clause-refusal c =
     let utf8 = (ok_of _ _ _ c.in_default.field-0 c.from_utf8.ensures.cases c.in_default.is).1 in
-    subst (IsRefusalOfLines c.args.text.now) (sym c.at_fault-then-is_none.ensures) (refl, inr (refl, utf8, inr (no_machine c.args.text.now c.loop-line.rest.now c.loop-line.number c.loop-line.lines.items c.loop-line.last c.loop-line.invariant (search rules) (search rules))))
+    subst (IsRefusalOfLines c.args.text.now) (sym c.at_fault-then-lacks_machine.ensures) (refl, inr (refl, utf8, inr (no_machine c.args.text.now c.loop-line.rest.now c.loop-line.number c.loop-line.lines.items c.loop-line.last c.loop-line.invariant (search rules) (search rules))))
 
 pub returns-then-component_count-gt-MOST_COMPONENTS-clause-refusal : goal.returns-then-component_count-gt-MOST_COMPONENTS-clause-refusal
 returns-then-component_count-gt-MOST_COMPONENTS-clause-refusal c =

@@ -5,7 +5,7 @@ use Rattle.bk_front.specs.declared.project_file.LineKind.{LineKind}
 use Rattle.bk_front.specs.declared.project_file.LineKind.TheVariants.{Machine}
 use Rattle.bk_front.specs.declared.refusal.Refusal.TheVariants.{Fault}
 use Rattle.bk_front.specs.Chain.{may_stand_below}
-use Rattle.bk_front.specs.Project.{IsLow, IsRefusalOf}
+use Rattle.bk_front.specs.Project.{IsLow, IsRefusalIn}
 use Rattle.bk_front.proofs.Steps.{kinds_counted, at_kind, link_at, first_unchained, chained_on, last_on, all_chained}
 use Rattle.bk_front.proofs.reading.all_chained.Goals as goal
 
@@ -16,7 +16,7 @@ pub at_fault-requires : goal.at_fault-requires
 at_fault-requires c = omega (arith, c.loop-file-test.true, c.requires.countable, read_counted c.args.texts.now c.args.components.now IsLow c.requires.each)
 
 pub returns-then-not-may_stand_below-clause-refusal : goal.returns-then-not-may_stand_below-clause-refusal
-returns-then-not-may_stand_below-clause-refusal c =
+returns-then-not-may_stand_below-clause-refusal c top =
     let kinds : List LineKind = c.args.kinds.now in
     let texts : List (List ℕ) = bytes_of c.args.texts.now in
     let components : List RawComponent = c.args.components.now in
@@ -28,7 +28,7 @@ returns-then-not-may_stand_below-clause-refusal c =
     let wrong : may_stand_below (link_at components file kind component) ≡ false = ap (λ (a : Option RawComponent). may_stand_below (record { above = a; kind = kind; component = component })) (sym c.loop-file.invariant.0) ∙ sym c.may_stand_below.ensures ∙ c.if-not-may_stand_below.true in
     let first = first_unchained kinds components file kind component counted c.loop-file-test.true (at_kind kinds file Machine inside) c.index-components-file.is c.loop-file.invariant.1 wrong in
     let told : c.at_fault.result ≡ Fault 5 (suc file) component.name.at = c.at_fault.ensures ∙ ap (λ (x : RawComponent). Fault 5 (suc file) x.name.at) c.component.view_is in
-    subst (IsRefusalOf kinds texts) (sym told) (file, refl, inr (inr (inl (refl, kinds_counted kinds c.args.texts.now c.requires.long, (components, c.requires.each, first)))))
+    subst (IsRefusalIn top kinds texts) (sym told) (file, refl, inr (inr (inl (refl, kinds_counted kinds c.args.texts.now c.requires.long, (components, c.requires.each, first)))))
 
 pub loop-file-preserved : goal.loop-file-preserved
 loop-file-preserved c =

@@ -1,7 +1,7 @@
 use Rattle.std.proofs.Common.{◌∙◌, inr, refl, sym, subst, arith}
 use Rattle.bk_sources.proofs.FileSteps.{bytes_of, read_counted}
 use Rattle.bk_sources.proofs.Turns.{all_on, all_end}
-use Rattle.bk_front.specs.Project.{DeclaresFew, DeclaresMany, IsLow, IsRefusalOf}
+use Rattle.bk_front.specs.Project.{DeclaresFew, DeclaresMany, IsLow, IsRefusalIn}
 use Rattle.bk_front.proofs.Steps.{first_item}
 use Rattle.bk_front.proofs.reading.all_few.Goals as goal
 
@@ -9,10 +9,10 @@ pub past_limit-requires : goal.past_limit-requires
 past_limit-requires c = omega (arith, c.loop-file-test.true, c.requires.countable, read_counted c.args.texts.now c.args.components.now IsLow c.requires.chained.each)
 
 pub returns-then-branch-clause-refusal : goal.returns-then-branch-clause-refusal
-returns-then-branch-clause-refusal c =
+returns-then-branch-clause-refusal c top =
     let many : DeclaresMany c.index-components-file.result = sym c.in_ok-passes_limit_of_names.ensures ∙ c.if-branch.true in
     let first = first_item DeclaresFew DeclaresMany c.args.components.now c.loop-file.file c.index-components-file.result c.loop-file-test.true c.index-components-file.is c.loop-file.invariant many in
-    subst (IsRefusalOf c.args.kinds.now (bytes_of c.args.texts.now)) (sym c.past_limit.ensures) (c.loop-file.file, refl, inr (inr (refl, (c.args.components.now, c.requires.chained, first))))
+    subst (IsRefusalIn top c.args.kinds.now (bytes_of c.args.texts.now)) (sym c.past_limit.ensures) (c.loop-file.file, refl, inr (inr (refl, (c.args.components.now, c.requires.chained, first))))
 
 pub loop-file-preserved : goal.loop-file-preserved
 loop-file-preserved c =

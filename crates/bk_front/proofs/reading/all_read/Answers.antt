@@ -5,7 +5,7 @@ use Rattle.bk_p_comp.specs.Faults.{IsFaultOfComponent}
 use Rattle.bk_sources.specs.Files.{IsShallowText, Has}
 use Rattle.bk_sources.proofs.FileSteps.{bytes_of, tokens_of, at_text, at_file, past_texts, files_counted, first_text}
 use Rattle.bk_sources.proofs.Turns.{zip_at, zip_both, zip_has, zip_all}
-use Rattle.bk_front.specs.Project.{IsRefusalOf, IsUnwritten, IsWritten}
+use Rattle.bk_front.specs.Project.{IsRefusalIn, IsUnwritten, IsWritten}
 use Rattle.bk_front.specs.Stages.{IsReadOf}
 use Rattle.bk_front.specs.declared.reading.Read.TheVariants.{Component, High}
 use Rattle.bk_front.proofs.Steps.{all_written, zip_more, low_read, high_read, unwritten, not_deep}
@@ -19,7 +19,7 @@ pub at_fault-requires : goal.at_fault-requires
 at_fault-requires c = omega (arith, c.loop-file-test.true, c.requires.countable, files_counted c.args.texts.now c.args.files.now IsShallowText c.requires.shallow)
 
 pub returns-in-Err-At-clause-refusal : goal.returns-in-Err-At-clause-refusal
-returns-in-Err-At-clause-refusal c kinds =
+returns-in-Err-At-clause-refusal c top kinds =
     let texts : List (List ℕ) = bytes_of c.args.texts.now in
     let files : List (List Token) = tokens_of c.args.files.now in
     let text : List ℕ = c.index-texts-file.result.items in
@@ -36,13 +36,13 @@ returns-in-Err-At-clause-refusal c kinds =
     let byte_here : c.byte_of.result ≡ byte_at (length text) tokens place = byte ∙ ap (λ n. byte_at n c.deref-in-Err-At.result.now place) (sym long) ∙ ap (λ ts. byte_at (length text) ts place) c.deref-in-Err-At.ensures.value in
     let fine = all_written (take file texts) c.loop-file.all.items c.loop-file.invariant in
     let first = first_text (Has IsWritten) (IsUnwritten c.byte_of.result) texts file text here.0 here.1 fine (unwritten text tokens place c.byte_of.result shallow fault byte_here) in
-    subst (IsRefusalOf kinds texts) (sym c.at_fault.ensures) (file, refl, inr (inl (refl, zip_has IsShallowText texts files c.requires.shallow, first)))
+    subst (IsRefusalIn top kinds texts) (sym c.at_fault.ensures) (file, refl, inr (inl (refl, zip_has IsShallowText texts files c.requires.shallow, first)))
 
 pub past_limit-requires : goal.past_limit-requires
 past_limit-requires c = omega (arith, c.loop-file-test.true, c.requires.countable, files_counted c.args.texts.now c.args.files.now IsShallowText c.requires.shallow)
 
 pub returns-in-Err-Depth-clause-refusal : goal.returns-in-Err-Depth-clause-refusal
-returns-in-Err-Depth-clause-refusal c kinds =
+returns-in-Err-Depth-clause-refusal c top kinds =
     let file : ℕ = c.loop-file.file in
     let at = at_file c.args.files.now file c.index-files-file.result c.loop-file-test.true c.index-files-file.is in
     let beside = zip_at IsShallowText (bytes_of c.args.texts.now) (tokens_of c.args.files.now) file c.index-files-file.result.items at.0 at.1 c.requires.shallow in

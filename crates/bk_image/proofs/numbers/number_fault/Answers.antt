@@ -1,57 +1,48 @@
 use Rattle.std.proofs.Common.{◌≡◌, ◌+◌, ◌∙◌, ◌<◌, arith, ap, subst, sym, length, All}
 use Rattle.std.specs.List.{flat_map}
-use Rattle.std.proofs.lemmas.Bool.{eqb-true, eqb-false}
-use Rattle.bk_code.specs.Checks.{IsGoodEntry}
-use Rattle.bk_image.specs.declared.fault.LoadFault.TheVariants.{BadJump}
-use Rattle.bk_image.specs.Spelling.{entry, inst}
-use Rattle.bk_image.specs.Faults.{IsFirst, IsFaultIn, IsEntryFault, IsOneInstFault, IsNumberFault, count_place}
-use Rattle.std.specs.Prelude.{MatchOption}
-use Rattle.bk_image.specs.Soundness.{AreSound}
-use Rattle.bk_image.proofs.FirstNumber.{first_ops, first_empty, judged_code}
-use Rattle.bk_image.proofs.Sizes.{ops_end, spelling_size}
+use Rattle.std.proofs.lemmas.Bool.{false≢true}
+use Rattle.bk_code.specs.Numbers.{int_max}
+use Rattle.bk_image.specs.declared.fault.LoadFault.TheVariants.{BadSlot}
+use Rattle.bk_image.specs.Spelling.{set, HasFewElements}
+use Rattle.bk_image.specs.Faults.{IsFirst, IsFaultIn, IsSetFault, IsNumberFault}
+use Rattle.bk_image.proofs.FirstNumber.{first_max, first_cells, first_sets, first_set}
+use Rattle.bk_image.proofs.Sizes.{sets_end, ops_end, laid_out_size}
+use Rattle.bk_image.proofs.Versions.{wrong_max}
 use Rattle.bk_image.proofs.numbers.number_fault.Goals as goal
 
-pub ops_begin-ops-requires : goal.ops_begin-ops-requires
-ops_begin-ops-requires c = omega (arith, c.requires.room, spelling_size c.args.image.now, ops_end c.args.image.now)
+pub returns-then-not-has_right_max : goal.returns-then-not-has_right_max
+returns-then-not-has_right_max c =
+    let v = c.args.version in
+    let image = c.args.image.now in
+    first_max v image (wrong_max v (int_max image) (λ right. false≢true (sym c.if-not-has_right_max.true ∙ c.has_right_max.ensures.1 right)))
 
-pub entries_fault-requires : goal.entries_fault-requires
-entries_fault-requires c =
-    omega (arith, c.requires.room, spelling_size c.args.image.now, ops_end c.args.image.now, c.ops_begin-ops.ensures, ap (λ ops. length (flat_map entry ops)) c.as_slice.ensures)
+pub returns-then-image-gt-MOST_CELLS : goal.returns-then-image-gt-MOST_CELLS
+returns-then-image-gt-MOST_CELLS c =
+    subst (λ at. IsFirst (IsNumberFault c.args.version c.args.image.now) (BadSlot at)) (sym c.cells_begin-cells.ensures.place)
+    (first_cells c.args.version c.args.image.now (c.has_right_max.ensures.0 c.if-not-has_right_max.false) c.if-image-gt-MOST_CELLS.true)
+
+pub returns-then-has_too_many_sets : goal.returns-then-has_too_many_sets
+returns-then-has_too_many_sets c =
+    subst (λ at. IsFirst (IsNumberFault c.args.version c.args.image.now) (BadSlot (at + 4))) (sym c.cells_begin-cells.ensures.place)
+    (first_sets c.args.version c.args.image.now (c.has_right_max.ensures.0 c.if-not-has_right_max.false) c.if-image-gt-MOST_CELLS.false c.if-has_too_many_sets.ensures)
+
+pub sets_fault-requires : goal.sets_fault-requires
+sets_fault-requires c =
+    let v = c.args.version in
+    let image = c.args.image.now in
+    omega (arith, c.requires.room, laid_out_size v image, sets_end v image, ops_end v image, c.cells_begin-cells.ensures.place, ap (λ ss. length (flat_map set ss)) c.as_slice.ensures)
 
 pub returns-in-Some : goal.returns-in-Some
 returns-in-Some c =
+    let v = c.args.version in
     let image = c.args.image.now in
     let e = c.in-Some.fault in
-    let ops = subst (λ ops. IsFirst (IsFaultIn entry (IsEntryFault image) c.ops_begin-ops.result ops) e) c.as_slice.ensures c.in-Some.ensures in
-    first_ops image e (c.if-image-gt-MOST_CELLS.false, c.if-has_too_many_sets.ensures) (subst (λ at. IsFirst (IsFaultIn entry (IsEntryFault image) at image.ops) e) c.ops_begin-ops.ensures ops)
+    let sets = subst (λ ss. IsFirst (IsFaultIn set (IsSetFault image) (c.cells_begin-cells.result + 6) ss) e) c.as_slice.ensures c.in-Some.ensures in
+    first_set v image e (c.has_right_max.ensures.0 c.if-not-has_right_max.false) c.if-image-gt-MOST_CELLS.false c.if-has_too_many_sets.ensures
+    (subst (λ at. IsFirst (IsFaultIn set (IsSetFault image) (at + 6) image.sets) e) c.cells_begin-cells.ensures.place sets)
 
-pub entries_end-count-requires : goal.entries_end-count-requires
-entries_end-count-requires c =
-    omega (arith, c.requires.room, spelling_size c.args.image.now, ops_end c.args.image.now, c.ops_begin-ops.ensures, ap (λ ops. length (flat_map entry ops)) c.as_slice-2.ensures)
+pub number_fault_behind-requires-clause-elements : goal.number_fault_behind-requires-clause-elements
+number_fault_behind-requires-clause-elements c = subst (λ ss. All (λ names. HasFewElements (int_max c.args.image.now) names) ss) c.as_slice.ensures c.in_default.ensures
 
-pub returns-then-is_empty : goal.returns-then-is_empty
-returns-then-is_empty c =
-    let image = c.args.image.now in
-    let good = subst (λ ops. All (IsGoodEntry image) ops) c.as_slice.ensures c.in_default.ensures in
-    let none = ap length (sym c.as_slice-3.ensures) ∙ eqb-true (length c.as_slice-3.result.now) 0 (sym c.is_empty.ensures ∙ c.if-is_empty.true) in
-    let count : c.entries_end-count.result ≡ count_place image = omega (arith, ops_end image, c.ops_begin-ops.ensures, c.entries_end-count.ensures, ap (λ ops. length (flat_map entry ops)) c.as_slice-2.ensures) in
-    subst (λ at. IsFirst (IsNumberFault image) (BadJump at)) (sym count) (first_empty image (c.if-image-gt-MOST_CELLS.false, c.if-has_too_many_sets.ensures) good none)
-
-pub overflow_add-count : goal.overflow_add-count
-overflow_add-count c =
-    omega (arith, c.requires.room, spelling_size c.args.image.now, ops_end c.args.image.now, c.ops_begin-ops.ensures, c.entries_end-count.ensures, ap (λ ops. length (flat_map entry ops)) c.as_slice-2.ensures)
-
-pub code_fault-requires-clause-room : goal.code_fault-requires-clause-room
-code_fault-requires-clause-room c =
-    omega (arith, c.requires.room, spelling_size c.args.image.now, ops_end c.args.image.now, c.ops_begin-ops.ensures, c.entries_end-count.ensures, ap (λ ops. length (flat_map entry ops)) c.as_slice-2.ensures)
-
-pub returns : goal.returns
-returns c =
-    let image = c.args.image.now in
-    let good = subst (λ ops. All (IsGoodEntry image) ops) c.as_slice.ensures c.in_default.ensures in
-    let other = eqb-false (length c.as_slice-3.result.now) 0 (sym c.is_empty.ensures ∙ c.if-is_empty.false) in
-    let same = ap length c.as_slice-3.ensures in
-    let some : 0 < length image.code = omega (arith, other, same) in
-    let count : c.entries_end-count.result ≡ count_place image = omega (arith, ops_end image, c.ops_begin-ops.ensures, c.entries_end-count.ensures, ap (λ ops. length (flat_map entry ops)) c.as_slice-2.ensures) in
-    let judged = subst (λ at. MatchOption c.code_fault.result (AreSound image image.code (length image.code)) (λ e. IsFirst (IsFaultIn inst (IsOneInstFault image) (at + 4) image.code) e)) count c.code_fault.ensures in
-    judged_code image c.code_fault.result c.requires.range (c.if-image-gt-MOST_CELLS.false, c.if-has_too_many_sets.ensures) good some c.requires.few judged
+pub number_fault_behind-requires-clause-max : goal.number_fault_behind-requires-clause-max
+number_fault_behind-requires-clause-max c = c.has_right_max.ensures.0 c.if-not-has_right_max.false

@@ -1,7 +1,7 @@
 use Rattle.std.proofs.Common.{◌≡◌, ◌⊎◌, ◌∙◌, All, List, true, false, length, Some, ap, subst, sym, rules}
 use Rattle.bk_io.specs.Files.{Files}
 use Rattle.bk_front.specs.declared.project_file.ProjectLine.{ProjectLine}
-use Rattle.bk_front.specs.ProjectFile.{IsFileName, AreLines, kinds_of}
+use Rattle.bk_front.specs.ProjectFile.{IsFileName, AreLines}
 use Rattle.bk_front.specs.Project.{Reads, IsRefusalOf}
 use Rattle.bk_p_proof.specs.Files.{AreScriptsOf, IsFaultOf}
 use Rattle.bk_verbs.specs.Stops.{IsOutside, StopsAtFiles, StopsAtProject, stop_of_refusal, stop_of_proofs}
@@ -71,7 +71,7 @@ returns-in_err-read_components-clause-cause g c =
     (c.in_ok-texts.ensures.told files (c.read_lines.ensures.files ∙ told))
     (c.in_ok-proof_texts.ensures.told files (c.fetch_all.ensures.files ∙ (c.read_lines.ensures.files ∙ told)))
     refusal stop
-    (subst (λ x. IsRefusalOf (kinds_of c.in_ok-lines.lines.items) (texts_of x) refusal) c.deref-7.ensures.value (subst (λ (x : List ProjectLine). IsRefusalOf (kinds_of x) (texts_of c.deref-7.result.now) refusal) c.deref-5.ensures.value cause.1))
+    (subst (λ x. IsRefusalOf c.in_ok-lines.lines.items (texts_of x) refusal) c.deref-7.ensures.value (subst (λ (x : List ProjectLine). IsRefusalOf x (texts_of c.deref-7.result.now) refusal) c.deref-5.ensures.value cause.1))
     (cause.2 ∙ ap (λ x. stop_of_refusal refusal c.args.name.now (nows x)) (c.deref-6.ensures.value ∙ sym c.deref-3.ensures.value)))
 
 pub returns-in_err-read_components-clause-reading : goal.returns-in_err-read_components-clause-reading
@@ -102,7 +102,7 @@ returns-in_err-read_scripts-clause-cause g c =
     (c.in_ok-texts.ensures.told files (c.read_lines.ensures.files ∙ told))
     (c.in_ok-proof_texts.ensures.told files (c.fetch_all.ensures.files ∙ (c.read_lines.ensures.files ∙ told)))
     dev fault stop
-    (subst (λ x. Reads (kinds_of c.in_ok-lines.lines.items) (texts_of x) dev) c.deref-7.ensures.value (subst (λ (x : List ProjectLine). Reads (kinds_of x) (texts_of c.deref-7.result.now) dev) c.deref-5.ensures.value c.in_ok-read_components.ensures.reads))
+    (subst (λ x. Reads c.in_ok-lines.lines.items (texts_of x) dev) c.deref-7.ensures.value (subst (λ (x : List ProjectLine). Reads x (texts_of c.deref-7.result.now) dev) c.deref-5.ensures.value c.in_ok-read_components.ensures.reads))
     (subst (λ x. IsFaultOf (texts_of x) fault) c.deref-9.ensures.value cause.1)
     (cause.2 ∙ ap (λ x. stop_of_proofs fault (nows x)) (c.deref-8.ensures.value ∙ sym c.deref-4.ensures.value)))
 
@@ -122,5 +122,5 @@ returns-clause-told g c files told =
     (c.in_ok-texts.ensures.told files (c.read_lines.ensures.files ∙ told))
     (c.in_ok-proof_texts.ensures.told files (c.fetch_all.ensures.files ∙ (c.read_lines.ensures.files ∙ told)))
     dev scripts
-    (subst (λ x. Reads (kinds_of c.in_ok-lines.lines.items) (texts_of x) dev) c.deref-7.ensures.value (subst (λ (x : List ProjectLine). Reads (kinds_of x) (texts_of c.deref-7.result.now) dev) c.deref-5.ensures.value c.in_ok-read_components.ensures.reads))
+    (subst (λ x. Reads c.in_ok-lines.lines.items (texts_of x) dev) c.deref-7.ensures.value (subst (λ (x : List ProjectLine). Reads x (texts_of c.deref-7.result.now) dev) c.deref-5.ensures.value c.in_ok-read_components.ensures.reads))
     (subst (λ x. AreScriptsOf (texts_of x) scripts) c.deref-9.ensures.value c.in_ok-read_scripts.ensures.value)
