@@ -61,7 +61,7 @@ pub(crate) fn infix(
         InfixOp::Intersection => joined(alloc, Join::Intersection, at.whole, left, right),
         InfixOp::Override => joined(alloc, Join::Override, at.whole, left, right),
         InfixOp::Minus => minus(alloc, at, left, right),
-        InfixOp::Times => times(alloc, at, left, right),
+        InfixOp::Times => left.times(alloc, at, right),
         InfixOp::DomainRestriction => left_part(alloc, BinOp::DomRes, at, left, right),
         InfixOp::DomainSubtraction => left_part(alloc, BinOp::DomSub, at, left, right),
         InfixOp::RangeRestriction => right_part(alloc, BinOp::RanRes, at, left, right),
@@ -520,25 +520,14 @@ pub(crate) fn pair(alloc: Global, left: Told, right: Told) -> Result<Step, Memor
 
 // ---- products
 
-// `a * b` of numbers or of sets by the side that gives first, or of two domains.
-fn times(alloc: Global, at: Places, left: Told, right: Told) -> Result<Step, Memory>
-    ensures { IfOk result (λ s. IsRead s
-        (meant.times at.whole at.left at.right (shown_outcome left) (shown_outcome right))) }
-{
-    match left {
-        Told::Expressed(
-            Expression {
-                node: Node::Whole(form, ty),
-            },
-        ) => value_times(alloc, at, form, ty, right),
-        Told::Expressed(_) => Ok(Step::silent(ungiven(at.whole, at.left, &right))),
-        Told::Ranging(form, ty, there) => domain_times(alloc, at, (form, ty, there), right),
-        _ => Ok(Step::silent(None)),
-    }
-}
-
 // A product of a value that gives a type.
-fn value_times(alloc: Global, at: Places, form: Form, ty: Ty, right: Told) -> Result<Step, Memory>
+pub(crate) fn value_times(
+    alloc: Global,
+    at: Places,
+    form: Form,
+    ty: Ty,
+    right: Told,
+) -> Result<Step, Memory>
     ensures { IfOk result (λ s. IsRead s
         (meant.times at.whole at.left at.right (partial (whole form ty)) (shown_outcome right))) }
 {
@@ -546,7 +535,7 @@ fn value_times(alloc: Global, at: Places, form: Form, ty: Ty, right: Told) -> Re
         TyView::Int => multiplied(alloc, at.right, form, right),
         TyView::Set(elements) => {
             let elements = elements.copy(alloc)?;
-            set_times(alloc, at.right, (form, elements), right)
+            right.set_times(alloc, at.right, (form, elements))
         }
         _ => Ok(Step::silent(unmatched(at.whole, &right))),
     }
@@ -565,7 +554,7 @@ fn unmatched(at: usize, right: &Told) -> Option<Fault>
 
 // What a product is at fault for whose left side, at a byte of its own, gives no type: the left side, or the whole
 // where the right side gives neither a number nor a set.
-fn ungiven(at: usize, place: usize, right: &Told) -> Option<Fault>
+pub(crate) fn ungiven(at: usize, place: usize, right: &Told) -> Option<Fault>
     ensures { told result ≡ blame (meant.ungiven at place (shown_outcome right.now)) }
 {
     match right {
@@ -584,7 +573,7 @@ fn ungiven(at: usize, place: usize, right: &Told) -> Option<Fault>
 
 // What a product is at fault for whose left side is a domain with a byte of its own and whose right side gives this
 // type of no set: the domain, where numbers are multiplied, and else the whole.
-fn no_number(at: usize, there: usize, ty: &Ty) -> Option<Fault>
+pub(crate) fn no_number(at: usize, there: usize, ty: &Ty) -> Option<Fault>
     ensures { told result ≡ blame (meant.no_number at there ty.now) }
 {
     match ty.view() {
@@ -609,60 +598,8 @@ fn multiplied(alloc: Global, place: usize, form: Form, right: Told) -> Result<St
     }
 }
 
-// A product of a set value.
-fn set_times(alloc: Global, place: usize, left: (Form, Ty), right: Told) -> Result<Step, Memory>
-    ensures { IfOk result (λ s. (at x : ℕ) → IsRead s
-        (meant.times at x place (partial (whole left.0 (set_type left.1))) (shown_outcome right))) }
-{
-    match right {
-        Told::Ranging(other, last, there) => {
-            let pair = Ty::pair(alloc, left.1, last)?;
-            let product = binary(alloc, BinOp::Times, left.0, other)?;
-            Ok(Step::plain(Told::Ranging(product, pair, there)))
-        }
-        Told::Expressed(_) => {
-            let Asked { answer, fault } = right.ask_set(alloc, place)?;
-            let Some((other, last)) = answer else {
-                return Ok(Step::silent(fault));
-            };
-            let pair = Ty::pair(alloc, left.1, last)?;
-            let product = binary(alloc, BinOp::Times, left.0, other)?;
-            Ok(Step::giving(product, Ty::set(alloc, pair)?))
-        }
-        _ => Ok(Step::silent(None)),
-    }
-}
-
-// A product of a domain that is no value, which is at fault at a byte of its own where a value is asked.
-fn domain_times(
-    alloc: Global,
-    at: Places,
-    left: (Form, Ty, usize),
-    right: Told,
-) -> Result<Step, Memory>
-    ensures { IfOk result (λ s. IsRead s
-        (meant.times at.whole at.left at.right (ranging left.0 left.1 left.2) (shown_outcome right))) }
-{
-    match right {
-        Told::Expressed(
-            Expression {
-                node: Node::Whole(other, ty),
-            },
-        ) => match ty.view() {
-            TyView::Set(last) => {
-                let last = last.copy(alloc)?;
-                domain_product(alloc, left, other, last)
-            }
-            _ => Ok(Step::silent(no_number(at.whole, left.2, &ty))),
-        },
-        Told::Expressed(_) => Ok(Step::silent(no_type(at.right))),
-        Told::Ranging(other, last, _) => domain_product(alloc, left, other, last),
-        _ => Ok(Step::silent(None)),
-    }
-}
-
 // The product of a domain that is no value and of another domain over a type.
-fn domain_product(
+pub(crate) fn domain_product(
     alloc: Global,
     left: (Form, Ty, usize),
     other: Form,
@@ -804,15 +741,17 @@ fn composed(
 // ---- {a, b, c}
 
 // `{E}` of an expression.
+#[tactic(auto, using(crate::proofs::Values::alone))]
 pub(crate) fn single(alloc: Global, element: Told) -> Result<Step, Memory>
     ensures { IfOk result (λ s. IsRead s (meant.single_reading (shown_outcome element))) }
 {
-    match element {
-        Told::Expressed(expression) => {
+    let fault = element.unvalued();
+    match element.expression() {
+        Some(expression) => {
             let set = Expression::single(alloc, expression)?;
             Ok(Step::plain(Told::Expressed(set)))
         }
-        other => Ok(Step::silent(other.unvalued())),
+        None => Ok(Step::silent(fault)),
     }
 }
 
