@@ -2,9 +2,11 @@
 
 ghost use Rattle.std.specs.Prelude.{◌≡◌, ℕ, true, false, List, Some, IfOk, MatchResult, is_some};
 ghost use Rattle.bk_val.specs.ValueType.{int_type, pair_type, set_type};
-ghost use Rattle.bk_form.specs.Formula.{binary};
-ghost use Rattle.bk_form.specs.declared.operator.BinOp.TheVariants.{Eq, In, Times as Product};
-ghost use Rattle.bk_raw.specs.Meaning.Outcome.{Partial, whole, whole_of, partial, ranging, plainly, Reading};
+ghost use Rattle.bk_form.specs.Formula.{unary, binary};
+ghost use Rattle.bk_form.specs.Role.{same_type};
+ghost use Rattle.bk_form.specs.declared.operator.UnOp.TheVariants.{Not, Pow};
+ghost use Rattle.bk_form.specs.declared.operator.BinOp.TheVariants.{And, Eq, In, Times as Product};
+ghost use Rattle.bk_raw.specs.Meaning.Outcome.{Partial, whole, whole_of, partial, ranging, ask, plainly, Reading};
 ghost use Rattle.bk_raw.specs.Meaning.OperatorReadings as meant;
 ghost use Rattle.bk_raw.specs.Errors.Blame.{blame};
 ghost use Rattle.bk_raw.specs.Errors.Faults.{Fault as FaultAt};
@@ -225,9 +227,8 @@ fn arrow(alloc: Global, op: BinOp, at: Places, left: Told, right: Told) -> Resul
     let second = right.ask_domain(alloc, at.right)?;
     let fault = earlier(first.fault, second.fault);
     match (first.answer, second.answer) {
-        (Some((one, ty)), Some((other, last))) => {
-            let pair = Ty::pair(alloc, ty, last)?;
-            let form = binary(alloc, op, one, other)?;
+        (Some(one), Some(other)) => {
+            let (form, pair) = crossed(alloc, op, one, other)?;
             Ok(Step {
                 outcome: Told::Ranging(form, Ty::set(alloc, pair)?, at.whole),
                 fault,
@@ -308,14 +309,21 @@ fn strict_subset(alloc: Global, at: Places, left: Told, right: Told) -> Result<S
     let Some(part) = part.answer else {
         return Ok(Step::silent(fault));
     };
+    Ok(Step {
+        outcome: Told::Holding(strictly_inside(alloc, part, whole)?),
+        fault,
+    })
+}
+
+// `S : POW(T) & not(S = T)`.
+fn strictly_inside(alloc: Global, part: Form, whole: Form) -> Result<Form, Memory>
+    ensures { IfOk result (λ f. f ≡
+        binary And (binary In part (unary Pow whole)) (unary Not (binary Eq part whole))) }
+{
     let power = unary(alloc, UnOp::Pow, whole.copy(alloc)?)?;
     let inside = binary(alloc, BinOp::In, part.copy(alloc)?, power)?;
     let same = binary(alloc, BinOp::Eq, part, whole)?;
-    let form = binary(alloc, BinOp::And, inside, unary(alloc, UnOp::Not, same)?)?;
-    Ok(Step {
-        outcome: Told::Holding(form),
-        fault,
-    })
+    binary(alloc, BinOp::And, inside, unary(alloc, UnOp::Not, same)?)
 }
 
 // ---- two sides of one type
@@ -609,12 +617,40 @@ pub(crate) fn domain_product(
         (plainly (ranging (binary Product left.0 other) (pair_type left.1 last) left.2))) }
 {
     let (form, first, there) = left;
-    let pair = Ty::pair(alloc, first, last)?;
-    let product = binary(alloc, BinOp::Times, form, other)?;
+    let (product, pair) = crossed(alloc, BinOp::Times, (form, first), (other, last))?;
     Ok(Step::plain(Told::Ranging(product, pair, there)))
 }
 
+// An operator on two formulas, and the type of pairs of theirs.
+pub(crate) fn crossed(
+    alloc: Global,
+    op: BinOp,
+    left: (Form, Ty),
+    right: (Form, Ty),
+) -> Result<(Form, Ty), Memory>
+    ensures { IfOk result (λ p. (p.0 ≡ binary op left.0 right.0) × (p.1 ≡ pair_type left.1 right.1)) }
+{
+    let pair = Ty::pair(alloc, left.1, right.1)?;
+    Ok((binary(alloc, op, left.0, right.0)?, pair))
+}
+
 // ---- relations
+
+// A set of elements of this type.
+fn as_set(alloc: Global, at: usize, part: Told, elements: &Ty) -> Result<Asked<Form>, Memory>
+    ensures { IfOk result (λ a. IsAsked a.answer a.fault (ask at (shown_outcome part) (set_type elements.now))) }
+{
+    let set = Ty::set(alloc, elements.copy(alloc)?)?;
+    part.ask(alloc, at, &set)
+}
+
+// The type of relations between these.
+fn relation_type(alloc: Global, first: Ty, second: Ty) -> Result<Ty, Memory>
+    ensures { IfOk result (λ t. t ≡ set_type (pair_type first second)) }
+{
+    let pair = Ty::pair(alloc, first, second)?;
+    Ty::set(alloc, pair)
+}
 
 // `S <| r` and `S <<| r`: a relation, and a set of its first parts.
 #[tactic(auto, using(bk_raw::proofs::Blamed::blames))]
@@ -626,12 +662,12 @@ fn left_part(alloc: Global, op: BinOp, at: Places, left: Told, right: Told) -> R
     let Some((relation, first, second)) = answer else {
         return Ok(Step::silent(earlier(fault, left.unvalued())));
     };
-    let set = left.ask(alloc, at.left, &Ty::set(alloc, first.copy(alloc)?)?)?;
+    let set = as_set(alloc, at.left, left, &first)?;
     let fault = earlier(fault, set.fault);
     let Some(set) = set.answer else {
         return Ok(Step::silent(fault));
     };
-    let pairs = Ty::set(alloc, Ty::pair(alloc, first, second)?)?;
+    let pairs = relation_type(alloc, first, second)?;
     Ok(Step::told(binary(alloc, op, set, relation)?, pairs, fault))
 }
 
@@ -645,12 +681,12 @@ fn right_part(alloc: Global, op: BinOp, at: Places, left: Told, right: Told) -> 
     let Some((relation, first, second)) = answer else {
         return Ok(Step::silent(earlier(fault, right.unvalued())));
     };
-    let set = right.ask(alloc, at.right, &Ty::set(alloc, second.copy(alloc)?)?)?;
+    let set = as_set(alloc, at.right, right, &second)?;
     let fault = earlier(fault, set.fault);
     let Some(set) = set.answer else {
         return Ok(Step::silent(fault));
     };
-    let pairs = Ty::set(alloc, Ty::pair(alloc, first, second)?)?;
+    let pairs = relation_type(alloc, first, second)?;
     Ok(Step::told(binary(alloc, op, relation, set)?, pairs, fault))
 }
 
@@ -730,12 +766,18 @@ fn composed(
 {
     let (one, from, middle) = left;
     let (other, taken, to) = right;
-    if !is_same(&middle, &taken) {
+    if !are_same(middle, taken) {
         return Ok(Step::silent(no_type(at)));
     }
-    let form = binary(alloc, BinOp::Comp, one, other)?;
-    let pair = Ty::pair(alloc, from, to)?;
-    Ok(Step::giving(form, Ty::set(alloc, pair)?))
+    let pairs = relation_type(alloc, from, to)?;
+    Ok(Step::giving(binary(alloc, BinOp::Comp, one, other)?, pairs))
+}
+
+// Whether the types are the same, both of which are done with.
+fn are_same(one: Ty, other: Ty) -> bool
+    ensures { result ≡ same_type one other }
+{
+    is_same(&one, &other)
 }
 
 // ---- {a, b, c}

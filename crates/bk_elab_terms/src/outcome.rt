@@ -14,8 +14,7 @@ ghost use Rattle.bk_raw.specs.Errors.Faults.{Fault as FaultAt};
 ghost use Rattle.bk_elab_terms.specs.Shown.{shown_outcome, told, IsRead, IsAsked};
 
 use crate::blame::{Fault, earlier};
-use crate::made::binary;
-use crate::operator::{Places, domain_product, no_number, ungiven, value_times};
+use crate::operator::{Places, crossed, domain_product, no_number, ungiven, value_times};
 use crate::partial::{Expression, Node};
 use bk_form::{BinOp, Form, Ty, TyView};
 use bk_io::Memory;
@@ -354,8 +353,7 @@ impl Told {
     {
         match self {
             Told::Ranging(other, last, there) => {
-                let pair = Ty::pair(alloc, left.1, last)?;
-                let product = binary(alloc, BinOp::Times, left.0, other)?;
+                let (product, pair) = crossed(alloc, BinOp::Times, left, (other, last))?;
                 Ok(Step::plain(Told::Ranging(product, pair, there)))
             }
             Told::Expressed(..) => {
@@ -363,8 +361,7 @@ impl Told {
                 let Some((other, last)) = answer else {
                     return Ok(Step::silent(fault));
                 };
-                let pair = Ty::pair(alloc, left.1, last)?;
-                let product = binary(alloc, BinOp::Times, left.0, other)?;
+                let (product, pair) = crossed(alloc, BinOp::Times, left, (other, last))?;
                 Ok(Step::giving(product, Ty::set(alloc, pair)?))
             }
             _ => Ok(Step::silent(None)),
