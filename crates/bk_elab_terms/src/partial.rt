@@ -141,42 +141,33 @@ impl Expression {
     pub fn fill(self, alloc: Global, ty: &Ty) -> Result<Option<Form>, Memory>
         ensures { IfOk result (λ f. f ≡ filled self ty.now) }
     {
-        match self.node {
-            Node::Whole(form, given) => {
+        match (self.node, ty.view()) {
+            (Node::Whole(form, given), _) => {
                 if is_same(&given, ty) {
                     return Ok(Some(form));
                 }
                 Ok(None)
             }
-            Node::Empty => match ty.view() {
-                TyView::Set(_) => Ok(Some(Form::make(alloc, Part::Empty(ty.copy(alloc)?))?)),
-                _ => Ok(None),
-            },
-            Node::Single(element) => match ty.view() {
-                TyView::Set(elements) => {
-                    let Some(element) = Box::into_inner(element).fill(alloc, elements)? else {
-                        return Ok(None);
-                    };
-                    Ok(Some(unary(alloc, UnOp::Single, element)?))
-                }
-                _ => Ok(None),
-            },
-            Node::Pair(left, right) => match ty.view() {
-                TyView::Pair(first, second) => {
-                    let left = Box::into_inner(left).fill(alloc, first)?;
-                    let right = Box::into_inner(right).fill(alloc, second)?;
-                    both_made(alloc, BinOp::Maps, left, right)
-                }
-                _ => Ok(None),
-            },
-            Node::Joined(join, left, right) => {
-                if !join.is_for(ty) {
+            (Node::Empty, TyView::Set(_)) => {
+                Ok(Some(Form::make(alloc, Part::Empty(ty.copy(alloc)?))?))
+            }
+            (Node::Single(element), TyView::Set(elements)) => {
+                let Some(element) = Box::into_inner(element).fill(alloc, elements)? else {
                     return Ok(None);
-                }
+                };
+                Ok(Some(unary(alloc, UnOp::Single, element)?))
+            }
+            (Node::Pair(left, right), TyView::Pair(first, second)) => {
+                let left = Box::into_inner(left).fill(alloc, first)?;
+                let right = Box::into_inner(right).fill(alloc, second)?;
+                both_made(alloc, BinOp::Maps, left, right)
+            }
+            (Node::Joined(join, left, right), _) if join.is_for(ty) => {
                 let left = Box::into_inner(left).fill(alloc, ty)?;
                 let right = Box::into_inner(right).fill(alloc, ty)?;
                 both_made(alloc, join.op(), left, right)
             }
+            _ => Ok(None),
         }
     }
 }
