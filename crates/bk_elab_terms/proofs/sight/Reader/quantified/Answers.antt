@@ -3,7 +3,7 @@ use Rattle.std.proofs.lemmas.List.{take_rest}
 use Rattle.bk_raw.specs.Meaning.Binders.{untyped_faults, all_typed, types_of, where_typed, if_holding}
 use Rattle.bk_raw.specs.Meaning.Outcome.{holding}
 use Rattle.bk_raw.specs.Errors.Blame.{blame}
-use Rattle.bk_elab_terms.specs.Shown.{shown_outcome, told}
+use Rattle.bk_elab_terms.specs.Shown.{told}
 use Rattle.bk_elab_terms.specs.Sights.{bounds_of, bounds_from, quantifier}
 use Rattle.bk_elab_terms.specs.declared.outcome.Told.TheVariants.{Holding}
 use Rattle.bk_elab_terms.specs.declared.sight.Local.{Local}
