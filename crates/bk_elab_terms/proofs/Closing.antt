@@ -10,8 +10,6 @@ use Rattle.bk_raw.specs.Meaning.Outcome.{whole, Outcome, partial, ranging, holdi
 use Rattle.bk_raw.specs.Errors.Blame.{blame, earlier}
 use Rattle.bk_elab_terms.specs.declared.blame.Fault.{Fault as ToldFault}
 use Rattle.bk_elab_terms.specs.declared.outcome.Step.{Step}
-use Rattle.bk_elab_terms.specs.declared.outcome.Told.{Told}
-use Rattle.bk_elab_terms.specs.declared.outcome.Told.TheVariants.{Expressed, Ranging, Holding, Silent}
 use Rattle.bk_elab_terms.specs.Shown.{fault_of, shown_outcome, told, IsRead, IsAsked}
 use Rattle.bk_elab_terms.specs.Sights.{TypesOf, AreTaken}
 use Rattle.bk_raw.proofs.Blamed.{blame-joins, blame-none}
@@ -42,14 +40,11 @@ where-silent fs true = clean-silent fs
 where-silent fs false = clean-silent fs
 
 -- the body is no predicate
-pub holding-none : (fs : List Fault) (b : Bool) (k : Formula → Outcome) (t : Told) (o : Outcome) → shown_outcome t ≡ o → ((f : Formula) → t ≡ Holding f → ⊥) → clean fs (where_typed b (if_holding k o)) ≡ silent
-holding-none fs b k t o e h = ap (λ (x : Outcome). clean fs (where_typed b x)) (by t e h) ∙ where-silent fs b
-  where
-    by : (t : Told) → shown_outcome t ≡ o → ((f : Formula) → t ≡ Holding f → ⊥) → if_holding k o ≡ silent
-    by (Holding f) e h = absurd (h f refl)
-    by (Expressed p) e h = ap (if_holding k) (sym e)
-    by (Ranging f t there) e h = ap (if_holding k) (sym e)
-    by Silent e h = ap (if_holding k) (sym e)
+pub holding-none : (fs : List Fault) (b : Bool) (k : Formula → Outcome) (o : Outcome) → ((f : Formula) → o ≡ holding f → ⊥) → clean fs (where_typed b (if_holding k o)) ≡ silent
+holding-none fs b k (holding f) h = absurd (h f refl)
+holding-none fs b k (partial p) h = where-silent fs b
+holding-none fs b k (ranging f t there) h = where-silent fs b
+holding-none fs b k silent h = where-silent fs b
 
 -- the value gives no type
 pub giving-none : (fs : List Fault) (b : Bool) (k : Formula → Formula → ValueType → Outcome) (a : Option (Formula × ValueType)) (o : Outcome) → a ≡ None → clean fs (where_typed b (if_holding (λ p. if_giving (k p) a) o)) ≡ silent

@@ -260,7 +260,7 @@ impl<'a> Reader<'a> {
         let Some(types) = types else {
             return Ok(Step::silent(all));
         };
-        let Told::Holding(form) = body.outcome else {
+        let Some(form) = body.outcome.predicate() else {
             return Ok(Step::silent(all));
         };
         let made = quantifier(self.alloc, universal, types, form)?;
@@ -647,7 +647,7 @@ pub(crate) fn comprehended(
     let Some((ranges, ty)) = ranges_with_type(alloc, listed)? else {
         return Ok(Step::silent(all));
     };
-    let Told::Holding(form) = body.outcome else {
+    let Some(form) = body.outcome.predicate() else {
         return Ok(Step::silent(all));
     };
     let set = comprehension(alloc, ranges, form)?;
@@ -680,7 +680,7 @@ pub(crate) fn abstracted(
     let Some((ranges, ty)) = ranges_with_type(alloc, listed)? else {
         return Ok(Step::silent(all));
     };
-    let Told::Holding(form) = body.outcome else {
+    let Some(form) = body.outcome.predicate() else {
         return Ok(Step::silent(all));
     };
     let Some((image, to)) = asked.answer else {

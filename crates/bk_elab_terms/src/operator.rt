@@ -2,9 +2,11 @@
 
 ghost use Rattle.std.specs.Prelude.{◌≡◌, ℕ, true, false, List, Some, IfOk, MatchResult, is_some};
 ghost use Rattle.bk_val.specs.ValueType.{int_type, pair_type, set_type};
-ghost use Rattle.bk_form.specs.Formula.{binary};
-ghost use Rattle.bk_form.specs.declared.operator.BinOp.TheVariants.{Eq, In, Times as Product};
-ghost use Rattle.bk_raw.specs.Meaning.Outcome.{Partial, whole, whole_of, partial, ranging, plainly, Reading};
+ghost use Rattle.bk_form.specs.Formula.{unary, binary};
+ghost use Rattle.bk_form.specs.Role.{same_type};
+ghost use Rattle.bk_form.specs.declared.operator.UnOp.TheVariants.{Not, Pow};
+ghost use Rattle.bk_form.specs.declared.operator.BinOp.TheVariants.{And, Eq, In, Times as Product};
+ghost use Rattle.bk_raw.specs.Meaning.Outcome.{Partial, whole, whole_of, partial, ranging, ask, plainly, Reading};
 ghost use Rattle.bk_raw.specs.Meaning.OperatorReadings as meant;
 ghost use Rattle.bk_raw.specs.Errors.Blame.{blame};
 ghost use Rattle.bk_raw.specs.Errors.Faults.{Fault as FaultAt};
@@ -61,7 +63,7 @@ pub(crate) fn infix(
         InfixOp::Intersection => joined(alloc, Join::Intersection, at.whole, left, right),
         InfixOp::Override => joined(alloc, Join::Override, at.whole, left, right),
         InfixOp::Minus => minus(alloc, at, left, right),
-        InfixOp::Times => times(alloc, at, left, right),
+        InfixOp::Times => left.times(alloc, at, right),
         InfixOp::DomainRestriction => left_part(alloc, BinOp::DomRes, at, left, right),
         InfixOp::DomainSubtraction => left_part(alloc, BinOp::DomSub, at, left, right),
         InfixOp::RangeRestriction => right_part(alloc, BinOp::RanRes, at, left, right),
@@ -228,9 +230,8 @@ fn arrow(alloc: Global, op: BinOp, at: Places, left: Told, right: Told) -> Resul
     let second = right.ask_domain(alloc, at.right)?;
     let fault = earlier(first.fault, second.fault);
     match (first.answer, second.answer) {
-        (Some((one, ty)), Some((other, last))) => {
-            let pair = Ty::pair(alloc, ty, last)?;
-            let form = binary(alloc, op, one, other)?;
+        (Some(one), Some(other)) => {
+            let (form, pair) = crossed(alloc, op, one, other)?;
             Ok(Step {
                 outcome: Told::Ranging(form, Ty::set(alloc, pair)?, at.whole),
                 fault,
@@ -311,14 +312,21 @@ fn strict_subset(alloc: Global, at: Places, left: Told, right: Told) -> Result<S
     let Some(part) = part.answer else {
         return Ok(Step::silent(fault));
     };
+    Ok(Step {
+        outcome: Told::Holding(strictly_inside(alloc, part, whole)?),
+        fault,
+    })
+}
+
+// `S : POW(T) & not(S = T)`.
+fn strictly_inside(alloc: Global, part: Form, whole: Form) -> Result<Form, Memory>
+    ensures { IfOk result (λ f. f ≡
+        binary And (binary In part (unary Pow whole)) (unary Not (binary Eq part whole))) }
+{
     let power = unary(alloc, UnOp::Pow, whole.copy(alloc)?)?;
     let inside = binary(alloc, BinOp::In, part.copy(alloc)?, power)?;
     let same = binary(alloc, BinOp::Eq, part, whole)?;
-    let form = binary(alloc, BinOp::And, inside, unary(alloc, UnOp::Not, same)?)?;
-    Ok(Step {
-        outcome: Told::Holding(form),
-        fault,
-    })
+    binary(alloc, BinOp::And, inside, unary(alloc, UnOp::Not, same)?)
 }
 
 // ---- two sides of one type
@@ -523,25 +531,14 @@ pub(crate) fn pair(alloc: Global, left: Told, right: Told) -> Result<Step, Memor
 
 // ---- products
 
-// `a * b` of numbers or of sets by the side that gives first, or of two domains.
-fn times(alloc: Global, at: Places, left: Told, right: Told) -> Result<Step, Memory>
-    ensures { IfOk result (λ s. IsRead s
-        (meant.times at.whole at.left at.right (shown_outcome left) (shown_outcome right))) }
-{
-    match left {
-        Told::Expressed(
-            Expression {
-                node: Node::Whole(form, ty),
-            },
-        ) => value_times(alloc, at, form, ty, right),
-        Told::Expressed(_) => Ok(Step::silent(ungiven(at.whole, at.left, &right))),
-        Told::Ranging(form, ty, there) => domain_times(alloc, at, (form, ty, there), right),
-        _ => Ok(Step::silent(None)),
-    }
-}
-
 // A product of a value that gives a type.
-fn value_times(alloc: Global, at: Places, form: Form, ty: Ty, right: Told) -> Result<Step, Memory>
+pub(crate) fn value_times(
+    alloc: Global,
+    at: Places,
+    form: Form,
+    ty: Ty,
+    right: Told,
+) -> Result<Step, Memory>
     ensures { IfOk result (λ s. IsRead s
         (meant.times at.whole at.left at.right (partial (whole form ty)) (shown_outcome right))) }
 {
@@ -549,7 +546,7 @@ fn value_times(alloc: Global, at: Places, form: Form, ty: Ty, right: Told) -> Re
         TyView::Int => multiplied(alloc, at.right, form, right),
         TyView::Set(elements) => {
             let elements = elements.copy(alloc)?;
-            set_times(alloc, at.right, (form, elements), right)
+            right.set_times(alloc, at.right, (form, elements))
         }
         _ => Ok(Step::silent(unmatched(at.whole, &right))),
     }
@@ -568,7 +565,7 @@ fn unmatched(at: usize, right: &Told) -> Option<Fault>
 
 // What a product is at fault for whose left side, at a byte of its own, gives no type: the left side, or the whole
 // where the right side gives neither a number nor a set.
-fn ungiven(at: usize, place: usize, right: &Told) -> Option<Fault>
+pub(crate) fn ungiven(at: usize, place: usize, right: &Told) -> Option<Fault>
     ensures { told result ≡ blame (meant.ungiven at place (shown_outcome right.now)) }
 {
     match right {
@@ -587,7 +584,7 @@ fn ungiven(at: usize, place: usize, right: &Told) -> Option<Fault>
 
 // What a product is at fault for whose left side is a domain with a byte of its own and whose right side gives this
 // type of no set: the domain, where numbers are multiplied, and else the whole.
-fn no_number(at: usize, there: usize, ty: &Ty) -> Option<Fault>
+pub(crate) fn no_number(at: usize, there: usize, ty: &Ty) -> Option<Fault>
     ensures { told result ≡ blame (meant.no_number at there ty.now) }
 {
     match ty.view() {
@@ -612,60 +609,8 @@ fn multiplied(alloc: Global, place: usize, form: Form, right: Told) -> Result<St
     }
 }
 
-// A product of a set value.
-fn set_times(alloc: Global, place: usize, left: (Form, Ty), right: Told) -> Result<Step, Memory>
-    ensures { IfOk result (λ s. (at x : ℕ) → IsRead s
-        (meant.times at x place (partial (whole left.0 (set_type left.1))) (shown_outcome right))) }
-{
-    match right {
-        Told::Ranging(other, last, there) => {
-            let pair = Ty::pair(alloc, left.1, last)?;
-            let product = binary(alloc, BinOp::Times, left.0, other)?;
-            Ok(Step::plain(Told::Ranging(product, pair, there)))
-        }
-        Told::Expressed(_) => {
-            let Asked { answer, fault } = right.ask_set(alloc, place)?;
-            let Some((other, last)) = answer else {
-                return Ok(Step::silent(fault));
-            };
-            let pair = Ty::pair(alloc, left.1, last)?;
-            let product = binary(alloc, BinOp::Times, left.0, other)?;
-            Ok(Step::giving(product, Ty::set(alloc, pair)?))
-        }
-        _ => Ok(Step::silent(None)),
-    }
-}
-
-// A product of a domain that is no value, which is at fault at a byte of its own where a value is asked.
-fn domain_times(
-    alloc: Global,
-    at: Places,
-    left: (Form, Ty, usize),
-    right: Told,
-) -> Result<Step, Memory>
-    ensures { IfOk result (λ s. IsRead s
-        (meant.times at.whole at.left at.right (ranging left.0 left.1 left.2) (shown_outcome right))) }
-{
-    match right {
-        Told::Expressed(
-            Expression {
-                node: Node::Whole(other, ty),
-            },
-        ) => match ty.view() {
-            TyView::Set(last) => {
-                let last = last.copy(alloc)?;
-                domain_product(alloc, left, other, last)
-            }
-            _ => Ok(Step::silent(no_number(at.whole, left.2, &ty))),
-        },
-        Told::Expressed(_) => Ok(Step::silent(no_type(at.right))),
-        Told::Ranging(other, last, _) => domain_product(alloc, left, other, last),
-        _ => Ok(Step::silent(None)),
-    }
-}
-
 // The product of a domain that is no value and of another domain over a type.
-fn domain_product(
+pub(crate) fn domain_product(
     alloc: Global,
     left: (Form, Ty, usize),
     other: Form,
@@ -675,12 +620,40 @@ fn domain_product(
         (plainly (ranging (binary Product left.0 other) (pair_type left.1 last) left.2))) }
 {
     let (form, first, there) = left;
-    let pair = Ty::pair(alloc, first, last)?;
-    let product = binary(alloc, BinOp::Times, form, other)?;
+    let (product, pair) = crossed(alloc, BinOp::Times, (form, first), (other, last))?;
     Ok(Step::plain(Told::Ranging(product, pair, there)))
 }
 
+// An operator on two formulas, and the type of pairs of theirs.
+pub(crate) fn crossed(
+    alloc: Global,
+    op: BinOp,
+    left: (Form, Ty),
+    right: (Form, Ty),
+) -> Result<(Form, Ty), Memory>
+    ensures { IfOk result (λ p. (p.0 ≡ binary op left.0 right.0) × (p.1 ≡ pair_type left.1 right.1)) }
+{
+    let pair = Ty::pair(alloc, left.1, right.1)?;
+    Ok((binary(alloc, op, left.0, right.0)?, pair))
+}
+
 // ---- relations
+
+// A set of elements of this type.
+fn as_set(alloc: Global, at: usize, part: Told, elements: &Ty) -> Result<Asked<Form>, Memory>
+    ensures { IfOk result (λ a. IsAsked a.answer a.fault (ask at (shown_outcome part) (set_type elements.now))) }
+{
+    let set = Ty::set(alloc, elements.copy(alloc)?)?;
+    part.ask(alloc, at, &set)
+}
+
+// The type of relations between these.
+fn relation_type(alloc: Global, first: Ty, second: Ty) -> Result<Ty, Memory>
+    ensures { IfOk result (λ t. t ≡ set_type (pair_type first second)) }
+{
+    let pair = Ty::pair(alloc, first, second)?;
+    Ty::set(alloc, pair)
+}
 
 // `S <| r` and `S <<| r`: a relation, and a set of its first parts.
 #[tactic(auto, using(bk_raw::proofs::Blamed::blames))]
@@ -692,12 +665,12 @@ fn left_part(alloc: Global, op: BinOp, at: Places, left: Told, right: Told) -> R
     let Some((relation, first, second)) = answer else {
         return Ok(Step::silent(earlier(fault, left.unvalued())));
     };
-    let set = left.ask(alloc, at.left, &Ty::set(alloc, first.copy(alloc)?)?)?;
+    let set = as_set(alloc, at.left, left, &first)?;
     let fault = earlier(fault, set.fault);
     let Some(set) = set.answer else {
         return Ok(Step::silent(fault));
     };
-    let pairs = Ty::set(alloc, Ty::pair(alloc, first, second)?)?;
+    let pairs = relation_type(alloc, first, second)?;
     Ok(Step::told(binary(alloc, op, set, relation)?, pairs, fault))
 }
 
@@ -711,12 +684,12 @@ fn right_part(alloc: Global, op: BinOp, at: Places, left: Told, right: Told) -> 
     let Some((relation, first, second)) = answer else {
         return Ok(Step::silent(earlier(fault, right.unvalued())));
     };
-    let set = right.ask(alloc, at.right, &Ty::set(alloc, second.copy(alloc)?)?)?;
+    let set = as_set(alloc, at.right, right, &second)?;
     let fault = earlier(fault, set.fault);
     let Some(set) = set.answer else {
         return Ok(Step::silent(fault));
     };
-    let pairs = Ty::set(alloc, Ty::pair(alloc, first, second)?)?;
+    let pairs = relation_type(alloc, first, second)?;
     Ok(Step::told(binary(alloc, op, relation, set)?, pairs, fault))
 }
 
@@ -796,26 +769,34 @@ fn composed(
 {
     let (one, from, middle) = left;
     let (other, taken, to) = right;
-    if !is_same(&middle, &taken) {
+    if !are_same(middle, taken) {
         return Ok(Step::silent(no_type(at)));
     }
-    let form = binary(alloc, BinOp::Comp, one, other)?;
-    let pair = Ty::pair(alloc, from, to)?;
-    Ok(Step::giving(form, Ty::set(alloc, pair)?))
+    let pairs = relation_type(alloc, from, to)?;
+    Ok(Step::giving(binary(alloc, BinOp::Comp, one, other)?, pairs))
+}
+
+// Whether the types are the same, both of which are done with.
+fn are_same(one: Ty, other: Ty) -> bool
+    ensures { result ≡ same_type one other }
+{
+    is_same(&one, &other)
 }
 
 // ---- {a, b, c}
 
 // `{E}` of an expression.
+#[tactic(auto, using(crate::proofs::Values::alone))]
 pub(crate) fn single(alloc: Global, element: Told) -> Result<Step, Memory>
     ensures { IfOk result (λ s. IsRead s (meant.single_reading (shown_outcome element))) }
 {
-    match element {
-        Told::Expressed(expression) => {
+    let fault = element.unvalued();
+    match element.expression() {
+        Some(expression) => {
             let set = Expression::single(alloc, expression)?;
             Ok(Step::plain(Told::Expressed(set)))
         }
-        other => Ok(Step::silent(other.unvalued())),
+        None => Ok(Step::silent(fault)),
     }
 }
 

@@ -1,7 +1,9 @@
 // What a term turns out to be, and what places ask of it.
 
-ghost use Rattle.std.specs.Prelude.{◌≡◌, ◌≢◌, List, IfOk, MatchOption, []};
+ghost use Rattle.std.specs.Prelude.{◌≡◌, ◌≢◌, ℕ, List, IfOk, MatchOption, []};
 ghost use Rattle.bk_val.specs.ValueType.{ValueType, pair_type, set_type};
+ghost use Rattle.bk_form.specs.Formula.{Formula};
+ghost use Rattle.bk_raw.specs.Meaning.OperatorReadings as meant;
 ghost use Rattle.bk_raw.specs.Meaning.Outcome as wanted;
 ghost use Rattle.bk_raw.specs.Meaning.Outcome.{Reading};
 ghost use Rattle.bk_raw.specs.Meaning.ScopeReading.{ask_formula};
@@ -12,14 +14,14 @@ ghost use Rattle.bk_raw.specs.Errors.Faults.{Fault as FaultAt};
 ghost use Rattle.bk_elab_terms.specs.Shown.{shown_outcome, told, IsRead, IsAsked};
 
 use crate::blame::{Fault, earlier};
+use crate::operator::{Places, crossed, domain_product, no_number, ungiven, value_times};
 use crate::partial::{Expression, Node};
-use bk_form::{Form, Ty, TyView};
+use bk_form::{BinOp, Form, Ty, TyView};
 use bk_io::Memory;
 use bk_raw::FaultKind;
 use std::alloc::Global;
 
 /// What a term turns out to be.
-#[derive(Drop)]
 pub enum Told {
     /// An expression.
     Expressed(Expression),
@@ -30,6 +32,18 @@ pub enum Told {
     Holding(Form),
     /// No formula: a fault lies within, or a name has no type.
     Silent,
+}
+
+// By hand, so that letting one go is a call: a derived one is written out, and proved, wherever one is let go.
+impl Drop for Told {
+    fn drop(self) {
+        match self {
+            Told::Expressed(_expression) => {}
+            Told::Ranging(_form, _ty, _) => {}
+            Told::Holding(_form) => {}
+            Told::Silent => {}
+        }
+    }
 }
 
 /// What comes of parts: an outcome, and the first of the faults.
@@ -177,6 +191,17 @@ impl Told {
         }
     }
 
+    // The predicate, where it is one.
+    pub(crate) fn predicate(self) -> Option<Form>
+        ensures { MatchOption result ((p : Formula) → shown_outcome self ≢ wanted.holding p)
+            (λ p. shown_outcome self ≡ wanted.holding p) }
+    {
+        match self {
+            Told::Holding(form) => Some(form),
+            _ => None,
+        }
+    }
+
     // An expression that takes this type.
     pub(crate) fn ask(self, alloc: Global, at: usize, ty: &Ty) -> Result<Asked<Form>, Memory>
         ensures { IfOk result (λ a. IsAsked a.answer a.fault (wanted.ask at (shown_outcome self) ty.now)) }
@@ -186,7 +211,7 @@ impl Told {
                 Some(form) => Ok(Asked::answered(form)),
                 None => Ok(Asked::untyped(at)),
             },
-            Told::Ranging(_, _, there) => Ok(Asked::untyped(there)),
+            Told::Ranging(.., there) => Ok(Asked::untyped(there)),
             _ => Ok(Asked::refused()),
         }
     }
@@ -200,7 +225,7 @@ impl Told {
                 Node::Whole(form, ty) => Asked::answered((form, ty)),
                 _ => Asked::untyped(at),
             },
-            Told::Ranging(_, _, there) => Asked::untyped(there),
+            Told::Ranging(.., there) => Asked::untyped(there),
             _ => Asked::refused(),
         }
     }
@@ -218,8 +243,8 @@ impl Told {
                 TyView::Set(elements) => Ok(Asked::answered((form, elements.copy(alloc)?))),
                 _ => Ok(Asked::untyped(at)),
             },
-            Told::Expressed(_) => Ok(Asked::untyped(at)),
-            Told::Ranging(_, _, there) => Ok(Asked::untyped(there)),
+            Told::Expressed(..) => Ok(Asked::untyped(at)),
+            Told::Ranging(.., there) => Ok(Asked::untyped(there)),
             _ => Ok(Asked::refused()),
         }
     }
@@ -243,8 +268,8 @@ impl Told {
                 }
                 None => Ok(Asked::untyped(at)),
             },
-            Told::Expressed(_) => Ok(Asked::untyped(at)),
-            Told::Ranging(_, _, there) => Ok(Asked::untyped(there)),
+            Told::Expressed(..) => Ok(Asked::untyped(at)),
+            Told::Ranging(.., there) => Ok(Asked::untyped(there)),
             _ => Ok(Asked::refused()),
         }
     }
@@ -279,7 +304,7 @@ impl Told {
                     node: Node::Whole(form, _),
                 },
             ) => Asked::answered(form),
-            Told::Expressed(_) => Asked::untyped(at),
+            Told::Expressed(..) => Asked::untyped(at),
             Told::Ranging(form, _ty, _) => Asked::answered(form),
             Told::Holding(form) => Asked::answered(form),
             Told::Silent => Asked::refused(),
@@ -293,6 +318,82 @@ impl Told {
         match self {
             Told::Ranging(_, _, there) => no_type(*there),
             _ => None,
+        }
+    }
+}
+
+// Products, each by what one of the sides is.
+impl Told {
+    // `a * b` of numbers or of sets by the side that gives first, or of two domains: this side is the left one.
+    pub(crate) fn times(self, alloc: Global, at: Places, right: Told) -> Result<Step, Memory>
+        ensures { IfOk result (λ s. IsRead s
+            (meant.times at.whole at.left at.right (shown_outcome self) (shown_outcome right))) }
+    {
+        match self {
+            Told::Expressed(
+                Expression {
+                    node: Node::Whole(form, ty),
+                },
+            ) => value_times(alloc, at, form, ty, right),
+            Told::Expressed(..) => Ok(Step::silent(ungiven(at.whole, at.left, &right))),
+            Told::Ranging(form, ty, there) => right.domain_times(alloc, at, (form, ty, there)),
+            _ => Ok(Step::silent(None)),
+        }
+    }
+
+    // A product of a set value on the left and this side.
+    pub(crate) fn set_times(
+        self,
+        alloc: Global,
+        place: usize,
+        left: (Form, Ty),
+    ) -> Result<Step, Memory>
+        ensures { IfOk result (λ s. (at x : ℕ) → IsRead s
+            (meant.times at x place (wanted.partial (wanted.whole left.0 (set_type left.1))) (shown_outcome self))) }
+    {
+        match self {
+            Told::Ranging(other, last, there) => {
+                let (product, pair) = crossed(alloc, BinOp::Times, left, (other, last))?;
+                Ok(Step::plain(Told::Ranging(product, pair, there)))
+            }
+            Told::Expressed(..) => {
+                let Asked { answer, fault } = self.ask_set(alloc, place)?;
+                let Some((other, last)) = answer else {
+                    return Ok(Step::silent(fault));
+                };
+                let (product, pair) = crossed(alloc, BinOp::Times, left, (other, last))?;
+                Ok(Step::giving(product, Ty::set(alloc, pair)?))
+            }
+            _ => Ok(Step::silent(None)),
+        }
+    }
+
+    // A product of a domain that is no value, which is at fault at a byte of its own where a value is asked, on the left
+    // and this side.
+    pub(crate) fn domain_times(
+        self,
+        alloc: Global,
+        at: Places,
+        left: (Form, Ty, usize),
+    ) -> Result<Step, Memory>
+        ensures { IfOk result (λ s. IsRead s
+            (meant.times at.whole at.left at.right (wanted.ranging left.0 left.1 left.2) (shown_outcome self))) }
+    {
+        match self {
+            Told::Expressed(
+                Expression {
+                    node: Node::Whole(other, ty),
+                },
+            ) => match ty.view() {
+                TyView::Set(last) => {
+                    let last = last.copy(alloc)?;
+                    domain_product(alloc, left, other, last)
+                }
+                _ => Ok(Step::silent(no_number(at.whole, left.2, &ty))),
+            },
+            Told::Expressed(..) => Ok(Step::silent(no_type(at.right))),
+            Told::Ranging(other, last, _) => domain_product(alloc, left, other, last),
+            _ => Ok(Step::silent(None)),
         }
     }
 }

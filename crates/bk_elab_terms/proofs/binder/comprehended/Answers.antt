@@ -26,10 +26,10 @@ returns-in_default c = λ fs p same read.
     (taken-none _ c.in_ok-ranges.field-0 (ranges_as c.args.names.items) c.in_default.is (subst (λ (ns : List RangedName). AreTaken (option_map (λ q. (q.0.items, q.1)) c.in_ok-ranges.field-0) (ranges_as ns)) c.as_slice-listed.ensures.value c.in_ok-ranges.ensures)))
     (ap told c.silent-in_default.ensures.fault ∙ all)
 
-pub returns-in_default-outcome : goal.returns-in_default-outcome
-returns-in_default-outcome c = λ fs p same read.
+pub returns-in_default-predicate : goal.returns-in_default-predicate
+returns-in_default-predicate c = λ fs p same read.
     let all : told c.binder_fault-all.result ≡ blame (comprehension_faults c.args.at fs (ranges_as c.args.names.items) p) =
     subst (λ (ns : List RangedName). told c.binder_fault-all.result ≡ blame (comprehension_faults c.args.at fs (ranges_as ns) p)) c.as_slice-listed.ensures.value (c.binder_fault-all.ensures fs p.faults same read.fault) in
-    comprehended-silent c.args.at fs (ranges_as c.args.names.items) p c.silent-in_default-outcome.result c.silent-in_default-outcome.ensures.outcome
-    (holding-none fs (is_some_name (ranges_as c.args.names.items) && all_typed (as_bound (ranges_as c.args.names.items))) (set_told (ranges_as c.args.names.items)) c.args.body.outcome p.outcome read.outcome c.in_default-outcome.not-Holding)
-    (ap told c.silent-in_default-outcome.ensures.fault ∙ all)
+    comprehended-silent c.args.at fs (ranges_as c.args.names.items) p c.silent-in_default-predicate.result c.silent-in_default-predicate.ensures.outcome
+    (holding-none fs (is_some_name (ranges_as c.args.names.items) && all_typed (as_bound (ranges_as c.args.names.items))) (set_told (ranges_as c.args.names.items)) p.outcome (λ f e. c.in_default-predicate.ensures f (read.outcome ∙ e)))
+    (ap told c.silent-in_default-predicate.ensures.fault ∙ all)
