@@ -6,7 +6,7 @@ use bk_form::{Domain, Form, Part};
 use bk_tests_fixtures::{leaf, literal, variable};
 use std::alloc::Global;
 
-const NAMES: [(&str, Domain); 6] = [
+const NAMES: &[(&str, Domain)] = &[
     ("INTEGER", Domain::Integer),
     ("NATURAL", Domain::Natural),
     ("NATURAL1", Domain::Natural1),
@@ -50,8 +50,8 @@ fn place(letters: &str, word: &str) -> Option<u32> {
 
 fn name(word: &str) -> Option<Domain> {
     for (name, domain) in NAMES {
-        if name == word {
-            return Some(domain);
+        if *name == word {
+            return Some(*domain);
         }
     }
     None

@@ -13,7 +13,7 @@ pub(crate) enum Sign<'a> {
     Function(u32),
 }
 
-const ONE: [(&str, UnOp); 13] = [
+const ONE: &[(&str, UnOp)] = &[
     ("not", UnOp::Not),
     ("bool", UnOp::BoolOf),
     ("neg", UnOp::Neg),
@@ -29,7 +29,7 @@ const ONE: [(&str, UnOp); 13] = [
     ("POW1", UnOp::Pow1),
 ];
 
-const TWO: [(&str, BinOp); 36] = [
+const TWO: &[(&str, BinOp)] = &[
     ("&", BinOp::And),
     ("or", BinOp::Or),
     ("=>", BinOp::Imp),
@@ -68,7 +68,7 @@ const TWO: [(&str, BinOp); 36] = [
     (";", BinOp::Comp),
 ];
 
-const RANGES: [(&str, Sign<'static>); 5] = [
+const RANGES: &[(&str, Sign<'static>)] = &[
     ("set1", Sign::Set(1)),
     ("set2", Sign::Set(2)),
     ("set3", Sign::Set(3)),
@@ -95,8 +95,8 @@ pub(crate) fn operator(word: &str) -> Option<Sign<'_>> {
 
 fn two(word: &str) -> Option<BinOp> {
     for (text, op) in TWO {
-        if text == word {
-            return Some(op);
+        if *text == word {
+            return Some(*op);
         }
     }
     None
@@ -104,8 +104,8 @@ fn two(word: &str) -> Option<BinOp> {
 
 fn one(word: &str) -> Option<UnOp> {
     for (text, op) in ONE {
-        if text == word {
-            return Some(op);
+        if *text == word {
+            return Some(*op);
         }
     }
     None
@@ -113,8 +113,8 @@ fn one(word: &str) -> Option<UnOp> {
 
 fn over_ranges(word: &str) -> Option<Sign<'_>> {
     for (text, sign) in RANGES {
-        if text == word {
-            return Some(sign);
+        if *text == word {
+            return Some(*sign);
         }
     }
     None
