@@ -53,8 +53,11 @@ fn under_more_binders(rt: HostRuntime) -> Result<(), Fail> {
     for (given, more, wanted) in LIFTED {
         let given = form(alloc, given)?;
         let wanted_form = form(alloc, wanted)?;
-        assert!(rt; lift(alloc, &given, more)?.equal(&wanted_form), "{wanted}");
-        assert!(rt; raise(alloc, &given, more)?.equal(&wanted_form), "{wanted}");
+        assert!(rt; lift(alloc, &given, *more)?.equal(&wanted_form), "{wanted}");
+        assert!(rt;
+            raise(alloc, &given, *more)?.equal(&wanted_form),
+            "{wanted}"
+        );
     }
     Ok(())
 }

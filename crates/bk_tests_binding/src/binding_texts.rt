@@ -3,7 +3,7 @@
 pub(crate) const LETTERS: &str = "xyzvw";
 
 // A formula, variables that are bound together, the last one innermost, and the formula with them bound.
-pub(crate) const CLOSED: [(&str, &[u32], &str); 9] = [
+pub(crate) const CLOSED: &[(&str, &[u32], &str)] = &[
     ("( x < y )", &[0, 1], "( b1 < b0 )"),
     ("( x < y )", &[1, 0], "( b0 < b1 )"),
     ("( x < y )", &[], "( x < y )"),
@@ -28,7 +28,7 @@ pub(crate) const CLOSED: [(&str, &[u32], &str); 9] = [
 ];
 
 // The body of a binder, a term for each of its variables, the last one for the innermost, and the body with them.
-pub(crate) const OPENED: [(&str, &[&str], &str); 8] = [
+pub(crate) const OPENED: &[(&str, &[&str], &str)] = &[
     ("( b0 < b1 )", &["v", "w"], "( w < v )"),
     (
         "( ( b2 + b1 ) + b0 )",
@@ -56,7 +56,7 @@ pub(crate) const OPENED: [(&str, &[&str], &str); 8] = [
 ];
 
 // A formula, how many binders more it stands under, and the formula there.
-pub(crate) const LIFTED: [(&str, u32, &str); 7] = [
+pub(crate) const LIFTED: &[(&str, u32, &str)] = &[
     ("( b0 < b1 )", 2, "( b2 < b3 )"),
     ("( b0 < b1 )", 0, "( b0 < b1 )"),
     ("( x < y )", 5, "( x < y )"),
@@ -75,7 +75,7 @@ pub(crate) const LIFTED: [(&str, u32, &str); 7] = [
 ];
 
 // A formula, pairs of a variable and the one in its place, and the formula with those.
-pub(crate) const RENAMED: [(&str, &[(u32, u32)], &str); 6] = [
+pub(crate) const RENAMED: &[(&str, &[(u32, u32)], &str)] = &[
     ("( x < y )", &[(0, 1), (1, 0)], "( y < x )"),
     ("( x < y )", &[(0, 3), (0, 4)], "( v < y )"),
     ("( x < y )", &[(2, 3)], "( x < y )"),
@@ -93,7 +93,7 @@ pub(crate) const RENAMED: [(&str, &[(u32, u32)], &str); 6] = [
 ];
 
 // A formula, pairs of a variable and the term in its place, and the formula with those.
-pub(crate) const REPLACED: [(&str, &[(u32, &str)], &str); 9] = [
+pub(crate) const REPLACED: &[(&str, &[(u32, &str)], &str)] = &[
     ("( x - x )", &[(0, "3")], "( 3 - 3 )"),
     (
         "( not ( y - x ) )",
@@ -122,10 +122,10 @@ pub(crate) const REPLACED: [(&str, &[(u32, &str)], &str); 9] = [
 ];
 
 // Formulas of one word that are no variables.
-pub(crate) const WORDS: [&str; 8] = ["0", "b0", "TRUE", "c0", "{}i", "C", "btrue", "bfalse"];
+pub(crate) const WORDS: &[&str] = &["0", "b0", "TRUE", "c0", "{}i", "C", "btrue", "bfalse"];
 
 // A formula, and whether x, y, z and v stand in it.
-pub(crate) const FREE: [(&str, [bool; 4]); 6] = [
+pub(crate) const FREE: &[(&str, [bool; 4])] = &[
     ("( not ( x - y ) )", [true, true, false, false]),
     ("( !i ( b0 = y ) )", [false, true, false, false]),
     ("( #i ( b0 = z ) )", [false, false, true, false]),

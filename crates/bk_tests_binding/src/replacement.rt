@@ -52,7 +52,7 @@ fn free_variables(rt: HostRuntime) -> Result<(), Fail> {
             free_in(&form, 2),
             free_in(&form, 3),
         ];
-        assert_eq!(rt; found, wanted, "{given}");
+        assert_eq!(rt; found, *wanted, "{given}");
     }
     Ok(())
 }
