@@ -45,7 +45,7 @@ pub(crate) const OPERATORS: [(&str, &str); 12] = [
 ];
 
 // What is defined everywhere.
-pub(crate) const EVERYWHERE: [&str; 45] = [
+pub(crate) const EVERYWHERE: &[&str] = &[
     "x",
     "b0",
     "3",
@@ -209,7 +209,7 @@ pub(crate) const RANGES: [(&str, &str); 11] = [
 ];
 
 // Executed expressions on a machine whose numbers go to 9, where f is an array over 1..5, g one over BOOL and h one over C.
-pub(crate) const EXECUTED: [(&str, &str); 27] = [
+pub(crate) const EXECUTED: &[(&str, &str)] = &[
     ("( x + y )", "( ( -9 <= ( x + y ) ) & ( ( x + y ) <= 9 ) )"),
     ("( x - y )", "( ( -9 <= ( x - y ) ) & ( ( x - y ) <= 9 ) )"),
     ("( x * y )", "( ( -9 <= ( x * y ) ) & ( ( x * y ) <= 9 ) )"),

@@ -14,7 +14,7 @@ fn form(alloc: Global, text: &str) -> Result<Form, Unread> {
 }
 
 // Two conditions, and what `both`, `where_true` and `where_false` make of them.
-const PAIRS: [(&str, &str, &str, &str, &str); 5] = [
+const PAIRS: &[(&str, &str, &str, &str, &str)] = &[
     (
         "( x = 0 )",
         "( y = 0 )",
@@ -102,7 +102,7 @@ fn indices(rt: HostRuntime) -> Result<(), Fail> {
 }
 
 // The types that are bound around a formula, the innermost last, the formula, and what it asks.
-const UNDER: [(&str, &str, &str); 4] = [
+const UNDER: &[(&str, &str, &str)] = &[
     ("", "( 1 / 2 )", "( not ( 2 = 0 ) )"),
     (
         "PXib",
