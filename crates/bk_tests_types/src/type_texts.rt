@@ -80,7 +80,7 @@ pub(crate) const BINDERS: [(&str, &str); 8] = [
 ];
 
 // Domains that are no values, and what they range over.
-pub(crate) const DOMAINS: [(&str, &str); 20] = [
+pub(crate) const DOMAINS: &[(&str, &str)] = &[
     ("INTEGER", "i"),
     ("NATURAL", "i"),
     ("NATURAL1", "i"),
@@ -104,7 +104,7 @@ pub(crate) const DOMAINS: [(&str, &str); 20] = [
 ];
 
 // Predicates.
-pub(crate) const PREDICATES: [&str; 24] = [
+pub(crate) const PREDICATES: &[&str] = &[
     "btrue",
     "bfalse",
     "( x : s )",
@@ -236,7 +236,7 @@ pub(crate) const UNTYPED_PREDICATES: [&str; 25] = [
 ];
 
 // Types that are bound around a formula, the innermost last, the formula, and its type.
-pub(crate) const AROUND: [(&str, &str, &str); 5] = [
+pub(crate) const AROUND: &[(&str, &str, &str)] = &[
     ("ib", "b0", "b"),
     ("ib", "b1", "i"),
     ("Pib", "( b1 times ( single b0 ) )", "PXib"),
@@ -245,7 +245,7 @@ pub(crate) const AROUND: [(&str, &str, &str); 5] = [
 ];
 
 // The same, of formulas that stand for nothing.
-pub(crate) const UNTYPED_AROUND: [(&str, &str); 4] = [
+pub(crate) const UNTYPED_AROUND: &[(&str, &str)] = &[
     ("ib", "b2"),
     ("d", "b0"),
     ("iPd", "( single b0 )"),
