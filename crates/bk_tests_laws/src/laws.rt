@@ -108,52 +108,54 @@ fn fault(alloc: Global, family: Family, law: u16, picks: &[Form]) -> Option<LawF
     }
 }
 
+// A law, letters for its terms, and its fault, if any.
+const FAULTS: &[(Family, u16, &str, Option<LawFault>)] = &[
+    (Family::Logic, 0, "", Some(LawFault::Unknown)),
+    (Family::Logic, 29, "PQ", Some(LawFault::Unknown)),
+    (Family::Logic, 100, "ab", Some(LawFault::Unknown)),
+    (Family::Logic, 131, "ab", Some(LawFault::Unknown)),
+    (Family::Logic, 236, "abo", Some(LawFault::Unknown)),
+    (Family::Logic, 105, "", Some(LawFault::Picks(0))),
+    (Family::Logic, 105, "ab", Some(LawFault::Picks(2))),
+    (Family::Logic, 105, "abcd", Some(LawFault::Picks(4))),
+    (Family::Logic, 105, "abc", None),
+    (Family::Logic, 19, "a", Some(LawFault::Picks(1))),
+    (Family::Logic, 19, "", None),
+    // another count is told first, then the first pick that has to be an empty set
+    (Family::Logic, 116, "S", Some(LawFault::Picks(1))),
+    (Family::Logic, 116, "SST", Some(LawFault::Picks(3))),
+    (Family::Logic, 116, "ST", Some(LawFault::Picks(2))),
+    (Family::Logic, 116, "oS", Some(LawFault::Picks(2))),
+    (Family::Logic, 116, "oo", None),
+    (Family::Logic, 122, "S", Some(LawFault::Picks(1))),
+    (Family::Logic, 130, "STS", Some(LawFault::Picks(3))),
+    (Family::Logic, 130, "STo", None),
+    // there is no law 41 of sets, also not under its number alone
+    (Family::Sets, 241, "ST", Some(LawFault::Unknown)),
+    (Family::Sets, 41, "ST", Some(LawFault::Unknown)),
+    (Family::Sets, 200, "x", Some(LawFault::Unknown)),
+    (Family::Sets, 130, "STo", Some(LawFault::Unknown)),
+    (Family::Sets, 301, "xyr", Some(LawFault::Unknown)),
+    (Family::Sets, 236, "ab", Some(LawFault::Picks(2))),
+    (Family::Sets, 236, "abS", Some(LawFault::Picks(3))),
+    (Family::Sets, 236, "abo", None),
+    (Family::Functions, 300, "x", Some(LawFault::Unknown)),
+    (Family::Functions, 366, "fSBA", Some(LawFault::Unknown)),
+    (Family::Functions, 240, "STU", Some(LawFault::Unknown)),
+    (Family::Functions, 349, "fx", Some(LawFault::Picks(2))),
+    (Family::Functions, 310, "SS", Some(LawFault::Picks(1))),
+    (Family::Functions, 310, "oS", Some(LawFault::Picks(2))),
+    (Family::Functions, 335, "ro", Some(LawFault::Picks(1))),
+    (Family::Functions, 335, "or", None),
+];
+
 #[test]
 fn faults(rt: HostRuntime) -> Result<(), Fail> {
     let alloc = rt.alloc();
-    let cases = [
-        (Family::Logic, 0, "", Some(LawFault::Unknown)),
-        (Family::Logic, 29, "PQ", Some(LawFault::Unknown)),
-        (Family::Logic, 100, "ab", Some(LawFault::Unknown)),
-        (Family::Logic, 131, "ab", Some(LawFault::Unknown)),
-        (Family::Logic, 236, "abo", Some(LawFault::Unknown)),
-        (Family::Logic, 105, "", Some(LawFault::Picks(0))),
-        (Family::Logic, 105, "ab", Some(LawFault::Picks(2))),
-        (Family::Logic, 105, "abcd", Some(LawFault::Picks(4))),
-        (Family::Logic, 105, "abc", None),
-        (Family::Logic, 19, "a", Some(LawFault::Picks(1))),
-        (Family::Logic, 19, "", None),
-        // another count is told first, then the first pick that has to be an empty set
-        (Family::Logic, 116, "S", Some(LawFault::Picks(1))),
-        (Family::Logic, 116, "SST", Some(LawFault::Picks(3))),
-        (Family::Logic, 116, "ST", Some(LawFault::Picks(2))),
-        (Family::Logic, 116, "oS", Some(LawFault::Picks(2))),
-        (Family::Logic, 116, "oo", None),
-        (Family::Logic, 122, "S", Some(LawFault::Picks(1))),
-        (Family::Logic, 130, "STS", Some(LawFault::Picks(3))),
-        (Family::Logic, 130, "STo", None),
-        // there is no law 41 of sets, also not under its number alone
-        (Family::Sets, 241, "ST", Some(LawFault::Unknown)),
-        (Family::Sets, 41, "ST", Some(LawFault::Unknown)),
-        (Family::Sets, 200, "x", Some(LawFault::Unknown)),
-        (Family::Sets, 130, "STo", Some(LawFault::Unknown)),
-        (Family::Sets, 301, "xyr", Some(LawFault::Unknown)),
-        (Family::Sets, 236, "ab", Some(LawFault::Picks(2))),
-        (Family::Sets, 236, "abS", Some(LawFault::Picks(3))),
-        (Family::Sets, 236, "abo", None),
-        (Family::Functions, 300, "x", Some(LawFault::Unknown)),
-        (Family::Functions, 366, "fSBA", Some(LawFault::Unknown)),
-        (Family::Functions, 240, "STU", Some(LawFault::Unknown)),
-        (Family::Functions, 349, "fx", Some(LawFault::Picks(2))),
-        (Family::Functions, 310, "SS", Some(LawFault::Picks(1))),
-        (Family::Functions, 310, "oS", Some(LawFault::Picks(2))),
-        (Family::Functions, 335, "ro", Some(LawFault::Picks(1))),
-        (Family::Functions, 335, "or", None),
-    ];
-    for (family, law, letters, wanted) in cases {
+    for (family, law, letters, wanted) in FAULTS {
         assert_eq!(rt;
-            fault(alloc, family, law, &picks(alloc, letters)?),
-            wanted,
+            fault(alloc, *family, *law, &picks(alloc, letters)?),
+            *wanted,
             "law {law} at {letters}"
         );
     }
