@@ -5,37 +5,48 @@ use bk_bind::replace;
 use bk_form::{Form, Pool};
 use bk_tests_notation::{Unread, formula};
 use std::alloc::Global;
+use std::process::Abort;
 use std::test::Fail;
 
 fn form(alloc: Global, text: &str) -> Result<Form, Unread> {
     formula(alloc, LETTERS, text)
 }
 
+// Whether the formula of a text is shared as itself.
+fn is_shared(alloc: Global, pool: &mut Pool, text: &str) -> Result<bool, Unread> {
+    let given = form(alloc, text)?;
+    Ok(pool.share(&given)?.equal(&given))
+}
+
+// Shares formulas into an empty pool, and compares its count after each.
+fn share(rt: &impl Abort, alloc: Global, pool: &mut Pool, list: &[(&str, u64)]) {
+    for (text, count) in list {
+        assert!(rt; is_shared(alloc, pool, text) == Ok(true), "{text}");
+        assert_eq!(rt; pool.count(), *count, "{text}");
+    }
+}
+
+// Shares formulas into a pool that has all of them.
+fn share_again(rt: &impl Abort, alloc: Global, pool: &mut Pool, list: &[(&str, u64)]) {
+    for (text, _) in list {
+        assert!(rt; is_shared(alloc, pool, text) == Ok(true), "{text}");
+        assert_eq!(rt; pool.count(), 47, "{text}");
+    }
+}
+
 #[test]
 fn different_formulas_are_counted_once(rt: HostRuntime) -> Result<(), Fail> {
-    let alloc = rt.alloc();
-    let mut pool = Pool::new(alloc)?;
+    let mut pool = Pool::new(rt.alloc())?;
     assert_eq!(rt; pool.count(), 0);
-    for (text, count) in SHARED {
-        let given = form(alloc, text)?;
-        assert!(rt; pool.share(&given)?.equal(&given), "{text}");
-        assert_eq!(rt; pool.count(), count, "{text}");
-    }
+    share(&rt, rt.alloc(), &mut pool, &SHARED);
     Ok(())
 }
 
 #[test]
 fn formulas_are_shared_again(rt: HostRuntime) -> Result<(), Fail> {
-    let alloc = rt.alloc();
-    let mut pool = Pool::new(alloc)?;
-    for (text, _) in SHARED {
-        pool.share(&form(alloc, text)?)?;
-    }
-    for (text, _) in SHARED {
-        let given = form(alloc, text)?;
-        assert!(rt; pool.share(&given)?.equal(&given), "{text}");
-        assert_eq!(rt; pool.count(), 47, "{text}");
-    }
+    let mut pool = Pool::new(rt.alloc())?;
+    share(&rt, rt.alloc(), &mut pool, &SHARED);
+    share_again(&rt, rt.alloc(), &mut pool, &SHARED);
     Ok(())
 }
 
@@ -55,16 +66,21 @@ fn asked(alloc: Global, branches: u32) -> Result<Form, Fail> {
     Ok(condition)
 }
 
+// Shares the condition of thirteen of them into an empty pool.
+fn share_condition(rt: &impl Abort, pool: &mut Pool, condition: &Form) -> Result<(), Fail> {
+    assert_eq!(rt; condition.size(), 106_486);
+    let shared = pool.share(condition)?;
+    assert_eq!(rt; pool.count(), 45);
+    assert_eq!(rt; shared.size(), 106_486);
+    assert!(rt; shared.equal(condition));
+    Ok(())
+}
+
 #[test]
 fn thirteen_conditionals_have_forty_five_parts(rt: HostRuntime) -> Result<(), Fail> {
     let alloc = rt.alloc();
     let mut pool = Pool::new(alloc)?;
-    let condition = asked(alloc, 13)?;
-    assert_eq!(rt; condition.size(), 106_486);
-    let shared = pool.share(&condition)?;
-    assert_eq!(rt; pool.count(), 45);
-    assert_eq!(rt; shared.size(), 106_486);
-    assert!(rt; shared.equal(&condition));
+    share_condition(&rt, &mut pool, &asked(alloc, 13)?)?;
     pool.share(&asked(alloc, 12)?)?;
     assert_eq!(rt; pool.count(), 45);
     Ok(())
