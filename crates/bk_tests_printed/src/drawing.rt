@@ -129,7 +129,7 @@ const PREDICATES: [Pieces; 6] = [
 // ---- texts
 
 // The parts of the text of this number.
-fn pieces(kind: Kind, choice: u64) -> Pieces {
+fn chosen(kind: Kind, choice: u64) -> Pieces {
     let texts = match kind {
         Kind::Number => &NUMBERS,
         Kind::Set => &SETS,
@@ -194,7 +194,7 @@ pub(crate) fn write(
         return write_least(out, draws, kind, bound);
     }
     write_word(out, "(")?;
-    for piece in pieces(kind, draws.below(6)) {
+    for piece in chosen(kind, draws.below(6)) {
         match *piece {
             Piece::Word(word) => write_word(out, word)?,
             Piece::One(words) => write_one(out, draws, words)?,
