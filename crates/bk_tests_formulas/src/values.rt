@@ -51,9 +51,9 @@ enum Operation {
 }
 
 // An operation, its two operands, and what it gives.
-type Operated = (Operation, &'static str, &'static str, &'static str);
+type OnSets = (Operation, &'static str, &'static str, &'static str);
 
-const SETS: [Operated; 12] = [
+const SETS: [OnSets; 12] = [
     (Operation::Union, "1 3", "2 3", "1 2 3"),
     (Operation::Inter, "1 3", "2 3", "3"),
     (Operation::Minus, "1 3", "2 3", "1"),
@@ -68,7 +68,7 @@ const SETS: [Operated; 12] = [
     (Operation::Minus, "5 -7 2", "9 2 -7", "5"),
 ];
 
-const RELATIONS: [Operated; 4] = [
+const RELATIONS: [OnSets; 4] = [
     (Operation::Overridden, "1>5", "1>6", "1>6"),
     (
         Operation::Overridden,
@@ -103,7 +103,7 @@ fn gives(alloc: Global, operation: Operation, a: &str, b: &str, wanted: &str) ->
     Some(found.as_slice() == wanted.as_slice())
 }
 
-fn operate(rt: &impl Abort, alloc: Global, list: &[Operated]) {
+fn operate(rt: &impl Abort, alloc: Global, list: &[OnSets]) {
     for (operation, a, b, wanted) in list {
         assert!(rt;
             gives(alloc, *operation, a, b, wanted) == Some(true),
