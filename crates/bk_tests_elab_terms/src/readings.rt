@@ -361,7 +361,7 @@ const BOUND: [(&str, &str); 15] = [
 ];
 
 // What reads without a fault: a line for each rule of types.
-const READ: [&str; 40] = [
+const READ: &[&str] = &[
     "n + k - 1 = n * k / 2 mod 3 ** -k",
     "n = -k",
     "card(s) = min(s) + max(s)",
@@ -405,7 +405,7 @@ const READ: [&str; 40] = [
 ];
 
 // Texts at fault.
-const FAULTS: [(&str, u8, usize); 63] = [
+const FAULTS: &[(&str, u8, usize)] = &[
     ("!(x, x).(x : s => x = x)", 6, 5),
     ("{x, y, x | x : s & y : s} = f", 6, 7),
     ("%(x, x).(x : s | x) = f", 6, 5),
@@ -472,7 +472,7 @@ const FAULTS: [(&str, u8, usize); 63] = [
 ];
 
 // Texts whose names have no type, or no range: each is told where it is declared, and silences what is around it.
-const UNTYPED: [(&str, usize); 10] = [
+const UNTYPED: &[(&str, usize)] = &[
     ("!x.(s * {x} = f => n = 1)", 1),
     ("#x.({x} \\/ t = t & x - 1 = 2)", 1),
     ("{x | x : x} = s", 1),
@@ -486,7 +486,7 @@ const UNTYPED: [(&str, usize); 10] = [
 ];
 
 // A text by itself that is an expression without a type.
-const ALONE: [(&str, usize); 3] = [("{}", 0), ("n |-> {}", 0), ("{} \\/ {}", 0)];
+const ALONE: &[(&str, usize)] = &[("{}", 0), ("n |-> {}", 0), ("{} \\/ {}", 0)];
 
 // What is of sequences has no type yet.
 const OF_SEQUENCES: [(&str, usize); 8] = [
@@ -549,7 +549,7 @@ fn each_rule_of_types_reads(rt: HostRuntime) -> Result<(), Fail> {
 fn faults_are_told(rt: HostRuntime) -> Result<(), Fail> {
     for (written, number, place) in FAULTS {
         assert!(rt;
-            is_at_fault(rt.alloc(), written, number, place)?,
+            is_at_fault(rt.alloc(), written, *number, *place)?,
             "{written}"
         );
     }
@@ -559,7 +559,7 @@ fn faults_are_told(rt: HostRuntime) -> Result<(), Fail> {
 #[test]
 fn names_without_types_are_told(rt: HostRuntime) -> Result<(), Fail> {
     for (written, place) in UNTYPED {
-        assert!(rt; is_at_fault(rt.alloc(), written, 8, place)?, "{written}");
+        assert!(rt; is_at_fault(rt.alloc(), written, 8, *place)?, "{written}");
     }
     Ok(())
 }
@@ -567,7 +567,7 @@ fn names_without_types_are_told(rt: HostRuntime) -> Result<(), Fail> {
 #[test]
 fn a_term_alone_gives_a_type(rt: HostRuntime) -> Result<(), Fail> {
     for (written, place) in ALONE {
-        assert!(rt; is_at_fault(rt.alloc(), written, 8, place)?, "{written}");
+        assert!(rt; is_at_fault(rt.alloc(), written, 8, *place)?, "{written}");
     }
     Ok(())
 }
@@ -611,7 +611,7 @@ fn typing_sides_that_nest_are_read_once(rt: HostRuntime) -> Result<(), Fail> {
 }
 
 // Sides that give no range, within each other, and the first fault in them with its byte.
-const RANGELESS: [(&str, &str, &str, u8, usize); 4] = [
+const RANGELESS: &[(&str, &str, &str, u8, usize)] = &[
     ("{x | x : ", "(1 + TRUE)", " & x : s}", 8, 275),
     ("{x | x : ", "(n$1 + TRUE)", " & x : s}", 8, 277),
     ("{x | x = ", "m", " & x : s}", 7, 270),
@@ -623,7 +623,7 @@ fn sides_without_a_range_that_nest_are_read_once(rt: HostRuntime) -> Result<(), 
     for (opening, inner, closing, number, place) in RANGELESS {
         let written = nested(rt.alloc(), opening, inner, closing)?;
         assert!(rt;
-            is_at_fault(rt.alloc(), &written, number, place)?,
+            is_at_fault(rt.alloc(), &written, *number, *place)?,
             "{opening}{inner}{closing}"
         );
     }

@@ -56,14 +56,23 @@ fn every(alloc: Global) -> Result<Sub, Memory> {
     Sub::seq(alloc, guarded(alloc)?, last)
 }
 
+// Whether the substitution writes and reads these variables.
+fn writes_and_reads(
+    alloc: Global,
+    sub: &Sub,
+    written: &[u32],
+    read: &[u32],
+) -> Result<bool, Memory> {
+    let found = writes(alloc, sub)?;
+    Ok(found.as_slice() == written && reads(alloc, sub)?.as_slice() == read)
+}
+
 #[test]
 fn copies(rt: HostRuntime) -> Result<(), Fail> {
     let alloc = rt.alloc();
     let copy = every(alloc)?.copy(alloc)?;
-    assert!(rt; writes(alloc, &copy)?.as_slice() == [3, 6, 11, 13, 18].as_slice());
-    assert!(rt;
-        reads(alloc, &copy)?.as_slice() == [1, 2, 4, 5, 7, 10, 12, 14, 15, 16, 17, 18].as_slice()
-    );
+    let read = [1, 2, 4, 5, 7, 10, 12, 14, 15, 16, 17, 18];
+    assert!(rt; writes_and_reads(alloc, &copy, &[3, 6, 11, 13, 18], &read)?);
     Ok(())
 }
 
@@ -71,8 +80,7 @@ fn copies(rt: HostRuntime) -> Result<(), Fail> {
 fn writes_both_sides(rt: HostRuntime) -> Result<(), Fail> {
     let alloc = rt.alloc();
     let swap = Sub::par(alloc, copying(alloc, 1, 0)?, copying(alloc, 0, 1)?)?;
-    assert!(rt; writes(alloc, &swap)?.as_slice() == [0, 1].as_slice());
-    assert!(rt; reads(alloc, &swap)?.as_slice() == [0, 1].as_slice());
+    assert!(rt; writes_and_reads(alloc, &swap, &[0, 1], &[0, 1])?);
     Ok(())
 }
 
@@ -80,7 +88,6 @@ fn writes_both_sides(rt: HostRuntime) -> Result<(), Fail> {
 fn leaves_locals_out(rt: HostRuntime) -> Result<(), Fail> {
     let alloc = rt.alloc();
     let local = local(alloc)?;
-    assert!(rt; writes(alloc, &local)?.as_slice() == [11].as_slice());
-    assert!(rt; reads(alloc, &local)?.as_slice() == [10].as_slice());
+    assert!(rt; writes_and_reads(alloc, &local, &[11], &[10])?);
     Ok(())
 }

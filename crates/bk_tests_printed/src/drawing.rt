@@ -3,204 +3,204 @@
 use crate::draws::Draws;
 use bk_io::Memory;
 
-// Operators, after an open parenthesis and their left operand.
-const CALCULATIONS: [&str; 6] = ["+", "-", "*", "/", "mod", "**"];
+// What a text stands for.
+#[derive(Clone, Copy)]
+pub(crate) enum Kind {
+    Number,
+    // A set of numbers.
+    Set,
+    // A relation between numbers.
+    Relation,
+    Predicate,
+}
 
-const COMPARISONS: [&str; 3] = ["=", "<", "<="];
+// A part of a text in parentheses.
+#[derive(Clone, Copy)]
+enum Piece {
+    Word(&'static str),
+    // One of these words.
+    One(&'static [&'static str]),
+    Term(Kind),
+    // A term under one more bound number.
+    Under(Kind),
+}
 
-const CONNECTIVES: [&str; 4] = ["&", "or", "=>", "<=>"];
+type Pieces = &'static [Piece];
 
-const JOINED_SETS: [&str; 3] = ["\\/", "/\\", "minus"];
+// ---- numbers
+const CALCULATED: Pieces = &[
+    Piece::Term(Kind::Number),
+    Piece::One(&["+", "-", "*", "/", "mod", "**"]),
+    Piece::Term(Kind::Number),
+];
 
-const JOINED_RELATIONS: [&str; 4] = ["\\/", "minus", "<+", ";"];
+const NUMBERS: [Pieces; 6] = [
+    &[Piece::Word("neg"), Piece::Term(Kind::Number)],
+    &[Piece::One(&["card", "min", "max"]), Piece::Term(Kind::Set)],
+    &[
+        Piece::Term(Kind::Relation),
+        Piece::Word("of"),
+        Piece::Term(Kind::Number),
+    ],
+    CALCULATED,
+    CALCULATED,
+    CALCULATED,
+];
 
-const RESTRICTIONS: [&str; 2] = ["<|", "<<|"];
+// ---- sets
+const SETS: [Pieces; 6] = [
+    &[Piece::Word("single"), Piece::Term(Kind::Number)],
+    &[
+        Piece::Term(Kind::Number),
+        Piece::Word(".."),
+        Piece::Term(Kind::Number),
+    ],
+    &[
+        Piece::Word("set1"),
+        Piece::Term(Kind::Set),
+        Piece::Under(Kind::Predicate),
+    ],
+    &[
+        Piece::Term(Kind::Relation),
+        Piece::Word("image"),
+        Piece::Term(Kind::Set),
+    ],
+    &[Piece::One(&["dom", "ran"]), Piece::Term(Kind::Relation)],
+    &[
+        Piece::Term(Kind::Set),
+        Piece::One(&["\\/", "/\\", "minus"]),
+        Piece::Term(Kind::Set),
+    ],
+];
 
-// The innermost bound numbers.
-const BOUND: [&str; 4] = ["b0 ", "b1 ", "b2 ", "b3 "];
+// ---- relations
+const JOINED_RELATIONS: Pieces = &[
+    Piece::Term(Kind::Relation),
+    Piece::One(&["\\/", "minus", "<+", ";"]),
+    Piece::Term(Kind::Relation),
+];
 
-// One of the texts, between blanks.
-fn write_one(out: &mut Vec<u8>, draws: &mut Draws, texts: &[&str]) -> Result<(), Memory> {
-    if texts.is_empty() {
+const RELATIONS: [Pieces; 6] = [
+    &[Piece::Word("~"), Piece::Term(Kind::Relation)],
+    &[
+        Piece::Term(Kind::Set),
+        Piece::Word("times"),
+        Piece::Term(Kind::Set),
+    ],
+    &[
+        Piece::Term(Kind::Set),
+        Piece::One(&["<|", "<<|"]),
+        Piece::Term(Kind::Relation),
+    ],
+    &[
+        Piece::Word("fun1"),
+        Piece::Term(Kind::Set),
+        Piece::Under(Kind::Predicate),
+        Piece::Under(Kind::Number),
+    ],
+    JOINED_RELATIONS,
+    JOINED_RELATIONS,
+];
+
+// ---- predicates
+const CONNECTED: Pieces = &[
+    Piece::Term(Kind::Predicate),
+    Piece::One(&["&", "or", "=>", "<=>"]),
+    Piece::Term(Kind::Predicate),
+];
+
+const PREDICATES: [Pieces; 6] = [
+    &[Piece::Word("not"), Piece::Term(Kind::Predicate)],
+    &[Piece::One(&["!i", "#i"]), Piece::Under(Kind::Predicate)],
+    &[
+        Piece::Term(Kind::Number),
+        Piece::One(&["=", "<", "<="]),
+        Piece::Term(Kind::Number),
+    ],
+    &[
+        Piece::Term(Kind::Number),
+        Piece::Word(":"),
+        Piece::Term(Kind::Set),
+    ],
+    CONNECTED,
+    CONNECTED,
+];
+
+// ---- texts
+
+// The parts of the text of this number.
+fn chosen(kind: Kind, choice: u64) -> Pieces {
+    let texts = match kind {
+        Kind::Number => &NUMBERS,
+        Kind::Set => &SETS,
+        Kind::Relation => &RELATIONS,
+        Kind::Predicate => &PREDICATES,
+    };
+    texts.get(choice as usize).copied().unwrap_or(&[])
+}
+
+fn write_word(out: &mut Vec<u8>, word: &str) -> Result<(), Memory> {
+    out.extend_from_slice(word.as_bytes())?;
+    Ok(out.extend_from_slice(b" ")?)
+}
+
+// One of the words.
+fn write_one(out: &mut Vec<u8>, draws: &mut Draws, words: &[&str]) -> Result<(), Memory> {
+    if words.is_empty() {
         return Ok(());
     }
-    let at = draws.below(texts.len() as u64) as usize;
-    if let Some(text) = texts.get(at) {
-        out.extend_from_slice(text.as_bytes())?;
-        out.extend_from_slice(b" ")?;
+    let at = draws.below(words.len() as u64) as usize;
+    match words.get(at) {
+        Some(word) => write_word(out, word),
+        None => Ok(()),
     }
-    Ok(())
 }
+
+// The innermost bound numbers.
+const BOUND: [&str; 4] = ["b0", "b1", "b2", "b3"];
 
 // A number without operators, under so many bound numbers.
 fn write_leaf(out: &mut Vec<u8>, draws: &mut Draws, bound: u64) -> Result<(), Memory> {
     let known = bound.min(4);
     if known > 0 && draws.below(2) == 0 {
-        if let Some(text) = BOUND.get(draws.below(known) as usize) {
-            out.extend_from_slice(text.as_bytes())?;
-        }
-        return Ok(());
+        let at = draws.below(known) as usize;
+        return match BOUND.get(at) {
+            Some(word) => write_word(out, word),
+            None => Ok(()),
+        };
     }
     write_one(out, draws, &["n", "k", "v", "-5", "0", "7"])
 }
 
-// A number with at most so many operators on one way down.
-#[cycle(drawn)]
-fn write_number(
+// A text without parts.
+fn write_least(out: &mut Vec<u8>, draws: &mut Draws, kind: Kind, bound: u64) -> Result<(), Memory> {
+    match kind {
+        Kind::Number => write_leaf(out, draws, bound),
+        Kind::Set => write_one(out, draws, &["s", "{}Pi"]),
+        Kind::Relation => write_one(out, draws, &["r", "f", "{}PXii"]),
+        Kind::Predicate => write_one(out, draws, &["btrue", "bfalse"]),
+    }
+}
+
+/// A text with at most so many operators on one way down, under so many bound numbers.
+pub(crate) fn write(
     out: &mut Vec<u8>,
     draws: &mut Draws,
+    kind: Kind,
     bound: u64,
     depth: u64,
 ) -> Result<(), Memory> {
     if depth == 0 {
-        return write_leaf(out, draws, bound);
+        return write_least(out, draws, kind, bound);
     }
-    out.extend_from_slice(b"( ")?;
-    match draws.below(6) {
-        0 => {
-            out.extend_from_slice(b"neg ")?;
-            write_number(out, draws, bound, depth - 1)?;
-        }
-        1 => {
-            write_one(out, draws, &["card", "min", "max"])?;
-            write_set(out, draws, bound, depth - 1)?;
-        }
-        2 => {
-            write_relation(out, draws, bound, depth - 1)?;
-            out.extend_from_slice(b"of ")?;
-            write_number(out, draws, bound, depth - 1)?;
-        }
-        _ => {
-            write_number(out, draws, bound, depth - 1)?;
-            write_one(out, draws, &CALCULATIONS)?;
-            write_number(out, draws, bound, depth - 1)?;
+    write_word(out, "(")?;
+    for piece in chosen(kind, draws.below(6)) {
+        match *piece {
+            Piece::Word(word) => write_word(out, word)?,
+            Piece::One(words) => write_one(out, draws, words)?,
+            Piece::Term(part) => write(out, draws, part, bound, depth - 1)?,
+            Piece::Under(part) => write(out, draws, part, bound.saturating_add(1), depth - 1)?,
         }
     }
-    out.extend_from_slice(b") ")?;
-    Ok(())
-}
-
-// A set of numbers.
-#[cycle(drawn)]
-fn write_set(out: &mut Vec<u8>, draws: &mut Draws, bound: u64, depth: u64) -> Result<(), Memory> {
-    if depth == 0 {
-        return write_one(out, draws, &["s", "{}Pi"]);
-    }
-    out.extend_from_slice(b"( ")?;
-    match draws.below(6) {
-        0 => {
-            out.extend_from_slice(b"single ")?;
-            write_number(out, draws, bound, depth - 1)?;
-        }
-        1 => {
-            write_number(out, draws, bound, depth - 1)?;
-            out.extend_from_slice(b".. ")?;
-            write_number(out, draws, bound, depth - 1)?;
-        }
-        2 => {
-            out.extend_from_slice(b"set1 ")?;
-            write_set(out, draws, bound, depth - 1)?;
-            write_predicate(out, draws, bound.saturating_add(1), depth - 1)?;
-        }
-        3 => {
-            write_relation(out, draws, bound, depth - 1)?;
-            out.extend_from_slice(b"image ")?;
-            write_set(out, draws, bound, depth - 1)?;
-        }
-        4 => {
-            write_one(out, draws, &["dom", "ran"])?;
-            write_relation(out, draws, bound, depth - 1)?;
-        }
-        _ => {
-            write_set(out, draws, bound, depth - 1)?;
-            write_one(out, draws, &JOINED_SETS)?;
-            write_set(out, draws, bound, depth - 1)?;
-        }
-    }
-    out.extend_from_slice(b") ")?;
-    Ok(())
-}
-
-// A relation between numbers.
-#[cycle(drawn)]
-fn write_relation(
-    out: &mut Vec<u8>,
-    draws: &mut Draws,
-    bound: u64,
-    depth: u64,
-) -> Result<(), Memory> {
-    if depth == 0 {
-        return write_one(out, draws, &["r", "f", "{}PXii"]);
-    }
-    out.extend_from_slice(b"( ")?;
-    match draws.below(6) {
-        0 => {
-            out.extend_from_slice(b"~ ")?;
-            write_relation(out, draws, bound, depth - 1)?;
-        }
-        1 => {
-            write_set(out, draws, bound, depth - 1)?;
-            out.extend_from_slice(b"times ")?;
-            write_set(out, draws, bound, depth - 1)?;
-        }
-        2 => {
-            write_set(out, draws, bound, depth - 1)?;
-            write_one(out, draws, &RESTRICTIONS)?;
-            write_relation(out, draws, bound, depth - 1)?;
-        }
-        3 => {
-            out.extend_from_slice(b"fun1 ")?;
-            write_set(out, draws, bound, depth - 1)?;
-            write_predicate(out, draws, bound.saturating_add(1), depth - 1)?;
-            write_number(out, draws, bound.saturating_add(1), depth - 1)?;
-        }
-        _ => {
-            write_relation(out, draws, bound, depth - 1)?;
-            write_one(out, draws, &JOINED_RELATIONS)?;
-            write_relation(out, draws, bound, depth - 1)?;
-        }
-    }
-    out.extend_from_slice(b") ")?;
-    Ok(())
-}
-
-// A predicate with at most so many operators on one way down, under so many bound numbers.
-#[cycle(drawn)]
-pub(crate) fn write_predicate(
-    out: &mut Vec<u8>,
-    draws: &mut Draws,
-    bound: u64,
-    depth: u64,
-) -> Result<(), Memory> {
-    if depth == 0 {
-        return write_one(out, draws, &["btrue", "bfalse"]);
-    }
-    out.extend_from_slice(b"( ")?;
-    match draws.below(6) {
-        0 => {
-            out.extend_from_slice(b"not ")?;
-            write_predicate(out, draws, bound, depth - 1)?;
-        }
-        1 => {
-            write_one(out, draws, &["!i", "#i"])?;
-            write_predicate(out, draws, bound.saturating_add(1), depth - 1)?;
-        }
-        2 => {
-            write_number(out, draws, bound, depth - 1)?;
-            write_one(out, draws, &COMPARISONS)?;
-            write_number(out, draws, bound, depth - 1)?;
-        }
-        3 => {
-            write_number(out, draws, bound, depth - 1)?;
-            out.extend_from_slice(b": ")?;
-            write_set(out, draws, bound, depth - 1)?;
-        }
-        _ => {
-            write_predicate(out, draws, bound, depth - 1)?;
-            write_one(out, draws, &CONNECTIVES)?;
-            write_predicate(out, draws, bound, depth - 1)?;
-        }
-    }
-    out.extend_from_slice(b") ")?;
-    Ok(())
+    write_word(out, ")")
 }

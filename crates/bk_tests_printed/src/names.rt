@@ -33,14 +33,16 @@ pub(crate) fn table(alloc: Global) -> Result<VarTable, Unread> {
     let mut table = VarTable::new(alloc);
     let elements = vec![in alloc; text(alloc, b"red")?, text(alloc, b"green")?]?;
     table.add_set(text(alloc, b"COLOR")?, elements, 2)?;
-    for (name, ty) in VARIABLES {
-        add(
-            &mut table,
-            text(alloc, name.as_bytes())?,
-            type_of(alloc, ty)?,
-        )?;
-    }
+    add_all(alloc, &mut table, &VARIABLES)?;
     Ok(table)
+}
+
+fn add_all(alloc: Global, table: &mut VarTable, rows: &[(&str, &str)]) -> Result<(), Unread> {
+    for (name, ty) in rows {
+        let ty = type_of(alloc, ty)?;
+        add(table, text(alloc, name.as_bytes())?, ty)?;
+    }
+    Ok(())
 }
 
 // Adds a variable, where the table lists the sets of its type.

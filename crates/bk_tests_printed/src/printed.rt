@@ -1,6 +1,6 @@
 // What formulas print as, and that it is read as the same formula.
 
-use crate::drawing::write_predicate;
+use crate::drawing::{Kind, write};
 use crate::draws::Draws;
 use crate::names::{LETTERS, scope, table};
 use crate::texts::{
@@ -82,30 +82,44 @@ fn obligations(rt: HostRuntime) -> Result<(), Fail> {
     compare(&rt, rt.alloc(), &OBLIGATIONS)
 }
 
+// Compares the texts of a list, which are not read.
+fn compare_texts(rt: &impl Abort, alloc: Global, list: &[(&str, &str)]) -> Result<(), Fail> {
+    for (written, wanted) in list {
+        let form = formula(alloc, LETTERS, written)?;
+        assert!(rt; prints_as(alloc, &form, wanted)?, "{written}");
+    }
+    Ok(())
+}
+
 #[test]
 fn what_the_table_lacks(rt: HostRuntime) -> Result<(), Fail> {
-    for (written, wanted) in LACKING {
-        let form = formula(rt.alloc(), LETTERS, written)?;
-        assert!(rt; prints_as(rt.alloc(), &form, wanted)?, "{written}");
+    compare_texts(&rt, rt.alloc(), &LACKING)
+}
+
+// Whether the type of a text prints as this text.
+fn type_prints_as(alloc: Global, written: &str, wanted: &str) -> Result<bool, Unread> {
+    let ty = type_of(alloc, written)?;
+    let text = show_type(alloc, &ty, &table(alloc)?)?;
+    Ok(text.as_slice() == wanted.as_bytes())
+}
+
+fn compare_types(rt: &impl Abort, alloc: Global, list: &[(&str, &str)]) -> Result<(), Fail> {
+    for (written, wanted) in list {
+        assert!(rt; type_prints_as(alloc, written, wanted)?, "{wanted}");
     }
     Ok(())
 }
 
 #[test]
 fn types(rt: HostRuntime) -> Result<(), Fail> {
-    let table = table(rt.alloc())?;
-    for (written, wanted) in TYPES {
-        let text = show_type(rt.alloc(), &type_of(rt.alloc(), written)?, &table)?;
-        assert!(rt; text.as_slice() == wanted.as_bytes(), "{wanted}");
-    }
-    Ok(())
+    compare_types(&rt, rt.alloc(), &TYPES)
 }
 
 // The predicate that is drawn from a seed.
 fn drawn(alloc: Global, seed: u64) -> Result<Form, Fail> {
     let mut text = Vec::new(alloc);
     let mut draws = Draws::new(seed);
-    write_predicate(&mut text, &mut draws, 0, 1 + seed % 5)?;
+    write(&mut text, &mut draws, Kind::Predicate, 0, 1 + seed % 5)?;
     let text = str::from_utf8(&text)?;
     Ok(formula(alloc, LETTERS, text)?)
 }

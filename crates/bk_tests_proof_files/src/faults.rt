@@ -20,7 +20,7 @@ pub(crate) fn is_fault(alloc: Global, texts: &[&str], wanted: (u8, u32, usize)) 
 }
 
 // Texts of one file with the byte where nothing is written that goes on so.
-const UNWRITTEN: [(&str, usize); 30] = [
+const UNWRITTEN: &[(&str, usize)] = &[
     ("proof A.1 hyp end", 10),
     ("proof A.1 same ; end", 15),
     ("proof A.1 same", 14),
@@ -56,12 +56,12 @@ const UNWRITTEN: [(&str, usize); 30] = [
 #[test]
 fn what_is_not_written_is_told_by_its_byte(rt: HostRuntime) {
     for (text, place) in UNWRITTEN {
-        assert!(rt; is_fault(rt.alloc(), &[text], (3, 0, place)));
+        assert!(rt; is_fault(rt.alloc(), &[*text], (3, 0, *place)));
     }
 }
 
 // A name with two types in one script: the byte of the later one.
-const TWO_TYPES: [(&str, usize); 4] = [
+const TWO_TYPES: &[(&str, usize)] = &[
     ("proof A.1 fix x : INTEGER ; fix x : BOOL end", 32),
     (
         "proof A.1 open 1 x : POW(S) ; fix y : BOOL, x : POW(T) end",
@@ -77,12 +77,12 @@ const TWO_TYPES: [(&str, usize); 4] = [
 #[test]
 fn a_second_type_is_told_at_the_later_name(rt: HostRuntime) {
     for (text, place) in TWO_TYPES {
-        assert!(rt; is_fault(rt.alloc(), &[text], (3, 0, place)));
+        assert!(rt; is_fault(rt.alloc(), &[*text], (3, 0, *place)));
     }
 }
 
 // Texts of several files with their first fault.
-const FIRST: [([&str; 2], (u8, u32, usize)); 8] = [
+const FIRST: &[([&str; 2], (u8, u32, usize))] = &[
     // what is not written is asked of all files before names are
     (["proof A.1 end proof A.1 end", "proof"], (3, 1, 0)),
     // tokens are asked of all files before what is written is
@@ -115,7 +115,7 @@ const FIRST: [([&str; 2], (u8, u32, usize)); 8] = [
 #[test]
 fn the_first_fault_is_told(rt: HostRuntime) {
     for (texts, fault) in FIRST {
-        assert!(rt; is_fault(rt.alloc(), &texts, fault));
+        assert!(rt; is_fault(rt.alloc(), texts, *fault));
     }
 }
 

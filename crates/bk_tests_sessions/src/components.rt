@@ -5,7 +5,7 @@ ghost use Rattle.bk_form.specs.Formula.{variable, truth_value};
 ghost use Rattle.bk_gsl.specs.Substitution.{seq};
 ghost use Rattle.bk_tests_sessions.specs.Drawn.{set_to, element_at, answering, starting, family_machine, family_code};
 
-use crate::parts::{filling, is_array, level, operation, set_to_number, set_to_variable};
+use crate::parts::{filling, is_array, level, number_first, operation, variable_first};
 use bk_dev::{Body, Kind, Level};
 use bk_form::{BinOp, Part};
 use bk_gsl::Sub;
@@ -49,27 +49,30 @@ fn set_to_element(alloc: Global, x: u32, index: u32) -> Result<Sub, Memory>
     becomes(alloc, x, term)
 }
 
+// x := an element ; rest
+fn element_first(alloc: Global, x: u32, index: u32, rest: Sub) -> Result<Sub, Memory>
+    ensures { IfOk result (λ s. s ≡ seq (set_to x (element_at index)) rest) }
+{
+    let first = set_to_element(alloc, x, index)?;
+    Sub::seq(alloc, first, rest)
+}
+
 // The last three answers: the elements.
 fn answering_elements(alloc: Global) -> Result<Sub, Memory>
     ensures { IfOk result (λ s. s ≡ seq (set_to 14 (element_at 0)) (seq (set_to 15 (element_at 1)) (set_to 16 (element_at 2)))) }
 {
-    let s = set_to_element(alloc, 14, 0)?;
-    let t = set_to_element(alloc, 15, 1)?;
-    let u = set_to_element(alloc, 16, 2)?;
-    let rest = Sub::seq(alloc, t, u)?;
-    Sub::seq(alloc, s, rest)
+    let last = set_to_element(alloc, 16, 2)?;
+    let rest = element_first(alloc, 15, 1, last)?;
+    element_first(alloc, 14, 0, rest)
 }
 
 fn answering(alloc: Global) -> Result<Sub, Memory>
     ensures { IfOk result (λ s. s ≡ answering) }
 {
-    let p = set_to_variable(alloc, 11, 0)?;
-    let q = set_to_variable(alloc, 12, 1)?;
-    let r = set_to_variable(alloc, 13, 2)?;
     let rest = answering_elements(alloc)?;
-    let rest = Sub::seq(alloc, r, rest)?;
-    let rest = Sub::seq(alloc, q, rest)?;
-    Sub::seq(alloc, p, rest)
+    let rest = variable_first(alloc, 13, 2, rest)?;
+    let rest = variable_first(alloc, 12, 1, rest)?;
+    variable_first(alloc, 11, 0, rest)
 }
 
 // ---- the initialisation
@@ -87,10 +90,8 @@ fn initialisation(alloc: Global) -> Result<Sub, Memory>
     let b = set_to_false(alloc, 2)?;
     let fill = filling(alloc, 3)?;
     let rest = Sub::seq(alloc, b, fill)?;
-    let j = set_to_number(alloc, 1, 0)?;
-    let rest = Sub::seq(alloc, j, rest)?;
-    let i = set_to_number(alloc, 0, 0)?;
-    Sub::seq(alloc, i, rest)
+    let rest = number_first(alloc, 1, 0, rest)?;
+    number_first(alloc, 0, 0, rest)
 }
 
 // ---- the implementation

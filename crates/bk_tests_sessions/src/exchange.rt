@@ -4,14 +4,15 @@ ghost use Rattle.std.specs.Prelude.{◌≡◌, IfOk, pos};
 ghost use Rattle.bk_form.specs.Formula.{variable, literal, binary};
 ghost use Rattle.bk_form.specs.declared.operator.BinOp.TheVariants.{Apply};
 ghost use Rattle.bk_gsl.specs.Substitution.{seq, par};
-ghost use Rattle.bk_sim.specs.Exchange.{exchange_table, set_to, machine_level, is_up_to_five, counting_down, swapping, code_level, exchange};
+ghost use Rattle.bk_sim.specs.Exchange.{exchange_table, set_to, machine_level, is_positive, one_less, is_up_to_five, counting_down, swapping, code_level, exchange};
 
 use crate::parts::{
-    development, filling, header, is_array, level, operation, set_to_number, set_to_variable,
-    with_links,
+    development, filling, header, is_array, level, number_first, operation, set_to_number,
+    set_to_variable, variable_first, with_links,
 };
-use bk_dev::{Development, Home, Kind, Level};
-use bk_form::{BinOp, Form, Ty, VarTable};
+use crate::table::{add_array, add_number};
+use bk_dev::{Body, Development, Home, Kind, Level};
+use bk_form::{BinOp, Form, VarTable};
 use bk_gsl::Sub;
 use bk_io::Memory;
 use bk_tests_fixtures::{always, becomes, binary, literal, text, variable, with_number};
@@ -21,13 +22,12 @@ fn table(alloc: Global) -> Result<VarTable, Memory>
     ensures { IfOk result (λ t. t ≡ exchange_table) }
 {
     let mut table = VarTable::new(alloc);
-    let array = Ty::set(alloc, Ty::pair(alloc, Ty::int(), Ty::int())?)?;
-    let _ = table.add_variable(text(alloc, b"x$0")?, Ty::int())?;
-    let _ = table.add_variable(text(alloc, b"y$0")?, Ty::int())?;
-    let _ = table.add_variable(text(alloc, b"x$1")?, Ty::int())?;
-    let _ = table.add_variable(text(alloc, b"y$1")?, Ty::int())?;
-    let _ = table.add_variable(text(alloc, b"f$1")?, array)?;
-    let _ = table.add_variable(text(alloc, b"t")?, Ty::int())?;
+    add_number(alloc, &mut table, b"x$0")?;
+    add_number(alloc, &mut table, b"y$0")?;
+    add_number(alloc, &mut table, b"x$1")?;
+    add_number(alloc, &mut table, b"y$1")?;
+    add_array(alloc, &mut table, b"f$1")?;
+    add_number(alloc, &mut table, b"t")?;
     Ok(table)
 }
 
@@ -49,15 +49,21 @@ fn zero_at_once(alloc: Global) -> Result<Sub, Memory>
     Sub::par(alloc, x, y)
 }
 
+fn machine_operation(alloc: Global) -> Result<Vec<Body>, Memory>
+    ensures { IfOk result (λ bodies. bodies.items ≡ machine_level.bodies) }
+{
+    let swap = swapping_at_once(alloc)?;
+    operation(alloc, swap, Vec::new(alloc))
+}
+
 fn machine(alloc: Global) -> Result<Level, Memory>
     ensures { IfOk result (λ l. l ≡ machine_level) }
 {
-    let swap = swapping_at_once(alloc)?;
-    let bodies = operation(alloc, swap, Vec::new(alloc))?;
     let init = zero_at_once(alloc)?;
     let invariant = always(alloc)?;
     let name = text(alloc, b"Exchange")?;
     let vars = vec![in alloc; 0, 1]?;
+    let bodies = machine_operation(alloc)?;
     level(alloc, name, Kind::Machine, vars, invariant, init, bodies)
 }
 
@@ -71,16 +77,29 @@ fn is_up_to_five(alloc: Global) -> Result<Form, Memory>
     binary(alloc, BinOp::And, low, high)
 }
 
-fn counting_down(alloc: Global) -> Result<Sub, Memory>
-    ensures { IfOk result (λ s. s ≡ counting_down) }
+fn is_positive(alloc: Global) -> Result<Form, Memory>
+    ensures { IfOk result (λ f. f ≡ is_positive) }
 {
     let zero = literal(alloc, 0)?;
     let t = variable(alloc, 5)?;
-    let test = binary(alloc, BinOp::Lt, zero, t)?;
+    binary(alloc, BinOp::Lt, zero, t)
+}
+
+// t := t - 1
+fn counting_one(alloc: Global) -> Result<Sub, Memory>
+    ensures { IfOk result (λ s. s ≡ set_to 5 one_less) }
+{
     let less = with_number(alloc, BinOp::Sub, 5, 1)?;
-    let turn = becomes(alloc, 5, less)?;
+    becomes(alloc, 5, less)
+}
+
+fn counting_down(alloc: Global) -> Result<Sub, Memory>
+    ensures { IfOk result (λ s. s ≡ counting_down) }
+{
+    let test = is_positive(alloc)?;
     let invariant = is_up_to_five(alloc)?;
     let variant = variable(alloc, 5)?;
+    let turn = counting_one(alloc)?;
     Sub::while_loop(alloc, test, turn, invariant, variant)
 }
 
@@ -90,17 +109,8 @@ fn counting(alloc: Global) -> Result<Sub, Memory>
 {
     let read = with_number(alloc, BinOp::Apply, 4, 1)?;
     let first = becomes(alloc, 5, read)?;
-    let five = set_to_number(alloc, 5, 5)?;
     let down = counting_down(alloc)?;
-    let rest = Sub::seq(alloc, five, down)?;
-    Sub::seq(alloc, first, rest)
-}
-
-// One number becomes another, before what follows.
-fn moving(alloc: Global, x: u32, y: u32, rest: Sub) -> Result<Sub, Memory>
-    ensures { IfOk result (λ s. s ≡ seq (set_to x (variable y)) rest) }
-{
-    let first = set_to_variable(alloc, x, y)?;
+    let rest = number_first(alloc, 5, 5, down)?;
     Sub::seq(alloc, first, rest)
 }
 
@@ -108,9 +118,9 @@ fn moving(alloc: Global, x: u32, y: u32, rest: Sub) -> Result<Sub, Memory>
 fn exchanging(alloc: Global, rest: Sub) -> Result<Sub, Memory>
     ensures { IfOk result (λ s. s ≡ seq (set_to 5 (variable 2)) (seq (set_to 2 (variable 3)) (seq (set_to 3 (variable 5)) rest))) }
 {
-    let rest = moving(alloc, 3, 5, rest)?;
-    let rest = moving(alloc, 2, 3, rest)?;
-    moving(alloc, 5, 2, rest)
+    let rest = variable_first(alloc, 3, 5, rest)?;
+    let rest = variable_first(alloc, 2, 3, rest)?;
+    variable_first(alloc, 5, 2, rest)
 }
 
 fn swapping(alloc: Global) -> Result<Sub, Memory>
@@ -125,22 +135,27 @@ fn swapping(alloc: Global) -> Result<Sub, Memory>
 fn initialisation(alloc: Global) -> Result<Sub, Memory>
     ensures { IfOk result (λ s. s ≡ code_level.init) }
 {
-    let x = set_to_number(alloc, 2, 0)?;
-    let y = set_to_number(alloc, 3, 0)?;
     let fill = filling(alloc, 4)?;
-    let rest = Sub::seq(alloc, y, fill)?;
-    Sub::seq(alloc, x, rest)
+    let rest = number_first(alloc, 3, 0, fill)?;
+    number_first(alloc, 2, 0, rest)
+}
+
+fn code_operation(alloc: Global) -> Result<Vec<Body>, Memory>
+    ensures { IfOk result (λ bodies. bodies.items ≡ code_level.bodies) }
+{
+    let swap = swapping(alloc)?;
+    operation(alloc, swap, Vec::new(alloc))
 }
 
 fn implementation(alloc: Global) -> Result<Level, Memory>
     ensures { IfOk result (λ l. l ≡ code_level) }
 {
-    let swap = swapping(alloc)?;
-    let bodies = operation(alloc, swap, Vec::new(alloc))?;
+    let links = vec![in alloc; (2, 0), (3, 1)]?;
     let init = initialisation(alloc)?;
     let invariant = is_array(alloc, 4)?;
     let name = text(alloc, b"Exchange_i")?;
     let vars = vec![in alloc; 2, 3, 4]?;
+    let bodies = code_operation(alloc)?;
     let level = level(
         alloc,
         name,
@@ -150,7 +165,6 @@ fn implementation(alloc: Global) -> Result<Level, Memory>
         init,
         bodies,
     )?;
-    let links = vec![in alloc; (2, 0), (3, 1)]?;
     Ok(with_links(level, links))
 }
 

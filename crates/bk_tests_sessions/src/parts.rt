@@ -6,6 +6,7 @@ ghost use Rattle.bk_dev.specs.Facts.{IsDevelopment};
 ghost use Rattle.bk_form.specs.Formula.{variable, literal, binary, btrue, named};
 ghost use Rattle.bk_form.specs.declared.operator.BinOp.TheVariants.{In, TotalFunctions};
 ghost use Rattle.bk_form.specs.declared.operator.Domain.TheVariants.{Integer};
+ghost use Rattle.bk_gsl.specs.Substitution.{seq};
 ghost use Rattle.bk_tests_sessions.specs.Drawn.{set_to, zero_to_two, all_zero};
 
 use bk_dev::{Body, DEFAULT_MAX, Development, Home, Kind, Level, OpHead};
@@ -31,6 +32,22 @@ pub(crate) fn set_to_variable(alloc: Global, x: u32, y: u32) -> Result<Sub, Memo
 {
     let term = variable(alloc, y)?;
     becomes(alloc, x, term)
+}
+
+/// x := a number ; rest
+pub(crate) fn number_first(alloc: Global, x: u32, value: i128, rest: Sub) -> Result<Sub, Memory>
+    ensures { IfOk result (λ s. s ≡ seq (set_to x (literal value)) rest) }
+{
+    let first = set_to_number(alloc, x, value)?;
+    Sub::seq(alloc, first, rest)
+}
+
+/// x := y ; rest
+pub(crate) fn variable_first(alloc: Global, x: u32, y: u32, rest: Sub) -> Result<Sub, Memory>
+    ensures { IfOk result (λ s. s ≡ seq (set_to x (variable y)) rest) }
+{
+    let first = set_to_variable(alloc, x, y)?;
+    Sub::seq(alloc, first, rest)
 }
 
 /// f := 0..2 * {0}

@@ -2,6 +2,7 @@
 
 ghost use Rattle.std.specs.Prelude.{◌≡◌, ◌<◌, ◌^◌, length, IfOk, OnOk};
 ghost use Rattle.bk_form.specs.Table.{with_variable};
+ghost use Rattle.bk_val.specs.ValueType.{int_type, pair_type, set_type};
 ghost use Rattle.bk_tests_sessions.specs.Drawn.{number_named, truth_named, family_table, first_rows, family_homes, family_extents};
 
 use bk_dev::Home;
@@ -10,7 +11,8 @@ use bk_io::Memory;
 use bk_tests_fixtures::text;
 use std::alloc::Global;
 
-fn add_number(alloc: Global, table: &mut VarTable, name: &[u8]) -> Result<(), Memory>
+/// Adds a variable that holds a whole number.
+pub(crate) fn add_number(alloc: Global, table: &mut VarTable, name: &[u8]) -> Result<(), Memory>
     requires { length table.old.variables < 2 ^ 32 }
     ensures { OnOk result (table.new ≡ with_variable table.old (number_named name.now)) }
 {
@@ -26,6 +28,16 @@ fn add_truth(alloc: Global, table: &mut VarTable, name: &[u8]) -> Result<(), Mem
     Ok(())
 }
 
+/// Adds an array of whole numbers.
+pub(crate) fn add_array(alloc: Global, table: &mut VarTable, name: &[u8]) -> Result<(), Memory>
+    requires { length table.old.variables < 2 ^ 32 }
+    ensures { OnOk result (table.new ≡ with_variable table.old (record { text = name.now; of_type = set_type (pair_type int_type int_type) })) }
+{
+    let array = Ty::set(alloc, Ty::pair(alloc, Ty::int(), Ty::int())?)?;
+    let _ = table.add_variable(text(alloc, name)?, array)?;
+    Ok(())
+}
+
 // The machine's variables and the input.
 fn shared_variables(alloc: Global) -> Result<VarTable, Memory>
     ensures { IfOk result (λ t. t ≡ first_rows 5) }
@@ -34,8 +46,7 @@ fn shared_variables(alloc: Global) -> Result<VarTable, Memory>
     add_number(alloc, &mut table, b"i")?;
     add_number(alloc, &mut table, b"j")?;
     add_truth(alloc, &mut table, b"b")?;
-    let array = Ty::set(alloc, Ty::pair(alloc, Ty::int(), Ty::int())?)?;
-    let _ = table.add_variable(text(alloc, b"f")?, array)?;
+    add_array(alloc, &mut table, b"f")?;
     add_number(alloc, &mut table, b"k")?;
     Ok(table)
 }

@@ -74,7 +74,7 @@ enum Keyword {
     Ends,
 }
 
-const KEYWORDS: [(&str, Keyword); 18] = [
+const KEYWORDS: &[(&str, Keyword)] = &[
     ("BEGIN", Keyword::Begins(Begun::Block)),
     ("PRE", Keyword::Begins(Begun::Pre)),
     ("SELECT", Keyword::Begins(Begun::Select)),
@@ -97,8 +97,8 @@ const KEYWORDS: [(&str, Keyword); 18] = [
 
 fn keyword_of(word: &str) -> Option<Keyword> {
     for (text, keyword) in KEYWORDS {
-        if text == word {
-            return Some(keyword);
+        if *text == word {
+            return Some(*keyword);
         }
     }
     None

@@ -2,7 +2,7 @@
 
 use bk_verbs::Status;
 
-const CODES: [(Status, u8); 13] = [
+const CODES: &[(Status, u8)] = &[
     (Status::Done, 0),
     (Status::Usage, 1),
     (Status::Missing, 2),
@@ -20,7 +20,7 @@ const CODES: [(Status, u8); 13] = [
 
 #[test]
 fn exit_codes(rt: HostRuntime) {
-    for (status, code) in &CODES {
+    for (status, code) in CODES {
         assert_eq!(rt; status.code(), *code);
     }
 }
