@@ -13,6 +13,7 @@ returns g c = record {
     line = c.bkit.ensures.line;
     ready = c.bkit.ensures.ready;
     cut_short = c.bkit.ensures.cut_short;
+    begun = c.bkit.ensures.begun;
     read_fault = c.bkit.ensures.read_fault;
     write_fault = c.bkit.ensures.write_fault;
     missing = c.bkit.ensures.missing;
