@@ -1,7 +1,7 @@
 -- What the program answers where it stops, and what it has written.
 use Rattle.std.proofs.Common.{◌≡◌, ℕ, zero, suc, ◌≤◌, ◌⊎◌, inl, inr, List, [], take, Option, refl, sym, ◌∙◌, ap, subst, arith}
 use Rattle.bk_io.specs.Files.{Files}
-use Rattle.bk_io.specs.Pieces.{written_with, WroteFront}
+use Rattle.bk_io.specs.Pieces.{Piece, PutWhole, written_with, WroteFront}
 use Rattle.bk_io.specs.Counts.{Rose}
 use Rattle.bk_verbs.specs.declared.status.Status.{Status}
 use Rattle.bk_verbs.specs.declared.status.Status.TheVariants.{Usage as UsageStatus, Missing as MissingStatus, ReadFault as ReadFaultStatus, WriteFault as WriteFaultStatus, Memory as MemoryStatus}
@@ -11,7 +11,7 @@ use Rattle.bk_verbs.specs.Causes.{IsOfPlaying}
 use Rattle.bk_cli.specs.Tasks.{Task, Asks}
 use Rattle.bk_verbs.specs.Work.{IsExecuted, WritesWork}
 use Rattle.bk_verbs.specs.Stops.{IsOutside, StopsAt, status_of_stop, stop_text, IsCutShort, Reports}
-use Rattle.bk_program.specs.Answer.{IsAnswer, IsAnswered, HasFound, WritesAnswer, WroteFrontOfAnswer, WritesLine}
+use Rattle.bk_program.specs.Answer.{IsAnswer, IsAnswered, HasFound, WritesAnswer, WroteFrontOfAnswer, WritesLine, PutsAnswer}
 use Rattle.bk_verbs.proofs.Plays.{written_nothing}
 use Rattle.bk_program.proofs.OneAnswer.{one_answer, answer_of_work}
 
@@ -182,3 +182,13 @@ stop_is_not_executed Memory h = h
 pub reports_not_executed : (stop : Stop) (status : Status) (before after : Option (List ℕ)) → Reports stop status before after → IsExecuted status → ⊥
 reports_not_executed stop status before after (inl r) x = stop_is_not_executed stop (subst IsExecuted r.0 x)
 reports_not_executed stop status before after (inr r) x = executed_is_not_cut_short status x r.0
+
+-- ---- what is put
+-- the line of a check that stops the program, where it is answered
+pub stop_puts : (files : Files) (words : List (List ℕ)) (stop : Stop) (status : Status) (before after : Option (List ℕ)) (old mid new : Option (List Piece)) →
+    IsOutside stop ⊎ StopsAt files words stop → Reports stop status before after → IsAnswered status → IsOfPlaying stop ⊎ (mid ≡ old) → IsCutShort status ⊎ PutWhole (stop_text stop) mid new → PutsAnswer files words old new status
+stop_puts files words stop status before after old mid new cause (inr r) a playing piece = absurd (cut_short_is_not_answered status r.0 a)
+stop_puts files words stop status before after old mid new (inl o) (inl r) a playing piece = absurd (outside_is_not_answered stop o (subst IsAnswered r.0 a))
+stop_puts files words stop status before after old mid new (inr s) (inl r) a (inl p) piece = absurd (outside_is_not_answered stop (outside_of_playing stop p) (subst IsAnswered r.0 a))
+stop_puts files words stop status before after old mid new (inr s) (inl r) a (inr e) (inl cut) = absurd (cut_short_is_not_answered status cut a)
+stop_puts files words stop status before after old mid new (inr s) (inl r) a (inr e) (inr put) = inl (stop, s, r.0, subst (λ x. PutWhole (stop_text stop) x new) e put)

@@ -3,6 +3,7 @@ pub mod Following
 pub mod ExchangeValid
 pub mod OneAnswer
 pub mod Answering
+pub mod Leaving
 pub mod Given
 pub mod Written
 pub mod Legal

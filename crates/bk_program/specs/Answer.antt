@@ -1,13 +1,13 @@
 -- The answer of `bkit`, as the words and the told files have it.
 use Rattle.std.specs.Prelude.{◌≡◌, ℕ, ◌⊎◌, List, Option}
 use Rattle.bk_io.specs.Files.{Files}
-use Rattle.bk_io.specs.Pieces.{written_with, WroteFront}
+use Rattle.bk_io.specs.Pieces.{Piece, PutWhole, WroteFront, written_with}
 use Rattle.bk_verbs.specs.declared.status.Status.{Status}
 use Rattle.bk_verbs.specs.declared.status.Status.TheVariants.{Done, ReadFault, WriteFault, Memory}
 use Rattle.bk_verbs.specs.declared.stop.Stop.{Stop}
 use Rattle.bk_cli.specs.Tasks.{Task, find_task, Asks}
 use Rattle.bk_verbs.specs.Stops.{StopsAt, status_of_stop, stop_text}
-use Rattle.bk_verbs.specs.Work.{IsWork}
+use Rattle.bk_verbs.specs.Work.{IsWork, PutsWork}
 
 -- the words ask for a task that no check stops, and it gives this status and this text
 abbrev pub IsWorkOf : Files → List (List ℕ) → Status → List ℕ → Type 0
@@ -55,3 +55,9 @@ WroteFrontOfAnswer files words old new =
 -- the status is that of a stop, and its line is written after what had been written
 abbrev pub WritesLine : Status → (old new : Option (List ℕ)) → Type 0
 WritesLine status old new = (stop : Stop) × (status ≡ status_of_stop stop) × (new ≡ written_with old (stop_text stop))
+
+-- what is put where the program answers: the line of the check that stops it, as one piece, or what its task puts
+abbrev pub PutsAnswer : Files → List (List ℕ) → (old new : Option (List Piece)) → Status → Type 0
+PutsAnswer files words old new status =
+    ((stop : Stop) × StopsAt files words stop × (status ≡ status_of_stop stop) × PutWhole (stop_text stop) old new) ⊎
+    ((task : Task) × Asks words task × PutsWork files task old new status)

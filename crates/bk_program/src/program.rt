@@ -12,11 +12,12 @@ ghost use Rattle.bk_verbs.specs.declared.stop.Stop.TheVariants.{Usage, ReadFault
 ghost use Rattle.bk_verbs.specs.Codes.{code_of};
 ghost use Rattle.bk_cli.specs.Tasks.{Task, run_task, Asks, AskForNothing};
 ghost use Rattle.bk_verbs.specs.Causes.{IsOfPlaying, CountsAbsence};
+ghost use Rattle.bk_verbs.specs.Frames.{Appends};
 ghost use Rattle.bk_verbs.specs.Stops.{IsOutside, StopsAt, IsCutShort, stop_text};
-ghost use Rattle.bk_verbs.specs.Work.{IsExecuted, WritesWork};
+ghost use Rattle.bk_verbs.specs.Work.{IsExecuted, WritesWork, PutsWork};
 ghost use Rattle.bk_program.specs.Run.{IsReady, WritesRun, IsDoneWhereLegal};
-ghost use Rattle.bk_program.specs.Answer.{IsAnswer, IsAnswered, HasFound, WritesAnswer, WroteFrontOfAnswer, WritesLine};
-ghost use Rattle.bk_program.specs.Outcome.{devices, HasOutcome};
+ghost use Rattle.bk_program.specs.Answer.{IsAnswer, IsAnswered, HasFound, WritesAnswer, WroteFrontOfAnswer, WritesLine, PutsAnswer};
+ghost use Rattle.bk_program.specs.Outcome.{devices, Leaves, HasOutcome};
 
 use bk_cli::asked;
 use bk_io::{Shelf, Sink};
@@ -28,6 +29,7 @@ use std::process::ExitCode;
 
 /// The program over the words as the system gives them; the exit code is that of its status. Words that are no text are
 /// wrong words.
+#[tactic(auto, using(crate::proofs::Leaving::leaves_of, crate::proofs::Leaving::leaves_all))]
 pub fn exit_code<H: Shelf, K: Sink>(
     alloc: Global,
     words: io::Result<Vec<String>>,
@@ -35,16 +37,19 @@ pub fn exit_code<H: Shelf, K: Sink>(
     out: &mut K,
 ) -> ExitCode
     ensures given { IfOk words (λ given. HasOutcome (map string_bytes given.items)
-        (devices (H.files shelf.old) (K.written out.old) (H.faults shelf.old) (K.faults out.old) (H.absences shelf.old))
-        (devices (H.files shelf.new) (K.written out.new) (H.faults shelf.new) (K.faults out.new) (H.absences shelf.new))
+        (devices (H.files shelf.old) (K.written out.old) (K.pieces out.old) (H.faults shelf.old) (K.faults out.old) (H.absences shelf.old))
+        (devices (H.files shelf.new) (K.written out.new) (K.pieces out.new) (H.faults shelf.new) (K.faults out.new) (H.absences shelf.new))
         (exit_status result)) }
     ensures no_text { IfErr words (λ error. error_kind error ≢ ErrorKind.OutOfMemory →
         HasOutcome []
-        (devices (H.files shelf.old) (K.written out.old) (H.faults shelf.old) (K.faults out.old) (H.absences shelf.old))
-        (devices (H.files shelf.new) (K.written out.new) (H.faults shelf.new) (K.faults out.new) (H.absences shelf.new))
+        (devices (H.files shelf.old) (K.written out.old) (K.pieces out.old) (H.faults shelf.old) (K.faults out.old) (H.absences shelf.old))
+        (devices (H.files shelf.new) (K.written out.new) (K.pieces out.new) (H.faults shelf.new) (K.faults out.new) (H.absences shelf.new))
         (exit_status result)) }
     ensures memory { IfErr words (λ error. error_kind error ≡ ErrorKind.OutOfMemory →
         (exit_status result ≡ code_of Status.Memory) × (K.written out.new ≡ K.written out.old)) }
+    ensures leaves { Leaves
+        (devices (H.files shelf.old) (K.written out.old) (K.pieces out.old) (H.faults shelf.old) (K.faults out.old) (H.absences shelf.old))
+        (devices (H.files shelf.new) (K.written out.new) (K.pieces out.new) (H.faults shelf.new) (K.faults out.new) (H.absences shelf.new)) }
 {
     match words {
         Ok(words) => code_of_run(alloc, &words, shelf, out),
@@ -63,8 +68,8 @@ fn code_of_run<H: Shelf, K: Sink>(
     out: &mut K,
 ) -> ExitCode
     ensures { HasOutcome (map string_bytes words.now)
-        (devices (H.files shelf.old) (K.written out.old) (H.faults shelf.old) (K.faults out.old) (H.absences shelf.old))
-        (devices (H.files shelf.new) (K.written out.new) (H.faults shelf.new) (K.faults out.new) (H.absences shelf.new))
+        (devices (H.files shelf.old) (K.written out.old) (K.pieces out.old) (H.faults shelf.old) (K.faults out.old) (H.absences shelf.old))
+        (devices (H.files shelf.new) (K.written out.new) (K.pieces out.new) (H.faults shelf.new) (K.faults out.new) (H.absences shelf.new))
         (exit_status result) }
 {
     ExitCode::from(bkit(alloc, words, shelf, out).code())
@@ -96,6 +101,8 @@ pub fn bkit<H: Shelf, K: Sink>(
     ensures answer { IsAnswered result → (files : Files) → H.files shelf.old ≡ Some files →
         WritesAnswer files (map string_bytes words.now) (K.written out.old) (K.written out.new) result }
     ensures line { IsAnswered result → IsExecuted result ⊎ WritesLine result (K.written out.old) (K.written out.new) }
+    ensures pieces { IsAnswered result → (files : Files) → H.files shelf.old ≡ Some files →
+        PutsAnswer files (map string_bytes words.now) (K.pieces out.old) (K.pieces out.new) result }
     ensures cut_short { IsCutShort result → (files : Files) → H.files shelf.old ≡ Some files →
         (status : Status) (text : List ℕ) → IsAnswer files (map string_bytes words.now) status text →
         (HasFound (map string_bytes words.now) status → ⊥) → WroteFront text (K.written out.old) (K.written out.new) }
@@ -109,6 +116,9 @@ pub fn bkit<H: Shelf, K: Sink>(
         (K.written out.new ≡ written_with (K.written out.old) (stop_text Usage)) }
     ensures wrong_words { AskForNothing (map string_bytes words.now) → (result ≡ Status.Usage) ⊎
         (IsCutShort result × WroteFront (stop_text Usage) (K.written out.old) (K.written out.new)) }
+    ensures leaves { Leaves
+        (devices (H.files shelf.old) (K.written out.old) (K.pieces out.old) (H.faults shelf.old) (K.faults out.old) (H.absences shelf.old))
+        (devices (H.files shelf.new) (K.written out.new) (K.pieces out.new) (H.faults shelf.new) (K.faults out.new) (H.absences shelf.new)) }
 {
     match perform(alloc, words, shelf, out) {
         Ok(status) => status,
@@ -117,6 +127,7 @@ pub fn bkit<H: Shelf, K: Sink>(
 }
 
 // What the words ask for, read and checked, and then written.
+#[tactic(auto, using(bk_verbs::proofs::Frames::appends_nothing))]
 fn perform<H: Shelf, K: Sink>(
     alloc: Global,
     words: &[String],
@@ -128,6 +139,8 @@ fn perform<H: Shelf, K: Sink>(
     ensures read { HasCause ReadFault (H.faults shelf.old) (H.faults shelf.new) result }
     ensures missing { CountsAbsence (H.absences shelf.old) (H.absences shelf.new) result }
     ensures write { HasCause WriteFault (K.faults out.old) (K.faults out.new) result }
+    ensures files { H.files shelf.new ≡ H.files shelf.old }
+    ensures appends { Appends (K.written out.old) (K.written out.new) }
     ensures silent { IfErr result (λ stop. IsOfPlaying stop ⊎ (K.written out.new ≡ K.written out.old)) }
     ensures front { IfErr result (λ stop. (files : Files) → H.files shelf.old ≡ Some files →
         (status : Status) (text : List ℕ) → IsAnswer files (map string_bytes words.now) status text →
@@ -142,6 +155,10 @@ fn perform<H: Shelf, K: Sink>(
     ensures ok { IfOk result (λ status. (files : Files) → H.files shelf.old ≡ Some files →
         (task : Task) → Asks (map string_bytes words.now) task →
         WritesWork files task (K.written out.old) (K.written out.new) status) }
+    ensures pieces { IfOk result (λ status. (files : Files) → H.files shelf.old ≡ Some files →
+        (task : Task) → Asks (map string_bytes words.now) task →
+        PutsWork files task (K.pieces out.old) (K.pieces out.new) status) }
+    ensures unput { IfErr result (λ stop. IsOfPlaying stop ⊎ (K.pieces out.new ≡ K.pieces out.old)) }
     ensures asked { IfOk result (λ status. (task : Task) × Asks (map string_bytes words.now) task) }
 {
     let command = asked(alloc, words)?;

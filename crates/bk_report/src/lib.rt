@@ -9,5 +9,5 @@ mod table;
 
 pub use check::check_line;
 pub use code::listing;
-pub use obligations::obligations_text;
+pub use obligations::obligation_text;
 pub use table::table_text;

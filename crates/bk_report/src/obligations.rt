@@ -1,6 +1,6 @@
 //! The obligations of a project, as `po` writes them.
 
-ghost use Rattle.std.specs.Prelude.{◌≡◌, ◌++◌, map, codes, IfOk, OnOk};
+ghost use Rattle.std.specs.Prelude.{◌≡◌, ◌++◌, codes, IfOk, OnOk};
 ghost use Rattle.bk_po.specs.Shown.{named_sequent};
 ghost use Rattle.bk_show.specs.Shown.{shown};
 ghost use Rattle.bk_report.specs.Obligations as texts;
@@ -12,18 +12,16 @@ use bk_po::Obligation;
 use bk_show::show;
 use std::alloc::Global;
 
-/// The text of a list of obligations, with the names of the table.
-pub fn obligations_text(
+/// The text of an obligation, with the names of the table.
+pub fn obligation_text(
     alloc: Global,
-    list: &[Obligation],
+    obligation: &Obligation,
     table: &VarTable,
 ) -> Result<Vec<u8>, Memory>
-    ensures { IfOk result (λ text. text.items ≡ texts.obligations_text table.now (map named_sequent list.now)) }
+    ensures { IfOk result (λ text. text.items ≡ texts.obligation_text table.now (named_sequent obligation.now)) }
 {
     let mut text = Vec::new(alloc);
-    for obligation in list {
-        write_obligation(alloc, &mut text, obligation, table)?;
-    }
+    write_obligation(alloc, &mut text, obligation, table)?;
     Ok(text)
 }
 

@@ -1,5 +1,8 @@
 pub mod Plays
 pub mod Fronts
+pub mod Frames
+pub mod Puts
+pub mod Listed
 pub mod Projects
 pub mod Fetching
 pub mod Stopping

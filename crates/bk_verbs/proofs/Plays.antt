@@ -36,7 +36,7 @@ told_line image op (DoneEnd n) given after = refl
 told_line image op (TrapEnd kind at n) given after = refl
 told_line image op OutOfFuelEnd given after = refl
 
-pub plays_call : ContinuesSession → (image : Image) (fuel : ℕ) (op : ℕ) (args before outs : List ℤ) (end : CallEnd) (after given : List ℤ) (shown : Image) (values : List ℤ) (old new : Option (List ℕ)) →
+unfoldable pub plays_call : ContinuesSession → (image : Image) (fuel : ℕ) (op : ℕ) (args before outs : List ℤ) (end : CallEnd) (after given : List ℤ) (shown : Image) (values : List ℤ) (old new : Option (List ℕ)) →
     TakesCall image op args (length outs) → CallEndsWith image op args fuel before outs end after given → shown ≡ image → values ≡ given →
     new ≡ written_with old (reply_text shown (Some op) (end_of end) values) →
     PlaysCall image fuel (record { op = op; args = args }) before (end_of end) after old new
@@ -99,11 +99,11 @@ reaches_more image fuel e c (q ∷ rs) (u ∷ ts) f d r t h done answers = (h.0,
 reaches_more image fuel e c [] (u ∷ ts) f d r t h done answers = absurd h
 reaches_more image fuel e c (q ∷ rs) [] f d r t h done answers = absurd h
 
-done_more : (ts : List Told) (t : Told) → done_count (ts ++ t ∷ []) ≡ done_count ts + done_number t.end
+pub done_more : (ts : List Told) (t : Told) → done_count (ts ++ t ∷ []) ≡ done_count ts + done_number t.end
 done_more [] t = omega arith
 done_more (u ∷ ts) t = ap (λ n. done_number u.end + n) (done_more ts t) ∙ omega arith
 
-steps_more : (f : ℕ) (ts : List Told) (t : Told) → step_sum f (ts ++ t ∷ []) ≡ step_sum f ts + steps_of f t.end
+pub steps_more : (f : ℕ) (ts : List Told) (t : Told) → step_sum f (ts ++ t ∷ []) ≡ step_sum f ts + steps_of f t.end
 steps_more f [] t = omega arith
 steps_more f (u ∷ ts) t = ap (λ n. steps_of f u.end + n) (steps_more f ts t) ∙ omega arith
 
@@ -115,7 +115,7 @@ lines_more image fuel e c (q ∷ rs) (u ∷ ts) f d r t h =
 lines_more image fuel e c [] (u ∷ ts) f d r t h = absurd h
 lines_more image fuel e c (q ∷ rs) [] f d r t h = absurd h
 
-pub sofar_more : (image : Image) (fuel : ℕ) (rs : List Request) (e : End) (c : List ℤ) (f : End) (d : List ℤ) (done steps : ℕ) (old mid new : Option (List ℕ)) (r : Request) (g : End) (k : List ℤ) →
+unfoldable pub sofar_more : (image : Image) (fuel : ℕ) (rs : List Request) (e : End) (c : List ℤ) (f : End) (d : List ℤ) (done steps : ℕ) (old mid new : Option (List ℕ)) (r : Request) (g : End) (k : List ℤ) →
     Sofar image fuel rs e c f d done steps old mid → IsDone f → PlaysCall image fuel r d g k mid new →
     Sofar image fuel (rs ++ r ∷ []) e c g k (done + done_number g) (steps + steps_of fuel g) old new
 sofar_more image fuel rs e c f d done steps old mid new r g k s is_done p = record {
@@ -150,20 +150,20 @@ goes_on image fuel OutOfFuel c (q ∷ rs) (u ∷ ts) f d more h o = absurd h.0
 goes_on image fuel e c [] (u ∷ ts) f d more h o = absurd h
 goes_on image fuel e c (q ∷ rs) [] f d more h o = absurd h
 
-last_is : (image : Image) (fuel : ℕ) (e : End) (c : List ℤ) (rs : List Request) (ts : List Told) (f : End) (d : List ℤ) → Reaches image fuel e c rs ts f d → f ≡ last_end e ts
+pub last_is : (image : Image) (fuel : ℕ) (e : End) (c : List ℤ) (rs : List Request) (ts : List Told) (f : End) (d : List ℤ) → Reaches image fuel e c rs ts f d → f ≡ last_end e ts
 last_is image fuel e c [] [] f d h = sym h.0
 last_is image fuel e c (q ∷ rs) (u ∷ ts) f d h = last_is image fuel u.end u.cells rs ts f d h.2
 last_is image fuel e c [] (u ∷ ts) f d h = absurd h
 last_is image fuel e c (q ∷ rs) [] f d h = absurd h
 
-no_more_lines : (image : Image) (fuel : ℕ) (e : End) (c : List ℤ) (rs : List Request) (ts : List Told) (f : End) (d : List ℤ) (more : List Request) → Reaches image fuel e c rs ts f d → replies_text image rs ts ≡ replies_text image (rs ++ more) ts
+pub no_more_lines : (image : Image) (fuel : ℕ) (e : End) (c : List ℤ) (rs : List Request) (ts : List Told) (f : End) (d : List ℤ) (more : List Request) → Reaches image fuel e c rs ts f d → replies_text image rs ts ≡ replies_text image (rs ++ more) ts
 no_more_lines image fuel e c [] [] f d [] h = refl
 no_more_lines image fuel e c [] [] f d (r ∷ more) h = refl
 no_more_lines image fuel e c (q ∷ rs) (u ∷ ts) f d more h = ap (λ l. reply_text image (Some q.op) u.end u.outputs ++ l) (no_more_lines image fuel u.end u.cells rs ts f d more h.2)
 no_more_lines image fuel e c [] (u ∷ ts) f d more h = absurd h
 no_more_lines image fuel e c (q ∷ rs) [] f d more h = absurd h
 
-pub sofar_whole : (image : Image) (fuel : ℕ) (rs more : List Request) (e : End) (c : List ℤ) (f : End) (d : List ℤ) (done steps : ℕ) (old new : Option (List ℕ)) →
+unfoldable pub sofar_whole : (image : Image) (fuel : ℕ) (rs more : List Request) (e : End) (c : List ℤ) (f : End) (d : List ℤ) (done steps : ℕ) (old new : Option (List ℕ)) →
     Sofar image fuel rs e c f d done steps old new → IsOver f more → PlaysCalls image fuel (rs ++ more) e c f done steps old new
 sofar_whole image fuel rs more e c f d done steps old new s o = record {
   tolds = s.tolds;
@@ -214,10 +214,10 @@ first_line image (DoneEnd n) cells = refl
 first_line image (TrapEnd kind at n) cells = refl
 first_line image OutOfFuelEnd cells = refl
 
-thrice : (old : Option (List ℕ)) (xs ys zs : List ℕ) → written_with (written_with (written_with old xs) ys) zs ≡ written_with old ((xs ++ ys) ++ zs)
+pub thrice : (old : Option (List ℕ)) (xs ys zs : List ℕ) → written_with (written_with (written_with old xs) ys) zs ≡ written_with old ((xs ++ ys) ++ zs)
 thrice old xs ys zs = ap (λ m. written_with m zs) (written_twice old xs ys) ∙ written_twice old (xs ++ ys) zs
 
-pub plays : StartsSession → (image : Image) (fuel : ℕ) (start : CallEnd) (cells : List ℤ) (requests : List Request) (last : End) (done steps : ℕ) (old mid far new : Option (List ℕ)) →
+unfoldable pub plays : StartsSession → (image : Image) (fuel : ℕ) (start : CallEnd) (cells : List ℤ) (requests : List Request) (last : End) (done steps : ℕ) (old mid far new : Option (List ℕ)) →
     EndsWith image fuel (first_start image) start cells →
     mid ≡ written_with old (reply_text image None (end_of start) []) →
     PlaysCalls image fuel requests (end_of start) cells last done steps mid far →

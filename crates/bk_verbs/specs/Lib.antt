@@ -7,3 +7,5 @@ pub mod Work
 pub mod Prepared
 pub mod Stops
 pub mod Causes
+pub mod Frames
+pub mod Puts

@@ -1,11 +1,12 @@
 -- A session as the program plays it: its status and the text that it
 -- writes. Fuel is how many steps the initialisation and each call may have.
-use Rattle.std.specs.Prelude.{◌≡◌, ℕ, ℤ, List, [], ◌∷◌, ◌≤◌, length, All, take, Option, Some}
-use Rattle.bk_io.specs.Pieces.{written_with, WroteFront}
+use Rattle.std.specs.Prelude.{◌≡◌, ℕ, ◌+◌, ℤ, List, [], ◌∷◌, ◌++◌, ◌≤◌, length, All, take, Option, Some, None}
+use Rattle.bk_io.specs.Pieces.{Piece, PutWhole, written_with, WroteFront}
 use Rattle.bk_code.specs.declared.image.Image.{Image}
 use Rattle.bk_code.specs.Run.{End, Done, Trapped, OutOfFuel}
 use Rattle.bk_code.specs.Session.{Request, Told, Answers, Continues, Session}
-use Rattle.bk_calls.specs.Transcript.{reply_text, replies_text, done_count, step_sum, transcript}
+use Rattle.bk_calls.specs.Transcript.{reply_text, replies_text, done_count, step_sum, steps_of, closing_text, transcript}
+use Rattle.bk_verbs.specs.Puts.{PutsEach}
 use Rattle.bk_verbs.specs.declared.status.Status.{Status}
 use Rattle.bk_verbs.specs.declared.status.Status.TheVariants.{Done as DoneStatus, Trapped as TrappedStatus, OutOfFuel as OutOfFuelStatus}
 
@@ -53,6 +54,38 @@ pub record PlaysCalls (image : Image) (fuel : ℕ) (requests : List Request) (en
   pub done_is : done ≡ done_count tolds
   pub steps_are : steps ≡ step_sum fuel tolds
   pub written : new ≡ written_with old (replies_text image requests tolds)
+
+-- ---- line by line
+-- the lines of the calls that were made for requests, in order
+abbrev pub replies_lines : Image → List Request → List Told → List (List ℕ)
+replies_lines image (request ∷ requests) (told ∷ tolds) =
+    reply_text image (Some request.op) told.end told.outputs ∷ replies_lines image requests tolds
+replies_lines image _ _ = []
+
+-- those of a session: the initialisation's, which is empty where it is done, those of the calls, and the last line
+abbrev pub transcript_lines : Image → (fuel : ℕ) → List Request → List Told → List (List ℕ)
+transcript_lines image fuel requests [] = []
+transcript_lines image fuel requests (first ∷ tolds) =
+    reply_text image None first.end first.outputs ∷ (replies_lines image requests tolds ++
+    closing_text (done_count tolds) (steps_of fuel first.end + step_sum fuel tolds) ∷ [])
+
+-- one call of a session, whose line is put as one piece
+pub record PutsCall (image : Image) (fuel : ℕ) (request : Request) (before : List ℤ) (end : End) (after : List ℤ)
+    (old new : Option (List ℕ)) (old_pieces new_pieces : Option (List Piece)) : Type 0 where
+  pub plays : PlaysCall image fuel request before end after old new
+  pub put : PutWhole (reply_text image (Some request.op) end plays.told.outputs) old_pieces new_pieces
+
+-- calls one after another, each of whose lines is put as one piece
+pub record PutsCalls (image : Image) (fuel : ℕ) (requests : List Request) (end : End) (cells : List ℤ) (last : End) (done steps : ℕ)
+    (old new : Option (List ℕ)) (old_pieces new_pieces : Option (List Piece)) : Type 0 where
+  pub plays : PlaysCalls image fuel requests end cells last done steps old new
+  pub puts : PutsEach (replies_lines image requests plays.tolds) old_pieces new_pieces
+
+-- a session, each of whose lines is put as one piece
+pub record Puts (image : Image) (fuel : ℕ) (requests : List Request) (status : Status)
+    (old new : Option (List ℕ)) (old_pieces new_pieces : Option (List Piece)) : Type 0 where
+  pub plays : Plays image fuel requests status old new
+  pub puts : PutsEach (transcript_lines image fuel requests plays.tolds) old_pieces new_pieces
 
 -- so many places are enough for the outputs of each operation
 abbrev pub HasOutputRoom : Image → ℕ → Type 0

@@ -1,7 +1,7 @@
 -- What a task gives where no check stops it, a case a verb.
-use Rattle.std.specs.Prelude.{◌≡◌, ℕ, true, List, ◌++◌, Option}
+use Rattle.std.specs.Prelude.{◌≡◌, ℕ, true, false, List, ◌++◌, map, Option}
 use Rattle.bk_io.specs.Files.{Files}
-use Rattle.bk_io.specs.Pieces.{written_with}
+use Rattle.bk_io.specs.Pieces.{Piece, PutWhole, written_with}
 use Rattle.bk_code.specs.declared.image.Image.{Image}
 use Rattle.bk_code.specs.Session.{Request, Told, Session}
 use Rattle.bk_image.specs.Encoding.{Encodes}
@@ -23,9 +23,10 @@ use Rattle.bk_cli.specs.Tasks.{run_task, exec_task, sample_task, has_proofs}
 use Rattle.bk_verbs.specs.Project.{IsToldAsBytes, ReadsProject, IsFinished, IsWithinCodeLimits, ReadsCalls}
 use Rattle.bk_report.specs.Check.{check_text}
 use Rattle.bk_report.specs.Table.{table_text}
-use Rattle.bk_report.specs.Obligations.{obligations_text}
+use Rattle.bk_report.specs.Obligations.{obligation_text, obligations_text}
 use Rattle.bk_report.specs.Listing.{listing}
-use Rattle.bk_verbs.specs.Session.{session_status}
+use Rattle.bk_verbs.specs.Puts.{PutsEach}
+use Rattle.bk_verbs.specs.Session.{session_status, transcript_lines}
 use Rattle.bk_verbs.specs.Samples.{sample_files, sample_project, sample_table, sample_run, last_line}
 
 -- the statuses of work that is done: of all that was asked for, or up to a call that is not done
@@ -152,3 +153,41 @@ pub record WritesWork (files : Files) (task : Task) (old new : Option (List ℕ)
   pub text : List ℕ
   pub work : IsWork files task status text
   pub appended : new ≡ written_with old text
+
+-- ---- pieces
+-- the text of the task is put as one piece
+pub record PutsText (files : Files) (task : Task) (old new : Option (List Piece)) (status : Status) : Type 0 where
+  pub text : List ℕ
+  pub work : IsWork files task status text
+  pub put : PutWhole text old new
+
+-- the texts of the development's obligations, which pass no limit, are put one by one
+pub record PutsObligations (files : Files) (project : List ℕ) (old new : Option (List Piece)) : Type 0 where
+  pub dev : Development
+  pub scripts : List RawScript
+  pub reads : ReadsProject false files project dev scripts
+  pub within : PassNoLimit (obligations dev)
+  pub puts : PutsEach (map (obligation_text (flattened dev).table) (numbered_obligations dev)) old new
+
+-- the image's session over the calls that the script asks for is played, and each line of its transcript is put as one piece
+pub record PutsPlayed (files : Files) (calls : List ℕ) (fuel : ℕ) (image : Image)
+    (old new : Option (List Piece)) (status : Status) : Type 0 where
+  pub text : List ℕ
+  pub played : IsPlayed files calls fuel image status text
+  pub puts : PutsEach (transcript_lines image fuel played.requests played.tolds) old new
+
+-- what a task puts: `run` and `exec` line by line, `po` an obligation at a time, and each other at once
+abbrev pub PutsWork : Files → Task → (old new : Option (List Piece)) → Status → Type 0
+PutsWork files (check_task project) old new status = PutsText files (check_task project) old new status
+PutsWork files (status_task project) old new status = PutsText files (status_task project) old new status
+PutsWork files (po_task project) old new status = (status ≡ Done) × PutsObligations files project old new
+PutsWork files (find_task project) old new status = PutsText files (find_task project) old new status
+PutsWork files (code_task project) old new status = PutsText files (code_task project) old new status
+PutsWork files (build_task project) old new status = PutsText files (build_task project) old new status
+PutsWork files (run_task project calls fuel) old new status =
+    (dev : Development) × (scripts : List RawScript) × ReadsProject true files project dev scripts
+    × PutsPlayed files calls fuel (translation dev) old new status
+PutsWork files (exec_task image calls fuel) old new status =
+    (bytes : List ℕ) × (loaded : Image) × IsToldAsBytes files image bytes × Encodes bytes loaded
+    × PutsPlayed files calls fuel loaded old new status
+PutsWork files (sample_task variables) old new status = PutsText files (sample_task variables) old new status

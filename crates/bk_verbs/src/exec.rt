@@ -8,7 +8,7 @@ ghost use Rattle.bk_verbs.specs.declared.stop.Stop.TheVariants.{ReadFault};
 ghost use Rattle.bk_cli.specs.Tasks.{exec_task, most_fuel};
 ghost use Rattle.bk_verbs.specs.Causes.{IsOfReading, IsOfChecks, CountsAbsence};
 ghost use Rattle.bk_verbs.specs.Stops.{IsOutside, StopsAtLoading, StopsTask};
-ghost use Rattle.bk_verbs.specs.Prepared.{IsPrepared, CanBePlayed};
+ghost use Rattle.bk_verbs.specs.Prepared.{IsPrepared, Suits, CanBePlayed};
 
 use crate::files::fetch;
 use crate::player::Player;
@@ -34,8 +34,11 @@ pub(crate) fn session_of_image<H: Shelf>(
     ensures reading { IfErr result IsOfReading }
     ensures failed { HasCause ReadFault (H.faults shelf.old) (H.faults shelf.new) result }
     ensures missing { CountsAbsence (H.absences shelf.old) (H.absences shelf.new) result }
+    ensures files { H.files shelf.new ≡ H.files shelf.old }
     ensures told { IfOk result (λ work. (files : Files) → H.files shelf.old ≡ Some files →
         IsPrepared files (exec_task image.now script.now fuel) work) }
+    ensures suits { IfOk result (λ work. (files : Files) → H.files shelf.old ≡ Some files →
+        Suits files (exec_task image.now script.now fuel) work) }
     ensures playable { IfOk result CanBePlayed }
 {
     let bytes = Text::from_bytes(fetch(alloc, image, shelf)?);

@@ -8,7 +8,7 @@ ghost use Rattle.bk_cli.specs.Tasks.{find_task};
 ghost use Rattle.bk_verbs.specs.declared.stop.Stop.TheVariants.{ReadFault};
 ghost use Rattle.bk_verbs.specs.Causes.{IsOfReading, IsOfChecks, CountsAbsence};
 ghost use Rattle.bk_verbs.specs.Stops.{IsOutside, StopsTask, StopsPastLimits};
-ghost use Rattle.bk_verbs.specs.Prepared.{IsPrepared, CanBePlayed};
+ghost use Rattle.bk_verbs.specs.Prepared.{IsPrepared, Suits, CanBePlayed};
 ghost use Rattle.bk_verbs.specs.Work.{ShowsScripts};
 
 use crate::files::{Project, read_project};
@@ -33,8 +33,11 @@ pub(crate) fn found_scripts<H: Shelf>(
     ensures reading { IfErr result IsOfReading }
     ensures failed { HasCause ReadFault (H.faults shelf.old) (H.faults shelf.new) result }
     ensures missing { CountsAbsence (H.absences shelf.old) (H.absences shelf.new) result }
+    ensures files { H.files shelf.new ≡ H.files shelf.old }
     ensures told { IfOk result (λ work. (files : Files) → H.files shelf.old ≡ Some files →
         IsPrepared files (find_task project.now) work) }
+    ensures suits { IfOk result (λ work. (files : Files) → H.files shelf.old ≡ Some files →
+        Suits files (find_task project.now) work) }
     ensures playable { IfOk result CanBePlayed }
 {
     let read = read_project(alloc, project, true, shelf)?;

@@ -11,6 +11,7 @@ mod listing;
 mod obligations;
 mod player;
 mod proof;
+mod putting;
 mod run;
 mod sample;
 mod script;

@@ -7,7 +7,7 @@ ghost use Rattle.bk_cli.specs.Tasks.{po_task};
 ghost use Rattle.bk_verbs.specs.declared.stop.Stop.TheVariants.{ReadFault};
 ghost use Rattle.bk_verbs.specs.Causes.{IsOfReading, CountsAbsence};
 ghost use Rattle.bk_verbs.specs.Stops.{IsOutside, StopsTask};
-ghost use Rattle.bk_verbs.specs.Prepared.{IsPrepared, CanBePlayed};
+ghost use Rattle.bk_verbs.specs.Prepared.{IsPrepared, Suits, CanBePlayed};
 
 use crate::files::read_project;
 use crate::proof::obligations_of;
@@ -15,10 +15,9 @@ use crate::stop::Stop;
 use crate::work::Work;
 use bk_io::Shelf;
 use bk_po::obligation_table;
-use bk_report::obligations_text;
 use std::alloc::Global;
 
-/// The text of a project's obligations. Its proof files are not fetched.
+/// The obligations of a project, with the table of their names. Its proof files are not fetched.
 pub(crate) fn shown_obligations<H: Shelf>(
     alloc: Global,
     project: &str,
@@ -29,13 +28,15 @@ pub(crate) fn shown_obligations<H: Shelf>(
     ensures reading { IfErr result IsOfReading }
     ensures failed { HasCause ReadFault (H.faults shelf.old) (H.faults shelf.new) result }
     ensures missing { CountsAbsence (H.absences shelf.old) (H.absences shelf.new) result }
+    ensures files { H.files shelf.new ≡ H.files shelf.old }
     ensures told { IfOk result (λ work. (files : Files) → H.files shelf.old ≡ Some files →
         IsPrepared files (po_task project.now) work) }
+    ensures suits { IfOk result (λ work. (files : Files) → H.files shelf.old ≡ Some files →
+        Suits files (po_task project.now) work) }
     ensures playable { IfOk result CanBePlayed }
 {
     let read = read_project(alloc, project, false, shelf)?;
     let list = obligations_of(alloc, project, &read.development)?;
     let table = obligation_table(alloc, &read.development)?;
-    let text = obligations_text(alloc, &list, &table)?;
-    Ok(Work::Text(text))
+    Ok(Work::Obligations { list, table })
 }

@@ -11,7 +11,7 @@ ghost use Rattle.bk_cli.specs.Tasks.{run_task, most_fuel};
 ghost use Rattle.bk_verbs.specs.Causes.{IsOfReading, CountsAbsence};
 ghost use Rattle.bk_verbs.specs.Stops.{IsOutside, StopsTask};
 ghost use Rattle.bk_verbs.specs.Work.{IsMadeReady};
-ghost use Rattle.bk_verbs.specs.Prepared.{IsPrepared, CanBePlayed};
+ghost use Rattle.bk_verbs.specs.Prepared.{IsPrepared, Suits, CanBePlayed};
 
 use crate::code::image_of;
 use crate::files::{fetch, read_project};
@@ -49,8 +49,11 @@ pub(crate) fn session_of_project<H: Shelf>(
     ensures reading { IfErr result IsOfReading }
     ensures failed { HasCause ReadFault (H.faults shelf.old) (H.faults shelf.new) result }
     ensures missing { CountsAbsence (H.absences shelf.old) (H.absences shelf.new) result }
+    ensures files { H.files shelf.new ≡ H.files shelf.old }
     ensures told { IfOk result (λ work. (files : Files) → H.files shelf.old ≡ Some files →
         IsPrepared files (run_task project.now script.now fuel) work) }
+    ensures suits { IfOk result (λ work. (files : Files) → H.files shelf.old ≡ Some files →
+        Suits files (run_task project.now script.now fuel) work) }
     ensures playable { IfOk result CanBePlayed }
 {
     let ready = ready_project(alloc, project, script, shelf)?;
@@ -73,6 +76,7 @@ pub(crate) fn ready_project<H: Shelf>(
     ensures reading { IfErr result IsOfReading }
     ensures failed { HasCause ReadFault (H.faults shelf.old) (H.faults shelf.new) result }
     ensures missing { CountsAbsence (H.absences shelf.old) (H.absences shelf.new) result }
+    ensures files { H.files shelf.new ≡ H.files shelf.old }
     ensures ready { IfOk result (λ ready. (files : Files) → H.files shelf.old ≡ Some files →
         IsMadeReady files project.now script.now ready.table.rows.items ready.player.image (map request_of ready.calls.items)) }
     ensures fresh { IfOk result (λ ready. ready.player.started ≡ false) }

@@ -9,7 +9,7 @@ ghost use Rattle.bk_verbs.specs.Causes.{IsOfChecks};
 ghost use Rattle.bk_verbs.specs.Stops.{IsOutside, StopsTask, StopsAtWork};
 ghost use Rattle.bk_verbs.specs.Samples.{sample_files, sample_project, sample_run, last_line, has_end_within};
 ghost use Rattle.bk_verbs.specs.Work.{IsMadeReady};
-ghost use Rattle.bk_verbs.specs.Prepared.{IsPrepared, CanBePlayed};
+ghost use Rattle.bk_verbs.specs.Prepared.{IsPrepared, Suits, CanBePlayed};
 
 use crate::run::{Ready, ready_project};
 use crate::session::play;
@@ -28,6 +28,7 @@ pub(crate) fn sample_lines(alloc: Global, variables: u32) -> Result<Work, Stop>
     ensures cause { IfErr result (λ stop. (files : Files) → IsOutside stop ⊎ StopsTask files (sample_task variables) stop) }
     ensures checks { IfErr result IsOfChecks }
     ensures told { IfOk result (λ work. (files : Files) → IsPrepared files (sample_task variables) work) }
+    ensures suits { IfOk result (λ work. (files : Files) → Suits files (sample_task variables) work) }
     ensures playable { IfOk result CanBePlayed }
 {
     let ready = ready_sample(alloc, variables)?;

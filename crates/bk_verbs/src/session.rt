@@ -4,7 +4,7 @@
 ghost use Rattle.std.specs.Prelude.{◌≡◌, ◌<◌, ◌≤◌, ◌*◌, ◌+◌, true, false, All, length, map, slice_get};
 ghost use Rattle.std.specs.Prelude.{Some, IfOk, IfErr, OnOk, OnErr};
 ghost use Rattle.bk_io.specs.Counts.{HasCause};
-ghost use Rattle.bk_io.specs.Pieces.{written_with, WroteFront};
+ghost use Rattle.bk_io.specs.Pieces.{written_with, WroteFront, PutWhole};
 ghost use Rattle.bk_code.specs.Laws.{IsRequest};
 ghost use Rattle.bk_vm.specs.Ends.{is_stop, end_of};
 ghost use Rattle.bk_vm.specs.State.{TakesCall};
@@ -13,10 +13,11 @@ ghost use Rattle.bk_calls.specs.Room.{IsMadeFor};
 ghost use Rattle.bk_calls.specs.Transcript.{AreOutputs, reply_text, closing_text, steps_of, done_number};
 ghost use Rattle.bk_verbs.specs.declared.stop.Stop.TheVariants.{WriteFault};
 ghost use Rattle.bk_verbs.specs.Causes.{IsOfPlaying};
+ghost use Rattle.bk_verbs.specs.Frames.{Appends};
 ghost use Rattle.bk_cli.specs.Tasks.{most_fuel};
 ghost use Rattle.bk_verbs.specs.Work.{IsExecuted};
 ghost use Rattle.bk_verbs.specs.Session.{Plays, PlaysCalls, PlaysCall, HasOutputRoom, status_of};
-ghost use Rattle.bk_verbs.specs.Session.{PlaysFront, PlaysCallsFront, PlaysCallFront};
+ghost use Rattle.bk_verbs.specs.Session.{PlaysFront, PlaysCallsFront, PlaysCallFront, Puts, PutsCalls, PutsCall};
 
 use crate::player::Player;
 use crate::status::Status;
@@ -37,7 +38,7 @@ struct Played {
 }
 
 /// Plays a session, and writes its transcript line by line. The initialisation and each call may have `fuel` steps.
-#[tactic(auto, using(crate::proofs::Fronts::nothing_played))]
+#[tactic(auto, using(crate::proofs::Fronts::nothing_played, crate::proofs::Frames::appends_nothing))]
 pub(crate) fn play<K: Sink>(
     alloc: Global,
     mut player: Player,
@@ -51,11 +52,14 @@ pub(crate) fn play<K: Sink>(
     requires small { fuel ≤ most_fuel }
     ensures playing { IfErr result IsOfPlaying }
     ensures failed { HasCause WriteFault (K.faults out.old) (K.faults out.new) result }
+    ensures appends { Appends (K.written out.old) (K.written out.new) }
     ensures front { OnErr result
         (PlaysFront player.image fuel (map request_of calls.now) (K.written out.old) (K.written out.new)) }
     ensures executed { IfOk result IsExecuted }
     ensures ok { IfOk result (λ status.
         Plays player.image fuel (map request_of calls.now) status (K.written out.old) (K.written out.new)) }
+    ensures lines { IfOk result (λ status. Puts player.image fuel (map request_of calls.now) status
+        (K.written out.old) (K.written out.new) (K.pieces out.old) (K.pieces out.new)) }
 {
     let mut line = ReplyLine::new(alloc, player.image())?;
     let mut outs = vec![in alloc; 0i64; most_outputs(player.image())]?;
@@ -79,11 +83,14 @@ fn play_session<K: Sink>(
     requires outputs { HasOutputRoom player.old.image (length outs.old) }
     requires made { IsMadeFor player.old.image line.old }
     ensures failed { HasCause SinkFault.Failed (K.faults out.old) (K.faults out.new) result }
+    ensures appends { Appends (K.written out.old) (K.written out.new) }
     ensures front { OnErr result
         (PlaysFront player.old.image fuel (map request_of calls.now) (K.written out.old) (K.written out.new)) }
     ensures executed { IfOk result IsExecuted }
     ensures ok { IfOk result (λ status.
         Plays player.old.image fuel (map request_of calls.now) status (K.written out.old) (K.written out.new)) }
+    ensures lines { IfOk result (λ status. Puts player.old.image fuel (map request_of calls.now) status
+        (K.written out.old) (K.written out.new) (K.pieces out.old) (K.pieces out.new)) }
 {
     calls_make_a_session();
     let start = player.start(fuel);
@@ -129,6 +136,10 @@ fn play_calls<K: Sink>(
     ensures ok { IfOk result (λ played.
         PlaysCalls player.old.image fuel (map request_of calls.now) (end_of start) player.old.cells
         (end_of played.end) played.done played.steps (K.written out.old) (K.written out.new)) }
+    ensures lines { IfOk result (λ played.
+        PutsCalls player.old.image fuel (map request_of calls.now) (end_of start) player.old.cells
+        (end_of played.end) played.done played.steps
+        (K.written out.old) (K.written out.new) (K.pieces out.old) (K.pieces out.new)) }
     ensures bound { IfOk result (λ played. played.steps ≤ most_fuel * length calls.now) }
 {
     let mut played = Played {
@@ -183,6 +194,9 @@ fn play_call<K: Sink>(
     ensures ok { IfOk result (λ end.
         PlaysCall player.old.image fuel (request_of call.now) player.old.cells (end_of end) player.new.cells
         (K.written out.old) (K.written out.new)) }
+    ensures lines { IfOk result (λ end.
+        PutsCall player.old.image fuel (request_of call.now) player.old.cells (end_of end) player.new.cells
+        (K.written out.old) (K.written out.new) (K.pieces out.old) (K.pieces out.new)) }
     ensures image { player.new.image ≡ player.old.image }
     ensures started { player.new.started ≡ true }
     ensures stopped { IfOk result (λ end. player.new.stopped ≡ is_stop end) }
@@ -216,6 +230,9 @@ fn play_into<K: Sink>(
     ensures ok { IfOk result (λ end.
         PlaysCall player.old.image fuel (request_of call.now) player.old.cells (end_of end) player.new.cells
         (K.written out.old) (K.written out.new)) }
+    ensures lines { IfOk result (λ end.
+        PutsCall player.old.image fuel (request_of call.now) player.old.cells (end_of end) player.new.cells
+        (K.written out.old) (K.written out.new) (K.pieces out.old) (K.pieces out.new)) }
     ensures image { player.new.image ≡ player.old.image }
     ensures started { player.new.started ≡ true }
     ensures stopped { IfOk result (λ end. player.new.stopped ≡ is_stop end) }
@@ -245,6 +262,7 @@ fn answer<K: Sink>(
         (WroteFront (reply_text image.now op (end_of end) outs.now) (K.written out.old) (K.written out.new)) }
     ensures ok { OnOk result
         (K.written out.new ≡ written_with (K.written out.old) (reply_text image.now op (end_of end) outs.now)) }
+    ensures put { OnOk result (PutWhole (reply_text image.now op (end_of end) outs.now) (K.pieces out.old) (K.pieces out.new)) }
     ensures made { IsMadeFor image.now line.new }
 {
     reply(op, &end, outs, image, line);

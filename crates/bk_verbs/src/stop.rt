@@ -3,10 +3,11 @@
 ghost use Rattle.std.specs.Prelude.{◌≡◌, ◌⊎◌, ◌≤◌, ◌++◌, codes, decimal, IfOk, OnOk, OnErr};
 ghost use Rattle.bk_io.specs.Counts.{HasCause, Rose};
 ghost use Rattle.bk_verbs.specs.declared.stop.Stop.TheVariants.{WriteFault};
-ghost use Rattle.bk_io.specs.Pieces.{written_with, WroteFront};
+ghost use Rattle.bk_io.specs.Pieces.{written_with, WroteFront, PutWhole};
 ghost use Rattle.bk_verbs.specs.Causes.{stop_of_sink};
+ghost use Rattle.bk_verbs.specs.Frames.{Appends};
 ghost use Rattle.bk_image.specs.Faults.{place};
-ghost use Rattle.bk_verbs.specs.Stops.{status_of_stop, fault_name, refusal_text, place_text, stop_text, Reports};
+ghost use Rattle.bk_verbs.specs.Stops.{status_of_stop, fault_name, refusal_text, place_text, stop_text, Reports, IsCutShort};
 
 use crate::status::Status;
 use bk_cli::WordsFault;
@@ -111,9 +112,12 @@ impl<T: Drop> From<AllocFailed<T>> for Stop {
 
 impl Stop {
     /// Writes the line that says why the program stops, and answers how it ends.
+    #[tactic(auto, using(crate::proofs::Frames::appends_text, crate::proofs::Frames::appends_front))]
     pub fn report<K: Sink>(&self, alloc: Global, out: &mut K) -> Status
         ensures reports { Reports self.now result (K.written out.old) (K.written out.new) }
+        ensures piece { IsCutShort result ⊎ PutWhole (stop_text self.now) (K.pieces out.old) (K.pieces out.new) }
         ensures later { K.faults out.old ≤ K.faults out.new }
+        ensures appends { Appends (K.written out.old) (K.written out.new) }
         ensures failed { result ≡ Status.WriteFault →
             (self.now ≡ WriteFault) ⊎ Rose (K.faults out.old) (K.faults out.new) }
     {
@@ -144,6 +148,7 @@ impl Stop {
     fn write<K: Sink>(&self, alloc: Global, out: &mut K) -> Result<(), SinkFault>
         ensures ok { OnOk result (K.written out.new ≡ written_with (K.written out.old) (stop_text self.now)) }
         ensures err { OnErr result (WroteFront (stop_text self.now) (K.written out.old) (K.written out.new)) }
+        ensures piece { OnOk result (PutWhole (stop_text self.now) (K.pieces out.old) (K.pieces out.new)) }
         ensures failed { HasCause SinkFault.Failed (K.faults out.old) (K.faults out.new) result }
     {
         let line = self.line(alloc)?;

@@ -7,7 +7,7 @@ ghost use Rattle.bk_cli.specs.Asked.{task_of, HasSmallNumbers};
 ghost use Rattle.bk_verbs.specs.declared.stop.Stop.TheVariants.{ReadFault};
 ghost use Rattle.bk_verbs.specs.Causes.{IsOfReading, CountsAbsence};
 ghost use Rattle.bk_verbs.specs.Stops.{IsOutside, StopsTask};
-ghost use Rattle.bk_verbs.specs.Prepared.{IsPrepared, CanBePlayed};
+ghost use Rattle.bk_verbs.specs.Prepared.{IsPrepared, Suits, CanBePlayed};
 
 use crate::build::built_bytes;
 use crate::check::checked_text;
@@ -41,8 +41,11 @@ pub fn prepare<H: Shelf>(alloc: Global, command: Command<'_>, shelf: &mut H) -> 
     ensures reading { IfErr result IsOfReading }
     ensures failed { HasCause ReadFault (H.faults shelf.old) (H.faults shelf.new) result }
     ensures missing { CountsAbsence (H.absences shelf.old) (H.absences shelf.new) result }
+    ensures files { H.files shelf.new ≡ H.files shelf.old }
     ensures told { IfOk result (λ work. (files : Files) → H.files shelf.old ≡ Some files →
         IsPrepared files (task_of command.entry) work) }
+    ensures suits { IfOk result (λ work. (files : Files) → H.files shelf.old ≡ Some files →
+        Suits files (task_of command.entry) work) }
     ensures playable { IfOk result CanBePlayed }
 {
     match command {

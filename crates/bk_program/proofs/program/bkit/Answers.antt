@@ -1,4 +1,4 @@
-use Rattle.std.proofs.Common.{inl, inr, map, Global, Err, ap, subst, ◌∙◌}
+use Rattle.std.proofs.Common.{inl, inr, map, Global, Err, ap, subst, ◌∙◌, arith}
 use Rattle.std.specs.Prelude.{string_bytes}
 use Rattle.bk_io.specs.Pieces.{written_with}
 use Rattle.bk_verbs.specs.declared.stop.Stop.TheVariants.{Usage, ReadFault}
@@ -6,8 +6,9 @@ use Rattle.bk_cli.specs.Tasks.{run_task}
 use Rattle.bk_verbs.specs.Stops.{stop_text}
 use Rattle.bk_verbs.specs.Work.{IsExecuted}
 use Rattle.bk_program.proofs.Given.{wrong_words}
-use Rattle.bk_program.proofs.Answering.{work_answers, stop_answers, stop_line, stop_front, stop_begun, reports_read, reports_missing, reports_usage, silent, rose_first, rose_second, executed_is_no_fault, executed_is_not_cut_short, reports_not_executed}
+use Rattle.bk_program.proofs.Answering.{work_answers, stop_answers, stop_line, stop_front, stop_begun, reports_read, reports_missing, reports_usage, silent, stop_puts, rose_first, rose_second, executed_is_no_fault, executed_is_not_cut_short, reports_not_executed}
 use Rattle.bk_program.proofs.Runs.{writes_run, ready_executed, done_where_legal}
+use Rattle.bk_verbs.proofs.Frames.{appends_twice}
 use Rattle.bk_program.proofs.program.bkit.Goals as goal
 
 -- the stop is Usage or Memory, and nothing is written before it
@@ -112,3 +113,31 @@ returns-in-Ok-clause-usage g c e = absurd (subst IsExecuted e c.in-Ok.ensures.ex
 
 pub returns-in-Err-clause-run : goal.returns-in-Err-clause-run
 returns-in-Err-clause-run g c project calls fuel asks executed = absurd (reports_not_executed c.in-Err.stop c.report.result (g.K.Sink.written c.perform.new.out) (g.K.Sink.written c.report.new.out) c.report.ensures.reports executed)
+
+-- ---- what is left of the devices
+pub returns-in-Ok-clause-leaves : goal.returns-in-Ok-clause-leaves
+returns-in-Ok-clause-leaves g c = record {
+  files = c.perform.ensures.files;
+  written = c.perform.ensures.appends;
+  read_faults = c.perform.ensures.read.later;
+  write_faults = c.perform.ensures.write.later;
+  absences = c.perform.ensures.missing.later;
+}
+
+pub returns-in-Err-clause-leaves : goal.returns-in-Err-clause-leaves
+returns-in-Err-clause-leaves g c = record {
+  files = c.perform.ensures.files;
+  written = appends_twice (g.K.Sink.written c.args.out.now) (g.K.Sink.written c.perform.new.out) (g.K.Sink.written c.report.new.out) c.perform.ensures.appends c.report.ensures.appends;
+  read_faults = c.perform.ensures.read.later;
+  write_faults = omega (arith, c.perform.ensures.write.later, c.report.ensures.later);
+  absences = c.perform.ensures.missing.later;
+}
+
+-- ---- pieces
+pub returns-in-Ok-clause-pieces : goal.returns-in-Ok-clause-pieces
+returns-in-Ok-clause-pieces g c answered files told = inr (c.in-Ok.ensures.asked.0, c.in-Ok.ensures.asked.1, c.in-Ok.ensures.pieces files told c.in-Ok.ensures.asked.0 c.in-Ok.ensures.asked.1)
+
+pub returns-in-Err-clause-pieces : goal.returns-in-Err-clause-pieces
+returns-in-Err-clause-pieces g c answered files told =
+    stop_puts files (map (string_bytes {Z = Global}) c.args.words.now) c.in-Err.stop c.report.result (g.K.Sink.written c.perform.new.out) (g.K.Sink.written c.report.new.out) (g.K.Sink.pieces c.args.out.now) (g.K.Sink.pieces c.perform.new.out) (g.K.Sink.pieces c.report.new.out)
+    (c.in-Err.ensures.cause files told) c.report.ensures.reports answered c.in-Err.ensures.unput c.report.ensures.piece

@@ -11,6 +11,7 @@ returns g c = record {
     legal = c.bkit.ensures.legal;
     answer = c.bkit.ensures.answer;
     line = c.bkit.ensures.line;
+    pieces = c.bkit.ensures.pieces;
     ready = c.bkit.ensures.ready;
     cut_short = c.bkit.ensures.cut_short;
     begun = c.bkit.ensures.begun;
@@ -19,5 +20,6 @@ returns g c = record {
     missing = c.bkit.ensures.missing;
     usage = c.bkit.ensures.usage;
     wrong_words = c.bkit.ensures.wrong_words;
+    leaves = c.bkit.ensures.leaves;
   };
 }

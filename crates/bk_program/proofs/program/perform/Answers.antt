@@ -10,7 +10,7 @@ use Rattle.bk_verbs.specs.declared.stop.Stop.TheVariants.{Usage, Memory}
 use Rattle.bk_verbs.specs.Causes.{stop_of_words, IsOfReading, IsOfPlaying}
 use Rattle.bk_verbs.proofs.Fronts.{no_front}
 use Rattle.bk_verbs.specs.Stops.{IsOutside, StopsAt}
-use Rattle.bk_verbs.specs.Work.{WritesWork}
+use Rattle.bk_verbs.specs.Work.{WritesWork, PutsWork}
 use Rattle.bk_verbs.proofs.Stopping.{handed_on, on_each, at_task}
 use Rattle.bk_program.specs.Answer.{IsAnswer, HasFound, WroteFrontOfAnswer}
 use Rattle.bk_program.proofs.Answering.{outside_of_playing}
@@ -160,3 +160,19 @@ returns-in_err-status-clause-begun g c =
     (λ stop. (files : Files) → g.H.Shelf.files c.args.shelf.now ≡ Some files → WroteFrontOfAnswer files (map (string_bytes {Z = Global}) c.args.words.now) (g.K.Sink.written c.args.out.now) (g.K.Sink.written c.write_work.new.out))
     (λ stop files told.
     front_of_work files (map (string_bytes {Z = Global}) c.args.words.now) (task_of c.in_ok-command.command) c.in_ok-command.ensures.asked (g.K.Sink.written c.args.out.now) (g.K.Sink.written c.write_work.new.out) c.in_ok-work.work (c.in_ok-work.ensures.told files told) c.in_ok-work.ensures.playable c.in_err-status.ensures.front)
+
+-- ---- pieces
+pub returns-in_err-command-clause-unput : goal.returns-in_err-command-clause-unput
+returns-in_err-command-clause-unput g c = on_each c.from_residual.result (λ stop. IsOfPlaying stop ⊎ (g.K.Sink.pieces c.args.out.now ≡ g.K.Sink.pieces c.args.out.now)) (λ stop. inr refl)
+
+pub returns-in_err-work-clause-unput : goal.returns-in_err-work-clause-unput
+returns-in_err-work-clause-unput g c = on_each c.from_residual-in_err-work.result (λ stop. IsOfPlaying stop ⊎ (g.K.Sink.pieces c.args.out.now ≡ g.K.Sink.pieces c.args.out.now)) (λ stop. inr refl)
+
+pub returns-in_err-status-clause-unput : goal.returns-in_err-status-clause-unput
+returns-in_err-status-clause-unput g c =
+    handed_on c.from_residual-in_err-status.result c.in_err-status.field-0.0 (λ stop. IsOfPlaying stop ⊎ (g.K.Sink.pieces c.write_work.new.out ≡ g.K.Sink.pieces c.args.out.now)) c.from_residual-in_err-status.ensures.1 (inl c.in_err-status.ensures.playing)
+
+pub returns-clause-pieces : goal.returns-clause-pieces
+returns-clause-pieces g c files told task asks =
+    subst (λ t. PutsWork files t (g.K.Sink.pieces c.args.out.now) (g.K.Sink.pieces c.write_work.new.out) c.in_ok-status.status) (ask_for_one (map (string_bytes {Z = Global}) c.args.words.now) (task_of c.in_ok-command.command) task c.in_ok-command.ensures.asked asks)
+    (c.in_ok-status.ensures.pieces files (task_of c.in_ok-command.command) (c.in_ok-work.ensures.told files told) (c.in_ok-work.ensures.suits files told))

@@ -55,3 +55,6 @@ returns-clause-told g c files told =
         },
       );
     }
+
+pub returns-clause-suits : goal.returns-clause-suits
+returns-clause-suits g c files told = tt

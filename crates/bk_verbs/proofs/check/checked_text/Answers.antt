@@ -19,3 +19,6 @@ returns-clause-told g c files told = record {
   reads = c.in_ok-read.ensures.told files told;
   given = (refl, c.in_ok-line.ensures);
 }
+
+pub returns-clause-suits : goal.returns-clause-suits
+returns-clause-suits g c files told = tt

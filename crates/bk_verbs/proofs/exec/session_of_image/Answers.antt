@@ -14,7 +14,8 @@ use Rattle.bk_calls.specs.Transcript.{transcript}
 use Rattle.bk_calls.specs.Script.{request_of, IsScript}
 use Rattle.std.proofs.lemmas.List.{length-map}
 use Rattle.bk_io.specs.Bytes.{AreBytes}
-use Rattle.bk_verbs.specs.Project.{IsTold, IsToldAsBytes}
+use Rattle.bk_image.specs.Encoding.{Encodes}
+use Rattle.bk_verbs.specs.Project.{IsTold, IsToldAsBytes, ReadsCalls}
 use Rattle.bk_verbs.specs.Stops.{StopsAtScript}
 use Rattle.bk_verbs.proofs.exec.session_of_image.Goals as goal
 
@@ -90,3 +91,18 @@ returns-clause-playable g c = record {
   few = rw (length-map c.in_ok-calls.calls.items request_of) c.in_ok-calls.ensures.few;
   small = c.requires.small;
 }
+
+pub returns-clause-suits : goal.returns-clause-suits
+returns-clause-suits g c files told = (
+  c.as_bytes.result.now,
+  held_bytes files c.args.image.now _ c.from_bytes-bytes.result c.as_bytes.result.now c.from_bytes-bytes.ensures c.as_bytes.ensures.value (c.in_ok-fetch.ensures.told files told) c.as_bytes.ensures.bytes,
+  subst (Encodes c.as_bytes.result.now) (sym (loaded_image c.in_ok-player.player c.in_ok-loaded.loaded c.in_ok-player.ensures)) c.in_ok-loaded.ensures.ok,
+  refl,
+  subst (λ i. ReadsCalls files c.args.script.now i (map request_of c.in_ok-calls.calls.items)) (sym (loaded_image c.in_ok-player.player c.in_ok-loaded.loaded c.in_ok-player.ensures))
+      (record {
+        text = c.in_ok-text.text.items;
+        told = c.in_ok-text.ensures.told files (c.fetch.ensures.files ∙ told);
+        script = subst (λ x. IsScript c.in_ok-loaded.loaded x (map request_of c.in_ok-calls.calls.items)) c.deref.ensures.value c.in_ok-calls.ensures.ok;
+        few = rw (length-map c.in_ok-calls.calls.items request_of) c.in_ok-calls.ensures.few;
+      }),
+)

@@ -32,8 +32,11 @@ returns-clause-told g c files told = record {
     record {
       within = c.in_ok-list.ensures.within;
       text_is =
-          c.in_ok-text.ensures ∙ (ap (λ l. obligations_text c.in_ok-table.table (map named_sequent l)) c.deref.ensures.value ∙
-          (ap (λ t. obligations_text t (map named_sequent c.in_ok-list.list.items)) c.in_ok-table.ensures ∙ ap (obligations_text (flattened c.in_ok-read.read.development).table) c.in_ok-list.ensures.value));
+          ap (λ t. obligations_text t (map named_sequent c.in_ok-list.list.items)) c.in_ok-table.ensures ∙ ap (obligations_text (flattened c.in_ok-read.read.development).table) c.in_ok-list.ensures.value;
     },
   );
 }
+
+pub returns-clause-suits : goal.returns-clause-suits
+returns-clause-suits g c files told =
+    (c.in_ok-read.read.development, c.in_ok-read.read.scripts, c.in_ok-read.ensures.told files told, c.in_ok-list.ensures.within, c.in_ok-table.ensures, c.in_ok-list.ensures.value)

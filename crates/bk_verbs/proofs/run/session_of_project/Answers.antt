@@ -1,10 +1,11 @@
-use Rattle.std.proofs.Common.{◌≡◌, ◌⊎◌, Some, map, refl, ap, subst}
+use Rattle.std.proofs.Common.{◌≡◌, ◌⊎◌, Some, map, refl, sym, ap, subst}
 use Rattle.std.proofs.lemmas.List.{length-map}
 use Rattle.bk_io.specs.Files.{Files}
 use Rattle.bk_code.specs.Session.{Session}
 use Rattle.bk_calls.specs.Script.{request_of}
 use Rattle.bk_calls.specs.Transcript.{transcript}
 use Rattle.bk_cli.specs.Tasks.{run_task}
+use Rattle.bk_verbs.specs.Project.{ReadsCalls}
 use Rattle.bk_verbs.specs.Stops.{IsOutside, StopsTask}
 use Rattle.bk_verbs.proofs.Stopping.{handed_on}
 use Rattle.bk_verbs.proofs.run.session_of_project.Goals as goal
@@ -45,3 +46,8 @@ returns-clause-playable g c = record {
   few = rw (length-map c.in_ok-ready.ready.calls.items request_of) c.in_ok-ready.ensures.few;
   small = c.requires.small;
 }
+
+pub returns-clause-suits : goal.returns-clause-suits
+returns-clause-suits g c files told =
+    let ready = c.in_ok-ready.ensures.ready files told in
+    (ready.dev, ready.scripts, ready.reads, ready.image_is, refl, subst (λ i. ReadsCalls files c.args.script.now i (map request_of c.in_ok-ready.ready.calls.items)) (sym ready.image_is) ready.asks)

@@ -37,3 +37,6 @@ returns-clause-told c files =
     sampled c.args.variables ready.table.rows.items ready.player.image (map request_of ready.calls.items) c.in_ok-status.status start written c.in_ok-table.table.items c.extend_from_slice-2.new.self.items
     c.in_ok-ready.ensures.ready plays c.in_ok-transcript.ensures.written (c.in_ok-table.ensures ∙ ap table_text c.deref.ensures.value)
     (c.in_ok-extend_from_slice-2.ensures.items ∙ (λ i. first i ++ transcript_line i))
+
+pub returns-clause-suits : goal.returns-clause-suits
+returns-clause-suits c files = tt

@@ -35,3 +35,6 @@ returns-clause-told g c files told = record {
     },
   );
 }
+
+pub returns-clause-suits : goal.returns-clause-suits
+returns-clause-suits g c files told = tt

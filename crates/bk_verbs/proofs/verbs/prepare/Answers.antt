@@ -10,7 +10,7 @@ use Rattle.bk_io.specs.Counts.{HasCause}
 use Rattle.std.proofs.lemmas.Result.{IfOk-weaker}
 use Rattle.bk_verbs.specs.declared.stop.Stop.TheVariants.{ReadFault, Missing}
 use Rattle.bk_verbs.specs.Causes.{IsOfReading, IsOfChecks, CountsAbsence}
-use Rattle.bk_verbs.specs.Prepared.{IsPrepared}
+use Rattle.bk_verbs.specs.Prepared.{IsPrepared, Suits}
 use Rattle.bk_verbs.proofs.Stopping.{widen, checks_read}
 use Rattle.bk_verbs.proofs.verbs.prepare.Goals as goal
 
@@ -21,6 +21,9 @@ module _ (known : Option Files) (result : Result Work Stop) (command is : Comman
 
   told_of : IfOk result (λ work. (files : Files) → known ≡ Some files → IsPrepared files (task_of is) work) → IfOk result (λ work. (files : Files) → known ≡ Some files → IsPrepared files (task_of command) work)
   told_of h = subst (λ (k : Command). IfOk result (λ work. (files : Files) → known ≡ Some files → IsPrepared files (task_of k) work)) (sym e) h
+
+  suits_of : IfOk result (λ work. (files : Files) → known ≡ Some files → Suits files (task_of is) work) → IfOk result (λ work. (files : Files) → known ≡ Some files → Suits files (task_of command) work)
+  suits_of h = subst (λ (k : Command). IfOk result (λ work. (files : Files) → known ≡ Some files → Suits files (task_of k) work)) (sym e) h
 
 -- checks of texts have no part in the devices
 module _ (result : Result Work Stop) (checks : IfErr result IsOfChecks) where
@@ -111,3 +114,31 @@ returns-in-Sample-clause-missing g c = missing_of c.sample_lines.result c.sample
 pub returns-in-Sample-clause-told : goal.returns-in-Sample-clause-told
 returns-in-Sample-clause-told g c =
     told_of (g.H.Shelf.files c.args.shelf.now) c.sample_lines.result c.args.command _ c.in-Sample.is (IfOk-weaker c.sample_lines.result _ _ (λ work h files told. h files) c.sample_lines.ensures.told)
+
+pub returns-in-Check-clause-suits : goal.returns-in-Check-clause-suits
+returns-in-Check-clause-suits g c = suits_of (g.H.Shelf.files c.args.shelf.now) c.checked_text.result c.args.command _ c.in-Check.is c.checked_text.ensures.suits
+
+pub returns-in-Status-clause-suits : goal.returns-in-Status-clause-suits
+returns-in-Status-clause-suits g c = suits_of (g.H.Shelf.files c.args.shelf.now) c.status_text.result c.args.command _ c.in-Status.is c.status_text.ensures.suits
+
+pub returns-in-Obligations-clause-suits : goal.returns-in-Obligations-clause-suits
+returns-in-Obligations-clause-suits g c = suits_of (g.H.Shelf.files c.args.shelf.now) c.shown_obligations.result c.args.command _ c.in-Obligations.is c.shown_obligations.ensures.suits
+
+pub returns-in-Find-clause-suits : goal.returns-in-Find-clause-suits
+returns-in-Find-clause-suits g c = suits_of (g.H.Shelf.files c.args.shelf.now) c.found_scripts.result c.args.command _ c.in-Find.is c.found_scripts.ensures.suits
+
+pub returns-in-Code-clause-suits : goal.returns-in-Code-clause-suits
+returns-in-Code-clause-suits g c = suits_of (g.H.Shelf.files c.args.shelf.now) c.listing_text.result c.args.command _ c.in-Code.is c.listing_text.ensures.suits
+
+pub returns-in-Build-clause-suits : goal.returns-in-Build-clause-suits
+returns-in-Build-clause-suits g c = suits_of (g.H.Shelf.files c.args.shelf.now) c.built_bytes.result c.args.command _ c.in-Build.is c.built_bytes.ensures.suits
+
+pub returns-in-Run-clause-suits : goal.returns-in-Run-clause-suits
+returns-in-Run-clause-suits g c = suits_of (g.H.Shelf.files c.args.shelf.now) c.session_of_project.result c.args.command _ c.in-Run.is c.session_of_project.ensures.suits
+
+pub returns-in-Exec-clause-suits : goal.returns-in-Exec-clause-suits
+returns-in-Exec-clause-suits g c = suits_of (g.H.Shelf.files c.args.shelf.now) c.session_of_image.result c.args.command _ c.in-Exec.is c.session_of_image.ensures.suits
+
+pub returns-in-Sample-clause-suits : goal.returns-in-Sample-clause-suits
+returns-in-Sample-clause-suits g c =
+    suits_of (g.H.Shelf.files c.args.shelf.now) c.sample_lines.result c.args.command _ c.in-Sample.is (IfOk-weaker c.sample_lines.result _ _ (λ work h files told. h files) c.sample_lines.ensures.suits)

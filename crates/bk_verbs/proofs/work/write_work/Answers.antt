@@ -2,12 +2,15 @@ use Rattle.std.proofs.Common.{All, length, map, refl, sym, ◌∙◌, ap, subst,
 use Rattle.std.proofs.lemmas.List.{length-map}
 use Rattle.std.proofs.lemmas.Result.{IfOk-weaker}
 use Rattle.bk_code.specs.Laws.{IsRequest}
-use Rattle.bk_io.specs.Pieces.{written_with}
+use Rattle.bk_io.specs.Pieces.{PutWhole, written_with}
 use Rattle.bk_calls.specs.Script.{request_of}
+use Rattle.bk_po.specs.Shown.{named_sequent}
+use Rattle.bk_report.specs.Obligations.{obligation_text, obligations_text}
+use Rattle.bk_verbs.specs.Puts.{PutsEach}
 use Rattle.bk_verbs.specs.declared.status.Status.TheVariants.{Done}
-use Rattle.bk_verbs.specs.Session.{Plays}
-use Rattle.bk_verbs.specs.Prepared.{IsPrepared, CanBePlayed}
-use Rattle.bk_verbs.proofs.Prepared.{wrote_text, ended_work, played_work, playable}
+use Rattle.bk_verbs.specs.Session.{Plays, Puts}
+use Rattle.bk_verbs.specs.Prepared.{IsPrepared, Suits, CanBePlayed}
+use Rattle.bk_verbs.proofs.Prepared.{wrote_text, wrote_list, ended_work, played_work, playable, put_text, put_list, put_session}
 use Rattle.bk_verbs.proofs.work.write_work.Goals as goal
 
 pub play-requires-clause-fresh : goal.play-requires-clause-fresh
@@ -45,3 +48,39 @@ returns-in-Play-clause-ok g c =
     played_work files task c.in-Play.player c.in-Play.calls c.in-Play.fuel status (g.K.Sink.written c.args.out.now) (g.K.Sink.written c.play.new.out) (subst (IsPrepared files task) c.in-Play.is prepared)
     (subst (λ x. Plays c.in-Play.player.image c.in-Play.fuel (map request_of x) status (g.K.Sink.written c.args.out.now) (g.K.Sink.written c.play.new.out)) c.deref-in-Play.ensures.value plays))
     c.play.ensures.ok
+
+-- ---- what is put
+pub returns-in_ok-put_all-in-Text-clause-pieces : goal.returns-in_ok-put_all-in-Text-clause-pieces
+returns-in_ok-put_all-in-Text-clause-pieces g c files task prepared suits =
+    put_text files task c.in-Text.text.items Done (g.K.Sink.pieces c.args.out.now) (g.K.Sink.pieces c.put_all.new.sink) (subst (Suits files task) c.in-Text.is suits) (subst (IsPrepared files task) c.in-Text.is prepared)
+    (subst (λ x. PutWhole x (g.K.Sink.pieces c.args.out.now) (g.K.Sink.pieces c.put_all.new.sink)) c.deref.ensures.value c.in_ok-put_all-in-Text.ensures.told)
+
+pub returns-in_ok-put_all-in-Ended-clause-pieces : goal.returns-in_ok-put_all-in-Ended-clause-pieces
+returns-in_ok-put_all-in-Ended-clause-pieces g c files task prepared suits =
+    put_text files task c.in-Ended.text.items c.in-Ended.status (g.K.Sink.pieces c.args.out.now) (g.K.Sink.pieces c.put_all-in-Ended.new.sink) (subst (Suits files task) c.in-Ended.is suits) (subst (IsPrepared files task) c.in-Ended.is prepared)
+    (subst (λ x. PutWhole x (g.K.Sink.pieces c.args.out.now) (g.K.Sink.pieces c.put_all-in-Ended.new.sink)) c.deref-in-Ended.ensures.value c.in_ok-put_all-in-Ended.ensures.told)
+
+pub returns-in-Play-clause-pieces : goal.returns-in-Play-clause-pieces
+returns-in-Play-clause-pieces g c =
+    IfOk-weaker c.play.result _ _
+    (λ status puts files task prepared suits.
+    put_session files task c.in-Play.player c.in-Play.calls c.in-Play.fuel status (g.K.Sink.written c.args.out.now) (g.K.Sink.written c.play.new.out) (g.K.Sink.pieces c.args.out.now) (g.K.Sink.pieces c.play.new.out) (subst (Suits files task) c.in-Play.is suits)
+    (subst (λ x. Puts c.in-Play.player.image c.in-Play.fuel (map request_of x) status (g.K.Sink.written c.args.out.now) (g.K.Sink.written c.play.new.out) (g.K.Sink.pieces c.args.out.now) (g.K.Sink.pieces c.play.new.out)) c.deref-in-Play.ensures.value puts))
+    c.play.ensures.lines
+
+-- ---- obligations
+pub returns-in-Obligations-clause-ok : goal.returns-in-Obligations-clause-ok
+returns-in-Obligations-clause-ok g c =
+    IfOk-weaker c.put_obligations.result _ _
+    (λ status done files task prepared.
+    wrote_list files task c.in-Obligations.list c.in-Obligations.table status (g.K.Sink.written c.args.out.now) (g.K.Sink.written c.put_obligations.new.out) (subst (IsPrepared files task) c.in-Obligations.is prepared) done.0
+    (done.1 ∙ ap (λ l. written_with (g.K.Sink.written c.args.out.now) (obligations_text c.in-Obligations.table (map named_sequent l))) c.deref-in-Obligations.ensures.value))
+    c.put_obligations.ensures.ok
+
+pub returns-in-Obligations-clause-pieces : goal.returns-in-Obligations-clause-pieces
+returns-in-Obligations-clause-pieces g c =
+    IfOk-weaker c.put_obligations.result _ _
+    (λ status done files task prepared suits.
+    put_list files task c.in-Obligations.list c.in-Obligations.table status (g.K.Sink.pieces c.args.out.now) (g.K.Sink.pieces c.put_obligations.new.out) (subst (Suits files task) c.in-Obligations.is suits) done.0
+    (subst (λ l. PutsEach (map (obligation_text c.in-Obligations.table) (map named_sequent l)) (g.K.Sink.pieces c.args.out.now) (g.K.Sink.pieces c.put_obligations.new.out)) c.deref-in-Obligations.ensures.value done.1))
+    c.put_obligations.ensures.pieces
