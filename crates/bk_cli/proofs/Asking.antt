@@ -4,7 +4,7 @@ use Rattle.std.specs.Str.{bytes_eq}
 use Rattle.std.proofs.lemmas.Slice.Eq.{bytes_eq-Decides}
 use Rattle.std.proofs.lemmas.Fmt.{decimal_injective}
 use Rattle.bk_cli.specs.Words.{AreWords}
-use Rattle.bk_cli.specs.Tasks.{Task, check_task, status_task, po_task, code_task, build_task, run_task, exec_task, sample_task, most_variables, IsFuel, IsTaskOf, Asks, AskForNothing}
+use Rattle.bk_cli.specs.Tasks.{Task, check_task, status_task, po_task, find_task, code_task, build_task, run_task, exec_task, sample_task, most_variables, IsFuel, IsTaskOf, Asks, AskForNothing}
 use Rattle.bk_cli.specs.Laws.{AskForOne}
 
 -- ---- lists
@@ -42,6 +42,7 @@ task_once : (verb : List ℕ) (files : List (List ℕ)) (fuel0 : ℕ) (one other
 task_once verb files fuel0 (check_task project) (check_task project2) h k = ap check_task (first_of_both project project2 [] [] (sym h.1 ∙ k.1))
 task_once verb files fuel0 (check_task project) (status_task project2) h k = absurd (differ (codes "check") (codes "status") refl (sym h.0 ∙ k.0))
 task_once verb files fuel0 (check_task project) (po_task project2) h k = absurd (differ (codes "check") (codes "po") refl (sym h.0 ∙ k.0))
+task_once verb files fuel0 (check_task project) (find_task project2) h k = absurd (differ (codes "check") (codes "find") refl (sym h.0 ∙ k.0))
 task_once verb files fuel0 (check_task project) (code_task project2) h k = absurd (differ (codes "check") (codes "code") refl (sym h.0 ∙ k.0))
 task_once verb files fuel0 (check_task project) (build_task project2) h k = absurd (differ (codes "check") (codes "build") refl (sym h.0 ∙ k.0))
 task_once verb files fuel0 (check_task project) (run_task project2 calls2 fuel2) h k = absurd (differ (codes "check") (codes "run") refl (sym h.0 ∙ k.0))
@@ -50,6 +51,7 @@ task_once verb files fuel0 (check_task project) (sample_task variables2) h k = a
 task_once verb files fuel0 (status_task project) (check_task project2) h k = absurd (differ (codes "status") (codes "check") refl (sym h.0 ∙ k.0))
 task_once verb files fuel0 (status_task project) (status_task project2) h k = ap status_task (first_of_both project project2 [] [] (sym h.1 ∙ k.1))
 task_once verb files fuel0 (status_task project) (po_task project2) h k = absurd (differ (codes "status") (codes "po") refl (sym h.0 ∙ k.0))
+task_once verb files fuel0 (status_task project) (find_task project2) h k = absurd (differ (codes "status") (codes "find") refl (sym h.0 ∙ k.0))
 task_once verb files fuel0 (status_task project) (code_task project2) h k = absurd (differ (codes "status") (codes "code") refl (sym h.0 ∙ k.0))
 task_once verb files fuel0 (status_task project) (build_task project2) h k = absurd (differ (codes "status") (codes "build") refl (sym h.0 ∙ k.0))
 task_once verb files fuel0 (status_task project) (run_task project2 calls2 fuel2) h k = absurd (differ (codes "status") (codes "run") refl (sym h.0 ∙ k.0))
@@ -58,14 +60,25 @@ task_once verb files fuel0 (status_task project) (sample_task variables2) h k = 
 task_once verb files fuel0 (po_task project) (check_task project2) h k = absurd (differ (codes "po") (codes "check") refl (sym h.0 ∙ k.0))
 task_once verb files fuel0 (po_task project) (status_task project2) h k = absurd (differ (codes "po") (codes "status") refl (sym h.0 ∙ k.0))
 task_once verb files fuel0 (po_task project) (po_task project2) h k = ap po_task (first_of_both project project2 [] [] (sym h.1 ∙ k.1))
+task_once verb files fuel0 (po_task project) (find_task project2) h k = absurd (differ (codes "po") (codes "find") refl (sym h.0 ∙ k.0))
 task_once verb files fuel0 (po_task project) (code_task project2) h k = absurd (differ (codes "po") (codes "code") refl (sym h.0 ∙ k.0))
 task_once verb files fuel0 (po_task project) (build_task project2) h k = absurd (differ (codes "po") (codes "build") refl (sym h.0 ∙ k.0))
 task_once verb files fuel0 (po_task project) (run_task project2 calls2 fuel2) h k = absurd (differ (codes "po") (codes "run") refl (sym h.0 ∙ k.0))
 task_once verb files fuel0 (po_task project) (exec_task image2 calls2 fuel2) h k = absurd (differ (codes "po") (codes "exec") refl (sym h.0 ∙ k.0))
 task_once verb files fuel0 (po_task project) (sample_task variables2) h k = absurd (differ (codes "po") (codes "sample") refl (sym h.0 ∙ k.0))
+task_once verb files fuel0 (find_task project) (check_task project2) h k = absurd (differ (codes "find") (codes "check") refl (sym h.0 ∙ k.0))
+task_once verb files fuel0 (find_task project) (status_task project2) h k = absurd (differ (codes "find") (codes "status") refl (sym h.0 ∙ k.0))
+task_once verb files fuel0 (find_task project) (po_task project2) h k = absurd (differ (codes "find") (codes "po") refl (sym h.0 ∙ k.0))
+task_once verb files fuel0 (find_task project) (find_task project2) h k = ap find_task (first_of_both project project2 [] [] (sym h.1 ∙ k.1))
+task_once verb files fuel0 (find_task project) (code_task project2) h k = absurd (differ (codes "find") (codes "code") refl (sym h.0 ∙ k.0))
+task_once verb files fuel0 (find_task project) (build_task project2) h k = absurd (differ (codes "find") (codes "build") refl (sym h.0 ∙ k.0))
+task_once verb files fuel0 (find_task project) (run_task project2 calls2 fuel2) h k = absurd (differ (codes "find") (codes "run") refl (sym h.0 ∙ k.0))
+task_once verb files fuel0 (find_task project) (exec_task image2 calls2 fuel2) h k = absurd (differ (codes "find") (codes "exec") refl (sym h.0 ∙ k.0))
+task_once verb files fuel0 (find_task project) (sample_task variables2) h k = absurd (differ (codes "find") (codes "sample") refl (sym h.0 ∙ k.0))
 task_once verb files fuel0 (code_task project) (check_task project2) h k = absurd (differ (codes "code") (codes "check") refl (sym h.0 ∙ k.0))
 task_once verb files fuel0 (code_task project) (status_task project2) h k = absurd (differ (codes "code") (codes "status") refl (sym h.0 ∙ k.0))
 task_once verb files fuel0 (code_task project) (po_task project2) h k = absurd (differ (codes "code") (codes "po") refl (sym h.0 ∙ k.0))
+task_once verb files fuel0 (code_task project) (find_task project2) h k = absurd (differ (codes "code") (codes "find") refl (sym h.0 ∙ k.0))
 task_once verb files fuel0 (code_task project) (code_task project2) h k = ap code_task (first_of_both project project2 [] [] (sym h.1 ∙ k.1))
 task_once verb files fuel0 (code_task project) (build_task project2) h k = absurd (differ (codes "code") (codes "build") refl (sym h.0 ∙ k.0))
 task_once verb files fuel0 (code_task project) (run_task project2 calls2 fuel2) h k = absurd (differ (codes "code") (codes "run") refl (sym h.0 ∙ k.0))
@@ -74,6 +87,7 @@ task_once verb files fuel0 (code_task project) (sample_task variables2) h k = ab
 task_once verb files fuel0 (build_task project) (check_task project2) h k = absurd (differ (codes "build") (codes "check") refl (sym h.0 ∙ k.0))
 task_once verb files fuel0 (build_task project) (status_task project2) h k = absurd (differ (codes "build") (codes "status") refl (sym h.0 ∙ k.0))
 task_once verb files fuel0 (build_task project) (po_task project2) h k = absurd (differ (codes "build") (codes "po") refl (sym h.0 ∙ k.0))
+task_once verb files fuel0 (build_task project) (find_task project2) h k = absurd (differ (codes "build") (codes "find") refl (sym h.0 ∙ k.0))
 task_once verb files fuel0 (build_task project) (code_task project2) h k = absurd (differ (codes "build") (codes "code") refl (sym h.0 ∙ k.0))
 task_once verb files fuel0 (build_task project) (build_task project2) h k = ap build_task (first_of_both project project2 [] [] (sym h.1 ∙ k.1))
 task_once verb files fuel0 (build_task project) (run_task project2 calls2 fuel2) h k = absurd (differ (codes "build") (codes "run") refl (sym h.0 ∙ k.0))
@@ -82,6 +96,7 @@ task_once verb files fuel0 (build_task project) (sample_task variables2) h k = a
 task_once verb files fuel0 (run_task project calls fuel) (check_task project2) h k = absurd (differ (codes "run") (codes "check") refl (sym h.0 ∙ k.0))
 task_once verb files fuel0 (run_task project calls fuel) (status_task project2) h k = absurd (differ (codes "run") (codes "status") refl (sym h.0 ∙ k.0))
 task_once verb files fuel0 (run_task project calls fuel) (po_task project2) h k = absurd (differ (codes "run") (codes "po") refl (sym h.0 ∙ k.0))
+task_once verb files fuel0 (run_task project calls fuel) (find_task project2) h k = absurd (differ (codes "run") (codes "find") refl (sym h.0 ∙ k.0))
 task_once verb files fuel0 (run_task project calls fuel) (code_task project2) h k = absurd (differ (codes "run") (codes "code") refl (sym h.0 ∙ k.0))
 task_once verb files fuel0 (run_task project calls fuel) (build_task project2) h k = absurd (differ (codes "run") (codes "build") refl (sym h.0 ∙ k.0))
 task_once verb files fuel0 (run_task project calls fuel) (run_task project2 calls2 fuel2) h k =
@@ -92,6 +107,7 @@ task_once verb files fuel0 (run_task project calls fuel) (sample_task variables2
 task_once verb files fuel0 (exec_task image calls fuel) (check_task project2) h k = absurd (differ (codes "exec") (codes "check") refl (sym h.0 ∙ k.0))
 task_once verb files fuel0 (exec_task image calls fuel) (status_task project2) h k = absurd (differ (codes "exec") (codes "status") refl (sym h.0 ∙ k.0))
 task_once verb files fuel0 (exec_task image calls fuel) (po_task project2) h k = absurd (differ (codes "exec") (codes "po") refl (sym h.0 ∙ k.0))
+task_once verb files fuel0 (exec_task image calls fuel) (find_task project2) h k = absurd (differ (codes "exec") (codes "find") refl (sym h.0 ∙ k.0))
 task_once verb files fuel0 (exec_task image calls fuel) (code_task project2) h k = absurd (differ (codes "exec") (codes "code") refl (sym h.0 ∙ k.0))
 task_once verb files fuel0 (exec_task image calls fuel) (build_task project2) h k = absurd (differ (codes "exec") (codes "build") refl (sym h.0 ∙ k.0))
 task_once verb files fuel0 (exec_task image calls fuel) (run_task project2 calls2 fuel2) h k = absurd (differ (codes "exec") (codes "run") refl (sym h.0 ∙ k.0))
@@ -102,6 +118,7 @@ task_once verb files fuel0 (exec_task image calls fuel) (sample_task variables2)
 task_once verb files fuel0 (sample_task variables) (check_task project2) h k = absurd (differ (codes "sample") (codes "check") refl (sym h.0 ∙ k.0))
 task_once verb files fuel0 (sample_task variables) (status_task project2) h k = absurd (differ (codes "sample") (codes "status") refl (sym h.0 ∙ k.0))
 task_once verb files fuel0 (sample_task variables) (po_task project2) h k = absurd (differ (codes "sample") (codes "po") refl (sym h.0 ∙ k.0))
+task_once verb files fuel0 (sample_task variables) (find_task project2) h k = absurd (differ (codes "sample") (codes "find") refl (sym h.0 ∙ k.0))
 task_once verb files fuel0 (sample_task variables) (code_task project2) h k = absurd (differ (codes "sample") (codes "code") refl (sym h.0 ∙ k.0))
 task_once verb files fuel0 (sample_task variables) (build_task project2) h k = absurd (differ (codes "sample") (codes "build") refl (sym h.0 ∙ k.0))
 task_once verb files fuel0 (sample_task variables) (run_task project2 calls2 fuel2) h k = absurd (differ (codes "sample") (codes "run") refl (sym h.0 ∙ k.0))
@@ -114,6 +131,7 @@ pub no_sample : (size : List ℕ) (n : ℕ) → n < 2 ^ 64 → size ≡ decimal 
 no_sample size n fits written none fuel (check_task project) h = differ (codes "sample") (codes "check") refl h.0
 no_sample size n fits written none fuel (status_task project) h = differ (codes "sample") (codes "status") refl h.0
 no_sample size n fits written none fuel (po_task project) h = differ (codes "sample") (codes "po") refl h.0
+no_sample size n fits written none fuel (find_task project) h = differ (codes "sample") (codes "find") refl h.0
 no_sample size n fits written none fuel (code_task project) h = differ (codes "sample") (codes "code") refl h.0
 no_sample size n fits written none fuel (build_task project) h = differ (codes "sample") (codes "build") refl h.0
 no_sample size n fits written none fuel (run_task project calls steps) h = differ (codes "sample") (codes "run") refl h.0

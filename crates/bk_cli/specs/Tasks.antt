@@ -9,6 +9,7 @@ pub data Task : Type 0 where
   check_task : (project : List ℕ) → Task
   status_task : (project : List ℕ) → Task
   po_task : (project : List ℕ) → Task
+  find_task : (project : List ℕ) → Task
   code_task : (project : List ℕ) → Task
   build_task : (project : List ℕ) → Task
   run_task : (project calls : List ℕ) (fuel : ℕ) → Task
@@ -38,6 +39,7 @@ abbrev pub IsTaskOf : (verb : List ℕ) (files : List (List ℕ)) (fuel : ℕ) �
 IsTaskOf verb files fuel (check_task project) = (verb ≡ codes "check") × (files ≡ project ∷ [])
 IsTaskOf verb files fuel (status_task project) = (verb ≡ codes "status") × (files ≡ project ∷ [])
 IsTaskOf verb files fuel (po_task project) = (verb ≡ codes "po") × (files ≡ project ∷ [])
+IsTaskOf verb files fuel (find_task project) = (verb ≡ codes "find") × (files ≡ project ∷ [])
 IsTaskOf verb files fuel (code_task project) = (verb ≡ codes "code") × (files ≡ project ∷ [])
 IsTaskOf verb files fuel (build_task project) = (verb ≡ codes "build") × (files ≡ project ∷ [])
 IsTaskOf verb files fuel (run_task project calls steps) = (verb ≡ codes "run") × (files ≡ project ∷ calls ∷ []) × (steps ≡ fuel)
@@ -66,6 +68,7 @@ abbrev pub has_proofs : Task → Bool
 has_proofs (check_task project) = false
 has_proofs (status_task project) = true
 has_proofs (po_task project) = false
+has_proofs (find_task project) = true
 has_proofs (code_task project) = false
 has_proofs (build_task project) = true
 has_proofs (run_task project calls fuel) = true

@@ -23,6 +23,9 @@ pub enum Command<'a> {
     Obligations {
         project: &'a str,
     },
+    Find {
+        project: &'a str,
+    },
     Code {
         project: &'a str,
     },
@@ -74,6 +77,7 @@ fn of_project<'a>(verb: &str, project: &'a str) -> Option<Command<'a>>
         "check" => Some(Command::Check { project }),
         "status" => Some(Command::Status { project }),
         "po" => Some(Command::Obligations { project }),
+        "find" => Some(Command::Find { project }),
         "code" => Some(Command::Code { project }),
         "build" => Some(Command::Build { project }),
         "sample" => of_sample(project),

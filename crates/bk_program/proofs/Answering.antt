@@ -11,7 +11,7 @@ use Rattle.bk_verbs.specs.Causes.{IsOfPlaying}
 use Rattle.bk_cli.specs.Tasks.{Task, Asks}
 use Rattle.bk_verbs.specs.Work.{IsExecuted, WritesWork}
 use Rattle.bk_verbs.specs.Stops.{IsOutside, StopsAt, status_of_stop, stop_text, IsCutShort, Reports}
-use Rattle.bk_program.specs.Answer.{IsAnswer, IsAnswered, WritesAnswer, WritesLine, PutsAnswer}
+use Rattle.bk_program.specs.Answer.{IsAnswer, IsAnswered, HasFound, WritesAnswer, WroteFrontOfAnswer, WritesLine, PutsAnswer}
 use Rattle.bk_verbs.proofs.Plays.{written_nothing}
 use Rattle.bk_program.proofs.OneAnswer.{one_answer, answer_of_work}
 
@@ -54,8 +54,9 @@ stop_is_cut_short Memory h = tt
 stop_is_cut_short stop h = absurd h
 
 -- ---- the answer
-only : (files : Files) (words : List (List ℕ)) (status : Status) (text : List ℕ) → IsAnswer files words status text → (other : Status) (others : List ℕ) → IsAnswer files words other others → (other ≡ status) × (others ≡ text)
-only files words status text a other others k = one_answer files words other status others text k a
+only : (files : Files) (words : List (List ℕ)) (status : Status) (text : List ℕ) → IsAnswer files words status text → (other : Status) (others : List ℕ) → IsAnswer files words other others → (other ≡ status) × ((HasFound words status → ⊥) → others ≡ text)
+only files words status text a other others k =
+    let e = one_answer files words other status others text k a in (e.0, λ no. e.1 (λ f. no (f.0, sym e.0 ∙ f.1)))
 
 pub work_answers : (files : Files) (words : List (List ℕ)) (task : Task) (start after : Option (List ℕ)) (status : Status) → Asks words task → WritesWork files task start after status → WritesAnswer files words start after status
 work_answers files words task start after status asks w =
@@ -83,15 +84,33 @@ module _ (files : Files) (words : List (List ℕ)) (start before after : Option 
   same_front text o w f = subst (WroteFront text start) (sym (front_of_nothing before after (subst (λ x. WroteFront x before after) (outside_text stop o) w))) f
 
   pub stop_front : IsOutside stop ⊎ StopsAt files words stop → Reports stop status before after → IsCutShort status → IsOfPlaying stop ⊎ (before ≡ start) →
-      (other : Status) (text : List ℕ) → IsAnswer files words other text → WroteFront text start before → WroteFront text start after
-  stop_front c (inl r) s e other text a f =
+      (other : Status) (text : List ℕ) → IsAnswer files words other text → (HasFound words other → ⊥) → WroteFront text start before → WroteFront text start after
+  stop_front c (inl r) s e other text a no f =
       let o = stop_is_cut_short stop (subst IsCutShort r.0 s) in
       subst (WroteFront text start) (sym (r.1 ∙ (ap (written_with before) (outside_text stop o) ∙ sym (written_nothing before)))) f
-  stop_front (inl o) (inr r) s e other text a f = same_front text o r.1 f
-  stop_front (inr c) (inr r) s (inl p) other text a f = same_front text (outside_of_playing stop p) r.1 f
-  stop_front (inr c) (inr r) s (inr e) other text a f =
-      let same : text ≡ stop_text stop = (one_answer files words other (status_of_stop stop) text (stop_text stop) a (inl (stop, c, refl, refl))).1 in
+  stop_front (inl o) (inr r) s e other text a no f = same_front text o r.1 f
+  stop_front (inr c) (inr r) s (inl p) other text a no f = same_front text (outside_of_playing stop p) r.1 f
+  stop_front (inr c) (inr r) s (inr e) other text a no f =
+      let same : text ≡ stop_text stop = (one_answer files words other (status_of_stop stop) text (stop_text stop) a (inl (stop, c, refl, refl))).1 no in
       subst (λ x. WroteFront x start after) (sym same) (subst (λ x. WroteFront (stop_text stop) x after) e r.1)
+
+-- what is written where the program stops is nothing, or a front of an answer
+module _ (files : Files) (words : List (List ℕ)) (start before after : Option (List ℕ)) (status : Status) (stop : Stop) where
+  -- where nothing more is written
+  as_before : after ≡ before → WroteFrontOfAnswer files words start before → WroteFrontOfAnswer files words start after
+  as_before e (inl b) = inl (e ∙ b)
+  as_before e (inr b) = inr (b.0, b.1, b.2, subst (WroteFront b.1 start) (sym e) b.3)
+
+  no_line : IsOutside stop → WroteFront (stop_text stop) before after → after ≡ before
+  no_line o w = front_of_nothing before after (subst (λ x. WroteFront x before after) (outside_text stop o) w)
+
+  pub stop_begun : IsOutside stop ⊎ StopsAt files words stop → Reports stop status before after → IsCutShort status → IsOfPlaying stop ⊎ (before ≡ start) → WroteFrontOfAnswer files words start before → WroteFrontOfAnswer files words start after
+  stop_begun c (inl r) s e b =
+      let o = stop_is_cut_short stop (subst IsCutShort r.0 s) in
+      as_before (r.1 ∙ (ap (written_with before) (outside_text stop o) ∙ sym (written_nothing before))) b
+  stop_begun (inl o) (inr r) s e b = as_before (no_line o r.1) b
+  stop_begun (inr c) (inr r) s (inl p) b = as_before (no_line (outside_of_playing stop p) r.1) b
+  stop_begun (inr c) (inr r) s (inr e) b = inr (status_of_stop stop, stop_text stop, inl (stop, c, refl, refl), subst (λ x. WroteFront (stop_text stop) x after) e r.1)
 
 -- ---- causes
 

@@ -40,14 +40,14 @@ use Rattle.bk_verbs.specs.declared.status.Status.TheVariants.{Done as DoneStatus
 use Rattle.bk_verbs.specs.declared.stop.Stop.{Stop}
 use Rattle.bk_verbs.specs.declared.stop.Stop.TheVariants.{Limit, Unproved, BadCalls, BadImage}
 use Rattle.bk_verbs.specs.Session.{session_status}
-use Rattle.bk_cli.specs.Tasks.{Task, check_task, status_task, po_task, code_task, build_task, run_task, exec_task, sample_task, Asks, has_proofs}
+use Rattle.bk_cli.specs.Tasks.{Task, check_task, status_task, po_task, find_task, code_task, build_task, run_task, exec_task, sample_task, Asks, has_proofs}
 use Rattle.bk_verbs.specs.Project.{IsTold, AreTold, files_of, fetched, ReadsProject, IsProved, IsFinished, IsWithinCodeLimits, ReadsCalls}
 use Rattle.bk_report.specs.Table.{table_text}
 use Rattle.bk_verbs.specs.Work.{IsPlayed, IsExec, IsGiven, IsDoneOn, IsSampled, IsWork}
 use Rattle.bk_verbs.specs.Samples.{sample_files, sample_project, sample_table, sample_run, last_line}
 use Rattle.bk_program.specs.Run.{IsReady}
 use Rattle.bk_verbs.specs.Stops.{StopsAtFile, StopsAtFiles, StopsAtLines, StopsAtTexts, StopsAtScripts, StopsAtTold, StopsAtComponents, StopsAtNames, StopsAtProject, StopsPastLimits, IsFirstOpen, StopsAtObligations, StopsAtProof, StopsPastCode, StopsAtScript, StopsAtCode, StopsAtCalls, StopsAtCallScript, StopsAtLoading, StopsAtImage, StopsRead, StopsAtWork, StopsTask, StopsAt, stop_of_refusal, stop_of_proofs, status_of_stop, stop_text}
-use Rattle.bk_program.specs.Answer.{IsAnswer, IsWorkOf}
+use Rattle.bk_program.specs.Answer.{IsAnswer, IsWorkOf, IsFinding, AskForScripts, HasFound}
 use Rattle.bk_program.specs.Laws.{HasOneAnswer}
 use Rattle.bk_verbs.proofs.Fetching.{both_told}
 use Rattle.bk_verbs.proofs.Projects.{some_once, told_once, all_told_once, one_project}
@@ -342,6 +342,7 @@ module _ (files : Files) (dev : Development) (scripts : List RawScript) where
   read_once (check_task project) s o h k = absurd h
   read_once (status_task project) s o h k = limits_once project dev s o h k
   read_once (po_task project) s o h k = limits_once project dev s o h k
+  read_once (find_task project) s o h k = limits_once project dev s o h k
   read_once (code_task project) s o (inl h) (inl k) = h.0 ∙ sym k.0
   read_once (code_task project) s o (inl h) (inr k) = absurd (true≢false (sym k.0 ∙ h.1))
   read_once (code_task project) s o (inr h) (inl k) = absurd (true≢false (sym h.0 ∙ k.1))
@@ -361,6 +362,7 @@ module _ (files : Files) (dev : Development) (scripts : List RawScript) where
   given_or_stops (check_task project) stop status text h g = h
   given_or_stops (status_task project) stop status text h g = limits_passed project dev stop h g.1.within
   given_or_stops (po_task project) stop status text h g = limits_passed project dev stop h g.1.within
+  given_or_stops (find_task project) stop status text h g = limits_passed project dev stop h g.1.within
   given_or_stops (code_task project) stop status text (inl h) g = true≢false (sym g.1.complete ∙ h.1)
   given_or_stops (code_task project) stop status text (inr h) g = code_passed project (translation dev) stop h.1 g.1.short
   given_or_stops (build_task project) stop status text (inl h) g = proof_finished project dev scripts stop h g.1.finished
@@ -370,14 +372,20 @@ module _ (files : Files) (dev : Development) (scripts : List RawScript) where
   given_or_stops (exec_task image calls fuel) stop status text h g = h
   given_or_stops (sample_task variables) stop status text h g = h
 
-  given_once : (task : Task) (status other : Status) (text others : List ℕ) → IsGiven files task dev scripts status text → IsGiven files task dev scripts other others → (status ≡ other) × (text ≡ others)
-  given_once (check_task project) status other text others h k = (h.0 ∙ sym k.0, h.1 ∙ sym k.1)
+  -- a task gives one status, and one text, but for scripts that are found
+  abbrev Once : Task → Status → Status → List ℕ → List ℕ → Type 0
+  Once task status other text others = (status ≡ other) × ((IsFinding task → ⊥) → text ≡ others)
+
+  given_once : (task : Task) (status other : Status) (text others : List ℕ) → IsGiven files task dev scripts status text → IsGiven files task dev scripts other others → Once task status other text others
+  given_once (check_task project) status other text others h k = (h.0 ∙ sym k.0, λ no. h.1 ∙ sym k.1)
   given_once (status_task project) status other text others h k =
-      (h.0 ∙ sym k.0, h.1.text_is ∙ (ap table_text (tables_are_one dev scripts h.1.rows k.1.rows h.1.are k.1.are) ∙ sym k.1.text_is))
-  given_once (po_task project) status other text others h k = (h.0 ∙ sym k.0, h.1.text_is ∙ sym k.1.text_is)
-  given_once (code_task project) status other text others h k = (h.0 ∙ sym k.0, h.1.text_is ∙ sym k.1.text_is)
-  given_once (build_task project) status other text others h k = (h.0 ∙ sym k.0, h.1.encodes.is ∙ sym k.1.encodes.is)
-  given_once (run_task project calls fuel) status other text others h k = played_once files calls fuel (translation dev) status other text others h.played k.played
+      (h.0 ∙ sym k.0, λ no. h.1.text_is ∙ (ap table_text (tables_are_one dev scripts h.1.rows k.1.rows h.1.are k.1.are) ∙ sym k.1.text_is))
+  given_once (po_task project) status other text others h k = (h.0 ∙ sym k.0, λ no. h.1.text_is ∙ sym k.1.text_is)
+  given_once (find_task project) status other text others h k = (h.0 ∙ sym k.0, λ no. absurd (no tt))
+  given_once (code_task project) status other text others h k = (h.0 ∙ sym k.0, λ no. h.1.text_is ∙ sym k.1.text_is)
+  given_once (build_task project) status other text others h k = (h.0 ∙ sym k.0, λ no. h.1.encodes.is ∙ sym k.1.encodes.is)
+  given_once (run_task project calls fuel) status other text others h k =
+      let e = played_once files calls fuel (translation dev) status other text others h.played k.played in (e.0, λ no. e.1)
   given_once (exec_task image calls fuel) status other text others h k = absurd h
   given_once (sample_task variables) status other text others h k = absurd h
 
@@ -402,7 +410,7 @@ module _ (files : Files) (project : List ℕ) (task : Task) where
   done_or_stops stop status text (inr h) d =
       given_or_stops files d.dev d.scripts task stop status text (same_read (λ dev scripts. StopsRead files task dev scripts stop) h.0 d.dev h.1 d.scripts h.2 d.reads h.3) d.given
 
-  done_once : (status other : Status) (text others : List ℕ) → IsDoneOn files project task status text → IsDoneOn files project task other others → (status ≡ other) × (text ≡ others)
+  done_once : (status other : Status) (text others : List ℕ) → IsDoneOn files project task status text → IsDoneOn files project task other others → (status ≡ other) × ((IsFinding task → ⊥) → text ≡ others)
   done_once status other text others h k =
       given_once files k.dev k.scripts task status other text others
       (same_read (λ dev scripts. IsGiven files task dev scripts status text) h.dev k.dev h.scripts k.scripts h.reads k.reads h.given) k.given
@@ -412,7 +420,7 @@ sampled_once : (variables : ℕ) (status other : Status) (text others : List ℕ
 sampled_once variables status other text others h k =
     let tables = done_once (sample_files variables) sample_project sample_table DoneStatus DoneStatus h.table k.table h.tabled k.tabled in
     let runs = done_once (sample_files variables) sample_project sample_run status other h.transcript k.transcript h.run k.run in
-    let same : last_line h.table ++ last_line h.transcript ≡ last_line k.table ++ last_line k.transcript = λ i. last_line (tables.1 i) ++ last_line (runs.1 i) in
+    let same : last_line h.table ++ last_line h.transcript ≡ last_line k.table ++ last_line k.transcript = λ i. last_line (tables.1 (λ f. f) i) ++ last_line (runs.1 (λ f. f) i) in
     (runs.0, h.text_is ∙ (same ∙ sym k.text_is))
 
 -- ---- tasks
@@ -435,6 +443,7 @@ module _ (files : Files) where
   task_stop_once (check_task project) s o h k = work_stop_once files project (check_task project) s o h k
   task_stop_once (status_task project) s o h k = work_stop_once files project (status_task project) s o h k
   task_stop_once (po_task project) s o h k = work_stop_once files project (po_task project) s o h k
+  task_stop_once (find_task project) s o h k = work_stop_once files project (find_task project) s o h k
   task_stop_once (code_task project) s o h k = work_stop_once files project (code_task project) s o h k
   task_stop_once (build_task project) s o h k = work_stop_once files project (build_task project) s o h k
   task_stop_once (run_task project calls fuel) s o h k = work_stop_once files project (run_task project calls fuel) s o h k
@@ -445,21 +454,28 @@ module _ (files : Files) where
   work_or_stops (check_task project) stop status text h w = done_or_stops files project (check_task project) stop status text h w
   work_or_stops (status_task project) stop status text h w = done_or_stops files project (status_task project) stop status text h w
   work_or_stops (po_task project) stop status text h w = done_or_stops files project (po_task project) stop status text h w
+  work_or_stops (find_task project) stop status text h w = done_or_stops files project (find_task project) stop status text h w
   work_or_stops (code_task project) stop status text h w = done_or_stops files project (code_task project) stop status text h w
   work_or_stops (build_task project) stop status text h w = done_or_stops files project (build_task project) stop status text h w
   work_or_stops (run_task project calls fuel) stop status text h w = done_or_stops files project (run_task project calls fuel) stop status text h w
   work_or_stops (exec_task image calls fuel) stop status text h w = exec_or_stops image calls fuel stop status text h w
   work_or_stops (sample_task variables) stop status text h w = done_or_stops (sample_files variables) sample_project sample_run stop status w.transcript h w.run
 
-  pub work_once : (task : Task) (status other : Status) (text others : List ℕ) → IsWork files task status text → IsWork files task other others → (status ≡ other) × (text ≡ others)
+  pub work_once : (task : Task) (status other : Status) (text others : List ℕ) → IsWork files task status text → IsWork files task other others → (status ≡ other) × ((IsFinding task → ⊥) → text ≡ others)
   work_once (check_task project) status other text others h k = done_once files project (check_task project) status other text others h k
   work_once (status_task project) status other text others h k = done_once files project (status_task project) status other text others h k
   work_once (po_task project) status other text others h k = done_once files project (po_task project) status other text others h k
+  work_once (find_task project) status other text others h k = done_once files project (find_task project) status other text others h k
   work_once (code_task project) status other text others h k = done_once files project (code_task project) status other text others h k
   work_once (build_task project) status other text others h k = done_once files project (build_task project) status other text others h k
   work_once (run_task project calls fuel) status other text others h k = done_once files project (run_task project calls fuel) status other text others h k
-  work_once (exec_task image calls fuel) status other text others h k = exec_once image calls fuel status other text others h k
-  work_once (sample_task variables) status other text others h k = sampled_once variables status other text others h k
+  work_once (exec_task image calls fuel) status other text others h k = let e = exec_once image calls fuel status other text others h k in (e.0, λ no. e.1)
+  work_once (sample_task variables) status other text others h k = let e = sampled_once variables status other text others h k in (e.0, λ no. e.1)
+
+  -- a search for scripts that ends is done
+  finding_done : (task : Task) (status : Status) (text : List ℕ) → IsFinding task → IsWork files task status text → status ≡ DoneStatus
+  finding_done (find_task project) status text f w = w.given.0
+  finding_done task status text f w = absurd f
 
 -- a run that is ready is stopped by no check
 pub ready_or_stops : (files : Files) (project calls : List ℕ) (fuel : ℕ) (stop : Stop) (ready : IsReady files project calls) → StopsTask files (run_task project calls fuel) stop → ⊥
@@ -487,13 +503,16 @@ module _ (files : Files) (words : List (List ℕ)) where
   stops_or_works stop status text (inl h) w = h.1 w.0 w.1
   stops_or_works stop status text (inr h) w = work_or_stops files w.0 stop status text (same_task (λ task. StopsTask files task stop) h.0 w.0 h.1 w.1 h.2) w.2
 
-  works_once : (status other : Status) (text others : List ℕ) → IsWorkOf files words status text → IsWorkOf files words other others → (status ≡ other) × (text ≡ others)
-  works_once status other text others h k = work_once files k.0 status other text others (same_task (λ task. IsWork files task status text) h.0 k.0 h.1 k.1 h.2) k.2
+  works_once : (status other : Status) (text others : List ℕ) → IsWorkOf files words status text → IsWorkOf files words other others → (status ≡ other) × ((HasFound words status → ⊥) → text ≡ others)
+  works_once status other text others h k =
+      let there : IsWork files k.0 status text = same_task (λ task. IsWork files task status text) h.0 k.0 h.1 k.1 h.2 in
+      let e = work_once files k.0 status other text others there k.2 in
+      (e.0, λ no. e.1 (λ f. no ((k.0, k.1, f), finding_done files k.0 status text f there)))
 
 pub one_answer : HasOneAnswer
 one_answer files words status other text others (inl h) (inl k) =
     let e = stop_once files words h.0 k.0 h.1 k.1 in
-    (h.2 ∙ (ap status_of_stop e ∙ sym k.2), h.3 ∙ (ap stop_text e ∙ sym k.3))
+    (h.2 ∙ (ap status_of_stop e ∙ sym k.2), λ no. h.3 ∙ (ap stop_text e ∙ sym k.3))
 one_answer files words status other text others (inl h) (inr k) = absurd (stops_or_works files words h.0 other others h.1 k)
 one_answer files words status other text others (inr h) (inl k) = absurd (stops_or_works files words k.0 status text k.1 h)
 one_answer files words status other text others (inr h) (inr k) = works_once files words status other text others h k

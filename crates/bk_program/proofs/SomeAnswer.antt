@@ -48,7 +48,7 @@ use Rattle.bk_verbs.specs.declared.status.Status.{Status}
 use Rattle.bk_verbs.specs.declared.status.Status.TheVariants.{Done, Usage as UsageStatus}
 use Rattle.bk_verbs.specs.declared.stop.Stop.{Stop}
 use Rattle.bk_verbs.specs.declared.stop.Stop.TheVariants.{Usage, Missing, Limit, Unproved, Incomplete, BadCalls, BadImage}
-use Rattle.bk_cli.specs.Tasks.{Task, check_task, status_task, po_task, code_task, build_task, run_task, exec_task, sample_task, Asks, has_proofs}
+use Rattle.bk_cli.specs.Tasks.{Task, check_task, status_task, po_task, find_task, code_task, build_task, run_task, exec_task, sample_task, Asks, has_proofs}
 use Rattle.bk_verbs.specs.Project.{IsTold, AreTold, IsToldAsBytes, HoldBytes, files_of, fetched, ReadsComponents, ReadsProject, IsFinished, IsWithinCodeLimits}
 use Rattle.bk_report.specs.Check.{check_text}
 use Rattle.bk_report.specs.Table.{table_text}
@@ -58,6 +58,7 @@ use Rattle.bk_verbs.specs.Session.{session_status}
 use Rattle.bk_verbs.specs.Work.{IsPlayed, IsGiven, IsDoneOn, IsSampled, IsWork}
 use Rattle.bk_verbs.specs.Samples.{sample_files, sample_project, sample_run, last_line}
 use Rattle.bk_verbs.specs.Stops.{StopsAtFile, StopsAtFiles, StopsAtTexts, StopsAtProject, StopsPastLimits, StopsAtProof, StopsPastCode, StopsAtCalls, StopsAtCallScript, StopsRead, StopsAtWork, StopsTask, stop_of_refusal, stop_of_proofs, status_of_stop, stop_text}
+use Rattle.bk_program.specs.Answer.{IsFinding}
 use Rattle.bk_program.specs.Laws.{HasSomeAnswer}
 use Rattle.bk_program.proofs.Following.{project_development, project_in_b0}
 use Rattle.bk_bounds.specs.Laws.{HasRoomFor}
@@ -398,20 +399,21 @@ module _ (variables : ℕ) where
   ])
 
 -- ---- all tasks
-task_answers : (files : Files) → HoldBytes files → (task : Task) → Possible (Answers files task)
-task_answers files bytes (check_task project) = check_answers files project
-task_answers files bytes (status_task project) = status_answers files project
-task_answers files bytes (po_task project) = po_answers files project
-task_answers files bytes (code_task project) = code_answers files project
-task_answers files bytes (build_task project) = build_answers files project
-task_answers files bytes (run_task project calls fuel) = run_answers files project calls fuel
-task_answers files bytes (exec_task image calls fuel) = exec_answers files bytes image calls fuel
-task_answers files bytes (sample_task variables) = sample_answers variables files
+task_answers : (files : Files) → HoldBytes files → (task : Task) → (IsFinding task → ⊥) → Possible (Answers files task)
+task_answers files bytes (check_task project) no = check_answers files project
+task_answers files bytes (status_task project) no = status_answers files project
+task_answers files bytes (po_task project) no = po_answers files project
+task_answers files bytes (find_task project) no = absurd (no tt)
+task_answers files bytes (code_task project) no = code_answers files project
+task_answers files bytes (build_task project) no = build_answers files project
+task_answers files bytes (run_task project calls fuel) no = run_answers files project calls fuel
+task_answers files bytes (exec_task image calls fuel) no = exec_answers files bytes image calls fuel
+task_answers files bytes (sample_task variables) no = sample_answers variables files
 
 -- ---- words
 pub some_answer : HasSomeAnswer
-some_answer files words bytes never = decide ((task : Task) × Asks words task) (λ d. elim d [
-  | inl a ↦ task_answers files bytes a.0 (λ o. elim o [
+some_answer files words bytes no never = decide ((task : Task) × Asks words task) (λ d. elim d [
+  | inl a ↦ task_answers files bytes a.0 (λ f. no (a.0, a.1, f)) (λ o. elim o [
     | inl s ↦ never (status_of_stop s.0) (stop_text s.0) (inl (s.0, inr (a.0, a.1, s.1), refl, refl))
     | inr w ↦ never w.0 w.1 (inr (a.0, a.1, w.2))
   ])

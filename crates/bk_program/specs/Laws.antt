@@ -11,24 +11,31 @@ use Rattle.bk_sim.specs.Within.{EndsWithoutLoops}
 use Rattle.bk_raw.specs.Trees.ScriptTree.{RawScript}
 use Rattle.bk_verbs.specs.declared.status.Status.{Status}
 use Rattle.bk_verbs.specs.declared.status.Status.TheVariants.{Done, Trapped}
-use Rattle.bk_cli.specs.Tasks.{build_task, run_task, exec_task, Asks}
+use Rattle.bk_cli.specs.Tasks.{status_task, find_task, build_task, run_task, exec_task, Asks}
 use Rattle.bk_program.specs.Legal.{AreLegal, RunNoLoop, LegalCallsEndWell}
 use Rattle.bk_verbs.specs.Project.{HoldBytes, ReadsProject, IsFinished}
 use Rattle.bk_program.specs.Run.{IsReady}
 use Rattle.bk_verbs.specs.Session.{session_status}
-use Rattle.bk_program.specs.Answer.{IsAnswer}
+use Rattle.bk_verbs.specs.declared.stop.Stop.{Stop}
+use Rattle.bk_verbs.specs.Stops.{StopsTask}
+use Rattle.bk_program.specs.Answer.{IsAnswer, AskForScripts, HasFound}
 
--- words and told files have one answer at most
+-- words and told files have one answer at most; of scripts that are found there may be several texts
 abbrev pub HasOneAnswer : Type 0
 HasOneAnswer =
     (files : Files) (words : List (List ℕ)) (status other : Status) (text other_text : List ℕ) → IsAnswer files words status text →
-    IsAnswer files words other other_text → (status ≡ other) × (text ≡ other_text)
+    IsAnswer files words other other_text → (status ≡ other) × ((HasFound words status → ⊥) → text ≡ other_text)
 
--- and where files hold bytes it cannot be that they have none
+-- and where files hold bytes it cannot be that they have none; whether scripts can be found for all that is easy is no part of this
 abbrev pub HasSomeAnswer : Type 0
 HasSomeAnswer =
-    (files : Files) (words : List (List ℕ)) → HoldBytes files →
+    (files : Files) (words : List (List ℕ)) → HoldBytes files → (AskForScripts words → ⊥) →
     ((status : Status) (text : List ℕ) → IsAnswer files words status text → ⊥) → ⊥
+
+-- what stops `status` stops `find`, and nothing else does
+abbrev pub FindStopsAsStatus : Type 0
+FindStopsAsStatus = (files : Files) (project : List ℕ) (stop : Stop) →
+    StopsTask files (find_task project) stop ↔ StopsTask files (status_task project) stop
 
 -- words that ask to build a project, to run it, and to run an image, with one call script and one fuel
 pub record AskOfOne (build_words run_words exec_words : List (List ℕ)) (project image calls : List ℕ) (fuel : ℕ) : Type 0 where

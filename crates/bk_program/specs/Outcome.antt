@@ -12,7 +12,7 @@ use Rattle.bk_cli.specs.Tasks.{run_task, Asks, AskForNothing}
 use Rattle.bk_verbs.specs.Stops.{IsCutShort, stop_text}
 use Rattle.bk_verbs.specs.Work.{IsExecuted}
 use Rattle.bk_program.specs.Run.{IsReady, WritesRun, IsDoneWhereLegal}
-use Rattle.bk_program.specs.Answer.{IsAnswer, IsAnswered, WritesAnswer, WritesLine, PutsAnswer}
+use Rattle.bk_program.specs.Answer.{IsAnswer, IsAnswered, HasFound, WritesAnswer, WroteFrontOfAnswer, WritesLine, PutsAnswer}
 
 -- what a shelf and a sink tell: the files, what was written and in which pieces, where they are told, and how often a read or a write failed
 -- and a file was missing
@@ -59,8 +59,9 @@ pub record Outcome (words : List (List ℕ)) (old new : Devices) (status : Statu
   pub line : IsAnswered status → IsExecuted status ⊎ WritesLine status old.written new.written
   pub pieces : IsAnswered status → (files : Files) → old.files ≡ Some files → PutsAnswer files words old.pieces new.pieces status
   pub cut_short : IsCutShort status → (files : Files) → old.files ≡ Some files →
-      (other : Status) (text : List ℕ) → IsAnswer files words other text →
+      (other : Status) (text : List ℕ) → IsAnswer files words other text → (HasFound words other → ⊥) →
       WroteFront text old.written new.written
+  pub begun : IsCutShort status → (files : Files) → old.files ≡ Some files → WroteFrontOfAnswer files words old.written new.written
   pub read_fault : status ≡ ReadFault → Rose old.read_faults new.read_faults × (new.written ≡ old.written)
   pub write_fault : status ≡ WriteFault → Rose old.write_faults new.write_faults
   pub missing : status ≡ Missing → Rose old.absences new.absences

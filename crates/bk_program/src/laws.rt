@@ -1,7 +1,7 @@
 //! Laws of the definitions, as contracts of functions that do nothing.
 
 ghost use Rattle.bk_program.specs.Following.{ValidObligationsFollow, ProvedDevelopmentsFollow, ClosedTablesFollow, ExchangeIsRight};
-ghost use Rattle.bk_program.specs.Laws.{HasOneAnswer, HasSomeAnswer, BuiltImagesRun, ProjectsEnd, LegalCallsAreDone};
+ghost use Rattle.bk_program.specs.Laws.{HasOneAnswer, HasSomeAnswer, FindStopsAsStatus, BuiltImagesRun, ProjectsEnd, LegalCallsAreDone};
 
 /// The words and the told files have one answer at most.
 pub fn answers_are_unique()
@@ -11,6 +11,11 @@ pub fn answers_are_unique()
 /// It cannot be that the words and the told files have no answer.
 pub fn answers_exist()
     ensures { HasSomeAnswer }
+{}
+
+/// `find` is stopped by what stops `status`, and by nothing else.
+pub fn find_stops_as_status()
+    ensures { FindStopsAsStatus }
 {}
 
 /// An image that is built gives the answers of its project's runs.

@@ -16,7 +16,7 @@ ghost use Rattle.bk_verbs.specs.Frames.{Appends};
 ghost use Rattle.bk_verbs.specs.Stops.{IsOutside, StopsAt, IsCutShort, stop_text};
 ghost use Rattle.bk_verbs.specs.Work.{IsExecuted, WritesWork, PutsWork};
 ghost use Rattle.bk_program.specs.Run.{IsReady, WritesRun, IsDoneWhereLegal};
-ghost use Rattle.bk_program.specs.Answer.{IsAnswer, IsAnswered, WritesAnswer, WritesLine, PutsAnswer};
+ghost use Rattle.bk_program.specs.Answer.{IsAnswer, IsAnswered, HasFound, WritesAnswer, WroteFrontOfAnswer, WritesLine, PutsAnswer};
 ghost use Rattle.bk_program.specs.Outcome.{devices, Leaves, HasOutcome};
 
 use bk_cli::asked;
@@ -78,7 +78,7 @@ fn code_of_run<H: Shelf, K: Sink>(
 /// Does what the words ask for. They are those of the command line without the program's name.
 ///
 /// `check PROJECT` says in a line what the project is read as; `status PROJECT` writes the table of its obligations, `po PROJECT`
-/// the obligations, `code PROJECT` the instructions of its implementation, and `build PROJECT`, where each obligation is obvious
+/// the obligations, `find PROJECT` scripts for those that are open, `code PROJECT` the instructions of its implementation, and `build PROJECT`, where each obligation is obvious
 /// or proved, its image; `run PROJECT CALLS` plays, where each is, the calls of the script on it, and writes the session's
 /// transcript, and `exec IMAGE CALLS` plays them on an image. `--fuel N` says how many steps the initialisation and each call may
 /// have. `sample N`, N from 1 to 40, makes a development with N variables, proves and runs it, and writes the last line of its
@@ -105,7 +105,9 @@ pub fn bkit<H: Shelf, K: Sink>(
         PutsAnswer files (map string_bytes words.now) (K.pieces out.old) (K.pieces out.new) result }
     ensures cut_short { IsCutShort result → (files : Files) → H.files shelf.old ≡ Some files →
         (status : Status) (text : List ℕ) → IsAnswer files (map string_bytes words.now) status text →
-        WroteFront text (K.written out.old) (K.written out.new) }
+        (HasFound (map string_bytes words.now) status → ⊥) → WroteFront text (K.written out.old) (K.written out.new) }
+    ensures begun { IsCutShort result → (files : Files) → H.files shelf.old ≡ Some files →
+        WroteFrontOfAnswer files (map string_bytes words.now) (K.written out.old) (K.written out.new) }
     ensures read_fault { result ≡ Status.ReadFault →
         Rose (H.faults shelf.old) (H.faults shelf.new) × (K.written out.new ≡ K.written out.old) }
     ensures write_fault { result ≡ Status.WriteFault → Rose (K.faults out.old) (K.faults out.new) }
@@ -142,7 +144,9 @@ fn perform<H: Shelf, K: Sink>(
     ensures silent { IfErr result (λ stop. IsOfPlaying stop ⊎ (K.written out.new ≡ K.written out.old)) }
     ensures front { IfErr result (λ stop. (files : Files) → H.files shelf.old ≡ Some files →
         (status : Status) (text : List ℕ) → IsAnswer files (map string_bytes words.now) status text →
-        WroteFront text (K.written out.old) (K.written out.new)) }
+        (HasFound (map string_bytes words.now) status → ⊥) → WroteFront text (K.written out.old) (K.written out.new)) }
+    ensures begun { IfErr result (λ stop. (files : Files) → H.files shelf.old ≡ Some files →
+        WroteFrontOfAnswer files (map string_bytes words.now) (K.written out.old) (K.written out.new)) }
     ensures usage { IfErr result (λ stop. stop ≡ Usage → AskForNothing (map string_bytes words.now)) }
     ensures wrong_words { AskForNothing (map string_bytes words.now) →
         IsErrAnd result (λ stop. (stop ≡ Usage) ⊎ (stop ≡ Memory)) }

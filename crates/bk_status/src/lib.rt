@@ -9,5 +9,6 @@ pub mod state;
 pub mod table;
 
 pub use name::name_text;
+pub use replayed::state_with;
 pub use state::State;
 pub use table::{Row, Table, status};

@@ -14,10 +14,29 @@ use bk_dev::Development;
 use bk_form::VarTable;
 use bk_io::{Memory, Text};
 use bk_kernel::{Verdict, is_obvious, replay};
+use bk_p_proof::Scripts;
 use bk_raw::RawScript;
 use bk_scripts::ground;
 use bk_seq::Sequent;
 use std::alloc::Global;
+
+/// The state of the obligation with this name and sequent where these are the scripts of the proof files. The table is that of the
+/// development's obligations, as [`bk_po::obligation_table`] makes it.
+pub fn state_with(
+    alloc: Global,
+    dev: &Development,
+    types: &VarTable,
+    scripts: &Scripts,
+    name: &Text,
+    sequent: Sequent,
+) -> Result<State, Memory>
+    requires types { types.now ≡ (flattened dev.now).table }
+    requires replayable { IsReplayable types.now (sequent_of sequent) }
+    ensures { IfOk result (IsState (flattened dev.now) scripts.now name.now (sequent_of sequent)) }
+{
+    let named = NamedScripts::new(alloc, scripts)?;
+    state(alloc, dev, types, &named, name, sequent)
+}
 
 /// The state of the obligation with this name and sequent. Rules are replayed over the table that they speak of: that with an
 /// entry for each copy, and a variable more for each name that the script brings.

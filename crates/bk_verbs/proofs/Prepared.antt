@@ -13,7 +13,7 @@ use Rattle.bk_verbs.specs.declared.status.Status.{Status}
 use Rattle.bk_verbs.specs.declared.status.Status.TheVariants.{Done}
 use Rattle.bk_verbs.specs.declared.work.Work.{Work}
 use Rattle.bk_verbs.specs.declared.work.Work.TheVariants.{Text, Ended, Obligations, Play}
-use Rattle.bk_cli.specs.Tasks.{Task, check_task, status_task, po_task, code_task, build_task, run_task, exec_task, sample_task}
+use Rattle.bk_cli.specs.Tasks.{Task, check_task, status_task, po_task, find_task, code_task, build_task, run_task, exec_task, sample_task}
 use Rattle.bk_verbs.specs.Session.{Plays, Puts}
 use Rattle.bk_form.specs.Table.{Table}
 use Rattle.bk_po.specs.declared.obligation.Obligation.{Obligation}
@@ -55,6 +55,7 @@ put_text files task text status old new gives work put = by task gives (record {
     by (exec_task image calls fuel) g p = absurd g
     by (check_task project) g p = p
     by (status_task project) g p = p
+    by (find_task project) g p = p
     by (code_task project) g p = p
     by (build_task project) g p = p
     by (sample_task variables) g p = p

@@ -44,7 +44,7 @@ use Rattle.bk_verbs.specs.declared.status.Status.TheVariants.{Memory as MemorySt
 use Rattle.bk_verbs.specs.declared.stop.Stop.{Stop}
 use Rattle.bk_verbs.specs.declared.stop.Stop.TheVariants.{Usage, Missing, Refused, Limit, Unproved, Incomplete}
 use Rattle.bk_verbs.specs.declared.stop.Stop.TheVariants.{BadCalls, BadImage, ReadFault, WriteFault, Memory}
-use Rattle.bk_cli.specs.Tasks.{Task, check_task, status_task, po_task, code_task, build_task}
+use Rattle.bk_cli.specs.Tasks.{Task, check_task, status_task, po_task, find_task, code_task, build_task}
 use Rattle.bk_cli.specs.Tasks.{run_task, exec_task, sample_task, Asks, AskForNothing, has_proofs}
 use Rattle.bk_verbs.specs.Project.{IsTold, AreTold, IsToldAsBytes, component_files, proof_files}
 use Rattle.bk_verbs.specs.Project.{fetched, ReadsProject, IsFinished, IsWithinCodeLimits}
@@ -262,12 +262,13 @@ StopsAtImage files image calls stop =
     (StopsAtLoading bytes stop ⊎ ((loaded : Image) × Encodes bytes loaded × StopsAtCallScript files calls loaded stop)))
 
 -- ---- tasks
--- what stops a task whose project is read as this development and these scripts: `check` nothing, `status` and `po` the limits of the
--- obligations, `code` the last component and the limits of the code, `build` the obligations and these limits, and `run` the calls too
+-- what stops a task whose project is read as this development and these scripts: `check` nothing, `status`, `po` and `find` the limits
+-- of the obligations, `code` the last component and the limits of the code, `build` the obligations and these limits, and `run` the calls too
 abbrev pub StopsRead : Files → Task → Development → List RawScript → Stop → Type 0
 StopsRead files (check_task project) dev scripts stop = ⊥
 StopsRead files (status_task project) dev scripts stop = StopsPastLimits project dev stop
 StopsRead files (po_task project) dev scripts stop = StopsPastLimits project dev stop
+StopsRead files (find_task project) dev scripts stop = StopsPastLimits project dev stop
 StopsRead files (code_task project) dev scripts stop = StopsIncomplete dev stop
     ⊎ ((is_complete dev ≡ true) × StopsPastCode project (translation dev) stop)
 StopsRead files (build_task project) dev scripts stop = StopsAtProof project dev scripts stop
@@ -289,6 +290,7 @@ abbrev pub StopsTask : Files → Task → Stop → Type 0
 StopsTask files (check_task project) stop = StopsAtWork files project (check_task project) stop
 StopsTask files (status_task project) stop = StopsAtWork files project (status_task project) stop
 StopsTask files (po_task project) stop = StopsAtWork files project (po_task project) stop
+StopsTask files (find_task project) stop = StopsAtWork files project (find_task project) stop
 StopsTask files (code_task project) stop = StopsAtWork files project (code_task project) stop
 StopsTask files (build_task project) stop = StopsAtWork files project (build_task project) stop
 StopsTask files (run_task project calls fuel) stop = StopsAtWork files project (run_task project calls fuel) stop

@@ -13,10 +13,13 @@ use Rattle.bk_po.specs.Obligations.{obligations, numbered_obligations}
 use Rattle.bk_po.specs.Limits.{PassNoLimit}
 use Rattle.bk_status.specs.declared.table.Row.{Row}
 use Rattle.bk_status.specs.Rows.{HasRows}
+use Rattle.bk_print.specs.declared.outcome.Outcome.{Outcome}
+use Rattle.bk_print.specs.Found.{AreFound, found_text}
 use Rattle.bk_calls.specs.Transcript.{transcript}
 use Rattle.bk_verbs.specs.declared.status.Status.{Status}
 use Rattle.bk_verbs.specs.declared.status.Status.TheVariants.{Done, Trapped, OutOfFuel}
-use Rattle.bk_cli.specs.Tasks.{Task, check_task, status_task, po_task, code_task, build_task, run_task, exec_task, sample_task, has_proofs}
+use Rattle.bk_cli.specs.Tasks.{Task, check_task, status_task, po_task, find_task, code_task, build_task}
+use Rattle.bk_cli.specs.Tasks.{run_task, exec_task, sample_task, has_proofs}
 use Rattle.bk_verbs.specs.Project.{IsToldAsBytes, ReadsProject, IsFinished, IsWithinCodeLimits, ReadsCalls}
 use Rattle.bk_report.specs.Check.{check_text}
 use Rattle.bk_report.specs.Table.{table_text}
@@ -46,6 +49,16 @@ pub record IsTable (dev : Development) (scripts : List RawScript) (text : List �
 pub record ShowsObligations (dev : Development) (text : List ℕ) : Type 0 where
   pub within : PassNoLimit (obligations dev)
   pub text_is : text ≡ obligations_text (flattened dev).table (numbered_obligations dev)
+
+-- the text is that of scripts for obligations of the development that are neither obvious nor proved, which pass no limit: of each, in
+-- order, a script that proves it, or else it is left; and at the end how many there are of both
+pub record ShowsScripts (dev : Development) (scripts : List RawScript) (text : List ℕ) : Type 0 where
+  pub within : PassNoLimit (obligations dev)
+  pub rows : List Row
+  pub are : HasRows dev scripts rows
+  pub outcomes : List Outcome
+  pub found : AreFound (flattened dev) (numbered_obligations dev) rows outcomes
+  pub text_is : text ≡ found_text outcomes
 
 -- the text is the listing of the implementation's code
 pub record IsListing (dev : Development) (text : List ℕ) : Type 0 where
@@ -101,6 +114,7 @@ abbrev pub IsGiven : Files → Task → Development → List RawScript → Statu
 IsGiven files (check_task project) dev scripts status text = (status ≡ Done) × (text ≡ check_text dev)
 IsGiven files (status_task project) dev scripts status text = (status ≡ Done) × IsTable dev scripts text
 IsGiven files (po_task project) dev scripts status text = (status ≡ Done) × ShowsObligations dev text
+IsGiven files (find_task project) dev scripts status text = (status ≡ Done) × ShowsScripts dev scripts text
 IsGiven files (code_task project) dev scripts status text = (status ≡ Done) × IsListing dev text
 IsGiven files (build_task project) dev scripts status text = (status ≡ Done) × IsBuilt dev scripts text
 IsGiven files (run_task project calls fuel) dev scripts status text = IsRun files calls fuel dev scripts status text
@@ -127,6 +141,7 @@ abbrev pub IsWork : Files → Task → Status → List ℕ → Type 0
 IsWork files (check_task project) status text = IsDoneOn files project (check_task project) status text
 IsWork files (status_task project) status text = IsDoneOn files project (status_task project) status text
 IsWork files (po_task project) status text = IsDoneOn files project (po_task project) status text
+IsWork files (find_task project) status text = IsDoneOn files project (find_task project) status text
 IsWork files (code_task project) status text = IsDoneOn files project (code_task project) status text
 IsWork files (build_task project) status text = IsDoneOn files project (build_task project) status text
 IsWork files (run_task project calls fuel) status text = IsDoneOn files project (run_task project calls fuel) status text
@@ -166,6 +181,7 @@ abbrev pub PutsWork : Files → Task → (old new : Option (List Piece)) → Sta
 PutsWork files (check_task project) old new status = PutsText files (check_task project) old new status
 PutsWork files (status_task project) old new status = PutsText files (status_task project) old new status
 PutsWork files (po_task project) old new status = (status ≡ Done) × PutsObligations files project old new
+PutsWork files (find_task project) old new status = PutsText files (find_task project) old new status
 PutsWork files (code_task project) old new status = PutsText files (code_task project) old new status
 PutsWork files (build_task project) old new status = PutsText files (build_task project) old new status
 PutsWork files (run_task project calls fuel) old new status =

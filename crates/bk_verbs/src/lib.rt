@@ -6,6 +6,7 @@ mod check;
 mod code;
 mod exec;
 mod files;
+mod finding;
 mod listing;
 mod obligations;
 mod player;

@@ -12,6 +12,7 @@ ghost use Rattle.bk_verbs.specs.Prepared.{IsPrepared, Suits, CanBePlayed};
 use crate::build::built_bytes;
 use crate::check::checked_text;
 use crate::exec::session_of_image;
+use crate::finding::found_scripts;
 use crate::listing::listing_text;
 use crate::obligations::shown_obligations;
 use crate::run::session_of_project;
@@ -27,8 +28,8 @@ use std::alloc::Global;
 ///
 /// `check PROJECT` reads the project's file and the component files that it names, and says so in a line. `status PROJECT`
 /// reads the proof files too, makes the proof obligations, and writes the table that says of each whether it is obvious or
-/// proved by a replayed script. `po PROJECT` writes the obligations themselves. `code PROJECT`
-/// writes the instructions of the translated implementation, and `build PROJECT`, where each
+/// proved by a replayed script. `po PROJECT` writes the obligations themselves, and `find PROJECT`
+/// a proof file with scripts for those that are open. `code PROJECT` writes the instructions of the translated implementation, and `build PROJECT`, where each
 /// obligation is obvious or proved, its image. `run PROJECT CALLS` plays, where each is, the
 /// calls of the script on it; `exec IMAGE CALLS` plays them on the image that a file holds.
 /// `sample N` makes a development with N variables, and writes, where each of its obligations is
@@ -51,6 +52,7 @@ pub fn prepare<H: Shelf>(alloc: Global, command: Command<'_>, shelf: &mut H) -> 
         Command::Check { project } => checked_text(alloc, project, shelf),
         Command::Status { project } => status_text(alloc, project, shelf),
         Command::Obligations { project } => shown_obligations(alloc, project, shelf),
+        Command::Find { project } => found_scripts(alloc, project, shelf),
         Command::Code { project } => listing_text(alloc, project, shelf),
         Command::Build { project } => built_bytes(alloc, project, shelf),
         Command::Run {

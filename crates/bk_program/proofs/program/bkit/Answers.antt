@@ -6,7 +6,7 @@ use Rattle.bk_cli.specs.Tasks.{run_task}
 use Rattle.bk_verbs.specs.Stops.{stop_text}
 use Rattle.bk_verbs.specs.Work.{IsExecuted}
 use Rattle.bk_program.proofs.Given.{wrong_words}
-use Rattle.bk_program.proofs.Answering.{work_answers, stop_answers, stop_line, stop_front, reports_read, reports_missing, reports_usage, silent, stop_puts, rose_first, rose_second, executed_is_no_fault, executed_is_not_cut_short, reports_not_executed}
+use Rattle.bk_program.proofs.Answering.{work_answers, stop_answers, stop_line, stop_front, stop_begun, reports_read, reports_missing, reports_usage, silent, stop_puts, rose_first, rose_second, executed_is_no_fault, executed_is_not_cut_short, reports_not_executed}
 use Rattle.bk_program.proofs.Runs.{writes_run, ready_executed, done_where_legal}
 use Rattle.bk_verbs.proofs.Frames.{appends_twice}
 use Rattle.bk_program.proofs.program.bkit.Goals as goal
@@ -26,9 +26,14 @@ returns-in-Err-clause-answer g c answered files told =
     (c.in-Err.ensures.cause files told) c.report.ensures.reports answered c.in-Err.ensures.silent
 
 pub returns-in-Err-clause-cut_short : goal.returns-in-Err-clause-cut_short
-returns-in-Err-clause-cut_short g c short files told status text answer =
+returns-in-Err-clause-cut_short g c short files told status text answer no =
     stop_front files (map (string_bytes {Z = Global}) c.args.words.now) (g.K.Sink.written c.args.out.now) (g.K.Sink.written c.perform.new.out) (g.K.Sink.written c.report.new.out) c.report.result c.in-Err.stop
-    (c.in-Err.ensures.cause files told) c.report.ensures.reports short c.in-Err.ensures.silent status text answer (c.in-Err.ensures.front files told status text answer)
+    (c.in-Err.ensures.cause files told) c.report.ensures.reports short c.in-Err.ensures.silent status text answer no (c.in-Err.ensures.front files told status text answer no)
+
+pub returns-in-Err-clause-begun : goal.returns-in-Err-clause-begun
+returns-in-Err-clause-begun g c short files told =
+    stop_begun files (map (string_bytes {Z = Global}) c.args.words.now) (g.K.Sink.written c.args.out.now) (g.K.Sink.written c.perform.new.out) (g.K.Sink.written c.report.new.out) c.report.result c.in-Err.stop
+    (c.in-Err.ensures.cause files told) c.report.ensures.reports short c.in-Err.ensures.silent (c.in-Err.ensures.begun files told)
 
 pub returns-in-Err-clause-read_fault : goal.returns-in-Err-clause-read_fault
 returns-in-Err-clause-read_fault g c e =
@@ -90,6 +95,9 @@ returns-in-Ok-clause-ready g c project calls fuel asks answered files told ready
 
 pub returns-in-Ok-clause-cut_short : goal.returns-in-Ok-clause-cut_short
 returns-in-Ok-clause-cut_short g c short = absurd (executed_is_not_cut_short c.in-Ok.status c.in-Ok.ensures.executed short)
+
+pub returns-in-Ok-clause-begun : goal.returns-in-Ok-clause-begun
+returns-in-Ok-clause-begun g c short = absurd (executed_is_not_cut_short c.in-Ok.status c.in-Ok.ensures.executed short)
 
 pub returns-in-Ok-clause-read_fault : goal.returns-in-Ok-clause-read_fault
 returns-in-Ok-clause-read_fault g c e = absurd ((executed_is_no_fault c.in-Ok.status c.in-Ok.ensures.executed).0 e)

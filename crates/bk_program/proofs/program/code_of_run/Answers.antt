@@ -14,6 +14,7 @@ returns g c = record {
     pieces = c.bkit.ensures.pieces;
     ready = c.bkit.ensures.ready;
     cut_short = c.bkit.ensures.cut_short;
+    begun = c.bkit.ensures.begun;
     read_fault = c.bkit.ensures.read_fault;
     write_fault = c.bkit.ensures.write_fault;
     missing = c.bkit.ensures.missing;

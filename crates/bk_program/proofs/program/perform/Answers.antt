@@ -12,10 +12,10 @@ use Rattle.bk_verbs.proofs.Fronts.{no_front}
 use Rattle.bk_verbs.specs.Stops.{IsOutside, StopsAt}
 use Rattle.bk_verbs.specs.Work.{WritesWork, PutsWork}
 use Rattle.bk_verbs.proofs.Stopping.{handed_on, on_each, at_task}
-use Rattle.bk_program.specs.Answer.{IsAnswer}
+use Rattle.bk_program.specs.Answer.{IsAnswer, HasFound, WroteFrontOfAnswer}
 use Rattle.bk_program.proofs.Answering.{outside_of_playing}
 use Rattle.bk_program.proofs.Given.{words_read, words_write, words_missing, reading_write, playing_read, playing_missing, still_an_error, words_stop, words_usage, words_are_wrong}
-use Rattle.bk_program.proofs.Written.{front_of_answer}
+use Rattle.bk_program.proofs.Written.{front_of_answer, front_of_work}
 use Rattle.bk_program.proofs.program.perform.Goals as goal
 
 -- ---- the words
@@ -50,9 +50,9 @@ returns-in_err-work-clause-wrong_words g c none = absurd (none (task_of c.in_ok-
 pub returns-in_err-status-clause-front : goal.returns-in_err-status-clause-front
 returns-in_err-status-clause-front g c =
     on_each c.from_residual-in_err-status.result
-    (λ stop. (files : Files) → g.H.Shelf.files c.args.shelf.now ≡ Some files → (status : Status) (text : List ℕ) → IsAnswer files (map (string_bytes {Z = Global}) c.args.words.now) status text → WroteFront text (g.K.Sink.written c.args.out.now) (g.K.Sink.written c.write_work.new.out))
-    (λ stop files told status text answer.
-    front_of_answer files (map (string_bytes {Z = Global}) c.args.words.now) (task_of c.in_ok-command.command) c.in_ok-command.ensures.asked status text answer (g.K.Sink.written c.args.out.now) (g.K.Sink.written c.write_work.new.out) c.in_ok-work.work (c.in_ok-work.ensures.told files told) c.in_ok-work.ensures.playable c.in_err-status.ensures.front)
+    (λ stop. (files : Files) → g.H.Shelf.files c.args.shelf.now ≡ Some files → (status : Status) (text : List ℕ) → IsAnswer files (map (string_bytes {Z = Global}) c.args.words.now) status text → (HasFound (map (string_bytes {Z = Global}) c.args.words.now) status → ⊥) → WroteFront text (g.K.Sink.written c.args.out.now) (g.K.Sink.written c.write_work.new.out))
+    (λ stop files told status text answer no.
+    front_of_answer files (map (string_bytes {Z = Global}) c.args.words.now) (task_of c.in_ok-command.command) c.in_ok-command.ensures.asked status text answer no (g.K.Sink.written c.args.out.now) (g.K.Sink.written c.write_work.new.out) c.in_ok-work.work (c.in_ok-work.ensures.told files told) c.in_ok-work.ensures.playable c.in_err-status.ensures.front)
 
 pub returns-in_err-status-clause-wrong_words : goal.returns-in_err-status-clause-wrong_words
 returns-in_err-status-clause-wrong_words g c none = absurd (none (task_of c.in_ok-command.command) c.in_ok-command.ensures.asked)
@@ -91,8 +91,8 @@ returns-in_err-command-clause-silent g c = on_each c.from_residual.result (λ st
 pub returns-in_err-command-clause-front : goal.returns-in_err-command-clause-front
 returns-in_err-command-clause-front g c =
     on_each c.from_residual.result
-    (λ stop. (files : Files) → g.H.Shelf.files c.args.shelf.now ≡ Some files → (status : Status) (text : List ℕ) → IsAnswer files (map (string_bytes {Z = Global}) c.args.words.now) status text → WroteFront text (g.K.Sink.written c.args.out.now) (g.K.Sink.written c.args.out.now))
-    (λ stop files told status text answer. no_front text (g.K.Sink.written c.args.out.now) (g.K.Sink.written c.args.out.now) refl)
+    (λ stop. (files : Files) → g.H.Shelf.files c.args.shelf.now ≡ Some files → (status : Status) (text : List ℕ) → IsAnswer files (map (string_bytes {Z = Global}) c.args.words.now) status text → (HasFound (map (string_bytes {Z = Global}) c.args.words.now) status → ⊥) → WroteFront text (g.K.Sink.written c.args.out.now) (g.K.Sink.written c.args.out.now))
+    (λ stop files told status text answer no. no_front text (g.K.Sink.written c.args.out.now) (g.K.Sink.written c.args.out.now) refl)
 
 pub returns-in_err-command-clause-unwritten : goal.returns-in_err-command-clause-unwritten
 returns-in_err-command-clause-unwritten g c none = refl
@@ -106,8 +106,8 @@ returns-in_err-work-clause-silent g c = on_each c.from_residual-in_err-work.resu
 pub returns-in_err-work-clause-front : goal.returns-in_err-work-clause-front
 returns-in_err-work-clause-front g c =
     on_each c.from_residual-in_err-work.result
-    (λ stop. (files : Files) → g.H.Shelf.files c.args.shelf.now ≡ Some files → (status : Status) (text : List ℕ) → IsAnswer files (map (string_bytes {Z = Global}) c.args.words.now) status text → WroteFront text (g.K.Sink.written c.args.out.now) (g.K.Sink.written c.args.out.now))
-    (λ stop files told status text answer. no_front text (g.K.Sink.written c.args.out.now) (g.K.Sink.written c.args.out.now) refl)
+    (λ stop. (files : Files) → g.H.Shelf.files c.args.shelf.now ≡ Some files → (status : Status) (text : List ℕ) → IsAnswer files (map (string_bytes {Z = Global}) c.args.words.now) status text → (HasFound (map (string_bytes {Z = Global}) c.args.words.now) status → ⊥) → WroteFront text (g.K.Sink.written c.args.out.now) (g.K.Sink.written c.args.out.now))
+    (λ stop files told status text answer no. no_front text (g.K.Sink.written c.args.out.now) (g.K.Sink.written c.args.out.now) refl)
 
 pub returns-in_err-work-clause-usage : goal.returns-in_err-work-clause-usage
 returns-in_err-work-clause-usage g c =
@@ -140,6 +140,26 @@ pub returns-in_err-status-clause-usage : goal.returns-in_err-status-clause-usage
 returns-in_err-status-clause-usage g c =
     handed_on c.from_residual-in_err-status.result c.in_err-status.field-0.0 (λ stop. stop ≡ Usage → AskForNothing (map (string_bytes {Z = Global}) c.args.words.now)) c.from_residual-in_err-status.ensures.1
     (λ e. absurd (subst IsOfPlaying e c.in_err-status.ensures.playing))
+
+-- ---- nothing is written before the work begins
+pub returns-in_err-command-clause-begun : goal.returns-in_err-command-clause-begun
+returns-in_err-command-clause-begun g c =
+    on_each c.from_residual.result
+    (λ stop. (files : Files) → g.H.Shelf.files c.args.shelf.now ≡ Some files → WroteFrontOfAnswer files (map (string_bytes {Z = Global}) c.args.words.now) (g.K.Sink.written c.args.out.now) (g.K.Sink.written c.args.out.now))
+    (λ stop files told. inl refl)
+
+pub returns-in_err-work-clause-begun : goal.returns-in_err-work-clause-begun
+returns-in_err-work-clause-begun g c =
+    on_each c.from_residual-in_err-work.result
+    (λ stop. (files : Files) → g.H.Shelf.files c.args.shelf.now ≡ Some files → WroteFrontOfAnswer files (map (string_bytes {Z = Global}) c.args.words.now) (g.K.Sink.written c.args.out.now) (g.K.Sink.written c.args.out.now))
+    (λ stop files told. inl refl)
+
+pub returns-in_err-status-clause-begun : goal.returns-in_err-status-clause-begun
+returns-in_err-status-clause-begun g c =
+    on_each c.from_residual-in_err-status.result
+    (λ stop. (files : Files) → g.H.Shelf.files c.args.shelf.now ≡ Some files → WroteFrontOfAnswer files (map (string_bytes {Z = Global}) c.args.words.now) (g.K.Sink.written c.args.out.now) (g.K.Sink.written c.write_work.new.out))
+    (λ stop files told.
+    front_of_work files (map (string_bytes {Z = Global}) c.args.words.now) (task_of c.in_ok-command.command) c.in_ok-command.ensures.asked (g.K.Sink.written c.args.out.now) (g.K.Sink.written c.write_work.new.out) c.in_ok-work.work (c.in_ok-work.ensures.told files told) c.in_ok-work.ensures.playable c.in_err-status.ensures.front)
 
 -- ---- pieces
 pub returns-in_err-command-clause-unput : goal.returns-in_err-command-clause-unput

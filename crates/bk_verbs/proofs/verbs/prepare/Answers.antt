@@ -57,6 +57,12 @@ returns-in-Obligations-clause-cause g c = cause_of (g.H.Shelf.files c.args.shelf
 pub returns-in-Obligations-clause-told : goal.returns-in-Obligations-clause-told
 returns-in-Obligations-clause-told g c = told_of (g.H.Shelf.files c.args.shelf.now) c.shown_obligations.result c.args.command _ c.in-Obligations.is c.shown_obligations.ensures.told
 
+pub returns-in-Find-clause-cause : goal.returns-in-Find-clause-cause
+returns-in-Find-clause-cause g c = cause_of (g.H.Shelf.files c.args.shelf.now) c.found_scripts.result c.args.command _ c.in-Find.is c.found_scripts.ensures.cause
+
+pub returns-in-Find-clause-told : goal.returns-in-Find-clause-told
+returns-in-Find-clause-told g c = told_of (g.H.Shelf.files c.args.shelf.now) c.found_scripts.result c.args.command _ c.in-Find.is c.found_scripts.ensures.told
+
 pub returns-in-Code-clause-cause : goal.returns-in-Code-clause-cause
 returns-in-Code-clause-cause g c = cause_of (g.H.Shelf.files c.args.shelf.now) c.listing_text.result c.args.command _ c.in-Code.is c.listing_text.ensures.cause
 
@@ -117,6 +123,9 @@ returns-in-Status-clause-suits g c = suits_of (g.H.Shelf.files c.args.shelf.now)
 
 pub returns-in-Obligations-clause-suits : goal.returns-in-Obligations-clause-suits
 returns-in-Obligations-clause-suits g c = suits_of (g.H.Shelf.files c.args.shelf.now) c.shown_obligations.result c.args.command _ c.in-Obligations.is c.shown_obligations.ensures.suits
+
+pub returns-in-Find-clause-suits : goal.returns-in-Find-clause-suits
+returns-in-Find-clause-suits g c = suits_of (g.H.Shelf.files c.args.shelf.now) c.found_scripts.result c.args.command _ c.in-Find.is c.found_scripts.ensures.suits
 
 pub returns-in-Code-clause-suits : goal.returns-in-Code-clause-suits
 returns-in-Code-clause-suits g c = suits_of (g.H.Shelf.files c.args.shelf.now) c.listing_text.result c.args.command _ c.in-Code.is c.listing_text.ensures.suits

@@ -1,0 +1,4 @@
+pub mod Written
+pub mod Held
+pub mod Text
+pub mod Found
