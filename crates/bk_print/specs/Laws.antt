@@ -1,0 +1,32 @@
+-- What the text of a script is worth, as statements.
+use Rattle.std.specs.Prelude.{◌≡◌, ℕ, List, [], ◌∷◌}
+use Rattle.bk_form.specs.Table.{Table, VariableEntry}
+use Rattle.bk_form.specs.declared.token.Token.{Token}
+use Rattle.bk_lex.specs.Lexis.{AreTokens}
+use Rattle.bk_raw.specs.declared.script.NamePart.{NamePart}
+use Rattle.bk_raw.specs.Trees.ScriptTree.{RawScript}
+use Rattle.bk_raw.specs.Grammar.ScriptSpelling.{SpellsScripts}
+use Rattle.bk_kernel.specs.declared.rule.Rule.{Rule}
+use Rattle.bk_dev.specs.Development.{Development}
+use Rattle.bk_p_proof.specs.TypedNames.{script_names, AreOfOneType}
+use Rattle.bk_scripts.specs.Grounding.{IsGrounded}
+use Rattle.bk_status.specs.States.{name_text}
+use Rattle.bk_print.specs.Text.{script_text}
+use Rattle.bk_print.specs.Readable.{with_new, ScriptReads}
+
+-- the text has tokens that spell one script with this name, no name in which is written with two types; and its rules over the
+-- development's table are these, over this table
+pub record ReadsBack (dev : Development) (name : List NamePart) (rules : List Rule) (table : Table) (text : List ℕ) : Type 0 where
+  pub tokens : List Token
+  pub script : RawScript
+  pub cut : AreTokens text tokens
+  pub spelled : SpellsScripts (script ∷ []) tokens
+  pub typed : AreOfOneType (script_names script)
+  pub named : script.name ≡ name
+  pub grounded : IsGrounded dev script rules table
+
+-- the text of a script reads back as the same rules
+abbrev pub ScriptsReadBack : Type 0
+ScriptsReadBack = (dev : Development) (name : List NamePart) (rules : List Rule) (new : List VariableEntry) →
+    ScriptReads dev name rules new →
+    ReadsBack dev name rules (with_new dev.table new) (script_text (with_new dev.table new) (name_text name) rules)
