@@ -1,5 +1,5 @@
 -- The text of a script reads back as the same rules.
-use Rattle.std.proofs.Common.{◌≡◌, ℕ, ◌+◌, List, [], ◌∷◌, ◌++◌, map, length, refl, ap, sym, ◌∙◌, arith, subst, append_assoc, append-nil, Some}
+use Rattle.std.proofs.Common.{◌≡◌, ℕ, zero, suc, ◌+◌, List, [], ◌∷◌, ◌++◌, map, length, All, refl, ap, sym, ◌∙◌, arith, subst, append_assoc, append-nil, Some}
 use Rattle.std.specs.Prelude.{codes}
 use Rattle.std.specs.List.{AllZip, flat_map, filter_map, join_with_byte}
 use Rattle.bk_val.specs.ValueType.{ValueType}
@@ -15,7 +15,10 @@ use Rattle.bk_raw.specs.Meaning.Printed.{type_read}
 use Rattle.bk_raw.specs.Meaning.ScopeReading.{ScopeNames, names_in}
 use Rattle.bk_kernel.specs.declared.rule.Rule.{Rule}
 use Rattle.bk_dev.specs.Development.{Development, int_max}
-use Rattle.bk_p_proof.specs.TypedNames.{script_names}
+use Rattle.bk_raw.specs.Grammar.ScriptSpelling.{SpellsScripts}
+use Rattle.bk_lex.specs.Lexis.{AreTokens}
+use Rattle.bk_p_proof.specs.Files.{IsShort, IsProofFile}
+use Rattle.bk_p_proof.specs.TypedNames.{script_names, AreOfOneType}
 use Rattle.bk_scripts.specs.Parts.{Around}
 use Rattle.bk_scripts.specs.Grounding.{StandsFor, around_script, AreRulesOf}
 use Rattle.bk_scripts.specs.Sight.{part_text, no_variable}
@@ -28,7 +31,7 @@ use Rattle.bk_show.proofs.Trees.{written_type}
 use Rattle.bk_show.proofs.Written.{text-plus}
 use Rattle.bk_print.specs.Text.{behind_each, rule_lines, lines_text, script_text}
 use Rattle.bk_print.specs.Readable.{Each, numbered, with_new, outside, parameters, scope_with, names_with, names_of_types, ScriptReads}
-use Rattle.bk_print.specs.Laws.{ReadsBack, ScriptsReadBack}
+use Rattle.bk_print.specs.Laws.{IsWithinLimits, ReadsBack, ScriptsReadBack}
 use Rattle.bk_print.proofs.RawScripts.{part_item, dotted, head_line, last_line, lines_of, tokens_of_lines, rules_at, raw_script}
 use Rattle.bk_print.proofs.LinesCut.{lines-tokens}
 use Rattle.bk_print.proofs.ItemsLexed.{script-lexed}
@@ -66,6 +69,25 @@ script-lines table name rules =
     let body = lines_text (rule_lines table rules) in
     ap (λ t. codes "proof " ++ (t ++ (10 ∷ lines_text (rule_lines table rules ++ last_line ∷ [])))) (dotted-text name)
     ∙ ap (λ t. codes "proof " ++ (name_text name ++ (10 ∷ t))) (lines-plus (rule_lines table rules) (last_line ∷ []))
+
+-- ---- a proof file with one script
+all-one : {A : Type 0} (P : A → Type 0) (x : A) → P x → All P (x ∷ [])
+all-one P x h zero d l = h
+all-one P x h (suc k) d l = absurd (omega arith)
+
+proof-file : (text : List ℕ) (tokens : List Token) (script : RawScript) → AreTokens text tokens → SpellsScripts (script ∷ []) tokens → AreOfOneType (script_names script) → IsWithinLimits tokens script → IsProofFile text (script ∷ [])
+proof-file text tokens script cut spelled typed w = record {
+  low = record {
+    written = record {
+      tokens = tokens;
+      shallow = record { cut = record { cut = cut; few = w.few }; shallow = w.shallow };
+      spelled = spelled;
+      typed = all-one (λ s. AreOfOneType (script_names s)) script typed;
+    };
+    low = w.low;
+  };
+  short = all-one IsShort script w.short;
+}
 
 -- ---- the names that it brings
 module _ (dev : Development) (name : List NamePart) (rules : List Rule) (new : List VariableEntry) (h : ScriptReads dev name rules new) where
@@ -124,15 +146,25 @@ module _ (dev : Development) (name : List NamePart) (rules : List Rule) (new : L
   grounded : AreRulesOf dev.table dev script rules wide
   grounded = record { widens = sym widens; room = h.room; each = each-stands }
 
+  cut : AreTokens (lines_text (lines_of wide name rules)) (tokens_of_lines 0 (lines_of wide name rules))
+  cut = lines-tokens (lines_of wide name rules) (script-lexed wide (names_with dev name new) name rules h.parts h.rules_read)
+
+  spelled : SpellsScripts (script ∷ []) (tokens_of_lines 0 (lines_of wide name rules))
+  spelled = script-spelled wide (names_with dev name new) name rules h.some_part h.parts h.rules_read
+
+  typed : AreOfOneType (script_names script)
+  typed = one-type wide (script_names script) new are-entries h.apart
+
   back : ReadsBack dev name rules wide (lines_text (lines_of wide name rules))
   back = record {
     tokens = tokens_of_lines 0 (lines_of wide name rules);
     script = script;
-    cut = lines-tokens (lines_of wide name rules) (script-lexed wide (names_with dev name new) name rules h.parts h.rules_read);
-    spelled = script-spelled wide (names_with dev name new) name rules h.some_part h.parts h.rules_read;
-    typed = one-type wide (script_names script) new are-entries h.apart;
+    cut = cut;
+    spelled = spelled;
+    typed = typed;
     named = refl;
     grounded = grounded;
+    read = λ w. proof-file (lines_text (lines_of wide name rules)) (tokens_of_lines 0 (lines_of wide name rules)) script cut spelled typed w;
   }
 
 -- ---- the whole
