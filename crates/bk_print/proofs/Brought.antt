@@ -21,7 +21,8 @@ use Rattle.bk_show.proofs.Tokens.{after}
 use Rattle.bk_show.proofs.Trees.{written_type}
 use Rattle.bk_print.specs.Written.{Part, a_number, a_term, some_terms, a_place, no_place, some_names, a_law, a_certificate, Parts, none, one, two, word_of, parts_of}
 use Rattle.bk_print.specs.Text.{comma, name_items, part_items, word_items}
-use Rattle.bk_print.specs.Readable.{Each, names_of_part, names_of_parts, names_brought, numbers_from, numbered, AreApart}
+use Rattle.bk_form.specs.Each.{Each}
+use Rattle.bk_print.specs.Readable.{names_of_part, names_of_parts, names_brought, numbers_from, numbered, AreApart}
 use Rattle.bk_print.proofs.RawScripts.{more_at, list_at, type_text, raw_name, names_at, raw_part, raw_parts, raw_rule, line_of, rules_at}
 
 -- ---- lists side by side

@@ -35,7 +35,8 @@ use Rattle.bk_show.proofs.Scalars.{identifier-utf8}
 use Rattle.bk_show.proofs.Begun.{decimal-is, is_letters, is_ascii_word, word-identifier, in_word, IsWordlike, wordlike-class, wordlike-begins, Next}
 use Rattle.bk_print.specs.Written.{Part, a_number, a_term, some_terms, a_place, no_place, some_names, a_law, a_certificate, Parts, none, one, two, word_of, parts_of}
 use Rattle.bk_print.specs.Text.{behind_each, divided, comma, spaced, number_items, numbers_behind, place_items, terms_items, some_type_items, name_items, series_letter, law_name, picks_items, law_items, multiple_items, line_items, facts_items, certificate_items, part_items, parts_items, word_items, rule_items, semicolon_before, rule_lines, lines_text}
-use Rattle.bk_print.specs.Readable.{Each, HasSome, IsNumber, ReadsIn, NameReads, PlaceReads, MultipleReads, LineReads, PartReads, PartsRead, HasWord, RuleReads, NamePartReads}
+use Rattle.bk_form.specs.Each.{Each}
+use Rattle.bk_print.specs.Readable.{HasSome, IsNumber, ReadsIn, NameReads, PlaceReads, MultipleReads, LineReads, PartReads, PartsRead, HasWord, RuleReads, NamePartReads}
 use Rattle.bk_print.proofs.ShownTexts.{Ends, Lexed, lexed-append, is_fixed, follows, Good, Fine, fine, Cuts, one-good, set-good, number-ends, literal-good, plain-cuts, word-ends, sign-lead, lone-lead, op-lead, enclosed-lexed, type-good, formula-good}
 use Rattle.bk_print.proofs.RawScripts.{letters_kind, part_item, dotted, head_line, last_line, line_of, lines_of}
 use Rattle.bk_print.proofs.LinesCut.{LinesLexed}

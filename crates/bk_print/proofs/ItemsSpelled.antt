@@ -39,7 +39,8 @@ use Rattle.bk_show.proofs.Trees.{written_type, shown_tree}
 use Rattle.bk_show.proofs.Spelled.{tokens-append, formula-spelled}
 use Rattle.bk_print.specs.Written.{Part, a_number, a_term, some_terms, a_place, no_place, some_names, a_law, a_certificate, Parts, none, one, two, word_of, parts_of}
 use Rattle.bk_print.specs.Text.{behind_each, divided, comma, spaced, number_items, numbers_behind, place_items, terms_items, some_type_items, name_items, law_name, picks_items, law_items, multiple_items, line_items, facts_items, certificate_items, part_items, parts_items, word_items, rule_items, semicolon_before, rule_lines}
-use Rattle.bk_print.specs.Readable.{Each, HasSome, ReadsIn, NameReads, MultipleReads, LineReads, PartReads, PartsRead, HasWord, RuleReads, NamePartReads}
+use Rattle.bk_form.specs.Each.{Each}
+use Rattle.bk_print.specs.Readable.{HasSome, ReadsIn, NameReads, MultipleReads, LineReads, PartReads, PartsRead, HasWord, RuleReads, NamePartReads}
 use Rattle.bk_print.proofs.RawScripts.{more_at, list_at, tree_at, trees_at, raw_place, type_text, raw_name, names_at, raw_multiple, digits_of, raw_line, raw_part, raw_parts, the_word, raw_rule, line_of, rules_at, tokens_of_lines, letters_kind, part_item, dotted, head_line, last_line, lines_of, raw_script}
 
 -- ---- tokens one after another

@@ -29,7 +29,8 @@ use Rattle.bk_show.proofs.RulesBack.{Reads}
 use Rattle.bk_show.proofs.ReadBack.{formula-reads}
 use Rattle.bk_print.specs.Written.{word_of, parts_of}
 use Rattle.bk_print.specs.Text.{comma, name_items, word_items}
-use Rattle.bk_print.specs.Readable.{Each, IsNumber, ReadsIn, NameReads, PlaceReads, MultipleReads, LineReads, RuleReads}
+use Rattle.bk_form.specs.Each.{Each}
+use Rattle.bk_print.specs.Readable.{IsNumber, ReadsIn, NameReads, PlaceReads, MultipleReads, LineReads, RuleReads}
 use Rattle.bk_print.proofs.RawScripts.{more_at, list_at, tree_at, trees_at, raw_place, type_text, raw_name, names_at, raw_multiple, digits_of, raw_line, raw_parts, the_word, raw_rule, line_of, rules_at}
 
 -- ---- the names of a scope are no bound variables

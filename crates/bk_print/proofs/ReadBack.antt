@@ -30,7 +30,8 @@ use Rattle.bk_show.proofs.Tokens.{after}
 use Rattle.bk_show.proofs.Trees.{written_type}
 use Rattle.bk_show.proofs.Written.{text-plus}
 use Rattle.bk_print.specs.Text.{behind_each, rule_lines, lines_text, script_text}
-use Rattle.bk_print.specs.Readable.{Each, numbered, with_new, outside, parameters, scope_with, names_with, names_of_types, ScriptReads}
+use Rattle.bk_form.specs.Each.{Each}
+use Rattle.bk_print.specs.Readable.{numbered, with_new, outside, parameters, scope_with, names_with, names_of_types, ScriptReads}
 use Rattle.bk_print.specs.Laws.{IsWithinLimits, ReadsBack, ScriptsReadBack}
 use Rattle.bk_print.proofs.RawScripts.{part_item, dotted, head_line, last_line, lines_of, tokens_of_lines, rules_at, raw_script}
 use Rattle.bk_print.proofs.LinesCut.{lines-tokens}

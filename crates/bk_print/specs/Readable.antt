@@ -2,6 +2,7 @@
 use Rattle.std.specs.Prelude.{◌≡◌, ◌≢◌, ◌<◌, ◌^◌, ◌⊎◌, ℕ, suc, ℤ, pos, false, List, [], ◌∷◌, ◌++◌, map, length, Option, Some, None}
 use Rattle.std.specs.List.{flat_map}
 use Rattle.bk_val.specs.ValueType.{ValueType}
+use Rattle.bk_form.specs.Each.{Each}
 use Rattle.bk_form.specs.Table.{Table, VariableEntry, variable_type}
 use Rattle.bk_form.specs.Formula.{Formula, variable}
 use Rattle.bk_form.specs.Role.{role, untyped}
@@ -29,11 +30,6 @@ use Rattle.bk_print.specs.Written.{Parts, none, one, two, word_of, parts_of}
 use Rattle.bk_print.specs.Text.{law_name}
 
 -- ---- lists
--- each of them is so
-abbrev pub Each : {A : Type 0} → (A → Type 0) → List A → Type 0
-Each P [] = Unit {0}
-Each P (x ∷ xs) = P x × Each P xs
-
 -- there is one at least
 abbrev pub HasSome : {A : Type 0} → List A → Type 0
 HasSome [] = ⊥
