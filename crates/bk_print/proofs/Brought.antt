@@ -15,6 +15,7 @@ use Rattle.bk_p_proof.specs.TypedNames.{part_names, rule_names, script_names, Ar
 use Rattle.bk_kernel.specs.declared.rule.Rule.{Rule}
 use Rattle.bk_scripts.specs.Sight.{no_variable}
 use Rattle.bk_scripts.specs.Brought.{with_first, first_of_each, is_in_scope, new_over, hidden, entry_for, number_of, next_number, numbered_names}
+use Rattle.bk_auto.specs.Found.{numbers_from}
 use Rattle.bk_show.specs.Items.{Item}
 use Rattle.bk_show.specs.Shown.{or_empty, name_of_variable}
 use Rattle.bk_show.proofs.Tokens.{after}
@@ -22,7 +23,7 @@ use Rattle.bk_show.proofs.Trees.{written_type}
 use Rattle.bk_print.specs.Written.{Part, a_number, a_term, some_terms, a_place, no_place, some_names, a_law, a_certificate, Parts, none, one, two, word_of, parts_of}
 use Rattle.bk_print.specs.Text.{comma, name_items, part_items, word_items}
 use Rattle.bk_form.specs.Each.{Each}
-use Rattle.bk_print.specs.Readable.{names_of_part, names_of_parts, names_brought, numbers_from, numbered, AreApart}
+use Rattle.bk_print.specs.Readable.{names_of_part, names_of_parts, names_brought, numbered, AreApart}
 use Rattle.bk_print.proofs.RawScripts.{more_at, list_at, type_text, raw_name, names_at, raw_part, raw_parts, raw_rule, line_of, rules_at}
 
 -- ---- lists side by side
@@ -81,7 +82,7 @@ module _ (table : Table) where
   slice-at [] v vs = refl
   slice-at (w ∷ front) v vs = slice-at front v vs
 
-  pub entries : (new front : List VariableEntry) (xs : List RawTyped) → table.variables ≡ front ++ new → AllZip IsName xs (numbers_from (length front) new) → AllZip IsEntry xs new
+  pub entries : (new front : List VariableEntry) (xs : List RawTyped) → table.variables ≡ front ++ new → AllZip IsName xs (numbers_from (length front) (length new)) → AllZip IsEntry xs new
   entries [] front [] e h = tt
   entries [] front (x ∷ xs) e h = elim h [ ]
   entries (v ∷ vs) front [] e h = elim h [ ]
@@ -91,7 +92,7 @@ module _ (table : Table) where
       let typed : x.ty ≡ written_type table v.of_type = h.0.1 ∙ ap (λ o. type_text table (option_map (λ w. w.of_type) o)) here in
       let long : length (front ++ v ∷ []) ≡ suc (length front) = length-append front (v ∷ []) ∙ omega arith in
       let more : table.variables ≡ (front ++ v ∷ []) ++ vs = e ∙ sym (append_assoc front (v ∷ []) vs) in
-      ((text, typed), entries vs (front ++ v ∷ []) xs more (subst (λ n. AllZip IsName xs (numbers_from n vs)) (sym long) h.1))
+      ((text, typed), entries vs (front ++ v ∷ []) xs more (subst (λ n. AllZip IsName xs (numbers_from n (length vs))) (sym long) h.1))
 
   -- ---- each is brought once
   differ : (a b : List ℕ) → a ≢ b → bytes_eq a b ≡ false

@@ -21,6 +21,7 @@ use Rattle.bk_dev.specs.Development.{Development, int_max}
 use Rattle.bk_scripts.specs.LawNames.{law_number}
 use Rattle.bk_scripts.specs.Sight.{level_of, operation_of, no_variable, outer_scope, parameter_scope}
 use Rattle.bk_scripts.specs.Brought.{is_in_scope}
+use Rattle.bk_auto.specs.Found.{numbers_from}
 use Rattle.bk_show.specs.Shown.{name_of_variable}
 use Rattle.bk_show.specs.Binders.{Binds}
 use Rattle.bk_show.specs.Readable.{IsPlainName, IsSmall, SetsAreNamed, IsReadable}
@@ -115,12 +116,7 @@ names_brought rules = flat_map (λ r. names_of_parts (parts_of r)) rules
 abbrev pub with_new : Table → List VariableEntry → Table
 with_new table new = record table { variables = table.variables ++ new }
 
--- their numbers, from this one on
-abbrev pub numbers_from : ℕ → List VariableEntry → List ℕ
-numbers_from n [] = []
-numbers_from n (v ∷ vs) = n ∷ numbers_from (suc n) vs
-
--- their texts with these numbers
+-- the texts of new variables with their numbers, from this one on
 abbrev pub numbered : ℕ → List VariableEntry → List (List ℕ × ℕ)
 numbered n [] = []
 numbered n (v ∷ vs) = (v.text, n) ∷ numbered (suc n) vs
@@ -162,7 +158,7 @@ pub record ScriptReads (dev : Development) (name : List NamePart) (rules : List 
   pub parts : Each NamePartReads name
   pub room : length (with_new dev.table new).variables < 2 ^ 32
   pub rules_read : Each (RuleReads (with_new dev.table new) (names_with dev name new)) rules
-  pub brought : names_brought rules ≡ numbers_from (length dev.table.variables) new
+  pub brought : names_brought rules ≡ numbers_from (length dev.table.variables) (length new)
   pub apart : AreApart new
   pub no_parameters : Each (λ v. is_in_scope (parameters dev name) v.text ≡ false) new
   pub types : Each (λ v. TypeStands dev.table (names_of_types dev name new) v.of_type) new
