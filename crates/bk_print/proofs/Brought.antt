@@ -158,12 +158,15 @@ module _ (table : Table) where
   abbrev pub AreTyped : (RawTyped → Option ValueType) → List RawTyped → List VariableEntry → Type 0
   AreTyped typed xs vs = AllZip (λ x v. typed x ≡ Some v.of_type) xs vs
 
+  abbrev as_entry : List ℕ → ValueType → VariableEntry
+  as_entry text u = record { text = text; of_type = u }
+
   pub entries-are : (typed : RawTyped → Option ValueType) (xs : List RawTyped) (vs : List VariableEntry) → AllZip IsEntry xs vs → AreTyped typed xs vs → filter_map (entry_for typed) xs ≡ vs
   entries-are typed [] [] z t = refl
   entries-are typed [] (v ∷ vs) z t = elim z [ ]
   entries-are typed (x ∷ xs) [] z t = elim z [ ]
   entries-are typed (x ∷ xs) (v ∷ vs) z t =
-      let one : entry_for typed x ≡ Some v = ap (λ o. option_map (λ u. record { text = x.name.text; of_type = u }) o) t.0 ∙ ap (λ w. Some (record { text = w; of_type = v.of_type })) z.0.0 in
+      let one : entry_for typed x ≡ Some v = ap (λ o. option_map (as_entry x.name.text) o) t.0 ∙ ap (λ w. Some (as_entry w v.of_type)) z.0.0 in
       ap (λ o. cons_option o (filter_map (entry_for typed) xs)) one ∙ ap (λ ws. v ∷ ws) (entries-are typed xs vs z.1 t.1)
 
   pub numbers-are : (typed : RawTyped → Option ValueType) (n : ℕ) (xs : List RawTyped) (vs : List VariableEntry) → AllZip IsEntry xs vs → AreTyped typed xs vs → numbered_names typed n xs ≡ numbered n vs

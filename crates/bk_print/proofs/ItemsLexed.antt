@@ -116,7 +116,7 @@ bar-leads ys rest k = op-lead (Sign BAR) ys rest refl k
 
 -- ---- numbers and places
 number-fine : (n : ℕ) → IsNumber n → Fine (number_items n)
-number-fine n h rest m = fine (literal_items (pos n)) (literal-good (pos n) (omega arith)) rest m
+number-fine n h rest m = let l : n < 2 ^ 32 = h in fine (literal_items (pos n)) (literal-good (pos n) (omega arith)) rest m
 
 numbers-fine : (ns : List ℕ) → Each IsNumber ns → Fine (numbers_behind ns)
 numbers-fine ns h rest n = behind-fine IsNumber number_items (blank ∷ []) (λ ys r. refl) (λ ys r k. k) number-fine ns h rest n

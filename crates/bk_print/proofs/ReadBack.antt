@@ -2,7 +2,7 @@
 use Rattle.std.proofs.Common.{◌≡◌, ℕ, zero, suc, ◌+◌, List, [], ◌∷◌, ◌++◌, map, length, All, refl, ap, sym, ◌∙◌, arith, subst, append_assoc, append-nil, Some}
 use Rattle.std.specs.Prelude.{codes}
 use Rattle.std.specs.List.{AllZip, flat_map, filter_map, join_with_byte}
-use Rattle.bk_val.specs.ValueType.{ValueType}
+use Rattle.bk_val.specs.ValueType.{ValueType, int_type, bool_type, enum_type, pair_type, set_type}
 use Rattle.bk_form.specs.Table.{Table, VariableEntry}
 use Rattle.bk_form.specs.declared.token.Token.{Token}
 use Rattle.bk_form.specs.declared.token.TokenKind.TheVariants.{Name}
@@ -11,6 +11,7 @@ use Rattle.bk_raw.specs.declared.script.NamePart.{NamePart}
 use Rattle.bk_raw.specs.declared.script.NamePart.TheVariants.{Letters, Numeral}
 use Rattle.bk_raw.specs.declared.script.RawTyped.{RawTyped}
 use Rattle.bk_raw.specs.Trees.ScriptTree.{RawScript}
+use Rattle.bk_raw.specs.Trees.WrittenType.{written_power, written_product}
 use Rattle.bk_raw.specs.Meaning.Printed.{type_read}
 use Rattle.bk_raw.specs.Meaning.ScopeReading.{ScopeNames, names_in}
 use Rattle.bk_kernel.specs.declared.rule.Rule.{Rule}
@@ -38,7 +39,7 @@ use Rattle.bk_print.proofs.LinesCut.{lines-tokens}
 use Rattle.bk_print.proofs.ItemsLexed.{script-lexed}
 use Rattle.bk_print.proofs.ItemsSpelled.{script-spelled}
 use Rattle.bk_print.proofs.Meant.{type-reads, rules-mean}
-use Rattle.bk_print.proofs.Brought.{IsEntry, of-rules, entries, each-once, all-new, hidden-are, AreTyped, entries-are, numbers-are, one-type}
+use Rattle.bk_print.proofs.Brought.{IsName, IsEntry, of-rules, entries, each-once, all-new, hidden-are, AreTyped, entries-are, numbers-are, one-type}
 
 -- ---- the text
 part-letters : (x : NamePart) → text_of (part_item x ∷ []) ≡ part_text x
@@ -90,22 +91,36 @@ proof-file text tokens script cut spelled typed w = record {
   short = all-one IsShort script w.short;
 }
 
+-- ---- types are written alike over a table with new variables
+same-written : (table : Table) (new : List VariableEntry) (t : ValueType) → written_type (with_new table new) t ≡ written_type table t
+same-written table new int_type = refl
+same-written table new bool_type = refl
+same-written table new (enum_type s) = refl
+same-written table new (pair_type t u) = ap (λ x. written_product x (written_type (with_new table new) u)) (same-written table new t) ∙ ap (λ y. written_product (written_type table t) y) (same-written table new u)
+same-written table new (set_type t) = ap (λ x. written_power x) (same-written table new t)
+
 -- ---- the names that it brings
 module _ (dev : Development) (name : List NamePart) (rules : List Rule) (new : List VariableEntry) (h : ScriptReads dev name rules new) where
-  wide : Table
+  abbrev wide : Table
   wide = with_new dev.table new
 
-  script : RawScript
+  abbrev script : RawScript
   script = raw_script wide name rules
 
-  first : ℕ
+  abbrev first : ℕ
   first = after 0 (head_line name) + 1
+
+  abbrev as_scope : List (List ℕ × ℕ) → ScopeNames
+  as_scope ps = record { max = int_max dev; names = outside dev name ++ (parameters dev name ++ ps) }
+
+  abbrev as_around : Table → ScopeNames → Around
+  as_around t s = record { table = t; scope = s }
 
   abbrev Entries : Type 0
   Entries = AllZip (IsEntry wide) (script_names script) new
 
   are-entries : Entries
-  are-entries = entries wide new dev.table.variables (script_names script) refl (subst (λ ns. AllZip _ (script_names script) ns) h.brought (of-rules wide rules first))
+  are-entries = entries wide new dev.table.variables (script_names script) refl (subst (λ ns. AllZip (IsName wide) (script_names script) ns) h.brought (of-rules wide rules first))
 
   -- all of them are new
   news : new_names dev.table dev script ≡ script_names script
@@ -113,7 +128,7 @@ module _ (dev : Development) (name : List NamePart) (rules : List Rule) (new : L
 
   -- what their types are read in
   types-in : names_in dev.table (type_scope dev.table dev script) ≡ names_of_types dev name new
-  types-in = ap (λ ps. names_in dev.table (record { max = int_max dev; names = outside dev name ++ (parameters dev name ++ ps) })) (ap hidden news ∙ hidden-are wide (script_names script) new are-entries)
+  types-in = ap (λ ps. names_in dev.table (as_scope ps)) (ap hidden news ∙ hidden-are wide (script_names script) new are-entries)
 
   typed-each : (xs : List RawTyped) (vs : List VariableEntry) → AllZip (IsEntry wide) xs vs → Each (λ v. TypeStands dev.table (names_of_types dev name new) v.of_type) vs → AreTyped wide (type_of dev.table dev script) xs vs
   typed-each [] [] z t = tt
@@ -121,7 +136,7 @@ module _ (dev : Development) (name : List NamePart) (rules : List Rule) (new : L
   typed-each (x ∷ xs) [] z t = elim z [ ]
   typed-each (x ∷ xs) (v ∷ vs) z t =
       let one : type_read (names_in dev.table (type_scope dev.table dev script)) x.ty ≡ Some v.of_type =
-      ap (λ ns. type_read ns x.ty) types-in ∙ (ap (type_read (names_of_types dev name new)) z.0.1 ∙ type-reads dev.table (names_of_types dev name new) v.of_type t.0) in
+      ap (λ ns. type_read ns x.ty) types-in ∙ (ap (type_read (names_of_types dev name new)) (z.0.1 ∙ same-written dev.table new v.of_type) ∙ type-reads dev.table (names_of_types dev name new) v.of_type t.0) in
       (one, typed-each xs vs z.1 t.1)
 
   are-typed : AreTyped wide (type_of dev.table dev script) (script_names script) new
@@ -135,11 +150,11 @@ module _ (dev : Development) (name : List NamePart) (rules : List Rule) (new : L
 
   scoped : script_scope dev.table dev script ≡ scope_with dev name new
   scoped =
-      ap (λ xs. record { max = int_max dev; names = outside dev name ++ (parameters dev name ++ numbered_names (type_of dev.table dev script) (length dev.table.variables) xs) }) news
-      ∙ ap (λ ps. record { max = int_max dev; names = outside dev name ++ (parameters dev name ++ ps) }) (numbers-are wide (type_of dev.table dev script) (length dev.table.variables) (script_names script) new are-entries are-typed)
+      ap (λ xs. as_scope (numbered_names (type_of dev.table dev script) (length dev.table.variables) xs)) news
+      ∙ ap as_scope (numbers-are wide (type_of dev.table dev script) (length dev.table.variables) (script_names script) new are-entries are-typed)
 
-  around-is : around_script dev.table dev script ≡ record { table = wide; scope = scope_with dev name new }
-  around-is = ap (λ t. record { table = t; scope = script_scope dev.table dev script }) widens ∙ ap (λ s. record { table = wide; scope = s }) scoped
+  around-is : around_script dev.table dev script ≡ as_around wide (scope_with dev name new)
+  around-is = ap (λ t. as_around t (script_scope dev.table dev script)) widens ∙ ap (λ s. as_around wide s) scoped
 
   each-stands : AllZip (StandsFor (around_script dev.table dev script)) script.rules rules
   each-stands = subst (λ a. AllZip (StandsFor a) script.rules rules) (sym around-is) (rules-mean wide (scope_with dev name new) rules first h.rules_read)
