@@ -50,12 +50,7 @@ fn write_more(
 
 // Writes a variable with its type.
 #[tactic(auto, using(crate::proofs::Pieces::rules))]
-fn write_name(
-    alloc: Global,
-    out: &mut Vec<u8>,
-    types: &VarTable,
-    name: u32,
-) -> Result<(), Memory>
+fn write_name(alloc: Global, out: &mut Vec<u8>, types: &VarTable, name: u32) -> Result<(), Memory>
     ensures { OnOk result (out.new.items ≡ out.old.items ++ text_of (name_items types.now name)) }
 {
     out.extend_from_slice(name_of(types, name))?;

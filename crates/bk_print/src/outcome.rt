@@ -71,7 +71,10 @@ fn write_sums(text: &mut Vec<u8>, outcomes: &[Outcome]) -> Result<(), AllocError
 fn script_count(outcomes: &[Outcome]) -> usize
     ensures { result ≡ count_by meant.is_script outcomes.now }
 {
-    outcomes.iter().filter(|outcome| outcome.is_script()).count()
+    outcomes
+        .iter()
+        .filter(|outcome| outcome.is_script())
+        .count()
 }
 
 fn left_count(outcomes: &[Outcome]) -> usize

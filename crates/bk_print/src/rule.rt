@@ -39,7 +39,7 @@ fn write_parts(
     types: &VarTable,
     parts: Parts<'_>,
 ) -> Result<(), Memory>
-    ensures { OnOk result (out.new.items ≡ out.old.items ++ text_of (parts_items types.now (parts_in parts))) }
+    ensures { OnOk result (out.new.items ≡ out.old.items ++ text_of (parts_items types.now (parts_in parts.entry))) }
 {
     match parts {
         Parts::None => Ok(()),
@@ -58,7 +58,7 @@ fn write_part(
     types: &VarTable,
     part: Part<'_>,
 ) -> Result<(), Memory>
-    ensures { OnOk result (out.new.items ≡ out.old.items ++ text_of (part_items types.now (part_in part))) }
+    ensures { OnOk result (out.new.items ≡ out.old.items ++ text_of (part_items types.now (part_in part.entry))) }
 {
     match part {
         Part::Number(number) => write_number(out, number),

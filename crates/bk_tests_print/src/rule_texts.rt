@@ -50,7 +50,10 @@ pub(crate) const ROWS: &[Row] = &[
     ("elems ( a )", "  elems a\n"),
     ("use 1,n$0+2", "  use 1, n$0 + 2\n"),
     ("inst 3 f$0(n$0)", "  inst 3 f$0(n$0)\n"),
-    ("cut {n$0} = {:POW(INTEGER)}", "  cut {n$0} = {:POW(INTEGER)}\n"),
+    (
+        "cut {n$0} = {:POW(INTEGER)}",
+        "  cut {n$0} = {:POW(INTEGER)}\n",
+    ),
     (
         "cut dom((f$0 ; f$0)) = {1}",
         "  cut dom((f$0 ; f$0)) = {1}\n",

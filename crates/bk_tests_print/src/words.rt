@@ -10,9 +10,11 @@ use std::alloc::Global;
 
 const PROJECT: &str = "machine Words.mch\n";
 
-const TEXTS: &[&str] = &["MACHINE Words SETS S = {a, b} VARIABLES n, f
+const TEXTS: &[&str] = &[
+    "MACHINE Words SETS S = {a, b} VARIABLES n, f
     INVARIANT n : 0..10 & f : 0..9 --> 0..9 INITIALISATION n, f := 0, (0..9) * {0}
-    OPERATIONS reset = n := 0 END"];
+    OPERATIONS reset = n := 0 END",
+];
 
 fn bytes(alloc: Global, texts: &[&str]) -> Result<Vec<Vec<u8>>, Memory> {
     let mut files = Vec::new(alloc);

@@ -44,12 +44,7 @@ pub(crate) fn found_scripts<H: Shelf>(
 }
 
 // The text of what is found for the obligations of a project with these states.
-fn scripts_text(
-    alloc: Global,
-    name: &str,
-    project: &Project,
-    rows: &[Row],
-) -> Result<Vec<u8>, Stop>
+fn scripts_text(alloc: Global, name: &str, project: &Project, rows: &[Row]) -> Result<Vec<u8>, Stop>
     requires rows { HasRows project.now.development project.now.scripts rows.now }
     ensures cause { IfErr result (λ stop. IsOutside stop ⊎ StopsPastLimits name.now project.now.development stop) }
     ensures checks { IfErr result IsOfChecks }

@@ -15,8 +15,13 @@ search_all-requires-clause-list c = ap (map named_sequent) c.deref.ensures.value
 -- a row for each obligation
 pub search_all-requires-clause-rows : goal.search_all-requires-clause-rows
 search_all-requires-clause-rows c =
-    omega (arith, AllZip-long (IsRowOf (flattened c.args.project.now.development) c.args.project.now.scripts) (numbered_obligations c.args.project.now.development) c.args.rows.now c.requires,
-    ap length c.in_ok-list.ensures.value, length-map c.in_ok-list.list.items named_sequent, ap length c.deref.ensures.value)
+    omega (
+      arith,
+      AllZip-long (IsRowOf (flattened c.args.project.now.development) c.args.project.now.scripts) (numbered_obligations c.args.project.now.development) c.args.rows.now c.requires,
+      ap length c.in_ok-list.ensures.value,
+      length-map c.in_ok-list.list.items named_sequent,
+      ap length c.deref.ensures.value,
+    )
 
 pub returns-clause-text : goal.returns-clause-text
 returns-clause-text c = record {
