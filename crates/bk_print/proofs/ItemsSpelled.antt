@@ -332,9 +332,13 @@ module _ (table : Table) (names : Names) where
       let ts = tokens_from q (rule_items table r) in
       let mark = tokens_from (after q (rule_items table r)) (semicolon_before (s ∷ rs)) in
       let next = after p (line_of table r (s ∷ rs)) + 1 in
-      let more = tokens_of_lines next (rule_lines table (s ∷ rs)) in
-      (ts, mark ++ more, ap (λ us. us ++ more) (line-tokens r (s ∷ rs) p) ∙ append_assoc ts mark more, rule-spelled r q h.0,
-      (mark, more, refl, last (Sign SEMICOLON) (59 ∷ []) (after q (rule_items table r) + 1), rules-spelled s rs next h.1))
+      let more = tokens_of_lines next (rule_lines table (s ∷ rs)) in (
+        ts,
+        mark ++ more,
+        ap (λ us. us ++ more) (line-tokens r (s ∷ rs) p) ∙ append_assoc ts mark more,
+        rule-spelled r q h.0,
+        (mark, more, refl, last (Sign SEMICOLON) (59 ∷ []) (after q (rule_items table r) + 1), rules-spelled s rs next h.1),
+      )
 
   any-rules-spelled : (rules : List Rule) (p : ℕ) → Each (RuleReads table names) rules → AnyDivided SEMICOLON RuleSpelled (rules_at table p rules) (tokens_of_lines p (rule_lines table rules))
   any-rules-spelled [] p h = refl
