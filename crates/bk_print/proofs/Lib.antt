@@ -1,2 +1,10 @@
 pub mod Pieces
 mod Steps
+mod RawScripts
+mod ShownTexts
+mod LinesCut
+mod ItemsLexed
+mod ItemsSpelled
+mod Meant
+mod Brought
+mod ReadBack

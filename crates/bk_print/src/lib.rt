@@ -3,6 +3,7 @@
 
 mod certificate;
 mod law;
+pub mod laws;
 mod name;
 mod outcome;
 mod parts;
