@@ -6,5 +6,6 @@ mod LinesCut
 mod ItemsLexed
 mod ItemsSpelled
 mod Meant
+mod WithoutSequences
 mod Brought
 mod ReadBack

@@ -19,6 +19,7 @@ use Rattle.bk_dev.specs.Development.{Development, int_max}
 use Rattle.bk_raw.specs.Grammar.ScriptSpelling.{SpellsScripts}
 use Rattle.bk_lex.specs.Lexis.{AreTokens}
 use Rattle.bk_p_proof.specs.Files.{IsShort, IsProofFile}
+use Rattle.bk_p_proof.specs.Unread.{IsWithoutSequences}
 use Rattle.bk_p_proof.specs.TypedNames.{script_names, AreOfOneType}
 use Rattle.bk_scripts.specs.Parts.{Around}
 use Rattle.bk_scripts.specs.Grounding.{StandsFor, around_script, AreRulesOf}
@@ -38,6 +39,7 @@ use Rattle.bk_print.proofs.RawScripts.{part_item, dotted, head_line, last_line, 
 use Rattle.bk_print.proofs.LinesCut.{lines-tokens}
 use Rattle.bk_print.proofs.ItemsLexed.{script-lexed}
 use Rattle.bk_print.proofs.ItemsSpelled.{script-spelled}
+use Rattle.bk_print.proofs.WithoutSequences.{script-plain}
 use Rattle.bk_print.proofs.Meant.{type-reads, rules-mean}
 use Rattle.bk_print.proofs.Brought.{IsName, IsEntry, of-rules, entries, each-once, all-new, hidden-are, AreTyped, entries-are, numbers-are, one-type}
 
@@ -77,13 +79,14 @@ all-one : {A : Type 0} (P : A → Type 0) (x : A) → P x → All P (x ∷ [])
 all-one P x h zero d l = h
 all-one P x h (suc k) d l = absurd (omega arith)
 
-proof-file : (text : List ℕ) (tokens : List Token) (script : RawScript) → AreTokens text tokens → SpellsScripts (script ∷ []) tokens → AreOfOneType (script_names script) → IsWithinLimits tokens script → IsProofFile text (script ∷ [])
-proof-file text tokens script cut spelled typed w = record {
+proof-file : (text : List ℕ) (tokens : List Token) (script : RawScript) → AreTokens text tokens → SpellsScripts (script ∷ []) tokens → IsWithoutSequences tokens → AreOfOneType (script_names script) → IsWithinLimits tokens script → IsProofFile text (script ∷ [])
+proof-file text tokens script cut spelled plain typed w = record {
   low = record {
     written = record {
       tokens = tokens;
       shallow = record { cut = record { cut = cut; few = w.few }; shallow = w.shallow };
       spelled = spelled;
+      plain = plain;
       typed = all-one (λ s. AreOfOneType (script_names s)) script typed;
     };
     low = w.low;
@@ -168,6 +171,9 @@ module _ (dev : Development) (name : List NamePart) (rules : List Rule) (new : L
   spelled : SpellsScripts (script ∷ []) (tokens_of_lines 0 (lines_of wide name rules))
   spelled = script-spelled wide (names_with dev name new) name rules h.some_part h.parts h.rules_read
 
+  plain : IsWithoutSequences (tokens_of_lines 0 (lines_of wide name rules))
+  plain = script-plain wide name rules
+
   typed : AreOfOneType (script_names script)
   typed = one-type wide (script_names script) new are-entries h.apart
 
@@ -180,7 +186,7 @@ module _ (dev : Development) (name : List NamePart) (rules : List Rule) (new : L
     typed = typed;
     named = refl;
     grounded = grounded;
-    read = λ w. proof-file (lines_text (lines_of wide name rules)) (tokens_of_lines 0 (lines_of wide name rules)) script cut spelled typed w;
+    read = λ w. proof-file (lines_text (lines_of wide name rules)) (tokens_of_lines 0 (lines_of wide name rules)) script cut spelled plain typed w;
   }
 
 -- ---- the whole
