@@ -6,6 +6,7 @@ pub mod Wider
 pub mod Ready
 pub mod Opened
 pub mod Fresh
+pub mod Brought
 pub mod Tellings
 pub mod Obvious
 pub mod Refuted

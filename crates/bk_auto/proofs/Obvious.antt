@@ -94,27 +94,28 @@ derives_typing table hyps a n path whole all types within =
 
 -- ---- each kind
 pub closes_hyp : (r0 r1 : List Rule) (hyps : List Formula) (goal : Formula) (n : ℕ) → r1 ≡ r0 ++ Hyp n ∷ [] → numbered_item hyps n ≡ Some goal → Closes r0 r1 (hyps, goal)
-closes_hyp r0 r1 hyps goal n e here = record { more = Hyp n ∷ []; same = e; derives = λ table t w. derives_hyp table hyps goal n goal here (same-if goal goal refl) }
+closes_hyp r0 r1 hyps goal n e here = record { more = Hyp n ∷ []; same = e; derives = λ table t w. derives_hyp table hyps goal n goal here (same-if goal goal refl); bare = (tt, tt) }
 
 pub closes_anywhere : (r0 r1 : List Rule) (hyps : List Formula) (goal : Formula) → ClosesAnywhere r0 r1 goal → Closes r0 r1 (hyps, goal)
-closes_anywhere r0 r1 hyps goal c = record { more = c.more; same = c.same; derives = λ table t w. c.derives table hyps t w }
+closes_anywhere r0 r1 hyps goal c = record { more = c.more; same = c.same; derives = λ table t w. c.derives table hyps t w; bare = c.bare }
 
 pub closes_same : (r0 r1 : List Rule) (a b : Formula) → r1 ≡ r0 ++ Same ∷ [] → a ≡ b → ClosesAnywhere r0 r1 (binary Eq a b)
-closes_same r0 r1 a b e h = record { more = Same ∷ []; same = e; derives = λ table hyps t w. derives_same table hyps a b (same-if a b h) }
+closes_same r0 r1 a b e h = record { more = Same ∷ []; same = e; derives = λ table hyps t w. derives_same table hyps a b (same-if a b h); bare = (tt, tt) }
 
 pub closes_typing : (r0 r1 r2 : List Rule) (a n : Formula) (path : Vec ℕ) → r1 ≡ r0 ++ TypeOf (Goal path) ∷ [] → r2 ≡ r1 ++ True ∷ [] → path.items ≡ [] → has_all n ≡ true → ClosesAnywhere r0 r2 (binary In a n)
 closes_typing r0 r1 r2 a n path e f whole all = record {
   more = TypeOf (Goal path) ∷ True ∷ [];
   same = f ∙ ap (λ rs. rs ++ True ∷ []) e ∙ append_assoc r0 (TypeOf (Goal path) ∷ []) (True ∷ []);
   derives = λ table hyps t w. derives_typing table hyps a n path whole all t (w.0, record { nodes = omega arith; height = omega arith });
+  bare = (whole, (tt, tt));
 }
 
 pub closes_decided : (r0 r1 : List Rule) (goal : Formula) → r1 ≡ r0 ++ Eval None ∷ [] → decided goal ≡ Some true → ClosesAnywhere r0 r1 goal
-closes_decided r0 r1 goal e h = record { more = Eval None ∷ []; same = e; derives = λ table hyps t w. derives_decided table hyps goal h }
+closes_decided r0 r1 goal e h = record { more = Eval None ∷ []; same = e; derives = λ table hyps t w. derives_decided table hyps goal h; bare = (tt, tt) }
 
 -- `btrue` is closed, too
 pub closes_true : (r0 r1 : List Rule) (s : Sequent) → s.1 ≡ btrue → r1 ≡ r0 ++ True ∷ [] → Closes r0 r1 s
-closes_true r0 r1 s is e = record { more = True ∷ []; same = e; derives = λ table t w. ([], record { made = ap (λ g. option_map (map (extended s)) (closed_if (is_same g btrue))) is; type = tt; within = tt }, refl) }
+closes_true r0 r1 s is e = record { more = True ∷ []; same = e; derives = λ table t w. ([], record { made = ap (λ g. option_map (map (extended s)) (closed_if (is_same g btrue))) is; type = tt; within = tt }, refl); bare = (tt, tt) }
 
 pub not_plain : (v : View) → ((o : BinOp) (a b : Bor Formula) → v ≡ Bin o a b → ⊥) → is_plain (shown v) ≡ true → ⊥
 not_plain (Bin o a b) n h = n o a b refl

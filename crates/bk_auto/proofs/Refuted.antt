@@ -124,6 +124,7 @@ closes_lin r0 r1 hyps goal numbers lines line e same one right = record {
   more = Lin numbers lines ∷ [];
   same = e;
   derives = λ table t w. derives table hyps goal numbers lines same (ap (is_accepted (comparisons hyps) goal) one ∙ right);
+  bare = ((line, one, comparisons hyps, goal, ap (is_accepted (comparisons hyps) goal) one ∙ right), tt);
 }
 
 -- what the elimination answers

@@ -20,9 +20,10 @@ use Rattle.bk_kernel.specs.Obvious.{is_obvious}
 use Rattle.bk_kernel.specs.Derivations.{Derives}
 use Rattle.bk_auto.specs.Easy.{IsEasy, supposed}
 use Rattle.bk_auto.specs.NewVariables.{HasNew}
+use Rattle.bk_auto.specs.Named.{IsBare, Brings}
 use Rattle.bk_auto.specs.Found.{IsReady, IsHard, IsOrder, Adds, Settles, Orders, Closes, ClosesBoth, Told, TellsBoth, GrewBy, numbers_from, splits}
 use Rattle.bk_auto.proofs.Wider.{has_new-wider}
-use Rattle.bk_auto.proofs.Ready.{ready-left, ready-right, ready-supposed, ready-wider}
+use Rattle.bk_auto.proofs.Ready.{each-append, ready-left, ready-right, ready-supposed, ready-wider}
 use Rattle.bk_auto.proofs.Obvious.{closes_true}
 use Rattle.bk_auto.proofs.Tellings.{told_closed, told_both, told_supposed, told_fixed, ready_opened, hard_first, ordered, found, not_easy}
 
@@ -30,7 +31,7 @@ use Rattle.bk_auto.proofs.Tellings.{told_closed, told_both, told_supposed, told_
 hard_of : (b : Bool) (small large : Table) (r0 r1 : List Rule) (s : Sequent) → b ≡ false → Told b small large r0 r1 s → IsHard small s
 hard_of b small large r0 r1 s e h = subst (λ (x : Bool). Told x small large r0 r1 s) e h
 
-adds_of : (b : Bool) (small large : Table) (r0 r1 : List Rule) (s : Sequent) → b ≡ true → Told b small large r0 r1 s → Adds large r0 r1 s
+adds_of : (b : Bool) (small large : Table) (r0 r1 : List Rule) (s : Sequent) → b ≡ true → Told b small large r0 r1 s → Adds small large r0 r1 s
 adds_of b small large r0 r1 s e h = subst (λ (x : Bool). Told x small large r0 r1 s) e h
 
 -- ---- the answer of the search
@@ -38,7 +39,12 @@ pub not_found : (b : Bool) (small large : Table) (r0 r1 : List Rule) (s : Sequen
 not_found b small large r0 r1 s failed h = not_easy small s (hard_of b small large r0 r1 s failed h)
 
 pub found_rules : (b : Bool) (small large : Table) (r0 r1 : List Rule) (s : Sequent) → b ≡ true → r0 ≡ [] → IsWellFormed large → Told b small large r0 r1 s → Derives large r1 s
-found_rules b small large r0 r1 s passed none well h = found large r1 s well (subst (λ (rs : List Rule). Adds large rs r1 s) none (adds_of b small large r0 r1 s passed h))
+found_rules b small large r0 r1 s passed none well h = found small large r1 s well (subst (λ (rs : List Rule). Adds small large rs r1 s) none (adds_of b small large r0 r1 s passed h))
+
+pub found_names : (b : Bool) (small large : Table) (r0 r1 : List Rule) (s : Sequent) → b ≡ true → r0 ≡ [] → Told b small large r0 r1 s → Brings small large s.1 r1
+found_names b small large r0 r1 s passed none h =
+    let a : Adds small large [] r1 s = subst (λ (rs : List Rule). Adds small large rs r1 s) none (adds_of b small large r0 r1 s passed h) in
+    subst (λ (rs : List Rule). Brings small large s.1 rs) (sym a.same) a.brings
 
 -- ---- goals that are read by arithmetic
 pub reads_false : (goal : Formula) → bfalse ≡ goal → is_none (terms_of_goal goal) ≡ false
@@ -67,6 +73,7 @@ both_tell true r0 r1 r2 hyps p q c d = record {
   same = d.same ∙ ap (λ (rs : List Rule). rs ++ d.more) c.same ∙ append_assoc r0 c.more d.more;
   derives_first = c.derives;
   derives_second = d.derives;
+  bare = each-append IsBare c.more d.more c.bare d.bare;
 }
 both_tell false r0 r1 r2 hyps p q c d = λ n table k l. d table n l
 
@@ -74,7 +81,7 @@ pub second_tells : (a b : Bool) (r0 r1 r2 : List Rule) (hyps : List Formula) (p 
 second_tells a b r0 r1 r2 hyps p q s t passed e f c d = both_tell b r0 r1 r2 hyps p q (orders_as a true r0 r1 s (hyps, p) passed e c) (orders_as b b r1 r2 t (hyps, q) refl f d)
 
 -- ---- `btrue`
-pub true_told : (table : Table) (r0 r1 : List Rule) (hyps : List Formula) (goal : Formula) → btrue ≡ goal → IsReady table (hyps, goal) → r1 ≡ r0 ++ True ∷ [] → Adds table r0 r1 (hyps, goal)
+pub true_told : (table : Table) (r0 r1 : List Rule) (hyps : List Formula) (goal : Formula) → btrue ≡ goal → IsReady table (hyps, goal) → r1 ≡ r0 ++ True ∷ [] → Adds table table r0 r1 (hyps, goal)
 true_told table r0 r1 hyps goal e ready rule = told_closed table r0 r1 (hyps, goal) ready (closes_true r0 r1 (hyps, goal) (sym e) rule)
 
 -- ---- a conjunction
@@ -97,8 +104,8 @@ module _ (t0 : Table) (r0 ra : List Rule) (hyps : List Formula) (goal p q : Form
 
   pub both_told : (a b : Bool) (t1 t2 : Table) (r1 r2 : List Rule) (s t : Sequent) → a ≡ true → ra ≡ r0 ++ And ∷ [] → s ≡ (hyps, p) → t ≡ (hyps, q) → HasNew t0 t1 → HasNew t1 t2 → Told a t0 t1 ra r1 s → Told b t1 t2 r1 r2 t → Told b t0 t2 r0 r2 (hyps, goal)
   both_told a b t1 t2 r1 r2 s t passed rule es et n m f g =
-      let first : Adds t1 (r0 ++ And ∷ []) r1 (hyps, p) =
-      subst (λ (rs : List Rule). Adds t1 rs r1 (hyps, p)) rule (subst (λ (x : Sequent). Adds t1 ra r1 x) es (adds_of a t0 t1 ra r1 s passed f)) in
+      let first : Adds t0 t1 (r0 ++ And ∷ []) r1 (hyps, p) =
+      subst (λ (rs : List Rule). Adds t0 t1 rs r1 (hyps, p)) rule (subst (λ (x : Sequent). Adds t0 t1 ra r1 x) es (adds_of a t0 t1 ra r1 s passed f)) in
       let second : Told b t1 t2 r1 r2 (hyps, q) = subst (λ (x : Sequent). Told b t1 t2 r1 r2 x) et g in
       subst (λ (x : Formula). Told b t0 t2 r0 r2 (hyps, x)) (sym is)
       (told_both b t0 t1 t2 r0 r1 r2 hyps p q conjunction not_obvious (has_new-wider t0 t1 n) (has_new-wider t1 t2 m) first second)

@@ -1,5 +1,5 @@
 -- What an answer says of a sequent, from what the answers for simpler ones say.
-use Rattle.std.proofs.Common.{◌≡◌, inl, inr, ℕ, zero, suc, ◌+◌, ◌<◌, ◌≤◌, max, List, [], ◌∷◌, ◌++◌, length, length-append, map, refl, sym, ◌∙◌, ap, subst, Bool, true, false, not, ◌&&◌, ◌||◌, arith, All}
+use Rattle.std.proofs.Common.{◌≡◌, ◌⊎◌, inl, inr, ℕ, zero, suc, ◌+◌, ◌<◌, ◌≤◌, max, List, [], ◌∷◌, ◌++◌, length, length-append, map, refl, sym, ◌∙◌, ap, subst, Bool, true, false, not, ◌&&◌, ◌||◌, arith, All}
 use Rattle.std.proofs.lemmas.List.{append-nil, append_assoc}
 use Rattle.std.specs.Prelude.{Some, None, slice_get}
 use Rattle.std.specs.Global.{Vec}
@@ -48,13 +48,16 @@ use Rattle.bk_auto.proofs.Wider.{wider-refl, wider-trans, number-wider, easy_wid
 use Rattle.bk_auto.proofs.Ready.{each-map, each-all, ready-types, ready-wider, ready-within, ready-left, ready-right, ready-more, short-within, IsFine, and-sides, imp-sides, parts-fine, goal-fine, with_more}
 use Rattle.bk_auto.proofs.Opened.{size_opened, height_opened}
 use Rattle.bk_auto.proofs.Fresh.{fresh}
+use Rattle.bk_auto.specs.Named.{IsPart}
+use Rattle.bk_auto.proofs.Brought.{splits_bare, brings_bare, brings_both, brings_behind, brings_fixed, brings_law}
 
 -- ---- one goal, without simpler ones
-pub told_closed : (table : Table) (r0 r1 : List Rule) (s : Sequent) → IsReady table s → Closes r0 r1 s → Adds table r0 r1 s
+pub told_closed : (table : Table) (r0 r1 : List Rule) (s : Sequent) → IsReady table s → Closes r0 r1 s → Adds table table r0 r1 s
 told_closed table r0 r1 s ready c = record {
   more = c.more;
   same = c.same;
   derives = λ wide ok w. c.derives wide (ready-types table wide s ready w) (ready-within table s ready);
+  brings = brings_bare table s.1 c.more c.bare;
 }
 
 settled : (b : Bool) (table : Table) (r0 r1 : List Rule) (s : Sequent) → IsReady table s → ((AreContradictory (terms_read s.0 s.1) → ⊥) → IsHard table s) → Settles b r0 r1 s → Told b table table r0 r1 s
@@ -87,7 +90,7 @@ one_after r0 r1 r2 rule first second e f =
 pub hard_first : (table : Table) (hyps : List Formula) (p q : Formula) → is_obvious hyps (binary Conjunction p q) ≡ false → IsHard table (hyps, p) → IsHard table (hyps, binary Conjunction p q)
 hard_first table hyps p q unclosed h n e = let k = easy_both n table hyps p q unclosed e in h k.0 k.1
 
-pub told_both : (b : Bool) (t0 t1 t2 : Table) (r0 r1 r2 : List Rule) (hyps : List Formula) (p q : Formula) → IsReady t0 (hyps, binary Conjunction p q) → is_obvious hyps (binary Conjunction p q) ≡ false → IsWider t0 t1 → IsWider t1 t2 → Adds t1 (r0 ++ And ∷ []) r1 (hyps, p) → Told b t1 t2 r1 r2 (hyps, q) → Told b t0 t2 r0 r2 (hyps, binary Conjunction p q)
+pub told_both : (b : Bool) (t0 t1 t2 : Table) (r0 r1 r2 : List Rule) (hyps : List Formula) (p q : Formula) → IsReady t0 (hyps, binary Conjunction p q) → is_obvious hyps (binary Conjunction p q) ≡ false → IsWider t0 t1 → IsWider t1 t2 → Adds t0 t1 (r0 ++ And ∷ []) r1 (hyps, p) → Told b t1 t2 r1 r2 (hyps, q) → Told b t0 t2 r0 r2 (hyps, binary Conjunction p q)
 told_both true t0 t1 t2 r0 r1 r2 hyps p q ready unclosed w v f s = record {
   more = And ∷ (f.more ++ s.more);
   same = one_after r0 r1 r2 And f.more s.more f.same s.same;
@@ -96,6 +99,7 @@ told_both true t0 t1 t2 r0 r1 r2 hyps p q ready unclosed w v f s = record {
       derives_both wide hyps p q f.more s.more (ready-types t0 wide (hyps, p) (ready-left t0 hyps p q ready) to) (ready-types t0 wide (hyps, q) (ready-right t0 hyps p q ready) to)
       (ready-within t0 (hyps, p) (ready-left t0 hyps p q ready)) (ready-within t0 (hyps, q) (ready-right t0 hyps p q ready))
       (f.derives wide ok (wider-trans t1 t2 wide v u)) (s.derives wide ok u));
+  brings = brings_both t0 t1 t2 Conjunction p q And f.more s.more tt v f.brings s.brings;
 }
 told_both false t0 t1 t2 r0 r1 r2 hyps p q ready unclosed w v f s = λ n e. let k = easy_both n t0 hyps p q unclosed e in s k.0 (easy_wider t0 t1 ready.well w k.0 hyps q k.2)
 
@@ -140,6 +144,7 @@ told_supposed true t0 t2 r0 r1 r2 hyps p q ready unclosed w e s = record {
   more = Imp ∷ (splits (length hyps) (suc (length hyps)) p ++ s.more);
   same = s.same ∙ ap (λ rs. rs ++ s.more) e ∙ append_assoc r0 (Imp ∷ splits (length hyps) (suc (length hyps)) p) s.more;
   derives = λ wide ok u. suppose wide (ready-wider t0 wide (hyps, binary Implication p q) ready ok (wider-trans t0 t2 wide w u)) (s.derives wide ok u);
+  brings = brings_behind t0 t2 Implication p q (Imp ∷ splits (length hyps) (suc (length hyps)) p) s.more (tt, splits_bare p (length hyps) (suc (length hyps))) s.brings;
 }
   where
     suppose : (wide : Table) → IsReady wide (hyps, binary Implication p q) → Derives wide s.more (supposed hyps p, q) → Derives wide (Imp ∷ (splits (length hyps) (suc (length hyps)) p ++ s.more)) (hyps, binary Implication p q)
@@ -158,11 +163,14 @@ module _ (t0 t1 : Table) (hyps : List Formula) (ts : List ValueType) (body : For
   fresh_over : (wide : Table) → IsWider t1 wide → are_fresh wide (hyps, for_all ts body) ts ns.items ≡ true
   fresh_over wide w = fresh t0 t1 wide (hyps, for_all ts body) ts ns.items ready.types grew w are
 
+  given_over : (wide : Table) → IsWider t1 wide → give_each wide ts (names_of ns.items) ≡ true
+  given_over wide w =
+      (and-both (give_each wide ts (names_of ns.items)) (are_distinct ns.items) (and-both (give_each wide ts (names_of ns.items) && are_distinct ns.items) (list_all (is_new (for_all ts body ∷ hyps)) ns.items) (fresh_over wide w)).0).0
+
   pub ready_opened : IsWellFormed t1 → IsWider t0 t1 → IsReady t1 (hyps, opened (names_of ns.items) body)
   ready_opened well w =
       let types : Types t1 (hyps, for_all ts body) = ready-types t0 t1 (hyps, for_all ts body) ready w in
-      let given : give_each t1 ts (names_of ns.items) ≡ true =
-      (and-both (give_each t1 ts (names_of ns.items)) (are_distinct ns.items) (and-both (give_each t1 ts (names_of ns.items) && are_distinct ns.items) (list_all (is_new (for_all ts body ∷ hyps)) ns.items) (fresh_over t1 (wider-refl t1))).0).0 in
+      let given : give_each t1 ts (names_of ns.items) ≡ true = given_over t1 (wider-refl t1) in
       let inner = if_holds-predicate (all_listed t1 ts) (if_predicate predicate (role t1 (bind ts []) body)) types.1 in
       let is_body : role t1 (bind ts []) body ≡ predicate = (if_predicate-predicate predicate (role t1 (bind ts []) body) inner.1).0 in
       record {
@@ -183,6 +191,7 @@ module _ (t0 t1 : Table) (hyps : List Formula) (ts : List ValueType) (body : For
         (let to : IsWider t1 wide = wider-trans t1 t2 wide v u in
         let next : IsReady t1 (hyps, opened (names_of ns.items) body) = ready_opened well w in
         derives_fixed wide hyps ts body ns s.more (fresh_over wide to) (ready-types t1 wide (hyps, opened (names_of ns.items) body) next to) (ready-within t1 (hyps, opened (names_of ns.items) body) next) (s.derives wide ok u));
+    brings = brings_fixed t0 t1 t2 ts body ns s.more grew are given_over v s.brings;
   }
   told_fixed false t2 r0 r1 r2 unclosed well w v e s = λ n k. let m = easy_opened n t0 t1 hyps ts body ns.items unclosed w (fresh_over t1 (wider-refl t1)) k in s m.0 m.1
 
@@ -235,8 +244,8 @@ law_then_both : (r0 r1 r2 : List Rule) (law : Rule) (first second : List Rule) �
 law_then_both r0 r1 r2 law first second e f =
     f ∙ append_assoc r1 (And ∷ []) (first ++ second) ∙ ap (λ rs. rs ++ And ∷ (first ++ second)) e ∙ append_assoc r0 (law ∷ []) (And ∷ (first ++ second))
 
-two_orders : (table : Table) (r0 r1 r2 : List Rule) (hyps : List Formula) (old p q : Formula) (law : ℕ) (picks : List Formula) → law_instance law picks ≡ Some (record { sides = []; left = old; right = binary Conjunction p q }) → IsReady table (hyps, old) → ((wide : Table) → IsPredicate wide old → Each (IsPredicate wide) hyps → IsWider table wide → AreOrders wide hyps p q) → IsLawOfGoal r0 r1 law picks → ClosesBoth (r1 ++ And ∷ []) r2 hyps p q → Adds table r0 r2 (hyps, old)
-two_orders table r0 r1 r2 hyps old p q law picks is ready orders l c = record {
+two_orders : (table : Table) (r0 r1 r2 : List Rule) (hyps : List Formula) (old p q : Formula) (law : ℕ) (picks : List Formula) → law_instance law picks ≡ Some (record { sides = []; left = old; right = binary Conjunction p q }) → IsReady table (hyps, old) → (law ≡ 101) ⊎ (law ≡ 105) → ((wide : Table) (first : ℕ) → Each (IsPart wide first old) picks) → ((wide : Table) → IsPredicate wide old → Each (IsPredicate wide) hyps → IsWider table wide → AreOrders wide hyps p q) → IsLawOfGoal r0 r1 law picks → ClosesBoth (r1 ++ And ∷ []) r2 hyps p q → Adds table table r0 r2 (hyps, old)
+two_orders table r0 r1 r2 hyps old p q law picks is ready which parts orders l c = record {
   more = Law law l.terms (Goal l.path) ∷ And ∷ (c.first ++ c.second);
   same = law_then_both r0 r1 r2 (Law law l.terms (Goal l.path)) c.first c.second l.same c.same;
   derives = λ wide ok w.
@@ -244,6 +253,7 @@ two_orders table r0 r1 r2 hyps old p q law picks is ready orders l c = record {
       let o : AreOrders wide hyps p q = orders wide types.1 types.0 w in
       by_law wide hyps old p q law l.terms l.path c.first c.second l.whole (ap (law_instance law) l.are_picks ∙ is) types.1 o
       (c.derives_first wide (o.hyps_typed, o.p_typed) (o.hyps_within, o.p_within)) (c.derives_second wide (o.hyps_typed, o.q_typed) (o.hyps_within, o.q_within)));
+  brings = brings_law table old law l.terms l.path (And ∷ (c.first ++ c.second)) which (λ wide first. subst (λ (fs : List Formula). Each (IsPart wide first old) fs) (sym l.are_picks) (parts wide first)) l.whole (tt, c.bare);
 }
 
 -- the goal `a : l .. h`
@@ -263,7 +273,7 @@ within_orders table hyps a l h ready wide typed all w =
     }
 
 told_within_at : (b : Bool) (table : Table) (r0 r1 r2 : List Rule) (hyps : List Formula) (a l h : Formula) → IsReady table (hyps, binary In a (binary Range l h)) → is_obvious hyps (binary In a (binary Range l h)) ≡ false → IsLawOfGoal r0 r1 105 (a ∷ l ∷ h ∷ []) → TellsBoth b (r1 ++ And ∷ []) r2 hyps (binary Le l a) (binary Le a h) → Told b table table r0 r2 (hyps, binary In a (binary Range l h))
-told_within_at true table r0 r1 r2 hyps a l h ready unclosed law c = two_orders table r0 r1 r2 hyps (binary In a (binary Range l h)) (binary Le l a) (binary Le a h) 105 (a ∷ l ∷ h ∷ []) (within_is a l h) ready (within_orders table hyps a l h ready) law c
+told_within_at true table r0 r1 r2 hyps a l h ready unclosed law c = two_orders table r0 r1 r2 hyps (binary In a (binary Range l h)) (binary Le l a) (binary Le a h) 105 (a ∷ l ∷ h ∷ []) (within_is a l h) ready (inr refl) (λ wide first. ((2, inr (inl (inl refl))), ((3, inr (inr (inr (inl (inl refl))))), ((3, inr (inr (inr (inr (inl refl))))), tt)))) (within_orders table hyps a l h ready) law c
 told_within_at false table r0 r1 r2 hyps a l h ready unclosed law c = λ n e. let k = easy_within n table hyps a l h unclosed e in c k.0 table k.1 k.2
 
 pub told_within : (b : Bool) (table : Table) (r0 r1 r2 : List Rule) (hyps : List Formula) (a l h goal : Formula) → binary In a (binary Range l h) ≡ goal → IsReady table (hyps, goal) → is_obvious hyps goal ≡ false → IsLawOfGoal r0 r1 105 (a ∷ l ∷ h ∷ []) → TellsBoth b (r1 ++ And ∷ []) r2 hyps (binary Le l a) (binary Le a h) → Told b table table r0 r2 (hyps, goal)
@@ -290,7 +300,7 @@ equal_orders table hyps a b ready number wide typed all w =
     }
 
 told_equal_at : (b : Bool) (table : Table) (r0 r1 r2 : List Rule) (hyps : List Formula) (x y : Formula) → IsReady table (hyps, binary Eq x y) → is_obvious hyps (binary Eq x y) ≡ false → role table [] x ≡ gives int_type → IsLawOfGoal r0 r1 101 (x ∷ y ∷ []) → TellsBoth b (r1 ++ And ∷ []) r2 hyps (binary Le x y) (binary Le y x) → Told b table table r0 r2 (hyps, binary Eq x y)
-told_equal_at true table r0 r1 r2 hyps x y ready unclosed number law c = two_orders table r0 r1 r2 hyps (binary Eq x y) (binary Le x y) (binary Le y x) 101 (x ∷ y ∷ []) (equal_is x y) ready (equal_orders table hyps x y ready number) law c
+told_equal_at true table r0 r1 r2 hyps x y ready unclosed number law c = two_orders table r0 r1 r2 hyps (binary Eq x y) (binary Le x y) (binary Le y x) 101 (x ∷ y ∷ []) (equal_is x y) ready (inl refl) (λ wide first. ((2, inr (inl (inl refl))), ((2, inr (inr (inl refl))), tt))) (equal_orders table hyps x y ready number) law c
 told_equal_at false table r0 r1 r2 hyps x y ready unclosed number law c = λ n e. let k = easy_equal n table hyps x y unclosed e in c k.0 table k.2 k.3
 
 pub told_equal : (b : Bool) (table : Table) (r0 r1 r2 : List Rule) (hyps : List Formula) (x y goal : Formula) → binary Eq x y ≡ goal → IsReady table (hyps, goal) → is_obvious hyps goal ≡ false → role table [] x ≡ gives int_type → IsLawOfGoal r0 r1 101 (x ∷ y ∷ []) → TellsBoth b (r1 ++ And ∷ []) r2 hyps (binary Le x y) (binary Le y x) → Told b table table r0 r2 (hyps, goal)
@@ -335,8 +345,8 @@ hard_shape v table hyps goal e = subst (λ (g : Formula). is_obvious hyps g ≡ 
     (λ unclosed x y z n k. let j = easy_by_shape n table hyps (shown v) unclosed k in other-shape v table hyps j.0 x y z j.1)
 
 -- ---- the whole
-pub found : (table : Table) (rules : List Rule) (s : Sequent) → IsWellFormed table → Adds table [] rules s → Derives table rules s
-found table rules s well a = subst (λ (rs : List Rule). Derives table rs s) (sym a.same) (a.derives table well (wider-refl table))
+pub found : (small table : Table) (rules : List Rule) (s : Sequent) → IsWellFormed table → Adds small table [] rules s → Derives table rules s
+found small table rules s well a = subst (λ (rs : List Rule). Derives table rs s) (sym a.same) (a.derives table well (wider-refl table))
 
 pub not_easy : (table : Table) (s : Sequent) → IsHard table s → IsEasy table s → ⊥
 not_easy table s h e = h e.steps e.easy

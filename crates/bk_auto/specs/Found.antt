@@ -23,6 +23,8 @@ use Rattle.bk_kernel.specs.declared.rule.Place.TheVariants.{Goal}
 use Rattle.bk_kernel.specs.Derivations.{Derives}
 use Rattle.bk_auto.specs.Easy.{IsEasyIn, AreContradictory, terms_read, parts}
 use Rattle.bk_auto.specs.NewVariables.{AreNew}
+use Rattle.bk_auto.specs.Named.{IsBare, Brings}
+pub use Rattle.bk_auto.specs.Named.{numbers_from}
 
 -- ---- sequents
 -- no formula is so large that a step could pass a limit
@@ -42,28 +44,31 @@ abbrev pub IsHard : Table → Sequent → Type 0
 IsHard table s = (n : ℕ) → IsEasyIn n table s.0 s.1 → ⊥
 
 -- ---- rules that were added
--- they derive the sequent, over this table and over each wider one
-pub record Adds (table : Table) (before after : List Rule) (s : Sequent) : Type 0 where
+-- they derive the sequent, over the large table and over each wider one; and they bring its new variables
+pub record Adds (small large : Table) (before after : List Rule) (s : Sequent) : Type 0 where
   pub more : List Rule
   pub same : after ≡ before ++ more
-  pub derives : (wide : Table) → IsWellFormed wide → IsWider table wide → Derives wide more s
+  pub derives : (wide : Table) → IsWellFormed wide → IsWider large wide → Derives wide more s
+  pub brings : Brings small large s.1 more
 
 -- they derive the sequent over each table over which it types, where it is within the limits
 pub record Closes (before after : List Rule) (s : Sequent) : Type 0 where
   pub more : List Rule
   pub same : after ≡ before ++ more
   pub derives : (table : Table) → Types table s → IsWithin s → Derives table more s
+  pub bare : Each IsBare more
 
 -- they derive the goal so under any hypotheses
 pub record ClosesAnywhere (before after : List Rule) (goal : Formula) : Type 0 where
   pub more : List Rule
   pub same : after ≡ before ++ more
   pub derives : (table : Table) (hyps : List Formula) → Types table (hyps, goal) → IsWithin (hyps, goal) → Derives table more (hyps, goal)
+  pub bare : Each IsBare more
 
 -- ---- answers
 -- rules that derive the sequent over the large table were added, or the sequent is not easy over the small one
 abbrev pub Told : Bool → Table → Table → List Rule → List Rule → Sequent → Type 0
-Told true small large before after s = Adds large before after s
+Told true small large before after s = Adds small large before after s
 Told false small large before after s = IsHard small s
 
 -- the same of one goal, by arithmetic: the answer is the same over all tables
@@ -83,6 +88,7 @@ pub record ClosesBoth (before after : List Rule) (hyps : List Formula) (p q : Fo
   pub same : after ≡ before ++ (first ++ second)
   pub derives_first : (table : Table) → Types table (hyps, p) → IsWithin (hyps, p) → Derives table first (hyps, p)
   pub derives_second : (table : Table) → Types table (hyps, q) → IsWithin (hyps, q) → Derives table second (hyps, q)
+  pub bare : Each IsBare (first ++ second)
 
 -- what an answer says of both
 abbrev pub TellsBoth : Bool → List Rule → List Rule → List Formula → Formula → Formula → Type 0
@@ -133,11 +139,6 @@ pub record IsLawOfGoal (before after : List Rule) (law : ℕ) (picks : List Form
   pub whole : path.items ≡ []
 
 -- ---- new variables
--- so many numbers from this one on
-abbrev pub numbers_from : ℕ → ℕ → List ℕ
-numbers_from n zero = []
-numbers_from n (suc k) = n ∷ numbers_from (suc n) k
-
 -- the table grew by new variables of these types
 pub record GrewBy (small large : Table) (ts : List ValueType) : Type 0 where
   pub more : List VariableEntry

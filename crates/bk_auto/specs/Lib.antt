@@ -1,3 +1,4 @@
 pub mod Easy
 pub mod NewVariables
+pub mod Named
 pub mod Found

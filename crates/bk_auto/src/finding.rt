@@ -5,6 +5,7 @@ ghost use Rattle.bk_seq.specs.Sequents.{sequent_of, Types};
 ghost use Rattle.bk_kernel.specs.Derivations.{Derives};
 ghost use Rattle.bk_auto.specs.Easy.{IsEasy};
 ghost use Rattle.bk_auto.specs.NewVariables.{HasNew};
+ghost use Rattle.bk_auto.specs.Named.{Brings};
 ghost use Rattle.bk_auto.specs.Found.{IsShort};
 
 use crate::easy::easy;
@@ -20,7 +21,8 @@ const MOST_NODES: u64 = 90_000;
 
 const GREATEST_HEIGHT: u32 = 300;
 
-/// Rules that derive the sequent; None only where it is not easy. The rules may name variables that are added to the table.
+/// Rules that derive the sequent; None only where it is not easy. The rules bring the variables that are added to the table, each once
+/// and in order, and their terms are parts of the goal.
 pub fn find(
     alloc: Global,
     types: &mut VarTable,
@@ -30,6 +32,7 @@ pub fn find(
     ensures derives { IfOk result (λ o. IfSome o (λ rules. Derives types.new rules.items (sequent_of sequent.now))) }
     ensures none { result ≡ Ok None → IsEasy types.old (sequent_of sequent.now) → ⊥ }
     ensures new { HasNew types.old types.new }
+    ensures brings { IfOk result (λ o. IfSome o (λ rules. Brings types.old types.new sequent.now.goal rules.items)) }
 {
     if !is_short(&sequent.goal) {
         return Ok(None);

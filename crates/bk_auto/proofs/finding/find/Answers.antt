@@ -4,7 +4,7 @@ use Rattle.bk_seq.specs.Sequents.{sequent_of}
 use Rattle.bk_auto.specs.Found.{IsShort}
 use Rattle.bk_auto.proofs.Wider.{has_new-refl}
 use Rattle.bk_auto.proofs.Tellings.{large_goal, large_hyps, ready_from}
-use Rattle.bk_auto.proofs.Shapes.{not_found, found_rules}
+use Rattle.bk_auto.proofs.Shapes.{not_found, found_rules, found_names}
 use Rattle.bk_auto.proofs.finding.find.Goals as goal
 
 pub returns-then-not-is_short-clause-none : goal.returns-then-not-is_short-clause-none
@@ -38,3 +38,7 @@ returns-clause-derives c =
 
 pub returns-clause-new : goal.returns-clause-new
 returns-clause-new c = c.easy.ensures.new
+
+pub returns-clause-brings : goal.returns-clause-brings
+returns-clause-brings c =
+    found_names c.in_ok-easy.field-0 c.args.types.now c.easy.new.types c.new-rules.result.items c.easy.new.rules.items (sequent_of c.args.sequent.now) c.if-not-branch.false c.new-rules.ensures.items c.in_ok-easy.ensures.told

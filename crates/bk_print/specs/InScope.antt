@@ -1,0 +1,65 @@
+-- Obligations in whose scope the goal reads back: so do rules for it, and the new variables that they bring.
+use Rattle.std.specs.Prelude.{◌≡◌, ◌<◌, ◌^◌, ℕ, ℤ, pos, negsuc, List, ◌++◌, length, false}
+use Rattle.bk_form.specs.Each.{Each}
+use Rattle.bk_form.specs.Table.{Table, VariableEntry}
+use Rattle.bk_form.specs.declared.token.Token.{Token}
+use Rattle.bk_lex.specs.Lexis.{AreTokens}
+use Rattle.bk_lin.specs.declared.fact.Line.{Line}
+use Rattle.bk_lin.specs.declared.fact.Line.TheVariants.{Sum, Div}
+use Rattle.bk_seq.specs.Sequents.{Sequent}
+use Rattle.bk_kernel.specs.declared.rule.Rule.{Rule}
+use Rattle.bk_kernel.specs.Obvious.{is_obvious}
+use Rattle.bk_raw.specs.declared.script.NamePart.{NamePart}
+use Rattle.bk_raw.specs.Meaning.Names.{Names}
+use Rattle.bk_raw.specs.Meaning.ScopeReading.{names_in}
+use Rattle.bk_raw.specs.Trees.ScriptTree.{RawScript}
+use Rattle.bk_raw.specs.Grammar.ScriptSpelling.{SpellsScripts}
+use Rattle.bk_dev.specs.Development.{Development, int_max}
+use Rattle.bk_status.specs.States.{name_text}
+use Rattle.bk_print.specs.Written.{Part, a_number, a_place, a_certificate, Parts, none, one, two, parts_of}
+use Rattle.bk_print.specs.Readable.{HasSome, IsNumber, ReadsIn, PlaceReads, NamePartReads, outside, parameters}
+use Rattle.bk_print.specs.Laws.{IsWithinLimits}
+
+-- ---- numbers of rules
+-- it is a number of 128 bits
+abbrev pub IsNarrow : ℤ → Type 0
+IsNarrow (pos n) = n < 2 ^ 127
+IsNarrow (negsuc n) = n < 2 ^ 127
+
+abbrev pub MultipleFits : ℤ × ℕ → Type 0
+MultipleFits m = IsNarrow m.0 × IsNumber m.1
+
+abbrev pub LineFits : Line → Type 0
+LineFits (Sum ms) = Each MultipleFits ms.items
+LineFits (Div fact by) = IsNumber fact × IsNarrow by
+
+-- the numbers of hypotheses, children and facts have 32 bits, the multipliers 128
+abbrev pub PartFits : Part → Type 0
+PartFits (a_number n) = IsNumber n
+PartFits (a_place place) = PlaceReads place
+PartFits (a_certificate ks ls) = Each IsNumber ks × Each LineFits ls
+PartFits _ = Unit {0}
+
+abbrev pub PartsFit : Parts → Type 0
+PartsFit none = Unit {0}
+PartsFit (one p) = PartFits p
+PartsFit (two p q) = PartFits p × PartFits q
+
+abbrev pub RuleFits : Rule → Type 0
+RuleFits r = PartsFit (parts_of r)
+
+-- ---- scopes
+-- the names in scope of a script with this name, without any that it brings
+abbrev pub own_names : Development → List NamePart → Names
+own_names dev name = names_in dev.table (record { max = int_max dev; names = outside dev name ++ parameters dev name })
+
+-- an obligation with a name that can be written, which is not obvious, and whose goal types, binds and reads back in its scope: each
+-- text in it names there what it stands for; over a table that is not full
+pub record IsReadInScope (dev : Development) (o : List ℕ × Sequent) : Type 0 where
+  pub name : List NamePart
+  pub named : o.0 ≡ name_text name
+  pub some_part : HasSome name
+  pub parts : Each NamePartReads name
+  pub goal : ReadsIn dev.table (own_names dev name) o.1.1
+  pub room : length dev.table.variables < 2 ^ 32
+  pub not_obvious : is_obvious o.1.0 o.1.1 ≡ false
