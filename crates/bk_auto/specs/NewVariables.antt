@@ -1,5 +1,5 @@
 -- Tables with new variables.
-use Rattle.std.specs.Prelude.{◌≡◌, ℕ, List, [], ◌∷◌, ◌++◌, map, decimal}
+use Rattle.std.specs.Prelude.{◌≡◌, ◌<◌, ◌^◌, ℕ, List, [], ◌∷◌, ◌++◌, map, decimal}
 use Rattle.std.specs.List.{Contains, flat_map}
 use Rattle.bk_form.specs.Table.{Table, VariableEntry, with_variable}
 
@@ -7,9 +7,10 @@ use Rattle.bk_form.specs.Table.{Table, VariableEntry, with_variable}
 abbrev pub texts_of : Table → List (List ℕ)
 texts_of t = flat_map (λ s. s.name ∷ s.elements) t.sets ++ map (λ v. v.text) t.variables
 
--- `v` and a number, and none of these texts
+-- `v` and a number of 64 bits, and none of these texts
 pub record IsNewText (texts : List (List ℕ)) (text : List ℕ) : Type 0 where
   pub number : ℕ
+  pub narrow : number < 2 ^ 64
   pub is : text ≡ 118 ∷ decimal number
   pub apart : Contains texts text → ⊥
 

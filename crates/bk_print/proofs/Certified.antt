@@ -1,9 +1,11 @@
 -- A certificate of one line that is accepted can be written.
-use Rattle.std.proofs.Common.{◌≡◌, ℕ, suc, ◌+◌, ◌-◌, ◌<◌, ◌^◌, Bool, true, false, cond, ◌&&◌, List, [], ◌∷◌, ◌++◌, length, refl, ap, sym, ◌∙◌, subst, arith, Option, Some, None}
+use Rattle.std.proofs.Common.{◌≡◌, ℕ, suc, ◌+◌, ◌-◌, ◌<◌, ◌^◌, Bool, true, false, cond, ◌&&◌, List, [], ◌∷◌, ◌++◌, length, refl, ap, sym, ◌∙◌, subst, arith, Option, Some, None, All}
 use Rattle.std.specs.Prelude.{ℤ, pos, negsuc, int_le, int_lt, is_none, slice_index_or, nat_lt}
 use Rattle.std.specs.List.{list_all, list_any}
+use Rattle.std.specs.Ordering.{int_eq}
 use Rattle.std.specs.Option.{option_or, option_map, some_prefix}
 use Rattle.std.proofs.lemmas.Bool.{and_parts}
+use Rattle.std.proofs.lemmas.List.Elements.{All-head}
 use Rattle.bk_form.specs.Each.{Each}
 use Rattle.bk_form.specs.Formula.{Formula}
 use Rattle.bk_lin.specs.declared.fact.Line.{Line}
@@ -11,7 +13,7 @@ use Rattle.bk_lin.specs.declared.fact.Line.TheVariants.{Sum, Div}
 use Rattle.bk_lin.specs.declared.fact.CertFault.{CertFault}
 use Rattle.bk_lin.specs.declared.fact.CertFault.TheVariants.{NotClosed}
 use Rattle.bk_lin.specs.Inequality.{Inequality, zero_of}
-use Rattle.bk_lin.specs.Certificate.{fact_at, line_fact, line_fault, facts_after}
+use Rattle.bk_lin.specs.Certificate.{fact_at, sum_fact, line_fact, line_fault, facts_after}
 use Rattle.bk_lin.specs.Answer.{first_fault, is_contradiction, is_closed, certificate_fault}
 use Rattle.bk_lin.proofs.Sound.{passed}
 use Rattle.bk_arith.specs.declared.error.ArithFault.{ArithFault}
@@ -19,6 +21,7 @@ use Rattle.bk_arith.specs.declared.error.ArithFault.TheVariants.{NotLinear, TooW
 use Rattle.bk_arith.specs.Decision.{first_unread, terms_of, readings, fault_of_terms, linear_fault, is_accepted}
 use Rattle.bk_arith.specs.Reading.{atoms_of}
 use Rattle.bk_auto.specs.Named.{IsCertificate}
+use Rattle.bk_auto.proofs.Ready.{each-all}
 use Rattle.bk_show.specs.Readable.{IsSmall}
 use Rattle.bk_print.specs.Readable.{HasSome, IsNumber, MultipleReads, LineReads}
 use Rattle.bk_print.specs.InScope.{IsNarrow, MultipleFits, LineFits}
@@ -98,22 +101,23 @@ not-empty width facts [] line e h =
     let it : fact_at (facts ++ line_fact width facts line ∷ []) (length facts + 1) ≡ zero_of width =
     ap (λ n. slice_index_or (facts ++ line_fact width facts line ∷ []) n (zero_of 0)) last ∙ (last-at facts (line_fact width facts line) (zero_of 0) ∙ e refl) in
     let z : is_contradiction (zero_of width) ≡ true = ap is_contradiction (sym it) ∙ contradicts in
-    let negative : int_lt (pos 0) (pos 0) ≡ true = (and_parts (list_all (λ c. Rattle.std.specs.Ordering.int_eq c (pos 0)) (zero_of width).coefs) (int_lt (pos 0) (pos 0)) z).1 in
+    let negative : int_lt (pos 0) (pos 0) ≡ true = (and_parts (list_all (λ c. int_eq c (pos 0)) (zero_of width).coefs) (int_lt (pos 0) (pos 0)) z).1 in
     absurd (cc)
 
 -- ---- the line
 line-reads : (line : Line) → IsRightLine line → LineFits line → LineReads line
-line-reads (Sum ms) r f =
-    (not-empty r.width r.facts ms.items (Sum ms) (λ e. ap (λ ps. Rattle.bk_lin.specs.Certificate.sum_fact r.width r.facts ps) e) r.closes,
-    multiples-read ms.items (passed _ _ _ _ _ _ r.no_fault).1 f)
+line-reads (Sum ms) r f = (
+  not-empty r.width r.facts ms.items (Sum ms) (λ e. ap (λ ps. sum_fact r.width r.facts ps) e) r.closes,
+  multiples-read ms.items (passed _ _ _ _ _ _ r.no_fault).1 (each-all MultipleFits ms.items f),
+)
 line-reads (Div fact by) r f = (f.0, divisor by (passed _ _ _ _ _ _ r.no_fault).1 f.1)
   where
     divisor : (z : ℤ) → int_le (pos 1) z ≡ true → IsNarrow z → (g : ℕ) × (z ≡ pos g) × (g < 2 ^ 127)
     divisor (pos n) h k = (n, refl, k)
     divisor (negsuc n) h k = absurd (cc)
 
-pub certificate-reads : (lines : List Line) → IsCertificate lines → Each LineFits lines → HasSome lines × Each LineReads lines
+pub certificate-reads : (lines : List Line) → IsCertificate lines → All LineFits lines → HasSome lines × Each LineReads lines
 certificate-reads lines h f =
-    let fits : Each LineFits (h.0 ∷ []) = subst (Each LineFits) h.1 f in
+    let fits : All LineFits (h.0 ∷ []) = subst (All LineFits) h.1 f in
     let right : IsRightLine h.0 = right-line h.0 h.2 h.3 (ap (is_accepted h.2 h.3) (sym h.1) ∙ h.4) in
-    subst (λ (ls : List Line). HasSome ls × Each LineReads ls) (sym h.1) (tt, (line-reads h.0 right fits.0, tt))
+    subst (λ (ls : List Line). HasSome ls × Each LineReads ls) (sym h.1) (tt, (line-reads h.0 right (All-head LineFits h.0 [] fits), tt))

@@ -1,6 +1,6 @@
 -- Rules that are found for a goal that reads back in its scope are written as a script that reads back.
-use Rattle.std.proofs.Common.{◌≡◌, ◌≢◌, inl, inr, ℕ, zero, suc, ◌+◌, ◌-◌, ◌<◌, ◌≤◌, ◌^◌, ◌⊎◌, Bool, true, false, ◌&&◌, List, [], ◌∷◌, ◌++◌, length, length-append, append_assoc, append-nil, map, refl, ap, sym, ◌∙◌, subst, arith, Option, Some, None}
-use Rattle.std.specs.Prelude.{slice_get, decimal, nat_le, nat_lt}
+use Rattle.std.proofs.Common.{◌≡◌, ◌≢◌, inl, inr, ℕ, zero, suc, ◌+◌, ◌-◌, ◌<◌, ◌≤◌, ◌^◌, ◌⊎◌, Bool, true, false, ◌&&◌, List, [], ◌∷◌, ◌++◌, length, length-append, append_assoc, append-nil, map, refl, ap, sym, ◌∙◌, subst, arith, Option, Some, None, All}
+use Rattle.std.specs.Prelude.{slice_get, decimal, nat_le, nat_lt, unwrap_or}
 use Rattle.std.specs.List.{Contains, flat_map, filter_map, list_all}
 use Rattle.std.specs.Option.{option_map}
 use Rattle.std.proofs.lemmas.Bool.{and_parts, and_from}
@@ -27,23 +27,23 @@ use Rattle.bk_seq.specs.Sequents.{Sequent}
 use Rattle.bk_dev.specs.Development.{Development, int_max}
 use Rattle.bk_auto.specs.NewVariables.{texts_of, AreNew}
 use Rattle.bk_auto.specs.Named.{numbers_from, brought_by, brought, IsPart, NamesParts, Brings}
-use Rattle.bk_auto.proofs.Ready.{each-append, each-map}
+use Rattle.bk_auto.proofs.Ready.{each-append, each-map, each-all}
 use Rattle.bk_scripts.specs.LawNames.{law_number}
 use Rattle.bk_scripts.specs.Sight.{entry, hiding, no_variable, level_of, operation_of, constants_to, variables_to, parameters_to, lower_sets, outer_scope, parameter_scope}
 use Rattle.bk_scripts.specs.Brought.{is_in_scope}
 use Rattle.bk_lex.specs.Lexis.{is_numeral}
 use Rattle.bk_show.proofs.Begun.{decimal-is, word-identifier, is_ascii_word}
-use Rattle.bk_show.specs.Shown.{name_of_variable, name_of_set, name_of_element}
+use Rattle.bk_show.specs.Shown.{or_empty, name_of_variable, name_of_set, name_of_element}
 use Rattle.bk_show.specs.Binders.{HasSomeType}
 use Rattle.bk_show.specs.Readable.{IsPlainName, IsPrintable, SetsAreNamed, AllSetsAreNamed, DomainIsNamed, IsReadable, AreReadable}
 use Rattle.bk_show.specs.Stands.{SetStands, TypeStands, TypesStand, DomainStands, Stands, EachStands}
 use Rattle.bk_print.specs.Written.{word_of, parts_of}
 use Rattle.bk_print.specs.Text.{law_name}
-use Rattle.bk_print.specs.Readable.{HasSome, ReadsIn, NameReads, RuleReads, names_of_parts, names_brought, with_new, numbered, AreApart, outside, parameters, scope_with, names_with, names_of_types, NamePartReads, ScriptReads}
+use Rattle.bk_print.specs.Readable.{HasSome, IsNumber, ReadsIn, NameReads, RuleReads, names_of_parts, names_brought, with_new, numbered, AreApart, outside, parameters, scope_with, names_with, names_of_types, NamePartReads, ScriptReads}
 use Rattle.bk_print.specs.InScope.{RuleFits, own_names, IsReadInScope}
 use Rattle.bk_print.proofs.ItemsLexed.{letter-number-plain}
 use Rattle.bk_print.proofs.PartsRead.{NewReads, given-then, part-reads}
-use Rattle.bk_print.proofs.ScopeFound.{scope-append, scope-same, found-past, others-apart, found-new, slice-past, new-apart, are-apart, new-at, IsOld, old-apart, variable-known, set-old, element-old, IsEntryOf, entries-known, entries-same, hidden-same, entries-apart}
+use Rattle.bk_print.proofs.ScopeFound.{scope-append, scope-same, found-past, others-apart, found-new, slice-past, text-more, new-apart, are-apart, new-at, IsOld, old-apart, variable-known, set-old, element-old, IsEntryOf, entries-known, entries-same, hidden-same, entries-apart}
 use Rattle.bk_print.proofs.Certified.{certificate-reads}
 
 -- ---- small things
@@ -145,8 +145,8 @@ module _ (dev : Development) (name : List NamePart) (new : List VariableEntry) (
       ap (λ ns. found 0 ns text) (behind-own table ps) ∙ found-past table ps own text (hidden-apart text new (old-apart table new fresh text old))
 
   -- ---- new variables
-  new-plain : (text : List ℕ) (n : ℕ) → text ≡ 118 ∷ decimal n → IsPlainName text
-  new-plain text n e = subst IsPlainName (sym e) (letter-number-plain 118 n refl)
+  new-plain : (text : List ℕ) (n : ℕ) → n < 2 ^ 64 → text ≡ 118 ∷ decimal n → IsPlainName text
+  new-plain text n l e = subst IsPlainName (sym e) (letter-number-plain 118 n refl (omega arith))
 
   new-found : (k : ℕ) (t : ValueType) (o : Option VariableEntry) → slice_get new k ≡ o → variable_type wide (first + k) ≡ Some t → NewReads wide names (first + k) t
   new-found k t None e h =
@@ -154,10 +154,10 @@ module _ (dev : Development) (name : List NamePart) (new : List VariableEntry) (
       absurd (cc)
   new-found k t (Some v) e h =
       let here : slice_get wide.variables (first + k) ≡ Some v = slice-past dev.table.variables new k ∙ e in
-      let text : v.text ≡ name_of_variable wide (first + k) = sym (ap (λ o. Rattle.bk_show.specs.Shown.or_empty (option_map (λ (x : VariableEntry). x.text) o)) here) in
+      let text : v.text ≡ name_of_variable wide (first + k) = sym (ap (λ o. or_empty (option_map (λ (x : VariableEntry). x.text) o)) here) in
       let is = new-at table new k v fresh e in
       record {
-        plain = subst IsPlainName text (new-plain v.text is.0 is.1);
+        plain = subst IsPlainName text (new-plain v.text is.0 is.1 is.2);
         named = subst (λ x. found 0 names x ≡ seen (variable (first + k)) t) text
             (ap (λ ns. found 0 ns v.text) names-are ∙ (found-new wide new first k v own (are-apart table new fresh) e ∙ ap (λ o. sight 0 (variable_meaning (first + k) o)) h));
       }
@@ -191,8 +191,8 @@ module _ (dev : Development) (name : List NamePart) (new : List VariableEntry) (
   variable-stands n None e h = λ t k. (news n t (none-past dev.table.variables n e) k).named
   variable-stands n (Some v) e h =
       let here : slice_get wide.variables n ≡ slice_get dev.table.variables n = get-wider dev.table.variables new n v e ∙ sym e in
-      let same : name_of_variable wide n ≡ name_of_variable table n = ap (λ o. Rattle.bk_show.specs.Shown.or_empty (option_map (λ (x : VariableEntry). x.text) o)) here in
-      let text : v.text ≡ name_of_variable table n = sym (ap (λ o. Rattle.bk_show.specs.Shown.or_empty (option_map (λ (x : VariableEntry). x.text) o)) e) in
+      let same : name_of_variable wide n ≡ name_of_variable table n = ap (λ o. or_empty (option_map (λ (x : VariableEntry). x.text) o)) here in
+      let text : v.text ≡ name_of_variable table n = sym (ap (λ o. or_empty (option_map (λ (x : VariableEntry). x.text) o)) e) in
       let old : IsOld table (name_of_variable table n) = inr (subst (Contains (texts_of table)) text (variable-known table n v e)) in
       λ t k. ap (found 0 names) same ∙ (found-old (name_of_variable table n) old ∙ h t (sym (ap (option_map (λ (x : VariableEntry). x.of_type)) here) ∙ k))
 
@@ -235,10 +235,10 @@ module _ (dev : Development) (name : List NamePart) (new : List VariableEntry) (
   past-readable n k (Some v) e at none h =
       let here : slice_get wide.variables n ≡ Some v = ap (slice_get wide.variables) (sym at) ∙ (slice-past dev.table.variables new k ∙ e) in
       let is = new-at table new k v fresh e in
-      inl (subst IsPlainName (sym (ap (λ o. Rattle.bk_show.specs.Shown.or_empty (option_map (λ (x : VariableEntry). x.text) o)) here)) (new-plain v.text is.0 is.1))
+      inl (subst IsPlainName (sym (ap (λ o. or_empty (option_map (λ (x : VariableEntry). x.text) o)) here)) (new-plain v.text is.0 is.1 is.2))
   past-readable n k None e at none h =
       let here : slice_get wide.variables n ≡ slice_get dev.table.variables n = ap (slice_get wide.variables) (sym at) ∙ (slice-past dev.table.variables new k ∙ (e ∙ sym none)) in
-      subst IsPrintable (sym (ap (λ o. Rattle.bk_show.specs.Shown.or_empty (option_map (λ (x : VariableEntry). x.text) o)) here)) h
+      subst IsPrintable (sym (ap (λ o. or_empty (option_map (λ (x : VariableEntry). x.text) o)) here)) h
 
   variable-readable : (n : ℕ) (o : Option VariableEntry) → slice_get dev.table.variables n ≡ o → IsPrintable (name_of_variable table n) → IsPrintable (name_of_variable wide n)
   variable-readable n None e h =
@@ -246,7 +246,7 @@ module _ (dev : Development) (name : List NamePart) (new : List VariableEntry) (
       past-readable n (n - first) (slice_get new (n - first)) refl (omega arith) e h
   variable-readable n (Some v) e h =
       let here : slice_get wide.variables n ≡ slice_get dev.table.variables n = get-wider dev.table.variables new n v e ∙ sym e in
-      subst IsPrintable (sym (ap (λ o. Rattle.bk_show.specs.Shown.or_empty (option_map (λ (x : VariableEntry). x.text) o)) here)) h
+      subst IsPrintable (sym (ap (λ o. or_empty (option_map (λ (x : VariableEntry). x.text) o)) here)) h
 
   mutual
     goal-readable : (f : Formula) (d : ℕ) → IsReadable table d f → IsReadable wide d f
@@ -288,11 +288,10 @@ module _ (dev : Development) (name : List NamePart) (new : List VariableEntry) (
         let is = news k t l typed in
         (record { of_type = t; has_type = typed; plain = is.plain; sets = a.0; named = is.named; stands = s.0 }, names-read ts (suc k) (omega arith) two.1 a.1 s.1)
 
-    some-name : (ts : List ValueType) (ns : List ℕ) → HasSomeType ts → ns ≡ numbers_from 0 (length ts) ⊎ (give_each wide ts (names_of ns) ≡ true) → HasSome ns
+    some-name : (ts : List ValueType) (ns : List ℕ) → HasSomeType ts → give_each wide ts (names_of ns) ≡ true → HasSome ns
     some-name [] ns h e = absurd h
     some-name (t ∷ ts) (n ∷ ns) h e = tt
-    some-name (t ∷ ts) [] h (inl e) = absurd (cc)
-    some-name (t ∷ ts) [] h (inr e) = absurd (cc)
+    some-name (t ∷ ts) [] h e = absurd (cc)
 
     fixed-names : (r : Rule) → NamesParts wide first goal r → Each (NameReads wide names) (brought_by r)
     fixed-names (Fix ns) h =
@@ -310,12 +309,14 @@ module _ (dev : Development) (name : List NamePart) (new : List VariableEntry) (
     rule-reads And h f = (tt, tt)
     rule-reads Imp h f = (tt, tt)
     rule-reads (Split i) h f = (tt, f)
-    rule-reads (TypeOf (Goal path)) h f = (tt, f)
-    rule-reads (Lin ks ls) h f = (tt, (f.0, certificate-reads ls.items h f.1))
-    rule-reads (Law law picks (Goal path)) h f = (tt, ((law-known law h.0, each-map (IsPart wide first goal) (ReadsIn wide names) picks.items part h.1), f.1))
+    rule-reads (TypeOf (Goal path)) h f = (tt, each-all IsNumber path.items f)
+    rule-reads (Lin ks ls) h f =
+        let lines = certificate-reads ls.items h f.1 in
+        (tt, (each-all IsNumber ks.items f.0, lines.0, lines.1))
+    rule-reads (Law law picks (Goal path)) h f = (tt, ((law-known law h.0, each-map (IsPart wide first goal) (ReadsIn wide names) picks.items part h.1), each-all IsNumber path.items f.1))
     rule-reads (Fix ns) h f =
         let p = part (for_all h.0 h.1) h.6 in
-        (tt, (some-name h.0 ns.items p.binds.0 (inr h.5), fixed-names (Fix ns) h))
+        (tt, (some-name h.0 ns.items p.binds.0 h.5, fixed-names (Fix ns) h))
     rule-reads _ h f = absurd h
 
     -- ---- the script
@@ -336,18 +337,20 @@ module _ (dev : Development) (name : List NamePart) (new : List VariableEntry) (
         let zero_at : length front ≡ length front + 0 = omega arith in
         let here : slice_get wide.variables (length front) ≡ Some v = ap (λ ws. slice_get ws (length front)) e ∙ (ap (slice_get (front ++ v ∷ vs)) zero_at ∙ slice-past front (v ∷ vs) 0) in
         let same : Some h.0.of_type ≡ Some v.of_type = sym h.0.has_type ∙ ap (option_map (λ (w : VariableEntry). w.of_type)) here in
-        let is : h.0.of_type ≡ v.of_type = ap (λ o. Rattle.std.specs.Prelude.unwrap_or o v.of_type) same in
-        let long : suc (length front) ≡ length (front ++ v ∷ []) = (let k = length-append front (v ∷ []) in omega arith) in
-        (type-read v.of_type (subst (TypeStands wide names) is h.0.stands),
-        types-read vs (front ++ v ∷ []) (e ∙ sym (append_assoc front (v ∷ []) vs)) (subst (λ n. Each (NameReads wide names) (numbers_from n (length vs))) long h.1))
+        let is : h.0.of_type ≡ v.of_type = ap (λ o. unwrap_or o v.of_type) same in
+        let long : suc (length front) ≡ length (front ++ v ∷ []) = (let k = length-append front (v ∷ []) in omega arith) in (
+          type-read v.of_type (subst (TypeStands wide names) is h.0.stands),
+          types-read vs (front ++ v ∷ []) (e ∙ sym (append_assoc front (v ∷ []) vs)) (subst (λ n. Each (NameReads wide names) (numbers_from n (length vs))) long h.1),
+        )
 
     unknown : (big : Table) (vs : List VariableEntry) → ((text : List ℕ) → Contains (texts_of table) text → Contains (texts_of big) text) → AreNew big vs → Each (λ v. is_in_scope (parameters dev name) v.text ≡ false) vs
     unknown big [] f h = tt
-    unknown big (v ∷ vs) f h =
-        (entries-apart table v.text (λ c. h.0.apart (f v.text c)) (parameters dev name) own-are,
-        unknown (with_variable big v) vs (λ text c. Rattle.bk_print.proofs.ScopeFound.text-more big v text (f text c)) h.1)
+    unknown big (v ∷ vs) f h = (
+      entries-apart table v.text (λ c. h.0.apart (f v.text c)) (parameters dev name) own-are,
+      unknown (with_variable big v) vs (λ text c. text-more big v text (f text c)) h.1,
+    )
 
-    pub script-reads : HasSome name → Each NamePartReads name → (rules : List Rule) → Brings table wide goal rules → Each RuleFits rules → ScriptReads dev name rules new
+    pub script-reads : HasSome name → Each NamePartReads name → (rules : List Rule) → Brings table wide goal rules → All RuleFits rules → ScriptReads dev name rules new
     script-reads some parts rules b fits =
         let named : Each (NamesParts wide first goal) rules = b.each first (omega arith) wide (record { sets = ([], sym (append-nil dev.table.sets)); variables = ([], sym (append-nil wide.variables)) }) in
         let long : length wide.variables ≡ first + length new = length-append dev.table.variables new in
@@ -357,7 +360,7 @@ module _ (dev : Development) (name : List NamePart) (new : List VariableEntry) (
           some_part = some;
           parts = parts;
           room = room;
-          rules_read = both-each (NamesParts wide first goal) RuleFits (RuleReads wide names) rule-reads rules named fits;
+          rules_read = both-each (NamesParts wide first goal) RuleFits (RuleReads wide names) rule-reads rules named (each-all RuleFits rules fits);
           brought = same-brought rules ∙ numbers;
           apart = are-apart table new fresh;
           no_parameters = unknown table new (λ text c. c) fresh;

@@ -165,13 +165,16 @@ no-word c (d ∷ ds) h = none-of (word_number (c ∷ d ∷ ds)) (λ op e.
     let yes : is_digit d ≡ true = (and_parts (is_digit d) (list_all is_digit ds) h).0 in
     absurd (cc))
 
+-- a letter and a number
+pub letter-number-plain : (c n : ℕ) → (is_ascii_alphabetic c && nat_le c 127) ≡ true → n < 2 ^ 127 → IsPlainName (c ∷ decimal n)
+letter-number-plain c n letter l =
+    let number : is_numeral (decimal n) ≡ true = (decimal-is n l).0 in
+    let two = and_parts (is_ascii_alphabetic c) (nat_le c 127) letter in
+    let word : is_ascii_word (c ∷ decimal n) ≡ true = and_from (is_ascii_alphabetic c) (nat_le c 127 && is_letters (decimal n)) two.0 (and_from (nat_le c 127) (is_letters (decimal n)) two.1 (digits-letters (decimal n) (numeral_all (decimal n) number))) in
+    (word-identifier (c ∷ decimal n) word, no-word c (decimal n) number)
+
 pub law-plain : (law : ℕ) → IsPlainName (law_name law)
-law-plain law =
-    let number : is_numeral (decimal (law % 100)) ≡ true = (decimal-is (law % 100) (omega arith)).0 in
-    let letter = letter-of (nat_lt law 100) (nat_lt law 200) (nat_lt law 300) in
-    let two = and_parts (is_ascii_alphabetic (series_letter law)) (nat_le (series_letter law) 127) letter in
-    let word : is_ascii_word (law_name law) ≡ true = and_from (is_ascii_alphabetic (series_letter law)) (nat_le (series_letter law) 127 && is_letters (decimal (law % 100))) two.0 (and_from (nat_le (series_letter law) 127) (is_letters (decimal (law % 100))) two.1 (digits-letters (decimal (law % 100)) (numeral_all (decimal (law % 100)) number))) in
-    (word-identifier (law_name law) word, no-word (series_letter law) (decimal (law % 100)) number)
+law-plain law = letter-number-plain (series_letter law) (law % 100) (letter-of (nat_lt law 100) (nat_lt law 200) (nat_lt law 300)) (omega arith)
 
 -- ---- certificates
 multiple-fine : (m : ℤ × ℕ) → MultipleReads m → Fine (multiple_items m)

@@ -9,3 +9,8 @@ mod Meant
 mod WithoutSequences
 mod Brought
 mod ReadBack
+mod PartsRead
+mod ScopeFound
+mod Certified
+mod FoundReads
+mod Unproved

@@ -83,7 +83,7 @@ slice-past [] ys k = let e : 0 + k ≡ k = omega arith in ap (slice_get ys) e
 slice-past (x ∷ xs) ys k = let e : suc (length xs) + k ≡ suc (length xs + k) = omega arith in ap (slice_get (x ∷ (xs ++ ys))) e ∙ slice-past xs ys k
 
 -- ---- new texts
-text-more : (table : Table) (v : VariableEntry) (text : List ℕ) → Contains (texts_of table) text → Contains (texts_of (with_variable table v)) text
+pub text-more : (table : Table) (v : VariableEntry) (text : List ℕ) → Contains (texts_of table) text → Contains (texts_of (with_variable table v)) text
 text-more table v text c =
     let sets = flat_map (λ (s : SetEntry). s.name ∷ s.elements) table.sets in
     let old = map (λ (x : VariableEntry). x.text) table.variables in
@@ -121,9 +121,9 @@ new-texts table [] h = tt
 new-texts table (v ∷ vs) h = (no-text v.text h.0.number h.0.is, new-texts (with_variable table v) vs h.1)
 
 -- each is `v` and a number
-pub new-at : (table : Table) (vs : List VariableEntry) (k : ℕ) (v : VariableEntry) → AreNew table vs → slice_get vs k ≡ Some v → (n : ℕ) × (v.text ≡ 118 ∷ decimal n)
+pub new-at : (table : Table) (vs : List VariableEntry) (k : ℕ) (v : VariableEntry) → AreNew table vs → slice_get vs k ≡ Some v → (n : ℕ) × (n < 2 ^ 64) × (v.text ≡ 118 ∷ decimal n)
 new-at table [] k v h e = absurd (cc)
-new-at table (w ∷ ws) zero v h e = let same : w ≡ v = ap (λ o. unwrap_or o w) e in (h.0.number, sym (ap (λ (x : VariableEntry). x.text) same) ∙ h.0.is)
+new-at table (w ∷ ws) zero v h e = let same : w ≡ v = ap (λ o. unwrap_or o w) e in (h.0.number, h.0.narrow, sym (ap (λ (x : VariableEntry). x.text) same) ∙ h.0.is)
 new-at table (w ∷ ws) (suc k) v h e = new-at (with_variable table w) ws k v h.1 e
 
 -- ---- old texts

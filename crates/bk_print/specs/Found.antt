@@ -19,6 +19,7 @@ use Rattle.bk_auto.specs.NewVariables.{HasNew}
 use Rattle.bk_print.specs.declared.outcome.Outcome.{Outcome}
 use Rattle.bk_print.specs.declared.outcome.Outcome.TheVariants.{Settled, Left, Script}
 use Rattle.bk_print.specs.Text.{script_text}
+use Rattle.bk_print.specs.InScope.{IsReadInScope, PassesLimit, IsFull}
 
 -- ---- scripts
 -- with this text as its only proof file the obligation is proved; of a development whose substitutions are flat
@@ -40,10 +41,13 @@ pub record IsScriptFor (dev : Development) (o : List ℕ × Sequent) (text : Lis
   pub found : IsTextOfProof dev o text
   pub proves : ProvesAlone dev o text
 
--- rules that derive the obligation say something else where they are read back: in its scope a name stands for another thing, or their
--- text passes a limit
-abbrev pub ReadsOtherwise : Development → List ℕ × Sequent → Type 0
-ReadsOtherwise dev o = (text : List ℕ) × IsTextOfProof dev o text × (ProvesAlone dev o text → ⊥)
+-- the text of rules that derive the obligation does not prove it. Where the obligation reads back in its scope, that is since the text
+-- passes a limit, or since the table is full
+pub record ReadsOtherwise (dev : Development) (o : List ℕ × Sequent) : Type 0 where
+  pub text : List ℕ
+  pub proof : IsTextOfProof dev o text
+  pub other : ProvesAlone dev o text → ⊥
+  pub limit : IsReadInScope dev o → PassesLimit text ⊎ IsFull proof.table
 
 -- an obligation is left where it is not easy, or where what is found for it reads otherwise
 abbrev pub IsLeft : Development → List ℕ × Sequent → Type 0

@@ -1,12 +1,14 @@
 -- Obligations in whose scope the goal reads back: so do rules for it, and the new variables that they bring.
-use Rattle.std.specs.Prelude.{◌≡◌, ◌<◌, ◌^◌, ℕ, ℤ, pos, negsuc, List, ◌++◌, length, false}
+use Rattle.std.specs.Prelude.{◌≡◌, ◌⊎◌, ◌<◌, ◌≤◌, ◌^◌, ℕ, ℤ, pos, negsuc, List, [], ◌∷◌, ◌++◌, length, false, All}
 use Rattle.bk_form.specs.Each.{Each}
-use Rattle.bk_form.specs.Table.{Table, VariableEntry}
+use Rattle.bk_form.specs.Table.{Table}
 use Rattle.bk_form.specs.declared.token.Token.{Token}
 use Rattle.bk_lex.specs.Lexis.{AreTokens}
 use Rattle.bk_lin.specs.declared.fact.Line.{Line}
 use Rattle.bk_lin.specs.declared.fact.Line.TheVariants.{Sum, Div}
 use Rattle.bk_seq.specs.Sequents.{Sequent}
+use Rattle.bk_kernel.specs.declared.rule.Place.{Place}
+use Rattle.bk_kernel.specs.declared.rule.Place.TheVariants.{Goal, Hyp as InHyp}
 use Rattle.bk_kernel.specs.declared.rule.Rule.{Rule}
 use Rattle.bk_kernel.specs.Obvious.{is_obvious}
 use Rattle.bk_raw.specs.declared.script.NamePart.{NamePart}
@@ -17,7 +19,7 @@ use Rattle.bk_raw.specs.Grammar.ScriptSpelling.{SpellsScripts}
 use Rattle.bk_dev.specs.Development.{Development, int_max}
 use Rattle.bk_status.specs.States.{name_text}
 use Rattle.bk_print.specs.Written.{Part, a_number, a_place, a_certificate, Parts, none, one, two, parts_of}
-use Rattle.bk_print.specs.Readable.{HasSome, IsNumber, ReadsIn, PlaceReads, NamePartReads, outside, parameters}
+use Rattle.bk_print.specs.Readable.{HasSome, IsNumber, ReadsIn, NamePartReads, outside, parameters}
 use Rattle.bk_print.specs.Laws.{IsWithinLimits}
 
 -- ---- numbers of rules
@@ -30,14 +32,18 @@ abbrev pub MultipleFits : ℤ × ℕ → Type 0
 MultipleFits m = IsNarrow m.0 × IsNumber m.1
 
 abbrev pub LineFits : Line → Type 0
-LineFits (Sum ms) = Each MultipleFits ms.items
+LineFits (Sum ms) = All MultipleFits ms.items
 LineFits (Div fact by) = IsNumber fact × IsNarrow by
+
+abbrev pub PlaceFits : Place → Type 0
+PlaceFits (Goal path) = All IsNumber path.items
+PlaceFits (InHyp i path) = IsNumber i × All IsNumber path.items
 
 -- the numbers of hypotheses, children and facts have 32 bits, the multipliers 128
 abbrev pub PartFits : Part → Type 0
 PartFits (a_number n) = IsNumber n
-PartFits (a_place place) = PlaceReads place
-PartFits (a_certificate ks ls) = Each IsNumber ks × Each LineFits ls
+PartFits (a_place place) = PlaceFits place
+PartFits (a_certificate ks ls) = All IsNumber ks × All LineFits ls
 PartFits _ = Unit {0}
 
 abbrev pub PartsFit : Parts → Type 0
@@ -63,3 +69,16 @@ pub record IsReadInScope (dev : Development) (o : List ℕ × Sequent) : Type 0 
   pub goal : ReadsIn dev.table (own_names dev name) o.1.1
   pub room : length dev.table.variables < 2 ^ 32
   pub not_obvious : is_obvious o.1.0 o.1.1 ≡ false
+
+-- ---- limits
+-- the text is cut and written as one script, but passes a limit of proof files
+pub record PassesLimit (text : List ℕ) : Type 0 where
+  pub tokens : List Token
+  pub script : RawScript
+  pub cut : AreTokens text tokens
+  pub spelled : SpellsScripts (script ∷ []) tokens
+  pub past : IsWithinLimits tokens script → ⊥
+
+-- no number of 32 bits is left for a name that stands for no variable
+abbrev pub IsFull : Table → Type 0
+IsFull table = 2 ^ 32 ≤ length table.variables

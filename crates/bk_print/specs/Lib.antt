@@ -1,6 +1,7 @@
 pub mod Written
 pub mod Held
 pub mod Text
-pub mod Found
 pub mod Readable
 pub mod Laws
+pub mod InScope
+pub mod Found

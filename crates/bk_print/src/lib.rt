@@ -2,6 +2,7 @@
 #![tactic(auto)]
 
 mod certificate;
+mod facts;
 mod law;
 pub mod laws;
 mod name;

@@ -12,6 +12,7 @@ ghost use Rattle.bk_status.specs.declared.state.State.TheVariants.{Proved};
 ghost use Rattle.bk_print.specs.Found as meant;
 ghost use Rattle.bk_print.specs.Found.{AreFound, IsFoundFor, IsLeft, IsScriptFor, ProvesAlone};
 
+use crate::facts::{are_in_range, is_formed};
 use crate::outcome::Outcome;
 use crate::printing::print;
 use bk_auto::find;
@@ -104,10 +105,12 @@ fn script_for(
     };
     let text = print(alloc, obligation.name.as_bytes(), &rules, &table)?;
     if proves(alloc, dev, types, obligation, &text)? {
-        Ok(Some(text))
-    } else {
-        Ok(None)
+        return Ok(Some(text));
     }
+    is_formed(types);
+    is_formed(&table);
+    are_in_range(&rules);
+    Ok(None)
 }
 
 // Whether the text, as the only proof file, proves the obligation.

@@ -1,0 +1,82 @@
+-- A text that does not prove its obligation, where this reads back in its scope.
+use Rattle.std.proofs.Common.{◌≡◌, ◌≢◌, inl, inr, ℕ, suc, ◌+◌, ◌<◌, ◌≤◌, ◌^◌, ◌⊎◌, true, cond, List, [], ◌∷◌, length, refl, ap, sym, ◌∙◌, subst, arith, All, Some, None}
+use Rattle.std.specs.List.{AllPairs}
+use Rattle.std.specs.Str.{bytes_eq}
+use Rattle.bk_form.specs.Table.{Table, IsWellFormed}
+use Rattle.bk_seq.specs.Sequents.{Sequent}
+use Rattle.bk_kernel.specs.declared.rule.Rule.{Rule}
+use Rattle.bk_kernel.specs.Derivations.{Derives}
+use Rattle.bk_raw.specs.declared.script.NamePart.{NamePart}
+use Rattle.bk_raw.specs.Trees.ScriptTree.{RawScript}
+use Rattle.bk_dev.specs.Development.{Development}
+use Rattle.bk_p_proof.specs.Files.{names_of}
+use Rattle.bk_status.specs.States.{name_text}
+use Rattle.bk_auto.specs.NewVariables.{HasNew}
+use Rattle.bk_auto.specs.Named.{Brings}
+use Rattle.bk_print.specs.Text.{script_text}
+use Rattle.bk_print.specs.Readable.{with_new, ScriptReads}
+use Rattle.bk_print.specs.Laws.{IsWithinLimits, ReadsBack}
+use Rattle.bk_print.specs.InScope.{RuleFits, IsReadInScope, PassesLimit, IsFull}
+use Rattle.bk_print.specs.Found.{ProvesAlone, IsTextOfProof, ReadsOtherwise}
+use Rattle.bk_print.proofs.ReadBack.{read-back}
+use Rattle.bk_print.proofs.ScopeFound.{alike}
+use Rattle.bk_print.proofs.FoundReads.{script-reads}
+
+one-distinct : (s : RawScript) → AllPairs (λ (a b : List NamePart). a ≢ b) (names_of (s ∷ []))
+one-distinct s i j d l m = absurd (omega arith)
+
+full-or-not : (table : Table) → (length table.variables < 2 ^ 32) ⊎ IsFull table
+full-or-not table = at (length table.variables)
+  where
+    at : (n : ℕ) → (n < 2 ^ 32) ⊎ (2 ^ 32 ≤ n)
+    at n = omega arith
+
+-- what is read back proves the obligation
+read-back-proves : (dev : Development) (o : List ℕ × Sequent) (s : IsReadInScope dev o) (rules : List Rule) (wide : Table) (text : List ℕ) (b : ReadsBack dev s.name rules wide text) → Derives wide rules o.1 → IsWithinLimits b.tokens b.script → ProvesAlone dev o text
+read-back-proves dev o s rules wide text b d w = record {
+  scripts = b.script ∷ [];
+  read = record { files = (b.script ∷ []) ∷ []; each = (b.read w, tt); joined = refl; distinct = one-distinct b.script };
+  proved = record {
+    not_obvious = s.not_obvious;
+    script = b.script;
+    named = ap (λ t. cond t (Some b.script) None) (ap (bytes_eq o.0) (ap name_text b.named ∙ sym s.named) ∙ alike o.0);
+    rules = rules;
+    table = wide;
+    grounded = b.grounded;
+    verdict_is = d;
+  };
+}
+
+-- rules that were found, and their text, which does not prove
+module _ (dev : Development) (o : List ℕ × Sequent) (table : Table) (rules : List Rule) (text : List ℕ) (well : IsWellFormed dev.table) (wide_well : IsWellFormed table) (n : HasNew dev.table table) (b : Brings dev.table table o.1.1 rules) (fits : All RuleFits rules) (d : Derives table rules o.1) (e : text ≡ script_text table o.0 rules) (no : ProvesAlone dev o text → ⊥) where
+  abbrev wide : Table
+  wide = with_new dev.table n.more
+
+  back : (s : IsReadInScope dev o) → length table.variables < 2 ^ 32 → ReadsBack dev s.name rules wide text
+  back s room =
+      let reads : ScriptReads dev s.name rules n.more =
+      script-reads dev s.name n.more n.new well (subst IsWellFormed n.made wide_well) (subst (λ (t : Table). length t.variables < 2 ^ 32) n.made room) o.1.1 s.goal s.some_part s.parts rules
+      (subst (λ (t : Table). Brings dev.table t o.1.1 rules) n.made b) fits in
+      let is : text ≡ script_text wide (name_text s.name) rules = e ∙ (ap (λ (t : Table). script_text t o.0 rules) n.made ∙ ap (λ (x : List ℕ). script_text wide x rules) s.named) in
+      subst (ReadsBack dev s.name rules wide) (sym is) (read-back dev s.name rules n.more reads)
+
+  passes : (s : IsReadInScope dev o) → ReadsBack dev s.name rules wide text → PassesLimit text
+  passes s r = record {
+    tokens = r.tokens;
+    script = r.script;
+    cut = r.cut;
+    spelled = r.spelled;
+    past = λ w. no (read-back-proves dev o s rules wide text r (subst (λ (t : Table). Derives t rules o.1) n.made d) w);
+  }
+
+  by-room : IsReadInScope dev o → (length table.variables < 2 ^ 32) ⊎ IsFull table → PassesLimit text ⊎ IsFull table
+  by-room s (inl room) = inl (passes s (back s room))
+  by-room s (inr full) = inr full
+
+  pub reads_otherwise : ReadsOtherwise dev o
+  reads_otherwise = record {
+    text = text;
+    proof = record { table = table; rules = rules; new = n; derives = d; written = e };
+    other = no;
+    limit = λ s. by-room s (full-or-not table);
+  }
