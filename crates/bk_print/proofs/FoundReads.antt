@@ -96,8 +96,8 @@ module _ (dev : Development) (name : List NamePart) (new : List VariableEntry) (
   abbrev names : Names
   names = names_with dev name new
 
-  abbrev sets : Names
-  sets = set_names 0 dev.table.sets
+  abbrev of_sets : Names
+  of_sets = set_names 0 dev.table.sets
 
   wider : IsWider table wide
   wider = record { sets = ([], sym (append-nil dev.table.sets)); variables = (new, refl) }
@@ -122,11 +122,11 @@ module _ (dev : Development) (name : List NamePart) (new : List VariableEntry) (
   types-same : Each SameType (outside dev name ++ parameters dev name)
   types-same = each-append SameType (outside dev name) (parameters dev name) (outer-same (level_of dev name)) (entries-same table new (parameters dev name) own-are)
 
-  behind-own : (t : Table) (ps : List (List ℕ × ℕ)) → scope_names t (outside dev name ++ (parameters dev name ++ ps)) sets ≡ scope_names t ps (scope_names t (outside dev name ++ parameters dev name) sets)
-  behind-own t ps = ap (λ qs. scope_names t qs sets) (sym (append_assoc (outside dev name) (parameters dev name) ps)) ∙ scope-append t (outside dev name ++ parameters dev name) ps sets
+  behind-own : (t : Table) (ps : List (List ℕ × ℕ)) → scope_names t (outside dev name ++ (parameters dev name ++ ps)) of_sets ≡ scope_names t ps (scope_names t (outside dev name ++ parameters dev name) of_sets)
+  behind-own t ps = ap (λ qs. scope_names t qs of_sets) (sym (append_assoc (outside dev name) (parameters dev name) ps)) ∙ scope-append t (outside dev name ++ parameters dev name) ps of_sets
 
   names-are : names ≡ scope_names wide (numbered first new) own
-  names-are = behind-own wide (numbered first new) ∙ ap (scope_names wide (numbered first new)) (scope-same table wide (outside dev name ++ parameters dev name) sets types-same)
+  names-are = behind-own wide (numbered first new) ∙ ap (scope_names wide (numbered first new)) (scope-same table wide (outside dev name ++ parameters dev name) of_sets types-same)
 
   found-old : (text : List ℕ) → IsOld table text → found 0 names text ≡ found 0 own text
   found-old text old = ap (λ ns. found 0 ns text) names-are ∙ found-past wide (numbered first new) own text (others-apart text first new (old-apart table new fresh text old))
@@ -135,13 +135,16 @@ module _ (dev : Development) (name : List NamePart) (new : List VariableEntry) (
   abbrev of_types : Names
   of_types = names_of_types dev name new
 
-  hidden-apart : (text : List ℕ) (vs : List VariableEntry) → Each (λ w. w.text ≢ text) vs → Each (λ p. p.0 ≢ text) (map (λ (v : VariableEntry). (v.text, no_variable)) vs)
+  abbrev hidden : List VariableEntry → List (List ℕ × ℕ)
+  hidden vs = map (λ v. (v.text, no_variable)) vs
+
+  hidden-apart : (text : List ℕ) (vs : List VariableEntry) → Each (λ (w : VariableEntry). w.text ≢ text) vs → Each (λ (p : List ℕ × ℕ). p.0 ≢ text) (hidden vs)
   hidden-apart text [] h = tt
   hidden-apart text (v ∷ vs) h = (h.0, hidden-apart text vs h.1)
 
   found-type : (text : List ℕ) → IsOld table text → found 0 of_types text ≡ found 0 own text
   found-type text old =
-      let ps = map (λ (v : VariableEntry). (v.text, no_variable)) new in
+      let ps : List (List ℕ × ℕ) = hidden new in
       ap (λ ns. found 0 ns text) (behind-own table ps) ∙ found-past table ps own text (hidden-apart text new (old-apart table new fresh text old))
 
   -- ---- new variables
@@ -352,7 +355,7 @@ module _ (dev : Development) (name : List NamePart) (new : List VariableEntry) (
 
     pub script-reads : HasSome name → Each NamePartReads name → (rules : List Rule) → Brings table wide goal rules → All RuleFits rules → ScriptReads dev name rules new
     script-reads some parts rules b fits =
-        let named : Each (NamesParts wide first goal) rules = b.each first (omega arith) wide (record { sets = ([], sym (append-nil dev.table.sets)); variables = ([], sym (append-nil wide.variables)) }) in
+        let namings : Each (NamesParts wide first goal) rules = b.each first (omega arith) wide (record { sets = ([], sym (append-nil dev.table.sets)); variables = ([], sym (append-nil wide.variables)) }) in
         let long : length wide.variables ≡ first + length new = length-append dev.table.variables new in
         let same : b.count ≡ length new = (let e = b.longer in omega arith) in
         let numbers : brought rules ≡ numbers_from first (length new) = b.brought_are ∙ ap (numbers_from first) same in
@@ -360,9 +363,9 @@ module _ (dev : Development) (name : List NamePart) (new : List VariableEntry) (
           some_part = some;
           parts = parts;
           room = room;
-          rules_read = both-each (NamesParts wide first goal) RuleFits (RuleReads wide names) rule-reads rules named (each-all RuleFits rules fits);
+          rules_read = both-each (NamesParts wide first goal) RuleFits (RuleReads wide names) rule-reads rules namings (each-all RuleFits rules fits);
           brought = same-brought rules ∙ numbers;
           apart = are-apart table new fresh;
           no_parameters = unknown table new (λ text c. c) fresh;
-          types = types-read new dev.table.variables refl (subst (Each (NameReads wide names)) numbers (each-flat (NameReads wide names) (NamesParts wide first goal) brought_by fixed-names rules named));
+          types = types-read new dev.table.variables refl (subst (Each (NameReads wide names)) numbers (each-flat (NameReads wide names) (NamesParts wide first goal) brought_by fixed-names rules namings));
         }

@@ -40,7 +40,7 @@ scope-append table [] qs around = refl
 scope-append table (p ∷ ps) qs around = scope-append table ps qs (named_at table p ∷ around)
 
 -- over another table in which their variables have the same types
-pub scope-same : (small large : Table) (ps : List (List ℕ × ℕ)) (around : Names) → Each (λ p. variable_type large p.1 ≡ variable_type small p.1) ps → scope_names large ps around ≡ scope_names small ps around
+pub scope-same : (small large : Table) (ps : List (List ℕ × ℕ)) (around : Names) → Each (λ (p : List ℕ × ℕ). variable_type large p.1 ≡ variable_type small p.1) ps → scope_names large ps around ≡ scope_names small ps around
 scope-same small large [] around h = refl
 scope-same small large (p ∷ ps) around h =
     scope-same small large ps (named_at large p ∷ around) h.1
@@ -51,14 +51,14 @@ behind-same n None = refl
 behind-same n (Some t) = refl
 
 -- one that has another text hides nothing
-pub found-past : (table : Table) (ps : List (List ℕ × ℕ)) (around : Names) (text : List ℕ) → Each (λ p. p.0 ≢ text) ps → found 0 (scope_names table ps around) text ≡ found 0 around text
+pub found-past : (table : Table) (ps : List (List ℕ × ℕ)) (around : Names) (text : List ℕ) → Each (λ (p : List ℕ × ℕ). p.0 ≢ text) ps → found 0 (scope_names table ps around) text ≡ found 0 around text
 found-past table [] around text h = refl
 found-past table (p ∷ ps) around text h =
     let meant : Meaning = variable_meaning p.1 (variable_type table p.1) in
     found-past table ps (named_at table p ∷ around) text h.1
     ∙ (ap (λ b. cond b (sight 0 meant) (found (behind 0 meant) around text)) (unlike p.0 text h.0) ∙ ap (λ i. found i around text) (behind-same p.1 (variable_type table p.1)))
 
-pub others-apart : (text : List ℕ) (n : ℕ) (vs : List VariableEntry) → Each (λ w. w.text ≢ text) vs → Each (λ p. p.0 ≢ text) (numbered n vs)
+pub others-apart : (text : List ℕ) (n : ℕ) (vs : List VariableEntry) → Each (λ (w : VariableEntry). w.text ≢ text) vs → Each (λ (p : List ℕ × ℕ). p.0 ≢ text) (numbered n vs)
 others-apart text n [] h = tt
 others-apart text n (v ∷ vs) h = (h.0, others-apart text (suc n) vs h.1)
 
@@ -103,7 +103,7 @@ text-last table v =
     last (x ∷ xs) = Contains-append_right (x.text ∷ []) (map (λ (y : VariableEntry). y.text) (xs ++ v ∷ [])) v.text (last xs)
 
 -- none has a text of the table
-pub new-apart : (table : Table) (vs : List VariableEntry) → AreNew table vs → (text : List ℕ) → Contains (texts_of table) text → Each (λ w. w.text ≢ text) vs
+pub new-apart : (table : Table) (vs : List VariableEntry) → AreNew table vs → (text : List ℕ) → Contains (texts_of table) text → Each (λ (w : VariableEntry). w.text ≢ text) vs
 new-apart table [] h text c = tt
 new-apart table (v ∷ vs) h text c = (λ e. h.0.apart (subst (Contains (texts_of table)) (sym e) c), new-apart (with_variable table v) vs h.1 text (text-more table v text c))
 
@@ -116,7 +116,7 @@ are-apart table (v ∷ vs) h = (new-apart (with_variable table v) vs h.1 v.text 
 no-text : (text : List ℕ) (n : ℕ) → text ≡ 118 ∷ decimal n → text ≢ []
 no-text text n e k = let z : 118 ∷ decimal n ≡ [] = sym e ∙ k in absurd (cc)
 
-pub new-texts : (table : Table) (vs : List VariableEntry) → AreNew table vs → Each (λ w. w.text ≢ []) vs
+pub new-texts : (table : Table) (vs : List VariableEntry) → AreNew table vs → Each (λ (w : VariableEntry). w.text ≢ []) vs
 new-texts table [] h = tt
 new-texts table (v ∷ vs) h = (no-text v.text h.0.number h.0.is, new-texts (with_variable table v) vs h.1)
 
@@ -131,7 +131,7 @@ new-at table (w ∷ ws) (suc k) v h e = new-at (with_variable table w) ws k v h.
 abbrev pub IsOld : Table → List ℕ → Type 0
 IsOld table text = (text ≡ []) ⊎ Contains (texts_of table) text
 
-pub old-apart : (table : Table) (vs : List VariableEntry) → AreNew table vs → (text : List ℕ) → IsOld table text → Each (λ w. w.text ≢ text) vs
+pub old-apart : (table : Table) (vs : List VariableEntry) → AreNew table vs → (text : List ℕ) → IsOld table text → Each (λ (w : VariableEntry). w.text ≢ text) vs
 old-apart table vs h text (inl e) = subst (λ t. Each (λ (w : VariableEntry). w.text ≢ t) vs) (sym e) (new-texts table vs h)
 old-apart table vs h text (inr c) = new-apart table vs h text c
 
@@ -189,7 +189,7 @@ cons-each table (Some p) ps f h = (f p refl, h)
 entry-is : (table : Table) (x : ℕ) (o : Option VariableEntry) → slice_get table.variables x ≡ o → (p : List ℕ × ℕ) → option_map (λ (text : List ℕ). (text, x)) (option_map (λ (v : VariableEntry). v.text) o) ≡ Some p → IsEntryOf table p
 entry-is table x None e p k = absurd (cc)
 entry-is table x (Some v) e p k =
-    let same : (v.text, x) ≡ p = ap (λ (q : Option (List ℕ × ℕ)). unwrap_or q (v.text, x)) k in
+    let same : ◌≡◌ {A = List ℕ × ℕ} (v.text, x) p = ap (λ (q : Option (List ℕ × ℕ)). unwrap_or q (v.text, x)) k in
     subst (IsEntryOf table) same (record { known = variable-known table x v e; here = (v, e) })
 
 pub entries-known : (table : Table) (xs : List ℕ) → Each (IsEntryOf table) (filter_map (entry table) xs)
@@ -204,11 +204,11 @@ type-same table new p h =
 no-such : (table : Table) → length table.variables < 2 ^ 32 → variable_type table no_variable ≡ None
 no-such table room = ap (option_map (λ (v : VariableEntry). v.of_type)) (slice_get_past table.variables no_variable (omega arith))
 
-pub entries-same : (table : Table) (new : List VariableEntry) (ps : List (List ℕ × ℕ)) → Each (IsEntryOf table) ps → Each (λ p. variable_type (with_new table new) p.1 ≡ variable_type table p.1) ps
+pub entries-same : (table : Table) (new : List VariableEntry) (ps : List (List ℕ × ℕ)) → Each (IsEntryOf table) ps → Each (λ (p : List ℕ × ℕ). variable_type (with_new table new) p.1 ≡ variable_type table p.1) ps
 entries-same table new [] h = tt
 entries-same table new (p ∷ ps) h = (type-same table new p h.0, entries-same table new ps h.1)
 
-pub hidden-same : (table : Table) (new : List VariableEntry) → length (with_new table new).variables < 2 ^ 32 → (texts : List (List ℕ)) → Each (λ p. variable_type (with_new table new) p.1 ≡ variable_type table p.1) (hiding texts)
+pub hidden-same : (table : Table) (new : List VariableEntry) → length (with_new table new).variables < 2 ^ 32 → (texts : List (List ℕ)) → Each (λ (p : List ℕ × ℕ). variable_type (with_new table new) p.1 ≡ variable_type table p.1) (hiding texts)
 hidden-same table new room [] = tt
 hidden-same table new room (x ∷ xs) =
     let long : length (table.variables ++ new) ≡ length table.variables + length new = length-append table.variables new in

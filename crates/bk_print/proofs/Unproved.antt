@@ -1,6 +1,7 @@
 -- A text that does not prove its obligation, where this reads back in its scope.
-use Rattle.std.proofs.Common.{◌≡◌, ◌≢◌, inl, inr, ℕ, suc, ◌+◌, ◌<◌, ◌≤◌, ◌^◌, ◌⊎◌, true, cond, List, [], ◌∷◌, length, refl, ap, sym, ◌∙◌, subst, arith, All, Some, None}
+use Rattle.std.proofs.Common.{◌≡◌, ◌≢◌, inl, inr, ℕ, suc, ◌+◌, ◌<◌, ◌≤◌, ◌^◌, ◌⊎◌, Bool, true, false, cond, nat_lt, List, [], ◌∷◌, length, refl, ap, sym, ◌∙◌, subst, arith, All, Some, None}
 use Rattle.std.specs.List.{AllPairs}
+use Rattle.std.proofs.lemmas.Bool.Decides.{nat_tests}
 use Rattle.std.specs.Str.{bytes_eq}
 use Rattle.bk_form.specs.Table.{Table, IsWellFormed}
 use Rattle.bk_seq.specs.Sequents.{Sequent}
@@ -25,11 +26,18 @@ use Rattle.bk_print.proofs.FoundReads.{script-reads}
 one-distinct : (s : RawScript) → AllPairs (λ (a b : List NamePart). a ≢ b) (names_of (s ∷ []))
 one-distinct s i j d l m = absurd (omega arith)
 
+below : (m n : ℕ) → nat_lt m n ≡ true → m < n
+below m n h = grind (arith, nat_tests)
+
+above : (m n : ℕ) → nat_lt m n ≡ false → n ≤ m
+above m n h = grind (arith, nat_tests)
+
 full-or-not : (table : Table) → (length table.variables < 2 ^ 32) ⊎ IsFull table
-full-or-not table = at (length table.variables)
+full-or-not table = at (nat_lt (length table.variables) (2 ^ 32)) refl
   where
-    at : (n : ℕ) → (n < 2 ^ 32) ⊎ (2 ^ 32 ≤ n)
-    at n = omega arith
+    at : (b : Bool) → nat_lt (length table.variables) (2 ^ 32) ≡ b → (length table.variables < 2 ^ 32) ⊎ IsFull table
+    at true e = inl (below (length table.variables) (2 ^ 32) e)
+    at false e = inr (above (length table.variables) (2 ^ 32) e)
 
 -- what is read back proves the obligation
 read-back-proves : (dev : Development) (o : List ℕ × Sequent) (s : IsReadInScope dev o) (rules : List Rule) (wide : Table) (text : List ℕ) (b : ReadsBack dev s.name rules wide text) → Derives wide rules o.1 → IsWithinLimits b.tokens b.script → ProvesAlone dev o text
