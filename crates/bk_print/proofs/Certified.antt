@@ -1,6 +1,7 @@
 -- A certificate of one line that is accepted can be written.
 use Rattle.std.proofs.Common.{◌≡◌, ℕ, suc, ◌+◌, ◌-◌, ◌<◌, ◌^◌, Bool, true, false, cond, ◌&&◌, List, [], ◌∷◌, ◌++◌, length, refl, ap, sym, ◌∙◌, subst, arith, Option, Some, None, All}
-use Rattle.std.specs.Prelude.{ℤ, pos, negsuc, int_le, int_lt, is_none, slice_index_or, nat_lt}
+use Rattle.std.specs.Prelude.{ℤ, pos, negsuc, int_le, int_lt, is_none, slice_index_or, nat_lt, FitsSigned}
+use Rattle.std.specs.Int.{w128}
 use Rattle.std.specs.List.{list_all, list_any}
 use Rattle.std.specs.Ordering.{int_eq}
 use Rattle.std.specs.Option.{option_or, option_map, some_prefix}
@@ -24,7 +25,7 @@ use Rattle.bk_auto.specs.Named.{IsCertificate}
 use Rattle.bk_auto.proofs.Ready.{each-all}
 use Rattle.bk_show.specs.Readable.{IsSmall}
 use Rattle.bk_print.specs.Readable.{HasSome, IsNumber, MultipleReads, LineReads}
-use Rattle.bk_print.specs.InScope.{IsNarrow, MultipleFits, LineFits}
+use Rattle.bk_print.specs.InScope.{MultipleFits, LineFits}
 
 -- ---- no fault
 none-of : {A : Type 0} (o : Option A) → is_none o ≡ true → o ≡ None
@@ -83,8 +84,8 @@ multiples-read (m ∷ ms) h f =
     let two = and_parts (int_le (pos 0) m.0) (list_all (λ (p : ℤ × ℕ). int_le (pos 0) p.0) ms) h in
     ((small m.0 two.0 f.0.0, f.0.1), multiples-read ms two.1 f.1)
   where
-    small : (z : ℤ) → int_le (pos 0) z ≡ true → IsNarrow z → IsSmall z
-    small (pos n) h k = k
+    small : (z : ℤ) → int_le (pos 0) z ≡ true → FitsSigned w128 z → IsSmall z
+    small (pos n) h k = (let l : n < 2 ^ 127 = k.sfits in l)
     small (negsuc n) h k = absurd (cc)
 
 last-at : (facts : List Inequality) (x d : Inequality) → slice_index_or (facts ++ x ∷ []) (length facts) d ≡ x
@@ -110,10 +111,10 @@ line-reads (Sum ms) r f = (
   not-empty r.width r.facts ms.items (Sum ms) (λ e. ap (λ ps. sum_fact r.width r.facts ps) e) r.closes,
   multiples-read ms.items (passed _ _ _ _ _ _ r.no_fault).1 (each-all MultipleFits ms.items f),
 )
-line-reads (Div fact by) r f = (f.0, divisor by (passed _ _ _ _ _ _ r.no_fault).1 f.1)
+line-reads (Div fact by) r f = (f.1, divisor by (passed _ _ _ _ _ _ r.no_fault).1 f.0)
   where
-    divisor : (z : ℤ) → int_le (pos 1) z ≡ true → IsNarrow z → (g : ℕ) × (z ≡ pos g) × (g < 2 ^ 127)
-    divisor (pos n) h k = (n, refl, k)
+    divisor : (z : ℤ) → int_le (pos 1) z ≡ true → FitsSigned w128 z → (g : ℕ) × (z ≡ pos g) × (g < 2 ^ 127)
+    divisor (pos n) h k = (let l : n < 2 ^ 127 = k.sfits in (n, refl, l))
     divisor (negsuc n) h k = absurd (cc)
 
 pub certificate-reads : (lines : List Line) → IsCertificate lines → All LineFits lines → HasSome lines × Each LineReads lines

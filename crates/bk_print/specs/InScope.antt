@@ -1,5 +1,6 @@
 -- Obligations in whose scope the goal reads back: so do rules for it, and the new variables that they bring.
-use Rattle.std.specs.Prelude.{◌≡◌, ◌⊎◌, ◌<◌, ◌≤◌, ◌^◌, ℕ, ℤ, pos, negsuc, List, [], ◌∷◌, ◌++◌, length, false, All}
+use Rattle.std.specs.Prelude.{◌≡◌, ◌⊎◌, ◌<◌, ◌≤◌, ◌^◌, ℕ, ℤ, FitsSigned, List, [], ◌∷◌, ◌++◌, length, false, All}
+use Rattle.std.specs.Int.{w128}
 use Rattle.bk_form.specs.Each.{Each}
 use Rattle.bk_form.specs.Table.{Table}
 use Rattle.bk_form.specs.declared.token.Token.{Token}
@@ -23,17 +24,13 @@ use Rattle.bk_print.specs.Readable.{HasSome, IsNumber, ReadsIn, NamePartReads, o
 use Rattle.bk_print.specs.Laws.{IsWithinLimits}
 
 -- ---- numbers of rules
--- it is a number of 128 bits
-abbrev pub IsNarrow : ℤ → Type 0
-IsNarrow (pos n) = n < 2 ^ 127
-IsNarrow (negsuc n) = n < 2 ^ 127
-
+-- a multiplier of 128 bits, and a fact's number of 32
 abbrev pub MultipleFits : ℤ × ℕ → Type 0
-MultipleFits m = IsNarrow m.0 × IsNumber m.1
+MultipleFits m = FitsSigned w128 m.0 × IsNumber m.1
 
 abbrev pub LineFits : Line → Type 0
 LineFits (Sum ms) = All MultipleFits ms.items
-LineFits (Div fact by) = IsNumber fact × IsNarrow by
+LineFits (Div fact by) = MultipleFits (by, fact)
 
 abbrev pub PlaceFits : Place → Type 0
 PlaceFits (Goal path) = All IsNumber path.items

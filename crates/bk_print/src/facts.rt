@@ -44,9 +44,7 @@ fn part_in_range(part: Part<'_>)
     ensures { PartFits (part_in part.entry) }
 {
     match part {
-        Part::Number(number) => {
-            let _number = number;
-        }
+        Part::Number(number) => number_in_range(number),
         Part::Place(place) => place_in_range(place),
         Part::Certificate(facts, lines) => {
             numbers_in_range(facts);
@@ -56,13 +54,19 @@ fn part_in_range(part: Part<'_>)
     }
 }
 
+fn number_in_range(number: u32)
+    ensures { IsNumber number }
+{
+    let _number = number;
+}
+
 fn place_in_range(place: &Place)
     ensures { PlaceFits place.now }
 {
     match place {
         Place::Goal(path) => numbers_in_range(path),
         Place::Hyp(number, path) => {
-            let _number = *number;
+            number_in_range(*number);
             numbers_in_range(path)
         }
     }
@@ -72,7 +76,7 @@ fn numbers_in_range(numbers: &[u32])
     ensures { All IsNumber numbers.now }
 {
     for number in numbers {
-        let _number = *number;
+        number_in_range(*number);
     }
 }
 
@@ -89,9 +93,7 @@ fn line_in_range(line: &Line)
 {
     match line {
         Line::Sum(multiples) => multiples_in_range(multiples),
-        Line::Div { fact, by } => {
-            let _numbers = (*fact, *by);
-        }
+        Line::Div { fact, by } => multiple_in_range((*by, *fact)),
     }
 }
 
@@ -99,6 +101,12 @@ fn multiples_in_range(multiples: &[(i128, u32)])
     ensures { All MultipleFits multiples.now }
 {
     for multiple in multiples {
-        let _numbers = *multiple;
+        multiple_in_range(*multiple);
     }
+}
+
+fn multiple_in_range(multiple: (i128, u32))
+    ensures { MultipleFits multiple }
+{
+    let _multiple = multiple;
 }
