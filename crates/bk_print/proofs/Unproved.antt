@@ -56,7 +56,7 @@ read-back-proves dev o s rules wide text b d w = record {
 }
 
 -- rules that were found, and their text, which does not prove
-module _ (dev : Development) (o : List ℕ × Sequent) (table : Table) (rules : List Rule) (text : List ℕ) (well : IsWellFormed dev.table) (wide_well : IsWellFormed table) (n : HasNew dev.table table) (b : Brings dev.table table o.1.1 rules) (fits : All RuleFits rules) (d : Derives table rules o.1) (e : text ≡ script_text table o.0 rules) (no : ProvesAlone dev o text → ⊥) where
+module _ (dev : Development) (o : List ℕ × Sequent) (table : Table) (rules : List Rule) (text : List ℕ) (well : IsWellFormed dev.table) (wide_well : IsWellFormed table) (n : HasNew dev.table table) (b : Brings dev.table table o.1.1 rules) (fits : All RuleFits rules) (d : Derives table rules o.1) (e : text ≡ script_text table o.0 rules) (unproved : ProvesAlone dev o text → ⊥) where
   abbrev wide : Table
   wide = with_new dev.table n.more
 
@@ -74,7 +74,7 @@ module _ (dev : Development) (o : List ℕ × Sequent) (table : Table) (rules : 
     script = r.script;
     cut = r.cut;
     spelled = r.spelled;
-    past = λ w. no (read-back-proves dev o s rules wide text r (subst (λ (t : Table). Derives t rules o.1) n.made d) w);
+    past = λ w. unproved (read-back-proves dev o s rules wide text r (subst (λ (t : Table). Derives t rules o.1) n.made d) w);
   }
 
   by-room : IsReadInScope dev o → (length table.variables < 2 ^ 32) ⊎ IsFull table → PassesLimit text ⊎ IsFull table
@@ -85,6 +85,6 @@ module _ (dev : Development) (o : List ℕ × Sequent) (table : Table) (rules : 
   reads_otherwise = record {
     text = text;
     proof = record { table = table; rules = rules; new = n; derives = d; written = e };
-    other = no;
+    other = unproved;
     limit = λ s. by-room s (full-or-not table);
   }
