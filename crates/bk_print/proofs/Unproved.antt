@@ -4,7 +4,8 @@ use Rattle.std.specs.List.{AllPairs}
 use Rattle.std.proofs.lemmas.Bool.Decides.{nat_tests}
 use Rattle.std.specs.Str.{bytes_eq}
 use Rattle.bk_form.specs.Table.{Table, IsWellFormed}
-use Rattle.bk_seq.specs.Sequents.{Sequent}
+use Rattle.bk_form.specs.Role.{predicate, untyped}
+use Rattle.bk_seq.specs.Sequents.{Sequent, Types}
 use Rattle.bk_kernel.specs.declared.rule.Rule.{Rule}
 use Rattle.bk_kernel.specs.Derivations.{Derives}
 use Rattle.bk_raw.specs.declared.script.NamePart.{NamePart}
@@ -15,9 +16,9 @@ use Rattle.bk_status.specs.States.{name_text}
 use Rattle.bk_auto.specs.NewVariables.{HasNew}
 use Rattle.bk_auto.specs.Named.{Brings}
 use Rattle.bk_print.specs.Text.{script_text}
-use Rattle.bk_print.specs.Readable.{with_new, ScriptReads}
+use Rattle.bk_print.specs.Readable.{ReadsIn, with_new, ScriptReads}
 use Rattle.bk_print.specs.Laws.{IsWithinLimits, ReadsBack}
-use Rattle.bk_print.specs.InScope.{RuleFits, IsReadInScope, PassesLimit, IsFull}
+use Rattle.bk_print.specs.InScope.{RuleFits, own_names, IsReadInScope, PassesLimit, IsFull}
 use Rattle.bk_print.specs.Found.{ProvesAlone, IsTextOfProof, ReadsOtherwise}
 use Rattle.bk_print.proofs.ReadBack.{read-back}
 use Rattle.bk_print.proofs.ScopeFound.{alike}
@@ -56,14 +57,22 @@ read-back-proves dev o s rules wide text b d w = record {
 }
 
 -- rules that were found, and their text, which does not prove
-module _ (dev : Development) (o : List ℕ × Sequent) (table : Table) (rules : List Rule) (text : List ℕ) (well : IsWellFormed dev.table) (wide_well : IsWellFormed table) (n : HasNew dev.table table) (b : Brings dev.table table o.1.1 rules) (fits : All RuleFits rules) (d : Derives table rules o.1) (e : text ≡ script_text table o.0 rules) (unproved : ProvesAlone dev o text → ⊥) where
+module _ (dev : Development) (o : List ℕ × Sequent) (table : Table) (rules : List Rule) (text : List ℕ) (well : IsWellFormed dev.table) (wide_well : IsWellFormed table) (n : HasNew dev.table table) (b : Brings dev.table table o.1.1 rules) (fits : All RuleFits rules) (types : Types dev.table o.1) (d : Derives table rules o.1) (e : text ≡ script_text table o.0 rules) (unproved : ProvesAlone dev o text → ⊥) where
   abbrev wide : Table
   wide = with_new dev.table n.more
+
+  goal-reads : (s : IsReadInScope dev o) → ReadsIn dev.table (own_names dev s.name) o.1.1
+  goal-reads s = record {
+    typed = λ e. (let never : predicate ≡ untyped = sym types.1 ∙ e in cc);
+    binds = s.binds;
+    readable = s.readable;
+    stands = s.stands;
+  }
 
   back : (s : IsReadInScope dev o) → length table.variables < 2 ^ 32 → ReadsBack dev s.name rules wide text
   back s room =
       let reads : ScriptReads dev s.name rules n.more =
-      script-reads dev s.name n.more n.new well (subst IsWellFormed n.made wide_well) (subst (λ (t : Table). length t.variables < 2 ^ 32) n.made room) o.1.1 s.goal s.some_part s.parts rules
+      script-reads dev s.name n.more n.new well (subst IsWellFormed n.made wide_well) (subst (λ (t : Table). length t.variables < 2 ^ 32) n.made room) o.1.1 (goal-reads s) s.some_part s.parts rules
       (subst (λ (t : Table). Brings dev.table t o.1.1 rules) n.made b) fits in
       let is : text ≡ script_text wide (name_text s.name) rules = e ∙ (ap (λ (t : Table). script_text t o.0 rules) n.made ∙ ap (λ (x : List ℕ). script_text wide x rules) s.named) in
       subst (ReadsBack dev s.name rules wide) (sym is) (read-back dev s.name rules n.more reads)

@@ -19,8 +19,11 @@ use Rattle.bk_raw.specs.Trees.ScriptTree.{RawScript}
 use Rattle.bk_raw.specs.Grammar.ScriptSpelling.{SpellsScripts}
 use Rattle.bk_dev.specs.Development.{Development, int_max}
 use Rattle.bk_status.specs.States.{name_text}
+use Rattle.bk_show.specs.Binders.{Binds}
+use Rattle.bk_show.specs.Readable.{IsReadable}
+use Rattle.bk_show.specs.Stands.{Stands}
 use Rattle.bk_print.specs.Written.{Part, a_number, a_place, a_certificate, Parts, none, one, two, parts_of}
-use Rattle.bk_print.specs.Readable.{HasSome, IsNumber, ReadsIn, NamePartReads, outside, parameters}
+use Rattle.bk_print.specs.Readable.{HasSome, IsNumber, NamePartReads, outside, parameters}
 use Rattle.bk_print.specs.Laws.{IsWithinLimits}
 
 -- ---- numbers of rules
@@ -56,14 +59,16 @@ RuleFits r = PartsFit (parts_of r)
 abbrev pub own_names : Development → List NamePart → Names
 own_names dev name = names_in dev.table (record { max = int_max dev; names = outside dev name ++ parameters dev name })
 
--- an obligation with a name that can be written, which is not obvious, and whose goal types, binds and reads back in its scope: each
--- text in it names there what it stands for; over a table that is not full
+-- an obligation with a name that can be written, which is not obvious, over a table that is not full; each binder in its goal binds
+-- something, the names and numbers there can be written, and each text names in the obligation's scope what it stands for
 pub record IsReadInScope (dev : Development) (o : List ℕ × Sequent) : Type 0 where
   pub name : List NamePart
   pub named : o.0 ≡ name_text name
   pub some_part : HasSome name
   pub parts : Each NamePartReads name
-  pub goal : ReadsIn dev.table (own_names dev name) o.1.1
+  pub binds : Binds o.1.1
+  pub readable : IsReadable dev.table 0 o.1.1
+  pub stands : Stands dev.table (own_names dev name) o.1.1
   pub room : length dev.table.variables < 2 ^ 32
   pub not_obvious : is_obvious o.1.0 o.1.1 ≡ false
 
