@@ -3,6 +3,7 @@ use Rattle.std.proofs.Common.{◌≡◌, ◌≢◌, inl, inr, ℕ, zero, suc, �
 use Rattle.std.specs.Prelude.{slice_get, decimal, nat_le, nat_lt, unwrap_or}
 use Rattle.std.specs.List.{Contains, flat_map, filter_map, list_all}
 use Rattle.std.specs.Option.{option_map}
+use Rattle.std.specs.Fmt.{digits}
 use Rattle.std.proofs.lemmas.Bool.{and_parts, and_from}
 use Rattle.bk_val.specs.ValueType.{ValueType, int_type, bool_type, enum_type, pair_type, set_type}
 use Rattle.bk_form.specs.Each.{Each}
@@ -75,9 +76,17 @@ same-brought : (rules : List Rule) → names_brought rules ≡ brought rules
 same-brought [] = refl
 same-brought (r ∷ rs) = λ i. same-by r i ++ same-brought rs i
 
+law-one : law_number (law_name 101) ≡ Some 101
+unfolding digits
+law-one = refl
+
+law-five : law_number (law_name 105) ≡ Some 105
+unfolding digits
+law-five = refl
+
 law-known : (law : ℕ) → (law ≡ 101) ⊎ (law ≡ 105) → law_number (law_name law) ≡ Some law
-law-known law (inl e) = ap (λ n. law_number (law_name n)) e ∙ ap Some (sym e)
-law-known law (inr e) = ap (λ n. law_number (law_name n)) e ∙ ap Some (sym e)
+law-known law (inl e) = ap (λ n. law_number (law_name n)) e ∙ (law-one ∙ ap Some (sym e))
+law-known law (inr e) = ap (λ n. law_number (law_name n)) e ∙ (law-five ∙ ap Some (sym e))
 
 -- ---- one script
 module _ (dev : Development) (name : List NamePart) (new : List VariableEntry) (fresh : AreNew dev.table new) (well : IsWellFormed dev.table) (wide_well : IsWellFormed (with_new dev.table new)) (room : length (with_new dev.table new).variables < 2 ^ 32) where
