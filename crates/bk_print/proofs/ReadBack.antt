@@ -71,8 +71,12 @@ lines-plus (l ∷ ls) ms = ap (λ t. text_of l ++ (10 ∷ t)) (lines-plus ls ms)
 script-lines : (table : Table) (name : List NamePart) (rules : List Rule) → lines_text (lines_of table name rules) ≡ script_text table (name_text name) rules
 script-lines table name rules =
     let body = lines_text (rule_lines table rules) in
+    let end = codes "end\n" in
+    let text = name_text name in
+    let line_end = codes "\n" in
     ap (λ t. codes "proof " ++ (t ++ (10 ∷ lines_text (rule_lines table rules ++ last_line ∷ [])))) (dotted-text name)
-    ∙ ap (λ t. codes "proof " ++ (name_text name ++ (10 ∷ t))) (lines-plus (rule_lines table rules) (last_line ∷ []))
+    ∙ ap (λ t. codes "proof " ++ (text ++ (10 ∷ t))) (lines-plus (rule_lines table rules) (last_line ∷ []))
+    ∙ sym (ap (λ t. codes "proof " ++ t) (append_assoc (text ++ line_end) body end ∙ append_assoc text line_end (body ++ end)))
 
 -- ---- a proof file with one script
 all-one : {A : Type 0} (P : A → Type 0) (x : A) → P x → All P (x ∷ [])

@@ -17,7 +17,7 @@ pub search_all-requires-clause-rows : goal.search_all-requires-clause-rows
 search_all-requires-clause-rows c =
     omega (
       arith,
-      AllZip-long (IsRowOf (flattened c.args.project.now.development) c.args.project.now.scripts) (numbered_obligations c.args.project.now.development) c.args.rows.now c.requires,
+      AllZip-long (IsRowOf (flattened c.args.project.now.development) c.args.project.now.scripts) (numbered_obligations c.args.project.now.development) c.args.rows.now c.requires.rows,
       ap length c.in_ok-list.ensures.value,
       length-map c.in_ok-list.list.items named_sequent,
       ap length c.deref.ensures.value,
@@ -27,7 +27,7 @@ pub returns-clause-text : goal.returns-clause-text
 returns-clause-text c = record {
   within = c.in_ok-list.ensures.within;
   rows = c.args.rows.now;
-  are = c.requires;
+  are = c.requires.rows;
   outcomes = c.in_ok-outcomes.outcomes.items;
   found = c.in_ok-outcomes.ensures;
   text_is = c.in_ok-text.ensures ∙ ap found_text c.deref-2.ensures.value;
