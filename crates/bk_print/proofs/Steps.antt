@@ -1,9 +1,13 @@
 -- Outcomes one after another, and what is told of a text that is read back.
-use Rattle.std.proofs.Common.{◌≡◌, ◌≢◌, inl, inr, ℕ, zero, suc, ◌+◌, ◌<◌, ◌≤◌, Bool, true, false, List, [], ◌∷◌, ◌++◌, length, length-map, map, take, get_or, refl, ap, sym, ◌∙◌, subst, arith}
-use Rattle.std.proofs.lemmas.List.{take_all, get_or-map}
+use Rattle.std.proofs.Common.{◌≡◌, ◌≢◌, inl, inr, ℕ, zero, suc, ◌+◌, ◌<◌, ◌≤◌, Bool, true, false, List, [], ◌∷◌, ◌++◌, length, map, take, get_or, refl, ap, sym, ◌∙◌, subst, arith}
+use Rattle.std.proofs.lemmas.List.{length-map, take_all, get_or-map}
 use Rattle.bk_form.specs.Each.{Each}
 use Rattle.bk_form.specs.Table.{Table}
-use Rattle.bk_seq.specs.Sequents.{Sequent}
+use Rattle.bk_seq.specs.Sequents.{Sequent, sequent_of}
+use Rattle.bk_seq.specs.declared.sequent.Sequent.{Sequent as HeldSequent}
+use Rattle.bk_kernel.specs.declared.rule.Rule.{Rule}
+use Rattle.bk_kernel.specs.Derivations.{Derives}
+use Rattle.bk_auto.specs.NewVariables.{HasNew}
 use Rattle.bk_raw.specs.Trees.ScriptTree.{RawScript}
 use Rattle.bk_dev.specs.Development.{Development}
 use Rattle.bk_dev.specs.Facts.{IsDevelopment}
@@ -25,7 +29,8 @@ use Rattle.bk_status.specs.States.{IsState}
 use Rattle.bk_status.proofs.OneState.{states_are_one}
 use Rattle.bk_status.proofs.Within.{all_replayable}
 use Rattle.bk_print.specs.declared.outcome.Outcome.{Outcome}
-use Rattle.bk_print.specs.Found.{ProvesAlone, IsFoundFor, AreFound, state_at}
+use Rattle.bk_print.specs.Text.{script_text}
+use Rattle.bk_print.specs.Found.{ProvesAlone, IsScriptFor, IsFoundFor, AreFound, state_at}
 
 -- ---- outcomes
 turn : (dev : Development) (os : List (List ℕ × Sequent)) (rs : List Row) (xs : List Outcome) (i : ℕ) (o : List ℕ × Sequent) (x : Outcome) → i < length os → length rs ≡ length os → o ≡ get_or os i o
@@ -71,3 +76,15 @@ read_proves dev o text scripts read p = subst (λ ss. IsState dev ss o.0 o.1 Pro
 -- an obligation in another state is not proved
 pub other_state : (dev : Development) (scripts : List RawScript) (o : List ℕ × Sequent) (state : State) → (state ≡ Proved → ⊥) → IsState dev scripts o.0 o.1 state → IsState dev scripts o.0 o.1 Proved → ⊥
 other_state dev scripts o state other h k = other (states_are_one dev scripts o.0 o.1 state Proved h k)
+
+-- ---- what a search found
+-- a copy of a sequent is the same
+pub same_sequent : (s t : HeldSequent) → s.hyps.items ≡ t.hyps.items → s.goal ≡ t.goal → sequent_of s ≡ sequent_of t
+same_sequent s t e f = λ i. (e i, f i)
+
+-- its rules, whose text proves
+pub script_found : (dev : Development) (o : List ℕ × Sequent) (types small large : Table) (rules : List Rule) (text : List ℕ) → small ≡ types → types ≡ dev.table → HasNew small large → Derives large rules o.1 → text ≡ script_text large o.0 rules → ProvesAlone dev o text → IsScriptFor dev o text
+script_found dev o types small large rules text copied known n d e p = record {
+  found = record { table = large; rules = rules; new = subst (λ (x : Table). HasNew x large) (copied ∙ known) n; derives = d; written = e };
+  proves = p;
+}

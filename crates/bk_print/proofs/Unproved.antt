@@ -97,3 +97,10 @@ module _ (dev : Development) (o : List ℕ × Sequent) (table : Table) (rules : 
     other = unproved;
     limit = λ s. by-room s (full-or-not table);
   }
+
+-- what a search found, whose text does not prove
+pub left_otherwise : (dev : Development) (o : List ℕ × Sequent) (types small large : Table) (rules held : List Rule) (text : List ℕ) → small ≡ types → types ≡ dev.table → IsWellFormed types → IsWellFormed large → HasNew small large → Brings small large o.1.1 rules → held ≡ rules → All RuleFits held → Types types o.1 → Derives large rules o.1 → text ≡ script_text large o.0 rules → (ProvesAlone dev o text → ⊥) → ReadsOtherwise dev o
+left_otherwise dev o types small large rules held text copied known well wide_well n b same fits t d e unproved =
+    let begun : small ≡ dev.table = copied ∙ known in
+    reads_otherwise dev o large rules text (subst IsWellFormed known well) wide_well (subst (λ (x : Table). HasNew x large) begun n)
+    (subst (λ (x : Table). Brings x large o.1.1 rules) begun b) (subst (λ (rs : List Rule). All RuleFits rs) same fits) (subst (λ (x : Table). Types x o.1) known t) d e unproved
