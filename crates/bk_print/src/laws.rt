@@ -1,8 +1,13 @@
 //! Laws of printed scripts. Each is the contract of a function that does nothing.
 
-ghost use Rattle.bk_print.specs.Laws.{ScriptsReadBack};
+ghost use Rattle.bk_print.specs.Laws.{ScriptsReadBack, FilesReadBack};
 
 /// The text of a script reads back as the same rules.
 pub fn scripts_read_back()
     ensures { ScriptsReadBack }
+{}
+
+/// The texts of scripts with different names, one after another and then a comment, read back as these scripts.
+pub fn files_read_back()
+    ensures { FilesReadBack }
 {}
