@@ -203,6 +203,7 @@ module _ (dev : Development) (name : List NamePart) (rules : List Rule) (new : L
     script = raw_script table 0 name rules;
     cut = cut-one;
     spelled = spelled-one;
+    plain = plain-one;
     typed = typed dev name rules new 0 h;
     named = refl;
     grounded = grounded dev name rules new 0 h;

@@ -12,6 +12,7 @@ use Rattle.bk_raw.specs.Grammar.ScriptSpelling.{SpellsScripts}
 use Rattle.bk_raw.specs.Errors.Limits.{IsShallow, IsLowFile}
 use Rattle.bk_kernel.specs.declared.rule.Rule.{Rule}
 use Rattle.bk_dev.specs.Development.{Development}
+use Rattle.bk_p_proof.specs.Unread.{IsWithoutSequences}
 use Rattle.bk_p_proof.specs.TypedNames.{script_names, AreOfOneType}
 use Rattle.bk_p_proof.specs.Files.{IsShort, IsProofFile, AreScriptsOf}
 use Rattle.bk_scripts.specs.Grounding.{IsGrounded}
@@ -26,13 +27,14 @@ pub record IsWithinLimits (tokens : List Token) (script : RawScript) : Type 0 wh
   pub low : IsLowFile (script ∷ [])
   pub short : IsShort script
 
--- the text has tokens that spell one script with this name, no name in which is written with two types; and its rules over the
+-- the text has tokens, none of sequences, that spell one script with this name, no name in which is written with two types; and its rules over the
 -- development's table are these, over this table. Where it passes no limit, it is a proof file with this script
 pub record ReadsBack (dev : Development) (name : List NamePart) (rules : List Rule) (table : Table) (text : List ℕ) : Type 0 where
   pub tokens : List Token
   pub script : RawScript
   pub cut : AreTokens text tokens
   pub spelled : SpellsScripts (script ∷ []) tokens
+  pub plain : IsWithoutSequences tokens
   pub typed : AreOfOneType (script_names script)
   pub named : script.name ≡ name
   pub grounded : IsGrounded dev script rules table
