@@ -14,3 +14,4 @@ mod ScopeFound
 mod Certified
 mod FoundReads
 mod Unproved
+mod FoundFiles

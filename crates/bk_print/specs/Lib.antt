@@ -5,3 +5,4 @@ pub mod Readable
 pub mod Laws
 pub mod InScope
 pub mod Found
+pub mod FoundFile
