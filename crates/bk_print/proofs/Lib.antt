@@ -13,5 +13,6 @@ mod PartsRead
 mod ScopeFound
 mod Certified
 mod FoundReads
+mod Alone
 mod Unproved
 mod FoundFiles
