@@ -225,7 +225,7 @@ all-none : {A : Type 0} (P : A → Type 0) → All P []
 all-none P n d l = absurd (omega arith)
 
 module _ (dev : Development) where
-  AreRead : List PrintedScript → Type 0
+  abbrev AreRead : List PrintedScript → Type 0
   AreRead ss = Each (λ s. ScriptReads dev s.name s.rules s.new) ss
 
   file-lexed : (ss : List PrintedScript) (end : List ℕ) → AreRead ss → LinesLexed (file_lines dev.table ss) end

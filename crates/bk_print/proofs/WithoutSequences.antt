@@ -33,7 +33,11 @@ use Rattle.bk_kernel.specs.declared.rule.Place.{Place}
 use Rattle.bk_kernel.specs.declared.rule.Place.TheVariants.{Goal, Hyp as InHyp}
 use Rattle.bk_kernel.specs.declared.rule.Rule.{Rule}
 use Rattle.bk_show.specs.Items.{Item, blank, lexeme, plain, sign}
-use Rattle.bk_show.specs.Shown.{name_of_variable, name_of_set, name_of_element, behind_dollar, kind_by, enclosed, enclosed_if, type_items, UnaryForm, word_form, negative_form, inverse_form, single_form, unary_form, BinaryForm, infix_form, image_form, apply_form, composition_form, binary_form, is_infix, is_bare, unary_items, Sides, sides, binary_items, truth_word, literal_items, domain_items, typed_items, comma_before, bounds_items, quantified_items, range_items, comma_between, comprehension_items, lambda_items, items, ranges_items}
+use Rattle.bk_show.specs.declared.notation.UnaryForm.{UnaryForm}
+use Rattle.bk_show.specs.declared.notation.UnaryForm.TheVariants.{Word as word_form, Negative as negative_form, Inverse as inverse_form, Single as single_form}
+use Rattle.bk_show.specs.declared.notation.BinaryForm.{BinaryForm}
+use Rattle.bk_show.specs.declared.notation.BinaryForm.TheVariants.{Infix as infix_form, Image as image_form, Application as apply_form, Composition as composition_form}
+use Rattle.bk_show.specs.Shown.{name_of_variable, name_of_set, name_of_element, behind_dollar, kind_by, enclosed, enclosed_if, type_items, unary_form, binary_form, is_infix, is_bare, unary_items, Sides, sides, binary_items, truth_word, literal_items, domain_items, typed_items, comma_before, bounds_items, quantified_items, range_items, comma_between, comprehension_items, lambda_items, items, ranges_items}
 use Rattle.bk_show.proofs.Tokens.{after, tokens_from}
 use Rattle.bk_print.specs.Written.{Part, a_number, a_term, some_terms, a_place, no_place, some_names, a_law, a_certificate, Parts, none, one, two, word_of, parts_of}
 use Rattle.bk_print.specs.Text.{behind_each, divided, comma, spaced, number_items, numbers_behind, place_items, terms_items, some_type_items, name_items, picks_items, law_items, multiple_items, line_items, facts_items, certificate_items, part_items, parts_items, word_items, rule_items, semicolon_before, rule_lines}
