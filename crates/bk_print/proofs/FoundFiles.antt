@@ -88,7 +88,7 @@ each-index P Q f (x ∷ xs) h zero d l = f x h.0
 each-index P Q f (x ∷ xs) h (suc k) d l = each-index P Q f xs h.1 k d (omega arith)
 
 unlike-differ : (ns : List (List NamePart)) → AreUnlike ns → AllPairs (λ (a b : List NamePart). a ≢ b) ns
-unlike-differ [] h i j d l m = absurd (omega arith)
+unlike-differ [] h = λ i j d l m. absurd (omega arith)
 unlike-differ (n ∷ ns) h =
     AllPairs-cons (λ (a b : List NamePart). a ≢ b) n ns (each-index (λ (m : List NamePart). name_text m ≢ name_text n) (λ (m : List NamePart). n ≢ m) (λ m k e. k (ap name_text (sym e))) ns h.0) (unlike-differ ns h.1)
 
