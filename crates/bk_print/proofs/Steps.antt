@@ -1,6 +1,6 @@
 -- Outcomes one after another, and what is told of a text that is read back.
-use Rattle.std.proofs.Common.{◌≡◌, ◌≢◌, inl, inr, ℕ, zero, suc, ◌+◌, ◌<◌, ◌≤◌, Bool, true, false, List, [], ◌∷◌, ◌++◌, length, map, take, get_or, refl, ap, sym, ◌∙◌, subst, arith}
-use Rattle.std.proofs.lemmas.List.{length-map, take_all, get_or-map}
+use Rattle.std.proofs.Common.{◌≡◌, ◌≢◌, inl, inr, ℕ, zero, suc, ◌+◌, ◌<◌, ◌≤◌, Bool, true, false, List, [], ◌∷◌, ◌++◌, length, map, take, get_or, below_more, refl, ap, sym, ◌∙◌, subst, arith}
+use Rattle.std.proofs.lemmas.List.{length-map, take_all, get_or-map, get_or_default}
 use Rattle.bk_form.specs.Each.{Each}
 use Rattle.bk_form.specs.Table.{Table}
 use Rattle.bk_seq.specs.Sequents.{Sequent, sequent_of}
@@ -124,3 +124,8 @@ limit_trial dev o text number file f = by-number f
     by-number (inl (inr h)) = subst (λ (m : ℕ). IsTrial dev o text (trial_past m)) (sym h.0) (inl (at 3 h.0))
     by-number (inr (inl h)) = subst (λ (m : ℕ). IsTrial dev o text (trial_past m)) (sym h.0) (inr (at 12 h.0))
     by-number (inr (inr h)) = subst (λ (m : ℕ). IsTrial dev o text (trial_past m)) (sym h.0) (inr (at 8 h.0))
+
+-- ---- loops
+-- what holds of those before holds of those with the next
+pub one_more : {A : Type 0} (P : A → Type 0) (xs : List A) (i : ℕ) (x : A) → i < length xs → x ≡ get_or xs i x → ((k : ℕ) (d : A) → k < i → P (get_or xs k d)) → P x → (k : ℕ) (d : A) → k < i + 1 → P (get_or xs k d)
+one_more P xs i x b is h p k d l = below_more (λ (n : ℕ). P (get_or xs n d)) i (λ n m. h n d m) (subst P (is ∙ get_or_default xs i x d b) p) k l

@@ -27,10 +27,12 @@ use Rattle.bk_print.specs.Readable.{HasSome, IsNumber, NamePartReads, outside, p
 abbrev pub MultipleFits : ℤ × ℕ → Type 0
 MultipleFits m = FitsSigned w128 m.0 × IsNumber m.1
 
+-- those of a line of a certificate
 abbrev pub LineFits : Line → Type 0
 LineFits (Sum ms) = All MultipleFits ms.items
 LineFits (Div fact by) = MultipleFits (by, fact)
 
+-- the numbers of a place have 32 bits
 abbrev pub PlaceFits : Place → Type 0
 PlaceFits (Goal path) = All IsNumber path.items
 PlaceFits (InHyp i path) = IsNumber i × All IsNumber path.items
