@@ -29,7 +29,7 @@ use Rattle.bk_kernel.specs.declared.rule.Place.{Place}
 use Rattle.bk_kernel.specs.declared.rule.Place.TheVariants.{Goal, Hyp as InHyp}
 use Rattle.bk_kernel.specs.declared.rule.Rule.{Rule}
 use Rattle.bk_show.specs.Items.{Item, blank, lexeme, text_of, kind_text, plain, sign}
-use Rattle.bk_show.specs.Shown.{name_of_variable, enclosed, type_items, literal_items, items}
+use Rattle.bk_show.specs.Shown.{name_of_variable, type_items, literal_items, items}
 use Rattle.bk_show.specs.Readable.{IsPlainName, IsSmall}
 use Rattle.bk_show.proofs.Scalars.{identifier-utf8}
 use Rattle.bk_show.proofs.Begun.{decimal-is, is_letters, is_ascii_word, word-identifier, in_word, IsWordlike, wordlike-class, wordlike-begins, Next}

@@ -1,5 +1,5 @@
 -- The tokens of the lines of a script are spelled by the script.
-use Rattle.std.proofs.Common.{◌≡◌, ℕ, suc, ◌+◌, ◌≤◌, Bool, true, false, cond, List, [], ◌∷◌, ◌++◌, map, length, refl, ap, sym, ◌∙◌, arith, subst, append_assoc, append-nil, inl, inr, Option, Some, None}
+use Rattle.std.proofs.Common.{◌≡◌, ℕ, suc, ◌+◌, Bool, true, false, cond, List, [], ◌∷◌, ◌++◌, map, length, refl, ap, sym, ◌∙◌, arith, subst, append_assoc, append-nil, inl, inr, Option, Some, None}
 use Rattle.std.specs.Prelude.{ℤ, pos, negsuc, codes, ◌-◌}
 use Rattle.std.specs.List.{slice_get}
 use Rattle.std.specs.Str.{bytes_eq}
@@ -16,26 +16,22 @@ use Rattle.bk_ops.specs.declared.word.TheConstants.{BOOL, INTEGER, POW}
 use Rattle.bk_lex.specs.Lexis.{word_number, number_in}
 use Rattle.bk_lin.specs.declared.fact.Line.{Line}
 use Rattle.bk_lin.specs.declared.fact.Line.TheVariants.{Sum, Div}
-use Rattle.bk_raw.specs.Grammar.Pieces.{Never, Absent, Just, JustAt, JustSign, ◌⌢◌, Divided, AnyDivided, InRow, InParentheses, Starting, Digits, Literal, Binding}
-use Rattle.bk_raw.specs.Grammar.Spelling.{Declared, Typed, Term}
+use Rattle.bk_raw.specs.Grammar.Pieces.{Absent, Just, JustAt, JustSign, ◌⌢◌, Divided, AnyDivided, InRow, InParentheses, Starting, Digits, Literal}
+use Rattle.bk_raw.specs.Grammar.Spelling.{Typed}
 use Rattle.bk_raw.specs.Grammar.ScriptSpelling.{Place as PlaceSpelled, TypedName, AnyTerm, Picked, Multiple, Line as LineSpelled, Spelled, Ruled, Rule as RuleSpelled, Lettered, PartNamed, OpensScript, Scripted}
-use Rattle.bk_raw.specs.Trees.RawTree.{RawTree}
-use Rattle.bk_raw.specs.Trees.WrittenType.{WrittenType}
 use Rattle.bk_raw.specs.declared.script.NamePart.{NamePart}
 use Rattle.bk_raw.specs.declared.script.NamePart.TheVariants.{Letters, Numeral}
 use Rattle.bk_raw.specs.declared.script.RuleWord.{RuleWord}
-use Rattle.bk_raw.specs.declared.script.RawMultiple.{RawMultiple}
-use Rattle.bk_raw.specs.declared.script.RawTyped.{RawTyped}
-use Rattle.bk_raw.specs.Trees.ScriptTree.{rule_kind, PartKind, one_number, one_term, some_terms as terms_kind, one_place, perhaps_place, typed_names, one_law, certificate, shape_of, RawPlace, RawLine, RulePart, part_place, RawRule, RawScript}
+use Rattle.bk_raw.specs.Trees.ScriptTree.{rule_kind, PartKind, one_number, one_term, some_terms as terms_kind, one_place, perhaps_place, typed_names, one_law, certificate, shape_of}
 use Rattle.bk_raw.specs.Meaning.Names.{Names}
 use Rattle.bk_kernel.specs.declared.rule.Place.{Place}
 use Rattle.bk_kernel.specs.declared.rule.Place.TheVariants.{Goal, Hyp as InHyp}
 use Rattle.bk_kernel.specs.declared.rule.Rule.{Rule}
-use Rattle.bk_kernel.specs.declared.rule.Rule.TheVariants.{Hyp, True, Same, Eval, False, Absurd, And, Iff, Imp, Not, Left, Right, Or, Contra, Fix, UseTerms, Split, Cases, Apply, Inst, OpenSome, Cut, Case, Drop, Eq, Qe, Law, Wal, TypeOf, Neg, Mem, Val, Ext, Sub, Ex, Pair, Elems, Interval, Induct, Poly, Lin, Unread}
-use Rattle.bk_show.specs.Items.{Item, blank, lexeme, item_text, kind_text, plain, sign}
+use Rattle.bk_kernel.specs.declared.rule.Rule.TheVariants.{Hyp, Eval, False, Absurd, Fix, UseTerms, Split, Cases, Apply, Inst, OpenSome, Cut, Case, Drop, Eq, Qe, Law, Wal, TypeOf, Neg, Mem, Val, Ext, Sub, Ex, Pair, Elems, Interval, Lin, Unread}
+use Rattle.bk_show.specs.Items.{Item, blank, lexeme, kind_text, plain, sign}
 use Rattle.bk_show.specs.Shown.{name_of_variable, name_of_set, enclosed, type_items, literal_items, items}
 use Rattle.bk_show.proofs.Tokens.{item_tokens, tokens_from, after}
-use Rattle.bk_show.proofs.Trees.{written_type, shown_tree}
+use Rattle.bk_show.proofs.Trees.{written_type}
 use Rattle.bk_show.proofs.Spelled.{tokens-append, formula-spelled}
 use Rattle.bk_print.specs.Written.{Part, a_number, a_term, some_terms, a_place, no_place, some_names, a_law, a_certificate, Parts, none, one, two, word_of, parts_of}
 use Rattle.bk_print.specs.Text.{behind_each, divided, comma, spaced, number_items, numbers_behind, place_items, terms_items, some_type_items, name_items, law_name, picks_items, law_items, multiple_items, line_items, facts_items, certificate_items, part_items, parts_items, word_items, rule_items, semicolon_before, rule_lines}

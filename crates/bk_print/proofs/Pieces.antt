@@ -7,14 +7,13 @@ use Rattle.std.proofs.lemmas.List.{at_drop_more, drop_all, take_rest, get_or_def
 use Rattle.bk_form.specs.Table.{Table, variable_type}
 use Rattle.bk_form.specs.Formula.{Formula}
 use Rattle.bk_ops.specs.declared.sign.TheConstants.{TIMES, DIVIDE, CLOSE_PAREN, MEMBER}
-use Rattle.bk_lin.specs.declared.fact.Line.{Line}
-use Rattle.bk_kernel.specs.declared.rule.Place.TheVariants.{Goal, Hyp as InHyp}
+use Rattle.bk_kernel.specs.declared.rule.Place.TheVariants.{Hyp as InHyp}
 use Rattle.bk_kernel.specs.declared.rule.Rule.{Rule}
 use Rattle.bk_show.specs.Items.{Item, blank, sign, text_of}
-use Rattle.bk_show.specs.Shown.{name_of_variable, enclosed, literal_items, items}
+use Rattle.bk_show.specs.Shown.{name_of_variable, literal_items, items}
 use Rattle.bk_show.proofs.Written.{text-plus}
-use Rattle.bk_print.specs.Written.{Part, word_of, parts_of}
-use Rattle.bk_print.specs.Text.{behind_each, divided, comma, spaced, number_items, numbers_behind, place_items, terms_items, some_type_items, name_items, law_name, picks_items, law_items, multiple_items, facts_items, certificate_items, part_items, word_items, parts_items, rule_items, semicolon_before, rule_lines, lines_text}
+use Rattle.bk_print.specs.Written.{word_of, parts_of}
+use Rattle.bk_print.specs.Text.{behind_each, divided, comma, spaced, number_items, numbers_behind, place_items, terms_items, some_type_items, name_items, law_name, picks_items, law_items, multiple_items, facts_items, word_items, parts_items, rule_items, semicolon_before, rule_lines, lines_text}
 
 -- ---- lists
 -- one piece more behind what stands between

@@ -1,5 +1,5 @@
 -- The script that the tokens of a printed text spell.
-use Rattle.std.specs.Prelude.{ℕ, suc, ◌+◌, ℤ, pos, negsuc, List, [], ◌∷◌, ◌++◌, map, length, codes, Option, Some, None}
+use Rattle.std.specs.Prelude.{ℕ, ◌+◌, ℤ, pos, negsuc, List, [], ◌∷◌, ◌++◌, map, length, codes, Option, Some, None}
 use Rattle.bk_val.specs.ValueType.{ValueType}
 use Rattle.bk_form.specs.Table.{Table, variable_type}
 use Rattle.bk_form.specs.Formula.{Formula}
@@ -22,7 +22,7 @@ use Rattle.bk_raw.specs.Trees.ScriptTree.{RawPlace, in_goal, in_hypothesis, RawL
 use Rattle.bk_kernel.specs.declared.rule.Place.{Place}
 use Rattle.bk_kernel.specs.declared.rule.Place.TheVariants.{Goal, Hyp as InHyp}
 use Rattle.bk_kernel.specs.declared.rule.Rule.{Rule}
-use Rattle.bk_show.specs.Items.{Item, blank, lexeme, plain, sign, text_of}
+use Rattle.bk_show.specs.Items.{Item, blank, lexeme, plain, sign}
 use Rattle.bk_show.specs.Shown.{name_of_variable, items}
 use Rattle.bk_show.proofs.Tokens.{after, tokens_from}
 use Rattle.bk_show.proofs.Trees.{written_type, shown_tree}

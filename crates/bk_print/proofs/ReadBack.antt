@@ -5,7 +5,6 @@ use Rattle.std.specs.List.{AllZip, AllPairs, flat_map, filter_map, join_with_byt
 use Rattle.bk_val.specs.ValueType.{ValueType, int_type, bool_type, enum_type, pair_type, set_type}
 use Rattle.bk_form.specs.Table.{Table, VariableEntry}
 use Rattle.bk_form.specs.declared.token.Token.{Token}
-use Rattle.bk_form.specs.declared.token.TokenKind.TheVariants.{Name}
 use Rattle.bk_ops.specs.declared.sign.TheConstants.{DOT}
 use Rattle.bk_raw.specs.declared.script.NamePart.{NamePart}
 use Rattle.bk_raw.specs.declared.script.NamePart.TheVariants.{Letters, Numeral}
@@ -24,17 +23,17 @@ use Rattle.bk_p_proof.specs.Unread.{IsWithoutSequences}
 use Rattle.bk_p_proof.specs.TypedNames.{script_names, AreOfOneType}
 use Rattle.bk_scripts.specs.Parts.{Around}
 use Rattle.bk_scripts.specs.Grounding.{StandsFor, around_script, AreRulesOf, IsGrounded}
-use Rattle.bk_scripts.specs.Sight.{part_text, no_variable}
-use Rattle.bk_scripts.specs.Brought.{first_of_each, new_over, new_names, hidden, type_scope, type_in, type_of, entry_for, widened, numbered_names, script_scope}
+use Rattle.bk_scripts.specs.Sight.{part_text}
+use Rattle.bk_scripts.specs.Brought.{new_over, new_names, hidden, type_scope, type_of, entry_for, widened, numbered_names, script_scope}
 use Rattle.bk_status.specs.States.{name_text}
-use Rattle.bk_show.specs.Items.{Item, blank, plain, sign, text_of}
+use Rattle.bk_show.specs.Items.{Item, plain, sign, text_of}
 use Rattle.bk_show.specs.Stands.{TypeStands}
 use Rattle.bk_show.proofs.Tokens.{after}
 use Rattle.bk_show.proofs.Trees.{written_type}
 use Rattle.bk_show.proofs.Written.{text-plus}
 use Rattle.bk_print.specs.Text.{behind_each, rule_lines, lines_text, script_text}
 use Rattle.bk_form.specs.Each.{Each}
-use Rattle.bk_print.specs.Readable.{numbered, with_new, outside, parameters, scope_with, names_with, names_of_types, ScriptReads, PrintedScript, IsCommentLine}
+use Rattle.bk_print.specs.Readable.{with_new, outside, parameters, scope_with, names_with, names_of_types, ScriptReads, PrintedScript, IsCommentLine}
 use Rattle.bk_print.specs.Laws.{IsWithinLimits, ReadsBack, ScriptsReadBack, AreWithinLimits, text_of_script, FileReadsBack, FilesReadBack}
 use Rattle.bk_print.proofs.RawScripts.{part_item, dotted, head_line, last_line, lines_of, tokens_of_lines, past_script, raw_script, file_lines, file_scripts}
 use Rattle.bk_print.proofs.LinesCut.{text_with, LinesLexed, nothing-left, comment-left, lines-tokens}

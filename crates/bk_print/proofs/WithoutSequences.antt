@@ -14,9 +14,9 @@ use Rattle.bk_form.specs.declared.operator.Domain.{Domain}
 use Rattle.bk_form.specs.declared.operator.Domain.TheVariants.{Integer as WholeNumbers, Enum}
 use Rattle.bk_form.specs.declared.token.Token.{Token}
 use Rattle.bk_form.specs.declared.token.TokenKind.{TokenKind}
-use Rattle.bk_form.specs.declared.token.TokenKind.TheVariants.{Name, BoundName, Number, Sign, Word}
-use Rattle.bk_ops.specs.declared.sign.TheConstants.{FOR_ALL, EXISTS, MEMBER, MINUS, TIMES, CLOSE_PAREN, OPEN_BRACKET, CLOSE_BRACKET, OPEN_BRACE, CLOSE_BRACE, INVERSE, SEMICOLON, COMMA, DOT, BAR, LAMBDA}
-use Rattle.bk_ops.specs.declared.sign.TheConstants.{PLUS, DIVIDE}
+use Rattle.bk_form.specs.declared.token.TokenKind.TheVariants.{Name, Number, Sign, Word}
+use Rattle.bk_ops.specs.declared.sign.TheConstants.{FOR_ALL, EXISTS, MEMBER, TIMES, CLOSE_PAREN, OPEN_BRACKET, CLOSE_BRACKET, CLOSE_BRACE, INVERSE, SEMICOLON, DOT, BAR}
+use Rattle.bk_ops.specs.declared.sign.TheConstants.{PLUS}
 use Rattle.bk_lex.specs.Lexis.{word_number}
 use Rattle.bk_lin.specs.declared.fact.Line.{Line}
 use Rattle.bk_lin.specs.declared.fact.Line.TheVariants.{Sum, Div}
@@ -40,7 +40,7 @@ use Rattle.bk_show.specs.declared.notation.BinaryForm.TheVariants.{Infix as infi
 use Rattle.bk_show.specs.Shown.{name_of_variable, name_of_set, name_of_element, behind_dollar, kind_by, enclosed, enclosed_if, type_items, unary_form, binary_form, is_infix, is_bare, unary_items, Sides, sides, binary_items, truth_word, literal_items, domain_items, typed_items, comma_before, bounds_items, quantified_items, range_items, comma_between, comprehension_items, lambda_items, items, ranges_items}
 use Rattle.bk_show.proofs.Tokens.{after, tokens_from}
 use Rattle.bk_print.specs.Written.{Part, a_number, a_term, some_terms, a_place, no_place, some_names, a_law, a_certificate, Parts, none, one, two, word_of, parts_of}
-use Rattle.bk_print.specs.Text.{behind_each, divided, comma, spaced, number_items, numbers_behind, place_items, terms_items, some_type_items, name_items, picks_items, law_items, multiple_items, line_items, facts_items, certificate_items, part_items, parts_items, word_items, rule_items, semicolon_before, rule_lines}
+use Rattle.bk_print.specs.Text.{behind_each, divided, comma, spaced, number_items, numbers_behind, place_items, terms_items, some_type_items, name_items, picks_items, multiple_items, line_items, facts_items, certificate_items, part_items, parts_items, word_items, rule_items, semicolon_before, rule_lines}
 use Rattle.bk_print.proofs.RawScripts.{tokens_of_lines, letters_kind, part_item, dotted, head_line, last_line, lines_of}
 
 -- ---- items

@@ -1,4 +1,4 @@
-use Rattle.std.proofs.Common.{◌≡◌, ◌+◌, ◌≤◌, ◌<◌, ◌++◌, List, ℕ, length, codes, ap, sym, arith}
+use Rattle.std.proofs.Common.{◌+◌, ◌++◌, List, ℕ, codes, ap, sym, arith}
 use Rattle.bk_print.proofs.Pieces.{semicolon-more, semicolon-none}
 use Rattle.bk_print.proofs.printing.end_of_line.Goals as goal
 
