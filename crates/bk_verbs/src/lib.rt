@@ -5,12 +5,16 @@ mod build;
 mod check;
 mod code;
 mod exec;
+<<<<<<< ours
 mod files;
 mod finding;
+=======
+pub mod files;
+>>>>>>> theirs
 mod listing;
 mod obligations;
 mod player;
-mod proof;
+pub mod proof;
 mod putting;
 mod run;
 mod sample;
