@@ -5,12 +5,8 @@ mod build;
 mod check;
 mod code;
 mod exec;
-<<<<<<< ours
-mod files;
-mod finding;
-=======
 pub mod files;
->>>>>>> theirs
+mod finding;
 mod listing;
 mod obligations;
 mod player;
