@@ -1,22 +1,18 @@
 -- The names that a printed script brings: the new variables, with their texts and types.
-use Rattle.std.proofs.Common.{◌≡◌, ◌≢◌, ℕ, zero, suc, ◌+◌, ◌<◌, List, [], ◌∷◌, ◌++◌, map, length, refl, ap, sym, ◌∙◌, arith, subst, append_assoc, append-nil, length-append, Bool, true, false, not, cond, ◌||◌, Option, Some, None, inl, inr}
+use Rattle.std.proofs.Common.{◌≡◌, ◌≢◌, ℕ, zero, suc, ◌+◌, ◌<◌, List, [], ◌∷◌, ◌++◌, map, length, refl, ap, sym, ◌∙◌, arith, subst, append_assoc, append-nil, length-append, Bool, true, false, not, cond, ◌||◌, Option, Some}
 use Rattle.std.specs.Prelude.{slice_index_or}
-use Rattle.std.specs.List.{AllZip, flat_map, slice_get, filter, filter_map, list_any, cons_option}
+use Rattle.std.specs.List.{AllZip, flat_map, slice_get, filter_map, list_any, cons_option}
 use Rattle.std.specs.Option.{option_map}
 use Rattle.std.specs.Str.{bytes_eq}
 use Rattle.std.specs.Cmp.Lexicographic.{bytes_decides}
-use Rattle.std.proofs.lemmas.Bool.{and_parts}
 use Rattle.bk_val.specs.ValueType.{ValueType}
 use Rattle.bk_form.specs.Table.{Table, VariableEntry, variable_type}
 use Rattle.bk_raw.specs.declared.script.RawTyped.{RawTyped}
-use Rattle.bk_raw.specs.Trees.ScriptTree.{RulePart, RawRule}
-use Rattle.bk_raw.specs.Meaning.ScopeReading.{ScopeNames}
-use Rattle.bk_p_proof.specs.TypedNames.{part_names, rule_names, script_names, AreOfOneType}
+use Rattle.bk_p_proof.specs.TypedNames.{part_names, rule_names, AreOfOneType}
 use Rattle.bk_kernel.specs.declared.rule.Rule.{Rule}
 use Rattle.bk_scripts.specs.Sight.{no_variable}
-use Rattle.bk_scripts.specs.Brought.{with_first, first_of_each, is_in_scope, new_over, hidden, entry_for, number_of, next_number, numbered_names}
+use Rattle.bk_scripts.specs.Brought.{first_of_each, is_in_scope, new_over, hidden, entry_for, number_of, next_number, numbered_names}
 use Rattle.bk_auto.specs.Found.{numbers_from}
-use Rattle.bk_show.specs.Items.{Item}
 use Rattle.bk_show.specs.Shown.{or_empty, name_of_variable}
 use Rattle.bk_show.proofs.Tokens.{after}
 use Rattle.bk_show.proofs.Trees.{written_type}
@@ -24,7 +20,7 @@ use Rattle.bk_print.specs.Written.{Part, a_number, a_term, some_terms, a_place, 
 use Rattle.bk_print.specs.Text.{comma, name_items, part_items, word_items}
 use Rattle.bk_form.specs.Each.{Each}
 use Rattle.bk_print.specs.Readable.{names_of_part, names_of_parts, names_brought, numbered, AreApart}
-use Rattle.bk_print.proofs.RawScripts.{more_at, list_at, type_text, raw_name, names_at, raw_part, raw_parts, raw_rule, line_of, rules_at}
+use Rattle.bk_print.proofs.RawScripts.{more_at, type_text, raw_name, names_at, raw_part, raw_parts, raw_rule, line_of, rules_at}
 
 -- ---- lists side by side
 zip-append : {A B : Type 0} (R : A → B → Type 0) (xs : List A) (ys : List B) (us : List A) (vs : List B) → AllZip R xs ys → AllZip R us vs → AllZip R (xs ++ us) (ys ++ vs)

@@ -29,17 +29,17 @@ use Rattle.bk_kernel.specs.declared.rule.Place.{Place}
 use Rattle.bk_kernel.specs.declared.rule.Place.TheVariants.{Goal, Hyp as InHyp}
 use Rattle.bk_kernel.specs.declared.rule.Rule.{Rule}
 use Rattle.bk_show.specs.Items.{Item, blank, lexeme, text_of, kind_text, plain, sign}
-use Rattle.bk_show.specs.Shown.{name_of_variable, enclosed, type_items, literal_items, items}
+use Rattle.bk_show.specs.Shown.{name_of_variable, type_items, literal_items, items}
 use Rattle.bk_show.specs.Readable.{IsPlainName, IsSmall}
 use Rattle.bk_show.proofs.Scalars.{identifier-utf8}
 use Rattle.bk_show.proofs.Begun.{decimal-is, is_letters, is_ascii_word, word-identifier, in_word, IsWordlike, wordlike-class, wordlike-begins, Next}
 use Rattle.bk_print.specs.Written.{Part, a_number, a_term, some_terms, a_place, no_place, some_names, a_law, a_certificate, Parts, none, one, two, word_of, parts_of}
-use Rattle.bk_print.specs.Text.{behind_each, divided, comma, spaced, number_items, numbers_behind, place_items, terms_items, some_type_items, name_items, series_letter, law_name, picks_items, law_items, multiple_items, line_items, facts_items, certificate_items, part_items, parts_items, word_items, rule_items, semicolon_before, rule_lines, lines_text}
+use Rattle.bk_print.specs.Text.{behind_each, divided, comma, spaced, number_items, numbers_behind, place_items, terms_items, some_type_items, name_items, series_letter, law_name, picks_items, law_items, multiple_items, line_items, facts_items, certificate_items, part_items, parts_items, word_items, rule_items, semicolon_before, rule_lines}
 use Rattle.bk_form.specs.Each.{Each}
-use Rattle.bk_print.specs.Readable.{HasSome, IsNumber, ReadsIn, NameReads, PlaceReads, MultipleReads, LineReads, PartReads, PartsRead, HasWord, RuleReads, NamePartReads}
+use Rattle.bk_print.specs.Readable.{IsNumber, ReadsIn, NameReads, PlaceReads, MultipleReads, LineReads, PartReads, PartsRead, HasWord, RuleReads, NamePartReads}
 use Rattle.bk_print.proofs.ShownTexts.{Ends, Lexed, lexed-append, is_fixed, follows, Good, Fine, fine, Cuts, one-good, set-good, number-ends, literal-good, plain-cuts, word-ends, sign-lead, lone-lead, op-lead, enclosed-lexed, type-good, formula-good}
-use Rattle.bk_print.proofs.RawScripts.{letters_kind, part_item, dotted, head_line, last_line, line_of, lines_of}
-use Rattle.bk_print.proofs.LinesCut.{LinesLexed}
+use Rattle.bk_print.proofs.RawScripts.{letters_kind, part_item, dotted, last_line, lines_of}
+use Rattle.bk_print.proofs.LinesCut.{text_with, LinesLexed}
 
 not-then : (b : Bool) → not b ≡ true → b ≡ false
 not-then true h = absurd (cc)
@@ -266,11 +266,11 @@ module _ (table : Table) (names : Names) where
   semicolon-lexed [] rest = tt
   semicolon-lexed (r ∷ rs) rest = lone-lead SEMICOLON [] (10 ∷ rest) refl tt
 
-  rules-lexed : (rules : List Rule) (tail : List (List Item)) → Each (RuleReads table names) rules → LinesLexed tail → LinesLexed (rule_lines table rules ++ tail)
-  rules-lexed [] tail h k = k
-  rules-lexed (r ∷ rs) tail h k =
-      let rest = lines_text (rule_lines table rs ++ tail) in
-      (lexed-append (rule_items table r) (semicolon_before rs) (10 ∷ rest) (rule-fine r h.0 (text_of (semicolon_before rs) ++ (10 ∷ rest)) (semicolon-next rs rest)) (semicolon-lexed rs rest), rules-lexed rs tail h.1 k)
+  rules-lexed : (rules : List Rule) (tail : List (List Item)) (end : List ℕ) → Each (RuleReads table names) rules → LinesLexed tail end → LinesLexed (rule_lines table rules ++ tail) end
+  rules-lexed [] tail end h k = k
+  rules-lexed (r ∷ rs) tail end h k =
+      let rest = text_with (rule_lines table rs ++ tail) end in
+      (lexed-append (rule_items table r) (semicolon_before rs) (10 ∷ rest) (rule-fine r h.0 (text_of (semicolon_before rs) ++ (10 ∷ rest)) (semicolon-next rs rest)) (semicolon-lexed rs rest), rules-lexed rs tail end h.1 k)
 
 -- ---- names of scripts
 letters-cuts : (text : List ℕ) (o : Option ℕ) → word_number text ≡ o → IsIdentifier text → Cuts text (letters_kind text o)
@@ -320,9 +320,9 @@ dotted-lexed (x ∷ xs) rest h b =
     (part-lead x (after_dots xs) rest h.0 more.1 more.0).0
 
 -- ---- all lines
-pub script-lexed : (table : Table) (names : Names) (name : List NamePart) (rules : List Rule) → Each NamePartReads name → Each (RuleReads table names) rules → LinesLexed (lines_of table name rules)
-script-lexed table names name rules h k =
-    let tail = rule_lines table rules ++ last_line ∷ [] in (
-      kind-lead (Name (codes "proof")) (blank ∷ dotted name) (10 ∷ lines_text tail) refl refl (dotted-lexed name (10 ∷ lines_text tail) h refl),
-      rules-lexed table names rules (last_line ∷ []) k (kind-lead (Name (codes "end")) [] (10 ∷ []) refl refl tt, tt),
+pub script-lexed : (table : Table) (names : Names) (name : List NamePart) (rules : List Rule) (tail : List (List Item)) (end : List ℕ) → Each NamePartReads name → Each (RuleReads table names) rules → LinesLexed tail end → LinesLexed (lines_of table name rules tail) end
+script-lexed table names name rules tail end h k t =
+    let behind = text_with (rule_lines table rules ++ last_line ∷ tail) end in (
+      kind-lead (Name (codes "proof")) (blank ∷ dotted name) (10 ∷ behind) refl refl (dotted-lexed name (10 ∷ behind) h refl),
+      rules-lexed table names rules (last_line ∷ tail) end k (kind-lead (Name (codes "end")) [] (10 ∷ text_with tail end) refl refl tt, t),
     )

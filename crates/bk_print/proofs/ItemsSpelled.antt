@@ -1,5 +1,5 @@
 -- The tokens of the lines of a script are spelled by the script.
-use Rattle.std.proofs.Common.{◌≡◌, ℕ, suc, ◌+◌, ◌≤◌, Bool, true, false, cond, List, [], ◌∷◌, ◌++◌, map, length, refl, ap, sym, ◌∙◌, arith, subst, append_assoc, append-nil, inl, inr, Option, Some, None}
+use Rattle.std.proofs.Common.{◌≡◌, ℕ, suc, ◌+◌, Bool, true, false, cond, List, [], ◌∷◌, ◌++◌, map, length, refl, ap, sym, ◌∙◌, arith, subst, append_assoc, append-nil, inl, inr, Option, Some, None}
 use Rattle.std.specs.Prelude.{ℤ, pos, negsuc, codes, ◌-◌}
 use Rattle.std.specs.List.{slice_get}
 use Rattle.std.specs.Str.{bytes_eq}
@@ -16,32 +16,28 @@ use Rattle.bk_ops.specs.declared.word.TheConstants.{BOOL, INTEGER, POW}
 use Rattle.bk_lex.specs.Lexis.{word_number, number_in}
 use Rattle.bk_lin.specs.declared.fact.Line.{Line}
 use Rattle.bk_lin.specs.declared.fact.Line.TheVariants.{Sum, Div}
-use Rattle.bk_raw.specs.Grammar.Pieces.{Never, Absent, Just, JustAt, JustSign, ◌⌢◌, Divided, AnyDivided, InRow, InParentheses, Starting, Digits, Literal, Binding}
-use Rattle.bk_raw.specs.Grammar.Spelling.{Declared, Typed, Term}
-use Rattle.bk_raw.specs.Grammar.ScriptSpelling.{Place as PlaceSpelled, TypedName, AnyTerm, Picked, Multiple, Line as LineSpelled, Spelled, Ruled, Rule as RuleSpelled, Lettered, PartNamed, OpensScript, Scripted, SpellsScripts, letters_of}
-use Rattle.bk_raw.specs.Trees.RawTree.{RawTree}
-use Rattle.bk_raw.specs.Trees.WrittenType.{WrittenType}
+use Rattle.bk_raw.specs.Grammar.Pieces.{Absent, Just, JustAt, JustSign, ◌⌢◌, Divided, AnyDivided, InRow, InParentheses, Starting, Digits, Literal}
+use Rattle.bk_raw.specs.Grammar.Spelling.{Typed}
+use Rattle.bk_raw.specs.Grammar.ScriptSpelling.{Place as PlaceSpelled, TypedName, AnyTerm, Picked, Multiple, Line as LineSpelled, Spelled, Ruled, Rule as RuleSpelled, Lettered, PartNamed, OpensScript, Scripted}
 use Rattle.bk_raw.specs.declared.script.NamePart.{NamePart}
 use Rattle.bk_raw.specs.declared.script.NamePart.TheVariants.{Letters, Numeral}
 use Rattle.bk_raw.specs.declared.script.RuleWord.{RuleWord}
-use Rattle.bk_raw.specs.declared.script.RawMultiple.{RawMultiple}
-use Rattle.bk_raw.specs.declared.script.RawTyped.{RawTyped}
-use Rattle.bk_raw.specs.Trees.ScriptTree.{rule_kind, PartKind, one_number, one_term, some_terms as terms_kind, one_place, perhaps_place, typed_names, one_law, certificate, shape_of, RawPlace, RawLine, RulePart, part_place, RawRule, RawScript}
+use Rattle.bk_raw.specs.Trees.ScriptTree.{rule_kind, PartKind, one_number, one_term, some_terms as terms_kind, one_place, perhaps_place, typed_names, one_law, certificate, shape_of}
 use Rattle.bk_raw.specs.Meaning.Names.{Names}
 use Rattle.bk_kernel.specs.declared.rule.Place.{Place}
 use Rattle.bk_kernel.specs.declared.rule.Place.TheVariants.{Goal, Hyp as InHyp}
 use Rattle.bk_kernel.specs.declared.rule.Rule.{Rule}
-use Rattle.bk_kernel.specs.declared.rule.Rule.TheVariants.{Hyp, True, Same, Eval, False, Absurd, And, Iff, Imp, Not, Left, Right, Or, Contra, Fix, UseTerms, Split, Cases, Apply, Inst, OpenSome, Cut, Case, Drop, Eq, Qe, Law, Wal, TypeOf, Neg, Mem, Val, Ext, Sub, Ex, Pair, Elems, Interval, Induct, Poly, Lin, Unread}
-use Rattle.bk_show.specs.Items.{Item, blank, lexeme, item_text, kind_text, plain, sign}
+use Rattle.bk_kernel.specs.declared.rule.Rule.TheVariants.{Hyp, Eval, False, Absurd, Fix, UseTerms, Split, Cases, Apply, Inst, OpenSome, Cut, Case, Drop, Eq, Qe, Law, Wal, TypeOf, Neg, Mem, Val, Ext, Sub, Ex, Pair, Elems, Interval, Lin, Unread}
+use Rattle.bk_show.specs.Items.{Item, blank, lexeme, kind_text, plain, sign}
 use Rattle.bk_show.specs.Shown.{name_of_variable, name_of_set, enclosed, type_items, literal_items, items}
 use Rattle.bk_show.proofs.Tokens.{item_tokens, tokens_from, after}
-use Rattle.bk_show.proofs.Trees.{written_type, shown_tree}
+use Rattle.bk_show.proofs.Trees.{written_type}
 use Rattle.bk_show.proofs.Spelled.{tokens-append, formula-spelled}
 use Rattle.bk_print.specs.Written.{Part, a_number, a_term, some_terms, a_place, no_place, some_names, a_law, a_certificate, Parts, none, one, two, word_of, parts_of}
 use Rattle.bk_print.specs.Text.{behind_each, divided, comma, spaced, number_items, numbers_behind, place_items, terms_items, some_type_items, name_items, law_name, picks_items, law_items, multiple_items, line_items, facts_items, certificate_items, part_items, parts_items, word_items, rule_items, semicolon_before, rule_lines}
 use Rattle.bk_form.specs.Each.{Each}
 use Rattle.bk_print.specs.Readable.{HasSome, ReadsIn, NameReads, MultipleReads, LineReads, PartReads, PartsRead, HasWord, RuleReads, NamePartReads}
-use Rattle.bk_print.proofs.RawScripts.{more_at, list_at, tree_at, trees_at, raw_place, type_text, raw_name, names_at, raw_multiple, digits_of, raw_line, raw_part, raw_parts, the_word, raw_rule, line_of, rules_at, tokens_of_lines, letters_kind, part_item, dotted, head_line, last_line, lines_of, raw_script}
+use Rattle.bk_print.proofs.RawScripts.{more_at, list_at, tree_at, trees_at, raw_place, type_text, raw_name, names_at, raw_multiple, digits_of, raw_line, raw_part, raw_parts, the_word, raw_rule, line_of, rules_at, tokens_of_lines, letters_kind, part_item, dotted, head_line, last_line, lines_of, past_lines, past_script, raw_script}
 
 -- ---- tokens one after another
 join : (One Two : List Token → Type 0) (p : ℕ) (xs ys : List Item) → One (tokens_from p xs) → Two (tokens_from (after p xs) ys) → (One ⌢ Two) (tokens_from p (xs ++ ys))
@@ -400,25 +396,26 @@ some-name-starts (x ∷ xs) p s h = name-starts x xs p h
 
 -- ---- the script
 -- the tokens of lines are those of the first ones and then of the others
-abbrev past_lines : ℕ → List (List Item) → ℕ
-past_lines p [] = p
-past_lines p (l ∷ ls) = past_lines (after p l + 1) ls
-
 lines-append : (p : ℕ) (ls ms : List (List Item)) → tokens_of_lines p (ls ++ ms) ≡ tokens_of_lines p ls ++ tokens_of_lines (past_lines p ls) ms
 lines-append p [] ms = refl
 lines-append p (l ∷ ls) ms =
     let next = after p l + 1 in
     ap (λ ts. tokens_from p l ++ ts) (lines-append next ls ms) ∙ sym (append_assoc (tokens_from p l) (tokens_of_lines next ls) (tokens_of_lines (past_lines next ls) ms))
 
-pub script-spelled : (table : Table) (names : Names) (name : List NamePart) (rules : List Rule) → HasSome name → Each NamePartReads name → Each (RuleReads table names) rules → SpellsScripts (raw_script table name rules ∷ []) (tokens_of_lines 0 (lines_of table name rules))
-script-spelled table names name rules some h k =
-    let script = raw_script table name rules in
-    let q = after 0 (plain (Name (codes "proof")) ∷ blank ∷ []) in
-    let p = after 0 (head_line name) + 1 in
-    let head = tokens_from 0 (head_line name) in
-    let body = tokens_of_lines p (rule_lines table rules) in
-    let end = tokens_of_lines (past_lines p (rule_lines table rules)) (last_line ∷ []) in
-    let whole : tokens_of_lines 0 (lines_of table name rules) ≡ (head ++ body) ++ end = ap (λ ts. head ++ ts) (lines-append p (rule_lines table rules) (last_line ∷ [])) ∙ sym (append_assoc head body end) in
-    let opens : OpensScript script (head ++ body) = (item_tokens 0 (plain (Name (codes "proof"))), tokens_from q (dotted name) ++ body, refl, (record { kind = Name (codes "proof"); start = 0; end = 0 + length (codes "proof") }, refl, refl, refl), (tokens_from q (dotted name), body, refl, some-name-starts name q some h, any-rules-spelled table names rules p k)) in
-    let closes : Just (Name (codes "end")) end = last (Name (codes "end")) (codes "end") (past_lines p (rule_lines table rules)) in
-    (tokens_of_lines 0 (lines_of table name rules), [], sym (append-nil (tokens_of_lines 0 (lines_of table name rules))), (head ++ body, end, whole, opens, closes), refl)
+-- the tokens of a script, and those of lines behind it
+pub script-spelled : (table : Table) (names : Names) (name : List NamePart) (rules : List Rule) (p : ℕ) (tail : List (List Item)) (Behind : List Token → Type 0) → HasSome name → Each NamePartReads name → Each (RuleReads table names) rules
+    → Behind (tokens_of_lines (past_script table p name rules) tail) → (Scripted (raw_script table p name rules) ⌢ Behind) (tokens_of_lines p (lines_of table name rules tail))
+script-spelled table names name rules p tail Behind some h k b =
+    let script = raw_script table p name rules in
+    let q = after p (plain (Name (codes "proof")) ∷ blank ∷ []) in
+    let first = after p (head_line name) + 1 in
+    let past = past_lines first (rule_lines table rules) in
+    let head = tokens_from p (head_line name) in
+    let body = tokens_of_lines first (rule_lines table rules) in
+    let end = tokens_from past last_line in
+    let rest = tokens_of_lines (past_script table p name rules) tail in
+    let whole : tokens_of_lines p (lines_of table name rules tail) ≡ ((head ++ body) ++ end) ++ rest =
+    ap (λ ts. head ++ ts) (lines-append first (rule_lines table rules) (last_line ∷ tail)) ∙ sym (append_assoc (head ++ body) end rest ∙ append_assoc head body (end ++ rest)) in
+    let opens : OpensScript script (head ++ body) = (item_tokens p (plain (Name (codes "proof"))), tokens_from q (dotted name) ++ body, refl, (record { kind = Name (codes "proof"); start = p; end = p + length (codes "proof") }, refl, refl, refl), (tokens_from q (dotted name), body, refl, some-name-starts name q some h, any-rules-spelled table names rules first k)) in
+    let closes : Just (Name (codes "end")) end = last (Name (codes "end")) (codes "end") past in
+    ((head ++ body) ++ end, rest, whole, (head ++ body, end, refl, opens, closes), b)

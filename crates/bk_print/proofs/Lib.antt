@@ -13,4 +13,7 @@ mod PartsRead
 mod ScopeFound
 mod Certified
 mod FoundReads
+mod Alone
 mod Unproved
+mod FoundFiles
+mod Examples

@@ -1,14 +1,13 @@
 -- Lines of items are cut into the tokens of the lines.
-use Rattle.std.proofs.Common.{◌≡◌, ℕ, ◌+◌, true, List, [], ◌∷◌, ◌++◌, length, refl, ap, sym, ◌∙◌, arith, append_assoc, length-append, IsUtf8}
+use Rattle.std.proofs.Common.{◌≡◌, ℕ, ◌+◌, List, [], ◌∷◌, ◌++◌, length, refl, ap, sym, ◌∙◌, arith, subst, append_assoc, length-append, IsUtf8}
 use Rattle.std.specs.Prelude.{codes, IsTrue}
 use Rattle.std.proofs.lemmas.Str.{IsUtf8-append, IsUtf8-nil}
 use Rattle.bk_form.specs.declared.token.Token.{Token}
-use Rattle.bk_form.specs.declared.token.TokenKind.{TokenKind}
-use Rattle.bk_lex.specs.Lexis.{is_blank, blank as gap, Cut, AreTokens}
+use Rattle.bk_lex.specs.Lexis.{Gap, is_blank, blank as gap, line, AreGaps, Cut, AreTokens}
 use Rattle.bk_show.specs.Items.{Item, blank, lexeme, item_text, text_of}
 use Rattle.bk_show.proofs.Tokens.{after, tokens_from}
-use Rattle.bk_print.specs.Text.{lines_text}
-use Rattle.bk_print.proofs.ShownTexts.{Ends, Lexed, ascii-utf8, utf8-of}
+use Rattle.bk_print.specs.Readable.{IsCommentLine}
+use Rattle.bk_print.proofs.ShownTexts.{Lexed, ascii-utf8, utf8-of}
 use Rattle.bk_print.proofs.RawScripts.{tokens_of_lines}
 
 -- ---- one line
@@ -35,22 +34,47 @@ after-is p (x ∷ xs) =
     omega arith
 
 -- ---- lines
+-- lines with their ends, and a text behind them
+abbrev pub text_with : List (List Item) → List ℕ → List ℕ
+text_with [] end = end
+text_with (l ∷ ls) end = text_of l ++ (10 ∷ text_with ls end)
+
 -- each line is cut where its end follows
-abbrev pub LinesLexed : List (List Item) → Type 0
-LinesLexed [] = Unit {0}
-LinesLexed (l ∷ ls) = Lexed l (10 ∷ lines_text ls) × LinesLexed ls
+abbrev pub LinesLexed : List (List Item) → List ℕ → Type 0
+LinesLexed [] end = Unit {0}
+LinesLexed (l ∷ ls) end = Lexed l (10 ∷ text_with ls end) × LinesLexed ls end
 
-cut-lines : (ls : List (List Item)) (p total : ℕ) → LinesLexed ls → total ≡ p + length (lines_text ls) → Cut total (lines_text ls) (tokens_of_lines p ls) []
-cut-lines [] p total h e = ([], refl)
-cut-lines (l ∷ ls) p total h e =
+-- a text without tokens
+abbrev pub HasNoTokens : List ℕ → Type 0
+HasNoTokens end = IsUtf8 end × ((gaps : List Gap) × AreGaps gaps end [])
+
+pub nothing-left : HasNoTokens []
+nothing-left = (IsUtf8-nil, ([], refl))
+
+cut-lines : (ls : List (List Item)) (end : List ℕ) (p total : ℕ) → LinesLexed ls end → total ≡ p + length (text_with ls end) → Cut total end [] [] → Cut total (text_with ls end) (tokens_of_lines p ls) []
+cut-lines [] end p total h e c = c
+cut-lines (l ∷ ls) end p total h e c =
+    let rest = text_with ls end in
     let there : after p l ≡ p + length (text_of l) = after-is p l in
-    let long : length (text_of l ++ (10 ∷ lines_text ls)) ≡ length (text_of l) + length (10 ∷ lines_text ls) = length-append (text_of l) (10 ∷ lines_text ls) in
-    cut-front l (10 ∷ lines_text ls) p total (tokens_of_lines (after p l + 1) ls) h.0 e
-    (cut-gap 10 total (lines_text ls) (tokens_of_lines (after p l + 1) ls) refl (cut-lines ls (after p l + 1) total h.1 (omega arith)))
+    let long : length (text_of l ++ (10 ∷ rest)) ≡ length (text_of l) + length (10 ∷ rest) = length-append (text_of l) (10 ∷ rest) in
+    cut-front l (10 ∷ rest) p total (tokens_of_lines (after p l + 1) ls) h.0 e
+    (cut-gap 10 total rest (tokens_of_lines (after p l + 1) ls) refl (cut-lines ls end (after p l + 1) total h.1 (omega arith) c))
 
-lines-utf8 : (ls : List (List Item)) → LinesLexed ls → IsUtf8 (lines_text ls)
-lines-utf8 [] h = IsUtf8-nil
-lines-utf8 (l ∷ ls) h = IsUtf8-append (text_of l) (10 ∷ lines_text ls) (utf8-of l (10 ∷ lines_text ls) h.0) (IsUtf8-append (10 ∷ []) (lines_text ls) (ascii-utf8 (10 ∷ []) refl) (lines-utf8 ls h.1))
+lines-utf8 : (ls : List (List Item)) (end : List ℕ) → LinesLexed ls end → IsUtf8 end → IsUtf8 (text_with ls end)
+lines-utf8 [] end h u = u
+lines-utf8 (l ∷ ls) end h u =
+    let rest = text_with ls end in
+    IsUtf8-append (text_of l) (10 ∷ rest) (utf8-of l (10 ∷ rest) h.0) (IsUtf8-append (10 ∷ []) rest (ascii-utf8 (10 ∷ []) refl) (lines-utf8 ls end h.1 u))
 
-pub lines-tokens : (ls : List (List Item)) → LinesLexed ls → AreTokens (lines_text ls) (tokens_of_lines 0 ls)
-lines-tokens ls h = (lines-utf8 ls h, cut-lines ls 0 (length (lines_text ls)) h (omega arith))
+pub lines-tokens : (ls : List (List Item)) (end : List ℕ) → LinesLexed ls end → HasNoTokens end → AreTokens (text_with ls end) (tokens_of_lines 0 ls)
+lines-tokens ls end h n = (lines-utf8 ls end h n.0, cut-lines ls end 0 (length (text_with ls end)) h (omega arith) n.1)
+
+-- a comment in a line of its own
+pub comment-left : (text : List ℕ) → IsCommentLine text → HasNoTokens text
+comment-left text c =
+    let body = c.0 in
+    let whole : codes "//" ++ body ++ codes "\n" ≡ text = sym c.1 in
+    subst HasNoTokens whole (
+      IsUtf8-append (codes "//" ++ body) (codes "\n") (IsUtf8-append (codes "//") body (ascii-utf8 (codes "//") refl) c.3) (ascii-utf8 (codes "\n") refl),
+      (line body ∷ gap 10 ∷ [], (codes "\n", refl, (c.2, refl), ([], refl, refl, refl))),
+    )

@@ -1,5 +1,5 @@
 -- What the rules of a printed script stand for.
-use Rattle.std.proofs.Common.{◌≡◌, ℕ, suc, ◌+◌, ◌<◌, ◌^◌, List, [], ◌∷◌, ◌++◌, map, length, refl, ap, sym, ◌∙◌, arith, subst, Bool, true, false, Option, Some, None, inl}
+use Rattle.std.proofs.Common.{◌≡◌, ℕ, suc, ◌+◌, ◌<◌, ◌^◌, List, [], ◌∷◌, ◌++◌, map, refl, ap, sym, ◌∙◌, subst, Bool, Option, Some, None, inl}
 use Rattle.std.specs.Prelude.{ℤ, pos}
 use Rattle.std.specs.List.{AllZip}
 use Rattle.bk_val.specs.ValueType.{ValueType, int_type, bool_type, enum_type, pair_type, set_type}
@@ -8,12 +8,11 @@ use Rattle.bk_form.specs.Formula.{Formula}
 use Rattle.bk_form.specs.Role.{Role, gives, ranges_over, predicate, untyped, role}
 use Rattle.bk_lin.specs.declared.fact.Line.{Line}
 use Rattle.bk_lin.specs.declared.fact.Line.TheVariants.{Sum, Div}
-use Rattle.bk_raw.specs.Trees.ScriptTree.{RulePart, RawRule}
 use Rattle.bk_raw.specs.Meaning.Names.{Names}
 use Rattle.bk_raw.specs.Meaning.Outcome.{Reading}
 use Rattle.bk_raw.specs.Meaning.Printed.{set_type_of, power_of, product_of, type_read}
 use Rattle.bk_raw.specs.Meaning.TermReading.{place_of, reading, is_predicate}
-use Rattle.bk_raw.specs.Meaning.ScopeReading.{ScopeNames, variable_meaning, element_names, set_names, scope_names, names_in, ask_formula, formula_in}
+use Rattle.bk_raw.specs.Meaning.ScopeReading.{ScopeNames, variable_meaning, element_names, set_names, scope_names, names_in, ask_formula}
 use Rattle.bk_kernel.specs.declared.rule.Place.{Place}
 use Rattle.bk_kernel.specs.declared.rule.Place.TheVariants.{Goal, Hyp as InHyp}
 use Rattle.bk_kernel.specs.declared.rule.Rule.{Rule}
@@ -31,7 +30,7 @@ use Rattle.bk_print.specs.Written.{word_of, parts_of}
 use Rattle.bk_print.specs.Text.{comma, name_items, word_items}
 use Rattle.bk_form.specs.Each.{Each}
 use Rattle.bk_print.specs.Readable.{IsNumber, ReadsIn, NameReads, PlaceReads, MultipleReads, LineReads, RuleReads}
-use Rattle.bk_print.proofs.RawScripts.{more_at, list_at, tree_at, trees_at, raw_place, type_text, raw_name, names_at, raw_multiple, digits_of, raw_line, raw_parts, the_word, raw_rule, line_of, rules_at}
+use Rattle.bk_print.proofs.RawScripts.{more_at, list_at, tree_at, trees_at, raw_place, type_text, raw_name, names_at, raw_multiple, digits_of, raw_line, raw_parts, the_word, line_of, rules_at}
 
 -- ---- the names of a scope are no bound variables
 elements-global : (s i : ℕ) (xs : List (List ℕ)) (rest : Names) → HasNoLocals rest → HasNoLocals (element_names s i xs ++ rest)

@@ -1,20 +1,19 @@
 -- Pieces that are written one behind another, and the text that they make.
-use Rattle.std.proofs.Common.{◌≡◌, ℕ, zero, ◌+◌, ◌<◌, ◌≤◌, ℤ, pos, negsuc, suc, List, [], ◌∷◌, ◌++◌, length, map, drop, get_or, refl, ap, sym, ◌∙◌, arith, append_assoc, append-nil}
-use Rattle.std.specs.Prelude.{codes, decimal}
+use Rattle.std.proofs.Common.{◌≡◌, ℕ, zero, ◌+◌, ◌-◌, ◌<◌, ◌≤◌, ℤ, pos, negsuc, suc, List, [], ◌∷◌, ◌++◌, length, map, take, drop, get_or, refl, ap, sym, ◌∙◌, arith, append_assoc, append-nil}
+use Rattle.std.specs.Prelude.{codes, decimal, Result, Ok, Err, OnOk}
 use Rattle.std.specs.Global.{Vec}
 use Rattle.std.specs.Fmt.{signed_decimal}
-use Rattle.std.proofs.lemmas.List.{at_drop_more, drop_all}
+use Rattle.std.proofs.lemmas.List.{at_drop_more, drop_all, take_rest, get_or_default}
 use Rattle.bk_form.specs.Table.{Table, variable_type}
 use Rattle.bk_form.specs.Formula.{Formula}
 use Rattle.bk_ops.specs.declared.sign.TheConstants.{TIMES, DIVIDE, CLOSE_PAREN, MEMBER}
-use Rattle.bk_lin.specs.declared.fact.Line.{Line}
-use Rattle.bk_kernel.specs.declared.rule.Place.TheVariants.{Goal, Hyp as InHyp}
+use Rattle.bk_kernel.specs.declared.rule.Place.TheVariants.{Hyp as InHyp}
 use Rattle.bk_kernel.specs.declared.rule.Rule.{Rule}
 use Rattle.bk_show.specs.Items.{Item, blank, sign, text_of}
-use Rattle.bk_show.specs.Shown.{name_of_variable, enclosed, literal_items, items}
+use Rattle.bk_show.specs.Shown.{name_of_variable, literal_items, items}
 use Rattle.bk_show.proofs.Written.{text-plus}
-use Rattle.bk_print.specs.Written.{Part, word_of, parts_of}
-use Rattle.bk_print.specs.Text.{behind_each, divided, comma, spaced, number_items, numbers_behind, place_items, terms_items, some_type_items, name_items, law_name, picks_items, law_items, multiple_items, facts_items, certificate_items, part_items, word_items, parts_items, rule_items, semicolon_before, rule_lines, lines_text}
+use Rattle.bk_print.specs.Written.{word_of, parts_of}
+use Rattle.bk_print.specs.Text.{behind_each, divided, comma, spaced, number_items, numbers_behind, place_items, terms_items, some_type_items, name_items, law_name, picks_items, law_items, multiple_items, facts_items, word_items, parts_items, rule_items, semicolon_before, rule_lines, lines_text}
 
 -- ---- lists
 -- one piece more behind what stands between
@@ -28,12 +27,40 @@ piece_step {A} f b xs i x out mid new target below is before m n =
     ∙ (text-plus b (f x ++ behind_each b (map f (drop (i + 1) xs))) ∙ ap (λ t. text_of b ++ t) (text-plus (f x) (behind_each b (map f (drop (i + 1) xs))))) in
     ap (λ t. t ++ rest) (n ∙ ap (λ t. t ++ text_of (f x)) m) ∙ append_assoc (out ++ text_of b) (text_of (f x)) rest ∙ append_assoc out (text_of b) (text_of (f x) ++ rest) ∙ ap (λ t. out ++ t) (sym next) ∙ before
 
+-- the same where the element is copied
+pub piece_step_at : {A : Type 0} (f : A → List Item) (b : List Item) (xs : List A) (i : ℕ) (d : A) (out mid new target : List ℕ) → i < length xs
+    → out ++ text_of (behind_each b (map f (drop i xs))) ≡ target → mid ≡ out ++ text_of b → new ≡ mid ++ text_of (f (get_or xs i d)) → new ++ text_of (behind_each b (map f (drop (i + 1) xs))) ≡ target
+piece_step_at f b xs i d out mid new target below before m n = piece_step f b xs i (get_or xs i d) out mid new target below (get_or_default xs i d (get_or xs i d) below) before m n
+
 pub piece_end : {A : Type 0} (f : A → List Item) (b : List Item) (xs : List A) (i : ℕ) (out target : List ℕ) → length xs ≤ i → out ++ text_of (behind_each b (map f (drop i xs))) ≡ target → out ≡ target
 piece_end {A} f b xs i out target past h = sym (ap (λ ys. out ++ text_of (behind_each b (map f ys))) (drop_all i xs past) ∙ append-nil out) ∙ h
 
 -- the first, and the others behind it
 pub first-text : {A : Type 0} (f : A → List Item) (b : List Item) (x : A) (xs : List A) → text_of (divided b (map f (x ∷ xs))) ≡ text_of (f x) ++ text_of (behind_each b (map f xs))
 first-text f b x xs = text-plus (f x) (behind_each b (map f xs))
+
+-- the same where a match has the first and a slice of the others
+pub first_step : {A : Type 0} (f : A → List Item) (b : List Item) (xs : List A) (x : A) (out mid new : List ℕ) → 1 ≤ length xs → x ≡ get_or xs 0 x → mid ≡ out ++ text_of (f x)
+    → new ≡ mid ++ text_of (behind_each b (map f (take (length xs - 1) (drop 1 xs)))) → new ≡ out ++ text_of (divided b (map f xs))
+first_step f b [] x out mid new h is m n = absurd (omega arith)
+first_step f b (y ∷ ys) x out mid new h is m n =
+    let rest = text_of (behind_each b (map f ys)) in
+    n ∙ ap (λ zs. mid ++ text_of (behind_each b (map f zs))) (take_rest (y ∷ ys) 1) ∙ ap (λ t. t ++ rest) (m ∙ ap (λ z. out ++ text_of (f z)) is)
+    ∙ append_assoc out (text_of (f y)) rest ∙ ap (λ t. out ++ t) (sym (text-plus (f y) (behind_each b (map f ys))))
+
+pub first_step_ok : {A T E : Type 0} (r : Result T E) (f : A → List Item) (b : List Item) (xs : List A) (x : A) (out mid new : List ℕ) → 1 ≤ length xs → x ≡ get_or xs 0 x → mid ≡ out ++ text_of (f x)
+    → OnOk r (new ≡ mid ++ text_of (behind_each b (map f (take (length xs - 1) (drop 1 xs))))) → OnOk r (new ≡ out ++ text_of (divided b (map f xs)))
+first_step_ok (Ok t) f b xs x out mid new h is m n = first_step f b xs x out mid new h is m n
+first_step_ok (Err e) f b xs x out mid new h is m n = tt
+
+-- behind a blank
+pub behind_blank_ok : {T E : Type 0} (r : Result T E) (out mid new : List ℕ) (xs : List Item) → mid ≡ out ++ (32 ∷ []) → OnOk r (new ≡ mid ++ text_of xs) → OnOk r (new ≡ out ++ text_of (blank ∷ xs))
+behind_blank_ok (Ok t) out mid new xs m n = n ∙ ap (λ t. t ++ text_of xs) m ∙ append_assoc out (32 ∷ []) (text_of xs)
+behind_blank_ok (Err e) out mid new xs m n = tt
+
+-- a number that is read stands there by itself
+pub read_at : (ns : List ℕ) (i : ℕ) → i < length ns → get_or ns i 0 ≡ get_or ns i (get_or ns i 0)
+read_at ns i h = get_or_default ns i 0 (get_or ns i 0) h
 
 -- ---- numbers and places
 pub number-text : (n : ℕ) → text_of (number_items n) ≡ decimal n
@@ -75,6 +102,12 @@ quotient-text k g = text-plus (number_items k) (spaced DIVIDE ++ literal_items g
 
 pub facts-text : (k : ℕ) (ks : List ℕ) → text_of (facts_items (k ∷ ks)) ≡ (text_of (number_items k) ++ text_of (behind_each comma (map number_items ks))) ++ (32 ∷ [])
 facts-text k ks = text-plus (divided comma (map number_items (k ∷ ks))) (blank ∷ []) ∙ ap (λ t. t ++ (32 ∷ [])) (first-text number_items comma k ks)
+
+pub facts_step : (facts out new : List ℕ) → 1 ≤ length facts → new ≡ out ++ text_of (divided comma (map number_items facts)) → new ++ (32 ∷ []) ≡ out ++ text_of (facts_items facts)
+facts_step [] out new h n = absurd (omega arith)
+facts_step (k ∷ ks) out new h n =
+    let xs = divided comma (map number_items (k ∷ ks)) in
+    ap (λ t. t ++ (32 ∷ [])) n ∙ append_assoc out (text_of xs) (32 ∷ []) ∙ ap (λ t. out ++ t) (sym (text-plus xs (blank ∷ [])))
 
 pub certificate-text : (facts : List ℕ) (xs : List Item) → text_of (blank ∷ (facts_items facts ++ (sign MEMBER ∷ blank ∷ xs))) ≡ (((32 ∷ []) ++ text_of (facts_items facts)) ++ codes ": ") ++ text_of xs
 certificate-text facts xs = ap (λ t. 32 ∷ t) (text-plus (facts_items facts) (sign MEMBER ∷ blank ∷ xs) ∙ sym (append_assoc (text_of (facts_items facts)) (codes ": ") (text_of xs)))

@@ -1,5 +1,5 @@
 -- The script that the tokens of a printed text spell.
-use Rattle.std.specs.Prelude.{ℕ, suc, ◌+◌, ℤ, pos, negsuc, List, [], ◌∷◌, ◌++◌, map, length, codes, Option, Some, None}
+use Rattle.std.specs.Prelude.{ℕ, ◌+◌, ℤ, pos, negsuc, List, [], ◌∷◌, ◌++◌, map, length, codes, Option, Some, None}
 use Rattle.bk_val.specs.ValueType.{ValueType}
 use Rattle.bk_form.specs.Table.{Table, variable_type}
 use Rattle.bk_form.specs.Formula.{Formula}
@@ -22,11 +22,12 @@ use Rattle.bk_raw.specs.Trees.ScriptTree.{RawPlace, in_goal, in_hypothesis, RawL
 use Rattle.bk_kernel.specs.declared.rule.Place.{Place}
 use Rattle.bk_kernel.specs.declared.rule.Place.TheVariants.{Goal, Hyp as InHyp}
 use Rattle.bk_kernel.specs.declared.rule.Rule.{Rule}
-use Rattle.bk_show.specs.Items.{Item, blank, lexeme, plain, sign, text_of}
+use Rattle.bk_show.specs.Items.{Item, blank, lexeme, plain, sign}
 use Rattle.bk_show.specs.Shown.{name_of_variable, items}
 use Rattle.bk_show.proofs.Tokens.{after, tokens_from}
 use Rattle.bk_show.proofs.Trees.{written_type, shown_tree}
 use Rattle.bk_print.specs.Written.{Part, a_number, a_term, some_terms, a_place, no_place, some_names, a_law, a_certificate, Parts, none, one, two, word_of, parts_of}
+use Rattle.bk_print.specs.Readable.{with_new, PrintedScript}
 use Rattle.bk_print.specs.Text.{divided, comma, name_items, law_name, part_items, word_items, rule_items, semicolon_before, rule_lines}
 
 -- ---- lists, from a byte on
@@ -127,15 +128,35 @@ head_line name = plain (Name (codes "proof")) ∷ blank ∷ dotted name
 abbrev pub last_line : List Item
 last_line = plain (Name (codes "end")) ∷ []
 
--- all lines of a script
-abbrev pub lines_of : Table → List NamePart → List Rule → List (List Item)
-lines_of table name rules = head_line name ∷ (rule_lines table rules ++ last_line ∷ [])
+-- all lines of a script, and others behind them
+abbrev pub lines_of : Table → List NamePart → List Rule → List (List Item) → List (List Item)
+lines_of table name rules tail = head_line name ∷ (rule_lines table rules ++ last_line ∷ tail)
+
+-- the byte behind lines
+abbrev pub past_lines : ℕ → List (List Item) → ℕ
+past_lines p [] = p
+past_lines p (l ∷ ls) = past_lines (after p l + 1) ls
+
+-- the byte behind a script's lines
+abbrev pub past_script : Table → ℕ → List NamePart → List Rule → ℕ
+past_script table p name rules = after (past_lines (after p (head_line name) + 1) (rule_lines table rules)) last_line + 1
 
 -- ---- the script
-abbrev pub raw_script : Table → List NamePart → List Rule → RawScript
-raw_script table name rules = record {
-  at = 0;
-  name_at = after 0 (plain (Name (codes "proof")) ∷ blank ∷ []);
+-- its first line begins at this byte
+abbrev pub raw_script : Table → ℕ → List NamePart → List Rule → RawScript
+raw_script table p name rules = record {
+  at = p;
+  name_at = after p (plain (Name (codes "proof")) ∷ blank ∷ []);
   name = name;
-  rules = rules_at table (after 0 (head_line name) + 1) rules;
+  rules = rules_at table (after p (head_line name) + 1) rules;
 }
+
+-- ---- files
+-- the lines of scripts, one script after another
+abbrev pub file_lines : Table → List PrintedScript → List (List Item)
+file_lines table [] = []
+file_lines table (s ∷ ss) = lines_of (with_new table s.new) s.name s.rules (file_lines table ss)
+
+abbrev pub file_scripts : Table → ℕ → List PrintedScript → List RawScript
+file_scripts table p [] = []
+file_scripts table p (s ∷ ss) = raw_script (with_new table s.new) p s.name s.rules ∷ file_scripts table (past_script (with_new table s.new) p s.name s.rules) ss

@@ -16,7 +16,7 @@ use Rattle.bk_form.specs.declared.token.TokenKind.{TokenKind}
 use Rattle.bk_form.specs.declared.token.TokenKind.TheVariants.{Name, LevelName, BoundName, Number, Sign, Word}
 use Rattle.bk_ops.specs.declared.sign.TheConstants.{FOR_ALL, EXISTS, MEMBER, MINUS, TIMES, OPEN_PAREN, CLOSE_PAREN, OPEN_BRACKET, CLOSE_BRACKET, OPEN_BRACE, CLOSE_BRACE, INVERSE, SEMICOLON, COMMA, DOT, BAR, LAMBDA}
 use Rattle.bk_ops.specs.declared.word.TheConstants.{BOOL, INTEGER, POW}
-use Rattle.bk_lex.specs.Lexis.{IsIdentifier, is_digit, is_numeral, numeral_from, IsDollar, Fits, BeginsWith, sign_number, word_number, blank as gap, Cut, AreTokens}
+use Rattle.bk_lex.specs.Lexis.{IsIdentifier, is_digit, is_numeral, numeral_from, IsDollar, Fits, BeginsWith, sign_number, word_number, blank as gap, Cut}
 use Rattle.bk_lex.specs.Parts.{begins}
 use Rattle.bk_lex.proofs.Characters.{class, class_of, goes, identifier_goes}
 use Rattle.bk_lex.proofs.Numbered.{is_ascii, sign_ascii}
@@ -31,7 +31,11 @@ use Rattle.bk_raw.specs.declared.operator.Constant.TheVariants.{Bool as BoolWord
 use Rattle.bk_raw.specs.Trees.Operators.{infix_kind, word_kind, constant_kind}
 use Rattle.bk_show.specs.Items.{Item, blank, lexeme, item_text, text_of, kind_text, level_text, plain, sign}
 use Rattle.bk_show.proofs.Tokens.{tokens_from}
-use Rattle.bk_show.specs.Shown.{name_of_variable, name_of_set, name_of_element, behind_dollar, before_dollar, kind_by, name_kind, name_item, enclosed, enclosed_if, type_items, UnaryForm, word_form, negative_form, inverse_form, single_form, unary_form, BinaryForm, infix_form, image_form, apply_form, composition_form, binary_form, is_infix, is_bare, unary_items, Sides, binary_items, constant_item, truth_word, literal_items, domain_items, typed_items, bounds_items, quantified_items, range_items, comprehension_items, lambda_items, items, ranges_items, shown}
+use Rattle.bk_show.specs.declared.notation.UnaryForm.{UnaryForm}
+use Rattle.bk_show.specs.declared.notation.UnaryForm.TheVariants.{Word as word_form, Negative as negative_form, Inverse as inverse_form, Single as single_form}
+use Rattle.bk_show.specs.declared.notation.BinaryForm.{BinaryForm}
+use Rattle.bk_show.specs.declared.notation.BinaryForm.TheVariants.{Infix as infix_form, Image as image_form, Application as apply_form, Composition as composition_form}
+use Rattle.bk_show.specs.Shown.{name_of_variable, name_of_set, name_of_element, behind_dollar, before_dollar, kind_by, name_kind, name_item, enclosed, enclosed_if, type_items, unary_form, binary_form, is_infix, is_bare, unary_items, Sides, binary_items, constant_item, truth_word, literal_items, domain_items, typed_items, bounds_items, quantified_items, range_items, comprehension_items, lambda_items, items, ranges_items}
 use Rattle.bk_form.specs.Replacement.{count}
 use Rattle.bk_show.specs.Readable.{IsPlainName, IsPrintable, IsSmall, SetsAreNamed, AllSetsAreNamed, DomainIsNamed, IsReadable, AreReadable}
 use Rattle.bk_show.proofs.Scalars.{identifier-utf8}

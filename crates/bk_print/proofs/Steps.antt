@@ -1,9 +1,10 @@
 -- Outcomes one after another, and what is told of a text that is read back.
-use Rattle.std.proofs.Common.{◌≡◌, ◌≢◌, inl, inr, ℕ, zero, suc, ◌+◌, ◌<◌, ◌≤◌, Bool, true, false, List, [], ◌∷◌, ◌++◌, length, length-map, map, take, get_or, refl, ap, sym, ◌∙◌, subst, arith}
-use Rattle.std.proofs.lemmas.List.{take_all, get_or-map}
+use Rattle.std.proofs.Common.{◌≡◌, ◌≢◌, inl, inr, ℕ, zero, suc, ◌+◌, ◌<◌, ◌≤◌, Bool, true, false, List, [], ◌∷◌, ◌++◌, length, map, take, get_or, below_more, refl, ap, sym, ◌∙◌, subst, arith}
+use Rattle.std.proofs.lemmas.List.{length-map, take_all, get_or-map, get_or_default}
 use Rattle.bk_form.specs.Each.{Each}
 use Rattle.bk_form.specs.Table.{Table}
-use Rattle.bk_seq.specs.Sequents.{Sequent}
+use Rattle.bk_seq.specs.Sequents.{Sequent, sequent_of}
+use Rattle.bk_seq.specs.declared.sequent.Sequent.{Sequent as HeldSequent}
 use Rattle.bk_raw.specs.Trees.ScriptTree.{RawScript}
 use Rattle.bk_dev.specs.Development.{Development}
 use Rattle.bk_dev.specs.Facts.{IsDevelopment}
@@ -15,8 +16,9 @@ use Rattle.bk_po.specs.declared.obligation.Obligation.{Obligation}
 use Rattle.bk_po.proofs.Laying.{each_item}
 use Rattle.bk_p_proof.specs.Files.{AreScriptsOf, IsFaultOf}
 use Rattle.bk_p_proof.specs.declared.fault.ScriptFault.{ScriptFault}
-use Rattle.bk_p_proof.specs.declared.fault.ScriptFault.TheVariants.{Memory}
+use Rattle.bk_p_proof.specs.declared.fault.ScriptFault.TheVariants.{Fault, Limit, Memory}
 use Rattle.bk_p_proof.proofs.OneAnswer.{scripts_are_one, faults_exclude}
+use Rattle.bk_p_proof.proofs.OneFault.{faults_are_one_of}
 use Rattle.bk_status.specs.declared.state.State.{State}
 use Rattle.bk_status.specs.declared.state.State.TheVariants.{Proved}
 use Rattle.bk_status.specs.declared.table.Row.{Row}
@@ -25,7 +27,9 @@ use Rattle.bk_status.specs.States.{IsState}
 use Rattle.bk_status.proofs.OneState.{states_are_one}
 use Rattle.bk_status.proofs.Within.{all_replayable}
 use Rattle.bk_print.specs.declared.outcome.Outcome.{Outcome}
-use Rattle.bk_print.specs.Found.{ProvesAlone, IsFoundFor, AreFound, state_at}
+use Rattle.bk_print.specs.declared.trial.Trial.TheVariants.{Fails}
+use Rattle.bk_print.specs.InScope.{PassesLimit, IsTooLong, IsTooHigh}
+use Rattle.bk_print.specs.Found.{ProvesAlone, IsTrial, trial_past, IsFoundFor, AreFound, state_at}
 
 -- ---- outcomes
 turn : (dev : Development) (os : List (List ℕ × Sequent)) (rs : List Row) (xs : List Outcome) (i : ℕ) (o : List ℕ × Sequent) (x : Outcome) → i < length os → length rs ≡ length os → o ≡ get_or os i o
@@ -71,3 +75,57 @@ read_proves dev o text scripts read p = subst (λ ss. IsState dev ss o.0 o.1 Pro
 -- an obligation in another state is not proved
 pub other_state : (dev : Development) (scripts : List RawScript) (o : List ℕ × Sequent) (state : State) → (state ≡ Proved → ⊥) → IsState dev scripts o.0 o.1 state → IsState dev scripts o.0 o.1 Proved → ⊥
 other_state dev scripts o state other h k = other (states_are_one dev scripts o.0 o.1 state Proved h k)
+
+-- ---- what a search found
+-- a copy of a sequent is the same
+pub same_sequent : (s t : HeldSequent) → s.hyps.items ≡ t.hyps.items → s.goal ≡ t.goal → sequent_of s ≡ sequent_of t
+same_sequent s t e f = λ i. (e i, f i)
+
+-- ---- trials
+-- what is read of it does not prove
+pub read_fails : (dev : Development) (o : List ℕ × Sequent) (text : List ℕ) (scripts : List RawScript) → AreScriptsOf (text ∷ []) scripts → (IsState dev scripts o.0 o.1 Proved → ⊥) → IsTrial dev o text Fails
+read_fails dev o text scripts read n = ((λ p. n (read_proves dev o text scripts read p)), too_long, too_high)
+  where
+    past : (number : ℕ) → PassesLimit number text → ⊥
+    past number h = let never : Limit number h.0 ≡ Memory = faults_exclude (text ∷ []) scripts (Limit number h.0) read h.1 in absurd (cc)
+
+    too_long : IsTooLong text → ⊥
+    too_long (inl h) = past 2 h
+    too_long (inr h) = past 8 h
+
+    too_high : IsTooHigh text → ⊥
+    too_high (inl h) = past 3 h
+    too_high (inr h) = past 12 h
+
+-- it has a fault that is no limit
+pub fault_fails : (dev : Development) (o : List ℕ × Sequent) (text : List ℕ) (number file place : ℕ) → IsFaultOf (text ∷ []) (Fault number file place) → IsTrial dev o text Fails
+fault_fails dev o text number file place f = (no_fault dev o text (Fault number file place) (λ k. (let never : Fault number file place ≡ Memory = k in cc)) f, too_long, too_high)
+  where
+    past : (limit : ℕ) → PassesLimit limit text → ⊥
+    past limit h = let never : Fault number file place ≡ Limit limit h.0 = faults_are_one_of (text ∷ []) (Fault number file place) (Limit limit h.0) f tt h.1 tt in absurd (cc)
+
+    too_long : IsTooLong text → ⊥
+    too_long (inl h) = past 2 h
+    too_long (inr h) = past 8 h
+
+    too_high : IsTooHigh text → ⊥
+    too_high (inl h) = past 3 h
+    too_high (inr h) = past 12 h
+
+-- it passes a limit
+pub limit_trial : (dev : Development) (o : List ℕ × Sequent) (text : List ℕ) (number file : ℕ) → IsFaultOf (text ∷ []) (Limit number file) → IsTrial dev o text (trial_past number)
+limit_trial dev o text number file f = by-number f
+  where
+    at : (n : ℕ) → number ≡ n → PassesLimit n text
+    at n e = (file, subst (λ (m : ℕ). IsFaultOf (text ∷ []) (Limit m file)) e f)
+
+    by-number : IsFaultOf (text ∷ []) (Limit number file) → IsTrial dev o text (trial_past number)
+    by-number (inl (inl h)) = subst (λ (m : ℕ). IsTrial dev o text (trial_past m)) (sym h.0) (inl (at 2 h.0))
+    by-number (inl (inr h)) = subst (λ (m : ℕ). IsTrial dev o text (trial_past m)) (sym h.0) (inl (at 3 h.0))
+    by-number (inr (inl h)) = subst (λ (m : ℕ). IsTrial dev o text (trial_past m)) (sym h.0) (inr (at 12 h.0))
+    by-number (inr (inr h)) = subst (λ (m : ℕ). IsTrial dev o text (trial_past m)) (sym h.0) (inr (at 8 h.0))
+
+-- ---- loops
+-- what holds of those before holds of those with the next
+pub one_more : {A : Type 0} (P : A → Type 0) (xs : List A) (i : ℕ) (x : A) → i < length xs → x ≡ get_or xs i x → ((k : ℕ) (d : A) → k < i → P (get_or xs k d)) → P x → (k : ℕ) (d : A) → k < i + 1 → P (get_or xs k d)
+one_more P xs i x b is h p k d l = below_more (λ (n : ℕ). P (get_or xs n d)) i (λ n m. h n d m) (subst P (is ∙ get_or_default xs i x d b) p) k l

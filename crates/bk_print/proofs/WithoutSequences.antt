@@ -14,9 +14,9 @@ use Rattle.bk_form.specs.declared.operator.Domain.{Domain}
 use Rattle.bk_form.specs.declared.operator.Domain.TheVariants.{Integer as WholeNumbers, Enum}
 use Rattle.bk_form.specs.declared.token.Token.{Token}
 use Rattle.bk_form.specs.declared.token.TokenKind.{TokenKind}
-use Rattle.bk_form.specs.declared.token.TokenKind.TheVariants.{Name, BoundName, Number, Sign, Word}
-use Rattle.bk_ops.specs.declared.sign.TheConstants.{FOR_ALL, EXISTS, MEMBER, MINUS, TIMES, CLOSE_PAREN, OPEN_BRACKET, CLOSE_BRACKET, OPEN_BRACE, CLOSE_BRACE, INVERSE, SEMICOLON, COMMA, DOT, BAR, LAMBDA}
-use Rattle.bk_ops.specs.declared.sign.TheConstants.{PLUS, DIVIDE}
+use Rattle.bk_form.specs.declared.token.TokenKind.TheVariants.{Name, Number, Sign, Word}
+use Rattle.bk_ops.specs.declared.sign.TheConstants.{FOR_ALL, EXISTS, MEMBER, TIMES, CLOSE_PAREN, OPEN_BRACKET, CLOSE_BRACKET, CLOSE_BRACE, INVERSE, SEMICOLON, DOT, BAR}
+use Rattle.bk_ops.specs.declared.sign.TheConstants.{PLUS}
 use Rattle.bk_lex.specs.Lexis.{word_number}
 use Rattle.bk_lin.specs.declared.fact.Line.{Line}
 use Rattle.bk_lin.specs.declared.fact.Line.TheVariants.{Sum, Div}
@@ -28,15 +28,19 @@ use Rattle.bk_raw.specs.declared.script.RuleWord.{RuleWord}
 use Rattle.bk_raw.specs.declared.script.RuleWord.TheVariants.{Hyp}
 use Rattle.bk_raw.specs.Trees.Operators.{infix_kind, word_kind, constant_kind, is_of_sequences}
 use Rattle.bk_raw.specs.Trees.ScriptTree.{rule_kind}
-use Rattle.bk_p_proof.specs.Unread.{is_before_part, is_unread, before_sequences, IsWithoutSequences}
+use Rattle.bk_p_proof.specs.Unread.{is_before_part, is_unread, before_sequences}
 use Rattle.bk_kernel.specs.declared.rule.Place.{Place}
 use Rattle.bk_kernel.specs.declared.rule.Place.TheVariants.{Goal, Hyp as InHyp}
 use Rattle.bk_kernel.specs.declared.rule.Rule.{Rule}
 use Rattle.bk_show.specs.Items.{Item, blank, lexeme, plain, sign}
-use Rattle.bk_show.specs.Shown.{name_of_variable, name_of_set, name_of_element, behind_dollar, kind_by, enclosed, enclosed_if, type_items, UnaryForm, word_form, negative_form, inverse_form, single_form, unary_form, BinaryForm, infix_form, image_form, apply_form, composition_form, binary_form, is_infix, is_bare, unary_items, Sides, sides, binary_items, truth_word, literal_items, domain_items, typed_items, comma_before, bounds_items, quantified_items, range_items, comma_between, comprehension_items, lambda_items, items, ranges_items}
+use Rattle.bk_show.specs.declared.notation.UnaryForm.{UnaryForm}
+use Rattle.bk_show.specs.declared.notation.UnaryForm.TheVariants.{Word as word_form, Negative as negative_form, Inverse as inverse_form, Single as single_form}
+use Rattle.bk_show.specs.declared.notation.BinaryForm.{BinaryForm}
+use Rattle.bk_show.specs.declared.notation.BinaryForm.TheVariants.{Infix as infix_form, Image as image_form, Application as apply_form, Composition as composition_form}
+use Rattle.bk_show.specs.Shown.{name_of_variable, name_of_set, name_of_element, behind_dollar, kind_by, enclosed, enclosed_if, type_items, unary_form, binary_form, is_infix, is_bare, unary_items, Sides, sides, binary_items, truth_word, literal_items, domain_items, typed_items, comma_before, bounds_items, quantified_items, range_items, comma_between, comprehension_items, lambda_items, items, ranges_items}
 use Rattle.bk_show.proofs.Tokens.{after, tokens_from}
 use Rattle.bk_print.specs.Written.{Part, a_number, a_term, some_terms, a_place, no_place, some_names, a_law, a_certificate, Parts, none, one, two, word_of, parts_of}
-use Rattle.bk_print.specs.Text.{behind_each, divided, comma, spaced, number_items, numbers_behind, place_items, terms_items, some_type_items, name_items, picks_items, law_items, multiple_items, line_items, facts_items, certificate_items, part_items, parts_items, word_items, rule_items, semicolon_before, rule_lines}
+use Rattle.bk_print.specs.Text.{behind_each, divided, comma, spaced, number_items, numbers_behind, place_items, terms_items, some_type_items, name_items, picks_items, multiple_items, line_items, facts_items, certificate_items, part_items, parts_items, word_items, rule_items, semicolon_before, rule_lines}
 use Rattle.bk_print.proofs.RawScripts.{tokens_of_lines, letters_kind, part_item, dotted, head_line, last_line, lines_of}
 
 -- ---- items
@@ -257,10 +261,6 @@ module _ (table : Table) where
 abbrev AreOther : List Token → Type 0
 AreOther ts = Each (λ (t : Token). is_of_sequences t.kind ≡ false) ts
 
-other-append : (xs ys : List Token) → AreOther xs → AreOther ys → AreOther (xs ++ ys)
-other-append [] ys h k = k
-other-append (x ∷ xs) ys h k = (h.0, other-append xs ys h.1 k)
-
 other-from : (xs : List Item) (p : ℕ) → NoneIn xs → AreOther (tokens_from p xs)
 other-from [] p h = tt
 other-from (blank ∷ xs) p h = other-from xs (p + 1) h
@@ -269,13 +269,9 @@ other-from (lexeme kind w ∷ xs) p h = (h.0, other-from xs (p + length w) h.1)
 abbrev NoneInLines : List (List Item) → Type 0
 NoneInLines ls = Each NoneIn ls
 
-other-lines : (ls : List (List Item)) (p : ℕ) → NoneInLines ls → AreOther (tokens_of_lines p ls)
-other-lines [] p h = tt
-other-lines (l ∷ ls) p h = other-append (tokens_from p l) (tokens_of_lines (after p l + 1) ls) (other-from l p h.0) (other-lines ls (after p l + 1) h.1)
-
-rules-none : (table : Table) (rules : List Rule) (tail : List (List Item)) → NoneInLines tail → NoneInLines (rule_lines table rules ++ tail)
-rules-none table [] tail h = h
-rules-none table (r ∷ rs) tail h = (none-append (rule_items table r) (semicolon_before rs) (none-rule table r) (none-semicolon table rs), rules-none table rs tail h)
+rules-none : (table : Table) (rules : List Rule) → NoneInLines (rule_lines table rules)
+rules-none table [] = tt
+rules-none table (r ∷ rs) = (none-append (rule_items table r) (semicolon_before rs) (none-rule table r) (none-semicolon table rs), rules-none table rs)
 
 -- ---- they stay
 unread-not : (b : Bool) (kind : TokenKind) → is_of_sequences kind ≡ false → is_unread b kind ≡ false
@@ -284,9 +280,22 @@ unread-not true (Word op) h = refl
 unread-not false (Word op) h = h
 unread-not b _ h = refl
 
-kept : (ts : List Token) (b : Bool) → AreOther ts → before_sequences b ts ≡ ts
-kept [] b h = refl
-kept (t ∷ ts) b h = ap (λ u. cond u [] (t ∷ before_sequences (is_before_part t.kind) ts)) (unread-not b t.kind h.0) ∙ ap (λ us. t ∷ us) (kept ts (is_before_part t.kind) h.1)
+-- whatever stands before these tokens, they stay
+abbrev pub IsKept : List Token → Type 0
+IsKept ts = (b : Bool) → before_sequences b ts ≡ ts
+
+kept : (ts rest : List Token) → AreOther ts → IsKept rest → IsKept (ts ++ rest)
+kept [] rest h k b = k b
+kept (t ∷ ts) rest h k b =
+    ap (λ u. cond u [] (t ∷ before_sequences (is_before_part t.kind) (ts ++ rest))) (unread-not b t.kind h.0) ∙ ap (λ us. t ∷ us) (kept ts rest h.1 k (is_before_part t.kind))
+
+-- lines stay, and others behind them
+abbrev pub AreKept : List (List Item) → Type 0
+AreKept ls = (p : ℕ) → IsKept (tokens_of_lines p ls)
+
+lines-kept : (ls tail : List (List Item)) → NoneInLines ls → AreKept tail → AreKept (ls ++ tail)
+lines-kept [] tail h k p = k p
+lines-kept (l ∷ ls) tail h k p = kept (tokens_from p l) (tokens_of_lines (after p l + 1) (ls ++ tail)) (other-from l p h.0) (lines-kept ls tail h.1 k (after p l + 1))
 
 -- items and what stands behind them
 abbrev Stays : Bool → ℕ → List Item → List Token → Type 0
@@ -312,18 +321,22 @@ part-stays (Numeral n) ys p rest f = stays-lead true (Number (pos n)) (decimal n
 abbrev after_dots : List NamePart → List Item
 after_dots xs = behind_each (sign DOT ∷ []) (map (λ x. part_item x ∷ []) xs)
 
-dots-stay : (xs : List NamePart) (rest : List Token) → AreOther rest → (b : Bool) (p : ℕ) → Stays b p (after_dots xs) rest
-dots-stay [] rest h b p = kept rest b h
-dots-stay (x ∷ xs) rest h b p = stays-lead b (Sign DOT) (46 ∷ []) (part_item x ∷ after_dots xs) p rest refl (part-stays x (after_dots xs) (p + 1) rest (dots-stay xs rest h))
+dots-stay : (xs : List NamePart) (rest : List Token) → IsKept rest → (b : Bool) (p : ℕ) → Stays b p (after_dots xs) rest
+dots-stay [] rest k b p = k b
+dots-stay (x ∷ xs) rest k b p = stays-lead b (Sign DOT) (46 ∷ []) (part_item x ∷ after_dots xs) p rest refl (part-stays x (after_dots xs) (p + 1) rest (dots-stay xs rest k))
 
-dotted-stays : (name : List NamePart) (rest : List Token) → AreOther rest → (p : ℕ) → Stays true p (dotted name) rest
-dotted-stays [] rest h p = kept rest true h
-dotted-stays (x ∷ xs) rest h p = part-stays x (after_dots xs) p rest (dots-stay xs rest h)
+dotted-stays : (name : List NamePart) (rest : List Token) → IsKept rest → (p : ℕ) → Stays true p (dotted name) rest
+dotted-stays [] rest k p = k true
+dotted-stays (x ∷ xs) rest k p = part-stays x (after_dots xs) p rest (dots-stay xs rest k)
 
 -- ---- the whole
-pub script-plain : (table : Table) (name : List NamePart) (rules : List Rule) → IsWithoutSequences (tokens_of_lines 0 (lines_of table name rules))
-script-plain table name rules =
-    let tail = rule_lines table rules ++ last_line ∷ [] in
-    let rest = tokens_of_lines (after 0 (head_line name) + 1) tail in
-    let others : AreOther rest = other-lines tail (after 0 (head_line name) + 1) (rules-none table rules (last_line ∷ []) ((refl, tt), tt)) in
-    stays-lead false (Name (codes "proof")) (codes "proof") (blank ∷ dotted name) 0 rest refl (dotted-stays name rest others (0 + 5 + 1))
+pub script-kept : (table : Table) (name : List NamePart) (rules : List Rule) (tail : List (List Item)) → AreKept tail → AreKept (lines_of table name rules tail)
+script-kept table name rules tail k p b =
+    let behind = rule_lines table rules ++ last_line ∷ tail in
+    let rest = tokens_of_lines (after p (head_line name) + 1) behind in
+    let last : AreKept (last_line ∷ tail) = lines-kept (last_line ∷ []) tail ((refl, tt), tt) k in
+    let stays : IsKept rest = lines-kept (rule_lines table rules) (last_line ∷ tail) (rules-none table rules) last (after p (head_line name) + 1) in
+    stays-lead b (Name (codes "proof")) (codes "proof") (blank ∷ dotted name) p rest refl (dotted-stays name rest stays (p + 5 + 1))
+
+pub nothing-kept : AreKept []
+nothing-kept p b = refl

@@ -1,11 +1,12 @@
 -- What is found for the obligations of a development: scripts of proof for those that are open, and why one is left without.
-use Rattle.std.specs.Prelude.{◌≡◌, ◌⊎◌, ℕ, Bool, true, false, List, [], ◌∷◌, ◌++◌, count_by, codes, decimal}
+use Rattle.std.specs.Prelude.{◌≡◌, ◌⊎◌, ℕ, Bool, true, false, ◌||◌, ◌==◌, if◌then◌else◌, List, [], ◌∷◌, ◌++◌, count_by, codes, decimal}
 use Rattle.std.specs.List.{slice_get, flat_map}
 use Rattle.std.specs.Option.{option_map_or}
 use Rattle.bk_form.specs.Table.{Table}
 use Rattle.bk_seq.specs.Sequents.{Sequent}
 use Rattle.bk_kernel.specs.declared.rule.Rule.{Rule}
 use Rattle.bk_kernel.specs.Derivations.{Derives}
+use Rattle.bk_kernel.specs.Obvious.{is_obvious}
 use Rattle.bk_raw.specs.Trees.ScriptTree.{RawScript}
 use Rattle.bk_dev.specs.Development.{Development}
 use Rattle.bk_p_proof.specs.Files.{AreScriptsOf}
@@ -16,10 +17,14 @@ use Rattle.bk_status.specs.States.{IsState}
 use Rattle.bk_status.specs.Rows.{is_settled}
 use Rattle.bk_auto.specs.Easy.{IsEasy}
 use Rattle.bk_auto.specs.NewVariables.{HasNew}
+use Rattle.bk_auto.specs.Named.{Brings}
 use Rattle.bk_print.specs.declared.outcome.Outcome.{Outcome}
 use Rattle.bk_print.specs.declared.outcome.Outcome.TheVariants.{Settled, Left, Script}
 use Rattle.bk_print.specs.Text.{script_text}
-use Rattle.bk_print.specs.InScope.{IsReadInScope, PassesLimit, IsFull}
+use Rattle.bk_print.specs.declared.trial.Trial.{Trial}
+use Rattle.bk_print.specs.declared.trial.Trial.TheVariants.{Proves, TooLong, TooHigh, Fails}
+use Rattle.bk_print.specs.Readable.{ScriptReads}
+use Rattle.bk_print.specs.InScope.{IsReadInScope, IsTooLong, IsTooHigh, IsFull}
 
 -- ---- scripts
 -- with this text as its only proof file the obligation is proved; of a development whose substitutions are flat
@@ -28,26 +33,40 @@ pub record ProvesAlone (dev : Development) (o : List ℕ × Sequent) (text : Lis
   pub read : AreScriptsOf (text ∷ []) scripts
   pub proved : IsState dev scripts o.0 o.1 Proved
 
--- rules that derive the obligation, over the development's table with new variables after the old ones; and this is their text
+-- rules that derive the obligation, over the development's table with new variables after the old ones, which bring these and name nothing
+-- else but parts of the goal; and this is their text. Where the obligation reads back in its scope the rules do, unless the table is full
 pub record IsTextOfProof (dev : Development) (o : List ℕ × Sequent) (text : List ℕ) : Type 0 where
   pub table : Table
   pub rules : List Rule
   pub new : HasNew dev.table table
   pub derives : Derives table rules o.1
+  pub brings : Brings dev.table table o.1.1 rules
   pub written : text ≡ script_text table o.0 rules
+  pub reads : (s : IsReadInScope dev o) → ScriptReads dev s.name rules new.more ⊎ IsFull table
 
--- the text is a script that proves the obligation
+-- the text is a script for the obligation: it proves it, or is too long for a proof file
 pub record IsScriptFor (dev : Development) (o : List ℕ × Sequent) (text : List ℕ) : Type 0 where
   pub found : IsTextOfProof dev o text
-  pub proves : ProvesAlone dev o text
+  pub proves : IsTooLong text ⊎ ProvesAlone dev o text
 
--- the text of rules that derive the obligation does not prove it. Where the obligation reads back in its scope, that is since the text
--- passes a limit, or since the table is full
+-- the text of such rules does not prove the obligation. Where this is not obvious and reads back in its scope, that is since the text is too
+-- high for a proof file, or since the table is full
 pub record ReadsOtherwise (dev : Development) (o : List ℕ × Sequent) : Type 0 where
   pub text : List ℕ
   pub proof : IsTextOfProof dev o text
   pub other : ProvesAlone dev o text → ⊥
-  pub limit : IsReadInScope dev o → PassesLimit text ⊎ IsFull proof.table
+  pub limit : is_obvious o.1.0 o.1.1 ≡ false → IsReadInScope dev o → IsTooHigh text ⊎ IsFull proof.table
+
+-- what a text is for an obligation as its only proof file
+abbrev pub IsTrial : Development → List ℕ × Sequent → List ℕ → Trial → Type 0
+IsTrial dev o text Proves = ProvesAlone dev o text
+IsTrial dev o text TooLong = IsTooLong text
+IsTrial dev o text TooHigh = IsTooHigh text
+IsTrial dev o text Fails = (ProvesAlone dev o text → ⊥) × (IsTooLong text → ⊥) × (IsTooHigh text → ⊥)
+
+-- of a text that passes the limit with this number
+abbrev pub trial_past : ℕ → Trial
+trial_past number = if number == 2 || number == 8 then TooLong else TooHigh
 
 -- an obligation is left where it is not easy, or where what is found for it reads otherwise
 abbrev pub IsLeft : Development → List ℕ × Sequent → Type 0

@@ -5,3 +5,5 @@ pub mod Readable
 pub mod Laws
 pub mod InScope
 pub mod Found
+pub mod FoundFile
+pub mod Examples

@@ -1,12 +1,14 @@
 -- What is asked of rules, and of what is in scope of their script, so that their text reads back as these rules.
-use Rattle.std.specs.Prelude.{◌≡◌, ◌≢◌, ◌<◌, ◌^◌, ◌⊎◌, ℕ, suc, ℤ, pos, false, List, [], ◌∷◌, ◌++◌, map, length, Option, Some, None}
-use Rattle.std.specs.List.{flat_map}
+use Rattle.std.specs.Prelude.{◌≡◌, ◌≢◌, ◌<◌, ◌^◌, ℕ, suc, ℤ, pos, false, IsTrue, List, [], ◌∷◌, ◌++◌, map, length, codes}
+use Rattle.std.specs.Prelude.{Option, Some, None}
+use Rattle.std.specs.List.{flat_map, list_all}
+use Rattle.std.specs.Str.{IsUtf8}
 use Rattle.bk_val.specs.ValueType.{ValueType}
 use Rattle.bk_form.specs.Each.{Each}
 use Rattle.bk_form.specs.Table.{Table, VariableEntry, variable_type}
 use Rattle.bk_form.specs.Formula.{Formula, variable}
 use Rattle.bk_form.specs.Role.{role, untyped}
-use Rattle.bk_lex.specs.Lexis.{IsIdentifier}
+use Rattle.bk_lex.specs.Lexis.{IsIdentifier, stays_in_line}
 use Rattle.bk_lin.specs.declared.fact.Line.{Line}
 use Rattle.bk_lin.specs.declared.fact.Line.TheVariants.{Sum, Div}
 use Rattle.bk_raw.specs.declared.script.NamePart.{NamePart}
@@ -162,3 +164,14 @@ pub record ScriptReads (dev : Development) (name : List NamePart) (rules : List 
   pub apart : AreApart new
   pub no_parameters : Each (λ v. is_in_scope (parameters dev name) v.text ≡ false) new
   pub types : Each (λ v. TypeStands dev.table (names_of_types dev name new) v.of_type) new
+
+-- ---- several scripts
+-- a script: its name, its rules, and the new variables that they bring
+pub record PrintedScript : Type 0 where
+  pub name : List NamePart
+  pub rules : List Rule
+  pub new : List VariableEntry
+
+-- a comment up to the end of its line
+abbrev pub IsCommentLine : List ℕ → Type 0
+IsCommentLine text = (body : List ℕ) × (text ≡ codes "//" ++ body ++ codes "\n") × IsTrue (list_all stays_in_line body) × IsUtf8 body

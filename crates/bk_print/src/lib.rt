@@ -13,6 +13,7 @@ mod printing;
 mod rule;
 mod searching;
 mod term;
+mod trial;
 mod word;
 
 pub use outcome::{Outcome, found_text};

@@ -1,7 +1,8 @@
 //! Scripts for the obligations of a development that are open.
 
-ghost use Rattle.std.specs.Prelude.{◌≡◌, true, false, length, map, Ok, IfOk, MatchOption};
+ghost use Rattle.std.specs.Prelude.{◌≡◌, ◌∷◌, [], true, false, ℕ, List, length, map, Ok, IfOk, MatchOption};
 ghost use Rattle.bk_dev.specs.Flattened.{flattened};
+ghost use Rattle.bk_p_proof.specs.Files.{AreScriptsOf};
 ghost use Rattle.bk_po.specs.Limits.{PassNoLimit};
 ghost use Rattle.bk_po.specs.Obligations.{obligations, numbered_obligations};
 ghost use Rattle.bk_po.specs.Shown.{named_sequent};
@@ -10,11 +11,12 @@ ghost use Rattle.bk_status.specs.Rows as settled;
 ghost use Rattle.bk_status.specs.States.{IsState};
 ghost use Rattle.bk_status.specs.declared.state.State.TheVariants.{Proved};
 ghost use Rattle.bk_print.specs.Found as meant;
-ghost use Rattle.bk_print.specs.Found.{AreFound, IsFoundFor, IsLeft, IsScriptFor, ProvesAlone};
+ghost use Rattle.bk_print.specs.Found.{AreFound, IsFoundFor, IsLeft, IsScriptFor, IsTrial};
 
 use crate::facts::{are_in_range, is_formed};
 use crate::outcome::Outcome;
 use crate::printing::print;
+use crate::trial::{Trial, trial_past};
 use bk_auto::find;
 use bk_dev::Development;
 use bk_form::VarTable;
@@ -25,8 +27,8 @@ use bk_status::{Row, State, state_with};
 use std::alloc::Global;
 
 /// What is found for each obligation of a development, whose states stand in the rows. A script is written for one that is open where
-/// rules are found whose text, as the only proof file, proves it; so no script is written that cannot be read, or that says something
-/// else in the scope of its obligation.
+/// rules are found whose text, as the only proof file, proves it or is too long for a file; so no script is written whose terms are too
+/// high, or that says something else in the scope of its obligation.
 pub fn search_all(
     alloc: Global,
     dev: &Development,
@@ -87,7 +89,7 @@ fn is_settled(state: State) -> bool
     matches!(state, State::Obvious | State::Proved)
 }
 
-// A script for an obligation, if one is found that proves it.
+// A script for an obligation, if one is found.
 fn script_for(
     alloc: Global,
     dev: &Development,
@@ -103,34 +105,56 @@ fn script_for(
     let Some(rules) = find(alloc, &mut table, &obligation.sequent)? else {
         return Ok(None);
     };
-    let text = print(alloc, obligation.name.as_bytes(), &rules, &table)?;
-    if proves(alloc, dev, types, obligation, &text)? {
-        return Ok(Some(text));
-    }
     is_formed(types);
     is_formed(&table);
     are_in_range(&rules);
-    Ok(None)
+    let text = print(alloc, obligation.name.as_bytes(), &rules, &table)?;
+    match trial(alloc, dev, types, obligation, &text)? {
+        Trial::Proves => Ok(Some(text)),
+        Trial::TooLong => Ok(Some(text)),
+        Trial::TooHigh => Ok(None),
+        Trial::Fails => Ok(None),
+    }
 }
 
-// Whether the text, as the only proof file, proves the obligation.
-fn proves(
+// What the text is for the obligation as its only proof file.
+fn trial(
     alloc: Global,
     dev: &Development,
     types: &VarTable,
     obligation: &Obligation,
     text: &[u8],
-) -> Result<bool, Memory>
+) -> Result<Trial, Memory>
     requires types { types.now ≡ (flattened dev.now).table }
     requires replayable { IsReplayable types.now (named_sequent obligation.now).1 }
-    ensures proved { result ≡ Ok true → ProvesAlone (flattened dev.now) (named_sequent obligation.now) text.now }
-    ensures other { result ≡ Ok false → ProvesAlone (flattened dev.now) (named_sequent obligation.now) text.now → ⊥ }
+    ensures { IfOk result (IsTrial (flattened dev.now) (named_sequent obligation.now) text.now) }
 {
     let file = Vec::from_slice(alloc, text)?;
     match scripts(alloc, &[file]) {
-        Ok(read) => is_proved(alloc, dev, types, obligation, &read),
+        Ok(read) => trial_of(alloc, dev, types, obligation, &read),
+        Err(ScriptFault::Limit { number, .. }) => Ok(trial_past(number)),
+        Err(ScriptFault::Fault { .. }) => Ok(Trial::Fails),
         Err(ScriptFault::Memory) => Err(Memory),
-        Err(_) => Ok(false),
+    }
+}
+
+// The same of the scripts that are read.
+fn trial_of(
+    alloc: Global,
+    dev: &Development,
+    types: &VarTable,
+    obligation: &Obligation,
+    read: &Scripts,
+) -> Result<Trial, Memory>
+    requires types { types.now ≡ (flattened dev.now).table }
+    requires replayable { IsReplayable types.now (named_sequent obligation.now).1 }
+    ensures { (text : List ℕ) → AreScriptsOf (text ∷ []) read.now →
+        IfOk result (IsTrial (flattened dev.now) (named_sequent obligation.now) text) }
+{
+    if is_proved(alloc, dev, types, obligation, read)? {
+        Ok(Trial::Proves)
+    } else {
+        Ok(Trial::Fails)
     }
 }
 

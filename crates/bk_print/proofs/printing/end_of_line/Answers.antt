@@ -1,9 +1,9 @@
-use Rattle.std.proofs.Common.{◌≡◌, ◌+◌, ◌≤◌, ◌<◌, ◌++◌, List, ℕ, length, codes, ap, sym, arith}
+use Rattle.std.proofs.Common.{◌+◌, ◌++◌, List, ℕ, codes, ap, sym, arith}
 use Rattle.bk_print.proofs.Pieces.{semicolon-more, semicolon-none}
 use Rattle.bk_print.proofs.printing.end_of_line.Goals as goal
 
-pub returns-then : goal.returns-then
-returns-then c = ap (λ (t : List ℕ). t ++ codes "\n") (sym (semicolon-more c.args.rules.now (c.args.index + 1) (omega arith)))
+pub returns-then-index-rules : goal.returns-then-index-rules
+returns-then-index-rules c = ap (λ (t : List ℕ). t ++ codes "\n") (sym (semicolon-more c.args.rules.now (c.args.index + 1) (omega arith)))
 
-pub returns-else : goal.returns-else
-returns-else c = ap (λ (t : List ℕ). t ++ codes "\n") (sym (semicolon-none c.args.rules.now (c.args.index + 1) (omega arith)))
+pub returns-else-index-rules : goal.returns-else-index-rules
+returns-else-index-rules c = ap (λ (t : List ℕ). t ++ codes "\n") (sym (semicolon-none c.args.rules.now (c.args.index + 1) (omega arith)))

@@ -1,4 +1,4 @@
-use Rattle.std.proofs.Common.{◌≡◌, ◌∙◌, inl, inr, ◌×◌, true, false, List, Ok, None, Some, Bool, ap, sym, subst}
+use Rattle.std.proofs.Common.{◌≡◌, ◌∙◌, inl, inr, true, false, List, Ok, None, Some, Bool, ap, sym, subst}
 use Rattle.bk_form.specs.Table.{Table}
 use Rattle.bk_dev.specs.Flattened.{flattened}
 use Rattle.bk_seq.specs.Sequents.{sequent_of, Types}

@@ -1,10 +1,10 @@
-use Rattle.std.proofs.Common.{◌≡◌, ◌⊎◌, ◌∙◌, refl, Some, List, sym, subst}
+use Rattle.std.proofs.Common.{◌≡◌, ◌⊎◌, refl, Some, List, sym, subst}
 use Rattle.bk_io.specs.Files.{Files}
 use Rattle.bk_status.specs.declared.table.Row.{Row}
 use Rattle.bk_status.specs.Rows.{HasRows}
 use Rattle.bk_cli.specs.Tasks.{find_task}
 use Rattle.bk_verbs.specs.Stops.{IsOutside, StopsTask}
-use Rattle.bk_verbs.proofs.Stopping.{handed_on, widen, checks_read, at_reading, at_read}
+use Rattle.bk_verbs.proofs.Stopping.{handed_on, at_reading, at_read}
 use Rattle.bk_verbs.proofs.finding.found_scripts.Goals as goal
 
 pub returns-in_err-read-clause-cause : goal.returns-in_err-read-clause-cause
@@ -23,7 +23,9 @@ returns-in_err-table-clause-cause g c =
 
 -- the rows are those of the table
 pub scripts_text-requires : goal.scripts_text-requires
-scripts_text-requires g c = subst (λ (rs : List Row). HasRows c.in_ok-read.read.development c.in_ok-read.read.scripts rs) (sym c.deref.ensures.value) c.in_ok-table.ensures.rows
+scripts_text-requires g c = record {
+  rows = subst (λ (rs : List Row). HasRows c.in_ok-read.read.development c.in_ok-read.read.scripts rs) (sym c.deref.ensures.value) c.in_ok-table.ensures.rows;
+}
 
 pub returns-in_err-text-clause-cause : goal.returns-in_err-text-clause-cause
 returns-in_err-text-clause-cause g c =
