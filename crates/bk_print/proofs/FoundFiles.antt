@@ -137,20 +137,20 @@ module _ (dev : Development) where
 
   one-printed : (o : List ℕ × Sequent) (text : List ℕ) (found : IsTextOfProof dev o text) (s : IsReadInScope dev o) → is_obvious o.1.0 o.1.1 ≡ false → ScriptReads dev s.name found.rules found.new.more
       → IsPrinted o text (record { name = s.name; rules = found.rules; new = found.new.more })
-  one-printed o text found s no r = record {
+  one-printed o text found s open_one r = record {
     named = s.named;
     written = found.written ∙ (ap (λ (t : Table). script_text t o.0 found.rules) found.new.made ∙ ap (λ (x : List ℕ). script_text (with_new dev.table found.new.more) x found.rules) s.named);
     reads = r;
     derives = subst (λ (t : Table). Derives t found.rules o.1) found.new.made found.derives;
-    not_obvious = no;
+    not_obvious = open_one;
   }
 
   more-printed : (o : List ℕ × Sequent) (os : List (List ℕ × Sequent)) (xs : List Outcome) (text : Vec ℕ) (found : IsTextOfProof dev o text.items) (s : IsReadInScope dev o) → is_obvious o.1.0 o.1.1 ≡ false
       → ScriptReads dev s.name found.rules found.new.more ⊎ IsFull found.table → Prints os xs → Prints (o ∷ os) (Script text ∷ xs)
-  more-printed o os xs text found s no (inr full) more = inr (inl (found, full))
-  more-printed o os xs text found s no (inl r) (inr full) = inr (inr full)
-  more-printed o os xs text found s no (inl r) (inl m) =
-      inl (record { name = s.name; rules = found.rules; new = found.new.more } ∷ m.0, (one-printed o text.items found s no r, m.1))
+  more-printed o os xs text found s open_one (inr full) more = inr (inl (found, full))
+  more-printed o os xs text found s open_one (inl r) (inr full) = inr (inr full)
+  more-printed o os xs text found s open_one (inl r) (inl m) =
+      inl (record { name = s.name; rules = found.rules; new = found.new.more } ∷ m.0, (one-printed o text.items found s open_one r, m.1))
 
   all-printed : (os : List (List ℕ × Sequent)) (rs : List Row) (xs : List Outcome) → AreFound dev os rs xs → AreReadInScope dev os xs → Prints os xs
   all-printed [] [] [] h s = inl ([], tt)

@@ -56,7 +56,7 @@ stop_is_cut_short stop h = absurd h
 -- ---- the answer
 only : (files : Files) (words : List (List ℕ)) (status : Status) (text : List ℕ) → IsAnswer files words status text → (other : Status) (others : List ℕ) → IsAnswer files words other others → (other ≡ status) × ((HasFound words status → ⊥) → others ≡ text)
 only files words status text a other others k =
-    let e = one_answer files words other status others text k a in (e.0, λ no. e.1 (λ f. no (f.0, sym e.0 ∙ f.1)))
+    let e = one_answer files words other status others text k a in (e.0, λ sole. e.1 (λ f. sole (f.0, sym e.0 ∙ f.1)))
 
 pub work_answers : (files : Files) (words : List (List ℕ)) (task : Task) (start after : Option (List ℕ)) (status : Status) → Asks words task → WritesWork files task start after status → WritesAnswer files words start after status
 work_answers files words task start after status asks w =
@@ -85,13 +85,13 @@ module _ (files : Files) (words : List (List ℕ)) (start before after : Option 
 
   pub stop_front : IsOutside stop ⊎ StopsAt files words stop → Reports stop status before after → IsCutShort status → IsOfPlaying stop ⊎ (before ≡ start) →
       (other : Status) (text : List ℕ) → IsAnswer files words other text → (HasFound words other → ⊥) → WroteFront text start before → WroteFront text start after
-  stop_front c (inl r) s e other text a no f =
+  stop_front c (inl r) s e other text a sole f =
       let o = stop_is_cut_short stop (subst IsCutShort r.0 s) in
       subst (WroteFront text start) (sym (r.1 ∙ (ap (written_with before) (outside_text stop o) ∙ sym (written_nothing before)))) f
-  stop_front (inl o) (inr r) s e other text a no f = same_front text o r.1 f
-  stop_front (inr c) (inr r) s (inl p) other text a no f = same_front text (outside_of_playing stop p) r.1 f
-  stop_front (inr c) (inr r) s (inr e) other text a no f =
-      let same : text ≡ stop_text stop = (one_answer files words other (status_of_stop stop) text (stop_text stop) a (inl (stop, c, refl, refl))).1 no in
+  stop_front (inl o) (inr r) s e other text a sole f = same_front text o r.1 f
+  stop_front (inr c) (inr r) s (inl p) other text a sole f = same_front text (outside_of_playing stop p) r.1 f
+  stop_front (inr c) (inr r) s (inr e) other text a sole f =
+      let same : text ≡ stop_text stop = (one_answer files words other (status_of_stop stop) text (stop_text stop) a (inl (stop, c, refl, refl))).1 sole in
       subst (λ x. WroteFront x start after) (sym same) (subst (λ x. WroteFront (stop_text stop) x after) e r.1)
 
 -- what is written where the program stops is nothing, or a front of an answer

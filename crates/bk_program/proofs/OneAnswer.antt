@@ -377,15 +377,15 @@ module _ (files : Files) (dev : Development) (scripts : List RawScript) where
   Once task status other text others = (status ≡ other) × ((IsFinding task → ⊥) → text ≡ others)
 
   given_once : (task : Task) (status other : Status) (text others : List ℕ) → IsGiven files task dev scripts status text → IsGiven files task dev scripts other others → Once task status other text others
-  given_once (check_task project) status other text others h k = (h.0 ∙ sym k.0, λ no. h.1 ∙ sym k.1)
+  given_once (check_task project) status other text others h k = (h.0 ∙ sym k.0, λ sole. h.1 ∙ sym k.1)
   given_once (status_task project) status other text others h k =
-      (h.0 ∙ sym k.0, λ no. h.1.text_is ∙ (ap table_text (tables_are_one dev scripts h.1.rows k.1.rows h.1.are k.1.are) ∙ sym k.1.text_is))
-  given_once (po_task project) status other text others h k = (h.0 ∙ sym k.0, λ no. h.1.text_is ∙ sym k.1.text_is)
-  given_once (find_task project) status other text others h k = (h.0 ∙ sym k.0, λ no. absurd (no tt))
-  given_once (code_task project) status other text others h k = (h.0 ∙ sym k.0, λ no. h.1.text_is ∙ sym k.1.text_is)
-  given_once (build_task project) status other text others h k = (h.0 ∙ sym k.0, λ no. h.1.encodes.is ∙ sym k.1.encodes.is)
+      (h.0 ∙ sym k.0, λ sole. h.1.text_is ∙ (ap table_text (tables_are_one dev scripts h.1.rows k.1.rows h.1.are k.1.are) ∙ sym k.1.text_is))
+  given_once (po_task project) status other text others h k = (h.0 ∙ sym k.0, λ sole. h.1.text_is ∙ sym k.1.text_is)
+  given_once (find_task project) status other text others h k = (h.0 ∙ sym k.0, λ sole. absurd (sole tt))
+  given_once (code_task project) status other text others h k = (h.0 ∙ sym k.0, λ sole. h.1.text_is ∙ sym k.1.text_is)
+  given_once (build_task project) status other text others h k = (h.0 ∙ sym k.0, λ sole. h.1.encodes.is ∙ sym k.1.encodes.is)
   given_once (run_task project calls fuel) status other text others h k =
-      let e = played_once files calls fuel (translation dev) status other text others h.played k.played in (e.0, λ no. e.1)
+      let e = played_once files calls fuel (translation dev) status other text others h.played k.played in (e.0, λ sole. e.1)
   given_once (exec_task image calls fuel) status other text others h k = absurd h
   given_once (sample_task variables) status other text others h k = absurd h
 
@@ -469,8 +469,8 @@ module _ (files : Files) where
   work_once (code_task project) status other text others h k = done_once files project (code_task project) status other text others h k
   work_once (build_task project) status other text others h k = done_once files project (build_task project) status other text others h k
   work_once (run_task project calls fuel) status other text others h k = done_once files project (run_task project calls fuel) status other text others h k
-  work_once (exec_task image calls fuel) status other text others h k = let e = exec_once image calls fuel status other text others h k in (e.0, λ no. e.1)
-  work_once (sample_task variables) status other text others h k = let e = sampled_once variables status other text others h k in (e.0, λ no. e.1)
+  work_once (exec_task image calls fuel) status other text others h k = let e = exec_once image calls fuel status other text others h k in (e.0, λ sole. e.1)
+  work_once (sample_task variables) status other text others h k = let e = sampled_once variables status other text others h k in (e.0, λ sole. e.1)
 
   -- a search for scripts that ends is done
   finding_done : (task : Task) (status : Status) (text : List ℕ) → IsFinding task → IsWork files task status text → status ≡ DoneStatus
@@ -507,12 +507,12 @@ module _ (files : Files) (words : List (List ℕ)) where
   works_once status other text others h k =
       let there : IsWork files k.0 status text = same_task (λ task. IsWork files task status text) h.0 k.0 h.1 k.1 h.2 in
       let e = work_once files k.0 status other text others there k.2 in
-      (e.0, λ no. e.1 (λ f. no ((k.0, k.1, f), finding_done files k.0 status text f there)))
+      (e.0, λ sole. e.1 (λ f. sole ((k.0, k.1, f), finding_done files k.0 status text f there)))
 
 pub one_answer : HasOneAnswer
 one_answer files words status other text others (inl h) (inl k) =
     let e = stop_once files words h.0 k.0 h.1 k.1 in
-    (h.2 ∙ (ap status_of_stop e ∙ sym k.2), λ no. h.3 ∙ (ap stop_text e ∙ sym k.3))
+    (h.2 ∙ (ap status_of_stop e ∙ sym k.2), λ sole. h.3 ∙ (ap stop_text e ∙ sym k.3))
 one_answer files words status other text others (inl h) (inr k) = absurd (stops_or_works files words h.0 other others h.1 k)
 one_answer files words status other text others (inr h) (inl k) = absurd (stops_or_works files words k.0 status text k.1 h)
 one_answer files words status other text others (inr h) (inr k) = works_once files words status other text others h k

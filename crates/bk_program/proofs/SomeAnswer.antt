@@ -400,20 +400,20 @@ module _ (variables : ℕ) where
 
 -- ---- all tasks
 task_answers : (files : Files) → HoldBytes files → (task : Task) → (IsFinding task → ⊥) → Possible (Answers files task)
-task_answers files bytes (check_task project) no = check_answers files project
-task_answers files bytes (status_task project) no = status_answers files project
-task_answers files bytes (po_task project) no = po_answers files project
-task_answers files bytes (find_task project) no = absurd (no tt)
-task_answers files bytes (code_task project) no = code_answers files project
-task_answers files bytes (build_task project) no = build_answers files project
-task_answers files bytes (run_task project calls fuel) no = run_answers files project calls fuel
-task_answers files bytes (exec_task image calls fuel) no = exec_answers files bytes image calls fuel
-task_answers files bytes (sample_task variables) no = sample_answers variables files
+task_answers files bytes (check_task project) sole = check_answers files project
+task_answers files bytes (status_task project) sole = status_answers files project
+task_answers files bytes (po_task project) sole = po_answers files project
+task_answers files bytes (find_task project) sole = absurd (sole tt)
+task_answers files bytes (code_task project) sole = code_answers files project
+task_answers files bytes (build_task project) sole = build_answers files project
+task_answers files bytes (run_task project calls fuel) sole = run_answers files project calls fuel
+task_answers files bytes (exec_task image calls fuel) sole = exec_answers files bytes image calls fuel
+task_answers files bytes (sample_task variables) sole = sample_answers variables files
 
 -- ---- words
 pub some_answer : HasSomeAnswer
-some_answer files words bytes no never = decide ((task : Task) × Asks words task) (λ d. elim d [
-  | inl a ↦ task_answers files bytes a.0 (λ f. no (a.0, a.1, f)) (λ o. elim o [
+some_answer files words bytes sole never = decide ((task : Task) × Asks words task) (λ d. elim d [
+  | inl a ↦ task_answers files bytes a.0 (λ f. sole (a.0, a.1, f)) (λ o. elim o [
     | inl s ↦ never (status_of_stop s.0) (stop_text s.0) (inl (s.0, inr (a.0, a.1, s.1), refl, refl))
     | inr w ↦ never w.0 w.1 (inr (a.0, a.1, w.2))
   ])

@@ -18,12 +18,12 @@ use Rattle.bk_verbs.specs.Work.{IsWork}
 use Rattle.bk_program.specs.Answer.{IsAnswer, HasFound, WroteFrontOfAnswer}
 use Rattle.bk_program.proofs.OneAnswer.{one_answer, answer_of_work}
 
-module _ (files : Files) (words : List (List ℕ)) (task : Task) (asks : Asks words task) (status : Status) (text : List ℕ) (answer : IsAnswer files words status text) (no : HasFound words status → ⊥) (old new : Option (List ℕ)) where
+module _ (files : Files) (words : List (List ℕ)) (task : Task) (asks : Asks words task) (status : Status) (text : List ℕ) (answer : IsAnswer files words status text) (sole : HasFound words status → ⊥) (old new : Option (List ℕ)) where
   -- the text that the task gives is that of the answer
   one_text : (given : Status) (bytes : List ℕ) → IsWork files task given bytes → bytes ≡ text
   one_text given bytes w =
       let e = one_answer files words given status bytes text (answer_of_work files words task given bytes asks w) answer in
-      e.1 (λ f. no (f.0, sym e.0 ∙ f.1))
+      e.1 (λ f. sole (f.0, sym e.0 ∙ f.1))
 
   pub front_of_answer : (work : Work) → IsPrepared files task work → CanBePlayed work → WritesFront work old new → WroteFront text old new
   front_of_answer (Text bytes) p can front = subst (λ x. WroteFront x old new) (one_text Done bytes.items p) front

@@ -26,9 +26,9 @@ returns-in-Err-clause-answer g c answered files told =
     (c.in-Err.ensures.cause files told) c.report.ensures.reports answered c.in-Err.ensures.silent
 
 pub returns-in-Err-clause-cut_short : goal.returns-in-Err-clause-cut_short
-returns-in-Err-clause-cut_short g c short files told status text answer no =
+returns-in-Err-clause-cut_short g c short files told status text answer sole =
     stop_front files (map (string_bytes {Z = Global}) c.args.words.now) (g.K.Sink.written c.args.out.now) (g.K.Sink.written c.perform.new.out) (g.K.Sink.written c.report.new.out) c.report.result c.in-Err.stop
-    (c.in-Err.ensures.cause files told) c.report.ensures.reports short c.in-Err.ensures.silent status text answer no (c.in-Err.ensures.front files told status text answer no)
+    (c.in-Err.ensures.cause files told) c.report.ensures.reports short c.in-Err.ensures.silent status text answer sole (c.in-Err.ensures.front files told status text answer sole)
 
 pub returns-in-Err-clause-begun : goal.returns-in-Err-clause-begun
 returns-in-Err-clause-begun g c short files told =

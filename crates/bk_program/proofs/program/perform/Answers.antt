@@ -51,8 +51,8 @@ pub returns-in_err-status-clause-front : goal.returns-in_err-status-clause-front
 returns-in_err-status-clause-front g c =
     on_each c.from_residual-in_err-status.result
     (λ stop. (files : Files) → g.H.Shelf.files c.args.shelf.now ≡ Some files → (status : Status) (text : List ℕ) → IsAnswer files (map (string_bytes {Z = Global}) c.args.words.now) status text → (HasFound (map (string_bytes {Z = Global}) c.args.words.now) status → ⊥) → WroteFront text (g.K.Sink.written c.args.out.now) (g.K.Sink.written c.write_work.new.out))
-    (λ stop files told status text answer no.
-    front_of_answer files (map (string_bytes {Z = Global}) c.args.words.now) (task_of c.in_ok-command.command) c.in_ok-command.ensures.asked status text answer no (g.K.Sink.written c.args.out.now) (g.K.Sink.written c.write_work.new.out) c.in_ok-work.work (c.in_ok-work.ensures.told files told) c.in_ok-work.ensures.playable c.in_err-status.ensures.front)
+    (λ stop files told status text answer sole.
+    front_of_answer files (map (string_bytes {Z = Global}) c.args.words.now) (task_of c.in_ok-command.command) c.in_ok-command.ensures.asked status text answer sole (g.K.Sink.written c.args.out.now) (g.K.Sink.written c.write_work.new.out) c.in_ok-work.work (c.in_ok-work.ensures.told files told) c.in_ok-work.ensures.playable c.in_err-status.ensures.front)
 
 pub returns-in_err-status-clause-wrong_words : goal.returns-in_err-status-clause-wrong_words
 returns-in_err-status-clause-wrong_words g c none = absurd (none (task_of c.in_ok-command.command) c.in_ok-command.ensures.asked)
@@ -92,7 +92,7 @@ pub returns-in_err-command-clause-front : goal.returns-in_err-command-clause-fro
 returns-in_err-command-clause-front g c =
     on_each c.from_residual.result
     (λ stop. (files : Files) → g.H.Shelf.files c.args.shelf.now ≡ Some files → (status : Status) (text : List ℕ) → IsAnswer files (map (string_bytes {Z = Global}) c.args.words.now) status text → (HasFound (map (string_bytes {Z = Global}) c.args.words.now) status → ⊥) → WroteFront text (g.K.Sink.written c.args.out.now) (g.K.Sink.written c.args.out.now))
-    (λ stop files told status text answer no. no_front text (g.K.Sink.written c.args.out.now) (g.K.Sink.written c.args.out.now) refl)
+    (λ stop files told status text answer sole. no_front text (g.K.Sink.written c.args.out.now) (g.K.Sink.written c.args.out.now) refl)
 
 pub returns-in_err-command-clause-unwritten : goal.returns-in_err-command-clause-unwritten
 returns-in_err-command-clause-unwritten g c none = refl
@@ -107,7 +107,7 @@ pub returns-in_err-work-clause-front : goal.returns-in_err-work-clause-front
 returns-in_err-work-clause-front g c =
     on_each c.from_residual-in_err-work.result
     (λ stop. (files : Files) → g.H.Shelf.files c.args.shelf.now ≡ Some files → (status : Status) (text : List ℕ) → IsAnswer files (map (string_bytes {Z = Global}) c.args.words.now) status text → (HasFound (map (string_bytes {Z = Global}) c.args.words.now) status → ⊥) → WroteFront text (g.K.Sink.written c.args.out.now) (g.K.Sink.written c.args.out.now))
-    (λ stop files told status text answer no. no_front text (g.K.Sink.written c.args.out.now) (g.K.Sink.written c.args.out.now) refl)
+    (λ stop files told status text answer sole. no_front text (g.K.Sink.written c.args.out.now) (g.K.Sink.written c.args.out.now) refl)
 
 pub returns-in_err-work-clause-usage : goal.returns-in_err-work-clause-usage
 returns-in_err-work-clause-usage g c =
