@@ -16,4 +16,3 @@ mod FoundReads
 mod Alone
 mod Unproved
 mod FoundFiles
-mod Examples

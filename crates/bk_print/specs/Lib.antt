@@ -6,4 +6,3 @@ pub mod Laws
 pub mod InScope
 pub mod Found
 pub mod FoundFile
-pub mod Examples
