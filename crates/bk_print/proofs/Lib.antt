@@ -16,3 +16,4 @@ mod FoundReads
 mod Alone
 mod Unproved
 mod FoundFiles
+mod Examples

@@ -6,3 +6,4 @@ pub mod Laws
 pub mod InScope
 pub mod Found
 pub mod FoundFile
+pub mod Examples
