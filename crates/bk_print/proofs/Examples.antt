@@ -1,8 +1,15 @@
 -- The open obligations of the adder read back in their scopes.
-use Rattle.std.proofs.Common.{◌≡◌, inl, inr, ℕ, ◌<◌, ◌^◌, true, false, List, [], ◌∷◌, refl, ap, ◌∙◌, arith, None}
-use Rattle.std.specs.Prelude.{codes}
+use Rattle.std.proofs.Common.{◌≡◌, inl, inr, ℕ, ◌<◌, ◌^◌, Bool, true, false, ◌&&◌, ◌||◌, List, [], ◌∷◌, ◌++◌, refl, ap, sym, ◌∙◌, arith, None}
+use Rattle.std.specs.Prelude.{codes, nat_eq, nat_le}
+use Rattle.std.specs.List.{list_all}
+use Rattle.std.specs.Str.{encode_utf8_all}
+use Rattle.std.specs.Char.{is_ascii_alphabetic, is_ascii_alphanumeric}
+use Rattle.std.proofs.lemmas.Bool.{and_parts, and_from}
+use Rattle.std.proofs.lemmas.Bool.Decides.{nat_tests}
+use Rattle.std.proofs.lemmas.Str.{encode_ascii}
 use Rattle.std.specs.Fmt.{digits}
-use Rattle.unicode_ident.specs.Ident.{unicode_ident}
+use Rattle.unicode_ident.specs.Ident.{is_xid_start, is_xid_continue}
+use Rattle.unicode_ident.proofs.IdentLemmas.{is_xid_start-ascii, is_xid_continue-ascii}
 use Rattle.bk_form.specs.Table.{Table, variable_type}
 use Rattle.bk_form.specs.Formula.{variable}
 use Rattle.bk_lex.specs.Lexis.{IsIdentifier}
@@ -23,29 +30,46 @@ needs-none : true ≡ false → ⊥
 needs-none h = cc
 
 -- ---- names
+-- a letter, a digit or an underscore
+abbrev is_plain : ℕ → Bool
+is_plain c = (is_ascii_alphanumeric c || nat_eq c 95) && nat_le c 127
+
+low : (c : ℕ) → nat_le c 127 ≡ true → c < 128
+low c h = grind (arith, nat_tests)
+
+all-plain : (cs : List ℕ) → list_all is_plain cs ≡ true → (list_all is_xid_continue cs ≡ true) × (encode_utf8_all cs ≡ cs)
+all-plain [] h = (refl, refl)
+all-plain (c ∷ cs) h =
+    let parts = and_parts (is_plain c) (list_all is_plain cs) h in
+    let one = and_parts (is_ascii_alphanumeric c || nat_eq c 95) (nat_le c 127) parts.0 in
+    let more = all-plain cs parts.1 in (
+      and_from (is_xid_continue c) (list_all is_xid_continue cs) (is_xid_continue-ascii c (low c one.1) ∙ one.0) more.0,
+      ap (λ w. w ++ encode_utf8_all cs) (encode_ascii c (low c one.1)) ∙ ap (λ w. c ∷ w) more.1,
+    )
+
+-- a letter, and then such bytes
+identifier : (c : ℕ) (cs : List ℕ) → is_ascii_alphabetic c ≡ true → nat_le c 127 ≡ true → list_all is_plain cs ≡ true → IsIdentifier (c ∷ cs)
+identifier c cs letter l h =
+    let more = all-plain cs h in
+    (c ∷ cs, sym (ap (λ w. w ++ encode_utf8_all cs) (encode_ascii c (low c l)) ∙ ap (λ w. c ∷ w) more.1), and_from (is_xid_start c) (list_all is_xid_continue cs) (is_xid_start-ascii c (low c l) ∙ letter) more.0)
+
 machine : IsIdentifier (codes "Tally")
-unfolding unicode_ident
-machine = (codes "Tally", refl, refl)
+machine = identifier 84 (codes "ally") refl refl refl
 
 implementation : IsIdentifier (codes "Tally_i")
-unfolding unicode_ident
-implementation = (codes "Tally_i", refl, refl)
+implementation = identifier 84 (codes "ally_i") refl refl refl
 
 operation : IsIdentifier (codes "inc")
-unfolding unicode_ident
-operation = (codes "inc", refl, refl)
+operation = identifier 105 (codes "nc") refl refl refl
 
 check : IsIdentifier (codes "chk")
-unfolding unicode_ident
-check = (codes "chk", refl, refl)
+check = identifier 99 (codes "hk") refl refl refl
 
 letter-n : IsIdentifier (codes "n")
-unfolding unicode_ident
-letter-n = (codes "n", refl, refl)
+letter-n = identifier 110 [] refl refl refl
 
 letter-k : IsPlainName (codes "k")
-unfolding unicode_ident
-letter-k = ((codes "k", refl, refl), refl)
+letter-k = (identifier 107 [] refl refl refl, refl)
 
 -- n$0, n$1 and k
 upper-n : IsPrintable (name_of_variable tally_table 0)

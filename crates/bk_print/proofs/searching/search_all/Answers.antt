@@ -1,4 +1,4 @@
-use Rattle.std.proofs.Common.{◌≡◌, ◌∙◌, ◌+◌, ◌<◌, ◌++◌, ◌∷◌, [], List, length, map, take, sym, subst, arith}
+use Rattle.std.proofs.Common.{◌≡◌, ◌∙◌, ◌+◌, ◌<◌, ◌≤◌, ◌++◌, ◌∷◌, [], List, length, map, take, sym, subst, arith}
 use Rattle.std.proofs.lemmas.List.{length-map}
 use Rattle.bk_dev.specs.Flattened.{flattened}
 use Rattle.bk_po.specs.Shown.{named_sequent}
@@ -28,6 +28,6 @@ pub returns : goal.returns
 returns c =
     let dev = flattened c.args.dev.now in
     let list = c.args.list.now in
-    let past = omega (arith, c.loop-index-test.false, length-map list named_sequent) in
+    let past : length (map named_sequent list) ≤ c.loop-index.index = omega (arith, c.loop-index-test.false, length-map list named_sequent) in
     let same : length c.args.rows.now ≡ length (map named_sequent list) = omega (arith, c.requires.rows, length-map list named_sequent) in
     subst (λ os. AreFound dev os c.args.rows.now c.loop-index.outcomes.items) c.requires.list (found_all dev (map named_sequent list) c.args.rows.now c.loop-index.outcomes.items c.loop-index.index past same c.loop-index.invariant)

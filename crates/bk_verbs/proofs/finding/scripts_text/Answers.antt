@@ -1,9 +1,10 @@
-use Rattle.std.proofs.Common.{◌∙◌, length, length-map, map, ap, arith}
+use Rattle.std.proofs.Common.{◌∙◌, length, map, ap, arith}
 use Rattle.bk_dev.specs.Flattened.{flattened}
 use Rattle.bk_po.specs.Obligations.{numbered_obligations}
 use Rattle.bk_po.specs.Shown.{named_sequent}
 use Rattle.bk_print.specs.Found.{found_text}
 use Rattle.bk_status.specs.Rows.{IsRowOf}
+use Rattle.std.proofs.lemmas.List.{length-map}
 use Rattle.std.proofs.lemmas.Slice.Zip.{AllZip-long}
 use Rattle.bk_verbs.proofs.finding.scripts_text.Goals as goal
 
