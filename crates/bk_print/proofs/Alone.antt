@@ -1,13 +1,13 @@
 -- A text that is cut and written as one script: as the only proof file it passes a limit, or is a file with this script.
-use Rattle.std.proofs.Common.{◌≡◌, ◌⊎◌, inl, inr, ℕ, zero, suc, ◌+◌, ◌<◌, ◌≤◌, Bool, true, false, nat_lt, List, [], ◌∷◌, ◌++◌, length, All, refl, ap, sym, ◌∙◌, subst, arith}
+use Rattle.std.proofs.Common.{◌≡◌, ◌⊎◌, inl, inr, ℕ, zero, suc, ◌+◌, ◌<◌, ◌≤◌, Bool, true, false, nat_lt, List, [], ◌∷◌, length, All, refl, ap, sym, subst, arith}
 use Rattle.std.specs.Str.{IsUtf8}
 use Rattle.std.specs.List.{AllZip}
 use Rattle.std.proofs.lemmas.Bool.Decides.{nat_tests}
 use Rattle.bk_limits.specs.declared.TheConstants.{MOST_TOKENS}
 use Rattle.bk_form.specs.declared.token.Token.{Token}
 use Rattle.bk_lex.specs.Lexis.{Cut, AreTokens}
-use Rattle.bk_lex.specs.Faults.{BeginsToken, StandsAt, IsFaultOf as IsLexFaultOf}
-use Rattle.bk_lex.specs.declared.fault.LexFault.TheVariants.{BadChar, OpenComment, NumberTooWide, Limit as LexLimit}
+use Rattle.bk_lex.specs.Faults.{BeginsToken}
+use Rattle.bk_lex.specs.declared.fault.LexFault.TheVariants.{BadChar, OpenComment, NumberTooWide}
 use Rattle.bk_lex.proofs.Cutting.{tokens_are_one, faults_have_no_tokens}
 use Rattle.bk_raw.specs.Trees.ScriptTree.{RawScript}
 use Rattle.bk_raw.specs.Grammar.ScriptSpelling.{SpellsScripts}
@@ -20,7 +20,7 @@ use Rattle.bk_p_proof.specs.TypedNames.{script_names, AreOfOneType, IsSecondType
 use Rattle.bk_p_proof.specs.Laws.{IsOfTexts}
 use Rattle.bk_p_proof.specs.declared.fault.ScriptFault.{ScriptFault}
 use Rattle.bk_p_proof.specs.declared.fault.ScriptFault.TheVariants.{Fault, Limit, Memory}
-use Rattle.bk_p_proof.proofs.OneAnswer.{same_written, not_typed}
+use Rattle.bk_p_proof.proofs.OneAnswer.{not_typed}
 use Rattle.bk_p_proof.proofs.SomeScripts.{scripts_are_told}
 use Rattle.bk_print.specs.InScope.{IsTooLong, IsTooHigh}
 

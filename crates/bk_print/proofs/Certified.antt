@@ -1,5 +1,5 @@
 -- A certificate of one line that is accepted can be written.
-use Rattle.std.proofs.Common.{◌≡◌, ℕ, suc, ◌+◌, ◌-◌, ◌<◌, ◌^◌, Bool, true, false, cond, ◌&&◌, List, [], ◌∷◌, ◌++◌, length, refl, ap, sym, ◌∙◌, subst, arith, Option, Some, None, All}
+use Rattle.std.proofs.Common.{◌≡◌, ℕ, ◌+◌, ◌-◌, ◌<◌, ◌^◌, Bool, true, false, cond, List, [], ◌∷◌, ◌++◌, length, refl, ap, sym, ◌∙◌, subst, arith, Option, Some, None, All}
 use Rattle.std.specs.Prelude.{ℤ, pos, negsuc, int_le, int_lt, is_none, slice_index_or, nat_lt, FitsSigned}
 use Rattle.std.specs.Int.{w128}
 use Rattle.std.specs.List.{list_all, list_any}
@@ -11,20 +11,18 @@ use Rattle.bk_form.specs.Each.{Each}
 use Rattle.bk_form.specs.Formula.{Formula}
 use Rattle.bk_lin.specs.declared.fact.Line.{Line}
 use Rattle.bk_lin.specs.declared.fact.Line.TheVariants.{Sum, Div}
-use Rattle.bk_lin.specs.declared.fact.CertFault.{CertFault}
 use Rattle.bk_lin.specs.declared.fact.CertFault.TheVariants.{NotClosed}
 use Rattle.bk_lin.specs.Inequality.{Inequality, zero_of}
-use Rattle.bk_lin.specs.Certificate.{fact_at, sum_fact, line_fact, line_fault, facts_after}
+use Rattle.bk_lin.specs.Certificate.{fact_at, sum_fact, line_fact, line_fault}
 use Rattle.bk_lin.specs.Answer.{first_fault, is_contradiction, is_closed, certificate_fault}
 use Rattle.bk_lin.proofs.Sound.{passed}
-use Rattle.bk_arith.specs.declared.error.ArithFault.{ArithFault}
 use Rattle.bk_arith.specs.declared.error.ArithFault.TheVariants.{NotLinear, TooWide, Cert}
 use Rattle.bk_arith.specs.Decision.{first_unread, terms_of, readings, fault_of_terms, linear_fault, is_accepted}
 use Rattle.bk_arith.specs.Reading.{atoms_of}
 use Rattle.bk_auto.specs.Named.{IsCertificate}
 use Rattle.bk_auto.proofs.Ready.{each-all}
 use Rattle.bk_show.specs.Readable.{IsSmall}
-use Rattle.bk_print.specs.Readable.{HasSome, IsNumber, MultipleReads, LineReads}
+use Rattle.bk_print.specs.Readable.{HasSome, MultipleReads, LineReads}
 use Rattle.bk_print.specs.InScope.{MultipleFits, LineFits}
 
 -- ---- no fault

@@ -1,14 +1,13 @@
 -- Rules that are found for a goal that reads back in its scope are written as a script that reads back.
-use Rattle.std.proofs.Common.{◌≡◌, ◌≢◌, inl, inr, ℕ, zero, suc, ◌+◌, ◌-◌, ◌<◌, ◌≤◌, ◌^◌, ◌⊎◌, Bool, true, false, ◌&&◌, List, [], ◌∷◌, ◌++◌, length, length-append, append_assoc, append-nil, map, refl, ap, sym, ◌∙◌, subst, arith, Option, Some, None, All}
-use Rattle.std.specs.Prelude.{slice_get, decimal, nat_le, nat_lt, unwrap_or}
-use Rattle.std.specs.List.{Contains, flat_map, filter_map, list_all}
+use Rattle.std.proofs.Common.{◌≡◌, ◌≢◌, inl, inr, ℕ, zero, suc, ◌+◌, ◌-◌, ◌<◌, ◌≤◌, ◌^◌, ◌⊎◌, true, false, List, [], ◌∷◌, ◌++◌, length, length-append, append_assoc, append-nil, map, refl, ap, sym, ◌∙◌, subst, arith, Option, Some, None, All}
+use Rattle.std.specs.Prelude.{slice_get, decimal, unwrap_or}
+use Rattle.std.specs.List.{Contains, flat_map, filter_map}
 use Rattle.std.specs.Option.{option_map}
 use Rattle.std.specs.Fmt.{digits}
-use Rattle.std.proofs.lemmas.Bool.{and_parts, and_from}
 use Rattle.bk_val.specs.ValueType.{ValueType, int_type, bool_type, enum_type, pair_type, set_type}
 use Rattle.bk_form.specs.Each.{Each}
 use Rattle.bk_form.specs.Wider.{IsWider, IsTypedRole}
-use Rattle.bk_form.specs.Table.{Table, VariableEntry, variable_type, variable_text, with_variable, IsWellFormed}
+use Rattle.bk_form.specs.Table.{Table, VariableEntry, variable_type, with_variable, IsWellFormed}
 use Rattle.bk_form.specs.Formula.{Formula, variable, element, empty_set, named, unary, binary, for_all, for_some, comprehension, lambda, Formulas, no_formulas, formula_and}
 use Rattle.bk_form.specs.Replacement.{count}
 use Rattle.bk_form.specs.Role.{Role, gives, ranges_over, predicate, untyped, role}
@@ -19,32 +18,28 @@ use Rattle.bk_form.proofs.Widening.{get-wider, widening_roles}
 use Rattle.bk_raw.specs.declared.script.NamePart.{NamePart}
 use Rattle.bk_raw.specs.Meaning.Names.{Names, sight, seen, found}
 use Rattle.bk_raw.specs.Meaning.ScopeReading.{variable_meaning, set_names, scope_names}
-use Rattle.bk_kernel.specs.declared.rule.Place.{Place}
-use Rattle.bk_kernel.specs.declared.rule.Place.TheVariants.{Goal, Hyp as InHyp}
+use Rattle.bk_kernel.specs.declared.rule.Place.TheVariants.{Goal}
 use Rattle.bk_kernel.specs.declared.rule.Rule.{Rule}
 use Rattle.bk_kernel.specs.declared.rule.Rule.TheVariants.{Hyp, True, Same, Eval, And, Imp, Fix, Split, OpenSome, Law, TypeOf, Lin}
 use Rattle.bk_kernel.specs.Naming.{gives_type, give_each, names_of}
-use Rattle.bk_seq.specs.Sequents.{Sequent}
-use Rattle.bk_dev.specs.Development.{Development, int_max}
+use Rattle.bk_dev.specs.Development.{Development}
 use Rattle.bk_auto.specs.NewVariables.{texts_of, AreNew}
 use Rattle.bk_auto.specs.Named.{numbers_from, brought_by, brought, IsPart, NamesParts, Brings}
 use Rattle.bk_auto.proofs.Ready.{each-append, each-map, each-all}
 use Rattle.bk_scripts.specs.LawNames.{law_number}
 use Rattle.bk_scripts.specs.Sight.{entry, hiding, no_variable, level_of, operation_of, constants_to, variables_to, parameters_to, lower_sets, outer_scope, parameter_scope}
 use Rattle.bk_scripts.specs.Brought.{is_in_scope}
-use Rattle.bk_lex.specs.Lexis.{is_numeral}
-use Rattle.bk_show.proofs.Begun.{decimal-is, word-identifier, is_ascii_word}
 use Rattle.bk_show.specs.Shown.{or_empty, name_of_variable, name_of_set, name_of_element}
 use Rattle.bk_show.specs.Binders.{HasSomeType}
 use Rattle.bk_show.specs.Readable.{IsPlainName, IsPrintable, SetsAreNamed, AllSetsAreNamed, DomainIsNamed, IsReadable, AreReadable}
 use Rattle.bk_show.specs.Stands.{SetStands, TypeStands, TypesStand, DomainStands, Stands, EachStands}
-use Rattle.bk_print.specs.Written.{word_of, parts_of}
+use Rattle.bk_print.specs.Written.{parts_of}
 use Rattle.bk_print.specs.Text.{law_name}
-use Rattle.bk_print.specs.Readable.{HasSome, IsNumber, ReadsIn, NameReads, RuleReads, names_of_parts, names_brought, with_new, numbered, AreApart, outside, parameters, scope_with, names_with, names_of_types, NamePartReads, ScriptReads}
-use Rattle.bk_print.specs.InScope.{RuleFits, own_names, IsReadInScope}
+use Rattle.bk_print.specs.Readable.{HasSome, IsNumber, ReadsIn, NameReads, RuleReads, names_of_parts, names_brought, with_new, numbered, outside, parameters, names_with, names_of_types, NamePartReads, ScriptReads}
+use Rattle.bk_print.specs.InScope.{RuleFits, own_names}
 use Rattle.bk_print.proofs.ItemsLexed.{letter-number-plain}
 use Rattle.bk_print.proofs.PartsRead.{NewReads, given-then, part-reads}
-use Rattle.bk_print.proofs.ScopeFound.{scope-append, scope-same, found-past, others-apart, found-new, slice-past, text-more, new-apart, are-apart, new-at, IsOld, old-apart, variable-known, set-old, element-old, IsEntryOf, entries-known, entries-same, hidden-same, entries-apart}
+use Rattle.bk_print.proofs.ScopeFound.{scope-append, scope-same, found-past, others-apart, found-new, slice-past, text-more, are-apart, new-at, IsOld, old-apart, variable-known, set-old, element-old, IsEntryOf, entries-known, entries-same, hidden-same, entries-apart}
 use Rattle.bk_print.proofs.Certified.{certificate-reads}
 
 -- ---- small things

@@ -1,5 +1,5 @@
 -- Parts of a formula that reads back read back, too: its sides, and its body for new variables.
-use Rattle.std.proofs.Common.{◌≡◌, ◌≢◌, inl, inr, ℕ, zero, suc, ◌+◌, ◌-◌, ◌<◌, ◌≤◌, ◌^◌, Bool, true, false, cond, nat_lt, ◌&&◌, List, [], ◌∷◌, length, map, refl, ap, sym, ◌∙◌, subst, arith}
+use Rattle.std.proofs.Common.{◌≡◌, inl, inr, ℕ, zero, suc, ◌+◌, ◌-◌, ◌<◌, ◌≤◌, ◌^◌, true, false, cond, nat_lt, List, [], ◌∷◌, length, refl, ap, sym, ◌∙◌, subst, arith}
 use Rattle.std.specs.Prelude.{Option, Some, None, slice_get, unwrap_or}
 use Rattle.bk_val.specs.ValueType.{ValueType}
 use Rattle.bk_form.specs.Table.{Table, variable_type, IsWellFormed}
@@ -7,7 +7,7 @@ use Rattle.bk_form.specs.Each.{Each}
 use Rattle.bk_form.specs.Formula.{Formula, variable, bound, unary, binary, for_all, for_some, comprehension, lambda, Formulas, no_formulas, formula_and}
 use Rattle.bk_form.specs.Rebound.{rebound, all_rebound}
 use Rattle.bk_form.specs.Replacement.{count}
-use Rattle.bk_form.specs.Role.{Role, gives, predicate, untyped, role, bind, given_by, binary_role, if_predicate}
+use Rattle.bk_form.specs.Role.{role, bind, given_by, binary_role}
 use Rattle.bk_form.specs.declared.operator.BinOp.{BinOp}
 use Rattle.bk_form.proofs.Closed.{left-none, right-none, quantifier-some}
 use Rattle.bk_form.proofs.Members.{and-both}

@@ -10,7 +10,7 @@ use Rattle.bk_ops.specs.declared.sign.TheConstants.{TIMES, DIVIDE, CLOSE_PAREN, 
 use Rattle.bk_kernel.specs.declared.rule.Place.TheVariants.{Hyp as InHyp}
 use Rattle.bk_kernel.specs.declared.rule.Rule.{Rule}
 use Rattle.bk_show.specs.Items.{Item, blank, sign, text_of}
-use Rattle.bk_show.specs.Shown.{name_of_variable, literal_items, items}
+use Rattle.bk_show.specs.Shown.{name_of_variable, literal_items}
 use Rattle.bk_show.proofs.Written.{text-plus}
 use Rattle.bk_print.specs.Written.{word_of, parts_of}
 use Rattle.bk_print.specs.Text.{behind_each, divided, comma, spaced, number_items, numbers_behind, place_items, terms_items, some_type_items, name_items, law_name, picks_items, law_items, multiple_items, facts_items, word_items, parts_items, rule_items, semicolon_before, rule_lines, lines_text}

@@ -1,23 +1,22 @@
 -- What is found of names in a scope with new variables: each of these, and all others as before.
-use Rattle.std.proofs.Common.{◌≡◌, ◌≢◌, inl, inr, ℕ, zero, suc, ◌+◌, ◌-◌, ◌<◌, ◌≤◌, ◌^◌, ◌⊎◌, Bool, true, false, cond, not, ◌&&◌, ◌||◌, List, [], ◌∷◌, ◌++◌, length, length-append, append_assoc, append-nil, map, refl, ap, sym, ◌∙◌, subst, arith, Option, Some, None}
-use Rattle.std.specs.Prelude.{slice_get, decimal, nat_le, nat_eq, unwrap_or}
-use Rattle.std.specs.List.{Contains, flat_map, filter_map, list_any, cons_option, list_all}
+use Rattle.std.proofs.Common.{◌≡◌, ◌≢◌, inl, inr, ℕ, zero, suc, ◌+◌, ◌<◌, ◌^◌, ◌⊎◌, Bool, true, false, cond, ◌||◌, List, [], ◌∷◌, ◌++◌, length, length-append, append_assoc, map, refl, ap, sym, ◌∙◌, subst, arith, Option, Some, None}
+use Rattle.std.specs.Prelude.{slice_get, decimal, unwrap_or}
+use Rattle.std.specs.List.{Contains, flat_map, filter_map, cons_option}
 use Rattle.std.specs.Option.{option_map}
 use Rattle.std.specs.Str.{bytes_eq}
 use Rattle.std.specs.Cmp.Lexicographic.{bytes_decides}
 use Rattle.std.proofs.lemmas.List.Elements.{Contains-append_left, Contains-append_right, Contains-push}
-use Rattle.std.proofs.lemmas.Option.{slice_get_within, slice_get_past}
-use Rattle.bk_val.specs.ValueType.{ValueType, int_type, bool_type, enum_type, pair_type, set_type}
+use Rattle.std.proofs.lemmas.Option.{slice_get_past}
+use Rattle.bk_val.specs.ValueType.{ValueType}
 use Rattle.bk_form.specs.Each.{Each}
-use Rattle.bk_form.specs.Table.{Table, SetEntry, VariableEntry, variable_text, variable_type, with_variable, set_name, set_elements}
-use Rattle.bk_form.specs.Formula.{variable, named}
+use Rattle.bk_form.specs.Table.{Table, SetEntry, VariableEntry, variable_type, with_variable}
 use Rattle.bk_form.proofs.Widening.{get-wider}
-use Rattle.bk_raw.specs.Meaning.Names.{Names, Named, Meaning, global, nothing, sight, behind, seen, found}
-use Rattle.bk_raw.specs.Meaning.ScopeReading.{variable_meaning, set_names, scope_names}
-use Rattle.bk_auto.specs.NewVariables.{texts_of, IsNewText, AreNew}
+use Rattle.bk_raw.specs.Meaning.Names.{Names, Named, Meaning, sight, behind, found}
+use Rattle.bk_raw.specs.Meaning.ScopeReading.{variable_meaning, scope_names}
+use Rattle.bk_auto.specs.NewVariables.{texts_of, AreNew}
 use Rattle.bk_scripts.specs.Sight.{entry, hiding, no_variable}
 use Rattle.bk_scripts.specs.Brought.{is_in_scope}
-use Rattle.bk_show.specs.Shown.{or_empty, nth_name, name_of_variable, name_of_set, name_of_element}
+use Rattle.bk_show.specs.Shown.{or_empty, nth_name, name_of_set, name_of_element}
 use Rattle.bk_print.specs.Readable.{with_new, numbered, AreApart}
 
 -- ---- texts

@@ -1,7 +1,7 @@
 use Rattle.std.proofs.Common.{subst}
 use Rattle.bk_dev.specs.Flattened.{flattened}
 use Rattle.bk_po.specs.Shown.{named_sequent}
-use Rattle.bk_seq.specs.Sequents.{Sequent, sequent_of}
+use Rattle.bk_seq.specs.Sequents.{Sequent}
 use Rattle.bk_status.specs.States.{IsState}
 use Rattle.bk_print.proofs.Steps.{other_state, same_sequent}
 use Rattle.bk_print.proofs.searching.is_proved.Goals as goal

@@ -1,4 +1,4 @@
-use Rattle.std.proofs.Common.{◌≡◌, ◌∙◌, ◌+◌, ◌<◌, ◌≤◌, ◌++◌, ◌∷◌, [], List, length, map, take, sym, subst, arith}
+use Rattle.std.proofs.Common.{◌≡◌, ◌+◌, ◌<◌, ◌≤◌, List, length, map, take, sym, subst, arith}
 use Rattle.std.proofs.lemmas.List.{length-map}
 use Rattle.bk_dev.specs.Flattened.{flattened}
 use Rattle.bk_po.specs.Shown.{named_sequent}
