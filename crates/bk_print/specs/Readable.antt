@@ -114,7 +114,7 @@ abbrev pub names_brought : List Rule → List ℕ
 names_brought rules = flat_map (λ r. names_of_parts (parts_of r)) rules
 
 -- ---- new variables, and what is in scope
--- a table with new variables behind its own
+-- a table with new variables after its own
 abbrev pub with_new : Table → List VariableEntry → Table
 with_new table new = record table { variables = table.variables ++ new }
 

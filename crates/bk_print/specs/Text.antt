@@ -19,7 +19,7 @@ use Rattle.bk_print.specs.Written.{Part, a_number, a_term, some_terms, a_place, 
 use Rattle.bk_print.specs.Written.{Parts, none, one, two, word_of, parts_of}
 
 -- ---- lists
--- each of these behind that
+-- each of these after that
 abbrev pub behind_each : List Item → List (List Item) → List Item
 behind_each between [] = []
 behind_each between (x ∷ xs) = between ++ (x ++ behind_each between xs)
@@ -41,7 +41,7 @@ spaced op = blank ∷ sign op ∷ blank ∷ []
 abbrev pub number_items : ℕ → List Item
 number_items n = plain (Number (pos n)) ∷ []
 
--- numbers, each behind a blank
+-- numbers, each after a blank
 abbrev pub numbers_behind : List ℕ → List Item
 numbers_behind ns = behind_each (blank ∷ []) (map number_items ns)
 
@@ -126,7 +126,7 @@ abbrev pub rule_items : Table → Rule → List Item
 rule_items table r = word_items (word_of r) ++ parts_items table (parts_of r)
 
 -- ---- lines
--- a semicolon behind all rules but the last
+-- a semicolon after all rules but the last
 abbrev pub semicolon_before : List Rule → List Item
 semicolon_before [] = []
 semicolon_before (r ∷ rs) = blank ∷ sign SEMICOLON ∷ []

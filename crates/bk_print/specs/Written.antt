@@ -66,7 +66,7 @@ word_of Poly = Some PolyWord
 word_of (Lin facts lines) = Some LinWord
 word_of Unread = None
 
--- what may stand behind the word
+-- what may stand after the word
 pub data Part : Type 0 where
   -- the number of a hypothesis
   a_number : ℕ → Part

@@ -12,7 +12,7 @@ use bk_io::Memory;
 use bk_lin::Line;
 use itoa::Buffer;
 
-/// Writes a certificate behind a blank: the numbers of the hypotheses, a colon, and the lines.
+/// Writes a certificate after a blank: the numbers of the hypotheses, a colon, and the lines.
 #[tactic(auto, using(crate::proofs::Pieces::certificates))]
 pub(crate) fn write_certificate(
     out: &mut Vec<u8>,
@@ -27,7 +27,7 @@ pub(crate) fn write_certificate(
     write_lines(out, lines)
 }
 
-// Writes the numbers of the hypotheses with commas between, and a blank behind them where there are some.
+// Writes the numbers of the hypotheses with commas between, and a blank after them where there are some.
 #[tactic(auto, using(crate::proofs::Pieces::certificates))]
 fn write_facts(out: &mut Vec<u8>, facts: &[u32]) -> Result<(), Memory>
     ensures { OnOk result (out.new.items ≡ out.old.items ++ text_of (facts_items facts.now)) }
@@ -43,7 +43,7 @@ fn write_facts(out: &mut Vec<u8>, facts: &[u32]) -> Result<(), Memory>
     }
 }
 
-// Writes numbers, each behind a comma.
+// Writes numbers, each after a comma.
 fn write_more_facts(out: &mut Vec<u8>, facts: &[u32]) -> Result<(), Memory>
     ensures { OnOk result (out.new.items ≡ out.old.items ++ text_of (behind_each comma (map number_items facts.now))) }
 {
@@ -77,7 +77,7 @@ fn write_lines(out: &mut Vec<u8>, lines: &[Line]) -> Result<(), Memory>
     }
 }
 
-// Writes lines, each behind a bar.
+// Writes lines, each after a bar.
 fn write_more_lines(out: &mut Vec<u8>, lines: &[Line]) -> Result<(), Memory>
     ensures { OnOk result (out.new.items ≡ out.old.items ++ text_of (behind_each (spaced BAR) (map line_items lines.now))) }
 {
@@ -117,7 +117,7 @@ fn write_multiples(out: &mut Vec<u8>, multiples: &[(i128, u32)]) -> Result<(), M
     }
 }
 
-// Writes multiples, each behind `+`.
+// Writes multiples, each after `+`.
 fn write_more_multiples(out: &mut Vec<u8>, multiples: &[(i128, u32)]) -> Result<(), Memory>
     ensures { OnOk result (out.new.items ≡ out.old.items ++ text_of (behind_each (spaced PLUS) (map multiple_items multiples.now))) }
 {

@@ -10,7 +10,7 @@ use bk_io::Memory;
 use itoa::Buffer;
 use std::alloc::Global;
 
-/// Writes a law behind a blank, with the terms that it takes.
+/// Writes a law after a blank, with the terms that it takes.
 #[tactic(auto, using(crate::proofs::Pieces::laws))]
 pub(crate) fn write_law(
     alloc: Global,

@@ -11,7 +11,7 @@ use bk_io::Memory;
 use bk_show::show_type;
 use std::alloc::Global;
 
-/// Writes variables behind a blank, each with its type, with commas between.
+/// Writes variables after a blank, each with its type, with commas between.
 #[tactic(auto, using(crate::proofs::Pieces::rules))]
 pub(crate) fn write_names(
     alloc: Global,
@@ -31,7 +31,7 @@ pub(crate) fn write_names(
     }
 }
 
-// Writes variables, each behind a comma.
+// Writes variables, each after a comma.
 fn write_more(
     alloc: Global,
     out: &mut Vec<u8>,

@@ -1,4 +1,4 @@
-// The parts of rules, as they stand behind their words.
+// The parts of rules, as they stand after their words.
 
 ghost use Rattle.std.specs.Prelude.{◌≡◌};
 ghost use Rattle.bk_print.specs.Written as written;

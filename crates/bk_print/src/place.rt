@@ -8,7 +8,7 @@ use bk_io::Memory;
 use bk_kernel::Place;
 use itoa::Buffer;
 
-/// Writes a number behind a blank.
+/// Writes a number after a blank.
 #[tactic(auto, using(crate::proofs::Pieces::numbers))]
 pub(crate) fn write_number(out: &mut Vec<u8>, number: u32) -> Result<(), Memory>
     ensures { OnOk result (out.new.items ≡ out.old.items ++ text_of (blank ∷ number_items number)) }
@@ -26,7 +26,7 @@ pub(crate) fn write_digits(out: &mut Vec<u8>, number: u32) -> Result<(), Memory>
     Ok(())
 }
 
-/// Writes a place behind a blank: `goal` or `hyp i`, and the numbers of the children on the way down.
+/// Writes a place after a blank: `goal` or `hyp i`, and the numbers of the children on the way down.
 #[tactic(auto, using(crate::proofs::Pieces::numbers))]
 pub(crate) fn write_place(out: &mut Vec<u8>, place: &Place) -> Result<(), Memory>
     ensures { OnOk result (out.new.items ≡ out.old.items ++ text_of (blank ∷ place_items place.now)) }
@@ -44,7 +44,7 @@ pub(crate) fn write_place(out: &mut Vec<u8>, place: &Place) -> Result<(), Memory
     }
 }
 
-// Writes numbers, each behind a blank.
+// Writes numbers, each after a blank.
 fn write_path(out: &mut Vec<u8>, path: &[u32]) -> Result<(), Memory>
     ensures { OnOk result (out.new.items ≡ out.old.items ++ text_of (numbers_behind path.now)) }
 {

@@ -10,9 +10,9 @@ use bk_io::Memory;
 use bk_kernel::Rule;
 use std::alloc::Global;
 
-/// The text of a script for the obligation of this name: a line `proof NAME`, a line for each rule after two blanks, with ` ;` behind all but
-/// the last, and a line `end`. Formulas and types have the names of the table; the variables that a rule brings stand with their types. A
-/// rule that was not read has no text.
+/// The text of a script for the obligation of this name: a line `proof NAME`, a line for each rule after two blanks, with ` ;` after
+/// all but the last, and a line `end`. Formulas and types have the names of the table; the variables that a rule brings stand with
+/// their types. A rule that was not read has no text.
 pub fn print(
     alloc: Global,
     name: &[u8],

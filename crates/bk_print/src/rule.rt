@@ -17,7 +17,7 @@ use bk_io::Memory;
 use bk_kernel::Rule;
 use std::alloc::Global;
 
-/// Writes a rule after what is written: its word, and each of its parts behind a blank.
+/// Writes a rule after what is written: its word, and each of its parts after a blank.
 #[tactic(auto, using(crate::proofs::Pieces::rules))]
 pub(crate) fn write_rule(
     alloc: Global,
@@ -31,7 +31,7 @@ pub(crate) fn write_rule(
     write_parts(alloc, out, types, parts_of(rule))
 }
 
-// Writes parts, each behind a blank.
+// Writes parts, each after a blank.
 #[tactic(auto, using(crate::proofs::Pieces::rules))]
 fn write_parts(
     alloc: Global,
@@ -51,7 +51,7 @@ fn write_parts(
     }
 }
 
-// Writes a part behind a blank.
+// Writes a part after a blank.
 fn write_part(
     alloc: Global,
     out: &mut Vec<u8>,

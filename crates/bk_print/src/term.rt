@@ -10,7 +10,7 @@ use bk_io::Memory;
 use bk_show::show;
 use std::alloc::Global;
 
-/// Writes a term behind a blank.
+/// Writes a term after a blank.
 #[tactic(auto, using(crate::proofs::Pieces::rules))]
 pub(crate) fn write_term(
     alloc: Global,
@@ -24,7 +24,7 @@ pub(crate) fn write_term(
     write_shown(alloc, out, types, term)
 }
 
-/// Writes terms behind a blank, with commas between.
+/// Writes terms after a blank, with commas between.
 #[tactic(auto, using(crate::proofs::Pieces::rules))]
 pub(crate) fn write_terms(
     alloc: Global,
@@ -57,7 +57,7 @@ pub(crate) fn write_list(
     }
 }
 
-// Writes terms, each behind a comma.
+// Writes terms, each after a comma.
 fn write_more(
     alloc: Global,
     out: &mut Vec<u8>,

@@ -78,11 +78,11 @@ fn code_of_run<H: Shelf, K: Sink>(
 /// Does what the words ask for. They are those of the command line without the program's name.
 ///
 /// `check PROJECT` says in a line what the project is read as; `status PROJECT` writes the table of its obligations, `po PROJECT`
-/// the obligations, `find PROJECT` scripts for those that are open, `code PROJECT` the instructions of its implementation, and `build PROJECT`, where each obligation is obvious
-/// or proved, its image; `run PROJECT CALLS` plays, where each is, the calls of the script on it, and writes the session's
-/// transcript, and `exec IMAGE CALLS` plays them on an image. `--fuel N` says how many steps the initialisation and each call may
-/// have. `sample N`, N from 1 to 40, makes a development with N variables, proves and runs it, and writes the last line of its
-/// status table and that of its session.
+/// the obligations, `find PROJECT` scripts for those that are open, `code PROJECT` the instructions of its implementation, and
+/// `build PROJECT`, where each obligation is obvious or proved, its image; `run PROJECT CALLS` plays, where each is, the calls of
+/// the script on it, and writes the session's transcript, and `exec IMAGE CALLS` plays them on an image. `--fuel N` says how many
+/// steps the initialisation and each call may have. `sample N`, N from 1 to 40, makes a development with N variables, proves and
+/// runs it, and writes the last line of its status table and that of its session.
 pub fn bkit<H: Shelf, K: Sink>(
     alloc: Global,
     words: &[String],

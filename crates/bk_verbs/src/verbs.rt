@@ -29,9 +29,10 @@ use std::alloc::Global;
 /// `check PROJECT` reads the project's file and the component files that it names, and says so in a line. `status PROJECT`
 /// reads the proof files too, makes the proof obligations, and writes the table that says of each whether it is obvious or
 /// proved by a replayed script. `po PROJECT` writes the obligations themselves, and `find PROJECT`
-/// a proof file with scripts for those that are open. `code PROJECT` writes the instructions of the translated implementation, and `build PROJECT`, where each
-/// obligation is obvious or proved, its image. `run PROJECT CALLS` plays, where each is, the
-/// calls of the script on it; `exec IMAGE CALLS` plays them on the image that a file holds.
+/// a proof file with scripts for those that are open. `code PROJECT` writes the instructions of the
+/// translated implementation, and `build PROJECT`, where each obligation is obvious or proved, its
+/// image. `run PROJECT CALLS` plays, where each is, the calls of the script on it; `exec IMAGE CALLS`
+/// plays them on the image that a file holds.
 /// `sample N` makes a development with N variables, and writes, where each of its obligations is
 /// proved, the last line of its status table and that of its session; the shelf is not asked.
 pub fn prepare<H: Shelf>(alloc: Global, command: Command<'_>, shelf: &mut H) -> Result<Work, Stop>
