@@ -1,6 +1,6 @@
--- An instance of a law of sequences is within the limits only where its picks are.
+-- An instance of a law of sequences is within the limits only where its picks are; with another number of picks there is none.
 use Rattle.std.proofs.Common.{◌≡◌, refl, sym, subst, ℕ, zero, suc, ◌≤◌, ◌<◌, List, [], ◌∷◌, length, Bool, true, false, cond, nat_eq, arith}
-use Rattle.std.specs.Prelude.{Some, None}
+use Rattle.std.specs.Prelude.{◌≢◌, Some, None}
 use Rattle.std.proofs.lemmas.Bool.Decides.{nat_tests}
 use Rattle.bk_form.specs.Each.{Each}
 use Rattle.bk_form.specs.Formula.{Formula, formula_size, formula_height}
@@ -124,6 +124,14 @@ some-same i j h = cc
 
 nat_eq-same : (m n : ℕ) → nat_eq m n ≡ true → m ≡ n
 nat_eq-same m n h = grind (arith, nat_tests)
+
+-- with another number of picks there is no instance
+pub no-instance : (row : Row) (picks : List Formula) → length picks ≢ row.letters → instance_of_row picks (Some row) ≡ None
+no-instance row picks other = by_test (nat_eq (length picks) row.letters) refl
+  where
+    by_test : (b : Bool) → nat_eq (length picks) row.letters ≡ b → cond b (Some (row.at (pick_at picks))) None ≡ None
+    by_test true e = absurd (other (nat_eq-same (length picks) row.letters e))
+    by_test false e = refl
 
 of-picks : (row : Row) → Covered row → (picks : List Formula) (i : Instance) (b : Bool) → nat_eq (length picks) row.letters ≡ b → cond b (Some (row.at (pick_at picks))) None ≡ Some i → IsWithinInstance i → Each IsWithinLimits picks
 of-picks row covered picks i true e h w = each-of picks (subst (λ n. Below n (pick_at picks)) (sym (nat_eq-same (length picks) row.letters e)) (covered (pick_at picks) (subst IsWithinInstance (sym (some-same (row.at (pick_at picks)) i h)) w)))
