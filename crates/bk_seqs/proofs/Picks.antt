@@ -7,18 +7,18 @@ use Rattle.bk_form.specs.Formula.{Formula, formula_size, formula_height}
 use Rattle.bk_bind.specs.Limits.{IsWithinLimits}
 use Rattle.bk_laws.specs.Rows.{Instance, pick_at}
 use Rattle.bk_form.specs.Expansion.{card_of, append, prepend}
-use Rattle.bk_seqs.specs.Rows.{Row, row_named, instance_of_row, instance_at, rows, sq, q1, q2, q3, q4, q5, q6, q7, q8, q9, q10, q11, q12, q13, q14, q15, q16}
+use Rattle.bk_seqs.specs.Rows.{Row, row_named, instance_of_row, instance_at, rows, sequence_over, q1, q2, q3, q4, q5, q6, q7, q8, q9, q10, q11, q12, q13, q14, q15, q16}
 
 -- each formula of the instance is
 abbrev pub IsWithinInstance : Instance → Type 0
 IsWithinInstance i = Each IsWithinLimits i.sides × IsWithinLimits i.left × IsWithinLimits i.right
 
 -- ---- parts
-sq-left : (s b : Formula) → IsWithinLimits (sq s b) → IsWithinLimits s
-sq-left s b w = record { nodes = omega (arith, w.nodes); height = omega (arith, w.height) }
+left-of-sequence : (s b : Formula) → IsWithinLimits (sequence_over s b) → IsWithinLimits s
+left-of-sequence s b w = record { nodes = omega (arith, w.nodes); height = omega (arith, w.height) }
 
-sq-right : (s b : Formula) → IsWithinLimits (sq s b) → IsWithinLimits b
-sq-right s b w = record { nodes = omega (arith, w.nodes); height = omega (arith, w.height) }
+right-of-sequence : (s b : Formula) → IsWithinLimits (sequence_over s b) → IsWithinLimits b
+right-of-sequence s b w = record { nodes = omega (arith, w.nodes); height = omega (arith, w.height) }
 
 append-right : (s x : Formula) → IsWithinLimits (append s x) → IsWithinLimits x
 append-right s x w = record { nodes = omega (arith, w.nodes); height = omega (arith, w.height) }
@@ -60,49 +60,49 @@ abbrev Covered : Row → Type 0
 Covered row = (p : ℕ → Formula) → IsWithinInstance (row.at p) → Below row.letters p
 
 in-q1 : Covered q1
-in-q1 p w = three-letters p (sq-left (p 0) (p 2) w.0.0) (append-right (p 0) (p 1) (smaller (card_of (append (p 0) (p 1))) (append (p 0) (p 1)) (omega arith) (omega arith) w.1)) (sq-right (p 0) (p 2) w.0.0)
+in-q1 p w = three-letters p (left-of-sequence (p 0) (p 2) w.0.0) (append-right (p 0) (p 1) (smaller (card_of (append (p 0) (p 1))) (append (p 0) (p 1)) (omega arith) (omega arith) w.1)) (right-of-sequence (p 0) (p 2) w.0.0)
 
 in-q2 : Covered q2
-in-q2 p w = three-letters p (sq-left (p 0) (p 2) w.0.0) (record { nodes = omega (arith, w.0.1.0.nodes); height = omega (arith, w.0.1.0.height) }) (sq-right (p 0) (p 2) w.0.0)
+in-q2 p w = three-letters p (left-of-sequence (p 0) (p 2) w.0.0) (record { nodes = omega (arith, w.0.1.0.nodes); height = omega (arith, w.0.1.0.height) }) (right-of-sequence (p 0) (p 2) w.0.0)
 
 in-q3 : Covered q3
-in-q3 p w = three-letters p (sq-left (p 0) (p 2) w.0.0) w.2 (sq-right (p 0) (p 2) w.0.0)
+in-q3 p w = three-letters p (left-of-sequence (p 0) (p 2) w.0.0) w.2 (right-of-sequence (p 0) (p 2) w.0.0)
 
 in-q4 : Covered q4
-in-q4 p w = four-letters p (sq-left (p 0) (p 3) w.0.0) (append-right (p 0) (p 1) (record { nodes = omega (arith, w.1.nodes); height = omega (arith, w.1.height) })) (record { nodes = omega (arith, w.0.1.0.nodes); height = omega (arith, w.0.1.0.height) }) (sq-right (p 0) (p 3) w.0.0)
+in-q4 p w = four-letters p (left-of-sequence (p 0) (p 3) w.0.0) (append-right (p 0) (p 1) (record { nodes = omega (arith, w.1.nodes); height = omega (arith, w.1.height) })) (record { nodes = omega (arith, w.0.1.0.nodes); height = omega (arith, w.0.1.0.height) }) (right-of-sequence (p 0) (p 3) w.0.0)
 
 in-q5 : Covered q5
-in-q5 p w = two-letters p (sq-left (p 0) (p 1) w.0.0) (sq-right (p 0) (p 1) w.0.0)
+in-q5 p w = two-letters p (left-of-sequence (p 0) (p 1) w.0.0) (right-of-sequence (p 0) (p 1) w.0.0)
 
 in-q6 : Covered q6
-in-q6 p w = two-letters p (sq-left (p 0) (p 1) w.0.0) (sq-right (p 0) (p 1) w.0.0)
+in-q6 p w = two-letters p (left-of-sequence (p 0) (p 1) w.0.0) (right-of-sequence (p 0) (p 1) w.0.0)
 
 in-q7 : Covered q7
-in-q7 p w = two-letters p (sq-left (p 0) (p 1) w.0.0) (sq-right (p 0) (p 1) w.0.0)
+in-q7 p w = two-letters p (left-of-sequence (p 0) (p 1) w.0.0) (right-of-sequence (p 0) (p 1) w.0.0)
 
 in-q8 : Covered q8
-in-q8 p w = two-letters p (sq-left (p 0) (p 1) w.0.0) (sq-right (p 0) (p 1) w.0.0)
+in-q8 p w = two-letters p (left-of-sequence (p 0) (p 1) w.0.0) (right-of-sequence (p 0) (p 1) w.0.0)
 
 in-q9 : Covered q9
-in-q9 p w = two-letters p (sq-left (p 0) (p 1) w.0.0) (sq-right (p 0) (p 1) w.0.0)
+in-q9 p w = two-letters p (left-of-sequence (p 0) (p 1) w.0.0) (right-of-sequence (p 0) (p 1) w.0.0)
 
 in-q10 : Covered q10
-in-q10 p w = two-letters p (sq-left (p 0) (p 1) w.0.0) (sq-right (p 0) (p 1) w.0.0)
+in-q10 p w = two-letters p (left-of-sequence (p 0) (p 1) w.0.0) (right-of-sequence (p 0) (p 1) w.0.0)
 
 in-q11 : Covered q11
-in-q11 p w = two-letters p (sq-left (p 0) (p 1) w.0.0) (sq-right (p 0) (p 1) w.0.0)
+in-q11 p w = two-letters p (left-of-sequence (p 0) (p 1) w.0.0) (right-of-sequence (p 0) (p 1) w.0.0)
 
 in-q12 : Covered q12
-in-q12 p w = three-letters p (sq-left (p 0) (p 2) w.0.0) (sq-left (p 1) (p 2) w.0.1.0) (sq-right (p 0) (p 2) w.0.0)
+in-q12 p w = three-letters p (left-of-sequence (p 0) (p 2) w.0.0) (left-of-sequence (p 1) (p 2) w.0.1.0) (right-of-sequence (p 0) (p 2) w.0.0)
 
 in-q13 : Covered q13
-in-q13 p w = three-letters p (sq-left (p 0) (p 2) w.0.0) (sq-left (p 1) (p 2) w.0.1.0) (sq-right (p 0) (p 2) w.0.0)
+in-q13 p w = three-letters p (left-of-sequence (p 0) (p 2) w.0.0) (left-of-sequence (p 1) (p 2) w.0.1.0) (right-of-sequence (p 0) (p 2) w.0.0)
 
 in-q14 : Covered q14
-in-q14 p w = three-letters p (prepend-left (p 0) (p 1) (record { nodes = omega (arith, w.1.nodes); height = omega (arith, w.1.height) })) (sq-left (p 1) (p 2) w.0.0) (sq-right (p 1) (p 2) w.0.0)
+in-q14 p w = three-letters p (prepend-left (p 0) (p 1) (record { nodes = omega (arith, w.1.nodes); height = omega (arith, w.1.height) })) (left-of-sequence (p 1) (p 2) w.0.0) (right-of-sequence (p 1) (p 2) w.0.0)
 
 in-q15 : Covered q15
-in-q15 p w = three-letters p (record { nodes = omega (arith, w.0.1.0.nodes); height = omega (arith, w.0.1.0.height) }) (sq-left (p 1) (p 2) w.0.0) (sq-right (p 1) (p 2) w.0.0)
+in-q15 p w = three-letters p (record { nodes = omega (arith, w.0.1.0.nodes); height = omega (arith, w.0.1.0.height) }) (left-of-sequence (p 1) (p 2) w.0.0) (right-of-sequence (p 1) (p 2) w.0.0)
 
 in-q16 : Covered q16
 in-q16 p w = two-letters p w.2 (prepend-right (p 0) (p 1) (record { nodes = omega (arith, w.1.nodes); height = omega (arith, w.1.height) }))

@@ -31,45 +31,45 @@ row_of_four name i = record { name = name; letters = 4; at = λ p. i (p 0) (p 1)
 abbrev pub same_if : Formula → Formula → List Formula → Instance
 same_if l r ps = record { sides = ps; left = l; right = r }
 
--- sq(s): s is a sequence of members of B
-abbrev pub sq : Formula → Formula → Formula
-sq s B = is_sequence s (card_of s) B
+-- s : seq(B), where it is expanded: s is a sequence of members of B
+abbrev pub sequence_over : Formula → Formula → Formula
+sequence_over s B = is_sequence s (card_of s) B
 
--- Q1: `card(s <- x)` is `card(s) + 1` if `sq(s)`
+-- Q1: `card(s <- x)` is `card(s) + 1` if `s : seq(B)`
 abbrev pub law_1 : Formula → Formula → Formula → Instance
-law_1 s x B = same_if (card_of (append s x)) (one_more s) (sq s B ∷ [])
+law_1 s x B = same_if (card_of (append s x)) (one_more s) (sequence_over s B ∷ [])
 
 -- Q1 as a row
 abbrev pub q1 : Row
 q1 = row_of_three 401 law_1
 
--- Q2: `s <- x : (1 .. (card(s) + 1)) --> B` is `btrue` if `sq(s)`, `x : B`
+-- Q2: `s <- x : (1 .. (card(s) + 1)) --> B` is `btrue` if `s : seq(B)`, `x : B`
 abbrev pub law_2 : Formula → Formula → Formula → Instance
-law_2 s x B = same_if (is_sequence (append s x) (one_more s) B) btrue (sq s B ∷ binary In x B ∷ [])
+law_2 s x B = same_if (is_sequence (append s x) (one_more s) B) btrue (sequence_over s B ∷ binary In x B ∷ [])
 
 -- Q2 as a row
 abbrev pub q2 : Row
 q2 = row_of_three 402 law_2
 
--- Q3: `(s <- x)(card(s) + 1)` is `x` if `sq(s)`
+-- Q3: `(s <- x)(card(s) + 1)` is `x` if `s : seq(B)`
 abbrev pub law_3 : Formula → Formula → Formula → Instance
-law_3 s x B = same_if (binary Apply (append s x) (one_more s)) x (sq s B ∷ [])
+law_3 s x B = same_if (binary Apply (append s x) (one_more s)) x (sequence_over s B ∷ [])
 
 -- Q3 as a row
 abbrev pub q3 : Row
 q3 = row_of_three 403 law_3
 
--- Q4: `(s <- x)(a)` is `s(a)` if `sq(s)`, `a : 1 .. card(s)`
+-- Q4: `(s <- x)(a)` is `s(a)` if `s : seq(B)`, `a : 1 .. card(s)`
 abbrev pub law_4 : Formula → Formula → Formula → Formula → Instance
-law_4 s x a B = same_if (binary Apply (append s x) a) (binary Apply s a) (sq s B ∷ binary In a (up_to (card_of s)) ∷ [])
+law_4 s x a B = same_if (binary Apply (append s x) a) (binary Apply s a) (sequence_over s B ∷ binary In a (up_to (card_of s)) ∷ [])
 
 -- Q4 as a row
 abbrev pub q4 : Row
 q4 = row_of_four 404 law_4
 
--- Q5: `front(s) : (1 .. (card(s) - 1)) --> B` is `btrue` if `sq(s)`
+-- Q5: `front(s) : (1 .. (card(s) - 1)) --> B` is `btrue` if `s : seq(B)`
 abbrev pub law_5 : Formula → Formula → Instance
-law_5 s B = same_if (is_sequence (front s) (one_less s) B) btrue (sq s B ∷ [])
+law_5 s B = same_if (is_sequence (front s) (one_less s) B) btrue (sequence_over s B ∷ [])
 
 -- Q5 as a row
 abbrev pub q5 : Row
@@ -79,81 +79,81 @@ q5 = row_of_two 405 law_5
 abbrev pub is_not_empty : Formula → Formula
 is_not_empty s = binary Le one (card_of s)
 
--- Q6: `card(front(s))` is `card(s) - 1` if `sq(s)`, `1 <= card(s)`
+-- Q6: `card(front(s))` is `card(s) - 1` if `s : seq(B)`, `1 <= card(s)`
 abbrev pub law_6 : Formula → Formula → Instance
-law_6 s B = same_if (card_of (front s)) (one_less s) (sq s B ∷ is_not_empty s ∷ [])
+law_6 s B = same_if (card_of (front s)) (one_less s) (sequence_over s B ∷ is_not_empty s ∷ [])
 
 -- Q6 as a row
 abbrev pub q6 : Row
 q6 = row_of_two 406 law_6
 
--- Q7: `tail(s) : (1 .. (card(s) - 1)) --> B` is `btrue` if `sq(s)`
+-- Q7: `tail(s) : (1 .. (card(s) - 1)) --> B` is `btrue` if `s : seq(B)`
 abbrev pub law_7 : Formula → Formula → Instance
-law_7 s B = same_if (is_sequence (tail s) (one_less s) B) btrue (sq s B ∷ [])
+law_7 s B = same_if (is_sequence (tail s) (one_less s) B) btrue (sequence_over s B ∷ [])
 
 -- Q7 as a row
 abbrev pub q7 : Row
 q7 = row_of_two 407 law_7
 
--- Q8: `card(tail(s))` is `card(s) - 1` if `sq(s)`, `1 <= card(s)`
+-- Q8: `card(tail(s))` is `card(s) - 1` if `s : seq(B)`, `1 <= card(s)`
 abbrev pub law_8 : Formula → Formula → Instance
-law_8 s B = same_if (card_of (tail s)) (one_less s) (sq s B ∷ is_not_empty s ∷ [])
+law_8 s B = same_if (card_of (tail s)) (one_less s) (sequence_over s B ∷ is_not_empty s ∷ [])
 
 -- Q8 as a row
 abbrev pub q8 : Row
 q8 = row_of_two 408 law_8
 
--- Q9: `rev(s) : (1 .. card(s)) --> B` is `btrue` if `sq(s)`
+-- Q9: `rev(s) : (1 .. card(s)) --> B` is `btrue` if `s : seq(B)`
 abbrev pub law_9 : Formula → Formula → Instance
-law_9 s B = same_if (is_sequence (rev s) (card_of s) B) btrue (sq s B ∷ [])
+law_9 s B = same_if (is_sequence (rev s) (card_of s) B) btrue (sequence_over s B ∷ [])
 
 -- Q9 as a row
 abbrev pub q9 : Row
 q9 = row_of_two 409 law_9
 
--- Q10: `card(rev(s))` is `card(s)` if `sq(s)`
+-- Q10: `card(rev(s))` is `card(s)` if `s : seq(B)`
 abbrev pub law_10 : Formula → Formula → Instance
-law_10 s B = same_if (card_of (rev s)) (card_of s) (sq s B ∷ [])
+law_10 s B = same_if (card_of (rev s)) (card_of s) (sequence_over s B ∷ [])
 
 -- Q10 as a row
 abbrev pub q10 : Row
 q10 = row_of_two 410 law_10
 
--- Q11: `rev(rev(s))` is `s` if `sq(s)`
+-- Q11: `rev(rev(s))` is `s` if `s : seq(B)`
 abbrev pub law_11 : Formula → Formula → Instance
-law_11 s B = same_if (rev (rev s)) s (sq s B ∷ [])
+law_11 s B = same_if (rev (rev s)) s (sequence_over s B ∷ [])
 
 -- Q11 as a row
 abbrev pub q11 : Row
 q11 = row_of_two 411 law_11
 
--- Q12: `card(s ^ t)` is `card(s) + card(t)` if `sq(s)`, `sq(t)`
+-- Q12: `card(s ^ t)` is `card(s) + card(t)` if `s : seq(B)`, `t : seq(B)`
 abbrev pub law_12 : Formula → Formula → Formula → Instance
-law_12 s t B = same_if (card_of (concat s t)) (binary Add (card_of s) (card_of t)) (sq s B ∷ sq t B ∷ [])
+law_12 s t B = same_if (card_of (concat s t)) (binary Add (card_of s) (card_of t)) (sequence_over s B ∷ sequence_over t B ∷ [])
 
 -- Q12 as a row
 abbrev pub q12 : Row
 q12 = row_of_three 412 law_12
 
--- Q13: `s ^ t : (1 .. (card(s) + card(t))) --> B` is `btrue` if `sq(s)`, `sq(t)`
+-- Q13: `s ^ t : (1 .. (card(s) + card(t))) --> B` is `btrue` if `s : seq(B)`, `t : seq(B)`
 abbrev pub law_13 : Formula → Formula → Formula → Instance
-law_13 s t B = same_if (is_sequence (concat s t) (binary Add (card_of s) (card_of t)) B) btrue (sq s B ∷ sq t B ∷ [])
+law_13 s t B = same_if (is_sequence (concat s t) (binary Add (card_of s) (card_of t)) B) btrue (sequence_over s B ∷ sequence_over t B ∷ [])
 
 -- Q13 as a row
 abbrev pub q13 : Row
 q13 = row_of_three 413 law_13
 
--- Q14: `card(x -> s)` is `card(s) + 1` if `sq(s)`
+-- Q14: `card(x -> s)` is `card(s) + 1` if `s : seq(B)`
 abbrev pub law_14 : Formula → Formula → Formula → Instance
-law_14 x s B = same_if (card_of (prepend x s)) (one_more s) (sq s B ∷ [])
+law_14 x s B = same_if (card_of (prepend x s)) (one_more s) (sequence_over s B ∷ [])
 
 -- Q14 as a row
 abbrev pub q14 : Row
 q14 = row_of_three 414 law_14
 
--- Q15: `x -> s : (1 .. (card(s) + 1)) --> B` is `btrue` if `sq(s)`, `x : B`
+-- Q15: `x -> s : (1 .. (card(s) + 1)) --> B` is `btrue` if `s : seq(B)`, `x : B`
 abbrev pub law_15 : Formula → Formula → Formula → Instance
-law_15 x s B = same_if (is_sequence (prepend x s) (one_more s) B) btrue (sq s B ∷ binary In x B ∷ [])
+law_15 x s B = same_if (is_sequence (prepend x s) (one_more s) B) btrue (sequence_over s B ∷ binary In x B ∷ [])
 
 -- Q15 as a row
 abbrev pub q15 : Row

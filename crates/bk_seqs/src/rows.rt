@@ -7,14 +7,14 @@ ghost use Rattle.bk_seqs.specs.Rows.{law_9, law_10, law_11, law_12, law_13, law_
 ghost use Rattle.bk_seqs.specs.RowNames.{instance_of};
 
 use crate::making::{card_of, number, one_less, one_more, sequence};
-use crate::sides::{alone, apply, both, index_of, member, some_members, sq, sum, always};
+use crate::sides::{alone, apply, both, index_of, member, some_members, sequence_over, sum, always};
 use crate::words::{append, concat, front, prepend, rev, tail};
 use bk_bind::LawInstance;
 use bk_form::Form;
 use bk_io::Memory;
 use std::alloc::Global;
 
-// Q1: `card(s <- x)` is `card(s) + 1` if `sq(s)`
+// Q1: `card(s <- x)` is `card(s) + 1` if `s : seq(B)`
 #[tactic(auto, using(crate::proofs::Measures::measures))]
 pub(crate) fn law_1(alloc: Global, s: &Form, x: &Form, b: &Form) -> Result<LawInstance, Memory>
     requires small_s { IsSmall s.now }
@@ -24,11 +24,11 @@ pub(crate) fn law_1(alloc: Global, s: &Form, x: &Form, b: &Form) -> Result<LawIn
 {
     let left = card_of(alloc, &append(alloc, s, x)?)?;
     let right = one_more(alloc, s)?;
-    let sides = alone(alloc, sq(alloc, s, b)?)?;
+    let sides = alone(alloc, sequence_over(alloc, s, b)?)?;
     Ok(LawInstance { sides, left, right })
 }
 
-// Q2: `s <- x : (1 .. (card(s) + 1)) --> B` is `btrue` if `sq(s)`, `x : B`
+// Q2: `s <- x : (1 .. (card(s) + 1)) --> B` is `btrue` if `s : seq(B)`, `x : B`
 #[tactic(auto, using(crate::proofs::Measures::measures))]
 pub(crate) fn law_2(alloc: Global, s: &Form, x: &Form, b: &Form) -> Result<LawInstance, Memory>
     requires small_s { IsSmall s.now }
@@ -43,11 +43,11 @@ pub(crate) fn law_2(alloc: Global, s: &Form, x: &Form, b: &Form) -> Result<LawIn
         b.copy(alloc)?,
     )?;
     let right = always(alloc)?;
-    let sides = both(alloc, sq(alloc, s, b)?, member(alloc, x, b)?)?;
+    let sides = both(alloc, sequence_over(alloc, s, b)?, member(alloc, x, b)?)?;
     Ok(LawInstance { sides, left, right })
 }
 
-// Q3: `(s <- x)(card(s) + 1)` is `x` if `sq(s)`
+// Q3: `(s <- x)(card(s) + 1)` is `x` if `s : seq(B)`
 #[tactic(auto, using(crate::proofs::Measures::measures))]
 pub(crate) fn law_3(alloc: Global, s: &Form, x: &Form, b: &Form) -> Result<LawInstance, Memory>
     requires small_s { IsSmall s.now }
@@ -57,11 +57,11 @@ pub(crate) fn law_3(alloc: Global, s: &Form, x: &Form, b: &Form) -> Result<LawIn
 {
     let left = apply(alloc, append(alloc, s, x)?, one_more(alloc, s)?)?;
     let right = x.copy(alloc)?;
-    let sides = alone(alloc, sq(alloc, s, b)?)?;
+    let sides = alone(alloc, sequence_over(alloc, s, b)?)?;
     Ok(LawInstance { sides, left, right })
 }
 
-// Q4: `(s <- x)(a)` is `s(a)` if `sq(s)`, `a : 1 .. card(s)`
+// Q4: `(s <- x)(a)` is `s(a)` if `s : seq(B)`, `a : 1 .. card(s)`
 #[tactic(auto, using(crate::proofs::Measures::measures))]
 pub(crate) fn law_4(
     alloc: Global,
@@ -78,11 +78,11 @@ pub(crate) fn law_4(
 {
     let left = apply(alloc, append(alloc, s, x)?, a.copy(alloc)?)?;
     let right = apply(alloc, s.copy(alloc)?, a.copy(alloc)?)?;
-    let sides = both(alloc, sq(alloc, s, b)?, index_of(alloc, a, s)?)?;
+    let sides = both(alloc, sequence_over(alloc, s, b)?, index_of(alloc, a, s)?)?;
     Ok(LawInstance { sides, left, right })
 }
 
-// Q5: `front(s) : (1 .. (card(s) - 1)) --> B` is `btrue` if `sq(s)`
+// Q5: `front(s) : (1 .. (card(s) - 1)) --> B` is `btrue` if `s : seq(B)`
 #[tactic(auto, using(crate::proofs::Measures::measures))]
 pub(crate) fn law_5(alloc: Global, s: &Form, b: &Form) -> Result<LawInstance, Memory>
     requires small_s { IsSmall s.now }
@@ -91,11 +91,11 @@ pub(crate) fn law_5(alloc: Global, s: &Form, b: &Form) -> Result<LawInstance, Me
 {
     let left = sequence(alloc, front(alloc, s)?, one_less(alloc, s)?, b.copy(alloc)?)?;
     let right = always(alloc)?;
-    let sides = alone(alloc, sq(alloc, s, b)?)?;
+    let sides = alone(alloc, sequence_over(alloc, s, b)?)?;
     Ok(LawInstance { sides, left, right })
 }
 
-// Q6: `card(front(s))` is `card(s) - 1` if `sq(s)`, `1 <= card(s)`
+// Q6: `card(front(s))` is `card(s) - 1` if `s : seq(B)`, `1 <= card(s)`
 #[tactic(auto, using(crate::proofs::Measures::measures))]
 pub(crate) fn law_6(alloc: Global, s: &Form, b: &Form) -> Result<LawInstance, Memory>
     requires small_s { IsSmall s.now }
@@ -108,7 +108,7 @@ pub(crate) fn law_6(alloc: Global, s: &Form, b: &Form) -> Result<LawInstance, Me
     Ok(LawInstance { sides, left, right })
 }
 
-// Q7: `tail(s) : (1 .. (card(s) - 1)) --> B` is `btrue` if `sq(s)`
+// Q7: `tail(s) : (1 .. (card(s) - 1)) --> B` is `btrue` if `s : seq(B)`
 #[tactic(auto, using(crate::proofs::Measures::measures))]
 pub(crate) fn law_7(alloc: Global, s: &Form, b: &Form) -> Result<LawInstance, Memory>
     requires small_s { IsSmall s.now }
@@ -117,11 +117,11 @@ pub(crate) fn law_7(alloc: Global, s: &Form, b: &Form) -> Result<LawInstance, Me
 {
     let left = sequence(alloc, tail(alloc, s)?, one_less(alloc, s)?, b.copy(alloc)?)?;
     let right = always(alloc)?;
-    let sides = alone(alloc, sq(alloc, s, b)?)?;
+    let sides = alone(alloc, sequence_over(alloc, s, b)?)?;
     Ok(LawInstance { sides, left, right })
 }
 
-// Q8: `card(tail(s))` is `card(s) - 1` if `sq(s)`, `1 <= card(s)`
+// Q8: `card(tail(s))` is `card(s) - 1` if `s : seq(B)`, `1 <= card(s)`
 #[tactic(auto, using(crate::proofs::Measures::measures))]
 pub(crate) fn law_8(alloc: Global, s: &Form, b: &Form) -> Result<LawInstance, Memory>
     requires small_s { IsSmall s.now }
@@ -134,7 +134,7 @@ pub(crate) fn law_8(alloc: Global, s: &Form, b: &Form) -> Result<LawInstance, Me
     Ok(LawInstance { sides, left, right })
 }
 
-// Q9: `rev(s) : (1 .. card(s)) --> B` is `btrue` if `sq(s)`
+// Q9: `rev(s) : (1 .. card(s)) --> B` is `btrue` if `s : seq(B)`
 #[tactic(auto, using(crate::proofs::Measures::measures))]
 pub(crate) fn law_9(alloc: Global, s: &Form, b: &Form) -> Result<LawInstance, Memory>
     requires small_s { IsSmall s.now }
@@ -143,11 +143,11 @@ pub(crate) fn law_9(alloc: Global, s: &Form, b: &Form) -> Result<LawInstance, Me
 {
     let left = sequence(alloc, rev(alloc, s)?, card_of(alloc, s)?, b.copy(alloc)?)?;
     let right = always(alloc)?;
-    let sides = alone(alloc, sq(alloc, s, b)?)?;
+    let sides = alone(alloc, sequence_over(alloc, s, b)?)?;
     Ok(LawInstance { sides, left, right })
 }
 
-// Q10: `card(rev(s))` is `card(s)` if `sq(s)`
+// Q10: `card(rev(s))` is `card(s)` if `s : seq(B)`
 #[tactic(auto, using(crate::proofs::Measures::measures))]
 pub(crate) fn law_10(alloc: Global, s: &Form, b: &Form) -> Result<LawInstance, Memory>
     requires small_s { IsSmall s.now }
@@ -156,11 +156,11 @@ pub(crate) fn law_10(alloc: Global, s: &Form, b: &Form) -> Result<LawInstance, M
 {
     let left = card_of(alloc, &rev(alloc, s)?)?;
     let right = card_of(alloc, s)?;
-    let sides = alone(alloc, sq(alloc, s, b)?)?;
+    let sides = alone(alloc, sequence_over(alloc, s, b)?)?;
     Ok(LawInstance { sides, left, right })
 }
 
-// Q11: `rev(rev(s))` is `s` if `sq(s)`
+// Q11: `rev(rev(s))` is `s` if `s : seq(B)`
 #[tactic(auto, using(crate::proofs::Measures::measures))]
 pub(crate) fn law_11(alloc: Global, s: &Form, b: &Form) -> Result<LawInstance, Memory>
     requires small_s { IsSmall s.now }
@@ -169,11 +169,11 @@ pub(crate) fn law_11(alloc: Global, s: &Form, b: &Form) -> Result<LawInstance, M
 {
     let left = rev(alloc, &rev(alloc, s)?)?;
     let right = s.copy(alloc)?;
-    let sides = alone(alloc, sq(alloc, s, b)?)?;
+    let sides = alone(alloc, sequence_over(alloc, s, b)?)?;
     Ok(LawInstance { sides, left, right })
 }
 
-// Q12: `card(s ^ t)` is `card(s) + card(t)` if `sq(s)`, `sq(t)`
+// Q12: `card(s ^ t)` is `card(s) + card(t)` if `s : seq(B)`, `t : seq(B)`
 #[tactic(auto, using(crate::proofs::Measures::measures))]
 pub(crate) fn law_12(alloc: Global, s: &Form, t: &Form, b: &Form) -> Result<LawInstance, Memory>
     requires small_s { IsSmall s.now }
@@ -183,11 +183,11 @@ pub(crate) fn law_12(alloc: Global, s: &Form, t: &Form, b: &Form) -> Result<LawI
 {
     let left = card_of(alloc, &concat(alloc, s, t)?)?;
     let right = sum(alloc, s, t)?;
-    let sides = both(alloc, sq(alloc, s, b)?, sq(alloc, t, b)?)?;
+    let sides = both(alloc, sequence_over(alloc, s, b)?, sequence_over(alloc, t, b)?)?;
     Ok(LawInstance { sides, left, right })
 }
 
-// Q13: `s ^ t : (1 .. (card(s) + card(t))) --> B` is `btrue` if `sq(s)`, `sq(t)`
+// Q13: `s ^ t : (1 .. (card(s) + card(t))) --> B` is `btrue` if `s : seq(B)`, `t : seq(B)`
 #[tactic(auto, using(crate::proofs::Measures::measures))]
 pub(crate) fn law_13(alloc: Global, s: &Form, t: &Form, b: &Form) -> Result<LawInstance, Memory>
     requires small_s { IsSmall s.now }
@@ -202,11 +202,11 @@ pub(crate) fn law_13(alloc: Global, s: &Form, t: &Form, b: &Form) -> Result<LawI
         b.copy(alloc)?,
     )?;
     let right = always(alloc)?;
-    let sides = both(alloc, sq(alloc, s, b)?, sq(alloc, t, b)?)?;
+    let sides = both(alloc, sequence_over(alloc, s, b)?, sequence_over(alloc, t, b)?)?;
     Ok(LawInstance { sides, left, right })
 }
 
-// Q14: `card(x -> s)` is `card(s) + 1` if `sq(s)`
+// Q14: `card(x -> s)` is `card(s) + 1` if `s : seq(B)`
 #[tactic(auto, using(crate::proofs::Measures::measures))]
 pub(crate) fn law_14(alloc: Global, x: &Form, s: &Form, b: &Form) -> Result<LawInstance, Memory>
     requires small_x { IsSmall x.now }
@@ -216,11 +216,11 @@ pub(crate) fn law_14(alloc: Global, x: &Form, s: &Form, b: &Form) -> Result<LawI
 {
     let left = card_of(alloc, &prepend(alloc, x, s)?)?;
     let right = one_more(alloc, s)?;
-    let sides = alone(alloc, sq(alloc, s, b)?)?;
+    let sides = alone(alloc, sequence_over(alloc, s, b)?)?;
     Ok(LawInstance { sides, left, right })
 }
 
-// Q15: `x -> s : (1 .. (card(s) + 1)) --> B` is `btrue` if `sq(s)`, `x : B`
+// Q15: `x -> s : (1 .. (card(s) + 1)) --> B` is `btrue` if `s : seq(B)`, `x : B`
 #[tactic(auto, using(crate::proofs::Measures::measures))]
 pub(crate) fn law_15(alloc: Global, x: &Form, s: &Form, b: &Form) -> Result<LawInstance, Memory>
     requires small_x { IsSmall x.now }
@@ -235,7 +235,7 @@ pub(crate) fn law_15(alloc: Global, x: &Form, s: &Form, b: &Form) -> Result<LawI
         b.copy(alloc)?,
     )?;
     let right = always(alloc)?;
-    let sides = both(alloc, sq(alloc, s, b)?, member(alloc, x, b)?)?;
+    let sides = both(alloc, sequence_over(alloc, s, b)?, member(alloc, x, b)?)?;
     Ok(LawInstance { sides, left, right })
 }
 

@@ -5,19 +5,19 @@ ghost use Rattle.bk_form.specs.Formula.{formula_size, binary, btrue};
 ghost use Rattle.bk_form.specs.declared.operator.BinOp.TheVariants.{Add, Apply, In};
 ghost use Rattle.bk_form.specs.Expansion.{card_of, up_to};
 ghost use Rattle.bk_laws.specs.Rows.{IsSmall};
-ghost use Rattle.bk_seqs.specs.Rows.{sq, is_not_empty};
+ghost use Rattle.bk_seqs.specs.Rows.{sequence_over, is_not_empty};
 
 use crate::making::{binary, card_of, number, sequence, up_to};
 use bk_form::{BinOp, Form, Part};
 use bk_io::Memory;
 use std::alloc::Global;
 
-// sq(s): `s : (1 .. card(s)) --> B`
+// `s : seq(B)`, which is `s : (1 .. card(s)) --> B`
 #[tactic(auto, using(crate::proofs::Measures::measures))]
-pub(crate) fn sq(alloc: Global, s: &Form, b: &Form) -> Result<Form, Memory>
+pub(crate) fn sequence_over(alloc: Global, s: &Form, b: &Form) -> Result<Form, Memory>
     requires small_s { IsSmall s.now }
     requires small_b { IsSmall b.now }
-    ensures { IfOk result (λ p. p ≡ sq s.now b.now) }
+    ensures { IfOk result (λ p. p ≡ sequence_over s.now b.now) }
 {
     sequence(alloc, s.copy(alloc)?, card_of(alloc, s)?, b.copy(alloc)?)
 }
@@ -93,12 +93,12 @@ pub(crate) fn both(alloc: Global, p: Form, q: Form) -> Result<Vec<Form>, Memory>
     Ok(sides)
 }
 
-// sq(s), `1 <= card(s)`
+// `s : seq(B)`, `1 <= card(s)`
 #[tactic(auto, using(crate::proofs::Measures::measures))]
 pub(crate) fn some_members(alloc: Global, s: &Form, b: &Form) -> Result<Vec<Form>, Memory>
     requires small_s { IsSmall s.now }
     requires small_b { IsSmall b.now }
-    ensures { IfOk result (λ ps. ps.items ≡ sq s.now b.now ∷ is_not_empty s.now ∷ []) }
+    ensures { IfOk result (λ ps. ps.items ≡ sequence_over s.now b.now ∷ is_not_empty s.now ∷ []) }
 {
-    both(alloc, sq(alloc, s, b)?, not_empty(alloc, s)?)
+    both(alloc, sequence_over(alloc, s, b)?, not_empty(alloc, s)?)
 }
