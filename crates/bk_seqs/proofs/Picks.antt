@@ -112,6 +112,7 @@ AllCovered [] = Unit {0}
 AllCovered (row ∷ rest) = Covered row × AllCovered rest
 
 all-covered : AllCovered rows
+unfolding rows
 all-covered = (in-q1, (in-q2, (in-q3, (in-q4, (in-q5, (in-q6, (in-q7, (in-q8, (in-q9, (in-q10, (in-q11, (in-q12, (in-q13, (in-q14, (in-q15, (in-q16, tt))))))))))))))))
 
 -- ---- the table

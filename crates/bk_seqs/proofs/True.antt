@@ -30,6 +30,7 @@ table-is-true (row ∷ table) all name picks i h = by_name (table-is-true table 
     by_name on false k = on k
 
 pub rows-are-true : AreTrueRows rows
+unfolding rows
 rows-are-true = (true-q1, (true-q2, (true-q3, (true-q4, (true-q5, (true-q6, (true-q7, (true-q8, (true-q9, (true-q10, (true-q11, (true-q12, (true-q13, (true-q14, (true-q15, (true-q16, tt))))))))))))))))
 
 pub laws-are-true : IsTrueTable rows

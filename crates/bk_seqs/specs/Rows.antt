@@ -182,5 +182,5 @@ abbrev pub instance_at : List Row → ℕ → List Formula → Option Instance
 instance_at rows name picks = instance_of_row picks (row_named rows name)
 
 -- in the order of their numbers
-abbrev pub rows : List Row
+unfoldable pub rows : List Row
 rows = q1 ∷ q2 ∷ q3 ∷ q4 ∷ q5 ∷ q6 ∷ q7 ∷ q8 ∷ q9 ∷ q10 ∷ q11 ∷ q12 ∷ q13 ∷ q14 ∷ q15 ∷ q16 ∷ []

@@ -26,7 +26,7 @@ pub(crate) enum RowName {
 }
 
 // The row of this number.
-#[tactic(auto, using(crate::proofs::Numbered::no_rows))]
+#[tactic(auto, using(crate::proofs::Numbered::no_rows), unfolding(crate::specs::Rows::rows))]
 pub(crate) fn row_named(law: u16) -> Option<RowName>
     ensures { MatchOption result (row_named rows law ≡ None) (λ r. row_named rows law ≡ Some (row_at r)) }
 {
