@@ -10,11 +10,7 @@ pub(crate) const OF_ONE: &[(SeqSign, &str, &str)] = &[
     (SeqSign::Size, "s", "( card s )"),
     (SeqSign::First, "s", "( s of 1 )"),
     (SeqSign::Last, "s", "( s of ( card s ) )"),
-    (
-        SeqSign::Front,
-        "s",
-        "( ( 1 .. ( ( card s ) - 1 ) ) <| s )",
-    ),
+    (SeqSign::Front, "s", "( ( 1 .. ( ( card s ) - 1 ) ) <| s )"),
     (
         SeqSign::Tail,
         "s",

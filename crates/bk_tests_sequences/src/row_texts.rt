@@ -27,7 +27,10 @@ pub(crate) const ROWS: &[(u16, &str, &str, &str, &[&str])] = &[
         "sxaB",
         "( ( s \\/ ( single ( ( ( card s ) + 1 ) |-> x ) ) ) of a )",
         "( s of a )",
-        &["( s : ( ( 1 .. ( card s ) ) --> B ) )", "( a : ( 1 .. ( card s ) ) )"],
+        &[
+            "( s : ( ( 1 .. ( card s ) ) --> B ) )",
+            "( a : ( 1 .. ( card s ) ) )",
+        ],
     ),
     (
         405,
@@ -41,7 +44,10 @@ pub(crate) const ROWS: &[(u16, &str, &str, &str, &[&str])] = &[
         "sB",
         "( card ( ( 1 .. ( ( card s ) - 1 ) ) <| s ) )",
         "( ( card s ) - 1 )",
-        &["( s : ( ( 1 .. ( card s ) ) --> B ) )", "( 1 <= ( card s ) )"],
+        &[
+            "( s : ( ( 1 .. ( card s ) ) --> B ) )",
+            "( 1 <= ( card s ) )",
+        ],
     ),
     (
         407,
@@ -55,7 +61,10 @@ pub(crate) const ROWS: &[(u16, &str, &str, &str, &[&str])] = &[
         "sB",
         "( card ( fun1 ( 1 .. ( ( card s ) - 1 ) ) btrue ( s of ( b0 + 1 ) ) ) )",
         "( ( card s ) - 1 )",
-        &["( s : ( ( 1 .. ( card s ) ) --> B ) )", "( 1 <= ( card s ) )"],
+        &[
+            "( s : ( ( 1 .. ( card s ) ) --> B ) )",
+            "( 1 <= ( card s ) )",
+        ],
     ),
     (
         409,
@@ -83,14 +92,20 @@ pub(crate) const ROWS: &[(u16, &str, &str, &str, &[&str])] = &[
         "stB",
         "( card ( s \\/ ( fun1 ( ( ( card s ) + 1 ) .. ( ( card s ) + ( card t ) ) ) btrue ( t of ( b0 - ( card s ) ) ) ) ) )",
         "( ( card s ) + ( card t ) )",
-        &["( s : ( ( 1 .. ( card s ) ) --> B ) )", "( t : ( ( 1 .. ( card t ) ) --> B ) )"],
+        &[
+            "( s : ( ( 1 .. ( card s ) ) --> B ) )",
+            "( t : ( ( 1 .. ( card t ) ) --> B ) )",
+        ],
     ),
     (
         413,
         "stB",
         "( ( s \\/ ( fun1 ( ( ( card s ) + 1 ) .. ( ( card s ) + ( card t ) ) ) btrue ( t of ( b0 - ( card s ) ) ) ) ) : ( ( 1 .. ( ( card s ) + ( card t ) ) ) --> B ) )",
         "btrue",
-        &["( s : ( ( 1 .. ( card s ) ) --> B ) )", "( t : ( ( 1 .. ( card t ) ) --> B ) )"],
+        &[
+            "( s : ( ( 1 .. ( card s ) ) --> B ) )",
+            "( t : ( ( 1 .. ( card t ) ) --> B ) )",
+        ],
     ),
     (
         414,

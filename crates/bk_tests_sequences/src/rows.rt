@@ -50,8 +50,14 @@ fn each_law_at_variables(rt: HostRuntime) -> Result<(), Fail> {
     let alloc = rt.alloc();
     for (law, letters, left, right, sides) in ROWS {
         let found = tried(alloc, *law, &picks(alloc, letters)?)?;
-        assert!(rt; found.left.equal(&formula(alloc, letters, left)?), "left of {law}");
-        assert!(rt; found.right.equal(&formula(alloc, letters, right)?), "right of {law}");
+        assert!(rt;
+            found.left.equal(&formula(alloc, letters, left)?),
+            "left of {law}"
+        );
+        assert!(rt;
+            found.right.equal(&formula(alloc, letters, right)?),
+            "right of {law}"
+        );
         assert!(rt; are(alloc, letters, &found.sides, sides)?, "sides of {law}");
     }
     Ok(())
