@@ -7,7 +7,9 @@ ghost use Rattle.bk_seqs.specs.Rows.{law_9, law_10, law_11, law_12, law_13, law_
 ghost use Rattle.bk_seqs.specs.RowNames.{instance_of};
 
 use crate::making::{card_of, number, one_less, one_more, sequence};
-use crate::sides::{alone, apply, both, index_of, member, some_members, sequence_over, sum, always};
+use crate::sides::{
+    alone, always, apply, both, index_of, member, sequence_over, some_members, sum,
+};
 use crate::words::{append, concat, front, prepend, rev, tail};
 use bk_bind::LawInstance;
 use bk_form::Form;
@@ -183,7 +185,11 @@ pub(crate) fn law_12(alloc: Global, s: &Form, t: &Form, b: &Form) -> Result<LawI
 {
     let left = card_of(alloc, &concat(alloc, s, t)?)?;
     let right = sum(alloc, s, t)?;
-    let sides = both(alloc, sequence_over(alloc, s, b)?, sequence_over(alloc, t, b)?)?;
+    let sides = both(
+        alloc,
+        sequence_over(alloc, s, b)?,
+        sequence_over(alloc, t, b)?,
+    )?;
     Ok(LawInstance { sides, left, right })
 }
 
@@ -202,7 +208,11 @@ pub(crate) fn law_13(alloc: Global, s: &Form, t: &Form, b: &Form) -> Result<LawI
         b.copy(alloc)?,
     )?;
     let right = always(alloc)?;
-    let sides = both(alloc, sequence_over(alloc, s, b)?, sequence_over(alloc, t, b)?)?;
+    let sides = both(
+        alloc,
+        sequence_over(alloc, s, b)?,
+        sequence_over(alloc, t, b)?,
+    )?;
     Ok(LawInstance { sides, left, right })
 }
 
