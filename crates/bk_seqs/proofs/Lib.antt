@@ -1,0 +1,14 @@
+pub mod Appended
+pub mod Counting
+pub mod Joined
+pub mod Measures
+pub mod Numbered
+pub mod Parts
+pub mod Picks
+pub mod Reversed
+pub mod Sequences
+pub mod Shared
+pub mod Shifts
+pub mod Shortened
+pub mod True
+pub mod Types

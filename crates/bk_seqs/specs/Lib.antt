@@ -1,0 +1,4 @@
+pub mod Expanding
+pub mod Rows
+pub mod RowNames
+pub mod Laws
