@@ -4,7 +4,7 @@ ghost use Rattle.std.specs.Prelude.{◌≡◌, length};
 ghost use Rattle.bk_front.specs.ProjectFile.{component_lines};
 
 use bk_dev::Development;
-use bk_front::{LineKind, ProjectLine, Refusal, lines, project};
+use bk_front::{ProjectLine, Refusal, lines, project};
 use bk_io::Memory;
 use std::alloc::Global;
 
@@ -30,7 +30,7 @@ fn component_count(lines: &[ProjectLine]) -> usize
 {
     let mut count: usize = 0;
     for line in lines {
-        if line.kind != LineKind::Proofs {
+        if line.kind.is_component() {
             count += 1;
         }
     }
