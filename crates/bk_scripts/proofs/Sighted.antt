@@ -21,7 +21,7 @@ use Rattle.bk_kernel.specs.declared.rule.Rule.{Rule}
 use Rattle.bk_kernel.specs.declared.rule.Rule.TheVariants.{Unread}
 use Rattle.bk_scripts.specs.Sight.{part_text, part_at, level_of, operation_of, constants_from, no_variable, hiding, set_texts, lower_sets, parameters_to, entry, outer_scope, parameter_scope}
 use Rattle.bk_scripts.specs.Brought.{own_variables, own_parameters, new_over, brought, hidden, widened_by, type_in, numbered, widened, script_scope}
-use Rattle.bk_scripts.specs.Grounding.{AreRulesOf, RuleMeans, StandsFor}
+use Rattle.bk_scripts.specs.Grounding.{AreReadIn, AreRulesOf, RuleMeans, StandsFor}
 use Rattle.bk_scripts.specs.Finding.{IsMeaning}
 use Rattle.bk_scripts.specs.Widening.{IsWidened}
 use Rattle.bk_scripts.specs.Parts.{Around}
@@ -183,11 +183,11 @@ rules_same table dev s rules wide h = record {
   each = subst (λ (a : Around). AllZip (StandsFor a) s.rules rules) (λ i. record { table = sym (wide_same table dev s) i; scope = sym (scope_same table dev s) i }) h.each;
 }
 
--- the rules over a table, of the parts that the code makes one after another
-module _ (table : Table) (dev : Development) (s : RawScript) (outer own : List (List ℕ × ℕ)) (new : List RawTyped) (types scope more : ScopeNames) (old wide : Table) (rules : List Rule) where
-  pub rules_whole : outer ≡ own_variables table dev s → own ≡ own_parameters table dev s → new ≡ new_over own (brought s) → types ≡ record { max = int_max dev; names = outer ++ (own ++ hidden new) } → scope ≡ record { max = int_max dev; names = outer ++ own } →
-      old ≡ table → IsWidened (type_in table types) new old wide scope more → AllZip (StandsFor (record { table = wide; scope = more })) s.rules rules → AreRulesOf table dev s rules wide
-  rules_whole eo ew en et es eb h z =
+-- what terms are read in over a table, of the parts that the code makes one after another
+module _ (table : Table) (dev : Development) (s : RawScript) (outer own : List (List ℕ × ℕ)) (new : List RawTyped) (types scope more : ScopeNames) (old wide : Table) where
+  pub read_whole : outer ≡ own_variables table dev s → own ≡ own_parameters table dev s → new ≡ new_over own (brought s) → types ≡ record { max = int_max dev; names = outer ++ (own ++ hidden new) } → scope ≡ record { max = int_max dev; names = outer ++ own } →
+      old ≡ table → IsWidened (type_in table types) new old wide scope more → AreReadIn table dev s more wide
+  read_whole eo ew en et es eb h =
       let news : new ≡ new-in (own_parameters table dev s) s = en ∙ ap (λ o. new_over o (brought s)) ew in
       let typed : types ≡ record { max = int_max dev; names = own_variables table dev s ++ (own_parameters table dev s ++ hidden (new-in (own_parameters table dev s) s)) } = et ∙ (λ i. record { max = int_max dev; names = eo i ++ (ew i ++ hidden (news i)) }) in
       let widens : wide ≡ widened table dev s = h.widens ∙ (λ i. widened_by (type_in table (typed i)) (eb i) (news i)) in
@@ -195,7 +195,16 @@ module _ (table : Table) (dev : Development) (s : RawScript) (outer own : List (
       let ends : last ≡ numbered (typed-in table (int_max dev) (own_variables table dev s) (own_parameters table dev s) s) (length table.variables) (new-in (own_parameters table dev s) s) = λ i. numbered (type_in table (typed i)) (length (eb i).variables) (news i) in
       let adds : more ≡ script_scope table dev s =
       h.adds ∙ ((λ i. record { max = (es i).max; names = (es i).names ++ last }) ∙ ((λ i. record { max = int_max dev; names = append_assoc outer own last i }) ∙ (λ i. record { max = int_max dev; names = eo i ++ (ew i ++ ends i) }))) in
-      record { widens = widens; room = h.room; each = subst (λ (a : Around). AllZip (StandsFor a) s.rules rules) (λ i. record { table = widens i; scope = adds i }) z }
+      record { scoped = adds; widens = widens; room = h.room }
+
+-- the rules that are read in them
+pub rules_whole : (table : Table) (dev : Development) (s : RawScript) (scope : ScopeNames) (wide : Table) (rules : List Rule) →
+    AreReadIn table dev s scope wide → AllZip (StandsFor (record { table = wide; scope = scope })) s.rules rules → AreRulesOf table dev s rules wide
+rules_whole table dev s scope wide rules h z = record {
+  widens = h.widens;
+  room = h.room;
+  each = subst (λ (a : Around). AllZip (StandsFor a) s.rules rules) (λ i. record { table = h.widens i; scope = h.scoped i }) z;
+}
 
 -- the rule that a written one stands for
 pub stands_some : (a : Around) (written : RawRule) (word : RuleWord) (parts : List RulePart) (o : Option Rule) (r : Rule) → word ≡ written.word → parts ≡ written.parts → IsMeaning (RuleMeans a word parts) o → o ≡ Some r → StandsFor a written r

@@ -15,6 +15,7 @@ use Rattle.bk_raw.specs.declared.script.RuleWord.TheVariants.{Ext as ExtWord, Su
 use Rattle.bk_raw.specs.declared.script.RuleWord.TheVariants.{Elems as ElemsWord, Interval as IntervalWord, Induct as InductWord}
 use Rattle.bk_raw.specs.declared.script.RuleWord.TheVariants.{Poly as PolyWord, Lin as LinWord}
 use Rattle.bk_raw.specs.Trees.ScriptTree.{RulePart, RawRule, RawScript}
+use Rattle.bk_raw.specs.Meaning.ScopeReading.{ScopeNames}
 use Rattle.bk_kernel.specs.declared.rule.Rule.{Rule}
 use Rattle.bk_kernel.specs.declared.rule.Rule.TheVariants.{Hyp, True, Same, Eval, False, Absurd, And, Iff, Imp, Not, Left}
 use Rattle.bk_kernel.specs.declared.rule.Rule.TheVariants.{Right, Or, Contra, Fix, UseTerms, Split, Cases, Apply, Inst, OpenSome}
@@ -83,6 +84,12 @@ StandsFor a written rule = RuleMeans a written.word written.parts rule
 -- what the terms of a script are read in, where a development's variables have their numbers in this table
 abbrev pub around_script : Table → Development → RawScript → Around
 around_script table dev s = record { table = widened table dev s; scope = script_scope table dev s }
+
+-- what the terms of a script are read in, over this table: its scope, and the table with its names, which is not full
+pub record AreReadIn (over : Table) (dev : Development) (s : RawScript) (scope : ScopeNames) (table : Table) : Type 0 where
+  pub scoped : scope ≡ script_scope over dev s
+  pub widens : table ≡ widened over dev s
+  pub room : length table.variables < 2 ^ 32
 
 -- the rules of a script, in order, and the table that they speak of, over this one. The table is not full: so there is a number
 -- that no variable has

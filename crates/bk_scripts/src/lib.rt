@@ -12,4 +12,4 @@ mod script;
 mod sight;
 
 pub use bk_p_proof::{ScriptFault, Scripts, scripts};
-pub use script::ground;
+pub use script::{ground, read_in};

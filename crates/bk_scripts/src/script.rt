@@ -4,7 +4,7 @@ ghost use Rattle.std.specs.Prelude.{◌≡◌, ◌++◌, IfOk, map};
 ghost use Rattle.std.specs.List.{AllZip};
 ghost use Rattle.bk_dev.specs.Development.{int_max};
 ghost use Rattle.bk_dev.specs.Flattened.{flattened};
-ghost use Rattle.bk_scripts.specs.Grounding.{AreRulesOf, IsGrounded, StandsFor};
+ghost use Rattle.bk_scripts.specs.Grounding.{AreReadIn, AreRulesOf, IsGrounded, StandsFor};
 ghost use Rattle.bk_scripts.specs.Brought.{own_variables, own_parameters, hidden};
 ghost use Rattle.bk_scripts.specs.Sight as meant;
 ghost use Rattle.bk_scripts.specs.Sight.{outer_scope, parameter_scope};
@@ -43,6 +43,21 @@ fn rules_over(
 ) -> Result<(Vec<Rule>, VarTable), Memory>
     ensures { IfOk result (λ p. AreRulesOf table.now dev.now script.now p.0.items p.1) }
 {
+    let (scope, wide) = read_in(alloc, script, dev, table)?;
+    let rules = rules_in(alloc, &scope, &wide, &script.rules)?;
+    Ok((rules, wide))
+}
+
+/// What the terms of a script are read in at the obligation of its name: the names in scope, and the table that they speak of, which
+/// is this one with a variable more for each name that the script brings.
+pub fn read_in(
+    alloc: Global,
+    script: &RawScript,
+    dev: &Development,
+    table: &VarTable,
+) -> Result<(Scope, VarTable), Memory>
+    ensures { IfOk result (λ p. AreReadIn table.now dev.now script.now p.0 p.1) }
+{
     let (outer, own) = sights(alloc, script, dev, table)?;
     let names = brought(alloc, script)?;
     let new = new_over(alloc, &own, &names)?;
@@ -50,8 +65,7 @@ fn rules_over(
     let mut scope = own_scope(alloc, dev, &outer, &own)?;
     let mut wide = table.copy(alloc)?;
     widen(alloc, &types, table, &new, &mut wide, &mut scope)?;
-    let rules = rules_in(alloc, &scope, &wide, &script.rules)?;
-    Ok((rules, wide))
+    Ok((scope, wide))
 }
 
 // The variables in scope, and outputs and inputs of the script's operation.

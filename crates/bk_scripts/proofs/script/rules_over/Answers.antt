@@ -1,29 +1,14 @@
-use Rattle.std.proofs.Common.{◌∙◌, ap, subst, map, ◌++◌}
+use Rattle.std.proofs.Common.{◌∙◌, ap, subst}
 use Rattle.std.specs.List.{AllZip}
-use Rattle.bk_dev.specs.Development.{int_max}
-use Rattle.bk_scripts.specs.Brought.{new_over, hidden, type_in}
-use Rattle.bk_scripts.specs.Widening.{IsWidened}
 use Rattle.bk_scripts.specs.Grounding.{StandsFor}
 use Rattle.bk_scripts.proofs.Sighted.{rules_whole}
 use Rattle.bk_scripts.proofs.script.rules_over.Goals as goal
 
 pub returns : goal.returns
 returns c =
-    let table = c.args.table.now in
-    let dev = c.args.dev.now in
-    let own = c.in_ok-outer.own.items in
-    let types = c.in_ok-types.types in
     let scope = c.in_ok-scope.scope in
-    let old = c.in_ok-wide.wide in
-    let wide = c.widen.new.table in
-    let more = c.widen.new.scope in
+    let wide = c.in_ok-scope.wide in
     let rules = c.in_ok-rules.rules.items in
-    rules_whole table dev c.args.script.now c.in_ok-outer.outer.items own (map (λ x. x.now) c.in_ok-new.new.items) types scope more old wide rules
-    c.in_ok-outer.ensures.variables
-    c.in_ok-outer.ensures.parameters
-    (c.in_ok-new.ensures ∙ ((λ i. new_over (c.deref.ensures.value i) (map (λ x. x.now) (c.deref-2.ensures.value i))) ∙ ap (new_over own) c.in_ok-names.ensures))
-    (c.in_ok-types.ensures ∙ (λ i. record { max = int_max dev; names = c.deref-3.ensures.value i ++ (c.deref-4.ensures.value i ++ hidden (map (λ x. x.now) (c.deref-5.ensures.value i))) }))
-    (c.in_ok-scope.ensures ∙ (λ i. record { max = int_max dev; names = c.deref-6.ensures.value i ++ c.deref-7.ensures.value i }))
-    c.in_ok-wide.ensures
-    (subst (λ ns. IsWidened (type_in table types) (map (λ x. x.now) ns) old wide scope more) c.deref-8.ensures.value c.in_ok-widen.ensures)
-    (subst (λ rs. AllZip (StandsFor (record { table = wide; scope = more })) rs rules) (c.deref-9.ensures.value ∙ ap (λ z. z.rules) c.script.view_is) c.in_ok-rules.ensures)
+    rules_whole c.args.table.now c.args.dev.now c.args.script.now scope wide rules
+    c.in_ok-scope.ensures
+    (subst (λ rs. AllZip (StandsFor (record { table = wide; scope = scope })) rs rules) (c.deref.ensures.value ∙ ap (λ z. z.rules) c.script.view_is) c.in_ok-rules.ensures)
