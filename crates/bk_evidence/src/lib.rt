@@ -1,0 +1,15 @@
+//! The status of a development for a safety case: what was read, what is to be shown and how far it is, as JSON and as HTML.
+#![tactic(auto)]
+
+mod html;
+mod item;
+mod json;
+mod page;
+mod report;
+mod sums;
+
+pub use html::html_page;
+pub use item::{Item, Script, items, list_text};
+pub use json::{items_json, json_text};
+pub use report::{Input, Report, input};
+pub use sums::{Sums, sums_of};

@@ -1,0 +1,15 @@
+//! Why a task stops, in words: where the fault stands, and what could be written there.
+#![tactic(auto)]
+
+mod explanation;
+mod image;
+mod level;
+mod limit;
+mod name;
+mod project;
+mod say;
+mod source;
+mod spelling;
+
+pub use explanation::explanation;
+pub use source::{Source, SourceKind};

@@ -1,0 +1,228 @@
+//! Faults of the spelling of texts.
+
+use crate::say::{say, say_line, say_quoted, tokens_of, written};
+use crate::source::{Source, SourceKind};
+use bk_form::{Token, TokenKind};
+use bk_grammar::{Furthest, Part, Symbol, furthest_token};
+use bk_io::Memory;
+use bk_lex::{LexFault, tokens};
+use std::alloc::Global;
+
+/// Bytes that are no text, or no tokens.
+pub(crate) fn say_lexical_fault(
+    alloc: Global,
+    words: &mut Vec<u8>,
+    source: Source<'_>,
+) -> Result<(), Memory> {
+    match tokens(alloc, source.text) {
+        Err(LexFault::NotUtf8(_)) => say(
+            words,
+            "this byte belongs to no character of UTF-8: the text is to be saved as UTF-8\n",
+        ),
+        Err(LexFault::BadChar(_)) => say(words, "no token begins with this character\n"),
+        Err(LexFault::OpenComment(_)) => say(words, "this comment does not end: */ is wanting\n"),
+        Err(LexFault::NumberTooWide(_)) => say(words, "this number is past 2^127 - 1\n"),
+        Err(LexFault::Memory) => Err(Memory),
+        _ => say(words, "the text is to be saved as UTF-8\n"),
+    }
+}
+
+/// A text that is no component, or no file of scripts.
+pub(crate) fn say_syntax_fault(
+    alloc: Global,
+    words: &mut Vec<u8>,
+    source: Source<'_>,
+    place: usize,
+) -> Result<(), Memory> {
+    let list = tokens_of(alloc, source.text)?;
+    let start = if source.kind == SourceKind::Proofs {
+        Part::ProofFile
+    } else {
+        Part::Component
+    };
+    match furthest_token(alloc, source.text, &list, start)? {
+        Some(furthest) => say_furthest(words, source, &list, &furthest, place),
+        None => say_binding(words, source),
+    }
+}
+
+// Nothing is wanting but how operators bind, or that a clause stands once.
+fn say_binding(words: &mut Vec<u8>, source: Source<'_>) -> Result<(), Memory> {
+    if source.kind == SourceKind::Proofs {
+        return say(
+            words,
+            "a name is brought with two types, by fix or open, in one script\n",
+        );
+    }
+    say(
+        words,
+        "each part is written right by itself. A clause may stand once, VALUES in implementations alone and VARIABLES not there; a side of <=> that is made by &, or, => or <=> needs parentheses; comparisons do not stand in a row\n",
+    )
+}
+
+// The furthest token that any reading reaches.
+fn say_furthest(
+    words: &mut Vec<u8>,
+    source: Source<'_>,
+    list: &[Token],
+    furthest: &Furthest,
+    place: usize,
+) -> Result<(), Memory> {
+    let token = list.get(furthest.token);
+    let at = match token {
+        Some(token) => token.start,
+        None => source.text.len(),
+    };
+    say(words, "what begins there cannot be read")?;
+    if at != place {
+        say(words, ". The text goes on right up to\n")?;
+        say_line(words, source, at)?;
+    } else {
+        say(words, "\n")?;
+    }
+    match token {
+        Some(token) => say_token(words, source, token, furthest)?,
+        None => say(words, "here the text ends too early")?,
+    }
+    say_wanted(words, furthest)?;
+    let before = furthest.token.saturating_sub(1);
+    say_semicolon(words, source, list, before, token)
+}
+
+// What a token is that cannot stand there.
+fn say_token(
+    words: &mut Vec<u8>,
+    source: Source<'_>,
+    token: &Token,
+    furthest: &Furthest,
+) -> Result<(), Memory> {
+    let text = written(source.text, token);
+    say_quoted(words, text)?;
+    if let Some(hint) = hint_of(text) {
+        say(words, ": ")?;
+        return say(words, hint);
+    }
+    if is_small_word(token, text)
+        && furthest
+            .wanted
+            .iter()
+            .any(|symbol| may_begin_with_name(*symbol))
+    {
+        return say(words, " is a reserved word, and no name");
+    }
+    say(words, " cannot stand here")
+}
+
+// Whether a token is a reserved word in small letters.
+fn is_small_word(token: &Token, text: &[u8]) -> bool {
+    match token.kind {
+        TokenKind::Word(_) => match text.first() {
+            Some(first) => first.is_ascii_lowercase(),
+            None => false,
+        },
+        _ => false,
+    }
+}
+
+// Whether what is waited for may begin with a name.
+fn may_begin_with_name(symbol: Symbol) -> bool {
+    matches!(
+        symbol,
+        Symbol::Name
+            | Symbol::Part(
+                Part::Names
+                    | Part::Sets
+                    | Part::Set
+                    | Part::Operations
+                    | Part::Operation
+                    | Part::Substitution
+                    | Part::Statement
+                    | Part::Term
+                    | Part::Operand
+            )
+    )
+}
+
+// What could stand there.
+fn say_wanted(words: &mut Vec<u8>, furthest: &Furthest) -> Result<(), Memory> {
+    if furthest.wanted.is_empty() {
+        return say(words, "; nothing can: the text is whole before it\n");
+    }
+    say(words, "; what can: ")?;
+    for (index, symbol) in furthest.wanted.iter().enumerate() {
+        if index > 0 {
+            say(words, ", ")?;
+        }
+        match symbol {
+            Symbol::Text(text) => say_quoted(words, text.as_bytes())?,
+            Symbol::Name => say(words, "a name")?,
+            Symbol::Number => say(words, "a number")?,
+            Symbol::LevelName => say(words, "a name with its level")?,
+            Symbol::BoundName => say(words, "a bound variable")?,
+            Symbol::Part(part) => say(words, part.words())?,
+        }
+    }
+    say(words, "\n")
+}
+
+// A semicolon before what ends a list.
+fn say_semicolon(
+    words: &mut Vec<u8>,
+    source: Source<'_>,
+    list: &[Token],
+    before: usize,
+    token: Option<&Token>,
+) -> Result<(), Memory> {
+    let (Some(previous), Some(token)) = (list.get(before), token) else {
+        return Ok(());
+    };
+    let text = written(source.text, token);
+    if written(source.text, previous) == b";".as_slice() && ends_list(text) {
+        return say(
+            words,
+            "a semicolon stands between two parts, and none before the end\n",
+        );
+    }
+    Ok(())
+}
+
+fn ends_list(text: &[u8]) -> bool {
+    matches!(
+        text,
+        b"END" | b"end" | b"ELSE" | b"ELSIF" | b"WHEN" | b"OR" | b"INVARIANT"
+    )
+}
+
+// What is said of a word that other tools read, or that is often meant for another one.
+fn hint_of(text: &[u8]) -> Option<&'static str> {
+    match text {
+        b"SEES"
+        | b"USES"
+        | b"INCLUDES"
+        | b"EXTENDS"
+        | b"PROMOTES"
+        | b"IMPORTS"
+        | b"LOCAL_OPERATIONS" => Some("a development stands alone, and this clause is not read"),
+        b"DEFINITIONS" => Some("definitions are not read: each is to be written where it is used"),
+        b"ABSTRACT_CONSTANTS" => {
+            Some("constants are numbers, truth values or elements, declared in CONSTANTS")
+        }
+        b"CASE" => Some("CASE is not read: write it as IF and ELSIF, or as SELECT"),
+        b"ELSEIF" => Some("a further branch of IF begins with ELSIF"),
+        b"SIGMA"
+        | b"PI"
+        | b"UNION"
+        | b"INTER"
+        | b"union"
+        | b"inter"
+        | b"iterate"
+        | b"closure"
+        | b"struct"
+        | b"rec"
+        | b"STRING"
+        | b"perm"
+        | b"iseq"
+        | b"seq1" => { Some("this notation is not read") }
+        _ => None,
+    }
+}

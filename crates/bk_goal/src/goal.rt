@@ -1,0 +1,231 @@
+//! What is open behind the rules of a script.
+
+ghost use Rattle.std.specs.Prelude.{◌≡◌, IfOk, IfSome};
+ghost use Rattle.bk_dev.specs.Flattened.{flattened};
+ghost use Rattle.bk_seq.specs.Sequents.{sequent_of};
+ghost use Rattle.bk_status.specs.Replayable.{IsReplayable};
+ghost use Rattle.bk_p_proof.specs.Files.{IsShort};
+ghost use Rattle.bk_goal.specs.Shown.{ShowsGoal, ShowsAfter};
+
+use crate::asked::{Asked, Found};
+use crate::sequents::sequents_text;
+use bk_form::VarTable;
+use bk_io::Memory;
+use bk_kernel::{Rule, is_obvious};
+use bk_places::place_of;
+use bk_raw::RawRule;
+use bk_reasons::{Words, Written, write_misfit, write_unread};
+use bk_replay::{Standing, open_after};
+use bk_rule_texts::rule_text;
+use bk_scripts::{ground, read_in};
+use bk_seq::Sequent;
+use itoa::Buffer;
+use std::alloc::Global;
+
+/// A text, and whether it shows a sequent that is open or a rule that does not fit.
+#[derive(Drop)]
+pub struct GoalText {
+    pub text: Vec<u8>,
+    pub is_open: bool,
+}
+
+/// What is open of the obligation behind the rules that are asked for, and the rule that comes next, with the reason where it does not
+/// fit. Without a script it is the obligation itself.
+pub fn goal_text(alloc: Global, asked: Asked<'_>) -> Result<GoalText, Memory>
+    requires table { asked.table.now ≡ (flattened asked.dev.now).table }
+    requires replayable { IsReplayable asked.table.now (sequent_of asked.obligation.now.sequent) }
+    requires short { IfSome asked.found (λ f. IsShort f.script.now) }
+    ensures { IfOk result (λ g. ShowsGoal (flattened asked.dev.now) asked.found
+        (sequent_of asked.obligation.now.sequent) g.text.items) }
+{
+    let sequent = asked.obligation.sequent.copy(alloc)?;
+    match asked.found {
+        Some(found) => behind_rules(alloc, asked, found, sequent),
+        None => alone(alloc, asked, sequent),
+    }
+}
+
+// The obligation itself.
+fn alone(alloc: Global, asked: Asked<'_>, sequent: Sequent) -> Result<GoalText, Memory> {
+    let mut text = Vec::new(alloc);
+    text.extend_from_slice(asked.obligation.name.as_bytes())?;
+    let is_open = !is_obvious(&sequent);
+    text.extend_from_slice(if is_open {
+        b", no script\n"
+    } else {
+        b", obvious: it needs no script\n"
+    })?;
+    let open = Vec::from_array(alloc, [sequent])?;
+    let shown = sequents_text(alloc, asked.table, &open, usize::MAX, 0)?;
+    text.extend_from_slice(&shown)?;
+    Ok(GoalText { text, is_open })
+}
+
+// What is open behind rules of the script.
+fn behind_rules(
+    alloc: Global,
+    asked: Asked<'_>,
+    found: Found<'_>,
+    sequent: Sequent,
+) -> Result<GoalText, Memory>
+    requires table { asked.table.now ≡ (flattened asked.dev.now).table }
+    requires replayable { IsReplayable asked.table.now (sequent_of sequent) }
+    requires short { IsShort found.script.now }
+    ensures { IfOk result (λ g. ShowsAfter (flattened asked.dev.now) found.script.now (sequent_of sequent) g.text.items) }
+{
+    let (rules, table) = ground(alloc, found.script, asked.dev, asked.table)?;
+    let count = asked.at.unwrap_or(rules.len());
+    let before = sequent.copy(alloc)?;
+    let standing = open_after(alloc, &table, sequent, &rules, count)?;
+    let (old, news) = brought(alloc, &table, before, &rules, &standing)?;
+    let mut text = Vec::new(alloc);
+    write_header(&mut text, asked, found, standing.done as usize)?;
+    let shown = sequents_text(alloc, &table, &standing.open, old, news)?;
+    text.extend_from_slice(&shown)?;
+    let next = next_text(alloc, asked, found, &rules, &standing)?;
+    text.extend_from_slice(&next)?;
+    Ok(GoalText {
+        text,
+        is_open: !standing.open.is_empty() || stops(asked, found, &standing),
+    })
+}
+
+// Whether the next rule is there and does not fit.
+fn stops(asked: Asked<'_>, found: Found<'_>, standing: &Standing) -> bool {
+    let done = standing.done as usize;
+    done < found.script.rules.len() && asked.at.is_none_or(|at| at > done)
+}
+
+// How many hypotheses there were before the last rule, and how many sequents it made.
+fn brought(
+    alloc: Global,
+    table: &VarTable,
+    sequent: Sequent,
+    rules: &[Rule],
+    standing: &Standing,
+) -> Result<(usize, usize), Memory> {
+    let Some(count) = (standing.done as usize).checked_sub(1) else {
+        return Ok((usize::MAX, 0));
+    };
+    let before = open_after(alloc, table, sequent, rules, count)?;
+    let Some(first) = before.open.first() else {
+        return Ok((usize::MAX, 0));
+    };
+    let others = before.open.len().saturating_sub(1);
+    Ok((first.hyps.len(), standing.open.len().saturating_sub(others)))
+}
+
+// `Tally.inc.1, behind rule 2 of 5 (Tally.prf:2:46)`.
+fn write_header(
+    text: &mut Vec<u8>,
+    asked: Asked<'_>,
+    found: Found<'_>,
+    done: usize,
+) -> Result<(), Memory> {
+    text.extend_from_slice(asked.obligation.name.as_bytes())?;
+    let rules = &found.script.rules;
+    match done.checked_sub(1) {
+        Some(last) => {
+            text.extend_from_slice(b", after rule ")?;
+            write_number(text, done)?;
+            text.extend_from_slice(b" of ")?;
+            write_number(text, rules.len())?;
+            if let Some(rule) = rules.get(last) {
+                write_place(text, found, rule)?;
+            }
+        }
+        None => {
+            text.extend_from_slice(b", before the first of ")?;
+            write_number(text, rules.len())?;
+            text.extend_from_slice(b" rules")?;
+        }
+    }
+    text.extend_from_slice(b"\n")?;
+    Ok(())
+}
+
+fn write_number(text: &mut Vec<u8>, number: usize) -> Result<(), Memory> {
+    text.extend_from_slice(Buffer::new().format(number).as_bytes())?;
+    Ok(())
+}
+
+// ` (Tally.prf:2:46)`.
+fn write_place(text: &mut Vec<u8>, found: Found<'_>, rule: &RawRule) -> Result<(), Memory> {
+    let place = place_of(found.text, rule.at);
+    text.extend_from_slice(b" (")?;
+    text.extend_from_slice(found.file.as_bytes())?;
+    text.extend_from_slice(b":")?;
+    write_number(text, place.line)?;
+    text.extend_from_slice(b":")?;
+    write_number(text, place.column)?;
+    text.extend_from_slice(b")")?;
+    Ok(())
+}
+
+// The rule that comes next, and why it does not fit, where that is so.
+fn next_text(
+    alloc: Global,
+    asked: Asked<'_>,
+    found: Found<'_>,
+    rules: &[Rule],
+    standing: &Standing,
+) -> Result<Vec<u8>, Memory> {
+    let mut text = Vec::new(alloc);
+    let done = standing.done as usize;
+    let Some(written) = found.script.rules.get(done) else {
+        write_end(&mut text, standing.open.len())?;
+        return Ok(text);
+    };
+    text.extend_from_slice(b"rule ")?;
+    write_number(&mut text, done.saturating_add(1))?;
+    write_place(&mut text, found, written)?;
+    text.extend_from_slice(b": ")?;
+    text.extend_from_slice(rule_text(found.text, found.tokens, written.at))?;
+    text.extend_from_slice(b"\n")?;
+    if stops(asked, found, standing) {
+        text.extend_from_slice(b"  does not fit: ")?;
+        let reason = reason_text(alloc, asked, found, rules, standing)?;
+        text.extend_from_slice(&reason)?;
+        text.extend_from_slice(b"\n")?;
+    }
+    Ok(text)
+}
+
+// What stands behind the last rule.
+fn write_end(text: &mut Vec<u8>, open: usize) -> Result<(), Memory> {
+    if open == 0 {
+        text.extend_from_slice(b"nothing is open: the script proves it\n")?;
+        return Ok(());
+    }
+    text.extend_from_slice(b"all rules fit, and the script ends here\n")?;
+    Ok(())
+}
+
+// Why the next rule does not fit.
+fn reason_text(
+    alloc: Global,
+    asked: Asked<'_>,
+    found: Found<'_>,
+    rules: &[Rule],
+    standing: &Standing,
+) -> Result<Vec<u8>, Memory> {
+    let (scope, table) = read_in(alloc, found.script, asked.dev, asked.table)?;
+    let mut words = Words::new(alloc, &table);
+    let done = standing.done as usize;
+    let Some(first) = standing.open.first() else {
+        words.say(b"nothing is open before it")?;
+        return Ok(words.into_text());
+    };
+    if let (Some(rule), Some(written)) = (rules.get(done), found.script.rules.get(done)) {
+        if let Rule::Unread = rule {
+            let text = Written {
+                text: found.text,
+                tokens: found.tokens,
+            };
+            write_unread(&mut words, text, &scope, written)?;
+        } else {
+            write_misfit(&mut words, first, rule)?;
+        }
+    }
+    Ok(words.into_text())
+}

@@ -1,0 +1,10 @@
+//! What is open behind the rules of a script, as a text, and why the next rule does not fit.
+#![tactic(auto)]
+
+mod asked;
+mod goal;
+mod sequents;
+
+pub use asked::{Asked, Found};
+pub use goal::{GoalText, goal_text};
+pub use sequents::sequents_text;

@@ -1,0 +1,69 @@
+//! `goal`.
+
+use crate::project::read_whole;
+use bk_goal::{Asked, GoalText, goal_text};
+use bk_io::{Memory, Shelf};
+use bk_po::Obligation;
+use bk_reasons::nearest;
+use bk_verbs::{Status, Stop};
+use std::alloc::Global;
+
+/// What is open of an obligation; where there is none of the name, the one that is most like it, with the status of wrong words.
+pub(crate) fn goal_answer<H: Shelf>(
+    alloc: Global,
+    project: &str,
+    name: &str,
+    at: Option<usize>,
+    shelf: &mut H,
+) -> Result<(Vec<u8>, Status), Stop> {
+    let whole = read_whole(alloc, project, shelf)?;
+    let Some(obligation) = whole.obligation(name.as_bytes()) else {
+        let text = unknown(alloc, name.as_bytes(), &whole.list)?;
+        return Ok((text, Status::Usage));
+    };
+    let names = whole.files.names(alloc, true)?;
+    let asked = Asked {
+        dev: &whole.project.development,
+        table: &whole.table,
+        obligation,
+        found: whole.found(alloc, &names, name.as_bytes())?,
+        at,
+    };
+    let GoalText { text, is_open } = goal_text(alloc, asked)?;
+    let status = if is_open {
+        Status::Unproved
+    } else {
+        Status::Done
+    };
+    Ok((text, status))
+}
+
+// `unknown NAME (nearest: OTHER)`.
+fn unknown(alloc: Global, name: &[u8], list: &[Obligation]) -> Result<Vec<u8>, Memory> {
+    let mut text = Vec::new(alloc);
+    text.extend_from_slice(b"unknown ")?;
+    text.extend_from_slice(name)?;
+    if let Some(near) = nearest_name(alloc, name, list)? {
+        text.extend_from_slice(b" (nearest: ")?;
+        text.extend_from_slice(near)?;
+        text.extend_from_slice(b")")?;
+    }
+    text.extend_from_slice(b"\n")?;
+    Ok(text)
+}
+
+/// The name of an obligation that is most like a name.
+pub(crate) fn nearest_name<'a>(
+    alloc: Global,
+    name: &[u8],
+    list: &'a [Obligation],
+) -> Result<Option<&'a [u8]>, Memory> {
+    let mut names = Vec::new(alloc);
+    for obligation in list {
+        names.push(obligation.name.as_bytes())?;
+    }
+    match nearest(alloc, name, &names)? {
+        Some(index) => Ok(names.get(index).copied()),
+        None => Ok(None),
+    }
+}
