@@ -18,5 +18,5 @@ pub use decision::linear;
 pub use error::ArithFault;
 pub use interval::cases;
 pub use multiplying::polynomial;
-pub use stating::{facts, is_comparison};
+pub use stating::{atoms, facts, is_comparison};
 pub use sum::closed;

@@ -2,11 +2,11 @@
 
 ghost use Rattle.std.specs.Prelude.{◌≡◌, ◌⊎◌, IfOk, IfErr, OnOk, All, Some, None, length, map, is_none, is_some, true, false};
 ghost use Rattle.std.specs.List.{list_any};
-ghost use Rattle.std.specs.Option.{some_prefix};
+ghost use Rattle.std.specs.Option.{option_map, some_prefix};
 ghost use Rattle.bk_lin.specs.Certificate.{inequalities};
 ghost use Rattle.bk_arith.specs.Comparison.{terms_of_hypothesis};
 ghost use Rattle.bk_arith.specs.Reading.{atoms_of};
-ghost use Rattle.bk_arith.specs.Decision.{terms_of, readings, facts_fault};
+ghost use Rattle.bk_arith.specs.Decision.{first_unread, terms_of, readings, facts_fault};
 ghost use Rattle.bk_arith.specs.Layout.{term_of};
 
 use crate::comparison::{Term, hypothesis};
@@ -47,4 +47,15 @@ fn facts_of(alloc: Global, terms: &[Term<'_>]) -> Result<Vec<Fact>, ArithFault>
 {
     let atoms = atoms_of(alloc, terms)?;
     read_all(alloc, terms, &atoms)
+}
+
+/// The atoms of these facts, in the order in which they first occur: what the coefficients of each fact multiply.
+pub fn atoms(alloc: Global, hyps: &[Form], goal: &Form) -> Result<Vec<Form>, ArithFault>
+    ensures atoms { IfOk result (λ forms. forms.items ≡ atoms_of (terms_of hyps.now goal.now)) }
+    ensures right { OnOk result (first_unread hyps.now goal.now ≡ None) }
+    ensures fault { IfErr result
+        (λ e. (e ≡ ArithFault.Memory) ⊎ (option_map ArithFault.NotLinear (first_unread hyps.now goal.now) ≡ Some e)) }
+{
+    let stated = stated_terms(alloc, hyps, goal)?;
+    Ok(atoms_of(alloc, &stated)?)
 }

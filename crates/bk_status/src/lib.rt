@@ -8,5 +8,6 @@ mod replayed;
 pub mod state;
 pub mod table;
 
+pub use name::name_text;
 pub use state::State;
 pub use table::{Row, Table, status};

@@ -10,7 +10,7 @@ use itoa::Buffer;
 use std::alloc::Global;
 
 /// The text of a name: its parts, with dots between.
-pub(crate) fn name_text(alloc: Global, name: &[NamePart]) -> Result<Vec<u8>, Memory>
+pub fn name_text(alloc: Global, name: &[NamePart]) -> Result<Vec<u8>, Memory>
     ensures { IfOk result (λ text. text.items ≡ meant.name_text name.now) }
 {
     match name {
