@@ -1,5 +1,5 @@
 -- What is shown of standings.
-use Rattle.std.specs.Prelude.{◌≡◌, ◌<◌, ◌^◌, ℕ, List, length}
+use Rattle.std.specs.Prelude.{◌≡◌, ℕ, List, length}
 use Rattle.bk_form.specs.Table.{Table}
 use Rattle.bk_seq.specs.Sequents.{Sequent}
 use Rattle.bk_kernel.specs.Derivations.{IsVerdict}
@@ -18,5 +18,5 @@ FurthestIsOne = (table : Table) (rules : List Rule) (s : Sequent) (k j : ℕ) (l
 
 -- the verdict of the kernel is that of how far they go
 abbrev pub VerdictIsOfStanding : Type 0
-VerdictIsOfStanding = (table : Table) (rules : List Rule) (s : Sequent) (k : ℕ) (left : List Sequent) → length rules < 2 ^ 32 →
+VerdictIsOfStanding = (table : Table) (rules : List Rule) (s : Sequent) (k : ℕ) (left : List Sequent) →
     IsFurthest table rules s k left → IsVerdict table rules s (verdict_at (length rules) k (length left))

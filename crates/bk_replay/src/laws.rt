@@ -4,7 +4,7 @@ ghost use Rattle.bk_replay.specs.Laws.{OpenIsOne, FurthestIsOne, VerdictIsOfStan
 
 /// What rules leave open is one list, and rules go as far as they go.
 pub fn standings_are_one()
-    ensures open { OpenIsOne }
+    ensures left { OpenIsOne }
     ensures furthest { FurthestIsOne }
 {}
 

@@ -1,8 +1,10 @@
 //! The open sequents behind rules.
 
-ghost use Rattle.std.specs.Prelude.{◌≡◌, ◌<◌, ◌≤◌, ◌^◌, ◌+◌, ◌++◌, true, false, length, map, take, IfOk, OnOk};
+ghost use Rattle.std.specs.Prelude.{◌≡◌, ◌<◌, ◌≤◌, ◌^◌, ◌+◌, ◌++◌, ◌∷◌, length, map, take, IfOk, OnOk};
 ghost use Rattle.bk_seq.specs.Sequents.{sequent_of, Types, IsWithin};
+ghost use Rattle.bk_kernel.specs.Standing as kernel;
 ghost use Rattle.bk_kernel.specs.Standing.{in_order};
+ghost use Rattle.bk_replay.specs.Standing as meant;
 ghost use Rattle.bk_replay.specs.Standing.{AreOpenAfter, IsFurthest, verdict_at};
 
 use bk_form::VarTable;
@@ -39,13 +41,10 @@ pub fn furthest(
         let Some(first) = open.pop() else {
             return Ok(reversed(index as u32, open));
         };
-        let before = first.copy(alloc)?;
+        let before = again(alloc, &first)?;
         match step(alloc, types, first, rule) {
             Ok(news) => put_first(&mut open, news)?,
-            Err(StepFault::NoInstance) => {
-                open.push(before)?;
-                return Ok(reversed(index as u32, open));
-            }
+            Err(StepFault::NoInstance) => return stopped(index as u32, open, before),
             Err(StepFault::Memory) => return Err(Memory),
         }
     }
@@ -63,18 +62,24 @@ pub fn open_after(
     requires types { Types types.now (sequent_of sequent) }
     requires within { IsWithin (sequent_of sequent) }
     requires countable { length rules.now < 2 ^ 32 }
-    ensures open { IfOk result (λ st.
+    ensures after { IfOk result (λ st.
         AreOpenAfter types.now rules.now (sequent_of sequent) st.done (map sequent_of st.open.items)) }
     ensures most { IfOk result (λ st. st.done ≤ count) }
     ensures furthest { IfOk result (λ st.
         IsFurthest types.now (take count rules.now) (sequent_of sequent) st.done (map sequent_of st.open.items)) }
 {
-    let front = if count < rules.len() {
+    furthest(alloc, types, sequent, front_of(rules, count))
+}
+
+// The first so many rules.
+fn front_of(rules: &[Rule], count: usize) -> &[Rule]
+    ensures { result.now ≡ take count rules.now }
+{
+    if count < rules.len() {
         &rules[..count]
     } else {
         rules
-    };
-    furthest(alloc, types, sequent, front)
+    }
 }
 
 /// What is said of so many rules that go so far: the verdict of the kernel.
@@ -82,28 +87,32 @@ pub fn verdict_of(standing: &Standing, rules: usize) -> Verdict
     requires { rules < 2 ^ 32 }
     ensures { result ≡ verdict_at rules standing.now.done (length standing.now.open.items) }
 {
-    let done = standing.done as usize;
-    if done < rules {
-        return at_rule(standing.done, standing.open.is_empty());
-    }
-    match standing.open.len() {
-        0 => Verdict::Closed,
-        left => Verdict::Open(u32::try_from(left).unwrap_or(u32::MAX)),
+    if (standing.done as usize) < rules {
+        at_rule(standing.done, &standing.open)
+    } else {
+        at_end(&standing.open)
     }
 }
 
 // The verdict where the rule behind these is no step, or nothing is open before it.
-fn at_rule(done: u32, is_closed: bool) -> Verdict
+fn at_rule(done: u32, open: &[Sequent]) -> Verdict
     requires { done + 1 < 2 ^ 32 }
-    ensures closed { is_closed ≡ true → result ≡ Verdict.Extra (done + 1) }
-    ensures open { is_closed ≡ false → result ≡ Verdict.BadStep (done + 1) }
+    ensures { result ≡ meant.at_rule done (length open.now) }
 {
-    let number = done.saturating_add(1);
-    if is_closed {
-        Verdict::Extra(number)
-    } else {
-        Verdict::BadStep(number)
+    if open.is_empty() {
+        return Verdict::Extra(done + 1);
     }
+    Verdict::BadStep(done + 1)
+}
+
+// The verdict where all rules are steps.
+fn at_end(open: &[Sequent]) -> Verdict
+    ensures { result ≡ kernel.at_end (length open.now) }
+{
+    if open.is_empty() {
+        return Verdict::Closed;
+    }
+    Verdict::Open(u32::try_from(open.len()).unwrap_or(u32::MAX))
 }
 
 // Puts the new sequents before the open ones, of which the first stands last.
@@ -116,9 +125,27 @@ fn put_first(open: &mut Vec<Sequent>, mut news: Vec<Sequent>) -> Result<(), Memo
     Ok(())
 }
 
+// The same sequent again.
+fn again(alloc: Global, sequent: &Sequent) -> Result<Sequent, Memory>
+    ensures { IfOk result (λ s. sequent_of s ≡ sequent_of sequent.now) }
+{
+    sequent.copy(alloc)
+}
+
+// The standing before a rule that is no step on this sequent, the first of those that are open; the others stand in `open`, the first
+// one last.
+fn stopped(done: u32, mut open: Vec<Sequent>, first: Sequent) -> Result<Standing, Memory>
+    ensures done { IfOk result (λ st. st.done ≡ done) }
+    ensures left { IfOk result (λ st. map sequent_of st.open.items ≡ sequent_of first ∷ in_order open.items) }
+{
+    open.push(first)?;
+    Ok(reversed(done, open))
+}
+
+// The standing with these sequents, of which the first stands last.
 fn reversed(done: u32, mut open: Vec<Sequent>) -> Standing
     ensures done { result.done ≡ done }
-    ensures open { map sequent_of result.open.items ≡ in_order open.items }
+    ensures left { map sequent_of result.open.items ≡ in_order open.items }
 {
     open.reverse();
     Standing { done, open }
