@@ -24,7 +24,7 @@ pub record ShowsHypothesis (table : Table) (number : ℕ) (f : Formula) (text : 
   pub mark : List ℕ
   pub formula : List ℕ
   pub shows : ShowsFormula table f formula
-  pub line : text ≡ mark ++ decimal number ++ codes ": " ++ formula
+  pub line : text ≡ (mark ++ decimal number) ++ codes ": " ++ formula
 
 -- the hypotheses, of which the first has this number
 abbrev pub ShowsHypotheses : Table → ℕ → List Formula → List ℕ → Type 0
@@ -40,11 +40,17 @@ pub record ShowsSequent (table : Table) (s : Sequent) (text : List ℕ) : Type 0
   pub shows_goal : ShowsFormula table s.1 goal
   pub whole : text ≡ hypotheses ++ codes "  goal: " ++ goal
 
+-- a sequent behind its title
+pub record ShowsTitled (table : Table) (n count : ℕ) (s : Sequent) (text : List ℕ) : Type 0 where
+  pub lines : List ℕ
+  pub shows : ShowsSequent table s lines
+  pub titled : text ≡ (codes "sequent " ++ decimal n) ++ (codes " of " ++ decimal count) ++ codes "\n" ++ lines
+
 -- sequents that number so many, from this one on, each behind its title
 abbrev pub ShowsFrom : Table → ℕ → ℕ → List Sequent → List ℕ → Type 0
 ShowsFrom table n count [] text = text ≡ []
-ShowsFrom table n count (s ∷ ss) text = (first rest : List ℕ) × ShowsSequent table s first × ShowsFrom table (suc n) count ss rest ×
-    (text ≡ codes "sequent " ++ decimal n ++ codes " of " ++ decimal count ++ codes "\n" ++ first ++ rest)
+ShowsFrom table n count (s ∷ ss) text =
+    (first rest : List ℕ) × ShowsTitled table n count s first × ShowsFrom table (suc n) count ss rest × (text ≡ first ++ rest)
 
 -- these sequents, in order, and no others
 abbrev pub ShowsSequents : Table → List Sequent → List ℕ → Type 0

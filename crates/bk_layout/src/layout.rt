@@ -1,10 +1,12 @@
 //! A text of tokens in lines.
 
 ghost use Rattle.std.specs.Prelude.{IfOk};
+ghost use Rattle.bk_lex.specs.Lexis.{AreTokens};
 ghost use Rattle.bk_layout.specs.Laid.{IsLaidOut};
 
 use crate::bracket::{closing_tokens, opens};
 use crate::group::Group;
+use crate::same::{is_gap, is_laid_out};
 use bk_form::Token;
 use bk_io::Memory;
 use bk_lex::{LexFault, tokens};
@@ -17,10 +19,34 @@ pub fn laid_out(alloc: Global, text: &[u8], width: usize, indent: usize) -> Resu
     ensures { IfOk result (λ laid. IsLaidOut text.now laid.items) }
 {
     match tokens(alloc, text) {
-        Ok(tokens) => laid_tokens(alloc, text, &tokens, width, indent),
+        Ok(found) => laid_or_not(alloc, text, &found, width, indent),
         Err(LexFault::Memory) => Err(Memory),
-        Err(_) => Ok(Vec::from_slice(alloc, text)?),
+        Err(_) => as_it_is(alloc, text),
     }
+}
+
+// The text of these tokens in lines, where it is such a text; else the text itself.
+fn laid_or_not(
+    alloc: Global,
+    text: &[u8],
+    tokens: &[Token],
+    width: usize,
+    indent: usize,
+) -> Result<Vec<u8>, Memory>
+    requires { AreTokens text.now tokens.now }
+    ensures { IfOk result (λ laid. IsLaidOut text.now laid.items) }
+{
+    let laid = laid_tokens(alloc, text, tokens, width, indent)?;
+    if is_laid_out(alloc, text, tokens, &laid)? {
+        return Ok(laid);
+    }
+    as_it_is(alloc, text)
+}
+
+fn as_it_is(alloc: Global, text: &[u8]) -> Result<Vec<u8>, Memory>
+    ensures { IfOk result (λ laid. IsLaidOut text.now laid.items) }
+{
+    Ok(Vec::from_slice(alloc, text)?)
 }
 
 // The text of these tokens.
@@ -46,15 +72,20 @@ fn laid_tokens(
         end: 0,
     };
     for (index, token) in tokens.iter().enumerate() {
-        let closed_by = closing[index];
-        let end = match tokens.get(closed_by) {
-            Some(last) => last.end,
-            None => text.len(),
-        };
+        let closed_by = closing.get(index).copied().unwrap_or(tokens.len());
+        let end = end_of(tokens, closed_by, text.len());
         writer.write(index, token, closed_by, end)?;
     }
-    writer.put(writer.end, text.len())?;
+    writer.put_rest()?;
     Ok(writer.out)
+}
+
+// The byte behind the token with this number; that one where there is no such token.
+fn end_of(tokens: &[Token], number: usize, end: usize) -> usize {
+    match tokens.get(number) {
+        Some(token) => token.end,
+        None => end,
+    }
 }
 
 // What is written, and the groups that are open around the next token.
@@ -85,7 +116,8 @@ impl Writer<'_> {
             self.put_trimmed(token.start)?;
             self.break_line()?;
         } else {
-            self.put(self.end, token.start)?;
+            let end = self.end;
+            self.put(end, token.start)?;
         }
         self.put(token.start, token.end)?;
         self.end = token.end;
@@ -124,15 +156,15 @@ impl Writer<'_> {
 
     // Puts what stands between the last token and this byte, without the blanks and line ends at its end.
     fn put_trimmed(&mut self, start: usize) -> Result<(), Memory> {
-        let mut end = self.end;
-        for index in self.end..start {
-            if let Some(byte) = self.text.get(index) {
-                if *byte != b' ' && *byte != b'\n' {
-                    end = index + 1;
-                }
-            }
-        }
-        self.put(self.end, end)
+        let from = self.end;
+        let end = trimmed_end(self.text, from, start);
+        self.put(from, end)
+    }
+
+    // Puts what stands behind the last token.
+    fn put_rest(&mut self) -> Result<(), Memory> {
+        let (start, end) = (self.end, self.text.len());
+        self.put(start, end)
     }
 
     // Puts the bytes from one place up to another.
@@ -142,6 +174,19 @@ impl Writer<'_> {
         }
         Ok(())
     }
+}
+
+// The byte behind the last one between these places that is no blank and no line end.
+fn trimmed_end(text: &[u8], start: usize, behind: usize) -> usize {
+    let mut end = start;
+    for index in start..behind {
+        if let Some(byte) = text.get(index) {
+            if !is_gap(*byte) {
+                end = index.saturating_add(1);
+            }
+        }
+    }
+    end
 }
 
 // Whether a line may begin with the token.

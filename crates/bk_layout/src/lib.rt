@@ -4,5 +4,6 @@
 mod bracket;
 mod group;
 mod layout;
+mod same;
 
 pub use layout::laid_out;

@@ -1,6 +1,6 @@
 //! Lines and columns.
 
-ghost use Rattle.std.specs.Prelude.{◌≡◌, length, take};
+ghost use Rattle.std.specs.Prelude.{◌≡◌, ◌+◌, ◌<◌, cond, nat_eq, length, take, drop, slice_index};
 ghost use Rattle.bk_places.specs.Places as meant;
 
 /// A place in a text. Lines and columns count from 1; a column is a character.
@@ -55,10 +55,20 @@ fn last_line(text: &[u8]) -> &[u8]
     ensures { result.now ≡ meant.last_line text.now }
 {
     let mut line = text;
-    for (index, byte) in text.iter().enumerate() {
-        if *byte == b'\n' {
-            line = &text[index + 1..];
-        }
+    for index in 0..text.len() {
+        line = line_with(text, line, index);
     }
     line
+}
+
+// What stands behind the last line end up to this byte, where the line before it begins there.
+fn line_with<'a>(text: &'a [u8], line: &'a [u8], index: usize) -> &'a [u8]
+    requires { index < length text.now }
+    ensures { result.now ≡ cond (nat_eq (slice_index text.now index) 10) (drop (index + 1) text.now) line.now }
+{
+    if text[index] == b'\n' {
+        &text[index + 1..]
+    } else {
+        line
+    }
 }
