@@ -1,7 +1,25 @@
 -- Items of reports, and the rows of status tables that they are.
-use Rattle.bk_evidence.specs.declared.item.Item.{Item}
+use Rattle.std.specs.Prelude.{ℕ, Bool, List, length, not, count_by}
+use Rattle.bk_status.specs.declared.state.State.{State}
 use Rattle.bk_status.specs.declared.table.Row.{Row}
+use Rattle.bk_status.specs.Rows.{is_settled}
+use Rattle.bk_report.specs.Table.{is_obvious_state, is_proved_state}
+use Rattle.bk_evidence.specs.declared.item.Item.{Item}
+use Rattle.bk_evidence.specs.declared.sums.Sums.{Sums}
 
 -- the row of an item
 abbrev pub row_of : Item → Row
 row_of item = record { name = item.name; state = item.state }
+
+-- how many items are of such a state
+abbrev pub count_items : (State → Bool) → List Item → ℕ
+count_items is_such items = count_by (λ item. is_such item.state) items
+
+-- how many there are, and how many are obvious, proved and neither
+abbrev pub sums_over : List Item → Sums
+sums_over items = record {
+  obligations = length items;
+  obvious = count_items is_obvious_state items;
+  proved = count_items is_proved_state items;
+  left = count_items (λ state. not (is_settled state)) items;
+}

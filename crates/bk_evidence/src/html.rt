@@ -51,7 +51,7 @@ fn write_sums(page: &mut Vec<u8>, report: &Report) -> Result<(), Memory> {
     write_sum(page, sums.obligations, "obligations")?;
     write_sum(page, sums.obvious, "obvious")?;
     write_sum(page, sums.proved, "proved")?;
-    write_sum(page, sums.open, "open")?;
+    write_sum(page, sums.left, "open")?;
     put(page, "</ul>\n")
 }
 
@@ -119,11 +119,11 @@ fn write_row(page: &mut Vec<u8>, item: &Item) -> Result<(), Memory> {
 
 // What is open of an obligation, folded.
 fn write_open(page: &mut Vec<u8>, item: &Item) -> Result<(), Memory> {
-    if item.open.as_bytes().is_empty() {
+    if item.shown.as_bytes().is_empty() {
         return Ok(());
     }
     put(page, "<details><summary>sequents</summary><pre>")?;
-    escape(page, item.open.as_bytes())?;
+    escape(page, item.shown.as_bytes())?;
     put(page, "</pre></details>")
 }
 

@@ -1,67 +1,78 @@
 //! Reports as JSON (RFC 8259).
 
+ghost use Rattle.std.specs.Prelude.{◌≡◌, Some, IfOk, OnOk};
+ghost use Rattle.serde_json.specs.Data.{string, put as with_member};
+ghost use Rattle.serde_json.specs.Read.{read};
+ghost use Rattle.serde_json.specs.View.{view, members_view};
+ghost use Rattle.bk_evidence.specs.Json.{text_data, count_data, script_data, place_members, item_data, items_data};
+ghost use Rattle.bk_evidence.specs.Json.{input_data, inputs_data, texts_data, sums_data, report_data};
+
 use crate::item::{Item, Script, write_state};
 use crate::report::{Input, Report};
-use crate::sums::sums_of;
+use crate::sums::{Sums, sums_of};
 use bk_io::{Memory, Text};
 use serde_json::{Map, Value, put};
 use std::alloc::Global;
-use std::str;
 
-/// The report as JSON on one line. It reads back as the value that it was written of.
-pub fn json_text(alloc: Global, report: &Report) -> Result<Vec<u8>, Memory> {
+/// The report as JSON on one line. It reads back as the data that it was written of.
+pub fn json_text(alloc: Global, report: &Report) -> Result<Vec<u8>, Memory>
+    ensures { IfOk result (λ text. read text.items ≡ Some (report_data report.now)) }
+{
     let value = report_value(alloc, report)?;
     let text = value.to_string(alloc)?;
     Ok(Vec::from_slice(alloc, text.as_bytes())?)
 }
 
 /// The obligations alone.
-pub fn items_json(alloc: Global, items: &[Item]) -> Result<Vec<u8>, Memory> {
+pub fn items_json(alloc: Global, items: &[Item]) -> Result<Vec<u8>, Memory>
+    ensures { IfOk result (λ text. read text.items ≡ Some (items_data items.now)) }
+{
     let value = items_value(alloc, items)?;
     let text = value.to_string(alloc)?;
     Ok(Vec::from_slice(alloc, text.as_bytes())?)
 }
 
-fn report_value(alloc: Global, report: &Report) -> Result<Value, Memory> {
+fn report_value(alloc: Global, report: &Report) -> Result<Value, Memory>
+    ensures { IfOk result (λ v. view v ≡ report_data report.now) }
+{
+    let inputs = inputs_value(alloc, &report.inputs)?;
+    let items = items_value(alloc, &report.items)?;
+    let strays = texts_value(alloc, &report.strays)?;
+    let sums = sums_value(alloc, sums_of(&report.items))?;
     let mut map = Map::new(alloc);
     put_str(alloc, &mut map, "version", report.version)?;
     put_str(alloc, &mut map, "toolchain", report.toolchain)?;
     put_text(alloc, &mut map, "machine", &report.machine)?;
-    put(
-        &mut map,
-        alloc,
-        "inputs",
-        inputs_value(alloc, &report.inputs)?,
-    )?;
-    put(
-        &mut map,
-        alloc,
-        "obligations",
-        items_value(alloc, &report.items)?,
-    )?;
-    put(
-        &mut map,
-        alloc,
-        "scripts_for_no_obligation",
-        texts_value(alloc, &report.strays)?,
-    )?;
-    put(&mut map, alloc, "sums", sums_value(alloc, &report.items)?)?;
+    put(&mut map, alloc, "inputs", inputs)?;
+    put(&mut map, alloc, "obligations", items)?;
+    put(&mut map, alloc, "scripts_for_no_obligation", strays)?;
+    put(&mut map, alloc, "sums", sums)?;
     Ok(Value::Object(map))
 }
 
-fn inputs_value(alloc: Global, inputs: &[Input]) -> Result<Value, Memory> {
+fn inputs_value(alloc: Global, inputs: &[Input]) -> Result<Value, Memory>
+    ensures { IfOk result (λ v. view v ≡ inputs_data inputs.now) }
+{
     let mut list = Vec::new(alloc);
     for input in inputs {
-        let mut map = Map::new(alloc);
-        put_text(alloc, &mut map, "name", &input.name)?;
-        put_number(alloc, &mut map, "bytes", input.length)?;
-        put_str(alloc, &mut map, "sha256", input.digest.as_str())?;
-        list.push(Value::Object(map))?;
+        list.push(input_value(alloc, input)?)?;
     }
     Ok(Value::Array(list))
 }
 
-fn items_value(alloc: Global, items: &[Item]) -> Result<Value, Memory> {
+fn input_value(alloc: Global, input: &Input) -> Result<Value, Memory>
+    ensures { IfOk result (λ v. view v ≡ input_data input.now) }
+{
+    let mut map = Map::new(alloc);
+    put_text(alloc, &mut map, "name", &input.name)?;
+    put_count(alloc, &mut map, "bytes", input.length)?;
+    put_str(alloc, &mut map, "sha256", input.digest.as_str())?;
+    Ok(Value::Object(map))
+}
+
+fn items_value(alloc: Global, items: &[Item]) -> Result<Value, Memory>
+    ensures { IfOk result (λ v. view v ≡ items_data items.now) }
+{
     let mut list = Vec::new(alloc);
     for item in items {
         list.push(item_value(alloc, item)?)?;
@@ -69,64 +80,77 @@ fn items_value(alloc: Global, items: &[Item]) -> Result<Value, Memory> {
     Ok(Value::Array(list))
 }
 
-fn item_value(alloc: Global, item: &Item) -> Result<Value, Memory> {
+fn item_value(alloc: Global, item: &Item) -> Result<Value, Memory>
+    ensures { IfOk result (λ v. view v ≡ item_data item.now) }
+{
+    let script = script_value(alloc, &item.script)?;
     let mut state = Vec::new(alloc);
     write_state(&mut state, item.state)?;
-    let mut map = Map::new(alloc);
+    let state = text_value(alloc, &state)?;
+    let mut map = place_map(alloc, item)?;
     put_text(alloc, &mut map, "name", &item.name)?;
     put_text(alloc, &mut map, "asks", &item.words)?;
-    put_text(alloc, &mut map, "file", &item.file)?;
-    put_number(alloc, &mut map, "line", item.line)?;
-    put_number(alloc, &mut map, "column", item.column)?;
-    put_str(alloc, &mut map, "state", text_of(&state))?;
-    put(
-        &mut map,
-        alloc,
-        "script",
-        script_value(alloc, item.script.as_ref())?,
-    )?;
+    put(&mut map, alloc, "state", state)?;
+    put(&mut map, alloc, "script", script)?;
     Ok(Value::Object(map))
 }
 
-fn script_value(alloc: Global, script: Option<&Script>) -> Result<Value, Memory> {
-    let Some(script) = script else {
-        return Ok(Value::Null);
-    };
+// Where an obligation comes from.
+fn place_map(alloc: Global, item: &Item) -> Result<Map<String, Value>, Memory>
+    ensures { IfOk result (λ map. members_view map.entries ≡ place_members item.now) }
+{
     let mut map = Map::new(alloc);
-    put_number(alloc, &mut map, "rules", script.rules)?;
+    put_text(alloc, &mut map, "file", &item.file)?;
+    put_count(alloc, &mut map, "line", item.line)?;
+    put_count(alloc, &mut map, "column", item.column)?;
+    Ok(map)
+}
+
+fn script_value(alloc: Global, script: &Option<Script>) -> Result<Value, Memory>
+    ensures { IfOk result (λ v. view v ≡ script_data script.now) }
+{
+    match script {
+        Some(script) => script_object(alloc, script),
+        None => Ok(Value::Null),
+    }
+}
+
+fn script_object(alloc: Global, script: &Script) -> Result<Value, Memory>
+    ensures { IfOk result (λ v. view v ≡ script_data (Some script.now)) }
+{
+    let mut map = Map::new(alloc);
+    put_count(alloc, &mut map, "rules", script.rules)?;
     put_text(alloc, &mut map, "place", &script.place)?;
     Ok(Value::Object(map))
 }
 
-fn texts_value(alloc: Global, texts: &[Text]) -> Result<Value, Memory> {
+fn texts_value(alloc: Global, texts: &[Text]) -> Result<Value, Memory>
+    ensures { IfOk result (λ v. view v ≡ texts_data texts.now) }
+{
     let mut list = Vec::new(alloc);
     for text in texts {
-        let owned = String::from_str(alloc, text_of(text.as_bytes()))?;
-        list.push(Value::String(owned))?;
+        list.push(text_value(alloc, text.as_bytes())?)?;
     }
     Ok(Value::Array(list))
 }
 
-fn sums_value(alloc: Global, items: &[Item]) -> Result<Value, Memory> {
-    let sums = sums_of(items);
+fn sums_value(alloc: Global, sums: Sums) -> Result<Value, Memory>
+    ensures { IfOk result (λ v. view v ≡ sums_data sums) }
+{
     let mut map = Map::new(alloc);
-    put_number(alloc, &mut map, "obligations", sums.obligations)?;
-    put_number(alloc, &mut map, "obvious", sums.obvious)?;
-    put_number(alloc, &mut map, "proved", sums.proved)?;
-    put_number(alloc, &mut map, "open", sums.open)?;
+    put_count(alloc, &mut map, "obligations", sums.obligations)?;
+    put_count(alloc, &mut map, "obvious", sums.obvious)?;
+    put_count(alloc, &mut map, "proved", sums.proved)?;
+    put_count(alloc, &mut map, "open", sums.left)?;
     Ok(Value::Object(map))
 }
 
 // ---- members
-fn put_str(
-    alloc: Global,
-    map: &mut Map<String, Value>,
-    key: &str,
-    text: &str,
-) -> Result<(), Memory> {
-    let owned = String::from_str(alloc, text)?;
-    put(map, alloc, key, Value::String(owned))?;
-    Ok(())
+// Bytes as text; what is no UTF-8 stands as U+FFFD.
+fn text_value(alloc: Global, bytes: &[u8]) -> Result<Value, Memory>
+    ensures { IfOk result (λ v. view v ≡ text_data bytes.now) }
+{
+    Ok(Value::String(String::from_utf8_lossy(alloc, bytes)?))
 }
 
 fn put_text(
@@ -134,24 +158,31 @@ fn put_text(
     map: &mut Map<String, Value>,
     key: &str,
     text: &Text,
-) -> Result<(), Memory> {
-    put_str(alloc, map, key, text_of(text.as_bytes()))
-}
-
-fn put_number(
-    alloc: Global,
-    map: &mut Map<String, Value>,
-    key: &str,
-    number: usize,
-) -> Result<(), Memory> {
-    put(map, alloc, key, Value::from(number as u64))?;
+) -> Result<(), Memory>
+    ensures { OnOk result (members_view map.new.entries ≡ with_member key.now (text_data text.now) (members_view map.old.entries)) }
+{
+    let value = text_value(alloc, text.as_bytes())?;
+    put(map, alloc, key, value)?;
     Ok(())
 }
 
-// The text that the bytes are; empty where they are none.
-fn text_of(bytes: &[u8]) -> &str {
-    match str::from_utf8(bytes) {
-        Ok(text) => text,
-        Err(_) => "",
-    }
+fn put_str(alloc: Global, map: &mut Map<String, Value>, key: &str, text: &str) -> Result<(), Memory>
+    ensures { OnOk result (members_view map.new.entries ≡ with_member key.now (string text.now) (members_view map.old.entries)) }
+{
+    let value = Value::String(String::from_str(alloc, text)?);
+    put(map, alloc, key, value)?;
+    Ok(())
+}
+
+fn put_count(
+    alloc: Global,
+    map: &mut Map<String, Value>,
+    key: &str,
+    count: usize,
+) -> Result<(), Memory>
+    ensures { OnOk result (members_view map.new.entries ≡ with_member key.now (count_data count) (members_view map.old.entries)) }
+{
+    let value = Value::from(count);
+    put(map, alloc, key, value)?;
+    Ok(())
 }

@@ -9,7 +9,7 @@ mod report;
 mod sums;
 
 pub use html::html_page;
-pub use item::{Item, Script, items, list_text};
+pub use item::{Item, Proof, Script, items, list_text};
 pub use json::{items_json, json_text};
 pub use report::{Input, Report, input};
 pub use sums::{Sums, sums_of};

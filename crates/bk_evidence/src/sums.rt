@@ -1,6 +1,9 @@
 //! Sums over obligations.
 
-ghost use Rattle.std.specs.Prelude.{◌≡◌, length};
+ghost use Rattle.std.specs.Prelude.{◌≡◌, not};
+ghost use Rattle.bk_status.specs.Rows as rows;
+ghost use Rattle.bk_report.specs.Table as texts;
+ghost use Rattle.bk_evidence.specs.Items.{count_items, sums_over};
 
 use crate::item::Item;
 use bk_status::State;
@@ -11,26 +14,50 @@ pub struct Sums {
     pub obligations: usize,
     pub obvious: usize,
     pub proved: usize,
-    pub open: usize,
+    pub left: usize,
 }
 
 /// The sums over all items.
 pub fn sums_of(items: &[Item]) -> Sums
-    ensures all { result.obligations ≡ length items.now }
+    ensures { result ≡ sums_over items.now }
 {
     Sums {
         obligations: items.len(),
-        obvious: items
-            .iter()
-            .filter(|item| item.state == State::Obvious)
-            .count(),
-        proved: items
-            .iter()
-            .filter(|item| item.state == State::Proved)
-            .count(),
-        open: items
-            .iter()
-            .filter(|item| item.state != State::Obvious && item.state != State::Proved)
-            .count(),
+        obvious: obvious_count(items),
+        proved: proved_count(items),
+        left: left_count(items),
     }
+}
+
+fn obvious_count(items: &[Item]) -> usize
+    ensures { result ≡ count_items texts.is_obvious_state items.now }
+{
+    items.iter().filter(|item| is_obvious(item.state)).count()
+}
+
+fn proved_count(items: &[Item]) -> usize
+    ensures { result ≡ count_items texts.is_proved_state items.now }
+{
+    items.iter().filter(|item| is_proved(item.state)).count()
+}
+
+fn left_count(items: &[Item]) -> usize
+    ensures { result ≡ count_items (λ state. not (rows.is_settled state)) items.now }
+{
+    items
+        .iter()
+        .filter(|item| !(is_obvious(item.state) || is_proved(item.state)))
+        .count()
+}
+
+fn is_obvious(state: State) -> bool
+    ensures { result ≡ texts.is_obvious_state state }
+{
+    matches!(state, State::Obvious)
+}
+
+fn is_proved(state: State) -> bool
+    ensures { result ≡ texts.is_proved_state state }
+{
+    matches!(state, State::Proved)
 }

@@ -105,10 +105,10 @@ fn behind_rules(
     let marks = brought(alloc, &table, before, &rules, &standing)?;
     let header = header_text(alloc, asked, found, standing.done as usize)?;
     let next = next_text(alloc, asked, found, &rules, &standing)?;
-    let text = within(alloc, &table, &standing.open, marks, &header, &next)?;
+    let text = within(alloc, &table, &standing.left, marks, &header, &next)?;
     Ok(GoalText {
         text,
-        is_open: !standing.open.is_empty() || stops(asked, found, &standing),
+        is_open: !standing.left.is_empty() || stops(asked, found, &standing),
     })
 }
 
@@ -141,11 +141,11 @@ fn brought(
         return Ok((usize::MAX, 0));
     };
     let before = open_after(alloc, table, sequent, rules, count)?;
-    let Some(first) = before.open.first() else {
+    let Some(first) = before.left.first() else {
         return Ok((usize::MAX, 0));
     };
-    let others = before.open.len().saturating_sub(1);
-    Ok((first.hyps.len(), standing.open.len().saturating_sub(others)))
+    let others = before.left.len().saturating_sub(1);
+    Ok((first.hyps.len(), standing.left.len().saturating_sub(others)))
 }
 
 // `Tally.inc.1, after rule 2 of 5 (Tally.prf:2:46)`.
@@ -197,7 +197,7 @@ fn next_text(
     let mut text = Vec::new(alloc);
     let done = standing.done as usize;
     let Some(written) = found.script.rules.get(done) else {
-        write_end(&mut text, standing.open.len())?;
+        write_end(&mut text, standing.left.len())?;
         return Ok(text);
     };
     write_count(&mut text, b"rule ", done.saturating_add(1))?;
@@ -235,7 +235,7 @@ fn reason_text(
     let (scope, table) = read_in(alloc, found.script, asked.dev, asked.table)?;
     let mut words = Words::new(alloc, &table);
     let done = standing.done as usize;
-    let Some(first) = standing.open.first() else {
+    let Some(first) = standing.left.first() else {
         words.say(b"nothing is open before it")?;
         return Ok(words.into_text());
     };

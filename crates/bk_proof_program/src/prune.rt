@@ -31,7 +31,7 @@ pub(crate) fn prune_answer<H: Shelf>(
         &whole.list,
         text,
     )?;
-    let status = if pruned.open == 0 {
+    let status = if pruned.unproved == 0 {
         Status::Done
     } else {
         Status::Unproved

@@ -133,7 +133,7 @@ fn plain_text(alloc: Global, report: &Report) -> Result<Vec<u8>, Memory> {
     put_count(&mut text, b"", sums.obligations)?;
     put_count(&mut text, b" obligations: ", sums.obvious)?;
     put_count(&mut text, b" obvious, ", sums.proved)?;
-    put_count(&mut text, b" proved, ", sums.open)?;
+    put_count(&mut text, b" proved, ", sums.left)?;
     text.extend_from_slice(b" open\n")?;
     for input in &report.inputs {
         text.extend_from_slice(input.name.as_bytes())?;

@@ -30,7 +30,7 @@ use std::alloc::Global;
 pub struct Pruned {
     pub text: Vec<u8>,
     pub gone: usize,
-    pub open: usize,
+    pub unproved: usize,
 }
 
 // What scripts are for: a development, the table of its obligations, and these.
@@ -71,7 +71,7 @@ fn unchanged(alloc: Global, text: &[u8], open: usize) -> Result<Pruned, Memory> 
     Ok(Pruned {
         text: Vec::from_slice(alloc, text)?,
         gone: 0,
-        open,
+        unproved: open,
     })
 }
 
@@ -120,7 +120,7 @@ fn shorter(proved: Proved<'_>, text: &[u8], read: &ReadFile) -> Result<Pruned, M
         return Ok(Pruned {
             text: out,
             gone,
-            open,
+            unproved: open,
         });
     }
     unchanged(alloc, text, open)

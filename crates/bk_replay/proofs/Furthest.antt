@@ -53,17 +53,17 @@ at-number table rules s left k j e h = subst (λ n. IsFurthest table rules s n l
 -- what the program answers where the next rule does not fit
 module _ {E : Type 0} (table : Table) (rules : List Rule) (s : Sequent) (i : ℕ) (rule : Rule) (is_rule : rule ≡ get_or rules i rule) (less : i < length rules) (held others : List StoredSequent) (first : StoredSequent) (popped : held ≡ others ++ first ∷ []) where
   pub stopped_there : Leaves table (s ∷ []) (take i rules) (in_order held) → ((news : List Sequent) → IsInstance table (sequent_of first) rule news → ⊥) → (before : Sequent) → before ≡ sequent_of first → (r : Result Standing E) →
-      IfOk r (λ st. st.done ≡ i) → IfOk r (λ st. map sequent_of st.open.items ≡ before ∷ in_order others) → IfOk r (λ st. IsFurthest table rules s st.done (map sequent_of st.open.items))
+      IfOk r (λ st. st.done ≡ i) → IfOk r (λ st. map sequent_of st.left.items ≡ before ∷ in_order others) → IfOk r (λ st. IsFurthest table rules s st.done (map sequent_of st.left.items))
   stopped_there reached never before same (Ok st) done left =
-      at-number table rules s (map sequent_of st.open.items) i st.done done (stops_here table rules s i rule is_rule less held others first popped reached never (map sequent_of st.open.items) (left ∙ ap (λ b. b ∷ in_order others) same))
+      at-number table rules s (map sequent_of st.left.items) i st.done done (stops_here table rules s i rule is_rule less held others first popped reached never (map sequent_of st.left.items) (left ∙ ap (λ b. b ∷ in_order others) same))
   stopped_there reached never before same (Err e) done left = done
 
 -- and where none is open, or no further rule is there
-pub ended_there : (table : Table) (rules : List Rule) (s : Sequent) (i : ℕ) (there : List Sequent) (st : Standing) → Leaves table (s ∷ []) (take i rules) there → there ≡ [] → i < length rules → st.done ≡ i → map sequent_of st.open.items ≡ there → IsFurthest table rules s st.done (map sequent_of st.open.items)
-ended_there table rules s i there st h n l done left = at-number table rules s (map sequent_of st.open.items) i st.done done (none_left table rules s i there (map sequent_of st.open.items) h left n l)
+pub ended_there : (table : Table) (rules : List Rule) (s : Sequent) (i : ℕ) (there : List Sequent) (st : Standing) → Leaves table (s ∷ []) (take i rules) there → there ≡ [] → i < length rules → st.done ≡ i → map sequent_of st.left.items ≡ there → IsFurthest table rules s st.done (map sequent_of st.left.items)
+ended_there table rules s i there st h n l done left = at-number table rules s (map sequent_of st.left.items) i st.done done (none_left table rules s i there (map sequent_of st.left.items) h left n l)
 
-pub done_there : (table : Table) (rules : List Rule) (s : Sequent) (i : ℕ) (there : List Sequent) (st : Standing) → Leaves table (s ∷ []) (take i rules) there → length rules ≤ i → st.done ≡ length rules → map sequent_of st.open.items ≡ there → IsFurthest table rules s st.done (map sequent_of st.open.items)
-done_there table rules s i there st h l done left = at-number table rules s (map sequent_of st.open.items) (length rules) st.done done (all_done table rules s i there (map sequent_of st.open.items) l h left)
+pub done_there : (table : Table) (rules : List Rule) (s : Sequent) (i : ℕ) (there : List Sequent) (st : Standing) → Leaves table (s ∷ []) (take i rules) there → length rules ≤ i → st.done ≡ length rules → map sequent_of st.left.items ≡ there → IsFurthest table rules s st.done (map sequent_of st.left.items)
+done_there table rules s i there st h l done left = at-number table rules s (map sequent_of st.left.items) (length rules) st.done done (all_done table rules s i there (map sequent_of st.left.items) l h left)
 
 -- so many rules, taken of more of them
 take-take : {A : Type 0} (xs : List A) (n j : ℕ) → j ≤ n → take j (take n xs) ≡ take j xs
@@ -89,12 +89,12 @@ open_of_front table rules s count k left h = subst (λ rs. Leaves table (s ∷ [
 
 -- of what may be an answer or want of memory
 module _ {E : Type 0} (table : Table) (rules : List Rule) (s : Sequent) (count : ℕ) where
-  pub front_after : (r : Result Standing E) → IfOk r (λ st. IsFurthest table (take count rules) s st.done (map sequent_of st.open.items)) → IfOk r (λ st. AreOpenAfter table rules s st.done (map sequent_of st.open.items))
-  front_after (Ok st) h = open_of_front table rules s count st.done (map sequent_of st.open.items) h
+  pub front_after : (r : Result Standing E) → IfOk r (λ st. IsFurthest table (take count rules) s st.done (map sequent_of st.left.items)) → IfOk r (λ st. AreOpenAfter table rules s st.done (map sequent_of st.left.items))
+  front_after (Ok st) h = open_of_front table rules s count st.done (map sequent_of st.left.items) h
   front_after (Err e) h = h
 
-  pub front_most : (r : Result Standing E) → IfOk r (λ st. IsFurthest table (take count rules) s st.done (map sequent_of st.open.items)) → IfOk r (λ st. st.done ≤ count)
-  front_most (Ok st) h = done_within table rules s count st.done (map sequent_of st.open.items) h
+  pub front_most : (r : Result Standing E) → IfOk r (λ st. IsFurthest table (take count rules) s st.done (map sequent_of st.left.items)) → IfOk r (λ st. st.done ≤ count)
+  front_most (Ok st) h = done_within table rules s count st.done (map sequent_of st.left.items) h
   front_most (Err e) h = h
 
 -- ---- verdicts

@@ -18,7 +18,7 @@ use std::alloc::Global;
 #[derive(Drop)]
 pub struct Standing {
     pub done: u32,
-    pub open: Vec<Sequent>,
+    pub left: Vec<Sequent>,
 }
 
 /// How far the rules go on the sequent: as many as are steps, each on the first sequent that is open, whose results stand in its place.
@@ -32,7 +32,7 @@ pub fn furthest(
     requires within { IsWithin (sequent_of sequent) }
     requires countable { length rules.now < 2 ^ 32 }
     ensures { IfOk result (λ st.
-        IsFurthest types.now rules.now (sequent_of sequent) st.done (map sequent_of st.open.items)) }
+        IsFurthest types.now rules.now (sequent_of sequent) st.done (map sequent_of st.left.items)) }
 {
     // the first open sequent stands last
     let mut open = Vec::new(alloc);
@@ -63,10 +63,10 @@ pub fn open_after(
     requires within { IsWithin (sequent_of sequent) }
     requires countable { length rules.now < 2 ^ 32 }
     ensures after { IfOk result (λ st.
-        AreOpenAfter types.now rules.now (sequent_of sequent) st.done (map sequent_of st.open.items)) }
+        AreOpenAfter types.now rules.now (sequent_of sequent) st.done (map sequent_of st.left.items)) }
     ensures most { IfOk result (λ st. st.done ≤ count) }
     ensures furthest { IfOk result (λ st.
-        IsFurthest types.now (take count rules.now) (sequent_of sequent) st.done (map sequent_of st.open.items)) }
+        IsFurthest types.now (take count rules.now) (sequent_of sequent) st.done (map sequent_of st.left.items)) }
 {
     furthest(alloc, types, sequent, front_of(rules, count))
 }
@@ -85,12 +85,12 @@ fn front_of(rules: &[Rule], count: usize) -> &[Rule]
 /// What is said of so many rules that go so far: the verdict of the kernel.
 pub fn verdict_of(standing: &Standing, rules: usize) -> Verdict
     requires { rules < 2 ^ 32 }
-    ensures { result ≡ verdict_at rules standing.now.done (length standing.now.open.items) }
+    ensures { result ≡ verdict_at rules standing.now.done (length standing.now.left.items) }
 {
     if (standing.done as usize) < rules {
-        at_rule(standing.done, &standing.open)
+        at_rule(standing.done, &standing.left)
     } else {
-        at_end(&standing.open)
+        at_end(&standing.left)
     }
 }
 
@@ -136,7 +136,7 @@ fn again(alloc: Global, sequent: &Sequent) -> Result<Sequent, Memory>
 // one last.
 fn stopped(done: u32, mut open: Vec<Sequent>, first: Sequent) -> Result<Standing, Memory>
     ensures done { IfOk result (λ st. st.done ≡ done) }
-    ensures left { IfOk result (λ st. map sequent_of st.open.items ≡ sequent_of first ∷ in_order open.items) }
+    ensures left { IfOk result (λ st. map sequent_of st.left.items ≡ sequent_of first ∷ in_order open.items) }
 {
     open.push(first)?;
     Ok(reversed(done, open))
@@ -145,8 +145,8 @@ fn stopped(done: u32, mut open: Vec<Sequent>, first: Sequent) -> Result<Standing
 // The standing with these sequents, of which the first stands last.
 fn reversed(done: u32, mut open: Vec<Sequent>) -> Standing
     ensures done { result.done ≡ done }
-    ensures left { map sequent_of result.open.items ≡ in_order open.items }
+    ensures left { map sequent_of result.left.items ≡ in_order open.items }
 {
     open.reverse();
-    Standing { done, open }
+    Standing { done, left: open }
 }

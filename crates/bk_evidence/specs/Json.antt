@@ -1,0 +1,61 @@
+-- The data that a report is written as in JSON (RFC 8259). Members are put one behind another; JSON has them in the order of their names.
+use Rattle.std.specs.Prelude.{ℕ, List, map, Option, Some, None, codes, string_bytes}
+use Rattle.std.specs.Str.Lossy.{utf8_lossy}
+use Rattle.serde_json.specs.Data.{Data, null, number, unsigned, string, array, object, Members, no_members, put}
+use Rattle.serde_json.specs.View.{items_of}
+use Rattle.bk_report.specs.Table.{state_text}
+use Rattle.bk_evidence.specs.declared.item.Item.{Item}
+use Rattle.bk_evidence.specs.declared.item.Script.{Script}
+use Rattle.bk_evidence.specs.declared.report.Input.{Input}
+use Rattle.bk_evidence.specs.declared.report.Report.{Report}
+use Rattle.bk_evidence.specs.declared.sums.Sums.{Sums}
+use Rattle.bk_evidence.specs.Items.{sums_over}
+
+-- bytes as text; what is no UTF-8 stands as U+FFFD
+abbrev pub text_data : List ℕ → Data
+text_data bytes = string (utf8_lossy bytes)
+
+abbrev pub count_data : ℕ → Data
+count_data n = number (unsigned n)
+
+-- ---- parts of a report
+-- how many rules a script has, and where it stands
+abbrev pub script_data : Option Script → Data
+script_data None = null
+script_data (Some script) = object (put (codes "place") (text_data script.place) (put (codes "rules") (count_data script.rules) no_members))
+
+-- where an obligation comes from
+abbrev pub place_members : Item → Members
+place_members item = put (codes "column") (count_data item.column) (put (codes "line") (count_data item.line) (put (codes "file") (text_data item.file) no_members))
+
+-- an obligation with the state that the status table has
+abbrev pub item_data : Item → Data
+item_data item = object (put (codes "script") (script_data item.script) (put (codes "state") (text_data (state_text item.state))
+    (put (codes "asks") (text_data item.words) (put (codes "name") (text_data item.name) (place_members item)))))
+
+-- a file that was read
+abbrev pub input_data : Input → Data
+input_data input = object (put (codes "sha256") (string (string_bytes input.digest)) (put (codes "bytes") (count_data input.length)
+    (put (codes "name") (text_data input.name) no_members)))
+
+-- how many obligations there are, and how many are obvious, proved and neither
+abbrev pub sums_data : Sums → Data
+sums_data sums = object (put (codes "open") (count_data sums.left) (put (codes "proved") (count_data sums.proved)
+    (put (codes "obvious") (count_data sums.obvious) (put (codes "obligations") (count_data sums.obligations) no_members))))
+
+-- ---- lists of them
+abbrev pub items_data : List Item → Data
+items_data items = array (items_of (map item_data items))
+
+abbrev pub inputs_data : List Input → Data
+inputs_data inputs = array (items_of (map input_data inputs))
+
+abbrev pub texts_data : List (List ℕ) → Data
+texts_data texts = array (items_of (map text_data texts))
+
+-- ---- the report
+abbrev pub report_data : Report → Data
+report_data report = object (put (codes "sums") (sums_data (sums_over report.items.items))
+    (put (codes "scripts_for_no_obligation") (texts_data report.strays.items) (put (codes "obligations") (items_data report.items.items)
+    (put (codes "inputs") (inputs_data report.inputs.items) (put (codes "machine") (text_data report.machine)
+    (put (codes "toolchain") (string report.toolchain.now) (put (codes "version") (string report.version.now) no_members)))))))
