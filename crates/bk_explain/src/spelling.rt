@@ -3,7 +3,7 @@
 use crate::say::{say, say_line, say_quoted, tokens_of, written};
 use crate::source::{Source, SourceKind};
 use bk_form::{Token, TokenKind};
-use bk_grammar::{Furthest, Part, Symbol, furthest_token};
+use bk_grammar::{COMPONENT, Furthest, PROOF_FILE, Symbol, furthest_token, part_words};
 use bk_io::Memory;
 use bk_lex::{LexFault, tokens};
 use std::alloc::Global;
@@ -36,9 +36,9 @@ pub(crate) fn say_syntax_fault(
 ) -> Result<(), Memory> {
     let list = tokens_of(alloc, source.text)?;
     let start = if source.kind == SourceKind::Proofs {
-        Part::ProofFile
+        PROOF_FILE
     } else {
-        Part::Component
+        COMPONENT
     };
     match furthest_token(alloc, source.text, &list, start)? {
         Some(furthest) => say_furthest(words, source, &list, &furthest, place),
@@ -102,15 +102,20 @@ fn say_token(
         say(words, ": ")?;
         return say(words, hint);
     }
-    if is_small_word(token, text)
-        && furthest
-            .wanted
-            .iter()
-            .any(|symbol| may_begin_with_name(*symbol))
-    {
+    if is_small_word(token, text) && is_name_wanted(furthest) {
         return say(words, " is a reserved word, and no name");
     }
     say(words, " cannot stand here")
+}
+
+// Whether a name could stand there.
+fn is_name_wanted(furthest: &Furthest) -> bool {
+    for symbol in &furthest.wanted {
+        if may_begin_with_name(*symbol) {
+            return true;
+        }
+    }
+    false
 }
 
 // Whether a token is a reserved word in small letters.
@@ -126,21 +131,31 @@ fn is_small_word(token: &Token, text: &[u8]) -> bool {
 
 // Whether what is waited for may begin with a name.
 fn may_begin_with_name(symbol: Symbol) -> bool {
-    matches!(
-        symbol,
-        Symbol::Name
-            | Symbol::Part(
-                Part::Names
-                    | Part::Sets
-                    | Part::Set
-                    | Part::Operations
-                    | Part::Operation
-                    | Part::Substitution
-                    | Part::Statement
-                    | Part::Term
-                    | Part::Operand
-            )
-    )
+    match symbol {
+        Symbol::Name => true,
+        Symbol::Part(part) => begins_with_name(part),
+        _ => false,
+    }
+}
+
+// Whether a part may begin with a name.
+fn begins_with_name(part: &[u8]) -> bool {
+    for first in [
+        "<names>",
+        "<sets>",
+        "<set>",
+        "<operations>",
+        "<operation>",
+        "<substitution>",
+        "<statement>",
+        "<term>",
+        "<operand>",
+    ] {
+        if first.as_bytes() == part {
+            return true;
+        }
+    }
+    false
 }
 
 // What could stand there.
@@ -153,16 +168,23 @@ fn say_wanted(words: &mut Vec<u8>, furthest: &Furthest) -> Result<(), Memory> {
         if index > 0 {
             say(words, ", ")?;
         }
-        match symbol {
-            Symbol::Text(text) => say_quoted(words, text.as_bytes())?,
-            Symbol::Name => say(words, "a name")?,
-            Symbol::Number => say(words, "a number")?,
-            Symbol::LevelName => say(words, "a name with its level")?,
-            Symbol::BoundName => say(words, "a bound variable")?,
-            Symbol::Part(part) => say(words, part.words())?,
-        }
+        say_symbol(words, *symbol)?;
     }
     say(words, "\n")
+}
+
+fn say_symbol(words: &mut Vec<u8>, symbol: Symbol) -> Result<(), Memory> {
+    match symbol {
+        Symbol::Text(text) => say_quoted(words, text),
+        Symbol::Name => say(words, "a name"),
+        Symbol::Number => say(words, "a number"),
+        Symbol::LevelName => say(words, "a name with its level"),
+        Symbol::BoundName => say(words, "a bound variable"),
+        Symbol::Part(part) => {
+            words.extend_from_slice(part_words(part))?;
+            Ok(())
+        }
+    }
 }
 
 // A semicolon before what ends a list.

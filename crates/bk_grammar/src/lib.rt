@@ -2,7 +2,7 @@
 #![tactic(auto)]
 
 mod reader;
-pub mod rows;
+mod rows;
 
 pub use reader::{Furthest, furthest_token};
-pub use rows::{Part, Symbol};
+pub use rows::{COMPONENT, PROOF_FILE, Symbol, part_words};

@@ -1,7 +1,7 @@
 //! A recogniser over the rows of a grammar (Earley, An Efficient Context-Free Parsing Algorithm): the tokens read so far are the front of
 //! some text of the grammar exactly as long as some row is left that waits.
 
-use crate::rows::{Part, ROWS, Symbol};
+use crate::rows::{Row, Symbol, rows};
 use bk_form::{Token, TokenKind};
 use bk_io::Memory;
 use std::alloc::Global;
@@ -22,7 +22,7 @@ pub struct Furthest {
 }
 
 /// A row that is read up to a place, from a token on.
-#[derive(Clone, Copy, PartialEq, Eq)]
+#[derive(Clone, Copy)]
 struct Waiting {
     row: usize,
     read: usize,
@@ -31,14 +31,17 @@ struct Waiting {
 
 impl Waiting {
     // What it waits for; None where all of it is read.
-    fn next(&self) -> Option<Symbol> {
-        let row = ROWS.get(self.row)?;
+    fn next(&self, rows: &[Row]) -> Option<Symbol> {
+        let row = rows.get(self.row)?;
         row.symbols.get(self.read).copied()
     }
 
-    fn part(&self) -> Option<Part> {
-        let row = ROWS.get(self.row)?;
-        Some(row.part)
+    // The part that it is a row of.
+    fn part(&self, rows: &[Row]) -> &'static [u8] {
+        match rows.get(self.row) {
+            Some(row) => row.part,
+            None => b"",
+        }
     }
 
     fn advanced(&self) -> Waiting {
@@ -48,6 +51,10 @@ impl Waiting {
             from: self.from,
         }
     }
+
+    fn equal(&self, other: &Waiting) -> bool {
+        self.row == other.row && self.read == other.read && self.from == other.from
+    }
 }
 
 /// How far the tokens of a text are the front of one that the part is written as, and what could stand there; None where they are
@@ -56,32 +63,39 @@ pub fn furthest_token(
     alloc: Global,
     text: &[u8],
     tokens: &[Token],
-    start: Part,
+    start: &str,
 ) -> Result<Option<Furthest>, Memory> {
     if tokens.len() > MOST_READ {
         return Ok(None);
     }
+    let rows = rows(alloc)?;
     let mut sets: Vec<Vec<Waiting>> = Vec::new(alloc);
-    let mut first = Vec::new(alloc);
-    predict(&mut first, start, 0)?;
-    close(&mut first, &sets, 0)?;
-    sets.push(first)?;
+    sets.push(first_set(alloc, &rows, start.as_bytes())?)?;
     for (index, token) in tokens.iter().enumerate() {
-        let next = behind(alloc, text, token, &sets, index)?;
+        let next = behind(alloc, &rows, text, token, &sets, index)?;
         if next.is_empty() {
-            return Ok(Some(reached(alloc, &sets, index)?));
+            return Ok(Some(reached(alloc, &rows, &sets, index)?));
         }
         sets.push(next)?;
     }
-    if is_read(&sets, start) {
+    if is_read(&rows, &sets, start.as_bytes()) {
         return Ok(None);
     }
-    Ok(Some(reached(alloc, &sets, tokens.len())?))
+    Ok(Some(reached(alloc, &rows, &sets, tokens.len())?))
+}
+
+// The rows that wait before the first token.
+fn first_set(alloc: Global, rows: &[Row], start: &[u8]) -> Result<Vec<Waiting>, Memory> {
+    let mut first = Vec::new(alloc);
+    predict(&mut first, rows, start, 0)?;
+    close(&mut first, rows, &[], 0)?;
+    Ok(first)
 }
 
 // The rows that wait behind a token.
 fn behind(
     alloc: Global,
+    rows: &[Row],
     text: &[u8],
     token: &Token,
     sets: &[Vec<Waiting>],
@@ -92,22 +106,28 @@ fn behind(
         return Ok(next);
     };
     for waiting in before {
-        if let Some(symbol) = waiting.next() {
-            if is_written(text, token, symbol) {
-                next.push(waiting.advanced())?;
-            }
+        if is_behind(rows, text, token, waiting) {
+            next.push(waiting.advanced())?;
         }
     }
     if !next.is_empty() {
-        close(&mut next, sets, index.saturating_add(1))?;
+        close(&mut next, rows, sets, index.saturating_add(1))?;
     }
     Ok(next)
+}
+
+// Whether a row waits for a token.
+fn is_behind(rows: &[Row], text: &[u8], token: &Token, waiting: &Waiting) -> bool {
+    match waiting.next(rows) {
+        Some(symbol) => is_written(text, token, symbol),
+        None => false,
+    }
 }
 
 // Whether a token is what is waited for.
 fn is_written(text: &[u8], token: &Token, symbol: Symbol) -> bool {
     match symbol {
-        Symbol::Text(written) => written.as_bytes() == bytes_of(text, token),
+        Symbol::Text(written) => written == bytes_of(text, token),
         Symbol::Name => matches!(token.kind, TokenKind::Name(_)),
         Symbol::Number => matches!(token.kind, TokenKind::Number(_)),
         Symbol::LevelName => matches!(token.kind, TokenKind::LevelName(_, _)),
@@ -124,8 +144,8 @@ fn bytes_of<'a>(text: &'a [u8], token: &Token) -> &'a [u8] {
 }
 
 // Adds the rows of a part, from a token on, that are not there.
-fn predict(set: &mut Vec<Waiting>, part: Part, from: usize) -> Result<(), Memory> {
-    for (row, entry) in ROWS.iter().enumerate() {
+fn predict(set: &mut Vec<Waiting>, rows: &[Row], part: &[u8], from: usize) -> Result<(), Memory> {
+    for (row, entry) in rows.iter().enumerate() {
         if entry.part == part {
             add(set, Waiting { row, read: 0, from })?;
         }
@@ -134,57 +154,92 @@ fn predict(set: &mut Vec<Waiting>, part: Part, from: usize) -> Result<(), Memory
 }
 
 fn add(set: &mut Vec<Waiting>, waiting: Waiting) -> Result<(), Memory> {
-    if !set.contains(&waiting) {
+    if !has(set, &waiting) {
         set.push(waiting)?;
     }
     Ok(())
 }
 
+fn has(set: &[Waiting], wanted: &Waiting) -> bool {
+    for waiting in set {
+        if waiting.equal(wanted) {
+            return true;
+        }
+    }
+    false
+}
+
 // Adds what follows from rows that wait for parts, and from rows of which all is read, before the token with this number.
-fn close(set: &mut Vec<Waiting>, sets: &[Vec<Waiting>], here: usize) -> Result<(), Memory> {
+fn close(
+    set: &mut Vec<Waiting>,
+    rows: &[Row],
+    sets: &[Vec<Waiting>],
+    here: usize,
+) -> Result<(), Memory> {
     for index in 0..MOST_WAITING {
         let Some(waiting) = set.get(index).copied() else {
             return Ok(());
         };
-        match waiting.next() {
-            Some(Symbol::Part(part)) => predict(set, part, here)?,
+        match waiting.next(rows) {
+            Some(Symbol::Part(part)) => predict(set, rows, part, here)?,
             Some(_) => {}
-            None => complete(set, sets, waiting)?,
+            None => complete(set, rows, sets, waiting)?,
         }
     }
     Ok(())
 }
 
 // All of a row is read: those that waited for its part go on.
-fn complete(set: &mut Vec<Waiting>, sets: &[Vec<Waiting>], done: Waiting) -> Result<(), Memory> {
-    let (Some(part), Some(before)) = (done.part(), sets.get(done.from)) else {
+fn complete(
+    set: &mut Vec<Waiting>,
+    rows: &[Row],
+    sets: &[Vec<Waiting>],
+    done: Waiting,
+) -> Result<(), Memory> {
+    let part = done.part(rows);
+    let Some(before) = sets.get(done.from) else {
         return Ok(());
     };
     for waiting in before {
-        if waiting.next() == Some(Symbol::Part(part)) {
+        if waits_for(rows, waiting, part) {
             add(set, waiting.advanced())?;
         }
     }
     Ok(())
 }
 
+fn waits_for(rows: &[Row], waiting: &Waiting, part: &[u8]) -> bool {
+    match waiting.next(rows) {
+        Some(symbol) => symbol.is_part(part),
+        None => false,
+    }
+}
+
 // Whether all tokens are what the part is written as.
-fn is_read(sets: &[Vec<Waiting>], start: Part) -> bool {
+fn is_read(rows: &[Row], sets: &[Vec<Waiting>], start: &[u8]) -> bool {
     let Some(last) = sets.last() else {
         return false;
     };
-    last.iter().any(|waiting| waiting.from == 0
-        && waiting.next().is_none()
-        && waiting.part() == Some(start))
+    for waiting in last {
+        if waiting.from == 0 && waiting.next(rows).is_none() && waiting.part(rows) == start {
+            return true;
+        }
+    }
+    false
 }
 
 // What rows wait for of which something is read, before the token with this number.
-fn reached(alloc: Global, sets: &[Vec<Waiting>], index: usize) -> Result<Furthest, Memory> {
+fn reached(
+    alloc: Global,
+    rows: &[Row],
+    sets: &[Vec<Waiting>],
+    index: usize,
+) -> Result<Furthest, Memory> {
     let mut wanted = Vec::new(alloc);
     if let Some(set) = sets.get(index) {
         for waiting in set {
             if waiting.read > 0 || index == 0 {
-                add_wanted(&mut wanted, waiting.next())?;
+                add_wanted(&mut wanted, waiting.next(rows))?;
             }
         }
     }
@@ -195,10 +250,20 @@ fn reached(alloc: Global, sets: &[Vec<Waiting>], index: usize) -> Result<Furthes
 }
 
 fn add_wanted(wanted: &mut Vec<Symbol>, symbol: Option<Symbol>) -> Result<(), Memory> {
-    if let Some(symbol) = symbol {
-        if !wanted.contains(&symbol) {
-            wanted.push(symbol)?;
-        }
+    let Some(symbol) = symbol else {
+        return Ok(());
+    };
+    if !is_wanted(wanted, &symbol) {
+        wanted.push(symbol)?;
     }
     Ok(())
+}
+
+fn is_wanted(wanted: &[Symbol], symbol: &Symbol) -> bool {
+    for other in wanted {
+        if other.equal(symbol) {
+            return true;
+        }
+    }
+    false
 }

@@ -1,11 +1,15 @@
 //! The grammar of components and of proof files, as rows. Operators bind as they like here: the strengths that the notation gives them
 //! choose among readings. Which texts are components is told elsewhere; this grammar serves to say what could stand at a place.
 
+use bk_io::Memory;
+use bk_lines::first_line;
+use std::alloc::Global;
+
 /// What stands in a row: a token, or a part that rows are for.
-#[derive(Clone, Copy, PartialEq, Eq, Debug)]
+#[derive(Clone, Copy)]
 pub enum Symbol {
     /// The token that is written so.
-    Text(&'static str),
+    Text(&'static [u8]),
     /// A name.
     Name,
     /// A number.
@@ -14,1454 +18,416 @@ pub enum Symbol {
     LevelName,
     /// A bound variable of a printed formula.
     BoundName,
-    Part(Part),
+    /// A part, as it is named in the rows.
+    Part(&'static [u8]),
 }
 
-/// Parts of texts.
-#[derive(Clone, Copy, PartialEq, Eq, Debug)]
-pub enum Part {
-    Component,
-    Head,
-    Clauses,
-    Clause,
-    Sets,
-    Set,
-    Names,
-    Assertions,
-    Values,
-    Value,
-    Operations,
-    Operation,
-    Header,
-    Substitution,
-    Statement,
-    Condition,
-    Choices,
-    Guards,
-    Terms,
-    Term,
-    Operand,
-    Primary,
-    Chain,
-    Binder,
-    Bounds,
-    Type,
-    Constant,
-    Word,
-    Operator,
-    ProofFile,
-    Script,
-    Path,
-    Piece,
-    Rules,
-    Rule,
-    Place,
-    Children,
-    Typed,
-    Instance,
-    Numbers,
-    Lines,
-    Line,
-    Sum,
-    Multiple,
-}
+impl Symbol {
+    /// Whether both are the same.
+    pub fn equal(&self, other: &Symbol) -> bool {
+        match (self, other) {
+            (Symbol::Text(one), Symbol::Text(two)) => *one == *two,
+            (Symbol::Part(one), Symbol::Part(two)) => *one == *two,
+            (Symbol::Name, Symbol::Name) => true,
+            (Symbol::Number, Symbol::Number) => true,
+            (Symbol::LevelName, Symbol::LevelName) => true,
+            (Symbol::BoundName, Symbol::BoundName) => true,
+            _ => false,
+        }
+    }
 
-/// A row: the part is written as these, one behind another.
-#[derive(Clone, Copy)]
-pub struct Row {
-    pub part: Part,
-    pub symbols: &'static [Symbol],
-}
-
-impl Part {
-    /// What it is, in words.
-    pub fn words(self) -> &'static str {
+    /// Whether it is this part.
+    pub fn is_part(&self, name: &[u8]) -> bool {
         match self {
-            Part::Component => "a component",
-            Part::Head => "MACHINE, REFINEMENT or IMPLEMENTATION",
-            Part::Clauses | Part::Clause => "a clause",
-            Part::Sets | Part::Set => "a set, S = {a, b}",
-            Part::Names => "a name",
-            Part::Assertions => "a predicate",
-            Part::Values | Part::Value => "a value, c = 1",
-            Part::Operations | Part::Operation | Part::Header => "an operation",
-            Part::Substitution | Part::Statement | Part::Choices => "a substitution",
-            Part::Condition | Part::Guards => "a condition",
-            Part::Terms
-            | Part::Term
-            | Part::Operand
-            | Part::Primary
-            | Part::Chain
-            | Part::Constant
-            | Part::Word => "a term",
-            Part::Binder => "a name, or names in parentheses",
-            Part::Bounds => "$1 and its type",
-            Part::Type => "a type",
-            Part::Operator => "an operator",
-            Part::ProofFile | Part::Script => "proof",
-            Part::Path => "the name of an obligation",
-            Part::Piece => "a part of a name",
-            Part::Rules | Part::Rule => "a rule",
-            Part::Place => "a place, goal or hyp i",
-            Part::Children => "the number of a child",
-            Part::Typed => "a name and its type, x : T",
-            Part::Instance => "the name of a law",
-            Part::Numbers => "the number of a hypothesis",
-            Part::Lines | Part::Line => "a line of a certificate",
-            Part::Sum | Part::Multiple => "m * k",
+            Symbol::Part(part) => *part == name,
+            _ => false,
         }
     }
 }
 
+/// A component.
+pub const COMPONENT: &str = "<component>";
+
+/// A file of scripts.
+pub const PROOF_FILE: &str = "<proof-file>";
+
+/// A row: the part is written as these, one behind another.
+#[derive(Drop)]
+pub struct Row {
+    pub part: &'static [u8],
+    pub symbols: Vec<Symbol>,
+}
+
 /// The rows of all parts.
-pub const ROWS: &[Row] = &[
-    Row {
-        part: Part::Component,
-        symbols: &[Symbol::Part(Part::Head), Symbol::Text("END")],
-    },
-    Row {
-        part: Part::Component,
-        symbols: &[
-            Symbol::Part(Part::Head),
-            Symbol::Part(Part::Clauses),
-            Symbol::Text("END"),
-        ],
-    },
-    Row {
-        part: Part::Head,
-        symbols: &[Symbol::Text("MACHINE"), Symbol::Name],
-    },
-    Row {
-        part: Part::Head,
-        symbols: &[
-            Symbol::Text("REFINEMENT"),
-            Symbol::Name,
-            Symbol::Text("REFINES"),
-            Symbol::Name,
-        ],
-    },
-    Row {
-        part: Part::Head,
-        symbols: &[
-            Symbol::Text("IMPLEMENTATION"),
-            Symbol::Name,
-            Symbol::Text("REFINES"),
-            Symbol::Name,
-        ],
-    },
-    Row {
-        part: Part::Clauses,
-        symbols: &[Symbol::Part(Part::Clause)],
-    },
-    Row {
-        part: Part::Clauses,
-        symbols: &[Symbol::Part(Part::Clauses), Symbol::Part(Part::Clause)],
-    },
-    Row {
-        part: Part::Clause,
-        symbols: &[Symbol::Text("SETS"), Symbol::Part(Part::Sets)],
-    },
-    Row {
-        part: Part::Clause,
-        symbols: &[Symbol::Text("CONSTANTS"), Symbol::Part(Part::Names)],
-    },
-    Row {
-        part: Part::Clause,
-        symbols: &[
-            Symbol::Text("CONCRETE_CONSTANTS"),
-            Symbol::Part(Part::Names),
-        ],
-    },
-    Row {
-        part: Part::Clause,
-        symbols: &[Symbol::Text("PROPERTIES"), Symbol::Part(Part::Term)],
-    },
-    Row {
-        part: Part::Clause,
-        symbols: &[Symbol::Text("VARIABLES"), Symbol::Part(Part::Names)],
-    },
-    Row {
-        part: Part::Clause,
-        symbols: &[
-            Symbol::Text("ABSTRACT_VARIABLES"),
-            Symbol::Part(Part::Names),
-        ],
-    },
-    Row {
-        part: Part::Clause,
-        symbols: &[
-            Symbol::Text("CONCRETE_VARIABLES"),
-            Symbol::Part(Part::Names),
-        ],
-    },
-    Row {
-        part: Part::Clause,
-        symbols: &[Symbol::Text("INVARIANT"), Symbol::Part(Part::Term)],
-    },
-    Row {
-        part: Part::Clause,
-        symbols: &[Symbol::Text("ASSERTIONS"), Symbol::Part(Part::Assertions)],
-    },
-    Row {
-        part: Part::Clause,
-        symbols: &[Symbol::Text("VALUES"), Symbol::Part(Part::Values)],
-    },
-    Row {
-        part: Part::Clause,
-        symbols: &[
-            Symbol::Text("INITIALISATION"),
-            Symbol::Part(Part::Substitution),
-        ],
-    },
-    Row {
-        part: Part::Clause,
-        symbols: &[Symbol::Text("OPERATIONS"), Symbol::Part(Part::Operations)],
-    },
-    Row {
-        part: Part::Sets,
-        symbols: &[Symbol::Part(Part::Set)],
-    },
-    Row {
-        part: Part::Sets,
-        symbols: &[
-            Symbol::Part(Part::Sets),
-            Symbol::Text(";"),
-            Symbol::Part(Part::Set),
-        ],
-    },
-    Row {
-        part: Part::Set,
-        symbols: &[
-            Symbol::Name,
-            Symbol::Text("="),
-            Symbol::Text("{"),
-            Symbol::Part(Part::Names),
-            Symbol::Text("}"),
-        ],
-    },
-    Row {
-        part: Part::Names,
-        symbols: &[Symbol::Name],
-    },
-    Row {
-        part: Part::Names,
-        symbols: &[Symbol::Part(Part::Names), Symbol::Text(","), Symbol::Name],
-    },
-    Row {
-        part: Part::Assertions,
-        symbols: &[Symbol::Part(Part::Term)],
-    },
-    Row {
-        part: Part::Assertions,
-        symbols: &[
-            Symbol::Part(Part::Assertions),
-            Symbol::Text(";"),
-            Symbol::Part(Part::Term),
-        ],
-    },
-    Row {
-        part: Part::Values,
-        symbols: &[Symbol::Part(Part::Value)],
-    },
-    Row {
-        part: Part::Values,
-        symbols: &[
-            Symbol::Part(Part::Values),
-            Symbol::Text(";"),
-            Symbol::Part(Part::Value),
-        ],
-    },
-    Row {
-        part: Part::Value,
-        symbols: &[Symbol::Name, Symbol::Text("="), Symbol::Part(Part::Term)],
-    },
-    Row {
-        part: Part::Operations,
-        symbols: &[Symbol::Part(Part::Operation)],
-    },
-    Row {
-        part: Part::Operations,
-        symbols: &[
-            Symbol::Part(Part::Operations),
-            Symbol::Text(";"),
-            Symbol::Part(Part::Operation),
-        ],
-    },
-    Row {
-        part: Part::Operation,
-        symbols: &[
-            Symbol::Part(Part::Header),
-            Symbol::Text("="),
-            Symbol::Part(Part::Substitution),
-        ],
-    },
-    Row {
-        part: Part::Header,
-        symbols: &[Symbol::Name],
-    },
-    Row {
-        part: Part::Header,
-        symbols: &[
-            Symbol::Name,
-            Symbol::Text("("),
-            Symbol::Part(Part::Names),
-            Symbol::Text(")"),
-        ],
-    },
-    Row {
-        part: Part::Header,
-        symbols: &[Symbol::Part(Part::Names), Symbol::Text("<--"), Symbol::Name],
-    },
-    Row {
-        part: Part::Header,
-        symbols: &[
-            Symbol::Part(Part::Names),
-            Symbol::Text("<--"),
-            Symbol::Name,
-            Symbol::Text("("),
-            Symbol::Part(Part::Names),
-            Symbol::Text(")"),
-        ],
-    },
-    Row {
-        part: Part::Substitution,
-        symbols: &[Symbol::Part(Part::Statement)],
-    },
-    Row {
-        part: Part::Substitution,
-        symbols: &[
-            Symbol::Part(Part::Substitution),
-            Symbol::Text(";"),
-            Symbol::Part(Part::Statement),
-        ],
-    },
-    Row {
-        part: Part::Substitution,
-        symbols: &[
-            Symbol::Part(Part::Substitution),
-            Symbol::Text("||"),
-            Symbol::Part(Part::Statement),
-        ],
-    },
-    Row {
-        part: Part::Statement,
-        symbols: &[Symbol::Text("skip")],
-    },
-    Row {
-        part: Part::Statement,
-        symbols: &[
-            Symbol::Part(Part::Names),
-            Symbol::Text(":="),
-            Symbol::Part(Part::Terms),
-        ],
-    },
-    Row {
-        part: Part::Statement,
-        symbols: &[
-            Symbol::Name,
-            Symbol::Text("("),
-            Symbol::Part(Part::Term),
-            Symbol::Text(")"),
-            Symbol::Text(":="),
-            Symbol::Part(Part::Term),
-        ],
-    },
-    Row {
-        part: Part::Statement,
-        symbols: &[Symbol::Name, Symbol::Text("::"), Symbol::Part(Part::Term)],
-    },
-    Row {
-        part: Part::Statement,
-        symbols: &[
-            Symbol::Part(Part::Names),
-            Symbol::Text(":"),
-            Symbol::Text("("),
-            Symbol::Part(Part::Term),
-            Symbol::Text(")"),
-        ],
-    },
-    Row {
-        part: Part::Statement,
-        symbols: &[
-            Symbol::Text("BEGIN"),
-            Symbol::Part(Part::Substitution),
-            Symbol::Text("END"),
-        ],
-    },
-    Row {
-        part: Part::Statement,
-        symbols: &[
-            Symbol::Text("PRE"),
-            Symbol::Part(Part::Term),
-            Symbol::Text("THEN"),
-            Symbol::Part(Part::Substitution),
-            Symbol::Text("END"),
-        ],
-    },
-    Row {
-        part: Part::Statement,
-        symbols: &[
-            Symbol::Text("ASSERT"),
-            Symbol::Part(Part::Term),
-            Symbol::Text("THEN"),
-            Symbol::Part(Part::Substitution),
-            Symbol::Text("END"),
-        ],
-    },
-    Row {
-        part: Part::Statement,
-        symbols: &[
-            Symbol::Text("IF"),
-            Symbol::Part(Part::Condition),
-            Symbol::Text("END"),
-        ],
-    },
-    Row {
-        part: Part::Statement,
-        symbols: &[
-            Symbol::Text("IF"),
-            Symbol::Part(Part::Condition),
-            Symbol::Text("ELSE"),
-            Symbol::Part(Part::Substitution),
-            Symbol::Text("END"),
-        ],
-    },
-    Row {
-        part: Part::Statement,
-        symbols: &[
-            Symbol::Text("CHOICE"),
-            Symbol::Part(Part::Choices),
-            Symbol::Text("END"),
-        ],
-    },
-    Row {
-        part: Part::Statement,
-        symbols: &[
-            Symbol::Text("SELECT"),
-            Symbol::Part(Part::Guards),
-            Symbol::Text("END"),
-        ],
-    },
-    Row {
-        part: Part::Statement,
-        symbols: &[
-            Symbol::Text("SELECT"),
-            Symbol::Part(Part::Guards),
-            Symbol::Text("ELSE"),
-            Symbol::Part(Part::Substitution),
-            Symbol::Text("END"),
-        ],
-    },
-    Row {
-        part: Part::Statement,
-        symbols: &[
-            Symbol::Text("ANY"),
-            Symbol::Part(Part::Names),
-            Symbol::Text("WHERE"),
-            Symbol::Part(Part::Term),
-            Symbol::Text("THEN"),
-            Symbol::Part(Part::Substitution),
-            Symbol::Text("END"),
-        ],
-    },
-    Row {
-        part: Part::Statement,
-        symbols: &[
-            Symbol::Text("LET"),
-            Symbol::Part(Part::Names),
-            Symbol::Text("BE"),
-            Symbol::Part(Part::Term),
-            Symbol::Text("IN"),
-            Symbol::Part(Part::Substitution),
-            Symbol::Text("END"),
-        ],
-    },
-    Row {
-        part: Part::Statement,
-        symbols: &[
-            Symbol::Text("VAR"),
-            Symbol::Part(Part::Names),
-            Symbol::Text("IN"),
-            Symbol::Part(Part::Substitution),
-            Symbol::Text("END"),
-        ],
-    },
-    Row {
-        part: Part::Statement,
-        symbols: &[
-            Symbol::Text("WHILE"),
-            Symbol::Part(Part::Term),
-            Symbol::Text("DO"),
-            Symbol::Part(Part::Substitution),
-            Symbol::Text("INVARIANT"),
-            Symbol::Part(Part::Term),
-            Symbol::Text("VARIANT"),
-            Symbol::Part(Part::Term),
-            Symbol::Text("END"),
-        ],
-    },
-    Row {
-        part: Part::Condition,
-        symbols: &[
-            Symbol::Part(Part::Term),
-            Symbol::Text("THEN"),
-            Symbol::Part(Part::Substitution),
-        ],
-    },
-    Row {
-        part: Part::Condition,
-        symbols: &[
-            Symbol::Part(Part::Condition),
-            Symbol::Text("ELSIF"),
-            Symbol::Part(Part::Term),
-            Symbol::Text("THEN"),
-            Symbol::Part(Part::Substitution),
-        ],
-    },
-    Row {
-        part: Part::Choices,
-        symbols: &[Symbol::Part(Part::Substitution)],
-    },
-    Row {
-        part: Part::Choices,
-        symbols: &[
-            Symbol::Part(Part::Choices),
-            Symbol::Text("OR"),
-            Symbol::Part(Part::Substitution),
-        ],
-    },
-    Row {
-        part: Part::Guards,
-        symbols: &[
-            Symbol::Part(Part::Term),
-            Symbol::Text("THEN"),
-            Symbol::Part(Part::Substitution),
-        ],
-    },
-    Row {
-        part: Part::Guards,
-        symbols: &[
-            Symbol::Part(Part::Guards),
-            Symbol::Text("WHEN"),
-            Symbol::Part(Part::Term),
-            Symbol::Text("THEN"),
-            Symbol::Part(Part::Substitution),
-        ],
-    },
-    Row {
-        part: Part::Terms,
-        symbols: &[Symbol::Part(Part::Term)],
-    },
-    Row {
-        part: Part::Terms,
-        symbols: &[
-            Symbol::Part(Part::Terms),
-            Symbol::Text(","),
-            Symbol::Part(Part::Term),
-        ],
-    },
-    Row {
-        part: Part::Term,
-        symbols: &[Symbol::Part(Part::Operand)],
-    },
-    Row {
-        part: Part::Term,
-        symbols: &[
-            Symbol::Part(Part::Term),
-            Symbol::Part(Part::Operator),
-            Symbol::Part(Part::Operand),
-        ],
-    },
-    Row {
-        part: Part::Operand,
-        symbols: &[Symbol::Part(Part::Primary)],
-    },
-    Row {
-        part: Part::Operand,
-        symbols: &[Symbol::Text("-"), Symbol::Part(Part::Primary)],
-    },
-    Row {
-        part: Part::Primary,
-        symbols: &[Symbol::Name],
-    },
-    Row {
-        part: Part::Primary,
-        symbols: &[Symbol::LevelName],
-    },
-    Row {
-        part: Part::Primary,
-        symbols: &[Symbol::Number],
-    },
-    Row {
-        part: Part::Primary,
-        symbols: &[Symbol::BoundName],
-    },
-    Row {
-        part: Part::Primary,
-        symbols: &[Symbol::Part(Part::Constant)],
-    },
-    Row {
-        part: Part::Primary,
-        symbols: &[
-            Symbol::Part(Part::Word),
-            Symbol::Text("("),
-            Symbol::Part(Part::Term),
-            Symbol::Text(")"),
-        ],
-    },
-    Row {
-        part: Part::Primary,
-        symbols: &[
-            Symbol::Text("("),
-            Symbol::Part(Part::Term),
-            Symbol::Text(")"),
-        ],
-    },
-    Row {
-        part: Part::Primary,
-        symbols: &[
-            Symbol::Text("("),
-            Symbol::Part(Part::Term),
-            Symbol::Text(","),
-            Symbol::Part(Part::Terms),
-            Symbol::Text(")"),
-        ],
-    },
-    Row {
-        part: Part::Primary,
-        symbols: &[
-            Symbol::Text("("),
-            Symbol::Part(Part::Term),
-            Symbol::Text(";"),
-            Symbol::Part(Part::Chain),
-            Symbol::Text(")"),
-        ],
-    },
-    Row {
-        part: Part::Primary,
-        symbols: &[
-            Symbol::Part(Part::Primary),
-            Symbol::Text("("),
-            Symbol::Part(Part::Terms),
-            Symbol::Text(")"),
-        ],
-    },
-    Row {
-        part: Part::Primary,
-        symbols: &[
-            Symbol::Part(Part::Primary),
-            Symbol::Text("["),
-            Symbol::Part(Part::Term),
-            Symbol::Text("]"),
-        ],
-    },
-    Row {
-        part: Part::Primary,
-        symbols: &[Symbol::Part(Part::Primary), Symbol::Text("~")],
-    },
-    Row {
-        part: Part::Primary,
-        symbols: &[Symbol::Text("{"), Symbol::Text("}")],
-    },
-    Row {
-        part: Part::Primary,
-        symbols: &[
-            Symbol::Text("{"),
-            Symbol::Part(Part::Terms),
-            Symbol::Text("}"),
-        ],
-    },
-    Row {
-        part: Part::Primary,
-        symbols: &[
-            Symbol::Text("{"),
-            Symbol::Part(Part::Names),
-            Symbol::Text("|"),
-            Symbol::Part(Part::Term),
-            Symbol::Text("}"),
-        ],
-    },
-    Row {
-        part: Part::Primary,
-        symbols: &[
-            Symbol::Text("{"),
-            Symbol::Text(":"),
-            Symbol::Part(Part::Type),
-            Symbol::Text("}"),
-        ],
-    },
-    Row {
-        part: Part::Primary,
-        symbols: &[
-            Symbol::Text("%"),
-            Symbol::Part(Part::Binder),
-            Symbol::Text("."),
-            Symbol::Text("("),
-            Symbol::Part(Part::Term),
-            Symbol::Text("|"),
-            Symbol::Part(Part::Term),
-            Symbol::Text(")"),
-        ],
-    },
-    Row {
-        part: Part::Primary,
-        symbols: &[
-            Symbol::Text("!"),
-            Symbol::Part(Part::Binder),
-            Symbol::Text("."),
-            Symbol::Text("("),
-            Symbol::Part(Part::Term),
-            Symbol::Text(")"),
-        ],
-    },
-    Row {
-        part: Part::Primary,
-        symbols: &[
-            Symbol::Text("#"),
-            Symbol::Part(Part::Binder),
-            Symbol::Text("."),
-            Symbol::Text("("),
-            Symbol::Part(Part::Term),
-            Symbol::Text(")"),
-        ],
-    },
-    Row {
-        part: Part::Chain,
-        symbols: &[Symbol::Part(Part::Term)],
-    },
-    Row {
-        part: Part::Chain,
-        symbols: &[
-            Symbol::Part(Part::Chain),
-            Symbol::Text(";"),
-            Symbol::Part(Part::Term),
-        ],
-    },
-    Row {
-        part: Part::Binder,
-        symbols: &[Symbol::Name],
-    },
-    Row {
-        part: Part::Binder,
-        symbols: &[
-            Symbol::Text("("),
-            Symbol::Part(Part::Names),
-            Symbol::Text(")"),
-        ],
-    },
-    Row {
-        part: Part::Binder,
-        symbols: &[
-            Symbol::Text("("),
-            Symbol::Part(Part::Bounds),
-            Symbol::Text(")"),
-        ],
-    },
-    Row {
-        part: Part::Bounds,
-        symbols: &[
-            Symbol::BoundName,
-            Symbol::Text(":"),
-            Symbol::Part(Part::Type),
-        ],
-    },
-    Row {
-        part: Part::Bounds,
-        symbols: &[
-            Symbol::Part(Part::Bounds),
-            Symbol::Text(","),
-            Symbol::BoundName,
-            Symbol::Text(":"),
-            Symbol::Part(Part::Type),
-        ],
-    },
-    Row {
-        part: Part::Type,
-        symbols: &[Symbol::Text("INTEGER")],
-    },
-    Row {
-        part: Part::Type,
-        symbols: &[Symbol::Text("BOOL")],
-    },
-    Row {
-        part: Part::Type,
-        symbols: &[Symbol::Name],
-    },
-    Row {
-        part: Part::Type,
-        symbols: &[
-            Symbol::Text("POW"),
-            Symbol::Text("("),
-            Symbol::Part(Part::Type),
-            Symbol::Text(")"),
-        ],
-    },
-    Row {
-        part: Part::Type,
-        symbols: &[
-            Symbol::Text("("),
-            Symbol::Part(Part::Type),
-            Symbol::Text("*"),
-            Symbol::Part(Part::Type),
-            Symbol::Text(")"),
-        ],
-    },
-    Row {
-        part: Part::Constant,
-        symbols: &[Symbol::Text("BOOL")],
-    },
-    Row {
-        part: Part::Constant,
-        symbols: &[Symbol::Text("TRUE")],
-    },
-    Row {
-        part: Part::Constant,
-        symbols: &[Symbol::Text("FALSE")],
-    },
-    Row {
-        part: Part::Constant,
-        symbols: &[Symbol::Text("INTEGER")],
-    },
-    Row {
-        part: Part::Constant,
-        symbols: &[Symbol::Text("NATURAL")],
-    },
-    Row {
-        part: Part::Constant,
-        symbols: &[Symbol::Text("NATURAL1")],
-    },
-    Row {
-        part: Part::Constant,
-        symbols: &[Symbol::Text("INT")],
-    },
-    Row {
-        part: Part::Constant,
-        symbols: &[Symbol::Text("NAT")],
-    },
-    Row {
-        part: Part::Constant,
-        symbols: &[Symbol::Text("NAT1")],
-    },
-    Row {
-        part: Part::Constant,
-        symbols: &[Symbol::Text("MAXINT")],
-    },
-    Row {
-        part: Part::Constant,
-        symbols: &[Symbol::Text("MININT")],
-    },
-    Row {
-        part: Part::Constant,
-        symbols: &[Symbol::Text("btrue")],
-    },
-    Row {
-        part: Part::Constant,
-        symbols: &[Symbol::Text("bfalse")],
-    },
-    Row {
-        part: Part::Word,
-        symbols: &[Symbol::Text("not")],
-    },
-    Row {
-        part: Part::Word,
-        symbols: &[Symbol::Text("card")],
-    },
-    Row {
-        part: Part::Word,
-        symbols: &[Symbol::Text("min")],
-    },
-    Row {
-        part: Part::Word,
-        symbols: &[Symbol::Text("max")],
-    },
-    Row {
-        part: Part::Word,
-        symbols: &[Symbol::Text("dom")],
-    },
-    Row {
-        part: Part::Word,
-        symbols: &[Symbol::Text("ran")],
-    },
-    Row {
-        part: Part::Word,
-        symbols: &[Symbol::Text("id")],
-    },
-    Row {
-        part: Part::Word,
-        symbols: &[Symbol::Text("succ")],
-    },
-    Row {
-        part: Part::Word,
-        symbols: &[Symbol::Text("pred")],
-    },
-    Row {
-        part: Part::Word,
-        symbols: &[Symbol::Text("bool")],
-    },
-    Row {
-        part: Part::Word,
-        symbols: &[Symbol::Text("POW")],
-    },
-    Row {
-        part: Part::Word,
-        symbols: &[Symbol::Text("POW1")],
-    },
-    Row {
-        part: Part::Word,
-        symbols: &[Symbol::Text("FIN")],
-    },
-    Row {
-        part: Part::Word,
-        symbols: &[Symbol::Text("FIN1")],
-    },
-    Row {
-        part: Part::Operator,
-        symbols: &[Symbol::Text("<=>")],
-    },
-    Row {
-        part: Part::Operator,
-        symbols: &[Symbol::Text("=>")],
-    },
-    Row {
-        part: Part::Operator,
-        symbols: &[Symbol::Text("&")],
-    },
-    Row {
-        part: Part::Operator,
-        symbols: &[Symbol::Text("or")],
-    },
-    Row {
-        part: Part::Operator,
-        symbols: &[Symbol::Text("=")],
-    },
-    Row {
-        part: Part::Operator,
-        symbols: &[Symbol::Text("/=")],
-    },
-    Row {
-        part: Part::Operator,
-        symbols: &[Symbol::Text("<")],
-    },
-    Row {
-        part: Part::Operator,
-        symbols: &[Symbol::Text("<=")],
-    },
-    Row {
-        part: Part::Operator,
-        symbols: &[Symbol::Text(">")],
-    },
-    Row {
-        part: Part::Operator,
-        symbols: &[Symbol::Text(">=")],
-    },
-    Row {
-        part: Part::Operator,
-        symbols: &[Symbol::Text(":")],
-    },
-    Row {
-        part: Part::Operator,
-        symbols: &[Symbol::Text("/:")],
-    },
-    Row {
-        part: Part::Operator,
-        symbols: &[Symbol::Text("<:")],
-    },
-    Row {
-        part: Part::Operator,
-        symbols: &[Symbol::Text("/<:")],
-    },
-    Row {
-        part: Part::Operator,
-        symbols: &[Symbol::Text("<<:")],
-    },
-    Row {
-        part: Part::Operator,
-        symbols: &[Symbol::Text("<->")],
-    },
-    Row {
-        part: Part::Operator,
-        symbols: &[Symbol::Text("+->")],
-    },
-    Row {
-        part: Part::Operator,
-        symbols: &[Symbol::Text("-->")],
-    },
-    Row {
-        part: Part::Operator,
-        symbols: &[Symbol::Text(">+>")],
-    },
-    Row {
-        part: Part::Operator,
-        symbols: &[Symbol::Text(">->")],
-    },
-    Row {
-        part: Part::Operator,
-        symbols: &[Symbol::Text("+->>")],
-    },
-    Row {
-        part: Part::Operator,
-        symbols: &[Symbol::Text("-->>")],
-    },
-    Row {
-        part: Part::Operator,
-        symbols: &[Symbol::Text(">->>")],
-    },
-    Row {
-        part: Part::Operator,
-        symbols: &[Symbol::Text("\\/")],
-    },
-    Row {
-        part: Part::Operator,
-        symbols: &[Symbol::Text("/\\")],
-    },
-    Row {
-        part: Part::Operator,
-        symbols: &[Symbol::Text("<|")],
-    },
-    Row {
-        part: Part::Operator,
-        symbols: &[Symbol::Text("|>")],
-    },
-    Row {
-        part: Part::Operator,
-        symbols: &[Symbol::Text("<<|")],
-    },
-    Row {
-        part: Part::Operator,
-        symbols: &[Symbol::Text("|>>")],
-    },
-    Row {
-        part: Part::Operator,
-        symbols: &[Symbol::Text("<+")],
-    },
-    Row {
-        part: Part::Operator,
-        symbols: &[Symbol::Text("|->")],
-    },
-    Row {
-        part: Part::Operator,
-        symbols: &[Symbol::Text("..")],
-    },
-    Row {
-        part: Part::Operator,
-        symbols: &[Symbol::Text("+")],
-    },
-    Row {
-        part: Part::Operator,
-        symbols: &[Symbol::Text("-")],
-    },
-    Row {
-        part: Part::Operator,
-        symbols: &[Symbol::Text("*")],
-    },
-    Row {
-        part: Part::Operator,
-        symbols: &[Symbol::Text("/")],
-    },
-    Row {
-        part: Part::Operator,
-        symbols: &[Symbol::Text("mod")],
-    },
-    Row {
-        part: Part::Operator,
-        symbols: &[Symbol::Text("**")],
-    },
-    Row {
-        part: Part::ProofFile,
-        symbols: &[Symbol::Part(Part::Script)],
-    },
-    Row {
-        part: Part::ProofFile,
-        symbols: &[Symbol::Part(Part::ProofFile), Symbol::Part(Part::Script)],
-    },
-    Row {
-        part: Part::Script,
-        symbols: &[
-            Symbol::Text("proof"),
-            Symbol::Part(Part::Path),
-            Symbol::Text("end"),
-        ],
-    },
-    Row {
-        part: Part::Script,
-        symbols: &[
-            Symbol::Text("proof"),
-            Symbol::Part(Part::Path),
-            Symbol::Part(Part::Rules),
-            Symbol::Text("end"),
-        ],
-    },
-    Row {
-        part: Part::Path,
-        symbols: &[Symbol::Part(Part::Piece)],
-    },
-    Row {
-        part: Part::Path,
-        symbols: &[
-            Symbol::Part(Part::Path),
-            Symbol::Text("."),
-            Symbol::Part(Part::Piece),
-        ],
-    },
-    Row {
-        part: Part::Piece,
-        symbols: &[Symbol::Name],
-    },
-    Row {
-        part: Part::Piece,
-        symbols: &[Symbol::Number],
-    },
-    Row {
-        part: Part::Piece,
-        symbols: &[Symbol::Text("INITIALISATION")],
-    },
-    Row {
-        part: Part::Piece,
-        symbols: &[Symbol::Text("PROPERTIES")],
-    },
-    Row {
-        part: Part::Piece,
-        symbols: &[Symbol::Text("INVARIANT")],
-    },
-    Row {
-        part: Part::Piece,
-        symbols: &[Symbol::Text("ASSERTIONS")],
-    },
-    Row {
-        part: Part::Piece,
-        symbols: &[Symbol::Text("VALUES")],
-    },
-    Row {
-        part: Part::Rules,
-        symbols: &[Symbol::Part(Part::Rule)],
-    },
-    Row {
-        part: Part::Rules,
-        symbols: &[
-            Symbol::Part(Part::Rules),
-            Symbol::Text(";"),
-            Symbol::Part(Part::Rule),
-        ],
-    },
-    Row {
-        part: Part::Rule,
-        symbols: &[Symbol::Text("hyp"), Symbol::Number],
-    },
-    Row {
-        part: Part::Rule,
-        symbols: &[Symbol::Text("false"), Symbol::Number],
-    },
-    Row {
-        part: Part::Rule,
-        symbols: &[Symbol::Text("split"), Symbol::Number],
-    },
-    Row {
-        part: Part::Rule,
-        symbols: &[Symbol::Text("cases"), Symbol::Number],
-    },
-    Row {
-        part: Part::Rule,
-        symbols: &[Symbol::Text("apply"), Symbol::Number],
-    },
-    Row {
-        part: Part::Rule,
-        symbols: &[Symbol::Text("drop"), Symbol::Number],
-    },
-    Row {
-        part: Part::Rule,
-        symbols: &[Symbol::Text("interval"), Symbol::Number],
-    },
-    Row {
-        part: Part::Rule,
-        symbols: &[Symbol::Text("absurd"), Symbol::Number, Symbol::Number],
-    },
-    Row {
-        part: Part::Rule,
-        symbols: &[Symbol::Text("true")],
-    },
-    Row {
-        part: Part::Rule,
-        symbols: &[Symbol::Text("same")],
-    },
-    Row {
-        part: Part::Rule,
-        symbols: &[Symbol::Text("eval")],
-    },
-    Row {
-        part: Part::Rule,
-        symbols: &[Symbol::Text("and")],
-    },
-    Row {
-        part: Part::Rule,
-        symbols: &[Symbol::Text("iff")],
-    },
-    Row {
-        part: Part::Rule,
-        symbols: &[Symbol::Text("imp")],
-    },
-    Row {
-        part: Part::Rule,
-        symbols: &[Symbol::Text("not")],
-    },
-    Row {
-        part: Part::Rule,
-        symbols: &[Symbol::Text("left")],
-    },
-    Row {
-        part: Part::Rule,
-        symbols: &[Symbol::Text("right")],
-    },
-    Row {
-        part: Part::Rule,
-        symbols: &[Symbol::Text("or")],
-    },
-    Row {
-        part: Part::Rule,
-        symbols: &[Symbol::Text("contra")],
-    },
-    Row {
-        part: Part::Rule,
-        symbols: &[Symbol::Text("induct")],
-    },
-    Row {
-        part: Part::Rule,
-        symbols: &[Symbol::Text("poly")],
-    },
-    Row {
-        part: Part::Rule,
-        symbols: &[Symbol::Text("eval"), Symbol::Part(Part::Place)],
-    },
-    Row {
-        part: Part::Rule,
-        symbols: &[Symbol::Text("fix"), Symbol::Part(Part::Typed)],
-    },
-    Row {
-        part: Part::Rule,
-        symbols: &[Symbol::Text("use"), Symbol::Part(Part::Terms)],
-    },
-    Row {
-        part: Part::Rule,
-        symbols: &[
-            Symbol::Text("inst"),
-            Symbol::Number,
-            Symbol::Part(Part::Terms),
-        ],
-    },
-    Row {
-        part: Part::Rule,
-        symbols: &[
-            Symbol::Text("open"),
-            Symbol::Number,
-            Symbol::Part(Part::Typed),
-        ],
-    },
-    Row {
-        part: Part::Rule,
-        symbols: &[Symbol::Text("cut"), Symbol::Part(Part::Term)],
-    },
-    Row {
-        part: Part::Rule,
-        symbols: &[Symbol::Text("case"), Symbol::Part(Part::Term)],
-    },
-    Row {
-        part: Part::Rule,
-        symbols: &[
-            Symbol::Text("eq"),
-            Symbol::Number,
-            Symbol::Part(Part::Place),
-        ],
-    },
-    Row {
-        part: Part::Rule,
-        symbols: &[
-            Symbol::Text("qe"),
-            Symbol::Number,
-            Symbol::Part(Part::Place),
-        ],
-    },
-    Row {
-        part: Part::Rule,
-        symbols: &[
-            Symbol::Text("law"),
-            Symbol::Part(Part::Instance),
-            Symbol::Part(Part::Place),
-        ],
-    },
-    Row {
-        part: Part::Rule,
-        symbols: &[
-            Symbol::Text("wal"),
-            Symbol::Part(Part::Instance),
-            Symbol::Part(Part::Place),
-        ],
-    },
-    Row {
-        part: Part::Rule,
-        symbols: &[Symbol::Text("type"), Symbol::Part(Part::Place)],
-    },
-    Row {
-        part: Part::Rule,
-        symbols: &[Symbol::Text("neg"), Symbol::Part(Part::Place)],
-    },
-    Row {
-        part: Part::Rule,
-        symbols: &[Symbol::Text("mem"), Symbol::Part(Part::Place)],
-    },
-    Row {
-        part: Part::Rule,
-        symbols: &[Symbol::Text("val"), Symbol::Part(Part::Place)],
-    },
-    Row {
-        part: Part::Rule,
-        symbols: &[Symbol::Text("ext"), Symbol::Part(Part::Place)],
-    },
-    Row {
-        part: Part::Rule,
-        symbols: &[Symbol::Text("sub"), Symbol::Part(Part::Place)],
-    },
-    Row {
-        part: Part::Rule,
-        symbols: &[Symbol::Text("ex"), Symbol::Part(Part::Place)],
-    },
-    Row {
-        part: Part::Rule,
-        symbols: &[Symbol::Text("pair"), Symbol::Part(Part::Term)],
-    },
-    Row {
-        part: Part::Rule,
-        symbols: &[Symbol::Text("elems"), Symbol::Part(Part::Term)],
-    },
-    Row {
-        part: Part::Rule,
-        symbols: &[
-            Symbol::Text("lin"),
-            Symbol::Part(Part::Numbers),
-            Symbol::Text(":"),
-            Symbol::Part(Part::Lines),
-        ],
-    },
-    Row {
-        part: Part::Rule,
-        symbols: &[
-            Symbol::Text("lin"),
-            Symbol::Text(":"),
-            Symbol::Part(Part::Lines),
-        ],
-    },
-    Row {
-        part: Part::Place,
-        symbols: &[Symbol::Text("goal")],
-    },
-    Row {
-        part: Part::Place,
-        symbols: &[Symbol::Text("goal"), Symbol::Part(Part::Children)],
-    },
-    Row {
-        part: Part::Place,
-        symbols: &[Symbol::Text("hyp"), Symbol::Number],
-    },
-    Row {
-        part: Part::Place,
-        symbols: &[
-            Symbol::Text("hyp"),
-            Symbol::Number,
-            Symbol::Part(Part::Children),
-        ],
-    },
-    Row {
-        part: Part::Children,
-        symbols: &[Symbol::Number],
-    },
-    Row {
-        part: Part::Children,
-        symbols: &[Symbol::Part(Part::Children), Symbol::Number],
-    },
-    Row {
-        part: Part::Typed,
-        symbols: &[Symbol::Name, Symbol::Text(":"), Symbol::Part(Part::Type)],
-    },
-    Row {
-        part: Part::Typed,
-        symbols: &[
-            Symbol::Part(Part::Typed),
-            Symbol::Text(","),
-            Symbol::Name,
-            Symbol::Text(":"),
-            Symbol::Part(Part::Type),
-        ],
-    },
-    Row {
-        part: Part::Instance,
-        symbols: &[Symbol::Name],
-    },
-    Row {
-        part: Part::Instance,
-        symbols: &[Symbol::Name, Symbol::Text("("), Symbol::Text(")")],
-    },
-    Row {
-        part: Part::Instance,
-        symbols: &[
-            Symbol::Name,
-            Symbol::Text("("),
-            Symbol::Part(Part::Terms),
-            Symbol::Text(")"),
-        ],
-    },
-    Row {
-        part: Part::Numbers,
-        symbols: &[Symbol::Number],
-    },
-    Row {
-        part: Part::Numbers,
-        symbols: &[
-            Symbol::Part(Part::Numbers),
-            Symbol::Text(","),
-            Symbol::Number,
-        ],
-    },
-    Row {
-        part: Part::Lines,
-        symbols: &[Symbol::Part(Part::Line)],
-    },
-    Row {
-        part: Part::Lines,
-        symbols: &[
-            Symbol::Part(Part::Lines),
-            Symbol::Text("|"),
-            Symbol::Part(Part::Line),
-        ],
-    },
-    Row {
-        part: Part::Line,
-        symbols: &[Symbol::Part(Part::Sum)],
-    },
-    Row {
-        part: Part::Line,
-        symbols: &[Symbol::Number, Symbol::Text("/"), Symbol::Number],
-    },
-    Row {
-        part: Part::Sum,
-        symbols: &[Symbol::Part(Part::Multiple)],
-    },
-    Row {
-        part: Part::Sum,
-        symbols: &[
-            Symbol::Part(Part::Sum),
-            Symbol::Text("+"),
-            Symbol::Part(Part::Multiple),
-        ],
-    },
-    Row {
-        part: Part::Multiple,
-        symbols: &[Symbol::Number, Symbol::Text("*"), Symbol::Number],
-    },
-    Row {
-        part: Part::Multiple,
-        symbols: &[
-            Symbol::Text("-"),
-            Symbol::Number,
-            Symbol::Text("*"),
-            Symbol::Number,
-        ],
-    },
-];
+pub fn rows(alloc: Global) -> Result<Vec<Row>, Memory> {
+    let mut rows = Vec::new(alloc);
+    let mut rest: &'static [u8] = ROWS.as_bytes();
+    for _ in 0..rest.len() {
+        let Some((line, behind)) = first_line(rest) else {
+            return Ok(rows);
+        };
+        rows.push(row_of(alloc, line)?)?;
+        rest = behind;
+    }
+    Ok(rows)
+}
+
+// The row of a line: the part, and what it is written as, with a blank between two.
+fn row_of(alloc: Global, line: &'static [u8]) -> Result<Row, Memory> {
+    let (part, mut rest) = first_word(line);
+    let mut symbols = Vec::new(alloc);
+    for _ in 0..line.len() {
+        if rest.is_empty() {
+            return Ok(Row { part, symbols });
+        }
+        let (word, behind) = first_word(rest);
+        symbols.push(symbol_of(word))?;
+        rest = behind;
+    }
+    Ok(Row { part, symbols })
+}
+
+// What stands before the first blank, and what behind it.
+fn first_word(text: &[u8]) -> (&[u8], &[u8]) {
+    match text.iter().position(|byte| *byte == b' ') {
+        Some(end) => (&text[..end], &text[end + 1..]),
+        None => (text, &[]),
+    }
+}
+
+// What a word of a row is.
+fn symbol_of(word: &'static [u8]) -> Symbol {
+    if !is_in_brackets(word) {
+        return Symbol::Text(word);
+    }
+    if word == b"<name>".as_slice() {
+        return Symbol::Name;
+    }
+    if word == b"<number>".as_slice() {
+        return Symbol::Number;
+    }
+    if word == b"<level-name>".as_slice() {
+        return Symbol::LevelName;
+    }
+    if word == b"<bound-name>".as_slice() {
+        return Symbol::BoundName;
+    }
+    Symbol::Part(word)
+}
+
+// Whether a word is no token: a small letter stands behind its `<`.
+fn is_in_brackets(word: &[u8]) -> bool {
+    match word {
+        [b'<', first, ..] => first.is_ascii_lowercase(),
+        _ => false,
+    }
+}
+
+/// What a part is, in words.
+pub fn part_words(part: &[u8]) -> &'static [u8] {
+    let mut rest: &'static [u8] = WORDS.as_bytes();
+    for _ in 0..rest.len() {
+        let Some((line, behind)) = first_line(rest) else {
+            return b"a part";
+        };
+        let (name, words) = first_word(line);
+        if name == part {
+            return words;
+        }
+        rest = behind;
+    }
+    b"a part"
+}
+
+// Each part, and what it is.
+const WORDS: &str = "<component> a component
+<head> MACHINE, REFINEMENT or IMPLEMENTATION
+<clauses> a clause
+<clause> a clause
+<sets> a set, S = {a, b}
+<set> a set, S = {a, b}
+<names> a name
+<assertions> a predicate
+<values> a value, c = 1
+<value> a value, c = 1
+<operations> an operation
+<operation> an operation
+<header> an operation
+<substitution> a substitution
+<statement> a substitution
+<choices> a substitution
+<condition> a condition
+<guards> a condition
+<terms> a term
+<term> a term
+<operand> a term
+<primary> a term
+<chain> a term
+<constant> a term
+<word> a term
+<binder> a name, or names in parentheses
+<bounds> $1 and its type
+<type> a type
+<operator> an operator
+<proof-file> proof
+<script> proof
+<path> the name of an obligation
+<piece> a part of a name
+<rules> a rule
+<rule> a rule
+<place> a place, goal or hyp i
+<children> the number of a child
+<typed> a name and its type, x : T
+<instance> the name of a law
+<numbers> the number of a hypothesis
+<lines> a line of a certificate
+<line> a line of a certificate
+<sum> m * k
+<multiple> m * k
+";
+
+// Each row.
+const ROWS: &str = "<component> <head> END
+<component> <head> <clauses> END
+<head> MACHINE <name>
+<head> REFINEMENT <name> REFINES <name>
+<head> IMPLEMENTATION <name> REFINES <name>
+<clauses> <clause>
+<clauses> <clauses> <clause>
+<clause> SETS <sets>
+<clause> CONSTANTS <names>
+<clause> CONCRETE_CONSTANTS <names>
+<clause> PROPERTIES <term>
+<clause> VARIABLES <names>
+<clause> ABSTRACT_VARIABLES <names>
+<clause> CONCRETE_VARIABLES <names>
+<clause> INVARIANT <term>
+<clause> ASSERTIONS <assertions>
+<clause> VALUES <values>
+<clause> INITIALISATION <substitution>
+<clause> OPERATIONS <operations>
+<sets> <set>
+<sets> <sets> ; <set>
+<set> <name> = { <names> }
+<names> <name>
+<names> <names> , <name>
+<assertions> <term>
+<assertions> <assertions> ; <term>
+<values> <value>
+<values> <values> ; <value>
+<value> <name> = <term>
+<operations> <operation>
+<operations> <operations> ; <operation>
+<operation> <header> = <substitution>
+<header> <name>
+<header> <name> ( <names> )
+<header> <names> <-- <name>
+<header> <names> <-- <name> ( <names> )
+<substitution> <statement>
+<substitution> <substitution> ; <statement>
+<substitution> <substitution> || <statement>
+<statement> skip
+<statement> <names> := <terms>
+<statement> <name> ( <term> ) := <term>
+<statement> <name> :: <term>
+<statement> <names> : ( <term> )
+<statement> BEGIN <substitution> END
+<statement> PRE <term> THEN <substitution> END
+<statement> ASSERT <term> THEN <substitution> END
+<statement> IF <condition> END
+<statement> IF <condition> ELSE <substitution> END
+<statement> CHOICE <choices> END
+<statement> SELECT <guards> END
+<statement> SELECT <guards> ELSE <substitution> END
+<statement> ANY <names> WHERE <term> THEN <substitution> END
+<statement> LET <names> BE <term> IN <substitution> END
+<statement> VAR <names> IN <substitution> END
+<statement> WHILE <term> DO <substitution> INVARIANT <term> VARIANT <term> END
+<condition> <term> THEN <substitution>
+<condition> <condition> ELSIF <term> THEN <substitution>
+<choices> <substitution>
+<choices> <choices> OR <substitution>
+<guards> <term> THEN <substitution>
+<guards> <guards> WHEN <term> THEN <substitution>
+<terms> <term>
+<terms> <terms> , <term>
+<term> <operand>
+<term> <term> <operator> <operand>
+<operand> <primary>
+<operand> - <primary>
+<primary> <name>
+<primary> <level-name>
+<primary> <number>
+<primary> <bound-name>
+<primary> <constant>
+<primary> <word> ( <term> )
+<primary> ( <term> )
+<primary> ( <term> , <terms> )
+<primary> ( <term> ; <chain> )
+<primary> <primary> ( <terms> )
+<primary> <primary> [ <term> ]
+<primary> <primary> ~
+<primary> { }
+<primary> { <terms> }
+<primary> { <names> | <term> }
+<primary> { : <type> }
+<primary> % <binder> . ( <term> | <term> )
+<primary> ! <binder> . ( <term> )
+<primary> # <binder> . ( <term> )
+<chain> <term>
+<chain> <chain> ; <term>
+<binder> <name>
+<binder> ( <names> )
+<binder> ( <bounds> )
+<bounds> <bound-name> : <type>
+<bounds> <bounds> , <bound-name> : <type>
+<type> INTEGER
+<type> BOOL
+<type> <name>
+<type> POW ( <type> )
+<type> ( <type> * <type> )
+<constant> BOOL
+<constant> TRUE
+<constant> FALSE
+<constant> INTEGER
+<constant> NATURAL
+<constant> NATURAL1
+<constant> INT
+<constant> NAT
+<constant> NAT1
+<constant> MAXINT
+<constant> MININT
+<constant> btrue
+<constant> bfalse
+<word> not
+<word> card
+<word> min
+<word> max
+<word> dom
+<word> ran
+<word> id
+<word> succ
+<word> pred
+<word> bool
+<word> POW
+<word> POW1
+<word> FIN
+<word> FIN1
+<operator> <=>
+<operator> =>
+<operator> &
+<operator> or
+<operator> =
+<operator> /=
+<operator> <
+<operator> <=
+<operator> >
+<operator> >=
+<operator> :
+<operator> /:
+<operator> <:
+<operator> /<:
+<operator> <<:
+<operator> <->
+<operator> +->
+<operator> -->
+<operator> >+>
+<operator> >->
+<operator> +->>
+<operator> -->>
+<operator> >->>
+<operator> \\/
+<operator> /\\
+<operator> <|
+<operator> |>
+<operator> <<|
+<operator> |>>
+<operator> <+
+<operator> |->
+<operator> ..
+<operator> +
+<operator> -
+<operator> *
+<operator> /
+<operator> mod
+<operator> **
+<proof-file> <script>
+<proof-file> <proof-file> <script>
+<script> proof <path> end
+<script> proof <path> <rules> end
+<path> <piece>
+<path> <path> . <piece>
+<piece> <name>
+<piece> <number>
+<piece> INITIALISATION
+<piece> PROPERTIES
+<piece> INVARIANT
+<piece> ASSERTIONS
+<piece> VALUES
+<rules> <rule>
+<rules> <rules> ; <rule>
+<rule> hyp <number>
+<rule> false <number>
+<rule> split <number>
+<rule> cases <number>
+<rule> apply <number>
+<rule> drop <number>
+<rule> interval <number>
+<rule> absurd <number> <number>
+<rule> true
+<rule> same
+<rule> eval
+<rule> and
+<rule> iff
+<rule> imp
+<rule> not
+<rule> left
+<rule> right
+<rule> or
+<rule> contra
+<rule> induct
+<rule> poly
+<rule> eval <place>
+<rule> fix <typed>
+<rule> use <terms>
+<rule> inst <number> <terms>
+<rule> open <number> <typed>
+<rule> cut <term>
+<rule> case <term>
+<rule> eq <number> <place>
+<rule> qe <number> <place>
+<rule> law <instance> <place>
+<rule> wal <instance> <place>
+<rule> type <place>
+<rule> neg <place>
+<rule> mem <place>
+<rule> val <place>
+<rule> ext <place>
+<rule> sub <place>
+<rule> ex <place>
+<rule> pair <term>
+<rule> elems <term>
+<rule> lin <numbers> : <lines>
+<rule> lin : <lines>
+<place> goal
+<place> goal <children>
+<place> hyp <number>
+<place> hyp <number> <children>
+<children> <number>
+<children> <children> <number>
+<typed> <name> : <type>
+<typed> <typed> , <name> : <type>
+<instance> <name>
+<instance> <name> ( )
+<instance> <name> ( <terms> )
+<numbers> <number>
+<numbers> <numbers> , <number>
+<lines> <line>
+<lines> <lines> | <line>
+<line> <sum>
+<line> <number> / <number>
+<sum> <multiple>
+<sum> <sum> + <multiple>
+<multiple> <number> * <number>
+<multiple> - <number> * <number>
+";
