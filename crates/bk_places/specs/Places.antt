@@ -1,6 +1,6 @@
 -- Lines and columns of a text, as editors count them: both from 1, a column being a character of UTF-8 (RFC 3629, section 3: all bytes of a
 -- character but its first are 128 to 191).
-use Rattle.std.specs.Prelude.{ℕ, suc, ◌+◌, Bool, ◌||◌, nat_eq, nat_lt, cond, not, List, [], ◌∷◌, take, count_by, slice_index_or}
+use Rattle.std.specs.Prelude.{ℕ, zero, suc, ◌+◌, Bool, ◌||◌, nat_eq, nat_lt, cond, not, List, [], ◌∷◌, take, count_by, slice_index_or}
 use Rattle.std.specs.Str.Lines.{lines}
 
 -- how many lines end in a text
@@ -33,5 +33,5 @@ column_of text at = characters (last_line (take at text)) + 1
 
 -- the n-th line, from 1, without its end
 abbrev pub line_text : List ℕ → ℕ → List ℕ
-line_text text 0 = []
+line_text text zero = []
 line_text text (suc n) = slice_index_or (lines text) n []

@@ -21,7 +21,7 @@ fn line_behind(text: &[u8], others: usize) -> &[u8]
     ensures { result.now ≡ slice_index_or (lines text.now) others [] }
 {
     let mut rest = text;
-    for _number in 0..others {
+    for number in 0..others {
         let Some((_, behind)) = first_line(rest) else {
             return &[];
         };

@@ -1,37 +1,39 @@
 -- Proof files that have lost rules, and prove what they proved.
-use Rattle.std.specs.Prelude.{◌≡◌, ◌≤◌, ◌⊎◌, ℕ, List, [], ◌∷◌, length, Contains}
-use Rattle.std.specs.List.{AllZip}
+use Rattle.std.specs.Prelude.{◌≡◌, ◌⊎◌, ◌<◌, ◌^◌, ℕ, List, [], ◌∷◌, length, map}
 use Rattle.bk_form.specs.Table.{Table}
+use Rattle.bk_form.specs.Each.{Each}
 use Rattle.bk_dev.specs.Development.{Development}
-use Rattle.bk_seq.specs.Sequents.{Sequent}
+use Rattle.bk_dev.specs.Flattened.{flattened}
+use Rattle.bk_seq.specs.Sequents.{sequent_of, Types, IsWithin}
 use Rattle.bk_raw.specs.Trees.ScriptTree.{RawScript}
 use Rattle.bk_p_proof.specs.Files.{AreScriptsOf}
-use Rattle.bk_kernel.specs.Derivations.{Derives}
-use Rattle.bk_kernel.specs.declared.rule.Rule.{Rule}
-use Rattle.bk_scripts.specs.Grounding.{IsGrounded}
-use Rattle.bk_status.specs.States.{name_text}
+use Rattle.bk_po.specs.Shown.{named_sequent}
+use Rattle.bk_po.specs.declared.obligation.Obligation.{Obligation}
+use Rattle.bk_status.specs.Rows.{HasRows}
+use Rattle.bk_status.specs.Replayable.{IsReplayable}
+use Rattle.bk_status.specs.declared.table.Row.{Row}
+use Rattle.bk_prune.specs.declared.work.Work.{Work}
 
--- the rules that the script stands for derive the sequent
-pub record ProvesSequent (dev : Development) (script : RawScript) (s : Sequent) : Type 0 where
-  pub rules : List Rule
-  pub table : Table
-  pub grounded : IsGrounded dev script rules table
-  pub derives : Derives table rules s
+-- the text reads as scripts, and with them alone the status table of the development is the one that these scripts make
+pub record HasStatesOf (dev : Development) (before : List RawScript) (text : List ℕ) : Type 0 where
+  pub after : List RawScript
+  pub reads : AreScriptsOf (text ∷ []) after
+  pub rows : List Row
+  pub rows_before : HasRows dev before rows
+  pub rows_after : HasRows dev after rows
 
--- some obligation has the script's name, and the script proves it
-pub record IsProofOf (dev : Development) (list : List (List ℕ × Sequent)) (script : RawScript) : Type 0 where
-  pub obligation : List ℕ × Sequent
-  pub listed : Contains list obligation
-  pub named : obligation.0 ≡ name_text script.name
-  pub proves : ProvesSequent dev script obligation.1
+-- the new text reads as scripts that prove what those of the old text proved; a text for which this does not hold stays as it is
+abbrev pub IsPrunedFile : Development → List ℕ → List ℕ → Type 0
+IsPrunedFile dev text pruned = (pruned ≡ text) ⊎ ((before : List RawScript) × AreScriptsOf (text ∷ []) before × HasStatesOf dev before pruned)
 
--- it has the other's name and at most as many rules, and proves an obligation where the other does
-pub record IsPrunedScript (dev : Development) (list : List (List ℕ × Sequent)) (before after : RawScript) : Type 0 where
-  pub named : name_text after.name ≡ name_text before.name
-  pub fewer : length after.rules ≤ length before.rules
-  pub proves : IsProofOf dev list before → IsProofOf dev list after
+-- ---- what a plan is made of
+-- the table of a development's obligations, and obligations on which rules are replayed
+pub record IsReady (dev : Development) (table : Table) (list : List Obligation) : Type 0 where
+  pub table_is : table ≡ (flattened dev).table
+  pub replayable : Each (λ o. IsReplayable table o.1) (map named_sequent list)
 
--- the new text reads as scripts, one for each of the old text in order; a text that is no proof file stays as it is
-abbrev pub IsPrunedFile : Development → List (List ℕ × Sequent) → List ℕ → List ℕ → Type 0
-IsPrunedFile dev list text pruned = (pruned ≡ text) ⊎ ((before after : List RawScript) × AreScriptsOf (text ∷ []) before ×
-    AreScriptsOf (pruned ∷ []) after × AllZip (IsPrunedScript dev list) before after)
+-- rules that are replayed on a sequent
+pub record IsWork (work : Work) : Type 0 where
+  pub types : Types work.table (sequent_of work.sequent)
+  pub within : IsWithin (sequent_of work.sequent)
+  pub countable : length work.rules.items < 2 ^ 32

@@ -5,7 +5,9 @@ mod edit;
 mod file;
 mod numbering;
 mod plan;
+mod states;
 mod steps;
 mod uses;
+mod work;
 
 pub use file::{Pruned, prune_file};

@@ -1,10 +1,13 @@
 //! What each rule of a proof makes.
 
+ghost use Rattle.std.specs.Prelude.{◌<◌, ◌^◌, length};
 ghost use Rattle.bk_seq.specs.Sequents.{sequent_of, Types, IsWithin};
 
+use crate::work::again;
 use bk_form::VarTable;
 use bk_io::Memory;
-use bk_kernel::{Rule, StepFault, step};
+use bk_kernel::Rule;
+use bk_replay::open_after;
 use bk_seq::Sequent;
 use std::alloc::Global;
 
@@ -30,53 +33,65 @@ pub(crate) struct Part {
 pub(crate) fn steps(
     alloc: Global,
     types: &VarTable,
-    sequent: Sequent,
+    sequent: &Sequent,
     rules: &[Rule],
 ) -> Result<Option<Vec<Step>>, Memory>
-    requires types { Types types.now (sequent_of sequent) }
-    requires within { IsWithin (sequent_of sequent) }
+    requires types { Types types.now (sequent_of sequent.now) }
+    requires within { IsWithin (sequent_of sequent.now) }
+    requires countable { length rules.now < 2 ^ 32 }
 {
     let mut steps = Vec::new(alloc);
-    let mut open = Vec::new(alloc);
-    open.push(sequent)?;
-    for rule in rules {
-        let Some(made) = one_step(alloc, types, &mut open, rule)? else {
+    for done in 0..rules.len() {
+        let before = left_after(alloc, types, sequent, rules, done)?;
+        let after = left_after(alloc, types, sequent, rules, done + 1)?;
+        let Some(first) = before.first() else {
             return Ok(None);
         };
-        steps.push(made)?;
+        let others = before.len().saturating_sub(1);
+        steps.push(step_of(alloc, first, &after, others)?)?;
     }
-    if open.is_empty() {
+    if left_after(alloc, types, sequent, rules, rules.len())?.is_empty() {
         return Ok(Some(steps));
     }
     Ok(None)
 }
 
-// What a rule makes of the first open sequent, which stands last.
-fn one_step(
+// The sequents that are open behind so many rules.
+fn left_after(
     alloc: Global,
     types: &VarTable,
-    open: &mut Vec<Sequent>,
-    rule: &Rule,
-) -> Result<Option<Step>, Memory> {
-    let Some(first) = open.pop() else {
-        return Ok(None);
-    };
-    let hyps = first.hyps.len();
-    let goal = first.goal.copy(alloc)?;
-    let mut news = match step(alloc, types, first, rule) {
-        Ok(news) => news,
-        Err(StepFault::NoInstance) => return Ok(None),
-        Err(StepFault::Memory) => return Err(Memory),
-    };
+    sequent: &Sequent,
+    rules: &[Rule],
+    count: usize,
+) -> Result<Vec<Sequent>, Memory>
+    requires types { Types types.now (sequent_of sequent.now) }
+    requires within { IsWithin (sequent_of sequent.now) }
+    requires countable { length rules.now < 2 ^ 32 }
+{
+    let own = again(alloc, sequent)?;
+    let standing = open_after(alloc, types, own, rules, count)?;
+    Ok(standing.left)
+}
+
+// What a rule makes of this sequent; behind what comes of it there are so many others.
+fn step_of(
+    alloc: Global,
+    first: &Sequent,
+    after: &[Sequent],
+    others: usize,
+) -> Result<Step, Memory> {
+    let made = after.len().saturating_sub(others);
     let mut parts = Vec::new(alloc);
-    for sequent in &news {
-        parts.push(Part {
-            hyps: sequent.hyps.len(),
-            keeps_goal: sequent.goal.equal(&goal),
-        })?;
+    for (index, sequent) in after.iter().enumerate() {
+        if index < made {
+            parts.push(Part {
+                hyps: sequent.hyps.len(),
+                keeps_goal: sequent.goal.equal(&first.goal),
+            })?;
+        }
     }
-    while let Some(last) = news.pop() {
-        open.push(last)?;
-    }
-    Ok(Some(Step { hyps, parts }))
+    Ok(Step {
+        hyps: first.hyps.len(),
+        parts,
+    })
 }

@@ -1,0 +1,120 @@
+//! Whether a text proves what scripts prove.
+
+ghost use Rattle.std.specs.Prelude.{◌≡◌, true, [], ◌∷◌, IfOk, IfSome};
+ghost use Rattle.bk_p_proof.specs.Files.{AreScriptsOf};
+ghost use Rattle.bk_status.specs.Rows.{HasRows};
+ghost use Rattle.bk_prune.specs.Pruned.{HasStatesOf};
+
+use bk_dev::Development;
+use bk_io::Memory;
+use bk_p_proof::{ScriptFault, Scripts, scripts};
+use bk_po::PoFault;
+use bk_status::{Row, State, Table, status};
+use std::alloc::Global;
+
+/// The scripts of a text; None where it is no proof file.
+pub(crate) fn scripts_of(alloc: Global, text: &[u8]) -> Result<Option<Scripts>, Memory>
+    ensures { IfOk result (λ found. IfSome found (λ list. AreScriptsOf (text.now ∷ []) list)) }
+{
+    let own = Vec::from_slice(alloc, text)?;
+    let texts = Vec::from_array(alloc, [own])?;
+    match scripts(alloc, &texts) {
+        Ok(list) => Ok(Some(list)),
+        Err(ScriptFault::Memory) => Err(Memory),
+        Err(_) => Ok(None),
+    }
+}
+
+/// Whether a text reads as scripts with which the status table is the one that these scripts make. An answer of false says nothing.
+pub(crate) fn has_states_of(
+    alloc: Global,
+    dev: &Development,
+    before: &Scripts,
+    text: &[u8],
+) -> Result<bool, Memory>
+    ensures { IfOk result (λ has. has ≡ true → HasStatesOf dev.now before.now text.now) }
+{
+    let Some(after) = scripts_of(alloc, text)? else {
+        return Ok(false);
+    };
+    let Some(old) = table_of(alloc, dev, before)? else {
+        return Ok(false);
+    };
+    let Some(new) = table_of(alloc, dev, &after)? else {
+        return Ok(false);
+    };
+    Ok(are_same(&old.rows, &new.rows))
+}
+
+// The status table; None where the obligations pass a limit.
+fn table_of(alloc: Global, dev: &Development, list: &Scripts) -> Result<Option<Table>, Memory>
+    ensures { IfOk result (λ found. IfSome found (λ table. HasRows dev.now list.now table.rows.items)) }
+{
+    match status(alloc, dev, list) {
+        Ok(table) => Ok(Some(table)),
+        Err(PoFault::Memory) => Err(Memory),
+        Err(_) => Ok(None),
+    }
+}
+
+// Whether two tables have the same rows.
+fn are_same(old: &[Row], new: &[Row]) -> bool
+    ensures { result ≡ true → new.now ≡ old.now }
+{
+    if old.len() != new.len() {
+        return false;
+    }
+    for (index, row) in old.iter().enumerate() {
+        let other = &new[index];
+        if !is_same(row, other) {
+            return false;
+        }
+    }
+    true
+}
+
+fn is_same(row: &Row, other: &Row) -> bool
+    ensures { result ≡ true → other.now ≡ row.now }
+{
+    other.name.equal(&row.name) && is_same_state(row.state, other.state)
+}
+
+fn is_same_state(state: State, other: State) -> bool
+    ensures { result ≡ true → other ≡ state }
+{
+    match state {
+        State::Obvious => matches!(other, State::Obvious),
+        State::Proved => matches!(other, State::Proved),
+        State::NoScript => matches!(other, State::NoScript),
+        State::BadStep(rule) => is_bad_step(other, rule),
+        State::Open(left) => is_open(other, left),
+        State::Extra(rule) => is_extra(other, rule),
+    }
+}
+
+fn is_bad_step(state: State, rule: u32) -> bool
+    ensures { result ≡ true → state ≡ State.BadStep rule }
+{
+    match state {
+        State::BadStep(number) => number == rule,
+        _ => false,
+    }
+}
+
+fn is_open(state: State, left: u32) -> bool
+    ensures { result ≡ true → state ≡ State.Open left }
+{
+    match state {
+        State::Open(number) => number == left,
+        _ => false,
+    }
+}
+
+fn is_extra(state: State, rule: u32) -> bool
+    ensures { result ≡ true → state ≡ State.Extra rule }
+{
+    match state {
+        State::Extra(number) => number == rule,
+        _ => false,
+    }
+}
