@@ -1,6 +1,11 @@
 //! `goal`.
 
-use crate::project::read_whole;
+ghost use Rattle.std.specs.Prelude.{◌≡◌, IfErr};
+ghost use Rattle.bk_io.specs.Counts.{HasCause};
+ghost use Rattle.bk_verbs.specs.Causes.{IsOfReading, CountsAbsence};
+ghost use Rattle.bk_verbs.specs.declared.stop.Stop.TheVariants.{ReadFault};
+
+use crate::project::{found, obligation_number, read_whole};
 use bk_goal::{Asked, GoalText, goal_text};
 use bk_io::{Memory, Shelf};
 use bk_po::Obligation;
@@ -15,27 +20,35 @@ pub(crate) fn goal_answer<H: Shelf>(
     name: &str,
     at: Option<usize>,
     shelf: &mut H,
-) -> Result<(Vec<u8>, Status), Stop> {
+) -> Result<(Vec<u8>, Status), Stop>
+    ensures reading { IfErr result IsOfReading }
+    ensures failed { HasCause ReadFault (H.faults shelf.old) (H.faults shelf.new) result }
+    ensures missing { CountsAbsence (H.absences shelf.old) (H.absences shelf.new) result }
+{
     let whole = read_whole(alloc, project, shelf)?;
-    let Some(obligation) = whole.obligation(name.as_bytes()) else {
+    let Some(number) = obligation_number(&whole.list, name.as_bytes()) else {
         let text = unknown(alloc, name.as_bytes(), &whole.list)?;
         return Ok((text, Status::Usage));
     };
     let names = whole.files.names(alloc, true)?;
+    let obligation = &whole.list[number];
     let asked = Asked {
         dev: &whole.project.development,
         table: &whole.table,
         obligation,
-        found: whole.found(alloc, &names, name.as_bytes())?,
+        found: found(alloc, &whole, &names, name.as_bytes())?,
         at,
     };
     let GoalText { text, is_open } = goal_text(alloc, asked)?;
-    let status = if is_open {
+    Ok((text, status_of(is_open)))
+}
+
+fn status_of(is_open: bool) -> Status {
+    if is_open {
         Status::Unproved
     } else {
         Status::Done
-    };
-    Ok((text, status))
+    }
 }
 
 // `unknown NAME (nearest: OTHER)`.

@@ -1,22 +1,23 @@
 //! `list`.
 
-ghost use Rattle.std.specs.Prelude.{◌≡◌, ◌⊎◌, ◌↔◌, true, Some, IfOk, IfErr};
+ghost use Rattle.std.specs.Prelude.{◌≡◌, Some, map, IfOk, IfErr};
 ghost use Rattle.bk_io.specs.Counts.{HasCause};
 ghost use Rattle.bk_io.specs.Files.{Files};
-ghost use Rattle.bk_verbs.specs.Causes.{CountsAbsence};
-ghost use Rattle.bk_verbs.specs.Stops.{IsOutside, StopsAtProject};
-ghost use Rattle.bk_verbs.specs.declared.status.Status.TheVariants.{Done, Unproved};
+ghost use Rattle.bk_status.specs.Rows.{first_open};
+ghost use Rattle.bk_verbs.specs.Causes.{IsOfReading, CountsAbsence};
 ghost use Rattle.bk_verbs.specs.declared.stop.Stop.TheVariants.{ReadFault};
-ghost use Rattle.bk_proof_program.specs.Settled.{IsSettled, StopsAtLimits};
+ghost use Rattle.bk_evidence.specs.Items.{row_of};
+ghost use Rattle.bk_proof_program.specs.Settled as meant;
+ghost use Rattle.bk_proof_program.specs.Settled.{HasStatus};
 
 use crate::goal::nearest_name;
-use crate::project::{Whole, raw_components, read_whole};
-use bk_evidence::{Item, Script, items, items_json, list_text};
+use crate::project::{Whole, found, obligation_number, raw_components, read_whole};
+use bk_evidence::{Item, Proof, Script, items, items_json, list_text};
 use bk_io::{Memory, Shelf, Text};
-use bk_origins::{Component, origins};
+use bk_origins::{Component, Origin, origins};
 use bk_places::place_of;
 use bk_raw::RawComponent;
-use bk_status::{Row, name_text};
+use bk_status::{Row, Table, name_text};
 use bk_verbs::proof::table_of;
 use bk_verbs::{Status, Stop};
 use itoa::Buffer;
@@ -30,45 +31,71 @@ pub(crate) fn list_answer<H: Shelf>(
     as_json: bool,
     shelf: &mut H,
 ) -> Result<(Vec<u8>, Status), Stop>
-    ensures settled { IfOk result (λ a. (files : Files) → H.files shelf.old ≡ Some files →
-        (a.1 ≡ Done) ↔ IsSettled files project.now) }
-    ensures status { IfOk result (λ a. (a.1 ≡ Done) ⊎ (a.1 ≡ Unproved)) }
-    ensures cause { IfErr result (λ stop. (files : Files) → H.files shelf.old ≡ Some files →
-        IsOutside stop ⊎ (StopsAtProject true files project.now stop ⊎ StopsAtLimits files project.now stop)) }
+    ensures status { IfOk result (λ a. (files : Files) → H.files shelf.old ≡ Some files → HasStatus files project.now a.1) }
+    ensures reading { IfErr result IsOfReading }
     ensures failed { HasCause ReadFault (H.faults shelf.old) (H.faults shelf.new) result }
     ensures missing { CountsAbsence (H.absences shelf.old) (H.absences shelf.new) result }
 {
     let whole = read_whole(alloc, project, shelf)?;
     let table = table_of(alloc, project, &whole.project)?;
-    let status = if table.first_open().is_none() {
-        Status::Done
-    } else {
-        Status::Unproved
-    };
-    let all = all_items(alloc, &whole, &table.rows)?;
-    if as_json {
-        let mut text = items_json(alloc, &all)?;
-        text.push(b'\n')?;
-        return Ok((text, status));
-    }
-    let mut text = list_text(alloc, &all, is_open_only)?;
-    let strays = stray_text(alloc, &whole)?;
-    text.extend_from_slice(&strays)?;
+    let status = status_of(&table);
+    let text = rows_text(alloc, &whole, &table.rows, is_open_only, as_json)?;
     Ok((text, status))
 }
 
-/// An item for each row of the status table, with its script.
-pub(crate) fn all_items(alloc: Global, whole: &Whole, rows: &[Row]) -> Result<Vec<Item>, Memory> {
+/// Done where no row is open.
+pub(crate) fn status_of(table: &Table) -> Status
+    ensures { result ≡ meant.status_of (first_open table.now.rows.items) }
+{
+    match table.first_open() {
+        Some(_) => Status::Unproved,
+        None => Status::Done,
+    }
+}
+
+// The rows of the status table as lines or as JSON.
+fn rows_text(
+    alloc: Global,
+    whole: &Whole,
+    rows: &[Row],
+    is_open_only: bool,
+    as_json: bool,
+) -> Result<Vec<u8>, Memory> {
+    let all = all_items(alloc, whole, rows, &[])?;
+    if as_json {
+        let mut text = items_json(alloc, &all)?;
+        text.push(b'\n')?;
+        return Ok(text);
+    }
+    let mut text = list_text(alloc, &all, is_open_only)?;
+    let strays = stray_text(alloc, whole)?;
+    text.extend_from_slice(&strays)?;
+    Ok(text)
+}
+
+/// An item for each row of the status table, with its script, and with the text of the same place in this list.
+pub(crate) fn all_items(
+    alloc: Global,
+    whole: &Whole,
+    rows: &[Row],
+    shown: &[Text],
+) -> Result<Vec<Item>, Memory>
+    ensures { IfOk result (λ items. map row_of items.items ≡ rows.now) }
+{
     let raws = raw_components(alloc, &whole.files.components)?;
     let names = whole.files.names(alloc, false)?;
     let components = components_of(alloc, whole, &raws, &names)?;
-    let origins = origins(alloc, &whole.project.development, &components, &whole.list)?;
-    let mut all = items(alloc, rows, &origins, &components)?;
-    let proofs = whole.files.names(alloc, true)?;
-    for item in all.iter_mut() {
-        item.script = script_of(alloc, whole, &proofs, item.name.as_bytes())?;
-    }
-    Ok(all)
+    let origins = all_origins(alloc, whole, &components)?;
+    let proofs = proofs_of(alloc, whole, rows, shown)?;
+    items(alloc, rows, &origins, &components, &proofs)
+}
+
+fn all_origins(
+    alloc: Global,
+    whole: &Whole,
+    components: &[Component<'_>],
+) -> Result<Vec<Origin>, Memory> {
+    origins(alloc, &whole.project.development, components, &whole.list)
 }
 
 // The components with their texts.
@@ -92,6 +119,30 @@ fn components_of<'a>(
     Ok(components)
 }
 
+// What is known of the proof of each row.
+fn proofs_of(
+    alloc: Global,
+    whole: &Whole,
+    rows: &[Row],
+    shown: &[Text],
+) -> Result<Vec<Proof>, Memory> {
+    let names = whole.files.names(alloc, true)?;
+    let mut proofs = Vec::new(alloc);
+    for (index, row) in rows.iter().enumerate() {
+        let script = script_of(alloc, whole, &names, row.name.as_bytes())?;
+        let shown = shown_at(alloc, shown, index)?;
+        proofs.push(Proof { script, shown })?;
+    }
+    Ok(proofs)
+}
+
+fn shown_at(alloc: Global, shown: &[Text], index: usize) -> Result<Text, Memory> {
+    match shown.get(index) {
+        Some(text) => text.copy(alloc),
+        None => Ok(Text::from_bytes(Vec::new(alloc))),
+    }
+}
+
 // The script of an obligation.
 fn script_of(
     alloc: Global,
@@ -99,24 +150,13 @@ fn script_of(
     names: &[&str],
     name: &[u8],
 ) -> Result<Option<Script>, Memory> {
-    let mut found = None;
-    for (index, file) in whole.proofs.iter().enumerate() {
-        for script in file.scripts.all() {
-            let own = name_text(alloc, &script.name)?;
-            if own.as_slice() == name {
-                let text: &[u8] = match whole.files.proofs.get(index) {
-                    Some(text) => text,
-                    None => &[],
-                };
-                let file = names.get(index).copied().unwrap_or("");
-                found = Some(Script {
-                    rules: script.rules.len(),
-                    place: place_text(alloc, file, text, script.name_at)?,
-                });
-            }
-        }
-    }
-    Ok(found)
+    let Some(found) = found(alloc, whole, names, name)? else {
+        return Ok(None);
+    };
+    Ok(Some(Script {
+        rules: found.script.rules.len(),
+        place: place_text(alloc, found.file, found.text, found.script.name_at)?,
+    }))
 }
 
 // `Tally.prf:1:7`.
@@ -135,7 +175,7 @@ pub(crate) fn strays(alloc: Global, whole: &Whole) -> Result<Vec<Text>, Memory> 
     let mut names = Vec::new(alloc);
     for script in whole.project.scripts.all() {
         let name = name_text(alloc, &script.name)?;
-        if whole.obligation(&name).is_none() {
+        if obligation_number(&whole.list, &name).is_none() {
             names.push(Text::from_bytes(name))?;
         }
     }

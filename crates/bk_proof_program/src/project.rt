@@ -1,36 +1,33 @@
 //! A project with the texts of its files.
 
-ghost use Rattle.std.specs.Prelude.{◌≡◌, ◌⊎◌, true, Some, map, IfOk, IfErr};
+ghost use Rattle.std.specs.Prelude.{◌≡◌, ◌<◌, true, Some, length, IfOk, IfErr, IfSome};
 ghost use Rattle.bk_io.specs.Counts.{HasCause};
 ghost use Rattle.bk_io.specs.Files.{Files};
-ghost use Rattle.bk_dev.specs.Flattened.{flattened};
-ghost use Rattle.bk_po.specs.Obligations.{numbered_obligations};
-ghost use Rattle.bk_po.specs.Shown.{named_sequent};
-ghost use Rattle.bk_verbs.specs.Causes.{CountsAbsence};
+ghost use Rattle.bk_p_proof.specs.Files.{IsShort};
+ghost use Rattle.bk_verbs.specs.Causes.{IsOfChecks, IsOfReading, CountsAbsence};
 ghost use Rattle.bk_verbs.specs.Project.{ReadsProject};
-ghost use Rattle.bk_verbs.specs.Stops.{IsOutside, StopsAtProject};
 ghost use Rattle.bk_verbs.specs.declared.stop.Stop.TheVariants.{ReadFault};
-ghost use Rattle.bk_proof_program.specs.Settled.{StopsAtLimits};
+ghost use Rattle.bk_prune.specs.Pruned.{IsReady};
 
 use bk_dev::Development;
 use bk_form::{Token, VarTable};
-use bk_front::{LineKind, ProjectLine, lines};
+use bk_front::{LineKind, ProjectLine};
 use bk_goal::Found;
 use bk_io::{Memory, Shelf, Text};
 use bk_lex::{LexFault, tokens};
 use bk_p_comp::component;
 use bk_p_expr::SynFault;
-use bk_p_proof::{ScriptFault, Scripts, scripts};
+use bk_p_proof::{ScriptFault, scripts};
 use bk_po::{Obligation, obligation_table};
 use bk_raw::{RawComponent, RawScript};
 use bk_status::name_text;
 use bk_verbs::Stop;
-use bk_verbs::files::{Project, fetch, fetch_all, names, read_components, read_scripts, refused};
+use bk_verbs::files::{Project, fetch, fetch_all, names, read_lines, read_project};
 use bk_verbs::proof::obligations_of;
 use std::alloc::Global;
 use std::str;
 
-/// The files of a project as they were read.
+/// The files of a project, read once more for their places and sums.
 #[derive(Drop)]
 pub(crate) struct ProjectTexts {
     pub(crate) text: Vec<u8>,
@@ -39,56 +36,72 @@ pub(crate) struct ProjectTexts {
     pub(crate) proofs: Vec<Vec<u8>>,
 }
 
-/// A proof file: its scripts and its tokens.
+/// A proof file: how many scripts it has, and its tokens.
 #[derive(Drop)]
 pub(crate) struct ProofFile {
-    pub(crate) scripts: Scripts,
+    pub(crate) scripts: usize,
     pub(crate) tokens: Vec<Token>,
 }
 
 /// What a project says, with its obligations.
 #[derive(Drop)]
 pub(crate) struct Whole {
-    pub(crate) files: ProjectTexts,
     pub(crate) project: Project,
     pub(crate) list: Vec<Obligation>,
     pub(crate) table: VarTable,
+    pub(crate) files: ProjectTexts,
     pub(crate) proofs: Vec<ProofFile>,
 }
 
-/// Reads a project with its proof files, and makes its obligations.
+/// Reads a project with its proof files, makes its obligations, and reads the texts of its files once more.
 pub(crate) fn read_whole<H: Shelf>(alloc: Global, name: &str, shelf: &mut H) -> Result<Whole, Stop>
-    ensures cause { IfErr result (λ stop. (files : Files) → H.files shelf.old ≡ Some files →
-        IsOutside stop ⊎ (StopsAtProject true files name.now stop ⊎ StopsAtLimits files name.now stop)) }
+    ensures reading { IfErr result IsOfReading }
     ensures failed { HasCause ReadFault (H.faults shelf.old) (H.faults shelf.new) result }
     ensures missing { CountsAbsence (H.absences shelf.old) (H.absences shelf.new) result }
-    ensures files { H.files shelf.new ≡ H.files shelf.old }
     ensures told { IfOk result (λ w. (files : Files) → H.files shelf.old ≡ Some files →
         ReadsProject true files name.now w.project.development w.project.scripts) }
-    ensures obligations { IfOk result (λ w.
-        map named_sequent w.list.items ≡ numbered_obligations w.project.development) }
-    ensures table { IfOk result (λ w. w.table ≡ (flattened w.project.development).table) }
+    ensures ready { IfOk result (λ w. IsReady w.project.development w.table w.list.items) }
 {
-    let files = fetch_files(alloc, name, shelf)?;
-    let project = read_files(alloc, name, &files)?;
-    let list = obligations_of(alloc, name, &project.development)?;
-    let table = obligation_table(alloc, &project.development)?;
+    let project = read_project(alloc, name, true, shelf)?;
+    let files = read_again(alloc, name, shelf)?;
+    let (list, table) = obligations_with(alloc, name, &project.development)?;
     let proofs = proof_files(alloc, &files.proofs)?;
     Ok(Whole {
-        files,
         project,
         list,
         table,
+        files,
         proofs,
     })
 }
 
-// The files of a project: the project file, then those that it names.
-fn fetch_files<H: Shelf>(alloc: Global, name: &str, shelf: &mut H) -> Result<ProjectTexts, Stop> {
+// The obligations of a development, and the table that they speak of.
+fn obligations_with(
+    alloc: Global,
+    name: &str,
+    dev: &Development,
+) -> Result<(Vec<Obligation>, VarTable), Stop>
+    ensures checks { IfErr result IsOfChecks }
+    ensures ready { IfOk result (λ p. IsReady dev.now p.1 p.0.items) }
+{
+    dev.facts();
+    let list = obligations_of(alloc, name, dev)?;
+    let table = obligation_table(alloc, dev)?;
+    Ok((list, table))
+}
+
+// The project file, then those that it names.
+fn read_again<H: Shelf>(alloc: Global, name: &str, shelf: &mut H) -> Result<ProjectTexts, Stop>
+    ensures reading { IfErr result IsOfReading }
+    ensures failed { HasCause ReadFault (H.faults shelf.old) (H.faults shelf.new) result }
+    ensures missing { CountsAbsence (H.absences shelf.old) (H.absences shelf.new) result }
+{
     let text = fetch(alloc, name, shelf)?;
-    let lines = lines_of(alloc, name, &text)?;
-    let components = fetch_all(alloc, &names(alloc, &lines, false)?, shelf)?;
-    let proofs = fetch_all(alloc, &names(alloc, &lines, true)?, shelf)?;
+    let lines = read_lines(alloc, name, shelf)?;
+    let component_names = names(alloc, &lines, false)?;
+    let components = fetch_all(alloc, &component_names, shelf)?;
+    let proof_names = names(alloc, &lines, true)?;
+    let proofs = fetch_all(alloc, &proof_names, shelf)?;
     Ok(ProjectTexts {
         text,
         lines,
@@ -97,48 +110,40 @@ fn fetch_files<H: Shelf>(alloc: Global, name: &str, shelf: &mut H) -> Result<Pro
     })
 }
 
-fn lines_of(alloc: Global, name: &str, text: &[u8]) -> Result<Vec<ProjectLine>, Stop> {
-    match lines(alloc, text) {
-        Ok(lines) => Ok(lines),
-        Err(refusal) => Err(refused(alloc, refusal, name, &[])?),
-    }
-}
-
-// What they are read as.
-fn read_files(alloc: Global, name: &str, files: &ProjectTexts) -> Result<Project, Stop> {
-    let components = names(alloc, &files.lines, false)?;
-    let proofs = names(alloc, &files.lines, true)?;
-    Ok(Project {
-        development: read_components(alloc, name, &files.lines, &components, &files.components)?,
-        scripts: read_scripts(alloc, &proofs, &files.proofs)?,
-    })
-}
-
-// The scripts of each proof file by itself, whose places are those of the file.
+// Each proof file by itself.
 fn proof_files(alloc: Global, texts: &[Vec<u8>]) -> Result<Vec<ProofFile>, Memory> {
     let mut files = Vec::new(alloc);
     for text in texts {
-        let own = Vec::from_array(alloc, [Vec::from_slice(alloc, text)?])?;
-        let scripts = match scripts(alloc, &own) {
-            Ok(scripts) => scripts,
-            Err(ScriptFault::Memory) => return Err(Memory),
-            Err(_) => return Ok(files),
-        };
+        let count = script_count(alloc, text)?;
         let tokens = text_tokens(alloc, text)?;
-        files.push(ProofFile { scripts, tokens })?;
+        files.push(ProofFile {
+            scripts: count,
+            tokens,
+        })?;
     }
     Ok(files)
 }
 
+// How many scripts a text has; 0 where it is no proof file.
+fn script_count(alloc: Global, text: &[u8]) -> Result<usize, Memory> {
+    let own = Vec::from_slice(alloc, text)?;
+    let texts = Vec::from_array(alloc, [own])?;
+    match scripts(alloc, &texts) {
+        Ok(found) => Ok(found.all().len()),
+        Err(ScriptFault::Memory) => Err(Memory),
+        Err(_) => Ok(0),
+    }
+}
+
 fn text_tokens(alloc: Global, text: &[u8]) -> Result<Vec<Token>, Memory> {
     match tokens(alloc, text) {
-        Ok(tokens) => Ok(tokens),
+        Ok(found) => Ok(found),
         Err(LexFault::Memory) => Err(Memory),
         Err(_) => Ok(Vec::new(alloc)),
     }
 }
 
-/// The components as they are written; the first of them, where one is not read.
+/// The components as they are written; those before the first that is not read.
 pub(crate) fn raw_components(
     alloc: Global,
     texts: &[Vec<u8>],
@@ -175,49 +180,79 @@ fn text_of(name: &Text) -> &str {
     }
 }
 
-impl Whole {
-    /// The obligation with a name.
-    pub(crate) fn obligation(&self, name: &[u8]) -> Option<&Obligation> {
-        self.list
-            .iter()
-            .find(|obligation| obligation.name.as_bytes() == name)
-    }
-
-    /// The script with a name, and its file.
-    pub(crate) fn found<'a>(
-        &'a self,
-        alloc: Global,
-        names: &[&'a str],
-        name: &[u8],
-    ) -> Result<Option<Found<'a>>, Memory> {
-        for (index, file) in self.proofs.iter().enumerate() {
-            if let Some(script) = script_named(alloc, file.scripts.all(), name)? {
-                let text: &'a [u8] = match self.files.proofs.get(index) {
-                    Some(text) => text,
-                    None => &[],
-                };
-                return Ok(Some(Found {
-                    script,
-                    file: names.get(index).copied().unwrap_or(""),
-                    text,
-                    tokens: &file.tokens,
-                }));
-            }
+/// The number, from 0, of the first obligation with a name.
+pub(crate) fn obligation_number(list: &[Obligation], name: &[u8]) -> Option<usize>
+    ensures { IfSome result (λ number. number < length list.now) }
+{
+    for (number, obligation) in list.iter().enumerate() {
+        if obligation.name.as_bytes() == name {
+            return Some(number);
         }
-        Ok(None)
     }
+    None
 }
 
-fn script_named<'a>(
-    alloc: Global,
-    scripts: &'a [RawScript],
-    name: &[u8],
-) -> Result<Option<&'a RawScript>, Memory> {
-    for script in scripts {
+// The number, from 0, of the first script with a name.
+fn script_number(alloc: Global, list: &[RawScript], name: &[u8]) -> Result<Option<usize>, Memory>
+    ensures { IfOk result (λ found. IfSome found (λ number. number < length list.now)) }
+{
+    for (number, script) in list.iter().enumerate() {
         let own = name_text(alloc, &script.name)?;
         if own.as_slice() == name {
-            return Ok(Some(script));
+            return Ok(Some(number));
         }
     }
     Ok(None)
+}
+
+// The number of the file in which the script with this number stands.
+fn file_number(files: &[ProofFile], script: usize) -> usize {
+    let mut before = 0usize;
+    for (number, file) in files.iter().enumerate() {
+        before = before.saturating_add(file.scripts);
+        if script < before {
+            return number;
+        }
+    }
+    files.len()
+}
+
+/// The script with a name, and its file.
+pub(crate) fn found<'a>(
+    alloc: Global,
+    whole: &'a Whole,
+    names: &[&'a str],
+    name: &[u8],
+) -> Result<Option<Found<'a>>, Memory>
+    ensures { IfOk result (λ found. IfSome found (λ f. IsShort f.script.now)) }
+{
+    whole.project.scripts.facts();
+    let list = whole.project.scripts.all();
+    let Some(number) = script_number(alloc, list, name)? else {
+        return Ok(None);
+    };
+    let script = &list[number];
+    let file = file_number(&whole.proofs, number);
+    Ok(Some(Found {
+        script,
+        file: names.get(file).copied().unwrap_or(""),
+        text: file_text(whole, file),
+        tokens: file_tokens(whole, file),
+    }))
+}
+
+// The text of the proof file with this number.
+fn file_text(whole: &Whole, number: usize) -> &[u8] {
+    match whole.files.proofs.get(number) {
+        Some(text) => text,
+        None => &[],
+    }
+}
+
+// Its tokens.
+fn file_tokens(whole: &Whole, number: usize) -> &[Token] {
+    match whole.proofs.get(number) {
+        Some(file) => &file.tokens,
+        None => &[],
+    }
 }

@@ -1,5 +1,10 @@
 //! `prune`.
 
+ghost use Rattle.std.specs.Prelude.{◌≡◌, IfErr};
+ghost use Rattle.bk_io.specs.Counts.{HasCause};
+ghost use Rattle.bk_verbs.specs.Causes.{IsOfReading, CountsAbsence};
+ghost use Rattle.bk_verbs.specs.declared.stop.Stop.TheVariants.{ReadFault};
+
 use crate::project::read_whole;
 use bk_io::{Memory, Shelf};
 use bk_prune::prune_file;
@@ -13,30 +18,39 @@ pub(crate) fn prune_answer<H: Shelf>(
     project: &str,
     file: &str,
     shelf: &mut H,
-) -> Result<(Vec<u8>, Status), Stop> {
+) -> Result<(Vec<u8>, Status), Stop>
+    ensures reading { IfErr result IsOfReading }
+    ensures failed { HasCause ReadFault (H.faults shelf.old) (H.faults shelf.new) result }
+    ensures missing { CountsAbsence (H.absences shelf.old) (H.absences shelf.new) result }
+{
     let whole = read_whole(alloc, project, shelf)?;
     let names = whole.files.names(alloc, true)?;
-    let Some(index) = names.iter().position(|name| *name == file) else {
+    let number = place_among(&names, file);
+    let Some(text) = whole.files.proofs.get(number) else {
         let text = unknown(alloc, file)?;
         return Ok((text, Status::Usage));
     };
-    let Some(text) = whole.files.proofs.get(index) else {
-        let text = unknown(alloc, file)?;
-        return Ok((text, Status::Usage));
-    };
-    let pruned = prune_file(
-        alloc,
-        &whole.project.development,
-        &whole.table,
-        &whole.list,
-        text,
-    )?;
-    let status = if pruned.unproved == 0 {
+    let dev = &whole.project.development;
+    let pruned = prune_file(alloc, dev, &whole.table, &whole.list, text)?;
+    Ok((pruned.text, status_of(pruned.unproved)))
+}
+
+// The number of a name, from 0; the number of all names where it is none of them.
+fn place_among(names: &[&str], name: &str) -> usize {
+    for (number, other) in names.iter().enumerate() {
+        if *other == name {
+            return number;
+        }
+    }
+    names.len()
+}
+
+fn status_of(unproved: usize) -> Status {
+    if unproved == 0 {
         Status::Done
     } else {
         Status::Unproved
-    };
-    Ok((pruned.text, status))
+    }
 }
 
 fn unknown(alloc: Global, file: &str) -> Result<Vec<u8>, Memory> {

@@ -1,20 +1,20 @@
 //! `report`.
 
-ghost use Rattle.std.specs.Prelude.{◌≡◌, ◌⊎◌, ◌↔◌, true, Some, IfOk, IfErr};
+ghost use Rattle.std.specs.Prelude.{◌≡◌, Some, IfOk, IfErr};
 ghost use Rattle.bk_io.specs.Counts.{HasCause};
 ghost use Rattle.bk_io.specs.Files.{Files};
-ghost use Rattle.bk_verbs.specs.Causes.{CountsAbsence};
-ghost use Rattle.bk_verbs.specs.Stops.{IsOutside, StopsAtProject};
-ghost use Rattle.bk_verbs.specs.declared.status.Status.TheVariants.{Done, Unproved};
+ghost use Rattle.bk_verbs.specs.Causes.{IsOfReading, CountsAbsence};
 ghost use Rattle.bk_verbs.specs.declared.stop.Stop.TheVariants.{ReadFault};
-ghost use Rattle.bk_proof_program.specs.Settled.{IsSettled, StopsAtLimits};
+ghost use Rattle.bk_prune.specs.Pruned.{IsReady};
+ghost use Rattle.bk_proof_program.specs.Settled.{HasStatus};
 
-use crate::list::{all_items, strays};
-use crate::project::{Whole, read_whole};
+use crate::list::{all_items, status_of, strays};
+use crate::project::{Whole, found, obligation_number, read_whole};
 use crate::task::ReportForm;
 use bk_evidence::{Input, Report, html_page, input, json_text, list_text, sums_of};
 use bk_goal::{Asked, goal_text};
 use bk_io::{Memory, Shelf, Text};
+use bk_status::Row;
 use bk_verbs::proof::table_of;
 use bk_verbs::{Status, Stop};
 use itoa::Buffer;
@@ -33,39 +33,42 @@ pub(crate) fn report_answer<H: Shelf>(
     form: ReportForm,
     shelf: &mut H,
 ) -> Result<(Vec<u8>, Status), Stop>
-    ensures settled { IfOk result (λ a. (files : Files) → H.files shelf.old ≡ Some files →
-        (a.1 ≡ Done) ↔ IsSettled files project.now) }
-    ensures status { IfOk result (λ a. (a.1 ≡ Done) ⊎ (a.1 ≡ Unproved)) }
-    ensures cause { IfErr result (λ stop. (files : Files) → H.files shelf.old ≡ Some files →
-        IsOutside stop ⊎ (StopsAtProject true files project.now stop ⊎ StopsAtLimits files project.now stop)) }
+    ensures status { IfOk result (λ a. (files : Files) → H.files shelf.old ≡ Some files → HasStatus files project.now a.1) }
+    ensures reading { IfErr result IsOfReading }
     ensures failed { HasCause ReadFault (H.faults shelf.old) (H.faults shelf.new) result }
     ensures missing { CountsAbsence (H.absences shelf.old) (H.absences shelf.new) result }
 {
     let whole = read_whole(alloc, project, shelf)?;
     let table = table_of(alloc, project, &whole.project)?;
-    let status = if table.first_open().is_none() {
-        Status::Done
-    } else {
-        Status::Unproved
-    };
-    let mut items = all_items(alloc, &whole, &table.rows)?;
-    for item in items.iter_mut() {
-        item.open = open_text(alloc, &whole, item.name.as_bytes())?;
-    }
+    let status = status_of(&table);
+    let text = report_text(alloc, project, &whole, &table.rows, form)?;
+    Ok((text, status))
+}
+
+// The report in one of its forms.
+fn report_text(
+    alloc: Global,
+    project: &str,
+    whole: &Whole,
+    rows: &[Row],
+    form: ReportForm,
+) -> Result<Vec<u8>, Memory>
+    requires { IsReady whole.now.project.development whole.now.table whole.now.list.items }
+{
+    let shown = shown_texts(alloc, whole, rows)?;
     let report = Report {
         version: VERSION,
         toolchain: TOOLCHAIN,
-        machine: machine_name(alloc, &whole)?,
-        inputs: inputs(alloc, project, &whole)?,
-        items,
-        strays: strays(alloc, &whole)?,
+        machine: machine_name(alloc, whole)?,
+        inputs: inputs(alloc, project, whole)?,
+        items: all_items(alloc, whole, rows, &shown)?,
+        strays: strays(alloc, whole)?,
     };
-    let text = match form {
-        ReportForm::Html => html_page(alloc, &report)?,
-        ReportForm::Json => json_line(alloc, &report)?,
-        ReportForm::Text => plain_text(alloc, &report)?,
-    };
-    Ok((text, status))
+    match form {
+        ReportForm::Html => html_page(alloc, &report),
+        ReportForm::Json => json_line(alloc, &report),
+        ReportForm::Text => plain_text(alloc, &report),
+    }
 }
 
 fn json_line(alloc: Global, report: &Report) -> Result<Vec<u8>, Memory> {
@@ -74,25 +77,38 @@ fn json_line(alloc: Global, report: &Report) -> Result<Vec<u8>, Memory> {
     Ok(text)
 }
 
-// What is open of an obligation; nothing of one that is settled.
-fn open_text(alloc: Global, whole: &Whole, name: &[u8]) -> Result<Text, Memory> {
-    let nothing = Text::from_bytes(Vec::new(alloc));
-    let Some(obligation) = whole.obligation(name) else {
-        return Ok(nothing);
-    };
+// What is open of each row.
+fn shown_texts(alloc: Global, whole: &Whole, rows: &[Row]) -> Result<Vec<Text>, Memory>
+    requires { IsReady whole.now.project.development whole.now.table whole.now.list.items }
+{
     let names = whole.files.names(alloc, true)?;
+    let mut texts = Vec::new(alloc);
+    for row in rows {
+        texts.push(open_text(alloc, whole, &names, row.name.as_bytes())?)?;
+    }
+    Ok(texts)
+}
+
+// What is open of an obligation; nothing of one that is settled.
+fn open_text(alloc: Global, whole: &Whole, names: &[&str], name: &[u8]) -> Result<Text, Memory>
+    requires { IsReady whole.now.project.development whole.now.table whole.now.list.items }
+{
+    let Some(number) = obligation_number(&whole.list, name) else {
+        return Ok(Text::from_bytes(Vec::new(alloc)));
+    };
+    let obligation = &whole.list[number];
     let asked = Asked {
         dev: &whole.project.development,
         table: &whole.table,
         obligation,
-        found: whole.found(alloc, &names, name)?,
+        found: found(alloc, whole, names, name)?,
         at: None,
     };
     let shown = goal_text(alloc, asked)?;
     if shown.is_open {
         return Ok(Text::from_bytes(shown.text));
     }
-    Ok(nothing)
+    Ok(Text::from_bytes(Vec::new(alloc)))
 }
 
 fn machine_name(alloc: Global, whole: &Whole) -> Result<Text, Memory> {
