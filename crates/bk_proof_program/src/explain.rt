@@ -1,119 +1,169 @@
 //! `explain`.
 
+ghost use Rattle.std.specs.Prelude.{◌≡◌, ◌≢◌, ◌≤◌, false, IfOk, IfErr, IfSome};
+ghost use Rattle.bk_io.specs.Counts.{HasCause};
+ghost use Rattle.bk_cli.specs.Asked.{HasSmallNumbers};
+ghost use Rattle.bk_verbs.specs.Causes.{IsOfReading};
+ghost use Rattle.bk_verbs.specs.declared.stop.Stop.TheVariants.{ReadFault};
+
 use bk_cli::Command;
 use bk_explain::{Source, SourceKind, explanation};
-use bk_front::{LineKind, ProjectLine, lines};
-use bk_io::{Fetch, Memory, Shelf, Sink, Text, put_all};
+use bk_front::{LineKind, ProjectLine, Refusal, lines};
+use bk_io::{Fetch, Memory, Shelf, Text};
 use bk_limits::{FUEL, MOST_BYTES};
-use bk_verbs::{Status, Stop, prepare};
+use bk_verbs::{Stop, prepare};
 use std::alloc::Global;
 use std::str;
 
-/// The stop at the first fault, as `bkit` tells it, and what it means; a line that there is none, where there is none.
-pub(crate) fn explain_answer<H: Shelf, K: Sink>(
+/// What is asked: a project, or an image, and calls.
+#[derive(Clone, Copy)]
+pub(crate) struct Question<'a> {
+    pub(crate) file: &'a str,
+    pub(crate) calls: Option<&'a str>,
+    pub(crate) is_image: bool,
+}
+
+/// The stop at the first fault, as `bkit` tells it, and what it means; None where there is no fault.
+pub(crate) fn explain_answer<H: Shelf>(
     alloc: Global,
-    file: &str,
-    calls: Option<&str>,
-    is_image: bool,
+    asked: Question<'_>,
     shelf: &mut H,
-    out: &mut K,
-) -> Result<Status, Stop> {
-    let command = command_of(file, calls, is_image);
+) -> Result<Option<(Stop, Vec<u8>)>, Stop>
+    ensures reading { IfErr result IsOfReading }
+    ensures failed { HasCause ReadFault (H.faults shelf.old) (H.faults shelf.new) result }
+    ensures told { IfOk result (λ found. IfSome found (λ p. IsOfReading p.0 × (p.0 ≢ ReadFault))) }
+{
+    let command = command_of(asked);
     let stop = match prepare(alloc, command, shelf) {
-        Ok(_) => {
-            put_all(out, b"no fault\n")?;
-            return Ok(Status::Done);
-        }
+        Ok(_) => return Ok(None),
         Err(stop) => stop,
     };
-    let texts = if is_image {
-        Vec::new(alloc)
-    } else {
-        read_again(alloc, file, calls, shelf)?
-    };
-    let sources = sources_of(alloc, &texts)?;
-    let words = explanation(alloc, &stop, &sources)?;
-    let status = stop.report(alloc, out);
-    put_all(out, &words)?;
-    Ok(status)
+    if is_of_reading(&stop) {
+        return Err(stop);
+    }
+    let words = words_of(alloc, &stop, asked, shelf)?;
+    Ok(Some((stop, words)))
+}
+
+// Whether a file was there and could not be read.
+fn is_of_reading(stop: &Stop) -> bool
+    ensures { result ≡ false → stop.now ≢ ReadFault }
+{
+    matches!(stop, Stop::ReadFault)
 }
 
 // What `bkit` is to check.
-fn command_of<'a>(file: &'a str, calls: Option<&'a str>, is_image: bool) -> Command<'a> {
+fn command_of(asked: Question<'_>) -> Command<'_>
+    ensures { HasSmallNumbers result }
+{
     let fuel = FUEL;
-    match calls {
-        Some(calls) if is_image => Command::Exec {
-            image: file,
+    match asked.calls {
+        Some(calls) if asked.is_image => Command::Exec {
+            image: asked.file,
             calls,
             fuel,
         },
         Some(calls) => Command::Run {
-            project: file,
+            project: asked.file,
             calls,
             fuel,
         },
-        None => Command::Status { project: file },
+        None => Command::Status {
+            project: asked.file,
+        },
     }
+}
+
+// What a stop means.
+fn words_of<H: Shelf>(
+    alloc: Global,
+    stop: &Stop,
+    asked: Question<'_>,
+    shelf: &mut H,
+) -> Result<Vec<u8>, Memory>
+    ensures { H.faults shelf.old ≤ H.faults shelf.new }
+{
+    let texts = read_once_more(alloc, asked, shelf)?;
+    let sources = sources_of(alloc, &texts)?;
+    explanation(alloc, stop, &sources)
 }
 
 // A file, once more.
 #[derive(Drop)]
-struct Copy {
+struct FileCopy {
     name: Text,
     kind: SourceKind,
     text: Vec<u8>,
 }
 
 // The files of a project as far as they are there.
-fn read_again<H: Shelf>(
+fn read_once_more<H: Shelf>(
     alloc: Global,
-    project: &str,
-    calls: Option<&str>,
+    asked: Question<'_>,
     shelf: &mut H,
-) -> Result<Vec<Copy>, Memory> {
+) -> Result<Vec<FileCopy>, Memory>
+    ensures { H.faults shelf.old ≤ H.faults shelf.new }
+{
     let mut all = Vec::new(alloc);
-    let Some(text) = fetched(alloc, project.as_bytes(), shelf)? else {
+    if asked.is_image {
         return Ok(all);
-    };
-    let named = named_files(alloc, &text)?;
-    all.push(Copy {
-        name: owned(alloc, project.as_bytes())?,
-        kind: SourceKind::Project,
-        text,
-    })?;
-    for line in &named {
-        let kind = if line.kind == LineKind::Proofs {
-            SourceKind::Proofs
-        } else {
-            SourceKind::Component
-        };
-        add_copy(alloc, &mut all, line.name.as_bytes(), kind, shelf)?;
     }
-    if let Some(calls) = calls {
+    let project = asked.file.as_bytes();
+    add_copy(alloc, &mut all, project, SourceKind::Project, shelf)?;
+    let named = named_files(alloc, &all)?;
+    add_copies(alloc, &mut all, &named, shelf)?;
+    if let Some(calls) = asked.calls {
         add_copy(alloc, &mut all, calls.as_bytes(), SourceKind::Calls, shelf)?;
     }
     Ok(all)
 }
 
-// The lines of a project file; none where it is at fault.
-fn named_files(alloc: Global, text: &[u8]) -> Result<Vec<ProjectLine>, Memory> {
-    match lines(alloc, text) {
+// The lines of the project file, which is the only copy so far; none where it is not there or at fault.
+fn named_files(alloc: Global, all: &[FileCopy]) -> Result<Vec<ProjectLine>, Memory> {
+    let Some(copy) = all.first() else {
+        return Ok(Vec::new(alloc));
+    };
+    match lines(alloc, &copy.text) {
         Ok(named) => Ok(named),
-        Err(bk_front::Refusal::Memory) => Err(Memory),
+        Err(Refusal::Memory) => Err(Memory),
         Err(_) => Ok(Vec::new(alloc)),
+    }
+}
+
+fn add_copies<H: Shelf>(
+    alloc: Global,
+    all: &mut Vec<FileCopy>,
+    named: &[ProjectLine],
+    shelf: &mut H,
+) -> Result<(), Memory>
+    ensures { H.faults shelf.old ≤ H.faults shelf.new }
+{
+    for line in named {
+        add_copy(alloc, all, line.name.as_bytes(), kind_of(line), shelf)?;
+    }
+    Ok(())
+}
+
+fn kind_of(line: &ProjectLine) -> SourceKind {
+    match line.kind {
+        LineKind::Proofs => SourceKind::Proofs,
+        _ => SourceKind::Component,
     }
 }
 
 fn add_copy<H: Shelf>(
     alloc: Global,
-    all: &mut Vec<Copy>,
+    all: &mut Vec<FileCopy>,
     name: &[u8],
     kind: SourceKind,
     shelf: &mut H,
-) -> Result<(), Memory> {
+) -> Result<(), Memory>
+    ensures { H.faults shelf.old ≤ H.faults shelf.new }
+{
+    let own = Text::from_bytes(Vec::from_slice(alloc, name)?);
     if let Some(text) = fetched(alloc, name, shelf)? {
-        all.push(Copy {
-            name: owned(alloc, name)?,
+        all.push(FileCopy {
+            name: own,
             kind,
             text,
         })?;
@@ -122,7 +172,9 @@ fn add_copy<H: Shelf>(
 }
 
 // The bytes of a file, if it is there and can be read.
-fn fetched<H: Shelf>(alloc: Global, name: &[u8], shelf: &mut H) -> Result<Option<Vec<u8>>, Memory> {
+fn fetched<H: Shelf>(alloc: Global, name: &[u8], shelf: &mut H) -> Result<Option<Vec<u8>>, Memory>
+    ensures { H.faults shelf.old ≤ H.faults shelf.new }
+{
     let Ok(name) = str::from_utf8(name) else {
         return Ok(None);
     };
@@ -134,11 +186,7 @@ fn fetched<H: Shelf>(alloc: Global, name: &[u8], shelf: &mut H) -> Result<Option
     }
 }
 
-fn owned(alloc: Global, name: &[u8]) -> Result<Text, Memory> {
-    Ok(Text::from_bytes(Vec::from_slice(alloc, name)?))
-}
-
-fn sources_of(alloc: Global, copies: &[Copy]) -> Result<Vec<Source<'_>>, Memory> {
+fn sources_of(alloc: Global, copies: &[FileCopy]) -> Result<Vec<Source<'_>>, Memory> {
     let mut sources = Vec::new(alloc);
     for copy in copies {
         if let Ok(name) = str::from_utf8(copy.name.as_bytes()) {

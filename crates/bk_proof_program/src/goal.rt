@@ -1,9 +1,10 @@
 //! `goal`.
 
-ghost use Rattle.std.specs.Prelude.{◌≡◌, IfErr};
+ghost use Rattle.std.specs.Prelude.{IfOk, IfErr};
 ghost use Rattle.bk_io.specs.Counts.{HasCause};
-ghost use Rattle.bk_verbs.specs.Causes.{IsOfReading, CountsAbsence};
+ghost use Rattle.bk_verbs.specs.Causes.{IsOfReading};
 ghost use Rattle.bk_verbs.specs.declared.stop.Stop.TheVariants.{ReadFault};
+ghost use Rattle.bk_proof_program.specs.Answers.{IsEnd};
 
 use crate::project::{found, obligation_number, read_whole};
 use bk_goal::{Asked, GoalText, goal_text};
@@ -21,9 +22,9 @@ pub(crate) fn goal_answer<H: Shelf>(
     at: Option<usize>,
     shelf: &mut H,
 ) -> Result<(Vec<u8>, Status), Stop>
+    ensures end { IfOk result (λ a. IsEnd a.1) }
     ensures reading { IfErr result IsOfReading }
     ensures failed { HasCause ReadFault (H.faults shelf.old) (H.faults shelf.new) result }
-    ensures missing { CountsAbsence (H.absences shelf.old) (H.absences shelf.new) result }
 {
     let whole = read_whole(alloc, project, shelf)?;
     let Some(number) = obligation_number(&whole.list, name.as_bytes()) else {

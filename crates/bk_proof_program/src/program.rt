@@ -1,10 +1,13 @@
 //! The program over any shelf and any sink.
 
-ghost use Rattle.std.specs.Prelude.{◌≡◌};
-ghost use Rattle.bk_io.specs.Counts.{Rose};
+ghost use Rattle.std.specs.Prelude.{◌≡◌, ◌≢◌, ◌⊎◌, IfOk, IfErr};
+ghost use Rattle.bk_io.specs.Counts.{Rose, HasCause};
+ghost use Rattle.bk_verbs.specs.Causes.{IsOfReading};
 ghost use Rattle.bk_verbs.specs.declared.status.Status.{Status};
+ghost use Rattle.bk_verbs.specs.declared.stop.Stop.TheVariants.{Usage, ReadFault};
+ghost use Rattle.bk_proof_program.specs.Answers.{IsAnswer, IsEnd};
 
-use crate::explain::explain_answer;
+use crate::explain::{Question, explain_answer};
 use crate::goal::goal_answer;
 use crate::help::{USAGE, help_text, man_page};
 use crate::list::list_answer;
@@ -47,28 +50,57 @@ pub fn bkproof<H: Shelf, K: Sink>(
     ensures read_fault { result ≡ Status.ReadFault → Rose (H.faults shelf.old) (H.faults shelf.new) }
     ensures write_fault { result ≡ Status.WriteFault → Rose (K.faults out.old) (K.faults out.new) }
 {
-    match perform(alloc, words, shelf, out) {
-        Ok(status) => status,
-        Err(Stop::Usage) => usage(out),
+    match answer(alloc, words, shelf) {
+        Ok(Answer::Whole(text, status)) => written(out, &text, status),
+        Ok(Answer::Explained(stop, text)) => explained(alloc, out, &stop, &text),
+        Err(Stop::Usage) => written(out, USAGE.as_bytes(), Status::Usage),
         Err(stop) => stop.report(alloc, out),
     }
 }
 
-// The line of wrong words.
-fn usage<K: Sink>(out: &mut K) -> Status {
-    match put_all(out, USAGE.as_bytes()) {
-        Ok(()) => Status::Usage,
+// What is to be written, and how the program then ends.
+#[derive(Drop)]
+enum Answer {
+    /// A text and the status.
+    Whole(Vec<u8>, Status),
+    /// A stop, whose line comes first, and what it means.
+    Explained(Stop, Vec<u8>),
+}
+
+// Writes a text; the status is this one, where that is done.
+fn written<K: Sink>(out: &mut K, text: &[u8], status: Status) -> Status
+    requires { status ≢ Status.WriteFault }
+    ensures done { result ≡ Status.ReadFault → status ≡ Status.ReadFault }
+    ensures failed { result ≡ Status.WriteFault → Rose (K.faults out.old) (K.faults out.new) }
+{
+    match put_all(out, text) {
+        Ok(()) => status,
         Err(SinkFault::Failed) => Status::WriteFault,
         Err(SinkFault::Memory) => Status::Memory,
     }
 }
 
-fn perform<H: Shelf, K: Sink>(
-    alloc: Global,
-    words: &[String],
-    shelf: &mut H,
-    out: &mut K,
-) -> Result<Status, Stop> {
+// Writes the line of a stop, and what it means.
+fn explained<K: Sink>(alloc: Global, out: &mut K, stop: &Stop, text: &[u8]) -> Status
+    requires reading { stop.now ≢ ReadFault }
+    requires writing { IsOfReading stop.now }
+    ensures read { result ≢ Status.ReadFault }
+    ensures failed { result ≡ Status.WriteFault → Rose (K.faults out.old) (K.faults out.new) }
+{
+    let status = stop.report(alloc, out);
+    match put_all(out, text) {
+        Ok(()) => status,
+        Err(SinkFault::Failed) => Status::WriteFault,
+        Err(SinkFault::Memory) => Status::Memory,
+    }
+}
+
+// What the words ask for.
+fn answer<H: Shelf>(alloc: Global, words: &[String], shelf: &mut H) -> Result<Answer, Stop>
+    ensures failed { HasCause ReadFault (H.faults shelf.old) (H.faults shelf.new) result }
+    ensures ok { IfOk result IsAnswer }
+    ensures err { IfErr result (λ stop. IsOfReading stop ⊎ (stop ≡ Usage)) }
+{
     let asked = task(alloc, words)?;
     if let Task::Explain {
         file,
@@ -76,19 +108,43 @@ fn perform<H: Shelf, K: Sink>(
         is_image,
     } = asked
     {
-        return explain_answer(alloc, file, calls, is_image, shelf, out);
+        let asked = Question {
+            file,
+            calls,
+            is_image,
+        };
+        return explanation_of(alloc, asked, shelf);
     }
-    let (text, status) = answer(alloc, asked, shelf)?;
-    put_all(out, &text)?;
-    Ok(status)
+    let (text, status) = text_of(alloc, asked, shelf)?;
+    Ok(Answer::Whole(text, status))
+}
+
+// What `explain` writes.
+fn explanation_of<H: Shelf>(
+    alloc: Global,
+    asked: Question<'_>,
+    shelf: &mut H,
+) -> Result<Answer, Stop>
+    ensures failed { HasCause ReadFault (H.faults shelf.old) (H.faults shelf.new) result }
+    ensures ok { IfOk result IsAnswer }
+    ensures err { IfErr result IsOfReading }
+{
+    match explain_answer(alloc, asked, shelf)? {
+        Some((stop, words)) => Ok(Answer::Explained(stop, words)),
+        None => Ok(Answer::Whole(Vec::from_slice(alloc, b"no fault\n")?, Status::Done)),
+    }
 }
 
 // What a task but `explain` writes.
-fn answer<H: Shelf>(
+fn text_of<H: Shelf>(
     alloc: Global,
     asked: Task<'_>,
     shelf: &mut H,
-) -> Result<(Vec<u8>, Status), Stop> {
+) -> Result<(Vec<u8>, Status), Stop>
+    ensures failed { HasCause ReadFault (H.faults shelf.old) (H.faults shelf.new) result }
+    ensures ok { IfOk result (λ p. IsEnd p.1) }
+    ensures err { IfErr result (λ stop. IsOfReading stop ⊎ (stop ≡ Usage)) }
+{
     match asked {
         Task::Goal { project, name, at } => goal_answer(alloc, project, name, at, shelf),
         Task::List {

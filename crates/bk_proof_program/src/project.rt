@@ -4,7 +4,7 @@ ghost use Rattle.std.specs.Prelude.{◌≡◌, ◌<◌, true, Some, length, IfOk
 ghost use Rattle.bk_io.specs.Counts.{HasCause};
 ghost use Rattle.bk_io.specs.Files.{Files};
 ghost use Rattle.bk_p_proof.specs.Files.{IsShort};
-ghost use Rattle.bk_verbs.specs.Causes.{IsOfChecks, IsOfReading, CountsAbsence};
+ghost use Rattle.bk_verbs.specs.Causes.{IsOfChecks, IsOfReading};
 ghost use Rattle.bk_verbs.specs.Project.{ReadsProject};
 ghost use Rattle.bk_verbs.specs.declared.stop.Stop.TheVariants.{ReadFault};
 ghost use Rattle.bk_prune.specs.Pruned.{IsReady};
@@ -57,7 +57,6 @@ pub(crate) struct Whole {
 pub(crate) fn read_whole<H: Shelf>(alloc: Global, name: &str, shelf: &mut H) -> Result<Whole, Stop>
     ensures reading { IfErr result IsOfReading }
     ensures failed { HasCause ReadFault (H.faults shelf.old) (H.faults shelf.new) result }
-    ensures missing { CountsAbsence (H.absences shelf.old) (H.absences shelf.new) result }
     ensures told { IfOk result (λ w. (files : Files) → H.files shelf.old ≡ Some files →
         ReadsProject true files name.now w.project.development w.project.scripts) }
     ensures ready { IfOk result (λ w. IsReady w.project.development w.table w.list.items) }
@@ -94,7 +93,6 @@ fn obligations_with(
 fn read_again<H: Shelf>(alloc: Global, name: &str, shelf: &mut H) -> Result<ProjectTexts, Stop>
     ensures reading { IfErr result IsOfReading }
     ensures failed { HasCause ReadFault (H.faults shelf.old) (H.faults shelf.new) result }
-    ensures missing { CountsAbsence (H.absences shelf.old) (H.absences shelf.new) result }
 {
     let text = fetch(alloc, name, shelf)?;
     let lines = read_lines(alloc, name, shelf)?;

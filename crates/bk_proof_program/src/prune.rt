@@ -1,9 +1,10 @@
 //! `prune`.
 
-ghost use Rattle.std.specs.Prelude.{◌≡◌, IfErr};
+ghost use Rattle.std.specs.Prelude.{IfOk, IfErr};
 ghost use Rattle.bk_io.specs.Counts.{HasCause};
-ghost use Rattle.bk_verbs.specs.Causes.{IsOfReading, CountsAbsence};
+ghost use Rattle.bk_verbs.specs.Causes.{IsOfReading};
 ghost use Rattle.bk_verbs.specs.declared.stop.Stop.TheVariants.{ReadFault};
+ghost use Rattle.bk_proof_program.specs.Answers.{IsEnd};
 
 use crate::project::read_whole;
 use bk_io::{Memory, Shelf};
@@ -19,9 +20,9 @@ pub(crate) fn prune_answer<H: Shelf>(
     file: &str,
     shelf: &mut H,
 ) -> Result<(Vec<u8>, Status), Stop>
+    ensures end { IfOk result (λ a. IsEnd a.1) }
     ensures reading { IfErr result IsOfReading }
     ensures failed { HasCause ReadFault (H.faults shelf.old) (H.faults shelf.new) result }
-    ensures missing { CountsAbsence (H.absences shelf.old) (H.absences shelf.new) result }
 {
     let whole = read_whole(alloc, project, shelf)?;
     let names = whole.files.names(alloc, true)?;

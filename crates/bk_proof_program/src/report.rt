@@ -3,8 +3,9 @@
 ghost use Rattle.std.specs.Prelude.{◌≡◌, Some, IfOk, IfErr};
 ghost use Rattle.bk_io.specs.Counts.{HasCause};
 ghost use Rattle.bk_io.specs.Files.{Files};
-ghost use Rattle.bk_verbs.specs.Causes.{IsOfReading, CountsAbsence};
+ghost use Rattle.bk_verbs.specs.Causes.{IsOfReading};
 ghost use Rattle.bk_verbs.specs.declared.stop.Stop.TheVariants.{ReadFault};
+ghost use Rattle.bk_proof_program.specs.Answers.{IsEnd};
 ghost use Rattle.bk_prune.specs.Pruned.{IsReady};
 ghost use Rattle.bk_proof_program.specs.Settled.{HasStatus};
 
@@ -34,9 +35,9 @@ pub(crate) fn report_answer<H: Shelf>(
     shelf: &mut H,
 ) -> Result<(Vec<u8>, Status), Stop>
     ensures status { IfOk result (λ a. (files : Files) → H.files shelf.old ≡ Some files → HasStatus files project.now a.1) }
+    ensures end { IfOk result (λ a. IsEnd a.1) }
     ensures reading { IfErr result IsOfReading }
     ensures failed { HasCause ReadFault (H.faults shelf.old) (H.faults shelf.new) result }
-    ensures missing { CountsAbsence (H.absences shelf.old) (H.absences shelf.new) result }
 {
     let whole = read_whole(alloc, project, shelf)?;
     let table = table_of(alloc, project, &whole.project)?;
