@@ -22,7 +22,7 @@ pub(crate) fn goal_answer<H: Shelf>(
     at: Option<usize>,
     shelf: &mut H,
 ) -> Result<(Vec<u8>, Status), Stop>
-    ensures end { IfOk result (λ a. IsEnd a.1) }
+    ensures ends { IfOk result (λ a. IsEnd a.1) }
     ensures reading { IfErr result IsOfReading }
     ensures failed { HasCause ReadFault (H.faults shelf.old) (H.faults shelf.new) result }
 {
@@ -44,7 +44,9 @@ pub(crate) fn goal_answer<H: Shelf>(
     Ok((text, status_of(is_open)))
 }
 
-fn status_of(is_open: bool) -> Status {
+fn status_of(is_open: bool) -> Status
+    ensures { IsEnd result }
+{
     if is_open {
         Status::Unproved
     } else {

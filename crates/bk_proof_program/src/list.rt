@@ -33,7 +33,7 @@ pub(crate) fn list_answer<H: Shelf>(
     shelf: &mut H,
 ) -> Result<(Vec<u8>, Status), Stop>
     ensures status { IfOk result (λ a. (files : Files) → H.files shelf.old ≡ Some files → HasStatus files project.now a.1) }
-    ensures end { IfOk result (λ a. IsEnd a.1) }
+    ensures ends { IfOk result (λ a. IsEnd a.1) }
     ensures reading { IfErr result IsOfReading }
     ensures failed { HasCause ReadFault (H.faults shelf.old) (H.faults shelf.new) result }
 {
@@ -46,7 +46,8 @@ pub(crate) fn list_answer<H: Shelf>(
 
 /// Done where no row is open.
 pub(crate) fn status_of(table: &Table) -> Status
-    ensures { result ≡ meant.status_of (first_open table.now.rows.items) }
+    ensures value { result ≡ meant.status_of (first_open table.now.rows.items) }
+    ensures ends { IsEnd result }
 {
     match table.first_open() {
         Some(_) => Status::Unproved,

@@ -20,7 +20,7 @@ pub(crate) fn prune_answer<H: Shelf>(
     file: &str,
     shelf: &mut H,
 ) -> Result<(Vec<u8>, Status), Stop>
-    ensures end { IfOk result (λ a. IsEnd a.1) }
+    ensures ends { IfOk result (λ a. IsEnd a.1) }
     ensures reading { IfErr result IsOfReading }
     ensures failed { HasCause ReadFault (H.faults shelf.old) (H.faults shelf.new) result }
 {
@@ -46,7 +46,9 @@ fn place_among(names: &[&str], name: &str) -> usize {
     names.len()
 }
 
-fn status_of(unproved: usize) -> Status {
+fn status_of(unproved: usize) -> Status
+    ensures { IsEnd result }
+{
     if unproved == 0 {
         Status::Done
     } else {

@@ -1,5 +1,8 @@
 //! What the words of the command line ask for.
 
+ghost use Rattle.std.specs.Prelude.{◌≡◌, ◌⊎◌, IfErr};
+ghost use Rattle.bk_verbs.specs.declared.stop.Stop.TheVariants.{Usage, Memory};
+
 use bk_verbs::Stop;
 use clap::error::ErrorKind;
 use clap::{Arg, ArgAction, ArgMatches, Command};
@@ -47,7 +50,9 @@ pub(crate) enum ReportForm {
 }
 
 /// The task that the words ask for; `Usage` where they ask for none.
-pub(crate) fn task<'a>(alloc: Global, given: &'a [String]) -> Result<Task<'a>, Stop> {
+pub(crate) fn task<'a>(alloc: Global, given: &'a [String]) -> Result<Task<'a>, Stop>
+    ensures { IfErr result (λ stop. (stop ≡ Usage) ⊎ (stop ≡ Memory)) }
+{
     let matches = matches_of(alloc, given)?;
     if matches.get_flag("help") {
         return Ok(Task::Help);
@@ -85,7 +90,9 @@ fn flag<'a>(alloc: Global, name: &'a str) -> Arg<'a> {
     Arg::new(alloc, name).long(name).action(ArgAction::SetTrue)
 }
 
-fn matches_of<'a>(alloc: Global, given: &'a [String]) -> Result<ArgMatches<'a>, Stop> {
+fn matches_of<'a>(alloc: Global, given: &'a [String]) -> Result<ArgMatches<'a>, Stop>
+    ensures { IfErr result (λ stop. (stop ≡ Usage) ⊎ (stop ≡ Memory)) }
+{
     let command = command(alloc)?;
     match command.try_get_matches_from(given) {
         Ok(matches) => Ok(matches),
@@ -93,7 +100,9 @@ fn matches_of<'a>(alloc: Global, given: &'a [String]) -> Result<ArgMatches<'a>, 
     }
 }
 
-fn stop_of(kind: ErrorKind) -> Stop {
+fn stop_of(kind: ErrorKind) -> Stop
+    ensures { (result ≡ Usage) ⊎ (result ≡ Memory) }
+{
     match kind {
         ErrorKind::OutOfMemory => Stop::Memory,
         _ => Stop::Usage,
