@@ -37,7 +37,7 @@ pub fn goal_text(alloc: Global, asked: Asked<'_>) -> Result<GoalText, Memory>
     ensures { IfOk result (λ g. ShowsGoal (flattened asked.dev.now) asked.found
         (sequent_of asked.obligation.now.sequent) g.text.items) }
 {
-    let sequent = asked.obligation.sequent.copy(alloc)?;
+    let sequent = again(alloc, &asked.obligation.sequent)?;
     match asked.found {
         Some(found) => behind_rules(alloc, asked, found, sequent),
         None => alone(alloc, asked, sequent),

@@ -1,8 +1,9 @@
 //! A project with the texts of its files.
 
-ghost use Rattle.std.specs.Prelude.{◌≡◌, ◌<◌, true, Some, length, IfOk, IfErr, IfSome};
+ghost use Rattle.std.specs.Prelude.{◌≡◌, ◌<◌, true, Some, All, length, IfOk, IfErr, IfSome};
 ghost use Rattle.bk_io.specs.Counts.{HasCause};
 ghost use Rattle.bk_io.specs.Files.{Files};
+ghost use Rattle.bk_front.specs.ProjectFile.{IsFileName};
 ghost use Rattle.bk_p_proof.specs.Files.{IsShort};
 ghost use Rattle.bk_verbs.specs.Causes.{IsOfChecks, IsOfReading};
 ghost use Rattle.bk_verbs.specs.Project.{ReadsProject};
@@ -96,16 +97,29 @@ fn read_again<H: Shelf>(alloc: Global, name: &str, shelf: &mut H) -> Result<Proj
 {
     let text = fetch(alloc, name, shelf)?;
     let lines = read_lines(alloc, name, shelf)?;
-    let component_names = names(alloc, &lines, false)?;
-    let components = fetch_all(alloc, &component_names, shelf)?;
-    let proof_names = names(alloc, &lines, true)?;
-    let proofs = fetch_all(alloc, &proof_names, shelf)?;
+    let components = fetch_named(alloc, &lines, false, shelf)?;
+    let proofs = fetch_named(alloc, &lines, true, shelf)?;
     Ok(ProjectTexts {
         text,
         lines,
         components,
         proofs,
     })
+}
+
+// The files of one kind that the lines name.
+fn fetch_named<H: Shelf>(
+    alloc: Global,
+    lines: &[ProjectLine],
+    of_proofs: bool,
+    shelf: &mut H,
+) -> Result<Vec<Vec<u8>>, Stop>
+    requires { All (λ line. IsFileName line.name) lines.now }
+    ensures reading { IfErr result IsOfReading }
+    ensures failed { HasCause ReadFault (H.faults shelf.old) (H.faults shelf.new) result }
+{
+    let wanted = names(alloc, lines, of_proofs)?;
+    fetch_all(alloc, &wanted, shelf)
 }
 
 // Each proof file by itself.

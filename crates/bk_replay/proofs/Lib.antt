@@ -1,1 +1,1 @@
-pub mod Furthest
+pub mod Reached

@@ -1,4 +1,4 @@
-use Rattle.bk_replay.proofs.Furthest.{open-is-one, furthest-is-one}
+use Rattle.bk_replay.proofs.Reached.{open-is-one, furthest-is-one}
 use Rattle.bk_replay.proofs.laws.standings_are_one.Goals as goal
 
 pub returns : goal.returns

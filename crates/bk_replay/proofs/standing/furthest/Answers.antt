@@ -2,7 +2,7 @@ use Rattle.std.proofs.Common.{Err, ap}
 use Rattle.bk_seq.specs.Sequents.{sequent_of}
 use Rattle.bk_kernel.specs.Standing.{in_order}
 use Rattle.bk_kernel.proofs.Replayed.{Stands, advanced}
-use Rattle.bk_replay.proofs.Furthest.{stopped_there, done_there}
+use Rattle.bk_replay.proofs.Reached.{stopped_there, done_there}
 use Rattle.bk_replay.proofs.standing.furthest.Goals as goal
 
 pub returns-in-Err-NoInstance : goal.returns-in-Err-NoInstance

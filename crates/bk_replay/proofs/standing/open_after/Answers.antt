@@ -2,7 +2,7 @@ use Rattle.std.proofs.Common.{map, subst}
 use Rattle.std.specs.Prelude.{IfOk}
 use Rattle.bk_seq.specs.Sequents.{sequent_of}
 use Rattle.bk_replay.specs.Standing.{IsFurthest}
-use Rattle.bk_replay.proofs.Furthest.{front_after, front_most}
+use Rattle.bk_replay.proofs.Reached.{front_after, front_most}
 use Rattle.bk_replay.proofs.standing.open_after.Goals as goal
 
 pub returns : goal.returns
