@@ -59,10 +59,10 @@ fn front_of(name: &[u8]) -> &[u8] {
     let mut end = 0;
     for (index, byte) in name.iter().enumerate() {
         if *byte == b'.' {
-            end = index + 1;
+            end = index.saturating_add(1);
         }
     }
-    &name[..end]
+    if end < name.len() { &name[..end] } else { name }
 }
 
 /// How many obligations have names with this front.
@@ -79,10 +79,8 @@ pub(crate) fn count_with(list: &[Obligation], front: &[u8]) -> usize {
 /// How many of the obligations before this one have names with this front.
 pub(crate) fn place_among(list: &[Obligation], index: usize, front: &[u8]) -> usize {
     let mut place = 0usize;
-    let mut before = index;
-    while before > 0 {
-        before -= 1;
-        let Some(obligation) = list.get(before) else {
+    for behind in 0..index {
+        let Some(obligation) = list.get(index - 1 - behind) else {
             return place;
         };
         if front_of(obligation.name.as_bytes()) != front {

@@ -62,12 +62,8 @@ impl Numbers {
     // The numbers past one that is gone are one less.
     fn lower(&mut self, gone: u32) {
         self.count = self.count.saturating_sub(1);
-        for index in 0..self.now.len() {
-            if let Some(number) = self.now[index] {
-                if number > gone {
-                    self.now[index] = Some(number.saturating_sub(1));
-                }
-            }
+        for number in self.now.iter_mut() {
+            *number = lowered(*number, gone);
         }
     }
 
@@ -75,6 +71,14 @@ impl Numbers {
     pub(crate) fn number_now(&self, before: u128) -> Option<u32> {
         let index = usize::try_from(before).ok()?.checked_sub(1)?;
         self.now.get(index).copied().flatten()
+    }
+}
+
+// A number where this one is gone.
+fn lowered(number: Option<u32>, gone: u32) -> Option<u32> {
+    match number {
+        Some(before) if before > gone => Some(before.saturating_sub(1)),
+        other => other,
     }
 }
 

@@ -40,7 +40,9 @@ pub(crate) fn fates(
         };
         let own = own_proofs(alloc, &mut proofs, step.parts.len())?;
         let fate = fate_of(rule, step, &own, drops);
-        fates[index] = fate;
+        if index < fates.len() {
+            fates[index] = fate;
+        }
         proofs.push(proof_of(alloc, rule, step, own, fate)?)?;
     }
     Ok(fates)

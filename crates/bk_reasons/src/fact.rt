@@ -51,27 +51,33 @@ fn sum(
         let Some(fact) = fact_at(facts, *number) else {
             return Ok(None);
         };
-        if !add(&mut total, *multiplier, fact) {
+        let Some(next) = added(alloc, &total, *multiplier, fact)? else {
             return Ok(None);
-        }
+        };
+        total = next;
     }
     Ok(Some(total))
 }
 
-// Adds a multiple; false where a number is past 128 bits.
-fn add(total: &mut Fact, multiplier: i128, fact: &Fact) -> bool {
+// A fact and a multiple of another one; None where a number is past 128 bits.
+fn added(
+    alloc: Global,
+    total: &Fact,
+    multiplier: i128,
+    fact: &Fact,
+) -> Result<Option<Fact>, Memory> {
     let Some(constant) = sum_of(total.constant, multiplier, fact.constant) else {
-        return false;
+        return Ok(None);
     };
-    total.constant = constant;
-    for index in 0..total.coefs.len() {
+    let mut coefs = Vec::new(alloc);
+    for (index, before) in total.coefs.iter().enumerate() {
         let part = fact.coefs.get(index).copied().unwrap_or(0);
-        let Some(coefficient) = sum_of(total.coefs[index], multiplier, part) else {
-            return false;
+        let Some(coefficient) = sum_of(*before, multiplier, part) else {
+            return Ok(None);
         };
-        total.coefs[index] = coefficient;
+        coefs.push(coefficient)?;
     }
-    true
+    Ok(Some(Fact { coefs, constant }))
 }
 
 fn sum_of(before: i128, multiplier: i128, part: i128) -> Option<i128> {

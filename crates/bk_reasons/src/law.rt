@@ -1,7 +1,11 @@
 //! Laws that do not fit.
 
+ghost use Rattle.std.specs.Prelude.{All};
+ghost use Rattle.bk_bind.specs.Limits.{IsWithinLimits};
+
 use crate::compare::say_difference;
 use crate::naming::count;
+use crate::within::are_within;
 use crate::words::Words;
 use bk_bind::{LawFault, LawInstance};
 use bk_form::Form;
@@ -17,6 +21,10 @@ pub(crate) fn law_does_not_fit(
     forward: bool,
     old: &Form,
 ) -> Result<bool, Memory> {
+    if !are_within(picks) {
+        words.say(b"a term passes limit 6 (200000 nodes) or 13 (a height of 2000)")?;
+        return Ok(true);
+    }
     match law_at(words, law, picks) {
         Ok(instance) => other_formula(words, law, &instance, forward, old),
         Err(LawFault::Unknown) => {
@@ -32,7 +40,9 @@ pub(crate) fn law_does_not_fit(
 }
 
 // The law at these terms.
-fn law_at(words: &Words<'_>, law: u16, picks: &[Form]) -> Result<LawInstance, LawFault> {
+fn law_at(words: &Words<'_>, law: u16, picks: &[Form]) -> Result<LawInstance, LawFault>
+    requires { All IsWithinLimits picks.now }
+{
     if law < 200 {
         return bk_laws_log::instance(words.alloc, law, picks);
     }

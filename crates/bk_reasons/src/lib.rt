@@ -15,6 +15,7 @@ mod near;
 mod place;
 mod shape;
 mod unread;
+mod within;
 mod words;
 
 pub use misfit::write_misfit;

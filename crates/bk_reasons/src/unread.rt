@@ -250,7 +250,7 @@ fn say_unknown(words: &mut Words<'_>, scope: &Scope, token: &[u8]) -> Result<(),
     let alloc = words.alloc;
     if let Some(index) = like(alloc, token, &names)? {
         words.say(b"; near it is ")?;
-        words.say(names[index])?;
+        words.say(names.get(index).copied().unwrap_or(&[]))?;
     }
     say_names(words, &names)
 }

@@ -90,5 +90,5 @@ fn front_of(text: &[u8], most: usize) -> &[u8] {
             end = index;
         }
     }
-    &text[..end]
+    if end < text.len() { &text[..end] } else { text }
 }
