@@ -24,8 +24,8 @@ use std::alloc::Global;
 /// The version of the program.
 const VERSION: &str = "1";
 
-/// What it was proved with.
-const TOOLCHAIN: &str = "the Rattle toolchain that its README names";
+/// What it was proved with: the line of `rt version`.
+const TOOLCHAIN: &str = "rattle-kit-13b logic dac8208d650f15bf";
 
 /// The status of a development; done where nothing is open.
 pub(crate) fn report_answer<H: Shelf>(
