@@ -1,6 +1,6 @@
 //! Faults of names and types.
 
-use crate::say::{say, say_place, say_quoted, token_at, tokens_of, written};
+use crate::say::{is_one_of, say, say_place, say_quoted, token_at, tokens_of, written};
 use crate::source::{Source, SourceKind};
 use bk_form::{Token, TokenKind};
 use bk_io::Memory;
@@ -186,16 +186,22 @@ fn place_of_type(text: &[u8], list: &[Token], index: usize) -> Option<&'static s
         Some(token) => written(text, token),
         None => b"".as_slice(),
     };
-    match clause_before(text, list, index) {
-        b"CONSTANTS" | b"CONCRETE_CONSTANTS" => Some(" to PROPERTIES\n"),
-        b"VARIABLES" | b"ABSTRACT_VARIABLES" | b"CONCRETE_VARIABLES" => Some(" to INVARIANT\n"),
-        _ => match before {
-            b"!" => Some(" before the => of the quantifier\n"),
-            b"#" | b"{" | b"%" => Some(" as a conjunct to what it binds\n"),
-            b"VAR" => Some(" by an assignment of a term that has a type\n"),
-            b"ANY" => Some(" to WHERE\n"),
-            _ => None,
-        },
+    let clause = clause_before(text, list, index);
+    if is_one_of(clause, &["CONSTANTS", "CONCRETE_CONSTANTS"]) {
+        return Some(" to PROPERTIES\n");
+    }
+    if is_one_of(
+        clause,
+        &["VARIABLES", "ABSTRACT_VARIABLES", "CONCRETE_VARIABLES"],
+    ) {
+        return Some(" to INVARIANT\n");
+    }
+    match before {
+        b"!" => Some(" before the => of the quantifier\n"),
+        b"#" | b"{" | b"%" => Some(" as a conjunct to what it binds\n"),
+        b"VAR" => Some(" by an assignment of a term that has a type\n"),
+        b"ANY" => Some(" to WHERE\n"),
+        _ => None,
     }
 }
 
@@ -212,20 +218,22 @@ fn clause_before<'a>(text: &'a [u8], list: &[Token], index: usize) -> &'a [u8] {
 }
 
 fn is_clause(word: &[u8]) -> bool {
-    matches!(
+    is_one_of(
         word,
-        b"SETS"
-            | b"CONSTANTS"
-            | b"CONCRETE_CONSTANTS"
-            | b"PROPERTIES"
-            | b"VARIABLES"
-            | b"ABSTRACT_VARIABLES"
-            | b"CONCRETE_VARIABLES"
-            | b"INVARIANT"
-            | b"ASSERTIONS"
-            | b"VALUES"
-            | b"INITIALISATION"
-            | b"OPERATIONS"
+        &[
+            "SETS",
+            "CONSTANTS",
+            "CONCRETE_CONSTANTS",
+            "PROPERTIES",
+            "VARIABLES",
+            "ABSTRACT_VARIABLES",
+            "CONCRETE_VARIABLES",
+            "INVARIANT",
+            "ASSERTIONS",
+            "VALUES",
+            "INITIALISATION",
+            "OPERATIONS",
+        ],
     )
 }
 

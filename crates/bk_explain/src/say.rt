@@ -70,3 +70,13 @@ pub(crate) fn written<'a>(text: &'a [u8], token: &Token) -> &'a [u8] {
 pub(crate) fn token_at(tokens: &[Token], at: usize) -> Option<usize> {
     tokens.iter().position(|token| token.start == at)
 }
+
+/// Whether a word is one of these.
+pub(crate) fn is_one_of(word: &[u8], words: &[&str]) -> bool {
+    for other in words {
+        if other.as_bytes() == word {
+            return true;
+        }
+    }
+    false
+}

@@ -1,6 +1,6 @@
 //! Faults of the spelling of texts.
 
-use crate::say::{say, say_line, say_quoted, tokens_of, written};
+use crate::say::{is_one_of, say, say_line, say_quoted, tokens_of, written};
 use crate::source::{Source, SourceKind};
 use bk_form::{Token, TokenKind};
 use bk_grammar::{COMPONENT, Furthest, PROOF_FILE, Symbol, furthest_token, part_words};
@@ -140,22 +140,20 @@ fn may_begin_with_name(symbol: Symbol) -> bool {
 
 // Whether a part may begin with a name.
 fn begins_with_name(part: &[u8]) -> bool {
-    for first in [
-        "<names>",
-        "<sets>",
-        "<set>",
-        "<operations>",
-        "<operation>",
-        "<substitution>",
-        "<statement>",
-        "<term>",
-        "<operand>",
-    ] {
-        if first.as_bytes() == part {
-            return true;
-        }
-    }
-    false
+    is_one_of(
+        part,
+        &[
+            "<names>",
+            "<sets>",
+            "<set>",
+            "<operations>",
+            "<operation>",
+            "<substitution>",
+            "<statement>",
+            "<term>",
+            "<operand>",
+        ],
+    )
 }
 
 // What could stand there.
@@ -209,42 +207,49 @@ fn say_semicolon(
 }
 
 fn ends_list(text: &[u8]) -> bool {
-    matches!(
+    is_one_of(
         text,
-        b"END" | b"end" | b"ELSE" | b"ELSIF" | b"WHEN" | b"OR" | b"INVARIANT"
+        &["END", "end", "ELSE", "ELSIF", "WHEN", "OR", "INVARIANT"],
     )
 }
 
 // What is said of a word that other tools read, or that is often meant for another one.
 fn hint_of(text: &[u8]) -> Option<&'static str> {
+    if is_one_of(
+        text,
+        &[
+            "SEES",
+            "USES",
+            "INCLUDES",
+            "EXTENDS",
+            "PROMOTES",
+            "IMPORTS",
+            "LOCAL_OPERATIONS",
+        ],
+    ) {
+        return Some("a development stands alone, and this clause is not read");
+    }
+    if is_other_notation(text) {
+        return Some("this notation is not read");
+    }
     match text {
-        b"SEES"
-        | b"USES"
-        | b"INCLUDES"
-        | b"EXTENDS"
-        | b"PROMOTES"
-        | b"IMPORTS"
-        | b"LOCAL_OPERATIONS" => Some("a development stands alone, and this clause is not read"),
         b"DEFINITIONS" => Some("definitions are not read: each is to be written where it is used"),
         b"ABSTRACT_CONSTANTS" => {
             Some("constants are numbers, truth values or elements, declared in CONSTANTS")
         }
         b"CASE" => Some("CASE is not read: write it as IF and ELSIF, or as SELECT"),
         b"ELSEIF" => Some("a further branch of IF begins with ELSIF"),
-        b"SIGMA"
-        | b"PI"
-        | b"UNION"
-        | b"INTER"
-        | b"union"
-        | b"inter"
-        | b"iterate"
-        | b"closure"
-        | b"struct"
-        | b"rec"
-        | b"STRING"
-        | b"perm"
-        | b"iseq"
-        | b"seq1" => { Some("this notation is not read") }
         _ => None,
     }
+}
+
+// Whether a word is one of notation that other tools read.
+fn is_other_notation(text: &[u8]) -> bool {
+    is_one_of(
+        text,
+        &[
+            "SIGMA", "PI", "UNION", "INTER", "union", "inter", "iterate", "closure", "struct",
+            "rec", "STRING", "perm", "iseq", "seq1",
+        ],
+    )
 }
