@@ -70,7 +70,8 @@ fn are_of_same_kinds(one: &[Token], other: &[Token]) -> bool
         return false;
     }
     for (index, token) in one.iter().enumerate() {
-        if !is_same(&token.kind, &other[index].kind) {
+        let second = &other[index];
+        if !is_same(&token.kind, &second.kind) {
             return false;
         }
     }
