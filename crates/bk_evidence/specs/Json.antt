@@ -15,6 +15,7 @@ use Rattle.bk_evidence.specs.Items.{sums_over}
 abbrev pub text_data : List ℕ → Data
 text_data bytes = string (utf8_lossy bytes)
 
+-- a count
 abbrev pub count_data : ℕ → Data
 count_data n = number (unsigned n)
 
@@ -44,16 +45,20 @@ sums_data sums = object (put (codes "open") (count_data sums.left) (put (codes "
     (put (codes "obvious") (count_data sums.obvious) (put (codes "obligations") (count_data sums.obligations) no_members))))
 
 -- ---- lists of them
+-- the obligations
 abbrev pub items_data : List Item → Data
 items_data items = array (items_of (map item_data items))
 
+-- the files
 abbrev pub inputs_data : List Input → Data
 inputs_data inputs = array (items_of (map input_data inputs))
 
+-- texts, one after another
 abbrev pub texts_data : List (List ℕ) → Data
 texts_data texts = array (items_of (map text_data texts))
 
 -- ---- the report
+-- who wrote it and what it is of, the files, the obligations, the scripts for none, and the sums
 abbrev pub report_data : Report → Data
 report_data report = object (put (codes "sums") (sums_data (sums_over report.items.items))
     (put (codes "scripts_for_no_obligation") (texts_data report.strays.items) (put (codes "obligations") (items_data report.items.items)

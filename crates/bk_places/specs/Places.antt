@@ -20,6 +20,7 @@ abbrev pub last_line_from : List ℕ → List ℕ → List ℕ
 last_line_from line [] = line
 last_line_from line (c ∷ cs) = cond (nat_eq c 10) (last_line_from cs cs) (last_line_from line cs)
 
+-- what stands behind the last line end of a text
 abbrev pub last_line : List ℕ → List ℕ
 last_line text = last_line_from text text
 
