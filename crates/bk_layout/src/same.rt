@@ -70,8 +70,7 @@ fn are_of_same_kinds(one: &[Token], other: &[Token]) -> bool
         return false;
     }
     for (index, token) in one.iter().enumerate() {
-        let second = &other[index];
-        if !is_same(&token.kind, &second.kind) {
+        if !is_same(&token.kind, &other[index].kind) {
             return false;
         }
     }
