@@ -1,17 +1,18 @@
 -- How deep the data of reports nest.
-use Rattle.std.proofs.Common.{◌≡◌, ℕ, zero, suc, ◌≤◌, max, List, [], ◌∷◌, map, arith, Ordering, Less, Equal, Greater, nat_cmp, Option, Some, None}
+use Rattle.std.proofs.Common.{◌≡◌, ℕ, zero, suc, ◌≤◌, max, List, [], ◌∷◌, map, arith, refl, codes, string_bytes, Ordering, Less, Equal, Greater, nat_cmp, Option, Some, None}
 use Rattle.std.specs.Ordering.{match_ordering}
 use Rattle.std.specs.Cmp.Lexicographic.{slice_cmp}
-use Rattle.serde_json.specs.Data.{Data, object, array, Members, no_members, member, put, depth, items_depth, members_depth}
+use Rattle.serde_json.specs.Data.{Data, string, object, array, Members, no_members, member, put, depth, items_depth, members_depth}
 use Rattle.serde_json.specs.View.{items_of}
 use Rattle.serde_json.specs.Read.{max_depth}
+use Rattle.bk_report.specs.Table.{state_text}
 use Rattle.bk_evidence.specs.declared.item.Item.{Item}
 use Rattle.bk_evidence.specs.declared.item.Script.{Script}
 use Rattle.bk_evidence.specs.declared.report.Input.{Input}
 use Rattle.bk_evidence.specs.declared.report.Report.{Report}
 use Rattle.bk_evidence.specs.declared.sums.Sums.{Sums}
 use Rattle.bk_evidence.specs.Items.{sums_over}
-use Rattle.bk_evidence.specs.Json.{text_data, script_data, place_members, item_data, input_data, sums_data, items_data, inputs_data, texts_data, report_data}
+use Rattle.bk_evidence.specs.Json.{text_data, count_data, script_data, place_members, item_data, input_data, sums_data, items_data, inputs_data, texts_data, report_data}
 
 -- ---- members and items
 by-order : (n : ℕ) (o : Ordering) (a b c : Members) → members_depth a ≤ n → members_depth b ≤ n → members_depth c ≤ n → members_depth (match_ordering o a b c) ≤ n
@@ -42,22 +43,54 @@ none n = omega arith
 flat : (n : ℕ) → 0 ≤ n
 flat n = omega arith
 
+-- members whose values are flat, put one behind another
+one-flat : (k : List ℕ) (d : Data) (ms : Members) (n : ℕ) → depth d ≡ 0 → members_depth ms ≤ n → members_depth (put k d ms) ≤ n
+one-flat k d ms n e h = put-within k d ms n (omega arith) h
+
 -- ---- parts of a report
 script-within : (script : Option Script) → depth (script_data script) ≤ 1
 script-within None = omega arith
-script-within (Some script) = one-more _ 0 (put-within _ _ _ 0 (flat 0) (put-within _ _ _ 0 (flat 0) (none 0)))
+script-within (Some script) =
+    let first = one-flat (codes "rules") (count_data script.rules) no_members 0 refl (none 0) in
+    one-more (put (codes "place") (text_data script.place) (put (codes "rules") (count_data script.rules) no_members)) 0 (one-flat (codes "place") (text_data script.place) (put (codes "rules") (count_data script.rules) no_members) 0 refl first)
+
+abbrev file-member line-member : Item → Members
+file-member item = put (codes "file") (text_data item.file) no_members
+line-member item = put (codes "line") (count_data item.line) (file-member item)
 
 place-within : (item : Item) → members_depth (place_members item) ≤ 1
-place-within item = put-within _ _ _ 1 (flat 1) (put-within _ _ _ 1 (flat 1) (put-within _ _ _ 1 (flat 1) (none 1)))
+place-within item =
+    one-flat (codes "column") (count_data item.column) (line-member item) 1 refl
+    (one-flat (codes "line") (count_data item.line) (file-member item) 1 refl (one-flat (codes "file") (text_data item.file) no_members 1 refl (none 1)))
+
+abbrev name-member asks-member state-member : Item → Members
+name-member item = put (codes "name") (text_data item.name) (place_members item)
+asks-member item = put (codes "asks") (text_data item.words) (name-member item)
+state-member item = put (codes "state") (text_data (state_text item.state)) (asks-member item)
 
 item-within : (item : Item) → depth (item_data item) ≤ 2
-item-within item = one-more _ 1 (put-within _ _ _ 1 (script-within item.script) (put-within _ _ _ 1 (flat 1) (put-within _ _ _ 1 (flat 1) (put-within _ _ _ 1 (flat 1) (place-within item)))))
+item-within item =
+    one-more (put (codes "script") (script_data item.script) (state-member item)) 1 (put-within (codes "script") (script_data item.script) (state-member item) 1 (script-within item.script)
+    (one-flat (codes "state") (text_data (state_text item.state)) (asks-member item) 1 refl (one-flat (codes "asks") (text_data item.words) (name-member item) 1 refl (one-flat (codes "name") (text_data item.name) (place_members item) 1 refl (place-within item)))))
+
+abbrev named-member sized-member : Input → Members
+named-member input = put (codes "name") (text_data input.name) no_members
+sized-member input = put (codes "bytes") (count_data input.length) (named-member input)
 
 input-within : (input : Input) → depth (input_data input) ≤ 2
-input-within input = one-more _ 1 (put-within _ _ _ 1 (flat 1) (put-within _ _ _ 1 (flat 1) (put-within _ _ _ 1 (flat 1) (none 1))))
+input-within input =
+    one-more (put (codes "sha256") (string (string_bytes input.digest)) (sized-member input)) 1 (one-flat (codes "sha256") (string (string_bytes input.digest)) (sized-member input) 1 refl
+    (one-flat (codes "bytes") (count_data input.length) (named-member input) 1 refl (one-flat (codes "name") (text_data input.name) no_members 1 refl (none 1))))
+
+abbrev all-member obvious-member proved-member : Sums → Members
+all-member sums = put (codes "obligations") (count_data sums.obligations) no_members
+obvious-member sums = put (codes "obvious") (count_data sums.obvious) (all-member sums)
+proved-member sums = put (codes "proved") (count_data sums.proved) (obvious-member sums)
 
 sums-within : (sums : Sums) → depth (sums_data sums) ≤ 3
-sums-within sums = one-more _ 2 (put-within _ _ _ 2 (flat 2) (put-within _ _ _ 2 (flat 2) (put-within _ _ _ 2 (flat 2) (put-within _ _ _ 2 (flat 2) (none 2)))))
+sums-within sums =
+    one-more (put (codes "open") (count_data sums.left) (proved-member sums)) 2 (one-flat (codes "open") (count_data sums.left) (proved-member sums) 2 refl (one-flat (codes "proved") (count_data sums.proved) (obvious-member sums) 2 refl
+    (one-flat (codes "obvious") (count_data sums.obvious) (all-member sums) 2 refl (one-flat (codes "obligations") (count_data sums.obligations) no_members 2 refl (none 2)))))
 
 items-within : (items : List Item) → depth (items_data items) ≤ 3
 items-within items = let each = list-within item_data 2 item-within items in omega arith
@@ -68,10 +101,21 @@ inputs-within inputs = let each = list-within input_data 2 input-within inputs i
 texts-within : (texts : List (List ℕ)) → depth (texts_data texts) ≤ 3
 texts-within texts = let each = list-within text_data 2 (λ text. flat 2) texts in omega arith
 
+abbrev version-member toolchain-member machine-member inputs-member obligations-member strays-member : Report → Members
+version-member report = put (codes "version") (string report.version.now) no_members
+toolchain-member report = put (codes "toolchain") (string report.toolchain.now) (version-member report)
+machine-member report = put (codes "machine") (text_data report.machine) (toolchain-member report)
+inputs-member report = put (codes "inputs") (inputs_data report.inputs.items) (machine-member report)
+obligations-member report = put (codes "obligations") (items_data report.items.items) (inputs-member report)
+strays-member report = put (codes "scripts_for_no_obligation") (texts_data report.strays.items) (obligations-member report)
+
 report-within : (report : Report) → depth (report_data report) ≤ 4
 report-within report =
-    one-more _ 3 (put-within _ _ _ 3 (sums-within (sums_over report.items.items)) (put-within _ _ _ 3 (texts-within report.strays.items) (put-within _ _ _ 3 (items-within report.items.items) (put-within _ _ _ 3 (inputs-within report.inputs.items)
-    (put-within _ _ _ 3 (flat 3) (put-within _ _ _ 3 (flat 3) (put-within _ _ _ 3 (flat 3) (none 3))))))))
+    let machine = one-flat (codes "machine") (text_data report.machine) (toolchain-member report) 3 refl (one-flat (codes "toolchain") (string report.toolchain.now) (version-member report) 3 refl (one-flat (codes "version") (string report.version.now) no_members 3 refl (none 3))) in
+    let inputs = put-within (codes "inputs") (inputs_data report.inputs.items) (machine-member report) 3 (inputs-within report.inputs.items) machine in
+    let obligations = put-within (codes "obligations") (items_data report.items.items) (inputs-member report) 3 (items-within report.items.items) inputs in
+    let strays = put-within (codes "scripts_for_no_obligation") (texts_data report.strays.items) (obligations-member report) 3 (texts-within report.strays.items) obligations in
+    one-more (put (codes "sums") (sums_data (sums_over report.items.items)) (strays-member report)) 3 (put-within (codes "sums") (sums_data (sums_over report.items.items)) (strays-member report) 3 (sums-within (sums_over report.items.items)) strays)
 
 pub report_nests : (report : Report) → depth (report_data report) ≤ max_depth
 report_nests report = let few = report-within report in omega arith
