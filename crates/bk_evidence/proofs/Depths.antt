@@ -54,8 +54,10 @@ script-within (Some script) =
     let first = one-flat (codes "rules") (count_data script.rules) no_members 0 refl (none 0) in
     one-more (put (codes "place") (text_data script.place) (put (codes "rules") (count_data script.rules) no_members)) 0 (one-flat (codes "place") (text_data script.place) (put (codes "rules") (count_data script.rules) no_members) 0 refl first)
 
-abbrev file-member line-member : Item → Members
+abbrev file-member : Item → Members
 file-member item = put (codes "file") (text_data item.file) no_members
+
+abbrev line-member : Item → Members
 line-member item = put (codes "line") (count_data item.line) (file-member item)
 
 place-within : (item : Item) → members_depth (place_members item) ≤ 1
@@ -63,9 +65,13 @@ place-within item =
     one-flat (codes "column") (count_data item.column) (line-member item) 1 refl
     (one-flat (codes "line") (count_data item.line) (file-member item) 1 refl (one-flat (codes "file") (text_data item.file) no_members 1 refl (none 1)))
 
-abbrev name-member asks-member state-member : Item → Members
+abbrev name-member : Item → Members
 name-member item = put (codes "name") (text_data item.name) (place_members item)
+
+abbrev asks-member : Item → Members
 asks-member item = put (codes "asks") (text_data item.words) (name-member item)
+
+abbrev state-member : Item → Members
 state-member item = put (codes "state") (text_data (state_text item.state)) (asks-member item)
 
 item-within : (item : Item) → depth (item_data item) ≤ 2
@@ -73,8 +79,10 @@ item-within item =
     one-more (put (codes "script") (script_data item.script) (state-member item)) 1 (put-within (codes "script") (script_data item.script) (state-member item) 1 (script-within item.script)
     (one-flat (codes "state") (text_data (state_text item.state)) (asks-member item) 1 refl (one-flat (codes "asks") (text_data item.words) (name-member item) 1 refl (one-flat (codes "name") (text_data item.name) (place_members item) 1 refl (place-within item)))))
 
-abbrev named-member sized-member : Input → Members
+abbrev named-member : Input → Members
 named-member input = put (codes "name") (text_data input.name) no_members
+
+abbrev sized-member : Input → Members
 sized-member input = put (codes "bytes") (count_data input.length) (named-member input)
 
 input-within : (input : Input) → depth (input_data input) ≤ 2
@@ -82,9 +90,13 @@ input-within input =
     one-more (put (codes "sha256") (string (string_bytes input.digest)) (sized-member input)) 1 (one-flat (codes "sha256") (string (string_bytes input.digest)) (sized-member input) 1 refl
     (one-flat (codes "bytes") (count_data input.length) (named-member input) 1 refl (one-flat (codes "name") (text_data input.name) no_members 1 refl (none 1))))
 
-abbrev all-member obvious-member proved-member : Sums → Members
+abbrev all-member : Sums → Members
 all-member sums = put (codes "obligations") (count_data sums.obligations) no_members
+
+abbrev obvious-member : Sums → Members
 obvious-member sums = put (codes "obvious") (count_data sums.obvious) (all-member sums)
+
+abbrev proved-member : Sums → Members
 proved-member sums = put (codes "proved") (count_data sums.proved) (obvious-member sums)
 
 sums-within : (sums : Sums) → depth (sums_data sums) ≤ 3
@@ -101,12 +113,22 @@ inputs-within inputs = let each = list-within input_data 2 input-within inputs i
 texts-within : (texts : List (List ℕ)) → depth (texts_data texts) ≤ 3
 texts-within texts = let each = list-within text_data 2 (λ text. flat 2) texts in omega arith
 
-abbrev version-member toolchain-member machine-member inputs-member obligations-member strays-member : Report → Members
+abbrev version-member : Report → Members
 version-member report = put (codes "version") (string report.version.now) no_members
+
+abbrev toolchain-member : Report → Members
 toolchain-member report = put (codes "toolchain") (string report.toolchain.now) (version-member report)
+
+abbrev machine-member : Report → Members
 machine-member report = put (codes "machine") (text_data report.machine) (toolchain-member report)
+
+abbrev inputs-member : Report → Members
 inputs-member report = put (codes "inputs") (inputs_data report.inputs.items) (machine-member report)
+
+abbrev obligations-member : Report → Members
 obligations-member report = put (codes "obligations") (items_data report.items.items) (inputs-member report)
+
+abbrev strays-member : Report → Members
 strays-member report = put (codes "scripts_for_no_obligation") (texts_data report.strays.items) (obligations-member report)
 
 report-within : (report : Report) → depth (report_data report) ≤ 4
