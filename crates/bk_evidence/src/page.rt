@@ -19,7 +19,7 @@ pre { white-space: pre-wrap; background: #f5f5f2; padding: 0.6rem; margin: 0.4re
 .sums { display: flex; flex-wrap: wrap; gap: 1.5rem; padding: 0; list-style: none; }
 .sums b { display: block; font-size: 1.5rem; }
 @media (max-width: 40rem) { td, th { display: block; border: 0; padding: 0.1rem 0; } tr { display: block; border-bottom: 1px solid #d8d8d8; padding: 0.5rem 0; } thead { display: none; } }
-@media print { body { margin: 0; max-width: none; font-size: 10pt; } tr { break-inside: avoid; } h2 { break-after: avoid; } }
+@media print { body { margin: 0; max-width: none; font-size: 10pt; } tr { break-inside: avoid; } h2 { break-after: avoid; } details::details-content { content-visibility: visible; } summary { display: none; } }
 </style>\n</head>\n<body>\n";
 
 /// What the report claims and what it does not, and the end of the page.
