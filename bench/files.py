@@ -452,7 +452,7 @@ def loops(folder):
 
 
 def chain_of(folder, name, components):
-    """A project of these components, from the machine downwards: of each what stands behind its header."""
+    """A project of these components, from the machine downwards: of each what stands after its header."""
     kinds = ["machine"] + ["refinement"] * (len(components) - 2) + ["implementation"]
     project = []
     for number, (kind, text) in enumerate(zip(kinds, components)):
@@ -514,8 +514,8 @@ def typed_before(folder):
     typed_by(folder, ["x1 : 0..3"] + [f"x{i + 1} = x{i}" for i in range(1, NAMES)])
 
 
-def typed_behind(folder):
-    """Each variable by the one behind it."""
+def typed_after(folder):
+    """Each variable by the one after it."""
     typed_by(folder, [f"x{i} = x{i + 1}" for i in range(1, NAMES)] + [f"x{NAMES} : 0..3"])
 
 
@@ -813,7 +813,7 @@ CASES = {
     "carried_many": carried_many,
     "typed": typed,
     "typed_before": typed_before,
-    "typed_behind": typed_behind,
+    "typed_after": typed_after,
     "chosen": chosen,
     "stored": stored,
     "inputs": inputs,

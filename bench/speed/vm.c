@@ -24,7 +24,7 @@ static const Inst loop[] = {
     {LOAD, 0, 0}, {PUSH, 0, 1}, {ADD}, {STORE, 0, 0}, {JUMP, 0, -8},
     {RET}};
 
-/* 8332 times: cell 1 counts to 1000, and each element of the array behind it becomes its index */
+/* 8332 times: cell 1 counts to 1000, and each element of the array after it becomes its index */
 static const Inst fill[] = {
     {PUSH, 0, 0}, {STORE, 0, 0},
     {LOAD, 0, 0}, {PUSH, 0, 8332}, {LT}, {JUMPZERO, 0, 20},
@@ -35,7 +35,7 @@ static const Inst fill[] = {
     {LOAD, 0, 0}, {PUSH, 0, 1}, {ADD}, {STORE, 0, 0}, {JUMP, 0, -22},
     {RET}};
 
-/* 6660 times: cell 1 counts to 1000, and each element of the array behind it becomes one more */
+/* 6660 times: cell 1 counts to 1000, and each element of the array after it becomes one more */
 static const Inst raise[] = {
     {PUSH, 0, 0}, {STORE, 0, 0},
     {LOAD, 0, 0}, {PUSH, 0, 6660}, {LT}, {JUMPZERO, 0, 23},

@@ -7,7 +7,7 @@ use Rattle.bk_lin.specs.Layout.{shown}
 use Rattle.bk_arith.specs.declared.joining.Join.{Join}
 use Rattle.bk_arith.specs.declared.joining.Join.TheVariants.{Sum, Difference}
 use Rattle.bk_arith.specs.Reading.{if_narrow}
-use Rattle.bk_arith.specs.Layout.{entry_of, entries_of, joined}
+use Rattle.bk_arith.specs.Layout.{entry_of, entries_of, combined}
 use Rattle.bk_arith.proofs.Entries.{minus_one, entries_of-sum, entries_of-difference}
 
 if_both : (a b : Bool) (p : Inequality) → a ≡ true → b ≡ true → (if a && b then Some p else None) ≡ Some p
@@ -27,7 +27,7 @@ pub wide_coefs : (z : ℤ) (cs : List ℤ) → list_all fits_i128 cs ≡ false �
 wide_coefs z cs h = unless_second (fits_i128 z) (list_all fits_i128 cs) (shown cs z) h
 
 -- two forms joined are their entries joined
-pub joined-entries : (join : Join) (p q : Inequality) → length p.coefs ≡ length q.coefs → joined join p q ≡ shown (entries_of join p.coefs q.coefs) (entry_of join p.constant q.constant)
+pub joined-entries : (join : Join) (p q : Inequality) → length p.coefs ≡ length q.coefs → combined join p q ≡ shown (entries_of join p.coefs q.coefs) (entry_of join p.constant q.constant)
 joined-entries Sum p q h = ap (λ cs. shown cs (p.constant +ℤ q.constant)) (sym (entries_of-sum p.coefs q.coefs h))
 joined-entries Difference p q h =
     ap (λ cs. shown cs (p.constant +ℤ negsuc 0 *ℤ q.constant)) (sym (entries_of-difference p.coefs q.coefs h))

@@ -43,9 +43,9 @@ entries_of join (x ∷ xs) (y ∷ ys) = entry_of join x y ∷ entries_of join xs
 entries_of join _ _ = []
 
 -- two linear forms added, or the second taken from the first
-abbrev pub joined : Join → Inequality → Inequality → Inequality
-joined Sum p q = plus p q
-joined Difference p q = plus p (times (negsuc 0) q)
+abbrev pub combined : Join → Inequality → Inequality → Inequality
+combined Sum p q = plus p q
+combined Difference p q = plus p (times (negsuc 0) q)
 
 -- why a term was not read: want of memory, or that it has no linear form within 128 bits
 abbrev pub IsReadFault : Option Inequality → ArithFault → Type 0

@@ -7,7 +7,7 @@ ghost use Rattle.bk_lin.specs.Inequality.{times};
 ghost use Rattle.bk_val.specs.Value.{fits_i128};
 ghost use Rattle.bk_lin.specs.Certificate.{inequality_of};
 ghost use Rattle.bk_arith.specs.Reading.{if_narrow};
-ghost use Rattle.bk_arith.specs.Layout.{entry_of, entries_of, joined};
+ghost use Rattle.bk_arith.specs.Layout.{entry_of, entries_of, combined};
 
 use bk_lin::Fact;
 
@@ -22,7 +22,7 @@ pub enum Join {
 pub fn combine(join: Join, left: Fact, right: &Fact) -> Option<Fact>
     requires { length left.coefs.items ≡ length right.now.coefs.items }
     ensures value { option_map inequality_of result ≡
-        if_narrow (joined join (inequality_of left) (inequality_of right.now)) }
+        if_narrow (combined join (inequality_of left) (inequality_of right.now)) }
     ensures width { IfSome result (λ f. length f.coefs.items ≡ length left.coefs.items) }
 {
     let Fact {

@@ -1,5 +1,5 @@
 -- Numbers that are kept in 64 bits say the same of a line as the written ones.
-use Rattle.std.proofs.Common.{◌≡◌, ℕ, zero, suc, ◌+◌, ◌^◌, ◌-◌, ◌≤◌, ◌<◌, Bool, inl, inr, refl, sym, ◌∙◌, ap, subst, arith, true, false, List, [], ◌∷◌, ◌++◌, length, drop, get_or, map, drop-cons, drop_of_length-le, append_assoc, Option, Some, None, Ok, Err}
+use Rattle.std.proofs.Common.{◌≡◌, ℕ, suc, ◌+◌, ◌^◌, ◌-◌, ◌≤◌, ◌<◌, inl, inr, refl, sym, ◌∙◌, ap, arith, true, false, List, [], ◌∷◌, ◌++◌, length, drop, map, Option, Some, None, Ok, Err}
 use Rattle.std.specs.Prelude.{◌⊎◌, ◌&&◌, nat_lt, ℤ, pos, negsuc, neg_ℤ, ◌≤ℤ◌, FitsSigned, if◌then◌else◌}
 use Rattle.std.specs.Int.{w64}
 use Rattle.std.specs.Int.Signed.{mag}
@@ -17,8 +17,7 @@ use Rattle.bk_calls.specs.CallLine.{Argument, Number, Truth, Element}
 use Rattle.bk_calls.specs.declared.argument.Argument.{Argument as Held}
 use Rattle.bk_calls.specs.Held.{held}
 use Rattle.bk_calls.specs.Script.{value_of, OutOfRange}
-use Rattle.bk_lex.specs.Lexis.{is_numeral, numeral_from}
-use Rattle.bk_calls.specs.Reading.{least, kept, kept_argument, digits_number, in_front_of, values_of, ranged, from_values}
+use Rattle.bk_calls.specs.Reading.{least, kept, kept_argument, in_front_of, values_of, ranged, from_values}
 
 -- the number is that one, or is kept for it
 abbrev IsKept : ℤ → ℤ → Type 0
@@ -114,41 +113,6 @@ kept_within image n most =
 
 within_kept : (image : Image) (n : ℤ) → int_max image ≤ℤ pos 9223372036854775807 → is_within (int_max image) n ≡ true → kept n ≡ n
 within_kept image n most h = kept_narrow n (within_narrow (int_max image) n most (within_then (int_max image) n h))
-
--- ---- digits behind a minus
-pub wide_numeral : (n : ℕ) → 2 ^ 63 ≤ n → kept (pos n) ≡ least
-wide_numeral n h = kept_wide (pos n) h
-
-pub narrow_numeral : (n : ℕ) → n < 2 ^ 63 → kept (pos n) ≡ pos n
-narrow_numeral n h = kept_narrow (pos n) h
-
-pub least_negated : (n : ℕ) → kept (pos n) ≡ least → kept (neg_ℤ (pos n)) ≡ least
-least_negated zero h = h
-least_negated (suc m) h =
-    elim (cases_lt (suc m) (2 ^ 63)) [
-      | inl lt ↦ (let e : pos (suc m) ≡ least = sym (narrow_numeral (suc m) lt) ∙ h in absurd (omega (arith, ints, e)))
-      | inr ge ↦ elim (cases_lt m (2 ^ 63)) [
-        | inl lt ↦ (let e : m ≡ 9223372036854775807 = omega (arith, lt, ge) in kept_narrow (negsuc m) lt ∙ ap negsuc e)
-        | inr more ↦ kept_wide (negsuc m) more
-      ]
-    ]
-
-pub kept_negated : (n : ℕ) → (kept (pos n) ≡ least → ⊥) → kept (neg_ℤ (pos n)) ≡ neg_ℤ (kept (pos n))
-kept_negated zero h = refl
-kept_negated (suc m) h =
-    elim (cases_lt (suc m) (2 ^ 63)) [
-      | inl lt ↦ (let low : m < 2 ^ 63 = omega (arith, lt) in kept_narrow (negsuc m) low ∙ ap neg_ℤ (sym (narrow_numeral (suc m) lt)))
-      | inr ge ↦ absurd (h (wide_numeral (suc m) ge))
-    ]
-
-minus_of : (is : Bool) (n : ℕ) (k r : ℤ) → Some k ≡ option_map kept (if is then Some (pos n) else None) → ((n : ℕ) → k ≡ kept (pos n) → r ≡ kept (neg_ℤ (pos n))) →
-    Some r ≡ option_map kept (option_map neg_ℤ (if is then Some (pos n) else None))
-minus_of true n k r is minus = (let e : k ≡ kept (pos n) = cc in ap (λ z. Some z) (minus n e))
-minus_of false n k r is minus = absurd cc
-
-pub minus_kept : (digits : List ℕ) (k r : ℤ) → Some k ≡ option_map kept (digits_number digits) → ((n : ℕ) → k ≡ kept (pos n) → r ≡ kept (neg_ℤ (pos n))) →
-    Some r ≡ option_map kept (option_map neg_ℤ (digits_number digits))
-minus_kept digits k r is minus = minus_of (is_numeral digits) (numeral_from 0 digits) k r is minus
 
 -- ---- the numbers of a line
 one_within : (image : Image) (n m : ℤ) → int_max image ≤ℤ pos 9223372036854775807 → IsKept n m → is_within (int_max image) m ≡ is_within (int_max image) n

@@ -1,6 +1,6 @@
 -- How a script is read, line by line and part by part. Only the contracts of private functions name what stands here.
 use Rattle.std.specs.Prelude.{ℕ, ◌+◌, ◌^◌, ◌-◌, nat_lt, ℤ, pos, negsuc, neg_ℤ, Bool, true, false, not, ◌&&◌, ◌||◌, ◌==◌, List, [], ◌∷◌}
-use Rattle.std.specs.Prelude.{◌++◌, codes, Option, Some, None, Result, Ok, Err, if◌then◌else◌, position, option_and_then, slice_get}
+use Rattle.std.specs.Prelude.{◌++◌, codes, map, Option, Some, None, Result, Ok, Err, if◌then◌else◌, position, option_and_then, slice_get}
 use Rattle.std.specs.Int.Signed.{mag}
 use Rattle.std.specs.List.{slice_split, list_all}
 use Rattle.std.specs.Option.{option_map}
@@ -133,6 +133,10 @@ abbrev pub kept_argument : Argument → Argument
 kept_argument (Number n) = Number (kept n)
 kept_argument (Truth b) = Truth b
 kept_argument (Element name) = Element name
+
+-- the arguments that stand in parentheses, as they are kept, where each piece is one
+abbrev pub kept_arguments : List ℕ → Option (List Argument)
+kept_arguments inside = option_map (map kept_argument) (arguments_in (pieces inside))
 
 -- ---- calls
 -- whether there is a closing parenthesis with only spaces after it, by what stands after the first one

@@ -151,8 +151,7 @@ pub fn arguments_of<'a>(
     words: &WordTable,
     inside: &'a [u8],
 ) -> Result<Option<Vec<Argument<'a>>>, AllocError>
-    ensures { IfOk result (λ found. option_map (λ arguments. map held arguments.items) found ≡
-        option_map (map reading.kept_argument) (reading.arguments_in (reading.pieces inside.now))) }
+    ensures { IfOk result (λ found. option_map (λ arguments. map held arguments.items) found ≡ reading.kept_arguments inside.now) }
 {
     let mut arguments = Vec::new(alloc);
     if is_spaces(inside) {

@@ -1,15 +1,14 @@
 // The arrays of an implementation, with the domains that they are declared with.
 
-ghost use Rattle.std.specs.Prelude.{◌≡◌, ◌++◌, ◌∷◌, ◌&&◌, [], ℕ, Some, IfOk};
+ghost use Rattle.std.specs.Prelude.{◌≡◌, ◌++◌, ◌∷◌, ◌&&◌, [], Some, IfOk};
 ghost use Rattle.bk_dev.specs.Codes.ClueView.{clue_seen};
 ghost use Rattle.bk_dev.specs.Development.{Development};
 ghost use Rattle.bk_dev.specs.Layout.{has_scalars, indices_of, linked_to, reversed, typing_clue};
 ghost use Rattle.bk_statics.specs.ValueFaults.{is_there};
 ghost use Rattle.bk_elab_terms.specs.Visible.{typing_of};
 ghost use Rattle.bk_form.specs.Table.{variable_type};
-ghost use Rattle.bk_check_b0.specs.Arrays.{IsDeclaredBy, array_told, is_silent, IsAlone};
+ghost use Rattle.bk_check_b0.specs.Arrays.{IsDeclaredBy, AreItsArrays, array_told, is_silent, IsAlone};
 ghost use Rattle.bk_statics.specs.Executable as meant;
-ghost use Rattle.bk_check_b0.specs.Executed.{array_by};
 ghost use Rattle.bk_scope.specs.Shown.{above_shown};
 
 use bk_dev::{Found, Level, clue_in, has_scalars, indices, linked};
@@ -29,8 +28,7 @@ pub fn array_domains(
     values: &[(u32, Form)],
 ) -> Result<Vec<(u32, Form)>, Memory>
     requires { IsAlone own.now }
-    ensures { IfOk result (λ arrays. (dev : Development) → IsDeclaredBy dev typing.entry (above_shown above.entry) own.now values.now →
-        (x : ℕ) → array_by arrays.items x ≡ meant.declared_domain dev x) }
+    ensures { IfOk result (λ arrays. AreItsArrays typing.entry (above_shown above.entry) own.now values.now arrays.items) }
 {
     let mut found = Vec::new(typing.alloc);
     let level = &own[0];

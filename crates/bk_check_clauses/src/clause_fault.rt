@@ -7,9 +7,10 @@ ghost use Rattle.bk_raw.specs.Meaning.Outcome as wanted;
 ghost use Rattle.bk_raw.specs.Errors.Blame.{blame};
 ghost use Rattle.bk_elab_terms.specs.Shown.{told};
 ghost use Rattle.bk_elab_terms.specs.Visible.{meaning_of, typing_of, visible_names};
+ghost use Rattle.bk_check_clauses.specs.Kept.{clause_faults_by};
 ghost use Rattle.bk_statics.specs.ClauseFaults as meant;
 ghost use Rattle.bk_statics.specs.SubFaults.{term_faults};
-ghost use Rattle.bk_scope.specs.Shown.{component_shown, declared_shown, variables_shown, refs, plan_shown, is_typed};
+ghost use Rattle.bk_scope.specs.Shown.{declared_shown, variables_shown, refs, is_typed};
 
 use bk_elab_terms::{Fault, Standing, Visible, earlier};
 use bk_io::Memory;
@@ -29,8 +30,7 @@ pub fn clause_fault(
     component: &Component<'_>,
     plan: &Plan<'_>,
 ) -> Result<Option<Fault>, Memory>
-    ensures { IfOk result (λ fault. told fault ≡ blame (meant.clause_faults typing.entry.max (typing_of typing.entry.types.now)
-        (plan_shown plan.now) (component_shown component.now))) }
+    ensures { IfOk result (λ fault. told fault ≡ blame (clause_faults_by typing.entry component.now plan.now)) }
 {
     let sets = set_fault(&component.sets);
     let constants = constant_fault(typing, plan.constants_at, &component.constants)?;

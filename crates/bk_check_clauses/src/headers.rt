@@ -8,9 +8,10 @@ ghost use Rattle.bk_elab_terms.specs.Shown.{told};
 ghost use Rattle.bk_elab_terms.specs.Visible.{visible_names};
 ghost use Rattle.bk_statics.specs.Binders.{texts};
 ghost use Rattle.bk_statics.specs.Components as written;
+ghost use Rattle.bk_check_clauses.specs.Kept.{operation_faults_by};
 ghost use Rattle.bk_statics.specs.OperationFaults as meant;
 ghost use Rattle.bk_statics.specs.NameFaults.{named_texts};
-ghost use Rattle.bk_statics.specs.Plan.{plan as plan_of, is_headed};
+ghost use Rattle.bk_statics.specs.Plan.{is_headed};
 ghost use Rattle.bk_scope.specs.Shown.{above_shown, component_shown, declared_shown, refs, is_blank, IsPlanOf};
 
 use crate::name_fault::is_named;
@@ -34,8 +35,7 @@ pub fn operation_fault(
 ) -> Result<Option<Fault>, Memory>
     requires blank { is_blank component.now.at blank.now }
     requires planned { IsPlanOf plan.now (above_shown above) (component_shown component.now) }
-    ensures { IfOk result (λ fault. told fault ≡ blame (meant.operation_faults (above_shown above.entry)
-        (component_shown component.now) (plan_of (above_shown above.entry) (component_shown component.now)))) }
+    ensures { IfOk result (λ fault. told fault ≡ blame (operation_faults_by above.entry component.now)) }
 {
     let missing = missing_start(component, plan);
     let start = shape_fault(component.kind, false, component.start(blank));

@@ -7,9 +7,10 @@ ghost use Rattle.bk_elab_terms.specs.Visible.{meaning_of, typing_of, visible_nam
 ghost use Rattle.bk_form.specs.Table.{listed_size};
 ghost use Rattle.bk_gsl.specs.State.{among};
 ghost use Rattle.bk_statics.specs.LevelOf as made;
-ghost use Rattle.bk_scope.specs.Shown.{refs, above_shown, component_shown, plan_shown};
+ghost use Rattle.bk_scope.specs.Shown.{refs, above_shown};
 ghost use Rattle.bk_statics.specs.SubFaults.{is_again};
 ghost use Rattle.bk_statics.specs.Typings.{set_named, target, type_named, variable_in, variable_named};
+ghost use Rattle.bk_check_clauses.specs.Kept.{value_faults_by};
 ghost use Rattle.bk_statics.specs.ValueFaults as meant;
 
 use bk_dev::Kind;
@@ -31,8 +32,7 @@ pub fn value_fault(
     component: &Component<'_>,
     plan: &Plan<'_>,
 ) -> Result<Option<Fault>, Memory>
-    ensures { IfOk result (λ fault. told fault ≡ blame (meant.value_faults_of typing.entry.max (above_shown above.entry)
-        (typing_of typing.entry.types.now) (plan_shown plan.now) (component_shown component.now))) }
+    ensures { IfOk result (λ fault. told fault ≡ blame (value_faults_by typing.entry above.entry component.now plan.now)) }
 {
     if component.kind != Kind::Implementation {
         return Ok(None);

@@ -112,17 +112,17 @@ operators_down (binary o a b) = max (operators_down a) (operators_down b) + 1
 operators_down _ = 0
 
 -- so few that its value is calculated with at most STACK_ROOM numbers on the stack, also where an array's index lies below it
-abbrev pub IsShallow : Formula → Type 0
-IsShallow f = operators_down f ≤ MOST_OPERATORS
+abbrev pub HasFewOperators : Formula → Type 0
+HasFewOperators f = operators_down f ≤ MOST_OPERATORS
 
 -- of f(i) := v the index and the value, each by itself; a fill has a value without operators
 abbrev pub IsShallowWrite : Option (Formula × Formula) → Type 0
-IsShallowWrite (Some w) = IsShallow w.0 × IsShallow w.1
+IsShallowWrite (Some w) = HasFewOperators w.0 × HasFewOperators w.1
 IsShallowWrite None = Unit {0}
 
 -- what a scalar is set to, and what is written to an array
 abbrev pub IsShallowTerm : ℕ → Option ArrayRow → Formula → Type 0
-IsShallowTerm x None f = IsShallow f
+IsShallowTerm x None f = HasFewOperators f
 IsShallowTerm x (Some row) f = IsShallowWrite (write_of x f)
 
 -- each term of an assignment
@@ -137,8 +137,8 @@ EvaluatesShallow arrays (assign ps) = HaveShallowTerms arrays ps
 EvaluatesShallow arrays (seq s t) = EvaluatesShallow arrays s × EvaluatesShallow arrays t
 EvaluatesShallow arrays (any zs s) = EvaluatesShallow arrays s
 EvaluatesShallow arrays (assert p s) = EvaluatesShallow arrays s
-EvaluatesShallow arrays (if_else p s t) = IsShallow p × EvaluatesShallow arrays s × EvaluatesShallow arrays t
-EvaluatesShallow arrays (loop p s i v) = IsShallow p × EvaluatesShallow arrays s
+EvaluatesShallow arrays (if_else p s t) = HasFewOperators p × EvaluatesShallow arrays s × EvaluatesShallow arrays t
+EvaluatesShallow arrays (loop p s i v) = HasFewOperators p × EvaluatesShallow arrays s
 EvaluatesShallow arrays _ = Unit {0}
 
 -- ---- the last level

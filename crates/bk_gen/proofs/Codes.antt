@@ -26,7 +26,7 @@ use Rattle.bk_b0.specs.Translation.{name_code, load_element, store_element, valu
 use Rattle.bk_b0.specs.Kinds.{literal_number, cell_type, index_type}
 use Rattle.bk_b0.specs.Cells.{IsKnown, IsCell, ValuesHaveKinds, ArraysHaveCells}
 use Rattle.bk_b0.proofs.TypedB0.{IsPlainValue, IsTypedExpression, IsTypedCondition, IsTypedTerm, IsTypedAssignment, IsTypedB0}
-use Rattle.bk_dev.specs.B0.{operators_down, IsShallow, IsShallowWrite, IsShallowTerm, HaveShallowTerms, EvaluatesShallow}
+use Rattle.bk_dev.specs.B0.{operators_down, HasFewOperators, IsShallowWrite, IsShallowTerm, HaveShallowTerms, EvaluatesShallow}
 use Rattle.bk_gen.specs.Laws.{HasElementsInRange}
 use Rattle.bk_gen.proofs.Slots.{cells-below, scalar-cells, array-cells, within-range, small-within, element-within, kind-within, IsDomain}
 use Rattle.bk_gen.proofs.Pieces.{IsPlain, HasGood, IsPiece, empty_piece, one_piece, joined_piece, fork_piece, loop_piece}
@@ -140,7 +140,7 @@ module _ (dev : Development) (image : Image) (most : code_max image ≡ int_max 
       (joined_piece image (Store cell ∷ []) (fill code (cell + 1) n) 1 0 0 1000 (store-piece cell (omega (arith, room))) (fill-piece code (cell + 1) n (omega (arith, room)) p))
 
   module _ (x : ℕ) (cell : IsCell dev x) where
-    scalar-piece : (f : Formula) → row_of (arrays_of dev) x ≡ None → IsTypedExpression dev (declared_type dev.table x) f → AreKnown f → IsShallow f → IsPiece image (value_code dev f ++ Store (cell_of dev x) ∷ []) 0 0 1000
+    scalar-piece : (f : Formula) → row_of (arrays_of dev) x ≡ None → IsTypedExpression dev (declared_type dev.table x) f → AreKnown f → HasFewOperators f → IsPiece image (value_code dev f ++ Store (cell_of dev x) ∷ []) 0 0 1000
     scalar-piece f plain typed known shallow = joined_piece image (value_code dev f) (Store (cell_of dev x) ∷ []) 0 1 0 1000 (expression-piece f (declared_type dev.table x) 0 1000 typed known (omega (arith, shallow))) (store-piece (cell_of dev x) (scalar-slot x plain cell.1))
 
     module _ (r : ArrayRow) (found : row_of (arrays_of dev) x ≡ Some r) where

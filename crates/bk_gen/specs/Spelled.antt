@@ -1,5 +1,5 @@
 -- Which images have a spelling within the limits.
-use Rattle.std.specs.Prelude.{◌≡◌, ◌⊎◌, ◌<◌, ◌≤◌, ◌^◌, All, length}
+use Rattle.std.specs.Prelude.{◌≡◌, ◌⊎◌, ◌<◌, ◌≤◌, All, length}
 use Rattle.bk_limits.specs.declared.TheConstants.{MOST_CELLS, MOST_SETS}
 use Rattle.bk_form.specs.Table.{element_texts}
 use Rattle.bk_dev.specs.Development.{Head, default_max}
@@ -17,7 +17,7 @@ pub record FitsFields (u : CodeUnit) : Type 0 where
   pub max : u.arrays.max ≡ default_max
   pub few_sets : length u.sets ≤ MOST_SETS
   pub sets : All (λ s. FitsSet (element_texts s)) u.sets
-  pub few_operations : length u.heads < 2 ^ 16
+  pub few_operations : IsCountable u.heads
   pub heads : All FitsHead u.heads
   pub outputs : All (λ b. IsCountable b.outputs) u.bodies
 

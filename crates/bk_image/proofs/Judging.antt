@@ -14,7 +14,7 @@ use Rattle.bk_code.specs.Checks.{FlowsTo, Passes, IsRoot, IsOpen, IsNumbered, Is
 use Rattle.bk_image.specs.declared.depths.Depth.{Depth}
 use Rattle.bk_image.specs.declared.depths.Depth.TheVariants.{Unknown, One, Many}
 use Rattle.bk_image.specs.Spelling.{inst as spell_inst}
-use Rattle.bk_image.specs.Faults.{count_place, place_of}
+use Rattle.bk_image.specs.Faults.{count_place, part_place}
 use Rattle.bk_image.specs.Stack.{depth_after, HasDepth, BreaksRules, IsAllowed, HasTwoDepths, HasBadDepth, IsStackFault, IsFirstStackFault}
 use Rattle.bk_image.specs.Progress.{Progress, IsKnown, HasDepthBelow, Covers, after, IsSettled, IsRight, IsWrong, AreRight, depth_at, next_of, target_of}
 use Rattle.bk_image.specs.Judging.{IsFirstWrong}
@@ -107,7 +107,7 @@ first_fault image p begin byte h is w = record {
   inst = w.at;
   is = wrong_fault image p w.at w.inst h w.get w.wrong;
   first = λ k lt fault. right_none image p k fault.0 h fault.1 (right_at image.code p.known w.at k fault.0 w.before lt fault.1) fault;
-  place = subst (λ b. byte ≡ place_of spell_inst b image.code w.at) is w.place;
+  place = subst (λ b. byte ≡ part_place spell_inst b image.code w.at) is w.place;
 }
 
 -- ---- all right

@@ -14,7 +14,7 @@ use Rattle.bk_image.specs.declared.fault.LoadFault.TheVariants.{Short, Magic, Ve
 use Rattle.bk_image.specs.declared.fault.LoadFault.TheVariants as faults
 use Rattle.bk_image.specs.Spelling.{spelling, inst, entry, text, parameters}
 use Rattle.bk_image.specs.Reading.{layout_of}
-use Rattle.bk_image.specs.Faults.{place, place_of, IsFirst, IsShortFault, IsArrayFault, IsOperandFault, IsOneInstFault, IsParametersFault, IsEntryFault, ops_place, count_place, IsNumberFault}
+use Rattle.bk_image.specs.Faults.{place, part_place, IsFirst, IsShortFault, IsArrayFault, IsOperandFault, IsOneInstFault, IsParametersFault, IsEntryFault, ops_place, count_place, IsNumberFault}
 use Rattle.bk_image.specs.Stack.{IsFirstStackFault}
 use Rattle.bk_image.specs.Encoding.{IsFirstNumberFault, IsFault}
 use Rattle.bk_image.specs.Laws.{HasOneFault}
@@ -116,29 +116,29 @@ entry_jump image k at op p (inr (inl f)) = parameters_jump image (at + length (t
 entry_jump image k at op p (inr (inr f)) = parameters_jump image (at + length (text op.name) + 4 + length (parameters op.inputs)) op.outputs p f
 
 -- a jump at fault stands where an instruction begins, or at the number of instructions
-jump_place : (image : Image) (p : ℕ) → IsNumberFault image (BadJump p) → (p ≡ count_place image) ⊎ ((k : ℕ) × (i : Inst) × (slice_get image.code k ≡ Some i) × (p ≡ place_of inst (count_place image + 4) image.code k))
+jump_place : (image : Image) (p : ℕ) → IsNumberFault image (BadJump p) → (p ≡ count_place image) ⊎ ((k : ℕ) × (i : Inst) × (slice_get image.code k ≡ Some i) × (p ≡ part_place inst (count_place image + 4) image.code k))
 jump_place image p (inl f) = let e = f.0 in absurd cc
 jump_place image p (inr (inl f)) = let e = f.0 in absurd cc
-jump_place image p (inr (inr (inl (k, op, get, f)))) = absurd (entry_jump image k (place_of entry (ops_place image) image.ops k) op p f)
+jump_place image p (inr (inr (inl (k, op, get, f)))) = absurd (entry_jump image k (part_place entry (ops_place image) image.ops k) op p f)
 jump_place image p (inr (inr (inr (inl f)))) = inl (ap place f.0)
-jump_place image p (inr (inr (inr (inr (k, i, get, f))))) = inr (k, i, get, inst_jump image k (place_of inst (count_place image + 4) image.code k) i p f)
+jump_place image p (inr (inr (inr (inr (k, i, get, f))))) = inr (k, i, get, inst_jump image k (part_place inst (count_place image + 4) image.code k) i p f)
 
 -- a slot at fault stands before the number of instructions, or within an instruction
 slot_place : (image : Image) (p : ℕ) → IsNumberFault image (BadSlot p) → (p < count_place image)
-    ⊎ ((k : ℕ) × (i : Inst) × (slice_get image.code k ≡ Some i) × (place_of inst (count_place image + 4) image.code k < p) × (p < place_of inst (count_place image + 4) image.code k + length (inst i)))
+    ⊎ ((k : ℕ) × (i : Inst) × (slice_get image.code k ≡ Some i) × (part_place inst (count_place image + 4) image.code k < p) × (p < part_place inst (count_place image + 4) image.code k + length (inst i)))
 slot_place image p (inl f) = let e = ap place f.0 in inl (omega (arith, e))
 slot_place image p (inr (inl f)) = let e = ap place f.0 in inl (omega (arith, e, ops_end image))
 slot_place image p (inr (inr (inl f))) = inl (ops_within image (BadSlot p) f).1
 slot_place image p (inr (inr (inr (inl f)))) = let e = f.0 in absurd cc
 slot_place image p (inr (inr (inr (inr (k, i, get, f))))) =
-    let at = place_of inst (count_place image + 4) image.code k in
+    let at = part_place inst (count_place image + 4) image.code k in
     inr (k, i, get, inst_slot image k at i p f, ((inst_judges image).within k at i (BadSlot p) f).1)
 
 apart : (image : Image) (p : ℕ) → IsNumberFault image (BadSlot p) → IsNumberFault image (BadJump p) → ⊥
 apart image p slot jump = by_places (slot_place image p slot) (jump_place image p jump)
   where
     at : ℕ → ℕ
-    at k = place_of inst (count_place image + 4) image.code k
+    at k = part_place inst (count_place image + 4) image.code k
 
     by_places : (p < count_place image) ⊎ ((k : ℕ) × (i : Inst) × (slice_get image.code k ≡ Some i) × (at k < p) × (p < at k + length (inst i)))
         → (p ≡ count_place image) ⊎ ((k : ℕ) × (i : Inst) × (slice_get image.code k ≡ Some i) × (p ≡ at k)) → ⊥
@@ -185,7 +185,7 @@ stacks_agree image a b p q =
         | inl behind ↦ absurd (p.first q.inst behind q.is)
         | inr level ↦
             let same : p.inst ≡ q.inst = omega arith in
-            p.place ∙ ap (λ k. place_of inst (count_place image + 4) image.code k) same ∙ sym q.place
+            p.place ∙ ap (λ k. part_place inst (count_place image + 4) image.code k) same ∙ sym q.place
       ]
     ]
 

@@ -82,13 +82,13 @@ pub record IsFirst (IsFault : LoadFault → Type 0) (e : LoadFault) : Type 0 whe
   pub least : (other : LoadFault) → IsFault other → place e ≤ place other
 
 -- where the part with this number begins, of parts that begin at a place
-abbrev pub place_of : {A : Type 0} → (A → List ℕ) → ℕ → List A → ℕ → ℕ
-place_of spell at items k = at + length (flat_map spell (take k items))
+abbrev pub part_place : {A : Type 0} → (A → List ℕ) → ℕ → List A → ℕ → ℕ
+part_place spell at items k = at + length (flat_map spell (take k items))
 
 -- a fault of one of the parts, each of which knows its number and its place
 abbrev pub IsFaultIn : {A : Type 0} → (A → List ℕ) → (ℕ → ℕ → A → LoadFault → Type 0) → ℕ → List A → LoadFault → Type 0
 IsFaultIn {A} spell IsFault at items e =
-    (k : ℕ) × (x : A) × (slice_get items k ≡ Some x) × IsFault k (place_of spell at items k) x e
+    (k : ℕ) × (x : A) × (slice_get items k ≡ Some x) × IsFault k (part_place spell at items k) x e
 
 -- the kind is of a set that there isn't, or the slot is past the cells
 abbrev pub IsParameterFault : Image → ℕ → ℕ → Parameter → LoadFault → Type 0

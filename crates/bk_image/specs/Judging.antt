@@ -5,7 +5,7 @@ use Rattle.bk_code.specs.declared.image.Image.{Image}
 use Rattle.bk_code.specs.declared.instruction.Inst.{Inst}
 use Rattle.bk_image.specs.declared.depths.Depth.{Depth}
 use Rattle.bk_image.specs.Spelling.{inst as spell_inst}
-use Rattle.bk_image.specs.Faults.{place_of}
+use Rattle.bk_image.specs.Faults.{part_place}
 use Rattle.bk_image.specs.Progress.{IsWrong, AreRight, depth_at}
 
 -- an instruction is wrong, those before it are right, and it stands at this byte
@@ -15,4 +15,4 @@ pub record IsFirstWrong (image : Image) (known : List Depth) (begin byte : ℕ) 
   pub get : slice_get image.code at ≡ Some inst
   pub wrong : IsWrong inst (depth_at known at)
   pub before : AreRight image.code known at
-  pub place : byte ≡ place_of spell_inst begin image.code at
+  pub place : byte ≡ part_place spell_inst begin image.code at

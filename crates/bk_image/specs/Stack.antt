@@ -6,7 +6,7 @@ use Rattle.bk_code.specs.declared.instruction.Inst.{Inst}
 use Rattle.bk_code.specs.declared.instruction.Inst.TheVariants.{Ret}
 use Rattle.bk_code.specs.Checks.{IsRoot, IsOpen, FlowsTo, pops, pushes}
 use Rattle.bk_image.specs.Spelling.{inst as spell_inst}
-use Rattle.bk_image.specs.Faults.{place_of, count_place}
+use Rattle.bk_image.specs.Faults.{part_place, count_place}
 
 -- the depth after an instruction, from the one before it; it may come out below 0
 abbrev pub depth_after : Inst → ℤ → ℤ
@@ -57,4 +57,4 @@ pub record IsFirstStackFault (image : Image) (at : ℕ) : Type 0 where
   pub inst : ℕ
   pub is : IsStackFault image inst
   pub first : (k : ℕ) → k < inst → IsStackFault image k → ⊥
-  pub place : at ≡ place_of spell_inst (count_place image + 4) image.code inst
+  pub place : at ≡ part_place spell_inst (count_place image + 4) image.code inst

@@ -3,12 +3,12 @@
 ghost use Rattle.std.specs.Option.{option_map};
 ghost use Rattle.std.specs.Prelude.{◌≡◌, ◌++◌, [], cond, map, IfOk, OnOk};
 ghost use Rattle.bk_elab_terms.specs.Visible.{visible_names};
-ghost use Rattle.bk_dev.specs.Development.{Development};
 ghost use Rattle.bk_dev.specs.declared.kind.Kind.TheVariants.{Machine};
 ghost use Rattle.bk_statics.specs.Components.{is_machine};
 ghost use Rattle.bk_statics.specs.LevelOf as meant;
-ghost use Rattle.bk_statics.specs.Plan.{plan as plan_of, fresh};
-ghost use Rattle.bk_scope.specs.Shown.{component_shown, declared_shown, placed_shown, plan_shown, way_shown, variable_way_shown, is_blank, IsPlanOf};
+ghost use Rattle.bk_statics.specs.Plan.{fresh};
+ghost use Rattle.bk_infer.specs.Listed.{AreAllWays};
+ghost use Rattle.bk_scope.specs.Shown.{component_shown, declared_shown, placed_shown, plan_shown, way_shown, variable_way_shown, is_blank};
 
 use crate::group::{group_by, member, push_by};
 use crate::ways::{Place, push_assigned, push_ways, references, way_from};
@@ -33,8 +33,7 @@ pub fn all_ways<'a>(
     blank: &'a Blank,
 ) -> Result<Vec<Way<'a>>, Memory>
     requires blank { is_blank component.now.at blank.now }
-    ensures { IfOk result (λ ways. (above : Development) → IsPlanOf plan.now above (component_shown component.now) →
-        map way_shown ways.items ≡ meant.all_ways (plan_of above (component_shown component.now)) (component_shown component.now)) }
+    ensures { IfOk result (λ ways. AreAllWays plan.now component.now ways.items) }
 {
     let mut found = Vec::new(alloc);
     push_by(

@@ -1,9 +1,10 @@
 // Groups of names, whose types the conjuncts of one predicate give.
 
 ghost use Rattle.std.specs.Option.{option_copied, option_map};
-ghost use Rattle.std.specs.Prelude.{◌≡◌, ◌++◌, map, IfOk, OnOk};
+ghost use Rattle.std.specs.Prelude.{◌≡◌, IfOk, OnOk};
 ghost use Rattle.bk_elab_terms.specs.Visible.{visible_names};
 ghost use Rattle.bk_statics.specs.Ways.{ways_by};
+ghost use Rattle.bk_infer.specs.Listed.{ListsMore};
 ghost use Rattle.bk_scope.specs.Shown.{refs, way_shown, member_shown, IsGroupOf};
 
 use bk_elab_terms::Visible;
@@ -21,8 +22,8 @@ pub fn push_by<'a>(
     names: &[&'a RawName],
     found: &mut Vec<Way<'a>>,
 ) -> Result<(), Memory>
-    ensures { OnOk result (map way_shown found.new.items ≡ map way_shown found.old.items ++
-        ways_by (visible_names around.now) (option_copied predicate.entry) (refs names.now)) }
+    ensures { OnOk result (ListsMore found.old.items
+        (ways_by (visible_names around.now) (option_copied predicate.entry) (refs names.now)) found.new.items) }
 {
     let group = group_by(alloc, around, predicate, names)?;
     for place in 0..names.len() {

@@ -6,6 +6,7 @@ ghost use Rattle.bk_form.specs.Role.{bind};
 ghost use Rattle.bk_raw.specs.Codes.SubView.{choices_of};
 ghost use Rattle.bk_raw.specs.Trees.RawTree.{trees_of};
 ghost use Rattle.bk_elab_terms.specs.Visible.{visible_names};
+ghost use Rattle.bk_infer.specs.Listed.{ListsMore};
 ghost use Rattle.bk_scope.specs.Shown.{branches_shown, refs, way_shown};
 ghost use Rattle.bk_statics.specs.Typings.{is_variable, numbered, numbered_old, target};
 ghost use Rattle.bk_statics.specs.Ways as meant;
@@ -66,8 +67,8 @@ pub fn push_ways<'a>(
     sub: &'a RawSub,
     found: &mut Vec<Way<'a>>,
 ) -> Result<(), Memory>
-    ensures { OnOk result (map way_shown found.new.items ≡ map way_shown found.old.items ++
-        meant.ways (visible_names place.now.names.value.items) place.now.first sub.now) }
+    ensures { OnOk result (ListsMore found.old.items
+        (meant.ways (visible_names place.now.names.value.items) place.now.first sub.now) found.new.items) }
 {
     match &sub.node {
         RawSubNode::Skip | RawSubNode::Assign(_, _) | RawSubNode::AssignAt(_, _, _) => Ok(()),
@@ -226,8 +227,8 @@ pub fn push_assigned<'a>(
     names: &[RawName],
     found: &mut Vec<Way<'a>>,
 ) -> Result<(), Memory>
-    ensures { OnOk result (map way_shown found.new.items ≡ map way_shown found.old.items ++
-        meant.assigned_ways (visible_names place.now.names.value.items) place.now.first sub.now first names.now) }
+    ensures { OnOk result (ListsMore found.old.items
+        (meant.assigned_ways (visible_names place.now.names.value.items) place.now.first sub.now first names.now) found.new.items) }
 {
     for index in 0..names.len() {
         let variable = ahead(first, index)?;

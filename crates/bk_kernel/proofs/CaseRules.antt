@@ -30,7 +30,7 @@ use Rattle.bk_seq.specs.Sequents.{Sequent}
 use Rattle.bk_kernel.specs.declared.rule.Rule.{Rule}
 use Rattle.bk_kernel.specs.declared.rule.Rule.TheVariants.{Pair, Elems, Interval, Induct}
 use Rattle.bk_kernel.specs.Branches.{Branch, goal, more}
-use Rattle.bk_kernel.specs.Listing.{one_for_each, elements_of, named_elements, all_of, listed_types, over_naturals, next_case}
+use Rattle.bk_kernel.specs.Listing.{one_for_each, elements_of, named_elements, elements_of_type, listed_types, over_naturals, next_case}
 use Rattle.bk_kernel.specs.Rules.{branches}
 use Rattle.bk_form.specs.Each.{Each}
 use Rattle.bk_arith.specs.Cases.{equations, interval_cases}
@@ -106,7 +106,7 @@ module _ (table : Table) (well : IsWellFormed table) (find : Finder) (law : IsSe
       among-elements e (elem s i) (q ∙ ap (λ x. elem x i) (eq-then r s k.0)) s (set_size table s) 0 (elements-if s (set_size table s) 0 i (omega arith) (omega arith))
   among-enum e _ q s h = absurd (cc)
 
-  among-all : (e : Formula) (r : Role) (fs : List Formula) → role table [] e ≡ r → all_of table r ≡ Some fs → Among e fs
+  among-all : (e : Formula) (r : Role) (fs : List Formula) → role table [] e ≡ r → elements_of_type table r ≡ Some fs → Among e fs
   among-all e (gives bool_type) fs h k = subst (Among e) (some-same (truth_value false ∷ truth_value true ∷ []) fs k) (among-booleans e (val e) refl (typed-value find (at_state table st) well typed e bool_type h))
   among-all e (gives (enum_type s)) fs h k = by_names (set_elements table s) refl k
     where
@@ -190,7 +190,7 @@ module _ (table : Table) (well : IsWellFormed table) (find : Finder) (law : IsSe
 
     pub elems-sound : (e : Formula) → Of (Elems e)
     elems-sound e h =
-        let k = mapped (λ fs. one_for_each s.1 (equations e fs)) (all_of table (role table [] e)) bs h in
+        let k = mapped (λ fs. one_for_each s.1 (equations e fs)) (elements_of_type table (role table [] e)) bs h in
         one-leads s.1 (equations e k.0) (one-equal e k.0 (among-all e (role table [] e) k.0 refl k.1)) (led (one_for_each s.1 (equations e k.0)) k.2)
 
     pub interval-sound : (i : ℕ) → Of (Interval i)

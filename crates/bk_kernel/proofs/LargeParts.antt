@@ -18,8 +18,8 @@ use Rattle.bk_arith.specs.Same.{is_same}
 use Rattle.bk_arith.proofs.SameFormula.{same-then}
 use Rattle.bk_arith.proofs.Options.{chained, mapped}
 use Rattle.bk_laws.specs.Rows.{Instance}
-use Rattle.bk_kernel.specs.Membership.{joined, conjunction}
-use Rattle.bk_kernel.specs.Rewriting.{Rewriting, instance_for, same_role, stands_for, replaced, goals_then, goal_changed, hypothesis_changed}
+use Rattle.bk_kernel.specs.Membership.{conjoined, conjunction}
+use Rattle.bk_kernel.specs.Rewriting.{Rewriting, instance_for, same_role, stands_for, part_rewritten, goals_then, goal_changed, hypothesis_changed}
 use Rattle.bk_kernel.specs.Held.{HasLarge, HasLargePart, IsTooLarge}
 use Rattle.bk_kernel.specs.Branches.{Branch, IsWithinBranch, when}
 use Rattle.bk_kernel.proofs.Viewed.{when-then}
@@ -43,13 +43,13 @@ some-within ts p w = record { nodes = omega (arith, w.nodes); height = omega (ar
 pub ruleset parts_within = (operand-within, left-within, right-within, all-within, some-within)
 
 -- ---- conjunctions
-joined-within : (p : Formula) (qs : List Formula) → IsWithinLimits (joined p qs) → IsWithinLimits p × Each IsWithinLimits qs
+joined-within : (p : Formula) (qs : List Formula) → IsWithinLimits (conjoined p qs) → IsWithinLimits p × Each IsWithinLimits qs
 joined-within p [] w = (w, tt)
 joined-within p (q ∷ qs) w =
     let k = joined-within (binary And p q) qs w in
     (left-within And p q k.0, (right-within And p q k.0, k.1))
 
-pub joined-first : (p : Formula) (qs : List Formula) → IsWithinLimits (joined p qs) → IsWithinLimits p
+pub joined-first : (p : Formula) (qs : List Formula) → IsWithinLimits (conjoined p qs) → IsWithinLimits p
 joined-first p qs w = (joined-within p qs w).0
 
 pub conjunction-within : (ps : List Formula) → IsWithinLimits (conjunction ps) → Each IsWithinLimits ps
@@ -76,7 +76,7 @@ pub put-within : (f : Formula) (path : List ℕ) (old new : Formula) → sub_at 
 put-within f path old new e h = part-within (put_at f path new) path new h (put-stands f path old new e)
 
 -- where the law at what stands there is too large, so is what comes
-pub replaced-large : (table : Table) (hyps : List Formula) (r : Rewriting) (f : Formula) (path : List ℕ) (old : Formula) → IsWithinLimits f → sub_at f path ≡ Some old → HasLarge (instance_for table hyps r old) → HasLargePart (replaced table hyps r f path)
+pub replaced-large : (table : Table) (hyps : List Formula) (r : Rewriting) (f : Formula) (path : List ℕ) (old : Formula) → IsWithinLimits f → sub_at f path ≡ Some old → HasLarge (instance_for table hyps r old) → HasLargePart (part_rewritten table hyps r f path)
 replaced-large table hyps r f path old small stands large x e sides whole =
     let made : Instance → List Formula × Formula = λ i. (i.sides, put_at f path i.right) in
     let k = chained (λ o. option_and_then (λ i. when (stands_for table o i) (made i)) (instance_for table hyps r o)) (sub_at f path) x e in

@@ -19,7 +19,7 @@ use Rattle.bk_laws.specs.Rows.{Instance}
 use Rattle.bk_kernel.specs.declared.rule.Place.{Place}
 use Rattle.bk_kernel.specs.declared.rule.Place.TheVariants.{Goal, Hyp as InHyp}
 use Rattle.bk_kernel.specs.Branches.{Branch, when}
-use Rattle.bk_kernel.specs.Rewriting.{Rewriting, instance_for, stands_for, same_role, replaced, goals_then, rewritten}
+use Rattle.bk_kernel.specs.Rewriting.{Rewriting, instance_for, stands_for, same_role, part_rewritten, goals_then, rewritten}
 use Rattle.bk_form.specs.Each.{Each}
 use Rattle.bk_form.specs.Predicates.{IsPredicate}
 use Rattle.bk_kernel.proofs.PlainRules.{Leads}
@@ -51,7 +51,7 @@ module _ (table : Table) (well : IsWellFormed table) (find : Finder) (law : IsSe
   typed-predicate f h k = let never : predicate ≡ untyped = sym h ∙ k in absurd (cc)
 
   -- what comes of a formula is as true as the formula
-  replaced-sound : (r : Rewriting) (f : Formula) (path : List ℕ) (x : List Formula × Formula) → IsPredicate table f → replaced table hyps r f path ≡ Some x → Each (IsPredicate table) x.0 → AllHold find (at_state table st) x.0 → truth find (at_state table st) x.1 ≡ truth find (at_state table st) f
+  replaced-sound : (r : Rewriting) (f : Formula) (path : List ℕ) (x : List Formula × Formula) → IsPredicate table f → part_rewritten table hyps r f path ≡ Some x → Each (IsPredicate table) x.0 → AllHold find (at_state table st) x.0 → truth find (at_state table st) x.1 ≡ truth find (at_state table st) f
   replaced-sound r f path x p e sides_type sides =
       let made : Instance → List Formula × Formula = λ i. (i.sides, put_at f path i.right) in
       let k = chained (λ old. option_and_then (λ i. when (stands_for table old i) (made i)) (instance_for table hyps r old)) (sub_at f path) x e in
@@ -72,7 +72,7 @@ module _ (table : Table) (well : IsWellFormed table) (find : Finder) (law : IsSe
   pub rewritten-sound : (r : Rewriting) (place : Place) (goal : Formula) (bs : List Branch) → IsPredicate table goal → rewritten table (hyps, goal) r place ≡ Some bs → Each (BranchTypes table) bs → Each L bs → truth find (at_state table st) goal ≡ true
   rewritten-sound r (Goal path) goal bs p e t l =
       let made : List Formula × Formula → List Branch = λ x. goals_then x.0 ([], x.1) in
-      let k = mapped made (replaced table hyps r goal path.items) bs e in
+      let k = mapped made (part_rewritten table hyps r goal path.items) bs e in
       let last : List Branch = ([], k.0.1) ∷ [] in
       let ts = subst (λ b. Each (BranchTypes table) b) (sym k.2) t in
       let ls = subst (λ b. Each L b) (sym k.2) l in
@@ -80,8 +80,8 @@ module _ (table : Table) (well : IsWellFormed table) (find : Finder) (law : IsSe
       sym same ∙ (each-right L (asides k.0.0) last ls).0 tt
   rewritten-sound r (InHyp i path) goal bs p e t l =
       let made : List Formula × Formula → List Branch = λ x. goals_then x.0 (x.1 ∷ [], goal) in
-      let j = chained (λ h. option_map made (replaced table hyps r h path.items)) (numbered_item hyps i) bs e in
-      let k = mapped made (replaced table hyps r j.0 path.items) bs j.2 in
+      let j = chained (λ h. option_map made (part_rewritten table hyps r h path.items)) (numbered_item hyps i) bs e in
+      let k = mapped made (part_rewritten table hyps r j.0 path.items) bs j.2 in
       let last : List Branch = (k.0.1 ∷ [], goal) ∷ [] in
       let ts = subst (λ b. Each (BranchTypes table) b) (sym k.2) t in
       let ls = subst (λ b. Each L b) (sym k.2) l in

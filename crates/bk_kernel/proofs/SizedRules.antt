@@ -24,8 +24,8 @@ use Rattle.bk_kernel.specs.declared.rule.Place.{Place}
 use Rattle.bk_kernel.specs.declared.rule.Place.TheVariants.{Goal, Hyp as InHyp}
 use Rattle.bk_kernel.specs.Branches.{Branch, extended, when, universal, existential, sides, operand}
 use Rattle.bk_kernel.specs.Naming.{gives_type, give_each, names_of, are_fresh, are_distinct, is_new}
-use Rattle.bk_kernel.specs.Listing.{named_elements, all_of, listed_types}
-use Rattle.bk_kernel.specs.Rewriting.{Rewriting, eq_to, eq_from, law_to, law_from, deciding, typing, negating, belonging, applying, extending, including, witnessing, set_of_type, relation_of_types, witness, instance_for, same_role, stands_for, replaced, goal_changed, hypothesis_changed, rewritten}
+use Rattle.bk_kernel.specs.Listing.{named_elements, elements_of_type, listed_types}
+use Rattle.bk_kernel.specs.Rewriting.{Rewriting, eq_to, eq_from, law_to, law_from, deciding, typing, negating, belonging, applying, extending, including, witnessing, set_of_type, relation_of_types, witness, instance_for, same_role, stands_for, part_rewritten, goal_changed, hypothesis_changed, rewritten}
 use Rattle.bk_kernel.specs.Rules.{fixed, used, instantiated, named_for, branches, makes, IsInstance}
 use Rattle.bk_kernel.specs.Derivations.{Leaves, Derives}
 use Rattle.bk_kernel.specs.RuleLaws.{SoundForAllSizes}
@@ -116,7 +116,7 @@ module _ (sizes : ℕ → ℕ) (table : Table) where
       let t = both-type (role table [] i.left) (role table [] i.right) k.1 in
       and-true (is_same i.left old) (same_role (role sized [] i.left) (role sized [] i.right)) k.0 ((λ j. same_role (role-sized sizes table [] i.left t.0 j) (role-sized sizes table [] i.right t.1 j)) ∙ k.1)
 
-  replaced-kept : (hyps : List Formula) (r : Rewriting) (f : Formula) (path : List ℕ) (x : List Formula × Formula) → replaced table hyps r f path ≡ Some x → replaced sized hyps r f path ≡ Some x
+  replaced-kept : (hyps : List Formula) (r : Rewriting) (f : Formula) (path : List ℕ) (x : List Formula × Formula) → part_rewritten table hyps r f path ≡ Some x → part_rewritten sized hyps r f path ≡ Some x
   replaced-kept hyps r f path x h =
       then-kept _ _ x (λ old k. by_instance old (instance_for table hyps r old) refl k) (sub_at f path) h
     where
@@ -127,17 +127,17 @@ module _ (sizes : ℕ → ℕ) (table : Table) where
           ∙ when-kept (stands_for table old i) (stands_for sized old i) (i.sides, put_at f path i.right) x (stands-kept old i) k
 
   rewritten-kept : (s : Sequent) (r : Rewriting) (place : Place) (bs : List Branch) → rewritten table s r place ≡ Some bs → rewritten sized s r place ≡ Some bs
-  rewritten-kept s r (Goal path) bs h = map-kept _ bs (replaced table s.0 r s.1 path.items) (replaced sized s.0 r s.1 path.items) (λ x. replaced-kept s.0 r s.1 path.items x) h
-  rewritten-kept s r (InHyp i path) bs h = then-kept _ _ bs (λ p k. map-kept _ bs (replaced table s.0 r p path.items) (replaced sized s.0 r p path.items) (λ x. replaced-kept s.0 r p path.items x) k) (numbered_item s.0 i) h
+  rewritten-kept s r (Goal path) bs h = map-kept _ bs (part_rewritten table s.0 r s.1 path.items) (part_rewritten sized s.0 r s.1 path.items) (λ x. replaced-kept s.0 r s.1 path.items x) h
+  rewritten-kept s r (InHyp i path) bs h = then-kept _ _ bs (λ p k. map-kept _ bs (part_rewritten table s.0 r p path.items) (part_rewritten sized s.0 r p path.items) (λ x. replaced-kept s.0 r p path.items x) k) (numbered_item s.0 i) h
 
   -- ---- rules
-  all-kept : (r : Role) (fs : List Formula) → all_of table r ≡ Some fs → all_of sized r ≡ Some fs
+  all-kept : (r : Role) (fs : List Formula) → elements_of_type table r ≡ Some fs → elements_of_type sized r ≡ Some fs
   all-kept (gives bool_type) fs h = h
   all-kept (gives (enum_type s)) fs h = ap (named_elements s) (names-sized sizes 0 table.sets s) ∙ h
   all-kept _ fs h = absurd (cc)
 
-  elements-kept : (e : Formula) (fs : List Formula) → all_of table (role table [] e) ≡ Some fs → all_of sized (role sized [] e) ≡ Some fs
-  elements-kept e fs h = kept (all_of sized) e fs refl (all-kept (role table [] e) fs h)
+  elements-kept : (e : Formula) (fs : List Formula) → elements_of_type table (role table [] e) ≡ Some fs → elements_of_type sized (role sized [] e) ≡ Some fs
+  elements-kept e fs h = kept (elements_of_type sized) e fs refl (all-kept (role table [] e) fs h)
 
   branches-kept : (s : Sequent) (rule : Rule) (bs : List Branch) → branches table s rule ≡ Some bs → branches sized s rule ≡ Some bs
   branches-kept s (Eval (Some place)) bs h = rewritten-kept s deciding place bs h
@@ -157,7 +157,7 @@ module _ (sizes : ℕ → ℕ) (table : Table) where
   branches-kept s (Sub place) bs h = rewritten-kept s including place bs h
   branches-kept s (Ex place) bs h = rewritten-kept s witnessing place bs h
   branches-kept s (Pair e) bs h = map-kept _ bs (listed_types (role table [] e)) (listed_types (role sized [] e)) (λ w. kept listed_types e w refl) h
-  branches-kept s (Elems e) bs h = map-kept _ bs (all_of table (role table [] e)) (all_of sized (role sized [] e)) (λ fs. elements-kept e fs) h
+  branches-kept s (Elems e) bs h = map-kept _ bs (elements_of_type table (role table [] e)) (elements_of_type sized (role sized [] e)) (λ fs. elements-kept e fs) h
   branches-kept s _ bs h = h
 
   made-kept : (s : Sequent) (rule : Rule) (news : List Sequent) → makes table s rule ≡ Some news → makes sized s rule ≡ Some news

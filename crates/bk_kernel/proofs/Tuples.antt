@@ -21,7 +21,7 @@ use Rattle.bk_form.specs.Predicates.{AllHold}
 use Rattle.bk_form.specs.Settings.{IsOver}
 use Rattle.bk_form.proofs.RoleParts.{connective-parts, membership-parts}
 use Rattle.bk_bind.specs.Laws.{TermsGive}
-use Rattle.bk_kernel.specs.Membership.{joined, conjunction, unpaired, memberships}
+use Rattle.bk_kernel.specs.Membership.{conjoined, conjunction, unpaired, memberships}
 use Rattle.bk_form.specs.Each.{Each}
 use Rattle.bk_form.specs.Predicates.{IsPredicate}
 use Rattle.bk_arith.proofs.Options.{some-same}
@@ -71,14 +71,14 @@ module _ (find : Finder) (table : Table) (st : State) where
   abbrev holds : Formula → Type 0
   holds p = truth find (at_state table st) p ≡ true
 
-  joined-then : (p : Formula) (qs : List Formula) → holds (joined p qs) → holds p × AllHold find (at_state table st) qs
+  joined-then : (p : Formula) (qs : List Formula) → holds (conjoined p qs) → holds p × AllHold find (at_state table st) qs
   joined-then p [] h = (h, tt)
   joined-then p (q ∷ qs) h =
       let k = joined-then (binary And p q) qs h in
       let both = and-both (truth find (at_state table st) p) (truth find (at_state table st) q) k.0 in
       (both.0, (both.1, k.1))
 
-  joined-if : (p : Formula) (qs : List Formula) → holds p → AllHold find (at_state table st) qs → holds (joined p qs)
+  joined-if : (p : Formula) (qs : List Formula) → holds p → AllHold find (at_state table st) qs → holds (conjoined p qs)
   joined-if p [] h k = h
   joined-if p (q ∷ qs) h k = joined-if (binary And p q) qs (and-true (truth find (at_state table st) p) (truth find (at_state table st) q) h k.0) k.1
 
@@ -142,7 +142,7 @@ module _ (find : Finder) (table : Table) (st : State) where
 
 -- ---- the parts of a conjunction that is a predicate
 module _ (table : Table) where
-  joined-parts : (p : Formula) (qs : List Formula) → IsPredicate table (joined p qs) → IsPredicate table p × Each (IsPredicate table) qs
+  joined-parts : (p : Formula) (qs : List Formula) → IsPredicate table (conjoined p qs) → IsPredicate table p × Each (IsPredicate table) qs
   joined-parts p [] h = (h, tt)
   joined-parts p (q ∷ qs) h =
       let k = joined-parts (binary And p q) qs h in

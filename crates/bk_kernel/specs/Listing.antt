@@ -25,10 +25,10 @@ named_elements s (Some (n ∷ ns)) = Some (elements_of s 0 (length (n ∷ ns)))
 named_elements s _ = None
 
 -- what a term of BOOL or of an enumerated set may be: FALSE before TRUE
-abbrev pub all_of : Table → Role → Option (List Formula)
-all_of table (gives bool_type) = Some (truth_value false ∷ truth_value true ∷ [])
-all_of table (gives (enum_type s)) = named_elements s (set_elements table s)
-all_of table _ = None
+abbrev pub elements_of_type : Table → Role → Option (List Formula)
+elements_of_type table (gives bool_type) = Some (truth_value false ∷ truth_value true ∷ [])
+elements_of_type table (gives (enum_type s)) = named_elements s (set_elements table s)
+elements_of_type table _ = None
 
 -- the types of the two parts of a pair
 abbrev pub listed_types : Role → Option (ValueType × ValueType)

@@ -10,14 +10,14 @@ use Rattle.bk_laws.specs.Rows.{Instance}
 use Rattle.bk_kernel.specs.Branches.{sides}
 
 -- p and all of these, joined from the left
-abbrev pub joined : Formula → List Formula → Formula
-joined p [] = p
-joined p (q ∷ qs) = joined (binary And p q) qs
+abbrev pub conjoined : Formula → List Formula → Formula
+conjoined p [] = p
+conjoined p (q ∷ qs) = conjoined (binary And p q) qs
 
 -- p & q & .. r, from the left
 abbrev pub conjunction : List Formula → Formula
 conjunction [] = btrue
-conjunction (p ∷ ps) = joined p ps
+conjunction (p ∷ ps) = conjoined p ps
 
 -- ---- several terms as one
 -- the n + 1 terms of which a formula is written as pairs to the left, before some more

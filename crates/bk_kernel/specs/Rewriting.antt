@@ -131,8 +131,8 @@ abbrev pub stands_for : Table → Formula → Instance → Bool
 stands_for table old i = is_same i.left old && same_role (role table [] i.left) (role table [] i.right)
 
 -- the sides, and the formula with the right side at the path
-abbrev pub replaced : Table → List Formula → Rewriting → Formula → List ℕ → Option (List Formula × Formula)
-replaced table hyps r f path = option_and_then (λ old.
+abbrev pub part_rewritten : Table → List Formula → Rewriting → Formula → List ℕ → Option (List Formula × Formula)
+part_rewritten table hyps r f path = option_and_then (λ old.
     option_and_then (λ i. when (stands_for table old i) (i.sides, put_at f path i.right)) (instance_for table hyps r old)) (sub_at f path)
 
 -- these as goals in order, then one more branch
@@ -149,5 +149,5 @@ hypothesis_changed goal o = option_map (λ x. goals_then x.0 (x.1 ∷ [], goal))
 
 -- at the goal the goal changes, and at a hypothesis the changed formula is one more hypothesis
 abbrev pub rewritten : Table → Sequent → Rewriting → Place → Option (List Branch)
-rewritten table s r (Goal path) = goal_changed (replaced table s.0 r s.1 path.items)
-rewritten table s r (InHyp i path) = option_and_then (λ h. hypothesis_changed s.1 (replaced table s.0 r h path.items)) (numbered_item s.0 i)
+rewritten table s r (Goal path) = goal_changed (part_rewritten table s.0 r s.1 path.items)
+rewritten table s r (InHyp i path) = option_and_then (λ h. hypothesis_changed s.1 (part_rewritten table s.0 r h path.items)) (numbered_item s.0 i)

@@ -25,7 +25,7 @@ use Rattle.bk_kernel.specs.declared.rule.Rule.TheVariants.{Ex, Pair, Elems, Inte
 use Rattle.bk_kernel.specs.Branches.{Branch, extended, more, goal, when, closed_if, sides, operand, universal, existential}
 use Rattle.bk_kernel.specs.Naming.{give_each, names_of, are_fresh}
 use Rattle.bk_kernel.specs.Deciding.{decided, is_yes}
-use Rattle.bk_kernel.specs.Listing.{one_for_each, all_of, listed_types, over_naturals, next_case}
+use Rattle.bk_kernel.specs.Listing.{one_for_each, elements_of_type, listed_types, over_naturals, next_case}
 use Rattle.bk_kernel.specs.Rewriting.{eq_to, eq_from, law_to, law_from, deciding, typing, negating}
 use Rattle.bk_kernel.specs.Rewriting.{belonging, applying, extending, including, witnessing, rewritten}
 
@@ -111,7 +111,7 @@ branches table s (Sub place) = rewritten table s including place
 branches table s (Ex place) = rewritten table s witnessing place
 branches table s (Pair e) = option_map
     (λ w. more s (for_some (w.0 ∷ w.1 ∷ []) (binary Equality e (binary Maplet (bound 1) (bound 0))) ∷ [])) (listed_types (role table [] e))
-branches table s (Elems e) = option_map (λ fs. one_for_each s.1 (equations e fs)) (all_of table (role table [] e))
+branches table s (Elems e) = option_map (λ fs. one_for_each s.1 (equations e fs)) (elements_of_type table (role table [] e))
 branches table s (Interval i) = option_and_then (λ h. option_map (one_for_each s.1) (interval_cases h)) (numbered_item s.0 i)
 branches table s Induct = option_map (λ p. goal (opened (literal (pos 0) ∷ []) p) ∷ goal (next_case p) ∷ []) (over_naturals s.1)
 branches table s Poly = option_and_then (λ x. closed_if (equal_polynomials x.0 x.1)) (sides Equality s.1)

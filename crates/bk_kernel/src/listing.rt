@@ -11,7 +11,7 @@ ghost use Rattle.bk_bind.specs.declared.error.BindFault.TheVariants.{TooLarge};
 ghost use Rattle.bk_arith.specs.Cases.{equations, interval_cases};
 ghost use Rattle.bk_seq.specs.Sequents.{sequent_of};
 ghost use Rattle.bk_kernel.specs.declared.rule.Rule.TheVariants.{Pair, Elems, Interval, Induct};
-ghost use Rattle.bk_kernel.specs.Listing.{elements_of, named_elements, all_of, listed_types, over_naturals, next_case};
+ghost use Rattle.bk_kernel.specs.Listing.{elements_of, named_elements, elements_of_type, listed_types, over_naturals, next_case};
 ghost use Rattle.bk_kernel.specs.Rules.{branches};
 ghost use Rattle.bk_kernel.specs.Held.{held, form_in, list_in, IsTooLarge};
 
@@ -74,7 +74,7 @@ pub(crate) fn by_elements(
     ensures value { IfOk result (λ o. held o ≡ branches types.now (sequent_of sequent.now) (Elems term.now)) }
     ensures too_large { result ≡ Err TooLarge → IsTooLarge (branches types.now (sequent_of sequent.now) (Elems term.now)) }
 {
-    let Some(elements) = all_of(alloc, types, term)? else {
+    let Some(elements) = elements_of_type(alloc, types, term)? else {
         return Ok(None);
     };
     let list = equations(alloc, term, &elements)?;
@@ -82,8 +82,8 @@ pub(crate) fn by_elements(
 }
 
 // What the term may be, where it is of BOOL or of an enumerated set.
-fn all_of(alloc: Global, types: &VarTable, form: &Form) -> Result<Option<Vec<Form>>, Memory>
-    ensures { IfOk result (λ o. list_in o ≡ all_of types.now (role types.now [] form.now)) }
+fn elements_of_type(alloc: Global, types: &VarTable, form: &Form) -> Result<Option<Vec<Form>>, Memory>
+    ensures { IfOk result (λ o. list_in o ≡ elements_of_type types.now (role types.now [] form.now)) }
 {
     let none = Vec::new(alloc);
     match role_of(alloc, form, &none, types)? {

@@ -6,7 +6,7 @@ ghost use Rattle.bk_form.specs.Formula.{comprehension, lambda, formulas_of};
 ghost use Rattle.bk_form.specs.Replacement.{count};
 ghost use Rattle.bk_bind.specs.Limits.{IsWithinLimits};
 ghost use Rattle.bk_bind.specs.declared.error.BindFault.TheVariants.{TooLarge};
-ghost use Rattle.bk_kernel.specs.Membership.{joined, conjunction, unpaired, memberships, met_by, applied_to};
+ghost use Rattle.bk_kernel.specs.Membership.{conjoined, conjunction, unpaired, memberships, met_by, applied_to};
 ghost use Rattle.bk_kernel.specs.Held.{list_in, instance_in, IsLarge, HasLarge};
 
 use crate::lists::{append, one_form};
@@ -192,8 +192,8 @@ fn conjunction(alloc: Global, forms: &[Form]) -> Result<Form, BindFault>
 // The formula and all of these, joined from the left.
 #[tactic(auto, using(crate::proofs::LargeParts::conjunctions_within))]
 fn joined(alloc: Global, whole: Form, others: &[Form]) -> Result<Form, BindFault>
-    ensures value { IfOk result (λ f. f ≡ joined whole others.now) }
-    ensures too_large { result ≡ Err TooLarge → IsWithinLimits (joined whole others.now) → ⊥ }
+    ensures value { IfOk result (λ f. f ≡ conjoined whole others.now) }
+    ensures too_large { result ≡ Err TooLarge → IsWithinLimits (conjoined whole others.now) → ⊥ }
 {
     let [next, rest @ ..] = others else {
         return bounded(whole);

@@ -8,7 +8,7 @@ ghost use Rattle.bk_seq.specs.Sequents.{sequent_of, IsWithin};
 ghost use Rattle.std.specs.Option.{option_and_then};
 ghost use Rattle.bk_seq.specs.Paths.{sub_at, put_at};
 ghost use Rattle.bk_kernel.specs.Branches.{when};
-ghost use Rattle.bk_kernel.specs.Rewriting.{stands_for, replaced, goals_then, goal_changed, hypothesis_changed, rewritten};
+ghost use Rattle.bk_kernel.specs.Rewriting.{stands_for, part_rewritten, goals_then, goal_changed, hypothesis_changed, rewritten};
 ghost use Rattle.bk_kernel.specs.Code.{meant_by};
 ghost use Rattle.bk_kernel.specs.Held.{branch_of, held, instance_in, replaced_in, IsTooLarge, HasLargePart};
 
@@ -57,12 +57,12 @@ fn in_goal(
     path: &[u32],
 ) -> Result<Option<Vec<Branch>>, BindFault>
     requires { IsWithinLimits sequent.now.goal }
-    ensures value { IfOk result (λ o. held o ≡ goal_changed (replaced types.now
+    ensures value { IfOk result (λ o. held o ≡ goal_changed (part_rewritten types.now
         sequent.now.hyps.items (meant_by change.now) sequent.now.goal path.now)) }
-    ensures too_large { result ≡ Err TooLarge → IsTooLarge (goal_changed (replaced types.now
+    ensures too_large { result ≡ Err TooLarge → IsTooLarge (goal_changed (part_rewritten types.now
         sequent.now.hyps.items (meant_by change.now) sequent.now.goal path.now)) }
 {
-    match replaced(alloc, types, &sequent.hyps, change, &sequent.goal, path) {
+    match part_rewritten(alloc, types, &sequent.hyps, change, &sequent.goal, path) {
         Ok(found) => Ok(goal_changed(alloc, found)?),
         Err(BindFault::TooLarge) => Err(BindFault::TooLarge),
         Err(BindFault::Memory) => Err(BindFault::Memory),
@@ -78,12 +78,12 @@ fn in_hypothesis(
     path: &[u32],
 ) -> Result<Option<Vec<Branch>>, BindFault>
     requires { IsWithinLimits hypothesis.now }
-    ensures value { IfOk result (λ o. held o ≡ hypothesis_changed sequent.now.goal (replaced types.now
+    ensures value { IfOk result (λ o. held o ≡ hypothesis_changed sequent.now.goal (part_rewritten types.now
         sequent.now.hyps.items (meant_by change.now) hypothesis.now path.now)) }
-    ensures too_large { result ≡ Err TooLarge → IsTooLarge (hypothesis_changed sequent.now.goal (replaced types.now
+    ensures too_large { result ≡ Err TooLarge → IsTooLarge (hypothesis_changed sequent.now.goal (part_rewritten types.now
         sequent.now.hyps.items (meant_by change.now) hypothesis.now path.now)) }
 {
-    match replaced(alloc, types, &sequent.hyps, change, hypothesis, path) {
+    match part_rewritten(alloc, types, &sequent.hyps, change, hypothesis, path) {
         Ok(found) => Ok(hypothesis_changed(alloc, &sequent.goal, found)?),
         Err(BindFault::TooLarge) => Err(BindFault::TooLarge),
         Err(BindFault::Memory) => Err(BindFault::Memory),
@@ -120,7 +120,7 @@ fn hypothesis_changed(
 }
 
 // The sides of the law at what stands at the path, and the formula with the law's right side there.
-fn replaced(
+fn part_rewritten(
     alloc: Global,
     types: &VarTable,
     hyps: &[Form],
@@ -130,9 +130,9 @@ fn replaced(
 ) -> Result<Option<(Vec<Form>, Form)>, BindFault>
     requires { IsWithinLimits form.now }
     ensures value { IfOk result (λ o. replaced_in o ≡
-        replaced types.now hyps.now (meant_by change.now) form.now path.now) }
+        part_rewritten types.now hyps.now (meant_by change.now) form.now path.now) }
     ensures too_large { result ≡ Err TooLarge →
-        HasLargePart (replaced types.now hyps.now (meant_by change.now) form.now path.now) }
+        HasLargePart (part_rewritten types.now hyps.now (meant_by change.now) form.now path.now) }
 {
     let Some(old) = at(form, path) else {
         return Ok(None);

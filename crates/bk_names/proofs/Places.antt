@@ -9,7 +9,7 @@ use Rattle.std.proofs.lemmas.Option.{slice_get-get_or}
 use Rattle.std.specs.Cmp.Lexicographic.{bytes_decides, nat_list_eq_equiv}
 use Rattle.std.specs.List.{list_any, position_or_len, IsDistinct, AllByRecursion}
 use Rattle.indexmap.specs.IndexSet.{insert_key}
-use Rattle.bk_names.specs.Names.{place_of, with_name}
+use Rattle.bk_names.specs.Names.{place_among, with_name}
 use Rattle.std.specs.Str.{bytes_eq}
 
 module _ {X Y : Type 0} (f : X → Y) (p : Y → Bool) where
@@ -80,14 +80,14 @@ text_found names text = (
 )
 
 -- a text that has a place is no new name
-pub known_name : (names : List (List ℕ)) (text : List ℕ) → is_some (place_of names text) ≡ true → with_name names text ≡ names
+pub known_name : (names : List (List ℕ)) (text : List ℕ) → is_some (place_among names text) ≡ true → with_name names text ≡ names
 known_name names text h = ap (λ b. if b then names else names ++ text ∷ []) (sym (some_place (bytes_eq text) names) ∙ h)
 
 -- a numbered text is at the place that it had, or behind the others
-pub place_with_name : (names : List (List ℕ)) (text : List ℕ) → place_of (with_name names text) text ≡ Some (position_or_len (bytes_eq text) names)
+pub place_with_name : (names : List (List ℕ)) (text : List ℕ) → place_among (with_name names text) text ≡ Some (position_or_len (bytes_eq text) names)
 place_with_name names text = by (list_any (bytes_eq text) names) refl
   where
-    by : (b : Bool) → list_any (bytes_eq text) names ≡ b → place_of (if b then names else names ++ text ∷ []) text ≡ Some (position_or_len (bytes_eq text) names)
+    by : (b : Bool) → list_any (bytes_eq text) names ≡ b → place_among (if b then names else names ++ text ∷ []) text ≡ Some (position_or_len (bytes_eq text) names)
     by true h = ap (λ b. cond b (Some (position_or_len (bytes_eq text) names)) None) (sym (any_within (bytes_eq text) names) ∙ h)
     by false h = place_of_last (bytes_eq text) names text h ((bytes_decides text text).1 refl) ∙ ap Some (sym (absent_len (bytes_eq text) names h))
 

@@ -4,8 +4,8 @@ use Rattle.std.specs.List.{list_any}
 use Rattle.std.specs.Str.{bytes_eq}
 
 -- the place of a text among the names, from 0 on
-abbrev pub place_of : List (List ℕ) → List ℕ → Option ℕ
-place_of names text = position (bytes_eq text) names
+abbrev pub place_among : List (List ℕ) → List ℕ → Option ℕ
+place_among names text = position (bytes_eq text) names
 
 -- the names once a text has its number: a name that is there keeps its place, and a new one goes last
 abbrev pub with_name : List (List ℕ) → List ℕ → List (List ℕ)

@@ -3,7 +3,7 @@
 ghost use Rattle.std.specs.Prelude.{◌≡◌, ◌≢◌, ◌↔◌, ◌^◌, ◌<◌, ◌≤◌, ℕ, List, [], None, Some, length, map};
 ghost use Rattle.std.specs.Prelude.{slice_get, Contains, IsSome, IsTrue, IsOk, IfSome, IfOk, OnOk, OnErr};
 ghost use Rattle.std.specs.List.{AllPairs};
-ghost use Rattle.bk_names.specs.Names.{place_of, with_name};
+ghost use Rattle.bk_names.specs.Names.{place_among, with_name};
 
 use crate::error::Memory;
 use indexmap::IndexSet;
@@ -45,7 +45,7 @@ impl Names {
 
     /// The number of a name. Takes no memory, and time linear in the text's length.
     pub fn find(&self, text: &[u8]) -> Option<u32>
-        ensures place { result ≡ place_of self.now text.now }
+        ensures place { result ≡ place_among self.now text.now }
         ensures stands { IfSome result (λ n. slice_get self.now n ≡ Some text.now) }
         ensures found { IsSome result ↔ Contains self.now text.now }
     {
@@ -57,7 +57,7 @@ impl Names {
     /// Only a new name takes memory.
     pub fn number(&mut self, text: &[u8]) -> Result<u32, Memory>
         requires { length self.old < 2 ^ 32 }
-        ensures number { IfOk result (λ n. place_of self.new text.now ≡ Some n) }
+        ensures number { IfOk result (λ n. place_among self.new text.now ≡ Some n) }
         ensures stands { IfOk result (λ n. slice_get self.new n ≡ Some text.now) }
         ensures names { OnOk result (self.new ≡ with_name self.old text.now) }
         ensures known { Contains self.old text.now → IsOk result }

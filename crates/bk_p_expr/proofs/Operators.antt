@@ -6,7 +6,7 @@ use Rattle.bk_form.specs.declared.token.Token.{Token}
 use Rattle.bk_raw.specs.Trees.Operators.{binding}
 use Rattle.bk_raw.specs.Trees.RawTree.{RawTree, raw, raw_infix}
 use Rattle.bk_raw.specs.declared.operator.InfixOp.{InfixOp}
-use Rattle.bk_raw.specs.Grammar.Reading.{Reader, next, or_else, start, operand, joined, joined_by, read, infix_of}
+use Rattle.bk_raw.specs.Grammar.Reading.{Reader, next, or_else, start, operand, operators_after, joined_by, read, infix_of}
 use Rattle.bk_p_expr.specs.Pieces.{IsPiece, between_node}
 use Rattle.bk_p_expr.specs.Openings.{Fits, NoneFits}
 use Rattle.bk_p_expr.specs.Found.{Finds, FindsNone}
@@ -60,16 +60,16 @@ operator_some : (asked strength : ℕ) (ts : List Token) (o : InfixOp) (us : Lis
 operator_some asked strength ts o us piece vs f g = record { tree = g.tree; found = λ n m. operator_read n asked strength ts o us f ∙ next_found (read n (binding o).right us) g.tree vs (λ right vs. Some ((o, right), vs)) (g.found n (omega (arith, ap length f.1, m))); built = g.built }
 
 -- ---- the reader in terms of its parts
-pub read_parts : (n asked : ℕ) (ts : List Token) → read (suc n) asked ts ≡ next (operand n (read n) ts) (λ x us. joined n (read n) asked (start ts) x.0 x.1 us)
+pub read_parts : (n asked : ℕ) (ts : List Token) → read (suc n) asked ts ≡ next (operand n (read n) ts) (λ x us. operators_after n (read n) asked (start ts) x.0 x.1 us)
 read_parts n asked ts = refl
 
-pub read_begins : (n asked : ℕ) (ts : List Token) (x : RawTree) (strength : ℕ) (us : List Token) → 1 ≤ n → operand (pred n) (read (pred n)) ts ≡ Some ((x, strength), us) → read n asked ts ≡ joined (pred n) (read (pred n)) asked (start ts) x strength us
+pub read_begins : (n asked : ℕ) (ts : List Token) (x : RawTree) (strength : ℕ) (us : List Token) → 1 ≤ n → operand (pred n) (read (pred n)) ts ≡ Some ((x, strength), us) → read n asked ts ≡ operators_after (pred n) (read (pred n)) asked (start ts) x strength us
 read_begins zero asked ts x strength us l e = absurd (omega (arith, l))
-read_begins (suc n) asked ts x strength us l e = read_parts n asked ts ∙ next_found (operand n (read n) ts) (x, strength) us (λ x us. joined n (read n) asked (start ts) x.0 x.1 us) e
+read_begins (suc n) asked ts x strength us l e = read_parts n asked ts ∙ next_found (operand n (read n) ts) (x, strength) us (λ x us. operators_after n (read n) asked (start ts) x.0 x.1 us) e
 
 pub read_fails : (n asked : ℕ) (ts : List Token) → operand (pred n) (read (pred n)) ts ≡ None → read n asked ts ≡ None
 read_fails zero asked ts e = refl
-read_fails (suc n) asked ts e = read_parts n asked ts ∙ next_fails (operand n (read n) ts) (λ x us. joined n (read n) asked (start ts) x.0 x.1 us) e
+read_fails (suc n) asked ts e = read_parts n asked ts ∙ next_fails (operand n (read n) ts) (λ x us. operators_after n (read n) asked (start ts) x.0 x.1 us) e
 
 -- ---- one operator: a test and what is read behind it
 none_chosen : (b : Bool) (r : Option (RawTree × List Token)) (o : InfixOp) (f : RawTree → List Token → Option (RawTree × List Token)) (d : Option (RawTree × List Token)) → cond b (next {B = InfixOp × RawTree} r (λ x us. Some ((o, x), us))) None ≡ None → cond b (or_else (next r f) d) d ≡ d
@@ -92,10 +92,10 @@ joined_by_ends : (more : RawTree → ℕ → List Token → Option (RawTree × L
 joined_by_ends more n asked at left strength t ts None e = refl
 joined_by_ends more n asked at left strength t ts (Some o) e = none_chosen (nat_le asked (binding o).own && nat_le (binding o).left strength) (read n (binding o).right ts) o (λ right us. more (raw at (raw_infix o left right)) (binding o).own us) (Some (left, t ∷ ts)) e
 
-pub joined_ends : (m n asked at : ℕ) (left : RawTree) (strength : ℕ) (ts : List Token) → operator_of n asked strength ts ≡ None → joined m (read n) asked at left strength ts ≡ Some (left, ts)
+pub joined_ends : (m n asked at : ℕ) (left : RawTree) (strength : ℕ) (ts : List Token) → operator_of n asked strength ts ≡ None → operators_after m (read n) asked at left strength ts ≡ Some (left, ts)
 joined_ends zero n asked at left strength ts e = refl
 joined_ends (suc m) n asked at left strength [] e = refl
-joined_ends (suc m) n asked at left strength (t ∷ ts) e = joined_by_ends (joined m (read n) asked at) n asked at left strength t ts (infix_of t.kind) e
+joined_ends (suc m) n asked at left strength (t ∷ ts) e = joined_by_ends (operators_after m (read n) asked at) n asked at left strength t ts (infix_of t.kind) e
 
 chosen_found : (b : Bool) (r : Option (RawTree × List Token)) (f : RawTree → List Token → Option (RawTree × List Token)) (d : Option (RawTree × List Token)) (x : RawTree) (us : List Token) (y : RawTree × List Token) → b ≡ true → r ≡ Some (x, us) → f x us ≡ Some y → cond b (or_else (next r f) d) d ≡ f x us
 chosen_found b r f d x us y eb er ef = (λ i. cond (eb i) (or_else (next (er i) f) d) d) ∙ or_else_found (f x us) d y ef
@@ -109,20 +109,20 @@ joined_by_some : (more : RawTree → ℕ → List Token → Option (RawTree × L
 joined_by_some more reader asked at left strength t ts None = ((left, t ∷ ts), refl)
 joined_by_some more reader asked at left strength t ts (Some o) = some_of_choice (nat_le asked (binding o).own && nat_le (binding o).left strength) (next (reader (binding o).right ts) (λ right us. more (raw at (raw_infix o left right)) (binding o).own us)) (left, t ∷ ts)
 
-joined_some : (m : ℕ) (reader : ℕ → List Token → Option (RawTree × List Token)) (asked at : ℕ) (left : RawTree) (strength : ℕ) (ts : List Token) → (y : RawTree × List Token) × (joined m reader asked at left strength ts ≡ Some y)
+joined_some : (m : ℕ) (reader : ℕ → List Token → Option (RawTree × List Token)) (asked at : ℕ) (left : RawTree) (strength : ℕ) (ts : List Token) → (y : RawTree × List Token) × (operators_after m reader asked at left strength ts ≡ Some y)
 joined_some zero reader asked at left strength ts = ((left, ts), refl)
 joined_some (suc m) reader asked at left strength [] = ((left, []), refl)
-joined_some (suc m) reader asked at left strength (t ∷ ts) = joined_by_some (joined m reader asked at) reader asked at left strength t ts (infix_of t.kind)
+joined_some (suc m) reader asked at left strength (t ∷ ts) = joined_by_some (operators_after m reader asked at) reader asked at left strength t ts (infix_of t.kind)
 
-joined_by_goes_on : (m n asked at : ℕ) (left : RawTree) (strength : ℕ) (t : Token) (ts : List Token) (p : Option InfixOp) (o : InfixOp) (x : RawTree) (us : List Token) → operator_by n asked strength ts p ≡ Some ((o, x), us) → joined_by (joined m (read n) asked at) (read n) asked at left strength t ts p ≡ joined m (read n) asked at (raw at (raw_infix o left x)) (binding o).own us
+joined_by_goes_on : (m n asked at : ℕ) (left : RawTree) (strength : ℕ) (t : Token) (ts : List Token) (p : Option InfixOp) (o : InfixOp) (x : RawTree) (us : List Token) → operator_by n asked strength ts p ≡ Some ((o, x), us) → joined_by (operators_after m (read n) asked at) (read n) asked at left strength t ts p ≡ operators_after m (read n) asked at (raw at (raw_infix o left x)) (binding o).own us
 joined_by_goes_on m n asked at left strength t ts None o x us e = cc
 joined_by_goes_on m n asked at left strength t ts (Some p) o x us e =
     let c = some_chosen (nat_le asked (binding p).own && nat_le (binding p).left strength) (read n (binding p).right ts) p o x us e in
     let s = joined_some m (read n) asked at (raw at (raw_infix p left x)) (binding p).own us in
-    chosen_found (nat_le asked (binding p).own && nat_le (binding p).left strength) (read n (binding p).right ts) (λ right vs. joined m (read n) asked at (raw at (raw_infix p left right)) (binding p).own vs) (Some (left, t ∷ ts)) x us s.0 c.passes c.found s.1 ∙
-    (λ i. joined m (read n) asked at (raw at (raw_infix (c.same i) left x)) (binding (c.same i)).own us)
+    chosen_found (nat_le asked (binding p).own && nat_le (binding p).left strength) (read n (binding p).right ts) (λ right vs. operators_after m (read n) asked at (raw at (raw_infix p left right)) (binding p).own vs) (Some (left, t ∷ ts)) x us s.0 c.passes c.found s.1 ∙
+    (λ i. operators_after m (read n) asked at (raw at (raw_infix (c.same i) left x)) (binding (c.same i)).own us)
 
-pub joined_goes_on : (m n asked at : ℕ) (left : RawTree) (strength : ℕ) (ts : List Token) (o : InfixOp) (x : RawTree) (us : List Token) → operator_of n asked strength ts ≡ Some ((o, x), us) → joined (suc m) (read n) asked at left strength ts ≡ joined m (read n) asked at (raw at (raw_infix o left x)) (binding o).own us
+pub joined_goes_on : (m n asked at : ℕ) (left : RawTree) (strength : ℕ) (ts : List Token) (o : InfixOp) (x : RawTree) (us : List Token) → operator_of n asked strength ts ≡ Some ((o, x), us) → operators_after (suc m) (read n) asked at left strength ts ≡ operators_after m (read n) asked at (raw at (raw_infix o left x)) (binding o).own us
 joined_goes_on m n asked at left strength [] o x us e = cc
 joined_goes_on m n asked at left strength (t ∷ ts) o x us e = joined_by_goes_on m n asked at left strength t ts (infix_of t.kind) o x us e
 
@@ -130,7 +130,7 @@ joined_goes_on m n asked at left strength (t ∷ ts) o x us e = joined_by_goes_o
 pub record LongestSoFar (ts : List Token) (asked : ℕ) (left : Piece) (strength : ℕ) (rest : List Token) : Type 0 where
   pub tree : RawTree
   pub built : IsPiece tree left
-  pub so_far : Continues (length ts) (length rest) (λ n. read n asked ts) (λ n k. joined k (read (pred n)) asked (start ts) tree strength rest)
+  pub so_far : Continues (length ts) (length rest) (λ n. read n asked ts) (λ n k. operators_after k (read (pred n)) asked (start ts) tree strength rest)
   pub shorter : length rest < length ts
 
 pub longest_begins : (ts : List Token) (asked : ℕ) (piece : Piece) (strength : ℕ) (us : List Token) → Finds (λ n. operand n (read n) ts) (length ts - 1) (λ t. (t, strength)) piece us → length us < length ts → LongestSoFar ts asked piece strength us
@@ -144,7 +144,7 @@ longest_begins ts asked piece strength us f l = record {
 pub longest_fails : (ts : List Token) (asked : ℕ) → FindsNone (λ n. operand n (read n) ts) (length ts - 1) → FindsNone (λ n. read n asked ts) (length ts)
 longest_fails ts asked f n m = read_fails n asked ts (f (pred n) (omega (arith, pred_is n, m)))
 
-joined_step : (k n asked at : ℕ) (left : RawTree) (strength : ℕ) (ts : List Token) (o : InfixOp) (x : RawTree) (us : List Token) → 1 ≤ k → operator_of n asked strength ts ≡ Some ((o, x), us) → joined k (read n) asked at left strength ts ≡ joined (pred k) (read n) asked at (raw at (raw_infix o left x)) (binding o).own us
+joined_step : (k n asked at : ℕ) (left : RawTree) (strength : ℕ) (ts : List Token) (o : InfixOp) (x : RawTree) (us : List Token) → 1 ≤ k → operator_of n asked strength ts ≡ Some ((o, x), us) → operators_after k (read n) asked at left strength ts ≡ operators_after (pred k) (read n) asked at (raw at (raw_infix o left x)) (binding o).own us
 joined_step zero n asked at left strength ts o x us l e = absurd (omega (arith, l))
 joined_step (suc k) n asked at left strength ts o x us l e = joined_goes_on k n asked at left strength ts o x us e
 
@@ -152,14 +152,14 @@ pub longest_goes_on : (ts : List Token) (asked : ℕ) (left : Piece) (strength :
 longest_goes_on ts asked left strength rest o right after new s f l h = record {
   tree = raw (start ts) (raw_infix o s.tree f.tree);
   built = h s.tree f.tree s.built f.built;
-  so_far = continues_more (length ts) (length rest) (length after) (λ n. read n asked ts) (λ n k. joined k (read (pred n)) asked (start ts) s.tree strength rest) (λ n k. joined k (read (pred n)) asked (start ts) (raw (start ts) (raw_infix o s.tree f.tree)) (binding o).own after) s.so_far (λ n k m r. (pred k, omega (arith, pred_is k, r, l), joined_step k (pred n) asked (start ts) s.tree strength rest o f.tree after (omega (arith, r, l)) (f.found (pred n) (omega (arith, pred_is n, m, s.shorter)))));
+  so_far = continues_more (length ts) (length rest) (length after) (λ n. read n asked ts) (λ n k. operators_after k (read (pred n)) asked (start ts) s.tree strength rest) (λ n k. operators_after k (read (pred n)) asked (start ts) (raw (start ts) (raw_infix o s.tree f.tree)) (binding o).own after) s.so_far (λ n k m r. (pred k, omega (arith, pred_is k, r, l), joined_step k (pred n) asked (start ts) s.tree strength rest o f.tree after (omega (arith, r, l)) (f.found (pred n) (omega (arith, pred_is n, m, s.shorter)))));
   shorter = omega (arith, l, s.shorter);
 }
 
 pub longest_ends : (ts : List Token) (asked : ℕ) (left : Piece) (strength : ℕ) (rest : List Token) → LongestSoFar ts asked left strength rest → FindsNone (λ n. operator_of n asked strength rest) (length rest) → Finds (λ n. read n asked ts) (length ts) (λ t. t) left rest
 longest_ends ts asked left strength rest s f = record {
   tree = s.tree;
-  found = continues_done (length ts) (length rest) (λ n. read n asked ts) (λ n k. joined k (read (pred n)) asked (start ts) s.tree strength rest) (Some (s.tree, rest)) s.so_far (λ n k m r. joined_ends k (pred n) asked (start ts) s.tree strength rest (f (pred n) (omega (arith, pred_is n, m, s.shorter))));
+  found = continues_done (length ts) (length rest) (λ n. read n asked ts) (λ n k. operators_after k (read (pred n)) asked (start ts) s.tree strength rest) (Some (s.tree, rest)) s.so_far (λ n k m r. joined_ends k (pred n) asked (start ts) s.tree strength rest (f (pred n) (omega (arith, pred_is n, m, s.shorter))));
   built = s.built;
 }
 

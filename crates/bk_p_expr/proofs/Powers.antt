@@ -9,7 +9,7 @@ use Rattle.bk_raw.specs.Trees.Operators.{binding, infix_kind}
 use Rattle.bk_raw.specs.Trees.RawTree.{RawTree, raw, raw_infix}
 use Rattle.bk_raw.specs.declared.operator.InfixOp.{InfixOp}
 use Rattle.bk_raw.specs.declared.operator.InfixOp.TheVariants.{Equivalent, Power}
-use Rattle.bk_raw.specs.Grammar.Reading.{Reader, same_kind, next, or_else, start, sign, begins_with, tight, operand, joined, joined_by, infix_of, read, signed, front_kind}
+use Rattle.bk_raw.specs.Grammar.Reading.{Reader, same_kind, next, or_else, start, sign, begins_with, tight, operand, operators_after, joined_by, infix_of, read, signed, front_kind}
 use Rattle.bk_p_expr.specs.Pieces.{IsPiece, ArePieces, raised}
 use Rattle.bk_p_expr.specs.Found.{Finds, FindsNone}
 use Rattle.bk_p_expr.specs.declared.piece.Piece.{Piece}
@@ -40,7 +40,7 @@ power_stops m [] = refl
 power_stops m (t ∷ ts) = stops_by m ts (infix_of t.kind)
 
 -- behind an operand, where as much is asked as ** binds
-power_joined : (m j at : ℕ) (x : RawTree) (d : Option (RawTree × List Token)) (r : Option (RawTree × List Token)) → or_else (next r (λ right us. joined j (read m) 9 at (raw at (raw_infix Power x right)) 9 us)) d ≡ or_else (next r (λ y vs. Some (raw at (raw_infix Power x y), vs))) d
+power_joined : (m j at : ℕ) (x : RawTree) (d : Option (RawTree × List Token)) (r : Option (RawTree × List Token)) → or_else (next r (λ right us. operators_after j (read m) 9 at (raw at (raw_infix Power x right)) 9 us)) d ≡ or_else (next r (λ y vs. Some (raw at (raw_infix Power x y), vs))) d
 power_joined m j at x d None = refl
 power_joined m j at x d (Some p) = λ i. or_else (joined_ends j m 9 at (raw at (raw_infix Power x p.0)) 9 p.1 (power_stops m p.1) i) d
 
@@ -48,15 +48,15 @@ power_joined m j at x d (Some p) = λ i. or_else (joined_ends j m 9 at (raw at (
 abbrev power_by : ℕ → ℕ → RawTree → Token → List Token → Option (RawTree × List Token) → Bool → Option (RawTree × List Token)
 power_by m at x t us d b = cond b (or_else (next (cond b (Some (t, us)) None) (λ _ vs. next (read m 9 vs) (λ y ws. Some (raw at (raw_infix Power x y), ws)))) d) d
 
-by_operator : (j m at : ℕ) (x : RawTree) (strength : ℕ) (t : Token) (us : List Token) (d : Option (RawTree × List Token)) (o : InfixOp) → nat_le 10 strength ≡ true → cond (nat_le 9 (binding o).own && nat_le (binding o).left strength) (or_else (next (read m (binding o).right us) (λ right vs. joined j (read m) 9 at (raw at (raw_infix o x right)) (binding o).own vs)) d) d ≡ power_by m at x t us d (same_kind (infix_kind o) (Sign POWER))
-by_operator j m at x strength t us d Power l = (λ i. cond (l i) (or_else (next (read m 9 us) (λ right vs. joined j (read m) 9 at (raw at (raw_infix Power x right)) 9 vs)) d) d) ∙ power_joined m j at x d (read m 9 us)
+by_operator : (j m at : ℕ) (x : RawTree) (strength : ℕ) (t : Token) (us : List Token) (d : Option (RawTree × List Token)) (o : InfixOp) → nat_le 10 strength ≡ true → cond (nat_le 9 (binding o).own && nat_le (binding o).left strength) (or_else (next (read m (binding o).right us) (λ right vs. operators_after j (read m) 9 at (raw at (raw_infix o x right)) (binding o).own vs)) d) d ≡ power_by m at x t us d (same_kind (infix_kind o) (Sign POWER))
+by_operator j m at x strength t us d Power l = (λ i. cond (l i) (or_else (next (read m 9 us) (λ right vs. operators_after j (read m) 9 at (raw at (raw_infix Power x right)) 9 vs)) d) d) ∙ power_joined m j at x d (read m 9 us)
 by_operator j m at x strength t us d _ l = refl
 
-joined_power_by : (j m at : ℕ) (x : RawTree) (strength : ℕ) (t : Token) (us : List Token) (o : Option InfixOp) → infix_of t.kind ≡ o → nat_le 10 strength ≡ true → joined_by (λ left s ts. joined j (read m) 9 at left s ts) (read m) 9 at x strength t us o ≡ power_by m at x t us (Some (x, t ∷ us)) (same_kind t.kind (Sign POWER))
+joined_power_by : (j m at : ℕ) (x : RawTree) (strength : ℕ) (t : Token) (us : List Token) (o : Option InfixOp) → infix_of t.kind ≡ o → nat_le 10 strength ≡ true → joined_by (λ left s ts. operators_after j (read m) 9 at left s ts) (read m) 9 at x strength t us o ≡ power_by m at x t us (Some (x, t ∷ us)) (same_kind t.kind (Sign POWER))
 joined_power_by j m at x strength t us None e l = λ i. power_by m at x t us (Some (x, t ∷ us)) (sym (no_power t.kind e) i)
 joined_power_by j m at x strength t us (Some o) e l = by_operator j m at x strength t us (Some (x, t ∷ us)) o l ∙ (λ i. power_by m at x t us (Some (x, t ∷ us)) (same_kind (infix_of-is t.kind o e i) (Sign POWER)))
 
-joined_power : (j m at : ℕ) (x : RawTree) (strength : ℕ) (us : List Token) → 10 ≤ strength → length us ≤ j → joined j (read m) 9 at x strength us ≡ power_at m at x us
+joined_power : (j m at : ℕ) (x : RawTree) (strength : ℕ) (us : List Token) → 10 ≤ strength → length us ≤ j → operators_after j (read m) 9 at x strength us ≡ power_at m at x us
 joined_power zero m at x strength [] s l = refl
 joined_power zero m at x strength (t ∷ us) s l = absurd (omega (arith, l))
 joined_power (suc j) m at x strength [] s l = refl

@@ -3,7 +3,7 @@
 ghost use Rattle.std.specs.Prelude.{◌<◌, ◌≤◌, length, IfOk, IfSome, MatchOption};
 ghost use Rattle.bk_raw.specs.Grammar.Pieces.{Digits, InRow};
 ghost use Rattle.bk_raw.specs.Grammar.ScriptSpelling.{Place};
-ghost use Rattle.bk_raw.specs.Codes.ScriptView.{place_of};
+ghost use Rattle.bk_raw.specs.Codes.ScriptView.{written_place};
 ghost use Rattle.bk_p_expr.specs.Fronts.{Longest, Nothing};
 
 use crate::token::{after_name, digits};
@@ -15,7 +15,7 @@ use std::alloc::Global;
 /// `goal` or `hyp i` and the numbers of children in front, and what stands after them.
 pub(crate) fn place(alloc: Global, tokens: &[Token]) -> Result<Option<(RawPlace, &[Token])>, Memory>
     ensures found { IfOk result (λ r. MatchOption r (Nothing Place tokens.now)
-        (λ p. Longest Place tokens.now (place_of p.0) p.1.now)) }
+        (λ p. Longest Place tokens.now (written_place p.0) p.1.now)) }
     ensures shorter { IfOk result (λ r. IfSome r (λ p. length p.1.now < length tokens.now)) }
 {
     if let Some(behind) = after_name(tokens, b"goal") {

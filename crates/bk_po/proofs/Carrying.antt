@@ -35,7 +35,7 @@ use Rattle.bk_dev.proofs.FlatLevels.{flattened_lawful}
 use Rattle.bk_dev.proofs.FlatSame.{levels-many}
 use Rattle.bk_po.specs.declared.clause.Clause.{Clause}
 use Rattle.bk_po.specs.declared.clause.Clause.TheVariants.{PropertiesDefined, ValuesMeet as ValuesClause, InvariantDefined, AssertionsDefined, AssertionsHold, Initialisation, InitialisationDefined, Operation, OperationDefined}
-use Rattle.bk_po.specs.Obligations.{each_after, defined_in_turn, hypotheses_of, goal_of, conjunction, flat_obligations, numbered, numbered_obligations, AreValid}
+use Rattle.bk_po.specs.Obligations.{each_after, defined_in_turn, hypotheses_of, goal_of, conjunction, flat_obligations, numbered_sequents, numbered_obligations, AreValid}
 use Rattle.bk_seq.specs.Sequents.{split}
 use Rattle.bk_po.specs.Laws.{IsCorrect, ValidObligationsCarry, WholeIsCorrect}
 use Rattle.bk_po.proofs.Sizes.{sizes_keep_obligations, valid-at}
@@ -90,7 +90,7 @@ values-typed dev [] h = tt
 values-typed dev (p ∷ ps) h = (h.0.of_type, values-typed dev ps h.1)
 
 -- ---- the claims
-module _ (find : Finder) (law : IsSearch find) (dev : Development) (f : IsLawful dev) (only : OnlyLastIsImplementation dev) (valid : AreValid dev.table (numbered (flat_obligations dev))) where
+module _ (find : Finder) (law : IsSearch find) (dev : Development) (f : IsLawful dev) (only : OnlyLastIsImplementation dev) (valid : AreValid dev.table (numbered_sequents (flat_obligations dev))) where
   fact : (k : ℕ) → k < length dev.levels → IsLevelOf dev k (level_at dev k)
   fact k h = level_fact dev f k h
 

@@ -38,7 +38,7 @@ use Rattle.bk_dev.specs.Claims.{arrays_at}
 use Rattle.bk_dev.proofs.Sizes.{development-sized, development-whole}
 use Rattle.bk_po.specs.declared.clause.Clause.{Clause}
 use Rattle.bk_po.specs.declared.clause.Clause.TheVariants.{PropertiesDefined, ValuesMeet, InvariantDefined, AssertionsDefined, AssertionsHold, Initialisation, InitialisationDefined, Operation, OperationDefined}
-use Rattle.bk_po.specs.Obligations.{Obligation, numbers_below, defined_in_turn, init_goal, operation_goal, evaluation_goal, values_goal, joining_goal, hypotheses_of, goal_of, clause_name, clauses_of, obligation, obligation_of, level_obligations, flat_obligations, numbered, numbered_obligations, AreValid, AreValidForAllSizes}
+use Rattle.bk_po.specs.Obligations.{Obligation, numbers_below, defined_in_turn, init_goal, operation_goal, evaluation_goal, values_goal, joining_goal, hypotheses_of, goal_of, clause_name, clauses_of, obligation, obligation_of, level_obligations, flat_obligations, numbered_sequents, numbered_obligations, AreValid, AreValidForAllSizes}
 use Rattle.bk_po.specs.FlatFacts.{IsFlattened}
 use Rattle.bk_po.specs.Laws.{SizesKeepObligations}
 use Rattle.bk_po.proofs.Clauses.{Stands, each-clause}
@@ -293,7 +293,7 @@ sizes_keep_obligations sizes dev d = by_end (is_complete dev) refl
     by_end true c = ap numbered_obligations (development-whole sizes dev d (d.sizes c))
     by_end false c =
         let stands = flattened_stands dev d in
-        ap numbered (flat-sized sizes (flattened dev) stands (none-implements (flattened dev) stands.only_last (complete-same dev d.lawful ∙ c)))
+        ap numbered_sequents (flat-sized sizes (flattened dev) stands (none-implements (flattened dev) stands.only_last (complete-same dev d.lawful ∙ c)))
 
 -- the sequents at a choice of sizes
 pub valid-at : (sizes : ℕ → ℕ) → AreSizes sizes → (table : Table) (ss : List (List ℕ × Sequent)) → AreValidForAllSizes table ss → AreValid (with_sizes sizes table) ss

@@ -17,7 +17,7 @@ use Rattle.bk_dev.proofs.Agree.{both-true}
 use Rattle.bk_form.proofs.Conjuncts.{true-append, parts-true}
 use Rattle.bk_seq.specs.Sequents.{Sequent, split}
 use Rattle.bk_po.specs.declared.clause.Clause.{Clause}
-use Rattle.bk_po.specs.Obligations.{Obligation, numbered_from, numbered, AreValid, joined_onto, joined_all, conjunction, numbers_below, clauses_of, obligation_of, level_obligations, flat_obligations}
+use Rattle.bk_po.specs.Obligations.{Obligation, numbered_from, numbered_sequents, AreValid, joined_onto, joined_all, conjunction, numbers_below, clauses_of, obligation_of, level_obligations, flat_obligations}
 use Rattle.bk_po.proofs.Lists.{each-first, each-second, each-flat, each-map, each-so, each-below}
 use Rattle.bk_po.proofs.Clauses.{Stands, of-clauses}
 
@@ -35,11 +35,11 @@ unnumbered : (table : Table) (k : ℕ) (name : List ℕ) (ss : List Sequent) →
 unnumbered table k name [] h = tt
 unnumbered table k name (s ∷ ss) h = (h.0, unnumbered table (suc k) name ss h.1)
 
-all-met : (table : Table) (os : List Obligation) → AreValid table (numbered os) → Each (IsMet table) os
+all-met : (table : Table) (os : List Obligation) → AreValid table (numbered_sequents os) → Each (IsMet table) os
 all-met table os h = each-so (λ o. Each (IsNumberedSound table) (numbered_from 1 o.name (split o.hypotheses o.goal))) (IsMet table) os (λ o v. unnumbered table 1 o.name (split o.hypotheses o.goal) v) (each-flat (IsNumberedSound table) (λ o. numbered_from 1 o.name (split o.hypotheses o.goal)) os h)
 
 -- the obligation of each clause of a level
-pub clause-met : (dev : Development) → AreValid dev.table (numbered (flat_obligations dev)) → (k : ℕ) → k < length dev.levels → (c : Clause) → Stands dev k c → IsMet dev.table (obligation_of dev k c)
+pub clause-met : (dev : Development) → AreValid dev.table (numbered_sequents (flat_obligations dev)) → (k : ℕ) → k < length dev.levels → (c : Clause) → Stands dev k c → IsMet dev.table (obligation_of dev k c)
 clause-met dev valid k l c s =
     let met = all-met dev.table (flat_obligations dev) valid in
     let level = each-below (λ j. Each (IsMet dev.table) (level_obligations dev j)) (length dev.levels) (each-flat (IsMet dev.table) (level_obligations dev) (numbers_below (length dev.levels)) met) k l in

@@ -2,7 +2,7 @@
 use Rattle.std.specs.Prelude.{◌≡◌, ◌<◌, ◌≤◌, ◌⊎◌, ℕ, ◌+◌, max, nat_lt, Bool, ◌||◌, cond, List, [], ◌∷◌, length, Option, Some, None}
 use Rattle.bk_limits.specs.declared.TheConstants.{MOST_NODES, MOST_OBLIGATIONS, GREATEST_HEIGHT, MOST_NODES_TOGETHER}
 use Rattle.bk_form.specs.Formula.{formula_size, formula_height, formulas_size, formulas_height, formulas_of}
-use Rattle.bk_po.specs.Obligations.{Obligation, numbered}
+use Rattle.bk_po.specs.Obligations.{Obligation, numbered_sequents}
 use Rattle.bk_wp.specs.declared.error.WpFault.{WpFault}
 use Rattle.bk_wp.specs.declared.error.WpFault.TheVariants.{TooLarge as IsTooLarge, Memory as NoRoom}
 use Rattle.bk_po.specs.declared.error.PoFault.{PoFault}
@@ -33,14 +33,14 @@ all_nodes (o ∷ os) = nodes_of o + all_nodes os
 -- none is too large, and they have at most MOST_OBLIGATIONS sequents and at most MOST_NODES_TOGETHER nodes together
 pub record PassNoLimit (os : List Obligation) : Type 0 where
   pub sizes : first_too_large os ≡ None
-  pub sequents : length (numbered os) ≤ MOST_OBLIGATIONS
+  pub sequents : length (numbered_sequents os) ≤ MOST_OBLIGATIONS
   pub nodes : all_nodes os ≤ MOST_NODES_TOGETHER
 
 -- none is too large, and there are too many sequents (limit 7), or else too many nodes (limit 14)
 pub record PassTogether (os : List Obligation) (limit : ℕ) : Type 0 where
   pub sizes : first_too_large os ≡ None
-  pub passed : ((limit ≡ 7) × (MOST_OBLIGATIONS < length (numbered os)))
-      ⊎ ((limit ≡ 14) × (length (numbered os) ≤ MOST_OBLIGATIONS) × (MOST_NODES_TOGETHER < all_nodes os))
+  pub passed : ((limit ≡ 7) × (MOST_OBLIGATIONS < length (numbered_sequents os)))
+      ⊎ ((limit ≡ 14) × (length (numbered_sequents os) ≤ MOST_OBLIGATIONS) × (MOST_NODES_TOGETHER < all_nodes os))
 
 -- what a fault says of the obligations
 abbrev pub IsFaultOf : List Obligation → PoFault → Type 0

@@ -168,12 +168,12 @@ numbered_from k name [] = []
 numbered_from k name (s ∷ ss) = (name ++ codes "." ++ decimal k, s) ∷ numbered_from (suc k) name ss
 
 -- the sequents of obligations, those of each numbered from 1
-abbrev pub numbered : List Obligation → List (List ℕ × Sequent)
-numbered os = flat_map (λ o. numbered_from 1 o.name (split o.hypotheses o.goal)) os
+abbrev pub numbered_sequents : List Obligation → List (List ℕ × Sequent)
+numbered_sequents os = flat_map (λ o. numbered_from 1 o.name (split o.hypotheses o.goal)) os
 
 -- the sequents of each name, numbered from 1
 abbrev pub numbered_obligations : Development → List (List ℕ × Sequent)
-numbered_obligations dev = numbered (obligations dev)
+numbered_obligations dev = numbered_sequents (obligations dev)
 
 -- each is valid, of sets with sizes
 abbrev pub AreValid : Table → List (List ℕ × Sequent) → Type 0

@@ -1,6 +1,7 @@
 -- The obligations of three small projects, written out by hand: a number that leaves the
 -- machine's range, two numbers that change places, and an array that is filled by a loop.
 use Rattle.std.specs.Prelude.{◌≡◌, ℕ, pos, negsuc, List, [], ◌∷◌, codes}
+use Rattle.bk_limits.specs.declared.TheConstants.{MAXINT}
 use Rattle.bk_val.specs.ValueType.{ValueType, int_type, pair_type, set_type}
 use Rattle.bk_form.specs.Table.{Table, VariableEntry}
 use Rattle.bk_form.specs.Formula.{Formula, variable, bound, literal, named, btrue, unary, binary, for_all, for_some}
@@ -37,7 +38,7 @@ least = literal (negsuc 2147483646)
 
 -- MAXINT
 abbrev pub greatest : Formula
-greatest = number 2147483647
+greatest = literal MAXINT
 
 -- x := e
 abbrev pub becomes : ℕ → Formula → Substitution

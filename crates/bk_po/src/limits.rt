@@ -1,7 +1,7 @@
 //! How large the obligations of a development may be.
 
 ghost use Rattle.std.specs.Prelude.{◌≡◌, ◌⊎◌, ◌^◌, ◌-◌, min, length, None, IfErr, OnOk};
-ghost use Rattle.bk_po.specs.Obligations.{numbered};
+ghost use Rattle.bk_po.specs.Obligations.{numbered_sequents};
 ghost use Rattle.bk_po.specs.Limits.{nodes_of, height_of, is_too_large, first_too_large, all_nodes, PassNoLimit, IsFaultOf};
 ghost use Rattle.bk_po.specs.declared.error.PoFault.TheVariants.{TooMany};
 
@@ -37,7 +37,7 @@ pub(crate) fn all_nodes(wholes: &[WholeObligation]) -> u64
 /// How many sequents all are taken apart into, or 2^64 - 1 if they are more.
 #[tactic(auto, using(std::proofs::lemmas::Grind::common_steps, crate::proofs::Numbering::numbered_count))]
 pub(crate) fn all_sequents(wholes: &[WholeObligation]) -> u64
-    ensures { result ≡ min (length (numbered wholes.now)) (2 ^ 64 - 1) }
+    ensures { result ≡ min (length (numbered_sequents wholes.now)) (2 ^ 64 - 1) }
 {
     let mut total = 0u64;
     for whole in wholes {

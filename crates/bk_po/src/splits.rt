@@ -1,7 +1,7 @@
 //! The names of the sequents that goals are taken apart into.
 
 ghost use Rattle.std.specs.Prelude.{◌≡◌, ◌^◌, ◌-◌, ◌++◌, [], min, map, length, codes, decimal, IfOk, OnOk};
-ghost use Rattle.bk_po.specs.Obligations.{numbered_from, numbered};
+ghost use Rattle.bk_po.specs.Obligations.{numbered_from, numbered_sequents};
 ghost use Rattle.bk_seq.specs.Sequents.{split};
 ghost use Rattle.bk_seq.specs.Sequents.{sequent_of};
 ghost use Rattle.bk_po.specs.Shown.{named_sequent};
@@ -28,7 +28,7 @@ pub(crate) fn count(goal: &Form) -> u64
 
 /// The obligations taken apart: the sequents of each name are numbered from 1.
 pub(crate) fn numbered(alloc: Global, wholes: &[WholeObligation]) -> Result<Vec<Obligation>, Memory>
-    ensures { IfOk result (λ list. map named_sequent list.items ≡ numbered wholes.now) }
+    ensures { IfOk result (λ list. map named_sequent list.items ≡ numbered_sequents wholes.now) }
 {
     let mut list = Vec::new(alloc);
     for whole in wholes {

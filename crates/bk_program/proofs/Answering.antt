@@ -94,9 +94,6 @@ module _ (files : Files) (words : List (List ℕ)) (start before after : Option 
       subst (λ x. WroteFront x start after) (sym same) (subst (λ x. WroteFront (stop_text stop) x after) e r.1)
 
 -- ---- causes
-pub quiet : (stop : Stop) (P : Type 0) → IsOfPlaying stop ⊎ P → IsOutside stop ⊎ P
-quiet stop P (inl h) = inl (outside_of_playing stop h)
-quiet stop P (inr p) = inr p
 
 -- which stop a status tells of
 told_read : (stop : Stop) → status_of_stop stop ≡ ReadFaultStatus → stop ≡ ReadFault

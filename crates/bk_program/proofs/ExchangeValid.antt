@@ -179,14 +179,14 @@ swaps find law e t f x y = each-number find law (at e) looping (λ z.
 
 pub exchange_is_valid : HasValidObligations exchange
 exchange_is_valid = (
-  (λ find law e typed hold. machine-init find law e),
+  (λ sizes p find law e typed hold. machine-init find law e),
   (
-    (λ find law e typed hold. machine-init find law e),
+    (λ sizes p find law e typed hold. machine-init find law e),
     (
-      (λ find law e typed hold. code-init find law e (typed.typed 0 int_type refl)),
+      (λ sizes p find law e typed hold. code-init find law e (typed.typed 0 int_type refl)),
       (
-        (λ find law e typed hold. swaps find law e (typed.typed 0 int_type refl) hold.0 hold.1.0 hold.1.1.0),
-        ((λ find law e typed hold. check find law e), tt),
+        (λ sizes p find law e typed hold. swaps find law e (typed.typed 0 int_type refl) hold.0 hold.1.0 hold.1.1.0),
+        ((λ sizes p find law e typed hold. check find law e), tt),
       ),
     ),
   ),

@@ -22,7 +22,7 @@ use Rattle.bk_program.specs.Following.{ValidObligationsFollow, ProvedDevelopment
 
 pub valid_obligations_follow : ValidObligationsFollow
 valid_obligations_follow find law dev d b valid =
-    let correct = whole_is_correct find dev d b.complete (valid_obligations_carry find law dev d valid) in
+    let correct = whole_is_correct find dev d (d.sizes b.complete) (valid_obligations_carry find law dev d valid) in
     b0_follows find dev d (record { in_b0 = b; values = correct.values b.complete; keeps = correct.keeps; carries = correct.carries })
 
 pub proved_developments_follow : ProvedDevelopmentsFollow
@@ -33,7 +33,7 @@ closed_tables_follow find law dev scripts h =
     let d = h.facts in
     let b = h.in_b0 in
     let proved = closed_tables_prove dev scripts h.rows h.are h.closed in
-    let correct = whole_is_correct find dev d b.complete (proved_developments_are_correct find law dev scripts d proved) in
+    let correct = whole_is_correct find dev d (d.sizes b.complete) (proved_developments_are_correct find law dev scripts d proved) in
     (proved_developments_follow find law dev scripts d b proved, b0_ends find dev d (record { in_b0 = b; values = correct.values b.complete; keeps = correct.keeps; carries = correct.carries }))
 
 -- ---- what a project is read as is a development, and one in B0 where it ends in an implementation

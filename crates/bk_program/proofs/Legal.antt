@@ -1,5 +1,5 @@
 -- What is executed ends, within its code where it has no loop, and legal calls are done.
-use Rattle.std.proofs.Common.{◌≡◌, ℕ, zero, suc, ◌+◌, ◌<◌, ◌≤◌, ℤ, pos, negsuc, Bool, true, false, ◌&&◌, int_le, List, [], ◌∷◌, ◌++◌, map, length, All, slice_index_or, Option, Some, None, refl, sym, ◌∙◌, ap, subst, arith}
+use Rattle.std.proofs.Common.{◌≡◌, ℕ, zero, suc, ◌+◌, ◌<◌, ◌≤◌, ℤ, pos, negsuc, Bool, true, false, ◌&&◌, List, [], ◌∷◌, ◌++◌, map, length, All, slice_index_or, Option, Some, None, refl, sym, ◌∙◌, ap, subst, arith}
 use Rattle.std.specs.Prelude.{slice_get, neg_ℤ, ◌≤ℤ◌, nat_lt, option_map, position}
 use Rattle.std.specs.List.{AllZip}
 use Rattle.std.specs.Option.{option_map_or}
@@ -37,7 +37,7 @@ use Rattle.bk_b0.proofs.Numbers.{number-back, of-kind-value, bounds-if}
 use Rattle.bk_sim.specs.Shows.{Linked}
 use Rattle.bk_sim.specs.Ending.{EndsWithin, HasNoLoop}
 use Rattle.bk_sim.specs.Within.{EndsWithoutLoops}
-use Rattle.bk_sim.specs.Follows.{IsEntry, as_values, replies, started, IsGood, IsStep, Follows}
+use Rattle.bk_sim.specs.Follows.{IsEntry, as_values, replies, started, IsGood, IsStep, IsAllowedCall, Follows}
 use Rattle.bk_sim.proofs.B0Code.{b0_ends}
 use Rattle.bk_calls.specs.CallLine.{Argument, Number, Truth, Element}
 use Rattle.bk_calls.specs.Script.{value_of, AreValues, AsksFor}
@@ -56,7 +56,7 @@ pub projects_end : ProjectsEnd
 projects_end files project dev scripts h finished find law =
     let facts = project_development true files project dev scripts h finished.proved.within in
     let b0 = project_in_b0 true files project dev scripts h finished.proved.within finished.complete in
-    let correct = whole_is_correct find dev facts finished.complete (proved_developments_are_correct find law dev scripts facts finished.proved.proved) in
+    let correct = whole_is_correct find dev facts (facts.sizes finished.complete) (proved_developments_are_correct find law dev scripts facts finished.proved.proved) in
     b0_ends find dev facts (record { in_b0 = b0; values = correct.values finished.complete; keeps = correct.keeps; carries = correct.carries })
 
 some_entry : (ops : List OpEntry) (o : ℕ) (entry : OpEntry) → slice_get ops o ≡ Some entry → o < length ops
@@ -265,7 +265,8 @@ module _ (fuel : ℕ) (find : Finder) (dev : Development) (follows : Follows fin
   call_ends_well : (before : Abstract → Type 0) (r : Request) (entry : OpEntry) (a : Abstract) (m : List ℤ) (t : Told) (d : Config) → LeavesLinked find dev (After find dev before (call_of dev r) (reply_of dev r t)) t → IsEntry (translation dev) r.op entry → Linked find dev a m → IsCall dev (call_of dev r) →
       map as_number (call_of dev r).args ≡ r.args → Pre find dev (call_of dev r) a → Ends (translation dev) fuel (started entry (call_of dev r) m) t.end d → CallEndsWell find dev fuel before r m t
   call_ends_well before r entry a m t d leaves named linked call args pre end =
-      let good = (follows.local a m (call_of dev r) entry linked call pre named).1 fuel t.end d end in
+      let allowed : IsAllowedCall find dev (translation dev) a m (call_of dev r) entry = record { linked = linked; call = call; pre = pre; named = named } in
+      let good = (follows.local a m (call_of dev r) entry allowed).1 fuel t.end d end in
       let here : WouldEnd (translation dev) fuel (call_start entry r.args m) t.end =
       subst (λ zs. WouldEnd (translation dev) fuel (call_start entry zs m) t.end) args (would_end (translation dev) fuel (started entry (call_of dev r) m) (IsStep find dev (call_of dev r) entry a) t.end d good) in
       record {
@@ -273,7 +274,7 @@ module _ (fuel : ℕ) (find : Finder) (dev : Development) (follows : Follows fin
         untrapped = untrapped (translation dev) fuel (started entry (call_of dev r) m) (IsStep find dev (call_of dev r) entry a) t.end d good;
         more = λ other there. subst (λ x. WouldEnd (translation dev) fuel (call_start x r.args m) t.end) (same_entry (translation dev) r.op entry other named there) here;
         in_time = λ none. in_time (translation dev) fuel (length (operation_code dev (body_at dev (last dev) r.op))) (started entry (call_of dev r) m) d t.end
-            (in_code.local a m (call_of dev r) entry none linked call pre named) end;
+            (in_code.local a m (call_of dev r) entry none allowed) end;
       }
 
   -- after an end each legal call ends well, by what is known where it is done
@@ -302,7 +303,7 @@ module _ (fuel : ℕ) (find : Finder) (dev : Development) (follows : Follows fin
       let call = is_call find dev follows r entry answers.named (All-head (Fits dev) r rs fit) in
       let pre : Pre find dev c a = legal a h in
       let end : Ends (translation dev) fuel (started entry c m) t.end d = subst (λ zs. Ends (translation dev) fuel (call_start entry zs m) t.end d) (sym call.1) answers.call.ends in
-      let good = (follows.local a m c entry linked call.0 pre answers.named).1 fuel t.end d end in
+      let good = (follows.local a m c entry (record { linked = linked; call = call.0; pre = pre; named = answers.named })).1 fuel t.end d end in
       let leaves : LeavesLinked find dev (After find dev before c us) t = λ k is.
       let step : IsStep find dev c entry a d.cells = subst (λ e. IsGood (translation dev) fuel (started entry c m) (IsStep find dev c entry a) e d) is good in
       let given : t.outputs ≡ outputs_of entry.outputs d.cells = answers.call.given ∙ ap (λ e. given_out entry.outputs e d.cells) is in

@@ -15,7 +15,7 @@ use Rattle.bk_front.proofs.ProjectFiles.{lines_are_one, lines_exclude}
 use Rattle.bk_front.proofs.OneFile.{lines_have_one_refusal}
 use Rattle.bk_front.proofs.OneReading.{faults_exclude as refusals_exclude}
 use Rattle.bk_front.proofs.OneRefusal.{texts_have_one_refusal}
-use Rattle.bk_po.specs.Obligations.{numbered, obligations}
+use Rattle.bk_po.specs.Obligations.{numbered_sequents, obligations}
 use Rattle.bk_po.specs.Limits.{PassTogether, PassNoLimit, all_nodes}
 use Rattle.bk_raw.specs.Trees.ScriptTree.{RawScript}
 use Rattle.bk_p_proof.specs.Files.{AreScriptsOf}
@@ -165,15 +165,15 @@ module _ (with_proofs : Bool) (files : Files) (project : List ℕ) where
 together_or_none : (dev : Development) (limit : ℕ) → PassTogether (obligations dev) limit → PassNoLimit (obligations dev) → ⊥
 together_or_none dev limit p n = by p.passed
   where
-    by : ((limit ≡ 7) × (20000 < length (numbered (obligations dev)))) ⊎ ((limit ≡ 14) × (length (numbered (obligations dev)) ≤ 20000) × (20000000 < all_nodes (obligations dev))) → ⊥
+    by : ((limit ≡ 7) × (20000 < length (numbered_sequents (obligations dev)))) ⊎ ((limit ≡ 14) × (length (numbered_sequents (obligations dev)) ≤ 20000) × (20000000 < all_nodes (obligations dev))) → ⊥
     by (inl h) = omega (arith, h.1, n.sequents)
     by (inr h) = omega (arith, h.2, n.nodes)
 
 one_limit : (dev : Development) (a b : ℕ) → PassTogether (obligations dev) a → PassTogether (obligations dev) b → a ≡ b
 one_limit dev a b p q = by p.passed q.passed
   where
-    by : ((a ≡ 7) × (20000 < length (numbered (obligations dev)))) ⊎ ((a ≡ 14) × (length (numbered (obligations dev)) ≤ 20000) × (20000000 < all_nodes (obligations dev))) →
-        ((b ≡ 7) × (20000 < length (numbered (obligations dev)))) ⊎ ((b ≡ 14) × (length (numbered (obligations dev)) ≤ 20000) × (20000000 < all_nodes (obligations dev))) → a ≡ b
+    by : ((a ≡ 7) × (20000 < length (numbered_sequents (obligations dev)))) ⊎ ((a ≡ 14) × (length (numbered_sequents (obligations dev)) ≤ 20000) × (20000000 < all_nodes (obligations dev))) →
+        ((b ≡ 7) × (20000 < length (numbered_sequents (obligations dev)))) ⊎ ((b ≡ 14) × (length (numbered_sequents (obligations dev)) ≤ 20000) × (20000000 < all_nodes (obligations dev))) → a ≡ b
     by (inl h) (inl k) = h.0 ∙ sym k.0
     by (inr h) (inr k) = h.0 ∙ sym k.0
     by (inl h) (inr k) = absurd (omega (arith, h.1, k.1))

@@ -1,5 +1,5 @@
 -- It cannot be that words and told files have no answer.
-use Rattle.std.proofs.Common.{◌≡◌, ℕ, ◌⊎◌, inl, inr, Bool, true, false, nat_eq, List, [], ◌∷◌, ◌++◌, length, map, All, Option, Some, None, refl, sym, ◌∙◌, subst, arith, codes}
+use Rattle.std.proofs.Common.{◌≡◌, ℕ, ◌⊎◌, inl, inr, Bool, true, false, nat_eq, List, [], ◌∷◌, ◌++◌, length, All, Option, Some, None, refl, sym, ◌∙◌, subst, arith, codes}
 use Rattle.std.proofs.lemmas.Bool.{cases_lt}
 use Rattle.std.proofs.lemmas.Int.{ints}
 use Rattle.std.proofs.lemmas.List.{length-map}
@@ -29,7 +29,7 @@ use Rattle.bk_front.proofs.Levels.{chain_starts}
 use Rattle.bk_front.proofs.SomeLines.{lines_are_read}
 use Rattle.bk_front.proofs.SomeReading.{texts_are_read}
 use Rattle.bk_dev.specs.Flattened.{flattened}
-use Rattle.bk_po.specs.Obligations.{obligations, numbered, numbered_obligations}
+use Rattle.bk_po.specs.Obligations.{obligations, numbered_sequents, numbered_obligations}
 use Rattle.bk_po.specs.Limits.{first_too_large, all_nodes, PassNoLimit}
 use Rattle.bk_raw.specs.Trees.ScriptTree.{RawScript}
 use Rattle.bk_p_proof.specs.Files.{AreScriptsOf, IsFaultOf as IsFaultOfProofs}
@@ -190,7 +190,7 @@ limits project dev = by (first_too_large (obligations dev)) refl
   where
     by : (o : Option (List ℕ)) → first_too_large (obligations dev) ≡ o → Looks (StopsPastLimits project dev) (PassNoLimit (obligations dev))
     by (Some name) e = inl (Limit 6 name, inl (name, refl, e))
-    by None e = elim (cases_lt 20000 (length (numbered (obligations dev)))) [
+    by None e = elim (cases_lt 20000 (length (numbered_sequents (obligations dev)))) [
       | inl many ↦ inl (Limit 7 project, inr (7, refl, record { sizes = e; passed = inl (refl, many) }))
       | inr few ↦ elim (cases_lt 20000000 (all_nodes (obligations dev))) [
         | inl large ↦ inl (Limit 14 project, inr (14, refl, record { sizes = e; passed = inr (refl, few, large) }))

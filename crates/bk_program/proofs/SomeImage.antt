@@ -17,7 +17,7 @@ use Rattle.bk_code.specs.Checks.{IsKind, IsGoodParameter, IsGoodEntry, IsArray, 
 use Rattle.bk_image.specs.declared.fault.LoadFault.{LoadFault}
 use Rattle.bk_image.specs.declared.fault.LoadFault.TheVariants.{Short, Magic, Version, BadInst, BadJump, BadSlot, Stack, Extra, Memory as NoRoom}
 use Rattle.bk_image.specs.Spelling.{text, parameter, parameters, entry, inst, FitsFields, spelling}
-use Rattle.bk_image.specs.Faults.{place, IsMagicFault, IsVersionFault, IsInstFault, IsFirst, place_of, IsParameterFault, IsParametersFault, IsEntryFault, IsArrayFault, IsOperandFault, ops_place, count_place, IsNumberFault}
+use Rattle.bk_image.specs.Faults.{place, IsMagicFault, IsVersionFault, IsInstFault, IsFirst, part_place, IsParameterFault, IsParametersFault, IsEntryFault, IsArrayFault, IsOperandFault, ops_place, count_place, IsNumberFault}
 use Rattle.bk_image.specs.Stack.{depth_after, HasDepth, BreaksRules, IsStackFault}
 use Rattle.bk_image.specs.Encoding.{Encodes, IsFault}
 use Rattle.bk_image.specs.Progress.{next_of, target_of}
@@ -77,7 +77,7 @@ module _ (image : Image) where
 
   good_parameters : (at : ℕ) (ps : List Parameter) → ((e : LoadFault) → IsParametersFault image at ps e → ⊥) → All (IsGoodParameter image) ps
   good_parameters at ps never k d below =
-      good_parameter k (place_of parameter (at + 2) ps k) (get_or ps k d) (λ e f. never e (k, get_or ps k d, slice_get-get_or ps k d below, f))
+      good_parameter k (part_place parameter (at + 2) ps k) (get_or ps k d) (λ e f. never e (k, get_or ps k d, slice_get-get_or ps k d below, f))
 
   good_entry : (k at : ℕ) (op : OpEntry) → ((e : LoadFault) → IsEntryFault image k at op e → ⊥) → IsGoodEntry image op
   good_entry k at op never = record {
@@ -172,9 +172,9 @@ module _ (image : Image) where
         | inl many ↦ absurd (never (BadSlot 6) (inl (refl, many)))
         | inr few ↦ few
       ];
-      ops = λ k d below. good_entry k (place_of entry (ops_place image) image.ops k) (get_or image.ops k d) (λ e f. never e (inr (inr (inl (k, get_or image.ops k d, slice_get-get_or image.ops k d below, f)))));
-      insts = λ at i get. good_operand at (place_of inst (count_place image + 4) image.code at) i (λ e f. never e (inr (inr (inr (inr (at, i, get, inl f))))));
-      last = λ at i get end. leaves i (λ none. never (BadJump (place_of inst (count_place image + 4) image.code at)) (inr (inr (inr (inr (at, i, get, inr (refl, end, none)))))));
+      ops = λ k d below. good_entry k (part_place entry (ops_place image) image.ops k) (get_or image.ops k d) (λ e f. never e (inr (inr (inl (k, get_or image.ops k d, slice_get-get_or image.ops k d below, f)))));
+      insts = λ at i get. good_operand at (part_place inst (count_place image + 4) image.code at) i (λ e f. never e (inr (inr (inr (inr (at, i, get, inl f))))));
+      last = λ at i get end. leaves i (λ none. never (BadJump (part_place inst (count_place image + 4) image.code at)) (inr (inr (inr (inr (at, i, get, inr (refl, end, none)))))));
       some = elim (cases_lt 0 (length image.code)) [
         | inl h ↦ h
         | inr none ↦ absurd (never (BadJump (count_place image)) (inr (inr (inr (inl (refl, omega (arith, none)))))))
@@ -364,8 +364,8 @@ module _ (bytes : List ℕ) (image : Image) (fits : FitsFields image) (are : byt
   of_stack : IsNumbered image → length image.sets ≤ 65534 → Possible (Verdict bytes)
   of_stack numbered few = and_then (decide ((k : ℕ) × IsStackFault image k)) (λ d. elim d [
     | inl f ↦ and_then (least (IsStackFault image) f.0 f.1) (λ m. certain (inr (
-      Stack (place_of inst (count_place image + 4) image.code m.0),
-      stack_other (place_of inst (count_place image + 4) image.code m.0),
+      Stack (part_place inst (count_place image + 4) image.code m.0),
+      stack_other (part_place inst (count_place image + 4) image.code m.0),
       record { image = image; spelled = record { fits = fits; few_sets = few }; is = are; numbered = numbered; first = record { inst = m.0; is = m.1; first = m.2; place = refl } },
     )))
     | inr none ↦ and_then (loadable image numbered (λ k f. none (k, f))) (λ l. certain (inl (image, record { loadable = l; spelled = record { fits = fits; few_sets = few }; is = are })))

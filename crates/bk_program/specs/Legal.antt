@@ -81,8 +81,8 @@ LeavesLinked find dev states told = (n : ℕ) → told.end ≡ Done n → (a : A
 -- a call on these cells, before which the machine may be in these states: where it is done, the machine steps from one of them, with the
 -- replies that are told, to a state that is linked to the cells; it does not trap, out of fuel it would be done with more, and without
 -- WHILE it is done with a fuel of at least the length of its code
-pub record CallEndsWell (find : Finder) (dev : Development) (fuel : ℕ) (before : Abstract →
-    Type 0) (request : Request) (cells : List ℤ) (told : Told) : Type 0 where
+pub record CallEndsWell (find : Finder) (dev : Development) (fuel : ℕ) (before : Abstract → Type 0)
+    (request : Request) (cells : List ℤ) (told : Told) : Type 0 where
   pub answers : LeavesLinked find dev (After find dev before (call_of dev request) (reply_of dev request told)) told
   pub untrapped : IsUntrapped told.end
   pub more : CallWouldEnd (translation dev) fuel request cells told

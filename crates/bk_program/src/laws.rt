@@ -23,8 +23,9 @@ pub fn proved_projects_end()
     ensures { ProjectsEnd }
 {}
 
-/// In a project's session the initialisation, and each call that is legal after those before it, replies as the machine does, does not
-/// trap, would end with more fuel, and without a loop is done with the length of its code; where all are legal and no loop is run, all are done with enough.
+/// In a project's session the initialisation, and each call that is legal after those before it, replies as the machine does,
+/// does not trap, would end with more fuel, and without a loop is done with the length of its code; where all are legal and no
+/// loop is run, all are done with enough.
 pub fn legal_calls_are_done()
     ensures { LegalCallsAreDone }
 {}

@@ -16,7 +16,7 @@ use Rattle.bk_raw.specs.Trees.RawTree.{RawTree, raw, RawTreeNode, raw_name, raw_
 use Rattle.bk_raw.specs.Grammar.Spelling.{Names, Binder, Typed, TypedBounds, Term, Listed, Sequenced, Bare, Commas, Semicolons, Terms, Ranges, Spells}
 use Rattle.bk_raw.specs.Grammar.Laws.{TermsAreOne}
 use Rattle.bk_raw.proofs.Neutral.{neutral_names, neutral_terms, neutral_ranges}
-use Rattle.bk_raw.specs.Grammar.Reading.{next, start, within, signed, front_kind, tight, joined, read, quantified, lambda, braces}
+use Rattle.bk_raw.specs.Grammar.Reading.{next, start, within, signed, front_kind, tight, operators_after, read, quantified, lambda, braces}
 use Rattle.bk_raw.proofs.Shapes.{of_kind, led, just_is, begun_led}
 use Rattle.bk_raw.proofs.Stopping.{some_same, own_within, right_within, left_within, stops_end, comma_ends, semicolon_ends, close_paren_ends, postfixed_ends}
 use Rattle.bk_raw.proofs.Combining.{Exact, Anything, exact_made}
@@ -126,8 +126,8 @@ loops_minus node a Piece h makes at least small n asked tokens rest q l k admits
       enough = omega (arith, ap length v.is);
       binds = small;
       is = ap (λ ts. read (suc n) asked (ts ++ rest)) v.is
-          ∙ ap (λ o. next {A = RawTree × ℕ} (next o (λ x vs. Some ((raw v.token.start (signed (front_kind (v.back ++ rest)) x), 10), vs))) (λ x us. joined n (read n) asked v.token.start x.0 x.1 us)) inside
-          ∙ (λ i. joined n (read n) asked (sym (ap start v.is) i) (raw (here i) (makes v.back rest v.second i)) 10 rest);
+          ∙ ap (λ o. next {A = RawTree × ℕ} (next o (λ x vs. Some ((raw v.token.start (signed (front_kind (v.back ++ rest)) x), 10), vs))) (λ x us. operators_after n (read n) asked v.token.start x.0 x.1 us)) inside
+          ∙ (λ i. operators_after n (read n) asked (sym (ap start v.is) i) (raw (here i) (makes v.back rest v.second i)) 10 rest);
     }
 
 digits_tights : (at : ℕ) (z : ℤ) (d : ℕ) → z ≡ pos d → Tights (Starting at (Digits d)) (raw at (raw_number z))

@@ -14,7 +14,7 @@ use Rattle.bk_raw.specs.Meaning.Outcome.{Outcome, Reading, ask_value, ask_set}
 use Rattle.bk_raw.specs.Meaning.Binders.{Bound, is_text, twice, Ranged, unranged, first_range, ranged_as, ranged_by, as_single, ranges_by, is_used, left_over}
 use Rattle.bk_raw.specs.Meaning.TermReading.{part, name_of, names_one, reading, node_reading, clues, ranges, rest, rest_in}
 use Rattle.bk_raw.specs.Meaning.GivesTakes.{expression}
-use Rattle.bk_raw.specs.Meaning.ConjunctsInOrder.{typed_in_order, where_named, range_of, range_given, first_of, numbered, first_given, ranged_first, left_in_order, ConjunctsInOrder}
+use Rattle.bk_raw.specs.Meaning.ConjunctsInOrder.{typed_in_order, where_named, range_of, range_given, first_of, with_number, first_given, ranged_first, left_in_order, ConjunctsInOrder}
 use Rattle.bk_raw.proofs.RulesFit.{none-left, none-right}
 use Rattle.bk_raw.proofs.BoundNames.{no-name, or-right, either}
 use Rattle.bk_raw.specs.Errors.Faults.{Fault, twice_named}
@@ -67,7 +67,7 @@ module _ (max : ℤ) (names : Names) (all : List RawName) where
   given-append x i [] ds = let same : i ≡ i + 0 = omega arith in ap (λ n. first_given max names all x n ds) same
   given-append x i (c ∷ cs) ds =
       let same : suc i + length cs ≡ i + suc (length cs) = omega arith in
-      let one = numbered i (range_given max names all x c) in
+      let one = with_number i (range_given max names all x c) in
       ap (first_of one) (given-append x (suc i) cs ds ∙ ap (λ n. first_of (first_given max names all x (suc i) cs) (first_given max names all x n ds)) same)
       ∙ sym (first-first one (first_given max names all x (suc i) cs) (first_given max names all x (i + suc (length cs)) ds))
 
@@ -97,7 +97,7 @@ module _ (max : ℤ) (names : Names) (all : List RawName) where
   after-nothing : (rs : List Ranged) (i : ℕ) (c : RawTree) → ((b : Ranged) → range_given max names all b.text c ≡ None) → rs ≡ after rs i (c ∷ [])
   after-nothing [] i c h = refl
   after-nothing (b ∷ bs) i c h =
-      let e : first_of b.range (first_of (numbered i (range_given max names all b.text c)) None) ≡ b.range = ap (λ o. first_of b.range (first_of (numbered i o) None)) (h b) ∙ first-none b.range in
+      let e : first_of b.range (first_of (with_number i (range_given max names all b.text c)) None) ≡ b.range = ap (λ o. first_of b.range (first_of (with_number i o) None)) (h b) ∙ first-none b.range in
       (λ k. record { text = b.text; at = b.at; range = sym e k } ∷ after-nothing bs i c h k)
 
   first-given : (o : Option Given) (r : Given) → first_range o r ≡ first_of o (Some r)
@@ -114,17 +114,17 @@ module _ (max : ℤ) (names : Names) (all : List RawName) where
     after-others before [] t h = refl
     after-others before (b ∷ bs) t h =
         let other : bytes_eq b.text y ≡ false = differ b.text y (λ e. no-name (sym h.0 ∙ ap (is_text before) e ∙ t)) in
-        let e : first_of b.range (first_of (numbered i (range_given max names all b.text c)) None) ≡ b.range = ap (λ o. first_of b.range (first_of (numbered i o) None)) (gives b.text ∙ ap (λ k. where_named k (Some d)) other) ∙ first-none b.range in
+        let e : first_of b.range (first_of (with_number i (range_given max names all b.text c)) None) ≡ b.range = ap (λ o. first_of b.range (first_of (with_number i o) None)) (gives b.text ∙ ap (λ k. where_named k (Some d)) other) ∙ first-none b.range in
         let later : is_text (b.text ∷ before) y ≡ true = or-right (bytes_eq b.text y) (is_text before y) t in
         (λ k. record { text = b.text; at = b.at; range = sym e k } ∷ after-others (b.text ∷ before) bs later h.1 k)
 
     by-test : (before : List (List ℕ)) (b : Ranged) (bs : List Ranged) (t : Bool) → bytes_eq b.text y ≡ t → AreOnce (b.text ∷ before) bs → ranged_as y (d.0, d.1, i) bs ≡ after bs i (c ∷ []) → cond t (record { text = b.text; at = b.at; range = first_range b.range (d.0, d.1, i) } ∷ bs) (b ∷ ranged_as y (d.0, d.1, i) bs) ≡ after (b ∷ bs) i (c ∷ [])
     by-test before b bs true e h l =
-        let f : first_range b.range (d.0, d.1, i) ≡ first_of b.range (first_of (numbered i (range_given max names all b.text c)) None) = first-given b.range (d.0, d.1, i) ∙ sym (ap (λ o. first_of b.range (first_of (numbered i o) None)) (gives b.text ∙ ap (λ k. where_named k (Some d)) e)) in
+        let f : first_range b.range (d.0, d.1, i) ≡ first_of b.range (first_of (with_number i (range_given max names all b.text c)) None) = first-given b.range (d.0, d.1, i) ∙ sym (ap (λ o. first_of b.range (first_of (with_number i o) None)) (gives b.text ∙ ap (λ k. where_named k (Some d)) e)) in
         let here : is_text (b.text ∷ before) y ≡ true = ap (λ k. k || is_text before y) e in
         (λ k. record { text = b.text; at = b.at; range = f k } ∷ after-others (b.text ∷ before) bs here h k)
     by-test before b bs false e h l =
-        let f : first_of b.range (first_of (numbered i (range_given max names all b.text c)) None) ≡ b.range = ap (λ o. first_of b.range (first_of (numbered i o) None)) (gives b.text ∙ ap (λ k. where_named k (Some d)) e) ∙ first-none b.range in
+        let f : first_of b.range (first_of (with_number i (range_given max names all b.text c)) None) ≡ b.range = ap (λ o. first_of b.range (first_of (with_number i o) None)) (gives b.text ∙ ap (λ k. where_named k (Some d)) e) ∙ first-none b.range in
         (λ k. record { text = b.text; at = b.at; range = sym f k } ∷ l k)
 
     after-given : (before : List (List ℕ)) (rs : List Ranged) → AreOnce before rs → ranged_as y (d.0, d.1, i) rs ≡ after rs i (c ∷ [])

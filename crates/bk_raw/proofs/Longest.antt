@@ -9,7 +9,7 @@ use Rattle.bk_raw.specs.declared.operator.InfixOp.{InfixOp}
 use Rattle.bk_raw.specs.Grammar.Pieces.{JustSign, ◌⌢◌, Starting}
 use Rattle.bk_raw.specs.Trees.RawTree.{RawTree, raw, RawTreeNode, raw_number, raw_negative, raw_infix}
 use Rattle.bk_raw.specs.Grammar.Spelling.{Term, Bare, Spells}
-use Rattle.bk_raw.specs.Grammar.Reading.{next, start, signed, front_kind, tight, operand, joined, read}
+use Rattle.bk_raw.specs.Grammar.Reading.{next, start, signed, front_kind, tight, operand, operators_after, read}
 use Rattle.bk_raw.proofs.Shapes.{of_kind, led, begun_start, begun_length, lengths}
 use Rattle.bk_raw.proofs.Stopping.{none_some, some_same, left_within, joined_gives, postfixed_gives}
 use Rattle.bk_raw.proofs.Loops.{operand_is, operator_read}
@@ -35,7 +35,7 @@ on_operand n asked tokens rest x strength us l e far =
     let more = joined_grows (read n) (sound_read n) n asked (start whole) x strength o.front.written us g.0 o.front.piece here (omega (arith, l, o.strong)) g.1 in
     record {
       read_is = g.0;
-      is = ap (λ p. next {A = RawTree × ℕ} p (λ x us. joined n (read n) asked (start whole) x.0 x.1 us)) e ∙ g.1;
+      is = ap (λ p. next {A = RawTree × ℕ} p (λ x us. operators_after n (read n) asked (start whole) x.0 x.1 us)) e ∙ g.1;
       far = omega (arith, far, shorter us more.more g.0.1 more.is);
     }
 

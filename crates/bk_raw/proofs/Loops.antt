@@ -10,7 +10,7 @@ use Rattle.bk_raw.specs.Trees.Operators.{infix_kind, binding}
 use Rattle.bk_raw.specs.declared.operator.InfixOp.{InfixOp}
 use Rattle.bk_raw.specs.Grammar.Pieces.{Just, JustSign, ◌⌢◌, Starting, Binding}
 use Rattle.bk_raw.specs.Trees.RawTree.{RawTree, raw, RawTreeNode, raw_infix, raw_composition, raw_pair}
-use Rattle.bk_raw.specs.Grammar.Reading.{same_kind, next, sign, begins_with, start, or_else, moved, chain, arguments, parentheses, primary_at, postfixed, tight, operand, joined, joined_by, read}
+use Rattle.bk_raw.specs.Grammar.Reading.{same_kind, next, sign, begins_with, start, or_else, moved, chain, arguments, parentheses, primary_at, postfixed, tight, operand, operators_after, joined_by, read}
 use Rattle.bk_raw.proofs.WrittenKinds.{infix_of-kind}
 use Rattle.bk_raw.proofs.Shapes.{of_kind, kind_known, Led, led, Begun, begun_joined, begun_start, begun_length, appended, lengths, sign_front, begins_front}
 use Rattle.bk_raw.proofs.Stopping.{none_some, own_left, Stops, Admits, admits_of_stops, IsEnd, Before, before_stops, close_paren_ends, operator_admits, postfixed_ends, chain_ends, joined_ends, joined_gives, or_else_taken}
@@ -23,7 +23,7 @@ pub record Looped (n asked least : ℕ) (t : RawTree) (tokens rest : List Token)
   pub strength : ℕ
   pub enough : n + 1 ≤ fuel + length tokens
   pub binds : least ≤ strength
-  pub is : read (suc n) asked (tokens ++ rest) ≡ joined fuel (read n) asked (start tokens) t strength rest
+  pub is : read (suc n) asked (tokens ++ rest) ≡ operators_after fuel (read n) asked (start tokens) t strength rest
 
 abbrev pub Loops : (List Token → Type 0) → RawTree → ℕ → Type 0
 Loops Piece t least = (n asked : ℕ) (tokens rest : List Token) → Piece tokens → length tokens ≤ n + 1 → asked ≤ least → Admits least rest → Looped n asked least t tokens rest
@@ -93,8 +93,8 @@ loops_of_tights Piece t least within begins h n asked tokens rest p l a admits =
       strength = 11;
       enough = omega (arith, begun_length tokens (begins tokens p));
       binds = within;
-      is = ap (λ o. next o (λ x us. joined n (read n) asked (start (tokens ++ rest)) x.0 x.1 us)) (operand_is n (read n) (tokens ++ rest) (t, rest) (v.is ∙ postfixed_ends v.fuel (read n) (start tokens) t rest admits.postfix))
-          ∙ ap (λ s. joined n (read n) asked s t 11 rest) (begun_start tokens rest (begins tokens p));
+      is = ap (λ o. next o (λ x us. operators_after n (read n) asked (start (tokens ++ rest)) x.0 x.1 us)) (operand_is n (read n) (tokens ++ rest) (t, rest) (v.is ∙ postfixed_ends v.fuel (read n) (start tokens) t rest admits.postfix))
+          ∙ ap (λ s. operators_after n (read n) asked s t 11 rest) (begun_start tokens rest (begins tokens p));
     }
 
 -- a term is read exactly where nothing goes on with it
@@ -247,7 +247,7 @@ exact_arguments Piece t rows begins n c tokens rest p l k =
 pub record OperatorRead (o : InfixOp) (a : RawTree) (n asked : ℕ) (tokens front back rest : List Token) : Type 0 where
   pub fuel : ℕ
   pub enough : n ≤ fuel + length front
-  pub goes : (right : RawTree) (us : List Token) → read n (binding o).right (back ++ rest) ≡ Some (right, us) → read (suc n) asked (tokens ++ rest) ≡ joined fuel (read n) asked (start tokens) (raw (start tokens) (raw_infix o a right)) (binding o).own us
+  pub goes : (right : RawTree) (us : List Token) → read n (binding o).right (back ++ rest) ≡ Some (right, us) → read (suc n) asked (tokens ++ rest) ≡ operators_after fuel (read n) asked (start tokens) (raw (start tokens) (raw_infix o a right)) (binding o).own us
 
 pub operator_read : (o : InfixOp) (a : RawTree) (First Second : List Token → Type 0) → Loops First a (binding o).left → Begins First → (n asked : ℕ) (tokens rest : List Token) (p : (First ⌢ Just (infix_kind o) ⌢ Second) tokens) (v : Led (infix_kind o) Second p.1) → length tokens ≤ n + 1 → asked ≤ (binding o).own → OperatorRead o a n asked tokens p.0 v.back rest
 operator_read o a First Second h begins n asked tokens rest p v l k =
@@ -264,12 +264,12 @@ operator_read o a First Second h begins n asked tokens rest p v l k =
       enough = omega (arith, w.enough, left);
       goes = λ right us e. ap (read (suc n) asked) (appended tokens p.0 p.1 rest p.2)
           ∙ w.is
-          ∙ (λ i. joined (left i) (read n) asked s a w.strength (next_is i))
-          ∙ ap (joined_by (joined m (read n) asked s) (read n) asked s a w.strength (of_kind (infix_kind o) v.token) (v.back ++ rest)) (infix_of-kind o)
+          ∙ (λ i. operators_after (left i) (read n) asked s a w.strength (next_is i))
+          ∙ ap (joined_by (operators_after m (read n) asked s) (read n) asked s a w.strength (of_kind (infix_kind o) v.token) (v.back ++ rest)) (infix_of-kind o)
           ∙ cond-true (nat_le asked (binding o).own && nat_le (binding o).left w.strength) _ _ (and_from (nat_le asked (binding o).own) (nat_le (binding o).left w.strength) (le-leb asked (binding o).own k) (le-leb (binding o).left w.strength w.binds))
-          ∙ ap (λ found. or_else (next found (λ right us. joined m (read n) asked s (raw s (raw_infix o a right)) (binding o).own us)) (Some (a, of_kind (infix_kind o) v.token ∷ (v.back ++ rest)))) e
+          ∙ ap (λ found. or_else (next found (λ right us. operators_after m (read n) asked s (raw s (raw_infix o a right)) (binding o).own us)) (Some (a, of_kind (infix_kind o) v.token ∷ (v.back ++ rest)))) e
           ∙ or_else_taken _ _ (joined_gives m (read n) asked s (raw s (raw_infix o a right)) (binding o).own us)
-          ∙ (λ i. joined m (read n) asked (sym here i) (raw (sym here i) (raw_infix o a right)) (binding o).own us);
+          ∙ (λ i. operators_after m (read n) asked (sym here i) (raw (sym here i) (raw_infix o a right)) (binding o).own us);
     }
 
 pub loops_infix : (o : InfixOp) (a b : RawTree) (First Second : List Token → Type 0) → Loops First a (binding o).left → Begins First → ((n : ℕ) → Exact n (read n (binding o).right) Second b (Stops (binding o).right)) → (at least : ℕ) → Loops (Starting at (Binding (binding o).own least (First ⌢ Just (infix_kind o) ⌢ Second))) (raw at (raw_infix o a b)) least
@@ -285,5 +285,5 @@ loops_infix o a b First Second h begins exact at least n asked tokens rest q l k
       enough = omega (arith, size, w.enough);
       binds = q.4.0;
       is = w.goes b rest (exact n v.back rest v.second (omega (arith, size, l, begun_length p.0 (begins p.0 p.3))) stops)
-          ∙ ap (λ s. joined w.fuel (read n) asked (start tokens) (raw s (raw_infix o a b)) (binding o).own rest) (starts at (Binding (binding o).own least (First ⌢ Just (infix_kind o) ⌢ Second)) tokens q);
+          ∙ ap (λ s. operators_after w.fuel (read n) asked (start tokens) (raw s (raw_infix o a b)) (binding o).own rest) (starts at (Binding (binding o).own least (First ⌢ Just (infix_kind o) ⌢ Second)) tokens q);
     }

@@ -18,7 +18,7 @@ use Rattle.bk_raw.specs.declared.term.RawName.{RawName}
 use Rattle.bk_raw.specs.declared.term.RawBound.{RawBound}
 use Rattle.bk_raw.specs.Grammar.Pieces.{Just, JustAt, JustSign, ◌⌢◌, InParentheses}
 use Rattle.bk_raw.specs.Grammar.Spelling.{Declared, Names, Alone, Binder, Typed, TypedBound, TypedBounds}
-use Rattle.bk_raw.specs.Grammar.Reading.{same_kind, first_with, infix_of, word_of, constant_of, next, sign, begins_with, named, name, within, names, binder, typed_at, typed, numbered, bound, bounds}
+use Rattle.bk_raw.specs.Grammar.Reading.{same_kind, first_with, infix_of, word_of, constant_of, next, sign, begins_with, named, name, within, names, binder, typed_at, typed, bound_number, bound, bounds}
 use Rattle.bk_raw.proofs.Stopping.{none_some, some_same}
 use Rattle.bk_raw.proofs.Loops.{same_kind_sign}
 use Rattle.bk_raw.proofs.Primaries.{next_some}
@@ -187,7 +187,7 @@ sound_typed (suc n) [] p e = none_some p e
 sound_typed (suc n) (t ∷ ts) p e = sound_typed_at (typed n) (sound_typed n) t.kind t ts p refl e
 
 -- ---- bound variables
-numbered_is : (kind : TokenKind) (t : Token) (ts : List Token) (p : (ℕ × ℕ) × List Token) → t.kind ≡ kind → numbered kind t.start ts ≡ Some p → Front (JustAt p.0.0 (BoundName p.0.1) ⌢ JustSign MEMBER) (t ∷ ts) p.1
+numbered_is : (kind : TokenKind) (t : Token) (ts : List Token) (p : (ℕ × ℕ) × List Token) → t.kind ≡ kind → bound_number kind t.start ts ≡ Some p → Front (JustAt p.0.0 (BoundName p.0.1) ⌢ JustSign MEMBER) (t ∷ ts) p.1
 numbered_is (BoundName k) t ts p same e =
     let a = next_some (sign MEMBER ts) _ p e in
     front_at (λ b. JustAt b.0 (BoundName b.1) ⌢ JustSign MEMBER) (t ∷ ts) (t.start, k) a.0.1 p a.2

@@ -18,7 +18,7 @@ use Rattle.bk_raw.specs.declared.term.RawBound.{RawBound}
 use Rattle.bk_raw.specs.Grammar.Pieces.{Just, JustAt, JustSign, ◌⌢◌, InParentheses, InBrackets, WithParentheses, Starting, Digits, Literal}
 use Rattle.bk_raw.specs.Trees.RawTree.{RawTree, raw, RawTreeNode, raw_name, raw_level_name, raw_bound_name, raw_number, raw_constant, raw_word, raw_negative, raw_infix, raw_inverse, raw_image, raw_apply, raw_composition, raw_pair, raw_empty_set, raw_extension, raw_comprehension, raw_lambda, raw_for_all, raw_exists, raw_typed_empty, raw_typed_for_all, raw_typed_exists, raw_ranged_comprehension, raw_ranged_lambda, RawTrees, no_trees, tree_and, RawRanges, no_ranges, range_and}
 use Rattle.bk_raw.specs.Grammar.Spelling.{Names, Binder, Typed, TypedBounds, Term, Listed, Sequenced, Bare, Commas, Semicolons, Terms, Ranges, Spells}
-use Rattle.bk_raw.specs.Grammar.Reading.{infix_of, word_of, constant_of, next, sign, begins_with, start, within, names, binder, typed, bound, bounds, or_else, moved, chain, arguments, parentheses, terms, ranges, begins_bound, begins_bound_in, braces, body, body_and_value, quantified, lambda, at_byte, worded, primary_at, postfixed, tight, signed, front_kind, operand, joined_by, joined, read}
+use Rattle.bk_raw.specs.Grammar.Reading.{infix_of, word_of, constant_of, next, sign, begins_with, start, within, names, binder, typed, bound, bounds, or_else, moved, chain, arguments, parentheses, terms, ranges, begins_bound, begins_bound_in, braces, body, body_and_value, quantified, lambda, at_byte, worded, primary_at, postfixed, tight, signed, front_kind, operand, joined_by, operators_after, read}
 use Rattle.bk_raw.proofs.Shapes.{of_kind, led, just_is, regrouped, Begun, begun_start}
 use Rattle.bk_raw.proofs.Stopping.{none_some, some_same, stops_end}
 use Rattle.bk_raw.proofs.Loops.{same_kind_sign, Begins}
@@ -553,11 +553,11 @@ joined_by_grows more reader sound asked at grows t strength before u ts (Some o)
   | inr fails ↦ grown_stays (λ t. Term t asked) before t (u ∷ ts) p (some_same (t, u ∷ ts) p (sym (cond-false (nat_le asked (binding o).own && nat_le (binding o).left strength) _ _ fails) ∙ e)) (x asked l)
 ]
 
-joined_more_grows : (reader : TermReader) → SoundTerms reader → (m asked at : ℕ) → JoinedGrows (joined m reader asked at) asked at → JoinedGrows (joined (suc m) reader asked at) asked at
+joined_more_grows : (reader : TermReader) → SoundTerms reader → (m asked at : ℕ) → JoinedGrows (operators_after m reader asked at) asked at → JoinedGrows (operators_after (suc m) reader asked at) asked at
 joined_more_grows reader sound m asked at grows t strength before [] p x s l e = grown_stays (λ t. Term t asked) before t [] p (some_same (t, []) p e) (x asked l)
-joined_more_grows reader sound m asked at grows t strength before (u ∷ ts) p x s l e = joined_by_grows (joined m reader asked at) reader sound asked at grows t strength before u ts (infix_of u.kind) p (infix_of_is u.kind) x s l e
+joined_more_grows reader sound m asked at grows t strength before (u ∷ ts) p x s l e = joined_by_grows (operators_after m reader asked at) reader sound asked at grows t strength before u ts (infix_of u.kind) p (infix_of_is u.kind) x s l e
 
-pub joined_grows : (reader : TermReader) → SoundTerms reader → (m asked at : ℕ) → JoinedGrows (joined m reader asked at) asked at
+pub joined_grows : (reader : TermReader) → SoundTerms reader → (m asked at : ℕ) → JoinedGrows (operators_after m reader asked at) asked at
 joined_grows reader sound zero asked at = λ t strength before tokens p x s l e. grown_stays (λ t. Term t asked) before t tokens p (some_same (t, tokens) p e) (x asked l)
 joined_grows reader sound (suc m) asked at = λ t strength before tokens p x s l e. joined_more_grows reader sound m asked at (joined_grows reader sound m asked at) t strength before tokens p x s l e
 

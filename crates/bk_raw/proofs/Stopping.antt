@@ -9,7 +9,7 @@ use Rattle.bk_raw.specs.Trees.Operators.{infix_kind, binding}
 use Rattle.bk_raw.specs.declared.operator.InfixOp.{InfixOp}
 use Rattle.bk_raw.specs.declared.operator.InfixOp.TheVariants.{And, Power}
 use Rattle.bk_raw.specs.Trees.RawTree.{RawTree, raw, RawTreeNode, raw_inverse}
-use Rattle.bk_raw.specs.Grammar.Reading.{infix_of, next, sign, begins_with, or_else, chain, postfixed, joined_by, joined}
+use Rattle.bk_raw.specs.Grammar.Reading.{infix_of, next, sign, begins_with, or_else, chain, postfixed, joined_by, operators_after}
 use Rattle.bk_raw.proofs.WrittenKinds.{infix_of-kind}
 use Rattle.bk_raw.proofs.Shapes.{of_kind}
 
@@ -168,10 +168,10 @@ joined_by_ends : (more : RawTree → ℕ → List Token → Option (RawTree × L
 joined_by_ends more reader asked at left s t ts None h = refl
 joined_by_ends more reader asked at left s t ts (Some o) h = cond-false (nat_le asked (binding o).own && nat_le (binding o).left s) _ _ (and_left (nat_le asked (binding o).own) (nat_le (binding o).left s) (lt-leb asked (binding o).own (omega (arith, h o refl))))
 
-pub joined_ends : (m : ℕ) (reader : ℕ → List Token → Option (RawTree × List Token)) (asked at : ℕ) (left : RawTree) (s : ℕ) (rest : List Token) → ((o : InfixOp) → after_of rest ≡ Some o → (binding o).own + 1 ≤ asked) → joined m reader asked at left s rest ≡ Some (left, rest)
+pub joined_ends : (m : ℕ) (reader : ℕ → List Token → Option (RawTree × List Token)) (asked at : ℕ) (left : RawTree) (s : ℕ) (rest : List Token) → ((o : InfixOp) → after_of rest ≡ Some o → (binding o).own + 1 ≤ asked) → operators_after m reader asked at left s rest ≡ Some (left, rest)
 joined_ends zero reader asked at left s rest h = refl
 joined_ends (suc m) reader asked at left s [] h = refl
-joined_ends (suc m) reader asked at left s (t ∷ ts) h = joined_by_ends (joined m reader asked at) reader asked at left s t ts (infix_of t.kind) h
+joined_ends (suc m) reader asked at left s (t ∷ ts) h = joined_by_ends (operators_after m reader asked at) reader asked at left s t ts (infix_of t.kind) h
 
 -- ---- the loops always give a term
 abbrev pub Gives : Option (RawTree × List Token) → Type 0
@@ -192,10 +192,10 @@ joined_by_gives : (more : RawTree → ℕ → List Token → Option (RawTree × 
 joined_by_gives more reader asked at left s t ts None = ((left, t ∷ ts), refl)
 joined_by_gives more reader asked at left s t ts (Some o) = cond_gives (nat_le asked (binding o).own && nat_le (binding o).left s) _ _ (or_else_gives _ (left, t ∷ ts)) ((left, t ∷ ts), refl)
 
-pub joined_gives : (m : ℕ) (reader : ℕ → List Token → Option (RawTree × List Token)) (asked at : ℕ) (left : RawTree) (s : ℕ) (ts : List Token) → Gives (joined m reader asked at left s ts)
+pub joined_gives : (m : ℕ) (reader : ℕ → List Token → Option (RawTree × List Token)) (asked at : ℕ) (left : RawTree) (s : ℕ) (ts : List Token) → Gives (operators_after m reader asked at left s ts)
 joined_gives zero reader asked at left s ts = ((left, ts), refl)
 joined_gives (suc m) reader asked at left s [] = ((left, []), refl)
-joined_gives (suc m) reader asked at left s (t ∷ ts) = joined_by_gives (joined m reader asked at) reader asked at left s t ts (infix_of t.kind)
+joined_gives (suc m) reader asked at left s (t ∷ ts) = joined_by_gives (operators_after m reader asked at) reader asked at left s t ts (infix_of t.kind)
 
 sign_taken : (op : ℕ) (t : Token) (ts : List Token) → begins_with op (t ∷ ts) ≡ true → sign op (t ∷ ts) ≡ Some (t, ts)
 sign_taken op t ts e = cond-true (begins_with op (t ∷ ts)) _ _ e

@@ -125,7 +125,7 @@ impl<'a> Plan<'a> {
 
     // What the invariant and the assertions see: the variables of the level above too. An own name wins.
     pub fn joined(&self, alloc: Global) -> Result<Vec<Visible<'a>>, Memory>
-        ensures { IfOk result (λ names. visible_names names.items ≡ meant.joined (plan_shown self.now)) }
+        ensures { IfOk result (λ names. visible_names names.items ≡ meant.invariant_scope (plan_shown self.now)) }
     {
         let mut names = self.level_names(alloc)?;
         names.extend_from_slice(&self.upper)?;

@@ -21,7 +21,7 @@ use Rattle.bk_kernel.specs.declared.rule.Place.TheVariants.{Goal, Hyp as InHyp}
 use Rattle.bk_kernel.specs.declared.rule.Rule.{Rule}
 use Rattle.bk_kernel.specs.declared.rule.Rule.TheVariants.{Hyp, True, Same, Eval, False, Absurd, And, Iff, Imp, Not, Left, Right, Or, Contra, Fix, UseTerms, Split, Cases, Apply, Inst, OpenSome, Cut, Case, Drop, Eq, Qe, Law, Wal, TypeOf, Neg, Mem, Val, Ext, Sub, Ex, Pair, Elems, Interval, Induct, Poly, Lin}
 use Rattle.bk_kernel.specs.Branches.{extended, closed_if}
-use Rattle.bk_kernel.specs.Rewriting.{Rewriting, eq_to, eq_from, law_to, law_from, deciding, typing, negating, belonging, applying, extending, including, witnessing, replaced, goal_changed, hypothesis_changed, rewritten}
+use Rattle.bk_kernel.specs.Rewriting.{Rewriting, eq_to, eq_from, law_to, law_from, deciding, typing, negating, belonging, applying, extending, including, witnessing, part_rewritten, goal_changed, hypothesis_changed, rewritten}
 use Rattle.bk_kernel.specs.Rules.{listed_facts, makes, fixed, used, instantiated, named_for}
 use Rattle.bk_scripts.specs.Parts.{Around, NumberMeans, NumbersMean, TermMeans, TermsMean, NameMeans, NamesMean, PlaceMeans, NumberPart, TermPart, TermsPart, NamesPart, PlacePart, PerhapsPart, LawPart, CertificatePart, NoParts, One, Two}
 use Rattle.bk_scripts.specs.LawNames.{law_number}
@@ -66,11 +66,11 @@ abbrev IsSamePlace : Place → Place → Type 0
 IsSamePlace p q = (table : Table) (s : Sequent) (r : Rewriting) → rewritten table s r p ≡ rewritten table s r q
 
 place-like : (w : RawPlace) (p q : Place) → PlaceMeans w p → PlaceMeans w q → IsSamePlace p q
-place-like (in_goal path) (Goal a) (Goal b) h k table s r = ap (λ ns. goal_changed (replaced table s.0 r s.1 ns)) (numbers-one path a b h k)
+place-like (in_goal path) (Goal a) (Goal b) h k table s r = ap (λ ns. goal_changed (part_rewritten table s.0 r s.1 ns)) (numbers-one path a b h k)
 place-like (in_hypothesis i path) (InHyp m a) (InHyp n b) h k table s r =
     let e = numbers-one path a b h.1 k.1 in
     let f = h.0.0 ∙ sym k.0.0 in
-    λ j. option_and_then (λ p. hypothesis_changed s.1 (replaced table s.0 r p (e j))) (numbered_item s.0 (f j))
+    λ j. option_and_then (λ p. hypothesis_changed s.1 (part_rewritten table s.0 r p (e j))) (numbered_item s.0 (f j))
 place-like (in_goal path) (Goal a) (InHyp n b) h k table s r = absurd k
 place-like (in_goal path) (InHyp m a) q h k table s r = absurd h
 place-like (in_hypothesis i path) (InHyp m a) (Goal b) h k table s r = absurd k

@@ -12,7 +12,7 @@ use Rattle.bk_val.specs.ValueType.{ValueType}
 use Rattle.bk_form.specs.Table.{Table, VariableEntry}
 use Rattle.bk_raw.specs.declared.script.RawTyped.{RawTyped}
 use Rattle.bk_raw.specs.Meaning.ScopeReading.{ScopeNames}
-use Rattle.bk_scripts.specs.Brought.{with_first, first_of_each, is_in_scope, new_over, entry_for, widened_by, number_of, next_number, numbered}
+use Rattle.bk_scripts.specs.Brought.{with_first, first_of_each, is_in_scope, new_over, entry_for, widened_by, number_of, next_number, numbered_names}
 
 -- ---- the first with each text
 first-more : (firsts xs : List RawTyped) (x : RawTyped) → first_of_each firsts (xs ++ x ∷ []) ≡ with_first (first_of_each firsts xs) x
@@ -68,7 +68,7 @@ abbrev count : (RawTyped → Option ValueType) → ℕ → List RawTyped → ℕ
 count typed n [] = n
 count typed n (x ∷ xs) = count typed (next_number n (typed x)) xs
 
-numbered-more : (typed : RawTyped → Option ValueType) (n : ℕ) (xs : List RawTyped) (x : RawTyped) → numbered typed n (xs ++ x ∷ []) ≡ numbered typed n xs ++ (x.name.text, number_of (count typed n xs) (typed x)) ∷ []
+numbered-more : (typed : RawTyped → Option ValueType) (n : ℕ) (xs : List RawTyped) (x : RawTyped) → numbered_names typed n (xs ++ x ∷ []) ≡ numbered_names typed n xs ++ (x.name.text, number_of (count typed n xs) (typed x)) ∷ []
 numbered-more typed n [] x = refl
 numbered-more typed n (y ∷ xs) x = ap (λ ps. (y.name.text, number_of n (typed y)) ∷ ps) (numbered-more typed (next_number n (typed y)) xs x)
 
@@ -84,9 +84,9 @@ count-long : (typed : RawTyped → Option ValueType) (n : ℕ) (xs : List RawTyp
 count-long typed n [] = omega arith
 count-long typed n (y ∷ xs) = count-long typed (next_number n (typed y)) xs ∙ sym (entry-long typed n y (filter_map (entry_for typed) xs))
 
-pub numbered_turn : (typed : RawTyped → Option ValueType) (table : Table) (xs : List RawTyped) (x : RawTyped) → numbered typed (length table.variables) (xs ++ x ∷ []) ≡ numbered typed (length table.variables) xs ++ (x.name.text, number_of (length (widened_by typed table xs).variables) (typed x)) ∷ []
+pub numbered_turn : (typed : RawTyped → Option ValueType) (table : Table) (xs : List RawTyped) (x : RawTyped) → numbered_names typed (length table.variables) (xs ++ x ∷ []) ≡ numbered_names typed (length table.variables) xs ++ (x.name.text, number_of (length (widened_by typed table xs).variables) (typed x)) ∷ []
 numbered_turn typed table xs x =
-    numbered-more typed (length table.variables) xs x ∙ ap (λ n. numbered typed (length table.variables) xs ++ (x.name.text, number_of n (typed x)) ∷ []) (count-long typed (length table.variables) xs ∙ sym (length-append table.variables (filter_map (entry_for typed) xs)))
+    numbered-more typed (length table.variables) xs x ∙ ap (λ n. numbered_names typed (length table.variables) xs ++ (x.name.text, number_of n (typed x)) ∷ []) (count-long typed (length table.variables) xs ∙ sym (length-append table.variables (filter_map (entry_for typed) xs)))
 
 pub widened_turn : (typed : RawTyped → Option ValueType) (table : Table) (xs : List RawTyped) (x : RawTyped) → widened_by typed (widened_by typed table xs) (x ∷ []) ≡ widened_by typed table (xs ++ x ∷ [])
 widened_turn typed table xs x = ap (λ vs. record table { variables = vs }) (append_assoc table.variables (filter_map (entry_for typed) xs) (filter_map (entry_for typed) (x ∷ [])) ∙ ap (λ (vs : List VariableEntry). table.variables ++ vs) (sym (filter_map-append (entry_for typed) xs (x ∷ []))))
@@ -95,10 +95,10 @@ widened_turn typed table xs x = ap (λ vs. record table { variables = vs }) (app
 pub table_turn : (typed : RawTyped → Option ValueType) (base table new : Table) (done more : List RawTyped) (x : RawTyped) → more ≡ done ++ x ∷ [] → table ≡ widened_by typed base done → new ≡ widened_by typed table (x ∷ []) → new ≡ widened_by typed base more
 table_turn typed base table new done more x f t n = n ∙ (ap (λ b. widened_by typed b (x ∷ [])) t ∙ (widened_turn typed base done x ∙ ap (widened_by typed base) (sym f)))
 
-pub scope_turn : (typed : RawTyped → Option ValueType) (base table : Table) (first scope new : ScopeNames) (done more : List RawTyped) (x : RawTyped) → more ≡ done ++ x ∷ [] → table ≡ widened_by typed base done → scope ≡ record { max = first.max; names = first.names ++ numbered typed (length base.variables) done } →
-    new ≡ record { max = scope.max; names = scope.names ++ (x.name.text, number_of (length table.variables) (typed x)) ∷ [] } → new ≡ record { max = first.max; names = first.names ++ numbered typed (length base.variables) more }
+pub scope_turn : (typed : RawTyped → Option ValueType) (base table : Table) (first scope new : ScopeNames) (done more : List RawTyped) (x : RawTyped) → more ≡ done ++ x ∷ [] → table ≡ widened_by typed base done → scope ≡ record { max = first.max; names = first.names ++ numbered_names typed (length base.variables) done } →
+    new ≡ record { max = scope.max; names = scope.names ++ (x.name.text, number_of (length table.variables) (typed x)) ∷ [] } → new ≡ record { max = first.max; names = first.names ++ numbered_names typed (length base.variables) more }
 scope_turn typed base table first scope new done more x f t s n =
-    let before : List (List ℕ × ℕ) = numbered typed (length base.variables) done in
+    let before : List (List ℕ × ℕ) = numbered_names typed (length base.variables) done in
     let entry : List (List ℕ × ℕ) = (x.name.text, number_of (length (widened_by typed base done).variables) (typed x)) ∷ [] in
-    let ends : before ++ entry ≡ numbered typed (length base.variables) more = sym (numbered_turn typed base done x) ∙ ap (numbered typed (length base.variables)) (sym f) in
+    let ends : before ++ entry ≡ numbered_names typed (length base.variables) more = sym (numbered_turn typed base done x) ∙ ap (numbered_names typed (length base.variables)) (sym f) in
     n ∙ ((λ i. record { max = (s i).max; names = (s i).names ++ (x.name.text, number_of (length (t i).variables) (typed x)) ∷ [] }) ∙ ((λ i. record { max = first.max; names = append_assoc first.names before entry i }) ∙ (λ i. record { max = first.max; names = first.names ++ ends i })))

@@ -20,7 +20,7 @@ use Rattle.bk_dev.proofs.FlatSame.{levels-many}
 use Rattle.bk_kernel.specs.declared.rule.Rule.{Rule}
 use Rattle.bk_kernel.specs.declared.rule.Rule.TheVariants.{Unread}
 use Rattle.bk_scripts.specs.Sight.{part_text, part_at, level_of, operation_of, constants_from, no_variable, hiding, set_texts, lower_sets, parameters_to, entry, outer_scope, parameter_scope}
-use Rattle.bk_scripts.specs.Brought.{own_variables, own_parameters, new_over, brought, hidden, widened_by, type_in, numbered, widened, script_scope}
+use Rattle.bk_scripts.specs.Brought.{own_variables, own_parameters, new_over, brought, hidden, widened_by, type_in, numbered_names, widened, script_scope}
 use Rattle.bk_scripts.specs.Grounding.{AreReadIn, AreRulesOf, RuleMeans, StandsFor}
 use Rattle.bk_scripts.specs.Finding.{IsMeaning}
 use Rattle.bk_scripts.specs.Widening.{IsWidened}
@@ -96,11 +96,13 @@ texts-more (r ∷ ss) s = ap (λ xs. (r.name ∷ r.elements) ++ xs) (texts-more 
 texts_turn : (ss : List SetEntry) (i : ℕ) (d : SetEntry) → i < length ss → hiding (set_texts (take (i + 1) ss)) ≡ hiding (set_texts (take i ss)) ++ hiding ((get_or ss i d).name ∷ (get_or ss i d).elements)
 texts_turn ss i d l = ap (λ xs. hiding (set_texts xs)) (take_more ss i d l) ∙ (ap hiding (texts-more (take i ss) (get_or ss i d)) ∙ map-append (λ (x : List ℕ). (x, no_variable)) (set_texts (take i ss)) ((get_or ss i d).name ∷ (get_or ss i d).elements))
 
-pub one_set_hidden : (ss : List SetEntry) (i : ℕ) (d : SetEntry) (es fs gs : List (List ℕ × ℕ)) → es ≡ hiding (set_texts (take i ss)) → fs ≡ es ++ ((get_or ss i d).name, no_variable) ∷ [] → gs ≡ fs ++ hiding (get_or ss i d).elements → i < length ss →
-    gs ≡ hiding (set_texts (take (i + 1) ss))
-one_set_hidden ss i d es fs gs e f g l =
-    g ∙ (ap (λ xs. xs ++ hiding (get_or ss i d).elements) (f ∙ ap (λ xs. xs ++ ((get_or ss i d).name, no_variable) ∷ []) e)
-    ∙ (append_assoc (hiding (set_texts (take i ss))) (((get_or ss i d).name, no_variable) ∷ []) (hiding (get_or ss i d).elements) ∙ sym (texts_turn ss i d l)))
+pub one_set_hidden : (ss : List SetEntry) (i : ℕ) (s : SetEntry) (name : List ℕ) (elements : List (List ℕ)) (es fs gs : List (List ℕ × ℕ)) → i < length ss → s ≡ get_or ss i s → name ≡ s.name → elements ≡ s.elements → es ≡ hiding (set_texts (take i ss)) →
+    fs ≡ es ++ (name, no_variable) ∷ [] → gs ≡ fs ++ hiding elements → gs ≡ hiding (set_texts (take (i + 1) ss))
+one_set_hidden ss i s name elements es fs gs l here n w e f g =
+    g ∙ (ap (λ xs. xs ++ hiding elements) (f ∙ ap (λ xs. xs ++ (name, no_variable) ∷ []) e)
+    ∙ (append_assoc (hiding (set_texts (take i ss))) ((name, no_variable) ∷ []) (hiding elements)
+    ∙ ((λ j. hiding (set_texts (take i ss)) ++ hiding (n j ∷ w j))
+    ∙ (ap (λ (r : SetEntry). hiding (set_texts (take i ss)) ++ hiding (r.name ∷ r.elements)) here ∙ sym (texts_turn ss i s l)))))
 
 -- ---- names of levels
 place-same : (named : List ℕ → Bool) (k : ℕ) (ls : List Level) → position_or_len (λ (l : Level). named l.name) (flat_levels k ls) ≡ position_or_len (λ (l : Level). named l.name) ls
@@ -168,7 +170,7 @@ abbrev table-in : Table → ℤ → List (List ℕ × ℕ) → List (List ℕ ×
 table-in table max outer own s = widened_by (typed-in table max outer own s) table (new-in own s)
 
 abbrev scope-in : Table → ℤ → List (List ℕ × ℕ) → List (List ℕ × ℕ) → RawScript → ScopeNames
-scope-in table max outer own s = record { max = max; names = outer ++ (own ++ numbered (typed-in table max outer own s) (length table.variables) (new-in own s)) }
+scope-in table max outer own s = record { max = max; names = outer ++ (own ++ numbered_names (typed-in table max outer own s) (length table.variables) (new-in own s)) }
 
 pub wide_same : (table : Table) (dev : Development) (s : RawScript) → widened table (flattened dev) s ≡ widened table dev s
 wide_same table dev s = λ i. table-in table (int_max dev) (own-same table dev s i) (owned-same table dev s i) s
@@ -191,8 +193,8 @@ module _ (table : Table) (dev : Development) (s : RawScript) (outer own : List (
       let news : new ≡ new-in (own_parameters table dev s) s = en ∙ ap (λ o. new_over o (brought s)) ew in
       let typed : types ≡ record { max = int_max dev; names = own_variables table dev s ++ (own_parameters table dev s ++ hidden (new-in (own_parameters table dev s) s)) } = et ∙ (λ i. record { max = int_max dev; names = eo i ++ (ew i ++ hidden (news i)) }) in
       let widens : wide ≡ widened table dev s = h.widens ∙ (λ i. widened_by (type_in table (typed i)) (eb i) (news i)) in
-      let last : List (List ℕ × ℕ) = numbered (type_in table types) (length old.variables) new in
-      let ends : last ≡ numbered (typed-in table (int_max dev) (own_variables table dev s) (own_parameters table dev s) s) (length table.variables) (new-in (own_parameters table dev s) s) = λ i. numbered (type_in table (typed i)) (length (eb i).variables) (news i) in
+      let last : List (List ℕ × ℕ) = numbered_names (type_in table types) (length old.variables) new in
+      let ends : last ≡ numbered_names (typed-in table (int_max dev) (own_variables table dev s) (own_parameters table dev s) s) (length table.variables) (new-in (own_parameters table dev s) s) = λ i. numbered_names (type_in table (typed i)) (length (eb i).variables) (news i) in
       let adds : more ≡ script_scope table dev s =
       h.adds ∙ ((λ i. record { max = (es i).max; names = (es i).names ++ last }) ∙ ((λ i. record { max = int_max dev; names = append_assoc outer own last i }) ∙ (λ i. record { max = int_max dev; names = eo i ++ (ew i ++ ends i) }))) in
       record { scoped = adds; widens = widens; room = h.room }

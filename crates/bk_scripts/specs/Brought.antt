@@ -92,14 +92,14 @@ next_number n (Some t) = suc n
 next_number n None = n
 
 -- names with their numbers, from the next one on: one without a type means nothing, and hides what it would mean else
-abbrev pub numbered : (RawTyped → Option ValueType) → ℕ → List RawTyped → List (List ℕ × ℕ)
-numbered typed n [] = []
-numbered typed n (x ∷ xs) = (x.name.text, number_of n (typed x)) ∷ numbered typed (next_number n (typed x)) xs
+abbrev pub numbered_names : (RawTyped → Option ValueType) → ℕ → List RawTyped → List (List ℕ × ℕ)
+numbered_names typed n [] = []
+numbered_names typed n (x ∷ xs) = (x.name.text, number_of n (typed x)) ∷ numbered_names typed (next_number n (typed x)) xs
 
 -- the new names stand after all others
 abbrev pub script_scope : Table → Development → RawScript → ScopeNames
 script_scope table dev s = record {
   max = int_max dev;
   names = own_variables table dev s
-      ++ (own_parameters table dev s ++ numbered (type_of table dev s) (length table.variables) (new_names table dev s));
+      ++ (own_parameters table dev s ++ numbered_names (type_of table dev s) (length table.variables) (new_names table dev s));
 }

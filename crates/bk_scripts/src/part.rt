@@ -2,7 +2,7 @@
 
 ghost use Rattle.std.specs.Prelude.{IfOk, map};
 ghost use Rattle.std.specs.List.{AllZip};
-ghost use Rattle.bk_raw.specs.Codes.ScriptView.{place_of, line_of, part_of};
+ghost use Rattle.bk_raw.specs.Codes.ScriptView.{written_place, line_of, part_of};
 ghost use Rattle.bk_raw.specs.Trees.ScriptTree as meant;
 ghost use Rattle.bk_scripts.specs.Finding.{IsMeaning};
 ghost use Rattle.bk_scripts.specs.Parts.{NumberMeans, NumbersMean, PlaceMeans, MultipleMeans, LineMeans, NumberPart};
@@ -39,7 +39,7 @@ fn numbers(alloc: Global, written: &[u128]) -> Result<Option<Vec<u32>>, Memory>
 }
 
 fn place(alloc: Global, written: &RawPlace) -> Result<Option<Place>, Memory>
-    ensures { IfOk result (IsMeaning (PlaceMeans (place_of written.now))) }
+    ensures { IfOk result (IsMeaning (PlaceMeans (written_place written.now))) }
 {
     match written {
         RawPlace::Goal(path) => Ok(numbers(alloc, path)?.map(Place::Goal)),

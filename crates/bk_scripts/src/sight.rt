@@ -94,13 +94,42 @@ pub(crate) fn outer_entries(
     let Some(level) = level else {
         return Ok(Vec::new(alloc));
     };
-    let (sets, entries) = extent_at(dev, level);
-    let mut scope = hidden_sets(alloc, behind(&dev.sets, sets))?;
-    let mut variables = constants(alloc, first(&dev.homes, entries))?;
-    add_variables(&mut variables, &dev.levels[..level + 1])?;
-    let mut more = entries_of(alloc, table, &variables)?;
+    let mut scope = hidden_below(alloc, dev, level)?;
+    let mut more = entries_to(alloc, dev, table, level)?;
     scope.append(&mut more)?;
     Ok(scope)
+}
+
+// Sets and elements of the levels below, which mean nothing.
+fn hidden_below(alloc: Global, dev: &Development, level: usize) -> Result<Vec<(Text, u32)>, Memory>
+    ensures { IfOk result (λ entries. entries.items ≡ meant.hiding (meant.lower_sets dev.now level)) }
+{
+    let (sets, _) = extent_at(dev, level);
+    hidden_sets(alloc, behind(&dev.sets, sets))
+}
+
+// Constants and variables of the levels down to this one.
+fn entries_to(
+    alloc: Global,
+    dev: &Development,
+    table: &VarTable,
+    level: usize,
+) -> Result<Vec<(Text, u32)>, Memory>
+    requires { level < length dev.now.levels }
+    ensures { IfOk result (λ entries. entries.items ≡
+        filter_map (meant.entry table.now) (meant.constants_to dev.now level ++ meant.variables_to dev.now level)) }
+{
+    let mut variables = constants_to(alloc, dev, level)?;
+    add_variables(&mut variables, &dev.levels[..level + 1])?;
+    entries_of(alloc, table, &variables)
+}
+
+// The constants of the levels down to this one.
+fn constants_to(alloc: Global, dev: &Development, level: usize) -> Result<Vec<u32>, Memory>
+    ensures { IfOk result (λ constants. constants.items ≡ meant.constants_to dev.now level) }
+{
+    let (_, variables) = extent_at(dev, level);
+    constants(alloc, first(&dev.homes, variables))
 }
 
 // How many sets and variables there are with this level and those above it.
@@ -134,13 +163,13 @@ fn behind(sets: &[EnumSet], count: usize) -> &[EnumSet]
 }
 
 // The names of sets and of their elements, which mean nothing.
-#[tactic(auto, using(crate::proofs::Sighted::one_set_hidden))]
 fn hidden_sets(alloc: Global, sets: &[EnumSet]) -> Result<Vec<(Text, u32)>, Memory>
     ensures { IfOk result (λ entries. entries.items ≡ meant.hiding (meant.set_texts sets.now)) }
 {
     let mut entries = Vec::new(alloc);
     for set in sets {
-        entries.push((set.name.copy(alloc)?, NO_VARIABLE))?;
+        let name = set.name.copy(alloc)?;
+        entries.push((name, NO_VARIABLE))?;
         hide(alloc, &mut entries, &set.elements)?;
     }
     Ok(entries)

@@ -7,7 +7,7 @@ use Rattle.bk_dev.specs.Development.{Level, Development, level_at, body_of, body
 use Rattle.bk_dev.specs.Facts.{IsLawful, LastIsFlat}
 use Rattle.bk_dev.specs.Flattened.{flattened}
 use Rattle.bk_dev.specs.Claims.{CarriesFlat, Keeps, Carries, ValuesMeet, LastCarriesFromEqual}
-use Rattle.bk_dev.specs.Machine.{Abstract, Call, IsCall, Pre}
+use Rattle.bk_dev.specs.Machine.{Abstract, Call}
 use Rattle.bk_dev.proofs.FlatB0.{flattened_stays_in_b0, last-flat}
 use Rattle.bk_dev.proofs.FlatLevels.{lawful}
 use Rattle.bk_dev.proofs.FlatSame.{levels-many}
@@ -18,8 +18,7 @@ use Rattle.bk_code.specs.declared.image.OpEntry.{OpEntry}
 use Rattle.bk_code.specs.Session.{first_start}
 use Rattle.bk_b0.specs.Translation.{operation_code, init_code, translation}
 use Rattle.bk_gen.proofs.SameCode.{codes-same, openings, operations as operation-codes}
-use Rattle.bk_sim.specs.Shows.{Linked}
-use Rattle.bk_sim.specs.Follows.{IsEntry, started, Follows}
+use Rattle.bk_sim.specs.Follows.{started, IsAllowedCall, Follows}
 use Rattle.bk_sim.specs.Ending.{HasNoLoop, EndsWithin}
 use Rattle.bk_sim.specs.Within.{CallEnds, EndsWithoutLoops}
 use Rattle.bk_sim.specs.Laws.{LawfulFollows, EqualFollows, B0Follows, B0Ends}
@@ -35,9 +34,14 @@ module _ (find : Finder) (dev : Development) (f : IsLawful dev) (b : LastIsFlat 
   opening-down : HasNoLoop (level_at dev (last dev)).init → EndsWithin image (length (init_code dev)) (first_start image)
   opening-down h = subst (λ n. EndsWithin image n (first_start image)) (ap length (openings dev f.some_level b.init b.bodies (low-vars dev f))) (ends.opening (subst (λ (l : Level). HasNoLoop l.init) (sym same) h))
 
-  local-down : (a : Abstract) (m : List ℤ) (c : Call) (entry : OpEntry) → HasNoLoop (body_at dev (last dev) c.op).sub → Linked find dev a m → IsCall dev c → Pre find dev c a → IsEntry image c.op entry → CallEnds dev image c entry m
-  local-down a m c entry h l is true_before there =
-      let w = ends.local a m c entry (subst (λ (x : Level). HasNoLoop (body_of x c.op).sub) (sym same) h) (linked-up find dev f well b a m l) (call-up find dev f well b c is) (pre-up find dev f well c is.op a true_before) there in
+  local-down : (a : Abstract) (m : List ℤ) (c : Call) (entry : OpEntry) → HasNoLoop (body_at dev (last dev) c.op).sub → IsAllowedCall find dev image a m c entry → CallEnds dev image c entry m
+  local-down a m c entry h k =
+      let w = ends.local a m c entry (subst (λ (x : Level). HasNoLoop (body_of x c.op).sub) (sym same) h) (record {
+        linked = linked-up find dev f well b a m k.linked;
+        call = call-up find dev f well b c k.call;
+        pre = pre-up find dev f well c k.call.op a k.pre;
+        named = k.named;
+      }) in
       let body = ap (λ (x : Level). length (operation_code (flattened dev) (body_of x c.op))) same in
       let code = ap length (operation-codes dev f.some_level b.init b.bodies (low-vars dev f) (body_at dev (last dev) c.op)) in
       subst (λ n. EndsWithin image n (started entry c m)) code (subst (λ n. EndsWithin image n (started entry c m)) body w)
@@ -45,9 +49,9 @@ module _ (find : Finder) (dev : Development) (f : IsLawful dev) (b : LastIsFlat 
   unlooped-down : EndsWithoutLoops find dev image
   unlooped-down = record {
     opening = opening-down;
-    session = λ fuel l m cs c outs entry h begun are is done legal there.
-        let w = linked_before find dev image follows.opening follows.local fuel l m cs c outs begun are done legal in
-        local-down w.0 m c entry h w.1 is w.2 there;
+    session = λ fuel l m cs c outs entry h n.
+        let w = linked_before find dev image follows.opening follows.local fuel l m cs c outs n.begun n.calls n.done n.legal in
+        local-down w.0 m c entry h (record { linked = w.1; call = n.call; pre = w.2; named = n.named });
     local = local-down;
   }
 

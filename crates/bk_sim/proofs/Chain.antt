@@ -29,13 +29,13 @@ module _ (find : Finder) (dev : Development) (image : Image) (calls : CallsGoWel
   along : (cs : List Call) (outs : List (List MathValue)) (before : Abstract → Type 0) (a : Abstract) → before a → (l m : List ℤ) → Linked find dev a l → AreCalls dev cs → AreDone dev image fuel l cs outs m → LegalFrom find dev before (cs ++ c ∷ []) outs → GoesWell image fuel (started entry c m) (Reached before cs outs)
   unfolding Reached
   along [] [] before a h l m linked are done legal =
-      let w : GoesWell image fuel (started entry c l) (IsStep find dev c entry a) = (calls a l c entry linked is_call (legal a h) is_entry).1 fuel in
+      let w : GoesWell image fuel (started entry c l) (IsStep find dev c entry a) = (calls a l c entry (record { linked = linked; call = is_call; pre = legal a h; named = is_entry })).1 fuel in
       let v : GoesWell image fuel (started entry c l) (Reached before [] []) = well-more image fuel (started entry c l) (IsStep find dev c entry a) (Reached before [] []) (λ k q. (q.0, (a, h, q.1), q.2)) w in
       subst (λ x. GoesWell image fuel (started entry c x) (Reached before [] [])) done v
   along [] (us ∷ more) before a h l m linked are done legal = absurd done
   along (x ∷ cs) [] before a h l m linked are done legal = absurd done
   along (x ∷ cs) (us ∷ more) before a h l m linked are done legal =
-      let step : IsStep find dev x done.0 a done.2.cells = (calls a l x done.0 linked are.0 (legal.0 a h) done.3).1 fuel (Done done.1) done.2 done.4 in
+      let step : IsStep find dev x done.0 a done.2.cells = (calls a l x done.0 (record { linked = linked; call = are.0; pre = legal.0 a h; named = done.3 })).1 fuel (Done done.1) done.2 done.4 in
       let after : After find dev before x us step.0 = (a, h, subst (λ vs. Steps find dev x a vs step.0) (sym done.5) step.1) in
       along cs more (After find dev before x us) step.0 after done.2.cells m step.2 are.1 done.6 legal.1
 
@@ -46,7 +46,7 @@ module _ (find : Finder) (dev : Development) (image : Image) (calls : CallsGoWel
   before-call [] (us ∷ more) before a h l m linked are done legal = absurd done
   before-call (x ∷ cs) [] before a h l m linked are done legal = absurd done
   before-call (x ∷ cs) (us ∷ more) before a h l m linked are done legal =
-      let step : IsStep find dev x done.0 a done.2.cells = (calls a l x done.0 linked are.0 (legal.0 a h) done.3).1 fuel (Done done.1) done.2 done.4 in
+      let step : IsStep find dev x done.0 a done.2.cells = (calls a l x done.0 (record { linked = linked; call = are.0; pre = legal.0 a h; named = done.3 })).1 fuel (Done done.1) done.2 done.4 in
       let after : After find dev before x us step.0 = (a, h, subst (λ vs. Steps find dev x a vs step.0) (sym done.5) step.1) in
       before-call cs more (After find dev before x us) step.0 after done.2.cells m step.2 are.1 done.6 legal.1
 
@@ -58,9 +58,9 @@ linked_before find dev image opens calls fuel l m cs c outs begun are done legal
 
 sessions : (find : Finder) (dev : Development) (image : Image) → OpensWell find dev image → CallsGoWell find dev image → SessionsGoWell find dev image
 unfolding Reached
-sessions find dev image opens calls fuel l m cs c outs entry begun are is_call done legal is_entry =
-    let first = opens fuel (Done begun.0) begun.1 begun.2 in
-    along find dev image calls fuel c is_call entry is_entry cs outs (Opens find dev) first.0 first.1 l m (subst (λ x. Linked find dev first.0 x) begun.3 first.2) are done legal
+sessions find dev image opens calls fuel l m cs c outs entry n =
+    let first = opens fuel (Done n.begun.0) n.begun.1 n.begun.2 in
+    along find dev image calls fuel c n.call entry n.named cs outs (Opens find dev) first.0 first.1 l m (subst (λ x. Linked find dev first.0 x) n.begun.3 first.2) n.calls n.done n.legal
 
 pub calls_decide : CallsDecide
 calls_decide find dev image operations opens calls = record { operations = operations; opening = opens; session = sessions find dev image opens calls; local = calls }

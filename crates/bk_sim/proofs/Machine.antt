@@ -395,7 +395,14 @@ module _ (find : Finder) (dev : Development) (f : IsLawful dev) (b : IsB0Develop
       at (suc k) h = (carry-opening k (omega (arith, h)) first_state typed-first (init-hyps (suc k) first_state typed-first values-first) (links-there k first_state (λ n q. refl))).ends
 
   init-run : IsReturned find dev image first_scope low.init (length (init_code dev)) 0 zeros first_state
-  init-run = openings_follow find dev image (translated-greatest dev) f b 0 zeros first_state (stands-first image 0 (init_code dev) (operations_code dev low.bodies) whole-stands) zeros-fit shown-first init-clean init-ends
+  init-run = openings_follow find dev image f b 0 zeros first_state (record {
+    range = translated-greatest dev;
+    stands = stands-first image 0 (init_code dev) (operations_code dev low.bodies) whole-stands;
+    kinds = zeros-fit;
+    shows = shown-first;
+    clean = init-clean;
+    ends = init-ends;
+  })
 
   -- what the cells of the level's variables show
   vars-shown : (inputs outputs : List ℕ) (k : List ℤ) (top : State) → ((n : ℕ) → names_own dev (last dev) inputs outputs n ≡ true → top n ≡ seen dev k n) → (n : ℕ) → among low.vars n ≡ true → top n ≡ shown dev k n
@@ -711,7 +718,14 @@ module _ (find : Finder) (dev : Development) (f : IsLawful dev) (b : IsB0Develop
             of_whole (suc k) (carry-body k below c.op is.op e typed-e (hyps k below (conditions-hold k (omega arith)) e typed-e (λ n q. refl)) (outputs-equal k e (λ n q. refl))).ends
 
     body-run : (place : ℕ) → Stands image place (operation_code dev last_body) → IsReturned find dev image scope_here last_body.sub (length (operation_code dev last_body)) place start_cells e
-    body-run place stands = operations_follow find dev image (translated-greatest dev) f b c.op is.op place start_cells e stands start-kinds shown-e body-clean body-ends
+    body-run place stands = operations_follow find dev image f b c.op is.op place start_cells e (record {
+      range = translated-greatest dev;
+      stands = stands;
+      kinds = start-kinds;
+      shows = shown-e;
+      clean = body-clean;
+      ends = body-ends;
+    })
 
     abbrev entry_here : ℕ → OpEntry
     entry_here place = entry_of dev place head last_body
@@ -767,7 +781,7 @@ module _ (find : Finder) (dev : Development) (f : IsLawful dev) (b : IsB0Develop
         subst (λ x. CallEnds dev image c x mem) (entry-is entry there) ((returns_end find dev image scope_here last_body.sub (length (operation_code dev last_body)) w.start start_cells e (body-run w.start w.stands)).1 h)
 
   calls : CallsGoWell find dev image
-  calls a m c entry l is true_before there = goes-well a m c l.0 l.1 is true_before entry there
+  calls a m c entry h = goes-well a m c h.linked.0 h.linked.1 h.call h.pre entry h.named
 
   pub image-follows : Follows find dev image
   image-follows = calls_decide find dev image operations opening calls
@@ -775,8 +789,8 @@ module _ (find : Finder) (dev : Development) (f : IsLawful dev) (b : IsB0Develop
   pub image-ends : EndsWithoutLoops find dev image
   image-ends = record {
     opening = λ h. (returns_end find dev image first_scope low.init (length (init_code dev)) 0 zeros first_state init-run).1 h;
-    session = λ fuel l m cs c outs entry h begun are is done legal there.
-        let w = linked_before find dev image opening calls fuel l m cs c outs begun are done legal in
-        ends-within w.0 m c w.1.0 w.1.1 is w.2 h entry there;
-    local = λ a m c entry h l is true_before there. ends-within a m c l.0 l.1 is true_before h entry there;
+    session = λ fuel l m cs c outs entry h n.
+        let w = linked_before find dev image opening calls fuel l m cs c outs n.begun n.calls n.done n.legal in
+        ends-within w.0 m c w.1.0 w.1.1 n.call w.2 h entry n.named;
+    local = λ a m c entry h k. ends-within a m c k.linked.0 k.linked.1 k.call k.pre h entry k.named;
   }

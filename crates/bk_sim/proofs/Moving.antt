@@ -303,8 +303,9 @@ module _ (find : Finder) (dev : Development) (f : IsLawful dev) (well : IsWellFo
           (λ m w. (w.0, opens-down w.0 w.1, linked-down w.0 m w.2)) (h.opening fuel)
 
       calls : CallsGoWell find dev image
-      calls a m c entry l is true_before there =
-          let w = h.local a m c entry (linked-up a m l) (call-up c is) (pre-up c is.op a true_before) there in
+      calls a m c entry k =
+          let is = k.call in
+          let w = h.local a m c entry (record { linked = linked-up a m k.linked; call = call-up c is; pre = pre-up c is.op a k.pre; named = k.named }) in
           let so : (k : List ℤ) → IsStep find flat c entry a k → IsStep find dev c entry a k = λ k s. (s.0, subst (λ us. Steps find dev c a us s.0) (replies-same c.op entry.outputs k) (steps-down c is.op a (replies flat c.op entry.outputs k) s.0 s.1), linked-down s.0 k s.2) in
           (w.0, λ fuel. well-so image fuel (started entry c m) (IsStep find flat c entry a) (IsStep find dev c entry a) so (w.1 fuel))
 

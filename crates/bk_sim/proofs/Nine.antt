@@ -50,5 +50,5 @@ not-linked find a h l =
 pub nine_does_not_follow : NineDoesNotFollow
 nine_does_not_follow find f =
     let legal : Legal find counter (setmax ∷ []) [] = λ a o e g. refl in
-    let good = f.session 3 zeros zeros [] setmax [] setmax_entry begun tt is_call refl legal refl (Done 3) (config 8 [] (pos 9 ∷ pos 0 ∷ [])) stores-nine in
+    let good = f.session 3 zeros zeros [] setmax [] setmax_entry (record { begun = begun; calls = tt; call = is_call; done = refl; legal = legal; named = refl }) (Done 3) (config 8 [] (pos 9 ∷ pos 0 ∷ [])) stores-nine in
     not-linked find good.0 ((reaches-ten find good.0).0 good.1) good.2

@@ -276,7 +276,7 @@ not-linked find z w differ a h l =
 old-value : (find : Finder) → Follows find settling wrong_local → ⊥
 old-value find f =
     let legal : Legal find settling (call_by_local ∷ []) [] = λ a o e g. refl in
-    let good = f.session 5 zeros zeros [] call_by_local [] local_entry (begun unsettled to_the_test) tt local-call refl legal refl (Done 5) (config 7 [] (pos 0 ∷ pos 10 ∷ [])) stores-zero in
+    let good = f.session 5 zeros zeros [] call_by_local [] local_entry (record { begun = begun unsettled to_the_test; calls = tt; call = local-call; done = refl; legal = legal; named = refl }) (Done 5) (config 7 [] (pos 0 ∷ pos 10 ∷ [])) stores-zero in
     not-linked find (pos 0) (pos 10) refl good.0 (reaches-ten find good.0 good.1) good.2
 
 -- ---- a way back that is one instruction short
@@ -342,7 +342,7 @@ short-way-back : (find : Finder) → Follows find settling wrong_loop → ⊥
 unfolding begun
 short-way-back find f =
     let first = f.opening 5 (Done 3) (config 2 [] zeros) (begun settled behind_the_start).2 in
-    let done = (f.local first.0 zeros call_by_loop loop_entry first.2 loop-call (λ e g. refl) refl).0 in
+    let done = (f.local first.0 zeros call_by_loop loop_entry (record { linked = first.2; call = loop-call; pre = λ e g. refl; named = refl })).0 in
     by_steps done.0 done.1 done.2 done.3
   where
     by_steps : (fuel n : ℕ) (d : Config) → Ends wrong_loop fuel (started loop_entry call_by_loop zeros) (Done n) d → ⊥
@@ -366,7 +366,7 @@ loop-reaches-ten find a h = sym h.2.5 ∙ ap (λ (s : State). s 0 ∷ []) h.2.3
 one-turn : (find : Finder) → Follows find settling wrong_turn → ⊥
 one-turn find f =
     let legal : Legal find settling (call_by_loop ∷ []) [] = λ a o e g. refl in
-    let good = f.session 12 zeros zeros [] call_by_loop [] loop_entry begun-onwards tt loop-call refl legal refl (Done 12) (config 19 [] one) turned-once in
+    let good = f.session 12 zeros zeros [] call_by_loop [] loop_entry (record { begun = begun-onwards; calls = tt; call = loop-call; done = refl; legal = legal; named = refl }) (Done 12) (config 19 [] one) turned-once in
     not-linked find (pos 1) (pos 0) refl good.0 (loop-reaches-ten find good.0 good.1) good.2
 
 -- it is the code of IF in place of WHILE

@@ -126,9 +126,9 @@ module _ (find : Finder) where
 
   calls : CallsGoWell find counter ten
   unfolding GoesOn
-  calls a m c entry l is pre e =
-      let q = two m l.1.cells.kinds in
-      subst (λ x. Linked find counter a x → GoesOn a x c entry) (sym q.2) (λ k. by_op a q.0 q.1 c.op c.args entry k is e) l
+  calls a m c entry h =
+      let q = two m h.linked.1.cells.kinds in
+      subst (λ x. Linked find counter a x → GoesOn a x c entry) (sym q.2) (λ k. by_op a q.0 q.1 c.op c.args entry k h.call h.named) h.linked
 
 pub translation_follows : TranslationFollows
 translation_follows find = calls_decide find counter ten operations (opening find) (calls find)

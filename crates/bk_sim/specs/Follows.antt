@@ -71,10 +71,17 @@ IsDone image start = (fuel : ℕ) × (n : ℕ) × (d : Config) × Ends image fue
 abbrev pub IsStep : Finder → Development → Call → OpEntry → Abstract → List ℤ → Type 0
 IsStep find dev c entry a k = (b : Abstract) × Steps find dev c a (replies dev c.op entry.outputs k) b × Linked find dev b k
 
--- from each linked pair in which the precondition is true, a call is done with some fuel, traps with none, and is a step
+-- the call of the image's operation is one of the machine, whose precondition is true in the state that the cells are linked to
+pub record IsAllowedCall (find : Finder) (dev : Development) (image : Image) (a : Abstract) (m : List ℤ) (c : Call)
+    (entry : OpEntry) : Type 0 where
+  pub linked : Linked find dev a m
+  pub call : IsCall dev c
+  pub pre : Pre find dev c a
+  pub named : IsEntry image c.op entry
+
+-- each call that is allowed is done with some fuel, traps with none, and is a step
 abbrev pub CallsGoWell : Finder → Development → Image → Type 0
-CallsGoWell find dev image = (a : Abstract) (m : List ℤ) (c : Call) (entry : OpEntry) →
-    Linked find dev a m → IsCall dev c → Pre find dev c a → IsEntry image c.op entry →
+CallsGoWell find dev image = (a : Abstract) (m : List ℤ) (c : Call) (entry : OpEntry) → IsAllowedCall find dev image a m c entry →
     IsDone image (started entry c m) × ((fuel : ℕ) → GoesWell image fuel (started entry c m) (IsStep find dev c entry a))
 
 -- the machine reaches a state by these calls, with these replies and then the call's, that is linked to the cells
@@ -82,12 +89,21 @@ abbrev pub IsReached : Finder → Development → List Call → Call → List (L
 IsReached find dev cs c outs entry k = (a : Abstract)
     × Reach find dev (cs ++ c ∷ []) (outs ++ replies dev c.op entry.outputs k ∷ []) a × Linked find dev a k
 
--- after calls cs that are done, a call c, where all calls up to it and with it are legal, does not trap, ends with some fuel, and
--- leaves cells that are linked to a state which the machine reaches with these replies
+-- after the initialisation, which leaves cells l, the calls cs are done with these replies and leave cells m; the call c of the image's
+-- operation is next, and all calls up to it and with it are legal
+pub record IsLegalNext (find : Finder) (dev : Development) (image : Image) (fuel : ℕ) (l m : List ℤ) (cs : List Call) (c : Call)
+    (outs : List (List MathValue)) (entry : OpEntry) : Type 0 where
+  pub begun : IsBegun image fuel l
+  pub calls : AreCalls dev cs
+  pub call : IsCall dev c
+  pub done : AreDone dev image fuel l cs outs m
+  pub legal : Legal find dev (cs ++ c ∷ []) outs
+  pub named : IsEntry image c.op entry
+
+-- such a call does not trap, ends with some fuel, and leaves cells that are linked to a state which the machine reaches with these replies
 abbrev pub SessionsGoWell : Finder → Development → Image → Type 0
 SessionsGoWell find dev image = (fuel : ℕ) (l m : List ℤ) (cs : List Call) (c : Call) (outs : List (List MathValue)) (entry : OpEntry) →
-    IsBegun image fuel l → AreCalls dev cs → IsCall dev c → AreDone dev image fuel l cs outs m →
-    Legal find dev (cs ++ c ∷ []) outs → IsEntry image c.op entry →
+    IsLegalNext find dev image fuel l m cs c outs entry →
     GoesWell image fuel (started entry c m) (IsReached find dev cs c outs entry)
 
 -- the code follows the machine: with every fuel and for every list of calls, up to the first whose precondition may be false,

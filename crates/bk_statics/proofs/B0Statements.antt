@@ -17,7 +17,7 @@ use Rattle.bk_gsl.specs.Clean.{write_of}
 use Rattle.bk_gsl.proofs.States.{nat_eq-self, nat_eq-same}
 use Rattle.bk_dev.specs.Development.{Development, int_max, IsRange}
 use Rattle.bk_dev.specs.Layout.{arrays_of, is_scalar}
-use Rattle.bk_dev.specs.B0.{IsScalarName, IsArrayName, IsDeclaredDomain, IsCondition, IsFillValue, IsFill, IsTermFor, IsB0, operators_down, IsShallow, IsShallowWrite, IsShallowTerm, EvaluatesShallow}
+use Rattle.bk_dev.specs.B0.{IsScalarName, IsArrayName, IsDeclaredDomain, IsCondition, IsFillValue, IsFill, IsTermFor, IsB0, operators_down, HasFewOperators, IsShallowWrite, IsShallowTerm, EvaluatesShallow}
 use Rattle.bk_raw.specs.declared.operator.Constant.{Constant}
 use Rattle.bk_raw.specs.declared.operator.Constant.TheVariants.{True, False, MaxInt, MinInt}
 use Rattle.bk_raw.specs.declared.operator.InfixOp.TheVariants.{Times}
@@ -264,7 +264,7 @@ module _ (x : Executing) (dev : Development) (most : x.int_max ≡ int_max dev) 
     written-number writable at no_variable h = some-fault (wrong_write at) [] h
     written-number writable at (variable_target k) h = (k, refl)
 
-    shallow-of : (f : Formula) (h : ℕ) → operators_down f + 1 ≤ h → h + 1 ≤ 1000 → IsShallow f
+    shallow-of : (f : Formula) (h : ℕ) → operators_down f + 1 ≤ h → h + 1 ≤ 1000 → HasFewOperators f
     shallow-of f h a b = omega arith
 
     -- x := E of a scalar
@@ -477,7 +477,7 @@ module _ (x : Executing) (dev : Development) (most : x.int_max ≡ int_max dev) 
           by (Some w) e way has = name (x.typing m) refl (first-scalar s inner n m w e (no-array m high) run)
 
       -- ---- statements
-      shallow-condition : (p : Formula) (h : ℕ) → operators_down p + 1 ≤ h → h + 1 ≤ 1000 → IsShallow p
+      shallow-condition : (p : Formula) (h : ℕ) → operators_down p + 1 ≤ h → h + 1 ≤ 1000 → HasFewOperators p
       shallow-condition p h a b = omega arith
 
       module _ (above : Names) where

@@ -20,7 +20,7 @@ use Rattle.bk_statics.proofs.SubMay.{elaborated-stays}
 use Rattle.bk_statics.specs.Components.{Component}
 use Rattle.bk_raw.specs.Meaning.ScopeReading.{set_names}
 use Rattle.bk_statics.specs.Above.{constants_from, globals_of}
-use Rattle.bk_statics.specs.Plan.{Placed, entries_of, plan, level_names, scope, joined, body_scope}
+use Rattle.bk_statics.specs.Plan.{Placed, entries_of, plan, level_names, scope, invariant_scope, body_scope}
 use Rattle.bk_statics.specs.LevelOf.{types_at, made}
 use Rattle.bk_statics.specs.ClauseFaults.{constant_faults, variable_faults, clause_faults, stated_faults, all_stated_faults, entry_faults, input_faults, set_faults}
 use Rattle.bk_statics.specs.StaticFaults.{writes, body_faults, outputs_of}
@@ -39,7 +39,7 @@ scope-typed int_max higher comp ready all-said =
     let old = higher in
     let typing = types_at int_max higher comp p in
     let base = length old.table.variables in
-    let more = stated_faults int_max typing p.globals comp.properties ++ (stated_faults int_max typing (joined p) comp.invariant ++ (all_stated_faults int_max typing (joined p) comp.assertions ++ entry_faults int_max typing p.globals comp.values)) in
+    let more = stated_faults int_max typing p.globals comp.properties ++ (stated_faults int_max typing (invariant_scope p) comp.invariant ++ (all_stated_faults int_max typing (invariant_scope p) comp.assertions ++ entry_faults int_max typing p.globals comp.values)) in
     let vars = variable_faults typing comp.name.at comp.variables p.variables_at p.variables in
     let said = none-right (set_faults comp.sets) (constant_faults typing p.constants_at comp.constants ++ (vars ++ more)) all-said in
     let constants-none = none-left (constant_faults typing p.constants_at comp.constants) (vars ++ more) said in

@@ -20,7 +20,7 @@ use Rattle.bk_raw.proofs.RulesFit.{none-left, none-right}
 use Rattle.bk_statics.specs.Components.{Component, component_of, kind_as, is_machine, values_in, listed as clause_list}
 use Rattle.bk_statics.specs.Settled.{AreSeen}
 use Rattle.bk_statics.specs.Above.{names_at_level, upper_of}
-use Rattle.bk_statics.specs.Plan.{entries_of, plan, joined, operations_of}
+use Rattle.bk_statics.specs.Plan.{entries_of, plan, invariant_scope, operations_of}
 use Rattle.bk_statics.specs.LevelOf.{entries_from, types_at, new_texts, new_homes, level_made, made, values_made}
 use Rattle.bk_statics.specs.ClauseFaults.{set_faults, constant_faults, variable_faults, stated_faults, all_stated_faults, entry_faults, clause_faults}
 use Rattle.bk_statics.specs.NameFaults.{name_faults}
@@ -134,7 +134,7 @@ lower-development int_max higher comp d going below none room values all-valued 
     let all-none = none-right (name_faults higher comp) (clauses ++ after) none in
     let said = none-left clauses after all-none in
     let values-none = none-right behind last-faults (none-right begun (behind ++ last-faults) (none-right operations (begun ++ (behind ++ last-faults)) (none-right clauses after all-none))) in
-    let more = constant_faults typing p.constants_at comp.constants ++ (variable_faults typing comp.name.at comp.variables p.variables_at p.variables ++ (stated_faults int_max typing p.globals comp.properties ++ (stated_faults int_max typing (joined p) comp.invariant ++ (all_stated_faults int_max typing (joined p) comp.assertions ++ entry_faults int_max typing p.globals comp.values)))) in
+    let more = constant_faults typing p.constants_at comp.constants ++ (variable_faults typing comp.name.at comp.variables p.variables_at p.variables ++ (stated_faults int_max typing p.globals comp.properties ++ (stated_faults int_max typing (invariant_scope p) comp.invariant ++ (all_stated_faults int_max typing (invariant_scope p) comp.assertions ++ entry_faults int_max typing p.globals comp.values)))) in
     let st = stands int_max higher comp ready.table in
     let level = new-clauses int_max higher comp ready d.homes_there (lower-kind comp.kind (length higher.levels) below some) none in
     let right = lowers-right int_max higher comp ready lawful below none in

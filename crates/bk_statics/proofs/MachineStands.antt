@@ -20,7 +20,7 @@ use Rattle.bk_raw.specs.Errors.Faults.{Fault, without_type}
 use Rattle.bk_statics.specs.Components.{Component, component_of, kind_as, is_machine, values_in, listed as clause_list}
 use Rattle.bk_statics.specs.Binders.{texts}
 use Rattle.bk_statics.specs.Above.{no_development}
-use Rattle.bk_statics.specs.Plan.{entries_of, plan, joined, operations_of}
+use Rattle.bk_statics.specs.Plan.{entries_of, plan, invariant_scope, operations_of}
 use Rattle.bk_statics.specs.LevelOf.{types_at, made, values_made}
 use Rattle.bk_statics.specs.ClauseFaults.{has_name, set_faults, constant_faults, variable_faults, stated_faults, all_stated_faults, entry_faults, clause_faults}
 use Rattle.bk_statics.specs.NameFaults.{name_faults}
@@ -94,7 +94,7 @@ machine-development int_max comp machine no-values none room =
     let clauses = clause_faults int_max typing p comp in
     let after = operation_faults no_development comp p ++ (init_faults int_max no_development comp typing p ++ (all_body_faults int_max no_development comp typing p (operations_of p comp) ++ value_faults_of int_max no_development typing p comp)) in
     let said = none-left clauses after (none-right (name_faults no_development comp) (clauses ++ after) none) in
-    let more = constant_faults typing p.constants_at comp.constants ++ (variable_faults typing comp.name.at comp.variables p.variables_at p.variables ++ (stated_faults int_max typing p.globals comp.properties ++ (stated_faults int_max typing (joined p) comp.invariant ++ (all_stated_faults int_max typing (joined p) comp.assertions ++ entry_faults int_max typing p.globals comp.values)))) in
+    let more = constant_faults typing p.constants_at comp.constants ++ (variable_faults typing comp.name.at comp.variables p.variables_at p.variables ++ (stated_faults int_max typing p.globals comp.properties ++ (stated_faults int_max typing (invariant_scope p) comp.invariant ++ (all_stated_faults int_max typing (invariant_scope p) comp.assertions ++ entry_faults int_max typing p.globals comp.values)))) in
     let st = stands int_max no_development comp none-ready.table in
     let level = new-clauses int_max no_development comp none-ready (λ n. tt) (machine-first comp.kind machine) none in
     let right = machines-right int_max no_development comp none-ready machine none in

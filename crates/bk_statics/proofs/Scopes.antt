@@ -9,7 +9,7 @@ use Rattle.bk_statics.specs.Binders.{binder_count}
 use Rattle.bk_statics.specs.Ways.{Way, assigned_ways, ways, no_ways, ways_by}
 use Rattle.bk_raw.specs.Trees.ComponentTree.{RawOperation}
 use Rattle.bk_statics.specs.Components.{Component, outermost, is_machine, initialisation}
-use Rattle.bk_statics.specs.Plan.{Declared, names_from, entries_of, fresh, Headed, Placed, placed, machine_headed, inputs_by, lower_headed, input_count, output_count, Plan, plan, operations_of, level_names, scope, joined, body_scope, input_scope, sizes, other_sizes, other_headed}
+use Rattle.bk_statics.specs.Plan.{Declared, names_from, entries_of, fresh, Headed, Placed, placed, machine_headed, inputs_by, lower_headed, input_count, output_count, Plan, plan, operations_of, level_names, scope, invariant_scope, body_scope, input_scope, sizes, other_sizes, other_headed}
 use Rattle.bk_statics.specs.LevelOf.{next_place, variable_ways, all_input_ways, lower_output_ways, output_ways, all_output_ways, all_binder_ways, all_ways, new_texts}
 use Rattle.bk_statics.specs.LevelLaws.{body_count}
 use Rattle.bk_statics.proofs.Counted.{join-count, new-count}

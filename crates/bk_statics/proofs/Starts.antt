@@ -26,7 +26,7 @@ use Rattle.bk_statics.specs.Components.{WrittenVariable, Component, initialisati
 use Rattle.bk_raw.specs.Meaning.ScopeReading.{element_names, set_names}
 use Rattle.bk_raw.specs.Errors.Faults.{Fault, without_type}
 use Rattle.bk_statics.specs.Above.{constants_from, globals_of}
-use Rattle.bk_statics.specs.Plan.{Declared, names_from, entries_of, Plan, plan, operations_of, level_names, scope, joined}
+use Rattle.bk_statics.specs.Plan.{Declared, names_from, entries_of, Plan, plan, operations_of, level_names, scope, invariant_scope}
 use Rattle.bk_statics.specs.LevelOf.{types_at, made}
 use Rattle.bk_statics.specs.ClauseFaults.{is_flat, constant_faults, variable_faults, declared_at, clause_faults, stated_faults, all_stated_faults, entry_faults, set_faults, place_or}
 use Rattle.bk_statics.specs.NameFaults.{name_faults}
@@ -179,7 +179,7 @@ starts-right int_max higher comp ready none =
     let e1 = none-right (name_faults higher comp) (clauses ++ (operations ++ (start ++ after))) none in
     let all-said = none-left clauses (operations ++ (start ++ after)) e1 in
     let begun = none-left start after (none-right operations (start ++ after) (none-right clauses (operations ++ (start ++ after)) e1)) in
-    let more = stated_faults int_max typing p.globals comp.properties ++ (stated_faults int_max typing (joined p) comp.invariant ++ (all_stated_faults int_max typing (joined p) comp.assertions ++ entry_faults int_max typing p.globals comp.values)) in
+    let more = stated_faults int_max typing p.globals comp.properties ++ (stated_faults int_max typing (invariant_scope p) comp.invariant ++ (all_stated_faults int_max typing (invariant_scope p) comp.assertions ++ entry_faults int_max typing p.globals comp.values)) in
     let vars = variable_faults typing comp.name.at comp.variables p.variables_at p.variables in
     let said = none-right (set_faults comp.sets) (constant_faults typing p.constants_at comp.constants ++ (vars ++ more)) all-said in
     let constants-none = none-left (constant_faults typing p.constants_at comp.constants) (vars ++ more) said in

@@ -19,7 +19,7 @@ use Rattle.bk_statics.proofs.SubTypes.{predicate-typed}
 use Rattle.bk_statics.specs.Components.{Component}
 use Rattle.bk_raw.specs.Meaning.ScopeReading.{set_names}
 use Rattle.bk_statics.specs.Above.{constants_from, globals_of}
-use Rattle.bk_statics.specs.Plan.{entries_of, plan, level_names, joined}
+use Rattle.bk_statics.specs.Plan.{entries_of, plan, level_names, invariant_scope}
 use Rattle.bk_statics.specs.LevelOf.{stated_as, all_stated, types_at, made}
 use Rattle.bk_statics.specs.LevelLaws.{IsReady, StatesRight}
 use Rattle.bk_statics.proofs.Stands.{split-at, stands, globals-stand, upper-stands, declared-of, of-join}
@@ -59,7 +59,7 @@ joined-variable k (Some Constant) h = absurd h
 joined-variable k (Some Input) h = absurd h
 joined-variable k (Some (Inner j)) h = absurd h
 
-pub joined-seen : (int_max : ℤ) (higher : Development) (comp : Component) → IsReady higher → AreSeen (names_joined (made int_max higher comp (plan higher comp)) (plan higher comp).level) (joined (plan higher comp))
+pub joined-seen : (int_max : ℤ) (higher : Development) (comp : Component) → IsReady higher → AreSeen (names_joined (made int_max higher comp (plan higher comp)) (plan higher comp).level) (invariant_scope (plan higher comp))
 joined-seen int_max higher comp ready =
     let p = plan higher comp in
     let new = made int_max higher comp p in
@@ -68,7 +68,7 @@ joined-seen int_max higher comp ready =
     (seen-declared visible p.variables_at p.variables (λ m a b. joined-variable p.level (home_of new m) (variable-home int_max higher comp ready.homes m a b)))
     (seen-join visible p.upper p.globals (upper-seen int_max higher comp ready) (globals-seen int_max higher comp ready.homes visible (λ n e. ap (joined_by p.level) e)))
 
-pub joined-stands : (int_max : ℤ) (higher : Development) (comp : Component) → All IsCounted higher.table.sets → AreOf (made int_max higher comp (plan higher comp)).table (joined (plan higher comp))
+pub joined-stands : (int_max : ℤ) (higher : Development) (comp : Component) → All IsCounted higher.table.sets → AreOf (made int_max higher comp (plan higher comp)).table (invariant_scope (plan higher comp))
 joined-stands int_max higher comp counted =
     let p = plan higher comp in
     let table = (made int_max higher comp p).table in
@@ -98,8 +98,8 @@ states-right int_max higher comp ready =
       properties = stated-typed int_max new.table typing st (names_constants new) p.globals (globals-stand int_max higher comp ready.table.counted) globals comp.properties;
       properties_names = stated-names int_max new.table typing st (names_constants new) p.globals (globals-stand int_max higher comp ready.table.counted) globals comp.properties;
       invariant = record {
-        is_predicate = stated-typed int_max new.table typing st (names_joined new p.level) (joined p) (joined-stands int_max higher comp ready.table.counted) (joined-seen int_max higher comp ready) comp.invariant;
-        names = stated-names int_max new.table typing st (names_joined new p.level) (joined p) (joined-stands int_max higher comp ready.table.counted) (joined-seen int_max higher comp ready) comp.invariant;
+        is_predicate = stated-typed int_max new.table typing st (names_joined new p.level) (invariant_scope p) (joined-stands int_max higher comp ready.table.counted) (joined-seen int_max higher comp ready) comp.invariant;
+        names = stated-names int_max new.table typing st (names_joined new p.level) (invariant_scope p) (joined-stands int_max higher comp ready.table.counted) (joined-seen int_max higher comp ready) comp.invariant;
       };
-      assertions = all-stated int_max new p.level typing st (joined p) (joined-stands int_max higher comp ready.table.counted) (joined-seen int_max higher comp ready) comp.assertions;
+      assertions = all-stated int_max new p.level typing st (invariant_scope p) (joined-stands int_max higher comp ready.table.counted) (joined-seen int_max higher comp ready) comp.assertions;
     }

@@ -15,7 +15,7 @@ use Rattle.bk_raw.specs.Errors.Faults.{Fault}
 use Rattle.bk_statics.specs.Components.{WrittenVariable, Component}
 use Rattle.bk_statics.specs.Typings.{Typing, target_in, type_at, outcome_of}
 use Rattle.bk_statics.specs.SubFaults.{predicate_faults, value_faults}
-use Rattle.bk_statics.specs.Plan.{Declared, Plan, joined}
+use Rattle.bk_statics.specs.Plan.{Declared, Plan, invariant_scope}
 
 -- ---- names without a type
 -- whether there is an element
@@ -87,6 +87,6 @@ clause_faults int_max typing p c =
     ++ (constant_faults typing p.constants_at c.constants
     ++ (variable_faults typing c.name.at c.variables p.variables_at p.variables
     ++ (stated_faults int_max typing p.globals c.properties
-    ++ (stated_faults int_max typing (joined p) c.invariant
-    ++ (all_stated_faults int_max typing (joined p) c.assertions
+    ++ (stated_faults int_max typing (invariant_scope p) c.invariant
+    ++ (all_stated_faults int_max typing (invariant_scope p) c.assertions
     ++ entry_faults int_max typing p.globals c.values)))))

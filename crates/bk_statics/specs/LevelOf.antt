@@ -23,7 +23,7 @@ use Rattle.bk_statics.specs.Elaborated.{elaborated}
 use Rattle.bk_statics.specs.Ways.{Way, no_way, by_conjuncts, same_as, ways_by, way_from, assigned_ways, ways, settled}
 use Rattle.bk_statics.specs.Above.{known}
 use Rattle.bk_statics.specs.Plan.{Declared, declared_texts, entries_of, links_from, fresh, Headed, Placed}
-use Rattle.bk_statics.specs.Plan.{Plan, plan, operations_of, scope, joined, body_scope, input_scope}
+use Rattle.bk_statics.specs.Plan.{Plan, plan, operations_of, scope, invariant_scope, body_scope, input_scope}
 
 -- ---- types
 -- a variable that stands above has the type that it has there, and the i-th of the others its type by the invariant's conjuncts
@@ -213,9 +213,9 @@ level_made int_max typing p c = record {
   kind = c.kind;
   vars = interval p.variables_at (length p.variables);
   properties = stated_as int_max typing p.globals c.properties;
-  invariant = stated_as int_max typing (joined p) c.invariant;
+  invariant = stated_as int_max typing (invariant_scope p) c.invariant;
   links = links_from p.variables_at p.variables;
-  assertions = all_stated int_max typing (joined p) c.assertions;
+  assertions = all_stated int_max typing (invariant_scope p) c.assertions;
   init = elaborated int_max typing p.upper (scope p) p.binders_at (initialisation c);
   bodies = bodies_made int_max typing p (operations_of p c);
 }

@@ -248,8 +248,8 @@ abbrev pub scope : Plan → Names
 scope p = level_names p ++ p.globals
 
 -- the invariant and the assertions, which see the variables of the level above too; an own name wins
-abbrev pub joined : Plan → Names
-joined p = level_names p ++ (p.upper ++ p.globals)
+abbrev pub invariant_scope : Plan → Names
+invariant_scope p = level_names p ++ (p.upper ++ p.globals)
 
 -- a body, which sees its inputs and outputs too
 abbrev pub body_scope : Plan → Placed → Names

@@ -11,7 +11,7 @@ use Rattle.std.proofs.lemmas.Option.{slice_get_read, slice_get_past}
 use Rattle.indexmap.specs.IndexMap.{insert_entry}
 use Rattle.bk_raw.proofs.Numbered.{lookup_inserted}
 use Rattle.bk_raw.specs.Trees.ScriptTree.{RawScript}
-use Rattle.bk_status.specs.Places.{place_from, place_of, found_or}
+use Rattle.bk_status.specs.Places.{place_from, script_place, found_or}
 use Rattle.bk_status.specs.States.{name_text, script_named}
 
 -- ---- what is found
@@ -63,10 +63,10 @@ last-place n (r ∷ ss) s name = by (last-place (suc n) ss s name) (bytes_eq nam
     by m false = let e : suc n + length ss ≡ n + length (r ∷ ss) = omega arith in m ∙ ap (found_or (place_from (suc n) ss name) here) e
 
 -- one script more
-pub place_more : (scripts : List RawScript) (i : ℕ) (s : RawScript) (name : List ℕ) → i < length scripts → s ≡ get_or scripts i s → found_or (place_of (take i scripts) name) (bytes_eq name (name_text s.name)) i ≡ place_of (take (i + 1) scripts) name
+pub place_more : (scripts : List RawScript) (i : ℕ) (s : RawScript) (name : List ℕ) → i < length scripts → s ≡ get_or scripts i s → found_or (script_place (take i scripts) name) (bytes_eq name (name_text s.name)) i ≡ script_place (take (i + 1) scripts) name
 place_more scripts i s name l e =
     let many : i ≡ 0 + length (take i scripts) = omega (arith, l, length-take i scripts) in
-    ap (found_or (place_of (take i scripts) name) (bytes_eq name (name_text s.name))) many ∙ sym (last-place 0 (take i scripts) s name) ∙ ap (λ ss. place_of ss name) (ap (λ q. take i scripts ++ q ∷ []) e ∙ sym (take_more scripts i s l))
+    ap (found_or (script_place (take i scripts) name) (bytes_eq name (name_text s.name))) many ∙ sym (last-place 0 (take i scripts) s name) ∙ ap (λ ss. script_place ss name) (ap (λ q. take i scripts ++ q ∷ []) e ∙ sym (take_more scripts i s l))
 
 -- ---- what stands at a place
 same-number : (m n : ℕ) → Some m ≡ Some n → m ≡ n

@@ -10,8 +10,8 @@ place_from n [] name = None
 place_from n (s ∷ scripts) name = cond (bytes_eq name (name_text s.name)) (Some n) (place_from (suc n) scripts name)
 
 -- the place of the first script with a name
-abbrev pub place_of : List RawScript → List ℕ → Option ℕ
-place_of scripts name = place_from 0 scripts name
+abbrev pub script_place : List RawScript → List ℕ → Option ℕ
+script_place scripts name = place_from 0 scripts name
 
 -- what is found already, or else this place, where it is the one
 abbrev pub found_or : Option ℕ → Bool → ℕ → Option ℕ

@@ -5,7 +5,7 @@ ghost use Rattle.std.specs.Option.{option_copied};
 ghost use Rattle.std.specs.Str.{bytes_eq};
 ghost use Rattle.indexmap.specs.IndexMap.{get_by};
 ghost use Rattle.bk_p_proof.specs.Files.{IsShort};
-ghost use Rattle.bk_status.specs.Places.{found_or, place_of};
+ghost use Rattle.bk_status.specs.Places.{found_or, script_place};
 ghost use Rattle.bk_status.specs.States.{script_named};
 
 use crate::name::name_text;
@@ -32,7 +32,7 @@ impl<'a> Model for NamedScripts<'a> {
     ghost use Rattle.bk_raw.specs.Codes.ScriptCodes.{coded_script};
     ghost use Rattle.bk_raw.specs.Trees.ScriptTree.{RawScript};
     ghost use Rattle.bk_p_proof.specs.Files.{IsShort};
-    ghost use Rattle.bk_status.specs.Places.{place_of};
+    ghost use Rattle.bk_status.specs.Places.{script_place};
 
     ghost Value = { List RawScript };
 
@@ -41,7 +41,7 @@ impl<'a> Model for NamedScripts<'a> {
     ghost view = { λ s. s.scripts.now };
 
     ghost invariant = { λ s. All IsShort s.scripts.now ×
-        ((name : List ℕ) → get_by (λ k. bytes_eq name k.items) s.places ≡ place_of s.scripts.now name) };
+        ((name : List ℕ) → get_by (λ k. bytes_eq name k.items) s.places ≡ script_place s.scripts.now name) };
 }
 
 impl<'a> NamedScripts<'a> {
@@ -69,7 +69,7 @@ impl<'a> NamedScripts<'a> {
 
 // The place of the first script with each name.
 fn places_of(alloc: Global, scripts: &[RawScript]) -> Result<IndexMap<Vec<u8>, usize>, Memory>
-    ensures { IfOk result (λ places. (name : List ℕ) → get_by (λ k. bytes_eq name k.items) places ≡ place_of scripts.now name) }
+    ensures { IfOk result (λ places. (name : List ℕ) → get_by (λ k. bytes_eq name k.items) places ≡ script_place scripts.now name) }
 {
     let mut places = IndexMap::new(alloc);
     for (place, script) in scripts.iter().enumerate() {

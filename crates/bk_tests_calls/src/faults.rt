@@ -78,10 +78,6 @@ fn fault(alloc: Global, text: &[u8], image: &Image) -> Result<Option<CallsFault>
     if text.len() > 1000 || image.ops.as_slice().len() > 1000 {
         return Err(Fail::from("the script or the image"));
     }
-    let max = image.int_max();
-    if max < 1 || max > 4611686018427387903 {
-        return Err(Fail::from("the range"));
-    }
     Ok(calls(alloc, text, image).err())
 }
 

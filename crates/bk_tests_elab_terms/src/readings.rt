@@ -1,7 +1,7 @@
 // What written terms mean: texts, and the formulas that they are, written in the operators of formulas and with numbered
 // variables, as printed formulas are; and texts at fault, with the number of the fault and its byte.
 //
-// In sight are the numbers n, k and n$1, the truth value b, the colour c, the set of numbers s, the set of colours t, the
+// In scope are the numbers n, k and n$1, the truth value b, the colour c, the set of numbers s, the set of colours t, the
 // relations f and g between numbers, h from numbers to colours and w from pairs of numbers to numbers, the pair p of a number and
 // a set of numbers, the set u of sets of numbers, and the set COLOR of red and green.
 
@@ -131,7 +131,7 @@ fn declare_relation_of_pairs(alloc: Global, table: &mut VarTable) -> Result<(), 
 }
 
 // All names in scope.
-fn sight(alloc: Global) -> Result<VarTable, Memory> {
+fn table(alloc: Global) -> Result<VarTable, Memory> {
     let mut table = with_colours(alloc)?;
     declare_scalars(alloc, &mut table)?;
     declare_sets(alloc, &mut table)?;
@@ -165,7 +165,7 @@ fn meant(alloc: Global, written: &str) -> Result<Option<Result<Form, ElabFault>>
     let Some(tree) = parsed(alloc, written) else {
         return Ok(None);
     };
-    let (scope, table) = (scope(alloc)?, sight(alloc)?);
+    let (scope, table) = (scope(alloc)?, table(alloc)?);
     Ok(Some(formula(alloc, &tree, &scope, &table)))
 }
 

@@ -89,7 +89,7 @@ fn a_million_tokens_of_a_definition(rt: HostRuntime) {
     assert!(rt; long_says(rt.alloc(), front, "y + ", 499992, back, Answer::High));
 }
 
-// Where a name stands free in what it is to be, however far after, LET does not define it: nothing is read there.
+// Where a name stands free in what it is to be, however late, LET does not define it: nothing is read there.
 #[test]
 fn a_million_tokens_of_no_definition(rt: HostRuntime) {
     let (front, back) = ("INITIALISATION LET x BE x = ", "y(x) IN skip END END");

@@ -289,7 +289,7 @@ fn depths_of_places(rt: HostRuntime) -> Result<(), Fail> {
     compare_code(&rt, rt.alloc(), &DEPTHS)
 }
 
-// A Jump to a Store at the place 3, and from after it a Jump back to the place 1, where a first instruction stands before a
+// A Jump to a Store at the place 3, and after this a Jump back to the place 1, where a first instruction stands before a
 // Ret.
 const BELOW_ZERO: [CodeRow; 3] = [
     // The Push stands at a depth of -1 and pops nothing; the Store pops below 0.

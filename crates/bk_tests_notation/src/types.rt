@@ -20,7 +20,7 @@ pub fn types_of(alloc: Global, text: &str) -> Result<Vec<Ty>, Unread> {
     Ok(types)
 }
 
-// The types, the last one first: they are read from after.
+// The types, the last one first: they are read from the end.
 fn stacked(alloc: Global, text: &str) -> Result<Vec<Ty>, Unread> {
     let mut types = Vec::new(alloc);
     for byte in text.as_bytes().iter().rev() {

@@ -21,7 +21,7 @@ use Rattle.bk_gsl.specs.State.{among}
 use Rattle.bk_gsl.specs.Substitution.{Substitution, skip, if_else, any, seq, loop}
 use Rattle.bk_dev.proofs.CounterFacts.{names-none, names-one}
 use Rattle.bk_dev.specs.B0.{IsScalarName, IsArrayName, IsExpression, IsCondition, IsTermFor, IsShallowTerm}
-use Rattle.bk_dev.specs.Development.{int_max}
+use Rattle.bk_dev.specs.Development.{default_max, int_max}
 use Rattle.bk_dev.specs.Facts.{Names, names_joined, binders, is_inner_of, home_of}
 use Rattle.bk_dev.specs.Layout.{arrays_of}
 use Rattle.bk_tests_sessions.specs.Drawn.{family_table, set_to, family, seen, writable, AreLocals, Rise, IsArithmetic, IsComparison, IsConnective, IsNumber, IsNumberAnywhere, IsTest, IsDrawn, local_block, is_left, counted_turns, element_write}
@@ -361,8 +361,11 @@ locals_up ls a b h more n i = let here = h n i in (here.0, omega (arith, here.1,
 pub small_number : (z : ℤ) → is_in_int (int_max (family skip)) z ≡ true → IsNumberAnywhere (literal z)
 small_number z h ls d = number_literal ls d z h
 
+small-in-range : (z : ℤ) → neg_ℤ (pos 20) ≤ℤ z → z ≤ℤ pos 20 → is_in_int default_max z ≡ true
+small-in-range z low high = grind (arith, ints)
+
 pub in_int : (z : ℤ) → neg_ℤ (pos 20) ≤ℤ z → z ≤ℤ pos 20 → is_in_int (int_max (family skip)) z ≡ true
-in_int z low high = grind (arith, ints)
+in_int z low high = small-in-range z low high
 
 -- ---- the innermost local
 pub first_local : (z : ℕ) (ls : List ℕ) (d : ℕ) → AreLocals (z ∷ ls) 25 → IsNumber (z ∷ ls) d (variable z)

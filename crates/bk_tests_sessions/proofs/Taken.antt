@@ -3,7 +3,7 @@ use Rattle.std.proofs.Common.{◌≡◌, ℕ, ℤ, pos, neg_ℤ, ◌≤ℤ◌, [
 use Rattle.std.specs.Prelude.{codes}
 use Rattle.std.proofs.lemmas.Int.{ints}
 use Rattle.std.proofs.lemmas.List.Elements.{All-nil, All-cons}
-use Rattle.bk_code.specs.Numbers.{IsWithin, int_max}
+use Rattle.bk_code.specs.Numbers.{IsWithin, int_max, default_max}
 use Rattle.bk_code.specs.declared.image.Image.{Image}
 use Rattle.bk_code.specs.declared.image.OpEntry.{OpEntry}
 use Rattle.bk_gsl.specs.Substitution.{Substitution}
@@ -21,14 +21,14 @@ step-entry s = record {
   outputs = map (placed_parameter (places_of (family s))) code_outputs;
 }
 
-within-small : (image : Image) (z : ℤ) → neg_ℤ (pos 20) ≤ℤ z → z ≤ℤ pos 20 → IsWithin (int_max image) z
-within-small image z low high = (omega (arith, ints, low), omega (arith, ints, high))
+within-small : (z : ℤ) → neg_ℤ (pos 20) ≤ℤ z → z ≤ℤ pos 20 → IsWithin default_max z
+within-small z low high = (omega (arith, ints, low), omega (arith, ints, high))
 
 takes-step : (s : Substitution) (z : ℤ) → neg_ℤ (pos 20) ≤ℤ z → z ≤ℤ pos 20 → TakesCall (translation (family s)) 0 (z ∷ []) 6
 takes-step s z low high = record {
   entry = step-entry s;
   named = refl;
-  callable = record { counted = refl; range = All-cons (IsWithin (int_max (translation (family s)))) z [] (within-small (translation (family s)) z low high) (All-nil (IsWithin (int_max (translation (family s))))) };
+  callable = record { counted = refl; range = All-cons (IsWithin (int_max (translation (family s)))) z [] (within-small z low high) (All-nil (IsWithin (int_max (translation (family s))))) };
   counted = refl;
 }
 

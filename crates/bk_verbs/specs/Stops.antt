@@ -92,12 +92,16 @@ fault_name (Stack at) = codes "Stack"
 fault_name (Extra at) = codes "Extra"
 fault_name NoRoomForImage = []
 
--- the line that is written; a limit that is passed is fault 13; where a device failed or there was no memory there is no line
+-- a limit that is passed is a fault with this number
+abbrev pub fault_of_limits : ℕ
+fault_of_limits = 13
+
+-- the line that is written; where a device failed or there was no memory there is no line
 abbrev pub stop_text : Stop → List ℕ
 stop_text Usage = codes "usage: bkit VERB [FILE] [FILE] [--fuel N]\n"
 stop_text (Missing name) = codes "missing " ++ name ++ codes "\n"
 stop_text (Refused fault at name) = refusal_text fault name ++ place_text at
-stop_text (Limit limit name) = refusal_text 13 name ++ codes " limit " ++ decimal limit ++ codes "\n"
+stop_text (Limit limit name) = refusal_text fault_of_limits name ++ codes " limit " ++ decimal limit ++ codes "\n"
 stop_text (Unproved name) = codes "unproved " ++ name ++ codes "\n"
 stop_text (Incomplete name) = codes "incomplete " ++ name ++ codes "\n"
 stop_text (BadCalls line) = codes "bad call line " ++ decimal line ++ codes "\n"

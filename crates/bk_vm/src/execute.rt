@@ -333,11 +333,11 @@ fn run_in<const DEFAULT: bool>(
     fuel: u64,
 ) -> CallEnd
     requires greatest { HasRange image.now DEFAULT }
-    requires long { length stack.old ≡ 1000 }
+    requires long { length stack.old ≡ STACK_ROOM }
     requires ready { IsReady image.now (standing start [] cells.old) }
     ensures ends { EndsWith image.now fuel (standing start [] cells.old) result cells.new }
     ensures kept { AreCells image.now cells.new }
-    ensures long { length stack.new ≡ 1000 }
+    ensures long { length stack.new ≡ STACK_ROOM }
 {
     let code = image.code.as_slice();
     let mut place = start;

@@ -11,9 +11,9 @@ use Rattle.bk_raw.specs.declared.script.RulePart.{RulePart}
 use Rattle.bk_raw.specs.declared.script.RulePart.TheVariants.{Number, Term, Terms, Place, NoPlace, Typed, Law, Certificate}
 
 -- the place in a sequent that this stands for
-abbrev pub place_of : RawPlace → WrittenPlace
-place_of (Goal path) = in_goal path.items
-place_of (Hyp i path) = in_hypothesis i path.items
+abbrev pub written_place : RawPlace → WrittenPlace
+written_place (Goal path) = in_goal path.items
+written_place (Hyp i path) = in_hypothesis i path.items
 
 -- the line of a certificate that this stands for
 abbrev pub line_of : RawLine → WrittenLine
@@ -25,7 +25,7 @@ abbrev pub part_of : RulePart → WrittenPart
 part_of (Number n) = part_number n
 part_of (Term t) = part_term t
 part_of (Terms ts) = part_terms ts.items
-part_of (Place p) = part_place (place_of p)
+part_of (Place p) = part_place (written_place p)
 part_of NoPlace = part_no_place
 part_of (Typed xs) = part_typed xs.items
 part_of (Law name picks) = part_law name picks.items

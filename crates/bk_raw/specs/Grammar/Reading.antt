@@ -120,14 +120,14 @@ typed (suc n) [] = None
 typed (suc n) (t ∷ ts) = typed_at (typed n) t.kind ts
 
 -- what stands after the number of a bound variable
-abbrev pub numbered : TokenKind → ℕ → Reader (ℕ × ℕ)
-numbered (BoundName n) at ts = next (sign MEMBER ts) (λ _ us. Some ((at, n), us))
-numbered _ at ts = None
+abbrev pub bound_number : TokenKind → ℕ → Reader (ℕ × ℕ)
+bound_number (BoundName n) at ts = next (sign MEMBER ts) (λ _ us. Some ((at, n), us))
+bound_number _ at ts = None
 
 -- $n: in front, as where it stands and its number
 abbrev pub bound : Reader (ℕ × ℕ)
 bound [] = None
-bound (t ∷ ts) = numbered t.kind t.start ts
+bound (t ∷ ts) = bound_number t.kind t.start ts
 
 -- at most so many bound variables with their types
 abbrev pub bounds : ℕ → Reader (List RawBound)
@@ -295,13 +295,13 @@ joined_by more reader asked at left strength t ts (Some o) = cond (nat_le asked 
     (Some (left, t ∷ ts))
 
 -- operators with their right operands after a term of some strength, where so much is asked, at most so many
-abbrev pub joined : ℕ → TermReader → ℕ → ℕ → RawTree → ℕ → Reader RawTree
-joined zero reader asked at left strength ts = Some (left, ts)
-joined (suc m) reader asked at left strength [] = Some (left, [])
-joined (suc m) reader asked at left strength (t ∷ ts) =
-    joined_by (joined m reader asked at) reader asked at left strength t ts (infix_of t.kind)
+abbrev pub operators_after : ℕ → TermReader → ℕ → ℕ → RawTree → ℕ → Reader RawTree
+operators_after zero reader asked at left strength ts = Some (left, ts)
+operators_after (suc m) reader asked at left strength [] = Some (left, [])
+operators_after (suc m) reader asked at left strength (t ∷ ts) =
+    joined_by (operators_after m reader asked at) reader asked at left strength t ts (infix_of t.kind)
 
 -- the longest term of this strength, with brackets at most so deep and lists at most so long
 abbrev pub read : ℕ → ℕ → Reader RawTree
 read zero asked ts = None
-read (suc n) asked ts = next (operand n (read n) ts) (λ x us. joined n (read n) asked (start ts) x.0 x.1 us)
+read (suc n) asked ts = next (operand n (read n) ts) (λ x us. operators_after n (read n) asked (start ts) x.0 x.1 us)

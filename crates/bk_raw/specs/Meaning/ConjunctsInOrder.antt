@@ -45,14 +45,14 @@ first_of (Some r) s = Some r
 first_of None s = s
 
 -- a range that was found, with the number of its conjunct
-abbrev pub numbered : ℕ → Option (Formula × ValueType) → Option (Formula × ValueType × ℕ)
-numbered i None = None
-numbered i (Some d) = Some (d.0, d.1, i)
+abbrev pub with_number : ℕ → Option (Formula × ValueType) → Option (Formula × ValueType × ℕ)
+with_number i None = None
+with_number i (Some d) = Some (d.0, d.1, i)
 
 -- the range of the first of these conjuncts that gives one to x, with its number, the first having the number i
 abbrev pub first_given : ℤ → Names → List RawName → List ℕ → ℕ → List RawTree → Option (Formula × ValueType × ℕ)
 first_given max names all x i [] = None
-first_given max names all x i (c ∷ cs) = first_of (numbered i (range_given max names all x c)) (first_given max names all x (suc i) cs)
+first_given max names all x i (c ∷ cs) = first_of (with_number i (range_given max names all x c)) (first_given max names all x (suc i) cs)
 
 -- each of the names with the range that the first of the conjuncts gives it
 abbrev pub ranged_first : ℤ → Names → List RawName → List RawTree → List RawName → List Ranged

@@ -8,7 +8,7 @@ use Rattle.bk_elab_terms.specs.Shown.{told}
 use Rattle.bk_elab_terms.specs.Visible.{typing_of, visible_names}
 use Rattle.bk_elab_terms.specs.declared.sight.Visible.{Visible}
 use Rattle.bk_statics.specs.ClauseFaults.{set_faults, constant_faults, variable_faults, stated_faults, all_stated_faults, entry_faults}
-use Rattle.bk_statics.specs.Plan.{joined}
+use Rattle.bk_statics.specs.Plan.{invariant_scope}
 use Rattle.bk_scope.specs.Shown.{component_shown, plan_shown, refs}
 use Rattle.bk_scope.proofs.FaultSteps.{told-four}
 use Rattle.bk_check_clauses.proofs.clause_fault.clause_fault.Goals as goal
@@ -21,8 +21,8 @@ returns c =
     let comp = component_shown c.args.component.now in
     let shown : List Visible → Names = λ (l : List Visible). visible_names l in
     let properties = stated_faults max t p.globals comp.properties in
-    let invariant = stated_faults max t (joined p) comp.invariant in
-    let assertions = all_stated_faults max t (joined p) comp.assertions in
+    let invariant = stated_faults max t (invariant_scope p) comp.invariant in
+    let assertions = all_stated_faults max t (invariant_scope p) comp.assertions in
     let entries = entry_faults max t p.globals comp.values in
     told-four (set_faults comp.sets) (constant_faults t p.constants_at comp.constants) (variable_faults t comp.name.at comp.variables p.variables_at p.variables) (properties ++ (invariant ++ (assertions ++ entries)))
     (told c.set_fault-sets.result) (told c.in_ok-constants.constants) (told c.in_ok-variables.variables) (told c.earlier-clauses.result) (told c.earlier-3.result) (told c.earlier-4.result) (told c.earlier-5.result)

@@ -1,5 +1,5 @@
 use Rattle.std.proofs.Common.{Err, ap, subst}
-use Rattle.bk_kernel.specs.Rewriting.{replaced}
+use Rattle.bk_kernel.specs.Rewriting.{part_rewritten}
 use Rattle.bk_kernel.specs.Code.{meant_by}
 use Rattle.bk_kernel.specs.Held.{HasLargePart}
 use Rattle.bk_kernel.proofs.LargeParts.{goal-change-large}
@@ -9,4 +9,4 @@ pub returns-in-Err-TooLarge-clause-too_large : goal.returns-in-Err-TooLarge-clau
 returns-in-Err-TooLarge-clause-too_large c h =
     let s = c.args.sequent.now in
     let change = meant_by c.args.change.now in
-    goal-change-large (replaced c.args.types.now s.hyps.items change s.goal c.args.path.now) (subst (λ hyps. HasLargePart (replaced c.args.types.now hyps change s.goal c.args.path.now)) c.deref.ensures.value (c.in-Err-TooLarge.ensures.too_large (ap (λ e. Err e) c.in-Err-TooLarge.field-0-is)))
+    goal-change-large (part_rewritten c.args.types.now s.hyps.items change s.goal c.args.path.now) (subst (λ hyps. HasLargePart (part_rewritten c.args.types.now hyps change s.goal c.args.path.now)) c.deref.ensures.value (c.in-Err-TooLarge.ensures.too_large (ap (λ e. Err e) c.in-Err-TooLarge.field-0-is)))

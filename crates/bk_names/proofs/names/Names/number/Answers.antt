@@ -1,7 +1,7 @@
 use Rattle.std.proofs.Common.{Some, is_some, map, sym, ap, ◌∙◌}
 use Rattle.std.specs.Str.{bytes_eq}
 use Rattle.std.specs.List.{position_or_len}
-use Rattle.bk_names.specs.Names.{place_of, with_name}
+use Rattle.bk_names.specs.Names.{place_among, with_name}
 use Rattle.bk_names.proofs.Places.{position_or_len-map, text_stands, known_name, place_with_name, texts-insert_key}
 use Rattle.bk_names.proofs.names.Names.number.Goals as goal
 
@@ -17,7 +17,7 @@ returns-clause-names c =
 
 pub returns-clause-number : goal.returns-clause-number
 returns-clause-number c =
-    ap (λ names. place_of names c.args.text.now) (returns-clause-names c)
+    ap (λ names. place_among names c.args.text.now) (returns-clause-names c)
     ∙ place_with_name c.args.self.now c.args.text.now
     ∙ sym (ap Some
     (c.in_ok-n.ensures.index

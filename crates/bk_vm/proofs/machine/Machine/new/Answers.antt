@@ -15,5 +15,5 @@ invariant_of-result c =
     let zeros : c.in_ok-cells.cells.items ≡ replicate count (pos 0) = search rules in
     let within : All (IsWithin max) (replicate count (pos 0)) = All-replicate (IsWithin max) count (pos 0) (zero_within max c.requires.numbered.range.least) in
     let kept : AreCells c.args.image c.in_ok-cells.cells.items =
-        record { many = ap (λ (zs : List ℤ). length zs) zeros ∙ length-replicate count (pos 0); range = subst (All (IsWithin max)) (sym zeros) within } in
+    record { many = ap (λ (zs : List ℤ). length zs) zeros ∙ length-replicate count (pos 0); range = subst (All (IsWithin max)) (sym zeros) within } in
     (record { checked = c.requires; kept = kept; untouched = λ _. zeros }, long)

@@ -1,7 +1,7 @@
 use Rattle.std.proofs.Common.{Err, sym, ap}
 use Rattle.bk_kernel.specs.Code.{meant_by}
 use Rattle.bk_kernel.proofs.LargeParts.{replaced-large}
-use Rattle.bk_kernel.proofs.rewriting.replaced.Goals as goal
+use Rattle.bk_kernel.proofs.rewriting.part_rewritten.Goals as goal
 
 pub returns-in-Err-TooLarge-clause-too_large : goal.returns-in-Err-TooLarge-clause-too_large
 returns-in-Err-TooLarge-clause-too_large c h =
