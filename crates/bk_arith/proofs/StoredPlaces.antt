@@ -81,9 +81,6 @@ taken-nothing t ms h = (unplaced (monomial_of t) 0 (polynomial_of ms) h).1
 pub subtracted-last : (t : StoredMonomial) (ms : List StoredMonomial) → position_from (λ m. same_atoms t.atoms.items m.1) 0 (polynomial_of ms) ≡ None → subtracted (monomial_of t) (polynomial_of ms) ≡ negated_behind (monomial_of t) (polynomial_of ms)
 subtracted-last t ms h = (unplaced (monomial_of t) 0 (polynomial_of ms) h).2
 
-pub pushed : (m : StoredMonomial) (ms : List StoredMonomial) → polynomial_of (ms ++ m ∷ []) ≡ polynomial_of ms ++ monomial_of m ∷ []
-pushed m ms = map-append monomial_of ms (m ∷ [])
-
 -- ---- whether two coefficients are equal
 pub int_eq-same : (x y : ℤ) → x ≡ y → int_eq x y ≡ true
 int_eq-same x y h = grind (arith, ints)

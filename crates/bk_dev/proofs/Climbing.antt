@@ -379,7 +379,3 @@ module _ (find : Finder) (dev : Development) (f : IsLawful dev) (complete : is_c
 
 pub openings_climb : OpeningsClimb
 openings_climb = λ find dev k carries lasts e start. is-opened find dev k.lawful k.complete k.values k.keeps carries (inr lasts) e start.typed start.values (inr start.linked)
-
--- a level that carries from all states does so from equal ones
-pub from-all : (find : Finder) (dev : Development) (j : ℕ) → CarriesFlat find dev j → CarriesFromEqual find dev j
-from-all find dev j c = record { init = λ e t h l. c.init e t h; operations = λ o is e t h l. c.operations o is e t h }

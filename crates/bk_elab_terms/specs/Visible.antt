@@ -1,13 +1,14 @@
 -- Names in scope, as the program keeps them: what each stands for, and the types that variables have by their numbers.
-use Rattle.std.specs.Prelude.{ℕ, Bool, List, map, slice_get, Option, None, Some, ◌++◌}
+use Rattle.std.specs.Prelude.{ℕ, Bool, true, false, List, map, slice_get, Option, None, Some, ◌++◌}
 use Rattle.std.specs.Borrow.{Bor}
 use Rattle.bk_val.specs.ValueType.{ValueType}
 use Rattle.bk_raw.specs.declared.term.RawName.{RawName}
 use Rattle.bk_raw.specs.Trees.RawTree.{RawTree}
 use Rattle.bk_raw.specs.Meaning.Names.{Names, Meaning, global, set_name, element_name}
-use Rattle.bk_raw.specs.Meaning.Outcome.{Reading, Asked}
+use Rattle.bk_form.specs.Formula.{Formula}
+use Rattle.bk_raw.specs.Meaning.Outcome.{Reading, Asked, ask, ask_value, ask_domain, ask_predicate}
 use Rattle.bk_raw.specs.Meaning.Binders.{bound_names}
-use Rattle.bk_raw.specs.Meaning.TermReading.{part, reading, clues}
+use Rattle.bk_raw.specs.Meaning.TermReading.{part, reading, clues, place_of}
 use Rattle.bk_elab_terms.specs.declared.sight.Visible.{Visible}
 use Rattle.bk_elab_terms.specs.declared.sight.Standing.{Standing}
 use Rattle.bk_elab_terms.specs.declared.sight.Standing.TheVariants.{Variable, Set, Element}
@@ -49,6 +50,22 @@ reading_by wanted s t = part wanted t (reading s.max (seen_names s.types.now s.n
 -- what a place asks, after the faults in a term
 abbrev pub asked_behind : {A : Type 0} → Reading → Asked A → Asked A
 asked_behind r a = record { answer = a.answer; faults = r.faults ++ a.faults }
+
+-- what is asked of a term, after the faults in it: a predicate
+abbrev pub predicate_asked : Sight → RawTree → Asked Formula
+predicate_asked s t = asked_behind (reading_by true s t) (ask_predicate (reading_by true s t).outcome)
+
+-- an expression of a type
+abbrev pub type_asked : Sight → RawTree → ValueType → Asked Formula
+type_asked s t u = asked_behind (reading_by false s t) (ask (place_of t) (reading_by false s t).outcome u)
+
+-- a value, of any type
+abbrev pub value_asked : Sight → RawTree → Asked (Formula × ValueType)
+value_asked s t = asked_behind (reading_by false s t) (ask_value (place_of t) (reading_by false s t).outcome)
+
+-- a domain, with the type that it ranges over
+abbrev pub domain_asked : Sight → RawTree → Asked (Formula × ValueType)
+domain_asked s t = asked_behind (reading_by false s t) (ask_domain (place_of t) (reading_by false s t).outcome)
 
 -- the types that the conjuncts of a predicate give to names
 abbrev pub types_by : Sight → List (Bor RawName) → RawTree → List (Option ValueType)

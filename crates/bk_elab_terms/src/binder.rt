@@ -18,7 +18,7 @@ ghost use Rattle.bk_elab_terms.specs.Sights.{with_last, AwaitsNone, AwaitsAt, gi
 ghost use Rattle.bk_elab_terms.specs.Sights.{range_as, IsRangeOf, TellsNoType, TellsType, TellsNoRange, TellsRange};
 
 use crate::blame::{Fault, earlier};
-use crate::made::{MOST_NODES, unary};
+use crate::made::{GREATEST_SIZE, unary};
 use crate::operator::connected;
 use crate::outcome::{Step, Told, no_type};
 use crate::part::{place_of, placed};
@@ -485,7 +485,7 @@ pub(crate) fn without_ranges<'a>(
 fn quantifier(alloc: Global, universal: bool, types: Vec<Ty>, body: Form) -> Result<Form, Memory>
     ensures { IfOk result (λ f. f ≡ quantifier universal types.items body) }
 {
-    if body.size() >= MOST_NODES {
+    if body.size() >= GREATEST_SIZE {
         return Err(Memory);
     }
     if universal {
@@ -765,7 +765,7 @@ fn tuple_with(alloc: Global, before: Option<Ty>, last: Ty) -> Result<Ty, Memory>
 fn comprehension(alloc: Global, ranges: Vec<Form>, body: Form) -> Result<Form, Memory>
     ensures { IfOk result (λ f. f ≡ comprehension (formulas_of ranges.items) body) }
 {
-    if total_size(&ranges).saturating_add(body.size()) >= MOST_NODES {
+    if total_size(&ranges).saturating_add(body.size()) >= GREATEST_SIZE {
         return Err(Memory);
     }
     Form::make(alloc, Part::Compr(ranges, body))
@@ -776,7 +776,7 @@ fn lambda(alloc: Global, ranges: Vec<Form>, body: Form, value: Form) -> Result<F
     ensures { IfOk result (λ f. f ≡ lambda (formulas_of ranges.items) body value) }
 {
     let inner = body.size().saturating_add(value.size());
-    if total_size(&ranges).saturating_add(inner) >= MOST_NODES {
+    if total_size(&ranges).saturating_add(inner) >= GREATEST_SIZE {
         return Err(Memory);
     }
     Form::make(alloc, Part::Lam(ranges, body, value))

@@ -8,14 +8,14 @@ use bk_form::{BinOp, Form, Part, UnOp};
 use bk_io::Memory;
 use std::alloc::Global;
 
-/// The most nodes of a formula that is made.
-pub(crate) const MOST_NODES: u64 = 4_294_967_295;
+/// The greatest size of a formula: 32 bits count its nodes.
+pub(crate) const GREATEST_SIZE: u64 = 4_294_967_295;
 
 /// The formula of an operator and its operand.
 pub(crate) fn unary(alloc: Global, op: UnOp, operand: Form) -> Result<Form, Memory>
     ensures { IfOk result (λ f. f ≡ unary op operand) }
 {
-    if operand.size() >= MOST_NODES {
+    if operand.size() >= GREATEST_SIZE {
         return Err(Memory);
     }
     Form::make(alloc, Part::Un(op, operand))
@@ -25,7 +25,7 @@ pub(crate) fn unary(alloc: Global, op: UnOp, operand: Form) -> Result<Form, Memo
 pub(crate) fn binary(alloc: Global, op: BinOp, left: Form, right: Form) -> Result<Form, Memory>
     ensures { IfOk result (λ f. f ≡ binary op left right) }
 {
-    if left.size() + right.size() >= MOST_NODES {
+    if left.size() + right.size() >= GREATEST_SIZE {
         return Err(Memory);
     }
     Form::make(alloc, Part::Bin(op, left, right))

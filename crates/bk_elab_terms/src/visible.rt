@@ -1,11 +1,9 @@
 //! Terms under names in scope, some of which may have no type yet.
 
-ghost use Rattle.std.specs.Prelude.{◌≡◌, true, false, map, IfOk};
-ghost use Rattle.bk_raw.specs.Meaning.Outcome.{ask, ask_value, ask_domain, ask_predicate};
-ghost use Rattle.bk_raw.specs.Meaning.TermReading.{place_of};
+ghost use Rattle.std.specs.Prelude.{◌≡◌, map, IfOk};
 ghost use Rattle.bk_elab_terms.specs.Shown.{IsAsked, IsRead};
 ghost use Rattle.bk_elab_terms.specs.Sights.{around_by, outer_around};
-ghost use Rattle.bk_elab_terms.specs.Visible.{reading_by, asked_behind, types_by};
+ghost use Rattle.bk_elab_terms.specs.Visible.{reading_by, types_by, predicate_asked, type_asked, value_asked, domain_asked};
 
 use crate::binder::push_referred;
 use crate::outcome::{Asked, Step};
@@ -30,8 +28,7 @@ pub struct Sight<'a> {
 impl Sight<'_> {
     /// A predicate, and the first of its faults.
     pub fn predicate(&self, term: &RawTerm) -> Result<Asked<Form>, Memory>
-        ensures { IfOk result (λ a. IsAsked a.answer a.fault (asked_behind
-            (reading_by true self.now term.now) (ask_predicate (reading_by true self.now term.now).outcome))) }
+        ensures { IfOk result (λ a. IsAsked a.answer a.fault (predicate_asked self.now term.now)) }
     {
         let read = self.part(true, term)?;
         Ok(read.outcome.ask_predicate().behind(read.fault))
@@ -39,8 +36,7 @@ impl Sight<'_> {
 
     /// An expression that takes this type, and the first of the faults.
     pub fn of_type(&self, term: &RawTerm, ty: &Ty) -> Result<Asked<Form>, Memory>
-        ensures { IfOk result (λ a. IsAsked a.answer a.fault (asked_behind (reading_by false self.now term.now)
-            (ask (place_of term.now) (reading_by false self.now term.now).outcome ty.now))) }
+        ensures { IfOk result (λ a. IsAsked a.answer a.fault (type_asked self.now term.now ty.now)) }
     {
         let read = self.part(false, term)?;
         let asked = read.outcome.ask(self.alloc, place_of(term), ty)?;
@@ -49,8 +45,7 @@ impl Sight<'_> {
 
     /// A value of any type, and the first of the faults.
     pub fn value(&self, term: &RawTerm) -> Result<Asked<(Form, Ty)>, Memory>
-        ensures { IfOk result (λ a. IsAsked a.answer a.fault (asked_behind (reading_by false self.now term.now)
-            (ask_value (place_of term.now) (reading_by false self.now term.now).outcome))) }
+        ensures { IfOk result (λ a. IsAsked a.answer a.fault (value_asked self.now term.now)) }
     {
         let read = self.part(false, term)?;
         Ok(read.outcome.ask_value(place_of(term)).behind(read.fault))
@@ -58,8 +53,7 @@ impl Sight<'_> {
 
     /// A domain, with the type that it ranges over, and the first of the faults.
     pub fn domain(&self, term: &RawTerm) -> Result<Asked<(Form, Ty)>, Memory>
-        ensures { IfOk result (λ a. IsAsked a.answer a.fault (asked_behind (reading_by false self.now term.now)
-            (ask_domain (place_of term.now) (reading_by false self.now term.now).outcome))) }
+        ensures { IfOk result (λ a. IsAsked a.answer a.fault (domain_asked self.now term.now)) }
     {
         let read = self.part(false, term)?;
         let asked = read.outcome.ask_domain(self.alloc, place_of(term))?;

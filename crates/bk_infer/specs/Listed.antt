@@ -9,7 +9,7 @@ use Rattle.bk_scope.specs.declared.plan.Plan.{Plan}
 use Rattle.bk_scope.specs.declared.way.Way.{Way}
 use Rattle.bk_scope.specs.Shown.{component_shown, way_shown, IsPlanOf}
 
--- what was listed before, with more ways behind it
+-- what was listed before, with more ways after it
 abbrev pub ListsMore : List Way → List WayMeant → List Way → Type 0
 ListsMore old more new = map way_shown new ≡ map way_shown old ++ more
 

@@ -10,6 +10,7 @@ ghost use Rattle.bk_infer.specs.Listed.{ListsMore};
 ghost use Rattle.bk_scope.specs.Shown.{branches_shown, refs, way_shown};
 ghost use Rattle.bk_statics.specs.Typings.{is_variable, numbered, numbered_old, target};
 ghost use Rattle.bk_statics.specs.Ways as meant;
+ghost use Rattle.bk_statics.specs.Ways.{assigned_ways};
 
 use crate::group::push_by;
 use bk_elab_terms::Visible;
@@ -228,7 +229,7 @@ pub fn push_assigned<'a>(
     found: &mut Vec<Way<'a>>,
 ) -> Result<(), Memory>
     ensures { OnOk result (ListsMore found.old.items
-        (meant.assigned_ways (visible_names place.now.names.value.items) place.now.first sub.now first names.now) found.new.items) }
+        (assigned_ways (visible_names place.now.names.value.items) place.now.first sub.now first names.now) found.new.items) }
 {
     for index in 0..names.len() {
         let variable = ahead(first, index)?;

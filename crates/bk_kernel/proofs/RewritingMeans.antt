@@ -385,7 +385,7 @@ module _ (table : Table) (well : IsWellFormed table) (find : Finder) (law : IsSe
       same-value find here a b k.0 k.1 k.2 (same_value (v_of a) (v_of b) h)
 
   law-means : (n : ℕ) (picks : List Formula) (i : Instance) → law_instance n picks ≡ Some i → role table [] i.left ≡ role table [] i.right → role table [] i.left ≢ untyped → Each (IsPredicate table) i.sides → AllHold find here i.sides → meaning find here i.left ≡ meaning find here i.right
-  law-means n picks i e one types sides_type sides = laws-are-true n picks i e find law here well typed (record { types = types; one_role = one }) (sides-hold i.sides sides_type sides)
+  law-means n picks i e one types sides_type sides = laws-are-true n picks i e find here setting (record { types = types; one_role = one }) (sides-hold i.sides sides_type sides)
 
   decided-here : (old : Formula) (c b : Bool) → cond c (decided old) (option_and_then (λ x. equal_constants x.0 x.1) (sides Eq old)) ≡ Some b → truth find here old ≡ b
   decided-here old true b h = decided-true find here old b h

@@ -82,7 +82,11 @@ pub(crate) fn by_elements(
 }
 
 // What the term may be, where it is of BOOL or of an enumerated set.
-fn elements_of_type(alloc: Global, types: &VarTable, form: &Form) -> Result<Option<Vec<Form>>, Memory>
+fn elements_of_type(
+    alloc: Global,
+    types: &VarTable,
+    form: &Form,
+) -> Result<Option<Vec<Form>>, Memory>
     ensures { IfOk result (λ o. list_in o ≡ elements_of_type types.now (role types.now [] form.now)) }
 {
     let none = Vec::new(alloc);

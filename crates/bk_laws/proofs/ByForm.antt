@@ -27,25 +27,24 @@ abbrev pub ByPairs : Instance → Type 0
 ByPairs i = (find : Finder) (e : Environment) → IsSetting find e → (t u : ValueType) → GivesIn e i.left (set_type (pair_type t u)) → GivesIn e i.right (set_type (pair_type t u)) → SidesHold find e i.sides → (x y : MathValue) → within find e (pair x y) i.left ≡ within find e (pair x y) i.right
 
 pub by_truth : (i : Instance) → is_predicate_form i.left ≡ true → ByTruth i → IsTrueLaw i
-by_truth i form h find search e well typed one sides = elim (form-one e.table (bound_types e) i.left form) [
-  | inl l ↦ let r = sym one.one_role ∙ l in same-truth find e i.left i.right l r (h find e (record { search = search; well = well; typed = typed }) l r sides)
+by_truth i form h find e setting one sides = elim (form-one e.table (bound_types e) i.left form) [
+  | inl l ↦ let r = sym one.one_role ∙ l in same-truth find e i.left i.right l r (h find e setting l r sides)
   | inr u ↦ absurd (one.types u)
 ]
 
 pub by_value : (i : Instance) → is_value_form i.left ≡ true → ByValue i → IsTrueLaw i
-by_value i form h find search e well typed one sides =
+by_value i form h find e setting one sides =
     let w = value-form e i.left form one.types in
     let r : GivesIn e i.right w.0 = sym one.one_role ∙ w.1 in
-    same-value find e i.left i.right w.0 w.1 r (h find e (record { search = search; well = well; typed = typed }) w.0 w.1 r sides)
+    same-value find e i.left i.right w.0 w.1 r (h find e setting w.0 w.1 r sides)
 
 pub by_members : (i : Instance) → is_set_form i.left ≡ true → ByMembers i → IsTrueLaw i
-by_members i form h find search e well typed one sides =
+by_members i form h find e setting one sides =
     let w = set-form e i.left form one.types in
     let r : GivesIn e i.right (set_type w.0) = sym one.one_role ∙ w.1 in
-    let setting : IsSetting find e = record { search = search; well = well; typed = typed } in
     let same = h find e setting w.0 w.1 r sides in
     same-value find e i.left i.right (set_type w.0) w.1 r
-    (same_members (set_size e.table) w.0 (value find e i.left) (value find e i.right) (sound_typing.typed find e well typed i.left (set_type w.0) w.1) (sound_typing.typed find e well typed i.right (set_type w.0) r)
+    (same_members (set_size e.table) w.0 (value find e i.left) (value find e i.right) (sound_typing.typed find e setting.well setting.typed i.left (set_type w.0) w.1) (sound_typing.typed find e setting.well setting.typed i.right (set_type w.0) r)
     (λ x o. sym (member find e i.left w.0 w.1 x) ∙ same x o ∙ member find e i.right w.0 r x))
 
 pub by_pairs : (i : Instance) → is_set_form i.left ≡ true → is_relation_form i.left ≡ true → ByPairs i → IsTrueLaw i

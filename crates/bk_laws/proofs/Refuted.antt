@@ -28,6 +28,10 @@ left-alone p q = record { sides = []; left = binary And p q; right = p }
 pub not-left-alone : (find : Finder) → IsSearch find → IsTrueLaw (left-alone btrue bfalse) → ⊥
 unfolding nowhere
 not-left-alone find search h =
-    let same = h find search nowhere (record { counted = λ k d l. absurd (omega arith); listed = λ k d l. absurd (omega arith) }) (record { variables = no-variable; bound_numbers = refl }) (record { types = not-untyped; one_role = refl }) tt in
+    let same = h find nowhere (record {
+      search = search;
+      well = record { counted = λ k d l. absurd (omega arith); listed = λ k d l. absurd (omega arith) };
+      typed = record { variables = no-variable; bound_numbers = refl };
+    }) (record { types = not-untyped; one_role = refl }) tt in
     let z : false ≡ true = ap (λ m. m.truth) same in
     cc

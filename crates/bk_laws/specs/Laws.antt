@@ -1,11 +1,11 @@
 -- That laws are true, as statements.
 use Rattle.std.specs.Prelude.{◌≡◌, ◌≢◌, ℕ, true, List, [], ◌∷◌, Some}
-use Rattle.bk_form.specs.Table.{IsWellFormed}
 use Rattle.bk_form.specs.Formula.{Formula, btrue, bfalse, binary}
 use Rattle.bk_form.specs.declared.operator.BinOp.TheVariants.{And}
 use Rattle.bk_form.specs.Role.{role, predicate, untyped}
 use Rattle.bk_form.specs.Search.{Finder, IsSearch}
-use Rattle.bk_form.specs.Environment.{Environment, bound_types, IsTyped}
+use Rattle.bk_form.specs.Environment.{Environment, bound_types}
+use Rattle.bk_form.specs.Settings.{IsSetting}
 use Rattle.bk_form.specs.Meaning.{meaning, truth}
 use Rattle.bk_laws.specs.Rows.{Row, Instance, built, instance_at}
 
@@ -19,9 +19,9 @@ abbrev pub SidesHold : Finder → Environment → List Formula → Type 0
 SidesHold find e [] = Unit {0}
 SidesHold find e (p ∷ ps) = (role e.table (bound_types e) p ≡ predicate) × (truth find e p ≡ true) × SidesHold find e ps
 
--- in a typed environment in which left and right have one role and the sides are true, left and right mean the same
+-- in a typed environment over a well-formed table, in which left and right have one role and the sides are true, both mean the same
 abbrev pub IsTrueLaw : Instance → Type 0
-IsTrueLaw i = (find : Finder) → IsSearch find → (e : Environment) → IsWellFormed e.table → IsTyped e →
+IsTrueLaw i = (find : Finder) (e : Environment) → IsSetting find e →
     HaveOneRole e i.left i.right → SidesHold find e i.sides → meaning find e i.left ≡ meaning find e i.right
 
 -- the row is true whatever is picked

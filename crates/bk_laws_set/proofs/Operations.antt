@@ -63,7 +63,7 @@ abbrev turned : Instance → Instance
 turned i = record { sides = i.sides; left = i.right; right = i.left }
 
 pub by_turn : (i : Instance) → IsTrueLaw (turned i) → IsTrueLaw i
-by_turn i h find search e well typed one sides = sym (h find search e well typed (record { types = λ k. one.types (one.one_role ∙ k); one_role = sym one.one_role }) sides)
+by_turn i h find e setting one sides = sym (h find e setting (record { types = λ k. one.types (one.one_role ∙ k); one_role = sym one.one_role }) sides)
 
 pub true-s19 : IsTrueRow s19
 true-s19 picks = by_members (built s19 picks) refl (λ find e c t l r s v o. in-union find e (picks 0) (empty_set (empty_type (picks 1))) t l v ∙ or-none (within find e v (picks 0)))

@@ -65,3 +65,7 @@ quotient_of p d = record {
 -- the constant and each coefficient is an i128
 abbrev pub is_narrow : Inequality → Bool
 is_narrow p = fits_i128 p.constant && list_all fits_i128 p.coefs
+
+-- the multiple is narrow, and what adding it gives
+abbrev pub takes_multiple : Inequality → ℤ → Inequality → Bool
+takes_multiple p m q = is_narrow (times m q) && is_narrow (plus p (times m q))

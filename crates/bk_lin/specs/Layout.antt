@@ -1,12 +1,13 @@
 -- How the work area holds the facts of the lines: one after another, each as its constant and then its coefficients.
-use Rattle.std.specs.Prelude.{◌≡◌, ℕ, ◌+◌, ◌*◌, ◌<◌, ℤ, List, [], ◌∷◌, ◌++◌, map, take, drop, length, All}
+use Rattle.std.specs.Prelude.{◌≡◌, ℕ, ◌+◌, ◌-◌, ◌*◌, ◌<◌, ℤ, List, [], ◌∷◌, ◌++◌, map, take, drop, length, All, Option}
 use Rattle.std.specs.List.{range_with_len}
 use Rattle.bk_lin.specs.declared.fact.Fact.{Fact}
+use Rattle.bk_lin.specs.declared.fact.Line.{Line}
 use Rattle.bk_lin.specs.declared.fact.CertFault.{CertFault}
 use Rattle.bk_lin.specs.declared.fact.CertFault.TheVariants.{BadLine, Negative, TooWide, NotClosed}
 use Rattle.bk_lin.specs.declared.standing.Standing.{Standing}
 use Rattle.bk_lin.specs.Inequality.{Inequality, zero_of}
-use Rattle.bk_lin.specs.Certificate.{inequalities}
+use Rattle.bk_lin.specs.Certificate.{inequalities, line_fault}
 
 -- a fact that the code reads
 abbrev pub shown : List ℤ → ℤ → Inequality
@@ -28,6 +29,10 @@ standing_of given size lines made = inequalities given ++ map (held_at size made
 -- the facts that stand before a line
 abbrev pub facts_of : Standing → List Inequality
 facts_of s = standing_of s.given.now s.size s.lines s.made.now
+
+-- what is wrong with the line that comes next
+abbrev pub next_fault : Standing → Line → Option CertFault
+next_fault s line = line_fault (s.size - 1) (s.lines + 1) (facts_of s) line
 
 -- each fact has a coefficient less than the numbers it takes, and the lines' facts fill their part of the work area
 pub record IsLaidOut (s : Standing) : Type 0 where

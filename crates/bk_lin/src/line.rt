@@ -4,9 +4,9 @@ ghost use Rattle.std.specs.Prelude.{◌≡◌, ◌-◌, ◌+◌, ◌^◌, ◌<�
 ghost use Rattle.std.specs.Int.{int_rem_euclid};
 ghost use Rattle.std.specs.List.{list_all};
 ghost use Rattle.std.specs.Ordering.{int_eq};
-ghost use Rattle.bk_lin.specs.Certificate.{line_fact, line_fault, sum_fact, sum_fault, quotient_fault, multiples_of, sums_fit, is_number, fact_at};
+ghost use Rattle.bk_lin.specs.Certificate.{line_fact, sum_fact, sum_fault, quotient_fault, multiples_of, sums_fit, is_number, fact_at};
 ghost use Rattle.bk_lin.specs.Inequality.{plus_all, zero_of, quotient_of};
-ghost use Rattle.bk_lin.specs.Layout.{shown, held_in, facts_of, IsLaidOut};
+ghost use Rattle.bk_lin.specs.Layout.{shown, held_in, facts_of, next_fault, IsLaidOut};
 
 use crate::fact::{CertFault, Line};
 use crate::multiple::add_multiple;
@@ -17,8 +17,8 @@ pub fn make_fact(standing: &Standing, line: &Line, target: &mut [i128]) -> Resul
     requires laid_out { IsLaidOut standing.now }
     requires countable { standing.now.lines + 1 < 2 ^ 64 }
     requires room { length target.old ≡ standing.now.size }
-    ensures fault { let fault = line_fault (standing.now.size - 1) (standing.now.lines + 1)
-        (facts_of standing.now) line.now in MatchResult result (λ _. fault ≡ None) (λ e. fault ≡ Some e) }
+    ensures fault { let fault = next_fault standing.now line.now in
+        MatchResult result (λ _. fault ≡ None) (λ e. fault ≡ Some e) }
     ensures made { OnOk result (held_in target.new ≡
         line_fact (standing.now.size - 1) (facts_of standing.now) line.now) }
 {

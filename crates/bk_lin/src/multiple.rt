@@ -2,7 +2,7 @@
 
 ghost use Rattle.std.specs.Prelude.{◌≡◌, ◌+◌, ◌↔◌, ◌*ℤ◌, ◌+ℤ◌, ◌&&◌, IsTrue, IsSome, OnSome, length};
 ghost use Rattle.std.specs.Option.{SomeIff};
-ghost use Rattle.bk_lin.specs.Inequality.{times, plus, is_narrow};
+ghost use Rattle.bk_lin.specs.Inequality.{times, plus, takes_multiple};
 ghost use Rattle.bk_val.specs.Value.{fits_i128};
 ghost use Rattle.bk_lin.specs.Layout.{held_in, shown};
 
@@ -11,8 +11,8 @@ use crate::standing::Row;
 /// Adds the multiple to the fact that `target` holds; none where a product or a sum is too wide, and then `target` is open.
 pub fn add_multiple(target: &mut [i128], multiplier: i128, row: Row) -> Option<()>
     requires { length target.old ≡ length row.coefs.now + 1 }
-    ensures narrow { let product = times multiplier (shown row.entry.coefs.now row.entry.constant) in
-        IsSome result ↔ IsTrue (is_narrow product && is_narrow (plus (held_in target.old) product)) }
+    ensures narrow { IsSome result ↔
+        IsTrue (takes_multiple (held_in target.old) multiplier (shown row.entry.coefs.now row.entry.constant)) }
     ensures added { OnSome result (held_in target.new ≡
         plus (held_in target.old) (times multiplier (shown row.entry.coefs.now row.entry.constant))) }
 {

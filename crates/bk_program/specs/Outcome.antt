@@ -27,50 +27,27 @@ abbrev pub devices : Option Files → Option (List ℕ) → (read_faults write_f
 devices files written read_faults write_faults absences =
     record { files = files; written = written; read_faults = read_faults; write_faults = write_faults; absences = absences }
 
--- what is said below of a shelf's files is said where they are told
--- a run that is executed is written, and its code follows the machine
-abbrev pub RunsFollow : List (List ℕ) → Option Files → (old new : Option (List ℕ)) → Status → Type 0
-RunsFollow words told old new status = (project calls : List ℕ) (fuel : ℕ) → Asks words (run_task project calls fuel) →
-    IsExecuted status → (files : Files) → told ≡ Some files → WritesRun files project calls fuel old new status
-
--- the legal calls of a run are done, where its status is an answer
-abbrev pub LegalCallsEnd : List (List ℕ) → Option Files → Status → Type 0
-LegalCallsEnd words told status = (project calls : List ℕ) (fuel : ℕ) → Asks words (run_task project calls fuel) →
-    IsAnswered status → (files : Files) → told ≡ Some files → IsDoneWhereLegal files project calls fuel status
-
--- what is ready is run, where the status is an answer
-abbrev pub ReadyIsRun : List (List ℕ) → Option Files → Status → Type 0
-ReadyIsRun words told status = (project calls : List ℕ) (fuel : ℕ) → Asks words (run_task project calls fuel) →
-    IsAnswered status → (files : Files) → told ≡ Some files → IsReady files project calls → IsExecuted status
-
--- the one answer is given, and its text written
-abbrev pub AnswerIsWritten : List (List ℕ) → Option Files → (old new : Option (List ℕ)) → Status → Type 0
-AnswerIsWritten words told old new status =
-    IsAnswered status → (files : Files) → told ≡ Some files → WritesAnswer files words old new status
-
--- what is cut short is a front of the answer's text
-abbrev pub FrontIsWritten : List (List ℕ) → Option Files → (old new : Option (List ℕ)) → Status → Type 0
-FrontIsWritten words told old new status = IsCutShort status → (files : Files) → told ≡ Some files →
-    (other : Status) (text : List ℕ) → IsAnswer files words other text → WroteFront text old new
-
--- words that ask for nothing are answered as such
-abbrev pub WrongWordsAreTold : List (List ℕ) → (old new : Option (List ℕ)) → Status → Type 0
-WrongWordsAreTold words old new status =
-    AskForNothing words → (status ≡ Usage) ⊎ (IsCutShort status × WroteFront (stop_text UsageStop) old new)
-
 -- what the program says of these words by its status, between these devices before and after it
 pub record Outcome (words : List (List ℕ)) (old new : Devices) (status : Status) : Type 0 where
-  pub run : RunsFollow words old.files old.written new.written status
-  pub legal : LegalCallsEnd words old.files status
-  pub ready : ReadyIsRun words old.files status
-  pub answer : AnswerIsWritten words old.files old.written new.written status
+  pub run : (project calls : List ℕ) (fuel : ℕ) → Asks words (run_task project calls fuel) →
+      IsExecuted status → (files : Files) → old.files ≡ Some files →
+      WritesRun files project calls fuel old.written new.written status
+  pub legal : (project calls : List ℕ) (fuel : ℕ) → Asks words (run_task project calls fuel) →
+      IsAnswered status → (files : Files) → old.files ≡ Some files →
+      IsDoneWhereLegal files project calls fuel status
+  pub ready : (project calls : List ℕ) (fuel : ℕ) → Asks words (run_task project calls fuel) →
+      IsAnswered status → (files : Files) → old.files ≡ Some files →
+      IsReady files project calls → IsExecuted status
+  pub answer : IsAnswered status → (files : Files) → old.files ≡ Some files → WritesAnswer files words old.written new.written status
   pub line : IsAnswered status → IsExecuted status ⊎ WritesLine status old.written new.written
-  pub cut_short : FrontIsWritten words old.files old.written new.written status
+  pub cut_short : IsCutShort status → (files : Files) → old.files ≡ Some files →
+      (other : Status) (text : List ℕ) → IsAnswer files words other text →
+      WroteFront text old.written new.written
   pub read_fault : status ≡ ReadFault → Rose old.read_faults new.read_faults × (new.written ≡ old.written)
   pub write_fault : status ≡ WriteFault → Rose old.write_faults new.write_faults
   pub missing : status ≡ Missing → Rose old.absences new.absences
   pub usage : status ≡ Usage → AskForNothing words × (new.written ≡ written_with old.written (stop_text UsageStop))
-  pub wrong_words : WrongWordsAreTold words old.written new.written status
+  pub wrong_words : AskForNothing words → (status ≡ Usage) ⊎ (IsCutShort status × WroteFront (stop_text UsageStop) old.written new.written)
 
 -- the exit code is that of such a status
 pub record HasOutcome (words : List (List ℕ)) (old new : Devices) (code : ℕ) : Type 0 where

@@ -10,12 +10,12 @@ ghost use Rattle.bk_io.specs.Pieces.{WroteFront, written_with};
 ghost use Rattle.bk_verbs.specs.declared.status.Status.{Status};
 ghost use Rattle.bk_verbs.specs.declared.stop.Stop.TheVariants.{Usage, ReadFault, WriteFault, Memory};
 ghost use Rattle.bk_verbs.specs.Codes.{code_of};
-ghost use Rattle.bk_cli.specs.Tasks.{Task, Asks, AskForNothing};
+ghost use Rattle.bk_cli.specs.Tasks.{Task, run_task, Asks, AskForNothing};
 ghost use Rattle.bk_verbs.specs.Causes.{IsOfPlaying, CountsAbsence};
-ghost use Rattle.bk_verbs.specs.Stops.{IsOutside, StopsAt, stop_text};
+ghost use Rattle.bk_verbs.specs.Stops.{IsOutside, StopsAt, IsCutShort, stop_text};
 ghost use Rattle.bk_verbs.specs.Work.{IsExecuted, WritesWork};
-ghost use Rattle.bk_program.specs.Answer.{IsAnswer, IsAnswered, WritesLine};
-ghost use Rattle.bk_program.specs.Outcome.{RunsFollow, LegalCallsEnd, ReadyIsRun, AnswerIsWritten, FrontIsWritten, WrongWordsAreTold};
+ghost use Rattle.bk_program.specs.Run.{IsReady, WritesRun, IsDoneWhereLegal};
+ghost use Rattle.bk_program.specs.Answer.{IsAnswer, IsAnswered, WritesAnswer, WritesLine};
 ghost use Rattle.bk_program.specs.Outcome.{devices, HasOutcome};
 
 use bk_cli::asked;
@@ -84,19 +84,29 @@ pub fn bkit<H: Shelf, K: Sink>(
     shelf: &mut H,
     out: &mut K,
 ) -> Status
-    ensures run { RunsFollow (map string_bytes words.now) (H.files shelf.old) (K.written out.old) (K.written out.new) result }
-    ensures legal { LegalCallsEnd (map string_bytes words.now) (H.files shelf.old) result }
-    ensures ready { ReadyIsRun (map string_bytes words.now) (H.files shelf.old) result }
-    ensures answer { AnswerIsWritten (map string_bytes words.now) (H.files shelf.old) (K.written out.old) (K.written out.new) result }
+    ensures run { (project calls : List ℕ) (fuel : ℕ) → Asks (map string_bytes words.now) (run_task project calls fuel) →
+        IsExecuted result → (files : Files) → H.files shelf.old ≡ Some files →
+        WritesRun files project calls fuel (K.written out.old) (K.written out.new) result }
+    ensures legal { (project calls : List ℕ) (fuel : ℕ) → Asks (map string_bytes words.now) (run_task project calls fuel) →
+        IsAnswered result → (files : Files) → H.files shelf.old ≡ Some files →
+        IsDoneWhereLegal files project calls fuel result }
+    ensures ready { (project calls : List ℕ) (fuel : ℕ) → Asks (map string_bytes words.now) (run_task project calls fuel) →
+        IsAnswered result → (files : Files) → H.files shelf.old ≡ Some files →
+        IsReady files project calls → IsExecuted result }
+    ensures answer { IsAnswered result → (files : Files) → H.files shelf.old ≡ Some files →
+        WritesAnswer files (map string_bytes words.now) (K.written out.old) (K.written out.new) result }
     ensures line { IsAnswered result → IsExecuted result ⊎ WritesLine result (K.written out.old) (K.written out.new) }
-    ensures cut_short { FrontIsWritten (map string_bytes words.now) (H.files shelf.old) (K.written out.old) (K.written out.new) result }
+    ensures cut_short { IsCutShort result → (files : Files) → H.files shelf.old ≡ Some files →
+        (status : Status) (text : List ℕ) → IsAnswer files (map string_bytes words.now) status text →
+        WroteFront text (K.written out.old) (K.written out.new) }
     ensures read_fault { result ≡ Status.ReadFault →
         Rose (H.faults shelf.old) (H.faults shelf.new) × (K.written out.new ≡ K.written out.old) }
     ensures write_fault { result ≡ Status.WriteFault → Rose (K.faults out.old) (K.faults out.new) }
     ensures missing { result ≡ Status.Missing → Rose (H.absences shelf.old) (H.absences shelf.new) }
     ensures usage { result ≡ Status.Usage → AskForNothing (map string_bytes words.now) ×
         (K.written out.new ≡ written_with (K.written out.old) (stop_text Usage)) }
-    ensures wrong_words { WrongWordsAreTold (map string_bytes words.now) (K.written out.old) (K.written out.new) result }
+    ensures wrong_words { AskForNothing (map string_bytes words.now) → (result ≡ Status.Usage) ⊎
+        (IsCutShort result × WroteFront (stop_text Usage) (K.written out.old) (K.written out.new)) }
 {
     match perform(alloc, words, shelf, out) {
         Ok(status) => status,

@@ -49,7 +49,7 @@ by-kind : (kind : ComponentKind) (above : Option Development) (written : RawComp
 by-kind Machine None written dev kind m e room = machine-accepted (machine_max (above_of None)) written dev kind e room
 by-kind Machine (Some above) written dev kind m e room = absurd m
 by-kind Refinement None written dev kind m e room = absurd m
-by-kind Refinement (Some above) written dev kind m e room = refinement-accepted (machine_max above) above written dev m.0 m.1 kind e room
+by-kind Refinement (Some above) written dev kind m e room = refinement-accepted (machine_max above) above written dev m kind e room
 by-kind Implementation None written dev kind m e room = absurd m
 by-kind Implementation (Some above) written dev kind m e room = implementation-accepted above written dev m.0 m.1 kind e room
 

@@ -197,7 +197,7 @@ lower-development int_max higher comp d going below none room values all-valued 
     other j h = grind (arith, nat_tests)
 
 pub refinement-accepted : AcceptedRefinementIsDevelopment
-refinement-accepted int_max higher written dev d going kind e room =
+refinement-accepted int_max higher written dev may kind e room =
     let comp = component_of written in
     let right = answer-right.right int_max higher comp dev e in
     let new = made int_max higher comp (plan higher comp) in
@@ -207,4 +207,4 @@ refinement-accepted int_max higher written dev d going kind e room =
     let implements : is_implementing comp.kind ≡ false = ap (λ k. is_implementing (kind_as k)) kind in
     let value-none : new.values ≡ [] = ap (values_made int_max typing (plan higher comp).globals) no-values in
     let none = none-left (static_faults int_max higher comp) (executable_faults int_max higher comp) right.1 in
-    subst IsDevelopment (sym right.2) (lower-development int_max higher comp d going below none (subst HasRoom right.2 room) (subst (Each (IsValue new)) (sym value-none) tt) (subst (HasItsValues new) (sym implements) value-none))
+    subst IsDevelopment (sym right.2) (lower-development int_max higher comp may.0 may.1 below none (subst HasRoom right.2 room) (subst (Each (IsValue new)) (sym value-none) tt) (subst (HasItsValues new) (sym implements) value-none))

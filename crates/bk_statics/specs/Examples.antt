@@ -1,5 +1,6 @@
 -- What small components are answered, by computation.
-use Rattle.std.specs.Prelude.{◌≡◌, ℕ, pos, [], ◌∷◌, None, Some, replicate}
+use Rattle.std.specs.Prelude.{◌≡◌, ℕ, suc, pos, [], ◌∷◌, None, Some, replicate}
+use Rattle.bk_limits.specs.declared.TheConstants.{MOST_NAMES}
 use Rattle.bk_form.specs.Formula.{variable, literal, element, named, binary, unary}
 use Rattle.bk_form.specs.declared.operator.UnOp.TheVariants.{Not as Negation}
 use Rattle.bk_form.specs.declared.operator.BinOp.TheVariants.{And as Conjunction, Eq, In}
@@ -196,6 +197,6 @@ pub record FaultsAreTold : Type 0 where
   pub fill : lower_verdict (array_code (filled_at 46 9)) ≡ accepted (below first_level (array_code (filled_at 46 9)))
   pub other_fill : lower_verdict (array_code (filled_at 46 8)) ≡ at_fault (not_b0 46)
   -- ---- limit 5
-  -- 2000 names and one more
+  -- MOST_NAMES names and one more
   pub many : machine_verdict
-      (component AsMachine (77 ∷ []) None (clause Constants 10 (clause_names (replicate 2001 (name_at 20 c_text))) ∷ [])) ≡ past_limit 5
+      (component AsMachine (77 ∷ []) None (clause Constants 10 (clause_names (replicate (suc MOST_NAMES) (name_at 20 c_text))) ∷ [])) ≡ past_limit 5

@@ -67,7 +67,7 @@ AcceptedMachineIsDevelopment = (int_max : ℤ) (written : RawComponent) (dev : D
 -- a development with a refinement that is accepted below it is one
 abbrev pub AcceptedRefinementIsDevelopment : Type 0
 AcceptedRefinementIsDevelopment = (int_max : ℤ) (above : Development) (written : RawComponent) (dev : Development) →
-    IsDevelopment above → is_complete above ≡ false → written.kind ≡ Refinement →
+    MayStandAbove Refinement (Some above) → written.kind ≡ Refinement →
     verdict_of int_max (Some above) written ≡ accepted dev → HasRoom dev → IsDevelopment dev
 
 -- what is accepted is a development

@@ -1,5 +1,5 @@
 -- The faults that a term's form alone tells, whatever types its names have: a name that stands twice in one binder, a name that is not in
--- sight, a term of the wrong kind, and a `<<:` within a side of another one. Which they are is this project's own.
+-- scope, a term of the wrong kind, and a `<<:` within a side of another one. Which they are is this project's own.
 use Rattle.std.specs.Prelude.{◌≡◌, ℕ, ℤ, Bool, true, false, cond, ◌||◌, nat_eq, List, [], ◌∷◌, ◌++◌}
 use Rattle.bk_raw.specs.declared.fault.FaultKind.{FaultKind}
 use Rattle.bk_raw.specs.declared.fault.FaultKind.TheVariants.{NoType}
