@@ -1,5 +1,6 @@
 -- Formulas with variables bound are as large as they were.
 use Rattle.std.proofs.Common.{◌≡◌, ℕ, zero, suc, ◌+◌, ◌≤◌, ◌<◌, ◌^◌, List, [], ◌∷◌, length, get_or, map, max, true, false, cond, nat_eq, refl, ap, ◌∙◌, arith}
+use Rattle.bk_limits.specs.declared.TheConstants.{GREATEST_HEIGHT, MOST_NODES}
 use Rattle.bk_form.specs.Formula.{Formula, variable, bound, unary, binary, for_all, for_some, comprehension, lambda, Formulas, no_formulas, formula_and, formula_size, formula_height, formulas_size, formulas_height, formulas_of}
 use Rattle.bk_form.specs.Replacement.{count}
 use Rattle.bk_form.proofs.Sizes.{size_pos, size_at}
@@ -46,7 +47,7 @@ height_closed_each [] f = refl
 height_closed_each (z ∷ zs) f = height_closed z (length zs) (closed_over_each zs f) ∙ height_closed_each zs f
 
 -- ---- limits
-pub within_closed : (zs : List ℕ) (f : Formula) → formula_size f ≤ 200000 → formula_height f ≤ 2000 → IsWithinLimits (closed_over_each zs f)
+pub within_closed : (zs : List ℕ) (f : Formula) → formula_size f ≤ MOST_NODES → formula_height f ≤ GREATEST_HEIGHT → IsWithinLimits (closed_over_each zs f)
 within_closed zs f h g = record { nodes = omega (arith, h, size_closed_each zs f); height = omega (arith, g, height_closed_each zs f) }
 
 pub limits_of_closed : (zs : List ℕ) (f : Formula) → IsWithinLimits (closed_over_each zs f) → IsWithinLimits f

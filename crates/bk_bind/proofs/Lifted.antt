@@ -1,6 +1,7 @@
 -- Formulas under more binders are as large as they were.
 use Rattle.std.proofs.Common.{◌≡◌, ℕ, zero, suc, ◌+◌, ◌≤◌, ◌<◌, ◌^◌, List, [], ◌∷◌, length, get_or, map, max, true, false, cond, nat_lt, refl, ap, arith}
 use Rattle.std.proofs.lemmas.Bool.Decides.{nat_tests}
+use Rattle.bk_limits.specs.declared.TheConstants.{GREATEST_HEIGHT, MOST_NODES}
 use Rattle.bk_form.specs.Formula.{Formula, bound, unary, binary, for_all, for_some, comprehension, lambda, Formulas, no_formulas, formula_and, formula_size, formula_height, formulas_size, formulas_height, formulas_of}
 use Rattle.bk_form.specs.Replacement.{count}
 use Rattle.bk_form.proofs.Sizes.{size_pos, size_at}
@@ -62,7 +63,7 @@ mutual
   heights_lifted n k no_formulas = refl
   heights_lifted n k (formula_and f fs) = λ i. max (height_lifted n k f i) (heights_lifted n k fs i)
 
-pub small_lifted : (n k : ℕ) (f : Formula) → formula_size f ≤ 200000 → formula_size (lifted n k f) < 2 ^ 32
+pub small_lifted : (n k : ℕ) (f : Formula) → formula_size f ≤ MOST_NODES → formula_size (lifted n k f) < 2 ^ 32
 small_lifted n k f h = omega (arith, h, size_lifted n k f)
 
 pub few_lifted : (n k : ℕ) (f : Formula) → formula_size f < 2 ^ 32 → formula_size (lifted n k f) < 2 ^ 32
@@ -70,7 +71,7 @@ few_lifted n k f h = omega (arith, h, size_lifted n k f)
 
 pub ruleset raised = (few_lifted)
 
-pub within_lifted : (n k : ℕ) (f : Formula) → formula_size f ≤ 200000 → formula_height f ≤ 2000 → IsWithinLimits (lifted n k f)
+pub within_lifted : (n k : ℕ) (f : Formula) → formula_size f ≤ MOST_NODES → formula_height f ≤ GREATEST_HEIGHT → IsWithinLimits (lifted n k f)
 within_lifted n k f h g = record { nodes = omega (arith, h, size_lifted n k f); height = omega (arith, g, height_lifted n k f) }
 
 pub limits_of_lifted : (n k : ℕ) (f : Formula) → IsWithinLimits (lifted n k f) → IsWithinLimits f

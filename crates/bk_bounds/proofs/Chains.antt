@@ -4,6 +4,7 @@ use Rattle.std.specs.Prelude.{Option, None, Some}
 use Rattle.std.specs.List.{AllZip}
 use Rattle.std.proofs.lemmas.Bool.{false≢true}
 use Rattle.std.proofs.lemmas.List.Elements.{All-nil, All-cons, All-head, All-tail}
+use Rattle.bk_limits.specs.declared.TheConstants.{MOST_COMPONENTS, MOST_TOKENS}
 use Rattle.bk_dev.specs.Development.{Level, Development, int_max}
 use Rattle.bk_raw.specs.declared.component.ComponentKind.{ComponentKind}
 use Rattle.bk_raw.specs.declared.component.ComponentKind.TheVariants.{Machine as AsMachine, Refinement as AsRefinement, Implementation as AsImplementation}
@@ -23,7 +24,7 @@ use Rattle.bk_bounds.proofs.Levels.{Grown, none-grown, level-grows}
 
 -- what the component's substitutions bind is few
 abbrev pub BindsFew : RawComponent → Type 0
-BindsFew c = bound_in (component_of c) ≤ 1000000
+BindsFew c = bound_in (component_of c) ≤ MOST_TOKENS
 
 no-machine : {A : Type 0} (k : LineKind) (kind : ComponentKind) → is_lower k ≡ true → is_for k kind ≡ true → is_machine (kind_as kind) ≡ true → A
 no-machine Machine kind l f m = absurd (false≢true l)
@@ -41,7 +42,7 @@ first-alone None k kind g f m = refl
 first-alone (Some j) k kind g f m = no-machine k kind (lower (Some j) k refl g).1 f m
 
 all-grow : (ks : List LineKind) (cs : List RawComponent) (n : ℕ) (last : Option LineKind) (above : Option Development) (prev : Option RawComponent) (all : Development) → all_go_on last ks ≡ true → All IsChained (links prev ks cs) → length ks ≡ length cs
-    → (last ≡ None → above ≡ None) → All BindsFew cs → n + length cs ≤ 200 → AreLevels above cs (Some all) → Grown n (above_of above) → Grown (n + length cs) all
+    → (last ≡ None → above ≡ None) → All BindsFew cs → n + length cs ≤ MOST_COMPONENTS → AreLevels above cs (Some all) → Grown n (above_of above) → Grown (n + length cs) all
 all-grow ks [] n last above prev all g r e first few low l grown = let same : n ≡ n + 0 = omega arith in subst (λ k. Grown k all) same (subst (λ (o : Option Development). Grown n (above_of o)) l grown)
 all-grow [] (c ∷ cs) n last above prev all g r e first few low l grown = absurd (omega (arith, e))
 all-grow (k ∷ ks) (c ∷ cs) n last above prev all g r e first few low l grown =
@@ -55,7 +56,7 @@ all-grow (k ∷ ks) (c ∷ cs) n last above prev all g r e first few low l grown
     (all-grow ks cs (suc n) (Some k) (Some dev) (Some c) all (and_back (goes_on last k) (all_go_on (Some k) ks) g) (All-tail IsChained link (links (Some c) ks cs) r) (omega (arith, e)) (λ s. absurd (cc)) (All-tail BindsFew c cs few) (omega (arith, low)) l.2 now)
 
 -- what component files are read as is so large, where each component binds little
-pub read-grown : (kinds : List LineKind) (texts : List (List ℕ)) (dev : Development) → IsChain kinds → length kinds ≤ 200 → (h : Reads kinds texts dev) → All BindsFew h.components → Grown (length h.components) dev
+pub read-grown : (kinds : List LineKind) (texts : List (List ℕ)) (dev : Development) → IsChain kinds → length kinds ≤ MOST_COMPONENTS → (h : Reads kinds texts dev) → All BindsFew h.components → Grown (length h.components) dev
 read-grown kinds texts dev chain low h few =
     let count = counted_components kinds texts h.components h.chained in
     let grown = all-grow kinds h.components 0 None None None dev (right_goes_on kinds (inr chain)) h.chained.right count (λ e. refl) few (omega arith) h.levels none-grown in
@@ -72,7 +73,7 @@ each-few (t ∷ ts) (c ∷ cs) z =
     All-cons BindsFew c cs (omega arith) (each-few ts cs z.1)
 
 -- what component files are read as has so many sets and variables at most, and at each level an operation for each header at most
-pub read-bounded : (kinds : List LineKind) (texts : List (List ℕ)) (dev : Development) → IsChain kinds → length kinds ≤ 200 → Reads kinds texts dev → (length dev.table.sets ≤ 400000) × (length dev.table.variables ≤ 280800000) × All (λ (l : Level). length l.bodies ≤ length dev.heads) dev.levels
+pub read-bounded : (kinds : List LineKind) (texts : List (List ℕ)) (dev : Development) → IsChain kinds → length kinds ≤ MOST_COMPONENTS → Reads kinds texts dev → (length dev.table.sets ≤ 400000) × (length dev.table.variables ≤ 280800000) × All (λ (l : Level). length l.bodies ≤ length dev.heads) dev.levels
 read-bounded kinds texts dev chain low h =
     let count = counted_components kinds texts h.components h.chained in
     let grown = read-grown kinds texts dev chain low h (each-few texts h.components h.chained.each) in

@@ -2,6 +2,7 @@
 use Rattle.std.proofs.Common.{◌≡◌, ◌≤◌, ◌<◌, ℕ, zero, suc, ◌+◌, List, [], ◌∷◌, ◌++◌, map, length, length-append, refl, sym, ◌∙◌, ap, subst, Bool, true, false, cond, All, arith}
 use Rattle.std.specs.Prelude.{slice_get, slice_index_or}
 use Rattle.std.specs.List.{flat_map, filter_map}
+use Rattle.bk_limits.specs.declared.TheConstants.{MOST_NODES_TOGETHER}
 use Rattle.bk_form.specs.Table.{Table}
 use Rattle.bk_form.specs.Formula.{Formula, binary, unary, formula_size}
 use Rattle.bk_form.specs.Predicates.{equation}
@@ -227,7 +228,7 @@ copies-counted dev few =
     omega (arith, levels-total dev.levels, each, all)
 
 -- with all copies there are at most 20000000 variables more, where the obligations pass no limit
-pub variables-bounded : (dev : Development) → All (λ (l : Level). length l.bodies ≤ length dev.heads) dev.levels → PassNoLimit (obligations dev) → length (flattened dev).table.variables ≤ length dev.table.variables + 20000000
+pub variables-bounded : (dev : Development) → All (λ (l : Level). length l.bodies ≤ length dev.heads) dev.levels → PassNoLimit (obligations dev) → length (flattened dev).table.variables ≤ length dev.table.variables + MOST_NODES_TOGETHER
 variables-bounded dev few pass =
     let more = filter_map (slice_get dev.table.variables) (copied_in_levels dev.levels) in
     omega (arith, length-append dev.table.variables more, fewer (slice_get dev.table.variables) (copied_in_levels dev.levels), copies-counted dev few, pass.nodes)

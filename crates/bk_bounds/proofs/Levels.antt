@@ -3,6 +3,7 @@ use Rattle.std.proofs.Common.{◌≡◌, ℕ, suc, ◌+◌, ◌*◌, ◌<◌, �
 use Rattle.std.specs.Prelude.{Option, None, ℤ, nat_lt}
 use Rattle.std.proofs.lemmas.Bool.Decides.{nat_tests}
 use Rattle.std.proofs.lemmas.List.Elements.{All-nil, All-cons, All-append}
+use Rattle.bk_limits.specs.declared.TheConstants.{MOST_COMPONENTS, MOST_NAMES, MOST_TOKENS}
 use Rattle.bk_form.specs.Table.{Table}
 use Rattle.bk_dev.specs.Development.{Level, Development, level_at, last, blank_level}
 use Rattle.bk_dev.specs.Facts.{home_of}
@@ -36,9 +37,9 @@ use Rattle.bk_bounds.proofs.Operations.{AreNamedApart, Fit, fits}
 
 -- n components, one below the other, with what they bind being few, come to a development no larger than this
 pub record Grown (n : ℕ) (dev : Development) : Type 0 where
-  pub sets : length dev.table.sets ≤ 2000 * n
+  pub sets : length dev.table.sets ≤ MOST_NAMES * n
   pub variables : length dev.table.variables ≤ 1404000 * n
-  pub last : length (upper_of dev) ≤ 2000 * n
+  pub last : length (upper_of dev) ≤ MOST_NAMES * n
   pub heads : AreNamedApart dev.heads
   pub bodies : All (λ (l : Level). length l.bodies ≤ length dev.heads) dev.levels
 
@@ -80,10 +81,10 @@ not-past : (m n : ℕ) → nat_lt m n ≡ false → n ≤ m
 not-past m n h = grind (arith, nat_tests)
 
 -- a component within the limit declares few names, inputs among them
-names-few : (comp : Component) → declares_too_many comp ≡ false → length comp.declared + input_count comp.operations ≤ 2000
-names-few comp h = sums (length comp.declared) (if_there term_names comp.properties) (if_there term_names comp.invariant) (sum_of term_names comp.assertions) (if_there sub_names comp.init) (sum_of operation_count comp.operations) (input_count comp.operations) (not-past 2000 (declared_count comp) h) (inputs-declared comp.operations)
+names-few : (comp : Component) → declares_too_many comp ≡ false → length comp.declared + input_count comp.operations ≤ MOST_NAMES
+names-few comp h = sums (length comp.declared) (if_there term_names comp.properties) (if_there term_names comp.invariant) (sum_of term_names comp.assertions) (if_there sub_names comp.init) (sum_of operation_count comp.operations) (input_count comp.operations) (not-past MOST_NAMES (declared_count comp) h) (inputs-declared comp.operations)
   where
-    sums : (d p i a s o k : ℕ) → d + (p + (i + (a + (s + o)))) ≤ 2000 → k ≤ o → d + k ≤ 2000
+    sums : (d p i a s o k : ℕ) → d + (p + (i + (a + (s + o)))) ≤ MOST_NAMES → k ≤ o → d + k ≤ MOST_NAMES
     sums d p i a s o k h l = omega arith
 
 -- ---- the level's variables
@@ -180,10 +181,10 @@ new-fits int_max higher comp first none apart above =
     fits (is_machine comp.kind) p.inputs_at (far_of higher comp) higher comp first apart above (once higher comp names-none) (headers-none higher comp operations-none)
 
 -- at most so many entries more
-entries-few : (n v m x d i k o b c u w s y a : ℕ) → n < 200 → m ≡ v + k → k ≡ x + (d + (i + (o + (c + b)))) → v ≤ 1404000 * n → u ≤ 2000 * n → d ≤ u + w → s + (x + w) ≤ y → y + i ≤ 2000 → o + b ≤ a → c + a ≤ 1000000 → m ≤ 1404000 * suc n
+entries-few : (n v m x d i k o b c u w s y a : ℕ) → n < MOST_COMPONENTS → m ≡ v + k → k ≡ x + (d + (i + (o + (c + b)))) → v ≤ 1404000 * n → u ≤ MOST_NAMES * n → d ≤ u + w → s + (x + w) ≤ y → y + i ≤ MOST_NAMES → o + b ≤ a → c + a ≤ MOST_TOKENS → m ≤ 1404000 * suc n
 entries-few n v m x d i k o b c u w s y a h0 h1 h2 h3 h4 h5 h6 h7 h8 h9 = omega arith
 
-grows : (n : ℕ) (int_max : ℤ) (higher : Development) (comp : Component) → n < 200 → (is_machine comp.kind ≡ true → higher.levels ≡ []) → declares_too_many comp ≡ false → length comp.sets + (length comp.constants + length comp.variables) ≤ length comp.declared → bound_in comp ≤ 1000000 → static_faults int_max higher comp ≡ [] → Grown n higher
+grows : (n : ℕ) (int_max : ℤ) (higher : Development) (comp : Component) → n < MOST_COMPONENTS → (is_machine comp.kind ≡ true → higher.levels ≡ []) → declares_too_many comp ≡ false → length comp.sets + (length comp.constants + length comp.variables) ≤ length comp.declared → bound_in comp ≤ MOST_TOKENS → static_faults int_max higher comp ≡ [] → Grown n higher
     → Grown (suc n) (made int_max higher comp (plan higher comp))
 grows n int_max higher comp low first few declared bound none g =
     let p = plan higher comp in
@@ -213,7 +214,7 @@ grows n int_max higher comp low first few declared bound none g =
     }
 
 -- with each component that is accepted, of which the machine stands below none
-pub level-grows : (n : ℕ) (int_max : ℤ) (above : Option Development) (written : RawComponent) (dev : Development) → n < 200 → (is_machine (component_of written).kind ≡ true → above ≡ None) → verdict_of int_max above written ≡ accepted dev → bound_in (component_of written) ≤ 1000000 → Grown n (above_of above) → Grown (suc n) dev
+pub level-grows : (n : ℕ) (int_max : ℤ) (above : Option Development) (written : RawComponent) (dev : Development) → n < MOST_COMPONENTS → (is_machine (component_of written).kind ≡ true → above ≡ None) → verdict_of int_max above written ≡ accepted dev → bound_in (component_of written) ≤ MOST_TOKENS → Grown n (above_of above) → Grown (suc n) dev
 level-grows n int_max above written dev low first e bound g =
     let comp = component_of written in
     let higher = above_of above in

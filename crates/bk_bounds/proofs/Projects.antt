@@ -2,6 +2,7 @@
 use Rattle.std.proofs.Common.{ℕ, ◌^◌, ◌<◌, ◌≤◌, List, length, arith}
 use Rattle.std.proofs.lemmas.List.{length-map}
 use Rattle.std.proofs.lemmas.List.Elements.{All-weaker}
+use Rattle.bk_limits.specs.declared.TheConstants.{MOST_COMPONENTS, MOST_TOKENS}
 use Rattle.bk_dev.specs.Development.{Development}
 use Rattle.bk_dev.specs.Flattened.{flattened}
 use Rattle.bk_p_proof.specs.TypedNames.{script_names}
@@ -18,10 +19,10 @@ use Rattle.bk_bounds.proofs.Copies.{variables-bounded}
 use Rattle.bk_bounds.proofs.Scripts.{scripts-bounded, widened-count}
 
 -- a project file names few component files
-pub few_kinds : (named : List ProjectLine) → AreLines named → length (kinds_of named) ≤ 200
+pub few_kinds : (named : List ProjectLine) → AreLines named → length (kinds_of named) ≤ MOST_COMPONENTS
 few_kinds named are = omega (arith, are.few, length-map (component_lines named) (λ l. l.kind))
 
-module _ (kinds : List LineKind) (texts : List (List ℕ)) (dev : Development) (chain : IsChain kinds) (few : length kinds ≤ 200) (h : Reads kinds texts dev) where
+module _ (kinds : List LineKind) (texts : List (List ℕ)) (dev : Development) (chain : IsChain kinds) (few : length kinds ≤ MOST_COMPONENTS) (h : Reads kinds texts dev) where
   few_sets : length dev.table.sets ≤ 400000
   few_sets = (read-bounded kinds texts dev chain few h).0
 
@@ -39,7 +40,7 @@ read_have_room kinds texts dev r =
 
 pub read_scripts_have_room : ReadScriptsHaveRoom
 read_scripts_have_room kinds texts dev r proof_texts scripts are =
-    All-weaker (λ s. length (script_names s) ≤ 1000000) (HasRoomFor dev) (λ s names.
+    All-weaker (λ s. length (script_names s) ≤ MOST_TOKENS) (HasRoomFor dev) (λ s names.
     let room : length (widened (flattened dev).table (flattened dev) s).variables < 2 ^ 32 =
     omega (arith, names, widened-count (flattened dev).table (flattened dev) s, few_variables kinds texts dev r.chain r.few r.reads r.within) in
     room)

@@ -3,6 +3,7 @@ use Rattle.std.proofs.Common.{ℕ, ◌+◌, ◌≤◌, Bool, true, false, not, c
 use Rattle.std.specs.List.{AllZip, list_any}
 use Rattle.std.specs.Str.{bytes_eq}
 use Rattle.std.proofs.lemmas.List.Elements.{All-nil, All-append}
+use Rattle.bk_limits.specs.declared.TheConstants.{MOST_TOKENS}
 use Rattle.bk_val.specs.ValueType.{ValueType}
 use Rattle.bk_form.specs.Table.{Table}
 use Rattle.bk_raw.specs.declared.script.RawTyped.{RawTyped}
@@ -16,17 +17,17 @@ use Rattle.bk_bounds.proofs.Written.{names-few}
 
 -- ---- files
 -- a file has at most 1,000,000 tokens, and so its scripts bring at most so many names
-file-bounded : (text : List ℕ) (scripts : List RawScript) → IsProofFile text scripts → All (λ s. length (script_names s) ≤ 1000000) scripts
-file-bounded text scripts f = let w = f.low.written in names-few 1000000 scripts w.tokens w.shallow.cut.few w.spelled
+file-bounded : (text : List ℕ) (scripts : List RawScript) → IsProofFile text scripts → All (λ s. length (script_names s) ≤ MOST_TOKENS) scripts
+file-bounded text scripts f = let w = f.low.written in names-few MOST_TOKENS scripts w.tokens w.shallow.cut.few w.spelled
 
-files-bounded : (texts : List (List ℕ)) (files : List (List RawScript)) → AllZip IsProofFile texts files → All (λ s. length (script_names s) ≤ 1000000) (flat_map (λ f. f) files)
-files-bounded [] [] h = All-nil (λ s. length (script_names s) ≤ 1000000)
+files-bounded : (texts : List (List ℕ)) (files : List (List RawScript)) → AllZip IsProofFile texts files → All (λ s. length (script_names s) ≤ MOST_TOKENS) (flat_map (λ f. f) files)
+files-bounded [] [] h = All-nil (λ s. length (script_names s) ≤ MOST_TOKENS)
 files-bounded [] (f ∷ fs) h = absurd h
 files-bounded (t ∷ ts) [] h = absurd h
-files-bounded (t ∷ ts) (f ∷ fs) h = All-append (λ s. length (script_names s) ≤ 1000000) f (flat_map (λ f. f) fs) (file-bounded t f h.0) (files-bounded ts fs h.1)
+files-bounded (t ∷ ts) (f ∷ fs) h = All-append (λ s. length (script_names s) ≤ MOST_TOKENS) f (flat_map (λ f. f) fs) (file-bounded t f h.0) (files-bounded ts fs h.1)
 
-pub scripts-bounded : (texts : List (List ℕ)) (scripts : List RawScript) → AreScriptsOf texts scripts → All (λ s. length (script_names s) ≤ 1000000) scripts
-scripts-bounded texts scripts h = subst (All (λ s. length (script_names s) ≤ 1000000)) (sym h.joined) (files-bounded texts h.files h.each)
+pub scripts-bounded : (texts : List (List ℕ)) (scripts : List RawScript) → AreScriptsOf texts scripts → All (λ s. length (script_names s) ≤ MOST_TOKENS) scripts
+scripts-bounded texts scripts h = subst (All (λ s. length (script_names s) ≤ MOST_TOKENS)) (sym h.joined) (files-bounded texts h.files h.each)
 
 -- ---- tables
 -- of the names with one text the first is kept

@@ -6,6 +6,7 @@ use Rattle.std.specs.Option.{option_map}
 use Rattle.std.proofs.lemmas.List.{append-nil, take_more, length-map, map-append, length-take, length-append, get_or-append_right}
 use Rattle.std.proofs.Math.ListN.{get_or-map}
 use Rattle.std.proofs.lemmas.List.Elements.{All-get_or}
+use Rattle.bk_limits.specs.declared.TheConstants.{GREATEST_MAXINT}
 use Rattle.bk_val.specs.ValueType.{ValueType}
 use Rattle.bk_form.specs.Table.{Table, SetEntry, VariableEntry, IsCounted, with_set, with_variable, variable_type, lists_type, is_among_sets, empty_table}
 use Rattle.bk_dev.specs.declared.kind.Home.{Home}
@@ -329,5 +330,5 @@ room-made Implementation (Some dev) a may room = room
 
 -- each MAXINT fits 64 bits
 pub range-fits : (max : ℤ) → IsRange max → FitsSigned w64 max
-range-fits (pos n) h = let most : pos n ≤ℤ pos 4611686018427387903 = h.greatest in let low : n < 2 ^ 62 = omega (arith, ints, most) in fits_signed_from_abs w64 (pos n) (omega (arith, low))
+range-fits (pos n) h = let most : pos n ≤ℤ pos GREATEST_MAXINT = h.greatest in let low : n < 2 ^ 62 = omega (arith, ints, most) in fits_signed_from_abs w64 (pos n) (omega (arith, low))
 range-fits (negsuc n) h = let least : pos 1 ≤ℤ negsuc n = h.least in absurd (omega (arith, ints, least))

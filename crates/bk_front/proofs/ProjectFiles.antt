@@ -7,6 +7,7 @@ use Rattle.std.proofs.lemmas.Slice.Zip.{all_zipped_more}
 use Rattle.std.specs.List.{AllZip}
 use Rattle.std.specs.Str.{IsUtf8}
 use Rattle.std.specs.Str.Lines.{lines}
+use Rattle.bk_limits.specs.declared.TheConstants.{MOST_COMPONENTS}
 use Rattle.bk_lines.specs.Lines.{is_skipped, kept_lines}
 use Rattle.bk_front.specs.declared.project_file.ProjectLine.{ProjectLine}
 use Rattle.bk_front.specs.declared.project_file.LineKind.{LineKind}
@@ -276,7 +277,7 @@ chain_of : (text rest : List ℕ) (number : ℕ) (named : List ProjectLine) (las
 chain_of text rest number named None h some = absurd (false≢true (sym some))
 chain_of text rest number named (Some k) h some = is_chain (kinds_of named) h.right (ap is_some (sym h.last_is))
 
-pub too_many : (text rest : List ℕ) (number : ℕ) (named : List ProjectLine) (last : Option LineKind) → ReadSoFar text rest number named last → lines rest ≡ [] → is_none last ≡ false → 200 < length (component_lines named) → NamesTooMany text
+pub too_many : (text rest : List ℕ) (number : ℕ) (named : List ProjectLine) (last : Option LineKind) → ReadSoFar text rest number named last → lines rest ≡ [] → is_none last ≡ false → MOST_COMPONENTS < length (component_lines named) → NamesTooMany text
 too_many text rest number named last h e some many = record {
   named = named;
   written = all_written text rest number named last h e;
@@ -284,7 +285,7 @@ too_many text rest number named last h e some many = record {
   many = many;
 }
 
-pub are_lines : (text rest : List ℕ) (number : ℕ) (named : List ProjectLine) (last : Option LineKind) → ReadSoFar text rest number named last → lines rest ≡ [] → is_none last ≡ false → IsUtf8 text → length (component_lines named) ≤ 200 → AreLinesOf text named
+pub are_lines : (text rest : List ℕ) (number : ℕ) (named : List ProjectLine) (last : Option LineKind) → ReadSoFar text rest number named last → lines rest ≡ [] → is_none last ≡ false → IsUtf8 text → length (component_lines named) ≤ MOST_COMPONENTS → AreLinesOf text named
 are_lines text rest number named last h e some utf8 few = record {
   utf8 = utf8;
   written = all_written text rest number named last h e;

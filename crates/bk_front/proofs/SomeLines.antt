@@ -6,6 +6,7 @@ use Rattle.std.specs.Str.Lines.{lines}
 use Rattle.std.proofs.Common.{inl, inr, ap, sym, subst, ◌∙◌, append_assoc, append-nil}
 use Rattle.std.proofs.lemmas.Bool.{cases_lt}
 use Rattle.std.proofs.lemmas.Slice.Zip.{all_zipped_more}
+use Rattle.bk_limits.specs.declared.TheConstants.{MOST_COMPONENTS}
 use Rattle.bk_lines.specs.Lines.{is_skipped, kept_lines}
 use Rattle.bk_sources.proofs.SomeCut.{some_utf8}
 use Rattle.bk_front.specs.declared.project_file.ProjectLine.{ProjectLine}
@@ -19,7 +20,7 @@ module _ (text : List ℕ) (not_lines : (named : List ProjectLine) → AreLinesO
   -- all lines are right
   all_right : (named : List ProjectLine) → AllZip IsProjectLine (kept_lines text) named → IsRightSoFar (kinds_of named) → ⊥
   all_right named written (inl none) = no_refusal (Fault 4 0 (suc (length (lines text)))) tt (refl, inr (refl, utf8, inr (record { named = named; written = written; none = none; counted = refl })))
-  all_right named written (inr chain) = elim (cases_lt 200 (length (component_lines named))) [
+  all_right named written (inr chain) = elim (cases_lt MOST_COMPONENTS (length (component_lines named))) [
     | inl many ↦ no_refusal (Limit 4 0) tt (refl, refl, utf8, record { named = named; written = written; chain = chain; many = many })
     | inr few ↦ not_lines named (record { utf8 = utf8; written = written; are = record { chain = chain; few = few } })
   ]

@@ -7,6 +7,7 @@ use Rattle.std.proofs.lemmas.List.{length-append, length-map, take_all}
 use Rattle.std.proofs.lemmas.List.Elements.{All-nil, All-cons, All-push, All-weaker}
 use Rattle.std.proofs.lemmas.Slice.Zip.{all_zipped_more, AllZip-long}
 use Rattle.std.proofs.Math.Seq.{take-append-add}
+use Rattle.bk_limits.specs.declared.TheConstants.{GREATEST_TREE_HEIGHT}
 use Rattle.bk_form.specs.declared.token.Token.{Token}
 use Rattle.bk_raw.specs.Trees.ComponentTree.{RawComponent, component_height}
 use Rattle.bk_raw.specs.Grammar.ComponentSpelling.{SpellsComponent}
@@ -54,7 +55,7 @@ all_written texts read h = All-weaker (λ text. (r : Read) × IsReadOf text r) (
 pub low_read : (text : List ℕ) (tokens : List Token) (c : RawComponent) → IsShallowText text tokens → SpellsComponent c tokens → IsLowComponent c → IsReadOf text (Component c)
 low_read text tokens c shallow spelled low = record { written = record { tokens = tokens; shallow = shallow; spelled = spelled }; low = low }
 
-pub high_read : (text : List ℕ) (tokens : List Token) → IsShallowText text tokens → IsShallow tokens × (c : RawComponent) × SpellsComponent c tokens × (1000 < component_height c) → IsReadOf text High
+pub high_read : (text : List ℕ) (tokens : List Token) → IsShallowText text tokens → IsShallow tokens × (c : RawComponent) × SpellsComponent c tokens × (GREATEST_TREE_HEIGHT < component_height c) → IsReadOf text High
 high_read text tokens shallow (s, c, spelled, high) = (c, record { tokens = tokens; shallow = shallow; spelled = spelled }, λ low. omega (arith, low, high))
 
 -- a text is read beside its tokens

@@ -3,6 +3,7 @@ use Rattle.std.proofs.Common.{◌≡◌, ◌≤◌, ◌<◌, inl, inr, ℕ, zero
 use Rattle.std.specs.Prelude.{slice_get}
 use Rattle.std.proofs.lemmas.List.{length-append}
 use Rattle.std.proofs.lemmas.Option.{same_Some, slice_get_within}
+use Rattle.bk_limits.specs.declared.TheConstants.{STACK_ROOM}
 use Rattle.bk_code.specs.declared.image.Image.{Image}
 use Rattle.bk_code.specs.declared.instruction.Inst.{Inst}
 use Rattle.bk_code.specs.declared.instruction.Inst.TheVariants.{Ret}
@@ -13,7 +14,7 @@ use Rattle.bk_gen.proofs.Pieces.{Suits, suits-moved, flows-moved, IsGiven, IsPie
 pub record IsBlocks (image : Image) (code : List Inst) : Type 0 where
   pub depths : ℕ → ℕ
   pub first : depths 0 ≡ 0
-  pub low : (at : ℕ) → depths at ≤ 1000
+  pub low : (at : ℕ) → depths at ≤ STACK_ROOM
   pub suits : (at : ℕ) (inst : Inst) → slice_get code at ≡ Some inst → Suits image depths (length code) at inst
   pub given : (at : ℕ) → at < length code → IsGiven code depths at
   pub ends : (at : ℕ) (inst : Inst) → slice_get code at ≡ Some inst → at + 1 ≡ length code → IsLeaving inst
@@ -22,7 +23,7 @@ pub no_blocks : (image : Image) → IsBlocks image []
 no_blocks image = record { depths = λ at. 0; first = refl; low = λ at. omega arith; suits = λ at inst is. absurd (cc); given = λ at low. absurd (omega (arith, low)); ends = λ at inst is last. absurd (cc) }
 
 -- ---- one block
-module _ (image : Image) (code : List Inst) (p : IsPiece image code 0 0 1000) where
+module _ (image : Image) (code : List Inst) (p : IsPiece image code 0 0 STACK_ROOM) where
   abbrev block : List Inst
   block = code ++ Ret ∷ []
 
@@ -37,12 +38,12 @@ module _ (image : Image) (code : List Inst) (p : IsPiece image code 0 0 1000) wh
 
   block_suits : AllSuit image block p.depths (length block) 0 block
   block_suits = suit-append image block p.depths (length block) 0 (length code) code (Ret ∷ []) (omega arith)
-      (suit-piece image block p.depths (length block) code 0 0 1000 0 p same-start (omega (arith, block-long)))
+      (suit-piece image block p.depths (length block) code 0 0 STACK_ROOM 0 p same-start (omega (arith, block-long)))
       (suit-one image block p.depths (length block) (length code) Ret (record { good = tt; enough = omega arith; reaches = omega (arith, p.last) }))
 
   block-given : (at : ℕ) → at < length block → IsGiven block p.depths at
   block-given zero low = inl p.first
-  block-given (suc at) low = given-piece image block p.depths (length block) code 0 0 1000 0 p same-start (length code) (omega arith) block-stands (suc at) (omega arith) (omega (arith, low, block-long))
+  block-given (suc at) low = given-piece image block p.depths (length block) code 0 0 STACK_ROOM 0 p same-start (length code) (omega arith) block-stands (suc at) (omega arith) (omega (arith, low, block-long))
 
   block-ends : (at : ℕ) (inst : Inst) → slice_get block at ≡ Some inst → at + 1 ≡ length block → IsLeaving inst
   block-ends at inst is last =
@@ -114,7 +115,7 @@ module _ (image : Image) (xs ys : List Inst) (p : IsBlocks image xs) (q : IsBloc
   blocks_joined = record {
     depths = ds;
     first = starts;
-    low = joined-low (length xs) 1000 p.depths q.depths p.low q.low;
+    low = joined-low (length xs) STACK_ROOM p.depths q.depths p.low q.low;
     suits = at-start image both ds (length both) both (suit-append image both ds (length both) 0 (length xs) xs ys (omega arith) front-suits behind-suits);
     given = both-given;
     ends = both-ends;

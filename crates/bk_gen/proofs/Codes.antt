@@ -1,5 +1,6 @@
 -- The code of expressions, conditions and statements are pieces.
 use Rattle.std.proofs.Common.{◌≡◌, ◌≤◌, ◌<◌, inl, inr, ℕ, zero, suc, ◌+◌, ℤ, pos, neg_ℤ, ◌+ℤ◌, ◌-ℤ◌, ◌≤ℤ◌, List, [], ◌∷◌, ◌++◌, length, refl, sym, subst, Bool, true, false, ◌||◌, cond, nat_eq, arith, Some, None, Option, append_assoc}
+use Rattle.bk_limits.specs.declared.TheConstants.{MOST_OPERATORS, STACK_ROOM}
 use Rattle.bk_val.specs.ValueType.{ValueType, int_type}
 use Rattle.bk_form.specs.ArrayTable.{row_of}
 use Rattle.bk_form.specs.Formula.{Formula, variable, literal, truth_value, element, unary, binary}
@@ -131,58 +132,58 @@ module _ (dev : Development) (image : Image) (most : code_max image ≡ int_max 
     condition-piece f d top typed known low = absurd typed
 
   -- ---- assignments
-  store-piece : (slot : ℕ) → slot < image.cells → IsPiece image (Store slot ∷ []) 1 0 1000
-  store-piece slot h = one_piece image (Store slot) 1 0 1000 tt h (omega arith) (omega arith) (omega arith) (omega arith)
+  store-piece : (slot : ℕ) → slot < image.cells → IsPiece image (Store slot ∷ []) 1 0 STACK_ROOM
+  store-piece slot h = one_piece image (Store slot) 1 0 STACK_ROOM tt h (omega arith) (omega arith) (omega arith) (omega arith)
 
-  fill-piece : (code : List Inst) (cell n : ℕ) → cell + n ≤ image.cells → IsPiece image code 0 1 1000 → IsPiece image (fill code cell n) 0 0 1000
-  fill-piece code cell zero room p = empty_piece image 0 1000 (omega arith)
-  fill-piece code cell (suc n) room p = joined_piece image code (Store cell ∷ fill code (cell + 1) n) 0 1 0 1000 p
-      (joined_piece image (Store cell ∷ []) (fill code (cell + 1) n) 1 0 0 1000 (store-piece cell (omega (arith, room))) (fill-piece code (cell + 1) n (omega (arith, room)) p))
+  fill-piece : (code : List Inst) (cell n : ℕ) → cell + n ≤ image.cells → IsPiece image code 0 1 STACK_ROOM → IsPiece image (fill code cell n) 0 0 STACK_ROOM
+  fill-piece code cell zero room p = empty_piece image 0 STACK_ROOM (omega arith)
+  fill-piece code cell (suc n) room p = joined_piece image code (Store cell ∷ fill code (cell + 1) n) 0 1 0 STACK_ROOM p
+      (joined_piece image (Store cell ∷ []) (fill code (cell + 1) n) 1 0 0 STACK_ROOM (store-piece cell (omega (arith, room))) (fill-piece code (cell + 1) n (omega (arith, room)) p))
 
   module _ (x : ℕ) (cell : IsCell dev x) where
-    scalar-piece : (f : Formula) → row_of (arrays_of dev) x ≡ None → IsTypedExpression dev (declared_type dev.table x) f → AreKnown f → HasFewOperators f → IsPiece image (value_code dev f ++ Store (cell_of dev x) ∷ []) 0 0 1000
-    scalar-piece f plain typed known shallow = joined_piece image (value_code dev f) (Store (cell_of dev x) ∷ []) 0 1 0 1000 (expression-piece f (declared_type dev.table x) 0 1000 typed known (omega (arith, shallow))) (store-piece (cell_of dev x) (scalar-slot x plain cell.1))
+    scalar-piece : (f : Formula) → row_of (arrays_of dev) x ≡ None → IsTypedExpression dev (declared_type dev.table x) f → AreKnown f → HasFewOperators f → IsPiece image (value_code dev f ++ Store (cell_of dev x) ∷ []) 0 0 STACK_ROOM
+    scalar-piece f plain typed known shallow = joined_piece image (value_code dev f) (Store (cell_of dev x) ∷ []) 0 1 0 STACK_ROOM (expression-piece f (declared_type dev.table x) 0 STACK_ROOM typed known (omega (arith, shallow))) (store-piece (cell_of dev x) (scalar-slot x plain cell.1))
 
     module _ (r : ArrayRow) (found : row_of (arrays_of dev) x ≡ Some r) where
       write-piece : (index value : Formula) → IsTypedExpression dev (index_type r.domain) index → IsTypedExpression dev (cell_type dev x) value → AreKnown (binary Overridden (variable x) (unary Single (binary Maps index value))) →
           IsShallowWrite (write_of x (binary Overridden (variable x) (unary Single (binary Maps index value)))) →
-          IsPiece image (array_code dev x r (write_of x (binary Overridden (variable x) (unary Single (binary Maps index value)))) (binary Overridden (variable x) (unary Single (binary Maps index value)))) 0 0 1000
+          IsPiece image (array_code dev x r (write_of x (binary Overridden (variable x) (unary Single (binary Maps index value)))) (binary Overridden (variable x) (unary Single (binary Maps index value)))) 0 0 STACK_ROOM
       write-piece index value ti tv known = by_test (nat_eq x x) (nat_eq-self x)
         where
-          by_test : (b : Bool) → b ≡ true → IsShallowWrite (cond b (Some (index, value)) None) → IsPiece image (array_code dev x r (cond b (Some (index, value)) None) (binary Overridden (variable x) (unary Single (binary Maps index value)))) 0 0 1000
+          by_test : (b : Bool) → b ≡ true → IsShallowWrite (cond b (Some (index, value)) None) → IsPiece image (array_code dev x r (cond b (Some (index, value)) None) (binary Overridden (variable x) (unary Single (binary Maps index value)))) 0 0 STACK_ROOM
           by_test true e shallow =
-              joined_piece image (value_code dev index ++ value_code dev value) (store_element dev x r) 0 2 0 1000
-              (joined_piece image (value_code dev index) (value_code dev value) 0 1 2 1000
-              (expression-piece index (index_type r.domain) 0 1000 ti (λ n h. known n (or-right (occurs n (variable x)) (occurs n index || occurs n value) (known-first n index value h))) (omega (arith, shallow.0)))
-              (expression-piece value (cell_type dev x) 1 1000 tv (λ n h. known n (or-right (occurs n (variable x)) (occurs n index || occurs n value) (known-second n index value h))) (omega (arith, shallow.1))))
-              (one_piece image (AStore (cell_of dev x) (least_index r.domain) (cells_of dev x)) 2 0 1000 tt (array-operands x r found) (omega arith) (omega arith) (omega arith) (omega arith))
+              joined_piece image (value_code dev index ++ value_code dev value) (store_element dev x r) 0 2 0 STACK_ROOM
+              (joined_piece image (value_code dev index) (value_code dev value) 0 1 2 STACK_ROOM
+              (expression-piece index (index_type r.domain) 0 STACK_ROOM ti (λ n h. known n (or-right (occurs n (variable x)) (occurs n index || occurs n value) (known-first n index value h))) (omega (arith, shallow.0)))
+              (expression-piece value (cell_type dev x) 1 STACK_ROOM tv (λ n h. known n (or-right (occurs n (variable x)) (occurs n index || occurs n value) (known-second n index value h))) (omega (arith, shallow.1))))
+              (one_piece image (AStore (cell_of dev x) (least_index r.domain) (cells_of dev x)) 2 0 STACK_ROOM tt (array-operands x r found) (omega arith) (omega arith) (omega arith) (omega arith))
           by_test false e shallow = absurd (cc)
 
-      term-piece : (f : Formula) → IsTypedTerm dev x (Some r) f → AreKnown f → IsShallowWrite (write_of x f) → IsPiece image (array_code dev x r (write_of x f) f) 0 0 1000
+      term-piece : (f : Formula) → IsTypedTerm dev x (Some r) f → AreKnown f → IsShallowWrite (write_of x f) → IsPiece image (array_code dev x r (write_of x f) f) 0 0 STACK_ROOM
       term-piece f (inl w) known shallow =
-          subst (λ g. AreKnown g → IsShallowWrite (write_of x g) → IsPiece image (array_code dev x r (write_of x g) g) 0 0 1000) (sym w.is) (λ k s. write-piece w.index w.value w.is_index w.is_value k s) known shallow
+          subst (λ g. AreKnown g → IsShallowWrite (write_of x g) → IsPiece image (array_code dev x r (write_of x g) g) 0 0 STACK_ROOM) (sym w.is) (λ k s. write-piece w.index w.value w.is_index w.is_value k s) known shallow
       term-piece f (inr w) known shallow =
-          subst (λ g. AreKnown g → IsPiece image (array_code dev x r (write_of x g) g) 0 0 1000) (sym w.is)
+          subst (λ g. AreKnown g → IsPiece image (array_code dev x r (write_of x g) g) 0 0 STACK_ROOM) (sym w.is)
           (λ k. fill-piece (value_code dev w.value) (cell_of dev x) (cells_of dev x)
           (let below : cell_of dev x + cells_of dev x ≤ cell_count dev = cells-below dev x (cell_variables dev) cell.1 in omega (arith, below, many))
-          (expression-piece w.value (cell_type dev x) 0 1000 w.is_value (λ n h. k n (or-right (occurs n w.domain) (occurs n w.value) h)) (omega (arith, plain-low w.value w.plain)))) known
+          (expression-piece w.value (cell_type dev x) 0 STACK_ROOM w.is_value (λ n h. k n (or-right (occurs n w.domain) (occurs n w.value) h)) (omega (arith, plain-low w.value w.plain)))) known
 
-    stored-piece : (f : Formula) (o : Option ArrayRow) → row_of (arrays_of dev) x ≡ o → IsTypedTerm dev x o f → AreKnown f → IsShallowTerm x o f → IsPiece image (store_code dev x o f) 0 0 1000
+    stored-piece : (f : Formula) (o : Option ArrayRow) → row_of (arrays_of dev) x ≡ o → IsTypedTerm dev x o f → AreKnown f → IsShallowTerm x o f → IsPiece image (store_code dev x o f) 0 0 STACK_ROOM
     stored-piece f None plain typed known shallow = scalar-piece f plain typed known shallow
     stored-piece f (Some r) found typed known shallow = term-piece r found f typed known shallow
 
   assigned-piece : (scope writable : ℕ → Bool) (ps : List (ℕ × Formula)) → AssignsIn scope writable ps → IsTypedAssignment dev ps → HaveShallowTerms (arrays_of dev) ps → ((n : ℕ) → scope n ≡ true → IsKnown dev n) → ((n : ℕ) → writable n ≡ true → IsCell dev n) →
-      IsPiece image (assign_code dev ps) 0 0 1000
+      IsPiece image (assign_code dev ps) 0 0 STACK_ROOM
   assigned-piece scope writable [] stays typed shallow known cells = absurd typed
   assigned-piece scope writable (p ∷ q ∷ ps) stays typed shallow known cells = absurd typed
   assigned-piece scope writable (p ∷ []) stays typed shallow known cells = stored-piece p.0 (cells p.0 stays.0) p.1 (row_of (arrays_of dev) p.0) refl typed (λ n h. known n (stays.1.visible_only n h)) shallow.0
 
   -- ---- statements
   pub statement-piece : (s : Substitution) (scope above writable : ℕ → Bool) → StaysIn scope above writable s → IsTypedB0 dev s → EvaluatesShallow (arrays_of dev) s → ((n : ℕ) → scope n ≡ true → IsKnown dev n) → ((n : ℕ) → writable n ≡ true → IsCell dev n) → ((n : ℕ) → among (locals s) n ≡ true → IsCell dev n) →
-      IsPiece image (statement_code dev s) 0 0 1000
-  statement-piece skip scope above writable stays typed shallow known cells inner = empty_piece image 0 1000 (omega arith)
+      IsPiece image (statement_code dev s) 0 0 STACK_ROOM
+  statement-piece skip scope above writable stays typed shallow known cells inner = empty_piece image 0 STACK_ROOM (omega arith)
   statement-piece (assign ps) scope above writable stays typed shallow known cells inner = assigned-piece scope writable ps stays typed shallow known cells
-  statement-piece (seq s t) scope above writable stays typed shallow known cells inner = joined_piece image (statement_code dev s) (statement_code dev t) 0 0 0 1000
+  statement-piece (seq s t) scope above writable stays typed shallow known cells inner = joined_piece image (statement_code dev s) (statement_code dev t) 0 0 0 STACK_ROOM
       (statement-piece s scope above writable stays.0 typed.0 shallow.0 known cells (λ n h. inner n (among-left (locals s) (locals t) n h)))
       (statement-piece t scope above writable stays.1 typed.1 shallow.1 known cells (λ n h. inner n (among-right (locals s) (locals t) n h)))
   statement-piece (any zs s) scope above writable stays typed shallow known cells inner =
@@ -196,17 +197,17 @@ module _ (dev : Development) (image : Image) (most : code_max image ≡ int_max 
       either false b P h f g = g h
   statement-piece (assert p s) scope above writable stays typed shallow known cells inner = statement-piece s scope above writable stays.1 typed shallow known cells inner
   statement-piece (if_else p s t) scope above writable stays typed shallow known cells inner =
-      let few : operators_down p ≤ 998 = shallow.0 in
-      subst (λ c. IsPiece image c 0 0 1000) (sym (append_assoc (value_code dev p) (JumpZero (pos (length (statement_code dev s) + 2)) ∷ statement_code dev s) (Jump (pos (length (statement_code dev t) + 1)) ∷ statement_code dev t)))
-      (joined_piece image (value_code dev p) (JumpZero (pos (length (statement_code dev s) + 2)) ∷ statement_code dev s ++ Jump (pos (length (statement_code dev t) + 1)) ∷ statement_code dev t) 0 1 0 1000
-      (condition-piece p 0 1000 typed.0 (λ n h. known n (stays.0.visible_only n h)) (omega (arith, few)))
-      (fork_piece image (statement_code dev s) (statement_code dev t) 0 0 1000 (omega arith)
+      let few : operators_down p ≤ MOST_OPERATORS = shallow.0 in
+      subst (λ c. IsPiece image c 0 0 STACK_ROOM) (sym (append_assoc (value_code dev p) (JumpZero (pos (length (statement_code dev s) + 2)) ∷ statement_code dev s) (Jump (pos (length (statement_code dev t) + 1)) ∷ statement_code dev t)))
+      (joined_piece image (value_code dev p) (JumpZero (pos (length (statement_code dev s) + 2)) ∷ statement_code dev s ++ Jump (pos (length (statement_code dev t) + 1)) ∷ statement_code dev t) 0 1 0 STACK_ROOM
+      (condition-piece p 0 STACK_ROOM typed.0 (λ n h. known n (stays.0.visible_only n h)) (omega (arith, few)))
+      (fork_piece image (statement_code dev s) (statement_code dev t) 0 0 STACK_ROOM (omega arith)
       (statement-piece s scope above writable stays.1 typed.1 shallow.1 known cells (λ n h. inner n (among-left (locals s) (locals t) n h)))
       (statement-piece t scope above writable stays.2 typed.2 shallow.2 known cells (λ n h. inner n (among-right (locals s) (locals t) n h)))))
   statement-piece (loop p s i v) scope above writable stays typed shallow known cells inner =
-      let few : operators_down p ≤ 998 = shallow.0 in
-      subst (λ c. IsPiece image c 0 0 1000) (sym (append_assoc (value_code dev p) (JumpZero (pos (length (statement_code dev s) + 2)) ∷ statement_code dev s) (Jump (neg_ℤ (pos (length (value_code dev p) + 1 + length (statement_code dev s)))) ∷ [])))
-      (loop_piece image (value_code dev p) (statement_code dev s) 1000
-      (condition-piece p 0 1000 typed.0 (λ n h. known n (stays.0.visible_only n h)) (omega (arith, few)))
+      let few : operators_down p ≤ MOST_OPERATORS = shallow.0 in
+      subst (λ c. IsPiece image c 0 0 STACK_ROOM) (sym (append_assoc (value_code dev p) (JumpZero (pos (length (statement_code dev s) + 2)) ∷ statement_code dev s) (Jump (neg_ℤ (pos (length (value_code dev p) + 1 + length (statement_code dev s)))) ∷ [])))
+      (loop_piece image (value_code dev p) (statement_code dev s) STACK_ROOM
+      (condition-piece p 0 STACK_ROOM typed.0 (λ n h. known n (stays.0.visible_only n h)) (omega (arith, few)))
       (statement-piece s scope above writable stays.1 typed.1 shallow.1 known cells inner))
   statement-piece s scope above writable stays typed shallow known cells inner = absurd typed

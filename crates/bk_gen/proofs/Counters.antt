@@ -1,5 +1,6 @@
 -- The counter and the adder are in B0.
 use Rattle.std.proofs.Common.{inl, ◌≤◌, ◌<◌, ℕ, zero, suc, length, refl, arith}
+use Rattle.bk_limits.specs.declared.TheConstants.{MOST_OPERATORS}
 use Rattle.bk_form.specs.Each.{Each}
 use Rattle.bk_dev.specs.B0.{IsScalarName, IsB0Body, IsB0Development}
 use Rattle.bk_dev.specs.Development.{body_at, inputs_of}
@@ -7,7 +8,7 @@ use Rattle.bk_dev.specs.Counter.{counter}
 use Rattle.bk_gen.specs.Laws.{adder}
 
 -- no or few operators on one way down
-pub few : (n : ℕ) → n ≤ 10 → n ≤ 998
+pub few : (n : ℕ) → n ≤ 10 → n ≤ MOST_OPERATORS
 few n h = omega (arith, h)
 
 pub counter_in_b0 : IsB0Development counter

@@ -4,6 +4,7 @@ use Rattle.std.specs.Prelude.{slice_index, ◌+ℤ◌}
 use Rattle.std.proofs.lemmas.Int.{ints}
 use Rattle.std.proofs.lemmas.List.Elements.{All-nil, All-cons}
 use Rattle.std.proofs.lemmas.Option.{slice_get_within}
+use Rattle.bk_limits.specs.declared.TheConstants.{MOST_CELLS, MOST_INSTRUCTIONS, STACK_ROOM}
 use Rattle.bk_form.specs.Each.{Each}
 use Rattle.bk_code.specs.declared.image.Image.{Image}
 use Rattle.bk_code.specs.declared.image.OpEntry.{OpEntry}
@@ -37,7 +38,7 @@ pub record IsStart (image : Image) (depths : ℕ → ℕ) (entry : OpEntry) : Ty
   pub empty : depths entry.start ≡ 0
 
 -- ---- the image
-module _ (image : Image) (range : IsRange (int_max image)) (b : IsBlocks image image.code) (few : image.cells ≤ 1000000) (some : 0 < length image.code) (short : length image.code ≤ 1000000) (good : All (IsGoodEntry image) image.ops) (starts : Each (IsStart image b.depths) image.ops) where
+module _ (image : Image) (range : IsRange (int_max image)) (b : IsBlocks image image.code) (few : image.cells ≤ MOST_CELLS) (some : 0 < length image.code) (short : length image.code ≤ MOST_INSTRUCTIONS) (good : All (IsGoodEntry image) image.ops) (starts : Each (IsStart image b.depths) image.ops) where
   abbrev size : ℕ
   size = length image.code
 
@@ -93,7 +94,7 @@ module _ (image : Image) (range : IsRange (int_max image)) (b : IsBlocks image i
     long = listed-long b.depths size;
     first = at-depth 0 some ∙ b.first;
     starts = each-all (IsStart image b.depths) (λ entry. slice_index ds entry.start ≡ 0) image.ops (λ entry h. at-depth entry.start h.within ∙ h.empty) starts;
-    limit = λ at low. subst (λ n. n ≤ 1000) (sym (at-depth at low)) (b.low at);
+    limit = λ at low. subst (λ n. n ≤ STACK_ROOM) (sym (at-depth at low)) (b.low at);
     enough = λ at inst is. subst (λ n. pops inst ≤ n) (sym (at-depth at (slice_get_within image.code at inst is))) (b.suits at inst is).enough;
     flows = λ at to inst is flow. flow-at at to inst (b.suits at inst is) flow ∙ ap (λ n. n - pops inst + pushes inst) (sym (at-depth at (slice_get_within image.code at inst is)));
     returned = λ at inst is. subst (IsEmptyAtEnd inst) (sym (at-depth at (slice_get_within image.code at inst is))) (end-at at inst (b.suits at inst is));

@@ -4,6 +4,7 @@ use Rattle.std.specs.Prelude.{slice_index_or, slice_get, unwrap_or, IsTrue}
 use Rattle.std.proofs.lemmas.Bool.Decides.{nat_tests}
 use Rattle.std.proofs.lemmas.List.{length-append}
 use Rattle.std.proofs.lemmas.List.Elements.{All-nil, All-cons, All-head, All-tail}
+use Rattle.bk_limits.specs.declared.TheConstants.{MOST_CELLS, MOST_INSTRUCTIONS, STACK_ROOM}
 use Rattle.bk_val.specs.ValueType.{ValueType, bool_type, enum_type}
 use Rattle.bk_form.specs.Table.{SetEntry, element_texts, variable_type, lists_type}
 use Rattle.bk_form.proofs.Members.{or-left, or-right}
@@ -42,25 +43,25 @@ each-from P (x ∷ xs) d h = (h 0 (omega arith), each-from P xs d (λ o low. h (
 
 module _ (dev : Development) (f : HasFacts dev) (b : IsB0Development dev) (fit : HasElementsInRange dev) (image : Image) (most : code_max image ≡ int_max dev) (cells : image.cells ≡ cell_count dev) (sets : length image.sets ≡ length dev.table.sets) where
   -- ---- the pieces
-  placed-piece : (s : Substitution) → IsPlaced dev s → IsB0 dev s → EvaluatesShallow (arrays_of dev) s → IsPiece image (statement_code dev s) 0 0 1000
+  placed-piece : (s : Substitution) → IsPlaced dev s → IsB0 dev s → EvaluatesShallow (arrays_of dev) s → IsPiece image (statement_code dev s) 0 0 STACK_ROOM
   placed-piece s p b0 few =
       statement-piece dev image most f.range.least cells fit f.constants f.arrays (λ x r found. array-domain dev f.range.least f.table f.typed fit x r found)
       s p.scope p.above p.writable p.stays (typed-b0 dev f.typed s p.types b0) few p.known p.settable p.inner
 
-  init-piece : IsPiece image (statement_code dev (level_at dev (last dev)).init) 0 0 1000
+  init-piece : IsPiece image (statement_code dev (level_at dev (last dev)).init) 0 0 STACK_ROOM
   init-piece = placed-piece (level_at dev (last dev)).init f.init b.init b.init_shallow
 
-  body-piece : (o : ℕ) → o < length dev.heads → IsPiece image (statement_code dev (body_at dev (last dev) o).sub) 0 0 1000
+  body-piece : (o : ℕ) → o < length dev.heads → IsPiece image (statement_code dev (body_at dev (last dev) o).sub) 0 0 STACK_ROOM
   body-piece o low =
       let below : o < length (level_at dev (last dev)).bodies = subst (λ n. o < n) f.paired low in
       let own : IsB0Body dev (body_at dev (last dev) o) = each-at (IsB0Body dev) (level_at dev (last dev)).bodies o blank_body below b.bodies in
       placed-piece (body_at dev (last dev) o).sub (f.bodies o low) own.sub own.shallow
 
   abbrev HavePieces : List Body → Type 0
-  HavePieces bs = Each (λ x. IsPiece image (statement_code dev x.sub) 0 0 1000) bs
+  HavePieces bs = Each (λ x. IsPiece image (statement_code dev x.sub) 0 0 STACK_ROOM) bs
 
   body-pieces : HavePieces (level_at dev (last dev)).bodies
-  body-pieces = each-from (λ x. IsPiece image (statement_code dev x.sub) 0 0 1000) (level_at dev (last dev)).bodies blank_body (λ o low. body-piece o (subst (λ n. o < n) (sym f.paired) low))
+  body-pieces = each-from (λ x. IsPiece image (statement_code dev x.sub) 0 0 STACK_ROOM) (level_at dev (last dev)).bodies blank_body (λ o low. body-piece o (subst (λ n. o < n) (sym f.paired) low))
 
   -- ---- the blocks
   abbrev Begin : (ℕ → ℕ) → ℕ → List Head → List Body → Type 0
@@ -149,7 +150,7 @@ module _ (dev : Development) (f : HasFacts dev) (b : IsB0Development dev) (fit :
   starts-from depths [] good empty = tt
   starts-from depths (e ∷ es) good empty = (record { within = (All-head (IsGoodEntry image) e es good).start; empty = empty.0 }, starts-from depths es (All-tail (IsGoodEntry image) e es good) empty.1)
 
-  pub loads : image.code ≡ init_code dev ++ operations_code dev (level_at dev (last dev)).bodies → image.ops ≡ entries dev (length (init_code dev)) dev.heads (level_at dev (last dev)).bodies → cell_count dev ≤ 1000000 → length image.code ≤ 1000000 → IsLoadable image
+  pub loads : image.code ≡ init_code dev ++ operations_code dev (level_at dev (last dev)).bodies → image.ops ≡ entries dev (length (init_code dev)) dev.heads (level_at dev (last dev)).bodies → cell_count dev ≤ MOST_CELLS → length image.code ≤ MOST_INSTRUCTIONS → IsLoadable image
   loads code ops few short = by_blocks (has-blocks (level_at dev (last dev)).bodies body-pieces)
     where
       by_blocks : HasBlocks (level_at dev (last dev)).bodies → IsLoadable image
@@ -164,16 +165,16 @@ module _ (dev : Development) (f : HasFacts dev) (b : IsB0Development dev) (fit :
           let good : All (IsGoodEntry image) image.ops = subst (All (IsGoodEntry image)) (sym ops) (entries-good (length (init_code dev)) dev.heads bodies long inputs-good outputs-good) in
           let begin : Begin all.depths (length (init_code dev)) dev.heads bodies = q.begin dev.heads (length (init_code dev)) all.depths (λ i low. blocks-second image (init_code dev) rest first q.blocks i) in
           image_loads image (subst IsCodeRange (sym most) (record { least = f.range.least; greatest = f.range.greatest })) (record { depths = all.depths; first = all.first; low = all.low; suits = subst (λ c. (at : ℕ) (inst : Inst) → slice_get c at ≡ Some inst → Suits image all.depths (length c) at inst) (sym code) all.suits; given = subst (λ c. (at : ℕ) → at < length c → IsGiven c all.depths at) (sym code) all.given; ends = subst (λ c. (at : ℕ) (inst : Inst) → slice_get c at ≡ Some inst → at + 1 ≡ length c → IsLeaving inst) (sym code) all.ends })
-          (subst (λ n. n ≤ 1000000) (sym cells) few) (omega (arith, long, own)) short good
+          (subst (λ n. n ≤ MOST_CELLS) (sym cells) few) (omega (arith, long, own)) short good
           (starts-from all.depths image.ops good (subst (Each (λ entry. all.depths entry.start ≡ 0)) (sym ops) begin))
 
 sets-long : (xs : List SetEntry) → length (map element_texts xs) ≡ length xs
 sets-long [] = refl
 sets-long (x ∷ xs) = ap suc (sets-long xs)
 
-pub facts_load : (dev : Development) → HasFacts dev → IsB0Development dev → HasElementsInRange dev → cell_count dev ≤ 1000000 → length (translation dev).code ≤ 1000000 → IsLoadable (translation dev)
+pub facts_load : (dev : Development) → HasFacts dev → IsB0Development dev → HasElementsInRange dev → cell_count dev ≤ MOST_CELLS → length (translation dev).code ≤ MOST_INSTRUCTIONS → IsLoadable (translation dev)
 facts_load dev f b fit few short = loads dev f b fit (translation dev) (translated-greatest dev) refl (sets-long dev.sets ∙ ap length f.sets) refl refl few short
 
 pub translations_load : (dev : Development) → IsLawful dev → IsB0Development dev → HasElementsInRange dev →
-    cell_count dev ≤ 1000000 → length (translation dev).code ≤ 1000000 → IsLoadable (translation dev)
+    cell_count dev ≤ MOST_CELLS → length (translation dev).code ≤ MOST_INSTRUCTIONS → IsLoadable (translation dev)
 translations_load dev f b fit few short = facts_load dev (lawful_facts dev f b) b fit few short

@@ -2,6 +2,7 @@
 use Rattle.std.proofs.Common.{◌≡◌, inl, inr, ◌≤◌, ℕ, ℤ, pos, neg_ℤ, ◌-ℤ◌, ◌≤ℤ◌, List, [], ◌∷◌, length, sym, subst, Some, None, Option, arith, All}
 use Rattle.std.proofs.lemmas.Int.{ints}
 use Rattle.std.proofs.lemmas.List.Elements.{All-nil, All-cons}
+use Rattle.bk_limits.specs.declared.TheConstants.{GREATEST_MAXINT, MOST_CELLS}
 use Rattle.bk_form.specs.ArrayTable.{row_of}
 use Rattle.bk_form.specs.Each.{Each}
 use Rattle.bk_form.specs.Formula.{Formula, variable, literal, truth_value, element, unary, binary}
@@ -27,7 +28,7 @@ use Rattle.bk_gen.proofs.Slots.{cells-below, array-cells, within-range}
 module _ (dev : Development) (range : IsRange (int_max dev)) where
   -- every number of the machine fits an instruction
   wide : (z : ℤ) → IsWithin (int_max dev) z → FitsPush z
-  wide z h = let most : int_max dev ≤ℤ pos 4611686018427387903 = range.greatest in let low : neg_ℤ (int_max dev) ≤ℤ z = h.0 in let high : z ≤ℤ int_max dev = h.1 in (omega (arith, ints, low, most), omega (arith, ints, high, most))
+  wide z h = let most : int_max dev ≤ℤ pos GREATEST_MAXINT = range.greatest in let low : neg_ℤ (int_max dev) ≤ℤ z = h.0 in let high : z ≤ℤ int_max dev = h.1 in (omega (arith, ints, low, most), omega (arith, ints, high, most))
 
   abbrev places : Places
   places = places_of dev
@@ -90,7 +91,7 @@ module _ (dev : Development) (range : IsRange (int_max dev)) where
 
   -- ---- constants
   literal-code : (f : Formula) → IsLiteral dev f → HasLeafCode f
-  literal-code (literal z) h = let most : int_max dev ≤ℤ pos 4611686018427387903 = range.greatest in let low : (pos 0 -ℤ int_max dev) ≤ℤ z = h.0 in let high : z ≤ℤ int_max dev = h.1 in (omega (arith, ints, low, most), omega (arith, ints, high, most))
+  literal-code (literal z) h = let most : int_max dev ≤ℤ pos GREATEST_MAXINT = range.greatest in let low : (pos 0 -ℤ int_max dev) ≤ℤ z = h.0 in let high : z ≤ℤ int_max dev = h.1 in (omega (arith, ints, low, most), omega (arith, ints, high, most))
   literal-code (truth_value b) h = tt
   literal-code (element s i) h = tt
   literal-code f h = absurd h
@@ -110,10 +111,10 @@ module _ (dev : Development) (range : IsRange (int_max dev)) where
     bodies-have : All (λ x. HasStatementCode (unit_places (unit_of dev)) x.sub) (level_at dev (last dev)).bodies
     bodies-have = subst (λ p. All (λ x. HasStatementCode p x.sub) (level_at dev (last dev)).bodies) (sym (places-are dev)) (bodies-code (level_at dev (last dev)).bodies b.bodies)
 
-    ready : slots_cells (unit_of dev).slots ≤ 1000000 → IsReady (unit_of dev)
+    ready : slots_cells (unit_of dev).slots ≤ MOST_CELLS → IsReady (unit_of dev)
     ready few = record { few = few; arrays = small; values = values-code dev.values f.values }
       where
-        small : (x : ℕ) (r : ArrayRow) → row_of (arrays_of dev) x ≡ Some r → index_count dev.table r.domain ≤ 1000000
+        small : (x : ℕ) (r : ArrayRow) → row_of (arrays_of dev) x ≡ Some r → index_count dev.table r.domain ≤ MOST_CELLS
         small x r found =
             let there = arrays-have dev f x r found in
             let below = cells-below dev x (cell_variables dev) there.1 in
@@ -122,8 +123,8 @@ module _ (dev : Development) (range : IsRange (int_max dev)) where
             omega (arith, few, below, count, all)
 
 -- ---- every unit
-pub unit_ready : (u : CodeUnit) → IsCodeUnit u → slots_cells u.slots ≤ 1000000 → IsReady u
-unit_ready u w = subst (λ v. slots_cells v.slots ≤ 1000000 → IsReady v) (sym w.is) (ready w.dev w.lawful.range w.lawful w.in_b0)
+pub unit_ready : (u : CodeUnit) → IsCodeUnit u → slots_cells u.slots ≤ MOST_CELLS → IsReady u
+unit_ready u w = subst (λ v. slots_cells v.slots ≤ MOST_CELLS → IsReady v) (sym w.is) (ready w.dev w.lawful.range w.lawful w.in_b0)
 
 pub unit_init : (u : CodeUnit) → IsCodeUnit u → HasStatementCode (unit_places u) u.init
 unit_init u w = subst (λ v. HasStatementCode (unit_places v) v.init) (sym w.is) (init-has w.dev w.lawful.range w.lawful w.in_b0)

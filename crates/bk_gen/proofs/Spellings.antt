@@ -6,6 +6,7 @@ use Rattle.std.specs.Option.{option_map_or}
 use Rattle.std.proofs.lemmas.Int.{ints, fits_signed_from_abs}
 use Rattle.std.proofs.lemmas.List.Elements.{All-nil, All-cons, All-head, All-tail, All-map}
 use Rattle.std.proofs.lemmas.Option.{slice_get_within}
+use Rattle.bk_limits.specs.declared.TheConstants.{GREATEST_MAXINT, MOST_CELLS, MOST_INSTRUCTIONS, MOST_SETS}
 use Rattle.bk_form.specs.Table.{SetEntry, set_size, at_least_one, element_texts, IsCounted}
 use Rattle.bk_form.proofs.Sizing.{elements_have_texts}
 use Rattle.bk_dev.specs.Development.{Head, Body, Development, IsRange, int_max, default_max}
@@ -25,7 +26,7 @@ use Rattle.bk_gen.specs.Laws.{HasElementsInRange}
 use Rattle.bk_gen.specs.Spelled.{FitsHead, FitsFields}
 
 -- ---- signed numbers
-fits-64 : (max z : ℤ) → max ≤ℤ pos 4611686018427387903 → neg_ℤ max ≤ℤ z → z ≤ℤ max → FitsSigned w64 z
+fits-64 : (max z : ℤ) → max ≤ℤ pos GREATEST_MAXINT → neg_ℤ max ≤ℤ z → z ≤ℤ max → FitsSigned w64 z
 fits-64 max (pos n) most h k = let low : n < 2 ^ 62 = omega (arith, ints, k, most) in fits_signed_from_abs w64 (pos n) (omega (arith, low))
 fits-64 max (negsuc n) most h k = let low : suc n < 2 ^ 62 = omega (arith, ints, h, most) in fits_signed_from_abs w64 (negsuc n) (omega (arith, low))
 
@@ -42,14 +43,14 @@ pub record FitsNames (entry : OpEntry) : Type 0 where
   pub inputs : IsCountable entry.inputs
   pub outputs : IsCountable entry.outputs
 
-module _ (image : Image) (n : IsNumbered image) (usual : code_max image ≡ default_max) (short : length image.code ≤ 1000000) (few_sets : length image.sets ≤ 65534) (sets : All FitsSet image.sets) (few_ops : IsCountable image.ops) (names : All FitsNames image.ops) where
+module _ (image : Image) (n : IsNumbered image) (usual : code_max image ≡ default_max) (short : length image.code ≤ MOST_INSTRUCTIONS) (few_sets : length image.sets ≤ MOST_SETS) (sets : All FitsSet image.sets) (few_ops : IsCountable image.ops) (names : All FitsNames image.ops) where
   kind-fits : (kind : CellKind) → IsKind image kind → kind_number kind < 2 ^ 16
   kind-fits Integer h = omega arith
   kind-fits BoolKind h = omega arith
   kind-fits (Set k) h = omega (arith, h, few_sets)
 
   parameter-fits : (p : Parameter) → IsGoodParameter image p → FitsParameter p
-  parameter-fits p h = let low : p.slot < image.cells = h.slot in let few : image.cells ≤ 1000000 = n.cells in record { kind = kind-fits p.kind h.kind; slot = omega (arith, low, few) }
+  parameter-fits p h = let low : p.slot < image.cells = h.slot in let few : image.cells ≤ MOST_CELLS = n.cells in record { kind = kind-fits p.kind h.kind; slot = omega (arith, low, few) }
 
   all-fit : {A : Type 0} (P Q : A → Type 0) (xs : List A) → ((x : A) → P x → Q x) → All P xs → All Q xs
   all-fit P Q [] f h = All-nil Q
@@ -71,7 +72,7 @@ module _ (image : Image) (n : IsNumbered image) (usual : code_max image ≡ defa
   array-fits : (base : ℕ) (low : ℤ) (count : ℕ) → IsArray image base low count → FitsArray base low count
   array-fits base low count h =
       let cells : base + count ≤ image.cells = h.cells in
-      let few : image.cells ≤ 1000000 = n.cells in
+      let few : image.cells ≤ MOST_CELLS = n.cells in
       record { first_cell = omega (arith, cells, few); least = fits-64 (code_max image) low n.range.greatest h.least.0 h.least.1; size = omega (arith, cells, few) }
 
   jump-fits : (at : ℕ) (distance : ℤ) → at < length image.code → IsTarget image (pos at +ℤ distance) → FitsSigned w32 distance
@@ -82,8 +83,8 @@ module _ (image : Image) (n : IsNumbered image) (usual : code_max image ≡ defa
 
   inst-fits : (at : ℕ) (inst : Inst) → at < length image.code → IsGoodInst image at inst → FitsInst inst
   inst-fits at (Push z) low h = fits-64 (code_max image) z n.range.greatest h.0 h.1
-  inst-fits at (Load slot) low h = let few : image.cells ≤ 1000000 = n.cells in omega (arith, h, few)
-  inst-fits at (Store slot) low h = let few : image.cells ≤ 1000000 = n.cells in omega (arith, h, few)
+  inst-fits at (Load slot) low h = let few : image.cells ≤ MOST_CELLS = n.cells in omega (arith, h, few)
+  inst-fits at (Store slot) low h = let few : image.cells ≤ MOST_CELLS = n.cells in omega (arith, h, few)
   inst-fits at (ALoad base least count) low h = array-fits base least count h
   inst-fits at (AStore base least count) low h = array-fits base least count h
   inst-fits at (Jump distance) low h = jump-fits at distance low h
@@ -96,7 +97,7 @@ module _ (image : Image) (n : IsNumbered image) (usual : code_max image ≡ defa
 
   pub has_spelling : HasSpelling image
   has_spelling =
-      let few : image.cells ≤ 1000000 = n.cells in
+      let few : image.cells ≤ MOST_CELLS = n.cells in
       record {
         fits = record {
           max = usual;
@@ -156,10 +157,10 @@ module _ (p : Places) where
       (record { name = own.name; inputs = omega (arith, ins, map-long (placed_parameter p) x.inputs); outputs = omega (arith, outs, map-long (placed_parameter p) b.outputs) })
       (entries-named (place + length (placed_block p b.sub)) hs bs (All-tail FitsHead x hs h) (All-tail (λ y. IsCountable y.outputs) b bs k))
 
-pub unit_spelled : (u : CodeUnit) → IsNumbered (unit_image u) → FitsFields u → length (unit_image u).code ≤ 1000000 → HasSpelling (unit_image u)
+pub unit_spelled : (u : CodeUnit) → IsNumbered (unit_image u) → FitsFields u → length (unit_image u).code ≤ MOST_INSTRUCTIONS → HasSpelling (unit_image u)
 unit_spelled u n h short =
     let few : length u.heads < 2 ^ 16 = h.few_operations in
-    let sets : length u.sets ≤ 65534 = h.few_sets in
+    let sets : length u.sets ≤ MOST_SETS = h.few_sets in
     has_spelling (unit_image u) n h.max short (omega (arith, sets, sets-long u.sets)) (All-map FitsSet element_texts u.sets h.sets)
     (omega (arith, few, entries-few (unit_places u) (length (placed_block (unit_places u) u.init)) u.heads u.bodies)) (entries-named (unit_places u) (length (placed_block (unit_places u) u.init)) u.heads u.bodies h.heads h.outputs)
 
@@ -199,7 +200,7 @@ pub spelled_fits : (u : CodeUnit) → length u.heads ≡ length u.bodies → Has
 spelled_fits u e s =
     let p = unit_places u in
     let place = length (placed_block p u.init) in
-    let sets : length (map element_texts u.sets) ≤ 65534 = s.few_sets in
+    let sets : length (map element_texts u.sets) ≤ MOST_SETS = s.few_sets in
     let few : length (placed_entries p place u.heads u.bodies) < 2 ^ 16 = s.fits.few_ops in
     record {
       max = s.fits.max;

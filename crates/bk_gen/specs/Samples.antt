@@ -1,5 +1,6 @@
 -- The code of each construct, and of two small implementations, to be checked by hand against the table of code.
-use Rattle.std.specs.Prelude.{◌≡◌, ℕ, pos, neg_ℤ, nat_eq, cond, true, false, List, [], ◌∷◌, Some, None, codes}
+use Rattle.std.specs.Prelude.{◌≡◌, ℕ, suc, pos, neg_ℤ, nat_eq, cond, true, false, List, [], ◌∷◌, Some, None, codes}
+use Rattle.bk_limits.specs.declared.TheConstants.{MOST_CELLS}
 use Rattle.bk_val.specs.ValueType.{ValueType, int_type, enum_type, pair_type, set_type}
 use Rattle.bk_form.specs.Table.{VariableEntry}
 use Rattle.bk_form.specs.Formula.{Formula, variable, literal, truth_value, element, named, btrue, unary, binary}
@@ -264,8 +265,8 @@ large init = record {
 abbrev pub large_fill : Substitution
 large_fill = assign ((2, binary Times (binary Range (literal (pos 0)) (literal (pos 999999))) (unary Single (literal (pos 0)))) ∷ [])
 
--- with skip there are 1000001 cells and one instruction; a fill has two instructions for each cell of the array
+-- with skip there is a cell more than MOST_CELLS and one instruction; a fill has two instructions for each cell of the array
 pub record LimitsCode : Type 0 where
-  pub cells : slots_cells (unit_of (large skip)).slots ≡ 1000001
+  pub cells : slots_cells (unit_of (large skip)).slots ≡ suc MOST_CELLS
   pub few : block_size (unit_places (unit_of (large skip))) skip ≡ 1
   pub many : block_size (unit_places (unit_of (large large_fill))) large_fill ≡ 2000001

@@ -2,6 +2,7 @@
 use Rattle.std.proofs.Common.{◌≡◌, ℕ, ◌+◌, ◌^◌, ◌<◌, ◌≤◌, length, refl, sym, subst, arith, inl, inr, Option, Some, None, get_or}
 use Rattle.std.specs.Prelude.{All, MatchOption, slice_get}
 use Rattle.std.proofs.lemmas.Option.{get_or_from_slice_get, slice_get_within, slice_get-get_or}
+use Rattle.bk_limits.specs.declared.TheConstants.{MOST_CELLS, MOST_SETS}
 use Rattle.bk_code.specs.declared.image.Image.{Image}
 use Rattle.bk_code.specs.declared.instruction.Inst.{Inst}
 use Rattle.bk_code.specs.Numbers.{int_max, IsRange}
@@ -31,7 +32,7 @@ code_within image e f = (within_in inst (IsOneInstFault image) (IsSound image) (
 
 -- there are not too many cells and sets
 abbrev pub IsSmall : Image → Type 0
-IsSmall image = (image.cells ≤ 1000000) × (length image.sets ≤ 65534)
+IsSmall image = (image.cells ≤ MOST_CELLS) × (length image.sets ≤ MOST_SETS)
 
 pub first_ops : (image : Image) (e : LoadFault) → IsSmall image → IsFirst (IsOpsFault image) e → IsFirst (IsNumberFault image) e
 first_ops image e small first = record { is = inr (inr (inl first.is)); least = later }
@@ -70,7 +71,7 @@ sound_at : (image : Image) (k : ℕ) (i : Inst) → AreSound image image.code (l
 sound_at image k i sound get = subst (IsSound image k) (get_or_from_slice_get image.code k i i get) (sound k i (slice_get_within image.code k i get))
 
 pub judged_code : (image : Image) (r : Option LoadFault) → IsRange (int_max image) → IsSmall image → All (IsGoodEntry image) image.ops → 0 < length image.code → length image.code < 2 ^ 32
-    → MatchOption r (AreSound image image.code (length image.code)) (λ e. IsFirst (IsCodeFault image) e) → MatchOption r (IsNumbered image × (length image.sets ≤ 65534)) (λ e. IsFirst (IsNumberFault image) e)
+    → MatchOption r (AreSound image image.code (length image.code)) (λ e. IsFirst (IsCodeFault image) e) → MatchOption r (IsNumbered image × (length image.sets ≤ MOST_SETS)) (λ e. IsFirst (IsNumberFault image) e)
 judged_code image None range small good some short h = (
   record {
     range = range;
@@ -86,7 +87,7 @@ judged_code image None range small good some short h = (
 judged_code image (Some e) range small good some short h = first_inst image e small good some h
 
 -- where all numbers are right, none is at fault
-pub no_number_fault : (image : Image) (e : LoadFault) → IsNumbered image → length image.sets ≤ 65534 → IsNumberFault image e → ⊥
+pub no_number_fault : (image : Image) (e : LoadFault) → IsNumbered image → length image.sets ≤ MOST_SETS → IsNumberFault image e → ⊥
 no_number_fault image e n few (inl f) = let h = n.cells in omega (arith, f.1)
 no_number_fault image e n few (inr (inl f)) = omega (arith, few, f.1)
 no_number_fault image e n few (inr (inr (inl f))) = no_ops_fault image e n.ops f

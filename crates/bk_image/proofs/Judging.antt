@@ -6,6 +6,7 @@ use Rattle.std.proofs.lemmas.Int.{ints}
 use Rattle.std.proofs.Math.ListN.{get_or-map}
 use Rattle.std.proofs.lemmas.List.{length-map}
 use Rattle.std.proofs.lemmas.Option.{slice_get_within, slice_get-get_or, get_or_from_slice_get}
+use Rattle.bk_limits.specs.declared.TheConstants.{STACK_ROOM}
 use Rattle.bk_code.specs.declared.image.Image.{Image}
 use Rattle.bk_code.specs.declared.image.OpEntry.{OpEntry}
 use Rattle.bk_code.specs.declared.instruction.Inst.{Inst}
@@ -159,7 +160,7 @@ zero_after i d a from_zero = let h = enough_at i d a from_zero in omega (arith, 
 after_number : (i : Inst) (d e : ℤ) → pos (pops i) ≤ℤ d → e ≡ depth_after i d → unsigned_abs e ≡ unsigned_abs d - pops i + pushes i
 after_number i d e enough is = omega (arith, ints, is)
 
-limit_number : (i : Inst) (d : ℤ) → IsAllowed i d → pos 0 ≤ℤ d → unsigned_abs d ≤ 1000
+limit_number : (i : Inst) (d : ℤ) → IsAllowed i d → pos 0 ≤ℤ d → unsigned_abs d ≤ STACK_ROOM
 limit_number i d a from_zero = let l = a.limit in omega (arith, ints)
 
 enough_number : (i : Inst) (d : ℤ) → pos (pops i) ≤ℤ d → pops i ≤ unsigned_abs d
@@ -227,7 +228,7 @@ all_right image p numbered h right = record { numbered = numbered; depths = dept
       long = length-depths p ∙ h.progressing.long;
       first = root_zero 0 numbered.some (inl refl);
       starts = λ k d lt. root_zero (get_or image.ops k d).start (good_start image k d lt numbered) (inr (inl (k, get_or image.ops k d, slice_get-get_or image.ops k d lt, refl)));
-      limit = λ k lt. let n = number_at k (get_or image.code k Ret) (there k lt) in subst (λ x. x ≤ 1000) (sym (number_is p k (get_or image.code k Ret) n)) (limit_number (get_or image.code k Ret) n.number n.allowed (known_from_zero k (get_or image.code k Ret) (there k lt) n));
+      limit = λ k lt. let n = number_at k (get_or image.code k Ret) (there k lt) in subst (λ x. x ≤ STACK_ROOM) (sym (number_is p k (get_or image.code k Ret) n)) (limit_number (get_or image.code k Ret) n.number n.allowed (known_from_zero k (get_or image.code k Ret) (there k lt) n));
       enough = λ k i get. let n = number_at k i get in subst (λ x. pops i ≤ x) (sym (number_is p k i n)) (enough_number i n.number (enough_pops k i get n));
       flows = flows_on;
       returned = λ k i get. let n = number_at k i get in empty_at_end i n.number (slice_index (depths_of p) k) n.allowed (number_is p k i n);

@@ -3,6 +3,7 @@ use Rattle.std.proofs.Common.{◌≡◌, ◌≢◌, ℕ, ℤ, ◌+◌, ◌<◌, 
 use Rattle.std.specs.Prelude.{slice_get}
 use Rattle.std.proofs.lemmas.Bool.{cases_lt}
 use Rattle.std.proofs.lemmas.List.{append-nil}
+use Rattle.bk_limits.specs.declared.TheConstants.{MOST_SETS}
 use Rattle.bk_code.specs.declared.image.Image.{Image}
 use Rattle.bk_code.specs.declared.image.OpEntry.{OpEntry}
 use Rattle.bk_code.specs.declared.image.Parameter.{Parameter}
@@ -30,7 +31,7 @@ use Rattle.bk_image.proofs.Verdicts.{image_is, bytes_fit, number_kind}
 
 -- what is at fault once the layout stands
 abbrev Later : Image → LoadFault → Type 0
-Later image e = IsFirst (IsNumberFault image) e ⊎ ((at : ℕ) × (e ≡ Stack at) × (IsNumbered image × (length image.sets ≤ 65534)) × IsFirstStackFault image at)
+Later image e = IsFirst (IsNumberFault image) e ⊎ ((at : ℕ) × (e ≡ Stack at) × (IsNumbered image × (length image.sets ≤ MOST_SETS)) × IsFirstStackFault image at)
 
 abbrev Says : List ℕ → LoadFault → Type 0
 Says bytes e = (layout_of bytes ≡ Err e) ⊎ ((image : Image) × (layout_of bytes ≡ Ok image) × Later image e) ⊎ (e ≡ faults.Memory)

@@ -1,5 +1,6 @@
 -- How large a body is at one more than its variable.
 use Rattle.std.proofs.Common.{◌≡◌, ℕ, zero, suc, ◌+◌, ◌*◌, ◌≤◌, ◌<◌, ◌^◌, List, [], ◌∷◌, length, get_or, map, refl, ap, arith, Bool, true, false, cond, nat_eq, pos}
+use Rattle.bk_limits.specs.declared.TheConstants.{MOST_NODES}
 use Rattle.bk_form.specs.Formula.{Formula, bound, literal, unary, binary, for_all, for_some, comprehension, lambda, Formulas, no_formulas, formula_and, formula_size, formulas_size, formulas_of}
 use Rattle.bk_form.specs.declared.operator.BinOp.TheVariants.{Add}
 use Rattle.bk_form.specs.Replacement.{count}
@@ -42,7 +43,7 @@ mutual
   sizes_raised k no_formulas = (omega arith, omega arith)
   sizes_raised k (formula_and f fs) = let h = size_raised k f in let g = sizes_raised k fs in (omega (arith, h.0, g.0), omega (arith, h.1, g.1))
 
-pub small_raised : (f : Formula) → formula_size f ≤ 200000 → formula_size (at_next f) < 2 ^ 32
+pub small_raised : (f : Formula) → formula_size f ≤ MOST_NODES → formula_size (at_next f) < 2 ^ 32
 small_raised f h = let k = size_raised 0 f in omega (arith, h, k.1)
 
 pub grown_raised : (f : Formula) → formula_size f ≤ formula_size (at_next f)

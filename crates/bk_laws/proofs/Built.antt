@@ -2,6 +2,7 @@
 use Rattle.std.proofs.Common.{◌≡◌, ℕ, zero, suc, ◌+◌, ◌-◌, ◌^◌, ◌<◌, ◌≤◌, List, [], ◌∷◌, map, refl, ap, All, arith, false}
 use Rattle.std.specs.Prelude.{Option, Some, None, slice_get}
 use Rattle.std.proofs.lemmas.List.Elements.{All-head, All-tail}
+use Rattle.bk_limits.specs.declared.TheConstants.{MOST_NODES}
 use Rattle.bk_form.specs.Formula.{Formula, btrue, formula_size}
 use Rattle.bk_ops.specs.declared.law.Pat.{Pat}
 use Rattle.bk_laws.specs.declared.kind.Kind.{Kind}
@@ -46,7 +47,7 @@ sides-built pats picks d ns = map-twice (formula_of picks) (pattern_at pats d) n
 pub ruleset map_steps = (sides-built, map-twice)
 
 -- ---- how large a pattern's formula is
-pick-size : (picks : List Formula) (k : ℕ) → All IsSmall picks → formula_size (pick_at picks k) ≤ 200000
+pick-size : (picks : List Formula) (k : ℕ) → All IsSmall picks → formula_size (pick_at picks k) ≤ MOST_NODES
 pick-size [] zero h = grind arith
 pick-size [] (suc k) h = grind arith
 pick-size (p ∷ ps) zero h = All-head IsSmall p ps h

@@ -1,6 +1,7 @@
 -- A text, token by token.
 use Rattle.std.proofs.Common.{◌≡◌, ℕ, ◌+◌, ◌<◌, ◌≤◌, List, [], ◌∷◌, ◌++◌, length, refl, ap, sym, ◌∙◌, arith, subst, append-nil, length-append, drop, IsUtf8, ◌⊎◌, inl, inr, Result, Ok, Err, MatchResult, IfErr}
 use Rattle.std.specs.Prelude.{codes}
+use Rattle.bk_limits.specs.declared.TheConstants.{MOST_TOKENS}
 use Rattle.bk_form.specs.declared.token.Token.{Token}
 use Rattle.bk_form.specs.declared.token.TokenKind.{TokenKind}
 use Rattle.bk_form.specs.declared.token.TokenKind.TheVariants.{Sign}
@@ -45,7 +46,7 @@ pub length-pushed : (found items : List Token) (token : Token) → items ≡ fou
 length-pushed found items token i = ap length i ∙ length-append found (token ∷ [])
 
 -- ---- faults
-pub gap_fault : (text : List ℕ) (found : List Token) (rest : List ℕ) (fault : LexFault) → IsUtf8 text → length found ≤ 1000000 → Cut (length text) text found rest → IsGapFault (length text) rest fault → IsFaultOf text fault
+pub gap_fault : (text : List ℕ) (found : List Token) (rest : List ℕ) (fault : LexFault) → IsUtf8 text → length found ≤ MOST_TOKENS → Cut (length text) text found rest → IsGapFault (length text) rest fault → IsFaultOf text fault
 gap_fault text found rest (NotUtf8 place) u l c f = absurd f
 gap_fault text found rest (BadChar place) u l c f = absurd f
 gap_fault text found rest (OpenComment place) u l c f =
@@ -156,7 +157,7 @@ stuck text found tokens rest c s d some a = elim (compared (length text) text fo
       )
 ]
 
-past_limit : (text : List ℕ) (found tokens : List Token) (rest : List ℕ) → Cut (length text) text found rest → BeginsToken rest → length found ≡ 1000000 → AreTokens text tokens → length tokens ≤ 1000000 → ⊥
+past_limit : (text : List ℕ) (found tokens : List Token) (rest : List ℕ) → Cut (length text) text found rest → BeginsToken rest → length found ≡ MOST_TOKENS → AreTokens text tokens → length tokens ≤ MOST_TOKENS → ⊥
 past_limit text found tokens rest c b l a few =
     let less : length b.after < length rest = begins_some b.kind rest b.after b.begins in
     elim (compared (length text) text found tokens rest [] c a.1 (begins_no_gap b.kind rest b.after b.begins).no_gap end_settled) [
@@ -177,7 +178,7 @@ past_limit text found tokens rest c b l a few =
     no_more total [] x y z s k = no_gaps_left k.0 x y s k.1
     no_more total (t ∷ more) x y z s k = absurd (omega arith)
 
-pub faults_have_no_tokens : (text : List ℕ) (fault : LexFault) (tokens : List Token) → IsFaultOf text fault → IsOfText fault → AreTokens text tokens → length tokens ≤ 1000000 → ⊥
+pub faults_have_no_tokens : (text : List ℕ) (fault : LexFault) (tokens : List Token) → IsFaultOf text fault → IsOfText fault → AreTokens text tokens → length tokens ≤ MOST_TOKENS → ⊥
 faults_have_no_tokens text (NotUtf8 place) tokens f o a l = f.0 a.0
 faults_have_no_tokens text (BadChar place) tokens f o a l =
     stuck text f.1 tokens f.2.rest f.2.cut f.2.this.no_gap (nothing_dead f.2.rest f.2.this) f.2.this.some a
@@ -208,7 +209,7 @@ same_end : (total : ℕ) (more : List Token) (x y : List ℕ) → length more �
 same_end total [] x y z s k = no_gaps_left k.0 x y s k.1
 same_end total (t ∷ more) x y z s k = absurd (omega arith)
 
-limit_stuck : (text : List ℕ) (one other : List Token) (x y : List ℕ) → Cut (length text) text one x → Cut (length text) text other y → BeginsToken x → length one ≡ 1000000 → Settled y → Dead y → length other ≤ 1000000 → ⊥
+limit_stuck : (text : List ℕ) (one other : List Token) (x y : List ℕ) → Cut (length text) text one x → Cut (length text) text other y → BeginsToken x → length one ≡ MOST_TOKENS → Settled y → Dead y → length other ≤ MOST_TOKENS → ⊥
 limit_stuck text one other x y c d b l t f few = elim (compared (length text) text one other x y c d (token_settled x b) t) [
   | inl g ↦ (
       let sizes : length other ≡ length one + length g.0 = ap length g.1 ∙ length-append one g.0 in
@@ -221,7 +222,7 @@ limit_stuck text one other x y c d b l t f few = elim (compared (length text) te
       )
 ]
 
-limit_once : (text : List ℕ) (one other : List Token) (x y : List ℕ) (i j : ℕ) → Cut (length text) text one x → Cut (length text) text other y → BeginsToken x → BeginsToken y → length one ≡ 1000000 → length other ≡ 1000000 → i + length x ≡ length text → j + length y ≡ length text → i ≡ j
+limit_once : (text : List ℕ) (one other : List Token) (x y : List ℕ) (i j : ℕ) → Cut (length text) text one x → Cut (length text) text other y → BeginsToken x → BeginsToken y → length one ≡ MOST_TOKENS → length other ≡ MOST_TOKENS → i + length x ≡ length text → j + length y ≡ length text → i ≡ j
 limit_once text one other x y i j c d b e l m p q =
     let same : x ≡ y = elim (compared (length text) text one other x y c d (token_settled x b) (token_settled y e)) [
       | inl g ↦ (

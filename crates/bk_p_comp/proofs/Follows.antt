@@ -2,6 +2,7 @@
 use Rattle.std.specs.Prelude.{◌≡◌, ◌≢◌, ℕ, ◌<◌, ◌≤◌, Bool, true, false, List, [], ◌∷◌, ◌++◌, All, Contains, map, refl}
 use Rattle.std.proofs.Common.{arith, sym, ◌∙◌, ap, subst, append_assoc, append-nil}
 use Rattle.std.proofs.lemmas.List.Elements.{All-contains, All-from_get_or}
+use Rattle.bk_limits.specs.declared.TheConstants.{GREATEST_TREE_HEIGHT}
 use Rattle.bk_form.specs.declared.token.Token.{Token}
 use Rattle.bk_form.specs.declared.token.TokenKind.TheVariants.{Word}
 use Rattle.bk_raw.specs.Grammar.ComponentSpelling.{Clause, Parts}
@@ -89,7 +90,7 @@ follow_found kind done tokens behind rest t w p e k a n h = record {
 abbrev height_of : RawClause → ℕ
 height_of c = parts_height c.parts
 
-kept_more : (b : Bool) (kept new cs : List RawClause) (c d : RawClause) → AreKeptUnless b kept cs → new ≡ kept ++ d ∷ [] → d ≡ c → height_of c ≤ 1000 → AreKeptUnless b new (cs ++ c ∷ [])
+kept_more : (b : Bool) (kept new cs : List RawClause) (c d : RawClause) → AreKeptUnless b kept cs → new ≡ kept ++ d ∷ [] → d ≡ c → height_of c ≤ GREATEST_TREE_HEIGHT → AreKeptUnless b new (cs ++ c ∷ [])
 kept_more false kept new cs c d h e f l = (e ∙ (λ i. h.0 i ++ f i ∷ []), low_more height_of cs c h.1 l)
 kept_more true kept new cs c d h e f l = high_more height_of cs c h
 
@@ -98,13 +99,13 @@ numbers_more cs c before numbers f a k e = e ∙ (λ i. a i ++ clause_number (k.
 
 pub kept_built : (cs : List RawClause) (c : RawClause) (b : Bool) (kept new : List RawClause) (f : Found) (parts : KeptParts) → AreKeptUnless b kept cs → IsFound c f → f.parts ≡ Built parts → new ≡ kept ++ record { word = f.word; at = f.at; parts = parts_of parts } ∷ [] → AreKeptUnless b new (cs ++ c ∷ [])
 kept_built cs c b kept new f parts a k p e =
-    let q : (parts_of parts ≡ c.parts) × (parts_height c.parts ≤ 1000) = subst (λ x. AreKept c.parts x) p k.2 in
+    let q : (parts_of parts ≡ c.parts) × (parts_height c.parts ≤ GREATEST_TREE_HEIGHT) = subst (λ x. AreKept c.parts x) p k.2 in
     let same : clause_of f.word f.at (parts_of parts) ≡ c = λ i. clause_of (k.0 i) (k.1 i) (q.0 i) in
     kept_more b kept new cs c (clause_of f.word f.at (parts_of parts)) a e same q.1
 
-pub kept_high : (cs : List RawClause) (c : RawClause) (f : Found) → IsFound c f → f.parts ≡ High → 1000 < clauses_height (cs ++ c ∷ [])
+pub kept_high : (cs : List RawClause) (c : RawClause) (f : Found) → IsFound c f → f.parts ≡ High → GREATEST_TREE_HEIGHT < clauses_height (cs ++ c ∷ [])
 kept_high cs c f k p =
-    let q : 1000 < parts_height c.parts = subst (λ x. AreKept c.parts x) p k.2 in
+    let q : GREATEST_TREE_HEIGHT < parts_height c.parts = subst (λ x. AreKept c.parts x) p k.2 in
     high_last height_of cs c q
 
 -- ---- one clause after another

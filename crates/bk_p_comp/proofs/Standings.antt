@@ -3,6 +3,7 @@ use Rattle.std.specs.Prelude.{◌≡◌, ℕ, ◌<◌, ◌≤◌, max, List, [],
 use Rattle.std.proofs.Common.{arith, sym, ◌∙◌, ap}
 use Rattle.std.proofs.lemmas.List.Elements.{All-cons, All-head, All-nil, All-tail}
 use denote.Ref.{Bor}
+use Rattle.bk_limits.specs.declared.TheConstants.{GREATEST_TREE_HEIGHT}
 use Rattle.bk_form.specs.declared.token.Token.{Token}
 use Rattle.bk_ops.specs.declared.sign.TheConstants.{SEMICOLON}
 use Rattle.bk_raw.specs.Grammar.ComponentSpelling.{HasElements, Operation, Set, Value}
@@ -194,11 +195,11 @@ greatest_more height (y ∷ ys) x =
     let h : greatest (map height (ys ++ x ∷ [])) ≡ max (greatest (map height ys)) (height x) = greatest_more height ys x in
     omega (arith, h)
 
-pub high_more : {A : Type 0} (height : A → ℕ) (xs : List A) (x : A) → 1000 < greatest (map height xs) → 1000 < greatest (map height (xs ++ x ∷ []))
+pub high_more : {A : Type 0} (height : A → ℕ) (xs : List A) (x : A) → GREATEST_TREE_HEIGHT < greatest (map height xs) → GREATEST_TREE_HEIGHT < greatest (map height (xs ++ x ∷ []))
 high_more height xs x l = omega (arith, greatest_more height xs x, l)
 
-pub high_last : {A : Type 0} (height : A → ℕ) (xs : List A) (x : A) → 1000 < height x → 1000 < greatest (map height (xs ++ x ∷ []))
+pub high_last : {A : Type 0} (height : A → ℕ) (xs : List A) (x : A) → GREATEST_TREE_HEIGHT < height x → GREATEST_TREE_HEIGHT < greatest (map height (xs ++ x ∷ []))
 high_last height xs x l = omega (arith, greatest_more height xs x, l)
 
-pub low_more : {A : Type 0} (height : A → ℕ) (xs : List A) (x : A) → greatest (map height xs) ≤ 1000 → height x ≤ 1000 → greatest (map height (xs ++ x ∷ [])) ≤ 1000
+pub low_more : {A : Type 0} (height : A → ℕ) (xs : List A) (x : A) → greatest (map height xs) ≤ GREATEST_TREE_HEIGHT → height x ≤ GREATEST_TREE_HEIGHT → greatest (map height (xs ++ x ∷ [])) ≤ GREATEST_TREE_HEIGHT
 low_more height xs x l m = omega (arith, greatest_more height xs x, l, m)

@@ -1,6 +1,7 @@
 -- Heights of terms on the way to being built.
 use Rattle.std.specs.Prelude.{◌≡◌, ℕ, ◌+◌, ◌<◌, max, Bool, true, false, List, [], ◌∷◌, ◌++◌, refl}
 use Rattle.std.proofs.Common.{arith}
+use Rattle.bk_limits.specs.declared.TheConstants.{GREATEST_TREE_HEIGHT}
 use Rattle.bk_raw.specs.Trees.RawTree.{RawTree, RawTrees, no_trees, tree_and, RawRanges, no_ranges, range_and, node_height, tree_height, trees_height, ranges_height, trees_of}
 use Rattle.bk_raw.specs.Codes.RawView.{ranges_of}
 use Rattle.bk_raw.specs.declared.term.RawRange.{RawRange}
@@ -41,16 +42,16 @@ ranges_of_last [] r = refl
 ranges_of_last (s ∷ rs) r = λ i. range_and s.at s.number s.range (ranges_of_last rs r i)
 
 -- a list with one more, where one of both is too high
-pub and_tree_high : (ts : RawTrees) (t : RawTree) → 1000 < trees_height ts → 1000 < trees_height (and_tree ts t)
+pub and_tree_high : (ts : RawTrees) (t : RawTree) → GREATEST_TREE_HEIGHT < trees_height ts → GREATEST_TREE_HEIGHT < trees_height (and_tree ts t)
 and_tree_high ts t l = omega (arith, and_tree_height ts t, l)
 
-pub and_high_tree : (ts : RawTrees) (t : RawTree) → 1000 < tree_height t → 1000 < trees_height (and_tree ts t)
+pub and_high_tree : (ts : RawTrees) (t : RawTree) → GREATEST_TREE_HEIGHT < tree_height t → GREATEST_TREE_HEIGHT < trees_height (and_tree ts t)
 and_high_tree ts t l = omega (arith, and_tree_height ts t, l)
 
-pub and_range_high : (rs : RawRanges) (at n : ℕ) (d : RawTree) → 1000 < ranges_height rs → 1000 < ranges_height (and_range rs at n d)
+pub and_range_high : (rs : RawRanges) (at n : ℕ) (d : RawTree) → GREATEST_TREE_HEIGHT < ranges_height rs → GREATEST_TREE_HEIGHT < ranges_height (and_range rs at n d)
 and_range_high rs at n d l = omega (arith, and_range_height rs at n d, l)
 
-pub and_high_range : (rs : RawRanges) (at n : ℕ) (d : RawTree) → 1000 < tree_height d → 1000 < ranges_height (and_range rs at n d)
+pub and_high_range : (rs : RawRanges) (at n : ℕ) (d : RawTree) → GREATEST_TREE_HEIGHT < tree_height d → GREATEST_TREE_HEIGHT < ranges_height (and_range rs at n d)
 and_high_range rs at n d l = omega (arith, and_range_height rs at n d, l)
 
 -- ---- what is built, and what is too high
@@ -69,15 +70,15 @@ are_built_ranges (HighRanges free) = false
 true_false : true ≡ false → ⊥
 true_false e = cc
 
-pub high_piece : (piece : Piece) (tree : RawTree) → is_built piece ≡ false → IsPiece tree piece → 1000 < tree_height tree
+pub high_piece : (piece : Piece) (tree : RawTree) → is_built piece ≡ false → IsPiece tree piece → GREATEST_TREE_HEIGHT < tree_height tree
 high_piece (Built term height) tree e h = absurd (true_false e)
 high_piece (High known) tree e h = h.0
 
-pub high_terms : (all : Terms) (trees : RawTrees) → are_built all ≡ false → IsTerms trees all → 1000 < trees_height trees
+pub high_terms : (all : Terms) (trees : RawTrees) → are_built all ≡ false → IsTerms trees all → GREATEST_TREE_HEIGHT < trees_height trees
 high_terms (BuiltTerms terms height) trees e h = absurd (true_false e)
 high_terms (HighTerms free) trees e h = h.0
 
-pub high_ranges : (all : Ranges) (ranges : RawRanges) → are_built_ranges all ≡ false → IsRanges ranges all → 1000 < ranges_height ranges
+pub high_ranges : (all : Ranges) (ranges : RawRanges) → are_built_ranges all ≡ false → IsRanges ranges all → GREATEST_TREE_HEIGHT < ranges_height ranges
 high_ranges (BuiltRanges all height) rs e h = absurd (true_false e)
 high_ranges (HighRanges free) rs e h = h.0
 

@@ -4,6 +4,7 @@ use Rattle.std.specs.Str.{bytes_eq}
 use Rattle.std.proofs.Common.{arith, sym, ◌∙◌, ap, subst, append_assoc, append-nil, length, get_or, take}
 use Rattle.std.proofs.lemmas.List.{take_more}
 use Rattle.std.proofs.lemmas.Slice.Eq.{bytes_eq-Decides}
+use Rattle.bk_limits.specs.declared.TheConstants.{GREATEST_TREE_HEIGHT}
 use Rattle.bk_raw.specs.Trees.FreeNames.{conjuncts, is_among, stands_free, is_free_in, is_free_in_some, is_free_in_ranges}
 use Rattle.bk_raw.specs.Trees.RawTree.{RawTree, raw, RawTreeNode, raw_name, raw_word, raw_negative, raw_infix, raw_inverse, raw_image, raw_apply, raw_composition, raw_pair, raw_extension, raw_comprehension, raw_lambda, raw_for_all, raw_exists, raw_typed_for_all, raw_typed_exists, raw_ranged_comprehension, raw_ranged_lambda, RawTrees, no_trees, tree_and, RawRanges, no_ranges, range_and, tree_height, trees_of}
 use Rattle.bk_raw.specs.Codes.RawView.{ranges_of}
@@ -205,7 +206,7 @@ named_kept at a b text c cs h n f e =
     subst (λ ds. AreConjuncts (raw at (raw_infix Equal a b) ∷ []) ds) (sym e) (one, tt)
 
 -- a name is not high
-pub high_is_no_name : (t : RawTree) → 1000 < tree_height t → name_alone t ≡ None
+pub high_is_no_name : (t : RawTree) → GREATEST_TREE_HEIGHT < tree_height t → name_alone t ≡ None
 high_is_no_name (raw at (raw_name text)) l = absurd (omega (arith, l))
 high_is_no_name (raw at u) l = refl
 

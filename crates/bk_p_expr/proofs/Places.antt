@@ -1,6 +1,7 @@
 -- What is read from a place on.
 use Rattle.std.specs.Prelude.{false, ◌≡◌, ℕ, zero, suc, ◌-◌, ◌<◌, ◌≤◌, List, [], ◌∷◌, ◌++◌, length, take, drop, Option, None, Some, Result, Ok, Err, IfOk, MatchOption, refl}
 use Rattle.std.proofs.Common.{Box, Global, arith, sym, ap, ◌∙◌, subst, append_assoc, length-append, length-drop}
+use Rattle.bk_limits.specs.declared.TheConstants.{GREATEST_TREE_HEIGHT}
 use Rattle.bk_form.specs.declared.token.Token.{Token}
 use Rattle.bk_raw.specs.Trees.RawTree.{RawTree, tree_height}
 use Rattle.bk_raw.specs.Grammar.Spelling.{Spells}
@@ -86,22 +87,22 @@ nothing_behind tokens at l tree next s = omega (arith, l, within tokens at next 
 found_from : (tokens rest : List Token) (at : ℕ) (piece : Piece) (after : List Token) → rest ≡ drop at tokens → Finds (λ n. read n 0 rest) (length rest) (λ t. t) piece after → Finds (λ n. read n 0 (drop at tokens)) (length (drop at tokens)) (λ t. t) piece after
 found_from tokens rest at piece after e f = subst (λ r. Finds (λ n. read n 0 r) (length r) (λ t. t) piece after) e f
 
-built_is : (piece : Piece) (tree : RawTree) (term : Box RawTree Global) (height : ℕ) → piece ≡ Built term height → IsPiece tree piece → (tree ≡ term.value) × (tree_height term.value ≤ 1000)
+built_is : (piece : Piece) (tree : RawTree) (term : Box RawTree Global) (height : ℕ) → piece ≡ Built term height → IsPiece tree piece → (tree ≡ term.value) × (tree_height term.value ≤ GREATEST_TREE_HEIGHT)
 built_is piece tree term height e h =
-    let k : (term.value ≡ tree) × (height ≡ tree_height tree) × (height ≤ 1000) = subst (λ p. IsPiece tree p) e h in
+    let k : (term.value ≡ tree) × (height ≡ tree_height tree) × (height ≤ GREATEST_TREE_HEIGHT) = subst (λ p. IsPiece tree p) e h in
     let q : tree_height term.value ≡ tree_height tree = ap tree_height k.0 in
     (sym k.0, omega (arith, q, k.1, k.2))
 
 pub term_found : (tokens rest : List Token) (at : ℕ) (piece : Piece) (term : Box RawTree Global) (height : ℕ) (answer : RawTree) (after : List Token) (next : ℕ) → rest ≡ drop at tokens → at ≤ length tokens → Finds (λ n. read n 0 rest) (length rest) (λ t. t) piece after → piece ≡ Built term height → answer ≡ term.value → next ≡ length tokens - length after → IsLongest tokens at next answer
 term_found tokens rest at piece term height answer after next e l f p a q =
     let g : Finds (λ n. read n 0 (drop at tokens)) (length (drop at tokens)) (λ t. t) piece after = found_from tokens rest at piece after e f in
-    let b : (g.tree ≡ term.value) × (tree_height term.value ≤ 1000) = built_is piece g.tree term height p g.built in
+    let b : (g.tree ≡ term.value) × (tree_height term.value ≤ GREATEST_TREE_HEIGHT) = built_is piece g.tree term height p g.built in
     subst (λ t. IsLongest tokens at next t) (b.0 ∙ sym a) (subst (λ m. IsLongest tokens at m g.tree) (sym q) (longest_found tokens at piece after g l))
 
-pub term_low : (rest : List Token) (piece : Piece) (term : Box RawTree Global) (height : ℕ) (answer : RawTree) (after : List Token) → Finds (λ n. read n 0 rest) (length rest) (λ t. t) piece after → piece ≡ Built term height → answer ≡ term.value → tree_height answer ≤ 1000
-term_low rest piece term height answer after f p a = subst (λ t. tree_height t ≤ 1000) (sym a) (built_is piece f.tree term height p f.built).1
+pub term_low : (rest : List Token) (piece : Piece) (term : Box RawTree Global) (height : ℕ) (answer : RawTree) (after : List Token) → Finds (λ n. read n 0 rest) (length rest) (λ t. t) piece after → piece ≡ Built term height → answer ≡ term.value → tree_height answer ≤ GREATEST_TREE_HEIGHT
+term_low rest piece term height answer after f p a = subst (λ t. tree_height t ≤ GREATEST_TREE_HEIGHT) (sym a) (built_is piece f.tree term height p f.built).1
 
-pub term_high : (tokens rest : List Token) (at : ℕ) (piece : Piece) (after : List Token) → rest ≡ drop at tokens → at ≤ length tokens → Finds (λ n. read n 0 rest) (length rest) (λ t. t) piece after → is_built piece ≡ false → (tree : RawTree) × (next : ℕ) × IsLongest tokens at next tree × (1000 < tree_height tree)
+pub term_high : (tokens rest : List Token) (at : ℕ) (piece : Piece) (after : List Token) → rest ≡ drop at tokens → at ≤ length tokens → Finds (λ n. read n 0 rest) (length rest) (λ t. t) piece after → is_built piece ≡ false → (tree : RawTree) × (next : ℕ) × IsLongest tokens at next tree × (GREATEST_TREE_HEIGHT < tree_height tree)
 term_high tokens rest at piece after e l f p =
     let g : Finds (λ n. read n 0 (drop at tokens)) (length (drop at tokens)) (λ t. t) piece after = found_from tokens rest at piece after e f in
     (g.tree, length tokens - length after, longest_found tokens at piece after g l, high_piece piece g.tree p g.built)

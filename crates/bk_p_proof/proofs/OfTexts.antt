@@ -3,6 +3,7 @@ use Rattle.std.specs.Prelude.{◌≤◌, ℕ, List, [], ◌∷◌, ◌++◌, map
 use Rattle.std.specs.List.{AllZip, flat_map}
 use Rattle.std.proofs.Common.{arith, sym, subst}
 use Rattle.std.proofs.lemmas.List.Elements.{All-nil, All-append, Contains-get_or}
+use Rattle.bk_limits.specs.declared.TheConstants.{GREATEST_TREE_HEIGHT}
 use Rattle.bk_raw.specs.Errors.Limits.{IsLowFile}
 use Rattle.bk_raw.specs.Trees.Numbers.{greatest}
 use Rattle.bk_raw.specs.Trees.ScriptTree.{RawScript, script_height}
@@ -22,7 +23,7 @@ flat_all P each (t ∷ texts) (f ∷ files) h = All-append P f (flat files) (eac
 low_both : (ss rs : List RawScript) → IsLowFile ss → IsLowFile rs → IsLowFile (ss ++ rs)
 low_both [] rs h k = k
 low_both (s ∷ ss) rs h k =
-    let rest : greatest (map script_height ss) ≤ 1000 = omega (arith, h) in
+    let rest : greatest (map script_height ss) ≤ GREATEST_TREE_HEIGHT = omega (arith, h) in
     omega (arith, h, low_both ss rs rest k)
 
 flat_low : (texts : List (List ℕ)) (files : List (List RawScript)) → AllZip IsProofFile texts files → IsLowFile (flat files)

@@ -1,6 +1,7 @@
 -- Parts of rules by what they are.
 use Rattle.std.specs.Prelude.{◌≡◌, ℕ, pos, ◌<◌, ◌≤◌, List, [], ◌∷◌, ◌++◌, length, map, max, true, false, refl}
 use Rattle.std.proofs.Common.{arith, sym, ◌∙◌, ap}
+use Rattle.bk_limits.specs.declared.TheConstants.{GREATEST_TREE_HEIGHT}
 use Rattle.bk_form.specs.declared.token.Token.{Token}
 use Rattle.bk_form.specs.declared.token.TokenKind.TheVariants.{Number}
 use Rattle.bk_ops.specs.declared.sign.TheConstants.{COMMA}
@@ -33,16 +34,16 @@ listed_again (t ∷ ts) = λ i. t ∷ listed_again ts i
 pub trees_same : (ts us : List RawTree) → trees_of ts ≡ trees_of us → ts ≡ us
 trees_same ts us e = sym (listed_again ts) ∙ ap list_of e ∙ listed_again us
 
-pub terms_kept : (ts us : List RawTree) (n : ℕ) → trees_of us ≡ trees_of ts → n ≡ trees_height (trees_of ts) → n ≤ 1000 → IsPart (part_terms ts) (part_terms us) false
+pub terms_kept : (ts us : List RawTree) (n : ℕ) → trees_of us ≡ trees_of ts → n ≡ trees_height (trees_of ts) → n ≤ GREATEST_TREE_HEIGHT → IsPart (part_terms ts) (part_terms us) false
 terms_kept ts us n e h l = (ap part_terms (trees_same us ts e), omega (arith, heights_same ts, h, l))
 
-pub terms_too_high : (ts : List RawTree) → 1000 < trees_height (trees_of ts) → IsPart (part_terms ts) part_no_place true
+pub terms_too_high : (ts : List RawTree) → GREATEST_TREE_HEIGHT < trees_height (trees_of ts) → IsPart (part_terms ts) part_no_place true
 terms_too_high ts l = (refl, omega (arith, heights_same ts, l))
 
-pub law_kept : (name : List ℕ) (ts us : List RawTree) (n : ℕ) → trees_of us ≡ trees_of ts → n ≡ trees_height (trees_of ts) → n ≤ 1000 → IsPart (part_law name ts) (part_law name us) false
+pub law_kept : (name : List ℕ) (ts us : List RawTree) (n : ℕ) → trees_of us ≡ trees_of ts → n ≡ trees_height (trees_of ts) → n ≤ GREATEST_TREE_HEIGHT → IsPart (part_law name ts) (part_law name us) false
 law_kept name ts us n e h l = (ap (part_law name) (trees_same us ts e), omega (arith, heights_same ts, h, l))
 
-pub law_too_high : (name : List ℕ) (ts : List RawTree) → 1000 < trees_height (trees_of ts) → IsPart (part_law name ts) part_no_place true
+pub law_too_high : (name : List ℕ) (ts : List RawTree) → GREATEST_TREE_HEIGHT < trees_height (trees_of ts) → IsPart (part_law name ts) part_no_place true
 law_too_high name ts l = (refl, omega (arith, heights_same ts, l))
 
 -- ---- numbers

@@ -1,6 +1,7 @@
 -- Rules with semicolons between, and a script but for its end, in front of tokens.
 use Rattle.std.specs.Prelude.{◌≡◌, ℕ, ◌<◌, ◌≤◌, Bool, true, false, ◌||◌, max, List, [], ◌∷◌, ◌++◌, length, codes, refl}
 use Rattle.std.proofs.Common.{inl, arith, sym, ◌∙◌, ap, subst, append_assoc, append-nil, length-append}
+use Rattle.bk_limits.specs.declared.TheConstants.{GREATEST_TREE_HEIGHT}
 use Rattle.bk_form.specs.declared.token.Token.{Token}
 use Rattle.bk_form.specs.declared.token.TokenKind.TheVariants.{Name, Sign}
 use Rattle.bk_ops.specs.declared.sign.TheConstants.{SEMICOLON, DOT}
@@ -53,13 +54,13 @@ names_last : (rs : List RawRule) (r : RawRule) → rules_names (rs ++ r ∷ []) 
 names_last [] r = append-nil (rule_names r)
 names_last (q ∷ rs) r = ap (λ ns. rule_names q ++ ns) (names_last rs r) ∙ sym (append_assoc (rule_names q) (rules_names rs) (rule_names r))
 
-pub both_low : (m n k : ℕ) → k ≡ max m n → m ≤ 1000 → n ≤ 1000 → k ≤ 1000
+pub both_low : (m n k : ℕ) → k ≡ max m n → m ≤ GREATEST_TREE_HEIGHT → n ≤ GREATEST_TREE_HEIGHT → k ≤ GREATEST_TREE_HEIGHT
 both_low m n k e a b = omega (arith, e, a, b)
 
-pub first_high : (m n k : ℕ) → k ≡ max m n → 1000 < m → 1000 < k
+pub first_high : (m n k : ℕ) → k ≡ max m n → GREATEST_TREE_HEIGHT < m → GREATEST_TREE_HEIGHT < k
 first_high m n k e a = omega (arith, e, a)
 
-pub second_high : (m n k : ℕ) → k ≡ max m n → 1000 < n → 1000 < k
+pub second_high : (m n k : ℕ) → k ≡ max m n → GREATEST_TREE_HEIGHT < n → GREATEST_TREE_HEIGHT < k
 second_high m n k e a = omega (arith, e, a)
 
 names_on : (rs qs : List RawRule) (r q : RawRule) → rules_names qs ≡ rules_names rs → rule_names q ≡ rule_names r → rules_names (qs ++ q ∷ []) ≡ rules_names (rs ++ r ∷ [])

@@ -1,6 +1,7 @@
 -- Heights of substitutions on the way to being built.
 use Rattle.std.specs.Prelude.{◌≡◌, ℕ, ◌+◌, ◌<◌, ◌≤◌, max, Bool, true, false, List, [], ◌∷◌, ◌++◌, Option, Some, None, refl}
 use Rattle.std.proofs.Common.{Box, Vec, Global, arith, sym, ◌∙◌, subst}
+use Rattle.bk_limits.specs.declared.TheConstants.{GREATEST_TREE_HEIGHT}
 use Rattle.bk_raw.specs.Trees.RawTree.{RawTree, RawTrees, tree_height, trees_height}
 use Rattle.bk_raw.specs.Trees.SubTree.{SubTree, sub, SubNode, sub_if, sub_select, sub_height, sub_node_height, Branches, no_branches, else_branch, branch_and, branches_height, Choices, no_choices, choice_and, choices_height}
 use Rattle.bk_raw.specs.Codes.SubView.{branches_of, choices_of, sub_node_of}
@@ -34,7 +35,7 @@ true_false : true ≡ false → ⊥
 true_false e = cc
 
 -- ---- what is too high stays so
-pub high_statement : (self : Statement) (s : SubTree) → self ≡ High → IsStatement s self → 1000 < sub_height s
+pub high_statement : (self : Statement) (s : SubTree) → self ≡ High → IsStatement s self → GREATEST_TREE_HEIGHT < sub_height s
 high_statement self s e h = subst (λ t. IsStatement s t) e h
 
 -- whether a term is built, and whether terms are
@@ -46,7 +47,7 @@ abbrev pub are_built : Terms → Bool
 are_built (BuiltTerms terms height) = true
 are_built (HighTerms free) = false
 
-pub high_term : (self : Term) (p : RawTree) → is_built self ≡ false → IsTerm p self → 1000 < tree_height p
+pub high_term : (self : Term) (p : RawTree) → is_built self ≡ false → IsTerm p self → GREATEST_TREE_HEIGHT < tree_height p
 high_term (BuiltTerm term height) p n h = absurd (true_false n)
 high_term (HighTerm known) p n h = h.0
 
@@ -59,14 +60,14 @@ pub high_known : (p : RawTree) (self : Term) → is_built self ≡ false → IsT
 high_known p (BuiltTerm term height) n h = absurd (true_false n)
 high_known p (HighTerm known) n h = h.1
 
-pub high_terms : (self : Terms) (us : RawTrees) → are_built self ≡ false → IsTerms us self → 1000 < trees_height us
+pub high_terms : (self : Terms) (us : RawTrees) → are_built self ≡ false → IsTerms us self → GREATEST_TREE_HEIGHT < trees_height us
 high_terms (BuiltTerms terms height) us n h = absurd (true_false n)
 high_terms (HighTerms free) us n h = h.0
 
-pub high_branches : (self : BuiltOnes) (bs : Branches) → self ≡ HighBranches → IsBranches bs self → 1000 < branches_height bs
+pub high_branches : (self : BuiltOnes) (bs : Branches) → self ≡ HighBranches → IsBranches bs self → GREATEST_TREE_HEIGHT < branches_height bs
 high_branches self bs e h = subst (λ b. IsBranches bs b) e h
 
-pub high_choices : (self : BuiltOthers) (cs : Choices) → self ≡ HighChoices → IsChoices cs self → 1000 < choices_height cs
+pub high_choices : (self : BuiltOthers) (cs : Choices) → self ≡ HighChoices → IsChoices cs self → GREATEST_TREE_HEIGHT < choices_height cs
 high_choices self cs e h = subst (λ c. IsChoices cs c) e h
 
 -- ---- nodes
@@ -91,18 +92,18 @@ around_higher Begin form s e = subst (λ f. sub_height s ≤ sub_node_height (f 
 around_higher (Var xs) form s e = subst (λ f. sub_height s ≤ sub_node_height (f s)) (sym e) (omega arith)
 around_higher (Under head test) form s w = subst (λ f. sub_height s ≤ sub_node_height (f s)) (sym w.1) (omega (arith, head_height head w.0 s))
 
-pub around_too_high : (at : ℕ) (block : Around) (form : SubTree → SubNode) (self : Statement) (s : SubTree) → self ≡ High → IsStatement s self → IsAround form block → 1000 < sub_height (sub at (form s))
+pub around_too_high : (at : ℕ) (block : Around) (form : SubTree → SubNode) (self : Statement) (s : SubTree) → self ≡ High → IsStatement s self → IsAround form block → GREATEST_TREE_HEIGHT < sub_height (sub at (form s))
 around_too_high at block form self s e h w =
-    let k : 1000 < sub_height s = high_statement self s e h in
+    let k : GREATEST_TREE_HEIGHT < sub_height s = high_statement self s e h in
     let l : sub_height s ≤ sub_node_height (form s) = around_higher block form s w in
-    let m : 1000 < sub_node_height (form s) = omega (arith, k, l) in
+    let m : GREATEST_TREE_HEIGHT < sub_node_height (form s) = omega (arith, k, l) in
     m
 
 -- and than its predicate
-pub under_too_high : (at : ℕ) (head : Head) (form : SubTree → SubNode) (test : Term) (p : RawTree) (s : SubTree) → is_built test ≡ false → form ≡ head_node head p → IsTerm p test → 1000 < sub_height (sub at (form s))
+pub under_too_high : (at : ℕ) (head : Head) (form : SubTree → SubNode) (test : Term) (p : RawTree) (s : SubTree) → is_built test ≡ false → form ≡ head_node head p → IsTerm p test → GREATEST_TREE_HEIGHT < sub_height (sub at (form s))
 under_too_high at head form test p s e f h =
-    let k : 1000 < tree_height p = high_term test p e h in
-    subst (λ g. 1000 < sub_node_height (g s)) (sym f) (omega (arith, k, head_height head p s))
+    let k : GREATEST_TREE_HEIGHT < tree_height p = high_term test p e h in
+    subst (λ g. GREATEST_TREE_HEIGHT < sub_node_height (g s)) (sym f) (omega (arith, k, head_height head p s))
 
 -- what is built is the block, where it is one around that substitution
 pub built_around : (at : ℕ) (other : SubTree → SubNode) (form : SubTree → SubNode) (b s : SubTree) (height : ℕ) (new : Statement) → form ≡ other → b ≡ s → sub_node_height (other s) ≡ height + 1 → ((t : SubTree) → sub at (other b) ≡ t → sub_height t ≡ height + 1 → IsStatement t new) → IsStatement (sub at (form s)) new
@@ -122,12 +123,12 @@ open_height (b ∷ bs) cs = let h : branches_height (followed_by (branches_of bs
 pub followed_height : (all : List RawBranch) (bs cs : Branches) → branches_of all no_branches ≡ bs → branches_height (followed_by bs cs) ≡ max (branches_height bs) (branches_height cs)
 followed_height all bs cs e = subst (λ b. branches_height (followed_by b cs) ≡ max (branches_height b) (branches_height cs)) e (open_height all cs)
 
-pub branches_too_high : (self : BuiltOnes) (bs cs : Branches) → self ≡ HighBranches → IsBranches bs self → 1000 < branches_height (followed_by bs cs)
+pub branches_too_high : (self : BuiltOnes) (bs cs : Branches) → self ≡ HighBranches → IsBranches bs self → GREATEST_TREE_HEIGHT < branches_height (followed_by bs cs)
 branches_too_high self bs cs e h =
-    let k : 1000 < branches_height bs = high_branches self bs e h in
+    let k : GREATEST_TREE_HEIGHT < branches_height bs = high_branches self bs e h in
     omega (arith, k, followed_at_least bs cs)
 
-pub branches_with_high : (all : List RawBranch) (bs cs : Branches) → branches_of all no_branches ≡ bs → 1000 < branches_height cs → 1000 < branches_height (followed_by bs cs)
+pub branches_with_high : (all : List RawBranch) (bs cs : Branches) → branches_of all no_branches ≡ bs → GREATEST_TREE_HEIGHT < branches_height cs → GREATEST_TREE_HEIGHT < branches_height (followed_by bs cs)
 branches_with_high all bs cs e l = omega (arith, l, followed_height all bs cs e)
 
 pub branches_of_last : (all : List RawBranch) (b : RawBranch) → branches_of (all ++ b ∷ []) no_branches ≡ followed_by (branches_of all no_branches) (branch_and b.condition b.body no_branches)
@@ -157,9 +158,9 @@ pub chosen_height : (cs ds : Choices) → choices_height (chosen_then cs ds) ≡
 chosen_height no_choices ds = omega arith
 chosen_height (choice_and s cs) ds = let h : choices_height (chosen_then cs ds) ≡ max (choices_height cs) (choices_height ds) = chosen_height cs ds in omega (arith, h)
 
-pub choices_too_high : (self : BuiltOthers) (cs ds : Choices) → self ≡ HighChoices → IsChoices cs self → 1000 < choices_height (chosen_then cs ds)
+pub choices_too_high : (self : BuiltOthers) (cs ds : Choices) → self ≡ HighChoices → IsChoices cs self → GREATEST_TREE_HEIGHT < choices_height (chosen_then cs ds)
 choices_too_high self cs ds e h =
-    let k : 1000 < choices_height cs = high_choices self cs e h in
+    let k : GREATEST_TREE_HEIGHT < choices_height cs = high_choices self cs e h in
     omega (arith, k, chosen_height cs ds)
 
 pub choices_of_last : (all : List SubTree) (s : SubTree) → choices_of (all ++ s ∷ []) ≡ chosen_then (choices_of all) (choice_and s no_choices)

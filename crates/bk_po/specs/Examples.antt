@@ -1,6 +1,6 @@
 -- An adder and a stepper with their implementations, to be checked by hand: inc(k) adds k to n, where
 -- that is allowed, and inc of the stepper adds 1 to n below 10; get answers n, which stays from 0 to 10.
-use Rattle.std.specs.Prelude.{◌≡◌, ℕ, pos, negsuc, List, [], ◌∷◌, codes, slice_get, Some}
+use Rattle.std.specs.Prelude.{◌≡◌, ℕ, pos, neg_ℤ, List, [], ◌∷◌, codes, slice_get, Some}
 use Rattle.bk_limits.specs.declared.TheConstants.{MAXINT}
 use Rattle.bk_val.specs.ValueType.{int_type}
 use Rattle.bk_form.specs.Table.{Table}
@@ -108,7 +108,7 @@ abbrev pub known_at_inc : List Formula
 known_at_inc =
     between (variable 0) 0 10 ∷ between (variable 1) 0 10 ∷ binary Eq (variable 1) (variable 0) ∷
     between (variable 4) 1 10 ∷ binary Le (plus (variable 0) (variable 4)) (literal (pos 10)) ∷
-    binary In (variable 4) (binary Range (literal (negsuc 2147483646)) (literal MAXINT)) ∷ []
+    binary In (variable 4) (binary Range (literal (neg_ℤ MAXINT)) (literal MAXINT)) ∷ []
 
 -- three obligations of the adder, whole
 pub record TallyAsks : Type 0 where
@@ -117,7 +117,7 @@ pub record TallyAsks : Type 0 where
       Some (codes "Tally_i.inc.1", (known_at_inc, between (plus (variable 1) (variable 4)) 0 10))
   -- MININT <= n$1 + k
   pub not_below : slice_get (numbered_obligations tally) 10 ≡
-      Some (codes "Tally_i.inc.chk.1", (known_at_inc, binary Le (literal (negsuc 2147483646)) (plus (variable 1) (variable 4))))
+      Some (codes "Tally_i.inc.chk.1", (known_at_inc, binary Le (literal (neg_ℤ MAXINT)) (plus (variable 1) (variable 4))))
   -- n$1 + k <= MAXINT
   pub not_above : slice_get (numbered_obligations tally) 11 ≡
       Some (codes "Tally_i.inc.chk.2", (known_at_inc, binary Le (plus (variable 1) (variable 4)) (literal MAXINT)))

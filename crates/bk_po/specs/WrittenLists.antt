@@ -1,6 +1,6 @@
 -- The obligations of three small projects, written out by hand: a number that leaves the
 -- machine's range, two numbers that change places, and an array that is filled by a loop.
-use Rattle.std.specs.Prelude.{◌≡◌, ℕ, pos, negsuc, List, [], ◌∷◌, codes}
+use Rattle.std.specs.Prelude.{◌≡◌, ◌+ℤ◌, ℕ, pos, neg_ℤ, List, [], ◌∷◌, codes}
 use Rattle.bk_limits.specs.declared.TheConstants.{MAXINT}
 use Rattle.bk_val.specs.ValueType.{ValueType, int_type, pair_type, set_type}
 use Rattle.bk_form.specs.Table.{Table, VariableEntry}
@@ -34,7 +34,11 @@ same x y = binary Eq (variable x) (variable y)
 
 -- MININT
 abbrev pub least : Formula
-least = literal (negsuc 2147483646)
+least = literal (neg_ℤ MAXINT)
+
+-- the number after MAXINT
+abbrev pub next : Formula
+next = literal (MAXINT +ℤ pos 1)
 
 -- MAXINT
 abbrev pub greatest : Formula
@@ -61,7 +65,7 @@ plain_body sub outputs = record { condition = btrue; sub = sub; outputs = output
 abbrev pub is_whole : Formula → Formula
 is_whole e = binary In e (named Integer)
 
--- over = x := 2147483648, and x := 2147483647 ; x := x + 1
+-- over = x := MAXINT + 1 in one number, and x := MAXINT ; x := x + 1
 abbrev pub over : Development
 over = record {
   max = default_max;
@@ -79,7 +83,7 @@ over = record {
         links = [];
         assertions = [];
         init = becomes 0 (number 0);
-        bodies = plain_body (becomes 0 (number 2147483648)) [] ∷ [];
+        bodies = plain_body (becomes 0 next) [] ∷ [];
       } ∷
       record {
         name = codes "Over_i";
@@ -108,11 +112,11 @@ known_over = is_whole (variable 0) ∷ is_whole (variable 1) ∷ same 1 0 ∷ []
 abbrev pub OverHasThese : Type 0
 OverHasThese = numbered_obligations over ≡
     (codes "Over.INITIALISATION.1", ([], is_whole (number 0))) ∷
-    (codes "Over.over.1", (is_whole (variable 0) ∷ [], is_whole (number 2147483648))) ∷
+    (codes "Over.over.1", (is_whole (variable 0) ∷ [], is_whole next)) ∷
     (codes "Over_i.INITIALISATION.1", ([], is_whole (number 0))) ∷
     (codes "Over_i.INITIALISATION.2", ([], binary Eq (number 0) (number 0))) ∷
     (codes "Over_i.over.1", (known_over, is_whole past)) ∷
-    (codes "Over_i.over.2", (known_over, binary Eq past (number 2147483648))) ∷
+    (codes "Over_i.over.2", (known_over, binary Eq past next)) ∷
     (codes "Over_i.over.chk.1", (known_over, binary Le least past)) ∷
     (codes "Over_i.over.chk.2", (known_over, binary Le past greatest)) ∷ []
 

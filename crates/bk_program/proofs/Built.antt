@@ -1,5 +1,6 @@
 -- An image that is built gives the answers of its project's runs.
 use Rattle.std.proofs.Common.{◌≡◌, ℕ, ◌≤◌, inl, inr, true, List, length, Some, sym, ◌∙◌, subst}
+use Rattle.bk_limits.specs.declared.TheConstants.{MOST_BYTES}
 use Rattle.bk_io.specs.Bytes.{AreBytes}
 use Rattle.bk_io.specs.Files.{Files, file_named}
 use Rattle.bk_code.specs.declared.image.Image.{Image}
@@ -44,7 +45,7 @@ module _ (files others : Files) (calls : List ℕ) (same : file_named others cal
   }
 
 -- ---- a project that is built
-module _ (files others : Files) (project calls image bytes : List ℕ) (fuel : ℕ) (built : IsDoneOn files project (build_task project) Done bytes) (are : AreBytes bytes) (short : length bytes ≤ 16777216)
+module _ (files others : Files) (project calls image bytes : List ℕ) (fuel : ℕ) (built : IsDoneOn files project (build_task project) Done bytes) (are : AreBytes bytes) (short : length bytes ≤ MOST_BYTES)
     (stands : file_named others image ≡ Some bytes) (same : file_named others calls ≡ file_named files calls) where
   abbrev dev : Development
   dev = built.dev

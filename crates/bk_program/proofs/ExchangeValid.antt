@@ -1,6 +1,7 @@
 -- The exchange's five sequents are valid: INITIALISATION and swap of the machine, INITIALISATION, swap and swap.chk of the implementation.
 use Rattle.std.proofs.Common.{◌≡◌, ℕ, zero, suc, ℤ, pos, List, [], ◌∷◌, refl, sym, ◌∙◌, Bool, true, not, ◌&&◌, arith}
-use Rattle.std.specs.Prelude.{◌-ℤ◌, int_lt, int_le, negsuc, map}
+use Rattle.std.specs.Prelude.{◌-ℤ◌, int_lt, int_le, neg_ℤ, negsuc, map}
+use Rattle.bk_limits.specs.declared.TheConstants.{MAXINT}
 use Rattle.std.proofs.lemmas.Int.{ints}
 use Rattle.bk_val.specs.Value.{MathValue, int}
 use Rattle.bk_val.specs.ValueType.{ValueType, int_type, is_value_of, are_of_types}
@@ -107,10 +108,10 @@ still_below w h = grind (arith, ints)
 falls : (w : ℤ) → int_lt (w -ℤ pos 1) w ≡ true
 falls w = grind (arith, ints)
 
-not_below : (w : ℤ) → int_le (pos 0) w ≡ true → int_le (negsuc 2147483646) (w -ℤ pos 1) ≡ true
+not_below : (w : ℤ) → int_le (pos 0) w ≡ true → int_le (neg_ℤ MAXINT) (w -ℤ pos 1) ≡ true
 not_below w h = grind (arith, ints)
 
-not_above : (w : ℤ) → int_le w (pos 5) ≡ true → int_le (w -ℤ pos 1) (pos 2147483647) ≡ true
+not_above : (w : ℤ) → int_le w (pos 5) ≡ true → int_le (w -ℤ pos 1) MAXINT ≡ true
 not_above w h = grind (arith, ints)
 
 -- 0..2 * {0} is an array
@@ -142,7 +143,7 @@ code-init find law e t = some-number find law (at e) (e 0) (joined filled nought
     (and-true (is_equal (e 0) (e 0)) (truth find (under (at e) numbers (e 0 ∷ [])) (is_array filled) && true) (value_eq-self (e 0)) (and-true (truth find (under (at e) numbers (e 0 ∷ [])) (is_array filled)) true (filled-is-array find law (under (at e) numbers (e 0 ∷ []))) refl))
 
 abbrev fits : Formula
-fits = binary And (binary Le (literal (negsuc 2147483646)) less_one) (binary Le less_one (literal (pos 2147483647)))
+fits = binary And (binary Le (literal (neg_ℤ MAXINT)) less_one) (binary Le less_one (literal MAXINT))
 
 abbrev checked : Formula
 checked = binary And (binary And (binary Le nought (literal (pos 1))) (binary Le (literal (pos 1)) (literal (pos 2)))) (for_all numbers (binary Imp (bounded (bound 0)) (binary Imp positive fits)))
@@ -153,8 +154,8 @@ check find law e = each-number find law (at e) checked (λ z.
     each-number find law inner (binary Imp (bounded (bound 0)) (binary Imp positive fits)) (λ w.
     let a = int_le (pos 0) w in
     let b = int_le w (pos 5) in
-    let low = int_le (negsuc 2147483646) (w -ℤ pos 1) in
-    let high = int_le (w -ℤ pos 1) (pos 2147483647) in
+    let low = int_le (neg_ℤ MAXINT) (w -ℤ pos 1) in
+    let high = int_le (w -ℤ pos 1) MAXINT in
     implies-if (a && b) (implies (int_lt (pos 0) w) (low && high)) (λ k. implies-if (int_lt (pos 0) w) (low && high) (λ l. let m = and-both a b k in and-true low high (not_below w m.0) (not_above w m.1)))))
 
 -- where f is an array and the links hold

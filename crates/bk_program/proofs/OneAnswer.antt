@@ -1,6 +1,7 @@
 -- The words and the told files have one answer at most: no two checks stop a task, and none does where it is done.
 use Rattle.std.proofs.Common.{◌≡◌, ℕ, ◌<◌, ◌≤◌, ◌⊎◌, inl, inr, List, [], ◌∷◌, ◌++◌, length, Option, Some, None, sym, ◌∙◌, ap, subst, arith, Bool, true, false, true≢false}
 use Rattle.std.proofs.lemmas.Option.{none-some}
+use Rattle.bk_limits.specs.declared.TheConstants.{MOST_BYTES, MOST_CELLS, MOST_NODES_TOGETHER, MOST_OBLIGATIONS}
 use Rattle.bk_io.specs.Files.{Files}
 use Rattle.bk_code.specs.declared.image.Image.{Image}
 use Rattle.bk_code.specs.Session.{Request, Told, Session}
@@ -58,7 +59,7 @@ module _ (files : Files) (name : List ℕ) where
   file_told stop text (inl h) t = none-some text (sym h.1 ∙ t.stands)
   file_told stop text (inr h) t =
       let same : h.1.bytes ≡ text = some_once (sym h.1.found ∙ t.stands) in
-      let long : 16777216 < length text = subst (λ x. 16777216 < length x) same h.1.longer in
+      let long : MOST_BYTES < length text = subst (λ x. MOST_BYTES < length x) same h.1.longer in
       omega (arith, long, t.short)
 
   file_once : (s o : Stop) → StopsAtFile files name s → StopsAtFile files name o → s ≡ o
@@ -165,15 +166,15 @@ module _ (with_proofs : Bool) (files : Files) (project : List ℕ) where
 together_or_none : (dev : Development) (limit : ℕ) → PassTogether (obligations dev) limit → PassNoLimit (obligations dev) → ⊥
 together_or_none dev limit p n = by p.passed
   where
-    by : ((limit ≡ 7) × (20000 < length (numbered_sequents (obligations dev)))) ⊎ ((limit ≡ 14) × (length (numbered_sequents (obligations dev)) ≤ 20000) × (20000000 < all_nodes (obligations dev))) → ⊥
+    by : ((limit ≡ 7) × (MOST_OBLIGATIONS < length (numbered_sequents (obligations dev)))) ⊎ ((limit ≡ 14) × (length (numbered_sequents (obligations dev)) ≤ MOST_OBLIGATIONS) × (MOST_NODES_TOGETHER < all_nodes (obligations dev))) → ⊥
     by (inl h) = omega (arith, h.1, n.sequents)
     by (inr h) = omega (arith, h.2, n.nodes)
 
 one_limit : (dev : Development) (a b : ℕ) → PassTogether (obligations dev) a → PassTogether (obligations dev) b → a ≡ b
 one_limit dev a b p q = by p.passed q.passed
   where
-    by : ((a ≡ 7) × (20000 < length (numbered_sequents (obligations dev)))) ⊎ ((a ≡ 14) × (length (numbered_sequents (obligations dev)) ≤ 20000) × (20000000 < all_nodes (obligations dev))) →
-        ((b ≡ 7) × (20000 < length (numbered_sequents (obligations dev)))) ⊎ ((b ≡ 14) × (length (numbered_sequents (obligations dev)) ≤ 20000) × (20000000 < all_nodes (obligations dev))) → a ≡ b
+    by : ((a ≡ 7) × (MOST_OBLIGATIONS < length (numbered_sequents (obligations dev)))) ⊎ ((a ≡ 14) × (length (numbered_sequents (obligations dev)) ≤ MOST_OBLIGATIONS) × (MOST_NODES_TOGETHER < all_nodes (obligations dev))) →
+        ((b ≡ 7) × (MOST_OBLIGATIONS < length (numbered_sequents (obligations dev)))) ⊎ ((b ≡ 14) × (length (numbered_sequents (obligations dev)) ≤ MOST_OBLIGATIONS) × (MOST_NODES_TOGETHER < all_nodes (obligations dev))) → a ≡ b
     by (inl h) (inl k) = h.0 ∙ sym k.0
     by (inr h) (inr k) = h.0 ∙ sym k.0
     by (inl h) (inr k) = absurd (omega (arith, h.1, k.1))
@@ -237,7 +238,7 @@ module _ (project : List ℕ) (image : Image) where
   code_passed stop (inl h) w = omega (arith, h.1, w.code)
   code_passed stop (inr h) w = by h.2
     where
-      by : (1000000 < image.cells) ⊎ (HasSpelling image → ⊥) → ⊥
+      by : (MOST_CELLS < image.cells) ⊎ (HasSpelling image → ⊥) → ⊥
       by (inl many) = omega (arith, many, w.cells)
       by (inr none) = none w.spelled
 

@@ -5,6 +5,7 @@ use Rattle.std.proofs.lemmas.Int.{ints}
 use Rattle.std.proofs.lemmas.List.{length-map}
 use Rattle.std.proofs.lemmas.Slice.Zip.{AllZip-long}
 use Rattle.std.proofs.lemmas.List.Elements.{All-head, All-tail}
+use Rattle.bk_limits.specs.declared.TheConstants.{FUEL, MOST_BYTES, MOST_CELLS, MOST_INSTRUCTIONS, MOST_NODES_TOGETHER, MOST_OBLIGATIONS}
 use Rattle.bk_io.specs.Bytes.{AreBytes}
 use Rattle.bk_io.specs.Files.{Files, file_named}
 use Rattle.bk_code.specs.declared.image.Image.{Image}
@@ -78,7 +79,7 @@ file files name = by (file_named files name) refl
   where
     by : (o : Option (List ℕ)) → file_named files name ≡ o → Looks (StopsAtFile files name) ((text : List ℕ) × IsTold files name text)
     by None e = inl (Missing name, inl (refl, e))
-    by (Some text) e = elim (cases_lt 16777216 (length text)) [
+    by (Some text) e = elim (cases_lt MOST_BYTES (length text)) [
       | inl longer ↦ inl (Limit 1 name, inr (refl, record { bytes = text; found = e; longer = longer }))
       | inr short ↦ inr (text, record { stands = e; short = short })
     ]
@@ -190,9 +191,9 @@ limits project dev = by (first_too_large (obligations dev)) refl
   where
     by : (o : Option (List ℕ)) → first_too_large (obligations dev) ≡ o → Looks (StopsPastLimits project dev) (PassNoLimit (obligations dev))
     by (Some name) e = inl (Limit 6 name, inl (name, refl, e))
-    by None e = elim (cases_lt 20000 (length (numbered_sequents (obligations dev)))) [
+    by None e = elim (cases_lt MOST_OBLIGATIONS (length (numbered_sequents (obligations dev)))) [
       | inl many ↦ inl (Limit 7 project, inr (7, refl, record { sizes = e; passed = inl (refl, many) }))
-      | inr few ↦ elim (cases_lt 20000000 (all_nodes (obligations dev))) [
+      | inr few ↦ elim (cases_lt MOST_NODES_TOGETHER (all_nodes (obligations dev))) [
         | inl large ↦ inl (Limit 14 project, inr (14, refl, record { sizes = e; passed = inr (refl, few, large) }))
         | inr small ↦ inr (record { sizes = e; sequents = few; nodes = small })
       ]
@@ -215,9 +216,9 @@ module _ (project : List ℕ) (dev : Development) (scripts : List RawScript) (ro
 
 -- ---- the code
 code : (project : List ℕ) (image : Image) → Possible (Looks (StopsPastCode project image) (IsWithinCodeLimits image))
-code project image = elim (cases_lt 1000000 (length image.code)) [
+code project image = elim (cases_lt MOST_INSTRUCTIONS (length image.code)) [
   | inl long ↦ certain (inl (Limit 9 project, inl (refl, long)))
-  | inr short ↦ elim (cases_lt 1000000 image.cells) [
+  | inr short ↦ elim (cases_lt MOST_CELLS image.cells) [
     | inl many ↦ certain (inl (Limit 10 project, inr (refl, short, inl many)))
     | inr few ↦ and_then (decide (HasSpelling image)) (λ d. elim d [
       | inl spelled ↦ certain (inr (record { code = short; cells = few; spelled = spelled }))
@@ -395,7 +396,7 @@ module _ (variables : ℕ) where
   ))
 
   sample_answers : (files : Files) → Possible (Answers files (sample_task variables))
-  sample_answers files = and_then (run_answers own sample_project (codes "sample.calls") 1000000) (λ a. elim a [
+  sample_answers files = and_then (run_answers own sample_project (codes "sample.calls") FUEL) (λ a. elim a [
     | inl s ↦ certain (inl s)
     | inr w ↦ and_then (with_table w.0 w.1 w.2) (λ t. certain (inr (w.0, t.0, t.1)))
   ])

@@ -5,6 +5,7 @@ use Rattle.std.proofs.lemmas.Int.{ints}
 use Rattle.std.proofs.lemmas.Bool.{cases_lt}
 use Rattle.std.proofs.lemmas.List.{append-nil}
 use Rattle.std.proofs.lemmas.Option.{slice_get-get_or, slice_get_within}
+use Rattle.bk_limits.specs.declared.TheConstants.{MOST_CELLS, MOST_SETS, STACK_ROOM}
 use Rattle.bk_code.specs.declared.image.Image.{Image}
 use Rattle.bk_code.specs.declared.image.OpEntry.{OpEntry}
 use Rattle.bk_code.specs.declared.image.Parameter.{Parameter}
@@ -168,7 +169,7 @@ module _ (image : Image) where
     numbered : IsNumbered image
     numbered = record {
       range = subst IsRange (sym fits.max) default_range;
-      cells = elim (cases_lt 1000000 image.cells) [
+      cells = elim (cases_lt MOST_CELLS image.cells) [
         | inl many ↦ absurd (never (BadSlot 6) (inl (refl, many)))
         | inr few ↦ few
       ];
@@ -182,8 +183,8 @@ module _ (image : Image) where
       countable = fits.few_insts;
     }
 
-    few_sets : length image.sets ≤ 65534
-    few_sets = elim (cases_lt 65534 (length image.sets)) [
+    few_sets : length image.sets ≤ MOST_SETS
+    few_sets = elim (cases_lt MOST_SETS (length image.sets)) [
       | inl many ↦ absurd (never (BadSlot 10) (inr (inl (refl, many))))
       | inr few ↦ few
     ]
@@ -298,8 +299,8 @@ module _ (image : Image) (numbered : IsNumbered image) (never : (k : ℕ) → Is
     at_root : (at : ℕ) → at < length image.code → IsRoot image at → slice_index depths at ≡ 0
     at_root at below root = depth_is at 0 below (0, (inl root, refl))
 
-    not_deep : (at : ℕ) (i : Inst) → slice_get image.code at ≡ Some i → slice_index depths at ≤ 1000
-    not_deep at i get = elim (cases_lt 1000 (slice_index depths at)) [
+    not_deep : (at : ℕ) (i : Inst) → slice_get image.code at ≡ Some i → slice_index depths at ≤ STACK_ROOM
+    not_deep at i get = elim (cases_lt STACK_ROOM (slice_index depths at)) [
       | inl high ↦ absurd (right at i get (inr (inl (omega (arith, ints, high)))))
       | inr low ↦ low
     ]
@@ -361,7 +362,7 @@ number_other e (at, inr h) f = cc
 
 -- bytes that are laid out as an image
 module _ (bytes : List ℕ) (image : Image) (fits : FitsFields image) (are : bytes ≡ spelling image) where
-  of_stack : IsNumbered image → length image.sets ≤ 65534 → Possible (Verdict bytes)
+  of_stack : IsNumbered image → length image.sets ≤ MOST_SETS → Possible (Verdict bytes)
   of_stack numbered few = and_then (decide ((k : ℕ) × IsStackFault image k)) (λ d. elim d [
     | inl f ↦ and_then (least (IsStackFault image) f.0 f.1) (λ m. certain (inr (
       Stack (part_place inst (count_place image + 4) image.code m.0),

@@ -1,6 +1,7 @@
 -- The exchange is a development, and in B0.
 use Rattle.std.proofs.Common.{◌≡◌, ◌⊎◌, inl, inr, ◌≤◌, ◌<◌, ◌||◌, ℕ, zero, suc, pos, [], ◌∷◌, refl, Bool, true, All, IsTrue, arith}
 use Rattle.std.proofs.lemmas.List.Elements.{All-nil}
+use Rattle.bk_limits.specs.declared.TheConstants.{MOST_OPERATORS}
 use Rattle.bk_val.specs.ValueType.{int_type, pair_type, set_type}
 use Rattle.bk_form.specs.Each.{Each}
 use Rattle.bk_form.specs.Table.{lists_type, IsWellFormed}
@@ -218,7 +219,7 @@ inputs-are : (o : ℕ) → o < 1 → Each (IsScalarName exchange) (inputs_of exc
 inputs-are zero h = tt
 inputs-are (suc o) h = absurd (omega arith)
 
-few : (n : ℕ) → n ≤ 1 → n ≤ 998
+few : (n : ℕ) → n ≤ 1 → n ≤ MOST_OPERATORS
 few n h = omega (arith, h)
 
 pub exchange_in_b0 : IsB0Development exchange

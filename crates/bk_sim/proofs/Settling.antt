@@ -2,6 +2,7 @@
 -- and one does not come back.
 use Rattle.std.proofs.Common.{◌≡◌, inl, inr, ◌≤◌, ◌<◌, ◌||◌, ℕ, zero, suc, ℤ, pos, List, [], ◌∷◌, length, refl, sym, ◌∙◌, ap, subst, Bool, true, false, All, IsTrue, arith}
 use Rattle.std.proofs.lemmas.List.Elements.{All-nil}
+use Rattle.bk_limits.specs.declared.TheConstants.{MOST_OPERATORS}
 use Rattle.bk_val.specs.Value.{int}
 use Rattle.bk_val.specs.ValueType.{int_type}
 use Rattle.bk_form.specs.Each.{Each}
@@ -143,7 +144,7 @@ module _ (second : Substitution) where
   inputs-are (suc zero) h = tt
   inputs-are (suc (suc o)) h = absurd (omega (arith, h))
 
-  few : (n : ℕ) → n ≤ 1 → n ≤ 998
+  few : (n : ℕ) → n ≤ 1 → n ≤ MOST_OPERATORS
   few n h = omega (arith, h)
 
   in-b0 : IsB0 dev second → EvaluatesShallow (arrays_of dev) second → IsB0Development dev

@@ -1,5 +1,6 @@
 -- The tower is lawful, its levels carry one another, and its translation follows it.
 use Rattle.std.proofs.Common.{◌≡◌, inl, ◌≤◌, ◌<◌, ℕ, zero, suc, pos, [], ◌∷◌, length, refl, sym, subst, true, false, All, IsTrue, arith}
+use Rattle.bk_limits.specs.declared.TheConstants.{MOST_OPERATORS}
 use Rattle.bk_val.specs.ValueType.{int_type}
 use Rattle.bk_form.specs.Each.{Each}
 use Rattle.bk_form.specs.Search.{Finder}
@@ -159,7 +160,7 @@ inputs-are : (o : ℕ) → o < 1 → Each (IsScalarName tower) (inputs_of tower 
 inputs-are zero h = tt
 inputs-are (suc o) h = absurd (omega arith)
 
-few : (n : ℕ) → n ≤ 1 → n ≤ 998
+few : (n : ℕ) → n ≤ 1 → n ≤ MOST_OPERATORS
 few n h = omega (arith, h)
 
 tower-in-b0 : IsB0Development tower

@@ -4,6 +4,7 @@ use Rattle.std.specs.Str.{IsUtf8, IsValidUpTo}
 use Rattle.std.proofs.Common.{inl, inr, arith, ap, subst, ◌∙◌, append_assoc, length-append, take_all}
 use Rattle.std.specs.List.{prefix_len}
 use Rattle.std.proofs.lemmas.Bool.{cases_lt}
+use Rattle.bk_limits.specs.declared.TheConstants.{MOST_TOKENS}
 use Rattle.bk_form.specs.declared.token.Token.{Token}
 use Rattle.bk_form.specs.declared.token.TokenKind.{TokenKind}
 use Rattle.bk_lex.specs.Lexis.{Gap, block, line, gap_text, IsGap, AreGaps, stays_in_line, NoComment, IsWritten, Fits, BeginsWith, Cut}
@@ -106,12 +107,12 @@ some_token text some n not_nothing not_token = not_nothing (record { some = some
 -- ---- token by token
 module _ (text : List ℕ) (utf8 : IsUtf8 text) (not_cut : Has IsCut text → ⊥) (no_fault : (fault : LexFault) → IsOfText fault → IsLexFaultOf text fault → ⊥) where
   abbrev Goes : ℕ → Type 0
-  Goes n = (found : List Token) (rest : List ℕ) → length found ≤ 1000000 → Cut (length text) text found rest → length rest ≤ length text → length rest < n → ⊥
+  Goes n = (found : List Token) (rest : List ℕ) → length found ≤ MOST_TOKENS → Cut (length text) text found rest → length rest ≤ length text → length rest < n → ⊥
 
-  module _ (found : List Token) (few : length found ≤ 1000000) where
+  module _ (found : List Token) (few : length found ≤ MOST_TOKENS) where
     -- one that fits
     fitting : (n : ℕ) → Goes n → (here after : List ℕ) (kind : TokenKind) (place : ℕ) → Cut (length text) text found here → place + length here ≡ length text → length here ≤ n → BeginsWith kind here after → Fits kind → ⊥
-    fitting n goes here after kind place c p l b f = elim (cases_lt (length found) 1000000) [
+    fitting n goes here after kind place c p l b f = elim (cases_lt (length found) MOST_TOKENS) [
       | inl s ↦ goes (found ++ token ∷ []) after (omega (arith, s, length-pushed found (found ++ token ∷ []) token refl)) (cut_token (length text) text found here token after c b f p end.1) (omega (arith, p, less)) (omega (arith, l, less))
       | inr s ↦ no_fault (Limit place) tt (utf8, found, record { rest = here; cut = c; left = p; this = record { kind = kind; after = after; begins = b; fits = f } }, omega (arith, few, s))
     ]
@@ -132,7 +133,7 @@ module _ (text : List ℕ) (utf8 : IsUtf8 text) (not_cut : Has IsCut text → �
         (λ b. no_fault (BadChar place) tt (utf8, found, record { rest = d ∷ ds; cut = c; left = p; this = b }, few))
         (λ kind after b. no_fault (NumberTooWide place) tt (utf8, found, record { rest = d ∷ ds; cut = c; left = p; this = record { kind = kind; after = after; begins = b; wide = λ f. fitting n goes (d ∷ ds) after kind place c p l b f } }, few))
 
-  goes_on : (n : ℕ) → Goes n → (found : List Token) (rest : List ℕ) → length found ≤ 1000000 → Cut (length text) text found rest → length rest ≤ length text → length rest ≤ n → ⊥
+  goes_on : (n : ℕ) → Goes n → (found : List Token) (rest : List ℕ) → length found ≤ MOST_TOKENS → Cut (length text) text found rest → length rest ≤ length text → length rest ≤ n → ⊥
   goes_on n goes found rest few c w l = behind rest done unclosed
     where
       at : (gaps : List Gap) (here : List ℕ) → AreGaps gaps rest here → (k : ℕ) × (k + length here ≡ length text)

@@ -1,6 +1,7 @@
 -- The initialisation and the operations of a component are no higher than the component, and bodies of B0 have no precondition.
 use Rattle.std.proofs.Common.{◌≡◌, ◌⊎◌, inl, inr, ℕ, ◌≤◌, List, [], ◌∷◌, ◌++◌, map, max, refl, subst, Bool, true, false, cond, arith}
 use Rattle.std.specs.Prelude.{Option, None, Some, ℤ}
+use Rattle.bk_limits.specs.declared.TheConstants.{GREATEST_TREE_HEIGHT}
 use Rattle.bk_raw.specs.Trees.Numbers.{greatest}
 use Rattle.bk_raw.specs.declared.component.ClauseWord.TheVariants.{Initialisation, Operations}
 use Rattle.bk_raw.specs.Trees.SubTree.{SubTree, sub, sub_begin, sub_pre, sub_height}
@@ -35,10 +36,10 @@ stated-low (c ∷ cs) s e = by (is_clause Initialisation c) (substitution_in c.p
     by true None here more k = let low = more k in omega arith
     by false o here more k = let low = more k in omega arith
 
-pub start-low : (written : RawComponent) → component_height written ≤ 1000 → sub_height (initialisation (component_of written)) ≤ 1000
+pub start-low : (written : RawComponent) → component_height written ≤ GREATEST_TREE_HEIGHT → sub_height (initialisation (component_of written)) ≤ GREATEST_TREE_HEIGHT
 start-low written low = by (component_of written).init (stated-low written.clauses)
   where
-    by : (o : Option SubTree) → ((s : SubTree) → o ≡ Some s → sub_height s ≤ greatest (clause_heights written.clauses)) → sub_height (initialisation (record (component_of written) { init = o })) ≤ 1000
+    by : (o : Option SubTree) → ((s : SubTree) → o ≡ Some s → sub_height s ≤ greatest (clause_heights written.clauses)) → sub_height (initialisation (record (component_of written) { init = o })) ≤ GREATEST_TREE_HEIGHT
     by None f = omega arith
     by (Some s) f = let k = f s refl in omega arith
 
@@ -72,7 +73,7 @@ listed-low (c ∷ cs) o h = elim (in-join o (if_clause Operations operations_in 
     by true i = parts-bodies c.parts o i
     by false i = absurd i
 
-pub body-low : (written : RawComponent) → component_height written ≤ 1000 → (o : RawOperation) → IsIn o (component_of written).operations → sub_height o.body ≤ 1000
+pub body-low : (written : RawComponent) → component_height written ≤ GREATEST_TREE_HEIGHT → (o : RawOperation) → IsIn o (component_of written).operations → sub_height o.body ≤ GREATEST_TREE_HEIGHT
 body-low written low o h = let k = listed-low written.clauses o h in omega arith
 
 -- ---- preconditions

@@ -3,6 +3,7 @@ use Rattle.std.proofs.Common.{◌≡◌, inl, inr, ◌⊎◌, ℕ, zero, suc, �
 use Rattle.std.specs.Prelude.{Option, None, Some, ℤ, nat_lt, slice_index_or}
 use Rattle.std.specs.Str.{bytes_eq}
 use Rattle.std.proofs.lemmas.Slice.Eq.{bytes_eq-Decides}
+use Rattle.bk_limits.specs.declared.TheConstants.{GREATEST_TREE_HEIGHT}
 use Rattle.bk_val.specs.ValueType.{ValueType}
 use Rattle.bk_form.specs.ArrayTable.{row_of}
 use Rattle.bk_form.specs.Each.{Each}
@@ -230,7 +231,7 @@ module _ (int_max : ℤ) (higher : Development) (comp : Component) (most : int_m
 
   -- ---- bodies
   body-b0 : (q : Placed) → AreOf new.table q.headed.inputs → AreTyped (typed typing q.headed.inputs) → clause_faults int_max typing p comp ≡ [] → body_faults int_max higher comp typing p q ≡ [] → output_scalars x q.outputs_at q.headed.operation.outputs ≡ []
-      → statement_faults x (body_scope p q) q.binders_at q.headed.operation.body ≡ [] → Placed-at q.binders_at (ways (body_scope p q) q.binders_at q.headed.operation.body) → base ≤ q.binders_at → top ≤ q.binders_at → sub_height q.headed.operation.body ≤ 1000 → IsB0Body new (body_made int_max typing p q)
+      → statement_faults x (body_scope p q) q.binders_at q.headed.operation.body ≡ [] → Placed-at q.binders_at (ways (body_scope p q) q.binders_at q.headed.operation.body) → base ≤ q.binders_at → top ≤ q.binders_at → sub_height q.headed.operation.body ≤ GREATEST_TREE_HEIGHT → IsB0Body new (body_made int_max typing p q)
   body-b0 q of typed-inputs said faults outs run stand low high small =
       let o = q.headed.operation in
       let inner = bind q.headed.inputs (scope p) in
@@ -253,7 +254,7 @@ module _ (int_max : ℤ) (higher : Development) (comp : Component) (most : int_m
   abbrev Agree : ℕ → List Head → Type 0
   Agree k hs = (o : RawOperation) → IsIn o comp.operations → heads_as higher k hs o ≡ true
 
-  module _ (small-bodies : (o : RawOperation) → IsIn o comp.operations → sub_height o.body ≤ 1000) (twice-no : header_twice comp.operations ≡ []) (said : clause_faults int_max typing p comp ≡ []) where
+  module _ (small-bodies : (o : RawOperation) → IsIn o comp.operations → sub_height o.body ≤ GREATEST_TREE_HEIGHT) (twice-no : header_twice comp.operations ≡ []) (said : clause_faults int_max typing p comp ≡ []) where
     each-b0 : (k n b : ℕ) (hs : List Head) → base ≤ b → top ≤ b → Agree k hs → missing_faults comp.at (texts (operation_names comp.operations)) hs ≡ []
         → all_body_faults int_max higher comp typing p (placed n b (lowers k hs)) ≡ [] → operations_executable x p (placed n b (lowers k hs)) ≡ [] → Placed-at b (all_binder_ways p (placed n b (lowers k hs)))
         → Each (IsB0Body new) (bodies_made int_max typing p (placed n b (lowers k hs))) × Each (λ (h : Head). Each (IsScalarName new) h.inputs) hs
@@ -299,7 +300,7 @@ module _ (int_max : ℤ) (higher : Development) (comp : Component) (most : int_m
   head-at P (h ∷ hs) d e (suc o) l = head-at P hs d e.1 o (omega arith)
 
   -- ---- the development
-  pub level-b0 : is_implementing comp.kind ≡ true → sub_height (initialisation comp) ≤ 1000 → ((o : RawOperation) → IsIn o comp.operations → sub_height o.body ≤ 1000) → executable_in x p comp ≡ [] → IsB0Development new
+  pub level-b0 : is_implementing comp.kind ≡ true → sub_height (initialisation comp) ≤ GREATEST_TREE_HEIGHT → ((o : RawOperation) → IsIn o comp.operations → sub_height o.body ≤ GREATEST_TREE_HEIGHT) → executable_in x p comp ≡ [] → IsB0Development new
   level-b0 implements small small-bodies run =
       let clauses = clause_faults int_max typing p comp in
       let operations = operation_faults higher comp p in

@@ -2,6 +2,7 @@
 use Rattle.std.proofs.Common.{◌≡◌, inl, inr, ℕ, suc, ◌+◌, ◌-◌, ◌<◌, ◌≤◌, List, [], ◌∷◌, ◌++◌, length, max, refl, sym, ◌∙◌, ap, subst, Bool, true, false, ◌&&◌, cond, nat_eq, ◌≤ℤ◌, arith}
 use Rattle.std.specs.Prelude.{Option, None, Some, ℤ, int_le}
 use Rattle.std.proofs.lemmas.Int.{ints}
+use Rattle.bk_limits.specs.declared.TheConstants.{GREATEST_TREE_HEIGHT}
 use Rattle.bk_val.specs.ValueType.{ValueType, int_type, bool_type, enum_type, pair_type, set_type}
 use Rattle.bk_form.specs.ArrayTable.{row_of}
 use Rattle.bk_form.specs.Each.{Each}
@@ -264,11 +265,11 @@ module _ (x : Executing) (dev : Development) (most : x.int_max ≡ int_max dev) 
     written-number writable at no_variable h = some-fault (wrong_write at) [] h
     written-number writable at (variable_target k) h = (k, refl)
 
-    shallow-of : (f : Formula) (h : ℕ) → operators_down f + 1 ≤ h → h + 1 ≤ 1000 → HasFewOperators f
+    shallow-of : (f : Formula) (h : ℕ) → operators_down f + 1 ≤ h → h + 1 ≤ GREATEST_TREE_HEIGHT → HasFewOperators f
     shallow-of f h a b = omega arith
 
     -- x := E of a scalar
-    scalar-read : (k : ℕ) (ty : ValueType) (f : Formula) (h : ℕ) → x.typing k ≡ Some ty → is_scalar ty ≡ true → IsB0Term dev h f → h + 1 ≤ 1000 → IsB0Read dev (assign ((k, f) ∷ []))
+    scalar-read : (k : ℕ) (ty : ValueType) (f : Formula) (h : ℕ) → x.typing k ≡ Some ty → is_scalar ty ≡ true → IsB0Term dev h f → h + 1 ≤ GREATEST_TREE_HEIGHT → IsB0Read dev (assign ((k, f) ∷ []))
     scalar-read k ty f h t s told low =
         let none : row_of (arrays_of dev) k ≡ None = (scalar-name dev k ty (settled.types k ty t) s).0 in
         (subst (λ o. IsTermFor dev k o f) (sym none) told.0, (subst (λ o. IsShallowTerm k o f) (sym none) (shallow-of f h told.1 low), tt))
@@ -279,7 +280,7 @@ module _ (x : Executing) (dev : Development) (most : x.int_max ≡ int_max dev) 
         (subst (λ o. IsTermFor dev k o f) (sym row.1) (inr is), (subst (λ o. IsShallowTerm k o f) (sym row.1) (subst (λ g. IsShallowWrite (write_of k g)) (sym is.is) tt), tt))
 
     -- f(i) := v
-    element-read : (k h : ℕ) (a b : Formula) → IsArrayName dev k → IsB0Term dev h a → IsB0Term dev h b → h + 1 ≤ 1000 → IsB0Read dev (assign ((k, binary Over (variable k) (unary Single (binary Maps a b))) ∷ []))
+    element-read : (k h : ℕ) (a b : Formula) → IsArrayName dev k → IsB0Term dev h a → IsB0Term dev h b → h + 1 ≤ GREATEST_TREE_HEIGHT → IsB0Read dev (assign ((k, binary Over (variable k) (unary Single (binary Maps a b))) ∷ []))
     element-read k h a b row l r low =
         let f = binary Over (variable k) (unary Single (binary Maps a b)) in
         let write : write_of k f ≡ Some (a, b) = ap (λ c. cond c (Some (a, b)) None) (nat_eq-self k) in (
@@ -287,7 +288,7 @@ module _ (x : Executing) (dev : Development) (most : x.int_max ≡ int_max dev) 
           (subst (λ o. IsShallowTerm k o f) (sym row.1) (subst IsShallowWrite (sym write) (shallow-of a h l.1 low, shallow-of b h r.1 low)), tt),
         )
 
-    maybe-read : (k h : ℕ) (a b : Option Formula) → IsArrayName dev k → Answers (IsB0Term dev h) a → Answers (IsB0Term dev h) b → h + 1 ≤ 1000 → IsB0Read dev (overridden k a b)
+    maybe-read : (k h : ℕ) (a b : Option Formula) → IsArrayName dev k → Answers (IsB0Term dev h) a → Answers (IsB0Term dev h) b → h + 1 ≤ GREATEST_TREE_HEIGHT → IsB0Read dev (overridden k a b)
     maybe-read k h None b row l r low = (tt, tt)
     maybe-read k h (Some a) None row l r low = (tt, tt)
     maybe-read k h (Some a) (Some b) row l r low = element-read k h a b row l r low
@@ -296,7 +297,7 @@ module _ (x : Executing) (dev : Development) (most : x.int_max ≡ int_max dev) 
     higher h j None l a = tt
     higher h j (Some f) l a = (a.0, omega (arith, a.1))
 
-    put-told : (names : Names) (k : ℕ) (o : Option ValueType) (e v : RawTree) → AreOf dev.table names → IsArrayName dev k → expression_faults x names e ≡ [] → expression_faults x names v ≡ [] → max (tree_height e) (tree_height v) + 1 ≤ 1000 →
+    put-told : (names : Names) (k : ℕ) (o : Option ValueType) (e v : RawTree) → AreOf dev.table names → IsArrayName dev k → expression_faults x names e ≡ [] → expression_faults x names v ≡ [] → max (tree_height e) (tree_height v) + 1 ≤ GREATEST_TREE_HEIGHT →
         IsB0Read dev (put_read x.int_max x.typing names k o e v)
     put-told names k None e v h row a b low = (tt, tt)
     put-told names k (Some int_type) e v h row a b low = (tt, tt)
@@ -320,7 +321,7 @@ module _ (x : Executing) (dev : Development) (most : x.int_max ≡ int_max dev) 
 
     -- x := E
     assigned-told : (names : Names) (at k : ℕ) (e : RawTree) (o : Option Formula) (ty : ValueType) (b : Bool) → AreOf dev.table names → AreTyped (typed x.typing names) → x.typing k ≡ Some ty → is_scalar ty ≡ b → term_faults x.int_max x.typing names (Some ty) e ≡ [] →
-        cond b (expression_faults x names e) (not_executable (is_fill x names (x.array k) e) at) ≡ [] → tree_height e + 1 ≤ 1000 → IsB0Read dev (assign (with_pair k (term_read x.int_max x.typing names ty e) []))
+        cond b (expression_faults x names e) (not_executable (is_fill x names (x.array k) e) at) ≡ [] → tree_height e + 1 ≤ GREATEST_TREE_HEIGHT → IsB0Read dev (assign (with_pair k (term_read x.int_max x.typing names ty e) []))
     assigned-told names at k e o ty true h t has s none run low =
         let told = taken-told names ty e h t none run in
         subst (λ q. IsB0Read dev (assign (with_pair k q []))) (sym told.1) (scalar-read k ty told.0 (tree_height e) has s told.2 low)
@@ -334,7 +335,7 @@ module _ (x : Executing) (dev : Development) (most : x.int_max ≡ int_max dev) 
             subst (λ o. IsB0Read dev (assign (with_pair k o []))) (sym told.1) (fill-read k told.0 row told.2)
 
     one-told : (names : Names) (writable : ℕ → Bool) (at : ℕ) (v : RawName) (e : RawTree) → AreOf dev.table names → AreTyped (typed x.typing names) →
-        left_faults names writable [] (v ∷ []) ++ assign_faults x.int_max x.typing names v.at (v ∷ []) (tree_and e no_trees) ≡ [] → assigned_faults x names at (v ∷ []) (tree_and e no_trees) ≡ [] → tree_height e + 1 ≤ 1000 →
+        left_faults names writable [] (v ∷ []) ++ assign_faults x.int_max x.typing names v.at (v ∷ []) (tree_and e no_trees) ≡ [] → assigned_faults x names at (v ∷ []) (tree_and e no_trees) ≡ [] → tree_height e + 1 ≤ GREATEST_TREE_HEIGHT →
         IsB0Read dev (assign (assigned_pairs x.int_max x.typing names (v ∷ []) (tree_and e no_trees)))
     one-told names writable at v e h t none run low =
         let lefts = left_faults names writable [] (v ∷ []) in
@@ -477,17 +478,17 @@ module _ (x : Executing) (dev : Development) (most : x.int_max ≡ int_max dev) 
           by (Some w) e way has = name (x.typing m) refl (first-scalar s inner n m w e (no-array m high) run)
 
       -- ---- statements
-      shallow-condition : (p : Formula) (h : ℕ) → operators_down p + 1 ≤ h → h + 1 ≤ 1000 → HasFewOperators p
+      shallow-condition : (p : Formula) (h : ℕ) → operators_down p + 1 ≤ h → h + 1 ≤ GREATEST_TREE_HEIGHT → HasFewOperators p
       shallow-condition p h a b = omega arith
 
       module _ (above : Names) where
         mutual
           pub b0-statement : (s : SubTree) (names : Names) (writable : ℕ → Bool) (n : ℕ) → AreOf dev.table names → AreTyped (typed x.typing names) → sub_faults x.int_max x.typing above names writable n s ≡ [] → statement_faults x names n s ≡ [] →
-              StandsAt n (ways names n s) → base ≤ n → top ≤ n → sub_height s ≤ 1000 → IsB0Read dev (elaborated x.int_max x.typing above names n s)
+              StandsAt n (ways names n s) → base ≤ n → top ≤ n → sub_height s ≤ GREATEST_TREE_HEIGHT → IsB0Read dev (elaborated x.int_max x.typing above names n s)
           b0-statement (sub at node) names writable n h t none run stand low high small = node-b0 node names writable n at h t none run stand low high small
 
           node-b0 : (node : SubNode) (names : Names) (writable : ℕ → Bool) (n at : ℕ) → AreOf dev.table names → AreTyped (typed x.typing names) → node_faults x.int_max x.typing above names writable n node ≡ [] → statement_in x names n at node ≡ [] →
-              StandsAt n (ways_in names n node) → base ≤ n → top ≤ n → sub_node_height node ≤ 1000 → IsB0Read dev (elaborated_node x.int_max x.typing above names n node)
+              StandsAt n (ways_in names n node) → base ≤ n → top ≤ n → sub_node_height node ≤ GREATEST_TREE_HEIGHT → IsB0Read dev (elaborated_node x.int_max x.typing above names n node)
           node-b0 sub_skip names writable n at h t none run stand low high small = (tt, tt)
           node-b0 (sub_assign (v ∷ []) (tree_and e no_trees)) names writable n at h t none run stand low high small = one-told names writable at v e h t none run (omega arith)
           node-b0 (sub_assign [] es) names writable n at h t none run stand low high small = absurd (cc)
@@ -548,7 +549,7 @@ module _ (x : Executing) (dev : Development) (most : x.int_max ≡ int_max dev) 
           node-b0 node names writable n at h t none run stand low high small = absurd (cc)
 
           else-b0 : (bs : Branches) (names : Names) (writable : ℕ → Bool) (n : ℕ) → AreOf dev.table names → AreTyped (typed x.typing names) → branches_faults x.int_max x.typing above names writable n bs ≡ [] → branches_executable x names n bs ≡ [] →
-              StandsAt n (branches_ways names n bs) → base ≤ n → top ≤ n → branches_height bs + 1 ≤ 1000 → IsB0Read dev (else_part x.int_max x.typing above names n bs)
+              StandsAt n (branches_ways names n bs) → base ≤ n → top ≤ n → branches_height bs + 1 ≤ GREATEST_TREE_HEIGHT → IsB0Read dev (else_part x.int_max x.typing above names n bs)
           else-b0 no_branches names writable n h t none run stand low high small = (tt, tt)
           else-b0 (else_branch s) names writable n h t none run stand low high small = b0-statement s names writable n h t none run stand low high (omega arith)
           else-b0 (branch_and p s bs) names writable n h t none run stand low high small =

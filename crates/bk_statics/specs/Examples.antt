@@ -1,6 +1,6 @@
 -- What small components are answered, by computation.
-use Rattle.std.specs.Prelude.{◌≡◌, ℕ, suc, pos, [], ◌∷◌, None, Some, replicate}
-use Rattle.bk_limits.specs.declared.TheConstants.{MOST_NAMES}
+use Rattle.std.specs.Prelude.{◌≡◌, ◌+ℤ◌, ℕ, suc, pos, [], ◌∷◌, None, Some, replicate}
+use Rattle.bk_limits.specs.declared.TheConstants.{MOST_NAMES, MAXINT}
 use Rattle.bk_form.specs.Formula.{variable, literal, element, named, binary, unary}
 use Rattle.bk_form.specs.declared.operator.UnOp.TheVariants.{Not as Negation}
 use Rattle.bk_form.specs.declared.operator.BinOp.TheVariants.{And as Conjunction, Eq, In}
@@ -8,7 +8,7 @@ use Rattle.bk_form.specs.declared.operator.Domain.TheVariants.{Enum}
 use Rattle.bk_gsl.specs.Substitution.{assign, guard, choice, if_else, any, becomes_such, skip}
 use Rattle.bk_raw.specs.declared.operator.InfixOp.TheVariants.{Equal, Power, Plus, Member}
 use Rattle.bk_raw.specs.declared.component.ClauseWord.TheVariants.{Sets, Constants, Variables, ConcreteVariables, Invariant}
-use Rattle.bk_raw.specs.Trees.RawTree.{RawTree, raw, raw_level_name, no_trees, tree_and}
+use Rattle.bk_raw.specs.Trees.RawTree.{RawTree, raw, raw_number, raw_level_name, no_trees, tree_and}
 use Rattle.bk_raw.specs.Trees.SubTree.{SubTree, sub, sub_skip, sub_assign, sub_member, sub_such, sub_begin, sub_pre}
 use Rattle.bk_raw.specs.Trees.SubTree.{sub_if, sub_choice, sub_select, sub_any, sub_let, sub_var, sub_sequence}
 use Rattle.bk_raw.specs.Trees.SubTree.{sub_parallel, no_branches, else_branch, branch_and, no_choices, choice_and}
@@ -168,7 +168,7 @@ pub record FaultsAreTold : Type 0 where
   -- ---- 14
   -- a constant without a value, one outside INT, one of another type, one that stands twice, and a right one
   pub no_value : lower_verdict (code_with (takes_at 40 v_text a_text) []) ≡ at_fault (wrong_value 8)
-  pub large_value : lower_verdict (code_with (takes_at 40 v_text a_text) (c_is (number 34 2147483648) ∷ [])) ≡ at_fault (wrong_value 30)
+  pub large_value : lower_verdict (code_with (takes_at 40 v_text a_text) (c_is (raw 34 (raw_number (MAXINT +ℤ pos 1))) ∷ [])) ≡ at_fault (wrong_value 30)
   pub other_value : lower_verdict (code_with (takes_at 40 v_text a_text) (c_is (term_at 34 a_text) ∷ [])) ≡ at_fault (wrong_value 30)
   pub value_twice : lower_verdict (code_with (takes_at 40 v_text a_text)
       (c_is (number 34 5) ∷ record { name = name_at 36 c_text; value = number 37 5 } ∷ [])) ≡ at_fault (wrong_value 36)

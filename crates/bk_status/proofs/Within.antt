@@ -1,6 +1,7 @@
 -- The sequents of a development's obligations that pass no limit can be replayed.
 use Rattle.std.proofs.Common.{◌≡◌, ◌≤◌, ℕ, suc, List, [], ◌∷◌, ◌++◌, Bool, true, false, ◌||◌, cond, nat_lt, refl, arith, Option, Some, None}
 use Rattle.std.proofs.lemmas.Bool.Decides.{nat_tests}
+use Rattle.bk_limits.specs.declared.TheConstants.{GREATEST_HEIGHT, MOST_NODES}
 use Rattle.bk_form.specs.Table.{Table}
 use Rattle.bk_form.specs.Formula.{Formula, binary, btrue, formulas_size, formulas_height, formulas_of}
 use Rattle.bk_form.specs.declared.operator.BinOp.TheVariants.{And, Imp}
@@ -48,7 +49,7 @@ number-within k name [] h = tt
 number-within k name (s ∷ ss) h = ((each-of s.0 h.0.0, h.0.1), number-within (suc k) name ss h.1)
 
 -- ---- obligations that are not too large
-hypotheses-within : (ps : List Formula) → formulas_size (formulas_of ps) ≤ 200000 → formulas_height (formulas_of ps) ≤ 2000 → AreWithin ps
+hypotheses-within : (ps : List Formula) → formulas_size (formulas_of ps) ≤ MOST_NODES → formulas_height (formulas_of ps) ≤ GREATEST_HEIGHT → AreWithin ps
 hypotheses-within [] n h = tt
 hypotheses-within (p ∷ ps) n h = (record { nodes = omega arith; height = omega arith }, hypotheses-within ps (omega arith) (omega arith))
 
@@ -61,9 +62,9 @@ sequents_of o = numbered_from 1 o.name (split o.hypotheses o.goal)
 
 obligation-within : (o : Obligation) → is_too_large o ≡ false → Each IsWithinNamed (sequents_of o)
 obligation-within o h =
-    let tests = not-either (nat_lt 200000 (nodes_of o)) (nat_lt 2000 (height_of o)) h in
-    let nodes : nodes_of o ≤ 200000 = grind (arith, nat_tests, tests.0) in
-    let height : height_of o ≤ 2000 = grind (arith, nat_tests, tests.1) in
+    let tests = not-either (nat_lt MOST_NODES (nodes_of o)) (nat_lt GREATEST_HEIGHT (height_of o)) h in
+    let nodes : nodes_of o ≤ MOST_NODES = grind (arith, nat_tests, tests.0) in
+    let height : height_of o ≤ GREATEST_HEIGHT = grind (arith, nat_tests, tests.1) in
     let hypotheses = hypotheses-within o.hypotheses (omega arith) (omega arith) in
     let goal : IsWithinLimits o.goal = record { nodes = omega arith; height = omega arith } in
     number-within 1 o.name (split o.hypotheses o.goal) (split-within o.hypotheses o.goal hypotheses goal)

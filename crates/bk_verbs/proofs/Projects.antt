@@ -4,6 +4,7 @@ use Rattle.std.specs.List.{AllZip}
 use Rattle.std.specs.Str.Lines.{lines}
 use Rattle.std.proofs.lemmas.List.{length-map}
 use Rattle.std.proofs.lemmas.List.Elements.{All-cons, All-nil}
+use Rattle.bk_limits.specs.declared.TheConstants.{MOST_BYTES}
 use Rattle.bk_io.specs.Files.{Files}
 use Rattle.bk_lines.specs.Lines.{kept_lines, is_skipped}
 use Rattle.bk_dev.specs.Development.{Head, Body, Development, level_at, last}
@@ -64,7 +65,7 @@ pub fewer_kept : {A : Type 0} (p : A → Bool) (xs : List A) → length (filter 
 fewer_kept p [] = omega arith
 fewer_kept p (x ∷ xs) = shorter_by (p x) x (filter p xs) xs (fewer_kept p xs)
 
-pub few_project_lines : (text : List ℕ) (ls : List ProjectLine) → length text ≤ 16777216 → AreLinesOf text ls → length ls ≤ 16777216
+pub few_project_lines : (text : List ℕ) (ls : List ProjectLine) → length text ≤ MOST_BYTES → AreLinesOf text ls → length ls ≤ MOST_BYTES
 few_project_lines text ls short are =
     omega (arith, short, as_many (kept_lines text) ls are.written, fewer_kept (λ line. not (is_skipped line)) (lines text), lines_within text)
 
@@ -104,7 +105,7 @@ pub entries_few : (dev : Development) → length (translation dev).ops ≤ lengt
 entries_few dev = entries_within dev (length (init_code dev)) dev.heads (level_at dev (last dev)).bodies
 
 -- ---- the call script
-pub few_lines : (text : List ℕ) → length text ≤ 16777216 → length (lines text) < 4294967296
+pub few_lines : (text : List ℕ) → length text ≤ MOST_BYTES → length (lines text) < 4294967296
 few_lines text h = omega (arith, h, lines_within text)
 
 -- ---- texts
@@ -117,7 +118,7 @@ component_texts ls given names texts told e d f k =
     let named : length (component_lines given) ≡ length (component_lines ls) = ap (λ x. length (component_lines x)) e in
     omega (arith, named, ap length k, f, length-map names (λ name. name.now), ap length d, length-map (component_lines ls) (λ l. l.name))
 
-pub few_files : (b : Bool) (ls : List ProjectLine) → length ls ≤ 16777216 → length (files_of b ls) < 4294967296
+pub few_files : (b : Bool) (ls : List ProjectLine) → length ls ≤ MOST_BYTES → length (files_of b ls) < 4294967296
 few_files true ls h = omega (arith, h, length-map (filter (λ l. is_proofs l.kind) ls) (λ l. l.name), fewer_kept (λ l. is_proofs l.kind) ls)
 few_files false ls h = omega (arith, h, length-map (filter (λ l. not (is_proofs l.kind)) ls) (λ l. l.name), fewer_kept (λ l. not (is_proofs l.kind)) ls)
 
@@ -126,5 +127,5 @@ few_fetched : (all : Bool) (names : List (List ℕ)) → length (fetched all nam
 few_fetched true names = omega arith
 few_fetched false names = omega arith
 
-pub few_texts : (all : Bool) (ls : List ProjectLine) (proofs : List (Bor (List ℕ))) (texts : List (Vec ℕ Global)) → length ls ≤ 16777216 → map (λ name. name.now) proofs ≡ fetched all (files_of true ls) → length texts ≡ length proofs → length texts < 4294967296
+pub few_texts : (all : Bool) (ls : List ProjectLine) (proofs : List (Bor (List ℕ))) (texts : List (Vec ℕ Global)) → length ls ≤ MOST_BYTES → map (λ name. name.now) proofs ≡ fetched all (files_of true ls) → length texts ≡ length proofs → length texts < 4294967296
 few_texts all ls proofs texts h e d = omega (arith, d, length-map proofs (λ name. name.now), ap length e, few_fetched all (files_of true ls), few_files true ls h)

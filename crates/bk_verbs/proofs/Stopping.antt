@@ -1,5 +1,6 @@
 -- Why the program stops, check by check.
 use Rattle.std.proofs.Common.{◌≡◌, ℕ, ◌<◌, ◌≤◌, ◌⊎◌, inl, inr, Bool, true, false, List, [], length, Result, Ok, Err, OnOk, IfErr, IsErrAnd, refl, sym, ◌∙◌, ap, subst}
+use Rattle.bk_limits.specs.declared.TheConstants.{MOST_INSTRUCTIONS}
 use Rattle.bk_io.specs.Files.{Files}
 use Rattle.bk_code.specs.declared.image.Image.{Image}
 use Rattle.bk_image.specs.Encoding.{Encodes}
@@ -119,8 +120,8 @@ past_limits project dev scripts stop (inl o) = inl o
 past_limits project dev scripts stop (inr h) = inr (inl h)
 
 -- ---- the code
-pub past_code : (project : List ℕ) (dev : Development) (fault : GenFault) (stop : Stop) → (fault ≡ CodeTooLong → 1000000 < length (translation dev).code) →
-    (fault ≡ TooManyCells → (length (translation dev).code ≤ 1000000) × HasTooManyCells (translation dev)) → stop ≡ stop_of_code fault project → IsOutside stop ⊎ StopsPastCode project (translation dev) stop
+pub past_code : (project : List ℕ) (dev : Development) (fault : GenFault) (stop : Stop) → (fault ≡ CodeTooLong → MOST_INSTRUCTIONS < length (translation dev).code) →
+    (fault ≡ TooManyCells → (length (translation dev).code ≤ MOST_INSTRUCTIONS) × HasTooManyCells (translation dev)) → stop ≡ stop_of_code fault project → IsOutside stop ⊎ StopsPastCode project (translation dev) stop
 past_code project dev CodeTooLong stop long many is = inr (inl (is, long refl))
 past_code project dev TooManyCells stop long many is = inr (inr (is, (many refl).0, (many refl).1))
 past_code project dev NoRoom stop long many is = inl (outside_memory stop is)

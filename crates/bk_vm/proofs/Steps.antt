@@ -5,6 +5,7 @@ use Rattle.std.specs.Int.{w64}
 use Rattle.std.proofs.lemmas.Int.{ints, fits_signed_from_abs, to_z-of_z}
 use Rattle.std.proofs.lemmas.List.Elements.{All-weaker}
 use Rattle.std.proofs.lemmas.Option.{slice_get-get_or}
+use Rattle.bk_limits.specs.declared.TheConstants.{GREATEST_MAXINT, STACK_ROOM}
 use Rattle.bk_code.specs.declared.image.Image.{Image}
 use Rattle.bk_code.specs.declared.instruction.Inst.{Inst}
 use Rattle.bk_code.specs.declared.instruction.Inst.TheVariants.{Push, Load, Store, ALoad, AStore, Add, Sub, Mul, Div, Mod, Neg, Eq, Lt, Le, Not, Jump, JumpZero, Ret}
@@ -48,10 +49,10 @@ grows Ret at = inl (omega arith)
 
 -- the stack has room for what an instruction pushes
 room : (image : Image) (place : ℕ) (stack cells : List ℤ) (inst : Inst) → (h : IsReady image (standing place stack cells)) →
-    slice_get image.code place ≡ Some inst → length stack - pops inst + pushes inst ≤ 1000
+    slice_get image.code place ≡ Some inst → length stack - pops inst + pushes inst ≤ STACK_ROOM
 room image place stack cells inst h is =
     let deep : length stack ≡ slice_index h.depths place = h.fits.deep in
-    let limit : slice_index h.depths place ≤ 1000 = h.deep.limit place h.fits.place in
+    let limit : slice_index h.depths place ≤ STACK_ROOM = h.deep.limit place h.fits.place in
     let enough : pops inst ≤ slice_index h.depths place = h.deep.enough place inst is in
     elim (grows inst place) [
       | inl less ↦ omega arith
@@ -59,14 +60,14 @@ room image place stack cells inst h is =
           let here : place < length image.code = h.fits.place in
           let not_last : place + 1 ≡ length image.code → ⊥ = λ e. more.1 (h.numbered.last place inst is e) in
           let stands : place + 1 < length image.code = omega arith in
-          let next : slice_index h.depths (place + 1) ≤ 1000 = h.deep.limit (place + 1) stands in
+          let next : slice_index h.depths (place + 1) ≤ STACK_ROOM = h.deep.limit (place + 1) stands in
           let flows = h.deep.flows place (place + 1) inst is more.0 in
           omega arith)
     ]
 
 -- a number within a range lies in the widest one, and so does the range's greatest number
 small : (max n : ℤ) → IsRange max → IsWithin max n → IsSmall n
-small max n range h = within_from_abs 4611686018427387903 n (abs_within 4611686018427387903 max n range.greatest h)
+small max n range h = within_from_abs GREATEST_MAXINT n (abs_within GREATEST_MAXINT max n range.greatest h)
 
 range_small : (max : ℤ) → IsRange max → IsSmall max
 range_small max range = let least = range.least in (omega (arith, ints, least), range.greatest)
@@ -114,24 +115,24 @@ fits_from_wide (negsuc n) h k = let low : suc n < 2 ^ 63 = omega (arith, ints, h
 
 pub sum_fits : (a b : ℤ) → IsSmall a → IsSmall b → FitsSigned w64 (a +ℤ b)
 sum_fits a b h k =
-    let low : neg_ℤ (pos 4611686018427387903) ≤ℤ a = h.0 in
-    let high : a ≤ℤ pos 4611686018427387903 = h.1 in
-    let least : neg_ℤ (pos 4611686018427387903) ≤ℤ b = k.0 in
-    let most : b ≤ℤ pos 4611686018427387903 = k.1 in
+    let low : neg_ℤ (pos GREATEST_MAXINT) ≤ℤ a = h.0 in
+    let high : a ≤ℤ pos GREATEST_MAXINT = h.1 in
+    let least : neg_ℤ (pos GREATEST_MAXINT) ≤ℤ b = k.0 in
+    let most : b ≤ℤ pos GREATEST_MAXINT = k.1 in
     fits_from_wide (a +ℤ b) (omega (arith, ints, low, least)) (omega (arith, ints, high, most))
 
 pub difference_fits : (a b : ℤ) → IsSmall a → IsSmall b → FitsSigned w64 (a -ℤ b)
 difference_fits a b h k =
-    let low : neg_ℤ (pos 4611686018427387903) ≤ℤ a = h.0 in
-    let high : a ≤ℤ pos 4611686018427387903 = h.1 in
-    let least : neg_ℤ (pos 4611686018427387903) ≤ℤ b = k.0 in
-    let most : b ≤ℤ pos 4611686018427387903 = k.1 in
+    let low : neg_ℤ (pos GREATEST_MAXINT) ≤ℤ a = h.0 in
+    let high : a ≤ℤ pos GREATEST_MAXINT = h.1 in
+    let least : neg_ℤ (pos GREATEST_MAXINT) ≤ℤ b = k.0 in
+    let most : b ≤ℤ pos GREATEST_MAXINT = k.1 in
     fits_from_wide (a -ℤ b) (omega (arith, ints, low, most)) (omega (arith, ints, high, least))
 
 small_fits : (a : ℤ) → IsSmall a → FitsSigned w64 a
 small_fits a h =
-    let low : neg_ℤ (pos 4611686018427387903) ≤ℤ a = h.0 in
-    let high : a ≤ℤ pos 4611686018427387903 = h.1 in
+    let low : neg_ℤ (pos GREATEST_MAXINT) ≤ℤ a = h.0 in
+    let high : a ≤ℤ pos GREATEST_MAXINT = h.1 in
     fits_from_wide a (omega (arith, ints, low)) (omega (arith, ints, high))
 
 -- what the machine's sums and differences of such numbers are
@@ -151,7 +152,7 @@ within_if : (max n : ℤ) → is_within max n ≡ true → IsWithin max n
 within_if max n h = (grind (arith, ints), grind (arith, ints))
 
 within_small : (max n : ℤ) → IsSmall max → IsWithin max n → IsSmall n
-within_small max n m h = within_from_abs 4611686018427387903 n (abs_within 4611686018427387903 max n m.1 h)
+within_small max n m h = within_from_abs GREATEST_MAXINT n (abs_within GREATEST_MAXINT max n m.1 h)
 
 overflows : (t : Bool) (max n : ℤ) → is_within max n ≡ t → (IsWithin max n → ⊥) → Err Overflow ≡ (if t then Ok n else Err Overflow)
 overflows true max n is past = absurd (past (within_if max n is))
@@ -160,14 +161,14 @@ overflows false max n is past = refl
 pub too_wide : (image : Image) (is_default : Bool) (n : ℤ) → HasRange image is_default → (FitsSigned w64 n → ⊥) → Err Overflow ≡ bounded (int_max image) n
 too_wide image is_default n h wide = overflows (is_within (int_max image) n) (int_max image) n refl (λ w. wide (fits_from_small n (within_small (int_max image) n h.small w)))
 
-pub executable : (image : Image) (place depth : ℕ) (stack cells : List ℤ) (inst : Inst) → length stack ≡ 1000 →
+pub executable : (image : Image) (place depth : ℕ) (stack cells : List ℤ) (inst : Inst) → length stack ≡ STACK_ROOM →
     IsReady image (standing place (tops depth stack) cells) →
     slice_get image.code place ≡ Some inst → IsExecutable image place inst depth stack cells
 executable image place depth stack cells inst long h is =
     let many : length (tops depth stack) ≡ depth = length-tops depth stack in
     let roomy = room image place (tops depth stack) cells inst h is in
     let deep : length (tops depth stack) ≡ slice_index h.depths place = h.fits.deep in
-    let limit : slice_index h.depths place ≤ 1000 = h.deep.limit place h.fits.place in
+    let limit : slice_index h.depths place ≤ STACK_ROOM = h.deep.limit place h.fits.place in
     let pop : pops inst ≤ slice_index h.depths place = h.deep.enough place inst is in
     record {
       operands = h.numbered.insts place inst is;

@@ -1,5 +1,5 @@
 -- Small cases of what terms read as, to be checked by hand.
-use Rattle.std.specs.Prelude.{◌≡◌, ℕ, ℤ, pos, negsuc, [], ◌∷◌, None, Some}
+use Rattle.std.specs.Prelude.{◌≡◌, ℕ, ℤ, pos, neg_ℤ, [], ◌∷◌, None, Some}
 use Rattle.bk_limits.specs.declared.TheConstants.{MAXINT}
 use Rattle.bk_val.specs.ValueType.{int_type, pair_type, set_type}
 use Rattle.bk_form.specs.Formula.{variable, bound, literal, empty_set, named, btrue, unary, binary}
@@ -153,10 +153,10 @@ pub record ReadingExamples : Type 0 where
       (binary Conjunction (binary In (variable 4) (unary PowerOf (variable 4))) (unary Negation (binary Eq (variable 4) (variable 4))))
   pub no_set : (with_set (infix_at 0 StrictSubset (one_at 0) (x_at 6))).faults ≡ without_type 0 ∷ []
   -- MAXINT and NAT are numbers and intervals of literals
-  pub greatest : (alone (word_at 0 MaxInt)).outcome ≡ partial (whole (literal (pos 2147483647)) int_type)
-  pub least : (alone (word_at 0 MinInt)).outcome ≡ partial (whole (literal (negsuc 2147483646)) int_type)
+  pub greatest : (alone (word_at 0 MaxInt)).outcome ≡ partial (whole (literal MAXINT) int_type)
+  pub least : (alone (word_at 0 MinInt)).outcome ≡ partial (whole (literal (neg_ℤ MAXINT)) int_type)
   pub naturals : (alone (word_at 0 Nat)).outcome ≡
-      partial (whole (binary Range (literal (pos 0)) (literal (pos 2147483647))) (set_type int_type))
+      partial (whole (binary Range (literal (pos 0)) (literal MAXINT)) (set_type int_type))
   -- f(1), f[x], x <| f, (f ; f) and 1 |-> 1
   pub application : (with_relation (raw 0 (raw_apply (f_at 0) (one_at 2)))).outcome ≡
       partial (whole (binary ApplyTo (variable 5) (literal (pos 1))) int_type)

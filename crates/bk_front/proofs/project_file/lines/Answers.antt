@@ -1,5 +1,6 @@
 use Rattle.std.proofs.Common.{◌≡◌, ◌<◌, ◌∷◌, ◌++◌, [], length, false, inl, inr, refl, rules, sym, subst, ◌+◌}
 use Rattle.std.specs.Str.Lines.{lines}
+use Rattle.bk_limits.specs.declared.TheConstants.{MOST_COMPONENTS}
 use Rattle.bk_lines.specs.Lines.{is_skipped}
 use Rattle.bk_sources.proofs.FileSteps.{ok_of}
 use Rattle.bk_front.specs.declared.project_file.ProjectLine.{ProjectLine}
@@ -43,7 +44,7 @@ returns-then-is_none-clause-refusal c =
 pub returns-then-component_count-gt-MOST_COMPONENTS-clause-refusal : goal.returns-then-component_count-gt-MOST_COMPONENTS-clause-refusal
 returns-then-component_count-gt-MOST_COMPONENTS-clause-refusal c =
     let utf8 = (ok_of _ _ _ c.in_default.field-0 c.from_utf8.ensures.cases c.in_default.is).1 in
-    let many : 200 < length (component_lines c.loop-line.lines.items) = search rules in
+    let many : MOST_COMPONENTS < length (component_lines c.loop-line.lines.items) = search rules in
     (refl, refl, utf8, too_many c.args.text.now c.loop-line.rest.now c.loop-line.number c.loop-line.lines.items c.loop-line.last c.loop-line.invariant (search rules) (search rules) many)
 
 pub returns-clause-lines : goal.returns-clause-lines

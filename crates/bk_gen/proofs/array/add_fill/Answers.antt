@@ -1,5 +1,6 @@
 use Rattle.std.proofs.Common.{◌≡◌, ◌≤◌, ◌++◌, List, [], ◌∷◌, ◌∙◌, ap, subst, arith}
 use Rattle.std.specs.Prelude.{OnOk}
+use Rattle.bk_limits.specs.declared.TheConstants.{MOST_CELLS}
 use Rattle.bk_dev.specs.Layout.{index_count}
 use Rattle.bk_code.specs.declared.instruction.Inst.{Inst}
 use Rattle.bk_b0.specs.CodeUnit.{first_of, unit_places}
@@ -12,7 +13,7 @@ cells_of-requires c = c.requires.ready.arrays c.args.variable c.args.row.now c.r
 
 pub add_stores-requires : goal.add_stores-requires
 add_stores-requires c =
-    let few : index_count c.args.unit.now.table c.args.row.now.domain ≤ 1000000 = c.requires.ready.arrays c.args.variable c.args.row.now c.requires.found in
+    let few : index_count c.args.unit.now.table c.args.row.now.domain ≤ MOST_CELLS = c.requires.ready.arrays c.args.variable c.args.row.now c.requires.found in
     omega (arith, few, c.slot_of-first.ensures.few, c.cells_of.ensures)
 
 pub returns : goal.returns

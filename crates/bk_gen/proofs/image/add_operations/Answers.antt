@@ -1,5 +1,6 @@
 use Rattle.std.proofs.Common.{suc, ◌≡◌, ◌<◌, ◌+◌, ◌≤◌, ◌++◌, [], ◌∷◌, map, length, drop, ap, sym, ◌∙◌, subst, arith, drop-cons, append_assoc}
 use Rattle.std.proofs.lemmas.List.{length-append}
+use Rattle.bk_limits.specs.declared.TheConstants.{MOST_INSTRUCTIONS}
 use Rattle.bk_dev.specs.Development.{Body}
 use Rattle.bk_code.specs.declared.image.OpEntry.{OpEntry}
 use Rattle.bk_b0.specs.CodeUnit.{unit_places}
@@ -32,7 +33,7 @@ loop-number-preserved c =
     let entry : OpEntry = record { name = h.name; start = length before; inputs = map (placed_parameter p) h.inputs; outputs = map (placed_parameter p) b.outputs } in
     let entered : c.in_ok-entry_of.field-0 ≡ entry = c.in_ok-entry_of.ensures ∙ (λ j. record { name = h.name; start = place j; inputs = map (placed_parameter p) h.inputs; outputs = map (placed_parameter p) b.outputs }) in
     let rest = placed_entries p (length after) (drop (i + 1) c.args.heads.now) (drop (i + 1) c.args.bodies.now) in
-    let count : length before + blocks_size p (b ∷ drop (i + 1) c.args.bodies.now) ≤ 1000000 = subst (λ bs. length before + blocks_size p bs ≤ 1000000) bodies c.loop-number.invariant.short in
+    let count : length before + blocks_size p (b ∷ drop (i + 1) c.args.bodies.now) ≤ MOST_INSTRUCTIONS = subst (λ bs. length before + blocks_size p bs ≤ MOST_INSTRUCTIONS) bodies c.loop-number.invariant.short in
     record {
       code = ap (λ xs. xs ++ placed_bodies p (drop (i + 1) c.args.bodies.now)) grown ∙ (append_assoc before block (placed_bodies p (drop (i + 1) c.args.bodies.now)) ∙
           (ap (λ bs. before ++ placed_bodies p bs) (sym bodies) ∙ c.loop-number.invariant.code));

@@ -1,6 +1,7 @@
 use Rattle.std.proofs.Common.{rules, ◌≡◌, ◌+◌, ◌≤◌, ◌++◌, [], ◌∷◌, pos, neg_ℤ, length, refl, ap, sym, ◌∙◌, subst, arith}
 use Rattle.std.specs.Prelude.{◌-◌}
 use Rattle.std.proofs.lemmas.List.{length-set}
+use Rattle.bk_limits.specs.declared.TheConstants.{MOST_INSTRUCTIONS}
 use Rattle.bk_gsl.specs.Substitution.{seq}
 use Rattle.bk_gsl.specs.Codes.SubView.{sub_view}
 use Rattle.bk_code.specs.declared.instruction.Inst.TheVariants.{Jump, JumpZero}
@@ -18,7 +19,7 @@ add_statement-add_statement-requires-in-Seq t c =
     let p = unit_places c.args.unit.now in
     let is : c.args.sub.now ≡ seq c.in-Seq.first c.in-Seq.second = sym c.sub.view_is ∙ ap sub_view (sym c.deref.ensures ∙ c.in-Seq.is) in
     let has = subst (HasStatementCode p) is c.requires.has in
-    let fits : length c.args.code.now.items + (statement_size p c.in-Seq.first + statement_size p c.in-Seq.second) ≤ 1000000 = subst (λ s. length c.args.code.now.items + statement_size p s ≤ 1000000) is c.requires.short in
+    let fits : length c.args.code.now.items + (statement_size p c.in-Seq.first + statement_size p c.in-Seq.second) ≤ MOST_INSTRUCTIONS = subst (λ s. length c.args.code.now.items + statement_size p s ≤ MOST_INSTRUCTIONS) is c.requires.short in
     let e1 : c.add_statement.new.code.items ≡ c.args.code.now.items ++ placed_statement p c.in-Seq.first = c.in_ok-add_statement-in-Seq.ensures in
     let l1 : length c.add_statement.new.code.items ≡ length c.args.code.now.items + statement_size p c.in-Seq.first = longer c.args.code.now.items (placed_statement p c.in-Seq.first) c.add_statement.new.code.items (statement_size p c.in-Seq.first) e1 (statement_long p c.in-Seq.first has.0) in
     (search rules, (c.requires.ready, (has.1, omega arith)))
@@ -26,7 +27,7 @@ add_statement-add_statement-requires-in-Seq t c =
 pub add_branches-add_statement-requires : goal.add_branches-add_statement-requires
 add_branches-add_statement-requires t c =
     let p = unit_places c.args.unit.now in
-    let fits : length c.args.code.now.items + (value_size c.args.test.now + (statement_size p c.args.yes.now + statement_size p c.args.no.now) + 2) ≤ 1000000 = c.requires.short in
+    let fits : length c.args.code.now.items + (value_size c.args.test.now + (statement_size p c.args.yes.now + statement_size p c.args.no.now) + 2) ≤ MOST_INSTRUCTIONS = c.requires.short in
     let e1 : c.add_value.new.code.items ≡ c.args.code.now.items ++ placed_value p c.args.test.now = c.in_ok-add_value.ensures in
     let l1 : length c.add_value.new.code.items ≡ length c.args.code.now.items + value_size c.args.test.now = longer c.args.code.now.items (placed_value p c.args.test.now) c.add_value.new.code.items (value_size c.args.test.now) e1 (value_long p c.args.test.now c.requires.has_test) in
     let e2 : c.push.new.self.items ≡ c.add_value.new.code.items ++ JumpZero (pos 0) ∷ [] = c.in_ok-push.ensures.items in
@@ -36,7 +37,7 @@ add_branches-add_statement-requires t c =
 pub add_branches-set_test-requires-clause-short : goal.add_branches-set_test-requires-clause-short
 add_branches-set_test-requires-clause-short t c =
     let p = unit_places c.args.unit.now in
-    let fits : length c.args.code.now.items + (value_size c.args.test.now + (statement_size p c.args.yes.now + statement_size p c.args.no.now) + 2) ≤ 1000000 = c.requires.short in
+    let fits : length c.args.code.now.items + (value_size c.args.test.now + (statement_size p c.args.yes.now + statement_size p c.args.no.now) + 2) ≤ MOST_INSTRUCTIONS = c.requires.short in
     let e1 : c.add_value.new.code.items ≡ c.args.code.now.items ++ placed_value p c.args.test.now = c.in_ok-add_value.ensures in
     let l1 : length c.add_value.new.code.items ≡ length c.args.code.now.items + value_size c.args.test.now = longer c.args.code.now.items (placed_value p c.args.test.now) c.add_value.new.code.items (value_size c.args.test.now) e1 (value_long p c.args.test.now c.requires.has_test) in
     let e2 : c.push.new.self.items ≡ c.add_value.new.code.items ++ JumpZero (pos 0) ∷ [] = c.in_ok-push.ensures.items in
@@ -50,7 +51,7 @@ add_branches-set_test-requires-clause-short t c =
 pub add_branches-add_statement-requires-2 : goal.add_branches-add_statement-requires-2
 add_branches-add_statement-requires-2 t c =
     let p = unit_places c.args.unit.now in
-    let fits : length c.args.code.now.items + (value_size c.args.test.now + (statement_size p c.args.yes.now + statement_size p c.args.no.now) + 2) ≤ 1000000 = c.requires.short in
+    let fits : length c.args.code.now.items + (value_size c.args.test.now + (statement_size p c.args.yes.now + statement_size p c.args.no.now) + 2) ≤ MOST_INSTRUCTIONS = c.requires.short in
     let e1 : c.add_value.new.code.items ≡ c.args.code.now.items ++ placed_value p c.args.test.now = c.in_ok-add_value.ensures in
     let l1 : length c.add_value.new.code.items ≡ length c.args.code.now.items + value_size c.args.test.now = longer c.args.code.now.items (placed_value p c.args.test.now) c.add_value.new.code.items (value_size c.args.test.now) e1 (value_long p c.args.test.now c.requires.has_test) in
     let e2 : c.push.new.self.items ≡ c.add_value.new.code.items ++ JumpZero (pos 0) ∷ [] = c.in_ok-push.ensures.items in
@@ -65,7 +66,7 @@ add_branches-add_statement-requires-2 t c =
 pub add_branches-set_jump-requires-clause-short : goal.add_branches-set_jump-requires-clause-short
 add_branches-set_jump-requires-clause-short t c =
     let p = unit_places c.args.unit.now in
-    let fits : length c.args.code.now.items + (value_size c.args.test.now + (statement_size p c.args.yes.now + statement_size p c.args.no.now) + 2) ≤ 1000000 = c.requires.short in
+    let fits : length c.args.code.now.items + (value_size c.args.test.now + (statement_size p c.args.yes.now + statement_size p c.args.no.now) + 2) ≤ MOST_INSTRUCTIONS = c.requires.short in
     let e1 : c.add_value.new.code.items ≡ c.args.code.now.items ++ placed_value p c.args.test.now = c.in_ok-add_value.ensures in
     let l1 : length c.add_value.new.code.items ≡ length c.args.code.now.items + value_size c.args.test.now = longer c.args.code.now.items (placed_value p c.args.test.now) c.add_value.new.code.items (value_size c.args.test.now) e1 (value_long p c.args.test.now c.requires.has_test) in
     let e2 : c.push.new.self.items ≡ c.add_value.new.code.items ++ JumpZero (pos 0) ∷ [] = c.in_ok-push.ensures.items in
@@ -97,7 +98,7 @@ add_branches-returns t c =
 pub add_loop-add_statement-requires : goal.add_loop-add_statement-requires
 add_loop-add_statement-requires t c =
     let p = unit_places c.args.unit.now in
-    let fits : length c.args.code.now.items + (value_size c.args.test.now + statement_size p c.args.body.now + 2) ≤ 1000000 = c.requires.short in
+    let fits : length c.args.code.now.items + (value_size c.args.test.now + statement_size p c.args.body.now + 2) ≤ MOST_INSTRUCTIONS = c.requires.short in
     let e1 : c.add_value.new.code.items ≡ c.args.code.now.items ++ placed_value p c.args.test.now = c.in_ok-add_value.ensures in
     let l1 : length c.add_value.new.code.items ≡ length c.args.code.now.items + value_size c.args.test.now = longer c.args.code.now.items (placed_value p c.args.test.now) c.add_value.new.code.items (value_size c.args.test.now) e1 (value_long p c.args.test.now c.requires.has_test) in
     let e2 : c.push.new.self.items ≡ c.add_value.new.code.items ++ JumpZero (pos 0) ∷ [] = c.in_ok-push.ensures.items in
@@ -119,7 +120,7 @@ add_loop-add_jump_back-requires-clause-stands t c =
 pub add_loop-add_jump_back-requires-clause-short : goal.add_loop-add_jump_back-requires-clause-short
 add_loop-add_jump_back-requires-clause-short t c =
     let p = unit_places c.args.unit.now in
-    let fits : length c.args.code.now.items + (value_size c.args.test.now + statement_size p c.args.body.now + 2) ≤ 1000000 = c.requires.short in
+    let fits : length c.args.code.now.items + (value_size c.args.test.now + statement_size p c.args.body.now + 2) ≤ MOST_INSTRUCTIONS = c.requires.short in
     let e1 : c.add_value.new.code.items ≡ c.args.code.now.items ++ placed_value p c.args.test.now = c.in_ok-add_value.ensures in
     let l1 : length c.add_value.new.code.items ≡ length c.args.code.now.items + value_size c.args.test.now = longer c.args.code.now.items (placed_value p c.args.test.now) c.add_value.new.code.items (value_size c.args.test.now) e1 (value_long p c.args.test.now c.requires.has_test) in
     let e2 : c.push.new.self.items ≡ c.add_value.new.code.items ++ JumpZero (pos 0) ∷ [] = c.in_ok-push.ensures.items in
@@ -145,7 +146,7 @@ add_loop-set_test-requires-clause-stands t c =
 pub add_loop-set_test-requires-clause-short : goal.add_loop-set_test-requires-clause-short
 add_loop-set_test-requires-clause-short t c =
     let p = unit_places c.args.unit.now in
-    let fits : length c.args.code.now.items + (value_size c.args.test.now + statement_size p c.args.body.now + 2) ≤ 1000000 = c.requires.short in
+    let fits : length c.args.code.now.items + (value_size c.args.test.now + statement_size p c.args.body.now + 2) ≤ MOST_INSTRUCTIONS = c.requires.short in
     let e1 : c.add_value.new.code.items ≡ c.args.code.now.items ++ placed_value p c.args.test.now = c.in_ok-add_value.ensures in
     let l1 : length c.add_value.new.code.items ≡ length c.args.code.now.items + value_size c.args.test.now = longer c.args.code.now.items (placed_value p c.args.test.now) c.add_value.new.code.items (value_size c.args.test.now) e1 (value_long p c.args.test.now c.requires.has_test) in
     let e2 : c.push.new.self.items ≡ c.add_value.new.code.items ++ JumpZero (pos 0) ∷ [] = c.in_ok-push.ensures.items in

@@ -1,4 +1,5 @@
 use Rattle.std.proofs.Common.{◌≡◌, ◌+◌, ◌≤◌, ◌++◌, [], ◌∷◌, length, ap, ◌∙◌, arith, append_assoc}
+use Rattle.bk_limits.specs.declared.TheConstants.{MOST_INSTRUCTIONS}
 use Rattle.bk_b0.specs.CodeUnit.{unit_places}
 use Rattle.bk_b0.specs.Places.{placed_value, placed_write}
 use Rattle.bk_gen.specs.Sizes.{value_size}
@@ -9,7 +10,7 @@ use Rattle.bk_gen.proofs.statement.add_element_write.Goals as goal
 pub add_value-requires-2-clause-short : goal.add_value-requires-2-clause-short
 add_value-requires-2-clause-short c =
     let p = unit_places c.args.unit.now in
-    let fits : length c.args.code.now.items + (value_size c.args.index.now + value_size c.args.value.now + 1) ≤ 1000000 = c.requires.short in
+    let fits : length c.args.code.now.items + (value_size c.args.index.now + value_size c.args.value.now + 1) ≤ MOST_INSTRUCTIONS = c.requires.short in
     let e1 : c.add_value.new.code.items ≡ c.args.code.now.items ++ placed_value p c.args.index.now = c.in_ok-add_value.ensures in
     let l1 : length c.add_value.new.code.items ≡ length c.args.code.now.items + value_size c.args.index.now = longer c.args.code.now.items (placed_value p c.args.index.now) c.add_value.new.code.items (value_size c.args.index.now) e1 (value_long p c.args.index.now c.requires.has_index) in
     omega arith

@@ -1,5 +1,6 @@
 use Rattle.std.proofs.Common.{rules, List, ◌≡◌, ◌++◌, ◌+◌, ◌≤◌, [], ◌∷◌, length, Some, None, ap, sym, ◌∙◌, subst, arith, append_assoc}
 use Rattle.std.specs.Prelude.{OnOk}
+use Rattle.bk_limits.specs.declared.TheConstants.{MOST_INSTRUCTIONS}
 use Rattle.bk_form.specs.ArrayTable.{row_of}
 use Rattle.bk_code.specs.declared.instruction.Inst.{Inst}
 use Rattle.bk_code.specs.declared.instruction.Inst.TheVariants.{Store}
@@ -23,7 +24,7 @@ pub add_written-requires-clause-short : goal.add_written-requires-clause-short
 add_written-requires-clause-short c =
     let p = unit_places c.args.unit.now in
     let found : row_of c.args.unit.now.arrays c.args.variable ≡ Some c.in-Some.row.now = search rules in
-    subst (λ o. length c.args.code.now.items + store_size (p.cells c.args.variable) o c.args.term.now ≤ 1000000) found c.requires.short
+    subst (λ o. length c.args.code.now.items + store_size (p.cells c.args.variable) o c.args.term.now ≤ MOST_INSTRUCTIONS) found c.requires.short
 
 pub returns-in-Some : goal.returns-in-Some
 returns-in-Some c =
@@ -43,7 +44,7 @@ pub add_value-requires-clause-short : goal.add_value-requires-clause-short
 add_value-requires-clause-short c =
     let p = unit_places c.args.unit.now in
     let plain : row_of c.args.unit.now.arrays c.args.variable ≡ None = search rules in
-    let fits : length c.args.code.now.items + store_size (p.cells c.args.variable) None c.args.term.now ≤ 1000000 = subst (λ o. length c.args.code.now.items + store_size (p.cells c.args.variable) o c.args.term.now ≤ 1000000) plain c.requires.short in
+    let fits : length c.args.code.now.items + store_size (p.cells c.args.variable) None c.args.term.now ≤ MOST_INSTRUCTIONS = subst (λ o. length c.args.code.now.items + store_size (p.cells c.args.variable) o c.args.term.now ≤ MOST_INSTRUCTIONS) plain c.requires.short in
     omega arith
 
 pub returns-in_ok-push-in-None : goal.returns-in_ok-push-in-None

@@ -1,5 +1,6 @@
 use Rattle.std.proofs.Common.{rules, ◌≡◌, ◌+◌, ◌≤◌, ◌++◌, List, [], ◌∷◌, pos, length, refl, ap, sym, ◌∙◌, subst, arith, append_assoc}
 use Rattle.std.specs.Prelude.{OnOk}
+use Rattle.bk_limits.specs.declared.TheConstants.{MOST_INSTRUCTIONS}
 use Rattle.bk_form.specs.Formula.{unary, binary}
 use Rattle.bk_code.specs.declared.instruction.Inst.{Inst}
 use Rattle.bk_code.specs.declared.instruction.Inst.TheVariants.{Push, Jump, JumpZero}
@@ -34,7 +35,7 @@ add_value-returns-in-Bin t c =
 pub add_calculation-add_value-requires-2 : goal.add_calculation-add_value-requires-2
 add_calculation-add_value-requires-2 t c =
     let p = unit_places c.args.unit.now in
-    let fits : length c.args.code.now.items + (value_size c.args.left.now + value_size c.args.right.now) ≤ 1000000 = c.requires.short in
+    let fits : length c.args.code.now.items + (value_size c.args.left.now + value_size c.args.right.now) ≤ MOST_INSTRUCTIONS = c.requires.short in
     let e1 : c.add_value.new.code.items ≡ c.args.code.now.items ++ placed_value p c.args.left.now = c.in_ok-add_value.ensures in
     let l1 : length c.add_value.new.code.items ≡ length c.args.code.now.items + value_size c.args.left.now = longer c.args.code.now.items (placed_value p c.args.left.now) c.add_value.new.code.items (value_size c.args.left.now) e1 (value_long p c.args.left.now c.requires.has_left) in
     (search rules, (c.requires.ready, (c.requires.has_right, omega arith)))
@@ -57,7 +58,7 @@ add_element-returns t c =
 pub add_both-add_value-requires-2 : goal.add_both-add_value-requires-2
 add_both-add_value-requires-2 t c =
     let p = unit_places c.args.unit.now in
-    let fits : length c.args.code.now.items + (value_size c.args.left.now + value_size c.args.right.now + 3) ≤ 1000000 = c.requires.short in
+    let fits : length c.args.code.now.items + (value_size c.args.left.now + value_size c.args.right.now + 3) ≤ MOST_INSTRUCTIONS = c.requires.short in
     let e1 : c.add_value.new.code.items ≡ c.args.code.now.items ++ placed_value p c.args.left.now = c.in_ok-add_value.ensures in
     let l1 : length c.add_value.new.code.items ≡ length c.args.code.now.items + value_size c.args.left.now = longer c.args.code.now.items (placed_value p c.args.left.now) c.add_value.new.code.items (value_size c.args.left.now) e1 (value_long p c.args.left.now c.requires.has_left) in
     let e2 : c.push.new.self.items ≡ c.add_value.new.code.items ++ JumpZero (pos 0) ∷ [] = c.in_ok-push.ensures.items in
@@ -67,7 +68,7 @@ add_both-add_value-requires-2 t c =
 pub add_both-set_test-requires-clause-short : goal.add_both-set_test-requires-clause-short
 add_both-set_test-requires-clause-short t c =
     let p = unit_places c.args.unit.now in
-    let fits : length c.args.code.now.items + (value_size c.args.left.now + value_size c.args.right.now + 3) ≤ 1000000 = c.requires.short in
+    let fits : length c.args.code.now.items + (value_size c.args.left.now + value_size c.args.right.now + 3) ≤ MOST_INSTRUCTIONS = c.requires.short in
     let e1 : c.add_value.new.code.items ≡ c.args.code.now.items ++ placed_value p c.args.left.now = c.in_ok-add_value.ensures in
     let l1 : length c.add_value.new.code.items ≡ length c.args.code.now.items + value_size c.args.left.now = longer c.args.code.now.items (placed_value p c.args.left.now) c.add_value.new.code.items (value_size c.args.left.now) e1 (value_long p c.args.left.now c.requires.has_left) in
     let e2 : c.push.new.self.items ≡ c.add_value.new.code.items ++ JumpZero (pos 0) ∷ [] = c.in_ok-push.ensures.items in
@@ -93,7 +94,7 @@ add_both-returns t c =
 pub add_either-add_value-requires-2 : goal.add_either-add_value-requires-2
 add_either-add_value-requires-2 t c =
     let p = unit_places c.args.unit.now in
-    let fits : length c.args.code.now.items + (value_size c.args.left.now + value_size c.args.right.now + 3) ≤ 1000000 = c.requires.short in
+    let fits : length c.args.code.now.items + (value_size c.args.left.now + value_size c.args.right.now + 3) ≤ MOST_INSTRUCTIONS = c.requires.short in
     let e1 : c.add_value.new.code.items ≡ c.args.code.now.items ++ placed_value p c.args.left.now = c.in_ok-add_value.ensures in
     let l1 : length c.add_value.new.code.items ≡ length c.args.code.now.items + value_size c.args.left.now = longer c.args.code.now.items (placed_value p c.args.left.now) c.add_value.new.code.items (value_size c.args.left.now) e1 (value_long p c.args.left.now c.requires.has_left) in
     let e2 : c.push.new.self.items ≡ c.add_value.new.code.items ++ JumpZero (pos 3) ∷ [] = c.in_ok-push.ensures.items in
@@ -107,7 +108,7 @@ add_either-add_value-requires-2 t c =
 pub add_either-set_jump-requires-clause-short : goal.add_either-set_jump-requires-clause-short
 add_either-set_jump-requires-clause-short t c =
     let p = unit_places c.args.unit.now in
-    let fits : length c.args.code.now.items + (value_size c.args.left.now + value_size c.args.right.now + 3) ≤ 1000000 = c.requires.short in
+    let fits : length c.args.code.now.items + (value_size c.args.left.now + value_size c.args.right.now + 3) ≤ MOST_INSTRUCTIONS = c.requires.short in
     let e1 : c.add_value.new.code.items ≡ c.args.code.now.items ++ placed_value p c.args.left.now = c.in_ok-add_value.ensures in
     let l1 : length c.add_value.new.code.items ≡ length c.args.code.now.items + value_size c.args.left.now = longer c.args.code.now.items (placed_value p c.args.left.now) c.add_value.new.code.items (value_size c.args.left.now) e1 (value_long p c.args.left.now c.requires.has_left) in
     let e2 : c.push.new.self.items ≡ c.add_value.new.code.items ++ JumpZero (pos 3) ∷ [] = c.in_ok-push.ensures.items in

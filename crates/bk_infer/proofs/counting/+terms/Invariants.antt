@@ -1,4 +1,5 @@
 use Rattle.std.proofs.Common.{◌≡◌, ◌+◌, ◌*◌, ◌≤◌, drop}
+use Rattle.bk_limits.specs.declared.TheConstants.{MOST_NAMES}
 use Rattle.bk_raw.specs.Trees.RawTree.{tree_size, trees_size, ranges_size, trees_of}
 use Rattle.bk_raw.specs.Codes.RawView.{ranges_of}
 use Rattle.bk_scope.specs.Shown.{capped}
@@ -17,11 +18,11 @@ decreases-ranges_names l = 2 * ranges_size (ranges_of l.ranges.now) + 1
 abbrev pub invariant-all_names-loop-term : goal.invariant-all_names-loop-term
 invariant-all_names-loop-term l = record {
   rest : capped (l.names + all_term_names (trees_of (drop l.term-index l.terms))) ≡ capped (all_term_names (trees_of l.terms));
-  few : l.names ≤ 2001;
+  few : l.names ≤ (suc MOST_NAMES);
 }
 
 abbrev pub invariant-ranges_names-loop-range : goal.invariant-ranges_names-loop-range
 invariant-ranges_names-loop-range l = record {
   rest : capped (l.names + ranges_names (ranges_of (drop l.range-index l.ranges))) ≡ capped (ranges_names (ranges_of l.ranges));
-  few : l.names ≤ 2001;
+  few : l.names ≤ (suc MOST_NAMES);
 }

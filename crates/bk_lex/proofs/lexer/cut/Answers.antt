@@ -1,4 +1,5 @@
 use Rattle.std.proofs.Common.{◌≡◌, ◌≤◌, ◌<◌, ◌+◌, length, arith}
+use Rattle.bk_limits.specs.declared.TheConstants.{MOST_TOKENS}
 use Rattle.bk_lex.specs.Lexis.{Cut}
 use Rattle.bk_lex.proofs.Gaps.{err_matches}
 use Rattle.bk_lex.proofs.Cutting.{cut_gaps, pushed, length-pushed, begins_some, gap_fault}
@@ -15,7 +16,7 @@ returns-in_err-rest-2 c =
     let less : length after < length rest = begins_some c.in_ok-kind.kind rest after c.in_ok-kind.ensures.0 in
     let cut : Cut (length text) text items after = pushed text found items rest after _ c.in_ok-push.ensures.items old.0 c.in_ok-kind.ensures (omega (arith, old.2)) (omega (arith, old.2)) in
     let more : length items ≡ length found + 1 = length-pushed found items _ c.in_ok-push.ensures.items in
-    let few : length items ≤ 1000000 = omega (arith, old.3, c.if-len-eq-MOST_TOKENS.false) in
+    let few : length items ≤ MOST_TOKENS = omega (arith, old.3, c.if-len-eq-MOST_TOKENS.false) in
     err_matches c.from_residual-in_err-rest-2.result c.in_err-rest-2.field-0.0 _ _ c.from_residual-in_err-rest-2.ensures.1
     (gap_fault text items after c.in_err-rest-2.field-0.0 c.utf8.text few cut c.in_err-rest-2.ensures)
 
@@ -38,7 +39,7 @@ loop-rest-preserved c =
     let less : length after < length rest = begins_some c.in_ok-kind.kind rest after c.in_ok-kind.ensures.0 in
     let cut : Cut (length text) text items after = pushed text found items rest after _ c.in_ok-push.ensures.items old.0 c.in_ok-kind.ensures (omega (arith, old.2)) (omega (arith, old.2)) in
     let more : length items ≡ length found + 1 = length-pushed found items _ c.in_ok-push.ensures.items in
-    let few : length items ≤ 1000000 = omega (arith, old.3, c.if-len-eq-MOST_TOKENS.false) in
+    let few : length items ≤ MOST_TOKENS = omega (arith, old.3, c.if-len-eq-MOST_TOKENS.false) in
     let gaps = c.in_ok-rest-2.ensures in (
       cut_gaps (length text) text items after next gaps.0 cut gaps.1,
       gaps.2,

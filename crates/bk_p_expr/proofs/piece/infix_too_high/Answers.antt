@@ -1,4 +1,5 @@
 use Rattle.std.proofs.Common.{◌<◌, ◌∙◌, sym, subst, ℕ}
+use Rattle.bk_limits.specs.declared.TheConstants.{GREATEST_TREE_HEIGHT}
 use Rattle.bk_raw.specs.Trees.RawTree.{raw, raw_infix, tree_height, RawTree}
 use Rattle.bk_p_expr.specs.Conjuncts.{names_beside}
 use Rattle.bk_p_expr.specs.Pieces.{IsPiece}
@@ -9,15 +10,15 @@ use Rattle.bk_raw.specs.declared.operator.InfixOp.{InfixOp}
 use Rattle.bk_p_expr.proofs.piece.infix_too_high.Goals as goal
 
 abbrev Wanted : InfixOp → Piece → Piece → Piece → Type 0
-Wanted op left right r = (at : ℕ) (a b : RawTree) → 1000 < tree_height (raw at (raw_infix op a b)) → IsPiece a left → IsPiece b right → IsPiece (raw at (raw_infix op a b)) r
+Wanted op left right r = (at : ℕ) (a b : RawTree) → GREATEST_TREE_HEIGHT < tree_height (raw at (raw_infix op a b)) → IsPiece a left → IsPiece b right → IsPiece (raw at (raw_infix op a b)) r
 
 pub returns-in-And : goal.returns-in-And
 returns-in-And c = ok_so _ _ c.conjunction.ensures (Wanted c.args.op c.args.left c.args.right) (λ r f. λ at a b l h k.
-    subst (λ o. IsPiece (raw at (raw_infix o a b)) r) (sym c.in-And.is) (f at a b (subst (λ o. 1000 < tree_height (raw at (raw_infix o a b))) c.in-And.is l) h k))
+    subst (λ o. IsPiece (raw at (raw_infix o a b)) r) (sym c.in-And.is) (f at a b (subst (λ o. GREATEST_TREE_HEIGHT < tree_height (raw at (raw_infix o a b))) c.in-And.is l) h k))
 
 pub returns-in-Equal : goal.returns-in-Equal
 returns-in-Equal c = ok_so _ _ c.equation.ensures (Wanted c.args.op c.args.left c.args.right) (λ r f. λ at a b l h k.
-    subst (λ o. IsPiece (raw at (raw_infix o a b)) r) (sym c.in-Equal.is) (f at a b (subst (λ o. 1000 < tree_height (raw at (raw_infix o a b))) c.in-Equal.is l) h k))
+    subst (λ o. IsPiece (raw at (raw_infix o a b)) r) (sym c.in-Equal.is) (f at a b (subst (λ o. GREATEST_TREE_HEIGHT < tree_height (raw at (raw_infix o a b))) c.in-Equal.is l) h k))
 
 pub returns-in_ok-beside-in_default : goal.returns-in_ok-beside-in_default
 returns-in_ok-beside-in_default c = ok_so _ _ c.too_high.ensures (Wanted c.args.op c.args.left c.args.right) (λ r f. λ at a b l h k.

@@ -1,5 +1,6 @@
 use Rattle.std.proofs.Common.{◌≡◌, ◌≤◌, ◌<◌, ◌-◌, ◌∙◌, length, drop, refl, arith, subst, sym}
 use Rattle.std.proofs.lemmas.Grind.{common_steps}
+use Rattle.bk_limits.specs.declared.TheConstants.{GREATEST_TREE_HEIGHT}
 use Rattle.bk_raw.specs.Trees.SubTree.{sub_height}
 use Rattle.bk_p_expr.proofs.Choices.{if_none, if_some}
 use Rattle.bk_p_sub.specs.Faults.{IsLongestFrom}
@@ -13,7 +14,7 @@ returns-in-Built-clause-ok c =
     let e : c.in-Some.rest.now ≡ drop c.args.at c.args.tokens.now = grind (arith, common_steps) in
     let l : c.args.at ≤ length c.args.tokens.now = grind (arith, common_steps) in
     let f : FoundSub 0 c.in-Some.rest.now c.in-Some-2.statement c.in-Some-2.after.now = if_some _ _ _ _ c.in_ok-statement.ensures.found c.in-Some-2.is in
-    let b : (c.in-Built.sub.value ≡ f.0) × (c.in-Built.field-1 ≡ sub_height f.0) × (c.in-Built.field-1 ≤ 1000) = subst (λ t. IsStatement f.0 t) c.in-Built.is f.2 in
+    let b : (c.in-Built.sub.value ≡ f.0) × (c.in-Built.field-1 ≡ sub_height f.0) × (c.in-Built.field-1 ≤ GREATEST_TREE_HEIGHT) = subst (λ t. IsStatement f.0 t) c.in-Built.is f.2 in
     subst (λ s. IsLongestFrom c.args.tokens.now c.args.at (length c.args.tokens.now - length c.in-Some-2.after.now) s) (sym (c.into_inner.ensures ∙ b.0)) (found_from c.args.tokens.now c.in-Some.rest.now c.in-Some-2.after.now c.args.at (length c.args.tokens.now - length c.in-Some-2.after.now) f.0 e l f.1 refl)
 
 pub returns-in-High-clause-fault : goal.returns-in-High-clause-fault
@@ -36,8 +37,8 @@ returns-in_default-clause-fault c =
 pub returns-in-Built-clause-low : goal.returns-in-Built-clause-low
 returns-in-Built-clause-low c =
     let f : FoundSub 0 c.in-Some.rest.now c.in-Some-2.statement c.in-Some-2.after.now = if_some _ _ _ _ c.in_ok-statement.ensures.found c.in-Some-2.is in
-    let b : (c.in-Built.sub.value ≡ f.0) × (c.in-Built.field-1 ≡ sub_height f.0) × (c.in-Built.field-1 ≤ 1000) = subst (λ t. IsStatement f.0 t) c.in-Built.is f.2 in
-    subst (λ s. sub_height s ≤ 1000) (sym (c.into_inner.ensures ∙ b.0)) (omega (arith, b.1, b.2))
+    let b : (c.in-Built.sub.value ≡ f.0) × (c.in-Built.field-1 ≡ sub_height f.0) × (c.in-Built.field-1 ≤ GREATEST_TREE_HEIGHT) = subst (λ t. IsStatement f.0 t) c.in-Built.is f.2 in
+    subst (λ s. sub_height s ≤ GREATEST_TREE_HEIGHT) (sym (c.into_inner.ensures ∙ b.0)) (omega (arith, b.1, b.2))
 
 pub returns-in-Built-clause-shallow : goal.returns-in-Built-clause-shallow
 returns-in-Built-clause-shallow c =

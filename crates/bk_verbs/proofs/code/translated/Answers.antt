@@ -1,5 +1,6 @@
 use Rattle.std.proofs.Common.{◌≡◌, ◌≤◌, ◌<◌, length, ◌∙◌, ap, subst}
 use Rattle.std.specs.Prelude.{IfOk}
+use Rattle.bk_limits.specs.declared.TheConstants.{MOST_INSTRUCTIONS}
 use Rattle.bk_code.specs.declared.image.Image.{Image}
 use Rattle.bk_b0.specs.CodeUnit.{unit_image}
 use Rattle.bk_b0.proofs.Units.{units_are_translated}
@@ -14,9 +15,9 @@ returns-clause-ok c =
 pub returns-clause-too_long : goal.returns-clause-too_long
 returns-clause-too_long c e =
     let same = ap unit_image c.in_ok-unit.ensures ∙ units_are_translated c.args.dev.now in
-    subst (λ (i : Image). 1000000 < length i.code) same (c.translate.ensures.too_long e)
+    subst (λ (i : Image). MOST_INSTRUCTIONS < length i.code) same (c.translate.ensures.too_long e)
 
 pub returns-clause-too_many : goal.returns-clause-too_many
 returns-clause-too_many c e =
     let same = ap unit_image c.in_ok-unit.ensures ∙ units_are_translated c.args.dev.now in
-    subst (λ (i : Image). (length i.code ≤ 1000000) × HasTooManyCells i) same (c.translate.ensures.too_many e)
+    subst (λ (i : Image). (length i.code ≤ MOST_INSTRUCTIONS) × HasTooManyCells i) same (c.translate.ensures.too_many e)

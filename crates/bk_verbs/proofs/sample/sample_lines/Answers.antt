@@ -1,4 +1,5 @@
 use Rattle.std.proofs.Common.{◌≡◌, ◌⊎◌, inl, List, ◌++◌, map, Some, ◌∙◌, ap, subst}
+use Rattle.bk_limits.specs.declared.TheConstants.{FUEL}
 use Rattle.bk_io.specs.Files.{Files}
 use Rattle.bk_io.specs.Devices.{sure_written}
 use Rattle.bk_calls.specs.declared.script.Call.{Call}
@@ -28,8 +29,8 @@ returns-clause-told c files =
     let ready = c.in_ok-ready.ready in
     let start = sure_written c.in_ok-transcript.transcript in
     let written = sure_written c.play.new.out in
-    let plays : Plays ready.player.image 1000000 (map request_of ready.calls.items) c.in_ok-status.status (Some start) (Some written) =
-    subst (λ (x : List Call). Plays ready.player.image 1000000 (map request_of x) c.in_ok-status.status (Some start) (Some written)) c.deref-2.ensures.value c.in_ok-status.ensures.ok in
+    let plays : Plays ready.player.image FUEL (map request_of ready.calls.items) c.in_ok-status.status (Some start) (Some written) =
+    subst (λ (x : List Call). Plays ready.player.image FUEL (map request_of x) c.in_ok-status.status (Some start) (Some written)) c.deref-2.ensures.value c.in_ok-status.ensures.ok in
     let table_line : c.last_line.result.now ≡ last_line c.in_ok-table.table.items = c.last_line.ensures ∙ ap last_line c.deref-3.ensures.value in
     let transcript_line : c.last_line-2.result.now ≡ last_line written = c.last_line-2.ensures ∙ ap last_line c.written.ensures in
     let first : c.extend_from_slice.new.self.items ≡ last_line c.in_ok-table.table.items = c.in_ok-extend_from_slice.ensures.items ∙ (λ i. c.new-text.ensures.items i ++ table_line i) in

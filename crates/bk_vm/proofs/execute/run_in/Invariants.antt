@@ -1,4 +1,5 @@
 use Rattle.std.proofs.Common.{◌≡◌, ◌-◌, ◌≤◌, [], length}
+use Rattle.bk_limits.specs.declared.TheConstants.{STACK_ROOM}
 use Rattle.bk_code.specs.Run.{Leads}
 use Rattle.bk_vm.specs.Depth.{tops}
 use Rattle.bk_vm.specs.Flows.{standing, IsReady}
@@ -9,7 +10,7 @@ invariant-loop-steps g l = record {
   within : l.steps ≤ l.fuel;
   leads : Leads l.image l.steps (standing l.fn.start [] l.fn.cells) (standing l.place (tops l.depth l.stack) l.cells);
   ready : IsReady l.image (standing l.place (tops l.depth l.stack) l.cells);
-  long : length l.stack ≡ 1000;
+  long : length l.stack ≡ STACK_ROOM;
   code : l.code ≡ l.image.code;
 }
 

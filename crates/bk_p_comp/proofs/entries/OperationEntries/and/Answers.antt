@@ -1,4 +1,5 @@
 use Rattle.std.proofs.Common.{◌≡◌, ◌≤◌, ◌++◌, [], ◌∷◌, ◌∙◌, arith, subst}
+use Rattle.bk_limits.specs.declared.TheConstants.{GREATEST_TREE_HEIGHT}
 use Rattle.bk_raw.specs.Trees.ComponentTree.{RawOperation, clause_operations, parts_height}
 use Rattle.bk_raw.specs.Trees.SubTree.{sub_height}
 use Rattle.bk_p_sub.specs.Statements.{IsStatement}
@@ -15,6 +16,6 @@ returns-in_default-body c = λ os s a b. high_last (λ (o : RawOperation). sub_h
 
 pub returns : goal.returns
 returns c = λ os s a b.
-    let k : (c.in-Built.all.items ≡ os) × (parts_height (clause_operations os) ≤ 1000) = subst (λ p. AreOperations os p) c.in-Built.is a in
+    let k : (c.in-Built.all.items ≡ os) × (parts_height (clause_operations os) ≤ GREATEST_TREE_HEIGHT) = subst (λ p. AreOperations os p) c.in-Built.is a in
     let p = subst (λ q. IsStatement s q) c.in-Built-body.is b in
     (c.in_ok-push.ensures.items ∙ (λ i. k.0 i ++ titled c.args.title ((c.into_inner-body.ensures ∙ p.0) i) ∷ []), low_more (λ (o : RawOperation). sub_height o.body) os (titled c.args.title s) k.1 (omega (arith, p.1, p.2)))

@@ -1,4 +1,5 @@
 use Rattle.std.proofs.Common.{◌≡◌, ◌≤◌, ◌∙◌, ap, subst}
+use Rattle.bk_limits.specs.declared.TheConstants.{GREATEST_TREE_HEIGHT}
 use Rattle.bk_raw.specs.Trees.FreeNames.{conjuncts}
 use Rattle.bk_raw.specs.Trees.RawTree.{tree_height, RawTree}
 use Rattle.bk_p_expr.specs.Conjuncts.{AreConjuncts}
@@ -10,7 +11,7 @@ use Rattle.bk_p_expr.proofs.piece.Piece.known.Goals as goal
 
 pub returns-in-Built : goal.returns-in-Built
 returns-in-Built c = ok_so _ _ c.conjuncts.ensures (λ r. (tree : RawTree) → IsPiece tree c.args.self → AreConjuncts (conjuncts tree) r.items) (λ r a. λ tree h.
-    let k : (c.in-Built.term.value ≡ tree) × (c.in-Built.field-1 ≡ tree_height tree) × (c.in-Built.field-1 ≤ 1000) = subst (λ p. IsPiece tree p) c.in-Built.is h in
+    let k : (c.in-Built.term.value ≡ tree) × (c.in-Built.field-1 ≡ tree_height tree) × (c.in-Built.field-1 ≤ GREATEST_TREE_HEIGHT) = subst (λ p. IsPiece tree p) c.in-Built.is h in
     subst (λ t. AreConjuncts (conjuncts t) r.items) (c.deref.ensures ∙ k.0) a)
 
 pub returns-in-High : goal.returns-in-High

@@ -1,4 +1,5 @@
 use Rattle.std.proofs.Common.{◌≡◌, ◌≤◌, ◌∙◌, ap, subst, arith, ℕ}
+use Rattle.bk_limits.specs.declared.TheConstants.{GREATEST_TREE_HEIGHT}
 use Rattle.bk_raw.specs.Trees.RawTree.{tree_height, ranges_height, RawRanges, RawTree}
 use Rattle.bk_raw.specs.Codes.RawView.{ranges_of}
 use Rattle.bk_p_expr.specs.Pieces.{IsPiece, IsRanges, and_range}
@@ -19,8 +20,8 @@ returns-in_default-piece c = ok_so _ _ c.and_too_high-in_default-piece.ensures (
 
 pub returns : goal.returns
 returns c = λ rs tree a b.
-    let s : (ranges_of c.in-Built.ranges.items ≡ rs) × (c.in-Built.height ≡ ranges_height rs) × (c.in-Built.height ≤ 1000) = subst (λ t. IsRanges rs t) c.in-Built.is a in
-    let p : (c.in-Built-piece.term.value ≡ tree) × (c.in-Built-piece.other ≡ tree_height tree) × (c.in-Built-piece.other ≤ 1000) = subst (λ t. IsPiece tree t) c.in-Built-piece.is b in (
+    let s : (ranges_of c.in-Built.ranges.items ≡ rs) × (c.in-Built.height ≡ ranges_height rs) × (c.in-Built.height ≤ GREATEST_TREE_HEIGHT) = subst (λ t. IsRanges rs t) c.in-Built.is a in
+    let p : (c.in-Built-piece.term.value ≡ tree) × (c.in-Built-piece.other ≡ tree_height tree) × (c.in-Built-piece.other ≤ GREATEST_TREE_HEIGHT) = subst (λ t. IsPiece tree t) c.in-Built-piece.is b in (
       (λ i. ranges_of (c.in_ok-push.ensures.items i)) ∙ ranges_of_last c.in-Built.ranges.items (record { at = c.args.at; number = c.args.number; range = c.into_inner-range.result }) ∙ (λ i. and_range (s.0 i) c.args.at c.args.number ((c.into_inner-range.ensures ∙ p.0) i)),
       omega (arith, and_range_height rs c.args.at c.args.number tree, s.1, p.1, c.max.ensures),
       omega (arith, s.2, p.2, c.max.ensures),

@@ -1,4 +1,5 @@
 use Rattle.std.proofs.Common.{◌≡◌, ◌≤◌, ◌∙◌, ap, subst, arith}
+use Rattle.bk_limits.specs.declared.TheConstants.{GREATEST_TREE_HEIGHT}
 use Rattle.bk_raw.specs.Trees.RawTree.{trees_of, tree_height, trees_height, RawTree, RawTrees}
 use Rattle.bk_p_expr.specs.Pieces.{IsPiece, IsTerms, and_tree}
 use Rattle.bk_p_expr.proofs.Choices.{ok_so}
@@ -18,8 +19,8 @@ returns-in_default-piece c = ok_so _ _ c.and_too_high-in_default-piece.ensures (
 
 pub returns : goal.returns
 returns c = λ trees tree a b.
-    let s : (trees_of c.in-Built.terms.items ≡ trees) × (c.in-Built.height ≡ trees_height trees) × (c.in-Built.height ≤ 1000) = subst (λ t. IsTerms trees t) c.in-Built.is a in
-    let p : (c.in-Built-piece.term.value ≡ tree) × (c.in-Built-piece.other ≡ tree_height tree) × (c.in-Built-piece.other ≤ 1000) = subst (λ t. IsPiece tree t) c.in-Built-piece.is b in (
+    let s : (trees_of c.in-Built.terms.items ≡ trees) × (c.in-Built.height ≡ trees_height trees) × (c.in-Built.height ≤ GREATEST_TREE_HEIGHT) = subst (λ t. IsTerms trees t) c.in-Built.is a in
+    let p : (c.in-Built-piece.term.value ≡ tree) × (c.in-Built-piece.other ≡ tree_height tree) × (c.in-Built-piece.other ≤ GREATEST_TREE_HEIGHT) = subst (λ t. IsPiece tree t) c.in-Built-piece.is b in (
       (λ i. trees_of (c.in_ok-push.ensures.items i)) ∙ trees_of_last c.in-Built.terms.items c.into_inner.result ∙ (λ i. and_tree (s.0 i) ((c.into_inner.ensures ∙ p.0) i)),
       omega (arith, and_tree_height trees tree, s.1, p.1, c.max.ensures),
       omega (arith, s.2, p.2, c.max.ensures),
