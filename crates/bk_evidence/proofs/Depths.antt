@@ -1,10 +1,12 @@
 -- How deep the data of reports nest.
-use Rattle.std.proofs.Common.{◌≡◌, ℕ, zero, suc, ◌≤◌, max, List, [], ◌∷◌, map, arith, refl, codes, string_bytes, Ordering, Less, Equal, Greater, nat_cmp, Option, Some, None}
+use Rattle.std.proofs.Common.{◌≡◌, ℕ, zero, suc, ◌≤◌, max, Bool, true, false, cond, ◌&&◌, List, [], ◌∷◌, ◌++◌, map, arith, refl, sym, subst, codes, string_bytes, Ordering, Less, Equal, Greater, nat_cmp, Option, Some, None}
+use Rattle.std.specs.List.{flat_map}
 use Rattle.std.specs.Ordering.{match_ordering}
 use Rattle.std.specs.Cmp.Lexicographic.{slice_cmp}
 use Rattle.serde_json.specs.Data.{Data, string, object, array, Members, no_members, member, put, depth, items_depth, members_depth}
 use Rattle.serde_json.specs.View.{items_of}
 use Rattle.serde_json.specs.Read.{max_depth}
+use Rattle.bk_status.specs.Rows.{is_settled}
 use Rattle.bk_report.specs.Table.{state_text}
 use Rattle.bk_evidence.specs.declared.item.Item.{Item}
 use Rattle.bk_evidence.specs.declared.item.Script.{Script}
@@ -12,7 +14,7 @@ use Rattle.bk_evidence.specs.declared.report.Input.{Input}
 use Rattle.bk_evidence.specs.declared.report.Report.{Report}
 use Rattle.bk_evidence.specs.declared.sums.Sums.{Sums}
 use Rattle.bk_evidence.specs.Items.{sums_over}
-use Rattle.bk_evidence.specs.Json.{text_data, count_data, script_data, place_members, item_data, input_data, sums_data, items_data, inputs_data, texts_data, report_data}
+use Rattle.bk_evidence.specs.Json.{text_data, count_data, script_data, place_members, item_data, input_data, sums_data, asked_data, items_data, inputs_data, texts_data, report_data}
 
 -- ---- members and items
 by-order : (n : ℕ) (o : Ordering) (a b c : Members) → members_depth a ≤ n → members_depth b ≤ n → members_depth c ≤ n → members_depth (match_ordering o a b c) ≤ n
@@ -104,8 +106,16 @@ sums-within sums =
     one-more (put (codes "open") (count_data sums.left) (proved-member sums)) 2 (one-flat (codes "open") (count_data sums.left) (proved-member sums) 2 refl (one-flat (codes "proved") (count_data sums.proved) (obvious-member sums) 2 refl
     (one-flat (codes "obvious") (count_data sums.obvious) (all-member sums) 2 refl (one-flat (codes "obligations") (count_data sums.obligations) no_members 2 refl (none 2)))))
 
-items-within : (items : List Item) → depth (items_data items) ≤ 3
-items-within items = let each = list-within item_data 2 item-within items in omega arith
+one-asked : (b : Bool) (d : Data) (ds : List Data) → depth d ≤ 2 → items_depth (items_of ds) ≤ 2 → items_depth (items_of (cond b [] (d ∷ []) ++ ds)) ≤ 2
+one-asked true d ds h g = g
+one-asked false d ds h g = omega arith
+
+asked-within : (only : Bool) (items : List Item) → items_depth (items_of (flat_map (asked_data only) items)) ≤ 2
+asked-within only [] = omega arith
+asked-within only (i ∷ is) = one-asked (only && is_settled i.state) (item_data i) (flat_map (asked_data only) is) (item-within i) (asked-within only is)
+
+items-within : (only : Bool) (items : List Item) → depth (items_data only items) ≤ 3
+items-within only items = let each = asked-within only items in omega arith
 
 inputs-within : (inputs : List Input) → depth (inputs_data inputs) ≤ 3
 inputs-within inputs = let each = list-within input_data 2 input-within inputs in omega arith
@@ -126,7 +136,7 @@ abbrev inputs-member : Report → Members
 inputs-member report = put (codes "inputs") (inputs_data report.inputs.items) (machine-member report)
 
 abbrev obligations-member : Report → Members
-obligations-member report = put (codes "obligations") (items_data report.items.items) (inputs-member report)
+obligations-member report = put (codes "obligations") (items_data false report.items.items) (inputs-member report)
 
 abbrev strays-member : Report → Members
 strays-member report = put (codes "scripts_for_no_obligation") (texts_data report.strays.items) (obligations-member report)
@@ -135,12 +145,12 @@ report-within : (report : Report) → depth (report_data report) ≤ 4
 report-within report =
     let machine = one-flat (codes "machine") (text_data report.machine) (toolchain-member report) 3 refl (one-flat (codes "toolchain") (string report.toolchain.now) (version-member report) 3 refl (one-flat (codes "version") (string report.version.now) no_members 3 refl (none 3))) in
     let inputs = put-within (codes "inputs") (inputs_data report.inputs.items) (machine-member report) 3 (inputs-within report.inputs.items) machine in
-    let obligations = put-within (codes "obligations") (items_data report.items.items) (inputs-member report) 3 (items-within report.items.items) inputs in
+    let obligations = put-within (codes "obligations") (items_data false report.items.items) (inputs-member report) 3 (items-within false report.items.items) inputs in
     let strays = put-within (codes "scripts_for_no_obligation") (texts_data report.strays.items) (obligations-member report) 3 (texts-within report.strays.items) obligations in
     one-more (put (codes "sums") (sums_data (sums_over report.items.items)) (strays-member report)) 3 (put-within (codes "sums") (sums_data (sums_over report.items.items)) (strays-member report) 3 (sums-within (sums_over report.items.items)) strays)
 
-pub report_nests : (report : Report) → depth (report_data report) ≤ max_depth
-report_nests report = let few = report-within report in omega arith
+pub report_nests : (report : Report) (d : Data) → d ≡ report_data report → depth d ≤ max_depth
+report_nests report d e = subst (λ x. depth x ≤ max_depth) (sym e) (let few = report-within report in omega arith)
 
-pub items_nest : (items : List Item) → depth (items_data items) ≤ max_depth
-items_nest items = let few = items-within items in omega arith
+pub items_nest : (only : Bool) (items : List Item) (d : Data) → d ≡ items_data only items → depth d ≤ max_depth
+items_nest only items d e = subst (λ x. depth x ≤ max_depth) (sym e) (let few = items-within only items in omega arith)

@@ -1,10 +1,14 @@
--- Items of reports, and the rows of status tables that they are.
-use Rattle.std.specs.Prelude.{ℕ, Bool, List, length, not, count_by}
+-- Items of reports and the rows of status tables that they are, and what reports have of files.
+use Rattle.std.specs.Prelude.{ℕ, Bool, List, length, not, count_by, string_bytes}
+use Rattle.hex.specs.Hex.{encode_lower}
+use Rattle.sha2.specs.Sha256.{sha256}
 use Rattle.bk_status.specs.declared.state.State.{State}
 use Rattle.bk_status.specs.declared.table.Row.{Row}
 use Rattle.bk_status.specs.Rows.{is_settled}
 use Rattle.bk_report.specs.Table.{is_obvious_state, is_proved_state}
 use Rattle.bk_evidence.specs.declared.item.Item.{Item}
+use Rattle.bk_evidence.specs.declared.report.File.{File}
+use Rattle.bk_evidence.specs.declared.report.Input.{Input}
 use Rattle.bk_evidence.specs.declared.sums.Sums.{Sums}
 
 -- the row of an item
@@ -23,3 +27,12 @@ sums_over items = record {
   proved = count_items is_proved_state items;
   left = count_items (λ state. not (is_settled state)) items;
 }
+
+-- ---- files that were read
+-- what a report has of a file: its name, how many bytes it has, and its SHA-256 (FIPS 180-4) in hexadecimal digits
+abbrev pub parts_of : Input → List ℕ × ℕ × List ℕ
+parts_of input = (input.name, input.length, string_bytes input.digest)
+
+-- and what that is of a file
+abbrev pub parts_of_file : File → List ℕ × ℕ × List ℕ
+parts_of_file file = (file.name.now, length file.text.now, encode_lower (sha256 file.text.now))

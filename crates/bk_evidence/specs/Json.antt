@@ -1,8 +1,10 @@
 -- The data that a report is written as in JSON (RFC 8259). Members are put one behind another; JSON has them in the order of their names.
-use Rattle.std.specs.Prelude.{ℕ, List, map, Option, Some, None, codes, string_bytes}
+use Rattle.std.specs.Prelude.{ℕ, Bool, false, cond, ◌&&◌, List, [], ◌∷◌, map, Option, Some, None, codes, string_bytes}
+use Rattle.std.specs.List.{flat_map}
 use Rattle.std.specs.Str.Lossy.{utf8_lossy}
 use Rattle.serde_json.specs.Data.{Data, null, number, unsigned, string, array, object, Members, no_members, put}
 use Rattle.serde_json.specs.View.{items_of}
+use Rattle.bk_status.specs.Rows.{is_settled}
 use Rattle.bk_report.specs.Table.{state_text}
 use Rattle.bk_evidence.specs.declared.item.Item.{Item}
 use Rattle.bk_evidence.specs.declared.item.Script.{Script}
@@ -45,9 +47,13 @@ sums_data sums = object (put (codes "open") (count_data sums.left) (put (codes "
     (put (codes "obvious") (count_data sums.obvious) (put (codes "obligations") (count_data sums.obligations) no_members))))
 
 -- ---- lists of them
--- the obligations
-abbrev pub items_data : List Item → Data
-items_data items = array (items_of (map item_data items))
+-- an obligation, and nothing of one that is settled, where those are asked that are open
+abbrev pub asked_data : (is_open_only : Bool) → Item → List Data
+asked_data is_open_only item = cond (is_open_only && is_settled item.state) [] (item_data item ∷ [])
+
+-- the obligations, or those that are open
+abbrev pub items_data : (is_open_only : Bool) → List Item → Data
+items_data is_open_only items = array (items_of (flat_map (asked_data is_open_only) items))
 
 -- the files
 abbrev pub inputs_data : List Input → Data
@@ -61,6 +67,6 @@ texts_data texts = array (items_of (map text_data texts))
 -- who wrote it and what it is of, the files, the obligations, the scripts for none, and the sums
 abbrev pub report_data : Report → Data
 report_data report = object (put (codes "sums") (sums_data (sums_over report.items.items))
-    (put (codes "scripts_for_no_obligation") (texts_data report.strays.items) (put (codes "obligations") (items_data report.items.items)
+    (put (codes "scripts_for_no_obligation") (texts_data report.strays.items) (put (codes "obligations") (items_data false report.items.items)
     (put (codes "inputs") (inputs_data report.inputs.items) (put (codes "machine") (text_data report.machine)
     (put (codes "toolchain") (string report.toolchain.now) (put (codes "version") (string report.version.now) no_members)))))))

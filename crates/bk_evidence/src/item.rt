@@ -1,6 +1,7 @@
 //! Obligations with their origins and states.
 
 ghost use Rattle.std.specs.Prelude.{◌≡◌, ◌++◌, decimal, map, IfOk, OnOk};
+ghost use Rattle.bk_status.specs.Rows as meant;
 ghost use Rattle.bk_report.specs.Table.{state_text};
 ghost use Rattle.bk_evidence.specs.Items.{row_of};
 
@@ -157,7 +158,9 @@ fn nothing_asked(alloc: Global) -> Asked {
 }
 
 /// Whether an obligation is obvious or proved.
-pub(crate) fn is_settled(state: State) -> bool {
+pub(crate) fn is_settled(state: State) -> bool
+    ensures { result ≡ meant.is_settled state }
+{
     matches!(state, State::Obvious | State::Proved)
 }
 
@@ -181,42 +184,5 @@ pub(crate) fn write_count(text: &mut Vec<u8>, before: &[u8], count: usize) -> Re
 {
     text.extend_from_slice(before)?;
     text.extend_from_slice(Buffer::new().format(count).as_bytes())?;
-    Ok(())
-}
-
-/// A line for each item, or for each that is not settled: its name, what it asks, its place, its state and its script.
-pub fn list_text(alloc: Global, items: &[Item], is_open_only: bool) -> Result<Vec<u8>, Memory> {
-    let mut text = Vec::new(alloc);
-    for item in items {
-        if !is_open_only || !is_settled(item.state) {
-            write_item(&mut text, item)?;
-        }
-    }
-    Ok(text)
-}
-
-fn write_item(text: &mut Vec<u8>, item: &Item) -> Result<(), Memory> {
-    text.extend_from_slice(item.name.as_bytes())?;
-    text.extend_from_slice(b"  ")?;
-    text.extend_from_slice(item.words.as_bytes())?;
-    text.extend_from_slice(b"  ")?;
-    write_place(text, item)?;
-    text.extend_from_slice(b"  ")?;
-    write_state(text, item.state)?;
-    if let Some(script) = &item.script {
-        write_count(text, b", rules ", script.rules)?;
-        text.extend_from_slice(b" (")?;
-        text.extend_from_slice(script.place.as_bytes())?;
-        text.extend_from_slice(b")")?;
-    }
-    text.extend_from_slice(b"\n")?;
-    Ok(())
-}
-
-// `Tally.mch:3:12`.
-fn write_place(text: &mut Vec<u8>, item: &Item) -> Result<(), Memory> {
-    text.extend_from_slice(item.file.as_bytes())?;
-    write_count(text, b":", item.line)?;
-    write_count(text, b":", item.column)?;
     Ok(())
 }

@@ -1,13 +1,13 @@
 //! Reports as JSON (RFC 8259).
 
-ghost use Rattle.std.specs.Prelude.{◌≡◌, Some, IfOk, OnOk};
-ghost use Rattle.serde_json.specs.Data.{string, put as with_member};
-ghost use Rattle.serde_json.specs.Read.{read};
+ghost use Rattle.std.specs.Prelude.{◌≡◌, ◌≤◌, ◌++◌, Some, map, IfOk, OnOk};
+ghost use Rattle.serde_json.specs.Data.{depth, string, put as with_member};
+ghost use Rattle.serde_json.specs.Read.{read, max_depth};
 ghost use Rattle.serde_json.specs.View.{view, members_view};
-ghost use Rattle.bk_evidence.specs.Json.{text_data, count_data, script_data, place_members, item_data, items_data};
+ghost use Rattle.bk_evidence.specs.Json.{text_data, count_data, script_data, place_members, item_data, asked_data, items_data};
 ghost use Rattle.bk_evidence.specs.Json.{input_data, inputs_data, texts_data, sums_data, report_data};
 
-use crate::item::{Item, Script, write_state};
+use crate::item::{Item, Script, is_settled, write_state};
 use crate::report::{Input, Report};
 use crate::sums::{Sums, sums_of};
 use bk_io::{Memory, Text};
@@ -15,28 +15,38 @@ use serde_json::{Map, Value, put};
 use std::alloc::Global;
 
 /// The report as JSON on one line. It reads back as the data that it was written of.
+#[tactic(auto, using(crate::proofs::Depths::report_nests))]
 pub fn json_text(alloc: Global, report: &Report) -> Result<Vec<u8>, Memory>
     ensures { IfOk result (λ text. read text.items ≡ Some (report_data report.now)) }
 {
     let value = report_value(alloc, report)?;
-    let text = value.to_string(alloc)?;
-    Ok(Vec::from_slice(alloc, text.as_bytes())?)
+    value_text(alloc, &value)
 }
 
-/// The obligations alone.
-pub fn items_json(alloc: Global, items: &[Item]) -> Result<Vec<u8>, Memory>
-    ensures { IfOk result (λ text. read text.items ≡ Some (items_data items.now)) }
+/// The obligations alone, or those that are open.
+#[tactic(auto, using(crate::proofs::Depths::items_nest))]
+pub fn items_json(alloc: Global, items: &[Item], is_open_only: bool) -> Result<Vec<u8>, Memory>
+    ensures { IfOk result (λ text. read text.items ≡ Some (items_data is_open_only items.now)) }
 {
-    let value = items_value(alloc, items)?;
+    let value = items_value(alloc, items, is_open_only)?;
+    value_text(alloc, &value)
+}
+
+// A value on one line.
+fn value_text(alloc: Global, value: &Value) -> Result<Vec<u8>, Memory>
+    requires { depth (view value.now) ≤ max_depth }
+    ensures { IfOk result (λ text. read text.items ≡ Some (view value.now)) }
+{
     let text = value.to_string(alloc)?;
     Ok(Vec::from_slice(alloc, text.as_bytes())?)
 }
 
+#[tactic(auto, using(crate::proofs::Views::view_object))]
 fn report_value(alloc: Global, report: &Report) -> Result<Value, Memory>
     ensures { IfOk result (λ v. view v ≡ report_data report.now) }
 {
     let inputs = inputs_value(alloc, &report.inputs)?;
-    let items = items_value(alloc, &report.items)?;
+    let items = items_value(alloc, &report.items, false)?;
     let strays = texts_value(alloc, &report.strays)?;
     let sums = sums_value(alloc, sums_of(&report.items))?;
     let mut map = Map::new(alloc);
@@ -50,6 +60,7 @@ fn report_value(alloc: Global, report: &Report) -> Result<Value, Memory>
     Ok(Value::Object(map))
 }
 
+#[tactic(auto, using(crate::proofs::Views::view_list))]
 fn inputs_value(alloc: Global, inputs: &[Input]) -> Result<Value, Memory>
     ensures { IfOk result (λ v. view v ≡ inputs_data inputs.now) }
 {
@@ -60,6 +71,7 @@ fn inputs_value(alloc: Global, inputs: &[Input]) -> Result<Value, Memory>
     Ok(Value::Array(list))
 }
 
+#[tactic(auto, using(crate::proofs::Views::view_object))]
 fn input_value(alloc: Global, input: &Input) -> Result<Value, Memory>
     ensures { IfOk result (λ v. view v ≡ input_data input.now) }
 {
@@ -70,16 +82,34 @@ fn input_value(alloc: Global, input: &Input) -> Result<Value, Memory>
     Ok(Value::Object(map))
 }
 
-fn items_value(alloc: Global, items: &[Item]) -> Result<Value, Memory>
-    ensures { IfOk result (λ v. view v ≡ items_data items.now) }
+#[tactic(auto, using(crate::proofs::Views::view_list))]
+fn items_value(alloc: Global, items: &[Item], is_open_only: bool) -> Result<Value, Memory>
+    ensures { IfOk result (λ v. view v ≡ items_data is_open_only items.now) }
 {
     let mut list = Vec::new(alloc);
     for item in items {
-        list.push(item_value(alloc, item)?)?;
+        push_if_asked(alloc, &mut list, item, is_open_only)?;
     }
     Ok(Value::Array(list))
 }
 
+#[tactic(auto, using(crate::proofs::Views::view_more))]
+fn push_if_asked(
+    alloc: Global,
+    list: &mut Vec<Value>,
+    item: &Item,
+    is_open_only: bool,
+) -> Result<(), Memory>
+    ensures { OnOk result (map view list.new.items ≡ map view list.old.items ++ asked_data is_open_only item.now) }
+{
+    if is_open_only && is_settled(item.state) {
+        return Ok(());
+    }
+    list.push(item_value(alloc, item)?)?;
+    Ok(())
+}
+
+#[tactic(auto, using(crate::proofs::Views::view_object))]
 fn item_value(alloc: Global, item: &Item) -> Result<Value, Memory>
     ensures { IfOk result (λ v. view v ≡ item_data item.now) }
 {
@@ -106,6 +136,7 @@ fn place_map(alloc: Global, item: &Item) -> Result<Map<String, Value>, Memory>
     Ok(map)
 }
 
+#[tactic(auto, using(crate::proofs::Views::view_null))]
 fn script_value(alloc: Global, script: &Option<Script>) -> Result<Value, Memory>
     ensures { IfOk result (λ v. view v ≡ script_data script.now) }
 {
@@ -115,6 +146,7 @@ fn script_value(alloc: Global, script: &Option<Script>) -> Result<Value, Memory>
     }
 }
 
+#[tactic(auto, using(crate::proofs::Views::view_object))]
 fn script_object(alloc: Global, script: &Script) -> Result<Value, Memory>
     ensures { IfOk result (λ v. view v ≡ script_data (Some script.now)) }
 {
@@ -124,6 +156,7 @@ fn script_object(alloc: Global, script: &Script) -> Result<Value, Memory>
     Ok(Value::Object(map))
 }
 
+#[tactic(auto, using(crate::proofs::Views::view_list))]
 fn texts_value(alloc: Global, texts: &[Text]) -> Result<Value, Memory>
     ensures { IfOk result (λ v. view v ≡ texts_data texts.now) }
 {
@@ -134,6 +167,7 @@ fn texts_value(alloc: Global, texts: &[Text]) -> Result<Value, Memory>
     Ok(Value::Array(list))
 }
 
+#[tactic(auto, using(crate::proofs::Views::view_object))]
 fn sums_value(alloc: Global, sums: Sums) -> Result<Value, Memory>
     ensures { IfOk result (λ v. view v ≡ sums_data sums) }
 {
@@ -147,6 +181,7 @@ fn sums_value(alloc: Global, sums: Sums) -> Result<Value, Memory>
 
 // ---- members
 // Bytes as text; what is no UTF-8 stands as U+FFFD.
+#[tactic(auto, using(crate::proofs::Views::view_text))]
 fn text_value(alloc: Global, bytes: &[u8]) -> Result<Value, Memory>
     ensures { IfOk result (λ v. view v ≡ text_data bytes.now) }
 {
@@ -166,6 +201,7 @@ fn put_text(
     Ok(())
 }
 
+#[tactic(auto, using(crate::proofs::Views::view_text))]
 fn put_str(alloc: Global, map: &mut Map<String, Value>, key: &str, text: &str) -> Result<(), Memory>
     ensures { OnOk result (members_view map.new.entries ≡ with_member key.now (string text.now) (members_view map.old.entries)) }
 {

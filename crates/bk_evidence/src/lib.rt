@@ -4,12 +4,14 @@
 mod html;
 mod item;
 mod json;
+mod lines;
 mod page;
 mod report;
 mod sums;
 
 pub use html::html_page;
-pub use item::{Item, Proof, Script, items, list_text};
+pub use item::{Item, Proof, Script, items};
 pub use json::{items_json, json_text};
-pub use report::{Input, Report, input};
+pub use lines::{list_text, report_text};
+pub use report::{File, Input, Report, inputs};
 pub use sums::{Sums, sums_of};

@@ -1,8 +1,7 @@
 //! What a report has.
 
-ghost use Rattle.std.specs.Prelude.{◌≡◌, length, IfOk, string_bytes};
-ghost use Rattle.hex.specs.Hex.{encode_lower};
-ghost use Rattle.sha2.specs.Sha256.{sha256};
+ghost use Rattle.std.specs.Prelude.{◌≡◌, map, IfOk};
+ghost use Rattle.bk_evidence.specs.Items.{parts_of, parts_of_file};
 
 use crate::item::Item;
 use bk_io::{Memory, Text};
@@ -32,16 +31,32 @@ pub struct Report {
     pub strays: Vec<Text>,
 }
 
-/// What is said of a file.
-pub fn input(alloc: Global, name: &[u8], text: &[u8]) -> Result<Input, Memory>
-    ensures name { IfOk result (λ i. i.name ≡ name.now) }
-    ensures length { IfOk result (λ i. i.length ≡ length text.now) }
-    ensures digest { IfOk result (λ i. string_bytes i.digest ≡ encode_lower (sha256 text.now)) }
+/// A file as it was read.
+#[derive(Clone, Copy)]
+pub struct File<'a> {
+    pub name: &'a str,
+    pub text: &'a [u8],
+}
+
+/// What a report has of the files that were read, in their order.
+pub fn inputs(alloc: Global, files: &[File<'_>]) -> Result<Vec<Input>, Memory>
+    ensures { IfOk result (λ all. map parts_of all.items ≡ map parts_of_file files.now) }
 {
-    let digest = Sha256::digest(text);
+    let mut all = Vec::new(alloc);
+    for file in files {
+        all.push(input(alloc, file)?)?;
+    }
+    Ok(all)
+}
+
+// What it has of a file.
+fn input(alloc: Global, file: &File<'_>) -> Result<Input, Memory>
+    ensures { IfOk result (λ i. parts_of i ≡ parts_of_file file.now) }
+{
+    let digest = Sha256::digest(file.text);
     Ok(Input {
-        name: Text::from_bytes(Vec::from_slice(alloc, name)?),
-        length: text.len(),
+        name: Text::from_bytes(Vec::from_slice(alloc, file.name.as_bytes())?),
+        length: file.text.len(),
         digest: hex::encode(alloc, digest.as_slice())?,
     })
 }

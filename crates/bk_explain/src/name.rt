@@ -1,6 +1,6 @@
 //! Faults of names and types.
 
-use crate::say::{is_one_of, say, say_place, say_quoted, token_at, tokens_of, written};
+use crate::say::{is_clause, is_one_of, say, say_place, say_quoted, token_at, tokens_of, written};
 use crate::source::{Source, SourceKind};
 use bk_form::{Token, TokenKind};
 use bk_io::Memory;
@@ -215,26 +215,6 @@ fn clause_before<'a>(text: &'a [u8], list: &[Token], index: usize) -> &'a [u8] {
         }
     }
     clause
-}
-
-fn is_clause(word: &[u8]) -> bool {
-    is_one_of(
-        word,
-        &[
-            "SETS",
-            "CONSTANTS",
-            "CONCRETE_CONSTANTS",
-            "PROPERTIES",
-            "VARIABLES",
-            "ABSTRACT_VARIABLES",
-            "CONCRETE_VARIABLES",
-            "INVARIANT",
-            "ASSERTIONS",
-            "VALUES",
-            "INITIALISATION",
-            "OPERATIONS",
-        ],
-    )
 }
 
 // A formula of the wrong kind.

@@ -80,3 +80,24 @@ pub(crate) fn is_one_of(word: &[u8], words: &[&str]) -> bool {
     }
     false
 }
+
+/// Whether a word begins a clause.
+pub(crate) fn is_clause(word: &[u8]) -> bool {
+    is_one_of(
+        word,
+        &[
+            "SETS",
+            "CONSTANTS",
+            "CONCRETE_CONSTANTS",
+            "PROPERTIES",
+            "VARIABLES",
+            "ABSTRACT_VARIABLES",
+            "CONCRETE_VARIABLES",
+            "INVARIANT",
+            "ASSERTIONS",
+            "VALUES",
+            "INITIALISATION",
+            "OPERATIONS",
+        ],
+    )
+}

@@ -1,9 +1,11 @@
 //! Faults of the spelling of texts.
 
-use crate::say::{is_one_of, say, say_line, say_quoted, tokens_of, written};
+use crate::say::{
+    is_clause, is_one_of, say, say_line, say_place, say_quoted, token_at, tokens_of, written,
+};
 use crate::source::{Source, SourceKind};
 use bk_form::{Token, TokenKind};
-use bk_grammar::{COMPONENT, Furthest, PROOF_FILE, Symbol, furthest_token, part_words};
+use bk_grammar::{COMPONENT, Furthest, PROOF_FILE, Reading, Symbol, furthest_reading, part_words};
 use bk_io::Memory;
 use bk_lex::{LexFault, tokens};
 use std::alloc::Global;
@@ -40,23 +42,85 @@ pub(crate) fn say_syntax_fault(
     } else {
         COMPONENT
     };
-    match furthest_token(alloc, source.text, &list, start)? {
-        Some(furthest) => say_furthest(words, source, &list, &furthest, place),
-        None => say_binding(words, source),
+    match furthest_reading(alloc, source.text, &list, start)? {
+        Reading::Stops(furthest) => say_furthest(words, source, &list, &furthest, place),
+        Reading::Whole => say_whole(words, source, &list, place),
+        Reading::TooLong => say(
+            words,
+            "the clause, operation, conjunct or rule that begins there cannot be read; the text is too long to tell the token\n",
+        ),
     }
 }
 
-// Nothing is wanting but how operators bind, or that a clause stands once.
-fn say_binding(words: &mut Vec<u8>, source: Source<'_>) -> Result<(), Memory> {
+// Nothing is wanting but how operators bind, what LET asks, that a clause stands once, or that a name has one type.
+fn say_whole(
+    words: &mut Vec<u8>,
+    source: Source<'_>,
+    list: &[Token],
+    place: usize,
+) -> Result<(), Memory> {
+    let Some(index) = token_at(list, place) else {
+        return say_binding(words);
+    };
     if source.kind == SourceKind::Proofs {
-        return say(
-            words,
-            "a name is brought with two types, by fix or open, in one script\n",
-        );
+        if word_at(source.text, list, index.saturating_add(1)) == b":".as_slice() {
+            return say(
+                words,
+                "a name is brought with two types, by fix or open, in one script\n",
+            );
+        }
+        return say_binding(words);
     }
+    match same_clause(source.text, list, index) {
+        Some(at) => {
+            say_quoted(words, word_at(source.text, list, index))?;
+            say(
+                words,
+                " begins a clause that stands once; it stands first at ",
+            )?;
+            say_place(words, source, at)?;
+            say(words, "\n")
+        }
+        None => say_binding(words),
+    }
+}
+
+// How the token with a number is written.
+fn word_at<'a>(text: &'a [u8], list: &[Token], index: usize) -> &'a [u8] {
+    match list.get(index) {
+        Some(token) => written(text, token),
+        None => &[],
+    }
+}
+
+// Where the clause that begins at a token stands before it. INVARIANT stands in loops too.
+fn same_clause(text: &[u8], list: &[Token], index: usize) -> Option<usize> {
+    let word = clause_word(word_at(text, list, index));
+    if !is_clause(word) || word == b"INVARIANT".as_slice() {
+        return None;
+    }
+    for (number, token) in list.iter().enumerate() {
+        if number < index && clause_word(written(text, token)) == word {
+            return Some(token.start);
+        }
+    }
+    None
+}
+
+// The one word of a clause that two words begin.
+fn clause_word(word: &[u8]) -> &[u8] {
+    match word {
+        b"CONCRETE_CONSTANTS" => b"CONSTANTS",
+        b"ABSTRACT_VARIABLES" => b"VARIABLES",
+        _ => word,
+    }
+}
+
+// How operators bind.
+fn say_binding(words: &mut Vec<u8>) -> Result<(), Memory> {
     say(
         words,
-        "each part is written right by itself. A clause may stand once, VALUES in implementations alone and VARIABLES not there; a side of <=> that is made by &, or, => or <=> needs parentheses; comparisons do not stand in a row\n",
+        "each part is written right by itself, but not how they bind: a side of <=> that is made by &, or, => or <=> needs parentheses, and so does a side of a comparison or of .. that is made by another one; LET has one conjunct x = E for each name\n",
     )
 }
 
@@ -85,8 +149,7 @@ fn say_furthest(
         None => say(words, "here the text ends too early")?,
     }
     say_wanted(words, furthest)?;
-    let before = furthest.token.saturating_sub(1);
-    say_semicolon(words, source, list, before, token)
+    say_semicolon(words, source, list, furthest)
 }
 
 // What a token is that cannot stand there.
@@ -102,10 +165,50 @@ fn say_token(
         say(words, ": ")?;
         return say(words, hint);
     }
+    if source.kind == SourceKind::Component && is_addition(token, text) {
+        return say(words, " stands in printed formulas and in scripts alone");
+    }
+    if let Some(hint) = hint_of_clause(text, furthest) {
+        say(words, ": ")?;
+        return say(words, hint);
+    }
     if is_small_word(token, text) && is_name_wanted(furthest) {
         return say(words, " is a reserved word, and no name");
     }
     say(words, " cannot stand here")
+}
+
+// Whether a token is one of those that printed formulas have and components have not.
+fn is_addition(token: &Token, text: &[u8]) -> bool {
+    match token.kind {
+        TokenKind::LevelName(_, _) | TokenKind::BoundName(_) => true,
+        _ => is_one_of(text, &["btrue", "bfalse"]),
+    }
+}
+
+// What is said of a clause that components of the kind do not have.
+fn hint_of_clause(text: &[u8], furthest: &Furthest) -> Option<&'static str> {
+    if is_wanted(furthest, b"<clause>") || is_wanted(furthest, b"<clauses>") {
+        if text == b"VALUES".as_slice() {
+            return Some("this clause stands in implementations alone");
+        }
+    }
+    if is_wanted(furthest, b"<lowest-clause>") || is_wanted(furthest, b"<lowest-clauses>") {
+        if is_one_of(text, &["VARIABLES", "ABSTRACT_VARIABLES"]) {
+            return Some("the variables of an implementation stand in CONCRETE_VARIABLES");
+        }
+    }
+    None
+}
+
+// Whether a part could stand there.
+fn is_wanted(furthest: &Furthest, part: &[u8]) -> bool {
+    for symbol in &furthest.wanted {
+        if symbol.is_part(part) {
+            return true;
+        }
+    }
+    false
 }
 
 // Whether a name could stand there.
@@ -146,12 +249,27 @@ fn begins_with_name(part: &[u8]) -> bool {
             "<names>",
             "<sets>",
             "<set>",
+            "<assertions>",
+            "<values>",
+            "<value>",
             "<operations>",
             "<operation>",
+            "<header>",
+            "<body>",
             "<substitution>",
             "<statement>",
+            "<condition>",
+            "<choices>",
+            "<guards>",
+            "<terms>",
             "<term>",
             "<operand>",
+            "<primary>",
+            "<chain>",
+            "<binder>",
+            "<type>",
+            "<typed>",
+            "<instance>",
         ],
     )
 }
@@ -163,12 +281,31 @@ fn say_wanted(words: &mut Vec<u8>, furthest: &Furthest) -> Result<(), Memory> {
     }
     say(words, "; what can: ")?;
     for (index, symbol) in furthest.wanted.iter().enumerate() {
-        if index > 0 {
-            say(words, ", ")?;
+        if !is_said(&furthest.wanted, index, *symbol) {
+            if index > 0 {
+                say(words, ", ")?;
+            }
+            say_symbol(words, *symbol)?;
         }
-        say_symbol(words, *symbol)?;
     }
     say(words, "\n")
+}
+
+// Whether one of the first symbols has the same words.
+fn is_said(symbols: &[Symbol], count: usize, symbol: Symbol) -> bool {
+    for (index, other) in symbols.iter().enumerate() {
+        if index < count && has_same_words(*other, symbol) {
+            return true;
+        }
+    }
+    false
+}
+
+fn has_same_words(one: Symbol, other: Symbol) -> bool {
+    match (one, other) {
+        (Symbol::Part(part), Symbol::Part(second)) => part_words(part) == part_words(second),
+        _ => false,
+    }
 }
 
 fn say_symbol(words: &mut Vec<u8>, symbol: Symbol) -> Result<(), Memory> {
@@ -177,7 +314,9 @@ fn say_symbol(words: &mut Vec<u8>, symbol: Symbol) -> Result<(), Memory> {
         Symbol::Name => say(words, "a name"),
         Symbol::Number => say(words, "a number"),
         Symbol::LevelName => say(words, "a name with its level"),
+        Symbol::OldName => say(words, "the old value of a variable"),
         Symbol::BoundName => say(words, "a bound variable"),
+        Symbol::Reserved => say(words, "a reserved word"),
         Symbol::Part(part) => {
             words.extend_from_slice(part_words(part))?;
             Ok(())
@@ -185,22 +324,27 @@ fn say_symbol(words: &mut Vec<u8>, symbol: Symbol) -> Result<(), Memory> {
     }
 }
 
-// A semicolon before what ends a list.
+// A semicolon before what ends a list, or one that is meant for the list of a body.
 fn say_semicolon(
     words: &mut Vec<u8>,
     source: Source<'_>,
     list: &[Token],
-    before: usize,
-    token: Option<&Token>,
+    furthest: &Furthest,
 ) -> Result<(), Memory> {
-    let (Some(previous), Some(token)) = (list.get(before), token) else {
+    let before = furthest.token.saturating_sub(1);
+    if word_at(source.text, list, before) != b";".as_slice() {
         return Ok(());
-    };
-    let text = written(source.text, token);
-    if written(source.text, previous) == b";".as_slice() && ends_list(text) {
+    }
+    if ends_list(word_at(source.text, list, furthest.token)) {
         return say(
             words,
             "a semicolon stands between two parts, and none before the end\n",
+        );
+    }
+    if is_wanted(furthest, b"<operation>") {
+        return say(
+            words,
+            "a semicolon divides operations here: substitutions that it joins stand within BEGIN and END\n",
         );
     }
     Ok(())

@@ -4,5 +4,5 @@
 mod reader;
 mod rows;
 
-pub use reader::{Furthest, furthest_token};
+pub use reader::{Furthest, Reading, furthest_reading};
 pub use rows::{COMPONENT, PROOF_FILE, Symbol, part_words};

@@ -9,8 +9,19 @@ use std::alloc::Global;
 /// At most so many rows wait between two tokens; a text where more would is not read.
 const MOST_WAITING: usize = 20000;
 
-/// At most so many tokens are read.
-const MOST_READ: usize = 60000;
+/// At most so many tokens are read: each keeps its waiting rows.
+const MOST_READ: usize = 20000;
+
+/// How far the tokens of a text are the front of one that a part is written as.
+#[derive(Drop)]
+pub enum Reading {
+    /// They are all of such a text.
+    Whole,
+    /// Some reading reaches a token, and none goes past it.
+    Stops(Furthest),
+    /// There are too many to read.
+    TooLong,
+}
 
 /// The furthest token that any reading reaches, and what could stand there.
 #[derive(Drop)]
@@ -57,31 +68,31 @@ impl Waiting {
     }
 }
 
-/// How far the tokens of a text are the front of one that the part is written as, and what could stand there; None where they are
-/// all of such a text, or too many.
-pub fn furthest_token(
+/// How far the tokens of a text are the front of one that the part is written as, and what could stand there.
+pub fn furthest_reading(
     alloc: Global,
     text: &[u8],
     tokens: &[Token],
     start: &str,
-) -> Result<Option<Furthest>, Memory> {
+) -> Result<Reading, Memory> {
     if tokens.len() > MOST_READ {
-        return Ok(None);
+        return Ok(Reading::TooLong);
     }
-    let rows = rows(alloc)?;
+    let rows = rows(alloc, start)?;
     let mut sets: Vec<Vec<Waiting>> = Vec::new(alloc);
     sets.push(first_set(alloc, &rows, start.as_bytes())?)?;
     for (index, token) in tokens.iter().enumerate() {
         let next = behind(alloc, &rows, text, token, &sets, index)?;
         if next.is_empty() {
-            return Ok(Some(reached(alloc, &rows, &sets, index)?));
+            return Ok(Reading::Stops(reached(alloc, &rows, &sets, index)?));
         }
         sets.push(next)?;
     }
     if is_read(&rows, &sets, start.as_bytes()) {
-        return Ok(None);
+        return Ok(Reading::Whole);
     }
-    Ok(Some(reached(alloc, &rows, &sets, tokens.len())?))
+    let furthest = reached(alloc, &rows, &sets, tokens.len())?;
+    Ok(Reading::Stops(furthest))
 }
 
 // The rows that wait before the first token.
@@ -131,7 +142,9 @@ fn is_written(text: &[u8], token: &Token, symbol: Symbol) -> bool {
         Symbol::Name => matches!(token.kind, TokenKind::Name(_)),
         Symbol::Number => matches!(token.kind, TokenKind::Number(_)),
         Symbol::LevelName => matches!(token.kind, TokenKind::LevelName(_, _)),
+        Symbol::OldName => matches!(token.kind, TokenKind::LevelName(_, 0)),
         Symbol::BoundName => matches!(token.kind, TokenKind::BoundName(_)),
+        Symbol::Reserved => matches!(token.kind, TokenKind::Word(_)),
         Symbol::Part(_) => false,
     }
 }

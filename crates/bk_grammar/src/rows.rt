@@ -1,5 +1,6 @@
 //! The grammar of components and of proof files, as rows. Operators bind as they like here: the strengths that the notation gives them
-//! choose among readings. Which texts are components is told elsewhere; this grammar serves to say what could stand at a place.
+//! choose among readings. A clause may stand more than once. Which texts are components is told elsewhere; this grammar serves to say
+//! what could stand at a place.
 
 use bk_io::Memory;
 use bk_lines::first_line;
@@ -16,8 +17,12 @@ pub enum Symbol {
     Number,
     /// A name with its level.
     LevelName,
+    /// A name with level 0: the value of a variable before a substitution.
+    OldName,
     /// A bound variable of a printed formula.
     BoundName,
+    /// A reserved word.
+    Reserved,
     /// A part, as it is named in the rows.
     Part(&'static [u8]),
 }
@@ -31,7 +36,9 @@ impl Symbol {
             (Symbol::Name, Symbol::Name) => true,
             (Symbol::Number, Symbol::Number) => true,
             (Symbol::LevelName, Symbol::LevelName) => true,
+            (Symbol::OldName, Symbol::OldName) => true,
             (Symbol::BoundName, Symbol::BoundName) => true,
+            (Symbol::Reserved, Symbol::Reserved) => true,
             _ => false,
         }
     }
@@ -58,18 +65,27 @@ pub struct Row {
     pub symbols: Vec<Symbol>,
 }
 
-/// The rows of all parts.
-pub fn rows(alloc: Global) -> Result<Vec<Row>, Memory> {
+/// The rows of all parts. What printed formulas have more than terms of components has rows for files of scripts alone.
+pub fn rows(alloc: Global, start: &str) -> Result<Vec<Row>, Memory> {
     let mut rows = Vec::new(alloc);
-    let mut rest: &'static [u8] = ROWS.as_bytes();
-    for _ in 0..rest.len() {
+    add_rows(alloc, &mut rows, ROWS.as_bytes())?;
+    if start.as_bytes() == PROOF_FILE.as_bytes() {
+        add_rows(alloc, &mut rows, ADDITIONS.as_bytes())?;
+    }
+    Ok(rows)
+}
+
+// Adds the rows of a text, a row a line.
+fn add_rows(alloc: Global, rows: &mut Vec<Row>, text: &'static [u8]) -> Result<(), Memory> {
+    let mut rest = text;
+    for _ in 0..text.len() {
         let Some((line, behind)) = first_line(rest) else {
-            return Ok(rows);
+            return Ok(());
         };
         rows.push(row_of(alloc, line)?)?;
         rest = behind;
     }
-    Ok(rows)
+    Ok(())
 }
 
 // The row of a line: the part, and what it is written as, with a blank between two.
@@ -109,8 +125,14 @@ fn symbol_of(word: &'static [u8]) -> Symbol {
     if word == b"<level-name>".as_slice() {
         return Symbol::LevelName;
     }
+    if word == b"<old-name>".as_slice() {
+        return Symbol::OldName;
+    }
     if word == b"<bound-name>".as_slice() {
         return Symbol::BoundName;
+    }
+    if word == b"<reserved>".as_slice() {
+        return Symbol::Reserved;
     }
     Symbol::Part(word)
 }
@@ -142,8 +164,12 @@ pub fn part_words(part: &[u8]) -> &'static [u8] {
 // Each part, and what it is.
 const WORDS: &str = "<component> a component
 <head> MACHINE, REFINEMENT or IMPLEMENTATION
+<lowest-head> IMPLEMENTATION
 <clauses> a clause
 <clause> a clause
+<lowest-clauses> a clause
+<lowest-clause> a clause
+<common> a clause
 <sets> a set, S = {a, b}
 <set> a set, S = {a, b}
 <names> a name
@@ -153,6 +179,7 @@ const WORDS: &str = "<component> a component
 <operations> an operation
 <operation> an operation
 <header> an operation
+<body> a substitution
 <substitution> a substitution
 <statement> a substitution
 <choices> a substitution
@@ -165,8 +192,10 @@ const WORDS: &str = "<component> a component
 <chain> a term
 <constant> a term
 <word> a term
+<addition> a term
 <binder> a name, or names in parentheses
 <bounds> $1 and its type
+<ranges> $1 and what it ranges over
 <type> a type
 <operator> an operator
 <proof-file> proof
@@ -189,23 +218,29 @@ const WORDS: &str = "<component> a component
 // Each row.
 const ROWS: &str = "<component> <head> END
 <component> <head> <clauses> END
+<component> <lowest-head> END
+<component> <lowest-head> <lowest-clauses> END
 <head> MACHINE <name>
 <head> REFINEMENT <name> REFINES <name>
-<head> IMPLEMENTATION <name> REFINES <name>
+<lowest-head> IMPLEMENTATION <name> REFINES <name>
 <clauses> <clause>
 <clauses> <clauses> <clause>
-<clause> SETS <sets>
-<clause> CONSTANTS <names>
-<clause> CONCRETE_CONSTANTS <names>
-<clause> PROPERTIES <term>
+<clause> <common>
 <clause> VARIABLES <names>
 <clause> ABSTRACT_VARIABLES <names>
-<clause> CONCRETE_VARIABLES <names>
-<clause> INVARIANT <term>
-<clause> ASSERTIONS <assertions>
-<clause> VALUES <values>
-<clause> INITIALISATION <substitution>
-<clause> OPERATIONS <operations>
+<lowest-clauses> <lowest-clause>
+<lowest-clauses> <lowest-clauses> <lowest-clause>
+<lowest-clause> <common>
+<lowest-clause> VALUES <values>
+<common> SETS <sets>
+<common> CONSTANTS <names>
+<common> CONCRETE_CONSTANTS <names>
+<common> PROPERTIES <term>
+<common> CONCRETE_VARIABLES <names>
+<common> INVARIANT <term>
+<common> ASSERTIONS <assertions>
+<common> INITIALISATION <substitution>
+<common> OPERATIONS <operations>
 <sets> <set>
 <sets> <sets> ; <set>
 <set> <name> = { <names> }
@@ -218,11 +253,13 @@ const ROWS: &str = "<component> <head> END
 <value> <name> = <term>
 <operations> <operation>
 <operations> <operations> ; <operation>
-<operation> <header> = <substitution>
+<operation> <header> = <body>
 <header> <name>
 <header> <name> ( <names> )
 <header> <names> <-- <name>
 <header> <names> <-- <name> ( <names> )
+<body> <statement>
+<body> <body> || <statement>
 <substitution> <statement>
 <substitution> <substitution> ; <statement>
 <substitution> <substitution> || <statement>
@@ -256,10 +293,10 @@ const ROWS: &str = "<component> <head> END
 <operand> <primary>
 <operand> - <primary>
 <primary> <name>
-<primary> <level-name>
+<primary> <old-name>
 <primary> <number>
-<primary> <bound-name>
 <primary> <constant>
+<primary> <addition>
 <primary> <word> ( <term> )
 <primary> ( <term> )
 <primary> ( <term> , <terms> )
@@ -270,7 +307,6 @@ const ROWS: &str = "<component> <head> END
 <primary> { }
 <primary> { <terms> }
 <primary> { <names> | <term> }
-<primary> { : <type> }
 <primary> % <binder> . ( <term> | <term> )
 <primary> ! <binder> . ( <term> )
 <primary> # <binder> . ( <term> )
@@ -278,9 +314,6 @@ const ROWS: &str = "<component> <head> END
 <chain> <chain> ; <term>
 <binder> <name>
 <binder> ( <names> )
-<binder> ( <bounds> )
-<bounds> <bound-name> : <type>
-<bounds> <bounds> , <bound-name> : <type>
 <type> INTEGER
 <type> BOOL
 <type> <name>
@@ -297,8 +330,6 @@ const ROWS: &str = "<component> <head> END
 <constant> NAT1
 <constant> MAXINT
 <constant> MININT
-<constant> btrue
-<constant> bfalse
 <word> not
 <word> card
 <word> min
@@ -359,11 +390,7 @@ const ROWS: &str = "<component> <head> END
 <path> <path> . <piece>
 <piece> <name>
 <piece> <number>
-<piece> INITIALISATION
-<piece> PROPERTIES
-<piece> INVARIANT
-<piece> ASSERTIONS
-<piece> VALUES
+<piece> <reserved>
 <rules> <rule>
 <rules> <rules> ; <rule>
 <rule> hyp <number>
@@ -430,4 +457,20 @@ const ROWS: &str = "<component> <head> END
 <sum> <sum> + <multiple>
 <multiple> <number> * <number>
 <multiple> - <number> * <number>
+";
+
+// Each row of what printed formulas have more.
+const ADDITIONS: &str = "<addition> <level-name>
+<addition> <bound-name>
+<addition> btrue
+<addition> bfalse
+<addition> { : <type> }
+<addition> { <ranges> | <term> }
+<addition> % ( <ranges> ) . ( <term> | <term> )
+<addition> ! ( <bounds> ) . ( <term> )
+<addition> # ( <bounds> ) . ( <term> )
+<ranges> <bound-name> : <term>
+<ranges> <ranges> , <bound-name> : <term>
+<bounds> <bound-name> : <type>
+<bounds> <bounds> , <bound-name> : <type>
 ";

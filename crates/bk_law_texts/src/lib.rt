@@ -21,12 +21,19 @@ pub struct LawText {
 pub fn text_of(law: u16) -> Option<&'static LawText>
     ensures { IfSome result (λ t. t.now.number ≡ law) }
 {
-    LAWS.iter().find(|text| text.number == law)
+    laws().iter().find(|text| text.number == law)
 }
 
 /// The text of the law with this name.
-pub fn text_named(name: &[u8]) -> Option<&'static LawText> {
-    LAWS.iter().find(|text| text.name.as_bytes() == name)
+pub fn text_named(name: &[u8]) -> Option<&'static LawText>
+    ensures { IfSome result (λ t. t.now.name.now ≡ name.now) }
+{
+    laws().iter().find(|text| text.name.as_bytes() == name)
+}
+
+// All of them.
+fn laws() -> &'static [LawText] {
+    LAWS
 }
 
 const LAWS: &[LawText] = &[

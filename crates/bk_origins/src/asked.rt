@@ -65,18 +65,22 @@ fn front_of(name: &[u8]) -> &[u8] {
     if end < name.len() { &name[..end] } else { name }
 }
 
-/// How many obligations have names with this front.
-pub(crate) fn count_with(list: &[Obligation], front: &[u8]) -> usize {
+/// How many obligations behind this one have names with this front, up to the first that has not.
+pub(crate) fn count_behind(list: &[Obligation], index: usize, front: &[u8]) -> usize {
     let mut count = 0usize;
-    for obligation in list {
-        if front_of(obligation.name.as_bytes()) == front {
-            count = count.saturating_add(1);
+    for before in index..list.len() {
+        let Some(obligation) = list.get(before.saturating_add(1)) else {
+            return count;
+        };
+        if front_of(obligation.name.as_bytes()) != front {
+            return count;
         }
+        count = count.saturating_add(1);
     }
     count
 }
 
-/// How many of the obligations before this one have names with this front.
+/// How many obligations before this one have names with this front, back to the last that has not.
 pub(crate) fn place_among(list: &[Obligation], index: usize, front: &[u8]) -> usize {
     let mut place = 0usize;
     for behind in 0..index {

@@ -63,9 +63,6 @@ fn add_conjuncts(
             return add_conjuncts(leaves, number, right, Some(second));
         }
     }
-    if let View::True = form.view() {
-        return Ok(());
-    }
     *number = number.saturating_add(1);
     let leaf = Leaf {
         what: What::Conjunct(*number),

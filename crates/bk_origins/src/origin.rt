@@ -2,7 +2,7 @@
 
 ghost use Rattle.std.specs.Prelude.{◌≡◌, map, IfOk};
 
-use crate::asked::{Asked, clause_named, clauses_of, count_with, place_among};
+use crate::asked::{Asked, clause_named, clauses_of, count_behind, place_among};
 use crate::clause::Site;
 use crate::component::Component;
 use crate::leaf::Leaf;
@@ -103,10 +103,12 @@ fn origin_of(
 // The part of the goal that an obligation is, where there are as many parts as obligations of the clause.
 fn leaf_of(asked: &Asked, list: &[Obligation], index: usize) -> Option<Leaf> {
     let leaves = asked.leaves.as_ref()?;
-    if count_with(list, &asked.front) != leaves.len() {
+    let place = place_among(list, index, &asked.front);
+    let behind = count_behind(list, index, &asked.front);
+    if place.saturating_add(behind).saturating_add(1) != leaves.len() {
         return None;
     }
-    leaves.get(place_among(list, index, &asked.front)).copied()
+    leaves.get(place).copied()
 }
 
 fn place_of(site: Site<'_>, asked: &Asked, leaf: Option<Leaf>) -> usize {

@@ -96,7 +96,7 @@ struct FileCopy {
     text: Vec<u8>,
 }
 
-// The files of a project as far as they are there.
+// The files of a project and the call script, as far as they are there.
 fn read_once_more<H: Shelf>(
     alloc: Global,
     asked: Question<'_>,
@@ -105,17 +105,27 @@ fn read_once_more<H: Shelf>(
     ensures { H.faults shelf.old ≤ H.faults shelf.new }
 {
     let mut all = Vec::new(alloc);
-    if asked.is_image {
-        return Ok(all);
+    if !asked.is_image {
+        add_project(alloc, &mut all, asked.file, shelf)?;
     }
-    let project = asked.file.as_bytes();
-    add_copy(alloc, &mut all, project, SourceKind::Project, shelf)?;
-    let named = named_files(alloc, &all)?;
-    add_copies(alloc, &mut all, &named, shelf)?;
     if let Some(calls) = asked.calls {
         add_copy(alloc, &mut all, calls.as_bytes(), SourceKind::Calls, shelf)?;
     }
     Ok(all)
+}
+
+// The project file, which is the first, and those that it names.
+fn add_project<H: Shelf>(
+    alloc: Global,
+    all: &mut Vec<FileCopy>,
+    project: &str,
+    shelf: &mut H,
+) -> Result<(), Memory>
+    ensures { H.faults shelf.old ≤ H.faults shelf.new }
+{
+    add_copy(alloc, all, project.as_bytes(), SourceKind::Project, shelf)?;
+    let named = named_files(alloc, all)?;
+    add_copies(alloc, all, &named, shelf)
 }
 
 // The lines of the project file, which is the only copy so far; none where it is not there or at fault.

@@ -1,6 +1,6 @@
 //! `list`.
 
-ghost use Rattle.std.specs.Prelude.{◌≡◌, Some, map, IfOk, IfErr};
+ghost use Rattle.std.specs.Prelude.{◌≡◌, List, Some, true, false, map, IfOk, IfErr};
 ghost use Rattle.bk_io.specs.Counts.{HasCause};
 ghost use Rattle.bk_io.specs.Files.{Files};
 ghost use Rattle.bk_status.specs.Rows.{first_open};
@@ -10,6 +10,7 @@ ghost use Rattle.bk_proof_program.specs.Answers.{IsEnd};
 ghost use Rattle.bk_evidence.specs.Items.{row_of};
 ghost use Rattle.bk_proof_program.specs.Settled as meant;
 ghost use Rattle.bk_proof_program.specs.Settled.{HasStatus};
+ghost use Rattle.bk_proof_program.specs.Told.{WritesList, IsListOf};
 
 use crate::goal::nearest_name;
 use crate::project::{Whole, found, obligation_number, raw_components, read_whole};
@@ -33,6 +34,8 @@ pub(crate) fn list_answer<H: Shelf>(
     shelf: &mut H,
 ) -> Result<(Vec<u8>, Status), Stop>
     ensures status { IfOk result (λ a. (files : Files) → H.files shelf.old ≡ Some files → HasStatus files project.now a.1) }
+    ensures told { IfOk result (λ a. (files : Files) → H.files shelf.old ≡ Some files →
+        IsListOf files project.now as_json is_open_only a.0.items) }
     ensures ends { IfOk result (λ a. IsEnd a.1) }
     ensures reading { IfErr result IsOfReading }
     ensures failed { HasCause ReadFault (H.faults shelf.old) (H.faults shelf.new) result }
@@ -62,14 +65,44 @@ fn rows_text(
     rows: &[Row],
     is_open_only: bool,
     as_json: bool,
-) -> Result<Vec<u8>, Memory> {
+) -> Result<Vec<u8>, Memory>
+    ensures { IfOk result (λ text. (items : List Item) × (map row_of items ≡ rows.now) × WritesList as_json is_open_only items text.items) }
+{
     let all = all_items(alloc, whole, rows, &[])?;
+    let text = items_text(alloc, whole, &all, is_open_only, as_json)?;
+    Ok(text)
+}
+
+fn items_text(
+    alloc: Global,
+    whole: &Whole,
+    all: &[Item],
+    is_open_only: bool,
+    as_json: bool,
+) -> Result<Vec<u8>, Memory>
+    ensures { IfOk result (λ text. WritesList as_json is_open_only all.now text.items) }
+{
     if as_json {
-        let mut text = items_json(alloc, &all)?;
-        text.push(b'\n')?;
-        return Ok(text);
+        json_line(alloc, all, is_open_only)
+    } else {
+        lines(alloc, whole, all, is_open_only)
     }
-    let mut text = list_text(alloc, &all, is_open_only)?;
+}
+
+// The obligations as JSON.
+fn json_line(alloc: Global, all: &[Item], is_open_only: bool) -> Result<Vec<u8>, Memory>
+    ensures { IfOk result (λ text. WritesList true is_open_only all.now text.items) }
+{
+    let mut text = items_json(alloc, all, is_open_only)?;
+    text.push(b'\n')?;
+    Ok(text)
+}
+
+// The obligations as lines, and scripts that belong to none.
+fn lines(alloc: Global, whole: &Whole, all: &[Item], is_open_only: bool) -> Result<Vec<u8>, Memory>
+    ensures { IfOk result (λ text. WritesList false is_open_only all.now text.items) }
+{
+    let mut text = list_text(alloc, all, is_open_only)?;
     let strays = stray_text(alloc, whole)?;
     text.extend_from_slice(&strays)?;
     Ok(text)

@@ -1,31 +1,32 @@
 //! `report`.
 
-ghost use Rattle.std.specs.Prelude.{◌≡◌, Some, IfOk, IfErr};
+ghost use Rattle.std.specs.Prelude.{◌≡◌, Some, map, IfOk, IfErr};
 ghost use Rattle.bk_io.specs.Counts.{HasCause};
 ghost use Rattle.bk_io.specs.Files.{Files};
 ghost use Rattle.bk_verbs.specs.Causes.{IsOfReading};
 ghost use Rattle.bk_verbs.specs.declared.stop.Stop.TheVariants.{ReadFault};
 ghost use Rattle.bk_proof_program.specs.Answers.{IsEnd};
 ghost use Rattle.bk_prune.specs.Pruned.{IsReady};
+ghost use Rattle.bk_evidence.specs.Items.{row_of};
 ghost use Rattle.bk_proof_program.specs.Settled.{HasStatus};
+ghost use Rattle.bk_proof_program.specs.Told.{WritesReport, IsReportOf};
 
 use crate::list::{all_items, status_of, strays};
 use crate::project::{Whole, found, obligation_number, read_whole};
 use crate::task::ReportForm;
-use bk_evidence::{Input, Report, html_page, input, json_text, list_text, sums_of};
+use bk_evidence::{File, Report, html_page, inputs, json_text, report_text};
 use bk_goal::{Asked, goal_text};
 use bk_io::{Memory, Shelf, Text};
 use bk_status::Row;
 use bk_verbs::proof::table_of;
 use bk_verbs::{Status, Stop};
-use itoa::Buffer;
 use std::alloc::Global;
 
 /// The version of the program.
 const VERSION: &str = "1";
 
 /// What it was proved with: the line of `rt version`.
-const TOOLCHAIN: &str = "rattle-kit-13b logic dac8208d650f15bf";
+const TOOLCHAIN: &str = "rattle-kit-13f logic dac8208d650f15bf";
 
 /// The status of a development; done where nothing is open.
 pub(crate) fn report_answer<H: Shelf>(
@@ -35,6 +36,7 @@ pub(crate) fn report_answer<H: Shelf>(
     shelf: &mut H,
 ) -> Result<(Vec<u8>, Status), Stop>
     ensures status { IfOk result (λ a. (files : Files) → H.files shelf.old ≡ Some files → HasStatus files project.now a.1) }
+    ensures told { IfOk result (λ a. (files : Files) → H.files shelf.old ≡ Some files → IsReportOf files project.now form a.0.items) }
     ensures ends { IfOk result (λ a. IsEnd a.1) }
     ensures reading { IfErr result IsOfReading }
     ensures failed { HasCause ReadFault (H.faults shelf.old) (H.faults shelf.new) result }
@@ -42,12 +44,12 @@ pub(crate) fn report_answer<H: Shelf>(
     let whole = read_whole(alloc, project, shelf)?;
     let table = table_of(alloc, project, &whole.project)?;
     let status = status_of(&table);
-    let text = report_text(alloc, project, &whole, &table.rows, form)?;
+    let text = written(alloc, project, &whole, &table.rows, form)?;
     Ok((text, status))
 }
 
 // The report in one of its forms.
-fn report_text(
+fn written(
     alloc: Global,
     project: &str,
     whole: &Whole,
@@ -55,24 +57,43 @@ fn report_text(
     form: ReportForm,
 ) -> Result<Vec<u8>, Memory>
     requires { IsReady whole.now.project.development whole.now.table whole.now.list.items }
+    ensures { IfOk result (λ text. (report : Report) × (map row_of report.items.items ≡ rows.now) × WritesReport form report text.items) }
+{
+    let report = report_of(alloc, project, whole, rows)?;
+    let text = form_text(alloc, &report, form)?;
+    Ok(text)
+}
+
+// The report as a value.
+fn report_of(alloc: Global, project: &str, whole: &Whole, rows: &[Row]) -> Result<Report, Memory>
+    requires { IsReady whole.now.project.development whole.now.table whole.now.list.items }
+    ensures items { IfOk result (λ report. map row_of report.items.items ≡ rows.now) }
 {
     let shown = shown_texts(alloc, whole, rows)?;
-    let report = Report {
+    let files = files_of(alloc, project, whole)?;
+    Ok(Report {
         version: VERSION,
         toolchain: TOOLCHAIN,
         machine: machine_name(alloc, whole)?,
-        inputs: inputs(alloc, project, whole)?,
+        inputs: inputs(alloc, &files)?,
         items: all_items(alloc, whole, rows, &shown)?,
         strays: strays(alloc, whole)?,
-    };
+    })
+}
+
+fn form_text(alloc: Global, report: &Report, form: ReportForm) -> Result<Vec<u8>, Memory>
+    ensures { IfOk result (λ text. WritesReport form report.now text.items) }
+{
     match form {
-        ReportForm::Html => html_page(alloc, &report),
-        ReportForm::Json => json_line(alloc, &report),
-        ReportForm::Text => plain_text(alloc, &report),
+        ReportForm::Html => html_page(alloc, report),
+        ReportForm::Json => json_line(alloc, report),
+        ReportForm::Text => report_text(alloc, report),
     }
 }
 
-fn json_line(alloc: Global, report: &Report) -> Result<Vec<u8>, Memory> {
+fn json_line(alloc: Global, report: &Report) -> Result<Vec<u8>, Memory>
+    ensures { IfOk result (λ text. WritesReport ReportForm.Json report.now text.items) }
+{
     let mut text = json_text(alloc, report)?;
     text.push(b'\n')?;
     Ok(text)
@@ -120,50 +141,33 @@ fn machine_name(alloc: Global, whole: &Whole) -> Result<Text, Memory> {
 }
 
 // The files that were read: the project file, the components, the proof files.
-fn inputs(alloc: Global, project: &str, whole: &Whole) -> Result<Vec<Input>, Memory> {
-    let mut all = Vec::new(alloc);
-    all.push(input(alloc, project.as_bytes(), &whole.files.text)?)?;
+fn files_of<'a>(
+    alloc: Global,
+    project: &'a str,
+    whole: &'a Whole,
+) -> Result<Vec<File<'a>>, Memory> {
+    let mut files = Vec::new(alloc);
+    files.push(File {
+        name: project,
+        text: &whole.files.text,
+    })?;
     let components = whole.files.names(alloc, false)?;
-    add_inputs(alloc, &mut all, &components, &whole.files.components)?;
+    add_files(&mut files, &components, &whole.files.components)?;
     let proofs = whole.files.names(alloc, true)?;
-    add_inputs(alloc, &mut all, &proofs, &whole.files.proofs)?;
-    Ok(all)
+    add_files(&mut files, &proofs, &whole.files.proofs)?;
+    Ok(files)
 }
 
-fn add_inputs(
-    alloc: Global,
-    all: &mut Vec<Input>,
-    names: &[&str],
-    texts: &[Vec<u8>],
+fn add_files<'a>(
+    files: &mut Vec<File<'a>>,
+    names: &[&'a str],
+    texts: &'a [Vec<u8>],
 ) -> Result<(), Memory> {
     for (index, text) in texts.iter().enumerate() {
-        let name = names.get(index).copied().unwrap_or("");
-        all.push(input(alloc, name.as_bytes(), text)?)?;
+        files.push(File {
+            name: names.get(index).copied().unwrap_or(""),
+            text,
+        })?;
     }
-    Ok(())
-}
-
-// The report as lines.
-fn plain_text(alloc: Global, report: &Report) -> Result<Vec<u8>, Memory> {
-    let mut text = list_text(alloc, &report.items, false)?;
-    let sums = sums_of(&report.items);
-    put_count(&mut text, b"", sums.obligations)?;
-    put_count(&mut text, b" obligations: ", sums.obvious)?;
-    put_count(&mut text, b" obvious, ", sums.proved)?;
-    put_count(&mut text, b" proved, ", sums.left)?;
-    text.extend_from_slice(b" open\n")?;
-    for input in &report.inputs {
-        text.extend_from_slice(input.name.as_bytes())?;
-        put_count(&mut text, b" ", input.length)?;
-        text.extend_from_slice(b" ")?;
-        text.extend_from_slice(input.digest.as_str().as_bytes())?;
-        text.extend_from_slice(b"\n")?;
-    }
-    Ok(text)
-}
-
-fn put_count(text: &mut Vec<u8>, before: &[u8], count: usize) -> Result<(), Memory> {
-    text.extend_from_slice(before)?;
-    text.extend_from_slice(Buffer::new().format(count).as_bytes())?;
     Ok(())
 }

@@ -1,0 +1,63 @@
+-- What `list` and `report` write as lines.
+use Rattle.std.specs.Prelude.{ℕ, Bool, false, cond, ◌&&◌, List, [], ◌++◌, Option, Some, None, codes, decimal, string_bytes}
+use Rattle.std.specs.List.{flat_map}
+use Rattle.bk_status.specs.Rows.{is_settled}
+use Rattle.bk_report.specs.Table.{state_text}
+use Rattle.bk_evidence.specs.declared.item.Item.{Item}
+use Rattle.bk_evidence.specs.declared.item.Script.{Script}
+use Rattle.bk_evidence.specs.declared.report.Input.{Input}
+use Rattle.bk_evidence.specs.declared.report.Report.{Report}
+use Rattle.bk_evidence.specs.declared.sums.Sums.{Sums}
+use Rattle.bk_evidence.specs.Items.{sums_over}
+
+-- ---- obligations
+-- `T.inc.1  invariant conjunct 1 is kept by inc  `: the name, and what is asked
+abbrev pub question_text : Item → List ℕ
+question_text item = item.name ++ codes "  " ++ item.words ++ codes "  "
+
+-- `T.mch:3:11`: where it comes from
+abbrev pub place_text : Item → List ℕ
+place_text item = item.file ++ (codes ":" ++ decimal item.line) ++ (codes ":" ++ decimal item.column)
+
+-- `, rules 4 (T.prf:1:7)`: how many rules a script has, and where it stands
+abbrev pub rules_text : Script → List ℕ
+rules_text script = (codes ", rules " ++ decimal script.rules) ++ codes " (" ++ script.place ++ codes ")"
+
+-- the same, where there is a script
+abbrev pub script_text : Option Script → List ℕ
+script_text None = []
+script_text (Some script) = rules_text script
+
+-- `  proved, rules 4 (T.prf:1:7)`: the state that the status table has, and the script
+abbrev pub answer_text : Item → List ℕ
+answer_text item = codes "  " ++ state_text item.state ++ script_text item.script ++ codes "\n"
+
+-- the line of an obligation
+abbrev pub item_line : Item → List ℕ
+item_line item = question_text item ++ place_text item ++ answer_text item
+
+-- none of one that is settled, where those are asked that are open
+abbrev pub asked_line : (is_open_only : Bool) → Item → List ℕ
+asked_line is_open_only item = cond (is_open_only && is_settled item.state) [] (item_line item)
+
+-- all lines, in order
+abbrev pub list_lines : (is_open_only : Bool) → List Item → List ℕ
+list_lines is_open_only items = flat_map (asked_line is_open_only) items
+
+-- ---- reports
+-- `12 obligations: 7 obvious, 5 proved, 0 open`
+abbrev pub sums_line : Sums → List ℕ
+sums_line sums = decimal sums.obligations ++ (codes " obligations: " ++ decimal sums.obvious) ++ (codes " obvious, " ++ decimal sums.proved)
+    ++ (codes " proved, " ++ decimal sums.left) ++ codes " open\n"
+
+-- `T.mch 161 7efacaf9..`: a file, how many bytes it has, and its SHA-256
+abbrev pub input_line : Input → List ℕ
+input_line input = input.name ++ (codes " " ++ decimal input.length) ++ codes " " ++ string_bytes input.digest ++ codes "\n"
+
+-- those of all files
+abbrev pub input_lines : List Input → List ℕ
+input_lines inputs = flat_map input_line inputs
+
+-- all obligations, the sums, and the files
+abbrev pub report_lines : Report → List ℕ
+report_lines report = list_lines false report.items.items ++ sums_line (sums_over report.items.items) ++ input_lines report.inputs.items

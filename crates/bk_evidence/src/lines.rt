@@ -1,0 +1,127 @@
+//! Reports and lists of obligations as lines.
+
+ghost use Rattle.std.specs.Prelude.{◌≡◌, ◌++◌, IfOk, OnOk};
+ghost use Rattle.bk_evidence.specs.Lines as texts;
+
+use crate::item::{Item, Script, is_settled, write_count, write_state};
+use crate::report::{Input, Report};
+use crate::sums::{Sums, sums_of};
+use bk_io::Memory;
+use std::alloc::{AllocError, Global};
+
+/// The report as lines: those of all obligations, the sums, and a line for each file.
+pub fn report_text(alloc: Global, report: &Report) -> Result<Vec<u8>, Memory>
+    ensures { IfOk result (λ text. text.items ≡ texts.report_lines report.now) }
+{
+    let mut text = list_text(alloc, &report.items, false)?;
+    write_sums(&mut text, sums_of(&report.items))?;
+    write_inputs(&mut text, &report.inputs)?;
+    Ok(text)
+}
+
+/// A line for each item, or for each that is not settled: its name, what it asks, its place, its state and its script.
+pub fn list_text(alloc: Global, items: &[Item], is_open_only: bool) -> Result<Vec<u8>, Memory>
+    ensures { IfOk result (λ text. text.items ≡ texts.list_lines is_open_only items.now) }
+{
+    let mut text = Vec::new(alloc);
+    for item in items {
+        write_if_asked(&mut text, item, is_open_only)?;
+    }
+    Ok(text)
+}
+
+fn write_if_asked(text: &mut Vec<u8>, item: &Item, is_open_only: bool) -> Result<(), AllocError>
+    ensures { OnOk result (text.new.items ≡ text.old.items ++ texts.asked_line is_open_only item.now) }
+{
+    if is_open_only && is_settled(item.state) {
+        return Ok(());
+    }
+    write_item(text, item)
+}
+
+fn write_item(text: &mut Vec<u8>, item: &Item) -> Result<(), AllocError>
+    ensures { OnOk result (text.new.items ≡ text.old.items ++ texts.item_line item.now) }
+{
+    write_question(text, item)?;
+    write_place(text, item)?;
+    write_answer(text, item)
+}
+
+// `T.inc.1  invariant conjunct 1 is kept by inc  `.
+fn write_question(text: &mut Vec<u8>, item: &Item) -> Result<(), AllocError>
+    ensures { OnOk result (text.new.items ≡ text.old.items ++ texts.question_text item.now) }
+{
+    text.extend_from_slice(item.name.as_bytes())?;
+    text.extend_from_slice(b"  ")?;
+    text.extend_from_slice(item.words.as_bytes())?;
+    text.extend_from_slice(b"  ")
+}
+
+// `Tally.mch:3:12`.
+fn write_place(text: &mut Vec<u8>, item: &Item) -> Result<(), AllocError>
+    ensures { OnOk result (text.new.items ≡ text.old.items ++ texts.place_text item.now) }
+{
+    text.extend_from_slice(item.file.as_bytes())?;
+    write_count(text, b":", item.line)?;
+    write_count(text, b":", item.column)
+}
+
+// `  proved, rules 4 (T.prf:1:7)`.
+fn write_answer(text: &mut Vec<u8>, item: &Item) -> Result<(), AllocError>
+    ensures { OnOk result (text.new.items ≡ text.old.items ++ texts.answer_text item.now) }
+{
+    text.extend_from_slice(b"  ")?;
+    write_state(text, item.state)?;
+    write_script(text, &item.script)?;
+    text.extend_from_slice(b"\n")
+}
+
+fn write_script(text: &mut Vec<u8>, script: &Option<Script>) -> Result<(), AllocError>
+    ensures { OnOk result (text.new.items ≡ text.old.items ++ texts.script_text script.now) }
+{
+    match script {
+        Some(script) => write_rules(text, script),
+        None => Ok(()),
+    }
+}
+
+// `, rules 4 (T.prf:1:7)`.
+fn write_rules(text: &mut Vec<u8>, script: &Script) -> Result<(), AllocError>
+    ensures { OnOk result (text.new.items ≡ text.old.items ++ texts.rules_text script.now) }
+{
+    write_count(text, b", rules ", script.rules)?;
+    text.extend_from_slice(b" (")?;
+    text.extend_from_slice(script.place.as_bytes())?;
+    text.extend_from_slice(b")")
+}
+
+// `12 obligations: 7 obvious, 5 proved, 0 open`.
+fn write_sums(text: &mut Vec<u8>, sums: Sums) -> Result<(), AllocError>
+    ensures { OnOk result (text.new.items ≡ text.old.items ++ texts.sums_line sums) }
+{
+    write_count(text, b"", sums.obligations)?;
+    write_count(text, b" obligations: ", sums.obvious)?;
+    write_count(text, b" obvious, ", sums.proved)?;
+    write_count(text, b" proved, ", sums.left)?;
+    text.extend_from_slice(b" open\n")
+}
+
+fn write_inputs(text: &mut Vec<u8>, inputs: &[Input]) -> Result<(), AllocError>
+    ensures { OnOk result (text.new.items ≡ text.old.items ++ texts.input_lines inputs.now) }
+{
+    for input in inputs {
+        write_input(text, input)?;
+    }
+    Ok(())
+}
+
+// `T.mch 161 7efacaf9..`: a file, how many bytes it has, and its sum.
+fn write_input(text: &mut Vec<u8>, input: &Input) -> Result<(), AllocError>
+    ensures { OnOk result (text.new.items ≡ text.old.items ++ texts.input_line input.now) }
+{
+    text.extend_from_slice(input.name.as_bytes())?;
+    write_count(text, b" ", input.length)?;
+    text.extend_from_slice(b" ")?;
+    text.extend_from_slice(input.digest.as_str().as_bytes())?;
+    text.extend_from_slice(b"\n")
+}
