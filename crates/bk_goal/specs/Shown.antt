@@ -1,5 +1,5 @@
 -- Texts that show the sequents which rules leave open.
-use Rattle.std.specs.Prelude.{◌≡◌, ℕ, List, [], ◌∷◌, ◌++◌, Option, Some, None, codes, decimal, suc}
+use Rattle.std.specs.Prelude.{◌≡◌, ◌-◌, ℕ, suc, min, Bool, ◌||◌, not, nat_lt, cond, List, [], ◌∷◌, ◌++◌, take, length, Option, Some, None, codes, decimal}
 use Rattle.bk_form.specs.Formula.{Formula}
 use Rattle.bk_form.specs.Table.{Table}
 use Rattle.bk_seq.specs.Sequents.{Sequent}
@@ -8,9 +8,11 @@ use Rattle.bk_layout.specs.Laid.{IsLaidOut}
 use Rattle.bk_dev.specs.Development.{Development}
 use Rattle.bk_raw.specs.Trees.ScriptTree.{RawScript}
 use Rattle.bk_kernel.specs.declared.rule.Rule.{Rule}
+use Rattle.bk_kernel.specs.Obvious.{is_obvious}
 use Rattle.bk_scripts.specs.Grounding.{IsGrounded}
-use Rattle.bk_replay.specs.Standing.{AreOpenAfter}
+use Rattle.bk_replay.specs.Standing.{IsFurthest}
 use Rattle.bk_goal.specs.declared.asked.Found.{Found}
+use Rattle.bk_goal.specs.declared.brought.Brought.{Brought}
 
 -- ---- sequents
 -- the text of a formula as it is printed, in lines, and a line end
@@ -19,63 +21,107 @@ pub record ShowsFormula (table : Table) (f : Formula) (text : List ℕ) : Type 0
   pub is_laid : IsLaidOut (shown table f) laid
   pub ends : text ≡ laid ++ codes "\n"
 
--- a mark or none, the number as scripts number hypotheses, and the formula
-pub record ShowsHypothesis (table : Table) (number : ℕ) (f : Formula) (text : List ℕ) : Type 0 where
-  pub mark : List ℕ
+-- the mark before a hypothesis of a sequent that a rule made, which has those with greater numbers than this of that rule
+abbrev pub mark_of : Option ℕ → ℕ → List ℕ
+mark_of None number = codes "   "
+mark_of (Some old) number = cond (nat_lt old number) (codes " * ") (codes "   ")
+
+-- its mark, the number as scripts number hypotheses, and the formula
+pub record ShowsHypothesis (table : Table) (old : Option ℕ) (number : ℕ) (f : Formula) (text : List ℕ) : Type 0 where
   pub formula : List ℕ
   pub shows : ShowsFormula table f formula
-  pub line : text ≡ (mark ++ decimal number) ++ codes ": " ++ formula
+  pub line : text ≡ (mark_of old number ++ decimal number) ++ codes ": " ++ formula
 
 -- the hypotheses, of which the first has this number
-abbrev pub ShowsHypotheses : Table → ℕ → List Formula → List ℕ → Type 0
-ShowsHypotheses table n [] text = text ≡ []
-ShowsHypotheses table n (f ∷ fs) text =
-    (first rest : List ℕ) × ShowsHypothesis table n f first × ShowsHypotheses table (suc n) fs rest × (text ≡ first ++ rest)
+abbrev pub ShowsHypotheses : Table → Option ℕ → ℕ → List Formula → List ℕ → Type 0
+ShowsHypotheses table old n [] text = text ≡ []
+ShowsHypotheses table old n (f ∷ fs) text =
+    (first rest : List ℕ) × ShowsHypothesis table old n f first × ShowsHypotheses table old (suc n) fs rest × (text ≡ first ++ rest)
 
 -- all its hypotheses, numbered from 1, and its goal
-pub record ShowsSequent (table : Table) (s : Sequent) (text : List ℕ) : Type 0 where
+pub record ShowsSequent (table : Table) (old : Option ℕ) (s : Sequent) (text : List ℕ) : Type 0 where
   pub hypotheses : List ℕ
   pub goal : List ℕ
-  pub shows_hypotheses : ShowsHypotheses table 1 s.0 hypotheses
+  pub shows_hypotheses : ShowsHypotheses table old 1 s.0 hypotheses
   pub shows_goal : ShowsFormula table s.1 goal
   pub whole : text ≡ hypotheses ++ codes "  goal: " ++ goal
 
 -- a sequent behind its title
-pub record ShowsTitled (table : Table) (n count : ℕ) (s : Sequent) (text : List ℕ) : Type 0 where
+pub record ShowsTitled (table : Table) (old : Option ℕ) (n count : ℕ) (s : Sequent) (text : List ℕ) : Type 0 where
   pub lines : List ℕ
-  pub shows : ShowsSequent table s lines
+  pub shows : ShowsSequent table old s lines
   pub titled : text ≡ (codes "sequent " ++ decimal n) ++ (codes " of " ++ decimal count) ++ codes "\n" ++ lines
 
+-- behind which of its hypotheses those stand that a rule brought, if the sequent of this number came of it
+abbrev pub old_at : Brought → ℕ → Option ℕ
+old_at brought n = cond (nat_lt brought.news n) None (Some brought.old)
+
 -- sequents that number so many, from this one on, each behind its title
-abbrev pub ShowsFrom : Table → ℕ → ℕ → List Sequent → List ℕ → Type 0
-ShowsFrom table n count [] text = text ≡ []
-ShowsFrom table n count (s ∷ ss) text =
-    (first rest : List ℕ) × ShowsTitled table n count s first × ShowsFrom table (suc n) count ss rest × (text ≡ first ++ rest)
+abbrev pub ShowsFrom : Table → Brought → ℕ → ℕ → List Sequent → List ℕ → Type 0
+ShowsFrom table brought count n [] text = text ≡ []
+ShowsFrom table brought count n (s ∷ ss) text =
+    (first rest : List ℕ) × ShowsTitled table (old_at brought n) n count s first × ShowsFrom table brought count (suc n) ss rest × (text ≡ first ++ rest)
 
 -- these sequents, in order, and no others
-abbrev pub ShowsSequents : Table → List Sequent → List ℕ → Type 0
-ShowsSequents table ss text = (count : ℕ) × ShowsFrom table 1 count ss text
+abbrev pub ShowsSequents : Table → Brought → List Sequent → List ℕ → Type 0
+ShowsSequents table brought ss text = ShowsFrom table brought (length ss) 1 ss text
 
 -- within a text
-pub record ShowsWithin (table : Table) (ss : List Sequent) (text : List ℕ) : Type 0 where
+pub record ShowsWithin (table : Table) (brought : Brought) (ss : List Sequent) (text : List ℕ) : Type 0 where
   pub before : List ℕ
   pub shown_text : List ℕ
   pub behind : List ℕ
   pub splits : text ≡ before ++ shown_text ++ behind
-  pub shows : ShowsSequents table ss shown_text
+  pub shows : ShowsSequents table brought ss shown_text
+
+-- ---- what a rule brought
+-- how many hypotheses the sequent has on which a rule works
+abbrev pub hypotheses_of_first : List Sequent → ℕ
+hypotheses_of_first [] = 0
+hypotheses_of_first (first ∷ others) = length first.0
+
+-- how many of the sequents behind a rule came of it, where these were open before it
+abbrev pub came_of_first : List Sequent → ℕ → ℕ
+came_of_first [] left = 0
+came_of_first (first ∷ others) left = left - length others
+
+-- what rule k brought, behind which these are left: the sequents that came of it stand before those that were there, and their hypotheses
+-- past the ones that there were are new
+pub record IsBrought (table : Table) (rules : List Rule) (s : Sequent) (k : ℕ) (left : List Sequent) (brought : Brought) : Type 0 where
+  pub done : ℕ
+  pub before : List Sequent
+  pub furthest : IsFurthest table (take (k - 1) rules) s done before
+  pub old : brought.old ≡ hypotheses_of_first before
+  pub news : brought.news ≡ came_of_first before (length left)
 
 -- ---- scripts
--- what is shown is exactly what the kernel's definition leaves of the sequent behind the first k of the rules that the script stands for
-pub record ShowsAfter (dev : Development) (script : RawScript) (s : Sequent) (text : List ℕ) : Type 0 where
+-- of so many rules, how many are asked for: all, if it is not said
+abbrev pub count_asked : Option ℕ → ℕ → ℕ
+count_asked None rules = rules
+count_asked (Some at) rules = min at rules
+
+-- of the rules that the script stands for those that are asked for go so far on the sequent, and what is shown is exactly what the kernel's
+-- definition leaves behind them; it is told whether a sequent is left, or a rule that is asked for does not fit
+pub record ShowsAfter (dev : Development) (script : RawScript) (at : Option ℕ) (s : Sequent) (text : List ℕ) (is_open : Bool) : Type 0 where
   pub rules : List Rule
   pub table : Table
   pub grounded : IsGrounded dev script rules table
   pub k : ℕ
   pub left : List Sequent
-  pub after : AreOpenAfter table rules s k left
-  pub shows : ShowsWithin table left text
+  pub furthest : IsFurthest table (take (count_asked at (length rules)) rules) s k left
+  pub brought : Brought
+  pub brings : IsBrought table rules s k left brought
+  pub shows : ShowsWithin table brought left text
+  pub open_is : is_open ≡ (nat_lt k (count_asked at (length rules)) || nat_lt 0 (length left))
 
--- and without a script the sequent itself
-abbrev pub ShowsGoal : Development → Option Found → Sequent → List ℕ → Type 0
-ShowsGoal dev (Some found) s text = ShowsAfter dev found.script.now s text
-ShowsGoal dev None s text = ShowsWithin dev.table (s ∷ []) text
+-- the sequent itself, of which no rule brought anything; it is told whether it needs a proof
+pub record ShowsAlone (table : Table) (s : Sequent) (text : List ℕ) (is_open : Bool) : Type 0 where
+  pub brought : Brought
+  pub none : brought.news ≡ 0
+  pub shows : ShowsWithin table brought (s ∷ []) text
+  pub open_is : is_open ≡ not (is_obvious s.0 s.1)
+
+-- what is open of an obligation with a script behind the rules that are asked for, and of one without a script
+abbrev pub ShowsGoal : Development → Option Found → Option ℕ → Sequent → List ℕ → Bool → Type 0
+ShowsGoal dev (Some found) at s text is_open = ShowsAfter dev found.script.now at s text is_open
+ShowsGoal dev None at s text is_open = ShowsAlone dev.table s text is_open

@@ -1,13 +1,16 @@
 //! What is open behind the rules of a script.
 
-ghost use Rattle.std.specs.Prelude.{◌≡◌, ◌<◌, ◌^◌, [], ◌∷◌, length, map, IfOk, IfSome};
+ghost use Rattle.std.specs.Prelude.{◌≡◌, ◌<◌, ◌^◌, ◌||◌, nat_lt, [], ◌∷◌, length, map, IfOk, IfSome};
 ghost use Rattle.bk_dev.specs.Flattened.{flattened};
 ghost use Rattle.bk_seq.specs.Sequents.{sequent_of, Types, IsWithin};
 ghost use Rattle.bk_status.specs.Replayable.{IsReplayable};
 ghost use Rattle.bk_p_proof.specs.Files.{IsShort};
-ghost use Rattle.bk_goal.specs.Shown.{ShowsGoal, ShowsAfter, ShowsWithin};
+ghost use Rattle.bk_scripts.specs.Grounding.{IsGrounded};
+ghost use Rattle.bk_goal.specs.Shown as meant;
+ghost use Rattle.bk_goal.specs.Shown.{ShowsGoal, ShowsAfter, ShowsAlone, ShowsWithin};
 
 use crate::asked::{Asked, Found};
+use crate::brought::{Brought, brought};
 use crate::sequents::{sequents_text, write_count};
 use bk_form::VarTable;
 use bk_io::Memory;
@@ -34,8 +37,8 @@ pub fn goal_text(alloc: Global, asked: Asked<'_>) -> Result<GoalText, Memory>
     requires table { asked.table.now ≡ (flattened asked.dev.now).table }
     requires replayable { IsReplayable asked.table.now (sequent_of asked.obligation.now.sequent) }
     requires short { IfSome asked.found (λ f. IsShort f.script.now) }
-    ensures { IfOk result (λ g. ShowsGoal (flattened asked.dev.now) asked.found
-        (sequent_of asked.obligation.now.sequent) g.text.items) }
+    ensures { IfOk result (λ g. ShowsGoal (flattened asked.dev.now) asked.found asked.at
+        (sequent_of asked.obligation.now.sequent) g.text.items g.is_open) }
 {
     let sequent = again(alloc, &asked.obligation.sequent)?;
     match asked.found {
@@ -46,13 +49,20 @@ pub fn goal_text(alloc: Global, asked: Asked<'_>) -> Result<GoalText, Memory>
 
 // The obligation itself.
 fn alone(alloc: Global, asked: Asked<'_>, sequent: Sequent) -> Result<GoalText, Memory>
-    ensures { IfOk result (λ g. ShowsWithin asked.table.now (sequent_of sequent ∷ []) g.text.items) }
+    ensures { IfOk result (λ g. ShowsAlone asked.table.now (sequent_of sequent) g.text.items g.is_open) }
 {
     let is_open = !is_obvious(&sequent);
     let before = title_alone(alloc, asked, is_open)?;
-    let open = Vec::from_array(alloc, [sequent])?;
-    let text = within(alloc, asked.table, &open, (usize::MAX, 0), &before, &[])?;
+    let open = only(alloc, sequent)?;
+    let none = Brought { old: 0, news: 0 };
+    let text = within(alloc, asked.table, &open, none, &before, &[])?;
     Ok(GoalText { text, is_open })
+}
+
+fn only(alloc: Global, sequent: Sequent) -> Result<Vec<Sequent>, Memory>
+    ensures { IfOk result (λ list. list.items ≡ sequent ∷ []) }
+{
+    Ok(Vec::from_array(alloc, [sequent])?)
 }
 
 // The line over an obligation without a script.
@@ -67,18 +77,18 @@ fn title_alone(alloc: Global, asked: Asked<'_>, is_open: bool) -> Result<Vec<u8>
     Ok(text)
 }
 
-// The sequents between two texts; `marks` tells behind how many hypotheses of how many sequents the others are marked.
+// The sequents between two texts; what a rule brought is marked.
 fn within(
     alloc: Global,
     table: &VarTable,
     open: &[Sequent],
-    marks: (usize, usize),
+    brought: Brought,
     before: &[u8],
     behind: &[u8],
 ) -> Result<Vec<u8>, Memory>
-    ensures { IfOk result (λ text. ShowsWithin table.now (map sequent_of open.now) text.items) }
+    ensures { IfOk result (λ text. ShowsWithin table.now brought (map sequent_of open.now) text.items) }
 {
-    let shown = sequents_text(alloc, table, open, marks.0, marks.1)?;
+    let shown = sequents_text(alloc, table, open, brought)?;
     let mut text = Vec::from_slice(alloc, before)?;
     text.extend_from_slice(&shown)?;
     text.extend_from_slice(behind)?;
@@ -95,21 +105,57 @@ fn behind_rules(
     requires table { asked.table.now ≡ (flattened asked.dev.now).table }
     requires replayable { IsReplayable asked.table.now (sequent_of sequent) }
     requires short { IsShort found.script.now }
-    ensures { IfOk result (λ g. ShowsAfter (flattened asked.dev.now) found.script.now (sequent_of sequent) g.text.items) }
+    ensures { IfOk result (λ g. ShowsAfter (flattened asked.dev.now) found.script.now asked.at
+        (sequent_of sequent) g.text.items g.is_open) }
 {
     asked.dev.facts();
     let (rules, table) = ground(alloc, found.script, asked.dev, asked.table)?;
-    let count = asked.at.unwrap_or(rules.len());
+    behind_grounded(alloc, asked, found, sequent, &rules, &table)
+}
+
+// What is open behind the rules for which those of the script stand.
+fn behind_grounded(
+    alloc: Global,
+    asked: Asked<'_>,
+    found: Found<'_>,
+    sequent: Sequent,
+    rules: &[Rule],
+    table: &VarTable,
+) -> Result<GoalText, Memory>
+    requires grounded { IsGrounded (flattened asked.dev.now) found.script.now rules.now table.now }
+    requires types { Types table.now (sequent_of sequent) }
+    requires within { IsWithin (sequent_of sequent) }
+    requires countable { length rules.now < 2 ^ 32 }
+    ensures { IfOk result (λ g. ShowsAfter (flattened asked.dev.now) found.script.now asked.at
+        (sequent_of sequent) g.text.items g.is_open) }
+{
+    let count = count_asked(asked.at, rules.len());
     let before = again(alloc, &sequent)?;
-    let standing = open_after(alloc, &table, sequent, &rules, count)?;
-    let marks = brought(alloc, &table, before, &rules, &standing)?;
+    let standing = open_after(alloc, table, sequent, rules, count)?;
+    let new = brought(alloc, table, before, rules, &standing)?;
     let header = header_text(alloc, asked, found, standing.done as usize)?;
-    let next = next_text(alloc, asked, found, &rules, &standing)?;
-    let text = within(alloc, &table, &standing.left, marks, &header, &next)?;
-    Ok(GoalText {
-        text,
-        is_open: !standing.left.is_empty() || stops(asked, found, &standing),
-    })
+    let next = next_text(alloc, asked, found, rules, &standing, count)?;
+    let text = within(alloc, table, &standing.left, new, &header, &next)?;
+    let is_open = is_left(&standing, count);
+    Ok(GoalText { text, is_open })
+}
+
+// Of so many rules how many are asked for.
+fn count_asked(at: Option<usize>, rules: usize) -> usize
+    ensures { result ≡ meant.count_asked at rules }
+{
+    match at {
+        Some(count) => count.min(rules),
+        None => rules,
+    }
+}
+
+// Whether a sequent is left, or not all of so many rules fit.
+#[tactic(auto, using(crate::proofs::Lines::length_held))]
+fn is_left(standing: &Standing, rules: usize) -> bool
+    ensures { result ≡ (nat_lt standing.now.done rules || nat_lt 0 (length (map sequent_of standing.now.left.items))) }
+{
+    (standing.done as usize) < rules || !standing.left.is_empty()
 }
 
 // The same sequent again.
@@ -117,35 +163,6 @@ fn again(alloc: Global, sequent: &Sequent) -> Result<Sequent, Memory>
     ensures { IfOk result (λ s. sequent_of s ≡ sequent_of sequent.now) }
 {
     sequent.copy(alloc)
-}
-
-// Whether the next rule is there and does not fit.
-fn stops(asked: Asked<'_>, found: Found<'_>, standing: &Standing) -> bool {
-    let done = standing.done as usize;
-    done < found.script.rules.len() && asked.at.is_none_or(|at| at > done)
-}
-
-// How many hypotheses there were before the last rule, and how many sequents it made.
-fn brought(
-    alloc: Global,
-    table: &VarTable,
-    sequent: Sequent,
-    rules: &[Rule],
-    standing: &Standing,
-) -> Result<(usize, usize), Memory>
-    requires types { Types table.now (sequent_of sequent) }
-    requires within { IsWithin (sequent_of sequent) }
-    requires countable { length rules.now < 2 ^ 32 }
-{
-    let Some(count) = (standing.done as usize).checked_sub(1) else {
-        return Ok((usize::MAX, 0));
-    };
-    let before = open_after(alloc, table, sequent, rules, count)?;
-    let Some(first) = before.left.first() else {
-        return Ok((usize::MAX, 0));
-    };
-    let others = before.left.len().saturating_sub(1);
-    Ok((first.hyps.len(), standing.left.len().saturating_sub(others)))
 }
 
 // `Tally.inc.1, after rule 2 of 5 (Tally.prf:2:46)`.
@@ -186,13 +203,14 @@ fn write_place(text: &mut Vec<u8>, found: Found<'_>, rule: &RawRule) -> Result<(
     Ok(())
 }
 
-// The rule that comes next, and why it does not fit, where that is so.
+// The rule that comes next, and why it does not fit, where that is so: where it is one of the first so many.
 fn next_text(
     alloc: Global,
     asked: Asked<'_>,
     found: Found<'_>,
     rules: &[Rule],
     standing: &Standing,
+    count: usize,
 ) -> Result<Vec<u8>, Memory> {
     let mut text = Vec::new(alloc);
     let done = standing.done as usize;
@@ -205,7 +223,7 @@ fn next_text(
     text.extend_from_slice(b": ")?;
     text.extend_from_slice(rule_text(found.text, found.tokens, written.at))?;
     text.extend_from_slice(b"\n")?;
-    if stops(asked, found, standing) {
+    if done < count {
         text.extend_from_slice(b"  does not fit: ")?;
         let reason = reason_text(alloc, asked, found, rules, standing)?;
         text.extend_from_slice(&reason)?;

@@ -2,9 +2,11 @@
 #![tactic(auto)]
 
 mod asked;
+mod brought;
 mod goal;
 mod sequents;
 
 pub use asked::{Asked, Found};
+pub use brought::Brought;
 pub use goal::{GoalText, goal_text};
 pub use sequents::sequents_text;

@@ -2,8 +2,10 @@
 
 ghost use Rattle.std.specs.Prelude.{◌≡◌, ◌++◌, decimal, map, IfOk, OnOk};
 ghost use Rattle.bk_seq.specs.Sequents.{sequent_of};
+ghost use Rattle.bk_goal.specs.Shown as meant;
 ghost use Rattle.bk_goal.specs.Shown.{ShowsSequents, ShowsTitled, ShowsSequent, ShowsHypotheses, ShowsHypothesis, ShowsFormula};
 
+use crate::brought::Brought;
 use bk_form::{Form, VarTable};
 use bk_io::Memory;
 use bk_layout::laid_out;
@@ -19,37 +21,47 @@ const WIDTH: usize = 100;
 const INDENT: usize = 8;
 
 /// The sequents, each with a line for each hypothesis and one for the goal; those formulas that are long take further lines. The
-/// hypotheses of the first `news` sequents behind the first `old` of them are marked.
+/// hypotheses that a rule brought are marked.
 pub fn sequents_text(
     alloc: Global,
     table: &VarTable,
     open: &[Sequent],
-    old: usize,
-    news: usize,
+    brought: Brought,
 ) -> Result<Vec<u8>, Memory>
-    ensures { IfOk result (λ text. ShowsSequents table.now (map sequent_of open.now) text.items) }
+    ensures { IfOk result (λ text. ShowsSequents table.now brought (map sequent_of open.now) text.items) }
 {
     let mut text = Vec::new(alloc);
     for (index, sequent) in open.iter().enumerate() {
-        let marked = if index < news { old } else { usize::MAX };
-        let block = titled_text(alloc, table, sequent, marked, index + 1, open.len())?;
+        let old = old_at(brought, index + 1);
+        let block = titled_text(alloc, table, sequent, old, index + 1, open.len())?;
         text.extend_from_slice(&block)?;
     }
     Ok(text)
 }
 
-// A sequent behind its title, `sequent 1 of 2`.
+// Behind how many hypotheses of the sequent with this number those stand that a rule brought, if the sequent came of it.
+fn old_at(brought: Brought, number: usize) -> Option<usize>
+    ensures { result ≡ meant.old_at brought number }
+{
+    if brought.news < number {
+        None
+    } else {
+        Some(brought.old)
+    }
+}
+
+// A sequent behind its title, `sequent 1 of 2`; its hypotheses behind so many are marked.
 fn titled_text(
     alloc: Global,
     table: &VarTable,
     sequent: &Sequent,
-    marked: usize,
+    old: Option<usize>,
     number: usize,
     count: usize,
 ) -> Result<Vec<u8>, Memory>
-    ensures { IfOk result (λ text. ShowsTitled table.now number count (sequent_of sequent.now) text.items) }
+    ensures { IfOk result (λ text. ShowsTitled table.now old number count (sequent_of sequent.now) text.items) }
 {
-    let lines = sequent_text(alloc, table, sequent, marked)?;
+    let lines = sequent_text(alloc, table, sequent, old)?;
     let mut text = Vec::new(alloc);
     write_count(&mut text, b"sequent ", number)?;
     write_count(&mut text, b" of ", count)?;
@@ -58,17 +70,17 @@ fn titled_text(
     Ok(text)
 }
 
-// A sequent; hypotheses behind so many are marked.
+// A sequent; its hypotheses behind so many are marked.
 fn sequent_text(
     alloc: Global,
     table: &VarTable,
     sequent: &Sequent,
-    marked: usize,
+    old: Option<usize>,
 ) -> Result<Vec<u8>, Memory>
-    ensures { IfOk result (λ text. ShowsSequent table.now (sequent_of sequent.now) text.items) }
+    ensures { IfOk result (λ text. ShowsSequent table.now old (sequent_of sequent.now) text.items) }
 {
     let goal = formula_text(alloc, table, &sequent.goal)?;
-    let mut text = hypotheses_text(alloc, table, &sequent.hyps, marked)?;
+    let mut text = hypotheses_text(alloc, table, &sequent.hyps, old)?;
     text.extend_from_slice(b"  goal: ")?;
     text.extend_from_slice(&goal)?;
     Ok(text)
@@ -79,14 +91,13 @@ fn hypotheses_text(
     alloc: Global,
     table: &VarTable,
     hyps: &[Form],
-    marked: usize,
+    old: Option<usize>,
 ) -> Result<Vec<u8>, Memory>
-    ensures { IfOk result (λ text. ShowsHypotheses table.now 1 hyps.now text.items) }
+    ensures { IfOk result (λ text. ShowsHypotheses table.now old 1 hyps.now text.items) }
 {
     let mut text = Vec::new(alloc);
     for (index, hypothesis) in hyps.iter().enumerate() {
-        let mark = if index < marked { b"   " } else { b" * " };
-        let line = hypothesis_text(alloc, table, hypothesis, mark, index + 1)?;
+        let line = hypothesis_text(alloc, table, hypothesis, old, index + 1)?;
         text.extend_from_slice(&line)?;
     }
     Ok(text)
@@ -97,17 +108,28 @@ fn hypothesis_text(
     alloc: Global,
     table: &VarTable,
     hypothesis: &Form,
-    mark: &[u8],
+    old: Option<usize>,
     number: usize,
 ) -> Result<Vec<u8>, Memory>
-    ensures { IfOk result (λ text. ShowsHypothesis table.now number hypothesis.now text.items) }
+    ensures { IfOk result (λ text. ShowsHypothesis table.now old number hypothesis.now text.items) }
 {
     let formula = formula_text(alloc, table, hypothesis)?;
+    let mark = mark_of(old, number);
     let mut text = Vec::new(alloc);
     write_count(&mut text, mark, number)?;
     text.extend_from_slice(b": ")?;
     text.extend_from_slice(&formula)?;
     Ok(text)
+}
+
+// The mark before a hypothesis with this number; those behind so many have one.
+fn mark_of(old: Option<usize>, number: usize) -> &'static [u8]
+    ensures { result.now ≡ meant.mark_of old number }
+{
+    let Some(count) = old else {
+        return b"   ";
+    };
+    if count < number { b" * " } else { b"   " }
 }
 
 // A formula in lines, and the end of the last.

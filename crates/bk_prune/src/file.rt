@@ -1,8 +1,8 @@
 //! Proof files without rules that nothing uses.
 
-ghost use Rattle.std.specs.Prelude.{◌≡◌, IfOk};
+ghost use Rattle.std.specs.Prelude.{◌≡◌, All, IfOk};
 ghost use Rattle.bk_p_proof.specs.Files.{IsShort};
-ghost use Rattle.bk_prune.specs.Pruned.{IsPrunedFile, IsReady};
+ghost use Rattle.bk_prune.specs.Pruned.{IsPrunedFile, CountsUnproved, IsReady, ProvesOne};
 
 use crate::edit::{Edit, edits};
 use crate::numbering::numberings;
@@ -15,13 +15,14 @@ use bk_form::{Token, VarTable};
 use bk_io::Memory;
 use bk_lex::{LexFault, tokens};
 use bk_p_proof::Scripts;
+use bk_p_proof::laws::scripts_are_one;
 use bk_po::Obligation;
 use bk_raw::RawScript;
 use bk_rule_texts::part;
 use itoa::Buffer;
 use std::alloc::Global;
 
-/// A proof file, how many rules it has lost, and how many of its scripts prove nothing.
+/// A proof file, how many rules it has lost, and how many scripts of the old one prove nothing.
 #[derive(Drop)]
 pub struct Pruned {
     pub text: Vec<u8>,
@@ -39,8 +40,10 @@ pub fn prune_file(
     text: &[u8],
 ) -> Result<Pruned, Memory>
     requires { IsReady dev.now table.now list.now }
-    ensures { IfOk result (λ p. IsPrunedFile dev.now text.now p.text.items) }
+    ensures kept { IfOk result (λ p. IsPrunedFile dev.now text.now p.text.items) }
+    ensures counted { IfOk result (λ p. CountsUnproved dev.now list.now text.now p.unproved) }
 {
+    scripts_are_one();
     let proved = Proved {
         alloc,
         dev,
@@ -63,7 +66,8 @@ pub fn prune_file(
 }
 
 fn unchanged(alloc: Global, text: &[u8], unproved: usize) -> Result<Pruned, Memory>
-    ensures { IfOk result (λ p. p.text.items ≡ text.now) }
+    ensures same { IfOk result (λ p. p.text.items ≡ text.now) }
+    ensures counted { IfOk result (λ p. p.unproved ≡ unproved) }
 {
     Ok(Pruned {
         text: Vec::from_slice(alloc, text)?,
@@ -75,6 +79,7 @@ fn unchanged(alloc: Global, text: &[u8], unproved: usize) -> Result<Pruned, Memo
 // How many scripts prove nothing.
 fn unproved_count(proved: Proved<'_>, read: &Scripts) -> Result<usize, Memory>
     requires { IsReady proved.dev.now proved.table.now proved.list.now }
+    ensures { IfOk result (λ count. count ≡ 0 → All (ProvesOne proved.dev.now proved.list.now) read.now) }
 {
     read.facts();
     let scripts = read.all();

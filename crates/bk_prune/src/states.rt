@@ -1,21 +1,27 @@
 //! Whether a text proves what scripts prove.
 
-ghost use Rattle.std.specs.Prelude.{◌≡◌, true, [], ◌∷◌, IfOk, IfSome};
+ghost use Rattle.std.specs.Prelude.{◌≡◌, true, List, [], ◌∷◌, Ok, None, IfOk, IfSome};
+ghost use Rattle.std.specs.List.{AllZip};
+ghost use Rattle.bk_raw.specs.Trees.ScriptTree.{RawScript as ScriptTree};
 ghost use Rattle.bk_p_proof.specs.Files.{AreScriptsOf};
 ghost use Rattle.bk_status.specs.Rows.{HasRows};
-ghost use Rattle.bk_prune.specs.Pruned.{HasStatesOf};
+ghost use Rattle.bk_prune.specs.Pruned.{HasStatesOf, IsNoLonger};
 
 use bk_dev::Development;
 use bk_io::Memory;
 use bk_p_proof::{ScriptFault, Scripts, scripts};
+use bk_p_proof::laws::faults_exclude;
 use bk_po::PoFault;
-use bk_status::{Row, State, Table, status};
+use bk_raw::RawScript;
+use bk_status::{Row, State, Table, name_text, status};
 use std::alloc::Global;
 
 /// The scripts of a text; None where it is no proof file.
 pub(crate) fn scripts_of(alloc: Global, text: &[u8]) -> Result<Option<Scripts>, Memory>
-    ensures { IfOk result (λ found. IfSome found (λ list. AreScriptsOf (text.now ∷ []) list)) }
+    ensures read { IfOk result (λ found. IfSome found (λ list. AreScriptsOf (text.now ∷ []) list)) }
+    ensures none { result ≡ Ok None → (list : List ScriptTree) → AreScriptsOf (text.now ∷ []) list → ⊥ }
 {
+    faults_exclude();
     let own = Vec::from_slice(alloc, text)?;
     let texts = Vec::from_array(alloc, [own])?;
     match scripts(alloc, &texts) {
@@ -25,7 +31,8 @@ pub(crate) fn scripts_of(alloc: Global, text: &[u8]) -> Result<Option<Scripts>, 
     }
 }
 
-/// Whether a text reads as scripts with which the status table is the one that these scripts make. An answer of false says nothing.
+/// Whether a text reads as scripts that are no longer than these, and with which the status table is the one that these make. An answer of
+/// false says nothing.
 pub(crate) fn has_states_of(
     alloc: Global,
     dev: &Development,
@@ -37,6 +44,9 @@ pub(crate) fn has_states_of(
     let Some(after) = scripts_of(alloc, text)? else {
         return Ok(false);
     };
+    if !are_no_longer(alloc, before.all(), after.all())? {
+        return Ok(false);
+    }
     let Some(old) = table_of(alloc, dev, before)? else {
         return Ok(false);
     };
@@ -44,6 +54,29 @@ pub(crate) fn has_states_of(
         return Ok(false);
     };
     Ok(are_same(&old.rows, &new.rows))
+}
+
+// Whether the second scripts have the names of the first, in the same order, and no more rules.
+fn are_no_longer(alloc: Global, old: &[RawScript], new: &[RawScript]) -> Result<bool, Memory>
+    ensures { IfOk result (λ are. are ≡ true → AllZip IsNoLonger old.now new.now) }
+{
+    if old.len() != new.len() {
+        return Ok(false);
+    }
+    for (index, script) in old.iter().enumerate() {
+        if !is_no_longer(alloc, script, &new[index])? {
+            return Ok(false);
+        }
+    }
+    Ok(true)
+}
+
+fn is_no_longer(alloc: Global, old: &RawScript, new: &RawScript) -> Result<bool, Memory>
+    ensures { IfOk result (λ is. is ≡ true → IsNoLonger old.now new.now) }
+{
+    let old_name = name_text(alloc, &old.name)?;
+    let new_name = name_text(alloc, &new.name)?;
+    Ok(new_name == old_name && new.rules.len() <= old.rules.len())
 }
 
 // The status table; None where the obligations pass a limit.

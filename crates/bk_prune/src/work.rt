@@ -1,9 +1,9 @@
 //! A script and the obligation that it is for.
 
-ghost use Rattle.std.specs.Prelude.{◌≡◌, ◌<◌, length, IfOk, IfSome};
+ghost use Rattle.std.specs.Prelude.{◌≡◌, true, Contains, IfOk, IfSome};
 ghost use Rattle.bk_seq.specs.Sequents.{sequent_of};
 ghost use Rattle.bk_p_proof.specs.Files.{IsShort};
-ghost use Rattle.bk_prune.specs.Pruned.{IsReady, IsWork};
+ghost use Rattle.bk_prune.specs.Pruned.{IsReady, IsWork, ProvesOne};
 
 use bk_dev::Development;
 use bk_form::VarTable;
@@ -37,14 +37,13 @@ pub(crate) struct Work {
 pub(crate) fn work_of(proved: Proved<'_>, script: &RawScript) -> Result<Option<Work>, Memory>
     requires ready { IsReady proved.dev.now proved.table.now proved.list.now }
     requires short { IsShort script.now }
-    ensures { IfOk result (λ found. IfSome found IsWork) }
+    ensures { IfOk result (λ found. IfSome found (IsWork proved.dev.now proved.list.now script.now)) }
 {
     let alloc = proved.alloc;
     let name = name_text(alloc, &script.name)?;
-    let Some(number) = number_of(proved.list, &name) else {
+    let Some(obligation) = named(proved.list, &name) else {
         return Ok(None);
     };
-    let obligation = &proved.list[number];
     let sequent = again(alloc, &obligation.sequent)?;
     proved.dev.facts();
     let (rules, table) = ground(alloc, script, proved.dev, proved.table)?;
@@ -55,13 +54,13 @@ pub(crate) fn work_of(proved: Proved<'_>, script: &RawScript) -> Result<Option<W
     }))
 }
 
-// The number, from 0, of the first obligation with this name.
-fn number_of(list: &[Obligation], name: &[u8]) -> Option<usize>
-    ensures { IfSome result (λ number. number < length list.now) }
+// The first obligation with this name.
+fn named<'a>(list: &'a [Obligation], name: &[u8]) -> Option<&'a Obligation>
+    ensures { IfSome result (λ o. Contains list.now o.now × (o.now.name ≡ name.now)) }
 {
-    for (number, obligation) in list.iter().enumerate() {
+    for obligation in list {
         if obligation.name.as_bytes() == name {
-            return Some(number);
+            return Some(obligation);
         }
     }
     None
@@ -78,6 +77,7 @@ pub(crate) fn again(alloc: Global, sequent: &Sequent) -> Result<Sequent, Memory>
 pub(crate) fn proves(proved: Proved<'_>, script: &RawScript) -> Result<bool, Memory>
     requires ready { IsReady proved.dev.now proved.table.now proved.list.now }
     requires short { IsShort script.now }
+    ensures { IfOk result (λ does. does ≡ true → ProvesOne proved.dev.now proved.list.now script.now) }
 {
     let Some(work) = work_of(proved, script)? else {
         return Ok(false);
@@ -88,5 +88,11 @@ pub(crate) fn proves(proved: Proved<'_>, script: &RawScript) -> Result<bool, Mem
         sequent,
     } = work;
     let verdict = replay(proved.alloc, &table, sequent, &rules)?;
-    Ok(matches!(verdict, Verdict::Closed))
+    Ok(is_closed(verdict))
+}
+
+fn is_closed(verdict: Verdict) -> bool
+    ensures { result ≡ true → verdict ≡ Verdict.Closed }
+{
+    matches!(verdict, Verdict::Closed)
 }

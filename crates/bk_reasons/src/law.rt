@@ -5,7 +5,7 @@ ghost use Rattle.bk_bind.specs.Limits.{IsWithinLimits};
 
 use crate::compare::say_difference;
 use crate::naming::count;
-use crate::within::are_within;
+use crate::within::{are_within, say_limits};
 use crate::words::Words;
 use bk_bind::{LawFault, LawInstance};
 use bk_form::Form;
@@ -22,7 +22,8 @@ pub(crate) fn law_does_not_fit(
     old: &Form,
 ) -> Result<bool, Memory> {
     if !are_within(picks) {
-        words.say(b"a term passes limit 6 (200000 nodes) or 13 (a height of 2000)")?;
+        words.say(b"a term passes ")?;
+        say_limits(words)?;
         return Ok(true);
     }
     match law_at(words, law, picks) {

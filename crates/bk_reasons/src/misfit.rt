@@ -8,6 +8,7 @@ use crate::closing::{
 use crate::naming::{names_do_not_fit, no_cases, no_predicate, no_type_of, terms_do_not_fit};
 use crate::place::place_does_not_fit;
 use crate::shape::{Shape, goal_is_no, hypothesis_is_no};
+use crate::within::say_limits;
 use crate::words::Words;
 use bk_io::Memory;
 use bk_kernel::{Place, Rule};
@@ -21,9 +22,8 @@ pub fn write_misfit(words: &mut Words<'_>, sequent: &Sequent, rule: &Rule) -> Re
     if of_terms(words, sequent, rule)? || of_place(words, sequent, rule)? {
         return Ok(());
     }
-    words.say(
-        b"what the rule makes is no predicate, or it passes limit 6 (200000 nodes) or 13 (a height of 2000)",
-    )
+    words.say(b"what the rule makes is no predicate, or it passes ")?;
+    say_limits(words)
 }
 
 // Of rules that look at the goal alone.

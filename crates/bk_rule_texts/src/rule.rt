@@ -1,5 +1,7 @@
 //! Where a rule ends.
 
+ghost use Rattle.std.specs.Prelude.{◌≡◌, ◌-◌, ◌<◌, ◌≤◌, [], take, drop, length};
+
 use bk_form::Token;
 
 /// The numbers of the tokens of the rule whose first token starts at this byte: of the first, and of the one behind the last, which is
@@ -58,7 +60,11 @@ fn ends_rule(text: &[u8], tokens: &[Token], index: usize, written: &[u8]) -> boo
 }
 
 /// The bytes from one place up to another; none where these are no places of the text in order.
-pub fn part(text: &[u8], start: usize, end: usize) -> &[u8] {
+pub fn part(text: &[u8], start: usize, end: usize) -> &[u8]
+    ensures there { start ≤ end → end ≤ length text.now → result.now ≡ take (end - start) (drop start text.now) }
+    ensures backward { end < start → result.now ≡ [] }
+    ensures past { length text.now < end → result.now ≡ [] }
+{
     if start <= end && end <= text.len() {
         return &text[start..end];
     }

@@ -1,16 +1,15 @@
-use Rattle.std.proofs.Common.{◌++◌, ◌∙◌, ap, codes}
+use Rattle.std.proofs.Common.{◌≡◌, ◌++◌, ◌∙◌, ap, codes, subst}
 use Rattle.std.specs.Prelude.{decimal}
 use Rattle.bk_goal.proofs.Lines.{joined}
 use Rattle.bk_goal.proofs.sequents.hypothesis_text.Goals as goal
 
 pub returns : goal.returns
 returns c =
-    let mark = c.args.mark.now in
+    let mark = c.mark_of.result.now in
     let formula = c.in_ok-formula.formula.items in
     let last = c.in_ok-extend_from_slice-2.ensures.items ∙ ap (λ xs. c.extend_from_slice.new.self.items ++ xs) c.deref.ensures.value in
     record {
-      mark = mark;
       formula = formula;
       shows = c.in_ok-formula.ensures;
-      line = joined c.write_count.new.text.items c.extend_from_slice.new.self.items c.extend_from_slice-2.new.self.items (mark ++ decimal c.args.number) (codes ": ") formula c.in_ok-write_count.ensures c.in_ok-extend_from_slice.ensures.items last;
+      line = subst (λ m. c.extend_from_slice-2.new.self.items ≡ (m ++ decimal c.args.number) ++ codes ": " ++ formula) c.mark_of.ensures (joined c.write_count.new.text.items c.extend_from_slice.new.self.items c.extend_from_slice-2.new.self.items (mark ++ decimal c.args.number) (codes ": ") formula c.in_ok-write_count.ensures c.in_ok-extend_from_slice.ensures.items last);
     }

@@ -11,7 +11,7 @@ returns c =
     record {
       hypotheses = hypotheses;
       goal = shown;
-      shows_hypotheses = subst (λ fs. ShowsHypotheses c.args.table.now 1 fs hypotheses) c.deref.ensures.value c.in_ok-text.ensures;
+      shows_hypotheses = subst (λ fs. ShowsHypotheses c.args.table.now c.args.old 1 fs hypotheses) c.deref.ensures.value c.in_ok-text.ensures;
       shows_goal = c.in_ok-goal.ensures;
       whole = joined hypotheses c.extend_from_slice.new.self.items c.extend_from_slice-2.new.self.items hypotheses (codes "  goal: ") shown refl c.in_ok-extend_from_slice.ensures.items last;
     }

@@ -4,4 +4,4 @@ use Rattle.bk_goal.specs.Shown.{ShowsFrom}
 use Rattle.bk_goal.proofs.sequents.sequents_text.Given as goal
 
 abbrev pub invariant-loop-index : goal.invariant-loop-index
-invariant-loop-index l = ShowsFrom l.table 1 (length l.open) (map sequent_of (take l.index l.open)) l.text.items
+invariant-loop-index l = ShowsFrom l.table l.brought (length l.open) 1 (map sequent_of (take l.index l.open)) l.text.items

@@ -1,8 +1,8 @@
-use Rattle.std.proofs.Common.{◌<◌, ◌^◌, length, sym, subst}
+use Rattle.std.proofs.Common.{sym, ◌∙◌, subst}
 use Rattle.bk_seq.specs.Sequents.{Types, IsWithin, sequent_of}
 use Rattle.bk_status.specs.Replayable.{IsReplayable}
 use Rattle.bk_status.proofs.Outcomes.{types_there, countable}
-use Rattle.bk_prune.proofs.Ready.{each_at}
+use Rattle.bk_prune.proofs.Ready.{each_listed}
 use Rattle.bk_prune.proofs.work.work_of.Goals as goal
 
 pub returns : goal.returns
@@ -11,10 +11,16 @@ returns c =
     let script = c.args.script.now in
     let rules = c.in_ok-rules.rules.items in
     let table = c.in_ok-rules.table in
-    let here = each_at (λ o. IsReplayable c.args.proved.table.now o.1) c.args.proved.list.now c.in-Some.number c.index-list-number.result (c.in-Some.ensures) c.index-list-number.is c.requires.ready.replayable in
-    let narrow = subst (λ t. Types t (sequent_of c.index-list-number.result.sequent)) c.requires.ready.table_is here.types in
-    let wide = types_there dev c.facts.ensures script rules table c.in_ok-rules.ensures (sequent_of c.index-list-number.result.sequent) narrow in
+    let o = c.in-Some.obligation.now in
+    let here = each_listed (λ o. IsReplayable c.args.proved.table.now o.1) c.args.proved.list.now o c.in-Some.ensures.0 c.requires.ready.replayable in
+    let narrow = subst (λ t. Types t (sequent_of o.sequent)) c.requires.ready.table_is here.types in
+    let wide = types_there dev c.facts.ensures script rules table c.in_ok-rules.ensures (sequent_of o.sequent) narrow in
     record {
+      obligation = o;
+      listed = c.in-Some.ensures.0;
+      named = c.in-Some.ensures.1 ∙ c.deref-2.ensures.value ∙ c.in_ok-name.ensures;
+      own = c.in_ok-sequent.ensures;
+      grounded = c.in_ok-rules.ensures;
       types = subst (Types table) (sym c.in_ok-sequent.ensures) wide;
       within = subst IsWithin (sym c.in_ok-sequent.ensures) here.within;
       countable = countable dev c.facts.ensures script rules table c.in_ok-rules.ensures c.requires.short;
