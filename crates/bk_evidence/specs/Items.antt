@@ -33,6 +33,13 @@ sums_over items = record {
 abbrev pub parts_of : Input → List ℕ × ℕ × List ℕ
 parts_of input = (input.name, input.length, string_bytes input.digest)
 
--- and what that is of a file
+-- a file as a name and a text
+abbrev pub pair_of : File → List ℕ × List ℕ
+pair_of file = (file.name.now, file.text.now)
+
+-- and what a report has of it
+abbrev pub parts_of_pair : List ℕ × List ℕ → List ℕ × ℕ × List ℕ
+parts_of_pair file = (file.0, length file.1, encode_lower (sha256 file.1))
+
 abbrev pub parts_of_file : File → List ℕ × ℕ × List ℕ
-parts_of_file file = (file.name.now, length file.text.now, encode_lower (sha256 file.text.now))
+parts_of_file file = parts_of_pair (pair_of file)

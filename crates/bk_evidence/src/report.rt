@@ -34,7 +34,7 @@ pub struct Report {
 /// A file as it was read.
 #[derive(Clone, Copy)]
 pub struct File<'a> {
-    pub name: &'a str,
+    pub name: &'a [u8],
     pub text: &'a [u8],
 }
 
@@ -55,7 +55,7 @@ fn input(alloc: Global, file: &File<'_>) -> Result<Input, Memory>
 {
     let digest = Sha256::digest(file.text);
     Ok(Input {
-        name: Text::from_bytes(Vec::from_slice(alloc, file.name.as_bytes())?),
+        name: Text::from_bytes(Vec::from_slice(alloc, file.name)?),
         length: file.text.len(),
         digest: hex::encode(alloc, digest.as_slice())?,
     })

@@ -6,11 +6,13 @@ use Rattle.bk_dev.specs.Development.{Development}
 use Rattle.bk_raw.specs.Trees.ScriptTree.{RawScript}
 use Rattle.bk_status.specs.Rows.{HasRows}
 use Rattle.bk_verbs.specs.Project.{ReadsProject}
-use Rattle.bk_evidence.specs.Items.{row_of}
+use Rattle.bk_evidence.specs.Items.{row_of, parts_of, parts_of_pair}
 use Rattle.bk_evidence.specs.Json.{items_data, report_data}
 use Rattle.bk_evidence.specs.Lines.{list_lines, report_lines}
 use Rattle.bk_evidence.specs.declared.item.Item.{Item}
 use Rattle.bk_evidence.specs.declared.report.Report.{Report}
+use Rattle.bk_proof_program.specs.Texts.{AreTextsOf, files_read}
+use Rattle.bk_proof_program.specs.declared.project.ProjectTexts.{ProjectTexts}
 use Rattle.bk_proof_program.specs.declared.task.ReportForm.{ReportForm}
 use Rattle.bk_proof_program.specs.declared.task.ReportForm.TheVariants.{Text, Json, Html}
 
@@ -40,8 +42,11 @@ pub record IsListOf (files : Files) (project : List ℕ) (as_json is_open_only :
   pub are : AreItemsOf files project items
   pub writes : WritesList as_json is_open_only items text
 
--- a report of these
+-- a report of these and of the files, each with its length and its sum
 pub record IsReportOf (files : Files) (project : List ℕ) (form : ReportForm) (text : List ℕ) : Type 0 where
   pub report : Report
   pub are : AreItemsOf files project report.items.items
+  pub texts : ProjectTexts
+  pub texts_are : AreTextsOf files project texts
+  pub inputs : map parts_of report.inputs.items ≡ map parts_of_pair (files_read project texts)
   pub writes : WritesReport form report text

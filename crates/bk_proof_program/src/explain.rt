@@ -1,10 +1,12 @@
 //! `explain`.
 
-ghost use Rattle.std.specs.Prelude.{◌≡◌, ◌≢◌, ◌≤◌, false, IfOk, IfErr, IfSome};
+ghost use Rattle.std.specs.Prelude.{◌≡◌, ◌≢◌, ◌≤◌, false, Some, IfOk, IfErr, IfSome};
 ghost use Rattle.bk_io.specs.Counts.{HasCause};
-ghost use Rattle.bk_cli.specs.Asked.{HasSmallNumbers};
+ghost use Rattle.bk_io.specs.Files.{Files};
+ghost use Rattle.bk_cli.specs.Asked.{task_of, HasSmallNumbers};
 ghost use Rattle.bk_verbs.specs.Causes.{IsOfReading};
 ghost use Rattle.bk_verbs.specs.declared.stop.Stop.TheVariants.{ReadFault};
+ghost use Rattle.bk_proof_program.specs.Explained.{task_asked, IsExplained};
 
 use bk_cli::Command;
 use bk_explain::{Source, SourceKind, explanation};
@@ -31,7 +33,8 @@ pub(crate) fn explain_answer<H: Shelf>(
 ) -> Result<Option<(Stop, Vec<u8>)>, Stop>
     ensures reading { IfErr result IsOfReading }
     ensures failed { HasCause ReadFault (H.faults shelf.old) (H.faults shelf.new) result }
-    ensures told { IfOk result (λ found. IfSome found (λ p. IsOfReading p.0 × (p.0 ≢ ReadFault))) }
+    ensures stops { IfOk result (λ found. IfSome found (λ p. IsOfReading p.0 × (p.0 ≢ ReadFault))) }
+    ensures told { IfOk result (λ found. (files : Files) → H.files shelf.old ≡ Some files → IsExplained files (task_asked asked) found) }
 {
     let command = command_of(asked);
     let stop = match prepare(alloc, command, shelf) {
@@ -54,7 +57,8 @@ fn is_of_reading(stop: &Stop) -> bool
 
 // What `bkit` is to check.
 fn command_of(asked: Question<'_>) -> Command<'_>
-    ensures { HasSmallNumbers result }
+    ensures small { HasSmallNumbers result }
+    ensures task { task_of result ≡ task_asked asked }
 {
     let fuel = FUEL;
     match asked.calls {

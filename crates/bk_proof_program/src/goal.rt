@@ -1,12 +1,15 @@
 //! `goal`.
 
-ghost use Rattle.std.specs.Prelude.{IfOk, IfErr};
+ghost use Rattle.std.specs.Prelude.{◌≡◌, Some, IfOk, IfErr};
 ghost use Rattle.bk_io.specs.Counts.{HasCause};
+ghost use Rattle.bk_io.specs.Files.{Files};
 ghost use Rattle.bk_verbs.specs.Causes.{IsOfReading};
 ghost use Rattle.bk_verbs.specs.declared.stop.Stop.TheVariants.{ReadFault};
 ghost use Rattle.bk_proof_program.specs.Answers.{IsEnd};
+ghost use Rattle.bk_proof_program.specs.Goals as meant;
+ghost use Rattle.bk_proof_program.specs.Goals.{IsGoalOf};
 
-use crate::project::{found, obligation_number, read_whole};
+use crate::project::{found, obligation_named, read_whole};
 use bk_goal::{Asked, GoalText, goal_text};
 use bk_io::{Memory, Shelf};
 use bk_po::Obligation;
@@ -22,22 +25,22 @@ pub(crate) fn goal_answer<H: Shelf>(
     at: Option<usize>,
     shelf: &mut H,
 ) -> Result<(Vec<u8>, Status), Stop>
+    ensures told { IfOk result (λ a. (files : Files) → H.files shelf.old ≡ Some files →
+        IsGoalOf files project.now name.now at a.0.items a.1) }
     ensures ends { IfOk result (λ a. IsEnd a.1) }
     ensures reading { IfErr result IsOfReading }
     ensures failed { HasCause ReadFault (H.faults shelf.old) (H.faults shelf.new) result }
 {
     let whole = read_whole(alloc, project, shelf)?;
-    let Some(number) = obligation_number(&whole.list, name.as_bytes()) else {
+    let Some(obligation) = obligation_named(&whole.list, name.as_bytes()) else {
         let text = unknown(alloc, name.as_bytes(), &whole.list)?;
         return Ok((text, Status::Usage));
     };
-    let names = whole.files.names(alloc, true)?;
-    let obligation = &whole.list[number];
     let asked = Asked {
         dev: &whole.project.development,
         table: &whole.table,
         obligation,
-        found: found(alloc, &whole, &names, name.as_bytes())?,
+        found: found(alloc, &whole, name.as_bytes())?,
         at,
     };
     let GoalText { text, is_open } = goal_text(alloc, asked)?;
@@ -45,7 +48,8 @@ pub(crate) fn goal_answer<H: Shelf>(
 }
 
 fn status_of(is_open: bool) -> Status
-    ensures { IsEnd result }
+    ensures value { result ≡ meant.status_by is_open }
+    ensures ends { IsEnd result }
 {
     if is_open {
         Status::Unproved

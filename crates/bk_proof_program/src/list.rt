@@ -13,7 +13,7 @@ ghost use Rattle.bk_proof_program.specs.Settled.{HasStatus};
 ghost use Rattle.bk_proof_program.specs.Told.{WritesList, IsListOf};
 
 use crate::goal::nearest_name;
-use crate::project::{Whole, found, obligation_number, raw_components, read_whole};
+use crate::project::{Whole, found, obligation_named, raw_components, read_whole};
 use bk_evidence::{Item, Proof, Script, items, items_json, list_text};
 use bk_io::{Memory, Shelf, Text};
 use bk_origins::{Component, Origin, origins};
@@ -118,8 +118,7 @@ pub(crate) fn all_items(
     ensures { IfOk result (λ items. map row_of items.items ≡ rows.now) }
 {
     let raws = raw_components(alloc, &whole.files.components)?;
-    let names = whole.files.names(alloc, false)?;
-    let components = components_of(alloc, whole, &raws, &names)?;
+    let components = components_of(alloc, whole, &raws)?;
     let origins = all_origins(alloc, whole, &components)?;
     let proofs = proofs_of(alloc, whole, rows, shown)?;
     items(alloc, rows, &origins, &components, &proofs)
@@ -138,16 +137,15 @@ fn components_of<'a>(
     alloc: Global,
     whole: &'a Whole,
     raws: &'a [RawComponent],
-    names: &[&'a str],
 ) -> Result<Vec<Component<'a>>, Memory> {
     let mut components = Vec::new(alloc);
     for (index, raw) in raws.iter().enumerate() {
-        let (Some(name), Some(text)) = (names.get(index), whole.files.components.get(index)) else {
+        let Some(file) = whole.files.components.get(index) else {
             return Ok(components);
         };
         components.push(Component {
-            file: *name,
-            text,
+            file: file.name(),
+            text: &file.text,
             raw,
         })?;
     }
@@ -161,10 +159,9 @@ fn proofs_of(
     rows: &[Row],
     shown: &[Text],
 ) -> Result<Vec<Proof>, Memory> {
-    let names = whole.files.names(alloc, true)?;
     let mut proofs = Vec::new(alloc);
     for (index, row) in rows.iter().enumerate() {
-        let script = script_of(alloc, whole, &names, row.name.as_bytes())?;
+        let script = script_of(alloc, whole, row.name.as_bytes())?;
         let shown = shown_at(alloc, shown, index)?;
         proofs.push(Proof { script, shown })?;
     }
@@ -179,13 +176,8 @@ fn shown_at(alloc: Global, shown: &[Text], index: usize) -> Result<Text, Memory>
 }
 
 // The script of an obligation.
-fn script_of(
-    alloc: Global,
-    whole: &Whole,
-    names: &[&str],
-    name: &[u8],
-) -> Result<Option<Script>, Memory> {
-    let Some(found) = found(alloc, whole, names, name)? else {
+fn script_of(alloc: Global, whole: &Whole, name: &[u8]) -> Result<Option<Script>, Memory> {
+    let Some(found) = found(alloc, whole, name)? else {
         return Ok(None);
     };
     Ok(Some(Script {
@@ -210,7 +202,7 @@ pub(crate) fn strays(alloc: Global, whole: &Whole) -> Result<Vec<Text>, Memory> 
     let mut names = Vec::new(alloc);
     for script in whole.project.scripts.all() {
         let name = name_text(alloc, &script.name)?;
-        if obligation_number(&whole.list, &name).is_none() {
+        if obligation_named(&whole.list, &name).is_none() {
             names.push(Text::from_bytes(name))?;
         }
     }

@@ -1,11 +1,15 @@
 //! The program over any shelf and any sink.
 
-ghost use Rattle.std.specs.Prelude.{◌≡◌, ◌≢◌, ◌⊎◌, IfOk, IfErr};
+ghost use Rattle.std.specs.Prelude.{◌≡◌, ◌≢◌, ◌⊎◌, Some, MatchBool, IfOk, IfErr};
 ghost use Rattle.bk_io.specs.Counts.{Rose, HasCause};
+ghost use Rattle.bk_io.specs.Files.{Files};
+ghost use Rattle.bk_io.specs.Pieces.{written_with};
 ghost use Rattle.bk_verbs.specs.Causes.{IsOfReading};
 ghost use Rattle.bk_verbs.specs.declared.status.Status.{Status};
 ghost use Rattle.bk_verbs.specs.declared.stop.Stop.TheVariants.{Usage, ReadFault};
+ghost use Rattle.bk_verbs.specs.Stops.{IsCutShort};
 ghost use Rattle.bk_proof_program.specs.Answers.{IsAnswer, IsEnd};
+ghost use Rattle.bk_proof_program.specs.Said.{AnswersTask, IsToldAnswer, IsWritten, TellsStop};
 
 use crate::explain::{Question, explain_answer};
 use crate::goal::goal_answer;
@@ -41,12 +45,15 @@ pub fn exit_code<H: Shelf, K: Sink>(
 ///
 /// The status is `Done` where nothing is left, `Unproved` where the work is done and something is open, `Usage` for wrong words and
 /// unknown names, and else that of the line that `bkit` writes where a file or a device is at fault.
+#[tactic(auto, using(crate::proofs::Ending::answer_written, crate::proofs::Ending::words_written, crate::proofs::Ending::usage_written, crate::proofs::Ending::stop_written))]
 pub fn bkproof<H: Shelf, K: Sink>(
     alloc: Global,
     words: &[String],
     shelf: &mut H,
     out: &mut K,
 ) -> Status
+    ensures told { IsEnd result → (files : Files) → H.files shelf.old ≡ Some files →
+        IsWritten files (K.written out.old) (K.written out.new) result }
     ensures read_fault { result ≡ Status.ReadFault → Rose (H.faults shelf.old) (H.faults shelf.new) }
     ensures write_fault { result ≡ Status.WriteFault → Rose (K.faults out.old) (K.faults out.new) }
 {
@@ -70,6 +77,7 @@ enum Answer {
 // Writes a text; the status is this one, where that is done.
 fn written<K: Sink>(out: &mut K, text: &[u8], status: Status) -> Status
     requires { status ≢ Status.WriteFault }
+    ensures told { IsCutShort result ⊎ ((result ≡ status) × (K.written out.new ≡ written_with (K.written out.old) text.now)) }
     ensures done { result ≡ Status.ReadFault → status ≡ Status.ReadFault }
     ensures failed { result ≡ Status.WriteFault → Rose (K.faults out.old) (K.faults out.new) }
 {
@@ -81,13 +89,18 @@ fn written<K: Sink>(out: &mut K, text: &[u8], status: Status) -> Status
 }
 
 // Writes the line of a stop, and what it means.
+#[tactic(auto, using(crate::proofs::Ending::stop_told))]
 fn explained<K: Sink>(alloc: Global, out: &mut K, stop: &Stop, text: &[u8]) -> Status
     requires reading { stop.now ≢ ReadFault }
     requires writing { IsOfReading stop.now }
+    ensures told { IsCutShort result ⊎ TellsStop stop.now (K.written out.old) (K.written out.new) result }
     ensures read { result ≢ Status.ReadFault }
     ensures failed { result ≡ Status.WriteFault → Rose (K.faults out.old) (K.faults out.new) }
 {
     let status = stop.report(alloc, out);
+    if is_cut_short(status) {
+        return status;
+    }
     match put_all(out, text) {
         Ok(()) => status,
         Err(SinkFault::Failed) => Status::WriteFault,
@@ -95,9 +108,17 @@ fn explained<K: Sink>(alloc: Global, out: &mut K, stop: &Stop, text: &[u8]) -> S
     }
 }
 
+// Whether a line may be written in part.
+fn is_cut_short(status: Status) -> bool
+    ensures { MatchBool result (IsCutShort status) (¬ IsCutShort status) }
+{
+    matches!(status, Status::WriteFault | Status::Memory)
+}
+
 // What the words ask for.
 fn answer<H: Shelf>(alloc: Global, words: &[String], shelf: &mut H) -> Result<Answer, Stop>
     ensures failed { HasCause ReadFault (H.faults shelf.old) (H.faults shelf.new) result }
+    ensures told { IfOk result (λ a. (files : Files) → H.files shelf.old ≡ Some files → IsToldAnswer files a) }
     ensures ok { IfOk result IsAnswer }
     ensures err { IfErr result (λ stop. IsOfReading stop ⊎ (stop ≡ Usage)) }
 {
@@ -126,6 +147,7 @@ fn explanation_of<H: Shelf>(
     shelf: &mut H,
 ) -> Result<Answer, Stop>
     ensures failed { HasCause ReadFault (H.faults shelf.old) (H.faults shelf.new) result }
+    ensures told { IfOk result (λ a. (files : Files) → H.files shelf.old ≡ Some files → IsToldAnswer files a) }
     ensures ok { IfOk result IsAnswer }
     ensures err { IfErr result IsOfReading }
 {
@@ -142,6 +164,7 @@ fn text_of<H: Shelf>(
     shelf: &mut H,
 ) -> Result<(Vec<u8>, Status), Stop>
     ensures failed { HasCause ReadFault (H.faults shelf.old) (H.faults shelf.new) result }
+    ensures told { IfOk result (λ p. (files : Files) → H.files shelf.old ≡ Some files → AnswersTask files asked p.0.items p.1) }
     ensures ok { IfOk result (λ p. IsEnd p.1) }
     ensures err { IfErr result (λ stop. IsOfReading stop ⊎ (stop ≡ Usage)) }
 {

@@ -1,18 +1,19 @@
 //! `report`.
 
-ghost use Rattle.std.specs.Prelude.{◌≡◌, Some, map, IfOk, IfErr};
+ghost use Rattle.std.specs.Prelude.{◌≡◌, ◌++◌, Some, map, IfOk, IfErr, OnOk};
 ghost use Rattle.bk_io.specs.Counts.{HasCause};
 ghost use Rattle.bk_io.specs.Files.{Files};
 ghost use Rattle.bk_verbs.specs.Causes.{IsOfReading};
 ghost use Rattle.bk_verbs.specs.declared.stop.Stop.TheVariants.{ReadFault};
 ghost use Rattle.bk_proof_program.specs.Answers.{IsEnd};
 ghost use Rattle.bk_prune.specs.Pruned.{IsReady};
-ghost use Rattle.bk_evidence.specs.Items.{row_of};
+ghost use Rattle.bk_evidence.specs.Items.{row_of, pair_of, parts_of, parts_of_pair};
 ghost use Rattle.bk_proof_program.specs.Settled.{HasStatus};
+ghost use Rattle.bk_proof_program.specs.Texts.{file_of, files_read};
 ghost use Rattle.bk_proof_program.specs.Told.{WritesReport, IsReportOf};
 
 use crate::list::{all_items, status_of, strays};
-use crate::project::{Whole, found, obligation_number, read_whole};
+use crate::project::{NamedText, Whole, found, obligation_named, read_whole};
 use crate::task::ReportForm;
 use bk_evidence::{File, Report, html_page, inputs, json_text, report_text};
 use bk_goal::{Asked, goal_text};
@@ -57,7 +58,8 @@ fn written(
     form: ReportForm,
 ) -> Result<Vec<u8>, Memory>
     requires { IsReady whole.now.project.development whole.now.table whole.now.list.items }
-    ensures { IfOk result (λ text. (report : Report) × (map row_of report.items.items ≡ rows.now) × WritesReport form report text.items) }
+    ensures { IfOk result (λ text. (report : Report) × (map row_of report.items.items ≡ rows.now) ×
+        (map parts_of report.inputs.items ≡ map parts_of_pair (files_read project.now whole.now.files)) × WritesReport form report text.items) }
 {
     let report = report_of(alloc, project, whole, rows)?;
     let text = form_text(alloc, &report, form)?;
@@ -68,6 +70,8 @@ fn written(
 fn report_of(alloc: Global, project: &str, whole: &Whole, rows: &[Row]) -> Result<Report, Memory>
     requires { IsReady whole.now.project.development whole.now.table whole.now.list.items }
     ensures items { IfOk result (λ report. map row_of report.items.items ≡ rows.now) }
+    ensures inputs { IfOk result (λ report.
+        map parts_of report.inputs.items ≡ map parts_of_pair (files_read project.now whole.now.files)) }
 {
     let shown = shown_texts(alloc, whole, rows)?;
     let files = files_of(alloc, project, whole)?;
@@ -103,27 +107,25 @@ fn json_line(alloc: Global, report: &Report) -> Result<Vec<u8>, Memory>
 fn shown_texts(alloc: Global, whole: &Whole, rows: &[Row]) -> Result<Vec<Text>, Memory>
     requires { IsReady whole.now.project.development whole.now.table whole.now.list.items }
 {
-    let names = whole.files.names(alloc, true)?;
     let mut texts = Vec::new(alloc);
     for row in rows {
-        texts.push(open_text(alloc, whole, &names, row.name.as_bytes())?)?;
+        texts.push(open_text(alloc, whole, row.name.as_bytes())?)?;
     }
     Ok(texts)
 }
 
 // What is open of an obligation; nothing of one that is settled.
-fn open_text(alloc: Global, whole: &Whole, names: &[&str], name: &[u8]) -> Result<Text, Memory>
+fn open_text(alloc: Global, whole: &Whole, name: &[u8]) -> Result<Text, Memory>
     requires { IsReady whole.now.project.development whole.now.table whole.now.list.items }
 {
-    let Some(number) = obligation_number(&whole.list, name) else {
+    let Some(obligation) = obligation_named(&whole.list, name) else {
         return Ok(Text::from_bytes(Vec::new(alloc)));
     };
-    let obligation = &whole.list[number];
     let asked = Asked {
         dev: &whole.project.development,
         table: &whole.table,
         obligation,
-        found: found(alloc, whole, names, name)?,
+        found: found(alloc, whole, name)?,
         at: None,
     };
     let shown = goal_text(alloc, asked)?;
@@ -141,32 +143,26 @@ fn machine_name(alloc: Global, whole: &Whole) -> Result<Text, Memory> {
 }
 
 // The files that were read: the project file, the components, the proof files.
-fn files_of<'a>(
-    alloc: Global,
-    project: &'a str,
-    whole: &'a Whole,
-) -> Result<Vec<File<'a>>, Memory> {
+fn files_of<'a>(alloc: Global, project: &'a str, whole: &'a Whole) -> Result<Vec<File<'a>>, Memory>
+    ensures { IfOk result (λ files. map pair_of files.items ≡ files_read project.now whole.now.files) }
+{
     let mut files = Vec::new(alloc);
     files.push(File {
-        name: project,
+        name: project.as_bytes(),
         text: &whole.files.text,
     })?;
-    let components = whole.files.names(alloc, false)?;
-    add_files(&mut files, &components, &whole.files.components)?;
-    let proofs = whole.files.names(alloc, true)?;
-    add_files(&mut files, &proofs, &whole.files.proofs)?;
+    add_files(&mut files, &whole.files.components)?;
+    add_files(&mut files, &whole.files.proofs)?;
     Ok(files)
 }
 
-fn add_files<'a>(
-    files: &mut Vec<File<'a>>,
-    names: &[&'a str],
-    texts: &'a [Vec<u8>],
-) -> Result<(), Memory> {
-    for (index, text) in texts.iter().enumerate() {
+fn add_files<'a>(files: &mut Vec<File<'a>>, texts: &'a [NamedText]) -> Result<(), Memory>
+    ensures { OnOk result (map pair_of files.new.items ≡ map pair_of files.old.items ++ map file_of texts.now) }
+{
+    for file in texts {
         files.push(File {
-            name: names.get(index).copied().unwrap_or(""),
-            text,
+            name: file.name.as_bytes(),
+            text: &file.text,
         })?;
     }
     Ok(())

@@ -14,14 +14,17 @@ returns-clause-status g c files told = record {
 
 pub returns-clause-told : goal.returns-clause-told
 returns-clause-told g c files told =
-    let rows = c.in_ok-text.ensures in
+    let written = c.in_ok-text.ensures in
     record {
-      report = rows.0;
+      report = written.0;
       are = record {
         development = c.in_ok-whole.whole.project.development;
         scripts = c.in_ok-whole.whole.project.scripts;
         reads = c.in_ok-whole.ensures.told files told;
-        states = subst (HasRows c.in_ok-whole.whole.project.development c.in_ok-whole.whole.project.scripts) (sym (rows.1 ∙ c.deref.ensures.value)) c.in_ok-table.ensures.rows;
+        states = subst (HasRows c.in_ok-whole.whole.project.development c.in_ok-whole.whole.project.scripts) (sym (written.1 ∙ c.deref.ensures.value)) c.in_ok-table.ensures.rows;
       };
-      writes = rows.2;
+      texts = c.in_ok-whole.whole.files;
+      texts_are = c.in_ok-whole.ensures.texts files told;
+      inputs = written.2;
+      writes = written.3;
     }
