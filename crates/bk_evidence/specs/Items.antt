@@ -41,5 +41,6 @@ pair_of file = (file.name.now, file.text.now)
 abbrev pub parts_of_pair : List ℕ × List ℕ → List ℕ × ℕ × List ℕ
 parts_of_pair file = (file.0, length file.1, encode_lower (sha256 file.1))
 
+-- the same of a file as it was read
 abbrev pub parts_of_file : File → List ℕ × ℕ × List ℕ
 parts_of_file file = parts_of_pair (pair_of file)
