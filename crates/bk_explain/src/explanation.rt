@@ -95,6 +95,6 @@ fn say_refused(
         3 => say_syntax_fault(alloc, words, source, place),
         5 => say_component_fault(words),
         6 | 7 | 8 | 9 => say_name_fault(alloc, words, sources, source, number, place),
-        _ => say_level_fault(alloc, words, source, number, place),
+        _ => say_level_fault(alloc, words, sources, source, number, place),
     }
 }

@@ -10,6 +10,7 @@ mod project;
 mod say;
 mod source;
 mod spelling;
+mod tree;
 
 pub use explanation::explanation;
 pub use source::{Source, SourceKind};

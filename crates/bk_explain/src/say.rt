@@ -66,6 +66,14 @@ pub(crate) fn written<'a>(text: &'a [u8], token: &Token) -> &'a [u8] {
     &[]
 }
 
+/// How the token with a number is written; nothing where there is none.
+pub(crate) fn word_at<'a>(text: &'a [u8], list: &[Token], index: usize) -> &'a [u8] {
+    match list.get(index) {
+        Some(token) => written(text, token),
+        None => &[],
+    }
+}
+
 /// The number of the token that starts at a byte.
 pub(crate) fn token_at(tokens: &[Token], at: usize) -> Option<usize> {
     tokens.iter().position(|token| token.start == at)

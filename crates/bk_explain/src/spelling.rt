@@ -1,7 +1,8 @@
 //! Faults of the spelling of texts.
 
 use crate::say::{
-    is_clause, is_one_of, say, say_line, say_place, say_quoted, token_at, tokens_of, written,
+    is_clause, is_one_of, say, say_line, say_place, say_quoted, token_at, tokens_of, word_at,
+    written,
 };
 use crate::source::{Source, SourceKind};
 use bk_form::{Token, TokenKind};
@@ -82,14 +83,6 @@ fn say_whole(
             say(words, "\n")
         }
         None => say_binding(words),
-    }
-}
-
-// How the token with a number is written.
-fn word_at<'a>(text: &'a [u8], list: &[Token], index: usize) -> &'a [u8] {
-    match list.get(index) {
-        Some(token) => written(text, token),
-        None => &[],
     }
 }
 
