@@ -59,12 +59,12 @@ fn say_picks(words: &mut Words<'_>, law: u16, given: usize, number: u32) -> Resu
         return words.say(b"the terms do not fit the law");
     };
     if text.count != given {
-        say_count(words, text, given)?;
+        say_count(words, &text, given)?;
     } else {
         words.say(b"the law asks the empty set, {:T}, for term ")?;
         words.number(number as usize)?;
     }
-    say_law(words, text)
+    say_law(words, &text)
 }
 
 fn say_count(words: &mut Words<'_>, text: &LawText, given: usize) -> Result<(), Memory> {
@@ -125,7 +125,7 @@ fn other_formula(
         say_difference(words, wanted, old)?;
     }
     if let Some(text) = text_of(law) {
-        say_law(words, text)?;
+        say_law(words, &text)?;
     }
     Ok(true)
 }
