@@ -3,6 +3,7 @@
 
 mod reader;
 mod rows;
+mod texts;
 
 pub use reader::{Furthest, Reading, furthest_reading};
 pub use rows::{COMPONENT, PROOF_FILE, Symbol, part_words};
