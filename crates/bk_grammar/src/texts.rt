@@ -236,6 +236,7 @@ const ROWS: &str = "<component> <head> END
 <operator> /
 <operator> mod
 <operator> **
+<proof-file>
 <proof-file> <script>
 <proof-file> <proof-file> <script>
 <script> proof <path> end
